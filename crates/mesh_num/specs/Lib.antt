@@ -1,0 +1,2 @@
+pub mod Plane
+pub mod Winding

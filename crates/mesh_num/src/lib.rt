@@ -1,0 +1,2 @@
+// Numbers, points, directions, segments and paths.
+#![tactic(auto)]
