@@ -1,3 +1,5 @@
 pub mod Identities
 pub mod Ring
 pub mod Whole
+pub mod Crossings
+pub mod Triangles
