@@ -1,2 +1,4 @@
-// The layer below: splitting segments, their sides, the boundary and the contours of an answer.
+// The overlay's lower half: edges are split until they share only ends.
 #![tactic(auto)]
+
+pub mod grid;
