@@ -1,1 +1,3 @@
 pub mod Line
+pub mod Places
+pub mod SidesPotential
