@@ -1,3 +1,5 @@
 pub mod Whole
 pub mod Crossings
 pub mod Triangles
+pub mod Sums
+pub mod ClosedLists
