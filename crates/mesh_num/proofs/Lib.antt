@@ -3,3 +3,4 @@ pub mod Crossings
 pub mod Triangles
 pub mod Sums
 pub mod ClosedLists
+pub mod Pieces
