@@ -3,3 +3,6 @@ pub mod Ring
 pub mod Whole
 pub mod Crossings
 pub mod Triangles
+pub mod Sums
+pub mod ClosedLists
+pub mod Pieces
