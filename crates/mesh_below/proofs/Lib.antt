@@ -1,3 +1,4 @@
 pub mod Line
 pub mod Places
 pub mod SidesPotential
+pub mod SidesConstant
