@@ -1,11 +1,10 @@
-// Points and directed edges of the grid, whatever the width of the caller's numbers.
+//! Points, edges and segments of the grid, whatever the width of the caller's coordinates.
+
+ghost use Rattle.std.specs.Prelude.{◌≡◌, ℤ};
 
 use std::marker::Model;
-use std::alloc::AllocError;
 
-ghost use Rattle.std.specs.Prelude.{◌≡◌, ℤ, ◌↔◌, IsTrue, IfOk, pos, ◌-ℤ◌, ◌<ℤ◌, ◌≤ℤ◌};
-ghost use Rattle.mesh_num.specs.Plane.{Point, Edge, turn};
-
+/// A point, in grid units. Contracts see the pair of its coordinates. Points are ordered by `x`, then `y`.
 #[derive(Copy, Clone, PartialEq, Eq, PartialOrd, Ord)]
 pub struct GridPoint {
     pub x: i32,
@@ -15,11 +14,12 @@ pub struct GridPoint {
 impl Model for GridPoint {
     ghost Value = { ℤ × ℤ };
 
-    ghost view = { λ p. (p.x, p.y) };
+    ghost view = { λ p. (p.x , p.y) };
 
     ghost inverse = { λ v. record { x = v.0; y = v.1 } };
 }
 
+/// A directed edge. Contracts see the pair of its ends.
 #[derive(Copy, Clone, PartialEq, Eq, PartialOrd, Ord)]
 pub struct GridEdge {
     pub start: GridPoint,
@@ -29,25 +29,23 @@ pub struct GridEdge {
 impl Model for GridEdge {
     ghost Value = { (ℤ × ℤ) × (ℤ × ℤ) };
 
-    ghost view = { λ e. (e.start, e.end) };
+    ghost view = { λ e. (e.start , e.end) };
 
     ghost inverse = { λ v. record { start = v.0; end = v.1 } };
 }
 
-fn difference(a: i32, b: i32) -> i128
-    ensures { result ≡ a -ℤ b }
-{
-    a as i128 - b as i128
+/// A segment between two ends, with the number of edges that run from its start to its end
+/// less the number of those that run back. Contracts see the pair of its ends and its count.
+#[derive(Copy, Clone, PartialEq, Eq)]
+pub struct CountedSegment {
+    pub ends: GridEdge,
+    pub count: i128,
 }
 
-pub fn side(p: GridPoint, r: GridPoint, q: GridPoint) -> i128
-    ensures { result ≡ turn p r q }
-{
-    (r.x as i128 - p.x as i128) * (q.y as i128 - p.y as i128) - (r.y as i128 - p.y as i128) * (q.x as i128 - p.x as i128)
-}
+impl Model for CountedSegment {
+    ghost Value = { ((ℤ × ℤ) × (ℤ × ℤ)) × ℤ };
 
-pub fn back(e: GridEdge) -> GridEdge
-    ensures { result ≡ (e.1, e.0) }
-{
-    GridEdge { start: e.end, end: e.start }
+    ghost view = { λ s. (s.ends , s.count) };
+
+    ghost inverse = { λ v. record { ends = v.0; count = v.1 } };
 }

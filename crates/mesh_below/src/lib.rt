@@ -1,4 +1,8 @@
-// The overlay's lower half: edges are split until they share only ends.
+//! The layer below the offset operations: directed edges are split until they share only ends.
 #![tactic(auto)]
 
+pub mod exact;
 pub mod grid;
+pub mod splitter;
+pub mod store;
+pub mod worklist;
