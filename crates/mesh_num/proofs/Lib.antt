@@ -4,3 +4,4 @@ pub mod Triangles
 pub mod Sums
 pub mod ClosedLists
 pub mod Pieces
+pub mod Balance
