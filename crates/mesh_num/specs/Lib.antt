@@ -1,2 +1,4 @@
+pub mod Bounds
 pub mod Plane
 pub mod Winding
+pub mod Widths

@@ -1,2 +1,4 @@
-// Numbers, points, directions, segments and paths.
+//! Numbers, points, directions, segments and paths of integer polygon offsetting.
 #![tactic(auto)]
+
+pub mod num;

@@ -1,0 +1,3 @@
+//! Coordinate types, points and vectors, directions, rectangles and angles.
+
+pub mod number;
