@@ -1,4 +1,6 @@
 pub mod Bounds
+pub mod Order
 pub mod Plane
+pub mod Segments
 pub mod Winding
 pub mod Widths
