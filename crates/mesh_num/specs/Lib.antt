@@ -1,2 +1,4 @@
+pub mod Direction
 pub mod Plane
+pub mod Rounding
 pub mod Winding
