@@ -1,2 +1,4 @@
+pub mod Identities
+pub mod Ring
 pub mod Whole
 pub mod Products
