@@ -1,8 +1,10 @@
 pub mod Identities
 pub mod Ring
 pub mod Whole
+pub mod Products
 pub mod Crossings
 pub mod Triangles
 pub mod Sums
 pub mod ClosedLists
 pub mod Pieces
+pub mod Balance

@@ -6,7 +6,6 @@ use Rattle.std.specs.Ordering.{int_eq}
 use Rattle.std.proofs.lemmas.List.Sums.{sum_by-cons}
 use Rattle.std.proofs.lemmas.List.Elements.{All-head, All-tail}
 use Rattle.std.proofs.lemmas.Int.{ints}
-
 use Rattle.mesh_num.specs.Plane.{Point, Edge}
 use Rattle.mesh_num.specs.Winding.{sum_of, total, route, boundary, fan, pieces_total, crossing_on, winding, holds, IsBit, IsOdd}
 use Rattle.mesh_num.proofs.Whole.{linear}
@@ -30,15 +29,25 @@ pub bits_counted : {A : Type 0} (w : A → ℤ) (xs : List A) → All (λ x. IsB
     sum_of w xs ≡ pos (count_by (λ x. not (int_eq (w x) (pos 0))) xs)
 bits_counted w [] h = refl
 bits_counted w (x ∷ xs) h =
-    omega (arith, ints, bits_counted w xs (All-tail (λ x. IsBit (w x)) x xs h), bit_is (w x) (All-head (λ x. IsBit (w x)) x xs h),
-    sum_by-cons (λ x. cond (not (int_eq (w x) (pos 0))) 1 0) x xs)
+    omega (
+      arith,
+      ints,
+      bits_counted w xs (All-tail (λ x. IsBit (w x)) x xs h),
+      bit_is (w x) (All-head (λ x. IsBit (w x)) x xs h),
+      sum_by-cons (λ x. cond (not (int_eq (w x) (pos 0))) 1 0) x xs,
+    )
 
 pub opposite_bits_counted : {A : Type 0} (w : A → ℤ) (xs : List A) → All (λ x. IsBit (neg_ℤ (w x))) xs →
     sum_of w xs ≡ neg_ℤ (pos (count_by (λ x. not (int_eq (w x) (pos 0))) xs))
 opposite_bits_counted w [] h = refl
 opposite_bits_counted w (x ∷ xs) h =
-    omega (arith, ints, opposite_bits_counted w xs (All-tail (λ x. IsBit (neg_ℤ (w x))) x xs h), opposite_bit_is (w x) (All-head (λ x. IsBit (neg_ℤ (w x))) x xs h),
-    sum_by-cons (λ x. cond (not (int_eq (w x) (pos 0))) 1 0) x xs)
+    omega (
+      arith,
+      ints,
+      opposite_bits_counted w xs (All-tail (λ x. IsBit (neg_ℤ (w x))) x xs h),
+      opposite_bit_is (w x) (All-head (λ x. IsBit (neg_ℤ (w x))) x xs h),
+      sum_by-cons (λ x. cond (not (int_eq (w x) (pos 0))) 1 0) x xs,
+    )
 
 -- pieces that wind 0 or 1 times round a point: their sum is the number of those that hold it
 pub pieces_counted : (m : ℕ) (q : Point) (pieces : List (List Point)) → All (λ piece. IsBit (winding m q (boundary piece))) pieces →
