@@ -1,4 +1,6 @@
+pub mod Ends
 pub mod Line
 pub mod Places
 pub mod SidesPotential
 pub mod SidesConstant
+pub mod SidesClear
