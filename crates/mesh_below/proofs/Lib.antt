@@ -4,3 +4,4 @@ pub mod Places
 pub mod SidesPotential
 pub mod SidesConstant
 pub mod SidesClear
+pub mod BoundaryKeys
