@@ -5,3 +5,4 @@ pub mod SidesPotential
 pub mod SidesConstant
 pub mod SidesClear
 pub mod BoundaryKeys
+pub mod BoundaryGrids
