@@ -6,3 +6,4 @@ pub mod SidesConstant
 pub mod SidesClear
 pub mod BoundaryKeys
 pub mod BoundaryGrids
+pub mod BoundaryFine
