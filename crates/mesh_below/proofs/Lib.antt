@@ -7,3 +7,4 @@ pub mod SidesClear
 pub mod BoundaryKeys
 pub mod BoundaryGrids
 pub mod BoundaryFine
+pub mod BoundaryLine
