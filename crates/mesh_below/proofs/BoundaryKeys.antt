@@ -52,7 +52,7 @@ occurs_back a xs = occurs_ends (back a) a xs ((decides_ends (back a) a).1 (inr r
 pub occurs_head : (e : Edge) (es : List Edge) → occurs e (e ∷ es) ≡ true
 occurs_head e es = λ i. ends_self e i || occurs e es
 
-edge_back : (s e : Edge) → same_edge (back s) e ≡ same_edge s (back e)
+pub edge_back : (s e : Edge) → same_edge (back s) e ≡ same_edge s (back e)
 edge_back s e =
     same_from_decides (same_edge (back s) e) (same_edge s (back e)) (decides_edge (back s) e)
         (Decides-like (same_edge s (back e)) (λ (h : s ≡ back e). ap back h) (λ (h : back s ≡ e). ap back h) (decides_edge s (back e)))

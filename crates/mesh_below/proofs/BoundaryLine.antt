@@ -54,7 +54,7 @@ hit_turn m t x p r =
         ((var 4 ⊗ (var 3 ⊖ var 1)) ⊗ (((var 4 ⊗ var 0) ⊕ (var 5 ⊗ (var 2 ⊖ var 0))) ⊖ var 6))
         refl
 
-above_place : (c p x : ℤ) → pos 0 <ℤ c → int_lt (pos 0) (c *ℤ (p -ℤ x)) ≡ int_lt x p
+pub above_place : (c p x : ℤ) → pos 0 <ℤ c → int_lt (pos 0) (c *ℤ (p -ℤ x)) ≡ int_lt x p
 above_place c p x some =
     by_lt_z x p
         (λ (h : x <ℤ p). let l : pos 0 <ℤ (c *ℤ (p -ℤ x)) = mul_pos c (p -ℤ x) some (omega (arith, ints)) in grind (arith, ints))
@@ -194,7 +194,7 @@ same_sums : (n f g : Edge → ℤ) (rs : List Edge) → Each (λ (s : Edge). f s
 same_sums n f g [] h = refl
 same_sums n f g (s ∷ rs) h = omega (arith, linear, ap (λ (z : ℤ). n s *ℤ z) h.0, same_sums n f g rs h.1)
 
-crossing_back : (m : ℤ) (q : Point) (e : Edge) → crossing q (scale m (back e).0) (scale m (back e).1) ≡ neg_ℤ (crossing q (scale m e.0) (scale m e.1))
+pub crossing_back : (m : ℤ) (q : Point) (e : Edge) → crossing q (scale m (back e).0) (scale m (back e).1) ≡ neg_ℤ (crossing q (scale m e.0) (scale m e.1))
 crossing_back m q e = omega (arith, linear, crossing_odd q (scale m e.0) (scale m e.1))
 
 pub record Setting (es rs : List Edge) : Type 0 where

@@ -8,3 +8,4 @@ pub mod BoundaryKeys
 pub mod BoundaryGrids
 pub mod BoundaryFine
 pub mod BoundaryLine
+pub mod BoundaryFill
