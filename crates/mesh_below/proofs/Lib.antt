@@ -9,3 +9,4 @@ pub mod BoundaryGrids
 pub mod BoundaryFine
 pub mod BoundaryLine
 pub mod BoundaryFill
+pub mod BoundaryBalance
