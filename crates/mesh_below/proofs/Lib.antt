@@ -10,3 +10,4 @@ pub mod BoundaryFine
 pub mod BoundaryLine
 pub mod BoundaryFill
 pub mod BoundaryBalance
+pub mod BoundaryRegions
