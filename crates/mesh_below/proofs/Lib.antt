@@ -11,3 +11,4 @@ pub mod BoundaryLine
 pub mod BoundaryFill
 pub mod BoundaryBalance
 pub mod BoundaryRegions
+pub mod ContoursKept

@@ -2,3 +2,5 @@ pub mod Split
 pub mod Counted
 pub mod Boundary
 pub mod Regions
+pub mod Contours
+pub mod Resolution
