@@ -33,12 +33,12 @@ fn is_between(a: i32, z: i32, b: i32) -> bool {
 }
 
 fn is_in_box(e: GridEdge, c: GridPoint) -> bool {
-    is_between(e.start.x, c.x, e.end.x) && is_between(e.start.y, c.y, e.end.y)
+    is_between(e.0.x, c.x, e.1.x) && is_between(e.0.y, c.y, e.1.y)
 }
 
 /// Whether the point is one of the edge's ends.
 pub fn is_end(c: GridPoint, e: GridEdge) -> bool {
-    c == e.start || c == e.end
+    c == e.0 || c == e.1
 }
 
 /// Whether the point lies on the edge and is none of its ends.
@@ -49,7 +49,7 @@ pub fn is_inside(e: GridEdge, c: GridPoint) -> bool {
     if is_end(c, e) {
         return false;
     }
-    turn(e.start, e.end, c) == 0
+    turn(e.0, e.1, c) == 0
 }
 
 /// How far the two ends of an edge lie beside a line, as turns.
@@ -61,8 +61,8 @@ struct Sides {
 
 fn sides_of(e: GridEdge, f: GridEdge) -> Sides {
     Sides {
-        start: turn(e.start, e.end, f.start),
-        end: turn(e.start, e.end, f.end),
+        start: turn(e.0, e.1, f.0),
+        end: turn(e.0, e.1, f.1),
     }
 }
 
@@ -99,24 +99,24 @@ fn crossing_at(a: i32, b: i32, s: Sides) -> i32 {
 pub fn rounded_crossing(e: GridEdge, f: GridEdge) -> GridPoint {
     let s = sides_of(f, e);
     GridPoint {
-        x: crossing_at(e.start.x, e.end.x, s),
-        y: crossing_at(e.start.y, e.end.y, s),
+        x: crossing_at(e.0.x, e.1.x, s),
+        y: crossing_at(e.0.y, e.1.y, s),
     }
 }
 
 /// Where two edges are to be split since they share a point inside one of them, if they do.
 pub fn meeting(e: GridEdge, f: GridEdge) -> Option<GridPoint> {
-    if is_inside(e, f.start) {
-        return Some(f.start);
+    if is_inside(e, f.0) {
+        return Some(f.0);
     }
-    if is_inside(e, f.end) {
-        return Some(f.end);
+    if is_inside(e, f.1) {
+        return Some(f.1);
     }
-    if is_inside(f, e.start) {
-        return Some(e.start);
+    if is_inside(f, e.0) {
+        return Some(e.0);
     }
-    if is_inside(f, e.end) {
-        return Some(e.end);
+    if is_inside(f, e.1) {
+        return Some(e.1);
     }
     if do_cross(e, f) {
         return Some(rounded_crossing(e, f));

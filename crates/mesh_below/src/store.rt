@@ -25,8 +25,8 @@ impl Store {
     /// A live segment that meets the given one, or none where all are clear of it.
     pub fn conflict(&self, s: GridEdge) -> Option<Meeting> {
         for k in &self.live {
-            if let Some(at) = meeting(s, k.ends) {
-                return Some(Meeting { other: k.ends, at });
+            if let Some(at) = meeting(s, k.0) {
+                return Some(Meeting { other: k.0, at });
             }
         }
         None
@@ -41,7 +41,7 @@ impl Store {
     /// Where the segment with these ends stands.
     fn place(&self, ends: GridEdge) -> Option<usize> {
         for (i, k) in self.live.iter().enumerate() {
-            if k.ends == ends {
+            if k.0 == ends {
                 return Some(i);
             }
         }
@@ -58,9 +58,9 @@ impl Store {
 
     /// Adds the segment's count to that of the live segment with its ends, if there is one.
     pub fn add(&mut self, s: CountedSegment) -> bool {
-        match self.place(s.ends) {
+        match self.place(s.0) {
             Some(i) => {
-                self.live[i].count += s.count;
+                self.live[i].1 += s.1;
                 true
             }
             None => false,

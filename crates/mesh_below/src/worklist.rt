@@ -17,18 +17,17 @@ impl Worklist {
 
     /// Takes a segment out, if there is one.
     pub fn pop(&mut self) -> Option<CountedSegment> {
-        let (ends, count) = self.counts.pop_first()?;
-        Some(CountedSegment { ends, count })
+        self.counts.pop_first()
     }
 
     /// Puts a segment in, or adds its count to that of the segment with its ends.
     pub fn add(&mut self, s: CountedSegment) -> Result<(), AllocError> {
-        if let Some(count) = self.counts.get(&s.ends) {
-            let sum = *count + s.count;
-            self.counts.insert(s.ends, sum)?;
+        if let Some(count) = self.counts.get(&s.0) {
+            let sum = *count + s.1;
+            self.counts.insert(s.0, sum)?;
             return Ok(());
         }
-        self.counts.insert(s.ends, s.count)?;
+        self.counts.insert(s.0, s.1)?;
         Ok(())
     }
 }
