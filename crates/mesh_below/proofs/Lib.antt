@@ -1,2 +1,6 @@
 pub mod Ends
 pub mod Cuts
+pub mod Line
+pub mod Places
+pub mod SidesPotential
+pub mod SidesConstant

@@ -6,3 +6,5 @@ pub mod Crossings
 pub mod Triangles
 pub mod Sums
 pub mod ClosedLists
+pub mod Pieces
+pub mod Balance
