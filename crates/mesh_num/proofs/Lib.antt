@@ -1,8 +1,9 @@
-pub mod Identities
-pub mod Ring
-pub mod Whole
-pub mod Products
-pub mod Crossings
-pub mod Triangles
-pub mod Sums
 pub mod ClosedLists
+pub mod Crossings
+pub mod Identities
+pub mod Products
+pub mod Rectangles
+pub mod Ring
+pub mod Sums
+pub mod Triangles
+pub mod Whole

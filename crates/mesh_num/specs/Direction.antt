@@ -1,6 +1,5 @@
 -- Directions: vectors brought to the length `unit`, each component cut towards 0, and their multiples by a radius.
 use Rattle.std.specs.Prelude.{ℕ, ◌≡◌, ◌-◌, ◌*◌, ◌<◌, ◌≤◌, ℤ, pos, ◌*ℤ◌, ◌≤ℤ◌, ◌<ℤ◌, unsigned_abs}
-
 use Rattle.mesh_num.specs.Plane.{Point, opposite, cross, dot, length_sq}
 use Rattle.mesh_num.specs.Rounding.{rounded}
 
@@ -39,7 +38,7 @@ scaled unit radius part = rounded (part *ℤ radius) unit
 
 -- a direction times a radius
 abbrev pub scaled_direction : ℕ → ℤ → Point → Point
-scaled_direction unit radius n = (scaled unit radius n.0 , scaled unit radius n.1)
+scaled_direction unit radius n = (scaled unit radius n.0, scaled unit radius n.1)
 
 -- the opposite vector has the opposite direction; `n` is the direction of `v`
 abbrev pub IsOdd : ℕ → Point → Point → Type 0
