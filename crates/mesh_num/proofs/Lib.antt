@@ -1,3 +1,6 @@
 pub mod Identities
 pub mod Ring
+pub mod Rounding
+pub mod Signs
+pub mod Sizes
 pub mod Whole
