@@ -4,3 +4,4 @@ pub mod Rounding
 pub mod Signs
 pub mod Sizes
 pub mod Whole
+pub mod Parts
