@@ -1,7 +1,9 @@
 pub mod Identities
+pub mod Parts
 pub mod Ring
 pub mod Rounding
+pub mod Scaling
 pub mod Signs
 pub mod Sizes
+pub mod Turns
 pub mod Whole
-pub mod Parts

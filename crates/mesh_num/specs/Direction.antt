@@ -53,7 +53,7 @@ SameWay unit v n = (w m : Point) → IsDirection unit w m → cross v w ≡ pos 
 abbrev pub KeepsTurns : ℕ → Point → Point → Type 0
 KeepsTurns unit v n = (w m : Point) → IsDirection unit w m → pos 0 ≤ℤ cross v w → pos 0 ≤ℤ cross n m
 
--- a turn to the left stays one between directions times a radius that is not negative; `s` is the direction `n` times the radius
+-- a turn to the left stays one between directions times one radius; `s` is the direction `n` times the radius
 abbrev pub KeepsScaledTurns : ℕ → ℤ → Point → Point → Type 0
 KeepsScaledTurns unit radius n s =
-    (v w m : Point) → IsDirection unit v n → IsDirection unit w m → pos 0 ≤ℤ radius → pos 0 ≤ℤ cross v w → pos 0 ≤ℤ cross s (scaled_direction unit radius m)
+    (v w m : Point) → IsDirection unit v n → IsDirection unit w m → pos 0 ≤ℤ cross v w → pos 0 ≤ℤ cross s (scaled_direction unit radius m)
