@@ -7,3 +7,8 @@ pub mod Signs
 pub mod Sizes
 pub mod Turns
 pub mod Whole
+pub mod Products
+pub mod Crossings
+pub mod Triangles
+pub mod Sums
+pub mod ClosedLists

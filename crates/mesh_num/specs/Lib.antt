@@ -1,4 +1,9 @@
+pub mod Bounds
+pub mod Order
+pub mod Plane
+pub mod Segments
 pub mod Direction
 pub mod Plane
 pub mod Rounding
 pub mod Winding
+pub mod Widths

@@ -1,0 +1,6 @@
+//! Coordinate types, points and vectors, directions, rectangles and angles.
+
+pub mod angle;
+pub(crate) mod exact;
+pub mod number;
+pub mod point;
