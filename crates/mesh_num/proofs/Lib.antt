@@ -1,3 +1,16 @@
+pub mod Identities
+pub mod Parts
+pub mod Ring
+pub mod Rounding
+pub mod Scaling
+pub mod Signs
+pub mod Sizes
+pub mod Turns
+pub mod Whole
+pub mod Products
+pub mod Crossings
+pub mod Triangles
+pub mod Sums
 pub mod ClosedLists
 pub mod Crossings
 pub mod Identities
