@@ -20,3 +20,5 @@ pub mod Ring
 pub mod Sums
 pub mod Triangles
 pub mod Whole
+pub mod Pieces
+pub mod Balance

@@ -69,3 +69,11 @@ IsBalanced es = (p : Point) → count_by (λ (e : Edge). same_point p e.0) es �
 -- 0 or 1
 abbrev pub IsBit : ℤ → Type 0
 IsBit z = (z ≡ pos 0) ⊎ (z ≡ pos 1)
+
+-- a function of edges that changes its sign with their direction
+abbrev pub IsOdd : (Point → Point → ℤ) → Type 0
+IsOdd f = (p r : Point) → f p r +ℤ f r p ≡ pos 0
+
+-- a function of edges that adds up along a line
+abbrev pub IsStraight : (Point → Point → ℤ) → Type 0
+IsStraight f = (p r s : Point) → turn p r s ≡ pos 0 → f p r +ℤ f r s ≡ f p s
