@@ -6,13 +6,10 @@ use Rattle.std.proofs.lemmas.Int.{ints}
 use Rattle.mesh_num.specs.Plane.{Point, Edge}
 use Rattle.mesh_num.specs.Winding.{same_point, sum_of}
 use Rattle.mesh_num.proofs.Whole.{add_mul}
+use Rattle.mesh_num.proofs.Sums.{sum_of_append}
 use Rattle.mesh_below.specs.Split.{back, same_edge, same_ends, is_end, occurs, Cut, pieces, cut, after}
 use Rattle.mesh_below.specs.Counted.{bit, along, net}
 use Rattle.mesh_below.proofs.Ends.{decides_ends, ends_self, ends_turned, ends_sym, ends_along, along_turned, along_self, not_along}
-
-pub sum_append : {A : Type 0} (f : A → ℤ) (xs ys : List A) → sum_of f (xs ++ ys) ≡ sum_of f xs +ℤ sum_of f ys
-sum_append f [] ys = omega (arith, ints)
-sum_append f (x ∷ xs) ys = omega (arith, ints, sum_append f xs ys)
 
 pub occurs_append : (q : Edge) (xs ys : List Edge) → occurs q (xs ++ ys) ≡ (occurs q xs || occurs q ys)
 occurs_append q [] ys = refl
@@ -63,7 +60,7 @@ pub net_cut : (q s : Edge) (c : Point) (es : List Edge) → same_point s.0 s.1 �
     → net q (cut (record { ends = s; at = c }) es) ≡ net q es +ℤ (net s es *ℤ change s c q)
 net_cut q s c [] proper = omega (arith, ints)
 net_cut q s c (e ∷ es) proper =
-    sum_append (along q) (pieces (record { ends = s; at = c }) e) (cut (record { ends = s; at = c }) es)
+    sum_of_append (along q) (pieces (record { ends = s; at = c }) e) (cut (record { ends = s; at = c }) es)
     ∙ omega (arith, ints, net_pieces q s c e proper, net_cut q s c es proper, add_mul (along s e) (net s es) (change s c q))
 
 or_unit : (a b : Bool) → (a || (b || false)) ≡ (a || b)

@@ -1,5 +1,6 @@
 pub mod Ends
 pub mod Cuts
+pub mod Stages
 pub mod Line
 pub mod Places
 pub mod SidesPotential

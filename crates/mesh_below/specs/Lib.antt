@@ -1,3 +1,4 @@
 pub mod Split
 pub mod Counted
 pub mod Boundary
+pub mod Steps
