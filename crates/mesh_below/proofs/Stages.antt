@@ -1,6 +1,6 @@
 -- Lemmas over points and lists: how the waiting, live and held segments stand for a list of edges, step by step.
 use Rattle.std.proofs.Common.{◌≡◌, ◌⊎◌, inl, inr, ⊎_elim, Bool, true, false, cond, ◌&&◌, ◌||◌, not, sym, ◌∙◌, ap, subst, refl, arith, List, [], ◌∷◌, ◌++◌}
-use Rattle.std.specs.Prelude.{ℤ, pos, ◌+ℤ◌, ◌-ℤ◌, ◌*ℤ◌, ◌≤ℤ◌, ◌<ℤ◌, neg_ℤ}
+use Rattle.std.specs.Prelude.{ℤ, pos, ◌+ℤ◌, ◌-ℤ◌, ◌*ℤ◌, ◌≤ℤ◌, ◌<ℤ◌, neg_ℤ, negsuc, int_lt, zero, suc}
 use Rattle.std.proofs.lemmas.Bool.{both_ways, cases_Bool}
 use Rattle.std.proofs.lemmas.Int.{ints}
 use Rattle.mesh_num.specs.Plane.{Point, Edge}
@@ -127,4 +127,62 @@ put_count es todo live todo' live' k held proper alone p r =
             λ e. omega (arith, linear, h.waits, h.lives, times_along q k.0 todo e, times_along q k.0 live e) in
         let now : (times q todo +ℤ times q live) +ℤ (bit (same_ends q k.0) +ℤ times q held) ≡ bit (occurs q es) = omega (arith, linear, r.once q) in
         omega (arith, linear, p.once q, put_back (same_ends q k.0) (times q todo +ℤ times q live) (times q held) (bit (occurs q es)) none now);
+    }
+
+-- ---- a held segment is cut
+
+one_at_most : (z : ℤ) → pos 0 ≤ℤ z → z ≤ℤ pos 1 → cond (int_lt (pos 0) z) z (pos 1) ≡ pos 1
+one_at_most (pos zero) l m = refl
+one_at_most (pos (suc zero)) l m = refl
+one_at_most (pos (suc (suc n))) l m = absurd (omega (arith, ints, m))
+one_at_most (negsuc n) l m = absurd (omega (arith, ints, l))
+
+twice : (a b : Bool) (z : ℤ) → pos 0 ≤ℤ z → z ≤ℤ pos 1 → at_least_once b (at_least_once a z) ≡ cond (a || b) (pos 1) z
+twice true true z l m = ap (at_least_once true) (one_at_most z l m)
+twice true false z l m = one_at_most z l m
+twice false true z l m = one_at_most z l m
+twice false false z l m = refl
+
+once_after : (s x o : Bool) (z h : ℤ) → pos 0 ≤ℤ z → pos 0 ≤ℤ h → (x ≡ true → h ≡ pos 0) → z +ℤ (bit s +ℤ h) ≡ bit o
+    → cond x (pos 1) z +ℤ h ≡ bit ((o && not s) || x)
+once_after true true true z h l m n e = omega (arith, linear, n refl)
+once_after true true false z h l m n e = omega (arith, linear, n refl)
+once_after true false true z h l m n e = omega (arith, linear)
+once_after true false false z h l m n e = absurd (omega (arith, ints, l, m, e))
+once_after false true true z h l m n e = omega (arith, linear, n refl)
+once_after false true false z h l m n e = omega (arith, linear, n refl)
+once_after false false true z h l m n e = omega (arith, linear)
+once_after false false false z h l m n e = omega (arith, linear)
+
+once_cut : (s a b o p : Bool) (z h : ℤ) → pos 0 ≤ℤ z → pos 0 ≤ℤ h → p ≡ true → (a ≡ true → h ≡ pos 0) → (b ≡ true → h ≡ pos 0)
+    → z +ℤ (bit s +ℤ h) ≡ bit o → at_least_once b (at_least_once a z) +ℤ h ≡ bit ((o && not s) || (p && (a || b)))
+once_cut s a b o p z h l m t f g e =
+    let top : z ≤ℤ pos 1 = omega (arith, linear, bit_least s, bit_most o) in
+    let x : at_least_once b (at_least_once a z) ≡ cond (a || b) (pos 1) z = twice a b z l top in
+    rw (x, t) (once_after s (a || b) o z h l m (either a b f g) e)
+  where
+    either : (a b : Bool) → (a ≡ true → h ≡ pos 0) → (b ≡ true → h ≡ pos 0) → (a || b) ≡ true → h ≡ pos 0
+    either true b f g k = f refl
+    either false b f g k = g k
+
+pub cut_count : (es : List Edge) (todo live todo' live' : List Counted) (k : Counted) (c : Point) (held : List Counted) → same_point k.0.0 k.0.1 ≡ false
+    → times (k.0.0 , c) held ≡ pos 0 → times (c , k.0.1) held ≡ pos 0 → times k.0 held ≡ pos 0
+    → PutsPieces todo live todo' live' k c → AreCountOf es todo live (k ∷ held) → AreCountOf (cut (record { ends = k.0; at = c }) es) todo' live' held
+cut_count es todo live todo' live' k c held proper first second alone p r =
+    let h = held_is es todo live k held proper r alone in
+    record {
+      counts = λ q.
+        let split : k.1 *ℤ change k.0 c q ≡ ((k.1 *ℤ along q (k.0.0 , c)) +ℤ (k.1 *ℤ along q (c , k.0.1))) -ℤ (k.1 *ℤ along q k.0) =
+            omega (arith, linear, mul_sub k.1 (along q (k.0.0 , c) +ℤ along q (c , k.0.1)) (along q k.0), mul_add k.1 (along q (k.0.0 , c)) (along q (c , k.0.1))) in
+        let count : net k.0 es *ℤ change k.0 c q ≡ k.1 *ℤ change k.0 c q = ap (λ (n : ℤ). n *ℤ change k.0 c q) h.count in
+        omega (arith, linear, r.counts q, p.first.counts q, p.second.counts q, net_cut q k.0 c es proper);
+      once = λ q.
+        let by : times q todo' +ℤ times q live' ≡ at_least_once (same_ends q (c , k.0.1)) (at_least_once (same_ends q (k.0.0 , c)) (times q todo +ℤ times q live)) =
+            p.second.once q ∙ ap (at_least_once (same_ends q (c , k.0.1))) (p.first.once q) in
+        let low : pos 0 ≤ℤ (times q todo +ℤ times q live) = omega (arith, linear, times_least q todo, times_least q live) in
+        let now : (times q todo +ℤ times q live) +ℤ (bit (same_ends q k.0) +ℤ times q held) ≡ bit (occurs q es) = omega (arith, linear, r.once q) in
+        rw (by, occurs_cut q k.0 c es)
+        (once_cut (same_ends q k.0) (same_ends q (k.0.0 , c)) (same_ends q (c , k.0.1)) (occurs q es) (occurs k.0 es)
+        (times q todo +ℤ times q live) (times q held) low (times_least q held) h.stands
+        (λ e. times_along q (k.0.0 , c) held e ∙ first) (λ e. times_along q (c , k.0.1) held e ∙ second) now);
     }
