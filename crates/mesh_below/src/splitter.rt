@@ -118,7 +118,7 @@ mod tests {
             for _ in 0..2 + random.below(3) {
                 let mut points = Vec::new(rt.alloc());
                 for _ in 0..3 + random.below(4) {
-                    points.push(GridPoint { x: random.below(size) as i32, y: random.below(size) as i32 })?;
+                    points.push((random.below(size) as i32, random.below(size) as i32))?;
                 }
                 for i in 0..points.len() {
                     let start = points[i];
