@@ -1,6 +1,7 @@
 -- What the steps of the splitting do to lists of counted segments, whatever order they stand in:
 -- each fact speaks of the sums of every function over the list.
-use Rattle.std.specs.Prelude.{ℕ, ◌+◌, ◌*◌, ◌-◌, ◌≡◌, ◌⊎◌, Bool, true, false, cond, List, [], ◌∷◌, ℤ, pos, ◌+ℤ◌, ◌-ℤ◌, ◌*ℤ◌, ◌≤ℤ◌, ◌<ℤ◌, unsigned_abs, max, int_lt}
+use Rattle.std.specs.Prelude.{ℕ, ◌+◌, ◌*◌, ◌-◌, ◌^◌, ◌≡◌, ◌⊎◌, Bool, true, false, cond, List, [], ◌∷◌, ℤ, pos, ◌+ℤ◌, ◌-ℤ◌, ◌*ℤ◌, ◌≤ℤ◌, ◌<ℤ◌, unsigned_abs, max, int_lt, IsTrue, length, slice_index_or, ◌<◌}
+use Rattle.mesh_num.specs.Order.{point_lt}
 use Rattle.mesh_num.specs.Plane.{Point, Edge}
 use Rattle.mesh_num.specs.Winding.{sum_of}
 use Rattle.mesh_below.specs.Split.{same_edge, same_ends, is_end, occurs, Meets, Cut, after, IsLegal}
@@ -9,6 +10,11 @@ use Rattle.mesh_below.specs.Counted.{Counted, bit, along, net, counted_net, time
 -- how many of the counted segments run just from the first end to the second
 abbrev pub exactly : Edge → List Counted → ℤ
 exactly q ks = sum_of (λ (k : Counted). bit (same_edge q k.0)) ks
+
+-- the segment at a place runs just from the first end to the second
+pub record IsAt (ks : List Counted) (i : ℕ) (e : Edge) : Type 0 where
+  pub within : i < length ks
+  pub ends : (k : Counted) → (slice_index_or ks i k).0 ≡ e
 
 -- one segment was taken out
 abbrev pub IsTaken : List Counted → List Counted → Counted → Type 0
@@ -39,6 +45,10 @@ abbrev pub AddsIf : Bool → List Counted → List Counted → Counted → Type 
 AddsIf true old new k = IsRaised old new k
 AddsIf false old new k = IsKept old new k
 
+-- the lesser end first, by x and then by y
+abbrev pub IsForward : Edge → Type 0
+IsForward e = IsTrue (point_lt e.0 e.1)
+
 -- no point at which two segments would have to be split
 abbrev pub AreClear : Edge → Edge → Type 0
 AreClear e f = (c : Point) → Meets e f c → ⊥
@@ -57,6 +67,10 @@ extent e = unsigned_abs (e.1.0 -ℤ e.0.0) + unsigned_abs (e.1.1 -ℤ e.0.1)
 -- the size of a count
 abbrev pub size : Counted → ℤ
 size k = pos (unsigned_abs k.1)
+
+-- the most that counts may add up to: far more than the edges that memory holds can give
+abbrev pub HaveRoom : List Counted → Counted → Type 0
+HaveRoom ks k = (sum_of size ks +ℤ size k) ≤ℤ pos (2 ^ 120)
 
 -- the size of a count, once for each step of the extent, at least once: cutting doesn't raise the sum of it
 abbrev pub weight : Counted → ℤ

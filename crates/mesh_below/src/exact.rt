@@ -4,7 +4,7 @@ ghost use Rattle.std.specs.Prelude.{◌≡◌, ◌↔◌, ℕ, ◌+◌, ◌*◌,
 ghost use Rattle.mesh_num.specs.Bounds.{IsSmall, IsSafe};
 ghost use Rattle.mesh_num.specs.Plane.{minus, cross, turn};
 ghost use Rattle.mesh_num.specs.Winding.{same_point};
-ghost use Rattle.mesh_below.specs.Split.{is_end, IsBetween, IsInBox, IsInside, AreOpposite, IsCrossing, rounded_quotient, crossing_at, rounded_crossing, Meets};
+ghost use Rattle.mesh_below.specs.Split.{same_edge, is_end, IsBetween, IsInBox, IsInside, AreOpposite, IsCrossing, rounded_quotient, crossing_at, rounded_crossing, Meets};
 ghost use Rattle.mesh_below.specs.Steps.{AreClear};
 
 use crate::grid::{GridEdge, GridPoint};
@@ -71,6 +71,13 @@ fn same_point(p: GridPoint, q: GridPoint) -> bool
     ensures { result ≡ same_point p q }
 {
     p.0 == q.0 && p.1 == q.1
+}
+
+/// Whether two edges have the same start and the same end.
+pub fn same_edge(e: GridEdge, f: GridEdge) -> bool
+    ensures { result ≡ same_edge e f }
+{
+    same_point(e.0, f.0) && same_point(e.1, f.1)
 }
 
 /// Whether the point is one of the edge's ends.

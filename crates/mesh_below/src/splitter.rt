@@ -53,18 +53,18 @@ impl Splitter {
 
     /// Splits a segment and the live one that it meets. A segment in hand must have the ends of no piece that is put.
     fn split(&mut self, s: CountedSegment, m: Meeting) -> Result<(), AllocError> {
-        if is_end(m.at, m.other) {
-            self.cut(s, m.at)?;
+        if is_end(m.1, m.0) {
+            self.cut(s, m.1)?;
             return Ok(());
         }
-        let other = self.kept.remove(m.other);
-        if is_end(m.at, s.0) {
+        let other = self.kept.remove(m.0);
+        if is_end(m.1, s.0) {
             self.put(s)?;
-            self.cut(other, m.at)?;
+            self.cut(other, m.1)?;
             return Ok(());
         }
-        self.cut(s, m.at)?;
-        self.cut(other, m.at)?;
+        self.cut(s, m.1)?;
+        self.cut(other, m.1)?;
         Ok(())
     }
 
