@@ -1,4 +1,10 @@
 pub mod Ends
+pub mod Cuts
+pub mod Arithmetic
+pub mod Stages
+pub mod Entries
+pub mod Boxes
+pub mod Meeting
 pub mod Line
 pub mod Places
 pub mod SidesPotential

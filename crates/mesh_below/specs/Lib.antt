@@ -4,3 +4,4 @@ pub mod Boundary
 pub mod Regions
 pub mod Contours
 pub mod Resolution
+pub mod Steps

@@ -1,8 +1,9 @@
 -- Splitting: where two segments meet, the cuts that this allows, and what is left when none meet.
 -- Edges are directed; a segment is a pair of ends, whichever way the edges between them run.
-use Rattle.std.specs.Prelude.{ℕ, ◌<◌, ◌+◌, ◌*◌, ◌≡◌, ◌⊎◌, Bool, true, false, cond, ◌&&◌, ◌||◌, List, [], ◌∷◌, ◌++◌, ℤ, pos, negsuc, ◌+ℤ◌, ◌-ℤ◌, ◌*ℤ◌, ◌≤ℤ◌, ◌<ℤ◌, neg_ℤ, ◌/◌, zero, suc}
+use Rattle.std.specs.Prelude.{◌≡◌, ◌⊎◌, Bool, true, false, cond, ◌&&◌, ◌||◌, List, [], ◌∷◌, ◌++◌, ℤ, pos, negsuc, suc, ◌+ℤ◌, ◌-ℤ◌, ◌*ℤ◌, ◌≤ℤ◌, ◌<ℤ◌, neg_ℤ}
 use Rattle.mesh_num.specs.Plane.{Point, Edge, turn}
-use Rattle.mesh_num.specs.Winding.{same_point, refined}
+use Rattle.mesh_num.specs.Rounding.{rounded}
+use Rattle.mesh_num.specs.Winding.{same_point}
 
 -- the edge the other way about
 abbrev pub back : Edge → Edge
@@ -49,16 +50,14 @@ pub record IsCrossing (e f : Edge) : Type 0 where
   pub second_parted : AreOpposite (turn e.0 e.1 f.0) (turn e.0 e.1 f.1)
   pub first_parted : AreOpposite (turn f.0 f.1 e.0) (turn f.0 f.1 e.1)
 
--- the whole number next to a quotient, halves away from zero
-abbrev pub rounded : ℤ → ℤ → ℤ
-rounded (pos n) (pos d) = pos ((2 * n + d) / (2 * d))
-rounded (pos n) (negsuc d) = neg_ℤ (pos ((2 * n + suc d) / (2 * suc d)))
-rounded (negsuc n) (pos d) = neg_ℤ (pos ((2 * suc n + d) / (2 * d)))
-rounded (negsuc n) (negsuc d) = pos ((2 * suc n + suc d) / (2 * suc d))
+-- the whole number next to a quotient, halves away from zero; the divisor may be below 0
+abbrev pub rounded_quotient : ℤ → ℤ → ℤ
+rounded_quotient n (pos d) = rounded n d
+rounded_quotient n (negsuc d) = rounded (neg_ℤ n) (suc d)
 
 -- where an edge that starts `n` beside a line and ends `n - d` beside it cuts the line, as a coordinate from `a` to `b`
 abbrev pub crossing_at : ℤ → ℤ → ℤ → ℤ → ℤ
-crossing_at a b n d = rounded ((a *ℤ d) +ℤ ((b -ℤ a) *ℤ n)) d
+crossing_at a b n d = rounded_quotient ((a *ℤ d) +ℤ ((b -ℤ a) *ℤ n)) d
 
 -- the crossing of the lines of two edges, both coordinates rounded
 abbrev pub rounded_crossing : Edge → Edge → Point

@@ -14,13 +14,8 @@ struct Splitter {
 
 /// The segment seen from its other end.
 fn turned(s: CountedSegment) -> CountedSegment {
-    CountedSegment {
-        ends: GridEdge {
-            start: s.ends.end,
-            end: s.ends.start,
-        },
-        count: -s.count,
-    }
+    let (start, end) = s.0;
+    ((end, start), -s.1)
 }
 
 impl Splitter {
@@ -33,7 +28,8 @@ impl Splitter {
 
     /// Adds a segment to the one with its ends, or else to the worklist.
     fn put(&mut self, s: CountedSegment) -> Result<(), AllocError> {
-        if s.ends.start < s.ends.end {
+        let (start, end) = s.0;
+        if start < end {
             return self.file(s);
         }
         self.file(turned(s))
@@ -49,43 +45,32 @@ impl Splitter {
 
     /// Puts the two pieces of a segment.
     fn cut(&mut self, s: CountedSegment, c: GridPoint) -> Result<(), AllocError> {
-        self.put(CountedSegment {
-            ends: GridEdge {
-                start: s.ends.start,
-                end: c,
-            },
-            count: s.count,
-        })?;
-        self.put(CountedSegment {
-            ends: GridEdge {
-                start: c,
-                end: s.ends.end,
-            },
-            count: s.count,
-        })?;
+        let (start, end) = s.0;
+        self.put(((start, c), s.1))?;
+        self.put(((c, end), s.1))?;
         Ok(())
     }
 
     /// Splits a segment and the live one that it meets. A segment in hand must have the ends of no piece that is put.
     fn split(&mut self, s: CountedSegment, m: Meeting) -> Result<(), AllocError> {
-        if is_end(m.at, m.other) {
-            self.cut(s, m.at)?;
+        if is_end(m.1, m.0) {
+            self.cut(s, m.1)?;
             return Ok(());
         }
-        let other = self.kept.remove(m.other);
-        if is_end(m.at, s.ends) {
+        let other = self.kept.remove(m.0);
+        if is_end(m.1, s.0) {
             self.put(s)?;
-            self.cut(other, m.at)?;
+            self.cut(other, m.1)?;
             return Ok(());
         }
-        self.cut(s, m.at)?;
-        self.cut(other, m.at)?;
+        self.cut(s, m.1)?;
+        self.cut(other, m.1)?;
         Ok(())
     }
 
     /// Makes a segment live, or splits it.
     fn settle(&mut self, s: CountedSegment) -> Result<(), AllocError> {
-        if let Some(m) = self.kept.conflict(s.ends) {
+        if let Some(m) = self.kept.conflict(s.0) {
             self.split(s, m)?;
             return Ok(());
         }
@@ -98,7 +83,7 @@ impl Splitter {
 pub fn split_edges(alloc: Global, edges: &[GridEdge]) -> Result<Vec<CountedSegment>, AllocError> {
     let mut splitter = Splitter::new(alloc);
     for e in edges {
-        splitter.put(CountedSegment { ends: *e, count: 1 })?;
+        splitter.put((*e, 1))?;
     }
     while let Some(s) = splitter.todo.pop() {
         splitter.settle(s)?;
@@ -133,13 +118,13 @@ mod tests {
             for _ in 0..2 + random.below(3) {
                 let mut points = Vec::new(rt.alloc());
                 for _ in 0..3 + random.below(4) {
-                    points.push(GridPoint { x: random.below(size) as i32, y: random.below(size) as i32 })?;
+                    points.push((random.below(size) as i32, random.below(size) as i32))?;
                 }
                 for i in 0..points.len() {
                     let start = points[i];
                     let end = points[(i + 1) % points.len()];
                     if start != end {
-                        edges.push(GridEdge { start, end })?;
+                        edges.push((start, end))?;
                     }
                 }
             }
@@ -147,7 +132,7 @@ mod tests {
             splits += split.len();
             for a in &split {
                 for b in &split {
-                    assert!(rt; meeting(a.ends, b.ends).is_none(), "round {round}");
+                    assert!(rt; meeting(a.0, b.0).is_none(), "round {round}");
                 }
             }
         }
