@@ -18,3 +18,4 @@ pub mod BoundaryFill
 pub mod BoundaryBalance
 pub mod BoundaryRegions
 pub mod ContoursKept
+pub mod BoundarySplits
