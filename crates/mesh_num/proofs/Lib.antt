@@ -15,3 +15,4 @@ pub mod Sums
 pub mod Triangles
 pub mod Turns
 pub mod Whole
+pub mod SegmentLists
