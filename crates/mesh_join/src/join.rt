@@ -6,6 +6,7 @@ ghost use Rattle.mesh_join.specs.Joins.{bevel_edges, bevel_padding, IsJoint};
 
 use crate::arc::ArcDirection;
 use crate::style::IntLineJoin;
+use mesh_num::num::convert::wide_size;
 use mesh_num::num::{Angle, IntNumber, IntPoint, UnitIntVector, WideNumber};
 use mesh_num::shape::segment::{Segment, SubjectSegments};
 use std::alloc::{AllocError, Global};

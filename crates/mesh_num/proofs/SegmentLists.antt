@@ -7,17 +7,17 @@ use Rattle.mesh_num.specs.Winding.{same_point}
 use Rattle.mesh_num.specs.Order.{point_lt}
 use Rattle.mesh_num.specs.Segments.{SignedEdge, edge_of, edges_of, subject_of, edge_between, segment_between, proper_edges, segments_of}
 
-pub edge_of_subject : (p r : Point) → edge_of (subject_of p r) ≡ (p , r)
+pub edge_of_subject : (p r : Point) → edge_of (subject_of p r) ≡ (p, r)
 edge_of_subject p r = step (point_lt p r)
-    where
-    step : (b : Bool) → edge_of (cond b ((p , r) , pos 1) ((r , p) , negsuc 0)) ≡ (p , r)
+  where
+    step : (b : Bool) → edge_of (cond b ((p, r), pos 1) ((r, p), negsuc 0)) ≡ (p, r)
     step true = refl
     step false = refl
 
 pub edges_of_between : (p r : Point) → edges_of (segment_between p r) ≡ edge_between p r
 edges_of_between p r = step (same_point p r)
-    where
-    step : (b : Bool) → edges_of (cond b [] (subject_of p r ∷ [])) ≡ cond b [] ((p , r) ∷ [])
+  where
+    step : (b : Bool) → edges_of (cond b [] (subject_of p r ∷ [])) ≡ cond b [] ((p, r) ∷ [])
     step true = refl
     step false = ap (λ e. e ∷ []) (edge_of_subject p r)
 

@@ -24,9 +24,9 @@ impl<I: IntNumber> Model for UnitIntVector<I> {
 
     ghost Value = { ℤ × ℤ };
 
-    ghost view = { λ n. (I.value n.x , I.value n.y) };
+    ghost view = { λ n. (I.value n.x, I.value n.y) };
 
-    ghost invariant = { λ n. IsShort I.unit (I.value n.x , I.value n.y) };
+    ghost invariant = { λ n. IsShort I.unit (I.value n.x, I.value n.y) };
 
     ghost inverse = { λ v. record { x = I.of_value v.0; y = I.of_value v.1 } };
 
@@ -60,8 +60,8 @@ impl<I: IntNumber> UnitIntVector<I> {
     }
 
     fn from_parts(x: i128, y: i128) -> Self
-        requires { IsShort I.unit (x , y) }
-        ensures { result ≡ (x , y) }
+        requires { IsShort I.unit (x, y) }
+        ensures { result ≡ (x, y) }
     {
         UnitIntVector {
             x: narrow(x),
