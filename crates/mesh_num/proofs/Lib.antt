@@ -16,3 +16,4 @@ pub mod Triangles
 pub mod Turns
 pub mod Whole
 pub mod SegmentLists
+pub mod NormalizedLaws
