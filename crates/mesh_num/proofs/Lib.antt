@@ -2,11 +2,13 @@ pub mod Balance
 pub mod ClosedLists
 pub mod Crossings
 pub mod Identities
+pub mod Normalized
 pub mod Parts
 pub mod Pieces
 pub mod Products
 pub mod Rectangles
 pub mod Ring
+pub mod Roots
 pub mod Rounding
 pub mod Scaling
 pub mod Signs

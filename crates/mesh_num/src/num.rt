@@ -6,3 +6,4 @@ pub(crate) mod exact;
 pub mod number;
 pub mod point;
 pub mod rect;
+pub(crate) mod search;
