@@ -31,26 +31,3 @@ normalized_none unit v (Some n) h =
     let l : 0 < length_sq v = has_length h in
     (λ e. absurd (false≢true (sym e)), λ e. let z : length_sq v ≡ 0 = zero_length v e in absurd (omega arith))
 
-pub normalized_value : (unit : ℕ) (v : Point) (r : Option Point) → Normalizes unit v r → IfSome r (λ n. IsDirection unit v n)
-normalized_value unit v None h = tt
-normalized_value unit v (Some n) h = h
-
-pub normalized_short : (unit : ℕ) (v : Point) (r : Option Point) → Normalizes unit v r → IfSome r (λ n. IsShort unit n)
-normalized_short unit v None h = tt
-normalized_short unit v (Some n) h = direction_short h
-
-pub normalized_fresh : (unit : ℕ) (v : Point) (r : Option Point) → 2 ≤ unit → Normalizes unit v r → IfSome r (λ n. IsFresh unit n)
-normalized_fresh unit v None u h = tt
-normalized_fresh unit v (Some n) u h = direction_fresh u h
-
-pub normalized_odd : (unit : ℕ) (v : Point) (r : Option Point) → Normalizes unit v r → IfSome r (λ n. IsOdd unit v n)
-normalized_odd unit v None h = tt
-normalized_odd unit v (Some n) h = direction_odd h
-
-pub normalized_same_way : (unit : ℕ) (v : Point) (r : Option Point) → Normalizes unit v r → IfSome r (λ n. SameWay unit v n)
-normalized_same_way unit v None h = tt
-normalized_same_way unit v (Some n) h = direction_same_way h
-
-pub normalized_keeps_turns : (unit : ℕ) (v : Point) (r : Option Point) → Normalizes unit v r → IfSome r (λ n. KeepsTurns unit v n)
-normalized_keeps_turns unit v None h = tt
-normalized_keeps_turns unit v (Some n) h = direction_keeps_turns h
