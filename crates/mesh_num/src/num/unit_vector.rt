@@ -89,12 +89,18 @@ impl<I: IntNumber> UnitIntVector<I> {
         ensures y_bound { unsigned_abs result.1 ≤ unsigned_abs (I.value radius) }
         ensures turns { KeepsScaledTurns I.unit (I.value radius) self result }
     {
-        let unit = unit::<I>();
-        let radius = widen(radius);
-        let x = search::scaled_part(unit, widen(self.x), radius);
-        let y = search::scaled_part(unit, widen(self.y), radius);
-        IntVector::new(I::Wide::from_i128(x), I::Wide::from_i128(y))
+        IntVector::new(scale_part(self.x, radius), scale_part(self.y, radius))
     }
+}
+
+// One component of a direction times a radius.
+fn scale_part<I: IntNumber>(part: I, radius: I) -> I::Wide
+    requires { unsigned_abs (I.value part) ≤ I.unit }
+    ensures value { I.Wide.value result ≡ scaled I.unit (I.value radius) (I.value part) }
+    ensures bound { unsigned_abs (I.Wide.value result) ≤ unsigned_abs (I.value radius) }
+{
+    let scaled = search::scaled_part(unit::<I>(), widen(part), widen(radius));
+    I::Wide::from_i128(scaled)
 }
 
 impl<I: IntNumber> IntVector<I> {
