@@ -17,3 +17,4 @@ pub mod Sums
 pub mod Triangles
 pub mod Turns
 pub mod Whole
+pub mod SegmentLists
