@@ -96,6 +96,14 @@ direction_short {unit} {v} {n} p =
     let h : length_sq n * length_sq v ≤ unit * unit * length_sq v = omega (arith, p.x.within, p.y.within) in
     le_of_mul-le-mul_right h (has_length p)
 
+-- two components of one vector are a direction
+pub parts_join : {unit square : ℕ} {x y k l : ℤ} → square ≡ length_sq (x, y) → IsPart unit square x k → IsPart unit square y l → IsDirection unit (x, y) (k, l)
+parts_join {unit} {square} {x} {y} {k} {l} e p q =
+    record {
+      x = subst (λ (n : ℕ). IsPart unit n x k) e p;
+      y = subst (λ (n : ℕ). IsPart unit n y l) e q;
+    }
+
 fresh_size : (u k l : ℕ) → (u + 2) * (u + 2) < (k + 1) * (k + 1) + (l + 1) * (l + 1) → u * u ≤ k * k + l * l
 fresh_size u k l h =
     ⊎_elim

@@ -41,12 +41,13 @@ pub(crate) fn part(unit: u128, square: u128, x: i128) -> i128
     if x < 0 { -size } else { size }
 }
 
-/// The direction of length `unit` of the vector with these components, each below `2^31` in size; `None` for the vector 0.
+/// The direction of length at most `unit` of the vector with these components, each below `2^31` in size; `None` for the vector 0.
 pub(crate) fn direction(unit: u128, x: i128, y: i128) -> Option<(i128, i128)>
     requires unit { unit ≤ 2 ^ 30 }
     requires x_size { unsigned_abs x < 2 ^ 31 }
     requires y_size { unsigned_abs y < 2 ^ 31 }
     ensures value { MatchOption result (length_sq (x, y) ≡ 0) (λ n. IsDirection unit (x, y) n) }
+    ensures short { IfSome result (λ n. IsShort unit n) }
 {
     let square = square_sum(x, y);
     if square == 0 {
