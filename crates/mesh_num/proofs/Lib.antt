@@ -3,7 +3,6 @@ pub mod ClosedLists
 pub mod Crossings
 pub mod Identities
 pub mod Normalized
-pub mod NormalizedLaws
 pub mod Parts
 pub mod Pieces
 pub mod Products
