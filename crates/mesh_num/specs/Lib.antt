@@ -1,9 +1,9 @@
 pub mod Bounds
+pub mod Direction
 pub mod Order
 pub mod Plane
-pub mod Segments
-pub mod Direction
-pub mod Plane
+pub mod Rectangle
 pub mod Rounding
-pub mod Winding
+pub mod Segments
 pub mod Widths
+pub mod Winding
