@@ -22,7 +22,7 @@ part_opposite {unit} {square} {x} {k} p =
     record {
       sign = sign_neg p.sign;
       within = rw (size_neg x, size_neg k) p.within;
-      greatest = rw (size_neg x, size_neg k) p.greatest
+      greatest = rw (size_neg x, size_neg k) p.greatest;
     }
 
 -- a component with at least the share of another has at least its size
@@ -53,14 +53,14 @@ part_ends {unit} {square} {x} {k} p =
 -- ---- both components
 
 pub direction_unique : {unit : ℕ} {v n m : Point} → IsDirection unit v n → IsDirection unit v m → n ≡ m
-direction_unique p q = λ i. (part_unique p.x q.x i , part_unique p.y q.y i)
+direction_unique p q = λ i. (part_unique p.x q.x i, part_unique p.y q.y i)
 
 pub direction_opposite : {unit : ℕ} {v n : Point} → IsDirection unit v n → IsDirection unit (opposite v) (opposite n)
 direction_opposite {unit} {v} {n} p =
     let e : length_sq v ≡ length_sq (opposite v) = sym (length_opposite v) in
     record {
       x = subst (λ (l : ℕ). IsPart unit l (neg_ℤ v.0) (neg_ℤ n.0)) e (part_opposite p.x);
-      y = subst (λ (l : ℕ). IsPart unit l (neg_ℤ v.1) (neg_ℤ n.1)) e (part_opposite p.y)
+      y = subst (λ (l : ℕ). IsPart unit l (neg_ℤ v.1) (neg_ℤ n.1)) e (part_opposite p.y);
     }
 
 pub direction_odd : {unit : ℕ} {v n : Point} → IsDirection unit v n → IsOdd unit v n
@@ -77,7 +77,7 @@ has_length {unit} {v} {n} p = omega (arith, long unit (length_sq v) (unsigned_ab
 pub direction_bounded : {unit : ℕ} {v n : Point} → IsDirection unit v n → (unsigned_abs n.0 ≤ unit) × (unsigned_abs n.1 ≤ unit)
 direction_bounded {unit} {v} {n} p =
     let l : 0 < length_sq v = has_length p in
-    (part_bounded l (omega arith) p.x , part_bounded l (omega arith) p.y)
+    (part_bounded l (omega arith) p.x, part_bounded l (omega arith) p.y)
 
 pub direction_short : {unit : ℕ} {v n : Point} → IsDirection unit v n → IsShort unit n
 direction_short {unit} {v} {n} p =
@@ -88,9 +88,9 @@ fresh_size : (u k l : ℕ) → (u + 2) * (u + 2) < (k + 1) * (k + 1) + (l + 1) *
 fresh_size u k l h =
     ⊎_elim
     (λ a.
-        let b : (k + l) * (k + l) < (2 * u) * (2 * u) = omega (arith, two_products k l) in
-        let c : k + l < 2 * u = lt_of_squares (k + l) (2 * u) b in
-        absurd (omega arith))
+    let b : (k + l) * (k + l) < (2 * u) * (2 * u) = omega (arith, two_products k l) in
+    let c : k + l < 2 * u = lt_of_squares (k + l) (2 * u) b in
+    absurd (omega arith))
     (λ a. a)
     (cases_lt (k * k + l * l) (u * u))
 
