@@ -79,10 +79,10 @@ balanced_permutation es gs h k p =
     omega (arith, k p, sum_by-IsPermutation (λ (e : Edge). cond (same_point p e.0) 1 0) es gs h, sum_by-IsPermutation (λ (e : Edge). cond (same_point p e.1) 1 0) es gs h)
 
 -- back: lists with equal counts of each point have equal sums
-same_point_is : (p x : Point) → same_point p x ≡ true → p ≡ x
+pub same_point_is : (p x : Point) → same_point p x ≡ true → p ≡ x
 same_point_is p x e = let k = (Decides-and (int_eq p.0 x.0) (int_eq p.1 x.1) (Decides-int_eq p.0 x.0) (Decides-int_eq p.1 x.1)).0 e in λ i. (k.0 i, k.1 i)
 
-same_point_self : (p : Point) → same_point p p ≡ true
+pub same_point_self : (p : Point) → same_point p p ≡ true
 same_point_self p = (Decides-and (int_eq p.0 p.0) (int_eq p.1 p.1) (Decides-int_eq p.0 p.0) (Decides-int_eq p.1 p.1)).1 (refl, refl)
 
 without : Point → List Point → List Point

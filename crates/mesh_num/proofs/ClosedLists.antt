@@ -25,6 +25,16 @@ pub route_append : {A : Type 0} (a : A) (xs : List A) (y : A) (ys : List A) (z :
 route_append a [] y ys z = refl
 route_append a (x ∷ xs) y ys z = ap (λ (l : List _). (a, x) ∷ l) (route_append x xs y ys z)
 
+pub route_map : {A B : Type 0} (f : A → B) (a : A) (xs : List A) (z : A) →
+    route (f a) (map f xs) (f z) ≡ map (λ (e : A × A). (f e.0 , f e.1)) (route a xs z)
+route_map f a [] z = refl
+route_map f a (x ∷ xs) z = ap (λ (l : List _). (f a , f x) ∷ l) (route_map f x xs z)
+
+pub boundary_map : {A B : Type 0} (f : A → B) (xs : List A) →
+    boundary (map f xs) ≡ map (λ (e : A × A). (f e.0 , f e.1)) (boundary xs)
+boundary_map f [] = refl
+boundary_map f (x ∷ xs) = route_map f x xs x
+
 -- a closed list begun elsewhere has the same sum
 pub boundary_rotated : {A : Type 0} (f : A × A → ℤ) (xs ys : List A) →
     sum_of f (boundary (xs ++ ys)) ≡ sum_of f (boundary (ys ++ xs))
