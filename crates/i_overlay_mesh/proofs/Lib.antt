@@ -1,1 +1,2 @@
 pub mod OutlineSum
+pub mod OutlineCount

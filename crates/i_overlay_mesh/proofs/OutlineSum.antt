@@ -7,10 +7,10 @@ use Rattle.std.proofs.lemmas.List.Elements.{All-weaker}
 use Rattle.mesh_num.specs.Plane.{Point, Edge}
 use Rattle.mesh_num.specs.Winding.{sum_of, total, route, boundary, fan, pieces_total, same_point, IsOdd, IsBalanced}
 use Rattle.mesh_num.proofs.Whole.{linear}
-use Rattle.mesh_num.proofs.Sums.{sum_of_add, sum_of_none, sum_of_equal, sum_of_filter, total_append, total_flat_map, pieces_total_append, pieces_total_flat_map}
-use Rattle.mesh_num.proofs.ClosedLists.{boundary_ends}
+use Rattle.mesh_num.proofs.Sums.{sum_of_add, sum_of_none, sum_of_equal, sum_of_filter, total_append, total_flat_map, pieces_total_append, pieces_total_flat_map, pieces_total_map, sum_of_zero}
+use Rattle.mesh_num.proofs.ClosedLists.{boundary_ends, boundary_all, all_both}
 use Rattle.mesh_num.proofs.Pieces.{fan_total}
-use Rattle.mesh_num.proofs.Balance.{same_point_is, growth, growth_odd, balanced_by_pieces}
+use Rattle.mesh_num.proofs.Balance.{same_point_is, same_point_self, growth, growth_odd, balanced_by_pieces}
 use Rattle.i_overlay_mesh.specs.Outline.{Section, Corner, own_edge, top_edge, strip, inner_edges, join_edges, corner_edges, corner_pieces, without_points, drawn_edges, drawn_pieces}
 
 -- each corner's second section starts where its first ends
@@ -81,6 +81,64 @@ module _ (f : Point → Point → ℤ) (odd : IsOdd f) where
         both,
         none,
         pieces_total_append f (map strip sections) (flat_map (corner_pieces is_outer join) (boundary sections)),
+      )
+
+-- a section that has not moved
+abbrev pub Stays : Section → Type 0
+Stays s = (s.a_top ≡ s.a) × (s.b_top ≡ s.b)
+
+-- where no section has moved, the pieces add nothing
+module _ (f : Point → Point → ℤ) (odd : IsOdd f) where
+  none_round : (p : Point) → f p p ≡ pos 0
+  none_round p = omega (arith, linear, odd p p)
+
+  still_strip : (s : Section) → Stays s → total f (boundary (strip s)) ≡ pos 0
+  still_strip s (ea, eb) =
+      omega (
+        arith,
+        linear,
+        odd s.a s.b,
+        none_round s.a,
+        none_round s.b,
+        ap (λ p. f s.a p) ea,
+        ap (λ p. f p s.b_top) ea,
+        ap (λ p. f s.a p) eb,
+        ap (λ p. f p s.b) eb,
+      )
+
+  still_fan : (v p r : Point) (xs : List Point) → p ≡ v → r ≡ v → pieces_total f (fan v (route p (cond (same_point p r) [] xs) r)) ≡ pos 0
+  still_fan v p r xs ep er =
+      let same : same_point p r ≡ true = rw (ep, er) (same_point_self v) in
+      rw same (omega (arith, linear, none_round v, ap (λ x. f v x) ep, ap (λ x. f x r) ep, ap (λ x. f v x) er, ap (λ x. f x v) er))
+
+  still_corner : (is_outer : Corner → Bool) (join : Corner → List Point) (c : Corner) → Stays c.0 → Stays c.1 → c.0.b ≡ c.1.a →
+      pieces_total f (corner_pieces is_outer join c) ≡ pos 0
+  still_corner is_outer join c p n e = by (is_outer c)
+    where
+      by : (b : Bool) → pieces_total f (cond b (fan c.0.b (join_edges join c)) []) ≡ pos 0
+      by true = still_fan c.0.b c.0.b_top c.1.a_top (join c) p.1 (n.0 ∙ sym e)
+      by false = refl
+
+  pub still_total : (is_outer : Corner → Bool) (join : Corner → List Point) (sections : List Section) → IsClosed sections → All Stays sections →
+      pieces_total f (drawn_pieces is_outer join sections) ≡ pos 0
+  unfolding drawn_pieces
+  still_total is_outer join sections closed still =
+      let strips = pieces_total_map f strip sections in
+      let fans = pieces_total_flat_map f (corner_pieces is_outer join) (boundary sections) in
+      let each : All (λ s. total f (boundary (strip s)) ≡ pos 0) sections =
+      All-weaker Stays (λ s. total f (boundary (strip s)) ≡ pos 0) still_strip sections still in
+      let at : All (λ (c : Corner). pieces_total f (corner_pieces is_outer join c) ≡ pos 0) (boundary sections) =
+      All-weaker (λ (c : Corner). (Stays c.0 × Stays c.1) × (c.0.b ≡ c.1.a)) (λ (c : Corner). pieces_total f (corner_pieces is_outer join c) ≡ pos 0)
+      (λ c h. still_corner is_outer join c h.0.0 h.0.1 h.1) (boundary sections)
+      (all_both (λ (c : Corner). Stays c.0 × Stays c.1) (λ (c : Corner). c.0.b ≡ c.1.a) (boundary sections) (boundary_all Stays sections still) closed) in
+      omega (
+        arith,
+        linear,
+        strips,
+        fans,
+        pieces_total_append f (map strip sections) (flat_map (corner_pieces is_outer join) (boundary sections)),
+        sum_of_zero (λ s. total f (boundary (strip s))) sections each,
+        sum_of_zero (λ (c : Corner). pieces_total f (corner_pieces is_outer join c)) (boundary sections) at,
       )
 
 pub drawn_balanced : (is_outer : Corner → Bool) (join : Corner → List Point) (sections : List Section) → IsClosed sections →

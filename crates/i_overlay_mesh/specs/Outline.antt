@@ -1,9 +1,9 @@
 -- Outlines: how a contour that is moved sideways by an offset is drawn, and the pieces between it and the contour.
-use Rattle.std.specs.Prelude.{ℕ, ◌≡◌, Bool, cond, not, List, [], ◌∷◌, ◌++◌, map, ℤ, pos, neg_ℤ, int_lt}
+use Rattle.std.specs.Prelude.{ℕ, ◌≡◌, ◌≢◌, Bool, cond, not, List, [], ◌∷◌, ◌++◌, map, ℤ, pos, ◌≤ℤ◌, neg_ℤ, int_lt}
 use Rattle.std.specs.Ordering.{int_eq}
 use Rattle.std.specs.List.{All, filter, flat_map}
 use Rattle.std.proofs.Math.Bool.{beq}
-use Rattle.mesh_num.specs.Plane.{Point, Edge, plus, minus, cross, dot, right_quarter}
+use Rattle.mesh_num.specs.Plane.{Point, Edge, plus, minus, cross, dot, turn, right_quarter}
 use Rattle.mesh_num.specs.Direction.{scaled_direction}
 use Rattle.mesh_num.specs.Directed.{direction_of}
 use Rattle.mesh_num.specs.Winding.{route, boundary, fan, same_point}
@@ -91,6 +91,20 @@ outline_pieces unit offset join contour =
 abbrev pub bevel : Corner → List Point
 bevel c = []
 
--- a number of pieces, counted below 0 for a negative offset
-abbrev pub signed : ℤ → ℕ → ℤ
-signed offset n = cond (int_lt offset (pos 0)) (neg_ℤ (pos n)) (pos n)
+-- a number with its sign changed for a negative offset
+abbrev pub sided : ℤ → ℤ → ℤ
+sided offset z = cond (int_lt offset (pos 0)) (neg_ℤ z) z
+
+-- neighbours in a list of points round `v` never turn back: a turn is to the left, for a negative offset to the right
+abbrev pub NeverTurnsBack : ℤ → Point → List Edge → Type 0
+NeverTurnsBack offset v es = All (λ (e : Edge). pos 0 ≤ℤ sided offset (turn v e.0 e.1)) es
+
+-- a join whose points never turn back where its ends do not
+abbrev pub IsFoldFree : ℤ → (Corner → List Point) → Type 0
+IsFoldFree offset join =
+    (c : Corner) → pos 0 ≤ℤ sided offset (turn c.0.b c.0.b_top c.1.a_top) → NeverTurnsBack offset c.0.b (join_edges join c)
+
+-- edges with different ends, each starting where the one before ends, the first where the last does
+pub record IsRing (contour : List Edge) : Type 0 where
+  pub proper : All (λ (e : Edge). e.0 ≢ e.1) contour
+  pub closed : All (λ (c : Edge × Edge). c.0.1 ≡ c.1.0) (boundary contour)

@@ -46,6 +46,9 @@ sum_of_equal f g [] h = refl
 sum_of_equal f g (x ∷ xs) h =
     omega (arith, linear, All-head (λ x. f x ≡ g x) x xs h, sum_of_equal f g xs (All-tail (λ x. f x ≡ g x) x xs h))
 
+pub sum_of_zero : {A : Type 0} (f : A → ℤ) (xs : List A) → All (λ x. f x ≡ pos 0) xs → sum_of f xs ≡ pos 0
+sum_of_zero f xs h = sum_of_equal f (λ x. pos 0) xs h ∙ sum_of_none (λ x. pos 0) (λ x. refl) xs
+
 -- what a test leaves out adds nothing
 pub sum_of_filter : {A : Type 0} (f : A → ℤ) (test : A → Bool) → ((x : A) → test x ≡ false → f x ≡ pos 0) → (xs : List A) →
     sum_of f (filter test xs) ≡ sum_of f xs
