@@ -1,0 +1,2 @@
+pub mod OutlineSum
+pub mod OutlineCount

@@ -3,5 +3,4 @@
 
 pub mod error;
 
-
 pub use error::IntOutlineError;

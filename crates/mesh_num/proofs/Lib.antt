@@ -3,6 +3,8 @@ pub mod ClosedLists
 pub mod Crossings
 pub mod Identities
 pub mod Normalized
+pub mod Directed
+pub mod Identities
 pub mod Parts
 pub mod Pieces
 pub mod Products
@@ -12,6 +14,8 @@ pub mod Roots
 pub mod Rounding
 pub mod Scaling
 pub mod SegmentLists
+pub mod Rounding
+pub mod Scaling
 pub mod Signs
 pub mod Sizes
 pub mod Sums
