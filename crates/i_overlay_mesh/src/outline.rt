@@ -1,3 +1,3 @@
 //! Outlines: each contour moved sideways, outwards or inwards.
 
-pub mod builder;
+mod section;
