@@ -1,2 +1,3 @@
 pub mod OutlineSum
 pub mod OutlineCount
+pub mod OutlineWalk
