@@ -1,11 +1,10 @@
 -- Lemmas over points and lists: an outline drawn section by section, and how many edges it has.
-use Rattle.std.proofs.Common.{◌≡◌, ℕ, ◌+◌, ◌*◌, ◌≤◌, List, [], ◌∷◌, ◌++◌, length, refl, sym, ◌∙◌, ap, arith, length-append}
-use Rattle.std.specs.Prelude.{Bool, true, false, cond, not, map, count_by}
-use Rattle.std.specs.List.{All, filter, flat_map}
+use Rattle.std.proofs.Common.{◌≡◌, ◌+◌, ◌*◌, ◌≤◌, List, [], ◌∷◌, ◌++◌, length, refl, ◌∙◌, ap, arith, length-append}
+use Rattle.std.specs.Prelude.{Bool, true, false, cond, not, map}
+use Rattle.std.specs.List.{flat_map}
 use Rattle.std.specs.List.Sorted.{IsPermutation}
-use Rattle.std.proofs.lemmas.List.Elements.{filter-append, All-head, All-tail}
+use Rattle.std.proofs.lemmas.List.Elements.{filter-append}
 use Rattle.std.proofs.lemmas.List.Sums.{length-filter, count_by-le-length}
-
 use Rattle.mesh_num.specs.Plane.{Point, Edge}
 use Rattle.mesh_num.specs.Winding.{route, boundary, same_point}
 use Rattle.mesh_num.proofs.ClosedLists.{woven, woven_round}
@@ -40,7 +39,7 @@ drawn_by_parts is_outer join sections =
 
 -- a walk that draws the first section, then each next one with the corner before it, in either order, and at last the corner back
 pub drawn_by_walk : (is_outer : Corner → Bool) (join : Corner → List Point) (step : Section → Section → List Edge) →
-    ((p n : Section) → IsPermutation (step p n) (drawn_top n ++ drawn_corner is_outer join (p , n))) → (first : Section) (rest : List Section) →
+    ((p n : Section) → IsPermutation (step p n) (drawn_top n ++ drawn_corner is_outer join (p, n))) → (first : Section) (rest : List Section) →
     IsPermutation (drawn_top first ++ woven step (drawn_corner is_outer join) first rest first) (drawn_edges is_outer join (first ∷ rest))
 drawn_by_walk is_outer join step mixed first rest =
     rw (drawn_by_parts is_outer join (first ∷ rest)) (woven_round drawn_top (drawn_corner is_outer join) step mixed first rest)
@@ -56,8 +55,8 @@ corners_length (x ∷ xs) = omega (arith, route_length x xs x)
 
 corner_length : (is_outer : Corner → Bool) (join : Corner → List Point) (c : Corner) → length (join c) ≤ 2 → length (corner_edges is_outer join c) ≤ 3
 corner_length is_outer join c h = by (is_outer c) (same_point c.0.b_top c.1.a_top)
-    where
-    by : (b t : Bool) → length (cond b (route c.0.b_top (cond t [] (join c)) c.1.a_top) ((c.0.b_top , c.0.b) ∷ (c.1.a , c.1.a_top) ∷ [])) ≤ 3
+  where
+    by : (b t : Bool) → length (cond b (route c.0.b_top (cond t [] (join c)) c.1.a_top) ((c.0.b_top, c.0.b) ∷ (c.1.a, c.1.a_top) ∷ [])) ≤ 3
     by true true = omega arith
     by true false = omega (arith, route_length c.0.b_top (join c) c.1.a_top)
     by false t = omega arith
@@ -71,12 +70,18 @@ pub drawn_length : (is_outer : Corner → Bool) (join : Corner → List Point) �
 drawn_length is_outer join few sections =
     rw (drawn_by_parts is_outer join sections)
     (omega (arith, length-append (flat_map drawn_top sections) (flat_map (drawn_corner is_outer join) (boundary sections)), tops sections, all_corners (boundary sections), corners_length sections))
-    where
+  where
     tops : (ss : List Section) → length (flat_map drawn_top ss) ≤ length ss
     tops [] = omega arith
     tops (s ∷ ss) = omega (arith, tops ss, length-append (drawn_top s) (flat_map drawn_top ss), without_length (top_edge s ∷ []))
+
     all_corners : (cs : List Corner) → length (flat_map (drawn_corner is_outer join) cs) ≤ 3 * length cs
     all_corners [] = omega arith
     all_corners (c ∷ cs) =
-        omega (arith, all_corners cs, length-append (drawn_corner is_outer join c) (flat_map (drawn_corner is_outer join) cs),
-        without_length (corner_edges is_outer join c), corner_length is_outer join c (few c))
+        omega (
+          arith,
+          all_corners cs,
+          length-append (drawn_corner is_outer join c) (flat_map (drawn_corner is_outer join) cs),
+          without_length (corner_edges is_outer join c),
+          corner_length is_outer join c (few c),
+        )
