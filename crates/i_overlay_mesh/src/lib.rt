@@ -1,2 +1,6 @@
-// Offsetting of outlines and strokes.
+//! Outlines of contours over whole numbers.
 #![tactic(auto)]
+
+pub mod error;
+
+pub use error::IntOutlineError;

@@ -1,6 +1,8 @@
 pub mod Balance
 pub mod ClosedLists
 pub mod Crossings
+pub mod Identities
+pub mod Normalized
 pub mod Directed
 pub mod Identities
 pub mod Parts
@@ -8,6 +10,10 @@ pub mod Pieces
 pub mod Products
 pub mod Rectangles
 pub mod Ring
+pub mod Roots
+pub mod Rounding
+pub mod Scaling
+pub mod SegmentLists
 pub mod Rounding
 pub mod Scaling
 pub mod Signs

@@ -1,11 +1,11 @@
 -- Lemmas over points: each vector other than 0 has one direction, which is odd, short and fresh.
-use Rattle.std.proofs.Common.{◌≡◌, ℕ, ◌+◌, ◌*◌, ◌-◌, ◌<◌, ◌≤◌, refl, sym, ◌∙◌, ap, subst, arith, zero, suc}
-use Rattle.std.specs.Prelude.{ℤ, pos, ◌+ℤ◌, ◌*ℤ◌, ◌≤ℤ◌, neg_ℤ, unsigned_abs}
-use Rattle.std.proofs.Math.Nat.{mul-le-mul, mul-le-mul_left, mul-le-mul_right, le_of_mul-le-mul_right, lt_of_mul-lt-mul_right, le_antisymm}
+use Rattle.std.proofs.Common.{◌≡◌, ℕ, ◌+◌, ◌*◌, ◌-◌, ◌<◌, ◌≤◌, sym, subst, arith, zero, suc}
+use Rattle.std.specs.Prelude.{ℤ, neg_ℤ, unsigned_abs}
+use Rattle.std.proofs.Math.Nat.{mul-le-mul_left, mul-le-mul_right, le_of_mul-le-mul_right, lt_of_mul-lt-mul_right}
 use Rattle.std.proofs.lemmas.Bool.{cases_lt}
 use mathlib.Core.Logic.{⊎_elim}
-use Rattle.mesh_num.specs.Plane.{Point, opposite, length_sq}
-use Rattle.mesh_num.specs.Direction.{HasSignOf, IsShare, IsPart, IsDirection, IsShort, IsFresh, IsOdd}
+use Rattle.mesh_num.specs.Plane.{Point, opposite, length_sq, right_quarter}
+use Rattle.mesh_num.specs.Direction.{IsPart, IsDirection, IsShort, IsFresh, IsOdd}
 use Rattle.mesh_num.proofs.Sizes.{size_neg, length_opposite, lt_of_squares, le_of_squares, two_products}
 use Rattle.mesh_num.proofs.Signs.{sign_neg, same_number}
 
@@ -63,6 +63,18 @@ direction_opposite {unit} {v} {n} p =
       y = subst (λ (l : ℕ). IsPart unit l (neg_ℤ v.1) (neg_ℤ n.1)) e (part_opposite p.y);
     }
 
+-- a vector turned by a quarter has the direction turned by a quarter
+pub direction_quarter : {unit : ℕ} {v n : Point} → IsDirection unit v n → IsDirection unit (right_quarter v) (right_quarter n)
+direction_quarter {unit} {v} {n} p =
+    let e : length_sq v ≡ length_sq (right_quarter v) = turned (unsigned_abs v.0) (unsigned_abs v.1) (unsigned_abs (neg_ℤ v.0)) (size_neg v.0) in
+    record {
+      x = subst (λ (l : ℕ). IsPart unit l v.1 n.1) e p.y;
+      y = subst (λ (l : ℕ). IsPart unit l (neg_ℤ v.0) (neg_ℤ n.0)) e (part_opposite p.x);
+    }
+  where
+    turned : (a b c : ℕ) → c ≡ a → a * a + b * b ≡ b * b + c * c
+    turned a b c e = rw e (omega arith)
+
 pub direction_odd : {unit : ℕ} {v n : Point} → IsDirection unit v n → IsOdd unit v n
 direction_odd p m q = direction_unique q (direction_opposite p)
 
@@ -83,6 +95,14 @@ pub direction_short : {unit : ℕ} {v n : Point} → IsDirection unit v n → Is
 direction_short {unit} {v} {n} p =
     let h : length_sq n * length_sq v ≤ unit * unit * length_sq v = omega (arith, p.x.within, p.y.within) in
     le_of_mul-le-mul_right h (has_length p)
+
+-- two components of one vector are a direction
+pub parts_join : {unit square : ℕ} {x y k l : ℤ} → square ≡ length_sq (x, y) → IsPart unit square x k → IsPart unit square y l → IsDirection unit (x, y) (k, l)
+parts_join {unit} {square} {x} {y} {k} {l} e p q =
+    record {
+      x = subst (λ (n : ℕ). IsPart unit n x k) e p;
+      y = subst (λ (n : ℕ). IsPart unit n y l) e q;
+    }
 
 fresh_size : (u k l : ℕ) → (u + 2) * (u + 2) < (k + 1) * (k + 1) + (l + 1) * (l + 1) → u * u ≤ k * k + l * l
 fresh_size u k l h =

@@ -1,19 +1,19 @@
 -- Lemmas over points: directions times a radius keep signs, turns and opposites, and stay within the radius.
-use Rattle.std.proofs.Common.{◌≡◌, ℕ, ◌+◌, ◌*◌, ◌-◌, ◌<◌, ◌≤◌, refl, sym, ◌∙◌, ap, subst, arith, zero, suc, List, [], ◌∷◌}
-use Rattle.std.specs.Prelude.{ℤ, pos, ◌+ℤ◌, ◌-ℤ◌, ◌*ℤ◌, ◌≤ℤ◌, ◌<ℤ◌, neg_ℤ, unsigned_abs}
+use Rattle.std.proofs.Common.{◌≡◌, ℕ, ◌+◌, ◌*◌, ◌-◌, ◌<◌, ◌≤◌, refl, sym, ◌∙◌, ap, subst, arith, zero, suc}
+use Rattle.std.specs.Prelude.{ℤ, pos, ◌*ℤ◌, ◌≤ℤ◌, neg_ℤ, unsigned_abs}
 use Rattle.std.proofs.Math.Nat.{mul-le-mul, mul-le-mul_left, mul-le-mul_right}
 use Rattle.std.proofs.lemmas.Nat.{mul-lt}
-use Rattle.std.proofs.lemmas.Int.{ints, unsigned_abs-mul, by_lt_z}
+use Rattle.std.proofs.lemmas.Int.{unsigned_abs-mul, by_lt_z}
 use Rattle.std.proofs.lemmas.Bool.{cases_lt}
 use mathlib.Core.Logic.{⊎_elim}
-use Rattle.mesh_num.specs.Plane.{Point, opposite, cross, dot, length_sq}
+use Rattle.mesh_num.specs.Plane.{Point, opposite, cross, dot, length_sq, right_quarter}
 use Rattle.mesh_num.specs.Direction.{HasSignOf, IsDirection, IsShort, IsFresh, KeepsScaledTurns, scaled, scaled_direction}
 use Rattle.mesh_num.specs.Rounding.{rounded}
-use Rattle.mesh_num.proofs.Whole.{linear, mul_neg, neg_mul, neg_mul_neg, mul_zero}
-use Rattle.mesh_num.proofs.Sizes.{size_neg, size_zero, le_of_squares}
+use Rattle.mesh_num.proofs.Whole.{linear, mul_neg, neg_mul}
+use Rattle.mesh_num.proofs.Identities.{cross_opposites}
+use Rattle.mesh_num.proofs.Sizes.{size_zero, le_of_squares}
 use Rattle.mesh_num.proofs.Signs.{sign_self, sign_through, sign_square, sign_times}
 use Rattle.mesh_num.proofs.Rounding.{rounded_sign, rounded_neg, rounded_grows, rounded_within, rounded_zero}
-use Rattle.mesh_num.proofs.Parts.{direction_bounded}
 use Rattle.mesh_num.proofs.Turns.{Keeps, turn_kept_by, parallel_kept_by}
 
 -- ---- one component
@@ -60,6 +60,10 @@ scaled_direction_bounded unit r n h s =
     let b : (unsigned_abs n.0 ≤ unit) × (unsigned_abs n.1 ≤ unit) = short_bounded unit n s in
     (scaled_bound unit r n.0 h b.0, scaled_bound unit r n.1 h b.1)
 
+-- a quarter turn and a radius may be applied in either order
+pub scaled_direction_quarter : (unit : ℕ) (r : ℤ) (n : Point) → 0 < unit → scaled_direction unit r (right_quarter n) ≡ right_quarter (scaled_direction unit r n)
+scaled_direction_quarter unit r n h = λ i. (scaled unit r n.1, scaled_opposite_part unit r n.0 h i)
+
 -- a vector looks the way of its direction times a radius of at least 0, in each coordinate
 pub along_scaled : {unit : ℕ} {v n : Point} → (r : ℤ) → 0 < unit → pos 0 ≤ℤ r → IsDirection unit v n
     → (pos 0 ≤ℤ (v.0 *ℤ scaled unit r n.0)) × (pos 0 ≤ℤ (v.1 *ℤ scaled unit r n.1))
@@ -76,9 +80,6 @@ dot_scaled_nonpos {unit} {v} {n} r h l p =
     omega (arith, linear)
 
 -- ---- turns
-
-cross_opposites : (v w : Point) → cross (opposite v) (opposite w) ≡ cross v w
-cross_opposites v w = omega (arith, linear, neg_mul_neg v.0 w.1, neg_mul_neg v.1 w.0)
 
 -- the two signs of opposite radii cancel
 scaled_cross : (unit : ℕ) (r : ℤ) (n m : Point) → 0 < unit → cross (scaled_direction unit (neg_ℤ r) n) (scaled_direction unit (neg_ℤ r) m) ≡ cross (scaled_direction unit r n) (scaled_direction unit r m)

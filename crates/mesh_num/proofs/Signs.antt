@@ -1,9 +1,9 @@
 -- Lemmas over whole numbers: numbers that have the signs of others.
-use Rattle.std.proofs.Common.{◌≡◌, ℕ, ◌+◌, ◌*◌, ◌<◌, ◌≤◌, refl, sym, ◌∙◌, ap, arith, zero, suc}
-use Rattle.std.specs.Prelude.{ℤ, pos, negsuc, ◌+ℤ◌, ◌-ℤ◌, ◌*ℤ◌, ◌≤ℤ◌, neg_ℤ, unsigned_abs}
+use Rattle.std.proofs.Common.{◌≡◌, ◌≤◌, ◌∙◌, ap, arith}
+use Rattle.std.specs.Prelude.{ℤ, pos, ◌*ℤ◌, ◌≤ℤ◌, neg_ℤ, unsigned_abs}
 use Rattle.std.proofs.lemmas.Int.{ints, by_lt_z}
 use Rattle.mesh_num.specs.Direction.{HasSignOf}
-use Rattle.mesh_num.proofs.Whole.{linear, neg_mul, mul_nonneg, mul_nonpos, mul_nonneg_nonpos, mul_nonpos_nonneg, nonneg_of_mul, mul_neg_pos, zero_mul}
+use Rattle.mesh_num.proofs.Whole.{linear, neg_mul, mul_nonneg, mul_nonpos, mul_nonpos_nonneg, nonneg_of_mul, mul_neg_pos, zero_mul}
 
 pub sign_self : (x : ℤ) → HasSignOf x x
 sign_self x = record { nonneg = λ h. h; nonpos = λ h. h }

@@ -1,18 +1,16 @@
 -- Lemmas over points: directions, and directions times a radius, keep turns, parallels and opposites.
-use Rattle.std.proofs.Common.{◌≡◌, ℕ, ◌+◌, ◌*◌, ◌-◌, ◌<◌, ◌≤◌, refl, sym, ◌∙◌, ap, subst, arith, zero, suc, List, [], ◌∷◌}
-use Rattle.std.specs.Prelude.{ℤ, pos, ◌+ℤ◌, ◌-ℤ◌, ◌*ℤ◌, ◌≤ℤ◌, ◌<ℤ◌, neg_ℤ, unsigned_abs}
-use Rattle.std.proofs.Math.Nat.{mul-le-mul, mul-le-mul_left, mul-le-mul_right, le_antisymm}
-use Rattle.std.proofs.lemmas.Int.{ints, unsigned_abs-mul, by_lt_z}
+use Rattle.std.proofs.Common.{◌≡◌, ℕ, ◌+◌, ◌*◌, ◌<◌, ◌≤◌, refl, sym, ◌∙◌, ap, arith, [], ◌∷◌}
+use Rattle.std.specs.Prelude.{ℤ, pos, ◌+ℤ◌, ◌*ℤ◌, ◌≤ℤ◌, ◌<ℤ◌, unsigned_abs}
+use Rattle.std.proofs.Math.Nat.{mul-le-mul}
+use Rattle.std.proofs.lemmas.Int.{unsigned_abs-mul}
 use Rattle.mesh_num.specs.Plane.{Point, opposite, cross, dot, length_sq}
-use Rattle.mesh_num.specs.Direction.{HasSignOf, IsPart, IsDirection, IsFresh, IsOdd, SameWay, KeepsTurns, KeepsScaledTurns, scaled, scaled_direction}
-use Rattle.mesh_num.specs.Rounding.{rounded}
-use Rattle.mesh_num.proofs.Whole.{linear, mul_nonneg, mul_nonneg_nonpos, mul_nonpos_nonneg, nonneg_of_mul, nonpos_of_mul, mul_cancel, mul_zero, mul_neg, neg_mul, square_nonneg}
-use Rattle.mesh_num.proofs.Ring.{ring, var, ◌⊕◌, ◌⊖◌, ◌⊗◌, cross_of, dot_of}
-use Rattle.mesh_num.proofs.Identities.{cross_flip, dot_swap}
-use Rattle.mesh_num.proofs.Sizes.{size_neg, dot_self}
-use Rattle.mesh_num.proofs.Signs.{sign_self, sign_through, sign_neg, sign_product, sign_square, sign_times, order_kept, same_number}
-use Rattle.mesh_num.proofs.Rounding.{rounded_sign, rounded_neg, rounded_grows, rounded_within, rounded_zero}
-use Rattle.mesh_num.proofs.Parts.{part_grows, has_length, direction_bounded, direction_unique, direction_opposite}
+use Rattle.mesh_num.specs.Direction.{HasSignOf, IsPart, IsDirection, SameWay, KeepsTurns}
+use Rattle.mesh_num.proofs.Whole.{linear, mul_nonneg, mul_nonpos_nonneg, nonneg_of_mul, nonpos_of_mul, mul_zero, neg_mul}
+use Rattle.mesh_num.proofs.Ring.{ring, var, ◌⊕◌, ◌⊗◌, cross_of, dot_of}
+use Rattle.mesh_num.proofs.Identities.{cross_flip}
+use Rattle.mesh_num.proofs.Sizes.{dot_self}
+use Rattle.mesh_num.proofs.Signs.{sign_self, sign_through, sign_product, order_kept, same_number}
+use Rattle.mesh_num.proofs.Parts.{part_grows, has_length, direction_opposite}
 
 -- a map of components that keeps signs and the order of sizes
 pub record Keeps (f : ℤ → ℤ) : Type 0 where

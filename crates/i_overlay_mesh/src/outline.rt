@@ -1,0 +1,3 @@
+//! Outlines: each contour moved sideways, outwards or inwards.
+
+pub mod builder;
