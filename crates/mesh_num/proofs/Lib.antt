@@ -1,10 +1,9 @@
 pub mod Balance
 pub mod ClosedLists
 pub mod Crossings
-pub mod Identities
-pub mod Normalized
 pub mod Directed
 pub mod Identities
+pub mod Normalized
 pub mod Parts
 pub mod Pieces
 pub mod Products
@@ -14,8 +13,6 @@ pub mod Roots
 pub mod Rounding
 pub mod Scaling
 pub mod SegmentLists
-pub mod Rounding
-pub mod Scaling
 pub mod Signs
 pub mod Sizes
 pub mod Sums
