@@ -1,19 +1,18 @@
 -- Lemmas over points and lists: the winding of an outline is the contour's and the number of pieces that hold the point.
-use Rattle.std.proofs.Common.{◌≡◌, ◌≢◌, ℕ, ◌+◌, ◌*◌, ◌<◌, ◌≤◌, ◌⊎◌, inl, inr, List, [], ◌∷◌, ◌++◌, refl, sym, subst, ◌∙◌, ap, arith, zero, suc}
-use Rattle.std.specs.Prelude.{ℤ, pos, ◌+ℤ◌, ◌-ℤ◌, ◌*ℤ◌, ◌≤ℤ◌, neg_ℤ, unsigned_abs, Bool, true, false, cond, not, map, leb, int_lt, count_by}
+use Rattle.std.proofs.Common.{◌≡◌, ◌≢◌, ℕ, ◌*◌, ◌<◌, ◌≤◌, ◌⊎◌, inl, inr, List, [], ◌∷◌, refl, sym, subst, ◌∙◌, ap, arith, zero, suc}
+use Rattle.std.specs.Prelude.{ℤ, pos, ◌+ℤ◌, ◌-ℤ◌, ◌≤ℤ◌, neg_ℤ, unsigned_abs, Bool, true, false, cond, map, leb, int_lt, count_by}
 use Rattle.std.specs.Ordering.{int_eq}
 use Rattle.std.specs.List.{All, flat_map}
 use Rattle.std.proofs.Math.Bool.{beq}
-use Rattle.std.proofs.lemmas.Bool.{true≢false}
 use Rattle.std.proofs.lemmas.Bool.Decides.{leb_tells, Decides-int_eq}
 use Rattle.std.proofs.lemmas.List.Elements.{All-nil, All-cons, All-map, All-append, All-weaker}
-use Rattle.std.proofs.lemmas.Int.{ints, by_lt_z}
+use Rattle.std.proofs.lemmas.Int.{ints}
 use lib.IntN.{*ℤ-zero}
 use lib.Signed.{◌<ℤ◌}
 use Rattle.mesh_num.specs.Plane.{Point, Edge, plus, minus, cross, dot, turn, right_quarter, length_sq}
 use Rattle.mesh_num.specs.Direction.{scaled, scaled_direction}
 use Rattle.mesh_num.specs.Directed.{direction_of}
-use Rattle.mesh_num.specs.Winding.{sum_of, total, route, boundary, fan, pieces_total, crossing_on, winding, holds, same_point, IsBit, IsOdd, IsBalanced}
+use Rattle.mesh_num.specs.Winding.{total, route, boundary, fan, pieces_total, crossing_on, winding, holds, same_point, IsBit, IsOdd, IsBalanced}
 use Rattle.mesh_num.proofs.Whole.{linear, multiplied, zero_mul}
 use Rattle.mesh_num.proofs.Rounding.{rounded_multiple}
 use Rattle.mesh_num.specs.Rounding.{rounded}
@@ -24,7 +23,7 @@ use Rattle.mesh_num.proofs.Scaling.{dot_scaled_nonneg, dot_scaled_nonpos, scaled
 use Rattle.mesh_num.proofs.ClosedLists.{boundary_map, boundary_all, all_both, all_flat_map}
 use Rattle.mesh_num.proofs.Triangles.{parallelogram_winds, parallelogram_winds_back}
 use Rattle.mesh_num.proofs.Pieces.{fan_winds, fan_winds_back, pieces_counted, opposite_pieces_counted}
-use Rattle.i_overlay_mesh.specs.Outline.{Section, Corner, own_edge, strip, join_edges, corner_pieces, drawn_edges, drawn_pieces, sideways, section_of, parts, outline_edges, outline_pieces, bevel, sided, NeverTurnsBack, IsFoldFree, IsRing}
+use Rattle.i_overlay_mesh.specs.Outline.{Corner, own_edge, strip, join_edges, corner_pieces, drawn_pieces, sideways, section_of, parts, outline_edges, outline_pieces, bevel, sided, NeverTurnsBack, IsFoldFree, IsRing}
 use Rattle.i_overlay_mesh.proofs.OutlineSum.{IsClosed, Stays, drawn_total, still_total}
 
 -- vectors between different points

@@ -1,6 +1,6 @@
 -- Lemmas over points and lists: balance, and sums of differences over edges.
 use Rattle.std.proofs.Common.{◌≡◌, ℕ, ◌+◌, ◌≤◌, List, [], ◌∷◌, ◌++◌, refl, sym, ◌∙◌, ap, arith}
-use Rattle.std.specs.Prelude.{ℤ, pos, ◌+ℤ◌, ◌-ℤ◌, neg_ℤ, Bool, true, false, cond, ◌&&◌, count_by, map}
+use Rattle.std.specs.Prelude.{ℤ, pos, ◌+ℤ◌, ◌-ℤ◌, neg_ℤ, Bool, true, false, cond, count_by, map}
 use Rattle.std.specs.Ordering.{int_eq}
 use Rattle.std.specs.List.{All}
 use Rattle.std.proofs.lemmas.List.Elements.{All-weaker}
@@ -85,7 +85,7 @@ pub closed_growth : (g : Point → ℤ) (es : List Edge) → All (λ (c : Edge �
 closed_growth g es closed =
     let step = λ (c : Edge × Edge). g c.0.1 +ℤ neg_ℤ (g c.1.0) in
     let each : All (λ c. step c ≡ pos 0) (boundary es) =
-        All-weaker (λ (c : Edge × Edge). c.0.1 ≡ c.1.0) (λ c. step c ≡ pos 0) (λ c e. omega (arith, linear, ap g e)) (boundary es) closed in
+    All-weaker (λ (c : Edge × Edge). c.0.1 ≡ c.1.0) (λ c. step c ≡ pos 0) (λ c e. omega (arith, linear, ap g e)) (boundary es) closed in
     let none = sum_of_equal step (λ c. pos 0) (boundary es) each ∙ sum_of_none (λ (c : Edge × Edge). pos 0) (λ c. refl) (boundary es) in
     let ends = boundary_ends (λ (e : Edge). g e.1) (λ (e : Edge). neg_ℤ (g e.0)) es in
     sum_of_same (λ (e : Edge). g e.1 -ℤ g e.0) (λ (e : Edge). neg_ℤ (g e.0) +ℤ g e.1) (λ e. omega (arith, linear)) es ∙ (sym ends ∙ none)

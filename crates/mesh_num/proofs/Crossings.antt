@@ -1,9 +1,9 @@
 -- Lemmas over points and lists: turns, and the crossing of one edge at one point.
-use Rattle.std.proofs.Common.{◌≡◌, ℕ, ◌+◌, ◌*◌, ◌<◌, ◌≤◌, ◌⊎◌, inl, inr, refl, sym, ◌∙◌, ap, arith, zero, suc}
-use Rattle.std.specs.Prelude.{ℤ, pos, negsuc, ◌+ℤ◌, ◌-ℤ◌, ◌*ℤ◌, ◌≤ℤ◌, neg_ℤ}
+use Rattle.std.proofs.Common.{◌≡◌, ℕ, ◌⊎◌, arith}
+use Rattle.std.specs.Prelude.{ℤ, pos, negsuc, ◌+ℤ◌, ◌*ℤ◌, ◌≤ℤ◌, neg_ℤ}
 use lib.Signed.{◌<ℤ◌}
-use Rattle.std.proofs.lemmas.Int.{ints, by_lt_z}
-use Rattle.mesh_num.specs.Plane.{Point, minus, cross, turn}
+use Rattle.std.proofs.lemmas.Int.{ints}
+use Rattle.mesh_num.specs.Plane.{Point, turn}
 use Rattle.mesh_num.specs.Winding.{crossing_of, crossing, refined, crossing_on}
 use Rattle.mesh_num.proofs.Whole.{linear, multiplied, mul_nonneg}
 

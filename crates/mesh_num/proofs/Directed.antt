@@ -1,14 +1,13 @@
 -- Lemmas over points and lists: the direction as a function is the direction.
-use Rattle.std.proofs.Common.{◌⊎◌, inl, inr, ◌≡◌, ℕ, ◌+◌, ◌*◌, ◌<◌, ◌≤◌, refl, sym, ◌∙◌, ap, arith, zero, suc}
-use Rattle.std.specs.Prelude.{Bool, true, false, cond, leb, ℤ, pos, negsuc, ◌≤ℤ◌, neg_ℤ, unsigned_abs}
+use Rattle.std.proofs.Common.{◌⊎◌, inl, inr, ◌≡◌, ℕ, ◌*◌, ◌<◌, ◌≤◌, refl, sym, ◌∙◌, ap, arith, zero, suc}
+use Rattle.std.specs.Prelude.{Bool, true, false, cond, leb, ℤ, pos, negsuc, neg_ℤ, unsigned_abs}
 use Rattle.std.proofs.Math.Nat.{mul-le-mul, mul-le-mul_left, mul-le-mul_right}
 use Rattle.std.proofs.lemmas.Bool.{leb-true, le-leb, true≢false}
 use Rattle.std.proofs.lemmas.Bool.Decides.{leb_tells}
 use Rattle.std.proofs.lemmas.Int.{ints}
 use Rattle.mesh_num.specs.Plane.{Point, length_sq}
-use Rattle.mesh_num.specs.Direction.{HasSignOf, IsShare, IsPart, IsDirection}
+use Rattle.mesh_num.specs.Direction.{IsShare, IsPart, IsDirection}
 use Rattle.mesh_num.specs.Directed.{greatest, share_of, part_of, direction_of}
-use Rattle.mesh_num.proofs.Whole.{linear}
 use Rattle.mesh_num.proofs.Parts.{part_unique, has_length}
 
 greatest_passes : (test : ℕ → Bool) → test 0 ≡ true → (n : ℕ) → test (greatest test n) ≡ true

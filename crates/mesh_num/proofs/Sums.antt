@@ -1,6 +1,6 @@
 -- Lemmas over points and lists: sums over a list, of any function, and their regrouping.
-use Rattle.std.proofs.Common.{◌≡◌, ℕ, ◌+◌, List, [], ◌∷◌, ◌++◌, refl, sym, ◌∙◌, ap, arith, zero, suc}
-use Rattle.std.specs.Prelude.{Bool, true, false, cond, ℤ, pos, ◌+ℤ◌, ◌-ℤ◌, neg_ℤ, map, reverse}
+use Rattle.std.proofs.Common.{◌≡◌, List, [], ◌∷◌, ◌++◌, refl, ◌∙◌, arith}
+use Rattle.std.specs.Prelude.{Bool, true, false, cond, ℤ, pos, ◌+ℤ◌, neg_ℤ, map}
 use Rattle.std.specs.List.{All, filter, flat_map, sum_by}
 use Rattle.std.specs.List.Sorted.{IsPermutation}
 use Rattle.std.proofs.lemmas.List.Sums.{sum_by-cons}
@@ -54,7 +54,7 @@ pub sum_of_filter : {A : Type 0} (f : A → ℤ) (test : A → Bool) → ((x : A
     sum_of f (filter test xs) ≡ sum_of f xs
 sum_of_filter f test none [] = refl
 sum_of_filter f test none (x ∷ xs) = step (sum_of_filter f test none xs) (test x) refl
-    where
+  where
     step : sum_of f (filter test xs) ≡ sum_of f xs → (b : Bool) → test x ≡ b → sum_of f (cond b (x ∷ filter test xs) (filter test xs)) ≡ f x +ℤ sum_of f xs
     step rest true e = omega (arith, linear)
     step rest false e = omega (arith, linear, none x e)
