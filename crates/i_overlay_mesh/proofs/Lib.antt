@@ -1,0 +1,4 @@
+pub mod OutlineCount
+pub mod OutlineSum
+pub mod Sections
+pub mod OutlineWalk
