@@ -3,10 +3,15 @@
 
 ghost use Rattle.std.specs.Prelude.{◌≡◌, true};
 
+pub mod arrange;
 pub mod exact;
 pub mod grid;
+pub mod resolve;
+pub mod ring;
+pub mod sides;
 pub mod splitter;
 pub mod store;
+pub mod walk;
 pub mod worklist;
 
 fn lemmas() -> bool
