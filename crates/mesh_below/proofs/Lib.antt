@@ -19,3 +19,5 @@ pub mod BoundaryBalance
 pub mod BoundaryRegions
 pub mod ContoursKept
 pub mod BoundarySplits
+pub mod SidesCode
+pub mod BoundaryCounted

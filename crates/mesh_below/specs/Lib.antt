@@ -5,3 +5,5 @@ pub mod Regions
 pub mod Contours
 pub mod Resolution
 pub mod Steps
+pub mod Fill
+pub mod Sides

@@ -1,8 +1,8 @@
 //! Shapes of rings: order and grouping.
 
-use crate::grid::{GridEdge, GridPoint};
+use crate::grid::GridPoint;
 use crate::ring::{Ring, double_area};
-use crate::sides::{FinePoint, crossing};
+use crate::fine::{FinePoint, crossing, doubled};
 use std::alloc::{AllocError, Global};
 
 /// Whether the closed list of points winds round the point.
@@ -13,7 +13,7 @@ fn holds(points: &[GridPoint], q: FinePoint) -> bool {
     };
     let mut before = *last;
     for p in points {
-        sum += crossing(q, (before, *p));
+        sum += crossing(q, doubled(before), doubled(*p));
         before = *p;
     }
     sum != 0

@@ -5,6 +5,7 @@ ghost use Rattle.std.specs.Prelude.{◌≡◌, true};
 
 pub mod arrange;
 pub mod exact;
+pub mod fill;
 pub mod fine;
 pub mod grid;
 pub mod resolve;

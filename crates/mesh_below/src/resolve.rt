@@ -1,9 +1,10 @@
 //! The whole way from directed edges to shapes.
 
 use crate::arrange::shapes;
+use crate::fill::FillRule;
 use crate::grid::{GridEdge, GridPoint};
 use crate::ring::ring_of;
-use crate::sides::{FillRule, boundary};
+use crate::sides::boundary;
 use crate::splitter::split_edges;
 use crate::walk::contours;
 use std::alloc::{AllocError, Global};

@@ -2,7 +2,7 @@
 
 use crate::exact::{cross, minus};
 use crate::grid::GridPoint;
-use crate::sides::FinePoint;
+use crate::fine::{FinePoint, middle};
 use std::alloc::{AllocError, Global};
 
 /// The vertices of a contour, and the midpoint of its first edge on the grid that is twice as fine.
@@ -81,7 +81,7 @@ fn vertices(alloc: Global, contour: &[GridPoint], all: bool) -> Result<Vec<GridP
 fn side_point(contour: &[GridPoint]) -> FinePoint {
     let p = contour[0];
     let q = if contour.len() > 1 { contour[1] } else { p };
-    (p.0 as i64 + q.0 as i64, p.1 as i64 + q.1 as i64)
+    middle((p, q))
 }
 
 /// The ring of a contour, from the contour's start on.

@@ -1,80 +1,124 @@
 //! The sides of split segments, and the boundary between what is filled and what is not.
 
-use crate::exact::{cross, minus};
+ghost use Rattle.std.specs.Prelude.{◌≡◌, ℕ, ◌^◌, List, ◌++◌, ℤ, pos, ◌≤ℤ◌, ◌*ℤ◌, unsigned_abs, OnOk, IfOk};
+ghost use Rattle.std.specs.List.{All};
+ghost use Rattle.mesh_num.specs.Bounds.{IsSmall, IsSafe};
+ghost use Rattle.mesh_num.specs.Plane.{Edge};
+ghost use Rattle.mesh_num.specs.Winding.{sum_of, crossing_on};
+ghost use Rattle.mesh_below.specs.Boundary.{rises, IsBoundary, IsProper};
+ghost use Rattle.mesh_below.specs.Counted.{IsCountOf};
+ghost use Rattle.mesh_below.specs.Fill.{filled};
+ghost use Rattle.mesh_below.specs.Sides.{counted_winding, sides_by, sides_of, is_parted, boundary_edge};
+ghost use Rattle.mesh_below.specs.Steps.{size};
+
+use crate::fill::FillRule;
+use crate::fine::{FinePoint, crossing, doubled, middle};
 use crate::grid::{CountedSegment, GridEdge};
 use std::alloc::{AllocError, Global};
 
-/// Which windings are filled: those above 0 or those below 0.
-#[derive(Debug, Copy, Clone, PartialEq, Eq)]
-pub enum FillRule {
-    Positive,
-    Negative,
+/// The windings to the left and to the right of a segment.
+type Sides = (i128, i128);
+
+/// A segment's crossing at a point, as often as it counts.
+fn counted_crossing(q: FinePoint, s: CountedSegment) -> i128
+    requires q_small { IsSafe (2 ^ 33) q }
+    requires count_small { size s ≤ℤ pos (2 ^ 120) }
+    ensures value { result ≡ s.1 *ℤ crossing_on 2 q s.0.0 s.0.1 }
+    ensures size { pos (unsigned_abs result) ≤ℤ size s }
+{
+    let c = crossing(q, doubled(s.0.0), doubled(s.0.1));
+    if c > 0 {
+        return s.1;
+    }
+    if c < 0 {
+        return -s.1;
+    }
+    0
 }
 
-/// A point on the grid that is twice as fine.
-pub type FinePoint = (i64, i64);
-
-fn middle(e: GridEdge) -> FinePoint {
-    (e.0.0 as i64 + e.1.0 as i64, e.0.1 as i64 + e.1.1 as i64)
+/// How often the segments wind round a point.
+fn winding(segments: &[CountedSegment], q: FinePoint) -> i128
+    requires q_small { IsSafe (2 ^ 33) q }
+    requires room { sum_of size segments.now ≤ℤ pos (2 ^ 120) }
+    ensures value { result ≡ counted_winding q segments.now }
+    ensures size { IsSmall (2 ^ 121) result }
+{
+    let mut sum: i128 = 0;
+    for s in segments {
+        sum += counted_crossing(q, *s);
+    }
+    sum
 }
 
-fn is_filled(fill: FillRule, winding: i128) -> bool {
+/// Upwards, or level and to the west.
+#[tactic(auto, unfolding(crate::specs::Boundary::rises))]
+fn rises(e: GridEdge) -> bool
+    ensures { result ≡ rises e }
+{
+    if e.0.1 < e.1.1 {
+        return true;
+    }
+    e.0.1 == e.1.1 && e.1.0 < e.0.0
+}
+
+/// The windings on both sides of a segment, from that beside it.
+fn sides_by(beside: i128, s: CountedSegment) -> Sides
+    requires beside_small { IsSmall (2 ^ 121) beside }
+    requires count_small { size s ≤ℤ pos (2 ^ 120) }
+    ensures { result ≡ sides_by beside s }
+{
+    if rises(s.0) {
+        return (beside + s.1, beside);
+    }
+    (beside, beside - s.1)
+}
+
+fn sides_of(segments: &[CountedSegment], s: CountedSegment) -> Sides
+    requires room { sum_of size segments.now ≤ℤ pos (2 ^ 120) }
+    requires count_small { size s ≤ℤ pos (2 ^ 120) }
+    ensures { result ≡ sides_of segments.now s }
+{
+    sides_by(winding(segments, middle(s.0)), s)
+}
+
+fn is_filled(fill: FillRule, winding: i128) -> bool
+    ensures { result ≡ filled fill winding }
+{
     match fill {
         FillRule::Positive => winding > 0,
         FillRule::Negative => winding < 0,
     }
 }
 
-/// Above 0 where the point lies to the left of the edge.
-fn fine_turn(e: GridEdge, q: FinePoint) -> i128 {
-    let to_point = (q.0 as i128 - 2 * e.0.0 as i128, q.1 as i128 - 2 * e.0.1 as i128);
-    cross(minus(e.1, e.0), to_point)
+/// Whether the first side is filled and the second is not.
+fn is_parted(fill: FillRule, sides: Sides) -> bool
+    ensures { result ≡ is_parted (filled fill) sides }
+{
+    is_filled(fill, sides.0) && !is_filled(fill, sides.1)
 }
 
-/// How the edge crosses the ray from the point to the east: 1 upwards, -1 downwards, else 0.
-pub fn crossing(q: FinePoint, e: GridEdge) -> i128 {
-    let start = 2 * e.0.1 as i64;
-    let end = 2 * e.1.1 as i64;
-    if start <= q.1 && q.1 < end {
-        if fine_turn(e, q) > 0 {
-            return 1;
-        }
-        return 0;
+/// Adds the edge of the boundary on a segment, if there is one.
+fn push_edge(edges: &mut Vec<GridEdge>, fill: FillRule, sides: Sides, e: GridEdge) -> Result<(), AllocError>
+    ensures { OnOk result (edges.new.items ≡ edges.old.items ++ boundary_edge (filled fill) sides e) }
+{
+    if is_parted(fill, sides) {
+        edges.push(e)?;
+        return Ok(());
     }
-    if end <= q.1 && q.1 < start {
-        if fine_turn(e, q) < 0 {
-            return -1;
-        }
+    if is_parted(fill, (sides.1, sides.0)) {
+        edges.push((e.1, e.0))?;
     }
-    0
-}
-
-/// How often the segments wind round a point.
-fn winding(segments: &[CountedSegment], q: FinePoint) -> i128 {
-    let mut sum: i128 = 0;
-    for s in segments {
-        sum += s.1 * crossing(q, s.0);
-    }
-    sum
-}
-
-/// Upwards, or level and to the west.
-fn rises(e: GridEdge) -> bool {
-    e.0.1 < e.1.1 || (e.0.1 == e.1.1 && e.1.0 < e.0.0)
+    Ok(())
 }
 
 /// The segments whose two sides differ in fill, each once, with the filled side on its left.
-pub fn boundary(alloc: Global, segments: &[CountedSegment], fill: FillRule) -> Result<Vec<GridEdge>, AllocError> {
+pub fn boundary(alloc: Global, segments: &[CountedSegment], fill: FillRule) -> Result<Vec<GridEdge>, AllocError>
+    requires { sum_of size segments.now ≤ℤ pos (2 ^ 120) }
+    ensures { IfOk result (λ v. (es : List Edge) → IsCountOf es segments.now → IsProper es → IsBoundary es (filled fill) v.items) }
+{
     let mut edges = Vec::new(alloc);
     for s in segments {
-        let beside = winding(segments, middle(s.0));
-        let (left, right) = if rises(s.0) { (beside + s.1, beside) } else { (beside, beside - s.1) };
-        if is_filled(fill, left) && !is_filled(fill, right) {
-            edges.push(s.0)?;
-        }
-        if is_filled(fill, right) && !is_filled(fill, left) {
-            edges.push((s.0.1, s.0.0))?;
-        }
+        push_edge(&mut edges, fill, sides_of(segments, *s), s.0)?;
     }
     Ok(edges)
 }
