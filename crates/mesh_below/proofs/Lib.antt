@@ -3,6 +3,7 @@ pub mod Cuts
 pub mod Arithmetic
 pub mod Stages
 pub mod Entries
+pub mod Live
 pub mod Boxes
 pub mod Meeting
 pub mod Line
