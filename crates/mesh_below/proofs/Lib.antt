@@ -10,3 +10,13 @@ pub mod Line
 pub mod Places
 pub mod SidesPotential
 pub mod SidesConstant
+pub mod SidesClear
+pub mod BoundaryKeys
+pub mod BoundaryGrids
+pub mod BoundaryFine
+pub mod BoundaryLine
+pub mod BoundaryFill
+pub mod BoundaryBalance
+pub mod BoundaryRegions
+pub mod ContoursKept
+pub mod BoundarySplits

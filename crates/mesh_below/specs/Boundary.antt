@@ -3,15 +3,12 @@ use Rattle.std.specs.Prelude.{ℕ, ◌<◌, ◌≡◌, ◌⊎◌, Bool, true, fa
 use Rattle.std.specs.Ordering.{int_eq}
 use Rattle.mesh_num.specs.Plane.{Point, Edge, turn, plus}
 use Rattle.mesh_num.specs.Winding.{refined, winding, same_point}
-use Rattle.mesh_below.specs.Split.{back, same_edge, same_ends, occurs, is_end, IsInBox}
+use Rattle.mesh_below.specs.Split.{same_edge, same_ends, occurs, is_end, IsInBox}
+use Rattle.mesh_below.specs.Counted.{net}
 
 -- how often an edge stands in a list
 abbrev pub count : Edge → List Edge → ℕ
 count e es = count_by (same_edge e) es
-
--- how often an edge stands in a list less how often the edge the other way about does
-abbrev pub net : Edge → List Edge → ℤ
-net e es = pos (count e es) -ℤ pos (count (back e) es)
 
 -- an edge on the grid that is `m` times finer
 abbrev pub refined_edge : ℕ → Edge → Edge
