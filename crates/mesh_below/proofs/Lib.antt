@@ -6,6 +6,7 @@ pub mod Entries
 pub mod Live
 pub mod Boxes
 pub mod Meeting
+pub mod Filing
 pub mod Line
 pub mod Places
 pub mod SidesPotential
