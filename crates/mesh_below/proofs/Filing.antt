@@ -22,7 +22,7 @@ unfolding same_ends
 edge_ends e f t = λ i. t i || same_edge e (back f)
 
 -- ends that stand at least once, and no less often once they are put again
-positive_times : (e : Edge) (ks : List Counted) → pos 0 <ℤ exactly e ks → pos 0 <ℤ times e ks
+pub positive_times : (e : Edge) (ks : List Counted) → pos 0 <ℤ exactly e ks → pos 0 <ℤ times e ks
 positive_times e [] h = absurd (omega (arith, ints, h))
 positive_times e (k ∷ ks) h =
     ⊎_elim

@@ -7,6 +7,7 @@ pub mod Live
 pub mod Boxes
 pub mod Meeting
 pub mod Filing
+pub mod Settling
 pub mod Line
 pub mod Places
 pub mod SidesPotential
