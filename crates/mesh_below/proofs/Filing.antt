@@ -1,19 +1,21 @@
 -- Lemmas over points and lists: a segment put in, as it is or turned over, and the two pieces of a cut.
-use Rattle.std.proofs.Common.{◌≡◌, ◌⊎◌, inl, inr, ⊎_elim, ℕ, ◌+◌, ◌-◌, ◌*◌, ◌<◌, ◌≤◌, ◌^◌, Bool, true, false, cond, ◌||◌, sym, ◌∙◌, ap, refl, arith, List, [], ◌∷◌, zero, suc, max}
+use Rattle.std.proofs.Common.{◌≡◌, ◌⊎◌, inl, inr, ⊎_elim, ℕ, ◌+◌, ◌-◌, ◌*◌, ◌<◌, ◌≤◌, ◌^◌, Bool, true, false, cond, ◌||◌, sym, ◌∙◌, ap, subst, refl, arith, List, [], ◌∷◌, zero, suc, max}
 use Rattle.std.specs.Prelude.{ℤ, pos, negsuc, ◌+ℤ◌, ◌-ℤ◌, ◌*ℤ◌, ◌≤ℤ◌, ◌<ℤ◌, neg_ℤ, unsigned_abs, int_lt}
 use Rattle.std.proofs.lemmas.Bool.{both_ways, cases_Bool}
 use Rattle.std.proofs.Math.Nat.{mul-le-mul_left, mul-le-mul_right}
 use Rattle.std.proofs.lemmas.Int.{ints}
+use mir.Syntax.{w128}
+use mir.Val.{to_z, of_z}
 use Rattle.mesh_num.specs.Plane.{Point, Edge}
 use Rattle.mesh_num.specs.Winding.{same_point, sum_of}
 use Rattle.mesh_num.proofs.Whole.{linear, mul_add, add_mul, neg_mul_neg}
 use Rattle.mesh_below.specs.Split.{back, same_edge, same_ends, is_end, IsInBox}
 use Rattle.mesh_below.specs.Counted.{Counted, bit, along, counted_net, times}
-use Rattle.mesh_below.specs.Steps.{exactly, IsRaised, IsNew, IsKept, IsPut, Puts, at_least_once, extent, size, weight, waiting_work, live_work, work, total_weight, HaveRoom}
+use Rattle.mesh_below.specs.Steps.{exactly, IsRaised, IsNew, IsKept, IsPut, IsTaken, Puts, PutsPieces, at_least_once, extent, size, weight, waiting_work, live_work, work, total_weight, HaveRoom}
 use Rattle.mesh_below.proofs.Ends.{decides_point, decides_end, ends_self, ends_sym, ends_along, ends_turned, along_turned}
 use Rattle.mesh_below.proofs.Boxes.{extent_split, extent_least}
 use Rattle.mesh_below.proofs.Stages.{bit_least, times_least, times_along}
-use Rattle.mesh_below.proofs.Entries.{exactly_least}
+use Rattle.mesh_below.proofs.Entries.{exactly_least, count_kept}
 
 -- ---- counts
 
@@ -53,6 +55,9 @@ weight_sum e m n = scaled (max 1 (extent e))
     parts = omega (arith, ints)
     scaled : (w : ℕ) → pos (unsigned_abs (m +ℤ n) * w) ≤ℤ (pos (unsigned_abs m * w) +ℤ pos (unsigned_abs n * w))
     scaled w = omega (arith, ints, mul-le-mul_right w parts)
+
+pub weight_one : (k : Counted) → pos 0 ≤ℤ weight k
+weight_one k = omega (arith, ints)
 
 pub weight_least : (ks : List Counted) → pos 0 ≤ℤ sum_of weight ks
 weight_least [] = omega (arith, ints)
@@ -184,3 +189,44 @@ room_live todo live k h = omega (arith, linear, sizes_weights live, size_weight 
 
 pub room_waiting : (todo live : List Counted) (k : Counted) → (total_weight todo live +ℤ weight k) ≤ℤ pos (2 ^ 120) → HaveRoom todo k
 room_waiting todo live k h = omega (arith, linear, sizes_weights todo, size_weight k, weight_least live)
+
+pub total_least : (todo live : List Counted) → pos 0 ≤ℤ total_weight todo live
+total_least todo live = omega (arith, linear, weight_least todo, weight_least live)
+
+pub room_turned : (todo live : List Counted) (k j : Counted) → j ≡ (back k.0 , neg_ℤ k.1) → (total_weight todo live +ℤ weight k) ≤ℤ pos (2 ^ 120)
+    → (total_weight todo live +ℤ weight j) ≤ℤ pos (2 ^ 120)
+room_turned todo live k j e h = omega (arith, linear, ap weight e, weight_turned k)
+
+-- a segment that was filed: a live one was raised, or there was none and the worklist took it
+pub filed : (todo live todo' live' : List Counted) (k : Counted) → IsKept live live' k → (IsRaised todo todo' k ⊎ IsNew todo todo' k) → Puts todo live todo' live' k
+filed todo live todo' live' k kept (inl r) = subst (λ (ks : List Counted). Puts todo live todo' ks k) (sym kept.same) (raised_waiting todo live todo' k r)
+filed todo live todo' live' k kept (inr n) = subst (λ (ks : List Counted). Puts todo live todo' ks k) (sym kept.same) (new_waiting todo live todo' k kept.absent n)
+
+pub puts_back : (todo live todo' live' : List Counted) (k j : Counted) → j ≡ (back k.0 , neg_ℤ k.1) → Puts todo live todo' live' j → Puts todo live todo' live' k
+puts_back todo live todo' live' k j e p = puts_turned todo live todo' live' k (subst (λ (x : Counted). Puts todo live todo' live' x) e p)
+
+-- room for the two pieces of a cut, one after the other
+pub room_first : (todo live : List Counted) (k : Counted) (c : Point) → is_end c k.0 ≡ false → IsInBox k.0 c → (total_weight todo live +ℤ weight k) ≤ℤ pos (2 ^ 120)
+    → (total_weight todo live +ℤ weight ((k.0.0 , c) , k.1)) ≤ℤ pos (2 ^ 120)
+room_first todo live k c inner box h = omega (arith, linear, weight_pieces k c inner box, weight_one ((c , k.0.1) , k.1))
+
+pub room_second : (todo live todo' live' : List Counted) (k : Counted) (c : Point) → is_end c k.0 ≡ false → IsInBox k.0 c → (total_weight todo live +ℤ weight k) ≤ℤ pos (2 ^ 120)
+    → Puts todo live todo' live' ((k.0.0 , c) , k.1) → (total_weight todo' live' +ℤ weight ((c , k.0.1) , k.1)) ≤ℤ pos (2 ^ 120)
+room_second todo live todo' live' k c inner box h p = omega (arith, linear, weight_pieces k c inner box, p.weight_grows)
+
+-- what 128 bits keep of a count that has room
+pub room_kept : (todo live : List Counted) (k : Counted) → (total_weight todo live +ℤ weight k) ≤ℤ pos (2 ^ 120) → to_z w128 (of_z w128 k.1) ≡ k.1
+room_kept todo live k h = count_kept live k (room_live todo live k h)
+
+-- room after a live segment was taken in hand
+pub room_taken : (todo live live' : List Counted) (k j : Counted) → IsTaken live live' j → (total_weight todo live +ℤ weight k) ≤ℤ pos (2 ^ 120)
+    → (total_weight todo live' +ℤ weight k) ≤ℤ pos (2 ^ 120)
+room_taken todo live live' k j t h = omega (arith, linear, t weight, weight_one j)
+
+pub room_other : (todo live live1 todo' live' : List Counted) (k j : Counted) → IsTaken live live1 j → Puts todo live1 todo' live' k → (total_weight todo live +ℤ weight k) ≤ℤ pos (2 ^ 120)
+    → (total_weight todo' live' +ℤ weight j) ≤ℤ pos (2 ^ 120)
+room_other todo live live1 todo' live' k j t p h = omega (arith, linear, t weight, p.weight_grows)
+
+pub room_pieces : (todo live live1 todo' live' : List Counted) (k j : Counted) (c : Point) → is_end c k.0 ≡ false → IsInBox k.0 c → IsTaken live live1 j
+    → PutsPieces todo live1 todo' live' k c → (total_weight todo live +ℤ weight k) ≤ℤ pos (2 ^ 120) → (total_weight todo' live' +ℤ weight j) ≤ℤ pos (2 ^ 120)
+room_pieces todo live live1 todo' live' k j c inner box t p h = omega (arith, linear, t weight, p.first.weight_grows, p.second.weight_grows, weight_pieces k c inner box)

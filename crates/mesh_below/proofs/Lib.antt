@@ -8,6 +8,7 @@ pub mod Boxes
 pub mod Meeting
 pub mod Filing
 pub mod Settling
+pub mod Starting
 pub mod Line
 pub mod Places
 pub mod SidesPotential

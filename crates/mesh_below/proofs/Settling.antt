@@ -49,7 +49,7 @@ clear_self e c m = by m
     by : {c : Point} → Meets e e c → ⊥
     by m = by_all refl m
 
-fewer_clear : (live live' : List Counted) → ((q : Edge) → exactly q live' ≤ℤ exactly q live) → AllClear live → AllClear live'
+pub fewer_clear : (live live' : List Counted) → ((q : Edge) → exactly q live' ≤ℤ exactly q live) → AllClear live → AllClear live'
 fewer_clear live live' fewer h = λ e some f other. h e (omega (arith, linear, fewer e)) f (omega (arith, linear, fewer f))
 
 keep_clear : (live live' : List Counted) (k : Counted) → IsPut live live' k → IsClearOf k.0 live → AllClear live → AllClear live'
