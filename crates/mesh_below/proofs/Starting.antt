@@ -122,3 +122,12 @@ start_reached given n todo live h r = record { cuts = []; legal = no_cut; count 
 
 pub end_reached : (given : List Edge) (todo live : List Counted) → todo ≡ [] → IsReached given todo live [] → IsReached given [] live []
 end_reached given todo live e r = subst (λ (x : List Counted). IsReached given x live []) e r
+
+pub more_weight : (i : ℕ) (a b w : ℤ) → b ≤ℤ (a +ℤ w) → w ≤ℤ pos (2 ^ 33) → a ≤ℤ pos (2 ^ 33 * i) → b ≤ℤ pos (2 ^ 33 * (i + 1))
+more_weight i a b w h k l = omega (arith, ints, h, k, l)
+
+pub most_weight : (i : ℕ) (a : ℤ) → 2 ^ 33 * i ≤ 2 ^ 97 → a ≤ℤ pos (2 ^ 33 * i) → a ≤ℤ pos (2 ^ 97)
+most_weight i a h k = omega (arith, ints, k)
+
+pub more_room : (i : ℕ) (a w : ℤ) → 2 ^ 33 * i + 2 ^ 33 ≤ 2 ^ 120 → w ≤ℤ pos (2 ^ 33) → a ≤ℤ pos (2 ^ 33 * i) → (a +ℤ w) ≤ℤ pos (2 ^ 120)
+more_room i a w h k l = omega (arith, ints, k, l)

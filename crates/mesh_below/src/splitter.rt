@@ -19,6 +19,15 @@ struct Splitter {
     live: Store,
 }
 
+/// The segment of one edge.
+fn single(e: GridEdge) -> CountedSegment
+    ensures value { result ≡ (e , pos 1) }
+    ensures light { weight result ≤ℤ pos (2 ^ 33) }
+{
+    let (start, end) = e;
+    ((start, end), 1)
+}
+
 /// The segment seen from its other end.
 fn turned(s: CountedSegment) -> CountedSegment
     requires { weight s ≤ℤ pos (2 ^ 120) }
@@ -122,7 +131,7 @@ pub fn split_edges(alloc: Global, edges: &[GridEdge]) -> Result<Vec<CountedSegme
 {
     let mut splitter = Splitter::new(alloc);
     for e in edges {
-        splitter.put((*e, 1))?;
+        splitter.put(single(*e))?;
     }
     while let Some(s) = splitter.todo.pop() {
         splitter.settle(s)?;
