@@ -9,6 +9,7 @@ pub mod Meeting
 pub mod Filing
 pub mod Settling
 pub mod Starting
+pub mod Sharing
 pub mod Line
 pub mod Places
 pub mod SidesPotential
