@@ -10,6 +10,7 @@ pub mod Filing
 pub mod Settling
 pub mod Starting
 pub mod Sharing
+pub mod Clean
 pub mod Line
 pub mod Places
 pub mod SidesPotential
@@ -24,3 +25,4 @@ pub mod BoundaryBalance
 pub mod BoundaryRegions
 pub mod ContoursKept
 pub mod BoundarySplits
+pub mod Paths

@@ -471,7 +471,7 @@ on_one_line m f z some proper e also =
         (cases_Bool (same_point (flip f.0) (flip f.1)))
 
 -- a point inside both of two edges that are apart: they have the same ends
-inside_both : (m : ℕ) (e f : Edge) (z : Point) → 0 < m → same_point e.0 e.1 ≡ false → same_point f.0 f.1 ≡ false → IsApart e f
+pub inside_both : (m : ℕ) (e f : Edge) (z : Point) → 0 < m → same_point e.0 e.1 ≡ false → same_point f.0 f.1 ≡ false → IsApart e f
     → IsOn (refined_edge m e) z → is_end z (refined_edge m e) ≡ false → IsOn (refined_edge m f) z → is_end z (refined_edge m f) ≡ false → same_ends e f ≡ true
 inside_both m e f z some proper also apart on_e inner_e on_f inner_f =
     ⊎_elim

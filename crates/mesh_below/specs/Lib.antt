@@ -5,3 +5,4 @@ pub mod Regions
 pub mod Contours
 pub mod Resolution
 pub mod Steps
+pub mod Splitting

@@ -4,7 +4,8 @@ ghost use Rattle.std.specs.Prelude.{◌≡◌, ◌^◌, List, [], ◌∷◌, ℤ
 ghost use Rattle.mesh_num.specs.Winding.{same_point};
 ghost use Rattle.mesh_below.specs.Boundary.{IsProper};
 ghost use Rattle.mesh_below.specs.Split.{is_end, IsInBox, Meets};
-ghost use Rattle.mesh_below.specs.Steps.{IsForward, Puts, PutsPieces, Settles, AllClear, IsReached, exactly, weight, total_weight};
+ghost use Rattle.mesh_below.specs.Splitting.{IsSplitting};
+ghost use Rattle.mesh_below.specs.Steps.{IsForward, Puts, PutsPieces, Settles, exactly, weight, total_weight};
 
 use crate::exact::{is_before, is_end};
 use crate::grid::{CountedSegment, GridEdge, GridPoint};
@@ -124,10 +125,13 @@ impl Splitter {
     }
 }
 
-/// Splits edges until no two segments share a point that is not an end of both.
+/// Splits directed edges, none of which ends where it starts, until any two segments share only common ends:
+/// the segments come from the edges by legal splits, each stands once, with its net count, also where that is 0,
+/// and each edge has become a path in its own box that never goes back in `x` nor in `y`.
+/// It fails only where memory is refused.
 pub fn split_edges(alloc: Global, edges: &[GridEdge]) -> Result<Vec<CountedSegment>, AllocError>
     requires { IsProper edges.now }
-    ensures { IfOk result (λ v. IsReached edges.now [] v.items [] × AllClear v.items) }
+    ensures { IfOk result (λ v. IsSplitting edges.now v.items) }
 {
     let mut splitter = Splitter::new(alloc);
     for e in edges {

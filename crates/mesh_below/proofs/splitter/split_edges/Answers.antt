@@ -2,7 +2,9 @@ use Rattle.std.proofs.Common.{rules, ◌≡◌, subst, sym, ap, ◌∙◌, lengt
 use Rattle.std.specs.Prelude.{pos}
 use Rattle.mesh_num.specs.Winding.{same_point}
 use Rattle.mesh_below.specs.Counted.{Counted}
-use Rattle.mesh_below.specs.Steps.{IsReached, AllClear, Puts}
+use Rattle.mesh_below.specs.Splitting.{IsSplitting}
+use Rattle.mesh_below.specs.Steps.{Puts}
+use Rattle.mesh_below.proofs.Paths.{splitting_of}
 use Rattle.mesh_below.proofs.Starting.{none_count, none_clear, none_weight, proper_at, more_room, more_count, more_clear, more_weight, most_weight, settled_reached, settled_weight, settled_less, popped_room, start_reached, end_reached}
 use Rattle.mesh_below.proofs.splitter.split_edges.Goals as goal
 
@@ -65,6 +67,5 @@ loop-s-preserved c =
 pub returns : goal.returns
 returns c =
     let s = c.loop-s.splitter in
-    let live = c.into_segments.ensures in
-    ( subst (λ (ks : List Counted). IsReached c.args.edges.now [] ks []) (sym live) (end_reached c.args.edges.now s.todo s.live c.in_default.ensures.taken.0 c.loop-s.invariant.reached)
-    , subst AllClear (sym live) c.loop-s.invariant.clear )
+    let reached = end_reached c.args.edges.now s.todo s.live c.in_default.ensures.taken.0 c.loop-s.invariant.reached in
+    subst (IsSplitting c.args.edges.now) (sym c.into_segments.ensures) (splitting_of c.args.edges.now s.live c.requires reached c.loop-s.invariant.clear)
