@@ -11,7 +11,7 @@ ghost use Rattle.mesh_below.specs.Steps.{AreClear};
 use crate::grid::{GridEdge, GridPoint};
 
 /// A vector between two points.
-type Vector = (i128, i128);
+pub type Vector = (i128, i128);
 
 fn difference(a: i32, b: i32) -> i128
     ensures value { result ≡ a -ℤ b }
@@ -20,7 +20,7 @@ fn difference(a: i32, b: i32) -> i128
     a as i128 - b as i128
 }
 
-fn minus(p: GridPoint, q: GridPoint) -> Vector
+pub fn minus(p: GridPoint, q: GridPoint) -> Vector
     ensures value { result ≡ minus p q }
     ensures size { IsSafe (2 ^ 32) result }
 {
@@ -36,7 +36,7 @@ fn product(a: i128, b: i128) -> i128
     a * b
 }
 
-fn cross(v: Vector, w: Vector) -> i128
+pub fn cross(v: Vector, w: Vector) -> i128
     requires v_small { IsSafe (2 ^ 32) v }
     requires w_small { IsSafe (2 ^ 32) w }
     ensures value { result ≡ cross v w }
