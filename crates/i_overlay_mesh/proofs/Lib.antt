@@ -2,3 +2,4 @@ pub mod OutlineCount
 pub mod OutlineSum
 pub mod Sections
 pub mod OutlineWalk
+pub mod Corners

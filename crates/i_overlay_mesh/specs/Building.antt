@@ -1,5 +1,7 @@
 -- What the outline's builder asks and adds.
-use Rattle.std.specs.Prelude.{ℕ, ◌≡◌, ◌≢◌, List, ◌++◌, ℤ, pos, unsigned_abs}
+use Rattle.std.specs.Prelude.{ℕ, ◌≡◌, ◌≢◌, List, ◌++◌, cond, ℤ, pos, int_lt, unsigned_abs}
+use Rattle.mesh_join.specs.declared.arc.ArcDirection.{ArcDirection}
+use Rattle.mesh_join.specs.declared.arc.ArcDirection.TheVariants.{Clockwise, Counterclockwise}
 use Rattle.mesh_num.specs.Plane.{Point, Edge}
 use Rattle.mesh_num.specs.Rectangle.{IsSafeWidened}
 use Rattle.i_overlay_mesh.specs.Outline.{Section, Corner, own_edge, section_of}
@@ -20,3 +22,7 @@ pub record IsCorner (unit : ℕ) (offset : ℤ) (c : Corner) : Type 0 where
   pub previous : IsMoved unit offset c.0
   pub next : IsMoved unit offset c.1
   pub met : c.0.b ≡ c.1.a
+
+-- the sense of the joins: to the left, for a negative offset to the right
+abbrev pub sense_for : ℤ → ArcDirection
+sense_for offset = cond (int_lt offset (pos 0)) Clockwise Counterclockwise
