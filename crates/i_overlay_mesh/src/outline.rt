@@ -1,4 +1,5 @@
 //! Outlines: each contour moved sideways, outwards or inwards.
 
+pub mod builder;
 mod builder_join;
 mod section;

@@ -1,0 +1,59 @@
+//! The edges of one contour's outline.
+
+ghost use Rattle.std.specs.Prelude.{◌≡◌, OnOk, OnErr, ◌++◌};
+ghost use Rattle.i_overlay_mesh.specs.Building.{IsCorner, IsMoved, Keeps, corner_segments, top_segments};
+
+use crate::outline::builder_join::{JoinBuilder, is_outer};
+use crate::outline::section::OffsetSection;
+use mesh_join::join::Join;
+use mesh_num::num::IntNumber;
+use mesh_num::shape::segment::{Segment, SubjectSegments};
+use std::alloc::AllocError;
+
+/// Builds the outline of a contour: its sections moved by an offset, and joined at the corners.
+pub struct OutlineBuilder<I: IntNumber> {
+    offset: I,
+    join: Join<I>,
+}
+
+impl<I: IntNumber> OutlineBuilder<I> {
+    /// A builder of outlines with this offset in grid units, to the right of the contour's edges, to their left where it is negative.
+    pub fn new(offset: I, join: Join<I>) -> Self
+        ensures { result.offset ≡ offset }
+    {
+        OutlineBuilder { offset, join }
+    }
+
+    fn feed_join(
+        &mut self,
+        previous: &OffsetSection<I>,
+        next: &OffsetSection<I>,
+        segments: &mut Vec<Segment<I>>,
+    ) -> Result<(), AllocError>
+        requires { IsCorner I.unit (I.value self.old.offset) (previous.now, next.now) }
+        ensures ok { OnOk result (segments.new.items ≡ segments.old.items ++ corner_segments (I.value self.old.offset) (previous.now, next.now)) }
+        ensures kept { Keeps segments.old.items segments.new.items }
+        ensures offset { self.new.offset ≡ self.old.offset }
+    {
+        if is_outer(self.offset, previous, next) {
+            return self.join.add_join(self.offset, previous, next, segments);
+        }
+        segments.push_non_degenerate(previous.b_top, previous.b)?;
+        segments.push_non_degenerate(next.a, next.a_top)
+    }
+
+    fn feed_section(
+        &mut self,
+        previous: &OffsetSection<I>,
+        next: &OffsetSection<I>,
+        segments: &mut Vec<Segment<I>>,
+    ) -> Result<(), AllocError>
+        requires { IsCorner I.unit (I.value self.old.offset) (previous.now, next.now) }
+        ensures ok { OnOk result (segments.new.items ≡ segments.old.items ++ (corner_segments (I.value self.old.offset) (previous.now, next.now) ++ top_segments next.now)) }
+        ensures kept { Keeps segments.old.items segments.new.items }
+        ensures offset { self.new.offset ≡ self.old.offset }
+    {
+        self.feed_join(previous, next, segments)?;
+        segments.push_non_degenerate(next.a_top, next.b_top)
+    }
+}
