@@ -1,1 +1,3 @@
+pub mod Identities
+pub mod Ring
 pub mod Whole
