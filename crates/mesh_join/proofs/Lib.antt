@@ -1,0 +1,3 @@
+pub mod CleaningVectors
+pub mod CleaningPass
+pub mod CleaningLoop

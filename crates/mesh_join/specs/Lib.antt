@@ -1,0 +1,2 @@
+-- The cleaned contour.
+pub mod Cleaned
