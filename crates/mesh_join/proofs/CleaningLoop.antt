@@ -9,16 +9,16 @@ use Rattle.mesh_join.proofs.CleaningPass.{changes_from-same, changes_from-apart,
 
 -- ---- lists
 
-without_end-cons : (q p : Point) (ws : List Point) → same_point q p ≡ false → without_end q (p ∷ ws) ≡ p ∷ without_end q ws
+pub without_end-cons : (q p : Point) (ws : List Point) → same_point q p ≡ false → without_end q (p ∷ ws) ≡ p ∷ without_end q ws
 without_end-cons q p [] e = cond-false (same_point q p) [] (p ∷ []) e
 without_end-cons q p (w ∷ ws) e = refl
 
-last_of-append : (p : Point) (ws : List Point) (q k : Point) → last_of p (ws ++ q ∷ k ∷ []) ≡ k
+pub last_of-append : (p : Point) (ws : List Point) (q k : Point) → last_of p (ws ++ q ∷ k ∷ []) ≡ k
 last_of-append p [] q k = refl
 last_of-append p (w ∷ ws) q k = last_of-append w ws q k
 
 -- a list that goes on to `q`: its repeats are those of the closed list, without its end
-closing : (q x : Point) (zs rest : List Point) →
+pub closing : (q x : Point) (zs rest : List Point) →
     without_end q (x ∷ changes_from x zs) ++ q ∷ changes_from q rest ≡ x ∷ changes_from x (zs ++ q ∷ rest)
 closing q x [] rest = elim (cases_Bool (same_point q x)) [ inl e ↦ repeated e | inr e ↦ apart e ]
   where
@@ -48,7 +48,7 @@ closing q x (z ∷ zs) rest = elim (cases_Bool (same_point x z)) [ inl e ↦ rep
         ∙ ap (λ ws. x ∷ ws) (ih ∙ sym (changes_from-apart x z (zs ++ q ∷ rest) e))
 
 -- the list from `p` round to `q` and on to `k`
-round_to : (q p k : Point) (zs : List Point) → same_point q p ≡ false → same_point q k ≡ false →
+pub round_to : (q p k : Point) (zs : List Point) → same_point q p ≡ false → same_point q k ≡ false →
     changes_from p (zs ++ q ∷ k ∷ []) ≡ without_end q (changes_from p zs) ++ q ∷ k ∷ []
 round_to q p k zs e g =
     sym (ap tail (ap (λ ws. ws ++ q ∷ changes_from q (k ∷ [])) (sym (without_end-cons q p (changes_from p zs) e)) ∙ closing q p zs (k ∷ [])))
@@ -59,7 +59,7 @@ round_to q p k zs e g =
     tail (x ∷ xs) = xs
 
 -- the verdict on the last but one hangs on the direction to the last
-kept_between-end : (y p : Point) (ts : List Point) (q k r : Point) → ((x : Point) → is_kept x q k ≡ is_kept x q r) →
+pub kept_between-end : (y p : Point) (ts : List Point) (q k r : Point) → ((x : Point) → is_kept x q k ≡ is_kept x q r) →
     kept_between y p (ts ++ q ∷ k ∷ []) ≡ kept_between y p (ts ++ q ∷ r ∷ [])
 kept_between-end y p [] q k r f = ap (λ b. cond (is_kept y p q) (p ∷ cond b (q ∷ []) []) (cond b (q ∷ []) [])) (f p)
 kept_between-end y p (t ∷ ts) q k r f =

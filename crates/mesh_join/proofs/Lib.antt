@@ -1,3 +1,4 @@
 pub mod CleaningVectors
 pub mod CleaningPass
 pub mod CleaningLoop
+pub mod CleaningStart
