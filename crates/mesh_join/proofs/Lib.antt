@@ -2,3 +2,4 @@ pub mod CleaningVectors
 pub mod CleaningPass
 pub mod CleaningLoop
 pub mod CleaningStart
+pub mod CleaningSums
