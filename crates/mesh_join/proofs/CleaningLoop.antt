@@ -27,6 +27,7 @@ closing q x [] rest = elim (cases_Bool (same_point q x)) [ inl e ↦ repeated e 
         ap (λ ws. ws ++ q ∷ changes_from q rest) (cond-true (same_point q x) [] (x ∷ []) e)
         ∙ ap (λ y. y ∷ changes_from y rest) (same_point-eq q x e)
         ∙ ap (λ ws. x ∷ ws) (sym (changes_from-same x q rest (same_point-swap q x ∙ e)))
+
     apart : same_point q x ≡ false → without_end q (x ∷ []) ++ q ∷ changes_from q rest ≡ x ∷ changes_from x (q ∷ rest)
     apart e =
         ap (λ ws. ws ++ q ∷ changes_from q rest) (cond-false (same_point q x) [] (x ∷ []) e)
@@ -35,12 +36,14 @@ closing q x (z ∷ zs) rest = elim (cases_Bool (same_point x z)) [ inl e ↦ rep
   where
     side : List Point → List Point
     side ws = without_end q (x ∷ ws) ++ q ∷ changes_from q rest
+
     repeated : same_point x z ≡ true → without_end q (x ∷ changes_from x zs) ++ q ∷ changes_from q rest ≡ x ∷ changes_from x (zs ++ q ∷ rest)
         → without_end q (x ∷ changes_from x (z ∷ zs)) ++ q ∷ changes_from q rest ≡ x ∷ changes_from x (z ∷ (zs ++ q ∷ rest))
     repeated e ih =
         ap (λ ws. without_end q (x ∷ ws) ++ q ∷ changes_from q rest) (changes_from-same x z zs e)
         ∙ ih
         ∙ ap (λ ws. x ∷ ws) (sym (changes_from-same x z (zs ++ q ∷ rest) e))
+
     apart : same_point x z ≡ false → without_end q (z ∷ changes_from z zs) ++ q ∷ changes_from q rest ≡ z ∷ changes_from z (zs ++ q ∷ rest)
         → without_end q (x ∷ changes_from x (z ∷ zs)) ++ q ∷ changes_from q rest ≡ x ∷ changes_from x (z ∷ (zs ++ q ∷ rest))
     apart e ih =

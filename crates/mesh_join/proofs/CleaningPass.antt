@@ -51,6 +51,7 @@ passed-own a y p (z ∷ zs) h = elim (cases_Bool (same_point p z)) [ inl e ↦ r
   where
     repeated : same_point p z ≡ true → passed a p zs ≡ line a y p (changes_from p zs) → passed a p (z ∷ zs) ≡ line a y p (changes_from p (z ∷ zs))
     repeated e ih = passed-same a p z zs e ∙ ih ∙ ap (line a y p) (sym (changes_from-same p z zs e))
+
     apart : ((a y p : Point) → SameWay a y p → passed a p zs ≡ line a y p (changes_from p zs)) → same_point p z ≡ false → (is_kept y p z ≡ true) ⊎ (is_kept y p z ≡ false)
         → passed a p (z ∷ zs) ≡ line a y p (changes_from p (z ∷ zs))
     apart ih e (inl k) =
@@ -67,13 +68,13 @@ passed-own a y p (z ∷ zs) h = elim (cases_Bool (same_point p z)) [ inl e ↦ r
 
 pub passed-open : (p q : Point) (zs : List Point) → passed p q zs ≡ open_sections (p ∷ q ∷ zs)
 passed-open p q [] = elim (cases_Bool (same_point p q)) [
-    inl e ↦ cond-true (same_point p q) [] ((p, q) ∷ []) e ∙ ap (λ ws. sections_between (p ∷ ws)) (sym (changes_from-same p q [] e))
+  | inl e ↦ cond-true (same_point p q) [] ((p, q) ∷ []) e ∙ ap (λ ws. sections_between (p ∷ ws)) (sym (changes_from-same p q [] e))
   | inr e ↦ cond-false (same_point p q) [] ((p, q) ∷ []) e ∙ ap (λ ws. sections_between (p ∷ ws)) (sym (changes_from-apart p q [] e))
-  ]
+]
 passed-open p q (z ∷ zs) = elim (cases_Bool (same_point p q)) [
-    inl e ↦ repeated e (passed-open p z zs)
+  | inl e ↦ repeated e (passed-open p z zs)
   | inr e ↦ passed-own p p q (z ∷ zs) (SameWay-self p q e) ∙ ap (λ ws. sections_between (p ∷ ws)) (sym (changes_from-apart p q (z ∷ zs) e))
-  ]
+]
   where
     repeated : same_point p q ≡ true → passed p z zs ≡ open_sections (p ∷ z ∷ zs) → passed p q (z ∷ zs) ≡ open_sections (p ∷ q ∷ z ∷ zs)
     repeated e ih =

@@ -26,7 +26,7 @@ started-same q p z zs e =
     started-on q p z zs on ∙ ap (λ x. started q x zs) (sym same)
 
 -- for the verdict on `q`, the points `p` and `r` after it are alike
-abbrev Alike : Point → Point → Point → Type 0
+abbrev pub Alike : Point → Point → Point → Type 0
 Alike q p r = (x : Point) → is_kept x q p ≡ is_kept x q r
 
 -- the way from `q` goes straight on by `p` to `z`
@@ -35,11 +35,12 @@ Alike-on q p z r n e f x = judged_ahead x q z p (SameWay-ahead q p z n e) ∙ f 
 
 -- ---- no point inside is kept
 
-record Turned (q r : Point) (y p : Point) (zs : List Point) : Type 0 where
-  edges : started q p zs ≡ (q, last_of p (changes_from p zs)) ∷ (last_of p (changes_from p zs), q) ∷ []
-  kept : kept_between y p (changes_from p (zs ++ q ∷ r ∷ [])) ≡ last_of p (changes_from p zs) ∷ q ∷ []
+pub record Turned (q r y p : Point) (zs : List Point) : Type 0 where
+  pub apart : same_point q (last_of p (changes_from p zs)) ≡ false
+  pub edges : started q p zs ≡ (q, last_of p (changes_from p zs)) ∷ (last_of p (changes_from p zs), q) ∷ []
+  pub kept : kept_between y p (changes_from p (zs ++ q ∷ r ∷ [])) ≡ last_of p (changes_from p zs) ∷ q ∷ []
 
-none_inside : (q r y p : Point) (zs : List Point) → same_point q r ≡ false → SameWay q y p → Alike q p r → kept_between y p (changes_from p zs) ≡ [] → Turned q r y p zs
+pub none_inside : (q r y p : Point) (zs : List Point) → same_point q r ≡ false → SameWay q y p → Alike q p r → kept_between y p (changes_from p zs) ≡ [] → Turned q r y p zs
 none_inside q r y p [] n h f e =
     let apart : same_point q p ≡ false = SameWay-apart q y p h in
     let out : same_point p q ≡ false = same_point-swap q p ∙ apart in
@@ -47,18 +48,19 @@ none_inside q r y p [] n h f e =
     let turn : is_kept p q r ≡ true = sym (f p) ∙ is_kept-back p q apart in
     let own : is_kept y p q ≡ true = sym (judged q y p q h) ∙ back in
     record {
+      apart = apart;
       edges =
-        passed-kept q p q (q ∷ []) back
-        ∙ ap (λ (es : List Edge). (q, p) ∷ es) (passed-on p q q [] (is_kept-to_self p q) ∙ cond-false (same_point p q) [] ((p, q) ∷ []) out);
+          passed-kept q p q (q ∷ []) back
+          ∙ ap (λ (es : List Edge). (q, p) ∷ es) (passed-on p q q [] (is_kept-to_self p q) ∙ cond-false (same_point p q) [] ((p, q) ∷ []) out);
       kept =
-        ap (kept_between y p) (changes_from-apart p q (r ∷ []) out ∙ ap (λ ws. q ∷ ws) (changes_from-apart q r [] n))
-        ∙ kept_between-kept y p q (r ∷ []) own
-        ∙ ap (λ ws. p ∷ ws) (kept_between-kept p q r [] turn);
+          ap (kept_between y p) (changes_from-apart p q (r ∷ []) out ∙ ap (λ ws. q ∷ ws) (changes_from-apart q r [] n))
+          ∙ kept_between-kept y p q (r ∷ []) own
+          ∙ ap (λ ws. p ∷ ws) (kept_between-kept p q r [] turn);
     }
 none_inside q r y p (z ∷ zs) n h f e =
     elim (cases_Bool (same_point p z)) [
-      inl s ↦ repeated s (λ g. none_inside q r y p zs n h f g)
-    | inr s ↦ apart s (λ k g i. none_inside q r p z zs n k g i) (cases_Bool (is_kept y p z))
+      | inl s ↦ repeated s (λ g. none_inside q r y p zs n h f g)
+      | inr s ↦ apart s (λ k g i. none_inside q r p z zs n k g i) (cases_Bool (is_kept y p z))
     ]
   where
     repeated : same_point p z ≡ true → (kept_between y p (changes_from p zs) ≡ [] → Turned q r y p zs) → Turned q r y p (z ∷ zs)
@@ -67,9 +69,11 @@ none_inside q r y p (z ∷ zs) n h f e =
         let t : Turned q r y p zs = ih (ap (kept_between y p) (sym same) ∙ e) in
         let ends : (last_of p (changes_from p zs)) ≡ last_of p (changes_from p (z ∷ zs)) = ap (last_of p) (sym same) in
         record {
+          apart = ap (same_point q) (sym ends) ∙ t.apart;
           edges = started-same q p z zs s ∙ t.edges ∙ ap (λ (l : Point). (q, l) ∷ (l, q) ∷ []) ends;
           kept = ap (kept_between y p) (changes_from-same p z (zs ++ q ∷ r ∷ []) s) ∙ t.kept ∙ ap (λ (l : Point). l ∷ q ∷ []) ends;
         }
+
     apart : same_point p z ≡ false → (SameWay q p z → Alike q z r → kept_between p z (changes_from z zs) ≡ [] → Turned q r p z zs)
         → (is_kept y p z ≡ true) ⊎ (is_kept y p z ≡ false) → Turned q r y p (z ∷ zs)
     apart s ih (inl k) = absurd (filled (sym (kept_between-kept y p z (changes_from z zs) k) ∙ ap (kept_between y p) (sym (changes_from-apart p z zs s)) ∙ e))
@@ -83,22 +87,23 @@ none_inside q r y p (z ∷ zs) n h f e =
         let t : Turned q r p z zs = ih (SameWay-straight q p z s on) (Alike-on q p z r (SameWay-apart q y p h) on f) none in
         let ends : last_of z (changes_from z zs) ≡ last_of p (changes_from p (z ∷ zs)) = ap (last_of p) (sym split) in
         record {
+          apart = ap (same_point q) (sym ends) ∙ t.apart;
           edges = started-on q p z zs on ∙ t.edges ∙ ap (λ (l : Point). (q, l) ∷ (l, q) ∷ []) ends;
           kept =
-            ap (kept_between y p) (changes_from-apart p z (zs ++ q ∷ r ∷ []) s)
-            ∙ kept_between-passed y p z (changes_from z (zs ++ q ∷ r ∷ [])) k
-            ∙ t.kept
-            ∙ ap (λ (l : Point). l ∷ q ∷ []) ends;
+              ap (kept_between y p) (changes_from-apart p z (zs ++ q ∷ r ∷ []) s)
+              ∙ kept_between-passed y p z (changes_from z (zs ++ q ∷ r ∷ [])) k
+              ∙ t.kept
+              ∙ ap (λ (l : Point). l ∷ q ∷ []) ends;
         }
 
 -- ---- `k` is the first point inside that is kept
 
-record Found (q r k y p : Point) (zs : List Point) : Type 0 where
-  edges : (q, k) ∷ started q p zs ≡ passed q p (zs ++ q ∷ k ∷ [])
-  alike : Alike q k r
-  apart : same_point q k ≡ false
-  rest : List Point
-  kept : kept_between y p (changes_from p (zs ++ q ∷ k ∷ [])) ≡ k ∷ rest
+pub record Found (q r k y p : Point) (zs : List Point) : Type 0 where
+  pub edges : (q, k) ∷ started q p zs ≡ passed q p (zs ++ q ∷ k ∷ [])
+  pub alike : Alike q k r
+  pub apart : same_point q k ≡ false
+  pub rest : List Point
+  pub kept : kept_between y p (changes_from p (zs ++ q ∷ k ∷ [])) ≡ k ∷ rest
 
 heads : (p k : Point) (ps ks : List Point) → p ∷ ps ≡ k ∷ ks → p ≡ k
 heads p k ps ks e = ap head e
@@ -107,15 +112,15 @@ heads p k ps ks e = ap head e
     head [] = p
     head (x ∷ xs) = x
 
-first_inside : (q r k y p : Point) (zs ks : List Point) → SameWay q y p → Alike q p r → kept_between y p (changes_from p zs) ≡ k ∷ ks → Found q r k y p zs
+pub first_inside : (q r k y p : Point) (zs ks : List Point) → SameWay q y p → Alike q p r → kept_between y p (changes_from p zs) ≡ k ∷ ks → Found q r k y p zs
 first_inside q r k y p [] ks h f e = absurd (nothing e)
   where
     nothing : [] ≡ k ∷ ks → ⊥
     nothing g = cc
 first_inside q r k y p (z ∷ zs) ks h f e =
     elim (cases_Bool (same_point p z)) [
-      inl s ↦ repeated s (λ g. first_inside q r k y p zs ks h f g)
-    | inr s ↦ apart s (λ l g i. first_inside q r k p z zs ks l g i) (cases_Bool (is_kept y p z))
+      | inl s ↦ repeated s (λ g. first_inside q r k y p zs ks h f g)
+      | inr s ↦ apart s (λ l g i. first_inside q r k p z zs ks l g i) (cases_Bool (is_kept y p z))
     ]
   where
     repeated : same_point p z ≡ true → (kept_between y p (changes_from p zs) ≡ k ∷ ks → Found q r k y p zs) → Found q r k y p (z ∷ zs)
@@ -128,19 +133,21 @@ first_inside q r k y p (z ∷ zs) ks h f e =
           rest = t.rest;
           kept = ap (kept_between y p) (changes_from-same p z (zs ++ q ∷ k ∷ []) s) ∙ t.kept;
         }
+
     at_once : same_point p z ≡ false → is_kept y p z ≡ true → Found q r p y p (z ∷ zs)
     at_once s i =
         record {
           edges =
-            ap (λ (es : List Edge). (q, p) ∷ es) (started-kept q p z zs (judged q y p z h ∙ i))
-            ∙ sym (passed-kept q p z (zs ++ q ∷ p ∷ []) (judged q y p z h ∙ i));
+              ap (λ (es : List Edge). (q, p) ∷ es) (started-kept q p z zs (judged q y p z h ∙ i))
+              ∙ sym (passed-kept q p z (zs ++ q ∷ p ∷ []) (judged q y p z h ∙ i));
           alike = f;
           apart = SameWay-apart q y p h;
           rest = kept_between p z (changes_from z (zs ++ q ∷ p ∷ []));
           kept =
-            ap (kept_between y p) (changes_from-apart p z (zs ++ q ∷ p ∷ []) s)
-            ∙ kept_between-kept y p z (changes_from z (zs ++ q ∷ p ∷ [])) i;
+              ap (kept_between y p) (changes_from-apart p z (zs ++ q ∷ p ∷ []) s)
+              ∙ kept_between-kept y p z (changes_from z (zs ++ q ∷ p ∷ [])) i;
         }
+
     apart : same_point p z ≡ false → (SameWay q p z → Alike q z r → kept_between p z (changes_from z zs) ≡ k ∷ ks → Found q r k p z zs)
         → (is_kept y p z ≡ true) ⊎ (is_kept y p z ≡ false) → Found q r k y p (z ∷ zs)
     apart s ih (inl i) =
@@ -158,12 +165,29 @@ first_inside q r k y p (z ∷ zs) ks h f e =
           apart = t.apart;
           rest = t.rest;
           kept =
-            ap (kept_between y p) (changes_from-apart p z (zs ++ q ∷ k ∷ []) s)
-            ∙ kept_between-passed y p z (changes_from z (zs ++ q ∷ k ∷ [])) i
-            ∙ t.kept;
+              ap (kept_between y p) (changes_from-apart p z (zs ++ q ∷ k ∷ []) s)
+              ∙ kept_between-passed y p z (changes_from z (zs ++ q ∷ k ∷ [])) i
+              ∙ t.kept;
         }
 
 -- ---- the loop
+
+abbrev tail : List Edge → List Edge
+tail [] = []
+tail (x ∷ xs) = xs
+
+-- the list on to `q` and `k` ends there
+pub ends_at : (q p k : Point) (zs : List Point) → same_point q p ≡ false → same_point q k ≡ false → last_of p (changes_from p (zs ++ q ∷ k ∷ [])) ≡ k
+ends_at q p k zs n m = ap (last_of p) (round_to q p k zs n m) ∙ last_of-append p (without_end q (changes_from p zs)) q k
+
+pub started-found : (q p k : Point) (zs : List Point) → (n : same_point q p ≡ false) → (t : Found q p k q p zs) → started q p zs ≡ boundary (k ∷ t.rest)
+started-found q p k zs n t =
+    ap tail (
+    t.edges
+    ∙ passed-own q q p (zs ++ q ∷ k ∷ []) (SameWay-self q p n)
+    ∙ ap (λ ws. route q ws (last_of p (changes_from p (zs ++ q ∷ k ∷ [])))) t.kept
+    ∙ ap (λ l. route q (k ∷ t.rest) l) (ends_at q p k zs n t.apart)
+    )
 
 -- the points that are kept in the ring of `q`, `p`, `zs`
 abbrev around : Point → Point → List Point → List Point
@@ -181,6 +205,7 @@ started-begun q p zs n = cases (kept_between q p (changes_from p zs)) refl
   where
     same : SameWay q q p
     same = SameWay-self q p n
+
     cases : (inside : List Point) → kept_between q p (changes_from p zs) ≡ inside → started q p zs ≡ boundary (begun inside (around q p zs))
     cases [] e =
         let t : Turned q p q p zs = none_inside q p q p zs n same (λ x. refl) e in
@@ -188,15 +213,7 @@ started-begun q p zs n = cases (kept_between q p (changes_from p zs)) refl
         t.edges ∙ ap (λ ws. boundary (last_first ws)) (sym round)
     cases (k ∷ ks) e =
         let t : Found q p k q p zs = first_inside q p k q p zs ks same (λ x. refl) e in
-        let all : List Point = changes_from p (zs ++ q ∷ k ∷ []) in
-        let end : last_of p all ≡ k = ap (last_of p) (round_to q p k zs n t.apart) ∙ last_of-append p (without_end q (changes_from p zs)) q k in
-        let whole : (q, k) ∷ started q p zs ≡ (q, k) ∷ route k t.rest k =
-        t.edges ∙ passed-own q q p (zs ++ q ∷ k ∷ []) same ∙ ap (λ ws. route q ws (last_of p all)) t.kept ∙ ap (λ l. route q (k ∷ t.rest) l) end in
-        ap tail whole ∙ ap boundary (sym t.kept ∙ around-on q p k zs n t.apart t.alike)
-      where
-        tail : List Edge → List Edge
-        tail [] = []
-        tail (x ∷ xs) = xs
+        started-found q p k zs n t ∙ ap boundary (sym t.kept ∙ around-on q p k zs n t.apart t.alike)
 
 -- the pass from the first of two points that differ gives the sections of the cleaned contour
 pub started-cleaned : (q p : Point) (zs : List Point) → same_point q p ≡ false → started q p zs ≡ cleaned_sections (q ∷ p ∷ zs)

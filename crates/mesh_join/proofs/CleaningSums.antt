@@ -29,40 +29,40 @@ module _ (f : Point → Point → ℤ) (straight : (p r s : Point) → turn p r 
 
   pub passed-total : (a p : Point) (zs : List Point) → total f (passed a p zs) ≡ f a p +ℤ total f (along p zs)
   passed-total a p [] = elim (cases_Bool (same_point a p)) [
-      inl e ↦
+    | inl e ↦
         let none : f a p ≡ pos 0 = ap (f a) (sym (same_point-eq a p e)) ∙ flat-self a in
         let empty : total f (passed a p []) ≡ pos 0 = ap (total f) (cond-true (same_point a p) [] ((a, p) ∷ []) e) in
         omega (arith, linear, none, empty)
     | inr e ↦
         let one : total f (passed a p []) ≡ f a p +ℤ pos 0 = ap (total f) (cond-false (same_point a p) [] ((a, p) ∷ []) e) in
         one
-    ]
+  ]
   passed-total a p (z ∷ zs) = elim (cases_Bool (is_kept a p z)) [
-      inl e ↦
+    | inl e ↦
         let kept : total f (passed a p (z ∷ zs)) ≡ f a p +ℤ total f (passed p z zs) = ap (total f) (passed-kept a p z zs e) in
         omega (arith, linear, kept, passed-total p z zs)
     | inr e ↦
         let on : total f (passed a p (z ∷ zs)) ≡ total f (passed a z zs) = ap (total f) (passed-on a p z zs e) in
         omega (arith, linear, on, passed-total a z zs, straight a p z (straight-turn a p z e))
-    ]
+  ]
 
   pub started-total : (q p : Point) (zs : List Point) → total f (started q p zs) ≡ f q p +ℤ total f (along p (zs ++ q ∷ []))
   started-total q p [] = omega (arith, linear, passed-total q p (q ∷ q ∷ []), flat-self q)
   started-total q p (z ∷ zs) = elim (cases_Bool (is_kept q p z)) [
-      inl e ↦
+    | inl e ↦
         let kept : total f (started q p (z ∷ zs)) ≡ total f (passed p z (zs ++ q ∷ p ∷ [])) = ap (total f) (started-kept q p z zs e) in
         omega (arith, linear, kept, passed-total p z (zs ++ q ∷ p ∷ []), along-append z zs q p)
     | inr e ↦
         let on : total f (started q p (z ∷ zs)) ≡ total f (started q z zs) = ap (total f) (started-on q p z zs e) in
         omega (arith, linear, on, started-total q z zs, straight q p z (straight-turn q p z e))
-    ]
+  ]
 
   cleaned-along : (q : Point) (zs : List Point) → total f (cleaned_sections (q ∷ zs)) ≡ total f (along q (zs ++ q ∷ []))
   cleaned-along q [] = omega (arith, linear, flat-self q)
   cleaned-along q (z ∷ zs) = elim (cases_Bool (same_point q z)) [
-      inl e ↦ repeated e (cleaned-along q zs)
+    | inl e ↦ repeated e (cleaned-along q zs)
     | inr e ↦ ap (total f) (sym (started-cleaned q z zs e)) ∙ started-total q z zs
-    ]
+  ]
     where
       repeated : same_point q z ≡ true → total f (cleaned_sections (q ∷ zs)) ≡ total f (along q (zs ++ q ∷ [])) → total f (cleaned_sections (q ∷ z ∷ zs)) ≡ f q z +ℤ total f (along z (zs ++ q ∷ []))
       repeated e ih =

@@ -35,8 +35,8 @@ same_point-apart p q n = false_from_ne_true (same_point p q) (λ e. n (same_poin
 pub same_point-swap : (p q : Point) → same_point q p ≡ same_point p q
 same_point-swap p q =
     elim (cases_Bool (same_point p q)) [
-      inl e ↦ subst (λ x. same_point x p ≡ true) (same_point-eq p q e) (same_point-self p) ∙ sym e
-    | inr e ↦ same_point-apart q p (λ g. true≢false (sym (same_point-self p) ∙ ap (same_point p) (sym g) ∙ e)) ∙ sym e
+      | inl e ↦ subst (λ x. same_point x p ≡ true) (same_point-eq p q e) (same_point-self p) ∙ sym e
+      | inr e ↦ same_point-apart q p (λ g. true≢false (sym (same_point-self p) ∙ ap (same_point p) (sym g) ∙ e)) ∙ sym e
     ]
 
 lt_true : (a b : ℤ) → a <ℤ b → int_lt a b ≡ true
@@ -152,9 +152,10 @@ judged_ahead a p y z h = is_kept-swap a p y ∙ judged y z p a h ∙ is_kept-swa
 
 pub is_kept-false : (a p z : Point) → is_kept a p z ≡ false → (cross (minus p a) (minus p z) ≡ pos 0) × (dot (minus p a) (minus p z) ≤ℤ pos 0)
 is_kept-false a p z e =
-    let both = or_parts (not (int_eq (cross (minus p a) (minus p z)) (pos 0))) (int_lt (pos 0) (dot (minus p a) (minus p z))) e in
-    ( (Decides-int_eq (cross (minus p a) (minus p z)) (pos 0)).0 (not-false (int_eq (cross (minus p a) (minus p z)) (pos 0)) both.0)
-    , false_lt (pos 0) (dot (minus p a) (minus p z)) both.1 )
+    let both = or_parts (not (int_eq (cross (minus p a) (minus p z)) (pos 0))) (int_lt (pos 0) (dot (minus p a) (minus p z))) e in (
+      (Decides-int_eq (cross (minus p a) (minus p z)) (pos 0)).0 (not-false (int_eq (cross (minus p a) (minus p z)) (pos 0)) both.0),
+      false_lt (pos 0) (dot (minus p a) (minus p z)) both.1,
+    )
 
 pub is_kept-straight : (a p z : Point) → cross (minus p a) (minus p z) ≡ pos 0 → dot (minus p a) (minus p z) ≤ℤ pos 0 → is_kept a p z ≡ false
 is_kept-straight a p z e h =

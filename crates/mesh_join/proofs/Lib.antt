@@ -3,3 +3,4 @@ pub mod CleaningPass
 pub mod CleaningLoop
 pub mod CleaningStart
 pub mod CleaningSums
+pub mod CleaningTurns

@@ -1,3 +1,2 @@
 //! Arcs, styles, the cleaned contour and joins.
 #![tactic(auto)]
-
