@@ -1,2 +1,2 @@
--- The cleaned contour.
 pub mod Cleaned
+pub mod Joins

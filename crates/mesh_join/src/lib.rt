@@ -1,2 +1,6 @@
-//! Arcs, styles, the cleaned contour and joins.
+//! Styles, cleaned contours and joins of integer polygon offsetting.
 #![tactic(auto)]
+
+pub mod arc;
+pub mod join;
+pub mod style;

@@ -1,4 +1,9 @@
 pub mod Bounds
+pub mod Direction
+pub mod Order
 pub mod Plane
-pub mod Winding
+pub mod Rectangle
+pub mod Rounding
+pub mod Segments
 pub mod Widths
+pub mod Winding

@@ -11,14 +11,14 @@ abbrev pub Edge : Type 0
 Edge = Point × Point
 
 abbrev pub plus : Point → Point → Point
-plus p v = (p.0 +ℤ v.0 , p.1 +ℤ v.1)
+plus p v = (p.0 +ℤ v.0, p.1 +ℤ v.1)
 
 -- the vector from the second point to the first
 abbrev pub minus : Point → Point → Point
-minus p q = (p.0 -ℤ q.0 , p.1 -ℤ q.1)
+minus p q = (p.0 -ℤ q.0, p.1 -ℤ q.1)
 
 abbrev pub opposite : Point → Point
-opposite v = (neg_ℤ v.0 , neg_ℤ v.1)
+opposite v = (neg_ℤ v.0, neg_ℤ v.1)
 
 -- above 0 where the second vector lies to the left of the first
 abbrev pub cross : Point → Point → ℤ
@@ -38,4 +38,4 @@ turn p r q = cross (minus r p) (minus q p)
 
 -- a vector turned by a quarter clockwise
 abbrev pub right_quarter : Point → Point
-right_quarter v = (v.1 , neg_ℤ v.0)
+right_quarter v = (v.1, neg_ℤ v.0)

@@ -1,7 +1,6 @@
 -- Crossings, windings, closed lists and balance, over pairs of whole numbers.
 use Rattle.std.specs.Prelude.{ℕ, ◌≡◌, ◌⊎◌, Bool, cond, ◌&&◌, ◌||◌, not, List, [], ◌∷◌, ℤ, pos, negsuc, ◌+ℤ◌, ◌*ℤ◌, count_by, int_le, int_lt}
 use Rattle.std.specs.Ordering.{int_eq}
-
 use Rattle.mesh_num.specs.Plane.{Point, Edge, turn}
 
 -- the sum of `f` over a list
@@ -27,7 +26,7 @@ crossing q p r = crossing_of p.1 r.1 q.1 (turn p r q)
 
 -- a point on the grid that is `m` times finer
 abbrev pub refined : ℕ → Point → Point
-refined m p = (pos m *ℤ p.0 , pos m *ℤ p.1)
+refined m p = (pos m *ℤ p.0, pos m *ℤ p.1)
 
 -- the crossing at a point `q` of the grid `m`
 abbrev pub crossing_on : ℕ → Point → Point → Point → ℤ
@@ -39,8 +38,8 @@ winding m q es = total (crossing_on m q) es
 
 -- the neighbouring pairs of the list that starts at `a`, goes through the middle ones and ends at `z`
 abbrev pub route : {A : Type 0} → A → List A → A → List (A × A)
-route a [] z = (a , z) ∷ []
-route a (x ∷ xs) z = (a , x) ∷ route x xs z
+route a [] z = (a, z) ∷ []
+route a (x ∷ xs) z = (a, x) ∷ route x xs z
 
 -- the neighbouring pairs of a closed list, last to first included
 abbrev pub boundary : {A : Type 0} → List A → List (A × A)
@@ -70,3 +69,11 @@ IsBalanced es = (p : Point) → count_by (λ (e : Edge). same_point p e.0) es �
 -- 0 or 1
 abbrev pub IsBit : ℤ → Type 0
 IsBit z = (z ≡ pos 0) ⊎ (z ≡ pos 1)
+
+-- a function of edges that changes its sign with their direction
+abbrev pub IsOdd : (Point → Point → ℤ) → Type 0
+IsOdd f = (p r : Point) → f p r +ℤ f r p ≡ pos 0
+
+-- a function of edges that adds up along a line
+abbrev pub IsStraight : (Point → Point → ℤ) → Type 0
+IsStraight f = (p r s : Point) → turn p r s ≡ pos 0 → f p r +ℤ f r s ≡ f p s

@@ -2,3 +2,4 @@
 #![tactic(auto)]
 
 pub mod num;
+pub mod shape;

@@ -1,3 +1,15 @@
 //! Coordinate types, points and vectors, directions, rectangles and angles.
 
+pub mod angle;
+pub mod convert;
+pub(crate) mod exact;
 pub mod number;
+pub mod point;
+pub mod rect;
+pub mod unit_vector;
+
+pub use angle::Angle;
+pub use number::{IntNumber, OverlayInt, WideNumber, WideUnsigned};
+pub use point::{IntPoint, IntVector};
+pub use rect::IntRect;
+pub use unit_vector::UnitIntVector;

@@ -13,10 +13,20 @@ use std::ops::{Add, Mul, Sub};
 
 /// A signed type that holds sums and differences of two products of coordinate differences.
 /// Contracts see a number as the whole number `value`.
-pub trait WideNumber: Copy + Debug + Drop + Ord + Hash + Add<Self, Output = Self> + Sub<Self, Output = Self> + Mul<Self, Output = Self> {
+pub trait WideNumber: Copy
+    + Debug
+    + Drop
+    + Ord
+    + Hash
+    + Add<Self, Output = Self>
+    + Sub<Self, Output = Self>
+    + Mul<Self, Output = Self> {
     ghost value: { Self → ℤ };
+
     ghost of_value: { ℤ → Self };
+
     ghost half: { ℕ };
+
     ghost value_back: { (a : Self) → of_value (value a) ≡ a };
 
     /// The same number in 128 bits.
@@ -30,17 +40,24 @@ pub trait WideNumber: Copy + Debug + Drop + Ord + Hash + Add<Self, Output = Self
         ensures { value result ≡ number };
 
     ghost can_add_law: { (a b : Self) → IsWithin half (value a +ℤ value b) → Self.can_add a b };
+
     ghost add_law: { (a b r : Self) → Self.add_gives a b r → value r ≡ (value a +ℤ value b) };
+
     ghost can_sub_law: { (a b : Self) → IsWithin half (value a -ℤ value b) → Self.can_sub a b };
+
     ghost sub_law: { (a b r : Self) → Self.sub_gives a b r → value r ≡ (value a -ℤ value b) };
+
     ghost can_mul_law: { (a b : Self) → IsWithin half (value a *ℤ value b) → Self.can_mul a b };
+
     ghost mul_law: { (a b r : Self) → Self.mul_gives a b r → value r ≡ (value a *ℤ value b) };
+
     ghost cmp_law: { (a b : Self) → Self.cmp a b ≡ int_cmp (value a) (value b) };
 }
 
 /// An unsigned type that holds the sum of two squares of coordinate differences.
 pub trait WideUnsigned: Copy + Debug + Drop + Ord + Hash {
     ghost value: { Self → ℕ };
+
     ghost limit: { ℕ };
 
     /// The same number in 128 bits.
@@ -65,17 +82,26 @@ pub trait IntNumber: Copy + Debug + Drop + Ord + Hash {
     type WideUInt: WideUnsigned;
 
     ghost value: { Self → ℤ };
+
     ghost of_value: { ℤ → Self };
+
     ghost value_back: { (a : Self) → of_value (value a) ≡ a };
+
     ghost unit: { ℕ };
+
     ghost BITS: { ℕ };
+
     ghost ZERO: { Self };
+
     ghost ONE: { Self };
+
     ghost UNIT: { Self };
 
     /// The number of bits of this type.
     const BITS: u32;
+
     const ZERO: Self;
+
     const ONE: Self;
     /// 2 to the power of `BITS - 2`.
     const UNIT: Self;
@@ -91,13 +117,21 @@ pub trait IntNumber: Copy + Debug + Drop + Ord + Hash {
         ensures { value result ≡ Self.Wide.value wide };
 
     ghost value_unit: { value UNIT ≡ pos unit };
+
     ghost value_zero: { value ZERO ≡ pos 0 };
+
     ghost value_one: { value ONE ≡ pos 1 };
+
     ghost unit_law: { unit ≡ 2 ^ (BITS - 2) };
+
     ghost half_law: { Self.Wide.half ≡ 8 * unit * unit };
+
     ghost limit_law: { Self.WideUInt.limit ≡ 16 * unit * unit };
+
     ghost most_law: { unit ≤ 2 ^ 30 };
+
     ghost least_law: { 2 ^ 14 ≤ unit };
+
     ghost cmp_law: { (a b : Self) → Self.cmp a b ≡ int_cmp (value a) (value b) };
 
     /// A wide number in 128 bits.
@@ -134,8 +168,11 @@ impl OverlayInt for i32 {}
 
 impl WideNumber for i32 {
     ghost value = { λ x. x };
+
     ghost of_value = { λ x. x };
+
     ghost half = { 2 ^ 31 };
+
     ghost value_back = { λ a. refl };
 
     fn to_i128(self) -> i128 {
@@ -147,18 +184,27 @@ impl WideNumber for i32 {
     }
 
     ghost can_add_law = { λ a b h. within_fits_w32 (a +ℤ b) h };
+
     ghost add_law = { λ a b r h. h };
+
     ghost can_sub_law = { λ a b h. within_fits_w32 (a -ℤ b) h };
+
     ghost sub_law = { λ a b r h. h };
+
     ghost can_mul_law = { λ a b h. within_fits_w32 (a *ℤ b) h };
+
     ghost mul_law = { λ a b r h. h };
+
     ghost cmp_law = { λ a b. refl };
 }
 
 impl WideNumber for i64 {
     ghost value = { λ x. x };
+
     ghost of_value = { λ x. x };
+
     ghost half = { 2 ^ 63 };
+
     ghost value_back = { λ a. refl };
 
     fn to_i128(self) -> i128 {
@@ -170,16 +216,23 @@ impl WideNumber for i64 {
     }
 
     ghost can_add_law = { λ a b h. within_fits_w64 (a +ℤ b) h };
+
     ghost add_law = { λ a b r h. h };
+
     ghost can_sub_law = { λ a b h. within_fits_w64 (a -ℤ b) h };
+
     ghost sub_law = { λ a b r h. h };
+
     ghost can_mul_law = { λ a b h. within_fits_w64 (a *ℤ b) h };
+
     ghost mul_law = { λ a b r h. h };
+
     ghost cmp_law = { λ a b. refl };
 }
 
 impl WideUnsigned for u32 {
     ghost value = { λ x. x };
+
     ghost limit = { 2 ^ 32 };
 
     fn to_u128(self) -> u128 {
@@ -195,6 +248,7 @@ impl WideUnsigned for u32 {
 
 impl WideUnsigned for u64 {
     ghost value = { λ x. x };
+
     ghost limit = { 2 ^ 64 };
 
     fn to_u128(self) -> u128 {
@@ -210,20 +264,31 @@ impl WideUnsigned for u64 {
 
 impl IntNumber for i16 {
     type Wide = i32;
+
     type WideUInt = u32;
 
     ghost value = { λ x. x };
+
     ghost of_value = { λ x. x };
+
     ghost value_back = { λ a. refl };
+
     ghost unit = { 2 ^ 14 };
+
     ghost BITS = { 16 };
+
     ghost ZERO = { pos 0 };
+
     ghost ONE = { pos 1 };
+
     ghost UNIT = { pos (2 ^ 14) };
 
     const BITS: u32 = 16;
+
     const ZERO: Self = 0;
+
     const ONE: Self = 1;
+
     const UNIT: Self = 1 << 14;
 
     fn to_wide(self) -> i32 {
@@ -235,32 +300,51 @@ impl IntNumber for i16 {
     }
 
     ghost value_unit = { refl };
+
     ghost value_zero = { refl };
+
     ghost value_one = { refl };
+
     ghost unit_law = { refl };
+
     ghost half_law = { refl };
+
     ghost limit_law = { refl };
+
     ghost most_law = { lit≤ tt };
+
     ghost least_law = { lit≤ tt };
+
     ghost cmp_law = { λ a b. refl };
 }
 
 impl IntNumber for i32 {
     type Wide = i64;
+
     type WideUInt = u64;
 
     ghost value = { λ x. x };
+
     ghost of_value = { λ x. x };
+
     ghost value_back = { λ a. refl };
+
     ghost unit = { 2 ^ 30 };
+
     ghost BITS = { 32 };
+
     ghost ZERO = { pos 0 };
+
     ghost ONE = { pos 1 };
+
     ghost UNIT = { pos (2 ^ 30) };
 
     const BITS: u32 = 32;
+
     const ZERO: Self = 0;
+
     const ONE: Self = 1;
+
     const UNIT: Self = 1 << 30;
 
     fn to_wide(self) -> i64 {
@@ -272,12 +356,20 @@ impl IntNumber for i32 {
     }
 
     ghost value_unit = { refl };
+
     ghost value_zero = { refl };
+
     ghost value_one = { refl };
+
     ghost unit_law = { refl };
+
     ghost half_law = { refl };
+
     ghost limit_law = { refl };
+
     ghost most_law = { lit≤ tt };
+
     ghost least_law = { lit≤ tt };
+
     ghost cmp_law = { λ a b. refl };
 }

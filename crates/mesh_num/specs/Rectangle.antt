@@ -1,0 +1,38 @@
+-- Bounds of points, given by their least and greatest corner, and the safe range of bounds widened by a padding.
+use Rattle.std.specs.Prelude.{ℕ, ◌≡◌, List, map, Option, Some, None, ℤ, pos, ◌+ℤ◌, ◌-ℤ◌, ◌≤ℤ◌}
+use Rattle.std.specs.List.{All, Contains}
+use Rattle.std.specs.Int.{int_min, int_max}
+use Rattle.mesh_num.specs.Bounds.{IsSafe}
+use Rattle.mesh_num.specs.Plane.{Point, Edge, plus, minus}
+
+-- the point lies in the closed rectangle of the two corners
+pub record IsInRectangle (corners : Edge) (p : Point) : Type 0 where
+  pub west : corners.0.0 ≤ℤ p.0
+  pub south : corners.0.1 ≤ℤ p.1
+  pub east : p.0 ≤ℤ corners.1.0
+  pub north : p.1 ≤ℤ corners.1.1
+
+-- the least closed rectangle that holds the points: it holds each, and each of its sides is a coordinate of one
+pub record IsBounds (corners : Edge) (points : List Point) : Type 0 where
+  pub inside : All (λ p. IsInRectangle corners p) points
+  pub west : Contains (map (λ p. p.0) points) corners.0.0
+  pub south : Contains (map (λ p. p.1) points) corners.0.1
+  pub east : Contains (map (λ p. p.0) points) corners.1.0
+  pub north : Contains (map (λ p. p.1) points) corners.1.1
+
+-- the rectangle that reaches out to one more point
+abbrev pub extended : Edge → Point → Edge
+extended corners p = ((int_min corners.0.0 p.0, int_min corners.0.1 p.1), (int_max corners.1.0 p.0, int_max corners.1.1 p.1))
+
+-- the bounds so far with one more point
+abbrev pub grown : Option Edge → Point → Edge
+grown None p = (p, p)
+grown (Some corners) p = extended corners p
+
+-- both corners are safe, so each side is
+abbrev pub IsSafeRectangle : ℕ → Edge → Type 0
+IsSafeRectangle unit corners = IsSafe unit corners.0 × IsSafe unit corners.1
+
+-- the point stays safe in each coordinate where it moves by at most the padding
+abbrev pub IsSafeWidened : ℕ → ℤ → Point → Type 0
+IsSafeWidened unit padding p = IsSafe unit (minus p (padding, padding)) × IsSafe unit (plus p (padding, padding))

@@ -1,0 +1,69 @@
+//! Steps between coordinate types and 128 bits, each with an exact clause.
+
+ghost use Rattle.std.specs.Prelude.{◌≡◌, ℕ, ◌*◌, ◌^◌, ◌≤◌, ◌↔◌, IsTrue, ◌<ℤ◌};
+ghost use Rattle.std.specs.Int.{int_min, int_max};
+ghost use Rattle.mesh_num.specs.Bounds.{IsWithin};
+
+use crate::num::number::{IntNumber, WideNumber};
+
+/// `UNIT` without a sign.
+pub(crate) fn unit<I: IntNumber>() -> u128
+    ensures value { result ≡ I.unit }
+    ensures most { result ≤ 2 ^ 30 }
+    ensures least { 2 ^ 14 ≤ result }
+{
+    widen(I::UNIT).unsigned_abs()
+}
+
+/// A coordinate in 128 bits.
+pub(crate) fn widen<I: IntNumber>(number: I) -> i128
+    ensures value { result ≡ I.value number }
+    ensures range { IsWithin (2 * I.unit) (I.value number) }
+{
+    let wide = number.to_wide();
+    wide.to_i128()
+}
+
+/// A number of 128 bits as a coordinate, which it has to fit.
+pub(crate) fn narrow<I: IntNumber>(number: i128) -> I
+    requires { IsWithin (2 * I.unit) number }
+    ensures { I.value result ≡ number }
+{
+    I::from_wide(I::Wide::from_i128(number))
+}
+
+/// Whether the first coordinate is below the second.
+pub fn is_less<I: IntNumber>(first: I, second: I) -> bool
+    ensures { IsTrue result ↔ I.value first <ℤ I.value second }
+{
+    first < second
+}
+
+/// Whether the first wide number is below the second.
+pub fn is_wide_less<I: IntNumber>(first: I::Wide, second: I::Wide) -> bool
+    ensures { IsTrue result ↔ I.Wide.value first <ℤ I.Wide.value second }
+{
+    first < second
+}
+
+/// The lesser of two coordinates.
+pub(crate) fn lesser<I: IntNumber>(first: I, second: I) -> I
+    ensures { I.value result ≡ int_min (I.value first) (I.value second) }
+{
+    if is_less(second, first) {
+        second
+    } else {
+        first
+    }
+}
+
+/// The greater of two coordinates.
+pub(crate) fn greater<I: IntNumber>(first: I, second: I) -> I
+    ensures { I.value result ≡ int_max (I.value first) (I.value second) }
+{
+    if is_less(first, second) {
+        second
+    } else {
+        first
+    }
+}

@@ -1,0 +1,128 @@
+//! Points of the grid and vectors between them.
+
+ghost use Rattle.std.specs.Prelude.{◌≡◌, ℕ, ◌+◌, ◌*◌, ℤ, ◌-ℤ◌, IfOk};
+ghost use Rattle.mesh_num.specs.Plane.{minus, cross, dot, length_sq};
+ghost use Rattle.mesh_num.specs.Bounds.{IsSafe};
+
+use crate::num::exact::square_sum;
+use crate::num::number::{IntNumber, WideNumber, WideUnsigned};
+use std::alloc::AllocError;
+use std::marker::Model;
+use std::ops::Sub;
+
+/// A point of the grid. Contracts see the pair of its coordinates. Points are ordered by `x`, then `y`.
+#[derive(Debug, Copy, PartialEq, Eq, PartialOrd, Ord, Hash)]
+pub struct IntPoint<I: IntNumber> {
+    pub x: I,
+    pub y: I,
+}
+
+impl<I: IntNumber> Model for IntPoint<I> {
+    ghost use Rattle.std.specs.Prelude.{ℤ};
+
+    ghost Value = { ℤ × ℤ };
+
+    ghost view = { λ p. (I.value p.x, I.value p.y) };
+
+    ghost inverse = { λ v. record { x = I.of_value v.0; y = I.of_value v.1 } };
+
+    ghost inverse_ok = { λ a h. λ i. record { x = I.value_back a.x i; y = I.value_back a.y i } };
+}
+
+impl<I: IntNumber> Clone for IntPoint<I> {
+    fn clone(&self) -> Result<Self, AllocError>
+        ensures { IfOk result (λ p. p ≡ self.now) }
+    {
+        Ok(*self)
+    }
+}
+
+impl<I: IntNumber> IntPoint<I> {
+    /// The point with these coordinates.
+    pub fn new(x: I, y: I) -> Self
+        ensures { result ≡ (I.value x, I.value y) }
+    {
+        IntPoint { x, y }
+    }
+}
+
+/// The vector from the second point to the first.
+impl<I: IntNumber> Sub<IntPoint<I>> for IntPoint<I> {
+    type Output = IntVector<I>;
+
+    ghost can_sub = { λ _ _. Unit {0} };
+
+    ghost sub_gives = { λ p q v. v ≡ minus p q };
+
+    fn sub(self, other: IntPoint<I>) -> IntVector<I> {
+        IntVector {
+            x: self.x.to_wide() - other.x.to_wide(),
+            y: self.y.to_wide() - other.y.to_wide(),
+        }
+    }
+}
+
+/// A vector with components of the wide type. Contracts see the pair of its components.
+#[derive(Debug, Drop)]
+pub struct IntVector<I: IntNumber> {
+    pub x: I::Wide,
+    pub y: I::Wide,
+}
+
+impl<I: IntNumber> Model for IntVector<I> {
+    ghost use Rattle.std.specs.Prelude.{ℤ};
+
+    ghost Value = { ℤ × ℤ };
+
+    ghost view = { λ v. (I.Wide.value v.x, I.Wide.value v.y) };
+
+    ghost inverse = { λ v. record { x = I.Wide.of_value v.0; y = I.Wide.of_value v.1 } };
+
+    ghost inverse_ok = { λ a h. λ i. record { x = I.Wide.value_back a.x i; y = I.Wide.value_back a.y i } };
+}
+
+impl<I: IntNumber> Clone for IntVector<I> {
+    fn clone(&self) -> Result<Self, AllocError>
+        ensures { IfOk result (λ v. v ≡ self.now) }
+    {
+        Ok(IntVector {
+            x: self.x,
+            y: self.y,
+        })
+    }
+}
+
+impl<I: IntNumber> IntVector<I> {
+    /// The vector with these components.
+    pub fn new(x: I::Wide, y: I::Wide) -> Self
+        ensures { result ≡ (I.Wide.value x, I.Wide.value y) }
+    {
+        IntVector { x, y }
+    }
+
+    /// `x * other.y - y * other.x`: above 0 where `other` lies to the left. Components are below `2 * UNIT` in size.
+    pub fn cross_product(&self, other: &Self) -> I::Wide
+        requires own { IsSafe (2 * I.unit) self.now }
+        requires other { IsSafe (2 * I.unit) other.now }
+        ensures { I.Wide.value result ≡ cross self.now other.now }
+    {
+        self.x * other.y - self.y * other.x
+    }
+
+    /// `x * other.x + y * other.y`. Components are below `2 * UNIT` in size.
+    pub fn dot_product(&self, other: &Self) -> I::Wide
+        requires own { IsSafe (2 * I.unit) self.now }
+        requires other { IsSafe (2 * I.unit) other.now }
+        ensures { I.Wide.value result ≡ dot self.now other.now }
+    {
+        self.x * other.x + self.y * other.y
+    }
+
+    /// The square of the length. Components are below `2 * UNIT` in size.
+    pub fn sqr_length(&self) -> I::WideUInt
+        requires { IsSafe (2 * I.unit) self.now }
+        ensures { I.WideUInt.value result ≡ length_sq self.now }
+    {
+        I::WideUInt::from_u128(square_sum(self.x.to_i128(), self.y.to_i128()))
+    }
+}

@@ -1,0 +1,4 @@
+//! Paths as sources of points, and signed segments.
+
+pub mod resource;
+pub mod segment;

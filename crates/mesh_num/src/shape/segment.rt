@@ -1,0 +1,102 @@
+//! Segments with a sign, each of which stands for one directed edge.
+
+ghost use Rattle.std.specs.Prelude.{◌≡◌, ◌≢◌, ℤ, List, OnOk, OnErr, IfOk, IsOk, ◌++◌};
+ghost use Rattle.mesh_num.specs.Segments.{edge_of, subject_of, segment_between, IsSubject};
+
+use crate::num::number::IntNumber;
+use crate::num::point::IntPoint;
+use std::alloc::AllocError;
+use std::marker::Model;
+
+/// Two ends, the smaller first. Contracts see the pair of both.
+#[derive(Debug, Copy)]
+pub struct XSegment<I: IntNumber> {
+    pub a: IntPoint<I>,
+    pub b: IntPoint<I>,
+}
+
+impl<I: IntNumber> Clone for XSegment<I> {
+    fn clone(&self) -> Result<Self, AllocError>
+        ensures { IfOk result (λ s. s ≡ self.now) }
+    {
+        Ok(*self)
+    }
+}
+
+impl<I: IntNumber> Model for XSegment<I> {
+    ghost use Rattle.std.specs.Prelude.{ℤ};
+
+    ghost Value = { (ℤ × ℤ) × (ℤ × ℤ) };
+
+    ghost view = { λ s. (s.a, s.b) };
+
+    ghost inverse = { λ v. record { a = v.0; b = v.1 } };
+}
+
+/// A segment that stands for the edge from its smaller end to its larger one (count 1) or back (count -1).
+/// Contracts see the pair of its ends, and its count.
+#[derive(Debug, Copy)]
+pub struct Segment<I: IntNumber> {
+    pub x_segment: XSegment<I>,
+    pub count: i32,
+}
+
+impl<I: IntNumber> Clone for Segment<I> {
+    fn clone(&self) -> Result<Self, AllocError>
+        ensures { IfOk result (λ s. s ≡ self.now) }
+    {
+        Ok(*self)
+    }
+}
+
+impl<I: IntNumber> Model for Segment<I> {
+    ghost use Rattle.std.specs.Prelude.{ℤ};
+
+    ghost Value = { ((ℤ × ℤ) × (ℤ × ℤ)) × ℤ };
+
+    ghost view = { λ s. (s.x_segment, s.count) };
+
+    ghost inverse = { λ v. record { x_segment = v.0; count = v.1 } };
+}
+
+impl<I: IntNumber> Segment<I> {
+    /// The segment of the edge from `p0` to `p1`, which differ: the smaller end first, with count 1 where `p0` is the smaller one, else -1.
+    pub fn subject(p0: IntPoint<I>, p1: IntPoint<I>) -> Self
+        requires { p0 ≢ p1 }
+        ensures value { result ≡ subject_of p0 p1 }
+        ensures edge { edge_of result ≡ (p0, p1) }
+        ensures form { IsSubject result }
+    {
+        if p0 < p1 {
+            Segment {
+                x_segment: XSegment { a: p0, b: p1 },
+                count: 1,
+            }
+        } else {
+            Segment {
+                x_segment: XSegment { a: p1, b: p0 },
+                count: -1,
+            }
+        }
+    }
+}
+
+/// Vectors of segments that edges are added to.
+pub trait SubjectSegments<P> {
+    /// Adds the segment of the edge from `a` to `b`, or nothing where they are one point, which takes no memory.
+    /// After a refusal the vector is unchanged.
+    fn push_non_degenerate(&mut self, a: P, b: P) -> Result<(), AllocError>;
+}
+
+impl<I: IntNumber> SubjectSegments<IntPoint<I>> for Vec<Segment<I>> {
+    fn push_non_degenerate(&mut self, a: IntPoint<I>, b: IntPoint<I>) -> Result<(), AllocError>
+        ensures ok { OnOk result (self.new.items ≡ self.old.items ++ segment_between a b) }
+        ensures err { OnErr result (self.new.items ≡ self.old.items) }
+        ensures same_ends { a ≡ b → IsOk result }
+    {
+        if a != b {
+            self.push(Segment::subject(a, b))?;
+        }
+        Ok(())
+    }
+}
