@@ -1,6 +1,6 @@
 -- Lemmas over points and lists: whether a point is kept depends on the directions to its two neighbours alone.
-use Rattle.std.proofs.Common.{◌≡◌, ◌⊎◌, inl, inr, refl, sym, ◌∙◌, ap, subst, arith, Bool, true, false, not, ◌||◌, ◌&&◌, [], ◌∷◌}
-use Rattle.std.specs.Prelude.{ℤ, pos, ◌+ℤ◌, ◌-ℤ◌, ◌*ℤ◌, ◌≤ℤ◌, neg_ℤ, int_lt}
+use Rattle.std.proofs.Common.{◌≡◌, ℕ, ◌*◌, ◌⊎◌, inl, inr, refl, sym, ◌∙◌, ap, subst, arith, Bool, true, false, not, ◌||◌, ◌&&◌, [], ◌∷◌}
+use Rattle.std.specs.Prelude.{ℤ, pos, ◌+ℤ◌, ◌-ℤ◌, ◌*ℤ◌, ◌≤ℤ◌, neg_ℤ, int_lt, IsTrue, ◌↔◌}
 use Rattle.std.specs.Ordering.{int_eq}
 use lib.Signed.{◌<ℤ◌}
 use lib.IntN.{*ℤ_comm, *ℤ-zero, zero-*ℤ}
@@ -8,6 +8,7 @@ use Rattle.std.proofs.lemmas.Int.{ints, by_lt_z}
 use Rattle.std.proofs.lemmas.Bool.{true≢false, false≢true, and_parts, or_parts, not-false, true_from_ne_false, false_from_ne_true, cases_Bool}
 use Rattle.std.proofs.lemmas.Bool.Decides.{same_from_decides, Decides-int_eq, Decides-like}
 use Rattle.mesh_num.specs.Plane.{Point, minus, cross, dot, turn}
+use Rattle.mesh_num.specs.Bounds.{IsSafe}
 use Rattle.mesh_num.specs.Winding.{same_point}
 use Rattle.mesh_num.proofs.Whole.{linear, mul_pos, square_pos, square_nonneg, mul_cancel, pos_of_mul, factor, mul_nonneg}
 use Rattle.mesh_num.proofs.Ring.{ring, var, lit, neg, ◌⊕◌, ◌⊖◌, ◌⊗◌, cross_of, dot_of}
@@ -245,3 +246,24 @@ pub is_kept-back : (a p : Point) → same_point p a ≡ false → is_kept a p a 
 is_kept-back a p n =
     true_from_ne_false (is_kept a p a) (λ e.
     absurd (omega (arith, linear, length_apart p a n, (is_kept-false a p a e).1)))
+
+-- ---- ranges
+
+pub minus_safe : (u : ℕ) (p q v : Point) → v ≡ minus p q → IsSafe u p → IsSafe u q → IsSafe (2 * u) v
+minus_safe u p q v e h k =
+    subst (IsSafe (2 * u)) (sym e)
+    (record {
+      x = record { low = omega (arith, linear, h.x.low, k.x.high); high = omega (arith, linear, h.x.high, k.x.low) };
+      y = record { low = omega (arith, linear, h.y.low, k.y.high); high = omega (arith, linear, h.y.high, k.y.low) };
+    })
+
+-- ---- the test as a program makes it, with a number `o` for 0
+
+pub is_kept-turn : (p0 p1 p2 : Point) → (cross (minus p1 p0) (minus p1 p2) ≡ pos 0 → ⊥) → true ≡ is_kept p0 p1 p2
+is_kept-turn p0 p1 p2 n = sym (true_from_ne_false (is_kept p0 p1 p2) (λ e. n (is_kept-false p0 p1 p2 e).0))
+
+pub is_kept-flat : (p0 p1 p2 : Point) (b : Bool) → cross (minus p1 p0) (minus p1 p2) ≡ pos 0 → (IsTrue b ↔ pos 0 <ℤ dot (minus p1 p0) (minus p1 p2)) → b ≡ is_kept p0 p1 p2
+is_kept-flat p0 p1 p2 true e h =
+    sym (true_from_ne_false (is_kept p0 p1 p2) (λ k. absurd (omega (arith, linear, h.0 refl, (is_kept-false p0 p1 p2 k).1))))
+is_kept-flat p0 p1 p2 false e h =
+    by_lt_z (pos 0) (dot (minus p1 p0) (minus p1 p2)) (λ k. absurd (false≢true (h.1 k))) (λ k. sym (is_kept-straight p0 p1 p2 e k))
