@@ -67,6 +67,7 @@ passed-own a y p (z ∷ zs) h = elim (cases_Bool (same_point p z)) [ inl e ↦ r
         ∙ ap (line a y p) (sym (changes_from-apart p z zs e))
 
 pub passed-open : (p q : Point) (zs : List Point) → passed p q zs ≡ open_sections (p ∷ q ∷ zs)
+unfolding open_sections
 passed-open p q [] = elim (cases_Bool (same_point p q)) [
   | inl e ↦ cond-true (same_point p q) [] ((p, q) ∷ []) e ∙ ap (λ ws. sections_between (p ∷ ws)) (sym (changes_from-same p q [] e))
   | inr e ↦ cond-false (same_point p q) [] ((p, q) ∷ []) e ∙ ap (λ ws. sections_between (p ∷ ws)) (sym (changes_from-apart p q [] e))

@@ -217,6 +217,7 @@ started-begun q p zs n = cases (kept_between q p (changes_from p zs)) refl
 
 -- the pass from the first of two points that differ gives the sections of the cleaned contour
 pub started-cleaned : (q p : Point) (zs : List Point) → same_point q p ≡ false → started q p zs ≡ cleaned_sections (q ∷ p ∷ zs)
+unfolding cleaned_sections
 started-cleaned q p zs n =
     started-begun q p zs n
     ∙ ap (λ ws. boundary (begun (kept_between q p (changes_from p zs)) (kept_round (q ∷ ws)))) (sym (without_end-cons q p (changes_from p zs) n))
@@ -224,4 +225,5 @@ started-cleaned q p zs n =
 
 -- repeats of the first point change nothing
 pub cleaned_sections-same : (q p : Point) (zs : List Point) → same_point q p ≡ true → cleaned_sections (q ∷ p ∷ zs) ≡ cleaned_sections (q ∷ zs)
+unfolding cleaned_sections
 cleaned_sections-same q p zs e = ap (λ ws. boundary (begun (kept_inside (q ∷ ws)) (kept_round (ring (q ∷ ws))))) (changes_from-same q p zs e)

@@ -58,6 +58,7 @@ module _ (f : Point → Point → ℤ) (straight : (p r s : Point) → turn p r 
   ]
 
   cleaned-along : (q : Point) (zs : List Point) → total f (cleaned_sections (q ∷ zs)) ≡ total f (along q (zs ++ q ∷ []))
+  unfolding cleaned_sections
   cleaned-along q [] = omega (arith, linear, flat-self q)
   cleaned-along q (z ∷ zs) = elim (cases_Bool (same_point q z)) [
     | inl e ↦ repeated e (cleaned-along q zs)
@@ -74,5 +75,6 @@ module _ (f : Point → Point → ℤ) (straight : (p r s : Point) → turn p r 
 
   -- the sum over the cleaned contour is that over the contour as it was
   pub cleaned-total : (points : List Point) → total f (cleaned_sections points) ≡ total f (boundary points)
+  unfolding cleaned_sections
   cleaned-total [] = refl
   cleaned-total (q ∷ zs) = cleaned-along q zs ∙ ap (total f) (along-route q zs q)

@@ -4,3 +4,4 @@ pub mod CleaningLoop
 pub mod CleaningStart
 pub mod CleaningSums
 pub mod CleaningTurns
+pub mod CleaningSteps

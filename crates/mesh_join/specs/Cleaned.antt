@@ -63,7 +63,7 @@ abbrev pub cleaned_points : List Point → List Point
 cleaned_points points = begun (kept_inside (without_repeats points)) (kept_round (ring (without_repeats points)))
 
 -- the edges of the cleaned contour
-abbrev pub cleaned_sections : List Point → List Edge
+unfoldable pub cleaned_sections : List Point → List Edge
 cleaned_sections points = boundary (cleaned_points points)
 
 -- the last point of the list `p`, `ps`
@@ -78,7 +78,7 @@ sections_between (p ∷ []) = []
 sections_between (p ∷ q ∷ ps) = route p (kept_between p q ps) (last_of q ps)
 
 -- the edges of an open list, cleaned as a closed one is
-abbrev pub open_sections : List Point → List Edge
+unfoldable pub open_sections : List Point → List Edge
 open_sections points = sections_between (without_repeats points)
 
 -- no point, or only equal ones
