@@ -53,9 +53,15 @@ impl<'a, I: IntNumber> UniqueSegmentsIter<'a, I> {
         ensures clean { IfSome result IsClean }
         ensures winding { (m : ℕ) (q : Point) → MatchOption result (winding m q (boundary points.now) ≡ pos 0) (λ s. winding m q s ≡ winding m q (boundary points.now)) }
     {
-        let (first, others) = points.split_first()?;
+        let Some((first, others)) = points.split_first() else {
+            return None;
+        };
         let first = *first;
-        let (mut to, mut rest) = first_other(first, others)?;
+        let Some(found) = first_other(first, others) else {
+            return None;
+        };
+        let mut to = found.0;
+        let mut rest = found.1;
         while let Some((next, others)) = rest.split_first() {
             if is_kept(first, to, *next) {
                 return Some(UniqueSegmentsIter {
