@@ -2,7 +2,7 @@
 use Rattle.std.proofs.Common.{◌≡◌, ℕ, ◌⊎◌, inl, inr, refl, sym, ◌∙◌, ap, subst, arith, Bool, true, false, cond, List, [], ◌∷◌, ◌++◌, length}
 use Rattle.std.specs.Prelude.{ℤ, pos}
 use Rattle.std.specs.List.{All}
-use Rattle.std.proofs.lemmas.Bool.{true≢false, false≢true, cases_Bool}
+use Rattle.std.proofs.lemmas.Bool.{true≢false, false≢true, cases_Bool, cond-true, cond-false}
 use Rattle.std.proofs.lemmas.List.Elements.{All-head, All-tail, All-cons, All-nil, All-rest, All-append}
 use Rattle.mesh_num.specs.Plane.{Point, Edge}
 use Rattle.mesh_num.specs.Winding.{same_point, boundary, winding, crossing_on}
@@ -48,6 +48,27 @@ open_kept all a b x zs ps e k h =
 pub open_on : (all : List Edge) (a b x : Point) (zs ps : List Point) → ps ≡ x ∷ zs → is_kept a b x ≡ false → all ≡ open_sections (a ∷ b ∷ ps) → all ≡ open_sections (a ∷ x ∷ zs)
 open_on all a b x zs ps e k h =
     h ∙ ap (λ ws. open_sections (a ∷ b ∷ ws)) e ∙ sym (passed-open a b (x ∷ zs)) ∙ passed-on a b x zs k ∙ passed-open a x zs
+
+-- ---- the end of the walk
+
+pub none_left : (a : Point) (ps : List Point) → ps ≡ [] → open_sections (a ∷ a ∷ ps) ≡ []
+none_left a ps e =
+    ap (λ ws. open_sections (a ∷ a ∷ ws)) e ∙ sym (passed-open a a []) ∙ cond-true (same_point a a) [] ((a, a) ∷ []) (same_point-self a)
+
+pub ended : (all : List Edge) (a b : Point) → all ≡ open_sections (a ∷ b ∷ []) → same_point a b ≡ true → all ≡ []
+ended all a b h e = h ∙ sym (passed-open a b []) ∙ cond-true (same_point a b) [] ((a, b) ∷ []) e
+
+pub ends : (all : List Edge) (a b : Point) (ps : List Point) → all ≡ open_sections (a ∷ b ∷ []) → same_point a b ≡ false → ps ≡ [] → all ≡ (a, b) ∷ open_sections (a ∷ a ∷ ps)
+ends all a b ps h e k =
+    h
+    ∙ sym (passed-open a b [])
+    ∙ cond-false (same_point a b) [] ((a, b) ∷ []) e
+    ∙ ap (λ (es : List Edge). (a, b) ∷ es) (sym (none_left a ps k))
+
+pub all_ended : (P : Point → Type 0) (a b : Point) (ps qs : List Point) → All P (a ∷ b ∷ ps) → qs ≡ [] → All P (a ∷ a ∷ qs)
+all_ended P a b ps qs h e =
+    let first : P a = All-head P a (b ∷ ps) h in
+    subst (λ ws. All P (a ∷ a ∷ ws)) (sym e) (All-cons P a (a ∷ []) first (All-cons P a [] first (All-nil P)))
 
 module _ (P : Point → Type 0) (a b : Point) (ps : List Point) (h : All P (a ∷ b ∷ ps)) where
   pub first_of_all : P a

@@ -99,19 +99,21 @@ impl<'a, I: IntNumber> Iterator for UniqueSegmentsIter<'a, I> {
     fn next(&mut self) -> Option<UniqueSegment<I>> {
         let from = self.from;
         let (to, after) = straight_on(from, self.to, &mut self.points);
+        let section = UniqueSegment { a: from, b: to };
         match after {
             Some(next) => {
                 self.from = to;
                 self.to = next;
+                Some(section)
             }
             None => {
                 self.to = from;
                 if is_same(from, to) {
                     return None;
                 }
+                Some(section)
             }
         }
-        Some(UniqueSegment { a: from, b: to })
     }
 }
 
