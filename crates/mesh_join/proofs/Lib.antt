@@ -1,0 +1,7 @@
+pub mod CleaningVectors
+pub mod CleaningPass
+pub mod CleaningLoop
+pub mod CleaningStart
+pub mod CleaningSums
+pub mod CleaningTurns
+pub mod CleaningSteps
