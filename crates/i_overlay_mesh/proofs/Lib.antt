@@ -1,6 +1,6 @@
+pub mod BuilderWalk
+pub mod Corners
 pub mod OutlineCount
 pub mod OutlineSum
-pub mod Sections
 pub mod OutlineWalk
-pub mod Corners
-pub mod BuilderWalk
+pub mod Sections
