@@ -93,10 +93,10 @@ continues unit offset p (e ∷ es) z fp fz fits closed =
 
 -- each segment of the walk is as `Segment::subject` gives it
 woven_subjects : (offset : ℤ) (p : Section) (xs : List Section) (z : Section) → All IsSubject (woven (step_segments offset) (corner_segments offset) p xs z)
-woven_subjects offset p [] z = segments_of-subjects (corner_edges (parts offset) bevel (p , z))
+woven_subjects offset p [] z = segments_of-subjects (corner_edges (parts offset) bevel (p, z))
 woven_subjects offset p (x ∷ xs) z =
     All-append IsSubject (step_segments offset p x) (woven (step_segments offset) (corner_segments offset) x xs z)
-    (All-append IsSubject (corner_segments offset (p , x)) (top_segments x) (segments_of-subjects (corner_edges (parts offset) bevel (p , x))) (segment_between-subjects x.a_top x.b_top))
+    (All-append IsSubject (corner_segments offset (p, x)) (top_segments x) (segments_of-subjects (corner_edges (parts offset) bevel (p, x))) (segment_between-subjects x.a_top x.b_top))
     (woven_subjects offset x xs z)
 
 walk_subjects : (unit : ℕ) (offset : ℤ) (e : Edge) (es : List Edge) → All IsSubject (walk_segments unit offset (e ∷ es))
@@ -109,12 +109,12 @@ pub walk_adds : (unit : ℕ) (offset : ℤ) (contour : List Edge) (e : Edge) (es
     contour ≡ e ∷ es → new ≡ old ++ walk_segments unit offset contour → Adds old new (outline_edges unit offset bevel contour)
 walk_adds unit offset contour e es old new c h =
     rw c
-    (walk_segments unit offset (e ∷ es) , rw c at h , walk_permutes unit offset e es , walk_subjects unit offset e es)
+    (walk_segments unit offset (e ∷ es), rw c at h, walk_permutes unit offset e es, walk_subjects unit offset e es)
 
 -- no section adds nothing
 pub none_adds : (unit : ℕ) (offset : ℤ) (contour : List Edge) (old : List SignedEdge) → contour ≡ [] → Adds old old (outline_edges unit offset bevel contour)
 unfolding drawn_edges
-none_adds unit offset contour old c = rw c ([] , sym (append-nil old) , IsPermutation-refl [] , All-nil IsSubject)
+none_adds unit offset contour old c = rw c ([], sym (append-nil old), IsPermutation-refl [], All-nil IsSubject)
 
 fit_edges : (unit : ℕ) (offset : ℤ) (es : List Edge) → All (λ (e : Edge). e.0 ≢ e.1) es → All (λ (e : Edge). IsMovable unit offset e.0 × IsMovable unit offset e.1) es → All (IsFit unit offset) es
 fit_edges unit offset es proper ends = λ k d h. record { differ = proper k d h; safe_a = (ends k d h).0; safe_b = (ends k d h).1 }
@@ -154,7 +154,7 @@ keeps_added old new added h = rw h (take_at old added (length old) refl)
 -- after the last corner
 pub walk_ends : (unit : ℕ) (offset : ℤ) (contour : List Edge) (e : Edge) (es left : List Edge) (p first : Section) (old now new : List SignedEdge) →
     contour ≡ e ∷ es → left ≡ [] → now ++ to_come unit offset p left first ≡ old ++ walk_segments unit offset contour →
-    new ≡ now ++ corner_segments offset (p , first) → Adds old new (outline_edges unit offset bevel contour)
+    new ≡ now ++ corner_segments offset (p, first) → Adds old new (outline_edges unit offset bevel contour)
 walk_ends unit offset contour e es left p first old now new c none todo h =
     walk_adds unit offset contour e es old new c (h ∙ rw none at todo)
 

@@ -4,3 +4,4 @@ pub mod OutlineCount
 pub mod OutlineSum
 pub mod OutlineWalk
 pub mod Sections
+pub mod BuilderTheorems

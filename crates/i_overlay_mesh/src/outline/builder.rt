@@ -27,65 +27,65 @@ impl<I: IntNumber> OutlineBuilder<I> {
     {
         OutlineBuilder { offset, join }
     }
+}
 
-    fn feed_join(
-        &mut self,
-        previous: &OffsetSection<I>,
-        next: &OffsetSection<I>,
-        segments: &mut Vec<Segment<I>>,
-    ) -> Result<(), AllocError>
-        requires { IsCorner I.unit (I.value self.old.offset) (previous.now, next.now) }
-        ensures ok { OnOk result (segments.new.items ≡ segments.old.items ++ corner_segments (I.value self.old.offset) (previous.now, next.now)) }
-        ensures kept { Keeps segments.old.items segments.new.items }
-        ensures offset { self.new.offset ≡ self.old.offset }
-    {
-        if is_outer(self.offset, previous, next) {
-            return self.join.add_join(self.offset, previous, next, segments);
-        }
-        segments.push_non_degenerate(previous.b_top, previous.b)?;
-        segments.push_non_degenerate(next.a, next.a_top)
+fn feed_join<I: IntNumber>(
+    join: &mut Join<I>,
+    offset: I,
+    previous: &OffsetSection<I>,
+    next: &OffsetSection<I>,
+    segments: &mut Vec<Segment<I>>,
+) -> Result<(), AllocError>
+    requires { IsCorner I.unit (I.value offset) (previous.now, next.now) }
+    ensures ok { OnOk result (segments.new.items ≡ segments.old.items ++ corner_segments (I.value offset) (previous.now, next.now)) }
+    ensures kept { Keeps segments.old.items segments.new.items }
+{
+    if is_outer(offset, previous, next) {
+        return join.add_join(offset, previous, next, segments);
     }
+    segments.push_non_degenerate(previous.b_top, previous.b)?;
+    segments.push_non_degenerate(next.a, next.a_top)
+}
 
-    fn feed_section(
-        &mut self,
-        previous: &OffsetSection<I>,
-        next: &OffsetSection<I>,
-        segments: &mut Vec<Segment<I>>,
-    ) -> Result<(), AllocError>
-        requires { IsCorner I.unit (I.value self.old.offset) (previous.now, next.now) }
-        ensures ok { OnOk result (segments.new.items ≡ segments.old.items ++ (corner_segments (I.value self.old.offset) (previous.now, next.now) ++ top_segments next.now)) }
-        ensures kept { Keeps segments.old.items segments.new.items }
-        ensures offset { self.new.offset ≡ self.old.offset }
-    {
-        self.feed_join(previous, next, segments)?;
-        segments.push_non_degenerate(next.a_top, next.b_top)
-    }
+fn feed_section<I: IntNumber>(
+    join: &mut Join<I>,
+    offset: I,
+    previous: &OffsetSection<I>,
+    next: &OffsetSection<I>,
+    segments: &mut Vec<Segment<I>>,
+) -> Result<(), AllocError>
+    requires { IsCorner I.unit (I.value offset) (previous.now, next.now) }
+    ensures ok { OnOk result (segments.new.items ≡ segments.old.items ++ (corner_segments (I.value offset) (previous.now, next.now) ++ top_segments next.now)) }
+    ensures kept { Keeps segments.old.items segments.new.items }
+{
+    feed_join(join, offset, previous, next, segments)?;
+    segments.push_non_degenerate(next.a_top, next.b_top)
+}
 
-    fn draw(
-        &mut self,
-        path: &[IntPoint<I>],
-        segments: &mut Vec<Segment<I>>,
-    ) -> Result<(), AllocError>
-        requires { All (IsMovable I.unit (I.value self.old.offset)) path.now }
-        ensures ok { OnOk result (Adds segments.old.items segments.new.items (outline_edges I.unit (I.value self.old.offset) bevel (cleaned_sections path.now))) }
-        ensures kept { Keeps segments.old.items segments.new.items }
-        ensures nothing { AllEqual path.now → IsOk result }
-        ensures offset { self.new.offset ≡ self.old.offset }
-    {
-        let Some(mut sections) = UniqueSegmentsIter::new(path) else {
-            return Ok(());
-        };
-        let Some(first) = sections.next() else {
-            return Ok(());
-        };
-        let first = OffsetSection::new(first.a, first.b, self.offset);
-        segments.push_non_degenerate(first.a_top, first.b_top)?;
-        let mut previous = first;
-        for segment in sections {
-            let next = OffsetSection::new(segment.a, segment.b, self.offset);
-            self.feed_section(&previous, &next, segments)?;
-            previous = next;
-        }
-        self.feed_join(&previous, &first, segments)
+fn draw<I: IntNumber>(
+    join: &mut Join<I>,
+    offset: I,
+    path: &[IntPoint<I>],
+    segments: &mut Vec<Segment<I>>,
+) -> Result<(), AllocError>
+    requires { All (IsMovable I.unit (I.value offset)) path.now }
+    ensures ok { OnOk result (Adds segments.old.items segments.new.items (outline_edges I.unit (I.value offset) bevel (cleaned_sections path.now))) }
+    ensures kept { Keeps segments.old.items segments.new.items }
+    ensures nothing { AllEqual path.now → IsOk result }
+{
+    let Some(mut sections) = UniqueSegmentsIter::new(path) else {
+        return Ok(());
+    };
+    let Some(first) = sections.next() else {
+        return Ok(());
+    };
+    let first = OffsetSection::new(first.a, first.b, offset);
+    segments.push_non_degenerate(first.a_top, first.b_top)?;
+    let mut previous = first;
+    for segment in sections {
+        let next = OffsetSection::new(segment.a, segment.b, offset);
+        feed_section(join, offset, &previous, &next, segments)?;
+        previous = next;
     }
+    feed_join(join, offset, &previous, &first, segments)
 }
