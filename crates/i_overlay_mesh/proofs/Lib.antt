@@ -3,3 +3,4 @@ pub mod OutlineSum
 pub mod Sections
 pub mod OutlineWalk
 pub mod Corners
+pub mod PaddedBounds
