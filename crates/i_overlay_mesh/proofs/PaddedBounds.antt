@@ -1,5 +1,5 @@
 -- Lemmas over points and lists: bounds moved outwards are safe where each point is.
-use Rattle.std.proofs.Common.{◌≡◌, ℕ, ◌+◌, ◌*◌, ◌<◌, ◌≤◌, Bool, true, false, List, [], ◌∷◌, ◌++◌, map, length, get_or, take, refl, sym, subst, arith, ◌&&◌}
+use Rattle.std.proofs.Common.{◌≡◌, ℕ, ◌+◌, ◌*◌, ◌<◌, ◌≤◌, Bool, true, false, List, [], ◌∷◌, ◌++◌, map, length, get_or, take, refl, sym, subst, arith, ◌&&◌, take_all}
 use Rattle.std.specs.Prelude.{ℤ, pos, ◌+ℤ◌, ◌-ℤ◌, ◌≤ℤ◌, ◌<ℤ◌, ◌↔◌, IsTrue}
 use Rattle.std.specs.List.{All, Contains, flat_map}
 use Rattle.std.proofs.lemmas.Bool.{true≢false}
@@ -109,3 +109,7 @@ corners_tested unit padding corners x y z w low high both b ex ey ez ew l h =
         IsTrue (l && h) ↔ IsSafeRectangle unit (widened padding corners)
     by true h p q = (λ t. (p.0 refl, q.0 t), λ s. q.1 s.1)
     by false h p q = (λ t. absurd (true≢false (sym t)), λ s. p.1 s.0)
+
+-- after the last path all are safe
+pub all_paths_safe : (unit : ℕ) (padding : ℤ) (paths : List (List Point)) (i : ℕ) → length paths ≤ i → ArePathsSafe unit padding (take i paths) → ArePathsSafe unit padding paths
+all_paths_safe unit padding paths i h safe = subst (λ (ps : List (List Point)). ArePathsSafe unit padding ps) (take_all i paths h) safe
