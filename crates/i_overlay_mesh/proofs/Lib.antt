@@ -3,4 +3,5 @@ pub mod OutlineSum
 pub mod Sections
 pub mod OutlineWalk
 pub mod Corners
-pub mod PaddedBounds
+pub mod PaddingBounds
+pub mod Padding

@@ -2,7 +2,7 @@
 use Rattle.std.proofs.Common.{◌≡◌, ◌^◌, ◌≤◌, ◌∙◌, ap, sym, arith}
 use Rattle.std.specs.Prelude.{ℤ, Bool, pos, ◌-ℤ◌, ◌+ℤ◌, ◌<ℤ◌, ◌&&◌}
 use Rattle.std.proofs.lemmas.Int.{ints}
-use Rattle.i_overlay_mesh.proofs.PaddedBounds.{side_fits, corners_tested}
+use Rattle.i_overlay_mesh.proofs.PaddingBounds.{side_fits, corners_tested}
 use Rattle.i_overlay_mesh.proofs.outline.bounds.is_safe_widened.Goals as goal
 
 pub add-requires : goal.add-requires

@@ -1,6 +1,6 @@
 -- Each path so far is safe, and at the end each path.
 use Rattle.std.proofs.Common.{◌≤◌, length, arith, refl}
-use Rattle.i_overlay_mesh.proofs.PaddedBounds.{paths_safe_more, all_paths_safe}
+use Rattle.i_overlay_mesh.proofs.PaddingBounds.{paths_safe_more, all_paths_safe}
 use Rattle.i_overlay_mesh.proofs.outline.bounds.validate_outline_bounds.Goals as goal
 
 pub loop-index-preserved : goal.loop-index-preserved

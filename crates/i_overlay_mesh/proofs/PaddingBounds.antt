@@ -3,14 +3,14 @@ use Rattle.std.proofs.Common.{◌≡◌, ℕ, ◌+◌, ◌*◌, ◌<◌, ◌≤�
 use Rattle.std.specs.Prelude.{ℤ, pos, ◌+ℤ◌, ◌-ℤ◌, ◌≤ℤ◌, ◌<ℤ◌, ◌↔◌, IsTrue}
 use Rattle.std.specs.List.{All, Contains, flat_map}
 use Rattle.std.proofs.lemmas.Bool.{true≢false}
-use Rattle.std.proofs.lemmas.Int.{ints}
+use Rattle.std.proofs.lemmas.Int.{ints, clamps}
 use Rattle.std.proofs.lemmas.List.Elements.{All-nil, All-cons, All-head, All-tail, All-map, All-append, All-weaker, All-contains, All-get_or, All-more}
 use Rattle.std.proofs.Math.Nat.{mul-le-mul_right}
 use Rattle.mesh_num.proofs.ClosedLists.{all_flat_map}
 use Rattle.mesh_num.specs.Bounds.{IsSafe, IsSmall, IsWithin}
 use Rattle.mesh_num.specs.Plane.{Point, Edge, plus, minus}
 use Rattle.mesh_num.specs.Rectangle.{IsInRectangle, IsBounds, IsSafeRectangle, IsSafeWidened}
-use Rattle.i_overlay_mesh.specs.Padding.{ArePathsSafe, all_points, widened}
+use Rattle.i_overlay_mesh.specs.Padding.{outline_padding, ArePathsSafe, all_points, widened}
 
 -- the west side is no farther east than the east side
 pub bounds_ordered : (corners : Edge) (points : List Point) → IsBounds corners points → corners.0.0 ≤ℤ corners.1.0
@@ -113,3 +113,20 @@ corners_tested unit padding corners x y z w low high both b ex ey ez ew l h =
 -- after the last path all are safe
 pub all_paths_safe : (unit : ℕ) (padding : ℤ) (paths : List (List Point)) (i : ℕ) → length paths ≤ i → ArePathsSafe unit padding (take i paths) → ArePathsSafe unit padding paths
 all_paths_safe unit padding paths i h safe = subst (λ (ps : List (List Point)). ArePathsSafe unit padding ps) (take_all i paths h) safe
+
+pub padding_nonneg : (outer inner : ℤ) → pos 0 ≤ℤ outline_padding outer inner
+padding_nonneg outer inner = omega (arith, ints, clamps)
+
+-- what tells that all paths are safe tells that the bounds of all points are, moved outwards
+pub accepted_by_bounds : (unit : ℕ) (padding : ℤ) (paths : List (List Point)) (P : Type 0) → pos 0 ≤ℤ padding → P ↔ ArePathsSafe unit padding paths →
+    (bounds : Edge) → IsBounds bounds (all_points paths) → P ↔ IsSafeRectangle unit (widened padding bounds)
+accepted_by_bounds unit padding paths P least t bounds h =
+    let p : ArePathsSafe unit padding paths ↔ All (λ (p : Point). IsSafeWidened unit padding p) (all_points paths) = paths_safe unit padding paths in
+    let w : IsSafeRectangle unit (widened padding bounds) ↔ All (λ (p : Point). IsSafeWidened unit padding p) (all_points paths) = widened_bounds_safe unit padding bounds (all_points paths) least h in
+    (λ a. w.1 (p.0 (t.0 a)), λ s. t.1 (p.1 (w.0 s)))
+
+-- where there is no point all paths are safe
+pub accepted_without_points : (unit : ℕ) (padding : ℤ) (paths : List (List Point)) (P : Type 0) → P ↔ ArePathsSafe unit padding paths → all_points paths ≡ [] → P
+accepted_without_points unit padding paths P t none =
+    let p : ArePathsSafe unit padding paths ↔ All (λ (p : Point). IsSafeWidened unit padding p) (all_points paths) = paths_safe unit padding paths in
+    t.1 (p.1 (rw none (All-nil (λ (p : Point). IsSafeWidened unit padding p))))
