@@ -1,21 +1,21 @@
 -- Lemmas over points and lists: how far an outline reaches from its contour.
-use Rattle.std.proofs.Common.{◌≡◌, ◌≢◌, ℕ, ◌<◌, ◌≤◌, Bool, true, false, cond, not, List, [], ◌∷◌, ◌++◌, map, refl, subst, arith}
-use Rattle.std.specs.Prelude.{ℤ, pos, ◌+ℤ◌, ◌-ℤ◌, ◌≤ℤ◌, unsigned_abs}
+use Rattle.std.proofs.Common.{◌≢◌, ℕ, ◌<◌, ◌≤◌, Bool, true, false, cond, not, List, [], ◌∷◌, ◌++◌, map, arith}
+use Rattle.std.specs.Prelude.{ℤ, pos, ◌≤ℤ◌, unsigned_abs}
 use Rattle.std.specs.List.{All, Contains, flat_map}
 use Rattle.std.proofs.lemmas.Int.{ints, clamps}
 use Rattle.std.proofs.lemmas.List.Elements.{All-nil, All-cons, All-head, All-tail, All-map, All-append, All-filter, All-weaker, All-contains}
-use Rattle.mesh_num.specs.Bounds.{IsSafe, IsSmall}
+use Rattle.mesh_num.specs.Bounds.{IsSafe}
 use Rattle.mesh_num.specs.Plane.{Point, Edge, plus, minus, right_quarter}
 use Rattle.mesh_num.specs.Direction.{IsDirection, scaled_direction}
 use Rattle.mesh_num.specs.Directed.{direction_of}
-use Rattle.mesh_num.specs.Rectangle.{IsInRectangle, IsSafeWidened}
+use Rattle.mesh_num.specs.Rectangle.{IsSafeWidened}
 use Rattle.mesh_num.specs.Winding.{route, boundary, same_point}
 use Rattle.mesh_num.proofs.ClosedLists.{boundary_all, all_both, all_flat_map}
 use Rattle.mesh_num.proofs.Directed.{direction_of_is}
 use Rattle.mesh_num.proofs.Parts.{direction_short}
 use Rattle.mesh_num.proofs.Scaling.{scaled_direction_bounded}
 use Rattle.mesh_join.specs.Joins.{bevel_padding}
-use Rattle.i_overlay_mesh.specs.Outline.{Section, Corner, top_edge, sideways, section_of, join_edges, corner_edges, drawn_edges, parts, outline_edges, bevel}
+use Rattle.i_overlay_mesh.specs.Outline.{Section, Corner, top_edge, section_of, corner_edges, drawn_edges, parts, outline_edges, bevel}
 use Rattle.i_overlay_mesh.specs.Padding.{outline_padding, IsWithinPadding, IsNear}
 use Rattle.i_overlay_mesh.proofs.OutlineCount.{apart_long}
 
@@ -30,13 +30,16 @@ inner_covered outer inner = omega (arith, ints, clamps)
 
 -- what is safe within a padding is so within a smaller one
 pub safe_within_less : (unit : ℕ) (padding less : ℤ) (p : Point) → pos 0 ≤ℤ less → less ≤ℤ padding → IsSafeWidened unit padding p → IsSafeWidened unit less p
-safe_within_less unit padding less p least h s = (record {
-  x = record { low = omega (arith, ints, s.0.x.low); high = omega (arith, ints, s.1.x.high) };
-  y = record { low = omega (arith, ints, s.0.y.low); high = omega (arith, ints, s.1.y.high) };
-}, record {
-  x = record { low = omega (arith, ints, s.0.x.low); high = omega (arith, ints, s.1.x.high) };
-  y = record { low = omega (arith, ints, s.0.y.low); high = omega (arith, ints, s.1.y.high) };
-})
+safe_within_less unit padding less p least h s = (
+  record {
+    x = record { low = omega (arith, ints, s.0.x.low); high = omega (arith, ints, s.1.x.high) };
+    y = record { low = omega (arith, ints, s.0.y.low); high = omega (arith, ints, s.1.y.high) };
+  },
+  record {
+    x = record { low = omega (arith, ints, s.0.x.low); high = omega (arith, ints, s.1.x.high) };
+    y = record { low = omega (arith, ints, s.0.y.low); high = omega (arith, ints, s.1.y.high) };
+  },
+)
 
 -- a point within the padding of one that stays safe is safe
 pub within_safe : (unit : ℕ) (padding : ℤ) (v p : Point) → IsSafeWidened unit padding v → IsWithinPadding padding v p → IsSafe unit p
@@ -115,12 +118,11 @@ section_near unit offset padding vertices e some h apart first last =
     let b : (unsigned_abs (scaled_direction unit offset n).0 ≤ unsigned_abs offset) × (unsigned_abs (scaled_direction unit offset n).1 ≤ unsigned_abs offset) = scaled_direction_bounded unit offset n some (direction_short d) in
     let s = scaled_direction unit offset n in
     let x : pos (unsigned_abs s.0) ≤ℤ padding = within_radius (unsigned_abs s.0) b.0 in
-    let y : pos (unsigned_abs s.1) ≤ℤ padding = within_radius (unsigned_abs s.1) b.1 in
-    (
+    let y : pos (unsigned_abs s.1) ≤ℤ padding = within_radius (unsigned_abs s.1) b.1 in (
       vertex_near padding vertices e.0 (within_radius 0 (omega arith)) first,
       vertex_near padding vertices e.1 (within_radius 0 (omega arith)) last,
       beside_near padding vertices e.0 s x y first,
-      beside_near padding vertices e.1 s x y last
+      beside_near padding vertices e.1 s x y last,
     )
   where
     within_radius : (n : ℕ) → n ≤ unsigned_abs offset → pos n ≤ℤ padding

@@ -1,10 +1,10 @@
 -- Lemmas over points and lists: bounds moved outwards are safe where each point is.
 use Rattle.std.proofs.Common.{◌≡◌, ℕ, ◌+◌, ◌*◌, ◌<◌, ◌≤◌, Bool, true, false, List, [], ◌∷◌, ◌++◌, map, length, get_or, take, refl, sym, subst, arith, ◌&&◌, take_all}
 use Rattle.std.specs.Prelude.{ℤ, pos, ◌+ℤ◌, ◌-ℤ◌, ◌≤ℤ◌, ◌<ℤ◌, ◌↔◌, IsTrue}
-use Rattle.std.specs.List.{All, Contains, flat_map}
+use Rattle.std.specs.List.{All, Contains}
 use Rattle.std.proofs.lemmas.Bool.{true≢false}
 use Rattle.std.proofs.lemmas.Int.{ints, clamps}
-use Rattle.std.proofs.lemmas.List.Elements.{All-nil, All-cons, All-head, All-tail, All-map, All-append, All-weaker, All-contains, All-get_or, All-more}
+use Rattle.std.proofs.lemmas.List.Elements.{All-nil, All-cons, All-head, All-tail, All-map, All-weaker, All-contains, All-more}
 use Rattle.std.proofs.Math.Nat.{mul-le-mul_right}
 use Rattle.mesh_num.proofs.ClosedLists.{all_flat_map}
 use Rattle.mesh_num.specs.Bounds.{IsSafe, IsSmall, IsWithin}
@@ -24,13 +24,16 @@ of_side : (f : Point → ℤ) (P : ℤ → Type 0) (points : List Point) (side :
 of_side f P points side all found = All-contains P (map f points) side (All-map P f points all) found
 
 inside_safe : (unit : ℕ) (padding : ℤ) (corners : Edge) (p : Point) → pos 0 ≤ℤ padding → IsSafeRectangle unit (widened padding corners) → IsInRectangle corners p → IsSafeWidened unit padding p
-inside_safe unit padding corners p least s i = (record {
-  x = record { low = omega (arith, ints, s.0.x.low, i.west); high = omega (arith, ints, s.1.x.high, i.east) };
-  y = record { low = omega (arith, ints, s.0.y.low, i.south); high = omega (arith, ints, s.1.y.high, i.north) };
-}, record {
-  x = record { low = omega (arith, ints, s.0.x.low, i.west); high = omega (arith, ints, s.1.x.high, i.east) };
-  y = record { low = omega (arith, ints, s.0.y.low, i.south); high = omega (arith, ints, s.1.y.high, i.north) };
-})
+inside_safe unit padding corners p least s i = (
+  record {
+    x = record { low = omega (arith, ints, s.0.x.low, i.west); high = omega (arith, ints, s.1.x.high, i.east) };
+    y = record { low = omega (arith, ints, s.0.y.low, i.south); high = omega (arith, ints, s.1.y.high, i.north) };
+  },
+  record {
+    x = record { low = omega (arith, ints, s.0.x.low, i.west); high = omega (arith, ints, s.1.x.high, i.east) };
+    y = record { low = omega (arith, ints, s.0.y.low, i.south); high = omega (arith, ints, s.1.y.high, i.north) };
+  },
+)
 
 -- bounds moved outwards are safe exactly where each point stays safe
 pub widened_bounds_safe : (unit : ℕ) (padding : ℤ) (corners : Edge) (points : List Point) → pos 0 ≤ℤ padding → IsBounds corners points →
@@ -43,8 +46,7 @@ widened_bounds_safe unit padding corners points least h = (λ s. there s, λ all
     back : All (λ (p : Point). IsSafeWidened unit padding p) points → IsSafeRectangle unit (widened padding corners)
     back all =
         let low : All (λ (p : Point). IsSafe unit (minus p (padding, padding))) points = All-weaker (λ (p : Point). IsSafeWidened unit padding p) (λ (p : Point). IsSafe unit (minus p (padding, padding))) (λ p w. w.0) points all in
-        let high : All (λ (p : Point). IsSafe unit (plus p (padding, padding))) points = All-weaker (λ (p : Point). IsSafeWidened unit padding p) (λ (p : Point). IsSafe unit (plus p (padding, padding))) (λ p w. w.1) points all in
-        (
+        let high : All (λ (p : Point). IsSafe unit (plus p (padding, padding))) points = All-weaker (λ (p : Point). IsSafeWidened unit padding p) (λ (p : Point). IsSafe unit (plus p (padding, padding))) (λ p w. w.1) points all in (
           record {
             x = of_side (λ (p : Point). p.0) (λ (x : ℤ). IsSmall unit (x -ℤ padding)) points corners.0.0 (All-weaker (λ (p : Point). IsSafe unit (minus p (padding, padding))) (λ (p : Point). IsSmall unit (p.0 -ℤ padding)) (λ p s. s.x) points low) h.west;
             y = of_side (λ (p : Point). p.1) (λ (y : ℤ). IsSmall unit (y -ℤ padding)) points corners.0.1 (All-weaker (λ (p : Point). IsSafe unit (minus p (padding, padding))) (λ (p : Point). IsSmall unit (p.1 -ℤ padding)) (λ p s. s.y) points low) h.south;
@@ -52,7 +54,7 @@ widened_bounds_safe unit padding corners points least h = (λ s. there s, λ all
           record {
             x = of_side (λ (p : Point). p.0) (λ (x : ℤ). IsSmall unit (x +ℤ padding)) points corners.1.0 (All-weaker (λ (p : Point). IsSafe unit (plus p (padding, padding))) (λ (p : Point). IsSmall unit (p.0 +ℤ padding)) (λ p s. s.x) points high) h.east;
             y = of_side (λ (p : Point). p.1) (λ (y : ℤ). IsSmall unit (y +ℤ padding)) points corners.1.1 (All-weaker (λ (p : Point). IsSafe unit (plus p (padding, padding))) (λ (p : Point). IsSmall unit (p.1 +ℤ padding)) (λ p s. s.y) points high) h.north;
-          }
+          },
         )
 
 -- a test of the bounds of a path is one of its points
@@ -60,7 +62,7 @@ pub path_tested : (unit : ℕ) (padding : ℤ) (corners : Edge) (points path : L
     IsTrue b ↔ IsSafeRectangle unit (widened padding corners) → IsTrue b ↔ All (λ (p : Point). IsSafeWidened unit padding p) path
 path_tested unit padding corners points path b least h e t =
     let w : IsSafeRectangle unit (widened padding corners) ↔ All (λ (p : Point). IsSafeWidened unit padding p) path =
-      rw (← e) (widened_bounds_safe unit padding corners points least h) in
+    rw (← e) (widened_bounds_safe unit padding corners points least h) in
     (λ i. w.0 (t.0 i), λ a. t.1 (w.1 a))
 
 -- what holds of each element of a joined list holds of those of its parts
@@ -82,7 +84,6 @@ paths_safe unit padding paths = (λ h. all_flat_map P (λ (path : List Point). p
     back : (ps : List (List Point)) → All P (all_points ps) → ArePathsSafe unit padding ps
     back [] h = All-nil (λ (path : List Point). All P path)
     back (path ∷ ps) h = All-cons (λ (l : List Point). All P l) path ps (all_left P path (all_points ps) h) (back ps (all_right P path (all_points ps) h))
-
 
 -- one more safe path
 pub paths_safe_more : (unit : ℕ) (padding : ℤ) (paths : List (List Point)) (i : ℕ) → i < length paths → ArePathsSafe unit padding (take i paths) →

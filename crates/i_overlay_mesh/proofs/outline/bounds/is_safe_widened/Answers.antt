@@ -1,7 +1,6 @@
 -- The sides that are moved fit the wide type, and both corners are tested.
-use Rattle.std.proofs.Common.{◌≡◌, ◌^◌, ◌≤◌, ◌∙◌, ap, sym, arith}
-use Rattle.std.specs.Prelude.{ℤ, Bool, pos, ◌-ℤ◌, ◌+ℤ◌, ◌<ℤ◌, ◌&&◌}
-use Rattle.std.proofs.lemmas.Int.{ints}
+use Rattle.std.proofs.Common.{◌^◌, ◌≤◌, ◌∙◌, ap, sym, arith}
+use Rattle.std.specs.Prelude.{Bool, pos, ◌<ℤ◌, ◌&&◌}
 use Rattle.i_overlay_mesh.proofs.PaddingBounds.{side_fits, corners_tested}
 use Rattle.i_overlay_mesh.proofs.outline.bounds.is_safe_widened.Goals as goal
 
