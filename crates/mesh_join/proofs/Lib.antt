@@ -5,3 +5,4 @@ pub mod CleaningStart
 pub mod CleaningSums
 pub mod CleaningTurns
 pub mod CleaningSteps
+pub mod CleaningPoints

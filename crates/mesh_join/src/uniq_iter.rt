@@ -206,6 +206,8 @@ fn is_kept<I: IntNumber>(p0: IntPoint<I>, p1: IntPoint<I>, p2: IntPoint<I>) -> b
     let on = p1 - p2;
     let zero = I::ZERO.to_wide();
     let cross = back.cross_product(&on);
-    let dot = back.dot_product(&on);
-    is_wide_less::<I>(cross, zero) || is_wide_less::<I>(zero, cross) || is_wide_less::<I>(zero, dot)
+    is_wide_less::<I>(cross, zero) || is_wide_less::<I>(zero, cross) || is_wide_less::<I>(zero, back.dot_product(&on))
 }
+
+#[cfg(test)]
+mod tests;
