@@ -10,16 +10,22 @@ use std::alloc::{AllocError, Global};
 use std::process::Abort;
 use std::test::Fail;
 
+fn point(coordinates: &(u8, u8)) -> IntPoint<i32>
+    ensures { IsSafe (2 ^ 30) result }
+{
+    IntPoint::new(i32::from(coordinates.0), i32::from(coordinates.1))
+}
+
 /// The contour of these coordinates, begun at the point number `start`.
 fn contour(alloc: Global, coordinates: &[(u8, u8)], start: usize) -> Result<Vec<IntPoint<i32>>, AllocError>
     ensures { IfOk result (λ v. All (IsSafe (2 ^ 30)) v.items) }
 {
     let mut points = Vec::new(alloc);
-    for (x, y) in coordinates.iter().skip(start) {
-        points.push(IntPoint::new(i32::from(*x), i32::from(*y)))?;
+    for at in coordinates.iter().skip(start) {
+        points.push(point(at))?;
     }
-    for (x, y) in coordinates.iter().take(start) {
-        points.push(IntPoint::new(i32::from(*x), i32::from(*y)))?;
+    for at in coordinates.iter().take(start) {
+        points.push(point(at))?;
     }
     Ok(points)
 }
