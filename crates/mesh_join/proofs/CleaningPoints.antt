@@ -1,11 +1,11 @@
 -- Lemmas over points and lists: the ends of a cleaned contour's sections are points of the contour.
-use Rattle.std.proofs.Common.{◌≡◌, ◌-◌, Bool, cond, List, [], ◌∷◌, ◌++◌, length, take, drop}
+use Rattle.std.proofs.Common.{◌-◌, List, [], ◌∷◌, ◌++◌, length, take, drop}
 use Rattle.std.specs.List.{All}
 use Rattle.std.proofs.lemmas.Bool.{cond_both}
 use Rattle.std.proofs.lemmas.List.Elements.{All-head, All-tail, All-cons, All-nil, All-append, All-take, All-drop}
 use Rattle.mesh_num.specs.Plane.{Point, Edge}
 use Rattle.mesh_num.specs.Winding.{route, boundary, same_point}
-use Rattle.mesh_join.specs.Cleaned.{is_kept, changes_from, without_repeats, without_end, ring, kept_between, kept_inside, kept_round, last_first, begun, cleaned_points, cleaned_sections}
+use Rattle.mesh_join.specs.Cleaned.{is_kept, changes_from, without_repeats, without_end, ring, kept_between, kept_inside, kept_round, begun, cleaned_points, cleaned_sections}
 
 module _ (P : Point → Type 0) where
   changes_from-all : (p : Point) (qs : List Point) → All P qs → All P (changes_from p qs)

@@ -17,7 +17,11 @@ fn point(coordinates: &(u8, u8)) -> IntPoint<i32>
 }
 
 /// The contour of these coordinates, begun at the point number `start`.
-fn contour(alloc: Global, coordinates: &[(u8, u8)], start: usize) -> Result<Vec<IntPoint<i32>>, AllocError>
+fn contour(
+    alloc: Global,
+    coordinates: &[(u8, u8)],
+    start: usize,
+) -> Result<Vec<IntPoint<i32>>, AllocError>
     ensures { IfOk result (λ v. All (IsSafe (2 ^ 30)) v.items) }
 {
     let mut points = Vec::new(alloc);
@@ -31,7 +35,11 @@ fn contour(alloc: Global, coordinates: &[(u8, u8)], start: usize) -> Result<Vec<
 }
 
 /// The sections of a contour, none where it is one point.
-fn sections(alloc: Global, coordinates: &[(u8, u8)], start: usize) -> Result<Vec<UniqueSegment<i32>>, AllocError> {
+fn sections(
+    alloc: Global,
+    coordinates: &[(u8, u8)],
+    start: usize,
+) -> Result<Vec<UniqueSegment<i32>>, AllocError> {
     let points = contour(alloc, coordinates, start)?;
     match UniqueSegmentsIter::new(&points) {
         Some(sections) => sections.collect(alloc),
@@ -40,7 +48,12 @@ fn sections(alloc: Global, coordinates: &[(u8, u8)], start: usize) -> Result<Vec
 }
 
 /// Whether the contour, begun at any of its points, has `count` sections, each of which starts where the one before it ends.
-fn expect_loop(rt: &impl Abort, alloc: Global, coordinates: &[(u8, u8)], count: usize) -> Result<(), Fail> {
+fn expect_loop(
+    rt: &impl Abort,
+    alloc: Global,
+    coordinates: &[(u8, u8)],
+    count: usize,
+) -> Result<(), Fail> {
     for start in 0..coordinates.len() {
         let found = sections(alloc, coordinates, start)?;
         assert_eq!(rt; found.len(), count, "begun at {start}");
@@ -100,7 +113,21 @@ fn a_square(rt: HostRuntime) -> Result<(), Fail> {
 
 #[test]
 fn a_square_with_points_in_the_middle_of_its_sides(rt: HostRuntime) -> Result<(), Fail> {
-    expect_loop(&rt, rt.alloc(), &[(0, 10), (0, 5), (0, 0), (5, 0), (10, 0), (10, 5), (10, 10), (5, 10)], 4)
+    expect_loop(
+        &rt,
+        rt.alloc(),
+        &[
+            (0, 10),
+            (0, 5),
+            (0, 0),
+            (5, 0),
+            (10, 0),
+            (10, 5),
+            (10, 10),
+            (5, 10),
+        ],
+        4,
+    )
 }
 
 #[test]
