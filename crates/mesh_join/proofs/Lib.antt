@@ -1,8 +1,8 @@
-pub mod CleaningVectors
-pub mod CleaningPass
+pub mod CleaningEnds
 pub mod CleaningLoop
+pub mod CleaningPass
 pub mod CleaningStart
+pub mod CleaningSteps
 pub mod CleaningSums
 pub mod CleaningTurns
-pub mod CleaningSteps
-pub mod CleaningPoints
+pub mod CleaningVectors
