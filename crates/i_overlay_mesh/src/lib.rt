@@ -1,13 +1,7 @@
-// A library with one function.
+//! Outlines of contours over whole numbers.
 #![tactic(auto)]
 
-ghost use Rattle.std.specs.Prelude.{◌≡◌};
-ghost use Rattle.i_overlay_mesh.specs.Echo.{echo_of};
+pub mod error;
+pub mod outline;
 
-// The `ensures` clause is the contract: what `echo` returns is `echo_of` of its argument, a definition
-// in `specs/Echo.antt`, which a caller's clause can cite too.
-pub fn echo(x: usize) -> usize
-    ensures { result ≡ echo_of x }
-{
-    x
-}
+pub use error::IntOutlineError;

@@ -1,13 +1,7 @@
-// A library with one function.
+//! Styles, cleaned contours and joins of integer polygon offsetting.
 #![tactic(auto)]
 
-ghost use Rattle.std.specs.Prelude.{◌≡◌};
-ghost use Rattle.mesh_join.specs.Echo.{echo_of};
-
-// The `ensures` clause is the contract: what `echo` returns is `echo_of` of its argument, a definition
-// in `specs/Echo.antt`, which a caller's clause can cite too.
-pub fn echo(x: usize) -> usize
-    ensures { result ≡ echo_of x }
-{
-    x
-}
+pub mod arc;
+pub mod join;
+pub mod style;
+pub mod uniq_iter;

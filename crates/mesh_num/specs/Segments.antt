@@ -1,5 +1,6 @@
 -- Signed segments: the smaller end, the larger end and a count of 1 or -1 stand for one directed edge.
-use Rattle.std.specs.Prelude.{ℕ, ◌≡◌, ◌⊎◌, cond, List, [], ◌∷◌, map, ℤ, pos, negsuc, int_lt, IsTrue}
+use Rattle.std.specs.Prelude.{ℕ, ◌≡◌, ◌⊎◌, cond, not, List, [], ◌∷◌, ◌++◌, map, ℤ, pos, negsuc, int_lt, IsTrue}
+use Rattle.std.specs.List.{filter}
 use Rattle.mesh_num.specs.Plane.{Point, Edge}
 use Rattle.mesh_num.specs.Winding.{same_point}
 use Rattle.mesh_num.specs.Order.{point_lt}
@@ -26,6 +27,15 @@ edge_between p r = cond (same_point p r) [] ((p, r) ∷ [])
 -- the segment of that edge, or none
 abbrev pub segment_between : Point → Point → List SignedEdge
 segment_between p r = cond (same_point p r) [] (subject_of p r ∷ [])
+
+-- the edges whose ends differ
+abbrev pub proper_edges : List Edge → List Edge
+proper_edges es = filter (λ (e : Edge). not (same_point e.0 e.1)) es
+
+-- the segments of the edges whose ends differ
+abbrev pub segments_of : List Edge → List SignedEdge
+segments_of [] = []
+segments_of (e ∷ es) = segment_between e.0 e.1 ++ segments_of es
 
 -- a segment as `Segment::subject` gives it
 pub record IsSubject (s : SignedEdge) : Type 0 where

@@ -6,3 +6,11 @@ pub(crate) mod exact;
 pub mod number;
 pub mod point;
 pub mod rect;
+pub(crate) mod search;
+pub mod unit_vector;
+
+pub use angle::Angle;
+pub use number::{IntNumber, OverlayInt, WideNumber, WideUnsigned};
+pub use point::{IntPoint, IntVector};
+pub use rect::IntRect;
+pub use unit_vector::UnitIntVector;

@@ -1,6 +1,6 @@
 //! Steps between coordinate types and 128 bits, each with an exact clause.
 
-ghost use Rattle.std.specs.Prelude.{◌≡◌, ℕ, ◌*◌, ◌^◌, ◌≤◌, ◌↔◌, IsTrue, ◌<ℤ◌};
+ghost use Rattle.std.specs.Prelude.{◌≡◌, ℕ, ◌*◌, ◌^◌, ◌≤◌, ◌↔◌, IsTrue, pos, unsigned_abs, ◌<ℤ◌};
 ghost use Rattle.std.specs.Int.{int_min, int_max};
 ghost use Rattle.mesh_num.specs.Bounds.{IsWithin};
 
@@ -66,4 +66,12 @@ pub(crate) fn greater<I: IntNumber>(first: I, second: I) -> I
     } else {
         first
     }
+}
+
+/// The size of a coordinate, which the wide type holds for each.
+pub fn wide_size<I: IntNumber>(number: I) -> I::Wide
+    ensures { I.Wide.value result ≡ pos (unsigned_abs (I.value number)) }
+{
+    let size = widen(number).abs();
+    I::Wide::from_i128(size)
 }

@@ -1,0 +1,8 @@
+//! Directed arcs.
+
+/// The sense of a turn, seen with the y axis up.
+#[derive(Debug, Clone, Copy, PartialEq, Eq)]
+pub enum ArcDirection {
+    Clockwise,
+    Counterclockwise,
+}
