@@ -31,7 +31,7 @@ square_none : (n : ℕ) → n * n < 1 → n ≡ 0
 square_none zero h = refl
 square_none (suc n) h = absurd (omega arith)
 
-apart_long : (e : Edge) → e.0 ≢ e.1 → 0 < length_sq (minus e.1 e.0)
+pub apart_long : (e : Edge) → e.0 ≢ e.1 → 0 < length_sq (minus e.1 e.0)
 apart_long e apart = by (leb_tells 1 (length_sq (minus e.1 e.0)))
   where
     by : ((leb 1 (length_sq (minus e.1 e.0)) ≡ true) × (1 ≤ length_sq (minus e.1 e.0))) ⊎ ((leb 1 (length_sq (minus e.1 e.0)) ≡ false) × (length_sq (minus e.1 e.0) < 1)) → 0 < length_sq (minus e.1 e.0)
@@ -67,10 +67,10 @@ sections_closed : (unit : ℕ) (offset : ℤ) (contour : List Edge) → IsRing c
 sections_closed unit offset contour ring = corners unit offset (λ c. c.0.b ≡ c.1.a) contour ring.closed
 
 -- on each side
-negative : (offset : ℤ) → int_lt offset (pos 0) ≡ true → offset <ℤ pos 0
+pub negative : (offset : ℤ) → int_lt offset (pos 0) ≡ true → offset <ℤ pos 0
 negative offset e = omega (arith, ints)
 
-not_negative : (offset : ℤ) → int_lt offset (pos 0) ≡ false → pos 0 ≤ℤ offset
+pub not_negative : (offset : ℤ) → int_lt offset (pos 0) ≡ false → pos 0 ≤ℤ offset
 not_negative offset e = omega (arith, ints)
 
 -- a moved edge and its own bound a parallelogram that never winds against the side
@@ -122,7 +122,7 @@ ends_turn unit offset a v b some first second outer =
     (λ h. scaled_turn_kept offset some dw du (omega (arith, linear, cross_flip w u)))
     outer)
 
-outer_ends : (unit : ℕ) (offset : ℤ) (e g : Edge) → 0 < unit → e.0 ≢ e.1 → g.0 ≢ g.1 → e.1 ≡ g.0 →
+pub outer_ends : (unit : ℕ) (offset : ℤ) (e g : Edge) → 0 < unit → e.0 ≢ e.1 → g.0 ≢ g.1 → e.1 ≡ g.0 →
     parts offset (section_of unit offset e, section_of unit offset g) ≡ true →
     pos 0 ≤ℤ sided offset (turn e.1 (plus e.1 (sideways unit offset (minus e.1 e.0))) (plus g.0 (sideways unit offset (minus g.1 g.0))))
 outer_ends unit offset e g some pe pg met =

@@ -11,7 +11,8 @@ use Rattle.mesh_num.proofs.Sums.{sum_of_add, sum_of_none, sum_of_equal, sum_of_f
 use Rattle.mesh_num.proofs.ClosedLists.{boundary_ends, boundary_all, all_both}
 use Rattle.mesh_num.proofs.Pieces.{fan_total}
 use Rattle.mesh_num.proofs.Balance.{same_point_is, same_point_self, growth, growth_odd, balanced_by_pieces}
-use Rattle.i_overlay_mesh.specs.Outline.{Section, Corner, own_edge, top_edge, strip, inner_edges, join_edges, corner_edges, corner_pieces, without_points, drawn_edges, drawn_pieces}
+use Rattle.mesh_num.specs.Segments.{proper_edges}
+use Rattle.i_overlay_mesh.specs.Outline.{Section, Corner, own_edge, top_edge, strip, inner_edges, join_edges, corner_edges, corner_pieces, drawn_edges, drawn_pieces}
 
 -- each corner's second section starts where its first ends
 abbrev pub IsClosed : List Section → Type 0
@@ -60,8 +61,8 @@ module _ (f : Point → Point → ℤ) (odd : IsOdd f) where
       not_false true k = refl
       not_false false k = absurd (true≢false k)
 
-  pub without_points_total : (es : List Edge) → total f (without_points es) ≡ total f es
-  without_points_total es = sum_of_filter (λ (e : Edge). f e.0 e.1) (λ (e : Edge). not (same_point e.0 e.1)) point_total es
+  pub proper_edges_total : (es : List Edge) → total f (proper_edges es) ≡ total f es
+  proper_edges_total es = sum_of_filter (λ (e : Edge). f e.0 e.1) (λ (e : Edge). not (same_point e.0 e.1)) point_total es
 
   pub drawn_total : (is_outer : Corner → Bool) (join : Corner → List Point) (sections : List Section) → IsClosed sections →
       total f (drawn_edges is_outer join sections) ≡ total f (map own_edge sections) +ℤ pieces_total f (drawn_pieces is_outer join sections)
@@ -74,7 +75,7 @@ module _ (f : Point → Point → ℤ) (odd : IsOdd f) where
       omega (
         arith,
         linear,
-        without_points_total (tops ++ corners),
+        proper_edges_total (tops ++ corners),
         total_append f tops corners,
         tops_total sections,
         corners_total is_outer join sections closed,

@@ -8,22 +8,23 @@ use Rattle.std.proofs.lemmas.List.Sums.{length-filter, count_by-le-length}
 use Rattle.mesh_num.specs.Plane.{Point, Edge}
 use Rattle.mesh_num.specs.Winding.{route, boundary, same_point}
 use Rattle.mesh_num.proofs.ClosedLists.{woven, woven_round}
-use Rattle.i_overlay_mesh.specs.Outline.{Section, Corner, top_edge, corner_edges, without_points, drawn_edges}
+use Rattle.mesh_num.specs.Segments.{proper_edges}
+use Rattle.i_overlay_mesh.specs.Outline.{Section, Corner, top_edge, corner_edges, drawn_edges}
 
 -- what one section and what one corner draw
 abbrev pub drawn_top : Section → List Edge
-drawn_top s = without_points (top_edge s ∷ [])
+drawn_top s = proper_edges (top_edge s ∷ [])
 
 abbrev pub drawn_corner : (Corner → Bool) → (Corner → List Point) → Corner → List Edge
-drawn_corner is_outer join c = without_points (corner_edges is_outer join c)
+drawn_corner is_outer join c = proper_edges (corner_edges is_outer join c)
 
-tops_without : (sections : List Section) → without_points (map top_edge sections) ≡ flat_map drawn_top sections
+tops_without : (sections : List Section) → proper_edges (map top_edge sections) ≡ flat_map drawn_top sections
 tops_without [] = refl
 tops_without (s ∷ sections) =
     filter-append (λ (e : Edge). not (same_point e.0 e.1)) (top_edge s ∷ []) (map top_edge sections) ∙ ap (λ l. drawn_top s ++ l) (tops_without sections)
 
 corners_without : (is_outer : Corner → Bool) (join : Corner → List Point) (cs : List Corner) →
-    without_points (flat_map (corner_edges is_outer join) cs) ≡ flat_map (drawn_corner is_outer join) cs
+    proper_edges (flat_map (corner_edges is_outer join) cs) ≡ flat_map (drawn_corner is_outer join) cs
 corners_without is_outer join [] = refl
 corners_without is_outer join (c ∷ cs) =
     filter-append (λ (e : Edge). not (same_point e.0 e.1)) (corner_edges is_outer join c) (flat_map (corner_edges is_outer join) cs)
@@ -34,7 +35,7 @@ pub drawn_by_parts : (is_outer : Corner → Bool) (join : Corner → List Point)
 unfolding drawn_edges
 drawn_by_parts is_outer join sections =
     filter-append (λ (e : Edge). not (same_point e.0 e.1)) (map top_edge sections) (flat_map (corner_edges is_outer join) (boundary sections))
-    ∙ (ap (λ l. l ++ without_points (flat_map (corner_edges is_outer join) (boundary sections))) (tops_without sections)
+    ∙ (ap (λ l. l ++ proper_edges (flat_map (corner_edges is_outer join) (boundary sections))) (tops_without sections)
     ∙ ap (λ l. flat_map drawn_top sections ++ l) (corners_without is_outer join (boundary sections)))
 
 -- a walk that draws the first section, then each next one with the corner before it, in either order, and at last the corner back
@@ -61,7 +62,7 @@ corner_length is_outer join c h = by (is_outer c) (same_point c.0.b_top c.1.a_to
     by true false = omega (arith, route_length c.0.b_top (join c) c.1.a_top)
     by false t = omega arith
 
-without_length : (es : List Edge) → length (without_points es) ≤ length es
+without_length : (es : List Edge) → length (proper_edges es) ≤ length es
 without_length es = omega (arith, length-filter (λ (e : Edge). not (same_point e.0 e.1)) es, count_by-le-length (λ (e : Edge). not (same_point e.0 e.1)) es)
 
 -- joins of at most two points give at most four edges a section

@@ -2,7 +2,7 @@
 use Rattle.std.proofs.Common.{◌≡◌, ℕ, ◌*◌, ◌≤◌, refl, sym, ◌∙◌, ap, arith}
 use Rattle.std.specs.Prelude.{ℤ, pos, unsigned_abs}
 use Rattle.std.proofs.lemmas.Int.{ints}
-use Rattle.mesh_num.specs.Bounds.{IsSafe, IsSmall}
+use Rattle.mesh_num.specs.Bounds.{IsSafe, IsSmall, IsWithin}
 use Rattle.mesh_num.specs.Plane.{Point, plus, minus, right_quarter}
 use Rattle.mesh_num.specs.Rectangle.{IsSafeWidened}
 use Rattle.mesh_num.specs.Direction.{IsDirection, scaled_direction}
@@ -33,7 +33,7 @@ beside_safe unit n a s w x y = record {
 -- what the code puts together is the section of its definition
 pub section_made : (unit : ℕ) (offset : ℤ) (a b v n s ta tb : Point) → v ≡ minus b a → IsDirection unit v n → s ≡ scaled_direction unit offset n →
     ta ≡ plus a (right_quarter s) → tb ≡ plus b (right_quarter s) →
-    ◌≡◌ {A = Section} (record { a = a; b = b; direction = n; a_top = ta; b_top = tb }) (section_of unit offset (a , b))
+    ◌≡◌ {A = Section} (record { a = a; b = b; direction = n; a_top = ta; b_top = tb }) (section_of unit offset (a, b))
 section_made unit offset a b v n s ta tb e d f g h =
     let k : n ≡ direction_of unit (minus b a) = is_direction_of unit v n d ∙ ap (direction_of unit) e in
     let l : s ≡ scaled_direction unit offset (direction_of unit (minus b a)) = f ∙ ap (scaled_direction unit offset) k in
@@ -44,3 +44,10 @@ section_made unit offset a b v n s ta tb e d f g h =
       a_top = (g ∙ ap (λ (t : Point). plus a (right_quarter t)) l) i;
       b_top = (h ∙ ap (λ (t : Point). plus b (right_quarter t)) l) i;
     }
+
+-- the size of an offset by which a point stays safe is below the unit
+pub radius_within : (unit n : ℕ) (p : Point) (z : ℤ) → IsSafeWidened unit (pos n) p → z ≡ pos n → IsWithin (2 * unit) z
+radius_within unit n p z w e = record {
+  low = omega (arith, ints, w.0.x.low, w.1.x.high);
+  high = omega (arith, ints, w.0.x.low, w.1.x.high);
+}

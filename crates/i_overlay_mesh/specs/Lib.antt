@@ -1,2 +1,3 @@
-pub mod Outline
 pub mod Building
+pub mod Outline
+pub mod Padding

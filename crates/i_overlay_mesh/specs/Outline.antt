@@ -6,6 +6,7 @@ use Rattle.std.proofs.Math.Bool.{beq}
 use Rattle.mesh_num.specs.Plane.{Point, Edge, plus, minus, cross, dot, turn, right_quarter}
 use Rattle.mesh_num.specs.Direction.{scaled_direction}
 use Rattle.mesh_num.specs.Directed.{direction_of}
+use Rattle.mesh_num.specs.Segments.{proper_edges}
 use Rattle.mesh_num.specs.Winding.{route, boundary, fan, same_point}
 
 -- an edge of the contour from `a` to `b`, its direction, and where the two ends lie once it has been moved
@@ -45,14 +46,10 @@ corner_edges is_outer join c = cond (is_outer c) (join_edges join c) (inner_edge
 abbrev pub corner_pieces : (Corner → Bool) → (Corner → List Point) → Corner → List (List Point)
 corner_pieces is_outer join c = cond (is_outer c) (fan c.0.b (join_edges join c)) []
 
--- pairs of equal points are no edges
-abbrev pub without_points : List Edge → List Edge
-without_points es = filter (λ (e : Edge). not (same_point e.0 e.1)) es
-
 -- what is drawn over a closed list of sections, and the pieces between that and the sections' own edges
 unfoldable pub drawn_edges : (Corner → Bool) → (Corner → List Point) → List Section → List Edge
 drawn_edges is_outer join sections =
-    without_points (map top_edge sections ++ flat_map (corner_edges is_outer join) (boundary sections))
+    proper_edges (map top_edge sections ++ flat_map (corner_edges is_outer join) (boundary sections))
 
 unfoldable pub drawn_pieces : (Corner → Bool) → (Corner → List Point) → List Section → List (List Point)
 drawn_pieces is_outer join sections = map strip sections ++ flat_map (corner_pieces is_outer join) (boundary sections)

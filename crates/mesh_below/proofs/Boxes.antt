@@ -133,10 +133,10 @@ own_box e f h = record {
   by_y = crossing_between e.0.1 e.1.1 (turn f.0 f.1 e.0) (turn f.0 f.1 e.1) h.first_parted;
 }
 
-start_box : (e : Edge) → IsInBox e e.0
+pub start_box : (e : Edge) → IsInBox e e.0
 start_box e = record { by_x = between_start e.0.0 e.1.0; by_y = between_start e.0.1 e.1.1 }
 
-end_box : (e : Edge) → IsInBox e e.1
+pub end_box : (e : Edge) → IsInBox e e.1
 end_box e = record { by_x = between_end e.0.0 e.1.0; by_y = between_end e.0.1 e.1.1 }
 
 pub crossing_swapped : (e f : Edge) → IsCrossing e f → IsCrossing f e

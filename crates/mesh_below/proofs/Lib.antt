@@ -3,8 +3,14 @@ pub mod Cuts
 pub mod Arithmetic
 pub mod Stages
 pub mod Entries
+pub mod Live
 pub mod Boxes
 pub mod Meeting
+pub mod Filing
+pub mod Settling
+pub mod Starting
+pub mod Sharing
+pub mod Clean
 pub mod Line
 pub mod Places
 pub mod SidesPotential
@@ -21,3 +27,4 @@ pub mod ContoursKept
 pub mod BoundarySplits
 pub mod SidesCode
 pub mod BoundaryCounted
+pub mod Paths

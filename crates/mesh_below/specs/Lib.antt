@@ -7,3 +7,4 @@ pub mod Resolution
 pub mod Steps
 pub mod Fill
 pub mod Sides
+pub mod Splitting

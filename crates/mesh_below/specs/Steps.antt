@@ -78,10 +78,10 @@ weight k = pos (unsigned_abs k.1 * max 1 (extent k.0))
 
 -- the work that a waiting and a live segment still are: each step of the splitting lowers the sum
 abbrev pub waiting_work : Counted → ℤ
-waiting_work k = pos (4 * extent k.0) -ℤ pos 2
+waiting_work k = pos (4 * extent k.0 - 2)
 
 abbrev pub live_work : Counted → ℤ
-live_work k = pos (4 * extent k.0) -ℤ pos 3
+live_work k = pos (4 * extent k.0 - 3)
 
 abbrev pub work : List Counted → List Counted → ℤ
 work todo live = sum_of waiting_work todo +ℤ sum_of live_work live
@@ -118,3 +118,11 @@ pub record IsReached (given : List Edge) (todo live held : List Counted) : Type 
   pub cuts : List Cut
   pub legal : IsLegal given cuts
   pub count : AreCountOf (after cuts given) todo live held
+
+-- a segment in hand was made live or split: the state stays one that legal splits lead to, live segments stay
+-- clear of each other, and less work is left
+pub record Settles (todo live todo' live' : List Counted) (k : Counted) : Type 0 where
+  pub reached : (given : List Edge) → IsReached given todo live (k ∷ []) → IsReached given todo' live' []
+  pub clear : AllClear live → AllClear live'
+  pub work_falls : work todo' live' <ℤ (work todo live +ℤ waiting_work k)
+  pub weight_stays : total_weight todo' live' ≤ℤ (total_weight todo live +ℤ weight k)

@@ -2,6 +2,7 @@
 
 ghost use Rattle.std.specs.Prelude.{◌≡◌, ◌↔◌, ℕ, ◌+◌, ◌*◌, ◌/◌, ◌^◌, ◌<◌, ℤ, pos, ◌+ℤ◌, ◌-ℤ◌, ◌*ℤ◌, unsigned_abs, IsTrue, MatchOption};
 ghost use Rattle.mesh_num.specs.Bounds.{IsSmall, IsSafe};
+ghost use Rattle.mesh_num.specs.Order.{point_lt};
 ghost use Rattle.mesh_num.specs.Plane.{minus, cross, turn};
 ghost use Rattle.mesh_num.specs.Winding.{same_point};
 ghost use Rattle.mesh_below.specs.Split.{same_edge, is_end, IsBetween, IsInBox, IsInside, AreOpposite, IsCrossing, rounded_quotient, crossing_at, rounded_crossing, Meets};
@@ -78,6 +79,13 @@ pub fn same_edge(e: GridEdge, f: GridEdge) -> bool
     ensures { result ≡ same_edge e f }
 {
     same_point(e.0, f.0) && same_point(e.1, f.1)
+}
+
+/// Whether the first point comes before the second, by `x`, then `y`.
+pub fn is_before(p: GridPoint, q: GridPoint) -> bool
+    ensures { result ≡ point_lt p q }
+{
+    p.0 < q.0 || (p.0 == q.0 && p.1 < q.1)
 }
 
 /// Whether the point is one of the edge's ends.

@@ -16,6 +16,7 @@ pub mod Scaling
 pub mod SegmentLists
 pub mod Signs
 pub mod Sizes
+pub mod Subjects
 pub mod Sums
 pub mod Triangles
 pub mod Turns

@@ -3,7 +3,7 @@
 ghost use Rattle.std.specs.Prelude.{◌≡◌, OnOk, OnErr, IsTrue, ◌++◌};
 ghost use Rattle.mesh_num.specs.Segments.{segment_between};
 ghost use Rattle.i_overlay_mesh.specs.Outline.{parts};
-ghost use Rattle.i_overlay_mesh.specs.Building.{IsCorner};
+ghost use Rattle.i_overlay_mesh.specs.Building.{IsCorner, sense_for};
 
 use crate::outline::section::OffsetSection;
 use mesh_join::arc::ArcDirection;
@@ -22,7 +22,11 @@ pub(crate) trait JoinBuilder<I: IntNumber> {
         previous: &OffsetSection<I>,
         next: &OffsetSection<I>,
         segments: &mut Vec<Segment<I>>,
-    ) -> Result<(), AllocError>;
+    ) -> Result<(), AllocError>
+        requires corner { IsCorner I.unit (I.value offset) (previous.now, next.now) }
+        requires outer { IsTrue (parts (I.value offset) (previous.now, next.now)) }
+        ensures ok { OnOk result (segments.new.items ≡ segments.old.items ++ segment_between previous.now.b_top next.now.a_top) }
+        ensures err { OnErr result (segments.new.items ≡ segments.old.items) };
 }
 
 impl<I: IntNumber> JoinBuilder<I> for Join<I> {
@@ -33,16 +37,11 @@ impl<I: IntNumber> JoinBuilder<I> for Join<I> {
         next: &OffsetSection<I>,
         segments: &mut Vec<Segment<I>>,
     ) -> Result<(), AllocError>
-        requires corner { IsCorner I.unit (I.value offset) (previous.now , next.now) }
-        requires outer { IsTrue (parts (I.value offset) (previous.now , next.now)) }
+        requires corner { IsCorner I.unit (I.value offset) (previous.now, next.now) }
+        requires outer { IsTrue (parts (I.value offset) (previous.now, next.now)) }
         ensures ok { OnOk result (segments.new.items ≡ segments.old.items ++ segment_between previous.now.b_top next.now.a_top) }
         ensures err { OnErr result (segments.new.items ≡ segments.old.items) }
     {
-        let direction = if is_less(offset, I::ZERO) {
-            ArcDirection::Clockwise
-        } else {
-            ArcDirection::Counterclockwise
-        };
         let radius = I::from_wide(wide_size::<I>(offset));
         self.add(
             previous.b,
@@ -51,16 +50,20 @@ impl<I: IntNumber> JoinBuilder<I> for Join<I> {
             previous.direction,
             next.direction,
             radius,
-            direction,
+            sense(offset),
             segments,
         )
     }
 }
 
 /// Whether the moved edges of two neighbouring sections part at their corner.
-pub(crate) fn is_outer<I: IntNumber>(offset: I, previous: &OffsetSection<I>, next: &OffsetSection<I>) -> bool
-    requires { IsCorner I.unit (I.value offset) (previous.now , next.now) }
-    ensures { result ≡ parts (I.value offset) (previous.now , next.now) }
+pub(crate) fn is_outer<I: IntNumber>(
+    offset: I,
+    previous: &OffsetSection<I>,
+    next: &OffsetSection<I>,
+) -> bool
+    requires { IsCorner I.unit (I.value offset) (previous.now, next.now) }
+    ensures { result ≡ parts (I.value offset) (previous.now, next.now) }
 {
     let after = next.b - next.a;
     let before = previous.b - previous.a;
@@ -71,5 +74,16 @@ pub(crate) fn is_outer<I: IntNumber>(offset: I, previous: &OffsetSection<I>, nex
         left == is_less(offset, I::ZERO)
     } else {
         is_wide_less::<I>(after.dot_product(&before), zero)
+    }
+}
+
+/// The sense of the joins of an outline with this offset.
+fn sense<I: IntNumber>(offset: I) -> ArcDirection
+    ensures { result ≡ sense_for (I.value offset) }
+{
+    if is_less(offset, I::ZERO) {
+        ArcDirection::Clockwise
+    } else {
+        ArcDirection::Counterclockwise
     }
 }

@@ -44,7 +44,7 @@ impl<I: IntNumber> OffsetSection<I> {
         requires differ { a ≢ b }
         requires safe_a { IsSafeWidened I.unit (pos (unsigned_abs (I.value offset))) a }
         requires safe_b { IsSafeWidened I.unit (pos (unsigned_abs (I.value offset))) b }
-        ensures { result ≡ section_of I.unit (I.value offset) (a , b) }
+        ensures { result ≡ section_of I.unit (I.value offset) (a, b) }
     {
         let Some(direction) = (b - a).fast_normalize() else {
             unreachable!()
