@@ -1,5 +1,5 @@
 -- Lemmas over whole numbers and lists: sums of counts, as 128 bits hold them.
-use Rattle.std.proofs.Common.{◌≡◌, ℕ, ◌+◌, ◌<◌, ◌≤◌, ◌^◌, List, [], ◌∷◌, take, length, get_or, add-one, refl, sym, ◌∙◌, ap, subst, arith, zero, suc, lit≤}
+use Rattle.std.proofs.Common.{◌≡◌, ℕ, ◌+◌, ◌<◌, ◌≤◌, ◌^◌, List, [], ◌∷◌, take, length, get_or, add-one, max, ◌*◌, refl, sym, ◌∙◌, ap, subst, arith, zero, suc, lit≤}
 use Rattle.std.specs.Prelude.{ℤ, pos, neg_ℤ, ◌+ℤ◌, ◌-ℤ◌, ◌*ℤ◌, ◌≤ℤ◌, ◌<ℤ◌, unsigned_abs}
 use Rattle.std.proofs.lemmas.Int.{ints, by_lt_z, to_z-of_z}
 use mir.Syntax.{w128}
@@ -9,7 +9,8 @@ use Rattle.mesh_num.specs.Plane.{Point, Edge}
 use Rattle.mesh_num.specs.Winding.{sum_of, crossing_on}
 use Rattle.mesh_num.proofs.Whole.{linear, mul_one, mul_neg}
 use Rattle.mesh_below.specs.Counted.{Counted}
-use Rattle.mesh_below.specs.Steps.{size}
+use Rattle.std.proofs.Math.Nat.{mul-le-mul_left}
+use Rattle.mesh_below.specs.Steps.{size, weight, total_weight, extent}
 
 times_zero : (n : ℤ) → n *ℤ pos 0 ≡ pos 0
 times_zero n = omega (arith, ints)
@@ -74,3 +75,20 @@ pub adds_of : (a b : ℤ) → (pos (unsigned_abs a) +ℤ pos (unsigned_abs b)) �
 adds_of a b h =
     let f : SFits w128 (a +ℤ b) = omega (arith, ints, h) in
     record { fits = f; kept = to_z-of_z w128 (a +ℤ b) f; size = omega (arith, ints) }
+
+-- the counts of live segments add up to no more than their weights
+size_weight : (k : Counted) → size k ≤ℤ weight k
+size_weight k = at_least (unsigned_abs k.1) (max 1 (extent k.0)) (omega arith)
+  where
+    at_least : (n m : ℕ) → 1 ≤ m → pos n ≤ℤ pos (n * m)
+    at_least n m h = omega (arith, ints, mul-le-mul_left n h)
+
+sizes_weights : (ks : List Counted) → sum_of size ks ≤ℤ sum_of weight ks
+sizes_weights [] = omega (arith, ints)
+sizes_weights (k ∷ ks) = omega (arith, ints, size_weight k, sizes_weights ks)
+
+weight_least : (k : Counted) → pos 0 ≤ℤ weight k
+weight_least k = omega (arith, ints)
+
+pub live_room : (todo live : List Counted) → total_weight todo live ≤ℤ pos (2 ^ 97) → sum_of size live ≤ℤ pos (2 ^ 120)
+live_room todo live h = omega (arith, ints, sizes_weights live, sum_least weight weight_least todo)

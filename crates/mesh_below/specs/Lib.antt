@@ -8,3 +8,4 @@ pub mod Steps
 pub mod Fill
 pub mod Sides
 pub mod Splitting
+pub mod Walk
