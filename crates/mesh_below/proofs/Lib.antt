@@ -28,3 +28,4 @@ pub mod BoundarySplits
 pub mod SidesCode
 pub mod BoundaryCounted
 pub mod Paths
+pub mod Walking
