@@ -29,3 +29,4 @@ pub mod SidesCode
 pub mod BoundaryCounted
 pub mod Paths
 pub mod Walking
+pub mod ContoursBegun

@@ -38,7 +38,7 @@ test_ge : (a b : ℤ) → b ≤ℤ a → int_lt a b ≡ false
 test_ge a b h = grind (arith, ints)
 
 -- before another in the order
-abbrev Before : Point → Point → Type 0
+abbrev pub Before : Point → Point → Type 0
 Before p q = (p.0 <ℤ q.0) ⊎ ((p.0 ≡ q.0) × (p.1 <ℤ q.1))
 
 pub before_of : (p q : Point) → point_lt p q ≡ true → Before p q
