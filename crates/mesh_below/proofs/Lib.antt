@@ -30,3 +30,4 @@ pub mod BoundaryCounted
 pub mod Paths
 pub mod Walking
 pub mod ContoursBegun
+pub mod AreaSums

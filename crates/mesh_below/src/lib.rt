@@ -3,6 +3,7 @@
 
 ghost use Rattle.std.specs.Prelude.{◌≡◌, true};
 
+pub mod area;
 pub mod arrange;
 pub mod exact;
 pub mod fill;
