@@ -9,3 +9,4 @@ pub mod FillRules
 pub mod CountedSides
 pub mod Splitting
 pub mod Unused
+pub mod Grouping

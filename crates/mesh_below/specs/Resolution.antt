@@ -72,15 +72,16 @@ shapes_of rings = map (shape_of rings) (filter (is_head rings) rings)
 abbrev pub answered : Bool → Ring → List Point
 answered clockwise r = cond clockwise (reversed r.0) r.0
 
--- an answer arises from rings: the small ones go, the others stand in order, shape by shape
-pub record IsArranged (options : Choices) (rings : List Ring) (answer : List (List (List Point))) : Type 0 where
+-- an answer arises from rings: they are brought into order, and answered shape by shape
+pub record AreArranged (clockwise : Bool) (rings : List Ring) (answer : List (List (List Point))) : Type 0 where
   pub sorted : List Ring
-  pub same : IsPermutation (filter (is_large options.least_area) rings) sorted
+  pub same : IsPermutation rings sorted
   pub ordered : IsSortedBy (λ (r s : Ring). points_lt r.0 s.0) sorted
-  pub shapes : answer ≡ map (map (answered options.clockwise)) (shapes_of (enumerate_from 0 sorted))
+  pub shapes : answer ≡ map (map (answered clockwise)) (shapes_of (enumerate_from 0 sorted))
 
 -- an answer is a resolution of edges by a fill and options: the edges are split by legal splits until segments share
--- only ends; closed contours, each begun at its start, have together the edges of the boundary; of these the answer arises
+-- only ends; closed contours, each begun at its start, have together the edges of the boundary; the answer arises from
+-- their rings, the small ones left out
 pub record IsResolution (edges : List Edge) (fill : ℤ → Bool) (options : Choices) (answer : List (List (List Point))) : Type 0 where
   pub cuts : List Cut
   pub legal : IsLegal edges cuts
@@ -88,4 +89,4 @@ pub record IsResolution (edges : List Edge) (fill : ℤ → Bool) (options : Cho
   pub contours : List (List Point)
   pub bounded : IsBoundary (after cuts edges) fill (flat_map boundary contours)
   pub begun : All (IsBegun options.all_vertices) contours
-  pub arranged : IsArranged options (map (ring_of options.all_vertices) contours) answer
+  pub arranged : AreArranged options.clockwise (filter (is_large options.least_area) (map (ring_of options.all_vertices) contours)) answer

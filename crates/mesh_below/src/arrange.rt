@@ -1,13 +1,31 @@
 //! Shapes of rings: order and grouping.
 
-use crate::grid::GridPoint;
+ghost use Rattle.std.specs.Prelude.{◌≡◌, ◌⊎◌, ℕ, ◌+◌, ◌*◌, ◌^◌, ◌<◌, ◌≤◌, Bool, true, false, not, ◌&&◌, cond, List, [], ◌∷◌, ◌++◌, map, length, take, drop, reverse, slice_index_or, nat_le, nat_eq, unsigned_abs, IfOk, OnOk, MatchOption};
+ghost use Rattle.std.specs.List.{All, filter, enumerate_from};
+ghost use Rattle.std.specs.List.Sorted.{IsSortedBy, IsPermutation};
+ghost use Rattle.mesh_num.specs.Bounds.{IsSafe};
+ghost use Rattle.mesh_num.specs.Plane.{Point};
+ghost use Rattle.mesh_below.specs.Contours.{reversed, double_area};
+ghost use Rattle.mesh_below.specs.Grouping.{Held, view, views, ring_at, placed, areas_of, is_round_at, NoneRound, IsHolder, IsHome, points_of, shapes_points};
+ghost use Rattle.mesh_below.specs.Resolution.{is_large, points_lt, is_head, shape_of, shapes_of, answered, AreArranged};
+
 use crate::area::{double_area, holds};
-use crate::ring::Ring;
 use crate::fine::FinePoint;
+use crate::grid::GridPoint;
+use crate::ring::Ring;
 use std::alloc::{AllocError, Global};
 
+/// Whether the ring's double area is in size at least twice the least area.
+pub fn is_large(ring: &Ring, least_area: u64) -> bool
+    ensures { result ≡ is_large least_area (view ring.now) }
+{
+    2 * least_area as u128 <= double_area(&ring.0).unsigned_abs()
+}
+
 /// The double areas of rings, in their order.
-fn areas(alloc: Global, rings: &[Ring]) -> Result<Vec<i128>, AllocError> {
+fn areas(alloc: Global, rings: &[Ring]) -> Result<Vec<i128>, AllocError>
+    ensures { IfOk result (λ v. v.items ≡ areas_of (views rings.now)) }
+{
     let mut areas = Vec::new(alloc);
     for r in rings {
         areas.push(double_area(&r.0))?;
@@ -15,71 +33,180 @@ fn areas(alloc: Global, rings: &[Ring]) -> Result<Vec<i128>, AllocError> {
     Ok(areas)
 }
 
-/// The place of the ring of positive area, least and first in order, that holds the point, if there is one.
-fn holder(rings: &[Ring], areas: &[i128], q: FinePoint) -> Option<usize> {
-    let mut best: Option<usize> = None;
-    for h in 0..rings.len() {
-        if areas[h] > 0 {
-            let better = match best {
-                None => true,
-                Some(b) => areas[h] < areas[b],
-            };
-            if better && holds(&rings[h].0, q) {
-                best = Some(h);
-            }
+/// Whether the ring at `h` has positive area and holds the point.
+fn is_round_at(rings: &[Ring], areas: &[i128], h: usize, q: FinePoint) -> bool
+    requires in_range { h < length rings.now }
+    requires known { areas.now ≡ areas_of (views rings.now) }
+    requires q_small { IsSafe (2 ^ 33) q }
+    ensures { result ≡ is_round_at (views rings.now) h q }
+{
+    if areas[h] <= 0 {
+        return false;
+    }
+    holds(&rings[h].0, q)
+}
+
+/// The better holder of the point, of the one known and the ring at `k`.
+fn better_holder(rings: &[Ring], areas: &[i128], q: FinePoint, best: Option<usize>, k: usize) -> Option<usize>
+    requires in_range { k < length rings.now }
+    requires areas_known { areas.now ≡ areas_of (views rings.now) }
+    requires q_small { IsSafe (2 ^ 33) q }
+    requires known { MatchOption best (NoneRound (views rings.now) k q) (IsHolder (views rings.now) k q) }
+    ensures { MatchOption result (NoneRound (views rings.now) (k + 1) q) (IsHolder (views rings.now) (k + 1) q) }
+{
+    if let Some(b) = best {
+        if areas[b] <= areas[k] {
+            return best;
         }
+    }
+    if !is_round_at(rings, areas, k, q) {
+        return best;
+    }
+    Some(k)
+}
+
+/// The place of the first ring of least area among those of positive area that hold the point, if there is one.
+fn holder(rings: &[Ring], areas: &[i128], q: FinePoint) -> Option<usize>
+    requires areas_known { areas.now ≡ areas_of (views rings.now) }
+    requires q_small { IsSafe (2 ^ 33) q }
+    ensures { MatchOption result (NoneRound (views rings.now) (length rings.now) q) (IsHolder (views rings.now) (length rings.now) q) }
+{
+    let mut best = None;
+    for k in 0..rings.len() {
+        best = better_holder(rings, areas, q, best, k);
     }
     best
 }
 
-/// For each ring the place of the ring with which it stands, its own where it heads a shape.
-fn heads(alloc: Global, rings: &[Ring], areas: &[i128]) -> Result<Vec<usize>, AllocError> {
-    let mut heads = Vec::new(alloc);
-    for i in 0..rings.len() {
-        if areas[i] > 0 {
-            heads.push(i)?;
-        } else {
-            match holder(rings, areas, rings[i].1) {
-                Some(h) => heads.push(h)?,
-                None => heads.push(i)?,
-            }
-        }
+/// The place of the ring with which the ring at `i` stands, its own where it heads a shape.
+fn home(rings: &[Ring], areas: &[i128], i: usize) -> usize
+    requires in_range { i < length rings.now }
+    requires areas_known { areas.now ≡ areas_of (views rings.now) }
+    requires sides_small { All (λ (r : Held). IsSafe (2 ^ 33) r.1) rings.now }
+    ensures { IsHome (views rings.now) i result }
+{
+    if areas[i] > 0 {
+        return i;
     }
-    Ok(heads)
+    let Some(h) = holder(rings, areas, rings[i].1) else {
+        return i;
+    };
+    h
 }
 
-/// The points from the first on, the others the other way round where the contour is to run clockwise.
-fn answered(alloc: Global, points: &[GridPoint], clockwise: bool) -> Result<Vec<GridPoint>, AllocError> {
-    let mut copy = Vec::from_slice(alloc, points)?;
-    if clockwise && copy.len() > 1 {
-        copy[1..].reverse();
+/// The places of the rings with which rings stand.
+fn homes(alloc: Global, rings: &[Ring]) -> Result<Vec<usize>, AllocError>
+    requires { All (λ (r : Held). IsSafe (2 ^ 33) r.1) rings.now }
+    ensures len { IfOk result (λ v. length v.items ≡ length rings.now) }
+    ensures homes { IfOk result (λ v. (i : ℕ) → i < length rings.now → IsHome (views rings.now) i (slice_index_or v.items i 0)) }
+{
+    let areas = areas(alloc, rings)?;
+    let mut homes = Vec::new(alloc);
+    for i in 0..rings.len() {
+        homes.push(home(rings, &areas, i))?;
     }
-    Ok(copy)
+    Ok(homes)
+}
+
+/// The first point, then the others from the last back.
+fn reversed(alloc: Global, points: &[GridPoint]) -> Result<Vec<GridPoint>, AllocError>
+    ensures { IfOk result (λ v. v.items ≡ reversed points.now) }
+{
+    let mut list = Vec::new(alloc);
+    let Some((first, rest)) = points.split_first() else {
+        return Ok(list);
+    };
+    list.push(*first)?;
+    let back: Vec<GridPoint> = rest.iter().rev().copied().collect(alloc)?;
+    list.extend_from_slice(&back)?;
+    Ok(list)
+}
+
+/// The ring's contour, the other way about where contours are to run clockwise.
+fn answered(alloc: Global, ring: &Ring, clockwise: bool) -> Result<Vec<GridPoint>, AllocError>
+    ensures { IfOk result (λ v. v.items ≡ answered clockwise (view ring.now)) }
+{
+    if clockwise {
+        return reversed(alloc, &ring.0);
+    }
+    Vec::from_slice(alloc, &ring.0)
+}
+
+/// Adds the ring at `i` to the shape that the ring at `h` heads, if it stands with that.
+fn push_member(alloc: Global, shape: &mut Vec<Vec<GridPoint>>, rings: &[Ring], homes: &[usize], h: usize, i: usize, clockwise: bool) -> Result<(), AllocError>
+    requires in_range { i < length rings.now }
+    requires homes_len { length homes.now ≡ length rings.now }
+    ensures { OnOk result (points_of shape.new.items ≡ points_of shape.old.items ++
+        cond (nat_eq (slice_index_or homes.now i 0) h && not (nat_eq i h)) (answered clockwise (ring_at (views rings.now) i).1 ∷ []) []) }
+{
+    if i == h {
+        return Ok(());
+    }
+    if homes[i] != h {
+        return Ok(());
+    }
+    shape.push(answered(alloc, &rings[i], clockwise)?)?;
+    Ok(())
+}
+
+/// The shape that the ring at `h` heads.
+fn shape(alloc: Global, rings: &[Ring], homes: &[usize], h: usize, clockwise: bool) -> Result<Vec<Vec<GridPoint>>, AllocError>
+    requires in_range { h < length rings.now }
+    requires homes_len { length homes.now ≡ length rings.now }
+    requires homes_are { (i : ℕ) → i < length rings.now → IsHome (views rings.now) i (slice_index_or homes.now i 0) }
+    ensures { IfOk result (λ v. points_of v.items ≡ map (answered clockwise) (shape_of (placed (views rings.now)) (ring_at (views rings.now) h))) }
+{
+    let mut shape = Vec::new(alloc);
+    shape.push(answered(alloc, &rings[h], clockwise)?)?;
+    for i in 0..rings.len() {
+        push_member(alloc, &mut shape, rings, homes, h, i, clockwise)?;
+    }
+    Ok(shape)
+}
+
+/// Adds the shape that the ring at `h` heads, if it heads one.
+fn push_shape(alloc: Global, shapes: &mut Vec<Vec<Vec<GridPoint>>>, rings: &[Ring], homes: &[usize], h: usize, clockwise: bool) -> Result<(), AllocError>
+    requires in_range { h < length rings.now }
+    requires homes_len { length homes.now ≡ length rings.now }
+    requires homes_are { (i : ℕ) → i < length rings.now → IsHome (views rings.now) i (slice_index_or homes.now i 0) }
+    ensures { OnOk result (shapes_points shapes.new.items ≡ shapes_points shapes.old.items ++
+        cond (is_head (placed (views rings.now)) (ring_at (views rings.now) h)) (map (answered clockwise) (shape_of (placed (views rings.now)) (ring_at (views rings.now) h)) ∷ []) []) }
+{
+    if homes[h] != h {
+        return Ok(());
+    }
+    shapes.push(shape(alloc, rings, homes, h, clockwise)?)?;
+    Ok(())
+}
+
+/// The shapes of rings that stand in order.
+fn grouped(alloc: Global, rings: &[Ring], clockwise: bool) -> Result<Vec<Vec<Vec<GridPoint>>>, AllocError>
+    requires { All (λ (r : Held). IsSafe (2 ^ 33) r.1) rings.now }
+    ensures { IfOk result (λ v. shapes_points v.items ≡ map (map (answered clockwise)) (shapes_of (placed (views rings.now)))) }
+{
+    let homes = homes(alloc, rings)?;
+    let mut shapes = Vec::new(alloc);
+    for h in 0..rings.len() {
+        push_shape(alloc, &mut shapes, rings, &homes, h, clockwise)?;
+    }
+    Ok(shapes)
+}
+
+/// Rings in the order of their points.
+fn in_order(mut rings: Vec<Ring>) -> Result<Vec<Ring>, AllocError>
+    ensures same { IfOk result (λ v. IsPermutation rings.items v.items) }
+    ensures ordered { IfOk result (λ v. IsSortedBy (λ r s. points_lt r.0 s.0) (views v.items)) }
+{
+    rings.sort()?;
+    Ok(rings)
 }
 
 /// The rings as shapes, in order.
-pub fn shapes(alloc: Global, rings: Vec<Ring>, least_area: u128, clockwise: bool) -> Result<Vec<Vec<Vec<GridPoint>>>, AllocError> {
-    let mut large = Vec::new(alloc);
-    for r in rings {
-        if double_area(&r.0).unsigned_abs() >= 2 * least_area {
-            large.push(r)?;
-        }
-    }
-    large.sort()?;
-    let areas = areas(alloc, &large)?;
-    let heads = heads(alloc, &large, &areas)?;
-    let mut shapes = Vec::new(alloc);
-    for h in 0..large.len() {
-        if heads[h] == h {
-            let mut shape = Vec::new(alloc);
-            shape.push(answered(alloc, &large[h].0, clockwise)?)?;
-            for i in 0..large.len() {
-                if i != h && heads[i] == h {
-                    shape.push(answered(alloc, &large[i].0, clockwise)?)?;
-                }
-            }
-            shapes.push(shape)?;
-        }
-    }
+pub fn shapes(alloc: Global, rings: Vec<Ring>, clockwise: bool) -> Result<Vec<Vec<Vec<GridPoint>>>, AllocError>
+    requires { All (λ (r : Held). IsSafe (2 ^ 33) r.1) rings.items }
+    ensures { IfOk result (λ v. AreArranged clockwise (views rings.items) (shapes_points v.items)) }
+{
+    let ordered = in_order(rings)?;
+    let shapes = grouped(alloc, &ordered, clockwise)?;
     Ok(shapes)
 }
