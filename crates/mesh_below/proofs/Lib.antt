@@ -31,3 +31,4 @@ pub mod Paths
 pub mod Walking
 pub mod ContoursBegun
 pub mod AreaSums
+pub mod Groups

@@ -1,6 +1,7 @@
 //! Shapes of rings: order and grouping.
 
-ghost use Rattle.std.specs.Prelude.{◌≡◌, ◌⊎◌, ℕ, ◌+◌, ◌*◌, ◌^◌, ◌<◌, ◌≤◌, Bool, true, false, not, ◌&&◌, cond, List, [], ◌∷◌, ◌++◌, map, length, take, drop, reverse, slice_index_or, nat_le, nat_eq, unsigned_abs, IfOk, OnOk, MatchOption};
+ghost use Rattle.std.specs.Prelude.{◌≡◌, ◌⊎◌, ℕ, ◌+◌, ◌*◌, ◌^◌, ◌<◌, ◌≤◌, Bool, true, false, not, ◌&&◌, cond, List, [], ◌∷◌, ◌++◌, map, length, take, drop, reverse, slice_index_or, nat_le, nat_eq, unsigned_abs, int_lt, pos, IfOk, OnOk, MatchOption};
+ghost use Rattle.std.specs.Option.{ForSome};
 ghost use Rattle.std.specs.List.{All, filter, enumerate_from};
 ghost use Rattle.std.specs.List.Sorted.{IsSortedBy, IsPermutation};
 ghost use Rattle.mesh_num.specs.Bounds.{IsSafe};
@@ -46,6 +47,18 @@ fn is_round_at(rings: &[Ring], areas: &[i128], h: usize, q: FinePoint) -> bool
     holds(&rings[h].0, q)
 }
 
+/// Whether no ring is known yet, or the one at `k` has less area than it.
+fn is_less(areas: &[i128], best: Option<usize>, k: usize) -> bool
+    requires in_range { k < length areas.now }
+    requires known { ForSome best (λ b. b < length areas.now) }
+    ensures { MatchOption best (result ≡ true) (λ b. result ≡ int_lt (slice_index_or areas.now k (pos 0)) (slice_index_or areas.now b (pos 0))) }
+{
+    let Some(b) = best else {
+        return true;
+    };
+    areas[k] < areas[b]
+}
+
 /// The better holder of the point, of the one known and the ring at `k`.
 fn better_holder(rings: &[Ring], areas: &[i128], q: FinePoint, best: Option<usize>, k: usize) -> Option<usize>
     requires in_range { k < length rings.now }
@@ -54,10 +67,8 @@ fn better_holder(rings: &[Ring], areas: &[i128], q: FinePoint, best: Option<usiz
     requires known { MatchOption best (NoneRound (views rings.now) k q) (IsHolder (views rings.now) k q) }
     ensures { MatchOption result (NoneRound (views rings.now) (k + 1) q) (IsHolder (views rings.now) (k + 1) q) }
 {
-    if let Some(b) = best {
-        if areas[b] <= areas[k] {
-            return best;
-        }
+    if !is_less(areas, best, k) {
+        return best;
     }
     if !is_round_at(rings, areas, k, q) {
         return best;
