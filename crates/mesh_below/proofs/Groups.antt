@@ -29,8 +29,8 @@ pub length_map : {A B : Type 0} (f : A → B) (xs : List A) → length (map f xs
 length_map f [] = refl
 length_map f (x ∷ xs) = ap suc (length_map f xs)
 
-pub view_at : (rs : List Held) (i : ℕ) (r : Held) (d : Ring) → i < length rs → r ≡ get_or rs i r → get_or (views rs) i d ≡ view r
-view_at rs i r d low e = get_map view rs i r d low ∙ ap view (sym e)
+pub view_at : (rs : List Held) (i : ℕ) (r : Held) (d : Ring) → i < length rs → get_or (views rs) i d ≡ view (get_or rs i r)
+view_at rs i r d low = get_map view rs i r d low
 
 pub area_at : (rs : List Ring) (areas : List ℤ) (i : ℕ) → areas ≡ areas_of rs → i < length rs → get_or areas i (pos 0) ≡ double_area (ring_at rs i).1.0
 area_at rs areas i e low = ap (λ (l : List ℤ). get_or l i (pos 0)) e ∙ get_map (λ (r : Ring). double_area r.0) rs i ([] , (pos 0 , pos 0)) (pos 0) low

@@ -32,3 +32,4 @@ pub mod Walking
 pub mod ContoursBegun
 pub mod AreaSums
 pub mod Groups
+pub mod Shapes

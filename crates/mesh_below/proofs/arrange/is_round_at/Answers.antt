@@ -1,0 +1,14 @@
+use Rattle.std.proofs.Common.{rules, ◌≡◌, ◌∙◌, ap, true, arith, length, get_or}
+use Rattle.std.specs.Prelude.{pos, int_lt}
+use Rattle.mesh_num.specs.Plane.{Point}
+use Rattle.mesh_num.specs.Winding.{holds}
+use Rattle.mesh_below.specs.Grouping.{view}
+use Rattle.mesh_below.proofs.Groups.{length_map}
+use Rattle.mesh_below.proofs.Shapes.{round_at}
+use Rattle.mesh_below.proofs.arrange.is_round_at.Goals as goal
+
+pub returns : goal.returns
+returns c =
+    let positive : int_lt (pos 0) (get_or c.args.areas.now c.args.h (pos 0)) ≡ true = search rules in
+    round_at c.args.rings.now c.args.areas.now c.args.h c.args.q c.index-rings-h.result c.holds.result c.requires.known (omega (arith, length_map view c.args.rings.now, c.requires.in_range)) c.requires.in_range
+    positive (c.holds.ensures ∙ ap (holds 2 c.args.q) c.deref.ensures.value)
