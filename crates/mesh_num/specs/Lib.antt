@@ -1,7 +1,9 @@
 pub mod Bounds
 pub mod Directed
 pub mod Direction
+pub mod FlatContours
 pub mod Order
+pub mod Paths
 pub mod Plane
 pub mod Rectangle
 pub mod Rounding
