@@ -108,7 +108,7 @@ impl<I: IntNumber> IntVector<I> {
     /// `k * k * length² <= UNIT * UNIT * component²`, with the component's sign. Components are below `2 * UNIT` in size.
     pub fn fast_normalize(&self) -> Option<UnitIntVector<I>>
         requires { IsSafe (2 * I.unit) self.now }
-        ensures none { IsNone result ↔ (self.now ≡ (pos 0 , pos 0)) }
+        ensures none { IsNone result ↔ (self.now ≡ (pos 0, pos 0)) }
         ensures value { IfSome result (λ n. IsDirection I.unit self.now n) }
         ensures short { IfSome result (λ n. IsShort I.unit n) }
         ensures fresh { IfSome result (λ n. IsFresh I.unit n) }
