@@ -1,6 +1,7 @@
 pub mod Bounds
 pub mod Directed
 pub mod Direction
+pub mod Laws
 pub mod Order
 pub mod Plane
 pub mod Rectangle
