@@ -1,8 +1,9 @@
 -- Laws of crossings, windings, balance and directions. The function of the same name in the module `laws` carries each.
-use Rattle.std.specs.Prelude.{ℕ, ◌≡◌, ◌<◌, ◌↔◌, List, [], ◌∷◌, pos, ◌≤ℤ◌}
-use Rattle.mesh_num.specs.Plane.{Point, plus, turn, length_sq}
+use Rattle.std.specs.Prelude.{ℕ, ◌≡◌, ◌+◌, ◌*◌, ◌<◌, ◌≤◌, ◌↔◌, List, [], ◌∷◌, ℤ, pos, neg_ℤ, ◌≤ℤ◌, unsigned_abs}
+use Rattle.mesh_num.specs.Plane.{Point, plus, turn, dot, length_sq}
+use Rattle.mesh_num.specs.Rounding.{rounded}
 use Rattle.mesh_num.specs.Winding.{crossing_on, winding, boundary, IsBalanced, IsBit, IsOdd, IsStraight}
-use Rattle.mesh_num.specs.Direction.{IsDirection}
+use Rattle.mesh_num.specs.Direction.{IsDirection, HasSignOf}
 use Rattle.mesh_num.specs.Directed.{direction_of}
 
 -- an edge and the same edge back cross nothing together
@@ -33,3 +34,24 @@ ClosedListsBalance = (points : List Point) → IsBalanced (boundary points)
 -- a vector other than 0 has one direction, which `direction_of` gives
 abbrev pub DirectionsAreUnique : Type 0
 DirectionsAreUnique = (unit : ℕ) (v n : Point) → 0 < length_sq v → (IsDirection unit v n ↔ (n ≡ direction_of unit v))
+
+-- the square of a length is the vector's product with itself
+abbrev pub LengthsAreProducts : Type 0
+LengthsAreProducts = (v : Point) → dot v v ≡ pos (length_sq v)
+
+-- `k` is the whole number next to `a / d`, on the same side of 0 and at most a half away; of two that are a half away the one farther from 0
+pub record IsNearest (a : ℤ) (d : ℕ) (k : ℤ) : Type 0 where
+  pub sign : HasSignOf a k
+  pub at_most : 2 * (unsigned_abs k * d) ≤ 2 * unsigned_abs a + d
+  pub above : 2 * unsigned_abs a < 2 * (unsigned_abs k * d) + d
+
+abbrev pub RoundedIsNearest : Type 0
+RoundedIsNearest = (a : ℤ) (d : ℕ) → 0 < d → IsNearest a d (rounded a d)
+
+-- the opposite number has the opposite quotient
+abbrev pub RoundedIsOdd : Type 0
+RoundedIsOdd = (a : ℤ) (d : ℕ) → 0 < d → rounded (neg_ℤ a) d ≡ neg_ℤ (rounded a d)
+
+-- a greater number has no smaller quotient
+abbrev pub RoundedIsMonotone : Type 0
+RoundedIsMonotone = (a b : ℤ) (d : ℕ) → 0 < d → a ≤ℤ b → rounded a d ≤ℤ rounded b d

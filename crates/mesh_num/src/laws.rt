@@ -1,6 +1,6 @@
 //! Laws of the definitions that contracts cite. Each function does nothing: its clause is the law.
 
-ghost use Rattle.mesh_num.specs.Laws.{CrossingsAreOdd, CrossingsAddAlongLines, FlatTrianglesDoNotWind, TrianglesWindOnce, ParallelogramsWindOnce, ClosedListsBalance, DirectionsAreUnique};
+ghost use Rattle.mesh_num.specs.Laws.{CrossingsAreOdd, CrossingsAddAlongLines, FlatTrianglesDoNotWind, TrianglesWindOnce, ParallelogramsWindOnce, ClosedListsBalance, DirectionsAreUnique, LengthsAreProducts, RoundedIsNearest, RoundedIsOdd, RoundedIsMonotone};
 
 /// An edge and the same edge back cross nothing together.
 pub fn crossings_are_odd()
@@ -35,4 +35,24 @@ pub fn closed_lists_balance()
 /// A vector other than 0 has one direction.
 pub fn directions_are_unique()
     ensures { DirectionsAreUnique }
+{}
+
+/// The square of a length is the vector's product with itself.
+pub fn lengths_are_products()
+    ensures { LengthsAreProducts }
+{}
+
+/// A rounded quotient is the nearest whole number, halves away from 0.
+pub fn rounded_is_nearest()
+    ensures { RoundedIsNearest }
+{}
+
+/// The opposite number has the opposite rounded quotient.
+pub fn rounded_is_odd()
+    ensures { RoundedIsOdd }
+{}
+
+/// A greater number has no smaller rounded quotient.
+pub fn rounded_is_monotone()
+    ensures { RoundedIsMonotone }
 {}
