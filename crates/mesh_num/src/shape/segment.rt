@@ -1,7 +1,8 @@
 //! Segments with a sign, each of which stands for one directed edge.
 
 ghost use Rattle.std.specs.Prelude.{◌≡◌, ◌≢◌, ℤ, List, OnOk, OnErr, IfOk, IsOk, ◌++◌};
-ghost use Rattle.mesh_num.specs.Segments.{edge_of, subject_of, segment_between, IsSubject};
+ghost use Rattle.mesh_num.specs.Segments.{edge_of, subject_of, segment_between, IsSubject, SignedEdge};
+ghost use Rattle.mesh_num.specs.Plane.{Point};
 
 use crate::num::number::IntNumber;
 use crate::num::point::IntPoint;
@@ -81,18 +82,26 @@ impl<I: IntNumber> Segment<I> {
     }
 }
 
-/// Vectors of segments that edges are added to.
+/// Vectors of segments that edges are added to. Contracts see their list of segments, and the points as pairs.
 pub trait SubjectSegments<P> {
+    ghost segments: { Self → List SignedEdge };
+
+    ghost point: { P → Point };
+
     /// Adds the segment of the edge from `a` to `b`, or nothing where they are one point, which takes no memory.
     /// After a refusal the vector is unchanged.
-    fn push_non_degenerate(&mut self, a: P, b: P) -> Result<(), AllocError>;
+    fn push_non_degenerate(&mut self, a: P, b: P) -> Result<(), AllocError>
+        ensures ok { OnOk result (segments self.new ≡ segments self.old ++ segment_between (point a) (point b)) }
+        ensures err { OnErr result (segments self.new ≡ segments self.old) }
+        ensures same_ends { point a ≡ point b → IsOk result };
 }
 
 impl<I: IntNumber> SubjectSegments<IntPoint<I>> for Vec<Segment<I>> {
+    ghost segments = { λ v. v.items };
+
+    ghost point = { λ p. p };
+
     fn push_non_degenerate(&mut self, a: IntPoint<I>, b: IntPoint<I>) -> Result<(), AllocError>
-        ensures ok { OnOk result (self.new.items ≡ self.old.items ++ segment_between a b) }
-        ensures err { OnErr result (self.new.items ≡ self.old.items) }
-        ensures same_ends { a ≡ b → IsOk result }
     {
         if a != b {
             self.push(Segment::subject(a, b))?;
