@@ -1,6 +1,6 @@
 //! Segments with a sign, each of which stands for one directed edge.
 
-ghost use Rattle.std.specs.Prelude.{◌≡◌, ◌≢◌, ℤ, List, OnOk, OnErr, IfOk, IsOk, ◌++◌};
+ghost use Rattle.std.specs.Prelude.{◌≡◌, ◌≢◌, ℤ, List, OnOk, OnErr, IsOk, ◌++◌};
 ghost use Rattle.mesh_num.specs.Segments.{edge_of, subject_of, segment_between, IsSubject, SignedEdge};
 ghost use Rattle.mesh_num.specs.Plane.{Point};
 
@@ -17,9 +17,11 @@ pub struct XSegment<I: IntNumber> {
 }
 
 impl<I: IntNumber> Clone for XSegment<I> {
-    fn clone(&self) -> Result<Self, AllocError>
-        ensures { IfOk result (λ s. s ≡ self.now) }
-    {
+    ghost is_clone = { λ first second. second ≡ first };
+
+    ghost is_infallible = { λ _. Unit {0} };
+
+    fn clone(&self) -> Result<Self, AllocError> {
         Ok(*self)
     }
 }
@@ -43,9 +45,11 @@ pub struct Segment<I: IntNumber> {
 }
 
 impl<I: IntNumber> Clone for Segment<I> {
-    fn clone(&self) -> Result<Self, AllocError>
-        ensures { IfOk result (λ s. s ≡ self.now) }
-    {
+    ghost is_clone = { λ first second. second ≡ first };
+
+    ghost is_infallible = { λ _. Unit {0} };
+
+    fn clone(&self) -> Result<Self, AllocError> {
         Ok(*self)
     }
 }
@@ -101,8 +105,7 @@ impl<I: IntNumber> SubjectSegments<IntPoint<I>> for Vec<Segment<I>> {
 
     ghost point = { λ p. p };
 
-    fn push_non_degenerate(&mut self, a: IntPoint<I>, b: IntPoint<I>) -> Result<(), AllocError>
-    {
+    fn push_non_degenerate(&mut self, a: IntPoint<I>, b: IntPoint<I>) -> Result<(), AllocError> {
         if a != b {
             self.push(Segment::subject(a, b))?;
         }
