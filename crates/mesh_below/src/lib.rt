@@ -4,6 +4,7 @@
 ghost use Rattle.std.specs.Prelude.{◌≡◌, true};
 
 pub mod exact;
+pub mod given;
 pub mod grid;
 pub mod splitter;
 pub mod store;
