@@ -26,3 +26,4 @@ pub mod BoundaryRegions
 pub mod ContoursKept
 pub mod BoundarySplits
 pub mod Paths
+pub mod Subjects
