@@ -1,6 +1,6 @@
 -- Lemmas over points and lists: segments of edges are as `Segment::subject` gives them.
-use Rattle.std.proofs.Common.{◌≡◌, ◌⊎◌, inl, inr, Bool, true, false, cond, not, List, [], ◌∷◌, ◌++◌, refl, sym, arith}
-use Rattle.std.specs.Prelude.{ℤ, pos, negsuc, ◌&&◌, ◌||◌, int_lt, IsTrue}
+use Rattle.std.proofs.Common.{◌≡◌, inl, inr, Bool, true, false, cond, List, [], ◌∷◌, refl, arith}
+use Rattle.std.specs.Prelude.{ℤ, pos, negsuc, ◌&&◌, ◌||◌, int_lt}
 use Rattle.std.specs.Ordering.{int_eq}
 use Rattle.std.specs.List.{All}
 use Rattle.std.proofs.lemmas.Int.{ints}
@@ -8,7 +8,7 @@ use Rattle.std.proofs.lemmas.List.Elements.{All-append, All-nil, All-cons}
 use Rattle.mesh_num.specs.Plane.{Point, Edge}
 use Rattle.mesh_num.specs.Winding.{same_point}
 use Rattle.mesh_num.specs.Order.{point_lt}
-use Rattle.mesh_num.specs.Segments.{SignedEdge, subject_of, segment_between, segments_of, IsSubject}
+use Rattle.mesh_num.specs.Segments.{subject_of, segment_between, segments_of, IsSubject}
 
 -- of two different points one is the smaller
 turned_round : (a b c d : ℤ) → (int_eq a c && int_eq b d) ≡ false → (int_lt a c || (int_eq a c && int_lt b d)) ≡ false → (int_lt c a || (int_eq c a && int_lt d b)) ≡ true
