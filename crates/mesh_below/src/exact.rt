@@ -68,7 +68,8 @@ fn is_in_box(e: GridEdge, c: GridPoint) -> bool
     is_between(e.0.1, c.1, e.1.1)
 }
 
-fn same_point(p: GridPoint, q: GridPoint) -> bool
+/// Whether two points are one.
+pub fn same_point(p: GridPoint, q: GridPoint) -> bool
     ensures { result ≡ same_point p q }
 {
     p.0 == q.0 && p.1 == q.1
