@@ -35,7 +35,10 @@ pub fn grid_edge<I: IntNumber>(s: Segment<I>) -> GridEdge
 }
 
 /// The edges that segments stand for, in their order. Segments are as `Segment::subject` gives them.
-pub fn grid_edges<I: IntNumber>(alloc: Global, segments: &[Segment<I>]) -> Result<Vec<GridEdge>, AllocError>
+pub fn grid_edges<I: IntNumber>(
+    alloc: Global,
+    segments: &[Segment<I>],
+) -> Result<Vec<GridEdge>, AllocError>
     requires { All IsSubject segments.now }
     ensures value { IfOk result (λ v. v.items ≡ edges_of segments.now) }
     ensures proper { IfOk result (λ v. IsProper v.items) }

@@ -22,7 +22,7 @@ struct Splitter {
 
 /// The segment of one edge.
 fn single(e: GridEdge) -> CountedSegment
-    ensures value { result ≡ (e , pos 1) }
+    ensures value { result ≡ (e, pos 1) }
     ensures light { weight result ≤ℤ pos (2 ^ 33) }
 {
     let (start, end) = e;
@@ -32,7 +32,7 @@ fn single(e: GridEdge) -> CountedSegment
 /// The segment seen from its other end.
 fn turned(s: CountedSegment) -> CountedSegment
     requires { weight s ≤ℤ pos (2 ^ 120) }
-    ensures { result ≡ ((s.0.1 , s.0.0) , neg_ℤ s.1) }
+    ensures { result ≡ ((s.0.1, s.0.0), neg_ℤ s.1) }
 {
     let (start, end) = s.0;
     ((end, start), -s.1)

@@ -16,7 +16,10 @@ impl Random {
         requires { 0 < n }
         ensures { result < n }
     {
-        self.state = self.state.wrapping_mul(6364136223846793005).wrapping_add(1442695040888963407);
+        self.state = self
+            .state
+            .wrapping_mul(6364136223846793005)
+            .wrapping_add(1442695040888963407);
         (self.state >> 33) % n
     }
 
@@ -41,7 +44,10 @@ fn close(edges: &mut Vec<GridEdge>, points: &[GridPoint]) -> Result<(), AllocErr
 }
 
 fn minus(p: GridPoint, q: GridPoint) -> (i128, i128) {
-    ((p.0 as i128).wrapping_sub(q.0 as i128), (p.1 as i128).wrapping_sub(q.1 as i128))
+    (
+        (p.0 as i128).wrapping_sub(q.0 as i128),
+        (p.1 as i128).wrapping_sub(q.1 as i128),
+    )
 }
 
 fn cross(v: (i128, i128), w: (i128, i128)) -> i128 {
@@ -62,9 +68,21 @@ fn share_only_ends(s: GridEdge, t: GridEdge) -> bool {
     if whole == 0 {
         return cross(gap, v) != 0 || b <= p || r <= a;
     }
-    let first = if whole > 0 { cross(gap, w) } else { cross(w, gap) };
-    let second = if whole > 0 { cross(gap, v) } else { cross(v, gap) };
-    let size = if whole > 0 { whole } else { 0i128.wrapping_sub(whole) };
+    let first = if whole > 0 {
+        cross(gap, w)
+    } else {
+        cross(w, gap)
+    };
+    let second = if whole > 0 {
+        cross(gap, v)
+    } else {
+        cross(v, gap)
+    };
+    let size = if whole > 0 {
+        whole
+    } else {
+        0i128.wrapping_sub(whole)
+    };
     if first < 0 || first > size || second < 0 || second > size {
         return true;
     }
@@ -95,22 +113,99 @@ fn split_sorted(alloc: Global, edges: &[GridEdge]) -> Result<Vec<CountedSegment>
 }
 
 /// Whether edges are split into just these segments, in their order.
-fn is_split(alloc: Global, edges: &[GridEdge], want: &[CountedSegment]) -> Result<bool, AllocError> {
+fn is_split(
+    alloc: Global,
+    edges: &[GridEdge],
+    want: &[CountedSegment],
+) -> Result<bool, AllocError> {
     Ok(split_sorted(alloc, edges)?.as_slice() == want)
 }
 
 #[test]
 fn worked_values(rt: HostRuntime) -> Result<(), AllocError> {
     let alloc = rt.alloc();
-    assert!(rt; is_split(alloc, &[((0, 0), (4, 4)), ((4, 0), (0, 4))], &[(((0, 0), (2, 2)), 1), (((0, 4), (2, 2)), -1), (((2, 2), (4, 0)), -1), (((2, 2), (4, 4)), 1)])?);
-    assert!(rt; is_split(alloc, &[((0, 0), (3, 3)), ((3, 0), (0, 3))], &[(((0, 0), (2, 2)), 1), (((0, 3), (2, 2)), -1), (((2, 2), (3, 0)), -1), (((2, 2), (3, 3)), 1)])?);
-    assert!(rt; is_split(alloc, &[((0, 0), (-3, -3)), ((-3, 0), (0, -3))], &[(((-3, -3), (-2, -2)), -1), (((-3, 0), (-2, -2)), 1), (((-2, -2), (0, -3)), 1), (((-2, -2), (0, 0)), -1)])?);
-    assert!(rt; is_split(alloc, &[((0, 0), (6, 0)), ((2, 0), (3, 5))], &[(((0, 0), (2, 0)), 1), (((2, 0), (3, 5)), 1), (((2, 0), (6, 0)), 1)])?);
-    assert!(rt; is_split(alloc, &[((0, 0), (4, 0)), ((6, 0), (2, 0))], &[(((0, 0), (2, 0)), 1), (((2, 0), (4, 0)), 0), (((4, 0), (6, 0)), -1)])?);
-    assert!(rt; is_split(alloc, &[((0, 0), (2, 4)), ((2, 4), (0, 0)), ((0, 0), (2, 4))], &[(((0, 0), (2, 4)), 1)])?);
+    assert!(rt;
+        is_split(
+            alloc,
+            &[((0, 0), (4, 4)), ((4, 0), (0, 4))],
+            &[
+                (((0, 0), (2, 2)), 1),
+                (((0, 4), (2, 2)), -1),
+                (((2, 2), (4, 0)), -1),
+                (((2, 2), (4, 4)), 1)
+            ]
+        )?
+    );
+    assert!(rt;
+        is_split(
+            alloc,
+            &[((0, 0), (3, 3)), ((3, 0), (0, 3))],
+            &[
+                (((0, 0), (2, 2)), 1),
+                (((0, 3), (2, 2)), -1),
+                (((2, 2), (3, 0)), -1),
+                (((2, 2), (3, 3)), 1)
+            ]
+        )?
+    );
+    assert!(rt;
+        is_split(
+            alloc,
+            &[((0, 0), (-3, -3)), ((-3, 0), (0, -3))],
+            &[
+                (((-3, -3), (-2, -2)), -1),
+                (((-3, 0), (-2, -2)), 1),
+                (((-2, -2), (0, -3)), 1),
+                (((-2, -2), (0, 0)), -1)
+            ]
+        )?
+    );
+    assert!(rt;
+        is_split(
+            alloc,
+            &[((0, 0), (6, 0)), ((2, 0), (3, 5))],
+            &[
+                (((0, 0), (2, 0)), 1),
+                (((2, 0), (3, 5)), 1),
+                (((2, 0), (6, 0)), 1)
+            ]
+        )?
+    );
+    assert!(rt;
+        is_split(
+            alloc,
+            &[((0, 0), (4, 0)), ((6, 0), (2, 0))],
+            &[
+                (((0, 0), (2, 0)), 1),
+                (((2, 0), (4, 0)), 0),
+                (((4, 0), (6, 0)), -1)
+            ]
+        )?
+    );
+    assert!(rt;
+        is_split(
+            alloc,
+            &[((0, 0), (2, 4)), ((2, 4), (0, 0)), ((0, 0), (2, 4))],
+            &[(((0, 0), (2, 4)), 1)]
+        )?
+    );
     let least = i32::MIN;
     let most = i32::MAX;
-    assert!(rt; is_split(alloc, &[((least, least), (most, most)), ((least, most), (most, least))], &[(((least, least), (-1, -1)), 1), (((least, most), (-1, -1)), 1), (((-1, -1), (most, least)), 1), (((-1, -1), (most, most)), 1)])?);
+    assert!(rt;
+        is_split(
+            alloc,
+            &[
+                ((least, least), (most, most)),
+                ((least, most), (most, least))
+            ],
+            &[
+                (((least, least), (-1, -1)), 1),
+                (((least, most), (-1, -1)), 1),
+                (((-1, -1), (most, least)), 1),
+                (((-1, -1), (most, most)), 1)
+            ]
+        )?
+    );
     assert!(rt; is_split(alloc, &[], &[])?);
     Ok(())
 }
