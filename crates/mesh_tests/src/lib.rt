@@ -1,0 +1,13 @@
+//! Tests of outlines against plain programs that count.
+#![tactic(auto)]
+
+#[cfg(test)]
+mod outlines;
+#[cfg(test)]
+mod pieces;
+#[cfg(test)]
+mod plain;
+#[cfg(test)]
+mod stored;
+#[cfg(test)]
+mod tables;
