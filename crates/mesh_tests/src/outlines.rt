@@ -1,6 +1,6 @@
 //! The edges that the builder adds: worked contours, and how they wind near the vertices of many contours.
 
-use crate::pieces::{Pieces, pieces};
+use crate::pieces::Pieces;
 use crate::plain::{Edge, Point, closed, is_balanced, plus, refined, winding};
 use i_overlay_mesh::outline::builder::OutlineBuilder;
 use i_overlay_mesh::outline::offset::IntOutlineOffset;
@@ -37,7 +37,7 @@ impl Outline {
         Ok(Outline {
             own: closed(alloc, &points)?,
             edges: built(rt, alloc, &path, offset)?,
-            between: pieces(alloc, wide(I::UNIT), wide(offset), &points)?,
+            between: Pieces::of_outline(alloc, wide(I::UNIT), wide(offset), &points)?,
         })
     }
 

@@ -43,30 +43,6 @@ fn corners(alloc: Global, edges: &[Edge]) -> Result<Vec<(Edge, Edge)>, AllocErro
     Ok(corners)
 }
 
-/// The pieces of the outline of a contour: the strips beside its edges and the triangles of its outer corners.
-pub fn pieces(
-    alloc: Global,
-    unit: i128,
-    offset: i128,
-    contour: &[Point],
-) -> Result<Pieces, AllocError> {
-    let mut boundaries = Vec::new(alloc);
-    if offset != 0 {
-        for (before, after) in corners(alloc, &cleaned(alloc, contour)?)? {
-            let moved_before = sideways(unit, offset, before);
-            let moved_after = sideways(unit, offset, after);
-            let (a, b) = after;
-            let (a_top, b_top) = (plus(a, moved_after), plus(b, moved_after));
-            boundaries.push(closed(alloc, &[a, a_top, b_top, b])?)?;
-            let from = plus(a, moved_before);
-            if is_outer(offset, before, after) && from != a_top {
-                boundaries.push(closed(alloc, &[a, from, a_top])?)?;
-            }
-        }
-    }
-    Ok(Pieces { boundaries, offset })
-}
-
 /// Whether the contour turns away at a corner from the side that its edges are moved to, or turns back.
 fn is_outer(offset: i128, before: Edge, after: Edge) -> bool {
     let (v, w) = (minus(before.1, before.0), minus(after.1, after.0));
@@ -108,6 +84,29 @@ fn rounded(a: i128, divisor: i128) -> i128 {
 }
 
 impl Pieces {
+    /// The strips beside the edges of the cleaned contour and the triangles of its outer corners.
+    pub fn of_outline(
+        alloc: Global,
+        unit: i128,
+        offset: i128,
+        contour: &[Point],
+    ) -> Result<Pieces, AllocError> {
+        let mut boundaries = Vec::new(alloc);
+        if offset != 0 {
+            for (before, after) in corners(alloc, &cleaned(alloc, contour)?)? {
+                let (a, b) = after;
+                let moved = sideways(unit, offset, after);
+                let (a_top, b_top) = (plus(a, moved), plus(b, moved));
+                boundaries.push(closed(alloc, &[a, a_top, b_top, b])?)?;
+                let from = plus(a, sideways(unit, offset, before));
+                if is_outer(offset, before, after) && from != a_top {
+                    boundaries.push(closed(alloc, &[a, from, a_top])?)?;
+                }
+            }
+        }
+        Ok(Pieces { boundaries, offset })
+    }
+
     /// How many of the pieces wind round a point of the grid `m`, and whether each does so at most once and to the
     /// side of the offset.
     pub fn count(&self, m: i128, q: Point) -> (i128, bool) {
