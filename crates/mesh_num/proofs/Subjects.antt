@@ -4,11 +4,7 @@ use Rattle.std.specs.Prelude.{ℤ, pos, negsuc, ◌&&◌, ◌||◌, int_lt, IsTr
 use Rattle.std.specs.Ordering.{int_eq}
 use Rattle.std.specs.List.{All}
 use Rattle.std.proofs.lemmas.Int.{ints}
-<<<<<<< HEAD
-use Rattle.std.proofs.lemmas.List.Elements.{All-append, All-nil, All-cons}
-=======
-use Rattle.std.proofs.lemmas.List.Elements.{All-nil, All-cons, All-head, All-tail, All-append}
->>>>>>> 65279a285b26e7717bb1a9b52be6ac1cb8e30ddc
+use Rattle.std.proofs.lemmas.List.Elements.{All-append, All-nil, All-cons, All-head, All-tail}
 use Rattle.mesh_num.specs.Plane.{Point, Edge}
 use Rattle.mesh_num.specs.Winding.{same_point}
 use Rattle.mesh_num.specs.Order.{point_lt}
@@ -32,15 +28,9 @@ segment_between-subjects p r = by (same_point p r) refl
     by true e = All-nil IsSubject
     by false e = All-cons IsSubject (subject_of p r) [] (subject_form p r e) (All-nil IsSubject)
 
-<<<<<<< HEAD
 pub segments_of-subjects : (es : List Edge) → All IsSubject (segments_of es)
 segments_of-subjects [] = All-nil IsSubject
 segments_of-subjects (e ∷ es) = All-append IsSubject (segment_between e.0 e.1) (segments_of es) (segment_between-subjects e.0 e.1) (segments_of-subjects es)
-=======
--- the segments of any edges
-pub segments_of_subjects : (es : List Edge) → All IsSubject (segments_of es)
-segments_of_subjects [] = All-nil IsSubject
-segments_of_subjects (e ∷ es) = All-append IsSubject (segment_between e.0 e.1) (segments_of es) (segment_between_subject e.0 e.1) (segments_of_subjects es)
 
 -- what holds of both ends of some edges holds of both ends of their segments
 pub segments_of_ends : (P : Point → Type 0) (es : List Edge) → All (λ (e : Edge). P e.0 × P e.1) es → All (λ (s : SignedEdge). P s.0.0 × P s.0.1) (segments_of es)
@@ -54,4 +44,3 @@ segments_of_ends P (e ∷ es) h =
     between p true less = All-nil (λ (s : SignedEdge). P s.0.0 × P s.0.1)
     between p false true = All-cons (λ (s : SignedEdge). P s.0.0 × P s.0.1) ((e.0, e.1), pos 1) [] p (All-nil (λ (s : SignedEdge). P s.0.0 × P s.0.1))
     between p false false = All-cons (λ (s : SignedEdge). P s.0.0 × P s.0.1) ((e.1, e.0), negsuc 0) [] (p.1, p.0) (All-nil (λ (s : SignedEdge). P s.0.0 × P s.0.1))
->>>>>>> 65279a285b26e7717bb1a9b52be6ac1cb8e30ddc
