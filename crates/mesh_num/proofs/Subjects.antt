@@ -33,12 +33,12 @@ segments_of-subjects [] = All-nil IsSubject
 segments_of-subjects (e ∷ es) = All-append IsSubject (segment_between e.0 e.1) (segments_of es) (segment_between-subjects e.0 e.1) (segments_of-subjects es)
 
 -- what holds of both ends of some edges holds of both ends of their segments
-pub segments_of_ends : (P : Point → Type 0) (es : List Edge) → All (λ (e : Edge). P e.0 × P e.1) es → All (λ (s : SignedEdge). P s.0.0 × P s.0.1) (segments_of es)
-segments_of_ends P [] h = All-nil (λ (s : SignedEdge). P s.0.0 × P s.0.1)
-segments_of_ends P (e ∷ es) h =
+pub segments_of-ends : (P : Point → Type 0) (es : List Edge) → All (λ (e : Edge). P e.0 × P e.1) es → All (λ (s : SignedEdge). P s.0.0 × P s.0.1) (segments_of es)
+segments_of-ends P [] h = All-nil (λ (s : SignedEdge). P s.0.0 × P s.0.1)
+segments_of-ends P (e ∷ es) h =
     All-append (λ (s : SignedEdge). P s.0.0 × P s.0.1) (segment_between e.0 e.1) (segments_of es)
     (between (All-head (λ (e : Edge). P e.0 × P e.1) e es h) (same_point e.0 e.1) (point_lt e.0 e.1))
-    (segments_of_ends P es (All-tail (λ (e : Edge). P e.0 × P e.1) e es h))
+    (segments_of-ends P es (All-tail (λ (e : Edge). P e.0 × P e.1) e es h))
   where
     between : P e.0 × P e.1 → (same less : Bool) → All (λ (s : SignedEdge). P s.0.0 × P s.0.1) (cond same [] (cond less ((e.0, e.1), pos 1) ((e.1, e.0), negsuc 0) ∷ []))
     between p true less = All-nil (λ (s : SignedEdge). P s.0.0 × P s.0.1)
