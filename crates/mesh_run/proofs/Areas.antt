@@ -75,3 +75,8 @@ pub area_end : (first previous : Point) (rest : List Point) (i : ℕ) (s a x : �
 area_end first previous rest i s a x l e f =
     let h : s ≡ a +ℤ (cross previous first +ℤ pos 0) = e ∙ ap (λ (ps : List Point). a +ℤ total cross (route previous ps first)) (drop_all i rest l) in
     omega (arith, linear, h, f)
+
+pub within_wide : (u h : ℕ) (z : ℤ) → h ≡ 8 * u * u → 1 ≤ u → IsWithin (2 * u) z → IsWithin h z
+within_wide u h z e l w =
+    let p : 1 * u ≤ u * u = mul-le-mul l (omega arith) in
+    record { low = omega (arith, ints, w.low); high = omega (arith, ints, w.high) }

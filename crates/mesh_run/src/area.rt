@@ -3,8 +3,9 @@
 ghost use Rattle.std.specs.Prelude.{◌≡◌, ◌↔◌, pos, ◌^◌, ◌≤◌, IsTrue, unsigned_abs};
 ghost use Rattle.mesh_num.specs.Bounds.{IsWithin};
 ghost use Rattle.mesh_num.specs.Plane.{cross};
-ghost use Rattle.mesh_run.specs.Area.{double_area as double_area_of};
+ghost use Rattle.mesh_run.specs.DoubleArea.{double_area as double_area_of};
 
+use crate::coordinate::widened;
 use mesh_num::num::{IntNumber, IntPoint};
 
 /// The signed double area of a closed contour, in squares of the grid: above 0 where it runs counterclockwise.
@@ -28,14 +29,6 @@ fn cross_product<I: IntNumber>(p: IntPoint<I>, q: IntPoint<I>) -> i128
     ensures size { unsigned_abs result ≤ 2 ^ 63 }
 {
     widened(p.x) * widened(q.y) - widened(p.y) * widened(q.x)
-}
-
-/// A coordinate in 128 bits.
-pub fn widened<I: IntNumber>(coordinate: I) -> i128
-    ensures value { result ≡ I.value coordinate }
-    ensures range { IsWithin (2 ^ 31) result }
-{
-    I::wide_to_i128(coordinate.to_wide())
 }
 
 /// Whether a number fits the wide type of a coordinate.

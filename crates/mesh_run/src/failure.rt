@@ -23,18 +23,35 @@ impl fmt::Display for Failure {
 }
 
 impl From<IntOutlineError> for Failure {
+    ghost use Rattle.std.specs.Prelude.{◌≡◌};
+    ghost use Rattle.mesh_run.specs.declared.failure.Failure.TheVariants.{Refused};
+
+    ghost from_gives = { λ error failure. failure ≡ Refused error };
+
     fn from(error: IntOutlineError) -> Failure {
         Failure::Refused(error)
     }
 }
 
 impl From<AllocError> for Failure {
+    ghost use Rattle.std.specs.Prelude.{◌≡◌};
+    ghost use Rattle.mesh_run.specs.declared.failure.Failure.TheVariants.{Refused};
+    ghost use Rattle.mesh_run.specs.declared.standin.IntOutlineError.TheVariants.{OutOfMemory};
+
+    ghost from_gives = { λ _ failure. failure ≡ Refused OutOfMemory };
+
     fn from(_refused: AllocError) -> Failure {
         Failure::Refused(IntOutlineError::OutOfMemory)
     }
 }
 
 impl<T: Drop> From<AllocFailed<T>> for Failure {
+    ghost use Rattle.std.specs.Prelude.{◌≡◌};
+    ghost use Rattle.mesh_run.specs.declared.failure.Failure.TheVariants.{Refused};
+    ghost use Rattle.mesh_run.specs.declared.standin.IntOutlineError.TheVariants.{OutOfMemory};
+
+    ghost from_gives = { λ _ failure. failure ≡ Refused OutOfMemory };
+
     fn from(_refused: AllocFailed<T>) -> Failure {
         Failure::Refused(IntOutlineError::OutOfMemory)
     }
@@ -42,6 +59,13 @@ impl<T: Drop> From<AllocFailed<T>> for Failure {
 
 /// A text that is no JSON is unreadable.
 impl From<serde_json::Error> for Failure {
+    ghost use Rattle.std.specs.Prelude.{◌≡◌};
+    ghost use Rattle.serde_json.specs.Errors.{IsMemory};
+    ghost use Rattle.mesh_run.specs.declared.failure.Failure.TheVariants.{Refused, Unreadable};
+    ghost use Rattle.mesh_run.specs.declared.standin.IntOutlineError.TheVariants.{OutOfMemory};
+
+    ghost from_gives = { λ error failure. (IsMemory error → failure ≡ Refused OutOfMemory) × (¬ IsMemory error → failure ≡ Unreadable) };
+
     fn from(error: serde_json::Error) -> Failure {
         if error.is_memory() {
             Failure::from(AllocError)

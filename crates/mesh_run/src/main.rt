@@ -3,6 +3,7 @@
 
 pub mod answer;
 pub mod area;
+pub mod coordinate;
 pub mod failure;
 pub mod json;
 pub mod outline;
