@@ -4,12 +4,15 @@
 pub mod answer;
 pub mod area;
 pub mod coordinate;
+pub mod edge;
 pub mod failure;
 pub mod json;
 pub mod outline;
 pub mod request;
 pub mod service;
 mod standin;
+#[cfg(test)]
+mod tests;
 
 use service::serve;
 use std::process::ExitCode;
