@@ -1,7 +1,8 @@
 //! Coordinates in 128 bits.
 
-ghost use Rattle.std.specs.Prelude.{◌≡◌, ◌*◌, ◌^◌, ◌≤◌, pos, MatchOption};
+ghost use Rattle.std.specs.Prelude.{◌≡◌, ◌*◌, ◌^◌, ◌≤◌, pos, option_map};
 ghost use Rattle.mesh_num.specs.Bounds.{IsWithin};
+ghost use Rattle.mesh_run.specs.Reading.{held};
 
 use mesh_num::num::IntNumber;
 
@@ -15,7 +16,7 @@ pub fn widened<I: IntNumber>(coordinate: I) -> i128
 
 /// A number as a coordinate, `None` where it does not fit.
 pub fn narrowed<I: IntNumber>(number: i128) -> Option<I>
-    ensures { MatchOption result (¬ IsWithin (2 * I.unit) number) (λ c. I.value c ≡ number) }
+    ensures { option_map (λ c. I.value c) result ≡ held I.unit number }
 {
     let end = range_end::<I>();
     if -end <= number && number < end {

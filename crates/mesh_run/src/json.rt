@@ -1,13 +1,12 @@
 //! Values of JSON, and what is looked up in them.
 
-ghost use Rattle.std.specs.Prelude.{◌≡◌, ◌*◌, ◌^◌, Some, None, IfOk, IfErr, MatchOption, MatchResult, IsUtf8, false, true, ℤ, pos, string_bytes, option_and_then};
+ghost use Rattle.std.specs.Prelude.{◌≡◌, Some, IfOk, MatchOption, IsUtf8, false, true, option_map, option_and_then};
 ghost use Rattle.serde_json.specs.Data.{number as number_value};
-ghost use Rattle.serde_json.specs.Find.{get, as_str, as_array, as_number, as_i64, of_integer};
+ghost use Rattle.serde_json.specs.Find.{get, as_str, of_integer};
 ghost use Rattle.serde_json.specs.Read.{read};
 ghost use Rattle.serde_json.specs.View.{view, items_view, members_view};
 ghost use Rattle.serde_json.specs.Written.{has_float as holds_float, items_have_float, members_have_float};
-ghost use Rattle.mesh_num.specs.Bounds.{IsWithin};
-ghost use Rattle.mesh_run.specs.Reading.{whole};
+ghost use Rattle.mesh_run.specs.Reading.{coordinate_of, says as says_text};
 
 use crate::coordinate::{narrowed, widened};
 use crate::failure::Failure;
@@ -28,7 +27,7 @@ pub fn parse(alloc: Global, bytes: &[u8]) -> Result<Value, Failure>
     Ok(value)
 }
 
-/// Whether a number in the value is a float.
+/// Whether a number in the value is a float, as `serde_json` makes of one with a fraction, an exponent or too many digits.
 #[cycle(has_float)]
 fn has_float(value: &Value) -> bool
     ensures { result ≡ holds_float (view value.now) }
@@ -65,40 +64,21 @@ fn has_float_in_members(members: &Map<String, Value>) -> bool
     false
 }
 
-/// The member of an object.
-pub fn member<'v>(value: &'v Value, name: &str) -> Result<&'v Value, Failure>
-    ensures { MatchResult result (λ v. get name.now (view value.now) ≡ Some (view v.now))
-        (λ e. (e ≡ Failure.Unreadable) × (get name.now (view value.now) ≡ None)) }
+/// Whether a member of an object is this text.
+pub fn says(value: &Value, key: &str, text: &str) -> bool
+    ensures { result ≡ says_text key.now text.now (view value.now) }
 {
-    value.get(name).ok_or(Failure::Unreadable)
-}
-
-/// The text of a string.
-pub fn text(value: &Value) -> Result<&str, Failure>
-    ensures { MatchResult result (λ t. as_str (view value.now) ≡ Some t.now)
-        (λ e. (e ≡ Failure.Unreadable) × (as_str (view value.now) ≡ None)) }
-{
-    value.as_str().ok_or(Failure::Unreadable)
-}
-
-/// The items of a list.
-pub fn items(value: &Value) -> Result<&[Value], Failure>
-    ensures { MatchResult result (λ vs. as_array (view value.now) ≡ Some (items_view vs.now))
-        (λ e. (e ≡ Failure.Unreadable) × (as_array (view value.now) ≡ None)) }
-{
-    match value {
-        Value::Array(items) => Ok(items.as_slice()),
-        _ => Err(Failure::Unreadable),
+    match value.get(key).and_then(Value::as_str) {
+        Some(found) => found == text,
+        None => false,
     }
 }
 
-/// A whole number that fits a coordinate.
-pub fn coordinate<I: IntNumber>(value: &Value) -> Result<I, Failure>
-    ensures { MatchResult result (λ c. whole (view value.now) ≡ Some (I.value c))
-        (λ e. (e ≡ Failure.Unreadable) × MatchOption (whole (view value.now)) (Unit {0}) (λ z. ¬ IsWithin (2 * I.unit) z)) }
+/// The coordinate that a value is, a whole number that fits its type.
+pub fn coordinate<I: IntNumber>(value: &Value) -> Option<I>
+    ensures { option_map (λ c. I.value c) result ≡ coordinate_of I.unit (view value.now) }
 {
-    let number = value.as_i64().ok_or(Failure::Unreadable)?;
-    narrowed(number as i128).ok_or(Failure::Unreadable)
+    narrowed(value.as_i64()? as i128)
 }
 
 /// A coordinate as a value.

@@ -3,7 +3,7 @@
 use crate::answer::edges_line;
 use crate::failure::Failure;
 use crate::json::parse;
-use crate::request::Request;
+use crate::request::read_request;
 use std::alloc::Global;
 use std::io;
 use std::io::{ErrorKind, Read, Write};
@@ -49,10 +49,9 @@ pub fn serve<R: Read, W: Write>(alloc: Global, reader: &mut R, writer: &mut W) -
 fn answered<R: Read>(alloc: Global, reader: &mut R) -> Result<String, Failure> {
     let bytes = read_to_end(alloc, reader)?;
     let value = parse(alloc, &bytes)?;
-    let line = match Request::from_value(alloc, &value)? {
-        Request::OutlineI32(request) => edges_line(alloc, &request.segments(alloc)?)?,
-    };
-    Ok(line)
+    let request = read_request(alloc, &value)?;
+    let segments = request.segments(alloc)?;
+    Ok(edges_line(alloc, &segments)?)
 }
 
 /// The bytes that the reader has left. An error of its own is unreadable, and only a refused growth is want of memory.
