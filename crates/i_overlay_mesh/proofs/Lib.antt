@@ -1,0 +1,9 @@
+pub mod BuilderTheorems
+pub mod BuilderWalk
+pub mod Corners
+pub mod OutlineCount
+pub mod OutlineSum
+pub mod OutlineWalk
+pub mod Padding
+pub mod PaddingBounds
+pub mod Sections

@@ -1,7 +1,5 @@
 //! Why an offset call refuses.
 
-ghost use Rattle.std.specs.Prelude.{◌≡◌};
-
 use std::alloc::AllocError;
 use thiserror::Error;
 
@@ -18,7 +16,10 @@ pub enum IntOutlineError {
 }
 
 impl From<AllocError> for IntOutlineError {
-    ghost from_gives = { λ _ error. error ≡ IntOutlineError.OutOfMemory };
+    ghost use Rattle.std.specs.Prelude.{◌≡◌};
+    ghost use Rattle.i_overlay_mesh.specs.declared.error.IntOutlineError.TheVariants.{OutOfMemory};
+
+    ghost from_gives = { λ _ error. error ≡ OutOfMemory };
 
     fn from(_error: AllocError) -> Self {
         IntOutlineError::OutOfMemory

@@ -2,6 +2,6 @@
 #![tactic(auto)]
 
 pub mod error;
-
+pub mod outline;
 
 pub use error::IntOutlineError;

@@ -1,1 +1,2 @@
+pub mod Cleaned
 pub mod Joins

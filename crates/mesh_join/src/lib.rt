@@ -4,3 +4,4 @@
 pub mod arc;
 pub mod join;
 pub mod style;
+pub mod uniq_iter;

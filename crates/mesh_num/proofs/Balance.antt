@@ -1,7 +1,9 @@
 -- Lemmas over points and lists: balance, and sums of differences over edges.
 use Rattle.std.proofs.Common.{◌≡◌, ℕ, ◌+◌, ◌≤◌, List, [], ◌∷◌, ◌++◌, refl, sym, ◌∙◌, ap, arith}
-use Rattle.std.specs.Prelude.{ℤ, pos, ◌+ℤ◌, ◌-ℤ◌, neg_ℤ, Bool, true, false, cond, ◌&&◌, count_by, map}
+use Rattle.std.specs.Prelude.{ℤ, pos, ◌+ℤ◌, ◌-ℤ◌, neg_ℤ, Bool, true, false, cond, count_by, map}
 use Rattle.std.specs.Ordering.{int_eq}
+use Rattle.std.specs.List.{All}
+use Rattle.std.proofs.lemmas.List.Elements.{All-weaker}
 use Rattle.std.specs.List.Sorted.{IsPermutation}
 use Rattle.std.proofs.lemmas.Bool.Decides.{Decides-int_eq, Decides-and}
 use Rattle.std.proofs.lemmas.List.Sums.{sum_by-cons, sum_by-append}
@@ -10,7 +12,7 @@ use Rattle.std.proofs.lemmas.Int.{ints}
 use Rattle.mesh_num.specs.Plane.{Point, Edge}
 use Rattle.mesh_num.specs.Winding.{sum_of, total, boundary, pieces_total, same_point, IsBalanced, IsOdd, IsStraight}
 use Rattle.mesh_num.proofs.Whole.{linear}
-use Rattle.mesh_num.proofs.Sums.{sum_of_same, sum_of_none, sum_of_map}
+use Rattle.mesh_num.proofs.Sums.{sum_of_same, sum_of_equal, sum_of_none, sum_of_map}
 use Rattle.mesh_num.proofs.ClosedLists.{boundary_ends}
 
 -- how much `g` grows along an edge
@@ -78,11 +80,24 @@ pub balanced_permutation : (es gs : List Edge) → IsPermutation es gs → IsBal
 balanced_permutation es gs h k p =
     omega (arith, k p, sum_by-IsPermutation (λ (e : Edge). cond (same_point p e.0) 1 0) es gs h, sum_by-IsPermutation (λ (e : Edge). cond (same_point p e.1) 1 0) es gs h)
 
+-- edges of which each starts where the one before ends, the first where the last does
+pub closed_growth : (g : Point → ℤ) (es : List Edge) → All (λ (c : Edge × Edge). c.0.1 ≡ c.1.0) (boundary es) → total (growth g) es ≡ pos 0
+closed_growth g es closed =
+    let step = λ (c : Edge × Edge). g c.0.1 +ℤ neg_ℤ (g c.1.0) in
+    let each : All (λ c. step c ≡ pos 0) (boundary es) =
+    All-weaker (λ (c : Edge × Edge). c.0.1 ≡ c.1.0) (λ c. step c ≡ pos 0) (λ c e. omega (arith, linear, ap g e)) (boundary es) closed in
+    let none = sum_of_equal step (λ c. pos 0) (boundary es) each ∙ sum_of_none (λ (c : Edge × Edge). pos 0) (λ c. refl) (boundary es) in
+    let ends = boundary_ends (λ (e : Edge). g e.1) (λ (e : Edge). neg_ℤ (g e.0)) es in
+    sum_of_same (λ (e : Edge). g e.1 -ℤ g e.0) (λ (e : Edge). neg_ℤ (g e.0) +ℤ g e.1) (λ e. omega (arith, linear)) es ∙ (sym ends ∙ none)
+
+pub closed_balanced : (es : List Edge) → All (λ (c : Edge × Edge). c.0.1 ≡ c.1.0) (boundary es) → IsBalanced es
+closed_balanced es closed = balanced_by_growth es (λ g. closed_growth g es closed)
+
 -- back: lists with equal counts of each point have equal sums
-same_point_is : (p x : Point) → same_point p x ≡ true → p ≡ x
+pub same_point_is : (p x : Point) → same_point p x ≡ true → p ≡ x
 same_point_is p x e = let k = (Decides-and (int_eq p.0 x.0) (int_eq p.1 x.1) (Decides-int_eq p.0 x.0) (Decides-int_eq p.1 x.1)).0 e in λ i. (k.0 i, k.1 i)
 
-same_point_self : (p : Point) → same_point p p ≡ true
+pub same_point_self : (p : Point) → same_point p p ≡ true
 same_point_self p = (Decides-and (int_eq p.0 p.0) (int_eq p.1 p.1) (Decides-int_eq p.0 p.0) (Decides-int_eq p.1 p.1)).1 (refl, refl)
 
 without : Point → List Point → List Point

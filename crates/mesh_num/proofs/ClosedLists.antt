@@ -1,7 +1,8 @@
 -- Lemmas over points and lists: the neighbouring pairs of a list, and of a closed one.
-use Rattle.std.proofs.Common.{◌≡◌, ℕ, List, [], ◌∷◌, ◌++◌, length, refl, sym, ◌∙◌, ap, arith, append_assoc, append-nil}
-use Rattle.std.specs.Prelude.{ℤ, pos, ◌+ℤ◌, ◌-ℤ◌, neg_ℤ, map}
-use Rattle.std.specs.List.{flat_map}
+use Rattle.std.proofs.Common.{◌≡◌, List, [], ◌∷◌, ◌++◌, refl, sym, ap, arith, append_assoc, append-nil}
+use Rattle.std.specs.Prelude.{ℤ, ◌+ℤ◌, map}
+use Rattle.std.specs.List.{All, flat_map}
+use Rattle.std.proofs.lemmas.List.Elements.{All-nil, All-cons, All-head, All-tail, All-append}
 use Rattle.std.specs.List.Sorted.{IsPermutation}
 use Rattle.std.proofs.lemmas.List.Sorted.{IsPermutation-refl, IsPermutation-trans, IsPermutation-append, IsPermutation-append_left, IsPermutation-append_right, IsPermutation-append_comm}
 use Rattle.mesh_num.specs.Winding.{sum_of, route, boundary}
@@ -24,6 +25,36 @@ pub route_append : {A : Type 0} (a : A) (xs : List A) (y : A) (ys : List A) (z :
     route a (xs ++ y ∷ ys) z ≡ route a xs y ++ route y ys z
 route_append a [] y ys z = refl
 route_append a (x ∷ xs) y ys z = ap (λ (l : List _). (a, x) ∷ l) (route_append x xs y ys z)
+
+pub route_map : {A B : Type 0} (f : A → B) (a : A) (xs : List A) (z : A) →
+    route (f a) (map f xs) (f z) ≡ map (λ (e : A × A). (f e.0, f e.1)) (route a xs z)
+route_map f a [] z = refl
+route_map f a (x ∷ xs) z = ap (λ (l : List _). (f a, f x) ∷ l) (route_map f x xs z)
+
+pub boundary_map : {A B : Type 0} (f : A → B) (xs : List A) →
+    boundary (map f xs) ≡ map (λ (e : A × A). (f e.0, f e.1)) (boundary xs)
+boundary_map f [] = refl
+boundary_map f (x ∷ xs) = route_map f x xs x
+
+-- what holds of each one holds of both ends of each pair
+route_all : {A : Type 0} (P : A → Type 0) (a : A) (xs : List A) (z : A) → P a → All P xs → P z →
+    All (λ (e : A × A). P e.0 × P e.1) (route a xs z)
+route_all P a [] z pa pxs pz = All-cons (λ e. P e.0 × P e.1) (a, z) [] (pa, pz) (All-nil (λ e. P e.0 × P e.1))
+route_all P a (x ∷ xs) z pa pxs pz =
+    let px = All-head P x xs pxs in
+    All-cons (λ e. P e.0 × P e.1) (a, x) (route x xs z) (pa, px) (route_all P x xs z px (All-tail P x xs pxs) pz)
+
+pub boundary_all : {A : Type 0} (P : A → Type 0) (xs : List A) → All P xs → All (λ (e : A × A). P e.0 × P e.1) (boundary xs)
+boundary_all P [] h = All-nil (λ e. P e.0 × P e.1)
+boundary_all P (x ∷ xs) h = let px = All-head P x xs h in route_all P x xs x px (All-tail P x xs h) px
+
+pub all_both : {A : Type 0} (P Q : A → Type 0) (xs : List A) → All P xs → All Q xs → All (λ x. P x × Q x) xs
+all_both P Q xs p q = λ k d h. (p k d h, q k d h)
+
+pub all_flat_map : {A B : Type 0} (P : B → Type 0) (g : A → List B) (xs : List A) → All (λ x. All P (g x)) xs → All P (flat_map g xs)
+all_flat_map P g [] h = All-nil P
+all_flat_map P g (x ∷ xs) h =
+    All-append P (g x) (flat_map g xs) (All-head (λ y. All P (g y)) x xs h) (all_flat_map P g xs (All-tail (λ y. All P (g y)) x xs h))
 
 -- a closed list begun elsewhere has the same sum
 pub boundary_rotated : {A : Type 0} (f : A × A → ℤ) (xs ys : List A) →

@@ -1,45 +1,11 @@
 -- Lemmas over points and lists: turns, and the crossing of one edge at one point.
-use Rattle.std.proofs.Common.{◌≡◌, ℕ, ◌+◌, ◌*◌, ◌<◌, ◌≤◌, ◌⊎◌, inl, inr, refl, sym, ◌∙◌, ap, arith, zero, suc}
-use Rattle.std.specs.Prelude.{ℤ, pos, negsuc, ◌+ℤ◌, ◌-ℤ◌, ◌*ℤ◌, ◌≤ℤ◌, neg_ℤ}
-use lib.IntN.{*ℤ_comm, *ℤ-zero}
+use Rattle.std.proofs.Common.{◌≡◌, ℕ, ◌⊎◌, arith}
+use Rattle.std.specs.Prelude.{ℤ, pos, negsuc, ◌+ℤ◌, ◌*ℤ◌, ◌≤ℤ◌, neg_ℤ}
 use lib.Signed.{◌<ℤ◌}
-use Rattle.std.proofs.lemmas.Int.{ints, by_lt_z}
-use borrow.Author.Differences.{up, down, sum_is_lem, neg_is, product_is}
-use Rattle.mesh_num.specs.Plane.{Point, minus, cross, turn}
+use Rattle.std.proofs.lemmas.Int.{ints}
+use Rattle.mesh_num.specs.Plane.{Point, turn}
 use Rattle.mesh_num.specs.Winding.{crossing_of, crossing, refined, crossing_on}
-use Rattle.mesh_num.proofs.Whole.{linear, mul_add, add_mul, mul_neg, neg_mul}
-
-pub mul_assoc : (a b c : ℤ) → (a *ℤ b) *ℤ c ≡ a *ℤ (b *ℤ c)
-mul_assoc a b c =
-    omega (
-      arith,
-      ints,
-      ap (λ n. n * up c) (product_is a b).0,
-      ap (λ n. n * down c) (product_is a b).0,
-      ap (λ n. n * up c) (product_is a b).1,
-      ap (λ n. n * down c) (product_is a b).1,
-      ap (λ n. up a * n) (product_is b c).0,
-      ap (λ n. down a * n) (product_is b c).0,
-      ap (λ n. up a * n) (product_is b c).1,
-      ap (λ n. down a * n) (product_is b c).1,
-    )
-
-pub mul_left_comm : (a b c : ℤ) → a *ℤ (b *ℤ c) ≡ b *ℤ (a *ℤ c)
-mul_left_comm a b c = sym (mul_assoc a b c) ∙ (ap (λ (x : ℤ). x *ℤ c) (*ℤ_comm a b) ∙ mul_assoc b a c)
-
-pub ruleset multiplied = (mul_add, add_mul, mul_neg, neg_mul, mul_assoc, mul_left_comm, *ℤ_comm)
-
-pub mul_nonneg : (a b : ℤ) → pos 0 ≤ℤ a → pos 0 ≤ℤ b → pos 0 ≤ℤ (a *ℤ b)
-mul_nonneg (pos a) (pos b) h k = omega (arith, ints)
-mul_nonneg (pos a) (negsuc b) h k = absurd (omega (arith, ints))
-mul_nonneg (negsuc a) b h k = absurd (omega (arith, ints))
-
-pub mul_pos : (a b : ℤ) → pos 0 <ℤ a → pos 0 <ℤ b → pos 0 <ℤ (a *ℤ b)
-mul_pos (pos zero) b h k = absurd (omega (arith, ints))
-mul_pos (pos (suc a)) (pos zero) h k = absurd (omega (arith, ints))
-mul_pos (pos (suc a)) (pos (suc b)) h k = omega (arith, ints)
-mul_pos (pos (suc a)) (negsuc b) h k = absurd (omega (arith, ints))
-mul_pos (negsuc a) b h k = absurd (omega (arith, ints))
+use Rattle.mesh_num.proofs.Whole.{linear, multiplied, mul_nonneg}
 
 -- turns
 pub turn_flip : (p r q : Point) → turn r p q ≡ neg_ℤ (turn p r q)

@@ -1,7 +1,7 @@
 -- Lemmas over whole numbers: identities of the plane's products, for any coordinates.
 use Rattle.std.proofs.Common.{◌≡◌, refl, [], ◌∷◌}
 use Rattle.std.specs.Prelude.{ℤ, pos, ◌+ℤ◌, ◌-ℤ◌, ◌*ℤ◌, neg_ℤ}
-use Rattle.mesh_num.specs.Plane.{Point, cross, dot}
+use Rattle.mesh_num.specs.Plane.{Point, opposite, cross, dot, right_quarter}
 use Rattle.mesh_num.proofs.Ring.{ring, var, lit, neg, ◌⊕◌, ◌⊖◌, ◌⊗◌, cross_of, dot_of}
 
 -- (v·w)² + (v×w)² = |v|²|w|²
@@ -71,3 +71,62 @@ cross_self v = ring (v.0 ∷ v.1 ∷ []) (cross_of (var 0) (var 1) (var 0) (var 
 
 pub dot_swap : (v w : Point) → dot w v ≡ dot v w
 dot_swap v w = ring (v.0 ∷ v.1 ∷ w.0 ∷ w.1 ∷ []) (dot_of (var 2) (var 3) (var 0) (var 1)) (dot_of (var 0) (var 1) (var 2) (var 3)) refl
+
+-- ---- quarter turns
+
+pub cross_quarters : (s t : Point) → cross (right_quarter s) (right_quarter t) ≡ cross s t
+cross_quarters s t =
+    ring (s.0 ∷ s.1 ∷ t.0 ∷ t.1 ∷ []) (cross_of (var 1) (neg (var 0)) (var 3) (neg (var 2))) (cross_of (var 0) (var 1) (var 2) (var 3)) refl
+
+pub cross_quarter : (s w : Point) → cross (right_quarter s) w ≡ dot s w
+cross_quarter s w =
+    ring (s.0 ∷ s.1 ∷ w.0 ∷ w.1 ∷ []) (cross_of (var 1) (neg (var 0)) (var 2) (var 3)) (dot_of (var 0) (var 1) (var 2) (var 3)) refl
+
+pub quarter_cross : (w s : Point) → cross w (opposite (right_quarter s)) ≡ dot s w
+quarter_cross w s =
+    ring (s.0 ∷ s.1 ∷ w.0 ∷ w.1 ∷ []) (cross_of (var 2) (var 3) (neg (var 1)) (neg (neg (var 0)))) (dot_of (var 0) (var 1) (var 2) (var 3)) refl
+
+pub cross_opposites : (v w : Point) → cross (opposite v) (opposite w) ≡ cross v w
+cross_opposites v w =
+    ring (v.0 ∷ v.1 ∷ w.0 ∷ w.1 ∷ []) (cross_of (neg (var 0)) (neg (var 1)) (neg (var 2)) (neg (var 3))) (cross_of (var 0) (var 1) (var 2) (var 3)) refl
+
+pub cross_opposite : (v w : Point) → cross (opposite v) w ≡ neg_ℤ (cross v w)
+cross_opposite v w =
+    ring (v.0 ∷ v.1 ∷ w.0 ∷ w.1 ∷ []) (cross_of (neg (var 0)) (neg (var 1)) (var 2) (var 3)) (neg (cross_of (var 0) (var 1) (var 2) (var 3))) refl
+
+pub dot_opposite : (v w : Point) → dot (opposite v) w ≡ neg_ℤ (dot v w)
+dot_opposite v w =
+    ring (v.0 ∷ v.1 ∷ w.0 ∷ w.1 ∷ []) (dot_of (neg (var 0)) (neg (var 1)) (var 2) (var 3)) (neg (dot_of (var 0) (var 1) (var 2) (var 3))) refl
+
+-- ---- squares of components
+
+-- u.x²|w|² - w.x²|u|² = (u.x w.y)² - (w.x u.y)²
+pub shares_differ : (u w : Point) →
+    ((u.0 *ℤ u.0) *ℤ dot w w) -ℤ ((w.0 *ℤ w.0) *ℤ dot u u) ≡ ((u.0 *ℤ w.1) *ℤ (u.0 *ℤ w.1)) -ℤ ((w.0 *ℤ u.1) *ℤ (w.0 *ℤ u.1))
+shares_differ u w =
+    let a = var 0 in
+    let b = var 1 in
+    let c = var 2 in
+    let d = var 3 in
+    ring (u.0 ∷ u.1 ∷ w.0 ∷ w.1 ∷ [])
+    (((a ⊗ a) ⊗ dot_of c d c d) ⊖ ((c ⊗ c) ⊗ dot_of a b a b))
+    (((a ⊗ d) ⊗ (a ⊗ d)) ⊖ ((c ⊗ b) ⊗ (c ⊗ b)))
+    refl
+
+-- (u·w) u.x² = u.x w.x |u|² + u.x u.y (u×w)
+pub dot_times_square : (u w : Point) → dot u w *ℤ (u.0 *ℤ u.0) ≡ ((u.0 *ℤ w.0) *ℤ dot u u) +ℤ ((u.0 *ℤ u.1) *ℤ cross u w)
+dot_times_square u w =
+    let a = var 0 in
+    let b = var 1 in
+    let c = var 2 in
+    let d = var 3 in
+    ring (u.0 ∷ u.1 ∷ w.0 ∷ w.1 ∷ []) (dot_of a b c d ⊗ (a ⊗ a)) (((a ⊗ c) ⊗ dot_of a b a b) ⊕ ((a ⊗ b) ⊗ cross_of a b c d)) refl
+
+-- (u·w) u.y² = u.y w.y |u|² - u.x u.y (u×w)
+pub dot_times_square_y : (u w : Point) → dot u w *ℤ (u.1 *ℤ u.1) ≡ ((u.1 *ℤ w.1) *ℤ dot u u) -ℤ ((u.0 *ℤ u.1) *ℤ cross u w)
+dot_times_square_y u w =
+    let a = var 0 in
+    let b = var 1 in
+    let c = var 2 in
+    let d = var 3 in
+    ring (u.0 ∷ u.1 ∷ w.0 ∷ w.1 ∷ []) (dot_of a b c d ⊗ (b ⊗ b)) (((b ⊗ d) ⊗ dot_of a b a b) ⊖ ((a ⊗ b) ⊗ cross_of a b c d)) refl

@@ -1,11 +1,11 @@
 -- Lemmas over points: each vector other than 0 has one direction, which is odd, short and fresh.
-use Rattle.std.proofs.Common.{◌≡◌, ℕ, ◌+◌, ◌*◌, ◌-◌, ◌<◌, ◌≤◌, refl, sym, ◌∙◌, ap, subst, arith, zero, suc}
-use Rattle.std.specs.Prelude.{ℤ, pos, ◌+ℤ◌, ◌*ℤ◌, ◌≤ℤ◌, neg_ℤ, unsigned_abs}
-use Rattle.std.proofs.Math.Nat.{mul-le-mul, mul-le-mul_left, mul-le-mul_right, le_of_mul-le-mul_right, lt_of_mul-lt-mul_right, le_antisymm}
+use Rattle.std.proofs.Common.{◌≡◌, ℕ, ◌+◌, ◌*◌, ◌-◌, ◌<◌, ◌≤◌, sym, subst, arith, zero, suc}
+use Rattle.std.specs.Prelude.{ℤ, neg_ℤ, unsigned_abs}
+use Rattle.std.proofs.Math.Nat.{mul-le-mul_left, mul-le-mul_right, le_of_mul-le-mul_right, lt_of_mul-lt-mul_right}
 use Rattle.std.proofs.lemmas.Bool.{cases_lt}
 use mathlib.Core.Logic.{⊎_elim}
-use Rattle.mesh_num.specs.Plane.{Point, opposite, length_sq}
-use Rattle.mesh_num.specs.Direction.{HasSignOf, IsShare, IsPart, IsDirection, IsShort, IsFresh, IsOdd}
+use Rattle.mesh_num.specs.Plane.{Point, opposite, length_sq, right_quarter}
+use Rattle.mesh_num.specs.Direction.{IsPart, IsDirection, IsShort, IsFresh, IsOdd}
 use Rattle.mesh_num.proofs.Sizes.{size_neg, length_opposite, lt_of_squares, le_of_squares, two_products}
 use Rattle.mesh_num.proofs.Signs.{sign_neg, same_number}
 
@@ -22,7 +22,7 @@ part_opposite {unit} {square} {x} {k} p =
     record {
       sign = sign_neg p.sign;
       within = rw (size_neg x, size_neg k) p.within;
-      greatest = rw (size_neg x, size_neg k) p.greatest
+      greatest = rw (size_neg x, size_neg k) p.greatest;
     }
 
 -- a component with at least the share of another has at least its size
@@ -53,15 +53,27 @@ part_ends {unit} {square} {x} {k} p =
 -- ---- both components
 
 pub direction_unique : {unit : ℕ} {v n m : Point} → IsDirection unit v n → IsDirection unit v m → n ≡ m
-direction_unique p q = λ i. (part_unique p.x q.x i , part_unique p.y q.y i)
+direction_unique p q = λ i. (part_unique p.x q.x i, part_unique p.y q.y i)
 
 pub direction_opposite : {unit : ℕ} {v n : Point} → IsDirection unit v n → IsDirection unit (opposite v) (opposite n)
 direction_opposite {unit} {v} {n} p =
     let e : length_sq v ≡ length_sq (opposite v) = sym (length_opposite v) in
     record {
       x = subst (λ (l : ℕ). IsPart unit l (neg_ℤ v.0) (neg_ℤ n.0)) e (part_opposite p.x);
-      y = subst (λ (l : ℕ). IsPart unit l (neg_ℤ v.1) (neg_ℤ n.1)) e (part_opposite p.y)
+      y = subst (λ (l : ℕ). IsPart unit l (neg_ℤ v.1) (neg_ℤ n.1)) e (part_opposite p.y);
     }
+
+-- a vector turned by a quarter has the direction turned by a quarter
+pub direction_quarter : {unit : ℕ} {v n : Point} → IsDirection unit v n → IsDirection unit (right_quarter v) (right_quarter n)
+direction_quarter {unit} {v} {n} p =
+    let e : length_sq v ≡ length_sq (right_quarter v) = turned (unsigned_abs v.0) (unsigned_abs v.1) (unsigned_abs (neg_ℤ v.0)) (size_neg v.0) in
+    record {
+      x = subst (λ (l : ℕ). IsPart unit l v.1 n.1) e p.y;
+      y = subst (λ (l : ℕ). IsPart unit l (neg_ℤ v.0) (neg_ℤ n.0)) e (part_opposite p.x);
+    }
+  where
+    turned : (a b c : ℕ) → c ≡ a → a * a + b * b ≡ b * b + c * c
+    turned a b c e = rw e (omega arith)
 
 pub direction_odd : {unit : ℕ} {v n : Point} → IsDirection unit v n → IsOdd unit v n
 direction_odd p m q = direction_unique q (direction_opposite p)
@@ -77,20 +89,28 @@ has_length {unit} {v} {n} p = omega (arith, long unit (length_sq v) (unsigned_ab
 pub direction_bounded : {unit : ℕ} {v n : Point} → IsDirection unit v n → (unsigned_abs n.0 ≤ unit) × (unsigned_abs n.1 ≤ unit)
 direction_bounded {unit} {v} {n} p =
     let l : 0 < length_sq v = has_length p in
-    (part_bounded l (omega arith) p.x , part_bounded l (omega arith) p.y)
+    (part_bounded l (omega arith) p.x, part_bounded l (omega arith) p.y)
 
 pub direction_short : {unit : ℕ} {v n : Point} → IsDirection unit v n → IsShort unit n
 direction_short {unit} {v} {n} p =
     let h : length_sq n * length_sq v ≤ unit * unit * length_sq v = omega (arith, p.x.within, p.y.within) in
     le_of_mul-le-mul_right h (has_length p)
 
+-- two components of one vector are a direction
+pub parts_join : {unit square : ℕ} {x y k l : ℤ} → square ≡ length_sq (x, y) → IsPart unit square x k → IsPart unit square y l → IsDirection unit (x, y) (k, l)
+parts_join {unit} {square} {x} {y} {k} {l} e p q =
+    record {
+      x = subst (λ (n : ℕ). IsPart unit n x k) e p;
+      y = subst (λ (n : ℕ). IsPart unit n y l) e q;
+    }
+
 fresh_size : (u k l : ℕ) → (u + 2) * (u + 2) < (k + 1) * (k + 1) + (l + 1) * (l + 1) → u * u ≤ k * k + l * l
 fresh_size u k l h =
     ⊎_elim
     (λ a.
-        let b : (k + l) * (k + l) < (2 * u) * (2 * u) = omega (arith, two_products k l) in
-        let c : k + l < 2 * u = lt_of_squares (k + l) (2 * u) b in
-        absurd (omega arith))
+    let b : (k + l) * (k + l) < (2 * u) * (2 * u) = omega (arith, two_products k l) in
+    let c : k + l < 2 * u = lt_of_squares (k + l) (2 * u) b in
+    absurd (omega arith))
     (λ a. a)
     (cases_lt (k * k + l * l) (u * u))
 

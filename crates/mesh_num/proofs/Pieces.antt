@@ -1,14 +1,15 @@
 -- Lemmas over points and lists: sums over the boundaries of fans, and how many pieces hold a point.
-use Rattle.std.proofs.Common.{◌≡◌, ℕ, ◌+◌, List, [], ◌∷◌, ◌++◌, ◌⊎◌, inl, inr, refl, sym, ◌∙◌, ap, arith}
-use Rattle.std.specs.Prelude.{ℤ, pos, negsuc, ◌+ℤ◌, ◌-ℤ◌, neg_ℤ, Bool, not, cond, count_by}
+use Rattle.std.proofs.Common.{◌≡◌, ℕ, List, [], ◌∷◌, inl, inr, refl, arith}
+use Rattle.std.specs.Prelude.{ℤ, pos, negsuc, ◌+ℤ◌, ◌≤ℤ◌, neg_ℤ, not, cond, count_by}
 use Rattle.std.specs.List.{All}
 use Rattle.std.specs.Ordering.{int_eq}
 use Rattle.std.proofs.lemmas.List.Sums.{sum_by-cons}
-use Rattle.std.proofs.lemmas.List.Elements.{All-head, All-tail}
+use Rattle.std.proofs.lemmas.List.Elements.{All-nil, All-cons, All-head, All-tail}
 use Rattle.std.proofs.lemmas.Int.{ints}
-use Rattle.mesh_num.specs.Plane.{Point, Edge}
+use Rattle.mesh_num.specs.Plane.{Point, Edge, turn}
 use Rattle.mesh_num.specs.Winding.{sum_of, total, route, boundary, fan, pieces_total, crossing_on, winding, holds, IsBit, IsOdd}
 use Rattle.mesh_num.proofs.Whole.{linear}
+use Rattle.mesh_num.proofs.Triangles.{triangle_winds, triangle_winds_back}
 
 -- the inner sides of a fan are passed in both directions
 pub fan_total : (f : Point → Point → ℤ) → IsOdd f → (v a : Point) (xs : List Point) (z : Point) →
@@ -57,3 +58,20 @@ pieces_counted m q pieces h = bits_counted (λ piece. winding m q (boundary piec
 pub opposite_pieces_counted : (m : ℕ) (q : Point) (pieces : List (List Point)) → All (λ piece. IsBit (neg_ℤ (winding m q (boundary piece)))) pieces →
     pieces_total (crossing_on m q) pieces ≡ neg_ℤ (pos (count_by (holds m q) pieces))
 opposite_pieces_counted m q pieces h = opposite_bits_counted (λ piece. winding m q (boundary piece)) pieces h
+
+-- the triangles of a fan in which no neighbours turn back round `v`
+pub fan_winds : (m : ℕ) (q v : Point) (es : List Edge) → All (λ (e : Edge). pos 0 ≤ℤ turn v e.0 e.1) es →
+    All (λ piece. IsBit (winding m q (boundary piece))) (fan v es)
+fan_winds m q v [] h = All-nil (λ piece. IsBit (winding m q (boundary piece)))
+fan_winds m q v (e ∷ es) h =
+    All-cons (λ piece. IsBit (winding m q (boundary piece))) (v ∷ e.0 ∷ e.1 ∷ []) (fan v es)
+    (triangle_winds m q v e.0 e.1 (All-head (λ (e : Edge). pos 0 ≤ℤ turn v e.0 e.1) e es h))
+    (fan_winds m q v es (All-tail (λ (e : Edge). pos 0 ≤ℤ turn v e.0 e.1) e es h))
+
+pub fan_winds_back : (m : ℕ) (q v : Point) (es : List Edge) → All (λ (e : Edge). turn v e.0 e.1 ≤ℤ pos 0) es →
+    All (λ piece. IsBit (neg_ℤ (winding m q (boundary piece)))) (fan v es)
+fan_winds_back m q v [] h = All-nil (λ piece. IsBit (neg_ℤ (winding m q (boundary piece))))
+fan_winds_back m q v (e ∷ es) h =
+    All-cons (λ piece. IsBit (neg_ℤ (winding m q (boundary piece)))) (v ∷ e.0 ∷ e.1 ∷ []) (fan v es)
+    (triangle_winds_back m q v e.0 e.1 (All-head (λ (e : Edge). turn v e.0 e.1 ≤ℤ pos 0) e es h))
+    (fan_winds_back m q v es (All-tail (λ (e : Edge). turn v e.0 e.1 ≤ℤ pos 0) e es h))

@@ -3,6 +3,7 @@ use Rattle.std.proofs.Common.{◌≡◌, ℕ, ◌+◌, ◌*◌, ◌<◌, ◌≤�
 use Rattle.std.specs.Prelude.{ℤ, pos, ◌+ℤ◌, ◌-ℤ◌, ◌*ℤ◌, unsigned_abs}
 use Rattle.std.proofs.lemmas.Int.{ints, unsigned_abs-mul}
 use Rattle.std.proofs.lemmas.Nat.{mul-lt}
+use Rattle.std.proofs.Math.Nat.{mul-le-mul_left}
 use Rattle.mesh_num.specs.Bounds.{IsWithin, IsSmall, IsSafe}
 use Rattle.mesh_num.specs.Plane.{Point, length_sq}
 
@@ -48,3 +49,10 @@ pub square_sum_fits : (r l u : ℕ) (x y a b : ℤ) → r ≡ length_sq (a, b) �
 square_sum_fits r l u x y a b e f g s k =
     let p : length_sq (a, b) < 8 * u * u = rw (f, g) (square_sum_below u (x, y) s) in
     omega arith
+
+-- what is no greater in size than a coordinate fits the wide type
+pub within_of_coordinate : (half u : ℕ) (z r : ℤ) → half ≡ 8 * u * u → 1 ≤ u → IsWithin (2 * u) r → unsigned_abs z ≤ unsigned_abs r → IsWithin half z
+within_of_coordinate half u z r e l h b =
+    let s : u ≤ u * u = omega (arith, mul-le-mul_left u l) in
+    let size : unsigned_abs r ≤ 2 * u = omega (arith, ints, h.low, h.high) in
+    within_of_size half z (omega arith)

@@ -1,19 +1,19 @@
 -- Lemmas over points: directions times a radius keep signs, turns and opposites, and stay within the radius.
-use Rattle.std.proofs.Common.{◌≡◌, ℕ, ◌+◌, ◌*◌, ◌-◌, ◌<◌, ◌≤◌, refl, sym, ◌∙◌, ap, subst, arith, zero, suc, List, [], ◌∷◌}
-use Rattle.std.specs.Prelude.{ℤ, pos, ◌+ℤ◌, ◌-ℤ◌, ◌*ℤ◌, ◌≤ℤ◌, ◌<ℤ◌, neg_ℤ, unsigned_abs}
+use Rattle.std.proofs.Common.{◌≡◌, ℕ, ◌+◌, ◌*◌, ◌-◌, ◌<◌, ◌≤◌, refl, sym, ◌∙◌, ap, subst, arith, zero, suc}
+use Rattle.std.specs.Prelude.{ℤ, pos, ◌*ℤ◌, ◌≤ℤ◌, neg_ℤ, unsigned_abs}
 use Rattle.std.proofs.Math.Nat.{mul-le-mul, mul-le-mul_left, mul-le-mul_right}
 use Rattle.std.proofs.lemmas.Nat.{mul-lt}
-use Rattle.std.proofs.lemmas.Int.{ints, unsigned_abs-mul, by_lt_z}
+use Rattle.std.proofs.lemmas.Int.{unsigned_abs-mul, by_lt_z}
 use Rattle.std.proofs.lemmas.Bool.{cases_lt}
 use mathlib.Core.Logic.{⊎_elim}
-use Rattle.mesh_num.specs.Plane.{Point, opposite, cross, dot, length_sq}
+use Rattle.mesh_num.specs.Plane.{Point, opposite, cross, dot, length_sq, right_quarter}
 use Rattle.mesh_num.specs.Direction.{HasSignOf, IsDirection, IsShort, IsFresh, KeepsScaledTurns, scaled, scaled_direction}
 use Rattle.mesh_num.specs.Rounding.{rounded}
-use Rattle.mesh_num.proofs.Whole.{linear, mul_neg, neg_mul, neg_mul_neg, mul_zero}
-use Rattle.mesh_num.proofs.Sizes.{size_neg, size_zero, le_of_squares}
+use Rattle.mesh_num.proofs.Whole.{linear, mul_neg, neg_mul}
+use Rattle.mesh_num.proofs.Identities.{cross_opposites}
+use Rattle.mesh_num.proofs.Sizes.{size_zero, le_of_squares}
 use Rattle.mesh_num.proofs.Signs.{sign_self, sign_through, sign_square, sign_times}
 use Rattle.mesh_num.proofs.Rounding.{rounded_sign, rounded_neg, rounded_grows, rounded_within, rounded_zero}
-use Rattle.mesh_num.proofs.Parts.{direction_bounded}
 use Rattle.mesh_num.proofs.Turns.{Keeps, turn_kept_by, parallel_kept_by}
 
 -- ---- one component
@@ -45,25 +45,29 @@ scaled_bound unit r k h l =
 -- ---- both components
 
 pub scaled_direction_opposite_radius : (unit : ℕ) (r : ℤ) (n : Point) → 0 < unit → scaled_direction unit (neg_ℤ r) n ≡ opposite (scaled_direction unit r n)
-scaled_direction_opposite_radius unit r n h = λ i. (scaled_opposite_radius unit r n.0 h i , scaled_opposite_radius unit r n.1 h i)
+scaled_direction_opposite_radius unit r n h = λ i. (scaled_opposite_radius unit r n.0 h i, scaled_opposite_radius unit r n.1 h i)
 
 pub scaled_direction_opposite : (unit : ℕ) (r : ℤ) (n : Point) → 0 < unit → scaled_direction unit r (opposite n) ≡ opposite (scaled_direction unit r n)
-scaled_direction_opposite unit r n h = λ i. (scaled_opposite_part unit r n.0 h i , scaled_opposite_part unit r n.1 h i)
+scaled_direction_opposite unit r n h = λ i. (scaled_opposite_part unit r n.0 h i, scaled_opposite_part unit r n.1 h i)
 
 -- the components of a direction that is at most `unit` long are at most `unit`
 pub short_bounded : (unit : ℕ) (n : Point) → IsShort unit n → (unsigned_abs n.0 ≤ unit) × (unsigned_abs n.1 ≤ unit)
-short_bounded unit n h = (le_of_squares (unsigned_abs n.0) unit (omega arith) , le_of_squares (unsigned_abs n.1) unit (omega arith))
+short_bounded unit n h = (le_of_squares (unsigned_abs n.0) unit (omega arith), le_of_squares (unsigned_abs n.1) unit (omega arith))
 
 -- a direction times a radius is at most the radius in each coordinate
 pub scaled_direction_bounded : (unit : ℕ) (r : ℤ) (n : Point) → 0 < unit → IsShort unit n → (unsigned_abs (scaled_direction unit r n).0 ≤ unsigned_abs r) × (unsigned_abs (scaled_direction unit r n).1 ≤ unsigned_abs r)
 scaled_direction_bounded unit r n h s =
     let b : (unsigned_abs n.0 ≤ unit) × (unsigned_abs n.1 ≤ unit) = short_bounded unit n s in
-    (scaled_bound unit r n.0 h b.0 , scaled_bound unit r n.1 h b.1)
+    (scaled_bound unit r n.0 h b.0, scaled_bound unit r n.1 h b.1)
+
+-- a quarter turn and a radius may be applied in either order
+pub scaled_direction_quarter : (unit : ℕ) (r : ℤ) (n : Point) → 0 < unit → scaled_direction unit r (right_quarter n) ≡ right_quarter (scaled_direction unit r n)
+scaled_direction_quarter unit r n h = λ i. (scaled unit r n.1, scaled_opposite_part unit r n.0 h i)
 
 -- a vector looks the way of its direction times a radius of at least 0, in each coordinate
 pub along_scaled : {unit : ℕ} {v n : Point} → (r : ℤ) → 0 < unit → pos 0 ≤ℤ r → IsDirection unit v n
     → (pos 0 ≤ℤ (v.0 *ℤ scaled unit r n.0)) × (pos 0 ≤ℤ (v.1 *ℤ scaled unit r n.1))
-along_scaled {unit} r h l p = (sign_square (scaled_sign unit r h l p.x.sign) , sign_square (scaled_sign unit r h l p.y.sign))
+along_scaled {unit} r h l p = (sign_square (scaled_sign unit r h l p.x.sign), sign_square (scaled_sign unit r h l p.y.sign))
 
 pub dot_scaled_nonneg : {unit : ℕ} {v n : Point} → (r : ℤ) → 0 < unit → pos 0 ≤ℤ r → IsDirection unit v n → pos 0 ≤ℤ dot v (scaled_direction unit r n)
 dot_scaled_nonneg {unit} {v} {n} r h l p = omega (arith, linear, along_scaled r h l p)
@@ -77,9 +81,6 @@ dot_scaled_nonpos {unit} {v} {n} r h l p =
 
 -- ---- turns
 
-cross_opposites : (v w : Point) → cross (opposite v) (opposite w) ≡ cross v w
-cross_opposites v w = omega (arith, linear, neg_mul_neg v.0 w.1, neg_mul_neg v.1 w.0)
-
 -- the two signs of opposite radii cancel
 scaled_cross : (unit : ℕ) (r : ℤ) (n m : Point) → 0 < unit → cross (scaled_direction unit (neg_ℤ r) n) (scaled_direction unit (neg_ℤ r) m) ≡ cross (scaled_direction unit r n) (scaled_direction unit r m)
 scaled_cross unit r n m h =
@@ -92,9 +93,9 @@ pub scaled_turn_kept : {unit : ℕ} {v n w m : Point} → (r : ℤ) → 0 < unit
 scaled_turn_kept {unit} {v} {n} {w} {m} r h p q t =
     by_lt_z r (pos 0)
     (λ l.
-        let a : pos 0 ≤ℤ neg_ℤ r = omega (arith, linear) in
-        let b : pos 0 ≤ℤ cross (scaled_direction unit (neg_ℤ r) n) (scaled_direction unit (neg_ℤ r) m) = turn_kept_by (scaled unit (neg_ℤ r)) (keeps_scaled unit (neg_ℤ r) h a) p q t in
-        subst (λ (z : ℤ). pos 0 ≤ℤ z) (scaled_cross unit r n m h) b)
+    let a : pos 0 ≤ℤ neg_ℤ r = omega (arith, linear) in
+    let b : pos 0 ≤ℤ cross (scaled_direction unit (neg_ℤ r) n) (scaled_direction unit (neg_ℤ r) m) = turn_kept_by (scaled unit (neg_ℤ r)) (keeps_scaled unit (neg_ℤ r) h a) p q t in
+    subst (λ (z : ℤ). pos 0 ≤ℤ z) (scaled_cross unit r n m h) b)
     (λ l. turn_kept_by (scaled unit r) (keeps_scaled unit r h l) p q t)
 
 pub scaled_parallel_kept : {unit : ℕ} {v n w m : Point} → (r : ℤ) → 0 < unit → IsDirection unit v n → IsDirection unit w m
@@ -102,8 +103,8 @@ pub scaled_parallel_kept : {unit : ℕ} {v n w m : Point} → (r : ℤ) → 0 < 
 scaled_parallel_kept {unit} {v} {n} {w} {m} r h p q t =
     by_lt_z r (pos 0)
     (λ l.
-        let a : pos 0 ≤ℤ neg_ℤ r = omega (arith, linear) in
-        sym (scaled_cross unit r n m h) ∙ parallel_kept_by (scaled unit (neg_ℤ r)) (keeps_scaled unit (neg_ℤ r) h a) p q t)
+    let a : pos 0 ≤ℤ neg_ℤ r = omega (arith, linear) in
+    sym (scaled_cross unit r n m h) ∙ parallel_kept_by (scaled unit (neg_ℤ r)) (keeps_scaled unit (neg_ℤ r) h a) p q t)
     (λ l. parallel_kept_by (scaled unit r) (keeps_scaled unit r h l) p q t)
 
 pub direction_keeps_scaled_turns : (unit : ℕ) (r : ℤ) (n : Point) → 0 < unit → KeepsScaledTurns unit r n (scaled_direction unit r n)
@@ -129,14 +130,15 @@ scaled_direction_length unit r n h l f =
     ⊎_elim
     (λ a. a)
     (λ a.
-        let x : 4 * (unsigned_abs n.0 * unsigned_abs n.0) < unit * unit = small_part unit r n.0 (omega arith) l (root (unsigned_abs (scaled unit r n.0)) (omega arith)) in
-        let y : 4 * (unsigned_abs n.1 * unsigned_abs n.1) < unit * unit = small_part unit r n.1 (omega arith) l (root (unsigned_abs (scaled unit r n.1)) (omega arith)) in
-        absurd (omega (arith, long (unit - 7) unit (omega arith))))
+    let x : 4 * (unsigned_abs n.0 * unsigned_abs n.0) < unit * unit = small_part unit r n.0 (omega arith) l (root (unsigned_abs (scaled unit r n.0)) (omega arith)) in
+    let y : 4 * (unsigned_abs n.1 * unsigned_abs n.1) < unit * unit = small_part unit r n.1 (omega arith) l (root (unsigned_abs (scaled unit r n.1)) (omega arith)) in
+    absurd (omega (arith, long (unit - 7) unit (omega arith))))
     (cases_lt 0 (length_sq (scaled_direction unit r n)))
   where
     root : (k : ℕ) → k * k ≤ 0 → k ≡ 0
     root zero h = refl
     root (suc k) h = absurd (omega arith)
+
     long : (t u : ℕ) → u ≡ t + 7 → 2 * (u * u) < 4 * ((u - 2) * (u - 2))
     long t u e =
         let a : u - 2 ≡ t + 5 = omega arith in

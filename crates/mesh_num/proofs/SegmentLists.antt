@@ -1,7 +1,8 @@
 -- Lemmas over points and lists: segments stand for their edges.
-use Rattle.std.proofs.Common.{◌≡◌, Bool, true, false, cond, List, [], ◌∷◌, ◌++◌, map, refl, sym, ◌∙◌, ap, append_assoc, append-nil}
+use Rattle.std.proofs.Common.{◌≡◌, Bool, true, false, cond, not, List, [], ◌∷◌, ◌++◌, map, refl, sym, ◌∙◌, ap, append_assoc, append-nil}
 use Rattle.std.specs.Prelude.{pos, negsuc}
 use Rattle.std.proofs.lemmas.List.{map-append}
+use Rattle.std.proofs.lemmas.List.Elements.{filter-append}
 use Rattle.mesh_num.specs.Plane.{Point, Edge}
 use Rattle.mesh_num.specs.Winding.{same_point}
 use Rattle.mesh_num.specs.Order.{point_lt}
@@ -25,15 +26,21 @@ edges_of_between p r = step (same_point p r)
 pub edges_of_segments : (es : List Edge) → edges_of (segments_of es) ≡ proper_edges es
 edges_of_segments [] = refl
 edges_of_segments (e ∷ es) =
-    map-append edge_of (segment_between e.0 e.1) (segments_of es) ∙ ap (λ l. l ++ edges_of (segments_of es)) (edges_of_between e.0 e.1) ∙ ap (λ l. edge_between e.0 e.1 ++ l) (edges_of_segments es)
+    map-append edge_of (segment_between e.0 e.1) (segments_of es)
+    ∙ ap (λ l. l ++ edges_of (segments_of es)) (edges_of_between e.0 e.1)
+    ∙ ap (λ l. edge_between e.0 e.1 ++ l) (edges_of_segments es)
+    ∙ step (same_point e.0 e.1)
+    where
+    step : (b : Bool) → cond b [] (e ∷ []) ++ proper_edges es ≡ cond (not b) (e ∷ proper_edges es) (proper_edges es)
+    step true = refl
+    step false = refl
 
 pub segments_of-append : (es fs : List Edge) → segments_of (es ++ fs) ≡ segments_of es ++ segments_of fs
 segments_of-append [] fs = refl
 segments_of-append (e ∷ es) fs = ap (λ l. segment_between e.0 e.1 ++ l) (segments_of-append es fs) ∙ sym (append_assoc (segment_between e.0 e.1) (segments_of es) (segments_of fs))
 
 pub proper_edges-append : (es fs : List Edge) → proper_edges (es ++ fs) ≡ proper_edges es ++ proper_edges fs
-proper_edges-append [] fs = refl
-proper_edges-append (e ∷ es) fs = ap (λ l. edge_between e.0 e.1 ++ l) (proper_edges-append es fs) ∙ sym (append_assoc (edge_between e.0 e.1) (proper_edges es) (proper_edges fs))
+proper_edges-append es fs = filter-append (λ (e : Edge). not (same_point e.0 e.1)) es fs
 
 pub edges_of-append : (ss ts : List SignedEdge) → edges_of (ss ++ ts) ≡ edges_of ss ++ edges_of ts
 edges_of-append ss ts = map-append edge_of ss ts

@@ -1,9 +1,9 @@
 -- Lemmas over whole numbers: numbers that have the signs of others.
-use Rattle.std.proofs.Common.{◌≡◌, ℕ, ◌+◌, ◌*◌, ◌<◌, ◌≤◌, refl, sym, ◌∙◌, ap, arith, zero, suc}
-use Rattle.std.specs.Prelude.{ℤ, pos, negsuc, ◌+ℤ◌, ◌-ℤ◌, ◌*ℤ◌, ◌≤ℤ◌, neg_ℤ, unsigned_abs}
+use Rattle.std.proofs.Common.{◌≡◌, ◌≤◌, ◌∙◌, ap, arith}
+use Rattle.std.specs.Prelude.{ℤ, pos, ◌*ℤ◌, ◌≤ℤ◌, neg_ℤ, unsigned_abs}
 use Rattle.std.proofs.lemmas.Int.{ints, by_lt_z}
 use Rattle.mesh_num.specs.Direction.{HasSignOf}
-use Rattle.mesh_num.proofs.Whole.{linear, neg_mul, mul_nonneg, mul_nonpos, mul_nonneg_nonpos, mul_nonpos_nonneg, nonneg_of_mul, mul_neg_pos, zero_mul}
+use Rattle.mesh_num.proofs.Whole.{linear, neg_mul, mul_nonneg, mul_nonpos, mul_nonpos_nonneg, nonneg_of_mul, mul_neg_pos, zero_mul}
 
 pub sign_self : (x : ℤ) → HasSignOf x x
 sign_self x = record { nonneg = λ h. h; nonpos = λ h. h }
@@ -15,7 +15,7 @@ pub sign_neg : {x k : ℤ} → HasSignOf x k → HasSignOf (neg_ℤ x) (neg_ℤ 
 sign_neg {x} {k} p =
     record {
       nonneg = λ h. let l : k ≤ℤ pos 0 = p.nonpos (omega (arith, linear)) in omega (arith, linear);
-      nonpos = λ h. let l : pos 0 ≤ℤ k = p.nonneg (omega (arith, linear)) in omega (arith, linear)
+      nonpos = λ h. let l : pos 0 ≤ℤ k = p.nonneg (omega (arith, linear)) in omega (arith, linear);
     }
 
 -- the product of a number and one with its sign is not negative
@@ -29,26 +29,26 @@ product_nonneg : (x k y l : ℤ) → HasSignOf x k → HasSignOf y l → pos 0 �
 product_nonneg x k y l p q h =
     by_lt_z x (pos 0)
     (λ a.
-        let a' : x ≤ℤ pos 0 = omega (arith, linear) in
-        by_lt_z (pos 0) y
-        (λ b. absurd (omega (arith, linear, mul_neg_pos x y a b)))
-        (λ b. mul_nonpos k l (p.nonpos a') (q.nonpos b)))
+    let a' : x ≤ℤ pos 0 = omega (arith, linear) in
+    by_lt_z (pos 0) y
+    (λ b. absurd (omega (arith, linear, mul_neg_pos x y a b)))
+    (λ b. mul_nonpos k l (p.nonpos a') (q.nonpos b)))
     (λ a.
-        by_lt_z (pos 0) x
-        (λ c. mul_nonneg k l (p.nonneg a) (q.nonneg (nonneg_of_mul x y c h)))
-        (λ c.
-            let z : k ≡ pos 0 = omega (arith, linear, p.nonneg a, p.nonpos c) in
-            let e : k *ℤ l ≡ pos 0 = ap (λ (n : ℤ). n *ℤ l) z ∙ zero_mul l in
-            omega (arith, linear)))
+    by_lt_z (pos 0) x
+    (λ c. mul_nonneg k l (p.nonneg a) (q.nonneg (nonneg_of_mul x y c h)))
+    (λ c.
+    let z : k ≡ pos 0 = omega (arith, linear, p.nonneg a, p.nonpos c) in
+    let e : k *ℤ l ≡ pos 0 = ap (λ (n : ℤ). n *ℤ l) z ∙ zero_mul l in
+    omega (arith, linear)))
 
 pub sign_product : {x k y l : ℤ} → HasSignOf x k → HasSignOf y l → HasSignOf (x *ℤ y) (k *ℤ l)
 sign_product {x} {k} {y} {l} p q =
     record {
       nonneg = product_nonneg x k y l p q;
       nonpos = λ h.
-        let a : pos 0 ≤ℤ (neg_ℤ x *ℤ y) = omega (arith, linear, neg_mul x y) in
-        let b : pos 0 ≤ℤ (neg_ℤ k *ℤ l) = product_nonneg (neg_ℤ x) (neg_ℤ k) y l (sign_neg p) q a in
-        omega (arith, linear, neg_mul k l)
+          let a : pos 0 ≤ℤ (neg_ℤ x *ℤ y) = omega (arith, linear, neg_mul x y) in
+          let b : pos 0 ≤ℤ (neg_ℤ k *ℤ l) = product_nonneg (neg_ℤ x) (neg_ℤ k) y l (sign_neg p) q a in
+          omega (arith, linear, neg_mul k l);
     }
 
 -- a factor that is not negative keeps the sign
@@ -67,20 +67,20 @@ pub order_kept : (x u y v : ℤ) → HasSignOf x u → HasSignOf y v → (unsign
 order_kept x u y v p q f g h =
     by_lt_z y (pos 0)
     (λ a.
-        let b : y ≤ℤ pos 0 = omega (arith, linear) in
-        let c : v ≤ℤ pos 0 = q.nonpos b in
-        by_lt_z x (pos 0)
-        (λ d.
-            let e : x ≤ℤ pos 0 = omega (arith, linear) in
-            let k : u ≤ℤ pos 0 = p.nonpos e in
-            let s : unsigned_abs x ≤ unsigned_abs y = omega (arith, ints) in
-            let t : unsigned_abs u ≤ unsigned_abs v = g s in
-            omega (arith, ints))
-        (λ d. let k : pos 0 ≤ℤ u = p.nonneg d in omega (arith, linear)))
+    let b : y ≤ℤ pos 0 = omega (arith, linear) in
+    let c : v ≤ℤ pos 0 = q.nonpos b in
+    by_lt_z x (pos 0)
+    (λ d.
+    let e : x ≤ℤ pos 0 = omega (arith, linear) in
+    let k : u ≤ℤ pos 0 = p.nonpos e in
+    let s : unsigned_abs x ≤ unsigned_abs y = omega (arith, ints) in
+    let t : unsigned_abs u ≤ unsigned_abs v = g s in
+    omega (arith, ints))
+    (λ d. let k : pos 0 ≤ℤ u = p.nonneg d in omega (arith, linear)))
     (λ a.
-        let b : pos 0 ≤ℤ x = omega (arith, linear) in
-        let c : pos 0 ≤ℤ v = q.nonneg a in
-        let k : pos 0 ≤ℤ u = p.nonneg b in
-        let s : unsigned_abs y ≤ unsigned_abs x = omega (arith, ints) in
-        let t : unsigned_abs v ≤ unsigned_abs u = f s in
-        omega (arith, ints))
+    let b : pos 0 ≤ℤ x = omega (arith, linear) in
+    let c : pos 0 ≤ℤ v = q.nonneg a in
+    let k : pos 0 ≤ℤ u = p.nonneg b in
+    let s : unsigned_abs y ≤ unsigned_abs x = omega (arith, ints) in
+    let t : unsigned_abs v ≤ unsigned_abs u = f s in
+    omega (arith, ints))

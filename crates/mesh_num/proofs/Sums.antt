@@ -1,9 +1,10 @@
 -- Lemmas over points and lists: sums over a list, of any function, and their regrouping.
-use Rattle.std.proofs.Common.{◌≡◌, ℕ, ◌+◌, List, [], ◌∷◌, ◌++◌, refl, sym, ◌∙◌, ap, arith, zero, suc}
-use Rattle.std.specs.Prelude.{ℤ, pos, ◌+ℤ◌, ◌-ℤ◌, neg_ℤ, map, reverse}
-use Rattle.std.specs.List.{flat_map, sum_by}
+use Rattle.std.proofs.Common.{◌≡◌, List, [], ◌∷◌, ◌++◌, refl, ◌∙◌, arith}
+use Rattle.std.specs.Prelude.{Bool, true, false, cond, ℤ, pos, ◌+ℤ◌, neg_ℤ, map}
+use Rattle.std.specs.List.{All, filter, flat_map, sum_by}
 use Rattle.std.specs.List.Sorted.{IsPermutation}
 use Rattle.std.proofs.lemmas.List.Sums.{sum_by-cons}
+use Rattle.std.proofs.lemmas.List.Elements.{All-head, All-tail}
 use Rattle.std.proofs.lemmas.List.Sorted.{sum_by-IsPermutation}
 use Rattle.std.proofs.lemmas.Int.{ints}
 use borrow.Author.Differences.{up, down}
@@ -39,6 +40,24 @@ sum_of_same f g e (x ∷ xs) = omega (arith, linear, e x, sum_of_same f g e xs)
 pub sum_of_none : {A : Type 0} (f : A → ℤ) → ((x : A) → f x ≡ pos 0) → (xs : List A) → sum_of f xs ≡ pos 0
 sum_of_none f e [] = refl
 sum_of_none f e (x ∷ xs) = omega (arith, linear, e x, sum_of_none f e xs)
+
+pub sum_of_equal : {A : Type 0} (f g : A → ℤ) (xs : List A) → All (λ x. f x ≡ g x) xs → sum_of f xs ≡ sum_of g xs
+sum_of_equal f g [] h = refl
+sum_of_equal f g (x ∷ xs) h =
+    omega (arith, linear, All-head (λ x. f x ≡ g x) x xs h, sum_of_equal f g xs (All-tail (λ x. f x ≡ g x) x xs h))
+
+pub sum_of_zero : {A : Type 0} (f : A → ℤ) (xs : List A) → All (λ x. f x ≡ pos 0) xs → sum_of f xs ≡ pos 0
+sum_of_zero f xs h = sum_of_equal f (λ x. pos 0) xs h ∙ sum_of_none (λ x. pos 0) (λ x. refl) xs
+
+-- what a test leaves out adds nothing
+pub sum_of_filter : {A : Type 0} (f : A → ℤ) (test : A → Bool) → ((x : A) → test x ≡ false → f x ≡ pos 0) → (xs : List A) →
+    sum_of f (filter test xs) ≡ sum_of f xs
+sum_of_filter f test none [] = refl
+sum_of_filter f test none (x ∷ xs) = step (sum_of_filter f test none xs) (test x) refl
+  where
+    step : sum_of f (filter test xs) ≡ sum_of f xs → (b : Bool) → test x ≡ b → sum_of f (cond b (x ∷ filter test xs) (filter test xs)) ≡ f x +ℤ sum_of f xs
+    step rest true e = omega (arith, linear)
+    step rest false e = omega (arith, linear, none x e)
 
 -- a sum of whole numbers as the difference of two sums of naturals
 parts : {A : Type 0} (f : A → ℤ) (xs : List A) →

@@ -1,12 +1,12 @@
 -- Lemmas over points and lists: the boundary of a triangle or a parallelogram winds 0 or 1 times round any point.
-use Rattle.std.proofs.Common.{List, [], ◌∷◌, ◌≡◌, ℕ, ◌+◌, ◌*◌, ◌<◌, ◌≤◌, ◌⊎◌, inl, inr, refl, sym, ◌∙◌, ap, arith, zero, suc}
+use Rattle.std.proofs.Common.{[], ◌∷◌, ◌≡◌, ℕ, ◌⊎◌, inl, inr, sym, ◌∙◌, ap, arith}
 use Rattle.std.specs.Prelude.{ℤ, pos, negsuc, ◌+ℤ◌, ◌-ℤ◌, ◌*ℤ◌, ◌≤ℤ◌, neg_ℤ}
 use lib.Signed.{◌<ℤ◌}
 use Rattle.std.proofs.lemmas.Int.{ints, by_lt_z}
-use Rattle.mesh_num.specs.Plane.{Point, minus, cross, turn}
-use Rattle.mesh_num.specs.Winding.{crossing_of, crossing, refined, crossing_on, winding, boundary, IsBit}
-use Rattle.mesh_num.proofs.Whole.{linear, mul_add, add_mul, mul_neg, neg_mul}
-use Rattle.mesh_num.proofs.Crossings.{crossing_low, crossing_high, crossing_up, crossing_down, crossing_odd, crossing_same, turn_cycle, turn_swap, turn_refined_flat, turn_refined_left, turn_refined_right, crossing_rises, multiplied, mul_nonneg, mul_pos}
+use Rattle.mesh_num.specs.Plane.{Point, turn}
+use Rattle.mesh_num.specs.Winding.{crossing, refined, crossing_on, winding, boundary, IsBit}
+use Rattle.mesh_num.proofs.Whole.{linear, multiplied, mul_add, mul_neg, neg_mul, mul_nonneg, mul_pos}
+use Rattle.mesh_num.proofs.Crossings.{crossing_low, crossing_high, crossing_up, crossing_down, crossing_odd, turn_cycle, turn_swap, turn_refined_flat, turn_refined_left, turn_refined_right, crossing_rises}
 
 -- the turns of a point from two edges at `p`, weighed by heights, make the turn of the edges
 weights_of : (a b c d e f : ℤ) →

@@ -1,18 +1,16 @@
 -- Lemmas over points: directions, and directions times a radius, keep turns, parallels and opposites.
-use Rattle.std.proofs.Common.{◌≡◌, ℕ, ◌+◌, ◌*◌, ◌-◌, ◌<◌, ◌≤◌, refl, sym, ◌∙◌, ap, subst, arith, zero, suc, List, [], ◌∷◌}
-use Rattle.std.specs.Prelude.{ℤ, pos, ◌+ℤ◌, ◌-ℤ◌, ◌*ℤ◌, ◌≤ℤ◌, ◌<ℤ◌, neg_ℤ, unsigned_abs}
-use Rattle.std.proofs.Math.Nat.{mul-le-mul, mul-le-mul_left, mul-le-mul_right, le_antisymm}
-use Rattle.std.proofs.lemmas.Int.{ints, unsigned_abs-mul, by_lt_z}
+use Rattle.std.proofs.Common.{◌≡◌, ℕ, ◌+◌, ◌*◌, ◌<◌, ◌≤◌, refl, sym, ◌∙◌, ap, arith, [], ◌∷◌}
+use Rattle.std.specs.Prelude.{ℤ, pos, ◌+ℤ◌, ◌*ℤ◌, ◌≤ℤ◌, ◌<ℤ◌, unsigned_abs}
+use Rattle.std.proofs.Math.Nat.{mul-le-mul}
+use Rattle.std.proofs.lemmas.Int.{unsigned_abs-mul}
 use Rattle.mesh_num.specs.Plane.{Point, opposite, cross, dot, length_sq}
-use Rattle.mesh_num.specs.Direction.{HasSignOf, IsPart, IsDirection, IsFresh, IsOdd, SameWay, KeepsTurns, KeepsScaledTurns, scaled, scaled_direction}
-use Rattle.mesh_num.specs.Rounding.{rounded}
-use Rattle.mesh_num.proofs.Whole.{linear, mul_nonneg, mul_nonneg_nonpos, mul_nonpos_nonneg, nonneg_of_mul, nonpos_of_mul, mul_cancel, mul_zero, mul_neg, neg_mul, square_nonneg}
-use Rattle.mesh_num.proofs.Ring.{ring, var, ◌⊕◌, ◌⊖◌, ◌⊗◌, cross_of, dot_of}
-use Rattle.mesh_num.proofs.Identities.{cross_flip, dot_swap}
-use Rattle.mesh_num.proofs.Sizes.{size_neg, dot_self}
-use Rattle.mesh_num.proofs.Signs.{sign_self, sign_through, sign_neg, sign_product, sign_square, sign_times, order_kept, same_number}
-use Rattle.mesh_num.proofs.Rounding.{rounded_sign, rounded_neg, rounded_grows, rounded_within, rounded_zero}
-use Rattle.mesh_num.proofs.Parts.{part_grows, has_length, direction_bounded, direction_unique, direction_opposite}
+use Rattle.mesh_num.specs.Direction.{HasSignOf, IsPart, IsDirection, SameWay, KeepsTurns}
+use Rattle.mesh_num.proofs.Whole.{linear, mul_nonneg, mul_nonpos_nonneg, nonneg_of_mul, nonpos_of_mul, mul_zero, neg_mul}
+use Rattle.mesh_num.proofs.Ring.{ring, var, ◌⊕◌, ◌⊗◌, cross_of, dot_of}
+use Rattle.mesh_num.proofs.Identities.{cross_flip}
+use Rattle.mesh_num.proofs.Sizes.{dot_self}
+use Rattle.mesh_num.proofs.Signs.{sign_self, sign_through, sign_product, order_kept, same_number}
+use Rattle.mesh_num.proofs.Parts.{part_grows, has_length, direction_opposite}
 
 -- a map of components that keeps signs and the order of sizes
 pub record Keeps (f : ℤ → ℤ) : Type 0 where
@@ -38,12 +36,13 @@ products_kept {unit} {l} {m} {a} {b} {c} {d} {p} {q} {r} {s} f k i j e g ha hb h
   where
     share : (l m a b c d : ℕ) → l ≡ a * a + b * b → m ≡ c * c + d * d → b * c ≤ a * d → c * c * l ≤ a * a * m
     share l m a b c d e g h = let o : b * c * (b * c) ≤ a * d * (a * d) = mul-le-mul h h in rw (e, g) (omega arith)
+
     turned : (l m a b c d : ℕ) → l ≡ a * a + b * b → m ≡ c * c + d * d → b * c ≤ a * d → b * b * m ≤ d * d * l
     turned l m a b c d e g h = let o : b * c * (b * c) ≤ a * d * (a * d) = mul-le-mul h h in rw (e, g) (omega arith)
 
 -- a turn to the left, by at most half a turn, stays one
 pub turn_kept_by : {unit : ℕ} {v n w m : Point} → (f : ℤ → ℤ) → Keeps f → IsDirection unit v n → IsDirection unit w m
-    → pos 0 ≤ℤ cross v w → pos 0 ≤ℤ cross (f n.0 , f n.1) (f m.0 , f m.1)
+    → pos 0 ≤ℤ cross v w → pos 0 ≤ℤ cross (f n.0, f n.1) (f m.0, f m.1)
 turn_kept_by {unit} {v} {n} {w} {m} f k p q h =
     let a : HasSignOf v.0 (f n.0) = sign_through p.x.sign (k.signs n.0) in
     let b : HasSignOf v.1 (f n.1) = sign_through p.y.sign (k.signs n.1) in
@@ -53,20 +52,20 @@ turn_kept_by {unit} {v} {n} {w} {m} f k p q h =
     let j : 0 < length_sq w = has_length q in
     let g : (v.1 *ℤ w.0) ≤ℤ (v.0 *ℤ w.1) = omega (arith, linear) in
     let o : (f n.1 *ℤ f m.0) ≤ℤ (f n.0 *ℤ f m.1) =
-        order_kept (v.0 *ℤ w.1) (f n.0 *ℤ f m.1) (v.1 *ℤ w.0) (f n.1 *ℤ f m.0) (sign_product a d) (sign_product b c)
-        (products_kept f k i j refl refl p.x p.y q.x q.y)
-        (products_kept f k i j (omega arith) (omega arith) p.y p.x q.y q.x)
-        g in
+    order_kept (v.0 *ℤ w.1) (f n.0 *ℤ f m.1) (v.1 *ℤ w.0) (f n.1 *ℤ f m.0) (sign_product a d) (sign_product b c)
+    (products_kept f k i j refl refl p.x p.y q.x q.y)
+    (products_kept f k i j (omega arith) (omega arith) p.y p.x q.y q.x)
+    g in
     omega (arith, linear)
 
 -- two vectors on one line have directions on one line
 pub parallel_kept_by : {unit : ℕ} {v n w m : Point} → (f : ℤ → ℤ) → Keeps f → IsDirection unit v n → IsDirection unit w m
-    → cross v w ≡ pos 0 → cross (f n.0 , f n.1) (f m.0 , f m.1) ≡ pos 0
+    → cross v w ≡ pos 0 → cross (f n.0, f n.1) (f m.0, f m.1) ≡ pos 0
 parallel_kept_by {unit} {v} {n} {w} {m} f k p q e =
-    let a : pos 0 ≤ℤ cross (f n.0 , f n.1) (f m.0 , f m.1) = turn_kept_by f k p q (omega (arith, linear)) in
+    let a : pos 0 ≤ℤ cross (f n.0, f n.1) (f m.0, f m.1) = turn_kept_by f k p q (omega (arith, linear)) in
     let b : pos 0 ≤ℤ cross w v = omega (arith, linear, cross_flip v w) in
-    let c : pos 0 ≤ℤ cross (f m.0 , f m.1) (f n.0 , f n.1) = turn_kept_by f k q p b in
-    omega (arith, linear, cross_flip (f n.0 , f n.1) (f m.0 , f m.1))
+    let c : pos 0 ≤ℤ cross (f m.0, f m.1) (f n.0, f n.1) = turn_kept_by f k q p b in
+    omega (arith, linear, cross_flip (f n.0, f n.1) (f m.0, f m.1))
 
 -- ---- directions
 
@@ -80,26 +79,26 @@ pub direction_keeps_turns : {unit : ℕ} {v n : Point} → IsDirection unit v n 
 direction_keeps_turns p w m q h = turn_kept p q h
 
 -- a component of a vector has the sign of that of a parallel vector that looks the same way
-same_signs : (a b c d : ℤ) → pos 0 <ℤ dot (a , b) (a , b) → cross (a , b) (c , d) ≡ pos 0 → pos 0 <ℤ dot (a , b) (c , d) → HasSignOf a c
+same_signs : (a b c d : ℤ) → pos 0 <ℤ dot (a, b) (a, b) → cross (a, b) (c, d) ≡ pos 0 → pos 0 <ℤ dot (a, b) (c, d) → HasSignOf a c
 same_signs a b c d l e h =
     let x = var 0 in
     let y = var 1 in
     let z = var 2 in
     let t = var 3 in
-    let i : a *ℤ dot (a , b) (c , d) ≡ (dot (a , b) (a , b) *ℤ c) +ℤ (b *ℤ cross (a , b) (c , d)) =
-        ring (a ∷ b ∷ c ∷ d ∷ []) (x ⊗ dot_of x y z t) ((dot_of x y x y ⊗ z) ⊕ (y ⊗ cross_of x y z t)) refl in
-    let j : b *ℤ cross (a , b) (c , d) ≡ pos 0 = ap (λ (n : ℤ). b *ℤ n) e ∙ mul_zero b in
+    let i : a *ℤ dot (a, b) (c, d) ≡ (dot (a, b) (a, b) *ℤ c) +ℤ (b *ℤ cross (a, b) (c, d)) =
+    ring (a ∷ b ∷ c ∷ d ∷ []) (x ⊗ dot_of x y z t) ((dot_of x y x y ⊗ z) ⊕ (y ⊗ cross_of x y z t)) refl in
+    let j : b *ℤ cross (a, b) (c, d) ≡ pos 0 = ap (λ (n : ℤ). b *ℤ n) e ∙ mul_zero b in
     record {
       nonneg = λ k.
-        let o : pos 0 ≤ℤ (a *ℤ dot (a , b) (c , d)) = mul_nonneg a (dot (a , b) (c , d)) k (omega (arith, linear)) in
-        nonneg_of_mul (dot (a , b) (a , b)) c l (omega (arith, linear));
+          let o : pos 0 ≤ℤ (a *ℤ dot (a, b) (c, d)) = mul_nonneg a (dot (a, b) (c, d)) k (omega (arith, linear)) in
+          nonneg_of_mul (dot (a, b) (a, b)) c l (omega (arith, linear));
       nonpos = λ k.
-        let o : (a *ℤ dot (a , b) (c , d)) ≤ℤ pos 0 = mul_nonpos_nonneg a (dot (a , b) (c , d)) k (omega (arith, linear)) in
-        nonpos_of_mul (dot (a , b) (a , b)) c l (omega (arith, linear))
+          let o : (a *ℤ dot (a, b) (c, d)) ≤ℤ pos 0 = mul_nonpos_nonneg a (dot (a, b) (c, d)) k (omega (arith, linear)) in
+          nonpos_of_mul (dot (a, b) (a, b)) c l (omega (arith, linear));
     }
 
 -- parallel components have one share of their vectors
-same_share : (a b c d : ℤ) → cross (a , b) (c , d) ≡ pos 0
+same_share : (a b c d : ℤ) → cross (a, b) (c, d) ≡ pos 0
     → unsigned_abs c * unsigned_abs c * (unsigned_abs a * unsigned_abs a + unsigned_abs b * unsigned_abs b)
     ≡ unsigned_abs a * unsigned_abs a * (unsigned_abs c * unsigned_abs c + unsigned_abs d * unsigned_abs d)
 same_share a b c d e =
@@ -116,7 +115,7 @@ same_kept {unit} {v} {n} {w} {m} p q e h =
     let i : 0 < length_sq v = has_length p in
     let j : 0 < length_sq w = has_length q in
     let l : pos 0 <ℤ dot v v = omega (arith, linear, dot_self v) in
-    let f : cross (v.1 , v.0) (w.1 , w.0) ≡ pos 0 = omega (arith, linear) in
+    let f : cross (v.1, v.0) (w.1, w.0) ≡ pos 0 = omega (arith, linear) in
     let x : HasSignOf v.0 w.0 = same_signs v.0 v.1 w.0 w.1 l e h in
     let y : HasSignOf v.1 w.1 = same_signs v.1 v.0 w.1 w.0 (omega (arith, linear)) f (omega (arith, linear)) in
     let s = same_share v.0 v.1 w.0 w.1 e in
@@ -126,7 +125,7 @@ same_kept {unit} {v} {n} {w} {m} p q e h =
     let c : unsigned_abs n.1 ≤ unsigned_abs m.1 = part_grows i p.y q.y (omega (arith, t)) in
     let d : unsigned_abs m.1 ≤ unsigned_abs n.1 = part_grows j q.y p.y (omega (arith, t)) in
     λ k.
-    (same_number p.x.sign (sign_through x q.x.sign) (omega arith) k , same_number p.y.sign (sign_through y q.y.sign) (omega arith) k)
+    (same_number p.x.sign (sign_through x q.x.sign) (omega arith) k, same_number p.y.sign (sign_through y q.y.sign) (omega arith) k)
 
 pub direction_same_way : {unit : ℕ} {v n : Point} → IsDirection unit v n → SameWay unit v n
 direction_same_way p w m q e h = same_kept p q e h
@@ -136,7 +135,7 @@ pub opposite_kept : {unit : ℕ} {v n w m : Point} → IsDirection unit v n → 
 opposite_kept {unit} {v} {n} {w} {m} p q e h =
     sym
     (same_kept
-        (direction_opposite p)
-        q
-        (omega (arith, linear, neg_mul v.0 w.1, neg_mul v.1 w.0))
-        (omega (arith, linear, neg_mul v.0 w.0, neg_mul v.1 w.1)))
+    (direction_opposite p)
+    q
+    (omega (arith, linear, neg_mul v.0 w.1, neg_mul v.1 w.0))
+    (omega (arith, linear, neg_mul v.0 w.0, neg_mul v.1 w.1)))

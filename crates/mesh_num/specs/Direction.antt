@@ -1,5 +1,5 @@
 -- Directions: vectors brought to the length `unit`, each component cut towards 0, and their multiples by a radius.
-use Rattle.std.specs.Prelude.{ℕ, ◌≡◌, ◌-◌, ◌*◌, ◌<◌, ◌≤◌, ℤ, pos, ◌*ℤ◌, ◌≤ℤ◌, ◌<ℤ◌, unsigned_abs}
+use Rattle.std.specs.Prelude.{ℕ, ◌≡◌, ◌-◌, ◌*◌, ◌≤◌, ℤ, pos, ◌*ℤ◌, ◌≤ℤ◌, ◌<ℤ◌, unsigned_abs}
 use Rattle.mesh_num.specs.Plane.{Point, opposite, cross, dot, length_sq}
 use Rattle.mesh_num.specs.Rounding.{rounded}
 

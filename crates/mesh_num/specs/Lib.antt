@@ -1,4 +1,5 @@
 pub mod Bounds
+pub mod Directed
 pub mod Direction
 pub mod Order
 pub mod Plane

@@ -1,5 +1,6 @@
 -- Signed segments: the smaller end, the larger end and a count of 1 or -1 stand for one directed edge.
-use Rattle.std.specs.Prelude.{ℕ, ◌≡◌, ◌⊎◌, cond, List, [], ◌∷◌, ◌++◌, map, ℤ, pos, negsuc, int_lt, IsTrue}
+use Rattle.std.specs.Prelude.{ℕ, ◌≡◌, ◌⊎◌, cond, not, List, [], ◌∷◌, ◌++◌, map, ℤ, pos, negsuc, int_lt, IsTrue}
+use Rattle.std.specs.List.{filter}
 use Rattle.mesh_num.specs.Plane.{Point, Edge}
 use Rattle.mesh_num.specs.Winding.{same_point}
 use Rattle.mesh_num.specs.Order.{point_lt}
@@ -29,8 +30,7 @@ segment_between p r = cond (same_point p r) [] (subject_of p r ∷ [])
 
 -- the edges whose ends differ
 abbrev pub proper_edges : List Edge → List Edge
-proper_edges [] = []
-proper_edges (e ∷ es) = edge_between e.0 e.1 ++ proper_edges es
+proper_edges es = filter (λ (e : Edge). not (same_point e.0 e.1)) es
 
 -- the segments of the edges whose ends differ
 abbrev pub segments_of : List Edge → List SignedEdge

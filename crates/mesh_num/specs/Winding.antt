@@ -1,5 +1,5 @@
 -- Crossings, windings, closed lists and balance, over pairs of whole numbers.
-use Rattle.std.specs.Prelude.{ℕ, ◌≡◌, ◌⊎◌, Bool, cond, ◌&&◌, ◌||◌, not, List, [], ◌∷◌, ℤ, pos, negsuc, ◌+ℤ◌, ◌*ℤ◌, count_by, int_le, int_lt}
+use Rattle.std.specs.Prelude.{ℕ, ◌≡◌, ◌⊎◌, Bool, cond, ◌&&◌, not, List, [], ◌∷◌, ℤ, pos, negsuc, ◌+ℤ◌, ◌*ℤ◌, count_by, int_le, int_lt}
 use Rattle.std.specs.Ordering.{int_eq}
 use Rattle.mesh_num.specs.Plane.{Point, Edge, turn}
 

@@ -6,6 +6,7 @@ pub(crate) mod exact;
 pub mod number;
 pub mod point;
 pub mod rect;
+pub(crate) mod search;
 pub mod unit_vector;
 
 pub use angle::Angle;

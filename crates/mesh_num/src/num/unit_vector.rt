@@ -1,6 +1,6 @@
 //! Directions: vectors brought to the length `UNIT`.
 
-ghost use Rattle.std.specs.Prelude.{◌≡◌, ℕ, ◌*◌, ◌≤◌, ◌↔◌, ℤ, pos, unsigned_abs, IsTrue, IsNone, IfOk, IfSome};
+ghost use Rattle.std.specs.Prelude.{◌≡◌, ℕ, ◌*◌, ◌≤◌, ◌↔◌, ℤ, pos, unsigned_abs, IsTrue, IsNone, IfOk, IfSome, MatchOption};
 ghost use Rattle.mesh_num.specs.Bounds.{IsSafe};
 ghost use Rattle.mesh_num.specs.Plane.{length_sq};
 ghost use Rattle.mesh_num.specs.Direction.{IsDirection, IsFresh, IsShort, IsOdd, SameWay, KeepsTurns, KeepsScaledTurns, scaled, scaled_direction};
@@ -8,6 +8,8 @@ ghost use Rattle.mesh_num.specs.Direction.{IsDirection, IsFresh, IsShort, IsOdd,
 use crate::num::convert::{narrow, unit, widen};
 use crate::num::exact::square_sum;
 use crate::num::number::{IntNumber, WideNumber};
+use crate::num::point::IntVector;
+use crate::num::search;
 use std::alloc::AllocError;
 use std::marker::Model;
 
@@ -75,5 +77,53 @@ impl<I: IntNumber> UnitIntVector<I> {
     {
         let least = unit::<I>() - 2;
         square_sum(widen(self.x), widen(self.y)) >= least * least
+    }
+}
+
+impl<I: IntNumber> UnitIntVector<I> {
+    /// The direction times a radius in grid units: each component times the radius over `UNIT`, rounded to the nearest whole
+    /// number, halves away from zero. No component passes the radius in size.
+    pub fn scale(self, radius: I) -> IntVector<I>
+        ensures value { result ≡ scaled_direction I.unit (I.value radius) self }
+        ensures x_bound { unsigned_abs result.0 ≤ unsigned_abs (I.value radius) }
+        ensures y_bound { unsigned_abs result.1 ≤ unsigned_abs (I.value radius) }
+        ensures turns { KeepsScaledTurns I.unit (I.value radius) self result }
+    {
+        IntVector::new(scale_part(self.x, radius), scale_part(self.y, radius))
+    }
+}
+
+// One component of a direction times a radius.
+fn scale_part<I: IntNumber>(part: I, radius: I) -> I::Wide
+    requires { unsigned_abs (I.value part) ≤ I.unit }
+    ensures value { I.Wide.value result ≡ scaled I.unit (I.value radius) (I.value part) }
+    ensures bound { unsigned_abs (I.Wide.value result) ≤ unsigned_abs (I.value radius) }
+{
+    let scaled = search::scaled_part(unit::<I>(), widen(part), widen(radius));
+    I::Wide::from_i128(scaled)
+}
+
+impl<I: IntNumber> IntVector<I> {
+    /// The direction of this vector, `None` for zero: in each component the greatest whole `k` with
+    /// `k * k * length² <= UNIT * UNIT * component²`, with the component's sign. Components are below `2 * UNIT` in size.
+    pub fn fast_normalize(&self) -> Option<UnitIntVector<I>>
+        requires { IsSafe (2 * I.unit) self.now }
+        ensures none { IsNone result ↔ (self.now ≡ (pos 0 , pos 0)) }
+        ensures value { IfSome result (λ n. IsDirection I.unit self.now n) }
+        ensures short { IfSome result (λ n. IsShort I.unit n) }
+        ensures fresh { IfSome result (λ n. IsFresh I.unit n) }
+        ensures odd { IfSome result (λ n. IsOdd I.unit self.now n) }
+        ensures same_way { IfSome result (λ n. SameWay I.unit self.now n) }
+        ensures turns { IfSome result (λ n. KeepsTurns I.unit self.now n) }
+    {
+        self.normalized()
+    }
+
+    fn normalized(&self) -> Option<UnitIntVector<I>>
+        requires { IsSafe (2 * I.unit) self.now }
+        ensures { MatchOption result (length_sq self.now ≡ 0) (λ n. IsDirection I.unit self.now n) }
+    {
+        let (x, y) = search::direction(unit::<I>(), self.x.to_i128(), self.y.to_i128())?;
+        Some(UnitIntVector::from_parts(x, y))
     }
 }

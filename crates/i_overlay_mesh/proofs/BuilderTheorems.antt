@@ -1,0 +1,57 @@
+-- Lemmas over points and lists: what holds of the edges that the builder adds.
+use Rattle.std.proofs.Common.{◌≡◌, ℕ, ◌*◌, ◌<◌, ◌≤◌, List, [], ◌∷◌, ◌++◌, length, drop, refl, sym, ◌∙◌, ap, arith}
+use Rattle.std.specs.Prelude.{ℤ, pos, ◌+ℤ◌}
+use Rattle.std.specs.List.{All}
+use Rattle.std.specs.List.Sorted.{IsPermutation}
+use Rattle.std.proofs.lemmas.List.{drop_at}
+use Rattle.std.proofs.lemmas.List.Elements.{All-nil}
+use Rattle.std.proofs.lemmas.List.Sorted.{length_permutation, IsPermutation-sym}
+use Rattle.mesh_num.specs.Plane.{Point, Edge}
+use Rattle.mesh_num.specs.Winding.{boundary, winding, crossing_on, pieces_total, IsBalanced}
+use Rattle.mesh_num.specs.Segments.{SignedEdge, edges_of, IsSubject}
+use Rattle.mesh_num.proofs.Sums.{total_permutation}
+use Rattle.mesh_num.proofs.Balance.{balanced_permutation}
+use Rattle.mesh_num.proofs.Crossings.{crossing_on_odd}
+use Rattle.mesh_join.specs.Cleaned.{AllEqual, cleaned_sections, IsClean}
+use Rattle.mesh_join.proofs.CleaningSteps.{cleaned-none, cleaned-clean, cleaned-winding}
+use Rattle.i_overlay_mesh.specs.Outline.{bevel, outline_edges, outline_pieces, IsRing}
+use Rattle.i_overlay_mesh.specs.Building.{Adds, added, added_edges, bevelled_edges, bevelled_pieces, NeverTurnedRound, WindAsPieces, WindsByCount}
+use Rattle.i_overlay_mesh.proofs.OutlineCount.{outline_total, outline_balanced, outline_winding, pieces_wind, bevel_fold_free}
+
+-- the cleaned contour is a ring of edges with different ends
+pub cleaned_ring : (points : List Point) → IsRing (cleaned_sections points)
+cleaned_ring points = by (cleaned_sections points) refl
+  where
+    by : (es : List Edge) → cleaned_sections points ≡ es → IsRing es
+    by [] e = record { proper = All-nil (λ (f : Edge). f.0 ≡ f.1 → ⊥); closed = All-nil (λ (c : Edge × Edge). c.0.1 ≡ c.1.0) }
+    by (x ∷ xs) e =
+        let clean : IsClean (cleaned_sections points) =
+        cleaned-clean points (λ h. let none : [] ≡ x ∷ xs = sym (cleaned-none points h) ∙ e in cc) in
+        record { proper = rw e at clean.proper; closed = rw e at clean.closed }
+
+added_is : (old new more : List SignedEdge) → new ≡ old ++ more → added old new ≡ more
+added_is old new more h = rw h (drop_at old more (length old) refl)
+
+pub adds_edges : (old new : List SignedEdge) (es : List Edge) → Adds old new es → IsPermutation (added_edges old new) es
+adds_edges old new es h = rw (added_is old new h.0 h.1) h.2
+
+pub adds_subjects : (old new : List SignedEdge) (es : List Edge) → Adds old new es → All IsSubject (added old new)
+adds_subjects old new es h = rw (added_is old new h.0 h.1) h.3
+
+module _ (unit : ℕ) (offset : ℤ) (points : List Point) (some : 0 < unit) where
+  pub adds_balanced : (old new : List SignedEdge) → Adds old new (bevelled_edges unit offset points) → IsBalanced (added_edges old new)
+  adds_balanced old new h =
+      balanced_permutation (bevelled_edges unit offset points) (added_edges old new) (IsPermutation-sym (added_edges old new) (bevelled_edges unit offset points) (adds_edges old new (bevelled_edges unit offset points) h))
+      (outline_balanced unit offset bevel (cleaned_sections points) some (cleaned_ring points))
+
+  pub adds_pieces : (old new : List SignedEdge) → Adds old new (bevelled_edges unit offset points) → WindAsPieces points (bevelled_pieces unit offset points) (added_edges old new)
+  adds_pieces old new h m q =
+      sym (total_permutation (crossing_on m q) (added_edges old new) (bevelled_edges unit offset points) (adds_edges old new (bevelled_edges unit offset points) h))
+      ∙ outline_total unit offset bevel (cleaned_sections points) some (cleaned_ring points) (crossing_on m q) (crossing_on_odd m q)
+      ∙ ap (λ (x : ℤ). x +ℤ pieces_total (crossing_on m q) (bevelled_pieces unit offset points)) (cleaned-winding m q points)
+
+  pub adds_count : (old new : List SignedEdge) → Adds old new (bevelled_edges unit offset points) → WindsByCount offset points (bevelled_pieces unit offset points) (added_edges old new)
+  adds_count old new h m q =
+      sym (total_permutation (crossing_on m q) (added_edges old new) (bevelled_edges unit offset points) (adds_edges old new (bevelled_edges unit offset points) h))
+      ∙ outline_winding unit offset bevel (cleaned_sections points) some (cleaned_ring points) (bevel_fold_free offset) m q
+      ∙ ap (λ (x : ℤ). x +ℤ _) (cleaned-winding m q points)

@@ -1,0 +1,107 @@
+-- Outlines: how a contour that is moved sideways by an offset is drawn, and the pieces between it and the contour.
+use Rattle.std.specs.Prelude.{ℕ, ◌≡◌, ◌≢◌, Bool, cond, not, List, [], ◌∷◌, ◌++◌, map, ℤ, pos, ◌≤ℤ◌, neg_ℤ, int_lt}
+use Rattle.std.specs.Ordering.{int_eq}
+use Rattle.std.specs.List.{All, filter, flat_map}
+use Rattle.std.proofs.Math.Bool.{beq}
+use Rattle.mesh_num.specs.Plane.{Point, Edge, plus, minus, cross, dot, turn, right_quarter}
+use Rattle.mesh_num.specs.Direction.{scaled_direction}
+use Rattle.mesh_num.specs.Directed.{direction_of}
+use Rattle.mesh_num.specs.Segments.{proper_edges}
+use Rattle.mesh_num.specs.Winding.{route, boundary, fan, same_point}
+
+-- an edge of the contour from `a` to `b`, its direction, and where the two ends lie once it has been moved
+pub record Section : Type 0 where
+  pub a : Point
+  pub b : Point
+  pub direction : Point
+  pub a_top : Point
+  pub b_top : Point
+
+-- two neighbouring sections: the second starts where the first ends
+abbrev pub Corner : Type 0
+Corner = Section × Section
+
+abbrev pub own_edge : Section → Edge
+own_edge s = (s.a, s.b)
+
+abbrev pub top_edge : Section → Edge
+top_edge s = (s.a_top, s.b_top)
+
+-- the piece between an edge and the moved edge
+abbrev pub strip : Section → List Point
+strip s = s.a ∷ s.a_top ∷ s.b_top ∷ s.b ∷ []
+
+-- an inner corner goes from the one top to the vertex and from there to the other
+abbrev pub inner_edges : Corner → List Edge
+inner_edges c = (c.0.b_top, c.0.b) ∷ (c.1.a, c.1.a_top) ∷ []
+
+-- an outer corner goes from top to top through the points of its join; there are none where the tops are equal
+abbrev pub join_edges : (Corner → List Point) → Corner → List Edge
+join_edges join c = route c.0.b_top (cond (same_point c.0.b_top c.1.a_top) [] (join c)) c.1.a_top
+
+abbrev pub corner_edges : (Corner → Bool) → (Corner → List Point) → Corner → List Edge
+corner_edges is_outer join c = cond (is_outer c) (join_edges join c) (inner_edges c)
+
+-- the pieces at a corner: the fan of an outer one's join
+abbrev pub corner_pieces : (Corner → Bool) → (Corner → List Point) → Corner → List (List Point)
+corner_pieces is_outer join c = cond (is_outer c) (fan c.0.b (join_edges join c)) []
+
+-- what is drawn over a closed list of sections, and the pieces between that and the sections' own edges
+unfoldable pub drawn_edges : (Corner → Bool) → (Corner → List Point) → List Section → List Edge
+drawn_edges is_outer join sections =
+    proper_edges (map top_edge sections ++ flat_map (corner_edges is_outer join) (boundary sections))
+
+unfoldable pub drawn_pieces : (Corner → Bool) → (Corner → List Point) → List Section → List (List Point)
+drawn_pieces is_outer join sections = map strip sections ++ flat_map (corner_pieces is_outer join) (boundary sections)
+
+-- the vector by which an edge along `v` moves: to its right by `offset`, to its left where that is negative
+abbrev pub sideways : ℕ → ℤ → Point → Point
+sideways unit offset v = right_quarter (scaled_direction unit offset (direction_of unit v))
+
+abbrev pub section_of : ℕ → ℤ → Edge → Section
+section_of unit offset e = record {
+  a = e.0;
+  b = e.1;
+  direction = direction_of unit (minus e.1 e.0);
+  a_top = plus e.0 (sideways unit offset (minus e.1 e.0));
+  b_top = plus e.1 (sideways unit offset (minus e.1 e.0));
+}
+
+-- at an outer corner the moved edges part: the contour turns away from the side they are moved to, or turns back
+abbrev pub parts : ℤ → Corner → Bool
+parts offset c =
+    let next = minus c.1.b c.1.a in
+    let previous = minus c.0.b c.0.a in
+    cond (int_eq (cross next previous) (pos 0)) (int_lt (dot next previous) (pos 0))
+    (beq (int_lt (pos 0) (cross next previous)) (int_lt offset (pos 0)))
+
+-- the outline of a contour, given as its edges: they are moved by `offset` and joined by `join`
+abbrev pub outline_edges : ℕ → ℤ → (Corner → List Point) → List Edge → List Edge
+outline_edges unit offset join contour = drawn_edges (parts offset) join (map (section_of unit offset) contour)
+
+-- its pieces; the offset 0 has none
+abbrev pub outline_pieces : ℕ → ℤ → (Corner → List Point) → List Edge → List (List Point)
+outline_pieces unit offset join contour =
+    cond (int_eq offset (pos 0)) [] (drawn_pieces (parts offset) join (map (section_of unit offset) contour))
+
+-- a bevel goes straight from top to top
+abbrev pub bevel : Corner → List Point
+bevel c = []
+
+-- a number with its sign changed for a negative offset
+abbrev pub sided : ℤ → ℤ → ℤ
+sided offset z = cond (int_lt offset (pos 0)) (neg_ℤ z) z
+
+-- neighbours in a list of points round `v` never turn back: a turn is to the left, for a negative offset to the right
+abbrev pub NeverTurnsBack : ℤ → Point → List Edge → Type 0
+NeverTurnsBack offset v es = All (λ (e : Edge). pos 0 ≤ℤ sided offset (turn v e.0 e.1)) es
+
+-- a join whose points never turn back where its ends do not
+abbrev pub IsFoldFree : ℤ → (Corner → List Point) → Type 0
+IsFoldFree offset join =
+    (c : Corner) → pos 0 ≤ℤ sided offset (turn c.0.b c.0.b_top c.1.a_top) → NeverTurnsBack offset c.0.b (join_edges join c)
+
+-- edges with different ends, each starting where the one before ends, the first where the last does
+pub record IsRing (contour : List Edge) : Type 0 where
+  pub proper : All (λ (e : Edge). e.0 ≢ e.1) contour
+  pub closed : All (λ (c : Edge × Edge). c.0.1 ≡ c.1.0) (boundary contour)

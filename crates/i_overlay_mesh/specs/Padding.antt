@@ -1,0 +1,33 @@
+-- How far an outline reaches from the vertices of its contours, and what stays in the safe range.
+use Rattle.std.specs.Prelude.{ℕ, List, ℤ}
+use Rattle.std.specs.Int.{int_max}
+use Rattle.std.specs.List.{All, Contains, flat_map}
+use Rattle.mesh_num.specs.Plane.{Point, Edge, plus, minus}
+use Rattle.mesh_num.specs.Rectangle.{IsInRectangle, IsSafeWidened}
+use Rattle.mesh_join.specs.Joins.{bevel_padding}
+
+-- the padding of an outline with these offsets: the greater one of their joins
+abbrev pub outline_padding : ℤ → ℤ → ℤ
+outline_padding outer inner = int_max (bevel_padding outer) (bevel_padding inner)
+
+-- each point of each path stays safe where it moves by at most the padding
+abbrev pub ArePathsSafe : ℕ → ℤ → List (List Point) → Type 0
+ArePathsSafe unit padding paths = All (λ (path : List Point). All (IsSafeWidened unit padding) path) paths
+
+-- the points of all paths
+abbrev pub all_points : List (List Point) → List Point
+all_points paths = flat_map (λ (path : List Point). path) paths
+
+-- a rectangle moved outwards by the padding on each side
+abbrev pub widened : ℤ → Edge → Edge
+widened padding corners = (minus corners.0 (padding, padding), plus corners.1 (padding, padding))
+
+-- `p` is away from `v` by at most the padding in each coordinate
+abbrev pub IsWithinPadding : ℤ → Point → Point → Type 0
+IsWithinPadding padding v p = IsInRectangle (widened padding (v, v)) p
+
+-- `p` is away from one of the vertices by at most the padding in each coordinate
+pub record IsNear (padding : ℤ) (vertices : List Point) (p : Point) : Type 0 where
+  pub vertex : Point
+  pub listed : Contains vertices vertex
+  pub within : IsWithinPadding padding vertex p
