@@ -1,6 +1,6 @@
 //! Why a request has no answer.
 
-use crate::standin::IntOutlineError;
+use i_overlay_mesh::IntOutlineError;
 use std::alloc::{AllocError, AllocFailed};
 use std::fmt;
 
@@ -36,7 +36,7 @@ impl From<IntOutlineError> for Failure {
 impl From<AllocError> for Failure {
     ghost use Rattle.std.specs.Prelude.{◌≡◌};
     ghost use Rattle.mesh_run.specs.declared.failure.Failure.TheVariants.{Refused};
-    ghost use Rattle.mesh_run.specs.declared.standin.IntOutlineError.TheVariants.{OutOfMemory};
+    ghost use Rattle.i_overlay_mesh.specs.declared.error.IntOutlineError.TheVariants.{OutOfMemory};
 
     ghost from_gives = { λ _ failure. failure ≡ Refused OutOfMemory };
 
@@ -48,7 +48,7 @@ impl From<AllocError> for Failure {
 impl<T: Drop> From<AllocFailed<T>> for Failure {
     ghost use Rattle.std.specs.Prelude.{◌≡◌};
     ghost use Rattle.mesh_run.specs.declared.failure.Failure.TheVariants.{Refused};
-    ghost use Rattle.mesh_run.specs.declared.standin.IntOutlineError.TheVariants.{OutOfMemory};
+    ghost use Rattle.i_overlay_mesh.specs.declared.error.IntOutlineError.TheVariants.{OutOfMemory};
 
     ghost from_gives = { λ _ failure. failure ≡ Refused OutOfMemory };
 
@@ -62,7 +62,7 @@ impl From<serde_json::Error> for Failure {
     ghost use Rattle.std.specs.Prelude.{◌≡◌};
     ghost use Rattle.serde_json.specs.Errors.{IsMemory};
     ghost use Rattle.mesh_run.specs.declared.failure.Failure.TheVariants.{Refused, Unreadable};
-    ghost use Rattle.mesh_run.specs.declared.standin.IntOutlineError.TheVariants.{OutOfMemory};
+    ghost use Rattle.i_overlay_mesh.specs.declared.error.IntOutlineError.TheVariants.{OutOfMemory};
 
     ghost from_gives = { λ error failure. (IsMemory error → failure ≡ Refused OutOfMemory) × (¬ IsMemory error → failure ≡ Unreadable) };
 

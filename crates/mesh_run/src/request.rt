@@ -8,7 +8,7 @@ ghost use Rattle.mesh_run.specs.Reading.{point_of, points_of, path_of, only, has
 use crate::failure::Failure;
 use crate::json::{coordinate, says};
 use crate::outline::OutlineRequest;
-use crate::standin::{IntLineJoin, IntOutlineStyle};
+use mesh_join::style::{IntLineJoin, IntOutlineStyle};
 use mesh_num::num::{IntNumber, IntPoint, OverlayInt};
 use serde_json::Value;
 use std::alloc::Global;
