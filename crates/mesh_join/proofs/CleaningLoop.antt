@@ -1,11 +1,11 @@
 -- Lemmas over points and lists: where the loop of the cleaned contour starts, and how it closes.
-use Rattle.std.proofs.Common.{◌≡◌, ◌⊎◌, inl, inr, refl, sym, ◌∙◌, ap, subst, arith, Bool, true, false, cond, List, [], ◌∷◌, ◌++◌}
-use Rattle.std.proofs.lemmas.Bool.{true≢false, false≢true, cases_Bool, cond-true, cond-false}
-use Rattle.mesh_num.specs.Plane.{Point, Edge}
-use Rattle.mesh_num.specs.Winding.{route, boundary, same_point}
-use Rattle.mesh_join.specs.Cleaned.{is_kept, changes_from, without_repeats, without_end, ring, kept_between, kept_inside, kept_round, last_of, last_first, begun, cleaned_points, cleaned_sections, sections_between, open_sections}
-use Rattle.mesh_join.proofs.CleaningVectors.{same_point-eq, same_point-self, same_point-apart, same_point-swap, SameWay, SameWay-swap, SameWay-straight, SameWay-ahead, SameWay-self, SameWay-apart, judged, judged_ahead, is_kept-from_self, is_kept-to_self, is_kept-back}
-use Rattle.mesh_join.proofs.CleaningPass.{changes_from-same, changes_from-apart, kept_between-kept, kept_between-passed, passed, passed-kept, passed-on, passed-same, passed-own}
+use Rattle.std.proofs.Common.{◌≡◌, inl, inr, refl, sym, ◌∙◌, ap, true, false, cond, List, [], ◌∷◌, ◌++◌}
+use Rattle.std.proofs.lemmas.Bool.{cases_Bool, cond-true, cond-false}
+use Rattle.mesh_num.specs.Plane.{Point}
+use Rattle.mesh_num.specs.Winding.{same_point}
+use Rattle.mesh_join.specs.Cleaned.{is_kept, changes_from, without_end, kept_between, last_of}
+use Rattle.mesh_join.proofs.CleaningVectors.{same_point-eq, same_point-swap}
+use Rattle.mesh_join.proofs.CleaningPass.{changes_from-same, changes_from-apart}
 
 -- ---- lists
 
@@ -34,9 +34,6 @@ closing q x [] rest = elim (cases_Bool (same_point q x)) [ inl e ↦ repeated e 
         ∙ ap (λ ws. x ∷ ws) (sym (changes_from-apart x q rest (same_point-swap q x ∙ e)))
 closing q x (z ∷ zs) rest = elim (cases_Bool (same_point x z)) [ inl e ↦ repeated e (closing q x zs rest) | inr e ↦ apart e (closing q z zs rest) ]
   where
-    side : List Point → List Point
-    side ws = without_end q (x ∷ ws) ++ q ∷ changes_from q rest
-
     repeated : same_point x z ≡ true → without_end q (x ∷ changes_from x zs) ++ q ∷ changes_from q rest ≡ x ∷ changes_from x (zs ++ q ∷ rest)
         → without_end q (x ∷ changes_from x (z ∷ zs)) ++ q ∷ changes_from q rest ≡ x ∷ changes_from x (z ∷ (zs ++ q ∷ rest))
     repeated e ih =

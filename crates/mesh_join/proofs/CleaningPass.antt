@@ -1,11 +1,10 @@
 -- Lemmas over points and lists: a pass that compares with the last kept point keeps what each point's own neighbours say.
-use Rattle.std.proofs.Common.{◌≡◌, ◌⊎◌, inl, inr, refl, sym, ◌∙◌, ap, subst, arith, Bool, true, false, cond, List, [], ◌∷◌, ◌++◌}
-use Rattle.std.specs.Prelude.{ℤ, pos, ◌+ℤ◌}
-use Rattle.std.proofs.lemmas.Bool.{true≢false, cases_Bool, cond-true, cond-false}
+use Rattle.std.proofs.Common.{◌≡◌, ◌⊎◌, inl, inr, sym, ◌∙◌, ap, subst, true, false, cond, List, [], ◌∷◌}
+use Rattle.std.proofs.lemmas.Bool.{cases_Bool, cond-true, cond-false}
 use Rattle.mesh_num.specs.Plane.{Point, Edge}
-use Rattle.mesh_num.specs.Winding.{route, boundary, same_point}
-use Rattle.mesh_join.specs.Cleaned.{is_kept, changes_from, without_repeats, without_end, kept_between, last_of, sections_between, open_sections}
-use Rattle.mesh_join.proofs.CleaningVectors.{same_point-eq, same_point-self, same_point-apart, SameWay, SameWay-straight, SameWay-ahead, SameWay-self, SameWay-apart, judged, judged_ahead, is_kept-from_self, is_kept-to_self}
+use Rattle.mesh_num.specs.Winding.{route, same_point}
+use Rattle.mesh_join.specs.Cleaned.{is_kept, changes_from, kept_between, last_of, sections_between, open_sections}
+use Rattle.mesh_join.proofs.CleaningVectors.{same_point-eq, SameWay, SameWay-straight, SameWay-self, SameWay-apart, judged, is_kept-from_self, is_kept-to_self}
 
 -- ---- the definitions, case by case
 

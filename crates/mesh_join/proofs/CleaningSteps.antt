@@ -1,8 +1,8 @@
 -- Lemmas over points and lists: one step of the walk that the program makes round a contour.
-use Rattle.std.proofs.Common.{◌≡◌, ℕ, ◌⊎◌, inl, inr, refl, sym, ◌∙◌, ap, subst, arith, Bool, true, false, cond, List, [], ◌∷◌, ◌++◌, length}
-use Rattle.std.specs.Prelude.{ℤ, pos}
+use Rattle.std.proofs.Common.{◌≡◌, ℕ, ◌⊎◌, inl, inr, refl, sym, ◌∙◌, ap, subst, arith, true, false, List, [], ◌∷◌, ◌++◌, length}
+use Rattle.std.specs.Prelude.{pos}
 use Rattle.std.specs.List.{All}
-use Rattle.std.proofs.lemmas.Bool.{true≢false, false≢true, cases_Bool, cond-true, cond-false}
+use Rattle.std.proofs.lemmas.Bool.{true≢false, cases_Bool, cond-true, cond-false}
 use Rattle.std.proofs.lemmas.List.Elements.{All-head, All-tail, All-cons, All-nil, All-rest, All-append}
 use Rattle.mesh_num.specs.Plane.{Point, Edge}
 use Rattle.mesh_num.specs.Winding.{same_point, boundary, winding, crossing_on}
@@ -10,7 +10,7 @@ use Rattle.mesh_num.proofs.Triangles.{crossing_on_straight}
 use Rattle.mesh_join.specs.Cleaned.{is_kept, cleaned_sections, open_sections, AllEqual, IsClean}
 use Rattle.mesh_join.proofs.CleaningVectors.{same_point-eq, same_point-self}
 use Rattle.mesh_join.proofs.CleaningPass.{passed-kept, passed-on, passed-open}
-use Rattle.mesh_join.proofs.CleaningStart.{started, started-kept, started-on, started-cleaned, cleaned_sections-same}
+use Rattle.mesh_join.proofs.CleaningStart.{started, started-kept, started-on, cleaned_sections-same}
 use Rattle.mesh_join.proofs.CleaningSums.{cleaned-total}
 use Rattle.mesh_join.proofs.CleaningTurns.{cleaned_sections-clean}
 

@@ -1,8 +1,8 @@
 -- Lemmas over points and lists: the cleaned contour keeps each sum over edges that is unchanged by points on the way.
-use Rattle.std.proofs.Common.{◌≡◌, ℕ, ◌⊎◌, inl, inr, refl, sym, ◌∙◌, ap, subst, arith, Bool, true, false, cond, List, [], ◌∷◌, ◌++◌}
-use Rattle.std.specs.Prelude.{ℤ, pos, ◌+ℤ◌, ◌-ℤ◌}
+use Rattle.std.proofs.Common.{◌≡◌, inl, inr, refl, sym, ◌∙◌, ap, arith, true, List, [], ◌∷◌, ◌++◌}
+use Rattle.std.specs.Prelude.{ℤ, pos, ◌+ℤ◌}
 use Rattle.std.proofs.lemmas.Bool.{cases_Bool, cond-true, cond-false}
-use Rattle.mesh_num.specs.Plane.{Point, Edge, turn, minus, cross}
+use Rattle.mesh_num.specs.Plane.{Point, Edge, turn}
 use Rattle.mesh_num.specs.Winding.{route, boundary, same_point, total}
 use Rattle.mesh_num.proofs.Whole.{linear}
 use Rattle.mesh_join.specs.Cleaned.{is_kept, cleaned_sections}

@@ -1,15 +1,15 @@
 -- Lemmas over points and lists: no two neighbouring sections of a cleaned contour run on in one direction.
-use Rattle.std.proofs.Common.{◌≡◌, ◌≢◌, ◌+◌, ◌≤◌, ◌⊎◌, inl, inr, refl, sym, ◌∙◌, ap, subst, arith, Bool, true, false, cond, List, [], ◌∷◌, ◌++◌, length, take, drop}
-use Rattle.std.specs.Prelude.{ℤ, pos, ◌+ℤ◌, ◌-ℤ◌, ◌<ℤ◌, neg_ℤ}
+use Rattle.std.proofs.Common.{◌≡◌, ◌≢◌, ◌≤◌, ◌⊎◌, inl, inr, refl, sym, ◌∙◌, ap, subst, arith, true, false, List, [], ◌∷◌, ◌++◌, length}
+use Rattle.std.specs.Prelude.{pos, ◌<ℤ◌, neg_ℤ}
 use Rattle.std.specs.List.{All}
-use Rattle.std.proofs.lemmas.Bool.{true≢false, false≢true, cases_Bool, cond-true, cond-false}
+use Rattle.std.proofs.lemmas.Bool.{true≢false, cases_Bool}
 use Rattle.std.proofs.lemmas.List.Elements.{All-head, All-tail, All-nil, All-cons, All-weaker}
 use Rattle.mesh_num.specs.Plane.{Point, Edge, minus, cross, dot}
 use Rattle.mesh_num.specs.Winding.{route, boundary, same_point}
 use Rattle.mesh_num.proofs.Whole.{linear}
-use Rattle.mesh_num.proofs.Ring.{ring, var, lit, neg, ◌⊕◌, ◌⊖◌, ◌⊗◌, cross_of, dot_of}
+use Rattle.mesh_num.proofs.Ring.{ring, var, neg, ◌⊖◌, cross_of, dot_of}
 use Rattle.mesh_join.specs.Cleaned.{is_kept, changes_from, kept_between, last_of, without_end, cleaned_sections, RunsOn, IsClean}
-use Rattle.mesh_join.proofs.CleaningVectors.{same_point-eq, same_point-self, same_point-apart, same_point-swap, SameWay, SameWay-swap, SameWay-straight, SameWay-ahead, SameWay-self, SameWay-apart, judged, judged_ahead, is_kept-from_self, is_kept-to_self, is_kept-back, is_kept-straight}
+use Rattle.mesh_join.proofs.CleaningVectors.{same_point-swap, SameWay, SameWay-straight, SameWay-ahead, SameWay-self, SameWay-apart, judged, judged_ahead, is_kept-from_self, is_kept-to_self, is_kept-back, is_kept-straight}
 use Rattle.mesh_join.proofs.CleaningPass.{changes_from-same, changes_from-apart, kept_between-kept, kept_between-passed}
 use Rattle.mesh_join.proofs.CleaningLoop.{round_to}
 use Rattle.mesh_join.proofs.CleaningStart.{started, Turned, Found, none_inside, first_inside, ends_at, started-found, started-cleaned}

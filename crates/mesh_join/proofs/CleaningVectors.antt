@@ -1,17 +1,17 @@
 -- Lemmas over points and lists: whether a point is kept depends on the directions to its two neighbours alone.
-use Rattle.std.proofs.Common.{◌≡◌, ℕ, ◌*◌, ◌⊎◌, inl, inr, refl, sym, ◌∙◌, ap, subst, arith, Bool, true, false, not, ◌||◌, ◌&&◌, [], ◌∷◌}
-use Rattle.std.specs.Prelude.{ℤ, pos, ◌+ℤ◌, ◌-ℤ◌, ◌*ℤ◌, ◌≤ℤ◌, neg_ℤ, int_lt, IsTrue, ◌↔◌}
+use Rattle.std.proofs.Common.{◌≡◌, ℕ, ◌*◌, inl, inr, refl, sym, ◌∙◌, ap, subst, arith, true, false, not, ◌||◌, ◌&&◌, [], ◌∷◌}
+use Rattle.std.specs.Prelude.{ℤ, pos, ◌-ℤ◌, ◌*ℤ◌, ◌≤ℤ◌, neg_ℤ, int_lt}
 use Rattle.std.specs.Ordering.{int_eq}
 use lib.Signed.{◌<ℤ◌}
 use lib.IntN.{*ℤ_comm, *ℤ-zero, zero-*ℤ}
 use Rattle.std.proofs.lemmas.Int.{ints, by_lt_z}
-use Rattle.std.proofs.lemmas.Bool.{true≢false, false≢true, and_parts, or_parts, not-false, true_from_ne_false, false_from_ne_true, cases_Bool}
+use Rattle.std.proofs.lemmas.Bool.{true≢false, and_parts, or_parts, not-false, true_from_ne_false, false_from_ne_true, cases_Bool}
 use Rattle.std.proofs.lemmas.Bool.Decides.{same_from_decides, Decides-int_eq, Decides-like}
 use Rattle.mesh_num.specs.Plane.{Point, minus, cross, dot, turn}
 use Rattle.mesh_num.specs.Bounds.{IsSafe}
 use Rattle.mesh_num.specs.Winding.{same_point}
-use Rattle.mesh_num.proofs.Whole.{linear, mul_pos, square_pos, square_nonneg, mul_cancel, pos_of_mul, factor, mul_nonneg}
-use Rattle.mesh_num.proofs.Ring.{ring, var, lit, neg, ◌⊕◌, ◌⊖◌, ◌⊗◌, cross_of, dot_of}
+use Rattle.mesh_num.proofs.Whole.{linear, mul_pos, square_nonneg, mul_cancel, pos_of_mul, factor}
+use Rattle.mesh_num.proofs.Ring.{ring, var, lit, neg, ◌⊖◌, cross_of, dot_of}
 use Rattle.mesh_num.proofs.Identities.{lagrange, dot_through, cross_through, cross_flip, cross_self, dot_swap}
 use Rattle.mesh_join.specs.Cleaned.{is_kept}
 
@@ -78,13 +78,6 @@ OneWay-length v w h =
     let size : pos 0 ≤ℤ dot w w = omega (arith, linear, square_nonneg w.0, square_nonneg w.1) in
     pos_of_mul (dot w w) (dot v v) size product
 
-OneWay-swap : (v w : Point) → OneWay v w → OneWay w v
-OneWay-swap v w h =
-    record {
-      flat = cross_flip v w ∙ ap neg_ℤ h.flat;
-      ahead = subst (λ n. pos 0 <ℤ n) (sym (dot_swap v w)) h.ahead;
-    }
-
 -- numbers of which positive multiples are equal have one sign
 same_zero : (s t x y : ℤ) → pos 0 <ℤ s → pos 0 <ℤ t → s *ℤ x ≡ t *ℤ y → x ≡ pos 0 → y ≡ pos 0
 same_zero s t x y hs ht e z =
@@ -129,9 +122,6 @@ OneWay-turns v w b h =
 -- seen from `p`, the points `a` and `b` lie in one direction
 abbrev pub SameWay : Point → Point → Point → Type 0
 SameWay a b p = OneWay (minus p a) (minus p b)
-
-pub SameWay-swap : (a b p : Point) → SameWay a b p → SameWay b a p
-SameWay-swap a b p h = OneWay-swap (minus p a) (minus p b) h
 
 pub judged : (a b p z : Point) → SameWay a b p → is_kept a p z ≡ is_kept b p z
 judged a b p z h = OneWay-turns (minus p a) (minus p b) (minus p z) h
@@ -256,14 +246,3 @@ minus_safe u p q v e h k =
       x = record { low = omega (arith, linear, h.x.low, k.x.high); high = omega (arith, linear, h.x.high, k.x.low) };
       y = record { low = omega (arith, linear, h.y.low, k.y.high); high = omega (arith, linear, h.y.high, k.y.low) };
     })
-
--- ---- the test as a program makes it, with a number `o` for 0
-
-pub is_kept-turn : (p0 p1 p2 : Point) → (cross (minus p1 p0) (minus p1 p2) ≡ pos 0 → ⊥) → true ≡ is_kept p0 p1 p2
-is_kept-turn p0 p1 p2 n = sym (true_from_ne_false (is_kept p0 p1 p2) (λ e. n (is_kept-false p0 p1 p2 e).0))
-
-pub is_kept-flat : (p0 p1 p2 : Point) (b : Bool) → cross (minus p1 p0) (minus p1 p2) ≡ pos 0 → (IsTrue b ↔ pos 0 <ℤ dot (minus p1 p0) (minus p1 p2)) → b ≡ is_kept p0 p1 p2
-is_kept-flat p0 p1 p2 true e h =
-    sym (true_from_ne_false (is_kept p0 p1 p2) (λ k. absurd (omega (arith, linear, h.0 refl, (is_kept-false p0 p1 p2 k).1))))
-is_kept-flat p0 p1 p2 false e h =
-    by_lt_z (pos 0) (dot (minus p1 p0) (minus p1 p2)) (λ k. absurd (false≢true (h.1 k))) (λ k. sym (is_kept-straight p0 p1 p2 e k))

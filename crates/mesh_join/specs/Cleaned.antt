@@ -53,12 +53,12 @@ kept_round (p ∷ q ∷ ps) = kept_between p q (ps ++ p ∷ q ∷ [])
 abbrev pub last_first : List Point → List Point
 last_first xs = drop (length xs - 1) xs ++ take (length xs - 1) xs
 
--- the closed list `round` begins with the first of `inside`; with none there it begins with its last point
+-- the kept points `round`, which begin at the first of `inside`; where nothing is inside, begun at their last one instead
 abbrev pub begun : List Point → List Point → List Point
 begun [] round = last_first round
 begun (p ∷ ps) round = round
 
--- the kept points of a closed list, begun at the first that is kept inside the list without repeats, or else at the list's first point
+-- the kept points of a closed list, begun at the first one that stands inside the list without repeats, or else at the list's first point
 abbrev pub cleaned_points : List Point → List Point
 cleaned_points points = begun (kept_inside (without_repeats points)) (kept_round (ring (without_repeats points)))
 

@@ -172,7 +172,10 @@ fn straight_on<I: IntNumber>(
 }
 
 /// The first point that differs from `first`, and the points after it.
-fn first_other<'a, I: IntNumber>(first: IntPoint<I>, points: &'a [IntPoint<I>]) -> Option<(IntPoint<I>, &'a [IntPoint<I>])>
+fn first_other<'a, I: IntNumber>(
+    first: IntPoint<I>,
+    points: &'a [IntPoint<I>],
+) -> Option<(IntPoint<I>, &'a [IntPoint<I>])>
     requires { All (IsSafe I.unit) points.now }
     ensures sections { MatchOption result (AllEqual (first ∷ points.now))
         (λ r. (same_point first r.0 ≡ false) × (AllEqual (first ∷ points.now) → ⊥) × (cleaned_sections (first ∷ points.now) ≡ cleaned_sections (first ∷ r.0 ∷ r.1.now))) }
@@ -206,6 +209,10 @@ fn is_kept<I: IntNumber>(p0: IntPoint<I>, p1: IntPoint<I>, p2: IntPoint<I>) -> b
     let on = p1 - p2;
     let zero = I::ZERO.to_wide();
     let cross = back.cross_product(&on);
-    let dot = back.dot_product(&on);
-    is_wide_less::<I>(cross, zero) || is_wide_less::<I>(zero, cross) || is_wide_less::<I>(zero, dot)
+    is_wide_less::<I>(cross, zero)
+        || is_wide_less::<I>(zero, cross)
+        || is_wide_less::<I>(zero, back.dot_product(&on))
 }
+
+#[cfg(test)]
+mod tests;

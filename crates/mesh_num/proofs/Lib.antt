@@ -2,9 +2,11 @@ pub mod Balance
 pub mod ClosedLists
 pub mod Crossings
 pub mod Directed
+pub mod FlatContours
 pub mod Identities
 pub mod Normalized
 pub mod Parts
+pub mod Paths
 pub mod Pieces
 pub mod Products
 pub mod Rectangles

@@ -1,10 +1,16 @@
 //! The edges of one contour's outline.
 
-ghost use Rattle.std.specs.Prelude.{◌≡◌, OnOk, OnErr, IsOk, ◌++◌};
+ghost use Rattle.std.specs.Prelude.{◌≡◌, ◌*◌, ◌≤◌, ℤ, length, OnOk, OnErr, IsOk, ◌++◌};
+ghost use Rattle.std.specs.List.Sorted.{IsPermutation};
+ghost use Rattle.mesh_num.specs.Bounds.{IsSafe};
+ghost use Rattle.mesh_num.specs.Segments.{IsSubject};
+ghost use Rattle.mesh_num.specs.Winding.{IsBalanced};
+ghost use Rattle.mesh_join.specs.Joins.{bevel_padding};
+ghost use Rattle.i_overlay_mesh.specs.Padding.{IsNear};
 ghost use Rattle.std.specs.List.{All};
 ghost use Rattle.mesh_join.specs.Cleaned.{AllEqual, cleaned_sections};
 ghost use Rattle.i_overlay_mesh.specs.Outline.{outline_edges, bevel};
-ghost use Rattle.i_overlay_mesh.specs.Building.{Adds, IsCorner, IsMovable, Keeps, corner_segments, top_segments};
+ghost use Rattle.i_overlay_mesh.specs.Building.{Adds, added, added_edges, bevelled_edges, bevelled_pieces, NeverTurnedRound, WindAsPieces, WindsByCount, IsCorner, IsMovable, Keeps, corner_segments, top_segments};
 
 use crate::outline::builder_join::{JoinBuilder, is_outer};
 use crate::outline::section::OffsetSection;
@@ -13,6 +19,7 @@ use mesh_join::uniq_iter::UniqueSegmentsIter;
 use mesh_num::num::{IntNumber, IntPoint};
 use mesh_num::shape::segment::{Segment, SubjectSegments};
 use std::alloc::AllocError;
+use std::marker::Model;
 
 /// Builds the outline of a contour: its sections moved by an offset, and joined at the corners.
 pub struct OutlineBuilder<I: IntNumber> {
@@ -20,12 +27,57 @@ pub struct OutlineBuilder<I: IntNumber> {
     join: Join<I>,
 }
 
+impl<I: IntNumber> Model for OutlineBuilder<I> {
+    ghost use Rattle.std.specs.Prelude.{ℤ};
+
+    ghost Value = { ℤ };
+
+    ghost view = { λ b. I.value b.offset };
+}
+
 impl<I: IntNumber> OutlineBuilder<I> {
-    /// A builder of outlines with this offset in grid units, to the right of the contour's edges, to their left where it is negative.
+    /// A builder of outlines with this offset in grid units: to the right of the contour's edges, to their left where it is negative.
     pub fn new(offset: I, join: Join<I>) -> Self
-        ensures { result.offset ≡ offset }
+        ensures { result ≡ I.value offset }
     {
         OutlineBuilder { offset, join }
+    }
+
+    /// Adds the edges of the outline of the closed contour through these points, each of which stays in the safe range
+    /// where it moves by the size of the offset. What the vector holds stays. No memory is taken where there is no point
+    /// or all are equal. After a refusal the vector is cut back to its old length.
+    pub fn build(
+        &mut self,
+        path: &[IntPoint<I>],
+        segments: &mut Vec<Segment<I>>,
+    ) -> Result<(), AllocError>
+        requires { All (IsMovable I.unit self.old) path.now }
+
+        // What is added, and what stays.
+        ensures kept { OnOk result (Keeps segments.old.items segments.new.items) }
+        ensures edges { OnOk result (IsPermutation (added_edges segments.old.items segments.new.items) (bevelled_edges I.unit self.old path.now)) }
+        ensures form { OnOk result (All IsSubject (added segments.old.items segments.new.items)) }
+        ensures few { OnOk result (length (added segments.old.items segments.new.items) ≤ 4 * length (cleaned_sections path.now)) }
+        ensures refused { OnErr result (segments.new.items ≡ segments.old.items) }
+        ensures nothing { AllEqual path.now → IsOk result }
+        ensures same { self.new ≡ self.old }
+
+        // The edges close up, and stay near the contour.
+        ensures balanced { OnOk result (IsBalanced (added_edges segments.old.items segments.new.items)) }
+        ensures near { OnOk result (All (λ e. IsNear (bevel_padding self.old) path.now e.0 × IsNear (bevel_padding self.old) path.now e.1) (added_edges segments.old.items segments.new.items)) }
+        ensures safe { OnOk result (All (λ e. IsSafe I.unit e.0 × IsSafe I.unit e.1) (added_edges segments.old.items segments.new.items)) }
+
+        // How they wind.
+        ensures sum { OnOk result (WindAsPieces path.now (bevelled_pieces I.unit self.old path.now) (added_edges segments.old.items segments.new.items)) }
+        ensures pieces { OnOk result (NeverTurnedRound self.old (bevelled_pieces I.unit self.old path.now)) }
+        ensures count { OnOk result (WindsByCount self.old path.now (bevelled_pieces I.unit self.old path.now) (added_edges segments.old.items segments.new.items)) }
+    {
+        let length = segments.len();
+        if let Err(error) = draw(&mut self.join, self.offset, path, segments) {
+            segments.truncate(length);
+            return Err(error);
+        }
+        Ok(())
     }
 }
 

@@ -1,4 +1,4 @@
-use Rattle.std.proofs.Common.{◌≡◌, ℕ, List, [], ◌∷◌, length}
+use Rattle.std.proofs.Common.{◌≡◌, ◌∷◌, length}
 use Rattle.std.specs.List.{All}
 use Rattle.mesh_num.specs.Plane.{Point}
 use Rattle.mesh_num.specs.Bounds.{IsSafe}
@@ -10,7 +10,7 @@ invariant-loop-next g l = record {
   equal : All (λ (q : Point). q ≡ l.first) l.rest → All (λ (q : Point). q ≡ l.first) l.points;
   unequal : All (λ (q : Point). q ≡ l.first) l.points → All (λ (q : Point). q ≡ l.first) l.rest;
   sections : cleaned_sections (l.first ∷ l.points) ≡ cleaned_sections (l.first ∷ l.rest);
-  safe : All (IsSafe g.I.IntNumber.unit) l.rest
+  safe : All (IsSafe g.I.IntNumber.unit) l.rest;
 }
 
 abbrev pub decreases-loop-next : goal.decreases-loop-next

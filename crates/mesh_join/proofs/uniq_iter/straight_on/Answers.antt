@@ -1,7 +1,5 @@
-use Rattle.std.proofs.Common.{◌≡◌, List, [], ◌∷◌, sym, ◌∙◌, ap, subst}
-use Rattle.mesh_num.specs.Plane.{Point}
+use Rattle.std.proofs.Common.{◌∷◌, sym, ◌∙◌}
 use Rattle.mesh_num.specs.Bounds.{IsSafe}
-use Rattle.std.specs.List.{All}
 use Rattle.mesh_join.specs.Cleaned.{open_sections}
 use Rattle.mesh_join.proofs.CleaningSteps.{open_kept, open_on, first_of_all, second_of_all, next_of_all, all_without_first, all_without_second}
 use Rattle.mesh_join.proofs.uniq_iter.straight_on.Goals as goal
@@ -29,8 +27,8 @@ pub loop-point-preserved : goal.loop-point-preserved
 loop-point-preserved g c =
     record {
       sections =
-        open_on (open_sections (c.args.from ∷ c.args.to ∷ c.args.points.now)) c.args.from c.loop-point.to c.in-Some.point c.next.new.self c.loop-point.points c.in-Some.ensures
-        (sym c.is_kept.ensures ∙ c.if-is_kept.false) c.loop-point.invariant.sections;
+          open_on (open_sections (c.args.from ∷ c.args.to ∷ c.args.points.now)) c.args.from c.loop-point.to c.in-Some.point c.next.new.self c.loop-point.points c.in-Some.ensures
+          (sym c.is_kept.ensures ∙ c.if-is_kept.false) c.loop-point.invariant.sections;
       safe = all_without_second (IsSafe g.I.IntNumber.unit) c.args.from c.loop-point.to c.loop-point.points c.loop-point.invariant.safe c.in-Some.point c.next.new.self c.in-Some.ensures;
     }
 

@@ -1,5 +1,4 @@
-use Rattle.std.proofs.Common.{◌≡◌, ℕ, List, [], ◌∷◌, ◌++◌, sym, ◌∙◌, ap, subst}
-use Rattle.mesh_num.specs.Plane.{Point, Edge}
+use Rattle.std.proofs.Common.{◌∷◌, sym, ◌∙◌, ap, subst}
 use Rattle.mesh_num.specs.Bounds.{IsSafe}
 use Rattle.mesh_num.specs.Winding.{winding}
 use Rattle.mesh_join.specs.Cleaned.{cleaned_sections, AllEqual, IsClean}
@@ -15,9 +14,9 @@ pub loop-next-init : goal.loop-next-init
 loop-next-init g c =
     record {
       sections =
-        started-cleaned c.in-Some.first.now c.in-Some-first_other.found.0 c.in-Some-first_other.found.1.now c.in-Some-first_other.ensures.sections.0
-        ∙ sym c.in-Some-first_other.ensures.sections.2
-        ∙ ap cleaned_sections (sym c.in-Some.ensures.cases.0);
+          started-cleaned c.in-Some.first.now c.in-Some-first_other.found.0 c.in-Some-first_other.found.1.now c.in-Some-first_other.ensures.sections.0
+          ∙ sym c.in-Some-first_other.ensures.sections.2
+          ∙ ap cleaned_sections (sym c.in-Some.ensures.cases.0);
       safe = all_begun (IsSafe g.I.IntNumber.unit) c.in-Some.first.now c.args.points.now c.in-Some.others.now (c.in-Some-first_other.found.0 ∷ c.in-Some-first_other.found.1.now) c.requires c.in-Some.ensures.cases.0 c.in-Some-first_other.ensures.safe;
     }
 
@@ -35,22 +34,22 @@ pub loop-next-preserved : goal.loop-next-preserved
 loop-next-preserved g c =
     record {
       sections =
-        started_on (cleaned_sections c.args.points.now) c.in-Some.first.now c.loop-next.to c.in-Some-split_first.next.now c.in-Some-split_first.others.now c.loop-next.rest.now c.in-Some-split_first.ensures.cases.0
-        (sym c.is_kept.ensures ∙ c.if-is_kept.false) c.loop-next.invariant.sections;
+          started_on (cleaned_sections c.args.points.now) c.in-Some.first.now c.loop-next.to c.in-Some-split_first.next.now c.in-Some-split_first.others.now c.loop-next.rest.now c.in-Some-split_first.ensures.cases.0
+          (sym c.is_kept.ensures ∙ c.if-is_kept.false) c.loop-next.invariant.sections;
       safe =
-        all_without_second (IsSafe g.I.IntNumber.unit) c.in-Some.first.now c.loop-next.to c.loop-next.rest.now c.loop-next.invariant.safe c.in-Some-split_first.next.now c.in-Some-split_first.others.now c.in-Some-split_first.ensures.cases.0;
+          all_without_second (IsSafe g.I.IntNumber.unit) c.in-Some.first.now c.loop-next.to c.loop-next.rest.now c.loop-next.invariant.safe c.in-Some-split_first.next.now c.in-Some-split_first.others.now c.in-Some-split_first.ensures.cases.0;
     }
-
 
 pub invariant_of-result : goal.invariant_of-result
 invariant_of-result g c =
     all_closed_here (IsSafe g.I.IntNumber.unit) c.in-Some.first.now c.loop-next.to c.loop-next.rest.now c.loop-next.invariant.safe c.in-Some-split_first.next.now c.in-Some-split_first.others.now c.in-Some-split_first.ensures.cases.0
 
 pub returns-then-is_kept-clause-sections : goal.returns-then-is_kept-clause-sections
-returns-then-is_kept-clause-sections g c =
-    ( not_equal c.in-Some.first.now c.args.points.now c.in-Some.others.now c.in-Some.ensures.cases.0 c.in-Some-first_other.ensures.sections.1
-    , started_here (cleaned_sections c.args.points.now) c.in-Some.first.now c.loop-next.to c.in-Some-split_first.next.now c.in-Some-split_first.others.now c.loop-next.rest.now c.in-Some-split_first.ensures.cases.0
-      (sym c.is_kept.ensures ∙ c.if-is_kept.true) c.loop-next.invariant.sections )
+returns-then-is_kept-clause-sections g c = (
+  not_equal c.in-Some.first.now c.args.points.now c.in-Some.others.now c.in-Some.ensures.cases.0 c.in-Some-first_other.ensures.sections.1,
+  started_here (cleaned_sections c.args.points.now) c.in-Some.first.now c.loop-next.to c.in-Some-split_first.next.now c.in-Some-split_first.others.now c.loop-next.rest.now c.in-Some-split_first.ensures.cases.0
+      (sym c.is_kept.ensures ∙ c.if-is_kept.true) c.loop-next.invariant.sections,
+)
 
 pub returns-then-is_kept-clause-clean : goal.returns-then-is_kept-clause-clean
 returns-then-is_kept-clause-clean g c =
@@ -65,9 +64,10 @@ pub invariant_of-result-2 : goal.invariant_of-result-2
 invariant_of-result-2 g c = all_closed (IsSafe g.I.IntNumber.unit) c.in-Some.first.now c.loop-next.to c.loop-next.rest.now c.loop-next.invariant.safe
 
 pub returns-clause-sections : goal.returns-clause-sections
-returns-clause-sections g c =
-    ( not_equal c.in-Some.first.now c.args.points.now c.in-Some.others.now c.in-Some.ensures.cases.0 c.in-Some-first_other.ensures.sections.1
-    , started_never (cleaned_sections c.args.points.now) c.in-Some.first.now c.loop-next.to c.loop-next.rest.now c.in_default-split_first.ensures.cases c.loop-next.invariant.sections )
+returns-clause-sections g c = (
+  not_equal c.in-Some.first.now c.args.points.now c.in-Some.others.now c.in-Some.ensures.cases.0 c.in-Some-first_other.ensures.sections.1,
+  started_never (cleaned_sections c.args.points.now) c.in-Some.first.now c.loop-next.to c.loop-next.rest.now c.in_default-split_first.ensures.cases c.loop-next.invariant.sections,
+)
 
 pub returns-clause-clean : goal.returns-clause-clean
 returns-clause-clean g c =

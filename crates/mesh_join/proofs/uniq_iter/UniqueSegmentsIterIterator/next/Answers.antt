@@ -1,4 +1,4 @@
-use Rattle.std.proofs.Common.{◌≡◌, List, [], ◌∷◌, length, sym, ◌∙◌, ap, rules}
+use Rattle.std.proofs.Common.{length, sym, ◌∙◌, ap, rules}
 use Rattle.std.proofs.lemmas.Option.{MatchOption-at_none}
 use Rattle.mesh_num.specs.Bounds.{IsSafe}
 use Rattle.mesh_join.proofs.CleaningSteps.{none_left, ended, ends, all_ended}
@@ -6,9 +6,10 @@ use Rattle.mesh_join.proofs.uniq_iter.UniqueSegmentsIterIterator.next.Goals as g
 
 pub returns-then-is_same-clause-steps : goal.returns-then-is_same-clause-steps
 returns-then-is_same-clause-steps g c =
-    let h = MatchOption-at_none _ _ c.in-None.is c.straight_on-to.ensures.sections in
-    ( ended c.args.self.now c.self.inside.from c.straight_on-to.result.0 (sym c.self.view_is ∙ h.0) (sym c.is_same.ensures ∙ c.if-is_same.true)
-    , none_left c.self.inside.from c.straight_on-to.new.points h.1 )
+    let h = MatchOption-at_none _ _ c.in-None.is c.straight_on-to.ensures.sections in (
+      ended c.args.self.now c.self.inside.from c.straight_on-to.result.0 (sym c.self.view_is ∙ h.0) (sym c.is_same.ensures ∙ c.if-is_same.true),
+      none_left c.self.inside.from c.straight_on-to.new.points h.1,
+    )
 
 pub invariant_of-self-in-None : goal.invariant_of-self-in-None
 invariant_of-self-in-None g c =

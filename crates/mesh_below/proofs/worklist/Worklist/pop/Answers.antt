@@ -1,0 +1,14 @@
+use Rattle.std.proofs.Common.{◌≡◌, subst, Option, List, ◌∷◌}
+use Rattle.std.specs.Prelude.{IfSome, IfNone}
+use Rattle.std.specs.List.{All}
+use Rattle.std.specs.Map.{keys_of}
+use Rattle.mesh_below.specs.Counted.{Counted}
+use Rattle.mesh_below.specs.Steps.{IsForward}
+use Rattle.mesh_below.proofs.Entries.{popped_rest, popped_first}
+use Rattle.mesh_below.proofs.worklist.Worklist.pop.Goals as goal
+
+pub invariant_of-self : goal.invariant_of-self
+invariant_of-self c = popped_rest c.pop_first.result c.self.inside.counts.entries c.pop_first.new.self.entries c.pop_first.ensures.removal c.pop_first.ensures.unchanged c.self.invariant
+
+pub returns-clause-forward : goal.returns-clause-forward
+returns-clause-forward c = popped_first c.pop_first.result c.self.inside.counts.entries c.pop_first.new.self.entries c.pop_first.ensures.removal c.self.invariant
