@@ -10,7 +10,6 @@ pub mod json;
 pub mod outline;
 pub mod request;
 pub mod service;
-mod standin;
 #[cfg(test)]
 mod tests;
 
