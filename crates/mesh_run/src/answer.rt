@@ -15,7 +15,10 @@ use serde_json::{Value, json};
 use std::alloc::{AllocError, Global};
 
 /// The line that lists the edges of one path in their order.
-pub fn edges_line<I: OverlayInt>(alloc: Global, segments: &[Segment<I>]) -> Result<String, AllocError>
+pub fn edges_line<I: OverlayInt>(
+    alloc: Global,
+    segments: &[Segment<I>],
+) -> Result<String, AllocError>
     ensures { IfOk result (λ s. (es : List Edge) × IsPermutation (edges_of segments.now) es
         × IsSorted (edge_order (λ a b. I.cmp (I.of_value a) (I.of_value b))) es × (string_bytes s ≡ edges_text es)) }
 {

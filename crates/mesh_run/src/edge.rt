@@ -56,7 +56,10 @@ impl<I: OverlayInt> From<Segment<I>> for DirectedEdge<I> {
 }
 
 /// The edges that segments stand for, in their order.
-pub fn sorted_edges<I: OverlayInt>(alloc: Global, segments: &[Segment<I>]) -> Result<Vec<DirectedEdge<I>>, AllocError>
+pub fn sorted_edges<I: OverlayInt>(
+    alloc: Global,
+    segments: &[Segment<I>],
+) -> Result<Vec<DirectedEdge<I>>, AllocError>
     ensures edges { IfOk result (λ es. IsPermutation (edges_of segments.now) es.items) }
     ensures sorted { IfOk result (λ es. IsSorted (edge_order (λ a b. I.cmp (I.of_value a) (I.of_value b))) es.items) }
 {

@@ -45,7 +45,12 @@ impl<I: OverlayInt> OutlineRequest<I> {
         Ok(segments)
     }
 
-    fn build(&self, alloc: Global, offset: I, segments: &mut Vec<Segment<I>>) -> Result<(), AllocError>
+    fn build(
+        &self,
+        alloc: Global,
+        offset: I,
+        segments: &mut Vec<Segment<I>>,
+    ) -> Result<(), AllocError>
         requires safe { All (IsMovable I.unit (I.value offset)) self.now.path.items }
         requires empty { segments.old.items ≡ [] }
         ensures { OnOk result (IsPermutation (edges_of segments.new.items) (bevelled_edges I.unit (I.value offset) self.now.path.items)) }

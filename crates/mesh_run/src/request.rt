@@ -94,7 +94,11 @@ fn outline_style<I: OverlayInt>(style: Option<&Value>) -> Option<IntOutlineStyle
     }
     let outer = offset(style, "outer")?;
     let inner = offset(style, "inner")?;
-    Some(IntOutlineStyle::new(outer).inner_offset(inner).line_join(IntLineJoin::Bevel))
+    Some(
+        IntOutlineStyle::new(outer)
+            .inner_offset(inner)
+            .line_join(IntLineJoin::Bevel),
+    )
 }
 
 /// Whether a style has a key that means something and is not served.

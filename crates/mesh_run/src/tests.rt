@@ -8,8 +8,8 @@ use std::process::Abort;
 use std::test::Fail;
 
 const UNREADABLE: &str = "{\"unreadable\":\"request\"}\n";
-const OUT_OF_RANGE: &str =
-    "{\"refused\":\"mesh coordinate exceeds the integer engine range\"}\n";
+
+const OUT_OF_RANGE: &str = "{\"refused\":\"mesh coordinate exceeds the integer engine range\"}\n";
 
 fn expect(
     rt: &impl Abort,
@@ -30,21 +30,36 @@ fn expect(
 /// A request for the edges of one contour with both offsets the same.
 fn outline(alloc: Global, path: &str, offset: i32) -> Result<String, Fail> {
     let text = format!(in alloc;
-        "{{\"op\":\"outline\",\"int\":\"i32\",\"out\":\"edges\",\"paths\":[{path}],\"style\":{{\"outer\":{offset},\"inner\":{offset}}}}}")?;
+        "{{\"op\":\"outline\",\"int\":\"i32\",\"out\":\"edges\",\"paths\":[{path}],\"style\":{{\"outer\":{offset},\"inner\":{offset}}}}}"
+    )?;
     Ok(text)
 }
 
 const SQUARE: &str = "[[0,0],[16384,0],[16384,16384],[0,16384]]";
+
 const REVERSED_SQUARE: &str = "[[0,16384],[16384,16384],[16384,0],[0,0]]";
+
 const WIDEST: &str =
     "[-1073741823,-1073741823],[1073741823,-1073741823],[1073741823,1073741823],[-1073741823,1073741823]";
 
 #[test]
 fn answers(rt: HostRuntime) -> Result<(), Fail> {
     let rows = [
-        (SQUARE, 1024, "[[[-1024,0],[0,-1024]],[[-1024,16384],[-1024,0]],[[0,-1024],[16384,-1024]],[[0,17408],[-1024,16384]],[[16384,-1024],[17408,0]],[[16384,17408],[0,17408]],[[17408,0],[17408,16384]],[[17408,16384],[16384,17408]]]"),
-        (SQUARE, -1024, "[[[0,0],[0,1024]],[[0,1024],[16384,1024]],[[0,15360],[0,16384]],[[0,16384],[1024,16384]],[[1024,0],[0,0]],[[1024,16384],[1024,0]],[[15360,0],[15360,16384]],[[15360,16384],[16384,16384]],[[16384,0],[15360,0]],[[16384,1024],[16384,0]],[[16384,15360],[0,15360]],[[16384,16384],[16384,15360]]]"),
-        (REVERSED_SQUARE, 0, "[[[0,0],[0,16384]],[[0,16384],[16384,16384]],[[16384,0],[0,0]],[[16384,16384],[16384,0]]]"),
+        (
+            SQUARE,
+            1024,
+            "[[[-1024,0],[0,-1024]],[[-1024,16384],[-1024,0]],[[0,-1024],[16384,-1024]],[[0,17408],[-1024,16384]],[[16384,-1024],[17408,0]],[[16384,17408],[0,17408]],[[17408,0],[17408,16384]],[[17408,16384],[16384,17408]]]",
+        ),
+        (
+            SQUARE,
+            -1024,
+            "[[[0,0],[0,1024]],[[0,1024],[16384,1024]],[[0,15360],[0,16384]],[[0,16384],[1024,16384]],[[1024,0],[0,0]],[[1024,16384],[1024,0]],[[15360,0],[15360,16384]],[[15360,16384],[16384,16384]],[[16384,0],[15360,0]],[[16384,1024],[16384,0]],[[16384,15360],[0,15360]],[[16384,16384],[16384,15360]]]",
+        ),
+        (
+            REVERSED_SQUARE,
+            0,
+            "[[[0,0],[0,16384]],[[0,16384],[16384,16384]],[[16384,0],[0,0]],[[16384,16384],[16384,0]]]",
+        ),
         ("[[1073740799,0]]", 1024, "[]"),
         ("[]", 1073741823, "[]"),
         ("[[0,0],[8192,0],[0,0],[8192,0]]", 1, "[]"),
@@ -52,7 +67,13 @@ fn answers(rt: HostRuntime) -> Result<(), Fail> {
     for (path, offset, edges) in rows {
         let request = outline(rt.alloc(), path, offset)?;
         let line = format!(in rt.alloc(); "{{\"edges\":[{edges}]}}\n")?;
-        expect(&rt, rt.alloc(), request.as_bytes(), Status::Answered, line.as_str())?;
+        expect(
+            &rt,
+            rt.alloc(),
+            request.as_bytes(),
+            Status::Answered,
+            line.as_str(),
+        )?;
     }
     Ok(())
 }
@@ -60,13 +81,26 @@ fn answers(rt: HostRuntime) -> Result<(), Fail> {
 #[test]
 fn refusals(rt: HostRuntime) -> Result<(), Fail> {
     let far = outline(rt.alloc(), "[[1073740800,0]]", 1024)?;
-    expect(&rt, rt.alloc(), far.as_bytes(), Status::Refused, OUT_OF_RANGE)?;
+    expect(
+        &rt,
+        rt.alloc(),
+        far.as_bytes(),
+        Status::Refused,
+        OUT_OF_RANGE,
+    )?;
     let twice = format!(in rt.alloc(); "[{WIDEST},{WIDEST}]")?;
     let area = outline(rt.alloc(), twice.as_str(), 0)?;
-    expect(&rt, rt.alloc(), area.as_bytes(), Status::Refused, OUT_OF_RANGE)
+    expect(
+        &rt,
+        rt.alloc(),
+        area.as_bytes(),
+        Status::Refused,
+        OUT_OF_RANGE,
+    )
 }
 
-const POINT_START: &str = "{\"op\":\"outline\",\"int\":\"i32\",\"out\":\"edges\",\"paths\":[[[0,0]]]";
+const POINT_START: &str =
+    "{\"op\":\"outline\",\"int\":\"i32\",\"out\":\"edges\",\"paths\":[[[0,0]]]";
 
 /// What may stand beside the keys of the operation.
 #[test]
@@ -105,9 +139,21 @@ fn nested(alloc: Global, depth: usize) -> Result<String, Fail> {
 #[test]
 fn nesting(rt: HostRuntime) -> Result<(), Fail> {
     let deepest = nested(rt.alloc(), 126)?;
-    expect(&rt, rt.alloc(), deepest.as_bytes(), Status::Answered, "{\"edges\":[[]]}\n")?;
+    expect(
+        &rt,
+        rt.alloc(),
+        deepest.as_bytes(),
+        Status::Answered,
+        "{\"edges\":[[]]}\n",
+    )?;
     let deeper = nested(rt.alloc(), 127)?;
-    expect(&rt, rt.alloc(), deeper.as_bytes(), Status::Unreadable, UNREADABLE)
+    expect(
+        &rt,
+        rt.alloc(),
+        deeper.as_bytes(),
+        Status::Unreadable,
+        UNREADABLE,
+    )
 }
 
 #[test]
@@ -128,20 +174,49 @@ fn unreadable(rt: HostRuntime) -> Result<(), Fail> {
         "{\"op\":\"stroke\",\"int\":\"i32\",\"out\":\"edges\",\"paths\":[[[0,0]]],\"style\":{\"width\":1}}",
     ];
     for request in requests {
-        expect(&rt, rt.alloc(), request.as_bytes(), Status::Unreadable, UNREADABLE)?;
+        expect(
+            &rt,
+            rt.alloc(),
+            request.as_bytes(),
+            Status::Unreadable,
+            UNREADABLE,
+        )?;
     }
-    expect(&rt, rt.alloc(), b"{\"a\":\"\xff\"}", Status::Unreadable, UNREADABLE)
+    expect(
+        &rt,
+        rt.alloc(),
+        b"{\"a\":\"\xff\"}",
+        Status::Unreadable,
+        UNREADABLE,
+    )
 }
 
 #[test]
 fn unreadable_paths(rt: HostRuntime) -> Result<(), Fail> {
     let paths = [
-        "", "[[0,0]],[[0,0]]", "null", "[[0]]", "[[0,0,0]]", "[[0,null]]", "[[0,0.0]]", "[[0,1e0]]",
-        "[[0,2147483648]]", "[[-2147483649,0]]", "[[0,\"1\"]]", "[[0,18446744073709551616]]", "[0,0]",
+        "",
+        "[[0,0]],[[0,0]]",
+        "null",
+        "[[0]]",
+        "[[0,0,0]]",
+        "[[0,null]]",
+        "[[0,0.0]]",
+        "[[0,1e0]]",
+        "[[0,2147483648]]",
+        "[[-2147483649,0]]",
+        "[[0,\"1\"]]",
+        "[[0,18446744073709551616]]",
+        "[0,0]",
     ];
     for path in paths {
         let request = outline(rt.alloc(), path, 1)?;
-        expect(&rt, rt.alloc(), request.as_bytes(), Status::Unreadable, UNREADABLE)?;
+        expect(
+            &rt,
+            rt.alloc(),
+            request.as_bytes(),
+            Status::Unreadable,
+            UNREADABLE,
+        )?;
     }
     Ok(())
 }
@@ -173,7 +248,13 @@ fn unreadable_rests(rt: HostRuntime) -> Result<(), Fail> {
     ];
     for rest in rests {
         let request = format!(in rt.alloc(); "{POINT_START}{rest}")?;
-        expect(&rt, rt.alloc(), request.as_bytes(), Status::Unreadable, UNREADABLE)?;
+        expect(
+            &rt,
+            rt.alloc(),
+            request.as_bytes(),
+            Status::Unreadable,
+            UNREADABLE,
+        )?;
     }
     Ok(())
 }
@@ -250,7 +331,11 @@ fn failing_writer(rt: HostRuntime) -> Result<(), Fail> {
             let mut writer = FailingWriter { room };
             let status = serve(rt.alloc(), &mut reader, &mut writer);
             let fits = room == 200 && text == "{";
-            let wanted = if fits { Status::Unreadable } else { Status::Refused };
+            let wanted = if fits {
+                Status::Unreadable
+            } else {
+                Status::Refused
+            };
             assert_eq!(rt; status, wanted, "with room for {room}");
         }
     }
