@@ -56,7 +56,11 @@ pub fn turn(p: GridPoint, r: GridPoint, q: GridPoint) -> i128
 fn is_between(a: i32, z: i32, b: i32) -> bool
     ensures { IsTrue result ↔ IsBetween a z b }
 {
-    if a <= b { a <= z && z <= b } else { b <= z && z <= a }
+    if a <= b {
+        a <= z && z <= b
+    } else {
+        b <= z && z <= a
+    }
 }
 
 fn is_in_box(e: GridEdge, c: GridPoint) -> bool
@@ -68,7 +72,8 @@ fn is_in_box(e: GridEdge, c: GridPoint) -> bool
     is_between(e.0.1, c.1, e.1.1)
 }
 
-fn same_point(p: GridPoint, q: GridPoint) -> bool
+/// Whether two points are one.
+pub fn same_point(p: GridPoint, q: GridPoint) -> bool
     ensures { result ≡ same_point p q }
 {
     p.0 == q.0 && p.1 == q.1
@@ -112,7 +117,7 @@ pub fn is_inside(e: GridEdge, c: GridPoint) -> bool
 type Sides = (i128, i128);
 
 fn sides_of(e: GridEdge, f: GridEdge) -> Sides
-    ensures value { result ≡ (turn e.0 e.1 f.0 , turn e.0 e.1 f.1) }
+    ensures value { result ≡ (turn e.0 e.1 f.0, turn e.0 e.1 f.1) }
     ensures size { IsSafe (2 ^ 65) result }
 {
     (turn(e.0, e.1, f.0), turn(e.0, e.1, f.1))
@@ -172,11 +177,14 @@ fn long_product(a: i128, b: i128) -> i128
 
 fn crossing_ratio(a: i32, b: i32, s: Sides) -> Ratio
     requires { IsSafe (2 ^ 65) s }
-    ensures value { result ≡ ((a *ℤ (s.0 -ℤ s.1)) +ℤ ((b -ℤ a) *ℤ s.0) , s.0 -ℤ s.1) }
+    ensures value { result ≡ ((a *ℤ (s.0 -ℤ s.1)) +ℤ ((b -ℤ a) *ℤ s.0), s.0 -ℤ s.1) }
     ensures size { IsSafe (2 ^ 100) result }
 {
     let d = s.0 - s.1;
-    (long_product(a as i128, d) + long_product(difference(b, a), s.0), d)
+    (
+        long_product(a as i128, d) + long_product(difference(b, a), s.0),
+        d,
+    )
 }
 
 fn crossing_at(a: i32, b: i32, s: Sides) -> i32

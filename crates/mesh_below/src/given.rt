@@ -1,10 +1,11 @@
 //! The directed edges that segments stand for, on the grid of the splitting.
 
-ghost use Rattle.std.specs.Prelude.{◌≡◌, List, ℤ, IfOk};
+ghost use Rattle.std.specs.Prelude.{◌≡◌, ◌↔◌, List, ℤ, IfOk, IsTrue};
 ghost use Rattle.std.specs.List.{All};
 ghost use Rattle.mesh_num.specs.Segments.{IsSubject, edge_of, edges_of};
 ghost use Rattle.mesh_below.specs.Boundary.{IsProper};
 
+use crate::exact::same_point;
 use crate::grid::{GridEdge, GridPoint};
 use mesh_num::num::{IntNumber, IntPoint};
 use mesh_num::shape::segment::Segment;
@@ -34,7 +35,10 @@ pub fn grid_edge<I: IntNumber>(s: Segment<I>) -> GridEdge
 }
 
 /// The edges that segments stand for, in their order. Segments are as `Segment::subject` gives them.
-pub fn grid_edges<I: IntNumber>(alloc: Global, segments: &[Segment<I>]) -> Result<Vec<GridEdge>, AllocError>
+pub fn grid_edges<I: IntNumber>(
+    alloc: Global,
+    segments: &[Segment<I>],
+) -> Result<Vec<GridEdge>, AllocError>
     requires { All IsSubject segments.now }
     ensures value { IfOk result (λ v. v.items ≡ edges_of segments.now) }
     ensures proper { IfOk result (λ v. IsProper v.items) }
@@ -44,4 +48,16 @@ pub fn grid_edges<I: IntNumber>(alloc: Global, segments: &[Segment<I>]) -> Resul
         edges.push(grid_edge(*s))?;
     }
     Ok(edges)
+}
+
+/// Whether no edge ends where it starts.
+pub fn are_proper(edges: &[GridEdge]) -> bool
+    ensures { IsTrue result ↔ IsProper edges.now }
+{
+    for e in edges {
+        if same_point(e.0, e.1) {
+            return false;
+        }
+    }
+    true
 }

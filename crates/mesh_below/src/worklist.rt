@@ -28,7 +28,9 @@ impl Worklist {
     pub fn new(alloc: Global) -> Self
         ensures { result ≡ [] }
     {
-        Worklist { counts: BTreeMap::new(alloc) }
+        Worklist {
+            counts: BTreeMap::new(alloc),
+        }
     }
 
     /// Takes a segment out, if there is one.

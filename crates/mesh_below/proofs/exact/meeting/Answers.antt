@@ -1,4 +1,4 @@
-use Rattle.std.proofs.Common.{◌≡◌, subst, sym}
+use Rattle.std.proofs.Common.{subst, sym}
 use Rattle.std.proofs.lemmas.Bool.{both_ways}
 use Rattle.mesh_num.specs.Plane.{Point}
 use Rattle.mesh_below.specs.Split.{Meets, at_start_of_second, at_end_of_second, at_start_of_first, at_end_of_first, at_crossing}

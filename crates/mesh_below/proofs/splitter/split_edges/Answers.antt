@@ -1,5 +1,4 @@
-use Rattle.std.proofs.Common.{rules, ◌≡◌, subst, sym, ap, ◌∙◌, length, false, List, [], ◌*◌, ◌+◌, ◌<◌, ◌≤◌, ◌^◌, arith}
-use Rattle.std.specs.Prelude.{pos}
+use Rattle.std.proofs.Common.{rules, ◌≡◌, subst, sym, length, false, ◌*◌, ◌+◌, ◌<◌, ◌≤◌, ◌^◌, arith}
 use Rattle.mesh_num.specs.Winding.{same_point}
 use Rattle.mesh_below.specs.Counted.{Counted}
 use Rattle.mesh_below.specs.Splitting.{IsSplitting}

@@ -1,0 +1,4 @@
+pub mod Answers
+pub mod DoubleArea
+pub mod Reading
+pub mod Served
