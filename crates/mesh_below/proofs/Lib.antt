@@ -25,5 +25,7 @@ pub mod BoundaryBalance
 pub mod BoundaryRegions
 pub mod ContoursKept
 pub mod BoundarySplits
+pub mod SidesCode
+pub mod BoundaryCounted
 pub mod Paths
 pub mod Subjects

@@ -5,4 +5,7 @@ pub mod Regions
 pub mod Contours
 pub mod Resolution
 pub mod Steps
+pub mod Fill
+pub mod Sides
 pub mod Splitting
+pub mod Walk

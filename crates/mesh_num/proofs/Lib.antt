@@ -5,6 +5,7 @@ pub mod Directed
 pub mod Identities
 pub mod Normalized
 pub mod Parts
+pub mod Paths
 pub mod Pieces
 pub mod Products
 pub mod Rectangles

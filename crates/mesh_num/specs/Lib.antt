@@ -2,6 +2,7 @@ pub mod Bounds
 pub mod Directed
 pub mod Direction
 pub mod Order
+pub mod Paths
 pub mod Plane
 pub mod Rectangle
 pub mod Rounding

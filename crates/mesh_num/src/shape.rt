@@ -1,4 +1,5 @@
 //! Paths as sources of points, and signed segments.
 
+pub mod path_slice;
 pub mod resource;
 pub mod segment;

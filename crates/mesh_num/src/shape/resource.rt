@@ -1,9 +1,11 @@
 //! Sources of paths.
 
 ghost use Rattle.std.specs.Prelude.{◌≡◌, ◌<◌, ℤ, List, [], ◌∷◌, length, get_or};
+ghost use Rattle.mesh_num.specs.Paths.{paths_of, shapes_of, contours_of, counted};
 
 use crate::num::number::IntNumber;
 use crate::num::point::IntPoint;
+use crate::shape::path_slice::PathSlice;
 
 /// A source of paths of points. Contracts see the list of its paths, each the list of its points.
 pub trait IntShapeResource<I: IntNumber> {
@@ -29,5 +31,94 @@ impl<I: IntNumber> IntShapeResource<I> for Vec<IntPoint<I>> {
 
     fn path_at(&self, _index: usize) -> &[IntPoint<I>] {
         self.as_slice()
+    }
+}
+
+/// One path.
+impl<I: IntNumber, const N: usize> IntShapeResource<I> for [IntPoint<I>; N] {
+    ghost paths = { λ points. points ∷ [] };
+
+    fn path_count(&self) -> usize {
+        1
+    }
+
+    fn path_at(&self, _index: usize) -> &[IntPoint<I>] {
+        self
+    }
+}
+
+/// Each path is an item.
+impl<I: IntNumber> IntShapeResource<I> for Vec<Vec<IntPoint<I>>> {
+    ghost paths = { λ v. paths_of v.items };
+
+    fn path_count(&self) -> usize {
+        self.len()
+    }
+
+    fn path_at(&self, index: usize) -> &[IntPoint<I>] {
+        self[index].as_slice()
+    }
+}
+
+/// Each path is an item.
+impl<I: IntNumber, const N: usize> IntShapeResource<I> for [Vec<IntPoint<I>>; N] {
+    ghost paths = { λ items. paths_of items };
+
+    fn path_count(&self) -> usize {
+        self.len()
+    }
+
+    fn path_at(&self, index: usize) -> &[IntPoint<I>] {
+        self[index].as_slice()
+    }
+}
+
+/// One path.
+impl<'a, I: IntNumber> IntShapeResource<I> for PathSlice<'a, IntPoint<I>> {
+    ghost paths = { λ s. s.items.now ∷ [] };
+
+    fn path_count(&self) -> usize {
+        1
+    }
+
+    fn path_at(&self, _index: usize) -> &[IntPoint<I>] {
+        self.items
+    }
+}
+
+/// Each path is an item.
+impl<'a, I: IntNumber> IntShapeResource<I> for PathSlice<'a, Vec<IntPoint<I>>> {
+    ghost paths = { λ s. paths_of s.items.now };
+
+    fn path_count(&self) -> usize {
+        self.items.len()
+    }
+
+    fn path_at(&self, index: usize) -> &[IntPoint<I>] {
+        self.items[index].as_slice()
+    }
+}
+
+/// The contours of all shapes, in order, counted up to `usize::MAX`: what stood past that is not looked at.
+impl<I: IntNumber> IntShapeResource<I> for Vec<Vec<Vec<IntPoint<I>>>> {
+    ghost paths = { λ v. counted (contours_of (shapes_of v.items)) };
+
+    fn path_count(&self) -> usize {
+        let mut count: usize = 0;
+        for shape in self {
+            count = count.saturating_add(shape.len());
+        }
+        count
+    }
+
+    fn path_at(&self, index: usize) -> &[IntPoint<I>] {
+        let mut left = index;
+        for shape in self {
+            if left < shape.len() {
+                return shape[left].as_slice();
+            }
+            left -= shape.len();
+        }
+        &[]
     }
 }
