@@ -2,7 +2,7 @@
 #![tactic(auto)]
 
 pub mod arrange;
-pub mod exact;
+mod exact;
 pub mod fill;
 pub mod fine;
 pub mod given;
@@ -11,6 +11,6 @@ pub mod resolve;
 pub mod ring;
 pub mod sides;
 pub mod splitter;
-pub mod store;
+mod store;
 pub mod walk;
-pub mod worklist;
+mod worklist;
