@@ -90,7 +90,7 @@ own_key f odd s e lean h =
     minus_one : (x : ℤ) → neg_ℤ (pos 1) *ℤ x ≡ neg_ℤ x
     minus_one x = omega (arith, ints)
 
-pick : (f : Edge → ℤ) → ((e : Edge) → f (back e) ≡ neg_ℤ (f e)) → (e : Edge) (rs : List Edge) → Each Leans rs → Distinct rs → occurs e rs ≡ true →
+pub pick : (f : Edge → ℤ) → ((e : Edge) → f (back e) ≡ neg_ℤ (f e)) → (e : Edge) (rs : List Edge) → Each Leans rs → Distinct rs → occurs e rs ≡ true →
     sum_of (λ (s : Edge). along s e *ℤ f s) rs ≡ f e
 pick f odd e [] lean distinct h = absurd (false≢true h)
 pick f odd e (s ∷ rs) lean distinct h =
@@ -181,6 +181,14 @@ leaning_leans e apart =
     by : (b : Bool) → leans e ≡ b → Leans (leaning_of b e)
     by true h = lean_yes e.0.0 e.0.1 e.1.0 e.1.1 h
     by false h = lean_not e.0.0 e.0.1 e.1.0 e.1.1 (λ (x : (e.0.0 ≡ e.1.0) × (e.0.1 ≡ e.1.1)). apart (λ i. (x.0 i , x.1 i))) h
+
+-- an edge leans, or the edge back does
+pub leaning_either : (e : Edge) → (e.0 ≡ e.1 → ⊥) → Leans e ⊎ Leans (back e)
+leaning_either e apart = by (leans e) (leaning_leans e apart)
+  where
+    by : (b : Bool) → Leans (leaning_of b e) → Leans e ⊎ Leans (back e)
+    by true h = inl h
+    by false h = inr h
 
 keys_step : (es : List Edge) → ((e : Edge) → occurs e es ≡ true → e.0 ≡ e.1 → ⊥) → IsKeys es (keys es)
 keys_step [] apart = record { same = λ (s : Edge). refl; leaning = tt; distinct = tt }

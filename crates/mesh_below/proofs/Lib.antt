@@ -17,6 +17,8 @@ pub mod Filing
 pub mod Line
 pub mod Live
 pub mod Meeting
+pub mod SidesCode
+pub mod BoundaryCounted
 pub mod Paths
 pub mod Places
 pub mod Settling

@@ -6,3 +6,8 @@ pub mod Resolution
 pub mod Split
 pub mod Splitting
 pub mod Steps
+pub mod Steps
+pub mod Fill
+pub mod Sides
+pub mod Splitting
+pub mod Walk

@@ -1,9 +1,16 @@
 //! The layer below the offset operations: directed edges are split until they share only ends.
 #![tactic(auto)]
 
-pub mod exact;
+pub mod arrange;
+mod exact;
+pub mod fill;
+pub mod fine;
 pub mod given;
 pub mod grid;
+pub mod resolve;
+pub mod ring;
+pub mod sides;
 pub mod splitter;
-pub mod store;
-pub mod worklist;
+mod store;
+pub mod walk;
+mod worklist;

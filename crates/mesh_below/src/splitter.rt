@@ -1,11 +1,11 @@
 //! The splitting itself: one legal split at a time, until no two segments meet.
 
 ghost use Rattle.std.specs.Prelude.{◌≡◌, ◌^◌, List, [], ◌∷◌, ℤ, pos, ◌+ℤ◌, ◌≤ℤ◌, ◌<ℤ◌, neg_ℤ, false, OnOk, IfOk};
-ghost use Rattle.mesh_num.specs.Winding.{same_point};
+ghost use Rattle.mesh_num.specs.Winding.{same_point, sum_of};
 ghost use Rattle.mesh_below.specs.Boundary.{IsProper};
 ghost use Rattle.mesh_below.specs.Split.{is_end, IsInBox, Meets};
 ghost use Rattle.mesh_below.specs.Splitting.{IsSplitting};
-ghost use Rattle.mesh_below.specs.Steps.{IsForward, Puts, PutsPieces, Settles, exactly, weight, total_weight};
+ghost use Rattle.mesh_below.specs.Steps.{IsForward, Puts, PutsPieces, Settles, exactly, size, weight, total_weight};
 
 use crate::exact::{is_before, is_end};
 use crate::grid::{CountedSegment, GridEdge, GridPoint};
@@ -131,7 +131,8 @@ impl Splitter {
 /// It fails only where memory is refused.
 pub fn split_edges(alloc: Global, edges: &[GridEdge]) -> Result<Vec<CountedSegment>, AllocError>
     requires { IsProper edges.now }
-    ensures { IfOk result (λ v. IsSplitting edges.now v.items) }
+    ensures splitting { IfOk result (λ v. IsSplitting edges.now v.items) }
+    ensures room { IfOk result (λ v. sum_of size v.items ≤ℤ pos (2 ^ 120)) }
 {
     let mut splitter = Splitter::new(alloc);
     for e in edges {

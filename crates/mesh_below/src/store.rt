@@ -29,6 +29,7 @@ impl Model for Store {
 }
 
 impl Store {
+    /// No segment.
     pub fn new(alloc: Global) -> Self
         ensures { result ≡ [] }
     {

@@ -25,6 +25,7 @@ impl Model for Worklist {
 }
 
 impl Worklist {
+    /// No segment.
     pub fn new(alloc: Global) -> Self
         ensures { result ≡ [] }
     {

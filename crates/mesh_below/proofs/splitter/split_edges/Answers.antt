@@ -1,10 +1,12 @@
-use Rattle.std.proofs.Common.{rules, ◌≡◌, subst, sym, length, false, ◌*◌, ◌+◌, ◌<◌, ◌≤◌, ◌^◌, arith}
-use Rattle.mesh_num.specs.Winding.{same_point}
+use Rattle.std.proofs.Common.{rules, ◌≡◌, subst, sym, ap, ◌∙◌, length, false, List, [], ◌*◌, ◌+◌, ◌<◌, ◌≤◌, ◌^◌, arith}
+use Rattle.std.specs.Prelude.{pos, ◌≤ℤ◌}
+use Rattle.mesh_num.specs.Winding.{same_point, sum_of}
 use Rattle.mesh_below.specs.Counted.{Counted}
 use Rattle.mesh_below.specs.Splitting.{IsSplitting}
-use Rattle.mesh_below.specs.Steps.{Puts}
+use Rattle.mesh_below.specs.Steps.{Puts, size}
 use Rattle.mesh_below.proofs.Paths.{splitting_of}
 use Rattle.mesh_below.proofs.Starting.{none_count, none_clear, none_weight, proper_at, more_room, more_count, more_clear, more_weight, most_weight, settled_reached, settled_weight, settled_less, popped_room, start_reached, end_reached}
+use Rattle.mesh_below.proofs.SidesCode.{live_room}
 use Rattle.mesh_below.proofs.splitter.split_edges.Goals as goal
 
 pub loop-e-init : goal.loop-e-init
@@ -63,8 +65,13 @@ loop-s-preserved c =
       weight = settled_weight s.todo c.pop.new.self s.live t.todo t.live c.in-Some.s _ c.in-Some.ensures.taken c.in_ok-settle.ensures c.loop-s.invariant.weight;
     }
 
-pub returns : goal.returns
-returns c =
+pub returns-clause-splitting : goal.returns-clause-splitting
+returns-clause-splitting c =
     let s = c.loop-s.splitter in
     let reached = end_reached c.args.edges.now s.todo s.live c.in_default.ensures.taken.0 c.loop-s.invariant.reached in
     subst (IsSplitting c.args.edges.now) (sym c.into_segments.ensures) (splitting_of c.args.edges.now s.live c.requires reached c.loop-s.invariant.clear)
+
+pub returns-clause-room : goal.returns-clause-room
+returns-clause-room c =
+    let s = c.loop-s.splitter in
+    subst (λ (l : List Counted). sum_of size l ≤ℤ pos (2 ^ 120)) (sym c.into_segments.ensures) (live_room s.todo s.live c.loop-s.invariant.weight)

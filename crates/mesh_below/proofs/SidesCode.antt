@@ -1,0 +1,94 @@
+-- Lemmas over whole numbers and lists: sums of counts, as 128 bits hold them.
+use Rattle.std.proofs.Common.{◌≡◌, ℕ, ◌+◌, ◌<◌, ◌≤◌, ◌^◌, List, [], ◌∷◌, take, length, get_or, add-one, max, ◌*◌, refl, sym, ◌∙◌, ap, subst, arith, zero, suc, lit≤}
+use Rattle.std.specs.Prelude.{ℤ, pos, neg_ℤ, ◌+ℤ◌, ◌-ℤ◌, ◌*ℤ◌, ◌≤ℤ◌, ◌<ℤ◌, unsigned_abs}
+use Rattle.std.proofs.lemmas.Int.{ints, by_lt_z, to_z-of_z}
+use mir.Syntax.{w128}
+use mir.Val.{SFits, to_z, of_z}
+use Rattle.mesh_num.specs.Bounds.{IsSmall}
+use Rattle.mesh_num.specs.Plane.{Point, Edge}
+use Rattle.mesh_num.specs.Winding.{sum_of, crossing_on}
+use Rattle.mesh_num.proofs.Whole.{linear, mul_one, mul_neg}
+use Rattle.mesh_below.specs.Counted.{Counted}
+use Rattle.std.proofs.Math.Nat.{mul-le-mul_left}
+use Rattle.mesh_below.specs.Steps.{size, weight, total_weight, extent}
+
+times_zero : (n : ℤ) → n *ℤ pos 0 ≡ pos 0
+times_zero n = omega (arith, ints)
+
+pub times_up : (n d : ℤ) → IsSmall 2 d → pos 0 <ℤ d → n ≡ n *ℤ d
+times_up n d s h =
+    let e : d ≡ pos 1 = omega (arith, ints, s.high) in
+    sym (ap (λ (z : ℤ). n *ℤ z) e ∙ mul_one n)
+
+pub times_down : (n d : ℤ) → IsSmall 2 d → d <ℤ pos 0 → neg_ℤ n ≡ n *ℤ d
+times_down n d s h =
+    let e : d ≡ neg_ℤ (pos 1) = omega (arith, ints, s.low) in
+    sym (ap (λ (z : ℤ). n *ℤ z) e ∙ (mul_neg n (pos 1) ∙ ap neg_ℤ (mul_one n)))
+
+pub times_none : (n d : ℤ) → d ≤ℤ pos 0 → pos 0 ≤ℤ d → pos 0 ≡ n *ℤ d
+times_none n d h k =
+    let e : d ≡ pos 0 = omega (arith, ints) in
+    sym (ap (λ (z : ℤ). n *ℤ z) e ∙ times_zero n)
+
+-- ---- sums over the first of a list
+sum_suc : {A : Type 0} (f : A → ℤ) (xs : List A) (i : ℕ) (d : A) → i < length xs → sum_of f (take (suc i) xs) ≡ sum_of f (take i xs) +ℤ f (get_or xs i d)
+sum_suc f [] i d h = absurd (omega arith)
+sum_suc f (x ∷ xs) zero d h = omega (arith, ints)
+sum_suc f (x ∷ xs) (suc i) d h = omega (arith, ints, sum_suc f xs i d (omega arith))
+
+pub sum_more : {A : Type 0} (f : A → ℤ) (xs : List A) (i : ℕ) (d : A) → i < length xs → sum_of f (take (i + 1) xs) ≡ sum_of f (take i xs) +ℤ f (get_or xs i d)
+sum_more f xs i d h = ap (λ (n : ℕ). sum_of f (take n xs)) (add-one i) ∙ sum_suc f xs i d h
+
+-- a part of a sum of sizes is at most the whole
+pub sum_part : {A : Type 0} (f : A → ℤ) → ((x : A) → pos 0 ≤ℤ f x) → (xs : List A) (i : ℕ) → sum_of f (take i xs) ≤ℤ sum_of f xs
+sum_part f h [] zero = omega (arith, ints)
+sum_part f h [] (suc i) = omega (arith, ints)
+sum_part f h (x ∷ xs) zero = omega (arith, ints, sum_part f h xs zero, h x, none f xs)
+  where
+    none : {A : Type 0} (f : A → ℤ) (xs : List A) → sum_of f (take 0 xs) ≡ pos 0
+    none f [] = refl
+    none f (x ∷ xs) = refl
+sum_part f h (x ∷ xs) (suc i) = omega (arith, ints, sum_part f h xs i)
+
+-- a count below 2 ^ 120 in size
+pub count_small : (n : ℤ) → pos (unsigned_abs n) ≤ℤ pos (2 ^ 120) → IsSmall (2 ^ 121) n
+count_small n h = record { low = omega (arith, ints, h); high = omega (arith, ints, h) }
+
+pub size_least : (k : Counted) → pos 0 ≤ℤ size k
+size_least k = omega (arith, ints)
+
+pub sum_least : {A : Type 0} (f : A → ℤ) → ((x : A) → pos 0 ≤ℤ f x) → (xs : List A) → pos 0 ≤ℤ sum_of f xs
+sum_least f h [] = omega (arith, ints)
+sum_least f h (x ∷ xs) = omega (arith, ints, h x, sum_least f h xs)
+
+-- a part of a sum and the next element make at most the whole
+pub next_part : {A : Type 0} (f : A → ℤ) → ((x : A) → pos 0 ≤ℤ f x) → (xs : List A) (i : ℕ) (d : A) → i < length xs → (sum_of f (take i xs) +ℤ f (get_or xs i d)) ≤ℤ sum_of f xs
+next_part f h xs i d low = omega (arith, ints, sum_more f xs i d low, sum_part f h xs (i + 1))
+
+-- two numbers that add up, in size, to at most 2 ^ 120
+pub record Adds (a b : ℤ) : Type 0 where
+  pub fits : SFits w128 (a +ℤ b)
+  pub kept : to_z w128 (of_z w128 (a +ℤ b)) ≡ a +ℤ b
+  pub size : pos (unsigned_abs (a +ℤ b)) ≤ℤ (pos (unsigned_abs a) +ℤ pos (unsigned_abs b))
+
+pub adds_of : (a b : ℤ) → (pos (unsigned_abs a) +ℤ pos (unsigned_abs b)) ≤ℤ pos (2 ^ 120) → Adds a b
+adds_of a b h =
+    let f : SFits w128 (a +ℤ b) = omega (arith, ints, h) in
+    record { fits = f; kept = to_z-of_z w128 (a +ℤ b) f; size = omega (arith, ints) }
+
+-- the counts of live segments add up to no more than their weights
+size_weight : (k : Counted) → size k ≤ℤ weight k
+size_weight k = at_least (unsigned_abs k.1) (max 1 (extent k.0)) (omega arith)
+  where
+    at_least : (n m : ℕ) → 1 ≤ m → pos n ≤ℤ pos (n * m)
+    at_least n m h = omega (arith, ints, mul-le-mul_left n h)
+
+sizes_weights : (ks : List Counted) → sum_of size ks ≤ℤ sum_of weight ks
+sizes_weights [] = omega (arith, ints)
+sizes_weights (k ∷ ks) = omega (arith, ints, size_weight k, sizes_weights ks)
+
+weight_least : (k : Counted) → pos 0 ≤ℤ weight k
+weight_least k = omega (arith, ints)
+
+pub live_room : (todo live : List Counted) → total_weight todo live ≤ℤ pos (2 ^ 97) → sum_of size live ≤ℤ pos (2 ^ 120)
+live_room todo live h = omega (arith, ints, sizes_weights live, sum_least weight weight_least todo)

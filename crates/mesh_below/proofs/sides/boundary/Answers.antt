@@ -1,0 +1,26 @@
+use Rattle.std.proofs.Common.{◌≡◌, ◌^◌, ◌∙◌, ap, sym, subst, arith, take, length, List, take_all}
+use Rattle.std.specs.Prelude.{ℤ, pos, ◌≤ℤ◌}
+use Rattle.std.specs.List.{flat_map}
+use Rattle.std.proofs.lemmas.Int.{ints}
+use Rattle.mesh_num.specs.Plane.{Edge}
+use Rattle.mesh_below.specs.Boundary.{IsBoundary, IsProper}
+use Rattle.mesh_below.specs.Counted.{Counted, IsCountOf}
+use Rattle.mesh_below.specs.Fill.{filled}
+use Rattle.mesh_below.specs.Steps.{size}
+use Rattle.mesh_below.proofs.BoundaryCounted.{emitted, counted_boundary}
+use Rattle.mesh_below.proofs.SidesCode.{size_least, sum_least, next_part}
+use Rattle.mesh_below.proofs.sides.boundary.Goals as goal
+
+pub sides_of-requires-clause-count_small : goal.sides_of-requires-clause-count_small
+sides_of-requires-clause-count_small c =
+    let xs = c.args.segments.now in
+    omega (arith, ints, next_part size size_least xs c.loop-s.s-index (((pos 0, pos 0), (pos 0, pos 0)), pos 0) c.loop-s-test.true, sum_least size size_least (take c.loop-s.s-index xs), c.requires)
+
+pub returns : goal.returns
+returns c =
+    let xs = c.args.segments.now in
+    let whole : take c.loop-s.s-index xs ≡ xs = take_all c.loop-s.s-index xs (omega (arith, c.loop-s-test.false)) in
+    λ (es : List Edge) (is : IsCountOf es xs) (proper : IsProper es).
+        subst (λ (l : List Edge). IsBoundary es (filled c.args.fill) l)
+        (sym (c.loop-s.invariant ∙ ap (λ (ks : List Counted). flat_map (emitted (filled c.args.fill) xs) ks) whole))
+        (counted_boundary es xs (filled c.args.fill) is proper)

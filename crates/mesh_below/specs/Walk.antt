@@ -1,0 +1,25 @@
+-- Walking along edges: which of them are still unused, and what one step may take.
+use Rattle.std.specs.Prelude.{ℕ, ◌≡◌, ◌⊎◌, ◌<◌, ◌≤◌, Bool, true, false, cond, List, [], ◌∷◌, length, slice_index_or}
+use Rattle.mesh_num.specs.Plane.{Point, Edge}
+use Rattle.mesh_num.specs.Order.{point_lt}
+
+-- the edges that are not marked as used
+abbrev pub unused : List Edge → List Bool → List Edge
+unused [] bs = []
+unused (e ∷ es) [] = e ∷ unused es []
+unused (e ∷ es) (b ∷ bs) = cond b (unused es bs) (e ∷ unused es bs)
+
+-- no edge starts at a lesser point than one before it
+abbrev pub StartsInOrder : List Edge → Type 0
+StartsInOrder es =
+    (i j : ℕ) (d : Edge) → i ≤ j → j < length es → point_lt (slice_index_or es j d).0 (slice_index_or es i d).0 ≡ false
+
+-- the edge at a place is unused, or it is the walk's first
+abbrev pub IsOpen : List Bool → ℕ → ℕ → Type 0
+IsOpen used first k = (slice_index_or used k true ≡ false) ⊎ (k ≡ first)
+
+-- an edge that starts at `at` and on which a walk may go on
+pub record IsNext (es : List Edge) (used : List Bool) (first : ℕ) (at : Point) (k : ℕ) : Type 0 where
+  pub within : k < length es
+  pub starts : (d : Edge) → (slice_index_or es k d).0 ≡ at
+  pub open' : IsOpen used first k
