@@ -1,5 +1,6 @@
 pub mod Arithmetic
 pub mod BoundaryBalance
+pub mod BoundaryCounted
 pub mod BoundaryFill
 pub mod BoundaryFine
 pub mod BoundaryGrids
@@ -17,13 +18,12 @@ pub mod Filing
 pub mod Line
 pub mod Live
 pub mod Meeting
-pub mod SidesCode
-pub mod BoundaryCounted
 pub mod Paths
 pub mod Places
 pub mod Settling
 pub mod Sharing
 pub mod SidesClear
+pub mod SidesCode
 pub mod SidesConstant
 pub mod SidesPotential
 pub mod Stages

@@ -1,13 +1,11 @@
 pub mod Boundary
 pub mod Contours
 pub mod Counted
+pub mod Fill
 pub mod Regions
 pub mod Resolution
+pub mod Sides
 pub mod Split
 pub mod Splitting
 pub mod Steps
-pub mod Steps
-pub mod Fill
-pub mod Sides
-pub mod Splitting
 pub mod Walk
