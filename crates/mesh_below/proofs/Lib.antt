@@ -10,6 +10,7 @@ pub mod BoundaryRegions
 pub mod BoundarySplits
 pub mod Boxes
 pub mod Clean
+pub mod ContoursBegun
 pub mod ContoursKept
 pub mod Cuts
 pub mod Ends
@@ -29,3 +30,4 @@ pub mod SidesPotential
 pub mod Stages
 pub mod Starting
 pub mod Subjects
+pub mod Walking
