@@ -31,3 +31,4 @@ pub mod Stages
 pub mod Starting
 pub mod Subjects
 pub mod Walking
+pub mod AreaSums

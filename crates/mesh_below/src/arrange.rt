@@ -1,23 +1,10 @@
 //! Shapes of rings: order and grouping.
 
 use crate::grid::GridPoint;
-use crate::ring::{Ring, double_area};
-use crate::fine::{FinePoint, crossing, doubled};
+use crate::area::{double_area, holds};
+use crate::ring::Ring;
+use crate::fine::FinePoint;
 use std::alloc::{AllocError, Global};
-
-/// Whether the closed list of points winds round the point.
-fn holds(points: &[GridPoint], q: FinePoint) -> bool {
-    let mut sum: i128 = 0;
-    let Some(last) = points.last() else {
-        return false;
-    };
-    let mut before = *last;
-    for p in points {
-        sum += crossing(q, doubled(before), doubled(*p));
-        before = *p;
-    }
-    sum != 0
-}
 
 /// The double areas of rings, in their order.
 fn areas(alloc: Global, rings: &[Ring]) -> Result<Vec<i128>, AllocError> {

@@ -1,6 +1,8 @@
-//! The layer below the offset operations: directed edges are split until they share only ends.
+//! The layer below the offset operations: directed edges are split until they share only ends, and the boundary of what
+//! they fill is walked into contours.
 #![tactic(auto)]
 
+pub mod area;
 pub mod arrange;
 mod exact;
 pub mod fill;

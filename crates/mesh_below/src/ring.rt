@@ -5,7 +5,7 @@ ghost use Rattle.std.specs.List.{All};
 ghost use Rattle.mesh_num.specs.Bounds.{IsSmall, IsSafe};
 ghost use Rattle.mesh_num.specs.Plane.{Point, Edge, dot, cross};
 ghost use Rattle.mesh_num.specs.Winding.{boundary, same_point};
-ghost use Rattle.mesh_below.specs.Contours.{is_corner, first_or, kept, vertices, side_point, double_area, point_at, next_at, IsBestVisit, IsLeastBefore, IsRingOf};
+ghost use Rattle.mesh_below.specs.Contours.{is_corner, first_or, kept, vertices, side_point, point_at, next_at, IsBestVisit, IsLeastBefore, IsRingOf};
 
 use crate::exact::{cross, is_before, minus, product, same_point};
 use crate::fine::{FinePoint, middle};
@@ -185,18 +185,4 @@ pub fn ring_of(alloc: Global, contour: &[GridPoint], all: bool) -> Result<Ring, 
     let begun = turned_to(alloc, &from_least, start_place(&from_least, all))?;
     let side = side_point(&begun);
     Ok((vertices(alloc, &begun, all)?, side))
-}
-
-/// Twice the area that a closed list of points encloses, above 0 where it runs counterclockwise.
-pub fn double_area(points: &[GridPoint]) -> i128 {
-    let mut sum: i128 = 0;
-    let Some(last) = points.last() else {
-        return 0;
-    };
-    let mut before = *last;
-    for p in points {
-        sum += before.0 as i128 * p.1 as i128 - before.1 as i128 * p.0 as i128;
-        before = *p;
-    }
-    sum
 }
