@@ -29,3 +29,5 @@ pub mod SidesCode
 pub mod BoundaryCounted
 pub mod Paths
 pub mod Subjects
+pub mod Walking
+pub mod ContoursBegun

@@ -1,10 +1,10 @@
 -- Closed contours: the vertices that are answered, where a contour begins, its area and its side point.
-use Rattle.std.specs.Prelude.{ℕ, ◌≡◌, Bool, true, false, cond, not, ◌&&◌, ◌||◌, List, [], ◌∷◌, reverse, ℤ, pos, ◌+ℤ◌, int_lt}
+use Rattle.std.specs.Prelude.{ℕ, ◌≡◌, ◌+◌, ◌<◌, Bool, true, false, cond, not, ◌&&◌, ◌||◌, List, [], ◌∷◌, reverse, length, drop, slice_index_or, ℤ, pos, ◌+ℤ◌, int_lt}
 use Rattle.std.specs.Ordering.{int_eq}
 use Rattle.std.specs.List.{All}
 use Rattle.mesh_num.specs.Plane.{Point, Edge, minus, plus, cross, dot}
 use Rattle.mesh_num.specs.Order.{point_lt}
-use Rattle.mesh_num.specs.Winding.{total, boundary, same_point}
+use Rattle.mesh_num.specs.Winding.{sum_of, total, boundary, same_point}
 
 -- whether a way from `p0` by `p1` to `p2` turns or turns back at `p1`, rather than run straight through
 abbrev pub is_corner : Point → Point → Point → Bool
@@ -22,10 +22,18 @@ abbrev pub corners : Point → List Point → Point → List Point
 corners a [] z = []
 corners a (x ∷ xs) z = cond (is_corner a x (first_or z xs)) (x ∷ corners x xs z) (corners x xs z)
 
+-- the points of the list that are answered: all of them, or the corners of the way
+abbrev pub kept : Bool → Point → List Point → Point → List Point
+kept all a xs z = cond all xs (corners a xs z)
+
+-- the first of them, or the way's end where there is none
+abbrev pub next_kept : Bool → Point → List Point → Point → Point
+next_kept all a xs z = first_or z (kept all a xs z)
+
 -- the answered vertices of a closed contour that begins at `p`: all of them, or `p` and the corners
 abbrev pub vertices : Bool → List Point → List Point
 vertices all [] = []
-vertices all (p ∷ xs) = p ∷ cond all xs (corners p xs p)
+vertices all (p ∷ xs) = p ∷ kept all p xs p
 
 -- an edge that starts at a lesser point, or at the same point and ends at a lesser one
 abbrev pub edge_lt : Edge → Edge → Bool
@@ -59,3 +67,30 @@ side_point (p ∷ xs) = plus p (first_or p xs)
 abbrev pub reversed : List Point → List Point
 reversed [] = []
 reversed (p ∷ xs) = p ∷ reverse xs
+
+-- a contour is that of a ring: with the same edges it begins at its start, and the ring has its vertices and its side point
+pub record IsRingOf (all : Bool) (given : List Point) (ring : List Point × Point) : Type 0 where
+  pub contour : List Point
+  pub same : (f : Edge → ℤ) → sum_of f (boundary contour) ≡ sum_of f (boundary given)
+  pub begun : IsBegun all contour
+  pub vertices_are : ring.0 ≡ vertices all contour
+  pub side_is : ring.1 ≡ side_point contour
+
+-- the point at a place of a list
+abbrev pub point_at : List Point → ℕ → Point
+point_at ps i = slice_index_or ps i (pos 0 , pos 0)
+
+-- the next vertex that is answered after the place `i` of a contour
+abbrev pub next_at : Bool → List Point → ℕ → Point
+next_at all ps i = next_kept all (point_at ps i) (drop (i + 1) ps) (point_at ps 0)
+
+-- the point at a place is the first one's, and no visit of it has a lesser next vertex before the place `n`
+pub record IsBestVisit (all : Bool) (ps : List Point) (n best : ℕ) : Type 0 where
+  pub within : best < length ps
+  pub visit : point_at ps best ≡ point_at ps 0
+  pub least : (k : ℕ) → k < n → point_at ps k ≡ point_at ps 0 → point_lt (next_at all ps k) (next_at all ps best) ≡ false
+
+-- of the points before the place `n` none is less than that at `least`
+pub record IsLeastBefore (ps : List Point) (n least : ℕ) : Type 0 where
+  pub within : least < length ps
+  pub none_less : (k : ℕ) → k < n → point_lt (point_at ps k) (point_at ps least) ≡ false

@@ -5,7 +5,7 @@ pub mod Regions
 pub mod Contours
 pub mod Resolution
 pub mod Steps
-pub mod Fill
-pub mod Sides
+pub mod FillRules
+pub mod CountedSides
 pub mod Splitting
-pub mod Walk
+pub mod Unused

@@ -27,7 +27,7 @@ pub fn minus(p: GridPoint, q: GridPoint) -> Vector
     (difference(p.0, q.0), difference(p.1, q.1))
 }
 
-fn product(a: i128, b: i128) -> i128
+pub fn product(a: i128, b: i128) -> i128
     requires a_small { IsSmall (2 ^ 32) a }
     requires b_small { IsSmall (2 ^ 32) b }
     ensures value { result ≡ a *ℤ b }

@@ -22,7 +22,7 @@ pub fn resolve(alloc: Global, edges: &[GridEdge], fill: FillRule, choices: Choic
     let segments = split_edges(alloc, edges)?;
     let closed = contours(alloc, boundary(alloc, &segments, fill)?)?;
     let mut rings = Vec::new(alloc);
-    for contour in closed {
+    for contour in &closed {
         rings.push(ring_of(alloc, contour, choices.all_vertices)?)?;
     }
     shapes(alloc, rings, choices.least_area, choices.clockwise)

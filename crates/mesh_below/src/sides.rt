@@ -7,8 +7,8 @@ ghost use Rattle.mesh_num.specs.Plane.{Edge};
 ghost use Rattle.mesh_num.specs.Winding.{sum_of, crossing_on};
 ghost use Rattle.mesh_below.specs.Boundary.{rises, IsBoundary, IsProper};
 ghost use Rattle.mesh_below.specs.Counted.{IsCountOf};
-ghost use Rattle.mesh_below.specs.Fill.{filled};
-ghost use Rattle.mesh_below.specs.Sides.{counted_winding, sides_by, sides_of, is_parted, boundary_edge};
+ghost use Rattle.mesh_below.specs.FillRules.{filled};
+ghost use Rattle.mesh_below.specs.CountedSides.{counted_winding, sides_by, sides_of, is_parted, boundary_edge};
 ghost use Rattle.mesh_below.specs.Steps.{size};
 
 use crate::fill::FillRule;

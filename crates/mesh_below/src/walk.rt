@@ -1,12 +1,11 @@
 //! The walk along a boundary: its edges become closed contours.
 
-ghost use Rattle.std.specs.Prelude.{◌≡◌, ℕ, ◌+◌, ◌<◌, ◌≤◌, Bool, true, false, List, [], ◌∷◌, ◌++◌, ℤ, ◌+ℤ◌, length, slice_index_or, MatchOption, IfOk, OnOk, map};
-ghost use Rattle.std.specs.List.{flat_map};
+ghost use Rattle.std.specs.Prelude.{◌≡◌, ◌⊎◌, ℕ, ◌+◌, ◌<◌, ◌≤◌, ◌↔◌, IsTrue, Bool, true, false, List, [], ◌∷◌, ◌++◌, ℤ, ◌+ℤ◌, length, slice_index_or, MatchOption, IfOk, OnOk};
 ghost use Rattle.mesh_num.specs.Order.{point_lt};
 ghost use Rattle.mesh_num.specs.Plane.{Point, Edge};
 ghost use Rattle.mesh_num.specs.Winding.{sum_of, boundary, IsBalanced};
 ghost use Rattle.mesh_below.specs.Boundary.{count};
-ghost use Rattle.mesh_below.specs.Walk.{unused, StartsInOrder, IsOpen, IsNext};
+ghost use Rattle.mesh_below.specs.Unused.{unused, StartsInOrder, IsOpen, IsNext, TakesContours, contour_edges};
 
 use crate::exact::{cross, is_before, minus, same_point};
 use crate::grid::{GridEdge, GridPoint};
@@ -79,6 +78,29 @@ fn better(edges: &[GridEdge], at: GridPoint, from: GridPoint, best: Option<usize
     k
 }
 
+/// Whether the walk may take the edge at a place: it is unused, or the walk's first.
+fn is_open(used: &[bool], first: usize, k: usize) -> bool
+    requires { k < length used.now }
+    ensures { IsTrue result ↔ IsOpen used.now first k }
+{
+    if k == first {
+        return true;
+    }
+    !used[k]
+}
+
+/// The edge to take of those looked at so far, where the edge at `k` is looked at too.
+fn with_edge(edges: &[GridEdge], used: &[bool], first: usize, from: GridPoint, at: GridPoint, best: Option<usize>, k: usize) -> Option<usize>
+    requires within { k < length edges.now }
+    requires marks { length used.now ≡ length edges.now }
+    ensures { MatchOption result ((best ≡ None) × (IsOpen used.now first k → ⊥)) (λ b. ((b ≡ k) × IsOpen used.now first k) ⊎ (best ≡ Some b)) }
+{
+    if !is_open(used, first, k) {
+        return best;
+    }
+    Some(better(edges, at, from, best, k))
+}
+
 /// The edge on which the walk goes on from `at`, where it came from `from`: of the unused ones that start there, and of the walk's
 /// first edge where it starts there, the first clockwise from the way back.
 fn next_edge(edges: &[GridEdge], used: &[bool], first: usize, from: GridPoint, at: GridPoint) -> Option<usize>
@@ -91,9 +113,7 @@ fn next_edge(edges: &[GridEdge], used: &[bool], first: usize, from: GridPoint, a
         if !same_point(edges[k].0, at) {
             return best;
         }
-        if !used[k] || k == first {
-            best = Some(better(edges, at, from, best, k));
-        }
+        best = with_edge(edges, used, first, from, at, best, k);
     }
     best
 }
@@ -135,18 +155,43 @@ fn in_order(mut edges: Vec<GridEdge>) -> Result<Vec<GridEdge>, AllocError>
     Ok(edges)
 }
 
+/// Adds the contour that begins with the edge `first`, unless that is used.
+fn add_contour(alloc: Global, contours: &mut Vec<Vec<GridPoint>>, edges: &[GridEdge], used: &mut [bool], first: usize) -> Result<(), AllocError>
+    requires ordered { StartsInOrder edges.now }
+    requires marks { length used.old ≡ length edges.now }
+    requires first_in { first < length edges.now }
+    requires balanced { IsBalanced (unused edges.now used.old) }
+    ensures { OnOk result (TakesContours edges.now used.old used.new contours.old.items contours.new.items first) }
+{
+    if used[first] {
+        return Ok(());
+    }
+    let contour = walk(alloc, edges, used, first)?;
+    contours.push(contour)?;
+    Ok(())
+}
+
+/// Contours of all unused edges.
+fn contours_of(alloc: Global, edges: &[GridEdge], used: &mut [bool]) -> Result<Vec<Vec<GridPoint>>, AllocError>
+    requires ordered { StartsInOrder edges.now }
+    requires marks { length used.old ≡ length edges.now }
+    requires balanced { IsBalanced (unused edges.now used.old) }
+    ensures { IfOk result (λ v. (g : Edge → ℤ) → sum_of g (unused edges.now used.old) ≡ sum_of g (contour_edges v.items)) }
+{
+    let mut contours = Vec::new(alloc);
+    for first in 0..edges.len() {
+        add_contour(alloc, &mut contours, edges, used, first)?;
+    }
+    Ok(contours)
+}
+
 /// Closed contours that together have the edges, each once.
 pub fn contours(alloc: Global, edges: Vec<GridEdge>) -> Result<Vec<Vec<GridPoint>>, AllocError>
     requires { IsBalanced edges.items }
-    ensures { IfOk result (λ v. (e : Edge) → count e (flat_map (λ c. boundary c.items) v.items) ≡ count e edges.items) }
+    ensures { IfOk result (λ v. (e : Edge) → count e (contour_edges v.items) ≡ count e edges.items) }
 {
     let ordered = in_order(edges)?;
     let mut used = vec![in alloc; false; ordered.len()]?;
-    let mut contours = Vec::new(alloc);
-    for first in 0..ordered.len() {
-        if !used[first] {
-            contours.push(walk(alloc, &ordered, &mut used, first)?)?;
-        }
-    }
+    let contours = contours_of(alloc, &ordered, &mut used)?;
     Ok(contours)
 }

@@ -5,7 +5,7 @@ use Rattle.std.proofs.lemmas.Int.{ints}
 use Rattle.mesh_num.specs.Plane.{Edge}
 use Rattle.mesh_below.specs.Boundary.{IsBoundary, IsProper}
 use Rattle.mesh_below.specs.Counted.{Counted, IsCountOf}
-use Rattle.mesh_below.specs.Fill.{filled}
+use Rattle.mesh_below.specs.FillRules.{filled}
 use Rattle.mesh_below.specs.Steps.{size}
 use Rattle.mesh_below.proofs.BoundaryCounted.{emitted, counted_boundary}
 use Rattle.mesh_below.proofs.SidesCode.{size_least, sum_least, next_part}

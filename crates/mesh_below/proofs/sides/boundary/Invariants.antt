@@ -1,6 +1,6 @@
 use Rattle.std.proofs.Common.{◌≡◌, take}
 use Rattle.std.specs.List.{flat_map}
-use Rattle.mesh_below.specs.Fill.{filled}
+use Rattle.mesh_below.specs.FillRules.{filled}
 use Rattle.mesh_below.proofs.BoundaryCounted.{emitted}
 use Rattle.mesh_below.proofs.sides.boundary.Given as goal
 

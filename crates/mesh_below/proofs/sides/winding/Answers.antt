@@ -5,7 +5,7 @@ use mir.Syntax.{w128}
 use mir.Val.{SFits, to_z, of_z}
 use Rattle.mesh_num.specs.Winding.{sum_of, crossing_on}
 use Rattle.mesh_below.specs.Counted.{Counted}
-use Rattle.mesh_below.specs.Sides.{counted_winding}
+use Rattle.mesh_below.specs.CountedSides.{counted_winding}
 use Rattle.mesh_below.specs.Steps.{size}
 use Rattle.mesh_below.proofs.SidesCode.{size_least, sum_least, next_part, sum_more, adds_of}
 use Rattle.mesh_below.proofs.sides.winding.Goals as goal

@@ -1,7 +1,7 @@
 use Rattle.std.proofs.Common.{◌≡◌, ◌^◌, take}
 use Rattle.std.specs.Prelude.{ℤ, pos, ◌≤ℤ◌, unsigned_abs}
 use Rattle.mesh_num.specs.Winding.{sum_of}
-use Rattle.mesh_below.specs.Sides.{counted_winding}
+use Rattle.mesh_below.specs.CountedSides.{counted_winding}
 use Rattle.mesh_below.specs.Steps.{size}
 use Rattle.mesh_below.proofs.sides.winding.Given as goal
 

@@ -1,7 +1,10 @@
 -- Walking along edges: which of them are still unused, and what one step may take.
-use Rattle.std.specs.Prelude.{ℕ, ◌≡◌, ◌⊎◌, ◌<◌, ◌≤◌, Bool, true, false, cond, List, [], ◌∷◌, length, slice_index_or}
+use Rattle.std.specs.Prelude.{ℕ, ◌≡◌, ◌⊎◌, ◌<◌, ◌≤◌, Bool, true, false, cond, List, [], ◌∷◌, length, slice_index_or, ℤ, ◌+ℤ◌, Vec}
+use Rattle.std.specs.List.{flat_map}
+use Rattle.std.specs.declared.alloc.Global.{Global}
 use Rattle.mesh_num.specs.Plane.{Point, Edge}
 use Rattle.mesh_num.specs.Order.{point_lt}
+use Rattle.mesh_num.specs.Winding.{sum_of, boundary, IsBalanced}
 
 -- the edges that are not marked as used
 abbrev pub unused : List Edge → List Bool → List Edge
@@ -23,3 +26,14 @@ pub record IsNext (es : List Edge) (used : List Bool) (first : ℕ) (at : Point)
   pub within : k < length es
   pub starts : (d : Edge) → (slice_index_or es k d).0 ≡ at
   pub open' : IsOpen used first k
+
+-- the edges of contours
+abbrev pub contour_edges : List (Vec Point Global) → List Edge
+contour_edges cs = flat_map (λ (c : Vec Point Global). boundary c.items) cs
+
+-- contours were made of unused edges, the edge `first` among them
+pub record TakesContours (es : List Edge) (was now : List Bool) (old new : List (Vec Point Global)) (first : ℕ) : Type 0 where
+  pub same : (g : Edge → ℤ) → sum_of g (contour_edges old) +ℤ sum_of g (unused es was) ≡ sum_of g (contour_edges new) +ℤ sum_of g (unused es now)
+  pub balanced : IsBalanced (unused es now)
+  pub kept : (k : ℕ) → slice_index_or was k true ≡ true → slice_index_or now k true ≡ true
+  pub marked : slice_index_or now first true ≡ true
