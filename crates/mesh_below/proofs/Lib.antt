@@ -32,3 +32,7 @@ pub mod Starting
 pub mod Subjects
 pub mod Walking
 pub mod AreaSums
+pub mod Paths
+pub mod Subjects
+pub mod Walking
+pub mod ContoursBegun
