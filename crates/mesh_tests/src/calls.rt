@@ -8,7 +8,9 @@ use std::test::Fail;
 
 #[test]
 fn setters_of_a_style(rt: HostRuntime) {
-    let style = IntOutlineStyle::new(7).outer_offset(-3).line_join(IntLineJoin::Bevel);
+    let style = IntOutlineStyle::new(7)
+        .outer_offset(-3)
+        .line_join(IntLineJoin::Bevel);
     assert_eq!(rt; (style.outer_offset, style.inner_offset), (-3, 7));
     let style = style.offset(5).math(MathMode::Integer);
     assert_eq!(rt; (style.outer_offset, style.inner_offset), (5, 5));
@@ -30,7 +32,10 @@ fn padding_of_a_bevel(rt: HostRuntime) {
 fn texts_of_errors(rt: HostRuntime) -> Result<(), Fail> {
     let range = IntOutlineError::CoordinateOutOfRange;
     let text = format!(in rt.alloc(); "{range}")?;
-    assert_eq!(rt; text.as_str(), "mesh coordinate exceeds the integer engine range");
+    assert_eq!(rt;
+        text.as_str(),
+        "mesh coordinate exceeds the integer engine range"
+    );
     let memory = IntOutlineError::from(AllocError);
     let text = format!(in rt.alloc(); "{memory}")?;
     assert_eq!(rt; text.as_str(), "mesh construction ran out of memory");

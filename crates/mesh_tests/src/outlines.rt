@@ -1,5 +1,7 @@
 //! The edges that the builder adds: worked contours, and how they wind near the vertices of many contours.
 
+ghost use Rattle.std.specs.Prelude.{◌<◌};
+
 use crate::pieces::Pieces;
 use crate::plain::{Edge, Point, closed, is_balanced, plus, refined, winding};
 use i_overlay_mesh::outline::builder::OutlineBuilder;
@@ -21,13 +23,11 @@ pub struct Outline {
     pub between: Pieces,
 }
 
+/// Steps on the grid 2.
+const STEPS: [i128; 9] = [-4, -3, -2, -1, 0, 1, 2, 3, 4];
+
 impl Outline {
-    fn new<I: OverlayInt>(
-        rt: &impl Abort,
-        alloc: Global,
-        contour: &[(I, I)],
-        offset: I,
-    ) -> Result<Outline, Fail> {
+    fn new<I: OverlayInt>(alloc: Global, contour: &[(I, I)], offset: I) -> Result<Outline, Fail> {
         let mut path = Vec::new(alloc);
         let mut points = Vec::new(alloc);
         for (x, y) in contour {
@@ -36,7 +36,7 @@ impl Outline {
         }
         Ok(Outline {
             own: closed(alloc, &points)?,
-            edges: built(rt, alloc, &path, offset)?,
+            edges: built(alloc, &path, offset)?,
             between: Pieces::of_outline(alloc, wide(I::UNIT), wide(offset), &points)?,
         })
     }
@@ -47,8 +47,8 @@ impl Outline {
         assert!(rt; is_balanced(&self.edges), "{case:?}");
         for edge in self.own.iter().chain(self.edges.iter()) {
             let middle = refined(2, edge.0);
-            for x in -4..5 {
-                for y in -4..5 {
+            for x in STEPS {
+                for y in STEPS {
                     self.expect_count_at(rt, plus(middle, (x, y)), case);
                 }
             }
@@ -66,16 +66,15 @@ impl Outline {
 
 /// The edges of the bevelled outline of a contour, as the builder adds them.
 fn built<I: OverlayInt>(
-    rt: &impl Abort,
     alloc: Global,
     path: &Vec<IntPoint<I>>,
     offset: I,
 ) -> Result<Vec<Edge>, Fail> {
     let style = IntOutlineStyle::new(offset);
-    assert!(rt; path.validate_outline(&style).is_ok());
+    path.validate_outline(&style)?;
     let join = Join::new(alloc, style.join, style.miter_min_turn);
     let mut segments = Vec::new(alloc);
-    OutlineBuilder::new(offset, join).build(path, &mut segments)?;
+    OutlineBuilder::new(style.outer_offset, join).build(path, &mut segments)?;
     Ok(directed(alloc, &segments)?)
 }
 
@@ -115,7 +114,7 @@ fn expect_loop(
     offset: i32,
     points: &[Point],
 ) -> Result<(), Fail> {
-    let outline = Outline::new(rt, alloc, contour, offset)?;
+    let outline = Outline::new(alloc, contour, offset)?;
     let mut edges = outline.edges;
     edges.sort()?;
     let mut wanted = closed(alloc, points)?;
@@ -127,53 +126,83 @@ fn expect_loop(
 #[test]
 fn worked_loops(rt: HostRuntime) -> Result<(), Fail> {
     let alloc = rt.alloc();
-    expect_loop(&rt, alloc, &SQUARE, 1024, &[
-        (0, -1024),
-        (16_384, -1024),
-        (17_408, 0),
-        (17_408, 16_384),
-        (16_384, 17_408),
-        (0, 17_408),
-        (-1024, 16_384),
-        (-1024, 0),
-    ])?;
-    expect_loop(&rt, alloc, &SQUARE, -1024, &[
-        (0, 1024),
-        (16_384, 1024),
-        (16_384, 0),
-        (15_360, 0),
-        (15_360, 16_384),
-        (16_384, 16_384),
-        (16_384, 15_360),
-        (0, 15_360),
-        (0, 16_384),
-        (1024, 16_384),
-        (1024, 0),
-        (0, 0),
-    ])?;
-    expect_loop(&rt, alloc, &SQUARE, 0, &[(0, 0), (16_384, 0), (16_384, 16_384), (0, 16_384)])?;
-    expect_loop(&rt, alloc, &HOLE, 1024, &[
-        (5120, 4096),
-        (5120, 12_288),
-        (4096, 12_288),
-        (4096, 11_264),
-        (12_288, 11_264),
-        (12_288, 12_288),
-        (11_264, 12_288),
-        (11_264, 4096),
-        (12_288, 4096),
-        (12_288, 5120),
-        (4096, 5120),
-        (4096, 4096),
-    ])?;
-    expect_loop(&rt, alloc, &[(0, 0), (10, 0)], 4, &[(0, -4), (10, -4), (10, 4), (0, 4)])?;
+    expect_loop(
+        &rt,
+        alloc,
+        &SQUARE,
+        1024,
+        &[
+            (0, -1024),
+            (16_384, -1024),
+            (17_408, 0),
+            (17_408, 16_384),
+            (16_384, 17_408),
+            (0, 17_408),
+            (-1024, 16_384),
+            (-1024, 0),
+        ],
+    )?;
+    expect_loop(
+        &rt,
+        alloc,
+        &SQUARE,
+        -1024,
+        &[
+            (0, 1024),
+            (16_384, 1024),
+            (16_384, 0),
+            (15_360, 0),
+            (15_360, 16_384),
+            (16_384, 16_384),
+            (16_384, 15_360),
+            (0, 15_360),
+            (0, 16_384),
+            (1024, 16_384),
+            (1024, 0),
+            (0, 0),
+        ],
+    )?;
+    expect_loop(
+        &rt,
+        alloc,
+        &SQUARE,
+        0,
+        &[(0, 0), (16_384, 0), (16_384, 16_384), (0, 16_384)],
+    )?;
+    expect_loop(
+        &rt,
+        alloc,
+        &HOLE,
+        1024,
+        &[
+            (5120, 4096),
+            (5120, 12_288),
+            (4096, 12_288),
+            (4096, 11_264),
+            (12_288, 11_264),
+            (12_288, 12_288),
+            (11_264, 12_288),
+            (11_264, 4096),
+            (12_288, 4096),
+            (12_288, 5120),
+            (4096, 5120),
+            (4096, 4096),
+        ],
+    )?;
+    expect_loop(
+        &rt,
+        alloc,
+        &[(0, 0), (10, 0)],
+        4,
+        &[(0, -4), (10, -4), (10, 4), (0, 4)],
+    )?;
     expect_loop(&rt, alloc, &[(7, 7), (7, 7), (7, 7)], 4, &[])
 }
 
 #[test]
 fn winding_near_a_square(rt: HostRuntime) -> Result<(), Fail> {
     for offset in [1024, -1024, 0] {
-        Outline::new(&rt, rt.alloc(), &SQUARE, offset)?.expect_count(&rt, &offset);
+        Outline::new(rt.alloc(), &SQUARE, offset)?.expect_count(&rt, &offset);
     }
     Ok(())
 }
@@ -187,8 +216,8 @@ fn winding_near_small_contours(rt: HostRuntime) -> Result<(), Fail> {
         let size = numbers.coordinate();
         for offset in [size, size.wrapping_neg(), 0] {
             let case = (contour.as_slice(), offset);
-            small_outline::<i16>(&rt, alloc, &contour, offset)?.expect_count(&rt, &case);
-            small_outline::<i32>(&rt, alloc, &contour, offset)?.expect_count(&rt, &case);
+            small_outline::<i16>(alloc, &contour, offset)?.expect_count(&rt, &case);
+            small_outline::<i32>(alloc, &contour, offset)?.expect_count(&rt, &case);
         }
     }
     Ok(())
@@ -196,7 +225,6 @@ fn winding_near_small_contours(rt: HostRuntime) -> Result<(), Fail> {
 
 /// The outline of a contour of small coordinates.
 pub fn small_outline<I: OverlayInt + From<i8>>(
-    rt: &impl Abort,
     alloc: Global,
     contour: &[(i8, i8)],
     offset: i8,
@@ -205,7 +233,7 @@ pub fn small_outline<I: OverlayInt + From<i8>>(
     for (x, y) in contour {
         points.push((I::from(*x), I::from(*y)))?;
     }
-    Outline::new(rt, alloc, &points, I::from(offset))
+    Outline::new(alloc, &points, I::from(offset))
 }
 
 /// Three to ten points, among them repeats and points where the contour turns back.
@@ -233,13 +261,19 @@ struct Numbers {
 
 impl Numbers {
     /// A number below `end`.
-    fn next(&mut self, end: u32) -> u32 {
-        self.state = self.state.wrapping_mul(1_664_525).wrapping_add(1_013_904_223);
-        (self.state >> 16).checked_rem(end).unwrap_or(0)
+    fn next(&mut self, end: u32) -> u32
+        requires { 0 < end }
+        ensures { result < end }
+    {
+        self.state = self
+            .state
+            .wrapping_mul(1_664_525)
+            .wrapping_add(1_013_904_223);
+        (self.state >> 16) % end
     }
 
     /// A number of at most 8 in size.
     fn coordinate(&mut self) -> i8 {
-        (self.next(17) as i8).wrapping_sub(8)
+        self.next(17) as i8 - 8
     }
 }

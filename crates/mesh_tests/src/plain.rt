@@ -4,6 +4,7 @@
 use std::alloc::{AllocError, Global};
 
 pub type Point = (i128, i128);
+
 pub type Edge = (Point, Point);
 
 pub fn plus(p: Point, v: Point) -> Point {
@@ -65,7 +66,9 @@ pub fn closed(alloc: Global, points: &[Point]) -> Result<Vec<Edge>, AllocError> 
 
 /// Whether each end of an edge is the start of as many edges as it is the end.
 pub fn is_balanced(edges: &[Edge]) -> bool {
-    edges.iter().all(|edge| is_even(edge.0, edges) && is_even(edge.1, edges))
+    edges
+        .iter()
+        .all(|edge| is_even(edge.0, edges) && is_even(edge.1, edges))
 }
 
 fn is_even(point: Point, edges: &[Edge]) -> bool {

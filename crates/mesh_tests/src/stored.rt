@@ -21,15 +21,19 @@ fn wide_points(alloc: Global, spots: &[Spot]) -> Result<Vec<Point>, AllocError> 
 
 #[test]
 fn crossings(rt: HostRuntime) {
-    for (m, q, start, end, want) in CROSSINGS {
+    for (m, q, start, end, want) in CROSSINGS.iter().copied() {
         let found = crossing(i128::from(m), wide(q), (wide(start), wide(end)));
-        assert_eq!(rt; found, i128::from(want), "at {q:?} of {start:?}, {end:?} on {m}");
+        assert_eq!(rt;
+            found,
+            i128::from(want),
+            "at {q:?} of {start:?}, {end:?} on {m}"
+        );
     }
 }
 
 #[test]
 fn windings(rt: HostRuntime) -> Result<(), Fail> {
-    for (contour, spots) in WINDINGS {
+    for (contour, spots) in WINDINGS.iter().copied() {
         let edges = closed(rt.alloc(), &wide_points(rt.alloc(), contour)?)?;
         for (m, q, want) in spots {
             let found = winding(i128::from(m), wide(q), &edges);
@@ -41,10 +45,10 @@ fn windings(rt: HostRuntime) -> Result<(), Fail> {
 
 #[test]
 fn outlines(rt: HostRuntime) -> Result<(), Fail> {
-    for row in &OUTLINES {
-        let small = small_outline::<i16>(&rt, rt.alloc(), row.0, row.1)?;
+    for row in OUTLINES {
+        let small = small_outline::<i16>(rt.alloc(), row.0, row.1)?;
         expect_answers(&rt, &small, row);
-        let large = small_outline::<i32>(&rt, rt.alloc(), row.0, row.1)?;
+        let large = small_outline::<i32>(rt.alloc(), row.0, row.1)?;
         expect_answers(&rt, &large, row);
     }
     Ok(())
@@ -53,11 +57,23 @@ fn outlines(rt: HostRuntime) -> Result<(), Fail> {
 fn expect_answers(rt: &impl Abort, outline: &Outline, row: &OutlineRow) {
     let (contour, offset, edges, pieces, spots) = *row;
     assert_eq!(rt; outline.edges.len(), edges, "{offset} of {contour:?}");
-    assert_eq!(rt; outline.between.boundaries.len(), pieces, "{offset} of {contour:?}");
+    assert_eq!(rt;
+        outline.between.boundaries.len(),
+        pieces,
+        "{offset} of {contour:?}"
+    );
     for (m, q, count, turns) in spots {
         let found = outline.between.count(i128::from(m), wide(q));
-        assert_eq!(rt; found, (i128::from(count), true), "at {q:?} of {offset}, {contour:?} on {m}");
+        assert_eq!(rt;
+            found,
+            (i128::from(count), true),
+            "at {q:?} of {offset}, {contour:?} on {m}"
+        );
         let found = winding(i128::from(m), wide(q), &outline.edges);
-        assert_eq!(rt; found, i128::from(turns), "at {q:?} of {offset}, {contour:?} on {m}");
+        assert_eq!(rt;
+            found,
+            i128::from(turns),
+            "at {q:?} of {offset}, {contour:?} on {m}"
+        );
     }
 }
