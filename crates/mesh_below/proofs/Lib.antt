@@ -1,3 +1,4 @@
+pub mod AreaSums
 pub mod Arithmetic
 pub mod BoundaryBalance
 pub mod BoundaryCounted
@@ -31,8 +32,3 @@ pub mod Stages
 pub mod Starting
 pub mod Subjects
 pub mod Walking
-pub mod AreaSums
-pub mod Paths
-pub mod Subjects
-pub mod Walking
-pub mod ContoursBegun

@@ -2,13 +2,10 @@ pub mod Boundary
 pub mod Contours
 pub mod Counted
 pub mod CountedSides
-pub mod Fill
 pub mod FillRules
 pub mod Regions
 pub mod Resolution
-pub mod Sides
 pub mod Split
 pub mod Splitting
 pub mod Steps
 pub mod Unused
-pub mod Walk

@@ -1,9 +1,9 @@
 //! Shapes of rings: order and grouping.
 
-use crate::grid::GridPoint;
 use crate::area::{double_area, holds};
-use crate::ring::Ring;
 use crate::fine::FinePoint;
+use crate::grid::GridPoint;
+use crate::ring::Ring;
 use std::alloc::{AllocError, Global};
 
 /// The double areas of rings, in their order.
@@ -49,7 +49,11 @@ fn heads(alloc: Global, rings: &[Ring], areas: &[i128]) -> Result<Vec<usize>, Al
 }
 
 /// The points from the first on, the others the other way round where the contour is to run clockwise.
-fn answered(alloc: Global, points: &[GridPoint], clockwise: bool) -> Result<Vec<GridPoint>, AllocError> {
+fn answered(
+    alloc: Global,
+    points: &[GridPoint],
+    clockwise: bool,
+) -> Result<Vec<GridPoint>, AllocError> {
     let mut copy = Vec::from_slice(alloc, points)?;
     if clockwise && copy.len() > 1 {
         copy[1..].reverse();
@@ -58,7 +62,12 @@ fn answered(alloc: Global, points: &[GridPoint], clockwise: bool) -> Result<Vec<
 }
 
 /// The rings as shapes, in order.
-pub fn shapes(alloc: Global, rings: Vec<Ring>, least_area: u128, clockwise: bool) -> Result<Vec<Vec<Vec<GridPoint>>>, AllocError> {
+pub fn shapes(
+    alloc: Global,
+    rings: Vec<Ring>,
+    least_area: u128,
+    clockwise: bool,
+) -> Result<Vec<Vec<Vec<GridPoint>>>, AllocError> {
     let mut large = Vec::new(alloc);
     for r in rings {
         if double_area(&r.0).unsigned_abs() >= 2 * least_area {

@@ -18,7 +18,12 @@ pub struct Choices {
 }
 
 /// The shapes of what balanced edges fill.
-pub fn resolve(alloc: Global, edges: &[GridEdge], fill: FillRule, choices: Choices) -> Result<Vec<Vec<Vec<GridPoint>>>, AllocError> {
+pub fn resolve(
+    alloc: Global,
+    edges: &[GridEdge],
+    fill: FillRule,
+    choices: Choices,
+) -> Result<Vec<Vec<Vec<GridPoint>>>, AllocError> {
     let segments = split_edges(alloc, edges)?;
     let closed = contours(alloc, boundary(alloc, &segments, fill)?)?;
     let mut rings = Vec::new(alloc);
@@ -32,7 +37,11 @@ pub fn resolve(alloc: Global, edges: &[GridEdge], fill: FillRule, choices: Choic
 mod tests {
     use super::*;
 
-    const PLAIN: Choices = Choices { least_area: 0, all_vertices: false, clockwise: false };
+    const PLAIN: Choices = Choices {
+        least_area: 0,
+        all_vertices: false,
+        clockwise: false,
+    };
 
     fn add(edges: &mut Vec<GridEdge>, points: &[GridPoint]) -> Result<(), AllocError> {
         for i in 0..points.len() {
@@ -65,7 +74,21 @@ mod tests {
         add(&mut edges, &[(0, 0), (4, 0), (4, 4), (0, 4)])?;
         add(&mut edges, &[(2, 2), (6, 2), (6, 6), (2, 6)])?;
         let answer = resolve(rt.alloc(), &edges, FillRule::Positive, PLAIN)?;
-        assert!(rt; is_answer(&answer, &[&[&[(0, 0), (4, 0), (4, 2), (6, 2), (6, 6), (2, 6), (2, 4), (0, 4)]]]));
+        assert!(rt;
+            is_answer(
+                &answer,
+                &[&[&[
+                    (0, 0),
+                    (4, 0),
+                    (4, 2),
+                    (6, 2),
+                    (6, 6),
+                    (2, 6),
+                    (2, 4),
+                    (0, 4)
+                ]]]
+            )
+        );
         let none = resolve(rt.alloc(), &edges, FillRule::Negative, PLAIN)?;
         assert!(rt; is_answer(&none, &[]));
         Ok(())
@@ -90,15 +113,51 @@ mod tests {
     fn options_change_what_is_answered(rt: HostRuntime) -> Result<(), AllocError> {
         let mut edges = Vec::new(rt.alloc());
         add(&mut edges, &[(0, 0), (4, 0), (4, 4), (0, 4)])?;
-        let whole = resolve(rt.alloc(), &edges, FillRule::Positive, Choices { least_area: 16, all_vertices: false, clockwise: false })?;
+        let whole = resolve(
+            rt.alloc(),
+            &edges,
+            FillRule::Positive,
+            Choices {
+                least_area: 16,
+                all_vertices: false,
+                clockwise: false,
+            },
+        )?;
         assert!(rt; is_answer(&whole, &[&[&[(0, 0), (4, 0), (4, 4), (0, 4)]]]));
-        let small = resolve(rt.alloc(), &edges, FillRule::Positive, Choices { least_area: 17, all_vertices: false, clockwise: false })?;
+        let small = resolve(
+            rt.alloc(),
+            &edges,
+            FillRule::Positive,
+            Choices {
+                least_area: 17,
+                all_vertices: false,
+                clockwise: false,
+            },
+        )?;
         assert!(rt; is_answer(&small, &[]));
-        let back = resolve(rt.alloc(), &edges, FillRule::Positive, Choices { least_area: 0, all_vertices: false, clockwise: true })?;
+        let back = resolve(
+            rt.alloc(),
+            &edges,
+            FillRule::Positive,
+            Choices {
+                least_area: 0,
+                all_vertices: false,
+                clockwise: true,
+            },
+        )?;
         assert!(rt; is_answer(&back, &[&[&[(0, 0), (0, 4), (4, 4), (4, 0)]]]));
         let mut five = Vec::new(rt.alloc());
         add(&mut five, &[(0, 0), (2, 0), (4, 0), (4, 4), (0, 4)])?;
-        let kept = resolve(rt.alloc(), &five, FillRule::Positive, Choices { least_area: 0, all_vertices: true, clockwise: false })?;
+        let kept = resolve(
+            rt.alloc(),
+            &five,
+            FillRule::Positive,
+            Choices {
+                least_area: 0,
+                all_vertices: true,
+                clockwise: false,
+            },
+        )?;
         assert!(rt; is_answer(&kept, &[&[&[(0, 0), (2, 0), (4, 0), (4, 4), (0, 4)]]]));
         let left_out = resolve(rt.alloc(), &five, FillRule::Positive, PLAIN)?;
         assert!(rt; is_answer(&left_out, &[&[&[(0, 0), (4, 0), (4, 4), (0, 4)]]]));
@@ -112,10 +171,18 @@ mod tests {
         add(&mut edges, &[(2, 2), (2, 8), (8, 8), (8, 2)])?;
         add(&mut edges, &[(4, 4), (6, 4), (6, 6), (4, 6)])?;
         let answer = resolve(rt.alloc(), &edges, FillRule::Positive, PLAIN)?;
-        assert!(rt; is_answer(&answer, &[
-            &[&[(0, 0), (10, 0), (10, 10), (0, 10)], &[(2, 2), (2, 8), (8, 8), (8, 2)]],
-            &[&[(4, 4), (6, 4), (6, 6), (4, 6)]],
-        ]));
+        assert!(rt;
+            is_answer(
+                &answer,
+                &[
+                    &[
+                        &[(0, 0), (10, 0), (10, 10), (0, 10)],
+                        &[(2, 2), (2, 8), (8, 8), (8, 2)]
+                    ],
+                    &[&[(4, 4), (6, 4), (6, 6), (4, 6)]],
+                ]
+            )
+        );
         let nothing = resolve(rt.alloc(), &[], FillRule::Positive, PLAIN)?;
         assert!(rt; is_answer(&nothing, &[]));
         Ok(())

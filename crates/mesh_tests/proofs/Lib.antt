@@ -1,1 +1,1 @@
-mod Movable
+pub mod Movable
