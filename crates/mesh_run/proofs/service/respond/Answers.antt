@@ -1,5 +1,5 @@
 -- What was read, accepted, built and written is the answer, or the refusal, of the request.
-use Rattle.std.proofs.Common.{◌≡◌, Err, ap, sym, subst}
+use Rattle.std.proofs.Common.{Err, ap, sym, subst}
 use Rattle.i_overlay_mesh.specs.declared.error.IntOutlineError.{IntOutlineError}
 use Rattle.mesh_run.specs.Reading.{IsOfReading}
 use Rattle.mesh_run.specs.Serving.{Contour}
