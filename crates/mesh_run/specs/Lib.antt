@@ -2,3 +2,4 @@ pub mod Answers
 pub mod DoubleArea
 pub mod Reading
 pub mod Served
+pub mod Serving

@@ -1,10 +1,13 @@
 -- What a request says, as data of JSON. Nothing here knows the width of the program's numbers: a type holds the
 -- whole numbers from `-2 * unit` on that are below `2 * unit`.
-use Rattle.std.specs.Prelude.{ℕ, ◌*◌, ◌^◌, ◌&&◌, ◌||◌, Bool, true, false, not, if◌then◌else◌, ℤ, pos, neg_ℤ, int_le, int_lt, List, [], ◌∷◌, codes, Option, Some, None, is_some, option_map, option_and_then}
+use Rattle.std.specs.Prelude.{ℕ, ◌*◌, ◌^◌, ◌&&◌, ◌||◌, Bool, false, not, if◌then◌else◌, ℤ, pos, neg_ℤ, int_le, int_lt, List, [], ◌∷◌, codes, Option, Some, None, is_some, option_map, option_and_then}
 use Rattle.std.specs.Str.{bytes_eq}
 use Rattle.serde_json.specs.Data.{Data, Items, no_items, item}
 use Rattle.serde_json.specs.Find.{get, as_number, as_i64, as_str, as_array}
+use Rattle.i_overlay_mesh.specs.declared.error.IntOutlineError.TheVariants.{CoordinateOutOfRange, OutOfMemory}
 use Rattle.mesh_num.specs.Plane.{Point}
+use Rattle.mesh_run.specs.declared.failure.Failure.{Failure}
+use Rattle.mesh_run.specs.declared.failure.Failure.TheVariants.{Unreadable, Refused}
 
 -- the whole number of 64 bits that a value is
 abbrev pub whole : Data → Option ℤ
@@ -79,3 +82,9 @@ outline_of unit d = both (path_of unit d) (option_and_then (offsets_of unit) (ge
 
 abbrev pub request_of : Data → Option (List Point × (ℤ × ℤ))
 request_of d = if says (codes "op") (codes "outline") d && says (codes "int") (codes "i32") d && says (codes "out") (codes "edges") d then outline_of (2 ^ 30) d else None
+
+-- a failure to read: no contour is refused
+abbrev pub IsOfReading : Failure → Type 0
+IsOfReading Unreadable = Unit {0}
+IsOfReading (Refused CoordinateOutOfRange) = ⊥
+IsOfReading (Refused OutOfMemory) = Unit {0}

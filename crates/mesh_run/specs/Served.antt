@@ -1,5 +1,5 @@
 -- What is answered to a request for the outline of one contour.
-use Rattle.std.specs.Prelude.{ℕ, ◌≡◌, List, [], ◌∷◌, cond, ℤ, pos, int_lt}
+use Rattle.std.specs.Prelude.{ℕ, List, [], ◌∷◌, cond, ℤ, pos, int_lt}
 use Rattle.mesh_num.specs.Bounds.{IsWithin}
 use Rattle.mesh_num.specs.Plane.{Point, Edge}
 use Rattle.i_overlay_mesh.specs.Building.{bevelled_edges}

@@ -1,12 +1,12 @@
 //! Values of JSON, and what is looked up in them.
 
-ghost use Rattle.std.specs.Prelude.{◌≡◌, Some, IfOk, MatchOption, IsUtf8, false, true, option_map, option_and_then};
+ghost use Rattle.std.specs.Prelude.{◌≡◌, Some, IfOk, IfErr, MatchOption, IsUtf8, false, true, option_map, option_and_then};
 ghost use Rattle.serde_json.specs.Data.{number as number_value};
 ghost use Rattle.serde_json.specs.Find.{get, as_str, of_integer};
 ghost use Rattle.serde_json.specs.Read.{read};
 ghost use Rattle.serde_json.specs.View.{view, items_view, members_view};
 ghost use Rattle.serde_json.specs.Written.{has_float as holds_float, items_have_float, members_have_float};
-ghost use Rattle.mesh_run.specs.Reading.{coordinate_of, says as says_text};
+ghost use Rattle.mesh_run.specs.Reading.{coordinate_of, says as says_text, IsOfReading};
 
 use crate::coordinate::{narrowed, widened};
 use crate::failure::Failure;
@@ -19,6 +19,7 @@ pub fn parse(alloc: Global, bytes: &[u8]) -> Result<Value, Failure>
     ensures ok { IfOk result (λ v. IsUtf8 bytes.now × (read bytes.now ≡ Some (view v)) × (holds_float (view v) ≡ false)) }
     ensures unreadable { result ≡ Err Failure.Unreadable → IsUtf8 bytes.now
         → MatchOption (read bytes.now) (Unit {0}) (λ d. holds_float d ≡ true) }
+    ensures err { IfErr result IsOfReading }
 {
     let value = Value::from_slice(alloc, bytes)?;
     if has_float(&value) {

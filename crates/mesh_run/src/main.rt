@@ -6,6 +6,7 @@ pub mod area;
 pub mod coordinate;
 pub mod edge;
 pub mod failure;
+pub mod input;
 pub mod json;
 pub mod outline;
 pub mod request;

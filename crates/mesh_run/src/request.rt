@@ -3,7 +3,7 @@
 ghost use Rattle.std.specs.Prelude.{◌≡◌, Some, None, MatchResult, option_map, option_and_then, codes};
 ghost use Rattle.serde_json.specs.Find.{get, as_array};
 ghost use Rattle.serde_json.specs.View.{view, items_view};
-ghost use Rattle.mesh_run.specs.Reading.{point_of, points_of, path_of, only, has_unserved as unserved, has_bevels as bevels, offsets_of, offset_of, outline_of, request_of};
+ghost use Rattle.mesh_run.specs.Reading.{point_of, points_of, path_of, only, has_unserved as unserved, has_bevels as bevels, offsets_of, offset_of, outline_of, request_of, IsOfReading};
 
 use crate::failure::Failure;
 use crate::json::{coordinate, says};
@@ -17,7 +17,7 @@ use std::alloc::Global;
 pub fn read_request(alloc: Global, value: &Value) -> Result<OutlineRequest<i32>, Failure>
     ensures { MatchResult result
         (λ r. request_of (view value.now) ≡ Some (r.path.items, (r.style.outer_offset, r.style.inner_offset)))
-        (λ e. e ≡ Failure.Unreadable → request_of (view value.now) ≡ None) }
+        (λ e. IsOfReading e × (e ≡ Failure.Unreadable → request_of (view value.now) ≡ None)) }
 {
     if says(value, "op", "outline") && says(value, "int", "i32") && says(value, "out", "edges") {
         outline(alloc, value)
@@ -29,7 +29,7 @@ pub fn read_request(alloc: Global, value: &Value) -> Result<OutlineRequest<i32>,
 fn outline<I: OverlayInt>(alloc: Global, value: &Value) -> Result<OutlineRequest<I>, Failure>
     ensures { MatchResult result
         (λ r. outline_of I.unit (view value.now) ≡ Some (r.path.items, (I.value r.style.outer_offset, I.value r.style.inner_offset)))
-        (λ e. e ≡ Failure.Unreadable → outline_of I.unit (view value.now) ≡ None) }
+        (λ e. IsOfReading e × (e ≡ Failure.Unreadable → outline_of I.unit (view value.now) ≡ None)) }
 {
     let Some(style) = outline_style(value.get("style")) else {
         return Err(Failure::Unreadable);
@@ -41,7 +41,7 @@ fn outline<I: OverlayInt>(alloc: Global, value: &Value) -> Result<OutlineRequest
 /// The only path of a request.
 fn path<I: OverlayInt>(alloc: Global, value: &Value) -> Result<Vec<IntPoint<I>>, Failure>
     ensures { MatchResult result (λ ps. path_of I.unit (view value.now) ≡ Some ps.items)
-        (λ e. e ≡ Failure.Unreadable → path_of I.unit (view value.now) ≡ None) }
+        (λ e. IsOfReading e × (e ≡ Failure.Unreadable → path_of I.unit (view value.now) ≡ None)) }
 {
     match only_path(value) {
         Some(items) => points(alloc, items),
@@ -62,7 +62,7 @@ fn only_path(value: &Value) -> Option<&[Value]>
 
 fn points<I: OverlayInt>(alloc: Global, items: &[Value]) -> Result<Vec<IntPoint<I>>, Failure>
     ensures { MatchResult result (λ ps. points_of I.unit (items_view items.now) ≡ Some ps.items)
-        (λ e. e ≡ Failure.Unreadable → points_of I.unit (items_view items.now) ≡ None) }
+        (λ e. IsOfReading e × (e ≡ Failure.Unreadable → points_of I.unit (items_view items.now) ≡ None)) }
 {
     let mut points = Vec::new(alloc);
     for item in items {

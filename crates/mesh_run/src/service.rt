@@ -1,12 +1,18 @@
 //! One run of the program, over any reader and writer.
 
+ghost use Rattle.std.specs.Prelude.{◌≡◌, ◌↔◌, None, List, OnOk, IfOk, IfSome, IsUtf8, string_bytes};
+ghost use Rattle.std.specs.Io.KnownBytes.{Appends};
+ghost use Rattle.mesh_run.specs.Serving.{request_in, IsAnswer, IsRefused};
+
 use crate::answer::edges_line;
 use crate::failure::Failure;
+use crate::input::read_to_end;
 use crate::json::parse;
 use crate::request::read_request;
+use i_overlay_mesh::IntOutlineError;
 use std::alloc::Global;
 use std::io;
-use std::io::{ErrorKind, Read, Write};
+use std::io::{Read, Write};
 
 /// How a run ended.
 #[derive(Debug, Clone, Copy, PartialEq, Eq)]
@@ -21,7 +27,11 @@ pub enum Status {
 
 impl Status {
     /// The exit status of the process.
-    pub fn code(self) -> u8 {
+    pub fn code(self) -> u8
+        ensures answered { result ≡ 0 ↔ (self ≡ Status.Answered) }
+        ensures refused { result ≡ 1 ↔ (self ≡ Status.Refused) }
+        ensures unreadable { result ≡ 2 ↔ (self ≡ Status.Unreadable) }
+    {
         match self {
             Status::Answered => 0,
             Status::Refused => 1,
@@ -30,11 +40,12 @@ impl Status {
     }
 }
 
-const CHUNK: usize = 4096;
-
 /// Reads a request to the reader's end and writes its answer, one line, or the line of a failure.
-pub fn serve<R: Read, W: Write>(alloc: Global, reader: &mut R, writer: &mut W) -> Status {
-    let answer = answered(alloc, reader);
+pub fn serve<R: Read, W: Write>(alloc: Global, reader: &mut R, writer: &mut W) -> Status
+    ensures { result ≡ Status.Answered → IfSome (R.remaining reader.old) (λ request. (line : List _) × IsAnswer request line
+        × Appends (W.contents writer.old) (W.contents writer.new) line) }
+{
+    let answer = read_and_answer(alloc, reader);
     match print(writer, &answer) {
         Err(_) => Status::Refused,
         Ok(()) => match answer {
@@ -45,34 +56,28 @@ pub fn serve<R: Read, W: Write>(alloc: Global, reader: &mut R, writer: &mut W) -
     }
 }
 
-/// The whole line of the answer, so that nothing is printed before memory is refused.
-fn answered<R: Read>(alloc: Global, reader: &mut R) -> Result<String, Failure> {
-    let bytes = read_to_end(alloc, reader)?;
-    let value = parse(alloc, &bytes)?;
-    let request = read_request(alloc, &value)?;
-    let segments = request.segments(alloc)?;
+fn read_and_answer<R: Read>(alloc: Global, reader: &mut R) -> Result<String, Failure>
+    ensures { IfOk result (λ line. IfSome (R.remaining reader.old) (λ request. IsAnswer request (string_bytes line))) }
+{
+    let request = read_to_end(alloc, reader)?;
+    respond(alloc, &request)
+}
+
+/// The line that answers a request. It is made as a whole, so that nothing is printed before memory is refused.
+pub fn respond(alloc: Global, request: &[u8]) -> Result<String, Failure>
+    ensures answered { IfOk result (λ line. IsAnswer request.now (string_bytes line)) }
+    ensures refused { result ≡ Err (Failure.Refused IntOutlineError.CoordinateOutOfRange) → IsRefused request.now }
+    ensures unreadable { result ≡ Err Failure.Unreadable → IsUtf8 request.now → request_in request.now ≡ None }
+{
+    let value = parse(alloc, request)?;
+    let outline = read_request(alloc, &value)?;
+    let segments = outline.segments(alloc)?;
     Ok(edges_line(alloc, &segments)?)
 }
 
-/// The bytes that the reader has left. An error of its own is unreadable, and only a refused growth is want of memory.
-fn read_to_end<R: Read>(alloc: Global, reader: &mut R) -> Result<Vec<u8>, Failure> {
-    let mut bytes = Vec::new(alloc);
-    let mut chunk = [0u8; CHUNK];
-    for _ in 0..u64::MAX {
-        match reader.read(&mut chunk) {
-            Ok(0) => return Ok(bytes),
-            Ok(count) => bytes.extend_from_slice(&chunk[..count])?,
-            Err(error) => {
-                if error.kind() != ErrorKind::Interrupted {
-                    return Err(Failure::Unreadable);
-                }
-            }
-        }
-    }
-    Err(Failure::Unreadable)
-}
-
-fn print<W: Write>(writer: &mut W, answer: &Result<String, Failure>) -> io::Result<()> {
+fn print<W: Write>(writer: &mut W, answer: &Result<String, Failure>) -> io::Result<()>
+    ensures { OnOk result (IfOk answer.now (λ line. Appends (W.contents writer.old) (W.contents writer.new) (string_bytes line))) }
+{
     match answer {
         Ok(line) => writer.write_all(line.as_bytes())?,
         Err(failure) => writeln!(writer, "{failure}")?,

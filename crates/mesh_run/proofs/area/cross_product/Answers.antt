@@ -1,6 +1,5 @@
 -- Products of coordinates are far below what 128 bits hold.
-use Rattle.std.proofs.Common.{◌≡◌, sym, refl}
-use Rattle.std.specs.Prelude.{ℤ, ◌*ℤ◌, ◌-ℤ◌}
+use Rattle.std.proofs.Common.{sym, refl}
 use Rattle.std.proofs.lemmas.Int.{to_z-of_z}
 use mir.Syntax.{w128}
 use Rattle.mesh_run.proofs.Areas.{product_kept, cross_fits, cross_size}

@@ -1,10 +1,7 @@
-use Rattle.std.proofs.Common.{◌≡◌, ◌^◌, ◌*◌, ◌+◌, ◌<◌, ◌≤◌, suc, length, drop, [], ◌∙◌, ap, sym, arith, rules}
+use Rattle.std.proofs.Common.{◌^◌, ◌*◌, ◌+◌, ◌<◌, ◌≤◌, length, sym, arith, rules}
 use Rattle.std.specs.Prelude.{◌+ℤ◌, unsigned_abs}
-use Rattle.std.proofs.lemmas.List.{drop_all}
 use mir.Syntax.{w128}
-use mir.Val.{to_z, of_z}
-use Rattle.mesh_num.specs.Plane.{cross}
-use Rattle.mesh_num.specs.Winding.{total, route, boundary}
+use mir.Val.{to_z}
 use Rattle.mesh_run.proofs.Areas.{sum_kept, sum_size, area_step, area_end}
 use Rattle.mesh_run.proofs.area.double_area.Goals as goal
 

@@ -1,5 +1,5 @@
 -- What fits a coordinate fits its wide type.
-use Rattle.std.proofs.Common.{◌≡◌, ◌≤◌, ◌*◌, arith, rules}
+use Rattle.std.proofs.Common.{◌*◌, arith, rules}
 use mir.Syntax.{w128}
 use mir.Val.{to_z, of_z}
 use Rattle.mesh_num.specs.Bounds.{IsWithin}

@@ -1,7 +1,5 @@
 -- The members' values, as a list, have a float where the members do.
-use Rattle.std.proofs.Common.{◌≡◌, ap, ◌∙◌, sym}
-use Rattle.serde_json.specs.View.{items_view}
-use Rattle.serde_json.specs.Written.{items_have_float}
+use Rattle.std.proofs.Common.{◌∙◌}
 use Rattle.mesh_run.proofs.JsonLists.{members-float}
 use Rattle.mesh_run.proofs.json.+has_float.Goals as goal
 

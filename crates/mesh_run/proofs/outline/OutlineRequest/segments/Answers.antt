@@ -7,7 +7,7 @@ use Rattle.mesh_num.specs.Plane.{Edge}
 use mir.Syntax.{w128}
 use mir.Val.{to_z, of_z, SFits}
 use Rattle.mesh_run.specs.DoubleArea.{double_area}
-use Rattle.mesh_run.proofs.Serving.{movable_outer, movable_inner, served_outer, served_inner, served_none}
+use Rattle.mesh_run.proofs.ContoursServed.{movable_outer, movable_inner, served_outer, served_inner, served_none}
 use Rattle.mesh_run.proofs.outline.OutlineRequest.segments.Goals as goal
 use Rattle.mesh_run.proofs.outline.OutlineRequest.segments.Goals.{then-area-gt0+in_ok-build, else-area-gt0+then-area-lt0+in_ok-build-2, else-area-gt0+else-area-lt0}
 
