@@ -10,7 +10,7 @@ use Rattle.mesh_num.specs.Plane.{Point, Edge}
 use Rattle.mesh_num.specs.Winding.{route, boundary}
 use Rattle.mesh_num.specs.Segments.{SignedEdge, edge_of, edges_of, segments_of, proper_edges, IsSubject}
 use Rattle.mesh_num.proofs.ClosedLists.{woven}
-use Rattle.mesh_num.proofs.Subjects.{segments_of-subjects, segment_between-subjects}
+use Rattle.mesh_num.proofs.Subjects.{segments_of_subjects, segment_between_subject}
 use Rattle.mesh_join.specs.Cleaned.{cleaned_sections, IsClean}
 use Rattle.mesh_join.proofs.CleaningEnds.{cleaned_sections-ends}
 use Rattle.mesh_num.proofs.SegmentLists.{edges_of_segments, edges_of-append}
@@ -93,16 +93,16 @@ continues unit offset p (e ∷ es) z fp fz fits closed =
 
 -- each segment of the walk is as `Segment::subject` gives it
 woven_subjects : (offset : ℤ) (p : Section) (xs : List Section) (z : Section) → All IsSubject (woven (step_segments offset) (corner_segments offset) p xs z)
-woven_subjects offset p [] z = segments_of-subjects (corner_edges (parts offset) bevel (p, z))
+woven_subjects offset p [] z = segments_of_subjects (corner_edges (parts offset) bevel (p, z))
 woven_subjects offset p (x ∷ xs) z =
     All-append IsSubject (step_segments offset p x) (woven (step_segments offset) (corner_segments offset) x xs z)
-    (All-append IsSubject (corner_segments offset (p, x)) (top_segments x) (segments_of-subjects (corner_edges (parts offset) bevel (p, x))) (segment_between-subjects x.a_top x.b_top))
+    (All-append IsSubject (corner_segments offset (p, x)) (top_segments x) (segments_of_subjects (corner_edges (parts offset) bevel (p, x))) (segment_between_subject x.a_top x.b_top))
     (woven_subjects offset x xs z)
 
 walk_subjects : (unit : ℕ) (offset : ℤ) (e : Edge) (es : List Edge) → All IsSubject (walk_segments unit offset (e ∷ es))
 walk_subjects unit offset e es =
     let s = section_of unit offset e in
-    All-append IsSubject (top_segments s) (to_come unit offset s es s) (segment_between-subjects s.a_top s.b_top) (woven_subjects offset s (map (section_of unit offset) es) s)
+    All-append IsSubject (top_segments s) (to_come unit offset s es s) (segment_between_subject s.a_top s.b_top) (woven_subjects offset s (map (section_of unit offset) es) s)
 
 -- the whole walk adds the outline
 pub walk_adds : (unit : ℕ) (offset : ℤ) (contour : List Edge) (e : Edge) (es : List Edge) (old new : List SignedEdge) →

@@ -16,7 +16,7 @@ use Rattle.mesh_num.proofs.Parts.{direction_short}
 use Rattle.mesh_num.proofs.Scaling.{scaled_direction_bounded}
 use Rattle.mesh_join.specs.Joins.{bevel_padding}
 use Rattle.i_overlay_mesh.specs.Outline.{Section, Corner, top_edge, section_of, corner_edges, drawn_edges, parts, outline_edges, bevel}
-use Rattle.i_overlay_mesh.specs.Padding.{outline_padding, IsWithinPadding, IsNear}
+use Rattle.i_overlay_mesh.specs.Padding.{outline_padding, ArePathsSafe, IsWithinPadding, IsNear}
 use Rattle.i_overlay_mesh.proofs.OutlineCount.{apart_long}
 
 -- ---- paddings
@@ -40,6 +40,18 @@ safe_within_less unit padding less p least h s = (
     y = record { low = omega (arith, ints, s.0.y.low); high = omega (arith, ints, s.1.y.high) };
   },
 )
+
+-- paths that are safe within the padding of an outline are so within that of each of its offsets
+paths_safe_less : (unit : ℕ) (padding less : ℤ) (paths : List (List Point)) → pos 0 ≤ℤ less → less ≤ℤ padding → ArePathsSafe unit padding paths → ArePathsSafe unit less paths
+paths_safe_less unit padding less paths least h safe =
+    All-weaker (λ (path : List Point). All (IsSafeWidened unit padding) path) (λ (path : List Point). All (IsSafeWidened unit less) path)
+    (λ path all. All-weaker (IsSafeWidened unit padding) (IsSafeWidened unit less) (λ p s. safe_within_less unit padding less p least h s) path all) paths safe
+
+pub outer_accepted : (unit : ℕ) (outer inner : ℤ) (paths : List (List Point)) → ArePathsSafe unit (outline_padding outer inner) paths → ArePathsSafe unit (bevel_padding outer) paths
+outer_accepted unit outer inner paths safe = paths_safe_less unit (outline_padding outer inner) (bevel_padding outer) paths (omega (arith, ints)) (outer_covered outer inner) safe
+
+pub inner_accepted : (unit : ℕ) (outer inner : ℤ) (paths : List (List Point)) → ArePathsSafe unit (outline_padding outer inner) paths → ArePathsSafe unit (bevel_padding inner) paths
+inner_accepted unit outer inner paths safe = paths_safe_less unit (outline_padding outer inner) (bevel_padding inner) paths (omega (arith, ints)) (inner_covered outer inner) safe
 
 -- a point within the padding of one that stays safe is safe
 pub within_safe : (unit : ℕ) (padding : ℤ) (v p : Point) → IsSafeWidened unit padding v → IsWithinPadding padding v p → IsSafe unit p

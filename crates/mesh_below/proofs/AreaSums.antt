@@ -78,9 +78,9 @@ added_of a b k m n ha hb le mm mn =
     let sum = held (a +ℤ b) (k + m) (sum_size a b k m ha hb) (omega arith) in
     let same : added a b ≡ a +ℤ b = ap (λ (z : ℤ). to_z w128 (of_z w128 (a +ℤ z))) own.kept ∙ sum.kept in
     record {
-        fits = subst (λ (z : ℤ). SFits w128 (a +ℤ z)) (sym own.kept) sum.fits;
-        same = same;
-        size = subst (λ (z : ℤ). unsigned_abs z ≤ n) (sym same) (omega (arith, sum_size a b k m ha hb));
+      fits = subst (λ (z : ℤ). SFits w128 (a +ℤ z)) (sym own.kept) sum.fits;
+      same = same;
+      size = subst (λ (z : ℤ). unsigned_abs z ≤ n) (sym same) (omega (arith, sum_size a b k m ha hb));
     }
 
 times_below : (m i : ℕ) → m ≤ 2 ^ 63 → i < 2 ^ 64 → m * i < 2 ^ 127
@@ -97,8 +97,8 @@ closed_added f m ps i before a b s hb mm l =
 pub closed_next : (f : Point → Point → ℤ) (m : ℕ) (ps : List Point) (i : ℕ) (before : Point) (a b : ℤ) → ClosedSum f m ps i before a → Added a b (m * i) → i < length ps →
     b ≡ f before (point_at ps i) → ClosedSum f m ps (i + 1) (point_at ps i) (added a b)
 closed_next f m ps i before a b s d low term = record {
-    value = omega (arith, linear, d.same, s.value, term, route_place f before (point_at ps 0) ps i low);
-    size = omega (arith, d.size);
+  value = omega (arith, linear, d.same, s.value, term, route_place f before (point_at ps 0) ps i low);
+  size = omega (arith, d.size);
 }
 
 pub closed_end : (f : Point → Point → ℤ) (m : ℕ) (ps : List Point) (i : ℕ) (before : Point) (a b : ℤ) → ClosedSum f m ps i before a → Added a b (m * i) → length ps ≤ i →

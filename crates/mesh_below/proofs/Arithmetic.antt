@@ -1,19 +1,17 @@
 -- Lemmas over whole numbers: sums and products that fit 128 bits, and what is kept of them there.
-use Rattle.std.proofs.Common.{◌≡◌, ℕ, ◌+◌, ◌*◌, ◌/◌, ◌^◌, ◌<◌, ◌≤◌, ◌⊎◌, inl, inr, Bool, true, false, sym, ◌∙◌, ap, refl, arith, zero, suc, lit≤, eqb}
-use Rattle.std.specs.Prelude.{ℤ, pos, negsuc, ◌+ℤ◌, ◌-ℤ◌, ◌*ℤ◌, neg_ℤ, ◌≤ℤ◌, ◌<ℤ◌, unsigned_abs, FitsSigned}
+use Rattle.std.proofs.Common.{◌≡◌, ℕ, ◌+◌, ◌*◌, ◌/◌, ◌^◌, ◌<◌, ◌≤◌, Bool, true, false, sym, ◌∙◌, ap, refl, arith, zero, suc, lit≤, eqb}
+use Rattle.std.specs.Prelude.{ℤ, pos, negsuc, ◌+ℤ◌, ◌-ℤ◌, ◌*ℤ◌, neg_ℤ, ◌≤ℤ◌, ◌<ℤ◌, unsigned_abs}
 use Rattle.std.proofs.lemmas.Int.{ints, to_z-of_z, to_z_pos, unsigned_abs-mul, by_lt_z}
 use Rattle.std.proofs.lemmas.Nat.{mul-lt}
 use Rattle.std.proofs.lemmas.Bool.{false≢true, true≢false, eqb-true, eq-eqb}
 use Rattle.std.proofs.Math.Nat.{div-eq_of_lt, div-le_self}
 use lib.Signed.{lt_z}
-use lib.IntN.{neg_ℤ-neg_ℤ}
 use mathlib.Core.Bool.{beq}
 use mir.Syntax.{w32, w128}
 use mir.Val.{to_z, of_z, SFits}
-use Rattle.mesh_num.specs.Bounds.{IsSmall, IsSafe}
-use Rattle.mesh_num.specs.Rounding.{rounded}
+use Rattle.mesh_num.specs.Bounds.{IsSmall}
 use Rattle.mesh_num.proofs.Whole.{linear}
-use Rattle.mesh_below.specs.Split.{rounded_quotient, IsBetween, AreOpposite}
+use Rattle.mesh_below.specs.Split.{rounded_quotient, IsBetween}
 
 pub small_fits : (h : ℕ) (z : ℤ) → h ≤ 2 ^ 127 → IsSmall h z → SFits w128 z
 small_fits h z m s = omega (arith, ints, s.low, s.high)
@@ -85,7 +83,7 @@ pub quotient_below : (n d : ℤ) (s : ℕ) → IsSmall (2 ^ 100) n → IsSmall (
     → to_z w128 (of_z w128 (pos 0 -ℤ to_z w128 s)) ≡ rounded_quotient n d
 quotient_below n d s small_n small_d nonzero e other =
     let p : (2 * unsigned_abs n + unsigned_abs d) / (2 * unsigned_abs d) < 2 ^ 102 =
-        small_quotient (unsigned_abs n) (unsigned_abs d) (small_size (2 ^ 100) n small_n) (small_size (2 ^ 100) d small_d) nonzero in
+    small_quotient (unsigned_abs n) (unsigned_abs d) (small_size (2 ^ 100) n small_n) (small_size (2 ^ 100) d small_d) nonzero in
     let q : s < 2 ^ 102 = omega arith in
     let r : to_z w128 s ≡ pos s = to_z_pos w128 s (omega arith) in
     let t : IsSmall (2 ^ 103) (pos 0 -ℤ to_z w128 s) = record { low = omega (arith, ints); high = omega (arith, ints) } in
@@ -94,4 +92,4 @@ quotient_below n d s small_n small_d nonzero e other =
 
 -- the test of 0 on the bits of a number
 pub zero_bits : (z : ℤ) → SFits w128 z → (eqb (of_z w128 z) 0 ≡ true → z ≡ pos 0) × (z ≡ pos 0 → eqb (of_z w128 z) 0 ≡ true)
-zero_bits z f = ((λ h. let e = eqb-true (of_z w128 z) 0 h in omega (arith, ints)) , λ h. eq-eqb (of_z w128 z) 0 (omega (arith, ints)))
+zero_bits z f = ((λ h. let e = eqb-true (of_z w128 z) 0 h in omega (arith, ints)), λ h. eq-eqb (of_z w128 z) 0 (omega (arith, ints)))

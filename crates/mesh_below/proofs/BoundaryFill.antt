@@ -40,11 +40,11 @@ no_count s (e ∷ es) h k =
     let own = by (same_edge s e) (count s es) (count s (e ∷ es)) h (count_more s e es) in
     let other = by (same_edge (back s) e) (count (back s) es) (count (back s) (e ∷ es)) k (count_more (back s) e es) in
     or_from (same_edge s e || same_edge s (back e)) (occurs s es)
-        (or_from (same_edge s e) (same_edge s (back e)) own.0 (sym (edge_back s e) ∙ other.0)) (no_count s es own.1 other.1)
+    (or_from (same_edge s e) (same_edge s (back e)) own.0 (sym (edge_back s e) ∙ other.0)) (no_count s es own.1 other.1)
   where
     by : (b : Bool) (n m : ℕ) → m ≡ 0 → pos m ≡ bit b +ℤ pos n → (b ≡ false) × (n ≡ 0)
     by true n m z h = absurd (omega (arith, ints))
-    by false n m z h = let e : n ≡ 0 = omega (arith, ints) in (refl , e)
+    by false n m z h = let e : n ≡ 0 = omega (arith, ints) in (refl, e)
 
 -- ---- the sides of an edge and of the edge back
 apart_test : (a b : ℤ) → a <ℤ b → int_eq b a ≡ false
@@ -62,19 +62,21 @@ not_less_test a b h = grind (arith, ints)
 
 pub rises_up : (s : Edge) → s.0.1 <ℤ s.1.1 → (rises s ≡ true) × (rises (back s) ≡ false)
 unfolding rises
-rises_up s up =
-    ((λ i. less_test s.0.1 s.1.1 up i || (int_eq s.0.1 s.1.1 && int_lt s.1.0 s.0.0))
-    , (λ i. not_less_test s.1.1 s.0.1 (omega (arith, ints)) i || (apart_test s.0.1 s.1.1 up i && int_lt s.0.0 s.1.0)))
+rises_up s up = (
+  (λ i. less_test s.0.1 s.1.1 up i || (int_eq s.0.1 s.1.1 && int_lt s.1.0 s.0.0)),
+  (λ i. not_less_test s.1.1 s.0.1 (omega (arith, ints)) i || (apart_test s.0.1 s.1.1 up i && int_lt s.0.0 s.1.0)),
+)
 
 pub rises_flat : (s : Edge) → s.0.1 ≡ s.1.1 → s.0.0 <ℤ s.1.0 → (rises s ≡ false) × (rises (back s) ≡ true)
 unfolding rises
-rises_flat s flat east =
-    (or_from (int_lt s.0.1 s.1.1) (int_eq s.0.1 s.1.1 && int_lt s.1.0 s.0.0) (not_less_test s.0.1 s.1.1 (omega (arith, ints)))
-        ((λ i. (Decides-int_eq s.0.1 s.1.1).1 flat i && not_less_test s.1.0 s.0.0 (omega (arith, ints)) i))
-    , (λ i. not_less_test s.1.1 s.0.1 (omega (arith, ints)) i || ((Decides-int_eq s.1.1 s.0.1).1 (sym flat) i && less_test s.0.0 s.1.0 east i)))
+rises_flat s flat east = (
+  or_from (int_lt s.0.1 s.1.1) (int_eq s.0.1 s.1.1 && int_lt s.1.0 s.0.0) (not_less_test s.0.1 s.1.1 (omega (arith, ints)))
+      ((λ i. (Decides-int_eq s.0.1 s.1.1).1 flat i && not_less_test s.1.0 s.0.0 (omega (arith, ints)) i)),
+  (λ i. not_less_test s.1.1 s.0.1 (omega (arith, ints)) i || ((Decides-int_eq s.1.1 s.0.1).1 (sym flat) i && less_test s.0.0 s.1.0 east i)),
+)
 
 beside_back : (es : List Edge) (s : Edge) → winding_beside es (back s) ≡ winding_beside es s
-beside_back es s = λ i. winding 2 (commuted s.1.0 s.0.0 i , commuted s.1.1 s.0.1 i) es
+beside_back es s = λ i. winding 2 (commuted s.1.0 s.0.0 i, commuted s.1.1 s.0.1 i) es
   where
     commuted : (a b : ℤ) → a +ℤ b ≡ b +ℤ a
     commuted a b = omega (arith, ints)
@@ -90,15 +92,16 @@ pub sides_back : (es : List Edge) (s : Edge) → Leans s →
     (left_winding es (back s) ≡ right_winding es s) × (right_winding es (back s) ≡ left_winding es s)
 sides_back es s lean =
     ⊎_elim
-        (λ (up : s.0.1 <ℤ s.1.1). let r = rises_up s up in by true false (rises s) (rises (back s)) r.0 r.1 refl)
-        (λ (flat : (s.0.1 ≡ s.1.1) × (s.0.0 <ℤ s.1.0)). let r = rises_flat s flat.0 flat.1 in by false true (rises s) (rises (back s)) r.0 r.1 refl)
-        lean
+    (λ (up : s.0.1 <ℤ s.1.1). let r = rises_up s up in by true false (rises s) (rises (back s)) r.0 r.1 refl)
+    (λ (flat : (s.0.1 ≡ s.1.1) × (s.0.0 <ℤ s.1.0)). let r = rises_flat s flat.0 flat.1 in by false true (rises s) (rises (back s)) r.0 r.1 refl)
+    lean
   where
     bare : (b c : Bool) (w v n k : ℤ) → c ≡ not b → v ≡ w → k ≡ neg_ℤ n → (left_by c v k ≡ right_by b w n) × (right_by c v k ≡ left_by b w n)
     bare true true w v n k e f g = absurd (false≢true (sym e))
-    bare true false w v n k e f g = let x : v ≡ w = f in let y : v -ℤ k ≡ w +ℤ n = omega (arith, ints) in (x , y)
-    bare false true w v n k e f g = let x : v +ℤ k ≡ w -ℤ n = omega (arith, ints) in let y : v ≡ w = f in (x , y)
+    bare true false w v n k e f g = let x : v ≡ w = f in let y : v -ℤ k ≡ w +ℤ n = omega (arith, ints) in (x, y)
+    bare false true w v n k e f g = let x : v +ℤ k ≡ w -ℤ n = omega (arith, ints) in let y : v ≡ w = f in (x, y)
     bare false false w v n k e f g = absurd (false≢true e)
+
     by : (b c x y : Bool) → x ≡ b → y ≡ c → c ≡ not b →
         (left_by y (winding_beside es (back s)) (net (back s) es) ≡ right_by x (winding_beside es s) (net s es))
         × (right_by y (winding_beside es (back s)) (net (back s) es) ≡ left_by x (winding_beside es s) (net s es))
@@ -118,27 +121,31 @@ boundary_net es bs fill is s lean stands =
     let sides = sides_back es s lean in
     net_counts s bs
     ∙ bare_count (count s bs) (count (back s) bs) (fill (left_winding es s)) (fill (right_winding es s))
-        (is.counts s ∙ (λ i. cond (stands i && (fill (left_winding es s) && not (fill (right_winding es s)))) 1 0))
-        (is.counts (back s) ∙ (λ i. cond ((occurs_back s es ∙ stands) i && (fill (sides.0 i) && not (fill (sides.1 i)))) 1 0))
+    (is.counts s ∙ (λ i. cond (stands i && (fill (left_winding es s) && not (fill (right_winding es s)))) 1 0))
+    (is.counts (back s) ∙ (λ i. cond ((occurs_back s es ∙ stands) i && (fill (sides.0 i) && not (fill (sides.1 i)))) 1 0))
 
 pub boundary_cover : (es bs : List Edge) (fill : ℤ → Bool) → IsBoundary es fill bs → (e : Edge) → occurs e bs ≡ true → occurs e es ≡ true
 boundary_cover es bs fill is e stands =
     ⊎_elim (λ (t : occurs e es ≡ true). t)
-        (λ (f : occurs e es ≡ false).
-            absurd (both_ways (occurs e bs)
-                (no_count e bs
-                    (is.counts e ∙ (λ i. cond (f i && (fill (left_winding es e) && not (fill (right_winding es e)))) 1 0))
-                    (is.counts (back e) ∙ (λ i. cond ((occurs_back e es ∙ f) i && (fill (left_winding es (back e)) && not (fill (right_winding es (back e))))) 1 0)))
-                stands))
-        (cases_Bool (occurs e es))
+    (λ (f : occurs e es ≡ false).
+    absurd (both_ways (occurs e bs)
+    (no_count e bs
+    (is.counts e ∙ (λ i. cond (f i && (fill (left_winding es e) && not (fill (right_winding es e)))) 1 0))
+    (is.counts (back e) ∙ (λ i. cond ((occurs_back e es ∙ f) i && (fill (left_winding es (back e)) && not (fill (right_winding es (back e))))) 1 0)))
+    stands))
+    (cases_Bool (occurs e es))
 
 -- ---- sums over the boundary
 net_sums : (es bs : List Edge) (fill : ℤ → Bool) → IsBoundary es fill bs → (g : Edge → ℤ) → (rs : List Edge) → Each Leans rs → ((s : Edge) → occurs s rs ≡ true → occurs s es ≡ true) →
     sum_of (λ (s : Edge). net s bs *ℤ g s) rs ≡ sum_of (λ (s : Edge). (bit (fill (left_winding es s)) -ℤ bit (fill (right_winding es s))) *ℤ g s) rs
 net_sums es bs fill is g [] lean known = refl
 net_sums es bs fill is g (s ∷ rs) lean known =
-    omega (arith, linear, ap (λ (z : ℤ). z *ℤ g s) (boundary_net es bs fill is s lean.0 (known s (occurs_head s rs))),
-        net_sums es bs fill is g rs lean.1 (λ (e : Edge) (o : occurs e rs ≡ true). known e (or_right (same_ends e s) (occurs e rs) o)))
+    omega (
+      arith,
+      linear,
+      ap (λ (z : ℤ). z *ℤ g s) (boundary_net es bs fill is s lean.0 (known s (occurs_head s rs))),
+      net_sums es bs fill is g rs lean.1 (λ (e : Edge) (o : occurs e rs ≡ true). known e (or_right (same_ends e s) (occurs e rs) o)),
+    )
 
 -- an odd number of an edge that is a crossing at one fine point sums up over the boundary to the fill of its sum over the segments
 pub boundary_sum : (es rs bs : List Edge) (fill : ℤ → Bool) → Setting es rs → IsBoundary es fill bs → fill (pos 0) ≡ false →
@@ -147,15 +154,15 @@ boundary_sum es rs bs fill set is empty g odd fine =
     let d : Edge → ℤ = λ (s : Edge). bit (fill (left_winding es s)) -ℤ bit (fill (right_winding es s)) in
     let known : (s : Edge) → occurs s rs ≡ true → occurs s es ≡ true = λ (s : Edge) (o : occurs s rs ≡ true). sym (set.keys.same s) ∙ o in
     let own : sum_of g es ≡ sum_of (λ (s : Edge). net s es *ℤ g s) rs =
-        grouped g odd rs set.keys.leaning set.keys.distinct es (λ (e : Edge) (o : occurs e es ≡ true). set.keys.same e ∙ o) in
+    grouped g odd rs set.keys.leaning set.keys.distinct es (λ (e : Edge) (o : occurs e es ≡ true). set.keys.same e ∙ o) in
     let outer : sum_of g bs ≡ sum_of (λ (s : Edge). net s bs *ℤ g s) rs =
-        grouped g odd rs set.keys.leaning set.keys.distinct bs (λ (e : Edge) (o : occurs e bs ≡ true). set.keys.same e ∙ boundary_cover es bs fill is e o) in
+    grouped g odd rs set.keys.leaning set.keys.distinct bs (λ (e : Edge) (o : occurs e bs ≡ true). set.keys.same e ∙ boundary_cover es bs fill is e o) in
     let along_line : sum_of (λ (s : Edge). d s *ℤ g s) rs ≡ bit (fill (sum_of (λ (s : Edge). net s es *ℤ g s) rs)) -ℤ bit (fill (pos 0)) =
-        filled es rs set (λ (z : ℤ). bit (fill z)) d
-            (λ (s : Edge) (o : occurs s es ≡ true) (up : s.0.1 <ℤ s.1.1).
-                λ i. bit (fill (cond ((rises_up s up).0 i) (winding_beside es s +ℤ net s es) (winding_beside es s)))
-                    -ℤ bit (fill (cond ((rises_up s up).0 i) (winding_beside es s) (winding_beside es s -ℤ net s es))))
-            g fine in
+    filled es rs set (λ (z : ℤ). bit (fill z)) d
+    (λ (s : Edge) (o : occurs s es ≡ true) (up : s.0.1 <ℤ s.1.1).
+    λ i. bit (fill (cond ((rises_up s up).0 i) (winding_beside es s +ℤ net s es) (winding_beside es s)))
+    -ℤ bit (fill (cond ((rises_up s up).0 i) (winding_beside es s) (winding_beside es s -ℤ net s es))))
+    g fine in
     let none : bit (fill (pos 0)) ≡ pos 0 = ap bit empty in
     outer ∙ (net_sums es bs fill is g rs set.keys.leaning known
     ∙ (along_line ∙ (minus_none (bit (fill (sum_of (λ (s : Edge). net s es *ℤ g s) rs))) (bit (fill (pos 0))) none ∙ ap (λ (z : ℤ). bit (fill z)) (sym own))))

@@ -36,11 +36,11 @@ less_apart a b h e = omega (arith, ints)
 leans_apart : (s : Edge) → Leans s → same_point s.0 s.1 ≡ false
 leans_apart s lean =
     ⊎_elim (λ (t : same_point s.0 s.1 ≡ true).
-            let same : s.0 ≡ s.1 = (decides_point s.0 s.1).0 t in
-            ⊎_elim (λ (h : s.0.1 <ℤ s.1.1). absurd (less_apart s.0.1 s.1.1 h (ap (λ (v : Point). v.1) same)))
-                (λ (h : (s.0.1 ≡ s.1.1) × (s.0.0 <ℤ s.1.0)). absurd (less_apart s.0.0 s.1.0 h.1 (ap (λ (v : Point). v.0) same))) lean)
-        (λ (f : same_point s.0 s.1 ≡ false). f)
-        (cases_Bool (same_point s.0 s.1))
+    let same : s.0 ≡ s.1 = (decides_point s.0 s.1).0 t in
+    ⊎_elim (λ (h : s.0.1 <ℤ s.1.1). absurd (less_apart s.0.1 s.1.1 h (ap (λ (v : Point). v.1) same)))
+    (λ (h : (s.0.1 ≡ s.1.1) × (s.0.0 <ℤ s.1.0)). absurd (less_apart s.0.0 s.1.0 h.1 (ap (λ (v : Point). v.0) same))) lean)
+    (λ (f : same_point s.0 s.1 ≡ false). f)
+    (cases_Bool (same_point s.0 s.1))
 
 pub occurs_ends : (a b : Edge) (xs : List Edge) → same_ends a b ≡ true → occurs a xs ≡ occurs b xs
 occurs_ends a b [] h = refl
@@ -55,7 +55,7 @@ occurs_head e es = λ i. ends_self e i || occurs e es
 pub edge_back : (s e : Edge) → same_edge (back s) e ≡ same_edge s (back e)
 edge_back s e =
     same_from_decides (same_edge (back s) e) (same_edge s (back e)) (decides_edge (back s) e)
-        (Decides-like (same_edge s (back e)) (λ (h : s ≡ back e). ap back h) (λ (h : back s ≡ e). ap back h) (decides_edge s (back e)))
+    (Decides-like (same_edge s (back e)) (λ (h : s ≡ back e). ap back h) (λ (h : back s ≡ e). ap back h) (decides_edge s (back e)))
 
 pub along_back : (s e : Edge) → along (back s) e ≡ neg_ℤ (along s e)
 unfolding along
@@ -81,11 +81,11 @@ none_along f e (s ∷ rs) h =
 own_key : (f : Edge → ℤ) → ((e : Edge) → f (back e) ≡ neg_ℤ (f e)) → (s e : Edge) → Leans s → same_ends e s ≡ true → along s e *ℤ f s ≡ f e
 own_key f odd s e lean h =
     ⊎_elim
-        (λ (x : e ≡ s). subst (λ (d : Edge). along s d *ℤ f s ≡ f d) (sym x)
-            (ap (λ (z : ℤ). z *ℤ f s) (along_self s (leans_apart s lean)) ∙ one_mul (f s)))
-        (λ (x : e ≡ back s). subst (λ (d : Edge). along s d *ℤ f s ≡ f d) (sym x)
-            (ap (λ (z : ℤ). z *ℤ f s) (along_turned s s ∙ ap neg_ℤ (along_self s (leans_apart s lean))) ∙ (minus_one (f s) ∙ sym (odd s))))
-        ((decides_ends e s).0 h)
+    (λ (x : e ≡ s). subst (λ (d : Edge). along s d *ℤ f s ≡ f d) (sym x)
+    (ap (λ (z : ℤ). z *ℤ f s) (along_self s (leans_apart s lean)) ∙ one_mul (f s)))
+    (λ (x : e ≡ back s). subst (λ (d : Edge). along s d *ℤ f s ≡ f d) (sym x)
+    (ap (λ (z : ℤ). z *ℤ f s) (along_turned s s ∙ ap neg_ℤ (along_self s (leans_apart s lean))) ∙ (minus_one (f s) ∙ sym (odd s))))
+    ((decides_ends e s).0 h)
   where
     minus_one : (x : ℤ) → neg_ℤ (pos 1) *ℤ x ≡ neg_ℤ x
     minus_one x = omega (arith, ints)
@@ -95,13 +95,13 @@ pub pick : (f : Edge → ℤ) → ((e : Edge) → f (back e) ≡ neg_ℤ (f e)) 
 pick f odd e [] lean distinct h = absurd (false≢true h)
 pick f odd e (s ∷ rs) lean distinct h =
     ⊎_elim
-        (λ (t : same_ends e s ≡ true).
-            omega (arith, linear, own_key f odd s e lean.0 t, none_along f e rs (occurs_ends e s rs t ∙ distinct.0)))
-        (λ (n : same_ends e s ≡ false).
-            let rest : occurs e rs ≡ true = sym (ap (λ (b : Bool). b || occurs e rs) n) ∙ h in
-            let none : along s e *ℤ f s ≡ pos 0 *ℤ f s = ap (λ (z : ℤ). z *ℤ f s) (not_along s e (ends_sym s e ∙ n)) in
-            omega (arith, linear, none, zero_mul (f s), pick f odd e rs lean.1 distinct.1 rest))
-        (cases_Bool (same_ends e s))
+    (λ (t : same_ends e s ≡ true).
+    omega (arith, linear, own_key f odd s e lean.0 t, none_along f e rs (occurs_ends e s rs t ∙ distinct.0)))
+    (λ (n : same_ends e s ≡ false).
+    let rest : occurs e rs ≡ true = sym (ap (λ (b : Bool). b || occurs e rs) n) ∙ h in
+    let none : along s e *ℤ f s ≡ pos 0 *ℤ f s = ap (λ (z : ℤ). z *ℤ f s) (not_along s e (ends_sym s e ∙ n)) in
+    omega (arith, linear, none, zero_mul (f s), pick f odd e rs lean.1 distinct.1 rest))
+    (cases_Bool (same_ends e s))
   where
     zero_mul : (x : ℤ) → pos 0 *ℤ x ≡ pos 0
     zero_mul x = omega (arith, ints)
@@ -124,8 +124,13 @@ pub grouped : (f : Edge → ℤ) → ((e : Edge) → f (back e) ≡ neg_ℤ (f e
     sum_of f es ≡ sum_of (λ (s : Edge). net s es *ℤ f s) rs
 grouped f odd rs lean distinct [] cover = sym (no_sum f rs)
 grouped f odd rs lean distinct (e ∷ es) cover =
-    omega (arith, linear, split_sum f e es rs, pick f odd e rs lean distinct (cover e (occurs_head e es)),
-        grouped f odd rs lean distinct es (λ (d : Edge) (o : occurs d es ≡ true). cover d (or_right (same_ends d e) (occurs d es) o)))
+    omega (
+      arith,
+      linear,
+      split_sum f e es rs,
+      pick f odd e rs lean distinct (cover e (occurs_head e es)),
+      grouped f odd rs lean distinct es (λ (d : Edge) (o : occurs d es ≡ true). cover d (or_right (same_ends d e) (occurs d es) o)),
+    )
 
 -- ---- the keys of a list
 abbrev leaning_of : Bool → Edge → Edge
@@ -149,12 +154,12 @@ leaning_ends false e = (decides_ends (back e) e).1 (inr refl)
 lean_yes : (a b c d : ℤ) → (int_lt b d || (int_eq b d && int_lt a c)) ≡ true → (b <ℤ d) ⊎ ((b ≡ d) × (a <ℤ c))
 lean_yes a b c d h =
     ⊎_elim (λ (x : int_lt b d ≡ true). inl (grind (arith, ints)))
-        (λ (x : (int_eq b d && int_lt a c) ≡ true).
-            let parts = and_parts (int_eq b d) (int_lt a c) x in
-            let same : b ≡ d = (Decides-int_eq b d).0 parts.0 in
-            let less : a <ℤ c = lt_from a c parts.1 in
-            inr (same , less))
-        (or_cases (int_lt b d) (int_eq b d && int_lt a c) h)
+    (λ (x : (int_eq b d && int_lt a c) ≡ true).
+    let parts = and_parts (int_eq b d) (int_lt a c) x in
+    let same : b ≡ d = (Decides-int_eq b d).0 parts.0 in
+    let less : a <ℤ c = lt_from a c parts.1 in
+    inr (same, less))
+    (or_cases (int_lt b d) (int_eq b d && int_lt a c) h)
   where
     lt_from : (x y : ℤ) → int_lt x y ≡ true → x <ℤ y
     lt_from x y e = grind (arith, ints)
@@ -164,12 +169,12 @@ lean_not a b c d apart h =
     let parts = or_parts (int_lt b d) (int_eq b d && int_lt a c) h in
     let low : d ≤ℤ b = le_from b d parts.0 in
     by_lt_z d b (λ (x : d <ℤ b). inl x)
-        (λ (x : b ≤ℤ d).
-            let same : b ≡ d = omega (arith, ints) in
-            let test : int_lt a c ≡ false = sym (ap (λ (t : Bool). t && int_lt a c) ((Decides-int_eq b d).1 same)) ∙ parts.1 in
-            let left : c ≤ℤ a = le_from a c test in
-            by_lt_z c a (λ (y : c <ℤ a). inr (sym same , y))
-                (λ (y : a ≤ℤ c). let e : a ≡ c = omega (arith, ints) in absurd (apart (e , same))))
+    (λ (x : b ≤ℤ d).
+    let same : b ≡ d = omega (arith, ints) in
+    let test : int_lt a c ≡ false = sym (ap (λ (t : Bool). t && int_lt a c) ((Decides-int_eq b d).1 same)) ∙ parts.1 in
+    let left : c ≤ℤ a = le_from a c test in
+    by_lt_z c a (λ (y : c <ℤ a). inr (sym same, y))
+    (λ (y : a ≤ℤ c). let e : a ≡ c = omega (arith, ints) in absurd (apart (e, same))))
   where
     le_from : (x y : ℤ) → int_lt x y ≡ false → y ≤ℤ x
     le_from x y e = grind (arith, ints)
@@ -180,7 +185,7 @@ leaning_leans e apart =
   where
     by : (b : Bool) → leans e ≡ b → Leans (leaning_of b e)
     by true h = lean_yes e.0.0 e.0.1 e.1.0 e.1.1 h
-    by false h = lean_not e.0.0 e.0.1 e.1.0 e.1.1 (λ (x : (e.0.0 ≡ e.1.0) × (e.0.1 ≡ e.1.1)). apart (λ i. (x.0 i , x.1 i))) h
+    by false h = lean_not e.0.0 e.0.1 e.1.0 e.1.1 (λ (x : (e.0.0 ≡ e.1.0) × (e.0.1 ≡ e.1.1)). apart (λ i. (x.0 i, x.1 i))) h
 
 -- an edge leans, or the edge back does
 pub leaning_either : (e : Edge) → (e.0 ≡ e.1 → ⊥) → Leans e ⊎ Leans (back e)
@@ -198,15 +203,16 @@ keys_step (e ∷ es) apart =
     stands : (s : Edge) → occurs e (keys es) ≡ true → ((s : Edge) → occurs s (keys es) ≡ occurs s es) → occurs s (keys es) ≡ (same_ends s e || occurs s es)
     stands s old same =
         ⊎_elim
-            (λ (t : same_ends s e ≡ true). occurs_ends s e (keys es) t ∙ old ∙ sym (ap (λ (b : Bool). b || occurs s es) t))
-            (λ (n : same_ends s e ≡ false). same s ∙ sym (ap (λ (b : Bool). b || occurs s es) n))
-            (cases_Bool (same_ends s e))
+        (λ (t : same_ends s e ≡ true). occurs_ends s e (keys es) t ∙ old ∙ sym (ap (λ (b : Bool). b || occurs s es) t))
+        (λ (n : same_ends s e ≡ false). same s ∙ sym (ap (λ (b : Bool). b || occurs s es) n))
+        (cases_Bool (same_ends s e))
+
     by : (b : Bool) → occurs e (keys es) ≡ b → IsKeys es (keys es) → IsKeys (e ∷ es) (cond b (keys es) (leaning_of (leans e) e ∷ keys es))
     by true old k = record { same = λ (s : Edge). stands s old k.same; leaning = k.leaning; distinct = k.distinct }
     by false new k = record {
-        same = λ (s : Edge). λ i. (ends_along s (leaning_of (leans e) e) e (leaning_ends (leans e) e)) i || k.same s i;
-        leaning = (leaning_leans e (apart e (occurs_head e es)) , k.leaning);
-        distinct = (occurs_ends (leaning_of (leans e) e) e (keys es) (leaning_ends (leans e) e) ∙ new , k.distinct);
+      same = λ (s : Edge). λ i. (ends_along s (leaning_of (leans e) e) e (leaning_ends (leans e) e)) i || k.same s i;
+      leaning = (leaning_leans e (apart e (occurs_head e es)), k.leaning);
+      distinct = (occurs_ends (leaning_of (leans e) e) e (keys es) (leaning_ends (leans e) e) ∙ new, k.distinct);
     }
 
 pub keys_are : (es : List Edge) → IsProper es → IsKeys es (keys es)

@@ -21,7 +21,7 @@ add_sound e c ks box h = by (is_end c e) refl
   where
     by : (b : Bool) → is_end c e ≡ b → Each IsSound (cond b ks ((record { ends = e; at = c }) ∷ ks))
     by true t = h
-    by false t = (record { boxed = box; inner = t } , h)
+    by false t = (record { boxed = box; inner = t }, h)
 
 pub legal_sound : (es : List Edge) (ks : List Cut) → IsLegal es ks → Each IsSound ks
 legal_sound es ks legal = by legal
@@ -41,25 +41,25 @@ ProperEnds e = e.0 ≡ e.1 → ⊥
 
 each_append : (P : Edge → Type 0) (xs ys : List Edge) → Each P xs → Each P ys → Each P (xs ++ ys)
 each_append P [] ys h k = k
-each_append P (x ∷ xs) ys h k = (h.0 , each_append P xs ys h.1 k)
+each_append P (x ∷ xs) ys h k = (h.0, each_append P xs ys h.1 k)
 
 not_an_end : (k : Cut) (e : Edge) → IsSound k → same_ends e k.ends ≡ true → ((k.at ≡ e.0) ⊎ (k.at ≡ e.1)) → ⊥
 not_an_end k e h t ends =
     both_ways (is_end k.at k.ends) h.inner
-        ((decides_end k.at k.ends).1
-            (⊎_elim
-                (λ (x : e ≡ k.ends). subst (λ (d : Edge). (k.at ≡ d.0) ⊎ (k.at ≡ d.1)) x ends)
-                (λ (x : e ≡ back k.ends).
-                    ⊎_elim (λ (y : k.at ≡ e.0). inr (y ∙ ap (λ (d : Edge). d.0) x)) (λ (y : k.at ≡ e.1). inl (y ∙ ap (λ (d : Edge). d.1) x)) ends)
-                ((decides_ends e k.ends).0 t)))
+    ((decides_end k.at k.ends).1
+    (⊎_elim
+    (λ (x : e ≡ k.ends). subst (λ (d : Edge). (k.at ≡ d.0) ⊎ (k.at ≡ d.1)) x ends)
+    (λ (x : e ≡ back k.ends).
+    ⊎_elim (λ (y : k.at ≡ e.0). inr (y ∙ ap (λ (d : Edge). d.0) x)) (λ (y : k.at ≡ e.1). inl (y ∙ ap (λ (d : Edge). d.1) x)) ends)
+    ((decides_ends e k.ends).0 t)))
 
 cut_proper : (k : Cut) → IsSound k → (es : List Edge) → Each ProperEnds es → Each ProperEnds (cut k es)
 cut_proper k sound [] h = tt
 cut_proper k sound (e ∷ es) h = each_append ProperEnds (pieces k e) (cut k es) (by (same_ends e k.ends) refl) (cut_proper k sound es h.1)
   where
-    by : (b : Bool) → same_ends e k.ends ≡ b → Each ProperEnds (cond b ((e.0 , k.at) ∷ (k.at , e.1) ∷ []) (e ∷ []))
-    by true t = ((λ (x : e.0 ≡ k.at). not_an_end k e sound t (inl (sym x))) , ((λ (x : k.at ≡ e.1). not_an_end k e sound t (inr x)) , tt))
-    by false t = (h.0 , tt)
+    by : (b : Bool) → same_ends e k.ends ≡ b → Each ProperEnds (cond b ((e.0, k.at) ∷ (k.at, e.1) ∷ []) (e ∷ []))
+    by true t = ((λ (x : e.0 ≡ k.at). not_an_end k e sound t (inl (sym x))), ((λ (x : k.at ≡ e.1). not_an_end k e sound t (inr x)), tt))
+    by false t = (h.0, tt)
 
 pub after_proper_each : (ks : List Cut) → Each IsSound ks → (es : List Edge) → Each ProperEnds es → Each ProperEnds (after ks es)
 after_proper_each [] sound es h = h
@@ -75,13 +75,14 @@ each_proper es h e o = by (same_point e.0 e.1) refl
     found [] h o same = false≢true o
     found (d ∷ es) h o same =
         ⊎_elim
-            (λ (t : same_ends e d ≡ true).
-                ⊎_elim
-                    (λ (x : e ≡ d). h.0 (sym (ap (λ (v : Edge). v.0) x) ∙ (same ∙ ap (λ (v : Edge). v.1) x)))
-                    (λ (x : e ≡ back d). h.0 (sym (ap (λ (v : Edge). v.1) x) ∙ (sym same ∙ ap (λ (v : Edge). v.0) x)))
-                    ((decides_ends e d).0 t))
-            (λ (t : occurs e es ≡ true). found es h.1 t same)
-            (or_cases (same_ends e d) (occurs e es) o)
+        (λ (t : same_ends e d ≡ true).
+        ⊎_elim
+        (λ (x : e ≡ d). h.0 (sym (ap (λ (v : Edge). v.0) x) ∙ (same ∙ ap (λ (v : Edge). v.1) x)))
+        (λ (x : e ≡ back d). h.0 (sym (ap (λ (v : Edge). v.1) x) ∙ (sym same ∙ ap (λ (v : Edge). v.0) x)))
+        ((decides_ends e d).0 t))
+        (λ (t : occurs e es ≡ true). found es h.1 t same)
+        (or_cases (same_ends e d) (occurs e es) o)
+
     by : (b : Bool) → same_point e.0 e.1 ≡ b → same_point e.0 e.1 ≡ false
     by true t = absurd (found es h o ((decides_point e.0 e.1).0 t))
     by false t = t

@@ -1,5 +1,5 @@
 -- Lemmas over points and lists: where two segments meet lies in the box of both, and is an end of one at most.
-use Rattle.std.proofs.Common.{◌≡◌, ◌⊎◌, inl, inr, ⊎_elim, ℕ, ◌+◌, ◌*◌, ◌≤◌, ◌<◌, Bool, true, false, sym, ◌∙◌, ap, subst, refl, arith, List, [], ◌∷◌, zero, suc}
+use Rattle.std.proofs.Common.{◌≡◌, ◌⊎◌, inl, inr, ⊎_elim, ℕ, ◌+◌, ◌≤◌, ◌<◌, true, false, sym, ◌∙◌, ap, subst, refl, arith, [], ◌∷◌, zero, suc}
 use Rattle.std.specs.Prelude.{ℤ, pos, negsuc, ◌+ℤ◌, ◌-ℤ◌, ◌*ℤ◌, ◌≤ℤ◌, ◌<ℤ◌, neg_ℤ, unsigned_abs}
 use lib.IntN.{neg_ℤ-neg_ℤ}
 use Rattle.std.proofs.lemmas.Bool.{both_ways, cases_Bool}
@@ -10,7 +10,7 @@ use Rattle.mesh_num.specs.Winding.{same_point}
 use Rattle.mesh_num.proofs.Whole.{linear, mul_nonneg}
 use Rattle.mesh_num.proofs.Ring.{ring, var, lit, neg, ◌⊕◌, ◌⊖◌, ◌⊗◌}
 use Rattle.mesh_num.proofs.Rounding.{rounded_at_least, rounded_at_most}
-use Rattle.mesh_below.specs.Split.{same_ends, is_end, IsBetween, IsInBox, IsInside, AreOpposite, IsCrossing, rounded_quotient, crossing_at, rounded_crossing, Meets, at_start_of_second, at_end_of_second, at_start_of_first, at_end_of_first, at_crossing}
+use Rattle.mesh_below.specs.Split.{is_end, IsBetween, IsInBox, AreOpposite, IsCrossing, rounded_quotient, crossing_at, rounded_crossing, Meets, at_start_of_second, at_end_of_second, at_start_of_first, at_end_of_first, at_crossing}
 use Rattle.mesh_below.specs.Steps.{extent}
 use Rattle.mesh_below.proofs.Ends.{decides_point, decides_end}
 use Rattle.mesh_below.proofs.Places.{place, coordinates, turned}
@@ -51,13 +51,13 @@ step_lower a b s d =
 share_between : (a b s d : ℤ) → pos 0 <ℤ d → pos 0 ≤ℤ s → s ≤ℤ d → IsBetween a (crossing_at a b s d) b
 share_between a b s d h l m = record {
   up = λ (o : a ≤ℤ b).
-    let first : pos 0 ≤ℤ ((b -ℤ a) *ℤ s) = mul_nonneg (b -ℤ a) s (omega (arith, linear)) l in
-    let last : pos 0 ≤ℤ ((b -ℤ a) *ℤ (d -ℤ s)) = mul_nonneg (b -ℤ a) (d -ℤ s) (omega (arith, linear)) (omega (arith, linear)) in
-    quotient_between ((a *ℤ d) +ℤ ((b -ℤ a) *ℤ s)) d a b h (omega (arith, linear)) (omega (arith, linear, rest_upper a b s d));
+      let first : pos 0 ≤ℤ ((b -ℤ a) *ℤ s) = mul_nonneg (b -ℤ a) s (omega (arith, linear)) l in
+      let last : pos 0 ≤ℤ ((b -ℤ a) *ℤ (d -ℤ s)) = mul_nonneg (b -ℤ a) (d -ℤ s) (omega (arith, linear)) (omega (arith, linear)) in
+      quotient_between ((a *ℤ d) +ℤ ((b -ℤ a) *ℤ s)) d a b h (omega (arith, linear)) (omega (arith, linear, rest_upper a b s d));
   down = λ (o : b ≤ℤ a).
-    let first : pos 0 ≤ℤ ((a -ℤ b) *ℤ s) = mul_nonneg (a -ℤ b) s (omega (arith, linear)) l in
-    let last : pos 0 ≤ℤ ((a -ℤ b) *ℤ (d -ℤ s)) = mul_nonneg (a -ℤ b) (d -ℤ s) (omega (arith, linear)) (omega (arith, linear)) in
-    quotient_between ((a *ℤ d) +ℤ ((b -ℤ a) *ℤ s)) d b a h (omega (arith, linear, rest_lower a b s d)) (omega (arith, linear, step_lower a b s d));
+      let first : pos 0 ≤ℤ ((a -ℤ b) *ℤ s) = mul_nonneg (a -ℤ b) s (omega (arith, linear)) l in
+      let last : pos 0 ≤ℤ ((a -ℤ b) *ℤ (d -ℤ s)) = mul_nonneg (a -ℤ b) (d -ℤ s) (omega (arith, linear)) (omega (arith, linear)) in
+      quotient_between ((a *ℤ d) +ℤ ((b -ℤ a) *ℤ s)) d b a h (omega (arith, linear, rest_lower a b s d)) (omega (arith, linear, step_lower a b s d));
 }
 
 turned_share : (a b s t : ℤ) → (a *ℤ (neg_ℤ s -ℤ neg_ℤ t)) +ℤ ((b -ℤ a) *ℤ neg_ℤ s) ≡ neg_ℤ ((a *ℤ (s -ℤ t)) +ℤ ((b -ℤ a) *ℤ s))
@@ -73,7 +73,7 @@ crossing_between a b s t (inl h) =
 crossing_between a b s t (inr h) =
     let divisor : neg_ℤ s -ℤ neg_ℤ t ≡ neg_ℤ (s -ℤ t) = omega (arith, linear) in
     let same : crossing_at a b (neg_ℤ s) (neg_ℤ s -ℤ neg_ℤ t) ≡ crossing_at a b s (s -ℤ t) =
-        (λ i. rounded_quotient (turned_share a b s t i) (divisor i)) ∙ quotient_flip ((a *ℤ (s -ℤ t)) +ℤ ((b -ℤ a) *ℤ s)) (s -ℤ t) (inr (omega (arith, linear, h.0, h.1))) in
+    (λ i. rounded_quotient (turned_share a b s t i) (divisor i)) ∙ quotient_flip ((a *ℤ (s -ℤ t)) +ℤ ((b -ℤ a) *ℤ s)) (s -ℤ t) (inr (omega (arith, linear, h.0, h.1))) in
     subst (λ (z : ℤ). IsBetween a z b) same
     (share_between a b (neg_ℤ s) (neg_ℤ s -ℤ neg_ℤ t) (omega (arith, linear, h.0, h.1)) (omega (arith, linear, h.0)) (omega (arith, linear, h.1)))
 
@@ -125,7 +125,7 @@ one_crossing e f h =
     let apart = parted (turn e.0 e.1 f.0) (turn e.0 e.1 f.1) h.second_parted in
     let x = (λ i. rounded_quotient (crossing_x e.0 e.1 f.0 f.1 i) (same i)) ∙ quotient_flip ((f.0.0 *ℤ d) +ℤ ((f.1.0 -ℤ f.0.0) *ℤ s)) d apart in
     let y = (λ i. rounded_quotient (crossing_y e.0 e.1 f.0 f.1 i) (same i)) ∙ quotient_flip ((f.0.1 *ℤ d) +ℤ ((f.1.1 -ℤ f.0.1) *ℤ s)) d apart in
-    λ i. (x i , y i)
+    λ i. (x i, y i)
 
 own_box : (e f : Edge) → IsCrossing e f → IsInBox e (rounded_crossing e f)
 own_box e f h = record {
@@ -181,16 +181,16 @@ length_split a c b h =
     (λ (o : b <ℤ a). let k = h.down (omega (arith, linear)) in omega (arith, ints, k.0, k.1))
     (λ (o : a ≤ℤ b). let k = h.up o in omega (arith, ints, k.0, k.1))
 
-pub extent_split : (e : Edge) (c : Point) → IsInBox e c → extent (e.0 , c) + extent (c , e.1) ≡ extent e
+pub extent_split : (e : Edge) (c : Point) → IsInBox e c → extent (e.0, c) + extent (c, e.1) ≡ extent e
 extent_split e c h = omega (arith, length_split e.0.0 c.0 e.1.0 h.by_x, length_split e.0.1 c.1 e.1.1 h.by_y)
 
 pub extent_least : (e : Edge) → same_point e.0 e.1 ≡ false → 1 ≤ extent e
 extent_least e h =
     by_nat (extent e)
     (λ (z : extent e ≡ 0).
-        let x : e.0.0 ≡ e.1.0 = omega (arith, ints) in
-        let y : e.0.1 ≡ e.1.1 = omega (arith, ints) in
-        absurd (both_ways _ h ((decides_point e.0 e.1).1 (λ i. (x i , y i)))))
+    let x : e.0.0 ≡ e.1.0 = omega (arith, ints) in
+    let y : e.0.1 ≡ e.1.1 = omega (arith, ints) in
+    absurd (both_ways _ h ((decides_point e.0 e.1).1 (λ i. (x i, y i)))))
   where
     by_nat : (n : ℕ) → (n ≡ 0 → 1 ≤ n) → 1 ≤ n
     by_nat zero f = f refl

@@ -1,26 +1,26 @@
 -- Lemmas over points and lists: edges with the same ends.
-use Rattle.std.proofs.Common.{◌≡◌, ◌⊎◌, inl, inr, ⊎_elim, Bool, true, false, cond, ◌&&◌, ◌||◌, not, sym, ◌∙◌, ap, subst, refl, arith, List, [], ◌∷◌, ◌++◌}
-use Rattle.std.specs.Prelude.{ℤ, pos, ◌+ℤ◌, ◌-ℤ◌, ◌*ℤ◌, neg_ℤ}
+use Rattle.std.proofs.Common.{◌≡◌, ◌⊎◌, inl, inr, ⊎_elim, Bool, true, false, sym, ◌∙◌, ap, refl, arith}
+use Rattle.std.specs.Prelude.{pos, ◌-ℤ◌, neg_ℤ}
 use Rattle.std.specs.Bool.{Decides}
-use Rattle.std.proofs.lemmas.Bool.{both_ways, cases_Bool, or_parts, or_from, or_left, or_right}
-use Rattle.std.proofs.lemmas.Bool.Decides.{Decides-int_eq, Decides-and, Decides-or, Decides-like, same_from_decides, not_from_Decides}
+use Rattle.std.proofs.lemmas.Bool.{both_ways, cases_Bool, or_parts}
+use Rattle.std.proofs.lemmas.Bool.Decides.{Decides-int_eq, Decides-and, Decides-or, Decides-like, same_from_decides}
 use Rattle.std.proofs.lemmas.Int.{ints}
 use Rattle.mesh_num.specs.Plane.{Point, Edge}
-use Rattle.mesh_num.specs.Winding.{same_point, sum_of}
-use Rattle.mesh_below.specs.Split.{back, same_edge, same_ends, is_end, occurs, Cut, pieces, cut}
-use Rattle.mesh_below.specs.Counted.{bit, along, net}
+use Rattle.mesh_num.specs.Winding.{same_point}
+use Rattle.mesh_below.specs.Split.{back, same_edge, same_ends, is_end}
+use Rattle.mesh_below.specs.Counted.{bit, along}
 
 pub decides_point : (p q : Point) → Decides (same_point p q) (p ≡ q)
 decides_point p q =
-    Decides-like (same_point p q) (λ (h : (p.0 ≡ q.0) × (p.1 ≡ q.1)). λ i. (h.0 i , h.1 i))
-    (λ (h : p ≡ q). (ap (λ (v : Point). v.0) h , ap (λ (v : Point). v.1) h))
+    Decides-like (same_point p q) (λ (h : (p.0 ≡ q.0) × (p.1 ≡ q.1)). λ i. (h.0 i, h.1 i))
+    (λ (h : p ≡ q). (ap (λ (v : Point). v.0) h, ap (λ (v : Point). v.1) h))
     (Decides-and _ _ (Decides-int_eq p.0 q.0) (Decides-int_eq p.1 q.1))
 
 pub decides_edge : (e f : Edge) → Decides (same_edge e f) (e ≡ f)
 unfolding same_edge
 decides_edge e f =
-    Decides-like (same_edge e f) (λ (h : (e.0 ≡ f.0) × (e.1 ≡ f.1)). λ i. (h.0 i , h.1 i))
-    (λ (h : e ≡ f). (ap (λ (v : Edge). v.0) h , ap (λ (v : Edge). v.1) h))
+    Decides-like (same_edge e f) (λ (h : (e.0 ≡ f.0) × (e.1 ≡ f.1)). λ i. (h.0 i, h.1 i))
+    (λ (h : e ≡ f). (ap (λ (v : Edge). v.0) h, ap (λ (v : Edge). v.1) h))
     (Decides-and _ _ (decides_point e.0 f.0) (decides_point e.1 f.1))
 
 pub decides_ends : (e f : Edge) → Decides (same_ends e f) ((e ≡ f) ⊎ (e ≡ back f))
@@ -57,13 +57,13 @@ not_ends c q e n y =
     let by : Bool → Type 0 = λ b. (same_ends q e ≡ b) → same_ends q e ≡ false in
     ⊎_elim
     (λ (t : same_ends q e ≡ true).
-        let at : (is_end c q ≡ true) =
-            (decides_end c q).1
-            (⊎_elim
-            (λ (p : q ≡ e). ⊎_elim (λ (z : c ≡ e.0). inl (z ∙ sym (ap (λ (v : Edge). v.0) p))) (λ (z : c ≡ e.1). inr (z ∙ sym (ap (λ (v : Edge). v.1) p))) ((decides_end c e).0 y))
-            (λ (p : q ≡ back e). ⊎_elim (λ (z : c ≡ e.0). inr (z ∙ sym (ap (λ (v : Edge). v.1) p))) (λ (z : c ≡ e.1). inl (z ∙ sym (ap (λ (v : Edge). v.0) p))) ((decides_end c e).0 y))
-            ((decides_ends q e).0 t)) in
-        absurd (both_ways _ n at))
+    let at : (is_end c q ≡ true) =
+    (decides_end c q).1
+    (⊎_elim
+    (λ (p : q ≡ e). ⊎_elim (λ (z : c ≡ e.0). inl (z ∙ sym (ap (λ (v : Edge). v.0) p))) (λ (z : c ≡ e.1). inr (z ∙ sym (ap (λ (v : Edge). v.1) p))) ((decides_end c e).0 y))
+    (λ (p : q ≡ back e). ⊎_elim (λ (z : c ≡ e.0). inr (z ∙ sym (ap (λ (v : Edge). v.1) p))) (λ (z : c ≡ e.1). inl (z ∙ sym (ap (λ (v : Edge). v.0) p))) ((decides_end c e).0 y))
+    ((decides_ends q e).0 t)) in
+    absurd (both_ways _ n at))
     (λ (f : same_ends q e ≡ false). f)
     (cases_Bool (same_ends q e))
 
@@ -81,9 +81,9 @@ pub along_self : (s : Edge) → same_point s.0 s.1 ≡ false → along s s ≡ p
 unfolding along
 along_self s h =
     let other : same_edge s (back s) ≡ false =
-        ⊎_elim
-        (λ (t : same_edge s (back s) ≡ true). absurd (both_ways _ h ((decides_point s.0 s.1).1 (ap (λ (v : Edge). v.0) ((decides_edge s (back s)).0 t)))))
-        (λ (f : same_edge s (back s) ≡ false). f)
-        (cases_Bool (same_edge s (back s))) in
+    ⊎_elim
+    (λ (t : same_edge s (back s) ≡ true). absurd (both_ways _ h ((decides_point s.0 s.1).1 (ap (λ (v : Edge). v.0) ((decides_edge s (back s)).0 t)))))
+    (λ (f : same_edge s (back s) ≡ false). f)
+    (cases_Bool (same_edge s (back s))) in
     let own : same_edge s s ≡ true = (decides_edge s s).1 refl in
     λ i. bit (own i) -ℤ bit (other i)

@@ -1,6 +1,6 @@
 -- Lemmas over points and lists: the entries of an ordered map of segments, sought and inserted.
-use Rattle.std.proofs.Common.{◌≡◌, ◌⊎◌, inl, inr, ⊎_elim, ℕ, suc, ◌+◌, ◌^◌, ◌≤◌, lit≤, Bool, true, false, cond, sym, ◌∙◌, ap, subst, refl, arith, List, [], ◌∷◌, length, Option, Some, None, Ordering}
-use Rattle.std.specs.Prelude.{ℤ, pos, ◌+ℤ◌, ◌≤ℤ◌, ◌<ℤ◌, unsigned_abs, IsTrue, IfSome, IfNone, is_some, if◌then◌else◌}
+use Rattle.std.proofs.Common.{◌≡◌, ⊎_elim, ℕ, suc, ◌+◌, ◌^◌, lit≤, Bool, true, false, cond, sym, ◌∙◌, ap, subst, refl, arith, List, [], ◌∷◌, length, Option, Some, None, Ordering}
+use Rattle.std.specs.Prelude.{ℤ, pos, ◌+ℤ◌, ◌≤ℤ◌, ◌<ℤ◌, IfSome, IfNone, is_some, if◌then◌else◌}
 use Rattle.std.specs.declared.cmp.Ordering.TheVariants.{Less, Equal, Greater}
 use Rattle.std.specs.BTreeMap.{insert_entry, is_at}
 use Rattle.std.specs.List.{All}
@@ -19,7 +19,7 @@ use Rattle.mesh_num.specs.Winding.{same_point, sum_of}
 use Rattle.mesh_num.proofs.Whole.{linear}
 use Rattle.mesh_below.specs.Split.{back, same_edge, same_ends}
 use Rattle.mesh_below.specs.Counted.{Counted, bit, times}
-use Rattle.mesh_below.specs.Steps.{exactly, IsPut, IsRaised, IsNew, IsForward, HaveRoom, size}
+use Rattle.mesh_below.specs.Steps.{exactly, IsRaised, IsNew, IsForward, HaveRoom, size}
 use Rattle.mesh_below.proofs.Ends.{decides_point, decides_edge, decides_ends}
 use Rattle.mesh_below.proofs.Arithmetic.{small_kept, small_fits}
 use Rattle.mesh_below.proofs.Stages.{bit_least}
@@ -30,7 +30,7 @@ edge_cmp e f = ordering_then (ordering_then (int_cmp e.0.0 f.0.0) (int_cmp e.0.1
 
 both_equal : (o p : Ordering) → is_eq (ordering_then o p) ≡ true → (is_eq o ≡ true) × (is_eq p ≡ true)
 both_equal Less p h = absurd (both_ways false refl h)
-both_equal Equal p h = (refl , h)
+both_equal Equal p h = (refl, h)
 both_equal Greater p h = absurd (both_ways false refl h)
 
 equal_both : (o p : Ordering) → is_eq o ≡ true → is_eq p ≡ true → is_eq (ordering_then o p) ≡ true
@@ -47,7 +47,7 @@ edge_equal e f h =
     let b = (Decides-int_eq e.0.1 f.0.1).0 start.1 in
     let c = (Decides-int_eq e.1.0 f.1.0).0 end.0 in
     let d = (Decides-int_eq e.1.1 f.1.1).0 end.1 in
-    λ i. ((a i , b i) , (c i , d i))
+    λ i. ((a i, b i), (c i, d i))
 
 equal_self : (e : Edge) → is_eq (edge_cmp e e) ≡ true
 equal_self e =
@@ -64,12 +64,13 @@ forward_proper e h =
     (λ (f : same_point e.0 e.1 ≡ false). f)
     (cases_Bool (same_point e.0 e.1))
   where
-    irreflexive : (x y : ℤ) → point_lt (x , y) (x , y) ≡ true → ⊥
+    irreflexive : (x y : ℤ) → point_lt (x, y) (x, y) ≡ true → ⊥
     irreflexive x y h = grind (arith, ints)
+
     not_before : (p q : Point) → p ≡ q → point_lt p q ≡ true → ⊥
     not_before p q e h = irreflexive q.0 q.1 (ap (λ (v : Point). point_lt v q) (sym e) ∙ h)
 
-asymmetric : (a b x y : ℤ) → point_lt (a , b) (x , y) ≡ true → point_lt (x , y) (a , b) ≡ true → ⊥
+asymmetric : (a b x y : ℤ) → point_lt (a, b) (x, y) ≡ true → point_lt (x, y) (a, b) ≡ true → ⊥
 asymmetric a b x y h k = grind (arith, ints)
 
 pub one_forward : (e f : Edge) → IsForward e → IsForward f → same_ends e f ≡ true → e ≡ f
@@ -93,7 +94,7 @@ size_least [] = omega (arith, ints)
 size_least (k ∷ ks) = omega (arith, ints, size_least ks)
 
 -- a fact that holds of lists whose first entry has the key, and of longer lists
-by_found : (P : List Counted → Type 0) (k : Edge) (m : ℤ) → ((es : List Counted) → P ((k , m) ∷ es)) → ((e : Counted) (es : List Counted) → P es → P (e ∷ es))
+by_found : (P : List Counted → Type 0) (k : Edge) (m : ℤ) → ((es : List Counted) → P ((k, m) ∷ es)) → ((e : Counted) (es : List Counted) → P es → P (e ∷ es))
     → (es : List Counted) → found k es ≡ Some m → P es
 by_found P k m here there [] h = absurd (none_some h)
   where
@@ -102,12 +103,12 @@ by_found P k m here there [] h = absurd (none_some h)
 by_found P k m here there (e ∷ es) h =
     ⊎_elim
     (λ (t : is_eq (edge_cmp k e.0) ≡ true).
-        let value : Some e.1 ≡ Some m = ap (λ (b : Bool). cond b (Some e.1) (found k es)) (sym t) ∙ h in
-        let count : e.1 ≡ m = cc in
-        let ends : k ≡ e.0 = edge_equal k e.0 t in
-        subst (λ (x : Counted). P (x ∷ es)) (λ i. (ends i , sym count i)) (here es))
+    let value : Some e.1 ≡ Some m = ap (λ (b : Bool). cond b (Some e.1) (found k es)) (sym t) ∙ h in
+    let count : e.1 ≡ m = cc in
+    let ends : k ≡ e.0 = edge_equal k e.0 t in
+    subst (λ (x : Counted). P (x ∷ es)) (λ i. (ends i, sym count i)) (here es))
     (λ (f : is_eq (edge_cmp k e.0) ≡ false).
-        there e es (by_found P k m here there es (ap (λ (b : Bool). cond b (Some e.1) (found k es)) (sym f) ∙ h)))
+    there e es (by_found P k m here there es (ap (λ (b : Bool). cond b (Some e.1) (found k es)) (sym f) ∙ h)))
     (cases_Bool (is_eq (edge_cmp k e.0)))
 
 pub found_stands : (k : Edge) (m : ℤ) (es : List Counted) → lookup (is_at (edge_cmp k)) es ≡ Some m → pos 0 <ℤ exactly k es
@@ -117,11 +118,11 @@ found_stands k m es h =
     (λ (e : Counted) (es : List Counted) (p : pos 0 <ℤ exactly k es). omega (arith, linear, bit_least (same_edge k e.0)))
     es h
 
-pub found_size : (k : Edge) (m : ℤ) (es : List Counted) → lookup (is_at (edge_cmp k)) es ≡ Some m → size (k , m) ≤ℤ sum_of size es
+pub found_size : (k : Edge) (m : ℤ) (es : List Counted) → lookup (is_at (edge_cmp k)) es ≡ Some m → size (k, m) ≤ℤ sum_of size es
 found_size k m es h =
-    by_found (λ (es : List Counted). size (k , m) ≤ℤ sum_of size es) k m
+    by_found (λ (es : List Counted). size (k, m) ≤ℤ sum_of size es) k m
     (λ (es : List Counted). omega (arith, ints, size_least es))
-    (λ (e : Counted) (es : List Counted) (p : size (k , m) ≤ℤ sum_of size es). omega (arith, ints))
+    (λ (e : Counted) (es : List Counted) (p : size (k, m) ≤ℤ sum_of size es). omega (arith, ints))
     es h
 
 absent : (k : Edge) (es : List Counted) → IsForward k → All IsForward (keys_of es) → found k es ≡ None → times k es ≡ pos 0
@@ -129,17 +130,17 @@ absent k [] f all h = refl
 absent k (e ∷ es) f all h =
     ⊎_elim
     (λ (t : is_eq (edge_cmp k e.0) ≡ true).
-        let value : Some e.1 ≡ None = ap (λ (b : Bool). cond b (Some e.1) (found k es)) (sym t) ∙ h in
-        absurd (some_none value))
+    let value : Some e.1 ≡ None = ap (λ (b : Bool). cond b (Some e.1) (found k es)) (sym t) ∙ h in
+    absurd (some_none value))
     (λ (n : is_eq (edge_cmp k e.0) ≡ false).
-        let other : same_ends k e.0 ≡ false =
-            ⊎_elim
-            (λ (t : same_ends k e.0 ≡ true).
-                let same = one_forward k e.0 f (All-head IsForward e.0 (keys_of es) all) t in
-                absurd (both_ways (is_eq (edge_cmp k e.0)) n (ap (λ (x : Edge). is_eq (edge_cmp k x)) (sym same) ∙ equal_self k)))
-            (λ (o : same_ends k e.0 ≡ false). o)
-            (cases_Bool (same_ends k e.0)) in
-        omega (arith, linear, ap bit other, absent k es f (All-tail IsForward e.0 (keys_of es) all) (ap (λ (b : Bool). cond b (Some e.1) (found k es)) (sym n) ∙ h)))
+    let other : same_ends k e.0 ≡ false =
+    ⊎_elim
+    (λ (t : same_ends k e.0 ≡ true).
+    let same = one_forward k e.0 f (All-head IsForward e.0 (keys_of es) all) t in
+    absurd (both_ways (is_eq (edge_cmp k e.0)) n (ap (λ (x : Edge). is_eq (edge_cmp k x)) (sym same) ∙ equal_self k)))
+    (λ (o : same_ends k e.0 ≡ false). o)
+    (cases_Bool (same_ends k e.0)) in
+    omega (arith, linear, ap bit other, absent k es f (All-tail IsForward e.0 (keys_of es) all) (ap (λ (b : Bool). cond b (Some e.1) (found k es)) (sym n) ∙ h)))
     (cases_Bool (is_eq (edge_cmp k e.0)))
   where
     some_none : {m : ℤ} → Some m ≡ None → ⊥
@@ -148,7 +149,7 @@ absent k (e ∷ es) f all h =
 -- ---- an insert
 
 abbrev inserted : Ordering → Counted → Counted → List Counted → List Counted → List Counted
-inserted o k e es rest = match_ordering o (k ∷ e ∷ es) ((e.0 , k.1) ∷ es) (e ∷ rest)
+inserted o k e es rest = match_ordering o (k ∷ e ∷ es) ((e.0, k.1) ∷ es) (e ∷ rest)
 
 put_step : (o : Ordering) (k e : Counted) (es rest : List Counted) (g : Counted → ℤ) → (is_eq o ≡ true → ⊥)
     → sum_of g rest ≡ sum_of g es +ℤ g k → sum_of g (inserted o k e es rest) ≡ (g e +ℤ sum_of g es) +ℤ g k
@@ -160,39 +161,39 @@ insert_put : (k : Counted) (es : List Counted) (g : Counted → ℤ) → found k
 insert_put k [] g h = omega (arith, linear)
 insert_put k (e ∷ es) g h =
     let other : is_eq (edge_cmp k.0 e.0) ≡ true → ⊥ =
-        λ t. some_none (ap (λ (b : Bool). cond b (Some e.1) (found k.0 es)) (sym t) ∙ h) in
+    λ t. some_none (ap (λ (b : Bool). cond b (Some e.1) (found k.0 es)) (sym t) ∙ h) in
     let rest : found k.0 es ≡ None =
-        ⊎_elim
-        (λ (t : is_eq (edge_cmp k.0 e.0) ≡ true). absurd (other t))
-        (λ (n : is_eq (edge_cmp k.0 e.0) ≡ false). ap (λ (b : Bool). cond b (Some e.1) (found k.0 es)) (sym n) ∙ h)
-        (cases_Bool (is_eq (edge_cmp k.0 e.0))) in
+    ⊎_elim
+    (λ (t : is_eq (edge_cmp k.0 e.0) ≡ true). absurd (other t))
+    (λ (n : is_eq (edge_cmp k.0 e.0) ≡ false). ap (λ (b : Bool). cond b (Some e.1) (found k.0 es)) (sym n) ∙ h)
+    (cases_Bool (is_eq (edge_cmp k.0 e.0))) in
     put_step (edge_cmp k.0 e.0) k e es (insert_entry edge_cmp es k.0 k.1) g other (insert_put k es g rest)
   where
     some_none : {m : ℤ} → Some m ≡ None → ⊥
     some_none h = cc
 
-set_step : (o : Ordering) (k e : Counted) (es rest : List Counted) (m : ℤ) (g : Counted → ℤ) → (is_eq o ≡ true → e ≡ (k.0 , m))
-    → length (inserted o k e es rest) ≡ suc (length es) → (is_eq o ≡ false → length rest ≡ length es → sum_of g rest +ℤ g (k.0 , m) ≡ sum_of g es +ℤ g k)
-    → sum_of g (inserted o k e es rest) +ℤ g (k.0 , m) ≡ (g e +ℤ sum_of g es) +ℤ g k
+set_step : (o : Ordering) (k e : Counted) (es rest : List Counted) (m : ℤ) (g : Counted → ℤ) → (is_eq o ≡ true → e ≡ (k.0, m))
+    → length (inserted o k e es rest) ≡ suc (length es) → (is_eq o ≡ false → length rest ≡ length es → sum_of g rest +ℤ g (k.0, m) ≡ sum_of g es +ℤ g k)
+    → sum_of g (inserted o k e es rest) +ℤ g (k.0, m) ≡ (g e +ℤ sum_of g es) +ℤ g k
 set_step Less k e es rest m g s l h = absurd (omega arith)
 set_step Equal k e es rest m g s l h =
-    let first : g e ≡ g (k.0 , m) = ap g (s refl) in
-    let second : g (e.0 , k.1) ≡ g k = ap (λ (x : Counted). g (x.0 , k.1)) (s refl) in
+    let first : g e ≡ g (k.0, m) = ap g (s refl) in
+    let second : g (e.0, k.1) ≡ g k = ap (λ (x : Counted). g (x.0, k.1)) (s refl) in
     omega (arith, linear)
 set_step Greater k e es rest m g s l h =
     let less : length rest ≡ length es = omega arith in
     omega (arith, linear, h refl less)
 
 insert_set : (k : Counted) (m : ℤ) (es : List Counted) (g : Counted → ℤ) → found k.0 es ≡ Some m → length (insert_entry edge_cmp es k.0 k.1) ≡ length es
-    → sum_of g (insert_entry edge_cmp es k.0 k.1) +ℤ g (k.0 , m) ≡ sum_of g es +ℤ g k
+    → sum_of g (insert_entry edge_cmp es k.0 k.1) +ℤ g (k.0, m) ≡ sum_of g es +ℤ g k
 insert_set k m [] g h l = absurd (omega arith)
 insert_set k m (e ∷ es) g h l =
     set_step (edge_cmp k.0 e.0) k e es (insert_entry edge_cmp es k.0 k.1) m g
     (λ t.
-        let value : Some e.1 ≡ Some m = ap (λ (b : Bool). cond b (Some e.1) (found k.0 es)) (sym t) ∙ h in
-        let count : e.1 ≡ m = cc in
-        let ends : k.0 ≡ e.0 = edge_equal k.0 e.0 t in
-        λ i. (sym ends i , count i))
+    let value : Some e.1 ≡ Some m = ap (λ (b : Bool). cond b (Some e.1) (found k.0 es)) (sym t) ∙ h in
+    let count : e.1 ≡ m = cc in
+    let ends : k.0 ≡ e.0 = edge_equal k.0 e.0 t in
+    λ i. (sym ends i, count i))
     l
     (λ n d. insert_set k m es g (ap (λ (b : Bool). cond b (Some e.1) (found k.0 es)) (sym n) ∙ h) d)
 
@@ -206,7 +207,7 @@ pub inserted_raised : (k : Counted) (m v : ℤ) (es : List Counted) → lookup (
 inserted_raised k m v es h e l = record {
   was = m;
   stood = found_stands k.0 m es h;
-  totals = λ g. insert_set (k.0 , v) m es g h l ∙ ap (λ (n : ℤ). sum_of g es +ℤ g (k.0 , n)) e;
+  totals = λ g. insert_set (k.0, v) m es g h l ∙ ap (λ (n : ℤ). sum_of g es +ℤ g (k.0, n)) e;
 }
 
 -- ---- a sum of two counts
@@ -216,7 +217,7 @@ pub record HasRoom (m n : ℤ) : Type 0 where
   pub fits : SFits w128 (to_z w128 (of_z w128 m) +ℤ to_z w128 (of_z w128 n))
   pub kept : to_z w128 (of_z w128 (to_z w128 (of_z w128 m) +ℤ to_z w128 (of_z w128 n))) ≡ m +ℤ n
 
-pub has_room : (ks : List Counted) (k : Counted) (m : ℤ) → HaveRoom ks k → size (k.0 , m) ≤ℤ sum_of size ks → HasRoom m k.1
+pub has_room : (ks : List Counted) (k : Counted) (m : ℤ) → HaveRoom ks k → size (k.0, m) ≤ℤ sum_of size ks → HasRoom m k.1
 has_room ks k m room stands =
     let a : IsSmall (2 ^ 121) m = record { low = omega (arith, ints, room, size_least ks); high = omega (arith, ints, room, size_least ks) } in
     let b : IsSmall (2 ^ 121) k.1 = record { low = omega (arith, ints, room, size_least ks); high = omega (arith, ints, room, size_least ks) } in

@@ -37,11 +37,11 @@ low_step : (f u : ℤ → ℤ) (x y w p v : ℤ) → y ≤ℤ x →
     past x p (f ((past p y w +ℤ u p) +ℤ v) -ℤ f (past p y w +ℤ u p)) ≡ past x p (f (u p +ℤ v) -ℤ f (u p))
 low_step f u x y w p v low =
     by_lt_z x p
-        (λ (h : x <ℤ p).
-            let same : past p y w +ℤ u p ≡ u p = omega (arith, ints, past_none p y w (omega (arith, ints))) in
-            ap (λ (z : ℤ). past x p (f (z +ℤ v) -ℤ f z)) same)
-        (λ (h : p ≤ℤ x).
-            past_none x p (f ((past p y w +ℤ u p) +ℤ v) -ℤ f (past p y w +ℤ u p)) h ∙ sym (past_none x p (f (u p +ℤ v) -ℤ f (u p)) h))
+    (λ (h : x <ℤ p).
+    let same : past p y w +ℤ u p ≡ u p = omega (arith, ints, past_none p y w (omega (arith, ints))) in
+    ap (λ (z : ℤ). past x p (f (z +ℤ v) -ℤ f z)) same)
+    (λ (h : p ≤ℤ x).
+    past_none x p (f ((past p y w +ℤ u p) +ℤ v) -ℤ f (past p y w +ℤ u p)) h ∙ sym (past_none x p (f (u p +ℤ v) -ℤ f (u p)) h))
 
 low_steps : (f u : ℤ → ℤ) (x y w : ℤ) → y ≤ℤ x → (ts : List (ℤ × ℤ)) →
     steps f (λ (z : ℤ). past z y w +ℤ u z) x ts ≡ steps f u x ts
@@ -52,7 +52,7 @@ low_steps f u x y w low (t ∷ ts) = omega (arith, ints, low_step f u x y w t.0 
 high_step : (f u : ℤ → ℤ) (x y w p v : ℤ) → x <ℤ y → (y <ℤ p) ⊎ (p <ℤ y) →
     past x p (f ((past p y w +ℤ u p) +ℤ v) -ℤ f (past p y w +ℤ u p))
     ≡ (past x p (f (w +ℤ (u p +ℤ v)) -ℤ f (w +ℤ u p)) -ℤ past y p (f (w +ℤ (u p +ℤ v)) -ℤ f (w +ℤ u p)))
-        +ℤ past y p (f (u p +ℤ v) -ℤ f (u p))
+    +ℤ past y p (f (u p +ℤ v) -ℤ f (u p))
 high_step f u x y w p v high (inl east) =
     let same : past p y w +ℤ u p ≡ u p = omega (arith, ints, past_none p y w (omega (arith, ints))) in
     let moved = ap (λ (z : ℤ). past x p (f (z +ℤ v) -ℤ f z)) same in
@@ -88,15 +88,25 @@ telescope (t ∷ ts) apart f x =
     let own : past y y w ≡ pos 0 = past_none y y w (omega (arith, ints)) in
     let head : past y y w +ℤ u y ≡ u y = omega (arith, ints) in
     by_lt_z x y
-        (λ (h : x <ℤ y).
-            let moved = ap (λ (z : ℤ). past x y (f (z +ℤ w) -ℤ f z)) head in
-            let seen = past_yes x y (f (u y +ℤ w) -ℤ f (u y)) h in
-            let turned : f (u y +ℤ w) ≡ f (w +ℤ u y) = ap f (omega (arith, ints)) in
-            let sum : f (past x y w +ℤ u x) ≡ f (w +ℤ u x) = ap (λ (z : ℤ). f (z +ℤ u x)) (past_yes x y w h) in
-            omega (arith, ints, moved, seen, turned, sum, high_steps f u x y w h ts apart.0,
-                telescope ts apart.1 (λ (z : ℤ). f (w +ℤ z)) x, telescope ts apart.1 (λ (z : ℤ). f (w +ℤ z)) y, telescope ts apart.1 f y,
-                (let none : f (w +ℤ pos 0) ≡ f w = ap f (omega (arith, ints)) in none)))
-        (λ (h : y ≤ℤ x).
-            let unseen = past_none x y (f ((past y y w +ℤ u y) +ℤ w) -ℤ f (past y y w +ℤ u y)) h in
-            let sum : f (past x y w +ℤ u x) ≡ f (u x) = ap f (omega (arith, ints, past_none x y w h)) in
-            omega (arith, ints, unseen, sum, low_steps f u x y w h ts, telescope ts apart.1 f x))
+    (λ (h : x <ℤ y).
+    let moved = ap (λ (z : ℤ). past x y (f (z +ℤ w) -ℤ f z)) head in
+    let seen = past_yes x y (f (u y +ℤ w) -ℤ f (u y)) h in
+    let turned : f (u y +ℤ w) ≡ f (w +ℤ u y) = ap f (omega (arith, ints)) in
+    let sum : f (past x y w +ℤ u x) ≡ f (w +ℤ u x) = ap (λ (z : ℤ). f (z +ℤ u x)) (past_yes x y w h) in
+    omega (
+      arith,
+      ints,
+      moved,
+      seen,
+      turned,
+      sum,
+      high_steps f u x y w h ts apart.0,
+      telescope ts apart.1 (λ (z : ℤ). f (w +ℤ z)) x,
+      telescope ts apart.1 (λ (z : ℤ). f (w +ℤ z)) y,
+      telescope ts apart.1 f y,
+      (let none : f (w +ℤ pos 0) ≡ f w = ap f (omega (arith, ints)) in none),
+    ))
+    (λ (h : y ≤ℤ x).
+    let unseen = past_none x y (f ((past y y w +ℤ u y) +ℤ w) -ℤ f (past y y w +ℤ u y)) h in
+    let sum : f (past x y w +ℤ u x) ≡ f (u x) = ap f (omega (arith, ints, past_none x y w h)) in
+    omega (arith, ints, unseen, sum, low_steps f u x y w h ts, telescope ts apart.1 f x))

@@ -1,5 +1,4 @@
 -- Lemmas over points and lists: segments that are clear of each other.
-use Rattle.std.proofs.Common.{◌≡◌}
 use Rattle.mesh_num.specs.Plane.{Point, Edge}
 use Rattle.mesh_below.specs.Split.{IsInside, IsCrossing, Meets, at_start_of_second, at_end_of_second, at_start_of_first, at_end_of_first, at_crossing}
 use Rattle.mesh_below.specs.Steps.{AreClear}

@@ -1,16 +1,15 @@
 -- Lemmas over points and lists: cuts make of each edge a path that never goes back; what a splitting is.
-use Rattle.std.proofs.Common.{◌≡◌, ◌⊎◌, inl, inr, ⊎_elim, Bool, true, false, cond, sym, ◌∙◌, ap, subst, refl, arith, List, [], ◌∷◌, ◌++◌}
-use Rattle.std.specs.Prelude.{ℤ, pos, ◌+ℤ◌, ◌≤ℤ◌}
+use Rattle.std.proofs.Common.{◌≡◌, ⊎_elim, Bool, true, false, cond, sym, subst, refl, arith, List, [], ◌∷◌, ◌++◌}
 use Rattle.std.specs.List.{All}
 use Rattle.std.proofs.lemmas.Bool.{cases_Bool}
-use Rattle.std.proofs.lemmas.List.Elements.{All-cons, All-head, All-tail, All-append}
+use Rattle.std.proofs.lemmas.List.Elements.{All-cons, All-head, All-tail}
 use Rattle.mesh_num.specs.Plane.{Point, Edge}
 use Rattle.mesh_num.proofs.Whole.{linear}
 use Rattle.mesh_below.specs.Boundary.{IsProper}
-use Rattle.mesh_below.specs.Counted.{Counted, IsCountOf, along, counted_net, times}
-use Rattle.mesh_below.specs.Split.{back, same_ends, IsBetween, IsInBox, Cut, pieces, cut, after, path, IsLegal}
+use Rattle.mesh_below.specs.Counted.{Counted, IsCountOf}
+use Rattle.mesh_below.specs.Split.{back, same_ends, IsInBox, Cut, cut, after, path}
 use Rattle.mesh_below.specs.Splitting.{Leads, IsOnward, IsPathOf, IsSplitting}
-use Rattle.mesh_below.specs.Steps.{AllClear, AreCountOf, IsReached}
+use Rattle.mesh_below.specs.Steps.{AllClear, IsReached}
 use Rattle.mesh_below.proofs.BoundaryRegions.{box_trans, after_balanced}
 use Rattle.mesh_below.proofs.BoundarySplits.{IsSound, legal_sound, after_proper}
 use Rattle.mesh_below.proofs.Boxes.{start_box, end_box}
@@ -35,13 +34,13 @@ leads_cut : (k : Cut) (p : Point) (es : List Edge) (r : Point) → Leads p es r 
 leads_cut k p [] r h = h
 leads_cut k p (f ∷ es) r h = by (same_ends f k.ends) (leads_cut k f.1 es r h.1)
   where
-    by : (b : Bool) → Leads f.1 (cut k es) r → Leads p (cond b ((f.0 , k.at) ∷ (k.at , f.1) ∷ []) (f ∷ []) ++ cut k es) r
-    by true rest = (h.0 , (refl , rest))
-    by false rest = (h.0 , rest)
+    by : (b : Bool) → Leads f.1 (cut k es) r → Leads p (cond b ((f.0, k.at) ∷ (k.at, f.1) ∷ []) (f ∷ []) ++ cut k es) r
+    by true rest = (h.0, (refl, rest))
+    by false rest = (h.0, rest)
 
 -- ---- paths never go back
 
-first_onward : (e f : Edge) (c : Point) → IsOnward e f → IsInBox f c → IsOnward e (f.0 , c)
+first_onward : (e f : Edge) (c : Point) → IsOnward e f → IsInBox f c → IsOnward e (f.0, c)
 first_onward e f c h box = record {
   east = λ o. (box.by_x.up (h.east o)).0;
   west = λ o. (box.by_x.down (h.west o)).1;
@@ -51,7 +50,7 @@ first_onward e f c h box = record {
   end_in_box = box_trans e f c h.start_in_box h.end_in_box box;
 }
 
-second_onward : (e f : Edge) (c : Point) → IsOnward e f → IsInBox f c → IsOnward e (c , f.1)
+second_onward : (e f : Edge) (c : Point) → IsOnward e f → IsInBox f c → IsOnward e (c, f.1)
 second_onward e f c h box = record {
   east = λ o. (box.by_x.up (h.east o)).1;
   west = λ o. (box.by_x.down (h.west o)).0;
@@ -68,18 +67,18 @@ onward_cut e k sound (f ∷ es) h =
     let rest = onward_cut e k sound es (All-tail (IsOnward e) f es h) in
     ⊎_elim
     (λ (t : same_ends f k.ends ≡ true).
-        let box = box_of_cut k f sound t in
-        subst (λ (b : Bool). All (IsOnward e) (cond b ((f.0 , k.at) ∷ (k.at , f.1) ∷ []) (f ∷ []) ++ cut k es)) (sym t)
-        (All-cons (IsOnward e) (f.0 , k.at) ((k.at , f.1) ∷ cut k es) (first_onward e f k.at own box)
-        (All-cons (IsOnward e) (k.at , f.1) (cut k es) (second_onward e f k.at own box) rest)))
+    let box = box_of_cut k f sound t in
+    subst (λ (b : Bool). All (IsOnward e) (cond b ((f.0, k.at) ∷ (k.at, f.1) ∷ []) (f ∷ []) ++ cut k es)) (sym t)
+    (All-cons (IsOnward e) (f.0, k.at) ((k.at, f.1) ∷ cut k es) (first_onward e f k.at own box)
+    (All-cons (IsOnward e) (k.at, f.1) (cut k es) (second_onward e f k.at own box) rest)))
     (λ (n : same_ends f k.ends ≡ false).
-        subst (λ (b : Bool). All (IsOnward e) (cond b ((f.0 , k.at) ∷ (k.at , f.1) ∷ []) (f ∷ []) ++ cut k es)) (sym n)
-        (All-cons (IsOnward e) f (cut k es) own rest))
+    subst (λ (b : Bool). All (IsOnward e) (cond b ((f.0, k.at) ∷ (k.at, f.1) ∷ []) (f ∷ []) ++ cut k es)) (sym n)
+    (All-cons (IsOnward e) f (cut k es) own rest))
     (cases_Bool (same_ends f k.ends))
 
 pub path_of_edge : (ks : List Cut) → Each IsSound ks → (e : Edge) → IsPathOf e (path ks e)
 path_of_edge [] sound e = record {
-  leads = (refl , refl);
+  leads = (refl, refl);
   onward = All-cons (IsOnward e) e [] (record { east = λ o. o; west = λ o. o; up = λ o. o; down = λ o. o; start_in_box = start_box e; end_in_box = end_box e }) (λ i d h. absurd (omega arith));
 }
 path_of_edge (k ∷ ks) sound e =

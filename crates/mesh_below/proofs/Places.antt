@@ -9,7 +9,7 @@ Place = Expr × Expr
 
 -- the point number `i` of the list whose coordinates are the variables
 abbrev pub place : ℕ → Place
-place i = (var (2 * i) , var (2 * i + 1))
+place i = (var (2 * i), var (2 * i + 1))
 
 -- the coordinates of points, then further variables
 abbrev pub coordinates : List Point → List ℤ → List ℤ
@@ -17,7 +17,7 @@ coordinates [] more = more
 coordinates (p ∷ ps) more = p.0 ∷ p.1 ∷ coordinates ps more
 
 abbrev pub apart : Place → Place → Place
-apart p q = (p.0 ⊖ q.0 , p.1 ⊖ q.1)
+apart p q = (p.0 ⊖ q.0, p.1 ⊖ q.1)
 
 abbrev pub crossed : Place → Place → Expr
 crossed v w = (v.0 ⊗ w.1) ⊖ (v.1 ⊗ w.0)
@@ -27,4 +27,4 @@ turned p r q = crossed (apart r p) (apart q p)
 
 -- a point whose coordinates are multiplied
 abbrev pub scaled : Expr → Place → Place
-scaled m p = (m ⊗ p.0 , m ⊗ p.1)
+scaled m p = (m ⊗ p.0, m ⊗ p.1)

@@ -1,18 +1,17 @@
 -- Lemmas over points and lists: a segment in hand is made live, or it is split with a live one that it meets.
-use Rattle.std.proofs.Common.{◌≡◌, ◌⊎◌, inl, inr, ⊎_elim, ℕ, ◌+◌, ◌-◌, ◌*◌, ◌≤◌, ◌^◌, Bool, true, false, cond, sym, ◌∙◌, ap, subst, refl, arith, List, [], ◌∷◌}
-use Rattle.std.specs.Prelude.{ℤ, pos, ◌+ℤ◌, ◌-ℤ◌, ◌*ℤ◌, ◌≤ℤ◌, ◌<ℤ◌}
+use Rattle.std.proofs.Common.{◌≡◌, ◌⊎◌, inl, inr, ⊎_elim, ℕ, ◌-◌, ◌*◌, ◌≤◌, Bool, true, false, cond, sym, ◌∙◌, ap, subst, refl, arith, List, [], ◌∷◌}
+use Rattle.std.specs.Prelude.{ℤ, pos, ◌≤ℤ◌, ◌<ℤ◌}
 use Rattle.std.proofs.lemmas.Bool.{both_ways, cases_Bool}
 use Rattle.std.proofs.lemmas.Int.{ints}
 use Rattle.mesh_num.specs.Plane.{Point, Edge, turn}
-use Rattle.mesh_num.specs.Winding.{same_point, sum_of}
+use Rattle.mesh_num.specs.Winding.{same_point}
 use Rattle.mesh_num.proofs.Whole.{linear}
-use Rattle.mesh_below.specs.Split.{same_edge, same_ends, occurs, is_end, IsInside, IsInBox, IsCrossing, Meets, at_start_of_second, at_end_of_second, at_start_of_first, at_end_of_first, at_crossing, Cut, cut, after, add_cut, IsLegal, split}
-use Rattle.mesh_below.specs.Counted.{Counted, bit, along, times}
-use Rattle.mesh_below.specs.Steps.{exactly, IsPut, IsTaken, Puts, PutsPieces, AreClear, IsClearOf, AllClear, AreCountOf, IsReached, Settles, extent, weight, waiting_work, live_work, work, total_weight}
+use Rattle.mesh_below.specs.Split.{same_edge, same_ends, occurs, is_end, IsInBox, IsCrossing, Meets, at_start_of_second, at_end_of_second, at_start_of_first, at_end_of_first, at_crossing, Cut, cut, after, add_cut, IsLegal, split}
+use Rattle.mesh_below.specs.Counted.{Counted, bit, times}
+use Rattle.mesh_below.specs.Steps.{exactly, IsPut, IsTaken, Puts, PutsPieces, AreClear, IsClearOf, AllClear, AreCountOf, IsReached, Settles, extent, weight, waiting_work, live_work}
 use Rattle.mesh_below.proofs.Ends.{decides_edge, decides_end, ends_sym, not_ends}
 use Rattle.mesh_below.proofs.Boxes.{meets_box, meets_once, crossing_swapped, extent_least, turn_start}
 use Rattle.mesh_below.proofs.Stages.{IsHeld, held_is, bit_least, bit_true, times_least, take_count, swap_count, keep_count, put_count, cut_count}
-use Rattle.mesh_below.proofs.Entries.{exactly_least}
 use Rattle.mesh_below.proofs.Filing.{positive_times, weight_pieces, work_pieces}
 
 -- ---- segments that stay clear of each other
@@ -36,16 +35,20 @@ clear_self e c m = by m
   where
     start : (e : Edge) → is_end e.0 e ≡ true
     start e = (decides_end e.0 e).1 (inl refl)
+
     end : (e : Edge) → is_end e.1 e ≡ true
     end e = (decides_end e.1 e).1 (inr refl)
+
     by_both : (e f : Edge) → e ≡ f → IsCrossing e f → ⊥
     by_both e f p h = not_opposite (turn e.0 e.1 f.0) (turn e.0 e.1 f.1) (ap (λ (v : Edge). turn e.0 e.1 v.0) (sym p) ∙ turn_start e.0 e.1) h.second_parted
+
     by_all : {e f : Edge} {c : Point} → e ≡ f → Meets e f c → ⊥
     by_all {e} {f} p (at_start_of_second i) = both_ways _ (subst (λ (x : Edge). is_end x.0 e ≡ false) (sym p) i.no_end) (start e)
     by_all {e} {f} p (at_end_of_second i) = both_ways _ (subst (λ (x : Edge). is_end x.1 e ≡ false) (sym p) i.no_end) (end e)
     by_all {e} {f} p (at_start_of_first i) = both_ways _ (subst (λ (x : Edge). is_end e.0 x ≡ false) (sym p) i.no_end) (start e)
     by_all {e} {f} p (at_end_of_first i) = both_ways _ (subst (λ (x : Edge). is_end e.1 x ≡ false) (sym p) i.no_end) (end e)
     by_all {e} {f} p (at_crossing i) = by_both e f p i
+
     by : {c : Point} → Meets e e c → ⊥
     by m = by_all refl m
 
@@ -56,15 +59,15 @@ keep_clear : (live live' : List Counted) (k : Counted) → IsPut live live' k �
 keep_clear live live' k put clear h = λ e some f other.
     ⊎_elim
     (λ (t : same_edge e k.0 ≡ true).
-        ⊎_elim
-        (λ (u : same_edge f k.0 ≡ true). subst (λ (x : Edge). AreClear x f) (sym ((decides_edge e k.0).0 t)) (subst (λ (x : Edge). AreClear k.0 x) (sym ((decides_edge f k.0).0 u)) (clear_self k.0)))
-        (λ (n : same_edge f k.0 ≡ false). subst (λ (x : Edge). AreClear x f) (sym ((decides_edge e k.0).0 t)) (clear f (stood f n other)))
-        (cases_Bool (same_edge f k.0)))
+    ⊎_elim
+    (λ (u : same_edge f k.0 ≡ true). subst (λ (x : Edge). AreClear x f) (sym ((decides_edge e k.0).0 t)) (subst (λ (x : Edge). AreClear k.0 x) (sym ((decides_edge f k.0).0 u)) (clear_self k.0)))
+    (λ (n : same_edge f k.0 ≡ false). subst (λ (x : Edge). AreClear x f) (sym ((decides_edge e k.0).0 t)) (clear f (stood f n other)))
+    (cases_Bool (same_edge f k.0)))
     (λ (n : same_edge e k.0 ≡ false).
-        ⊎_elim
-        (λ (u : same_edge f k.0 ≡ true). subst (λ (x : Edge). AreClear e x) (sym ((decides_edge f k.0).0 u)) (clear_swapped k.0 e (clear e (stood e n some))))
-        (λ (m : same_edge f k.0 ≡ false). h e (stood e n some) f (stood f m other))
-        (cases_Bool (same_edge f k.0)))
+    ⊎_elim
+    (λ (u : same_edge f k.0 ≡ true). subst (λ (x : Edge). AreClear e x) (sym ((decides_edge f k.0).0 u)) (clear_swapped k.0 e (clear e (stood e n some))))
+    (λ (m : same_edge f k.0 ≡ false). h e (stood e n some) f (stood f m other))
+    (cases_Bool (same_edge f k.0)))
     (cases_Bool (same_edge e k.0))
   where
     stood : (q : Edge) → same_edge q k.0 ≡ false → pos 0 <ℤ exactly q live' → pos 0 <ℤ exactly q live
@@ -117,9 +120,9 @@ settles_kept todo live live' k proper clear put = record {
   reached = λ given r. record { cuts = r.cuts; legal = r.legal; count = keep_count (after r.cuts given) todo live live' k [] put r.count };
   clear = keep_clear live live' k put clear;
   work_falls =
-    let l : 1 ≤ extent k.0 = extent_least k.0 proper in
-    let f : live_work k <ℤ waiting_work k = less (extent k.0) l in
-    omega (arith, linear, put live_work);
+      let l : 1 ≤ extent k.0 = extent_least k.0 proper in
+      let f : live_work k <ℤ waiting_work k = less (extent k.0) l in
+      omega (arith, linear, put live_work);
   weight_stays = omega (arith, linear, put weight);
 }
   where
@@ -140,8 +143,8 @@ settles_first todo live todo' live' k t c m end p =
       };
       clear = fewer_clear live live' (λ q. omega (arith, linear, p.first.live_ends q, p.second.live_ends q));
       work_falls =
-        let f : pos (4 * extent k.0 - 3) ≤ℤ waiting_work k = less (extent k.0) in
-        omega (arith, linear, p.first.work_grows, p.second.work_grows, work_pieces k.0 c inner box);
+          let f : pos (4 * extent k.0 - 3) ≤ℤ waiting_work k = less (extent k.0) in
+          omega (arith, linear, p.first.work_grows, p.second.work_grows, work_pieces k.0 c inner box);
       weight_stays = omega (arith, linear, p.first.weight_grows, p.second.weight_grows, weight_pieces k c inner box);
     }
   where
@@ -170,15 +173,15 @@ settles_second todo live live1 todo2 live2 todo' live' k j t c m end inner other
     let box = subst (λ (x : Edge). IsInBox x c) (sym same) (meets_box m.meets).1 in
     record {
       reached = λ given r.
-        let h = held_is (after r.cuts given) todo live k [] m.proper r.count refl in
-        let apart = apart_ends (after r.cuts given) todo live live1 k j h taken in
-        let held = swap_count (after r.cuts given) todo live1 j k [] (take_count (after r.cuts given) todo live live1 j (k ∷ []) taken r.count) in
-        let back = put_count (after r.cuts given) todo live1 todo2 live2 k (j ∷ []) m.proper (alone k.0 j apart) put held in
-        record {
-          cuts = (record { ends = j.0; at = c }) ∷ r.cuts;
-          legal = subst (IsLegal given) (other_cut k.0 t c r.cuts end inner ∙ ap (λ (x : Edge). (record { ends = x; at = c }) ∷ r.cuts) (sym same)) (legal_split given todo live k t c m r);
-          count = cut_count (after r.cuts given) todo2 live2 todo' live' j c [] other refl refl refl p back;
-        };
+          let h = held_is (after r.cuts given) todo live k [] m.proper r.count refl in
+          let apart = apart_ends (after r.cuts given) todo live live1 k j h taken in
+          let held = swap_count (after r.cuts given) todo live1 j k [] (take_count (after r.cuts given) todo live live1 j (k ∷ []) taken r.count) in
+          let back = put_count (after r.cuts given) todo live1 todo2 live2 k (j ∷ []) m.proper (alone k.0 j apart) put held in
+          record {
+            cuts = (record { ends = j.0; at = c }) ∷ r.cuts;
+            legal = subst (IsLegal given) (other_cut k.0 t c r.cuts end inner ∙ ap (λ (x : Edge). (record { ends = x; at = c }) ∷ r.cuts) (sym same)) (legal_split given todo live k t c m r);
+            count = cut_count (after r.cuts given) todo2 live2 todo' live' j c [] other refl refl refl p back;
+          };
       clear = fewer_clear live live' (λ q. omega (arith, linear, p.first.live_ends q, p.second.live_ends q, put.live_ends q, taken_fewer live live1 j taken q));
       work_falls = omega (arith, linear, taken live_work, put.work_grows, p.first.work_grows, p.second.work_grows, work_pieces j.0 c inside box);
       weight_stays = omega (arith, linear, taken weight, put.weight_grows, p.first.weight_grows, p.second.weight_grows, weight_pieces j c inside box);
@@ -194,21 +197,21 @@ settles_both todo live live1 todo2 live2 todo' live' k j t c m outer inner other
     let box = subst (λ (x : Edge). IsInBox x c) (sym same) boxes.1 in
     record {
       reached = λ given r.
-        let h = held_is (after r.cuts given) todo live k [] m.proper r.count refl in
-        let apart = apart_ends (after r.cuts given) todo live live1 k j h taken in
-        let held = swap_count (after r.cuts given) todo live1 j k [] (take_count (after r.cuts given) todo live live1 j (k ∷ []) taken r.count) in
-        let start : same_ends (k.0.0 , c) j.0 ≡ false = ends_sym (k.0.0 , c) j.0 ∙ not_ends c j.0 (k.0.0 , c) inside ((decides_end c (k.0.0 , c)).1 (inr refl)) in
-        let rest : same_ends (c , k.0.1) j.0 ≡ false = ends_sym (c , k.0.1) j.0 ∙ not_ends c j.0 (c , k.0.1) inside ((decides_end c (c , k.0.1)).1 (inl refl)) in
-        let done = cut_count (after r.cuts given) todo live1 todo2 live2 k c (j ∷ []) m.proper (alone (k.0.0 , c) j start) (alone (c , k.0.1) j rest) (alone k.0 j apart) first held in
-        record {
-          cuts = (record { ends = j.0; at = c }) ∷ (record { ends = k.0; at = c }) ∷ r.cuts;
-          legal = subst (IsLegal given) (both_cut k.0 t c r.cuts outer inner ∙ ap (λ (x : Edge). (record { ends = x; at = c }) ∷ (record { ends = k.0; at = c }) ∷ r.cuts) (sym same)) (legal_split given todo live k t c m r);
-          count = cut_count (cut (record { ends = k.0; at = c }) (after r.cuts given)) todo2 live2 todo' live' j c [] other refl refl refl p done;
-        };
+          let h = held_is (after r.cuts given) todo live k [] m.proper r.count refl in
+          let apart = apart_ends (after r.cuts given) todo live live1 k j h taken in
+          let held = swap_count (after r.cuts given) todo live1 j k [] (take_count (after r.cuts given) todo live live1 j (k ∷ []) taken r.count) in
+          let start : same_ends (k.0.0, c) j.0 ≡ false = ends_sym (k.0.0, c) j.0 ∙ not_ends c j.0 (k.0.0, c) inside ((decides_end c (k.0.0, c)).1 (inr refl)) in
+          let rest : same_ends (c, k.0.1) j.0 ≡ false = ends_sym (c, k.0.1) j.0 ∙ not_ends c j.0 (c, k.0.1) inside ((decides_end c (c, k.0.1)).1 (inl refl)) in
+          let done = cut_count (after r.cuts given) todo live1 todo2 live2 k c (j ∷ []) m.proper (alone (k.0.0, c) j start) (alone (c, k.0.1) j rest) (alone k.0 j apart) first held in
+          record {
+            cuts = (record { ends = j.0; at = c }) ∷ (record { ends = k.0; at = c }) ∷ r.cuts;
+            legal = subst (IsLegal given) (both_cut k.0 t c r.cuts outer inner ∙ ap (λ (x : Edge). (record { ends = x; at = c }) ∷ (record { ends = k.0; at = c }) ∷ r.cuts) (sym same)) (legal_split given todo live k t c m r);
+            count = cut_count (cut (record { ends = k.0; at = c }) (after r.cuts given)) todo2 live2 todo' live' j c [] other refl refl refl p done;
+          };
       clear = fewer_clear live live' (λ q. omega (arith, linear, p.first.live_ends q, p.second.live_ends q, first.first.live_ends q, first.second.live_ends q, taken_fewer live live1 j taken q));
       work_falls =
-        let f : pos (4 * extent k.0 - 3) ≤ℤ waiting_work k = less (extent k.0) in
-        omega (arith, linear, taken live_work, first.first.work_grows, first.second.work_grows, p.first.work_grows, p.second.work_grows, work_pieces k.0 c outer boxes.0, work_pieces j.0 c inside box);
+          let f : pos (4 * extent k.0 - 3) ≤ℤ waiting_work k = less (extent k.0) in
+          omega (arith, linear, taken live_work, first.first.work_grows, first.second.work_grows, p.first.work_grows, p.second.work_grows, work_pieces k.0 c outer boxes.0, work_pieces j.0 c inside box);
       weight_stays = omega (arith, linear, taken weight, first.first.weight_grows, first.second.weight_grows, p.first.weight_grows, p.second.weight_grows, weight_pieces k c outer boxes.0, weight_pieces j c inside box);
     }
   where

@@ -28,32 +28,32 @@ natural (negsuc n) h = absurd (omega (arith, ints))
 between_part : (m t a b : ℤ) → pos 0 <ℤ m → pos 0 ≤ℤ t → t ≤ℤ m → IsBetween (m *ℤ a) ((m *ℤ a) +ℤ (t *ℤ (b -ℤ a))) (m *ℤ b)
 between_part m t a b some low high =
     let rest : (m *ℤ b) -ℤ ((m *ℤ a) +ℤ (t *ℤ (b -ℤ a))) ≡ (m -ℤ t) *ℤ (b -ℤ a) =
-        ring (m ∷ t ∷ a ∷ b ∷ []) ((var 0 ⊗ var 3) ⊖ ((var 0 ⊗ var 2) ⊕ (var 1 ⊗ (var 3 ⊖ var 2)))) ((var 0 ⊖ var 1) ⊗ (var 3 ⊖ var 2)) refl in
+    ring (m ∷ t ∷ a ∷ b ∷ []) ((var 0 ⊗ var 3) ⊖ ((var 0 ⊗ var 2) ⊕ (var 1 ⊗ (var 3 ⊖ var 2)))) ((var 0 ⊖ var 1) ⊗ (var 3 ⊖ var 2)) refl in
     record {
-        up = λ (h : (m *ℤ a) ≤ℤ (m *ℤ b)).
-            (let e : a ≤ℤ b = le_of_mul_le_mul m a b some h in
-            let x : pos 0 ≤ℤ (t *ℤ (b -ℤ a)) = mul_nonneg t (b -ℤ a) low (omega (arith, linear)) in
-            let y : pos 0 ≤ℤ ((m -ℤ t) *ℤ (b -ℤ a)) = mul_nonneg (m -ℤ t) (b -ℤ a) (omega (arith, linear)) (omega (arith, linear)) in
-            let u : (m *ℤ a) ≤ℤ ((m *ℤ a) +ℤ (t *ℤ (b -ℤ a))) = omega (arith, linear) in
-            let v : ((m *ℤ a) +ℤ (t *ℤ (b -ℤ a))) ≤ℤ (m *ℤ b) = omega (arith, linear) in
-            (u , v));
-        down = λ (h : (m *ℤ b) ≤ℤ (m *ℤ a)).
-            (let e : b ≤ℤ a = le_of_mul_le_mul m b a some h in
-            let x : (t *ℤ (b -ℤ a)) ≤ℤ pos 0 = mul_nonneg_nonpos t (b -ℤ a) low (omega (arith, linear)) in
-            let y : ((m -ℤ t) *ℤ (b -ℤ a)) ≤ℤ pos 0 = mul_nonneg_nonpos (m -ℤ t) (b -ℤ a) (omega (arith, linear)) (omega (arith, linear)) in
-            let u : (m *ℤ b) ≤ℤ ((m *ℤ a) +ℤ (t *ℤ (b -ℤ a))) = omega (arith, linear) in
-            let v : ((m *ℤ a) +ℤ (t *ℤ (b -ℤ a))) ≤ℤ (m *ℤ a) = omega (arith, linear) in
-            (u , v));
+      up = λ (h : (m *ℤ a) ≤ℤ (m *ℤ b)).
+          (let e : a ≤ℤ b = le_of_mul_le_mul m a b some h in
+          let x : pos 0 ≤ℤ (t *ℤ (b -ℤ a)) = mul_nonneg t (b -ℤ a) low (omega (arith, linear)) in
+          let y : pos 0 ≤ℤ ((m -ℤ t) *ℤ (b -ℤ a)) = mul_nonneg (m -ℤ t) (b -ℤ a) (omega (arith, linear)) (omega (arith, linear)) in
+          let u : (m *ℤ a) ≤ℤ ((m *ℤ a) +ℤ (t *ℤ (b -ℤ a))) = omega (arith, linear) in
+          let v : ((m *ℤ a) +ℤ (t *ℤ (b -ℤ a))) ≤ℤ (m *ℤ b) = omega (arith, linear) in
+          (u, v));
+      down = λ (h : (m *ℤ b) ≤ℤ (m *ℤ a)).
+          (let e : b ≤ℤ a = le_of_mul_le_mul m b a some h in
+          let x : (t *ℤ (b -ℤ a)) ≤ℤ pos 0 = mul_nonneg_nonpos t (b -ℤ a) low (omega (arith, linear)) in
+          let y : ((m -ℤ t) *ℤ (b -ℤ a)) ≤ℤ pos 0 = mul_nonneg_nonpos (m -ℤ t) (b -ℤ a) (omega (arith, linear)) (omega (arith, linear)) in
+          let u : (m *ℤ b) ≤ℤ ((m *ℤ a) +ℤ (t *ℤ (b -ℤ a))) = omega (arith, linear) in
+          let v : ((m *ℤ a) +ℤ (t *ℤ (b -ℤ a))) ≤ℤ (m *ℤ a) = omega (arith, linear) in
+          (u, v));
     }
 
-pub on_part : (m t : ℤ) (a b : Point) → pos 0 <ℤ m → pos 0 ≤ℤ t → t ≤ℤ m → IsOn (scale m a , scale m b) (part m t a b)
+pub on_part : (m t : ℤ) (a b : Point) → pos 0 <ℤ m → pos 0 ≤ℤ t → t ≤ℤ m → IsOn (scale m a, scale m b) (part m t a b)
 on_part m t a b some low high = record {
-    on_line =
-        ring (coordinates (a ∷ b ∷ []) (m ∷ t ∷ []))
-            (turned (scaled (var 4) (place 0)) (scaled (var 4) (place 1))
-                ((var 4 ⊗ var 0) ⊕ (var 5 ⊗ (var 2 ⊖ var 0)) , (var 4 ⊗ var 1) ⊕ (var 5 ⊗ (var 3 ⊖ var 1))))
-            (lit (pos 0)) refl;
-    in_box = record { by_x = between_part m t a.0 b.0 some low high; by_y = between_part m t a.1 b.1 some low high };
+  on_line =
+      ring (coordinates (a ∷ b ∷ []) (m ∷ t ∷ []))
+      (turned (scaled (var 4) (place 0)) (scaled (var 4) (place 1))
+      ((var 4 ⊗ var 0) ⊕ (var 5 ⊗ (var 2 ⊖ var 0)), (var 4 ⊗ var 1) ⊕ (var 5 ⊗ (var 3 ⊖ var 1))))
+      (lit (pos 0)) refl;
+  in_box = record { by_x = between_part m t a.0 b.0 some low high; by_y = between_part m t a.1 b.1 some low high };
 }
 
 -- an inner part is an end only where the ends are one point
@@ -64,26 +64,26 @@ inner_same m t a b low e =
 inner_same_last : (m t a b : ℤ) → t <ℤ m → (m *ℤ a) +ℤ (t *ℤ (b -ℤ a)) ≡ m *ℤ b → a ≡ b
 inner_same_last m t a b high e =
     let rest : (m *ℤ b) -ℤ ((m *ℤ a) +ℤ (t *ℤ (b -ℤ a))) ≡ (m -ℤ t) *ℤ (b -ℤ a) =
-        ring (m ∷ t ∷ a ∷ b ∷ []) ((var 0 ⊗ var 3) ⊖ ((var 0 ⊗ var 2) ⊕ (var 1 ⊗ (var 3 ⊖ var 2)))) ((var 0 ⊖ var 1) ⊗ (var 3 ⊖ var 2)) refl in
+    ring (m ∷ t ∷ a ∷ b ∷ []) ((var 0 ⊗ var 3) ⊖ ((var 0 ⊗ var 2) ⊕ (var 1 ⊗ (var 3 ⊖ var 2)))) ((var 0 ⊖ var 1) ⊗ (var 3 ⊖ var 2)) refl in
     ⊎_elim (λ (h : m -ℤ t ≡ pos 0). absurd (omega (arith, ints))) (λ (h : b -ℤ a ≡ pos 0). omega (arith, ints)) (factor (m -ℤ t) (b -ℤ a) (omega (arith, linear)))
 
 pub inner_no_end : (m t : ℤ) (a b : Point) → pos 0 <ℤ t → t <ℤ m → (part m t a b ≡ scale m a) ⊎ (part m t a b ≡ scale m b) → a ≡ b
 inner_no_end m t a b low high (inl e) =
     let x : a.0 ≡ b.0 = inner_same m t a.0 b.0 low (ap (λ (v : Point). v.0) e) in
     let y : a.1 ≡ b.1 = inner_same m t a.1 b.1 low (ap (λ (v : Point). v.1) e) in
-    λ i. (x i , y i)
+    λ i. (x i, y i)
 inner_no_end m t a b low high (inr e) =
     let x : a.0 ≡ b.0 = inner_same_last m t a.0 b.0 high (ap (λ (v : Point). v.0) e) in
     let y : a.1 ≡ b.1 = inner_same_last m t a.1 b.1 high (ap (λ (v : Point). v.1) e) in
-    λ i. (x i , y i)
+    λ i. (x i, y i)
 
 -- ---- identities of the four turns of two edges
 pub four_turns : (a b p r : Point) → turn p r a -ℤ turn p r b ≡ turn a b r -ℤ turn a b p
 four_turns a b p r =
     ring (coordinates (a ∷ b ∷ p ∷ r ∷ []) [])
-        (turned (place 2) (place 3) (place 0) ⊖ turned (place 2) (place 3) (place 1))
-        (turned (place 0) (place 1) (place 3) ⊖ turned (place 0) (place 1) (place 2))
-        refl
+    (turned (place 2) (place 3) (place 0) ⊖ turned (place 2) (place 3) (place 1))
+    (turned (place 0) (place 1) (place 3) ⊖ turned (place 0) (place 1) (place 2))
+    refl
 
 -- where two edges cross, as a part of either
 common : (a b p r : Point) →
@@ -91,32 +91,32 @@ common : (a b p r : Point) →
 common a b p r =
     let d = turned (place 2) (place 3) (place 0) ⊖ turned (place 2) (place 3) (place 1) in
     let x : (part (turn p r a -ℤ turn p r b) (turn p r a) a b).0 ≡ (part (turn p r a -ℤ turn p r b) (neg_ℤ (turn a b p)) p r).0 =
-        ring (coordinates (a ∷ b ∷ p ∷ r ∷ []) [])
-            (((turned (place 2) (place 3) (place 0) ⊖ turned (place 2) (place 3) (place 1)) ⊗ var 0) ⊕ (turned (place 2) (place 3) (place 0) ⊗ (var 2 ⊖ var 0)))
-            (((turned (place 2) (place 3) (place 0) ⊖ turned (place 2) (place 3) (place 1)) ⊗ var 4) ⊕ (neg (turned (place 0) (place 1) (place 2)) ⊗ (var 6 ⊖ var 4)))
-            refl in
+    ring (coordinates (a ∷ b ∷ p ∷ r ∷ []) [])
+    (((turned (place 2) (place 3) (place 0) ⊖ turned (place 2) (place 3) (place 1)) ⊗ var 0) ⊕ (turned (place 2) (place 3) (place 0) ⊗ (var 2 ⊖ var 0)))
+    (((turned (place 2) (place 3) (place 0) ⊖ turned (place 2) (place 3) (place 1)) ⊗ var 4) ⊕ (neg (turned (place 0) (place 1) (place 2)) ⊗ (var 6 ⊖ var 4)))
+    refl in
     let y : (part (turn p r a -ℤ turn p r b) (turn p r a) a b).1 ≡ (part (turn p r a -ℤ turn p r b) (neg_ℤ (turn a b p)) p r).1 =
-        ring (coordinates (a ∷ b ∷ p ∷ r ∷ []) [])
-            (((turned (place 2) (place 3) (place 0) ⊖ turned (place 2) (place 3) (place 1)) ⊗ var 1) ⊕ (turned (place 2) (place 3) (place 0) ⊗ (var 3 ⊖ var 1)))
-            (((turned (place 2) (place 3) (place 0) ⊖ turned (place 2) (place 3) (place 1)) ⊗ var 5) ⊕ (neg (turned (place 0) (place 1) (place 2)) ⊗ (var 7 ⊖ var 5)))
-            refl in
-    λ i. (x i , y i)
+    ring (coordinates (a ∷ b ∷ p ∷ r ∷ []) [])
+    (((turned (place 2) (place 3) (place 0) ⊖ turned (place 2) (place 3) (place 1)) ⊗ var 1) ⊕ (turned (place 2) (place 3) (place 0) ⊗ (var 3 ⊖ var 1)))
+    (((turned (place 2) (place 3) (place 0) ⊖ turned (place 2) (place 3) (place 1)) ⊗ var 5) ⊕ (neg (turned (place 0) (place 1) (place 2)) ⊗ (var 7 ⊖ var 5)))
+    refl in
+    λ i. (x i, y i)
 
 along_x : (a b p r : Point) →
     (r.0 -ℤ p.0) *ℤ turn a b p ≡ ((a.0 -ℤ p.0) *ℤ (turn p r b -ℤ turn p r a)) -ℤ ((b.0 -ℤ a.0) *ℤ turn p r a)
 along_x a b p r =
     ring (coordinates (a ∷ b ∷ p ∷ r ∷ []) [])
-        ((var 6 ⊖ var 4) ⊗ turned (place 0) (place 1) (place 2))
-        (((var 0 ⊖ var 4) ⊗ (turned (place 2) (place 3) (place 1) ⊖ turned (place 2) (place 3) (place 0))) ⊖ ((var 2 ⊖ var 0) ⊗ turned (place 2) (place 3) (place 0)))
-        refl
+    ((var 6 ⊖ var 4) ⊗ turned (place 0) (place 1) (place 2))
+    (((var 0 ⊖ var 4) ⊗ (turned (place 2) (place 3) (place 1) ⊖ turned (place 2) (place 3) (place 0))) ⊖ ((var 2 ⊖ var 0) ⊗ turned (place 2) (place 3) (place 0)))
+    refl
 
 along_y : (a b p r : Point) →
     (r.1 -ℤ p.1) *ℤ turn a b p ≡ ((a.1 -ℤ p.1) *ℤ (turn p r b -ℤ turn p r a)) -ℤ ((b.1 -ℤ a.1) *ℤ turn p r a)
 along_y a b p r =
     ring (coordinates (a ∷ b ∷ p ∷ r ∷ []) [])
-        ((var 7 ⊖ var 5) ⊗ turned (place 0) (place 1) (place 2))
-        (((var 1 ⊖ var 5) ⊗ (turned (place 2) (place 3) (place 1) ⊖ turned (place 2) (place 3) (place 0))) ⊖ ((var 3 ⊖ var 1) ⊗ turned (place 2) (place 3) (place 0)))
-        refl
+    ((var 7 ⊖ var 5) ⊗ turned (place 0) (place 1) (place 2))
+    (((var 1 ⊖ var 5) ⊗ (turned (place 2) (place 3) (place 1) ⊖ turned (place 2) (place 3) (place 0))) ⊖ ((var 3 ⊖ var 1) ⊗ turned (place 2) (place 3) (place 0)))
+    refl
 
 none_of : (c d x y : ℤ) → x ≡ pos 0 → y ≡ pos 0 → (c *ℤ (y -ℤ x)) -ℤ (d *ℤ x) ≡ pos 0
 none_of c d x y ex ey =
@@ -127,16 +127,16 @@ none_of c d x y ex ey =
 pub line_turn : (a b p r : Point) → (p ≡ r → ⊥) → turn p r a ≡ pos 0 → turn p r b ≡ pos 0 → turn a b p ≡ pos 0
 line_turn a b p r differ ea eb =
     ⊎_elim
-        (λ (hx : r.0 -ℤ p.0 ≡ pos 0).
-            ⊎_elim
-                (λ (hy : r.1 -ℤ p.1 ≡ pos 0).
-                    let x : p.0 ≡ r.0 = omega (arith, ints) in
-                    let y : p.1 ≡ r.1 = omega (arith, ints) in
-                    absurd (differ (λ i. (x i , y i))))
-                (λ (h : turn a b p ≡ pos 0). h)
-                (factor (r.1 -ℤ p.1) (turn a b p) (along_y a b p r ∙ none_of (a.1 -ℤ p.1) (b.1 -ℤ a.1) (turn p r a) (turn p r b) ea eb)))
-        (λ (h : turn a b p ≡ pos 0). h)
-        (factor (r.0 -ℤ p.0) (turn a b p) (along_x a b p r ∙ none_of (a.0 -ℤ p.0) (b.0 -ℤ a.0) (turn p r a) (turn p r b) ea eb))
+    (λ (hx : r.0 -ℤ p.0 ≡ pos 0).
+    ⊎_elim
+    (λ (hy : r.1 -ℤ p.1 ≡ pos 0).
+    let x : p.0 ≡ r.0 = omega (arith, ints) in
+    let y : p.1 ≡ r.1 = omega (arith, ints) in
+    absurd (differ (λ i. (x i, y i))))
+    (λ (h : turn a b p ≡ pos 0). h)
+    (factor (r.1 -ℤ p.1) (turn a b p) (along_y a b p r ∙ none_of (a.1 -ℤ p.1) (b.1 -ℤ a.1) (turn p r a) (turn p r b) ea eb)))
+    (λ (h : turn a b p ≡ pos 0). h)
+    (factor (r.0 -ℤ p.0) (turn a b p) (along_x a b p r ∙ none_of (a.0 -ℤ p.0) (b.0 -ℤ a.0) (turn p r a) (turn p r b) ea eb))
 
 pub turn_start : (p r : Point) → turn p r p ≡ pos 0
 turn_start p r = ring (coordinates (p ∷ r ∷ []) []) (turned (place 0) (place 1) (place 0)) (lit (pos 0)) refl
@@ -147,22 +147,22 @@ turn_end p r = ring (coordinates (p ∷ r ∷ []) []) (turned (place 0) (place 1
 -- ---- clear of each other
 -- on every grid, a point on both segments is an end of the first
 pub record Meeting (a b p r : Point) : Type 0 where
-  pub at_end : (m : ℤ) → pos 0 <ℤ m → (z : Point) → IsOn (scale m a , scale m b) z → IsOn (scale m p , scale m r) z
-    → (z ≡ scale m a) ⊎ (z ≡ scale m b)
+  pub at_end : (m : ℤ) → pos 0 <ℤ m → (z : Point) → IsOn (scale m a, scale m b) z → IsOn (scale m p, scale m r) z
+      → (z ≡ scale m a) ⊎ (z ≡ scale m b)
 
 between_back : (a z b : ℤ) → IsBetween a z b → IsBetween b z a
 between_back a z b h = record { up = h.down; down = h.up }
 
-pub on_back : (p r z : Point) → IsOn (p , r) z → IsOn (r , p) z
+pub on_back : (p r z : Point) → IsOn (p, r) z → IsOn (r, p) z
 on_back p r z h = record {
-    on_line = omega (arith, linear, turn_flip p r z, h.on_line);
-    in_box = record { by_x = between_back p.0 z.0 r.0 h.in_box.by_x; by_y = between_back p.1 z.1 r.1 h.in_box.by_y };
+  on_line = omega (arith, linear, turn_flip p r z, h.on_line);
+  in_box = record { by_x = between_back p.0 z.0 r.0 h.in_box.by_x; by_y = between_back p.1 z.1 r.1 h.in_box.by_y };
 }
 
 pub meeting_back : (a b p r : Point) → Meeting a b p r → Meeting a b r p
 meeting_back a b p r h = record {
-    at_end = λ (m : ℤ) (some : pos 0 <ℤ m) (z : Point) (x : IsOn (scale m a , scale m b) z) (y : IsOn (scale m r , scale m p) z).
-        h.at_end m some z x (on_back (scale m r) (scale m p) z y);
+  at_end = λ (m : ℤ) (some : pos 0 <ℤ m) (z : Point) (x : IsOn (scale m a, scale m b) z) (y : IsOn (scale m r, scale m p) z).
+      h.at_end m some z x (on_back (scale m r) (scale m p) z y);
 }
 
 clear_back : (a b p r : Point) → Clear a b r p → Clear a b p r
@@ -178,20 +178,20 @@ no_crossing a b p r differ meet s3 s4 s1 s2 =
     let low : pos 0 <ℤ turn p r a = s3 in
     let high : turn p r a <ℤ d = omega (arith, linear) in
     let some : pos 0 <ℤ d = omega (arith, linear) in
-    let second : IsOn (scale d p , scale d r) (part d (turn p r a) a b) =
-        subst (λ (z : Point). IsOn (scale d p , scale d r) z) (sym (common a b p r))
-            (on_part d (neg_ℤ (turn a b p)) p r some (omega (arith, linear)) (omega (arith, linear, four_turns a b p r))) in
+    let second : IsOn (scale d p, scale d r) (part d (turn p r a) a b) =
+    subst (λ (z : Point). IsOn (scale d p, scale d r) z) (sym (common a b p r))
+    (on_part d (neg_ℤ (turn a b p)) p r some (omega (arith, linear)) (omega (arith, linear, four_turns a b p r))) in
     differ (inner_no_end d (turn p r a) a b low high
-        (meet.at_end d some (part d (turn p r a) a b) (on_part d (turn p r a) a b some (omega (arith, linear)) (omega (arith, linear))) second))
+    (meet.at_end d some (part d (turn p r a) a b) (on_part d (turn p r a) a b some (omega (arith, linear)) (omega (arith, linear))) second))
 
 clear_crossed : (a b p r : Point) → (a ≡ b → ⊥) → Meeting a b p r → pos 0 <ℤ turn p r a → turn p r b <ℤ pos 0 → Clear a b p r
 clear_crossed a b p r differ meet s3 s4 =
     by_lt_z (pos 0) (turn a b p)
-        (λ (h : pos 0 <ℤ turn a b p). on_left h (omega (arith, linear, four_turns a b p r)))
-        (λ (h : turn a b p ≤ℤ pos 0).
-            by_lt_z (turn a b r) (pos 0)
-                (λ (k : turn a b r <ℤ pos 0). on_right (omega (arith, linear, four_turns a b p r)) k)
-                (λ (k : pos 0 ≤ℤ turn a b r). absurd (no_crossing a b p r differ meet s3 s4 h k)))
+    (λ (h : pos 0 <ℤ turn a b p). on_left h (omega (arith, linear, four_turns a b p r)))
+    (λ (h : turn a b p ≤ℤ pos 0).
+    by_lt_z (turn a b r) (pos 0)
+    (λ (k : turn a b r <ℤ pos 0). on_right (omega (arith, linear, four_turns a b p r)) k)
+    (λ (k : pos 0 ≤ℤ turn a b r). absurd (no_crossing a b p r differ meet s3 s4 h k)))
 
 clear_line : (a b p r : Point) → (p ≡ r → ⊥) → turn p r a ≡ pos 0 → turn p r b ≡ pos 0 → Clear a b p r
 clear_line a b p r apart ea eb =
@@ -201,35 +201,35 @@ clear_line a b p r apart ea eb =
 pub clear_of : (a b p r : Point) → (a ≡ b → ⊥) → (p ≡ r → ⊥) → Meeting a b p r → Clear a b p r
 clear_of a b p r differ apart meet =
     by_lt_z (pos 0) (turn p r a)
-        (λ (h : pos 0 <ℤ turn p r a).
-            by_lt_z (turn p r b) (pos 0)
-                (λ (k : turn p r b <ℤ pos 0). clear_crossed a b p r differ meet h k)
-                (λ (k : pos 0 ≤ℤ turn p r b). ahead (omega (arith, linear)) k (omega (arith, linear))))
-        (λ (h : turn p r a ≤ℤ pos 0).
-            by_lt_z (turn p r a) (pos 0)
-                (λ (h' : turn p r a <ℤ pos 0).
-                    by_lt_z (pos 0) (turn p r b)
-                        (λ (k : pos 0 <ℤ turn p r b).
-                            clear_back a b p r
-                                (clear_crossed a b r p differ (meeting_back a b p r meet) (omega (arith, linear, turn_flip p r a)) (omega (arith, linear, turn_flip p r b))))
-                        (λ (k : turn p r b ≤ℤ pos 0). behind h k (omega (arith, linear))))
-                (λ (h' : pos 0 ≤ℤ turn p r a).
-                    by_lt_z (pos 0) (turn p r b)
-                        (λ (k : pos 0 <ℤ turn p r b). ahead h' (omega (arith, linear)) (omega (arith, linear)))
-                        (λ (k : turn p r b ≤ℤ pos 0).
-                            by_lt_z (turn p r b) (pos 0)
-                                (λ (k' : turn p r b <ℤ pos 0). behind h k (omega (arith, linear)))
-                                (λ (k' : pos 0 ≤ℤ turn p r b). clear_line a b p r apart (omega (arith, linear)) (omega (arith, linear))))))
+    (λ (h : pos 0 <ℤ turn p r a).
+    by_lt_z (turn p r b) (pos 0)
+    (λ (k : turn p r b <ℤ pos 0). clear_crossed a b p r differ meet h k)
+    (λ (k : pos 0 ≤ℤ turn p r b). ahead (omega (arith, linear)) k (omega (arith, linear))))
+    (λ (h : turn p r a ≤ℤ pos 0).
+    by_lt_z (turn p r a) (pos 0)
+    (λ (h' : turn p r a <ℤ pos 0).
+    by_lt_z (pos 0) (turn p r b)
+    (λ (k : pos 0 <ℤ turn p r b).
+    clear_back a b p r
+    (clear_crossed a b r p differ (meeting_back a b p r meet) (omega (arith, linear, turn_flip p r a)) (omega (arith, linear, turn_flip p r b))))
+    (λ (k : turn p r b ≤ℤ pos 0). behind h k (omega (arith, linear))))
+    (λ (h' : pos 0 ≤ℤ turn p r a).
+    by_lt_z (pos 0) (turn p r b)
+    (λ (k : pos 0 <ℤ turn p r b). ahead h' (omega (arith, linear)) (omega (arith, linear)))
+    (λ (k : turn p r b ≤ℤ pos 0).
+    by_lt_z (turn p r b) (pos 0)
+    (λ (k' : turn p r b <ℤ pos 0). behind h k (omega (arith, linear)))
+    (λ (k' : pos 0 ≤ℤ turn p r b). clear_line a b p r apart (omega (arith, linear)) (omega (arith, linear))))))
 
 -- ---- over a clean list
 pub meeting_of : (es : List Edge) → IsClean es → (s e : Edge) → occurs s es ≡ true → occurs e es ≡ true → same_ends s e ≡ false → Meeting s.0 s.1 e.0 e.1
 meeting_of es clean s e hs he differ = record {
-    at_end = λ (m : ℤ) (some : pos 0 <ℤ m) (z : Point) (x : IsOn (scale m s.0 , scale m s.1) z) (y : IsOn (scale m e.0 , scale m e.1) z).
-        (let n = natural m some in
-        let on_first : IsOn (refined_edge n.size s) z = subst (λ (k : ℤ). IsOn (scale k s.0 , scale k s.1) z) n.same x in
-        let on_second : IsOn (refined_edge n.size e) z = subst (λ (k : ℤ). IsOn (scale k e.0 , scale k e.1) z) n.same y in
-        let ends = (clean s e hs he differ n.size n.above_none).shared z on_first on_second in
-        subst (λ (k : ℤ). (z ≡ scale k s.0) ⊎ (z ≡ scale k s.1)) (sym n.same) ((decides_end z (refined_edge n.size s)).0 ends.0));
+  at_end = λ (m : ℤ) (some : pos 0 <ℤ m) (z : Point) (x : IsOn (scale m s.0, scale m s.1) z) (y : IsOn (scale m e.0, scale m e.1) z).
+      (let n = natural m some in
+      let on_first : IsOn (refined_edge n.size s) z = subst (λ (k : ℤ). IsOn (scale k s.0, scale k s.1) z) n.same x in
+      let on_second : IsOn (refined_edge n.size e) z = subst (λ (k : ℤ). IsOn (scale k e.0, scale k e.1) z) n.same y in
+      let ends = (clean s e hs he differ n.size n.above_none).shared z on_first on_second in
+      subst (λ (k : ℤ). (z ≡ scale k s.0) ⊎ (z ≡ scale k s.1)) (sym n.same) ((decides_end z (refined_edge n.size s)).0 ends.0));
 }
 
 pub proper_of : (es : List Edge) → IsProper es → (e : Edge) → occurs e es ≡ true → e.0 ≡ e.1 → ⊥
@@ -238,20 +238,20 @@ proper_of es proper e h same = both_ways (same_point e.0 e.1) (proper e h) ((dec
 pub clear_pair : (es : List Edge) → IsClean es → IsProper es → (s e : Edge) → occurs s es ≡ true → occurs e es ≡ true → Clear s.0 s.1 e.0 e.1
 clear_pair es clean proper s e hs he =
     ⊎_elim
-        (λ (t : same_ends s e ≡ true).
-            ⊎_elim
-                (λ (x : s ≡ e). subst (λ (f : Edge). Clear s.0 s.1 f.0 f.1) x (along (turn_start s.0 s.1) (turn_end s.0 s.1) (turn_start s.0 s.1) (turn_end s.0 s.1)))
-                (λ (x : s ≡ back e).
-                    subst (λ (f : Edge). Clear f.0 f.1 e.0 e.1) (sym x) (along (turn_end e.1 e.0) (turn_start e.1 e.0) (turn_end e.0 e.1) (turn_start e.0 e.1)))
-                ((decides_ends s e).0 t))
-        (λ (f : same_ends s e ≡ false). clear_of s.0 s.1 e.0 e.1 (proper_of es proper s hs) (proper_of es proper e he) (meeting_of es clean s e hs he f))
-        (cases_Bool (same_ends s e))
+    (λ (t : same_ends s e ≡ true).
+    ⊎_elim
+    (λ (x : s ≡ e). subst (λ (f : Edge). Clear s.0 s.1 f.0 f.1) x (along (turn_start s.0 s.1) (turn_end s.0 s.1) (turn_start s.0 s.1) (turn_end s.0 s.1)))
+    (λ (x : s ≡ back e).
+    subst (λ (f : Edge). Clear f.0 f.1 e.0 e.1) (sym x) (along (turn_end e.1 e.0) (turn_start e.1 e.0) (turn_end e.0 e.1) (turn_start e.0 e.1)))
+    ((decides_ends s e).0 t))
+    (λ (f : same_ends s e ≡ false). clear_of s.0 s.1 e.0 e.1 (proper_of es proper s hs) (proper_of es proper e he) (meeting_of es clean s e hs he f))
+    (cases_Bool (same_ends s e))
 
 -- what holds of each edge that occurs holds of each element
 pub each_of : (P : Edge → Type 0) (es : List Edge) → ((e : Edge) → occurs e es ≡ true → P e) → Each P es
 each_of P [] h = tt
 each_of P (e ∷ es) h =
-    (h e (λ i. ends_self e i || occurs e es) , each_of P es (λ (f : Edge) (o : occurs f es ≡ true). h f (or_right (same_ends f e) (occurs f es) o)))
+    (h e (λ i. ends_self e i || occurs e es), each_of P es (λ (f : Edge) (o : occurs f es ≡ true). h f (or_right (same_ends f e) (occurs f es) o)))
 
 pub clear_all : (es : List Edge) → IsClean es → IsProper es → (s : Edge) → occurs s es ≡ true → Each (ClearOf s.0 s.1) es
 clear_all es clean proper s hs = each_of (ClearOf s.0 s.1) es (λ (e : Edge) (he : occurs e es ≡ true). clear_pair es clean proper s e hs he)

@@ -1,15 +1,14 @@
 -- Lemmas over points and lists: how the waiting, live and held segments stand for a list of edges, step by step.
-use Rattle.std.proofs.Common.{◌≡◌, ◌⊎◌, inl, inr, ⊎_elim, Bool, true, false, cond, ◌&&◌, ◌||◌, not, sym, ◌∙◌, ap, subst, refl, arith, List, [], ◌∷◌, ◌++◌}
-use Rattle.std.specs.Prelude.{ℤ, pos, ◌+ℤ◌, ◌-ℤ◌, ◌*ℤ◌, ◌≤ℤ◌, ◌<ℤ◌, neg_ℤ, negsuc, int_lt, zero, suc}
-use Rattle.std.proofs.lemmas.Bool.{both_ways, cases_Bool}
+use Rattle.std.proofs.Common.{◌≡◌, Bool, true, false, cond, ◌&&◌, ◌||◌, not, sym, ◌∙◌, ap, refl, arith, List, [], ◌∷◌}
+use Rattle.std.specs.Prelude.{ℤ, pos, ◌+ℤ◌, ◌-ℤ◌, ◌*ℤ◌, ◌≤ℤ◌, negsuc, int_lt, zero, suc}
 use Rattle.std.proofs.lemmas.Int.{ints}
 use Rattle.mesh_num.specs.Plane.{Point, Edge}
-use Rattle.mesh_num.specs.Winding.{same_point, sum_of}
-use Rattle.mesh_num.proofs.Whole.{linear, mul_add, mul_neg, mul_sub, add_mul}
-use Rattle.mesh_below.specs.Split.{back, same_edge, same_ends, is_end, occurs, Cut, pieces, cut, after}
+use Rattle.mesh_num.specs.Winding.{same_point}
+use Rattle.mesh_num.proofs.Whole.{linear, mul_add, mul_sub}
+use Rattle.mesh_below.specs.Split.{same_ends, occurs, cut}
 use Rattle.mesh_below.specs.Counted.{Counted, bit, along, net, counted_net, times}
-use Rattle.mesh_below.specs.Steps.{exactly, IsTaken, IsPut, Puts, PutsPieces, AreCountOf, at_least_once}
-use Rattle.mesh_below.proofs.Ends.{decides_ends, ends_self, ends_turned, ends_sym, ends_along, along_turned, along_self, not_along, not_ends}
+use Rattle.mesh_below.specs.Steps.{IsTaken, IsPut, Puts, PutsPieces, AreCountOf, at_least_once}
+use Rattle.mesh_below.proofs.Ends.{ends_self, ends_sym, ends_along, along_self, not_along}
 use Rattle.mesh_below.proofs.Cuts.{net_cut, occurs_cut, change}
 
 pub bit_least : (b : Bool) → pos 0 ≤ℤ bit b
@@ -123,10 +122,10 @@ put_count es todo live todo' live' k held proper alone p r =
     record {
       counts = λ q. omega (arith, linear, r.counts q, p.counts q);
       once = λ q.
-        let none : same_ends q k.0 ≡ true → times q todo +ℤ times q live ≡ pos 0 =
-            λ e. omega (arith, linear, h.waits, h.lives, times_along q k.0 todo e, times_along q k.0 live e) in
-        let now : (times q todo +ℤ times q live) +ℤ (bit (same_ends q k.0) +ℤ times q held) ≡ bit (occurs q es) = omega (arith, linear, r.once q) in
-        omega (arith, linear, p.once q, put_back (same_ends q k.0) (times q todo +ℤ times q live) (times q held) (bit (occurs q es)) none now);
+          let none : same_ends q k.0 ≡ true → times q todo +ℤ times q live ≡ pos 0 =
+          λ e. omega (arith, linear, h.waits, h.lives, times_along q k.0 todo e, times_along q k.0 live e) in
+          let now : (times q todo +ℤ times q live) +ℤ (bit (same_ends q k.0) +ℤ times q held) ≡ bit (occurs q es) = omega (arith, linear, r.once q) in
+          omega (arith, linear, p.once q, put_back (same_ends q k.0) (times q todo +ℤ times q live) (times q held) (bit (occurs q es)) none now);
     }
 
 -- ---- a held segment is cut
@@ -166,23 +165,23 @@ once_cut s a b o p z h l m t f g e =
     either false b f g k = g k
 
 pub cut_count : (es : List Edge) (todo live todo' live' : List Counted) (k : Counted) (c : Point) (held : List Counted) → same_point k.0.0 k.0.1 ≡ false
-    → times (k.0.0 , c) held ≡ pos 0 → times (c , k.0.1) held ≡ pos 0 → times k.0 held ≡ pos 0
+    → times (k.0.0, c) held ≡ pos 0 → times (c, k.0.1) held ≡ pos 0 → times k.0 held ≡ pos 0
     → PutsPieces todo live todo' live' k c → AreCountOf es todo live (k ∷ held) → AreCountOf (cut (record { ends = k.0; at = c }) es) todo' live' held
 cut_count es todo live todo' live' k c held proper first second alone p r =
     let h = held_is es todo live k held proper r alone in
     record {
       counts = λ q.
-        let split : k.1 *ℤ change k.0 c q ≡ ((k.1 *ℤ along q (k.0.0 , c)) +ℤ (k.1 *ℤ along q (c , k.0.1))) -ℤ (k.1 *ℤ along q k.0) =
-            omega (arith, linear, mul_sub k.1 (along q (k.0.0 , c) +ℤ along q (c , k.0.1)) (along q k.0), mul_add k.1 (along q (k.0.0 , c)) (along q (c , k.0.1))) in
-        let count : net k.0 es *ℤ change k.0 c q ≡ k.1 *ℤ change k.0 c q = ap (λ (n : ℤ). n *ℤ change k.0 c q) h.count in
-        omega (arith, linear, r.counts q, p.first.counts q, p.second.counts q, net_cut q k.0 c es proper);
+          let split : k.1 *ℤ change k.0 c q ≡ ((k.1 *ℤ along q (k.0.0, c)) +ℤ (k.1 *ℤ along q (c, k.0.1))) -ℤ (k.1 *ℤ along q k.0) =
+          omega (arith, linear, mul_sub k.1 (along q (k.0.0, c) +ℤ along q (c, k.0.1)) (along q k.0), mul_add k.1 (along q (k.0.0, c)) (along q (c, k.0.1))) in
+          let count : net k.0 es *ℤ change k.0 c q ≡ k.1 *ℤ change k.0 c q = ap (λ (n : ℤ). n *ℤ change k.0 c q) h.count in
+          omega (arith, linear, r.counts q, p.first.counts q, p.second.counts q, net_cut q k.0 c es proper);
       once = λ q.
-        let by : times q todo' +ℤ times q live' ≡ at_least_once (same_ends q (c , k.0.1)) (at_least_once (same_ends q (k.0.0 , c)) (times q todo +ℤ times q live)) =
-            p.second.once q ∙ ap (at_least_once (same_ends q (c , k.0.1))) (p.first.once q) in
-        let low : pos 0 ≤ℤ (times q todo +ℤ times q live) = omega (arith, linear, times_least q todo, times_least q live) in
-        let now : (times q todo +ℤ times q live) +ℤ (bit (same_ends q k.0) +ℤ times q held) ≡ bit (occurs q es) = omega (arith, linear, r.once q) in
-        rw (by, occurs_cut q k.0 c es)
-        (once_cut (same_ends q k.0) (same_ends q (k.0.0 , c)) (same_ends q (c , k.0.1)) (occurs q es) (occurs k.0 es)
-        (times q todo +ℤ times q live) (times q held) low (times_least q held) h.stands
-        (λ e. times_along q (k.0.0 , c) held e ∙ first) (λ e. times_along q (c , k.0.1) held e ∙ second) now);
+          let by : times q todo' +ℤ times q live' ≡ at_least_once (same_ends q (c, k.0.1)) (at_least_once (same_ends q (k.0.0, c)) (times q todo +ℤ times q live)) =
+          p.second.once q ∙ ap (at_least_once (same_ends q (c, k.0.1))) (p.first.once q) in
+          let low : pos 0 ≤ℤ (times q todo +ℤ times q live) = omega (arith, linear, times_least q todo, times_least q live) in
+          let now : (times q todo +ℤ times q live) +ℤ (bit (same_ends q k.0) +ℤ times q held) ≡ bit (occurs q es) = omega (arith, linear, r.once q) in
+          rw (by, occurs_cut q k.0 c es)
+          (once_cut (same_ends q k.0) (same_ends q (k.0.0, c)) (same_ends q (c, k.0.1)) (occurs q es) (occurs k.0 es)
+          (times q todo +ℤ times q live) (times q held) low (times_least q held) h.stands
+          (λ e. times_along q (k.0.0, c) held e ∙ first) (λ e. times_along q (c, k.0.1) held e ∙ second) now);
     }

@@ -1,24 +1,23 @@
 -- Lemmas over points and lists: the given edges put in one by one, and the splitting up to its end.
-use Rattle.std.proofs.Common.{◌≡◌, ◌⊎◌, ℕ, ◌+◌, ◌-◌, ◌*◌, ◌<◌, ◌≤◌, ◌^◌, Bool, true, false, cond, ◌||◌, sym, ◌∙◌, ap, subst, refl, arith, List, [], ◌∷◌, ◌++◌, length, take, get_or, max, zero, suc}
+use Rattle.std.proofs.Common.{◌≡◌, ℕ, ◌+◌, ◌*◌, ◌<◌, ◌≤◌, ◌^◌, Bool, true, false, cond, ◌||◌, sym, ◌∙◌, ap, subst, refl, arith, List, [], ◌∷◌, ◌++◌, length, take, get_or, max, zero, suc}
 use Rattle.std.specs.Prelude.{ℤ, pos, ◌+ℤ◌, ◌-ℤ◌, ◌*ℤ◌, ◌≤ℤ◌, ◌<ℤ◌, unsigned_abs, int_lt}
 use Rattle.std.proofs.lemmas.Int.{ints}
 use Rattle.std.proofs.lemmas.List.{take_more, take_all}
 use Rattle.std.proofs.lemmas.Bool.{or_right}
 use mir.Syntax.{w32}
 use mir.Val.{SFits}
-use Rattle.mesh_num.specs.Plane.{Point, Edge}
+use Rattle.mesh_num.specs.Plane.{Edge}
 use Rattle.mesh_num.specs.Winding.{same_point, sum_of}
 use Rattle.mesh_num.proofs.Sums.{sum_of_append}
 use Rattle.mesh_num.proofs.Whole.{linear}
 use Rattle.mesh_below.specs.Boundary.{IsProper}
 use Rattle.mesh_below.specs.Split.{same_ends, occurs, no_cut}
-use Rattle.mesh_below.specs.Counted.{Counted, bit, along, net, times}
-use Rattle.mesh_below.specs.Steps.{exactly, IsTaken, Puts, AllClear, AreCountOf, IsReached, Settles, at_least_once, extent, weight, waiting_work, live_work, work, total_weight}
+use Rattle.mesh_below.specs.Counted.{Counted, bit, along, times}
+use Rattle.mesh_below.specs.Steps.{IsTaken, Puts, AllClear, AreCountOf, IsReached, Settles, at_least_once, extent, weight, waiting_work, live_work, work, total_weight}
 use Rattle.mesh_below.proofs.Ends.{ends_self}
 use Rattle.mesh_below.proofs.Cuts.{occurs_append}
 use Rattle.mesh_below.proofs.Stages.{pop_count}
 use Rattle.mesh_below.proofs.Settling.{fewer_clear}
-use Rattle.mesh_below.proofs.Filing.{weight_least}
 
 once_given : (b o : Bool) (z : ℤ) → z +ℤ pos 0 ≡ bit o → at_least_once b z +ℤ pos 0 ≡ bit (o || (b || false))
 once_given true true z h = ap (λ (x : ℤ). cond (int_lt (pos 0) x) x (pos 1) +ℤ pos 0) (one z h)
@@ -32,19 +31,19 @@ once_given true false z h = ap (λ (x : ℤ). cond (int_lt (pos 0) x) x (pos 1) 
 once_given false true z h = h
 once_given false false z h = h
 
-add_count : (es : List Edge) (e : Edge) (todo live todo' live' : List Counted) → Puts todo live todo' live' (e , pos 1) → AreCountOf es todo live [] → AreCountOf (es ++ e ∷ []) todo' live' []
+add_count : (es : List Edge) (e : Edge) (todo live todo' live' : List Counted) → Puts todo live todo' live' (e, pos 1) → AreCountOf es todo live [] → AreCountOf (es ++ e ∷ []) todo' live' []
 add_count es e todo live todo' live' p r = record {
   counts = λ q.
-    let one : pos 1 *ℤ along q e ≡ along q e = omega (arith, ints) in
-    omega (arith, linear, r.counts q, p.counts q, sum_of_append (along q) es (e ∷ []));
+      let one : pos 1 *ℤ along q e ≡ along q e = omega (arith, ints) in
+      omega (arith, linear, r.counts q, p.counts q, sum_of_append (along q) es (e ∷ []));
   once = λ q.
-    ap (λ (z : ℤ). z +ℤ pos 0) (p.once q)
-    ∙ once_given (same_ends q e) (occurs q es) (times q todo +ℤ times q live) (r.once q)
-    ∙ ap bit (sym (occurs_append q es (e ∷ [])));
+      ap (λ (z : ℤ). z +ℤ pos 0) (p.once q)
+      ∙ once_given (same_ends q e) (occurs q es) (times q todo +ℤ times q live) (r.once q)
+      ∙ ap bit (sym (occurs_append q es (e ∷ [])));
 }
 
 -- one more given edge
-pub more_count : (es : List Edge) (i : ℕ) (d : Edge) (todo live todo' live' : List Counted) → i < length es → Puts todo live todo' live' (get_or es i d , pos 1)
+pub more_count : (es : List Edge) (i : ℕ) (d : Edge) (todo live todo' live' : List Counted) → i < length es → Puts todo live todo' live' (get_or es i d, pos 1)
     → AreCountOf (take i es) todo live [] → AreCountOf (take (i + 1) es) todo' live' []
 more_count es i d todo live todo' live' h p r =
     subst (λ (x : List Edge). AreCountOf x todo' live' []) (sym (take_more es i d h)) (add_count (take i es) (get_or es i d) todo live todo' live' p r)
@@ -72,7 +71,7 @@ proper_at es i d h proper = proper (get_or es i d) (stands es i h)
     stands (e ∷ es) (suc i) h = or_right (same_ends (get_or es i d) e) (occurs (get_or es i d) es) (stands es i (omega arith))
 
 -- the weight of an edge with coordinates of 32 bits
-pub edge_weight : (e : Edge) → SFits w32 e.0.0 → SFits w32 e.0.1 → SFits w32 e.1.0 → SFits w32 e.1.1 → weight (e , pos 1) ≤ℤ pos (2 ^ 33)
+pub edge_weight : (e : Edge) → SFits w32 e.0.0 → SFits w32 e.0.1 → SFits w32 e.1.0 → SFits w32 e.1.1 → weight (e, pos 1) ≤ℤ pos (2 ^ 33)
 edge_weight e a b c d =
     let x : unsigned_abs (e.1.0 -ℤ e.0.0) ≤ 2 ^ 32 = omega (arith, ints) in
     let y : unsigned_abs (e.1.1 -ℤ e.0.1) ≤ 2 ^ 32 = omega (arith, ints) in
@@ -87,6 +86,7 @@ work_least todo live = omega (arith, linear, waiting todo, living live)
     waiting : (ks : List Counted) → pos 0 ≤ℤ sum_of waiting_work ks
     waiting [] = omega (arith, ints)
     waiting (k ∷ ks) = omega (arith, ints, waiting ks)
+
     living : (ks : List Counted) → pos 0 ≤ℤ sum_of live_work ks
     living [] = omega (arith, ints)
     living (k ∷ ks) = omega (arith, ints, living ks)

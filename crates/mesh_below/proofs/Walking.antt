@@ -44,10 +44,10 @@ Before p q = (p.0 <ℤ q.0) ⊎ ((p.0 ≡ q.0) × (p.1 <ℤ q.1))
 pub before_of : (p q : Point) → point_lt p q ≡ true → Before p q
 before_of p q h =
     ⊎_elim (λ (x : int_lt p.0 q.0 ≡ true). inl (lt_test p.0 q.0 x))
-        (λ (x : (int_eq p.0 q.0 && int_lt p.1 q.1) ≡ true).
-            let parts = and_parts (int_eq p.0 q.0) (int_lt p.1 q.1) x in
-            inr ((Decides-int_eq p.0 q.0).0 parts.0 , lt_test p.1 q.1 parts.1))
-        (or_cases (int_lt p.0 q.0) (int_eq p.0 q.0 && int_lt p.1 q.1) h)
+    (λ (x : (int_eq p.0 q.0 && int_lt p.1 q.1) ≡ true).
+    let parts = and_parts (int_eq p.0 q.0) (int_lt p.1 q.1) x in
+    inr ((Decides-int_eq p.0 q.0).0 parts.0, lt_test p.1 q.1 parts.1))
+    (or_cases (int_lt p.0 q.0) (int_eq p.0 q.0 && int_lt p.1 q.1) h)
 
 pub of_before : (p q : Point) → Before p q → point_lt p q ≡ true
 of_before p q (inl h) = λ i. test_lt p.0 q.0 h i || (int_eq p.0 q.0 && int_lt p.1 q.1)
@@ -64,14 +64,14 @@ not_before p q h = ⊎_elim (λ (t : point_lt p q ≡ true). absurd (h (before_o
 pub three_ways : (p q : Point) → (Before p q ⊎ Before q p) ⊎ (p ≡ q)
 three_ways p q =
     by_lt_z p.0 q.0 (λ (x : p.0 <ℤ q.0). inl (inl (inl x)))
-        (λ (x : q.0 ≤ℤ p.0).
-            by_lt_z q.0 p.0 (λ (y : q.0 <ℤ p.0). inl (inr (inl y)))
-                (λ (y : p.0 ≤ℤ q.0).
-                    let e : p.0 ≡ q.0 = both p.0 q.0 x y in
-                    by_lt_z p.1 q.1 (λ (z : p.1 <ℤ q.1). inl (inl (inr (e , z))))
-                        (λ (z : q.1 ≤ℤ p.1).
-                            by_lt_z q.1 p.1 (λ (w : q.1 <ℤ p.1). inl (inr (inr (sym e , w))))
-                                (λ (w : p.1 ≤ℤ q.1). let f : p.1 ≡ q.1 = both p.1 q.1 z w in inr (λ i. (e i , f i))))))
+    (λ (x : q.0 ≤ℤ p.0).
+    by_lt_z q.0 p.0 (λ (y : q.0 <ℤ p.0). inl (inr (inl y)))
+    (λ (y : p.0 ≤ℤ q.0).
+    let e : p.0 ≡ q.0 = both p.0 q.0 x y in
+    by_lt_z p.1 q.1 (λ (z : p.1 <ℤ q.1). inl (inl (inr (e, z))))
+    (λ (z : q.1 ≤ℤ p.1).
+    by_lt_z q.1 p.1 (λ (w : q.1 <ℤ p.1). inl (inr (inr (sym e, w))))
+    (λ (w : p.1 ≤ℤ q.1). let f : p.1 ≡ q.1 = both p.1 q.1 z w in inr (λ i. (e i, f i))))))
   where
     both : (a b : ℤ) → b ≤ℤ a → a ≤ℤ b → a ≡ b
     both a b h k = omega (arith, ints)
@@ -80,7 +80,7 @@ pub before_trans : (p q r : Point) → Before p q → Before q r → Before p r
 before_trans p q r (inl a) (inl b) = inl (omega (arith, ints))
 before_trans p q r (inl a) (inr b) = inl (omega (arith, ints, b.0))
 before_trans p q r (inr a) (inl b) = inl (omega (arith, ints, a.0))
-before_trans p q r (inr a) (inr b) = inr (omega (arith, ints, a.0, b.0) , omega (arith, ints, a.1, b.1))
+before_trans p q r (inr a) (inr b) = inr (omega (arith, ints, a.0, b.0), omega (arith, ints, a.1, b.1))
 
 pub before_not_self : (p : Point) → Before p p → ⊥
 before_not_self p (inl a) = omega (arith, ints)
@@ -90,31 +90,31 @@ before_not_self p (inr a) = omega (arith, ints, a.1)
 pub upto_before : (a b c : Point) → point_lt b a ≡ false → point_lt b c ≡ true → point_lt a c ≡ true
 upto_before a b c h k =
     of_before a c
-        (⊎_elim
-            (λ (o : Before a b ⊎ Before b a).
-                ⊎_elim (λ (x : Before a b). before_trans a b c x (before_of b c k)) (λ (x : Before b a). absurd (both_ways (point_lt b a) h (of_before b a x))) o)
-            (λ (e : a ≡ b). subst (λ (p : Point). Before p c) (sym e) (before_of b c k))
-            (three_ways a b))
+    (⊎_elim
+    (λ (o : Before a b ⊎ Before b a).
+    ⊎_elim (λ (x : Before a b). before_trans a b c x (before_of b c k)) (λ (x : Before b a). absurd (both_ways (point_lt b a) h (of_before b a x))) o)
+    (λ (e : a ≡ b). subst (λ (p : Point). Before p c) (sym e) (before_of b c k))
+    (three_ways a b))
 
 -- no less than `a`, which is no less than `c`
 pub from_after : (a b c : Point) → point_lt b a ≡ false → point_lt a c ≡ false → point_lt b c ≡ false
 from_after a b c h k =
     not_before b c (λ (x : Before b c).
-        both_ways (point_lt a c) k
-            (of_before a c
-                (⊎_elim
-                    (λ (o : Before a b ⊎ Before b a).
-                        ⊎_elim (λ (y : Before a b). before_trans a b c y x) (λ (y : Before b a). absurd (both_ways (point_lt b a) h (of_before b a y))) o)
-                    (λ (e : a ≡ b). subst (λ (p : Point). Before p c) (sym e) x)
-                    (three_ways a b))))
+    both_ways (point_lt a c) k
+    (of_before a c
+    (⊎_elim
+    (λ (o : Before a b ⊎ Before b a).
+    ⊎_elim (λ (y : Before a b). before_trans a b c y x) (λ (y : Before b a). absurd (both_ways (point_lt b a) h (of_before b a y))) o)
+    (λ (e : a ≡ b). subst (λ (p : Point). Before p c) (sym e) x)
+    (three_ways a b))))
 
 pub neither_before : (a b : Point) → point_lt a b ≡ false → point_lt b a ≡ false → a ≡ b
 neither_before a b h k =
     ⊎_elim
-        (λ (o : Before a b ⊎ Before b a).
-            ⊎_elim (λ (x : Before a b). absurd (both_ways (point_lt a b) h (of_before a b x))) (λ (x : Before b a). absurd (both_ways (point_lt b a) k (of_before b a x))) o)
-        (λ (e : a ≡ b). e)
-        (three_ways a b)
+    (λ (o : Before a b ⊎ Before b a).
+    ⊎_elim (λ (x : Before a b). absurd (both_ways (point_lt a b) h (of_before a b x))) (λ (x : Before b a). absurd (both_ways (point_lt b a) k (of_before b a x))) o)
+    (λ (e : a ≡ b). e)
+    (three_ways a b)
 
 pub lt_self : (a : Point) → point_lt a a ≡ false
 lt_self a = not_before a a (before_not_self a)
@@ -154,13 +154,13 @@ chain_starts es next i (suc n) d low =
     let step : point_lt (get_or es (i + n + 1) d).0 (get_or es (i + n) d).0 ≡ false = next (i + n) d (omega arith) in
     let e : i + n + 1 ≡ i + suc n = omega arith in
     subst (λ (m : ℕ). point_lt (get_or es m d).0 (get_or es i d).0 ≡ false) e
-        (from_after (get_or es (i + n) d).0 (get_or es (i + n + 1) d).0 (get_or es i d).0 step before)
+    (from_after (get_or es (i + n) d).0 (get_or es (i + n + 1) d).0 (get_or es i d).0 step before)
 
 pub sorted_starts : (es : List Edge) → IsSorted edge_cmp es → StartsInOrder es
 sorted_starts es h i j d le low =
     let e : i + (j - i) ≡ j = omega arith in
     subst (λ (m : ℕ). point_lt (get_or es m d).0 (get_or es i d).0 ≡ false) e
-        (chain_starts es (λ (k : ℕ) (d : Edge) (l : k + 1 < length es). adjacent_starts (get_or es (k + 1) d) (get_or es k d) (h k d (omega arith) l)) i (j - i) d (omega arith))
+    (chain_starts es (λ (k : ℕ) (d : Edge) (l : k + 1 < length es). adjacent_starts (get_or es (k + 1) d) (get_or es k d) (h k d (omega arith) l)) i (j - i) d (omega arith))
 
 -- ---- used and unused
 pub unused_set : (es : List Edge) (bs : List Bool) (k : ℕ) (d : Edge) → k < length es → get_or bs k true ≡ false → (g : Edge → ℤ) →
@@ -189,9 +189,9 @@ unused_starts (e ∷ es) (b ∷ bs) at d h len =
     by true t f = f
     by false t f =
         ⊎_elim
-            (λ (s : same_point at e.0 ≡ true). absurd (both_ways b t (h zero (omega arith) (sym ((decides_point at e.0).0 s)))))
-            (λ (n : same_point at e.0 ≡ false). omega (arith, linear, ap bit n, f))
-            (cases_Bool (same_point at e.0))
+        (λ (s : same_point at e.0 ≡ true). absurd (both_ways b t (h zero (omega arith) (sym ((decides_point at e.0).0 s)))))
+        (λ (n : same_point at e.0 ≡ false). omega (arith, linear, ap bit n, f))
+        (cases_Bool (same_point at e.0))
 
 pub unused_none : (es : List Edge) (bs : List Bool) → length bs ≡ length es → ((k : ℕ) → k < length es → get_or bs k true ≡ true) → unused es bs ≡ []
 unused_none [] bs len h = refl
@@ -227,32 +227,45 @@ route_growth g a [] z = omega (arith, linear)
 route_growth g a (x ∷ xs) z = omega (arith, linear, route_growth g x xs z)
 
 -- one more step of a walk
-pub route_more : (g : Edge → ℤ) (a : Point) (xs : List Point) (y z : Point) → sum_of g (route a (xs ++ y ∷ []) z) ≡ sum_of g (route a xs y) +ℤ g (y , z)
-route_more g a xs y z = ap (sum_of g) (route_append a xs y [] z) ∙ (sum_of_append g (route a xs y) ((y , z) ∷ []) ∙ omega (arith, linear))
+pub route_more : (g : Edge → ℤ) (a : Point) (xs : List Point) (y z : Point) → sum_of g (route a (xs ++ y ∷ []) z) ≡ sum_of g (route a xs y) +ℤ g (y, z)
+route_more g a xs y z = ap (sum_of g) (route_append a xs y [] z) ∙ (sum_of_append g (route a xs y) ((y, z) ∷ []) ∙ omega (arith, linear))
 
 -- what is left of a balanced list without a closed walk is balanced
 pub left_balanced : (es : List Edge) (contour : List Point) (left : List Edge) → IsBalanced es →
     ((g : Edge → ℤ) → sum_of g es ≡ sum_of g (boundary contour) +ℤ sum_of g left) → IsBalanced left
 left_balanced es contour left balanced same =
     balanced_by_growth left (λ (g : Point → ℤ).
-        omega (arith, linear, same (λ (e : Edge). growth g e.0 e.1), growth_round g contour, growth_of_balanced es balanced g))
+    omega (arith, linear, same (λ (e : Edge). growth g e.0 e.1), growth_round g contour, growth_of_balanced es balanced g))
 
 -- a walk that is not back at its start finds an edge to go on
 pub not_stuck : (es : List Edge) (p : Point) (xs : List Point) (at : Point) (left : List Edge) → IsBalanced es → same_point at p ≡ false →
     ((g : Edge → ℤ) → sum_of g es ≡ sum_of g (route p xs at) +ℤ sum_of g left) →
     sum_of (λ (e : Edge). bit (same_point at e.0)) left ≡ pos 0 → ⊥
 not_stuck es p xs at left balanced apart same none =
-    omega (arith, linear, same (λ (e : Edge). growth mark e.0 e.1), route_growth mark p xs at, growth_of_balanced es balanced mark,
-        ends left, ap bit apart, ap bit ((decides_point at at).1 refl), least left, none)
+    omega (
+      arith,
+      linear,
+      same (λ (e : Edge). growth mark e.0 e.1),
+      route_growth mark p xs at,
+      growth_of_balanced es balanced mark,
+      ends left,
+      ap bit apart,
+      ap bit ((decides_point at at).1 refl),
+      least left,
+      none,
+    )
   where
     mark : Point → ℤ
     mark v = bit (same_point at v)
+
     ends : (l : List Edge) → total (growth mark) l ≡ sum_of (λ (e : Edge). mark e.1) l -ℤ sum_of (λ (e : Edge). mark e.0) l
     ends [] = refl
     ends (e ∷ es) = omega (arith, linear, ends es)
+
     bit_least : (b : Bool) → pos 0 ≤ℤ bit b
     bit_least true = omega (arith, ints)
     bit_least false = omega (arith, ints)
+
     least : (l : List Edge) → pos 0 ≤ℤ sum_of (λ (e : Edge). mark e.1) l
     least [] = omega (arith, ints)
     least (e ∷ es) = omega (arith, linear, least es, bit_least (same_point at e.1))
@@ -270,13 +283,13 @@ pub below_mid : (es : List Edge) (at : Point) (mid : ℕ) (d₀ : Edge) → Star
     (k : ℕ) (d : Edge) → k < mid + 1 → point_lt (get_or es k d).0 at ≡ true
 below_mid es at mid d₀ ordered low h k d l =
     upto_before (get_or es k d).0 (get_or es mid d).0 at (ordered k mid d (omega arith) low)
-        (subst (λ (e : Edge). point_lt e.0 at ≡ true) (get_or_default es mid d₀ d low) h)
+    (subst (λ (e : Edge). point_lt e.0 at ≡ true) (get_or_default es mid d₀ d low) h)
 
 pub above_mid : (es : List Edge) (at : Point) (mid : ℕ) (d₀ : Edge) → StartsInOrder es → mid < length es → point_lt (get_or es mid d₀).0 at ≡ false →
     (k : ℕ) (d : Edge) → mid ≤ k → k < length es → point_lt (get_or es k d).0 at ≡ false
 above_mid es at mid d₀ ordered low h k d le l =
     from_after (get_or es mid d).0 (get_or es k d).0 at (ordered mid k d le l)
-        (subst (λ (e : Edge). point_lt e.0 at ≡ false) (get_or_default es mid d₀ d low) h)
+    (subst (λ (e : Edge). point_lt e.0 at ≡ false) (get_or_default es mid d₀ d low) h)
 
 -- none before the first that does not start at a lesser point
 pub none_before : (es : List Edge) (used : List Bool) (first : ℕ) (at : Point) (d : Edge) (n : ℕ) →
@@ -290,10 +303,10 @@ pub none_after : (es : List Edge) (used : List Bool) (first : ℕ) (at : Point) 
     ((j : ℕ) → j < k → IsNext es used first at j → ⊥) → (j : ℕ) → IsNext es used first at j → ⊥
 none_after es used first at d₀ k ordered low after apart before j h =
     by_order (λ (l : j < k). before j l h)
-        (λ (l : k ≤ j).
-            let upto : point_lt at (get_or es k d₀).0 ≡ false =
-                subst (λ (p : Point). point_lt p (get_or es k d₀).0 ≡ false) (h.starts d₀) (ordered k j d₀ l h.within) in
-            both_ways (same_point (get_or es k d₀).0 at) apart ((decides_point (get_or es k d₀).0 at).1 (neither_before (get_or es k d₀).0 at (after d₀) upto)))
+    (λ (l : k ≤ j).
+    let upto : point_lt at (get_or es k d₀).0 ≡ false =
+    subst (λ (p : Point). point_lt p (get_or es k d₀).0 ≡ false) (h.starts d₀) (ordered k j d₀ l h.within) in
+    both_ways (same_point (get_or es k d₀).0 at) apart ((decides_point (get_or es k d₀).0 at).1 (neither_before (get_or es k d₀).0 at (after d₀) upto)))
   where
     by_order : (j < k → ⊥) → (k ≤ j → ⊥) → ⊥
     by_order f g = ⊎_elim f g (split j k)
@@ -310,7 +323,7 @@ pub next_step : (es : List Edge) (used : List Bool) (first : ℕ) (at : Point) (
     MatchOption r ((j : ℕ) → j < k + 1 → IsNext es used first at j → ⊥) (IsNext es used first at)
 next_step es used first at best None k low starts was now =
     λ (j : ℕ) (l : j < k + 1) (h : IsNext es used first at j).
-        at_none (subst (λ (o : Option ℕ). MatchOption o ((j : ℕ) → j < k → IsNext es used first at j → ⊥) (IsNext es used first at)) now.0 was) j l h
+    at_none (subst (λ (o : Option ℕ). MatchOption o ((j : ℕ) → j < k → IsNext es used first at j → ⊥) (IsNext es used first at)) now.0 was) j l h
   where
     at_none : ((j : ℕ) → j < k → IsNext es used first at j → ⊥) → (j : ℕ) → j < k + 1 → IsNext es used first at j → ⊥
     at_none f j l h = below_more (λ (i : ℕ). IsNext es used first at i → ⊥) k f (λ (g : IsNext es used first at k). now.1 g.open') j l h
@@ -355,30 +368,30 @@ set_length (b ∷ bs) (suc i) = ap suc (set_length bs i)
 pub walk_init : (es : List Edge) (was : List Bool) (first : ℕ) (d : Edge) (points : List Point) → first < length es → get_or was first true ≡ false → length was ≡ length es →
     points ≡ (get_or es first d).0 ∷ [] → IsWalk es was (set was first true) first points (get_or es first d).1
 walk_init es was first d points low new len are = record {
-    start = (get_or es first d).0;
-    begins = λ (e : Edge). ap (λ (x : Edge). x.0) (get_or_default es first e d low);
-    rest = [];
-    points_are = are;
-    walked = λ (g : Edge → ℤ). unused_set es was first d low new g ∙ omega (arith, linear);
-    kept = λ (k : ℕ) (h : get_or was k true ≡ true). set_kept was first k h;
-    marked = set_marked was first;
-    marks = set_length was first ∙ len;
+  start = (get_or es first d).0;
+  begins = λ (e : Edge). ap (λ (x : Edge). x.0) (get_or_default es first e d low);
+  rest = [];
+  points_are = are;
+  walked = λ (g : Edge → ℤ). unused_set es was first d low new g ∙ omega (arith, linear);
+  kept = λ (k : ℕ) (h : get_or was k true ≡ true). set_kept was first k h;
+  marked = set_marked was first;
+  marks = set_length was first ∙ len;
 }
 
 pub walk_step : (es : List Edge) (was now : List Bool) (first k : ℕ) (d : Edge) (points points' : List Point) (at : Point) →
     IsWalk es was now first points at → IsNext es now first at k → (k ≡ first → ⊥) → points' ≡ points ++ at ∷ [] →
     IsWalk es was (set now k true) first points' (get_or es k d).1
 walk_step es was now first k d points points' at w next other are = record {
-    start = w.start;
-    begins = w.begins;
-    rest = w.rest ++ at ∷ [];
-    points_are = are ∙ ap (λ (l : List Point). l ++ at ∷ []) w.points_are;
-    walked = λ (g : Edge → ℤ).
-        (let edge : g (get_or es k d) ≡ g (at , (get_or es k d).1) = ap (λ (p : Point). g (p , (get_or es k d).1)) (next.starts d) in
-        omega (arith, linear, w.walked g, unused_set es now k d next.within new g, route_more g w.start w.rest at (get_or es k d).1, edge));
-    kept = λ (j : ℕ) (h : get_or was j true ≡ true). set_kept now k j (w.kept j h);
-    marked = set_kept now k first w.marked;
-    marks = set_length now k ∙ w.marks;
+  start = w.start;
+  begins = w.begins;
+  rest = w.rest ++ at ∷ [];
+  points_are = are ∙ ap (λ (l : List Point). l ++ at ∷ []) w.points_are;
+  walked = λ (g : Edge → ℤ).
+      (let edge : g (get_or es k d) ≡ g (at, (get_or es k d).1) = ap (λ (p : Point). g (p, (get_or es k d).1)) (next.starts d) in
+      omega (arith, linear, w.walked g, unused_set es now k d next.within new g, route_more g w.start w.rest at (get_or es k d).1, edge));
+  kept = λ (j : ℕ) (h : get_or was j true ≡ true). set_kept now k j (w.kept j h);
+  marked = set_kept now k first w.marked;
+  marks = set_length now k ∙ w.marks;
 }
   where
     new : get_or now k true ≡ false
@@ -398,25 +411,25 @@ walk_closed es was now first k points at w next same g =
     ∙ ap (λ (l : List Point). sum_of g (boundary l) +ℤ sum_of g (unused es now)) (sym w.points_are)
   where
     back : at ≡ w.start
-    back = sym (next.starts (at , at)) ∙ (ap (λ (i : ℕ). (get_or es i (at , at)).0) same ∙ w.begins (at , at))
+    back = sym (next.starts (at, at)) ∙ (ap (λ (i : ℕ). (get_or es i (at, at)).0) same ∙ w.begins (at, at))
 
 -- a walk along balanced edges finds an edge to go on
 pub walk_goes_on : (es : List Edge) (was now : List Bool) (first : ℕ) (points : List Point) (at : Point) → first < length es → IsBalanced (unused es was) →
     IsWalk es was now first points at → ((k : ℕ) → IsNext es now first at k → ⊥) → ⊥
 walk_goes_on es was now first points at low balanced w none =
     ⊎_elim
-        (λ (t : same_point at w.start ≡ true).
-            none first (record { within = low; starts = λ (d : Edge). w.begins d ∙ sym ((decides_point at w.start).0 t); open' = inr refl }))
-        (λ (f : same_point at w.start ≡ false).
-            not_stuck (unused es was) w.start w.rest at (unused es now) balanced f w.walked
-                (unused_starts es now at (at , at)
-                    (λ (k : ℕ) (l : k < length es) (s : (get_or es k (at , at)).0 ≡ at).
-                        ⊎_elim (λ (h : get_or now k true ≡ true). h)
-                            (λ (h : get_or now k true ≡ false).
-                                absurd (none k (record { within = l; starts = λ (d : Edge). ap (λ (x : Edge). x.0) (get_or_default es k d (at , at) l) ∙ s; open' = inl h })))
-                            (cases_Bool (get_or now k true)))
-                    w.marks))
-        (cases_Bool (same_point at w.start))
+    (λ (t : same_point at w.start ≡ true).
+    none first (record { within = low; starts = λ (d : Edge). w.begins d ∙ sym ((decides_point at w.start).0 t); open' = inr refl }))
+    (λ (f : same_point at w.start ≡ false).
+    not_stuck (unused es was) w.start w.rest at (unused es now) balanced f w.walked
+    (unused_starts es now at (at, at)
+    (λ (k : ℕ) (l : k < length es) (s : (get_or es k (at, at)).0 ≡ at).
+    ⊎_elim (λ (h : get_or now k true ≡ true). h)
+    (λ (h : get_or now k true ≡ false).
+    absurd (none k (record { within = l; starts = λ (d : Edge). ap (λ (x : Edge). x.0) (get_or_default es k d (at, at) l) ∙ s; open' = inl h })))
+    (cases_Bool (get_or now k true)))
+    w.marks))
+    (cases_Bool (same_point at w.start))
 
 -- ---- all contours
 contour_more : (g : Edge → ℤ) (old : List (Vec Point Global)) (c : Vec Point Global) → sum_of g (contour_edges (old ++ c ∷ [])) ≡ sum_of g (contour_edges old) +ℤ sum_of g (boundary c.items)
@@ -430,19 +443,19 @@ pub takes_one : (es : List Edge) (was now : List Bool) (old new : List (Vec Poin
     ((k : ℕ) → get_or was k true ≡ true → get_or now k true ≡ true) → get_or now first true ≡ true → new ≡ old ++ c ∷ [] →
     TakesContours es was now old new first
 takes_one es was now old new c first balanced closed kept marked are = record {
-    same = λ (g : Edge → ℤ). omega (arith, linear, closed g, contour_more g old c, ap (λ (l : List (Vec Point Global)). sum_of g (contour_edges l)) are);
-    balanced = left_balanced (unused es was) c.items (unused es now) balanced closed;
-    kept = kept;
-    marked = marked;
+  same = λ (g : Edge → ℤ). omega (arith, linear, closed g, contour_more g old c, ap (λ (l : List (Vec Point Global)). sum_of g (contour_edges l)) are);
+  balanced = left_balanced (unused es was) c.items (unused es now) balanced closed;
+  kept = kept;
+  marked = marked;
 }
 
 pub takes_none : (es : List Edge) (was : List Bool) (old : List (Vec Point Global)) (first : ℕ) → IsBalanced (unused es was) → get_or was first true ≡ true →
     TakesContours es was was old old first
 takes_none es was old first balanced marked = record {
-    same = λ (g : Edge → ℤ). refl;
-    balanced = balanced;
-    kept = λ (k : ℕ) (h : get_or was k true ≡ true). h;
-    marked = marked;
+  same = λ (g : Edge → ℤ). refl;
+  balanced = balanced;
+  kept = λ (k : ℕ) (h : get_or was k true ≡ true). h;
+  marked = marked;
 }
 
 -- the contours so far, of the edges before `first` all
@@ -453,17 +466,17 @@ pub record TakenTo (es : List Edge) (was now : List Bool) (contours : List (Vec 
 
 pub taken_init : (es : List Edge) (was : List Bool) (contours : List (Vec Point Global)) → IsBalanced (unused es was) → contours ≡ [] → TakenTo es was was contours 0
 taken_init es was contours balanced none = record {
-    same = λ (g : Edge → ℤ). omega (arith, linear, ap (λ (l : List (Vec Point Global)). sum_of g (contour_edges l)) none);
-    balanced = balanced;
-    done = λ (k : ℕ) (h : k < 0). absurd (omega arith);
+  same = λ (g : Edge → ℤ). omega (arith, linear, ap (λ (l : List (Vec Point Global)). sum_of g (contour_edges l)) none);
+  balanced = balanced;
+  done = λ (k : ℕ) (h : k < 0). absurd (omega arith);
 }
 
 pub taken_more : (es : List Edge) (was now next : List Bool) (old new : List (Vec Point Global)) (first : ℕ) → TakenTo es was now old first →
     TakesContours es now next old new first → TakenTo es was next new (first + 1)
 taken_more es was now next old new first t s = record {
-    same = λ (g : Edge → ℤ). omega (arith, linear, t.same g, s.same g);
-    balanced = s.balanced;
-    done = below_more (λ (k : ℕ). get_or next k true ≡ true) first (λ (k : ℕ) (h : k < first). s.kept k (t.done k h)) s.marked;
+  same = λ (g : Edge → ℤ). omega (arith, linear, t.same g, s.same g);
+  balanced = s.balanced;
+  done = below_more (λ (k : ℕ). get_or next k true ≡ true) first (λ (k : ℕ) (h : k < first). s.kept k (t.done k h)) s.marked;
 }
 
 pub taken_all : (es : List Edge) (was now : List Bool) (contours : List (Vec Point Global)) (n : ℕ) → TakenTo es was now contours n → length es ≤ n → length now ≡ length es →

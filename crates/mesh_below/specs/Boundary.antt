@@ -12,7 +12,7 @@ count e es = count_by (same_edge e) es
 
 -- an edge on the grid that is `m` times finer
 abbrev pub refined_edge : ℕ → Edge → Edge
-refined_edge m e = (refined m e.0 , refined m e.1)
+refined_edge m e = (refined m e.0, refined m e.1)
 
 -- a point of a closed edge
 pub record IsOn (e : Edge) (z : Point) : Type 0 where
@@ -22,7 +22,7 @@ pub record IsOn (e : Edge) (z : Point) : Type 0 where
 -- two segments share nothing, or an end of both: on the grid `m`, a shared point is an end of both
 pub record ShareEnds (m : ℕ) (e f : Edge) : Type 0 where
   pub shared : (z : Point) → IsOn (refined_edge m e) z → IsOn (refined_edge m f) z
-    → (is_end z (refined_edge m e) ≡ true) × (is_end z (refined_edge m f) ≡ true)
+      → (is_end z (refined_edge m e) ≡ true) × (is_end z (refined_edge m f) ≡ true)
 
 -- any two segments have the same ends or share only common ends, on every grid
 abbrev pub IsClean : List Edge → Type 0
@@ -56,4 +56,4 @@ right_winding es e = cond (rises e) (winding_beside es e) (winding_beside es e -
 -- each segment once whose two sides differ in fill, directed with the filled side on its left, and no other edge
 pub record IsBoundary (es : List Edge) (fill : ℤ → Bool) (bs : List Edge) : Type 0 where
   pub counts : (e : Edge) →
-    count e bs ≡ cond (occurs e es && (fill (left_winding es e) && not (fill (right_winding es e)))) 1 0
+      count e bs ≡ cond (occurs e es && (fill (left_winding es e) && not (fill (right_winding es e)))) 1 0

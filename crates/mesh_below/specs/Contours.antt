@@ -60,7 +60,7 @@ double_area ps = total cross (boundary ps)
 
 -- the midpoint of a contour's first edge, on the grid 2
 abbrev pub side_point : List Point → Point
-side_point [] = (pos 0 , pos 0)
+side_point [] = (pos 0, pos 0)
 side_point (p ∷ xs) = plus p (first_or p xs)
 
 -- a closed list walked the other way from the same first point
@@ -78,7 +78,7 @@ pub record IsRingOf (all : Bool) (given : List Point) (ring : List Point × Poin
 
 -- the point at a place of a list
 abbrev pub point_at : List Point → ℕ → Point
-point_at ps i = slice_index_or ps i (pos 0 , pos 0)
+point_at ps i = slice_index_or ps i (pos 0, pos 0)
 
 -- the next vertex that is answered after the place `i` of a contour
 abbrev pub next_at : Bool → List Point → ℕ → Point

@@ -1,5 +1,5 @@
 -- Segments with counts, and when a list of them stands for a list of directed edges.
-use Rattle.std.specs.Prelude.{ℕ, ◌≡◌, Bool, cond, List, [], ◌∷◌, ℤ, pos, ◌+ℤ◌, ◌-ℤ◌, ◌*ℤ◌}
+use Rattle.std.specs.Prelude.{◌≡◌, Bool, cond, List, ℤ, pos, ◌-ℤ◌, ◌*ℤ◌}
 use Rattle.mesh_num.specs.Plane.{Edge}
 use Rattle.mesh_num.specs.Winding.{sum_of}
 use Rattle.mesh_below.specs.Split.{back, same_edge, same_ends, occurs}

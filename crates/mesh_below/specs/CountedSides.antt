@@ -12,7 +12,7 @@ counted_winding q ks = sum_of (λ (k : Counted). k.1 *ℤ crossing_on 2 q k.0.0 
 
 -- the windings to the left and to the right of a segment, where `w` is that beside it
 abbrev pub sides_by : ℤ → Counted → ℤ × ℤ
-sides_by w k = cond (rises k.0) (w +ℤ k.1 , w) (w , w -ℤ k.1)
+sides_by w k = cond (rises k.0) (w +ℤ k.1, w) (w, w -ℤ k.1)
 
 abbrev pub sides_of : List Counted → Counted → ℤ × ℤ
 sides_of ks k = sides_by (counted_winding (middle k.0) ks) k
@@ -24,4 +24,4 @@ is_parted fill s = fill s.0 && not (fill s.1)
 -- the edge of the boundary on a segment, with the filled side on its left, where there is one
 abbrev pub boundary_edge : (ℤ → Bool) → ℤ × ℤ → Edge → List Edge
 boundary_edge fill s e =
-    cond (is_parted fill s) (e ∷ []) (cond (is_parted fill (s.1 , s.0)) (back e ∷ []) [])
+    cond (is_parted fill s) (e ∷ []) (cond (is_parted fill (s.1, s.0)) (back e ∷ []) [])

@@ -22,7 +22,7 @@ Ring = List Point × Point
 
 -- the ring of a contour that begins at its start
 abbrev pub ring_of : Bool → List Point → Ring
-ring_of all contour = (vertices all contour , side_point contour)
+ring_of all contour = (vertices all contour, side_point contour)
 
 -- a ring stays where its double area is in size at least twice the least area
 abbrev pub is_large : ℕ → Ring → Bool

@@ -7,7 +7,7 @@ use Rattle.mesh_num.specs.Winding.{same_point}
 
 -- the edge the other way about
 abbrev pub back : Edge → Edge
-back e = (e.1 , e.0)
+back e = (e.1, e.0)
 
 -- the same edge, direction included
 unfoldable pub same_edge : Edge → Edge → Bool
@@ -64,7 +64,7 @@ abbrev pub rounded_crossing : Edge → Edge → Point
 rounded_crossing e f =
     let n = turn f.0 f.1 e.0 in
     let d = n -ℤ turn f.0 f.1 e.1 in
-    (crossing_at e.0.0 e.1.0 n d , crossing_at e.0.1 e.1.1 n d)
+    (crossing_at e.0.0 e.1.0 n d, crossing_at e.0.1 e.1.1 n d)
 
 -- two edges share a point inside one of them: an end of one lies inside the other, or they cross; `c` is where they are split
 pub data Meets : Edge → Edge → Point → Type 0 where
@@ -80,7 +80,7 @@ pub record Cut : Type 0 where
   pub at : Point
 
 abbrev pub pieces : Cut → Edge → List Edge
-pieces k e = cond (same_ends e k.ends) ((e.0 , k.at) ∷ (k.at , e.1) ∷ []) (e ∷ [])
+pieces k e = cond (same_ends e k.ends) ((e.0, k.at) ∷ (k.at, e.1) ∷ []) (e ∷ [])
 
 abbrev pub cut : Cut → List Edge → List Edge
 cut k [] = []
@@ -104,5 +104,5 @@ add_cut e c ks = cond (is_end c e) ks ((record { ends = e; at = c }) ∷ ks)
 pub data IsLegal : List Edge → List Cut → Type 0 where
   no_cut : {given : List Edge} → IsLegal given []
   split : {given : List Edge} {ks : List Cut} {e f : Edge} {c : Point} → IsLegal given ks
-    → occurs e (after ks given) ≡ true → occurs f (after ks given) ≡ true → Meets e f c
-    → IsLegal given (add_cut f c (add_cut e c ks))
+      → occurs e (after ks given) ≡ true → occurs f (after ks given) ≡ true → Meets e f c
+      → IsLegal given (add_cut f c (add_cut e c ks))

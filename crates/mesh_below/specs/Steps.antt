@@ -1,10 +1,10 @@
 -- What the steps of the splitting do to lists of counted segments, whatever order they stand in:
 -- each fact speaks of the sums of every function over the list.
-use Rattle.std.specs.Prelude.{ℕ, ◌+◌, ◌*◌, ◌-◌, ◌^◌, ◌≡◌, ◌⊎◌, Bool, true, false, cond, List, [], ◌∷◌, ℤ, pos, ◌+ℤ◌, ◌-ℤ◌, ◌*ℤ◌, ◌≤ℤ◌, ◌<ℤ◌, unsigned_abs, max, int_lt, IsTrue, length, slice_index_or, ◌<◌}
+use Rattle.std.specs.Prelude.{ℕ, ◌+◌, ◌*◌, ◌-◌, ◌^◌, ◌≡◌, Bool, true, false, cond, List, [], ◌∷◌, ℤ, pos, ◌+ℤ◌, ◌-ℤ◌, ◌*ℤ◌, ◌≤ℤ◌, ◌<ℤ◌, unsigned_abs, max, int_lt, IsTrue, length, slice_index_or, ◌<◌}
 use Rattle.mesh_num.specs.Order.{point_lt}
 use Rattle.mesh_num.specs.Plane.{Point, Edge}
 use Rattle.mesh_num.specs.Winding.{sum_of}
-use Rattle.mesh_below.specs.Split.{same_edge, same_ends, is_end, occurs, Meets, Cut, after, IsLegal}
+use Rattle.mesh_below.specs.Split.{same_edge, same_ends, occurs, Meets, Cut, after, IsLegal}
 use Rattle.mesh_below.specs.Counted.{Counted, bit, along, net, counted_net, times}
 
 -- how many of the counted segments run just from the first end to the second
@@ -28,7 +28,7 @@ IsPut old new k = (g : Counted → ℤ) → sum_of g new ≡ sum_of g old +ℤ g
 pub record IsRaised (old new : List Counted) (k : Counted) : Type 0 where
   pub was : ℤ
   pub stood : pos 0 <ℤ exactly k.0 old
-  pub totals : (g : Counted → ℤ) → sum_of g new +ℤ g (k.0 , was) ≡ sum_of g old +ℤ g (k.0 , was +ℤ k.1)
+  pub totals : (g : Counted → ℤ) → sum_of g new +ℤ g (k.0, was) ≡ sum_of g old +ℤ g (k.0, was +ℤ k.1)
 
 -- a segment was put in whose ends did not stand
 pub record IsNew (old new : List Counted) (k : Counted) : Type 0 where
@@ -105,8 +105,8 @@ pub record Puts (todo live todo' live' : List Counted) (k : Counted) : Type 0 wh
 pub record PutsPieces (todo live todo' live' : List Counted) (k : Counted) (c : Point) : Type 0 where
   pub between : List Counted
   pub beside : List Counted
-  pub first : Puts todo live between beside ((k.0.0 , c) , k.1)
-  pub second : Puts between beside todo' live' ((c , k.0.1) , k.1)
+  pub first : Puts todo live between beside ((k.0.0, c), k.1)
+  pub second : Puts between beside todo' live' ((c, k.0.1), k.1)
 
 -- the waiting, the live and the held segments are those of a list of edges, each once, with its net count
 pub record AreCountOf (es : List Edge) (todo live held : List Counted) : Type 0 where

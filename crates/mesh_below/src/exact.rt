@@ -3,7 +3,7 @@
 ghost use Rattle.std.specs.Prelude.{◌≡◌, ◌↔◌, ℕ, ◌+◌, ◌*◌, ◌/◌, ◌^◌, ◌<◌, ℤ, pos, ◌+ℤ◌, ◌-ℤ◌, ◌*ℤ◌, unsigned_abs, IsTrue, MatchOption};
 ghost use Rattle.mesh_num.specs.Bounds.{IsSmall, IsSafe};
 ghost use Rattle.mesh_num.specs.Order.{point_lt};
-ghost use Rattle.mesh_num.specs.Plane.{minus, cross, turn};
+ghost use Rattle.mesh_num.specs.Plane.{Point, minus, cross, turn};
 ghost use Rattle.mesh_num.specs.Winding.{same_point};
 ghost use Rattle.mesh_below.specs.Split.{same_edge, is_end, IsBetween, IsInBox, IsInside, AreOpposite, IsCrossing, rounded_quotient, crossing_at, rounded_crossing, Meets};
 ghost use Rattle.mesh_below.specs.Steps.{AreClear};
@@ -56,7 +56,11 @@ pub fn turn(p: GridPoint, r: GridPoint, q: GridPoint) -> i128
 fn is_between(a: i32, z: i32, b: i32) -> bool
     ensures { IsTrue result ↔ IsBetween a z b }
 {
-    if a <= b { a <= z && z <= b } else { b <= z && z <= a }
+    if a <= b {
+        a <= z && z <= b
+    } else {
+        b <= z && z <= a
+    }
 }
 
 fn is_in_box(e: GridEdge, c: GridPoint) -> bool
@@ -68,6 +72,37 @@ fn is_in_box(e: GridEdge, c: GridPoint) -> bool
     is_between(e.0.1, c.1, e.1.1)
 }
 
+/// Whether the range from `a` to `b` lies below that from `p` to `r`.
+fn is_range_below(a: i32, b: i32, p: i32, r: i32) -> bool
+    ensures { IsTrue result → (z : ℤ) → IsBetween a z b → IsBetween p z r → ⊥ }
+{
+    if a < p && a < r && b < p && b < r {
+        return true;
+    }
+    false
+}
+
+/// Whether the range from `a` to `b` and that from `p` to `r` have no number in common.
+fn are_ranges_apart(a: i32, b: i32, p: i32, r: i32) -> bool
+    ensures { IsTrue result → (z : ℤ) → IsBetween a z b → IsBetween p z r → ⊥ }
+{
+    if is_range_below(a, b, p, r) {
+        return true;
+    }
+    is_range_below(p, r, a, b)
+}
+
+/// Whether the boxes of two edges have no point in common.
+fn are_boxes_apart(e: GridEdge, f: GridEdge) -> bool
+    ensures { IsTrue result → (c : Point) → IsInBox e c → IsInBox f c → ⊥ }
+{
+    if are_ranges_apart(e.0.0, e.1.0, f.0.0, f.1.0) {
+        return true;
+    }
+    are_ranges_apart(e.0.1, e.1.1, f.0.1, f.1.1)
+}
+
+/// Whether two points are one.
 pub fn same_point(p: GridPoint, q: GridPoint) -> bool
     ensures { result ≡ same_point p q }
 {
@@ -112,7 +147,7 @@ pub fn is_inside(e: GridEdge, c: GridPoint) -> bool
 type Sides = (i128, i128);
 
 fn sides_of(e: GridEdge, f: GridEdge) -> Sides
-    ensures value { result ≡ (turn e.0 e.1 f.0 , turn e.0 e.1 f.1) }
+    ensures value { result ≡ (turn e.0 e.1 f.0, turn e.0 e.1 f.1) }
     ensures size { IsSafe (2 ^ 65) result }
 {
     (turn(e.0, e.1, f.0), turn(e.0, e.1, f.1))
@@ -172,11 +207,14 @@ fn long_product(a: i128, b: i128) -> i128
 
 fn crossing_ratio(a: i32, b: i32, s: Sides) -> Ratio
     requires { IsSafe (2 ^ 65) s }
-    ensures value { result ≡ ((a *ℤ (s.0 -ℤ s.1)) +ℤ ((b -ℤ a) *ℤ s.0) , s.0 -ℤ s.1) }
+    ensures value { result ≡ ((a *ℤ (s.0 -ℤ s.1)) +ℤ ((b -ℤ a) *ℤ s.0), s.0 -ℤ s.1) }
     ensures size { IsSafe (2 ^ 100) result }
 {
     let d = s.0 - s.1;
-    (long_product(a as i128, d) + long_product(difference(b, a), s.0), d)
+    (
+        long_product(a as i128, d) + long_product(difference(b, a), s.0),
+        d,
+    )
 }
 
 fn crossing_at(a: i32, b: i32, s: Sides) -> i32
@@ -200,6 +238,9 @@ pub fn rounded_crossing(e: GridEdge, f: GridEdge) -> GridPoint
 pub fn meeting(e: GridEdge, f: GridEdge) -> Option<GridPoint>
     ensures { MatchOption result (AreClear e f) (Meets e f) }
 {
+    if are_boxes_apart(e, f) {
+        return None;
+    }
     if is_inside(e, f.0) {
         return Some(f.0);
     }

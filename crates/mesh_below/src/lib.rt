@@ -1,24 +1,18 @@
-//! The layer below the offset operations: directed edges are split until they share only ends.
+//! The layer below the offset operations: directed edges are split until they share only ends, and the boundary of what
+//! they fill is walked into contours.
 #![tactic(auto)]
 
-ghost use Rattle.std.specs.Prelude.{◌≡◌, true};
-
 pub mod area;
-pub mod arrange;
-pub mod exact;
+mod arrange;
+mod exact;
 pub mod fill;
 pub mod fine;
+pub mod given;
 pub mod grid;
 pub mod resolve;
 pub mod ring;
 pub mod sides;
 pub mod splitter;
-pub mod store;
+mod store;
 pub mod walk;
-pub mod worklist;
-
-fn lemmas() -> bool
-    ensures { result ≡ true }
-{
-    true
-}
+mod worklist;

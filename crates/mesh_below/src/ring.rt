@@ -64,7 +64,11 @@ fn least_place(contour: &[GridPoint]) -> usize
 }
 
 /// The list from the place on, then what stands before it.
-fn turned_to(alloc: Global, contour: &[GridPoint], place: usize) -> Result<Vec<GridPoint>, AllocError>
+fn turned_to(
+    alloc: Global,
+    contour: &[GridPoint],
+    place: usize,
+) -> Result<Vec<GridPoint>, AllocError>
     requires { place ≤ length contour.now }
     ensures { IfOk result (λ v. v.items ≡ drop place contour.now ++ take place contour.now) }
 {
@@ -120,7 +124,10 @@ fn better_visit(contour: &[GridPoint], all: bool, best: usize, i: usize) -> usiz
     if !same_point(contour[i], contour[0]) {
         return best;
     }
-    if is_before(next_vertex(contour, all, i), next_vertex(contour, all, best)) {
+    if is_before(
+        next_vertex(contour, all, i),
+        next_vertex(contour, all, best),
+    ) {
         return i;
     }
     best
@@ -139,7 +146,13 @@ fn start_place(contour: &[GridPoint], all: bool) -> usize
 }
 
 /// Adds the point at a place, where it is answered.
-fn push_kept(points: &mut Vec<GridPoint>, contour: &[GridPoint], all: bool, before: GridPoint, i: usize) -> Result<(), AllocError>
+fn push_kept(
+    points: &mut Vec<GridPoint>,
+    contour: &[GridPoint],
+    all: bool,
+    before: GridPoint,
+    i: usize,
+) -> Result<(), AllocError>
     requires { i < length contour.now }
     ensures { OnOk result (points.new.items ++ kept all (point_at contour.now i) (drop (i + 1) contour.now) (point_at contour.now 0)
         ≡ points.old.items ++ kept all before (drop i contour.now) (point_at contour.now 0)) }
@@ -177,7 +190,7 @@ fn side_point(contour: &[GridPoint]) -> FinePoint
 /// The ring of a contour, from the contour's start on.
 pub fn ring_of(alloc: Global, contour: &[GridPoint], all: bool) -> Result<Ring, AllocError>
     requires { All (λ (e : Edge). same_point e.0 e.1 ≡ false) (boundary contour.now) }
-    ensures ring { IfOk result (λ r. IsRingOf all contour.now (r.0.items , r.1)) }
+    ensures ring { IfOk result (λ r. IsRingOf all contour.now (r.0.items, r.1)) }
     ensures side { IfOk result (λ r. IsSafe (2 ^ 33) r.1) }
 {
     if contour.is_empty() {

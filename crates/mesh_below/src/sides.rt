@@ -98,7 +98,12 @@ fn is_parted(fill: FillRule, sides: Sides) -> bool
 }
 
 /// Adds the edge of the boundary on a segment, if there is one.
-fn push_edge(edges: &mut Vec<GridEdge>, fill: FillRule, sides: Sides, e: GridEdge) -> Result<(), AllocError>
+fn push_edge(
+    edges: &mut Vec<GridEdge>,
+    fill: FillRule,
+    sides: Sides,
+    e: GridEdge,
+) -> Result<(), AllocError>
     ensures { OnOk result (edges.new.items ≡ edges.old.items ++ boundary_edge (filled fill) sides e) }
 {
     if is_parted(fill, sides) {
@@ -112,7 +117,11 @@ fn push_edge(edges: &mut Vec<GridEdge>, fill: FillRule, sides: Sides, e: GridEdg
 }
 
 /// The segments whose two sides differ in fill, each once, with the filled side on its left.
-pub fn boundary(alloc: Global, segments: &[CountedSegment], fill: FillRule) -> Result<Vec<GridEdge>, AllocError>
+pub fn boundary(
+    alloc: Global,
+    segments: &[CountedSegment],
+    fill: FillRule,
+) -> Result<Vec<GridEdge>, AllocError>
     requires { sum_of size segments.now ≤ℤ pos (2 ^ 120) }
     ensures { IfOk result (λ v. (es : List Edge) → IsCountOf es segments.now → IsProper es → IsBoundary es (filled fill) v.items) }
 {

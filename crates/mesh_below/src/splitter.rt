@@ -22,7 +22,7 @@ struct Splitter {
 
 /// The segment of one edge.
 fn single(e: GridEdge) -> CountedSegment
-    ensures value { result ≡ (e , pos 1) }
+    ensures value { result ≡ (e, pos 1) }
     ensures light { weight result ≤ℤ pos (2 ^ 33) }
 {
     let (start, end) = e;
@@ -32,7 +32,7 @@ fn single(e: GridEdge) -> CountedSegment
 /// The segment seen from its other end.
 fn turned(s: CountedSegment) -> CountedSegment
     requires { weight s ≤ℤ pos (2 ^ 120) }
-    ensures { result ≡ ((s.0.1 , s.0.0) , neg_ℤ s.1) }
+    ensures { result ≡ ((s.0.1, s.0.0), neg_ℤ s.1) }
 {
     let (start, end) = s.0;
     ((end, start), -s.1)
@@ -145,51 +145,4 @@ pub fn split_edges(alloc: Global, edges: &[GridEdge]) -> Result<Vec<CountedSegme
 }
 
 #[cfg(test)]
-mod tests {
-    use super::*;
-    use crate::exact::meeting;
-
-    #[derive(Drop)]
-    struct Random {
-        state: u64,
-    }
-
-    impl Random {
-        fn below(&mut self, n: u64) -> u64 {
-            self.state = self.state.wrapping_mul(6364136223846793005).wrapping_add(1442695040888963407);
-            (self.state >> 33) % n
-        }
-    }
-
-    #[test]
-    fn random_lists_end_clear(rt: HostRuntime) -> Result<(), AllocError> {
-        let mut random = Random { state: 7 };
-        let mut splits: usize = 0;
-        for round in 0..300u32 {
-            let size = 3 + random.below(12);
-            let mut edges = Vec::new(rt.alloc());
-            for _ in 0..2 + random.below(3) {
-                let mut points = Vec::new(rt.alloc());
-                for _ in 0..3 + random.below(4) {
-                    points.push((random.below(size) as i32, random.below(size) as i32))?;
-                }
-                for i in 0..points.len() {
-                    let start = points[i];
-                    let end = points[(i + 1) % points.len()];
-                    if start != end {
-                        edges.push((start, end))?;
-                    }
-                }
-            }
-            let split = split_edges(rt.alloc(), &edges)?;
-            splits += split.len();
-            for a in &split {
-                for b in &split {
-                    assert!(rt; meeting(a.0, b.0).is_none(), "round {round}");
-                }
-            }
-        }
-        assert!(rt; splits > 3000, "{splits}");
-        Ok(())
-    }
-}
+mod tests;

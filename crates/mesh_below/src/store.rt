@@ -29,10 +29,13 @@ impl Model for Store {
 }
 
 impl Store {
+    /// No segment.
     pub fn new(alloc: Global) -> Self
         ensures { result ≡ [] }
     {
-        Store { live: Vec::new(alloc) }
+        Store {
+            live: Vec::new(alloc),
+        }
     }
 
     /// A live segment that meets the given one, or none where all are clear of it.

@@ -65,7 +65,13 @@ fn first_from(edges: &[GridEdge], at: GridPoint) -> usize
 }
 
 /// The one of two edges, if there is one already, that comes first on the turn.
-fn better(edges: &[GridEdge], at: GridPoint, from: GridPoint, best: Option<usize>, k: usize) -> usize
+fn better(
+    edges: &[GridEdge],
+    at: GridPoint,
+    from: GridPoint,
+    best: Option<usize>,
+    k: usize,
+) -> usize
     requires { k < length edges.now }
     ensures { MatchOption best (result ≡ k) (λ b. (result ≡ k) ⊎ (result ≡ b)) }
 {
@@ -90,7 +96,15 @@ fn is_open(used: &[bool], first: usize, k: usize) -> bool
 }
 
 /// The edge to take of those looked at so far, where the edge at `k` is looked at too.
-fn with_edge(edges: &[GridEdge], used: &[bool], first: usize, from: GridPoint, at: GridPoint, best: Option<usize>, k: usize) -> Option<usize>
+fn with_edge(
+    edges: &[GridEdge],
+    used: &[bool],
+    first: usize,
+    from: GridPoint,
+    at: GridPoint,
+    best: Option<usize>,
+    k: usize,
+) -> Option<usize>
     requires within { k < length edges.now }
     requires marks { length used.now ≡ length edges.now }
     ensures { MatchOption result ((best ≡ None) × (IsOpen used.now first k → ⊥)) (λ b. ((b ≡ k) × IsOpen used.now first k) ⊎ (best ≡ Some b)) }
@@ -103,7 +117,13 @@ fn with_edge(edges: &[GridEdge], used: &[bool], first: usize, from: GridPoint, a
 
 /// The edge on which the walk goes on from `at`, where it came from `from`: of the unused ones that start there, and of the walk's
 /// first edge where it starts there, the first clockwise from the way back.
-fn next_edge(edges: &[GridEdge], used: &[bool], first: usize, from: GridPoint, at: GridPoint) -> Option<usize>
+fn next_edge(
+    edges: &[GridEdge],
+    used: &[bool],
+    first: usize,
+    from: GridPoint,
+    at: GridPoint,
+) -> Option<usize>
     requires ordered { StartsInOrder edges.now }
     requires marks { length used.now ≡ length edges.now }
     ensures { MatchOption result ((k : ℕ) → IsNext edges.now used.now first at k → ⊥) (IsNext edges.now used.now first at) }
@@ -119,7 +139,12 @@ fn next_edge(edges: &[GridEdge], used: &[bool], first: usize, from: GridPoint, a
 }
 
 /// The points of the contour that begins with the edge `first`.
-fn walk(alloc: Global, edges: &[GridEdge], used: &mut [bool], first: usize) -> Result<Vec<GridPoint>, AllocError>
+fn walk(
+    alloc: Global,
+    edges: &[GridEdge],
+    used: &mut [bool],
+    first: usize,
+) -> Result<Vec<GridPoint>, AllocError>
     requires ordered { StartsInOrder edges.now }
     requires marks { length used.old ≡ length edges.now }
     requires first_in { first < length edges.now }
@@ -156,7 +181,13 @@ fn in_order(mut edges: Vec<GridEdge>) -> Result<Vec<GridEdge>, AllocError>
 }
 
 /// Adds the contour that begins with the edge `first`, unless that is used.
-fn add_contour(alloc: Global, contours: &mut Vec<Vec<GridPoint>>, edges: &[GridEdge], used: &mut [bool], first: usize) -> Result<(), AllocError>
+fn add_contour(
+    alloc: Global,
+    contours: &mut Vec<Vec<GridPoint>>,
+    edges: &[GridEdge],
+    used: &mut [bool],
+    first: usize,
+) -> Result<(), AllocError>
     requires ordered { StartsInOrder edges.now }
     requires marks { length used.old ≡ length edges.now }
     requires first_in { first < length edges.now }
@@ -172,7 +203,11 @@ fn add_contour(alloc: Global, contours: &mut Vec<Vec<GridPoint>>, edges: &[GridE
 }
 
 /// Contours of all unused edges.
-fn contours_of(alloc: Global, edges: &[GridEdge], used: &mut [bool]) -> Result<Vec<Vec<GridPoint>>, AllocError>
+fn contours_of(
+    alloc: Global,
+    edges: &[GridEdge],
+    used: &mut [bool],
+) -> Result<Vec<Vec<GridPoint>>, AllocError>
     requires ordered { StartsInOrder edges.now }
     requires marks { length used.old ≡ length edges.now }
     requires balanced { IsBalanced (unused edges.now used.old) }

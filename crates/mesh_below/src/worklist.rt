@@ -25,10 +25,13 @@ impl Model for Worklist {
 }
 
 impl Worklist {
+    /// No segment.
     pub fn new(alloc: Global) -> Self
         ensures { result ≡ [] }
     {
-        Worklist { counts: BTreeMap::new(alloc) }
+        Worklist {
+            counts: BTreeMap::new(alloc),
+        }
     }
 
     /// Takes a segment out, if there is one.

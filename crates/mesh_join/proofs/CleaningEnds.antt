@@ -57,10 +57,10 @@ cleaned_points-all P points h =
     (all_kept_round P (ring (without_repeats points)) (all_ring P (without_repeats points) (all_without_repeats P points h)))
 
 all_route : (P : Point → Type 0) (a : Point) (xs : List Point) (z : Point) → P a → All P xs → P z → All (λ (e : Edge). P e.0 × P e.1) (route a xs z)
-all_route P a [] z ha h hz = All-cons (λ (e : Edge). P e.0 × P e.1) (a , z) [] (ha , hz) (All-nil (λ (e : Edge). P e.0 × P e.1))
+all_route P a [] z ha h hz = All-cons (λ (e : Edge). P e.0 × P e.1) (a, z) [] (ha, hz) (All-nil (λ (e : Edge). P e.0 × P e.1))
 all_route P a (x ∷ xs) z ha h hz =
     let hx = All-head P x xs h in
-    All-cons (λ (e : Edge). P e.0 × P e.1) (a , x) (route x xs z) (ha , hx) (all_route P x xs z hx (All-tail P x xs h) hz)
+    All-cons (λ (e : Edge). P e.0 × P e.1) (a, x) (route x xs z) (ha, hx) (all_route P x xs z hx (All-tail P x xs h) hz)
 
 all_boundary : (P : Point → Type 0) (xs : List Point) → All P xs → All (λ (e : Edge). P e.0 × P e.1) (boundary xs)
 all_boundary P [] h = All-nil (λ (e : Edge). P e.0 × P e.1)

@@ -10,18 +10,28 @@ use mesh_num::num::convert::wide_size;
 use mesh_num::num::{Angle, IntNumber, IntPoint, UnitIntVector, WideNumber};
 use mesh_num::shape::segment::{Segment, SubjectSegments};
 use std::alloc::{AllocError, Global};
-use std::marker::PhantomData;
+use std::marker::{Model, PhantomData};
 
-/// Adds the edges that connect both offset points of an outer corner.
-#[derive(Debug, Clone, Copy)]
+/// Adds the edges that connect both offset points of an outer corner. Contracts see its style.
+#[derive(Debug, Drop)]
 pub struct Join<I: IntNumber> {
     style: IntLineJoin,
     coordinate: PhantomData<I>,
 }
 
+impl<I: IntNumber> Model for Join<I> {
+    ghost use Rattle.mesh_join.specs.declared.style.IntLineJoin.{IntLineJoin};
+
+    ghost Value = { IntLineJoin };
+
+    ghost view = { λ j. j.style };
+}
+
 impl<I: IntNumber> Join<I> {
     /// A join of this style; `_min_turn` is the turn below which a miter is a bevel. It takes no memory.
-    pub fn new(_alloc: Global, style: IntLineJoin, _min_turn: Angle) -> Self {
+    pub fn new(_alloc: Global, style: IntLineJoin, _min_turn: Angle) -> Self
+        ensures { result ≡ style }
+    {
         Join {
             style,
             coordinate: PhantomData,
@@ -56,6 +66,7 @@ impl<I: IntNumber> Join<I> {
         ensures edges { OnOk result (edges_of segments.new.items ≡ edges_of segments.old.items ++ proper_edges (bevel_edges a b)) }
         ensures err { OnErr result (segments.new.items ≡ segments.old.items) }
         ensures same_ends { a ≡ b → IsOk result }
+        ensures same { self.new ≡ self.old }
     {
         match self.style {
             IntLineJoin::Bevel => segments.push_non_degenerate(a, b),

@@ -51,34 +51,26 @@ impl<I: IntNumber> IntOutlineStyle<I> {
     }
 
     /// The style with another offset of outer boundaries.
-    pub fn outer_offset(self, offset: I) -> Self
+    pub fn outer_offset(mut self, offset: I) -> Self
         ensures { result ≡ record self { outer_offset = offset } }
     {
-        IntOutlineStyle {
-            outer_offset: offset,
-            ..self
-        }
+        self.outer_offset = offset;
+        self
     }
 
     /// The style with another offset of holes' boundaries.
-    pub fn inner_offset(self, offset: I) -> Self
+    pub fn inner_offset(mut self, offset: I) -> Self
         ensures { result ≡ record self { inner_offset = offset } }
     {
-        IntOutlineStyle {
-            inner_offset: offset,
-            ..self
-        }
+        self.inner_offset = offset;
+        self
     }
 
     /// The style with both offsets the same.
     pub fn offset(self, offset: I) -> Self
         ensures { result ≡ record self { outer_offset = offset; inner_offset = offset } }
     {
-        IntOutlineStyle {
-            outer_offset: offset,
-            inner_offset: offset,
-            ..self
-        }
+        self.outer_offset(offset).inner_offset(offset)
     }
 
     /// The style with another join.

@@ -2,6 +2,7 @@ pub mod Balance
 pub mod ClosedLists
 pub mod Crossings
 pub mod Directed
+pub mod FlatContours
 pub mod Identities
 pub mod Normalized
 pub mod Parts

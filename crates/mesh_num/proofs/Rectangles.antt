@@ -1,8 +1,8 @@
 -- Lemmas over points and lists: bounds of points, one point after another.
-use Rattle.std.proofs.Common.{◌≡◌, ℕ, Bool, true, false, cond, List, [], ◌∷◌, ◌++◌, map, refl, arith, ◌<◌, ◌≤◌, Option, Some, None, rules}
-use Rattle.std.specs.Prelude.{ℤ, ◌≤ℤ◌, int_lt, MatchOption, ◌≤ℤ◌}
+use Rattle.std.proofs.Common.{◌≡◌, Bool, true, false, cond, List, [], ◌∷◌, ◌++◌, map, arith, Option, Some, None}
+use Rattle.std.specs.Prelude.{ℤ, int_lt, MatchOption}
 use Rattle.std.specs.Int.{int_min, int_max}
-use Rattle.std.specs.List.{All, Contains}
+use Rattle.std.specs.List.{Contains}
 use Rattle.std.proofs.lemmas.Int.{ints, clamps}
 use Rattle.std.proofs.lemmas.List.Elements.{All-push, All-weaker, All-nil, Contains-append_left, Contains-push}
 use Rattle.std.proofs.lemmas.List.{map-append}

@@ -1,5 +1,5 @@
 -- Lemmas over points and lists: segments stand for their edges.
-use Rattle.std.proofs.Common.{◌≡◌, Bool, true, false, cond, not, List, [], ◌∷◌, ◌++◌, map, refl, sym, ◌∙◌, ap, append_assoc, append-nil}
+use Rattle.std.proofs.Common.{◌≡◌, Bool, true, false, cond, not, List, [], ◌∷◌, ◌++◌, refl, sym, ◌∙◌, ap, append_assoc}
 use Rattle.std.specs.Prelude.{pos, negsuc}
 use Rattle.std.proofs.lemmas.List.{map-append}
 use Rattle.std.proofs.lemmas.List.Elements.{filter-append}
@@ -30,7 +30,7 @@ edges_of_segments (e ∷ es) =
     ∙ ap (λ l. l ++ edges_of (segments_of es)) (edges_of_between e.0 e.1)
     ∙ ap (λ l. edge_between e.0 e.1 ++ l) (edges_of_segments es)
     ∙ step (same_point e.0 e.1)
-    where
+  where
     step : (b : Bool) → cond b [] (e ∷ []) ++ proper_edges es ≡ cond (not b) (e ∷ proper_edges es) (proper_edges es)
     step true = refl
     step false = refl

@@ -201,3 +201,6 @@ parallelogram_winds_back m q a b c d ex ey o =
     (parallelogram_opposite_bit q (refined m a) (refined m b) (refined m c) (refined m d)
     (middle_refined m a.0 b.0 c.0 d.0 ex) (middle_refined m a.1 b.1 c.1 d.1 ey) (turn_refined_right m a b d o))
     (omega (arith, linear))
+
+pub flat_triangle_winds : (m : ℕ) (q p r s : Point) → turn p r s ≡ pos 0 → winding m q (boundary (p ∷ r ∷ s ∷ [])) ≡ pos 0
+flat_triangle_winds m q p r s e = omega (arith, linear, triangle_flat q (refined m p) (refined m r) (refined m s) (turn_refined_flat m p r s e))

@@ -1,6 +1,5 @@
 -- Ranges of whole numbers and the safe range of coordinates.
-use Rattle.std.specs.Prelude.{ℕ, ◌≡◌, ℤ, pos, ◌+ℤ◌, ◌-ℤ◌, ◌≤ℤ◌, ◌<ℤ◌, neg_ℤ, List, [], ◌∷◌}
-use Rattle.std.specs.List.{All}
+use Rattle.std.specs.Prelude.{ℕ, ℤ, pos, ◌≤ℤ◌, ◌<ℤ◌, neg_ℤ}
 use Rattle.mesh_num.specs.Plane.{Point}
 
 -- at least `-h` and below `h`: what a signed type of twice as many values holds

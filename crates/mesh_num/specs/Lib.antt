@@ -1,6 +1,8 @@
 pub mod Bounds
 pub mod Directed
 pub mod Direction
+pub mod FlatContours
+pub mod Laws
 pub mod Order
 pub mod Paths
 pub mod Plane

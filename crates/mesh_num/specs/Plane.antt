@@ -1,6 +1,6 @@
 -- The plane of pairs of whole numbers: points, vectors, their products and turns.
 -- Nothing here knows the width of the program's numbers.
-use Rattle.std.specs.Prelude.{ℕ, ◌+◌, ◌*◌, ℤ, pos, ◌+ℤ◌, ◌-ℤ◌, ◌*ℤ◌, neg_ℤ, unsigned_abs}
+use Rattle.std.specs.Prelude.{ℕ, ◌+◌, ◌*◌, ℤ, ◌+ℤ◌, ◌-ℤ◌, ◌*ℤ◌, neg_ℤ, unsigned_abs}
 
 -- a point, or the vector to it: x, then y; the y axis points up
 abbrev pub Point : Type 0

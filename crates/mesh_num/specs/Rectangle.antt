@@ -1,5 +1,5 @@
 -- Bounds of points, given by their least and greatest corner, and the safe range of bounds widened by a padding.
-use Rattle.std.specs.Prelude.{ℕ, ◌≡◌, List, map, Option, Some, None, ℤ, pos, ◌+ℤ◌, ◌-ℤ◌, ◌≤ℤ◌}
+use Rattle.std.specs.Prelude.{ℕ, List, map, Option, Some, None, ℤ, ◌≤ℤ◌}
 use Rattle.std.specs.List.{All, Contains}
 use Rattle.std.specs.Int.{int_min, int_max}
 use Rattle.mesh_num.specs.Bounds.{IsSafe}

@@ -1,5 +1,5 @@
 -- Signed segments: the smaller end, the larger end and a count of 1 or -1 stand for one directed edge.
-use Rattle.std.specs.Prelude.{ℕ, ◌≡◌, ◌⊎◌, cond, not, List, [], ◌∷◌, ◌++◌, map, ℤ, pos, negsuc, int_lt, IsTrue}
+use Rattle.std.specs.Prelude.{◌≡◌, ◌⊎◌, cond, not, List, [], ◌∷◌, ◌++◌, map, ℤ, pos, negsuc, int_lt, IsTrue}
 use Rattle.std.specs.List.{filter}
 use Rattle.mesh_num.specs.Plane.{Point, Edge}
 use Rattle.mesh_num.specs.Winding.{same_point}

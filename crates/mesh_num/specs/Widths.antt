@@ -1,8 +1,8 @@
 -- Lemmas over whole numbers: what fits a signed width.
-use Rattle.std.proofs.Common.{◌≡◌, ℕ, ◌^◌, arith}
+use Rattle.std.proofs.Common.{◌^◌, arith}
 use Rattle.std.specs.Prelude.{ℤ, FitsSigned}
 use Rattle.std.proofs.lemmas.Int.{ints}
-use mir.Syntax.{w16, w32, w64}
+use mir.Syntax.{w32, w64}
 use Rattle.mesh_num.specs.Bounds.{IsWithin}
 
 pub within_fits_w32 : (z : ℤ) → IsWithin (2 ^ 31) z → FitsSigned w32 z

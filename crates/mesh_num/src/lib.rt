@@ -1,5 +1,6 @@
 //! Numbers, points, directions, segments and paths of integer polygon offsetting.
 #![tactic(auto)]
 
+pub mod laws;
 pub mod num;
 pub mod shape;

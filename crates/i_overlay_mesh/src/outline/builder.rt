@@ -22,6 +22,7 @@ use std::alloc::AllocError;
 use std::marker::Model;
 
 /// Builds the outline of a contour: its sections moved by an offset, and joined at the corners.
+#[derive(Drop)]
 pub struct OutlineBuilder<I: IntNumber> {
     offset: I,
     join: Join<I>,

@@ -1,6 +1,6 @@
 //! Points of the grid and vectors between them.
 
-ghost use Rattle.std.specs.Prelude.{◌≡◌, ℕ, ◌+◌, ◌*◌, ℤ, ◌-ℤ◌, IfOk};
+ghost use Rattle.std.specs.Prelude.{◌≡◌, ℕ, ◌+◌, ◌*◌, ℤ, ◌-ℤ◌};
 ghost use Rattle.mesh_num.specs.Plane.{minus, cross, dot, length_sq};
 ghost use Rattle.mesh_num.specs.Bounds.{IsSafe};
 
@@ -30,9 +30,11 @@ impl<I: IntNumber> Model for IntPoint<I> {
 }
 
 impl<I: IntNumber> Clone for IntPoint<I> {
-    fn clone(&self) -> Result<Self, AllocError>
-        ensures { IfOk result (λ p. p ≡ self.now) }
-    {
+    ghost is_clone = { λ first second. second ≡ first };
+
+    ghost is_infallible = { λ _. Unit {0} };
+
+    fn clone(&self) -> Result<Self, AllocError> {
         Ok(*self)
     }
 }
@@ -82,9 +84,11 @@ impl<I: IntNumber> Model for IntVector<I> {
 }
 
 impl<I: IntNumber> Clone for IntVector<I> {
-    fn clone(&self) -> Result<Self, AllocError>
-        ensures { IfOk result (λ v. v ≡ self.now) }
-    {
+    ghost is_clone = { λ first second. second ≡ first };
+
+    ghost is_infallible = { λ _. Unit {0} };
+
+    fn clone(&self) -> Result<Self, AllocError> {
         Ok(IntVector {
             x: self.x,
             y: self.y,

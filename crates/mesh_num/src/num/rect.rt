@@ -1,6 +1,6 @@
 //! Bounds of points.
 
-ghost use Rattle.std.specs.Prelude.{◌≡◌, ◌↔◌, ℤ, List, [], ◌∷◌, ◌++◌, map, IsTrue, IfOk, MatchOption, IsNone};
+ghost use Rattle.std.specs.Prelude.{◌≡◌, ◌↔◌, ℤ, List, [], ◌∷◌, ◌++◌, map, IsTrue, MatchOption, IsNone};
 ghost use Rattle.std.specs.Iterator.{Drains, IsFinite};
 ghost use Rattle.mesh_num.specs.Bounds.{IsSmall};
 ghost use Rattle.mesh_num.specs.Rectangle.{IsBounds, IsSafeRectangle, extended, grown};
@@ -33,9 +33,11 @@ impl<I: IntNumber> Model for IntRect<I> {
 }
 
 impl<I: IntNumber> Clone for IntRect<I> {
-    fn clone(&self) -> Result<Self, AllocError>
-        ensures { IfOk result (λ r. r ≡ self.now) }
-    {
+    ghost is_clone = { λ first second. second ≡ first };
+
+    ghost is_infallible = { λ _. Unit {0} };
+
+    fn clone(&self) -> Result<Self, AllocError> {
         Ok(*self)
     }
 }

@@ -1,6 +1,6 @@
 //! Directions: vectors brought to the length `UNIT`.
 
-ghost use Rattle.std.specs.Prelude.{◌≡◌, ℕ, ◌*◌, ◌≤◌, ◌↔◌, ℤ, pos, unsigned_abs, IsTrue, IsNone, IfOk, IfSome, MatchOption};
+ghost use Rattle.std.specs.Prelude.{◌≡◌, ℕ, ◌*◌, ◌≤◌, ◌↔◌, ℤ, pos, unsigned_abs, IsTrue, IsNone, IfSome, MatchOption};
 ghost use Rattle.mesh_num.specs.Bounds.{IsSafe};
 ghost use Rattle.mesh_num.specs.Plane.{length_sq};
 ghost use Rattle.mesh_num.specs.Direction.{IsDirection, IsFresh, IsShort, IsOdd, SameWay, KeepsTurns, KeepsScaledTurns, scaled, scaled_direction};
@@ -36,9 +36,11 @@ impl<I: IntNumber> Model for UnitIntVector<I> {
 }
 
 impl<I: IntNumber> Clone for UnitIntVector<I> {
-    fn clone(&self) -> Result<Self, AllocError>
-        ensures { IfOk result (λ n. n ≡ self.now) }
-    {
+    ghost is_clone = { λ first second. second ≡ first };
+
+    ghost is_infallible = { λ _. Unit {0} };
+
+    fn clone(&self) -> Result<Self, AllocError> {
         Ok(*self)
     }
 }
@@ -108,7 +110,7 @@ impl<I: IntNumber> IntVector<I> {
     /// `k * k * length² <= UNIT * UNIT * component²`, with the component's sign. Components are below `2 * UNIT` in size.
     pub fn fast_normalize(&self) -> Option<UnitIntVector<I>>
         requires { IsSafe (2 * I.unit) self.now }
-        ensures none { IsNone result ↔ (self.now ≡ (pos 0 , pos 0)) }
+        ensures none { IsNone result ↔ (self.now ≡ (pos 0, pos 0)) }
         ensures value { IfSome result (λ n. IsDirection I.unit self.now n) }
         ensures short { IfSome result (λ n. IsShort I.unit n) }
         ensures fresh { IfSome result (λ n. IsFresh I.unit n) }

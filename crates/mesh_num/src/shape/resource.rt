@@ -69,7 +69,7 @@ impl<I: IntNumber, const N: usize> IntShapeResource<I> for [Vec<IntPoint<I>>; N]
     }
 
     fn path_at(&self, index: usize) -> &[IntPoint<I>] {
-        self[index].as_slice()
+        &self[index]
     }
 }
 

@@ -1,7 +1,8 @@
 //! Segments with a sign, each of which stands for one directed edge.
 
-ghost use Rattle.std.specs.Prelude.{◌≡◌, ◌≢◌, ℤ, List, OnOk, OnErr, IfOk, IsOk, ◌++◌};
-ghost use Rattle.mesh_num.specs.Segments.{edge_of, subject_of, segment_between, IsSubject};
+ghost use Rattle.std.specs.Prelude.{◌≡◌, ◌≢◌, ℤ, List, OnOk, OnErr, IsOk, ◌++◌};
+ghost use Rattle.mesh_num.specs.Segments.{edge_of, subject_of, segment_between, IsSubject, SignedEdge};
+ghost use Rattle.mesh_num.specs.Plane.{Point};
 
 use crate::num::number::IntNumber;
 use crate::num::point::IntPoint;
@@ -16,9 +17,11 @@ pub struct XSegment<I: IntNumber> {
 }
 
 impl<I: IntNumber> Clone for XSegment<I> {
-    fn clone(&self) -> Result<Self, AllocError>
-        ensures { IfOk result (λ s. s ≡ self.now) }
-    {
+    ghost is_clone = { λ first second. second ≡ first };
+
+    ghost is_infallible = { λ _. Unit {0} };
+
+    fn clone(&self) -> Result<Self, AllocError> {
         Ok(*self)
     }
 }
@@ -42,9 +45,11 @@ pub struct Segment<I: IntNumber> {
 }
 
 impl<I: IntNumber> Clone for Segment<I> {
-    fn clone(&self) -> Result<Self, AllocError>
-        ensures { IfOk result (λ s. s ≡ self.now) }
-    {
+    ghost is_clone = { λ first second. second ≡ first };
+
+    ghost is_infallible = { λ _. Unit {0} };
+
+    fn clone(&self) -> Result<Self, AllocError> {
         Ok(*self)
     }
 }
@@ -81,22 +86,69 @@ impl<I: IntNumber> Segment<I> {
     }
 }
 
-/// Vectors of segments that edges are added to.
+/// Vectors of segments that edges are added to. Contracts see their list of segments, and the points as pairs.
 pub trait SubjectSegments<P> {
+    ghost segments: { Self → List SignedEdge };
+
+    ghost point: { P → Point };
+
     /// Adds the segment of the edge from `a` to `b`, or nothing where they are one point, which takes no memory.
     /// After a refusal the vector is unchanged.
-    fn push_non_degenerate(&mut self, a: P, b: P) -> Result<(), AllocError>;
+    fn push_non_degenerate(&mut self, a: P, b: P) -> Result<(), AllocError>
+        ensures ok { OnOk result (segments self.new ≡ segments self.old ++ segment_between (point a) (point b)) }
+        ensures err { OnErr result (segments self.new ≡ segments self.old) }
+        ensures same_ends { point a ≡ point b → IsOk result };
 }
 
 impl<I: IntNumber> SubjectSegments<IntPoint<I>> for Vec<Segment<I>> {
-    fn push_non_degenerate(&mut self, a: IntPoint<I>, b: IntPoint<I>) -> Result<(), AllocError>
-        ensures ok { OnOk result (self.new.items ≡ self.old.items ++ segment_between a b) }
-        ensures err { OnErr result (self.new.items ≡ self.old.items) }
-        ensures same_ends { a ≡ b → IsOk result }
-    {
+    ghost segments = { λ v. v.items };
+
+    ghost point = { λ p. p };
+
+    fn push_non_degenerate(&mut self, a: IntPoint<I>, b: IntPoint<I>) -> Result<(), AllocError> {
         if a != b {
             self.push(Segment::subject(a, b))?;
         }
+        Ok(())
+    }
+}
+
+#[cfg(test)]
+mod tests {
+    use super::*;
+    use std::test::Fail;
+
+    #[test]
+    fn segments_run_from_the_smaller_end(rt: HostRuntime) -> Result<(), Fail> {
+        let low = IntPoint::<i32>::new(-3, 8);
+        let rows = [(IntPoint::<i32>::new(-3, 9)), (IntPoint::<i32>::new(4, -8))];
+        for high in rows {
+            let there = Segment::subject(low, high);
+            let back = Segment::subject(high, low).clone()?;
+            let ends = back.x_segment.clone()?;
+            assert_eq!(rt;
+                (there.x_segment.a, there.x_segment.b, there.count),
+                (low, high, 1)
+            );
+            assert_eq!(rt; (ends.a, ends.b, back.count), (low, high, -1));
+        }
+        Ok(())
+    }
+
+    #[test]
+    fn equal_ends_push_nothing(rt: HostRuntime) -> Result<(), Fail> {
+        let mut segments: Vec<Segment<i16>> = Vec::new(rt.alloc());
+        let (p, q) = (IntPoint::<i16>::new(5, 5), IntPoint::<i16>::new(5, -5));
+        segments.push_non_degenerate(p, p)?;
+        assert_eq!(rt; segments.len(), 0);
+        segments.push_non_degenerate(p, q)?;
+        segments.push_non_degenerate(q, q)?;
+        assert_eq!(rt; segments.len(), 1);
+        let pushed = segments[0];
+        assert_eq!(rt;
+            (pushed.x_segment.a, pushed.x_segment.b, pushed.count),
+            (q, p, -1)
+        );
         Ok(())
     }
 }

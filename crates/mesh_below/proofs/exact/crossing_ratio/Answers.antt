@@ -1,4 +1,4 @@
-use Rattle.std.proofs.Common.{lit≤, ◌^◌, ◌≡◌, ◌∙◌, ap}
+use Rattle.std.proofs.Common.{lit≤, ◌^◌, ◌∙◌, ap}
 use Rattle.std.specs.Prelude.{ℤ, ◌+ℤ◌, ◌-ℤ◌, ◌*ℤ◌}
 use Rattle.std.proofs.lemmas.Int.{to_z-of_z}
 use mir.Syntax.{w32}
@@ -39,7 +39,7 @@ returns-clause-value c =
     let h = small_kept (2 ^ 98) q (lit≤ tt) c.long_product-2.ensures.size in
     let k = small_kept (2 ^ 99) (p +ℤ q) (lit≤ tt) t in
     let over = second ∙ ap (λ (n : ℤ). n *ℤ s.0) e in
-    simp (g, h, k, x, y, z) (λ i. (first i +ℤ over i , s.0 -ℤ s.1))
+    simp (g, h, k, x, y, z) (λ i. (first i +ℤ over i, s.0 -ℤ s.1))
 
 pub returns-clause-size : goal.returns-clause-size
 returns-clause-size c =

@@ -1,4 +1,4 @@
-use Rattle.std.proofs.Common.{◌≡◌, true, ◌∙◌, sym, ap, ◌||◌}
+use Rattle.std.proofs.Common.{◌∙◌, sym, ◌||◌}
 use Rattle.mesh_below.specs.Split.{is_end}
 use Rattle.mesh_num.specs.Winding.{same_point}
 use Rattle.mesh_below.proofs.exact.is_end.Goals as goal

@@ -1,9 +1,13 @@
-use Rattle.std.proofs.Common.{◌≡◌, subst, sym}
+use Rattle.std.proofs.Common.{subst, sym}
 use Rattle.std.proofs.lemmas.Bool.{both_ways}
 use Rattle.mesh_num.specs.Plane.{Point}
 use Rattle.mesh_below.specs.Split.{Meets, at_start_of_second, at_end_of_second, at_start_of_first, at_end_of_first, at_crossing}
+use Rattle.mesh_below.proofs.Boxes.{meets_box}
 use Rattle.mesh_below.proofs.Meeting.{clear_of_tests}
 use Rattle.mesh_below.proofs.exact.meeting.Goals as goal
+
+pub returns-then-are_boxes_apart : goal.returns-then-are_boxes_apart
+returns-then-are_boxes_apart c = λ p m. c.are_boxes_apart.ensures c.if-are_boxes_apart.true p (meets_box m).0 (meets_box m).1
 
 pub returns-then-is_inside : goal.returns-then-is_inside
 returns-then-is_inside c = at_start_of_second (c.is_inside.ensures.0 c.if-is_inside.true)

@@ -1,5 +1,5 @@
-use Rattle.std.proofs.Common.{lit≤, ◌^◌, ◌≡◌, ◌∙◌, ap, ◌+◌, ◌*◌, ◌/◌, ℕ}
-use Rattle.std.specs.Prelude.{ℤ, pos, unsigned_abs}
+use Rattle.std.proofs.Common.{lit≤, ◌^◌, ◌∙◌, ap, ◌+◌, ◌*◌, ◌/◌}
+use Rattle.std.specs.Prelude.{unsigned_abs}
 use Rattle.mesh_below.proofs.Arithmetic.{small_kept, quotient_below}
 use Rattle.mesh_below.proofs.exact.rounded.Goals as goal
 

@@ -1,4 +1,4 @@
-use Rattle.std.proofs.Common.{rules, ◌≡◌, ◌∙◌, ap, sym}
+use Rattle.std.proofs.Common.{rules, ◌∙◌, ap}
 use Rattle.std.specs.Prelude.{ℤ, ◌-ℤ◌}
 use Rattle.std.proofs.lemmas.Int.{to_z-of_z}
 use mir.Syntax.{w32}
@@ -21,4 +21,4 @@ returns c =
     let q = to_z-of_z w32 c.crossing_at-2.result (record { sfits = c.crossing_at-2.type_inv }) in
     let first = p ∙ x ∙ at e.0.0 e.1.0 in
     let second = q ∙ y ∙ at e.0.1 e.1.1 in
-    λ i. (first i , second i)
+    λ i. (first i, second i)

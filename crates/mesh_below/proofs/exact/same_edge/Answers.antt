@@ -1,4 +1,4 @@
-use Rattle.std.proofs.Common.{◌≡◌, ◌∙◌, sym, ◌&&◌}
+use Rattle.std.proofs.Common.{◌∙◌, sym, ◌&&◌}
 use Rattle.mesh_num.specs.Winding.{same_point}
 use Rattle.mesh_below.specs.Split.{same_edge}
 use Rattle.mesh_below.proofs.exact.same_edge.Goals as goal

@@ -12,7 +12,7 @@ returns-then-not-same_point c =
     let ps = c.args.contour.now in
     visit_same c.args.all ps c.args.i c.args.best c.requires.known
     (λ (e : point_at ps c.args.i ≡ point_at ps 0).
-        absurd (both_ways (same_point (point_at ps c.args.i) (point_at ps 0)) (sym c.same_point.ensures ∙ c.if-not-same_point.true) ((decides_point (point_at ps c.args.i) (point_at ps 0)).1 e)))
+    absurd (both_ways (same_point (point_at ps c.args.i) (point_at ps 0)) (sym c.same_point.ensures ∙ c.if-not-same_point.true) ((decides_point (point_at ps c.args.i) (point_at ps 0)).1 e)))
 
 pub returns-then-is_before : goal.returns-then-is_before
 returns-then-is_before c =
@@ -26,4 +26,4 @@ returns c =
     let ps = c.args.contour.now in
     visit_same c.args.all ps c.args.i c.args.best c.requires.known
     (λ (e : point_at ps c.args.i ≡ point_at ps 0).
-        (λ j. point_lt (sym c.next_vertex.ensures j) (sym c.next_vertex-2.ensures j)) ∙ (sym c.is_before.ensures ∙ c.if-is_before.false))
+    (λ j. point_lt (sym c.next_vertex.ensures j) (sym c.next_vertex-2.ensures j)) ∙ (sym c.is_before.ensures ∙ c.if-is_before.false))

@@ -12,7 +12,7 @@ returns c =
     let zero = zero_bits c.cross.result (small_fits (2 ^ 65) c.cross.result (lit≤ tt) c.cross.ensures.size) in
     let value = c.cross.ensures.value ∙ λ i. cross (c.minus-v.ensures.value i) (c.minus-w.ensures.value i) in
     sym (corner_yes c.args.a c.args.p c.args.n
-        (λ (e : cross (minus c.args.p c.args.a) (minus c.args.p c.args.n) ≡ pos 0). c.if-cross-eq0.false (eqb-true (of_z w128 c.cross.result) 0 (zero.1 (value ∙ e)))))
+    (λ (e : cross (minus c.args.p c.args.a) (minus c.args.p c.args.n) ≡ pos 0). c.if-cross-eq0.false (eqb-true (of_z w128 c.cross.result) 0 (zero.1 (value ∙ e)))))
 
 pub returns-then-cross-eq0 : goal.returns-then-cross-eq0
 returns-then-cross-eq0 c =

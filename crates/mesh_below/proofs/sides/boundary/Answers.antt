@@ -21,6 +21,6 @@ returns c =
     let xs = c.args.segments.now in
     let whole : take c.loop-s.s-index xs ≡ xs = take_all c.loop-s.s-index xs (omega (arith, c.loop-s-test.false)) in
     λ (es : List Edge) (is : IsCountOf es xs) (proper : IsProper es).
-        subst (λ (l : List Edge). IsBoundary es (filled c.args.fill) l)
-        (sym (c.loop-s.invariant ∙ ap (λ (ks : List Counted). flat_map (emitted (filled c.args.fill) xs) ks) whole))
-        (counted_boundary es xs (filled c.args.fill) is proper)
+    subst (λ (l : List Edge). IsBoundary es (filled c.args.fill) l)
+    (sym (c.loop-s.invariant ∙ ap (λ (ks : List Counted). flat_map (emitted (filled c.args.fill) xs) ks) whole))
+    (counted_boundary es xs (filled c.args.fill) is proper)

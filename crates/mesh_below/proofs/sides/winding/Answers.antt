@@ -35,10 +35,10 @@ loop-s-preserved c =
     let same : to_z w128 (of_z w128 (a +ℤ to_z w128 (of_z w128 b))) ≡ a +ℤ b = ap (λ (z : ℤ). to_z w128 (of_z w128 (a +ℤ z))) kept ∙ s.kept in
     record {
       value =
-        same
-        ∙ ((λ j. c.loop-s.invariant.value j +ℤ c.counted_crossing-sum.ensures.value j)
-        ∙ sym (sum_more (λ (k : Counted). k.1 *ℤ crossing_on 2 c.args.q k.0.0 k.0.1) xs i (((pos 0, pos 0), (pos 0, pos 0)), pos 0) c.loop-s-test.true));
+          same
+          ∙ ((λ j. c.loop-s.invariant.value j +ℤ c.counted_crossing-sum.ensures.value j)
+          ∙ sym (sum_more (λ (k : Counted). k.1 *ℤ crossing_on 2 c.args.q k.0.0 k.0.1) xs i (((pos 0, pos 0), (pos 0, pos 0)), pos 0) c.loop-s-test.true));
       size =
-        subst (λ (z : ℤ). pos (unsigned_abs z) ≤ℤ sum_of size (take (i + 1) xs)) (sym same)
-        (omega (arith, ints, s.size, c.loop-s.invariant.size, c.counted_crossing-sum.ensures.size, sum_more size xs i (((pos 0, pos 0), (pos 0, pos 0)), pos 0) c.loop-s-test.true));
+          subst (λ (z : ℤ). pos (unsigned_abs z) ≤ℤ sum_of size (take (i + 1) xs)) (sym same)
+          (omega (arith, ints, s.size, c.loop-s.invariant.size, c.counted_crossing-sum.ensures.size, sum_more size xs i (((pos 0, pos 0), (pos 0, pos 0)), pos 0) c.loop-s-test.true));
     }

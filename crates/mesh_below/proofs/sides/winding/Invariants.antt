@@ -7,6 +7,6 @@ use Rattle.mesh_below.proofs.sides.winding.Given as goal
 
 abbrev pub invariant-loop-s : goal.invariant-loop-s
 invariant-loop-s l = record {
-    value : l.sum ≡ counted_winding l.q (take l.s-index l.segments);
-    size : pos (unsigned_abs l.sum) ≤ℤ sum_of size (take l.s-index l.segments);
+  value : l.sum ≡ counted_winding l.q (take l.s-index l.segments);
+  size : pos (unsigned_abs l.sum) ≤ℤ sum_of size (take l.s-index l.segments);
 }

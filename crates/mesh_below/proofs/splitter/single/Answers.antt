@@ -1,9 +1,6 @@
-use Rattle.std.proofs.Common.{rules, ◌≡◌, sym, subst, ◌^◌}
-use Rattle.std.specs.Prelude.{pos, ◌≤ℤ◌}
+use Rattle.std.proofs.Common.{rules}
 use mir.Syntax.{w32}
 use mir.Val.{SFits}
-use Rattle.mesh_below.specs.Counted.{Counted}
-use Rattle.mesh_below.specs.Steps.{weight}
 use Rattle.mesh_below.proofs.Starting.{edge_weight}
 use Rattle.mesh_below.proofs.splitter.single.Goals as goal
 

@@ -1,4 +1,4 @@
-use Rattle.std.proofs.Common.{ℕ, ◌*◌, ◌^◌, take, [], length}
+use Rattle.std.proofs.Common.{◌*◌, ◌^◌, take, []}
 use Rattle.std.specs.Prelude.{pos, ◌≤ℤ◌, unsigned_abs}
 use Rattle.mesh_below.specs.Steps.{AreCountOf, IsReached, AllClear, total_weight, work}
 use Rattle.mesh_below.proofs.splitter.split_edges.Given as goal

@@ -5,10 +5,10 @@ use Rattle.mesh_below.proofs.walk.first_from.Given as goal
 
 abbrev pub invariant-loop-low : goal.invariant-loop-low
 invariant-loop-low l = record {
-    order : l.low ≤ l.high;
-    bound : l.high ≤ length l.edges;
-    before : (k : ℕ) (d : Edge) → k < l.low → point_lt (get_or l.edges k d).0 l.at ≡ true;
-    after : (k : ℕ) (d : Edge) → l.high ≤ k → k < length l.edges → point_lt (get_or l.edges k d).0 l.at ≡ false;
+  order : l.low ≤ l.high;
+  bound : l.high ≤ length l.edges;
+  before : (k : ℕ) (d : Edge) → k < l.low → point_lt (get_or l.edges k d).0 l.at ≡ true;
+  after : (k : ℕ) (d : Edge) → l.high ≤ k → k < length l.edges → point_lt (get_or l.edges k d).0 l.at ≡ false;
 }
 
 abbrev pub decreases-loop-low : goal.decreases-loop-low

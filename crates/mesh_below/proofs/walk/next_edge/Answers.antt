@@ -17,7 +17,7 @@ returns-then-not-same_point c =
     let k = c.loop-k.k in
     match_none (IsNext es c.args.used.now c.args.first c.args.at) c.loop-k.best
     (none_after es c.args.used.now c.args.first c.args.at ((pos 0, pos 0), (pos 0, pos 0)) k c.requires.ordered c.loop-k-test.true
-        (λ (d : Edge). c.first_from-k.ensures.after k d c.loop-k.auto.k c.loop-k-test.true) (sym c.same_point.ensures ∙ c.if-not-same_point.true))
+    (λ (d : Edge). c.first_from-k.ensures.after k d c.loop-k.auto.k c.loop-k-test.true) (sym c.same_point.ensures ∙ c.if-not-same_point.true))
     c.loop-k.invariant
 
 pub loop-k-preserved : goal.loop-k-preserved

@@ -7,7 +7,7 @@ use Rattle.mesh_below.proofs.walk.walk.Goals as goal
 pub loop-k-init : goal.loop-k-init
 loop-k-init c =
     let begun : c.push.new.self.items ≡ (get_or c.args.edges.now c.args.first ((pos 0, pos 0), (pos 0, pos 0))).0 ∷ [] =
-        c.in_ok-push.ensures.items ∙ ap (λ (l : List Point). l ++ (get_or c.args.edges.now c.args.first ((pos 0, pos 0), (pos 0, pos 0))).0 ∷ []) c.new-points.ensures.items in
+    c.in_ok-push.ensures.items ∙ ap (λ (l : List Point). l ++ (get_or c.args.edges.now c.args.first ((pos 0, pos 0), (pos 0, pos 0))).0 ∷ []) c.new-points.ensures.items in
     walk_init c.args.edges.now c.args.used.now c.args.first ((pos 0, pos 0), (pos 0, pos 0)) c.push.new.self.items c.requires.first_in c.requires.first_unused c.requires.marks begun
 
 pub loop-k-smaller : goal.loop-k-smaller

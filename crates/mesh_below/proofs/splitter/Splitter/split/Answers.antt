@@ -1,6 +1,6 @@
-use Rattle.std.proofs.Common.{sym, ◌∙◌, subst, ap}
+use Rattle.std.proofs.Common.{sym, ◌∙◌, subst}
 use Rattle.mesh_num.specs.Plane.{Edge}
-use Rattle.mesh_below.specs.Split.{IsInBox, is_end}
+use Rattle.mesh_below.specs.Split.{IsInBox}
 use Rattle.mesh_below.proofs.Boxes.{meets_box, meets_once}
 use Rattle.mesh_below.proofs.Entries.{forward_proper}
 use Rattle.mesh_below.proofs.Filing.{room_taken, room_other, room_pieces}

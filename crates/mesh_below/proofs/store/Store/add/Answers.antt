@@ -1,5 +1,5 @@
 use Rattle.std.proofs.Common.{subst, sym, List, ap, ◌∙◌, get_or, ◌≡◌, refl}
-use Rattle.std.specs.Prelude.{ℤ, ◌≤ℤ◌}
+use Rattle.std.specs.Prelude.{◌≤ℤ◌}
 use Rattle.mesh_num.specs.Winding.{sum_of}
 use Rattle.mesh_below.specs.Counted.{Counted, times}
 use Rattle.mesh_below.specs.Steps.{IsAt, HaveRoom, size, exactly}

@@ -1,4 +1,4 @@
-use Rattle.std.proofs.Common.{subst, sym, List, ◌∙◌, get_or, refl}
+use Rattle.std.proofs.Common.{subst, List, ◌∙◌, get_or}
 use Rattle.std.specs.Prelude.{pos, ◌<ℤ◌}
 use Rattle.mesh_below.specs.Counted.{Counted}
 use Rattle.mesh_below.specs.Steps.{exactly}
@@ -12,7 +12,7 @@ returns-in-Some c =
     let d : Counted = (((pos 0, pos 0), (pos 0, pos 0)), pos 0) in
     let k = get_or xs c.loop-k.k-index d in
     let stands = at_stands xs c.loop-k.k-index k.0 (at_from xs c.loop-k.k-index d k.0 c.loop-k-test.true (edge_self k.0)) in
-    (c.in-Some.ensures , subst (λ (ks : List Counted). pos 0 <ℤ exactly k.0 ks) (c.deref-k-items.ensures.value ∙ c.self.view_is) stands)
+    (c.in-Some.ensures, subst (λ (ks : List Counted). pos 0 <ℤ exactly k.0 ks) (c.deref-k-items.ensures.value ∙ c.self.view_is) stands)
 
 pub loop-k-preserved : goal.loop-k-preserved
 loop-k-preserved c = clear_more c.args.s c.deref-k-items.result.now c.loop-k.k-index _ c.loop-k-test.true c.in_default.ensures c.loop-k.invariant

@@ -3,7 +3,6 @@ use Rattle.std.specs.Prelude.{ℤ}
 use Rattle.std.specs.BTreeMap.{is_at}
 use Rattle.std.specs.Map.{lookup}
 use Rattle.std.proofs.lemmas.Map.Views.{All-keys-insert_entry}
-use Rattle.mesh_num.specs.Plane.{Edge}
 use Rattle.mesh_below.specs.Counted.{Counted}
 use Rattle.mesh_below.specs.Steps.{IsForward, IsRaised, IsNew, HaveRoom}
 use Rattle.mesh_below.proofs.Entries.{edge_cmp, found_size, has_room, inserted_new, inserted_raised, same_length, count_kept}

@@ -1,9 +1,3 @@
-use Rattle.std.proofs.Common.{◌≡◌, subst, Option, List, ◌∷◌}
-use Rattle.std.specs.Prelude.{IfSome, IfNone}
-use Rattle.std.specs.List.{All}
-use Rattle.std.specs.Map.{keys_of}
-use Rattle.mesh_below.specs.Counted.{Counted}
-use Rattle.mesh_below.specs.Steps.{IsForward}
 use Rattle.mesh_below.proofs.Entries.{popped_rest, popped_first}
 use Rattle.mesh_below.proofs.worklist.Worklist.pop.Goals as goal
 

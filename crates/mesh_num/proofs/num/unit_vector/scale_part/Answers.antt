@@ -1,5 +1,5 @@
 -- The scaled component fits the wide type.
-use Rattle.std.proofs.Common.{◌≡◌, ◌≤◌, ◌^◌, arith, rules}
+use Rattle.std.proofs.Common.{◌≤◌, ◌^◌, arith, rules}
 use Rattle.std.proofs.lemmas.Int.{to_z-of_z}
 use mir.Val.{SFits}
 use mir.Syntax.{w128}

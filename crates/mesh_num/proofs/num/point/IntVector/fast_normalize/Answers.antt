@@ -1,5 +1,5 @@
 -- The laws of directions, of the answer that was found.
-use Rattle.std.proofs.Common.{◌≡◌, ℕ, ◌≤◌, ◌^◌, arith}
+use Rattle.std.proofs.Common.{◌≤◌, ◌^◌, arith}
 use Rattle.mesh_num.proofs.Normalized.{fresh_of, odd_of, same_way_of, keeps_turns_of}
 use Rattle.mesh_num.proofs.num.point.IntVector.fast_normalize.Goals as goal
 

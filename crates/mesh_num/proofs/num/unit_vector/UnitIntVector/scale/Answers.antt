@@ -1,5 +1,5 @@
 -- Scaled directions keep turns.
-use Rattle.std.proofs.Common.{◌≡◌, ◌<◌, ◌≤◌, ◌^◌, arith, rules}
+use Rattle.std.proofs.Common.{◌≡◌, ◌≤◌, ◌^◌, arith, rules}
 use Rattle.mesh_num.specs.Direction.{scaled_direction}
 use Rattle.mesh_num.proofs.Scaling.{direction_keeps_scaled_turns}
 use Rattle.mesh_num.proofs.num.unit_vector.UnitIntVector.scale.Goals as goal

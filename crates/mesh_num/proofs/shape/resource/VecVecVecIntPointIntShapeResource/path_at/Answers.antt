@@ -1,5 +1,5 @@
 -- The shapes before the wanted path, one by one.
-use Rattle.std.proofs.Common.{◌≡◌, ◌≤◌, ◌<◌, length, arith, sym, ◌∙◌, refl}
+use Rattle.std.proofs.Common.{◌≡◌, ◌≤◌, ◌<◌, length, ◌∙◌}
 use Rattle.mesh_num.proofs.Paths.{path_found, none_left, skipped_more}
 use Rattle.mesh_num.proofs.shape.resource.VecVecVecIntPointIntShapeResource.path_at.Goals as goal
 

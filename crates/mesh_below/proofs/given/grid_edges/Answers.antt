@@ -1,0 +1,12 @@
+use Rattle.std.proofs.Common.{subst, sym, ap, ◌∙◌, List}
+use Rattle.std.proofs.lemmas.List.{take_all}
+use Rattle.mesh_num.specs.Plane.{Edge}
+use Rattle.mesh_num.specs.Segments.{SignedEdge, edges_of}
+use Rattle.mesh_below.specs.Boundary.{IsProper}
+use Rattle.mesh_below.proofs.Subjects.{subjects_proper}
+use Rattle.mesh_below.proofs.given.grid_edges.Goals as goal
+
+pub returns-clause-proper : goal.returns-clause-proper
+returns-clause-proper g c =
+    let all = c.loop-s.invariant ∙ ap (λ (ss : List SignedEdge). edges_of ss) (take_all c.loop-s.s-index c.args.segments.now c.loop-s-test.false) in
+    subst (λ (es : List Edge). IsProper es) (sym all) (subjects_proper c.args.segments.now c.requires)

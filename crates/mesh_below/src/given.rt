@@ -1,0 +1,63 @@
+//! The directed edges that segments stand for, on the grid of the splitting.
+
+ghost use Rattle.std.specs.Prelude.{◌≡◌, ◌↔◌, List, ℤ, IfOk, IsTrue};
+ghost use Rattle.std.specs.List.{All};
+ghost use Rattle.mesh_num.specs.Segments.{IsSubject, edge_of, edges_of};
+ghost use Rattle.mesh_below.specs.Boundary.{IsProper};
+
+use crate::exact::same_point;
+use crate::grid::{GridEdge, GridPoint};
+use mesh_num::num::{IntNumber, IntPoint};
+use mesh_num::shape::segment::Segment;
+use std::alloc::{AllocError, Global};
+
+/// A coordinate of either width.
+fn coordinate<I: IntNumber>(number: I) -> i32
+    ensures { result ≡ I.value number }
+{
+    I::wide_to_i128(number.to_wide()) as i32
+}
+
+/// A point with coordinates of either width.
+pub fn grid_point<I: IntNumber>(p: IntPoint<I>) -> GridPoint
+    ensures { result ≡ p }
+{
+    (coordinate(p.x), coordinate(p.y))
+}
+
+/// The edge that a segment stands for.
+pub fn grid_edge<I: IntNumber>(s: Segment<I>) -> GridEdge
+    ensures { result ≡ edge_of s }
+{
+    let a = grid_point(s.x_segment.a);
+    let b = grid_point(s.x_segment.b);
+    if s.count > 0 { (a, b) } else { (b, a) }
+}
+
+/// The edges that segments stand for, in their order. Segments are as `Segment::subject` gives them.
+pub fn grid_edges<I: IntNumber>(
+    alloc: Global,
+    segments: &[Segment<I>],
+) -> Result<Vec<GridEdge>, AllocError>
+    requires { All IsSubject segments.now }
+    ensures value { IfOk result (λ v. v.items ≡ edges_of segments.now) }
+    ensures proper { IfOk result (λ v. IsProper v.items) }
+{
+    let mut edges = Vec::new(alloc);
+    for s in segments {
+        edges.push(grid_edge(*s))?;
+    }
+    Ok(edges)
+}
+
+/// Whether no edge ends where it starts.
+pub fn are_proper(edges: &[GridEdge]) -> bool
+    ensures { IsTrue result ↔ IsProper edges.now }
+{
+    for e in edges {
+        if same_point(e.0, e.1) {
+            return false;
+        }
+    }
+    true
+}

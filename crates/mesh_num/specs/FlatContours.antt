@@ -1,0 +1,20 @@
+-- Contours in one list of points, each with the range of its points.
+use Rattle.std.specs.Prelude.{ℕ, ◌≡◌, ◌+◌, List, [], ◌∷◌, length}
+use Rattle.std.specs.List.{flat_map}
+use Rattle.std.specs.declared.ops.Range.{Range}
+use Rattle.mesh_num.specs.declared.shape.buffer.FlatContoursBuffer.{FlatContoursBuffer}
+use Rattle.mesh_num.specs.Plane.{Point}
+
+-- so many places from `start` on
+abbrev pub range_of : ℕ → ℕ → Range ℕ
+range_of start size = record { start = start; end = start + size }
+
+-- one range a contour, end to end from `start` on
+abbrev pub ranges_from : ℕ → List (List Point) → List (Range ℕ)
+ranges_from start [] = []
+ranges_from start (c ∷ cs) = range_of start (length c) ∷ ranges_from (start + length c) cs
+
+-- the buffer's points are these contours' points, end to end, and its ranges are theirs, in order
+pub record HoldsContours {I W U : Type 0} (buffer : FlatContoursBuffer I W U) (contours : List (List Point)) : Type 0 where
+  pub points : buffer.points.items ≡ flat_map (λ c. c) contours
+  pub ranges : buffer.ranges.items ≡ ranges_from 0 contours

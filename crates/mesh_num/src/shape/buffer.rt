@@ -1,0 +1,71 @@
+//! Contours in one list of points.
+
+ghost use Rattle.std.specs.Prelude.{◌≡◌, ℤ, List, [], ◌∷◌, ◌++◌, OnOk, OnErr, IfOk};
+ghost use Rattle.mesh_num.specs.FlatContours.{HoldsContours};
+ghost use Rattle.mesh_num.specs.Paths.{paths_of, shapes_of, contours_of};
+
+use crate::num::number::IntNumber;
+use crate::num::point::IntPoint;
+use std::alloc::{AllocError, Global};
+use std::ops::Range;
+
+/// Shapes of contours of points.
+pub type IntShapes<I> = Vec<Vec<Vec<IntPoint<I>>>>;
+
+/// Contours whose points stand end to end in `points`; `ranges` has the range of each contour's points.
+#[derive(Debug, Drop)]
+pub struct FlatContoursBuffer<I: IntNumber> {
+    pub points: Vec<IntPoint<I>>,
+    pub ranges: Vec<Range<usize>>,
+}
+
+impl<I: IntNumber> FlatContoursBuffer<I> {
+    /// No contours. Takes no memory.
+    pub fn new(alloc: Global) -> Self
+        ensures { HoldsContours result [] }
+    {
+        FlatContoursBuffer {
+            points: Vec::new(alloc),
+            ranges: Vec::new(alloc),
+        }
+    }
+
+    /// The contours of the shapes, in order.
+    pub fn from_shapes(alloc: Global, shapes: &IntShapes<I>) -> Result<Self, AllocError>
+        ensures { IfOk result (λ b. HoldsContours b (contours_of (shapes_of shapes.now.items))) }
+    {
+        let mut buffer = Self::new(alloc);
+        for shape in shapes {
+            buffer.push_shape(shape)?;
+        }
+        Ok(buffer)
+    }
+
+    /// Puts the contours of the shapes, in order, in place of the buffer's own. After a refusal the buffer is unchanged.
+    pub fn replace_with(&mut self, shapes: &IntShapes<I>) -> Result<(), AllocError>
+        ensures ok { OnOk result (HoldsContours self.new (contours_of (shapes_of shapes.now.items))) }
+        ensures err { OnErr result (self.new ≡ self.old) }
+    {
+        *self = Self::from_shapes(*self.points.allocator(), shapes)?;
+        Ok(())
+    }
+
+    fn push_shape(&mut self, shape: &Vec<Vec<IntPoint<I>>>) -> Result<(), AllocError>
+        ensures { OnOk result ((cs : List (List (ℤ × ℤ))) → HoldsContours self.old cs → HoldsContours self.new (cs ++ paths_of shape.now.items)) }
+    {
+        for contour in shape {
+            self.push(contour)?;
+        }
+        Ok(())
+    }
+
+    fn push(&mut self, contour: &Vec<IntPoint<I>>) -> Result<(), AllocError>
+        ensures { OnOk result ((cs : List (List (ℤ × ℤ))) → HoldsContours self.old cs → HoldsContours self.new (cs ++ contour.now.items ∷ [])) }
+    {
+        let start = self.points.len();
+        self.points.extend_from_slice(contour.as_slice())?;
+        let end = self.points.len();
+        self.ranges.push(Range { start, end })?;
+        Ok(())
+    }
+}

@@ -1,0 +1,3 @@
+pub mod Areas
+pub mod ContoursServed
+pub mod JsonLists

@@ -1,0 +1,5 @@
+pub mod Answers
+pub mod DoubleArea
+pub mod Reading
+pub mod Served
+pub mod Serving

@@ -1,0 +1,35 @@
+//! Coordinates in 128 bits.
+
+ghost use Rattle.std.specs.Prelude.{◌≡◌, ◌*◌, ◌^◌, ◌≤◌, pos, option_map};
+ghost use Rattle.mesh_num.specs.Bounds.{IsWithin};
+ghost use Rattle.mesh_run.specs.Reading.{held};
+
+use mesh_num::num::IntNumber;
+
+/// A coordinate in 128 bits.
+pub fn widened<I: IntNumber>(coordinate: I) -> i128
+    ensures value { result ≡ I.value coordinate }
+    ensures range { IsWithin (2 ^ 31) result }
+{
+    I::wide_to_i128(coordinate.to_wide())
+}
+
+/// A number as a coordinate, `None` where it does not fit.
+pub fn narrowed<I: IntNumber>(number: i128) -> Option<I>
+    ensures { option_map (λ c. I.value c) result ≡ held I.unit number }
+{
+    let end = range_end::<I>();
+    if -end <= number && number < end {
+        Some(I::from_wide(I::wide_from_i128(number)))
+    } else {
+        None
+    }
+}
+
+/// The first number past the type's range.
+fn range_end<I: IntNumber>() -> i128
+    ensures value { result ≡ pos (2 * I.unit) }
+    ensures size { I.unit ≤ 2 ^ 30 }
+{
+    2 * widened(I::UNIT)
+}

@@ -1,0 +1,279 @@
+//! The edges that the builder adds: worked contours, and how they wind near the vertices of many contours.
+
+ghost use Rattle.std.specs.Prelude.{◌<◌};
+
+use crate::pieces::Pieces;
+use crate::plain::{Edge, Point, closed, is_balanced, plus, refined, winding};
+use i_overlay_mesh::outline::builder::OutlineBuilder;
+use i_overlay_mesh::outline::offset::IntOutlineOffset;
+use mesh_join::join::Join;
+use mesh_join::style::IntOutlineStyle;
+use mesh_num::num::{IntNumber, IntPoint, OverlayInt};
+use mesh_num::shape::segment::Segment;
+use std::alloc::{AllocError, Global};
+use std::fmt::Debug;
+use std::process::Abort;
+use std::test::Fail;
+
+/// A contour, the edges of its outline as the builder adds them, and the pieces between both.
+#[derive(Drop)]
+pub struct Outline {
+    pub own: Vec<Edge>,
+    pub edges: Vec<Edge>,
+    pub between: Pieces,
+}
+
+/// Steps on the grid 2.
+const STEPS: [i128; 9] = [-4, -3, -2, -1, 0, 1, 2, 3, 4];
+
+impl Outline {
+    fn new<I: OverlayInt>(alloc: Global, contour: &[(I, I)], offset: I) -> Result<Outline, Fail> {
+        let mut path = Vec::new(alloc);
+        let mut points = Vec::new(alloc);
+        for (x, y) in contour {
+            path.push(IntPoint::new(*x, *y))?;
+            points.push((wide(*x), wide(*y)))?;
+        }
+        Ok(Outline {
+            own: closed(alloc, &points)?,
+            edges: built(alloc, &path, offset)?,
+            between: Pieces::of_outline(alloc, wide(I::UNIT), wide(offset), &points)?,
+        })
+    }
+
+    /// The edges close up, and near each vertex they wind as often as the contour, and once more for each piece,
+    /// for a negative offset once less.
+    fn expect_count(&self, rt: &impl Abort, case: &impl Debug) {
+        assert!(rt; is_balanced(&self.edges), "{case:?}");
+        for edge in self.own.iter().chain(self.edges.iter()) {
+            let middle = refined(2, edge.0);
+            for x in STEPS {
+                for y in STEPS {
+                    self.expect_count_at(rt, plus(middle, (x, y)), case);
+                }
+            }
+        }
+    }
+
+    fn expect_count_at(&self, rt: &impl Abort, q: Point, case: &impl Debug) {
+        let (count, once) = self.between.count(2, q);
+        assert!(rt; once, "at {q:?} of {case:?}");
+        let more = count.wrapping_mul(self.between.offset.signum());
+        let want = winding(2, q, &self.own).wrapping_add(more);
+        assert_eq!(rt; winding(2, q, &self.edges), want, "at {q:?} of {case:?}");
+    }
+}
+
+/// The edges of the bevelled outline of a contour, as the builder adds them.
+fn built<I: OverlayInt>(
+    alloc: Global,
+    path: &Vec<IntPoint<I>>,
+    offset: I,
+) -> Result<Vec<Edge>, Fail> {
+    let style = IntOutlineStyle::new(offset);
+    path.validate_outline(&style)?;
+    let join = Join::new(alloc, style.join, style.miter_min_turn);
+    let mut segments = Vec::new(alloc);
+    OutlineBuilder::new(style.outer_offset, join).build(path, &mut segments)?;
+    Ok(directed(alloc, &segments)?)
+}
+
+fn directed<I: IntNumber>(alloc: Global, segments: &[Segment<I>]) -> Result<Vec<Edge>, AllocError> {
+    let mut edges = Vec::new(alloc);
+    for segment in segments {
+        let a = wide_point(segment.x_segment.a);
+        let b = wide_point(segment.x_segment.b);
+        edges.push(if segment.count > 0 { (a, b) } else { (b, a) })?;
+    }
+    Ok(edges)
+}
+
+fn wide<I: IntNumber>(number: I) -> i128 {
+    I::wide_to_i128(number.to_wide())
+}
+
+fn wide_point<I: IntNumber>(point: IntPoint<I>) -> Point {
+    (wide(point.x), wide(point.y))
+}
+
+const SQUARE: [(i32, i32); 4] = [(0, 0), (16_384, 0), (16_384, 16_384), (0, 16_384)];
+
+/// A square that runs clockwise, as a hole's boundary does.
+const HOLE: [(i32, i32); 4] = [
+    (4096, 4096),
+    (4096, 12_288),
+    (12_288, 12_288),
+    (12_288, 4096),
+];
+
+/// The outline of the contour is the loop of these points.
+fn expect_loop(
+    rt: &impl Abort,
+    alloc: Global,
+    contour: &[(i32, i32)],
+    offset: i32,
+    points: &[Point],
+) -> Result<(), Fail> {
+    let outline = Outline::new(alloc, contour, offset)?;
+    let mut edges = outline.edges;
+    edges.sort()?;
+    let mut wanted = closed(alloc, points)?;
+    wanted.sort()?;
+    assert_eq!(rt; edges, wanted, "{offset} of {contour:?}");
+    Ok(())
+}
+
+#[test]
+fn worked_loops(rt: HostRuntime) -> Result<(), Fail> {
+    let alloc = rt.alloc();
+    expect_loop(
+        &rt,
+        alloc,
+        &SQUARE,
+        1024,
+        &[
+            (0, -1024),
+            (16_384, -1024),
+            (17_408, 0),
+            (17_408, 16_384),
+            (16_384, 17_408),
+            (0, 17_408),
+            (-1024, 16_384),
+            (-1024, 0),
+        ],
+    )?;
+    expect_loop(
+        &rt,
+        alloc,
+        &SQUARE,
+        -1024,
+        &[
+            (0, 1024),
+            (16_384, 1024),
+            (16_384, 0),
+            (15_360, 0),
+            (15_360, 16_384),
+            (16_384, 16_384),
+            (16_384, 15_360),
+            (0, 15_360),
+            (0, 16_384),
+            (1024, 16_384),
+            (1024, 0),
+            (0, 0),
+        ],
+    )?;
+    expect_loop(
+        &rt,
+        alloc,
+        &SQUARE,
+        0,
+        &[(0, 0), (16_384, 0), (16_384, 16_384), (0, 16_384)],
+    )?;
+    expect_loop(
+        &rt,
+        alloc,
+        &HOLE,
+        1024,
+        &[
+            (5120, 4096),
+            (5120, 12_288),
+            (4096, 12_288),
+            (4096, 11_264),
+            (12_288, 11_264),
+            (12_288, 12_288),
+            (11_264, 12_288),
+            (11_264, 4096),
+            (12_288, 4096),
+            (12_288, 5120),
+            (4096, 5120),
+            (4096, 4096),
+        ],
+    )?;
+    expect_loop(
+        &rt,
+        alloc,
+        &[(0, 0), (10, 0)],
+        4,
+        &[(0, -4), (10, -4), (10, 4), (0, 4)],
+    )?;
+    expect_loop(&rt, alloc, &[(7, 7), (7, 7), (7, 7)], 4, &[])
+}
+
+#[test]
+fn winding_near_a_square(rt: HostRuntime) -> Result<(), Fail> {
+    for offset in [1024, -1024, 0] {
+        Outline::new(rt.alloc(), &SQUARE, offset)?.expect_count(&rt, &offset);
+    }
+    Ok(())
+}
+
+#[test]
+fn winding_near_small_contours(rt: HostRuntime) -> Result<(), Fail> {
+    let alloc = rt.alloc();
+    let mut numbers = Numbers { state: 1 };
+    for _ in 0..50 {
+        let contour = small_contour(alloc, &mut numbers)?;
+        let size = numbers.coordinate();
+        for offset in [size, size.wrapping_neg(), 0] {
+            let case = (contour.as_slice(), offset);
+            small_outline::<i16>(alloc, &contour, offset)?.expect_count(&rt, &case);
+            small_outline::<i32>(alloc, &contour, offset)?.expect_count(&rt, &case);
+        }
+    }
+    Ok(())
+}
+
+/// The outline of a contour of small coordinates.
+pub fn small_outline<I: OverlayInt + From<i8>>(
+    alloc: Global,
+    contour: &[(i8, i8)],
+    offset: i8,
+) -> Result<Outline, Fail> {
+    let mut points = Vec::new(alloc);
+    for (x, y) in contour {
+        points.push((I::from(*x), I::from(*y)))?;
+    }
+    Outline::new(alloc, &points, I::from(offset))
+}
+
+/// Three to ten points, among them repeats and points where the contour turns back.
+fn small_contour(alloc: Global, numbers: &mut Numbers) -> Result<Vec<(i8, i8)>, AllocError> {
+    let mut points = Vec::new(alloc);
+    let (mut before, mut last) = ((0, 0), (0, 0));
+    for _ in 0..3 + numbers.next(8) {
+        let point = match numbers.next(6) {
+            0 => last,
+            1 => before,
+            _ => (numbers.coordinate(), numbers.coordinate()),
+        };
+        points.push(point)?;
+        before = last;
+        last = point;
+    }
+    Ok(points)
+}
+
+/// Numbers that a linear rule makes, the same each time.
+#[derive(Drop)]
+struct Numbers {
+    state: u32,
+}
+
+impl Numbers {
+    /// A number below `end`.
+    fn next(&mut self, end: u32) -> u32
+        requires { 0 < end }
+        ensures { result < end }
+    {
+        self.state = self
+            .state
+            .wrapping_mul(1_664_525)
+            .wrapping_add(1_013_904_223);
+        (self.state >> 16) % end
+    }
+
+    /// A number of at most 8 in size.
+    fn coordinate(&mut self) -> i8 {
+        self.next(17) as i8 - 8
+    }
+}
