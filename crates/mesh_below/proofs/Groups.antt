@@ -33,7 +33,7 @@ pub view_at : (rs : List Held) (i : ℕ) (r : Held) (d : Ring) → i < length rs
 view_at rs i r d low = get_map view rs i r d low
 
 pub area_at : (rs : List Ring) (areas : List ℤ) (i : ℕ) → areas ≡ areas_of rs → i < length rs → get_or areas i (pos 0) ≡ double_area (ring_at rs i).1.0
-area_at rs areas i e low = ap (λ (l : List ℤ). get_or l i (pos 0)) e ∙ get_map (λ (r : Ring). double_area r.0) rs i ([] , (pos 0 , pos 0)) (pos 0) low
+area_at rs areas i e low = ap (λ (l : List ℤ). get_or l i (pos 0)) e ∙ get_map (λ (r : Ring). double_area r.0) rs i ([], (pos 0, pos 0)) (pos 0) low
 
 less_test : (a b : ℤ) → a <ℤ b → int_lt a b ≡ true
 less_test a b h = grind (arith, ints)
@@ -57,7 +57,7 @@ area rs i = double_area (ring_at rs i).1.0
 pub before_not : (rs : List Ring) (j k : ℕ) → area rs k <ℤ area rs j → is_before (ring_at rs j) (ring_at rs k) ≡ false
 before_not rs j k h =
     or_from (int_lt (area rs j) (area rs k)) (int_eq (area rs j) (area rs k) && int_lt (pos j) (pos k)) (not_less_test (area rs j) (area rs k) (omega (arith, ints)))
-        (ap (λ (b : Bool). b && int_lt (pos j) (pos k)) (apart (area rs j) (area rs k) h))
+    (ap (λ (b : Bool). b && int_lt (pos j) (pos k)) (apart (area rs j) (area rs k) h))
   where
     apart : (a b : ℤ) → b <ℤ a → int_eq a b ≡ false
     apart a b l = ⊎_elim (λ (t : int_eq a b ≡ true). absurd (less_apart a b l ((Decides-int_eq a b).0 t))) (λ (f : int_eq a b ≡ false). f) (cases_Bool (int_eq a b))
@@ -69,10 +69,11 @@ before_not rs j k h =
 later_not : (rs : List Ring) (j k : ℕ) → area rs k ≤ℤ area rs j → k ≤ j → is_before (ring_at rs j) (ring_at rs k) ≡ false
 later_not rs j k h l =
     or_from (int_lt (area rs j) (area rs k)) (int_eq (area rs j) (area rs k) && int_lt (pos j) (pos k)) (not_less_test (area rs j) (area rs k) h)
-        (ap (λ (b : Bool). int_eq (area rs j) (area rs k) && b) (places j k l) ∙ and_false (int_eq (area rs j) (area rs k)))
+    (ap (λ (b : Bool). int_eq (area rs j) (area rs k) && b) (places j k l) ∙ and_false (int_eq (area rs j) (area rs k)))
   where
     places : (j k : ℕ) → k ≤ j → int_lt (pos j) (pos k) ≡ false
     places j k l = not_less_test (pos j) (pos k) (omega (arith, ints))
+
     and_false : (b : Bool) → (b && false) ≡ false
     and_false true = refl
     and_false false = refl
@@ -81,35 +82,37 @@ later_not rs j k h l =
 not_before_area : (rs : List Ring) (j k : ℕ) → is_before (ring_at rs j) (ring_at rs k) ≡ false → area rs k ≤ℤ area rs j
 not_before_area rs j k h =
     by_lt_z (area rs j) (area rs k)
-        (λ (l : area rs j <ℤ area rs k). absurd (both_ways (is_before (ring_at rs j) (ring_at rs k)) h (ap (λ (b : Bool). b || (int_eq (area rs j) (area rs k) && int_lt (pos j) (pos k))) (less_test (area rs j) (area rs k) l))))
-        (λ (l : area rs k ≤ℤ area rs j). l)
+    (λ (l : area rs j <ℤ area rs k). absurd (both_ways (is_before (ring_at rs j) (ring_at rs k)) h (ap (λ (b : Bool). b || (int_eq (area rs j) (area rs k) && int_lt (pos j) (pos k))) (less_test (area rs j) (area rs k) l))))
+    (λ (l : area rs k ≤ℤ area rs j). l)
 
 -- of two places one ring is before the other
 one_before : (rs : List Ring) (j k : ℕ) → (j ≡ k → ⊥) → is_before (ring_at rs j) (ring_at rs k) ≡ false → is_before (ring_at rs k) (ring_at rs j) ≡ true
 one_before rs j k differ h =
     let le = not_before_area rs j k h in
     by_lt_z (area rs k) (area rs j)
-        (λ (l : area rs k <ℤ area rs j). ap (λ (b : Bool). b || (int_eq (area rs k) (area rs j) && int_lt (pos k) (pos j))) (less_test (area rs k) (area rs j) l))
-        (λ (l : area rs j ≤ℤ area rs k).
-            let e : area rs k ≡ area rs j = both (area rs k) (area rs j) le l in
-            let same : int_eq (area rs k) (area rs j) ≡ true = (Decides-int_eq (area rs k) (area rs j)).1 e in
-            let same' : int_eq (area rs j) (area rs k) ≡ true = (Decides-int_eq (area rs j) (area rs k)).1 (sym e) in
-            (λ i. not_less_test (area rs k) (area rs j) l i || (same i && by_place same' i)))
+    (λ (l : area rs k <ℤ area rs j). ap (λ (b : Bool). b || (int_eq (area rs k) (area rs j) && int_lt (pos k) (pos j))) (less_test (area rs k) (area rs j) l))
+    (λ (l : area rs j ≤ℤ area rs k).
+    let e : area rs k ≡ area rs j = both (area rs k) (area rs j) le l in
+    let same : int_eq (area rs k) (area rs j) ≡ true = (Decides-int_eq (area rs k) (area rs j)).1 e in
+    let same' : int_eq (area rs j) (area rs k) ≡ true = (Decides-int_eq (area rs j) (area rs k)).1 (sym e) in
+    (λ i. not_less_test (area rs k) (area rs j) l i || (same i && by_place same' i)))
   where
     both : (a b : ℤ) → a ≤ℤ b → b ≤ℤ a → a ≡ b
     both a b x y = omega (arith, ints)
+
     less_places : (j k : ℕ) → (j ≡ k → ⊥) → int_lt (pos j) (pos k) ≡ false → int_lt (pos k) (pos j) ≡ true
     less_places j k n f = less_test (pos k) (pos j) (apart j k n (test_not_less (pos j) (pos k) f))
       where
         apart : (j k : ℕ) → (j ≡ k → ⊥) → pos k ≤ℤ pos j → pos k <ℤ pos j
         apart j k n l = by_lt_z (pos k) (pos j) (λ (x : pos k <ℤ pos j). x) (λ (x : pos j ≤ℤ pos k). absurd (n (omega (arith, ints))))
+
     by_place : int_eq (area rs j) (area rs k) ≡ true → int_lt (pos k) (pos j) ≡ true
     by_place s =
         less_places j k differ
-            (⊎_elim
-                (λ (t : int_lt (pos j) (pos k) ≡ true).
-                    absurd (both_ways (is_before (ring_at rs j) (ring_at rs k)) h (or_second (int_lt (area rs j) (area rs k)) (int_eq (area rs j) (area rs k) && int_lt (pos j) (pos k)) (λ i. s i && t i))))
-                (λ (f : int_lt (pos j) (pos k) ≡ false). f) (cases_Bool (int_lt (pos j) (pos k))))
+        (⊎_elim
+        (λ (t : int_lt (pos j) (pos k) ≡ true).
+        absurd (both_ways (is_before (ring_at rs j) (ring_at rs k)) h (or_second (int_lt (area rs j) (area rs k)) (int_eq (area rs j) (area rs k) && int_lt (pos j) (pos k)) (λ i. s i && t i))))
+        (λ (f : int_lt (pos j) (pos k) ≡ false). f) (cases_Bool (int_lt (pos j) (pos k))))
       where
         or_second : (a b : Bool) → b ≡ true → (a || b) ≡ true
         or_second true b h = refl
@@ -123,27 +126,27 @@ pub holder_kept : (rs : List Ring) (q : Point) (k : ℕ) (best : Option ℕ) →
     MatchOption best (NoneRound rs (k + 1) q) (IsHolder rs (k + 1) q)
 holder_kept rs q k None h new = below_more (λ (j : ℕ). is_round_at rs j q ≡ false) k h new
 holder_kept rs q k (Some b) h new = record {
-    within = omega (arith, h.within);
-    round = h.round;
-    first = below_more (λ (j : ℕ). is_round_at rs j q ≡ true → is_before (ring_at rs j) (ring_at rs b) ≡ false) k h.first
-        (λ (t : is_round_at rs k q ≡ true). absurd (both_ways (is_round_at rs k q) new t));
+  within = omega (arith, h.within);
+  round = h.round;
+  first = below_more (λ (j : ℕ). is_round_at rs j q ≡ true → is_before (ring_at rs j) (ring_at rs b) ≡ false) k h.first
+      (λ (t : is_round_at rs k q ≡ true). absurd (both_ways (is_round_at rs k q) new t));
 }
 
 pub holder_no_less : (rs : List Ring) (q : Point) (k b : ℕ) → IsHolder rs k q b → int_lt (area rs k) (area rs b) ≡ false → IsHolder rs (k + 1) q b
 holder_no_less rs q k b h l = record {
-    within = omega (arith, h.within);
-    round = h.round;
-    first = below_more (λ (j : ℕ). is_round_at rs j q ≡ true → is_before (ring_at rs j) (ring_at rs b) ≡ false) k h.first
-        (λ (t : is_round_at rs k q ≡ true). later_not rs k b (test_not_less (area rs k) (area rs b) l) (omega (arith, h.within)));
+  within = omega (arith, h.within);
+  round = h.round;
+  first = below_more (λ (j : ℕ). is_round_at rs j q ≡ true → is_before (ring_at rs j) (ring_at rs b) ≡ false) k h.first
+      (λ (t : is_round_at rs k q ≡ true). later_not rs k b (test_not_less (area rs k) (area rs b) l) (omega (arith, h.within)));
 }
 
 pub holder_first : (rs : List Ring) (q : Point) (k : ℕ) → NoneRound rs k q → is_round_at rs k q ≡ true → IsHolder rs (k + 1) q k
 holder_first rs q k h t = record {
-    within = omega arith;
-    round = t;
-    first = below_more (λ (j : ℕ). is_round_at rs j q ≡ true → is_before (ring_at rs j) (ring_at rs k) ≡ false) k
-        (λ (j : ℕ) (l : j < k) (r : is_round_at rs j q ≡ true). absurd (both_ways (is_round_at rs j q) (h j l) r))
-        (λ (r : is_round_at rs k q ≡ true). later_not rs k k (same (area rs k)) (omega arith));
+  within = omega arith;
+  round = t;
+  first = below_more (λ (j : ℕ). is_round_at rs j q ≡ true → is_before (ring_at rs j) (ring_at rs k) ≡ false) k
+      (λ (j : ℕ) (l : j < k) (r : is_round_at rs j q ≡ true). absurd (both_ways (is_round_at rs j q) (h j l) r))
+      (λ (r : is_round_at rs k q ≡ true). later_not rs k k (same (area rs k)) (omega arith));
 }
   where
     same : (a : ℤ) → a ≤ℤ a
@@ -151,44 +154,45 @@ holder_first rs q k h t = record {
 
 pub holder_less : (rs : List Ring) (q : Point) (k b : ℕ) → IsHolder rs k q b → is_round_at rs k q ≡ true → int_lt (area rs k) (area rs b) ≡ true → IsHolder rs (k + 1) q k
 holder_less rs q k b h t less = record {
-    within = omega arith;
-    round = t;
-    first = below_more (λ (j : ℕ). is_round_at rs j q ≡ true → is_before (ring_at rs j) (ring_at rs k) ≡ false) k
-        (λ (j : ℕ) (l : j < k) (r : is_round_at rs j q ≡ true).
-            before_not rs j k (chain (area rs k) (area rs b) (area rs j) (test_less (area rs k) (area rs b) less) (not_before_area rs j b (h.first j l r))))
-        (λ (r : is_round_at rs k q ≡ true). later_not rs k k (same (area rs k)) (omega arith));
+  within = omega arith;
+  round = t;
+  first = below_more (λ (j : ℕ). is_round_at rs j q ≡ true → is_before (ring_at rs j) (ring_at rs k) ≡ false) k
+      (λ (j : ℕ) (l : j < k) (r : is_round_at rs j q ≡ true).
+      before_not rs j k (chain (area rs k) (area rs b) (area rs j) (test_less (area rs k) (area rs b) less) (not_before_area rs j b (h.first j l r))))
+      (λ (r : is_round_at rs k q ≡ true). later_not rs k k (same (area rs k)) (omega arith));
 }
   where
     same : (a : ℤ) → a ≤ℤ a
     same a = omega (arith, ints)
+
     chain : (a b c : ℤ) → a <ℤ b → b ≤ℤ c → a <ℤ c
     chain a b c h k = omega (arith, ints)
 
 -- ---- tests over all rings
-any_none_from : (p : Placed → Bool) (n : ℕ) (rs : List Ring) → ((k : ℕ) → k < length rs → p (n + k , get_or rs k ([] , (pos 0 , pos 0))) ≡ false) → list_any p (enumerate_from n rs) ≡ false
+any_none_from : (p : Placed → Bool) (n : ℕ) (rs : List Ring) → ((k : ℕ) → k < length rs → p (n + k, get_or rs k ([], (pos 0, pos 0))) ≡ false) → list_any p (enumerate_from n rs) ≡ false
 any_none_from p n [] h = refl
 any_none_from p n (r ∷ rs) h =
-    or_from (p (n , r)) (list_any p (enumerate_from (n + 1) rs))
-        (subst (λ (m : ℕ). p (m , r) ≡ false) (omega arith) (h zero (omega arith)))
-        (any_none_from p (n + 1) rs (λ (k : ℕ) (l : k < length rs). subst (λ (m : ℕ). p (m , get_or rs k ([] , (pos 0 , pos 0))) ≡ false) (omega arith) (h (suc k) (omega arith))))
+    or_from (p (n, r)) (list_any p (enumerate_from (n + 1) rs))
+    (subst (λ (m : ℕ). p (m, r) ≡ false) (omega arith) (h zero (omega arith)))
+    (any_none_from p (n + 1) rs (λ (k : ℕ) (l : k < length rs). subst (λ (m : ℕ). p (m, get_or rs k ([], (pos 0, pos 0))) ≡ false) (omega arith) (h (suc k) (omega arith))))
 
 pub any_none : (p : Placed → Bool) (rs : List Ring) → ((k : ℕ) → k < length rs → p (ring_at rs k) ≡ false) → list_any p (placed rs) ≡ false
 any_none p rs h =
-    any_none_from p 0 rs (λ (k : ℕ) (l : k < length rs). subst (λ (m : ℕ). p (m , get_or rs k ([] , (pos 0 , pos 0))) ≡ false) (omega arith) (h k l))
+    any_none_from p 0 rs (λ (k : ℕ) (l : k < length rs). subst (λ (m : ℕ). p (m, get_or rs k ([], (pos 0, pos 0))) ≡ false) (omega arith) (h k l))
 
-any_one_from : (p : Placed → Bool) (n : ℕ) (rs : List Ring) (k : ℕ) → k < length rs → p (n + k , get_or rs k ([] , (pos 0 , pos 0))) ≡ true → list_any p (enumerate_from n rs) ≡ true
+any_one_from : (p : Placed → Bool) (n : ℕ) (rs : List Ring) (k : ℕ) → k < length rs → p (n + k, get_or rs k ([], (pos 0, pos 0))) ≡ true → list_any p (enumerate_from n rs) ≡ true
 any_one_from p n [] k l h = absurd (omega arith)
 any_one_from p n (r ∷ rs) zero l h =
-    ap (λ (b : Bool). b || list_any p (enumerate_from (n + 1) rs)) (subst (λ (m : ℕ). p (m , r) ≡ true) (omega arith) h)
+    ap (λ (b : Bool). b || list_any p (enumerate_from (n + 1) rs)) (subst (λ (m : ℕ). p (m, r) ≡ true) (omega arith) h)
 any_one_from p n (r ∷ rs) (suc k) l h =
-    or_second (p (n , r)) (list_any p (enumerate_from (n + 1) rs)) (any_one_from p (n + 1) rs k (omega arith) (subst (λ (m : ℕ). p (m , get_or rs k ([] , (pos 0 , pos 0))) ≡ true) (omega arith) h))
+    or_second (p (n, r)) (list_any p (enumerate_from (n + 1) rs)) (any_one_from p (n + 1) rs k (omega arith) (subst (λ (m : ℕ). p (m, get_or rs k ([], (pos 0, pos 0))) ≡ true) (omega arith) h))
   where
     or_second : (a b : Bool) → b ≡ true → (a || b) ≡ true
     or_second true b h = refl
     or_second false b h = h
 
 pub any_one : (p : Placed → Bool) (rs : List Ring) (k : ℕ) → k < length rs → p (ring_at rs k) ≡ true → list_any p (placed rs) ≡ true
-any_one p rs k l h = any_one_from p 0 rs k l (subst (λ (m : ℕ). p (m , get_or rs k ([] , (pos 0 , pos 0))) ≡ true) (omega arith) h)
+any_one p rs k l h = any_one_from p 0 rs k l (subst (λ (m : ℕ). p (m, get_or rs k ([], (pos 0, pos 0))) ≡ true) (omega arith) h)
 
 -- ---- where a ring belongs
 pub home_positive : (rs : List Ring) (i : ℕ) → is_positive (ring_at rs i) ≡ true → IsHome rs i i
@@ -197,7 +201,7 @@ home_positive rs i h = heads (ap (λ (b : Bool). b || not (list_any (λ (k : Pla
 pub home_alone : (rs : List Ring) (i : ℕ) → NoneRound rs (length rs) (ring_at rs i).1.1 → IsHome rs i i
 home_alone rs i h =
     heads (or_second (is_positive (ring_at rs i)) (not (list_any (λ (k : Placed). is_round k (ring_at rs i)) (placed rs)))
-        (ap not (any_none (λ (k : Placed). is_round k (ring_at rs i)) rs h))) refl
+    (ap not (any_none (λ (k : Placed). is_round k (ring_at rs i)) rs h))) refl
   where
     or_second : (a b : Bool) → b ≡ true → (a || b) ≡ true
     or_second true b h = refl
@@ -206,21 +210,21 @@ home_alone rs i h =
 pub home_held : (rs : List Ring) (i b : ℕ) → is_positive (ring_at rs i) ≡ false → IsHolder rs (length rs) (ring_at rs i).1.1 b → IsHome rs i b
 home_held rs i b flat h =
     stands
-        (λ j. flat j || not (any_one (λ (k : Placed). is_round k (ring_at rs i)) rs b h.within h.round j))
-        (λ (e : b ≡ i). both_ways (is_positive (ring_at rs i)) flat
-            (subst (λ (k : ℕ). is_positive (ring_at rs k) ≡ true) e (and_parts (is_positive (ring_at rs b)) (holds 2 (ring_at rs i).1.1 (ring_at rs b).1.0) h.round).0))
-        one
+    (λ j. flat j || not (any_one (λ (k : Placed). is_round k (ring_at rs i)) rs b h.within h.round j))
+    (λ (e : b ≡ i). both_ways (is_positive (ring_at rs i)) flat
+    (subst (λ (k : ℕ). is_positive (ring_at rs k) ≡ true) e (and_parts (is_positive (ring_at rs b)) (holds 2 (ring_at rs i).1.1 (ring_at rs b).1.0) h.round).0))
+    one
   where
     one : (k : ℕ) → k < length rs → stands_with (placed rs) (ring_at rs k) (ring_at rs i) ≡ nat_eq k b
     one k l =
         ⊎_elim
-            (λ (t : nat_eq k b ≡ true).
-                subst (λ (m : ℕ). stands_with (placed rs) (ring_at rs m) (ring_at rs i) ≡ true) (sym (eqb-true k b t))
-                    (λ j. h.round j && not (any_none (λ (m : Placed). is_round m (ring_at rs i) && is_before m (ring_at rs b)) rs not_first j))
-                ∙ sym t)
-            (λ (f : nat_eq k b ≡ false).
-                by_round (is_round_at rs k (ring_at rs i).1.1) refl (λ (e : k ≡ b). both_ways (nat_eq k b) f (eq-eqb k b e)) ∙ sym f)
-            (cases_Bool (nat_eq k b))
+        (λ (t : nat_eq k b ≡ true).
+        subst (λ (m : ℕ). stands_with (placed rs) (ring_at rs m) (ring_at rs i) ≡ true) (sym (eqb-true k b t))
+        (λ j. h.round j && not (any_none (λ (m : Placed). is_round m (ring_at rs i) && is_before m (ring_at rs b)) rs not_first j))
+        ∙ sym t)
+        (λ (f : nat_eq k b ≡ false).
+        by_round (is_round_at rs k (ring_at rs i).1.1) refl (λ (e : k ≡ b). both_ways (nat_eq k b) f (eq-eqb k b e)) ∙ sym f)
+        (cases_Bool (nat_eq k b))
       where
         not_first : (m : ℕ) → m < length rs → (is_round (ring_at rs m) (ring_at rs i) && is_before (ring_at rs m) (ring_at rs b)) ≡ false
         not_first m lm = by (is_round (ring_at rs m) (ring_at rs i)) refl
@@ -228,6 +232,7 @@ home_held rs i b flat h =
             by : (r : Bool) → is_round (ring_at rs m) (ring_at rs i) ≡ r → (r && is_before (ring_at rs m) (ring_at rs b)) ≡ false
             by true t = h.first m lm t
             by false t = refl
+
         by_round : (r : Bool) → is_round (ring_at rs k) (ring_at rs i) ≡ r → (k ≡ b → ⊥) → (r && not (list_any (λ (m : Placed). is_round m (ring_at rs i) && is_before m (ring_at rs k)) (placed rs))) ≡ false
         by_round true t differ =
             ap not (any_one (λ (m : Placed). is_round m (ring_at rs i) && is_before m (ring_at rs k)) rs b h.within (λ j. h.round j && one_before rs k b differ (h.first k l t) j))
@@ -252,14 +257,15 @@ member_test rs i b h (stands f differ one) low =
     swap : nat_eq h b ≡ nat_eq b h
     swap =
         ⊎_elim
-            (λ (t : nat_eq b h ≡ true). eq-eqb h b (sym (eqb-true b h t)) ∙ sym t)
-            (λ (n : nat_eq b h ≡ false).
-                ⊎_elim (λ (t : nat_eq h b ≡ true). absurd (both_ways (nat_eq b h) n (eq-eqb b h (sym (eqb-true h b t))))) (λ (m : nat_eq h b ≡ false). m ∙ sym n) (cases_Bool (nat_eq h b)))
-            (cases_Bool (nat_eq b h))
+        (λ (t : nat_eq b h ≡ true). eq-eqb h b (sym (eqb-true b h t)) ∙ sym t)
+        (λ (n : nat_eq b h ≡ false).
+        ⊎_elim (λ (t : nat_eq h b ≡ true). absurd (both_ways (nat_eq b h) n (eq-eqb b h (sym (eqb-true h b t))))) (λ (m : nat_eq h b ≡ false). m ∙ sym n) (cases_Bool (nat_eq h b)))
+        (cases_Bool (nat_eq b h))
+
     by : (x : Bool) → nat_eq b h ≡ x → nat_eq h b ≡ (x && not (nat_eq i h))
     by true t =
         swap ∙ (t ∙ sym (ap not
-            (⊎_elim (λ (s : nat_eq i h ≡ true). absurd (differ (eqb-true b h t ∙ sym (eqb-true i h s)))) (λ (s : nat_eq i h ≡ false). s) (cases_Bool (nat_eq i h)))))
+        (⊎_elim (λ (s : nat_eq i h ≡ true). absurd (differ (eqb-true b h t ∙ sym (eqb-true i h s)))) (λ (s : nat_eq i h ≡ false). s) (cases_Bool (nat_eq i h)))))
     by false t = swap ∙ t
 
 pub head_test : (rs : List Ring) (i b : ℕ) → IsHome rs i b → is_head (placed rs) (ring_at rs i) ≡ nat_eq b i
@@ -270,7 +276,7 @@ head_test rs i b (stands f differ one) =
 -- ---- rings one after the other
 pub place_next : (rs : List Ring) (i : ℕ) → i < length rs → enumerate_from i (drop i rs) ≡ ring_at rs i ∷ enumerate_from (i + 1) (drop (i + 1) rs)
 place_next rs i low =
-    ap (λ (l : List Ring). enumerate_from i l) (drop-cons rs i ([] , (pos 0 , pos 0)) low)
+    ap (λ (l : List Ring). enumerate_from i l) (drop-cons rs i ([], (pos 0, pos 0)) low)
     ∙ (let e : suc i ≡ i + 1 = omega arith in ap (λ (n : ℕ). ring_at rs i ∷ enumerate_from (i + 1) (drop n rs)) e)
 
 pub places_none : (rs : List Ring) (n : ℕ) → length rs ≤ n → enumerate_from n (drop n rs) ≡ []

@@ -80,7 +80,7 @@ pushed_none rs cw h b done home f =
 pub round_at : (rs : List Held) (areas : List ℤ) (h : ℕ) (q : Point) (r : Held) (x : Bool) → areas ≡ areas_of (views rs) → h < length (views rs) → h < length rs →
     int_lt (pos 0) (get_or areas h (pos 0)) ≡ true → x ≡ holds 2 q (get_or rs h r).0.items → x ≡ is_round_at (views rs) h q
 round_at rs areas h q r x known lv low t e =
-    e ∙ sym (λ i. (sym (positive_at (views rs) areas h known lv) ∙ t) i && holds 2 q (view_at rs h r ([] , (pos 0 , pos 0)) low i).0)
+    e ∙ sym (λ i. (sym (positive_at (views rs) areas h known lv) ∙ t) i && holds 2 q (view_at rs h r ([], (pos 0, pos 0)) low i).0)
 
 pub flat_at : (rs : List Held) (areas : List ℤ) (h : ℕ) (q : Point) → areas ≡ areas_of (views rs) → h < length (views rs) → int_lt (pos 0) (get_or areas h (pos 0)) ≡ false → false ≡ is_round_at (views rs) h q
 flat_at rs areas h q known lv f = sym (λ i. (sym (positive_at (views rs) areas h known lv) ∙ f) i && holds 2 q (ring_at (views rs) h).1.0)
@@ -111,15 +111,15 @@ better_some rs areas q k (Some b) less known low h t f r =
 pub home_none : (rs : List Held) (i : ℕ) (r : Held) → i < length rs → NoneRound (views rs) (length rs) (get_or rs i r).1 → IsHome (views rs) i i
 home_none rs i r low h =
     home_alone (views rs) i
-        (subst (λ (n : ℕ). NoneRound (views rs) n (ring_at (views rs) i).1.1) (sym (length_map view rs))
-            (subst (λ (q : Point). NoneRound (views rs) (length rs) q) (λ j. (sym (view_at rs i r ([] , (pos 0 , pos 0)) low) j).1) h))
+    (subst (λ (n : ℕ). NoneRound (views rs) n (ring_at (views rs) i).1.1) (sym (length_map view rs))
+    (subst (λ (q : Point). NoneRound (views rs) (length rs) q) (λ j. (sym (view_at rs i r ([], (pos 0, pos 0)) low) j).1) h))
 
 pub home_some : (rs : List Held) (areas : List ℤ) (i b : ℕ) (r : Held) → areas ≡ areas_of (views rs) → i < length rs → int_lt (pos 0) (get_or areas i (pos 0)) ≡ false →
     IsHolder (views rs) (length rs) (get_or rs i r).1 b → IsHome (views rs) i b
 home_some rs areas i b r known low flat h =
     home_held (views rs) i b (sym (positive_at (views rs) areas i known (omega (arith, length_map view rs, low))) ∙ flat)
-        (subst (λ (n : ℕ). IsHolder (views rs) n (ring_at (views rs) i).1.1 b) (sym (length_map view rs))
-            (subst (λ (q : Point). IsHolder (views rs) (length rs) q b) (λ j. (sym (view_at rs i r ([] , (pos 0 , pos 0)) low) j).1) h))
+    (subst (λ (n : ℕ). IsHolder (views rs) n (ring_at (views rs) i).1.1 b) (sym (length_map view rs))
+    (subst (λ (q : Point). IsHolder (views rs) (length rs) q b) (λ j. (sym (view_at rs i r ([], (pos 0, pos 0)) low) j).1) h))
 
 -- one more ring's place is known
 pub record HomesTo (rs : List Ring) (i : ℕ) (known : List ℕ) : Type 0 where
@@ -128,16 +128,17 @@ pub record HomesTo (rs : List Ring) (i : ℕ) (known : List ℕ) : Type 0 where
 
 pub homes_more : (rs : List Ring) (i b : ℕ) (old new : List ℕ) → length old ≡ i → ((j : ℕ) → j < i → IsHome rs j (get_or old j 0)) → IsHome rs i b → new ≡ old ++ (b ∷ []) → HomesTo rs (i + 1) new
 homes_more rs i b old new len h home e = record {
-    len = ap length e ∙ (omega (arith, length-append old (b ∷ []), len));
-    homes = below_more (λ (j : ℕ). IsHome rs j (get_or new j 0)) i
-        (λ (j : ℕ) (l : j < i). subst (λ (n : ℕ). IsHome rs j n) (sym (ap (λ (xs : List ℕ). get_or xs j 0) e ∙ get_before old (b ∷ []) j 0 (omega (arith, len)))) (h j l))
-        (subst (λ (n : ℕ). IsHome rs i n) (sym (ap (λ (xs : List ℕ). get_or xs i 0) e ∙ get_last old b i 0 len)) home);
+  len = ap length e ∙ (omega (arith, length-append old (b ∷ []), len));
+  homes = below_more (λ (j : ℕ). IsHome rs j (get_or new j 0)) i
+      (λ (j : ℕ) (l : j < i). subst (λ (n : ℕ). IsHome rs j n) (sym (ap (λ (xs : List ℕ). get_or xs j 0) e ∙ get_before old (b ∷ []) j 0 (omega (arith, len)))) (h j l))
+      (subst (λ (n : ℕ). IsHome rs i n) (sym (ap (λ (xs : List ℕ). get_or xs i 0) e ∙ get_last old b i 0 len)) home);
 }
   where
     get_before : (xs ys : List ℕ) (j d : ℕ) → j < length xs → get_or (xs ++ ys) j d ≡ get_or xs j d
     get_before [] ys j d l = absurd (omega arith)
     get_before (x ∷ xs) ys zero d l = refl
     get_before (x ∷ xs) ys (suc j) d l = get_before xs ys j d (omega arith)
+
     get_last : (xs : List ℕ) (x i d : ℕ) → length xs ≡ i → get_or (xs ++ (x ∷ [])) i d ≡ x
     get_last [] x zero d e = refl
     get_last [] x (suc i) d e = absurd (omega (arith, e))
@@ -151,7 +152,7 @@ pub pushed_member : (rs : List Held) (cw : Bool) (i h b : ℕ) (r : Held) (old :
 pushed_member rs cw i h b r old c new low a e t f =
     ap points_of e
     ∙ (map-append (λ (v : Vec Point Global). v.items) old (c ∷ [])
-    ∙ (λ j. points_of old ++ cond (sym (eq-eqb b h t) j && not (sym other j)) ((a ∙ ap (answered cw) (sym (view_at rs i r ([] , (pos 0 , pos 0)) low))) j ∷ []) []))
+    ∙ (λ j. points_of old ++ cond (sym (eq-eqb b h t) j && not (sym other j)) ((a ∙ ap (answered cw) (sym (view_at rs i r ([], (pos 0, pos 0)) low))) j ∷ []) []))
   where
     other : nat_eq i h ≡ false
     other = ⊎_elim (λ (s : nat_eq i h ≡ true). absurd (f (eqb-true i h s))) (λ (s : nat_eq i h ≡ false). s) (cases_Bool (nat_eq i h))

@@ -14,14 +14,14 @@ abbrev pub Held : Type 0
 Held = Vec Point Global × Point
 
 abbrev pub view : Held → Ring
-view r = (r.0.items , r.1)
+view r = (r.0.items, r.1)
 
 abbrev pub views : List Held → List Ring
 views rs = map view rs
 
 -- the ring at a place, with that place
 abbrev pub ring_at : List Ring → ℕ → Placed
-ring_at rs i = (i , slice_index_or rs i ([] , (pos 0 , pos 0)))
+ring_at rs i = (i, slice_index_or rs i ([], (pos 0, pos 0)))
 
 abbrev pub placed : List Ring → List Placed
 placed rs = enumerate_from 0 rs
@@ -47,7 +47,7 @@ pub record IsHolder (rs : List Ring) (n : ℕ) (q : Point) (b : ℕ) : Type 0 wh
 pub data IsHome (rs : List Ring) (i h : ℕ) : Type 0 where
   heads : is_head (placed rs) (ring_at rs i) ≡ true → h ≡ i → IsHome rs i h
   stands : is_head (placed rs) (ring_at rs i) ≡ false → (h ≡ i → ⊥)
-    → ((k : ℕ) → k < length rs → stands_with (placed rs) (ring_at rs k) (ring_at rs i) ≡ nat_eq k h) → IsHome rs i h
+      → ((k : ℕ) → k < length rs → stands_with (placed rs) (ring_at rs k) (ring_at rs i) ≡ nat_eq k h) → IsHome rs i h
 
 -- rings made of contours: each contour was turned to its start, and the small rings were left out
 pub record AreRingsOf (all : Bool) (least : ℕ) (given : List (Vec Point Global)) (rings : List Held) : Type 0 where

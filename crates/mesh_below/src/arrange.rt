@@ -60,7 +60,13 @@ fn is_less(areas: &[i128], best: Option<usize>, k: usize) -> bool
 }
 
 /// The better holder of the point, of the one known and the ring at `k`.
-fn better_holder(rings: &[Ring], areas: &[i128], q: FinePoint, best: Option<usize>, k: usize) -> Option<usize>
+fn better_holder(
+    rings: &[Ring],
+    areas: &[i128],
+    q: FinePoint,
+    best: Option<usize>,
+    k: usize,
+) -> Option<usize>
     requires in_range { k < length rings.now }
     requires areas_known { areas.now ≡ areas_of (views rings.now) }
     requires q_small { IsSafe (2 ^ 33) q }
@@ -144,7 +150,15 @@ fn answered(alloc: Global, ring: &Ring, clockwise: bool) -> Result<Vec<GridPoint
 }
 
 /// Adds the ring at `i` to the shape that the ring at `h` heads, if it stands with that.
-fn push_member(alloc: Global, shape: &mut Vec<Vec<GridPoint>>, rings: &[Ring], homes: &[usize], h: usize, i: usize, clockwise: bool) -> Result<(), AllocError>
+fn push_member(
+    alloc: Global,
+    shape: &mut Vec<Vec<GridPoint>>,
+    rings: &[Ring],
+    homes: &[usize],
+    h: usize,
+    i: usize,
+    clockwise: bool,
+) -> Result<(), AllocError>
     requires in_range { i < length rings.now }
     requires homes_len { length homes.now ≡ length rings.now }
     ensures { OnOk result (points_of shape.new.items ≡ points_of shape.old.items ++
@@ -161,7 +175,13 @@ fn push_member(alloc: Global, shape: &mut Vec<Vec<GridPoint>>, rings: &[Ring], h
 }
 
 /// The shape that the ring at `h` heads.
-fn shape(alloc: Global, rings: &[Ring], homes: &[usize], h: usize, clockwise: bool) -> Result<Vec<Vec<GridPoint>>, AllocError>
+fn shape(
+    alloc: Global,
+    rings: &[Ring],
+    homes: &[usize],
+    h: usize,
+    clockwise: bool,
+) -> Result<Vec<Vec<GridPoint>>, AllocError>
     requires in_range { h < length rings.now }
     requires homes_len { length homes.now ≡ length rings.now }
     requires homes_are { (i : ℕ) → i < length rings.now → IsHome (views rings.now) i (slice_index_or homes.now i 0) }
@@ -176,7 +196,14 @@ fn shape(alloc: Global, rings: &[Ring], homes: &[usize], h: usize, clockwise: bo
 }
 
 /// Adds the shape that the ring at `h` heads, if it heads one.
-fn push_shape(alloc: Global, shapes: &mut Vec<Vec<Vec<GridPoint>>>, rings: &[Ring], homes: &[usize], h: usize, clockwise: bool) -> Result<(), AllocError>
+fn push_shape(
+    alloc: Global,
+    shapes: &mut Vec<Vec<Vec<GridPoint>>>,
+    rings: &[Ring],
+    homes: &[usize],
+    h: usize,
+    clockwise: bool,
+) -> Result<(), AllocError>
     requires in_range { h < length rings.now }
     requires homes_len { length homes.now ≡ length rings.now }
     requires homes_are { (i : ℕ) → i < length rings.now → IsHome (views rings.now) i (slice_index_or homes.now i 0) }
@@ -191,7 +218,11 @@ fn push_shape(alloc: Global, shapes: &mut Vec<Vec<Vec<GridPoint>>>, rings: &[Rin
 }
 
 /// The shapes of rings that stand in order.
-fn grouped(alloc: Global, rings: &[Ring], clockwise: bool) -> Result<Vec<Vec<Vec<GridPoint>>>, AllocError>
+fn grouped(
+    alloc: Global,
+    rings: &[Ring],
+    clockwise: bool,
+) -> Result<Vec<Vec<Vec<GridPoint>>>, AllocError>
     requires { All (λ (r : Held). IsSafe (2 ^ 33) r.1) rings.now }
     ensures { IfOk result (λ v. shapes_points v.items ≡ map (map (answered clockwise)) (shapes_of (placed (views rings.now)))) }
 {
@@ -213,7 +244,11 @@ fn in_order(mut rings: Vec<Ring>) -> Result<Vec<Ring>, AllocError>
 }
 
 /// The rings as shapes, in order.
-pub fn shapes(alloc: Global, rings: Vec<Ring>, clockwise: bool) -> Result<Vec<Vec<Vec<GridPoint>>>, AllocError>
+pub fn shapes(
+    alloc: Global,
+    rings: Vec<Ring>,
+    clockwise: bool,
+) -> Result<Vec<Vec<Vec<GridPoint>>>, AllocError>
     requires { All (λ (r : Held). IsSafe (2 ^ 33) r.1) rings.items }
     ensures { IfOk result (λ v. AreArranged clockwise (views rings.items) (shapes_points v.items)) }
 {

@@ -3,13 +3,12 @@
 #![tactic(auto)]
 
 pub mod area;
-mod arrange;
+pub mod arrange;
 mod exact;
 pub mod fill;
 pub mod fine;
 pub mod given;
 pub mod grid;
-pub mod resolve;
 pub mod ring;
 pub mod sides;
 pub mod splitter;

@@ -5,6 +5,6 @@ use Rattle.mesh_below.proofs.arrange.homes.Given as goal
 
 abbrev pub invariant-loop-i : goal.invariant-loop-i
 invariant-loop-i l = record {
-    len : length l.homes.items ≡ l.i;
-    homes : (j : ℕ) → j < l.i → IsHome (views l.rings) j (slice_index_or l.homes.items j 0);
+  len : length l.homes.items ≡ l.i;
+  homes : (j : ℕ) → j < l.i → IsHome (views l.rings) j (slice_index_or l.homes.items j 0);
 }

@@ -13,8 +13,8 @@ grouped-requires c =
 
 pub returns : goal.returns
 returns c = record {
-    sorted = views c.in_ok-ordered.ordered.items;
-    same = IsPermutation-map view c.args.rings.items c.in_ok-ordered.ordered.items c.in_ok-ordered.ensures.same;
-    ordered = c.in_ok-ordered.ensures.ordered;
-    shapes = c.in_ok-shapes.ensures ∙ ap (λ (l : List Held). map (map (answered c.args.clockwise)) (shapes_of (enumerate_from 0 (views l)))) c.deref.ensures.value;
+  sorted = views c.in_ok-ordered.ordered.items;
+  same = IsPermutation-map view c.args.rings.items c.in_ok-ordered.ordered.items c.in_ok-ordered.ensures.same;
+  ordered = c.in_ok-ordered.ensures.ordered;
+  shapes = c.in_ok-shapes.ensures ∙ ap (λ (l : List Held). map (map (answered c.args.clockwise)) (shapes_of (enumerate_from 0 (views l)))) c.deref.ensures.value;
 }
