@@ -23,6 +23,7 @@ pub mod Live
 pub mod Meeting
 pub mod Paths
 pub mod Places
+pub mod Resolving
 pub mod Settling
 pub mod Shapes
 pub mod Sharing

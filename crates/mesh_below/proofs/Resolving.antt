@@ -1,0 +1,148 @@
+-- Lemmas over lists: the rings of contours, and the whole way from edges to shapes.
+use Rattle.std.proofs.Common.{◌≡◌, ℕ, ◌+◌, ◌<◌, ◌≤◌, ◌^◌, ◌||◌, Bool, true, false, cond, not, ◌&&◌, List, [], ◌∷◌, ◌++◌, map, length, take, get_or, zero, suc, refl, sym, ◌∙◌, ap, subst, arith}
+use Rattle.std.specs.Prelude.{ℤ, pos, ◌+ℤ◌, Vec}
+use Rattle.std.specs.List.{All, filter, flat_map}
+use Rattle.std.specs.declared.alloc.Global.{Global}
+use Rattle.std.proofs.lemmas.Bool.{or_right}
+use Rattle.std.proofs.lemmas.Grind.{flat_map-append}
+use Rattle.std.proofs.lemmas.Int.{ints}
+use Rattle.std.proofs.lemmas.List.{append-nil, map-append, take_more, take_all}
+use Rattle.std.proofs.lemmas.List.Elements.{All-nil, All-cons, All-head, All-tail, All-append, All-push, filter-append}
+use Rattle.mesh_num.proofs.Sums.{sum_of_append}
+use Rattle.mesh_num.specs.Bounds.{IsSafe}
+use Rattle.mesh_num.specs.Plane.{Point, Edge}
+use Rattle.mesh_num.specs.Winding.{IsBalanced, sum_of, boundary, same_point}
+use Rattle.mesh_below.proofs.BoundaryBalance.{boundary_is_balanced}
+use Rattle.mesh_below.proofs.BoundaryFill.{boundary_cover}
+use Rattle.mesh_below.proofs.BoundaryKeys.{keys, keys_are}
+use Rattle.mesh_below.proofs.BoundaryLine.{Setting}
+use Rattle.mesh_below.proofs.Ends.{ends_self}
+use Rattle.mesh_below.proofs.Walking.{counts_same}
+use Rattle.mesh_below.specs.Boundary.{count, IsBoundary, IsProper}
+use Rattle.mesh_below.specs.Contours.{IsBegun, IsRingOf}
+use Rattle.mesh_below.specs.Counted.{Counted, IsCountOf}
+use Rattle.mesh_below.specs.Grouping.{Held, view, views, AreRingsOf, PushesRing}
+use Rattle.mesh_below.specs.Resolution.{Choices, Ring, ring_of, is_large, AreArranged, IsResolution}
+use Rattle.mesh_below.specs.Split.{occurs, after, same_ends}
+use Rattle.mesh_below.specs.Splitting.{IsSplitting}
+use Rattle.mesh_below.specs.Unused.{contour_edges}
+
+-- ---- the ring of one contour
+ring_is : (all : Bool) (given : List Point) (r : Held) → (k : IsRingOf all given (view r)) → ring_of all k.contour ≡ view r
+ring_is all given r k i = (sym k.vertices_are i , sym k.side_is i)
+
+pub push_none : (all : Bool) (least : ℕ) (given : List Point) (r : Held) (old : List Held) → IsRingOf all given (view r) → is_large least (view r) ≡ false → PushesRing all least given old old
+push_none all least given r old k small = record {
+    contour = k.contour;
+    same = k.same;
+    begun = k.begun;
+    rings_are = sym (append-nil (views old)) ∙ sym (λ i. views old ++ cond ((ap (is_large least) (ring_is all given r k) ∙ small) i) (ring_of all k.contour ∷ []) []);
+    sides_small = λ (h : All (λ (s : Held). IsSafe (2 ^ 33) s.1) old). h;
+}
+
+pub push_one : (all : Bool) (least : ℕ) (given : List Point) (r : Held) (old new : List Held) → IsRingOf all given (view r) → IsSafe (2 ^ 33) r.1 → is_large least (view r) ≡ true →
+    new ≡ old ++ (r ∷ []) → PushesRing all least given old new
+push_one all least given r old new k safe large e = record {
+    contour = k.contour;
+    same = k.same;
+    begun = k.begun;
+    rings_are =
+        ap views e
+        ∙ (map-append view old (r ∷ [])
+        ∙ sym (λ i. views old ++ cond ((ap (is_large least) (ring_is all given r k) ∙ large) i) (ring_is all given r k i ∷ []) []));
+    sides_small = λ (h : All (λ (s : Held). IsSafe (2 ^ 33) s.1) old).
+        subst (λ (l : List Held). All (λ (s : Held). IsSafe (2 ^ 33) s.1) l) (sym e) (All-push (λ (s : Held). IsSafe (2 ^ 33) s.1) old r h safe);
+}
+
+-- ---- the rings of contours
+pub rings_none : (all : Bool) (least : ℕ) (given : List (Vec Point Global)) (rings : List Held) → rings ≡ [] → AreRingsOf all least (take 0 given) rings
+rings_none all least given rings e = record {
+    contours = [];
+    same = λ (f : Edge → ℤ). sym (ap (λ (cs : List (Vec Point Global)). sum_of f (contour_edges cs)) (none given));
+    begun = All-nil (IsBegun all);
+    rings_are = ap views e;
+    sides_small = subst (λ (l : List Held). All (λ (s : Held). IsSafe (2 ^ 33) s.1) l) (sym e) (All-nil (λ (s : Held). IsSafe (2 ^ 33) s.1));
+}
+  where
+    none : (cs : List (Vec Point Global)) → take 0 cs ≡ []
+    none [] = refl
+    none (c ∷ cs) = refl
+
+pub rings_more : (all : Bool) (least : ℕ) (given : List (Vec Point Global)) (i : ℕ) (d : Vec Point Global) (old new : List Held) → i < length given →
+    AreRingsOf all least (take i given) old → PushesRing all least (get_or given i d).items old new → AreRingsOf all least (take (i + 1) given) new
+rings_more all least given i d old new low k p = record {
+    contours = k.contours ++ (p.contour ∷ []);
+    same = same_sums;
+    begun = All-push (IsBegun all) k.contours p.contour k.begun p.begun;
+    rings_are =
+        p.rings_are
+        ∙ (ap (λ (l : List Ring). l ++ filter (is_large least) (ring_of all p.contour ∷ [])) k.rings_are
+        ∙ (sym (filter-append (is_large least) (map (ring_of all) k.contours) (ring_of all p.contour ∷ []))
+        ∙ ap (filter (is_large least)) (sym (map-append (ring_of all) k.contours (p.contour ∷ [])))));
+    sides_small = p.sides_small k.sides_small;
+}
+  where
+    c : Vec Point Global
+    c = get_or given i d
+    one_left : (f : Edge → ℤ) → sum_of f (flat_map boundary (p.contour ∷ [])) ≡ sum_of f (boundary p.contour)
+    one_left f = ap (sum_of f) (append-nil (boundary p.contour))
+    one_right : (f : Edge → ℤ) → sum_of f (contour_edges (c ∷ [])) ≡ sum_of f (boundary c.items)
+    one_right f = ap (sum_of f) (append-nil (boundary c.items))
+    same_sums : (f : Edge → ℤ) → sum_of f (flat_map boundary (k.contours ++ (p.contour ∷ []))) ≡ sum_of f (contour_edges (take (i + 1) given))
+    same_sums f =
+        ap (sum_of f) (flat_map-append boundary k.contours (p.contour ∷ []))
+        ∙ (sum_of_append f (flat_map boundary k.contours) (flat_map boundary (p.contour ∷ []))
+        ∙ ((λ j. k.same f j +ℤ (one_left f ∙ (p.same f ∙ sym (one_right f))) j)
+        ∙ (sym (sum_of_append f (contour_edges (take i given)) (contour_edges (c ∷ [])))
+        ∙ (ap (sum_of f) (sym (flat_map-append (λ (v : Vec Point Global). boundary v.items) (take i given) (c ∷ [])))
+        ∙ ap (λ (cs : List (Vec Point Global)). sum_of f (contour_edges cs)) (sym (take_more given i d low))))))
+
+pub rings_all : (all : Bool) (least : ℕ) (given : List (Vec Point Global)) (n : ℕ) (rings : List Held) → length given ≤ n → AreRingsOf all least (take n given) rings → AreRingsOf all least given rings
+rings_all all least given n rings h = subst (λ (cs : List (Vec Point Global)). AreRingsOf all least cs rings) (take_all n given h)
+
+-- ---- what holds of all edges of contours holds of those of one
+all_left : {X : Type 0} (P : X → Type 0) (xs ys : List X) → All P (xs ++ ys) → All P xs
+all_left P [] ys h = All-nil P
+all_left P (x ∷ xs) ys h = All-cons P x xs (All-head P x (xs ++ ys) h) (all_left P xs ys (All-tail P x (xs ++ ys) h))
+
+all_right : {X : Type 0} (P : X → Type 0) (xs ys : List X) → All P (xs ++ ys) → All P ys
+all_right P [] ys h = h
+all_right P (x ∷ xs) ys h = all_right P xs ys (All-tail P x (xs ++ ys) h)
+
+pub of_one : (P : Edge → Type 0) (cs : List (Vec Point Global)) (i : ℕ) (d : Vec Point Global) → i < length cs → All P (contour_edges cs) → All P (boundary (get_or cs i d).items)
+of_one P [] i d low h = absurd (omega arith)
+of_one P (c ∷ cs) zero d low h = all_left P (boundary c.items) (contour_edges cs) h
+of_one P (c ∷ cs) (suc i) d low h = of_one P cs i d (omega arith) (all_right P (boundary c.items) (contour_edges cs) h)
+
+pub all_occurs : (P : Edge → Type 0) (es : List Edge) → ((e : Edge) → occurs e es ≡ true → P e) → All P es
+all_occurs P [] h = All-nil P
+all_occurs P (e ∷ es) h =
+    All-cons P e es (h e (λ i. ends_self e i || occurs e es)) (all_occurs P es (λ (f : Edge) (o : occurs f es ≡ true). h f (or_right (same_ends f e) (occurs f es) o)))
+
+-- ---- the whole way
+pub parted_balanced : (edges : List Edge) (segments : List Counted) (fill : ℤ → Bool) (parted : List Edge) → fill (pos 0) ≡ false → IsBalanced edges → (s : IsSplitting edges segments) →
+    IsBoundary (after s.cuts edges) fill parted → IsBalanced parted
+parted_balanced edges segments fill parted empty balanced s is =
+    boundary_is_balanced (after s.cuts edges) (keys (after s.cuts edges)) parted fill
+        (record { balanced = s.balanced balanced; clean = s.clean; proper = s.proper; keys = keys_are (after s.cuts edges) s.proper })
+        is empty
+
+-- lists with the same counts bound the same
+pub same_boundary : (es : List Edge) (fill : ℤ → Bool) (bs cs : List Edge) → ((e : Edge) → count e cs ≡ count e bs) → IsBoundary es fill bs → IsBoundary es fill cs
+same_boundary es fill bs cs h is = record { counts = λ (e : Edge). h e ∙ is.counts e }
+
+pub boundary_proper : (es bs : List Edge) (fill : ℤ → Bool) → IsProper es → IsBoundary es fill bs → All (λ (e : Edge). same_point e.0 e.1 ≡ false) bs
+boundary_proper es bs fill proper is = all_occurs (λ (e : Edge). same_point e.0 e.1 ≡ false) bs (λ (e : Edge) (o : occurs e bs ≡ true). proper e (boundary_cover es bs fill is e o))
+
+pub resolved : (edges : List Edge) (segments : List Counted) (fill : ℤ → Bool) (choices : Choices) (closed : List (Vec Point Global)) (rings : List Held) (answer : List (List (List Point))) →
+    (s : IsSplitting edges segments) → IsBoundary (after s.cuts edges) fill (contour_edges closed) → AreRingsOf choices.all_vertices choices.least_area closed rings →
+    AreArranged choices.clockwise (views rings) answer → IsResolution edges fill choices answer
+resolved edges segments fill choices closed rings answer s is k a = record {
+    cuts = s.cuts;
+    legal = s.legal;
+    clean = s.clean;
+    contours = k.contours;
+    bounded = same_boundary (after s.cuts edges) fill (contour_edges closed) (flat_map boundary k.contours) (λ (e : Edge). counts_same e (flat_map boundary k.contours) (contour_edges closed) k.same) is;
+    begun = k.begun;
+    arranged = subst (λ (rs : List Ring). AreArranged choices.clockwise rs answer) k.rings_are a;
+}
