@@ -29,39 +29,39 @@ use Rattle.mesh_below.specs.Unused.{contour_edges}
 
 -- ---- the ring of one contour
 ring_is : (all : Bool) (given : List Point) (r : Held) → (k : IsRingOf all given (view r)) → ring_of all k.contour ≡ view r
-ring_is all given r k i = (sym k.vertices_are i , sym k.side_is i)
+ring_is all given r k i = (sym k.vertices_are i, sym k.side_is i)
 
 pub push_none : (all : Bool) (least : ℕ) (given : List Point) (r : Held) (old : List Held) → IsRingOf all given (view r) → is_large least (view r) ≡ false → PushesRing all least given old old
 push_none all least given r old k small = record {
-    contour = k.contour;
-    same = k.same;
-    begun = k.begun;
-    rings_are = sym (append-nil (views old)) ∙ sym (λ i. views old ++ cond ((ap (is_large least) (ring_is all given r k) ∙ small) i) (ring_of all k.contour ∷ []) []);
-    sides_small = λ (h : All (λ (s : Held). IsSafe (2 ^ 33) s.1) old). h;
+  contour = k.contour;
+  same = k.same;
+  begun = k.begun;
+  rings_are = sym (append-nil (views old)) ∙ sym (λ i. views old ++ cond ((ap (is_large least) (ring_is all given r k) ∙ small) i) (ring_of all k.contour ∷ []) []);
+  sides_small = λ (h : All (λ (s : Held). IsSafe (2 ^ 33) s.1) old). h;
 }
 
 pub push_one : (all : Bool) (least : ℕ) (given : List Point) (r : Held) (old new : List Held) → IsRingOf all given (view r) → IsSafe (2 ^ 33) r.1 → is_large least (view r) ≡ true →
     new ≡ old ++ (r ∷ []) → PushesRing all least given old new
 push_one all least given r old new k safe large e = record {
-    contour = k.contour;
-    same = k.same;
-    begun = k.begun;
-    rings_are =
-        ap views e
-        ∙ (map-append view old (r ∷ [])
-        ∙ sym (λ i. views old ++ cond ((ap (is_large least) (ring_is all given r k) ∙ large) i) (ring_is all given r k i ∷ []) []));
-    sides_small = λ (h : All (λ (s : Held). IsSafe (2 ^ 33) s.1) old).
-        subst (λ (l : List Held). All (λ (s : Held). IsSafe (2 ^ 33) s.1) l) (sym e) (All-push (λ (s : Held). IsSafe (2 ^ 33) s.1) old r h safe);
+  contour = k.contour;
+  same = k.same;
+  begun = k.begun;
+  rings_are =
+      ap views e
+      ∙ (map-append view old (r ∷ [])
+      ∙ sym (λ i. views old ++ cond ((ap (is_large least) (ring_is all given r k) ∙ large) i) (ring_is all given r k i ∷ []) []));
+  sides_small = λ (h : All (λ (s : Held). IsSafe (2 ^ 33) s.1) old).
+      subst (λ (l : List Held). All (λ (s : Held). IsSafe (2 ^ 33) s.1) l) (sym e) (All-push (λ (s : Held). IsSafe (2 ^ 33) s.1) old r h safe);
 }
 
 -- ---- the rings of contours
 pub rings_none : (all : Bool) (least : ℕ) (given : List (Vec Point Global)) (rings : List Held) → rings ≡ [] → AreRingsOf all least (take 0 given) rings
 rings_none all least given rings e = record {
-    contours = [];
-    same = λ (f : Edge → ℤ). sym (ap (λ (cs : List (Vec Point Global)). sum_of f (contour_edges cs)) (none given));
-    begun = All-nil (IsBegun all);
-    rings_are = ap views e;
-    sides_small = subst (λ (l : List Held). All (λ (s : Held). IsSafe (2 ^ 33) s.1) l) (sym e) (All-nil (λ (s : Held). IsSafe (2 ^ 33) s.1));
+  contours = [];
+  same = λ (f : Edge → ℤ). sym (ap (λ (cs : List (Vec Point Global)). sum_of f (contour_edges cs)) (none given));
+  begun = All-nil (IsBegun all);
+  rings_are = ap views e;
+  sides_small = subst (λ (l : List Held). All (λ (s : Held). IsSafe (2 ^ 33) s.1) l) (sym e) (All-nil (λ (s : Held). IsSafe (2 ^ 33) s.1));
 }
   where
     none : (cs : List (Vec Point Global)) → take 0 cs ≡ []
@@ -71,23 +71,26 @@ rings_none all least given rings e = record {
 pub rings_more : (all : Bool) (least : ℕ) (given : List (Vec Point Global)) (i : ℕ) (d : Vec Point Global) (old new : List Held) → i < length given →
     AreRingsOf all least (take i given) old → PushesRing all least (get_or given i d).items old new → AreRingsOf all least (take (i + 1) given) new
 rings_more all least given i d old new low k p = record {
-    contours = k.contours ++ (p.contour ∷ []);
-    same = same_sums;
-    begun = All-push (IsBegun all) k.contours p.contour k.begun p.begun;
-    rings_are =
-        p.rings_are
-        ∙ (ap (λ (l : List Ring). l ++ filter (is_large least) (ring_of all p.contour ∷ [])) k.rings_are
-        ∙ (sym (filter-append (is_large least) (map (ring_of all) k.contours) (ring_of all p.contour ∷ []))
-        ∙ ap (filter (is_large least)) (sym (map-append (ring_of all) k.contours (p.contour ∷ [])))));
-    sides_small = p.sides_small k.sides_small;
+  contours = k.contours ++ (p.contour ∷ []);
+  same = same_sums;
+  begun = All-push (IsBegun all) k.contours p.contour k.begun p.begun;
+  rings_are =
+      p.rings_are
+      ∙ (ap (λ (l : List Ring). l ++ filter (is_large least) (ring_of all p.contour ∷ [])) k.rings_are
+      ∙ (sym (filter-append (is_large least) (map (ring_of all) k.contours) (ring_of all p.contour ∷ []))
+      ∙ ap (filter (is_large least)) (sym (map-append (ring_of all) k.contours (p.contour ∷ [])))));
+  sides_small = p.sides_small k.sides_small;
 }
   where
     c : Vec Point Global
     c = get_or given i d
+
     one_left : (f : Edge → ℤ) → sum_of f (flat_map boundary (p.contour ∷ [])) ≡ sum_of f (boundary p.contour)
     one_left f = ap (sum_of f) (append-nil (boundary p.contour))
+
     one_right : (f : Edge → ℤ) → sum_of f (contour_edges (c ∷ [])) ≡ sum_of f (boundary c.items)
     one_right f = ap (sum_of f) (append-nil (boundary c.items))
+
     same_sums : (f : Edge → ℤ) → sum_of f (flat_map boundary (k.contours ++ (p.contour ∷ []))) ≡ sum_of f (contour_edges (take (i + 1) given))
     same_sums f =
         ap (sum_of f) (flat_map-append boundary k.contours (p.contour ∷ []))
@@ -124,8 +127,8 @@ pub parted_balanced : (edges : List Edge) (segments : List Counted) (fill : ℤ 
     IsBoundary (after s.cuts edges) fill parted → IsBalanced parted
 parted_balanced edges segments fill parted empty balanced s is =
     boundary_is_balanced (after s.cuts edges) (keys (after s.cuts edges)) parted fill
-        (record { balanced = s.balanced balanced; clean = s.clean; proper = s.proper; keys = keys_are (after s.cuts edges) s.proper })
-        is empty
+    (record { balanced = s.balanced balanced; clean = s.clean; proper = s.proper; keys = keys_are (after s.cuts edges) s.proper })
+    is empty
 
 -- lists with the same counts bound the same
 pub same_boundary : (es : List Edge) (fill : ℤ → Bool) (bs cs : List Edge) → ((e : Edge) → count e cs ≡ count e bs) → IsBoundary es fill bs → IsBoundary es fill cs
@@ -138,11 +141,11 @@ pub resolved : (edges : List Edge) (segments : List Counted) (fill : ℤ → Boo
     (s : IsSplitting edges segments) → IsBoundary (after s.cuts edges) fill (contour_edges closed) → AreRingsOf choices.all_vertices choices.least_area closed rings →
     AreArranged choices.clockwise (views rings) answer → IsResolution edges fill choices answer
 resolved edges segments fill choices closed rings answer s is k a = record {
-    cuts = s.cuts;
-    legal = s.legal;
-    clean = s.clean;
-    contours = k.contours;
-    bounded = same_boundary (after s.cuts edges) fill (contour_edges closed) (flat_map boundary k.contours) (λ (e : Edge). counts_same e (flat_map boundary k.contours) (contour_edges closed) k.same) is;
-    begun = k.begun;
-    arranged = subst (λ (rs : List Ring). AreArranged choices.clockwise rs answer) k.rings_are a;
+  cuts = s.cuts;
+  legal = s.legal;
+  clean = s.clean;
+  contours = k.contours;
+  bounded = same_boundary (after s.cuts edges) fill (contour_edges closed) (flat_map boundary k.contours) (λ (e : Edge). counts_same e (flat_map boundary k.contours) (contour_edges closed) k.same) is;
+  begun = k.begun;
+  arranged = subst (λ (rs : List Ring). AreArranged choices.clockwise rs answer) k.rings_are a;
 }

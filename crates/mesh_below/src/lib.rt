@@ -3,12 +3,13 @@
 #![tactic(auto)]
 
 pub mod area;
-pub mod arrange;
+mod arrange;
 mod exact;
 pub mod fill;
 pub mod fine;
 pub mod given;
 pub mod grid;
+pub mod resolve;
 pub mod ring;
 pub mod sides;
 pub mod splitter;

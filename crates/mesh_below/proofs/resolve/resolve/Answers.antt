@@ -35,7 +35,7 @@ rings_of-requires c =
     let is : IsBoundary es (filled c.args.fill) c.in_ok-parted.parted.items = c.in_ok-parted.ensures es (subst (λ (ks : List Counted). IsCountOf es ks) (sym c.deref.ensures.value) s.count) s.proper in
     subst (λ (cs : List (Vec Point Global)). All (λ (e : Edge). same_point e.0 e.1 ≡ false) (contour_edges cs)) (sym c.deref-2.ensures.value)
     (boundary_proper es (contour_edges c.in_ok-closed.closed.items) (filled c.args.fill) s.proper
-        (same_boundary es (filled c.args.fill) c.in_ok-parted.parted.items (contour_edges c.in_ok-closed.closed.items) c.in_ok-closed.ensures is))
+    (same_boundary es (filled c.args.fill) c.in_ok-parted.parted.items (contour_edges c.in_ok-closed.closed.items) c.in_ok-closed.ensures is))
 
 pub returns : goal.returns
 returns c =
@@ -44,6 +44,6 @@ returns c =
     let is : IsBoundary es (filled c.args.fill) c.in_ok-parted.parted.items = c.in_ok-parted.ensures es (subst (λ (ks : List Counted). IsCountOf es ks) (sym c.deref.ensures.value) s.count) s.proper in
     let choices : Choices = record { least_area = c.args.choices.least_area; all_vertices = c.args.choices.all_vertices; clockwise = c.args.choices.clockwise } in
     resolved c.args.edges.now c.in_ok-segments.segments.items (filled c.args.fill) choices c.in_ok-closed.closed.items c.in_ok-rings.rings.items _ s
-        (same_boundary es (filled c.args.fill) c.in_ok-parted.parted.items (contour_edges c.in_ok-closed.closed.items) c.in_ok-closed.ensures is)
-        (subst (λ (cs : List (Vec Point Global)). AreRingsOf c.args.choices.all_vertices c.args.choices.least_area cs c.in_ok-rings.rings.items) c.deref-2.ensures.value c.in_ok-rings.ensures)
-        c.in_ok-shapes.ensures
+    (same_boundary es (filled c.args.fill) c.in_ok-parted.parted.items (contour_edges c.in_ok-closed.closed.items) c.in_ok-closed.ensures is)
+    (subst (λ (cs : List (Vec Point Global)). AreRingsOf c.args.choices.all_vertices c.args.choices.least_area cs c.in_ok-rings.rings.items) c.deref-2.ensures.value c.in_ok-rings.ensures)
+    c.in_ok-shapes.ensures

@@ -16,5 +16,5 @@ push_ring-requires c =
 pub loop-contour-preserved : goal.loop-contour-preserved
 loop-contour-preserved c =
     rings_more c.args.choices.all_vertices c.args.choices.least_area c.args.contours.now c.loop-contour.contour-index c.contour-item.result c.loop-contour.rings.items c.push_ring.new.rings.items c.loop-contour-test.true
-        c.loop-contour.invariant
-        (subst (λ (ps : List Point). PushesRing c.args.choices.all_vertices c.args.choices.least_area ps c.loop-contour.rings.items c.push_ring.new.rings.items) (c.deref.ensures.value ∙ ap (λ (v : Vec Point Global). v.items) c.contour-item.is) c.in_ok-push_ring.ensures)
+    c.loop-contour.invariant
+    (subst (λ (ps : List Point). PushesRing c.args.choices.all_vertices c.args.choices.least_area ps c.loop-contour.rings.items c.push_ring.new.rings.items) (c.deref.ensures.value ∙ ap (λ (v : Vec Point Global). v.items) c.contour-item.is) c.in_ok-push_ring.ensures)

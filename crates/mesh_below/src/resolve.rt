@@ -1,0 +1,82 @@
+//! The whole way from directed edges to shapes.
+
+ghost use Rattle.std.specs.Prelude.{◌≡◌, false, IfOk, OnOk};
+ghost use Rattle.std.specs.List.{All};
+ghost use Rattle.mesh_num.specs.Plane.{Edge};
+ghost use Rattle.mesh_num.specs.Winding.{IsBalanced, boundary, same_point};
+ghost use Rattle.mesh_below.specs.Boundary.{IsProper};
+ghost use Rattle.mesh_below.specs.FillRules.{filled};
+ghost use Rattle.mesh_below.specs.Grouping.{AreRingsOf, PushesRing, shapes_points};
+ghost use Rattle.mesh_below.specs.Resolution.{IsResolution};
+ghost use Rattle.mesh_below.specs.Unused.{contour_edges};
+
+use crate::arrange::{is_large, shapes};
+use crate::fill::FillRule;
+use crate::grid::{GridEdge, GridPoint};
+use crate::ring::{Ring, ring_of};
+use crate::sides::boundary;
+use crate::splitter::split_edges;
+use crate::walk::contours;
+use std::alloc::{AllocError, Global};
+
+/// What an answer depends on besides the edges: the least area, whether straight-through vertices stay, and the direction.
+#[derive(Debug, Copy, Clone)]
+pub struct Choices {
+    pub least_area: u64,
+    pub all_vertices: bool,
+    pub clockwise: bool,
+}
+
+/// Adds the ring of a contour, unless it is small.
+fn push_ring(
+    alloc: Global,
+    rings: &mut Vec<Ring>,
+    contour: &[GridPoint],
+    choices: Choices,
+) -> Result<(), AllocError>
+    requires { All (λ (e : Edge). same_point e.0 e.1 ≡ false) (boundary contour.now) }
+    ensures { OnOk result (PushesRing choices.all_vertices choices.least_area contour.now rings.old.items rings.new.items) }
+{
+    let ring = ring_of(alloc, contour, choices.all_vertices)?;
+    if !is_large(&ring, choices.least_area) {
+        return Ok(());
+    }
+    rings.push(ring)?;
+    Ok(())
+}
+
+/// The rings of contours, without the small ones.
+fn rings_of(
+    alloc: Global,
+    contours: &[Vec<GridPoint>],
+    choices: Choices,
+) -> Result<Vec<Ring>, AllocError>
+    requires { All (λ (e : Edge). same_point e.0 e.1 ≡ false) (contour_edges contours.now) }
+    ensures { IfOk result (λ v. AreRingsOf choices.all_vertices choices.least_area contours.now v.items) }
+{
+    let mut rings = Vec::new(alloc);
+    for contour in contours {
+        push_ring(alloc, &mut rings, contour, choices)?;
+    }
+    Ok(rings)
+}
+
+/// The shapes of what balanced edges fill, none of which ends where it starts.
+pub fn resolve(
+    alloc: Global,
+    edges: &[GridEdge],
+    fill: FillRule,
+    choices: Choices,
+) -> Result<Vec<Vec<Vec<GridPoint>>>, AllocError>
+    requires proper { IsProper edges.now }
+    requires balanced { IsBalanced edges.now }
+    ensures { IfOk result (λ v. IsResolution edges.now (filled fill)
+        (record { least_area = choices.least_area; all_vertices = choices.all_vertices; clockwise = choices.clockwise }) (shapes_points v.items)) }
+{
+    let segments = split_edges(alloc, edges)?;
+    let parted = boundary(alloc, &segments, fill)?;
+    let closed = contours(alloc, parted)?;
+    let rings = rings_of(alloc, &closed, choices)?;
+    let shapes = shapes(alloc, rings, choices.clockwise)?;
+    Ok(shapes)
+}
