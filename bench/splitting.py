@@ -10,12 +10,12 @@ import time
 PROGRAM = pathlib.Path(__file__).resolve().parent.parent / "crates/mesh_bench/out/mesh_bench"
 
 
-def measure(count):
-    """The program's counts of segments before and after, and the least of three times in seconds."""
+def measure(count, *more):
+    """The program's counts before and after, with these further arguments, and the least of three times in seconds."""
     least = None
     for _ in range(3):
         start = time.perf_counter()
-        words = subprocess.run([PROGRAM, str(count)], capture_output=True, text=True, check=True).stdout.split()
+        words = subprocess.run([PROGRAM, str(count), *more], capture_output=True, text=True, check=True).stdout.split()
         seconds = time.perf_counter() - start
         least = seconds if least is None else min(least, seconds)
     return int(words[0]), int(words[3]), least

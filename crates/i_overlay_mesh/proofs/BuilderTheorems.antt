@@ -1,5 +1,5 @@
 -- Lemmas over points and lists: what holds of the edges that the builder adds.
-use Rattle.std.proofs.Common.{◌≡◌, ℕ, ◌*◌, ◌<◌, ◌≤◌, Bool, true, false, cond, List, [], ◌∷◌, ◌++◌, length, map, drop, refl, sym, ◌∙◌, ap, arith}
+use Rattle.std.proofs.Common.{◌≡◌, ℕ, ◌*◌, ◌<◌, ◌≤◌, Bool, true, false, cond, List, [], ◌∷◌, ◌++◌, length, map, refl, sym, ◌∙◌, ap, arith}
 use Rattle.std.specs.Prelude.{ℤ, pos, ◌+ℤ◌, count_by}
 use Rattle.std.specs.Ordering.{int_eq}
 use Rattle.std.specs.List.{All, Contains}
@@ -16,9 +16,9 @@ use Rattle.mesh_num.proofs.Crossings.{crossing_on_odd}
 use Rattle.mesh_num.specs.Bounds.{IsSafe}
 use Rattle.mesh_join.specs.Joins.{bevel_padding}
 use Rattle.mesh_join.proofs.CleaningEnds.{cleaned_sections-ends}
-use Rattle.mesh_join.specs.Cleaned.{AllEqual, cleaned_sections, IsClean}
+use Rattle.mesh_join.specs.Cleaned.{cleaned_sections, IsClean}
 use Rattle.mesh_join.proofs.CleaningSteps.{cleaned-none, cleaned-clean, cleaned-winding}
-use Rattle.i_overlay_mesh.specs.Outline.{bevel, outline_pieces, parts, section_of, drawn_edges, drawn_pieces, sided, IsRing}
+use Rattle.i_overlay_mesh.specs.Outline.{bevel, parts, section_of, drawn_pieces, sided, IsRing}
 use Rattle.i_overlay_mesh.specs.Building.{IsMovable, Adds, added, added_edges, bevelled_edges, bevelled_pieces, NeverTurnedRound, WindAsPieces, WindsByCount}
 use Rattle.i_overlay_mesh.proofs.OutlineWalk.{drawn_length}
 use Rattle.i_overlay_mesh.specs.Padding.{IsNear}

@@ -1,14 +1,14 @@
 -- Lemmas over points and lists: what the builder's walk round the sections adds.
-use Rattle.std.proofs.Common.{◌≡◌, ◌≢◌, ℕ, List, [], ◌∷◌, ◌++◌, map, refl, sym, ◌∙◌, ap, subst, append_assoc, append-nil, length, Result, Ok, Err}
+use Rattle.std.proofs.Common.{◌≡◌, ◌≢◌, ℕ, List, [], ◌∷◌, ◌++◌, map, refl, sym, ◌∙◌, ap, append_assoc, append-nil, length, Result, Ok, Err}
 use Rattle.std.specs.Prelude.{ℤ, OnOk}
 use Rattle.std.specs.List.{All}
 use Rattle.std.specs.List.Sorted.{IsPermutation}
-use Rattle.std.proofs.lemmas.List.{map-append, take_at}
-use Rattle.std.proofs.lemmas.List.Elements.{All-append, All-nil, All-cons, All-head, All-tail}
+use Rattle.std.proofs.lemmas.List.{take_at}
+use Rattle.std.proofs.lemmas.List.Elements.{All-append, All-nil, All-head, All-tail}
 use Rattle.std.proofs.lemmas.List.Sorted.{IsPermutation-append_comm, IsPermutation-refl}
 use Rattle.mesh_num.specs.Plane.{Point, Edge}
-use Rattle.mesh_num.specs.Winding.{route, boundary}
-use Rattle.mesh_num.specs.Segments.{SignedEdge, edge_of, edges_of, segments_of, proper_edges, IsSubject}
+use Rattle.mesh_num.specs.Winding.{route}
+use Rattle.mesh_num.specs.Segments.{SignedEdge, edges_of, IsSubject}
 use Rattle.mesh_num.proofs.ClosedLists.{woven}
 use Rattle.mesh_num.proofs.Subjects.{segments_of_subjects, segment_between_subject}
 use Rattle.mesh_join.specs.Cleaned.{cleaned_sections, IsClean}

@@ -1,22 +1,18 @@
 -- Lemmas over points: what a join asks holds at an outer corner of an outline.
-use Rattle.std.proofs.Common.{◌≡◌, ◌≢◌, ℕ, ◌*◌, ◌<◌, ◌≤◌, Bool, true, false, cond, List, [], refl, append-nil, sym, ◌∙◌, ap, subst, arith}
+use Rattle.std.proofs.Common.{◌≡◌, ℕ, ◌<◌, ◌≤◌, Bool, true, false, cond, refl, sym, ◌∙◌, ap, arith}
 use Rattle.std.specs.Prelude.{ℤ, pos, neg_ℤ, ◌+ℤ◌, ◌-ℤ◌, ◌*ℤ◌, ◌≤ℤ◌, ◌<ℤ◌, unsigned_abs, int_lt}
 use Rattle.std.proofs.lemmas.Int.{ints}
-use Rattle.mesh_num.specs.Plane.{Point, plus, minus, opposite, cross, turn, right_quarter, length_sq}
-use Rattle.mesh_num.specs.Direction.{IsFresh, IsDirection, scaled_direction}
+use Rattle.mesh_num.specs.Plane.{Point, plus, minus, opposite, cross, turn, right_quarter}
+use Rattle.mesh_num.specs.Direction.{IsFresh, scaled_direction}
 use Rattle.mesh_num.specs.Directed.{direction_of}
-use Rattle.mesh_num.specs.Rectangle.{IsSafeWidened}
-use Rattle.mesh_num.specs.Winding.{same_point}
-use Rattle.mesh_num.specs.Segments.{segment_between}
 use Rattle.mesh_num.proofs.Whole.{linear}
 use Rattle.mesh_num.proofs.Parts.{direction_fresh}
 use Rattle.mesh_num.proofs.Scaling.{scaled_direction_opposite_radius}
 use Rattle.mesh_num.proofs.Directed.{direction_of_is}
-use Rattle.mesh_join.specs.declared.arc.ArcDirection.{ArcDirection}
 use Rattle.mesh_join.specs.declared.arc.ArcDirection.TheVariants.{Clockwise, Counterclockwise}
 use Rattle.mesh_join.specs.Joins.{IsJoint, contact, sense_of}
-use Rattle.i_overlay_mesh.specs.Outline.{Section, Corner, own_edge, section_of, sideways, parts, sided}
-use Rattle.i_overlay_mesh.specs.Building.{IsMoved, IsCorner, sense_for, corner_segments}
+use Rattle.i_overlay_mesh.specs.Outline.{Section, Corner, own_edge, sideways, parts, sided}
+use Rattle.i_overlay_mesh.specs.Building.{IsMoved, IsCorner, sense_for}
 use Rattle.i_overlay_mesh.proofs.OutlineCount.{outer_ends, apart_long, negative, not_negative}
 
 -- a point moved sideways is the contact point of its join

@@ -1,9 +1,14 @@
+pub mod Adding
+pub mod Areas
 pub mod BuilderTheorems
 pub mod BuilderWalk
 pub mod Corners
+pub mod Counts
 pub mod OutlineCount
 pub mod OutlineSum
 pub mod OutlineWalk
 pub mod Padding
 pub mod PaddingBounds
+pub mod Resolving
 pub mod Sections
+pub mod Staying

@@ -1,8 +1,8 @@
 -- Lemmas over points: sections of safe points are safe, and are what their definition says.
-use Rattle.std.proofs.Common.{◌≡◌, ℕ, ◌*◌, ◌≤◌, refl, sym, ◌∙◌, ap, arith}
+use Rattle.std.proofs.Common.{◌≡◌, ℕ, ◌*◌, ◌≤◌, ◌∙◌, ap, arith}
 use Rattle.std.specs.Prelude.{ℤ, pos, unsigned_abs}
 use Rattle.std.proofs.lemmas.Int.{ints}
-use Rattle.mesh_num.specs.Bounds.{IsSafe, IsSmall, IsWithin}
+use Rattle.mesh_num.specs.Bounds.{IsSafe, IsWithin}
 use Rattle.mesh_num.specs.Plane.{Point, plus, minus, right_quarter}
 use Rattle.mesh_num.specs.Rectangle.{IsSafeWidened}
 use Rattle.mesh_num.specs.Direction.{IsDirection, scaled_direction}

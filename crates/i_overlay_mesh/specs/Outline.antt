@@ -1,7 +1,7 @@
 -- Outlines: how a contour that is moved sideways by an offset is drawn, and the pieces between it and the contour.
-use Rattle.std.specs.Prelude.{ℕ, ◌≡◌, ◌≢◌, Bool, cond, not, List, [], ◌∷◌, ◌++◌, map, ℤ, pos, ◌≤ℤ◌, neg_ℤ, int_lt}
+use Rattle.std.specs.Prelude.{ℕ, ◌≡◌, ◌≢◌, Bool, cond, List, [], ◌∷◌, ◌++◌, map, ℤ, pos, ◌≤ℤ◌, neg_ℤ, int_lt}
 use Rattle.std.specs.Ordering.{int_eq}
-use Rattle.std.specs.List.{All, filter, flat_map}
+use Rattle.std.specs.List.{All, flat_map}
 use Rattle.std.proofs.Math.Bool.{beq}
 use Rattle.mesh_num.specs.Plane.{Point, Edge, plus, minus, cross, dot, turn, right_quarter}
 use Rattle.mesh_num.specs.Direction.{scaled_direction}
@@ -21,9 +21,11 @@ pub record Section : Type 0 where
 abbrev pub Corner : Type 0
 Corner = Section × Section
 
+-- the edge itself
 abbrev pub own_edge : Section → Edge
 own_edge s = (s.a, s.b)
 
+-- the moved edge
 abbrev pub top_edge : Section → Edge
 top_edge s = (s.a_top, s.b_top)
 
@@ -39,6 +41,7 @@ inner_edges c = (c.0.b_top, c.0.b) ∷ (c.1.a, c.1.a_top) ∷ []
 abbrev pub join_edges : (Corner → List Point) → Corner → List Edge
 join_edges join c = route c.0.b_top (cond (same_point c.0.b_top c.1.a_top) [] (join c)) c.1.a_top
 
+-- what is drawn at a corner
 abbrev pub corner_edges : (Corner → Bool) → (Corner → List Point) → Corner → List Edge
 corner_edges is_outer join c = cond (is_outer c) (join_edges join c) (inner_edges c)
 
@@ -46,11 +49,12 @@ corner_edges is_outer join c = cond (is_outer c) (join_edges join c) (inner_edge
 abbrev pub corner_pieces : (Corner → Bool) → (Corner → List Point) → Corner → List (List Point)
 corner_pieces is_outer join c = cond (is_outer c) (fan c.0.b (join_edges join c)) []
 
--- what is drawn over a closed list of sections, and the pieces between that and the sections' own edges
+-- what is drawn over a closed list of sections: the moved edges and what is drawn at the corners
 unfoldable pub drawn_edges : (Corner → Bool) → (Corner → List Point) → List Section → List Edge
 drawn_edges is_outer join sections =
     proper_edges (map top_edge sections ++ flat_map (corner_edges is_outer join) (boundary sections))
 
+-- the pieces between that and the sections' own edges
 unfoldable pub drawn_pieces : (Corner → Bool) → (Corner → List Point) → List Section → List (List Point)
 drawn_pieces is_outer join sections = map strip sections ++ flat_map (corner_pieces is_outer join) (boundary sections)
 
@@ -58,6 +62,7 @@ drawn_pieces is_outer join sections = map strip sections ++ flat_map (corner_pie
 abbrev pub sideways : ℕ → ℤ → Point → Point
 sideways unit offset v = right_quarter (scaled_direction unit offset (direction_of unit v))
 
+-- the section of an edge: it is moved sideways by the offset
 abbrev pub section_of : ℕ → ℤ → Edge → Section
 section_of unit offset e = record {
   a = e.0;

@@ -1,25 +1,23 @@
 -- Lemmas over points and lists: the boundary leaves each point as often as it enters it.
-use Rattle.std.proofs.Common.{◌≡◌, ℕ, ◌+◌, ◌⊎◌, inl, inr, ⊎_elim, Bool, true, false, cond, ◌&&◌, ◌||◌, not, List, [], ◌∷◌, refl, sym, ◌∙◌, ap, subst, arith}
-use Rattle.std.specs.Prelude.{ℤ, pos, negsuc, neg_ℤ, ◌+ℤ◌, ◌-ℤ◌, ◌*ℤ◌, ◌≤ℤ◌, ◌<ℤ◌, int_lt, int_le, count_by}
-use Rattle.std.specs.Ordering.{int_eq}
+use Rattle.std.proofs.Common.{◌≡◌, ℕ, ◌+◌, ◌⊎◌, inl, inr, ⊎_elim, Bool, true, false, cond, ◌&&◌, List, [], ◌∷◌, refl, sym, ◌∙◌, ap, subst, arith}
+use Rattle.std.specs.Prelude.{ℤ, pos, neg_ℤ, ◌+ℤ◌, ◌-ℤ◌, ◌*ℤ◌, ◌≤ℤ◌, ◌<ℤ◌, int_lt, int_le, count_by}
 use Rattle.std.proofs.lemmas.Int.{ints, by_lt_z}
-use Rattle.std.proofs.lemmas.Bool.{cases_Bool, or_parts, or_right, both_ways}
-use Rattle.std.proofs.lemmas.Bool.Decides.{Decides-int_eq}
+use Rattle.std.proofs.lemmas.Bool.{cases_Bool, or_right, both_ways}
 use Rattle.std.proofs.lemmas.List.Sums.{sum_by-cons}
 use Rattle.mesh_num.specs.Plane.{Point, Edge, turn}
 use Rattle.mesh_num.specs.Winding.{sum_of, crossing_of, crossing, total, IsBalanced, same_point}
 use Rattle.mesh_num.proofs.Whole.{linear, mul_one}
 use Rattle.mesh_num.proofs.Ring.{ring, var, lit, ◌⊕◌, ◌⊖◌, ◌⊗◌}
 use Rattle.mesh_num.proofs.Crossings.{crossing_low, crossing_high}
-use Rattle.mesh_num.proofs.Balance.{growth, growth_of_balanced, balanced_by_growth}
+use Rattle.mesh_num.proofs.Balance.{growth, growth_of_balanced}
 use Rattle.mesh_below.specs.Split.{back, same_ends, occurs, IsBetween}
 use Rattle.mesh_below.specs.Counted.{bit, net}
-use Rattle.mesh_below.specs.Boundary.{IsOn, IsClean, IsProper, winding_beside, left_winding, right_winding, rises, IsBoundary}
+use Rattle.mesh_below.specs.Boundary.{IsOn, IsClean, IsProper, winding_beside, left_winding, right_winding, IsBoundary}
 use Rattle.mesh_below.proofs.Ends.{decides_point}
-use Rattle.mesh_below.proofs.Places.{place, coordinates, turned, scaled}
-use Rattle.mesh_below.proofs.SidesConstant.{scale, part, winds, Each, each_more}
+use Rattle.mesh_below.proofs.Places.{place, coordinates, turned}
+use Rattle.mesh_below.proofs.SidesConstant.{scale, part, winds, Each}
 use Rattle.mesh_below.proofs.SidesClear.{Meeting, meeting_of}
-use Rattle.mesh_below.proofs.BoundaryKeys.{Leans, Distinct, IsKeys, keys, keys_are, grouped, occurs_head, occurs_ends}
+use Rattle.mesh_below.proofs.BoundaryKeys.{Leans, Distinct, grouped, occurs_head, occurs_ends}
 use Rattle.mesh_below.proofs.BoundaryGrids.{below_of, crossing_below, level_none, level_below_none, winds_finer}
 use Rattle.mesh_below.proofs.BoundaryLine.{Setting, crossing_back, inside_beside, above_place}
 use Rattle.mesh_below.proofs.BoundaryFill.{rises_flat, boundary_net, boundary_cover, crossing_below_back, fill_is, fill_is_below}

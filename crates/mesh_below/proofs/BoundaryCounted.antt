@@ -1,22 +1,22 @@
 -- Lemmas over points and lists: the edges that counted segments give are the boundary of the edges that they count.
-use Rattle.std.proofs.Common.{◌≡◌, ℕ, ◌+◌, ◌⊎◌, inl, inr, ⊎_elim, Bool, true, false, cond, ◌&&◌, ◌||◌, not, List, [], ◌∷◌, ◌++◌, refl, sym, ◌∙◌, ap, subst, arith}
-use Rattle.std.specs.Prelude.{ℤ, pos, neg_ℤ, ◌+ℤ◌, ◌-ℤ◌, ◌*ℤ◌, ◌≤ℤ◌, ◌<ℤ◌, count_by}
+use Rattle.std.proofs.Common.{◌≡◌, ℕ, ◌+◌, inl, inr, ⊎_elim, Bool, true, false, cond, ◌&&◌, not, List, [], ◌∷◌, ◌++◌, refl, sym, ◌∙◌, ap, subst, arith}
+use Rattle.std.specs.Prelude.{ℤ, pos, neg_ℤ, ◌+ℤ◌, ◌-ℤ◌, ◌*ℤ◌, ◌≤ℤ◌}
 use Rattle.std.specs.List.{flat_map}
 use Rattle.std.proofs.lemmas.Int.{ints}
-use Rattle.std.proofs.lemmas.Bool.{cases_Bool, both_ways, false≢true}
-use Rattle.std.proofs.lemmas.List.Sums.{sum_by-cons, sum_by-append}
-use Rattle.mesh_num.specs.Plane.{Point, Edge}
-use Rattle.mesh_num.specs.Winding.{sum_of, same_point, crossing_on, winding}
+use Rattle.std.proofs.lemmas.Bool.{cases_Bool, both_ways}
+use Rattle.std.proofs.lemmas.List.Sums.{sum_by-append}
+use Rattle.mesh_num.specs.Plane.{Edge}
+use Rattle.mesh_num.specs.Winding.{sum_of, same_point, crossing_on}
 use Rattle.mesh_num.proofs.Whole.{linear, add_mul, mul_add, mul_assoc, mul_one}
 use Rattle.mesh_below.specs.Split.{back, same_edge, same_ends, occurs}
 use Rattle.mesh_below.specs.Counted.{Counted, bit, along, net, counted_net, times, IsCountOf}
 use Rattle.mesh_below.specs.Boundary.{count, IsProper, IsBoundary, middle, rises, winding_beside, left_winding, right_winding}
 use Rattle.mesh_below.specs.CountedSides.{counted_winding, sides_by, sides_of, is_parted, boundary_edge}
-use Rattle.mesh_below.proofs.Ends.{decides_point, decides_edge, decides_ends, ends_self, along_self, not_along}
+use Rattle.mesh_below.proofs.Ends.{decides_edge, decides_ends, ends_self, along_self, not_along}
 use Rattle.mesh_below.proofs.Stages.{times_least, absent_net}
 use Rattle.mesh_below.proofs.SidesConstant.{Each, each_more}
 use Rattle.mesh_below.proofs.SidesClear.{proper_of}
-use Rattle.mesh_below.proofs.BoundaryKeys.{Leans, Distinct, IsKeys, keys, keys_are, grouped, pick, occurs_ends, leaning_either}
+use Rattle.mesh_below.proofs.BoundaryKeys.{Leans, Distinct, keys, keys_are, grouped, pick, leaning_either}
 use Rattle.mesh_below.proofs.BoundaryFill.{count_more, sides_back}
 use Rattle.mesh_below.proofs.BoundaryLine.{crossing_back}
 

@@ -1,20 +1,20 @@
 -- Lemmas over points and lists: the boundary's winding is 1 where the segments' winding is filled and 0 elsewhere.
-use Rattle.std.proofs.Common.{◌≡◌, ℕ, ◌+◌, ◌⊎◌, inl, inr, ⊎_elim, Bool, true, false, cond, ◌&&◌, ◌||◌, not, List, [], ◌∷◌, refl, sym, ◌∙◌, ap, subst, arith}
-use Rattle.std.specs.Prelude.{ℤ, pos, negsuc, neg_ℤ, ◌+ℤ◌, ◌-ℤ◌, ◌*ℤ◌, ◌≤ℤ◌, ◌<ℤ◌, int_lt, int_le, count_by}
+use Rattle.std.proofs.Common.{◌≡◌, ℕ, ◌+◌, ⊎_elim, Bool, true, false, cond, ◌&&◌, ◌||◌, not, List, [], ◌∷◌, refl, sym, ◌∙◌, ap, arith}
+use Rattle.std.specs.Prelude.{ℤ, pos, neg_ℤ, ◌+ℤ◌, ◌-ℤ◌, ◌*ℤ◌, ◌≤ℤ◌, ◌<ℤ◌, int_lt}
 use Rattle.std.specs.Ordering.{int_eq}
-use Rattle.std.proofs.lemmas.Int.{ints, by_lt_z}
+use Rattle.std.proofs.lemmas.Int.{ints}
 use Rattle.std.proofs.lemmas.Bool.{cases_Bool, false≢true, or_from, or_right, both_ways}
 use Rattle.std.proofs.lemmas.Bool.Decides.{Decides-int_eq}
 use Rattle.std.proofs.lemmas.List.Sums.{sum_by-cons}
-use Rattle.mesh_num.specs.Plane.{Point, Edge, turn, plus}
-use Rattle.mesh_num.specs.Winding.{sum_of, crossing, total, IsBalanced, winding}
+use Rattle.mesh_num.specs.Plane.{Point, Edge, turn}
+use Rattle.mesh_num.specs.Winding.{sum_of, crossing, winding}
 use Rattle.mesh_num.proofs.Whole.{linear}
 use Rattle.mesh_num.proofs.Crossings.{turn_flip}
 use Rattle.mesh_below.specs.Split.{back, same_edge, same_ends, occurs}
 use Rattle.mesh_below.specs.Counted.{bit, along, net}
-use Rattle.mesh_below.specs.Boundary.{count, IsClean, IsProper, middle, winding_beside, left_winding, right_winding, rises, IsBoundary}
+use Rattle.mesh_below.specs.Boundary.{count, winding_beside, left_winding, right_winding, rises, IsBoundary}
 use Rattle.mesh_below.proofs.SidesConstant.{scale, winds, Each}
-use Rattle.mesh_below.proofs.BoundaryKeys.{Leans, IsKeys, keys, keys_are, grouped, occurs_head, occurs_back, net_back, edge_back}
+use Rattle.mesh_below.proofs.BoundaryKeys.{Leans, grouped, occurs_head, occurs_back, net_back, edge_back}
 use Rattle.mesh_below.proofs.BoundaryGrids.{below_of, crossing_below}
 use Rattle.mesh_below.proofs.BoundaryFine.{Fine, fine_up, fine_down}
 use Rattle.mesh_below.proofs.BoundaryLine.{Setting, filled, crossing_back}

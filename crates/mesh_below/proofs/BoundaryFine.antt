@@ -5,12 +5,12 @@ use Rattle.std.specs.Prelude.{ℤ, pos, negsuc, neg_ℤ, ◌+ℤ◌, ◌-ℤ◌,
 use Rattle.std.proofs.lemmas.Int.{ints, by_lt_z}
 use Rattle.mesh_num.specs.Plane.{Point, Edge, turn}
 use Rattle.mesh_num.specs.Winding.{crossing_of, crossing}
-use Rattle.mesh_num.proofs.Whole.{linear, mul_assoc, mul_le_mul_left, mul_le_mul_right, mul_lt_mul_left, mul_pos, mul_nonneg_nonpos, mul_sub, mul_one, one_mul}
+use Rattle.mesh_num.proofs.Whole.{linear, mul_assoc, mul_le_mul_left, mul_le_mul_right, mul_lt_mul_left, mul_pos, mul_nonneg_nonpos, mul_one, one_mul}
 use Rattle.mesh_num.proofs.Ring.{ring, var, lit, ◌⊕◌, ◌⊖◌, ◌⊗◌}
 use Rattle.mesh_num.proofs.Crossings.{crossing_low, crossing_high}
 use Rattle.mesh_below.proofs.SidesConstant.{scale, Each}
 use Rattle.mesh_below.proofs.BoundaryKeys.{Leans}
-use Rattle.mesh_below.proofs.BoundaryGrids.{crossing_finer, scale_twice, crossing_below, below_of, level_none, level_below_none, Moves, crossing_up_moved, crossing_down_moved, Bound, bound, Divides, Multiple, multiple}
+use Rattle.mesh_below.proofs.BoundaryGrids.{crossing_finer, scale_twice, crossing_below, below_of, level_none, level_below_none, Moves, crossing_up_moved, crossing_down_moved, bound, Divides, multiple}
 
 -- the line at the height `h` of the grid `m` goes through a segment inside, at a whole place
 pub record Hit (m h : ℤ) (s : Edge) : Type 0 where

@@ -1,9 +1,9 @@
 -- Lemmas over whole numbers and points: crossings on finer grids, and at points moved by less than a step of a coarser one.
-use Rattle.std.proofs.Common.{◌≡◌, ◌⊎◌, inl, inr, ⊎_elim, Bool, true, false, cond, ◌&&◌, List, [], ◌∷◌, refl, sym, ◌∙◌, ap, subst, arith}
+use Rattle.std.proofs.Common.{◌≡◌, cond, ◌&&◌, List, [], ◌∷◌, refl, sym, ◌∙◌, ap, arith}
 use Rattle.std.specs.Prelude.{ℤ, pos, negsuc, neg_ℤ, ◌+ℤ◌, ◌-ℤ◌, ◌*ℤ◌, ◌≤ℤ◌, ◌<ℤ◌, int_lt, int_le}
 use Rattle.std.proofs.lemmas.Int.{ints, by_lt_z}
 use Rattle.mesh_num.specs.Plane.{Point, Edge, turn}
-use Rattle.mesh_num.specs.Winding.{crossing_of, crossing, total}
+use Rattle.mesh_num.specs.Winding.{crossing_of, crossing}
 use Rattle.mesh_num.proofs.Whole.{linear, mul_assoc, mul_le_mul_left, mul_lt_mul_left, mul_pos, mul_nonneg_nonpos, mul_pos_neg, mul_nonneg, mul_one, mul_add}
 use Rattle.mesh_num.proofs.Ring.{ring, var, ◌⊕◌, ◌⊖◌, ◌⊗◌}
 use Rattle.mesh_below.proofs.Places.{place, coordinates, turned, scaled}

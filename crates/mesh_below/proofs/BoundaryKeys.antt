@@ -1,17 +1,17 @@
 -- Lemmas over points and lists: a sum over edges, grouped by the segments on which they stand.
 use Rattle.std.proofs.Common.{◌≡◌, ◌⊎◌, inl, inr, ⊎_elim, Bool, true, false, cond, ◌&&◌, ◌||◌, List, [], ◌∷◌, refl, sym, ◌∙◌, ap, subst, arith}
-use Rattle.std.specs.Prelude.{ℤ, pos, neg_ℤ, ◌+ℤ◌, ◌-ℤ◌, ◌*ℤ◌, ◌≤ℤ◌, ◌<ℤ◌, int_lt}
+use Rattle.std.specs.Prelude.{ℤ, pos, neg_ℤ, ◌+ℤ◌, ◌*ℤ◌, ◌≤ℤ◌, ◌<ℤ◌, int_lt}
 use Rattle.std.specs.Ordering.{int_eq}
 use Rattle.std.proofs.lemmas.Bool.{false≢true, cases_Bool, or_right, or_parts, or_cases, and_parts}
 use Rattle.std.proofs.lemmas.Bool.Decides.{Decides-int_eq, Decides-like, same_from_decides}
 use Rattle.std.proofs.lemmas.Int.{ints, by_lt_z}
 use Rattle.mesh_num.specs.Plane.{Point, Edge}
 use Rattle.mesh_num.specs.Winding.{sum_of, same_point}
-use Rattle.mesh_num.proofs.Whole.{linear, add_mul, neg_mul, one_mul}
+use Rattle.mesh_num.proofs.Whole.{linear, add_mul, one_mul}
 use Rattle.mesh_below.specs.Split.{back, same_edge, same_ends, occurs}
 use Rattle.mesh_below.specs.Counted.{bit, along, net}
 use Rattle.mesh_below.specs.Boundary.{IsProper}
-use Rattle.mesh_below.proofs.Ends.{decides_point, decides_edge, decides_ends, ends_self, ends_turned, ends_sym, ends_along, along_turned, along_self, not_along}
+use Rattle.mesh_below.proofs.Ends.{decides_point, decides_edge, decides_ends, ends_self, ends_sym, ends_along, along_turned, along_self, not_along}
 use Rattle.mesh_below.proofs.SidesConstant.{Each}
 use Rattle.mesh_below.proofs.SidesClear.{each_of, proper_of}
 

@@ -1,12 +1,12 @@
 -- Lemmas over points and lists: along one line that meets segments inside, a function of the winding gains at each segment
 -- what it gains from one side to the other.
-use Rattle.std.proofs.Common.{◌≡◌, ◌⊎◌, inl, inr, ⊎_elim, Bool, true, false, cond, ◌&&◌, List, [], ◌∷◌, refl, sym, ◌∙◌, ap, subst, arith}
-use Rattle.std.specs.Prelude.{ℤ, pos, negsuc, neg_ℤ, ◌+ℤ◌, ◌-ℤ◌, ◌*ℤ◌, ◌≤ℤ◌, ◌<ℤ◌, int_lt, int_le}
+use Rattle.std.proofs.Common.{◌≡◌, ◌⊎◌, inl, inr, Bool, true, false, cond, List, [], ◌∷◌, refl, sym, ◌∙◌, ap, subst, arith}
+use Rattle.std.specs.Prelude.{ℤ, pos, neg_ℤ, ◌+ℤ◌, ◌-ℤ◌, ◌*ℤ◌, ◌≤ℤ◌, ◌<ℤ◌, int_lt}
 use Rattle.std.proofs.lemmas.Int.{ints, by_lt_z}
 use Rattle.std.proofs.lemmas.Bool.{or_parts, or_right}
 use Rattle.mesh_num.specs.Plane.{Point, Edge, turn}
-use Rattle.mesh_num.specs.Winding.{sum_of, crossing_of, crossing, total, IsBalanced}
-use Rattle.mesh_num.proofs.Whole.{linear, mul_pos, mul_nonneg_nonpos, mul_nonneg}
+use Rattle.mesh_num.specs.Winding.{sum_of, crossing_of, crossing, IsBalanced}
+use Rattle.mesh_num.proofs.Whole.{linear, mul_pos, mul_nonneg_nonpos}
 use Rattle.mesh_num.proofs.Ring.{ring, var, lit, ◌⊕◌, ◌⊖◌, ◌⊗◌}
 use Rattle.mesh_num.proofs.Crossings.{crossing_odd}
 use Rattle.mesh_below.specs.Split.{back, same_ends, occurs}
@@ -14,9 +14,9 @@ use Rattle.mesh_below.specs.Counted.{net}
 use Rattle.mesh_below.specs.Boundary.{IsOn, IsClean, IsProper, middle, winding_beside}
 use Rattle.mesh_below.proofs.Line.{past, past_yes, past_none, beyond, steps, Free, Scattered, telescope}
 use Rattle.mesh_below.proofs.Places.{place, coordinates, turned, scaled}
-use Rattle.mesh_below.proofs.SidesConstant.{scale, part, winds, Each, each_more, ClearOf, inside_same}
+use Rattle.mesh_below.proofs.SidesConstant.{scale, part, winds, Each, each_more, inside_same}
 use Rattle.mesh_below.proofs.SidesClear.{on_part, inner_no_end, Meeting, meeting_of, proper_of, clear_all}
-use Rattle.mesh_below.proofs.BoundaryKeys.{Leans, Distinct, IsKeys, keys_each, grouped, occurs_head}
+use Rattle.mesh_below.proofs.BoundaryKeys.{Distinct, IsKeys, keys_each, grouped, occurs_head}
 use Rattle.mesh_below.proofs.BoundaryGrids.{winds_finer}
 use Rattle.mesh_below.proofs.BoundaryFine.{Hit, Met, idle, hit, Fine}
 

@@ -1,20 +1,20 @@
 -- Lemmas over points and lists: the segments have the winding of the given edges at every point in the box of no bent edge.
-use Rattle.std.proofs.Common.{◌≡◌, ◌⊎◌, inl, inr, ⊎_elim, Bool, true, false, cond, ◌||◌, not, List, [], ◌∷◌, ◌++◌, refl, sym, ◌∙◌, ap, subst, arith, append_assoc}
-use Rattle.std.specs.Prelude.{ℤ, pos, negsuc, neg_ℤ, ◌+ℤ◌, ◌-ℤ◌, ◌*ℤ◌, ◌≤ℤ◌, ◌<ℤ◌}
+use Rattle.std.proofs.Common.{◌≡◌, ⊎_elim, Bool, true, false, cond, not, List, [], ◌∷◌, ◌++◌, refl, sym, ◌∙◌, ap, subst, arith, append_assoc}
+use Rattle.std.specs.Prelude.{ℤ, pos, ◌+ℤ◌, ◌-ℤ◌, ◌*ℤ◌, ◌≤ℤ◌, ◌<ℤ◌}
 use Rattle.std.specs.Ordering.{int_eq}
 use Rattle.std.specs.List.{list_any}
 use Rattle.std.proofs.lemmas.Int.{ints, by_lt_z}
-use Rattle.std.proofs.lemmas.Bool.{cases_Bool, or_parts, both_ways, or_right}
+use Rattle.std.proofs.lemmas.Bool.{cases_Bool, or_parts, or_right}
 use Rattle.std.proofs.lemmas.Bool.Decides.{Decides-int_eq}
 use Rattle.mesh_num.specs.Plane.{Point, Edge, turn}
-use Rattle.mesh_num.specs.Winding.{sum_of, crossing, total, IsBalanced}
-use Rattle.mesh_num.proofs.Whole.{linear, mul_pos, mul_nonneg, mul_pos_neg, mul_nonneg_nonpos, mul_neg_pos, mul_both_neg, mul_nonpos, mul_nonpos_nonneg, pos_of_mul, neg_of_mul, nonpos_of_mul, nonneg_of_mul, mul_lt_mul_left, mul_le_mul_left, factor}
+use Rattle.mesh_num.specs.Winding.{crossing, total, IsBalanced}
+use Rattle.mesh_num.proofs.Whole.{linear, mul_pos, mul_nonneg, mul_pos_neg, mul_nonneg_nonpos, mul_neg_pos, mul_nonpos, mul_nonpos_nonneg, pos_of_mul, neg_of_mul, nonpos_of_mul, nonneg_of_mul, mul_le_mul_left, factor}
 use Rattle.mesh_num.proofs.Ring.{ring, var, lit, ◌⊕◌, ◌⊖◌, ◌⊗◌}
 use Rattle.mesh_num.proofs.Crossings.{crossing_low, crossing_high, turn_flip}
 use Rattle.mesh_num.proofs.Sums.{total_append}
 use Rattle.mesh_num.proofs.Balance.{growth, growth_of_balanced, balanced_by_growth}
 use Rattle.mesh_below.specs.Split.{back, same_ends, occurs, IsInBox, IsBetween, Cut, pieces, cut, after, path}
-use Rattle.mesh_below.specs.Regions.{is_bent, OutsideBent}
+use Rattle.mesh_below.specs.Regions.{is_bent}
 use Rattle.mesh_below.proofs.Ends.{decides_ends}
 use Rattle.mesh_below.proofs.Places.{place, coordinates, turned, scaled}
 use Rattle.mesh_below.proofs.SidesPotential.{above, crosses_west, crosses_east}
@@ -293,7 +293,7 @@ box_back e c h = record {
 abbrev pub Boxed : List Cut → Type 0
 Boxed ks = Each (λ (k : Cut). IsInBox k.ends k.at) ks
 
-cut_box : (k : Cut) (f : Edge) → IsInBox k.ends k.at → same_ends f k.ends ≡ true → IsInBox f k.at
+pub cut_box : (k : Cut) (f : Edge) → IsInBox k.ends k.at → same_ends f k.ends ≡ true → IsInBox f k.at
 cut_box k f h t =
     ⊎_elim (λ (x : f ≡ k.ends). subst (λ (d : Edge). IsInBox d k.at) (sym x) h)
     (λ (x : f ≡ back k.ends). box_back f k.at (subst (λ (d : Edge). IsInBox d k.at) (ap back (sym x)) h))

@@ -3,7 +3,7 @@ use Rattle.std.proofs.Common.{◌≡◌, ℕ, ◌+◌, ◌<◌, ◌≤◌, ◌�
 use Rattle.std.specs.Prelude.{ℤ, pos, neg_ℤ, ◌+ℤ◌, ◌-ℤ◌, ◌*ℤ◌, ◌≤ℤ◌, ◌<ℤ◌, int_lt}
 use Rattle.std.specs.Ordering.{int_eq}
 use Rattle.std.specs.List.{All}
-use Rattle.std.proofs.lemmas.Int.{ints, by_lt_z}
+use Rattle.std.proofs.lemmas.Int.{ints}
 use Rattle.std.proofs.lemmas.Bool.{cases_Bool, both_ways, or_from}
 use Rattle.std.proofs.lemmas.Bool.Decides.{Decides-int_eq}
 use Rattle.std.proofs.lemmas.List.Elements.{All-nil, All-cons, All-head, All-tail}
@@ -12,10 +12,10 @@ use Rattle.std.proofs.Math.Seq.{drop-cons}
 use Rattle.mesh_num.specs.Plane.{Point, Edge, minus, cross, dot}
 use Rattle.mesh_num.specs.Order.{point_lt}
 use Rattle.mesh_num.specs.Winding.{sum_of, route, boundary, same_point}
-use Rattle.mesh_num.proofs.Whole.{linear, mul_pos, mul_both_neg, mul_neg_pos, mul_pos_neg, factor, pos_of_mul, neg_mul, square_nonneg}
-use Rattle.mesh_num.proofs.Ring.{ring, var, neg, ◌⊕◌, ◌⊖◌, ◌⊗◌}
+use Rattle.mesh_num.proofs.Whole.{linear, mul_both_neg, mul_neg_pos, pos_of_mul, neg_mul, square_nonneg}
+use Rattle.mesh_num.proofs.Ring.{ring, var, ◌⊕◌, ◌⊖◌, ◌⊗◌}
 use Rattle.mesh_num.proofs.ClosedLists.{boundary_rotated}
-use Rattle.mesh_below.specs.Contours.{is_corner, first_or, corners, kept, next_kept, vertices, edge_lt, FirstIsLeast, StartIsLeast, IsBegun, side_point, point_at, next_at, IsBestVisit, IsLeastBefore, IsRingOf}
+use Rattle.mesh_below.specs.Contours.{is_corner, first_or, corners, kept, next_kept, vertices, edge_lt, FirstIsLeast, IsBegun, side_point, point_at, next_at, IsBestVisit, IsLeastBefore, IsRingOf}
 use Rattle.mesh_below.specs.Counted.{bit}
 use Rattle.mesh_below.proofs.Ends.{decides_point}
 use Rattle.mesh_below.proofs.SidesConstant.{Each, each_more}

@@ -1,15 +1,14 @@
 -- Lemmas over points and lists: a closed list without the points that it runs straight through winds as the whole list.
-use Rattle.std.proofs.Common.{◌≡◌, ℕ, ◌⊎◌, inl, inr, ⊎_elim, Bool, true, false, cond, not, ◌||◌, List, [], ◌∷◌, refl, sym, ◌∙◌, ap, subst, arith}
-use Rattle.std.specs.Prelude.{ℤ, pos, neg_ℤ, ◌+ℤ◌, ◌-ℤ◌, ◌*ℤ◌, ◌≤ℤ◌, ◌<ℤ◌, int_lt}
+use Rattle.std.proofs.Common.{◌≡◌, ℕ, ◌⊎◌, inl, inr, Bool, true, false, cond, not, List, [], ◌∷◌, refl, sym, ◌∙◌, ap, subst, arith}
+use Rattle.std.specs.Prelude.{ℤ, pos, neg_ℤ, ◌+ℤ◌, int_lt}
 use Rattle.std.specs.Ordering.{int_eq}
-use Rattle.std.proofs.lemmas.Int.{ints, by_lt_z}
-use Rattle.std.proofs.lemmas.Bool.{cases_Bool, or_parts}
+use Rattle.std.proofs.lemmas.Bool.{or_parts}
 use Rattle.std.proofs.lemmas.Bool.Decides.{Decides-int_eq}
 use Rattle.mesh_num.specs.Plane.{Point, Edge, turn, minus, cross, dot}
 use Rattle.mesh_num.specs.Winding.{total, route, boundary, winding, IsStraight, crossing_on}
 use Rattle.mesh_num.proofs.Whole.{linear}
-use Rattle.mesh_num.proofs.Ring.{ring, var, lit, neg, ◌⊕◌, ◌⊖◌, ◌⊗◌}
-use Rattle.mesh_num.proofs.Crossings.{turn_swap, turn_cycle, crossing_on_same}
+use Rattle.mesh_num.proofs.Ring.{ring, lit, neg}
+use Rattle.mesh_num.proofs.Crossings.{turn_swap, turn_cycle}
 use Rattle.mesh_num.proofs.Triangles.{crossing_on_straight}
 use Rattle.mesh_below.specs.Contours.{is_corner, first_or, corners, vertices}
 use Rattle.mesh_below.proofs.Places.{place, coordinates, turned, crossed, apart}

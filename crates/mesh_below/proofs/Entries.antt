@@ -4,12 +4,13 @@ use Rattle.std.specs.Prelude.{ℤ, pos, ◌+ℤ◌, ◌≤ℤ◌, ◌<ℤ◌, If
 use Rattle.std.specs.declared.cmp.Ordering.TheVariants.{Less, Equal, Greater}
 use Rattle.std.specs.BTreeMap.{insert_entry, is_at}
 use Rattle.std.specs.List.{All}
-use Rattle.std.specs.Map.{lookup, keys_of}
+use Rattle.std.specs.Map.{lookup, keys_of, remove_entry}
 use Rattle.std.specs.Ordering.{int_cmp, is_eq, ordering_then, match_ordering}
 use Rattle.std.proofs.lemmas.Bool.{both_ways, cases_Bool}
 use Rattle.std.proofs.lemmas.Bool.Decides.{Decides-int_eq}
 use Rattle.std.proofs.lemmas.Int.{ints}
 use Rattle.std.proofs.lemmas.List.Elements.{All-head, All-tail}
+use Rattle.std.proofs.lemmas.Map.Views.{All-map-remove_entry}
 use mir.Syntax.{w128}
 use mir.Val.{to_z, of_z, SFits}
 use Rattle.mesh_num.specs.Bounds.{IsSmall}
@@ -19,7 +20,7 @@ use Rattle.mesh_num.specs.Winding.{same_point, sum_of}
 use Rattle.mesh_num.proofs.Whole.{linear}
 use Rattle.mesh_below.specs.Split.{back, same_edge, same_ends}
 use Rattle.mesh_below.specs.Counted.{Counted, bit, times}
-use Rattle.mesh_below.specs.Steps.{exactly, IsRaised, IsNew, IsForward, HaveRoom, size}
+use Rattle.mesh_below.specs.Steps.{exactly, IsTaken, IsRaised, IsNew, IsForward, HaveRoom, size}
 use Rattle.mesh_below.proofs.Ends.{decides_point, decides_edge, decides_ends}
 use Rattle.mesh_below.proofs.Arithmetic.{small_kept, small_fits}
 use Rattle.mesh_below.proofs.Stages.{bit_least}
@@ -250,3 +251,53 @@ pub count_kept : (ks : List Counted) (k : Counted) → HaveRoom ks k → to_z w1
 count_kept ks k room =
     let b : IsSmall (2 ^ 121) k.1 = record { low = omega (arith, ints, room, size_least ks); high = omega (arith, ints, room, size_least ks) } in
     small_kept (2 ^ 121) k.1 (lit≤ tt) b
+
+-- ---- an entry taken out
+
+pub first_taken : (o : Option Counted) (old new : List Counted) → IfSome o (λ k. old ≡ k ∷ new) → IfSome o (λ k. IsTaken old new k)
+first_taken None old new s = tt
+first_taken (Some k) old new s = λ (g : Counted → ℤ). ap (sum_of g) s ∙ omega (arith, linear)
+
+entry_taken : (k : Edge) (m : ℤ) (es : List Counted) → found k es ≡ Some m → IsTaken es (remove_entry (is_at (edge_cmp k)) es) (k, m)
+entry_taken k m [] h g = absurd (none_some h)
+  where
+    none_some : {m : ℤ} → None ≡ Some m → ⊥
+    none_some h = cc
+entry_taken k m (e ∷ es) h g =
+    ⊎_elim
+    (λ (t : is_eq (edge_cmp k e.0) ≡ true).
+    let value : Some e.1 ≡ Some m = ap (λ (b : Bool). cond b (Some e.1) (found k es)) (sym t) ∙ h in
+    let count : e.1 ≡ m = cc in
+    let ends : k ≡ e.0 = edge_equal k e.0 t in
+    let same : g e ≡ g (k, m) = λ i. g (sym ends i, count i) in
+    let left : sum_of g (cond (is_eq (edge_cmp k e.0)) es (e ∷ remove_entry (is_at (edge_cmp k)) es)) ≡ sum_of g es = ap (λ (b : Bool). sum_of g (cond b es (e ∷ remove_entry (is_at (edge_cmp k)) es))) t in
+    omega (arith, linear, same, left))
+    (λ (f : is_eq (edge_cmp k e.0) ≡ false).
+    let rest = entry_taken k m es (ap (λ (b : Bool). cond b (Some e.1) (found k es)) (sym f) ∙ h) g in
+    let left : sum_of g (cond (is_eq (edge_cmp k e.0)) es (e ∷ remove_entry (is_at (edge_cmp k)) es)) ≡ g e +ℤ sum_of g (remove_entry (is_at (edge_cmp k)) es) =
+    ap (λ (b : Bool). sum_of g (cond b es (e ∷ remove_entry (is_at (edge_cmp k)) es))) f in
+    omega (arith, linear, rest, left))
+    (cases_Bool (is_eq (edge_cmp k e.0)))
+
+-- the entry that was removed is that of the ends asked for
+same_ends_asked : (k : Edge) (s : Counted) → edge_cmp k s.0 ≡ Equal → s ≡ (k, s.1)
+same_ends_asked k s e = let ends : k ≡ s.0 = edge_equal k s.0 (ap is_eq e) in λ i. (sym ends i, s.1)
+
+pub removed_taken : (k : Edge) (was es left : List Counted) (s : Counted) → es ≡ was → left ≡ remove_entry (is_at (edge_cmp k)) es → edge_cmp k s.0 ≡ Equal → Some s.1 ≡ lookup (is_at (edge_cmp k)) es →
+    IsTaken was left s
+removed_taken k was es left s same removed key value =
+    subst (λ (x : List Counted × (List Counted × Counted)). IsTaken x.0 x.1.0 x.1.1) (λ i. (same i, (sym removed i, sym (same_ends_asked k s key) i)))
+    (entry_taken k s.1 es (sym value))
+
+pub removed_left : (k : Edge) (was es left : List Counted) → es ≡ was → left ≡ remove_entry (is_at (edge_cmp k)) es → All IsForward (keys_of was) → All IsForward (keys_of left)
+removed_left k was es left same removed all =
+    subst (λ (ks : List Counted). All IsForward (keys_of ks)) (sym removed)
+    (All-map-remove_entry (is_at (edge_cmp k)) (λ (e : Counted). e.0) IsForward es (subst (λ (ks : List Counted). All IsForward (keys_of ks)) (sym same) all))
+
+pub removed_forward : (k : Edge) (was es : List Counted) (s : Counted) → es ≡ was → edge_cmp k s.0 ≡ Equal → Some s.1 ≡ lookup (is_at (edge_cmp k)) es → All IsForward (keys_of was) → IsForward s.0
+removed_forward k was es s same key value all =
+    subst IsForward (edge_equal k s.0 (ap is_eq key))
+    (by_found (λ (es : List Counted). All IsForward (keys_of es) → IsForward k) k s.1
+    (λ (es : List Counted) (a : All IsForward (keys_of ((k, s.1) ∷ es))). All-head IsForward k (keys_of es) a)
+    (λ (e : Counted) (es : List Counted) (p : All IsForward (keys_of es) → IsForward k) (a : All IsForward (keys_of (e ∷ es))). p (All-tail IsForward e.0 (keys_of es) a))
+    es (sym value) (subst (λ (ks : List Counted). All IsForward (keys_of ks)) (sym same) all))

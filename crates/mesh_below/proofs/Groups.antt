@@ -1,23 +1,22 @@
 -- Lemmas over points and lists: rings in order, and where each of them belongs.
-use Rattle.std.proofs.Common.{◌≡◌, ◌≢◌, ℕ, ◌+◌, ◌<◌, ◌≤◌, ◌⊎◌, inl, inr, ⊎_elim, zero, suc, Bool, true, false, cond, not, ◌||◌, ◌&&◌, List, [], ◌∷◌, ◌++◌, map, length, drop, take, get_or, below_more, refl, sym, ◌∙◌, ap, subst, arith}
-use Rattle.std.specs.Prelude.{ℤ, pos, ◌≤ℤ◌, ◌<ℤ◌, int_lt, nat_eq, Option, Some, None, MatchOption, Vec}
+use Rattle.std.proofs.Common.{◌≡◌, ℕ, ◌+◌, ◌<◌, ◌≤◌, ⊎_elim, zero, suc, Bool, true, false, cond, not, ◌||◌, ◌&&◌, List, [], ◌∷◌, map, length, drop, get_or, below_more, refl, sym, ◌∙◌, ap, subst, arith}
+use Rattle.std.specs.Prelude.{ℤ, pos, ◌≤ℤ◌, ◌<ℤ◌, int_lt, nat_eq, Option, Some, None, MatchOption}
 use Rattle.std.specs.Ordering.{int_eq, int_cmp, ordering_then, is_lt, is_eq}
 use Rattle.std.specs.declared.cmp.Ordering.{Ordering}
 use Rattle.std.specs.declared.cmp.Ordering.TheVariants.{Less, Equal, Greater}
-use Rattle.std.specs.declared.alloc.Global.{Global}
 use Rattle.std.specs.Cmp.Lexicographic.{slice_cmp}
-use Rattle.std.specs.List.{filter, list_any, enumerate_from}
-use Rattle.std.specs.List.Sorted.{IsSorted, IsSortedBy, IsPermutation}
+use Rattle.std.specs.List.{list_any, enumerate_from}
+use Rattle.std.specs.List.Sorted.{IsSorted, IsSortedBy}
 use Rattle.std.proofs.lemmas.Int.{ints, by_lt_z}
-use Rattle.std.proofs.lemmas.Bool.{cases_Bool, both_ways, true≢false, and_parts, or_from, eqb-true, eq-eqb}
+use Rattle.std.proofs.lemmas.Bool.{cases_Bool, both_ways, and_parts, or_from, eqb-true, eq-eqb}
 use Rattle.std.proofs.lemmas.Bool.Decides.{Decides-int_eq}
 use Rattle.std.proofs.Math.Seq.{drop-cons}
 use Rattle.mesh_num.specs.Plane.{Point}
 use Rattle.mesh_num.specs.Order.{point_lt}
-use Rattle.mesh_num.specs.Winding.{same_point, holds}
+use Rattle.mesh_num.specs.Winding.{holds}
 use Rattle.mesh_below.specs.Contours.{double_area}
-use Rattle.mesh_below.specs.Resolution.{Ring, Placed, points_lt, is_positive, is_round, is_before, is_head, stands_with, shape_of, shapes_of, answered}
-use Rattle.mesh_below.specs.Grouping.{Held, view, views, ring_at, placed, areas_of, is_round_at, NoneRound, IsHolder, IsHome, heads, stands, points_of}
+use Rattle.mesh_below.specs.Resolution.{Ring, Placed, points_lt, is_positive, is_round, is_before, is_head, stands_with}
+use Rattle.mesh_below.specs.Grouping.{Held, view, views, ring_at, placed, areas_of, is_round_at, NoneRound, IsHolder, IsHome, heads, stands}
 
 -- ---- what stands at a place
 get_map : {A B : Type 0} (f : A → B) (xs : List A) (i : ℕ) (d : A) (e : B) → i < length xs → get_or (map f xs) i e ≡ f (get_or xs i d)

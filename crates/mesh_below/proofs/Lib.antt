@@ -1,5 +1,8 @@
+pub mod AnswerPoints
+pub mod AnswerRegions
 pub mod AreaSums
 pub mod Arithmetic
+pub mod Asking
 pub mod BoundaryBalance
 pub mod BoundaryCounted
 pub mod BoundaryFill
@@ -21,6 +24,7 @@ pub mod Groups
 pub mod Line
 pub mod Live
 pub mod Meeting
+pub mod Partition
 pub mod Paths
 pub mod Places
 pub mod Resolving
@@ -35,3 +39,4 @@ pub mod Stages
 pub mod Starting
 pub mod Subjects
 pub mod Walking
+pub mod NoShapes

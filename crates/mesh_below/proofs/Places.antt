@@ -1,8 +1,8 @@
 -- Lemmas over whole numbers: words for polynomials in the coordinates of points, for the solver of identities.
 use Rattle.std.proofs.Common.{ℕ, ◌*◌, ◌+◌, List, [], ◌∷◌}
-use Rattle.std.specs.Prelude.{ℤ, pos}
+use Rattle.std.specs.Prelude.{ℤ}
 use Rattle.mesh_num.specs.Plane.{Point}
-use Rattle.mesh_num.proofs.Ring.{Expr, var, lit, ◌⊕◌, ◌⊖◌, ◌⊗◌}
+use Rattle.mesh_num.proofs.Ring.{Expr, var, ◌⊖◌, ◌⊗◌}
 
 abbrev pub Place : Type 0
 Place = Expr × Expr

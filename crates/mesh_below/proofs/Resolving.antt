@@ -1,13 +1,12 @@
 -- Lemmas over lists: the rings of contours, and the whole way from edges to shapes.
-use Rattle.std.proofs.Common.{◌≡◌, ℕ, ◌+◌, ◌<◌, ◌≤◌, ◌^◌, ◌||◌, Bool, true, false, cond, not, ◌&&◌, List, [], ◌∷◌, ◌++◌, map, length, take, get_or, zero, suc, refl, sym, ◌∙◌, ap, subst, arith}
+use Rattle.std.proofs.Common.{◌≡◌, ℕ, ◌+◌, ◌<◌, ◌≤◌, ◌^◌, ◌||◌, Bool, true, false, cond, List, [], ◌∷◌, ◌++◌, map, length, take, get_or, zero, suc, refl, sym, ◌∙◌, ap, subst, arith}
 use Rattle.std.specs.Prelude.{ℤ, pos, ◌+ℤ◌, Vec}
 use Rattle.std.specs.List.{All, filter, flat_map}
 use Rattle.std.specs.declared.alloc.Global.{Global}
 use Rattle.std.proofs.lemmas.Bool.{or_right}
 use Rattle.std.proofs.lemmas.Grind.{flat_map-append}
-use Rattle.std.proofs.lemmas.Int.{ints}
 use Rattle.std.proofs.lemmas.List.{append-nil, map-append, take_more, take_all}
-use Rattle.std.proofs.lemmas.List.Elements.{All-nil, All-cons, All-head, All-tail, All-append, All-push, filter-append}
+use Rattle.std.proofs.lemmas.List.Elements.{All-nil, All-cons, All-head, All-tail, All-push, filter-append}
 use Rattle.mesh_num.proofs.Sums.{sum_of_append}
 use Rattle.mesh_num.specs.Bounds.{IsSafe}
 use Rattle.mesh_num.specs.Plane.{Point, Edge}
@@ -15,12 +14,11 @@ use Rattle.mesh_num.specs.Winding.{IsBalanced, sum_of, boundary, same_point}
 use Rattle.mesh_below.proofs.BoundaryBalance.{boundary_is_balanced}
 use Rattle.mesh_below.proofs.BoundaryFill.{boundary_cover}
 use Rattle.mesh_below.proofs.BoundaryKeys.{keys, keys_are}
-use Rattle.mesh_below.proofs.BoundaryLine.{Setting}
 use Rattle.mesh_below.proofs.Ends.{ends_self}
 use Rattle.mesh_below.proofs.Walking.{counts_same}
 use Rattle.mesh_below.specs.Boundary.{count, IsBoundary, IsProper}
 use Rattle.mesh_below.specs.Contours.{IsBegun, IsRingOf}
-use Rattle.mesh_below.specs.Counted.{Counted, IsCountOf}
+use Rattle.mesh_below.specs.Counted.{Counted}
 use Rattle.mesh_below.specs.Grouping.{Held, view, views, AreRingsOf, PushesRing}
 use Rattle.mesh_below.specs.Resolution.{Choices, Ring, ring_of, is_large, AreArranged, IsResolution}
 use Rattle.mesh_below.specs.Split.{occurs, after, same_ends}
@@ -104,11 +102,11 @@ pub rings_all : (all : Bool) (least : ℕ) (given : List (Vec Point Global)) (n 
 rings_all all least given n rings h = subst (λ (cs : List (Vec Point Global)). AreRingsOf all least cs rings) (take_all n given h)
 
 -- ---- what holds of all edges of contours holds of those of one
-all_left : {X : Type 0} (P : X → Type 0) (xs ys : List X) → All P (xs ++ ys) → All P xs
+pub all_left : {X : Type 0} (P : X → Type 0) (xs ys : List X) → All P (xs ++ ys) → All P xs
 all_left P [] ys h = All-nil P
 all_left P (x ∷ xs) ys h = All-cons P x xs (All-head P x (xs ++ ys) h) (all_left P xs ys (All-tail P x (xs ++ ys) h))
 
-all_right : {X : Type 0} (P : X → Type 0) (xs ys : List X) → All P (xs ++ ys) → All P ys
+pub all_right : {X : Type 0} (P : X → Type 0) (xs ys : List X) → All P (xs ++ ys) → All P ys
 all_right P [] ys h = h
 all_right P (x ∷ xs) ys h = all_right P xs ys (All-tail P x (xs ++ ys) h)
 

@@ -2,14 +2,13 @@
 use Rattle.std.proofs.Common.{zero, suc, ⊎_elim, ◌≡◌, ℕ, ◌+◌, ◌<◌, ◌≤◌, Bool, true, false, cond, not, ◌&&◌, List, [], ◌∷◌, ◌++◌, map, length, drop, get_or, below_more, refl, sym, ◌∙◌, ap, subst, arith, append_assoc}
 use Rattle.std.specs.Prelude.{ℤ, pos, int_lt, nat_eq, Option, Some, None, MatchOption, Vec}
 use Rattle.std.specs.Option.{ForSome}
-use Rattle.std.specs.List.{All, filter, enumerate_from}
-use Rattle.std.specs.List.Sorted.{IsPermutation}
+use Rattle.std.specs.List.{filter, enumerate_from}
 use Rattle.std.specs.declared.alloc.Global.{Global}
 use Rattle.std.proofs.lemmas.Bool.{cases_Bool, both_ways, eqb-true, eq-eqb}
 use Rattle.std.proofs.lemmas.List.{append-nil, map-append, length-append}
 use Rattle.mesh_num.specs.Plane.{Point}
 use Rattle.mesh_num.specs.Winding.{holds}
-use Rattle.mesh_below.specs.Resolution.{Ring, Placed, is_positive, is_head, stands_with, shape_of, shapes_of, answered}
+use Rattle.mesh_below.specs.Resolution.{Ring, Placed, is_head, shape_of, shapes_of, answered}
 use Rattle.mesh_below.specs.Grouping.{Held, view, views, ring_at, placed, areas_of, is_round_at, NoneRound, IsHolder, IsHome, points_of}
 use Rattle.mesh_below.proofs.Groups.{length_map, view_at, area_at, positive_at, holder_no_less, holder_first, holder_less, home_alone, home_held, is_member, member_test, head_test, place_next, places_none, places_all}
 

@@ -1,5 +1,5 @@
 -- Lemmas over points and lists: segments that share only ends keep clear of one another's insides.
-use Rattle.std.proofs.Common.{◌≡◌, ℕ, ◌<◌, ◌⊎◌, inl, inr, ⊎_elim, zero, suc, Bool, true, false, ◌||◌, List, [], ◌∷◌, refl, sym, ◌∙◌, ap, subst, arith}
+use Rattle.std.proofs.Common.{◌≡◌, ℕ, ◌<◌, ◌⊎◌, inl, inr, ⊎_elim, true, false, ◌||◌, List, [], ◌∷◌, refl, sym, ◌∙◌, ap, subst, arith}
 use Rattle.std.specs.Prelude.{ℤ, pos, negsuc, neg_ℤ, ◌+ℤ◌, ◌-ℤ◌, ◌*ℤ◌, ◌≤ℤ◌, ◌<ℤ◌}
 use Rattle.std.proofs.lemmas.Bool.{both_ways, cases_Bool, or_right}
 use Rattle.std.proofs.lemmas.Int.{ints, by_lt_z}
@@ -8,8 +8,8 @@ use Rattle.mesh_num.specs.Winding.{same_point}
 use Rattle.mesh_num.proofs.Whole.{linear, factor, mul_nonneg, mul_nonneg_nonpos, le_of_mul_le_mul}
 use Rattle.mesh_num.proofs.Ring.{ring, var, lit, neg, ◌⊕◌, ◌⊖◌, ◌⊗◌}
 use Rattle.mesh_num.proofs.Crossings.{turn_flip}
-use Rattle.mesh_below.specs.Split.{back, same_ends, occurs, is_end, IsInBox, IsBetween}
-use Rattle.mesh_below.specs.Boundary.{IsOn, ShareEnds, refined_edge, IsClean, IsProper}
+use Rattle.mesh_below.specs.Split.{back, same_ends, occurs, IsBetween}
+use Rattle.mesh_below.specs.Boundary.{IsOn, refined_edge, IsClean, IsProper}
 use Rattle.mesh_below.proofs.Ends.{decides_point, decides_ends, decides_end, ends_self}
 use Rattle.mesh_below.proofs.Places.{place, coordinates, turned, scaled}
 use Rattle.mesh_below.proofs.SidesConstant.{scale, part, Clear, on_left, on_right, ahead, behind, along, ClearOf, Each}

@@ -1,13 +1,12 @@
 -- Lemmas over whole numbers and lists: sums of counts, as 128 bits hold them.
-use Rattle.std.proofs.Common.{◌≡◌, ℕ, ◌+◌, ◌<◌, ◌≤◌, ◌^◌, List, [], ◌∷◌, take, length, get_or, add-one, max, ◌*◌, refl, sym, ◌∙◌, ap, subst, arith, zero, suc, lit≤}
-use Rattle.std.specs.Prelude.{ℤ, pos, neg_ℤ, ◌+ℤ◌, ◌-ℤ◌, ◌*ℤ◌, ◌≤ℤ◌, ◌<ℤ◌, unsigned_abs}
-use Rattle.std.proofs.lemmas.Int.{ints, by_lt_z, to_z-of_z}
+use Rattle.std.proofs.Common.{◌≡◌, ℕ, ◌+◌, ◌<◌, ◌≤◌, ◌^◌, List, [], ◌∷◌, take, length, get_or, add-one, max, ◌*◌, refl, sym, ◌∙◌, ap, arith, zero, suc}
+use Rattle.std.specs.Prelude.{ℤ, pos, neg_ℤ, ◌+ℤ◌, ◌*ℤ◌, ◌≤ℤ◌, ◌<ℤ◌, unsigned_abs}
+use Rattle.std.proofs.lemmas.Int.{ints, to_z-of_z}
 use mir.Syntax.{w128}
 use mir.Val.{SFits, to_z, of_z}
 use Rattle.mesh_num.specs.Bounds.{IsSmall}
-use Rattle.mesh_num.specs.Plane.{Point, Edge}
-use Rattle.mesh_num.specs.Winding.{sum_of, crossing_on}
-use Rattle.mesh_num.proofs.Whole.{linear, mul_one, mul_neg}
+use Rattle.mesh_num.specs.Winding.{sum_of}
+use Rattle.mesh_num.proofs.Whole.{mul_one, mul_neg}
 use Rattle.mesh_below.specs.Counted.{Counted}
 use Rattle.std.proofs.Math.Nat.{mul-le-mul_left}
 use Rattle.mesh_below.specs.Steps.{size, weight, total_weight, extent}

@@ -1,14 +1,14 @@
 -- Lemmas over points and lists: a balanced list has one winding at all points inside a segment that its edges keep clear of.
-use Rattle.std.proofs.Common.{◌≡◌, ◌⊎◌, inl, inr, List, [], ◌∷◌, refl, sym, ◌∙◌, ap, subst, arith}
+use Rattle.std.proofs.Common.{◌≡◌, List, [], ◌∷◌, refl, sym, ◌∙◌, ap, subst, arith}
 use Rattle.std.specs.Prelude.{ℤ, pos, neg_ℤ, ◌+ℤ◌, ◌-ℤ◌, ◌*ℤ◌, ◌≤ℤ◌, ◌<ℤ◌}
 use Rattle.std.proofs.lemmas.Int.{ints, by_lt_z}
 use Rattle.mesh_num.specs.Plane.{Point, Edge, turn}
 use Rattle.mesh_num.specs.Winding.{crossing, total, IsBalanced}
-use Rattle.mesh_num.proofs.Whole.{linear, mul_nonneg, mul_pos, mul_pos_neg, mul_nonneg_nonpos, mul_neg, neg_mul}
-use Rattle.mesh_num.proofs.Ring.{ring, var, ◌⊕◌, ◌⊖◌, ◌⊗◌, neg, lit, Expr}
+use Rattle.mesh_num.proofs.Whole.{linear, mul_nonneg, mul_pos, mul_pos_neg, mul_neg}
+use Rattle.mesh_num.proofs.Ring.{ring, var, ◌⊕◌, ◌⊖◌, ◌⊗◌, lit}
 use Rattle.mesh_num.proofs.Crossings.{turn_flip}
 use Rattle.mesh_num.proofs.Balance.{growth, growth_of_balanced}
-use Rattle.mesh_below.proofs.Places.{Place, place, coordinates, turned, scaled}
+use Rattle.mesh_below.proofs.Places.{place, coordinates, turned, scaled}
 use Rattle.mesh_below.proofs.SidesPotential.{Parted, edge_left, edge_right, way_left, way_right, one_line, potential, east}
 
 -- a point on the grid that is `m` times finer, `m` any whole number

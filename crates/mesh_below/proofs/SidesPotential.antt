@@ -1,12 +1,12 @@
 -- Lemmas over whole numbers and points: an edge that a line parts from the way between two points has crossings
 -- at the two that differ by a number of its ends alone.
-use Rattle.std.proofs.Common.{◌≡◌, ◌⊎◌, inl, inr, List, [], ◌∷◌, cond, ◌&&◌, refl, sym, ◌∙◌, ap, arith}
-use Rattle.std.specs.Prelude.{ℤ, pos, negsuc, neg_ℤ, ◌+ℤ◌, ◌-ℤ◌, ◌*ℤ◌, ◌≤ℤ◌, ◌<ℤ◌, int_lt, int_le}
+use Rattle.std.proofs.Common.{◌≡◌, [], ◌∷◌, cond, ◌&&◌, refl, arith}
+use Rattle.std.specs.Prelude.{ℤ, pos, neg_ℤ, ◌+ℤ◌, ◌-ℤ◌, ◌*ℤ◌, ◌≤ℤ◌, ◌<ℤ◌, int_lt, int_le}
 use Rattle.std.proofs.lemmas.Int.{ints, by_lt_z}
-use Rattle.mesh_num.specs.Plane.{Point, Edge, turn}
+use Rattle.mesh_num.specs.Plane.{Point, turn}
 use Rattle.mesh_num.specs.Winding.{crossing_of, crossing}
 use Rattle.mesh_num.proofs.Whole.{linear, mul_nonneg, mul_pos, mul_neg, neg_mul, neg_of_mul, pos_of_mul}
-use Rattle.mesh_num.proofs.Ring.{ring, var, ◌⊕◌, ◌⊖◌, ◌⊗◌, neg, Expr}
+use Rattle.mesh_num.proofs.Ring.{ring, var, ◌⊕◌, ◌⊖◌, ◌⊗◌, neg}
 use Rattle.mesh_num.proofs.Crossings.{turn_flip, crossing_odd}
 use Rattle.mesh_below.proofs.Places.{place, coordinates, turned}
 

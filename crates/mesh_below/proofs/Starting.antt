@@ -91,28 +91,25 @@ work_least todo live = omega (arith, linear, waiting todo, living live)
     living [] = omega (arith, ints)
     living (k ∷ ks) = omega (arith, ints, living ks)
 
-taken_first : (old new : List Counted) (k : Counted) → old ≡ k ∷ new → IsTaken old new k
-taken_first old new k e g = ap (sum_of g) e ∙ omega (arith, linear)
-
 -- the state after a segment was taken from the worklist and settled
-pub settled_reached : (given : List Edge) (old todo live todo' live' : List Counted) (k : Counted) → old ≡ k ∷ todo → Settles todo live todo' live' k
+pub settled_reached : (given : List Edge) (old todo live todo' live' : List Counted) (k : Counted) → IsTaken old todo k → Settles todo live todo' live' k
     → IsReached given old live [] → IsReached given todo' live' []
 settled_reached given old todo live todo' live' k e s r =
-    s.reached given (record { cuts = r.cuts; legal = r.legal; count = pop_count _ old todo live k [] (taken_first old todo k e) r.count })
+    s.reached given (record { cuts = r.cuts; legal = r.legal; count = pop_count _ old todo live k [] e r.count })
 
-pub settled_weight : (old todo live todo' live' : List Counted) (k : Counted) (w : ℤ) → old ≡ k ∷ todo → Settles todo live todo' live' k
+pub settled_weight : (old todo live todo' live' : List Counted) (k : Counted) (w : ℤ) → IsTaken old todo k → Settles todo live todo' live' k
     → total_weight old live ≤ℤ w → total_weight todo' live' ≤ℤ w
-settled_weight old todo live todo' live' k w e s h = omega (arith, linear, s.weight_stays, taken_first old todo k e weight)
+settled_weight old todo live todo' live' k w e s h = omega (arith, linear, s.weight_stays, e weight)
 
-pub popped_room : (old todo live : List Counted) (k : Counted) → old ≡ k ∷ todo → total_weight old live ≤ℤ pos (2 ^ 97) → (total_weight todo live +ℤ weight k) ≤ℤ pos (2 ^ 120)
+pub popped_room : (old todo live : List Counted) (k : Counted) → IsTaken old todo k → total_weight old live ≤ℤ pos (2 ^ 97) → (total_weight todo live +ℤ weight k) ≤ℤ pos (2 ^ 120)
 popped_room old todo live k e h =
     let more : pos (2 ^ 97) ≤ℤ pos (2 ^ 120) = omega (arith, ints) in
-    omega (arith, linear, taken_first old todo k e weight)
+    omega (arith, linear, e weight)
 
-pub settled_less : (old todo live todo' live' : List Counted) (k : Counted) → old ≡ k ∷ todo → Settles todo live todo' live' k
+pub settled_less : (old todo live todo' live' : List Counted) (k : Counted) → IsTaken old todo k → Settles todo live todo' live' k
     → unsigned_abs (work todo' live') < unsigned_abs (work old live)
 settled_less old todo live todo' live' k e s =
-    below (work todo' live') (work old live) (work_least todo' live') (omega (arith, linear, s.work_falls, taken_first old todo k e waiting_work))
+    below (work todo' live') (work old live) (work_least todo' live') (omega (arith, linear, s.work_falls, e waiting_work))
   where
     below : (a b : ℤ) → pos 0 ≤ℤ a → a <ℤ b → unsigned_abs a < unsigned_abs b
     below a b h k = omega (arith, ints)

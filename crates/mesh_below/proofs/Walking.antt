@@ -1,15 +1,16 @@
 -- Lemmas over points and lists: walking along edges, each of which is used once.
-use Rattle.std.proofs.Common.{◌≡◌, ℕ, ◌+◌, ◌-◌, ◌<◌, ◌≤◌, ◌⊎◌, inl, inr, ⊎_elim, zero, suc, Bool, true, false, cond, ◌&&◌, ◌||◌, not, List, [], ◌∷◌, ◌++◌, length, get_or, set, replicate, below_more, refl, sym, ◌∙◌, ap, subst, arith}
-use Rattle.std.specs.Prelude.{ℤ, pos, neg_ℤ, ◌+ℤ◌, ◌-ℤ◌, ◌*ℤ◌, ◌≤ℤ◌, ◌<ℤ◌, int_lt, Option, Some, None, MatchOption, Vec}
+use Rattle.std.proofs.Common.{◌≡◌, ℕ, ◌+◌, ◌-◌, ◌<◌, ◌≤◌, ◌⊎◌, inl, inr, ⊎_elim, zero, suc, Bool, true, false, cond, ◌&&◌, ◌||◌, List, [], ◌∷◌, ◌++◌, length, get_or, set, replicate, below_more, refl, sym, ◌∙◌, ap, subst, arith}
+use Rattle.std.specs.Prelude.{ℤ, pos, ◌+ℤ◌, ◌-ℤ◌, ◌≤ℤ◌, ◌<ℤ◌, int_lt, Option, Some, None, MatchOption, Vec}
 use Rattle.std.specs.declared.alloc.Global.{Global}
 use Rattle.std.proofs.lemmas.List.{get_or_default}
 use Rattle.std.specs.Ordering.{int_eq, int_cmp, ordering_then, is_lt, is_eq}
 use Rattle.std.specs.declared.cmp.Ordering.{Ordering}
 use Rattle.std.specs.declared.cmp.Ordering.TheVariants.{Less, Equal, Greater}
-use Rattle.std.specs.List.Sorted.{IsSorted, IsPermutation}
+use Rattle.std.specs.List.Sorted.{IsSorted}
 use Rattle.std.proofs.lemmas.Int.{ints, by_lt_z}
-use Rattle.std.proofs.lemmas.Bool.{cases_Bool, both_ways, or_parts, or_cases, and_parts, false≢true}
+use Rattle.std.proofs.lemmas.Bool.{cases_Bool, both_ways, or_cases, and_parts, false≢true}
 use Rattle.std.proofs.lemmas.Bool.Decides.{Decides-int_eq}
+use Rattle.std.proofs.lemmas.List.Elements.{All-nil, All-push}
 use Rattle.mesh_num.specs.Plane.{Point, Edge}
 use Rattle.mesh_num.specs.Order.{point_lt}
 use Rattle.mesh_num.specs.Winding.{sum_of, total, route, boundary, same_point, IsBalanced}
@@ -20,7 +21,7 @@ use Rattle.mesh_num.proofs.Balance.{growth, growth_round, growth_of_balanced, ba
 use Rattle.mesh_below.specs.Split.{same_edge}
 use Rattle.mesh_below.specs.Boundary.{count}
 use Rattle.mesh_below.specs.Counted.{bit}
-use Rattle.mesh_below.specs.Unused.{unused, StartsInOrder, IsOpen, IsNext, TakesContours, contour_edges}
+use Rattle.mesh_below.specs.Unused.{unused, StartsInOrder, IsOpen, IsNext, TakesContours, HavePoints, contour_edges}
 use Rattle.mesh_below.proofs.Ends.{decides_point}
 use Rattle.mesh_below.proofs.BoundaryFill.{count_more}
 
@@ -378,6 +379,9 @@ walk_init es was first d points low new len are = record {
   marks = set_length was first ∙ len;
 }
 
+pub walk_has_points : (es : List Edge) (was now : List Bool) (first : ℕ) (points : List Point) (at : Point) → IsWalk es was now first points at → 0 < length points
+walk_has_points es was now first points at w = subst (λ (l : List Point). 0 < length l) (sym w.points_are) (omega arith)
+
 pub walk_step : (es : List Edge) (was now : List Bool) (first k : ℕ) (d : Edge) (points points' : List Point) (at : Point) →
     IsWalk es was now first points at → IsNext es now first at k → (k ≡ first → ⊥) → points' ≡ points ++ at ∷ [] →
     IsWalk es was (set now k true) first points' (get_or es k d).1
@@ -440,13 +444,14 @@ contour_more g old c =
 
 pub takes_one : (es : List Edge) (was now : List Bool) (old new : List (Vec Point Global)) (c : Vec Point Global) (first : ℕ) → IsBalanced (unused es was) →
     ((g : Edge → ℤ) → sum_of g (unused es was) ≡ sum_of g (boundary c.items) +ℤ sum_of g (unused es now)) →
-    ((k : ℕ) → get_or was k true ≡ true → get_or now k true ≡ true) → get_or now first true ≡ true → new ≡ old ++ c ∷ [] →
+    ((k : ℕ) → get_or was k true ≡ true → get_or now k true ≡ true) → get_or now first true ≡ true → 0 < length c.items → new ≡ old ++ c ∷ [] →
     TakesContours es was now old new first
-takes_one es was now old new c first balanced closed kept marked are = record {
+takes_one es was now old new c first balanced closed kept marked has are = record {
   same = λ (g : Edge → ℤ). omega (arith, linear, closed g, contour_more g old c, ap (λ (l : List (Vec Point Global)). sum_of g (contour_edges l)) are);
   balanced = left_balanced (unused es was) c.items (unused es now) balanced closed;
   kept = kept;
   marked = marked;
+  have_points = λ (h : HavePoints old). subst HavePoints (sym are) (All-push (λ (v : Vec Point Global). 0 < length v.items) old c h has);
 }
 
 pub takes_none : (es : List Edge) (was : List Bool) (old : List (Vec Point Global)) (first : ℕ) → IsBalanced (unused es was) → get_or was first true ≡ true →
@@ -456,6 +461,7 @@ takes_none es was old first balanced marked = record {
   balanced = balanced;
   kept = λ (k : ℕ) (h : get_or was k true ≡ true). h;
   marked = marked;
+  have_points = λ (h : HavePoints old). h;
 }
 
 -- the contours so far, of the edges before `first` all
@@ -463,12 +469,14 @@ pub record TakenTo (es : List Edge) (was now : List Bool) (contours : List (Vec 
   pub same : (g : Edge → ℤ) → sum_of g (unused es was) ≡ sum_of g (contour_edges contours) +ℤ sum_of g (unused es now)
   pub balanced : IsBalanced (unused es now)
   pub done : (k : ℕ) → k < first → get_or now k true ≡ true
+  pub have_points : HavePoints contours
 
 pub taken_init : (es : List Edge) (was : List Bool) (contours : List (Vec Point Global)) → IsBalanced (unused es was) → contours ≡ [] → TakenTo es was was contours 0
 taken_init es was contours balanced none = record {
   same = λ (g : Edge → ℤ). omega (arith, linear, ap (λ (l : List (Vec Point Global)). sum_of g (contour_edges l)) none);
   balanced = balanced;
   done = λ (k : ℕ) (h : k < 0). absurd (omega arith);
+  have_points = subst HavePoints (sym none) (All-nil (λ (v : Vec Point Global). 0 < length v.items));
 }
 
 pub taken_more : (es : List Edge) (was now next : List Bool) (old new : List (Vec Point Global)) (first : ℕ) → TakenTo es was now old first →
@@ -477,6 +485,7 @@ taken_more es was now next old new first t s = record {
   same = λ (g : Edge → ℤ). omega (arith, linear, t.same g, s.same g);
   balanced = s.balanced;
   done = below_more (λ (k : ℕ). get_or next k true ≡ true) first (λ (k : ℕ) (h : k < first). s.kept k (t.done k h)) s.marked;
+  have_points = s.have_points t.have_points;
 }
 
 pub taken_all : (es : List Edge) (was now : List Bool) (contours : List (Vec Point Global)) (n : ℕ) → TakenTo es was now contours n → length es ≤ n → length now ≡ length es →

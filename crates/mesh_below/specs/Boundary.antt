@@ -1,5 +1,5 @@
 -- The sides of split segments and their boundary, over pairs of whole numbers.
-use Rattle.std.specs.Prelude.{ℕ, ◌<◌, ◌≡◌, ◌⊎◌, Bool, true, false, cond, ◌&&◌, ◌||◌, not, List, [], ◌∷◌, ℤ, pos, ◌+ℤ◌, ◌-ℤ◌, count_by, int_lt}
+use Rattle.std.specs.Prelude.{ℕ, ◌<◌, ◌≡◌, Bool, true, false, cond, ◌&&◌, ◌||◌, not, List, ℤ, pos, ◌+ℤ◌, ◌-ℤ◌, count_by, int_lt}
 use Rattle.std.specs.Ordering.{int_eq}
 use Rattle.mesh_num.specs.Plane.{Point, Edge, turn, plus}
 use Rattle.mesh_num.specs.Winding.{refined, winding, same_point}
@@ -50,6 +50,7 @@ winding_beside es e = winding 2 (middle e) es
 abbrev pub left_winding : List Edge → Edge → ℤ
 left_winding es e = cond (rises e) (winding_beside es e +ℤ net e es) (winding_beside es e)
 
+-- the winding on an edge's right: that on its left less the edge's net count
 abbrev pub right_winding : List Edge → Edge → ℤ
 right_winding es e = cond (rises e) (winding_beside es e) (winding_beside es e -ℤ net e es)
 

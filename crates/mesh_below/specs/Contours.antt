@@ -1,5 +1,5 @@
 -- Closed contours: the vertices that are answered, where a contour begins, its area and its side point.
-use Rattle.std.specs.Prelude.{ℕ, ◌≡◌, ◌+◌, ◌<◌, Bool, true, false, cond, not, ◌&&◌, ◌||◌, List, [], ◌∷◌, reverse, length, drop, slice_index_or, ℤ, pos, ◌+ℤ◌, int_lt}
+use Rattle.std.specs.Prelude.{ℕ, ◌≡◌, ◌+◌, ◌<◌, Bool, false, cond, not, ◌&&◌, ◌||◌, List, [], ◌∷◌, reverse, length, drop, slice_index_or, ℤ, pos, int_lt}
 use Rattle.std.specs.Ordering.{int_eq}
 use Rattle.std.specs.List.{All}
 use Rattle.mesh_num.specs.Plane.{Point, Edge, minus, plus, cross, dot}
@@ -44,12 +44,12 @@ abbrev pub FirstIsLeast : List Edge → Type 0
 FirstIsLeast [] = Unit {0}
 FirstIsLeast (e ∷ es) = All (λ (f : Edge). edge_lt f e ≡ false) es
 
--- no point of the list is less than its first
+-- there is a first point, and no point of the list is less than it
 abbrev pub StartIsLeast : List Point → Type 0
-StartIsLeast [] = Unit {0}
+StartIsLeast [] = ⊥
 StartIsLeast (p ∷ xs) = All (λ (q : Point). point_lt q p ≡ false) xs
 
--- a contour begins at its least point, and of the visits of it at that with the least next vertex
+-- a contour has a point and begins at its least one, and of the visits of it at that with the least next vertex
 pub record IsBegun (all : Bool) (contour : List Point) : Type 0 where
   pub at_least : StartIsLeast contour
   pub least_next : FirstIsLeast (boundary (vertices all contour))

@@ -8,6 +8,7 @@ use Rattle.mesh_below.specs.Split.{back, same_edge, same_ends, occurs}
 abbrev pub Counted : Type 0
 Counted = Edge × ℤ
 
+-- 1 for true, 0 for false
 abbrev pub bit : Bool → ℤ
 bit b = cond b (pos 1) (pos 0)
 

@@ -14,6 +14,7 @@ counted_winding q ks = sum_of (λ (k : Counted). k.1 *ℤ crossing_on 2 q k.0.0 
 abbrev pub sides_by : ℤ → Counted → ℤ × ℤ
 sides_by w k = cond (rises k.0) (w +ℤ k.1, w) (w, w -ℤ k.1)
 
+-- the windings to the left and to the right of a segment among others
 abbrev pub sides_of : List Counted → Counted → ℤ × ℤ
 sides_of ks k = sides_by (counted_winding (middle k.0) ks) k
 

@@ -1,21 +1,23 @@
 -- Rings as the program holds them, and where each of them belongs.
-use Rattle.std.specs.Prelude.{ℕ, ◌≡◌, ◌<◌, ◌+◌, ◌⊎◌, Bool, true, false, ◌&&◌, not, List, [], ◌∷◌, ◌++◌, ◌^◌, map, length, take, slice_index_or, nat_eq, ℤ, pos, Vec}
+use Rattle.std.specs.Prelude.{ℕ, ◌≡◌, ◌<◌, Bool, true, false, ◌&&◌, List, [], ◌∷◌, ◌++◌, ◌^◌, map, length, slice_index_or, nat_eq, ℤ, pos, Vec}
 use Rattle.std.specs.List.{All, filter, flat_map, enumerate_from}
 use Rattle.std.specs.declared.alloc.Global.{Global}
 use Rattle.mesh_num.specs.Bounds.{IsSafe}
 use Rattle.mesh_num.specs.Plane.{Point, Edge}
 use Rattle.mesh_num.specs.Winding.{sum_of, boundary, holds}
 use Rattle.mesh_below.specs.Contours.{IsBegun, double_area}
-use Rattle.mesh_below.specs.Resolution.{Ring, Placed, ring_of, is_large, is_positive, is_round, is_before, is_head, stands_with}
+use Rattle.mesh_below.specs.Resolution.{Ring, Placed, ring_of, is_large, is_positive, is_before, is_head, stands_with}
 use Rattle.mesh_below.specs.Unused.{contour_edges}
 
 -- a ring's vertices in a vector, and its side point
 abbrev pub Held : Type 0
 Held = Vec Point Global × Point
 
+-- the ring that is held
 abbrev pub view : Held → Ring
 view r = (r.0.items, r.1)
 
+-- the rings that are held
 abbrev pub views : List Held → List Ring
 views rs = map view rs
 
@@ -23,9 +25,11 @@ views rs = map view rs
 abbrev pub ring_at : List Ring → ℕ → Placed
 ring_at rs i = (i, slice_index_or rs i ([], (pos 0, pos 0)))
 
+-- rings, each with its place
 abbrev pub placed : List Ring → List Placed
 placed rs = enumerate_from 0 rs
 
+-- the double areas of rings
 abbrev pub areas_of : List Ring → List ℤ
 areas_of rs = map (λ (r : Ring). double_area r.0) rs
 
@@ -69,5 +73,6 @@ pub record PushesRing (all : Bool) (least : ℕ) (given : List Point) (old new :
 abbrev pub points_of : List (Vec Point Global) → List (List Point)
 points_of shape = map (λ (c : Vec Point Global). c.items) shape
 
+-- the points of the contours of each shape
 abbrev pub shapes_points : List (Vec (Vec Point Global) Global) → List (List (List Point))
 shapes_points shapes = map (λ (s : Vec (Vec Point Global) Global). points_of s.items) shapes

@@ -1,12 +1,16 @@
+pub mod Asked
 pub mod Boundary
 pub mod Contours
 pub mod Counted
 pub mod CountedSides
 pub mod FillRules
+pub mod Grouping
+pub mod Laws
+pub mod Options
+pub mod Reach
 pub mod Regions
 pub mod Resolution
 pub mod Split
 pub mod Splitting
 pub mod Steps
 pub mod Unused
-pub mod Grouping

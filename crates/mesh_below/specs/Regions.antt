@@ -1,5 +1,5 @@
 -- Which points the answer's windings are promised at: those in the box of no bent edge.
-use Rattle.std.specs.Prelude.{ℕ, ◌≡◌, Bool, true, false, not, List, pos}
+use Rattle.std.specs.Prelude.{ℕ, ◌≡◌, Bool, true, not, List, pos}
 use Rattle.std.specs.Ordering.{int_eq}
 use Rattle.std.specs.List.{list_any}
 use Rattle.mesh_num.specs.Plane.{Point, Edge, turn}

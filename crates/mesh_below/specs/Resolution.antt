@@ -1,5 +1,5 @@
 -- What the overlay answers: a resolution of directed edges by a fill rule and options.
-use Rattle.std.specs.Prelude.{ℕ, ◌≡◌, ◌≤◌, ◌*◌, ◌⊎◌, Bool, true, false, cond, not, ◌&&◌, ◌||◌, List, [], ◌∷◌, map, ℤ, pos, int_lt, nat_le, unsigned_abs}
+use Rattle.std.specs.Prelude.{ℕ, ◌≡◌, ◌*◌, Bool, true, false, cond, not, ◌&&◌, ◌||◌, List, [], ◌∷◌, map, ℤ, pos, int_lt, nat_le, unsigned_abs}
 use Rattle.std.specs.Ordering.{int_eq}
 use Rattle.std.specs.List.{All, filter, list_any, flat_map, enumerate_from}
 use Rattle.std.specs.List.Sorted.{IsSortedBy, IsPermutation}
@@ -38,6 +38,7 @@ points_lt (p ∷ ps) (q ∷ qs) = point_lt p q || (same_point p q && points_lt p
 abbrev pub Placed : Type 0
 Placed = ℕ × Ring
 
+-- a ring of positive area: one that runs counterclockwise
 abbrev pub is_positive : Placed → Bool
 is_positive h = int_lt (pos 0) (double_area h.1.0)
 
@@ -79,14 +80,17 @@ pub record AreArranged (clockwise : Bool) (rings : List Ring) (answer : List (Li
   pub ordered : IsSortedBy (λ (r s : Ring). points_lt r.0 s.0) sorted
   pub shapes : answer ≡ map (map (answered clockwise)) (shapes_of (enumerate_from 0 sorted))
 
--- an answer is a resolution of edges by a fill and options: the edges are split by legal splits until segments share
--- only ends; closed contours, each begun at its start, have together the edges of the boundary; the answer arises from
--- their rings, the small ones left out
+-- an answer is a resolution of edges by a fill and options; no order of splitting, no structure of the program and no
+-- choice of a walk is named
 pub record IsResolution (edges : List Edge) (fill : ℤ → Bool) (options : Choices) (answer : List (List (List Point))) : Type 0 where
+  -- the edges are split by a list of legal splits, until any two segments have the same ends or share only common ends
   pub cuts : List Cut
   pub legal : IsLegal edges cuts
   pub clean : IsClean (after cuts edges)
+  -- the edges of closed contours are together the boundary: each segment once whose two sides differ in fill
   pub contours : List (List Point)
   pub bounded : IsBoundary (after cuts edges) fill (flat_map boundary contours)
+  -- each contour begins at its least point, at the visit with the least next vertex
   pub begun : All (IsBegun options.all_vertices) contours
+  -- the answer arises from the rings of the contours, the small ones left out
   pub arranged : AreArranged options.clockwise (filter (is_large options.least_area) (map (ring_of options.all_vertices) contours)) answer

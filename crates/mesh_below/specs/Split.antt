@@ -17,6 +17,7 @@ same_edge e f = same_point e.0 f.0 && same_point e.1 f.1
 unfoldable pub same_ends : Edge → Edge → Bool
 same_ends e f = same_edge e f || same_edge e (back f)
 
+-- whether a point is one of an edge's two ends
 unfoldable pub is_end : Point → Edge → Bool
 is_end c e = same_point c e.0 || same_point c e.1
 
@@ -79,9 +80,11 @@ pub record Cut : Type 0 where
   pub ends : Edge
   pub at : Point
 
+-- what a cut leaves of an edge: two edges where it cuts it, else the edge
 abbrev pub pieces : Cut → Edge → List Edge
 pieces k e = cond (same_ends e k.ends) ((e.0, k.at) ∷ (k.at, e.1) ∷ []) (e ∷ [])
 
+-- the edges after one cut
 abbrev pub cut : Cut → List Edge → List Edge
 cut k [] = []
 cut k (e ∷ es) = pieces k e ++ cut k es

@@ -57,6 +57,7 @@ AreClear e f = (c : Point) → Meets e f c → ⊥
 abbrev pub IsClearOf : Edge → List Counted → Type 0
 IsClearOf e ks = (f : Edge) → pos 0 <ℤ exactly f ks → AreClear e f
 
+-- any two segments of a list are clear of each other
 abbrev pub AllClear : List Counted → Type 0
 AllClear ks = (e : Edge) → pos 0 <ℤ exactly e ks → IsClearOf e ks
 
@@ -80,12 +81,15 @@ weight k = pos (unsigned_abs k.1 * max 1 (extent k.0))
 abbrev pub waiting_work : Counted → ℤ
 waiting_work k = pos (4 * extent k.0 - 2)
 
+-- the work of a live segment
 abbrev pub live_work : Counted → ℤ
 live_work k = pos (4 * extent k.0 - 3)
 
+-- the work of all waiting and live segments
 abbrev pub work : List Counted → List Counted → ℤ
 work todo live = sum_of waiting_work todo +ℤ sum_of live_work live
 
+-- the weight of all waiting and live segments
 abbrev pub total_weight : List Counted → List Counted → ℤ
 total_weight todo live = sum_of weight todo +ℤ sum_of weight live
 

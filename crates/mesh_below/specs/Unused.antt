@@ -1,6 +1,6 @@
 -- Walking along edges: which of them are still unused, and what one step may take.
 use Rattle.std.specs.Prelude.{ℕ, ◌≡◌, ◌⊎◌, ◌<◌, ◌≤◌, Bool, true, false, cond, List, [], ◌∷◌, length, slice_index_or, ℤ, ◌+ℤ◌, Vec}
-use Rattle.std.specs.List.{flat_map}
+use Rattle.std.specs.List.{All, flat_map}
 use Rattle.std.specs.declared.alloc.Global.{Global}
 use Rattle.mesh_num.specs.Plane.{Point, Edge}
 use Rattle.mesh_num.specs.Order.{point_lt}
@@ -31,9 +31,14 @@ pub record IsNext (es : List Edge) (used : List Bool) (first : ℕ) (at : Point)
 abbrev pub contour_edges : List (Vec Point Global) → List Edge
 contour_edges cs = flat_map (λ (c : Vec Point Global). boundary c.items) cs
 
+-- each contour has a point
+abbrev pub HavePoints : List (Vec Point Global) → Type 0
+HavePoints cs = All (λ (c : Vec Point Global). 0 < length c.items) cs
+
 -- contours were made of unused edges, the edge `first` among them
 pub record TakesContours (es : List Edge) (was now : List Bool) (old new : List (Vec Point Global)) (first : ℕ) : Type 0 where
   pub same : (g : Edge → ℤ) → sum_of g (contour_edges old) +ℤ sum_of g (unused es was) ≡ sum_of g (contour_edges new) +ℤ sum_of g (unused es now)
   pub balanced : IsBalanced (unused es now)
   pub kept : (k : ℕ) → slice_index_or was k true ≡ true → slice_index_or now k true ≡ true
   pub marked : slice_index_or now first true ≡ true
+  pub have_points : HavePoints old → HavePoints new

@@ -12,7 +12,7 @@ use mesh_num::shape::segment::Segment;
 use std::alloc::{AllocError, Global};
 
 /// A coordinate of either width.
-fn coordinate<I: IntNumber>(number: I) -> i32
+pub(crate) fn coordinate<I: IntNumber>(number: I) -> i32
     ensures { result ≡ I.value number }
 {
     I::wide_to_i128(number.to_wide()) as i32

@@ -1,6 +1,6 @@
 //! The whole way from directed edges to shapes.
 
-ghost use Rattle.std.specs.Prelude.{◌≡◌, false, IfOk, OnOk};
+ghost use Rattle.std.specs.Prelude.{◌≡◌, ◌<◌, false, length, IfOk, OnOk};
 ghost use Rattle.std.specs.List.{All};
 ghost use Rattle.mesh_num.specs.Plane.{Edge};
 ghost use Rattle.mesh_num.specs.Winding.{IsBalanced, boundary, same_point};
@@ -8,7 +8,7 @@ ghost use Rattle.mesh_below.specs.Boundary.{IsProper};
 ghost use Rattle.mesh_below.specs.FillRules.{filled};
 ghost use Rattle.mesh_below.specs.Grouping.{AreRingsOf, PushesRing, shapes_points};
 ghost use Rattle.mesh_below.specs.Resolution.{IsResolution};
-ghost use Rattle.mesh_below.specs.Unused.{contour_edges};
+ghost use Rattle.mesh_below.specs.Unused.{HavePoints, contour_edges};
 
 use crate::arrange::{is_large, shapes};
 use crate::fill::FillRule;
@@ -22,8 +22,11 @@ use std::alloc::{AllocError, Global};
 /// What an answer depends on besides the edges: the least area, whether straight-through vertices stay, and the direction.
 #[derive(Debug, Copy, Clone)]
 pub struct Choices {
+    /// Contours of less area, in squares of the grid, are left out.
     pub least_area: u64,
+    /// Whether vertices that contours run straight through stay.
     pub all_vertices: bool,
+    /// Whether outer contours run clockwise.
     pub clockwise: bool,
 }
 
@@ -34,7 +37,8 @@ fn push_ring(
     contour: &[GridPoint],
     choices: Choices,
 ) -> Result<(), AllocError>
-    requires { All (λ (e : Edge). same_point e.0 e.1 ≡ false) (boundary contour.now) }
+    requires has_points { 0 < length contour.now }
+    requires proper { All (λ (e : Edge). same_point e.0 e.1 ≡ false) (boundary contour.now) }
     ensures { OnOk result (PushesRing choices.all_vertices choices.least_area contour.now rings.old.items rings.new.items) }
 {
     let ring = ring_of(alloc, contour, choices.all_vertices)?;
@@ -51,7 +55,8 @@ fn rings_of(
     contours: &[Vec<GridPoint>],
     choices: Choices,
 ) -> Result<Vec<Ring>, AllocError>
-    requires { All (λ (e : Edge). same_point e.0 e.1 ≡ false) (contour_edges contours.now) }
+    requires have_points { HavePoints contours.now }
+    requires proper { All (λ (e : Edge). same_point e.0 e.1 ≡ false) (contour_edges contours.now) }
     ensures { IfOk result (λ v. AreRingsOf choices.all_vertices choices.least_area contours.now v.items) }
 {
     let mut rings = Vec::new(alloc);
@@ -61,7 +66,7 @@ fn rings_of(
     Ok(rings)
 }
 
-/// The shapes of what balanced edges fill, none of which ends where it starts.
+/// The shapes of what balanced edges fill, none of which ends where it starts. It fails only where memory is refused.
 pub fn resolve(
     alloc: Global,
     edges: &[GridEdge],

@@ -189,13 +189,11 @@ fn side_point(contour: &[GridPoint]) -> FinePoint
 
 /// The ring of a contour, from the contour's start on.
 pub fn ring_of(alloc: Global, contour: &[GridPoint], all: bool) -> Result<Ring, AllocError>
-    requires { All (λ (e : Edge). same_point e.0 e.1 ≡ false) (boundary contour.now) }
+    requires has_points { 0 < length contour.now }
+    requires proper { All (λ (e : Edge). same_point e.0 e.1 ≡ false) (boundary contour.now) }
     ensures ring { IfOk result (λ r. IsRingOf all contour.now (r.0.items, r.1)) }
     ensures side { IfOk result (λ r. IsSafe (2 ^ 33) r.1) }
 {
-    if contour.is_empty() {
-        return Ok((Vec::new(alloc), (0, 0)));
-    }
     let from_least = turned_to(alloc, contour, least_place(contour))?;
     let begun = turned_to(alloc, &from_least, start_place(&from_least, all))?;
     let side = side_point(&begun);

@@ -5,7 +5,7 @@ ghost use Rattle.mesh_num.specs.Order.{point_lt};
 ghost use Rattle.mesh_num.specs.Plane.{Point, Edge};
 ghost use Rattle.mesh_num.specs.Winding.{sum_of, boundary, IsBalanced};
 ghost use Rattle.mesh_below.specs.Boundary.{count};
-ghost use Rattle.mesh_below.specs.Unused.{unused, StartsInOrder, IsOpen, IsNext, TakesContours, contour_edges};
+ghost use Rattle.mesh_below.specs.Unused.{HavePoints, unused, StartsInOrder, IsOpen, IsNext, TakesContours, contour_edges};
 
 use crate::exact::{cross, is_before, minus, same_point};
 use crate::grid::{GridEdge, GridPoint};
@@ -150,6 +150,7 @@ fn walk(
     requires first_in { first < length edges.now }
     requires first_unused { slice_index_or used.old first true ≡ false }
     requires balanced { IsBalanced (unused edges.now used.old) }
+    ensures has_points { IfOk result (λ v. 0 < length v.items) }
     ensures closed { IfOk result (λ v. (g : Edge → ℤ) → sum_of g (unused edges.now used.old) ≡ sum_of g (boundary v.items) +ℤ sum_of g (unused edges.now used.new)) }
     ensures kept { (k : ℕ) → slice_index_or used.old k true ≡ true → slice_index_or used.new k true ≡ true }
     ensures marked { OnOk result (slice_index_or used.new first true ≡ true) }
@@ -172,7 +173,7 @@ fn walk(
 }
 
 /// The edges in the order of their starts.
-fn in_order(mut edges: Vec<GridEdge>) -> Result<Vec<GridEdge>, AllocError>
+pub(crate) fn in_order(mut edges: Vec<GridEdge>) -> Result<Vec<GridEdge>, AllocError>
     ensures ordered { IfOk result (λ v. StartsInOrder v.items) }
     ensures same { IfOk result (λ v. (g : Edge → ℤ) → sum_of g v.items ≡ sum_of g edges.items) }
 {
@@ -211,7 +212,8 @@ fn contours_of(
     requires ordered { StartsInOrder edges.now }
     requires marks { length used.old ≡ length edges.now }
     requires balanced { IsBalanced (unused edges.now used.old) }
-    ensures { IfOk result (λ v. (g : Edge → ℤ) → sum_of g (unused edges.now used.old) ≡ sum_of g (contour_edges v.items)) }
+    ensures edges { IfOk result (λ v. (g : Edge → ℤ) → sum_of g (unused edges.now used.old) ≡ sum_of g (contour_edges v.items)) }
+    ensures have_points { IfOk result (λ v. HavePoints v.items) }
 {
     let mut contours = Vec::new(alloc);
     for first in 0..edges.len() {
@@ -220,10 +222,11 @@ fn contours_of(
     Ok(contours)
 }
 
-/// Closed contours that together have the edges, each once.
+/// Closed contours that together have the edges, each once. None is without a point.
 pub fn contours(alloc: Global, edges: Vec<GridEdge>) -> Result<Vec<Vec<GridPoint>>, AllocError>
     requires { IsBalanced edges.items }
-    ensures { IfOk result (λ v. (e : Edge) → count e (contour_edges v.items) ≡ count e edges.items) }
+    ensures edges { IfOk result (λ v. (e : Edge) → count e (contour_edges v.items) ≡ count e edges.items) }
+    ensures have_points { IfOk result (λ v. HavePoints v.items) }
 {
     let ordered = in_order(edges)?;
     let mut used = vec![in alloc; false; ordered.len()]?;

@@ -3,7 +3,7 @@
 ghost use Rattle.std.specs.Prelude.{◌≡◌, ◌⊎◌, List, [], ◌∷◌, ℤ, MatchOption, IfSome, OnOk};
 ghost use Rattle.std.specs.List.{All};
 ghost use Rattle.std.specs.Map.{keys_of};
-ghost use Rattle.mesh_below.specs.Steps.{IsForward, HaveRoom, IsRaised, IsNew};
+ghost use Rattle.mesh_below.specs.Steps.{IsForward, HaveRoom, IsTaken, IsRaised, IsNew};
 
 use crate::grid::{CountedSegment, GridEdge};
 use std::alloc::{AllocError, Global};
@@ -14,6 +14,8 @@ use std::marker::Model;
 #[derive(Drop)]
 pub struct Worklist {
     counts: BTreeMap<GridEdge, i128>,
+    /// Ends in the order in which they came. It says which segment is taken next, and nothing else.
+    latest: Vec<GridEdge>,
 }
 
 impl Model for Worklist {
@@ -31,14 +33,21 @@ impl Worklist {
     {
         Worklist {
             counts: BTreeMap::new(alloc),
+            latest: Vec::new(alloc),
         }
     }
 
-    /// Takes a segment out, if there is one.
+    /// Takes a segment out, if there is one: the one that came last. So pieces are tested before other segments, which
+    /// keeps bundles of nearly parallel edges from being cut again and again.
     pub fn pop(&mut self) -> Option<CountedSegment>
-        ensures taken { MatchOption result ((self.old ≡ []) × (self.new ≡ [])) (λ s. self.old ≡ s ∷ self.new) }
+        ensures taken { MatchOption result ((self.old ≡ []) × (self.new ≡ [])) (λ s. IsTaken self.old self.new s) }
         ensures forward { IfSome result (λ s. IsForward s.0) }
     {
+        while let Some(ends) = self.latest.pop() {
+            if let Some(s) = self.counts.remove_entry(&ends) {
+                return Some(s);
+            }
+        }
         self.counts.pop_first()
     }
 
@@ -54,6 +63,7 @@ impl Worklist {
             return Ok(());
         }
         self.counts.insert(s.0, s.1)?;
+        self.latest.push(s.0)?;
         Ok(())
     }
 }

@@ -1,13 +1,20 @@
-//! Splits segments that look random, always the same, to measure the splitting. The argument is their number.
+//! Splits segments that look random, always the same, to measure the splitting. The first argument is their number.
+//! With the second argument `overlay` they are the sides of closed lists of four points, and are resolved into shapes.
 #![tactic(auto)]
 
 ghost use Rattle.std.specs.Prelude.{◌<◌, ◌≤◌, ◌^◌};
 
+use mesh_below::below::{FillRule, Overlay, OverlayRule};
+use mesh_below::checks::are_resolvable;
 use mesh_below::given::are_proper;
 use mesh_below::grid::GridEdge;
 use mesh_below::splitter::split_edges;
+use mesh_num::num::IntPoint;
+use mesh_num::shape::segment::{Segment, SubjectSegments};
 use std::alloc::{AllocError, Global};
-use std::env;
+use std::num::ParseIntError;
+use std::{env, io};
+use thiserror::Error;
 
 /// The starts of the segments lie in a square of this side, in grid units.
 const SIDE: u64 = 1_048_576;
@@ -62,11 +69,78 @@ fn edges(alloc: Global, count: u64) -> Result<Vec<GridEdge>, AllocError> {
     Ok(edges)
 }
 
-fn main(rt: HostRuntime) -> anyhow::Result<()> {
-    let mut count: u64 = 100;
-    if let Some(word) = env::args(&rt)?.nth(1) {
-        count = word.parse::<u64>()?;
+/// A point that differs from the given one by at most `reach` in each coordinate, and lies in the square or beside it.
+fn beside(random: &mut Random, x: u64, y: u64, reach: u64) -> IntPoint<i32>
+    requires x_small { x < 2 ^ 20 }
+    requires y_small { y < 2 ^ 20 }
+    requires reach_small { reach ≤ 2 ^ 21 }
+{
+    let east = x + random.below(2 * reach + 1);
+    let north = y + random.below(2 * reach + 1);
+    IntPoint::new(east as i32, north as i32)
+}
+
+/// Adds the sides of a closed list of four points that stand near each other.
+fn push_contour(
+    segments: &mut Vec<Segment<i32>>,
+    random: &mut Random,
+    reach: u64,
+) -> Result<(), AllocError>
+    requires { reach ≤ 2 ^ 21 }
+{
+    let x = random.coordinate();
+    let y = random.coordinate();
+    let first = beside(random, x, y, reach);
+    let mut before = first;
+    for _ in 0..3 {
+        let next = beside(random, x, y, reach);
+        segments.push_non_degenerate(before, next)?;
+        before = next;
     }
+    segments.push_non_degenerate(before, first)
+}
+
+/// Why a run ends early.
+#[derive(Debug, Clone, Copy, Error)]
+enum BenchError {
+    #[error("out of memory")]
+    OutOfMemory,
+    #[error("the output can't be written")]
+    Output,
+    #[error("the first argument is no whole number")]
+    Count,
+}
+
+impl From<AllocError> for BenchError {
+    fn from(_error: AllocError) -> Self {
+        BenchError::OutOfMemory
+    }
+}
+
+impl From<io::Error> for BenchError {
+    fn from(_error: io::Error) -> Self {
+        BenchError::Output
+    }
+}
+
+impl From<ParseIntError> for BenchError {
+    fn from(_error: ParseIntError) -> Self {
+        BenchError::Count
+    }
+}
+
+/// The sides of closed lists, as many sides as asked.
+fn sides(alloc: Global, count: u64) -> Result<Vec<Segment<i32>>, AllocError> {
+    let mut random = Random { state: 1 };
+    let reach = SIDE / (count.isqrt() + 1);
+    let mut segments = Vec::new(alloc);
+    for _ in 0..count / 4 {
+        push_contour(&mut segments, &mut random, reach)?;
+    }
+    Ok(segments)
+}
+
+fn split(rt: &HostRuntime, count: u64) -> Result<(), BenchError> {
     let edges = edges(rt.alloc(), count)?;
     if !are_proper(&edges) {
         println!(rt; "a segment without length")?;
@@ -79,4 +153,31 @@ fn main(rt: HostRuntime) -> anyhow::Result<()> {
         segments.len()
     )?;
     Ok(())
+}
+
+fn resolve(rt: &HostRuntime, count: u64) -> Result<(), BenchError> {
+    let overlay = Overlay::with_segments(sides(rt.alloc(), count)?);
+    let ready = are_resolvable(rt.alloc(), &overlay.segments)?;
+    if !ready {
+        println!(rt; "not balanced, or not in the safe range")?;
+        return Ok(());
+    }
+    let shapes = overlay.overlay(OverlayRule::Subject, FillRule::Positive)?;
+    println!(rt;
+        "{} segments give {} shapes",
+        overlay.segments.len(),
+        shapes.len()
+    )?;
+    Ok(())
+}
+
+fn main(rt: HostRuntime) -> Result<(), BenchError> {
+    let mut count: u64 = 100;
+    if let Some(word) = env::args(&rt)?.nth(1) {
+        count = word.parse::<u64>()?;
+    }
+    if env::args(&rt)?.nth(2).is_some() {
+        return resolve(&rt, count);
+    }
+    split(&rt, count)
 }

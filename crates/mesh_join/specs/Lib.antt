@@ -1,2 +1,3 @@
 pub mod Cleaned
 pub mod Joins
+pub mod Laws

@@ -3,5 +3,6 @@
 
 pub mod arc;
 pub mod join;
+pub mod laws;
 pub mod style;
 pub mod uniq_iter;

@@ -45,6 +45,7 @@ pub record IsNearest (a : ℤ) (d : ℕ) (k : ℤ) : Type 0 where
   pub at_most : 2 * (unsigned_abs k * d) ≤ 2 * unsigned_abs a + d
   pub above : 2 * unsigned_abs a < 2 * (unsigned_abs k * d) + d
 
+-- a rounded quotient is the nearest whole number
 abbrev pub RoundedIsNearest : Type 0
 RoundedIsNearest = (a : ℤ) (d : ℕ) → 0 < d → IsNearest a d (rounded a d)
 

@@ -10,6 +10,7 @@ Point = ℤ × ℤ
 abbrev pub Edge : Type 0
 Edge = Point × Point
 
+-- a point moved by a vector
 abbrev pub plus : Point → Point → Point
 plus p v = (p.0 +ℤ v.0, p.1 +ℤ v.1)
 
@@ -17,6 +18,7 @@ plus p v = (p.0 +ℤ v.0, p.1 +ℤ v.1)
 abbrev pub minus : Point → Point → Point
 minus p q = (p.0 -ℤ q.0, p.1 -ℤ q.1)
 
+-- the vector the other way
 abbrev pub opposite : Point → Point
 opposite v = (neg_ℤ v.0, neg_ℤ v.1)
 

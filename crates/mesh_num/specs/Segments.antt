@@ -13,6 +13,7 @@ SignedEdge = Edge × ℤ
 abbrev pub edge_of : SignedEdge → Edge
 edge_of s = cond (int_lt (pos 0) s.1) s.0 (s.0.1, s.0.0)
 
+-- the edges that segments stand for, in their order
 abbrev pub edges_of : List SignedEdge → List Edge
 edges_of ss = map edge_of ss
 

@@ -59,6 +59,7 @@ holds m q piece = not (int_eq (winding m q (boundary piece)) (pos 0))
 abbrev pub pieces_total : (Point → Point → ℤ) → List (List Point) → ℤ
 pieces_total f pieces = sum_of (λ (piece : List Point). total f (boundary piece)) pieces
 
+-- whether two points are one
 abbrev pub same_point : Point → Point → Bool
 same_point p q = int_eq p.0 q.0 && int_eq p.1 q.1
 

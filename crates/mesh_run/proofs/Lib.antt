@@ -1,3 +1,3 @@
-pub mod Areas
-pub mod ContoursServed
 pub mod JsonLists
+pub mod PathsServed
+pub mod Ranges

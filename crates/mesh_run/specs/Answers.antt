@@ -24,14 +24,30 @@ point_data p = array (item (number (of_integer p.0)) (item (number (of_integer p
 abbrev pub edge_data : Edge → Data
 edge_data e = array (item (point_data e.0) (item (point_data e.1) no_items))
 
--- the edges of a path
-abbrev pub edges_data : List Edge → Data
-edges_data es = array (items_of (map edge_data es))
+-- a list of values
+abbrev pub list_data : {A : Type 0} → (A → Data) → List A → Data
+list_data value xs = array (items_of (map value xs))
 
--- the answer to a request with one path: {"edges":[..]}
-abbrev pub answer_data : Data → Data
-answer_data path = object (member (codes "edges") (array (item path no_items)) no_members)
+-- an object with one member
+abbrev pub only_member : List ℕ → Data → Data
+only_member key d = object (member key d no_members)
 
--- that answer as a line
-abbrev pub edges_text : List Edge → List ℕ
-edges_text es = compact_text (answer_data (edges_data es)) ++ 10 ∷ []
+-- a value as a line
+abbrev pub line_text : Data → List ℕ
+line_text d = compact_text d ++ 10 ∷ []
+
+-- the edges of each path: {"edges":[..]}
+abbrev pub edges_data : List (List Edge) → Data
+edges_data lists = only_member (codes "edges") (list_data (list_data edge_data) lists)
+
+-- that as a line
+abbrev pub edges_text : List (List Edge) → List ℕ
+edges_text lists = line_text (edges_data lists)
+
+-- shapes, each the list of its contours: {"shapes":[..]}
+abbrev pub shapes_data : List (List (List Point)) → Data
+shapes_data shapes = only_member (codes "shapes") (list_data (list_data (list_data point_data)) shapes)
+
+-- that as a line
+abbrev pub shapes_text : List (List (List Point)) → List ℕ
+shapes_text shapes = line_text (shapes_data shapes)

@@ -1,5 +1,6 @@
 pub mod Answers
-pub mod DoubleArea
+pub mod Failures
 pub mod Reading
+pub mod Requests
 pub mod Served
 pub mod Serving

@@ -1,10 +1,10 @@
 //! Coordinates in 128 bits.
 
-ghost use Rattle.std.specs.Prelude.{◌≡◌, ◌*◌, ◌^◌, ◌≤◌, pos, option_map};
+ghost use Rattle.std.specs.Prelude.{◌≡◌, ◌*◌, ◌^◌, ◌≤◌, ℕ, pos, option_map};
 ghost use Rattle.mesh_num.specs.Bounds.{IsWithin};
-ghost use Rattle.mesh_run.specs.Reading.{held};
+ghost use Rattle.mesh_run.specs.Reading.{held, held_area};
 
-use mesh_num::num::IntNumber;
+use mesh_num::num::{IntNumber, WideUnsigned};
 
 /// A coordinate in 128 bits.
 pub fn widened<I: IntNumber>(coordinate: I) -> i128
@@ -32,4 +32,23 @@ fn range_end<I: IntNumber>() -> i128
     ensures size { I.unit ≤ 2 ^ 30 }
 {
     2 * widened(I::UNIT)
+}
+
+/// A number as an area, `None` where it does not fit.
+pub fn narrowed_area<I: IntNumber>(number: u128) -> Option<I::WideUInt>
+    ensures { option_map (λ a. I.WideUInt.value a) result ≡ held_area I.unit number }
+{
+    if number < area_end::<I>() {
+        Some(I::WideUInt::from_u128(number))
+    } else {
+        None
+    }
+}
+
+/// The first number past what the type of areas holds.
+fn area_end<I: IntNumber>() -> u128
+    ensures { result ≡ 16 * I.unit * I.unit }
+{
+    let unit = widened(I::UNIT).unsigned_abs();
+    16 * unit * unit
 }

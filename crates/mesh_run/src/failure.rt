@@ -1,10 +1,12 @@
 //! Why a request has no answer.
 
+ghost use Rattle.std.specs.Prelude.{◌≡◌};
+ghost use Rattle.mesh_run.specs.Failures.{failure_line};
+
 use i_overlay_mesh::IntOutlineError;
 use std::alloc::{AllocError, AllocFailed};
-use std::fmt;
 
-/// Why a request has no answer. It is shown as the line that is printed in place of one.
+/// Why a request has no answer.
 #[derive(Debug, Clone, Copy, PartialEq, Eq)]
 pub enum Failure {
     /// What was read is no request that is served.
@@ -13,11 +15,19 @@ pub enum Failure {
     Refused(IntOutlineError),
 }
 
-impl fmt::Display for Failure {
-    fn fmt<W: fmt::Write>(&self, f: &mut fmt::Formatter<W>) -> fmt::Result {
+impl Failure {
+    /// The line that is printed in place of an answer.
+    pub fn line(&self) -> &'static str
+        ensures { result.now ≡ failure_line self.now }
+    {
         match self {
-            Failure::Unreadable => write!(f, "{{\"unreadable\":\"request\"}}"),
-            Failure::Refused(error) => write!(f, "{{\"refused\":\"{error}\"}}"),
+            Failure::Unreadable => "{\"unreadable\":\"request\"}\n",
+            Failure::Refused(IntOutlineError::CoordinateOutOfRange) => {
+                "{\"refused\":\"mesh coordinate exceeds the integer engine range\"}\n"
+            }
+            Failure::Refused(IntOutlineError::OutOfMemory) => {
+                "{\"refused\":\"mesh construction ran out of memory\"}\n"
+            }
         }
     }
 }

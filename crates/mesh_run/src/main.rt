@@ -2,12 +2,12 @@
 #![tactic(auto)]
 
 pub mod answer;
-pub mod area;
 pub mod coordinate;
 pub mod edge;
 pub mod failure;
 pub mod input;
 pub mod json;
+pub mod options;
 pub mod outline;
 pub mod request;
 pub mod service;

@@ -1,63 +1,87 @@
 //! Requests that are served, read from JSON.
 
-ghost use Rattle.std.specs.Prelude.{◌≡◌, Some, None, MatchResult, option_map, option_and_then, codes};
-ghost use Rattle.serde_json.specs.Find.{get, as_array};
+ghost use Rattle.std.specs.Prelude.{◌≡◌, Some, None, MatchResult, option_map, option_and_then};
 ghost use Rattle.serde_json.specs.View.{view, items_view};
-ghost use Rattle.mesh_run.specs.Reading.{point_of, points_of, path_of, only, has_unserved as unserved, has_bevels as bevels, offsets_of, offset_of, outline_of, request_of, IsOfReading};
+ghost use Rattle.mesh_num.specs.Paths.{paths_of};
+ghost use Rattle.mesh_run.specs.Reading.{point_of, points_of, path_of, path_list_of, paths_in, has_unserved as unserved, has_bevels as bevels, offsets_of, offset_of, asked_in, outline_of, IsOfReading};
+ghost use Rattle.mesh_run.specs.Requests.{asked_of};
 
 use crate::failure::Failure;
 use crate::json::{coordinate, says};
-use crate::outline::OutlineRequest;
+use crate::options::read_options;
+use crate::outline::{OutlineRequest, Output};
 use mesh_join::style::{IntLineJoin, IntOutlineStyle};
 use mesh_num::num::{IntNumber, IntPoint, OverlayInt};
 use serde_json::Value;
 use std::alloc::Global;
 
-/// The request that a value is, where it is one that is served.
-pub fn read_request(alloc: Global, value: &Value) -> Result<OutlineRequest<i32>, Failure>
-    ensures { MatchResult result
-        (λ r. request_of (view value.now) ≡ Some (r.path.items, (r.style.outer_offset, r.style.inner_offset)))
-        (λ e. IsOfReading e × (e ≡ Failure.Unreadable → request_of (view value.now) ≡ None)) }
-{
-    if says(value, "op", "outline") && says(value, "int", "i32") && says(value, "out", "edges") {
-        outline(alloc, value)
-    } else {
-        Err(Failure::Unreadable)
-    }
-}
-
-fn outline<I: OverlayInt>(alloc: Global, value: &Value) -> Result<OutlineRequest<I>, Failure>
-    ensures { MatchResult result
-        (λ r. outline_of I.unit (view value.now) ≡ Some (r.path.items, (I.value r.style.outer_offset, I.value r.style.inner_offset)))
+/// The outline that a value asks for, where it is one that is served.
+pub fn read_outline<I: OverlayInt>(
+    alloc: Global,
+    value: &Value,
+) -> Result<OutlineRequest<I>, Failure>
+    ensures { MatchResult result (λ r. outline_of I.unit (view value.now) ≡ Some r)
         (λ e. IsOfReading e × (e ≡ Failure.Unreadable → outline_of I.unit (view value.now) ≡ None)) }
 {
     let Some(style) = outline_style(value.get("style")) else {
         return Err(Failure::Unreadable);
     };
-    let path = path(alloc, value)?;
-    Ok(OutlineRequest { path, style })
+    let Some(output) = output::<I>(value) else {
+        return Err(Failure::Unreadable);
+    };
+    let paths = paths(alloc, value)?;
+    Ok(OutlineRequest {
+        paths,
+        style,
+        output,
+    })
 }
 
-/// The only path of a request.
-fn path<I: OverlayInt>(alloc: Global, value: &Value) -> Result<Vec<IntPoint<I>>, Failure>
-    ensures { MatchResult result (λ ps. path_of I.unit (view value.now) ≡ Some ps.items)
-        (λ e. IsOfReading e × (e ≡ Failure.Unreadable → path_of I.unit (view value.now) ≡ None)) }
+/// What a request asks. Options are looked at for shapes alone.
+fn output<I: OverlayInt>(value: &Value) -> Option<Output<I::WideUInt>>
+    ensures { option_map (λ o. asked_of I.WideUInt.value o) result ≡ asked_in I.unit (view value.now) }
 {
-    match only_path(value) {
-        Some(items) => points(alloc, items),
+    if says(value, "out", "edges") {
+        Some(Output::Edges)
+    } else if says(value, "out", "shapes") {
+        Some(Output::Shapes(read_options::<I>(value.get("options"))?))
+    } else {
+        None
+    }
+}
+
+fn paths<I: OverlayInt>(alloc: Global, value: &Value) -> Result<Vec<Vec<IntPoint<I>>>, Failure>
+    ensures { MatchResult result (λ ps. paths_in I.unit (view value.now) ≡ Some (paths_of ps.items))
+        (λ e. IsOfReading e × (e ≡ Failure.Unreadable → paths_in I.unit (view value.now) ≡ None)) }
+{
+    match value.get("paths").and_then(Value::as_array) {
+        Some(items) => path_list(alloc, items),
         None => Err(Failure::Unreadable),
     }
 }
 
-fn only_path(value: &Value) -> Option<&[Value]>
-    ensures { option_map (λ vs. items_view vs.now) result
-        ≡ option_and_then as_array (option_and_then only (option_and_then as_array (get (codes "paths") (view value.now)))) }
+fn path_list<I: OverlayInt>(
+    alloc: Global,
+    items: &[Value],
+) -> Result<Vec<Vec<IntPoint<I>>>, Failure>
+    ensures { MatchResult result (λ ps. path_list_of I.unit (items_view items.now) ≡ Some (paths_of ps.items))
+        (λ e. IsOfReading e × (e ≡ Failure.Unreadable → path_list_of I.unit (items_view items.now) ≡ None)) }
 {
-    let paths = value.get("paths")?.as_array()?;
-    if paths.len() != 1 {
-        return None;
+    let mut paths = Vec::new(alloc);
+    for item in items {
+        paths.push(path(alloc, item)?)?;
     }
-    Some(paths[0].as_array()?.as_slice())
+    Ok(paths)
+}
+
+fn path<I: OverlayInt>(alloc: Global, value: &Value) -> Result<Vec<IntPoint<I>>, Failure>
+    ensures { MatchResult result (λ ps. path_of I.unit (view value.now) ≡ Some ps.items)
+        (λ e. IsOfReading e × (e ≡ Failure.Unreadable → path_of I.unit (view value.now) ≡ None)) }
+{
+    match value.as_array() {
+        Some(items) => points(alloc, items),
+        None => Err(Failure::Unreadable),
+    }
 }
 
 fn points<I: OverlayInt>(alloc: Global, items: &[Value]) -> Result<Vec<IntPoint<I>>, Failure>

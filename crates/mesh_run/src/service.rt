@@ -1,15 +1,24 @@
 //! One run of the program, over any reader and writer.
 
-ghost use Rattle.std.specs.Prelude.{◌≡◌, ◌↔◌, None, List, OnOk, IfOk, IfSome, IsUtf8, string_bytes};
+ghost use Rattle.std.specs.Prelude.{◌≡◌, ◌↔◌, Some, None, List, IsOk, OnOk, IfOk, IfSome, MatchResult, IsUtf8, string_bytes};
 ghost use Rattle.std.specs.Io.KnownBytes.{Appends};
+ghost use Rattle.std.specs.Ordering.{int_cmp};
+ghost use Rattle.serde_json.specs.View.{view};
+ghost use Rattle.mesh_run.specs.Failures.{failure_line};
+ghost use Rattle.mesh_run.specs.Reading.{outline_of, request_of};
+ghost use Rattle.mesh_run.specs.Requests.{Request};
+ghost use Rattle.mesh_run.specs.Served.{IsAccepted, Answers};
 ghost use Rattle.mesh_run.specs.Serving.{request_in, IsAnswer, IsRefused};
 
-use crate::answer::edges_line;
+use crate::answer::{edges_line, shapes_line};
 use crate::failure::Failure;
 use crate::input::read_to_end;
-use crate::json::parse;
-use crate::request::read_request;
+use crate::json::{parse, says};
+use crate::outline::{OutlineRequest, Output};
+use crate::request::read_outline;
 use i_overlay_mesh::IntOutlineError;
+use mesh_num::num::OverlayInt;
+use serde_json::Value;
 use std::alloc::Global;
 use std::io;
 use std::io::{Read, Write};
@@ -42,17 +51,26 @@ impl Status {
 
 /// Reads a request to the reader's end and writes its answer, one line, or the line of a failure.
 pub fn serve<R: Read, W: Write>(alloc: Global, reader: &mut R, writer: &mut W) -> Status
-    ensures { result ≡ Status.Answered → IfSome (R.remaining reader.old) (λ request. (line : List _) × IsAnswer request line
+    ensures answered { result ≡ Status.Answered → IfSome (R.remaining reader.old) (λ request. (line : List _) × IsAnswer request line
         × Appends (W.contents writer.old) (W.contents writer.new) line) }
+    ensures unreadable { result ≡ Status.Unreadable → Appends (W.contents writer.old) (W.contents writer.new) (failure_line Failure.Unreadable) }
 {
     let answer = read_and_answer(alloc, reader);
     match print(writer, &answer) {
         Err(_) => Status::Refused,
-        Ok(()) => match answer {
-            Ok(_) => Status::Answered,
-            Err(Failure::Refused(_)) => Status::Refused,
-            Err(Failure::Unreadable) => Status::Unreadable,
-        },
+        Ok(()) => status_of(&answer),
+    }
+}
+
+/// How a run ended whose answer, or the line of its failure, was written.
+fn status_of(answer: &Result<String, Failure>) -> Status
+    ensures answered { result ≡ Status.Answered ↔ IsOk answer.now }
+    ensures unreadable { result ≡ Status.Unreadable ↔ (answer.now ≡ Err Failure.Unreadable) }
+{
+    match answer {
+        Ok(_) => Status::Answered,
+        Err(Failure::Refused(_)) => Status::Refused,
+        Err(Failure::Unreadable) => Status::Unreadable,
     }
 }
 
@@ -70,17 +88,68 @@ pub fn respond(alloc: Global, request: &[u8]) -> Result<String, Failure>
     ensures unreadable { result ≡ Err Failure.Unreadable → IsUtf8 request.now → request_in request.now ≡ None }
 {
     let value = parse(alloc, request)?;
-    let outline = read_request(alloc, &value)?;
-    let segments = outline.segments(alloc)?;
-    Ok(edges_line(alloc, &segments)?)
+    answer(alloc, &value)
+}
+
+/// The line that answers the request that a value is.
+fn answer(alloc: Global, value: &Value) -> Result<String, Failure>
+    ensures answered { IfOk result (λ line. (r : Request) × (request_of (view value.now) ≡ Some r) × Answers int_cmp r (string_bytes line)) }
+    ensures refused { result ≡ Err (Failure.Refused IntOutlineError.CoordinateOutOfRange)
+        → (r : Request) × (request_of (view value.now) ≡ Some r) × (IsAccepted r → ⊥) }
+    ensures unreadable { result ≡ Err Failure.Unreadable → request_of (view value.now) ≡ None }
+{
+    if !says(value, "op", "outline") {
+        return Err(Failure::Unreadable);
+    }
+    if says(value, "int", "i16") {
+        answer_outline::<i16>(alloc, value)
+    } else if says(value, "int", "i32") {
+        answer_outline::<i32>(alloc, value)
+    } else {
+        Err(Failure::Unreadable)
+    }
+}
+
+/// The line that answers a request for an outline with coordinates of one type.
+fn answer_outline<I: OverlayInt>(alloc: Global, value: &Value) -> Result<String, Failure>
+    ensures answered { IfOk result (λ line. (r : Request) × (outline_of I.unit (view value.now) ≡ Some r)
+        × Answers (λ a b. I.cmp (I.of_value a) (I.of_value b)) r (string_bytes line)) }
+    ensures refused { result ≡ Err (Failure.Refused IntOutlineError.CoordinateOutOfRange)
+        → (r : Request) × (outline_of I.unit (view value.now) ≡ Some r) × (IsAccepted r → ⊥) }
+    ensures unreadable { result ≡ Err Failure.Unreadable → outline_of I.unit (view value.now) ≡ None }
+{
+    let request = read_outline::<I>(alloc, value)?;
+    Ok(outline_line(alloc, &request)?)
+}
+
+/// The line that lists what is asked of an outline.
+fn outline_line<I: OverlayInt>(
+    alloc: Global,
+    request: &OutlineRequest<I>,
+) -> Result<String, IntOutlineError>
+    ensures answered { IfOk result (λ line. Answers (λ a b. I.cmp (I.of_value a) (I.of_value b)) request.now (string_bytes line)) }
+    ensures refused { result ≡ Err IntOutlineError.CoordinateOutOfRange → ¬ IsAccepted request.now }
+{
+    match request.output {
+        Output::Edges => {
+            let edges = request.edges(alloc)?;
+            Ok(edges_line(alloc, &edges)?)
+        }
+        Output::Shapes(options) => {
+            let shapes = request.shapes(alloc, options)?;
+            Ok(shapes_line(alloc, &shapes)?)
+        }
+    }
 }
 
 fn print<W: Write>(writer: &mut W, answer: &Result<String, Failure>) -> io::Result<()>
-    ensures { OnOk result (IfOk answer.now (λ line. Appends (W.contents writer.old) (W.contents writer.new) (string_bytes line))) }
+    ensures { OnOk result (MatchResult answer.now
+        (λ line. Appends (W.contents writer.old) (W.contents writer.new) (string_bytes line))
+        (λ failure. Appends (W.contents writer.old) (W.contents writer.new) (failure_line failure))) }
 {
     match answer {
         Ok(line) => writer.write_all(line.as_bytes())?,
-        Err(failure) => writeln!(writer, "{failure}")?,
+        Err(failure) => writer.write_all(failure.line().as_bytes())?,
     }
     writer.flush()
 }

@@ -1,6 +1,11 @@
 //! Runs of `serve` over memory, and over readers and writers that fail.
 
+mod shapes;
+mod widths;
+
+use crate::failure::Failure;
 use crate::service::{Status, serve};
+use i_overlay_mesh::IntOutlineError;
 use std::alloc::Global;
 use std::io;
 use std::io::{Error, ErrorKind, Read, Write};
@@ -27,10 +32,10 @@ fn expect(
     Ok(())
 }
 
-/// A request for the edges of one contour with both offsets the same.
-fn outline(alloc: Global, path: &str, offset: i32) -> Result<String, Fail> {
+/// A request for the edges of paths with both offsets the same.
+fn outline(alloc: Global, paths: &str, offset: i32) -> Result<String, Fail> {
     let text = format!(in alloc;
-        "{{\"op\":\"outline\",\"int\":\"i32\",\"out\":\"edges\",\"paths\":[{path}],\"style\":{{\"outer\":{offset},\"inner\":{offset}}}}}"
+        "{{\"op\":\"outline\",\"int\":\"i32\",\"out\":\"edges\",\"paths\":[{paths}],\"style\":{{\"outer\":{offset},\"inner\":{offset}}}}}"
     )?;
     Ok(text)
 }
@@ -99,6 +104,53 @@ fn refusals(rt: HostRuntime) -> Result<(), Fail> {
     )
 }
 
+/// A list of edges for each path, in the order of the paths.
+#[test]
+fn many_paths(rt: HostRuntime) -> Result<(), Fail> {
+    let rows = [
+        ("", 1, "[]"),
+        ("[],[[0,0]],[[0,0],[8,0],[0,0],[8,0]]", 1, "[[],[],[]]"),
+        (
+            "[[2,2],[2,6],[6,6],[6,2]],[[0,0]],[[0,0],[8,0],[8,8],[0,8]]",
+            0,
+            "[[[[2,2],[2,6]],[[2,6],[6,6]],[[6,2],[2,2]],[[6,6],[6,2]]],[],[[[0,0],[8,0]],[[0,8],[0,0]],[[8,0],[8,8]],[[8,8],[0,8]]]]",
+        ),
+    ];
+    for (paths, offset, lists) in rows {
+        let request = outline(rt.alloc(), paths, offset)?;
+        let line = format!(in rt.alloc(); "{{\"edges\":{lists}}}\n")?;
+        expect(
+            &rt,
+            rt.alloc(),
+            request.as_bytes(),
+            Status::Answered,
+            line.as_str(),
+        )?;
+    }
+    Ok(())
+}
+
+/// One path that is not accepted is enough, wherever it stands.
+#[test]
+fn many_refusals(rt: HostRuntime) -> Result<(), Fail> {
+    let twice = format!(in rt.alloc(); "[[0,0]],[{WIDEST},{WIDEST}],[[0,0]]")?;
+    for (paths, offset) in [
+        ("[[0,0]],[[1073740800,0]]", 1024),
+        ("[[0,0],[0,-1073740800]],[]", 1024),
+        (twice.as_str(), 0),
+    ] {
+        let request = outline(rt.alloc(), paths, offset)?;
+        expect(
+            &rt,
+            rt.alloc(),
+            request.as_bytes(),
+            Status::Refused,
+            OUT_OF_RANGE,
+        )?;
+    }
+    Ok(())
+}
+
 const POINT_START: &str =
     "{\"op\":\"outline\",\"int\":\"i32\",\"out\":\"edges\",\"paths\":[[[0,0]]]";
 
@@ -163,9 +215,12 @@ fn unreadable(rt: HostRuntime) -> Result<(), Fail> {
         "{\"op\":\"outline\"",
         "{\"op\":\"stroke\"",
         "[]",
-        "{\"op\":\"outline\",\"int\":\"i16\",\"out\":\"shapes\",\"paths\":[[[15360,0]]],\"style\":{\"outer\":1024,\"inner\":1024}}",
-        "{\"op\":\"outline\",\"int\":\"i32\",\"out\":\"shapes\",\"paths\":[[[0,0]]],\"style\":{\"outer\":1,\"inner\":1}}",
-        "{\"op\":\"outline\",\"int\":\"i16\",\"out\":\"edges\",\"paths\":[[[0,0]]],\"style\":{\"outer\":1,\"inner\":1}}",
+        "{\"op\":\"outline\",\"int\":\"i64\",\"out\":\"edges\",\"paths\":[[[0,0]]],\"style\":{\"outer\":1,\"inner\":1}}",
+        "{\"op\":\"outline\",\"int\":32,\"out\":\"edges\",\"paths\":[[[0,0]]],\"style\":{\"outer\":1,\"inner\":1}}",
+        "{\"op\":\"outline\",\"int\":\"i32\",\"out\":\"edge\",\"paths\":[[[0,0]]],\"style\":{\"outer\":1,\"inner\":1}}",
+        "{\"op\":\"outline\",\"int\":\"i32\",\"out\":null,\"paths\":[[[0,0]]],\"style\":{\"outer\":1,\"inner\":1}}",
+        "{\"op\":\"outline\",\"int\":\"i32\",\"out\":\"edges\",\"paths\":null,\"style\":{\"outer\":1,\"inner\":1}}",
+        "{\"op\":\"outline\",\"int\":\"i32\",\"out\":\"edges\",\"paths\":{},\"style\":{\"outer\":1,\"inner\":1}}",
         "{\"int\":\"i32\",\"out\":\"edges\",\"paths\":[[[0,0]]],\"style\":{\"outer\":1,\"inner\":1}}",
         "{\"op\":\"outline\",\"out\":\"edges\",\"paths\":[[[0,0]]],\"style\":{\"outer\":1,\"inner\":1}}",
         "{\"op\":\"outline\",\"int\":\"i32\",\"paths\":[[[0,0]]],\"style\":{\"outer\":1,\"inner\":1}}",
@@ -194,8 +249,9 @@ fn unreadable(rt: HostRuntime) -> Result<(), Fail> {
 #[test]
 fn unreadable_paths(rt: HostRuntime) -> Result<(), Fail> {
     let paths = [
-        "",
-        "[[0,0]],[[0,0]]",
+        "[[0,0]],null",
+        "[[0,0]],[[0]]",
+        "[[0,0]],[0,0]",
         "null",
         "[[0]]",
         "[[0,0,0]]",
@@ -259,12 +315,26 @@ fn unreadable_rests(rt: HostRuntime) -> Result<(), Fail> {
     Ok(())
 }
 
-/// Gives the bytes one by one, with an interruption before each, and then fails.
+/// The lines of refusals have the library's own words.
+#[test]
+fn failure_lines(rt: HostRuntime) -> Result<(), Fail> {
+    for error in [
+        IntOutlineError::CoordinateOutOfRange,
+        IntOutlineError::OutOfMemory,
+    ] {
+        let line = format!(in rt.alloc(); "{{\"refused\":\"{error}\"}}\n")?;
+        assert_eq!(rt; Failure::from(error).line(), line.as_str());
+    }
+    assert_eq!(rt; Failure::Unreadable.line(), UNREADABLE);
+    Ok(())
+}
+
+/// Gives the bytes one by one, with an interruption before each, and then ends, or fails.
 #[derive(Drop)]
 struct FailingReader<'a> {
     left: &'a [u8],
     interrupted: bool,
-    end: ErrorKind,
+    end: Option<ErrorKind>,
 }
 
 impl Read for FailingReader<'_> {
@@ -279,7 +349,10 @@ impl Read for FailingReader<'_> {
                 self.left = left;
                 Ok(1)
             }
-            _ => Err(Error::from(self.end)),
+            _ => match self.end {
+                Some(kind) => Err(Error::from(kind)),
+                None => Ok(0),
+            },
         }
     }
 }
@@ -312,13 +385,67 @@ fn failing_reader(rt: HostRuntime) -> Result<(), Fail> {
         let mut reader = FailingReader {
             left: request.as_bytes(),
             interrupted: false,
-            end,
+            end: Some(end),
         };
         let mut writer = Vec::new(rt.alloc());
         let status = serve(rt.alloc(), &mut reader, &mut writer);
         assert_eq!(rt; status, Status::Unreadable);
         assert_eq!(rt; writer.as_slice(), UNREADABLE.as_bytes());
     }
+    Ok(())
+}
+
+/// An interrupted read is tried again.
+#[test]
+fn interrupted_reader(rt: HostRuntime) -> Result<(), Fail> {
+    let request = outline(rt.alloc(), "[]", 1)?;
+    let mut reader = FailingReader {
+        left: request.as_bytes(),
+        interrupted: false,
+        end: None,
+    };
+    let mut writer = Vec::new(rt.alloc());
+    let status = serve(rt.alloc(), &mut reader, &mut writer);
+    assert_eq!(rt; status, Status::Answered);
+    assert_eq!(rt; writer.as_slice(), "{\"edges\":[[]]}\n".as_bytes());
+    Ok(())
+}
+
+/// A request is read to its end, however long it is.
+#[test]
+fn long_request(rt: HostRuntime) -> Result<(), Fail> {
+    let request = outline(rt.alloc(), "[]", 1)?;
+    let mut text = vec![in rt.alloc(); 32u8; 200_000]?;
+    text.extend_from_slice(request.as_bytes())?;
+    expect(
+        &rt,
+        rt.alloc(),
+        &text,
+        Status::Answered,
+        "{\"edges\":[[]]}\n",
+    )
+}
+
+/// Takes all bytes, and fails to hand them on.
+#[derive(Drop)]
+struct FailingFlush;
+
+impl Write for FailingFlush {
+    fn write(&mut self, buf: &[u8]) -> io::Result<usize> {
+        Ok(buf.len())
+    }
+
+    fn flush(&mut self) -> io::Result<()> {
+        Err(Error::from(ErrorKind::BrokenPipe))
+    }
+}
+
+#[test]
+fn failing_flush(rt: HostRuntime) -> Result<(), Fail> {
+    let request = outline(rt.alloc(), "[]", 1)?;
+    let mut reader = request.as_bytes();
+    let status = serve(rt.alloc(), &mut reader, &mut FailingFlush);
+    assert_eq!(rt; status, Status::Refused);
     Ok(())
 }
 

@@ -123,12 +123,9 @@ fn expect_loop(
     Ok(())
 }
 
-#[test]
-fn worked_loops(rt: HostRuntime) -> Result<(), Fail> {
-    let alloc = rt.alloc();
-    expect_loop(
-        &rt,
-        alloc,
+/// Contours, offsets, and the loops that their outlines are.
+const LOOPS: &[(&[(i32, i32)], i32, &[Point])] = &[
+    (
         &SQUARE,
         1024,
         &[
@@ -141,10 +138,8 @@ fn worked_loops(rt: HostRuntime) -> Result<(), Fail> {
             (-1024, 16_384),
             (-1024, 0),
         ],
-    )?;
-    expect_loop(
-        &rt,
-        alloc,
+    ),
+    (
         &SQUARE,
         -1024,
         &[
@@ -161,17 +156,13 @@ fn worked_loops(rt: HostRuntime) -> Result<(), Fail> {
             (1024, 0),
             (0, 0),
         ],
-    )?;
-    expect_loop(
-        &rt,
-        alloc,
+    ),
+    (
         &SQUARE,
         0,
         &[(0, 0), (16_384, 0), (16_384, 16_384), (0, 16_384)],
-    )?;
-    expect_loop(
-        &rt,
-        alloc,
+    ),
+    (
         &HOLE,
         1024,
         &[
@@ -188,15 +179,17 @@ fn worked_loops(rt: HostRuntime) -> Result<(), Fail> {
             (4096, 5120),
             (4096, 4096),
         ],
-    )?;
-    expect_loop(
-        &rt,
-        alloc,
-        &[(0, 0), (10, 0)],
-        4,
-        &[(0, -4), (10, -4), (10, 4), (0, 4)],
-    )?;
-    expect_loop(&rt, alloc, &[(7, 7), (7, 7), (7, 7)], 4, &[])
+    ),
+    (&[(0, 0), (10, 0)], 4, &[(0, -4), (10, -4), (10, 4), (0, 4)]),
+    (&[(7, 7), (7, 7), (7, 7)], 4, &[]),
+];
+
+#[test]
+fn worked_loops(rt: HostRuntime) -> Result<(), Fail> {
+    for (contour, offset, points) in LOOPS.iter().copied() {
+        expect_loop(&rt, rt.alloc(), contour, offset, points)?;
+    }
+    Ok(())
 }
 
 #[test]

@@ -1,6 +1,6 @@
 //! The pieces between a contour and its bevelled outline, made from the contour's own points and their neighbours.
 
-use crate::plain::{Edge, Point, closed, cross, dot, minus, plus, winding};
+use crate::plain::{Edge, Point, closed, cross, dot, fan, holds, minus, plus, winding};
 use std::alloc::{AllocError, Global};
 
 /// The pieces of an outline, each as the edges round it.
@@ -83,6 +83,31 @@ fn rounded(a: i128, divisor: i128) -> i128 {
     if a < 0 { size.wrapping_neg() } else { size }
 }
 
+/// The corners of the strip between an edge and where it is moved.
+fn strip(unit: i128, offset: i128, edge: Edge) -> [Point; 4] {
+    let (a, b) = edge;
+    let moved = sideways(unit, offset, edge);
+    [a, plus(a, moved), plus(b, moved), b]
+}
+
+/// The points that a bevel joins at a corner: none at an inner one, nor where the edges are moved alike.
+fn bevel_list(
+    alloc: Global,
+    unit: i128,
+    offset: i128,
+    before: Edge,
+    after: Edge,
+) -> Result<Vec<Point>, AllocError> {
+    let from = plus(after.0, sideways(unit, offset, before));
+    let to = plus(after.0, sideways(unit, offset, after));
+    let mut list = Vec::new(alloc);
+    if is_outer(offset, before, after) && from != to {
+        list.push(from)?;
+        list.push(to)?;
+    }
+    Ok(list)
+}
+
 impl Pieces {
     /// The strips beside the edges of the cleaned contour and the triangles of its outer corners.
     pub fn of_outline(
@@ -94,13 +119,10 @@ impl Pieces {
         let mut boundaries = Vec::new(alloc);
         if offset != 0 {
             for (before, after) in corners(alloc, &cleaned(alloc, contour)?)? {
-                let (a, b) = after;
-                let moved = sideways(unit, offset, after);
-                let (a_top, b_top) = (plus(a, moved), plus(b, moved));
-                boundaries.push(closed(alloc, &[a, a_top, b_top, b])?)?;
-                let from = plus(a, sideways(unit, offset, before));
-                if is_outer(offset, before, after) && from != a_top {
-                    boundaries.push(closed(alloc, &[a, from, a_top])?)?;
+                boundaries.push(closed(alloc, &strip(unit, offset, after))?)?;
+                let list = bevel_list(alloc, unit, offset, before, after)?;
+                for triangle in fan(alloc, after.0, &list)? {
+                    boundaries.push(closed(alloc, &triangle)?)?;
                 }
             }
         }
@@ -113,10 +135,9 @@ impl Pieces {
         let mut count = 0i128;
         let mut once = true;
         for boundary in &self.boundaries {
-            let turns = winding(m, q, boundary);
-            if turns != 0 {
+            if holds(m, q, boundary) {
                 count = count.wrapping_add(1);
-                once = once && turns == self.offset.signum();
+                once = once && winding(m, q, boundary) == self.offset.signum();
             }
         }
         (count, once)

@@ -1,13 +1,13 @@
-//! Small inputs with answers. They were drawn at random, and answered by a reference program in Python that was written
-//! from the definitions, apart from this repository.
+//! Small inputs with answers. `make_tables.py` of this crate drew them at random, with the seed 1, and a reference
+//! program in Python answered them, which was written from the definitions, apart from this repository. The script wrote
+//! these files: change it, and not them.
 
-mod crossings;
-mod outlines;
-mod windings;
-
-pub use crossings::CROSSINGS;
-pub use outlines::{OUTLINES, OutlineRow};
-pub use windings::WINDINGS;
+pub mod crossings;
+pub mod fans;
+pub mod net_counts;
+pub mod outlines;
+pub mod pieces;
+pub mod windings;
 
 /// A point of small coordinates.
 pub type Spot = (i8, i8);

@@ -16,7 +16,7 @@ pub(crate) fn unit<I: IntNumber>() -> u128
 }
 
 /// A coordinate in 128 bits.
-pub(crate) fn widen<I: IntNumber>(number: I) -> i128
+pub fn widen<I: IntNumber>(number: I) -> i128
     ensures value { result ≡ I.value number }
     ensures range { IsWithin (2 * I.unit) (I.value number) }
 {
@@ -25,7 +25,7 @@ pub(crate) fn widen<I: IntNumber>(number: I) -> i128
 }
 
 /// A number of 128 bits as a coordinate, which it has to fit.
-pub(crate) fn narrow<I: IntNumber>(number: i128) -> I
+pub fn narrow<I: IntNumber>(number: i128) -> I
     requires { IsWithin (2 * I.unit) number }
     ensures { I.value result ≡ number }
 {

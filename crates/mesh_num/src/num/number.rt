@@ -71,6 +71,8 @@ pub trait WideUnsigned: Copy + Debug + Drop + Ord + Hash {
         ensures { value result ≡ number };
 
     ghost limit_law: { limit ≤ 2 ^ 64 };
+
+    ghost zero_law: { 0 < limit };
 }
 
 /// A signed coordinate type, in grid units. `UNIT` is the length of a direction and the bound of the safe range:
@@ -244,6 +246,8 @@ impl WideUnsigned for u32 {
     }
 
     ghost limit_law = { lit≤ tt };
+
+    ghost zero_law = { lit≤ tt };
 }
 
 impl WideUnsigned for u64 {
@@ -260,6 +264,8 @@ impl WideUnsigned for u64 {
     }
 
     ghost limit_law = { lit≤ tt };
+
+    ghost zero_law = { lit≤ tt };
 }
 
 impl IntNumber for i16 {

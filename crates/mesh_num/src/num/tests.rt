@@ -288,6 +288,10 @@ fn steps_between_widths(rt: HostRuntime) {
         (u32::from_u128(4294967295), u64::from_u128(9)),
         (4294967295, 9)
     );
+}
+
+#[test]
+fn sizes_and_orders(rt: HostRuntime) {
     assert_eq!(rt;
         (wide_size::<i16>(-32768), wide_size::<i32>(-2147483648)),
         (32768, 2147483648)

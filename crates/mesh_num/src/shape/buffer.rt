@@ -30,7 +30,7 @@ impl<I: IntNumber> FlatContoursBuffer<I> {
         }
     }
 
-    /// The contours of the shapes, in order.
+    /// The contours of the shapes, in order. It fails only where memory is refused.
     pub fn from_shapes(alloc: Global, shapes: &IntShapes<I>) -> Result<Self, AllocError>
         ensures { IfOk result (λ b. HoldsContours b (contours_of (shapes_of shapes.now.items))) }
     {

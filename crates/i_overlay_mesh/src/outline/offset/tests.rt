@@ -1,5 +1,9 @@
 //! Worked points at the ends of the safe range and of the types.
 
+mod compared;
+mod sources;
+mod worked;
+
 use super::IntOutlineOffset;
 use crate::error::IntOutlineError;
 use mesh_join::style::IntOutlineStyle;

@@ -1,5 +1,5 @@
-use Rattle.std.proofs.Common.{lit≤, lit<, ◌≡◌, ◌+◌, ◌^◌, ◌≤◌, rules}
-use Rattle.std.specs.Prelude.{ℤ, ◌-ℤ◌, ◌*ℤ◌, unsigned_abs}
+use Rattle.std.proofs.Common.{lit<, ◌+◌, ◌^◌, rules}
+use Rattle.std.specs.Prelude.{◌-ℤ◌}
 use Rattle.std.proofs.lemmas.Int.{to_z-of_z}
 use mir.Syntax.{w32}
 use mir.Val.{SFits}

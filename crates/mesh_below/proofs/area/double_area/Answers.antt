@@ -1,4 +1,4 @@
-use Rattle.std.proofs.Common.{rules, ◌≡◌, ℕ, ◌^◌, ◌<◌, ◌≤◌, lit≤, length, arith, sym, ◌∙◌}
+use Rattle.std.proofs.Common.{rules, ◌^◌, ◌<◌, lit≤, length, arith, sym, ◌∙◌}
 use Rattle.mesh_num.specs.Plane.{cross}
 use mir.Syntax.{w128}
 use mir.Val.{to_z}

@@ -1,8 +1,7 @@
-use Rattle.std.proofs.Common.{lit≤, lit<, ◌≡◌, ◌*◌, ◌^◌, ◌≤◌, subst, sym, arith}
-use Rattle.std.specs.Prelude.{ℤ, ◌*ℤ◌, unsigned_abs}
-use Rattle.std.proofs.lemmas.Int.{ints, to_z-of_z}
-use mir.Syntax.{w32, w128}
-use mir.Val.{to_z, of_z}
+use Rattle.std.proofs.Common.{lit<, ◌*◌, ◌^◌}
+use Rattle.std.specs.Prelude.{◌*ℤ◌}
+use Rattle.std.proofs.lemmas.Int.{to_z-of_z}
+use mir.Syntax.{w32}
 use Rattle.mesh_below.proofs.AreaSums.{held, narrow_size, product_size}
 use Rattle.mesh_below.proofs.area.long.Goals as goal
 

@@ -1,4 +1,4 @@
-use Rattle.std.proofs.Common.{◌≡◌, ◌<◌, ◌∙◌, ap, sym, subst, ℕ, List, length}
+use Rattle.std.proofs.Common.{◌<◌, sym, subst, ℕ, List, length}
 use Rattle.std.specs.Prelude.{slice_index_or}
 use Rattle.mesh_below.specs.Grouping.{views, IsHome}
 use Rattle.mesh_below.proofs.arrange.grouped.Goals as goal

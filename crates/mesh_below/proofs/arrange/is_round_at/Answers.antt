@@ -1,6 +1,5 @@
-use Rattle.std.proofs.Common.{rules, ◌≡◌, ◌∙◌, ap, true, arith, length, get_or}
+use Rattle.std.proofs.Common.{rules, ◌≡◌, ◌∙◌, ap, true, arith, get_or}
 use Rattle.std.specs.Prelude.{pos, int_lt}
-use Rattle.mesh_num.specs.Plane.{Point}
 use Rattle.mesh_num.specs.Winding.{holds}
 use Rattle.mesh_below.specs.Grouping.{view}
 use Rattle.mesh_below.proofs.Groups.{length_map}

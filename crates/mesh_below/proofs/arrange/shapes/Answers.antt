@@ -1,4 +1,4 @@
-use Rattle.std.proofs.Common.{◌≡◌, ◌^◌, ◌∙◌, ap, sym, subst, ℕ, List, map}
+use Rattle.std.proofs.Common.{◌^◌, ◌∙◌, ap, sym, subst, List, map}
 use Rattle.std.specs.List.{All, enumerate_from}
 use Rattle.std.proofs.lemmas.List.Sorted.{IsPermutation-map, All-permutation}
 use Rattle.mesh_num.specs.Bounds.{IsSafe}

@@ -1,5 +1,5 @@
-use Rattle.std.proofs.Common.{lit≤, ◌*◌, ◌^◌, ◌≡◌}
-use Rattle.std.specs.Prelude.{◌*ℤ◌, ◌-ℤ◌}
+use Rattle.std.proofs.Common.{lit≤, ◌^◌}
+use Rattle.std.specs.Prelude.{◌-ℤ◌}
 use Rattle.mesh_num.specs.Bounds.{IsSmall}
 use Rattle.mesh_below.proofs.Arithmetic.{small_kept, small_difference, small_fits}
 use Rattle.mesh_below.proofs.fine.cross.Goals as goal

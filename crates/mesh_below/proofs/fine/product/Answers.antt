@@ -1,4 +1,4 @@
-use Rattle.std.proofs.Common.{lit≤, ◌*◌, ◌^◌}
+use Rattle.std.proofs.Common.{lit≤, ◌^◌}
 use Rattle.std.specs.Prelude.{◌*ℤ◌}
 use Rattle.mesh_num.specs.Bounds.{IsSmall}
 use Rattle.mesh_below.proofs.Arithmetic.{small_kept, small_product}

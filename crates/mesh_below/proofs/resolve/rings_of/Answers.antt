@@ -8,10 +8,10 @@ use Rattle.mesh_below.specs.Grouping.{PushesRing}
 use Rattle.mesh_below.proofs.Resolving.{rings_more, of_one}
 use Rattle.mesh_below.proofs.resolve.rings_of.Goals as goal
 
-pub push_ring-requires : goal.push_ring-requires
-push_ring-requires c =
+pub push_ring-requires-clause-proper : goal.push_ring-requires-clause-proper
+push_ring-requires-clause-proper c =
     subst (λ (ps : List Point). All (λ (e : Edge). same_point e.0 e.1 ≡ false) (boundary ps)) (sym (c.deref.ensures.value ∙ ap (λ (v : Vec Point Global). v.items) c.contour-item.is))
-    (of_one (λ (e : Edge). same_point e.0 e.1 ≡ false) c.args.contours.now c.loop-contour.contour-index c.contour-item.result c.loop-contour-test.true c.requires)
+    (of_one (λ (e : Edge). same_point e.0 e.1 ≡ false) c.args.contours.now c.loop-contour.contour-index c.contour-item.result c.loop-contour-test.true c.requires.proper)
 
 pub loop-contour-preserved : goal.loop-contour-preserved
 loop-contour-preserved c =

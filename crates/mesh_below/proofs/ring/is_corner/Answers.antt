@@ -1,5 +1,5 @@
-use Rattle.std.proofs.Common.{lit≤, ◌≡◌, ◌^◌, ◌∙◌, sym, ap, true, eqb-true, arith, eq-eqb}
-use Rattle.std.specs.Prelude.{ℤ, pos, int_lt, eqb}
+use Rattle.std.proofs.Common.{lit≤, ◌≡◌, ◌^◌, ◌∙◌, sym, ap, eqb-true, eq-eqb}
+use Rattle.std.specs.Prelude.{ℤ, pos, int_lt}
 use Rattle.mesh_num.specs.Plane.{minus, cross, dot}
 use Rattle.mesh_below.proofs.Arithmetic.{zero_bits, small_fits, small_kept}
 use Rattle.mesh_below.proofs.ContoursBegun.{corner_yes, corner_flat}

@@ -1,5 +1,5 @@
-use Rattle.std.proofs.Common.{◌≡◌, ◌^◌, ◌∙◌, ap, sym, subst, arith, take, length, List, take_all}
-use Rattle.std.specs.Prelude.{ℤ, pos, ◌≤ℤ◌}
+use Rattle.std.proofs.Common.{◌≡◌, ◌∙◌, ap, sym, subst, arith, take, List, take_all}
+use Rattle.std.specs.Prelude.{pos}
 use Rattle.std.specs.List.{flat_map}
 use Rattle.std.proofs.lemmas.Int.{ints}
 use Rattle.mesh_num.specs.Plane.{Edge}

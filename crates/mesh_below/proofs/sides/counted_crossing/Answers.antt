@@ -1,8 +1,8 @@
-use Rattle.std.proofs.Common.{lit≤, ◌≡◌, ◌^◌, ◌∙◌, ap, subst, sym, arith}
-use Rattle.std.specs.Prelude.{ℤ, pos, neg_ℤ, ◌-ℤ◌, ◌*ℤ◌, ◌≤ℤ◌, ◌<ℤ◌, unsigned_abs}
+use Rattle.std.proofs.Common.{lit≤, ◌≡◌, ◌^◌, ◌∙◌, ap, arith}
+use Rattle.std.specs.Prelude.{ℤ, pos, neg_ℤ, ◌-ℤ◌, ◌*ℤ◌, ◌≤ℤ◌, ◌<ℤ◌}
 use Rattle.std.proofs.lemmas.Int.{ints}
 use Rattle.mesh_num.specs.Bounds.{IsSmall}
-use Rattle.mesh_num.specs.Winding.{crossing, crossing_on}
+use Rattle.mesh_num.specs.Winding.{crossing}
 use Rattle.mesh_below.proofs.Arithmetic.{small_kept}
 use Rattle.mesh_below.proofs.SidesCode.{times_up, times_down, times_none, count_small}
 use Rattle.mesh_below.proofs.sides.counted_crossing.Goals as goal

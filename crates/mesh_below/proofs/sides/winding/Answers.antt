@@ -1,11 +1,10 @@
-use Rattle.std.proofs.Common.{lit≤, ◌≡◌, ◌^◌, ◌+◌, ◌∙◌, ap, sym, subst, arith, take, length, get_or}
+use Rattle.std.proofs.Common.{◌≡◌, ◌+◌, ◌∙◌, ap, sym, subst, arith, take}
 use Rattle.std.specs.Prelude.{ℤ, pos, ◌+ℤ◌, ◌*ℤ◌, ◌≤ℤ◌, unsigned_abs}
 use Rattle.std.proofs.lemmas.Int.{ints, to_z-of_z}
 use mir.Syntax.{w128}
 use mir.Val.{SFits, to_z, of_z}
 use Rattle.mesh_num.specs.Winding.{sum_of, crossing_on}
 use Rattle.mesh_below.specs.Counted.{Counted}
-use Rattle.mesh_below.specs.CountedSides.{counted_winding}
 use Rattle.mesh_below.specs.Steps.{size}
 use Rattle.mesh_below.proofs.SidesCode.{size_least, sum_least, next_part, sum_more, adds_of}
 use Rattle.mesh_below.proofs.sides.winding.Goals as goal

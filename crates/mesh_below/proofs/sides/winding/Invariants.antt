@@ -1,5 +1,5 @@
-use Rattle.std.proofs.Common.{◌≡◌, ◌^◌, take}
-use Rattle.std.specs.Prelude.{ℤ, pos, ◌≤ℤ◌, unsigned_abs}
+use Rattle.std.proofs.Common.{◌≡◌, take}
+use Rattle.std.specs.Prelude.{pos, ◌≤ℤ◌, unsigned_abs}
 use Rattle.mesh_num.specs.Winding.{sum_of}
 use Rattle.mesh_below.specs.CountedSides.{counted_winding}
 use Rattle.mesh_below.specs.Steps.{size}

@@ -1,4 +1,4 @@
-use Rattle.std.proofs.Common.{rules, ◌≡◌, subst, sym, ap, ◌∙◌, length, false, List, [], ◌*◌, ◌+◌, ◌<◌, ◌≤◌, ◌^◌, arith}
+use Rattle.std.proofs.Common.{rules, ◌≡◌, subst, sym, length, false, List, ◌*◌, ◌+◌, ◌<◌, ◌≤◌, ◌^◌, arith}
 use Rattle.std.specs.Prelude.{pos, ◌≤ℤ◌}
 use Rattle.mesh_num.specs.Winding.{same_point, sum_of}
 use Rattle.mesh_below.specs.Counted.{Counted}

@@ -1,4 +1,4 @@
-use Rattle.std.proofs.Common.{◌≡◌, arith}
+use Rattle.std.proofs.Common.{arith}
 use Rattle.mesh_below.proofs.Walking.{taken_init, taken_more, taken_all}
 use Rattle.mesh_below.proofs.walk.contours_of.Goals as goal
 
@@ -13,7 +13,10 @@ loop-first-preserved c =
     taken_more c.args.edges.now c.args.used.now c.loop-first.used c.add_contour.new.used c.loop-first.contours.items c.add_contour.new.contours.items c.loop-first.first
     c.loop-first.invariant c.in_ok-add_contour.ensures
 
-pub returns : goal.returns
-returns c =
+pub returns-clause-edges : goal.returns-clause-edges
+returns-clause-edges c =
     taken_all c.args.edges.now c.args.used.now c.loop-first.used c.loop-first.contours.items c.loop-first.first c.loop-first.invariant c.loop-first-test.false
     (omega (arith, c.loop-first.auto.used, c.requires.marks))
+
+pub returns-clause-have_points : goal.returns-clause-have_points
+returns-clause-have_points c = c.loop-first.invariant.have_points

@@ -1,4 +1,4 @@
-use Rattle.std.proofs.Common.{◌≡◌, ℕ, ◌+◌, ◌-◌, ◌/◌, ◌<◌, ◌≤◌, ◌∙◌, sym, arith, length, true, false}
+use Rattle.std.proofs.Common.{◌+◌, ◌-◌, ◌/◌, ◌<◌, ◌∙◌, sym, arith, length}
 use Rattle.std.specs.Prelude.{pos}
 use Rattle.mesh_below.proofs.Walking.{below_mid, above_mid}
 use Rattle.mesh_below.proofs.walk.first_from.Goals as goal

@@ -1,4 +1,3 @@
-use Rattle.std.proofs.Common.{◌≡◌}
 use Rattle.std.specs.Prelude.{ℤ}
 use Rattle.mesh_num.specs.Plane.{Edge}
 use Rattle.mesh_num.proofs.Sums.{sum_of_permutation}

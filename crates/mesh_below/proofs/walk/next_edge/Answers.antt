@@ -1,5 +1,5 @@
-use Rattle.std.proofs.Common.{◌≡◌, ℕ, ◌<◌, ◌≤◌, ◌∙◌, ap, sym, arith, length, get_or, true, false, not}
-use Rattle.std.specs.Prelude.{pos, Option, None, Some, MatchOption}
+use Rattle.std.proofs.Common.{◌∙◌, ap, sym, get_or}
+use Rattle.std.specs.Prelude.{pos}
 use Rattle.std.proofs.lemmas.List.{get_or_default}
 use Rattle.mesh_num.specs.Plane.{Edge}
 use Rattle.mesh_below.specs.Unused.{IsNext}

@@ -1,4 +1,4 @@
-use Rattle.std.proofs.Common.{◌≡◌, ℕ, ◌<◌, ◌≤◌, length}
+use Rattle.std.proofs.Common.{ℕ, ◌<◌}
 use Rattle.std.specs.Prelude.{MatchOption}
 use Rattle.mesh_below.specs.Unused.{IsNext}
 use Rattle.mesh_below.proofs.walk.next_edge.Given as goal

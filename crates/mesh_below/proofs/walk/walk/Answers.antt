@@ -1,7 +1,7 @@
-use Rattle.std.proofs.Common.{◌≡◌, ℕ, ◌∙◌, ap, sym, [], ◌∷◌, ◌++◌, List, get_or}
+use Rattle.std.proofs.Common.{◌≡◌, ◌∙◌, ap, [], ◌∷◌, ◌++◌, List, get_or}
 use Rattle.std.specs.Prelude.{pos}
-use Rattle.mesh_num.specs.Plane.{Edge, Point}
-use Rattle.mesh_below.proofs.Walking.{walk_init, walk_step, walk_smaller, walk_closed, walk_goes_on}
+use Rattle.mesh_num.specs.Plane.{Point}
+use Rattle.mesh_below.proofs.Walking.{walk_has_points, walk_init, walk_step, walk_smaller, walk_goes_on}
 use Rattle.mesh_below.proofs.walk.walk.Goals as goal
 
 pub loop-k-init : goal.loop-k-init
@@ -22,3 +22,9 @@ loop-k-preserved c =
 pub returns-clause-closed : goal.returns-clause-closed
 returns-clause-closed c =
     absurd (walk_goes_on c.args.edges.now c.args.used.now c.loop-k.used c.args.first c.loop-k.points.items c.loop-k.at c.requires.first_in c.requires.balanced c.loop-k.invariant c.in_default.ensures)
+
+pub returns-then-k-first-clause-has_points : goal.returns-then-k-first-clause-has_points
+returns-then-k-first-clause-has_points c = walk_has_points c.args.edges.now c.args.used.now c.loop-k.used c.args.first c.loop-k.points.items c.loop-k.at c.loop-k.invariant
+
+pub returns-clause-has_points : goal.returns-clause-has_points
+returns-clause-has_points c = walk_has_points c.args.edges.now c.args.used.now c.loop-k.used c.args.first c.loop-k.points.items c.loop-k.at c.loop-k.invariant

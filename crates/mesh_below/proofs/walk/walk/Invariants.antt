@@ -1,4 +1,4 @@
-use Rattle.std.proofs.Common.{ℕ, length}
+use Rattle.std.proofs.Common.{length}
 use Rattle.mesh_below.specs.Unused.{unused}
 use Rattle.mesh_below.proofs.Walking.{IsWalk}
 use Rattle.mesh_below.proofs.walk.walk.Given as goal

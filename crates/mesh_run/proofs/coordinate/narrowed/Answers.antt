@@ -3,7 +3,7 @@ use Rattle.std.proofs.Common.{◌*◌, arith, rules}
 use mir.Syntax.{w128}
 use mir.Val.{to_z, of_z}
 use Rattle.mesh_num.specs.Bounds.{IsWithin}
-use Rattle.mesh_run.proofs.Areas.{within_wide}
+use Rattle.mesh_run.proofs.Ranges.{within_wide}
 use Rattle.mesh_run.proofs.coordinate.narrowed.Goals as goal
 
 pub wide_from_i128-requires : goal.wide_from_i128-requires

@@ -1,5 +1,5 @@
 -- What the walk adds, and that it can go on.
-use Rattle.std.proofs.Common.{◌≡◌, ◌∷◌, ◌++◌, refl, sym, ◌∙◌, ap}
+use Rattle.std.proofs.Common.{◌++◌, sym, ◌∙◌, ap}
 use Rattle.mesh_join.specs.Cleaned.{cleaned_sections}
 use Rattle.mesh_join.proofs.CleaningSteps.{cleaned-none}
 use Rattle.i_overlay_mesh.specs.Building.{top_segments}

@@ -48,3 +48,7 @@ returns c =
     inr
     (subst (λ (ks : List Counted). IsNew ks c.insert-2.new.self.entries s) c.self.view_is
     (subst (λ (ks : List Counted). IsNew es ks s) (sym entries) new))
+
+pub invariant_of-self-in_err-push : goal.invariant_of-self-in_err-push
+invariant_of-self-in_err-push c =
+    rw c.in_ok-insert-2.ensures.entries (All-keys-insert_entry edge_cmp c.args.s.0 _ IsForward c.self.inside.counts.entries c.self.invariant c.requires.forward)

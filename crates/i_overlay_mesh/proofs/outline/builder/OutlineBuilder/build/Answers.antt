@@ -1,5 +1,5 @@
 -- What holds of the edges that the walk added.
-use Rattle.std.proofs.Common.{◌≡◌, ◌<◌, ◌≤◌, ◌^◌, arith}
+use Rattle.std.proofs.Common.{◌≤◌, ◌^◌, arith}
 use Rattle.i_overlay_mesh.proofs.BuilderTheorems.{adds_few, adds_balanced, adds_near, adds_safe, adds_pieces, pieces_never_turned, adds_count}
 use Rattle.i_overlay_mesh.proofs.outline.builder.OutlineBuilder.build.Goals as goal
 

@@ -1,0 +1,132 @@
+-- Lemmas over points and lists: the edges of contours are added one after another.
+use Rattle.std.proofs.Common.{◌≡◌, ℕ, suc, ◌+◌, ◌<◌, ◌≤◌, List, [], ◌∷◌, ◌++◌, length, take, drop, get_or, refl, sym, ap, ◌∙◌, add-one, take_all, append_assoc}
+use Rattle.std.specs.Prelude.{ℤ}
+use Rattle.std.specs.List.{flat_map}
+use Rattle.std.specs.declared.vec.Vec.{Vec}
+use Rattle.std.specs.declared.alloc.Global.{Global}
+use Rattle.std.proofs.Math.Seq.{drop-cons}
+use Rattle.std.proofs.lemmas.List.{append-nil, drop_all, map_more, map-append, take_more}
+use Rattle.std.proofs.lemmas.List.Concat.{flat_map-append}
+use Rattle.std.proofs.lemmas.List.Elements.{All-nil, All-append}
+use Rattle.mesh_num.specs.Bounds.{IsSafe}
+use Rattle.mesh_num.specs.Paths.{paths_of, shapes_of, contours_of}
+use Rattle.mesh_num.specs.Plane.{Point, Edge}
+use Rattle.mesh_num.specs.Segments.{SignedEdge, segments_of}
+use Rattle.mesh_num.specs.Winding.{route, boundary}
+use Rattle.mesh_num.proofs.Balance.{balanced_append}
+use Rattle.mesh_num.proofs.Paths.{contours_more}
+use Rattle.mesh_num.proofs.SegmentLists.{segments_of-append}
+use Rattle.mesh_below.specs.Split.{back}
+use Rattle.mesh_below.specs.declared.fill.FillRule.{FillRule}
+use Rattle.mesh_below.specs.declared.fill.FillRule.TheVariants.{Positive, Negative}
+use Rattle.i_overlay_mesh.specs.Adding.{along, AddsClosed}
+use Rattle.i_overlay_mesh.specs.Resolved.{answer_edges, Gives, Give}
+
+along-append : (fill : FillRule) (es gs : List Edge) → along fill (es ++ gs) ≡ along fill es ++ along fill gs
+along-append Positive es gs = refl
+along-append Negative es gs = map-append back es gs
+
+pub along-none : (fill : FillRule) → along fill [] ≡ []
+along-none Positive = refl
+along-none Negative = refl
+
+-- what is added in two steps
+pub added_more : (fill : FillRule) (old mid new : List SignedEdge) (es gs : List Edge) → mid ≡ old ++ segments_of (along fill es) →
+    new ≡ mid ++ segments_of (along fill gs) → new ≡ old ++ segments_of (along fill (es ++ gs))
+added_more fill old mid new es gs h k =
+    k
+    ∙ ap (λ (ss : List SignedEdge). ss ++ segments_of (along fill gs)) h
+    ∙ append_assoc old (segments_of (along fill es)) (segments_of (along fill gs))
+    ∙ ap (λ (ss : List SignedEdge). old ++ ss) (sym (segments_of-append (along fill es) (along fill gs)))
+    ∙ ap (λ (ds : List Edge). old ++ segments_of ds) (sym (along-append fill es gs))
+
+-- ---- the edges of a contour
+
+-- an edge goes over from what is left to what is done
+pub edge_more : (fill : FillRule) (first previous point : Point) (rest : List Point) (i : ℕ) (done new all : List SignedEdge) → i < length rest →
+    done ++ segments_of (along fill (route previous (drop i rest) first)) ≡ all → new ≡ done ++ segments_of (along fill ((previous, point) ∷ [])) →
+    point ≡ get_or rest i point → new ++ segments_of (along fill (route point (drop (i + 1) rest) first)) ≡ all
+edge_more fill first previous point rest i done new all l h k is =
+    let one : drop (suc i) rest ≡ drop (i + 1) rest = ap (λ (n : ℕ). drop n rest) (sym (add-one i)) in
+    let d : drop i rest ≡ point ∷ drop (i + 1) rest = drop-cons rest i point l ∙ ap (λ (p : Point). p ∷ drop (suc i) rest) (sym is) ∙ ap (λ (ps : List Point). point ∷ ps) one in
+    added_more fill done new (new ++ segments_of (along fill (route point (drop (i + 1) rest) first))) ((previous, point) ∷ []) (route point (drop (i + 1) rest) first) k refl
+    ∙ ap (λ (ps : List Point). done ++ segments_of (along fill (route previous ps first))) (sym d)
+    ∙ h
+
+-- the last edge closes the contour
+pub edge_last : (fill : FillRule) (first previous : Point) (rest : List Point) (i : ℕ) (done new all : List SignedEdge) → length rest ≤ i →
+    done ++ segments_of (along fill (route previous (drop i rest) first)) ≡ all → new ≡ done ++ segments_of (along fill ((previous, first) ∷ [])) → new ≡ all
+edge_last fill first previous rest i done new all l h k =
+    k ∙ ap (λ (ps : List Point). done ++ segments_of (along fill (route previous ps first))) (sym (drop_all i rest l)) ∙ h
+
+-- ---- the contours of shapes
+
+-- one contour of a shape more
+pub contour_more : (fill : FillRule) (paths : List (Vec Point Global)) (path : Vec Point Global) (i : ℕ) (old mid new : List SignedEdge) → i < length paths →
+    path ≡ get_or paths i path → mid ≡ old ++ segments_of (along fill (flat_map boundary (paths_of (take i paths)))) →
+    new ≡ mid ++ segments_of (along fill (boundary path.items)) → new ≡ old ++ segments_of (along fill (flat_map boundary (paths_of (take (i + 1) paths))))
+contour_more fill paths path i old mid new l is h k =
+    let items : Vec Point Global → List Point = λ p. p.items in
+    let more : paths_of (take (i + 1) paths) ≡ paths_of (take i paths) ++ path.items ∷ [] =
+    map_more items paths i path l ∙ ap (λ p. paths_of (take i paths) ++ p.items ∷ []) (sym is) in
+    let edges : flat_map boundary (paths_of (take (i + 1) paths)) ≡ flat_map boundary (paths_of (take i paths)) ++ boundary path.items =
+    ap (flat_map boundary) more
+    ∙ flat_map-append boundary (paths_of (take i paths)) (path.items ∷ [])
+    ∙ ap (λ (es : List Edge). flat_map boundary (paths_of (take i paths)) ++ es) (append-nil (boundary path.items)) in
+    added_more fill old mid new (flat_map boundary (paths_of (take i paths))) (boundary path.items) h k
+    ∙ ap (λ (es : List Edge). old ++ segments_of (along fill es)) (sym edges)
+
+-- all contours of a shape
+pub contours_all : (fill : FillRule) (paths : List (Vec Point Global)) (i : ℕ) (old new : List SignedEdge) → length paths ≤ i →
+    new ≡ old ++ segments_of (along fill (flat_map boundary (paths_of (take i paths)))) → new ≡ old ++ segments_of (along fill (flat_map boundary (paths_of paths)))
+contours_all fill paths i old new past h =
+    h ∙ ap (λ ps. old ++ segments_of (along fill (flat_map boundary (paths_of ps)))) (take_all i paths past)
+
+-- one shape more
+pub shape_more : (fill : FillRule) (shapes : List (Vec (Vec Point Global) Global)) (shape : Vec (Vec Point Global) Global) (i : ℕ) (old mid new : List SignedEdge) → i < length shapes →
+    shape ≡ get_or shapes i shape → mid ≡ old ++ segments_of (along fill (answer_edges (shapes_of (take i shapes)))) →
+    new ≡ mid ++ segments_of (along fill (flat_map boundary (paths_of shape.items))) → new ≡ old ++ segments_of (along fill (answer_edges (shapes_of (take (i + 1) shapes))))
+shape_more fill shapes shape i old mid new l is h k =
+    let more : contours_of (shapes_of (take (i + 1) shapes)) ≡ contours_of (shapes_of (take i shapes)) ++ paths_of shape.items =
+    contours_more shapes i shape l ∙ ap (λ s. contours_of (shapes_of (take i shapes)) ++ paths_of s.items) (sym is) in
+    let edges : answer_edges (shapes_of (take (i + 1) shapes)) ≡ answer_edges (shapes_of (take i shapes)) ++ flat_map boundary (paths_of shape.items) =
+    ap (flat_map boundary) more ∙ flat_map-append boundary (contours_of (shapes_of (take i shapes))) (paths_of shape.items) in
+    added_more fill old mid new (answer_edges (shapes_of (take i shapes))) (flat_map boundary (paths_of shape.items)) h k
+    ∙ ap (λ (es : List Edge). old ++ segments_of (along fill es)) (sym edges)
+
+-- all shapes
+pub shapes_all : (fill : FillRule) (shapes : List (Vec (Vec Point Global) Global)) (i : ℕ) (old new : List SignedEdge) → length shapes ≤ i →
+    new ≡ old ++ segments_of (along fill (answer_edges (shapes_of (take i shapes)))) → new ≡ old ++ segments_of (along fill (answer_edges (shapes_of shapes)))
+shapes_all fill shapes i old new past h =
+    h ∙ ap (λ s. old ++ segments_of (along fill (answer_edges (shapes_of s)))) (take_all i shapes past)
+
+-- ---- what contours give
+
+-- nothing
+pub adds_nothing : (unit : ℕ) (old : List SignedEdge) → AddsClosed unit old old []
+adds_nothing unit old = record { balanced = λ p. refl; safe = All-nil (λ (e : Edge). IsSafe unit e.0 × IsSafe unit e.1); added = sym (append-nil old) }
+
+-- in two steps
+pub adds_more : (unit : ℕ) (old mid new : List SignedEdge) (es gs : List Edge) → AddsClosed unit old mid es → AddsClosed unit mid new gs → AddsClosed unit old new (es ++ gs)
+adds_more unit old mid new es gs h k = record {
+  balanced = balanced_append es gs h.balanced k.balanced;
+  safe = All-append (λ (e : Edge). IsSafe unit e.0 × IsSafe unit e.1) es gs h.safe k.safe;
+  added = added_more Positive old mid new es gs h.added k.added;
+}
+
+-- one contour more
+pub give_more : (unit : ℕ) (offsets : ℤ × ℤ) (paths : List (List Point)) (i : ℕ) (old mid new : List SignedEdge) → i < length paths →
+    ((given : List Edge) × Give unit offsets (take i paths) given × AddsClosed unit old mid given) →
+    ((edges : List Edge) × Gives unit offsets (get_or paths i []) edges × AddsClosed unit mid new edges) →
+    (given : List Edge) × Give unit offsets (take (i + 1) paths) given × AddsClosed unit old new given
+give_more unit offsets paths i old mid new l h k = (
+  h.0 ++ k.0,
+  rw (take_more paths i [] l) (Give.one_more h.1 k.1),
+  adds_more unit old mid new h.0 k.0 h.2 k.2,
+)
+
+-- all contours
+pub give_all : (unit : ℕ) (offsets : ℤ × ℤ) (paths : List (List Point)) (i : ℕ) (old new : List SignedEdge) → length paths ≤ i →
+    ((given : List Edge) × Give unit offsets (take i paths) given × AddsClosed unit old new given) →
+    (given : List Edge) × Give unit offsets paths given × AddsClosed unit old new given
+give_all unit offsets paths i old new past h = rw (take_all i paths past) at h

@@ -1,0 +1,135 @@
+-- Lemmas over points and lists: what comes of one contour, and what is resolved at last.
+use Rattle.std.proofs.Common.{◌≡◌, ℕ, List, [], ◌∷◌, ◌++◌, map, refl, ◌∙◌, ap, arith}
+use Rattle.std.specs.Prelude.{ℤ, pos, ◌-ℤ◌, ◌<ℤ◌}
+use Rattle.std.specs.List.{All, flat_map}
+use Rattle.std.specs.List.Sorted.{IsPermutation}
+use Rattle.std.proofs.lemmas.Int.{ints}
+use Rattle.std.proofs.lemmas.List.Elements.{All-map, All-weaker, All-filter}
+use Rattle.mesh_num.specs.Bounds.{IsSafe}
+use Rattle.mesh_num.specs.Paths.{contours_of}
+use Rattle.mesh_num.specs.Plane.{Point, Edge}
+use Rattle.mesh_num.specs.Rectangle.{IsSafeWidened}
+use Rattle.mesh_num.specs.Segments.{SignedEdge, edges_of, proper_edges, segments_of, IsSubject}
+use Rattle.mesh_num.specs.Winding.{total, boundary, IsBalanced}
+use Rattle.mesh_num.proofs.Whole.{linear}
+use Rattle.mesh_num.proofs.Balance.{growth, growth_odd, growth_of_balanced, balanced_by_growth, balanced_append, boundary_balanced}
+use Rattle.mesh_num.proofs.ClosedLists.{boundary_all, all_flat_map}
+use Rattle.mesh_num.proofs.SegmentLists.{edges_of_segments}
+use Rattle.mesh_num.proofs.Subjects.{segments_of_subjects}
+use Rattle.mesh_below.specs.Contours.{double_area}
+use Rattle.mesh_below.specs.FillRules.{filled}
+use Rattle.mesh_below.specs.Options.{plain}
+use Rattle.mesh_below.specs.Reach.{AreEdgesSafe, ArePointsSafe}
+use Rattle.mesh_below.specs.Resolution.{Choices, IsResolution}
+use Rattle.mesh_below.specs.Split.{back}
+use Rattle.mesh_below.specs.declared.fill.FillRule.{FillRule}
+use Rattle.mesh_below.specs.declared.fill.FillRule.TheVariants.{Positive, Negative}
+use Rattle.i_overlay_mesh.specs.Adding.{along, AddsClosed}
+use Rattle.i_overlay_mesh.specs.Building.{IsMovable, added_edges, bevelled_edges}
+use Rattle.i_overlay_mesh.specs.Padding.{outline_padding}
+use Rattle.i_overlay_mesh.specs.Resolved.{answer_edges, IsAnswerAlone, Gives, Give, IsOutline}
+use Rattle.i_overlay_mesh.proofs.OutlineSum.{proper_edges_total}
+use Rattle.i_overlay_mesh.proofs.Padding.{safe_within_less, outer_covered, inner_covered}
+
+-- ---- where a contour may be moved
+
+pub movable_outer : (unit : ℕ) (outer inner : ℤ) (path : List Point) → All (IsSafeWidened unit (outline_padding outer inner)) path → All (IsMovable unit outer) path
+movable_outer unit outer inner path safe =
+    All-weaker (IsSafeWidened unit (outline_padding outer inner)) (IsMovable unit outer)
+    (λ p s. safe_within_less unit (outline_padding outer inner) _ p (omega (arith, ints)) (outer_covered outer inner) s) path safe
+
+pub movable_inner : (unit : ℕ) (outer inner : ℤ) (path : List Point) → All (IsSafeWidened unit (outline_padding outer inner)) path → All (IsMovable unit inner) path
+movable_inner unit outer inner path safe =
+    All-weaker (IsSafeWidened unit (outline_padding outer inner)) (IsMovable unit inner)
+    (λ p s. safe_within_less unit (outline_padding outer inner) _ p (omega (arith, ints)) (inner_covered outer inner) s) path safe
+
+-- ---- the edges of an answer
+
+contours_balanced : (contours : List (List Point)) → IsBalanced (flat_map boundary contours)
+contours_balanced [] = λ p. refl
+contours_balanced (contour ∷ contours) = balanced_append (boundary contour) (flat_map boundary contours) (boundary_balanced contour) (contours_balanced contours)
+
+back_growth : (g : Point → ℤ) (es : List Edge) → total (growth g) (map back es) ≡ pos 0 -ℤ total (growth g) es
+back_growth g [] = refl
+back_growth g (e ∷ es) = omega (arith, linear, back_growth g es)
+
+along_balanced : (fill : FillRule) (es : List Edge) → IsBalanced es → IsBalanced (along fill es)
+along_balanced Positive es h = h
+along_balanced Negative es h = balanced_by_growth (map back es) (λ g. omega (arith, linear, back_growth g es, growth_of_balanced es h g))
+
+along_safe : (unit : ℕ) (fill : FillRule) (es : List Edge) → AreEdgesSafe unit es → AreEdgesSafe unit (along fill es)
+along_safe unit Positive es h = h
+along_safe unit Negative es h =
+    All-map (λ (e : Edge). IsSafe unit e.0 × IsSafe unit e.1) back es
+    (All-weaker (λ (e : Edge). IsSafe unit e.0 × IsSafe unit e.1) (λ (e : Edge). IsSafe unit e.1 × IsSafe unit e.0) (λ e s. (s.1, s.0)) es h)
+
+answer_safe : (unit : ℕ) (answer : List (List (List Point))) → ArePointsSafe unit answer → AreEdgesSafe unit (answer_edges answer)
+answer_safe unit answer safe =
+    all_flat_map (λ (e : Edge). IsSafe unit e.0 × IsSafe unit e.1) boundary (contours_of answer)
+    (All-weaker (λ (contour : List Point). All (IsSafe unit) contour) (λ (contour : List Point). AreEdgesSafe unit (boundary contour))
+    (λ contour s. boundary_all (IsSafe unit) contour s) (contours_of answer)
+    (all_flat_map (λ (contour : List Point). All (IsSafe unit) contour) (λ (shape : List (List Point)). shape) answer safe))
+
+-- the segments of an answer's edges are those of closed edges
+pub adds_answer : (unit : ℕ) (fill : FillRule) (answer : List (List (List Point))) (old new : List SignedEdge) → ArePointsSafe unit answer →
+    new ≡ old ++ segments_of (along fill (answer_edges answer)) → AddsClosed unit old new (along fill (answer_edges answer))
+adds_answer unit fill answer old new safe h = record {
+  balanced = along_balanced fill (answer_edges answer) (contours_balanced (contours_of answer));
+  safe = along_safe unit fill (answer_edges answer) (answer_safe unit answer safe);
+  added = h;
+}
+
+-- ---- one contour's answer
+
+pub built_balanced : (old built ss : List SignedEdge) → old ≡ [] → ss ≡ built → IsBalanced (added_edges old built) → IsBalanced (edges_of ss)
+built_balanced old built ss e f h = rw f (rw e at h)
+
+pub built_safe : (unit : ℕ) (old built ss : List SignedEdge) → old ≡ [] → ss ≡ built → AreEdgesSafe unit (added_edges old built) → AreEdgesSafe unit (edges_of ss)
+built_safe unit old built ss e f h = rw f (rw e at h)
+
+pub is_alone : (unit : ℕ) (offset moved : ℤ) (fill : FillRule) (path : List Point) (old built ss : List SignedEdge) (choices : Choices) (answer : List (List (List Point))) →
+    moved ≡ offset → old ≡ [] → ss ≡ built → choices ≡ plain → IsPermutation (added_edges old built) (bevelled_edges unit moved path) →
+    IsResolution (edges_of ss) (filled fill) choices answer → IsAnswerAlone unit offset (filled fill) path answer
+is_alone unit offset moved fill path old built ss choices answer m e f d same resolution = record {
+  built = edges_of built;
+  same = rw (e, m) at same;
+  resolution = rw (f, d) at resolution;
+}
+
+pub gives_outer : (unit : ℕ) (offsets : ℤ × ℤ) (path : List Point) (old new : List SignedEdge) → pos 0 <ℤ double_area path →
+    ((answer : List (List (List Point))) × IsAnswerAlone unit offsets.0 (filled Positive) path answer × AddsClosed unit old new (answer_edges answer)) →
+    (edges : List Edge) × Gives unit offsets path edges × AddsClosed unit old new edges
+gives_outer unit offsets path old new above h = (answer_edges h.0, Gives.outer above h.1, h.2)
+
+pub gives_hole : (unit : ℕ) (offsets : ℤ × ℤ) (path : List Point) (old new : List SignedEdge) → double_area path <ℤ pos 0 →
+    ((answer : List (List (List Point))) × IsAnswerAlone unit offsets.1 (filled Negative) path answer × AddsClosed unit old new (map back (answer_edges answer))) →
+    (edges : List Edge) × Gives unit offsets path edges × AddsClosed unit old new edges
+gives_hole unit offsets path old new below h = (map back (answer_edges h.0), Gives.hole below h.1, h.2)
+
+-- ---- what is resolved at last
+
+proper_balanced : (es : List Edge) → IsBalanced es → IsBalanced (proper_edges es)
+proper_balanced es h = balanced_by_growth (proper_edges es) (λ g. proper_edges_total (growth g) (growth_odd g) es ∙ growth_of_balanced es h g)
+
+module _ (unit : ℕ) (ss : List SignedEdge) (given : List Edge) (h : AddsClosed unit [] ss given) where
+  pub given_edges : edges_of ss ≡ proper_edges given
+  given_edges = ap edges_of h.added ∙ edges_of_segments given
+
+  pub given_subjects : All IsSubject ss
+  given_subjects = rw h.added (segments_of_subjects given)
+
+  pub given_balanced : IsBalanced (edges_of ss)
+  given_balanced = rw given_edges (proper_balanced given h.balanced)
+
+  pub given_safe : AreEdgesSafe unit (edges_of ss)
+  given_safe = rw given_edges (All-filter _ (λ (e : Edge). IsSafe unit e.0 × IsSafe unit e.1) given h.safe)
+
+-- the answer is the outline of the contours
+pub is_outline : (unit : ℕ) (offsets : ℤ × ℤ) (choices : Choices) (contours : List (List Point)) (ss : List SignedEdge) (answer : List (List (List Point))) →
+    ((given : List Edge) × Give unit offsets contours given × AddsClosed unit [] ss given) → IsResolution (edges_of ss) (filled Positive) choices answer →
+    IsOutline unit offsets choices contours answer
+is_outline unit offsets choices contours ss answer h resolution = record {
+  given = h.0;
+  give = h.1;
+  resolution = rw (given_edges unit ss h.0 h.2) at resolution;
+}

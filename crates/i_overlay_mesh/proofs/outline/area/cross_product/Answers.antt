@@ -1,0 +1,26 @@
+-- Products of coordinates are far below what 128 bits hold.
+use Rattle.std.proofs.Common.{sym, refl}
+use Rattle.std.proofs.lemmas.Int.{to_z-of_z}
+use mir.Syntax.{w128}
+use Rattle.i_overlay_mesh.proofs.Areas.{product_kept, cross_fits, cross_size}
+use Rattle.i_overlay_mesh.proofs.outline.area.cross_product.Goals as goal
+
+pub overflow_sub-result : goal.overflow_sub-result
+overflow_sub-result g c =
+    let e = product_kept c.coordinate.result c.coordinate-2.result c.coordinate.ensures.range c.coordinate-2.ensures.range in
+    let f = product_kept c.coordinate-3.result c.coordinate-4.result c.coordinate-3.ensures.range c.coordinate-4.ensures.range in
+    rw (e, f) (cross_fits c.coordinate.result c.coordinate-2.result c.coordinate-3.result c.coordinate-4.result c.coordinate.ensures.range c.coordinate-2.ensures.range c.coordinate-3.ensures.range c.coordinate-4.ensures.range)
+
+pub returns-clause-value : goal.returns-clause-value
+returns-clause-value g c =
+    let e = product_kept c.coordinate.result c.coordinate-2.result c.coordinate.ensures.range c.coordinate-2.ensures.range in
+    let f = product_kept c.coordinate-3.result c.coordinate-4.result c.coordinate-3.ensures.range c.coordinate-4.ensures.range in
+    let k = to_z-of_z w128 _ (cross_fits c.coordinate.result c.coordinate-2.result c.coordinate-3.result c.coordinate-4.result c.coordinate.ensures.range c.coordinate-2.ensures.range c.coordinate-3.ensures.range c.coordinate-4.ensures.range) in
+    rw (e, f, k, c.coordinate.ensures.value, c.coordinate-2.ensures.value, c.coordinate-3.ensures.value, c.coordinate-4.ensures.value, sym c.p.view_is, sym c.q.view_is) refl
+
+pub returns-clause-size : goal.returns-clause-size
+returns-clause-size g c =
+    let e = product_kept c.coordinate.result c.coordinate-2.result c.coordinate.ensures.range c.coordinate-2.ensures.range in
+    let f = product_kept c.coordinate-3.result c.coordinate-4.result c.coordinate-3.ensures.range c.coordinate-4.ensures.range in
+    let k = to_z-of_z w128 _ (cross_fits c.coordinate.result c.coordinate-2.result c.coordinate-3.result c.coordinate-4.result c.coordinate.ensures.range c.coordinate-2.ensures.range c.coordinate-3.ensures.range c.coordinate-4.ensures.range) in
+    rw (e, f, k) (cross_size c.coordinate.result c.coordinate-2.result c.coordinate-3.result c.coordinate-4.result c.coordinate.ensures.range c.coordinate-2.ensures.range c.coordinate-3.ensures.range c.coordinate-4.ensures.range)

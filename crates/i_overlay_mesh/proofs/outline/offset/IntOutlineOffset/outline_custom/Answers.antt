@@ -1,0 +1,50 @@
+-- What all contours give is resolved together.
+use Rattle.mesh_num.specs.Paths.{shapes_of}
+use Rattle.i_overlay_mesh.proofs.Counts.{are_counted}
+use Rattle.i_overlay_mesh.proofs.Staying.{stays_safe}
+use Rattle.i_overlay_mesh.proofs.Resolving.{given_subjects, given_balanced, given_safe, is_outline}
+use Rattle.i_overlay_mesh.proofs.outline.offset.IntOutlineOffset.outline_custom.Goals as goal
+
+pub returns-in_err-given-clause-counted : goal.returns-in_err-given-clause-counted
+returns-in_err-given-clause-counted g c =
+    are_counted g.I.IntNumber.unit (g.I.IntNumber.value c.args.style.now.outer_offset, g.I.IntNumber.value c.args.style.now.inner_offset)
+    (g.Self.IntShapeResource.paths c.args.self.now) g.met.I.IntNumber.least_law
+
+pub returns-in_err-given-clause-stays_safe : goal.returns-in_err-given-clause-stays_safe
+returns-in_err-given-clause-stays_safe g c =
+    stays_safe g.I.IntNumber.unit (g.I.IntNumber.value c.args.style.now.outer_offset, g.I.IntNumber.value c.args.style.now.inner_offset)
+    (g.Self.IntShapeResource.paths c.args.self.now) g.met.I.IntNumber.least_law c.requires
+
+pub overlay-requires-clause-subject : goal.overlay-requires-clause-subject
+overlay-requires-clause-subject g c = (given_subjects g.I.IntNumber.unit _ _ c.in_ok-given.ensures.given.2)
+
+pub overlay-requires-clause-balanced : goal.overlay-requires-clause-balanced
+overlay-requires-clause-balanced g c = (given_balanced g.I.IntNumber.unit _ _ c.in_ok-given.ensures.given.2)
+
+pub overlay-requires-clause-safe : goal.overlay-requires-clause-safe
+overlay-requires-clause-safe g c = (given_safe g.I.IntNumber.unit _ _ c.in_ok-given.ensures.given.2)
+
+pub returns-in_err-overlay-clause-counted : goal.returns-in_err-overlay-clause-counted
+returns-in_err-overlay-clause-counted g c =
+    are_counted g.I.IntNumber.unit (g.I.IntNumber.value c.args.style.now.outer_offset, g.I.IntNumber.value c.args.style.now.inner_offset)
+    (g.Self.IntShapeResource.paths c.args.self.now) g.met.I.IntNumber.least_law
+
+pub returns-in_err-overlay-clause-stays_safe : goal.returns-in_err-overlay-clause-stays_safe
+returns-in_err-overlay-clause-stays_safe g c =
+    stays_safe g.I.IntNumber.unit (g.I.IntNumber.value c.args.style.now.outer_offset, g.I.IntNumber.value c.args.style.now.inner_offset)
+    (g.Self.IntShapeResource.paths c.args.self.now) g.met.I.IntNumber.least_law c.requires
+
+pub returns-clause-outline : goal.returns-clause-outline
+returns-clause-outline g c =
+    is_outline g.I.IntNumber.unit (g.I.IntNumber.value c.args.style.now.outer_offset, g.I.IntNumber.value c.args.style.now.inner_offset) _ (g.Self.IntShapeResource.paths c.args.self.now) _
+    (shapes_of c.in_ok-overlay.field-0.items) c.in_ok-given.ensures.given (rw c.in_ok-given.ensures.options at c.in_ok-overlay.ensures.resolution)
+
+pub returns-clause-counted : goal.returns-clause-counted
+returns-clause-counted g c =
+    are_counted g.I.IntNumber.unit (g.I.IntNumber.value c.args.style.now.outer_offset, g.I.IntNumber.value c.args.style.now.inner_offset)
+    (g.Self.IntShapeResource.paths c.args.self.now) g.met.I.IntNumber.least_law
+
+pub returns-clause-stays_safe : goal.returns-clause-stays_safe
+returns-clause-stays_safe g c =
+    stays_safe g.I.IntNumber.unit (g.I.IntNumber.value c.args.style.now.outer_offset, g.I.IntNumber.value c.args.style.now.inner_offset)
+    (g.Self.IntShapeResource.paths c.args.self.now) g.met.I.IntNumber.least_law c.requires

@@ -1,0 +1,54 @@
+-- What all contours give is resolved together.
+use Rattle.i_overlay_mesh.proofs.Counts.{are_counted}
+use Rattle.i_overlay_mesh.proofs.Staying.{stays_safe}
+use Rattle.i_overlay_mesh.proofs.Resolving.{given_subjects, given_balanced, given_safe, is_outline}
+use Rattle.i_overlay_mesh.proofs.outline.offset.IntOutlineOffset.outline_custom_into.Goals as goal
+
+pub returns-in_err-given-clause-counted : goal.returns-in_err-given-clause-counted
+returns-in_err-given-clause-counted g c =
+    are_counted g.I.IntNumber.unit (g.I.IntNumber.value c.args.style.now.outer_offset, g.I.IntNumber.value c.args.style.now.inner_offset)
+    (g.Self.IntShapeResource.paths c.args.self.now) g.met.I.IntNumber.least_law
+
+pub returns-in_err-given-clause-stays_safe : goal.returns-in_err-given-clause-stays_safe
+returns-in_err-given-clause-stays_safe g c =
+    stays_safe g.I.IntNumber.unit (g.I.IntNumber.value c.args.style.now.outer_offset, g.I.IntNumber.value c.args.style.now.inner_offset)
+    (g.Self.IntShapeResource.paths c.args.self.now) g.met.I.IntNumber.least_law c.requires
+
+pub overlay_into-requires-clause-subject : goal.overlay_into-requires-clause-subject
+overlay_into-requires-clause-subject g c = (given_subjects g.I.IntNumber.unit _ _ c.in_ok-given.ensures.given.2)
+
+pub overlay_into-requires-clause-balanced : goal.overlay_into-requires-clause-balanced
+overlay_into-requires-clause-balanced g c = (given_balanced g.I.IntNumber.unit _ _ c.in_ok-given.ensures.given.2)
+
+pub overlay_into-requires-clause-safe : goal.overlay_into-requires-clause-safe
+overlay_into-requires-clause-safe g c = (given_safe g.I.IntNumber.unit _ _ c.in_ok-given.ensures.given.2)
+
+pub returns-in_err-overlay_into-clause-counted : goal.returns-in_err-overlay_into-clause-counted
+returns-in_err-overlay_into-clause-counted g c =
+    are_counted g.I.IntNumber.unit (g.I.IntNumber.value c.args.style.now.outer_offset, g.I.IntNumber.value c.args.style.now.inner_offset)
+    (g.Self.IntShapeResource.paths c.args.self.now) g.met.I.IntNumber.least_law
+
+pub returns-in_err-overlay_into-clause-stays_safe : goal.returns-in_err-overlay_into-clause-stays_safe
+returns-in_err-overlay_into-clause-stays_safe g c =
+    stays_safe g.I.IntNumber.unit (g.I.IntNumber.value c.args.style.now.outer_offset, g.I.IntNumber.value c.args.style.now.inner_offset)
+    (g.Self.IntShapeResource.paths c.args.self.now) g.met.I.IntNumber.least_law c.requires
+
+pub returns-clause-outline : goal.returns-clause-outline
+returns-clause-outline g c =
+    let r = c.in_ok-overlay_into.ensures.resolution in (
+      r.0,
+      is_outline g.I.IntNumber.unit (g.I.IntNumber.value c.args.style.now.outer_offset, g.I.IntNumber.value c.args.style.now.inner_offset) _ (g.Self.IntShapeResource.paths c.args.self.now) _
+          r.0 c.in_ok-given.ensures.given (rw c.in_ok-given.ensures.options at r.1),
+      r.2,
+      r.3,
+    )
+
+pub returns-clause-counted : goal.returns-clause-counted
+returns-clause-counted g c =
+    are_counted g.I.IntNumber.unit (g.I.IntNumber.value c.args.style.now.outer_offset, g.I.IntNumber.value c.args.style.now.inner_offset)
+    (g.Self.IntShapeResource.paths c.args.self.now) g.met.I.IntNumber.least_law
+
+pub returns-clause-stays_safe : goal.returns-clause-stays_safe
+returns-clause-stays_safe g c =
+    stays_safe g.I.IntNumber.unit (g.I.IntNumber.value c.args.style.now.outer_offset, g.I.IntNumber.value c.args.style.now.inner_offset)
+    (g.Self.IntShapeResource.paths c.args.self.now) g.met.I.IntNumber.least_law c.requires

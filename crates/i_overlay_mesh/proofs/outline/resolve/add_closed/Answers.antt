@@ -1,0 +1,1 @@
+-- One edge after another.

@@ -1,0 +1,68 @@
+-- The outline of many contours: each is moved and resolved alone, and what comes of all of them is resolved together.
+use Rattle.std.specs.Prelude.{ℕ, ◌≡◌, List, [], ◌∷◌, ◌++◌, map, ℤ, pos, ◌<ℤ◌, Bool}
+use Rattle.std.specs.List.{All, flat_map}
+use Rattle.std.specs.List.Sorted.{IsPermutation}
+use Rattle.mesh_num.specs.Bounds.{IsWithin}
+use Rattle.mesh_num.specs.Paths.{contours_of}
+use Rattle.mesh_num.specs.Plane.{Point, Edge}
+use Rattle.mesh_num.specs.Segments.{proper_edges}
+use Rattle.mesh_num.specs.Winding.{boundary}
+use Rattle.mesh_below.specs.Contours.{double_area}
+use Rattle.mesh_below.specs.FillRules.{filled}
+use Rattle.mesh_below.specs.Options.{plain}
+use Rattle.mesh_below.specs.Resolution.{Choices, IsResolution}
+use Rattle.mesh_below.specs.Split.{back}
+use Rattle.mesh_below.specs.declared.fill.FillRule.TheVariants.{Positive, Negative}
+use Rattle.i_overlay_mesh.specs.Building.{bevelled_edges, bevelled_pieces, WindsByCount}
+
+-- the double area of each contour is a number from `-half` on that is below `half`
+abbrev pub DoAreasFit : ℕ → List (List Point) → Type 0
+DoAreasFit half contours = All (λ (contour : List Point). IsWithin half (double_area contour)) contours
+
+-- the edges of an answer's contours
+abbrev pub answer_edges : List (List (List Point)) → List Edge
+answer_edges answer = flat_map boundary (contours_of answer)
+
+-- the answer of one contour: the edges of its outline with this offset are resolved alone, with default options
+pub record IsAnswerAlone (unit : ℕ) (offset : ℤ) (fill : ℤ → Bool) (contour : List Point) (answer : List (List (List Point))) : Type 0 where
+  pub built : List Edge
+  pub same : IsPermutation built (bevelled_edges unit offset contour)
+  pub resolution : IsResolution built fill plain answer
+
+-- the edges that a contour gives to the outline. An outer boundary has an area above 0: it moves by the outer offset,
+-- what is wound round in its sense is filled, and it gives the contours of its answer. A hole has an area below 0: it moves
+-- by the inner offset, what is wound round in its sense is filled, and it gives the contours of its answer the other way
+-- about. A contour of area 0 gives nothing
+pub data Gives (unit : ℕ) (offsets : ℤ × ℤ) (contour : List Point) : List Edge → Type 0 where
+  outer : {answer : List (List (List Point))} → pos 0 <ℤ double_area contour
+      → IsAnswerAlone unit offsets.0 (filled Positive) contour answer → Gives unit offsets contour (answer_edges answer)
+  hole : {answer : List (List (List Point))} → double_area contour <ℤ pos 0
+      → IsAnswerAlone unit offsets.1 (filled Negative) contour answer → Gives unit offsets contour (map back (answer_edges answer))
+  ignored : double_area contour ≡ pos 0 → Gives unit offsets contour []
+
+-- the edges that contours give, one contour after another
+pub data Give (unit : ℕ) (offsets : ℤ × ℤ) : List (List Point) → List Edge → Type 0 where
+  no_contour : Give unit offsets [] []
+  one_more : {contours : List (List Point)} {contour : List Point} {edges more : List Edge} → Give unit offsets contours edges
+      → Gives unit offsets contour more → Give unit offsets (contours ++ contour ∷ []) (edges ++ more)
+
+-- the answer is the outline of contours by an outer and an inner offset: the edges that the contours give are resolved
+-- together, with the choices of the caller
+pub record IsOutline (unit : ℕ) (offsets : ℤ × ℤ) (choices : Choices) (contours : List (List Point)) (answer : List (List (List Point))) : Type 0 where
+  pub given : List Edge
+  pub give : Give unit offsets contours given
+  pub resolution : IsResolution (proper_edges given) (filled Positive) choices answer
+
+-- the edges of the contour's outline with this offset wind as often as the contour, and once more for each piece that holds
+-- the point, once less for a negative offset
+abbrev pub IsCounted : ℕ → ℤ → List Point → Type 0
+IsCounted unit offset contour =
+    WindsByCount offset contour (bevelled_pieces unit offset contour) (bevelled_edges unit offset contour)
+
+-- that holds of each contour with the offset that it moves by
+abbrev pub AreCounted : ℕ → ℤ × ℤ → List (List Point) → Type 0
+AreCounted unit offsets contours =
+    All
+    (λ (contour : List Point).
+    (pos 0 <ℤ double_area contour → IsCounted unit offsets.0 contour) × (double_area contour <ℤ pos 0 → IsCounted unit offsets.1 contour))
+    contours

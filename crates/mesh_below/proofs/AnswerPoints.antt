@@ -1,0 +1,202 @@
+-- Lemmas over points and lists: split segments and answers of safe edges are safe.
+use Rattle.std.proofs.Common.{◌≡◌, ⊎_elim, ℕ, ◌+◌, ◌<◌, length, get_or, Bool, true, false, cond, not, ◌&&◌, List, [], ◌∷◌, map, reverse, refl, sym, subst, arith}
+use Rattle.std.specs.Prelude.{ℤ, ◌≤ℤ◌, ◌<ℤ◌}
+use Rattle.std.specs.List.{All, filter, flat_map, enumerate_from}
+use Rattle.std.proofs.lemmas.Bool.{false≢true, or_cases}
+use Rattle.std.proofs.lemmas.Int.{ints, by_lt_z}
+use Rattle.std.proofs.lemmas.List.{get_or-map}
+use Rattle.std.proofs.lemmas.List.Elements.{All-nil, All-cons, All-head, All-tail, All-append, All-filter}
+use Rattle.std.proofs.lemmas.List.Sorted.{All-permutation, IsPermutation-reverse}
+use Rattle.mesh_num.specs.Bounds.{IsSmall, IsSafe}
+use Rattle.mesh_num.specs.Plane.{Point, Edge}
+use Rattle.mesh_num.specs.Winding.{route, boundary}
+use Rattle.mesh_below.specs.Boundary.{IsBoundary}
+use Rattle.mesh_below.specs.Contours.{is_corner, first_or, corners, vertices, reversed}
+use Rattle.mesh_below.specs.Reach.{AreEdgesSafe, ArePointsSafe}
+use Rattle.mesh_below.specs.Resolution.{Choices, Ring, Placed, ring_of, is_large, is_head, stands_with, shape_of, answered, AreArranged, IsResolution}
+use Rattle.mesh_below.specs.Split.{back, same_ends, occurs, IsBetween, IsInBox, Cut, pieces, cut, after, IsLegal}
+use Rattle.mesh_below.proofs.BoundaryFill.{boundary_cover}
+use Rattle.mesh_below.proofs.BoundaryRegions.{Boxed, cut_box}
+use Rattle.mesh_below.proofs.BoundarySplits.{legal_boxed}
+use Rattle.mesh_below.proofs.Ends.{decides_ends}
+use Rattle.mesh_below.proofs.Groups.{length_map}
+use Rattle.mesh_below.proofs.Resolving.{all_left, all_right, all_occurs}
+
+-- ---- points in the box of a safe edge
+between_small : (h : ℕ) (a z b : ℤ) → IsSmall h a → IsSmall h b → IsBetween a z b → IsSmall h z
+between_small h a z b k l w =
+    by_lt_z b a
+    (λ (o : b <ℤ a). let r = w.down (omega (arith, ints, o)) in record { low = omega (arith, ints, r.0, l.low); high = omega (arith, ints, r.1, k.high) })
+    (λ (o : a ≤ℤ b). let r = w.up o in record { low = omega (arith, ints, r.0, k.low); high = omega (arith, ints, r.1, l.high) })
+
+box_safe : (unit : ℕ) (e : Edge) (c : Point) → IsSafe unit e.0 × IsSafe unit e.1 → IsInBox e c → IsSafe unit c
+box_safe unit e c h box = record {
+  x = between_small unit e.0.0 c.0 e.1.0 h.0.x h.1.x box.by_x;
+  y = between_small unit e.0.1 c.1 e.1.1 h.0.y h.1.y box.by_y;
+}
+
+-- ---- split segments
+abbrev IsSafeEdge : ℕ → Edge → Type 0
+IsSafeEdge unit e = IsSafe unit e.0 × IsSafe unit e.1
+
+cut_safe : (unit : ℕ) (k : Cut) → IsInBox k.ends k.at → (es : List Edge) → AreEdgesSafe unit es → AreEdgesSafe unit (cut k es)
+cut_safe unit k box [] h = h
+cut_safe unit k box (e ∷ es) h =
+    All-append (IsSafeEdge unit) (pieces k e) (cut k es) (by (same_ends e k.ends) refl) (cut_safe unit k box es (All-tail (IsSafeEdge unit) e es h))
+  where
+    own : IsSafeEdge unit e
+    own = All-head (IsSafeEdge unit) e es h
+
+    none : All (IsSafeEdge unit) []
+    none = All-nil (IsSafeEdge unit)
+
+    by : (b : Bool) → same_ends e k.ends ≡ b → All (IsSafeEdge unit) (cond b ((e.0, k.at) ∷ (k.at, e.1) ∷ []) (e ∷ []))
+    by true t =
+        let c = box_safe unit e k.at own (cut_box k e box t) in
+        All-cons (IsSafeEdge unit) (e.0, k.at) ((k.at, e.1) ∷ []) (own.0, c) (All-cons (IsSafeEdge unit) (k.at, e.1) [] (c, own.1) none)
+    by false t = All-cons (IsSafeEdge unit) e [] own none
+
+after_safe : (unit : ℕ) (ks : List Cut) → Boxed ks → (es : List Edge) → AreEdgesSafe unit es → AreEdgesSafe unit (after ks es)
+after_safe unit [] boxed es h = h
+after_safe unit (k ∷ ks) boxed es h = cut_safe unit k boxed.0 (after ks es) (after_safe unit ks boxed.1 es h)
+
+-- legal splits of safe edges leave safe edges
+pub split_safe : (unit : ℕ) (es : List Edge) (ks : List Cut) → IsLegal es ks → AreEdgesSafe unit es → AreEdgesSafe unit (after ks es)
+split_safe unit es ks legal h = after_safe unit ks (legal_boxed es ks legal) es h
+
+occurs_safe : (unit : ℕ) (es : List Edge) → AreEdgesSafe unit es → (e : Edge) → occurs e es ≡ true → IsSafeEdge unit e
+occurs_safe unit [] h e o = absurd (false≢true o)
+occurs_safe unit (d ∷ es) h e o =
+    ⊎_elim
+    (λ (t : same_ends e d ≡ true).
+    ⊎_elim (λ (x : e ≡ d). subst (IsSafeEdge unit) (sym x) own) (λ (x : e ≡ back d). subst (IsSafeEdge unit) (sym x) (own.1, own.0)) ((decides_ends e d).0 t))
+    (λ (t : occurs e es ≡ true). occurs_safe unit es (All-tail (IsSafeEdge unit) d es h) e t)
+    (or_cases (same_ends e d) (occurs e es) o)
+  where
+    own : IsSafeEdge unit d
+    own = All-head (IsSafeEdge unit) d es h
+
+boundary_safe : (unit : ℕ) (es bs : List Edge) (fill : ℤ → Bool) → IsBoundary es fill bs → AreEdgesSafe unit es → AreEdgesSafe unit bs
+boundary_safe unit es bs fill is h = all_occurs (IsSafeEdge unit) bs (λ (e : Edge) (o : occurs e bs ≡ true). occurs_safe unit es h e (boundary_cover es bs fill is e o))
+
+-- ---- points of closed contours, where `P` holds of each edge's start
+module _ (P : Point → Type 0) where
+  abbrev Starts : Edge → Type 0
+  Starts e = P e.0
+
+  route_points : (a z : Point) (xs : List Point) → All Starts (route a xs z) → All P (a ∷ xs)
+  route_points a z [] h = All-cons P a [] (All-head Starts (a, z) [] h) (All-nil P)
+  route_points a z (x ∷ xs) h =
+      All-cons P a (x ∷ xs) (All-head Starts (a, x) (route x xs z) h) (route_points x z xs (All-tail Starts (a, x) (route x xs z) h))
+
+  contour_points : (c : List Point) → All Starts (boundary c) → All P c
+  contour_points [] h = All-nil P
+  contour_points (p ∷ xs) h = route_points p p xs h
+
+  contours_points : (cs : List (List Point)) → All Starts (flat_map boundary cs) → All (All P) cs
+  contours_points [] h = All-nil (All P)
+  contours_points (c ∷ cs) h =
+      All-cons (All P) c cs (contour_points c (all_left Starts (boundary c) (flat_map boundary cs) h)) (contours_points cs (all_right Starts (boundary c) (flat_map boundary cs) h))
+
+  corner_points : (a z : Point) (xs : List Point) → All P xs → All P (corners a xs z)
+  corner_points a z [] h = h
+  corner_points a z (x ∷ xs) h = by (is_corner a x (first_or z xs)) (corner_points x z xs (All-tail P x xs h))
+    where
+      by : (b : Bool) → All P (corners x xs z) → All P (cond b (x ∷ corners x xs z) (corners x xs z))
+      by true k = All-cons P x (corners x xs z) (All-head P x xs h) k
+      by false k = k
+
+  vertex_points : (all : Bool) (c : List Point) → All P c → All P (vertices all c)
+  vertex_points true [] h = h
+  vertex_points false [] h = h
+  vertex_points true (p ∷ xs) h = h
+  vertex_points false (p ∷ xs) h = All-cons P p (corners p xs p) (All-head P p xs h) (corner_points p p xs (All-tail P p xs h))
+
+  -- ---- rings, shapes and answers
+  abbrev OfRing : Ring → Type 0
+  OfRing r = All P r.0
+
+  abbrev OfPlaced : Placed → Type 0
+  OfPlaced h = All P h.1.0
+
+  ring_points : (all : Bool) (cs : List (List Point)) → All (All P) cs → All OfRing (map (ring_of all) cs)
+  ring_points all [] h = All-nil OfRing
+  ring_points all (c ∷ cs) h =
+      All-cons OfRing (ring_of all c) (map (ring_of all) cs) (vertex_points all c (All-head (All P) c cs h)) (ring_points all cs (All-tail (All P) c cs h))
+
+  placed_points : (i : ℕ) (rs : List Ring) → All OfRing rs → All OfPlaced (enumerate_from i rs)
+  placed_points i [] h = All-nil OfPlaced
+  placed_points i (r ∷ rs) h = All-cons OfPlaced (i, r) (enumerate_from (i + 1) rs) (All-head OfRing r rs h) (placed_points (i + 1) rs (All-tail OfRing r rs h))
+
+  reversed_points : (ps : List Point) → All P ps → All P (reversed ps)
+  reversed_points [] h = h
+  reversed_points (p ∷ ps) h =
+      All-cons P p (reverse ps) (All-head P p ps h) (All-permutation P ps (reverse ps) (IsPermutation-reverse ps) (All-tail P p ps h))
+
+  answered_points : (cw : Bool) (r : Ring) → All P r.0 → All P (answered cw r)
+  answered_points true r h = reversed_points r.0 h
+  answered_points false r h = h
+
+  shape_points : (cw : Bool) (rs : List Ring) → All OfRing rs → All (All P) (map (answered cw) rs)
+  shape_points cw [] h = All-nil (All P)
+  shape_points cw (r ∷ rs) h =
+      All-cons (All P) (answered cw r) (map (answered cw) rs) (answered_points cw r (All-head OfRing r rs h)) (shape_points cw rs (All-tail OfRing r rs h))
+
+  of_placed : (hs : List Placed) → All OfPlaced hs → All OfRing (map (λ (r : Placed). r.1) hs)
+  of_placed [] h = All-nil OfRing
+  of_placed (r ∷ hs) h = All-cons OfRing r.1 (map (λ (r : Placed). r.1) hs) (All-head OfPlaced r hs h) (of_placed hs (All-tail OfPlaced r hs h))
+
+  one_shape : (rs : List Placed) (h : Placed) → All OfPlaced rs → OfPlaced h → All OfRing (shape_of rs h)
+  one_shape rs h all own =
+      let p : Placed → Bool = λ (r : Placed). not (is_head rs r) && stands_with rs h r in
+      All-cons OfRing h.1 (map (λ (r : Placed). r.1) (filter p rs)) own (of_placed (filter p rs) (All-filter p OfPlaced rs all))
+
+  some_shapes : (cw : Bool) (rs hs : List Placed) → All OfPlaced rs → All OfPlaced hs → All (All (All P)) (map (map (answered cw)) (map (shape_of rs) hs))
+  some_shapes cw rs [] all h = All-nil (All (All P))
+  some_shapes cw rs (k ∷ hs) all h =
+      All-cons (All (All P)) (map (answered cw) (shape_of rs k)) (map (map (answered cw)) (map (shape_of rs) hs))
+      (shape_points cw (shape_of rs k) (one_shape rs k all (All-head OfPlaced k hs h)))
+      (some_shapes cw rs hs all (All-tail OfPlaced k hs h))
+
+  arranged_points : (cw : Bool) (rs : List Ring) (answer : List (List (List Point))) → AreArranged cw rs answer → All OfRing rs → All (All (All P)) answer
+  arranged_points cw rs answer a h =
+      let all : All OfPlaced (enumerate_from 0 a.sorted) = placed_points 0 a.sorted (All-permutation OfRing rs a.sorted a.same h) in
+      subst (λ (l : List (List (List Point))). All (All (All P)) l) (sym a.shapes)
+      (some_shapes cw (enumerate_from 0 a.sorted) (filter (is_head (enumerate_from 0 a.sorted)) (enumerate_from 0 a.sorted)) all
+      (All-filter (is_head (enumerate_from 0 a.sorted)) OfPlaced (enumerate_from 0 a.sorted) all))
+
+  -- what holds of the start of each edge of the contours holds of each point of the answer
+  pub answer_points : (edges : List Edge) (fill : ℤ → Bool) (options : Choices) (answer : List (List (List Point))) → (r : IsResolution edges fill options answer) →
+      All Starts (flat_map boundary r.contours) → All (All (All P)) answer
+  answer_points edges fill options answer r h =
+      let rings : List Ring = map (ring_of options.all_vertices) r.contours in
+      arranged_points options.clockwise (filter (is_large options.least_area) rings) answer r.arranged
+      (All-filter (is_large options.least_area) OfRing rings (ring_points options.all_vertices r.contours (contours_points r.contours h)))
+
+starts_safe : (unit : ℕ) (es : List Edge) → AreEdgesSafe unit es → All (λ (e : Edge). IsSafe unit e.0) es
+starts_safe unit [] h = All-nil (λ (e : Edge). IsSafe unit e.0)
+starts_safe unit (e ∷ es) h =
+    All-cons (λ (e : Edge). IsSafe unit e.0) e es (All-head (IsSafeEdge unit) e es h).0 (starts_safe unit es (All-tail (IsSafeEdge unit) e es h))
+
+-- a resolution of safe edges has safe split segments and safe points
+pub resolution_safe : (unit : ℕ) (edges : List Edge) (fill : ℤ → Bool) (options : Choices) (answer : List (List (List Point))) → (r : IsResolution edges fill options answer) →
+    AreEdgesSafe unit edges → AreEdgesSafe unit (after r.cuts edges) × ArePointsSafe unit answer
+resolution_safe unit edges fill options answer r h =
+    let split : AreEdgesSafe unit (after r.cuts edges) = split_safe unit edges r.cuts r.legal h in
+    let bounds : AreEdgesSafe unit (flat_map boundary r.contours) = boundary_safe unit (after r.cuts edges) (flat_map boundary r.contours) fill r.bounded split in
+    (split, answer_points (IsSafe unit) edges fill options answer r (starts_safe unit (flat_map boundary r.contours) bounds))
+
+pub answer_safe : (unit : ℕ) (edges given : List Edge) (fill : ℤ → Bool) (options : Choices) (answer : List (List (List Point))) → edges ≡ given → AreEdgesSafe unit given →
+    IsResolution edges fill options answer → ArePointsSafe unit answer
+answer_safe unit edges given fill options answer same h r =
+    (resolution_safe unit edges fill options answer r (subst (λ (es : List Edge). AreEdgesSafe unit es) (sym same) h)).1
+
+-- what holds of each image of a list holds of that of the element at a place
+pub image_at : {A B : Type 0} (P : B → Type 0) (f : A → B) (xs : List A) (i : ℕ) (d : A) → i < length xs → All P (map f xs) → P (f (get_or xs i d))
+image_at P f xs i d low h = subst P (get_or-map f xs i d (f d) low) (h i (f d) (subst (λ (n : ℕ). i < n) (sym (length_map f xs)) low))
+
+-- a resolution in other words
+pub same_resolution : (edges given : List Edge) (fill : ℤ → Bool) (options choices : Choices) (answer told : List (List (List Point))) → edges ≡ given → options ≡ choices → answer ≡ told →
+    IsResolution edges fill options answer → IsResolution given fill choices told
+same_resolution edges given fill options choices answer told e o a =
+    subst (λ (x : List Edge × (Choices × List (List (List Point)))). IsResolution x.0 fill x.1.0 x.1.1) (λ i. (e i, (o i, a i)))

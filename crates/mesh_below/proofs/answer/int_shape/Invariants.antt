@@ -1,0 +1,6 @@
+use Rattle.std.proofs.Common.{◌≡◌, take}
+use Rattle.mesh_num.specs.Paths.{paths_of}
+use Rattle.mesh_below.proofs.answer.int_shape.Given as goal
+
+abbrev pub invariant-loop-contour : goal.invariant-loop-contour
+invariant-loop-contour g l = paths_of l.contours.items ≡ paths_of (take l.contour-index l.shape)

@@ -1,0 +1,6 @@
+use Rattle.std.proofs.Common.{◌≡◌, map, take}
+use Rattle.mesh_below.specs.Split.{back}
+use Rattle.mesh_below.proofs.checks.turned.Given as goal
+
+abbrev pub invariant-loop-e : goal.invariant-loop-e
+invariant-loop-e l = l.turned.items ≡ map back (take l.e-index l.edges)

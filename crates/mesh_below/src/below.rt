@@ -1,0 +1,166 @@
+//! The overlay: what directed edges fill, as shapes of contours.
+
+ghost use Rattle.std.specs.Prelude.{◌≡◌, ◌++◌, List, IfOk, OnOk, OnErr};
+ghost use Rattle.std.specs.List.{All};
+ghost use Rattle.mesh_num.specs.FlatContours.{HoldsContours};
+ghost use Rattle.mesh_num.specs.Paths.{contours_of, shapes_of};
+ghost use Rattle.mesh_num.specs.Plane.{Point};
+ghost use Rattle.mesh_num.specs.Segments.{IsSubject, edges_of};
+ghost use Rattle.mesh_num.specs.Winding.{IsBalanced};
+ghost use Rattle.mesh_below.specs.FillRules.{filled};
+ghost use Rattle.mesh_below.specs.Laws.{AreRegions};
+ghost use Rattle.mesh_below.specs.Options.{choices_of, plain};
+ghost use Rattle.mesh_below.specs.Reach.{AreEdgesSafe, ArePointsSafe};
+ghost use Rattle.mesh_below.specs.Resolution.{IsResolution};
+
+use crate::answer::int_shapes;
+pub use crate::fill::FillRule;
+use crate::given::grid_edges;
+use crate::resolve::{Choices, resolve};
+use mesh_num::num::{IntNumber, WideUnsigned};
+use mesh_num::shape::buffer::{FlatContoursBuffer, IntShapes};
+use mesh_num::shape::segment::Segment;
+use std::alloc::AllocError;
+
+/// Which segments make up an answer: those of the subject, which all segments here belong to.
+#[derive(Debug, Copy, Clone, PartialEq, Eq)]
+pub enum OverlayRule {
+    Subject,
+}
+
+/// The sense in which contours that bound a shape from outside run; its holes run the other way.
+#[derive(Debug, Copy, Clone, PartialEq, Eq, Default)]
+pub enum ContourDirection {
+    #[default]
+    CounterClockwise,
+    Clockwise,
+}
+
+/// What an answer depends on besides edges and fill rule. The type of the area is the unsigned wide one of the coordinates.
+#[derive(Debug, Copy, Clone)]
+pub struct IntOverlayOptions<U> {
+    /// Contours of less area, in squares of the grid, are left out.
+    pub min_output_area: U,
+    /// The sense in which outer contours run.
+    pub output_direction: ContourDirection,
+    /// Whether vertices that contours run straight through stay.
+    pub preserve_output_collinear: bool,
+}
+
+impl<U: WideUnsigned> IntOverlayOptions<U> {
+    /// The default options: no least area, counterclockwise, without straight-through vertices.
+    pub fn new() -> Self
+        ensures { choices_of U.value result ≡ plain }
+    {
+        IntOverlayOptions {
+            min_output_area: U::from_u128(0),
+            output_direction: ContourDirection::CounterClockwise,
+            preserve_output_collinear: false,
+        }
+    }
+}
+
+impl<U: WideUnsigned> Default for IntOverlayOptions<U> {
+    ghost is_default = { λ o. choices_of U.value o ≡ plain };
+
+    fn default() -> Self {
+        Self::new()
+    }
+}
+
+/// Segments that are resolved into shapes.
+#[derive(Debug, Drop)]
+pub struct Overlay<I: IntNumber> {
+    pub segments: Vec<Segment<I>>,
+    pub options: IntOverlayOptions<I::WideUInt>,
+}
+
+impl<I: IntNumber> Overlay<I> {
+    /// An overlay of these segments, with the default options. Takes no memory.
+    pub fn with_segments(segments: Vec<Segment<I>>) -> Self
+        ensures segments { result.segments ≡ segments }
+        ensures options { choices_of I.WideUInt.value result.options ≡ plain }
+    {
+        Overlay {
+            segments,
+            options: IntOverlayOptions::new(),
+        }
+    }
+
+    /// Adds segments to those that the overlay has. After a refusal it is unchanged.
+    pub fn add_segments(&mut self, segments: &[Segment<I>]) -> Result<(), AllocError>
+        ensures ok { OnOk result (self.new.segments.items ≡ self.old.segments.items ++ segments.now) }
+        ensures err { OnErr result (self.new.segments.items ≡ self.old.segments.items) }
+        ensures options { self.new.options ≡ self.old.options }
+    {
+        self.segments.extend_from_slice(segments)
+    }
+
+    /// The shapes of what the segments fill. The segments are as `Segment::subject` gives them, balanced (at each point as
+    /// many of their edges start as end), and in the safe range.
+    pub fn overlay(&self, rule: OverlayRule, fill: FillRule) -> Result<IntShapes<I>, AllocError>
+        requires subject { All IsSubject self.now.segments.items }
+        requires balanced { IsBalanced (edges_of self.now.segments.items) }
+        requires safe { AreEdgesSafe I.unit (edges_of self.now.segments.items) }
+        ensures resolution { IfOk result (λ shapes. IsResolution (edges_of self.now.segments.items) (filled fill) (choices_of I.WideUInt.value self.now.options) (shapes_of shapes.items)) }
+        ensures regions { IfOk result (λ shapes. AreRegions (edges_of self.now.segments.items) (filled fill) (choices_of I.WideUInt.value self.now.options) (shapes_of shapes.items)) }
+        ensures safe { IfOk result (λ shapes. ArePointsSafe I.unit (shapes_of shapes.items)) }
+    {
+        match rule {
+            OverlayRule::Subject => self.resolved(fill),
+        }
+    }
+
+    /// Puts the contours of what the segments fill in place of the buffer's own, those of one shape after those of another.
+    /// It asks what `overlay` asks. After a refusal the buffer is unchanged.
+    pub fn overlay_into(
+        &self,
+        rule: OverlayRule,
+        fill: FillRule,
+        buffer: &mut FlatContoursBuffer<I>,
+    ) -> Result<(), AllocError>
+        requires subject { All IsSubject self.now.segments.items }
+        requires balanced { IsBalanced (edges_of self.now.segments.items) }
+        requires safe { AreEdgesSafe I.unit (edges_of self.now.segments.items) }
+        ensures resolution { OnOk result ((answer : List (List (List Point)))
+            × IsResolution (edges_of self.now.segments.items) (filled fill) (choices_of I.WideUInt.value self.now.options) answer
+            × ArePointsSafe I.unit answer
+            × HoldsContours buffer.new (contours_of answer)) }
+        ensures regions { OnOk result ((answer : List (List (List Point)))
+            × AreRegions (edges_of self.now.segments.items) (filled fill) (choices_of I.WideUInt.value self.now.options) answer
+            × HoldsContours buffer.new (contours_of answer)) }
+        ensures err { OnErr result (buffer.new ≡ buffer.old) }
+    {
+        let shapes = self.overlay(rule, fill)?;
+        buffer.replace_with(&shapes)
+    }
+
+    /// The shapes of what all segments fill.
+    fn resolved(&self, fill: FillRule) -> Result<IntShapes<I>, AllocError>
+        requires subject { All IsSubject self.now.segments.items }
+        requires balanced { IsBalanced (edges_of self.now.segments.items) }
+        requires safe { AreEdgesSafe I.unit (edges_of self.now.segments.items) }
+        ensures resolution { IfOk result (λ shapes. IsResolution (edges_of self.now.segments.items) (filled fill) (choices_of I.WideUInt.value self.now.options) (shapes_of shapes.items)) }
+        ensures regions { IfOk result (λ shapes. AreRegions (edges_of self.now.segments.items) (filled fill) (choices_of I.WideUInt.value self.now.options) (shapes_of shapes.items)) }
+        ensures safe { IfOk result (λ shapes. ArePointsSafe I.unit (shapes_of shapes.items)) }
+    {
+        let alloc = *self.segments.allocator();
+        let edges = grid_edges(alloc, &self.segments)?;
+        let shapes = resolve(alloc, &edges, fill, self.choices())?;
+        int_shapes(alloc, &shapes)
+    }
+
+    /// The options, as the resolving takes them.
+    fn choices(&self) -> Choices
+        ensures { (record { least_area = result.least_area; all_vertices = result.all_vertices; clockwise = result.clockwise }) ≡ choices_of I.WideUInt.value self.now.options }
+    {
+        Choices {
+            least_area: I::uint_to_u128(self.options.min_output_area) as u64,
+            all_vertices: self.options.preserve_output_collinear,
+            clockwise: self.options.output_direction == ContourDirection::Clockwise,
+        }
+    }
+}
+
+#[cfg(test)]
+mod tests;

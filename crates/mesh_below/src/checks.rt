@@ -1,0 +1,120 @@
+//! Tests of what the overlay asks of segments, for callers that have them from elsewhere.
+
+ghost use Rattle.std.specs.Prelude.{◌≡◌, ◌↔◌, ℕ, List, ℤ, map, IsTrue, IfOk};
+ghost use Rattle.std.specs.List.{All};
+ghost use Rattle.mesh_num.specs.Bounds.{IsSafe};
+ghost use Rattle.mesh_num.specs.Plane.{Point, Edge};
+ghost use Rattle.mesh_num.specs.Segments.{IsSubject};
+ghost use Rattle.mesh_num.specs.Winding.{IsBalanced};
+ghost use Rattle.mesh_below.specs.Asked.{AreResolvable};
+ghost use Rattle.mesh_below.specs.Reach.{AreEdgesSafe};
+ghost use Rattle.mesh_below.specs.Split.{back};
+
+use crate::exact::{is_before, same_point};
+use crate::given::{coordinate, grid_edges, grid_point};
+use crate::grid::{GridEdge, GridPoint};
+use crate::walk::in_order;
+use mesh_num::num::IntNumber;
+use mesh_num::shape::segment::Segment;
+use std::alloc::{AllocError, Global};
+
+/// Whether a segment is as `Segment::subject` gives it.
+fn is_subject<I: IntNumber>(s: Segment<I>) -> bool
+    ensures { IsTrue result ↔ IsSubject s }
+{
+    let count = s.count;
+    let a = grid_point(s.x_segment.a);
+    let b = grid_point(s.x_segment.b);
+    is_before(a, b) && (count == 1 || count == -1)
+}
+
+fn are_subjects<I: IntNumber>(segments: &[Segment<I>]) -> bool
+    ensures { IsTrue result ↔ All IsSubject segments.now }
+{
+    for s in segments {
+        if !is_subject(*s) {
+            return false;
+        }
+    }
+    true
+}
+
+/// `UNIT` without a sign.
+fn unit<I: IntNumber>() -> u32
+    ensures { result ≡ I.unit }
+{
+    coordinate(I::UNIT).unsigned_abs()
+}
+
+/// Whether both coordinates are below `unit` in size.
+fn is_safe(unit: u32, p: GridPoint) -> bool
+    ensures { IsTrue result ↔ IsSafe unit p }
+{
+    p.0.unsigned_abs() < unit && p.1.unsigned_abs() < unit
+}
+
+fn are_safe(unit: u32, edges: &[GridEdge]) -> bool
+    ensures { IsTrue result ↔ AreEdgesSafe unit edges.now }
+{
+    for e in edges {
+        if !is_safe(unit, e.0) {
+            return false;
+        }
+        if !is_safe(unit, e.1) {
+            return false;
+        }
+    }
+    true
+}
+
+/// The edges the other way about.
+fn turned(alloc: Global, edges: &[GridEdge]) -> Result<Vec<GridEdge>, AllocError>
+    ensures { IfOk result (λ v. v.items ≡ map back edges.now) }
+{
+    let mut turned = Vec::new(alloc);
+    for e in edges {
+        turned.push((e.1, e.0))?;
+    }
+    Ok(turned)
+}
+
+/// Whether the edges at the same places start at the same points, and there are as many.
+fn start_alike(first: &[GridEdge], second: &[GridEdge]) -> bool
+    ensures { IsTrue result ↔ map (λ (e : Edge). e.0) first.now ≡ map (λ (e : Edge). e.0) second.now }
+{
+    if first.len() != second.len() {
+        return false;
+    }
+    for i in 0..first.len() {
+        if !same_point(first[i].0, second[i].0) {
+            return false;
+        }
+    }
+    true
+}
+
+/// Whether at each point as many of the edges start as end.
+pub fn are_balanced(alloc: Global, edges: &[GridEdge]) -> Result<bool, AllocError>
+    ensures { IfOk result (λ b. IsTrue b ↔ IsBalanced edges.now) }
+{
+    let leaving = in_order(Vec::from_slice(alloc, edges)?)?;
+    let entering = in_order(turned(alloc, edges)?)?;
+    Ok(start_alike(&leaving, &entering))
+}
+
+/// Whether the overlay can resolve the segments: they are as `Segment::subject` gives them, balanced, and in the safe range.
+pub fn are_resolvable<I: IntNumber>(
+    alloc: Global,
+    segments: &[Segment<I>],
+) -> Result<bool, AllocError>
+    ensures { IfOk result (λ b. IsTrue b ↔ AreResolvable I.unit segments.now) }
+{
+    if !are_subjects(segments) {
+        return Ok(false);
+    }
+    let edges = grid_edges(alloc, segments)?;
+    if !are_safe(unit::<I>(), &edges) {
+        return Ok(false);
+    }
+    are_balanced(alloc, &edges)
+}

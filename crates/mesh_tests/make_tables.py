@@ -1,0 +1,203 @@
+#!/usr/bin/env python3
+"""Draws small inputs at random, has a reference program answer them, and writes both as tables for the tests.
+
+    make_tables.py FOLDER
+
+FOLDER holds the reference program's `defs.py`. That program was written from the definitions, by others than this
+crate's plain programs, and is kept apart from this repository, so that neither follows the other. The seed is fixed:
+the same reference program gives the same tables. Run `rt fmt` in this crate afterwards.
+"""
+import importlib
+import pathlib
+import random
+import sys
+
+SEED = 1
+SOURCES = pathlib.Path(__file__).resolve().parent / "src"
+
+HEAD = f"""//! Small inputs with answers. `make_tables.py` of this crate drew them at random, with the seed {SEED}, and a reference
+//! program in Python answered them, which was written from the definitions, apart from this repository. The script wrote
+//! these files: change it, and not them.
+
+"""
+
+
+class Array(list):
+    """A list whose length its type tells."""
+
+
+def text(value):
+    """A value as Rust writes it."""
+    if isinstance(value, bool):
+        return str(value).lower()
+    if isinstance(value, int):
+        return str(value)
+    items = ", ".join(text(item) for item in value)
+    if isinstance(value, tuple):
+        return f"({items})"
+    return f"[{items}]" if isinstance(value, Array) else f"&[{items}]"
+
+
+class Inputs:
+    """Inputs that look random, the same each time."""
+
+    def __init__(self, table):
+        self.random = random.Random(f"{SEED} {table}")
+
+    def below(self, end):
+        return self.random.randrange(end)
+
+    def point(self, size):
+        """A point with both coordinates of at most `size`."""
+        return (self.random.randint(-size, size), self.random.randint(-size, size))
+
+    def contour(self, most):
+        """Three to `most` points, with repeats, spikes and points where the contour runs straight on."""
+        points = [self.point(8)]
+        for _ in range(self.random.randint(2, most - 1)):
+            before, last = points[-2:] if len(points) > 1 else (points[0], points[0])
+            ahead = (2 * last[0] - before[0], 2 * last[1] - before[1])
+            choices = [last, before, ahead] + 6 * [self.point(8)]
+            next_point = self.random.choice(choices)
+            points.append(next_point if max(map(abs, next_point)) <= 24 else last)
+        return points
+
+    def query(self, points):
+        """A grid from 1 to 3, and a point of it near or between given points."""
+        m = self.random.randint(1, 3)
+        p, r, step = self.random.choice(points), self.random.choice(points), self.point(2)
+        if self.below(2):
+            return m, tuple(m * c + d for c, d in zip(p, step))
+        return m, tuple(m * (a + b) // 2 + d for a, b, d in zip(p, r, step))
+
+    def queries(self, points, count, answer):
+        """Queries of which, where a few draws find such, every other one has an answer that isn't 0."""
+        for number in range(count):
+            drawn = [self.query(points) for _ in range(20)]
+            telling = [query for query in drawn if answer(*query) != 0]
+            yield telling[0] if telling and number % 2 == 0 else drawn[0]
+
+
+def crossings(defs, inputs):
+    for _ in range(60):
+        start, end = inputs.point(4), inputs.point(4)
+        for m, q in inputs.queries([start, end], 2, lambda m, q: defs.crossing(start, end, q, m)):
+            yield m, q, start, end, defs.crossing(start, end, q, m)
+
+
+def windings(defs, inputs):
+    for _ in range(60):
+        contour = inputs.contour(8)
+        edges = defs.loop(contour)
+        queries = inputs.queries(contour, 3, lambda m, q: defs.winding(edges, q, m))
+        yield contour, Array((m, q, defs.winding(edges, q, m)) for m, q in queries)
+
+
+def net_count(defs, edges, edge):
+    """How many edges run from an edge's start to its end, less those that run back."""
+    counts = defs.net_counts(edges)
+    return counts.get(edge, 0) - counts.get(edge[::-1], 0)
+
+
+def net_counts(defs, inputs):
+    for _ in range(40):
+        corners = [inputs.point(4) for _ in range(4)]
+        walk = [inputs.random.choice(corners) for _ in range(inputs.random.randint(3, 10))]
+        edges = [edge for edge in defs.loop(walk) if edge[0] != edge[1]][inputs.below(2):]
+        asked = [tuple(inputs.random.sample(corners, 2)) for _ in range(4)]
+        answers = Array((*edge, net_count(defs, edges, edge)) for edge in asked)
+        yield edges, answers, defs.balanced(edges)
+
+
+def held(defs, pieces, queries):
+    """Each query with the number of pieces that hold it."""
+    return Array((m, q, defs.pieces_count(pieces, q, m)) for m, q in queries)
+
+
+def fans(defs, inputs):
+    for _ in range(40):
+        center, points = inputs.point(6), [inputs.point(6) for _ in range(inputs.random.randint(1, 5))]
+        fan = defs.fan(points, center)
+        queries = inputs.queries([center, *points], 3, lambda m, q: defs.pieces_count(fan, q, m))
+        yield center, points, [Array(triangle) for triangle in fan], held(defs, fan, queries)
+
+
+def bevelled(defs, contour, offset):
+    """The edges and the pieces of a bevelled outline, which are the same for both widths of numbers."""
+    found = [defs.outline_pieces(width, contour, offset, ("bevel",), 0)[:2] for width in ("i16", "i32")]
+    return found[0] if found[0] == found[1] else None
+
+
+def outlines_of(defs, inputs, count, most, offsets):
+    """Contours with an offset and the edges and pieces of the outline."""
+    while count > 0:
+        contour, offset = inputs.contour(most), inputs.random.choice(offsets)
+        found = bevelled(defs, contour, offset)
+        if found:
+            count -= 1
+            yield contour, offset, *found
+
+
+def pieces(defs, inputs):
+    for contour, offset, _, found in outlines_of(defs, inputs, 25, 5, [-7, -4, -1, 1, 3, 5, 8]):
+        yield contour, offset, found
+
+
+def outlines(defs, inputs):
+    for contour, offset, edges, found in outlines_of(defs, inputs, 60, 7, range(-8, 9)):
+        queries = [inputs.query(contour + [end for edge in edges for end in edge]) for _ in range(3)]
+        answers = Array((*row, defs.winding(edges, row[1], row[0])) for row in held(defs, found, queries))
+        yield contour, offset, len(edges), len(found), answers
+
+
+# a table, its rows, what it is, what a row is, and a row's type
+TABLES = [
+    (crossings, "Crossings",
+     "A grid, a point of it, the start and the end of an edge, and how the edge crosses the ray to the east from the\n"
+     "/// point.",
+     "(i8, Spot, Spot, Spot, i8)"),
+    (fans, "Fans",
+     "A point, a list of points, the triangles from the one over the other, and grids, points of them, and how many of\n"
+     "/// the triangles hold each.",
+     "(Spot, &'static [Spot], &'static [[Spot; 3]], [(i8, Spot, i8); 3])"),
+    (net_counts, "Net counts",
+     "Edges, and pairs of points with how many of the edges run from the first to the second, less those that run back;\n"
+     "/// and whether the edges are balanced.",
+     "(&'static [(Spot, Spot)], [(Spot, Spot, i8); 4], bool)"),
+    (outlines, "Pieces and edges of outlines, counted",
+     "A contour, an offset, how many edges and pieces its bevelled outline has, and grids, points of them, how many\n"
+     "/// pieces hold each, and how often the edges wind round it.",
+     "(&'static [Spot], i8, usize, usize, [(i8, Spot, i8, i8); 3])"),
+    (pieces, "The pieces of outlines themselves",
+     "A contour, an offset, and the pieces between the contour and its bevelled outline.",
+     "(&'static [Spot], i8, &'static [&'static [Spot]])"),
+    (windings, "Windings",
+     "A contour, and grids, points of them and how often the contour winds round each.",
+     "(&'static [Spot], [(i8, Spot, i8); 3])"),
+]
+
+
+def table_text(defs, rows, title, meaning, row_type):
+    """A table's file."""
+    kind = "".join(word.title() for word in rows.__name__.rstrip("s").split("_")) + "Row"
+    lines = "".join(f"    {text(row)},\n" for row in rows(defs, Inputs(rows.__name__)))
+    return (f"//! {title}, as `make_tables.py` wrote them.\n\nuse super::Spot;\n\n/// {meaning}\n"
+            f"pub type {kind} = {row_type};\n\n"
+            f"pub const {rows.__name__.upper()}: &[{kind}] = &[\n{lines}];\n")
+
+
+def main():
+    sys.path.insert(0, sys.argv[1])
+    defs = importlib.import_module("defs")
+    (SOURCES / "tables").mkdir(exist_ok=True)
+    modules, names = "", ""
+    for table in TABLES:
+        name = table[0].__name__
+        modules += f"pub mod {name};\n"
+        (SOURCES / "tables" / f"{name}.rt").write_text(table_text(defs, *table))
+    spot = "\n/// A point of small coordinates.\npub type Spot = (i8, i8);\n"
+    (SOURCES / "tables.rt").write_text(HEAD + modules + names + spot)
+
+
+if __name__ == "__main__":
+    main()
