@@ -20,6 +20,7 @@ fn difference(a: i32, b: i32) -> i128
     a as i128 - b as i128
 }
 
+/// The way from `q` to `p`.
 pub fn minus(p: GridPoint, q: GridPoint) -> Vector
     ensures value { result ≡ minus p q }
     ensures size { IsSafe (2 ^ 32) result }
@@ -27,6 +28,7 @@ pub fn minus(p: GridPoint, q: GridPoint) -> Vector
     (difference(p.0, q.0), difference(p.1, q.1))
 }
 
+/// The product of two coordinates of ways, without a wrap.
 pub fn product(a: i128, b: i128) -> i128
     requires a_small { IsSmall (2 ^ 32) a }
     requires b_small { IsSmall (2 ^ 32) b }
@@ -36,6 +38,7 @@ pub fn product(a: i128, b: i128) -> i128
     a * b
 }
 
+/// Above 0 where `w` points to the left of `v`, 0 where they are parallel.
 pub fn cross(v: Vector, w: Vector) -> i128
     requires v_small { IsSafe (2 ^ 32) v }
     requires w_small { IsSafe (2 ^ 32) w }

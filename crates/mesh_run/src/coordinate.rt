@@ -1,18 +1,10 @@
-//! Coordinates in 128 bits.
+//! Coordinates and areas out of numbers of 128 bits.
 
 ghost use Rattle.std.specs.Prelude.{◌≡◌, ◌*◌, ◌^◌, ◌≤◌, ℕ, pos, option_map};
-ghost use Rattle.mesh_num.specs.Bounds.{IsWithin};
 ghost use Rattle.mesh_run.specs.Reading.{held, held_area};
 
+use mesh_num::num::convert::widen;
 use mesh_num::num::{IntNumber, WideUnsigned};
-
-/// A coordinate in 128 bits.
-pub fn widened<I: IntNumber>(coordinate: I) -> i128
-    ensures value { result ≡ I.value coordinate }
-    ensures range { IsWithin (2 ^ 31) result }
-{
-    I::wide_to_i128(coordinate.to_wide())
-}
 
 /// A number as a coordinate, `None` where it does not fit.
 pub fn narrowed<I: IntNumber>(number: i128) -> Option<I>
@@ -31,7 +23,7 @@ fn range_end<I: IntNumber>() -> i128
     ensures value { result ≡ pos (2 * I.unit) }
     ensures size { I.unit ≤ 2 ^ 30 }
 {
-    2 * widened(I::UNIT)
+    2 * widen(I::UNIT)
 }
 
 /// A number as an area, `None` where it does not fit.
@@ -49,6 +41,6 @@ pub fn narrowed_area<I: IntNumber>(number: u128) -> Option<I::WideUInt>
 fn area_end<I: IntNumber>() -> u128
     ensures { result ≡ 16 * I.unit * I.unit }
 {
-    let unit = widened(I::UNIT).unsigned_abs();
+    let unit = widen(I::UNIT).unsigned_abs();
     16 * unit * unit
 }

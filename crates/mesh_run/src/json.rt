@@ -8,9 +8,10 @@ ghost use Rattle.serde_json.specs.View.{view, items_view, members_view};
 ghost use Rattle.serde_json.specs.Written.{has_float as holds_float, items_have_float, members_have_float};
 ghost use Rattle.mesh_run.specs.Reading.{coordinate_of, says as says_text, IsOfReading};
 
-use crate::coordinate::{narrowed, widened};
+use crate::coordinate::narrowed;
 use crate::failure::Failure;
 use mesh_num::num::IntNumber;
+use mesh_num::num::convert::widen;
 use serde_json::{Map, Value};
 use std::alloc::Global;
 
@@ -86,5 +87,5 @@ pub fn coordinate<I: IntNumber>(value: &Value) -> Option<I>
 pub fn number<I: IntNumber>(coordinate: I) -> Value
     ensures { view result ≡ number_value (of_integer (I.value coordinate)) }
 {
-    Value::from(widened(coordinate) as i64)
+    Value::from(widen(coordinate) as i64)
 }

@@ -3,10 +3,13 @@
 
 use std::alloc::{AllocError, Global};
 
+/// A point of a grid.
 pub type Point = (i128, i128);
 
+/// A directed edge: its start and its end.
 pub type Edge = (Point, Point);
 
+/// The point, moved by the vector.
 pub fn plus(p: Point, v: Point) -> Point {
     (p.0.wrapping_add(v.0), p.1.wrapping_add(v.1))
 }
@@ -16,10 +19,12 @@ pub fn minus(p: Point, q: Point) -> Point {
     (p.0.wrapping_sub(q.0), p.1.wrapping_sub(q.1))
 }
 
+/// The cross product: above 0 where `w` points to the left of `v`.
 pub fn cross(v: Point, w: Point) -> i128 {
     v.0.wrapping_mul(w.1).wrapping_sub(v.1.wrapping_mul(w.0))
 }
 
+/// The dot product.
 pub fn dot(v: Point, w: Point) -> i128 {
     v.0.wrapping_mul(w.0).wrapping_add(v.1.wrapping_mul(w.1))
 }

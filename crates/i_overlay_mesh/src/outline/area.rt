@@ -47,15 +47,7 @@ fn cross_product<I: IntNumber>(p: IntPoint<I>, q: IntPoint<I>) -> i128
     ensures value { result ≡ cross p q }
     ensures size { unsigned_abs result ≤ 2 ^ 63 }
 {
-    coordinate(p.x) * coordinate(q.y) - coordinate(p.y) * coordinate(q.x)
-}
-
-/// A coordinate in 128 bits.
-fn coordinate<I: IntNumber>(number: I) -> i128
-    ensures value { result ≡ I.value number }
-    ensures range { IsWithin (2 ^ 31) result }
-{
-    widen(number)
+    widen(p.x) * widen(q.y) - widen(p.y) * widen(q.x)
 }
 
 /// Whether a double area, in squares of the grid, fits the wide type of a coordinate.
@@ -71,6 +63,6 @@ fn wide_half<I: IntNumber>() -> i128
     ensures value { result ≡ pos I.Wide.half }
     ensures size { I.Wide.half ≤ 2 ^ 63 }
 {
-    let unit = coordinate(I::UNIT).unsigned_abs();
+    let unit = widen(I::UNIT).unsigned_abs();
     (8 * unit * unit) as i128
 }

@@ -19,6 +19,7 @@ pub(crate) fn unit<I: IntNumber>() -> u128
 pub fn widen<I: IntNumber>(number: I) -> i128
     ensures value { result ≡ I.value number }
     ensures range { IsWithin (2 * I.unit) (I.value number) }
+    ensures small { IsWithin (2 ^ 31) result }
 {
     let wide = number.to_wide();
     wide.to_i128()

@@ -102,9 +102,12 @@ pub trait IntNumber: Copy + Debug + Drop + Ord + Hash {
     /// The number of bits of this type.
     const BITS: u32;
 
+    /// 0.
     const ZERO: Self;
 
+    /// 1.
     const ONE: Self;
+
     /// 2 to the power of `BITS - 2`.
     const UNIT: Self;
 
