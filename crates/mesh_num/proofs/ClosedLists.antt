@@ -1,6 +1,6 @@
 -- Lemmas over points and lists: the neighbouring pairs of a list, and of a closed one.
 use Rattle.std.proofs.Common.{◌≡◌, List, [], ◌∷◌, ◌++◌, refl, sym, ap, arith, append_assoc, append-nil}
-use Rattle.std.specs.Prelude.{ℤ, ◌+ℤ◌, map}
+use Rattle.std.specs.Prelude.{ℤ, pos, ◌+ℤ◌, ◌-ℤ◌, map}
 use Rattle.std.specs.List.{All, flat_map}
 use Rattle.std.proofs.lemmas.List.Elements.{All-nil, All-cons, All-head, All-tail, All-append}
 use Rattle.std.specs.List.Sorted.{IsPermutation}
@@ -20,6 +20,16 @@ pub boundary_ends : {A : Type 0} (h g : A → ℤ) (xs : List A) →
     sum_of (λ (e : A × A). h e.0 +ℤ g e.1) (boundary xs) ≡ sum_of (λ x. g x +ℤ h x) xs
 boundary_ends h g [] = refl
 boundary_ends h g (x ∷ xs) = omega (arith, linear, route_ends h g x xs x)
+
+-- the steps along a route add up to the one between its ends
+route_steps : {A : Type 0} (f : A → ℤ) (a : A) (xs : List A) (z : A) → sum_of (λ (e : A × A). f e.1 -ℤ f e.0) (route a xs z) ≡ f z -ℤ f a
+route_steps f a [] z = omega (arith, linear)
+route_steps f a (x ∷ xs) z = omega (arith, linear, route_steps f x xs z)
+
+-- round a closed list they cancel
+pub boundary_steps : {A : Type 0} (f : A → ℤ) (xs : List A) → sum_of (λ (e : A × A). f e.1 -ℤ f e.0) (boundary xs) ≡ pos 0
+boundary_steps f [] = refl
+boundary_steps f (x ∷ xs) = omega (arith, linear, route_steps f x xs x)
 
 pub route_append : {A : Type 0} (a : A) (xs : List A) (y : A) (ys : List A) (z : A) →
     route a (xs ++ y ∷ ys) z ≡ route a xs y ++ route y ys z

@@ -1,8 +1,8 @@
 -- Laws of crossings, windings, balance and directions. The function of the same name in the module `laws` carries each.
-use Rattle.std.specs.Prelude.{ℕ, ◌≡◌, ◌+◌, ◌*◌, ◌<◌, ◌≤◌, ◌↔◌, List, [], ◌∷◌, ℤ, pos, neg_ℤ, ◌≤ℤ◌, unsigned_abs}
-use Rattle.mesh_num.specs.Plane.{Point, plus, turn, dot, length_sq}
+use Rattle.std.specs.Prelude.{ℕ, ◌≡◌, ◌+◌, ◌*◌, ◌<◌, ◌≤◌, ◌↔◌, List, [], ◌∷◌, ℤ, pos, neg_ℤ, ◌-ℤ◌, ◌≤ℤ◌, unsigned_abs}
+use Rattle.mesh_num.specs.Plane.{Point, Edge, plus, turn, dot, length_sq}
 use Rattle.mesh_num.specs.Rounding.{rounded}
-use Rattle.mesh_num.specs.Winding.{crossing_on, winding, boundary, IsBalanced, IsBit, IsOdd, IsStraight}
+use Rattle.mesh_num.specs.Winding.{crossing_on, winding, sum_of, boundary, IsBalanced, IsBit, IsOdd, IsStraight}
 use Rattle.mesh_num.specs.Direction.{IsDirection, HasSignOf}
 use Rattle.mesh_num.specs.Directed.{direction_of}
 
@@ -30,6 +30,10 @@ ParallelogramsWindOnce =
 -- the edges of a closed list of points start where they end
 abbrev pub ClosedListsBalance : Type 0
 ClosedListsBalance = (points : List Point) → IsBalanced (boundary points)
+
+-- the steps of any measure round a closed list cancel
+abbrev pub ClosedListsTelescope : Type 0
+ClosedListsTelescope = (f : Point → ℤ) (points : List Point) → sum_of (λ (e : Edge). f e.1 -ℤ f e.0) (boundary points) ≡ pos 0
 
 -- a vector other than 0 has one direction, which `direction_of` gives
 abbrev pub DirectionsAreUnique : Type 0

@@ -1,4 +1,4 @@
--- Lemmas over whole numbers: what fits a signed width.
+-- Lemmas over whole numbers: what fits a signed width. They stand here since the impls of `WideNumber` cite them.
 use Rattle.std.proofs.Common.{◌^◌, arith}
 use Rattle.std.specs.Prelude.{ℤ, FitsSigned}
 use Rattle.std.proofs.lemmas.Int.{ints}

@@ -1,6 +1,6 @@
 //! Laws of the definitions that contracts cite. Each function does nothing: its clause is the law.
 
-ghost use Rattle.mesh_num.specs.Laws.{CrossingsAreOdd, CrossingsAddAlongLines, FlatTrianglesDoNotWind, TrianglesWindOnce, ParallelogramsWindOnce, ClosedListsBalance, DirectionsAreUnique, LengthsAreProducts, RoundedIsNearest, RoundedIsOdd, RoundedIsMonotone};
+ghost use Rattle.mesh_num.specs.Laws.{CrossingsAreOdd, CrossingsAddAlongLines, FlatTrianglesDoNotWind, TrianglesWindOnce, ParallelogramsWindOnce, ClosedListsBalance, ClosedListsTelescope, DirectionsAreUnique, LengthsAreProducts, RoundedIsNearest, RoundedIsOdd, RoundedIsMonotone};
 
 /// An edge and the same edge back cross nothing together.
 pub fn crossings_are_odd()
@@ -30,6 +30,11 @@ pub fn parallelograms_wind_once()
 /// At each point as many edges of a closed list start as end.
 pub fn closed_lists_balance()
     ensures { ClosedListsBalance }
+{}
+
+/// The steps of any measure of points round a closed list add up to 0.
+pub fn closed_lists_telescope()
+    ensures { ClosedListsTelescope }
 {}
 
 /// A vector other than 0 has one direction.

@@ -13,7 +13,9 @@ use std::ops::Sub;
 /// A point of the grid. Contracts see the pair of its coordinates. Points are ordered by `x`, then `y`.
 #[derive(Debug, Copy, PartialEq, Eq, PartialOrd, Ord, Hash)]
 pub struct IntPoint<I: IntNumber> {
+    /// To the east, in grid units.
     pub x: I,
+    /// To the north, in grid units.
     pub y: I,
 }
 
@@ -67,7 +69,9 @@ impl<I: IntNumber> Sub<IntPoint<I>> for IntPoint<I> {
 /// A vector with components of the wide type. Contracts see the pair of its components.
 #[derive(Debug, Drop)]
 pub struct IntVector<I: IntNumber> {
+    /// To the east, in grid units.
     pub x: I::Wide,
+    /// To the north, in grid units.
     pub y: I::Wide,
 }
 

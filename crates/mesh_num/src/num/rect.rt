@@ -14,9 +14,13 @@ use std::marker::Model;
 /// A closed rectangle along the axes, in grid units. Contracts see its least and its greatest corner.
 #[derive(Debug, Copy)]
 pub struct IntRect<I: IntNumber> {
+    /// The west side.
     pub min_x: I,
+    /// The east side.
     pub max_x: I,
+    /// The south side.
     pub min_y: I,
+    /// The north side.
     pub max_y: I,
 }
 

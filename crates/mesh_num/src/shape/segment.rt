@@ -12,7 +12,9 @@ use std::marker::Model;
 /// Two ends, the smaller first. Contracts see the pair of both.
 #[derive(Debug, Copy)]
 pub struct XSegment<I: IntNumber> {
+    /// The smaller end.
     pub a: IntPoint<I>,
+    /// The larger end.
     pub b: IntPoint<I>,
 }
 
@@ -40,7 +42,9 @@ impl<I: IntNumber> Model for XSegment<I> {
 /// Contracts see the pair of its ends, and its count.
 #[derive(Debug, Copy)]
 pub struct Segment<I: IntNumber> {
+    /// Both ends.
     pub x_segment: XSegment<I>,
+    /// 1 for the edge from the smaller end, -1 for the edge back.
     pub count: i32,
 }
 
