@@ -7,6 +7,7 @@ use mesh_num::num::{Angle, IntNumber};
 /// The arithmetic of a construction. Whole numbers give the same result on every machine.
 #[derive(Debug, Clone, Copy, PartialEq, Eq)]
 pub enum MathMode {
+    /// Whole numbers alone.
     Integer,
 }
 

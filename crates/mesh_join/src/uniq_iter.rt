@@ -15,7 +15,9 @@ use std::marker::Model;
 /// A directed edge of a contour from `a` to `b`.
 #[derive(Debug, Clone, Copy)]
 pub struct UniqueSegment<I: IntNumber> {
+    /// The start.
     pub a: IntPoint<I>,
+    /// The end.
     pub b: IntPoint<I>,
 }
 

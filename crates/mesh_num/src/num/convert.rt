@@ -41,10 +41,10 @@ pub fn is_less<I: IntNumber>(first: I, second: I) -> bool
 }
 
 /// Whether the first wide number is below the second.
-pub fn is_wide_less<I: IntNumber>(first: I::Wide, second: I::Wide) -> bool
-    ensures { IsTrue result ↔ I.Wide.value first <ℤ I.Wide.value second }
+pub fn is_wide_less<I: IntNumber>(left: I::Wide, right: I::Wide) -> bool
+    ensures { IsTrue result ↔ I.Wide.value left <ℤ I.Wide.value right }
 {
-    first < second
+    left < right
 }
 
 /// The lesser of two coordinates.

@@ -8,11 +8,11 @@ use std::test::Fail;
 
 const TRIANGLE: [(i32, i32); 3] = [(0, 0), (40, 0), (0, 30)];
 
-const HOLE: [(i32, i32); 3] = [(8, 8), (8, 14), (16, 8)];
+const HOLE: [(i32, i32); 4] = [(8, 8), (8, 13), (14, 13), (14, 8)];
 
 const GROWN: [(i32, i32); 6] = [(-1, 0), (0, -1), (40, -1), (41, 1), (1, 31), (-1, 30)];
 
-const SMALL_HOLE: [(i32, i32); 3] = [(9, 9), (9, 12), (13, 9)];
+const SMALL_HOLE: [(i32, i32); 4] = [(9, 9), (9, 12), (13, 12), (13, 9)];
 
 #[test]
 fn one_path(rt: HostRuntime) -> Result<(), Fail> {

@@ -1,6 +1,7 @@
 //! Worked outlines, from outside the program.
 
-use super::compared::{expect, expect_custom, expect_refused, paths};
+use super::compared::{expect, expect_custom, expect_refused, path, paths};
+use crate::outline::area::double_area;
 use mesh_below::below::{ContourDirection, IntOverlayOptions};
 use mesh_join::style::IntOutlineStyle;
 use std::test::Fail;
@@ -217,5 +218,26 @@ fn large_areas_at_the_end_of_the_wide_type(rt: HostRuntime) -> Result<(), Fail> 
         &[&[&square]],
     )?;
     expect_refused(&rt, alloc, &paths(alloc, &[&twice])?, &style)?;
+    Ok(())
+}
+
+#[test]
+fn double_areas(rt: HostRuntime) -> Result<(), Fail> {
+    let alloc = rt.alloc();
+    let least = -16_383i16;
+    let most = 16_383i16;
+    let small = path(
+        alloc,
+        &[(least, least), (most, least), (most, most), (least, most)],
+    )?;
+    assert_eq!(rt; double_area(small.as_slice()), 2_147_221_512);
+    let most = 1_073_741_823;
+    let large = path(
+        alloc,
+        &[(-most, -most), (most, -most), (most, most), (-most, most)],
+    )?;
+    assert_eq!(rt; double_area(large.as_slice()), 9_223_372_019_674_906_632);
+    let hole = path(alloc, &[(0, 0), (0, 3), (4, 0)])?;
+    assert_eq!(rt; double_area(hole.as_slice()), -12);
     Ok(())
 }
