@@ -22,7 +22,7 @@ def measure(count, *more):
 
 
 def main():
-    print("| segments | crossings | split segments | seconds |")
+    print("| segments | crossings, about | split segments | seconds |")
     print("|---|---|---|---|")
     for count in [250 * 2**power for power in range(7)]:
         before, after, seconds = measure(count)
