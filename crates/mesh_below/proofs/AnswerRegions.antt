@@ -9,7 +9,8 @@ use Rattle.mesh_num.specs.Winding.{boundary, crossing_on, winding, IsBalanced}
 use Rattle.mesh_num.proofs.Ring.{ring, var, lit, ◌⊕◌, ◌⊖◌, ◌⊗◌}
 use Rattle.mesh_num.proofs.Sums.{sum_of_append}
 use Rattle.mesh_num.proofs.Whole.{linear, mul_nonneg, mul_nonpos, mul_pos, mul_zero, mul_cancel, mul_le_mul_left, square_nonneg, square_pos}
-use Rattle.mesh_below.specs.Boundary.{IsBoundary, IsProper, refined_edge, winding_beside}
+use Rattle.mesh_below.specs.Boundary.{IsBoundary, winding_beside}
+use Rattle.mesh_below.specs.Clean.{IsProper, refined_edge}
 use Rattle.mesh_below.specs.Contours.{vertices}
 use Rattle.mesh_below.specs.FillRules.{filled}
 use Rattle.mesh_below.specs.Laws.{AreSplit, AreRegions, once}

@@ -10,7 +10,7 @@ use Rattle.mesh_num.specs.Bounds.{IsSmall}
 use Rattle.mesh_num.specs.Plane.{Point}
 use Rattle.mesh_num.specs.Winding.{total, route, boundary}
 use Rattle.mesh_num.proofs.Whole.{linear}
-use Rattle.mesh_below.specs.Contours.{point_at}
+use Rattle.mesh_below.specs.Progress.{point_at}
 use Rattle.mesh_below.proofs.ContoursBegun.{at_place}
 
 -- a number below 2 ^ 127 in size

@@ -10,9 +10,10 @@ use Rattle.mesh_num.proofs.Whole.{linear, mul_one}
 use Rattle.mesh_num.proofs.Ring.{ring, var, lit, ◌⊕◌, ◌⊖◌, ◌⊗◌}
 use Rattle.mesh_num.proofs.Crossings.{crossing_low, crossing_high}
 use Rattle.mesh_num.proofs.Balance.{growth, growth_of_balanced}
+use Rattle.mesh_below.specs.Clean.{IsOn, IsClean, IsProper}
 use Rattle.mesh_below.specs.Split.{back, same_ends, occurs, IsBetween}
 use Rattle.mesh_below.specs.Counted.{bit, net}
-use Rattle.mesh_below.specs.Boundary.{IsOn, IsClean, IsProper, winding_beside, left_winding, right_winding, IsBoundary}
+use Rattle.mesh_below.specs.Boundary.{winding_beside, left_winding, right_winding, IsBoundary}
 use Rattle.mesh_below.proofs.Ends.{decides_point}
 use Rattle.mesh_below.proofs.Places.{place, coordinates, turned}
 use Rattle.mesh_below.proofs.SidesConstant.{scale, part, winds, Each}

@@ -8,9 +8,10 @@ use Rattle.std.proofs.lemmas.List.Sums.{sum_by-append}
 use Rattle.mesh_num.specs.Plane.{Edge}
 use Rattle.mesh_num.specs.Winding.{sum_of, same_point, crossing_on}
 use Rattle.mesh_num.proofs.Whole.{linear, add_mul, mul_add, mul_assoc, mul_one}
+use Rattle.mesh_below.specs.Clean.{IsProper}
 use Rattle.mesh_below.specs.Split.{back, same_edge, same_ends, occurs}
 use Rattle.mesh_below.specs.Counted.{Counted, bit, along, net, counted_net, times, IsCountOf}
-use Rattle.mesh_below.specs.Boundary.{count, IsProper, IsBoundary, middle, rises, winding_beside, left_winding, right_winding}
+use Rattle.mesh_below.specs.Boundary.{count, IsBoundary, middle, rises, winding_beside, left_winding, right_winding}
 use Rattle.mesh_below.specs.CountedSides.{counted_winding, sides_by, sides_of, is_parted, boundary_edge}
 use Rattle.mesh_below.proofs.Ends.{decides_edge, decides_ends, ends_self, along_self, not_along}
 use Rattle.mesh_below.proofs.Stages.{times_least, absent_net}

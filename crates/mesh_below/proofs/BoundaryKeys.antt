@@ -8,9 +8,9 @@ use Rattle.std.proofs.lemmas.Int.{ints, by_lt_z}
 use Rattle.mesh_num.specs.Plane.{Point, Edge}
 use Rattle.mesh_num.specs.Winding.{sum_of, same_point}
 use Rattle.mesh_num.proofs.Whole.{linear, add_mul, one_mul}
+use Rattle.mesh_below.specs.Clean.{IsProper}
 use Rattle.mesh_below.specs.Split.{back, same_edge, same_ends, occurs}
 use Rattle.mesh_below.specs.Counted.{bit, along, net}
-use Rattle.mesh_below.specs.Boundary.{IsProper}
 use Rattle.mesh_below.proofs.Ends.{decides_point, decides_edge, decides_ends, ends_self, ends_sym, ends_along, along_turned, along_self, not_along}
 use Rattle.mesh_below.proofs.SidesConstant.{Each}
 use Rattle.mesh_below.proofs.SidesClear.{each_of, proper_of}

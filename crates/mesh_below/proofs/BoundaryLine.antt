@@ -9,9 +9,10 @@ use Rattle.mesh_num.specs.Winding.{sum_of, crossing_of, crossing, IsBalanced}
 use Rattle.mesh_num.proofs.Whole.{linear, mul_pos, mul_nonneg_nonpos}
 use Rattle.mesh_num.proofs.Ring.{ring, var, lit, ◌⊕◌, ◌⊖◌, ◌⊗◌}
 use Rattle.mesh_num.proofs.Crossings.{crossing_odd}
+use Rattle.mesh_below.specs.Clean.{IsOn, IsClean, IsProper}
 use Rattle.mesh_below.specs.Split.{back, same_ends, occurs}
 use Rattle.mesh_below.specs.Counted.{net}
-use Rattle.mesh_below.specs.Boundary.{IsOn, IsClean, IsProper, middle, winding_beside}
+use Rattle.mesh_below.specs.Boundary.{middle, winding_beside}
 use Rattle.mesh_below.proofs.Line.{past, past_yes, past_none, beyond, steps, Free, Scattered, telescope}
 use Rattle.mesh_below.proofs.Places.{place, coordinates, turned, scaled}
 use Rattle.mesh_below.proofs.SidesConstant.{scale, part, winds, Each, each_more, inside_same}

@@ -3,8 +3,8 @@ use Rattle.std.proofs.Common.{◌≡◌, ◌⊎◌, inl, inr, ⊎_elim, Bool, tr
 use Rattle.std.proofs.lemmas.Bool.{or_cases, both_ways, false≢true}
 use Rattle.mesh_num.specs.Plane.{Point, Edge}
 use Rattle.mesh_num.specs.Winding.{same_point}
+use Rattle.mesh_below.specs.Clean.{IsProper}
 use Rattle.mesh_below.specs.Split.{back, same_ends, occurs, is_end, IsInBox, Cut, pieces, cut, after, add_cut, IsLegal, no_cut, split}
-use Rattle.mesh_below.specs.Boundary.{IsProper}
 use Rattle.mesh_below.proofs.Ends.{decides_point, decides_ends, decides_end}
 use Rattle.mesh_below.proofs.Boxes.{meets_box}
 use Rattle.mesh_below.proofs.SidesConstant.{Each, each_more}

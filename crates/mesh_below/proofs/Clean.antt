@@ -7,7 +7,7 @@ use Rattle.mesh_num.specs.Plane.{Point, Edge, turn}
 use Rattle.mesh_num.specs.Winding.{same_point, refined}
 use Rattle.mesh_num.proofs.Crossings.{turn_refined}
 use Rattle.mesh_num.proofs.Whole.{linear, factor, le_of_mul_le_mul, mul_le_mul_left}
-use Rattle.mesh_below.specs.Boundary.{IsOn, refined_edge, ShareEnds, IsClean, IsProper}
+use Rattle.mesh_below.specs.Clean.{IsOn, refined_edge, ShareEnds, IsClean, IsProper}
 use Rattle.mesh_below.specs.Counted.{Counted, IsCountOf, bit, times}
 use Rattle.mesh_below.specs.Split.{back, same_edge, same_ends, occurs, is_end, IsBetween, IsInside, at_start_of_second, at_end_of_second, at_start_of_first, at_end_of_first, at_crossing}
 use Rattle.mesh_below.specs.Steps.{exactly, AreClear, AllClear}

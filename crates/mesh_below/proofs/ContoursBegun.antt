@@ -15,8 +15,9 @@ use Rattle.mesh_num.specs.Winding.{sum_of, route, boundary, same_point}
 use Rattle.mesh_num.proofs.Whole.{linear, mul_both_neg, mul_neg_pos, pos_of_mul, neg_mul, square_nonneg}
 use Rattle.mesh_num.proofs.Ring.{ring, var, ◌⊕◌, ◌⊖◌, ◌⊗◌}
 use Rattle.mesh_num.proofs.ClosedLists.{boundary_rotated}
-use Rattle.mesh_below.specs.Contours.{is_corner, first_or, corners, kept, next_kept, vertices, edge_lt, FirstIsLeast, IsBegun, side_point, point_at, next_at, IsBestVisit, IsLeastBefore, IsRingOf}
+use Rattle.mesh_below.specs.Contours.{is_corner, first_or, corners, kept, next_kept, vertices, edge_lt, FirstIsLeast, IsBegun, side_point, IsRingOf}
 use Rattle.mesh_below.specs.Counted.{bit}
+use Rattle.mesh_below.specs.Progress.{point_at, next_at, IsBestVisit, IsLeastBefore}
 use Rattle.mesh_below.proofs.Ends.{decides_point}
 use Rattle.mesh_below.proofs.SidesConstant.{Each, each_more}
 use Rattle.mesh_below.proofs.ContoursKept.{Proper}

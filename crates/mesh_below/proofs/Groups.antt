@@ -15,8 +15,9 @@ use Rattle.mesh_num.specs.Plane.{Point}
 use Rattle.mesh_num.specs.Order.{point_lt}
 use Rattle.mesh_num.specs.Winding.{holds}
 use Rattle.mesh_below.specs.Contours.{double_area}
+use Rattle.mesh_below.specs.Progress.{NoneRound, IsHolder}
 use Rattle.mesh_below.specs.Resolution.{Ring, Placed, points_lt, is_positive, is_round, is_before, is_head, stands_with}
-use Rattle.mesh_below.specs.Grouping.{Held, view, views, ring_at, placed, areas_of, is_round_at, NoneRound, IsHolder, IsHome, heads, stands}
+use Rattle.mesh_below.specs.Grouping.{Held, view, views, ring_at, placed, areas_of, is_round_at, IsHome, heads, stands}
 
 -- ---- what stands at a place
 get_map : {A B : Type 0} (f : A → B) (xs : List A) (i : ℕ) (d : A) (e : B) → i < length xs → get_or (map f xs) i e ≡ f (get_or xs i d)

@@ -16,7 +16,7 @@ use Rattle.mesh_below.specs.Split.{same_ends, occurs, Cut, cut, after}
 use Rattle.mesh_below.proofs.BoundaryFill.{boundary_cover}
 use Rattle.mesh_below.proofs.Ends.{ends_self}
 
-after_none : (ks : List Cut) → after ks [] ≡ []
+pub after_none : (ks : List Cut) → after ks [] ≡ []
 after_none [] = refl
 after_none (k ∷ ks) = ap (cut k) (after_none ks)
 

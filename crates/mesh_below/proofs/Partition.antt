@@ -11,7 +11,8 @@ use Rattle.mesh_num.specs.Winding.{sum_of, boundary, crossing_on, winding, holds
 use Rattle.mesh_num.proofs.Sums.{sum_of_map, sum_of_flat_map, sum_of_add, sum_of_same, sum_of_equal, sum_of_zero, sum_of_permutation}
 use Rattle.mesh_num.proofs.Whole.{linear}
 use Rattle.mesh_below.specs.Contours.{vertices, double_area}
-use Rattle.mesh_below.specs.Grouping.{ring_at, placed, is_round_at, NoneRound, IsHolder, IsHome}
+use Rattle.mesh_below.specs.Grouping.{ring_at, placed, is_round_at, IsHome}
+use Rattle.mesh_below.specs.Progress.{NoneRound, IsHolder}
 use Rattle.mesh_below.specs.Resolution.{Choices, IsResolution, Ring, Placed, ring_of, is_large, is_positive, is_head, is_round, stands_with, shape_of, shapes_of, answered}
 use Rattle.mesh_below.proofs.Groups.{area, holder_none, holder_kept, holder_no_less, holder_first, holder_less, home_positive, home_alone, home_held, member_test, head_test}
 

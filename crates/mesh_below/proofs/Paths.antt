@@ -1,20 +1,24 @@
 -- Lemmas over points and lists: cuts make of each edge a path that never goes back; what a splitting is.
-use Rattle.std.proofs.Common.{◌≡◌, ⊎_elim, Bool, true, false, cond, sym, subst, refl, arith, List, [], ◌∷◌, ◌++◌}
+use Rattle.std.proofs.Common.{◌≡◌, ⊎_elim, Bool, true, false, cond, ◌||◌, sym, subst, ap, ◌∙◌, refl, arith, List, [], ◌∷◌, ◌++◌}
 use Rattle.std.specs.List.{All}
-use Rattle.std.proofs.lemmas.Bool.{cases_Bool}
+use Rattle.std.proofs.lemmas.Bool.{cases_Bool, false≢true, or_cases, or_right}
 use Rattle.std.proofs.lemmas.List.Elements.{All-cons, All-head, All-tail}
 use Rattle.mesh_num.specs.Plane.{Point, Edge}
 use Rattle.mesh_num.proofs.Whole.{linear}
-use Rattle.mesh_below.specs.Boundary.{IsProper}
+use Rattle.mesh_below.specs.Clean.{IsProper}
 use Rattle.mesh_below.specs.Counted.{Counted, IsCountOf}
-use Rattle.mesh_below.specs.Split.{back, same_ends, IsInBox, Cut, cut, after, path}
-use Rattle.mesh_below.specs.Splitting.{Leads, IsOnward, IsPathOf, IsSplitting}
+use Rattle.mesh_below.specs.Split.{back, same_ends, occurs, IsInBox, Cut, cut, after, path}
+use Rattle.mesh_below.specs.Splitting.{Leads, IsOnward, IsPathOf, ComesFrom, IsSplitting}
 use Rattle.mesh_below.specs.Steps.{AllClear, IsReached}
-use Rattle.mesh_below.proofs.BoundaryRegions.{box_trans, after_balanced}
+use Rattle.mesh_below.proofs.AnswerPoints.{split_safe}
+use Rattle.mesh_below.proofs.BoundaryKeys.{occurs_head}
+use Rattle.mesh_below.proofs.BoundaryRegions.{box_trans, after_append, after_balanced}
 use Rattle.mesh_below.proofs.BoundarySplits.{IsSound, legal_sound, after_proper}
 use Rattle.mesh_below.proofs.Boxes.{start_box, end_box}
 use Rattle.mesh_below.proofs.Clean.{clean_of_clear}
+use Rattle.mesh_below.proofs.Cuts.{occurs_append}
 use Rattle.mesh_below.proofs.Ends.{decides_ends}
+use Rattle.mesh_below.proofs.NoShapes.{after_none}
 use Rattle.mesh_below.proofs.SidesConstant.{Each}
 
 -- a cut's point lies in the box of each edge that it cuts
@@ -85,6 +89,46 @@ path_of_edge (k ∷ ks) sound e =
     let before = path_of_edge ks sound.1 e in
     record { leads = leads_cut k e.0 (path ks e) e.1 before.leads; onward = onward_cut e k sound.0 (path ks e) before.onward }
 
+-- ---- each segment lies in the box of the edge that it comes from
+
+abbrev AreInBox : Edge → Edge → Type 0
+AreInBox e f = IsInBox e f.0 × IsInBox e f.1
+
+on_path_boxed : (e : Edge) (es : List Edge) → All (IsOnward e) es → (f : Edge) → occurs f es ≡ true → AreInBox e f
+on_path_boxed e [] h f o = absurd (false≢true o)
+on_path_boxed e (d ∷ es) h f o =
+    ⊎_elim
+    (λ (t : same_ends f d ≡ true).
+    ⊎_elim (λ (x : f ≡ d). subst (AreInBox e) (sym x) own) (λ (x : f ≡ back d). subst (AreInBox e) (sym x) (own.1, own.0)) ((decides_ends f d).0 t))
+    (λ (t : occurs f es ≡ true). on_path_boxed e es (All-tail (IsOnward e) d es h) f t)
+    (or_cases (same_ends f d) (occurs f es) o)
+  where
+    own : AreInBox e d
+    own = let first = All-head (IsOnward e) d es h in (first.start_in_box, first.end_in_box)
+
+comes_from : (ks : List Cut) → Each IsSound ks → (es : List Edge) → (f : Edge) → occurs f (after ks es) ≡ true → ComesFrom es ks f
+comes_from ks sound [] f o = absurd (false≢true (subst (λ (l : List Edge). occurs f l ≡ true) (after_none ks) o))
+comes_from ks sound (e ∷ es) f o =
+    ⊎_elim
+    (λ (t : occurs f (path ks e) ≡ true).
+    let box = on_path_boxed e (path ks e) (path_of_edge ks sound e).onward f t in
+    record { edge = e; is_given = occurs_head e es; on_path = t; start_in_box = box.0; end_in_box = box.1 })
+    (λ (t : occurs f (after ks es) ≡ true).
+    let r = comes_from ks sound es f t in
+    record {
+      edge = r.edge;
+      is_given = or_right (same_ends r.edge e) (occurs r.edge es) r.is_given;
+      on_path = r.on_path;
+      start_in_box = r.start_in_box;
+      end_in_box = r.end_in_box;
+    })
+    (or_cases (occurs f (path ks e)) (occurs f (after ks es)) parts)
+  where
+    parts : (occurs f (path ks e) || occurs f (after ks es)) ≡ true
+    parts =
+        sym (occurs_append f (path ks e) (after ks es))
+        ∙ (ap (occurs f) (sym (after_append ks (e ∷ []) es)) ∙ o)
+
 -- ---- the splitting as a whole
 
 pub splitting_of : (given : List Edge) (ks : List Counted) → IsProper given → IsReached given [] ks [] → AllClear ks → IsSplitting given ks
@@ -102,5 +146,7 @@ splitting_of given ks proper r clear =
       clean = clean_of_clear (after r.cuts given) ks whole count clear;
       proper = whole;
       paths = path_of_edge r.cuts sound;
+      boxed = comes_from r.cuts sound given;
+      safe = λ unit h. split_safe unit given r.cuts r.legal h;
       balanced = after_balanced r.cuts given;
     }

@@ -16,7 +16,8 @@ use Rattle.mesh_below.proofs.BoundaryFill.{boundary_cover}
 use Rattle.mesh_below.proofs.BoundaryKeys.{keys, keys_are}
 use Rattle.mesh_below.proofs.Ends.{ends_self}
 use Rattle.mesh_below.proofs.Walking.{counts_same}
-use Rattle.mesh_below.specs.Boundary.{count, IsBoundary, IsProper}
+use Rattle.mesh_below.specs.Boundary.{count, IsBoundary}
+use Rattle.mesh_below.specs.Clean.{IsProper}
 use Rattle.mesh_below.specs.Contours.{IsBegun, IsRingOf}
 use Rattle.mesh_below.specs.Counted.{Counted}
 use Rattle.mesh_below.specs.Grouping.{Held, view, views, AreRingsOf, PushesRing}

@@ -8,8 +8,9 @@ use Rattle.std.proofs.lemmas.Bool.{cases_Bool, both_ways, eqb-true, eq-eqb}
 use Rattle.std.proofs.lemmas.List.{append-nil, map-append, length-append}
 use Rattle.mesh_num.specs.Plane.{Point}
 use Rattle.mesh_num.specs.Winding.{holds}
+use Rattle.mesh_below.specs.Progress.{NoneRound, IsHolder}
 use Rattle.mesh_below.specs.Resolution.{Ring, Placed, is_head, shape_of, shapes_of, answered}
-use Rattle.mesh_below.specs.Grouping.{Held, view, views, ring_at, placed, areas_of, is_round_at, NoneRound, IsHolder, IsHome, points_of}
+use Rattle.mesh_below.specs.Grouping.{Held, view, views, ring_at, placed, areas_of, is_round_at, IsHome, points_of}
 use Rattle.mesh_below.proofs.Groups.{length_map, view_at, area_at, positive_at, holder_no_less, holder_first, holder_less, home_alone, home_held, is_member, member_test, head_test, place_next, places_none, places_all}
 
 -- ---- one more element of a filtered list

@@ -9,7 +9,7 @@ use Rattle.mesh_num.specs.Winding.{same_point, refined}
 use Rattle.mesh_num.proofs.Whole.{linear, mul_neg, mul_nonneg, mul_nonpos_nonneg, mul_pos, mul_pos_neg, nonneg_of_mul, nonpos_of_mul, mul_lt_mul_left, pos_of_mul, neg_of_mul, factor, lt_of_mul_lt_mul}
 use Rattle.mesh_num.proofs.Crossings.{turn_flip}
 use Rattle.mesh_num.proofs.Ring.{ring, var, neg, ◌⊕◌, ◌⊖◌, ◌⊗◌}
-use Rattle.mesh_below.specs.Boundary.{IsOn, refined_edge}
+use Rattle.mesh_below.specs.Clean.{IsOn, refined_edge}
 use Rattle.mesh_below.specs.Split.{back, same_ends, is_end, IsBetween, IsInside, AreOpposite, IsCrossing}
 use Rattle.mesh_below.proofs.Boxes.{turns_differ}
 use Rattle.mesh_below.proofs.Ends.{decides_point, decides_end, decides_ends, ends_turned, ends_sym}

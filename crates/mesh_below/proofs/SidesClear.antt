@@ -8,8 +8,8 @@ use Rattle.mesh_num.specs.Winding.{same_point}
 use Rattle.mesh_num.proofs.Whole.{linear, factor, mul_nonneg, mul_nonneg_nonpos, le_of_mul_le_mul}
 use Rattle.mesh_num.proofs.Ring.{ring, var, lit, neg, ◌⊕◌, ◌⊖◌, ◌⊗◌}
 use Rattle.mesh_num.proofs.Crossings.{turn_flip}
+use Rattle.mesh_below.specs.Clean.{IsOn, refined_edge, IsClean, IsProper}
 use Rattle.mesh_below.specs.Split.{back, same_ends, occurs, IsBetween}
-use Rattle.mesh_below.specs.Boundary.{IsOn, refined_edge, IsClean, IsProper}
 use Rattle.mesh_below.proofs.Ends.{decides_point, decides_ends, decides_end, ends_self}
 use Rattle.mesh_below.proofs.Places.{place, coordinates, turned, scaled}
 use Rattle.mesh_below.proofs.SidesConstant.{scale, part, Clear, on_left, on_right, ahead, behind, along, ClearOf, Each}

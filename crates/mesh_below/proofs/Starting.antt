@@ -10,7 +10,7 @@ use Rattle.mesh_num.specs.Plane.{Edge}
 use Rattle.mesh_num.specs.Winding.{same_point, sum_of}
 use Rattle.mesh_num.proofs.Sums.{sum_of_append}
 use Rattle.mesh_num.proofs.Whole.{linear}
-use Rattle.mesh_below.specs.Boundary.{IsProper}
+use Rattle.mesh_below.specs.Clean.{IsProper}
 use Rattle.mesh_below.specs.Split.{same_ends, occurs, no_cut}
 use Rattle.mesh_below.specs.Counted.{Counted, bit, along, times}
 use Rattle.mesh_below.specs.Steps.{IsTaken, Puts, AllClear, AreCountOf, IsReached, Settles, at_least_once, extent, weight, waiting_work, live_work, work, total_weight}

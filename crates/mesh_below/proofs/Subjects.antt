@@ -8,7 +8,7 @@ use Rattle.std.proofs.lemmas.List.Elements.{All-head, All-tail}
 use Rattle.mesh_num.specs.Plane.{Edge}
 use Rattle.mesh_num.specs.Segments.{SignedEdge, IsSubject, edge_of, edges_of}
 use Rattle.mesh_num.specs.Winding.{same_point}
-use Rattle.mesh_below.specs.Boundary.{IsProper}
+use Rattle.mesh_below.specs.Clean.{IsProper}
 use Rattle.mesh_below.proofs.BoundarySplits.{ProperEnds, each_proper, proper_each}
 use Rattle.mesh_below.proofs.Ends.{decides_point}
 use Rattle.mesh_below.proofs.Entries.{forward_proper}

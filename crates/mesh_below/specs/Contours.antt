@@ -1,5 +1,5 @@
 -- Closed contours: the vertices that are answered, where a contour begins, its area and its side point.
-use Rattle.std.specs.Prelude.{ℕ, ◌≡◌, ◌+◌, ◌<◌, Bool, false, cond, not, ◌&&◌, ◌||◌, List, [], ◌∷◌, reverse, length, drop, slice_index_or, ℤ, pos, int_lt}
+use Rattle.std.specs.Prelude.{◌≡◌, Bool, false, cond, not, ◌&&◌, ◌||◌, List, [], ◌∷◌, reverse, ℤ, pos, int_lt}
 use Rattle.std.specs.Ordering.{int_eq}
 use Rattle.std.specs.List.{All}
 use Rattle.mesh_num.specs.Plane.{Point, Edge, minus, plus, cross, dot}
@@ -75,22 +75,3 @@ pub record IsRingOf (all : Bool) (given : List Point) (ring : List Point × Poin
   pub begun : IsBegun all contour
   pub vertices_are : ring.0 ≡ vertices all contour
   pub side_is : ring.1 ≡ side_point contour
-
--- the point at a place of a list
-abbrev pub point_at : List Point → ℕ → Point
-point_at ps i = slice_index_or ps i (pos 0, pos 0)
-
--- the next vertex that is answered after the place `i` of a contour
-abbrev pub next_at : Bool → List Point → ℕ → Point
-next_at all ps i = next_kept all (point_at ps i) (drop (i + 1) ps) (point_at ps 0)
-
--- the point at a place is the first one's, and no visit of it has a lesser next vertex before the place `n`
-pub record IsBestVisit (all : Bool) (ps : List Point) (n best : ℕ) : Type 0 where
-  pub within : best < length ps
-  pub visit : point_at ps best ≡ point_at ps 0
-  pub least : (k : ℕ) → k < n → point_at ps k ≡ point_at ps 0 → point_lt (next_at all ps k) (next_at all ps best) ≡ false
-
--- of the points before the place `n` none is less than that at `least`
-pub record IsLeastBefore (ps : List Point) (n least : ℕ) : Type 0 where
-  pub within : least < length ps
-  pub none_less : (k : ℕ) → k < n → point_lt (point_at ps k) (point_at ps least) ≡ false

@@ -6,7 +6,7 @@ use Rattle.mesh_num.specs.Bounds.{IsSafe}
 use Rattle.mesh_num.specs.Plane.{Point, Edge}
 use Rattle.mesh_num.specs.Winding.{sum_of, boundary, holds}
 use Rattle.mesh_below.specs.Contours.{IsBegun, double_area}
-use Rattle.mesh_below.specs.Resolution.{Ring, Placed, ring_of, is_large, is_positive, is_before, is_head, stands_with}
+use Rattle.mesh_below.specs.Resolution.{Ring, Placed, ring_of, is_large, is_positive, is_head, stands_with}
 use Rattle.mesh_below.specs.Unused.{contour_edges}
 
 -- a ring's vertices in a vector, and its side point
@@ -36,16 +36,6 @@ areas_of rs = map (λ (r : Ring). double_area r.0) rs
 -- a ring of positive area that holds the point `q`
 abbrev pub is_round_at : List Ring → ℕ → Point → Bool
 is_round_at rs h q = is_positive (ring_at rs h) && holds 2 q (ring_at rs h).1.0
-
--- no ring of the first `n` is round the point
-abbrev pub NoneRound : List Ring → ℕ → Point → Type 0
-NoneRound rs n q = (k : ℕ) → k < n → is_round_at rs k q ≡ false
-
--- of the first `n` rings that are round the point the one at `b` is of least area, and first
-pub record IsHolder (rs : List Ring) (n : ℕ) (q : Point) (b : ℕ) : Type 0 where
-  pub within : b < n
-  pub round : is_round_at rs b q ≡ true
-  pub first : (k : ℕ) → k < n → is_round_at rs k q ≡ true → is_before (ring_at rs k) (ring_at rs b) ≡ false
 
 -- the ring at `i` stands with that at `h`, which is its own place where it heads a shape
 pub data IsHome (rs : List Ring) (i h : ℕ) : Type 0 where

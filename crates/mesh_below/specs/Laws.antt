@@ -4,7 +4,8 @@ use Rattle.std.specs.List.{flat_map}
 use Rattle.mesh_num.specs.Paths.{contours_of}
 use Rattle.mesh_num.specs.Plane.{Point, Edge}
 use Rattle.mesh_num.specs.Winding.{boundary, winding, IsBalanced}
-use Rattle.mesh_below.specs.Boundary.{IsClean, IsProper, IsBoundary, refined_edge, winding_beside}
+use Rattle.mesh_below.specs.Boundary.{IsBoundary, winding_beside}
+use Rattle.mesh_below.specs.Clean.{IsClean, IsProper, refined_edge}
 use Rattle.mesh_below.specs.Contours.{vertices}
 use Rattle.mesh_below.specs.Reach.{AreEdgesSafe, ArePointsSafe}
 use Rattle.mesh_below.specs.Regions.{OutsideBent}

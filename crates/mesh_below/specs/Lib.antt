@@ -1,5 +1,6 @@
 pub mod Asked
 pub mod Boundary
+pub mod Clean
 pub mod Contours
 pub mod Counted
 pub mod CountedSides
@@ -7,6 +8,7 @@ pub mod FillRules
 pub mod Grouping
 pub mod Laws
 pub mod Options
+pub mod Progress
 pub mod Reach
 pub mod Regions
 pub mod Resolution

@@ -6,8 +6,9 @@ use Rattle.std.specs.List.Sorted.{IsSortedBy, IsPermutation}
 use Rattle.mesh_num.specs.Plane.{Point, Edge}
 use Rattle.mesh_num.specs.Order.{point_lt}
 use Rattle.mesh_num.specs.Winding.{boundary, same_point, holds}
+use Rattle.mesh_below.specs.Clean.{IsClean}
 use Rattle.mesh_below.specs.Split.{Cut, after, IsLegal}
-use Rattle.mesh_below.specs.Boundary.{IsClean, IsBoundary}
+use Rattle.mesh_below.specs.Boundary.{IsBoundary}
 use Rattle.mesh_below.specs.Contours.{vertices, IsBegun, double_area, side_point, reversed}
 
 -- the options of an answer: the least area, whether straight-through vertices stay, whether contours run clockwise

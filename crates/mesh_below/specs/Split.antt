@@ -1,4 +1,4 @@
--- Splitting: where two segments meet, the cuts that this allows, and what is left when none meet.
+-- Splitting: where two segments meet, and the cuts that this allows.
 -- Edges are directed; a segment is a pair of ends, whichever way the edges between them run.
 use Rattle.std.specs.Prelude.{◌≡◌, ◌⊎◌, Bool, true, false, cond, ◌&&◌, ◌||◌, List, [], ◌∷◌, ◌++◌, ℤ, pos, negsuc, suc, ◌+ℤ◌, ◌-ℤ◌, ◌*ℤ◌, ◌≤ℤ◌, ◌<ℤ◌, neg_ℤ}
 use Rattle.mesh_num.specs.Plane.{Point, Edge, turn}

@@ -7,7 +7,8 @@ ghost use Rattle.std.specs.List.Sorted.{IsSortedBy, IsPermutation};
 ghost use Rattle.mesh_num.specs.Bounds.{IsSafe};
 ghost use Rattle.mesh_num.specs.Plane.{Point};
 ghost use Rattle.mesh_below.specs.Contours.{reversed, double_area};
-ghost use Rattle.mesh_below.specs.Grouping.{Held, view, views, ring_at, placed, areas_of, is_round_at, NoneRound, IsHolder, IsHome, points_of, shapes_points};
+ghost use Rattle.mesh_below.specs.Grouping.{Held, view, views, ring_at, placed, areas_of, is_round_at, IsHome, points_of, shapes_points};
+ghost use Rattle.mesh_below.specs.Progress.{NoneRound, IsHolder};
 ghost use Rattle.mesh_below.specs.Resolution.{is_large, points_lt, is_head, shape_of, shapes_of, answered, AreArranged};
 
 use crate::area::{double_area, holds};

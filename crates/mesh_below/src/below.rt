@@ -25,14 +25,17 @@ use std::alloc::AllocError;
 /// Which segments make up an answer: those of the subject, which all segments here belong to.
 #[derive(Debug, Copy, Clone, PartialEq, Eq)]
 pub enum OverlayRule {
+    /// All segments.
     Subject,
 }
 
 /// The sense in which contours that bound a shape from outside run; its holes run the other way.
 #[derive(Debug, Copy, Clone, PartialEq, Eq, Default)]
 pub enum ContourDirection {
+    /// Outer contours counterclockwise, holes clockwise.
     #[default]
     CounterClockwise,
+    /// Outer contours clockwise, holes counterclockwise.
     Clockwise,
 }
 
@@ -71,7 +74,9 @@ impl<U: WideUnsigned> Default for IntOverlayOptions<U> {
 /// Segments that are resolved into shapes.
 #[derive(Debug, Drop)]
 pub struct Overlay<I: IntNumber> {
+    /// The segments, in any order.
     pub segments: Vec<Segment<I>>,
+    /// What an answer depends on besides them.
     pub options: IntOverlayOptions<I::WideUInt>,
 }
 
@@ -87,7 +92,7 @@ impl<I: IntNumber> Overlay<I> {
         }
     }
 
-    /// Adds segments to those that the overlay has. After a refusal it is unchanged.
+    /// Adds segments to those that the overlay has. `Err` says that memory was refused, and then it is unchanged.
     pub fn add_segments(&mut self, segments: &[Segment<I>]) -> Result<(), AllocError>
         ensures ok { OnOk result (self.new.segments.items ≡ self.old.segments.items ++ segments.now) }
         ensures err { OnErr result (self.new.segments.items ≡ self.old.segments.items) }
@@ -97,7 +102,8 @@ impl<I: IntNumber> Overlay<I> {
     }
 
     /// The shapes of what the segments fill. The segments are as `Segment::subject` gives them, balanced (at each point as
-    /// many of their edges start as end), and in the safe range.
+    /// many of their edges start as end), and in the safe range: coordinates are in size below 2^14 for `i16` and below 2^30
+    /// for `i32`, in units of the grid. `Err` says that memory was refused. The overlay stays as it was in any case.
     pub fn overlay(&self, rule: OverlayRule, fill: FillRule) -> Result<IntShapes<I>, AllocError>
         requires subject { All IsSubject self.now.segments.items }
         requires balanced { IsBalanced (edges_of self.now.segments.items) }
@@ -112,7 +118,8 @@ impl<I: IntNumber> Overlay<I> {
     }
 
     /// Puts the contours of what the segments fill in place of the buffer's own, those of one shape after those of another.
-    /// It asks what `overlay` asks. After a refusal the buffer is unchanged.
+    /// It asks what `overlay` asks. `Err` says that memory was refused, and then the buffer is unchanged. The overlay itself
+    /// stays as it was in any case.
     pub fn overlay_into(
         &self,
         rule: OverlayRule,

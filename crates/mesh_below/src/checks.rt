@@ -93,7 +93,7 @@ fn start_alike(first: &[GridEdge], second: &[GridEdge]) -> bool
     true
 }
 
-/// Whether at each point as many of the edges start as end.
+/// Whether at each point as many of the edges start as end. `Err` says that memory was refused.
 pub fn are_balanced(alloc: Global, edges: &[GridEdge]) -> Result<bool, AllocError>
     ensures { IfOk result (λ b. IsTrue b ↔ IsBalanced edges.now) }
 {
@@ -103,6 +103,7 @@ pub fn are_balanced(alloc: Global, edges: &[GridEdge]) -> Result<bool, AllocErro
 }
 
 /// Whether the overlay can resolve the segments: they are as `Segment::subject` gives them, balanced, and in the safe range.
+/// `Err` says that memory was refused.
 pub fn are_resolvable<I: IntNumber>(
     alloc: Global,
     segments: &[Segment<I>],

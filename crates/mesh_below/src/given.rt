@@ -3,7 +3,7 @@
 ghost use Rattle.std.specs.Prelude.{◌≡◌, ◌↔◌, List, ℤ, IfOk, IsTrue};
 ghost use Rattle.std.specs.List.{All};
 ghost use Rattle.mesh_num.specs.Segments.{IsSubject, edge_of, edges_of};
-ghost use Rattle.mesh_below.specs.Boundary.{IsProper};
+ghost use Rattle.mesh_below.specs.Clean.{IsProper};
 
 use crate::exact::same_point;
 use crate::grid::{GridEdge, GridPoint};
@@ -35,6 +35,7 @@ pub fn grid_edge<I: IntNumber>(s: Segment<I>) -> GridEdge
 }
 
 /// The edges that segments stand for, in their order. Segments are as `Segment::subject` gives them.
+/// `Err` says that memory was refused.
 pub fn grid_edges<I: IntNumber>(
     alloc: Global,
     segments: &[Segment<I>],

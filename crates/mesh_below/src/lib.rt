@@ -1,8 +1,8 @@
 //! The layer below the offset operations: what directed edges fill, as shapes of contours.
 //!
 //! Read `specs/Resolution.antt` first. It has the one relation, 'this answer is a resolution of these edges by this fill and
-//! these options', that the calls of `below` promise; its words are in `specs/Split.antt`, `specs/Boundary.antt` and
-//! `specs/Contours.antt`. What follows from it, as that answers are regions, is in `specs/Laws.antt` and the module `laws`.
+//! these options', that the calls of `below` promise; its words are in `specs/Split.antt`, `specs/Clean.antt`,
+//! `specs/Boundary.antt` and `specs/Contours.antt`. What follows from it, as that answers are regions, is in `specs/Laws.antt` and the module `laws`.
 //!
 //! The way from segments to shapes: `given` makes edges of them, `splitter` splits these until they share only ends,
 //! `sides` finds the boundary of what they fill, `walk` and `ring` make contours of it, `arrange` brings these into order

@@ -4,7 +4,7 @@ ghost use Rattle.std.specs.Prelude.{◌≡◌, ◌<◌, false, length, IfOk, OnO
 ghost use Rattle.std.specs.List.{All};
 ghost use Rattle.mesh_num.specs.Plane.{Edge};
 ghost use Rattle.mesh_num.specs.Winding.{IsBalanced, boundary, same_point};
-ghost use Rattle.mesh_below.specs.Boundary.{IsProper};
+ghost use Rattle.mesh_below.specs.Clean.{IsProper};
 ghost use Rattle.mesh_below.specs.FillRules.{filled};
 ghost use Rattle.mesh_below.specs.Grouping.{AreRingsOf, PushesRing, shapes_points};
 ghost use Rattle.mesh_below.specs.Resolution.{IsResolution};

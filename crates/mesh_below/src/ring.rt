@@ -5,7 +5,8 @@ ghost use Rattle.std.specs.List.{All};
 ghost use Rattle.mesh_num.specs.Bounds.{IsSmall, IsSafe};
 ghost use Rattle.mesh_num.specs.Plane.{Point, Edge, dot, cross};
 ghost use Rattle.mesh_num.specs.Winding.{boundary, same_point};
-ghost use Rattle.mesh_below.specs.Contours.{is_corner, first_or, kept, vertices, side_point, point_at, next_at, IsBestVisit, IsLeastBefore, IsRingOf};
+ghost use Rattle.mesh_below.specs.Contours.{is_corner, first_or, kept, vertices, side_point, IsRingOf};
+ghost use Rattle.mesh_below.specs.Progress.{point_at, next_at, IsBestVisit, IsLeastBefore};
 
 use crate::exact::{cross, is_before, minus, product, same_point};
 use crate::fine::{FinePoint, middle};

@@ -2,7 +2,7 @@
 
 ghost use Rattle.std.specs.Prelude.{◌≡◌, ◌^◌, List, [], ◌∷◌, ℤ, pos, ◌+ℤ◌, ◌≤ℤ◌, ◌<ℤ◌, neg_ℤ, false, OnOk, IfOk};
 ghost use Rattle.mesh_num.specs.Winding.{same_point, sum_of};
-ghost use Rattle.mesh_below.specs.Boundary.{IsProper};
+ghost use Rattle.mesh_below.specs.Clean.{IsProper};
 ghost use Rattle.mesh_below.specs.Split.{is_end, IsInBox, Meets};
 ghost use Rattle.mesh_below.specs.Splitting.{IsSplitting};
 ghost use Rattle.mesh_below.specs.Steps.{IsForward, Puts, PutsPieces, Settles, exactly, size, weight, total_weight};
@@ -145,4 +145,4 @@ pub fn split_edges(alloc: Global, edges: &[GridEdge]) -> Result<Vec<CountedSegme
 }
 
 #[cfg(test)]
-mod tests;
+pub(crate) mod tests;

@@ -37,8 +37,7 @@ impl Worklist {
         }
     }
 
-    /// Takes a segment out, if there is one: the one that came last. So pieces are tested before other segments, which
-    /// keeps bundles of nearly parallel edges from being cut again and again.
+    /// Takes a segment out, if there is one: the one that came last, though any order would do.
     pub fn pop(&mut self) -> Option<CountedSegment>
         ensures taken { MatchOption result ((self.old ≡ []) × (self.new ≡ [])) (λ s. IsTaken self.old self.new s) }
         ensures forward { IfSome result (λ s. IsForward s.0) }

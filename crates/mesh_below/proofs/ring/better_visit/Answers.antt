@@ -2,7 +2,7 @@ use Rattle.std.proofs.Common.{◌≡◌, ◌∙◌, sym}
 use Rattle.std.proofs.lemmas.Bool.{both_ways}
 use Rattle.mesh_num.specs.Order.{point_lt}
 use Rattle.mesh_num.specs.Winding.{same_point}
-use Rattle.mesh_below.specs.Contours.{point_at}
+use Rattle.mesh_below.specs.Progress.{point_at}
 use Rattle.mesh_below.proofs.Ends.{decides_point}
 use Rattle.mesh_below.proofs.ContoursBegun.{visit_same, visit_better}
 use Rattle.mesh_below.proofs.ring.better_visit.Goals as goal

@@ -1,4 +1,4 @@
-use Rattle.mesh_below.specs.Contours.{IsLeastBefore}
+use Rattle.mesh_below.specs.Progress.{IsLeastBefore}
 use Rattle.mesh_below.proofs.ring.least_place.Given as goal
 
 abbrev pub invariant-loop-i : goal.invariant-loop-i

@@ -1,5 +1,6 @@
 use Rattle.std.proofs.Common.{◌≡◌, drop}
-use Rattle.mesh_below.specs.Contours.{next_kept, point_at, next_at}
+use Rattle.mesh_below.specs.Contours.{next_kept}
+use Rattle.mesh_below.specs.Progress.{point_at, next_at}
 use Rattle.mesh_below.proofs.ring.next_vertex.Given as goal
 
 abbrev pub invariant-loop-i : goal.invariant-loop-i

@@ -1,6 +1,7 @@
 use Rattle.std.proofs.Common.{◌++◌, ◌∙◌, ap, subst, List, drop, take, length}
 use Rattle.mesh_num.specs.Plane.{Point}
-use Rattle.mesh_below.specs.Contours.{vertices, side_point, IsBestVisit}
+use Rattle.mesh_below.specs.Contours.{vertices, side_point}
+use Rattle.mesh_below.specs.Progress.{IsBestVisit}
 use Rattle.mesh_below.proofs.ContoursBegun.{ring_made}
 use Rattle.mesh_below.proofs.ring.ring_of.Goals as goal
 

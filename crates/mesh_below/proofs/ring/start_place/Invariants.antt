@@ -1,4 +1,4 @@
-use Rattle.mesh_below.specs.Contours.{IsBestVisit}
+use Rattle.mesh_below.specs.Progress.{IsBestVisit}
 use Rattle.mesh_below.proofs.ring.start_place.Given as goal
 
 abbrev pub invariant-loop-i : goal.invariant-loop-i

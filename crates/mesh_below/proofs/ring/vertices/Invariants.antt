@@ -1,5 +1,6 @@
 use Rattle.std.proofs.Common.{◌≡◌, ◌++◌, drop}
-use Rattle.mesh_below.specs.Contours.{kept, vertices, point_at}
+use Rattle.mesh_below.specs.Contours.{kept, vertices}
+use Rattle.mesh_below.specs.Progress.{point_at}
 use Rattle.mesh_below.proofs.ring.vertices.Given as goal
 
 abbrev pub invariant-loop-i : goal.invariant-loop-i

@@ -3,7 +3,8 @@ use Rattle.std.specs.Prelude.{pos}
 use Rattle.std.specs.List.{flat_map}
 use Rattle.std.proofs.lemmas.Int.{ints}
 use Rattle.mesh_num.specs.Plane.{Edge}
-use Rattle.mesh_below.specs.Boundary.{IsBoundary, IsProper}
+use Rattle.mesh_below.specs.Boundary.{IsBoundary}
+use Rattle.mesh_below.specs.Clean.{IsProper}
 use Rattle.mesh_below.specs.Counted.{Counted, IsCountOf}
 use Rattle.mesh_below.specs.FillRules.{filled}
 use Rattle.mesh_below.specs.Steps.{size}

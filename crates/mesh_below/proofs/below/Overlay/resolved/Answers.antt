@@ -6,7 +6,7 @@ use Rattle.mesh_num.specs.Paths.{shapes_of}
 use Rattle.mesh_num.specs.Plane.{Point, Edge}
 use Rattle.mesh_num.specs.Segments.{SignedEdge, edges_of}
 use Rattle.mesh_num.specs.Winding.{IsBalanced}
-use Rattle.mesh_below.specs.Boundary.{IsProper}
+use Rattle.mesh_below.specs.Clean.{IsProper}
 use Rattle.mesh_below.specs.FillRules.{filled}
 use Rattle.mesh_below.specs.Options.{choices_of}
 use Rattle.mesh_below.specs.Reach.{ArePointsSafe}
