@@ -127,7 +127,8 @@ impl Splitter {
 
 /// Splits directed edges, none of which ends where it starts, until any two segments share only common ends:
 /// the segments come from the edges by legal splits, each stands once, with its net count, also where that is 0,
-/// and each edge has become a path in its own box that never goes back in `x` nor in `y`.
+/// and each edge has become a path in its own box that never goes back in `x` nor in `y`. So segments of edges in the safe
+/// range are in it.
 /// It fails only where memory is refused.
 pub fn split_edges(alloc: Global, edges: &[GridEdge]) -> Result<Vec<CountedSegment>, AllocError>
     requires { IsProper edges.now }
