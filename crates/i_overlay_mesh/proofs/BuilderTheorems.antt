@@ -36,6 +36,10 @@ cleaned_ring points = by (cleaned_sections points) refl
         cleaned-clean points (λ h. let none : [] ≡ x ∷ xs = sym (cleaned-none points h) ∙ e in cc) in
         record { proper = rw e at clean.proper; closed = rw e at clean.closed }
 
+-- the ends of its edges are points of the contour
+pub cleaned_listed : (points : List Point) → All (λ (e : Edge). Contains points e.0 × Contains points e.1) (cleaned_sections points)
+cleaned_listed points = cleaned_sections-ends (Contains points) points (All-contains_itself points)
+
 added_is : (old new more : List SignedEdge) → new ≡ old ++ more → added old new ≡ more
 added_is old new more h = rw h (drop_at old more (length old) refl)
 
@@ -74,15 +78,12 @@ module _ (unit : ℕ) (offset : ℤ) (points : List Point) (some : 0 < unit) whe
       by true = All-nil side
       by false = pieces_wind m q unit offset bevel (cleaned_sections points) (bevel_fold_free offset) some (cleaned_ring points)
 
-  listed : All (λ (e : Edge). Contains points e.0 × Contains points e.1) (cleaned_sections points)
-  listed = cleaned_sections-ends (Contains points) points (All-contains_itself points)
-
   pub adds_near : (old new : List SignedEdge) → Adds old new (bevelled_edges unit offset points) →
       All (λ (e : Edge). IsNear (bevel_padding offset) points e.0 × IsNear (bevel_padding offset) points e.1) (added_edges old new)
   adds_near old new h =
       All-permutation (λ (e : Edge). IsNear (bevel_padding offset) points e.0 × IsNear (bevel_padding offset) points e.1) (bevelled_edges unit offset points) (added_edges old new)
       (IsPermutation-sym (added_edges old new) (bevelled_edges unit offset points) (adds_edges old new (bevelled_edges unit offset points) h))
-      (outline_near unit offset points (cleaned_sections points) some (cleaned_ring points).proper listed)
+      (outline_near unit offset points (cleaned_sections points) some (cleaned_ring points).proper (cleaned_listed points))
 
   pub adds_safe : (old new : List SignedEdge) → All (IsMovable unit offset) points → Adds old new (bevelled_edges unit offset points) →
       All (λ (e : Edge). IsSafe unit e.0 × IsSafe unit e.1) (added_edges old new)

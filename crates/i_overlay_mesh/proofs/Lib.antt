@@ -3,12 +3,12 @@ pub mod Areas
 pub mod BuilderTheorems
 pub mod BuilderWalk
 pub mod Corners
-pub mod Counts
 pub mod OutlineCount
 pub mod OutlineSum
 pub mod OutlineWalk
 pub mod Padding
 pub mod PaddingBounds
+pub mod Promised
 pub mod Resolving
 pub mod Sections
 pub mod Staying

@@ -6,14 +6,16 @@ use Rattle.mesh_num.specs.Bounds.{IsWithin}
 use Rattle.mesh_num.specs.Paths.{contours_of}
 use Rattle.mesh_num.specs.Plane.{Point, Edge}
 use Rattle.mesh_num.specs.Segments.{proper_edges}
-use Rattle.mesh_num.specs.Winding.{boundary}
+use Rattle.mesh_num.specs.Winding.{boundary, IsBalanced}
 use Rattle.mesh_below.specs.Contours.{double_area}
 use Rattle.mesh_below.specs.FillRules.{filled}
 use Rattle.mesh_below.specs.Options.{plain}
 use Rattle.mesh_below.specs.Resolution.{Choices, IsResolution}
 use Rattle.mesh_below.specs.Split.{back}
 use Rattle.mesh_below.specs.declared.fill.FillRule.TheVariants.{Positive, Negative}
-use Rattle.i_overlay_mesh.specs.Building.{bevelled_edges, bevelled_pieces, WindsByCount}
+use Rattle.mesh_join.specs.Joins.{bevel_padding}
+use Rattle.i_overlay_mesh.specs.Building.{bevelled_edges, bevelled_pieces, NeverTurnedRound, WindAsPieces, WindsByCount}
+use Rattle.i_overlay_mesh.specs.Padding.{IsNear}
 
 -- the double area of each contour is a number from `-half` on that is below `half`
 abbrev pub DoAreasFit : ℕ → List (List Point) → Type 0
@@ -53,16 +55,23 @@ pub record IsOutline (unit : ℕ) (offsets : ℤ × ℤ) (choices : Choices) (co
   pub give : Give unit offsets contours given
   pub resolution : IsResolution (proper_edges given) (filled Positive) choices answer
 
--- the edges of the contour's outline with this offset wind as often as the contour, and once more for each piece that holds
--- the point, once less for a negative offset
-abbrev pub IsCounted : ℕ → ℤ → List Point → Type 0
-IsCounted unit offset contour =
-    WindsByCount offset contour (bevelled_pieces unit offset contour) (bevelled_edges unit offset contour)
+-- what the edges of the contour's outline with this offset are promised
+pub record HasPromisedEdges (unit : ℕ) (offset : ℤ) (contour : List Point) : Type 0 where
+  -- they close up: as many of them end in a point as start there
+  pub balanced : IsBalanced (bevelled_edges unit offset contour)
+  -- both ends of each are near a vertex of the contour
+  pub near : All (λ (e : Edge). IsNear (bevel_padding offset) contour e.0 × IsNear (bevel_padding offset) contour e.1) (bevelled_edges unit offset contour)
+  -- they wind as the contour and its strips and joins together
+  pub sum : WindAsPieces contour (bevelled_pieces unit offset contour) (bevelled_edges unit offset contour)
+  -- no strip and no join is turned round
+  pub pieces : NeverTurnedRound offset (bevelled_pieces unit offset contour)
+  -- they wind as often as the contour, and once more for each strip or join that holds the point, once less for a negative offset
+  pub count : WindsByCount offset contour (bevelled_pieces unit offset contour) (bevelled_edges unit offset contour)
 
--- that holds of each contour with the offset that it moves by
-abbrev pub AreCounted : ℕ → ℤ × ℤ → List (List Point) → Type 0
-AreCounted unit offsets contours =
+-- that holds of each contour that moves, with the offset that it moves by
+abbrev pub HavePromisedEdges : ℕ → ℤ × ℤ → List (List Point) → Type 0
+HavePromisedEdges unit offsets contours =
     All
     (λ (contour : List Point).
-    (pos 0 <ℤ double_area contour → IsCounted unit offsets.0 contour) × (double_area contour <ℤ pos 0 → IsCounted unit offsets.1 contour))
+    (pos 0 <ℤ double_area contour → HasPromisedEdges unit offsets.0 contour) × (double_area contour <ℤ pos 0 → HasPromisedEdges unit offsets.1 contour))
     contours

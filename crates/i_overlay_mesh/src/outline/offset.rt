@@ -6,7 +6,7 @@ ghost use Rattle.mesh_num.specs.Paths.{contours_of, shapes_of};
 ghost use Rattle.mesh_num.specs.Plane.{Point, Edge};
 ghost use Rattle.mesh_num.specs.Rectangle.{IsBounds, IsSafeRectangle};
 ghost use Rattle.i_overlay_mesh.specs.Padding.{outline_padding, ArePathsSafe, all_points, widened};
-ghost use Rattle.i_overlay_mesh.specs.Resolved.{DoAreasFit, IsOutline, AreCounted};
+ghost use Rattle.i_overlay_mesh.specs.Resolved.{DoAreasFit, IsOutline, HavePromisedEdges};
 ghost use Rattle.i_overlay_mesh.specs.Staying.{StaysSafe};
 ghost use Rattle.mesh_below.specs.Options.{choices_of, plain};
 ghost use Rattle.mesh_below.specs.Reach.{ArePointsSafe};
@@ -42,7 +42,7 @@ pub trait IntOutlineOffset<I: OverlayInt>: IntShapeResource<I> {
         ensures outline { IfOk result (λ shapes. IsOutline I.unit (I.value style.now.outer_offset, I.value style.now.inner_offset) plain (Self.paths self.now) (shapes_of shapes.items)) }
         ensures safe { IfOk result (λ shapes. ArePointsSafe I.unit (shapes_of shapes.items)) }
         ensures refused { result ≡ Err IntOutlineError.CoordinateOutOfRange ↔ ¬ DoAreasFit I.Wide.half (Self.paths self.now) }
-        ensures counted { AreCounted I.unit (I.value style.now.outer_offset, I.value style.now.inner_offset) (Self.paths self.now) }
+        ensures built { HavePromisedEdges I.unit (I.value style.now.outer_offset, I.value style.now.inner_offset) (Self.paths self.now) }
         ensures stays_safe { StaysSafe I.unit (I.value style.now.outer_offset, I.value style.now.inner_offset) (Self.paths self.now) }
     {
         self.outline_custom(alloc, style, IntOverlayOptions::new())
@@ -60,7 +60,7 @@ pub trait IntOutlineOffset<I: OverlayInt>: IntShapeResource<I> {
             × ArePointsSafe I.unit answer × HoldsContours buffer.new (contours_of answer)) }
         ensures refused { result ≡ Err IntOutlineError.CoordinateOutOfRange ↔ ¬ DoAreasFit I.Wide.half (Self.paths self.now) }
         ensures err { OnErr result (buffer.new ≡ buffer.old) }
-        ensures counted { AreCounted I.unit (I.value style.now.outer_offset, I.value style.now.inner_offset) (Self.paths self.now) }
+        ensures built { HavePromisedEdges I.unit (I.value style.now.outer_offset, I.value style.now.inner_offset) (Self.paths self.now) }
         ensures stays_safe { StaysSafe I.unit (I.value style.now.outer_offset, I.value style.now.inner_offset) (Self.paths self.now) }
     {
         self.outline_custom_into(alloc, style, IntOverlayOptions::new(), buffer)
@@ -82,7 +82,7 @@ pub trait IntOutlineOffset<I: OverlayInt>: IntShapeResource<I> {
         ensures outline { IfOk result (λ shapes. IsOutline I.unit (I.value style.now.outer_offset, I.value style.now.inner_offset) (choices_of I.WideUInt.value options) (Self.paths self.now) (shapes_of shapes.items)) }
         ensures safe { IfOk result (λ shapes. ArePointsSafe I.unit (shapes_of shapes.items)) }
         ensures refused { result ≡ Err IntOutlineError.CoordinateOutOfRange ↔ ¬ DoAreasFit I.Wide.half (Self.paths self.now) }
-        ensures counted { AreCounted I.unit (I.value style.now.outer_offset, I.value style.now.inner_offset) (Self.paths self.now) }
+        ensures built { HavePromisedEdges I.unit (I.value style.now.outer_offset, I.value style.now.inner_offset) (Self.paths self.now) }
         ensures stays_safe { StaysSafe I.unit (I.value style.now.outer_offset, I.value style.now.inner_offset) (Self.paths self.now) }
     {
         let given = given_overlay(self, alloc, style, options)?;
@@ -103,7 +103,7 @@ pub trait IntOutlineOffset<I: OverlayInt>: IntShapeResource<I> {
             × ArePointsSafe I.unit answer × HoldsContours buffer.new (contours_of answer)) }
         ensures refused { result ≡ Err IntOutlineError.CoordinateOutOfRange ↔ ¬ DoAreasFit I.Wide.half (Self.paths self.now) }
         ensures err { OnErr result (buffer.new ≡ buffer.old) }
-        ensures counted { AreCounted I.unit (I.value style.now.outer_offset, I.value style.now.inner_offset) (Self.paths self.now) }
+        ensures built { HavePromisedEdges I.unit (I.value style.now.outer_offset, I.value style.now.inner_offset) (Self.paths self.now) }
         ensures stays_safe { StaysSafe I.unit (I.value style.now.outer_offset, I.value style.now.inner_offset) (Self.paths self.now) }
     {
         let given = given_overlay(self, alloc, style, options)?;

@@ -1,13 +1,13 @@
 -- What all contours give is resolved together.
 use Rattle.mesh_num.specs.Paths.{shapes_of}
-use Rattle.i_overlay_mesh.proofs.Counts.{are_counted}
+use Rattle.i_overlay_mesh.proofs.Promised.{have_promised_edges}
 use Rattle.i_overlay_mesh.proofs.Staying.{stays_safe}
 use Rattle.i_overlay_mesh.proofs.Resolving.{given_subjects, given_balanced, given_safe, is_outline}
 use Rattle.i_overlay_mesh.proofs.outline.offset.IntOutlineOffset.outline_custom.Goals as goal
 
-pub returns-in_err-given-clause-counted : goal.returns-in_err-given-clause-counted
-returns-in_err-given-clause-counted g c =
-    are_counted g.I.IntNumber.unit (g.I.IntNumber.value c.args.style.now.outer_offset, g.I.IntNumber.value c.args.style.now.inner_offset)
+pub returns-in_err-given-clause-built : goal.returns-in_err-given-clause-built
+returns-in_err-given-clause-built g c =
+    have_promised_edges g.I.IntNumber.unit (g.I.IntNumber.value c.args.style.now.outer_offset, g.I.IntNumber.value c.args.style.now.inner_offset)
     (g.Self.IntShapeResource.paths c.args.self.now) g.met.I.IntNumber.least_law
 
 pub returns-in_err-given-clause-stays_safe : goal.returns-in_err-given-clause-stays_safe
@@ -24,9 +24,9 @@ overlay-requires-clause-balanced g c = (given_balanced g.I.IntNumber.unit _ _ c.
 pub overlay-requires-clause-safe : goal.overlay-requires-clause-safe
 overlay-requires-clause-safe g c = (given_safe g.I.IntNumber.unit _ _ c.in_ok-given.ensures.given.2)
 
-pub returns-in_err-overlay-clause-counted : goal.returns-in_err-overlay-clause-counted
-returns-in_err-overlay-clause-counted g c =
-    are_counted g.I.IntNumber.unit (g.I.IntNumber.value c.args.style.now.outer_offset, g.I.IntNumber.value c.args.style.now.inner_offset)
+pub returns-in_err-overlay-clause-built : goal.returns-in_err-overlay-clause-built
+returns-in_err-overlay-clause-built g c =
+    have_promised_edges g.I.IntNumber.unit (g.I.IntNumber.value c.args.style.now.outer_offset, g.I.IntNumber.value c.args.style.now.inner_offset)
     (g.Self.IntShapeResource.paths c.args.self.now) g.met.I.IntNumber.least_law
 
 pub returns-in_err-overlay-clause-stays_safe : goal.returns-in_err-overlay-clause-stays_safe
@@ -39,9 +39,9 @@ returns-clause-outline g c =
     is_outline g.I.IntNumber.unit (g.I.IntNumber.value c.args.style.now.outer_offset, g.I.IntNumber.value c.args.style.now.inner_offset) _ (g.Self.IntShapeResource.paths c.args.self.now) _
     (shapes_of c.in_ok-overlay.field-0.items) c.in_ok-given.ensures.given (rw c.in_ok-given.ensures.options at c.in_ok-overlay.ensures.resolution)
 
-pub returns-clause-counted : goal.returns-clause-counted
-returns-clause-counted g c =
-    are_counted g.I.IntNumber.unit (g.I.IntNumber.value c.args.style.now.outer_offset, g.I.IntNumber.value c.args.style.now.inner_offset)
+pub returns-clause-built : goal.returns-clause-built
+returns-clause-built g c =
+    have_promised_edges g.I.IntNumber.unit (g.I.IntNumber.value c.args.style.now.outer_offset, g.I.IntNumber.value c.args.style.now.inner_offset)
     (g.Self.IntShapeResource.paths c.args.self.now) g.met.I.IntNumber.least_law
 
 pub returns-clause-stays_safe : goal.returns-clause-stays_safe

@@ -1,12 +1,12 @@
 -- What all contours give is resolved together.
-use Rattle.i_overlay_mesh.proofs.Counts.{are_counted}
+use Rattle.i_overlay_mesh.proofs.Promised.{have_promised_edges}
 use Rattle.i_overlay_mesh.proofs.Staying.{stays_safe}
 use Rattle.i_overlay_mesh.proofs.Resolving.{given_subjects, given_balanced, given_safe, is_outline}
 use Rattle.i_overlay_mesh.proofs.outline.offset.IntOutlineOffset.outline_custom_into.Goals as goal
 
-pub returns-in_err-given-clause-counted : goal.returns-in_err-given-clause-counted
-returns-in_err-given-clause-counted g c =
-    are_counted g.I.IntNumber.unit (g.I.IntNumber.value c.args.style.now.outer_offset, g.I.IntNumber.value c.args.style.now.inner_offset)
+pub returns-in_err-given-clause-built : goal.returns-in_err-given-clause-built
+returns-in_err-given-clause-built g c =
+    have_promised_edges g.I.IntNumber.unit (g.I.IntNumber.value c.args.style.now.outer_offset, g.I.IntNumber.value c.args.style.now.inner_offset)
     (g.Self.IntShapeResource.paths c.args.self.now) g.met.I.IntNumber.least_law
 
 pub returns-in_err-given-clause-stays_safe : goal.returns-in_err-given-clause-stays_safe
@@ -23,9 +23,9 @@ overlay_into-requires-clause-balanced g c = (given_balanced g.I.IntNumber.unit _
 pub overlay_into-requires-clause-safe : goal.overlay_into-requires-clause-safe
 overlay_into-requires-clause-safe g c = (given_safe g.I.IntNumber.unit _ _ c.in_ok-given.ensures.given.2)
 
-pub returns-in_err-overlay_into-clause-counted : goal.returns-in_err-overlay_into-clause-counted
-returns-in_err-overlay_into-clause-counted g c =
-    are_counted g.I.IntNumber.unit (g.I.IntNumber.value c.args.style.now.outer_offset, g.I.IntNumber.value c.args.style.now.inner_offset)
+pub returns-in_err-overlay_into-clause-built : goal.returns-in_err-overlay_into-clause-built
+returns-in_err-overlay_into-clause-built g c =
+    have_promised_edges g.I.IntNumber.unit (g.I.IntNumber.value c.args.style.now.outer_offset, g.I.IntNumber.value c.args.style.now.inner_offset)
     (g.Self.IntShapeResource.paths c.args.self.now) g.met.I.IntNumber.least_law
 
 pub returns-in_err-overlay_into-clause-stays_safe : goal.returns-in_err-overlay_into-clause-stays_safe
@@ -43,9 +43,9 @@ returns-clause-outline g c =
       r.3,
     )
 
-pub returns-clause-counted : goal.returns-clause-counted
-returns-clause-counted g c =
-    are_counted g.I.IntNumber.unit (g.I.IntNumber.value c.args.style.now.outer_offset, g.I.IntNumber.value c.args.style.now.inner_offset)
+pub returns-clause-built : goal.returns-clause-built
+returns-clause-built g c =
+    have_promised_edges g.I.IntNumber.unit (g.I.IntNumber.value c.args.style.now.outer_offset, g.I.IntNumber.value c.args.style.now.inner_offset)
     (g.Self.IntShapeResource.paths c.args.self.now) g.met.I.IntNumber.least_law
 
 pub returns-clause-stays_safe : goal.returns-clause-stays_safe
