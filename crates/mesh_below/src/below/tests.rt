@@ -242,6 +242,29 @@ fn vertices_run_straight_through(rt: HostRuntime) -> Result<(), Fail> {
     Ok(())
 }
 
+/// Each option alone, on what winds clockwise.
+#[test]
+fn options_of_the_negative_rule(rt: HostRuntime) -> Result<(), Fail> {
+    let mut overlay = overlay_of(rt.alloc(), &[&inner(0, 0, 4, 4)])?;
+    expect_negative(&rt, &overlay, &[&[&outer(0, 0, 4, 4)]])?;
+    overlay.options.min_output_area = 16;
+    expect_negative(&rt, &overlay, &[&[&outer(0, 0, 4, 4)]])?;
+    overlay.options.min_output_area = 17;
+    expect_negative(&rt, &overlay, &[])?;
+    overlay.options.min_output_area = 0;
+    overlay.options.output_direction = ContourDirection::Clockwise;
+    expect_negative(&rt, &overlay, &[&[&inner(0, 0, 4, 4)]])?;
+    let mut overlay = overlay_of(rt.alloc(), &[&[(0, 0), (0, 4), (4, 4), (4, 0), (2, 0)]])?;
+    expect_negative(&rt, &overlay, &[&[&outer(0, 0, 4, 4)]])?;
+    overlay.options.preserve_output_collinear = true;
+    expect_negative(
+        &rt,
+        &overlay,
+        &[&[&[(0, 0), (2, 0), (4, 0), (4, 4), (0, 4)]]],
+    )?;
+    Ok(())
+}
+
 #[test]
 fn holes_three_deep(rt: HostRuntime) -> Result<(), Fail> {
     let mut overlay = overlay_of(

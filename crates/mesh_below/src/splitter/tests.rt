@@ -3,9 +3,12 @@
 use super::*;
 use crate::given::are_proper;
 
-mod random;
+pub(crate) mod random;
 
-fn split_sorted(alloc: Global, edges: &[GridEdge]) -> Result<Vec<CountedSegment>, AllocError> {
+pub(crate) fn split_sorted(
+    alloc: Global,
+    edges: &[GridEdge],
+) -> Result<Vec<CountedSegment>, AllocError> {
     if !are_proper(edges) {
         return Ok(Vec::new(alloc));
     }

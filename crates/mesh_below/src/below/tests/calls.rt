@@ -1,4 +1,4 @@
-//! The calls one by one: defaults, segments added in parts, the other width, refusals, and what is no list to resolve.
+//! The calls one by one: defaults, segments added in parts, the other width, what stays, and what is no list to resolve.
 
 use super::*;
 use mesh_num::shape::segment::XSegment;
@@ -90,17 +90,33 @@ fn expect_corners(
     Ok(())
 }
 
-/// Where memory is refused the buffer is as it was, and so is the overlay.
+fn are_same(first: &[Segment<i32>], second: &[Segment<i32>]) -> bool {
+    if first.len() != second.len() {
+        return false;
+    }
+    for (s, t) in first.iter().zip(second) {
+        let (e, f) = (s.x_segment, t.x_segment);
+        if e.a != f.a || e.b != f.b || s.count != t.count {
+            return false;
+        }
+    }
+    true
+}
+
+/// The overlay stays as it was. The buffer has the answer, or what it had: a refusal comes only in a run that is made to
+/// refuse memory.
 #[test]
-fn refusals_change_nothing(rt: HostRuntime) -> Result<(), Fail> {
+fn answers_leave_the_overlay_as_it_was(rt: HostRuntime) -> Result<(), Fail> {
     let overlay = overlay_of(rt.alloc(), &[&SQUARE, &OTHER])?;
+    let before = overlay.segments.clone()?;
     expect_resolvable(&rt, rt.alloc(), &overlay)?;
     let mut buffer = FlatContoursBuffer::new(rt.alloc());
     buffer.points.push(IntPoint::new(7, 7))?;
     let done = overlay.overlay_into(OverlayRule::Subject, FillRule::Positive, &mut buffer);
-    assert_eq!(rt; overlay.segments.len(), 8);
+    assert!(rt; are_same(&overlay.segments, &before));
     if let Err(refused) = done {
-        assert_eq!(rt; (buffer.points.len(), buffer.ranges.len()), (1, 0));
+        assert!(rt; is_contour(&buffer.points, &[(7, 7)]));
+        assert!(rt; buffer.ranges.is_empty());
         return Err(refused.into());
     }
     assert!(rt; holds(&buffer, &[&[&BOTH]]));

@@ -3,6 +3,8 @@
 ghost use Rattle.std.specs.Prelude.{◌<◌};
 
 use super::*;
+use crate::splitter::tests::random::{bent, is_near};
+use crate::splitter::tests::split_sorted;
 
 type Edge = (Point, Point);
 
@@ -128,18 +130,29 @@ fn is_filled(fill: FillRule, winding: i64) -> bool {
     }
 }
 
-/// Near the square and in it, the answer winds `once` where the given edges' winding is filled, and not elsewhere.
-fn expect_region(rt: &impl Abort, edges: &[Edge], fill: FillRule, answer: &[Edge], once: i64) {
-    for x in -1i64..35 {
-        for y in -1i64..35 {
-            let want = if is_filled(fill, winding((x, y), edges)) {
-                once
-            } else {
-                0
-            };
-            assert_eq!(rt; winding((x, y), answer), want, "at {x}, {y} of {edges:?}");
+/// Near the square and in it, but for the boxes of bent edges, the answer winds `once` where the given edges' winding is
+/// filled, and not elsewhere. Answers at how many points it is filled.
+fn expect_region(
+    rt: &impl Abort,
+    edges: &[Edge],
+    bent: &[Edge],
+    fill: FillRule,
+    answer: &[Edge],
+    once: i64,
+) -> u32 {
+    let mut filled = 0u32;
+    for x in -1i32..35 {
+        for y in -1i32..35 {
+            if !is_near(bent, (x, y)) {
+                let q = (x as i64, y as i64);
+                let is_filled = is_filled(fill, winding(q, edges));
+                let want = if is_filled { once } else { 0 };
+                assert_eq!(rt; winding(q, answer), want, "at {x}, {y} of {edges:?}");
+                filled = filled.wrapping_add(if is_filled { 1 } else { 0 });
+            }
         }
     }
+    filled
 }
 
 /// What the overlay answers.
@@ -153,34 +166,74 @@ fn shapes_of(
     overlay.overlay(OverlayRule::Subject, fill)
 }
 
-fn expect_slanted(
+/// By either rule the answer winds as the fill says, but for the boxes of bent edges. Answers at how many points it is filled.
+fn expect_regions(
     rt: &impl Abort,
     alloc: Global,
     overlay: &Overlay<i32>,
+    bent: &[Edge],
     once: i64,
-) -> Result<(), AllocError> {
+) -> Result<u32, AllocError> {
+    let mut filled = 0u32;
     let edges = given(alloc, &overlay.segments)?;
     for fill in [FillRule::Positive, FillRule::Negative] {
         let shapes = shapes_of(rt, alloc, overlay, fill)?;
-        expect_region(rt, &edges, fill, &bounds(alloc, &shapes)?, once);
+        let answer = bounds(alloc, &shapes)?;
+        let here = expect_region(rt, &edges, bent, fill, &answer, once);
+        filled = filled.wrapping_add(here);
     }
-    Ok(())
+    Ok(filled)
 }
 
 #[test]
 fn answers_wind_as_the_fill_says(rt: HostRuntime) -> Result<(), Fail> {
     let mut random = Random { state: 3 };
+    let mut filled = 0u32;
     for number in 0u64..300 {
         let mut overlay = overlay_of(rt.alloc(), &[])?;
         for _ in 0..number % 3 + 1 {
             let contour = slanted(rt.alloc(), &mut random, number % 5 + 2)?;
             push_closed(&mut overlay.segments, &contour)?;
         }
-        expect_slanted(&rt, rt.alloc(), &overlay, 1)?;
+        let first = expect_regions(&rt, rt.alloc(), &overlay, &[], 1)?;
         overlay.options.preserve_output_collinear = true;
         overlay.options.output_direction = ContourDirection::Clockwise;
-        expect_slanted(&rt, rt.alloc(), &overlay, -1)?;
+        let second = expect_regions(&rt, rt.alloc(), &overlay, &[], -1)?;
+        assert_eq!(rt; first, second);
+        filled = filled.wrapping_add(first);
     }
+    assert!(rt; filled > 10000, "{filled}");
+    Ok(())
+}
+
+/// One to three lists of points anywhere in a square.
+fn scattered_overlay(
+    alloc: Global,
+    random: &mut Random,
+    number: u64,
+) -> Result<Overlay<i32>, AllocError> {
+    let mut overlay = overlay_of(alloc, &[])?;
+    for _ in 0..number % 3 + 1 {
+        let contour = scattered(alloc, random, number % 5 + 3)?;
+        push_closed(&mut overlay.segments, &contour)?;
+    }
+    Ok(overlay)
+}
+
+/// Most crossings here are rounded. The lists in which no edge is bent are not counted.
+#[test]
+fn answers_wind_as_the_fill_says_beside_bent_edges(rt: HostRuntime) -> Result<(), Fail> {
+    let mut random = Random { state: 5 };
+    let mut filled = 0u32;
+    for number in 0u64..300 {
+        let overlay = scattered_overlay(rt.alloc(), &mut random, number)?;
+        let edges = given(rt.alloc(), &overlay.segments)?;
+        let segments = split_sorted(rt.alloc(), &edges)?;
+        let bent = bent(rt.alloc(), &edges, &segments)?;
+        let here = expect_regions(&rt, rt.alloc(), &overlay, &bent, 1)?;
+        filled = filled.wrapping_add(if bent.is_empty() { 0 } else { here });
+    }
+    assert!(rt; filled > 100, "{filled}");
     Ok(())
 }
 
@@ -199,22 +252,13 @@ fn again(alloc: Global, shapes: &IntShapes<i32>) -> Result<Overlay<i32>, AllocEr
 fn answers_handed_in_again_are_answered(rt: HostRuntime) -> Result<(), Fail> {
     let mut random = Random { state: 4 };
     for number in 0u64..300 {
-        let mut overlay = overlay_of(rt.alloc(), &[])?;
-        for _ in 0..number % 3 + 1 {
-            let contour = scattered(rt.alloc(), &mut random, number % 5 + 3)?;
-            push_closed(&mut overlay.segments, &contour)?;
-        }
+        let overlay = scattered_overlay(rt.alloc(), &mut random, number)?;
         let first = shapes_of(&rt, rt.alloc(), &overlay, FillRule::Positive)?;
         let edges = bounds(rt.alloc(), &first)?;
         let overlay = again(rt.alloc(), &first)?;
         let second = shapes_of(&rt, rt.alloc(), &overlay, FillRule::Positive)?;
-        expect_region(
-            &rt,
-            &edges,
-            FillRule::Positive,
-            &bounds(rt.alloc(), &second)?,
-            1,
-        );
+        let answer = bounds(rt.alloc(), &second)?;
+        expect_region(&rt, &edges, &[], FillRule::Positive, &answer, 1);
     }
     Ok(())
 }

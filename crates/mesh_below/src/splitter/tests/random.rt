@@ -171,7 +171,7 @@ fn is_beside(e: GridEdge, s: GridEdge) -> bool {
 }
 
 /// The edges that may have been bent: of the others, all segments in their boxes lie on their lines.
-fn bent(
+pub(crate) fn bent(
     alloc: Global,
     edges: &[GridEdge],
     segments: &[CountedSegment],
@@ -183,6 +183,11 @@ fn bent(
         }
     }
     Ok(bent)
+}
+
+/// Whether a point of the grid 2 is in the box of one of the edges.
+pub(crate) fn is_near(edges: &[GridEdge], q: GridPoint) -> bool {
+    edges.iter().any(|e| is_in_box((even(e.0), even(e.1)), q))
 }
 
 /// Each segment stands once, shares only ends with the others, and lies in the box of an edge.
@@ -219,10 +224,7 @@ fn expect_same_winding(
     let mut wound = 0u32;
     for x in -17i32..34 {
         for y in -17i32..34 {
-            let is_near = bent
-                .iter()
-                .any(|e| is_in_box((even(e.0), even(e.1)), (x, y)));
-            if !is_near {
+            if !is_near(bent, (x, y)) {
                 let want = winding(given, (x, y));
                 assert_eq!(rt; winding(segments, (x, y)), want, "at {x}, {y} of {given:?}");
                 wound = wound.wrapping_add(if want == 0 { 0 } else { 1 });
