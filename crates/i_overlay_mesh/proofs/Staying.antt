@@ -1,7 +1,7 @@
 -- Lemmas over points and lists: what is computed for an outline stays in the safe range.
-use Rattle.std.proofs.Common.{ℕ, ◌<◌, ◌≤◌, ◌^◌, arith, Bool, not, List, [], ◌∷◌, ◌++◌, map}
+use Rattle.std.proofs.Common.{ℕ, ◌<◌, ◌≤◌, ◌^◌, arith, Bool, not, List, [], ◌∷◌, ◌++◌}
 use Rattle.std.specs.Prelude.{ℤ}
-use Rattle.std.specs.List.{All, Contains, flat_map}
+use Rattle.std.specs.List.{All, Contains}
 use Rattle.std.specs.List.Sorted.{IsPermutation}
 use Rattle.std.proofs.lemmas.List.Elements.{All-nil, All-head, All-append, All-map, All-filter, All-weaker, All-contains_itself}
 use Rattle.std.proofs.lemmas.List.Sorted.{IsPermutation-sym, All-permutation}
@@ -13,7 +13,6 @@ use Rattle.mesh_num.specs.Winding.{boundary, same_point}
 use Rattle.mesh_num.proofs.ClosedLists.{boundary_all, all_flat_map}
 use Rattle.mesh_join.specs.Cleaned.{cleaned_sections}
 use Rattle.mesh_below.specs.Reach.{AreEdgesSafe, ArePointsSafe}
-use Rattle.mesh_below.specs.Resolution.{Choices, IsResolution}
 use Rattle.mesh_below.specs.Split.{back}
 use Rattle.mesh_join.proofs.CleaningEnds.{cleaned_sections-ends}
 use Rattle.mesh_below.proofs.AnswerPoints.{resolution_safe}
@@ -21,7 +20,7 @@ use Rattle.mesh_below.proofs.Resolving.{all_left, all_right}
 use Rattle.i_overlay_mesh.specs.Building.{IsMovable, bevelled_edges}
 use Rattle.i_overlay_mesh.specs.Padding.{outline_padding, ArePathsSafe}
 use Rattle.i_overlay_mesh.specs.Resolved.{answer_edges, IsAnswerAlone, Gives, Give}
-use Rattle.i_overlay_mesh.specs.Staying.{IsSafeResolving, IsSafeAlone, IsSafeTogether, StaysSafe}
+use Rattle.i_overlay_mesh.specs.Staying.{IsSafeResolving, IsSafeAlone, StaysSafe}
 use Rattle.i_overlay_mesh.proofs.BuilderTheorems.{cleaned_ring}
 use Rattle.i_overlay_mesh.proofs.Padding.{outer_accepted, inner_accepted, outline_safe}
 

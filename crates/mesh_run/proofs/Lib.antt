@@ -1,3 +1,4 @@
 pub mod JsonLists
 pub mod PathsServed
 pub mod Ranges
+pub mod Replies

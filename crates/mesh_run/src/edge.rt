@@ -13,7 +13,9 @@ use std::marker::Model;
 /// A directed edge. Edges are ordered by their start, then by their end. Contracts see the pair of both.
 #[derive(Debug, Copy, PartialEq, Eq, PartialOrd, Ord)]
 pub struct DirectedEdge<I: OverlayInt> {
+    /// Where it begins.
     pub start: IntPoint<I>,
+    /// Where it ends.
     pub end: IntPoint<I>,
 }
 

@@ -1,7 +1,8 @@
 //! All of what a reader gives.
 
-ghost use Rattle.std.specs.Prelude.{◌≡◌, ◌++◌, List, IfOk, IfSome, IsTrue};
+ghost use Rattle.std.specs.Prelude.{◌≡◌, ◌++◌, List, IfOk, IfErr, IfSome, IsTrue};
 ghost use Rattle.std.specs.Io.KnownBytes.{Consumes, IsAtEnd};
+ghost use Rattle.mesh_run.specs.Reading.{IsOfReading};
 
 use crate::failure::Failure;
 use std::alloc::Global;
@@ -13,7 +14,8 @@ const CHUNK: usize = 4096;
 /// The bytes that the reader has left. An error of its own makes them unreadable; memory is wanted only where a growth
 /// was refused.
 pub fn read_to_end<R: Read>(alloc: Global, reader: &mut R) -> Result<Vec<u8>, Failure>
-    ensures { IfOk result (λ bytes. IfSome (R.remaining reader.old) (λ xs. bytes.items ≡ xs)) }
+    ensures bytes { IfOk result (λ bytes. IfSome (R.remaining reader.old) (λ xs. bytes.items ≡ xs)) }
+    ensures err { IfErr result IsOfReading }
 {
     let mut bytes = Vec::new(alloc);
     for _ in 0..u64::MAX {
@@ -26,10 +28,11 @@ pub fn read_to_end<R: Read>(alloc: Global, reader: &mut R) -> Result<Vec<u8>, Fa
 
 /// Reads some bytes, and tells whether the reader's end is reached.
 fn read_chunk<R: Read>(reader: &mut R, bytes: &mut Vec<u8>) -> Result<bool, Failure>
-    ensures { IfOk result (λ ended. (part : List _)
+    ensures part { IfOk result (λ ended. (part : List _)
         × Consumes (R.remaining reader.old) (R.remaining reader.new) part
         × (bytes.new.items ≡ bytes.old.items ++ part)
         × (IsTrue ended → IsAtEnd (R.remaining reader.new))) }
+    ensures err { IfErr result IsOfReading }
 {
     let mut chunk = [0u8; CHUNK];
     match reader.read(&mut chunk) {

@@ -9,6 +9,7 @@ pub mod input;
 pub mod json;
 pub mod options;
 pub mod outline;
+pub mod output;
 pub mod request;
 pub mod service;
 #[cfg(test)]

@@ -38,8 +38,11 @@ pub enum Output<U> {
 /// A request for the outline of paths. Contracts see it as what it asks.
 #[derive(Drop)]
 pub struct OutlineRequest<I: OverlayInt> {
+    /// The closed contours to be outlined.
     pub paths: Vec<Vec<IntPoint<I>>>,
+    /// The offsets of outer contours and of holes, and the joins.
     pub style: IntOutlineStyle<I>,
+    /// What is listed.
     pub output: Output<I::WideUInt>,
 }
 

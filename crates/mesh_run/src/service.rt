@@ -8,13 +8,14 @@ ghost use Rattle.mesh_run.specs.Failures.{failure_line};
 ghost use Rattle.mesh_run.specs.Reading.{outline_of, request_of};
 ghost use Rattle.mesh_run.specs.Requests.{Request};
 ghost use Rattle.mesh_run.specs.Served.{IsAccepted, Answers};
-ghost use Rattle.mesh_run.specs.Serving.{request_in, IsAnswer, IsRefused};
+ghost use Rattle.mesh_run.specs.Serving.{request_in, IsAnswer, IsRefused, IsReply, AppendsBeginning};
 
 use crate::answer::{edges_line, shapes_line};
 use crate::failure::Failure;
 use crate::input::read_to_end;
 use crate::json::{parse, says};
 use crate::outline::{OutlineRequest, Output};
+use crate::output::write_line;
 use crate::request::read_outline;
 use i_overlay_mesh::IntOutlineError;
 use mesh_num::num::OverlayInt;
@@ -54,6 +55,7 @@ pub fn serve<R: Read, W: Write>(alloc: Global, reader: &mut R, writer: &mut W) -
     ensures answered { result ≡ Status.Answered → IfSome (R.remaining reader.old) (λ request. (line : List _) × IsAnswer request line
         × Appends (W.contents writer.old) (W.contents writer.new) line) }
     ensures unreadable { result ≡ Status.Unreadable → Appends (W.contents writer.old) (W.contents writer.new) (failure_line Failure.Unreadable) }
+    ensures written { (line : List _) × IsReply (R.remaining reader.old) line × AppendsBeginning (W.contents writer.old) (W.contents writer.new) line }
 {
     let answer = read_and_answer(alloc, reader);
     match print(writer, &answer) {
@@ -75,7 +77,8 @@ fn status_of(answer: &Result<String, Failure>) -> Status
 }
 
 fn read_and_answer<R: Read>(alloc: Global, reader: &mut R) -> Result<String, Failure>
-    ensures { IfOk result (λ line. IfSome (R.remaining reader.old) (λ request. IsAnswer request (string_bytes line))) }
+    ensures answered { IfOk result (λ line. IfSome (R.remaining reader.old) (λ request. IsAnswer request (string_bytes line))) }
+    ensures reply { MatchResult result (λ line. IsReply (R.remaining reader.old) (string_bytes line)) (λ failure. IsReply (R.remaining reader.old) (failure_line failure)) }
 {
     let request = read_to_end(alloc, reader)?;
     respond(alloc, &request)
@@ -143,13 +146,15 @@ fn outline_line<I: OverlayInt>(
 }
 
 fn print<W: Write>(writer: &mut W, answer: &Result<String, Failure>) -> io::Result<()>
-    ensures { OnOk result (MatchResult answer.now
+    ensures whole { OnOk result (MatchResult answer.now
         (λ line. Appends (W.contents writer.old) (W.contents writer.new) (string_bytes line))
         (λ failure. Appends (W.contents writer.old) (W.contents writer.new) (failure_line failure))) }
+    ensures beginning { MatchResult answer.now
+        (λ line. AppendsBeginning (W.contents writer.old) (W.contents writer.new) (string_bytes line))
+        (λ failure. AppendsBeginning (W.contents writer.old) (W.contents writer.new) (failure_line failure)) }
 {
     match answer {
-        Ok(line) => writer.write_all(line.as_bytes())?,
-        Err(failure) => writer.write_all(failure.line().as_bytes())?,
+        Ok(line) => write_line(writer, line.as_bytes()),
+        Err(failure) => write_line(writer, failure.line().as_bytes()),
     }
-    writer.flush()
 }

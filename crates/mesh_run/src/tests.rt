@@ -1,5 +1,6 @@
 //! Runs of `serve` over memory, and over readers and writers that fail.
 
+mod examples;
 mod shapes;
 mod widths;
 
