@@ -42,23 +42,6 @@ added_more fill old mid new es gs h k =
 
 -- ---- the edges of a contour
 
--- an edge goes over from what is left to what is done
-pub edge_more : (fill : FillRule) (first previous point : Point) (rest : List Point) (i : ℕ) (done new all : List SignedEdge) → i < length rest →
-    done ++ segments_of (along fill (route previous (drop i rest) first)) ≡ all → new ≡ done ++ segments_of (along fill ((previous, point) ∷ [])) →
-    point ≡ get_or rest i point → new ++ segments_of (along fill (route point (drop (i + 1) rest) first)) ≡ all
-edge_more fill first previous point rest i done new all l h k is =
-    let one : drop (suc i) rest ≡ drop (i + 1) rest = ap (λ (n : ℕ). drop n rest) (sym (add-one i)) in
-    let d : drop i rest ≡ point ∷ drop (i + 1) rest = drop-cons rest i point l ∙ ap (λ (p : Point). p ∷ drop (suc i) rest) (sym is) ∙ ap (λ (ps : List Point). point ∷ ps) one in
-    added_more fill done new (new ++ segments_of (along fill (route point (drop (i + 1) rest) first))) ((previous, point) ∷ []) (route point (drop (i + 1) rest) first) k refl
-    ∙ ap (λ (ps : List Point). done ++ segments_of (along fill (route previous ps first))) (sym d)
-    ∙ h
-
--- the last edge closes the contour
-pub edge_last : (fill : FillRule) (first previous : Point) (rest : List Point) (i : ℕ) (done new all : List SignedEdge) → length rest ≤ i →
-    done ++ segments_of (along fill (route previous (drop i rest) first)) ≡ all → new ≡ done ++ segments_of (along fill ((previous, first) ∷ [])) → new ≡ all
-edge_last fill first previous rest i done new all l h k =
-    k ∙ ap (λ (ps : List Point). done ++ segments_of (along fill (route previous ps first))) (sym (drop_all i rest l)) ∙ h
-
 -- ---- the contours of shapes
 
 -- one contour of a shape more

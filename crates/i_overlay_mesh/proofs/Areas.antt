@@ -18,10 +18,6 @@ use Rattle.i_overlay_mesh.specs.Resolved.{DoAreasFit}
 pub within_size : (h : ℕ) (z : ℤ) → IsWithin h z → unsigned_abs z ≤ h
 within_size h z w = omega (arith, ints, w.low, w.high)
 
--- a coordinate fits 32 bits
-pub coordinate_within : (unit : ℕ) (z : ℤ) → unit ≤ 2 ^ 30 → IsWithin (2 * unit) z → IsWithin (2 ^ 31) z
-coordinate_within unit z most w = record { low = omega (arith, ints, w.low); high = omega (arith, ints, w.high) }
-
 pub size_fits : (z : ℤ) → unsigned_abs z < 2 ^ 127 → SFits w128 z
 size_fits z h = omega (arith, ints)
 

@@ -46,9 +46,6 @@ added_is old new more h = rw h (drop_at old more (length old) refl)
 pub adds_edges : (old new : List SignedEdge) (es : List Edge) → Adds old new es → IsPermutation (added_edges old new) es
 adds_edges old new es h = rw (added_is old new h.0 h.1) h.2
 
-pub adds_subjects : (old new : List SignedEdge) (es : List Edge) → Adds old new es → All IsSubject (added old new)
-adds_subjects old new es h = rw (added_is old new h.0 h.1) h.3
-
 module _ (unit : ℕ) (offset : ℤ) (points : List Point) (some : 0 < unit) where
   pub adds_balanced : (old new : List SignedEdge) → Adds old new (bevelled_edges unit offset points) → IsBalanced (added_edges old new)
   adds_balanced old new h =

@@ -141,9 +141,3 @@ module _ (f : Point → Point → ℤ) (odd : IsOdd f) where
         sum_of_zero (λ s. total f (boundary (strip s))) sections each,
         sum_of_zero (λ (c : Corner). pieces_total f (corner_pieces is_outer join c)) (boundary sections) at,
       )
-
-pub drawn_balanced : (is_outer : Corner → Bool) (join : Corner → List Point) (sections : List Section) → IsClosed sections →
-    IsBalanced (map own_edge sections) → IsBalanced (drawn_edges is_outer join sections)
-drawn_balanced is_outer join sections closed balanced =
-    balanced_by_pieces (drawn_edges is_outer join sections) (map own_edge sections) (drawn_pieces is_outer join sections)
-    (λ g. drawn_total (growth g) (growth_odd g) is_outer join sections closed) balanced
