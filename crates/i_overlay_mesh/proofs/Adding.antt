@@ -8,17 +8,17 @@ use Rattle.std.proofs.Math.Seq.{drop-cons}
 use Rattle.std.proofs.lemmas.List.{append-nil, drop_all, map_more, map-append, take_more}
 use Rattle.std.proofs.lemmas.List.Concat.{flat_map-append}
 use Rattle.std.proofs.lemmas.List.Elements.{All-nil, All-append}
-use Rattle.mesh_num.specs.Bounds.{IsSafe}
+use Rattle.mesh_plane.specs.Bounds.{IsSafe}
 use Rattle.mesh_num.specs.Paths.{paths_of, shapes_of, contours_of}
-use Rattle.mesh_num.specs.Plane.{Point, Edge}
+use Rattle.mesh_plane.specs.Plane.{Point, Edge}
 use Rattle.mesh_num.specs.Segments.{SignedEdge, segments_of}
-use Rattle.mesh_num.specs.Winding.{route, boundary}
-use Rattle.mesh_num.proofs.Balance.{balanced_append}
+use Rattle.mesh_plane.specs.Winding.{route, boundary}
+use Rattle.mesh_plane.proofs.Balance.{balanced_append}
 use Rattle.mesh_num.proofs.Paths.{contours_more}
 use Rattle.mesh_num.proofs.SegmentLists.{segments_of-append}
-use Rattle.mesh_below.specs.Split.{back}
-use Rattle.mesh_below.specs.declared.fill.FillRule.{FillRule}
-use Rattle.mesh_below.specs.declared.fill.FillRule.TheVariants.{Positive, Negative}
+use Rattle.mesh_cuts.specs.Split.{back}
+use Rattle.mesh_cuts.specs.declared.fill.FillRule.{FillRule}
+use Rattle.mesh_cuts.specs.declared.fill.FillRule.TheVariants.{Positive, Negative}
 use Rattle.i_overlay_mesh.specs.Adding.{along, AddsClosed}
 use Rattle.i_overlay_mesh.specs.Resolved.{answer_edges, Gives, Give}
 

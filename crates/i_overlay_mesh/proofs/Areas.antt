@@ -7,12 +7,12 @@ use Rattle.std.proofs.Math.Seq.{drop-cons}
 use Rattle.std.proofs.lemmas.List.{drop_all}
 use mir.Syntax.{w128}
 use mir.Val.{to_z, of_z, SFits}
-use Rattle.mesh_num.specs.Bounds.{IsWithin}
-use Rattle.mesh_num.specs.Plane.{Point, cross}
-use Rattle.mesh_num.specs.Winding.{total, route}
+use Rattle.mesh_plane.specs.Bounds.{IsWithin}
+use Rattle.mesh_plane.specs.Plane.{Point, cross}
+use Rattle.mesh_plane.specs.Winding.{total, route}
 use Rattle.std.proofs.lemmas.List.Elements.{All-more}
-use Rattle.mesh_num.proofs.Whole.{linear}
-use Rattle.mesh_below.specs.Contours.{double_area}
+use Rattle.mesh_plane.proofs.Whole.{linear}
+use Rattle.mesh_shapes.specs.Contours.{double_area}
 use Rattle.i_overlay_mesh.specs.Resolved.{DoAreasFit}
 
 pub within_size : (h : ℕ) (z : ℤ) → IsWithin h z → unsigned_abs z ≤ h

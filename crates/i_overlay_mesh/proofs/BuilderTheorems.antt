@@ -7,13 +7,13 @@ use Rattle.std.specs.List.Sorted.{IsPermutation}
 use Rattle.std.proofs.lemmas.List.{drop_at, length-map}
 use Rattle.std.proofs.lemmas.List.Elements.{All-nil, All-contains_itself}
 use Rattle.std.proofs.lemmas.List.Sorted.{length_permutation, IsPermutation-sym, All-permutation}
-use Rattle.mesh_num.specs.Plane.{Point, Edge}
-use Rattle.mesh_num.specs.Winding.{boundary, winding, crossing_on, pieces_total, holds, IsBalanced, IsBit}
+use Rattle.mesh_plane.specs.Plane.{Point, Edge}
+use Rattle.mesh_plane.specs.Winding.{boundary, winding, crossing_on, pieces_total, holds, IsBalanced, IsBit}
 use Rattle.mesh_num.specs.Segments.{SignedEdge, edge_of, IsSubject}
-use Rattle.mesh_num.proofs.Sums.{total_permutation}
-use Rattle.mesh_num.proofs.Balance.{balanced_permutation}
-use Rattle.mesh_num.proofs.Crossings.{crossing_on_odd}
-use Rattle.mesh_num.specs.Bounds.{IsSafe}
+use Rattle.mesh_plane.proofs.Sums.{total_permutation}
+use Rattle.mesh_plane.proofs.Balance.{balanced_permutation}
+use Rattle.mesh_plane.proofs.Crossings.{crossing_on_odd}
+use Rattle.mesh_plane.specs.Bounds.{IsSafe}
 use Rattle.mesh_join.specs.Joins.{bevel_padding}
 use Rattle.mesh_join.proofs.CleaningEnds.{cleaned_sections-ends}
 use Rattle.mesh_join.specs.Cleaned.{cleaned_sections, IsClean}

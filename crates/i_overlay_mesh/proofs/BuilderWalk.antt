@@ -6,10 +6,10 @@ use Rattle.std.specs.List.Sorted.{IsPermutation}
 use Rattle.std.proofs.lemmas.List.{take_at}
 use Rattle.std.proofs.lemmas.List.Elements.{All-append, All-nil, All-head, All-tail}
 use Rattle.std.proofs.lemmas.List.Sorted.{IsPermutation-append_comm, IsPermutation-refl}
-use Rattle.mesh_num.specs.Plane.{Point, Edge}
-use Rattle.mesh_num.specs.Winding.{route}
+use Rattle.mesh_plane.specs.Plane.{Point, Edge}
+use Rattle.mesh_plane.specs.Winding.{route}
 use Rattle.mesh_num.specs.Segments.{SignedEdge, edges_of, IsSubject}
-use Rattle.mesh_num.proofs.ClosedLists.{woven}
+use Rattle.mesh_plane.proofs.ClosedLists.{woven}
 use Rattle.mesh_num.proofs.Subjects.{segments_of_subjects, segment_between_subject}
 use Rattle.mesh_join.specs.Cleaned.{cleaned_sections, IsClean}
 use Rattle.mesh_join.proofs.CleaningEnds.{cleaned_sections-ends}

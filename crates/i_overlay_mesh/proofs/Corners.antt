@@ -2,10 +2,10 @@
 use Rattle.std.proofs.Common.{◌≡◌, ℕ, ◌<◌, ◌≤◌, Bool, true, false, cond, refl, sym, ◌∙◌, ap, arith}
 use Rattle.std.specs.Prelude.{ℤ, pos, neg_ℤ, ◌+ℤ◌, ◌-ℤ◌, ◌*ℤ◌, ◌≤ℤ◌, ◌<ℤ◌, unsigned_abs, int_lt}
 use Rattle.std.proofs.lemmas.Int.{ints}
-use Rattle.mesh_num.specs.Plane.{Point, plus, minus, opposite, cross, turn, right_quarter}
+use Rattle.mesh_plane.specs.Plane.{Point, plus, minus, opposite, cross, turn, right_quarter}
 use Rattle.mesh_num.specs.Direction.{IsFresh, scaled_direction}
 use Rattle.mesh_num.specs.Directed.{direction_of}
-use Rattle.mesh_num.proofs.Whole.{linear}
+use Rattle.mesh_plane.proofs.Whole.{linear}
 use Rattle.mesh_num.proofs.Parts.{direction_fresh}
 use Rattle.mesh_num.proofs.Scaling.{scaled_direction_opposite_radius}
 use Rattle.mesh_num.proofs.Directed.{direction_of_is}

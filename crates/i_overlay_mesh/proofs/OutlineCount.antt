@@ -9,20 +9,20 @@ use Rattle.std.proofs.lemmas.List.Elements.{All-nil, All-cons, All-map, All-appe
 use Rattle.std.proofs.lemmas.Int.{ints}
 use lib.IntN.{*ℤ-zero}
 use lib.Signed.{◌<ℤ◌}
-use Rattle.mesh_num.specs.Plane.{Point, Edge, plus, minus, cross, dot, turn, right_quarter, length_sq}
+use Rattle.mesh_plane.specs.Plane.{Point, Edge, plus, minus, cross, dot, turn, right_quarter, length_sq}
 use Rattle.mesh_num.specs.Direction.{scaled, scaled_direction}
 use Rattle.mesh_num.specs.Directed.{direction_of}
-use Rattle.mesh_num.specs.Winding.{total, route, boundary, fan, pieces_total, crossing_on, winding, holds, same_point, IsBit, IsOdd, IsBalanced}
-use Rattle.mesh_num.proofs.Whole.{linear, multiplied, zero_mul}
-use Rattle.mesh_num.proofs.Rounding.{rounded_multiple}
-use Rattle.mesh_num.specs.Rounding.{rounded}
-use Rattle.mesh_num.proofs.Crossings.{crossing_on_odd}
-use Rattle.mesh_num.proofs.Balance.{growth, growth_odd, balanced_by_pieces, closed_balanced}
+use Rattle.mesh_plane.specs.Winding.{total, route, boundary, fan, pieces_total, crossing_on, winding, holds, same_point, IsBit, IsOdd, IsBalanced}
+use Rattle.mesh_plane.proofs.Whole.{linear, multiplied, zero_mul}
+use Rattle.mesh_plane.proofs.Rounding.{rounded_multiple}
+use Rattle.mesh_plane.specs.Rounding.{rounded}
+use Rattle.mesh_plane.proofs.Crossings.{crossing_on_odd}
+use Rattle.mesh_plane.proofs.Balance.{growth, growth_odd, balanced_by_pieces, closed_balanced}
 use Rattle.mesh_num.proofs.Directed.{direction_of_is}
 use Rattle.mesh_num.proofs.Scaling.{dot_scaled_nonneg, dot_scaled_nonpos, scaled_turn_kept, scaled_parallel_kept}
-use Rattle.mesh_num.proofs.ClosedLists.{boundary_map, boundary_all, all_both, all_flat_map}
-use Rattle.mesh_num.proofs.Triangles.{parallelogram_winds, parallelogram_winds_back}
-use Rattle.mesh_num.proofs.Pieces.{fan_winds, fan_winds_back, pieces_counted, opposite_pieces_counted}
+use Rattle.mesh_plane.proofs.ClosedLists.{boundary_map, boundary_all, all_both, all_flat_map}
+use Rattle.mesh_plane.proofs.Triangles.{parallelogram_winds, parallelogram_winds_back}
+use Rattle.mesh_plane.proofs.Pieces.{fan_winds, fan_winds_back, pieces_counted, opposite_pieces_counted}
 use Rattle.i_overlay_mesh.specs.Outline.{Corner, own_edge, strip, join_edges, corner_pieces, drawn_pieces, sideways, section_of, parts, outline_edges, outline_pieces, bevel, sided, NeverTurnsBack, IsFoldFree, IsRing}
 use Rattle.i_overlay_mesh.proofs.OutlineSum.{IsClosed, Stays, drawn_total, still_total}
 

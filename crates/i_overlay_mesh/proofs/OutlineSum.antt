@@ -4,13 +4,13 @@ use Rattle.std.specs.Prelude.{ℤ, pos, ◌+ℤ◌, ◌-ℤ◌, Bool, true, fals
 use Rattle.std.specs.List.{All, flat_map}
 use Rattle.std.proofs.lemmas.Bool.{true≢false}
 use Rattle.std.proofs.lemmas.List.Elements.{All-weaker}
-use Rattle.mesh_num.specs.Plane.{Point, Edge}
-use Rattle.mesh_num.specs.Winding.{sum_of, total, route, boundary, fan, pieces_total, same_point, IsOdd, IsBalanced}
-use Rattle.mesh_num.proofs.Whole.{linear}
-use Rattle.mesh_num.proofs.Sums.{sum_of_add, sum_of_none, sum_of_equal, sum_of_filter, total_append, total_flat_map, pieces_total_append, pieces_total_flat_map, pieces_total_map, sum_of_zero}
-use Rattle.mesh_num.proofs.ClosedLists.{boundary_ends, boundary_all, all_both}
-use Rattle.mesh_num.proofs.Pieces.{fan_total}
-use Rattle.mesh_num.proofs.Balance.{same_point_is, same_point_self, growth, growth_odd, balanced_by_pieces}
+use Rattle.mesh_plane.specs.Plane.{Point, Edge}
+use Rattle.mesh_plane.specs.Winding.{sum_of, total, route, boundary, fan, pieces_total, same_point, IsOdd, IsBalanced}
+use Rattle.mesh_plane.proofs.Whole.{linear}
+use Rattle.mesh_plane.proofs.Sums.{sum_of_add, sum_of_none, sum_of_equal, sum_of_filter, total_append, total_flat_map, pieces_total_append, pieces_total_flat_map, pieces_total_map, sum_of_zero}
+use Rattle.mesh_plane.proofs.ClosedLists.{boundary_ends, boundary_all, all_both}
+use Rattle.mesh_plane.proofs.Pieces.{fan_total}
+use Rattle.mesh_plane.proofs.Balance.{same_point_is, same_point_self, growth, growth_odd, balanced_by_pieces}
 use Rattle.mesh_num.specs.Segments.{proper_edges}
 use Rattle.i_overlay_mesh.specs.Outline.{Section, Corner, own_edge, top_edge, strip, inner_edges, join_edges, corner_edges, corner_pieces, drawn_edges, drawn_pieces}
 

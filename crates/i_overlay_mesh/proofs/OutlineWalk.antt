@@ -5,9 +5,9 @@ use Rattle.std.specs.List.{flat_map}
 use Rattle.std.specs.List.Sorted.{IsPermutation}
 use Rattle.std.proofs.lemmas.List.Elements.{filter-append}
 use Rattle.std.proofs.lemmas.List.Sums.{length-filter, count_by-le-length}
-use Rattle.mesh_num.specs.Plane.{Point, Edge}
-use Rattle.mesh_num.specs.Winding.{route, boundary, same_point}
-use Rattle.mesh_num.proofs.ClosedLists.{woven, woven_round}
+use Rattle.mesh_plane.specs.Plane.{Point, Edge}
+use Rattle.mesh_plane.specs.Winding.{route, boundary, same_point}
+use Rattle.mesh_plane.proofs.ClosedLists.{woven, woven_round}
 use Rattle.mesh_num.specs.Segments.{proper_edges}
 use Rattle.i_overlay_mesh.specs.Outline.{Section, Corner, top_edge, corner_edges, drawn_edges}
 

@@ -6,9 +6,9 @@ use Rattle.std.proofs.lemmas.Bool.{true≢false}
 use Rattle.std.proofs.lemmas.Int.{ints, clamps}
 use Rattle.std.proofs.lemmas.List.Elements.{All-nil, All-cons, All-head, All-tail, All-map, All-weaker, All-contains, All-more}
 use Rattle.std.proofs.Math.Nat.{mul-le-mul_right}
-use Rattle.mesh_num.proofs.ClosedLists.{all_flat_map}
-use Rattle.mesh_num.specs.Bounds.{IsSafe, IsSmall, IsWithin}
-use Rattle.mesh_num.specs.Plane.{Point, Edge, plus, minus}
+use Rattle.mesh_plane.proofs.ClosedLists.{all_flat_map}
+use Rattle.mesh_plane.specs.Bounds.{IsSafe, IsSmall, IsWithin}
+use Rattle.mesh_plane.specs.Plane.{Point, Edge, plus, minus}
 use Rattle.mesh_num.specs.Rectangle.{IsInRectangle, IsBounds, IsSafeRectangle, IsSafeWidened}
 use Rattle.i_overlay_mesh.specs.Padding.{outline_padding, ArePathsSafe, all_points, widened}
 

@@ -1,9 +1,9 @@
 -- Lemmas over points and lists: what the edges of each contour's outline are promised.
 use Rattle.std.proofs.Common.{ℕ, ◌<◌, ◌≤◌, ◌^◌, List, ◌∙◌, ap, arith}
 use Rattle.std.specs.Prelude.{ℤ, pos, ◌+ℤ◌, count_by}
-use Rattle.mesh_num.specs.Plane.{Point}
-use Rattle.mesh_num.specs.Winding.{crossing_on, pieces_total, holds}
-use Rattle.mesh_num.proofs.Crossings.{crossing_on_odd}
+use Rattle.mesh_plane.specs.Plane.{Point}
+use Rattle.mesh_plane.specs.Winding.{crossing_on, pieces_total, holds}
+use Rattle.mesh_plane.proofs.Crossings.{crossing_on_odd}
 use Rattle.mesh_join.specs.Cleaned.{cleaned_sections}
 use Rattle.mesh_join.proofs.CleaningSteps.{cleaned-winding}
 use Rattle.i_overlay_mesh.specs.Outline.{bevel, sided}

@@ -5,25 +5,25 @@ use Rattle.std.specs.List.{All, flat_map}
 use Rattle.std.specs.List.Sorted.{IsPermutation}
 use Rattle.std.proofs.lemmas.Int.{ints}
 use Rattle.std.proofs.lemmas.List.Elements.{All-map, All-weaker, All-filter}
-use Rattle.mesh_num.specs.Bounds.{IsSafe}
+use Rattle.mesh_plane.specs.Bounds.{IsSafe}
 use Rattle.mesh_num.specs.Paths.{contours_of}
-use Rattle.mesh_num.specs.Plane.{Point, Edge}
+use Rattle.mesh_plane.specs.Plane.{Point, Edge}
 use Rattle.mesh_num.specs.Rectangle.{IsSafeWidened}
 use Rattle.mesh_num.specs.Segments.{SignedEdge, edges_of, proper_edges, segments_of, IsSubject}
-use Rattle.mesh_num.specs.Winding.{total, boundary, IsBalanced}
-use Rattle.mesh_num.proofs.Whole.{linear}
-use Rattle.mesh_num.proofs.Balance.{growth, growth_odd, growth_of_balanced, balanced_by_growth, balanced_append, boundary_balanced}
-use Rattle.mesh_num.proofs.ClosedLists.{boundary_all, all_flat_map}
+use Rattle.mesh_plane.specs.Winding.{total, boundary, IsBalanced}
+use Rattle.mesh_plane.proofs.Whole.{linear}
+use Rattle.mesh_plane.proofs.Balance.{growth, growth_odd, growth_of_balanced, balanced_by_growth, balanced_append, boundary_balanced}
+use Rattle.mesh_plane.proofs.ClosedLists.{boundary_all, all_flat_map}
 use Rattle.mesh_num.proofs.SegmentLists.{edges_of_segments}
 use Rattle.mesh_num.proofs.Subjects.{segments_of_subjects}
-use Rattle.mesh_below.specs.Contours.{double_area}
-use Rattle.mesh_below.specs.FillRules.{filled}
+use Rattle.mesh_shapes.specs.Contours.{double_area}
+use Rattle.mesh_cuts.specs.FillRules.{filled}
 use Rattle.mesh_below.specs.Options.{plain}
-use Rattle.mesh_below.specs.Reach.{AreEdgesSafe, ArePointsSafe}
-use Rattle.mesh_below.specs.Resolution.{Choices, IsResolution}
-use Rattle.mesh_below.specs.Split.{back}
-use Rattle.mesh_below.specs.declared.fill.FillRule.{FillRule}
-use Rattle.mesh_below.specs.declared.fill.FillRule.TheVariants.{Positive, Negative}
+use Rattle.mesh_cuts.specs.Reach.{AreEdgesSafe, ArePointsSafe}
+use Rattle.mesh_shapes.specs.Resolution.{Choices, IsResolution}
+use Rattle.mesh_cuts.specs.Split.{back}
+use Rattle.mesh_cuts.specs.declared.fill.FillRule.{FillRule}
+use Rattle.mesh_cuts.specs.declared.fill.FillRule.TheVariants.{Positive, Negative}
 use Rattle.i_overlay_mesh.specs.Adding.{along, AddsClosed}
 use Rattle.i_overlay_mesh.specs.Building.{IsMovable, added_edges, bevelled_edges}
 use Rattle.i_overlay_mesh.specs.Padding.{outline_padding}

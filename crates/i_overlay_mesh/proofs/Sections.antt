@@ -2,8 +2,8 @@
 use Rattle.std.proofs.Common.{◌≡◌, ℕ, ◌*◌, ◌≤◌, ◌∙◌, ap, arith}
 use Rattle.std.specs.Prelude.{ℤ, pos, unsigned_abs}
 use Rattle.std.proofs.lemmas.Int.{ints}
-use Rattle.mesh_num.specs.Bounds.{IsSafe, IsWithin}
-use Rattle.mesh_num.specs.Plane.{Point, plus, minus, right_quarter}
+use Rattle.mesh_plane.specs.Bounds.{IsSafe, IsWithin}
+use Rattle.mesh_plane.specs.Plane.{Point, plus, minus, right_quarter}
 use Rattle.mesh_num.specs.Rectangle.{IsSafeWidened}
 use Rattle.mesh_num.specs.Direction.{IsDirection, scaled_direction}
 use Rattle.mesh_num.specs.Directed.{direction_of}

@@ -5,15 +5,15 @@ use Rattle.std.specs.List.{All, Contains}
 use Rattle.std.specs.List.Sorted.{IsPermutation}
 use Rattle.std.proofs.lemmas.List.Elements.{All-nil, All-head, All-append, All-map, All-filter, All-weaker, All-contains_itself}
 use Rattle.std.proofs.lemmas.List.Sorted.{IsPermutation-sym, All-permutation}
-use Rattle.mesh_num.specs.Bounds.{IsSafe}
+use Rattle.mesh_plane.specs.Bounds.{IsSafe}
 use Rattle.mesh_num.specs.Paths.{contours_of}
-use Rattle.mesh_num.specs.Plane.{Point, Edge}
+use Rattle.mesh_plane.specs.Plane.{Point, Edge}
 use Rattle.mesh_num.specs.Segments.{proper_edges}
-use Rattle.mesh_num.specs.Winding.{boundary, same_point}
-use Rattle.mesh_num.proofs.ClosedLists.{boundary_all, all_flat_map}
+use Rattle.mesh_plane.specs.Winding.{boundary, same_point}
+use Rattle.mesh_plane.proofs.ClosedLists.{boundary_all, all_flat_map}
 use Rattle.mesh_join.specs.Cleaned.{cleaned_sections}
-use Rattle.mesh_below.specs.Reach.{AreEdgesSafe, ArePointsSafe}
-use Rattle.mesh_below.specs.Split.{back}
+use Rattle.mesh_cuts.specs.Reach.{AreEdgesSafe, ArePointsSafe}
+use Rattle.mesh_cuts.specs.Split.{back}
 use Rattle.mesh_join.proofs.CleaningEnds.{cleaned_sections-ends}
 use Rattle.mesh_below.proofs.AnswerPoints.{resolution_safe}
 use Rattle.mesh_below.proofs.Resolving.{all_left, all_right}

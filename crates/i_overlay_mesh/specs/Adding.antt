@@ -1,12 +1,12 @@
 -- How the edges that contours give to an outline are added to its segments.
 use Rattle.std.specs.Prelude.{ℕ, ◌≡◌, List, ◌++◌, map}
-use Rattle.mesh_num.specs.Plane.{Edge}
+use Rattle.mesh_plane.specs.Plane.{Edge}
 use Rattle.mesh_num.specs.Segments.{SignedEdge, segments_of}
-use Rattle.mesh_num.specs.Winding.{IsBalanced}
-use Rattle.mesh_below.specs.Reach.{AreEdgesSafe}
-use Rattle.mesh_below.specs.Split.{back}
-use Rattle.mesh_below.specs.declared.fill.FillRule.{FillRule}
-use Rattle.mesh_below.specs.declared.fill.FillRule.TheVariants.{Positive, Negative}
+use Rattle.mesh_plane.specs.Winding.{IsBalanced}
+use Rattle.mesh_cuts.specs.Reach.{AreEdgesSafe}
+use Rattle.mesh_cuts.specs.Split.{back}
+use Rattle.mesh_cuts.specs.declared.fill.FillRule.{FillRule}
+use Rattle.mesh_cuts.specs.declared.fill.FillRule.TheVariants.{Positive, Negative}
 
 -- edges as they are given to the outline: those of what is filled in the negative sense go the other way about
 abbrev pub along : FillRule → List Edge → List Edge

@@ -2,10 +2,10 @@
 use Rattle.std.specs.Prelude.{ℕ, ◌≡◌, ◌≢◌, List, ◌++◌, length, take, drop, count_by, cond, ◌+ℤ◌, ℤ, pos, int_lt, unsigned_abs}
 use Rattle.mesh_join.specs.declared.arc.ArcDirection.{ArcDirection}
 use Rattle.mesh_join.specs.declared.arc.ArcDirection.TheVariants.{Clockwise, Counterclockwise}
-use Rattle.mesh_num.specs.Plane.{Point, Edge}
+use Rattle.mesh_plane.specs.Plane.{Point, Edge}
 use Rattle.mesh_num.specs.Rectangle.{IsSafeWidened}
 use Rattle.std.specs.List.{All}
-use Rattle.mesh_num.specs.Winding.{boundary, winding, crossing_on, pieces_total, holds, IsBit}
+use Rattle.mesh_plane.specs.Winding.{boundary, winding, crossing_on, pieces_total, holds, IsBit}
 use Rattle.mesh_join.specs.Cleaned.{cleaned_sections}
 use Rattle.std.specs.List.Sorted.{IsPermutation}
 use Rattle.mesh_num.specs.Segments.{SignedEdge, edges_of, segments_of, segment_between, IsSubject}

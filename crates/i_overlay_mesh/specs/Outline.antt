@@ -3,11 +3,11 @@ use Rattle.std.specs.Prelude.{ℕ, ◌≡◌, ◌≢◌, Bool, cond, List, [], �
 use Rattle.std.specs.Ordering.{int_eq}
 use Rattle.std.specs.List.{All, flat_map}
 use Rattle.std.proofs.Math.Bool.{beq}
-use Rattle.mesh_num.specs.Plane.{Point, Edge, plus, minus, cross, dot, turn, right_quarter}
+use Rattle.mesh_plane.specs.Plane.{Point, Edge, plus, minus, cross, dot, turn, right_quarter}
 use Rattle.mesh_num.specs.Direction.{scaled_direction}
 use Rattle.mesh_num.specs.Directed.{direction_of}
 use Rattle.mesh_num.specs.Segments.{proper_edges}
-use Rattle.mesh_num.specs.Winding.{route, boundary, fan, same_point}
+use Rattle.mesh_plane.specs.Winding.{route, boundary, fan, same_point}
 
 -- an edge of the contour from `a` to `b`, its direction, and where the two ends lie once it has been moved
 pub record Section : Type 0 where

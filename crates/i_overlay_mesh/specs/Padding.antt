@@ -2,7 +2,7 @@
 use Rattle.std.specs.Prelude.{ℕ, List, ℤ}
 use Rattle.std.specs.Int.{int_max}
 use Rattle.std.specs.List.{All, Contains, flat_map}
-use Rattle.mesh_num.specs.Plane.{Point, Edge, plus, minus}
+use Rattle.mesh_plane.specs.Plane.{Point, Edge, plus, minus}
 use Rattle.mesh_num.specs.Rectangle.{IsInRectangle, IsSafeWidened}
 use Rattle.mesh_join.specs.Joins.{bevel_padding}
 

@@ -2,17 +2,17 @@
 use Rattle.std.specs.Prelude.{ℕ, ◌≡◌, List, [], ◌∷◌, ◌++◌, map, ℤ, pos, ◌<ℤ◌, Bool}
 use Rattle.std.specs.List.{All, flat_map}
 use Rattle.std.specs.List.Sorted.{IsPermutation}
-use Rattle.mesh_num.specs.Bounds.{IsWithin}
+use Rattle.mesh_plane.specs.Bounds.{IsWithin}
 use Rattle.mesh_num.specs.Paths.{contours_of}
-use Rattle.mesh_num.specs.Plane.{Point, Edge}
+use Rattle.mesh_plane.specs.Plane.{Point, Edge}
 use Rattle.mesh_num.specs.Segments.{proper_edges}
-use Rattle.mesh_num.specs.Winding.{boundary, IsBalanced}
-use Rattle.mesh_below.specs.Contours.{double_area}
-use Rattle.mesh_below.specs.FillRules.{filled}
+use Rattle.mesh_plane.specs.Winding.{boundary, IsBalanced}
+use Rattle.mesh_shapes.specs.Contours.{double_area}
+use Rattle.mesh_cuts.specs.FillRules.{filled}
 use Rattle.mesh_below.specs.Options.{plain}
-use Rattle.mesh_below.specs.Resolution.{Choices, IsResolution}
-use Rattle.mesh_below.specs.Split.{back}
-use Rattle.mesh_below.specs.declared.fill.FillRule.TheVariants.{Positive, Negative}
+use Rattle.mesh_shapes.specs.Resolution.{Choices, IsResolution}
+use Rattle.mesh_cuts.specs.Split.{back}
+use Rattle.mesh_cuts.specs.declared.fill.FillRule.TheVariants.{Positive, Negative}
 use Rattle.mesh_join.specs.Joins.{bevel_padding}
 use Rattle.i_overlay_mesh.specs.Building.{bevelled_edges, bevelled_pieces, NeverTurnedRound, WindAsPieces, WindsByCount}
 use Rattle.i_overlay_mesh.specs.Padding.{IsNear}

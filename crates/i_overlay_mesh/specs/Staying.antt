@@ -2,11 +2,11 @@
 use Rattle.std.specs.Prelude.{ℕ, ℤ, Bool, List}
 use Rattle.std.specs.List.{All}
 use Rattle.std.specs.List.Sorted.{IsPermutation}
-use Rattle.mesh_num.specs.Plane.{Point, Edge}
+use Rattle.mesh_plane.specs.Plane.{Point, Edge}
 use Rattle.mesh_num.specs.Segments.{proper_edges}
-use Rattle.mesh_below.specs.Reach.{AreEdgesSafe, ArePointsSafe}
-use Rattle.mesh_below.specs.Resolution.{Choices, IsResolution}
-use Rattle.mesh_below.specs.Split.{after}
+use Rattle.mesh_cuts.specs.Reach.{AreEdgesSafe, ArePointsSafe}
+use Rattle.mesh_shapes.specs.Resolution.{Choices, IsResolution}
+use Rattle.mesh_cuts.specs.Split.{after}
 use Rattle.i_overlay_mesh.specs.Building.{bevelled_edges}
 use Rattle.i_overlay_mesh.specs.Resolved.{Give}
 

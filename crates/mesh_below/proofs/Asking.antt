@@ -6,18 +6,18 @@ use Rattle.std.proofs.lemmas.Bool.{both_ways, cases_Bool}
 use Rattle.std.proofs.lemmas.Int.{ints}
 use Rattle.std.proofs.lemmas.List.{take_more, take_all, get_or-map}
 use Rattle.std.proofs.lemmas.List.Elements.{All-push}
-use Rattle.mesh_num.specs.Plane.{Point, Edge}
-use Rattle.mesh_num.specs.Winding.{IsBalanced, sum_of, total, same_point}
-use Rattle.mesh_num.specs.Order.{point_lt}
-use Rattle.mesh_num.proofs.Balance.{growth, growth_of_balanced, balanced_by_growth}
-use Rattle.mesh_num.proofs.Sums.{sum_of_map}
-use Rattle.mesh_num.proofs.Whole.{linear}
-use Rattle.mesh_below.specs.Counted.{bit}
-use Rattle.mesh_below.specs.Split.{back}
-use Rattle.mesh_below.specs.Unused.{StartsInOrder}
-use Rattle.mesh_below.proofs.Ends.{decides_point}
-use Rattle.mesh_below.proofs.SidesCode.{sum_least}
-use Rattle.mesh_below.proofs.Walking.{Before, of_before, three_ways}
+use Rattle.mesh_plane.specs.Plane.{Point, Edge}
+use Rattle.mesh_plane.specs.Winding.{IsBalanced, sum_of, total, same_point}
+use Rattle.mesh_plane.specs.Order.{point_lt}
+use Rattle.mesh_plane.proofs.Balance.{growth, growth_of_balanced, balanced_by_growth}
+use Rattle.mesh_plane.proofs.Sums.{sum_of_map}
+use Rattle.mesh_plane.proofs.Whole.{linear}
+use Rattle.mesh_cuts.specs.Counted.{bit}
+use Rattle.mesh_cuts.specs.Split.{back}
+use Rattle.mesh_shapes.specs.Unused.{StartsInOrder}
+use Rattle.mesh_cuts.proofs.Ends.{decides_point}
+use Rattle.mesh_plane.proofs.Sums.{sum_least}
+use Rattle.mesh_shapes.proofs.Walking.{Before, of_before, three_ways}
 
 -- ---- elements tested one by one
 pub all_more : {X : Type 0} (P : X → Type 0) (xs : List X) (i : ℕ) (d : X) → i < length xs → All P (take i xs) → P (get_or xs i d) → All P (take (i + 1) xs)

@@ -7,18 +7,15 @@ use Rattle.std.proofs.lemmas.Bool.{false≢true, or_left}
 use Rattle.std.proofs.lemmas.List.{nil_from_length}
 use Rattle.std.proofs.lemmas.List.Elements.{All-head}
 use Rattle.std.proofs.lemmas.List.Sorted.{length_permutation}
-use Rattle.mesh_num.specs.Plane.{Point, Edge}
-use Rattle.mesh_num.specs.Winding.{route, boundary}
-use Rattle.mesh_below.specs.Boundary.{IsBoundary}
-use Rattle.mesh_below.specs.Contours.{IsBegun}
-use Rattle.mesh_below.specs.Resolution.{Choices, Ring, ring_of, is_large, answered, shapes_of, AreArranged, IsResolution}
-use Rattle.mesh_below.specs.Split.{same_ends, occurs, Cut, cut, after}
-use Rattle.mesh_below.proofs.BoundaryFill.{boundary_cover}
-use Rattle.mesh_below.proofs.Ends.{ends_self}
-
-pub after_none : (ks : List Cut) → after ks [] ≡ []
-after_none [] = refl
-after_none (k ∷ ks) = ap (cut k) (after_none ks)
+use Rattle.mesh_plane.specs.Plane.{Point, Edge}
+use Rattle.mesh_plane.specs.Winding.{route, boundary}
+use Rattle.mesh_cuts.specs.Boundary.{IsBoundary}
+use Rattle.mesh_shapes.specs.Contours.{IsBegun}
+use Rattle.mesh_shapes.specs.Resolution.{Choices, Ring, ring_of, is_large, answered, shapes_of, AreArranged, IsResolution}
+use Rattle.mesh_cuts.specs.Split.{same_ends, occurs, Cut, cut, after}
+use Rattle.mesh_regions.proofs.BoundaryFill.{boundary_cover}
+use Rattle.mesh_cuts.proofs.Ends.{ends_self}
+use Rattle.mesh_cuts.proofs.KeptByCuts.{after_none}
 
 boundary_none : (bs : List Edge) (fill : ℤ → Bool) → IsBoundary [] fill bs → bs ≡ []
 boundary_none [] fill is = refl

@@ -6,15 +6,15 @@ use Rattle.std.proofs.lemmas.Bool.{cases_Bool, both_ways, and_parts, eqb-true, e
 use Rattle.std.proofs.lemmas.List.{get_or_default}
 use Rattle.std.proofs.lemmas.List.FromFn.{length-enumerate_from, get_or-enumerate_from}
 use Rattle.mesh_num.specs.Paths.{contours_of}
-use Rattle.mesh_num.specs.Plane.{Point, Edge}
-use Rattle.mesh_num.specs.Winding.{sum_of, boundary, crossing_on, winding, holds}
-use Rattle.mesh_num.proofs.Sums.{sum_of_map, sum_of_flat_map, sum_of_add, sum_of_same, sum_of_equal, sum_of_zero, sum_of_permutation}
-use Rattle.mesh_num.proofs.Whole.{linear}
-use Rattle.mesh_below.specs.Contours.{vertices, double_area}
-use Rattle.mesh_below.specs.Grouping.{ring_at, placed, is_round_at, IsHome}
-use Rattle.mesh_below.specs.Progress.{NoneRound, IsHolder}
-use Rattle.mesh_below.specs.Resolution.{Choices, IsResolution, Ring, Placed, ring_of, is_large, is_positive, is_head, is_round, stands_with, shape_of, shapes_of, answered}
-use Rattle.mesh_below.proofs.Groups.{area, holder_none, holder_kept, holder_no_less, holder_first, holder_less, home_positive, home_alone, home_held, member_test, head_test}
+use Rattle.mesh_plane.specs.Plane.{Point, Edge}
+use Rattle.mesh_plane.specs.Winding.{sum_of, boundary, crossing_on, winding, holds}
+use Rattle.mesh_plane.proofs.Sums.{sum_of_map, sum_of_flat_map, sum_of_add, sum_of_same, sum_of_equal, sum_of_zero, sum_of_permutation}
+use Rattle.mesh_plane.proofs.Whole.{linear}
+use Rattle.mesh_shapes.specs.Contours.{vertices, double_area}
+use Rattle.mesh_shapes.specs.Grouping.{ring_at, placed, is_round_at, IsHome}
+use Rattle.mesh_shapes.specs.Progress.{NoneRound, IsHolder}
+use Rattle.mesh_shapes.specs.Resolution.{Choices, IsResolution, Ring, Placed, ring_of, is_large, is_positive, is_head, is_round, stands_with, shape_of, shapes_of, answered}
+use Rattle.mesh_shapes.proofs.Groups.{area, holder_none, holder_kept, holder_no_less, holder_first, holder_less, home_positive, home_alone, home_held, member_test, head_test}
 
 -- ---- where each ring belongs
 abbrev KnownHolder : List Ring → Point → ℕ → Type 0

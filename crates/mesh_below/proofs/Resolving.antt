@@ -7,24 +7,24 @@ use Rattle.std.proofs.lemmas.Bool.{or_right}
 use Rattle.std.proofs.lemmas.Grind.{flat_map-append}
 use Rattle.std.proofs.lemmas.List.{append-nil, map-append, take_more, take_all}
 use Rattle.std.proofs.lemmas.List.Elements.{All-nil, All-cons, All-head, All-tail, All-push, filter-append}
-use Rattle.mesh_num.proofs.Sums.{sum_of_append}
-use Rattle.mesh_num.specs.Bounds.{IsSafe}
-use Rattle.mesh_num.specs.Plane.{Point, Edge}
-use Rattle.mesh_num.specs.Winding.{IsBalanced, sum_of, boundary, same_point}
-use Rattle.mesh_below.proofs.BoundaryBalance.{boundary_is_balanced}
-use Rattle.mesh_below.proofs.BoundaryFill.{boundary_cover}
-use Rattle.mesh_below.proofs.BoundaryKeys.{keys, keys_are}
-use Rattle.mesh_below.proofs.Ends.{ends_self}
-use Rattle.mesh_below.proofs.Walking.{counts_same}
-use Rattle.mesh_below.specs.Boundary.{count, IsBoundary}
-use Rattle.mesh_below.specs.Clean.{IsProper}
-use Rattle.mesh_below.specs.Contours.{IsBegun, IsRingOf}
-use Rattle.mesh_below.specs.Counted.{Counted}
-use Rattle.mesh_below.specs.Grouping.{Held, view, views, AreRingsOf, PushesRing}
-use Rattle.mesh_below.specs.Resolution.{Choices, Ring, ring_of, is_large, AreArranged, IsResolution}
-use Rattle.mesh_below.specs.Split.{occurs, after, same_ends}
-use Rattle.mesh_below.specs.Splitting.{IsSplitting}
-use Rattle.mesh_below.specs.Unused.{contour_edges}
+use Rattle.mesh_plane.proofs.Sums.{sum_of_append}
+use Rattle.mesh_plane.specs.Bounds.{IsSafe}
+use Rattle.mesh_plane.specs.Plane.{Point, Edge}
+use Rattle.mesh_plane.specs.Winding.{IsBalanced, sum_of, boundary, same_point}
+use Rattle.mesh_regions.proofs.BoundaryBalance.{boundary_is_balanced}
+use Rattle.mesh_regions.proofs.BoundaryFill.{boundary_cover}
+use Rattle.mesh_cuts.proofs.Keys.{keys, keys_are}
+use Rattle.mesh_cuts.proofs.Ends.{ends_self}
+use Rattle.mesh_shapes.proofs.Walking.{counts_same}
+use Rattle.mesh_cuts.specs.Boundary.{count, IsBoundary}
+use Rattle.mesh_cuts.specs.Clean.{IsProper}
+use Rattle.mesh_shapes.specs.Contours.{IsBegun, IsRingOf}
+use Rattle.mesh_cuts.specs.Counted.{Counted}
+use Rattle.mesh_shapes.specs.Grouping.{Held, view, views, AreRingsOf, PushesRing}
+use Rattle.mesh_shapes.specs.Resolution.{Choices, Ring, ring_of, is_large, AreArranged, IsResolution}
+use Rattle.mesh_cuts.specs.Split.{occurs, after, same_ends}
+use Rattle.mesh_cuts.specs.Splitting.{IsSplitting}
+use Rattle.mesh_shapes.specs.Unused.{contour_edges}
 
 -- ---- the ring of one contour
 ring_is : (all : Bool) (given : List Point) (r : Held) → (k : IsRingOf all given (view r)) → ring_of all k.contour ≡ view r

@@ -5,14 +5,14 @@ use Rattle.std.specs.List.{All}
 use Rattle.std.proofs.lemmas.Bool.{both_ways, false≢true}
 use Rattle.std.proofs.lemmas.List.{take_more, take_all}
 use Rattle.std.proofs.lemmas.List.Elements.{All-head, All-tail}
-use Rattle.mesh_num.specs.Plane.{Edge}
+use Rattle.mesh_plane.specs.Plane.{Edge}
 use Rattle.mesh_num.specs.Segments.{SignedEdge, IsSubject, edge_of, edges_of}
-use Rattle.mesh_num.specs.Winding.{same_point}
-use Rattle.mesh_below.specs.Clean.{IsProper}
-use Rattle.mesh_below.proofs.BoundarySplits.{ProperEnds, each_proper, proper_each}
-use Rattle.mesh_below.proofs.Ends.{decides_point}
-use Rattle.mesh_below.proofs.Entries.{forward_proper}
-use Rattle.mesh_below.proofs.SidesConstant.{Each}
+use Rattle.mesh_plane.specs.Winding.{same_point}
+use Rattle.mesh_cuts.specs.Clean.{IsProper}
+use Rattle.mesh_cuts.proofs.SoundCuts.{ProperEnds, each_proper, proper_each}
+use Rattle.mesh_cuts.proofs.Ends.{decides_point}
+use Rattle.mesh_cuts.proofs.Ends.{forward_proper}
+use Rattle.mesh_cuts.proofs.Each.{Each}
 
 subject_ends : (s : SignedEdge) → IsSubject s → ProperEnds (edge_of s)
 subject_ends s h = by (int_lt (pos 0) s.1)

@@ -2,42 +2,16 @@
 use Rattle.std.specs.Prelude.{ℕ, ◌<◌, ◌≡◌, Bool, true, false, cond, List, [], map, ℤ, pos}
 use Rattle.std.specs.List.{flat_map}
 use Rattle.mesh_num.specs.Paths.{contours_of}
-use Rattle.mesh_num.specs.Plane.{Point, Edge}
-use Rattle.mesh_num.specs.Winding.{boundary, winding, IsBalanced}
-use Rattle.mesh_below.specs.Boundary.{IsBoundary, winding_beside}
-use Rattle.mesh_below.specs.Clean.{IsClean, IsProper, refined_edge}
-use Rattle.mesh_below.specs.Contours.{vertices}
-use Rattle.mesh_below.specs.Reach.{AreEdgesSafe, ArePointsSafe}
-use Rattle.mesh_below.specs.Regions.{OutsideBent}
-use Rattle.mesh_below.specs.Resolution.{Choices, IsResolution}
-use Rattle.mesh_below.specs.Split.{occurs, IsInside, after}
-
--- balanced edges of which any two have the same ends or share only common ends, as split segments are
-pub record AreSplit (es : List Edge) : Type 0 where
-  pub balanced : IsBalanced es
-  pub clean : IsClean es
-  pub proper : IsProper es
-
--- a winding that is filled stands for 1, any other for 0
-abbrev pub once : (ℤ → Bool) → ℤ → ℤ
-once fill w = cond (fill w) (pos 1) (pos 0)
-
--- at each point inside a split segment, on every grid, the winding is the one beside it: each side has one winding
-abbrev pub SidesAreConstant : Type 0
-SidesAreConstant =
-    (es : List Edge) → AreSplit es → (e : Edge) → occurs e es ≡ true
-    → (m : ℕ) → 0 < m → (q : Point) → IsInside (refined_edge m e) q → winding m q es ≡ winding_beside es e
-
--- the boundary winds once round each point where the segments' winding is filled, and round no other, on every grid
-abbrev pub BoundariesWindOnce : Type 0
-BoundariesWindOnce =
-    (es bs : List Edge) (fill : ℤ → Bool) → AreSplit es → fill (pos 0) ≡ false → IsBoundary es fill bs
-    → (m : ℕ) → 0 < m → (q : Point) → winding m q bs ≡ once fill (winding m q es)
-
--- at each point as many edges of the boundary start as end
-abbrev pub BoundariesAreBalanced : Type 0
-BoundariesAreBalanced =
-    (es bs : List Edge) (fill : ℤ → Bool) → AreSplit es → fill (pos 0) ≡ false → IsBoundary es fill bs → IsBalanced bs
+use Rattle.mesh_plane.specs.Plane.{Point, Edge}
+use Rattle.mesh_plane.specs.Winding.{boundary, winding, IsBalanced}
+use Rattle.mesh_cuts.specs.Boundary.{IsBoundary, winding_beside}
+use Rattle.mesh_cuts.specs.Clean.{IsClean, IsProper, refined_edge}
+use Rattle.mesh_shapes.specs.Contours.{vertices}
+use Rattle.mesh_cuts.specs.Reach.{AreEdgesSafe, ArePointsSafe}
+use Rattle.mesh_regions.specs.Regions.{OutsideBent}
+use Rattle.mesh_shapes.specs.Resolution.{Choices, IsResolution}
+use Rattle.mesh_cuts.specs.Split.{occurs, IsInside, after}
+use Rattle.mesh_regions.specs.Laws.{once}
 
 -- the contours of a resolution, with the vertices that are answered and before small ones are left out, wind once round
 -- each point where the split segments' winding is filled, and round no other; where no bent edge's box holds the point,

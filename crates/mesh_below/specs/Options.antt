@@ -3,7 +3,7 @@ use Rattle.std.specs.Prelude.{ℕ, Bool, true, false}
 use Rattle.mesh_below.specs.declared.below.ContourDirection.{ContourDirection}
 use Rattle.mesh_below.specs.declared.below.ContourDirection.TheVariants.{CounterClockwise, Clockwise}
 use Rattle.mesh_below.specs.declared.below.IntOverlayOptions.{IntOverlayOptions}
-use Rattle.mesh_below.specs.Resolution.{Choices}
+use Rattle.mesh_shapes.specs.Resolution.{Choices}
 
 -- whether contours run clockwise
 abbrev pub is_clockwise : ContourDirection → Bool

@@ -2,11 +2,11 @@
 
 ghost use Rattle.std.specs.Prelude.{◌≡◌, IfOk};
 ghost use Rattle.std.specs.List.{All};
-ghost use Rattle.mesh_num.specs.Bounds.{IsSafe};
+ghost use Rattle.mesh_plane.specs.Bounds.{IsSafe};
 ghost use Rattle.mesh_num.specs.Paths.{paths_of, shapes_of};
-ghost use Rattle.mesh_below.specs.Reach.{ArePointsSafe};
+ghost use Rattle.mesh_cuts.specs.Reach.{ArePointsSafe};
 
-use crate::grid::GridPoint;
+use mesh_cuts::grid::GridPoint;
 use mesh_num::num::convert::narrow;
 use mesh_num::num::{IntNumber, IntPoint};
 use mesh_num::shape::buffer::IntShapes;

@@ -4,17 +4,17 @@ ghost use Rattle.std.specs.Prelude.{◌≡◌, ◌++◌, List, IfOk, OnOk, OnErr
 ghost use Rattle.std.specs.List.{All};
 ghost use Rattle.mesh_num.specs.FlatContours.{HoldsContours};
 ghost use Rattle.mesh_num.specs.Paths.{contours_of, shapes_of};
-ghost use Rattle.mesh_num.specs.Plane.{Point};
+ghost use Rattle.mesh_plane.specs.Plane.{Point};
 ghost use Rattle.mesh_num.specs.Segments.{IsSubject, edges_of};
-ghost use Rattle.mesh_num.specs.Winding.{IsBalanced};
-ghost use Rattle.mesh_below.specs.FillRules.{filled};
+ghost use Rattle.mesh_plane.specs.Winding.{IsBalanced};
+ghost use Rattle.mesh_cuts.specs.FillRules.{filled};
 ghost use Rattle.mesh_below.specs.Laws.{AreRegions};
 ghost use Rattle.mesh_below.specs.Options.{choices_of, plain};
-ghost use Rattle.mesh_below.specs.Reach.{AreEdgesSafe, ArePointsSafe};
-ghost use Rattle.mesh_below.specs.Resolution.{IsResolution};
+ghost use Rattle.mesh_cuts.specs.Reach.{AreEdgesSafe, ArePointsSafe};
+ghost use Rattle.mesh_shapes.specs.Resolution.{IsResolution};
 
 use crate::answer::int_shapes;
-pub use crate::fill::FillRule;
+pub use mesh_cuts::fill::FillRule;
 use crate::given::grid_edges;
 use crate::resolve::{Choices, resolve};
 use mesh_num::num::{IntNumber, WideUnsigned};
@@ -168,6 +168,3 @@ impl<I: IntNumber> Overlay<I> {
         }
     }
 }
-
-#[cfg(test)]
-mod tests;

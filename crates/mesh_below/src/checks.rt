@@ -2,18 +2,18 @@
 
 ghost use Rattle.std.specs.Prelude.{◌≡◌, ◌↔◌, ℕ, List, ℤ, map, IsTrue, IfOk};
 ghost use Rattle.std.specs.List.{All};
-ghost use Rattle.mesh_num.specs.Bounds.{IsSafe};
-ghost use Rattle.mesh_num.specs.Plane.{Point, Edge};
+ghost use Rattle.mesh_plane.specs.Bounds.{IsSafe};
+ghost use Rattle.mesh_plane.specs.Plane.{Point, Edge};
 ghost use Rattle.mesh_num.specs.Segments.{IsSubject};
-ghost use Rattle.mesh_num.specs.Winding.{IsBalanced};
+ghost use Rattle.mesh_plane.specs.Winding.{IsBalanced};
 ghost use Rattle.mesh_below.specs.Asked.{AreResolvable};
-ghost use Rattle.mesh_below.specs.Reach.{AreEdgesSafe};
-ghost use Rattle.mesh_below.specs.Split.{back};
+ghost use Rattle.mesh_cuts.specs.Reach.{AreEdgesSafe};
+ghost use Rattle.mesh_cuts.specs.Split.{back};
 
-use crate::exact::{is_before, same_point};
+use mesh_cuts::exact::{is_before, same_point};
 use crate::given::{coordinate, grid_edges, grid_point};
-use crate::grid::{GridEdge, GridPoint};
-use crate::walk::in_order;
+use mesh_cuts::grid::{GridEdge, GridPoint};
+use mesh_shapes::walk::in_order;
 use mesh_num::num::IntNumber;
 use mesh_num::shape::segment::Segment;
 use std::alloc::{AllocError, Global};

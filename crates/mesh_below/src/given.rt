@@ -3,10 +3,10 @@
 ghost use Rattle.std.specs.Prelude.{◌≡◌, ◌↔◌, List, ℤ, IfOk, IsTrue};
 ghost use Rattle.std.specs.List.{All};
 ghost use Rattle.mesh_num.specs.Segments.{IsSubject, edge_of, edges_of};
-ghost use Rattle.mesh_below.specs.Clean.{IsProper};
+ghost use Rattle.mesh_cuts.specs.Clean.{IsProper};
 
-use crate::exact::same_point;
-use crate::grid::{GridEdge, GridPoint};
+use mesh_cuts::exact::same_point;
+use mesh_cuts::grid::{GridEdge, GridPoint};
 use mesh_num::num::{IntNumber, IntPoint};
 use mesh_num::shape::segment::Segment;
 use std::alloc::{AllocError, Global};

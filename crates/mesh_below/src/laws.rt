@@ -1,21 +1,8 @@
 //! Laws of split segments, boundaries and answers. Each function does nothing: its clause is the law.
 
-ghost use Rattle.mesh_below.specs.Laws.{SidesAreConstant, BoundariesWindOnce, BoundariesAreBalanced, AnswersAreRegions, NothingHasNoShapes, AnswersAreSafe};
+ghost use Rattle.mesh_below.specs.Laws.{AnswersAreRegions, NothingHasNoShapes, AnswersAreSafe};
 
-/// A side of a split segment has one winding, at all its inner points on every grid.
-pub fn sides_are_constant()
-    ensures { SidesAreConstant }
-{}
-
-/// The boundary winds once round the points where the winding is filled, and round no other.
-pub fn boundaries_wind_once()
-    ensures { BoundariesWindOnce }
-{}
-
-/// At each point as many edges of the boundary start as end, so every walk along it closes.
-pub fn boundaries_are_balanced()
-    ensures { BoundariesAreBalanced }
-{}
+pub use mesh_regions::laws::{boundaries_are_balanced, boundaries_wind_once, sides_are_constant};
 
 /// The contours of an answer wind once round what is filled, outside the boxes of bent edges by the given edges' winding.
 pub fn answers_are_regions()

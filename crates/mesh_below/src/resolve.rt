@@ -2,21 +2,21 @@
 
 ghost use Rattle.std.specs.Prelude.{◌≡◌, ◌<◌, false, length, IfOk, OnOk};
 ghost use Rattle.std.specs.List.{All};
-ghost use Rattle.mesh_num.specs.Plane.{Edge};
-ghost use Rattle.mesh_num.specs.Winding.{IsBalanced, boundary, same_point};
-ghost use Rattle.mesh_below.specs.Clean.{IsProper};
-ghost use Rattle.mesh_below.specs.FillRules.{filled};
-ghost use Rattle.mesh_below.specs.Grouping.{AreRingsOf, PushesRing, shapes_points};
-ghost use Rattle.mesh_below.specs.Resolution.{IsResolution};
-ghost use Rattle.mesh_below.specs.Unused.{HavePoints, contour_edges};
+ghost use Rattle.mesh_plane.specs.Plane.{Edge};
+ghost use Rattle.mesh_plane.specs.Winding.{IsBalanced, boundary, same_point};
+ghost use Rattle.mesh_cuts.specs.Clean.{IsProper};
+ghost use Rattle.mesh_cuts.specs.FillRules.{filled};
+ghost use Rattle.mesh_shapes.specs.Grouping.{AreRingsOf, PushesRing, shapes_points};
+ghost use Rattle.mesh_shapes.specs.Resolution.{IsResolution};
+ghost use Rattle.mesh_shapes.specs.Unused.{HavePoints, contour_edges};
 
-use crate::arrange::{is_large, shapes};
-use crate::fill::FillRule;
-use crate::grid::{GridEdge, GridPoint};
-use crate::ring::{Ring, ring_of};
-use crate::sides::boundary;
-use crate::splitter::split_edges;
-use crate::walk::contours;
+use mesh_shapes::arrange::{is_large, shapes};
+use mesh_cuts::fill::FillRule;
+use mesh_cuts::grid::{GridEdge, GridPoint};
+use mesh_shapes::ring::{Ring, ring_of};
+use mesh_shapes::sides::boundary;
+use mesh_split::splitter::split_edges;
+use mesh_shapes::walk::contours;
 use std::alloc::{AllocError, Global};
 
 /// What an answer depends on besides the edges: the least area, whether straight-through vertices stay, and the direction.

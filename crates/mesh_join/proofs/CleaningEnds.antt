@@ -2,8 +2,8 @@
 use Rattle.std.proofs.Common.{◌≡◌, ◌-◌, Bool, true, false, cond, List, [], ◌∷◌, ◌++◌, length, take, drop}
 use Rattle.std.specs.List.{All}
 use Rattle.std.proofs.lemmas.List.Elements.{All-append, All-nil, All-cons, All-head, All-tail, All-take, All-drop}
-use Rattle.mesh_num.specs.Plane.{Point, Edge}
-use Rattle.mesh_num.specs.Winding.{route, boundary, same_point}
+use Rattle.mesh_plane.specs.Plane.{Point, Edge}
+use Rattle.mesh_plane.specs.Winding.{route, boundary, same_point}
 use Rattle.mesh_join.specs.Cleaned.{is_kept, changes_from, without_repeats, without_end, ring, kept_between, kept_inside, kept_round, last_first, begun, cleaned_points, cleaned_sections}
 
 either_list : (P : Point → Type 0) (b : Bool) (xs ys : List Point) → All P xs → All P ys → All P (cond b xs ys)

@@ -1,8 +1,8 @@
 -- Lemmas over points and lists: where the loop of the cleaned contour starts, and how it closes.
 use Rattle.std.proofs.Common.{◌≡◌, inl, inr, refl, sym, ◌∙◌, ap, true, false, cond, List, [], ◌∷◌, ◌++◌}
 use Rattle.std.proofs.lemmas.Bool.{cases_Bool, cond-true, cond-false}
-use Rattle.mesh_num.specs.Plane.{Point}
-use Rattle.mesh_num.specs.Winding.{same_point}
+use Rattle.mesh_plane.specs.Plane.{Point}
+use Rattle.mesh_plane.specs.Winding.{same_point}
 use Rattle.mesh_join.specs.Cleaned.{is_kept, changes_from, without_end, kept_between, last_of}
 use Rattle.mesh_join.proofs.CleaningVectors.{same_point-eq, same_point-swap}
 use Rattle.mesh_join.proofs.CleaningPass.{changes_from-same, changes_from-apart}

@@ -1,8 +1,8 @@
 -- Lemmas over points and lists: a pass that compares with the last kept point keeps what each point's own neighbours say.
 use Rattle.std.proofs.Common.{◌≡◌, ◌⊎◌, inl, inr, sym, ◌∙◌, ap, subst, true, false, cond, List, [], ◌∷◌}
 use Rattle.std.proofs.lemmas.Bool.{cases_Bool, cond-true, cond-false}
-use Rattle.mesh_num.specs.Plane.{Point, Edge}
-use Rattle.mesh_num.specs.Winding.{route, same_point}
+use Rattle.mesh_plane.specs.Plane.{Point, Edge}
+use Rattle.mesh_plane.specs.Winding.{route, same_point}
 use Rattle.mesh_join.specs.Cleaned.{is_kept, changes_from, kept_between, last_of, sections_between, open_sections}
 use Rattle.mesh_join.proofs.CleaningVectors.{same_point-eq, SameWay, SameWay-straight, SameWay-self, SameWay-apart, judged, is_kept-from_self, is_kept-to_self}
 

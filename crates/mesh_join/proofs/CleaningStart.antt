@@ -1,8 +1,8 @@
 -- Lemmas over points and lists: a pass that begins at the first point it keeps, and closes there, gives the cleaned contour.
 use Rattle.std.proofs.Common.{◌≡◌, ◌⊎◌, inl, inr, refl, sym, ◌∙◌, ap, subst, true, false, cond, List, [], ◌∷◌, ◌++◌}
 use Rattle.std.proofs.lemmas.Bool.{cases_Bool, cond-true, cond-false}
-use Rattle.mesh_num.specs.Plane.{Point, Edge}
-use Rattle.mesh_num.specs.Winding.{route, boundary, same_point}
+use Rattle.mesh_plane.specs.Plane.{Point, Edge}
+use Rattle.mesh_plane.specs.Winding.{route, boundary, same_point}
 use Rattle.mesh_join.specs.Cleaned.{is_kept, changes_from, without_end, ring, kept_between, kept_inside, kept_round, last_of, last_first, begun, cleaned_sections}
 use Rattle.mesh_join.proofs.CleaningVectors.{same_point-eq, same_point-swap, SameWay, SameWay-straight, SameWay-ahead, SameWay-self, SameWay-apart, judged, judged_ahead, is_kept-to_self, is_kept-back}
 use Rattle.mesh_join.proofs.CleaningPass.{changes_from-same, changes_from-apart, kept_between-kept, kept_between-passed, passed, passed-kept, passed-on, passed-same, passed-own}

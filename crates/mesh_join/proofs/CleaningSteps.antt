@@ -4,9 +4,9 @@ use Rattle.std.specs.Prelude.{pos}
 use Rattle.std.specs.List.{All}
 use Rattle.std.proofs.lemmas.Bool.{true≢false, cases_Bool, cond-true, cond-false}
 use Rattle.std.proofs.lemmas.List.Elements.{All-head, All-tail, All-cons, All-nil, All-rest, All-append}
-use Rattle.mesh_num.specs.Plane.{Point, Edge}
-use Rattle.mesh_num.specs.Winding.{same_point, boundary, winding, crossing_on}
-use Rattle.mesh_num.proofs.Triangles.{crossing_on_straight}
+use Rattle.mesh_plane.specs.Plane.{Point, Edge}
+use Rattle.mesh_plane.specs.Winding.{same_point, boundary, winding, crossing_on}
+use Rattle.mesh_plane.proofs.Triangles.{crossing_on_straight}
 use Rattle.mesh_join.specs.Cleaned.{is_kept, cleaned_sections, open_sections, AllEqual, IsClean}
 use Rattle.mesh_join.proofs.CleaningVectors.{same_point-eq, same_point-self}
 use Rattle.mesh_join.proofs.CleaningPass.{passed-kept, passed-on, passed-open}

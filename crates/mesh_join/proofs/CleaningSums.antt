@@ -2,9 +2,9 @@
 use Rattle.std.proofs.Common.{◌≡◌, inl, inr, refl, sym, ◌∙◌, ap, arith, true, List, [], ◌∷◌, ◌++◌}
 use Rattle.std.specs.Prelude.{ℤ, pos, ◌+ℤ◌}
 use Rattle.std.proofs.lemmas.Bool.{cases_Bool, cond-true, cond-false}
-use Rattle.mesh_num.specs.Plane.{Point, Edge, turn}
-use Rattle.mesh_num.specs.Winding.{route, boundary, same_point, total}
-use Rattle.mesh_num.proofs.Whole.{linear}
+use Rattle.mesh_plane.specs.Plane.{Point, Edge, turn}
+use Rattle.mesh_plane.specs.Winding.{route, boundary, same_point, total}
+use Rattle.mesh_plane.proofs.Whole.{linear}
 use Rattle.mesh_join.specs.Cleaned.{is_kept, cleaned_sections}
 use Rattle.mesh_join.proofs.CleaningVectors.{same_point-eq, straight-turn, is_kept-from_self}
 use Rattle.mesh_join.proofs.CleaningPass.{passed, passed-kept, passed-on}

@@ -4,10 +4,10 @@ use Rattle.std.specs.Prelude.{pos, ◌<ℤ◌, neg_ℤ}
 use Rattle.std.specs.List.{All}
 use Rattle.std.proofs.lemmas.Bool.{true≢false, cases_Bool}
 use Rattle.std.proofs.lemmas.List.Elements.{All-head, All-tail, All-nil, All-cons, All-weaker}
-use Rattle.mesh_num.specs.Plane.{Point, Edge, minus, cross, dot}
-use Rattle.mesh_num.specs.Winding.{route, boundary, same_point}
-use Rattle.mesh_num.proofs.Whole.{linear}
-use Rattle.mesh_num.proofs.Ring.{ring, var, neg, ◌⊖◌, cross_of, dot_of}
+use Rattle.mesh_plane.specs.Plane.{Point, Edge, minus, cross, dot}
+use Rattle.mesh_plane.specs.Winding.{route, boundary, same_point}
+use Rattle.mesh_plane.proofs.Whole.{linear}
+use Rattle.mesh_plane.proofs.Ring.{ring, var, neg, ◌⊖◌, cross_of, dot_of}
 use Rattle.mesh_join.specs.Cleaned.{is_kept, changes_from, kept_between, last_of, without_end, cleaned_sections, RunsOn, IsClean}
 use Rattle.mesh_join.proofs.CleaningVectors.{same_point-swap, SameWay, SameWay-straight, SameWay-ahead, SameWay-self, SameWay-apart, judged, judged_ahead, is_kept-from_self, is_kept-to_self, is_kept-back, is_kept-straight}
 use Rattle.mesh_join.proofs.CleaningPass.{changes_from-same, changes_from-apart, kept_between-kept, kept_between-passed}

@@ -7,12 +7,12 @@ use lib.IntN.{*ℤ_comm, *ℤ-zero, zero-*ℤ}
 use Rattle.std.proofs.lemmas.Int.{ints, by_lt_z}
 use Rattle.std.proofs.lemmas.Bool.{true≢false, and_parts, or_parts, not-false, true_from_ne_false, false_from_ne_true, cases_Bool}
 use Rattle.std.proofs.lemmas.Bool.Decides.{same_from_decides, Decides-int_eq, Decides-like}
-use Rattle.mesh_num.specs.Plane.{Point, minus, cross, dot, turn}
-use Rattle.mesh_num.specs.Bounds.{IsSafe}
-use Rattle.mesh_num.specs.Winding.{same_point}
-use Rattle.mesh_num.proofs.Whole.{linear, mul_pos, square_nonneg, mul_cancel, pos_of_mul, factor}
-use Rattle.mesh_num.proofs.Ring.{ring, var, lit, neg, ◌⊖◌, cross_of, dot_of}
-use Rattle.mesh_num.proofs.Identities.{lagrange, dot_through, cross_through, cross_flip, cross_self, dot_swap}
+use Rattle.mesh_plane.specs.Plane.{Point, minus, cross, dot, turn}
+use Rattle.mesh_plane.specs.Bounds.{IsSafe}
+use Rattle.mesh_plane.specs.Winding.{same_point}
+use Rattle.mesh_plane.proofs.Whole.{linear, mul_pos, square_nonneg, mul_cancel, pos_of_mul, factor}
+use Rattle.mesh_plane.proofs.Ring.{ring, var, lit, neg, ◌⊖◌, cross_of, dot_of}
+use Rattle.mesh_plane.proofs.Identities.{lagrange, dot_through, cross_through, cross_flip, cross_self, dot_swap}
 use Rattle.mesh_join.specs.Cleaned.{is_kept}
 
 -- ---- tests

@@ -2,8 +2,8 @@
 use Rattle.std.specs.Prelude.{◌≡◌, ◌≢◌, ◌-◌, ◌≤◌, Bool, cond, not, ◌||◌, List, [], ◌∷◌, ◌++◌, length, take, drop, pos, ◌<ℤ◌, int_lt, ⊤}
 use Rattle.std.specs.Ordering.{int_eq}
 use Rattle.std.specs.List.{All}
-use Rattle.mesh_num.specs.Plane.{Point, Edge, minus, cross, dot}
-use Rattle.mesh_num.specs.Winding.{route, boundary, same_point}
+use Rattle.mesh_plane.specs.Plane.{Point, Edge, minus, cross, dot}
+use Rattle.mesh_plane.specs.Winding.{route, boundary, same_point}
 
 -- whether a way from `p0` by `p1` to `p2` turns or turns back at `p1`, rather than run straight through
 abbrev pub is_kept : Point → Point → Point → Bool

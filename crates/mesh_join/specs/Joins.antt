@@ -1,9 +1,9 @@
 -- Joins: the list of points that an outer corner runs through, what a join is asked for, and how far it reaches.
 use Rattle.std.specs.Prelude.{ℕ, ◌≡◌, List, [], ◌∷◌, ℤ, pos, ◌+ℤ◌, ◌*ℤ◌, ◌≤ℤ◌, negsuc, neg_ℤ, unsigned_abs}
-use Rattle.mesh_num.specs.Plane.{Point, Edge, plus, minus, cross, right_quarter}
+use Rattle.mesh_plane.specs.Plane.{Point, Edge, plus, minus, cross, right_quarter}
 use Rattle.mesh_num.specs.Direction.{IsFresh, scaled_direction}
 use Rattle.mesh_num.specs.Rectangle.{IsSafeWidened}
-use Rattle.mesh_num.specs.Winding.{route}
+use Rattle.mesh_plane.specs.Winding.{route}
 use Rattle.mesh_join.specs.declared.arc.ArcDirection.{ArcDirection}
 use Rattle.mesh_join.specs.declared.arc.ArcDirection.TheVariants.{Clockwise, Counterclockwise}
 

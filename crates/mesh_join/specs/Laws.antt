@@ -1,7 +1,7 @@
 -- Laws of cleaned contours. The function of the same name in the module `laws` carries each.
 use Rattle.std.specs.Prelude.{ℕ, ◌≡◌, List, []}
-use Rattle.mesh_num.specs.Plane.{Point}
-use Rattle.mesh_num.specs.Winding.{boundary, winding}
+use Rattle.mesh_plane.specs.Plane.{Point}
+use Rattle.mesh_plane.specs.Winding.{boundary, winding}
 use Rattle.mesh_join.specs.Cleaned.{AllEqual, IsClean, cleaned_sections}
 
 -- at every point of every grid a cleaned contour winds as often as the contour

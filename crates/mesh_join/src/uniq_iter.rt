@@ -3,9 +3,9 @@
 ghost use Rattle.std.specs.Prelude.{◌≡◌, ℕ, ℤ, pos, List, [], ◌∷◌, ◌++◌, MatchOption, IfSome, false};
 ghost use Rattle.std.specs.List.{All};
 ghost use Rattle.std.specs.Iterator.{YieldsFirstBy, item_count};
-ghost use Rattle.mesh_num.specs.Plane.{Point};
-ghost use Rattle.mesh_num.specs.Bounds.{IsSafe};
-ghost use Rattle.mesh_num.specs.Winding.{boundary, winding, same_point};
+ghost use Rattle.mesh_plane.specs.Plane.{Point};
+ghost use Rattle.mesh_plane.specs.Bounds.{IsSafe};
+ghost use Rattle.mesh_plane.specs.Winding.{boundary, winding, same_point};
 ghost use Rattle.mesh_join.specs.Cleaned.{is_kept, cleaned_sections, open_sections, AllEqual, IsClean};
 
 use mesh_num::num::convert::{is_less, is_wide_less};
@@ -33,7 +33,7 @@ pub struct UniqueSegmentsIter<'a, I: IntNumber> {
 impl<'a, I: IntNumber> Model for UniqueSegmentsIter<'a, I> {
     ghost use Rattle.std.specs.Prelude.{ℤ, List, ◌∷◌};
     ghost use Rattle.std.specs.List.{All};
-    ghost use Rattle.mesh_num.specs.Bounds.{IsSafe};
+    ghost use Rattle.mesh_plane.specs.Bounds.{IsSafe};
     ghost use Rattle.mesh_join.specs.Cleaned.{open_sections};
 
     ghost Value = { List ((ℤ × ℤ) × (ℤ × ℤ)) };

@@ -5,7 +5,7 @@ use Rattle.std.proofs.Math.Nat.{mul-le-mul, mul-le-mul_left, mul-le-mul_right}
 use Rattle.std.proofs.lemmas.Bool.{leb-true, le-leb, true≢false}
 use Rattle.std.proofs.lemmas.Bool.Decides.{leb_tells}
 use Rattle.std.proofs.lemmas.Int.{ints}
-use Rattle.mesh_num.specs.Plane.{Point, length_sq}
+use Rattle.mesh_plane.specs.Plane.{Point, length_sq}
 use Rattle.mesh_num.specs.Direction.{IsShare, IsPart, IsDirection}
 use Rattle.mesh_num.specs.Directed.{greatest, share_of, part_of, direction_of}
 use Rattle.mesh_num.proofs.Parts.{part_unique, has_length}

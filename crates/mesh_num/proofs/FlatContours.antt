@@ -9,7 +9,7 @@ use Rattle.std.proofs.lemmas.List.Concat.{flat_map-append}
 use Rattle.mesh_num.specs.declared.shape.buffer.FlatContoursBuffer.{FlatContoursBuffer}
 use Rattle.mesh_num.specs.FlatContours.{range_of, ranges_from, HoldsContours}
 use Rattle.mesh_num.specs.Paths.{paths_of, shapes_of, contours_of}
-use Rattle.mesh_num.specs.Plane.{Point}
+use Rattle.mesh_plane.specs.Plane.{Point}
 use Rattle.mesh_num.proofs.Paths.{contours_more}
 
 -- a range by its two ends

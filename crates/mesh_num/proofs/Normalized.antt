@@ -3,7 +3,7 @@ use Rattle.std.proofs.Common.{◌≡◌, ℕ, ◌≤◌}
 use Rattle.std.specs.Prelude.{MatchOption, IfSome}
 use Rattle.std.specs.declared.option.Option.{Option}
 use Rattle.std.specs.declared.option.Option.TheVariants.{None, Some}
-use Rattle.mesh_num.specs.Plane.{Point, length_sq}
+use Rattle.mesh_plane.specs.Plane.{Point, length_sq}
 use Rattle.mesh_num.specs.Direction.{IsDirection, IsShort, IsFresh, IsOdd, SameWay, KeepsTurns}
 use Rattle.mesh_num.proofs.Parts.{direction_short, direction_fresh, direction_odd}
 use Rattle.mesh_num.proofs.Turns.{direction_same_way, direction_keeps_turns}

@@ -4,10 +4,10 @@ use Rattle.std.specs.Prelude.{ℤ, neg_ℤ, unsigned_abs}
 use Rattle.std.proofs.Math.Nat.{mul-le-mul_left, mul-le-mul_right, le_of_mul-le-mul_right, lt_of_mul-lt-mul_right}
 use Rattle.std.proofs.lemmas.Bool.{cases_lt}
 use mathlib.Core.Logic.{⊎_elim}
-use Rattle.mesh_num.specs.Plane.{Point, opposite, length_sq, right_quarter}
+use Rattle.mesh_plane.specs.Plane.{Point, opposite, length_sq, right_quarter}
 use Rattle.mesh_num.specs.Direction.{IsPart, IsDirection, IsShort, IsFresh, IsOdd}
-use Rattle.mesh_num.proofs.Sizes.{size_neg, length_opposite, lt_of_squares, le_of_squares, two_products}
-use Rattle.mesh_num.proofs.Signs.{sign_neg, same_number}
+use Rattle.mesh_plane.proofs.Sizes.{size_neg, length_opposite, lt_of_squares, le_of_squares, two_products}
+use Rattle.mesh_plane.proofs.Signs.{sign_neg, same_number}
 
 -- ---- one component
 

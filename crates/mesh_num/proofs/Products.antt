@@ -4,8 +4,8 @@ use Rattle.std.specs.Prelude.{ℤ, ◌+ℤ◌, ◌-ℤ◌, ◌*ℤ◌, unsigned_
 use Rattle.std.proofs.lemmas.Int.{ints, unsigned_abs-mul}
 use Rattle.std.proofs.lemmas.Nat.{mul-lt}
 use Rattle.std.proofs.Math.Nat.{mul-le-mul_left}
-use Rattle.mesh_num.specs.Bounds.{IsWithin, IsSmall, IsSafe}
-use Rattle.mesh_num.specs.Plane.{Point, length_sq}
+use Rattle.mesh_plane.specs.Bounds.{IsWithin, IsSmall, IsSafe}
+use Rattle.mesh_plane.specs.Plane.{Point, length_sq}
 
 pub size_below : (h : ℕ) (z : ℤ) → IsSmall h z → unsigned_abs z < h
 size_below h z s = omega (arith, ints, s.low, s.high)

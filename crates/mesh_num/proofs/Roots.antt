@@ -2,7 +2,7 @@
 use Rattle.std.proofs.Common.{◌≡◌, ℕ, ◌+◌, ◌*◌, ◌-◌, ◌%◌, ◌^◌, ◌<◌, ◌≤◌, subst, arith, lit<}
 use Rattle.std.proofs.Math.Nat.{mul-le-mul, mul-le-mul_left, le_of_mul-le-mul_right, lt_of_mul-lt-mul_right, pow-le-pow_right}
 use Rattle.std.proofs.lemmas.Nat.{one_shl}
-use Rattle.mesh_num.proofs.Sizes.{le_of_squares, lt_of_squares}
+use Rattle.mesh_plane.proofs.Sizes.{le_of_squares, lt_of_squares}
 
 -- a number has been found but for its bits below `bit`
 pub record IsFoundTo (target square bit found : ℕ) : Type 0 where

@@ -6,14 +6,15 @@ use Rattle.std.proofs.lemmas.Nat.{mul-lt}
 use Rattle.std.proofs.lemmas.Int.{unsigned_abs-mul, by_lt_z}
 use Rattle.std.proofs.lemmas.Bool.{cases_lt}
 use mathlib.Core.Logic.{⊎_elim}
-use Rattle.mesh_num.specs.Plane.{Point, opposite, cross, dot, length_sq, right_quarter}
-use Rattle.mesh_num.specs.Direction.{HasSignOf, IsDirection, IsShort, IsFresh, KeepsScaledTurns, scaled, scaled_direction}
-use Rattle.mesh_num.specs.Rounding.{rounded}
-use Rattle.mesh_num.proofs.Whole.{linear, mul_neg, neg_mul}
-use Rattle.mesh_num.proofs.Identities.{cross_opposites}
-use Rattle.mesh_num.proofs.Sizes.{size_zero, le_of_squares}
-use Rattle.mesh_num.proofs.Signs.{sign_self, sign_through, sign_square, sign_times}
-use Rattle.mesh_num.proofs.Rounding.{rounded_sign, rounded_neg, rounded_grows, rounded_within, rounded_zero}
+use Rattle.mesh_plane.specs.Plane.{Point, opposite, cross, dot, length_sq, right_quarter}
+use Rattle.mesh_plane.specs.Signs.{HasSignOf}
+use Rattle.mesh_num.specs.Direction.{IsDirection, IsShort, IsFresh, KeepsScaledTurns, scaled, scaled_direction}
+use Rattle.mesh_plane.specs.Rounding.{rounded}
+use Rattle.mesh_plane.proofs.Whole.{linear, mul_neg, neg_mul}
+use Rattle.mesh_plane.proofs.Identities.{cross_opposites}
+use Rattle.mesh_plane.proofs.Sizes.{size_zero, le_of_squares}
+use Rattle.mesh_plane.proofs.Signs.{sign_self, sign_through, sign_square, sign_times}
+use Rattle.mesh_plane.proofs.Rounding.{rounded_sign, rounded_neg, rounded_grows, rounded_within, rounded_zero}
 use Rattle.mesh_num.proofs.Turns.{Keeps, turn_kept_by, parallel_kept_by}
 
 -- ---- one component

@@ -3,9 +3,9 @@ use Rattle.std.proofs.Common.{◌≡◌, Bool, true, false, cond, not, List, [],
 use Rattle.std.specs.Prelude.{pos, negsuc}
 use Rattle.std.proofs.lemmas.List.{map-append}
 use Rattle.std.proofs.lemmas.List.Elements.{filter-append}
-use Rattle.mesh_num.specs.Plane.{Point, Edge}
-use Rattle.mesh_num.specs.Winding.{same_point}
-use Rattle.mesh_num.specs.Order.{point_lt}
+use Rattle.mesh_plane.specs.Plane.{Point, Edge}
+use Rattle.mesh_plane.specs.Winding.{same_point}
+use Rattle.mesh_plane.specs.Order.{point_lt}
 use Rattle.mesh_num.specs.Segments.{SignedEdge, edge_of, edges_of, subject_of, edge_between, segment_between, proper_edges, segments_of}
 
 pub edge_of_subject : (p r : Point) → edge_of (subject_of p r) ≡ (p, r)

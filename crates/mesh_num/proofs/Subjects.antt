@@ -7,9 +7,9 @@ use Rattle.std.proofs.lemmas.Bool.{true≢false}
 use Rattle.std.proofs.lemmas.Bool.Decides.{Decides-int_eq}
 use Rattle.std.proofs.lemmas.Int.{ints}
 use Rattle.std.proofs.lemmas.List.Elements.{All-nil, All-cons, All-head, All-tail, All-append}
-use Rattle.mesh_num.specs.Plane.{Point, Edge}
-use Rattle.mesh_num.specs.Winding.{same_point}
-use Rattle.mesh_num.specs.Order.{point_lt}
+use Rattle.mesh_plane.specs.Plane.{Point, Edge}
+use Rattle.mesh_plane.specs.Winding.{same_point}
+use Rattle.mesh_plane.specs.Order.{point_lt}
 use Rattle.mesh_num.specs.Segments.{SignedEdge, subject_of, segment_between, segments_of, IsSubject}
 
 -- of two different points of which the first is not the smaller one, the second is

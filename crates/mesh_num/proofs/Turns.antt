@@ -3,13 +3,14 @@ use Rattle.std.proofs.Common.{◌≡◌, ℕ, ◌+◌, ◌*◌, ◌<◌, ◌≤�
 use Rattle.std.specs.Prelude.{ℤ, pos, ◌+ℤ◌, ◌*ℤ◌, ◌≤ℤ◌, ◌<ℤ◌, unsigned_abs}
 use Rattle.std.proofs.Math.Nat.{mul-le-mul}
 use Rattle.std.proofs.lemmas.Int.{unsigned_abs-mul}
-use Rattle.mesh_num.specs.Plane.{Point, opposite, cross, dot, length_sq}
-use Rattle.mesh_num.specs.Direction.{HasSignOf, IsPart, IsDirection, SameWay, KeepsTurns}
-use Rattle.mesh_num.proofs.Whole.{linear, mul_nonneg, mul_nonpos_nonneg, nonneg_of_mul, nonpos_of_mul, mul_zero, neg_mul}
-use Rattle.mesh_num.proofs.Ring.{ring, var, ◌⊕◌, ◌⊗◌, cross_of, dot_of}
-use Rattle.mesh_num.proofs.Identities.{cross_flip}
-use Rattle.mesh_num.proofs.Sizes.{dot_self}
-use Rattle.mesh_num.proofs.Signs.{sign_self, sign_through, sign_product, order_kept, same_number}
+use Rattle.mesh_plane.specs.Plane.{Point, opposite, cross, dot, length_sq}
+use Rattle.mesh_plane.specs.Signs.{HasSignOf}
+use Rattle.mesh_num.specs.Direction.{IsPart, IsDirection, SameWay, KeepsTurns}
+use Rattle.mesh_plane.proofs.Whole.{linear, mul_nonneg, mul_nonpos_nonneg, nonneg_of_mul, nonpos_of_mul, mul_zero, neg_mul}
+use Rattle.mesh_plane.proofs.Ring.{ring, var, ◌⊕◌, ◌⊗◌, cross_of, dot_of}
+use Rattle.mesh_plane.proofs.Identities.{cross_flip}
+use Rattle.mesh_plane.proofs.Sizes.{dot_self}
+use Rattle.mesh_plane.proofs.Signs.{sign_self, sign_through, sign_product, order_kept, same_number}
 use Rattle.mesh_num.proofs.Parts.{part_grows, has_length, direction_opposite}
 
 -- a map of components that keeps signs and the order of sizes

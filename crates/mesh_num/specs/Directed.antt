@@ -1,6 +1,6 @@
 -- The direction of a vector, as a function.
 use Rattle.std.specs.Prelude.{ℕ, zero, suc, ◌*◌, Bool, cond, leb, ℤ, pos, negsuc, neg_ℤ}
-use Rattle.mesh_num.specs.Plane.{Point, length_sq}
+use Rattle.mesh_plane.specs.Plane.{Point, length_sq}
 
 -- the greatest number up to `n` that passes the test, 0 where none does
 unfoldable pub greatest : (ℕ → Bool) → ℕ → ℕ

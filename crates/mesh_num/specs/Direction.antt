@@ -1,12 +1,8 @@
 -- Directions: vectors brought to the length `unit`, each component cut towards 0, and their multiples by a radius.
 use Rattle.std.specs.Prelude.{ℕ, ◌≡◌, ◌-◌, ◌*◌, ◌≤◌, ℤ, pos, ◌*ℤ◌, ◌≤ℤ◌, ◌<ℤ◌, unsigned_abs}
-use Rattle.mesh_num.specs.Plane.{Point, opposite, cross, dot, length_sq}
-use Rattle.mesh_num.specs.Rounding.{rounded}
-
--- `k` is 0 or has the sign of `x`, and is 0 where `x` is
-pub record HasSignOf (x k : ℤ) : Type 0 where
-  pub nonneg : pos 0 ≤ℤ x → pos 0 ≤ℤ k
-  pub nonpos : x ≤ℤ pos 0 → k ≤ℤ pos 0
+use Rattle.mesh_plane.specs.Plane.{Point, opposite, cross, dot, length_sq}
+use Rattle.mesh_plane.specs.Rounding.{rounded}
+use Rattle.mesh_plane.specs.Signs.{HasSignOf}
 
 -- `j / unit` is at most the share of a component of size `size` in a vector with the squared length `square`
 abbrev pub IsShare : ℕ → ℕ → ℕ → ℕ → Type 0

@@ -2,8 +2,8 @@
 use Rattle.std.specs.Prelude.{ℕ, List, map, Option, Some, None, ℤ, ◌≤ℤ◌}
 use Rattle.std.specs.List.{All, Contains}
 use Rattle.std.specs.Int.{int_min, int_max}
-use Rattle.mesh_num.specs.Bounds.{IsSafe}
-use Rattle.mesh_num.specs.Plane.{Point, Edge, plus, minus}
+use Rattle.mesh_plane.specs.Bounds.{IsSafe}
+use Rattle.mesh_plane.specs.Plane.{Point, Edge, plus, minus}
 
 -- the point lies in the closed rectangle of the two corners
 pub record IsInRectangle (corners : Edge) (p : Point) : Type 0 where

@@ -1,9 +1,9 @@
 -- Signed segments: the smaller end, the larger end and a count of 1 or -1 stand for one directed edge.
 use Rattle.std.specs.Prelude.{◌≡◌, ◌⊎◌, cond, not, List, [], ◌∷◌, ◌++◌, map, ℤ, pos, negsuc, int_lt, IsTrue}
 use Rattle.std.specs.List.{filter}
-use Rattle.mesh_num.specs.Plane.{Point, Edge}
-use Rattle.mesh_num.specs.Winding.{same_point}
-use Rattle.mesh_num.specs.Order.{point_lt}
+use Rattle.mesh_plane.specs.Plane.{Point, Edge}
+use Rattle.mesh_plane.specs.Winding.{same_point}
+use Rattle.mesh_plane.specs.Order.{point_lt}
 
 -- the ends of a segment, the smaller first, and its count
 abbrev pub SignedEdge : Type 0

@@ -3,7 +3,7 @@ use Rattle.std.proofs.Common.{◌^◌, arith}
 use Rattle.std.specs.Prelude.{ℤ, FitsSigned}
 use Rattle.std.proofs.lemmas.Int.{ints}
 use mir.Syntax.{w32, w64}
-use Rattle.mesh_num.specs.Bounds.{IsWithin}
+use Rattle.mesh_plane.specs.Bounds.{IsWithin}
 
 -- a number in the range of 32 bits fits them
 pub within_fits_w32 : (z : ℤ) → IsWithin (2 ^ 31) z → FitsSigned w32 z

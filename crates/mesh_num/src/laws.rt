@@ -1,63 +1,10 @@
 //! Laws of the definitions that contracts cite. Each function does nothing: its clause is the law.
 
-ghost use Rattle.mesh_num.specs.Laws.{CrossingsAreOdd, CrossingsAddAlongLines, FlatTrianglesDoNotWind, TrianglesWindOnce, ParallelogramsWindOnce, ClosedListsBalance, ClosedListsTelescope, DirectionsAreUnique, LengthsAreProducts, RoundedIsNearest, RoundedIsOdd, RoundedIsMonotone};
+ghost use Rattle.mesh_num.specs.Laws.{DirectionsAreUnique};
 
-/// An edge and the same edge back cross nothing together.
-pub fn crossings_are_odd()
-    ensures { CrossingsAreOdd }
-{}
-
-/// A point on the line of an edge parts it into two edges that cross what it crosses.
-pub fn crossings_add_along_lines()
-    ensures { CrossingsAddAlongLines }
-{}
-
-/// A triangle with its corners on one line winds round no point.
-pub fn flat_triangles_do_not_wind()
-    ensures { FlatTrianglesDoNotWind }
-{}
-
-/// A triangle that does not turn right winds once round a point or not at all.
-pub fn triangles_wind_once()
-    ensures { TrianglesWindOnce }
-{}
-
-/// A parallelogram that does not turn right winds once round a point or not at all.
-pub fn parallelograms_wind_once()
-    ensures { ParallelogramsWindOnce }
-{}
-
-/// At each point as many edges of a closed list start as end.
-pub fn closed_lists_balance()
-    ensures { ClosedListsBalance }
-{}
-
-/// The steps of any measure of points round a closed list add up to 0.
-pub fn closed_lists_telescope()
-    ensures { ClosedListsTelescope }
-{}
+pub use mesh_plane::laws::{closed_lists_balance, closed_lists_telescope, crossings_add_along_lines, crossings_are_odd, flat_triangles_do_not_wind, lengths_are_products, parallelograms_wind_once, rounded_is_monotone, rounded_is_nearest, rounded_is_odd, triangles_wind_once};
 
 /// A vector other than 0 has one direction.
 pub fn directions_are_unique()
     ensures { DirectionsAreUnique }
-{}
-
-/// The square of a length is the vector's product with itself.
-pub fn lengths_are_products()
-    ensures { LengthsAreProducts }
-{}
-
-/// A rounded quotient is the nearest whole number, halves away from 0.
-pub fn rounded_is_nearest()
-    ensures { RoundedIsNearest }
-{}
-
-/// The opposite number has the opposite rounded quotient.
-pub fn rounded_is_odd()
-    ensures { RoundedIsOdd }
-{}
-
-/// A greater number has no smaller rounded quotient.
-pub fn rounded_is_monotone()
-    ensures { RoundedIsMonotone }
 {}

@@ -10,11 +10,11 @@ use Rattle.std.proofs.lemmas.Int.{ints}
 use Rattle.std.proofs.lemmas.List.{get_or-map, length-map, map-append, take_more}
 use Rattle.std.proofs.lemmas.Slice.Zip.{all_zipped_more}
 use Rattle.mesh_num.specs.Paths.{paths_of}
-use Rattle.mesh_num.specs.Plane.{Point, Edge}
+use Rattle.mesh_plane.specs.Plane.{Point, Edge}
 use Rattle.mesh_num.specs.Rectangle.{IsSafeWidened}
 use Rattle.mesh_join.specs.Joins.{bevel_padding}
-use Rattle.mesh_below.specs.Contours.{double_area}
-use Rattle.mesh_below.specs.Resolution.{Choices}
+use Rattle.mesh_shapes.specs.Contours.{double_area}
+use Rattle.mesh_shapes.specs.Resolution.{Choices}
 use Rattle.i_overlay_mesh.specs.Building.{IsMovable, bevelled_edges}
 use Rattle.i_overlay_mesh.specs.Padding.{outline_padding}
 use Rattle.i_overlay_mesh.specs.Resolved.{DoAreasFit, IsOutline}

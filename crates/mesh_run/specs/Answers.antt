@@ -6,7 +6,7 @@ use Rattle.serde_json.specs.Data.{Data, number, array, object, item, no_items, m
 use Rattle.serde_json.specs.Find.{of_integer}
 use Rattle.serde_json.specs.View.{items_of}
 use Rattle.serde_json.specs.Written.{compact_text}
-use Rattle.mesh_num.specs.Plane.{Point, Edge}
+use Rattle.mesh_plane.specs.Plane.{Point, Edge}
 
 -- the order of points by an order of their coordinates: by x, then by y
 abbrev pub point_order : (ℤ → ℤ → Ordering) → Point → Point → Ordering

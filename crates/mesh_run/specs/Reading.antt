@@ -4,9 +4,9 @@ use Rattle.std.specs.Prelude.{ℕ, ◌*◌, ◌^◌, ◌&&◌, ◌||◌, Bool, f
 use Rattle.std.specs.Str.{bytes_eq}
 use Rattle.serde_json.specs.Data.{Data, Items, no_items, item}
 use Rattle.serde_json.specs.Find.{get, as_number, as_i64, as_u64, as_bool, as_str, as_array, as_object}
-use Rattle.mesh_num.specs.Plane.{Point}
+use Rattle.mesh_plane.specs.Plane.{Point}
 use Rattle.mesh_below.specs.Options.{plain}
-use Rattle.mesh_below.specs.Resolution.{Choices}
+use Rattle.mesh_shapes.specs.Resolution.{Choices}
 use Rattle.i_overlay_mesh.specs.declared.error.IntOutlineError.TheVariants.{CoordinateOutOfRange, OutOfMemory}
 use Rattle.mesh_run.specs.Requests.{Asked, edges, shapes, Request}
 use Rattle.mesh_run.specs.declared.failure.Failure.{Failure}

@@ -1,8 +1,8 @@
 -- Requests that are served.
 use Rattle.std.specs.Prelude.{ℕ, ℤ, List}
-use Rattle.mesh_num.specs.Plane.{Point}
+use Rattle.mesh_plane.specs.Plane.{Point}
 use Rattle.mesh_below.specs.Options.{choices_of}
-use Rattle.mesh_below.specs.Resolution.{Choices}
+use Rattle.mesh_shapes.specs.Resolution.{Choices}
 use Rattle.mesh_run.specs.declared.outline.Output.{Output}
 
 -- what is asked of an outline: the edges of each path, or the shapes of all paths with these choices

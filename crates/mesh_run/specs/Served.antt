@@ -3,9 +3,9 @@ use Rattle.std.specs.Prelude.{ℕ, ◌≡◌, ◌*◌, List, [], cond, ℤ, pos,
 use Rattle.std.specs.List.{AllZip}
 use Rattle.std.specs.List.Sorted.{IsPermutation, IsSorted}
 use Rattle.std.specs.declared.cmp.Ordering.{Ordering}
-use Rattle.mesh_num.specs.Plane.{Point, Edge}
-use Rattle.mesh_below.specs.Contours.{double_area}
-use Rattle.mesh_below.specs.Resolution.{Choices}
+use Rattle.mesh_plane.specs.Plane.{Point, Edge}
+use Rattle.mesh_shapes.specs.Contours.{double_area}
+use Rattle.mesh_shapes.specs.Resolution.{Choices}
 use Rattle.i_overlay_mesh.specs.Building.{bevelled_edges}
 use Rattle.i_overlay_mesh.specs.Padding.{outline_padding, ArePathsSafe}
 use Rattle.i_overlay_mesh.specs.Resolved.{DoAreasFit, IsOutline}

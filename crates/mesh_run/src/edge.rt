@@ -20,7 +20,7 @@ pub struct DirectedEdge<I: OverlayInt> {
 }
 
 impl<I: OverlayInt> Model for DirectedEdge<I> {
-    ghost use Rattle.mesh_num.specs.Plane.{Edge};
+    ghost use Rattle.mesh_plane.specs.Plane.{Edge};
 
     ghost Value = { Edge };
 

@@ -3,7 +3,7 @@ use Rattle.std.proofs.Common.{List, [], ◌∷◌, arith, lit<, ℕ}
 use Rattle.std.specs.Prelude.{ℤ, pos, ◌≤ℤ◌}
 use Rattle.std.specs.List.{All}
 use Rattle.std.proofs.lemmas.Int.{ints}
-use Rattle.mesh_num.specs.Plane.{Point}
+use Rattle.mesh_plane.specs.Plane.{Point}
 use Rattle.mesh_join.specs.Joins.{bevel_padding}
 use Rattle.i_overlay_mesh.specs.Building.{IsMovable}
 use Rattle.i_overlay_mesh.specs.Padding.{outline_padding, ArePathsSafe}

@@ -1,6 +1,6 @@
 use Rattle.std.proofs.Common.{List, subst}
 use Rattle.mesh_num.specs.Segments.{SignedEdge, edges_of}
-use Rattle.mesh_num.specs.Winding.{IsBalanced}
+use Rattle.mesh_plane.specs.Winding.{IsBalanced}
 use Rattle.mesh_bench.proofs.resolve.Goals as goal
 
 pub overlay-requires-clause-balanced : goal.overlay-requires-clause-balanced

@@ -2,7 +2,7 @@
 
 ghost use Rattle.std.specs.Prelude.{◌^◌, IfOk};
 ghost use Rattle.std.specs.List.{All};
-ghost use Rattle.mesh_num.specs.Bounds.{IsSafe};
+ghost use Rattle.mesh_plane.specs.Bounds.{IsSafe};
 
 use super::{UniqueSegment, UniqueSegmentsIter};
 use mesh_num::num::IntPoint;

@@ -2,7 +2,7 @@
 
 ghost use Rattle.std.specs.Prelude.{◌≡◌, ℕ, ◌*◌, ◌^◌, ◌≤◌, ◌↔◌, IsTrue, pos, unsigned_abs, ◌<ℤ◌};
 ghost use Rattle.std.specs.Int.{int_min, int_max};
-ghost use Rattle.mesh_num.specs.Bounds.{IsWithin};
+ghost use Rattle.mesh_plane.specs.Bounds.{IsWithin};
 
 use crate::num::number::{IntNumber, WideNumber};
 

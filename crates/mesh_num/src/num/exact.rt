@@ -1,7 +1,7 @@
 //! Exact sums of products in 128 bits, apart from any coordinate type.
 
 ghost use Rattle.std.specs.Prelude.{◌≡◌, ℕ, ◌*◌, ◌^◌, ◌<◌, ℤ, unsigned_abs};
-ghost use Rattle.mesh_num.specs.Plane.{length_sq};
+ghost use Rattle.mesh_plane.specs.Plane.{length_sq};
 
 /// `x * x + y * y`.
 pub(crate) fn square_sum(x: i128, y: i128) -> u128

@@ -1,8 +1,8 @@
 //! Points of the grid and vectors between them.
 
 ghost use Rattle.std.specs.Prelude.{◌≡◌, ℕ, ◌+◌, ◌*◌, ℤ, ◌-ℤ◌};
-ghost use Rattle.mesh_num.specs.Plane.{minus, cross, dot, length_sq};
-ghost use Rattle.mesh_num.specs.Bounds.{IsSafe};
+ghost use Rattle.mesh_plane.specs.Plane.{minus, cross, dot, length_sq};
+ghost use Rattle.mesh_plane.specs.Bounds.{IsSafe};
 
 use crate::num::exact::square_sum;
 use crate::num::number::{IntNumber, WideNumber, WideUnsigned};

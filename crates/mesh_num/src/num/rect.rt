@@ -2,7 +2,7 @@
 
 ghost use Rattle.std.specs.Prelude.{◌≡◌, ◌↔◌, ℤ, List, [], ◌∷◌, ◌++◌, map, IsTrue, MatchOption, IsNone};
 ghost use Rattle.std.specs.Iterator.{Drains, IsFinite};
-ghost use Rattle.mesh_num.specs.Bounds.{IsSmall};
+ghost use Rattle.mesh_plane.specs.Bounds.{IsSmall};
 ghost use Rattle.mesh_num.specs.Rectangle.{IsBounds, IsSafeRectangle, extended, grown};
 
 use crate::num::convert::{greater, lesser, unit, widen};

@@ -1,8 +1,8 @@
 //! Directions of vectors and their multiples, in 128 bits and apart from any coordinate type.
 
 ghost use Rattle.std.specs.Prelude.{◌≡◌, ℕ, ◌*◌, ◌^◌, ◌<◌, ◌≤◌, ℤ, unsigned_abs, MatchOption, IfSome};
-ghost use Rattle.mesh_num.specs.Plane.{length_sq};
-ghost use Rattle.mesh_num.specs.Rounding.{rounded};
+ghost use Rattle.mesh_plane.specs.Plane.{length_sq};
+ghost use Rattle.mesh_plane.specs.Rounding.{rounded};
 ghost use Rattle.mesh_num.specs.Direction.{IsShare, IsPart, IsDirection, IsShort, scaled};
 
 use crate::num::exact::square_sum;

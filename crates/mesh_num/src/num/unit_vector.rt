@@ -1,8 +1,8 @@
 //! Directions: vectors brought to the length `UNIT`.
 
 ghost use Rattle.std.specs.Prelude.{◌≡◌, ℕ, ◌*◌, ◌≤◌, ◌↔◌, ℤ, pos, unsigned_abs, IsTrue, IsNone, IfSome, MatchOption};
-ghost use Rattle.mesh_num.specs.Bounds.{IsSafe};
-ghost use Rattle.mesh_num.specs.Plane.{length_sq};
+ghost use Rattle.mesh_plane.specs.Bounds.{IsSafe};
+ghost use Rattle.mesh_plane.specs.Plane.{length_sq};
 ghost use Rattle.mesh_num.specs.Direction.{IsDirection, IsFresh, IsShort, IsOdd, SameWay, KeepsTurns, KeepsScaledTurns, scaled, scaled_direction};
 
 use crate::num::convert::{narrow, unit, widen};

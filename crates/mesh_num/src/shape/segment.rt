@@ -2,7 +2,7 @@
 
 ghost use Rattle.std.specs.Prelude.{◌≡◌, ◌≢◌, ℤ, List, OnOk, OnErr, IsOk, ◌++◌};
 ghost use Rattle.mesh_num.specs.Segments.{edge_of, subject_of, segment_between, IsSubject, SignedEdge};
-ghost use Rattle.mesh_num.specs.Plane.{Point};
+ghost use Rattle.mesh_plane.specs.Plane.{Point};
 
 use crate::num::number::IntNumber;
 use crate::num::point::IntPoint;

@@ -1,11 +1,11 @@
 use Rattle.std.proofs.Common.{◌≡◌, ℕ, List, refl, sym, ◌∙◌, subst}
 use Rattle.std.proofs.lemmas.Bool.{false≢true}
 use Rattle.std.proofs.lemmas.Result.{IfOk-weaker}
-use Rattle.mesh_num.specs.Plane.{Edge}
+use Rattle.mesh_plane.specs.Plane.{Edge}
 use Rattle.mesh_num.specs.Segments.{edges_of}
-use Rattle.mesh_num.specs.Winding.{IsBalanced}
+use Rattle.mesh_plane.specs.Winding.{IsBalanced}
 use Rattle.mesh_below.specs.Asked.{AreResolvable}
-use Rattle.mesh_below.specs.Reach.{AreEdgesSafe}
+use Rattle.mesh_cuts.specs.Reach.{AreEdgesSafe}
 use Rattle.mesh_below.proofs.checks.are_resolvable.Goals as goal
 
 pub returns-then-not-are_safe : goal.returns-then-not-are_safe

@@ -1,6 +1,6 @@
 use Rattle.std.proofs.Common.{refl}
-use Rattle.mesh_num.specs.Bounds.{IsSafe}
-use Rattle.mesh_num.specs.Plane.{Edge}
+use Rattle.mesh_plane.specs.Bounds.{IsSafe}
+use Rattle.mesh_plane.specs.Plane.{Edge}
 use Rattle.mesh_below.proofs.Asking.{all_more, all_taken}
 use Rattle.mesh_below.proofs.checks.are_safe.Goals as goal
 

@@ -1,5 +1,5 @@
 use Rattle.std.proofs.Common.{◌≡◌, map, take}
-use Rattle.mesh_num.specs.Plane.{Edge}
+use Rattle.mesh_plane.specs.Plane.{Edge}
 use Rattle.mesh_below.proofs.checks.start_alike.Given as goal
 
 abbrev pub invariant-loop-i : goal.invariant-loop-i

@@ -1,8 +1,8 @@
 use Rattle.std.proofs.Common.{subst, sym, ap, ◌∙◌, List}
 use Rattle.std.proofs.lemmas.List.{take_all}
-use Rattle.mesh_num.specs.Plane.{Edge}
+use Rattle.mesh_plane.specs.Plane.{Edge}
 use Rattle.mesh_num.specs.Segments.{SignedEdge, edges_of}
-use Rattle.mesh_below.specs.Clean.{IsProper}
+use Rattle.mesh_cuts.specs.Clean.{IsProper}
 use Rattle.mesh_below.proofs.Subjects.{subjects_proper}
 use Rattle.mesh_below.proofs.given.grid_edges.Goals as goal
 

@@ -2,18 +2,18 @@ use Rattle.std.proofs.Common.{◌≡◌, false, List, sym, subst}
 use Rattle.std.specs.Prelude.{Vec}
 use Rattle.std.specs.List.{All}
 use Rattle.std.specs.declared.alloc.Global.{Global}
-use Rattle.mesh_num.specs.Plane.{Point, Edge}
-use Rattle.mesh_num.specs.Winding.{same_point}
+use Rattle.mesh_plane.specs.Plane.{Point, Edge}
+use Rattle.mesh_plane.specs.Winding.{same_point}
 use Rattle.mesh_below.proofs.AnswerRegions.{filled_none}
 use Rattle.mesh_below.proofs.Resolving.{parted_balanced, boundary_proper, same_boundary, resolved}
 use Rattle.mesh_below.proofs.resolve.resolve.Goals as goal
-use Rattle.mesh_below.specs.Boundary.{IsBoundary}
-use Rattle.mesh_below.specs.Counted.{Counted, IsCountOf}
-use Rattle.mesh_below.specs.FillRules.{filled}
-use Rattle.mesh_below.specs.Grouping.{AreRingsOf}
-use Rattle.mesh_below.specs.Resolution.{Choices}
-use Rattle.mesh_below.specs.Split.{after}
-use Rattle.mesh_below.specs.Unused.{contour_edges}
+use Rattle.mesh_cuts.specs.Boundary.{IsBoundary}
+use Rattle.mesh_cuts.specs.Counted.{Counted, IsCountOf}
+use Rattle.mesh_cuts.specs.FillRules.{filled}
+use Rattle.mesh_shapes.specs.Grouping.{AreRingsOf}
+use Rattle.mesh_shapes.specs.Resolution.{Choices}
+use Rattle.mesh_cuts.specs.Split.{after}
+use Rattle.mesh_shapes.specs.Unused.{contour_edges}
 
 pub contours-requires : goal.contours-requires
 contours-requires c =

@@ -1,7 +1,7 @@
 use Rattle.std.proofs.Common.{◌≡◌, true, false, ◌∷◌, sym, ◌∙◌, ap, subst}
 use Rattle.std.proofs.lemmas.List.Elements.{All-rest}
-use Rattle.mesh_num.specs.Bounds.{IsSafe}
-use Rattle.mesh_num.specs.Winding.{same_point}
+use Rattle.mesh_plane.specs.Bounds.{IsSafe}
+use Rattle.mesh_plane.specs.Winding.{same_point}
 use Rattle.std.specs.List.{All}
 use Rattle.mesh_join.specs.Cleaned.{cleaned_sections}
 use Rattle.mesh_join.proofs.CleaningSteps.{equal_on, unequal_on, sections_on, differs}

@@ -1,7 +1,7 @@
 use Rattle.std.proofs.Common.{◌≡◌, ◌∷◌, length}
 use Rattle.std.specs.List.{All}
-use Rattle.mesh_num.specs.Plane.{Point}
-use Rattle.mesh_num.specs.Bounds.{IsSafe}
+use Rattle.mesh_plane.specs.Plane.{Point}
+use Rattle.mesh_plane.specs.Bounds.{IsSafe}
 use Rattle.mesh_join.specs.Cleaned.{cleaned_sections}
 use Rattle.mesh_join.proofs.uniq_iter.first_other.Given as goal
 

@@ -1,5 +1,5 @@
 use Rattle.std.proofs.Common.{◌∷◌, sym, ◌∙◌}
-use Rattle.mesh_num.specs.Bounds.{IsSafe}
+use Rattle.mesh_plane.specs.Bounds.{IsSafe}
 use Rattle.mesh_join.specs.Cleaned.{open_sections}
 use Rattle.mesh_join.proofs.CleaningSteps.{open_kept, open_on, first_of_all, second_of_all, next_of_all, all_without_first, all_without_second}
 use Rattle.mesh_join.proofs.uniq_iter.straight_on.Goals as goal

@@ -1,6 +1,6 @@
 use Rattle.std.proofs.Common.{◌≡◌, ◌∷◌, length}
 use Rattle.std.specs.List.{All}
-use Rattle.mesh_num.specs.Bounds.{IsSafe}
+use Rattle.mesh_plane.specs.Bounds.{IsSafe}
 use Rattle.mesh_join.specs.Cleaned.{open_sections}
 use Rattle.mesh_join.proofs.uniq_iter.straight_on.Given as goal
 

@@ -2,7 +2,7 @@
 use Rattle.std.proofs.Common.{◌*◌, arith, rules}
 use mir.Syntax.{w128}
 use mir.Val.{to_z, of_z}
-use Rattle.mesh_num.specs.Bounds.{IsWithin}
+use Rattle.mesh_plane.specs.Bounds.{IsWithin}
 use Rattle.mesh_run.proofs.Ranges.{within_wide}
 use Rattle.mesh_run.proofs.coordinate.narrowed.Goals as goal
 

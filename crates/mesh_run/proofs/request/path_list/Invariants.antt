@@ -1,7 +1,7 @@
 use Rattle.std.proofs.Common.{◌≡◌, List, ◌++◌, drop, option_map}
 use Rattle.serde_json.specs.View.{items_view}
 use Rattle.mesh_num.specs.Paths.{paths_of}
-use Rattle.mesh_num.specs.Plane.{Point}
+use Rattle.mesh_plane.specs.Plane.{Point}
 use Rattle.mesh_run.specs.Reading.{path_list_of}
 use Rattle.mesh_run.proofs.request.path_list.Given as goal
 

@@ -1,6 +1,6 @@
 use Rattle.std.proofs.Common.{◌≡◌, List, ◌++◌, drop, option_map}
 use Rattle.serde_json.specs.View.{items_view}
-use Rattle.mesh_num.specs.Plane.{Point}
+use Rattle.mesh_plane.specs.Plane.{Point}
 use Rattle.mesh_run.specs.Reading.{points_of}
 use Rattle.mesh_run.proofs.request.points.Given as goal
 

@@ -3,14 +3,14 @@ use Rattle.std.specs.Prelude.{Vec}
 use Rattle.std.specs.declared.alloc.Global.{Global}
 use Rattle.std.proofs.lemmas.Result.{IfOk-weaker}
 use Rattle.mesh_num.specs.Paths.{shapes_of}
-use Rattle.mesh_num.specs.Plane.{Point, Edge}
+use Rattle.mesh_plane.specs.Plane.{Point, Edge}
 use Rattle.mesh_num.specs.Segments.{SignedEdge, edges_of}
-use Rattle.mesh_num.specs.Winding.{IsBalanced}
-use Rattle.mesh_below.specs.Clean.{IsProper}
-use Rattle.mesh_below.specs.FillRules.{filled}
+use Rattle.mesh_plane.specs.Winding.{IsBalanced}
+use Rattle.mesh_cuts.specs.Clean.{IsProper}
+use Rattle.mesh_cuts.specs.FillRules.{filled}
 use Rattle.mesh_below.specs.Options.{choices_of}
-use Rattle.mesh_below.specs.Reach.{ArePointsSafe}
-use Rattle.mesh_below.specs.Resolution.{Choices}
+use Rattle.mesh_cuts.specs.Reach.{ArePointsSafe}
+use Rattle.mesh_shapes.specs.Resolution.{Choices}
 use Rattle.mesh_below.proofs.AnswerRegions.{regions_of, filled_none}
 use Rattle.mesh_below.proofs.AnswerPoints.{answer_safe, same_resolution}
 use Rattle.mesh_below.proofs.below.Overlay.resolved.Goals as goal

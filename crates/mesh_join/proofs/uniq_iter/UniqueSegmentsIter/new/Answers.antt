@@ -1,6 +1,6 @@
 use Rattle.std.proofs.Common.{◌∷◌, sym, ◌∙◌, ap, subst}
-use Rattle.mesh_num.specs.Bounds.{IsSafe}
-use Rattle.mesh_num.specs.Winding.{winding}
+use Rattle.mesh_plane.specs.Bounds.{IsSafe}
+use Rattle.mesh_plane.specs.Winding.{winding}
 use Rattle.mesh_join.specs.Cleaned.{cleaned_sections, AllEqual, IsClean}
 use Rattle.mesh_join.proofs.CleaningStart.{started-cleaned}
 use Rattle.mesh_join.proofs.CleaningSteps.{started_on, started_here, started_never, cleaned-clean, cleaned-winding, equal-winding, all_begun, not_equal, first_of_all, second_of_all, next_of_all, all_without_second, all_closed_here, all_closed}

@@ -1,6 +1,6 @@
 use Rattle.std.proofs.Common.{length, sym, ◌∙◌, ap, rules}
 use Rattle.std.proofs.lemmas.Option.{MatchOption-at_none}
-use Rattle.mesh_num.specs.Bounds.{IsSafe}
+use Rattle.mesh_plane.specs.Bounds.{IsSafe}
 use Rattle.mesh_join.proofs.CleaningSteps.{none_left, ended, ends, all_ended}
 use Rattle.mesh_join.proofs.uniq_iter.UniqueSegmentsIterIterator.next.Goals as goal
 

@@ -1,6 +1,6 @@
 use Rattle.std.proofs.Common.{◌^◌}
 use Rattle.std.specs.List.{All}
-use Rattle.mesh_num.specs.Bounds.{IsSafe}
+use Rattle.mesh_plane.specs.Bounds.{IsSafe}
 use Rattle.mesh_join.proofs.uniq_iter.tests.contour.Given as goal
 
 abbrev pub invariant-loop-at : goal.invariant-loop-at

@@ -1,7 +1,0 @@
-use Rattle.std.proofs.Common.{◌^◌}
-use Rattle.mesh_num.specs.Plane.{cross}
-use Rattle.mesh_below.proofs.AreaSums.{ClosedSum}
-use Rattle.mesh_below.proofs.area.double_area.Given as goal
-
-abbrev pub invariant-loop-i : goal.invariant-loop-i
-invariant-loop-i l = ClosedSum cross (2 ^ 63) l.points l.i l.before l.sum

@@ -1,6 +1,0 @@
-use Rattle.std.proofs.Common.{◌≡◌, ◌++◌, drop}
-use Rattle.mesh_below.specs.Grouping.{views, areas_of}
-use Rattle.mesh_below.proofs.arrange.areas.Given as goal
-
-abbrev pub invariant-loop-r : goal.invariant-loop-r
-invariant-loop-r l = l.areas.items ++ areas_of (views (drop l.r-index l.rings)) ≡ areas_of (views l.rings)

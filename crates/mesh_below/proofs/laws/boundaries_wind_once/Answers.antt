@@ -1,6 +1,0 @@
--- The winding of the boundary.
-use Rattle.mesh_below.proofs.AnswerRegions.{boundary_winds}
-use Rattle.mesh_below.proofs.laws.boundaries_wind_once.Goals as goal
-
-pub returns : goal.returns
-returns c es bs fill split empty is m some q = boundary_winds es bs fill split empty is m some q

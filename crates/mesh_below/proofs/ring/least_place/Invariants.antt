@@ -1,5 +1,0 @@
-use Rattle.mesh_below.specs.Progress.{IsLeastBefore}
-use Rattle.mesh_below.proofs.ring.least_place.Given as goal
-
-abbrev pub invariant-loop-i : goal.invariant-loop-i
-invariant-loop-i l = IsLeastBefore l.contour l.i l.least

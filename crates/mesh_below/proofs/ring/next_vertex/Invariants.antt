@@ -1,7 +1,0 @@
-use Rattle.std.proofs.Common.{◌≡◌, drop}
-use Rattle.mesh_below.specs.Contours.{next_kept}
-use Rattle.mesh_below.specs.Progress.{point_at, next_at}
-use Rattle.mesh_below.proofs.ring.next_vertex.Given as goal
-
-abbrev pub invariant-loop-i : goal.invariant-loop-i
-invariant-loop-i l = next_kept l.all l.before (drop l.i l.contour) (point_at l.contour 0) ≡ next_at l.all l.contour l.at

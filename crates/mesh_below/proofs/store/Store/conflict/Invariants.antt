@@ -1,6 +1,0 @@
-use Rattle.std.proofs.Common.{take}
-use Rattle.mesh_below.specs.Steps.{IsClearOf}
-use Rattle.mesh_below.proofs.store.Store.conflict.Given as goal
-
-abbrev pub invariant-loop-k : goal.invariant-loop-k
-invariant-loop-k l = IsClearOf l.s (take l.k-index l.k-items)

@@ -1,0 +1,118 @@
+//! Exact geometry on the grid that is twice as fine, on which the midpoints of segments stand.
+
+ghost use Rattle.std.specs.Prelude.{◌≡◌, ℕ, ◌^◌, ◌&&◌, ℤ, pos, ◌+ℤ◌, ◌-ℤ◌, ◌*ℤ◌, int_le, int_lt};
+ghost use Rattle.mesh_plane.specs.Bounds.{IsSmall, IsSafe};
+ghost use Rattle.mesh_plane.specs.Plane.{minus, cross, turn};
+ghost use Rattle.mesh_plane.specs.Winding.{crossing, refined};
+ghost use Rattle.mesh_cuts.specs.Boundary.{middle};
+
+use crate::grid::{GridEdge, GridPoint};
+
+/// A point on the fine grid, or a vector between two of them.
+pub type FinePoint = (i128, i128);
+
+fn twice(a: i32) -> i128
+    ensures value { result ≡ pos 2 *ℤ a }
+    ensures size { IsSmall (2 ^ 33) result }
+{
+    2 * a as i128
+}
+
+fn sum(a: i32, b: i32) -> i128
+    ensures value { result ≡ a +ℤ b }
+    ensures size { IsSmall (2 ^ 33) result }
+{
+    a as i128 + b as i128
+}
+
+/// The point on the fine grid.
+pub fn doubled(p: GridPoint) -> FinePoint
+    ensures value { result ≡ refined 2 p }
+    ensures size { IsSafe (2 ^ 33) result }
+{
+    (twice(p.0), twice(p.1))
+}
+
+/// The midpoint of an edge.
+pub fn middle(e: GridEdge) -> FinePoint
+    ensures value { result ≡ middle e }
+    ensures size { IsSafe (2 ^ 33) result }
+{
+    (sum(e.0.0, e.1.0), sum(e.0.1, e.1.1))
+}
+
+fn difference(a: i128, b: i128) -> i128
+    requires a_small { IsSmall (2 ^ 33) a }
+    requires b_small { IsSmall (2 ^ 33) b }
+    ensures value { result ≡ a -ℤ b }
+    ensures size { IsSmall (2 ^ 34) result }
+{
+    a - b
+}
+
+fn minus(p: FinePoint, q: FinePoint) -> FinePoint
+    requires p_small { IsSafe (2 ^ 33) p }
+    requires q_small { IsSafe (2 ^ 33) q }
+    ensures value { result ≡ minus p q }
+    ensures size { IsSafe (2 ^ 34) result }
+{
+    (difference(p.0, q.0), difference(p.1, q.1))
+}
+
+fn product(a: i128, b: i128) -> i128
+    requires a_small { IsSmall (2 ^ 34) a }
+    requires b_small { IsSmall (2 ^ 34) b }
+    ensures value { result ≡ a *ℤ b }
+    ensures size { IsSmall (2 ^ 68) result }
+{
+    a * b
+}
+
+fn cross(v: FinePoint, w: FinePoint) -> i128
+    requires v_small { IsSafe (2 ^ 34) v }
+    requires w_small { IsSafe (2 ^ 34) w }
+    ensures value { result ≡ cross v w }
+    ensures size { IsSmall (2 ^ 69) result }
+{
+    product(v.0, w.1) - product(v.1, w.0)
+}
+
+fn turn(p: FinePoint, r: FinePoint, q: FinePoint) -> i128
+    requires p_small { IsSafe (2 ^ 33) p }
+    requires r_small { IsSafe (2 ^ 33) r }
+    requires q_small { IsSafe (2 ^ 33) q }
+    ensures value { result ≡ turn p r q }
+    ensures size { IsSmall (2 ^ 69) result }
+{
+    cross(minus(r, p), minus(q, p))
+}
+
+/// Whether the height of the point lies in the range from the height of `p` up to that of `r`, the latter excluded.
+fn spans(p: FinePoint, q: FinePoint, r: FinePoint) -> bool
+    ensures { result ≡ (int_le p.1 q.1 && int_lt q.1 r.1) }
+{
+    p.1 <= q.1 && q.1 < r.1
+}
+
+/// How the edge from `p` to `r` crosses the ray from the point to the east: 1 upwards, -1 downwards, else 0.
+pub fn crossing(q: FinePoint, p: FinePoint, r: FinePoint) -> i128
+    requires q_small { IsSafe (2 ^ 33) q }
+    requires p_small { IsSafe (2 ^ 33) p }
+    requires r_small { IsSafe (2 ^ 33) r }
+    ensures value { result ≡ crossing q p r }
+    ensures size { IsSmall 2 result }
+{
+    if spans(p, q, r) {
+        if turn(p, r, q) > 0 {
+            return 1;
+        }
+        return 0;
+    }
+    if spans(r, q, p) {
+        if turn(p, r, q) < 0 {
+            return -1;
+        }
+        return 0;
+    }
+    0
+}

@@ -1,6 +1,0 @@
--- Steps round a closed list.
-use Rattle.mesh_num.proofs.ClosedLists.{boundary_steps}
-use Rattle.mesh_num.proofs.laws.closed_lists_telescope.Goals as goal
-
-pub returns : goal.returns
-returns c f points = boundary_steps f points

@@ -1,6 +1,0 @@
--- Straightness of crossings.
-use Rattle.mesh_num.proofs.Triangles.{crossing_on_straight}
-use Rattle.mesh_num.proofs.laws.crossings_add_along_lines.Goals as goal
-
-pub returns : goal.returns
-returns c m q p r s e = crossing_on_straight m q p r s e

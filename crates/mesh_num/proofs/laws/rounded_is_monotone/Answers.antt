@@ -1,6 +1,0 @@
--- Monotony of rounded quotients.
-use Rattle.mesh_num.proofs.Rounding.{rounded_monotone}
-use Rattle.mesh_num.proofs.laws.rounded_is_monotone.Goals as goal
-
-pub returns : goal.returns
-returns c a b d h l = rounded_monotone a b d h l

@@ -1,0 +1,15 @@
+pub mod Balance
+pub mod ClosedLists
+pub mod Crossings
+pub mod Grids
+pub mod Identities
+pub mod LineTurns
+pub mod Pieces
+pub mod Places
+pub mod Ring
+pub mod Rounding
+pub mod Signs
+pub mod Sizes
+pub mod Sums
+pub mod Triangles
+pub mod Whole

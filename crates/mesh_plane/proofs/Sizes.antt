@@ -1,0 +1,61 @@
+-- Lemmas over whole numbers: sizes, squares and quotients of natural numbers.
+use Rattle.std.proofs.Common.{◌≡◌, ℕ, ◌+◌, ◌*◌, ◌-◌, ◌/◌, ◌<◌, ◌≤◌, refl, arith}
+use Rattle.std.specs.Prelude.{ℤ, pos, negsuc, ◌*ℤ◌, ◌≤ℤ◌, neg_ℤ, unsigned_abs}
+use Rattle.std.proofs.Math.Nat.{mul-le-mul, div-mul-le_self}
+use Rattle.std.proofs.lemmas.Nat.{mul-lt, le-div}
+use Rattle.std.proofs.lemmas.Bool.{cases_lt}
+use Rattle.std.proofs.lemmas.Int.{ints}
+use mathlib.Core.Logic.{⊎_elim}
+use Rattle.mesh_plane.specs.Plane.{Point, dot, opposite, length_sq}
+use Rattle.mesh_plane.proofs.Whole.{linear}
+
+pub le_of_squares : (j k : ℕ) → j * j ≤ k * k → j ≤ k
+le_of_squares j k h = ⊎_elim (λ l. absurd (omega (arith, mul-lt k k j j l l))) (λ l. l) (cases_lt k j)
+
+pub lt_of_squares : (j k : ℕ) → j * j < k * k → j < k
+lt_of_squares j k h =
+    ⊎_elim (λ l. l) (λ l. let m : k * k ≤ j * j = mul-le-mul l l in absurd (omega arith)) (cases_lt j k)
+
+pub two_products : (k l : ℕ) → 2 * (k * l) ≤ k * k + l * l
+two_products k l = ⊎_elim (λ h. from k (l - k) l (omega arith)) (λ h. let p : 2 * (l * k) ≤ l * l + k * k = from l (k - l) k (omega arith) in omega arith) (cases_lt k l)
+  where
+    from : (a d b : ℕ) → b ≡ a + d → 2 * (a * b) ≤ a * a + b * b
+    from a d b e = rw e (omega arith)
+
+pub div_monotone : (m n k : ℕ) → 0 < k → m ≤ n → m / k ≤ n / k
+div_monotone m n k h l = le-div (m / k) n k h (omega (arith, div-mul-le_self m k))
+
+-- ---- the size of a whole number
+
+pub size_neg : (z : ℤ) → unsigned_abs (neg_ℤ z) ≡ unsigned_abs z
+size_neg z = omega (arith, ints)
+
+pub size_square : (z : ℤ) → z *ℤ z ≡ pos (unsigned_abs z * unsigned_abs z)
+size_square (pos n) = refl
+size_square (negsuc n) = refl
+
+pub size_nonneg : (z : ℤ) → pos 0 ≤ℤ z → z ≡ pos (unsigned_abs z)
+size_nonneg z h = omega (arith, ints)
+
+pub size_nonpos : (z : ℤ) → z ≤ℤ pos 0 → z ≡ neg_ℤ (pos (unsigned_abs z))
+size_nonpos z h = omega (arith, ints)
+
+pub le_size : (z : ℤ) (n : ℕ) → unsigned_abs z ≤ n → z ≤ℤ pos n
+le_size z n h = omega (arith, ints)
+
+pub neg_le_size : (z : ℤ) (n : ℕ) → unsigned_abs z ≤ n → neg_ℤ (pos n) ≤ℤ z
+neg_le_size z n h = omega (arith, ints)
+
+pub size_le : (z : ℤ) (n : ℕ) → z ≤ℤ pos n → neg_ℤ (pos n) ≤ℤ z → unsigned_abs z ≤ n
+size_le z n h k = omega (arith, ints)
+
+pub size_zero : (z : ℤ) → unsigned_abs z ≡ 0 → z ≡ pos 0
+size_zero z h = omega (arith, ints)
+
+-- ---- the squared length of a vector
+
+pub dot_self : (v : Point) → dot v v ≡ pos (length_sq v)
+dot_self v = omega (arith, linear, size_square v.0, size_square v.1)
+
+pub length_opposite : (v : Point) → length_sq (opposite v) ≡ length_sq v
+length_opposite v = rw (size_neg v.0, size_neg v.1) refl

@@ -1,0 +1,11 @@
+pub mod BoundaryBalance
+pub mod BoundaryFill
+pub mod BoundaryFine
+pub mod BoundaryGrids
+pub mod BoundaryLine
+pub mod BoundaryRegions
+pub mod Inside
+pub mod Line
+pub mod SidesClear
+pub mod SidesConstant
+pub mod SidesPotential

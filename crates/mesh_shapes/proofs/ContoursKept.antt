@@ -1,0 +1,84 @@
+-- Lemmas over points and lists: a closed list without the points that it runs straight through winds as the whole list.
+use Rattle.std.proofs.Common.{◌≡◌, ℕ, ◌⊎◌, inl, inr, Bool, true, false, cond, not, List, [], ◌∷◌, refl, sym, ◌∙◌, ap, subst, arith}
+use Rattle.std.specs.Prelude.{ℤ, pos, neg_ℤ, ◌+ℤ◌, int_lt}
+use Rattle.std.specs.Ordering.{int_eq}
+use Rattle.std.proofs.lemmas.Bool.{or_parts}
+use Rattle.std.proofs.lemmas.Bool.Decides.{Decides-int_eq}
+use Rattle.mesh_plane.specs.Plane.{Point, Edge, turn, minus, cross, dot}
+use Rattle.mesh_plane.specs.Winding.{total, route, boundary, winding, IsStraight, crossing_on}
+use Rattle.mesh_plane.proofs.Whole.{linear}
+use Rattle.mesh_plane.proofs.Ring.{ring, lit, neg}
+use Rattle.mesh_plane.proofs.Crossings.{turn_swap, turn_cycle}
+use Rattle.mesh_plane.proofs.Triangles.{crossing_on_straight}
+use Rattle.mesh_shapes.specs.Contours.{is_corner, first_or, corners, vertices}
+use Rattle.mesh_plane.proofs.Places.{place, coordinates, turned, crossed, apart}
+use Rattle.mesh_cuts.proofs.Each.{Each}
+use Rattle.mesh_plane.proofs.LineTurns.{line_turn}
+
+-- the two ends of an edge differ
+abbrev pub Proper : Edge → Type 0
+Proper e = e.0 ≡ e.1 → ⊥
+
+-- at a point that is no corner the way runs on a line
+pub straight_turn : (a p n : Point) → is_corner a p n ≡ false → turn a p n ≡ pos 0
+straight_turn a p n h =
+    let flat : cross (minus p a) (minus p n) ≡ pos 0 =
+    (Decides-int_eq (cross (minus p a) (minus p n)) (pos 0)).0
+    (not_false (int_eq (cross (minus p a) (minus p n)) (pos 0)) (or_parts (not (int_eq (cross (minus p a) (minus p n)) (pos 0))) (int_lt (pos 0) (dot (minus p a) (minus p n))) h).0) in
+    let same : turn a p n ≡ neg_ℤ (cross (minus p a) (minus p n)) =
+    ring (coordinates (a ∷ p ∷ n ∷ []) []) (turned (place 0) (place 1) (place 2)) (neg (crossed (apart (place 1) (place 0)) (apart (place 1) (place 2)))) refl in
+    omega (arith, linear, same, flat)
+  where
+    not_false : (b : Bool) → not b ≡ false → b ≡ true
+    not_false true h = refl
+    not_false false h = sym h
+
+-- `k` is `a`, or on a line with `a` and the next point
+abbrev Onward : Point → Point → Point → Type 0
+Onward k a n = (k ≡ a) ⊎ (turn k a n ≡ pos 0)
+
+onward_step : (k a x n : Point) → (a ≡ x → ⊥) → Onward k a x → turn a x n ≡ pos 0 → turn k x n ≡ pos 0
+onward_step k a x n differ (inl e) h = subst (λ (p : Point). turn p x n ≡ pos 0) (sym e) h
+onward_step k a x n differ (inr e) h =
+    let back : x ≡ a → ⊥ = λ (s : x ≡ a). differ (sym s) in
+    let first : turn x a k ≡ pos 0 = omega (arith, linear, turn_cycle k a x, turn_swap a x k, turn_cycle x a k, turn_cycle a k x, turn_swap x k a) in
+    let second : turn x a n ≡ pos 0 = omega (arith, linear, turn_cycle a x n, turn_cycle x n a, turn_swap x a n) in
+    let line : turn k n x ≡ pos 0 = line_turn k n x a back first second in
+    omega (arith, linear, turn_swap k x n)
+
+module _ (f : Point → Point → ℤ) (straight : IsStraight f) where
+  none : (p : Point) → f p p ≡ pos 0
+  none p = omega (arith, linear, straight p p p (flat p))
+    where
+      flat : (p : Point) → turn p p p ≡ pos 0
+      flat p = ring (coordinates (p ∷ []) []) (turned (place 0) (place 0) (place 0)) (lit (pos 0)) refl
+
+  onward_sum : (k a n : Point) → Onward k a n → f k a +ℤ f a n ≡ f k n
+  onward_sum k a n (inl e) = ap (λ (p : Point). f p a +ℤ f a n) e ∙ (omega (arith, linear, none a) ∙ ap (λ (p : Point). f p n) (sym e))
+  onward_sum k a n (inr e) = straight k a n e
+
+  corner_sum : (k a : Point) (xs : List Point) (z : Point) → Each Proper (route a xs z) → Onward k a (first_or z xs) →
+      f k a +ℤ total f (route a xs z) ≡ total f (route k (corners a xs z) z)
+  corner_sum k a [] z proper on = omega (arith, linear, onward_sum k a z on)
+  corner_sum k a (x ∷ xs) z proper on =
+      by (is_corner a x (first_or z xs)) refl (corner_sum x x xs z) (corner_sum k x xs z)
+    where
+      by : (b : Bool) → is_corner a x (first_or z xs) ≡ b →
+          (Each Proper (route x xs z) → Onward x x (first_or z xs) → f x x +ℤ total f (route x xs z) ≡ total f (route x (corners x xs z) z)) →
+          (Each Proper (route x xs z) → Onward k x (first_or z xs) → f k x +ℤ total f (route x xs z) ≡ total f (route k (corners x xs z) z)) →
+          f k a +ℤ (f a x +ℤ total f (route x xs z)) ≡ total f (route k (cond b (x ∷ corners x xs z) (corners x xs z)) z)
+      by true h own further = omega (arith, linear, onward_sum k a x on, own proper.1 (inl refl), none x)
+      by false h own further =
+          let next : turn k x (first_or z xs) ≡ pos 0 = onward_step k a x (first_or z xs) proper.0 on (straight_turn a x (first_or z xs) h) in
+          omega (arith, linear, onward_sum k a x on, further proper.1 (inr next))
+
+  -- the answered vertices have the sum of the whole contour
+  pub vertices_sum : (all : Bool) (contour : List Point) → Each Proper (boundary contour) → total f (boundary (vertices all contour)) ≡ total f (boundary contour)
+  vertices_sum all [] proper = refl
+  vertices_sum true (p ∷ xs) proper = refl
+  vertices_sum false (p ∷ xs) proper = sym (omega (arith, linear, corner_sum p p xs p proper (inl refl), none p))
+
+-- the answered vertices wind as the whole contour
+pub vertices_winding : (all : Bool) (contour : List Point) (m : ℕ) (q : Point) → Each Proper (boundary contour) →
+    winding m q (boundary (vertices all contour)) ≡ winding m q (boundary contour)
+vertices_winding all contour m q proper = vertices_sum (crossing_on m q) (λ (p r s : Point) (e : turn p r s ≡ pos 0). crossing_on_straight m q p r s e) all contour proper

@@ -1,0 +1,346 @@
+-- Lemmas over points and lists: rings in order, and where each of them belongs.
+use Rattle.std.proofs.Common.{◌≡◌, ℕ, ◌+◌, ◌<◌, ◌≤◌, ⊎_elim, zero, suc, Bool, true, false, cond, not, ◌||◌, ◌&&◌, List, [], ◌∷◌, map, length, drop, get_or, below_more, refl, sym, ◌∙◌, ap, subst, arith}
+use Rattle.std.specs.Prelude.{ℤ, pos, ◌≤ℤ◌, ◌<ℤ◌, int_lt, nat_eq, Option, Some, None, MatchOption}
+use Rattle.std.specs.Ordering.{int_eq, int_cmp, ordering_then, is_lt, is_eq}
+use Rattle.std.specs.declared.cmp.Ordering.{Ordering}
+use Rattle.std.specs.declared.cmp.Ordering.TheVariants.{Less, Equal, Greater}
+use Rattle.std.specs.Cmp.Lexicographic.{slice_cmp}
+use Rattle.std.specs.List.{list_any, enumerate_from}
+use Rattle.std.specs.List.Sorted.{IsSorted, IsSortedBy}
+use Rattle.std.proofs.lemmas.Int.{ints, by_lt_z}
+use Rattle.std.proofs.lemmas.Bool.{cases_Bool, both_ways, and_parts, or_from, eqb-true, eq-eqb}
+use Rattle.std.proofs.lemmas.Bool.Decides.{Decides-int_eq}
+use Rattle.std.proofs.Math.Seq.{drop-cons}
+use Rattle.mesh_plane.specs.Plane.{Point}
+use Rattle.mesh_plane.specs.Order.{point_lt}
+use Rattle.mesh_plane.specs.Winding.{holds}
+use Rattle.mesh_shapes.specs.Contours.{double_area}
+use Rattle.mesh_shapes.specs.Progress.{NoneRound, IsHolder}
+use Rattle.mesh_shapes.specs.Resolution.{Ring, Placed, points_lt, is_positive, is_round, is_before, is_head, stands_with}
+use Rattle.mesh_shapes.specs.Grouping.{Held, view, views, ring_at, placed, areas_of, is_round_at, IsHome, heads, stands}
+
+-- ---- what stands at a place
+get_map : {A B : Type 0} (f : A → B) (xs : List A) (i : ℕ) (d : A) (e : B) → i < length xs → get_or (map f xs) i e ≡ f (get_or xs i d)
+get_map f [] i d e h = absurd (omega arith)
+get_map f (x ∷ xs) zero d e h = refl
+get_map f (x ∷ xs) (suc i) d e h = get_map f xs i d e (omega arith)
+
+pub length_map : {A B : Type 0} (f : A → B) (xs : List A) → length (map f xs) ≡ length xs
+length_map f [] = refl
+length_map f (x ∷ xs) = ap suc (length_map f xs)
+
+pub view_at : (rs : List Held) (i : ℕ) (r : Held) (d : Ring) → i < length rs → get_or (views rs) i d ≡ view (get_or rs i r)
+view_at rs i r d low = get_map view rs i r d low
+
+pub area_at : (rs : List Ring) (areas : List ℤ) (i : ℕ) → areas ≡ areas_of rs → i < length rs → get_or areas i (pos 0) ≡ double_area (ring_at rs i).1.0
+area_at rs areas i e low = ap (λ (l : List ℤ). get_or l i (pos 0)) e ∙ get_map (λ (r : Ring). double_area r.0) rs i ([], (pos 0, pos 0)) (pos 0) low
+
+less_test : (a b : ℤ) → a <ℤ b → int_lt a b ≡ true
+less_test a b h = grind (arith, ints)
+
+not_less_test : (a b : ℤ) → b ≤ℤ a → int_lt a b ≡ false
+not_less_test a b h = grind (arith, ints)
+
+test_less : (a b : ℤ) → int_lt a b ≡ true → a <ℤ b
+test_less a b h = grind (arith, ints)
+
+test_not_less : (a b : ℤ) → int_lt a b ≡ false → b ≤ℤ a
+test_not_less a b h = grind (arith, ints)
+
+pub positive_at : (rs : List Ring) (areas : List ℤ) (i : ℕ) → areas ≡ areas_of rs → i < length rs → int_lt (pos 0) (get_or areas i (pos 0)) ≡ is_positive (ring_at rs i)
+positive_at rs areas i e low = ap (λ (z : ℤ). int_lt (pos 0) z) (area_at rs areas i e low)
+
+-- ---- the order of holders
+abbrev pub area : List Ring → ℕ → ℤ
+area rs i = double_area (ring_at rs i).1.0
+
+pub before_not : (rs : List Ring) (j k : ℕ) → area rs k <ℤ area rs j → is_before (ring_at rs j) (ring_at rs k) ≡ false
+before_not rs j k h =
+    or_from (int_lt (area rs j) (area rs k)) (int_eq (area rs j) (area rs k) && int_lt (pos j) (pos k)) (not_less_test (area rs j) (area rs k) (omega (arith, ints)))
+    (ap (λ (b : Bool). b && int_lt (pos j) (pos k)) (apart (area rs j) (area rs k) h))
+  where
+    apart : (a b : ℤ) → b <ℤ a → int_eq a b ≡ false
+    apart a b l = ⊎_elim (λ (t : int_eq a b ≡ true). absurd (less_apart a b l ((Decides-int_eq a b).0 t))) (λ (f : int_eq a b ≡ false). f) (cases_Bool (int_eq a b))
+      where
+        less_apart : (a b : ℤ) → b <ℤ a → a ≡ b → ⊥
+        less_apart a b l e = omega (arith, ints)
+
+-- a later ring of no less area is not before
+later_not : (rs : List Ring) (j k : ℕ) → area rs k ≤ℤ area rs j → k ≤ j → is_before (ring_at rs j) (ring_at rs k) ≡ false
+later_not rs j k h l =
+    or_from (int_lt (area rs j) (area rs k)) (int_eq (area rs j) (area rs k) && int_lt (pos j) (pos k)) (not_less_test (area rs j) (area rs k) h)
+    (ap (λ (b : Bool). int_eq (area rs j) (area rs k) && b) (places j k l) ∙ and_false (int_eq (area rs j) (area rs k)))
+  where
+    places : (j k : ℕ) → k ≤ j → int_lt (pos j) (pos k) ≡ false
+    places j k l = not_less_test (pos j) (pos k) (omega (arith, ints))
+
+    and_false : (b : Bool) → (b && false) ≡ false
+    and_false true = refl
+    and_false false = refl
+
+-- what is not before another has no less area
+not_before_area : (rs : List Ring) (j k : ℕ) → is_before (ring_at rs j) (ring_at rs k) ≡ false → area rs k ≤ℤ area rs j
+not_before_area rs j k h =
+    by_lt_z (area rs j) (area rs k)
+    (λ (l : area rs j <ℤ area rs k). absurd (both_ways (is_before (ring_at rs j) (ring_at rs k)) h (ap (λ (b : Bool). b || (int_eq (area rs j) (area rs k) && int_lt (pos j) (pos k))) (less_test (area rs j) (area rs k) l))))
+    (λ (l : area rs k ≤ℤ area rs j). l)
+
+-- of two places one ring is before the other
+one_before : (rs : List Ring) (j k : ℕ) → (j ≡ k → ⊥) → is_before (ring_at rs j) (ring_at rs k) ≡ false → is_before (ring_at rs k) (ring_at rs j) ≡ true
+one_before rs j k differ h =
+    let le = not_before_area rs j k h in
+    by_lt_z (area rs k) (area rs j)
+    (λ (l : area rs k <ℤ area rs j). ap (λ (b : Bool). b || (int_eq (area rs k) (area rs j) && int_lt (pos k) (pos j))) (less_test (area rs k) (area rs j) l))
+    (λ (l : area rs j ≤ℤ area rs k).
+    let e : area rs k ≡ area rs j = both (area rs k) (area rs j) le l in
+    let same : int_eq (area rs k) (area rs j) ≡ true = (Decides-int_eq (area rs k) (area rs j)).1 e in
+    let same' : int_eq (area rs j) (area rs k) ≡ true = (Decides-int_eq (area rs j) (area rs k)).1 (sym e) in
+    (λ i. not_less_test (area rs k) (area rs j) l i || (same i && by_place same' i)))
+  where
+    both : (a b : ℤ) → a ≤ℤ b → b ≤ℤ a → a ≡ b
+    both a b x y = omega (arith, ints)
+
+    less_places : (j k : ℕ) → (j ≡ k → ⊥) → int_lt (pos j) (pos k) ≡ false → int_lt (pos k) (pos j) ≡ true
+    less_places j k n f = less_test (pos k) (pos j) (apart j k n (test_not_less (pos j) (pos k) f))
+      where
+        apart : (j k : ℕ) → (j ≡ k → ⊥) → pos k ≤ℤ pos j → pos k <ℤ pos j
+        apart j k n l = by_lt_z (pos k) (pos j) (λ (x : pos k <ℤ pos j). x) (λ (x : pos j ≤ℤ pos k). absurd (n (omega (arith, ints))))
+
+    by_place : int_eq (area rs j) (area rs k) ≡ true → int_lt (pos k) (pos j) ≡ true
+    by_place s =
+        less_places j k differ
+        (⊎_elim
+        (λ (t : int_lt (pos j) (pos k) ≡ true).
+        absurd (both_ways (is_before (ring_at rs j) (ring_at rs k)) h (or_second (int_lt (area rs j) (area rs k)) (int_eq (area rs j) (area rs k) && int_lt (pos j) (pos k)) (λ i. s i && t i))))
+        (λ (f : int_lt (pos j) (pos k) ≡ false). f) (cases_Bool (int_lt (pos j) (pos k))))
+      where
+        or_second : (a b : Bool) → b ≡ true → (a || b) ≡ true
+        or_second true b h = refl
+        or_second false b h = h
+
+-- ---- the best holder so far
+pub holder_none : (rs : List Ring) (q : Point) → NoneRound rs 0 q
+holder_none rs q k h = absurd (omega arith)
+
+pub holder_kept : (rs : List Ring) (q : Point) (k : ℕ) (best : Option ℕ) → MatchOption best (NoneRound rs k q) (IsHolder rs k q) → is_round_at rs k q ≡ false →
+    MatchOption best (NoneRound rs (k + 1) q) (IsHolder rs (k + 1) q)
+holder_kept rs q k None h new = below_more (λ (j : ℕ). is_round_at rs j q ≡ false) k h new
+holder_kept rs q k (Some b) h new = record {
+  within = omega (arith, h.within);
+  round = h.round;
+  first = below_more (λ (j : ℕ). is_round_at rs j q ≡ true → is_before (ring_at rs j) (ring_at rs b) ≡ false) k h.first
+      (λ (t : is_round_at rs k q ≡ true). absurd (both_ways (is_round_at rs k q) new t));
+}
+
+pub holder_no_less : (rs : List Ring) (q : Point) (k b : ℕ) → IsHolder rs k q b → int_lt (area rs k) (area rs b) ≡ false → IsHolder rs (k + 1) q b
+holder_no_less rs q k b h l = record {
+  within = omega (arith, h.within);
+  round = h.round;
+  first = below_more (λ (j : ℕ). is_round_at rs j q ≡ true → is_before (ring_at rs j) (ring_at rs b) ≡ false) k h.first
+      (λ (t : is_round_at rs k q ≡ true). later_not rs k b (test_not_less (area rs k) (area rs b) l) (omega (arith, h.within)));
+}
+
+pub holder_first : (rs : List Ring) (q : Point) (k : ℕ) → NoneRound rs k q → is_round_at rs k q ≡ true → IsHolder rs (k + 1) q k
+holder_first rs q k h t = record {
+  within = omega arith;
+  round = t;
+  first = below_more (λ (j : ℕ). is_round_at rs j q ≡ true → is_before (ring_at rs j) (ring_at rs k) ≡ false) k
+      (λ (j : ℕ) (l : j < k) (r : is_round_at rs j q ≡ true). absurd (both_ways (is_round_at rs j q) (h j l) r))
+      (λ (r : is_round_at rs k q ≡ true). later_not rs k k (same (area rs k)) (omega arith));
+}
+  where
+    same : (a : ℤ) → a ≤ℤ a
+    same a = omega (arith, ints)
+
+pub holder_less : (rs : List Ring) (q : Point) (k b : ℕ) → IsHolder rs k q b → is_round_at rs k q ≡ true → int_lt (area rs k) (area rs b) ≡ true → IsHolder rs (k + 1) q k
+holder_less rs q k b h t less = record {
+  within = omega arith;
+  round = t;
+  first = below_more (λ (j : ℕ). is_round_at rs j q ≡ true → is_before (ring_at rs j) (ring_at rs k) ≡ false) k
+      (λ (j : ℕ) (l : j < k) (r : is_round_at rs j q ≡ true).
+      before_not rs j k (chain (area rs k) (area rs b) (area rs j) (test_less (area rs k) (area rs b) less) (not_before_area rs j b (h.first j l r))))
+      (λ (r : is_round_at rs k q ≡ true). later_not rs k k (same (area rs k)) (omega arith));
+}
+  where
+    same : (a : ℤ) → a ≤ℤ a
+    same a = omega (arith, ints)
+
+    chain : (a b c : ℤ) → a <ℤ b → b ≤ℤ c → a <ℤ c
+    chain a b c h k = omega (arith, ints)
+
+-- ---- tests over all rings
+any_none_from : (p : Placed → Bool) (n : ℕ) (rs : List Ring) → ((k : ℕ) → k < length rs → p (n + k, get_or rs k ([], (pos 0, pos 0))) ≡ false) → list_any p (enumerate_from n rs) ≡ false
+any_none_from p n [] h = refl
+any_none_from p n (r ∷ rs) h =
+    or_from (p (n, r)) (list_any p (enumerate_from (n + 1) rs))
+    (subst (λ (m : ℕ). p (m, r) ≡ false) (omega arith) (h zero (omega arith)))
+    (any_none_from p (n + 1) rs (λ (k : ℕ) (l : k < length rs). subst (λ (m : ℕ). p (m, get_or rs k ([], (pos 0, pos 0))) ≡ false) (omega arith) (h (suc k) (omega arith))))
+
+pub any_none : (p : Placed → Bool) (rs : List Ring) → ((k : ℕ) → k < length rs → p (ring_at rs k) ≡ false) → list_any p (placed rs) ≡ false
+any_none p rs h =
+    any_none_from p 0 rs (λ (k : ℕ) (l : k < length rs). subst (λ (m : ℕ). p (m, get_or rs k ([], (pos 0, pos 0))) ≡ false) (omega arith) (h k l))
+
+any_one_from : (p : Placed → Bool) (n : ℕ) (rs : List Ring) (k : ℕ) → k < length rs → p (n + k, get_or rs k ([], (pos 0, pos 0))) ≡ true → list_any p (enumerate_from n rs) ≡ true
+any_one_from p n [] k l h = absurd (omega arith)
+any_one_from p n (r ∷ rs) zero l h =
+    ap (λ (b : Bool). b || list_any p (enumerate_from (n + 1) rs)) (subst (λ (m : ℕ). p (m, r) ≡ true) (omega arith) h)
+any_one_from p n (r ∷ rs) (suc k) l h =
+    or_second (p (n, r)) (list_any p (enumerate_from (n + 1) rs)) (any_one_from p (n + 1) rs k (omega arith) (subst (λ (m : ℕ). p (m, get_or rs k ([], (pos 0, pos 0))) ≡ true) (omega arith) h))
+  where
+    or_second : (a b : Bool) → b ≡ true → (a || b) ≡ true
+    or_second true b h = refl
+    or_second false b h = h
+
+pub any_one : (p : Placed → Bool) (rs : List Ring) (k : ℕ) → k < length rs → p (ring_at rs k) ≡ true → list_any p (placed rs) ≡ true
+any_one p rs k l h = any_one_from p 0 rs k l (subst (λ (m : ℕ). p (m, get_or rs k ([], (pos 0, pos 0))) ≡ true) (omega arith) h)
+
+-- ---- where a ring belongs
+pub home_positive : (rs : List Ring) (i : ℕ) → is_positive (ring_at rs i) ≡ true → IsHome rs i i
+home_positive rs i h = heads (ap (λ (b : Bool). b || not (list_any (λ (k : Placed). is_round k (ring_at rs i)) (placed rs))) h) refl
+
+pub home_alone : (rs : List Ring) (i : ℕ) → NoneRound rs (length rs) (ring_at rs i).1.1 → IsHome rs i i
+home_alone rs i h =
+    heads (or_second (is_positive (ring_at rs i)) (not (list_any (λ (k : Placed). is_round k (ring_at rs i)) (placed rs)))
+    (ap not (any_none (λ (k : Placed). is_round k (ring_at rs i)) rs h))) refl
+  where
+    or_second : (a b : Bool) → b ≡ true → (a || b) ≡ true
+    or_second true b h = refl
+    or_second false b h = h
+
+pub home_held : (rs : List Ring) (i b : ℕ) → is_positive (ring_at rs i) ≡ false → IsHolder rs (length rs) (ring_at rs i).1.1 b → IsHome rs i b
+home_held rs i b flat h =
+    stands
+    (λ j. flat j || not (any_one (λ (k : Placed). is_round k (ring_at rs i)) rs b h.within h.round j))
+    (λ (e : b ≡ i). both_ways (is_positive (ring_at rs i)) flat
+    (subst (λ (k : ℕ). is_positive (ring_at rs k) ≡ true) e (and_parts (is_positive (ring_at rs b)) (holds 2 (ring_at rs i).1.1 (ring_at rs b).1.0) h.round).0))
+    one
+  where
+    one : (k : ℕ) → k < length rs → stands_with (placed rs) (ring_at rs k) (ring_at rs i) ≡ nat_eq k b
+    one k l =
+        ⊎_elim
+        (λ (t : nat_eq k b ≡ true).
+        subst (λ (m : ℕ). stands_with (placed rs) (ring_at rs m) (ring_at rs i) ≡ true) (sym (eqb-true k b t))
+        (λ j. h.round j && not (any_none (λ (m : Placed). is_round m (ring_at rs i) && is_before m (ring_at rs b)) rs not_first j))
+        ∙ sym t)
+        (λ (f : nat_eq k b ≡ false).
+        by_round (is_round_at rs k (ring_at rs i).1.1) refl (λ (e : k ≡ b). both_ways (nat_eq k b) f (eq-eqb k b e)) ∙ sym f)
+        (cases_Bool (nat_eq k b))
+      where
+        not_first : (m : ℕ) → m < length rs → (is_round (ring_at rs m) (ring_at rs i) && is_before (ring_at rs m) (ring_at rs b)) ≡ false
+        not_first m lm = by (is_round (ring_at rs m) (ring_at rs i)) refl
+          where
+            by : (r : Bool) → is_round (ring_at rs m) (ring_at rs i) ≡ r → (r && is_before (ring_at rs m) (ring_at rs b)) ≡ false
+            by true t = h.first m lm t
+            by false t = refl
+
+        by_round : (r : Bool) → is_round (ring_at rs k) (ring_at rs i) ≡ r → (k ≡ b → ⊥) → (r && not (list_any (λ (m : Placed). is_round m (ring_at rs i) && is_before m (ring_at rs k)) (placed rs))) ≡ false
+        by_round true t differ =
+            ap not (any_one (λ (m : Placed). is_round m (ring_at rs i) && is_before m (ring_at rs k)) rs b h.within (λ j. h.round j && one_before rs k b differ (h.first k l t) j))
+        by_round false t differ = refl
+
+-- ---- members of a shape
+abbrev pub is_member : List Ring → ℕ → Placed → Bool
+is_member rs h r = not (is_head (placed rs) r) && stands_with (placed rs) (ring_at rs h) r
+
+pub member_test : (rs : List Ring) (i b h : ℕ) → IsHome rs i b → h < length rs → is_member rs h (ring_at rs i) ≡ (nat_eq b h && not (nat_eq i h))
+member_test rs i b h (heads t e) low =
+    (λ j. not (t j) && stands_with (placed rs) (ring_at rs h) (ring_at rs i))
+    ∙ sym ((λ j. nat_eq (e j) h && not (nat_eq i h)) ∙ none (nat_eq i h))
+  where
+    none : (x : Bool) → (x && not x) ≡ false
+    none true = refl
+    none false = refl
+member_test rs i b h (stands f differ one) low =
+    (λ j. not (f j) && one h low j)
+    ∙ by (nat_eq b h) refl
+  where
+    swap : nat_eq h b ≡ nat_eq b h
+    swap =
+        ⊎_elim
+        (λ (t : nat_eq b h ≡ true). eq-eqb h b (sym (eqb-true b h t)) ∙ sym t)
+        (λ (n : nat_eq b h ≡ false).
+        ⊎_elim (λ (t : nat_eq h b ≡ true). absurd (both_ways (nat_eq b h) n (eq-eqb b h (sym (eqb-true h b t))))) (λ (m : nat_eq h b ≡ false). m ∙ sym n) (cases_Bool (nat_eq h b)))
+        (cases_Bool (nat_eq b h))
+
+    by : (x : Bool) → nat_eq b h ≡ x → nat_eq h b ≡ (x && not (nat_eq i h))
+    by true t =
+        swap ∙ (t ∙ sym (ap not
+        (⊎_elim (λ (s : nat_eq i h ≡ true). absurd (differ (eqb-true b h t ∙ sym (eqb-true i h s)))) (λ (s : nat_eq i h ≡ false). s) (cases_Bool (nat_eq i h)))))
+    by false t = swap ∙ t
+
+pub head_test : (rs : List Ring) (i b : ℕ) → IsHome rs i b → is_head (placed rs) (ring_at rs i) ≡ nat_eq b i
+head_test rs i b (heads t e) = t ∙ sym (eq-eqb b i e)
+head_test rs i b (stands f differ one) =
+    f ∙ sym (⊎_elim (λ (s : nat_eq b i ≡ true). absurd (differ (eqb-true b i s))) (λ (s : nat_eq b i ≡ false). s) (cases_Bool (nat_eq b i)))
+
+-- ---- rings one after the other
+pub place_next : (rs : List Ring) (i : ℕ) → i < length rs → enumerate_from i (drop i rs) ≡ ring_at rs i ∷ enumerate_from (i + 1) (drop (i + 1) rs)
+place_next rs i low =
+    ap (λ (l : List Ring). enumerate_from i l) (drop-cons rs i ([], (pos 0, pos 0)) low)
+    ∙ (let e : suc i ≡ i + 1 = omega arith in ap (λ (n : ℕ). ring_at rs i ∷ enumerate_from (i + 1) (drop n rs)) e)
+
+pub places_none : (rs : List Ring) (n : ℕ) → length rs ≤ n → enumerate_from n (drop n rs) ≡ []
+places_none rs n h = ap (λ (l : List Ring). enumerate_from n l) (past rs n h)
+  where
+    past : (l : List Ring) (n : ℕ) → length l ≤ n → drop n l ≡ []
+    past [] zero h = refl
+    past [] (suc n) h = refl
+    past (x ∷ l) zero h = absurd (omega arith)
+    past (x ∷ l) (suc n) h = past l n (omega arith)
+
+pub places_all : (rs : List Ring) → enumerate_from 0 (drop 0 rs) ≡ placed rs
+places_all [] = refl
+places_all (r ∷ rs) = refl
+
+-- ---- the order of rings
+abbrev pub point_cmp : Point → Point → Ordering
+point_cmp p q = ordering_then (int_cmp p.0 q.0) (int_cmp p.1 q.1)
+
+abbrev pub held_cmp : Held → Held → Ordering
+held_cmp x y = ordering_then (slice_cmp point_cmp x.0.items y.0.items) (point_cmp x.1 y.1)
+
+then_lt : (o p : Ordering) → is_lt (ordering_then o p) ≡ (is_lt o || (is_eq o && is_lt p))
+then_lt Less p = refl
+then_lt Equal p = refl
+then_lt Greater p = refl
+
+then_eq : (o p : Ordering) → is_eq (ordering_then o p) ≡ (is_eq o && is_eq p)
+then_eq Less p = refl
+then_eq Equal p = refl
+then_eq Greater p = refl
+
+cmp_lt : (a b : ℤ) → is_lt (int_cmp a b) ≡ int_lt a b
+cmp_lt a b = by (int_lt a b) (int_lt b a)
+  where
+    by : (x y : Bool) → is_lt (cond x Less (cond y Greater Equal)) ≡ x
+    by true y = refl
+    by false true = refl
+    by false false = refl
+
+point_cmp_lt : (p q : Point) → is_lt (point_cmp p q) ≡ point_lt p q
+point_cmp_lt p q = then_lt (int_cmp p.0 q.0) (int_cmp p.1 q.1) ∙ (λ i. cmp_lt p.0 q.0 i || (int_eq p.0 q.0 && cmp_lt p.1 q.1 i))
+
+slice_lt : (ps qs : List Point) → is_lt (slice_cmp point_cmp ps qs) ≡ points_lt ps qs
+slice_lt [] [] = refl
+slice_lt [] (q ∷ qs) = refl
+slice_lt (p ∷ ps) [] = refl
+slice_lt (p ∷ ps) (q ∷ qs) =
+    then_lt (point_cmp p q) (slice_cmp point_cmp ps qs)
+    ∙ (λ i. point_cmp_lt p q i || (then_eq (int_cmp p.0 q.0) (int_cmp p.1 q.1) i && slice_lt ps qs i))
+
+held_lt : (x y : Held) → is_lt (held_cmp x y) ≡ false → points_lt x.0.items y.0.items ≡ false
+held_lt x y h =
+    sym (slice_lt x.0.items y.0.items) ∙ first (slice_cmp point_cmp x.0.items y.0.items) (point_cmp x.1 y.1) h
+  where
+    first : (o p : Ordering) → is_lt (ordering_then o p) ≡ false → is_lt o ≡ false
+    first Less p h = h
+    first Equal p h = refl
+    first Greater p h = refl
+
+pub sorted_views : (rs : List Held) → IsSorted held_cmp rs → IsSortedBy (λ (r s : Ring). points_lt r.0 s.0) (views rs)
+sorted_views [] h k d le low = absurd (omega arith)
+sorted_views (x ∷ rs) h k d le low =
+    let n : k + 1 < length (x ∷ rs) = omega (arith, length_map view (x ∷ rs)) in
+    let a : k < length (x ∷ rs) = omega arith in
+    (λ i. points_lt (get_map view (x ∷ rs) (k + 1) x d n i).0 (get_map view (x ∷ rs) k x d a i).0)
+    ∙ held_lt (get_or (x ∷ rs) (k + 1) x) (get_or (x ∷ rs) k x) (h k x le n)

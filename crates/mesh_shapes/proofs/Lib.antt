@@ -1,0 +1,8 @@
+pub mod AreaSums
+pub mod BoundaryCounted
+pub mod ContoursBegun
+pub mod ContoursKept
+pub mod Groups
+pub mod Shapes
+pub mod SidesCode
+pub mod Walking

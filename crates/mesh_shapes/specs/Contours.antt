@@ -1,0 +1,77 @@
+-- Closed contours: the vertices that are answered, where a contour begins, its area and its side point.
+use Rattle.std.specs.Prelude.{◌≡◌, Bool, false, cond, not, ◌&&◌, ◌||◌, List, [], ◌∷◌, reverse, ℤ, pos, int_lt}
+use Rattle.std.specs.Ordering.{int_eq}
+use Rattle.std.specs.List.{All}
+use Rattle.mesh_plane.specs.Plane.{Point, Edge, minus, plus, cross, dot}
+use Rattle.mesh_plane.specs.Order.{point_lt}
+use Rattle.mesh_plane.specs.Winding.{sum_of, total, boundary, same_point}
+
+-- whether a way from `p0` by `p1` to `p2` turns or turns back at `p1`, rather than run straight through
+abbrev pub is_corner : Point → Point → Point → Bool
+is_corner p0 p1 p2 =
+    not (int_eq (cross (minus p1 p0) (minus p1 p2)) (pos 0))
+    || int_lt (pos 0) (dot (minus p1 p0) (minus p1 p2))
+
+-- the first point of a list, or another where it has none
+abbrev pub first_or : Point → List Point → Point
+first_or z [] = z
+first_or z (x ∷ xs) = x
+
+-- of the list, the points at which the way from `a` by all of them to `z` has a corner
+abbrev pub corners : Point → List Point → Point → List Point
+corners a [] z = []
+corners a (x ∷ xs) z = cond (is_corner a x (first_or z xs)) (x ∷ corners x xs z) (corners x xs z)
+
+-- the points of the list that are answered: all of them, or the corners of the way
+abbrev pub kept : Bool → Point → List Point → Point → List Point
+kept all a xs z = cond all xs (corners a xs z)
+
+-- the first of them, or the way's end where there is none
+abbrev pub next_kept : Bool → Point → List Point → Point → Point
+next_kept all a xs z = first_or z (kept all a xs z)
+
+-- the answered vertices of a closed contour that begins at `p`: all of them, or `p` and the corners
+abbrev pub vertices : Bool → List Point → List Point
+vertices all [] = []
+vertices all (p ∷ xs) = p ∷ kept all p xs p
+
+-- an edge that starts at a lesser point, or at the same point and ends at a lesser one
+abbrev pub edge_lt : Edge → Edge → Bool
+edge_lt e f = point_lt e.0 f.0 || (same_point e.0 f.0 && point_lt e.1 f.1)
+
+-- no edge of the list is less than its first
+abbrev pub FirstIsLeast : List Edge → Type 0
+FirstIsLeast [] = Unit {0}
+FirstIsLeast (e ∷ es) = All (λ (f : Edge). edge_lt f e ≡ false) es
+
+-- there is a first point, and no point of the list is less than it
+abbrev pub StartIsLeast : List Point → Type 0
+StartIsLeast [] = ⊥
+StartIsLeast (p ∷ xs) = All (λ (q : Point). point_lt q p ≡ false) xs
+
+-- a contour has a point and begins at its least one, and of the visits of it at that with the least next vertex
+pub record IsBegun (all : Bool) (contour : List Point) : Type 0 where
+  pub at_least : StartIsLeast contour
+  pub least_next : FirstIsLeast (boundary (vertices all contour))
+
+-- twice the area that a closed list of points encloses, above 0 where it runs counterclockwise
+abbrev pub double_area : List Point → ℤ
+double_area ps = total cross (boundary ps)
+
+-- the midpoint of a contour's first edge, on the grid 2
+abbrev pub side_point : List Point → Point
+side_point [] = (pos 0, pos 0)
+side_point (p ∷ xs) = plus p (first_or p xs)
+
+-- a closed list walked the other way from the same first point
+abbrev pub reversed : List Point → List Point
+reversed [] = []
+reversed (p ∷ xs) = p ∷ reverse xs
+
+-- a contour is that of a ring: with the same edges it begins at its start, and the ring has its vertices and its side point
+pub record IsRingOf (all : Bool) (given : List Point) (ring : List Point × Point) : Type 0 where
+  pub contour : List Point
+  pub same : (f : Edge → ℤ) → sum_of f (boundary contour) ≡ sum_of f (boundary given)
+  pub begun : IsBegun all contour
+  pub vertices_are : ring.0 ≡ vertices all contour
+  pub side_is : ring.1 ≡ side_point contour

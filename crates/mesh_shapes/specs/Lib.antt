@@ -1,0 +1,6 @@
+pub mod Contours
+pub mod CountedSides
+pub mod Grouping
+pub mod Progress
+pub mod Resolution
+pub mod Unused

@@ -1,0 +1,36 @@
+-- What holds midway through a search for a contour's start or a ring's holder. Private contracts alone cite it.
+use Rattle.std.specs.Prelude.{ℕ, ◌≡◌, ◌+◌, ◌<◌, Bool, true, false, List, length, drop, slice_index_or, pos}
+use Rattle.mesh_plane.specs.Plane.{Point}
+use Rattle.mesh_plane.specs.Order.{point_lt}
+use Rattle.mesh_shapes.specs.Contours.{next_kept}
+use Rattle.mesh_shapes.specs.Grouping.{ring_at, is_round_at}
+use Rattle.mesh_shapes.specs.Resolution.{Ring, is_before}
+
+-- the point at a place of a list
+abbrev pub point_at : List Point → ℕ → Point
+point_at ps i = slice_index_or ps i (pos 0, pos 0)
+
+-- the next vertex that is answered after the place `i` of a contour
+abbrev pub next_at : Bool → List Point → ℕ → Point
+next_at all ps i = next_kept all (point_at ps i) (drop (i + 1) ps) (point_at ps 0)
+
+-- the point at a place is the first one's, and no visit of it has a lesser next vertex before the place `n`
+pub record IsBestVisit (all : Bool) (ps : List Point) (n best : ℕ) : Type 0 where
+  pub within : best < length ps
+  pub visit : point_at ps best ≡ point_at ps 0
+  pub least : (k : ℕ) → k < n → point_at ps k ≡ point_at ps 0 → point_lt (next_at all ps k) (next_at all ps best) ≡ false
+
+-- of the points before the place `n` none is less than that at `least`
+pub record IsLeastBefore (ps : List Point) (n least : ℕ) : Type 0 where
+  pub within : least < length ps
+  pub none_less : (k : ℕ) → k < n → point_lt (point_at ps k) (point_at ps least) ≡ false
+
+-- no ring of the first `n` is round the point
+abbrev pub NoneRound : List Ring → ℕ → Point → Type 0
+NoneRound rs n q = (k : ℕ) → k < n → is_round_at rs k q ≡ false
+
+-- of the first `n` rings that are round the point the one at `b` is of least area, and first
+pub record IsHolder (rs : List Ring) (n : ℕ) (q : Point) (b : ℕ) : Type 0 where
+  pub within : b < n
+  pub round : is_round_at rs b q ≡ true
+  pub first : (k : ℕ) → k < n → is_round_at rs k q ≡ true → is_before (ring_at rs k) (ring_at rs b) ≡ false

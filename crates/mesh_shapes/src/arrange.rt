@@ -1,0 +1,259 @@
+//! Shapes of rings: order and grouping.
+
+ghost use Rattle.std.specs.Prelude.{◌≡◌, ◌⊎◌, ℕ, ◌+◌, ◌*◌, ◌^◌, ◌<◌, ◌≤◌, Bool, true, false, not, ◌&&◌, cond, List, [], ◌∷◌, ◌++◌, map, length, take, drop, reverse, slice_index_or, nat_le, nat_eq, unsigned_abs, int_lt, pos, IfOk, OnOk, MatchOption};
+ghost use Rattle.std.specs.Option.{ForSome};
+ghost use Rattle.std.specs.List.{All, filter, enumerate_from};
+ghost use Rattle.std.specs.List.Sorted.{IsSortedBy, IsPermutation};
+ghost use Rattle.mesh_plane.specs.Bounds.{IsSafe};
+ghost use Rattle.mesh_plane.specs.Plane.{Point};
+ghost use Rattle.mesh_shapes.specs.Contours.{reversed, double_area};
+ghost use Rattle.mesh_shapes.specs.Grouping.{Held, view, views, ring_at, placed, areas_of, is_round_at, IsHome, points_of, shapes_points};
+ghost use Rattle.mesh_shapes.specs.Progress.{NoneRound, IsHolder};
+ghost use Rattle.mesh_shapes.specs.Resolution.{is_large, points_lt, is_head, shape_of, shapes_of, answered, AreArranged};
+
+use crate::area::{double_area, holds};
+use mesh_cuts::fine::FinePoint;
+use mesh_cuts::grid::GridPoint;
+use crate::ring::Ring;
+use std::alloc::{AllocError, Global};
+
+/// Whether the ring's double area is in size at least twice the least area.
+pub fn is_large(ring: &Ring, least_area: u64) -> bool
+    ensures { result ≡ is_large least_area (view ring.now) }
+{
+    2 * least_area as u128 <= double_area(&ring.0).unsigned_abs()
+}
+
+/// The double areas of rings, in their order.
+fn areas(alloc: Global, rings: &[Ring]) -> Result<Vec<i128>, AllocError>
+    ensures { IfOk result (λ v. v.items ≡ areas_of (views rings.now)) }
+{
+    let mut areas = Vec::new(alloc);
+    for r in rings {
+        areas.push(double_area(&r.0))?;
+    }
+    Ok(areas)
+}
+
+/// Whether the ring at `h` has positive area and holds the point.
+fn is_round_at(rings: &[Ring], areas: &[i128], h: usize, q: FinePoint) -> bool
+    requires in_range { h < length rings.now }
+    requires known { areas.now ≡ areas_of (views rings.now) }
+    requires q_small { IsSafe (2 ^ 33) q }
+    ensures { result ≡ is_round_at (views rings.now) h q }
+{
+    if areas[h] <= 0 {
+        return false;
+    }
+    holds(&rings[h].0, q)
+}
+
+/// Whether no ring is known yet, or the one at `k` has less area than it.
+fn is_less(areas: &[i128], best: Option<usize>, k: usize) -> bool
+    requires in_range { k < length areas.now }
+    requires known { ForSome best (λ b. b < length areas.now) }
+    ensures { MatchOption best (result ≡ true) (λ b. result ≡ int_lt (slice_index_or areas.now k (pos 0)) (slice_index_or areas.now b (pos 0))) }
+{
+    let Some(b) = best else {
+        return true;
+    };
+    areas[k] < areas[b]
+}
+
+/// The better holder of the point, of the one known and the ring at `k`.
+fn better_holder(
+    rings: &[Ring],
+    areas: &[i128],
+    q: FinePoint,
+    best: Option<usize>,
+    k: usize,
+) -> Option<usize>
+    requires in_range { k < length rings.now }
+    requires areas_known { areas.now ≡ areas_of (views rings.now) }
+    requires q_small { IsSafe (2 ^ 33) q }
+    requires known { MatchOption best (NoneRound (views rings.now) k q) (IsHolder (views rings.now) k q) }
+    ensures { MatchOption result (NoneRound (views rings.now) (k + 1) q) (IsHolder (views rings.now) (k + 1) q) }
+{
+    if !is_less(areas, best, k) {
+        return best;
+    }
+    if !is_round_at(rings, areas, k, q) {
+        return best;
+    }
+    Some(k)
+}
+
+/// The place of the first ring of least area among those of positive area that hold the point, if there is one.
+fn holder(rings: &[Ring], areas: &[i128], q: FinePoint) -> Option<usize>
+    requires areas_known { areas.now ≡ areas_of (views rings.now) }
+    requires q_small { IsSafe (2 ^ 33) q }
+    ensures { MatchOption result (NoneRound (views rings.now) (length rings.now) q) (IsHolder (views rings.now) (length rings.now) q) }
+{
+    let mut best = None;
+    for k in 0..rings.len() {
+        best = better_holder(rings, areas, q, best, k);
+    }
+    best
+}
+
+/// The place of the ring with which the ring at `i` stands, its own where it heads a shape.
+fn home(rings: &[Ring], areas: &[i128], i: usize) -> usize
+    requires in_range { i < length rings.now }
+    requires areas_known { areas.now ≡ areas_of (views rings.now) }
+    requires sides_small { All (λ (r : Held). IsSafe (2 ^ 33) r.1) rings.now }
+    ensures { IsHome (views rings.now) i result }
+{
+    if areas[i] > 0 {
+        return i;
+    }
+    let Some(h) = holder(rings, areas, rings[i].1) else {
+        return i;
+    };
+    h
+}
+
+/// The places of the rings with which rings stand.
+fn homes(alloc: Global, rings: &[Ring]) -> Result<Vec<usize>, AllocError>
+    requires { All (λ (r : Held). IsSafe (2 ^ 33) r.1) rings.now }
+    ensures len { IfOk result (λ v. length v.items ≡ length rings.now) }
+    ensures homes { IfOk result (λ v. (i : ℕ) → i < length rings.now → IsHome (views rings.now) i (slice_index_or v.items i 0)) }
+{
+    let areas = areas(alloc, rings)?;
+    let mut homes = Vec::new(alloc);
+    for i in 0..rings.len() {
+        homes.push(home(rings, &areas, i))?;
+    }
+    Ok(homes)
+}
+
+/// The first point, then the others from the last back.
+fn reversed(alloc: Global, points: &[GridPoint]) -> Result<Vec<GridPoint>, AllocError>
+    ensures { IfOk result (λ v. v.items ≡ reversed points.now) }
+{
+    let mut list = Vec::new(alloc);
+    let Some((first, rest)) = points.split_first() else {
+        return Ok(list);
+    };
+    list.push(*first)?;
+    let back: Vec<GridPoint> = rest.iter().rev().copied().collect(alloc)?;
+    list.extend_from_slice(&back)?;
+    Ok(list)
+}
+
+/// The ring's contour, the other way about where contours are to run clockwise.
+fn answered(alloc: Global, ring: &Ring, clockwise: bool) -> Result<Vec<GridPoint>, AllocError>
+    ensures { IfOk result (λ v. v.items ≡ answered clockwise (view ring.now)) }
+{
+    if clockwise {
+        return reversed(alloc, &ring.0);
+    }
+    Vec::from_slice(alloc, &ring.0)
+}
+
+/// Adds the ring at `i` to the shape that the ring at `h` heads, if it stands with that.
+fn push_member(
+    alloc: Global,
+    shape: &mut Vec<Vec<GridPoint>>,
+    rings: &[Ring],
+    homes: &[usize],
+    h: usize,
+    i: usize,
+    clockwise: bool,
+) -> Result<(), AllocError>
+    requires in_range { i < length rings.now }
+    requires homes_len { length homes.now ≡ length rings.now }
+    ensures { OnOk result (points_of shape.new.items ≡ points_of shape.old.items ++
+        cond (nat_eq (slice_index_or homes.now i 0) h && not (nat_eq i h)) (answered clockwise (ring_at (views rings.now) i).1 ∷ []) []) }
+{
+    if i == h {
+        return Ok(());
+    }
+    if homes[i] != h {
+        return Ok(());
+    }
+    shape.push(answered(alloc, &rings[i], clockwise)?)?;
+    Ok(())
+}
+
+/// The shape that the ring at `h` heads.
+fn shape(
+    alloc: Global,
+    rings: &[Ring],
+    homes: &[usize],
+    h: usize,
+    clockwise: bool,
+) -> Result<Vec<Vec<GridPoint>>, AllocError>
+    requires in_range { h < length rings.now }
+    requires homes_len { length homes.now ≡ length rings.now }
+    requires homes_are { (i : ℕ) → i < length rings.now → IsHome (views rings.now) i (slice_index_or homes.now i 0) }
+    ensures { IfOk result (λ v. points_of v.items ≡ map (answered clockwise) (shape_of (placed (views rings.now)) (ring_at (views rings.now) h))) }
+{
+    let mut shape = Vec::new(alloc);
+    shape.push(answered(alloc, &rings[h], clockwise)?)?;
+    for i in 0..rings.len() {
+        push_member(alloc, &mut shape, rings, homes, h, i, clockwise)?;
+    }
+    Ok(shape)
+}
+
+/// Adds the shape that the ring at `h` heads, if it heads one.
+fn push_shape(
+    alloc: Global,
+    shapes: &mut Vec<Vec<Vec<GridPoint>>>,
+    rings: &[Ring],
+    homes: &[usize],
+    h: usize,
+    clockwise: bool,
+) -> Result<(), AllocError>
+    requires in_range { h < length rings.now }
+    requires homes_len { length homes.now ≡ length rings.now }
+    requires homes_are { (i : ℕ) → i < length rings.now → IsHome (views rings.now) i (slice_index_or homes.now i 0) }
+    ensures { OnOk result (shapes_points shapes.new.items ≡ shapes_points shapes.old.items ++
+        cond (is_head (placed (views rings.now)) (ring_at (views rings.now) h)) (map (answered clockwise) (shape_of (placed (views rings.now)) (ring_at (views rings.now) h)) ∷ []) []) }
+{
+    if homes[h] != h {
+        return Ok(());
+    }
+    shapes.push(shape(alloc, rings, homes, h, clockwise)?)?;
+    Ok(())
+}
+
+/// The shapes of rings that stand in order.
+fn grouped(
+    alloc: Global,
+    rings: &[Ring],
+    clockwise: bool,
+) -> Result<Vec<Vec<Vec<GridPoint>>>, AllocError>
+    requires { All (λ (r : Held). IsSafe (2 ^ 33) r.1) rings.now }
+    ensures { IfOk result (λ v. shapes_points v.items ≡ map (map (answered clockwise)) (shapes_of (placed (views rings.now)))) }
+{
+    let homes = homes(alloc, rings)?;
+    let mut shapes = Vec::new(alloc);
+    for h in 0..rings.len() {
+        push_shape(alloc, &mut shapes, rings, &homes, h, clockwise)?;
+    }
+    Ok(shapes)
+}
+
+/// Rings in the order of their points.
+fn in_order(mut rings: Vec<Ring>) -> Result<Vec<Ring>, AllocError>
+    ensures same { IfOk result (λ v. IsPermutation rings.items v.items) }
+    ensures ordered { IfOk result (λ v. IsSortedBy (λ r s. points_lt r.0 s.0) (views v.items)) }
+{
+    rings.sort()?;
+    Ok(rings)
+}
+
+/// The rings as shapes, in order.
+pub fn shapes(
+    alloc: Global,
+    rings: Vec<Ring>,
+    clockwise: bool,
+) -> Result<Vec<Vec<Vec<GridPoint>>>, AllocError>
+    requires { All (λ (r : Held). IsSafe (2 ^ 33) r.1) rings.items }
+    ensures { IfOk result (λ v. AreArranged clockwise (views rings.items) (shapes_points v.items)) }
+{
+    let ordered = in_order(rings)?;
+    let shapes = grouped(alloc, &ordered, clockwise)?;
+    Ok(shapes)
+}

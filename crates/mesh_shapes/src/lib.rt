@@ -1,0 +1,11 @@
+//! From split segments to shapes: the boundary of what they fill, closed contours of it, and the order and grouping of these.
+//!
+//! Read `specs/Resolution.antt` first, the one relation that the overlay's calls promise, then `specs/Contours.antt`.
+//! `sides` finds the boundary, `walk` and `ring` make contours of it, `arrange` brings them into order and groups them.
+#![tactic(auto)]
+
+pub mod area;
+pub mod arrange;
+pub mod ring;
+pub mod sides;
+pub mod walk;

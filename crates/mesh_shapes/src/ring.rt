@@ -1,0 +1,202 @@
+//! What is answered of a contour: its vertices from its start on, and its side point.
+
+ghost use Rattle.std.specs.Prelude.{◌≡◌, ◌≢◌, ℕ, ◌+◌, ◌^◌, ◌<◌, ◌≤◌, ◌||◌, Bool, false, List, [], ◌∷◌, ◌++◌, ℤ, length, take, drop, IfOk, OnOk};
+ghost use Rattle.std.specs.List.{All};
+ghost use Rattle.mesh_plane.specs.Bounds.{IsSmall, IsSafe};
+ghost use Rattle.mesh_plane.specs.Plane.{Point, Edge, dot, cross};
+ghost use Rattle.mesh_plane.specs.Winding.{boundary, same_point};
+ghost use Rattle.mesh_shapes.specs.Contours.{is_corner, first_or, kept, vertices, side_point, IsRingOf};
+ghost use Rattle.mesh_shapes.specs.Progress.{point_at, next_at, IsBestVisit, IsLeastBefore};
+
+use mesh_cuts::exact::{cross, is_before, minus, product, same_point};
+use mesh_cuts::fine::{FinePoint, middle};
+use mesh_cuts::grid::GridPoint;
+use std::alloc::{AllocError, Global};
+
+/// The vertices of a contour, and the midpoint of its first edge on the grid that is twice as fine.
+pub type Ring = (Vec<GridPoint>, FinePoint);
+
+/// A vector between two points.
+type Vector = (i128, i128);
+
+fn dot(v: Vector, w: Vector) -> i128
+    requires v_small { IsSafe (2 ^ 32) v }
+    requires w_small { IsSafe (2 ^ 32) w }
+    ensures value { result ≡ dot v w }
+    ensures size { IsSmall (2 ^ 65) result }
+{
+    product(v.0, w.0) + product(v.1, w.1)
+}
+
+/// Whether a way from `a` by `p` to `n` turns or turns back at `p`.
+fn is_corner(a: GridPoint, p: GridPoint, n: GridPoint) -> bool
+    ensures { result ≡ is_corner a p n }
+{
+    let v = minus(p, a);
+    let w = minus(p, n);
+    if cross(v, w) == 0 {
+        return dot(v, w) > 0;
+    }
+    true
+}
+
+/// The place of the lesser of two points.
+fn lesser_place(contour: &[GridPoint], least: usize, i: usize) -> usize
+    requires in_range { i < length contour.now }
+    requires known { IsLeastBefore contour.now i least }
+    ensures { IsLeastBefore contour.now (i + 1) result }
+{
+    if is_before(contour[i], contour[least]) {
+        return i;
+    }
+    least
+}
+
+/// Where the least point stands first.
+fn least_place(contour: &[GridPoint]) -> usize
+    requires { 0 < length contour.now }
+    ensures { IsLeastBefore contour.now (length contour.now) result }
+{
+    let mut least = 0;
+    for i in 0..contour.len() {
+        least = lesser_place(contour, least, i);
+    }
+    least
+}
+
+/// The list from the place on, then what stands before it.
+fn turned_to(
+    alloc: Global,
+    contour: &[GridPoint],
+    place: usize,
+) -> Result<Vec<GridPoint>, AllocError>
+    requires { place ≤ length contour.now }
+    ensures { IfOk result (λ v. v.items ≡ drop place contour.now ++ take place contour.now) }
+{
+    let mut turned = Vec::new(alloc);
+    turned.extend_from_slice(&contour[place..])?;
+    turned.extend_from_slice(&contour[..place])?;
+    Ok(turned)
+}
+
+/// The point that follows, the first after the last.
+fn following(contour: &[GridPoint], i: usize) -> GridPoint
+    requires { i < length contour.now }
+    ensures { result ≡ first_or (point_at contour.now 0) (drop (i + 1) contour.now) }
+{
+    if i + 1 < contour.len() {
+        return contour[i + 1];
+    }
+    contour[0]
+}
+
+/// Whether the point at a place is answered: all are, or it is a corner.
+fn is_kept(contour: &[GridPoint], all: bool, before: GridPoint, i: usize) -> bool
+    requires { i < length contour.now }
+    ensures { result ≡ (all || is_corner before (point_at contour.now i) (first_or (point_at contour.now 0) (drop (i + 1) contour.now))) }
+{
+    if all {
+        return true;
+    }
+    is_corner(before, contour[i], following(contour, i))
+}
+
+/// The next vertex that is answered after the place `at`, in a contour that begins with an answered one.
+fn next_vertex(contour: &[GridPoint], all: bool, at: usize) -> GridPoint
+    requires { at < length contour.now }
+    ensures { result ≡ next_at all contour.now at }
+{
+    let mut before = contour[at];
+    for i in at + 1..contour.len() {
+        if is_kept(contour, all, before, i) {
+            return contour[i];
+        }
+        before = contour[i];
+    }
+    contour[0]
+}
+
+/// The better of two visits of the first point, where the second place is one.
+fn better_visit(contour: &[GridPoint], all: bool, best: usize, i: usize) -> usize
+    requires in_range { i < length contour.now }
+    requires known { IsBestVisit all contour.now i best }
+    ensures { IsBestVisit all contour.now (i + 1) result }
+{
+    if !same_point(contour[i], contour[0]) {
+        return best;
+    }
+    if is_before(
+        next_vertex(contour, all, i),
+        next_vertex(contour, all, best),
+    ) {
+        return i;
+    }
+    best
+}
+
+/// Of the visits of the first point that with the least next vertex.
+fn start_place(contour: &[GridPoint], all: bool) -> usize
+    requires { 0 < length contour.now }
+    ensures { IsBestVisit all contour.now (length contour.now) result }
+{
+    let mut best = 0;
+    for i in 0..contour.len() {
+        best = better_visit(contour, all, best, i);
+    }
+    best
+}
+
+/// Adds the point at a place, where it is answered.
+fn push_kept(
+    points: &mut Vec<GridPoint>,
+    contour: &[GridPoint],
+    all: bool,
+    before: GridPoint,
+    i: usize,
+) -> Result<(), AllocError>
+    requires { i < length contour.now }
+    ensures { OnOk result (points.new.items ++ kept all (point_at contour.now i) (drop (i + 1) contour.now) (point_at contour.now 0)
+        ≡ points.old.items ++ kept all before (drop i contour.now) (point_at contour.now 0)) }
+{
+    if !is_kept(contour, all, before, i) {
+        return Ok(());
+    }
+    points.push(contour[i])?;
+    Ok(())
+}
+
+/// The first point and the corners, or all points.
+fn vertices(alloc: Global, contour: &[GridPoint], all: bool) -> Result<Vec<GridPoint>, AllocError>
+    requires { 0 < length contour.now }
+    ensures { IfOk result (λ v. v.items ≡ vertices all contour.now) }
+{
+    let mut points = Vec::new(alloc);
+    let mut before = contour[0];
+    points.push(before)?;
+    for i in 1..contour.len() {
+        push_kept(&mut points, contour, all, before, i)?;
+        before = contour[i];
+    }
+    Ok(points)
+}
+
+fn side_point(contour: &[GridPoint]) -> FinePoint
+    requires { 0 < length contour.now }
+    ensures value { result ≡ side_point contour.now }
+    ensures size { IsSafe (2 ^ 33) result }
+{
+    middle((contour[0], following(contour, 0)))
+}
+
+/// The ring of a contour, from the contour's start on.
+pub fn ring_of(alloc: Global, contour: &[GridPoint], all: bool) -> Result<Ring, AllocError>
+    requires has_points { 0 < length contour.now }
+    requires proper { All (λ (e : Edge). same_point e.0 e.1 ≡ false) (boundary contour.now) }
+    ensures ring { IfOk result (λ r. IsRingOf all contour.now (r.0.items, r.1)) }
+    ensures side { IfOk result (λ r. IsSafe (2 ^ 33) r.1) }
+{
+    let from_least = turned_to(alloc, contour, least_place(contour))?;
+    let begun = turned_to(alloc, &from_least, start_place(&from_least, all))?;
+    let side = side_point(&begun);
+    Ok((vertices(alloc, &begun, all)?, side))
+}

@@ -1,0 +1,235 @@
+//! The walk along a boundary: its edges become closed contours.
+
+ghost use Rattle.std.specs.Prelude.{◌≡◌, ◌⊎◌, ℕ, ◌+◌, ◌<◌, ◌≤◌, ◌↔◌, IsTrue, Bool, true, false, List, [], ◌∷◌, ◌++◌, ℤ, ◌+ℤ◌, length, slice_index_or, MatchOption, IfOk, OnOk};
+ghost use Rattle.mesh_plane.specs.Order.{point_lt};
+ghost use Rattle.mesh_plane.specs.Plane.{Point, Edge};
+ghost use Rattle.mesh_plane.specs.Winding.{sum_of, boundary, IsBalanced};
+ghost use Rattle.mesh_cuts.specs.Boundary.{count};
+ghost use Rattle.mesh_shapes.specs.Unused.{HavePoints, unused, StartsInOrder, IsOpen, IsNext, TakesContours, contour_edges};
+
+use mesh_cuts::exact::{cross, is_before, minus, same_point};
+use mesh_cuts::grid::{GridEdge, GridPoint};
+use std::alloc::{AllocError, Global};
+
+/// A vector between two points.
+type Vector = (i128, i128);
+
+/// Whether the vectors look the same way.
+fn look_alike(v: Vector, w: Vector) -> bool {
+    (v.0 > 0 && w.0 > 0) || (v.0 < 0 && w.0 < 0) || (v.1 > 0 && w.1 > 0) || (v.1 < 0 && w.1 < 0)
+}
+
+/// In which part of the turn clockwise from `from` to the direction the turn ends, where all start at `at`:
+/// before half a turn, at it, past it, or at a whole turn.
+fn part_of_turn(at: GridPoint, from: GridPoint, to: GridPoint) -> u8 {
+    let back = minus(from, at);
+    let way = minus(to, at);
+    let side = cross(back, way);
+    if side < 0 {
+        return 0;
+    }
+    if side > 0 {
+        return 2;
+    }
+    if look_alike(back, way) { 3 } else { 1 }
+}
+
+/// Whether the way to `first` comes before that to `second` on the turn clockwise from the way to `from`, all from `at`.
+fn comes_before(at: GridPoint, from: GridPoint, first: GridPoint, second: GridPoint) -> bool {
+    let a = part_of_turn(at, from, first);
+    let b = part_of_turn(at, from, second);
+    if a != b {
+        return a < b;
+    }
+    cross(minus(first, at), minus(second, at)) < 0
+}
+
+/// The place of the first edge that does not start at a lesser point.
+fn first_from(edges: &[GridEdge], at: GridPoint) -> usize
+    requires { StartsInOrder edges.now }
+    ensures bound { result ≤ length edges.now }
+    ensures before { (k : ℕ) (d : Edge) → k < result → point_lt (slice_index_or edges.now k d).0 at ≡ true }
+    ensures after { (k : ℕ) (d : Edge) → result ≤ k → k < length edges.now → point_lt (slice_index_or edges.now k d).0 at ≡ false }
+{
+    let mut low = 0;
+    let mut high = edges.len();
+    while low < high {
+        let mid = low + (high - low) / 2;
+        if is_before(edges[mid].0, at) {
+            low = mid + 1;
+        } else {
+            high = mid;
+        }
+    }
+    low
+}
+
+/// The one of two edges, if there is one already, that comes first on the turn.
+fn better(
+    edges: &[GridEdge],
+    at: GridPoint,
+    from: GridPoint,
+    best: Option<usize>,
+    k: usize,
+) -> usize
+    requires { k < length edges.now }
+    ensures { MatchOption best (result ≡ k) (λ b. (result ≡ k) ⊎ (result ≡ b)) }
+{
+    let Some(b) = best else {
+        return k;
+    };
+    if b < edges.len() && comes_before(at, from, edges[b].1, edges[k].1) {
+        return b;
+    }
+    k
+}
+
+/// Whether the walk may take the edge at a place: it is unused, or the walk's first.
+fn is_open(used: &[bool], first: usize, k: usize) -> bool
+    requires { k < length used.now }
+    ensures { IsTrue result ↔ IsOpen used.now first k }
+{
+    if k == first {
+        return true;
+    }
+    !used[k]
+}
+
+/// The edge to take of those looked at so far, where the edge at `k` is looked at too.
+fn with_edge(
+    edges: &[GridEdge],
+    used: &[bool],
+    first: usize,
+    from: GridPoint,
+    at: GridPoint,
+    best: Option<usize>,
+    k: usize,
+) -> Option<usize>
+    requires within { k < length edges.now }
+    requires marks { length used.now ≡ length edges.now }
+    ensures { MatchOption result ((best ≡ None) × (IsOpen used.now first k → ⊥)) (λ b. ((b ≡ k) × IsOpen used.now first k) ⊎ (best ≡ Some b)) }
+{
+    if !is_open(used, first, k) {
+        return best;
+    }
+    Some(better(edges, at, from, best, k))
+}
+
+/// The edge on which the walk goes on from `at`, where it came from `from`: of the unused ones that start there, and of the walk's
+/// first edge where it starts there, the first clockwise from the way back.
+fn next_edge(
+    edges: &[GridEdge],
+    used: &[bool],
+    first: usize,
+    from: GridPoint,
+    at: GridPoint,
+) -> Option<usize>
+    requires ordered { StartsInOrder edges.now }
+    requires marks { length used.now ≡ length edges.now }
+    ensures { MatchOption result ((k : ℕ) → IsNext edges.now used.now first at k → ⊥) (IsNext edges.now used.now first at) }
+{
+    let mut best = None;
+    for k in first_from(edges, at)..edges.len() {
+        if !same_point(edges[k].0, at) {
+            return best;
+        }
+        best = with_edge(edges, used, first, from, at, best, k);
+    }
+    best
+}
+
+/// The points of the contour that begins with the edge `first`.
+fn walk(
+    alloc: Global,
+    edges: &[GridEdge],
+    used: &mut [bool],
+    first: usize,
+) -> Result<Vec<GridPoint>, AllocError>
+    requires ordered { StartsInOrder edges.now }
+    requires marks { length used.old ≡ length edges.now }
+    requires first_in { first < length edges.now }
+    requires first_unused { slice_index_or used.old first true ≡ false }
+    requires balanced { IsBalanced (unused edges.now used.old) }
+    ensures has_points { IfOk result (λ v. 0 < length v.items) }
+    ensures closed { IfOk result (λ v. (g : Edge → ℤ) → sum_of g (unused edges.now used.old) ≡ sum_of g (boundary v.items) +ℤ sum_of g (unused edges.now used.new)) }
+    ensures kept { (k : ℕ) → slice_index_or used.old k true ≡ true → slice_index_or used.new k true ≡ true }
+    ensures marked { OnOk result (slice_index_or used.new first true ≡ true) }
+{
+    let mut points = Vec::new(alloc);
+    points.push(edges[first].0)?;
+    used[first] = true;
+    let mut from = edges[first].0;
+    let mut at = edges[first].1;
+    while let Some(k) = next_edge(edges, used, first, from, at) {
+        if k == first {
+            return Ok(points);
+        }
+        points.push(at)?;
+        used[k] = true;
+        from = at;
+        at = edges[k].1;
+    }
+    Ok(points)
+}
+
+/// The edges in the order of their starts.
+pub fn in_order(mut edges: Vec<GridEdge>) -> Result<Vec<GridEdge>, AllocError>
+    ensures ordered { IfOk result (λ v. StartsInOrder v.items) }
+    ensures same { IfOk result (λ v. (g : Edge → ℤ) → sum_of g v.items ≡ sum_of g edges.items) }
+{
+    edges.sort()?;
+    Ok(edges)
+}
+
+/// Adds the contour that begins with the edge `first`, unless that is used.
+fn add_contour(
+    alloc: Global,
+    contours: &mut Vec<Vec<GridPoint>>,
+    edges: &[GridEdge],
+    used: &mut [bool],
+    first: usize,
+) -> Result<(), AllocError>
+    requires ordered { StartsInOrder edges.now }
+    requires marks { length used.old ≡ length edges.now }
+    requires first_in { first < length edges.now }
+    requires balanced { IsBalanced (unused edges.now used.old) }
+    ensures { OnOk result (TakesContours edges.now used.old used.new contours.old.items contours.new.items first) }
+{
+    if used[first] {
+        return Ok(());
+    }
+    let contour = walk(alloc, edges, used, first)?;
+    contours.push(contour)?;
+    Ok(())
+}
+
+/// Contours of all unused edges.
+fn contours_of(
+    alloc: Global,
+    edges: &[GridEdge],
+    used: &mut [bool],
+) -> Result<Vec<Vec<GridPoint>>, AllocError>
+    requires ordered { StartsInOrder edges.now }
+    requires marks { length used.old ≡ length edges.now }
+    requires balanced { IsBalanced (unused edges.now used.old) }
+    ensures edges { IfOk result (λ v. (g : Edge → ℤ) → sum_of g (unused edges.now used.old) ≡ sum_of g (contour_edges v.items)) }
+    ensures have_points { IfOk result (λ v. HavePoints v.items) }
+{
+    let mut contours = Vec::new(alloc);
+    for first in 0..edges.len() {
+        add_contour(alloc, &mut contours, edges, used, first)?;
+    }
+    Ok(contours)
+}
+
+/// Closed contours that together have the edges, each once. None is without a point.
+pub fn contours(alloc: Global, edges: Vec<GridEdge>) -> Result<Vec<Vec<GridPoint>>, AllocError>
+    requires { IsBalanced edges.items }
+    ensures edges { IfOk result (λ v. (e : Edge) → count e (contour_edges v.items) ≡ count e edges.items) }
+    ensures have_points { IfOk result (λ v. HavePoints v.items) }
+{
+    let ordered = in_order(edges)?;
+    let mut used = vec![in alloc; false; ordered.len()]?;
+    let contours = contours_of(alloc, &ordered, &mut used)?;
+    Ok(contours)
+}

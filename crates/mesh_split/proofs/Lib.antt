@@ -1,0 +1,11 @@
+pub mod Clean
+pub mod Entries
+pub mod Extents
+pub mod Filing
+pub mod Live
+pub mod Paths
+pub mod Room
+pub mod Settling
+pub mod Sharing
+pub mod Stages
+pub mod Starting

@@ -1,0 +1,152 @@
+-- Lemmas over points and lists: cuts make of each edge a path that never goes back; what a splitting is.
+use Rattle.std.proofs.Common.{◌≡◌, ⊎_elim, Bool, true, false, cond, ◌||◌, sym, subst, ap, ◌∙◌, refl, arith, List, [], ◌∷◌, ◌++◌}
+use Rattle.std.specs.List.{All}
+use Rattle.std.proofs.lemmas.Bool.{cases_Bool, false≢true, or_cases, or_right}
+use Rattle.std.proofs.lemmas.List.Elements.{All-cons, All-head, All-tail}
+use Rattle.mesh_plane.specs.Plane.{Point, Edge}
+use Rattle.mesh_plane.proofs.Whole.{linear}
+use Rattle.mesh_cuts.specs.Clean.{IsProper}
+use Rattle.mesh_cuts.specs.Counted.{Counted, IsCountOf}
+use Rattle.mesh_cuts.specs.Split.{back, same_ends, occurs, IsInBox, Cut, cut, after, path}
+use Rattle.mesh_cuts.specs.Splitting.{Leads, IsOnward, IsPathOf, ComesFrom, IsSplitting}
+use Rattle.mesh_split.specs.Steps.{AllClear, IsReached}
+use Rattle.mesh_cuts.proofs.SafeCuts.{split_safe}
+use Rattle.mesh_cuts.proofs.Keys.{occurs_head}
+use Rattle.mesh_cuts.proofs.KeptByCuts.{box_trans, after_append, after_balanced}
+use Rattle.mesh_cuts.proofs.SoundCuts.{IsSound, legal_sound, after_proper}
+use Rattle.mesh_cuts.proofs.Boxes.{start_box, end_box}
+use Rattle.mesh_split.proofs.Clean.{clean_of_clear}
+use Rattle.mesh_cuts.proofs.Cuts.{occurs_append}
+use Rattle.mesh_cuts.proofs.Ends.{decides_ends}
+use Rattle.mesh_cuts.proofs.KeptByCuts.{after_none}
+use Rattle.mesh_cuts.proofs.Each.{Each}
+
+-- a cut's point lies in the box of each edge that it cuts
+box_of_cut : (k : Cut) (f : Edge) → IsSound k → same_ends f k.ends ≡ true → IsInBox f k.at
+box_of_cut k f sound t =
+    ⊎_elim
+    (λ (p : f ≡ k.ends). subst (λ (e : Edge). IsInBox e k.at) (sym p) sound.boxed)
+    (λ (p : f ≡ back k.ends). subst (λ (e : Edge). IsInBox e k.at) (sym p) (turned k.ends k.at sound.boxed))
+    ((decides_ends f k.ends).0 t)
+  where
+    turned : (e : Edge) (c : Point) → IsInBox e c → IsInBox (back e) c
+    turned e c h = record { by_x = record { up = h.by_x.down; down = h.by_x.up }; by_y = record { up = h.by_y.down; down = h.by_y.up } }
+
+-- ---- paths stay chains
+
+leads_cut : (k : Cut) (p : Point) (es : List Edge) (r : Point) → Leads p es r → Leads p (cut k es) r
+leads_cut k p [] r h = h
+leads_cut k p (f ∷ es) r h = by (same_ends f k.ends) (leads_cut k f.1 es r h.1)
+  where
+    by : (b : Bool) → Leads f.1 (cut k es) r → Leads p (cond b ((f.0, k.at) ∷ (k.at, f.1) ∷ []) (f ∷ []) ++ cut k es) r
+    by true rest = (h.0, (refl, rest))
+    by false rest = (h.0, rest)
+
+-- ---- paths never go back
+
+first_onward : (e f : Edge) (c : Point) → IsOnward e f → IsInBox f c → IsOnward e (f.0, c)
+first_onward e f c h box = record {
+  east = λ o. (box.by_x.up (h.east o)).0;
+  west = λ o. (box.by_x.down (h.west o)).1;
+  up = λ o. (box.by_y.up (h.up o)).0;
+  down = λ o. (box.by_y.down (h.down o)).1;
+  start_in_box = h.start_in_box;
+  end_in_box = box_trans e f c h.start_in_box h.end_in_box box;
+}
+
+second_onward : (e f : Edge) (c : Point) → IsOnward e f → IsInBox f c → IsOnward e (c, f.1)
+second_onward e f c h box = record {
+  east = λ o. (box.by_x.up (h.east o)).1;
+  west = λ o. (box.by_x.down (h.west o)).0;
+  up = λ o. (box.by_y.up (h.up o)).1;
+  down = λ o. (box.by_y.down (h.down o)).0;
+  start_in_box = box_trans e f c h.start_in_box h.end_in_box box;
+  end_in_box = h.end_in_box;
+}
+
+onward_cut : (e : Edge) (k : Cut) → IsSound k → (es : List Edge) → All (IsOnward e) es → All (IsOnward e) (cut k es)
+onward_cut e k sound [] h = h
+onward_cut e k sound (f ∷ es) h =
+    let own = All-head (IsOnward e) f es h in
+    let rest = onward_cut e k sound es (All-tail (IsOnward e) f es h) in
+    ⊎_elim
+    (λ (t : same_ends f k.ends ≡ true).
+    let box = box_of_cut k f sound t in
+    subst (λ (b : Bool). All (IsOnward e) (cond b ((f.0, k.at) ∷ (k.at, f.1) ∷ []) (f ∷ []) ++ cut k es)) (sym t)
+    (All-cons (IsOnward e) (f.0, k.at) ((k.at, f.1) ∷ cut k es) (first_onward e f k.at own box)
+    (All-cons (IsOnward e) (k.at, f.1) (cut k es) (second_onward e f k.at own box) rest)))
+    (λ (n : same_ends f k.ends ≡ false).
+    subst (λ (b : Bool). All (IsOnward e) (cond b ((f.0, k.at) ∷ (k.at, f.1) ∷ []) (f ∷ []) ++ cut k es)) (sym n)
+    (All-cons (IsOnward e) f (cut k es) own rest))
+    (cases_Bool (same_ends f k.ends))
+
+pub path_of_edge : (ks : List Cut) → Each IsSound ks → (e : Edge) → IsPathOf e (path ks e)
+path_of_edge [] sound e = record {
+  leads = (refl, refl);
+  onward = All-cons (IsOnward e) e [] (record { east = λ o. o; west = λ o. o; up = λ o. o; down = λ o. o; start_in_box = start_box e; end_in_box = end_box e }) (λ i d h. absurd (omega arith));
+}
+path_of_edge (k ∷ ks) sound e =
+    let before = path_of_edge ks sound.1 e in
+    record { leads = leads_cut k e.0 (path ks e) e.1 before.leads; onward = onward_cut e k sound.0 (path ks e) before.onward }
+
+-- ---- each segment lies in the box of the edge that it comes from
+
+abbrev AreInBox : Edge → Edge → Type 0
+AreInBox e f = IsInBox e f.0 × IsInBox e f.1
+
+on_path_boxed : (e : Edge) (es : List Edge) → All (IsOnward e) es → (f : Edge) → occurs f es ≡ true → AreInBox e f
+on_path_boxed e [] h f o = absurd (false≢true o)
+on_path_boxed e (d ∷ es) h f o =
+    ⊎_elim
+    (λ (t : same_ends f d ≡ true).
+    ⊎_elim (λ (x : f ≡ d). subst (AreInBox e) (sym x) own) (λ (x : f ≡ back d). subst (AreInBox e) (sym x) (own.1, own.0)) ((decides_ends f d).0 t))
+    (λ (t : occurs f es ≡ true). on_path_boxed e es (All-tail (IsOnward e) d es h) f t)
+    (or_cases (same_ends f d) (occurs f es) o)
+  where
+    own : AreInBox e d
+    own = let first = All-head (IsOnward e) d es h in (first.start_in_box, first.end_in_box)
+
+comes_from : (ks : List Cut) → Each IsSound ks → (es : List Edge) → (f : Edge) → occurs f (after ks es) ≡ true → ComesFrom es ks f
+comes_from ks sound [] f o = absurd (false≢true (subst (λ (l : List Edge). occurs f l ≡ true) (after_none ks) o))
+comes_from ks sound (e ∷ es) f o =
+    ⊎_elim
+    (λ (t : occurs f (path ks e) ≡ true).
+    let box = on_path_boxed e (path ks e) (path_of_edge ks sound e).onward f t in
+    record { edge = e; is_given = occurs_head e es; on_path = t; start_in_box = box.0; end_in_box = box.1 })
+    (λ (t : occurs f (after ks es) ≡ true).
+    let r = comes_from ks sound es f t in
+    record {
+      edge = r.edge;
+      is_given = or_right (same_ends r.edge e) (occurs r.edge es) r.is_given;
+      on_path = r.on_path;
+      start_in_box = r.start_in_box;
+      end_in_box = r.end_in_box;
+    })
+    (or_cases (occurs f (path ks e)) (occurs f (after ks es)) parts)
+  where
+    parts : (occurs f (path ks e) || occurs f (after ks es)) ≡ true
+    parts =
+        sym (occurs_append f (path ks e) (after ks es))
+        ∙ (ap (occurs f) (sym (after_append ks (e ∷ []) es)) ∙ o)
+
+-- ---- the splitting as a whole
+
+pub splitting_of : (given : List Edge) (ks : List Counted) → IsProper given → IsReached given [] ks [] → AllClear ks → IsSplitting given ks
+splitting_of given ks proper r clear =
+    let sound = legal_sound given r.cuts r.legal in
+    let whole = after_proper r.cuts sound given proper in
+    let count : IsCountOf (after r.cuts given) ks = record {
+      once = λ q. omega (arith, linear, r.count.once q);
+      counts = λ q. omega (arith, linear, r.count.counts q);
+    } in
+    record {
+      cuts = r.cuts;
+      legal = r.legal;
+      count = count;
+      clean = clean_of_clear (after r.cuts given) ks whole count clear;
+      proper = whole;
+      paths = path_of_edge r.cuts sound;
+      boxed = comes_from r.cuts sound given;
+      safe = λ unit h. split_safe unit given r.cuts r.legal h;
+      balanced = after_balanced r.cuts given;
+    }

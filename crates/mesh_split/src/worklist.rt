@@ -1,0 +1,69 @@
+//! The segments that are still to be tested against the live ones.
+
+ghost use Rattle.std.specs.Prelude.{◌≡◌, ◌⊎◌, List, [], ◌∷◌, ℤ, MatchOption, IfSome, OnOk};
+ghost use Rattle.std.specs.List.{All};
+ghost use Rattle.std.specs.Map.{keys_of};
+ghost use Rattle.mesh_cuts.specs.Split.{IsForward};
+ghost use Rattle.mesh_split.specs.Steps.{HaveRoom, IsTaken, IsRaised, IsNew};
+
+use mesh_cuts::grid::{CountedSegment, GridEdge};
+use std::alloc::{AllocError, Global};
+use std::collections::BTreeMap;
+use std::marker::Model;
+
+/// Segments by their ends, each once, the lesser end first. Contracts see the list of them.
+#[derive(Drop)]
+pub struct Worklist {
+    counts: BTreeMap<GridEdge, i128>,
+    /// Ends in the order in which they came. It says which segment is taken next, and nothing else.
+    latest: Vec<GridEdge>,
+}
+
+impl Model for Worklist {
+    ghost Value = { List (((ℤ × ℤ) × (ℤ × ℤ)) × ℤ) };
+
+    ghost view = { λ w. w.counts.entries };
+
+    ghost invariant = { λ w. All IsForward (keys_of w.counts.entries) };
+}
+
+impl Worklist {
+    /// No segment.
+    pub fn new(alloc: Global) -> Self
+        ensures { result ≡ [] }
+    {
+        Worklist {
+            counts: BTreeMap::new(alloc),
+            latest: Vec::new(alloc),
+        }
+    }
+
+    /// Takes a segment out, if there is one: the one that came last, though any order would do.
+    pub fn pop(&mut self) -> Option<CountedSegment>
+        ensures taken { MatchOption result ((self.old ≡ []) × (self.new ≡ [])) (λ s. IsTaken self.old self.new s) }
+        ensures forward { IfSome result (λ s. IsForward s.0) }
+    {
+        while let Some(ends) = self.latest.pop() {
+            if let Some(s) = self.counts.remove_entry(&ends) {
+                return Some(s);
+            }
+        }
+        self.counts.pop_first()
+    }
+
+    /// Puts a segment in, or adds its count to that of the segment with its ends.
+    pub fn add(&mut self, s: CountedSegment) -> Result<(), AllocError>
+        requires forward { IsForward s.0 }
+        requires room { HaveRoom self.old s }
+        ensures { OnOk result (IsRaised self.old self.new s ⊎ IsNew self.old self.new s) }
+    {
+        if let Some(count) = self.counts.get(&s.0) {
+            let sum = *count + s.1;
+            self.counts.insert(s.0, sum)?;
+            return Ok(());
+        }
+        self.counts.insert(s.0, s.1)?;
+        self.latest.push(s.0)?;
+        Ok(())
+    }
+}
