@@ -52,7 +52,7 @@ fn winding(segments: &[CountedSegment], q: FinePoint) -> i128
 }
 
 /// Upwards, or level and to the west.
-#[tactic(auto, unfolding(crate::specs::Boundary::rises))]
+#[tactic(auto, unfolding(mesh_cuts::specs::Boundary::rises))]
 fn rises(e: GridEdge) -> bool
     ensures { result ≡ rises e }
 {
