@@ -14,9 +14,9 @@ ghost use Rattle.mesh_cuts.specs.Reach.{AreEdgesSafe, ArePointsSafe};
 ghost use Rattle.mesh_shapes.specs.Resolution.{IsResolution};
 
 use crate::answer::int_shapes;
-pub use mesh_cuts::fill::FillRule;
 use crate::given::grid_edges;
 use crate::resolve::{Choices, resolve};
+pub use mesh_cuts::fill::FillRule;
 use mesh_num::num::{IntNumber, WideUnsigned};
 use mesh_num::shape::buffer::{FlatContoursBuffer, IntShapes};
 use mesh_num::shape::segment::Segment;

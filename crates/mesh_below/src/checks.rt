@@ -10,12 +10,12 @@ ghost use Rattle.mesh_below.specs.Asked.{AreResolvable};
 ghost use Rattle.mesh_cuts.specs.Reach.{AreEdgesSafe};
 ghost use Rattle.mesh_cuts.specs.Split.{back};
 
-use mesh_cuts::exact::{is_before, same_point};
 use crate::given::{coordinate, grid_edges, grid_point};
+use mesh_cuts::exact::{is_before, same_point};
 use mesh_cuts::grid::{GridEdge, GridPoint};
-use mesh_shapes::walk::in_order;
 use mesh_num::num::IntNumber;
 use mesh_num::shape::segment::Segment;
+use mesh_shapes::walk::in_order;
 use std::alloc::{AllocError, Global};
 
 /// Whether a segment is as `Segment::subject` gives it.

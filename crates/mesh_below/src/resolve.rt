@@ -10,13 +10,13 @@ ghost use Rattle.mesh_shapes.specs.Grouping.{AreRingsOf, PushesRing, shapes_poin
 ghost use Rattle.mesh_shapes.specs.Resolution.{IsResolution};
 ghost use Rattle.mesh_shapes.specs.Unused.{HavePoints, contour_edges};
 
-use mesh_shapes::arrange::{is_large, shapes};
 use mesh_cuts::fill::FillRule;
 use mesh_cuts::grid::{GridEdge, GridPoint};
+use mesh_shapes::arrange::{is_large, shapes};
 use mesh_shapes::ring::{Ring, ring_of};
 use mesh_shapes::sides::boundary;
-use mesh_split::splitter::split_edges;
 use mesh_shapes::walk::contours;
+use mesh_split::splitter::split_edges;
 use std::alloc::{AllocError, Global};
 
 /// What an answer depends on besides the edges: the least area, whether straight-through vertices stay, and the direction.

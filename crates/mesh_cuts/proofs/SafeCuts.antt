@@ -25,7 +25,7 @@ box_safe unit e c h box = record {
   y = between_small unit e.0.1 c.1 e.1.1 h.0.y h.1.y box.by_y;
 }
 
-abbrev IsSafeEdge : ℕ → Edge → Type 0
+abbrev pub IsSafeEdge : ℕ → Edge → Type 0
 IsSafeEdge unit e = IsSafe unit e.0 × IsSafe unit e.1
 
 cut_safe : (unit : ℕ) (k : Cut) → IsInBox k.ends k.at → (es : List Edge) → AreEdgesSafe unit es → AreEdgesSafe unit (cut k es)
@@ -53,7 +53,7 @@ after_safe unit (k ∷ ks) boxed es h = cut_safe unit k boxed.0 (after ks es) (a
 pub split_safe : (unit : ℕ) (es : List Edge) (ks : List Cut) → IsLegal es ks → AreEdgesSafe unit es → AreEdgesSafe unit (after ks es)
 split_safe unit es ks legal h = after_safe unit ks (legal_boxed es ks legal) es h
 
-occurs_safe : (unit : ℕ) (es : List Edge) → AreEdgesSafe unit es → (e : Edge) → occurs e es ≡ true → IsSafeEdge unit e
+pub occurs_safe : (unit : ℕ) (es : List Edge) → AreEdgesSafe unit es → (e : Edge) → occurs e es ≡ true → IsSafeEdge unit e
 occurs_safe unit [] h e o = absurd (false≢true o)
 occurs_safe unit (d ∷ es) h e o =
     ⊎_elim

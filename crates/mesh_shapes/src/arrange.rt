@@ -12,9 +12,9 @@ ghost use Rattle.mesh_shapes.specs.Progress.{NoneRound, IsHolder};
 ghost use Rattle.mesh_shapes.specs.Resolution.{is_large, points_lt, is_head, shape_of, shapes_of, answered, AreArranged};
 
 use crate::area::{double_area, holds};
+use crate::ring::Ring;
 use mesh_cuts::fine::FinePoint;
 use mesh_cuts::grid::GridPoint;
-use crate::ring::Ring;
 use std::alloc::{AllocError, Global};
 
 /// Whether the ring's double area is in size at least twice the least area.

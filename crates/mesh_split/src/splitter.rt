@@ -9,10 +9,10 @@ ghost use Rattle.mesh_cuts.specs.Split.{IsForward};
 ghost use Rattle.mesh_split.specs.Steps.{Puts, PutsPieces, Settles, exactly, weight, total_weight};
 ghost use Rattle.mesh_cuts.specs.Counted.{size};
 
-use mesh_cuts::exact::{is_before, is_end};
-use mesh_cuts::grid::{CountedSegment, GridEdge, GridPoint};
 use crate::store::{Meeting, Store};
 use crate::worklist::Worklist;
+use mesh_cuts::exact::{is_before, is_end};
+use mesh_cuts::grid::{CountedSegment, GridEdge, GridPoint};
 use std::alloc::{AllocError, Global};
 
 /// The segments that wait to be tested, and the live ones, which are clear of each other.
