@@ -1,0 +1,11 @@
+-- What is printed in place of an answer.
+use Rattle.std.specs.Prelude.{ℕ, List, codes}
+use Rattle.i_overlay_mesh.specs.declared.error.IntOutlineError.TheVariants.{CoordinateOutOfRange, OutOfMemory}
+use Rattle.mesh_service.specs.declared.failure.Failure.{Failure}
+use Rattle.mesh_service.specs.declared.failure.Failure.TheVariants.{Unreadable, Refused}
+
+-- the line of a failure
+abbrev pub failure_line : Failure → List ℕ
+failure_line Unreadable = codes "{\"unreadable\":\"request\"}\n"
+failure_line (Refused CoordinateOutOfRange) = codes "{\"refused\":\"mesh coordinate exceeds the integer engine range\"}\n"
+failure_line (Refused OutOfMemory) = codes "{\"refused\":\"mesh construction ran out of memory\"}\n"

@@ -1,0 +1,24 @@
+-- Requests that are served.
+use Rattle.std.specs.Prelude.{ℕ, ℤ, List}
+use Rattle.mesh_num.specs.Plane.{Point}
+use Rattle.mesh_below.specs.Options.{choices_of}
+use Rattle.mesh_below.specs.Resolution.{Choices}
+use Rattle.mesh_service.specs.declared.outline.Output.{Output}
+
+-- what is asked of an outline: the edges of each path, or the shapes of all paths with these choices
+pub data Asked : Type 0 where
+  edges : Asked
+  shapes : Choices → Asked
+
+-- what the program's own value stands for, where `value` is the whole number that an area stands for
+abbrev pub asked_of : {U : Type 0} → (U → ℕ) → Output U → Asked
+asked_of value Output.Edges = edges
+asked_of value (Output.Shapes options) = shapes (choices_of value options)
+
+-- a request for the outline of paths by an outer and an inner offset. Its coordinates are of the type with `unit`, which
+-- holds the whole numbers from `-2 * unit` on that are below `2 * unit`
+pub record Request : Type 0 where
+  pub unit : ℕ
+  pub paths : List (List Point)
+  pub offsets : ℤ × ℤ
+  pub asked : Asked
