@@ -12,5 +12,3 @@ pub mod outline;
 pub mod output;
 pub mod request;
 pub mod service;
-#[cfg(test)]
-mod tests;
