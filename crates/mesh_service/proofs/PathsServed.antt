@@ -16,32 +16,27 @@ use Rattle.mesh_join.specs.Joins.{bevel_padding}
 use Rattle.mesh_below.specs.Contours.{double_area}
 use Rattle.mesh_below.specs.Resolution.{Choices}
 use Rattle.i_overlay_mesh.specs.Building.{IsMovable, bevelled_edges}
-use Rattle.i_overlay_mesh.specs.Padding.{outline_padding}
 use Rattle.i_overlay_mesh.specs.Resolved.{DoAreasFit, IsOutline}
 use Rattle.i_overlay_mesh.proofs.Padding.{outer_covered, inner_covered, safe_within_less}
-use Rattle.i_overlay_mesh.specs.declared.error.IntOutlineError.{IntOutlineError}
-use Rattle.i_overlay_mesh.specs.declared.error.IntOutlineError.TheVariants.{CoordinateOutOfRange}
-use Rattle.mesh_service.specs.declared.failure.Failure.{Failure}
-use Rattle.mesh_service.specs.declared.failure.Failure.TheVariants.{Unreadable, Refused}
 use Rattle.serde_json.specs.Data.{Data}
 use Rattle.serde_json.specs.Read.{read}
 use Rattle.serde_json.specs.Written.{has_float}
 use Rattle.mesh_service.specs.Answers.{edges_text, shapes_text}
 use Rattle.mesh_service.specs.Reading.{request_of}
 use Rattle.mesh_service.specs.Requests.{Asked, Request}
-use Rattle.mesh_service.specs.Served.{IsAccepted, IsListed, Lists, Answers, served_edges}
+use Rattle.mesh_service.specs.Served.{AreListed, IsAccepted, Lists, Answers, padding_of, served_edges}
 use Rattle.mesh_service.specs.Serving.{exact_request, request_in}
 
 padding_nonneg : (offset : ℤ) → pos 0 ≤ℤ bevel_padding offset
 padding_nonneg offset = omega (arith, ints)
 
-pub movable_outer : (unit : ℕ) (outer inner : ℤ) (path : List Point) → All (IsSafeWidened unit (outline_padding outer inner)) path → All (IsMovable unit outer) path
-movable_outer unit outer inner path safe k d h =
-    safe_within_less unit (outline_padding outer inner) (bevel_padding outer) _ (padding_nonneg outer) (outer_covered outer inner) (safe k d h)
+pub movable_outer : (unit : ℕ) (offsets : ℤ × ℤ) (path : List Point) → All (IsSafeWidened unit (padding_of offsets)) path → All (IsMovable unit offsets.0) path
+movable_outer unit offsets path safe k d h =
+    safe_within_less unit (padding_of offsets) (bevel_padding offsets.0) _ (padding_nonneg offsets.0) (outer_covered offsets.0 offsets.1) (safe k d h)
 
-pub movable_inner : (unit : ℕ) (outer inner : ℤ) (path : List Point) → All (IsSafeWidened unit (outline_padding outer inner)) path → All (IsMovable unit inner) path
-movable_inner unit outer inner path safe k d h =
-    safe_within_less unit (outline_padding outer inner) (bevel_padding inner) _ (padding_nonneg inner) (inner_covered outer inner) (safe k d h)
+pub movable_inner : (unit : ℕ) (offsets : ℤ × ℤ) (path : List Point) → All (IsSafeWidened unit (padding_of offsets)) path → All (IsMovable unit offsets.1) path
+movable_inner unit offsets path safe k d h =
+    safe_within_less unit (padding_of offsets) (bevel_padding offsets.1) _ (padding_nonneg offsets.1) (inner_covered offsets.0 offsets.1) (safe k d h)
 
 -- ---- the paths that vectors hold, one after another
 
@@ -122,23 +117,18 @@ is_requested text d request r f q =
     let exact : exact_request d ≡ Some request = rw f q in
     ap (λ (o : Option Data). option_and_then exact_request o) r ∙ exact
 
-pub edges_answer : (order : ℤ → ℤ → Ordering) (request : Request) (line : List ℕ) (lists : List (List Edge)) → request.asked ≡ Asked.edges → IsAccepted request →
-    AllZip (IsListed order request.unit request.offsets) request.paths lists → line ≡ edges_text lists → Answers order request line
+pub edges_answer : (order : ℤ → ℤ → Ordering) (request : Request) (line : List ℕ) (lists : List (List Edge)) → request.asked ≡ Asked.for_edges → IsAccepted request →
+    AreListed order request.unit request.offsets request.paths lists → line ≡ edges_text lists → Answers order request line
 edges_answer order request line lists e accepted each written =
     record {
       accepted = accepted;
       listed = subst (λ (asked : Asked). Lists order request line asked) (sym e) (record { lists = lists; each = each; written = written });
     }
 
-pub shapes_answer : (order : ℤ → ℤ → Ordering) (request : Request) (line : List ℕ) (choices : Choices) (shapes : List (List (List Point))) → request.asked ≡ Asked.shapes choices →
+pub shapes_answer : (order : ℤ → ℤ → Ordering) (request : Request) (line : List ℕ) (choices : Choices) (shapes : List (List (List Point))) → request.asked ≡ Asked.for_shapes choices →
     IsAccepted request → IsOutline request.unit request.offsets choices request.paths shapes → line ≡ shapes_text shapes → Answers order request line
 shapes_answer order request line choices shapes e accepted outline written =
     record {
       accepted = accepted;
       listed = subst (λ (asked : Asked). Lists order request line asked) (sym e) (record { shapes = shapes; outline = outline; written = written });
     }
-
--- the error of a refusal
-abbrev pub refused_by : Failure → IntOutlineError
-refused_by Unreadable = CoordinateOutOfRange
-refused_by (Refused error) = error

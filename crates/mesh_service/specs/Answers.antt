@@ -8,6 +8,10 @@ use Rattle.serde_json.specs.View.{items_of}
 use Rattle.serde_json.specs.Written.{compact_text}
 use Rattle.mesh_num.specs.Plane.{Point, Edge}
 
+-- the order of whole numbers by the values that stand for them
+abbrev pub by_values : {C : Type 0} → (C → C → Ordering) → (ℤ → C) → ℤ → ℤ → Ordering
+by_values order of_value = λ a b. order (of_value a) (of_value b)
+
 -- the order of points by an order of their coordinates: by x, then by y
 abbrev pub point_order : (ℤ → ℤ → Ordering) → Point → Point → Ordering
 point_order order p q = ordering_then (order p.0 q.0) (order p.1 q.1)

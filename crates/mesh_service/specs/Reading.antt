@@ -8,21 +8,21 @@ use Rattle.mesh_num.specs.Plane.{Point}
 use Rattle.mesh_below.specs.Options.{plain}
 use Rattle.mesh_below.specs.Resolution.{Choices}
 use Rattle.i_overlay_mesh.specs.declared.error.IntOutlineError.TheVariants.{CoordinateOutOfRange, OutOfMemory}
-use Rattle.mesh_service.specs.Requests.{Asked, edges, shapes, Request}
+use Rattle.mesh_service.specs.Requests.{Asked, for_edges, for_shapes, Request}
 use Rattle.mesh_service.specs.declared.failure.Failure.{Failure}
 use Rattle.mesh_service.specs.declared.failure.Failure.TheVariants.{Unreadable, Refused}
 
 -- the whole number of 64 bits that a value is
-abbrev pub whole : Data → Option ℤ
-whole d = option_and_then as_i64 (as_number d)
+abbrev pub whole_number : Data → Option ℤ
+whole_number d = option_and_then as_i64 (as_number d)
 
--- the number, where a type with `unit` holds it
-abbrev pub held : ℕ → ℤ → Option ℤ
-held unit z = if int_le (neg_ℤ (pos (2 * unit))) z && int_lt z (pos (2 * unit)) then Some z else None
+-- the number, where it fits a type with `unit`
+abbrev pub where_fits : ℕ → ℤ → Option ℤ
+where_fits unit z = if int_le (neg_ℤ (pos (2 * unit))) z && int_lt z (pos (2 * unit)) then Some z else None
 
 -- the coordinate that a value is
 abbrev pub coordinate_of : ℕ → Data → Option ℤ
-coordinate_of unit d = option_and_then (held unit) (whole d)
+coordinate_of unit d = option_and_then (where_fits unit) (whole_number d)
 
 -- both values, where there are both
 abbrev pub both : {A B : Type 0} → Option A → Option B → Option (A × B)
@@ -66,13 +66,17 @@ is_word word (Some text) = bytes_eq text word
 abbrev pub says : List ℕ → List ℕ → Data → Bool
 says key word d = is_word word (option_and_then as_str (get key d))
 
+-- whether there is a member
+abbrev pub has_key : List ℕ → Data → Bool
+has_key key d = is_some (get key d)
+
 -- whether a style has a key that means something and is not served
 abbrev pub has_unserved : Data → Bool
-has_unserved d = is_some (get (codes "width") d) || is_some (get (codes "min_turn") d) || is_some (get (codes "start") d) || is_some (get (codes "end") d) || is_some (get (codes "arc") d)
+has_unserved d = has_key (codes "width") d || has_key (codes "min_turn") d || has_key (codes "start") d || has_key (codes "end") d || has_key (codes "arc") d
 
 -- whether the joins are bevels, as they are where nothing is said of them
 abbrev pub has_bevels : Data → Bool
-has_bevels d = not (is_some (get (codes "join") d)) || says (codes "join") (codes "bevel") d
+has_bevels d = not (has_key (codes "join") d) || says (codes "join") (codes "bevel") d
 
 -- the offset that a style gives under a key
 abbrev pub offset_of : ℕ → List ℕ → Data → Option ℤ
@@ -82,14 +86,14 @@ offset_of unit key d = option_and_then (coordinate_of unit) (get key d)
 abbrev pub offsets_of : ℕ → Data → Option (ℤ × ℤ)
 offsets_of unit d = if not (has_unserved d) && has_bevels d then both (offset_of unit (codes "outer") d) (offset_of unit (codes "inner") d) else None
 
--- the number, where the type of areas holds it
-abbrev pub held_area : ℕ → ℕ → Option ℕ
-held_area unit n = if nat_lt n (16 * unit * unit) then Some n else None
+-- the number, where it fits the type of areas
+abbrev pub where_area_fits : ℕ → ℕ → Option ℕ
+where_area_fits unit n = if nat_lt n (16 * unit * unit) then Some n else None
 
 -- the area that a value is, 0 where there is none
 abbrev pub area_of : ℕ → Option Data → Option ℕ
 area_of unit None = Some 0
-area_of unit (Some d) = option_and_then (held_area unit) (option_and_then as_u64 (as_number d))
+area_of unit (Some d) = option_and_then (where_area_fits unit) (option_and_then as_u64 (as_number d))
 
 -- what a value says, false where there is none
 abbrev pub flag_of : Option Data → Option Bool
@@ -111,7 +115,7 @@ choices_given unit (Some d) = if is_some (as_object d) then choices_in unit d el
 
 -- what a request asks; options are looked at for shapes alone
 abbrev pub asked_in : ℕ → Data → Option Asked
-asked_in unit d = if says (codes "out") (codes "edges") d then Some edges else (if says (codes "out") (codes "shapes") d then option_map shapes (choices_given unit (get (codes "options") d)) else None)
+asked_in unit d = if says (codes "out") (codes "edges") d then Some for_edges else (if says (codes "out") (codes "shapes") d then option_map for_shapes (choices_given unit (get (codes "options") d)) else None)
 
 -- the paths, the offsets and what is asked, as a request
 abbrev pub request_with : ℕ → List (List Point) × ((ℤ × ℤ) × Asked) → Request

@@ -1,5 +1,5 @@
 -- What is answered to a request for the outline of paths.
-use Rattle.std.specs.Prelude.{ℕ, ◌≡◌, ◌*◌, List, [], cond, ℤ, pos, int_lt}
+use Rattle.std.specs.Prelude.{ℕ, ◌≡◌, ◌*◌, List, [], Option, Some, cond, ℤ, pos, int_lt}
 use Rattle.std.specs.List.{AllZip}
 use Rattle.std.specs.List.Sorted.{IsPermutation, IsSorted}
 use Rattle.std.specs.declared.cmp.Ordering.{Ordering}
@@ -12,10 +12,14 @@ use Rattle.i_overlay_mesh.specs.Resolved.{DoAreasFit, IsOutline}
 use Rattle.mesh_service.specs.Answers.{edge_order, edges_text, shapes_text}
 use Rattle.mesh_service.specs.Requests.{Asked, Request}
 
+-- the padding of an outline with these offsets
+abbrev pub padding_of : ℤ × ℤ → ℤ
+padding_of offsets = outline_padding offsets.0 offsets.1
+
 -- the paths stay safe where they move by the two offsets, and the double area of each fits the wide type, which holds the
 -- whole numbers from `-8 * unit * unit` on that are below `8 * unit * unit`
 pub record IsAccepted (request : Request) : Type 0 where
-  pub safe : ArePathsSafe request.unit (outline_padding request.offsets.0 request.offsets.1) request.paths
+  pub safe : ArePathsSafe request.unit (padding_of request.offsets) request.paths
   pub fit : DoAreasFit (8 * request.unit * request.unit) request.paths
 
 -- the edges of a path's outline: with the outer offset where its area is above 0, with the inner one where it is below,
@@ -30,10 +34,14 @@ pub record IsListed (order : ℤ → ℤ → Ordering) (unit : ℕ) (offsets : �
   pub same : IsPermutation (served_edges unit offsets path) edges
   pub sorted : IsSorted (edge_order order) edges
 
+-- the edges of each path's outline, path by path
+abbrev pub AreListed : (ℤ → ℤ → Ordering) → ℕ → ℤ × ℤ → List (List Point) → List (List Edge) → Type 0
+AreListed order unit offsets paths lists = AllZip (IsListed order unit offsets) paths lists
+
 -- the line lists the edges of each path, path by path
 pub record ListsEdges (order : ℤ → ℤ → Ordering) (request : Request) (line : List ℕ) : Type 0 where
   pub lists : List (List Edge)
-  pub each : AllZip (IsListed order request.unit request.offsets) request.paths lists
+  pub each : AreListed order request.unit request.offsets request.paths lists
   pub written : line ≡ edges_text lists
 
 -- the line lists shapes that are the outline of the paths, with these choices
@@ -44,10 +52,18 @@ pub record ListsShapes (choices : Choices) (request : Request) (line : List ℕ)
 
 -- the line lists what is asked
 abbrev pub Lists : (ℤ → ℤ → Ordering) → Request → List ℕ → Asked → Type 0
-Lists order request line Asked.edges = ListsEdges order request line
-Lists order request line (Asked.shapes choices) = ListsShapes choices request line
+Lists order request line Asked.for_edges = ListsEdges order request line
+Lists order request line (Asked.for_shapes choices) = ListsShapes choices request line
 
 -- the line answers a request that is accepted
 pub record Answers (order : ℤ → ℤ → Ordering) (request : Request) (line : List ℕ) : Type 0 where
   pub accepted : IsAccepted request
   pub listed : Lists order request line request.asked
+
+-- there is a request, and the line answers it
+abbrev pub AnswersAsked : (ℤ → ℤ → Ordering) → Option Request → List ℕ → Type 0
+AnswersAsked order asked line = (request : Request) × (asked ≡ Some request) × Answers order request line
+
+-- there is a request, and it may not be answered
+abbrev pub IsAskedInVain : Option Request → Type 0
+IsAskedInVain asked = (request : Request) × (asked ≡ Some request) × (IsAccepted request → ⊥)

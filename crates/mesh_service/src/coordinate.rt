@@ -1,14 +1,14 @@
 //! Coordinates and areas out of numbers of 128 bits.
 
 ghost use Rattle.std.specs.Prelude.{◌≡◌, ◌*◌, ◌^◌, ◌≤◌, ℕ, pos, option_map};
-ghost use Rattle.mesh_service.specs.Reading.{held, held_area};
+ghost use Rattle.mesh_service.specs.Reading.{where_fits, where_area_fits};
 
 use mesh_num::num::convert::widen;
 use mesh_num::num::{IntNumber, WideUnsigned};
 
 /// A number as a coordinate, `None` where it does not fit.
 pub fn narrowed<I: IntNumber>(number: i128) -> Option<I>
-    ensures { option_map (λ c. I.value c) result ≡ held I.unit number }
+    ensures { option_map (λ c. I.value c) result ≡ where_fits I.unit number }
 {
     let end = range_end::<I>();
     if -end <= number && number < end {
@@ -28,7 +28,7 @@ fn range_end<I: IntNumber>() -> i128
 
 /// A number as an area, `None` where it does not fit.
 pub fn narrowed_area<I: IntNumber>(number: u128) -> Option<I::WideUInt>
-    ensures { option_map (λ a. I.WideUInt.value a) result ≡ held_area I.unit number }
+    ensures { option_map (λ a. I.WideUInt.value a) result ≡ where_area_fits I.unit number }
 {
     if number < area_end::<I>() {
         Some(I::WideUInt::from_u128(number))

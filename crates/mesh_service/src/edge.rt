@@ -3,7 +3,7 @@
 ghost use Rattle.std.specs.Prelude.{◌≡◌, IfOk};
 ghost use Rattle.std.specs.List.Sorted.{IsPermutation, IsSorted};
 ghost use Rattle.mesh_num.specs.Segments.{edge_of, edges_of};
-ghost use Rattle.mesh_service.specs.Answers.{edge_order};
+ghost use Rattle.mesh_service.specs.Answers.{by_values, edge_order};
 
 use mesh_num::num::{IntPoint, OverlayInt};
 use mesh_num::shape::segment::Segment;
@@ -63,7 +63,7 @@ pub fn sorted_edges<I: OverlayInt>(
     segments: &[Segment<I>],
 ) -> Result<Vec<DirectedEdge<I>>, AllocError>
     ensures edges { IfOk result (λ es. IsPermutation (edges_of segments.now) es.items) }
-    ensures sorted { IfOk result (λ es. IsSorted (edge_order (λ a b. I.cmp (I.of_value a) (I.of_value b))) es.items) }
+    ensures sorted { IfOk result (λ es. IsSorted (edge_order (by_values I.cmp I.of_value)) es.items) }
 {
     let mut edges = Vec::with_capacity(alloc, segments.len())?;
     for segment in segments {

@@ -1,16 +1,18 @@
 //! Requests for outlines, and what the library answers to them.
 
 ghost use Rattle.std.specs.Prelude.{◌≡◌, ◌↔◌, [], OnOk, IfOk, IsTrue};
-ghost use Rattle.std.specs.List.{All, AllZip};
+ghost use Rattle.std.specs.List.{All};
 ghost use Rattle.std.specs.List.Sorted.{IsPermutation};
 ghost use Rattle.mesh_num.specs.Paths.{paths_of, shapes_of};
 ghost use Rattle.mesh_num.specs.Rectangle.{IsSafeWidened};
 ghost use Rattle.mesh_num.specs.Segments.{edges_of};
 ghost use Rattle.mesh_below.specs.Options.{choices_of};
 ghost use Rattle.i_overlay_mesh.specs.Building.{IsMovable, bevelled_edges};
-ghost use Rattle.i_overlay_mesh.specs.Padding.{outline_padding, ArePathsSafe};
+ghost use Rattle.i_overlay_mesh.specs.Padding.{ArePathsSafe};
 ghost use Rattle.i_overlay_mesh.specs.Resolved.{DoAreasFit, IsOutline};
-ghost use Rattle.mesh_service.specs.Served.{IsAccepted, IsListed, served_edges};
+ghost use Rattle.mesh_service.specs.Answers.{by_values};
+ghost use Rattle.mesh_service.specs.Requests.{offsets_in};
+ghost use Rattle.mesh_service.specs.Served.{AreListed, IsAccepted, padding_of, served_edges};
 
 use crate::edge::{DirectedEdge, sorted_edges};
 use i_overlay_mesh::IntOutlineError;
@@ -48,17 +50,17 @@ pub struct OutlineRequest<I: OverlayInt> {
 
 impl<I: OverlayInt> Model for OutlineRequest<I> {
     ghost use Rattle.mesh_num.specs.Paths.{paths_of};
-    ghost use Rattle.mesh_service.specs.Requests.{Request, asked_of};
+    ghost use Rattle.mesh_service.specs.Requests.{Request, asked_of, offsets_in};
 
     ghost Value = { Request };
 
-    ghost view = { λ r. record { unit = I.unit; paths = paths_of r.paths.items; offsets = (I.value r.style.outer_offset, I.value r.style.inner_offset); asked = asked_of I.WideUInt.value r.output } };
+    ghost view = { λ r. record { unit = I.unit; paths = paths_of r.paths.items; offsets = offsets_in I.value r.style; asked = asked_of I.WideUInt.value r.output } };
 }
 
 impl<I: OverlayInt> OutlineRequest<I> {
     /// The edges of each path's outline, in their order. Nothing is built unless all paths are accepted.
     pub fn edges(&self, alloc: Global) -> Result<Vec<Vec<DirectedEdge<I>>>, IntOutlineError>
-        ensures edges { IfOk result (λ lists. AllZip (IsListed (λ a b. I.cmp (I.of_value a) (I.of_value b)) self.now.unit self.now.offsets) self.now.paths (paths_of lists.items)) }
+        ensures edges { IfOk result (λ lists. AreListed (by_values I.cmp I.of_value) self.now.unit self.now.offsets self.now.paths (paths_of lists.items)) }
         ensures accepted { OnOk result (IsAccepted self.now) }
         ensures refused { result ≡ Err IntOutlineError.CoordinateOutOfRange → ¬ IsAccepted self.now }
     {
@@ -102,8 +104,8 @@ fn edge_lists<I: OverlayInt>(
     paths: &[Vec<IntPoint<I>>],
     style: &IntOutlineStyle<I>,
 ) -> Result<Vec<Vec<DirectedEdge<I>>>, AllocError>
-    requires { ArePathsSafe I.unit (outline_padding (I.value style.now.outer_offset) (I.value style.now.inner_offset)) (paths_of paths.now) }
-    ensures { IfOk result (λ lists. AllZip (IsListed (λ a b. I.cmp (I.of_value a) (I.of_value b)) I.unit (I.value style.now.outer_offset, I.value style.now.inner_offset)) (paths_of paths.now) (paths_of lists.items)) }
+    requires { ArePathsSafe I.unit (padding_of (offsets_in I.value style.now)) (paths_of paths.now) }
+    ensures { IfOk result (λ lists. AreListed (by_values I.cmp I.of_value) I.unit (offsets_in I.value style.now) (paths_of paths.now) (paths_of lists.items)) }
 {
     let mut lists = Vec::with_capacity(alloc, paths.len())?;
     for path in paths {
@@ -119,8 +121,8 @@ fn path_segments<I: OverlayInt>(
     path: &[IntPoint<I>],
     style: &IntOutlineStyle<I>,
 ) -> Result<Vec<Segment<I>>, AllocError>
-    requires { All (IsSafeWidened I.unit (outline_padding (I.value style.now.outer_offset) (I.value style.now.inner_offset))) path.now }
-    ensures { IfOk result (λ ss. IsPermutation (edges_of ss.items) (served_edges I.unit (I.value style.now.outer_offset, I.value style.now.inner_offset) path.now)) }
+    requires { All (IsSafeWidened I.unit (padding_of (offsets_in I.value style.now))) path.now }
+    ensures { IfOk result (λ ss. IsPermutation (edges_of ss.items) (served_edges I.unit (offsets_in I.value style.now) path.now)) }
 {
     let area = double_area(path);
     let mut segments = Vec::new(alloc);

@@ -4,7 +4,7 @@ ghost use Rattle.std.specs.Prelude.{◌≡◌, Some, None, MatchResult, option_m
 ghost use Rattle.serde_json.specs.View.{view, items_view};
 ghost use Rattle.mesh_num.specs.Paths.{paths_of};
 ghost use Rattle.mesh_service.specs.Reading.{point_of, points_of, path_of, path_list_of, paths_in, has_unserved as unserved, has_bevels as bevels, offsets_of, offset_of, asked_in, outline_of, IsOfReading};
-ghost use Rattle.mesh_service.specs.Requests.{asked_of};
+ghost use Rattle.mesh_service.specs.Requests.{asked_of, offsets_in};
 
 use crate::failure::Failure;
 use crate::json::{coordinate, says};
@@ -109,7 +109,7 @@ fn point<I: IntNumber>(value: &Value) -> Option<IntPoint<I>>
 }
 
 fn outline_style<I: OverlayInt>(style: Option<&Value>) -> Option<IntOutlineStyle<I>>
-    ensures { option_map (λ s. (I.value s.outer_offset, I.value s.inner_offset)) result
+    ensures { option_map (λ s. offsets_in I.value s) result
         ≡ option_and_then (offsets_of I.unit) (option_map (λ v. view v.now) style.entry) }
 {
     let style = style?;

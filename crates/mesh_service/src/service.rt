@@ -1,13 +1,13 @@
 //! One run of the program, over any reader and writer.
 
-ghost use Rattle.std.specs.Prelude.{◌≡◌, ◌↔◌, Some, None, List, IsOk, OnOk, IfOk, IfSome, MatchResult, IsUtf8, string_bytes};
+ghost use Rattle.std.specs.Prelude.{◌≡◌, ◌↔◌, Some, None, List, IsOk, OnOk, IfOk, IfSome, IsUtf8, string_bytes};
 ghost use Rattle.std.specs.Io.KnownBytes.{Appends};
 ghost use Rattle.std.specs.Ordering.{int_cmp};
 ghost use Rattle.serde_json.specs.View.{view};
-ghost use Rattle.mesh_service.specs.Failures.{failure_line};
+ghost use Rattle.mesh_service.specs.Answers.{by_values};
+ghost use Rattle.mesh_service.specs.Failures.{failure_line, told_line};
 ghost use Rattle.mesh_service.specs.Reading.{outline_of, request_of};
-ghost use Rattle.mesh_service.specs.Requests.{Request};
-ghost use Rattle.mesh_service.specs.Served.{IsAccepted, Answers};
+ghost use Rattle.mesh_service.specs.Served.{IsAccepted, Answers, AnswersAsked, IsAskedInVain};
 ghost use Rattle.mesh_service.specs.Serving.{request_in, IsAnswer, IsRefused, IsReply, AppendsBeginning};
 
 use crate::answer::{edges_line, shapes_line};
@@ -78,7 +78,7 @@ fn status_of(answer: &Result<String, Failure>) -> Status
 
 fn read_and_answer<R: Read>(alloc: Global, reader: &mut R) -> Result<String, Failure>
     ensures answered { IfOk result (λ line. IfSome (R.remaining reader.old) (λ request. IsAnswer request (string_bytes line))) }
-    ensures reply { MatchResult result (λ line. IsReply (R.remaining reader.old) (string_bytes line)) (λ failure. IsReply (R.remaining reader.old) (failure_line failure)) }
+    ensures reply { IsReply (R.remaining reader.old) (told_line result) }
 {
     let request = read_to_end(alloc, reader)?;
     respond(alloc, &request)
@@ -96,9 +96,8 @@ pub fn respond(alloc: Global, request: &[u8]) -> Result<String, Failure>
 
 /// The line that answers the request that a value is.
 fn answer(alloc: Global, value: &Value) -> Result<String, Failure>
-    ensures answered { IfOk result (λ line. (r : Request) × (request_of (view value.now) ≡ Some r) × Answers int_cmp r (string_bytes line)) }
-    ensures refused { result ≡ Err (Failure.Refused IntOutlineError.CoordinateOutOfRange)
-        → (r : Request) × (request_of (view value.now) ≡ Some r) × (IsAccepted r → ⊥) }
+    ensures answered { IfOk result (λ line. AnswersAsked int_cmp (request_of (view value.now)) (string_bytes line)) }
+    ensures refused { result ≡ Err (Failure.Refused IntOutlineError.CoordinateOutOfRange) → IsAskedInVain (request_of (view value.now)) }
     ensures unreadable { result ≡ Err Failure.Unreadable → request_of (view value.now) ≡ None }
 {
     if !says(value, "op", "outline") {
@@ -115,10 +114,8 @@ fn answer(alloc: Global, value: &Value) -> Result<String, Failure>
 
 /// The line that answers a request for an outline with coordinates of one type.
 fn answer_outline<I: OverlayInt>(alloc: Global, value: &Value) -> Result<String, Failure>
-    ensures answered { IfOk result (λ line. (r : Request) × (outline_of I.unit (view value.now) ≡ Some r)
-        × Answers (λ a b. I.cmp (I.of_value a) (I.of_value b)) r (string_bytes line)) }
-    ensures refused { result ≡ Err (Failure.Refused IntOutlineError.CoordinateOutOfRange)
-        → (r : Request) × (outline_of I.unit (view value.now) ≡ Some r) × (IsAccepted r → ⊥) }
+    ensures answered { IfOk result (λ line. AnswersAsked (by_values I.cmp I.of_value) (outline_of I.unit (view value.now)) (string_bytes line)) }
+    ensures refused { result ≡ Err (Failure.Refused IntOutlineError.CoordinateOutOfRange) → IsAskedInVain (outline_of I.unit (view value.now)) }
     ensures unreadable { result ≡ Err Failure.Unreadable → outline_of I.unit (view value.now) ≡ None }
 {
     let request = read_outline::<I>(alloc, value)?;
@@ -130,7 +127,7 @@ fn outline_line<I: OverlayInt>(
     alloc: Global,
     request: &OutlineRequest<I>,
 ) -> Result<String, IntOutlineError>
-    ensures answered { IfOk result (λ line. Answers (λ a b. I.cmp (I.of_value a) (I.of_value b)) request.now (string_bytes line)) }
+    ensures answered { IfOk result (λ line. Answers (by_values I.cmp I.of_value) request.now (string_bytes line)) }
     ensures refused { result ≡ Err IntOutlineError.CoordinateOutOfRange → ¬ IsAccepted request.now }
 {
     match request.output {
@@ -146,12 +143,8 @@ fn outline_line<I: OverlayInt>(
 }
 
 fn print<W: Write>(writer: &mut W, answer: &Result<String, Failure>) -> io::Result<()>
-    ensures whole { OnOk result (MatchResult answer.now
-        (λ line. Appends (W.contents writer.old) (W.contents writer.new) (string_bytes line))
-        (λ failure. Appends (W.contents writer.old) (W.contents writer.new) (failure_line failure))) }
-    ensures beginning { MatchResult answer.now
-        (λ line. AppendsBeginning (W.contents writer.old) (W.contents writer.new) (string_bytes line))
-        (λ failure. AppendsBeginning (W.contents writer.old) (W.contents writer.new) (failure_line failure)) }
+    ensures whole { OnOk result (Appends (W.contents writer.old) (W.contents writer.new) (told_line answer.now)) }
+    ensures beginning { AppendsBeginning (W.contents writer.old) (W.contents writer.new) (told_line answer.now) }
 {
     match answer {
         Ok(line) => write_line(writer, line.as_bytes()),

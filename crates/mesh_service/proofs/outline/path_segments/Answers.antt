@@ -1,21 +1,21 @@
 -- What stays safe may be built with either offset, and the sign of the double area chooses the one.
 use Rattle.std.proofs.Common.{◌≡◌, List, [], ◌∙◌, rules, IsPermutation, subst}
-use Rattle.std.specs.Prelude.{ℤ}
 use Rattle.std.proofs.lemmas.Int.{to_z-of_z}
 use Rattle.std.proofs.lemmas.List.Sorted.{IsPermutation-refl}
 use Rattle.mesh_num.specs.Plane.{Edge}
 use mir.Syntax.{w128}
 use mir.Val.{to_z, of_z, SFits}
 use Rattle.mesh_below.specs.Contours.{double_area}
+use Rattle.mesh_service.specs.Requests.{offsets_in}
 use Rattle.mesh_service.proofs.PathsServed.{movable_outer, movable_inner, served_outer, served_inner, served_none}
 use Rattle.mesh_service.proofs.outline.path_segments.Goals as goal
 use Rattle.mesh_service.proofs.outline.path_segments.Goals.{then-area-gt0+in_ok-build, else-area-gt0+then-area-lt0+in_ok-build-2, else-area-gt0+else-area-lt0}
 
 pub build-requires-clause-safe : goal.build-requires-clause-safe
-build-requires-clause-safe g c = movable_outer _ (g.I.IntNumber.value c.args.style.now.outer_offset) (g.I.IntNumber.value c.args.style.now.inner_offset) _ c.requires
+build-requires-clause-safe g c = movable_outer _ (offsets_in g.I.IntNumber.value c.args.style.now) _ c.requires
 
 pub build-requires-then-area-lt0-clause-safe : goal.build-requires-then-area-lt0-clause-safe
-build-requires-then-area-lt0-clause-safe g c = movable_inner _ (g.I.IntNumber.value c.args.style.now.outer_offset) (g.I.IntNumber.value c.args.style.now.inner_offset) _ c.requires
+build-requires-then-area-lt0-clause-safe g c = movable_inner _ (offsets_in g.I.IntNumber.value c.args.style.now) _ c.requires
 
 pub returns : goal.returns
 returns g c =
@@ -24,7 +24,7 @@ returns g c =
     to_z-of_z w128 c.double_area-area.result r ∙ c.double_area-area.ensures in
     let unit = g.I.IntNumber.unit in
     let path = c.args.path.now in
-    let offsets : ℤ × ℤ = (g.I.IntNumber.value c.args.style.now.outer_offset, g.I.IntNumber.value c.args.style.now.inner_offset) in
+    let offsets = offsets_in g.I.IntNumber.value c.args.style.now in
     elim c.if-area-gt0.branch [
       | then-area-gt0+in_ok-build w ↦
           rw w.segments-is (rw (served_outer unit path offsets _ e w.if-area-gt0.true) at w.in_ok-build.ensures)
