@@ -9,11 +9,11 @@ use Rattle.serde_json.specs.Written.{has_float, items_have_float, members_have_f
 use Rattle.serde_json.specs.declared.value.Value.{Value}
 use Rattle.mesh_num.specs.Plane.{Point, Edge}
 use Rattle.mesh_service.specs.Reading.{pair_of}
-use Rattle.mesh_service.specs.Answers.{point_data, edge_data, list_data, edges_data, shapes_data}
+use Rattle.mesh_service.specs.Lines.{point_data, edge_data, list_data, edges_data, shapes_data}
 
-pub members-float : (ms : List (String Global × Value)) → members_have_float (members_view ms) ≡ items_have_float (items_view (values_of ms))
-members-float [] = refl
-members-float (m ∷ ms) = ap (λ (b : Bool). has_float (view m.1) || b) (members-float ms)
+pub members_float : (ms : List (String Global × Value)) → members_have_float (members_view ms) ≡ items_have_float (items_view (values_of ms))
+members_float [] = refl
+members_float (m ∷ ms) = ap (λ (b : Bool). has_float (view m.1) || b) (members_float ms)
 
 whole_no_float : (z : ℤ) → is_float (of_integer z) ≡ false
 whole_no_float (pos n) = refl

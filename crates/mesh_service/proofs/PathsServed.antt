@@ -21,7 +21,7 @@ use Rattle.i_overlay_mesh.proofs.Padding.{outer_covered, inner_covered, safe_wit
 use Rattle.serde_json.specs.Data.{Data}
 use Rattle.serde_json.specs.Read.{read}
 use Rattle.serde_json.specs.Written.{has_float}
-use Rattle.mesh_service.specs.Answers.{edges_text, shapes_text}
+use Rattle.mesh_service.specs.Lines.{edges_text, shapes_text}
 use Rattle.mesh_service.specs.Reading.{request_of}
 use Rattle.mesh_service.specs.Requests.{Asked, Request}
 use Rattle.mesh_service.specs.Served.{AreListed, IsAccepted, Lists, Answers, padding_of, served_edges}

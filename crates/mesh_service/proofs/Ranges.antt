@@ -1,4 +1,4 @@
--- Lemmas over whole numbers: what fits a coordinate fits its wide type, and what areas are held.
+-- A lemma over whole numbers: what fits a coordinate fits its wide type.
 use Rattle.std.proofs.Common.{◌≡◌, ℕ, ◌*◌, ◌≤◌, arith}
 use Rattle.std.specs.Prelude.{ℤ}
 use Rattle.std.proofs.lemmas.Int.{ints}

@@ -1,5 +1,5 @@
-pub mod Answers
 pub mod Failures
+pub mod Lines
 pub mod Reading
 pub mod Requests
 pub mod Served

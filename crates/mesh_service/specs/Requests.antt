@@ -15,7 +15,7 @@ pub data Asked : Type 0 where
   for_edges : Asked
   for_shapes : Choices → Asked
 
--- what the program's own value stands for, where `value` is the whole number that an area stands for
+-- what an `Output` stands for, where `value` is the whole number that an area stands for
 abbrev pub asked_of : {U : Type 0} → (U → ℕ) → Output U → Asked
 asked_of value Output.Edges = for_edges
 asked_of value (Output.Shapes options) = for_shapes (choices_of value options)

@@ -9,7 +9,7 @@ use Rattle.mesh_below.specs.Resolution.{Choices}
 use Rattle.i_overlay_mesh.specs.Building.{bevelled_edges}
 use Rattle.i_overlay_mesh.specs.Padding.{outline_padding, ArePathsSafe}
 use Rattle.i_overlay_mesh.specs.Resolved.{DoAreasFit, IsOutline}
-use Rattle.mesh_service.specs.Answers.{edge_order, edges_text, shapes_text}
+use Rattle.mesh_service.specs.Lines.{edge_order, edges_text, shapes_text}
 use Rattle.mesh_service.specs.Requests.{Asked, Request}
 
 -- the padding of an outline with these offsets
@@ -65,5 +65,5 @@ abbrev pub AnswersAsked : (ℤ → ℤ → Ordering) → Option Request → List
 AnswersAsked order asked line = (request : Request) × (asked ≡ Some request) × Answers order request line
 
 -- there is a request, and it may not be answered
-abbrev pub IsAskedInVain : Option Request → Type 0
-IsAskedInVain asked = (request : Request) × (asked ≡ Some request) × (IsAccepted request → ⊥)
+abbrev pub MayNotBeAnswered : Option Request → Type 0
+MayNotBeAnswered asked = (request : Request) × (asked ≡ Some request) × (IsAccepted request → ⊥)

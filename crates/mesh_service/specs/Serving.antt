@@ -1,4 +1,4 @@
--- What the program answers to a request.
+-- What the service answers to a request.
 use Rattle.std.specs.Prelude.{ℕ, ◌≡◌, List, ◌++◌, Option, Some, None, IfSome, option_and_then, if◌then◌else◌}
 use Rattle.std.specs.Io.KnownBytes.{Appends}
 use Rattle.std.specs.Ordering.{int_cmp}

@@ -4,7 +4,7 @@ ghost use Rattle.std.specs.Prelude.{◌≡◌, IfOk, string_bytes, codes, false}
 ghost use Rattle.serde_json.specs.View.{view};
 ghost use Rattle.serde_json.specs.Written.{has_float};
 ghost use Rattle.mesh_num.specs.Paths.{paths_of, shapes_of};
-ghost use Rattle.mesh_service.specs.Answers.{point_data, edge_data, list_data, only_member, line_text, edges_text, shapes_text};
+ghost use Rattle.mesh_service.specs.Lines.{point_data, edge_data, list_data, only_member, line_text, edges_text, shapes_text};
 
 use crate::edge::DirectedEdge;
 use crate::json::number;

@@ -3,7 +3,7 @@
 ghost use Rattle.std.specs.Prelude.{◌≡◌, IfOk};
 ghost use Rattle.std.specs.List.Sorted.{IsPermutation, IsSorted};
 ghost use Rattle.mesh_num.specs.Segments.{edge_of, edges_of};
-ghost use Rattle.mesh_service.specs.Answers.{by_values, edge_order};
+ghost use Rattle.mesh_service.specs.Lines.{by_values, edge_order};
 
 use mesh_num::num::{IntPoint, OverlayInt};
 use mesh_num::shape::segment::Segment;

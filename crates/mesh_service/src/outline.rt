@@ -10,7 +10,7 @@ ghost use Rattle.mesh_below.specs.Options.{choices_of};
 ghost use Rattle.i_overlay_mesh.specs.Building.{IsMovable, bevelled_edges};
 ghost use Rattle.i_overlay_mesh.specs.Padding.{ArePathsSafe};
 ghost use Rattle.i_overlay_mesh.specs.Resolved.{DoAreasFit, IsOutline};
-ghost use Rattle.mesh_service.specs.Answers.{by_values};
+ghost use Rattle.mesh_service.specs.Lines.{by_values};
 ghost use Rattle.mesh_service.specs.Requests.{offsets_in};
 ghost use Rattle.mesh_service.specs.Served.{AreListed, IsAccepted, padding_of, served_edges};
 

@@ -1,13 +1,13 @@
-//! One run of the program, over any reader and writer.
+//! One run of the service, over any reader and writer.
 
 ghost use Rattle.std.specs.Prelude.{◌≡◌, ◌↔◌, Some, None, List, IsOk, OnOk, IfOk, IfSome, IsUtf8, string_bytes};
 ghost use Rattle.std.specs.Io.KnownBytes.{Appends};
 ghost use Rattle.std.specs.Ordering.{int_cmp};
 ghost use Rattle.serde_json.specs.View.{view};
-ghost use Rattle.mesh_service.specs.Answers.{by_values};
+ghost use Rattle.mesh_service.specs.Lines.{by_values};
 ghost use Rattle.mesh_service.specs.Failures.{failure_line, told_line};
 ghost use Rattle.mesh_service.specs.Reading.{outline_of, request_of};
-ghost use Rattle.mesh_service.specs.Served.{IsAccepted, Answers, AnswersAsked, IsAskedInVain};
+ghost use Rattle.mesh_service.specs.Served.{IsAccepted, Answers, AnswersAsked, MayNotBeAnswered};
 ghost use Rattle.mesh_service.specs.Serving.{request_in, IsAnswer, IsRefused, IsReply, AppendsBeginning};
 
 use crate::answer::{edges_line, shapes_line};
@@ -97,7 +97,7 @@ pub fn respond(alloc: Global, request: &[u8]) -> Result<String, Failure>
 /// The line that answers the request that a value is.
 fn answer(alloc: Global, value: &Value) -> Result<String, Failure>
     ensures answered { IfOk result (λ line. AnswersAsked int_cmp (request_of (view value.now)) (string_bytes line)) }
-    ensures refused { result ≡ Err (Failure.Refused IntOutlineError.CoordinateOutOfRange) → IsAskedInVain (request_of (view value.now)) }
+    ensures refused { result ≡ Err (Failure.Refused IntOutlineError.CoordinateOutOfRange) → MayNotBeAnswered (request_of (view value.now)) }
     ensures unreadable { result ≡ Err Failure.Unreadable → request_of (view value.now) ≡ None }
 {
     if !says(value, "op", "outline") {
@@ -115,7 +115,7 @@ fn answer(alloc: Global, value: &Value) -> Result<String, Failure>
 /// The line that answers a request for an outline with coordinates of one type.
 fn answer_outline<I: OverlayInt>(alloc: Global, value: &Value) -> Result<String, Failure>
     ensures answered { IfOk result (λ line. AnswersAsked (by_values I.cmp I.of_value) (outline_of I.unit (view value.now)) (string_bytes line)) }
-    ensures refused { result ≡ Err (Failure.Refused IntOutlineError.CoordinateOutOfRange) → IsAskedInVain (outline_of I.unit (view value.now)) }
+    ensures refused { result ≡ Err (Failure.Refused IntOutlineError.CoordinateOutOfRange) → MayNotBeAnswered (outline_of I.unit (view value.now)) }
     ensures unreadable { result ≡ Err Failure.Unreadable → outline_of I.unit (view value.now) ≡ None }
 {
     let request = read_outline::<I>(alloc, value)?;

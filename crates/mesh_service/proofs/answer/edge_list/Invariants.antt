@@ -1,6 +1,6 @@
 use Rattle.std.proofs.Common.{◌≡◌, take, map}
 use Rattle.serde_json.specs.View.{view}
-use Rattle.mesh_service.specs.Answers.{edge_data}
+use Rattle.mesh_service.specs.Lines.{edge_data}
 use Rattle.mesh_service.proofs.answer.edge_list.Given as goal
 
 abbrev pub invariant-loop-edge : goal.invariant-loop-edge

@@ -1,7 +1,7 @@
 use Rattle.std.proofs.Common.{◌≡◌, take, map}
 use Rattle.serde_json.specs.View.{view}
 use Rattle.mesh_num.specs.Paths.{paths_of}
-use Rattle.mesh_service.specs.Answers.{edge_data, list_data}
+use Rattle.mesh_service.specs.Lines.{edge_data, list_data}
 use Rattle.mesh_service.proofs.answer.path_list.Given as goal
 
 abbrev pub invariant-loop-edges : goal.invariant-loop-edges

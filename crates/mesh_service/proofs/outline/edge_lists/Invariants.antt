@@ -1,6 +1,6 @@
 use Rattle.std.proofs.Common.{take}
 use Rattle.mesh_num.specs.Paths.{paths_of}
-use Rattle.mesh_service.specs.Answers.{by_values}
+use Rattle.mesh_service.specs.Lines.{by_values}
 use Rattle.mesh_service.specs.Requests.{offsets_in}
 use Rattle.mesh_service.specs.Served.{AreListed}
 use Rattle.mesh_service.proofs.outline.edge_lists.Given as goal

@@ -1,4 +1,4 @@
--- Answers: edges in their order, as data and as text of JSON.
+-- Lines: edges in their order, as data and as text of JSON.
 use Rattle.std.specs.Prelude.{ℕ, ℤ, List, [], ◌∷◌, ◌++◌, map, codes}
 use Rattle.std.specs.Ordering.{ordering_then}
 use Rattle.std.specs.declared.cmp.Ordering.{Ordering}
