@@ -1,0 +1,33 @@
+-- What was read, accepted, built and written is the answer, or the refusal, of the request.
+use Rattle.std.proofs.Common.{sym, subst}
+use Rattle.std.proofs.lemmas.Result.{IfOk-weaker}
+use Rattle.mesh_service.specs.Reading.{IsOfReading}
+use Rattle.mesh_service.proofs.PathsServed.{is_requested}
+use Rattle.mesh_service.proofs.service.respond.Goals as goal
+
+pub returns-in_err-value-clause-refused : goal.returns-in_err-value-clause-refused
+returns-in_err-value-clause-refused c h =
+    let k = rw h at c.from_residual.ensures.1 in
+    absurd (subst IsOfReading (sym k) c.in_err-value.ensures.err)
+
+pub returns-clause-refused : goal.returns-clause-refused
+returns-clause-refused c h =
+    let read = c.in_ok-value.ensures.ok in
+    let told = c.answer.ensures.refused h in
+    record {
+      request = told.0;
+      requested = is_requested c.args.request.now _ told.0 read.1 read.2 told.1;
+      refused = told.2;
+    }
+
+pub returns-clause-answered : goal.returns-clause-answered
+returns-clause-answered c =
+    let read = c.in_ok-value.ensures.ok in
+    IfOk-weaker c.answer.result _ _
+    (λ line told.
+    record {
+      request = told.0;
+      requested = is_requested c.args.request.now _ told.0 read.1 read.2 told.1;
+      answered = told.2;
+    })
+    c.answer.ensures.answered

@@ -1,0 +1,57 @@
+-- Lines: edges in their order, as data and as text of JSON.
+use Rattle.std.specs.Prelude.{ℕ, ℤ, List, [], ◌∷◌, ◌++◌, map, codes}
+use Rattle.std.specs.Ordering.{ordering_then}
+use Rattle.std.specs.declared.cmp.Ordering.{Ordering}
+use Rattle.serde_json.specs.Data.{Data, number, array, object, item, no_items, member, no_members}
+use Rattle.serde_json.specs.Find.{of_integer}
+use Rattle.serde_json.specs.View.{items_of}
+use Rattle.serde_json.specs.Written.{compact_text}
+use Rattle.mesh_plane.specs.Plane.{Point, Edge}
+
+-- the order of whole numbers by the values that stand for them
+abbrev pub by_values : {C : Type 0} → (C → C → Ordering) → (ℤ → C) → ℤ → ℤ → Ordering
+by_values order of_value = λ a b. order (of_value a) (of_value b)
+
+-- the order of points by an order of their coordinates: by x, then by y
+abbrev pub point_order : (ℤ → ℤ → Ordering) → Point → Point → Ordering
+point_order order p q = ordering_then (order p.0 q.0) (order p.1 q.1)
+
+-- the order of edges: by where they start, then by where they end
+abbrev pub edge_order : (ℤ → ℤ → Ordering) → Edge → Edge → Ordering
+edge_order order e f = ordering_then (point_order order e.0 f.0) (point_order order e.1 f.1)
+
+-- a point: [x,y]
+abbrev pub point_data : Point → Data
+point_data p = array (item (number (of_integer p.0)) (item (number (of_integer p.1)) no_items))
+
+-- an edge: where it starts, then where it ends
+abbrev pub edge_data : Edge → Data
+edge_data e = array (item (point_data e.0) (item (point_data e.1) no_items))
+
+-- a list of values
+abbrev pub list_data : {A : Type 0} → (A → Data) → List A → Data
+list_data value xs = array (items_of (map value xs))
+
+-- an object with one member
+abbrev pub only_member : List ℕ → Data → Data
+only_member key d = object (member key d no_members)
+
+-- a value as a line
+abbrev pub line_text : Data → List ℕ
+line_text d = compact_text d ++ 10 ∷ []
+
+-- the edges of each path: {"edges":[..]}
+abbrev pub edges_data : List (List Edge) → Data
+edges_data lists = only_member (codes "edges") (list_data (list_data edge_data) lists)
+
+-- that as a line
+abbrev pub edges_text : List (List Edge) → List ℕ
+edges_text lists = line_text (edges_data lists)
+
+-- shapes, each the list of its contours: {"shapes":[..]}
+abbrev pub shapes_data : List (List (List Point)) → Data
+shapes_data shapes = only_member (codes "shapes") (list_data (list_data (list_data point_data)) shapes)
+
+-- that as a line
+abbrev pub shapes_text : List (List (List Point)) → List ℕ
+shapes_text shapes = line_text (shapes_data shapes)

@@ -1,0 +1,140 @@
+-- What a request says, as data of JSON. Coordinates are of a type with `unit`, which holds the whole numbers from
+-- `-2 * unit` on that are below `2 * unit`; areas are of one that holds those without sign below `16 * unit * unit`.
+use Rattle.std.specs.Prelude.{ℕ, ◌*◌, ◌^◌, ◌&&◌, ◌||◌, Bool, false, not, if◌then◌else◌, ℤ, pos, neg_ℤ, int_le, int_lt, nat_lt, List, [], ◌∷◌, codes, Option, Some, None, is_some, option_map, option_and_then}
+use Rattle.std.specs.Str.{bytes_eq}
+use Rattle.serde_json.specs.Data.{Data, Items, no_items, item}
+use Rattle.serde_json.specs.Find.{get, as_number, as_i64, as_u64, as_bool, as_str, as_array, as_object}
+use Rattle.mesh_plane.specs.Plane.{Point}
+use Rattle.mesh_below.specs.Options.{plain}
+use Rattle.mesh_shapes.specs.Resolution.{Choices}
+use Rattle.i_overlay_mesh.specs.declared.error.IntOutlineError.TheVariants.{CoordinateOutOfRange, OutOfMemory}
+use Rattle.mesh_service.specs.Requests.{Asked, for_edges, for_shapes, Request}
+use Rattle.mesh_service.specs.declared.failure.Failure.{Failure}
+use Rattle.mesh_service.specs.declared.failure.Failure.TheVariants.{Unreadable, Refused}
+
+-- the whole number of 64 bits that a value is
+abbrev pub whole_number : Data → Option ℤ
+whole_number d = option_and_then as_i64 (as_number d)
+
+-- the number, where it fits a type with `unit`
+abbrev pub where_fits : ℕ → ℤ → Option ℤ
+where_fits unit z = if int_le (neg_ℤ (pos (2 * unit))) z && int_lt z (pos (2 * unit)) then Some z else None
+
+-- the coordinate that a value is
+abbrev pub coordinate_of : ℕ → Data → Option ℤ
+coordinate_of unit d = option_and_then (where_fits unit) (whole_number d)
+
+-- both values, where there are both
+abbrev pub both : {A B : Type 0} → Option A → Option B → Option (A × B)
+both a b = option_and_then (λ x. option_map (λ y. (x, y)) b) a
+
+-- two coordinates
+abbrev pub pair_of : ℕ → Items → Option Point
+pair_of unit no_items = None
+pair_of unit (item x no_items) = None
+pair_of unit (item x (item y no_items)) = both (coordinate_of unit x) (coordinate_of unit y)
+pair_of unit (item x (item y (item z more))) = None
+
+-- the point that a value is: [x,y]
+abbrev pub point_of : ℕ → Data → Option Point
+point_of unit d = option_and_then (pair_of unit) (as_array d)
+
+-- the points that values are
+abbrev pub points_of : ℕ → Items → Option (List Point)
+points_of unit no_items = Some []
+points_of unit (item d ds) = option_and_then (λ p. option_map (λ ps. p ∷ ps) (points_of unit ds)) (point_of unit d)
+
+-- the path that a value is: a list of points
+abbrev pub path_of : ℕ → Data → Option (List Point)
+path_of unit d = option_and_then (points_of unit) (as_array d)
+
+-- the paths that values are
+abbrev pub path_list_of : ℕ → Items → Option (List (List Point))
+path_list_of unit no_items = Some []
+path_list_of unit (item d ds) = option_and_then (λ p. option_map (λ ps. p ∷ ps) (path_list_of unit ds)) (path_of unit d)
+
+-- the paths of a request
+abbrev pub paths_in : ℕ → Data → Option (List (List Point))
+paths_in unit d = option_and_then (path_list_of unit) (option_and_then as_array (get (codes "paths") d))
+
+-- whether a value is a text
+abbrev pub is_word : List ℕ → Option (List ℕ) → Bool
+is_word word None = false
+is_word word (Some text) = bytes_eq text word
+
+-- whether a member is a text
+abbrev pub says : List ℕ → List ℕ → Data → Bool
+says key word d = is_word word (option_and_then as_str (get key d))
+
+-- whether there is a member
+abbrev pub has_key : List ℕ → Data → Bool
+has_key key d = is_some (get key d)
+
+-- whether a style has a key that means something and is not served
+abbrev pub has_unserved : Data → Bool
+has_unserved d = has_key (codes "width") d || has_key (codes "min_turn") d || has_key (codes "start") d || has_key (codes "end") d || has_key (codes "arc") d
+
+-- whether the joins are bevels, as they are where nothing is said of them
+abbrev pub has_bevels : Data → Bool
+has_bevels d = not (has_key (codes "join") d) || says (codes "join") (codes "bevel") d
+
+-- the offset that a style gives under a key
+abbrev pub offset_of : ℕ → List ℕ → Data → Option ℤ
+offset_of unit key d = option_and_then (coordinate_of unit) (get key d)
+
+-- the outer and the inner offset of a style
+abbrev pub offsets_of : ℕ → Data → Option (ℤ × ℤ)
+offsets_of unit d = if not (has_unserved d) && has_bevels d then both (offset_of unit (codes "outer") d) (offset_of unit (codes "inner") d) else None
+
+-- the number, where it fits the type of areas
+abbrev pub where_area_fits : ℕ → ℕ → Option ℕ
+where_area_fits unit n = if nat_lt n (16 * unit * unit) then Some n else None
+
+-- the area that a value is, 0 where there is none
+abbrev pub area_of : ℕ → Option Data → Option ℕ
+area_of unit None = Some 0
+area_of unit (Some d) = option_and_then (where_area_fits unit) (option_and_then as_u64 (as_number d))
+
+-- what a value says, false where there is none
+abbrev pub flag_of : Option Data → Option Bool
+flag_of None = Some false
+flag_of (Some d) = as_bool d
+
+-- a least area, whether contours run clockwise, and whether straight-through vertices stay
+abbrev pub choices_with : ℕ × (Bool × Bool) → Choices
+choices_with said = record { least_area = said.0; clockwise = said.1.0; all_vertices = said.1.1 }
+
+-- the choices that an object gives
+abbrev pub choices_in : ℕ → Data → Option Choices
+choices_in unit d = option_map choices_with (both (area_of unit (get (codes "min_area") d)) (both (flag_of (get (codes "clockwise") d)) (flag_of (get (codes "collinear") d))))
+
+-- the choices that options give: the default ones where there are none; what is no object gives none
+abbrev pub choices_given : ℕ → Option Data → Option Choices
+choices_given unit None = Some plain
+choices_given unit (Some d) = if is_some (as_object d) then choices_in unit d else None
+
+-- what a request asks; options are looked at for shapes alone
+abbrev pub asked_in : ℕ → Data → Option Asked
+asked_in unit d = if says (codes "out") (codes "edges") d then Some for_edges else (if says (codes "out") (codes "shapes") d then option_map for_shapes (choices_given unit (get (codes "options") d)) else None)
+
+-- the paths, the offsets and what is asked, as a request
+abbrev pub request_with : ℕ → List (List Point) × ((ℤ × ℤ) × Asked) → Request
+request_with unit said = record { unit = unit; paths = said.0; offsets = said.1.0; asked = said.1.1 }
+
+-- the request for an outline with coordinates of a type with `unit`
+abbrev pub outline_of : ℕ → Data → Option Request
+outline_of unit d = option_map (request_with unit) (both (paths_in unit d) (both (option_and_then (offsets_of unit) (get (codes "style") d)) (asked_in unit d)))
+
+-- the unit of the type that a request names
+abbrev pub unit_of : Data → Option ℕ
+unit_of d = if says (codes "int") (codes "i16") d then Some (2 ^ 14) else (if says (codes "int") (codes "i32") d then Some (2 ^ 30) else None)
+
+-- the request that is served
+abbrev pub request_of : Data → Option Request
+request_of d = if says (codes "op") (codes "outline") d then option_and_then (λ unit. outline_of unit d) (unit_of d) else None
+
+-- a failure to read: no contour is refused
+abbrev pub IsOfReading : Failure → Type 0
+IsOfReading Unreadable = Unit {0}
+IsOfReading (Refused CoordinateOutOfRange) = ⊥
+IsOfReading (Refused OutOfMemory) = Unit {0}

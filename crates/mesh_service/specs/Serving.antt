@@ -1,0 +1,48 @@
+-- What the service answers to a request.
+use Rattle.std.specs.Prelude.{ℕ, ◌≡◌, List, ◌++◌, Option, Some, None, IfSome, option_and_then, if◌then◌else◌}
+use Rattle.std.specs.Io.KnownBytes.{Appends}
+use Rattle.std.specs.Ordering.{int_cmp}
+use Rattle.serde_json.specs.Data.{Data}
+use Rattle.serde_json.specs.Read.{read}
+use Rattle.serde_json.specs.Written.{has_float}
+use Rattle.i_overlay_mesh.specs.declared.error.IntOutlineError.TheVariants.{CoordinateOutOfRange, OutOfMemory}
+use Rattle.mesh_service.specs.Failures.{failure_line}
+use Rattle.mesh_service.specs.Reading.{request_of}
+use Rattle.mesh_service.specs.Requests.{Request}
+use Rattle.mesh_service.specs.Served.{IsAccepted, Answers}
+use Rattle.mesh_service.specs.declared.failure.Failure.TheVariants.{Unreadable, Refused}
+
+-- the request that data is; a number that is no whole number of 64 bits makes it none
+abbrev pub exact_request : Data → Option Request
+exact_request d = if has_float d then None else request_of d
+
+-- the request that a text is
+abbrev pub request_in : List ℕ → Option Request
+request_in text = option_and_then exact_request (read text)
+
+-- `line` answers the request that `text` is
+pub record IsAnswer (text : List ℕ) (line : List ℕ) : Type 0 where
+  pub request : Request
+  pub requested : request_in text ≡ Some request
+  pub answered : Answers int_cmp request line
+
+-- the request that `text` is may not be answered
+pub record IsRefused (text : List ℕ) : Type 0 where
+  pub request : Request
+  pub requested : request_in text ≡ Some request
+  pub refused : IsAccepted request → ⊥
+
+-- the lines that may be written where the reader has these bytes left, as far as they are known: an answer to them; the line
+-- of a refusal, where they may not be answered; that of a want of memory; and that of what is unreadable
+pub data IsReply (left : Option (List ℕ)) : List ℕ → Type 0 where
+  answer : {request line : List ℕ} → IfSome left (λ bytes. request ≡ bytes) → IsAnswer request line → IsReply left line
+  refusal : {request : List ℕ} → IfSome left (λ bytes. request ≡ bytes) → IsRefused request → IsReply left (failure_line (Refused CoordinateOutOfRange))
+  no_memory : IsReply left (failure_line (Refused OutOfMemory))
+  unreadable : IsReply left (failure_line Unreadable)
+
+-- known bytes grow by a beginning of the line, which is all of it, a part of it or nothing
+pub record AppendsBeginning (old new : Option (List ℕ)) (line : List ℕ) : Type 0 where
+  pub written : List ℕ
+  pub rest : List ℕ
+  pub whole : line ≡ written ++ rest
+  pub appended : Appends old new written

@@ -1,0 +1,152 @@
+//! Requests for outlines, and what the library answers to them.
+
+ghost use Rattle.std.specs.Prelude.{◌≡◌, ◌↔◌, [], OnOk, IfOk, IsTrue};
+ghost use Rattle.std.specs.List.{All};
+ghost use Rattle.std.specs.List.Sorted.{IsPermutation};
+ghost use Rattle.mesh_num.specs.Paths.{paths_of, shapes_of};
+ghost use Rattle.mesh_num.specs.Rectangle.{IsSafeWidened};
+ghost use Rattle.mesh_num.specs.Segments.{edges_of};
+ghost use Rattle.mesh_below.specs.Options.{choices_of};
+ghost use Rattle.i_overlay_mesh.specs.Building.{IsMovable, bevelled_edges};
+ghost use Rattle.i_overlay_mesh.specs.Padding.{ArePathsSafe};
+ghost use Rattle.i_overlay_mesh.specs.Resolved.{DoAreasFit, IsOutline};
+ghost use Rattle.mesh_service.specs.Lines.{by_values};
+ghost use Rattle.mesh_service.specs.Requests.{offsets_in};
+ghost use Rattle.mesh_service.specs.Served.{AreListed, IsAccepted, padding_of, served_edges};
+
+use crate::edge::{DirectedEdge, sorted_edges};
+use i_overlay_mesh::IntOutlineError;
+use i_overlay_mesh::outline::area::{double_area, fits_wide};
+use i_overlay_mesh::outline::builder::OutlineBuilder;
+use i_overlay_mesh::outline::offset::IntOutlineOffset;
+use mesh_below::below::IntOverlayOptions;
+use mesh_join::join::Join;
+use mesh_join::style::IntOutlineStyle;
+use mesh_num::num::{IntPoint, OverlayInt};
+use mesh_num::shape::buffer::IntShapes;
+use mesh_num::shape::segment::Segment;
+use std::alloc::{AllocError, Global};
+use std::marker::Model;
+
+/// What a request asks of an outline.
+#[derive(Debug, Copy, Clone)]
+pub enum Output<U> {
+    /// The edges of each path.
+    Edges,
+    /// The shapes of all paths, with these options.
+    Shapes(IntOverlayOptions<U>),
+}
+
+/// A request for the outline of paths. Contracts see it as what it asks.
+#[derive(Drop)]
+pub struct OutlineRequest<I: OverlayInt> {
+    /// The closed contours to be outlined.
+    pub paths: Vec<Vec<IntPoint<I>>>,
+    /// The offsets of outer contours and of holes, and the joins.
+    pub style: IntOutlineStyle<I>,
+    /// What is listed.
+    pub output: Output<I::WideUInt>,
+}
+
+impl<I: OverlayInt> Model for OutlineRequest<I> {
+    ghost use Rattle.mesh_num.specs.Paths.{paths_of};
+    ghost use Rattle.mesh_service.specs.Requests.{Request, asked_of, offsets_in};
+
+    ghost Value = { Request };
+
+    ghost view = { λ r. record { unit = I.unit; paths = paths_of r.paths.items; offsets = offsets_in I.value r.style; asked = asked_of I.WideUInt.value r.output } };
+}
+
+impl<I: OverlayInt> OutlineRequest<I> {
+    /// The edges of each path's outline, in their order. Nothing is built unless all paths are accepted.
+    pub fn edges(&self, alloc: Global) -> Result<Vec<Vec<DirectedEdge<I>>>, IntOutlineError>
+        ensures edges { IfOk result (λ lists. AreListed (by_values I.cmp I.of_value) self.now.unit self.now.offsets self.now.paths (paths_of lists.items)) }
+        ensures accepted { OnOk result (IsAccepted self.now) }
+        ensures refused { result ≡ Err IntOutlineError.CoordinateOutOfRange → ¬ IsAccepted self.now }
+    {
+        self.paths.validate_outline(&self.style)?;
+        if !do_areas_fit(&self.paths) {
+            return Err(IntOutlineError::CoordinateOutOfRange);
+        }
+        Ok(edge_lists(alloc, &self.paths, &self.style)?)
+    }
+
+    /// The shapes of the paths' outline.
+    pub fn shapes(
+        &self,
+        alloc: Global,
+        options: IntOverlayOptions<I::WideUInt>,
+    ) -> Result<IntShapes<I>, IntOutlineError>
+        ensures shapes { IfOk result (λ shapes. IsOutline self.now.unit self.now.offsets (choices_of I.WideUInt.value options) self.now.paths (shapes_of shapes.items)) }
+        ensures accepted { OnOk result (IsAccepted self.now) }
+        ensures refused { result ≡ Err IntOutlineError.CoordinateOutOfRange → ¬ IsAccepted self.now }
+    {
+        self.paths.validate_outline(&self.style)?;
+        self.paths.outline_custom(alloc, &self.style, options)
+    }
+}
+
+/// Whether the double area of each path fits the wide type.
+fn do_areas_fit<I: OverlayInt>(paths: &[Vec<IntPoint<I>>]) -> bool
+    ensures { IsTrue result ↔ DoAreasFit I.Wide.half (paths_of paths.now) }
+{
+    for path in paths {
+        if !fits_wide::<I>(double_area(path)) {
+            return false;
+        }
+    }
+    true
+}
+
+/// The edges of each path's outline, in their order.
+fn edge_lists<I: OverlayInt>(
+    alloc: Global,
+    paths: &[Vec<IntPoint<I>>],
+    style: &IntOutlineStyle<I>,
+) -> Result<Vec<Vec<DirectedEdge<I>>>, AllocError>
+    requires { ArePathsSafe I.unit (padding_of (offsets_in I.value style.now)) (paths_of paths.now) }
+    ensures { IfOk result (λ lists. AreListed (by_values I.cmp I.of_value) I.unit (offsets_in I.value style.now) (paths_of paths.now) (paths_of lists.items)) }
+{
+    let mut lists = Vec::with_capacity(alloc, paths.len())?;
+    for path in paths {
+        let segments = path_segments(alloc, path, style)?;
+        lists.push(sorted_edges(alloc, &segments)?)?;
+    }
+    Ok(lists)
+}
+
+/// The segments of a path's outline, none where its area is 0.
+fn path_segments<I: OverlayInt>(
+    alloc: Global,
+    path: &[IntPoint<I>],
+    style: &IntOutlineStyle<I>,
+) -> Result<Vec<Segment<I>>, AllocError>
+    requires { All (IsSafeWidened I.unit (padding_of (offsets_in I.value style.now))) path.now }
+    ensures { IfOk result (λ ss. IsPermutation (edges_of ss.items) (served_edges I.unit (offsets_in I.value style.now) path.now)) }
+{
+    let area = double_area(path);
+    let mut segments = Vec::new(alloc);
+    if area > 0 {
+        build(alloc, path, style.outer_offset, style, &mut segments)?;
+    } else if area < 0 {
+        build(alloc, path, style.inner_offset, style, &mut segments)?;
+    }
+    Ok(segments)
+}
+
+/// Puts the segments of a path's outline with this offset into a vector that has none.
+fn build<I: OverlayInt>(
+    alloc: Global,
+    path: &[IntPoint<I>],
+    offset: I,
+    style: &IntOutlineStyle<I>,
+    segments: &mut Vec<Segment<I>>,
+) -> Result<(), AllocError>
+    requires safe { All (IsMovable I.unit (I.value offset)) path.now }
+    requires empty { segments.old.items ≡ [] }
+    ensures { OnOk result (IsPermutation (edges_of segments.new.items) (bevelled_edges I.unit (I.value offset) path.now)) }
+{
+    let join = Join::new(alloc, style.join, style.miter_min_turn);
+    let mut builder = OutlineBuilder::new(offset, join);
+    builder.build(path, segments)
+}

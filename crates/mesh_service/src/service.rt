@@ -1,0 +1,153 @@
+//! One run of the service, over any reader and writer.
+
+ghost use Rattle.std.specs.Prelude.{◌≡◌, ◌↔◌, Some, None, List, IsOk, OnOk, IfOk, IfSome, IsUtf8, string_bytes};
+ghost use Rattle.std.specs.Io.KnownBytes.{Appends};
+ghost use Rattle.std.specs.Ordering.{int_cmp};
+ghost use Rattle.serde_json.specs.View.{view};
+ghost use Rattle.mesh_service.specs.Lines.{by_values};
+ghost use Rattle.mesh_service.specs.Failures.{failure_line, told_line};
+ghost use Rattle.mesh_service.specs.Reading.{outline_of, request_of};
+ghost use Rattle.mesh_service.specs.Served.{IsAccepted, Answers, AnswersAsked, MayNotBeAnswered};
+ghost use Rattle.mesh_service.specs.Serving.{request_in, IsAnswer, IsRefused, IsReply, AppendsBeginning};
+
+use crate::answer::{edges_line, shapes_line};
+use crate::failure::Failure;
+use crate::input::read_to_end;
+use crate::json::{parse, says};
+use crate::outline::{OutlineRequest, Output};
+use crate::output::write_line;
+use crate::request::read_outline;
+use i_overlay_mesh::IntOutlineError;
+use mesh_num::num::OverlayInt;
+use serde_json::Value;
+use std::alloc::Global;
+use std::io;
+use std::io::{Read, Write};
+
+/// How a run ended.
+#[derive(Debug, Clone, Copy, PartialEq, Eq)]
+pub enum Status {
+    /// The answer was written.
+    Answered,
+    /// The request was refused, or writing failed.
+    Refused,
+    /// What was read is no request that is served, or reading failed.
+    Unreadable,
+}
+
+impl Status {
+    /// The exit status of the process.
+    pub fn code(self) -> u8
+        ensures answered { result ≡ 0 ↔ (self ≡ Status.Answered) }
+        ensures refused { result ≡ 1 ↔ (self ≡ Status.Refused) }
+        ensures unreadable { result ≡ 2 ↔ (self ≡ Status.Unreadable) }
+    {
+        match self {
+            Status::Answered => 0,
+            Status::Refused => 1,
+            Status::Unreadable => 2,
+        }
+    }
+}
+
+/// Reads a request to the reader's end and writes its answer, one line, or the line of a failure.
+pub fn serve<R: Read, W: Write>(alloc: Global, reader: &mut R, writer: &mut W) -> Status
+    ensures answered { result ≡ Status.Answered → IfSome (R.remaining reader.old) (λ request. (line : List _) × IsAnswer request line
+        × Appends (W.contents writer.old) (W.contents writer.new) line) }
+    ensures unreadable { result ≡ Status.Unreadable → Appends (W.contents writer.old) (W.contents writer.new) (failure_line Failure.Unreadable) }
+    ensures written { (line : List _) × IsReply (R.remaining reader.old) line × AppendsBeginning (W.contents writer.old) (W.contents writer.new) line }
+{
+    let answer = read_and_answer(alloc, reader);
+    match print(writer, &answer) {
+        Err(_) => Status::Refused,
+        Ok(()) => status_of(&answer),
+    }
+}
+
+/// How a run ended whose answer, or the line of its failure, was written.
+fn status_of(answer: &Result<String, Failure>) -> Status
+    ensures answered { result ≡ Status.Answered ↔ IsOk answer.now }
+    ensures unreadable { result ≡ Status.Unreadable ↔ (answer.now ≡ Err Failure.Unreadable) }
+{
+    match answer {
+        Ok(_) => Status::Answered,
+        Err(Failure::Refused(_)) => Status::Refused,
+        Err(Failure::Unreadable) => Status::Unreadable,
+    }
+}
+
+fn read_and_answer<R: Read>(alloc: Global, reader: &mut R) -> Result<String, Failure>
+    ensures answered { IfOk result (λ line. IfSome (R.remaining reader.old) (λ request. IsAnswer request (string_bytes line))) }
+    ensures reply { IsReply (R.remaining reader.old) (told_line result) }
+{
+    let request = read_to_end(alloc, reader)?;
+    respond(alloc, &request)
+}
+
+/// The line that answers a request. It is made as a whole, so that nothing is printed before memory is refused.
+pub fn respond(alloc: Global, request: &[u8]) -> Result<String, Failure>
+    ensures answered { IfOk result (λ line. IsAnswer request.now (string_bytes line)) }
+    ensures refused { result ≡ Err (Failure.Refused IntOutlineError.CoordinateOutOfRange) → IsRefused request.now }
+    ensures unreadable { result ≡ Err Failure.Unreadable → IsUtf8 request.now → request_in request.now ≡ None }
+{
+    let value = parse(alloc, request)?;
+    answer(alloc, &value)
+}
+
+/// The line that answers the request that a value is.
+fn answer(alloc: Global, value: &Value) -> Result<String, Failure>
+    ensures answered { IfOk result (λ line. AnswersAsked int_cmp (request_of (view value.now)) (string_bytes line)) }
+    ensures refused { result ≡ Err (Failure.Refused IntOutlineError.CoordinateOutOfRange) → MayNotBeAnswered (request_of (view value.now)) }
+    ensures unreadable { result ≡ Err Failure.Unreadable → request_of (view value.now) ≡ None }
+{
+    if !says(value, "op", "outline") {
+        return Err(Failure::Unreadable);
+    }
+    if says(value, "int", "i16") {
+        answer_outline::<i16>(alloc, value)
+    } else if says(value, "int", "i32") {
+        answer_outline::<i32>(alloc, value)
+    } else {
+        Err(Failure::Unreadable)
+    }
+}
+
+/// The line that answers a request for an outline with coordinates of one type.
+fn answer_outline<I: OverlayInt>(alloc: Global, value: &Value) -> Result<String, Failure>
+    ensures answered { IfOk result (λ line. AnswersAsked (by_values I.cmp I.of_value) (outline_of I.unit (view value.now)) (string_bytes line)) }
+    ensures refused { result ≡ Err (Failure.Refused IntOutlineError.CoordinateOutOfRange) → MayNotBeAnswered (outline_of I.unit (view value.now)) }
+    ensures unreadable { result ≡ Err Failure.Unreadable → outline_of I.unit (view value.now) ≡ None }
+{
+    let request = read_outline::<I>(alloc, value)?;
+    Ok(outline_line(alloc, &request)?)
+}
+
+/// The line that lists what is asked of an outline.
+fn outline_line<I: OverlayInt>(
+    alloc: Global,
+    request: &OutlineRequest<I>,
+) -> Result<String, IntOutlineError>
+    ensures answered { IfOk result (λ line. Answers (by_values I.cmp I.of_value) request.now (string_bytes line)) }
+    ensures refused { result ≡ Err IntOutlineError.CoordinateOutOfRange → ¬ IsAccepted request.now }
+{
+    match request.output {
+        Output::Edges => {
+            let edges = request.edges(alloc)?;
+            Ok(edges_line(alloc, &edges)?)
+        }
+        Output::Shapes(options) => {
+            let shapes = request.shapes(alloc, options)?;
+            Ok(shapes_line(alloc, &shapes)?)
+        }
+    }
+}
+
+fn print<W: Write>(writer: &mut W, answer: &Result<String, Failure>) -> io::Result<()>
+    ensures whole { OnOk result (Appends (W.contents writer.old) (W.contents writer.new) (told_line answer.now)) }
+    ensures beginning { AppendsBeginning (W.contents writer.old) (W.contents writer.new) (told_line answer.now) }
+{
+    match answer {
+        Ok(line) => write_line(writer, line.as_bytes()),
+        Err(failure) => write_line(writer, failure.line().as_bytes()),
+    }
+}

@@ -1,0 +1,122 @@
+//! Readers and writers that fail, or are interrupted.
+
+use mesh_service::service::{Status, serve};
+use std::io;
+use std::io::{Error, ErrorKind, Read, Write};
+use std::test::Fail;
+
+const REQUEST: &[u8] =
+    b"{\"op\":\"outline\",\"int\":\"i32\",\"out\":\"edges\",\"paths\":[[[0,0],[8,0],[8,8],[0,8]]],\"style\":{\"outer\":0,\"inner\":0}}";
+
+const ANSWER: &[u8] = b"{\"edges\":[[[[0,0],[8,0]],[[0,8],[0,0]],[[8,0],[8,8]],[[8,8],[0,8]]]]}\n";
+
+const UNREADABLE: &[u8] = b"{\"unreadable\":\"request\"}\n";
+
+/// Gives the bytes one by one, with an interruption before each, and then ends, or fails.
+#[derive(Drop)]
+struct FailingReader<'a> {
+    left: &'a [u8],
+    interrupted: bool,
+    end: Option<ErrorKind>,
+}
+
+impl Read for FailingReader<'_> {
+    fn read(&mut self, buf: &mut [u8]) -> io::Result<usize> {
+        self.interrupted = !self.interrupted;
+        if self.interrupted {
+            return Err(Error::from(ErrorKind::Interrupted));
+        }
+        match self.left.split_first() {
+            Some((byte, left)) if !buf.is_empty() => {
+                buf[0] = *byte;
+                self.left = left;
+                Ok(1)
+            }
+            _ => match self.end {
+                Some(kind) => Err(Error::from(kind)),
+                None => Ok(0),
+            },
+        }
+    }
+}
+
+/// An interrupted read is tried again; any other failure makes the request unreadable.
+#[test]
+fn readers(rt: HostRuntime) -> Result<(), Fail> {
+    for (end, wanted, line) in [
+        (None, Status::Answered, ANSWER),
+        (Some(ErrorKind::Other), Status::Unreadable, UNREADABLE),
+        (Some(ErrorKind::OutOfMemory), Status::Unreadable, UNREADABLE),
+    ] {
+        let mut reader = FailingReader {
+            left: REQUEST,
+            interrupted: false,
+            end,
+        };
+        let mut writer = Vec::new(rt.alloc());
+        let status = serve(rt.alloc(), &mut reader, &mut writer);
+        assert_eq!(rt; status, wanted);
+        assert_eq!(rt; writer.as_slice(), line);
+    }
+    Ok(())
+}
+
+/// Takes so many bytes and then fails.
+#[derive(Drop)]
+struct FailingWriter {
+    room: usize,
+}
+
+impl Write for FailingWriter {
+    fn write(&mut self, buf: &[u8]) -> io::Result<usize> {
+        if self.room == 0 {
+            return Err(Error::from(ErrorKind::BrokenPipe));
+        }
+        let count = buf.len().min(self.room);
+        self.room -= count;
+        Ok(count)
+    }
+
+    fn flush(&mut self) -> io::Result<()> {
+        Ok(())
+    }
+}
+
+/// Where writing fails, the run is no success, whatever was to be written.
+#[test]
+fn writers(rt: HostRuntime) {
+    for (text, room, wanted) in [
+        (REQUEST, 0, Status::Refused),
+        (REQUEST, 1, Status::Refused),
+        (REQUEST, 40, Status::Refused),
+        (REQUEST, 70, Status::Answered),
+        (b"{", 0, Status::Refused),
+        (b"{", 24, Status::Refused),
+        (b"{", 25, Status::Unreadable),
+    ] {
+        let mut reader = text;
+        let status = serve(rt.alloc(), &mut reader, &mut FailingWriter { room });
+        assert_eq!(rt; status, wanted, "with room for {room}");
+    }
+}
+
+/// Takes all bytes, and fails to hand them on.
+#[derive(Drop)]
+struct FailingFlush;
+
+impl Write for FailingFlush {
+    fn write(&mut self, buf: &[u8]) -> io::Result<usize> {
+        Ok(buf.len())
+    }
+
+    fn flush(&mut self) -> io::Result<()> {
+        Err(Error::from(ErrorKind::BrokenPipe))
+    }
+}
+
+#[test]
+fn failing_flush(rt: HostRuntime) {
+    let mut reader = REQUEST;
+    let status = serve(rt.alloc(), &mut reader, &mut FailingFlush);
+    assert_eq!(rt; status, Status::Refused);
+}
