@@ -15,9 +15,9 @@ use Rattle.mesh_num.proofs.Balance.{balanced_permutation}
 use Rattle.mesh_num.proofs.Crossings.{crossing_on_odd}
 use Rattle.mesh_num.specs.Bounds.{IsSafe}
 use Rattle.mesh_join.specs.Joins.{bevel_padding}
-use Rattle.mesh_join.proofs.CleaningEnds.{cleaned_sections-ends}
+use Rattle.mesh_clean.proofs.CleaningEnds.{cleaned_sections-ends}
 use Rattle.mesh_join.specs.Cleaned.{cleaned_sections, IsClean}
-use Rattle.mesh_join.proofs.CleaningSteps.{cleaned-none, cleaned-clean, cleaned-winding}
+use Rattle.mesh_clean.proofs.CleaningSteps.{cleaned-none, cleaned-clean, cleaned-winding}
 use Rattle.i_overlay_mesh.specs.Outline.{bevel, parts, section_of, drawn_pieces, sided, IsRing}
 use Rattle.i_overlay_mesh.specs.Building.{IsMovable, Adds, added, added_edges, bevelled_edges, bevelled_pieces, NeverTurnedRound, WindAsPieces, WindsByCount}
 use Rattle.i_overlay_mesh.proofs.OutlineWalk.{drawn_length}

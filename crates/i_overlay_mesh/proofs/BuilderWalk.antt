@@ -12,7 +12,7 @@ use Rattle.mesh_num.specs.Segments.{SignedEdge, edges_of, IsSubject}
 use Rattle.mesh_num.proofs.ClosedLists.{woven}
 use Rattle.mesh_num.proofs.Subjects.{segments_of_subjects, segment_between_subject}
 use Rattle.mesh_join.specs.Cleaned.{cleaned_sections, IsClean}
-use Rattle.mesh_join.proofs.CleaningEnds.{cleaned_sections-ends}
+use Rattle.mesh_clean.proofs.CleaningEnds.{cleaned_sections-ends}
 use Rattle.mesh_num.proofs.SegmentLists.{edges_of_segments, edges_of-append}
 use Rattle.i_overlay_mesh.specs.Outline.{Section, Corner, top_edge, section_of, corner_edges, parts, bevel, outline_edges, drawn_edges}
 use Rattle.i_overlay_mesh.specs.Building.{IsMovable, IsMoved, IsCorner, Adds, Keeps, corner_segments, top_segments}

@@ -5,7 +5,7 @@ use Rattle.mesh_num.specs.Plane.{Point}
 use Rattle.mesh_num.specs.Winding.{crossing_on, pieces_total, holds}
 use Rattle.mesh_num.proofs.Crossings.{crossing_on_odd}
 use Rattle.mesh_join.specs.Cleaned.{cleaned_sections}
-use Rattle.mesh_join.proofs.CleaningSteps.{cleaned-winding}
+use Rattle.mesh_clean.proofs.CleaningSteps.{cleaned-winding}
 use Rattle.i_overlay_mesh.specs.Outline.{bevel, sided}
 use Rattle.i_overlay_mesh.specs.Building.{bevelled_pieces}
 use Rattle.i_overlay_mesh.specs.Resolved.{HasPromisedEdges, HavePromisedEdges}

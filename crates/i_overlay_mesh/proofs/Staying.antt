@@ -14,7 +14,7 @@ use Rattle.mesh_num.proofs.ClosedLists.{boundary_all, all_flat_map}
 use Rattle.mesh_join.specs.Cleaned.{cleaned_sections}
 use Rattle.mesh_below.specs.Reach.{AreEdgesSafe, ArePointsSafe}
 use Rattle.mesh_below.specs.Split.{back}
-use Rattle.mesh_join.proofs.CleaningEnds.{cleaned_sections-ends}
+use Rattle.mesh_clean.proofs.CleaningEnds.{cleaned_sections-ends}
 use Rattle.mesh_below.proofs.AnswerPoints.{resolution_safe}
 use Rattle.mesh_below.proofs.Resolving.{all_left, all_right}
 use Rattle.i_overlay_mesh.specs.Building.{IsMovable, bevelled_edges}

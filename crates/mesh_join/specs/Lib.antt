@@ -1,3 +1,3 @@
-pub mod Cleaned
+pub use Rattle.mesh_clean.specs.Cleaned
+pub use Rattle.mesh_clean.specs.Laws
 pub mod Joins
-pub mod Laws

@@ -1,8 +1,9 @@
-//! Styles, cleaned contours and joins of integer polygon offsetting.
+//! Styles and joins of integer polygon offsetting. `mesh_clean` has the cleaned contour, whose corners are joined.
 #![tactic(auto)]
 
 pub mod arc;
 pub mod join;
-pub mod laws;
 pub mod style;
-pub mod uniq_iter;
+
+pub use mesh_clean::laws;
+pub use mesh_clean::uniq_iter;

@@ -1,7 +1,7 @@
 -- What the walk adds, and that it can go on.
 use Rattle.std.proofs.Common.{◌++◌, sym, ◌∙◌, ap}
 use Rattle.mesh_join.specs.Cleaned.{cleaned_sections}
-use Rattle.mesh_join.proofs.CleaningSteps.{cleaned-none}
+use Rattle.mesh_clean.proofs.CleaningSteps.{cleaned-none}
 use Rattle.i_overlay_mesh.specs.Building.{top_segments}
 use Rattle.i_overlay_mesh.proofs.BuilderWalk.{none_adds, first_fits, walk_continues, walk_starts, walk_ends, keeps_added, on_ok_then}
 use Rattle.i_overlay_mesh.proofs.outline.builder.draw.Goals as goal
