@@ -1,0 +1,3 @@
+pub mod Bevels
+pub mod JoinLaws
+pub mod Joins
