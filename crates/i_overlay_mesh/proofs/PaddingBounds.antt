@@ -12,6 +12,7 @@ use Rattle.mesh_num.specs.Plane.{Point, Edge, plus, minus}
 use Rattle.mesh_num.specs.Rectangle.{IsInRectangle, IsBounds, IsSafeRectangle, IsSafeWidened}
 use Rattle.mesh_join.specs.Joins.{outline_padding}
 use Rattle.mesh_join.specs.Styles.{OutlineStyle, outer}
+use Rattle.mesh_below.proofs.Resolving.{all_left, all_right}
 use Rattle.i_overlay_mesh.specs.Padding.{ArePathsSafe, all_points, widened}
 use Rattle.i_overlay_mesh.proofs.Padding.{padding_least, outer_covered}
 
@@ -67,15 +68,6 @@ path_tested unit padding corners points path b least h e t =
     let w : IsSafeRectangle unit (widened padding corners) ↔ All (λ (p : Point). IsSafeWidened unit padding p) path =
     rw (← e) (widened_bounds_safe unit padding corners points least h) in
     (λ i. w.0 (t.0 i), λ a. t.1 (w.1 a))
-
--- what holds of each element of a joined list holds of those of its parts
-all_left : {A : Type 0} (P : A → Type 0) (xs ys : List A) → All P (xs ++ ys) → All P xs
-all_left P [] ys h = All-nil P
-all_left P (x ∷ xs) ys h = All-cons P x xs (All-head P x (xs ++ ys) h) (all_left P xs ys (All-tail P x (xs ++ ys) h))
-
-all_right : {A : Type 0} (P : A → Type 0) (xs ys : List A) → All P (xs ++ ys) → All P ys
-all_right P [] ys h = h
-all_right P (x ∷ xs) ys h = all_right P xs ys (All-tail P x (xs ++ ys) h)
 
 -- all points of safe paths are safe
 pub paths_safe : (unit : ℕ) (padding : ℤ) (paths : List (List Point)) → ArePathsSafe unit padding paths ↔ All (λ (p : Point). IsSafeWidened unit padding p) (all_points paths)

@@ -22,7 +22,7 @@ use Rattle.i_overlay_mesh.specs.Outline.{outline_edges}
 use Rattle.i_overlay_mesh.specs.Padding.{ArePathsSafe}
 use Rattle.i_overlay_mesh.specs.Resolved.{answer_edges, fill_for, IsAnswerAlone, Gives, Give}
 use Rattle.i_overlay_mesh.specs.Staying.{IsSafeResolving, IsSafeAlone, StaysSafe}
-use Rattle.i_overlay_mesh.proofs.BuilderTheorems.{cleaned_ring, cleaned_listed}
+use Rattle.i_overlay_mesh.proofs.Promised.{cleaned_ring, cleaned_listed}
 use Rattle.i_overlay_mesh.proofs.Padding.{outer_accepted, inner_accepted, path_movable, outline_safe}
 use Rattle.i_overlay_mesh.proofs.Resolving.{answer_safe, along_safe}
 

@@ -4,7 +4,8 @@ use Rattle.mesh_join.proofs.Joins.{each_has_few}
 use Rattle.mesh_join.specs.Styles.{OffsetJoin}
 use Rattle.i_overlay_mesh.specs.Building.{Adds}
 use Rattle.i_overlay_mesh.specs.Outline.{outline_edges}
-use Rattle.i_overlay_mesh.proofs.BuilderTheorems.{adds_few, adds_balanced, adds_near, adds_safe, adds_pieces, pieces_never_turned, adds_count}
+use Rattle.i_overlay_mesh.proofs.BuilderTheorems.{adds_few, adds_balanced, adds_near, adds_safe, adds_pieces, adds_count}
+use Rattle.i_overlay_mesh.proofs.Promised.{has_promised_edges}
 use Rattle.i_overlay_mesh.proofs.outline.builder.OutlineBuilder.build.Given as given
 use Rattle.i_overlay_mesh.proofs.outline.builder.OutlineBuilder.build.Goals as goal
 
@@ -29,7 +30,7 @@ pub returns-clause-sum : goal.returns-clause-sum
 returns-clause-sum g c = adds_pieces g.I.IntNumber.unit c.args.self.now c.args.path.now g.met.I.IntNumber.least_law _ _ (adds g c)
 
 pub returns-clause-pieces : goal.returns-clause-pieces
-returns-clause-pieces g c = pieces_never_turned g.I.IntNumber.unit c.args.self.now c.args.path.now g.met.I.IntNumber.least_law
+returns-clause-pieces g c = (has_promised_edges g.I.IntNumber.unit c.args.self.now c.args.path.now g.met.I.IntNumber.least_law).pieces
 
 pub returns-clause-count : goal.returns-clause-count
 returns-clause-count g c = adds_count g.I.IntNumber.unit c.args.self.now c.args.path.now g.met.I.IntNumber.least_law _ _ (adds g c)
