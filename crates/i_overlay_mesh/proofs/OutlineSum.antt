@@ -5,14 +5,15 @@ use Rattle.std.specs.List.{All, flat_map}
 use Rattle.std.proofs.lemmas.Bool.{true≢false}
 use Rattle.std.proofs.lemmas.List.Elements.{All-weaker}
 use Rattle.mesh_plane.specs.Plane.{Point, Edge}
-use Rattle.mesh_plane.specs.Winding.{sum_of, total, route, boundary, fan, pieces_total, same_point, IsOdd, IsBalanced}
+use Rattle.mesh_plane.specs.Winding.{sum_of, total, boundary, fan, pieces_total, same_point, IsOdd}
 use Rattle.mesh_plane.proofs.Whole.{linear}
 use Rattle.mesh_plane.proofs.Sums.{sum_of_add, sum_of_none, sum_of_equal, sum_of_filter, total_append, total_flat_map, pieces_total_append, pieces_total_flat_map, pieces_total_map, sum_of_zero}
 use Rattle.mesh_plane.proofs.ClosedLists.{boundary_ends, boundary_all, all_both}
 use Rattle.mesh_plane.proofs.Pieces.{fan_total}
-use Rattle.mesh_plane.proofs.Balance.{same_point_is, same_point_self, growth, growth_odd, balanced_by_pieces}
+use Rattle.mesh_plane.proofs.Balance.{same_point_is, same_point_self}
 use Rattle.mesh_num.specs.Segments.{proper_edges}
-use Rattle.i_overlay_mesh.specs.Outline.{Section, Corner, own_edge, top_edge, strip, inner_edges, join_edges, corner_edges, corner_pieces, drawn_edges, drawn_pieces}
+use Rattle.mesh_join.specs.Joins.{between, through}
+use Rattle.i_overlay_mesh.specs.Outline.{Section, Corner, own_edge, top_edge, strip, inner_edges, outer_edges, corner_edges, corner_pieces, drawn_edges, drawn_pieces}
 
 -- each corner's second section starts where its first ends
 abbrev pub IsClosed : List Section → Type 0
@@ -32,9 +33,9 @@ module _ (f : Point → Point → ℤ) (odd : IsOdd f) where
   corner_total is_outer join c e = by (is_outer c)
     where
       list : List Point
-      list = cond (same_point c.0.b_top c.1.a_top) [] (join c)
+      list = between c.0.b_top (join c) c.1.a_top
 
-      by : (b : Bool) → total f (cond b (join_edges join c) (inner_edges c)) ≡ pieces_total f (cond b (fan c.0.b (join_edges join c)) []) +ℤ (f c.0.b_top c.0.b +ℤ f c.1.a c.1.a_top)
+      by : (b : Bool) → total f (cond b (outer_edges join c) (inner_edges c)) ≡ pieces_total f (cond b (fan c.0.b (outer_edges join c)) []) +ℤ (f c.0.b_top c.0.b +ℤ f c.1.a c.1.a_top)
       by true =
           omega (arith, linear, fan_total f odd c.0.b c.0.b_top list c.1.a_top, odd c.0.b c.0.b_top, odd c.0.b c.1.a_top, ap (λ v. f v c.1.a_top) e)
       by false = omega (arith, linear)
@@ -107,7 +108,7 @@ module _ (f : Point → Point → ℤ) (odd : IsOdd f) where
         ap (λ p. f p s.b) eb,
       )
 
-  still_fan : (v p r : Point) (xs : List Point) → p ≡ v → r ≡ v → pieces_total f (fan v (route p (cond (same_point p r) [] xs) r)) ≡ pos 0
+  still_fan : (v p r : Point) (xs : List Point) → p ≡ v → r ≡ v → pieces_total f (fan v (through p xs r)) ≡ pos 0
   still_fan v p r xs ep er =
       let same : same_point p r ≡ true = rw (ep, er) (same_point_self v) in
       rw same (omega (arith, linear, none_round v, ap (λ x. f v x) ep, ap (λ x. f x r) ep, ap (λ x. f v x) er, ap (λ x. f x v) er))
@@ -116,7 +117,7 @@ module _ (f : Point → Point → ℤ) (odd : IsOdd f) where
       pieces_total f (corner_pieces is_outer join c) ≡ pos 0
   still_corner is_outer join c p n e = by (is_outer c)
     where
-      by : (b : Bool) → pieces_total f (cond b (fan c.0.b (join_edges join c)) []) ≡ pos 0
+      by : (b : Bool) → pieces_total f (cond b (fan c.0.b (outer_edges join c)) []) ≡ pos 0
       by true = still_fan c.0.b c.0.b_top c.1.a_top (join c) p.1 (n.0 ∙ sym e)
       by false = refl
 

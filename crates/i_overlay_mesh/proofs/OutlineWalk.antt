@@ -1,15 +1,15 @@
 -- Lemmas over points and lists: an outline drawn section by section, and how many edges it has.
 use Rattle.std.proofs.Common.{◌≡◌, ◌+◌, ◌*◌, ◌≤◌, List, [], ◌∷◌, ◌++◌, length, refl, ◌∙◌, ap, arith, length-append}
 use Rattle.std.specs.Prelude.{Bool, true, false, cond, not, map}
-use Rattle.std.specs.List.{flat_map}
+use Rattle.std.specs.List.{All, flat_map}
 use Rattle.std.specs.List.Sorted.{IsPermutation}
-use Rattle.std.proofs.lemmas.List.Elements.{filter-append}
+use Rattle.std.proofs.lemmas.List.Elements.{All-head, All-tail, filter-append}
 use Rattle.std.proofs.lemmas.List.Sums.{length-filter, count_by-le-length}
 use Rattle.mesh_plane.specs.Plane.{Point, Edge}
 use Rattle.mesh_plane.specs.Winding.{route, boundary, same_point}
 use Rattle.mesh_plane.proofs.ClosedLists.{woven, woven_round}
 use Rattle.mesh_num.specs.Segments.{proper_edges}
-use Rattle.i_overlay_mesh.specs.Outline.{Section, Corner, top_edge, corner_edges, drawn_edges}
+use Rattle.i_overlay_mesh.specs.Outline.{Section, Corner, top_edge, inner_edges, outer_edges, corner_edges, drawn_edges}
 
 -- what one section and what one corner draw
 abbrev pub drawn_top : Section → List Edge
@@ -54,35 +54,37 @@ corners_length : (xs : List Section) → length (boundary xs) ≡ length xs
 corners_length [] = refl
 corners_length (x ∷ xs) = omega (arith, route_length x xs x)
 
-corner_length : (is_outer : Corner → Bool) (join : Corner → List Point) (c : Corner) → length (join c) ≤ 2 → length (corner_edges is_outer join c) ≤ 3
-corner_length is_outer join c h = by (is_outer c) (same_point c.0.b_top c.1.a_top)
+corner_length : (is_outer : Corner → Bool) (join : Corner → List Point) (c : Corner) → (is_outer c ≡ true → length (outer_edges join c) ≤ 3) → length (corner_edges is_outer join c) ≤ 3
+corner_length is_outer join c few = by (is_outer c) refl
   where
-    by : (b t : Bool) → length (cond b (route c.0.b_top (cond t [] (join c)) c.1.a_top) ((c.0.b_top, c.0.b) ∷ (c.1.a, c.1.a_top) ∷ [])) ≤ 3
-    by true true = omega arith
-    by true false = omega (arith, route_length c.0.b_top (join c) c.1.a_top)
-    by false t = omega arith
+    by : (b : Bool) → is_outer c ≡ b → length (cond b (outer_edges join c) (inner_edges c)) ≤ 3
+    by true h = few h
+    by false h = omega arith
 
 without_length : (es : List Edge) → length (proper_edges es) ≤ length es
 without_length es = omega (arith, length-filter (λ (e : Edge). not (same_point e.0 e.1)) es, count_by-le-length (λ (e : Edge). not (same_point e.0 e.1)) es)
 
--- joins of at most two points give at most four edges a section
-pub drawn_length : (is_outer : Corner → Bool) (join : Corner → List Point) → ((c : Corner) → length (join c) ≤ 2) → (sections : List Section) →
-    length (drawn_edges is_outer join sections) ≤ 4 * length sections
-drawn_length is_outer join few sections =
+-- joins of at most three edges give at most four edges a section
+pub drawn_length : (is_outer : Corner → Bool) (join : Corner → List Point) (sections : List Section) →
+    All (λ (c : Corner). is_outer c ≡ true → length (outer_edges join c) ≤ 3) (boundary sections) → length (drawn_edges is_outer join sections) ≤ 4 * length sections
+drawn_length is_outer join sections few =
     rw (drawn_by_parts is_outer join sections)
-    (omega (arith, length-append (flat_map drawn_top sections) (flat_map (drawn_corner is_outer join) (boundary sections)), tops sections, all_corners (boundary sections), corners_length sections))
+    (omega (arith, length-append (flat_map drawn_top sections) (flat_map (drawn_corner is_outer join) (boundary sections)), tops sections, all_corners (boundary sections) few, corners_length sections))
   where
+    IsFew : Corner → Type 0
+    IsFew c = is_outer c ≡ true → length (outer_edges join c) ≤ 3
+
     tops : (ss : List Section) → length (flat_map drawn_top ss) ≤ length ss
     tops [] = omega arith
     tops (s ∷ ss) = omega (arith, tops ss, length-append (drawn_top s) (flat_map drawn_top ss), without_length (top_edge s ∷ []))
 
-    all_corners : (cs : List Corner) → length (flat_map (drawn_corner is_outer join) cs) ≤ 3 * length cs
-    all_corners [] = omega arith
-    all_corners (c ∷ cs) =
+    all_corners : (cs : List Corner) → All IsFew cs → length (flat_map (drawn_corner is_outer join) cs) ≤ 3 * length cs
+    all_corners [] h = omega arith
+    all_corners (c ∷ cs) h =
         omega (
           arith,
-          all_corners cs,
+          all_corners cs (All-tail IsFew c cs h),
           length-append (drawn_corner is_outer join c) (flat_map (drawn_corner is_outer join) cs),
           without_length (corner_edges is_outer join c),
-          corner_length is_outer join c (few c),
+          corner_length is_outer join c (All-head IsFew c cs h),
         )

@@ -3,14 +3,18 @@ use Rattle.std.proofs.Common.{◌≡◌, ℕ, ◌+◌, ◌*◌, ◌<◌, ◌≤�
 use Rattle.std.specs.Prelude.{ℤ, pos, ◌+ℤ◌, ◌-ℤ◌, ◌≤ℤ◌, ◌<ℤ◌, ◌↔◌, IsTrue}
 use Rattle.std.specs.List.{All, Contains}
 use Rattle.std.proofs.lemmas.Bool.{true≢false}
-use Rattle.std.proofs.lemmas.Int.{ints, clamps}
+use Rattle.std.proofs.lemmas.Int.{ints}
 use Rattle.std.proofs.lemmas.List.Elements.{All-nil, All-cons, All-head, All-tail, All-map, All-weaker, All-contains, All-more}
 use Rattle.std.proofs.Math.Nat.{mul-le-mul_right}
 use Rattle.mesh_plane.proofs.ClosedLists.{all_flat_map}
 use Rattle.mesh_plane.specs.Bounds.{IsSafe, IsSmall, IsWithin}
 use Rattle.mesh_plane.specs.Plane.{Point, Edge, plus, minus}
 use Rattle.mesh_num.specs.Rectangle.{IsInRectangle, IsBounds, IsSafeRectangle, IsSafeWidened}
-use Rattle.i_overlay_mesh.specs.Padding.{outline_padding, ArePathsSafe, all_points, widened}
+use Rattle.mesh_join.specs.Joins.{outline_padding}
+use Rattle.mesh_join.specs.Styles.{OutlineStyle, outer}
+use Rattle.mesh_below.proofs.Resolving.{all_left, all_right}
+use Rattle.i_overlay_mesh.specs.Padding.{ArePathsSafe, all_points, widened}
+use Rattle.i_overlay_mesh.proofs.Padding.{padding_least, outer_covered}
 
 -- the west side is no farther east than the east side
 pub bounds_ordered : (corners : Edge) (points : List Point) → IsBounds corners points → corners.0.0 ≤ℤ corners.1.0
@@ -65,15 +69,6 @@ path_tested unit padding corners points path b least h e t =
     rw (← e) (widened_bounds_safe unit padding corners points least h) in
     (λ i. w.0 (t.0 i), λ a. t.1 (w.1 a))
 
--- what holds of each element of a joined list holds of those of its parts
-all_left : {A : Type 0} (P : A → Type 0) (xs ys : List A) → All P (xs ++ ys) → All P xs
-all_left P [] ys h = All-nil P
-all_left P (x ∷ xs) ys h = All-cons P x xs (All-head P x (xs ++ ys) h) (all_left P xs ys (All-tail P x (xs ++ ys) h))
-
-all_right : {A : Type 0} (P : A → Type 0) (xs ys : List A) → All P (xs ++ ys) → All P ys
-all_right P [] ys h = h
-all_right P (x ∷ xs) ys h = all_right P xs ys (All-tail P x (xs ++ ys) h)
-
 -- all points of safe paths are safe
 pub paths_safe : (unit : ℕ) (padding : ℤ) (paths : List (List Point)) → ArePathsSafe unit padding paths ↔ All (λ (p : Point). IsSafeWidened unit padding p) (all_points paths)
 paths_safe unit padding paths = (λ h. all_flat_map P (λ (path : List Point). path) paths h, back paths)
@@ -115,8 +110,9 @@ corners_tested unit padding corners x y z w low high both b ex ey ez ew l h =
 pub all_paths_safe : (unit : ℕ) (padding : ℤ) (paths : List (List Point)) (i : ℕ) → length paths ≤ i → ArePathsSafe unit padding (take i paths) → ArePathsSafe unit padding paths
 all_paths_safe unit padding paths i h safe = subst (λ (ps : List (List Point)). ArePathsSafe unit padding ps) (take_all i paths h) safe
 
-pub padding_nonneg : (outer inner : ℤ) → pos 0 ≤ℤ outline_padding outer inner
-padding_nonneg outer inner = omega (arith, ints, clamps)
+-- the padding of an outline is at least 0
+pub outline_padding_least : (style : OutlineStyle) → pos 0 ≤ℤ outline_padding style
+outline_padding_least style = omega (arith, ints, padding_least (outer style), outer_covered style)
 
 -- what tells that all paths are safe tells that the bounds of all points are, moved outwards
 pub accepted_by_bounds : (unit : ℕ) (padding : ℤ) (paths : List (List Point)) (P : Type 0) → pos 0 ≤ℤ padding → P ↔ ArePathsSafe unit padding paths →

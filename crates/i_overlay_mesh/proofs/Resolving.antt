@@ -1,14 +1,12 @@
 -- Lemmas over points and lists: what comes of one contour, and what is resolved at last.
 use Rattle.std.proofs.Common.{◌≡◌, ℕ, List, [], ◌∷◌, ◌++◌, map, refl, ◌∙◌, ap, arith}
-use Rattle.std.specs.Prelude.{ℤ, pos, ◌-ℤ◌, ◌<ℤ◌}
+use Rattle.std.specs.Prelude.{ℤ, pos, ◌-ℤ◌, Some}
 use Rattle.std.specs.List.{All, flat_map}
 use Rattle.std.specs.List.Sorted.{IsPermutation}
-use Rattle.std.proofs.lemmas.Int.{ints}
 use Rattle.std.proofs.lemmas.List.Elements.{All-map, All-weaker, All-filter}
 use Rattle.mesh_plane.specs.Bounds.{IsSafe}
 use Rattle.mesh_num.specs.Paths.{contours_of}
 use Rattle.mesh_plane.specs.Plane.{Point, Edge}
-use Rattle.mesh_num.specs.Rectangle.{IsSafeWidened}
 use Rattle.mesh_num.specs.Segments.{SignedEdge, edges_of, proper_edges, segments_of, IsSubject}
 use Rattle.mesh_plane.specs.Winding.{total, boundary, IsBalanced}
 use Rattle.mesh_plane.proofs.Whole.{linear}
@@ -24,24 +22,12 @@ use Rattle.mesh_shapes.specs.Resolution.{Choices, IsResolution}
 use Rattle.mesh_cuts.specs.Split.{back}
 use Rattle.mesh_cuts.specs.declared.fill.FillRule.{FillRule}
 use Rattle.mesh_cuts.specs.declared.fill.FillRule.TheVariants.{Positive, Negative}
+use Rattle.mesh_join.specs.Styles.{OffsetJoin, OutlineStyle}
 use Rattle.i_overlay_mesh.specs.Adding.{along, AddsClosed}
-use Rattle.i_overlay_mesh.specs.Building.{IsMovable, added_edges, bevelled_edges}
-use Rattle.i_overlay_mesh.specs.Padding.{outline_padding}
-use Rattle.i_overlay_mesh.specs.Resolved.{answer_edges, IsAnswerAlone, Gives, Give, IsOutline}
+use Rattle.i_overlay_mesh.specs.Building.{style_for, added_edges}
+use Rattle.i_overlay_mesh.specs.Outline.{outline_edges}
+use Rattle.i_overlay_mesh.specs.Resolved.{answer_edges, fill_for, IsAnswerAlone, Gives, Give, IsOutline}
 use Rattle.i_overlay_mesh.proofs.OutlineSum.{proper_edges_total}
-use Rattle.i_overlay_mesh.proofs.Padding.{safe_within_less, outer_covered, inner_covered}
-
--- ---- where a contour may be moved
-
-pub movable_outer : (unit : ℕ) (outer inner : ℤ) (path : List Point) → All (IsSafeWidened unit (outline_padding outer inner)) path → All (IsMovable unit outer) path
-movable_outer unit outer inner path safe =
-    All-weaker (IsSafeWidened unit (outline_padding outer inner)) (IsMovable unit outer)
-    (λ p s. safe_within_less unit (outline_padding outer inner) _ p (omega (arith, ints)) (outer_covered outer inner) s) path safe
-
-pub movable_inner : (unit : ℕ) (outer inner : ℤ) (path : List Point) → All (IsSafeWidened unit (outline_padding outer inner)) path → All (IsMovable unit inner) path
-movable_inner unit outer inner path safe =
-    All-weaker (IsSafeWidened unit (outline_padding outer inner)) (IsMovable unit inner)
-    (λ p s. safe_within_less unit (outline_padding outer inner) _ p (omega (arith, ints)) (inner_covered outer inner) s) path safe
 
 -- ---- the edges of an answer
 
@@ -57,13 +43,14 @@ along_balanced : (fill : FillRule) (es : List Edge) → IsBalanced es → IsBala
 along_balanced Positive es h = h
 along_balanced Negative es h = balanced_by_growth (map back es) (λ g. omega (arith, linear, back_growth g es, growth_of_balanced es h g))
 
-along_safe : (unit : ℕ) (fill : FillRule) (es : List Edge) → AreEdgesSafe unit es → AreEdgesSafe unit (along fill es)
+pub along_safe : (unit : ℕ) (fill : FillRule) (es : List Edge) → AreEdgesSafe unit es → AreEdgesSafe unit (along fill es)
 along_safe unit Positive es h = h
 along_safe unit Negative es h =
     All-map (λ (e : Edge). IsSafe unit e.0 × IsSafe unit e.1) back es
     (All-weaker (λ (e : Edge). IsSafe unit e.0 × IsSafe unit e.1) (λ (e : Edge). IsSafe unit e.1 × IsSafe unit e.0) (λ e s. (s.1, s.0)) es h)
 
-answer_safe : (unit : ℕ) (answer : List (List (List Point))) → ArePointsSafe unit answer → AreEdgesSafe unit (answer_edges answer)
+-- the edges of an answer's contours are safe where its points are
+pub answer_safe : (unit : ℕ) (answer : List (List (List Point))) → ArePointsSafe unit answer → AreEdgesSafe unit (answer_edges answer)
 answer_safe unit answer safe =
     all_flat_map (λ (e : Edge). IsSafe unit e.0 × IsSafe unit e.1) boundary (contours_of answer)
     (All-weaker (λ (contour : List Point). All (IsSafe unit) contour) (λ (contour : List Point). AreEdgesSafe unit (boundary contour))
@@ -87,24 +74,23 @@ built_balanced old built ss e f h = rw f (rw e at h)
 pub built_safe : (unit : ℕ) (old built ss : List SignedEdge) → old ≡ [] → ss ≡ built → AreEdgesSafe unit (added_edges old built) → AreEdgesSafe unit (edges_of ss)
 built_safe unit old built ss e f h = rw f (rw e at h)
 
-pub is_alone : (unit : ℕ) (offset moved : ℤ) (fill : FillRule) (path : List Point) (old built ss : List SignedEdge) (choices : Choices) (answer : List (List (List Point))) →
-    moved ≡ offset → old ≡ [] → ss ≡ built → choices ≡ plain → IsPermutation (added_edges old built) (bevelled_edges unit moved path) →
-    IsResolution (edges_of ss) (filled fill) choices answer → IsAnswerAlone unit offset (filled fill) path answer
-is_alone unit offset moved fill path old built ss choices answer m e f d same resolution = record {
+pub is_alone : (unit : ℕ) (style : OffsetJoin) (fill : FillRule) (path : List Point) (old built ss : List SignedEdge) (choices : Choices) (answer : List (List (List Point))) →
+    old ≡ [] → ss ≡ built → choices ≡ plain → IsPermutation (added_edges old built) (outline_edges unit style path) →
+    IsResolution (edges_of ss) (filled fill) choices answer → IsAnswerAlone unit style (filled fill) path answer
+is_alone unit style fill path old built ss choices answer e f d same resolution = record {
   built = edges_of built;
-  same = rw (e, m) at same;
+  same = rw e at same;
   resolution = rw (f, d) at resolution;
 }
 
-pub gives_outer : (unit : ℕ) (offsets : ℤ × ℤ) (path : List Point) (old new : List SignedEdge) → pos 0 <ℤ double_area path →
-    ((answer : List (List (List Point))) × IsAnswerAlone unit offsets.0 (filled Positive) path answer × AddsClosed unit old new (answer_edges answer)) →
-    (edges : List Edge) × Gives unit offsets path edges × AddsClosed unit old new edges
-gives_outer unit offsets path old new above h = (answer_edges h.0, Gives.outer above h.1, h.2)
-
-pub gives_hole : (unit : ℕ) (offsets : ℤ × ℤ) (path : List Point) (old new : List SignedEdge) → double_area path <ℤ pos 0 →
-    ((answer : List (List (List Point))) × IsAnswerAlone unit offsets.1 (filled Negative) path answer × AddsClosed unit old new (map back (answer_edges answer))) →
-    (edges : List Edge) × Gives unit offsets path edges × AddsClosed unit old new edges
-gives_hole unit offsets path old new below h = (map back (answer_edges h.0), Gives.hole below h.1, h.2)
+-- what a contour gives that moves in this way
+pub gives_moved : (unit : ℕ) (style : OutlineStyle) (way : OffsetJoin) (fill : FillRule) (path : List Point) (old new : List SignedEdge) → style_for style (double_area path) ≡ Some way →
+    fill ≡ fill_for (double_area path) →
+    ((answer : List (List (List Point))) × IsAnswerAlone unit way (filled fill) path answer × AddsClosed unit old new (along fill (answer_edges answer))) →
+    (edges : List Edge) × Gives unit style path edges × AddsClosed unit old new edges
+gives_moved unit style way fill path old new moves e h =
+    let g : (answer : List (List (List Point))) × IsAnswerAlone unit way (filled (fill_for (double_area path))) path answer × AddsClosed unit old new (along (fill_for (double_area path)) (answer_edges answer)) = rw e at h in
+    (along (fill_for (double_area path)) (answer_edges g.0), Gives.moved moves g.1, g.2)
 
 -- ---- what is resolved at last
 
@@ -125,10 +111,10 @@ module _ (unit : ℕ) (ss : List SignedEdge) (given : List Edge) (h : AddsClosed
   given_safe = rw given_edges (All-filter _ (λ (e : Edge). IsSafe unit e.0 × IsSafe unit e.1) given h.safe)
 
 -- the answer is the outline of the contours
-pub is_outline : (unit : ℕ) (offsets : ℤ × ℤ) (choices : Choices) (contours : List (List Point)) (ss : List SignedEdge) (answer : List (List (List Point))) →
-    ((given : List Edge) × Give unit offsets contours given × AddsClosed unit [] ss given) → IsResolution (edges_of ss) (filled Positive) choices answer →
-    IsOutline unit offsets choices contours answer
-is_outline unit offsets choices contours ss answer h resolution = record {
+pub is_outline : (unit : ℕ) (style : OutlineStyle) (choices : Choices) (contours : List (List Point)) (ss : List SignedEdge) (answer : List (List (List Point))) →
+    ((given : List Edge) × Give unit style contours given × AddsClosed unit [] ss given) → IsResolution (edges_of ss) (filled Positive) choices answer →
+    IsOutline unit style choices contours answer
+is_outline unit style choices contours ss answer h resolution = record {
   given = h.0;
   give = h.1;
   resolution = rw (given_edges unit ss h.0 h.2) at resolution;

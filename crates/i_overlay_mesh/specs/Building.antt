@@ -1,40 +1,40 @@
 -- What the outline's builder asks and adds.
-use Rattle.std.specs.Prelude.{ℕ, ◌≡◌, ◌≢◌, List, ◌++◌, length, take, drop, count_by, cond, ◌+ℤ◌, ℤ, pos, int_lt, unsigned_abs}
-use Rattle.mesh_join.specs.declared.arc.ArcDirection.{ArcDirection}
-use Rattle.mesh_join.specs.declared.arc.ArcDirection.TheVariants.{Clockwise, Counterclockwise}
+use Rattle.std.specs.Prelude.{ℕ, ◌≡◌, ◌≢◌, List, ◌++◌, length, take, drop, count_by, cond, ◌+ℤ◌, ℤ, pos, int_lt, unsigned_abs, Option, Some, None}
 use Rattle.mesh_plane.specs.Plane.{Point, Edge}
 use Rattle.mesh_num.specs.Rectangle.{IsSafeWidened}
 use Rattle.std.specs.List.{All}
 use Rattle.mesh_plane.specs.Winding.{boundary, winding, crossing_on, pieces_total, holds, IsBit}
-use Rattle.mesh_join.specs.Cleaned.{cleaned_sections}
+use Rattle.mesh_join.specs.Joins.{offset_padding}
+use Rattle.mesh_join.specs.Styles.{OffsetJoin, OutlineStyle, outer, inner}
 use Rattle.std.specs.List.Sorted.{IsPermutation}
 use Rattle.mesh_num.specs.Segments.{SignedEdge, edges_of, segments_of, segment_between, IsSubject}
-use Rattle.i_overlay_mesh.specs.Outline.{Section, Corner, own_edge, section_of, corner_edges, parts, bevel, outline_edges, outline_pieces, sided}
+use Rattle.i_overlay_mesh.specs.Outline.{Section, Corner, own_edge, section_of, corner_edges, parts, joined, sided}
 
--- a point that stays safe where it is moved by the offset
-abbrev pub IsMovable : ℕ → ℤ → Point → Type 0
-IsMovable unit offset p = IsSafeWidened unit (pos (unsigned_abs offset)) p
+-- how a contour moves, by its double area: an outer boundary has an area above 0, a hole one below 0; a contour of area 0 does not move
+abbrev pub style_for : OutlineStyle → ℤ → Option OffsetJoin
+style_for style area = cond (int_lt (pos 0) area) (Some (outer style)) (cond (int_lt area (pos 0)) (Some (inner style)) None)
 
--- the section of an edge with different ends, both of which stay safe where they are moved
+-- a point that stays safe where it moves by at most the padding of the offset's joins
+abbrev pub IsMovable : ℕ → OffsetJoin → Point → Type 0
+IsMovable unit style p = IsSafeWidened unit (offset_padding style) p
+
+-- the section of an edge with different ends, both of which stay safe where they move by the offset's size
 pub record IsMoved (unit : ℕ) (offset : ℤ) (s : Section) : Type 0 where
   pub made : s ≡ section_of unit offset (own_edge s)
   pub differ : s.a ≢ s.b
-  pub safe_a : IsMovable unit offset s.a
-  pub safe_b : IsMovable unit offset s.b
+  pub safe_a : IsSafeWidened unit (pos (unsigned_abs offset)) s.a
+  pub safe_b : IsSafeWidened unit (pos (unsigned_abs offset)) s.b
 
--- two sections that meet
-pub record IsCorner (unit : ℕ) (offset : ℤ) (c : Corner) : Type 0 where
-  pub previous : IsMoved unit offset c.0
-  pub next : IsMoved unit offset c.1
+-- two sections that meet in a point that can be moved
+pub record IsCorner (unit : ℕ) (style : OffsetJoin) (c : Corner) : Type 0 where
+  pub previous : IsMoved unit style.offset c.0
+  pub next : IsMoved unit style.offset c.1
   pub met : c.0.b ≡ c.1.a
-
--- the sense of the joins: to the left, for a negative offset to the right
-abbrev pub sense_for : ℤ → ArcDirection
-sense_for offset = cond (int_lt offset (pos 0)) Clockwise Counterclockwise
+  pub movable : IsMovable unit style c.0.b
 
 -- what is drawn at a corner, as segments
-abbrev pub corner_segments : ℤ → Corner → List SignedEdge
-corner_segments offset c = segments_of (corner_edges (parts offset) bevel c)
+abbrev pub corner_segments : ℕ → OffsetJoin → Corner → List SignedEdge
+corner_segments unit style c = segments_of (corner_edges (parts style.offset) (joined unit style) c)
 
 -- the moved edge of a section, as a segment
 abbrev pub top_segments : Section → List SignedEdge
@@ -55,14 +55,6 @@ added old new = drop (length old) new
 -- the edges that those segments stand for
 abbrev pub added_edges : List SignedEdge → List SignedEdge → List Edge
 added_edges old new = edges_of (added old new)
-
--- the edges of a bevelled outline of the contour of these points
-abbrev pub bevelled_edges : ℕ → ℤ → List Point → List Edge
-bevelled_edges unit offset points = outline_edges unit offset bevel (cleaned_sections points)
-
--- its pieces: the strips between the edges and the moved edges, and the triangles of the bevels
-abbrev pub bevelled_pieces : ℕ → ℤ → List Point → List (List Point)
-bevelled_pieces unit offset points = outline_pieces unit offset bevel (cleaned_sections points)
 
 -- at each point of each grid a piece winds 0 times or once, with the sign of the side that the offset moves to
 abbrev pub NeverTurnedRound : ℤ → List (List Point) → Type 0

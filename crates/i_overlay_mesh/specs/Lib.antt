@@ -1,3 +1,6 @@
+pub use Rattle.mesh_join.specs.Joins
+pub use Rattle.mesh_join.specs.Joints
+pub use Rattle.mesh_join.specs.Styles
 pub mod Adding
 pub mod Building
 pub mod Outline

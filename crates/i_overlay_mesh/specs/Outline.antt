@@ -1,13 +1,19 @@
 -- Outlines: how a contour that is moved sideways by an offset is drawn, and the pieces between it and the contour.
-use Rattle.std.specs.Prelude.{ℕ, ◌≡◌, ◌≢◌, Bool, cond, List, [], ◌∷◌, ◌++◌, map, ℤ, pos, ◌≤ℤ◌, neg_ℤ, int_lt}
+use Rattle.std.specs.Prelude.{ℕ, ◌≡◌, ◌≢◌, Bool, cond, List, [], ◌∷◌, ◌++◌, map, ℤ, pos, neg_ℤ, unsigned_abs, int_lt}
 use Rattle.std.specs.Ordering.{int_eq}
 use Rattle.std.specs.List.{All, flat_map}
 use Rattle.std.proofs.Math.Bool.{beq}
-use Rattle.mesh_plane.specs.Plane.{Point, Edge, plus, minus, cross, dot, turn, right_quarter}
+use Rattle.mesh_plane.specs.Plane.{Point, Edge, plus, minus, cross, dot, right_quarter}
 use Rattle.mesh_num.specs.Direction.{scaled_direction}
 use Rattle.mesh_num.specs.Directed.{direction_of}
 use Rattle.mesh_num.specs.Segments.{proper_edges}
-use Rattle.mesh_plane.specs.Winding.{route, boundary, fan, same_point}
+use Rattle.mesh_plane.specs.Winding.{boundary, fan}
+use Rattle.mesh_join.specs.Cleaned.{cleaned_sections}
+use Rattle.mesh_join.specs.Joins.{join_points, through}
+use Rattle.mesh_join.specs.Joints.{Joint, joint}
+use Rattle.mesh_join.specs.Styles.{OffsetJoin}
+use Rattle.mesh_join.specs.declared.arc.ArcDirection.{ArcDirection}
+use Rattle.mesh_join.specs.declared.arc.ArcDirection.TheVariants.{Clockwise, Counterclockwise}
 
 -- an edge of the contour from `a` to `b`, its direction, and where the two ends lie once it has been moved
 pub record Section : Type 0 where
@@ -38,16 +44,16 @@ abbrev pub inner_edges : Corner → List Edge
 inner_edges c = (c.0.b_top, c.0.b) ∷ (c.1.a, c.1.a_top) ∷ []
 
 -- an outer corner goes from top to top through the points of its join; there are none where the tops are equal
-abbrev pub join_edges : (Corner → List Point) → Corner → List Edge
-join_edges join c = route c.0.b_top (cond (same_point c.0.b_top c.1.a_top) [] (join c)) c.1.a_top
+abbrev pub outer_edges : (Corner → List Point) → Corner → List Edge
+outer_edges join c = through c.0.b_top (join c) c.1.a_top
 
 -- what is drawn at a corner
 abbrev pub corner_edges : (Corner → Bool) → (Corner → List Point) → Corner → List Edge
-corner_edges is_outer join c = cond (is_outer c) (join_edges join c) (inner_edges c)
+corner_edges is_outer join c = cond (is_outer c) (outer_edges join c) (inner_edges c)
 
 -- the pieces at a corner: the fan of an outer one's join
 abbrev pub corner_pieces : (Corner → Bool) → (Corner → List Point) → Corner → List (List Point)
-corner_pieces is_outer join c = cond (is_outer c) (fan c.0.b (join_edges join c)) []
+corner_pieces is_outer join c = cond (is_outer c) (fan c.0.b (outer_edges join c)) []
 
 -- what is drawn over a closed list of sections: the moved edges and what is drawn at the corners
 unfoldable pub drawn_edges : (Corner → Bool) → (Corner → List Point) → List Section → List Edge
@@ -80,31 +86,38 @@ parts offset c =
     cond (int_eq (cross next previous) (pos 0)) (int_lt (dot next previous) (pos 0))
     (beq (int_lt (pos 0) (cross next previous)) (int_lt offset (pos 0)))
 
--- the outline of a contour, given as its edges: they are moved by `offset` and joined by `join`
-abbrev pub outline_edges : ℕ → ℤ → (Corner → List Point) → List Edge → List Edge
-outline_edges unit offset join contour = drawn_edges (parts offset) join (map (section_of unit offset) contour)
+-- the sense of the joins: to the left, for a negative offset to the right
+abbrev pub sense_for : ℤ → ArcDirection
+sense_for offset = cond (int_lt offset (pos 0)) Clockwise Counterclockwise
+
+-- what the join of an outer corner is asked for
+abbrev pub joint_at : ℤ → Corner → Joint
+joint_at offset c = joint c.0.b c.0.b_top c.1.a_top c.0.direction c.1.direction (pos (unsigned_abs offset)) (sense_for offset)
+
+-- the points of that join
+abbrev pub joined : ℕ → OffsetJoin → Corner → List Point
+joined unit style c = join_points unit style.join (joint_at style.offset c)
+
+-- the outline of a ring of edges: they are moved by the offset and joined at the outer corners
+abbrev pub ring_outline : ℕ → OffsetJoin → List Edge → List Edge
+ring_outline unit style contour = drawn_edges (parts style.offset) (joined unit style) (map (section_of unit style.offset) contour)
 
 -- its pieces; the offset 0 has none
-abbrev pub outline_pieces : ℕ → ℤ → (Corner → List Point) → List Edge → List (List Point)
-outline_pieces unit offset join contour =
-    cond (int_eq offset (pos 0)) [] (drawn_pieces (parts offset) join (map (section_of unit offset) contour))
+abbrev pub ring_pieces : ℕ → OffsetJoin → List Edge → List (List Point)
+ring_pieces unit style contour =
+    cond (int_eq style.offset (pos 0)) [] (drawn_pieces (parts style.offset) (joined unit style) (map (section_of unit style.offset) contour))
 
--- a bevel goes straight from top to top
-abbrev pub bevel : Corner → List Point
-bevel c = []
+-- the edges of the outline of the contour of these points
+abbrev pub outline_edges : ℕ → OffsetJoin → List Point → List Edge
+outline_edges unit style points = ring_outline unit style (cleaned_sections points)
+
+-- its pieces: the strips between the edges and the moved edges, and the triangles of the joins
+abbrev pub outline_pieces : ℕ → OffsetJoin → List Point → List (List Point)
+outline_pieces unit style points = ring_pieces unit style (cleaned_sections points)
 
 -- a number with its sign changed for a negative offset
 abbrev pub sided : ℤ → ℤ → ℤ
 sided offset z = cond (int_lt offset (pos 0)) (neg_ℤ z) z
-
--- neighbours in a list of points round `v` never turn back: a turn is to the left, for a negative offset to the right
-abbrev pub NeverTurnsBack : ℤ → Point → List Edge → Type 0
-NeverTurnsBack offset v es = All (λ (e : Edge). pos 0 ≤ℤ sided offset (turn v e.0 e.1)) es
-
--- a join whose points never turn back where its ends do not
-abbrev pub IsFoldFree : ℤ → (Corner → List Point) → Type 0
-IsFoldFree offset join =
-    (c : Corner) → pos 0 ≤ℤ sided offset (turn c.0.b c.0.b_top c.1.a_top) → NeverTurnsBack offset c.0.b (join_edges join c)
 
 -- edges with different ends, each starting where the one before ends, the first where the last does
 pub record IsRing (contour : List Edge) : Type 0 where

@@ -1,14 +1,9 @@
 -- How far an outline reaches from the vertices of its contours, and what stays in the safe range.
 use Rattle.std.specs.Prelude.{ℕ, List, ℤ}
-use Rattle.std.specs.Int.{int_max}
 use Rattle.std.specs.List.{All, Contains, flat_map}
 use Rattle.mesh_plane.specs.Plane.{Point, Edge, plus, minus}
-use Rattle.mesh_num.specs.Rectangle.{IsInRectangle, IsSafeWidened}
-use Rattle.mesh_join.specs.Joins.{bevel_padding}
-
--- the padding of an outline with these offsets: the greater one of their joins
-abbrev pub outline_padding : ℤ → ℤ → ℤ
-outline_padding outer inner = int_max (bevel_padding outer) (bevel_padding inner)
+use Rattle.mesh_num.specs.Rectangle.{IsSafeWidened}
+use Rattle.mesh_join.specs.Joints.{IsWithinPadding}
 
 -- each point of each path stays safe where it moves by at most the padding
 abbrev pub ArePathsSafe : ℕ → ℤ → List (List Point) → Type 0
@@ -21,10 +16,6 @@ all_points paths = flat_map (λ (path : List Point). path) paths
 -- a rectangle moved outwards by the padding on each side
 abbrev pub widened : ℤ → Edge → Edge
 widened padding corners = (minus corners.0 (padding, padding), plus corners.1 (padding, padding))
-
--- `p` is away from `v` by at most the padding in each coordinate
-abbrev pub IsWithinPadding : ℤ → Point → Point → Type 0
-IsWithinPadding padding v p = IsInRectangle (widened padding (v, v)) p
 
 -- `p` is away from one of the vertices by at most the padding in each coordinate
 pub record IsNear (padding : ℤ) (vertices : List Point) (p : Point) : Type 0 where

@@ -7,7 +7,8 @@ use Rattle.mesh_num.specs.Segments.{proper_edges}
 use Rattle.mesh_cuts.specs.Reach.{AreEdgesSafe, ArePointsSafe}
 use Rattle.mesh_shapes.specs.Resolution.{Choices, IsResolution}
 use Rattle.mesh_cuts.specs.Split.{after}
-use Rattle.i_overlay_mesh.specs.Building.{bevelled_edges}
+use Rattle.mesh_join.specs.Styles.{OffsetJoin, OutlineStyle, outer, inner}
+use Rattle.i_overlay_mesh.specs.Outline.{outline_edges}
 use Rattle.i_overlay_mesh.specs.Resolved.{Give}
 
 -- edges are safe, and so is each resolving of them: its split segments, and each point of its answer
@@ -16,18 +17,18 @@ pub record IsSafeResolving (unit : ℕ) (edges : List Edge) : Type 0 where
   pub resolving_safe : (fill : ℤ → Bool) (choices : Choices) (answer : List (List (List Point))) (r : IsResolution edges fill choices answer)
       → AreEdgesSafe unit (after r.cuts edges) × ArePointsSafe unit answer
 
--- that holds of the edges of a contour's outline with this offset, in whatever order they were built
-abbrev pub IsSafeAlone : ℕ → ℤ → List Point → Type 0
-IsSafeAlone unit offset contour =
-    (built : List Edge) → IsPermutation built (bevelled_edges unit offset contour) → IsSafeResolving unit built
+-- that holds of the edges of a contour's outline that moves so, in whatever order they were built
+abbrev pub IsSafeAlone : ℕ → OffsetJoin → List Point → Type 0
+IsSafeAlone unit style contour =
+    (built : List Edge) → IsPermutation built (outline_edges unit style contour) → IsSafeResolving unit built
 
 -- and of the edges that contours give to the whole outline
-abbrev pub IsSafeTogether : ℕ → ℤ × ℤ → List (List Point) → Type 0
-IsSafeTogether unit offsets contours =
-    (given : List Edge) → Give unit offsets contours given → IsSafeResolving unit (proper_edges given)
+abbrev pub IsSafeTogether : ℕ → OutlineStyle → List (List Point) → Type 0
+IsSafeTogether unit style contours =
+    (given : List Edge) → Give unit style contours given → IsSafeResolving unit (proper_edges given)
 
 -- all edges, all split segments and all answers of an outline are safe
-pub record StaysSafe (unit : ℕ) (offsets : ℤ × ℤ) (contours : List (List Point)) : Type 0 where
-  pub outer : All (IsSafeAlone unit offsets.0) contours
-  pub inner : All (IsSafeAlone unit offsets.1) contours
-  pub together : IsSafeTogether unit offsets contours
+pub record StaysSafe (unit : ℕ) (style : OutlineStyle) (contours : List (List Point)) : Type 0 where
+  pub outer_safe : All (IsSafeAlone unit (outer style)) contours
+  pub inner_safe : All (IsSafeAlone unit (inner style)) contours
+  pub together : IsSafeTogether unit style contours

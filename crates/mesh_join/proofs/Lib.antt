@@ -1,8 +1,3 @@
-pub mod CleaningEnds
-pub mod CleaningLoop
-pub mod CleaningPass
-pub mod CleaningStart
-pub mod CleaningSteps
-pub mod CleaningSums
-pub mod CleaningTurns
-pub mod CleaningVectors
+pub mod Bevels
+pub mod JoinLaws
+pub mod Joins

@@ -1,37 +1,52 @@
--- Joins: the list of points that an outer corner runs through, what a join is asked for, and how far it reaches.
-use Rattle.std.specs.Prelude.{ℕ, ◌≡◌, List, [], ◌∷◌, ℤ, pos, ◌+ℤ◌, ◌*ℤ◌, ◌≤ℤ◌, negsuc, neg_ℤ, unsigned_abs}
-use Rattle.mesh_plane.specs.Plane.{Point, Edge, plus, minus, cross, right_quarter}
-use Rattle.mesh_num.specs.Direction.{IsFresh, scaled_direction}
+-- Joins: the edges that an outer corner runs through, and how far they reach, for each kind of join.
+use Rattle.std.specs.Prelude.{ℕ, Bool, true, cond, List, [], ℤ}
+use Rattle.std.specs.Int.{int_max}
+use Rattle.mesh_plane.specs.Plane.{Point, Edge}
 use Rattle.mesh_num.specs.Rectangle.{IsSafeWidened}
-use Rattle.mesh_plane.specs.Winding.{route}
-use Rattle.mesh_join.specs.declared.arc.ArcDirection.{ArcDirection}
-use Rattle.mesh_join.specs.declared.arc.ArcDirection.TheVariants.{Clockwise, Counterclockwise}
+use Rattle.mesh_plane.specs.Winding.{route, same_point}
+use Rattle.mesh_join.specs.Bevels.{bevel_points, bevel_padding}
+use Rattle.mesh_join.specs.Joints.{Joint, IsTurn}
+use Rattle.mesh_join.specs.Styles.{JoinStyle, OffsetJoin, OutlineStyle, outer, inner}
+use Rattle.mesh_join.specs.declared.style.IntLineJoin.{IntLineJoin}
+use Rattle.mesh_join.specs.declared.style.IntLineJoin.TheVariants.{Bevel}
 
--- 1 for a turn to the left, -1 for one to the right
-abbrev pub sense_of : ArcDirection → ℤ
-sense_of Counterclockwise = pos 1
-sense_of Clockwise = negsuc 0
+-- the points of a join of each kind, where `min_turn` is the turn below which a miter is a bevel
+abbrev pub points_of : IntLineJoin → ℕ → ℕ → Joint → List Point
+points_of Bevel min_turn unit j = bevel_points j
 
--- the edges of a bevel from `a` to `b`: the straight one
-abbrev pub bevel_edges : Point → Point → List Edge
-bevel_edges a b = route a [] b
+-- the points of a join
+abbrev pub join_points : ℕ → JoinStyle → Joint → List Point
+join_points unit style j = points_of style.kind style.min_turn unit j
 
--- how far a bevel reaches from its corner in each coordinate: the size of the radius
-abbrev pub bevel_padding : ℤ → ℤ
-bevel_padding radius = pos (unsigned_abs radius)
+-- how far a join of each kind reaches from its corner in each coordinate, by its radius or an offset of that size
+abbrev pub join_padding : IntLineJoin → ℤ → ℤ
+join_padding Bevel radius = bevel_padding radius
 
--- the point beside `center` that a section with the direction `n` is moved to: to its right for a turn to the left, else to its left
-abbrev pub contact : ℕ → ℤ → ArcDirection → Point → Point → Point
-contact unit radius Counterclockwise center n = plus center (right_quarter (scaled_direction unit radius n))
-contact unit radius Clockwise center n = minus center (right_quarter (scaled_direction unit radius n))
+-- whether joins of each kind have at most three edges
+abbrev pub has_few : IntLineJoin → Bool
+has_few Bevel = true
 
--- what a join asks: a radius of at least 0, fresh directions of the sections before and after the corner,
--- a corner that stays safe within the padding, the contact points of both directions, and no turn back from the first to the second
-pub record IsJoint (unit : ℕ) (padding : ℤ) (center a b incoming outgoing : Point) (radius : ℤ) (sense : ArcDirection) : Type 0 where
-  pub radius_sign : pos 0 ≤ℤ radius
-  pub fresh_incoming : IsFresh unit incoming
-  pub fresh_outgoing : IsFresh unit outgoing
-  pub safe : IsSafeWidened unit padding center
-  pub first : a ≡ contact unit radius sense center incoming
-  pub last : b ≡ contact unit radius sense center outgoing
-  pub no_turn_back : pos 0 ≤ℤ (sense_of sense *ℤ cross (minus a center) (minus b center))
+-- the points on the way from `a` to `b`: none where these are one point
+abbrev pub between : Point → List Point → Point → List Point
+between a points b = cond (same_point a b) [] points
+
+-- the edges from `a` to `b` through the points between them
+abbrev pub through : Point → List Point → Point → List Edge
+through a points b = route a (between a points b) b
+
+-- the edges of a join
+abbrev pub join_edges : ℕ → JoinStyle → Joint → List Edge
+join_edges unit style j = through j.first (join_points unit style j) j.last
+
+-- what a join asks: a turn, and a corner that stays safe within the padding
+pub record IsJoint (unit : ℕ) (style : JoinStyle) (j : Joint) : Type 0 where
+  pub turn : IsTurn unit j
+  pub safe : IsSafeWidened unit (join_padding style.kind j.radius) j.center
+
+-- how far the outline of one contour reaches from it: as its joins do
+abbrev pub offset_padding : OffsetJoin → ℤ
+offset_padding style = join_padding style.join.kind style.offset
+
+-- how far an outline reaches from its contours: the greater padding of both offsets
+abbrev pub outline_padding : OutlineStyle → ℤ
+outline_padding style = int_max (offset_padding (outer style)) (offset_padding (inner style))

@@ -1,3 +1,6 @@
-pub mod Cleaned
+pub use Rattle.mesh_clean.specs.Cleaned
+pub use Rattle.mesh_clean.specs.Laws
+pub mod Bevels
 pub mod Joins
-pub mod Laws
+pub mod Joints
+pub mod Styles

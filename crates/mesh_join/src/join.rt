@@ -2,48 +2,51 @@
 
 ghost use Rattle.std.specs.Prelude.{◌≡◌, ℤ, ◌++◌, OnOk, OnErr, IsOk};
 ghost use Rattle.mesh_num.specs.Segments.{edges_of, segments_of, proper_edges};
-ghost use Rattle.mesh_join.specs.Joins.{bevel_edges, bevel_padding, IsJoint};
+ghost use Rattle.mesh_join.specs.Joints.{joint};
+ghost use Rattle.mesh_join.specs.Joins.{join_edges, join_padding, IsJoint};
 
 use crate::arc::ArcDirection;
+use crate::bevel;
 use crate::style::IntLineJoin;
-use mesh_num::num::convert::wide_size;
 use mesh_num::num::{Angle, IntNumber, IntPoint, UnitIntVector, WideNumber};
-use mesh_num::shape::segment::{Segment, SubjectSegments};
+use mesh_num::shape::segment::Segment;
 use std::alloc::{AllocError, Global};
 use std::marker::{Model, PhantomData};
 
 /// Adds the edges that connect both offset points of an outer corner. Contracts see its style.
 #[derive(Debug, Drop)]
 pub struct Join<I: IntNumber> {
-    style: IntLineJoin,
+    kind: IntLineJoin,
+    min_turn: Angle,
     coordinate: PhantomData<I>,
 }
 
 impl<I: IntNumber> Model for Join<I> {
-    ghost use Rattle.mesh_join.specs.declared.style.IntLineJoin.{IntLineJoin};
+    ghost use Rattle.mesh_join.specs.Styles.{JoinStyle};
 
-    ghost Value = { IntLineJoin };
+    ghost Value = { JoinStyle };
 
-    ghost view = { λ j. j.style };
+    ghost view = { λ j. record { kind = j.kind; min_turn = j.min_turn } };
 }
 
 impl<I: IntNumber> Join<I> {
-    /// A join of this style; `_min_turn` is the turn below which a miter is a bevel. It takes no memory.
-    pub fn new(_alloc: Global, style: IntLineJoin, _min_turn: Angle) -> Self
-        ensures { result ≡ style }
+    /// A join of this kind; `min_turn` is the turn below which a miter is a bevel. It takes no memory.
+    pub fn new(_alloc: Global, kind: IntLineJoin, min_turn: Angle) -> Self
+        ensures { result ≡ record { kind = kind; min_turn = min_turn } }
     {
         Join {
-            style,
+            kind,
+            min_turn,
             coordinate: PhantomData,
         }
     }
 
-    /// How far a join of this style reaches from its corner in each coordinate, in grid units.
-    pub fn padding(style: IntLineJoin, radius: I) -> I::Wide
-        ensures { I.Wide.value result ≡ bevel_padding (I.value radius) }
+    /// How far a join of this kind reaches from its corner in each coordinate, in grid units.
+    pub fn padding(kind: IntLineJoin, radius: I) -> I::Wide
+        ensures { I.Wide.value result ≡ join_padding kind (I.value radius) }
     {
-        match style {
-            IntLineJoin::Bevel => wide_size::<I>(radius),
+        match kind {
+            IntLineJoin::Bevel => bevel::padding(radius),
         }
     }
 
@@ -64,15 +67,15 @@ impl<I: IntNumber> Join<I> {
         direction: ArcDirection,
         segments: &mut Vec<Segment<I>>,
     ) -> Result<(), AllocError>
-        requires { IsJoint I.unit (bevel_padding (I.value radius)) center a b incoming outgoing (I.value radius) direction }
-        ensures ok { OnOk result (segments.new.items ≡ segments.old.items ++ segments_of (bevel_edges a b)) }
-        ensures edges { OnOk result (edges_of segments.new.items ≡ edges_of segments.old.items ++ proper_edges (bevel_edges a b)) }
+        requires { IsJoint I.unit self.old (joint center a b incoming outgoing (I.value radius) direction) }
+        ensures ok { OnOk result (segments.new.items ≡ segments.old.items ++ segments_of (join_edges I.unit self.old (joint center a b incoming outgoing (I.value radius) direction))) }
+        ensures edges { OnOk result (edges_of segments.new.items ≡ edges_of segments.old.items ++ proper_edges (join_edges I.unit self.old (joint center a b incoming outgoing (I.value radius) direction))) }
         ensures err { OnErr result (segments.new.items ≡ segments.old.items) }
         ensures same_ends { a ≡ b → IsOk result }
         ensures same { self.new ≡ self.old }
     {
-        match self.style {
-            IntLineJoin::Bevel => segments.push_non_degenerate(a, b),
+        match self.kind {
+            IntLineJoin::Bevel => bevel::add(a, b, segments),
         }
     }
 }

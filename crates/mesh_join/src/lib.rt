@@ -1,8 +1,12 @@
-//! Styles, cleaned contours and joins of integer polygon offsetting.
+//! Styles and joins of integer polygon offsetting. `mesh_clean` has the cleaned contour, whose corners are joined.
+//!
+//! A kind of join is a variant of `IntLineJoin`, a module beside `bevel` and a file each of definitions and of lemmas.
+//! `specs/Joins.antt`, `proofs/Joins.antt` and `join` choose between the kinds.
 #![tactic(auto)]
 
 pub mod arc;
+mod bevel;
 pub mod join;
-pub mod laws;
 pub mod style;
-pub mod uniq_iter;
+
+pub use mesh_clean::{laws, uniq_iter};

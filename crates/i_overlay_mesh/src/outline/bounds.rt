@@ -4,7 +4,9 @@ ghost use Rattle.std.specs.Prelude.{◌≡◌, ◌↔◌, ◌≤ℤ◌, pos, IsT
 ghost use Rattle.std.specs.List.{All};
 ghost use Rattle.mesh_num.specs.Bounds.{IsSafe, IsSmall};
 ghost use Rattle.mesh_num.specs.Rectangle.{IsSafeRectangle, IsSafeWidened};
-ghost use Rattle.i_overlay_mesh.specs.Padding.{outline_padding, widened, ArePathsSafe};
+ghost use Rattle.mesh_join.specs.Joins.{outline_padding};
+ghost use Rattle.mesh_join.specs.Styles.{style_of};
+ghost use Rattle.i_overlay_mesh.specs.Padding.{widened, ArePathsSafe};
 
 use crate::error::IntOutlineError;
 use mesh_join::join::Join;
@@ -19,7 +21,7 @@ pub(crate) fn validate_outline_bounds<I: IntNumber, S: IntShapeResource<I>>(
     source: &S,
     style: &IntOutlineStyle<I>,
 ) -> Result<(), IntOutlineError>
-    ensures safe { IsOk result ↔ ArePathsSafe I.unit (outline_padding (I.value style.now.outer_offset) (I.value style.now.inner_offset)) (S.paths source.now) }
+    ensures safe { IsOk result ↔ ArePathsSafe I.unit (outline_padding (style_of I.value style.now)) (S.paths source.now) }
     ensures error { OnErr result (result ≡ Err IntOutlineError.CoordinateOutOfRange) }
 {
     let padding = outline_padding(style);
@@ -34,7 +36,7 @@ pub(crate) fn validate_outline_bounds<I: IntNumber, S: IntShapeResource<I>>(
 /// How far an outline of this style reaches from its contours in each coordinate, in grid units: the greater padding of
 /// both offsets' joins.
 fn outline_padding<I: IntNumber>(style: &IntOutlineStyle<I>) -> I::Wide
-    ensures value { I.Wide.value result ≡ outline_padding (I.value style.now.outer_offset) (I.value style.now.inner_offset) }
+    ensures value { I.Wide.value result ≡ outline_padding (style_of I.value style.now) }
     ensures least { pos 0 ≤ℤ I.Wide.value result }
 {
     let outer = Join::<I>::padding(style.join, style.outer_offset);

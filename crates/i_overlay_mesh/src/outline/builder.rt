@@ -1,27 +1,30 @@
 //! The edges of one contour's outline.
 
-ghost use Rattle.std.specs.Prelude.{◌≡◌, ◌*◌, ◌≤◌, ℤ, length, OnOk, OnErr, IsOk, ◌++◌};
+ghost use Rattle.std.specs.Prelude.{◌≡◌, ◌*◌, ◌≤◌, length, OnOk, OnErr, IsOk, ◌++◌};
 ghost use Rattle.std.specs.List.Sorted.{IsPermutation};
 ghost use Rattle.mesh_num.specs.Bounds.{IsSafe};
 ghost use Rattle.mesh_num.specs.Segments.{IsSubject};
 ghost use Rattle.mesh_num.specs.Winding.{IsBalanced};
-ghost use Rattle.mesh_join.specs.Joins.{bevel_padding};
+ghost use Rattle.mesh_join.specs.Joins.{offset_padding};
+ghost use Rattle.mesh_join.specs.Styles.{style_of};
 ghost use Rattle.i_overlay_mesh.specs.Padding.{IsNear};
 ghost use Rattle.std.specs.List.{All};
 ghost use Rattle.mesh_join.specs.Cleaned.{AllEqual, cleaned_sections};
-ghost use Rattle.i_overlay_mesh.specs.Outline.{outline_edges, bevel};
-ghost use Rattle.i_overlay_mesh.specs.Building.{Adds, added, added_edges, bevelled_edges, bevelled_pieces, NeverTurnedRound, WindAsPieces, WindsByCount, IsCorner, IsMovable, Keeps, corner_segments, top_segments};
+ghost use Rattle.i_overlay_mesh.specs.Outline.{outline_edges, outline_pieces};
+ghost use Rattle.i_overlay_mesh.specs.Building.{Adds, added, added_edges, style_for, NeverTurnedRound, WindAsPieces, WindsByCount, IsCorner, IsMovable, Keeps, corner_segments, top_segments};
 
 use crate::outline::builder_join::{JoinBuilder, is_outer};
 use crate::outline::section::OffsetSection;
 use mesh_join::join::Join;
+use mesh_join::style::IntOutlineStyle;
 use mesh_join::uniq_iter::UniqueSegmentsIter;
 use mesh_num::num::{IntNumber, IntPoint};
 use mesh_num::shape::segment::{Segment, SubjectSegments};
-use std::alloc::AllocError;
+use std::alloc::{AllocError, Global};
 use std::marker::Model;
 
-/// Builds the outline of a contour: its sections moved by an offset, and joined at the corners.
+/// Builds the outline of a contour: its sections moved by an offset, and joined at the corners. Contracts see its offset
+/// and the style of its joins.
 #[derive(Drop)]
 pub struct OutlineBuilder<I: IntNumber> {
     offset: I,
@@ -29,23 +32,39 @@ pub struct OutlineBuilder<I: IntNumber> {
 }
 
 impl<I: IntNumber> Model for OutlineBuilder<I> {
-    ghost use Rattle.std.specs.Prelude.{ℤ};
+    ghost use Rattle.mesh_join.specs.Styles.{OffsetJoin};
 
-    ghost Value = { ℤ };
+    ghost Value = { OffsetJoin };
 
-    ghost view = { λ b. I.value b.offset };
+    ghost view = { λ b. record { offset = I.value b.offset; join = b.join } };
 }
 
 impl<I: IntNumber> OutlineBuilder<I> {
     /// A builder of outlines with this offset in grid units: to the right of the contour's edges, to their left where it is negative.
     pub fn new(offset: I, join: Join<I>) -> Self
-        ensures { result ≡ I.value offset }
+        ensures { result ≡ record { offset = I.value offset; join = join } }
     {
         OutlineBuilder { offset, join }
     }
 
+    /// A builder for a contour of this double area, in this style: outer boundaries, of an area above 0, move by the outer
+    /// offset, holes, of an area below 0, by the inner one; `None` for the area 0, whose contours do not move. It takes no memory.
+    pub fn for_area(alloc: Global, style: &IntOutlineStyle<I>, double_area: i128) -> Option<Self>
+        ensures { result ≡ style_for (style_of I.value style.now) double_area }
+    {
+        let offset = if double_area > 0 {
+            style.outer_offset
+        } else if double_area < 0 {
+            style.inner_offset
+        } else {
+            return None;
+        };
+        let join = Join::new(alloc, style.join, style.miter_min_turn);
+        Some(OutlineBuilder::new(offset, join))
+    }
+
     /// Adds the edges of the outline of the closed contour through these points, each of which stays in the safe range
-    /// where it moves by the size of the offset. What the vector holds stays. No memory is taken where there is no point
+    /// where it moves by the padding of the joins. What the vector holds stays. No memory is taken where there is no point
     /// or all are equal. After a refusal the vector is cut back to its old length.
     pub fn build(
         &mut self,
@@ -56,7 +75,7 @@ impl<I: IntNumber> OutlineBuilder<I> {
 
         // What is added, and what stays.
         ensures kept { OnOk result (Keeps segments.old.items segments.new.items) }
-        ensures edges { OnOk result (IsPermutation (added_edges segments.old.items segments.new.items) (bevelled_edges I.unit self.old path.now)) }
+        ensures edges { OnOk result (IsPermutation (added_edges segments.old.items segments.new.items) (outline_edges I.unit self.old path.now)) }
         ensures form { OnOk result (All IsSubject (added segments.old.items segments.new.items)) }
         ensures few { OnOk result (length (added segments.old.items segments.new.items) ≤ 4 * length (cleaned_sections path.now)) }
         ensures refused { OnErr result (segments.new.items ≡ segments.old.items) }
@@ -65,13 +84,13 @@ impl<I: IntNumber> OutlineBuilder<I> {
 
         // The edges close up, and stay near the contour.
         ensures balanced { OnOk result (IsBalanced (added_edges segments.old.items segments.new.items)) }
-        ensures near { OnOk result (All (λ e. IsNear (bevel_padding self.old) path.now e.0 × IsNear (bevel_padding self.old) path.now e.1) (added_edges segments.old.items segments.new.items)) }
+        ensures near { OnOk result (All (λ e. IsNear (offset_padding self.old) path.now e.0 × IsNear (offset_padding self.old) path.now e.1) (added_edges segments.old.items segments.new.items)) }
         ensures safe { OnOk result (All (λ e. IsSafe I.unit e.0 × IsSafe I.unit e.1) (added_edges segments.old.items segments.new.items)) }
 
         // How they wind.
-        ensures sum { OnOk result (WindAsPieces path.now (bevelled_pieces I.unit self.old path.now) (added_edges segments.old.items segments.new.items)) }
-        ensures pieces { OnOk result (NeverTurnedRound self.old (bevelled_pieces I.unit self.old path.now)) }
-        ensures count { OnOk result (WindsByCount self.old path.now (bevelled_pieces I.unit self.old path.now) (added_edges segments.old.items segments.new.items)) }
+        ensures sum { OnOk result (WindAsPieces path.now (outline_pieces I.unit self.old path.now) (added_edges segments.old.items segments.new.items)) }
+        ensures pieces { OnOk result (NeverTurnedRound self.old.offset (outline_pieces I.unit self.old path.now)) }
+        ensures count { OnOk result (WindsByCount self.old.offset path.now (outline_pieces I.unit self.old path.now) (added_edges segments.old.items segments.new.items)) }
     {
         let length = segments.len();
         if let Err(error) = draw(&mut self.join, self.offset, path, segments) {
@@ -89,9 +108,10 @@ fn feed_join<I: IntNumber>(
     next: &OffsetSection<I>,
     segments: &mut Vec<Segment<I>>,
 ) -> Result<(), AllocError>
-    requires { IsCorner I.unit (I.value offset) (previous.now, next.now) }
-    ensures ok { OnOk result (segments.new.items ≡ segments.old.items ++ corner_segments (I.value offset) (previous.now, next.now)) }
+    requires { IsCorner I.unit (record { offset = I.value offset; join = join.old }) (previous.now, next.now) }
+    ensures ok { OnOk result (segments.new.items ≡ segments.old.items ++ corner_segments I.unit (record { offset = I.value offset; join = join.old }) (previous.now, next.now)) }
     ensures kept { Keeps segments.old.items segments.new.items }
+    ensures same { join.new ≡ join.old }
 {
     if is_outer(offset, previous, next) {
         return join.add_join(offset, previous, next, segments);
@@ -107,9 +127,10 @@ fn feed_section<I: IntNumber>(
     next: &OffsetSection<I>,
     segments: &mut Vec<Segment<I>>,
 ) -> Result<(), AllocError>
-    requires { IsCorner I.unit (I.value offset) (previous.now, next.now) }
-    ensures ok { OnOk result (segments.new.items ≡ segments.old.items ++ (corner_segments (I.value offset) (previous.now, next.now) ++ top_segments next.now)) }
+    requires { IsCorner I.unit (record { offset = I.value offset; join = join.old }) (previous.now, next.now) }
+    ensures ok { OnOk result (segments.new.items ≡ segments.old.items ++ (corner_segments I.unit (record { offset = I.value offset; join = join.old }) (previous.now, next.now) ++ top_segments next.now)) }
     ensures kept { Keeps segments.old.items segments.new.items }
+    ensures same { join.new ≡ join.old }
 {
     feed_join(join, offset, previous, next, segments)?;
     segments.push_non_degenerate(next.a_top, next.b_top)
@@ -121,9 +142,10 @@ fn draw<I: IntNumber>(
     path: &[IntPoint<I>],
     segments: &mut Vec<Segment<I>>,
 ) -> Result<(), AllocError>
-    requires { All (IsMovable I.unit (I.value offset)) path.now }
-    ensures ok { OnOk result (Adds segments.old.items segments.new.items (outline_edges I.unit (I.value offset) bevel (cleaned_sections path.now))) }
+    requires { All (IsMovable I.unit (record { offset = I.value offset; join = join.old })) path.now }
+    ensures ok { OnOk result (Adds segments.old.items segments.new.items (outline_edges I.unit (record { offset = I.value offset; join = join.old }) path.now)) }
     ensures kept { Keeps segments.old.items segments.new.items }
+    ensures same { join.new ≡ join.old }
     ensures nothing { AllEqual path.now → IsOk result }
 {
     let Some(mut sections) = UniqueSegmentsIter::new(path) else {

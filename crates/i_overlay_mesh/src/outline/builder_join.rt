@@ -1,9 +1,11 @@
 //! Joins between two neighbouring sections.
 
 ghost use Rattle.std.specs.Prelude.{◌≡◌, OnOk, OnErr, IsTrue, ◌++◌};
-ghost use Rattle.mesh_num.specs.Segments.{segment_between};
-ghost use Rattle.i_overlay_mesh.specs.Outline.{parts};
-ghost use Rattle.i_overlay_mesh.specs.Building.{IsCorner, sense_for};
+ghost use Rattle.mesh_num.specs.Segments.{segments_of};
+ghost use Rattle.mesh_join.specs.Joins.{join_edges};
+ghost use Rattle.mesh_join.specs.Styles.{JoinStyle};
+ghost use Rattle.i_overlay_mesh.specs.Outline.{joint_at, parts, sense_for};
+ghost use Rattle.i_overlay_mesh.specs.Building.{IsCorner, IsMoved};
 
 use crate::outline::section::OffsetSection;
 use mesh_join::arc::ArcDirection;
@@ -15,6 +17,8 @@ use std::alloc::AllocError;
 
 /// Connects the tops of an outer corner.
 pub(crate) trait JoinBuilder<I: IntNumber> {
+    ghost style: { Self → JoinStyle };
+
     /// Adds the join from the top of `previous` to that of `next`, whose sections were moved by `offset`.
     fn add_join(
         &mut self,
@@ -23,25 +27,23 @@ pub(crate) trait JoinBuilder<I: IntNumber> {
         next: &OffsetSection<I>,
         segments: &mut Vec<Segment<I>>,
     ) -> Result<(), AllocError>
-        requires corner { IsCorner I.unit (I.value offset) (previous.now, next.now) }
+        requires corner { IsCorner I.unit (record { offset = I.value offset; join = style self.old }) (previous.now, next.now) }
         requires outer { IsTrue (parts (I.value offset) (previous.now, next.now)) }
-        ensures ok { OnOk result (segments.new.items ≡ segments.old.items ++ segment_between previous.now.b_top next.now.a_top) }
-        ensures err { OnErr result (segments.new.items ≡ segments.old.items) };
+        ensures ok { OnOk result (segments.new.items ≡ segments.old.items ++ segments_of (join_edges I.unit (style self.old) (joint_at (I.value offset) (previous.now, next.now)))) }
+        ensures err { OnErr result (segments.new.items ≡ segments.old.items) }
+        ensures same { self.new ≡ self.old };
 }
 
 impl<I: IntNumber> JoinBuilder<I> for Join<I> {
+    ghost style = { λ j. j };
+
     fn add_join(
         &mut self,
         offset: I,
         previous: &OffsetSection<I>,
         next: &OffsetSection<I>,
         segments: &mut Vec<Segment<I>>,
-    ) -> Result<(), AllocError>
-        requires corner { IsCorner I.unit (I.value offset) (previous.now, next.now) }
-        requires outer { IsTrue (parts (I.value offset) (previous.now, next.now)) }
-        ensures ok { OnOk result (segments.new.items ≡ segments.old.items ++ segment_between previous.now.b_top next.now.a_top) }
-        ensures err { OnErr result (segments.new.items ≡ segments.old.items) }
-    {
+    ) -> Result<(), AllocError> {
         let radius = I::from_wide(wide_size::<I>(offset));
         self.add(
             previous.b,
@@ -62,7 +64,8 @@ pub(crate) fn is_outer<I: IntNumber>(
     previous: &OffsetSection<I>,
     next: &OffsetSection<I>,
 ) -> bool
-    requires { IsCorner I.unit (I.value offset) (previous.now, next.now) }
+    requires previous { IsMoved I.unit (I.value offset) previous.now }
+    requires next { IsMoved I.unit (I.value offset) next.now }
     ensures { result ≡ parts (I.value offset) (previous.now, next.now) }
 {
     let after = next.b - next.a;

@@ -5,7 +5,9 @@ ghost use Rattle.mesh_num.specs.FlatContours.{HoldsContours};
 ghost use Rattle.mesh_num.specs.Paths.{contours_of, shapes_of};
 ghost use Rattle.mesh_num.specs.Plane.{Point, Edge};
 ghost use Rattle.mesh_num.specs.Rectangle.{IsBounds, IsSafeRectangle};
-ghost use Rattle.i_overlay_mesh.specs.Padding.{outline_padding, ArePathsSafe, all_points, widened};
+ghost use Rattle.mesh_join.specs.Joins.{outline_padding};
+ghost use Rattle.mesh_join.specs.Styles.{style_of};
+ghost use Rattle.i_overlay_mesh.specs.Padding.{ArePathsSafe, all_points, widened};
 ghost use Rattle.i_overlay_mesh.specs.Resolved.{DoAreasFit, IsOutline, HavePromisedEdges};
 ghost use Rattle.i_overlay_mesh.specs.Staying.{StaysSafe};
 ghost use Rattle.mesh_below.specs.Options.{choices_of, plain};
@@ -27,8 +29,8 @@ pub trait IntOutlineOffset<I: OverlayInt>: IntShapeResource<I> {
     /// moved outwards by the style's padding on each side, are in the safe range, for every value of the type.
     /// The only error is `CoordinateOutOfRange`. It takes no memory.
     fn validate_outline(&self, style: &IntOutlineStyle<I>) -> Result<(), IntOutlineError>
-        ensures safe { IsOk result ↔ ArePathsSafe I.unit (outline_padding (I.value style.now.outer_offset) (I.value style.now.inner_offset)) (Self.paths self.now) }
-        ensures bounds { (bounds : Edge) → IsBounds bounds (all_points (Self.paths self.now)) → IsOk result ↔ IsSafeRectangle I.unit (widened (outline_padding (I.value style.now.outer_offset) (I.value style.now.inner_offset)) bounds) }
+        ensures safe { IsOk result ↔ ArePathsSafe I.unit (outline_padding (style_of I.value style.now)) (Self.paths self.now) }
+        ensures bounds { (bounds : Edge) → IsBounds bounds (all_points (Self.paths self.now)) → IsOk result ↔ IsSafeRectangle I.unit (widened (outline_padding (style_of I.value style.now)) bounds) }
         ensures no_point { all_points (Self.paths self.now) ≡ [] → IsOk result }
         ensures error { OnErr result (result ≡ Err IntOutlineError.CoordinateOutOfRange) };
 
@@ -38,12 +40,12 @@ pub trait IntOutlineOffset<I: OverlayInt>: IntShapeResource<I> {
         alloc: Global,
         style: &IntOutlineStyle<I>,
     ) -> Result<IntShapes<I>, IntOutlineError>
-        requires { ArePathsSafe I.unit (outline_padding (I.value style.now.outer_offset) (I.value style.now.inner_offset)) (Self.paths self.now) }
-        ensures outline { IfOk result (λ shapes. IsOutline I.unit (I.value style.now.outer_offset, I.value style.now.inner_offset) plain (Self.paths self.now) (shapes_of shapes.items)) }
+        requires { ArePathsSafe I.unit (outline_padding (style_of I.value style.now)) (Self.paths self.now) }
+        ensures outline { IfOk result (λ shapes. IsOutline I.unit (style_of I.value style.now) plain (Self.paths self.now) (shapes_of shapes.items)) }
         ensures safe { IfOk result (λ shapes. ArePointsSafe I.unit (shapes_of shapes.items)) }
         ensures refused { result ≡ Err IntOutlineError.CoordinateOutOfRange ↔ ¬ DoAreasFit I.Wide.half (Self.paths self.now) }
-        ensures built { HavePromisedEdges I.unit (I.value style.now.outer_offset, I.value style.now.inner_offset) (Self.paths self.now) }
-        ensures stays_safe { StaysSafe I.unit (I.value style.now.outer_offset, I.value style.now.inner_offset) (Self.paths self.now) }
+        ensures built { HavePromisedEdges I.unit (style_of I.value style.now) (Self.paths self.now) }
+        ensures stays_safe { StaysSafe I.unit (style_of I.value style.now) (Self.paths self.now) }
     {
         self.outline_custom(alloc, style, IntOverlayOptions::new())
     }
@@ -55,13 +57,13 @@ pub trait IntOutlineOffset<I: OverlayInt>: IntShapeResource<I> {
         style: &IntOutlineStyle<I>,
         buffer: &mut FlatContoursBuffer<I>,
     ) -> Result<(), IntOutlineError>
-        requires { ArePathsSafe I.unit (outline_padding (I.value style.now.outer_offset) (I.value style.now.inner_offset)) (Self.paths self.now) }
-        ensures outline { OnOk result ((answer : List (List (List Point))) × IsOutline I.unit (I.value style.now.outer_offset, I.value style.now.inner_offset) plain (Self.paths self.now) answer
+        requires { ArePathsSafe I.unit (outline_padding (style_of I.value style.now)) (Self.paths self.now) }
+        ensures outline { OnOk result ((answer : List (List (List Point))) × IsOutline I.unit (style_of I.value style.now) plain (Self.paths self.now) answer
             × ArePointsSafe I.unit answer × HoldsContours buffer.new (contours_of answer)) }
         ensures refused { result ≡ Err IntOutlineError.CoordinateOutOfRange ↔ ¬ DoAreasFit I.Wide.half (Self.paths self.now) }
         ensures err { OnErr result (buffer.new ≡ buffer.old) }
-        ensures built { HavePromisedEdges I.unit (I.value style.now.outer_offset, I.value style.now.inner_offset) (Self.paths self.now) }
-        ensures stays_safe { StaysSafe I.unit (I.value style.now.outer_offset, I.value style.now.inner_offset) (Self.paths self.now) }
+        ensures built { HavePromisedEdges I.unit (style_of I.value style.now) (Self.paths self.now) }
+        ensures stays_safe { StaysSafe I.unit (style_of I.value style.now) (Self.paths self.now) }
     {
         self.outline_custom_into(alloc, style, IntOverlayOptions::new(), buffer)
     }
@@ -78,12 +80,12 @@ pub trait IntOutlineOffset<I: OverlayInt>: IntShapeResource<I> {
         style: &IntOutlineStyle<I>,
         options: IntOverlayOptions<I::WideUInt>,
     ) -> Result<IntShapes<I>, IntOutlineError>
-        requires { ArePathsSafe I.unit (outline_padding (I.value style.now.outer_offset) (I.value style.now.inner_offset)) (Self.paths self.now) }
-        ensures outline { IfOk result (λ shapes. IsOutline I.unit (I.value style.now.outer_offset, I.value style.now.inner_offset) (choices_of I.WideUInt.value options) (Self.paths self.now) (shapes_of shapes.items)) }
+        requires { ArePathsSafe I.unit (outline_padding (style_of I.value style.now)) (Self.paths self.now) }
+        ensures outline { IfOk result (λ shapes. IsOutline I.unit (style_of I.value style.now) (choices_of I.WideUInt.value options) (Self.paths self.now) (shapes_of shapes.items)) }
         ensures safe { IfOk result (λ shapes. ArePointsSafe I.unit (shapes_of shapes.items)) }
         ensures refused { result ≡ Err IntOutlineError.CoordinateOutOfRange ↔ ¬ DoAreasFit I.Wide.half (Self.paths self.now) }
-        ensures built { HavePromisedEdges I.unit (I.value style.now.outer_offset, I.value style.now.inner_offset) (Self.paths self.now) }
-        ensures stays_safe { StaysSafe I.unit (I.value style.now.outer_offset, I.value style.now.inner_offset) (Self.paths self.now) }
+        ensures built { HavePromisedEdges I.unit (style_of I.value style.now) (Self.paths self.now) }
+        ensures stays_safe { StaysSafe I.unit (style_of I.value style.now) (Self.paths self.now) }
     {
         let given = given_overlay(self, alloc, style, options)?;
         Ok(given.overlay(OverlayRule::Subject, FillRule::Positive)?)
@@ -98,13 +100,13 @@ pub trait IntOutlineOffset<I: OverlayInt>: IntShapeResource<I> {
         options: IntOverlayOptions<I::WideUInt>,
         buffer: &mut FlatContoursBuffer<I>,
     ) -> Result<(), IntOutlineError>
-        requires { ArePathsSafe I.unit (outline_padding (I.value style.now.outer_offset) (I.value style.now.inner_offset)) (Self.paths self.now) }
-        ensures outline { OnOk result ((answer : List (List (List Point))) × IsOutline I.unit (I.value style.now.outer_offset, I.value style.now.inner_offset) (choices_of I.WideUInt.value options) (Self.paths self.now) answer
+        requires { ArePathsSafe I.unit (outline_padding (style_of I.value style.now)) (Self.paths self.now) }
+        ensures outline { OnOk result ((answer : List (List (List Point))) × IsOutline I.unit (style_of I.value style.now) (choices_of I.WideUInt.value options) (Self.paths self.now) answer
             × ArePointsSafe I.unit answer × HoldsContours buffer.new (contours_of answer)) }
         ensures refused { result ≡ Err IntOutlineError.CoordinateOutOfRange ↔ ¬ DoAreasFit I.Wide.half (Self.paths self.now) }
         ensures err { OnErr result (buffer.new ≡ buffer.old) }
-        ensures built { HavePromisedEdges I.unit (I.value style.now.outer_offset, I.value style.now.inner_offset) (Self.paths self.now) }
-        ensures stays_safe { StaysSafe I.unit (I.value style.now.outer_offset, I.value style.now.inner_offset) (Self.paths self.now) }
+        ensures built { HavePromisedEdges I.unit (style_of I.value style.now) (Self.paths self.now) }
+        ensures stays_safe { StaysSafe I.unit (style_of I.value style.now) (Self.paths self.now) }
     {
         let given = given_overlay(self, alloc, style, options)?;
         given.overlay_into(OverlayRule::Subject, FillRule::Positive, buffer)?;

@@ -10,14 +10,15 @@ ghost use Rattle.mesh_num.specs.Winding.{boundary};
 ghost use Rattle.mesh_below.specs.FillRules.{filled};
 ghost use Rattle.i_overlay_mesh.specs.Adding.{along, AddsClosed};
 ghost use Rattle.i_overlay_mesh.specs.Building.{IsMovable};
-ghost use Rattle.i_overlay_mesh.specs.Padding.{outline_padding, ArePathsSafe};
-ghost use Rattle.i_overlay_mesh.specs.Resolved.{answer_edges, DoAreasFit, IsAnswerAlone, Gives, Give};
+ghost use Rattle.mesh_join.specs.Joins.{outline_padding};
+ghost use Rattle.mesh_join.specs.Styles.{style_of};
+ghost use Rattle.i_overlay_mesh.specs.Padding.{ArePathsSafe};
+ghost use Rattle.i_overlay_mesh.specs.Resolved.{answer_edges, fill_for, DoAreasFit, IsAnswerAlone, Gives, Give};
 
 use crate::error::IntOutlineError;
 use crate::outline::area::{check_areas, double_area};
 use crate::outline::builder::OutlineBuilder;
 use mesh_below::below::{FillRule, IntOverlayOptions, Overlay, OverlayRule};
-use mesh_join::join::Join;
 use mesh_join::style::IntOutlineStyle;
 use mesh_num::num::{IntNumber, IntPoint};
 use mesh_num::shape::buffer::IntShapes;
@@ -33,8 +34,8 @@ pub(crate) fn given_overlay<I: IntNumber, S: IntShapeResource<I>>(
     style: &IntOutlineStyle<I>,
     options: IntOverlayOptions<I::WideUInt>,
 ) -> Result<Overlay<I>, IntOutlineError>
-    requires { ArePathsSafe I.unit (outline_padding (I.value style.now.outer_offset) (I.value style.now.inner_offset)) (S.paths source.now) }
-    ensures given { IfOk result (λ overlay. (given : List Edge) × Give I.unit (I.value style.now.outer_offset, I.value style.now.inner_offset) (S.paths source.now) given × AddsClosed I.unit [] overlay.segments.items given) }
+    requires { ArePathsSafe I.unit (outline_padding (style_of I.value style.now)) (S.paths source.now) }
+    ensures given { IfOk result (λ overlay. (given : List Edge) × Give I.unit (style_of I.value style.now) (S.paths source.now) given × AddsClosed I.unit [] overlay.segments.items given) }
     ensures options { IfOk result (λ overlay. overlay.options ≡ options) }
     ensures fit { OnOk result (DoAreasFit I.Wide.half (S.paths source.now)) }
     ensures refused { result ≡ Err IntOutlineError.CoordinateOutOfRange ↔ ¬ DoAreasFit I.Wide.half (S.paths source.now) }
@@ -51,8 +52,8 @@ fn given_segments<I: IntNumber, S: IntShapeResource<I>>(
     alloc: Global,
     style: &IntOutlineStyle<I>,
 ) -> Result<Vec<Segment<I>>, AllocError>
-    requires { ArePathsSafe I.unit (outline_padding (I.value style.now.outer_offset) (I.value style.now.inner_offset)) (S.paths source.now) }
-    ensures { IfOk result (λ segments. (given : List Edge) × Give I.unit (I.value style.now.outer_offset, I.value style.now.inner_offset) (S.paths source.now) given × AddsClosed I.unit [] segments.items given) }
+    requires { ArePathsSafe I.unit (outline_padding (style_of I.value style.now)) (S.paths source.now) }
+    ensures { IfOk result (λ segments. (given : List Edge) × Give I.unit (style_of I.value style.now) (S.paths source.now) given × AddsClosed I.unit [] segments.items given) }
 {
     let mut segments = Vec::new(alloc);
     for index in 0..source.path_count() {
@@ -68,47 +69,38 @@ fn add_contour<I: IntNumber>(
     path: &[IntPoint<I>],
     segments: &mut Vec<Segment<I>>,
 ) -> Result<(), AllocError>
-    requires { All (IsSafeWidened I.unit (outline_padding (I.value style.now.outer_offset) (I.value style.now.inner_offset))) path.now }
-    ensures { OnOk result ((edges : List Edge) × Gives I.unit (I.value style.now.outer_offset, I.value style.now.inner_offset) path.now edges × AddsClosed I.unit segments.old.items segments.new.items edges) }
+    requires { All (IsSafeWidened I.unit (outline_padding (style_of I.value style.now))) path.now }
+    ensures { OnOk result ((edges : List Edge) × Gives I.unit (style_of I.value style.now) path.now edges × AddsClosed I.unit segments.old.items segments.new.items edges) }
 {
     let area = double_area(path);
-    if area > 0 {
-        add_resolved(
-            alloc,
-            style,
-            style.outer_offset,
-            FillRule::Positive,
-            path,
-            segments,
-        )
-    } else if area < 0 {
-        add_resolved(
-            alloc,
-            style,
-            style.inner_offset,
-            FillRule::Negative,
-            path,
-            segments,
-        )
+    let Some(mut builder) = OutlineBuilder::for_area(alloc, style, area) else {
+        return Ok(());
+    };
+    add_resolved(alloc, &mut builder, fill_for(area), path, segments)
+}
+
+/// The sense in which a contour of this double area is filled: a hole in the negative one.
+fn fill_for(double_area: i128) -> FillRule
+    ensures { result ≡ fill_for double_area }
+{
+    if double_area < 0 {
+        FillRule::Negative
     } else {
-        Ok(())
+        FillRule::Positive
     }
 }
 
-/// Adds the edges of the answer of one contour, which is moved by the offset and resolved alone.
+/// Adds the edges of the answer of one contour, which is moved by the builder and resolved alone.
 fn add_resolved<I: IntNumber>(
     alloc: Global,
-    style: &IntOutlineStyle<I>,
-    offset: I,
+    builder: &mut OutlineBuilder<I>,
     fill: FillRule,
     path: &[IntPoint<I>],
     segments: &mut Vec<Segment<I>>,
 ) -> Result<(), AllocError>
-    requires { All (IsMovable I.unit (I.value offset)) path.now }
-    ensures { OnOk result ((answer : List (List (List Point))) × IsAnswerAlone I.unit (I.value offset) (filled fill) path.now answer × AddsClosed I.unit segments.old.items segments.new.items (along fill (answer_edges answer))) }
+    requires { All (IsMovable I.unit builder.old) path.now }
+    ensures { OnOk result ((answer : List (List (List Point))) × IsAnswerAlone I.unit builder.old (filled fill) path.now answer × AddsClosed I.unit segments.old.items segments.new.items (along fill (answer_edges answer))) }
 {
-    let join = Join::new(alloc, style.join, style.miter_min_turn);
-    let mut builder = OutlineBuilder::new(offset, join);
     let mut built = Vec::new(alloc);
     builder.build(path, &mut built)?;
     let shapes = Overlay::with_segments(built).overlay(OverlayRule::Subject, fill)?;

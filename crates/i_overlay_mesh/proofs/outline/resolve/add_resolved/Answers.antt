@@ -16,7 +16,7 @@ returns g c =
     on_ok_then c.add_shapes.result c.add_shapes.ensures
     (λ h. (
       shapes_of c.in_ok-shapes.shapes.items,
-      is_alone g.I.IntNumber.unit (g.I.IntNumber.value c.args.offset) _ c.args.fill c.args.path.now _ _ _ _ _ c.new-builder.ensures c.new-built.ensures.items
+      is_alone g.I.IntNumber.unit c.args.builder.now c.args.fill c.args.path.now _ _ _ _ _ c.new-built.ensures.items
           (ap (λ v. v.items) c.with_segments.ensures.segments) c.with_segments.ensures.options c.in_ok-build.ensures.edges c.in_ok-shapes.ensures.resolution,
       adds_answer g.I.IntNumber.unit c.args.fill (shapes_of c.in_ok-shapes.shapes.items) _ _ c.in_ok-shapes.ensures.safe h,
     ))

@@ -1,5 +1,6 @@
 -- One contour after another.
 use Rattle.std.proofs.Common.{[], arith}
+use Rattle.mesh_join.specs.Styles.{style_of}
 use Rattle.i_overlay_mesh.specs.Resolved.{Give}
 use Rattle.i_overlay_mesh.proofs.Adding.{adds_nothing, give_more, give_all}
 use Rattle.i_overlay_mesh.proofs.outline.resolve.given_segments.Goals as goal
@@ -12,10 +13,10 @@ add_contour-requires g c = rw c.path_at.ensures (c.requires c.loop-index.index [
 
 pub loop-index-preserved : goal.loop-index-preserved
 loop-index-preserved g c =
-    give_more g.I.IntNumber.unit (g.I.IntNumber.value c.args.style.now.outer_offset, g.I.IntNumber.value c.args.style.now.inner_offset) (g.S.IntShapeResource.paths c.args.source.now)
+    give_more g.I.IntNumber.unit (style_of g.I.IntNumber.value c.args.style.now) (g.S.IntShapeResource.paths c.args.source.now)
     c.loop-index.index [] _ _ (omega arith) c.loop-index.invariant (rw c.path_at.ensures at c.in_ok-add_contour.ensures)
 
 pub returns : goal.returns
 returns g c =
-    give_all g.I.IntNumber.unit (g.I.IntNumber.value c.args.style.now.outer_offset, g.I.IntNumber.value c.args.style.now.inner_offset) (g.S.IntShapeResource.paths c.args.source.now)
+    give_all g.I.IntNumber.unit (style_of g.I.IntNumber.value c.args.style.now) (g.S.IntShapeResource.paths c.args.source.now)
     c.loop-index.index [] _ (omega arith) c.loop-index.invariant

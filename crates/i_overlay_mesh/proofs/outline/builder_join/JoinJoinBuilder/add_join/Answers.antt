@@ -1,8 +1,8 @@
 -- The offset's size fits, and the corner is as a join asks.
-use Rattle.std.proofs.Common.{◌≡◌, ◌≤◌, ◌^◌, ◌∙◌, arith}
+use Rattle.std.proofs.Common.{◌≡◌, ◌≤◌, ◌^◌, ◌∙◌}
 use Rattle.std.specs.Prelude.{pos, unsigned_abs}
 use Rattle.i_overlay_mesh.proofs.Sections.{radius_within}
-use Rattle.i_overlay_mesh.proofs.Corners.{joint}
+use Rattle.i_overlay_mesh.proofs.Corners.{joint_met}
 use Rattle.i_overlay_mesh.proofs.outline.builder_join.JoinJoinBuilder.add_join.Goals as goal
 
 pub from_wide-radius-requires : goal.from_wide-radius-requires
@@ -15,4 +15,4 @@ add-requires g c =
     let radius : g.I.IntNumber.value c.from_wide-radius.result ≡ pos (unsigned_abs (g.I.IntNumber.value c.args.offset)) = c.from_wide-radius.ensures ∙ c.wide_size.ensures in
     let corner = rw (← c.previous.view_is, ← c.next.view_is) at c.requires.corner in
     let outer = rw (← c.previous.view_is, ← c.next.view_is) at c.requires.outer in
-    rw (radius, c.sense.ensures) (joint g.I.IntNumber.unit (g.I.IntNumber.value c.args.offset) _ (omega arith) corner outer)
+    rw (radius, c.sense.ensures) (joint_met g.I.IntNumber.unit (record { offset = g.I.IntNumber.value c.args.offset; join = c.args.self.now }) least _ corner outer)

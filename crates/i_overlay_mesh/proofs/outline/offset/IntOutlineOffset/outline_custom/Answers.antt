@@ -1,5 +1,6 @@
 -- What all contours give is resolved together.
 use Rattle.mesh_num.specs.Paths.{shapes_of}
+use Rattle.mesh_join.specs.Styles.{style_of}
 use Rattle.i_overlay_mesh.proofs.Promised.{have_promised_edges}
 use Rattle.i_overlay_mesh.proofs.Staying.{stays_safe}
 use Rattle.i_overlay_mesh.proofs.Resolving.{given_subjects, given_balanced, given_safe, is_outline}
@@ -7,12 +8,12 @@ use Rattle.i_overlay_mesh.proofs.outline.offset.IntOutlineOffset.outline_custom.
 
 pub returns-in_err-given-clause-built : goal.returns-in_err-given-clause-built
 returns-in_err-given-clause-built g c =
-    have_promised_edges g.I.IntNumber.unit (g.I.IntNumber.value c.args.style.now.outer_offset, g.I.IntNumber.value c.args.style.now.inner_offset)
+    have_promised_edges g.I.IntNumber.unit (style_of g.I.IntNumber.value c.args.style.now)
     (g.Self.IntShapeResource.paths c.args.self.now) g.met.I.IntNumber.least_law
 
 pub returns-in_err-given-clause-stays_safe : goal.returns-in_err-given-clause-stays_safe
 returns-in_err-given-clause-stays_safe g c =
-    stays_safe g.I.IntNumber.unit (g.I.IntNumber.value c.args.style.now.outer_offset, g.I.IntNumber.value c.args.style.now.inner_offset)
+    stays_safe g.I.IntNumber.unit (style_of g.I.IntNumber.value c.args.style.now)
     (g.Self.IntShapeResource.paths c.args.self.now) g.met.I.IntNumber.least_law c.requires
 
 pub overlay-requires-clause-subject : goal.overlay-requires-clause-subject
@@ -26,25 +27,25 @@ overlay-requires-clause-safe g c = (given_safe g.I.IntNumber.unit _ _ c.in_ok-gi
 
 pub returns-in_err-overlay-clause-built : goal.returns-in_err-overlay-clause-built
 returns-in_err-overlay-clause-built g c =
-    have_promised_edges g.I.IntNumber.unit (g.I.IntNumber.value c.args.style.now.outer_offset, g.I.IntNumber.value c.args.style.now.inner_offset)
+    have_promised_edges g.I.IntNumber.unit (style_of g.I.IntNumber.value c.args.style.now)
     (g.Self.IntShapeResource.paths c.args.self.now) g.met.I.IntNumber.least_law
 
 pub returns-in_err-overlay-clause-stays_safe : goal.returns-in_err-overlay-clause-stays_safe
 returns-in_err-overlay-clause-stays_safe g c =
-    stays_safe g.I.IntNumber.unit (g.I.IntNumber.value c.args.style.now.outer_offset, g.I.IntNumber.value c.args.style.now.inner_offset)
+    stays_safe g.I.IntNumber.unit (style_of g.I.IntNumber.value c.args.style.now)
     (g.Self.IntShapeResource.paths c.args.self.now) g.met.I.IntNumber.least_law c.requires
 
 pub returns-clause-outline : goal.returns-clause-outline
 returns-clause-outline g c =
-    is_outline g.I.IntNumber.unit (g.I.IntNumber.value c.args.style.now.outer_offset, g.I.IntNumber.value c.args.style.now.inner_offset) _ (g.Self.IntShapeResource.paths c.args.self.now) _
+    is_outline g.I.IntNumber.unit (style_of g.I.IntNumber.value c.args.style.now) _ (g.Self.IntShapeResource.paths c.args.self.now) _
     (shapes_of c.in_ok-overlay.field-0.items) c.in_ok-given.ensures.given (rw c.in_ok-given.ensures.options at c.in_ok-overlay.ensures.resolution)
 
 pub returns-clause-built : goal.returns-clause-built
 returns-clause-built g c =
-    have_promised_edges g.I.IntNumber.unit (g.I.IntNumber.value c.args.style.now.outer_offset, g.I.IntNumber.value c.args.style.now.inner_offset)
+    have_promised_edges g.I.IntNumber.unit (style_of g.I.IntNumber.value c.args.style.now)
     (g.Self.IntShapeResource.paths c.args.self.now) g.met.I.IntNumber.least_law
 
 pub returns-clause-stays_safe : goal.returns-clause-stays_safe
 returns-clause-stays_safe g c =
-    stays_safe g.I.IntNumber.unit (g.I.IntNumber.value c.args.style.now.outer_offset, g.I.IntNumber.value c.args.style.now.inner_offset)
+    stays_safe g.I.IntNumber.unit (style_of g.I.IntNumber.value c.args.style.now)
     (g.Self.IntShapeResource.paths c.args.self.now) g.met.I.IntNumber.least_law c.requires

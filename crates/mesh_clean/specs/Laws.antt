@@ -1,0 +1,19 @@
+-- Laws of cleaned contours. The function of the same name in the module `laws` carries each.
+use Rattle.std.specs.Prelude.{ℕ, ◌≡◌, List, []}
+use Rattle.mesh_plane.specs.Plane.{Point}
+use Rattle.mesh_plane.specs.Winding.{boundary, winding}
+use Rattle.mesh_clean.specs.Cleaned.{AllEqual, IsClean, cleaned_sections}
+
+-- at every point of every grid a cleaned contour winds as often as the contour
+abbrev pub CleanedContoursWindAlike : Type 0
+CleanedContoursWindAlike =
+    (points : List Point) (m : ℕ) (q : Point) → winding m q (cleaned_sections points) ≡ winding m q (boundary points)
+
+-- a contour of points that are not all equal has at least two sections, which close up and of which none runs on from
+-- the one before it
+abbrev pub CleanedContoursAreClean : Type 0
+CleanedContoursAreClean = (points : List Point) → (AllEqual points → ⊥) → IsClean (cleaned_sections points)
+
+-- a contour of no point or of equal ones has no section
+abbrev pub EqualPointsHaveNoSections : Type 0
+EqualPointsHaveNoSections = (points : List Point) → AllEqual points → cleaned_sections points ≡ []

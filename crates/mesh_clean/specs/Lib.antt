@@ -1,0 +1,2 @@
+pub mod Cleaned
+pub mod Laws

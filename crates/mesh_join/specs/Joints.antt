@@ -1,0 +1,58 @@
+-- Joints: what a join is asked for at an outer corner, and how points run round it.
+use Rattle.std.specs.Prelude.{ℕ, ◌≡◌, List, ℤ, pos, negsuc, ◌*ℤ◌, ◌≤ℤ◌}
+use Rattle.std.specs.List.{All}
+use Rattle.mesh_plane.specs.Plane.{Point, Edge, plus, minus, cross, turn, right_quarter}
+use Rattle.mesh_num.specs.Direction.{IsFresh, scaled_direction}
+use Rattle.mesh_num.specs.Rectangle.{IsInRectangle}
+use Rattle.mesh_join.specs.declared.arc.ArcDirection.{ArcDirection}
+use Rattle.mesh_join.specs.declared.arc.ArcDirection.TheVariants.{Clockwise, Counterclockwise}
+
+-- the corner that is joined, the points that its sections are moved to, the directions of the sections before and after it,
+-- how far they are moved, and the sense of the turn
+pub record Joint : Type 0 where
+  pub center : Point
+  pub first : Point
+  pub last : Point
+  pub incoming : Point
+  pub outgoing : Point
+  pub radius : ℤ
+  pub sense : ArcDirection
+
+-- a joint of these parts
+abbrev pub joint : Point → Point → Point → Point → Point → ℤ → ArcDirection → Joint
+joint center first last incoming outgoing radius sense = record {
+  center = center;
+  first = first;
+  last = last;
+  incoming = incoming;
+  outgoing = outgoing;
+  radius = radius;
+  sense = sense;
+}
+
+-- 1 for a turn to the left, -1 for one to the right
+abbrev pub sense_of : ArcDirection → ℤ
+sense_of Counterclockwise = pos 1
+sense_of Clockwise = negsuc 0
+
+-- the point beside `center` that a section with the direction `n` is moved to: to its right for a turn to the left, else to its left
+abbrev pub contact : ℕ → ℤ → ArcDirection → Point → Point → Point
+contact unit radius Counterclockwise center n = plus center (right_quarter (scaled_direction unit radius n))
+contact unit radius Clockwise center n = minus center (right_quarter (scaled_direction unit radius n))
+
+-- a radius of at least 0, fresh directions, their contact points, and no turn back from the first to the second
+pub record IsTurn (unit : ℕ) (j : Joint) : Type 0 where
+  pub radius_sign : pos 0 ≤ℤ j.radius
+  pub fresh_incoming : IsFresh unit j.incoming
+  pub fresh_outgoing : IsFresh unit j.outgoing
+  pub first : j.first ≡ contact unit j.radius j.sense j.center j.incoming
+  pub last : j.last ≡ contact unit j.radius j.sense j.center j.outgoing
+  pub no_turn_back : pos 0 ≤ℤ (sense_of j.sense *ℤ cross (minus j.first j.center) (minus j.last j.center))
+
+-- neighbours in a list of points round `v` never turn back in this sense
+abbrev pub NeverTurnsBack : ArcDirection → Point → List Edge → Type 0
+NeverTurnsBack sense v es = All (λ (e : Edge). pos 0 ≤ℤ (sense_of sense *ℤ turn v e.0 e.1)) es
+
+-- `p` is away from `v` by at most the padding in each coordinate
+abbrev pub IsWithinPadding : ℤ → Point → Point → Type 0
+IsWithinPadding padding v p = IsInRectangle (minus v (padding, padding), plus v (padding, padding)) p
