@@ -1,5 +1,5 @@
--- Lemmas over points and lists: paths that were accepted may be built with either offset.
-use Rattle.std.proofs.Common.{◌≡◌, ℕ, ◌<◌, ◌+◌, ◌*◌, Bool, List, [], ◌∷◌, ◌++◌, get_or, take, length, Option, Some, option_and_then, true, false, refl, sym, ap, subst, ◌∙◌, arith}
+-- Lemmas over points and lists: paths, their areas, and what is answered to requests for them.
+use Rattle.std.proofs.Common.{◌≡◌, ℕ, ◌<◌, ◌+◌, ◌*◌, Bool, List, [], ◌∷◌, ◌++◌, get_or, take, length, Option, Some, None, option_and_then, true, false, refl, sym, ap, subst, ◌∙◌, arith}
 use Rattle.std.proofs.lemmas.Bool.{true≢false}
 use Rattle.std.specs.Prelude.{Result, Ok, Err, is_ok, OnOk, ℤ, pos, ◌≤ℤ◌, ◌<ℤ◌, neg_ℤ, int_lt}
 use Rattle.std.specs.List.{All, AllZip}
@@ -11,32 +11,20 @@ use Rattle.std.proofs.lemmas.List.{get_or-map, length-map, map-append, take_more
 use Rattle.std.proofs.lemmas.Slice.Zip.{all_zipped_more}
 use Rattle.mesh_num.specs.Paths.{paths_of}
 use Rattle.mesh_plane.specs.Plane.{Point, Edge}
-use Rattle.mesh_num.specs.Rectangle.{IsSafeWidened}
-use Rattle.mesh_join.specs.Joins.{bevel_padding}
 use Rattle.mesh_shapes.specs.Contours.{double_area}
 use Rattle.mesh_shapes.specs.Resolution.{Choices}
-use Rattle.i_overlay_mesh.specs.Building.{IsMovable, bevelled_edges}
+use Rattle.i_overlay_mesh.specs.Building.{style_for}
+use Rattle.i_overlay_mesh.specs.Outline.{outline_edges}
+use Rattle.mesh_join.specs.Styles.{OffsetJoin, OutlineStyle}
 use Rattle.i_overlay_mesh.specs.Resolved.{DoAreasFit, IsOutline}
-use Rattle.i_overlay_mesh.proofs.Padding.{outer_covered, inner_covered, safe_within_less}
 use Rattle.serde_json.specs.Data.{Data}
 use Rattle.serde_json.specs.Read.{read}
 use Rattle.serde_json.specs.Written.{has_float}
 use Rattle.mesh_service.specs.Lines.{edges_text, shapes_text}
 use Rattle.mesh_service.specs.Reading.{request_of}
 use Rattle.mesh_service.specs.Requests.{Asked, Request}
-use Rattle.mesh_service.specs.Served.{AreListed, IsAccepted, Lists, Answers, padding_of, served_edges}
+use Rattle.mesh_service.specs.Served.{AreListed, IsAccepted, Lists, Answers, served_edges, moved_edges}
 use Rattle.mesh_service.specs.Serving.{exact_request, request_in}
-
-padding_nonneg : (offset : ℤ) → pos 0 ≤ℤ bevel_padding offset
-padding_nonneg offset = omega (arith, ints)
-
-pub movable_outer : (unit : ℕ) (offsets : ℤ × ℤ) (path : List Point) → All (IsSafeWidened unit (padding_of offsets)) path → All (IsMovable unit offsets.0) path
-movable_outer unit offsets path safe k d h =
-    safe_within_less unit (padding_of offsets) (bevel_padding offsets.0) _ (padding_nonneg offsets.0) (outer_covered offsets.0 offsets.1) (safe k d h)
-
-pub movable_inner : (unit : ℕ) (offsets : ℤ × ℤ) (path : List Point) → All (IsSafeWidened unit (padding_of offsets)) path → All (IsMovable unit offsets.1) path
-movable_inner unit offsets path safe k d h =
-    safe_within_less unit (padding_of offsets) (bevel_padding offsets.1) _ (padding_nonneg offsets.1) (inner_covered offsets.0 offsets.1) (safe k d h)
 
 -- ---- the paths that vectors hold, one after another
 
@@ -88,27 +76,19 @@ pub answered_only : {A E : Type 0} (r : Result A E) (error : E) (P Q : Type 0) �
 answered_only (Ok x) error P Q told f = f (λ no. true≢false (ap is_ok (told no)))
 answered_only (Err e) error P Q told f = tt
 
--- ---- the edges by the sign of the double area
+-- ---- the edges by the double area
 
-pub served_outer : (unit : ℕ) (points : List Point) (offsets : ℤ × ℤ) (a : ℤ) → a ≡ double_area points → int_lt (pos 0) a ≡ true →
-    bevelled_edges unit offsets.0 points ≡ served_edges unit offsets points
-served_outer unit points offsets a e h =
-    let f : int_lt (pos 0) (double_area points) ≡ true = ap (λ (z : ℤ). int_lt (pos 0) z) (sym e) ∙ h in
-    rw f refl
+-- of a path that moves they are its outline
+pub served_moved : (unit : ℕ) (style : OutlineStyle) (area : ℤ) (way : OffsetJoin) (points : List Point) → area ≡ double_area points → style_for style area ≡ Some way →
+    outline_edges unit way points ≡ served_edges unit style points
+served_moved unit style area way points e moves =
+    sym (ap (λ (o : Option OffsetJoin). moved_edges unit o points) (sym (ap (style_for style) e) ∙ moves))
 
-pub served_inner : (unit : ℕ) (points : List Point) (offsets : ℤ × ℤ) (a : ℤ) → a ≡ double_area points → int_lt (pos 0) a ≡ false → int_lt a (pos 0) ≡ true →
-    bevelled_edges unit offsets.1 points ≡ served_edges unit offsets points
-served_inner unit points offsets a e h i =
-    let f : int_lt (pos 0) (double_area points) ≡ false = ap (λ (z : ℤ). int_lt (pos 0) z) (sym e) ∙ h in
-    let g : int_lt (double_area points) (pos 0) ≡ true = ap (λ (z : ℤ). int_lt z (pos 0)) (sym e) ∙ i in
-    rw (f, g) refl
-
-pub served_none : (unit : ℕ) (points : List Point) (offsets : ℤ × ℤ) (a : ℤ) → a ≡ double_area points → int_lt (pos 0) a ≡ false → int_lt a (pos 0) ≡ false →
-    [] ≡ served_edges unit offsets points
-served_none unit points offsets a e h i =
-    let f : int_lt (pos 0) (double_area points) ≡ false = ap (λ (z : ℤ). int_lt (pos 0) z) (sym e) ∙ h in
-    let g : int_lt (double_area points) (pos 0) ≡ false = ap (λ (z : ℤ). int_lt z (pos 0)) (sym e) ∙ i in
-    rw (f, g) refl
+-- of one that does not move there are none
+pub served_none : (unit : ℕ) (style : OutlineStyle) (area : ℤ) (points : List Point) → area ≡ double_area points → style_for style area ≡ None →
+    [] ≡ served_edges unit style points
+served_none unit style area points e stays =
+    sym (ap (λ (o : Option OffsetJoin). moved_edges unit o points) (sym (ap (style_for style) e) ∙ stays))
 
 -- ---- requests and answers
 
@@ -118,7 +98,7 @@ is_requested text d request r f q =
     ap (λ (o : Option Data). option_and_then exact_request o) r ∙ exact
 
 pub edges_answer : (order : ℤ → ℤ → Ordering) (request : Request) (line : List ℕ) (lists : List (List Edge)) → request.asked ≡ Asked.for_edges → IsAccepted request →
-    AreListed order request.unit request.offsets request.paths lists → line ≡ edges_text lists → Answers order request line
+    AreListed order request.unit request.style request.paths lists → line ≡ edges_text lists → Answers order request line
 edges_answer order request line lists e accepted each written =
     record {
       accepted = accepted;
@@ -126,7 +106,7 @@ edges_answer order request line lists e accepted each written =
     }
 
 pub shapes_answer : (order : ℤ → ℤ → Ordering) (request : Request) (line : List ℕ) (choices : Choices) (shapes : List (List (List Point))) → request.asked ≡ Asked.for_shapes choices →
-    IsAccepted request → IsOutline request.unit request.offsets choices request.paths shapes → line ≡ shapes_text shapes → Answers order request line
+    IsAccepted request → IsOutline request.unit request.style choices request.paths shapes → line ≡ shapes_text shapes → Answers order request line
 shapes_answer order request line choices shapes e accepted outline written =
     record {
       accepted = accepted;

@@ -8,6 +8,10 @@ use Rattle.mesh_plane.specs.Plane.{Point}
 use Rattle.mesh_below.specs.Options.{plain}
 use Rattle.mesh_shapes.specs.Resolution.{Choices}
 use Rattle.i_overlay_mesh.specs.declared.error.IntOutlineError.TheVariants.{CoordinateOutOfRange, OutOfMemory}
+use Rattle.mesh_join.specs.Styles.{OutlineStyle}
+use Rattle.mesh_join.specs.declared.TheConstants.{DEFAULT_MITER_MIN_TURN}
+use Rattle.mesh_join.specs.declared.style.IntLineJoin.{IntLineJoin}
+use Rattle.mesh_join.specs.declared.style.IntLineJoin.TheVariants.{Bevel}
 use Rattle.mesh_service.specs.Requests.{Asked, for_edges, for_shapes, Request}
 use Rattle.mesh_service.specs.declared.failure.Failure.{Failure}
 use Rattle.mesh_service.specs.declared.failure.Failure.TheVariants.{Unreadable, Refused}
@@ -74,17 +78,29 @@ has_key key d = is_some (get key d)
 abbrev pub has_unserved : Data → Bool
 has_unserved d = has_key (codes "width") d || has_key (codes "min_turn") d || has_key (codes "start") d || has_key (codes "end") d || has_key (codes "arc") d
 
--- whether the joins are bevels, as they are where nothing is said of them
-abbrev pub has_bevels : Data → Bool
-has_bevels d = not (has_key (codes "join") d) || says (codes "join") (codes "bevel") d
+-- the kind of join that a value names, a bevel where there is none
+abbrev pub join_of : Option Data → Option IntLineJoin
+join_of None = Some Bevel
+join_of (Some d) = if is_word (codes "bevel") (as_str d) then Some Bevel else None
 
 -- the offset that a style gives under a key
 abbrev pub offset_of : ℕ → List ℕ → Data → Option ℤ
 offset_of unit key d = option_and_then (coordinate_of unit) (get key d)
 
--- the outer and the inner offset of a style
-abbrev pub offsets_of : ℕ → Data → Option (ℤ × ℤ)
-offsets_of unit d = if not (has_unserved d) && has_bevels d then both (offset_of unit (codes "outer") d) (offset_of unit (codes "inner") d) else None
+-- a join and the outer and the inner offset, as a style
+abbrev pub style_with : IntLineJoin × (ℤ × ℤ) → OutlineStyle
+style_with said = record {
+  outer_offset = said.1.0;
+  inner_offset = said.1.1;
+  join = record { kind = said.0; min_turn = DEFAULT_MITER_MIN_TURN };
+}
+
+-- the style that an object gives
+abbrev pub style_in : ℕ → Data → Option OutlineStyle
+style_in unit d =
+    if has_unserved d
+    then None
+    else option_map style_with (both (join_of (get (codes "join") d)) (both (offset_of unit (codes "outer") d) (offset_of unit (codes "inner") d)))
 
 -- the number, where it fits the type of areas
 abbrev pub where_area_fits : ℕ → ℕ → Option ℕ
@@ -117,13 +133,13 @@ choices_given unit (Some d) = if is_some (as_object d) then choices_in unit d el
 abbrev pub asked_in : ℕ → Data → Option Asked
 asked_in unit d = if says (codes "out") (codes "edges") d then Some for_edges else (if says (codes "out") (codes "shapes") d then option_map for_shapes (choices_given unit (get (codes "options") d)) else None)
 
--- the paths, the offsets and what is asked, as a request
-abbrev pub request_with : ℕ → List (List Point) × ((ℤ × ℤ) × Asked) → Request
-request_with unit said = record { unit = unit; paths = said.0; offsets = said.1.0; asked = said.1.1 }
+-- the paths, the style and what is asked, as a request
+abbrev pub request_with : ℕ → List (List Point) × (OutlineStyle × Asked) → Request
+request_with unit said = record { unit = unit; paths = said.0; style = said.1.0; asked = said.1.1 }
 
 -- the request for an outline with coordinates of a type with `unit`
 abbrev pub outline_of : ℕ → Data → Option Request
-outline_of unit d = option_map (request_with unit) (both (paths_in unit d) (both (option_and_then (offsets_of unit) (get (codes "style") d)) (asked_in unit d)))
+outline_of unit d = option_map (request_with unit) (both (paths_in unit d) (both (option_and_then (style_in unit) (get (codes "style") d)) (asked_in unit d)))
 
 -- the unit of the type that a request names
 abbrev pub unit_of : Data → Option ℕ

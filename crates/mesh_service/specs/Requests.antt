@@ -1,14 +1,10 @@
 -- Requests that are served.
-use Rattle.std.specs.Prelude.{ℕ, ℤ, List}
+use Rattle.std.specs.Prelude.{ℕ, List}
 use Rattle.mesh_plane.specs.Plane.{Point}
 use Rattle.mesh_below.specs.Options.{choices_of}
 use Rattle.mesh_shapes.specs.Resolution.{Choices}
-use Rattle.mesh_join.specs.declared.style.IntOutlineStyle.{IntOutlineStyle}
+use Rattle.mesh_join.specs.Styles.{OutlineStyle}
 use Rattle.mesh_service.specs.declared.outline.Output.{Output}
-
--- the outer and the inner offset of a style, where `value` is the whole number that a coordinate stands for
-abbrev pub offsets_in : {C W U : Type 0} → (C → ℤ) → IntOutlineStyle C W U → ℤ × ℤ
-offsets_in value style = (value style.outer_offset, value style.inner_offset)
 
 -- what is asked of an outline: the edges of each path, or the shapes of all paths with these choices
 pub data Asked : Type 0 where
@@ -20,10 +16,9 @@ abbrev pub asked_of : {U : Type 0} → (U → ℕ) → Output U → Asked
 asked_of value Output.Edges = for_edges
 asked_of value (Output.Shapes options) = for_shapes (choices_of value options)
 
--- a request for the outline of paths by an outer and an inner offset. Its coordinates are of the type with `unit`, which
--- holds the whole numbers from `-2 * unit` on that are below `2 * unit`
+-- a request for the outline of paths in a style. Its coordinates are of the type with `unit`, which holds the whole numbers from `-2 * unit` on that are below `2 * unit`
 pub record Request : Type 0 where
   pub unit : ℕ
   pub paths : List (List Point)
-  pub offsets : ℤ × ℤ
+  pub style : OutlineStyle
   pub asked : Asked

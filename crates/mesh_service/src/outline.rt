@@ -1,18 +1,18 @@
 //! Requests for outlines, and what the library answers to them.
 
-ghost use Rattle.std.specs.Prelude.{◌≡◌, ◌↔◌, [], OnOk, IfOk, IsTrue};
+ghost use Rattle.std.specs.Prelude.{◌≡◌, ◌↔◌, OnOk, IfOk, IsTrue};
 ghost use Rattle.std.specs.List.{All};
 ghost use Rattle.std.specs.List.Sorted.{IsPermutation};
 ghost use Rattle.mesh_num.specs.Paths.{paths_of, shapes_of};
 ghost use Rattle.mesh_num.specs.Rectangle.{IsSafeWidened};
 ghost use Rattle.mesh_num.specs.Segments.{edges_of};
 ghost use Rattle.mesh_below.specs.Options.{choices_of};
-ghost use Rattle.i_overlay_mesh.specs.Building.{IsMovable, bevelled_edges};
+ghost use Rattle.mesh_join.specs.Joins.{outline_padding};
+ghost use Rattle.mesh_join.specs.Styles.{style_of};
 ghost use Rattle.i_overlay_mesh.specs.Padding.{ArePathsSafe};
 ghost use Rattle.i_overlay_mesh.specs.Resolved.{DoAreasFit, IsOutline};
 ghost use Rattle.mesh_service.specs.Lines.{by_values};
-ghost use Rattle.mesh_service.specs.Requests.{offsets_in};
-ghost use Rattle.mesh_service.specs.Served.{AreListed, IsAccepted, padding_of, served_edges};
+ghost use Rattle.mesh_service.specs.Served.{AreListed, IsAccepted, served_edges};
 
 use crate::edge::{DirectedEdge, sorted_edges};
 use i_overlay_mesh::IntOutlineError;
@@ -20,7 +20,6 @@ use i_overlay_mesh::outline::area::{double_area, fits_wide};
 use i_overlay_mesh::outline::builder::OutlineBuilder;
 use i_overlay_mesh::outline::offset::IntOutlineOffset;
 use mesh_below::below::IntOverlayOptions;
-use mesh_join::join::Join;
 use mesh_join::style::IntOutlineStyle;
 use mesh_num::num::{IntPoint, OverlayInt};
 use mesh_num::shape::buffer::IntShapes;
@@ -50,17 +49,18 @@ pub struct OutlineRequest<I: OverlayInt> {
 
 impl<I: OverlayInt> Model for OutlineRequest<I> {
     ghost use Rattle.mesh_num.specs.Paths.{paths_of};
-    ghost use Rattle.mesh_service.specs.Requests.{Request, asked_of, offsets_in};
+    ghost use Rattle.mesh_join.specs.Styles.{style_of};
+    ghost use Rattle.mesh_service.specs.Requests.{Request, asked_of};
 
     ghost Value = { Request };
 
-    ghost view = { λ r. record { unit = I.unit; paths = paths_of r.paths.items; offsets = offsets_in I.value r.style; asked = asked_of I.WideUInt.value r.output } };
+    ghost view = { λ r. record { unit = I.unit; paths = paths_of r.paths.items; style = style_of I.value r.style; asked = asked_of I.WideUInt.value r.output } };
 }
 
 impl<I: OverlayInt> OutlineRequest<I> {
     /// The edges of each path's outline, in their order. Nothing is built unless all paths are accepted.
     pub fn edges(&self, alloc: Global) -> Result<Vec<Vec<DirectedEdge<I>>>, IntOutlineError>
-        ensures edges { IfOk result (λ lists. AreListed (by_values I.cmp I.of_value) self.now.unit self.now.offsets self.now.paths (paths_of lists.items)) }
+        ensures edges { IfOk result (λ lists. AreListed (by_values I.cmp I.of_value) self.now.unit self.now.style self.now.paths (paths_of lists.items)) }
         ensures accepted { OnOk result (IsAccepted self.now) }
         ensures refused { result ≡ Err IntOutlineError.CoordinateOutOfRange → ¬ IsAccepted self.now }
     {
@@ -77,7 +77,7 @@ impl<I: OverlayInt> OutlineRequest<I> {
         alloc: Global,
         options: IntOverlayOptions<I::WideUInt>,
     ) -> Result<IntShapes<I>, IntOutlineError>
-        ensures shapes { IfOk result (λ shapes. IsOutline self.now.unit self.now.offsets (choices_of I.WideUInt.value options) self.now.paths (shapes_of shapes.items)) }
+        ensures shapes { IfOk result (λ shapes. IsOutline self.now.unit self.now.style (choices_of I.WideUInt.value options) self.now.paths (shapes_of shapes.items)) }
         ensures accepted { OnOk result (IsAccepted self.now) }
         ensures refused { result ≡ Err IntOutlineError.CoordinateOutOfRange → ¬ IsAccepted self.now }
     {
@@ -104,8 +104,8 @@ fn edge_lists<I: OverlayInt>(
     paths: &[Vec<IntPoint<I>>],
     style: &IntOutlineStyle<I>,
 ) -> Result<Vec<Vec<DirectedEdge<I>>>, AllocError>
-    requires { ArePathsSafe I.unit (padding_of (offsets_in I.value style.now)) (paths_of paths.now) }
-    ensures { IfOk result (λ lists. AreListed (by_values I.cmp I.of_value) I.unit (offsets_in I.value style.now) (paths_of paths.now) (paths_of lists.items)) }
+    requires { ArePathsSafe I.unit (outline_padding (style_of I.value style.now)) (paths_of paths.now) }
+    ensures { IfOk result (λ lists. AreListed (by_values I.cmp I.of_value) I.unit (style_of I.value style.now) (paths_of paths.now) (paths_of lists.items)) }
 {
     let mut lists = Vec::with_capacity(alloc, paths.len())?;
     for path in paths {
@@ -121,32 +121,14 @@ fn path_segments<I: OverlayInt>(
     path: &[IntPoint<I>],
     style: &IntOutlineStyle<I>,
 ) -> Result<Vec<Segment<I>>, AllocError>
-    requires { All (IsSafeWidened I.unit (padding_of (offsets_in I.value style.now))) path.now }
-    ensures { IfOk result (λ ss. IsPermutation (edges_of ss.items) (served_edges I.unit (offsets_in I.value style.now) path.now)) }
+    requires { All (IsSafeWidened I.unit (outline_padding (style_of I.value style.now))) path.now }
+    ensures { IfOk result (λ ss. IsPermutation (edges_of ss.items) (served_edges I.unit (style_of I.value style.now) path.now)) }
 {
-    let area = double_area(path);
     let mut segments = Vec::new(alloc);
-    if area > 0 {
-        build(alloc, path, style.outer_offset, style, &mut segments)?;
-    } else if area < 0 {
-        build(alloc, path, style.inner_offset, style, &mut segments)?;
-    }
+    let area = double_area(path);
+    let Some(mut builder) = OutlineBuilder::for_area(alloc, style, area) else {
+        return Ok(segments);
+    };
+    builder.build(path, &mut segments)?;
     Ok(segments)
-}
-
-/// Puts the segments of a path's outline with this offset into a vector that has none.
-fn build<I: OverlayInt>(
-    alloc: Global,
-    path: &[IntPoint<I>],
-    offset: I,
-    style: &IntOutlineStyle<I>,
-    segments: &mut Vec<Segment<I>>,
-) -> Result<(), AllocError>
-    requires safe { All (IsMovable I.unit (I.value offset)) path.now }
-    requires empty { segments.old.items ≡ [] }
-    ensures { OnOk result (IsPermutation (edges_of segments.new.items) (bevelled_edges I.unit (I.value offset) path.now)) }
-{
-    let join = Join::new(alloc, style.join, style.miter_min_turn);
-    let mut builder = OutlineBuilder::new(offset, join);
-    builder.build(path, segments)
 }

@@ -3,8 +3,9 @@
 ghost use Rattle.std.specs.Prelude.{◌≡◌, Some, None, MatchResult, option_map, option_and_then};
 ghost use Rattle.serde_json.specs.View.{view, items_view};
 ghost use Rattle.mesh_num.specs.Paths.{paths_of};
-ghost use Rattle.mesh_service.specs.Reading.{point_of, points_of, path_of, path_list_of, paths_in, has_unserved as unserved, has_bevels as bevels, offsets_of, offset_of, asked_in, outline_of, IsOfReading};
-ghost use Rattle.mesh_service.specs.Requests.{asked_of, offsets_in};
+ghost use Rattle.mesh_service.specs.Reading.{point_of, points_of, path_of, path_list_of, paths_in, has_unserved as unserved, join_of, style_in, offset_of, asked_in, outline_of, IsOfReading};
+ghost use Rattle.mesh_join.specs.Styles.{style_of};
+ghost use Rattle.mesh_service.specs.Requests.{asked_of};
 
 use crate::failure::Failure;
 use crate::json::{coordinate, says};
@@ -109,19 +110,20 @@ fn point<I: IntNumber>(value: &Value) -> Option<IntPoint<I>>
 }
 
 fn outline_style<I: OverlayInt>(style: Option<&Value>) -> Option<IntOutlineStyle<I>>
-    ensures { option_map (λ s. offsets_in I.value s) result
-        ≡ option_and_then (offsets_of I.unit) (option_map (λ v. view v.now) style.entry) }
+    ensures { option_map (λ s. style_of I.value s) result
+        ≡ option_and_then (style_in I.unit) (option_map (λ v. view v.now) style.entry) }
 {
     let style = style?;
-    if has_unserved_key(style) || !has_bevels(style) {
+    if has_unserved_key(style) {
         return None;
     }
+    let join = line_join(style.get("join"))?;
     let outer = offset(style, "outer")?;
     let inner = offset(style, "inner")?;
     Some(
         IntOutlineStyle::new(outer)
             .inner_offset(inner)
-            .line_join(IntLineJoin::Bevel),
+            .line_join(join),
     )
 }
 
@@ -136,10 +138,18 @@ fn has_unserved_key(style: &Value) -> bool
         || style.get("arc").is_some()
 }
 
-fn has_bevels(style: &Value) -> bool
-    ensures { result ≡ bevels (view style.now) }
+/// The kind of join that a value names, a bevel where there is none.
+fn line_join(value: Option<&Value>) -> Option<IntLineJoin>
+    ensures { result ≡ join_of (option_map (λ v. view v.now) value.entry) }
 {
-    style.get("join").is_none() || says(style, "join", "bevel")
+    let Some(value) = value else {
+        return Some(IntLineJoin::Bevel);
+    };
+    if value.as_str()? == "bevel" {
+        Some(IntLineJoin::Bevel)
+    } else {
+        None
+    }
 }
 
 fn offset<I: IntNumber>(style: &Value, key: &str) -> Option<I>

@@ -1,12 +1,12 @@
 use Rattle.std.proofs.Common.{take}
 use Rattle.mesh_num.specs.Paths.{paths_of}
 use Rattle.mesh_service.specs.Lines.{by_values}
-use Rattle.mesh_service.specs.Requests.{offsets_in}
+use Rattle.mesh_join.specs.Styles.{style_of}
 use Rattle.mesh_service.specs.Served.{AreListed}
 use Rattle.mesh_service.proofs.outline.edge_lists.Given as goal
 
 -- the edges of the paths so far
 abbrev pub invariant-loop-path : goal.invariant-loop-path
 invariant-loop-path g l =
-    AreListed (by_values g.I.Ord.cmp g.I.IntNumber.of_value) g.I.IntNumber.unit (offsets_in g.I.IntNumber.value l.style)
+    AreListed (by_values g.I.Ord.cmp g.I.IntNumber.of_value) g.I.IntNumber.unit (style_of g.I.IntNumber.value l.style)
     (take l.path-index (paths_of l.paths)) (paths_of l.lists.items)
