@@ -1,5 +1,5 @@
 -- Lemmas over points and lists: what holds of the edges that the builder adds.
-use Rattle.std.proofs.Common.{◌≡◌, ℕ, ◌*◌, ◌≤◌, ◌^◌, true, List, ◌++◌, length, map, refl, sym, ◌∙◌, arith}
+use Rattle.std.proofs.Common.{◌≡◌, ℕ, ◌*◌, ◌≤◌, ◌^◌, true, List, ◌++◌, length, map, refl, ◌∙◌, arith}
 use Rattle.std.specs.Prelude.{IsTrue}
 use Rattle.std.specs.List.{All}
 use Rattle.std.specs.List.Sorted.{IsPermutation}
@@ -68,9 +68,9 @@ module _ (unit : ℕ) (style : OffsetJoin) (points : List Point) (least : 2 ^ 14
         length_permutation (added_edges old new) (outline_edges unit style points) (adds_edges old new (outline_edges unit style points) h),
         length-map (added old new) edge_of,
         drawn_length (parts style.offset) (joined unit style) sections
-        (All-weaker (λ (c : Corner). parts style.offset c ≡ true → KeepsJoint unit style.join (joint_at style.offset c))
-        (λ (c : Corner). parts style.offset c ≡ true → length (outer_edges (joined unit style) c) ≤ 3) (λ c keeps parted. (keeps parted).few few) (boundary sections)
-        (corners_keep unit style least (cleaned_sections points) (cleaned_ring points))),
+            (All-weaker (λ (c : Corner). parts style.offset c ≡ true → KeepsJoint unit style.join (joint_at style.offset c))
+            (λ (c : Corner). parts style.offset c ≡ true → length (outer_edges (joined unit style) c) ≤ 3) (λ c keeps parted. (keeps parted).few few) (boundary sections)
+            (corners_keep unit style least (cleaned_sections points) (cleaned_ring points))),
         length-map (cleaned_sections points) (section_of unit style.offset),
       )
     where
