@@ -1,6 +1,6 @@
 //! The plain edges of tables, segments and shapes.
 
-use crate::plain::{Edge, Point, closed};
+use crate::plain::{Edge, Point};
 use mesh_num::num::{IntNumber, IntPoint, WideNumber};
 use mesh_num::shape::buffer::IntShapes;
 use mesh_num::shape::segment::Segment;
@@ -12,7 +12,7 @@ pub fn wide<I: IntNumber>(number: I) -> i128 {
 }
 
 /// A point of the grid.
-pub fn plain_point<I: IntNumber>(point: IntPoint<I>) -> Point {
+fn plain_point<I: IntNumber>(point: IntPoint<I>) -> Point {
     (wide(point.x), wide(point.y))
 }
 
@@ -26,14 +26,6 @@ pub fn plain_points<I: IntNumber>(
         points.push((wide(*x), wide(*y)))?;
     }
     Ok(points)
-}
-
-/// The edges of a table's contour.
-pub fn edges_of_spots<I: IntNumber>(
-    alloc: Global,
-    spots: &[(I, I)],
-) -> Result<Vec<Edge>, AllocError> {
-    closed(alloc, &plain_points(alloc, spots)?)
 }
 
 /// The edges that segments stand for.

@@ -49,7 +49,7 @@ impl Random {
 }
 
 /// The point twice as far from 0.
-pub fn doubled(spot: Spot) -> Spot {
+fn doubled(spot: Spot) -> Spot {
     (spot.0.wrapping_mul(2), spot.1.wrapping_mul(2))
 }
 
