@@ -1,16 +1,17 @@
 //! The edges that the builder adds: worked contours, and how they wind near the vertices of many contours.
 
-ghost use Rattle.std.specs.Prelude.{◌<◌};
-
 use crate::pieces::Pieces;
-use crate::plain::{Edge, Point, closed, is_balanced, plus, refined, winding};
 use i_overlay_mesh::outline::builder::OutlineBuilder;
 use i_overlay_mesh::outline::offset::IntOutlineOffset;
 use mesh_join::join::Join;
 use mesh_join::style::IntOutlineStyle;
-use mesh_num::num::{IntNumber, IntPoint, OverlayInt};
-use mesh_num::shape::segment::Segment;
-use std::alloc::{AllocError, Global};
+use mesh_num::num::{IntPoint, OverlayInt};
+use mesh_toolbox::compared::are_same_edges;
+use mesh_toolbox::edges::{edges_of_segments, plain_points, wide};
+use mesh_toolbox::lists::path;
+use mesh_toolbox::plain::{Edge, Point, closed, is_balanced, plus, refined, winding};
+use mesh_toolbox::random::{Random, small_contour};
+use std::alloc::Global;
 use std::fmt::Debug;
 use std::process::Abort;
 use std::test::Fail;
@@ -28,15 +29,10 @@ const STEPS: [i128; 9] = [-4, -3, -2, -1, 0, 1, 2, 3, 4];
 
 impl Outline {
     fn new<I: OverlayInt>(alloc: Global, contour: &[(I, I)], offset: I) -> Result<Outline, Fail> {
-        let mut path = Vec::new(alloc);
-        let mut points = Vec::new(alloc);
-        for (x, y) in contour {
-            path.push(IntPoint::new(*x, *y))?;
-            points.push((wide(*x), wide(*y)))?;
-        }
+        let points = plain_points(alloc, contour)?;
         Ok(Outline {
             own: closed(alloc, &points)?,
-            edges: built(alloc, &path, offset)?,
+            edges: built(alloc, &path(alloc, contour)?, offset)?,
             between: Pieces::of_outline(alloc, wide(I::UNIT), wide(offset), &points)?,
         })
     }
@@ -75,25 +71,7 @@ fn built<I: OverlayInt>(
     let join = Join::new(alloc, style.join, style.miter_min_turn);
     let mut segments = Vec::new(alloc);
     OutlineBuilder::new(style.outer_offset, join).build(path, &mut segments)?;
-    Ok(directed(alloc, &segments)?)
-}
-
-fn directed<I: IntNumber>(alloc: Global, segments: &[Segment<I>]) -> Result<Vec<Edge>, AllocError> {
-    let mut edges = Vec::new(alloc);
-    for segment in segments {
-        let a = wide_point(segment.x_segment.a);
-        let b = wide_point(segment.x_segment.b);
-        edges.push(if segment.count > 0 { (a, b) } else { (b, a) })?;
-    }
-    Ok(edges)
-}
-
-fn wide<I: IntNumber>(number: I) -> i128 {
-    I::wide_to_i128(number.to_wide())
-}
-
-fn wide_point<I: IntNumber>(point: IntPoint<I>) -> Point {
-    (wide(point.x), wide(point.y))
+    Ok(edges_of_segments(alloc, &segments)?)
 }
 
 const SQUARE: [(i32, i32); 4] = [(0, 0), (16_384, 0), (16_384, 16_384), (0, 16_384)];
@@ -115,11 +93,11 @@ fn expect_loop(
     points: &[Point],
 ) -> Result<(), Fail> {
     let outline = Outline::new(alloc, contour, offset)?;
-    let mut edges = outline.edges;
-    edges.sort()?;
-    let mut wanted = closed(alloc, points)?;
-    wanted.sort()?;
-    assert_eq!(rt; edges, wanted, "{offset} of {contour:?}");
+    let wanted = closed(alloc, points)?;
+    assert!(rt;
+        are_same_edges(outline.edges, wanted)?,
+        "{offset} of {contour:?}"
+    );
     Ok(())
 }
 
@@ -203,10 +181,10 @@ fn winding_near_a_square(rt: HostRuntime) -> Result<(), Fail> {
 #[test]
 fn winding_near_small_contours(rt: HostRuntime) -> Result<(), Fail> {
     let alloc = rt.alloc();
-    let mut numbers = Numbers { state: 1 };
+    let mut random = Random::new(1);
     for _ in 0..50 {
-        let contour = small_contour(alloc, &mut numbers)?;
-        let size = numbers.coordinate();
+        let contour = small_contour(alloc, &mut random)?;
+        let size = random.small();
         for offset in [size, size.wrapping_neg(), 0] {
             let case = (contour.as_slice(), offset);
             small_outline::<i16>(alloc, &contour, offset)?.expect_count(&rt, &case);
@@ -227,46 +205,4 @@ pub fn small_outline<I: OverlayInt + From<i8>>(
         points.push((I::from(*x), I::from(*y)))?;
     }
     Outline::new(alloc, &points, I::from(offset))
-}
-
-/// Three to ten points, among them repeats and points where the contour turns back.
-fn small_contour(alloc: Global, numbers: &mut Numbers) -> Result<Vec<(i8, i8)>, AllocError> {
-    let mut points = Vec::new(alloc);
-    let (mut before, mut last) = ((0, 0), (0, 0));
-    for _ in 0..3 + numbers.next(8) {
-        let point = match numbers.next(6) {
-            0 => last,
-            1 => before,
-            _ => (numbers.coordinate(), numbers.coordinate()),
-        };
-        points.push(point)?;
-        before = last;
-        last = point;
-    }
-    Ok(points)
-}
-
-/// Numbers that a linear rule makes, the same each time.
-#[derive(Drop)]
-struct Numbers {
-    state: u32,
-}
-
-impl Numbers {
-    /// A number below `end`.
-    fn next(&mut self, end: u32) -> u32
-        requires { 0 < end }
-        ensures { result < end }
-    {
-        self.state = self
-            .state
-            .wrapping_mul(1_664_525)
-            .wrapping_add(1_013_904_223);
-        (self.state >> 16) % end
-    }
-
-    /// A number of at most 8 in size.
-    fn coordinate(&mut self) -> i8 {
-        self.next(17) as i8 - 8
-    }
 }

@@ -1,6 +1,6 @@
 //! The pieces between a contour and its bevelled outline, made from the contour's own points and their neighbours.
 
-use crate::plain::{Edge, Point, closed, cross, dot, fan, holds, minus, plus, winding};
+use mesh_toolbox::plain::{Edge, Point, closed, cross, dot, fan, holds, minus, plus, winding};
 use std::alloc::{AllocError, Global};
 
 /// The pieces of an outline, each as the edges round it.

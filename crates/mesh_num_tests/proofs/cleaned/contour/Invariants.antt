@@ -1,7 +1,7 @@
 use Rattle.std.proofs.Common.{◌^◌}
 use Rattle.std.specs.List.{All}
 use Rattle.mesh_plane.specs.Bounds.{IsSafe}
-use Rattle.mesh_clean.proofs.uniq_iter.tests.contour.Given as goal
+use Rattle.mesh_num_tests.proofs.cleaned.contour.Given as goal
 
 abbrev pub invariant-loop-at : goal.invariant-loop-at
 invariant-loop-at l = All (IsSafe (2 ^ 30)) l.points.items

@@ -1,0 +1,17 @@
+//! Tests of the splitting and of the overlay.
+#![tactic(auto)]
+
+#[cfg(test)]
+mod answers;
+#[cfg(test)]
+mod calls;
+#[cfg(test)]
+mod counted;
+#[cfg(test)]
+mod random_answers;
+#[cfg(test)]
+mod random_splits;
+#[cfg(test)]
+mod splits;
+#[cfg(test)]
+mod worked_answers;

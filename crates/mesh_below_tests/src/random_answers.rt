@@ -1,0 +1,164 @@
+//! Random closed lists, against a plain count of how often edges wind round points of the grid 2.
+
+use crate::answers::{overlay_of, shapes_of};
+use crate::counted::{bent, counted, is_near};
+use crate::splits::split_sorted;
+use mesh_below::below::{ContourDirection, FillRule, Overlay};
+use mesh_below::given::grid_edge;
+use mesh_num::shape::buffer::IntShapes;
+use mesh_toolbox::edges::{edges_of_segments, edges_of_shapes};
+use mesh_toolbox::lists::{path, push_contour};
+use mesh_toolbox::plain::{Edge, winding};
+use mesh_toolbox::random::{Random, scattered, slanted};
+use std::alloc::{AllocError, Global};
+use std::process::Abort;
+use std::test::Fail;
+
+fn is_filled(fill: FillRule, winding: i128) -> bool {
+    match fill {
+        FillRule::Positive => winding > 0,
+        FillRule::Negative => winding < 0,
+    }
+}
+
+/// Near the square and in it, but for the boxes of bent edges, the answer winds `once` where the given edges' winding is
+/// filled, and not elsewhere. Answers at how many points it is filled.
+fn expect_region(
+    rt: &impl Abort,
+    edges: &[Edge],
+    bent: &[Edge],
+    fill: FillRule,
+    answer: &[Edge],
+    once: i128,
+) -> u32 {
+    let mut filled = 0u32;
+    for x in -1i32..35 {
+        for y in -1i32..35 {
+            let q = (i128::from(x), i128::from(y));
+            if !is_near(bent, q) {
+                let is_filled = is_filled(fill, winding(2, q, edges));
+                let want = if is_filled { once } else { 0 };
+                let found = winding(2, q, answer);
+                assert_eq!(rt; found, want, "at {q:?} of {edges:?}");
+                filled = filled.wrapping_add(if is_filled { 1 } else { 0 });
+            }
+        }
+    }
+    filled
+}
+
+/// By either rule the answer winds as the fill says, but for the boxes of bent edges. Answers at how many points it is filled.
+fn expect_regions(
+    rt: &impl Abort,
+    overlay: &Overlay<i32>,
+    bent: &[Edge],
+    once: i128,
+) -> Result<u32, Fail> {
+    let alloc = *overlay.segments.allocator();
+    let mut filled = 0u32;
+    let edges = edges_of_segments(alloc, &overlay.segments)?;
+    for fill in [FillRule::Positive, FillRule::Negative] {
+        let answer = edges_of_shapes(alloc, &shapes_of(overlay, fill)?)?;
+        let here = expect_region(rt, &edges, bent, fill, &answer, once);
+        filled = filled.wrapping_add(here);
+    }
+    Ok(filled)
+}
+
+/// One to three lists of points whose edges cross in whole points alone.
+fn slanted_overlay(
+    alloc: Global,
+    random: &mut Random,
+    number: u32,
+) -> Result<Overlay<i32>, AllocError> {
+    let mut overlay = overlay_of(alloc, &[])?;
+    for _ in 0..number % 3 + 1 {
+        let spots = slanted(alloc, random, number % 5 + 2)?;
+        push_contour(&mut overlay.segments, &path(alloc, &spots)?)?;
+    }
+    Ok(overlay)
+}
+
+/// One to three lists of points anywhere in a square.
+fn scattered_overlay(
+    alloc: Global,
+    random: &mut Random,
+    number: u32,
+) -> Result<Overlay<i32>, AllocError> {
+    let mut overlay = overlay_of(alloc, &[])?;
+    for _ in 0..number % 3 + 1 {
+        let spots = scattered(alloc, random, number % 5 + 3, 17)?;
+        push_contour(&mut overlay.segments, &path(alloc, &spots)?)?;
+    }
+    Ok(overlay)
+}
+
+#[test]
+fn answers_wind_as_the_fill_says(rt: HostRuntime) -> Result<(), Fail> {
+    let mut random = Random::new(3);
+    let mut filled = 0u32;
+    for number in 0u32..300 {
+        let mut overlay = slanted_overlay(rt.alloc(), &mut random, number)?;
+        let first = expect_regions(&rt, &overlay, &[], 1)?;
+        overlay.options.preserve_output_collinear = true;
+        overlay.options.output_direction = ContourDirection::Clockwise;
+        let second = expect_regions(&rt, &overlay, &[], -1)?;
+        assert_eq!(rt; first, second);
+        filled = filled.wrapping_add(first);
+    }
+    assert!(rt; filled > 10000, "{filled}");
+    Ok(())
+}
+
+/// The given edges that may have been bent.
+fn bent_edges(overlay: &Overlay<i32>) -> Result<Vec<Edge>, AllocError> {
+    let alloc = *overlay.segments.allocator();
+    let mut given = Vec::new(alloc);
+    for segment in &overlay.segments {
+        given.push(grid_edge(*segment))?;
+    }
+    let segments = counted(alloc, &split_sorted(alloc, &given)?)?;
+    let edges = edges_of_segments(alloc, &overlay.segments)?;
+    bent(alloc, &edges, &segments)
+}
+
+/// Most crossings here are rounded. The lists in which no edge is bent are not counted.
+#[test]
+fn answers_wind_as_the_fill_says_beside_bent_edges(rt: HostRuntime) -> Result<(), Fail> {
+    let mut random = Random::new(5);
+    let mut filled = 0u32;
+    for number in 0u32..300 {
+        let overlay = scattered_overlay(rt.alloc(), &mut random, number)?;
+        let bent = bent_edges(&overlay)?;
+        let here = expect_regions(&rt, &overlay, &bent, 1)?;
+        filled = filled.wrapping_add(if bent.is_empty() { 0 } else { here });
+    }
+    assert!(rt; filled > 100, "{filled}");
+    Ok(())
+}
+
+/// The contours of shapes as an overlay's segments.
+fn again(alloc: Global, shapes: &IntShapes<i32>) -> Result<Overlay<i32>, AllocError> {
+    let mut overlay = overlay_of(alloc, &[])?;
+    for shape in shapes {
+        for contour in shape {
+            push_contour(&mut overlay.segments, contour)?;
+        }
+    }
+    Ok(overlay)
+}
+
+#[test]
+fn answers_handed_in_again_are_answered(rt: HostRuntime) -> Result<(), Fail> {
+    let mut random = Random::new(4);
+    for number in 0u32..300 {
+        let overlay = scattered_overlay(rt.alloc(), &mut random, number)?;
+        let first = shapes_of(&overlay, FillRule::Positive)?;
+        let edges = edges_of_shapes(rt.alloc(), &first)?;
+        let overlay = again(rt.alloc(), &first)?;
+        let second = shapes_of(&overlay, FillRule::Positive)?;
+        let answer = edges_of_shapes(rt.alloc(), &second)?;
+        expect_region(&rt, &edges, &[], FillRule::Positive, &answer, 1);
+    }
+    Ok(())
+}

@@ -1,0 +1,17 @@
+//! Tests of numbers, points, sources of paths, segments, and cleaned contours.
+#![tactic(auto)]
+
+#[cfg(test)]
+mod cleaned;
+#[cfg(test)]
+mod directions;
+#[cfg(test)]
+mod numbers;
+#[cfg(test)]
+mod pairs;
+#[cfg(test)]
+mod points;
+#[cfg(test)]
+mod segments;
+#[cfg(test)]
+mod sources;

@@ -1,0 +1,87 @@
+//! Worked paths at the ends of the safe range and of the types: which of them a style may move.
+
+use i_overlay_mesh::IntOutlineError;
+use i_overlay_mesh::outline::offset::IntOutlineOffset;
+use mesh_join::style::IntOutlineStyle;
+use mesh_num::num::OverlayInt;
+use mesh_toolbox::lists::path;
+use std::alloc::{AllocError, Global};
+
+/// What the path of these points answers to a style of these offsets.
+fn answer<I: OverlayInt>(
+    alloc: Global,
+    points: &[(I, I)],
+    outer: I,
+    inner: I,
+) -> Result<Result<(), IntOutlineError>, AllocError> {
+    let path = path(alloc, points)?;
+    Ok(path.validate_outline(&IntOutlineStyle::new(outer).inner_offset(inner)))
+}
+
+const YES: Result<(), IntOutlineError> = Ok(());
+
+const NO: Result<(), IntOutlineError> = Err(IntOutlineError::CoordinateOutOfRange);
+
+const CORNERS: &[(i16, i16)] = &[
+    (-16_383, -16_383),
+    (16_383, -16_383),
+    (16_383, 16_383),
+    (-16_383, 16_383),
+];
+
+/// Points, an outer and an inner offset, and whether the points may be moved.
+type Row<I> = (&'static [(I, I)], I, I, Result<(), IntOutlineError>);
+
+const SMALL: &[Row<i16>] = &[
+    (&[], i16::MIN, i16::MIN, YES),
+    (&[(15_359, 0)], 1024, 1024, YES),
+    (&[(15_360, 0)], 1024, 1024, NO),
+    (&[(-15_359, 15_359)], 1024, -1024, YES),
+    (&[(0, -15_360)], 1024, -1024, NO),
+    (&[(16_383, -16_383)], 0, 0, YES),
+    (&[(16_384, 0)], 0, 0, NO),
+    (&[(15_383, 0)], 1, 1000, YES),
+    (&[(15_384, 0)], 1, 1000, NO),
+    (&[(15_384, 0)], -1000, 1, NO),
+    (&[(0, 0)], 16_383, 0, YES),
+    (&[(0, 0)], 16_384, 0, NO),
+    (&[(0, 0)], i16::MIN, i16::MIN, NO),
+    (&[(0, 0)], 0, i16::MIN, NO),
+    (&[(i16::MIN, i16::MAX)], i16::MAX, i16::MIN, NO),
+    (CORNERS, 0, 0, YES),
+    (CORNERS, 1, 0, NO),
+    (&[(0, 0), (0, 0), (0, 16_384)], 0, 0, NO),
+];
+
+const LARGE: &[Row<i32>] = &[
+    (&[], 0, i32::MIN, YES),
+    (&[(1_073_740_799, 0)], 1024, 1024, YES),
+    (&[(1_073_740_800, 0)], 1024, 1024, NO),
+    (&[(i32::MIN, i32::MAX)], 0, 0, NO),
+    (&[(i32::MIN, i32::MAX)], i32::MIN, i32::MIN, NO),
+    (&[(1_073_741_823, -1_073_741_823)], 0, 0, YES),
+    (
+        &[(0, 0), (16_384, 0), (16_384, 16_384), (0, 16_384)],
+        1024,
+        1024,
+        YES,
+    ),
+];
+
+#[test]
+fn small_paths(rt: HostRuntime) -> Result<(), AllocError> {
+    for (points, outer, inner, want) in SMALL.iter().copied() {
+        let found = answer::<i16>(rt.alloc(), points, outer, inner)?;
+        assert!(rt; found == want, "{points:?} with {outer}, {inner}");
+    }
+    Ok(())
+}
+
+#[test]
+fn large_paths(rt: HostRuntime) -> Result<(), AllocError> {
+    for (points, outer, inner, want) in LARGE.iter().copied() {
+        let found = answer::<i32>(rt.alloc(), points, outer, inner)?;
+        assert!(rt; found == want, "{points:?} with {outer}, {inner}");
+    }
+    Ok(())
+}

@@ -1,0 +1,119 @@
+//! Comparers of answers with tables.
+
+ghost use Rattle.std.specs.Prelude.{◌<◌, length};
+
+use crate::plain::Edge;
+use mesh_num::num::{IntNumber, IntPoint};
+use mesh_num::shape::buffer::{FlatContoursBuffer, IntShapes};
+use mesh_num::shape::resource::IntShapeResource;
+use std::alloc::AllocError;
+use std::test::Fail;
+
+/// Whether the contour has these points.
+pub fn is_contour<I: IntNumber>(found: &[IntPoint<I>], wanted: &[(I, I)]) -> bool {
+    if found.len() != wanted.len() {
+        return false;
+    }
+    for (p, q) in found.iter().zip(wanted) {
+        if p.x != q.0 || p.y != q.1 {
+            return false;
+        }
+    }
+    true
+}
+
+fn is_shape<I: IntNumber>(found: &[Vec<IntPoint<I>>], wanted: &[&[(I, I)]]) -> bool {
+    if found.len() != wanted.len() {
+        return false;
+    }
+    for (contour, points) in found.iter().zip(wanted) {
+        if !is_contour(contour, points) {
+            return false;
+        }
+    }
+    true
+}
+
+/// Whether the shapes are these, in this order.
+pub fn are_shapes<I: IntNumber>(found: &IntShapes<I>, wanted: &[&[&[(I, I)]]]) -> bool {
+    if found.len() != wanted.len() {
+        return false;
+    }
+    for (shape, contours) in found.iter().zip(wanted) {
+        if !is_shape(shape, contours) {
+            return false;
+        }
+    }
+    true
+}
+
+/// Whether the contour of this number stands in the buffer from the place `start` on.
+fn is_at<I: IntNumber>(
+    buffer: &FlatContoursBuffer<I>,
+    number: usize,
+    start: usize,
+    wanted: &[(I, I)],
+) -> bool {
+    let Some(range) = buffer.ranges.get(number) else {
+        return false;
+    };
+    if range.start != start {
+        return false;
+    }
+    match buffer.points.get(range.start..range.end) {
+        Some(points) => is_contour(points, wanted),
+        None => false,
+    }
+}
+
+/// Whether the buffer has the contours of these shapes, end to end, and no other points.
+pub fn holds<I: IntNumber>(buffer: &FlatContoursBuffer<I>, wanted: &[&[&[(I, I)]]]) -> bool {
+    let mut number = 0usize;
+    let mut start = 0usize;
+    for shape in wanted {
+        for contour in *shape {
+            if !is_at(buffer, number, start, contour) {
+                return false;
+            }
+            number = number.wrapping_add(1);
+            start = start.wrapping_add(contour.len());
+        }
+    }
+    buffer.ranges.len() == number && buffer.points.len() == start
+}
+
+/// Whether the source has these paths and no others.
+pub fn gives<I: IntNumber, S: IntShapeResource<I>>(source: &S, paths: &[&[(I, I)]]) -> bool {
+    let count = source.path_count();
+    if count != paths.len() {
+        return false;
+    }
+    for index in 0..count {
+        if !is_contour(source.path_at(index), paths[index]) {
+            return false;
+        }
+    }
+    true
+}
+
+/// Whether both lists have the same edges, each as often, in any order.
+pub fn are_same_edges(mut first: Vec<Edge>, mut second: Vec<Edge>) -> Result<bool, AllocError> {
+    first.sort()?;
+    second.sort()?;
+    Ok(first == second)
+}
+
+/// Fails where the shapes are not these, or the buffer has not their contours.
+pub fn expect_answers<I: IntNumber>(
+    shapes: &IntShapes<I>,
+    buffer: &FlatContoursBuffer<I>,
+    wanted: &[&[&[(I, I)]]],
+) -> Result<(), Fail> {
+    if !are_shapes(shapes, wanted) {
+        return Err(Fail::new(format_args!("{shapes:?} and not {wanted:?}")));
+    }
+    if !holds(buffer, wanted) {
+        return Err(Fail::new(format_args!("{buffer:?} and not {wanted:?}")));
+    }
+    Ok(())
+}
