@@ -1,9 +1,10 @@
+pub use Rattle.mesh_draw.specs.Adding
+pub use Rattle.mesh_draw.specs.Drawing
+pub use Rattle.mesh_draw.specs.Padding
+pub use Rattle.mesh_outline.specs.Building
+pub use Rattle.mesh_outline.specs.Outline
+pub use Rattle.mesh_outline.specs.Resolved
+pub use Rattle.mesh_outline.specs.Staying
 pub use Rattle.mesh_join.specs.Joins
 pub use Rattle.mesh_join.specs.Joints
 pub use Rattle.mesh_join.specs.Styles
-pub mod Adding
-pub mod Building
-pub mod Outline
-pub mod Padding
-pub mod Resolved
-pub mod Staying

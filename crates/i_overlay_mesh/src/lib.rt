@@ -1,7 +1,6 @@
-//! Outlines of contours over whole numbers.
+//! Offset operations over whole numbers: outlines of contours, and why a call refuses.
 #![tactic(auto)]
 
-pub mod error;
-pub mod outline;
-
-pub use error::IntOutlineError;
+pub use mesh_draw::error;
+pub use mesh_draw::error::IntOutlineError;
+pub use mesh_outline::outline;

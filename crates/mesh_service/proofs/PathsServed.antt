@@ -13,10 +13,10 @@ use Rattle.mesh_num.specs.Paths.{paths_of}
 use Rattle.mesh_plane.specs.Plane.{Point, Edge}
 use Rattle.mesh_shapes.specs.Contours.{double_area}
 use Rattle.mesh_shapes.specs.Resolution.{Choices}
-use Rattle.i_overlay_mesh.specs.Building.{style_for}
-use Rattle.i_overlay_mesh.specs.Outline.{outline_edges}
+use Rattle.mesh_outline.specs.Building.{style_for}
+use Rattle.mesh_outline.specs.Outline.{outline_edges}
 use Rattle.mesh_join.specs.Styles.{OffsetJoin, OutlineStyle}
-use Rattle.i_overlay_mesh.specs.Resolved.{DoAreasFit, IsOutline}
+use Rattle.mesh_outline.specs.Resolved.{DoAreasFit, IsOutline}
 use Rattle.serde_json.specs.Data.{Data}
 use Rattle.serde_json.specs.Read.{read}
 use Rattle.serde_json.specs.Written.{has_float}

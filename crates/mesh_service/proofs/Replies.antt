@@ -1,7 +1,7 @@
 -- Lemmas over lines: what is answered or told is a reply.
 use Rattle.std.proofs.Common.{◌≡◌, ℕ, List, String, Global, Option, Result, Ok, Err, IfSome, IfOk, IsErrAnd, refl}
 use Rattle.std.specs.Prelude.{string_bytes}
-use Rattle.i_overlay_mesh.specs.declared.error.IntOutlineError.TheVariants.{CoordinateOutOfRange, OutOfMemory}
+use Rattle.mesh_draw.specs.declared.error.IntOutlineError.TheVariants.{CoordinateOutOfRange, OutOfMemory}
 use Rattle.mesh_service.specs.Failures.{failure_line, told_line}
 use Rattle.mesh_service.specs.Reading.{IsOfReading}
 use Rattle.mesh_service.specs.Serving.{IsAnswer, IsRefused, IsReply}

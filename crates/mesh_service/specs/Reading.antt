@@ -7,7 +7,7 @@ use Rattle.serde_json.specs.Find.{get, as_number, as_i64, as_u64, as_bool, as_st
 use Rattle.mesh_plane.specs.Plane.{Point}
 use Rattle.mesh_below.specs.Options.{plain}
 use Rattle.mesh_shapes.specs.Resolution.{Choices}
-use Rattle.i_overlay_mesh.specs.declared.error.IntOutlineError.TheVariants.{CoordinateOutOfRange, OutOfMemory}
+use Rattle.mesh_draw.specs.declared.error.IntOutlineError.TheVariants.{CoordinateOutOfRange, OutOfMemory}
 use Rattle.mesh_join.specs.Styles.{OutlineStyle}
 use Rattle.mesh_join.specs.declared.TheConstants.{DEFAULT_MITER_MIN_TURN}
 use Rattle.mesh_join.specs.declared.style.IntLineJoin.{IntLineJoin}

@@ -8,10 +8,10 @@ use Rattle.mesh_shapes.specs.Contours.{double_area}
 use Rattle.mesh_shapes.specs.Resolution.{Choices}
 use Rattle.mesh_join.specs.Joins.{outline_padding}
 use Rattle.mesh_join.specs.Styles.{OffsetJoin, OutlineStyle}
-use Rattle.i_overlay_mesh.specs.Building.{style_for}
-use Rattle.i_overlay_mesh.specs.Outline.{outline_edges}
-use Rattle.i_overlay_mesh.specs.Padding.{ArePathsSafe}
-use Rattle.i_overlay_mesh.specs.Resolved.{DoAreasFit, IsOutline}
+use Rattle.mesh_outline.specs.Building.{style_for}
+use Rattle.mesh_outline.specs.Outline.{outline_edges}
+use Rattle.mesh_draw.specs.Padding.{ArePathsSafe}
+use Rattle.mesh_outline.specs.Resolved.{DoAreasFit, IsOutline}
 use Rattle.mesh_service.specs.Lines.{edge_order, edges_text, shapes_text}
 use Rattle.mesh_service.specs.Requests.{Asked, Request}
 

@@ -5,7 +5,7 @@ use Rattle.std.specs.Ordering.{int_cmp}
 use Rattle.serde_json.specs.Data.{Data}
 use Rattle.serde_json.specs.Read.{read}
 use Rattle.serde_json.specs.Written.{has_float}
-use Rattle.i_overlay_mesh.specs.declared.error.IntOutlineError.TheVariants.{CoordinateOutOfRange, OutOfMemory}
+use Rattle.mesh_draw.specs.declared.error.IntOutlineError.TheVariants.{CoordinateOutOfRange, OutOfMemory}
 use Rattle.mesh_service.specs.Failures.{failure_line}
 use Rattle.mesh_service.specs.Reading.{request_of}
 use Rattle.mesh_service.specs.Requests.{Request}

@@ -9,8 +9,8 @@ ghost use Rattle.mesh_num.specs.Segments.{edges_of};
 ghost use Rattle.mesh_below.specs.Options.{choices_of};
 ghost use Rattle.mesh_join.specs.Joins.{outline_padding};
 ghost use Rattle.mesh_join.specs.Styles.{style_of};
-ghost use Rattle.i_overlay_mesh.specs.Padding.{ArePathsSafe};
-ghost use Rattle.i_overlay_mesh.specs.Resolved.{DoAreasFit, IsOutline};
+ghost use Rattle.mesh_draw.specs.Padding.{ArePathsSafe};
+ghost use Rattle.mesh_outline.specs.Resolved.{DoAreasFit, IsOutline};
 ghost use Rattle.mesh_service.specs.Lines.{by_values};
 ghost use Rattle.mesh_service.specs.Served.{AreListed, IsAccepted, served_edges};
 

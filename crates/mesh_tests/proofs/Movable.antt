@@ -4,9 +4,9 @@ use Rattle.std.specs.List.{All}
 use Rattle.mesh_plane.specs.Plane.{Point}
 use Rattle.mesh_join.specs.Joins.{outline_padding}
 use Rattle.mesh_join.specs.Styles.{OutlineStyle, outer}
-use Rattle.i_overlay_mesh.specs.Building.{IsMovable}
-use Rattle.i_overlay_mesh.specs.Padding.{ArePathsSafe}
-use Rattle.i_overlay_mesh.proofs.Padding.{outer_accepted}
+use Rattle.mesh_outline.specs.Building.{IsMovable}
+use Rattle.mesh_draw.specs.Padding.{ArePathsSafe}
+use Rattle.mesh_outline.proofs.Padding.{outer_accepted}
 
 pub movable : (unit : ℕ) (style : OutlineStyle) (points : List Point) → ArePathsSafe unit (outline_padding style) (points ∷ []) → All (IsMovable unit (outer style)) points
 movable unit style points safe = outer_accepted unit style (points ∷ []) safe 0 [] (lit< tt)

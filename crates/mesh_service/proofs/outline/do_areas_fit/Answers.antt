@@ -4,7 +4,7 @@ use Rattle.std.proofs.lemmas.Bool.{false≢true}
 use Rattle.std.proofs.lemmas.Int.{to_z-of_z}
 use Rattle.mesh_num.specs.Paths.{paths_of}
 use mir.Syntax.{w128}
-use Rattle.i_overlay_mesh.proofs.Areas.{areas_fit_more, all_areas_fit}
+use Rattle.mesh_outline.proofs.Areas.{areas_fit_more, all_areas_fit}
 use Rattle.mesh_service.proofs.PathsServed.{path_count, path_here}
 use Rattle.mesh_service.proofs.outline.do_areas_fit.Goals as goal
 

@@ -1,6 +1,6 @@
 use Rattle.std.proofs.Common.{take}
 use Rattle.mesh_num.specs.Paths.{paths_of}
-use Rattle.i_overlay_mesh.specs.Resolved.{DoAreasFit}
+use Rattle.mesh_outline.specs.Resolved.{DoAreasFit}
 use Rattle.mesh_service.proofs.outline.do_areas_fit.Given as goal
 
 -- the areas so far fit

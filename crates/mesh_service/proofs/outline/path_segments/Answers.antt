@@ -7,7 +7,7 @@ use mir.Syntax.{w128}
 use mir.Val.{to_z, of_z}
 use Rattle.mesh_shapes.specs.Contours.{double_area}
 use Rattle.mesh_join.specs.Styles.{style_of}
-use Rattle.i_overlay_mesh.proofs.Padding.{path_movable}
+use Rattle.mesh_outline.proofs.Padding.{path_movable}
 use Rattle.mesh_service.proofs.PathsServed.{served_moved, served_none}
 use Rattle.mesh_service.proofs.outline.path_segments.Goals as goal
 

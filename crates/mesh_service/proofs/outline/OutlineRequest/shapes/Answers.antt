@@ -2,8 +2,8 @@
 use Rattle.std.proofs.Common.{sym, refl}
 use Rattle.std.proofs.lemmas.Bool.{false≢true}
 use Rattle.mesh_num.specs.Paths.{paths_of}
-use Rattle.i_overlay_mesh.specs.Resolved.{DoAreasFit}
-use Rattle.i_overlay_mesh.specs.declared.error.IntOutlineError.TheVariants.{CoordinateOutOfRange}
+use Rattle.mesh_outline.specs.Resolved.{DoAreasFit}
+use Rattle.mesh_draw.specs.declared.error.IntOutlineError.TheVariants.{CoordinateOutOfRange}
 use Rattle.mesh_service.specs.Served.{IsAccepted}
 use Rattle.mesh_service.proofs.PathsServed.{areas_fit, fit_half, half_fit, answered_only}
 use Rattle.mesh_service.proofs.outline.OutlineRequest.shapes.Goals as goal

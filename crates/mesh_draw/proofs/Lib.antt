@@ -1,0 +1,7 @@
+pub mod Adding
+pub mod Drawn
+pub mod Padding
+pub mod PaddingBounds
+pub mod ProperEdges
+pub mod Resolving
+pub mod Staying

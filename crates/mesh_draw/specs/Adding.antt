@@ -1,0 +1,43 @@
+-- How the edges that contours give to an outline are added to its segments.
+use Rattle.std.specs.Prelude.{ℕ, ◌≡◌, List, ◌++◌, map, length, take, drop}
+use Rattle.mesh_plane.specs.Plane.{Edge, Point}
+use Rattle.mesh_num.specs.Segments.{SignedEdge, segments_of, edges_of, IsSubject}
+use Rattle.mesh_plane.specs.Winding.{IsBalanced, boundary}
+use Rattle.mesh_cuts.specs.Reach.{AreEdgesSafe}
+use Rattle.mesh_cuts.specs.Split.{back}
+use Rattle.mesh_cuts.specs.declared.fill.FillRule.{FillRule}
+use Rattle.mesh_cuts.specs.declared.fill.FillRule.TheVariants.{Positive, Negative}
+use Rattle.std.specs.List.{All, flat_map}
+use Rattle.std.specs.List.Sorted.{IsPermutation}
+use Rattle.mesh_num.specs.Paths.{contours_of}
+
+-- edges as they are given to the outline: those of what is filled in the negative sense go the other way about
+abbrev pub along : FillRule → List Edge → List Edge
+along Positive es = es
+along Negative es = map back es
+
+-- the vector `new` holds what `old` held, and then the segments of these edges, which are balanced and in the safe range
+pub record AddsClosed (unit : ℕ) (old new : List SignedEdge) (edges : List Edge) : Type 0 where
+  pub balanced : IsBalanced edges
+  pub safe : AreEdgesSafe unit edges
+  pub added : new ≡ old ++ segments_of edges
+
+-- the vector `new` holds what `old` held, and then segments that stand for the edges, in some order, each as `Segment::subject` gives it
+abbrev pub Adds : List SignedEdge → List SignedEdge → List Edge → Type 0
+Adds old new edges = (added : List SignedEdge) × (new ≡ old ++ added) × IsPermutation (edges_of added) edges × All IsSubject added
+
+-- the vector `new` begins with what `old` held
+abbrev pub Keeps : List SignedEdge → List SignedEdge → Type 0
+Keeps old new = take (length old) new ≡ old
+
+-- what `new` holds past what `old` held
+abbrev pub added : List SignedEdge → List SignedEdge → List SignedEdge
+added old new = drop (length old) new
+
+-- the edges that those segments stand for
+abbrev pub added_edges : List SignedEdge → List SignedEdge → List Edge
+added_edges old new = edges_of (added old new)
+
+-- the edges of an answer's contours
+abbrev pub answer_edges : List (List (List Point)) → List Edge
+answer_edges answer = flat_map boundary (contours_of answer)

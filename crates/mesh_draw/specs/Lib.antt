@@ -1,0 +1,4 @@
+pub mod Adding
+pub mod Drawing
+pub mod Padding
+pub mod Staying

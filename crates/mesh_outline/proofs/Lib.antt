@@ -1,0 +1,13 @@
+pub mod Adding
+pub mod Areas
+pub mod BuilderTheorems
+pub mod BuilderWalk
+pub mod Corners
+pub mod OutlineCount
+pub mod OutlineSum
+pub mod OutlineWalk
+pub mod Padding
+pub mod Promised
+pub mod Resolving
+pub mod Sections
+pub mod Staying

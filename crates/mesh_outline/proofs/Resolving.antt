@@ -1,0 +1,66 @@
+-- Lemmas over points and lists: what comes of one contour, and what is resolved at last.
+use Rattle.std.proofs.Common.{◌≡◌, ℕ, List, [], ◌∷◌, ◌++◌, map, refl, ◌∙◌, ap, arith}
+use Rattle.std.specs.Prelude.{ℤ, pos, ◌-ℤ◌, Some}
+use Rattle.std.specs.List.{All, flat_map}
+use Rattle.std.specs.List.Sorted.{IsPermutation}
+use Rattle.std.proofs.lemmas.List.Elements.{All-map, All-weaker, All-filter}
+use Rattle.mesh_plane.specs.Bounds.{IsSafe}
+use Rattle.mesh_num.specs.Paths.{contours_of}
+use Rattle.mesh_plane.specs.Plane.{Point, Edge}
+use Rattle.mesh_num.specs.Segments.{SignedEdge, edges_of, proper_edges, segments_of, IsSubject}
+use Rattle.mesh_plane.specs.Winding.{total, boundary, IsBalanced}
+use Rattle.mesh_plane.proofs.Whole.{linear}
+use Rattle.mesh_plane.proofs.Balance.{growth, growth_odd, growth_of_balanced, balanced_by_growth, balanced_append, boundary_balanced}
+use Rattle.mesh_plane.proofs.ClosedLists.{boundary_all, all_flat_map}
+use Rattle.mesh_num.proofs.SegmentLists.{edges_of_segments}
+use Rattle.mesh_num.proofs.Subjects.{segments_of_subjects}
+use Rattle.mesh_shapes.specs.Contours.{double_area}
+use Rattle.mesh_cuts.specs.FillRules.{filled}
+use Rattle.mesh_below.specs.Options.{plain}
+use Rattle.mesh_cuts.specs.Reach.{AreEdgesSafe, ArePointsSafe}
+use Rattle.mesh_shapes.specs.Resolution.{Choices, IsResolution}
+use Rattle.mesh_cuts.specs.Split.{back}
+use Rattle.mesh_cuts.specs.declared.fill.FillRule.{FillRule}
+use Rattle.mesh_cuts.specs.declared.fill.FillRule.TheVariants.{Positive, Negative}
+use Rattle.mesh_join.specs.Styles.{OffsetJoin, OutlineStyle}
+use Rattle.mesh_draw.specs.Adding.{along, AddsClosed}
+use Rattle.mesh_outline.specs.Building.{style_for}
+use Rattle.mesh_draw.specs.Adding.{added_edges}
+use Rattle.mesh_outline.specs.Outline.{outline_edges}
+use Rattle.mesh_draw.specs.Adding.{answer_edges}
+use Rattle.mesh_outline.specs.Resolved.{fill_for, IsAnswerAlone, Gives, Give, IsOutline}
+use Rattle.mesh_draw.proofs.ProperEdges.{proper_edges_total}
+
+-- ---- the edges of an answer
+
+-- ---- one contour's answer
+
+pub is_alone : (unit : ℕ) (style : OffsetJoin) (fill : FillRule) (path : List Point) (old built ss : List SignedEdge) (choices : Choices) (answer : List (List (List Point))) →
+    old ≡ [] → ss ≡ built → choices ≡ plain → IsPermutation (added_edges old built) (outline_edges unit style path) →
+    IsResolution (edges_of ss) (filled fill) choices answer → IsAnswerAlone unit style (filled fill) path answer
+is_alone unit style fill path old built ss choices answer e f d same resolution = record {
+  built = edges_of built;
+  same = rw e at same;
+  resolution = rw (f, d) at resolution;
+}
+
+-- what a contour gives that moves in this way
+pub gives_moved : (unit : ℕ) (style : OutlineStyle) (way : OffsetJoin) (fill : FillRule) (path : List Point) (old new : List SignedEdge) → style_for style (double_area path) ≡ Some way →
+    fill ≡ fill_for (double_area path) →
+    ((answer : List (List (List Point))) × IsAnswerAlone unit way (filled fill) path answer × AddsClosed unit old new (along fill (answer_edges answer))) →
+    (edges : List Edge) × Gives unit style path edges × AddsClosed unit old new edges
+gives_moved unit style way fill path old new moves e h =
+    let g : (answer : List (List (List Point))) × IsAnswerAlone unit way (filled (fill_for (double_area path))) path answer × AddsClosed unit old new (along (fill_for (double_area path)) (answer_edges answer)) = rw e at h in
+    (along (fill_for (double_area path)) (answer_edges g.0), Gives.moved moves g.1, g.2)
+
+-- ---- what is resolved at last
+
+-- the answer is the outline of the contours
+pub is_outline : (unit : ℕ) (style : OutlineStyle) (choices : Choices) (contours : List (List Point)) (ss : List SignedEdge) (answer : List (List (List Point))) →
+    ((given : List Edge) × Give unit style contours given × AddsClosed unit [] ss given) → IsResolution (edges_of ss) (filled Positive) choices answer →
+    IsOutline unit style choices contours answer
+is_outline unit style choices contours ss answer h resolution = record {
+  given = h.0;
+  give = h.1;
+  resolution = rw (given_edges unit ss h.0 h.2) at resolution;
+}

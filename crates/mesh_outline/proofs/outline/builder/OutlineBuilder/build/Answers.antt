@@ -1,0 +1,36 @@
+-- What holds of the edges that the walk added.
+use Rattle.std.proofs.Common.{subst}
+use Rattle.mesh_join.proofs.Joins.{each_has_few}
+use Rattle.mesh_join.specs.Styles.{OffsetJoin}
+use Rattle.mesh_draw.specs.Adding.{Adds}
+use Rattle.mesh_outline.specs.Outline.{outline_edges}
+use Rattle.mesh_outline.proofs.BuilderTheorems.{adds_few, adds_promised, adds_safe}
+use Rattle.mesh_outline.proofs.Promised.{has_promised_edges}
+use Rattle.mesh_outline.proofs.outline.builder.OutlineBuilder.build.Given as given
+use Rattle.mesh_outline.proofs.outline.builder.OutlineBuilder.build.Goals as goal
+
+-- the walk adds the outline of the builder's style
+abbrev adds : (g : given.Over) (c : goal.In_default g) → Adds c.args.segments.now.items c.draw.new.segments.items (outline_edges g.I.IntNumber.unit c.args.self.now c.args.path.now)
+adds g c =
+    subst (λ (style : OffsetJoin). Adds c.args.segments.now.items c.draw.new.segments.items (outline_edges g.I.IntNumber.unit style c.args.path.now)) c.self.view_is c.in_default.ensures.ok
+
+pub returns-clause-few : goal.returns-clause-few
+returns-clause-few g c = adds_few g.I.IntNumber.unit c.args.self.now c.args.path.now g.met.I.IntNumber.least_law (each_has_few c.args.self.now.join.kind) _ _ (adds g c)
+
+pub returns-clause-balanced : goal.returns-clause-balanced
+returns-clause-balanced g c = (adds_promised g.I.IntNumber.unit c.args.self.now c.args.path.now g.met.I.IntNumber.least_law _ _ (adds g c)).balanced
+
+pub returns-clause-near : goal.returns-clause-near
+returns-clause-near g c = (adds_promised g.I.IntNumber.unit c.args.self.now c.args.path.now g.met.I.IntNumber.least_law _ _ (adds g c)).near
+
+pub returns-clause-safe : goal.returns-clause-safe
+returns-clause-safe g c = adds_safe g.I.IntNumber.unit c.args.self.now c.args.path.now g.met.I.IntNumber.least_law _ _ c.requires (adds g c)
+
+pub returns-clause-sum : goal.returns-clause-sum
+returns-clause-sum g c = (adds_promised g.I.IntNumber.unit c.args.self.now c.args.path.now g.met.I.IntNumber.least_law _ _ (adds g c)).sum
+
+pub returns-clause-pieces : goal.returns-clause-pieces
+returns-clause-pieces g c = (has_promised_edges g.I.IntNumber.unit c.args.self.now c.args.path.now g.met.I.IntNumber.least_law).pieces
+
+pub returns-clause-count : goal.returns-clause-count
+returns-clause-count g c = (adds_promised g.I.IntNumber.unit c.args.self.now c.args.path.now g.met.I.IntNumber.least_law _ _ (adds g c)).count

@@ -1,0 +1,42 @@
+-- What the outline's builder asks and adds.
+use Rattle.std.specs.Prelude.{ℕ, ◌≡◌, ◌≢◌, List, ◌++◌, length, take, drop, count_by, cond, ◌+ℤ◌, ℤ, pos, int_lt, unsigned_abs, Option, Some, None}
+use Rattle.mesh_plane.specs.Plane.{Point, Edge}
+use Rattle.mesh_num.specs.Rectangle.{IsSafeWidened}
+use Rattle.std.specs.List.{All}
+use Rattle.mesh_plane.specs.Winding.{boundary, winding, crossing_on, pieces_total, holds, IsBit}
+use Rattle.mesh_join.specs.Joins.{offset_padding}
+use Rattle.mesh_join.specs.Styles.{OffsetJoin, OutlineStyle, outer, inner}
+use Rattle.std.specs.List.Sorted.{IsPermutation}
+use Rattle.mesh_num.specs.Segments.{SignedEdge, edges_of, segments_of, segment_between, IsSubject}
+use Rattle.mesh_outline.specs.Outline.{Section, Corner, own_edge, section_of, corner_edges, parts, joined}
+use Rattle.mesh_draw.specs.Drawing.{sided}
+
+-- how a contour moves, by its double area: an outer boundary has an area above 0, a hole one below 0; a contour of area 0 does not move
+abbrev pub style_for : OutlineStyle → ℤ → Option OffsetJoin
+style_for style area = cond (int_lt (pos 0) area) (Some (outer style)) (cond (int_lt area (pos 0)) (Some (inner style)) None)
+
+-- a point that stays safe where it moves by at most the padding of the offset's joins
+abbrev pub IsMovable : ℕ → OffsetJoin → Point → Type 0
+IsMovable unit style p = IsSafeWidened unit (offset_padding style) p
+
+-- the section of an edge with different ends, both of which stay safe where they move by the offset's size
+pub record IsMoved (unit : ℕ) (offset : ℤ) (s : Section) : Type 0 where
+  pub made : s ≡ section_of unit offset (own_edge s)
+  pub differ : s.a ≢ s.b
+  pub safe_a : IsSafeWidened unit (pos (unsigned_abs offset)) s.a
+  pub safe_b : IsSafeWidened unit (pos (unsigned_abs offset)) s.b
+
+-- two sections that meet in a point that can be moved
+pub record IsCorner (unit : ℕ) (style : OffsetJoin) (c : Corner) : Type 0 where
+  pub previous : IsMoved unit style.offset c.0
+  pub next : IsMoved unit style.offset c.1
+  pub met : c.0.b ≡ c.1.a
+  pub movable : IsMovable unit style c.0.b
+
+-- what is drawn at a corner, as segments
+abbrev pub corner_segments : ℕ → OffsetJoin → Corner → List SignedEdge
+corner_segments unit style c = segments_of (corner_edges (parts style.offset) (joined unit style) c)
+
+-- the moved edge of a section, as a segment
+abbrev pub top_segments : Section → List SignedEdge
+top_segments s = segment_between s.a_top s.b_top

@@ -1,0 +1,10 @@
+pub use Rattle.mesh_join.specs.Joins
+pub use Rattle.mesh_join.specs.Joints
+pub use Rattle.mesh_join.specs.Styles
+pub use Rattle.mesh_draw.specs.Adding
+pub use Rattle.mesh_draw.specs.Drawing
+pub use Rattle.mesh_draw.specs.Padding
+pub mod Building
+pub mod Outline
+pub mod Resolved
+pub mod Staying

@@ -1,0 +1,171 @@
+//! The two steps of an outline: each contour is resolved alone, and what comes of all of them together.
+
+ghost use Rattle.std.specs.Prelude.{◌≡◌, ◌↔◌, [], ◌∷◌, ◌++◌, List, OnOk, IfOk};
+ghost use Rattle.std.specs.List.{All, flat_map};
+ghost use Rattle.mesh_num.specs.Paths.{paths_of, shapes_of};
+ghost use Rattle.mesh_plane.specs.Plane.{Point, Edge};
+ghost use Rattle.mesh_num.specs.Rectangle.{IsSafeWidened};
+ghost use Rattle.mesh_num.specs.Segments.{segments_of};
+ghost use Rattle.mesh_plane.specs.Winding.{boundary};
+ghost use Rattle.mesh_cuts.specs.FillRules.{filled};
+ghost use Rattle.mesh_draw.specs.Adding.{along, AddsClosed};
+ghost use Rattle.mesh_outline.specs.Building.{IsMovable};
+ghost use Rattle.mesh_join.specs.Joins.{outline_padding};
+ghost use Rattle.mesh_join.specs.Styles.{style_of};
+ghost use Rattle.mesh_draw.specs.Padding.{ArePathsSafe};
+ghost use Rattle.mesh_draw.specs.Adding.{answer_edges};
+ghost use Rattle.mesh_outline.specs.Resolved.{fill_for, DoAreasFit, IsAnswerAlone, Gives, Give};
+
+use mesh_draw::error::IntOutlineError;
+use crate::outline::area::{check_areas, double_area};
+use crate::outline::builder::OutlineBuilder;
+use mesh_below::below::{FillRule, IntOverlayOptions, Overlay, OverlayRule};
+use mesh_join::style::IntOutlineStyle;
+use mesh_num::num::{IntNumber, IntPoint};
+use mesh_num::shape::buffer::IntShapes;
+use mesh_num::shape::resource::IntShapeResource;
+use mesh_num::shape::segment::{Segment, SubjectSegments};
+use std::alloc::{AllocError, Global};
+
+/// What all contours of the source give, to be resolved with these options. `CoordinateOutOfRange` is answered where a
+/// double area does not fit the wide type, before anything is built.
+pub(crate) fn given_overlay<I: IntNumber, S: IntShapeResource<I>>(
+    source: &S,
+    alloc: Global,
+    style: &IntOutlineStyle<I>,
+    options: IntOverlayOptions<I::WideUInt>,
+) -> Result<Overlay<I>, IntOutlineError>
+    requires { ArePathsSafe I.unit (outline_padding (style_of I.value style.now)) (S.paths source.now) }
+    ensures given { IfOk result (λ overlay. (given : List Edge) × Give I.unit (style_of I.value style.now) (S.paths source.now) given × AddsClosed I.unit [] overlay.segments.items given) }
+    ensures options { IfOk result (λ overlay. overlay.options ≡ options) }
+    ensures fit { OnOk result (DoAreasFit I.Wide.half (S.paths source.now)) }
+    ensures refused { result ≡ Err IntOutlineError.CoordinateOutOfRange ↔ ¬ DoAreasFit I.Wide.half (S.paths source.now) }
+{
+    check_areas(source)?;
+    let mut overlay = Overlay::with_segments(given_segments(source, alloc, style)?);
+    overlay.options = options;
+    Ok(overlay)
+}
+
+/// The segments of what all contours of the source give, one contour after another.
+fn given_segments<I: IntNumber, S: IntShapeResource<I>>(
+    source: &S,
+    alloc: Global,
+    style: &IntOutlineStyle<I>,
+) -> Result<Vec<Segment<I>>, AllocError>
+    requires { ArePathsSafe I.unit (outline_padding (style_of I.value style.now)) (S.paths source.now) }
+    ensures { IfOk result (λ segments. (given : List Edge) × Give I.unit (style_of I.value style.now) (S.paths source.now) given × AddsClosed I.unit [] segments.items given) }
+{
+    let mut segments = Vec::new(alloc);
+    for index in 0..source.path_count() {
+        add_contour(alloc, style, source.path_at(index), &mut segments)?;
+    }
+    Ok(segments)
+}
+
+/// Adds what one contour gives: an outer boundary the edges of its answer, a hole those of its answer the other way about.
+fn add_contour<I: IntNumber>(
+    alloc: Global,
+    style: &IntOutlineStyle<I>,
+    path: &[IntPoint<I>],
+    segments: &mut Vec<Segment<I>>,
+) -> Result<(), AllocError>
+    requires { All (IsSafeWidened I.unit (outline_padding (style_of I.value style.now))) path.now }
+    ensures { OnOk result ((edges : List Edge) × Gives I.unit (style_of I.value style.now) path.now edges × AddsClosed I.unit segments.old.items segments.new.items edges) }
+{
+    let area = double_area(path);
+    let Some(mut builder) = OutlineBuilder::for_area(alloc, style, area) else {
+        return Ok(());
+    };
+    add_resolved(alloc, &mut builder, fill_for(area), path, segments)
+}
+
+/// The sense in which a contour of this double area is filled: a hole in the negative one.
+fn fill_for(double_area: i128) -> FillRule
+    ensures { result ≡ fill_for double_area }
+{
+    if double_area < 0 {
+        FillRule::Negative
+    } else {
+        FillRule::Positive
+    }
+}
+
+/// Adds the edges of the answer of one contour, which is moved by the builder and resolved alone.
+fn add_resolved<I: IntNumber>(
+    alloc: Global,
+    builder: &mut OutlineBuilder<I>,
+    fill: FillRule,
+    path: &[IntPoint<I>],
+    segments: &mut Vec<Segment<I>>,
+) -> Result<(), AllocError>
+    requires { All (IsMovable I.unit builder.old) path.now }
+    ensures { OnOk result ((answer : List (List (List Point))) × IsAnswerAlone I.unit builder.old (filled fill) path.now answer × AddsClosed I.unit segments.old.items segments.new.items (along fill (answer_edges answer))) }
+{
+    let mut built = Vec::new(alloc);
+    builder.build(path, &mut built)?;
+    let shapes = Overlay::with_segments(built).overlay(OverlayRule::Subject, fill)?;
+    add_shapes(&shapes, fill, segments)
+}
+
+/// Adds the edges of all contours of shapes.
+fn add_shapes<I: IntNumber>(
+    shapes: &IntShapes<I>,
+    fill: FillRule,
+    segments: &mut Vec<Segment<I>>,
+) -> Result<(), AllocError>
+    ensures { OnOk result (segments.new.items ≡ segments.old.items ++ segments_of (along fill (answer_edges (shapes_of shapes.now.items)))) }
+{
+    for shape in shapes {
+        add_shape(shape, fill, segments)?;
+    }
+    Ok(())
+}
+
+/// Adds the edges of the contours of one shape.
+fn add_shape<I: IntNumber>(
+    shape: &Vec<Vec<IntPoint<I>>>,
+    fill: FillRule,
+    segments: &mut Vec<Segment<I>>,
+) -> Result<(), AllocError>
+    ensures { OnOk result (segments.new.items ≡ segments.old.items ++ segments_of (along fill (flat_map boundary (paths_of shape.now.items)))) }
+{
+    for contour in shape {
+        add_closed(contour.as_slice(), fill, segments)?;
+    }
+    Ok(())
+}
+
+/// Adds the edges of the closed contour through these points.
+fn add_closed<I: IntNumber>(
+    contour: &[IntPoint<I>],
+    fill: FillRule,
+    segments: &mut Vec<Segment<I>>,
+) -> Result<(), AllocError>
+    ensures { OnOk result (segments.new.items ≡ segments.old.items ++ segments_of (along fill (boundary contour.now))) }
+{
+    let Some((first, rest)) = contour.split_first() else {
+        return Ok(());
+    };
+    let mut previous = *first;
+    for point in rest {
+        add_edge(previous, *point, fill, segments)?;
+        previous = *point;
+    }
+    add_edge(previous, *first, fill, segments)
+}
+
+/// Adds one edge, or nothing where its ends are one point.
+fn add_edge<I: IntNumber>(
+    start: IntPoint<I>,
+    end: IntPoint<I>,
+    fill: FillRule,
+    segments: &mut Vec<Segment<I>>,
+) -> Result<(), AllocError>
+    ensures { OnOk result (segments.new.items ≡ segments.old.items ++ segments_of (along fill ((start, end) ∷ []))) }
+{
+    match fill {
+        FillRule::Positive => segments.push_non_degenerate(start, end),
+        FillRule::Negative => segments.push_non_degenerate(end, start),
+    }
+}
