@@ -24,6 +24,7 @@ use Rattle.mesh_cuts.specs.declared.fill.FillRule.{FillRule}
 use Rattle.mesh_cuts.specs.declared.fill.FillRule.TheVariants.{Positive, Negative}
 use Rattle.mesh_join.specs.Styles.{OffsetJoin, OutlineStyle}
 use Rattle.mesh_draw.specs.Adding.{along, AddsClosed}
+use Rattle.mesh_draw.proofs.Resolving.{given_edges}
 use Rattle.mesh_outline.specs.Building.{style_for}
 use Rattle.mesh_draw.specs.Adding.{added_edges}
 use Rattle.mesh_outline.specs.Outline.{outline_edges}
