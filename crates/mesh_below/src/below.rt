@@ -168,6 +168,3 @@ impl<I: IntNumber> Overlay<I> {
         }
     }
 }
-
-#[cfg(test)]
-mod tests;

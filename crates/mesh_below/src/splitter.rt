@@ -144,6 +144,3 @@ pub fn split_edges(alloc: Global, edges: &[GridEdge]) -> Result<Vec<CountedSegme
     }
     Ok(splitter.live.into_segments())
 }
-
-#[cfg(test)]
-pub(crate) mod tests;

@@ -215,6 +215,3 @@ fn is_kept<I: IntNumber>(p0: IntPoint<I>, p1: IntPoint<I>, p2: IntPoint<I>) -> b
         || is_wide_less::<I>(zero, cross)
         || is_wide_less::<I>(zero, back.dot_product(&on))
 }
-
-#[cfg(test)]
-mod tests;

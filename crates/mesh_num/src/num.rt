@@ -14,6 +14,3 @@ pub use number::{IntNumber, OverlayInt, WideNumber, WideUnsigned};
 pub use point::{IntPoint, IntVector};
 pub use rect::IntRect;
 pub use unit_vector::UnitIntVector;
-
-#[cfg(test)]
-mod tests;

@@ -9,6 +9,3 @@ pub use buffer::{FlatContoursBuffer, IntShapes};
 pub use path_slice::PathSlice;
 pub use resource::IntShapeResource;
 pub use segment::{Segment, SubjectSegments, XSegment};
-
-#[cfg(test)]
-mod tests;

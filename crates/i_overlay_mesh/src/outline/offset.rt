@@ -117,6 +117,3 @@ impl<I: OverlayInt, S: IntShapeResource<I>> IntOutlineOffset<I> for S {
         validate_outline_bounds(self, style)
     }
 }
-
-#[cfg(test)]
-mod tests;
