@@ -11,21 +11,24 @@ fn setters_of_a_style(rt: HostRuntime) {
     let style = IntOutlineStyle::new(7)
         .outer_offset(-3)
         .line_join(IntLineJoin::Bevel);
-    assert_eq!(rt; (style.outer_offset, style.inner_offset), (-3, 7));
+    assert!(rt; style.outer_offset == -3 && style.inner_offset == 7);
     let style = style.offset(5).math(MathMode::Integer);
-    assert_eq!(rt; (style.outer_offset, style.inner_offset), (5, 5));
+    assert!(rt; style.outer_offset == 5 && style.inner_offset == 5);
     let style = style.inner_offset(i16::MIN);
-    assert_eq!(rt; (style.outer_offset, style.inner_offset), (5, i16::MIN));
-    assert_eq!(rt; style.join, IntLineJoin::default());
+    assert!(rt; style.outer_offset == 5 && style.inner_offset == i16::MIN);
+    assert!(rt; style.join == IntLineJoin::default());
     assert_eq!(rt; style.miter_min_turn.bits(), DEFAULT_MITER_MIN_TURN);
 }
 
 #[test]
 fn padding_of_a_bevel(rt: HostRuntime) {
     for (radius, want) in [(0, 0), (1024, 1024), (-1024, 1024), (i16::MIN, 32_768)] {
-        assert_eq!(rt; Join::padding(IntLineJoin::Bevel, radius), want);
+        assert!(rt;
+            Join::padding(IntLineJoin::Bevel, radius) == want,
+            "{radius}"
+        );
     }
-    assert_eq!(rt; Join::padding(IntLineJoin::Bevel, i32::MIN), 2_147_483_648);
+    assert!(rt; Join::padding(IntLineJoin::Bevel, i32::MIN) == 2_147_483_648);
 }
 
 #[test]

@@ -1,7 +1,5 @@
 //! Comparers of answers with tables.
 
-ghost use Rattle.std.specs.Prelude.{◌<◌, length};
-
 use crate::plain::Edge;
 use mesh_num::num::{IntNumber, IntPoint};
 use mesh_num::shape::buffer::{FlatContoursBuffer, IntShapes};

@@ -1,6 +1,6 @@
 //! Numbers, points and contours that look random, the same each time.
 
-ghost use Rattle.std.specs.Prelude.{◌<◌, ◌≤◌, ◌^◌};
+ghost use Rattle.std.specs.Prelude.{◌<◌, ◌^◌};
 
 use crate::lists::Spot;
 use std::alloc::{AllocError, Global};
