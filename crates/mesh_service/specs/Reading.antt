@@ -9,7 +9,6 @@ use Rattle.mesh_below.specs.Options.{plain}
 use Rattle.mesh_shapes.specs.Resolution.{Choices}
 use Rattle.mesh_draw.specs.declared.error.IntOutlineError.TheVariants.{CoordinateOutOfRange, OutOfMemory}
 use Rattle.mesh_join.specs.Styles.{OutlineStyle}
-use Rattle.mesh_join.specs.declared.TheConstants.{DEFAULT_MITER_MIN_TURN}
 use Rattle.mesh_join.specs.declared.style.IntLineJoin.{IntLineJoin}
 use Rattle.mesh_join.specs.declared.style.IntLineJoin.TheVariants.{Bevel}
 use Rattle.mesh_service.specs.Requests.{Asked, for_edges, for_shapes, Request}
@@ -87,12 +86,12 @@ join_of (Some d) = if is_word (codes "bevel") (as_str d) then Some Bevel else No
 abbrev pub offset_of : ℕ → List ℕ → Data → Option ℤ
 offset_of unit key d = option_and_then (coordinate_of unit) (get key d)
 
--- a join and the outer and the inner offset, as a style
+-- a join and the outer and the inner offset, as a style; miters turn by at least 5 degrees, cut, as by default
 abbrev pub style_with : IntLineJoin × (ℤ × ℤ) → OutlineStyle
 style_with said = record {
   outer_offset = said.1.0;
   inner_offset = said.1.1;
-  join = record { kind = said.0; min_turn = DEFAULT_MITER_MIN_TURN };
+  join = record { kind = said.0; min_turn = 59652323 };
 }
 
 -- the style that an object gives

@@ -13,10 +13,10 @@ ghost use Rattle.mesh_outline.specs.Staying.{StaysSafe};
 ghost use Rattle.mesh_below.specs.Options.{choices_of, plain};
 ghost use Rattle.mesh_cuts.specs.Reach.{ArePointsSafe};
 
-use mesh_draw::error::IntOutlineError;
 use crate::outline::bounds::validate_outline_bounds;
 use crate::outline::resolve::given_overlay;
 use mesh_below::below::{FillRule, IntOverlayOptions, OverlayRule};
+use mesh_draw::error::IntOutlineError;
 use mesh_join::style::IntOutlineStyle;
 use mesh_num::num::OverlayInt;
 use mesh_num::shape::buffer::{FlatContoursBuffer, IntShapes};

@@ -16,10 +16,10 @@ ghost use Rattle.mesh_draw.specs.Padding.{ArePathsSafe};
 ghost use Rattle.mesh_draw.specs.Adding.{answer_edges};
 ghost use Rattle.mesh_outline.specs.Resolved.{fill_for, DoAreasFit, IsAnswerAlone, Gives, Give};
 
-use mesh_draw::error::IntOutlineError;
 use crate::outline::area::{check_areas, double_area};
 use crate::outline::builder::OutlineBuilder;
 use mesh_below::below::{FillRule, IntOverlayOptions, Overlay, OverlayRule};
+use mesh_draw::error::IntOutlineError;
 use mesh_join::style::IntOutlineStyle;
 use mesh_num::num::{IntNumber, IntPoint};
 use mesh_num::shape::buffer::IntShapes;
