@@ -1,24 +1,19 @@
 -- Lemmas over points and lists: split segments and answers of safe edges are safe.
-use Rattle.std.proofs.Common.{◌≡◌, ⊎_elim, ℕ, ◌+◌, ◌<◌, length, get_or, Bool, true, false, cond, not, ◌&&◌, List, [], ◌∷◌, map, reverse, refl, sym, subst, arith}
-use Rattle.std.specs.Prelude.{ℤ, ◌≤ℤ◌, ◌<ℤ◌}
+use Rattle.std.proofs.Common.{◌≡◌, ℕ, ◌+◌, ◌<◌, length, get_or, Bool, true, false, cond, not, ◌&&◌, List, [], ◌∷◌, map, reverse, sym, subst}
+use Rattle.std.specs.Prelude.{ℤ}
 use Rattle.std.specs.List.{All, filter, flat_map, enumerate_from}
-use Rattle.std.proofs.lemmas.Bool.{false≢true, or_cases}
-use Rattle.std.proofs.lemmas.Int.{ints, by_lt_z}
 use Rattle.std.proofs.lemmas.List.{get_or-map}
-use Rattle.std.proofs.lemmas.List.Elements.{All-nil, All-cons, All-head, All-tail, All-append, All-filter}
+use Rattle.std.proofs.lemmas.List.Elements.{All-nil, All-cons, All-head, All-tail, All-filter}
 use Rattle.std.proofs.lemmas.List.Sorted.{All-permutation, IsPermutation-reverse}
-use Rattle.mesh_plane.specs.Bounds.{IsSmall, IsSafe}
+use Rattle.mesh_plane.specs.Bounds.{IsSafe}
 use Rattle.mesh_plane.specs.Plane.{Point, Edge}
 use Rattle.mesh_plane.specs.Winding.{route, boundary}
 use Rattle.mesh_cuts.specs.Boundary.{IsBoundary}
 use Rattle.mesh_shapes.specs.Contours.{is_corner, first_or, corners, vertices, reversed}
 use Rattle.mesh_cuts.specs.Reach.{AreEdgesSafe, ArePointsSafe}
 use Rattle.mesh_shapes.specs.Resolution.{Choices, Ring, Placed, ring_of, is_large, is_head, stands_with, shape_of, answered, AreArranged, IsResolution}
-use Rattle.mesh_cuts.specs.Split.{back, same_ends, occurs, IsBetween, IsInBox, Cut, pieces, cut, after, IsLegal}
+use Rattle.mesh_cuts.specs.Split.{occurs, after}
 use Rattle.mesh_regions.proofs.BoundaryFill.{boundary_cover}
-use Rattle.mesh_cuts.proofs.KeptByCuts.{Boxed, cut_box}
-use Rattle.mesh_cuts.proofs.SoundCuts.{legal_boxed}
-use Rattle.mesh_cuts.proofs.Ends.{decides_ends}
 use Rattle.mesh_shapes.proofs.Groups.{length_map}
 use Rattle.mesh_below.proofs.Resolving.{all_left, all_right, all_occurs}
 use Rattle.mesh_cuts.proofs.SafeCuts.{IsSafeEdge, occurs_safe, split_safe}

@@ -40,9 +40,6 @@ starts_at xs ys i d h k e =
 abbrev sums : (Point → ℤ) → List Edge → ℤ
 sums g es = sum_of (λ (e : Edge). g e.0) es
 
-head_first : (x : Edge) (xs : List Edge) → StartsInOrder (x ∷ xs) → All (λ (e : Edge). point_lt e.0 x.0 ≡ false) xs
-head_first x xs h k d low = h 0 (suc k) d (omega arith) (omega arith)
-
 rest_ordered : (x : Edge) (xs : List Edge) → StartsInOrder (x ∷ xs) → StartsInOrder xs
 rest_ordered x xs h i j d le low = h (suc i) (suc j) d (omega arith) (omega arith)
 

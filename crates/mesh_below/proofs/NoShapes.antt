@@ -12,7 +12,7 @@ use Rattle.mesh_plane.specs.Winding.{route, boundary}
 use Rattle.mesh_cuts.specs.Boundary.{IsBoundary}
 use Rattle.mesh_shapes.specs.Contours.{IsBegun}
 use Rattle.mesh_shapes.specs.Resolution.{Choices, Ring, ring_of, is_large, answered, shapes_of, AreArranged, IsResolution}
-use Rattle.mesh_cuts.specs.Split.{same_ends, occurs, Cut, cut, after}
+use Rattle.mesh_cuts.specs.Split.{same_ends, occurs}
 use Rattle.mesh_regions.proofs.BoundaryFill.{boundary_cover}
 use Rattle.mesh_cuts.proofs.Ends.{ends_self}
 use Rattle.mesh_cuts.proofs.KeptByCuts.{after_none}

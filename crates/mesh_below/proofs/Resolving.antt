@@ -1,11 +1,11 @@
 -- Lemmas over lists: the rings of contours, and the whole way from edges to shapes.
-use Rattle.std.proofs.Common.{◌≡◌, ℕ, ◌+◌, ◌<◌, ◌≤◌, ◌^◌, ◌||◌, Bool, true, false, cond, List, [], ◌∷◌, ◌++◌, map, length, take, get_or, zero, suc, refl, sym, ◌∙◌, ap, subst, arith}
+use Rattle.std.proofs.Common.{◌≡◌, ℕ, ◌+◌, ◌<◌, ◌^◌, ◌||◌, Bool, true, false, cond, List, [], ◌∷◌, ◌++◌, map, length, take, get_or, zero, suc, sym, ◌∙◌, ap, subst, arith}
 use Rattle.std.specs.Prelude.{ℤ, pos, ◌+ℤ◌, Vec}
 use Rattle.std.specs.List.{All, filter, flat_map}
 use Rattle.std.specs.declared.alloc.Global.{Global}
 use Rattle.std.proofs.lemmas.Bool.{or_right}
 use Rattle.std.proofs.lemmas.Grind.{flat_map-append}
-use Rattle.std.proofs.lemmas.List.{append-nil, map-append, take_more, take_all}
+use Rattle.std.proofs.lemmas.List.{append-nil, map-append, take_more}
 use Rattle.std.proofs.lemmas.List.Elements.{All-nil, All-cons, All-head, All-tail, All-push, filter-append}
 use Rattle.mesh_plane.proofs.Sums.{sum_of_append}
 use Rattle.mesh_plane.specs.Bounds.{IsSafe}
@@ -30,15 +30,6 @@ use Rattle.mesh_shapes.specs.Unused.{contour_edges}
 ring_is : (all : Bool) (given : List Point) (r : Held) → (k : IsRingOf all given (view r)) → ring_of all k.contour ≡ view r
 ring_is all given r k i = (sym k.vertices_are i, sym k.side_is i)
 
-pub push_none : (all : Bool) (least : ℕ) (given : List Point) (r : Held) (old : List Held) → IsRingOf all given (view r) → is_large least (view r) ≡ false → PushesRing all least given old old
-push_none all least given r old k small = record {
-  contour = k.contour;
-  same = k.same;
-  begun = k.begun;
-  rings_are = sym (append-nil (views old)) ∙ sym (λ i. views old ++ cond ((ap (is_large least) (ring_is all given r k) ∙ small) i) (ring_of all k.contour ∷ []) []);
-  sides_small = λ (h : All (λ (s : Held). IsSafe (2 ^ 33) s.1) old). h;
-}
-
 pub push_one : (all : Bool) (least : ℕ) (given : List Point) (r : Held) (old new : List Held) → IsRingOf all given (view r) → IsSafe (2 ^ 33) r.1 → is_large least (view r) ≡ true →
     new ≡ old ++ (r ∷ []) → PushesRing all least given old new
 push_one all least given r old new k safe large e = record {
@@ -54,19 +45,6 @@ push_one all least given r old new k safe large e = record {
 }
 
 -- ---- the rings of contours
-pub rings_none : (all : Bool) (least : ℕ) (given : List (Vec Point Global)) (rings : List Held) → rings ≡ [] → AreRingsOf all least (take 0 given) rings
-rings_none all least given rings e = record {
-  contours = [];
-  same = λ (f : Edge → ℤ). sym (ap (λ (cs : List (Vec Point Global)). sum_of f (contour_edges cs)) (none given));
-  begun = All-nil (IsBegun all);
-  rings_are = ap views e;
-  sides_small = subst (λ (l : List Held). All (λ (s : Held). IsSafe (2 ^ 33) s.1) l) (sym e) (All-nil (λ (s : Held). IsSafe (2 ^ 33) s.1));
-}
-  where
-    none : (cs : List (Vec Point Global)) → take 0 cs ≡ []
-    none [] = refl
-    none (c ∷ cs) = refl
-
 pub rings_more : (all : Bool) (least : ℕ) (given : List (Vec Point Global)) (i : ℕ) (d : Vec Point Global) (old new : List Held) → i < length given →
     AreRingsOf all least (take i given) old → PushesRing all least (get_or given i d).items old new → AreRingsOf all least (take (i + 1) given) new
 rings_more all least given i d old new low k p = record {
@@ -98,9 +76,6 @@ rings_more all least given i d old new low k p = record {
         ∙ (sym (sum_of_append f (contour_edges (take i given)) (contour_edges (c ∷ [])))
         ∙ (ap (sum_of f) (sym (flat_map-append (λ (v : Vec Point Global). boundary v.items) (take i given) (c ∷ [])))
         ∙ ap (λ (cs : List (Vec Point Global)). sum_of f (contour_edges cs)) (sym (take_more given i d low))))))
-
-pub rings_all : (all : Bool) (least : ℕ) (given : List (Vec Point Global)) (n : ℕ) (rings : List Held) → length given ≤ n → AreRingsOf all least (take n given) rings → AreRingsOf all least given rings
-rings_all all least given n rings h = subst (λ (cs : List (Vec Point Global)). AreRingsOf all least cs rings) (take_all n given h)
 
 -- ---- what holds of all edges of contours holds of those of one
 pub all_left : {X : Type 0} (P : X → Type 0) (xs ys : List X) → All P (xs ++ ys) → All P xs

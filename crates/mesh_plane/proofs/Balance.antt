@@ -22,6 +22,7 @@ growth g p r = g r -ℤ g p
 pub growth_odd : (g : Point → ℤ) → IsOdd (growth g)
 growth_odd g p r = omega (arith, linear)
 
+-- for joins whose points divide an edge
 pub growth_straight : (g : Point → ℤ) → IsStraight (growth g)
 growth_straight g p r s e = omega (arith, linear)
 
@@ -66,14 +67,6 @@ boundary_balanced xs = balanced_by_growth (boundary xs) (λ g. growth_round g xs
 
 pub balanced_append : (es gs : List Edge) → IsBalanced es → IsBalanced gs → IsBalanced (es ++ gs)
 balanced_append es gs h k p =
-    omega (arith, h p, k p, sum_by-append (λ (e : Edge). cond (same_point p e.0) 1 0) es gs, sum_by-append (λ (e : Edge). cond (same_point p e.1) 1 0) es gs)
-
-pub balanced_rest : (es gs : List Edge) → IsBalanced (es ++ gs) → IsBalanced es → IsBalanced gs
-balanced_rest es gs h k p =
-    omega (arith, h p, k p, sum_by-append (λ (e : Edge). cond (same_point p e.0) 1 0) es gs, sum_by-append (λ (e : Edge). cond (same_point p e.1) 1 0) es gs)
-
-pub balanced_start : (es gs : List Edge) → IsBalanced (es ++ gs) → IsBalanced gs → IsBalanced es
-balanced_start es gs h k p =
     omega (arith, h p, k p, sum_by-append (λ (e : Edge). cond (same_point p e.0) 1 0) es gs, sum_by-append (λ (e : Edge). cond (same_point p e.1) 1 0) es gs)
 
 pub balanced_permutation : (es gs : List Edge) → IsPermutation es gs → IsBalanced es → IsBalanced gs

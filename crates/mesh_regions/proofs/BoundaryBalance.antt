@@ -168,10 +168,6 @@ flat_lift q s flat =
     ∙ level_below_none (pos 2 *ℤ s.1.1) q.1 (turn (scale (pos 2) s.0) (scale (pos 2) s.1) q) in
     omega (arith, linear, none, none_below)
 
--- no even number is odd
-odd_apart : (x z : ℤ) → (pos 2 *ℤ x) +ℤ pos 1 ≡ pos 2 *ℤ z → ⊥
-odd_apart x z e = absurd (omega (arith, ints))
-
 lifted_of : (x y : ℤ) (s : Edge) → Leans s → Lifted ((pos 2 *ℤ x) +ℤ pos 1, pos 2 *ℤ y) s
 lifted_of x y s (inl up) =
     level_with (lift_up ((pos 2 *ℤ x) +ℤ pos 1, pos 2 *ℤ y) (scale (pos 2) s.0) (scale (pos 2) s.1) (twice_less s.0.1 s.1.1 up))

@@ -1,16 +1,15 @@
 -- Lemmas over points and lists: along one line that meets segments inside, a function of the winding gains at each segment
 -- what it gains from one side to the other.
 use Rattle.std.proofs.Common.{◌≡◌, ◌⊎◌, inl, inr, Bool, true, false, cond, List, [], ◌∷◌, refl, sym, ◌∙◌, ap, subst, arith}
-use Rattle.std.specs.Prelude.{ℤ, pos, neg_ℤ, ◌+ℤ◌, ◌-ℤ◌, ◌*ℤ◌, ◌≤ℤ◌, ◌<ℤ◌, int_lt}
+use Rattle.std.specs.Prelude.{ℤ, pos, ◌+ℤ◌, ◌-ℤ◌, ◌*ℤ◌, ◌≤ℤ◌, ◌<ℤ◌, int_lt}
 use Rattle.std.proofs.lemmas.Int.{ints, by_lt_z}
 use Rattle.std.proofs.lemmas.Bool.{or_parts, or_right}
 use Rattle.mesh_plane.specs.Plane.{Point, Edge, turn}
 use Rattle.mesh_plane.specs.Winding.{sum_of, crossing_of, crossing, IsBalanced}
 use Rattle.mesh_plane.proofs.Whole.{linear, mul_pos, mul_nonneg_nonpos}
 use Rattle.mesh_plane.proofs.Ring.{ring, var, lit, ◌⊕◌, ◌⊖◌, ◌⊗◌}
-use Rattle.mesh_plane.proofs.Crossings.{crossing_odd}
 use Rattle.mesh_cuts.specs.Clean.{IsOn, IsClean, IsProper}
-use Rattle.mesh_cuts.specs.Split.{back, same_ends, occurs}
+use Rattle.mesh_cuts.specs.Split.{same_ends, occurs}
 use Rattle.mesh_cuts.specs.Counted.{net}
 use Rattle.mesh_cuts.specs.Boundary.{middle, winding_beside}
 use Rattle.mesh_regions.proofs.Line.{past, past_yes, past_none, beyond, steps, Free, Scattered, telescope}

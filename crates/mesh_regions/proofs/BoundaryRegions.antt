@@ -1,5 +1,5 @@
 -- Lemmas over points and lists: the segments have the winding of the given edges at every point in the box of no bent edge.
-use Rattle.std.proofs.Common.{◌≡◌, ⊎_elim, Bool, true, false, cond, not, List, [], ◌∷◌, ◌++◌, refl, sym, ◌∙◌, ap, subst, arith, append_assoc}
+use Rattle.std.proofs.Common.{◌≡◌, ⊎_elim, Bool, true, false, cond, not, List, [], ◌∷◌, ◌++◌, refl, sym, ◌∙◌, ap, subst, arith}
 use Rattle.std.specs.Prelude.{ℤ, pos, ◌+ℤ◌, ◌-ℤ◌, ◌*ℤ◌, ◌≤ℤ◌, ◌<ℤ◌}
 use Rattle.std.specs.Ordering.{int_eq}
 use Rattle.std.specs.List.{list_any}
@@ -7,19 +7,16 @@ use Rattle.std.proofs.lemmas.Int.{ints, by_lt_z}
 use Rattle.std.proofs.lemmas.Bool.{cases_Bool, or_parts, or_right}
 use Rattle.std.proofs.lemmas.Bool.Decides.{Decides-int_eq}
 use Rattle.mesh_plane.specs.Plane.{Point, Edge, turn}
-use Rattle.mesh_plane.specs.Winding.{crossing, total, IsBalanced}
+use Rattle.mesh_plane.specs.Winding.{crossing}
 use Rattle.mesh_plane.proofs.Whole.{linear, mul_pos, mul_nonneg, mul_pos_neg, mul_nonneg_nonpos, mul_neg_pos, mul_nonpos, mul_nonpos_nonneg, pos_of_mul, neg_of_mul, nonpos_of_mul, nonneg_of_mul, mul_le_mul_left, factor}
 use Rattle.mesh_plane.proofs.Ring.{ring, var, lit, ◌⊕◌, ◌⊖◌, ◌⊗◌}
 use Rattle.mesh_plane.proofs.Crossings.{crossing_low, crossing_high, turn_flip}
 use Rattle.mesh_plane.proofs.Sums.{total_append}
-use Rattle.mesh_plane.proofs.Balance.{growth, growth_of_balanced, balanced_by_growth}
-use Rattle.mesh_cuts.specs.Split.{back, same_ends, occurs, IsInBox, IsBetween, Cut, pieces, cut, after, path}
+use Rattle.mesh_cuts.specs.Split.{same_ends, occurs, IsInBox, IsBetween, Cut, cut, after, path}
 use Rattle.mesh_regions.specs.Regions.{is_bent}
-use Rattle.mesh_cuts.proofs.Ends.{decides_ends}
 use Rattle.mesh_plane.proofs.Places.{place, coordinates, turned, scaled}
 use Rattle.mesh_regions.proofs.SidesPotential.{above, crosses_west, crosses_east}
 use Rattle.mesh_plane.proofs.Grids.{scale, winds}
-use Rattle.mesh_cuts.proofs.Each.{Each}
 use Rattle.mesh_regions.proofs.SidesClear.{turn_end}
 use Rattle.mesh_cuts.proofs.Keys.{occurs_head}
 use Rattle.mesh_cuts.proofs.KeptByCuts.{Boxed, after_append, box_first, box_last, box_trans, cut_box}

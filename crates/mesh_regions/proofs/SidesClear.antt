@@ -1,16 +1,15 @@
 -- Lemmas over points and lists: segments that share only ends keep clear of one another's insides.
-use Rattle.std.proofs.Common.{◌≡◌, ℕ, ◌<◌, ◌⊎◌, inl, inr, ⊎_elim, true, false, ◌||◌, List, [], ◌∷◌, refl, sym, ◌∙◌, ap, subst, arith}
+use Rattle.std.proofs.Common.{◌≡◌, ℕ, ◌<◌, ◌⊎◌, inl, inr, ⊎_elim, true, false, List, [], ◌∷◌, refl, sym, ap, subst, arith}
 use Rattle.std.specs.Prelude.{ℤ, pos, negsuc, neg_ℤ, ◌+ℤ◌, ◌-ℤ◌, ◌*ℤ◌, ◌≤ℤ◌, ◌<ℤ◌}
-use Rattle.std.proofs.lemmas.Bool.{both_ways, cases_Bool, or_right}
+use Rattle.std.proofs.lemmas.Bool.{cases_Bool}
 use Rattle.std.proofs.lemmas.Int.{ints, by_lt_z}
 use Rattle.mesh_plane.specs.Plane.{Point, Edge, turn}
-use Rattle.mesh_plane.specs.Winding.{same_point}
 use Rattle.mesh_plane.proofs.Whole.{linear, factor, mul_nonneg, mul_nonneg_nonpos, le_of_mul_le_mul}
 use Rattle.mesh_plane.proofs.Ring.{ring, var, lit, neg, ◌⊕◌, ◌⊖◌, ◌⊗◌}
 use Rattle.mesh_plane.proofs.Crossings.{turn_flip}
 use Rattle.mesh_cuts.specs.Clean.{IsOn, refined_edge, IsClean, IsProper}
 use Rattle.mesh_cuts.specs.Split.{back, same_ends, occurs, IsBetween}
-use Rattle.mesh_cuts.proofs.Ends.{decides_point, decides_ends, decides_end, ends_self}
+use Rattle.mesh_cuts.proofs.Ends.{decides_ends, decides_end}
 use Rattle.mesh_plane.proofs.Places.{place, coordinates, turned, scaled}
 use Rattle.mesh_plane.proofs.Grids.{scale, part}
 use Rattle.mesh_regions.proofs.SidesConstant.{Clear, on_left, on_right, ahead, behind, along, ClearOf}

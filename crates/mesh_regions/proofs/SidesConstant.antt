@@ -3,7 +3,7 @@ use Rattle.std.proofs.Common.{◌≡◌, List, [], ◌∷◌, refl, sym, ◌∙�
 use Rattle.std.specs.Prelude.{ℤ, pos, neg_ℤ, ◌+ℤ◌, ◌-ℤ◌, ◌*ℤ◌, ◌≤ℤ◌, ◌<ℤ◌}
 use Rattle.std.proofs.lemmas.Int.{ints, by_lt_z}
 use Rattle.mesh_plane.specs.Plane.{Point, Edge, turn}
-use Rattle.mesh_plane.specs.Winding.{crossing, total, IsBalanced}
+use Rattle.mesh_plane.specs.Winding.{total, IsBalanced}
 use Rattle.mesh_plane.proofs.Whole.{linear, mul_nonneg, mul_pos, mul_pos_neg, mul_neg}
 use Rattle.mesh_plane.proofs.Ring.{ring, var, ◌⊕◌, ◌⊖◌, ◌⊗◌, lit}
 use Rattle.mesh_plane.proofs.Crossings.{turn_flip}

@@ -1,5 +1,5 @@
 -- Lemmas over points and lists: where a contour begins, and the next vertices of the visits of its least point.
-use Rattle.std.proofs.Common.{◌≡◌, ℕ, ◌+◌, ◌<◌, ◌≤◌, ◌⊎◌, inl, inr, ⊎_elim, zero, suc, Bool, true, false, cond, not, ◌||◌, ◌&&◌, List, [], ◌∷◌, ◌++◌, length, drop, take, append-nil, below_more, refl, sym, ◌∙◌, ap, subst, arith}
+use Rattle.std.proofs.Common.{◌≡◌, ℕ, ◌+◌, ◌<◌, ◌⊎◌, inl, inr, ⊎_elim, zero, suc, Bool, true, false, cond, not, ◌||◌, ◌&&◌, List, [], ◌∷◌, ◌++◌, length, drop, take, append-nil, below_more, refl, sym, ◌∙◌, ap, subst, arith}
 use Rattle.std.specs.Prelude.{ℤ, pos, neg_ℤ, ◌+ℤ◌, ◌-ℤ◌, ◌*ℤ◌, ◌≤ℤ◌, ◌<ℤ◌, int_lt}
 use Rattle.std.specs.Ordering.{int_eq}
 use Rattle.std.specs.List.{All}
@@ -96,12 +96,6 @@ least_corner a p n la ln da dn =
         ∙ less_true (dot (minus p a) (minus p n)) (same_way (minus p a).0 (minus p a).1 (minus p n).0 (minus p n).1 (leads_less p a la da) (leads_less p n ln dn) (f t))
     by_cross f (inr t) = ap (λ (b : Bool). not b || int_lt (pos 0) (dot (minus p a) (minus p n))) t
 
--- ---- kept points, one at a time
-pub kept_step : (all : Bool) (a x : Point) (xs : List Point) (z : Point) →
-    kept all a (x ∷ xs) z ≡ cond (all || is_corner a x (first_or z xs)) (x ∷ kept all x xs z) (kept all x xs z)
-kept_step true a x xs z = refl
-kept_step false a x xs z = refl
-
 -- ---- a contour that comes by its least point `p` again
 abbrev last_by : Point → List Point → Point
 last_by a [] = a
@@ -133,10 +127,6 @@ VisitsLeast all p m (y ∷ ys) = (y ≡ p → point_lt (next_kept all y ys p) m 
 -- the points are not less than `p`
 abbrev NoneLess : Point → List Point → Type 0
 NoneLess p xs = Each (λ (q : Point). point_lt q p ≡ false) xs
-
-none_less_append : (p : Point) (xs ys : List Point) → NoneLess p (xs ++ ys) → NoneLess p xs × NoneLess p ys
-none_less_append p [] ys h = (tt, h)
-none_less_append p (x ∷ xs) ys h = let r = none_less_append p xs ys h.1 in ((h.0, r.0), r.1)
 
 first_less : (p : Point) (ys : List Point) → NoneLess p ys → point_lt (first_or p ys) p ≡ false
 first_less p [] h = lt_self p
@@ -412,34 +402,6 @@ ring_made all given c₀ c₁ vs side j i proper least first best second v s = r
 -- ---- steps of the loops over a contour
 pub at_place : (c : List Point) (i : ℕ) → i < length c → drop i c ≡ point_at c i ∷ drop (i + 1) c
 at_place c i h = drop-cons c i (pos 0, pos 0) h ∙ (let e : suc i ≡ i + 1 = omega arith in ap (λ (n : ℕ). point_at c i ∷ drop n c) e)
-
-pub kept_place : (all : Bool) (before z : Point) (c : List Point) (i : ℕ) (b : Bool) → i < length c →
-    b ≡ (all || is_corner before (point_at c i) (first_or z (drop (i + 1) c))) →
-    kept all before (drop i c) z ≡ cond b (point_at c i ∷ kept all (point_at c i) (drop (i + 1) c) z) (kept all (point_at c i) (drop (i + 1) c) z)
-kept_place all before z c i b low h =
-    ap (λ (l : List Point). kept all before l z) (at_place c i low)
-    ∙ (kept_step all before (point_at c i) (drop (i + 1) c) z
-    ∙ ap (λ (x : Bool). cond x (point_at c i ∷ kept all (point_at c i) (drop (i + 1) c) z) (kept all (point_at c i) (drop (i + 1) c) z)) (sym h))
-
-pub least_init : (c : List Point) → 0 < length c → IsLeastBefore c 0 0
-least_init c h = record { within = h; none_less = λ (k : ℕ) (l : k < 0). absurd (omega arith) }
-
-pub visit_init : (all : Bool) (c : List Point) → 0 < length c → IsBestVisit all c 0 0
-visit_init all c h = record { within = h; visit = refl; least = λ (k : ℕ) (l : k < 0). absurd (omega arith) }
-
--- what is kept of no points
-pub kept_none : (all : Bool) (a z : Point) (c : List Point) (n : ℕ) → length c ≤ n → kept all a (drop n c) z ≡ []
-kept_none all a z c n h = ap (λ (l : List Point). kept all a l z) (drop_past c n h) ∙ by all
-  where
-    drop_past : (c : List Point) (n : ℕ) → length c ≤ n → drop n c ≡ []
-    drop_past [] zero h = refl
-    drop_past [] (suc n) h = refl
-    drop_past (x ∷ c) zero h = absurd (omega arith)
-    drop_past (x ∷ c) (suc n) h = drop_past c n (omega arith)
-
-    by : (b : Bool) → kept b a [] z ≡ []
-    by true = refl
-    by false = refl
 
 -- a better visit, or none
 pub visit_same : (all : Bool) (c : List Point) (i best : ℕ) → IsBestVisit all c i best → (point_at c i ≡ point_at c 0 → point_lt (next_at all c i) (next_at all c best) ≡ false) →

@@ -29,9 +29,6 @@ use Rattle.mesh_cuts.proofs.SidesBack.{count_more}
 lt_test : (a b : ℤ) → int_lt a b ≡ true → a <ℤ b
 lt_test a b h = grind (arith, ints)
 
-ge_test : (a b : ℤ) → int_lt a b ≡ false → b ≤ℤ a
-ge_test a b h = grind (arith, ints)
-
 test_lt : (a b : ℤ) → a <ℤ b → int_lt a b ≡ true
 test_lt a b h = grind (arith, ints)
 
@@ -406,17 +403,6 @@ pub walk_smaller : (es : List Edge) (now : List Bool) (first k : ℕ) (at : Poin
 walk_smaller es now first k at next other =
     ⊎_elim (λ (h : get_or now k true ≡ false). omega (arith, unused_length es now k next.within h)) (λ (h : k ≡ first). absurd (other h)) next.open'
 
--- back on its first edge the walk is closed
-pub walk_closed : (es : List Edge) (was now : List Bool) (first k : ℕ) (points : List Point) (at : Point) → IsWalk es was now first points at → IsNext es now first at k → k ≡ first →
-    (g : Edge → ℤ) → sum_of g (unused es was) ≡ sum_of g (boundary points) +ℤ sum_of g (unused es now)
-walk_closed es was now first k points at w next same g =
-    w.walked g
-    ∙ (λ i. sum_of g (route w.start w.rest (back i)) +ℤ sum_of g (unused es now))
-    ∙ ap (λ (l : List Point). sum_of g (boundary l) +ℤ sum_of g (unused es now)) (sym w.points_are)
-  where
-    back : at ≡ w.start
-    back = sym (next.starts (at, at)) ∙ (ap (λ (i : ℕ). (get_or es i (at, at)).0) same ∙ w.begins (at, at))
-
 -- a walk along balanced edges finds an edge to go on
 pub walk_goes_on : (es : List Edge) (was now : List Bool) (first : ℕ) (points : List Point) (at : Point) → first < length es → IsBalanced (unused es was) →
     IsWalk es was now first points at → ((k : ℕ) → IsNext es now first at k → ⊥) → ⊥
@@ -452,16 +438,6 @@ takes_one es was now old new c first balanced closed kept marked has are = recor
   kept = kept;
   marked = marked;
   have_points = λ (h : HavePoints old). subst HavePoints (sym are) (All-push (λ (v : Vec Point Global). 0 < length v.items) old c h has);
-}
-
-pub takes_none : (es : List Edge) (was : List Bool) (old : List (Vec Point Global)) (first : ℕ) → IsBalanced (unused es was) → get_or was first true ≡ true →
-    TakesContours es was was old old first
-takes_none es was old first balanced marked = record {
-  same = λ (g : Edge → ℤ). refl;
-  balanced = balanced;
-  kept = λ (k : ℕ) (h : get_or was k true ≡ true). h;
-  marked = marked;
-  have_points = λ (h : HavePoints old). h;
 }
 
 -- the contours so far, of the edges before `first` all

@@ -127,13 +127,6 @@ puts_turned todo live todo' live' k p = record {
   live_ends = p.live_ends;
 }
 
-pub turned_proper : (e : Edge) → same_point e.0 e.1 ≡ false → same_point e.1 e.0 ≡ false
-turned_proper e h =
-    ⊎_elim
-    (λ (t : same_point e.1 e.0 ≡ true). absurd (both_ways _ h ((decides_point e.0 e.1).1 (sym ((decides_point e.1 e.0).0 t)))))
-    (λ (f : same_point e.1 e.0 ≡ false). f)
-    (cases_Bool (same_point e.1 e.0))
-
 -- ---- the pieces of a cut
 
 pub first_proper : (c : Point) (e : Edge) → is_end c e ≡ false → same_point e.0 c ≡ false

@@ -64,9 +64,6 @@ at_from xs i d e h t = record {
   ends = λ k. ap (λ (x : Counted). x.0) (get_or_default xs i k d h) ∙ (decides_edge (get_or xs i d).0 e).0 t;
 }
 
-pub clear_none : (s : Edge) → IsClearOf s []
-clear_none s = λ f some. absurd (omega (arith, ints))
-
 -- ---- a segment at a place
 
 pub at_stands : (xs : List Counted) (i : ℕ) (e : Edge) → IsAt xs i e → pos 0 <ℤ exactly e xs
