@@ -15,10 +15,9 @@ use Rattle.mesh_shapes.specs.Resolution.{Choices, Ring, Placed, ring_of, is_larg
 use Rattle.mesh_cuts.specs.Split.{occurs, after}
 use Rattle.mesh_regions.proofs.BoundaryFill.{boundary_cover}
 use Rattle.mesh_shapes.proofs.Groups.{length_map}
-use Rattle.mesh_below.proofs.Resolving.{all_left, all_right, all_occurs}
+use Rattle.mesh_below.proofs.Resolving.{all_occurs}
 use Rattle.mesh_cuts.proofs.SafeCuts.{IsSafeEdge, occurs_safe, split_safe}
-
--- ---- points in the box of a safe edge
+use Rattle.mesh_plane.proofs.ClosedLists.{all_left, all_right}
 
 -- ---- split segments
 

@@ -26,12 +26,6 @@ use Rattle.mesh_cuts.proofs.Each.{proper_of, each_of}
 use Rattle.mesh_cuts.proofs.Each.{Each}
 use Rattle.mesh_regions.proofs.Inside.{boundary_winds}
 
--- ---- a point inside a segment as a part of the way from end to end
-
--- ---- inside means between the ends
-
--- ---- boundaries
-
 -- ---- contours
 
 each_left : (xs ys : List Edge) → Each Proper (xs ++ ys) → Each Proper xs

@@ -15,9 +15,9 @@ use Rattle.mesh_plane.proofs.Whole.{linear}
 use Rattle.mesh_cuts.specs.Counted.{bit}
 use Rattle.mesh_cuts.specs.Split.{back}
 use Rattle.mesh_shapes.specs.Unused.{StartsInOrder}
-use Rattle.mesh_cuts.proofs.Ends.{decides_point}
 use Rattle.mesh_plane.proofs.Sums.{sum_least}
 use Rattle.mesh_shapes.proofs.Walking.{Before, of_before, three_ways}
+use Rattle.mesh_plane.proofs.Comparing.{decides_point}
 
 -- ---- elements tested one by one
 pub all_more : {X : Type 0} (P : X → Type 0) (xs : List X) (i : ℕ) (d : X) → i < length xs → All P (take i xs) → P (get_or xs i d) → All P (take (i + 1) xs)

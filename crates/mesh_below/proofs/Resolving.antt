@@ -6,7 +6,7 @@ use Rattle.std.specs.declared.alloc.Global.{Global}
 use Rattle.std.proofs.lemmas.Bool.{or_right}
 use Rattle.std.proofs.lemmas.Grind.{flat_map-append}
 use Rattle.std.proofs.lemmas.List.{append-nil, map-append, take_more}
-use Rattle.std.proofs.lemmas.List.Elements.{All-nil, All-cons, All-head, All-tail, All-push, filter-append}
+use Rattle.std.proofs.lemmas.List.Elements.{All-nil, All-cons, All-push, filter-append}
 use Rattle.mesh_plane.proofs.Sums.{sum_of_append}
 use Rattle.mesh_plane.specs.Bounds.{IsSafe}
 use Rattle.mesh_plane.specs.Plane.{Point, Edge}
@@ -25,6 +25,7 @@ use Rattle.mesh_shapes.specs.Resolution.{Choices, Ring, ring_of, is_large, AreAr
 use Rattle.mesh_cuts.specs.Split.{occurs, after, same_ends}
 use Rattle.mesh_cuts.specs.Splitting.{IsSplitting}
 use Rattle.mesh_shapes.specs.Unused.{contour_edges}
+use Rattle.mesh_plane.proofs.ClosedLists.{all_left, all_right}
 
 -- ---- the ring of one contour
 ring_is : (all : Bool) (given : List Point) (r : Held) → (k : IsRingOf all given (view r)) → ring_of all k.contour ≡ view r
@@ -78,14 +79,6 @@ rings_more all least given i d old new low k p = record {
         ∙ ap (λ (cs : List (Vec Point Global)). sum_of f (contour_edges cs)) (sym (take_more given i d low))))))
 
 -- ---- what holds of all edges of contours holds of those of one
-pub all_left : {X : Type 0} (P : X → Type 0) (xs ys : List X) → All P (xs ++ ys) → All P xs
-all_left P [] ys h = All-nil P
-all_left P (x ∷ xs) ys h = All-cons P x xs (All-head P x (xs ++ ys) h) (all_left P xs ys (All-tail P x (xs ++ ys) h))
-
-pub all_right : {X : Type 0} (P : X → Type 0) (xs ys : List X) → All P (xs ++ ys) → All P ys
-all_right P [] ys h = h
-all_right P (x ∷ xs) ys h = all_right P xs ys (All-tail P x (xs ++ ys) h)
-
 pub of_one : (P : Edge → Type 0) (cs : List (Vec Point Global)) (i : ℕ) (d : Vec Point Global) → i < length cs → All P (contour_edges cs) → All P (boundary (get_or cs i d).items)
 of_one P [] i d low h = absurd (omega arith)
 of_one P (c ∷ cs) zero d low h = all_left P (boundary c.items) (contour_edges cs) h

@@ -40,8 +40,6 @@ no_count s (e ∷ es) h k =
     by true n m z h = absurd (omega (arith, ints))
     by false n m z h = let e : n ≡ 0 = omega (arith, ints) in (refl, e)
 
--- ---- the sides of an edge and of the edge back
-
 -- ---- the boundary's net count at a segment
 
 bare_count : (n k : ℕ) (a b : Bool) → n ≡ cond (true && (a && not b)) 1 0 → k ≡ cond (true && (b && not a)) 1 0 → pos n -ℤ pos k ≡ bit a -ℤ bit b

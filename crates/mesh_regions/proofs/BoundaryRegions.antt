@@ -17,9 +17,10 @@ use Rattle.mesh_regions.specs.Regions.{is_bent}
 use Rattle.mesh_plane.proofs.Places.{place, coordinates, turned, scaled}
 use Rattle.mesh_regions.proofs.SidesPotential.{above, crosses_west, crosses_east}
 use Rattle.mesh_plane.proofs.Grids.{scale, winds}
-use Rattle.mesh_regions.proofs.SidesClear.{turn_end}
 use Rattle.mesh_cuts.proofs.Keys.{occurs_head}
 use Rattle.mesh_cuts.proofs.KeptByCuts.{Boxed, after_append, box_first, box_last, box_trans, cut_box}
+use Rattle.mesh_cuts.proofs.Boxes.{turn_start, turn_end}
+use Rattle.std.proofs.lemmas.Bool.{not-false}
 
 -- the crossings of edges between points with `P` are differences of a number of the point
 pub record Level (m : ℤ) (q : Point) (P : Point → Type 0) : Type 0 where
@@ -273,14 +274,7 @@ straight_chain : (e : Edge) (p r : Point) (es : List Edge) → Chain (IsInBox e)
 straight_chain e p r [] h n = h
 straight_chain e p r (f ∷ es) h n =
     let parts = or_parts (not (int_eq (turn e.0 e.1 f.1) (pos 0))) (list_any (λ (f : Edge). not (int_eq (turn e.0 e.1 f.1) (pos 0))) es) n in
-    (h.0, ((Decides-int_eq (turn e.0 e.1 f.1) (pos 0)).0 (not_false (int_eq (turn e.0 e.1 f.1) (pos 0)) parts.0), straight_chain e f.1 r es h.1.1 parts.1))
-  where
-    not_false : (b : Bool) → not b ≡ false → b ≡ true
-    not_false true h = refl
-    not_false false h = sym h
-
-turn_first : (p r : Point) → turn p r p ≡ pos 0
-turn_first p r = ring (coordinates (p ∷ r ∷ []) []) (turned (place 0) (place 1) (place 0)) (lit (pos 0)) refl
+    (h.0, ((Decides-int_eq (turn e.0 e.1 f.1) (pos 0)).0 (not-false (int_eq (turn e.0 e.1 f.1) (pos 0)) parts.0), straight_chain e f.1 r es h.1.1 parts.1))
 
 -- the path of an edge has the edge's crossing where it is straight, and at points outside its box
 pub path_winds : (ks : List Cut) (e : Edge) (m : ℤ) (q : Point) → Boxed ks → pos 0 <ℤ m → (e.0 ≡ e.1 → ⊥) →
@@ -290,7 +284,7 @@ path_winds ks e m q boxed some differ out =
     (λ (t : is_bent ks e ≡ true).
     chain_winds m q (IsInBox e) (box_level m e q some (out t)) e.0 e.1 (path ks e) (box_first e) (box_last e) (path_chain ks e boxed))
     (λ (f : is_bent ks e ≡ false).
-    chain_winds m q (OnLine e.0 e.1) (line_level m e.0 e.1 q differ) e.0 e.1 (path ks e) (turn_first e.0 e.1) (turn_end e.0 e.1) (straight_chain e e.0 e.1 (path ks e) (path_chain ks e boxed) f))
+    chain_winds m q (OnLine e.0 e.1) (line_level m e.0 e.1 q differ) e.0 e.1 (path ks e) (turn_start e.0 e.1) (turn_end e.0 e.1) (straight_chain e e.0 e.1 (path ks e) (path_chain ks e boxed) f))
     (cases_Bool (is_bent ks e))
 
 -- the segments have the winding of the given edges at every point in the box of no bent edge

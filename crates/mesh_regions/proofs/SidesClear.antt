@@ -16,6 +16,7 @@ use Rattle.mesh_regions.proofs.SidesConstant.{Clear, on_left, on_right, ahead, b
 use Rattle.mesh_cuts.proofs.Each.{Each}
 use Rattle.mesh_cuts.proofs.Each.{each_of, proper_of}
 use Rattle.mesh_plane.proofs.LineTurns.{line_turn}
+use Rattle.mesh_cuts.proofs.Boxes.{turn_start, turn_end, on_back}
 
 -- ---- a number above 0 is a natural one
 
@@ -108,12 +109,6 @@ common a b p r =
     refl in
     λ i. (x i, y i)
 
-pub turn_start : (p r : Point) → turn p r p ≡ pos 0
-turn_start p r = ring (coordinates (p ∷ r ∷ []) []) (turned (place 0) (place 1) (place 0)) (lit (pos 0)) refl
-
-pub turn_end : (p r : Point) → turn p r r ≡ pos 0
-turn_end p r = ring (coordinates (p ∷ r ∷ []) []) (turned (place 0) (place 1) (place 1)) (lit (pos 0)) refl
-
 -- ---- clear of each other
 
 -- on every grid, a point on both segments is an end of the first
@@ -121,19 +116,10 @@ pub record Meeting (a b p r : Point) : Type 0 where
   pub at_end : (m : ℤ) → pos 0 <ℤ m → (z : Point) → IsOn (scale m a, scale m b) z → IsOn (scale m p, scale m r) z
       → (z ≡ scale m a) ⊎ (z ≡ scale m b)
 
-between_back : (a z b : ℤ) → IsBetween a z b → IsBetween b z a
-between_back a z b h = record { up = h.down; down = h.up }
-
-pub on_back : (p r z : Point) → IsOn (p, r) z → IsOn (r, p) z
-on_back p r z h = record {
-  on_line = omega (arith, linear, turn_flip p r z, h.on_line);
-  in_box = record { by_x = between_back p.0 z.0 r.0 h.in_box.by_x; by_y = between_back p.1 z.1 r.1 h.in_box.by_y };
-}
-
 pub meeting_back : (a b p r : Point) → Meeting a b p r → Meeting a b r p
 meeting_back a b p r h = record {
   at_end = λ (m : ℤ) (some : pos 0 <ℤ m) (z : Point) (x : IsOn (scale m a, scale m b) z) (y : IsOn (scale m r, scale m p) z).
-      h.at_end m some z x (on_back (scale m r) (scale m p) z y);
+      h.at_end m some z x (on_back (scale m r, scale m p) z y);
 }
 
 clear_back : (a b p r : Point) → Clear a b r p → Clear a b p r

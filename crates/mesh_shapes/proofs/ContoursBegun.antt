@@ -18,10 +18,10 @@ use Rattle.mesh_plane.proofs.ClosedLists.{boundary_rotated}
 use Rattle.mesh_shapes.specs.Contours.{is_corner, first_or, corners, kept, next_kept, vertices, edge_lt, FirstIsLeast, IsBegun, side_point, IsRingOf}
 use Rattle.mesh_cuts.specs.Counted.{bit}
 use Rattle.mesh_shapes.specs.Progress.{point_at, next_at, IsBestVisit, IsLeastBefore}
-use Rattle.mesh_cuts.proofs.Ends.{decides_point}
 use Rattle.mesh_cuts.proofs.Each.{Each, each_more}
 use Rattle.mesh_shapes.proofs.ContoursKept.{Proper}
 use Rattle.mesh_shapes.proofs.Walking.{Before, before_of, of_before, not_before, three_ways, lt_self, from_after, before_trans, before_not_self}
+use Rattle.mesh_plane.proofs.Comparing.{decides_point}
 
 -- ---- corners
 pub corner_yes : (a p n : Point) → (cross (minus p a) (minus p n) ≡ pos 0 → ⊥) → is_corner a p n ≡ true

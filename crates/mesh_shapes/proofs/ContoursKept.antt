@@ -14,6 +14,7 @@ use Rattle.mesh_shapes.specs.Contours.{is_corner, first_or, corners, vertices}
 use Rattle.mesh_plane.proofs.Places.{place, coordinates, turned, crossed, apart}
 use Rattle.mesh_cuts.proofs.Each.{Each}
 use Rattle.mesh_plane.proofs.LineTurns.{line_turn}
+use Rattle.std.proofs.lemmas.Bool.{not-false}
 
 -- the two ends of an edge differ
 abbrev pub Proper : Edge → Type 0
@@ -24,14 +25,10 @@ pub straight_turn : (a p n : Point) → is_corner a p n ≡ false → turn a p n
 straight_turn a p n h =
     let flat : cross (minus p a) (minus p n) ≡ pos 0 =
     (Decides-int_eq (cross (minus p a) (minus p n)) (pos 0)).0
-    (not_false (int_eq (cross (minus p a) (minus p n)) (pos 0)) (or_parts (not (int_eq (cross (minus p a) (minus p n)) (pos 0))) (int_lt (pos 0) (dot (minus p a) (minus p n))) h).0) in
+    (not-false (int_eq (cross (minus p a) (minus p n)) (pos 0)) (or_parts (not (int_eq (cross (minus p a) (minus p n)) (pos 0))) (int_lt (pos 0) (dot (minus p a) (minus p n))) h).0) in
     let same : turn a p n ≡ neg_ℤ (cross (minus p a) (minus p n)) =
     ring (coordinates (a ∷ p ∷ n ∷ []) []) (turned (place 0) (place 1) (place 2)) (neg (crossed (apart (place 1) (place 0)) (apart (place 1) (place 2)))) refl in
     omega (arith, linear, same, flat)
-  where
-    not_false : (b : Bool) → not b ≡ false → b ≡ true
-    not_false true h = refl
-    not_false false h = sym h
 
 -- `k` is `a`, or on a line with `a` and the next point
 abbrev Onward : Point → Point → Point → Type 0

@@ -1,9 +1,8 @@
 -- Lemmas over points and lists: rings in order, and where each of them belongs.
-use Rattle.std.proofs.Common.{◌≡◌, ℕ, ◌+◌, ◌<◌, ◌≤◌, ⊎_elim, zero, suc, Bool, true, false, cond, not, ◌||◌, ◌&&◌, List, [], ◌∷◌, map, length, drop, get_or, below_more, refl, sym, ◌∙◌, ap, subst, arith}
+use Rattle.std.proofs.Common.{◌≡◌, ℕ, ◌+◌, ◌<◌, ◌≤◌, ⊎_elim, zero, suc, Bool, true, false, not, ◌||◌, ◌&&◌, List, [], ◌∷◌, map, length, drop, get_or, below_more, refl, sym, ◌∙◌, ap, subst, arith}
 use Rattle.std.specs.Prelude.{ℤ, pos, ◌≤ℤ◌, ◌<ℤ◌, int_lt, nat_eq, Option, Some, None, MatchOption}
-use Rattle.std.specs.Ordering.{int_eq, int_cmp, ordering_then, is_lt, is_eq}
+use Rattle.std.specs.Ordering.{int_eq, int_cmp, ordering_then, is_lt}
 use Rattle.std.specs.declared.cmp.Ordering.{Ordering}
-use Rattle.std.specs.declared.cmp.Ordering.TheVariants.{Less, Equal, Greater}
 use Rattle.std.specs.Cmp.Lexicographic.{slice_cmp}
 use Rattle.std.specs.List.{list_any, enumerate_from}
 use Rattle.std.specs.List.Sorted.{IsSorted, IsSortedBy}
@@ -18,6 +17,7 @@ use Rattle.mesh_shapes.specs.Contours.{double_area}
 use Rattle.mesh_shapes.specs.Progress.{NoneRound, IsHolder}
 use Rattle.mesh_shapes.specs.Resolution.{Ring, Placed, points_lt, is_positive, is_round, is_before, is_head, stands_with}
 use Rattle.mesh_shapes.specs.Grouping.{Held, view, views, ring_at, placed, areas_of, is_round_at, IsHome, heads, stands}
+use Rattle.mesh_plane.proofs.Comparing.{less_test, not_less_test, test_less, test_not_less, point_cmp, cmp_lt, then_lt, then_eq, first_not_less}
 
 -- ---- what stands at a place
 get_map : {A B : Type 0} (f : A → B) (xs : List A) (i : ℕ) (d : A) (e : B) → i < length xs → get_or (map f xs) i e ≡ f (get_or xs i d)
@@ -34,18 +34,6 @@ view_at rs i r d low = get_map view rs i r d low
 
 pub area_at : (rs : List Ring) (areas : List ℤ) (i : ℕ) → areas ≡ areas_of rs → i < length rs → get_or areas i (pos 0) ≡ double_area (ring_at rs i).1.0
 area_at rs areas i e low = ap (λ (l : List ℤ). get_or l i (pos 0)) e ∙ get_map (λ (r : Ring). double_area r.0) rs i ([], (pos 0, pos 0)) (pos 0) low
-
-less_test : (a b : ℤ) → a <ℤ b → int_lt a b ≡ true
-less_test a b h = grind (arith, ints)
-
-not_less_test : (a b : ℤ) → b ≤ℤ a → int_lt a b ≡ false
-not_less_test a b h = grind (arith, ints)
-
-test_less : (a b : ℤ) → int_lt a b ≡ true → a <ℤ b
-test_less a b h = grind (arith, ints)
-
-test_not_less : (a b : ℤ) → int_lt a b ≡ false → b ≤ℤ a
-test_not_less a b h = grind (arith, ints)
 
 pub positive_at : (rs : List Ring) (areas : List ℤ) (i : ℕ) → areas ≡ areas_of rs → i < length rs → int_lt (pos 0) (get_or areas i (pos 0)) ≡ is_positive (ring_at rs i)
 positive_at rs areas i e low = ap (λ (z : ℤ). int_lt (pos 0) z) (area_at rs areas i e low)
@@ -293,29 +281,8 @@ places_all [] = refl
 places_all (r ∷ rs) = refl
 
 -- ---- the order of rings
-abbrev pub point_cmp : Point → Point → Ordering
-point_cmp p q = ordering_then (int_cmp p.0 q.0) (int_cmp p.1 q.1)
-
 abbrev pub held_cmp : Held → Held → Ordering
 held_cmp x y = ordering_then (slice_cmp point_cmp x.0.items y.0.items) (point_cmp x.1 y.1)
-
-then_lt : (o p : Ordering) → is_lt (ordering_then o p) ≡ (is_lt o || (is_eq o && is_lt p))
-then_lt Less p = refl
-then_lt Equal p = refl
-then_lt Greater p = refl
-
-then_eq : (o p : Ordering) → is_eq (ordering_then o p) ≡ (is_eq o && is_eq p)
-then_eq Less p = refl
-then_eq Equal p = refl
-then_eq Greater p = refl
-
-cmp_lt : (a b : ℤ) → is_lt (int_cmp a b) ≡ int_lt a b
-cmp_lt a b = by (int_lt a b) (int_lt b a)
-  where
-    by : (x y : Bool) → is_lt (cond x Less (cond y Greater Equal)) ≡ x
-    by true y = refl
-    by false true = refl
-    by false false = refl
 
 point_cmp_lt : (p q : Point) → is_lt (point_cmp p q) ≡ point_lt p q
 point_cmp_lt p q = then_lt (int_cmp p.0 q.0) (int_cmp p.1 q.1) ∙ (λ i. cmp_lt p.0 q.0 i || (int_eq p.0 q.0 && cmp_lt p.1 q.1 i))
@@ -330,12 +297,7 @@ slice_lt (p ∷ ps) (q ∷ qs) =
 
 held_lt : (x y : Held) → is_lt (held_cmp x y) ≡ false → points_lt x.0.items y.0.items ≡ false
 held_lt x y h =
-    sym (slice_lt x.0.items y.0.items) ∙ first (slice_cmp point_cmp x.0.items y.0.items) (point_cmp x.1 y.1) h
-  where
-    first : (o p : Ordering) → is_lt (ordering_then o p) ≡ false → is_lt o ≡ false
-    first Less p h = h
-    first Equal p h = refl
-    first Greater p h = refl
+    sym (slice_lt x.0.items y.0.items) ∙ first_not_less (slice_cmp point_cmp x.0.items y.0.items) (point_cmp x.1 y.1) h
 
 pub sorted_views : (rs : List Held) → IsSorted held_cmp rs → IsSortedBy (λ (r s : Ring). points_lt r.0 s.0) (views rs)
 sorted_views [] h k d le low = absurd (omega arith)

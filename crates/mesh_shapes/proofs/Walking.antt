@@ -3,9 +3,7 @@ use Rattle.std.proofs.Common.{◌≡◌, ℕ, ◌+◌, ◌-◌, ◌<◌, ◌≤�
 use Rattle.std.specs.Prelude.{ℤ, pos, ◌+ℤ◌, ◌-ℤ◌, ◌≤ℤ◌, ◌<ℤ◌, int_lt, Option, Some, None, MatchOption, Vec}
 use Rattle.std.specs.declared.alloc.Global.{Global}
 use Rattle.std.proofs.lemmas.List.{get_or_default}
-use Rattle.std.specs.Ordering.{int_eq, int_cmp, ordering_then, is_lt, is_eq}
-use Rattle.std.specs.declared.cmp.Ordering.{Ordering}
-use Rattle.std.specs.declared.cmp.Ordering.TheVariants.{Less, Equal, Greater}
+use Rattle.std.specs.Ordering.{int_eq, int_cmp, ordering_then, is_lt}
 use Rattle.std.specs.List.Sorted.{IsSorted}
 use Rattle.std.proofs.lemmas.Int.{ints, by_lt_z}
 use Rattle.std.proofs.lemmas.Bool.{cases_Bool, both_ways, or_cases, and_parts, false≢true}
@@ -22,35 +20,27 @@ use Rattle.mesh_cuts.specs.Split.{same_edge}
 use Rattle.mesh_cuts.specs.Boundary.{count}
 use Rattle.mesh_cuts.specs.Counted.{bit}
 use Rattle.mesh_shapes.specs.Unused.{unused, StartsInOrder, IsOpen, IsNext, TakesContours, HavePoints, contour_edges}
-use Rattle.mesh_cuts.proofs.Ends.{decides_point}
 use Rattle.mesh_cuts.proofs.SidesBack.{count_more}
+use Rattle.mesh_plane.proofs.Comparing.{decides_point}
+use Rattle.mesh_plane.proofs.Comparing.{less_test, not_less_test, test_less, edge_cmp, cmp_lt, then_lt, first_not_less}
 
 -- ---- the order of points
-lt_test : (a b : ℤ) → int_lt a b ≡ true → a <ℤ b
-lt_test a b h = grind (arith, ints)
-
-test_lt : (a b : ℤ) → a <ℤ b → int_lt a b ≡ true
-test_lt a b h = grind (arith, ints)
-
-test_ge : (a b : ℤ) → b ≤ℤ a → int_lt a b ≡ false
-test_ge a b h = grind (arith, ints)
-
 -- before another in the order
 abbrev pub Before : Point → Point → Type 0
 Before p q = (p.0 <ℤ q.0) ⊎ ((p.0 ≡ q.0) × (p.1 <ℤ q.1))
 
 pub before_of : (p q : Point) → point_lt p q ≡ true → Before p q
 before_of p q h =
-    ⊎_elim (λ (x : int_lt p.0 q.0 ≡ true). inl (lt_test p.0 q.0 x))
+    ⊎_elim (λ (x : int_lt p.0 q.0 ≡ true). inl (test_less p.0 q.0 x))
     (λ (x : (int_eq p.0 q.0 && int_lt p.1 q.1) ≡ true).
     let parts = and_parts (int_eq p.0 q.0) (int_lt p.1 q.1) x in
-    inr ((Decides-int_eq p.0 q.0).0 parts.0, lt_test p.1 q.1 parts.1))
+    inr ((Decides-int_eq p.0 q.0).0 parts.0, test_less p.1 q.1 parts.1))
     (or_cases (int_lt p.0 q.0) (int_eq p.0 q.0 && int_lt p.1 q.1) h)
 
 pub of_before : (p q : Point) → Before p q → point_lt p q ≡ true
-of_before p q (inl h) = λ i. test_lt p.0 q.0 h i || (int_eq p.0 q.0 && int_lt p.1 q.1)
+of_before p q (inl h) = λ i. less_test p.0 q.0 h i || (int_eq p.0 q.0 && int_lt p.1 q.1)
 of_before p q (inr h) =
-    (λ i. test_ge p.0 q.0 (same p.0 q.0 h.0) i || ((Decides-int_eq p.0 q.0).1 h.0 i && test_lt p.1 q.1 h.1 i))
+    (λ i. not_less_test p.0 q.0 (same p.0 q.0 h.0) i || ((Decides-int_eq p.0 q.0).1 h.0 i && less_test p.1 q.1 h.1 i))
   where
     same : (a b : ℤ) → a ≡ b → b ≤ℤ a
     same a b e = omega (arith, ints)
@@ -118,31 +108,10 @@ pub lt_self : (a : Point) → point_lt a a ≡ false
 lt_self a = not_before a a (before_not_self a)
 
 -- ---- what a sort of edges gives
-abbrev pub edge_cmp : Edge → Edge → Ordering
-edge_cmp x y = ordering_then (ordering_then (int_cmp x.0.0 y.0.0) (int_cmp x.0.1 y.0.1)) (ordering_then (int_cmp x.1.0 y.1.0) (int_cmp x.1.1 y.1.1))
-
-then_lt : (o p : Ordering) → is_lt (ordering_then o p) ≡ false → is_lt o ≡ false
-then_lt Less p h = h
-then_lt Equal p h = refl
-then_lt Greater p h = refl
-
-then_is : (o p : Ordering) → is_lt (ordering_then o p) ≡ (is_lt o || (is_eq o && is_lt p))
-then_is Less p = refl
-then_is Equal p = refl
-then_is Greater p = refl
-
-cmp_lt : (a b : ℤ) → is_lt (int_cmp a b) ≡ int_lt a b
-cmp_lt a b = by (int_lt a b) (int_lt b a)
-  where
-    by : (x y : Bool) → is_lt (cond x Less (cond y Greater Equal)) ≡ x
-    by true y = refl
-    by false true = refl
-    by false false = refl
-
 pub adjacent_starts : (x y : Edge) → is_lt (edge_cmp x y) ≡ false → point_lt x.0 y.0 ≡ false
 adjacent_starts x y h =
-    sym ((then_is (int_cmp x.0.0 y.0.0) (int_cmp x.0.1 y.0.1)) ∙ λ i. cmp_lt x.0.0 y.0.0 i || (int_eq x.0.0 y.0.0 && cmp_lt x.0.1 y.0.1 i))
-    ∙ then_lt (ordering_then (int_cmp x.0.0 y.0.0) (int_cmp x.0.1 y.0.1)) (ordering_then (int_cmp x.1.0 y.1.0) (int_cmp x.1.1 y.1.1)) h
+    sym ((then_lt (int_cmp x.0.0 y.0.0) (int_cmp x.0.1 y.0.1)) ∙ λ i. cmp_lt x.0.0 y.0.0 i || (int_eq x.0.0 y.0.0 && cmp_lt x.0.1 y.0.1 i))
+    ∙ first_not_less (ordering_then (int_cmp x.0.0 y.0.0) (int_cmp x.0.1 y.0.1)) (ordering_then (int_cmp x.1.0 y.1.0) (int_cmp x.1.1 y.1.1)) h
 
 chain_starts : (es : List Edge) → ((k : ℕ) (d : Edge) → k + 1 < length es → point_lt (get_or es (k + 1) d).0 (get_or es k d).0 ≡ false) →
     (i n : ℕ) (d : Edge) → i + n < length es → point_lt (get_or es (i + n) d).0 (get_or es i d).0 ≡ false

@@ -26,10 +26,7 @@ use Rattle.mesh_cuts.specs.Counted.{size}
 use Rattle.mesh_cuts.proofs.Ends.{decides_edge, decides_ends}
 use Rattle.mesh_cuts.proofs.Arithmetic.{small_kept, small_fits}
 use Rattle.mesh_cuts.proofs.Counts.{bit_least}
-
--- the order of a map's keys
-abbrev pub edge_cmp : Edge → Edge → Ordering
-edge_cmp e f = ordering_then (ordering_then (int_cmp e.0.0 f.0.0) (int_cmp e.0.1 f.0.1)) (ordering_then (int_cmp e.1.0 f.1.0) (int_cmp e.1.1 f.1.1))
+use Rattle.mesh_plane.proofs.Comparing.{edge_cmp}
 
 both_equal : (o p : Ordering) → is_eq (ordering_then o p) ≡ true → (is_eq o ≡ true) × (is_eq p ≡ true)
 both_equal Less p h = absurd (both_ways false refl h)

@@ -2,22 +2,24 @@
 use Rattle.std.proofs.Common.{◌≡◌, ◌⊎◌, inl, inr, ⊎_elim, ℕ, ◌+◌, ◌-◌, ◌*◌, ◌≤◌, ◌^◌, Bool, true, false, cond, ◌||◌, sym, ◌∙◌, ap, subst, refl, arith, List, [], ◌∷◌, max}
 use Rattle.std.specs.Prelude.{ℤ, pos, ◌+ℤ◌, ◌*ℤ◌, ◌≤ℤ◌, ◌<ℤ◌, neg_ℤ, unsigned_abs, int_lt}
 use Rattle.std.proofs.lemmas.Bool.{both_ways, cases_Bool}
-use Rattle.std.proofs.Math.Nat.{mul-le-mul_left, mul-le-mul_right}
+use Rattle.std.proofs.Math.Nat.{mul-le-mul_right}
 use Rattle.std.proofs.lemmas.Int.{ints}
 use mir.Syntax.{w128}
 use mir.Val.{to_z, of_z}
 use Rattle.mesh_plane.specs.Plane.{Point, Edge}
-use Rattle.mesh_plane.specs.Winding.{same_point, sum_of}
+use Rattle.mesh_plane.specs.Winding.{same_point}
 use Rattle.mesh_plane.proofs.Whole.{linear, add_mul, neg_mul_neg}
 use Rattle.mesh_cuts.specs.Split.{back, same_edge, same_ends, is_end, IsInBox}
 use Rattle.mesh_cuts.specs.Counted.{Counted, bit, along, times}
 use Rattle.mesh_split.specs.Steps.{exactly, IsRaised, IsNew, IsKept, IsTaken, Puts, PutsPieces, at_least_once, extent, weight, waiting_work, live_work, total_weight, HaveRoom}
-use Rattle.mesh_cuts.specs.Counted.{size}
-use Rattle.mesh_cuts.proofs.Ends.{decides_point, decides_end, ends_turned, along_turned}
+use Rattle.mesh_cuts.proofs.Ends.{decides_end, ends_turned, along_turned}
 use Rattle.mesh_split.proofs.Extents.{extent_split, extent_least}
 use Rattle.mesh_cuts.proofs.Counts.{bit_least, times_least}
 use Rattle.mesh_split.proofs.Stages.{times_along}
 use Rattle.mesh_split.proofs.Entries.{count_kept}
+use Rattle.mesh_plane.proofs.Comparing.{decides_point}
+use Rattle.mesh_split.proofs.Room.{size_weight, sizes_weights, weights_least}
+use Rattle.mesh_plane.proofs.Sizes.{size_neg}
 
 -- ---- counts
 
@@ -62,10 +64,6 @@ weight_sum e m n = scaled (max 1 (extent e))
 pub weight_one : (k : Counted) → pos 0 ≤ℤ weight k
 weight_one k = omega (arith, ints)
 
-pub weight_least : (ks : List Counted) → pos 0 ≤ℤ sum_of weight ks
-weight_least [] = omega (arith, ints)
-weight_least (k ∷ ks) = omega (arith, ints, weight_least ks)
-
 -- a live segment's count was raised
 pub raised_live : (todo live live' : List Counted) (k : Counted) → IsRaised live live' k → Puts todo live todo live' k
 raised_live todo live live' k r = record {
@@ -109,9 +107,6 @@ new_waiting todo live todo' k none n = record {
 
 pub extent_turned : (e : Edge) → extent (back e) ≡ extent e
 extent_turned e = omega (arith, ints)
-
-size_neg : (n : ℤ) → unsigned_abs (neg_ℤ n) ≡ unsigned_abs n
-size_neg n = omega (arith, ints)
 
 pub weight_turned : (k : Counted) → weight (back k.0, neg_ℤ k.1) ≡ weight k
 weight_turned k = λ i. pos (size_neg k.1 i * max 1 (extent_turned k.0 i))
@@ -170,24 +165,14 @@ work_pieces e c inner box =
 
 -- ---- room for the counts
 
-pub size_weight : (k : Counted) → size k ≤ℤ weight k
-size_weight k = wide (unsigned_abs k.1) (max 1 (extent k.0)) (omega arith)
-  where
-    wide : (n w : ℕ) → 1 ≤ w → pos n ≤ℤ pos (n * w)
-    wide n w h = omega (arith, ints, mul-le-mul_left n h)
-
-pub sizes_weights : (ks : List Counted) → sum_of size ks ≤ℤ sum_of weight ks
-sizes_weights [] = omega (arith, ints)
-sizes_weights (k ∷ ks) = omega (arith, linear, size_weight k, sizes_weights ks)
-
 pub room_live : (todo live : List Counted) (k : Counted) → (total_weight todo live +ℤ weight k) ≤ℤ pos (2 ^ 120) → HaveRoom live k
-room_live todo live k h = omega (arith, linear, sizes_weights live, size_weight k, weight_least todo)
+room_live todo live k h = omega (arith, linear, sizes_weights live, size_weight k, weights_least todo)
 
 pub room_waiting : (todo live : List Counted) (k : Counted) → (total_weight todo live +ℤ weight k) ≤ℤ pos (2 ^ 120) → HaveRoom todo k
-room_waiting todo live k h = omega (arith, linear, sizes_weights todo, size_weight k, weight_least live)
+room_waiting todo live k h = omega (arith, linear, sizes_weights todo, size_weight k, weights_least live)
 
 pub total_least : (todo live : List Counted) → pos 0 ≤ℤ total_weight todo live
-total_least todo live = omega (arith, linear, weight_least todo, weight_least live)
+total_least todo live = omega (arith, linear, weights_least todo, weights_least live)
 
 pub room_turned : (todo live : List Counted) (k j : Counted) → j ≡ (back k.0, neg_ℤ k.1) → (total_weight todo live +ℤ weight k) ≤ℤ pos (2 ^ 120)
     → (total_weight todo live +ℤ weight j) ≤ℤ pos (2 ^ 120)
