@@ -14,7 +14,7 @@ use Rattle.mesh_plane.proofs.Sums.{sum_of_map}
 use Rattle.mesh_plane.proofs.Whole.{linear}
 use Rattle.mesh_cuts.specs.Counted.{bit}
 use Rattle.mesh_cuts.specs.Split.{back}
-use Rattle.mesh_shapes.specs.Unused.{StartsInOrder}
+use Rattle.mesh_shapes.specs.Vectors.{StartsInOrder}
 use Rattle.mesh_plane.proofs.Sums.{sum_least}
 use Rattle.mesh_shapes.proofs.Walking.{Before, of_before, three_ways}
 use Rattle.mesh_plane.proofs.Comparing.{decides_point}

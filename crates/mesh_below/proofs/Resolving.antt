@@ -20,33 +20,34 @@ use Rattle.mesh_cuts.specs.Boundary.{count, IsBoundary}
 use Rattle.mesh_cuts.specs.Clean.{IsProper}
 use Rattle.mesh_shapes.specs.Contours.{IsBegun, IsRingOf}
 use Rattle.mesh_cuts.specs.Counted.{Counted}
-use Rattle.mesh_shapes.specs.Grouping.{Held, view, views, AreRingsOf, PushesRing}
+use Rattle.mesh_shapes.specs.Vectors.{HeldRing, ring_held, rings_held}
+use Rattle.mesh_below.specs.Midway.Rings.{AreRingsOf, PushesRing}
 use Rattle.mesh_shapes.specs.Resolution.{Choices, Ring, ring_of, is_large, AreArranged, IsResolution}
 use Rattle.mesh_cuts.specs.Split.{occurs, after, same_ends}
 use Rattle.mesh_cuts.specs.Splitting.{IsSplitting}
-use Rattle.mesh_shapes.specs.Unused.{contour_edges}
+use Rattle.mesh_shapes.specs.Vectors.{contour_edges}
 use Rattle.mesh_plane.proofs.ClosedLists.{all_left, all_right}
 
 -- ---- the ring of one contour
-ring_is : (all : Bool) (given : List Point) (r : Held) → (k : IsRingOf all given (view r)) → ring_of all k.contour ≡ view r
+ring_is : (all : Bool) (given : List Point) (r : HeldRing) → (k : IsRingOf all given (ring_held r)) → ring_of all k.contour ≡ ring_held r
 ring_is all given r k i = (sym k.vertices_are i, sym k.side_is i)
 
-pub push_one : (all : Bool) (least : ℕ) (given : List Point) (r : Held) (old new : List Held) → IsRingOf all given (view r) → IsSafe (2 ^ 33) r.1 → is_large least (view r) ≡ true →
+pub push_one : (all : Bool) (least : ℕ) (given : List Point) (r : HeldRing) (old new : List HeldRing) → IsRingOf all given (ring_held r) → IsSafe (2 ^ 33) r.1 → is_large least (ring_held r) ≡ true →
     new ≡ old ++ (r ∷ []) → PushesRing all least given old new
 push_one all least given r old new k safe large e = record {
   contour = k.contour;
   same = k.same;
   begun = k.begun;
   rings_are =
-      ap views e
-      ∙ (map-append view old (r ∷ [])
-      ∙ sym (λ i. views old ++ cond ((ap (is_large least) (ring_is all given r k) ∙ large) i) (ring_is all given r k i ∷ []) []));
-  sides_small = λ (h : All (λ (s : Held). IsSafe (2 ^ 33) s.1) old).
-      subst (λ (l : List Held). All (λ (s : Held). IsSafe (2 ^ 33) s.1) l) (sym e) (All-push (λ (s : Held). IsSafe (2 ^ 33) s.1) old r h safe);
+      ap rings_held e
+      ∙ (map-append ring_held old (r ∷ [])
+      ∙ sym (λ i. rings_held old ++ cond ((ap (is_large least) (ring_is all given r k) ∙ large) i) (ring_is all given r k i ∷ []) []));
+  sides_small = λ (h : All (λ (s : HeldRing). IsSafe (2 ^ 33) s.1) old).
+      subst (λ (l : List HeldRing). All (λ (s : HeldRing). IsSafe (2 ^ 33) s.1) l) (sym e) (All-push (λ (s : HeldRing). IsSafe (2 ^ 33) s.1) old r h safe);
 }
 
 -- ---- the rings of contours
-pub rings_more : (all : Bool) (least : ℕ) (given : List (Vec Point Global)) (i : ℕ) (d : Vec Point Global) (old new : List Held) → i < length given →
+pub rings_more : (all : Bool) (least : ℕ) (given : List (Vec Point Global)) (i : ℕ) (d : Vec Point Global) (old new : List HeldRing) → i < length given →
     AreRingsOf all least (take i given) old → PushesRing all least (get_or given i d).items old new → AreRingsOf all least (take (i + 1) given) new
 rings_more all least given i d old new low k p = record {
   contours = k.contours ++ (p.contour ∷ []);
@@ -104,9 +105,9 @@ same_boundary es fill bs cs h is = record { counts = λ (e : Edge). h e ∙ is.c
 pub boundary_proper : (es bs : List Edge) (fill : ℤ → Bool) → IsProper es → IsBoundary es fill bs → All (λ (e : Edge). same_point e.0 e.1 ≡ false) bs
 boundary_proper es bs fill proper is = all_occurs (λ (e : Edge). same_point e.0 e.1 ≡ false) bs (λ (e : Edge) (o : occurs e bs ≡ true). proper e (boundary_cover es bs fill is e o))
 
-pub resolved : (edges : List Edge) (segments : List Counted) (fill : ℤ → Bool) (choices : Choices) (closed : List (Vec Point Global)) (rings : List Held) (answer : List (List (List Point))) →
+pub resolved : (edges : List Edge) (segments : List Counted) (fill : ℤ → Bool) (choices : Choices) (closed : List (Vec Point Global)) (rings : List HeldRing) (answer : List (List (List Point))) →
     (s : IsSplitting edges segments) → IsBoundary (after s.cuts edges) fill (contour_edges closed) → AreRingsOf choices.all_vertices choices.least_area closed rings →
-    AreArranged choices.clockwise (views rings) answer → IsResolution edges fill choices answer
+    AreArranged choices.clockwise (rings_held rings) answer → IsResolution edges fill choices answer
 resolved edges segments fill choices closed rings answer s is k a = record {
   cuts = s.cuts;
   legal = s.legal;

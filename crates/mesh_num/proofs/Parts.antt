@@ -5,7 +5,7 @@ use Rattle.std.proofs.Math.Nat.{mul-le-mul_left, mul-le-mul_right, le_of_mul-le-
 use Rattle.std.proofs.lemmas.Bool.{cases_lt}
 use mathlib.Core.Logic.{⊎_elim}
 use Rattle.mesh_plane.specs.Plane.{Point, opposite, length_sq, right_quarter}
-use Rattle.mesh_num.specs.Direction.{IsPart, IsDirection, IsShort, IsFresh, IsOdd}
+use Rattle.mesh_num.specs.Direction.{IsPart, IsDirection, IsShort, IsFresh, KeepsOpposites}
 use Rattle.mesh_plane.proofs.Sizes.{size_neg, length_opposite, lt_of_squares, le_of_squares, two_products}
 use Rattle.mesh_plane.proofs.Signs.{sign_neg, same_number}
 
@@ -75,7 +75,7 @@ direction_quarter {unit} {v} {n} p =
     turned : (a b c : ℕ) → c ≡ a → a * a + b * b ≡ b * b + c * c
     turned a b c e = rw e (omega arith)
 
-pub direction_odd : {unit : ℕ} {v n : Point} → IsDirection unit v n → IsOdd unit v n
+pub direction_odd : {unit : ℕ} {v n : Point} → IsDirection unit v n → KeepsOpposites unit v n
 direction_odd p m q = direction_unique q (direction_opposite p)
 
 -- a vector with a direction is not 0

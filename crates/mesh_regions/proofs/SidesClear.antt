@@ -10,9 +10,9 @@ use Rattle.mesh_plane.proofs.Crossings.{turn_flip}
 use Rattle.mesh_cuts.specs.Clean.{IsOn, refined_edge, IsClean, IsProper}
 use Rattle.mesh_cuts.specs.Split.{back, same_ends, occurs, IsBetween}
 use Rattle.mesh_cuts.proofs.Ends.{decides_ends, decides_end}
-use Rattle.mesh_plane.proofs.Places.{place, coordinates, turned, scaled}
+use Rattle.mesh_plane.proofs.Places.{place, coordinates, turned, scaled_place}
 use Rattle.mesh_plane.proofs.Grids.{scale, part}
-use Rattle.mesh_regions.proofs.SidesConstant.{Clear, on_left, on_right, ahead, behind, along, ClearOf}
+use Rattle.mesh_regions.proofs.SidesConstant.{Clear, on_left, on_right, ahead, behind, on_one_line, ClearOf}
 use Rattle.mesh_cuts.proofs.Each.{Each}
 use Rattle.mesh_cuts.proofs.Each.{each_of, proper_of}
 use Rattle.mesh_plane.proofs.LineTurns.{line_turn}
@@ -56,7 +56,7 @@ pub on_part : (m t : ℤ) (a b : Point) → pos 0 <ℤ m → pos 0 ≤ℤ t → 
 on_part m t a b some low high = record {
   on_line =
       ring (coordinates (a ∷ b ∷ []) (m ∷ t ∷ []))
-      (turned (scaled (var 4) (place 0)) (scaled (var 4) (place 1))
+      (turned (scaled_place (var 4) (place 0)) (scaled_place (var 4) (place 1))
       ((var 4 ⊗ var 0) ⊕ (var 5 ⊗ (var 2 ⊖ var 0)), (var 4 ⊗ var 1) ⊕ (var 5 ⊗ (var 3 ⊖ var 1))))
       (lit (pos 0)) refl;
   in_box = record { by_x = between_part m t a.0 b.0 some low high; by_y = between_part m t a.1 b.1 some low high };
@@ -127,7 +127,7 @@ clear_back a b p r (on_left x y) = on_left y x
 clear_back a b p r (on_right x y) = on_right y x
 clear_back a b p r (ahead x y some) = behind (omega (arith, linear, turn_flip p r a)) (omega (arith, linear, turn_flip p r b)) (omega (arith, linear, turn_flip p r a, turn_flip p r b))
 clear_back a b p r (behind x y some) = ahead (omega (arith, linear, turn_flip p r a)) (omega (arith, linear, turn_flip p r b)) (omega (arith, linear, turn_flip p r a, turn_flip p r b))
-clear_back a b p r (along x y u v) = along y x (omega (arith, linear, turn_flip p r a)) (omega (arith, linear, turn_flip p r b))
+clear_back a b p r (on_one_line x y u v) = on_one_line y x (omega (arith, linear, turn_flip p r a)) (omega (arith, linear, turn_flip p r b))
 
 no_crossing : (a b p r : Point) → (a ≡ b → ⊥) → Meeting a b p r → pos 0 <ℤ turn p r a → turn p r b <ℤ pos 0 → turn a b p ≤ℤ pos 0 → pos 0 ≤ℤ turn a b r → ⊥
 no_crossing a b p r differ meet s3 s4 s1 s2 =
@@ -153,7 +153,7 @@ clear_crossed a b p r differ meet s3 s4 =
 clear_line : (a b p r : Point) → (p ≡ r → ⊥) → turn p r a ≡ pos 0 → turn p r b ≡ pos 0 → Clear a b p r
 clear_line a b p r apart ea eb =
     let first : turn a b p ≡ pos 0 = line_turn a b p r apart ea eb in
-    along first (omega (arith, linear, four_turns a b p r)) ea eb
+    on_one_line first (omega (arith, linear, four_turns a b p r)) ea eb
 
 pub clear_of : (a b p r : Point) → (a ≡ b → ⊥) → (p ≡ r → ⊥) → Meeting a b p r → Clear a b p r
 clear_of a b p r differ apart meet =
@@ -195,9 +195,9 @@ clear_pair es clean proper s e hs he =
     ⊎_elim
     (λ (t : same_ends s e ≡ true).
     ⊎_elim
-    (λ (x : s ≡ e). subst (λ (f : Edge). Clear s.0 s.1 f.0 f.1) x (along (turn_start s.0 s.1) (turn_end s.0 s.1) (turn_start s.0 s.1) (turn_end s.0 s.1)))
+    (λ (x : s ≡ e). subst (λ (f : Edge). Clear s.0 s.1 f.0 f.1) x (on_one_line (turn_start s.0 s.1) (turn_end s.0 s.1) (turn_start s.0 s.1) (turn_end s.0 s.1)))
     (λ (x : s ≡ back e).
-    subst (λ (f : Edge). Clear f.0 f.1 e.0 e.1) (sym x) (along (turn_end e.1 e.0) (turn_start e.1 e.0) (turn_end e.0 e.1) (turn_start e.0 e.1)))
+    subst (λ (f : Edge). Clear f.0 f.1 e.0 e.1) (sym x) (on_one_line (turn_end e.1 e.0) (turn_start e.1 e.0) (turn_end e.0 e.1) (turn_start e.0 e.1)))
     ((decides_ends s e).0 t))
     (λ (f : same_ends s e ≡ false). clear_of s.0 s.1 e.0 e.1 (proper_of es proper s hs) (proper_of es proper e he) (meeting_of es clean s e hs he f))
     (cases_Bool (same_ends s e))

@@ -15,22 +15,22 @@ use Rattle.mesh_plane.specs.Winding.{sum_of, route, boundary, same_point}
 use Rattle.mesh_plane.proofs.Whole.{linear, mul_both_neg, mul_neg_pos, pos_of_mul, neg_mul, square_nonneg}
 use Rattle.mesh_plane.proofs.Ring.{ring, var, ◌⊕◌, ◌⊖◌, ◌⊗◌}
 use Rattle.mesh_plane.proofs.ClosedLists.{boundary_rotated}
-use Rattle.mesh_shapes.specs.Contours.{is_corner, first_or, corners, kept, next_kept, vertices, edge_lt, FirstIsLeast, IsBegun, side_point, IsRingOf}
+use Rattle.mesh_shapes.specs.Contours.{turns_at, first_or, turning_points, kept, next_kept, vertices, edge_lt, FirstIsLeast, IsBegun, side_point, IsRingOf}
 use Rattle.mesh_cuts.specs.Counted.{bit}
-use Rattle.mesh_shapes.specs.Progress.{point_at, next_at, IsBestVisit, IsLeastBefore}
+use Rattle.mesh_shapes.specs.Midway.Progress.{point_at, next_at, IsBestVisit, IsLeastBefore}
 use Rattle.mesh_cuts.proofs.Each.{Each, each_more}
 use Rattle.mesh_shapes.proofs.ContoursKept.{Proper}
 use Rattle.mesh_shapes.proofs.Walking.{Before, before_of, of_before, not_before, three_ways, lt_self, from_after, before_trans, before_not_self}
 use Rattle.mesh_plane.proofs.Comparing.{decides_point}
 
--- ---- corners
-pub corner_yes : (a p n : Point) → (cross (minus p a) (minus p n) ≡ pos 0 → ⊥) → is_corner a p n ≡ true
+-- ---- turning points
+pub corner_yes : (a p n : Point) → (cross (minus p a) (minus p n) ≡ pos 0 → ⊥) → turns_at a p n ≡ true
 corner_yes a p n h =
     ap (λ (b : Bool). not b || int_lt (pos 0) (dot (minus p a) (minus p n)))
     (⊎_elim (λ (t : int_eq (cross (minus p a) (minus p n)) (pos 0) ≡ true). absurd (h ((Decides-int_eq (cross (minus p a) (minus p n)) (pos 0)).0 t)))
     (λ (f : int_eq (cross (minus p a) (minus p n)) (pos 0) ≡ false). f) (cases_Bool (int_eq (cross (minus p a) (minus p n)) (pos 0))))
 
-pub corner_flat : (a p n : Point) → cross (minus p a) (minus p n) ≡ pos 0 → is_corner a p n ≡ int_lt (pos 0) (dot (minus p a) (minus p n))
+pub corner_flat : (a p n : Point) → cross (minus p a) (minus p n) ≡ pos 0 → turns_at a p n ≡ int_lt (pos 0) (dot (minus p a) (minus p n))
 corner_flat a p n h = ap (λ (b : Bool). not b || int_lt (pos 0) (dot (minus p a) (minus p n))) ((Decides-int_eq (cross (minus p a) (minus p n)) (pos 0)).1 h)
 
 -- two vectors that both lead to lesser points, and lie on one line, look the same way
@@ -82,7 +82,7 @@ leads_less p q h differ =
     by (inr x) = inr (omega (arith, linear, x.0), omega (arith, linear, x.1))
 
 -- the least point is a corner
-pub least_corner : (a p n : Point) → point_lt a p ≡ false → point_lt n p ≡ false → (a ≡ p → ⊥) → (n ≡ p → ⊥) → is_corner a p n ≡ true
+pub least_corner : (a p n : Point) → point_lt a p ≡ false → point_lt n p ≡ false → (a ≡ p → ⊥) → (n ≡ p → ⊥) → turns_at a p n ≡ true
 least_corner a p n la ln da dn =
     by_cross (Decides-int_eq (cross (minus p a) (minus p n)) (pos 0)).0 (cases_Bool (int_eq (cross (minus p a) (minus p n)) (pos 0)))
   where
@@ -90,7 +90,7 @@ least_corner a p n la ln da dn =
     less_true x h = grind (arith, ints)
 
     by_cross : (int_eq (cross (minus p a) (minus p n)) (pos 0) ≡ true → cross (minus p a) (minus p n) ≡ pos 0) →
-        (int_eq (cross (minus p a) (minus p n)) (pos 0) ≡ true) ⊎ (int_eq (cross (minus p a) (minus p n)) (pos 0) ≡ false) → is_corner a p n ≡ true
+        (int_eq (cross (minus p a) (minus p n)) (pos 0) ≡ true) ⊎ (int_eq (cross (minus p a) (minus p n)) (pos 0) ≡ false) → turns_at a p n ≡ true
     by_cross f (inl t) =
         corner_flat a p n (f t)
         ∙ less_true (dot (minus p a) (minus p n)) (same_way (minus p a).0 (minus p a).1 (minus p n).0 (minus p n).1 (leads_less p a la da) (leads_less p n ln dn) (f t))
@@ -106,16 +106,16 @@ first_append p [] ys = refl
 first_append p (x ∷ xs) ys = refl
 
 -- the next vertex is the same, whether the contour ends at the point or goes on from it
-pub next_same : (all : Bool) (p a : Point) (xs ys : List Point) → is_corner (last_by a xs) p (first_or p ys) ≡ true →
+pub next_same : (all : Bool) (p a : Point) (xs ys : List Point) → turns_at (last_by a xs) p (first_or p ys) ≡ true →
     next_kept all a (xs ++ p ∷ ys) p ≡ next_kept all a xs p
 next_same true p a xs ys h = first_append p xs ys
-next_same false p a [] ys h = ap (λ (b : Bool). first_or p (cond b (p ∷ corners p ys p) (corners p ys p))) h
+next_same false p a [] ys h = ap (λ (b : Bool). first_or p (cond b (p ∷ turning_points p ys p) (turning_points p ys p))) h
 next_same false p a (x ∷ xs) ys h =
-    ap (λ (n : Point). first_or p (cond (is_corner a x n) (x ∷ corners x (xs ++ p ∷ ys) p) (corners x (xs ++ p ∷ ys) p))) (first_append p xs ys)
-    ∙ by (is_corner a x (first_or p xs)) (next_same false p x xs ys h)
+    ap (λ (n : Point). first_or p (cond (turns_at a x n) (x ∷ turning_points x (xs ++ p ∷ ys) p) (turning_points x (xs ++ p ∷ ys) p))) (first_append p xs ys)
+    ∙ by (turns_at a x (first_or p xs)) (next_same false p x xs ys h)
   where
-    by : (b : Bool) → first_or p (corners x (xs ++ p ∷ ys) p) ≡ first_or p (corners x xs p) →
-        first_or p (cond b (x ∷ corners x (xs ++ p ∷ ys) p) (corners x (xs ++ p ∷ ys) p)) ≡ first_or p (cond b (x ∷ corners x xs p) (corners x xs p))
+    by : (b : Bool) → first_or p (turning_points x (xs ++ p ∷ ys) p) ≡ first_or p (turning_points x xs p) →
+        first_or p (cond b (x ∷ turning_points x (xs ++ p ∷ ys) p) (turning_points x (xs ++ p ∷ ys) p)) ≡ first_or p (cond b (x ∷ turning_points x xs p) (turning_points x xs p))
     by true f = refl
     by false f = f
 
@@ -148,7 +148,7 @@ proper_first a (x ∷ xs) p ys z h = proper_first x xs p ys z h.1
 
 -- the least point within a contour is a corner of it
 inner_corner : (p a : Point) (xs ys : List Point) → point_lt a p ≡ false → NoneLess p xs → NoneLess p ys → Each Proper (route a (xs ++ p ∷ ys) p) →
-    is_corner (last_by a xs) p (first_or p ys) ≡ true
+    turns_at (last_by a xs) p (first_or p ys) ≡ true
 inner_corner p a xs ys ha hx hy proper =
     least_corner (last_by a xs) p (first_or p ys) (last_less p a xs ha hx) (first_less p ys hy) (proper_last a xs p ys p proper)
     (λ (e : first_or p ys ≡ p). proper_first a xs p ys p proper (sym e))
@@ -188,11 +188,11 @@ kept_edges : (all : Bool) (p m k a : Point) (xs : List Point) → point_lt k p �
 kept_edges true p m k a [] lk hk hx v = (not_less_edge p m k p lk hk, tt)
 kept_edges true p m k a (x ∷ xs) lk hk hx v = (not_less_edge p m k x lk hk, kept_edges true p m x x xs hx.0 v.0 hx.1 v.1)
 kept_edges false p m k a [] lk hk hx v = (not_less_edge p m k p lk hk, tt)
-kept_edges false p m k a (x ∷ xs) lk hk hx v = by (is_corner a x (first_or p xs)) hk (kept_edges false p m x x xs hx.0 v.0 hx.1 v.1) (λ (h : k ≡ p → point_lt (first_or p (corners x xs p)) m ≡ false). kept_edges false p m k x xs lk h hx.1 v.1)
+kept_edges false p m k a (x ∷ xs) lk hk hx v = by (turns_at a x (first_or p xs)) hk (kept_edges false p m x x xs hx.0 v.0 hx.1 v.1) (λ (h : k ≡ p → point_lt (first_or p (turning_points x xs p)) m ≡ false). kept_edges false p m k x xs lk h hx.1 v.1)
   where
-    by : (b : Bool) → (k ≡ p → point_lt (first_or p (cond b (x ∷ corners x xs p) (corners x xs p))) m ≡ false) → Each (NotLess p m) (route x (corners x xs p) p) →
-        ((k ≡ p → point_lt (first_or p (corners x xs p)) m ≡ false) → Each (NotLess p m) (route k (corners x xs p) p)) →
-        Each (NotLess p m) (route k (cond b (x ∷ corners x xs p) (corners x xs p)) p)
+    by : (b : Bool) → (k ≡ p → point_lt (first_or p (cond b (x ∷ turning_points x xs p) (turning_points x xs p))) m ≡ false) → Each (NotLess p m) (route x (turning_points x xs p) p) →
+        ((k ≡ p → point_lt (first_or p (turning_points x xs p)) m ≡ false) → Each (NotLess p m) (route k (turning_points x xs p) p)) →
+        Each (NotLess p m) (route k (cond b (x ∷ turning_points x xs p) (turning_points x xs p)) p)
     by true h own further = (not_less_edge p m k x lk h, own)
     by false h own further = further h
 

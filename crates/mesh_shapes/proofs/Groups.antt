@@ -14,9 +14,10 @@ use Rattle.mesh_plane.specs.Plane.{Point}
 use Rattle.mesh_plane.specs.Order.{point_lt}
 use Rattle.mesh_plane.specs.Winding.{holds}
 use Rattle.mesh_shapes.specs.Contours.{double_area}
-use Rattle.mesh_shapes.specs.Progress.{NoneRound, IsHolder}
+use Rattle.mesh_shapes.specs.Midway.Progress.{NoneRound, IsHolder}
 use Rattle.mesh_shapes.specs.Resolution.{Ring, Placed, points_lt, is_positive, is_round, is_before, is_head, stands_with}
-use Rattle.mesh_shapes.specs.Grouping.{Held, view, views, ring_at, placed, areas_of, is_round_at, IsHome, heads, stands}
+use Rattle.mesh_shapes.specs.Vectors.{HeldRing, ring_held, rings_held}
+use Rattle.mesh_shapes.specs.Midway.Grouping.{ring_at, placed, areas_of, is_round_at, IsHome, heads, stands}
 use Rattle.mesh_plane.proofs.Comparing.{less_test, not_less_test, test_less, test_not_less, point_cmp, cmp_lt, then_lt, then_eq, first_not_less}
 
 -- ---- what stands at a place
@@ -29,8 +30,8 @@ pub length_map : {A B : Type 0} (f : A → B) (xs : List A) → length (map f xs
 length_map f [] = refl
 length_map f (x ∷ xs) = ap suc (length_map f xs)
 
-pub view_at : (rs : List Held) (i : ℕ) (r : Held) (d : Ring) → i < length rs → get_or (views rs) i d ≡ view (get_or rs i r)
-view_at rs i r d low = get_map view rs i r d low
+pub view_at : (rs : List HeldRing) (i : ℕ) (r : HeldRing) (d : Ring) → i < length rs → get_or (rings_held rs) i d ≡ ring_held (get_or rs i r)
+view_at rs i r d low = get_map ring_held rs i r d low
 
 pub area_at : (rs : List Ring) (areas : List ℤ) (i : ℕ) → areas ≡ areas_of rs → i < length rs → get_or areas i (pos 0) ≡ double_area (ring_at rs i).1.0
 area_at rs areas i e low = ap (λ (l : List ℤ). get_or l i (pos 0)) e ∙ get_map (λ (r : Ring). double_area r.0) rs i ([], (pos 0, pos 0)) (pos 0) low
@@ -281,7 +282,7 @@ places_all [] = refl
 places_all (r ∷ rs) = refl
 
 -- ---- the order of rings
-abbrev pub held_cmp : Held → Held → Ordering
+abbrev pub held_cmp : HeldRing → HeldRing → Ordering
 held_cmp x y = ordering_then (slice_cmp point_cmp x.0.items y.0.items) (point_cmp x.1 y.1)
 
 point_cmp_lt : (p q : Point) → is_lt (point_cmp p q) ≡ point_lt p q
@@ -295,14 +296,14 @@ slice_lt (p ∷ ps) (q ∷ qs) =
     then_lt (point_cmp p q) (slice_cmp point_cmp ps qs)
     ∙ (λ i. point_cmp_lt p q i || (then_eq (int_cmp p.0 q.0) (int_cmp p.1 q.1) i && slice_lt ps qs i))
 
-held_lt : (x y : Held) → is_lt (held_cmp x y) ≡ false → points_lt x.0.items y.0.items ≡ false
+held_lt : (x y : HeldRing) → is_lt (held_cmp x y) ≡ false → points_lt x.0.items y.0.items ≡ false
 held_lt x y h =
     sym (slice_lt x.0.items y.0.items) ∙ first_not_less (slice_cmp point_cmp x.0.items y.0.items) (point_cmp x.1 y.1) h
 
-pub sorted_views : (rs : List Held) → IsSorted held_cmp rs → IsSortedBy (λ (r s : Ring). points_lt r.0 s.0) (views rs)
+pub sorted_views : (rs : List HeldRing) → IsSorted held_cmp rs → IsSortedBy (λ (r s : Ring). points_lt r.0 s.0) (rings_held rs)
 sorted_views [] h k d le low = absurd (omega arith)
 sorted_views (x ∷ rs) h k d le low =
-    let n : k + 1 < length (x ∷ rs) = omega (arith, length_map view (x ∷ rs)) in
+    let n : k + 1 < length (x ∷ rs) = omega (arith, length_map ring_held (x ∷ rs)) in
     let a : k < length (x ∷ rs) = omega arith in
-    (λ i. points_lt (get_map view (x ∷ rs) (k + 1) x d n i).0 (get_map view (x ∷ rs) k x d a i).0)
+    (λ i. points_lt (get_map ring_held (x ∷ rs) (k + 1) x d n i).0 (get_map ring_held (x ∷ rs) k x d a i).0)
     ∙ held_lt (get_or (x ∷ rs) (k + 1) x) (get_or (x ∷ rs) k x) (h k x le n)

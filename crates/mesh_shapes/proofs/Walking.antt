@@ -19,10 +19,12 @@ use Rattle.mesh_plane.proofs.Balance.{growth, growth_round, growth_of_balanced, 
 use Rattle.mesh_cuts.specs.Split.{same_edge}
 use Rattle.mesh_cuts.specs.Boundary.{count}
 use Rattle.mesh_cuts.specs.Counted.{bit}
-use Rattle.mesh_shapes.specs.Unused.{unused, StartsInOrder, IsOpen, IsNext, TakesContours, HavePoints, contour_edges}
+use Rattle.mesh_shapes.specs.Midway.Unused.{unused, IsOpen, IsNext, TakesContours}
+use Rattle.mesh_shapes.specs.Vectors.{StartsInOrder, HavePoints, contour_edges}
 use Rattle.mesh_cuts.proofs.SidesBack.{count_more}
 use Rattle.mesh_plane.proofs.Comparing.{decides_point}
 use Rattle.mesh_plane.proofs.Comparing.{less_test, not_less_test, test_less, edge_cmp, cmp_lt, then_lt, first_not_less}
+use Rattle.std.specs.List.Sorted.{IsPartitionedBy}
 
 -- ---- the order of points
 -- before another in the order
@@ -246,17 +248,9 @@ pub counts_same : (e : Edge) (xs ys : List Edge) → ((g : Edge → ℤ) → sum
 counts_same e xs ys h = omega (arith, ints, count_sum e xs, count_sum e ys, h (λ (d : Edge). bit (same_edge e d)))
 
 -- ---- looking edges up by their start
-pub below_mid : (es : List Edge) (at : Point) (mid : ℕ) (d₀ : Edge) → StartsInOrder es → mid < length es → point_lt (get_or es mid d₀).0 at ≡ true →
-    (k : ℕ) (d : Edge) → k < mid + 1 → point_lt (get_or es k d).0 at ≡ true
-below_mid es at mid d₀ ordered low h k d l =
-    upto_before (get_or es k d).0 (get_or es mid d).0 at (ordered k mid d (omega arith) low)
-    (subst (λ (e : Edge). point_lt e.0 at ≡ true) (get_or_default es mid d₀ d low) h)
-
-pub above_mid : (es : List Edge) (at : Point) (mid : ℕ) (d₀ : Edge) → StartsInOrder es → mid < length es → point_lt (get_or es mid d₀).0 at ≡ false →
-    (k : ℕ) (d : Edge) → mid ≤ k → k < length es → point_lt (get_or es k d).0 at ≡ false
-above_mid es at mid d₀ ordered low h k d le l =
-    from_after (get_or es mid d).0 (get_or es k d).0 at (ordered mid k d le l)
-    (subst (λ (e : Edge). point_lt e.0 at ≡ false) (get_or_default es mid d₀ d low) h)
+-- edges in order are parted at a point: those that start before it come first
+pub parted_at : (es : List Edge) (at : Point) → StartsInOrder es → IsPartitionedBy (λ (e : Edge). point_lt e.0 at) es
+parted_at es at ordered i j d le low h = upto_before (get_or es i d).0 (get_or es j d).0 at (ordered i j d le low) h
 
 -- none before the first that does not start at a lesser point
 pub none_before : (es : List Edge) (used : List Bool) (first : ℕ) (at : Point) (d : Edge) (n : ℕ) →

@@ -9,7 +9,7 @@ ghost use Rattle.mesh_cuts.specs.Boundary.{rises, IsBoundary};
 ghost use Rattle.mesh_cuts.specs.Clean.{IsProper};
 ghost use Rattle.mesh_cuts.specs.Counted.{IsCountOf};
 ghost use Rattle.mesh_cuts.specs.FillRules.{filled};
-ghost use Rattle.mesh_shapes.specs.CountedSides.{counted_winding, sides_by, sides_of, is_parted, boundary_edge};
+ghost use Rattle.mesh_shapes.specs.Midway.CountedSides.{counted_winding, sides_by, sides_of, is_parted, boundary_edge};
 ghost use Rattle.mesh_cuts.specs.Counted.{size};
 
 use mesh_cuts::fill::FillRule;
@@ -118,13 +118,14 @@ fn push_edge(
 }
 
 /// The segments whose two sides differ in fill, each once, with the filled side on its left.
-pub fn boundary(
+pub fn find_boundary(
     alloc: Global,
     segments: &[CountedSegment],
     fill: FillRule,
 ) -> Result<Vec<GridEdge>, AllocError>
     requires { sum_of size segments.now ≤ℤ pos (2 ^ 120) }
-    ensures { IfOk result (λ v. (es : List Edge) → IsCountOf es segments.now → IsProper es → IsBoundary es (filled fill) v.items) }
+    ensures { IfOk result (λ v. (es : List Edge) → IsCountOf es segments.now → IsProper es
+        → IsBoundary es (filled fill) v.items) }
 {
     let mut edges = Vec::new(alloc);
     for s in segments {

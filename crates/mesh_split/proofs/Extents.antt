@@ -5,7 +5,7 @@ use Rattle.std.proofs.lemmas.Int.{ints, by_lt_z}
 use Rattle.mesh_plane.proofs.Whole.{linear}
 use Rattle.mesh_cuts.specs.Split.{IsBetween, IsInBox}
 use Rattle.mesh_plane.specs.Plane.{Point, Edge}
-use Rattle.mesh_split.specs.Steps.{extent}
+use Rattle.mesh_split.specs.Midway.Steps.{extent}
 use Rattle.std.proofs.lemmas.Bool.{both_ways}
 use Rattle.mesh_plane.specs.Winding.{same_point}
 use Rattle.mesh_plane.proofs.Comparing.{decides_point}

@@ -11,7 +11,7 @@ use Rattle.mesh_plane.specs.Winding.{same_point}
 use Rattle.mesh_plane.proofs.Whole.{linear, add_mul, neg_mul_neg}
 use Rattle.mesh_cuts.specs.Split.{back, same_edge, same_ends, is_end, IsInBox}
 use Rattle.mesh_cuts.specs.Counted.{Counted, bit, along, times}
-use Rattle.mesh_split.specs.Steps.{exactly, IsRaised, IsNew, IsKept, IsTaken, Puts, PutsPieces, at_least_once, extent, weight, waiting_work, live_work, total_weight, HaveRoom}
+use Rattle.mesh_split.specs.Midway.Steps.{exactly, IsRaised, IsNew, IsKept, IsTaken, Puts, PutsPieces, at_least_once, extent, weight, waiting_work, live_work, total_weight, HaveRoom}
 use Rattle.mesh_cuts.proofs.Ends.{decides_end, ends_turned, along_turned}
 use Rattle.mesh_split.proofs.Extents.{extent_split, extent_least}
 use Rattle.mesh_cuts.proofs.Counts.{bit_least, times_least}

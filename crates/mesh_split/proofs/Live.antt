@@ -13,7 +13,7 @@ use Rattle.mesh_plane.proofs.Whole.{linear}
 use Rattle.mesh_plane.proofs.Sums.{sum_of_append}
 use Rattle.mesh_cuts.specs.Split.{same_edge, same_ends}
 use Rattle.mesh_cuts.specs.Counted.{Counted, bit, times}
-use Rattle.mesh_split.specs.Steps.{exactly, IsAt, IsPut, IsTaken, IsRaised, IsClearOf}
+use Rattle.mesh_split.specs.Midway.Steps.{exactly, IsAt, IsPut, IsTaken, IsRaised, IsClearOf}
 use Rattle.mesh_cuts.specs.Split.{IsForward, AreClear}
 use Rattle.mesh_cuts.specs.Counted.{size}
 use Rattle.mesh_cuts.proofs.Ends.{decides_edge}

@@ -5,7 +5,7 @@ use Rattle.std.proofs.lemmas.Int.{ints}
 use Rattle.mesh_cuts.specs.Counted.{Counted}
 use Rattle.std.proofs.Math.Nat.{mul-le-mul_left}
 use Rattle.mesh_cuts.specs.Counted.{size}
-use Rattle.mesh_split.specs.Steps.{weight, extent, total_weight}
+use Rattle.mesh_split.specs.Midway.Steps.{weight, extent, total_weight}
 use Rattle.mesh_plane.specs.Winding.{sum_of}
 use Rattle.mesh_plane.proofs.Sums.{sum_least}
 

@@ -13,7 +13,7 @@ use Rattle.mesh_cuts.specs.Clean.{IsOn, refined_edge}
 use Rattle.mesh_cuts.specs.Split.{back, same_ends, is_end, IsBetween, IsInside, AreOpposite, IsCrossing}
 use Rattle.mesh_cuts.proofs.Boxes.{turns_differ}
 use Rattle.mesh_cuts.proofs.Ends.{decides_end, decides_ends, ends_turned, ends_sym}
-use Rattle.mesh_plane.proofs.Places.{place, coordinates, turned, scaled}
+use Rattle.mesh_plane.proofs.Places.{place, coordinates, turned, scaled_place}
 use Rattle.mesh_plane.proofs.Comparing.{decides_point}
 use Rattle.mesh_cuts.proofs.Boxes.{between_back, on_back}
 
@@ -250,8 +250,8 @@ part_turn : (m : ℤ) (a b p r z : Point)
     +ℤ ((m *ℤ (r.0 -ℤ p.0)) *ℤ turn (m *ℤ a.0, m *ℤ a.1) (m *ℤ b.0, m *ℤ b.1) z)
 part_turn m a b p r z =
     let k = var 10 in
-    let e = turned (scaled k (place 0)) (scaled k (place 1)) (place 4) in
-    let f = turned (scaled k (place 2)) (scaled k (place 3)) (place 4) in
+    let e = turned (scaled_place k (place 0)) (scaled_place k (place 1)) (place 4) in
+    let f = turned (scaled_place k (place 2)) (scaled_place k (place 3)) (place 4) in
     ring (coordinates (a ∷ b ∷ p ∷ r ∷ z ∷ []) (m ∷ []))
     ((k ⊗ (var 2 ⊖ var 0)) ⊗ f)
     (((k ⊗ k) ⊗ ((((k ⊗ var 2) ⊖ var 8) ⊗ turned (place 2) (place 3) (place 0)) ⊕ ((var 8 ⊖ (k ⊗ var 0)) ⊗ turned (place 2) (place 3) (place 1)))) ⊕ ((k ⊗ (var 6 ⊖ var 4)) ⊗ e))

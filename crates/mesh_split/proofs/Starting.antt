@@ -11,7 +11,7 @@ use Rattle.mesh_plane.proofs.Sums.{sum_of_append}
 use Rattle.mesh_plane.proofs.Whole.{linear}
 use Rattle.mesh_cuts.specs.Split.{same_ends, occurs, no_cut}
 use Rattle.mesh_cuts.specs.Counted.{Counted, bit, along, times}
-use Rattle.mesh_split.specs.Steps.{IsTaken, Puts, AllClear, AreCountOf, IsReached, Settles, at_least_once, extent, weight, waiting_work, live_work, work, total_weight}
+use Rattle.mesh_split.specs.Midway.Steps.{IsTaken, Puts, AllClear, AreCountOf, IsReached, Settles, at_least_once, extent, weight, waiting_work, live_work, work, total_weight}
 use Rattle.mesh_cuts.proofs.Cuts.{occurs_append}
 use Rattle.mesh_split.proofs.Stages.{pop_count}
 use Rattle.mesh_split.proofs.Settling.{fewer_clear}

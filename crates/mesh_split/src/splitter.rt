@@ -6,7 +6,7 @@ ghost use Rattle.mesh_cuts.specs.Clean.{IsProper};
 ghost use Rattle.mesh_cuts.specs.Split.{is_end, IsInBox, Meets};
 ghost use Rattle.mesh_cuts.specs.Splitting.{IsSplitting};
 ghost use Rattle.mesh_cuts.specs.Split.{IsForward};
-ghost use Rattle.mesh_split.specs.Steps.{Puts, PutsPieces, Settles, exactly, weight, total_weight};
+ghost use Rattle.mesh_split.specs.Midway.Steps.{Puts, PutsPieces, Settles, exactly, weight, total_weight};
 ghost use Rattle.mesh_cuts.specs.Counted.{size};
 
 use crate::store::{Meeting, Store};

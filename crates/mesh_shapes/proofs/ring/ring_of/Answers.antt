@@ -1,7 +1,7 @@
 use Rattle.std.proofs.Common.{◌++◌, ◌∙◌, ap, subst, List, drop, take, length}
 use Rattle.mesh_plane.specs.Plane.{Point}
 use Rattle.mesh_shapes.specs.Contours.{vertices, side_point}
-use Rattle.mesh_shapes.specs.Progress.{IsBestVisit}
+use Rattle.mesh_shapes.specs.Midway.Progress.{IsBestVisit}
 use Rattle.mesh_shapes.proofs.ContoursBegun.{ring_made}
 use Rattle.mesh_shapes.proofs.ring.ring_of.Goals as goal
 

@@ -3,7 +3,7 @@ use Rattle.std.specs.Prelude.{pos, ◌≤ℤ◌}
 use Rattle.mesh_plane.specs.Winding.{same_point, sum_of}
 use Rattle.mesh_cuts.specs.Counted.{Counted}
 use Rattle.mesh_cuts.specs.Splitting.{IsSplitting}
-use Rattle.mesh_split.specs.Steps.{Puts}
+use Rattle.mesh_split.specs.Midway.Steps.{Puts}
 use Rattle.mesh_cuts.specs.Counted.{size}
 use Rattle.mesh_split.proofs.Paths.{splitting_of}
 use Rattle.mesh_split.proofs.Starting.{none_count, none_clear, none_weight, more_room, more_count, more_clear, more_weight, most_weight, settled_reached, settled_weight, settled_less, popped_room, start_reached, end_reached}
