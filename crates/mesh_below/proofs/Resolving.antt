@@ -1,5 +1,5 @@
 -- Lemmas over lists: the rings of contours, and the whole way from edges to shapes.
-use Rattle.std.proofs.Common.{◌≡◌, ℕ, ◌+◌, ◌<◌, ◌^◌, ◌||◌, Bool, true, false, cond, List, [], ◌∷◌, ◌++◌, map, length, take, get_or, zero, suc, sym, ◌∙◌, ap, subst, arith}
+use Rattle.std.proofs.Common.{◌≡◌, ℕ, ◌+◌, ◌<◌, ◌||◌, Bool, true, false, cond, List, [], ◌∷◌, ◌++◌, map, length, take, get_or, zero, suc, sym, ◌∙◌, ap, subst, arith}
 use Rattle.std.specs.Prelude.{ℤ, pos, ◌+ℤ◌, Vec}
 use Rattle.std.specs.List.{All, filter, flat_map}
 use Rattle.std.specs.declared.alloc.Global.{Global}
@@ -8,7 +8,6 @@ use Rattle.std.proofs.lemmas.Grind.{flat_map-append}
 use Rattle.std.proofs.lemmas.List.{append-nil, map-append, take_more}
 use Rattle.std.proofs.lemmas.List.Elements.{All-nil, All-cons, All-push, filter-append}
 use Rattle.mesh_plane.proofs.Sums.{sum_of_append}
-use Rattle.mesh_plane.specs.Bounds.{IsSafe}
 use Rattle.mesh_plane.specs.Plane.{Point, Edge}
 use Rattle.mesh_plane.specs.Winding.{IsBalanced, sum_of, boundary, same_point}
 use Rattle.mesh_regions.proofs.BoundaryBalance.{boundary_is_balanced}
@@ -32,9 +31,9 @@ use Rattle.mesh_plane.proofs.ClosedLists.{all_left, all_right}
 ring_is : (all : Bool) (given : List Point) (r : HeldRing) → (k : IsRingOf all given (ring_held r)) → ring_of all k.contour ≡ ring_held r
 ring_is all given r k i = (sym k.vertices_are i, sym k.side_is i)
 
-pub push_one : (all : Bool) (least : ℕ) (given : List Point) (r : HeldRing) (old new : List HeldRing) → IsRingOf all given (ring_held r) → IsSafe (2 ^ 33) r.1 → is_large least (ring_held r) ≡ true →
+pub push_one : (all : Bool) (least : ℕ) (given : List Point) (r : HeldRing) (old new : List HeldRing) → IsRingOf all given (ring_held r) → is_large least (ring_held r) ≡ true →
     new ≡ old ++ (r ∷ []) → PushesRing all least given old new
-push_one all least given r old new k safe large e = record {
+push_one all least given r old new k large e = record {
   contour = k.contour;
   same = k.same;
   begun = k.begun;
@@ -42,8 +41,6 @@ push_one all least given r old new k safe large e = record {
       ap rings_held e
       ∙ (map-append ring_held old (r ∷ [])
       ∙ sym (λ i. rings_held old ++ cond ((ap (is_large least) (ring_is all given r k) ∙ large) i) (ring_is all given r k i ∷ []) []));
-  sides_small = λ (h : All (λ (s : HeldRing). IsSafe (2 ^ 33) s.1) old).
-      subst (λ (l : List HeldRing). All (λ (s : HeldRing). IsSafe (2 ^ 33) s.1) l) (sym e) (All-push (λ (s : HeldRing). IsSafe (2 ^ 33) s.1) old r h safe);
 }
 
 -- ---- the rings of contours
@@ -58,7 +55,6 @@ rings_more all least given i d old new low k p = record {
       ∙ (ap (λ (l : List Ring). l ++ filter (is_large least) (ring_of all p.contour ∷ [])) k.rings_are
       ∙ (sym (filter-append (is_large least) (map (ring_of all) k.contours) (ring_of all p.contour ∷ []))
       ∙ ap (filter (is_large least)) (sym (map-append (ring_of all) k.contours (p.contour ∷ [])))));
-  sides_small = p.sides_small k.sides_small;
 }
   where
     c : Vec Point Global

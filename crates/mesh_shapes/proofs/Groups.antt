@@ -1,5 +1,5 @@
 -- Lemmas over points and lists: rings in order, and where each of them belongs.
-use Rattle.std.proofs.Common.{◌≡◌, ℕ, ◌+◌, ◌<◌, ◌≤◌, ⊎_elim, zero, suc, Bool, true, false, not, ◌||◌, ◌&&◌, List, [], ◌∷◌, map, length, drop, get_or, below_more, refl, sym, ◌∙◌, ap, subst, arith}
+use Rattle.std.proofs.Common.{◌≡◌, ℕ, ◌+◌, ◌<◌, ◌≤◌, ⊎_elim, zero, suc, Bool, true, false, not, ◌||◌, ◌&&◌, List, [], ◌∷◌, map, length, get_or, below_more, refl, sym, ◌∙◌, ap, subst, arith}
 use Rattle.std.specs.Prelude.{ℤ, pos, ◌≤ℤ◌, ◌<ℤ◌, int_lt, nat_eq, Option, Some, None, MatchOption}
 use Rattle.std.specs.Ordering.{int_eq, int_cmp, ordering_then, is_lt}
 use Rattle.std.specs.declared.cmp.Ordering.{Ordering}
@@ -9,7 +9,6 @@ use Rattle.std.specs.List.Sorted.{IsSorted, IsSortedBy}
 use Rattle.std.proofs.lemmas.Int.{ints, by_lt_z}
 use Rattle.std.proofs.lemmas.Bool.{cases_Bool, both_ways, and_parts, or_from, eqb-true, eq-eqb}
 use Rattle.std.proofs.lemmas.Bool.Decides.{Decides-int_eq}
-use Rattle.std.proofs.Math.Seq.{drop-cons}
 use Rattle.mesh_plane.specs.Plane.{Point}
 use Rattle.mesh_plane.specs.Order.{point_lt}
 use Rattle.mesh_plane.specs.Winding.{holds}
@@ -261,25 +260,6 @@ pub head_test : (rs : List Ring) (i b : ℕ) → IsHome rs i b → is_head (plac
 head_test rs i b (heads t e) = t ∙ sym (eq-eqb b i e)
 head_test rs i b (stands f differ one) =
     f ∙ sym (⊎_elim (λ (s : nat_eq b i ≡ true). absurd (differ (eqb-true b i s))) (λ (s : nat_eq b i ≡ false). s) (cases_Bool (nat_eq b i)))
-
--- ---- rings one after the other
-pub place_next : (rs : List Ring) (i : ℕ) → i < length rs → enumerate_from i (drop i rs) ≡ ring_at rs i ∷ enumerate_from (i + 1) (drop (i + 1) rs)
-place_next rs i low =
-    ap (λ (l : List Ring). enumerate_from i l) (drop-cons rs i ([], (pos 0, pos 0)) low)
-    ∙ (let e : suc i ≡ i + 1 = omega arith in ap (λ (n : ℕ). ring_at rs i ∷ enumerate_from (i + 1) (drop n rs)) e)
-
-pub places_none : (rs : List Ring) (n : ℕ) → length rs ≤ n → enumerate_from n (drop n rs) ≡ []
-places_none rs n h = ap (λ (l : List Ring). enumerate_from n l) (past rs n h)
-  where
-    past : (l : List Ring) (n : ℕ) → length l ≤ n → drop n l ≡ []
-    past [] zero h = refl
-    past [] (suc n) h = refl
-    past (x ∷ l) zero h = absurd (omega arith)
-    past (x ∷ l) (suc n) h = past l n (omega arith)
-
-pub places_all : (rs : List Ring) → enumerate_from 0 (drop 0 rs) ≡ placed rs
-places_all [] = refl
-places_all (r ∷ rs) = refl
 
 -- ---- the order of rings
 abbrev pub held_cmp : HeldRing → HeldRing → Ordering

@@ -40,7 +40,6 @@ fn areas(alloc: Global, rings: &[Ring]) -> Result<Vec<i128>, AllocError>
 fn is_round_at(rings: &[Ring], areas: &[i128], h: usize, q: FinePoint) -> bool
     requires in_range { h < length rings.now }
     requires known { areas.now ≡ areas_of (rings_held rings.now) }
-    requires q_small { IsSafe (2 ^ 33) q }
     ensures { result ≡ is_round_at (rings_held rings.now) h q }
 {
     if areas[h] <= 0 {
@@ -71,7 +70,6 @@ fn better_holder(
 ) -> Option<usize>
     requires in_range { k < length rings.now }
     requires areas_known { areas.now ≡ areas_of (rings_held rings.now) }
-    requires q_small { IsSafe (2 ^ 33) q }
     requires known { IsFound (rings_held rings.now) k q best }
     ensures { IsFound (rings_held rings.now) (k + 1) q result }
 {
@@ -87,7 +85,6 @@ fn better_holder(
 /// The place of the first ring of least area among those of positive area that hold the point, if there is one.
 fn holder(rings: &[Ring], areas: &[i128], q: FinePoint) -> Option<usize>
     requires areas_known { areas.now ≡ areas_of (rings_held rings.now) }
-    requires q_small { IsSafe (2 ^ 33) q }
     ensures { IsFound (rings_held rings.now) (length rings.now) q result }
 {
     let mut best = None;
@@ -101,7 +98,6 @@ fn holder(rings: &[Ring], areas: &[i128], q: FinePoint) -> Option<usize>
 fn home(rings: &[Ring], areas: &[i128], i: usize) -> usize
     requires in_range { i < length rings.now }
     requires areas_known { areas.now ≡ areas_of (rings_held rings.now) }
-    requires sides_small { All (λ (r : HeldRing). IsSafe (2 ^ 33) r.1) rings.now }
     ensures { IsHome (rings_held rings.now) i result }
 {
     if areas[i] > 0 {
@@ -115,7 +111,6 @@ fn home(rings: &[Ring], areas: &[i128], i: usize) -> usize
 
 /// The places of the rings with which rings stand.
 fn homes(alloc: Global, rings: &[Ring]) -> Result<Vec<usize>, AllocError>
-    requires { All (λ (r : HeldRing). IsSafe (2 ^ 33) r.1) rings.now }
     ensures len { IfOk result (λ v. length v.items ≡ length rings.now) }
     ensures homes { IfOk result (λ v. AreHomes rings.now v.items) }
 {
@@ -225,7 +220,6 @@ fn grouped(
     rings: &[Ring],
     clockwise: bool,
 ) -> Result<Vec<Vec<Vec<GridPoint>>>, AllocError>
-    requires { All (λ (r : HeldRing). IsSafe (2 ^ 33) r.1) rings.now }
     ensures { IfOk result (λ v. shapes_points v.items ≡ all_shapes clockwise (rings_held rings.now)) }
 {
     let homes = homes(alloc, rings)?;
@@ -251,7 +245,6 @@ pub fn shapes(
     rings: Vec<Ring>,
     clockwise: bool,
 ) -> Result<Vec<Vec<Vec<GridPoint>>>, AllocError>
-    requires { All (λ (r : HeldRing). IsSafe (2 ^ 33) r.1) rings.items }
     ensures { IfOk result (λ v. AreArranged clockwise (rings_held rings.items) (shapes_points v.items)) }
 {
     let ordered = in_order(rings)?;

@@ -182,8 +182,7 @@ fn vertices(alloc: Global, contour: &[GridPoint], all: bool) -> Result<Vec<GridP
 
 fn side_point(contour: &[GridPoint]) -> FinePoint
     requires { 0 < length contour.now }
-    ensures value { result ≡ side_point contour.now }
-    ensures size { IsSafe (2 ^ 33) result }
+    ensures { result ≡ side_point contour.now }
 {
     middle((contour[0], following(contour, 0)))
 }
@@ -192,8 +191,7 @@ fn side_point(contour: &[GridPoint]) -> FinePoint
 pub fn ring_of(alloc: Global, contour: &[GridPoint], all: bool) -> Result<Ring, AllocError>
     requires has_points { 0 < length contour.now }
     requires proper { All (λ (e : Edge). same_point e.0 e.1 ≡ false) (boundary contour.now) }
-    ensures ring { IfOk result (λ r. IsRingOf all contour.now (r.0.items, r.1)) }
-    ensures side { IfOk result (λ r. IsSafe (2 ^ 33) r.1) }
+    ensures { IfOk result (λ r. IsRingOf all contour.now (r.0.items, r.1)) }
 {
     let from_least = turned_to(alloc, contour, least_place(contour))?;
     let begun = turned_to(alloc, &from_least, start_place(&from_least, all))?;

@@ -1,5 +1,5 @@
 -- Lemmas over points and lists: a segment put in, as it is or turned over, and the two pieces of a cut.
-use Rattle.std.proofs.Common.{◌≡◌, ◌⊎◌, inl, inr, ⊎_elim, ℕ, ◌+◌, ◌-◌, ◌*◌, ◌≤◌, ◌^◌, Bool, true, false, cond, ◌||◌, sym, ◌∙◌, ap, subst, refl, arith, List, [], ◌∷◌, max}
+use Rattle.std.proofs.Common.{◌≡◌, ◌⊎◌, inl, inr, ⊎_elim, ℕ, ◌+◌, ◌-◌, ◌*◌, ◌≤◌, Bool, true, false, cond, ◌||◌, sym, ◌∙◌, ap, subst, refl, arith, List, [], ◌∷◌, max}
 use Rattle.std.specs.Prelude.{ℤ, pos, ◌+ℤ◌, ◌*ℤ◌, ◌≤ℤ◌, ◌<ℤ◌, neg_ℤ, unsigned_abs, int_lt}
 use Rattle.std.proofs.lemmas.Bool.{both_ways, cases_Bool}
 use Rattle.std.proofs.Math.Nat.{mul-le-mul_right}
@@ -20,6 +20,7 @@ use Rattle.mesh_split.proofs.Entries.{count_kept}
 use Rattle.mesh_plane.proofs.Comparing.{decides_point}
 use Rattle.mesh_split.proofs.Room.{size_weight, sizes_weights, weights_least}
 use Rattle.mesh_plane.proofs.Sizes.{size_neg}
+use Rattle.mesh_cuts.specs.Counted.{IsRoomy}
 
 -- ---- counts
 
@@ -165,17 +166,17 @@ work_pieces e c inner box =
 
 -- ---- room for the counts
 
-pub room_live : (todo live : List Counted) (k : Counted) → (total_weight todo live +ℤ weight k) ≤ℤ pos (2 ^ 120) → HaveRoom live k
+pub room_live : (todo live : List Counted) (k : Counted) → IsRoomy (total_weight todo live +ℤ weight k) → HaveRoom live k
 room_live todo live k h = omega (arith, linear, sizes_weights live, size_weight k, weights_least todo)
 
-pub room_waiting : (todo live : List Counted) (k : Counted) → (total_weight todo live +ℤ weight k) ≤ℤ pos (2 ^ 120) → HaveRoom todo k
+pub room_waiting : (todo live : List Counted) (k : Counted) → IsRoomy (total_weight todo live +ℤ weight k) → HaveRoom todo k
 room_waiting todo live k h = omega (arith, linear, sizes_weights todo, size_weight k, weights_least live)
 
 pub total_least : (todo live : List Counted) → pos 0 ≤ℤ total_weight todo live
 total_least todo live = omega (arith, linear, weights_least todo, weights_least live)
 
-pub room_turned : (todo live : List Counted) (k j : Counted) → j ≡ (back k.0, neg_ℤ k.1) → (total_weight todo live +ℤ weight k) ≤ℤ pos (2 ^ 120)
-    → (total_weight todo live +ℤ weight j) ≤ℤ pos (2 ^ 120)
+pub room_turned : (todo live : List Counted) (k j : Counted) → j ≡ (back k.0, neg_ℤ k.1) → IsRoomy (total_weight todo live +ℤ weight k)
+    → IsRoomy (total_weight todo live +ℤ weight j)
 room_turned todo live k j e h = omega (arith, linear, ap weight e, weight_turned k)
 
 -- a segment that was filed: a live one was raised, or there was none and the worklist took it
@@ -187,27 +188,27 @@ pub puts_back : (todo live todo' live' : List Counted) (k j : Counted) → j ≡
 puts_back todo live todo' live' k j e p = puts_turned todo live todo' live' k (subst (λ (x : Counted). Puts todo live todo' live' x) e p)
 
 -- room for the two pieces of a cut, one after the other
-pub room_first : (todo live : List Counted) (k : Counted) (c : Point) → is_end c k.0 ≡ false → IsInBox k.0 c → (total_weight todo live +ℤ weight k) ≤ℤ pos (2 ^ 120)
-    → (total_weight todo live +ℤ weight ((k.0.0, c), k.1)) ≤ℤ pos (2 ^ 120)
+pub room_first : (todo live : List Counted) (k : Counted) (c : Point) → is_end c k.0 ≡ false → IsInBox k.0 c → IsRoomy (total_weight todo live +ℤ weight k)
+    → IsRoomy (total_weight todo live +ℤ weight ((k.0.0, c), k.1))
 room_first todo live k c inner box h = omega (arith, linear, weight_pieces k c inner box, weight_one ((c, k.0.1), k.1))
 
-pub room_second : (todo live todo' live' : List Counted) (k : Counted) (c : Point) → is_end c k.0 ≡ false → IsInBox k.0 c → (total_weight todo live +ℤ weight k) ≤ℤ pos (2 ^ 120)
-    → Puts todo live todo' live' ((k.0.0, c), k.1) → (total_weight todo' live' +ℤ weight ((c, k.0.1), k.1)) ≤ℤ pos (2 ^ 120)
+pub room_second : (todo live todo' live' : List Counted) (k : Counted) (c : Point) → is_end c k.0 ≡ false → IsInBox k.0 c → IsRoomy (total_weight todo live +ℤ weight k)
+    → Puts todo live todo' live' ((k.0.0, c), k.1) → IsRoomy (total_weight todo' live' +ℤ weight ((c, k.0.1), k.1))
 room_second todo live todo' live' k c inner box h p = omega (arith, linear, weight_pieces k c inner box, p.weight_grows)
 
 -- what 128 bits keep of a count that has room
-pub room_kept : (todo live : List Counted) (k : Counted) → (total_weight todo live +ℤ weight k) ≤ℤ pos (2 ^ 120) → to_z w128 (of_z w128 k.1) ≡ k.1
+pub room_kept : (todo live : List Counted) (k : Counted) → IsRoomy (total_weight todo live +ℤ weight k) → to_z w128 (of_z w128 k.1) ≡ k.1
 room_kept todo live k h = count_kept live k (room_live todo live k h)
 
 -- room after a live segment was taken in hand
-pub room_taken : (todo live live' : List Counted) (k j : Counted) → IsTaken live live' j → (total_weight todo live +ℤ weight k) ≤ℤ pos (2 ^ 120)
-    → (total_weight todo live' +ℤ weight k) ≤ℤ pos (2 ^ 120)
+pub room_taken : (todo live live' : List Counted) (k j : Counted) → IsTaken live live' j → IsRoomy (total_weight todo live +ℤ weight k)
+    → IsRoomy (total_weight todo live' +ℤ weight k)
 room_taken todo live live' k j t h = omega (arith, linear, t weight, weight_one j)
 
-pub room_other : (todo live live1 todo' live' : List Counted) (k j : Counted) → IsTaken live live1 j → Puts todo live1 todo' live' k → (total_weight todo live +ℤ weight k) ≤ℤ pos (2 ^ 120)
-    → (total_weight todo' live' +ℤ weight j) ≤ℤ pos (2 ^ 120)
+pub room_other : (todo live live1 todo' live' : List Counted) (k j : Counted) → IsTaken live live1 j → Puts todo live1 todo' live' k → IsRoomy (total_weight todo live +ℤ weight k)
+    → IsRoomy (total_weight todo' live' +ℤ weight j)
 room_other todo live live1 todo' live' k j t p h = omega (arith, linear, t weight, p.weight_grows)
 
 pub room_pieces : (todo live live1 todo' live' : List Counted) (k j : Counted) (c : Point) → is_end c k.0 ≡ false → IsInBox k.0 c → IsTaken live live1 j
-    → PutsPieces todo live1 todo' live' k c → (total_weight todo live +ℤ weight k) ≤ℤ pos (2 ^ 120) → (total_weight todo' live' +ℤ weight j) ≤ℤ pos (2 ^ 120)
+    → PutsPieces todo live1 todo' live' k c → IsRoomy (total_weight todo live +ℤ weight k) → IsRoomy (total_weight todo' live' +ℤ weight j)
 room_pieces todo live live1 todo' live' k j c inner box t p h = omega (arith, linear, t weight, p.first.weight_grows, p.second.weight_grows, weight_pieces k c inner box)

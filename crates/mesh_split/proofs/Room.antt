@@ -8,6 +8,7 @@ use Rattle.mesh_cuts.specs.Counted.{size}
 use Rattle.mesh_split.specs.Midway.Steps.{weight, extent, total_weight}
 use Rattle.mesh_plane.specs.Winding.{sum_of}
 use Rattle.mesh_plane.proofs.Sums.{sum_least}
+use Rattle.mesh_cuts.specs.Counted.{IsRoomy}
 
 -- the counts of live segments add up to no more than their weights
 pub size_weight : (k : Counted) → size k ≤ℤ weight k
@@ -23,5 +24,5 @@ sizes_weights (k ∷ ks) = omega (arith, ints, size_weight k, sizes_weights ks)
 pub weights_least : (ks : List Counted) → pos 0 ≤ℤ sum_of weight ks
 weights_least = sum_least weight (λ k. omega (arith, ints))
 
-pub live_room : (todo live : List Counted) → total_weight todo live ≤ℤ pos (2 ^ 97) → sum_of size live ≤ℤ pos (2 ^ 120)
+pub live_room : (todo live : List Counted) → total_weight todo live ≤ℤ pos (2 ^ 97) → IsRoomy (sum_of size live)
 live_room todo live h = omega (arith, ints, sizes_weights live, weights_least todo)

@@ -1,8 +1,7 @@
 -- The rings of contours so far.
-use Rattle.std.specs.Prelude.{ℕ, ◌≡◌, Bool, List, [], ◌∷◌, ◌++◌, ◌^◌, map, ℤ, Vec}
+use Rattle.std.specs.Prelude.{ℕ, ◌≡◌, Bool, List, [], ◌∷◌, ◌++◌, map, ℤ, Vec}
 use Rattle.std.specs.List.{All, filter, flat_map}
 use Rattle.std.specs.declared.alloc.Global.{Global}
-use Rattle.mesh_plane.specs.Bounds.{IsSafe}
 use Rattle.mesh_plane.specs.Plane.{Point, Edge}
 use Rattle.mesh_plane.specs.Winding.{sum_of, boundary}
 use Rattle.mesh_shapes.specs.Contours.{IsBegun}
@@ -15,7 +14,6 @@ pub record AreRingsOf (all : Bool) (least : ℕ) (given : List (Vec Point Global
   pub same : (f : Edge → ℤ) → sum_of f (flat_map boundary contours) ≡ sum_of f (contour_edges given)
   pub begun : All (IsBegun all) contours
   pub rings_are : rings_held rings ≡ filter (is_large least) (map (ring_of all) contours)
-  pub sides_small : All (λ (r : HeldRing). IsSafe (2 ^ 33) r.1) rings
 
 -- the ring of one more contour was added, or left out where it is small
 pub record PushesRing (all : Bool) (least : ℕ) (given : List Point) (old new : List HeldRing) : Type 0 where
@@ -23,4 +21,3 @@ pub record PushesRing (all : Bool) (least : ℕ) (given : List Point) (old new :
   pub same : (f : Edge → ℤ) → sum_of f (boundary contour) ≡ sum_of f (boundary given)
   pub begun : IsBegun all contour
   pub rings_are : rings_held new ≡ rings_held old ++ filter (is_large least) (ring_of all contour ∷ [])
-  pub sides_small : All (λ (r : HeldRing). IsSafe (2 ^ 33) r.1) old → All (λ (r : HeldRing). IsSafe (2 ^ 33) r.1) new

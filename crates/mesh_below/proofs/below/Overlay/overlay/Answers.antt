@@ -1,7 +1,6 @@
 use Rattle.std.proofs.lemmas.Result.{IfOk-weaker}
 use Rattle.mesh_below.proofs.below.Overlay.overlay.Goals as goal
 
--- src/below.rt:126:5
 pub returns-clause-resolution : goal.returns-clause-resolution
 returns-clause-resolution g c = IfOk-weaker c.resolved.result _ _ (λ v a. a.resolution) c.resolved.ensures
 

@@ -15,14 +15,12 @@ use Rattle.mesh_below.proofs.AnswerRegions.{regions_of, filled_none}
 use Rattle.mesh_below.proofs.AnswerPoints.{answer_safe, same_resolution}
 use Rattle.mesh_below.proofs.below.Overlay.resolved.Goals as goal
 
--- src/below.rt:135:22
 pub resolve-requires-clause-balanced : goal.resolve-requires-clause-balanced
 resolve-requires-clause-balanced g c =
     let same : c.deref-2.result.now ≡ edges_of c.args.self.now.segments.items =
     c.deref-2.ensures.value ∙ (c.in_ok-edges.ensures.value ∙ ap (λ (ss : List SignedEdge). edges_of ss) c.deref.ensures.value) in
     subst (λ (es : List Edge). IsBalanced es) (sym same) c.requires.balanced
 
--- src/below.rt:136:9
 pub int_shapes-requires : goal.int_shapes-requires
 int_shapes-requires g c =
     let same : c.deref-2.result.now ≡ edges_of c.args.self.now.segments.items =
@@ -30,7 +28,6 @@ int_shapes-requires g c =
     subst (λ (shapes : List (Vec (Vec Point Global) Global)). ArePointsSafe g.I.IntNumber.unit (shapes_of shapes)) (sym c.deref-3.ensures.value)
     (answer_safe g.I.IntNumber.unit c.deref-2.result.now (edges_of c.args.self.now.segments.items) (filled c.args.fill) _ (shapes_of c.in_ok-shapes.shapes.items) same c.requires.safe c.in_ok-shapes.ensures)
 
--- src/below.rt:126:5
 pub returns : goal.returns
 returns g c =
     let es = edges_of c.args.self.now.segments.items in
