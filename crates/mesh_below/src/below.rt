@@ -135,12 +135,12 @@ impl<I: IntNumber> Overlay<I> {
         requires safe { AreEdgesSafe I.unit (edges_of self.now.segments.items) }
         ensures resolution { OnOk result ((answer : List (List (List Point)))
             × IsResolution (edges_of self.now.segments.items) (filled fill)
-                (choices_of I.WideUInt.value self.now.options) answer
+            (choices_of I.WideUInt.value self.now.options) answer
             × ArePointsSafe I.unit answer
             × HoldsContours buffer.new (contours_of answer)) }
         ensures regions { OnOk result ((answer : List (List (List Point)))
             × AreRegions (edges_of self.now.segments.items) (filled fill)
-                (choices_of I.WideUInt.value self.now.options) answer
+            (choices_of I.WideUInt.value self.now.options) answer
             × HoldsContours buffer.new (contours_of answer)) }
         ensures err { OnErr result (buffer.new ≡ buffer.old) }
     {

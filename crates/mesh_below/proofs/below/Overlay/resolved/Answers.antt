@@ -45,6 +45,6 @@ returns g c =
       resolution = r;
       regions = regions_of es fill options (shapes_of v.items) proper c.requires.balanced (filled_none c.args.fill) r;
       safe = subst (λ (answer : List (List (List Point))). ArePointsSafe g.I.IntNumber.unit answer) (sym is)
-      (answer_safe g.I.IntNumber.unit c.deref-2.result.now es fill _ (shapes_of c.in_ok-shapes.shapes.items) same c.requires.safe c.in_ok-shapes.ensures);
+          (answer_safe g.I.IntNumber.unit c.deref-2.result.now es fill _ (shapes_of c.in_ok-shapes.shapes.items) same c.requires.safe c.in_ok-shapes.ensures);
     })
     c.int_shapes.ensures
