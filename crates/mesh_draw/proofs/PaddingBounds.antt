@@ -12,7 +12,7 @@ use Rattle.mesh_plane.specs.Plane.{Point, Edge, plus, minus}
 use Rattle.mesh_num.specs.Rectangle.{IsInRectangle, IsBounds, IsSafeRectangle, IsSafeWidened}
 use Rattle.mesh_join.specs.Joins.{outline_padding}
 use Rattle.mesh_join.specs.Styles.{OutlineStyle, outer}
-use Rattle.mesh_below.proofs.Resolving.{all_left, all_right}
+use Rattle.mesh_plane.proofs.ClosedLists.{all_left, all_right}
 use Rattle.mesh_draw.specs.Padding.{ArePathsSafe, all_points, widened}
 
 -- the west side is no farther east than the east side

@@ -6,13 +6,13 @@ use Rattle.mesh_plane.specs.Plane.{Point, Edge}
 use Rattle.mesh_plane.specs.Winding.{total, same_point, IsOdd}
 use Rattle.mesh_plane.proofs.Whole.{linear}
 use Rattle.mesh_plane.proofs.Sums.{sum_of_filter}
-use Rattle.mesh_plane.proofs.Balance.{same_point_is}
+use Rattle.mesh_plane.proofs.Comparing.{decides_point}
 use Rattle.mesh_num.specs.Segments.{proper_edges}
 
 module _ (f : Point → Point → ℤ) (odd : IsOdd f) where
   point_total : (e : Edge) → not (same_point e.0 e.1) ≡ false → f e.0 e.1 ≡ pos 0
   point_total e h =
-      let same : e.0 ≡ e.1 = same_point_is e.0 e.1 (not_false (same_point e.0 e.1) h) in
+      let same : e.0 ≡ e.1 = (decides_point e.0 e.1).0 (not_false (same_point e.0 e.1) h) in
       omega (arith, linear, odd e.1 e.1, ap (λ p. f p e.1) same)
     where
       not_false : (b : Bool) → not b ≡ false → b ≡ true

@@ -10,7 +10,7 @@ use Rattle.mesh_plane.proofs.Whole.{linear}
 use Rattle.mesh_plane.proofs.Sums.{sum_of_add, sum_of_none, sum_of_equal, sum_of_filter, total_append, total_flat_map, pieces_total_append, pieces_total_flat_map, pieces_total_map, sum_of_zero}
 use Rattle.mesh_plane.proofs.ClosedLists.{boundary_ends, boundary_all, all_both}
 use Rattle.mesh_plane.proofs.Pieces.{fan_total}
-use Rattle.mesh_plane.proofs.Balance.{same_point_is, same_point_self}
+use Rattle.mesh_plane.proofs.Comparing.{decides_point}
 use Rattle.mesh_num.specs.Segments.{proper_edges}
 use Rattle.mesh_join.specs.Joins.{between, through}
 use Rattle.mesh_draw.proofs.ProperEdges.{proper_edges_total}
@@ -99,7 +99,7 @@ module _ (f : Point → Point → ℤ) (odd : IsOdd f) where
 
   still_fan : (v p r : Point) (xs : List Point) → p ≡ v → r ≡ v → pieces_total f (fan v (through p xs r)) ≡ pos 0
   still_fan v p r xs ep er =
-      let same : same_point p r ≡ true = rw (ep, er) (same_point_self v) in
+      let same : same_point p r ≡ true = rw (ep, er) ((decides_point v v).1 refl) in
       rw same (omega (arith, linear, none_round v, ap (λ x. f v x) ep, ap (λ x. f x r) ep, ap (λ x. f v x) er, ap (λ x. f x v) er))
 
   still_corner : (is_outer : Corner → Bool) (join : Corner → List Point) (c : Corner) → Stays c.0 → Stays c.1 → c.0.b ≡ c.1.a →

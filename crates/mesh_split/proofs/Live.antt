@@ -13,7 +13,7 @@ use Rattle.mesh_plane.proofs.Whole.{linear}
 use Rattle.mesh_plane.proofs.Sums.{sum_of_append}
 use Rattle.mesh_cuts.specs.Split.{same_edge, same_ends}
 use Rattle.mesh_cuts.specs.Counted.{Counted, bit, times}
-use Rattle.mesh_split.specs.Steps.{exactly, IsAt, IsPut, IsTaken, IsRaised, IsClearOf}
+use Rattle.mesh_split.specs.Midway.Steps.{exactly, IsAt, IsPut, IsTaken, IsRaised, IsClearOf}
 use Rattle.mesh_cuts.specs.Split.{IsForward, AreClear}
 use Rattle.mesh_cuts.specs.Counted.{size}
 use Rattle.mesh_cuts.proofs.Ends.{decides_edge}
@@ -63,9 +63,6 @@ at_from xs i d e h t = record {
   within = h;
   ends = λ k. ap (λ (x : Counted). x.0) (get_or_default xs i k d h) ∙ (decides_edge (get_or xs i d).0 e).0 t;
 }
-
-pub clear_none : (s : Edge) → IsClearOf s []
-clear_none s = λ f some. absurd (omega (arith, ints))
 
 -- ---- a segment at a place
 

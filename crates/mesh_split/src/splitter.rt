@@ -6,8 +6,8 @@ ghost use Rattle.mesh_cuts.specs.Clean.{IsProper};
 ghost use Rattle.mesh_cuts.specs.Split.{is_end, IsInBox, Meets};
 ghost use Rattle.mesh_cuts.specs.Splitting.{IsSplitting};
 ghost use Rattle.mesh_cuts.specs.Split.{IsForward};
-ghost use Rattle.mesh_split.specs.Steps.{Puts, PutsPieces, Settles, exactly, weight, total_weight};
-ghost use Rattle.mesh_cuts.specs.Counted.{size};
+ghost use Rattle.mesh_split.specs.Midway.Steps.{Puts, PutsPieces, Settles, exactly, weight, total_weight};
+ghost use Rattle.mesh_cuts.specs.Counted.{size, IsRoomy};
 
 use crate::store::{Meeting, Store};
 use crate::worklist::Worklist;
@@ -33,7 +33,7 @@ fn single(e: GridEdge) -> CountedSegment
 
 /// The segment seen from its other end.
 fn turned(s: CountedSegment) -> CountedSegment
-    requires { weight s ≤ℤ pos (2 ^ 120) }
+    requires { IsRoomy (weight s) }
     ensures { result ≡ ((s.0.1, s.0.0), neg_ℤ s.1) }
 {
     let (start, end) = s.0;
@@ -54,7 +54,7 @@ impl Splitter {
     /// Adds a segment to the one with its ends, or else to the worklist.
     fn put(&mut self, s: CountedSegment) -> Result<(), AllocError>
         requires proper { same_point s.0.0 s.0.1 ≡ false }
-        requires room { (total_weight self.old.todo self.old.live +ℤ weight s) ≤ℤ pos (2 ^ 120) }
+        requires room { IsRoomy (total_weight self.old.todo self.old.live +ℤ weight s) }
         ensures { OnOk result (Puts self.old.todo self.old.live self.new.todo self.new.live s) }
     {
         if is_before(s.0.0, s.0.1) {
@@ -66,7 +66,7 @@ impl Splitter {
     /// The same, where the lesser end is first.
     fn file(&mut self, s: CountedSegment) -> Result<(), AllocError>
         requires forward { IsForward s.0 }
-        requires room { (total_weight self.old.todo self.old.live +ℤ weight s) ≤ℤ pos (2 ^ 120) }
+        requires room { IsRoomy (total_weight self.old.todo self.old.live +ℤ weight s) }
         ensures { OnOk result (Puts self.old.todo self.old.live self.new.todo self.new.live s) }
     {
         if self.live.add(s) {
@@ -80,7 +80,7 @@ impl Splitter {
     fn cut(&mut self, s: CountedSegment, c: GridPoint) -> Result<(), AllocError>
         requires inner { is_end c s.0 ≡ false }
         requires in_box { IsInBox s.0 c }
-        requires room { (total_weight self.old.todo self.old.live +ℤ weight s) ≤ℤ pos (2 ^ 120) }
+        requires room { IsRoomy (total_weight self.old.todo self.old.live +ℤ weight s) }
         ensures { OnOk result (PutsPieces self.old.todo self.old.live self.new.todo self.new.live s c) }
     {
         let (start, end) = s.0;
@@ -94,7 +94,7 @@ impl Splitter {
         requires proper { same_point s.0.0 s.0.1 ≡ false }
         requires meets { Meets s.0 m.0 m.1 }
         requires lives { pos 0 <ℤ exactly m.0 self.old.live }
-        requires room { (total_weight self.old.todo self.old.live +ℤ weight s) ≤ℤ pos (2 ^ 120) }
+        requires room { IsRoomy (total_weight self.old.todo self.old.live +ℤ weight s) }
         ensures { OnOk result (Settles self.old.todo self.old.live self.new.todo self.new.live s) }
     {
         if is_end(m.1, m.0) {
@@ -115,7 +115,7 @@ impl Splitter {
     /// Makes a segment live, or splits it.
     fn settle(&mut self, s: CountedSegment) -> Result<(), AllocError>
         requires forward { IsForward s.0 }
-        requires room { (total_weight self.old.todo self.old.live +ℤ weight s) ≤ℤ pos (2 ^ 120) }
+        requires room { IsRoomy (total_weight self.old.todo self.old.live +ℤ weight s) }
         ensures { OnOk result (Settles self.old.todo self.old.live self.new.todo self.new.live s) }
     {
         if let Some(m) = self.live.conflict(s.0) {
@@ -135,7 +135,7 @@ impl Splitter {
 pub fn split_edges(alloc: Global, edges: &[GridEdge]) -> Result<Vec<CountedSegment>, AllocError>
     requires { IsProper edges.now }
     ensures splitting { IfOk result (λ v. IsSplitting edges.now v.items) }
-    ensures room { IfOk result (λ v. sum_of size v.items ≤ℤ pos (2 ^ 120)) }
+    ensures room { IfOk result (λ v. IsRoomy (sum_of size v.items)) }
 {
     let mut splitter = Splitter::new(alloc);
     for e in edges {

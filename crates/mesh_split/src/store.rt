@@ -5,7 +5,7 @@ ghost use Rattle.std.specs.List.{All};
 ghost use Rattle.mesh_cuts.specs.Split.{Meets};
 ghost use Rattle.mesh_cuts.specs.Counted.{times};
 ghost use Rattle.mesh_cuts.specs.Split.{IsForward};
-ghost use Rattle.mesh_split.specs.Steps.{HaveRoom, IsPut, IsTaken, IsClearOf, AddsIf, IsAt, exactly};
+ghost use Rattle.mesh_split.specs.Midway.Steps.{HaveRoom, IsPut, IsTaken, IsClearOf, AddsIf, IsAt, exactly};
 
 use mesh_cuts::exact::{meeting, same_edge};
 use mesh_cuts::grid::{CountedSegment, GridEdge, GridPoint};

@@ -2,7 +2,7 @@ use Rattle.std.proofs.Common.{subst, sym, List, ap, ◌∙◌, get_or, ◌≡◌
 use Rattle.std.specs.Prelude.{◌≤ℤ◌}
 use Rattle.mesh_plane.specs.Winding.{sum_of}
 use Rattle.mesh_cuts.specs.Counted.{Counted, times}
-use Rattle.mesh_split.specs.Steps.{IsAt, HaveRoom, exactly}
+use Rattle.mesh_split.specs.Midway.Steps.{IsAt, HaveRoom, exactly}
 use Rattle.mesh_cuts.specs.Counted.{size}
 use Rattle.mesh_split.proofs.Entries.{has_room}
 use Rattle.mesh_split.proofs.Live.{raised_now, forward_set, size_at, absent_live}

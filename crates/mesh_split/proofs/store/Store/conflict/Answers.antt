@@ -1,7 +1,7 @@
 use Rattle.std.proofs.Common.{subst, List, ◌∙◌, get_or}
 use Rattle.std.specs.Prelude.{pos, ◌<ℤ◌}
 use Rattle.mesh_cuts.specs.Counted.{Counted}
-use Rattle.mesh_split.specs.Steps.{exactly}
+use Rattle.mesh_split.specs.Midway.Steps.{exactly}
 use Rattle.mesh_cuts.proofs.Ends.{edge_self}
 use Rattle.mesh_split.proofs.Live.{at_from, at_stands, clear_more}
 use Rattle.mesh_split.proofs.store.Store.conflict.Goals as goal

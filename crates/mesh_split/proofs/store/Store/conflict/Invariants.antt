@@ -1,5 +1,5 @@
 use Rattle.std.proofs.Common.{take}
-use Rattle.mesh_split.specs.Steps.{IsClearOf}
+use Rattle.mesh_split.specs.Midway.Steps.{IsClearOf}
 use Rattle.mesh_split.proofs.store.Store.conflict.Given as goal
 
 abbrev pub invariant-loop-k : goal.invariant-loop-k

@@ -1,6 +1,6 @@
 use Rattle.std.proofs.Common.{subst, sym, List}
 use Rattle.mesh_cuts.specs.Counted.{Counted}
-use Rattle.mesh_split.specs.Steps.{IsPut}
+use Rattle.mesh_split.specs.Midway.Steps.{IsPut}
 use Rattle.mesh_split.proofs.Live.{put_last}
 use Rattle.mesh_split.proofs.store.Store.insert.Goals as goal
 

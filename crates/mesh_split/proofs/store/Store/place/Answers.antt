@@ -1,6 +1,6 @@
 use Rattle.std.proofs.Common.{subst, sym, List, ◌∙◌}
 use Rattle.mesh_cuts.specs.Counted.{Counted}
-use Rattle.mesh_split.specs.Steps.{IsAt}
+use Rattle.mesh_split.specs.Midway.Steps.{IsAt}
 use Rattle.mesh_split.proofs.Live.{at_from, none_more}
 use Rattle.mesh_split.proofs.store.Store.place.Goals as goal
 

@@ -1,6 +1,6 @@
 use Rattle.std.proofs.Common.{◌≡◌, take}
 use Rattle.std.specs.Prelude.{pos}
-use Rattle.mesh_split.specs.Steps.{exactly}
+use Rattle.mesh_split.specs.Midway.Steps.{exactly}
 use Rattle.mesh_split.proofs.store.Store.place.Given as goal
 
 abbrev pub invariant-loop-i : goal.invariant-loop-i

@@ -1,7 +1,7 @@
 use Rattle.std.proofs.Common.{subst, sym, List, ap, ◌∙◌}
 use Rattle.std.specs.List.{All}
 use Rattle.mesh_cuts.specs.Counted.{Counted}
-use Rattle.mesh_split.specs.Steps.{IsAt, IsTaken}
+use Rattle.mesh_split.specs.Midway.Steps.{IsAt, IsTaken}
 use Rattle.mesh_cuts.specs.Split.{IsForward}
 use Rattle.mesh_split.proofs.Live.{taken_at, forward_at, forward_taken}
 use Rattle.mesh_split.proofs.store.Store.remove.Goals as goal

@@ -11,7 +11,7 @@ use Rattle.mesh_cuts.specs.Counted.{size}
 use Rattle.mesh_shapes.proofs.BoundaryCounted.{emitted, counted_boundary}
 use Rattle.mesh_shapes.proofs.SidesCode.{size_least, next_part}
 use Rattle.mesh_plane.proofs.Sums.{sum_least}
-use Rattle.mesh_shapes.proofs.sides.boundary.Goals as goal
+use Rattle.mesh_shapes.proofs.sides.find_boundary.Goals as goal
 
 pub sides_of-requires-clause-count_small : goal.sides_of-requires-clause-count_small
 sides_of-requires-clause-count_small c =
