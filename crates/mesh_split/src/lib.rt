@@ -1,7 +1,7 @@
 //! The splitting: directed edges are cut, one legal split at a time, until any two segments share only common ends.
 //!
 //! `splitter` has the public call; its contract is in `mesh_cuts/specs/Splitting.antt`. `worklist` and `store` have the
-//! segments that wait and those that live.
+//! segments that wait and those that live. `specs/Midway` has the states of its loops, which private contracts alone read.
 #![tactic(auto)]
 
 pub mod splitter;
