@@ -1,7 +1,7 @@
 -- Lemmas over points and lists: edges whose ends are one point add nothing to a sum.
 use Rattle.std.proofs.Common.{◌≡◌, List, refl, ap, arith}
 use Rattle.std.specs.Prelude.{ℤ, pos, Bool, true, false, not}
-use Rattle.std.proofs.lemmas.Bool.{true≢false}
+use Rattle.std.proofs.lemmas.Bool.{not-false}
 use Rattle.mesh_plane.specs.Plane.{Point, Edge}
 use Rattle.mesh_plane.specs.Winding.{total, same_point, IsOdd}
 use Rattle.mesh_plane.proofs.Whole.{linear}
@@ -12,12 +12,8 @@ use Rattle.mesh_num.specs.Segments.{proper_edges}
 module _ (f : Point → Point → ℤ) (odd : IsOdd f) where
   point_total : (e : Edge) → not (same_point e.0 e.1) ≡ false → f e.0 e.1 ≡ pos 0
   point_total e h =
-      let same : e.0 ≡ e.1 = (decides_point e.0 e.1).0 (not_false (same_point e.0 e.1) h) in
+      let same : e.0 ≡ e.1 = (decides_point e.0 e.1).0 (not-false (same_point e.0 e.1) h) in
       omega (arith, linear, odd e.1 e.1, ap (λ p. f p e.1) same)
-    where
-      not_false : (b : Bool) → not b ≡ false → b ≡ true
-      not_false true k = refl
-      not_false false k = absurd (true≢false k)
 
   pub proper_edges_total : (es : List Edge) → total f (proper_edges es) ≡ total f es
   proper_edges_total es = sum_of_filter (λ (e : Edge). f e.0 e.1) (λ (e : Edge). not (same_point e.0 e.1)) point_total es

@@ -9,7 +9,7 @@ use Rattle.mesh_plane.specs.Plane.{Edge, Point}
 use Rattle.mesh_plane.specs.Winding.{boundary}
 use Rattle.mesh_num.specs.Segments.{SignedEdge}
 use Rattle.mesh_join.proofs.JoinLaws.{KeepsJoint}
-use Rattle.mesh_join.specs.Cleaned.{cleaned_sections}
+use Rattle.mesh_clean.specs.Cleaned.{cleaned_sections}
 use Rattle.mesh_join.specs.Joins.{offset_padding, has_few}
 use Rattle.mesh_join.specs.Styles.{OffsetJoin}
 use Rattle.mesh_draw.specs.Adding.{Adds, added, added_edges}

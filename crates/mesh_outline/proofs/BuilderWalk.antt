@@ -11,7 +11,7 @@ use Rattle.mesh_plane.specs.Winding.{route}
 use Rattle.mesh_num.specs.Segments.{SignedEdge, edges_of, IsSubject}
 use Rattle.mesh_plane.proofs.ClosedLists.{woven}
 use Rattle.mesh_num.proofs.Subjects.{segments_of_subjects, segment_between_subject}
-use Rattle.mesh_join.specs.Cleaned.{cleaned_sections, IsClean}
+use Rattle.mesh_clean.specs.Cleaned.{cleaned_sections, IsClean}
 use Rattle.mesh_clean.proofs.CleaningEnds.{cleaned_sections-ends}
 use Rattle.mesh_num.proofs.SegmentLists.{edges_of_segments, edges_of-append}
 use Rattle.mesh_outline.specs.Outline.{Section, Corner, top_edge, section_of, corner_edges, parts, joined, ring_outline, drawn_edges}

@@ -7,6 +7,7 @@ use Rattle.std.proofs.Math.Bool.{beq}
 use Rattle.std.proofs.lemmas.Bool.Decides.{leb_tells}
 use Rattle.std.proofs.lemmas.Int.{ints}
 use Rattle.std.proofs.lemmas.List.Elements.{All-map, All-weaker}
+use Rattle.mesh_plane.proofs.Identities.{cross_flip}
 use Rattle.mesh_plane.specs.Plane.{Point, Edge, plus, minus, opposite, cross, dot, turn, right_quarter, length_sq}
 use Rattle.mesh_num.specs.Direction.{IsFresh, IsShort, scaled_direction}
 use Rattle.mesh_num.specs.Directed.{direction_of}
@@ -68,9 +69,6 @@ outer_side : (offset x d y : ℤ) → (x ≡ pos 0 → y ≡ pos 0) → (pos 0 �
     cond (int_eq x (pos 0)) (int_lt d (pos 0)) (beq (int_lt (pos 0) x) (int_lt offset (pos 0))) ≡ true → pos 0 ≤ℤ sided offset y
 outer_side offset x d y flat left right h = grind (arith, ints)
 
-cross_flip : (v w : Point) → cross v w ≡ neg_ℤ (cross w v)
-cross_flip v w = simp multiplied (omega (arith, linear))
-
 -- the ends of a join at an outer corner don't turn back
 ends_turn : (unit : ℕ) (offset : ℤ) (a v b : Point) → 0 < unit → a ≢ v → v ≢ b →
     parts offset (section_of unit offset (a, v), section_of unit offset (v, b)) ≡ true →
@@ -84,9 +82,9 @@ ends_turn unit offset a v b some first second outer =
     let du = direction_of_is unit u (apart_long (v, b) second) in
     rw (tops_turn v s t)
     (outer_side offset (cross u w) (dot u w) (cross s t)
-    (λ h. scaled_parallel_kept offset some dw du (omega (arith, linear, cross_flip w u)))
-    (λ h. omega (arith, linear, cross_flip s t, scaled_turn_kept offset some du dw h))
-    (λ h. scaled_turn_kept offset some dw du (omega (arith, linear, cross_flip w u)))
+    (λ h. scaled_parallel_kept offset some dw du (omega (arith, linear, cross_flip u w)))
+    (λ h. omega (arith, linear, cross_flip t s, scaled_turn_kept offset some du dw h))
+    (λ h. scaled_turn_kept offset some dw du (omega (arith, linear, cross_flip u w)))
     outer)
 
 outer_ends : (unit : ℕ) (offset : ℤ) (e g : Edge) → 0 < unit → e.0 ≢ e.1 → g.0 ≢ g.1 → e.1 ≡ g.0 →

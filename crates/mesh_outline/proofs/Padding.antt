@@ -10,7 +10,7 @@ use Rattle.mesh_num.specs.Direction.{IsDirection, scaled_direction}
 use Rattle.mesh_num.specs.Directed.{direction_of}
 use Rattle.mesh_num.specs.Rectangle.{IsSafeWidened}
 use Rattle.mesh_plane.specs.Winding.{route, boundary, same_point}
-use Rattle.mesh_plane.proofs.ClosedLists.{boundary_all, all_both, all_flat_map}
+use Rattle.mesh_plane.proofs.ClosedLists.{boundary_all, all_both, all_flat_map, route_all}
 use Rattle.mesh_num.proofs.Directed.{direction_of_is}
 use Rattle.mesh_num.proofs.Parts.{direction_short}
 use Rattle.mesh_num.proofs.Scaling.{scaled_direction_bounded}
@@ -77,10 +77,6 @@ HoldsOf P s = P s.a × P s.b × P s.a_top × P s.b_top
 
 abbrev HoldsOfEnds : (Point → Type 0) → Edge → Type 0
 HoldsOfEnds P e = P e.0 × P e.1
-
-route_all : (P : Point → Type 0) (a : Point) (xs : List Point) (z : Point) → P a → All P xs → P z → All (HoldsOfEnds P) (route a xs z)
-route_all P a [] z ha hs hz = All-cons (HoldsOfEnds P) (a, z) [] (ha, hz) (All-nil (HoldsOfEnds P))
-route_all P a (x ∷ xs) z ha hs hz = All-cons (HoldsOfEnds P) (a, x) (route x xs z) (ha, All-head P x xs hs) (route_all P x xs z (All-head P x xs hs) (All-tail P x xs hs) hz)
 
 corner_all : (P : Point → Type 0) (is_outer : Corner → Bool) (join : Corner → List Point) (c : Corner) → HoldsOf P c.0 → HoldsOf P c.1 →
     (is_outer c ≡ true → All P (between c.0.b_top (join c) c.1.a_top)) → All (HoldsOfEnds P) (corner_edges is_outer join c)

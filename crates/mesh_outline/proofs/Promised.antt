@@ -10,7 +10,7 @@ use Rattle.mesh_plane.proofs.Crossings.{crossing_on_odd}
 use Rattle.mesh_shapes.specs.Contours.{double_area}
 use Rattle.mesh_clean.proofs.CleaningEnds.{cleaned_sections-ends}
 use Rattle.mesh_clean.proofs.CleaningSteps.{cleaned-none, cleaned-clean, cleaned-winding}
-use Rattle.mesh_join.specs.Cleaned.{cleaned_sections, IsClean}
+use Rattle.mesh_clean.specs.Cleaned.{cleaned_sections, IsClean}
 use Rattle.mesh_join.specs.Styles.{OffsetJoin, OutlineStyle, outer, inner}
 use Rattle.mesh_draw.specs.Drawing.{NeverTurnedRound}
 use Rattle.mesh_outline.specs.Outline.{parts, joined, section_of, drawn_pieces, outline_pieces, IsRing}

@@ -9,7 +9,7 @@ use Rattle.mesh_plane.specs.Bounds.{IsSafe}
 use Rattle.mesh_plane.specs.Plane.{Point, Edge}
 use Rattle.mesh_num.specs.Segments.{proper_edges}
 use Rattle.mesh_plane.specs.Winding.{same_point}
-use Rattle.mesh_join.specs.Cleaned.{cleaned_sections}
+use Rattle.mesh_clean.specs.Cleaned.{cleaned_sections}
 use Rattle.mesh_cuts.specs.Reach.{AreEdgesSafe}
 use Rattle.mesh_below.proofs.AnswerPoints.{resolution_safe}
 use Rattle.mesh_plane.proofs.ClosedLists.{all_left, all_right}

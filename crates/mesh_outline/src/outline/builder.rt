@@ -9,7 +9,7 @@ ghost use Rattle.mesh_join.specs.Joins.{offset_padding};
 ghost use Rattle.mesh_join.specs.Styles.{style_of};
 ghost use Rattle.mesh_draw.specs.Padding.{IsNear};
 ghost use Rattle.std.specs.List.{All};
-ghost use Rattle.mesh_join.specs.Cleaned.{AllEqual, cleaned_sections};
+ghost use Rattle.mesh_clean.specs.Cleaned.{AllEqual, cleaned_sections};
 ghost use Rattle.mesh_outline.specs.Outline.{outline_edges, outline_pieces};
 ghost use Rattle.mesh_draw.specs.Adding.{Adds, added, added_edges, Keeps};
 ghost use Rattle.mesh_outline.specs.Building.{style_for, IsCorner, IsMovable, corner_segments, top_segments};

@@ -1,6 +1,6 @@
 -- What the walk adds, and that it can go on.
 use Rattle.std.proofs.Common.{◌++◌, refl, sym, ◌∙◌, ap}
-use Rattle.mesh_join.specs.Cleaned.{cleaned_sections}
+use Rattle.mesh_clean.specs.Cleaned.{cleaned_sections}
 use Rattle.mesh_clean.proofs.CleaningSteps.{cleaned-none}
 use Rattle.mesh_outline.specs.Building.{top_segments}
 use Rattle.mesh_outline.proofs.Padding.{movable_within}

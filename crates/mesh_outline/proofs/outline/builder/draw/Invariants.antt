@@ -1,6 +1,6 @@
 -- What is still to be added, and that the sections still to come meet.
 use Rattle.std.proofs.Common.{◌≡◌, ◌++◌}
-use Rattle.mesh_join.specs.Cleaned.{cleaned_sections}
+use Rattle.mesh_clean.specs.Cleaned.{cleaned_sections}
 use Rattle.mesh_join.specs.Styles.{OffsetJoin}
 use Rattle.mesh_draw.specs.Adding.{Keeps}
 use Rattle.mesh_outline.proofs.BuilderWalk.{to_come, walk_segments, Continues}
