@@ -10,8 +10,6 @@ use Rattle.mesh_plane.proofs.ClosedLists.{all_flat_map}
 use Rattle.mesh_plane.specs.Bounds.{IsSafe, IsSmall, IsWithin}
 use Rattle.mesh_plane.specs.Plane.{Point, Edge, plus, minus}
 use Rattle.mesh_num.specs.Rectangle.{IsInRectangle, IsBounds, IsSafeRectangle, IsSafeWidened}
-use Rattle.mesh_join.specs.Joins.{outline_padding}
-use Rattle.mesh_join.specs.Styles.{OutlineStyle, outer}
 use Rattle.mesh_plane.proofs.ClosedLists.{all_left, all_right}
 use Rattle.mesh_draw.specs.Padding.{ArePathsSafe, all_points, widened}
 

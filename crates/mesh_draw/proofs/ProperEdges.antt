@@ -1,6 +1,6 @@
 -- Lemmas over points and lists: edges whose ends are one point add nothing to a sum.
-use Rattle.std.proofs.Common.{◌≡◌, List, refl, ap, arith}
-use Rattle.std.specs.Prelude.{ℤ, pos, Bool, true, false, not}
+use Rattle.std.proofs.Common.{◌≡◌, List, ap, arith}
+use Rattle.std.specs.Prelude.{ℤ, pos, false, not}
 use Rattle.std.proofs.lemmas.Bool.{not-false}
 use Rattle.mesh_plane.specs.Plane.{Point, Edge}
 use Rattle.mesh_plane.specs.Winding.{total, same_point, IsOdd}

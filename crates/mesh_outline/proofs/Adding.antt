@@ -1,25 +1,10 @@
 -- Lemmas over points and lists: the edges of contours are added one after another.
-use Rattle.std.proofs.Common.{◌≡◌, ℕ, ◌+◌, ◌<◌, ◌≤◌, List, [], ◌∷◌, ◌++◌, length, take, get_or, refl, sym, ap, ◌∙◌, take_all, append_assoc}
-use Rattle.std.specs.List.{flat_map}
-use Rattle.std.specs.declared.vec.Vec.{Vec}
-use Rattle.std.specs.declared.alloc.Global.{Global}
-use Rattle.std.proofs.lemmas.List.{append-nil, map_more, map-append, take_more}
-use Rattle.std.proofs.lemmas.List.Concat.{flat_map-append}
-use Rattle.std.proofs.lemmas.List.Elements.{All-nil, All-append}
-use Rattle.mesh_plane.specs.Bounds.{IsSafe}
-use Rattle.mesh_num.specs.Paths.{paths_of, shapes_of, contours_of}
+use Rattle.std.proofs.Common.{ℕ, ◌+◌, ◌<◌, ◌≤◌, List, [], ◌++◌, length, take, get_or, take_all}
+use Rattle.std.proofs.lemmas.List.{take_more}
 use Rattle.mesh_plane.specs.Plane.{Point, Edge}
-use Rattle.mesh_num.specs.Segments.{SignedEdge, segments_of}
-use Rattle.mesh_plane.specs.Winding.{boundary}
-use Rattle.mesh_plane.proofs.Balance.{balanced_append}
-use Rattle.mesh_num.proofs.Paths.{contours_more}
-use Rattle.mesh_num.proofs.SegmentLists.{segments_of-append}
-use Rattle.mesh_cuts.specs.Split.{back}
-use Rattle.mesh_cuts.specs.declared.fill.FillRule.{FillRule}
-use Rattle.mesh_cuts.specs.declared.fill.FillRule.TheVariants.{Positive, Negative}
+use Rattle.mesh_num.specs.Segments.{SignedEdge}
 use Rattle.mesh_join.specs.Styles.{OutlineStyle}
-use Rattle.mesh_draw.specs.Adding.{along, AddsClosed}
-use Rattle.mesh_draw.specs.Adding.{answer_edges}
+use Rattle.mesh_draw.specs.Adding.{AddsClosed}
 use Rattle.mesh_outline.specs.Resolved.{Gives, Give}
 use Rattle.mesh_draw.proofs.Adding.{adds_more}
 

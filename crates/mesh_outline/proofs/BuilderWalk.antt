@@ -1,9 +1,7 @@
 -- Lemmas over points and lists: what the builder's walk round the sections adds.
-use Rattle.std.proofs.Common.{◌≡◌, ◌≢◌, ℕ, List, [], ◌∷◌, ◌++◌, map, refl, sym, ◌∙◌, ap, append_assoc, append-nil, length, Result, Ok, Err}
-use Rattle.std.specs.Prelude.{OnOk}
+use Rattle.std.proofs.Common.{◌≡◌, ◌≢◌, ℕ, List, [], ◌∷◌, ◌++◌, map, refl, sym, ◌∙◌, ap, append_assoc, append-nil}
 use Rattle.std.specs.List.{All}
 use Rattle.std.specs.List.Sorted.{IsPermutation}
-use Rattle.std.proofs.lemmas.List.{take_at}
 use Rattle.std.proofs.lemmas.List.Elements.{All-append, All-nil, All-head, All-tail}
 use Rattle.std.proofs.lemmas.List.Sorted.{IsPermutation-append_comm, IsPermutation-refl}
 use Rattle.mesh_plane.specs.Plane.{Point, Edge}
@@ -16,7 +14,7 @@ use Rattle.mesh_clean.proofs.CleaningEnds.{cleaned_sections-ends}
 use Rattle.mesh_num.proofs.SegmentLists.{edges_of_segments, edges_of-append}
 use Rattle.mesh_outline.specs.Outline.{Section, Corner, top_edge, section_of, corner_edges, parts, joined, ring_outline, drawn_edges}
 use Rattle.mesh_outline.specs.Building.{IsMovable, IsMoved, IsCorner, corner_segments, top_segments}
-use Rattle.mesh_draw.specs.Adding.{Adds, Keeps}
+use Rattle.mesh_draw.specs.Adding.{Adds}
 use Rattle.mesh_join.specs.Styles.{OffsetJoin}
 use Rattle.mesh_outline.proofs.Padding.{movable_within}
 use Rattle.mesh_outline.proofs.OutlineWalk.{drawn_top, drawn_corner, drawn_by_walk}

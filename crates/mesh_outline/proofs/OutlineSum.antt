@@ -1,17 +1,15 @@
 -- Lemmas over points and lists: what is drawn over a closed list of sections is their own edges and the boundaries of the pieces.
 use Rattle.std.proofs.Common.{◌≡◌, List, [], ◌∷◌, ◌++◌, refl, sym, ◌∙◌, ap, arith}
-use Rattle.std.specs.Prelude.{ℤ, pos, ◌+ℤ◌, ◌-ℤ◌, Bool, true, false, cond, not, map}
+use Rattle.std.specs.Prelude.{ℤ, pos, ◌+ℤ◌, ◌-ℤ◌, Bool, true, false, cond, map}
 use Rattle.std.specs.List.{All, flat_map}
-use Rattle.std.proofs.lemmas.Bool.{true≢false}
 use Rattle.std.proofs.lemmas.List.Elements.{All-weaker}
-use Rattle.mesh_plane.specs.Plane.{Point, Edge}
+use Rattle.mesh_plane.specs.Plane.{Point}
 use Rattle.mesh_plane.specs.Winding.{sum_of, total, boundary, fan, pieces_total, same_point, IsOdd}
 use Rattle.mesh_plane.proofs.Whole.{linear}
-use Rattle.mesh_plane.proofs.Sums.{sum_of_add, sum_of_none, sum_of_equal, sum_of_filter, total_append, total_flat_map, pieces_total_append, pieces_total_flat_map, pieces_total_map, sum_of_zero}
+use Rattle.mesh_plane.proofs.Sums.{sum_of_add, sum_of_none, sum_of_equal, total_append, total_flat_map, pieces_total_append, pieces_total_flat_map, pieces_total_map, sum_of_zero}
 use Rattle.mesh_plane.proofs.ClosedLists.{boundary_ends, boundary_all, all_both}
 use Rattle.mesh_plane.proofs.Pieces.{fan_total}
 use Rattle.mesh_plane.proofs.Comparing.{decides_point}
-use Rattle.mesh_num.specs.Segments.{proper_edges}
 use Rattle.mesh_join.specs.Joins.{between, through}
 use Rattle.mesh_draw.proofs.ProperEdges.{proper_edges_total}
 use Rattle.mesh_outline.specs.Outline.{Section, Corner, own_edge, top_edge, strip, inner_edges, outer_edges, corner_edges, corner_pieces, drawn_edges, drawn_pieces}

@@ -3,13 +3,13 @@ use Rattle.std.proofs.Common.{◌≡◌, ◌≢◌, ℕ, ◌<◌, ◌≤◌, ◌
 use Rattle.std.specs.Prelude.{ℤ, pos, ◌≤ℤ◌, unsigned_abs, int_lt, Option, Some, None, IfSome}
 use Rattle.std.specs.List.{All, Contains, flat_map}
 use Rattle.std.proofs.lemmas.Int.{ints, clamps}
-use Rattle.std.proofs.lemmas.List.Elements.{All-nil, All-cons, All-head, All-tail, All-map, All-append, All-filter, All-weaker, All-contains}
+use Rattle.std.proofs.lemmas.List.Elements.{All-nil, All-cons, All-map, All-append, All-filter, All-weaker}
 use Rattle.mesh_plane.specs.Bounds.{IsSafe}
-use Rattle.mesh_plane.specs.Plane.{Point, Edge, plus, minus, right_quarter}
+use Rattle.mesh_plane.specs.Plane.{Point, Edge, minus}
 use Rattle.mesh_num.specs.Direction.{IsDirection, scaled_direction}
 use Rattle.mesh_num.specs.Directed.{direction_of}
 use Rattle.mesh_num.specs.Rectangle.{IsSafeWidened}
-use Rattle.mesh_plane.specs.Winding.{route, boundary, same_point}
+use Rattle.mesh_plane.specs.Winding.{boundary, same_point}
 use Rattle.mesh_plane.proofs.ClosedLists.{boundary_all, all_both, all_flat_map, route_all}
 use Rattle.mesh_num.proofs.Directed.{direction_of_is}
 use Rattle.mesh_num.proofs.Parts.{direction_short}

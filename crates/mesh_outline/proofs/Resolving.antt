@@ -1,27 +1,15 @@
 -- Lemmas over points and lists: what comes of one contour, and what is resolved at last.
-use Rattle.std.proofs.Common.{◌≡◌, ℕ, List, [], ◌∷◌, ◌++◌, map, refl, ◌∙◌, ap, arith}
-use Rattle.std.specs.Prelude.{ℤ, pos, ◌-ℤ◌, Some}
-use Rattle.std.specs.List.{All, flat_map}
+use Rattle.std.proofs.Common.{◌≡◌, ℕ, List, []}
+use Rattle.std.specs.Prelude.{Some}
 use Rattle.std.specs.List.Sorted.{IsPermutation}
-use Rattle.std.proofs.lemmas.List.Elements.{All-map, All-weaker, All-filter}
-use Rattle.mesh_plane.specs.Bounds.{IsSafe}
-use Rattle.mesh_num.specs.Paths.{contours_of}
 use Rattle.mesh_plane.specs.Plane.{Point, Edge}
-use Rattle.mesh_num.specs.Segments.{SignedEdge, edges_of, proper_edges, segments_of, IsSubject}
-use Rattle.mesh_plane.specs.Winding.{total, boundary, IsBalanced}
-use Rattle.mesh_plane.proofs.Whole.{linear}
-use Rattle.mesh_plane.proofs.Balance.{growth, growth_odd, growth_of_balanced, balanced_by_growth, balanced_append, boundary_balanced}
-use Rattle.mesh_plane.proofs.ClosedLists.{boundary_all, all_flat_map}
-use Rattle.mesh_num.proofs.SegmentLists.{edges_of_segments}
-use Rattle.mesh_num.proofs.Subjects.{segments_of_subjects}
+use Rattle.mesh_num.specs.Segments.{SignedEdge, edges_of}
 use Rattle.mesh_shapes.specs.Contours.{double_area}
 use Rattle.mesh_cuts.specs.FillRules.{filled}
 use Rattle.mesh_below.specs.Options.{plain}
-use Rattle.mesh_cuts.specs.Reach.{AreEdgesSafe, ArePointsSafe}
 use Rattle.mesh_shapes.specs.Resolution.{Choices, IsResolution}
-use Rattle.mesh_cuts.specs.Split.{back}
 use Rattle.mesh_cuts.specs.declared.fill.FillRule.{FillRule}
-use Rattle.mesh_cuts.specs.declared.fill.FillRule.TheVariants.{Positive, Negative}
+use Rattle.mesh_cuts.specs.declared.fill.FillRule.TheVariants.{Positive}
 use Rattle.mesh_join.specs.Styles.{OffsetJoin, OutlineStyle}
 use Rattle.mesh_draw.specs.Adding.{along, AddsClosed}
 use Rattle.mesh_draw.proofs.Resolving.{given_edges}
@@ -30,7 +18,6 @@ use Rattle.mesh_draw.specs.Adding.{added_edges}
 use Rattle.mesh_outline.specs.Outline.{outline_edges}
 use Rattle.mesh_draw.specs.Adding.{answer_edges}
 use Rattle.mesh_outline.specs.Resolved.{fill_for, IsAnswerAlone, Gives, Give, IsOutline}
-use Rattle.mesh_draw.proofs.ProperEdges.{proper_edges_total}
 
 -- ---- the edges of an answer
 

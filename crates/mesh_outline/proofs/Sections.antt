@@ -1,10 +1,7 @@
 -- Lemmas over points: sections of safe points are safe, and are what their definition says.
-use Rattle.std.proofs.Common.{◌≡◌, ℕ, ◌*◌, ◌≤◌, ◌∙◌, ap, arith}
-use Rattle.std.specs.Prelude.{ℤ, pos, unsigned_abs}
-use Rattle.std.proofs.lemmas.Int.{ints}
-use Rattle.mesh_plane.specs.Bounds.{IsSafe, IsWithin}
+use Rattle.std.proofs.Common.{◌≡◌, ℕ, ◌∙◌, ap}
+use Rattle.std.specs.Prelude.{ℤ}
 use Rattle.mesh_plane.specs.Plane.{Point, plus, minus, right_quarter}
-use Rattle.mesh_num.specs.Rectangle.{IsSafeWidened}
 use Rattle.mesh_num.specs.Direction.{IsDirection, scaled_direction}
 use Rattle.mesh_num.specs.Directed.{direction_of}
 use Rattle.mesh_num.proofs.Directed.{is_direction_of}

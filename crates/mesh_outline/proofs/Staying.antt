@@ -5,7 +5,6 @@ use Rattle.std.specs.List.{All}
 use Rattle.std.specs.List.Sorted.{IsPermutation}
 use Rattle.std.proofs.lemmas.List.Elements.{All-nil, All-head, All-append, All-filter, All-weaker}
 use Rattle.std.proofs.lemmas.List.Sorted.{IsPermutation-sym, All-permutation}
-use Rattle.mesh_plane.specs.Bounds.{IsSafe}
 use Rattle.mesh_plane.specs.Plane.{Point, Edge}
 use Rattle.mesh_num.specs.Segments.{proper_edges}
 use Rattle.mesh_plane.specs.Winding.{same_point}
@@ -22,7 +21,6 @@ use Rattle.mesh_outline.specs.Outline.{outline_edges}
 use Rattle.mesh_draw.specs.Padding.{ArePathsSafe}
 use Rattle.mesh_draw.specs.Adding.{answer_edges}
 use Rattle.mesh_outline.specs.Resolved.{fill_for, IsAnswerAlone, Gives, Give}
-use Rattle.mesh_draw.specs.Staying.{IsSafeResolving}
 use Rattle.mesh_outline.specs.Staying.{IsSafeAlone, StaysSafe}
 use Rattle.mesh_outline.proofs.Promised.{cleaned_ring, cleaned_listed}
 use Rattle.mesh_outline.proofs.Padding.{outer_accepted, inner_accepted, path_movable, outline_safe}

@@ -1,15 +1,11 @@
 -- What the outline's builder asks and adds.
-use Rattle.std.specs.Prelude.{ℕ, ◌≡◌, ◌≢◌, List, ◌++◌, length, take, drop, count_by, cond, ◌+ℤ◌, ℤ, pos, int_lt, unsigned_abs, Option, Some, None}
-use Rattle.mesh_plane.specs.Plane.{Point, Edge}
+use Rattle.std.specs.Prelude.{ℕ, ◌≡◌, ◌≢◌, List, cond, ℤ, pos, int_lt, unsigned_abs, Option, Some, None}
+use Rattle.mesh_plane.specs.Plane.{Point}
 use Rattle.mesh_num.specs.Rectangle.{IsSafeWidened}
-use Rattle.std.specs.List.{All}
-use Rattle.mesh_plane.specs.Winding.{boundary, winding, crossing_on, pieces_total, holds, IsBit}
 use Rattle.mesh_join.specs.Joins.{offset_padding}
 use Rattle.mesh_join.specs.Styles.{OffsetJoin, OutlineStyle, outer, inner}
-use Rattle.std.specs.List.Sorted.{IsPermutation}
-use Rattle.mesh_num.specs.Segments.{SignedEdge, edges_of, segments_of, segment_between, IsSubject}
+use Rattle.mesh_num.specs.Segments.{SignedEdge, segments_of, segment_between}
 use Rattle.mesh_outline.specs.Outline.{Section, Corner, own_edge, section_of, corner_edges, parts, joined}
-use Rattle.mesh_draw.specs.Drawing.{sided}
 
 -- how a contour moves, by its double area: an outer boundary has an area above 0, a hole one below 0; a contour of area 0 does not move
 abbrev pub style_for : OutlineStyle → ℤ → Option OffsetJoin

@@ -1,5 +1,5 @@
 -- Outlines: how a contour that is moved sideways by an offset is drawn, and the pieces between it and the contour.
-use Rattle.std.specs.Prelude.{ℕ, ◌≡◌, ◌≢◌, Bool, cond, List, [], ◌∷◌, ◌++◌, map, ℤ, pos, neg_ℤ, unsigned_abs, int_lt}
+use Rattle.std.specs.Prelude.{ℕ, ◌≡◌, ◌≢◌, Bool, cond, List, [], ◌∷◌, ◌++◌, map, ℤ, pos, unsigned_abs, int_lt}
 use Rattle.std.specs.Ordering.{int_eq}
 use Rattle.std.specs.List.{All, flat_map}
 use Rattle.std.proofs.Math.Bool.{beq}

@@ -1,12 +1,10 @@
 -- The outline of many contours: each is moved and resolved alone, and what comes of all of them is resolved together.
 use Rattle.std.specs.Prelude.{ℕ, ◌≡◌, List, [], ◌∷◌, ◌++◌, ℤ, pos, int_lt, Bool, cond, Some, None, IfSome}
-use Rattle.std.specs.List.{All, flat_map}
+use Rattle.std.specs.List.{All}
 use Rattle.std.specs.List.Sorted.{IsPermutation}
 use Rattle.mesh_plane.specs.Bounds.{IsWithin}
-use Rattle.mesh_num.specs.Paths.{contours_of}
 use Rattle.mesh_plane.specs.Plane.{Point, Edge}
 use Rattle.mesh_num.specs.Segments.{proper_edges}
-use Rattle.mesh_plane.specs.Winding.{boundary}
 use Rattle.mesh_shapes.specs.Contours.{double_area}
 use Rattle.mesh_cuts.specs.FillRules.{filled}
 use Rattle.mesh_below.specs.Options.{plain}

@@ -2,7 +2,6 @@
 #![tactic(auto)]
 
 pub use mesh_service::service;
-
 use service::serve;
 use std::process::ExitCode;
 
