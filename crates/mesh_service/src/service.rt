@@ -128,7 +128,7 @@ fn outline_line<I: OverlayInt>(
     request: &OutlineRequest<I>,
 ) -> Result<String, IntOutlineError>
     ensures answered { IfOk result (λ line. Answers (by_values I.cmp I.of_value) request.now (string_bytes line)) }
-    ensures refused { result ≡ Err IntOutlineError.CoordinateOutOfRange → ¬ IsAccepted request.now }
+    ensures refused { result ≡ Err IntOutlineError.CoordinateOutOfRange ↔ ¬ IsAccepted request.now }
 {
     match request.output {
         Output::Edges => {
