@@ -2,6 +2,7 @@ pub use Rattle.mesh_draw.specs.Adding
 pub use Rattle.mesh_draw.specs.Drawing
 pub use Rattle.mesh_draw.specs.Padding
 pub use Rattle.mesh_outline.specs.Building
+pub use Rattle.mesh_outline.specs.Laws
 pub use Rattle.mesh_outline.specs.Outline
 pub use Rattle.mesh_outline.specs.Resolved
 pub use Rattle.mesh_outline.specs.Staying

@@ -3,4 +3,4 @@
 
 pub use mesh_draw::error;
 pub use mesh_draw::error::IntOutlineError;
-pub use mesh_outline::outline;
+pub use mesh_outline::{laws, outline};

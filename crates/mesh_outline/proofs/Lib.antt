@@ -3,6 +3,7 @@ pub mod Areas
 pub mod BuilderTheorems
 pub mod BuilderWalk
 pub mod Corners
+pub mod Final
 pub mod OutlineCount
 pub mod OutlineSum
 pub mod OutlineWalk

@@ -5,6 +5,7 @@ pub use Rattle.mesh_draw.specs.Adding
 pub use Rattle.mesh_draw.specs.Drawing
 pub use Rattle.mesh_draw.specs.Padding
 pub mod Building
+pub mod Laws
 pub mod Outline
 pub mod Resolved
 pub mod Staying

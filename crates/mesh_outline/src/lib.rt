@@ -4,4 +4,5 @@
 //! `specs/Resolved.antt`: the outline of many contours.
 #![tactic(auto)]
 
+pub mod laws;
 pub mod outline;

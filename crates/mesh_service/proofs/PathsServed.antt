@@ -1,8 +1,8 @@
 -- Lemmas over points and lists: paths, their areas, and what is answered to requests for them.
 use Rattle.std.proofs.Common.{◌≡◌, ℕ, ◌<◌, ◌+◌, ◌*◌, Bool, List, [], ◌∷◌, ◌++◌, get_or, take, length, Option, Some, None, option_and_then, true, false, refl, sym, ap, subst, ◌∙◌, arith}
 use Rattle.std.proofs.lemmas.Bool.{true≢false}
-use Rattle.std.specs.Prelude.{Result, Ok, Err, is_ok, OnOk, ℤ, pos, ◌≤ℤ◌, ◌<ℤ◌, neg_ℤ, int_lt}
-use Rattle.std.specs.List.{All, AllZip}
+use Rattle.std.specs.Prelude.{Result, Ok, Err, IfErr, IsErrAnd, is_ok, OnOk, ℤ, pos, ◌≤ℤ◌, ◌<ℤ◌, neg_ℤ, int_lt}
+use Rattle.std.specs.List.{AllZip}
 use Rattle.std.specs.declared.cmp.Ordering.{Ordering}
 use Rattle.std.specs.declared.vec.Vec.{Vec}
 use Rattle.std.specs.declared.alloc.Global.{Global}
@@ -17,11 +17,14 @@ use Rattle.mesh_outline.specs.Building.{style_for}
 use Rattle.mesh_outline.specs.Outline.{outline_edges}
 use Rattle.mesh_join.specs.Styles.{OffsetJoin, OutlineStyle}
 use Rattle.mesh_outline.specs.Resolved.{DoAreasFit, IsOutline}
+use Rattle.mesh_draw.specs.declared.error.IntOutlineError.{IntOutlineError}
+use Rattle.mesh_draw.specs.declared.error.IntOutlineError.TheVariants.{CoordinateOutOfRange, OutOfMemory}
+use Rattle.mesh_service.specs.declared.failure.Failure.TheVariants.{Refused}
 use Rattle.serde_json.specs.Data.{Data}
 use Rattle.serde_json.specs.Read.{read}
 use Rattle.serde_json.specs.Written.{has_float}
 use Rattle.mesh_service.specs.Lines.{edges_text, shapes_text}
-use Rattle.mesh_service.specs.Reading.{request_of}
+use Rattle.mesh_service.specs.Reading.{request_of, IsOfReading}
 use Rattle.mesh_service.specs.Requests.{Asked, Request}
 use Rattle.mesh_service.specs.Served.{AreListed, IsAccepted, Lists, Answers, served_edges, moved_edges}
 use Rattle.mesh_service.specs.Serving.{exact_request, request_in}
@@ -75,6 +78,31 @@ half_fit half unit paths e fit = subst (λ (h : ℕ). DoAreasFit h paths) (sym e
 pub answered_only : {A E : Type 0} (r : Result A E) (error : E) (P Q : Type 0) → ((Q → ⊥) → r ≡ Err error) → (((Q → ⊥) → ⊥) → P) → OnOk r P
 answered_only (Ok x) error P Q told f = f (λ no. true≢false (ap is_ok (told no)))
 answered_only (Err e) error P Q told f = tt
+
+-- ---- refusals
+
+-- an error that is handed on is the result
+pub err_told : {A B E : Type 0} (r : Result A E) (test : Result B E) (told error : E) → IsErrAnd r (λ e. e ≡ told) → IfErr test (λ e. e ≡ told) → test ≡ Err error → r ≡ Err error
+err_told (Ok x) test told error same here e = absurd same
+err_told {B} {E} (Err t) test told error same here e =
+    let k : error ≡ told = subst (λ (r : Result B E). IfErr r (λ x. x ≡ told)) e here in
+    ap Err (same ∙ sym k)
+
+-- what is accepted, and not refused, meets both ways of the refusal
+pub not_refused : {A : Type 0} (r : Result A IntOutlineError) (P : Type 0) → P → (r ≡ Err CoordinateOutOfRange → ⊥) →
+    (r ≡ Err CoordinateOutOfRange → P → ⊥) × ((P → ⊥) → r ≡ Err CoordinateOutOfRange)
+not_refused r P p other = (λ e _. other e, λ no. absurd (no p))
+
+-- a want of memory is no refusal of the range
+pub memory_other : {A : Type 0} (r : Result A IntOutlineError) → IsErrAnd r (λ e. e ≡ OutOfMemory) → r ≡ Err CoordinateOutOfRange → ⊥
+memory_other (Ok x) same e = absurd same
+memory_other {A} (Err t) same e =
+    let m : CoordinateOutOfRange ≡ OutOfMemory = subst (λ (r : Result A IntOutlineError). IsErrAnd r (λ x. x ≡ OutOfMemory)) e same in
+    subst (λ (x : IntOutlineError). IsOfReading (Refused x)) (sym m) tt
+
+-- nor is an answer
+pub answer_other : {A : Type 0} (x : A) → (Ok x) ≡ Err CoordinateOutOfRange → ⊥
+answer_other x e = true≢false (ap is_ok e)
 
 -- ---- the edges by the double area
 

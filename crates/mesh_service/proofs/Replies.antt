@@ -1,10 +1,14 @@
 -- Lemmas over lines: what is answered or told is a reply.
-use Rattle.std.proofs.Common.{◌≡◌, ℕ, List, String, Global, Option, Result, Ok, Err, IfSome, IfOk, IsErrAnd, refl}
-use Rattle.std.specs.Prelude.{string_bytes}
+use Rattle.std.proofs.Common.{◌≡◌, ◌∙◌, ℕ, List, String, Global, Option, None, Result, Ok, Err, IfSome, IfOk, IsErrAnd, refl, sym, subst}
+use Rattle.std.specs.Prelude.{string_bytes, IsUtf8}
+use Rattle.std.proofs.lemmas.Option.{none-some}
+use Rattle.std.specs.Io.KnownBytes.{Appends}
 use Rattle.mesh_draw.specs.declared.error.IntOutlineError.TheVariants.{CoordinateOutOfRange, OutOfMemory}
 use Rattle.mesh_service.specs.Failures.{failure_line, told_line}
 use Rattle.mesh_service.specs.Reading.{IsOfReading}
-use Rattle.mesh_service.specs.Serving.{IsAnswer, IsRefused, IsReply}
+use Rattle.mesh_service.specs.Requests.{Request}
+use Rattle.mesh_service.specs.Served.{IsAccepted}
+use Rattle.mesh_service.specs.Serving.{IsAnswer, IsRefused, IsReply, TellsRefusal, MetRefusal, request_in}
 use Rattle.mesh_service.specs.declared.failure.Failure.{Failure}
 use Rattle.mesh_service.specs.declared.failure.Failure.TheVariants.{Unreadable, Refused}
 
@@ -28,3 +32,29 @@ responded left request (Ok line) known answered refused = IsReply.answer known a
 responded left request (Err Unreadable) known answered refused = IsReply.unreadable
 responded left request (Err (Refused OutOfMemory)) known answered refused = IsReply.no_memory
 responded left request (Err (Refused CoordinateOutOfRange)) known answered refused = IsReply.refusal known (refused refl)
+
+-- a refusal that was told is one that was met
+pub refusal_met : (left old new : Option (List ℕ)) (told : Result (String Global) Failure) →
+    (told ≡ Err (Refused CoordinateOutOfRange) → (request : List ℕ) × IfSome left (λ bytes. request ≡ bytes) × IsRefused request) →
+    Appends old new (told_line told) → TellsRefusal told → MetRefusal left old new
+refusal_met left old new (Ok line) refused whole here = absurd here
+refusal_met left old new (Err Unreadable) refused whole here = absurd here
+refusal_met left old new (Err (Refused OutOfMemory)) refused whole here = MetRefusal.of_memory whole
+refusal_met left old new (Err (Refused CoordinateOutOfRange)) refused whole here =
+    let (request, known, is_refused) = refused refl in
+    MetRefusal.of_range known is_refused whole
+
+-- the request that may not be answered is not answered, and not told to be unreadable
+pub refusal_told : (text : List ℕ) (told : Result (String Global) Failure) → IfOk told (λ line. IsAnswer text (string_bytes line)) →
+    (told ≡ Err Unreadable → IsUtf8 text → request_in text ≡ None) → IsRefused text → TellsRefusal told
+refusal_told text (Ok line) answered unreadable kept =
+    let here : IfSome (request_in text) (λ r. IsAccepted r) = subst (λ (o : Option Request). IfSome o (λ r. IsAccepted r)) (sym answered.requested) answered.answered.accepted in
+    absurd (kept.refused (subst (λ (o : Option Request). IfSome o (λ r. IsAccepted r)) kept.requested here))
+refusal_told text (Err (Refused error)) answered unreadable kept = tt
+refusal_told text (Err Unreadable) answered unreadable kept = absurd (none-some kept.request (sym (unreadable refl kept.utf8) ∙ kept.requested))
+
+-- nor where reading fails
+pub refusal_read : (text : List ℕ) (told : Result (String Global) Failure) (failure : Failure) → IsErrAnd told (λ told_failure. told_failure ≡ failure) →
+    (told ≡ Err Unreadable → IsUtf8 text → request_in text ≡ None) → IsRefused text → TellsRefusal told
+refusal_read text (Ok line) failure same unreadable kept = absurd same
+refusal_read text (Err e) failure same unreadable kept = refusal_told text (Err e) tt unreadable kept

@@ -1,6 +1,6 @@
 -- What a request says, as data of JSON. Coordinates are of a type with `unit`, which holds the whole numbers from
 -- `-2 * unit` on that are below `2 * unit`; areas are of one that holds those without sign below `16 * unit * unit`.
-use Rattle.std.specs.Prelude.{ℕ, ◌*◌, ◌^◌, ◌&&◌, ◌||◌, Bool, false, not, if◌then◌else◌, ℤ, pos, neg_ℤ, int_le, int_lt, nat_lt, List, [], ◌∷◌, codes, Option, Some, None, is_some, option_map, option_and_then}
+use Rattle.std.specs.Prelude.{ℕ, ◌*◌, ◌^◌, ◌&&◌, ◌||◌, Bool, false, if◌then◌else◌, ℤ, pos, neg_ℤ, int_le, int_lt, nat_lt, List, [], ◌∷◌, codes, Option, Some, None, is_some, option_map, option_and_then}
 use Rattle.std.specs.Str.{bytes_eq}
 use Rattle.serde_json.specs.Data.{Data, Items, no_items, item}
 use Rattle.serde_json.specs.Find.{get, as_number, as_i64, as_u64, as_bool, as_str, as_array, as_object}

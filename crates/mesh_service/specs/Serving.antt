@@ -1,7 +1,9 @@
 -- What the service answers to a request.
-use Rattle.std.specs.Prelude.{ℕ, ◌≡◌, List, ◌++◌, Option, Some, None, IfSome, option_and_then, if◌then◌else◌}
+use Rattle.std.specs.Prelude.{ℕ, ◌≡◌, List, ◌++◌, Option, Some, None, Result, Ok, Err, IfSome, IsUtf8, option_and_then, if◌then◌else◌}
 use Rattle.std.specs.Io.KnownBytes.{Appends}
 use Rattle.std.specs.Ordering.{int_cmp}
+use Rattle.std.specs.declared.alloc.Global.{Global}
+use Rattle.std.specs.declared.string.String.{String}
 use Rattle.serde_json.specs.Data.{Data}
 use Rattle.serde_json.specs.Read.{read}
 use Rattle.serde_json.specs.Written.{has_float}
@@ -10,6 +12,7 @@ use Rattle.mesh_service.specs.Failures.{failure_line}
 use Rattle.mesh_service.specs.Reading.{request_of}
 use Rattle.mesh_service.specs.Requests.{Request}
 use Rattle.mesh_service.specs.Served.{IsAccepted, Answers}
+use Rattle.mesh_service.specs.declared.failure.Failure.{Failure}
 use Rattle.mesh_service.specs.declared.failure.Failure.TheVariants.{Unreadable, Refused}
 
 -- the request that data is; a number that is no whole number of 64 bits makes it none
@@ -20,17 +23,25 @@ exact_request d = if has_float d then None else request_of d
 abbrev pub request_in : List ℕ → Option Request
 request_in text = option_and_then exact_request (read text)
 
--- `line` answers the request that `text` is
+-- `line` answers the request that `text`, in UTF-8, is
 pub record IsAnswer (text : List ℕ) (line : List ℕ) : Type 0 where
+  pub utf8 : IsUtf8 text
   pub request : Request
   pub requested : request_in text ≡ Some request
   pub answered : Answers int_cmp request line
 
--- the request that `text` is may not be answered
+-- the request that `text`, in UTF-8, is may not be answered
 pub record IsRefused (text : List ℕ) : Type 0 where
+  pub utf8 : IsUtf8 text
   pub request : Request
   pub requested : request_in text ≡ Some request
   pub refused : IsAccepted request → ⊥
+
+-- what is told is a refusal, of the range or of memory
+abbrev pub TellsRefusal : Result (String Global) Failure → Type 0
+TellsRefusal (Ok line) = ⊥
+TellsRefusal (Err Unreadable) = ⊥
+TellsRefusal (Err (Refused error)) = Unit {0}
 
 -- the lines that may be written where the reader has these bytes left, as far as they are known: an answer to them; the line
 -- of a refusal, where they may not be answered; that of a want of memory; and that of what is unreadable
@@ -46,3 +57,11 @@ pub record AppendsBeginning (old new : Option (List ℕ)) (line : List ℕ) : Ty
   pub rest : List ℕ
   pub whole : line ≡ written ++ rest
   pub appended : Appends old new written
+
+-- how a run ended in a refusal that was met, where the reader had these bytes left: the request may not be answered, and the line of
+-- that was written whole; memory was refused, and the line of that was written whole; or a reply was not written to its end
+pub data MetRefusal (left old new : Option (List ℕ)) : Type 0 where
+  of_range : {request : List ℕ} → IfSome left (λ bytes. request ≡ bytes) → IsRefused request
+      → Appends old new (failure_line (Refused CoordinateOutOfRange)) → MetRefusal left old new
+  of_memory : Appends old new (failure_line (Refused OutOfMemory)) → MetRefusal left old new
+  of_writing : {line : List ℕ} → IsReply left line → AppendsBeginning old new line → MetRefusal left old new

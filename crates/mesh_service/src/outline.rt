@@ -62,7 +62,7 @@ impl<I: OverlayInt> OutlineRequest<I> {
     pub fn edges(&self, alloc: Global) -> Result<Vec<Vec<DirectedEdge<I>>>, IntOutlineError>
         ensures edges { IfOk result (λ lists. AreListed (by_values I.cmp I.of_value) self.now.unit self.now.style self.now.paths (paths_of lists.items)) }
         ensures accepted { OnOk result (IsAccepted self.now) }
-        ensures refused { result ≡ Err IntOutlineError.CoordinateOutOfRange → ¬ IsAccepted self.now }
+        ensures refused { result ≡ Err IntOutlineError.CoordinateOutOfRange ↔ ¬ IsAccepted self.now }
     {
         self.paths.validate_outline(&self.style)?;
         if !do_areas_fit(&self.paths) {
@@ -79,7 +79,7 @@ impl<I: OverlayInt> OutlineRequest<I> {
     ) -> Result<IntShapes<I>, IntOutlineError>
         ensures shapes { IfOk result (λ shapes. IsOutline self.now.unit self.now.style (choices_of I.WideUInt.value options) self.now.paths (shapes_of shapes.items)) }
         ensures accepted { OnOk result (IsAccepted self.now) }
-        ensures refused { result ≡ Err IntOutlineError.CoordinateOutOfRange → ¬ IsAccepted self.now }
+        ensures refused { result ≡ Err IntOutlineError.CoordinateOutOfRange ↔ ¬ IsAccepted self.now }
     {
         self.paths.validate_outline(&self.style)?;
         self.paths.outline_custom(alloc, &self.style, options)

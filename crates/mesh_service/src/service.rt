@@ -8,7 +8,7 @@ ghost use Rattle.mesh_service.specs.Lines.{by_values};
 ghost use Rattle.mesh_service.specs.Failures.{failure_line, told_line};
 ghost use Rattle.mesh_service.specs.Reading.{outline_of, request_of};
 ghost use Rattle.mesh_service.specs.Served.{IsAccepted, Answers, AnswersAsked, MayNotBeAnswered};
-ghost use Rattle.mesh_service.specs.Serving.{request_in, IsAnswer, IsRefused, IsReply, AppendsBeginning};
+ghost use Rattle.mesh_service.specs.Serving.{request_in, IsAnswer, IsRefused, IsReply, AppendsBeginning, TellsRefusal, MetRefusal};
 
 use crate::answer::{edges_line, shapes_line};
 use crate::failure::Failure;
@@ -55,6 +55,7 @@ pub fn serve<R: Read, W: Write>(alloc: Global, reader: &mut R, writer: &mut W) -
     ensures answered { result ≡ Status.Answered → IfSome (R.remaining reader.old) (λ request. (line : List _) × IsAnswer request line
         × Appends (W.contents writer.old) (W.contents writer.new) line) }
     ensures unreadable { result ≡ Status.Unreadable → Appends (W.contents writer.old) (W.contents writer.new) (failure_line Failure.Unreadable) }
+    ensures refused { result ≡ Status.Refused → MetRefusal (R.remaining reader.old) (W.contents writer.old) (W.contents writer.new) }
     ensures written { (line : List _) × IsReply (R.remaining reader.old) line × AppendsBeginning (W.contents writer.old) (W.contents writer.new) line }
 {
     let answer = read_and_answer(alloc, reader);
@@ -67,6 +68,7 @@ pub fn serve<R: Read, W: Write>(alloc: Global, reader: &mut R, writer: &mut W) -
 /// How a run ended whose answer, or the line of its failure, was written.
 fn status_of(answer: &Result<String, Failure>) -> Status
     ensures answered { result ≡ Status.Answered ↔ IsOk answer.now }
+    ensures refused { result ≡ Status.Refused ↔ TellsRefusal answer.now }
     ensures unreadable { result ≡ Status.Unreadable ↔ (answer.now ≡ Err Failure.Unreadable) }
 {
     match answer {
@@ -78,6 +80,8 @@ fn status_of(answer: &Result<String, Failure>) -> Status
 
 fn read_and_answer<R: Read>(alloc: Global, reader: &mut R) -> Result<String, Failure>
     ensures answered { IfOk result (λ line. IfSome (R.remaining reader.old) (λ request. IsAnswer request (string_bytes line))) }
+    ensures refused { result ≡ Err (Failure.Refused IntOutlineError.CoordinateOutOfRange)
+        → (request : List _) × IfSome (R.remaining reader.old) (λ bytes. request ≡ bytes) × IsRefused request }
     ensures reply { IsReply (R.remaining reader.old) (told_line result) }
 {
     let request = read_to_end(alloc, reader)?;
@@ -88,6 +92,7 @@ fn read_and_answer<R: Read>(alloc: Global, reader: &mut R) -> Result<String, Fai
 pub fn respond(alloc: Global, request: &[u8]) -> Result<String, Failure>
     ensures answered { IfOk result (λ line. IsAnswer request.now (string_bytes line)) }
     ensures refused { result ≡ Err (Failure.Refused IntOutlineError.CoordinateOutOfRange) → IsRefused request.now }
+    ensures not_accepted { IsRefused request.now → TellsRefusal result }
     ensures unreadable { result ≡ Err Failure.Unreadable → IsUtf8 request.now → request_in request.now ≡ None }
 {
     let value = parse(alloc, request)?;
@@ -128,7 +133,7 @@ fn outline_line<I: OverlayInt>(
     request: &OutlineRequest<I>,
 ) -> Result<String, IntOutlineError>
     ensures answered { IfOk result (λ line. Answers (by_values I.cmp I.of_value) request.now (string_bytes line)) }
-    ensures refused { result ≡ Err IntOutlineError.CoordinateOutOfRange → ¬ IsAccepted request.now }
+    ensures refused { result ≡ Err IntOutlineError.CoordinateOutOfRange ↔ ¬ IsAccepted request.now }
 {
     match request.output {
         Output::Edges => {

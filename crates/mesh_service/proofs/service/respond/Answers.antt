@@ -1,8 +1,9 @@
 -- What was read, accepted, built and written is the answer, or the refusal, of the request.
-use Rattle.std.proofs.Common.{sym, subst}
+use Rattle.std.proofs.Common.{sym, subst, rules}
 use Rattle.std.proofs.lemmas.Result.{IfOk-weaker}
 use Rattle.mesh_service.specs.Reading.{IsOfReading}
 use Rattle.mesh_service.proofs.PathsServed.{is_requested}
+use Rattle.mesh_service.proofs.Replies.{refusal_told, refusal_read}
 use Rattle.mesh_service.proofs.service.respond.Goals as goal
 
 pub returns-in_err-value-clause-refused : goal.returns-in_err-value-clause-refused
@@ -15,6 +16,7 @@ returns-clause-refused c h =
     let read = c.in_ok-value.ensures.ok in
     let told = c.answer.ensures.refused h in
     record {
+      utf8 = read.0;
       request = told.0;
       requested = is_requested c.args.request.now _ told.0 read.1 read.2 told.1;
       refused = told.2;
@@ -26,8 +28,16 @@ returns-clause-answered c =
     IfOk-weaker c.answer.result _ _
     (λ line told.
     record {
+      utf8 = read.0;
       request = told.0;
       requested = is_requested c.args.request.now _ told.0 read.1 read.2 told.1;
       answered = told.2;
     })
     c.answer.ensures.answered
+
+pub returns-in_err-value-clause-not_accepted : goal.returns-in_err-value-clause-not_accepted
+returns-in_err-value-clause-not_accepted c =
+    refusal_read c.args.request.now c.from_residual.result _ c.from_residual.ensures.1 (search rules)
+
+pub returns-clause-not_accepted : goal.returns-clause-not_accepted
+returns-clause-not_accepted c = refusal_told c.args.request.now c.answer.result (returns-clause-answered c) (search rules)

@@ -5,13 +5,16 @@ use Rattle.mesh_num.specs.Paths.{paths_of}
 use Rattle.mesh_outline.specs.Resolved.{DoAreasFit}
 use Rattle.mesh_draw.specs.declared.error.IntOutlineError.TheVariants.{CoordinateOutOfRange}
 use Rattle.mesh_service.specs.Served.{IsAccepted}
-use Rattle.mesh_service.proofs.PathsServed.{areas_fit, fit_half, half_fit, answered_only}
+use Rattle.mesh_service.proofs.PathsServed.{areas_fit, fit_half, half_fit, answered_only, err_told}
 use Rattle.mesh_service.proofs.outline.OutlineRequest.shapes.Goals as goal
 
 pub returns-in_err-validate_outline-clause-refused : goal.returns-in_err-validate_outline-clause-refused
-returns-in_err-validate_outline-clause-refused g c e accepted =
-    let a = rw (sym c.self.view_is) at accepted in
-    false≢true (c.in_err-validate_outline.ensures.safe.1 a.safe)
+returns-in_err-validate_outline-clause-refused g c = (
+  λ _ accepted.
+      let a = rw (sym c.self.view_is) at accepted in
+      false≢true (c.in_err-validate_outline.ensures.safe.1 a.safe),
+  λ _. err_told c.from_residual.result _ _ _ c.from_residual.ensures.1 refl c.in_err-validate_outline.ensures.error,
+)
 
 pub returns-clause-accepted : goal.returns-clause-accepted
 returns-clause-accepted g c =
@@ -24,6 +27,15 @@ returns-clause-accepted g c =
     }))
 
 pub returns-clause-refused : goal.returns-clause-refused
-returns-clause-refused g c e accepted =
-    let a = rw (sym c.self.view_is) at accepted in
-    c.outline_custom.ensures.refused.0 e (half_fit _ g.I.IntNumber.unit (paths_of c.self.inside.paths.items) g.met.I.IntNumber.half_law a.fit)
+returns-clause-refused g c =
+    let paths = paths_of c.self.inside.paths.items in
+    let half = g.I.Wide.WideNumber.half in
+    (
+      λ e accepted.
+          let a = rw (sym c.self.view_is) at accepted in
+          c.outline_custom.ensures.refused.0 e (half_fit half g.I.IntNumber.unit paths g.met.I.IntNumber.half_law a.fit),
+      λ not_accepted. c.outline_custom.ensures.refused.1 (λ fit. not_accepted (rw (sym c.self.view_is) (record {
+        safe = c.in_ok-validate_outline.ensures.safe.0 refl;
+        fit = fit_half half g.I.IntNumber.unit paths g.met.I.IntNumber.half_law fit;
+      }))),
+    )

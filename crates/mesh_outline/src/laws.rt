@@ -1,0 +1,28 @@
+//! Laws of outlines. Each function does nothing: its clause is the law.
+
+ghost use Rattle.mesh_outline.specs.Laws.{OutlinesAreDrawn, OutlinesStaySafe, FinalEdgesAreBalanced, OutlinesAreRegions, AnswersAloneAreRegions};
+
+/// The edges of each contour's outline are balanced, near its vertices, and wind as the count of its pieces says.
+pub fn outlines_are_drawn()
+    ensures { OutlinesAreDrawn }
+{}
+
+/// All edges, split segments and answers of an outline are safe where its contours stay safe.
+pub fn outlines_stay_safe()
+    ensures { OutlinesStaySafe }
+{}
+
+/// The edges of which an outline is the resolution are balanced, and none ends where it starts.
+pub fn final_edges_are_balanced()
+    ensures { FinalEdgesAreBalanced }
+{}
+
+/// The contours of an outline wind once round what the edges of its last resolving fill, and round no other point.
+pub fn outlines_are_regions()
+    ensures { OutlinesAreRegions }
+{}
+
+/// The contours that come of one contour wind once round what the edges of its outline fill, and round no other point.
+pub fn answers_alone_are_regions()
+    ensures { AnswersAloneAreRegions }
+{}
