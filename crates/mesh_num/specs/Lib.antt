@@ -3,6 +3,7 @@ pub mod Direction
 pub mod FlatContours
 pub mod Laws
 pub mod Paths
+pub mod Quotient
 pub mod Rectangle
 pub mod Segments
 pub mod Widths
@@ -12,3 +13,4 @@ pub use Rattle.mesh_plane.specs.Plane
 pub use Rattle.mesh_plane.specs.Rounding
 pub use Rattle.mesh_plane.specs.Signs
 pub use Rattle.mesh_plane.specs.Winding
+pub use Rattle.mesh_sine.specs.Sine

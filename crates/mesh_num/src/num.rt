@@ -5,6 +5,7 @@ pub mod convert;
 pub(crate) mod exact;
 pub mod number;
 pub mod point;
+pub mod quotient;
 pub mod rect;
 pub(crate) mod search;
 pub mod unit_vector;

@@ -14,4 +14,6 @@ mod points;
 #[cfg(test)]
 mod segments;
 #[cfg(test)]
+mod sines;
+#[cfg(test)]
 mod sources;

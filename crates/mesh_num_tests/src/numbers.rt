@@ -2,6 +2,7 @@
 
 use crate::pairs::expect_pairs;
 use mesh_num::num::convert::{is_less, is_wide_less, wide_size};
+use mesh_num::num::quotient::mul_div;
 use mesh_num::num::{Angle, IntNumber, WideUnsigned};
 use std::test::Fail;
 
@@ -52,6 +53,27 @@ fn sizes() -> Result<(), Fail> {
     expect_pairs(&[
         (i128::from(wide_size::<i16>(-32768)), 32768),
         (i128::from(wide_size::<i32>(-2147483648)), 2147483648),
+    ])
+}
+
+#[test]
+fn rounded_quotients_of_products() -> Result<(), Fail> {
+    expect_pairs(&[
+        (i128::from(mul_div::<i16>(7, 3, 2)), 11),
+        (i128::from(mul_div::<i16>(-7, 3, 2)), -11),
+        (i128::from(mul_div::<i16>(7, 3, -2)), -11),
+        (i128::from(mul_div::<i16>(-7, 3, -2)), 11),
+        (i128::from(mul_div::<i16>(10, 1, 4)), 3),
+        (i128::from(mul_div::<i16>(10, 1, 7)), 1),
+        (i128::from(mul_div::<i32>(0, 5, -3)), 0),
+        (
+            i128::from(mul_div::<i32>(
+                -9223372036854775808,
+                -9223372036854775808,
+                -9223372036854775808,
+            )),
+            -9223372036854775808,
+        ),
     ])
 }
 

@@ -1,6 +1,10 @@
 //! Angles as whole numbers of bits.
 
-ghost use Rattle.std.specs.Prelude.{◌≡◌};
+ghost use Rattle.std.specs.Prelude.{◌≡◌, ◌^◌, ◌≤◌};
+ghost use Rattle.mesh_plane.specs.Plane.{length_sq};
+ghost use Rattle.mesh_sine.specs.Sine.{sin_cos};
+
+use mesh_sine::sine;
 
 /// An angle of `bits`; 2 to the power of 32 bits are a full turn.
 #[derive(Debug, Clone, Copy, PartialEq, Eq)]
@@ -31,5 +35,13 @@ impl Angle {
         ensures { result ≡ self }
     {
         self.bits
+    }
+
+    /// The sine and the cosine, times 2^30, in this order.
+    pub fn sin_cos(self) -> (i32, i32)
+        ensures value { result ≡ sin_cos self }
+        ensures bounded { length_sq result ≤ 2 ^ 60 }
+    {
+        sine::sin_cos(self.bits)
     }
 }

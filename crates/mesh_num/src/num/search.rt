@@ -60,7 +60,7 @@ pub(crate) fn direction(unit: u128, x: i128, y: i128) -> Option<(i128, i128)>
 pub(crate) fn rounded_quotient(a: i128, d: u128) -> i128
     requires divisor { 0 < d }
     requires divisor_size { d < 2 ^ 120 }
-    requires size { unsigned_abs a < 2 ^ 120 }
+    requires size { unsigned_abs a ≤ 2 ^ 126 }
     ensures { result ≡ rounded a d }
 {
     let size = ((2 * a.unsigned_abs() + d) / (2 * d)) as i128;

@@ -1,0 +1,34 @@
+//! Quotients of products of wide numbers.
+
+ghost use Rattle.std.specs.Prelude.{◌≡◌, ◌≢◌, ◌^◌, ◌≤◌, pos, unsigned_abs};
+ghost use Rattle.mesh_plane.specs.Bounds.{IsWithin};
+ghost use Rattle.mesh_num.specs.Quotient.{rounded_product};
+
+use crate::num::number::IntNumber;
+use crate::num::search::rounded_quotient;
+
+/// `a * b / d` rounded to a whole number, halves away from 0, with the sign by the rule of signs.
+pub fn mul_div<I: IntNumber>(a: I::Wide, b: I::Wide, d: I::Wide) -> I::Wide
+    requires divisor { I.Wide.value d ≢ pos 0 }
+    requires fits { IsWithin I.Wide.half (rounded_product (I.Wide.value a) (I.Wide.value b) (I.Wide.value d)) }
+    ensures value { I.Wide.value result ≡ rounded_product (I.Wide.value a) (I.Wide.value b) (I.Wide.value d) }
+{
+    let quotient = quotient(I::wide_to_i128(a), I::wide_to_i128(b), I::wide_to_i128(d));
+    I::wide_from_i128(quotient)
+}
+
+// The rounded quotient in 128 bits.
+fn quotient(a: i128, b: i128, d: i128) -> i128
+    requires a { unsigned_abs a ≤ 2 ^ 63 }
+    requires b { unsigned_abs b ≤ 2 ^ 63 }
+    requires size { unsigned_abs d ≤ 2 ^ 63 }
+    requires divisor { d ≢ pos 0 }
+    ensures { result ≡ rounded_product a b d }
+{
+    let product = a * b;
+    if d < 0 {
+        rounded_quotient(-product, d.unsigned_abs())
+    } else {
+        rounded_quotient(product, d.unsigned_abs())
+    }
+}

@@ -1,0 +1,2 @@
+pub mod Sine
+pub mod Table

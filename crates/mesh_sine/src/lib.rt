@@ -1,0 +1,5 @@
+//! Sines and cosines of angles, in whole numbers.
+#![tactic(auto)]
+
+pub mod sine;
+pub(crate) mod table;
