@@ -3,4 +3,5 @@ pub mod CountedSides
 pub mod Grouping
 pub mod Progress
 pub mod Resolution
+pub mod Rows
 pub mod Unused
