@@ -39,7 +39,8 @@ fn is_at_most(m: Mark, q: Mark) -> bool
 /// How many of the marks are not above a number.
 pub fn place(marks: &[Mark], q: Mark) -> usize
     requires { AreRising marks.now }
-    ensures { result ≡ place marks.now q.at }
+    ensures value { result ≡ place marks.now q.at }
+    ensures bound { result ≤ length marks.now }
 {
     let mut low = 0;
     let mut high = marks.len();

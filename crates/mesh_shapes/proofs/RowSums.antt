@@ -1,10 +1,10 @@
 -- Lemmas over points and lists: segments listed by the rows that they reach.
-use Rattle.std.proofs.Common.{◌≡◌, ℕ, ◌+◌, ◌<◌, ◌≤◌, ◌⊎◌, inl, inr, ⊎_elim, true, false, cond, ◌&&◌, List, [], ◌∷◌, ◌++◌, length, take, get_or, min, max, refl, sym, ◌∙◌, ap, subst, arith}
+use Rattle.std.proofs.Common.{◌≡◌, ℕ, ◌+◌, ◌<◌, ◌≤◌, ◌⊎◌, inl, inr, ⊎_elim, Bool, true, false, cond, ◌&&◌, List, [], ◌∷◌, ◌++◌, length, take, get_or, min, max, refl, sym, ◌∙◌, ap, subst, arith}
 use Rattle.std.specs.Prelude.{ℤ, pos, negsuc, ◌+ℤ◌, ◌*ℤ◌, ◌≤ℤ◌, ◌<ℤ◌, int_le, int_lt, Vec}
 use Rattle.std.specs.declared.alloc.Global.{Global}
 use Rattle.std.proofs.lemmas.Int.{ints}
-use Rattle.mesh_plane.specs.Plane.{Point}
-use Rattle.mesh_plane.specs.Winding.{sum_of, crossing_of, crossing_on}
+use Rattle.mesh_plane.specs.Plane.{Point, turn}
+use Rattle.mesh_plane.specs.Winding.{sum_of, crossing_of, crossing_on, refined}
 use Rattle.mesh_plane.proofs.Whole.{linear}
 use Rattle.mesh_plane.proofs.Sums.{sum_of_append}
 use Rattle.mesh_cuts.specs.declared.places.Mark.{Mark}
@@ -44,14 +44,14 @@ off_row : (ms : List Mark) (q : Point) (k : Counted)
 off_row ms q k (inl h) =
     let a = lesser_place ms q.1 (pos 2 *ℤ k.0.0.1) (omega arith) in
     let b = lesser_place ms q.1 (pos 2 *ℤ k.0.1.1) (omega arith) in
-    ap (λ (z : ℤ). k.1 *ℤ z) (above_none (pos 2 *ℤ k.0.0.1) (pos 2 *ℤ k.0.1.1) q.1 _ a b) ∙ times_zero k.1
+    ap (λ (z : ℤ). k.1 *ℤ z) (above_none (pos 2 *ℤ k.0.0.1) (pos 2 *ℤ k.0.1.1) q.1 (turn (refined 2 k.0.0) (refined 2 k.0.1) q) a b) ∙ times_zero k.1
   where
     times_zero : (n : ℤ) → n *ℤ pos 0 ≡ pos 0
     times_zero n = omega (arith, ints)
 off_row ms q k (inr h) =
     let a = lesser_place ms (pos 2 *ℤ k.0.0.1) q.1 (omega arith) in
     let b = lesser_place ms (pos 2 *ℤ k.0.1.1) q.1 (omega arith) in
-    ap (λ (z : ℤ). k.1 *ℤ z) (below_none (pos 2 *ℤ k.0.0.1) (pos 2 *ℤ k.0.1.1) q.1 _ a b) ∙ times_zero k.1
+    ap (λ (z : ℤ). k.1 *ℤ z) (below_none (pos 2 *ℤ k.0.0.1) (pos 2 *ℤ k.0.1.1) q.1 (turn (refined 2 k.0.0) (refined 2 k.0.1) q) a b) ∙ times_zero k.1
   where
     times_zero : (n : ℤ) → n *ℤ pos 0 ≡ pos 0
     times_zero n = omega (arith, ints)
@@ -92,10 +92,32 @@ rows_more ms old new ks i k₀ h rows put = record {
 
     sum : (q : Point) (d : Vec Counted Global) → ((first ≤ place ms q.1) × (place ms q.1 < end)) ⊎ ((place ms q.1 < first) ⊎ (end ≤ place ms q.1))
         → counted_winding q (get_or new (place ms q.1) d).items ≡ counted_winding q (take (i + 1) ks)
-    sum q d (inl w) = ?
-    sum q d (inr w) = ?
+    sum q d (inl w) =
+        let g : Counted → ℤ = λ (j : Counted). j.1 *ℤ crossing_on 2 q j.0.0 j.0.1 in
+        let put_there = ap (sum_of g) (put.inside (place ms q.1) d w.0 w.1 (omega (arith, rows.len, place_most ms q.1))) in
+        omega (arith, linear, put_there, sum_of_append g (get_or old (place ms q.1) d).items (k ∷ []), rows.sums q d, sum_more g ks i k₀ h)
+    sum q d (inr w) =
+        let g : Counted → ℤ = λ (j : Counted). j.1 *ℤ crossing_on 2 q j.0.0 j.0.1 in
+        let not_there = ap (sum_of g) (put.outside (place ms q.1) d w) in
+        let none : g k ≡ pos 0 = off_row ms q k w in
+        omega (arith, linear, not_there, none, rows.sums q d, sum_more g ks i k₀ h)
 
     part : (j : ℕ) (d : Vec Counted Global) → j < length new → ((first ≤ j) × (j < end)) ⊎ ((j < first) ⊎ (end ≤ j))
         → sum_of size (get_or new j d).items ≤ℤ sum_of size (take (i + 1) ks)
-    part j d l (inl w) = ?
-    part j d l (inr w) = ?
+    part j d l (inl w) =
+        let put_there = ap (sum_of size) (put.inside j d w.0 w.1 (omega (arith, put.len))) in
+        omega (arith, linear, put_there, sum_of_append size (get_or old j d).items (k ∷ []), rows.parts j d (omega (arith, put.len)), sum_more size ks i k₀ h)
+    part j d l (inr w) =
+        let not_there = ap (sum_of size) (put.outside j d w) in
+        omega (arith, linear, not_there, rows.parts j d (omega (arith, put.len)), sum_more size ks i k₀ h, size_least k)
+
+-- the sum over the row of a point
+pub row_sum : (ms : List Mark) (lists : List (Vec Counted Global)) (ks row : List Counted) (q : Point) → AreRows ms lists ks
+    → ((d : Vec Counted Global) → row ≡ (get_or lists (place ms q.1) d).items) → counted_winding q row ≡ counted_winding q ks
+row_sum ms [] ks row q rows is = absurd (omega (arith, rows.len))
+row_sum ms (v ∷ vs) ks row q rows is = ap (counted_winding q) (is v) ∙ rows.sums q v
+
+pub row_size : (ms : List Mark) (lists : List (Vec Counted Global)) (ks row : List Counted) (q : Point) → AreRows ms lists ks
+    → ((d : Vec Counted Global) → row ≡ (get_or lists (place ms q.1) d).items) → sum_of size row ≤ℤ sum_of size ks
+row_size ms [] ks row q rows is = absurd (omega (arith, rows.len))
+row_size ms (v ∷ vs) ks row q rows is = let same = ap (sum_of size) (is v) in omega (arith, linear, same, rows.parts (place ms q.1) v (omega (arith, rows.len, place_most ms q.1)))

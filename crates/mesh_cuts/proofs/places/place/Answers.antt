@@ -29,8 +29,8 @@ loop-low-preserved c =
       above = above_mid ms c.args.q.at mid (record { at = pos 0 }) c.requires inside (sym c.is_at_most.ensures ∙ c.if-is_at_most.false);
     }
 
-pub returns : goal.returns
-returns c =
+pub returns-clause-value : goal.returns-clause-value
+returns-clause-value c =
     let l = c.loop-low in
     place_is c.args.marks.now c.args.q.at l.low (omega (arith, l.invariant.bound, l.invariant.order)) l.invariant.below
     (λ k d h g. l.invariant.above k d (omega (arith, c.loop-low-test.false, l.invariant.order)) g)
