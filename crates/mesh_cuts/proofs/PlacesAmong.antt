@@ -1,8 +1,10 @@
 -- Lemmas over whole numbers and lists: places among marks.
-use Rattle.std.proofs.Common.{◌≡◌, ℕ, ◌+◌, ◌-◌, ◌<◌, ◌≤◌, ◌⊎◌, inl, inr, ⊎_elim, Bool, true, false, cond, List, [], ◌∷◌, ◌++◌, length, get_or, zero, suc, refl, sym, ◌∙◌, ap, subst, arith, length-append, add-one}
-use Rattle.std.specs.Prelude.{ℤ, pos, ◌≤ℤ◌, ◌<ℤ◌, int_le, Vec}
+use Rattle.std.proofs.Common.{◌≡◌, ℕ, ◌+◌, ◌-◌, ◌<◌, ◌≤◌, ◌⊎◌, inl, inr, ⊎_elim, Bool, true, false, cond, List, [], ◌∷◌, ◌++◌, length, get_or, zero, suc, refl, sym, ◌∙◌, ap, subst, arith, length-append}
+use Rattle.std.specs.Prelude.{ℤ, ◌≤ℤ◌, ◌<ℤ◌, int_le, Vec}
 use Rattle.std.specs.declared.alloc.Global.{Global}
-use Rattle.std.proofs.lemmas.Bool.{cases_Bool, both_ways}
+use Rattle.std.proofs.Math.ListN.{get_or-append}
+use Rattle.std.proofs.Math.Seq.{get_or-append_seam}
+use Rattle.std.proofs.lemmas.Bool.{both_ways}
 use Rattle.std.proofs.lemmas.Int.{ints}
 use Rattle.std.proofs.lemmas.List.{get_or_default}
 use Rattle.mesh_cuts.specs.declared.places.Mark.{Mark}
@@ -76,19 +78,6 @@ above_mid ms x mid d₀ r low h k d le l =
 
 -- ---- one more mark
 
-pub rising_none : AreRising []
-rising_none = record { rising = λ i j d h l. absurd (omega arith) }
-
--- an element of a list with one more
-get_more : {A : Type 0} (ms : List A) (m d : A) (j : ℕ) → j < length ms → get_or (ms ++ m ∷ []) j d ≡ get_or ms j d
-get_more [] m d j h = absurd (omega arith)
-get_more (n ∷ ms) m d zero h = refl
-get_more (n ∷ ms) m d (suc j) h = get_more ms m d j (omega arith)
-
-get_last : {A : Type 0} (ms : List A) (m d : A) → get_or (ms ++ m ∷ []) (length ms) d ≡ m
-get_last [] m d = refl
-get_last (n ∷ ms) m d = get_last ms m d
-
 -- one more mark that is not below the last
 pub rising_more : (ms : List Mark) (m : Mark) → AreRising ms → ((d : Mark) → 0 < length ms → (get_or ms (length ms - 1) d).at ≤ℤ m.at) → AreRising (ms ++ m ∷ [])
 rising_more ms m r last = record {
@@ -96,16 +85,16 @@ rising_more ms m r last = record {
       let len : j ≤ length ms = omega (arith, length-append ms (m ∷ [])) in
       ⊎_elim
       (λ (jl : j < length ms).
-      subst (λ (z : ℤ). z ≤ℤ (get_or (ms ++ m ∷ []) j d).at) (ap (λ (n : Mark). n.at) (sym (get_more ms m d i (omega arith))))
-      (subst (λ (z : ℤ). (get_or ms i d).at ≤ℤ z) (ap (λ (n : Mark). n.at) (sym (get_more ms m d j jl))) (r.rising i j d h jl)))
+      subst (λ (z : ℤ). z ≤ℤ (get_or (ms ++ m ∷ []) j d).at) (ap (λ (n : Mark). n.at) (sym (get_or-append ms (m ∷ []) d i (omega arith))))
+      (subst (λ (z : ℤ). (get_or ms i d).at ≤ℤ z) (ap (λ (n : Mark). n.at) (sym (get_or-append ms (m ∷ []) d j jl))) (r.rising i j d h jl)))
       (λ (jl : j ≡ length ms).
-      let own : (get_or (ms ++ m ∷ []) j d).at ≡ m.at = ap (λ (n : Mark). n.at) (ap (λ (k : ℕ). get_or (ms ++ m ∷ []) k d) jl ∙ get_last ms m d) in
+      let own : (get_or (ms ++ m ∷ []) j d).at ≡ m.at = ap (λ (n : Mark). n.at) (ap (λ (k : ℕ). get_or (ms ++ m ∷ []) k d) jl ∙ get_or-append_seam ms m [] d) in
       ⊎_elim
       (λ (il : i < length ms).
-      let first : (get_or (ms ++ m ∷ []) i d).at ≡ (get_or ms i d).at = ap (λ (n : Mark). n.at) (get_more ms m d i il) in
+      let first : (get_or (ms ++ m ∷ []) i d).at ≡ (get_or ms i d).at = ap (λ (n : Mark). n.at) (get_or-append ms (m ∷ []) d i il) in
       omega (arith, ints, own, first, r.rising i (length ms - 1) d (omega arith) (omega arith), last d (omega arith)))
       (λ (il : i ≡ length ms).
-      let first : (get_or (ms ++ m ∷ []) i d).at ≡ m.at = ap (λ (n : Mark). n.at) (ap (λ (k : ℕ). get_or (ms ++ m ∷ []) k d) il ∙ get_last ms m d) in
+      let first : (get_or (ms ++ m ∷ []) i d).at ≡ m.at = ap (λ (n : Mark). n.at) (ap (λ (k : ℕ). get_or (ms ++ m ∷ []) k d) il ∙ get_or-append_seam ms m [] d) in
       omega (arith, ints, own, first))
       (below_or_last i (length ms) (omega arith)))
       (below_or_last j (length ms) len);

@@ -68,7 +68,8 @@ fn goes_on(marks: &[Mark], m: Mark) -> bool
 /// Adds a mark, unless it is below the last one.
 fn push_rising(marks: &mut Vec<Mark>, m: Mark) -> Result<(), AllocError>
     requires { AreRising marks.old.items }
-    ensures { OnOk result (AreRising marks.new.items) }
+    ensures rising { OnOk result (AreRising marks.new.items) }
+    ensures len { OnOk result (length marks.new.items ≤ length marks.old.items + 1) }
 {
     if !goes_on(marks, m) {
         return Ok(());
@@ -91,12 +92,13 @@ pub fn in_order(alloc: Global, mut coordinates: Vec<i128>) -> Result<Vec<Mark>, 
 
 /// At most so many of the marks, evenly taken.
 pub fn thinned(alloc: Global, marks: &[Mark], most: usize) -> Result<Vec<Mark>, AllocError>
-    ensures { IfOk result (λ v. AreRising v.items) }
+    ensures rising { IfOk result (λ v. AreRising v.items) }
+    ensures most { IfOk result (λ v. length v.items ≤ most) }
 {
     let step = marks.len() / most.max(1) + 1;
     let mut left = Vec::new(alloc);
     for (i, m) in marks.iter().enumerate() {
-        if i % step == step / 2 {
+        if left.len() < most && i % step == step / 2 {
             push_rising(&mut left, *m)?;
         }
     }

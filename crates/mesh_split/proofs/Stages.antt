@@ -6,9 +6,9 @@ use Rattle.mesh_plane.specs.Plane.{Point, Edge}
 use Rattle.mesh_plane.specs.Winding.{same_point}
 use Rattle.mesh_plane.proofs.Whole.{linear, mul_add, mul_sub}
 use Rattle.mesh_cuts.specs.Split.{same_ends, occurs, cut}
-use Rattle.mesh_cuts.specs.Counted.{Counted, bit, along, net, counted_net, times}
+use Rattle.mesh_cuts.specs.Counted.{Counted, bit, along, net, times}
 use Rattle.mesh_split.specs.Steps.{IsTaken, IsPut, Puts, PutsPieces, AreCountOf, at_least_once}
-use Rattle.mesh_cuts.proofs.Ends.{ends_self, ends_sym, ends_along, along_self, not_along}
+use Rattle.mesh_cuts.proofs.Ends.{ends_self, ends_sym, ends_along, along_self}
 use Rattle.mesh_cuts.proofs.Cuts.{net_cut, occurs_cut, change}
 use Rattle.mesh_cuts.proofs.Counts.{absent_net, bit_least, times_least}
 
