@@ -118,7 +118,7 @@ pub fn empty_lists<T: Drop>(alloc: Global, count: usize) -> Result<Vec<Vec<T>>, 
 }
 
 /// Adds an element at the end of one list.
-fn push_to<T: Drop>(lists: &mut Vec<Vec<T>>, i: usize, x: T) -> Result<(), AllocError>
+pub fn push_to<T: Drop>(lists: &mut Vec<Vec<T>>, i: usize, x: T) -> Result<(), AllocError>
     requires { i < length lists.old.items }
     ensures len { length lists.new.items ≡ length lists.old.items }
     ensures at { OnOk result ((d : Vec T Global) → (slice_index_or lists.new.items i d).items ≡ (slice_index_or lists.old.items i d).items ++ x ∷ []) }

@@ -1,16 +1,17 @@
 -- Lemmas over lists: how shapes come about, ring by ring.
-use Rattle.std.proofs.Common.{zero, suc, ⊎_elim, ◌≡◌, ℕ, ◌+◌, ◌<◌, ◌≤◌, Bool, true, false, cond, not, ◌&&◌, List, [], ◌∷◌, ◌++◌, map, length, drop, get_or, below_more, refl, sym, ◌∙◌, ap, subst, arith, append_assoc}
+use Rattle.std.proofs.Common.{zero, suc, ◌≡◌, ℕ, ◌+◌, ◌<◌, ◌≤◌, Bool, true, false, cond, not, ◌&&◌, List, [], ◌∷◌, ◌++◌, map, length, drop, get_or, below_more, refl, sym, ◌∙◌, ap, subst, arith, append_assoc}
 use Rattle.std.specs.Prelude.{ℤ, pos, int_lt, nat_eq, Option, Some, None, MatchOption, Vec}
 use Rattle.std.specs.Option.{ForSome}
-use Rattle.std.specs.List.{filter, enumerate_from}
+use Rattle.std.specs.List.{All, filter, enumerate_from}
+use Rattle.std.proofs.lemmas.List.Elements.{All-nil, All-push}
 use Rattle.std.specs.declared.alloc.Global.{Global}
-use Rattle.std.proofs.lemmas.Bool.{cases_Bool, both_ways, eqb-true, eq-eqb}
+use Rattle.std.proofs.lemmas.Bool.{both_ways, eqb-true, eq-eqb}
 use Rattle.std.proofs.lemmas.List.{append-nil, map-append, length-append}
 use Rattle.mesh_plane.specs.Plane.{Point}
 use Rattle.mesh_plane.specs.Winding.{holds}
 use Rattle.mesh_shapes.specs.Progress.{NoneRound, IsHolder}
 use Rattle.mesh_shapes.specs.Resolution.{Ring, Placed, is_head, shape_of, shapes_of, answered}
-use Rattle.mesh_shapes.specs.Grouping.{Held, view, views, ring_at, placed, areas_of, is_round_at, IsHome, points_of}
+use Rattle.mesh_shapes.specs.Grouping.{Held, view, views, ring_at, placed, areas_of, is_round_at, IsHome, points_of, contours_at, AreMembers, IsPutHome}
 use Rattle.mesh_shapes.proofs.Groups.{length_map, view_at, area_at, positive_at, holder_no_less, holder_first, holder_less, home_alone, home_held, is_member, member_test, head_test, place_next, places_none, places_all}
 
 -- ---- one more element of a filtered list
@@ -121,17 +122,18 @@ home_some rs areas i b r known low flat h =
     (subst (λ (n : ℕ). IsHolder (views rs) n (ring_at (views rs) i).1.1 b) (sym (length_map view rs))
     (subst (λ (q : Point). IsHolder (views rs) (length rs) q b) (λ j. (sym (view_at rs i r ([], (pos 0, pos 0)) low) j).1) h))
 
--- one more ring's place is known
-pub record HomesTo (rs : List Ring) (i : ℕ) (known : List ℕ) : Type 0 where
+-- what holds of each place and the number that is known of it
+pub record KnownTo (P : ℕ → ℕ → Type 0) (i : ℕ) (known : List ℕ) : Type 0 where
   pub len : length known ≡ i
-  pub homes : (j : ℕ) → j < i → IsHome rs j (get_or known j 0)
+  pub holds : (j : ℕ) → j < i → P j (get_or known j 0)
 
-pub homes_more : (rs : List Ring) (i b : ℕ) (old new : List ℕ) → length old ≡ i → ((j : ℕ) → j < i → IsHome rs j (get_or old j 0)) → IsHome rs i b → new ≡ old ++ (b ∷ []) → HomesTo rs (i + 1) new
-homes_more rs i b old new len h home e = record {
+-- the number of one more place is known
+pub known_more : (P : ℕ → ℕ → Type 0) (i b : ℕ) (old new : List ℕ) → length old ≡ i → ((j : ℕ) → j < i → P j (get_or old j 0)) → P i b → new ≡ old ++ (b ∷ []) → KnownTo P (i + 1) new
+known_more P i b old new len h here e = record {
   len = ap length e ∙ (omega (arith, length-append old (b ∷ []), len));
-  homes = below_more (λ (j : ℕ). IsHome rs j (get_or new j 0)) i
-      (λ (j : ℕ) (l : j < i). subst (λ (n : ℕ). IsHome rs j n) (sym (ap (λ (xs : List ℕ). get_or xs j 0) e ∙ get_before old (b ∷ []) j 0 (omega (arith, len)))) (h j l))
-      (subst (λ (n : ℕ). IsHome rs i n) (sym (ap (λ (xs : List ℕ). get_or xs i 0) e ∙ get_last old b i 0 len)) home);
+  holds = below_more (λ (j : ℕ). P j (get_or new j 0)) i
+      (λ (j : ℕ) (l : j < i). subst (λ (n : ℕ). P j n) (sym (ap (λ (xs : List ℕ). get_or xs j 0) e ∙ get_before old (b ∷ []) j 0 (omega (arith, len)))) (h j l))
+      (subst (λ (n : ℕ). P i n) (sym (ap (λ (xs : List ℕ). get_or xs i 0) e ∙ get_last old b i 0 len)) here);
 }
   where
     get_before : (xs ys : List ℕ) (j d : ℕ) → j < length xs → get_or (xs ++ ys) j d ≡ get_or xs j d
@@ -145,14 +147,82 @@ homes_more rs i b old new len h home e = record {
     get_last (y ∷ xs) x zero d e = absurd (omega (arith, e))
     get_last (y ∷ xs) x (suc i) d e = get_last xs x i d (omega (arith, e))
 
--- a ring is added to the shape it stands in
-pub pushed_member : (rs : List Held) (cw : Bool) (i h b : ℕ) (r : Held) (old : List (Vec Point Global)) (c : Vec Point Global) (new : List (Vec Point Global)) → i < length rs →
-    c.items ≡ answered cw (view (get_or rs i r)) → new ≡ old ++ (c ∷ []) → b ≡ h → (i ≡ h → ⊥) →
-    points_of new ≡ points_of old ++ cond (nat_eq b h && not (nat_eq i h)) (answered cw (ring_at (views rs) i).1 ∷ []) []
-pushed_member rs cw i h b r old c new low a e t f =
+-- ---- the rings that stand with another
+
+-- the places of the rings below `i` that stand with the ring at `h`
+pub record AreMembersTo (rs : List Ring) (i h : ℕ) (places : List ℕ) : Type 0 where
+  pub within : All (λ (j : ℕ). j < length rs) places
+  pub contours : (cw : Bool) → ShapeTo rs cw h i (contours_at rs cw h places)
+
+pub members_none : (rs : List Ring) (h : ℕ) (places : List ℕ) → places ≡ [] → AreMembersTo rs 0 h places
+members_none rs h places e = record {
+  within = subst (λ (l : List ℕ). All (λ (j : ℕ). j < length rs) l) (sym e) (All-nil (λ (j : ℕ). j < length rs));
+  contours = λ cw. shape_init rs cw h (contours_at rs cw h places) (ap (contours_at rs cw h) e);
+}
+
+pub members_more : (rs : List Ring) (i h b : ℕ) (old new : List ℕ) → IsHome rs i b → h < length rs → i < length rs → AreMembersTo rs i h old
+    → new ≡ old ++ cond (nat_eq b h && not (nat_eq i h)) (i ∷ []) [] → AreMembersTo rs (i + 1) h new
+members_more rs i h b old new home lh li before e = by (nat_eq b h && not (nat_eq i h)) refl
+  where
+    picture : Bool → List ℕ → List (List Point)
+    picture cw l = map (λ (j : ℕ). answered cw (ring_at rs j).1) l
+
+    by : (t : Bool) → (nat_eq b h && not (nat_eq i h)) ≡ t → AreMembersTo rs (i + 1) h new
+    by true t = record {
+      within =
+          let is : new ≡ old ++ (i ∷ []) = e ∙ ap (λ (x : Bool). old ++ cond x (i ∷ []) []) t in
+          subst (λ (l : List ℕ). All (λ (j : ℕ). j < length rs) l) (sym is) (All-push (λ (j : ℕ). j < length rs) old i before.within li);
+      contours = λ cw.
+          let is : new ≡ old ++ (i ∷ []) = e ∙ ap (λ (x : Bool). old ++ cond x (i ∷ []) []) t in
+          shape_next rs cw h i b (contours_at rs cw h old) (contours_at rs cw h new) home lh li (before.contours cw)
+          (ap (contours_at rs cw h) is
+          ∙ (ap (λ (l : List (List Point)). answered cw (ring_at rs h).1 ∷ l) (map-append (λ (j : ℕ). answered cw (ring_at rs j).1) old (i ∷ []))
+          ∙ ap (λ (x : Bool). contours_at rs cw h old ++ cond x (answered cw (ring_at rs i).1 ∷ []) []) (sym t)));
+    }
+    by false t = record {
+      within =
+          let is : new ≡ old = e ∙ (ap (λ (x : Bool). old ++ cond x (i ∷ []) []) t ∙ append-nil old) in
+          subst (λ (l : List ℕ). All (λ (j : ℕ). j < length rs) l) (sym is) before.within;
+      contours = λ cw.
+          let is : new ≡ old = e ∙ (ap (λ (x : Bool). old ++ cond x (i ∷ []) []) t ∙ append-nil old) in
+          shape_next rs cw h i b (contours_at rs cw h old) (contours_at rs cw h new) home lh li (before.contours cw)
+          (ap (contours_at rs cw h) is
+          ∙ (sym (append-nil (contours_at rs cw h old))
+          ∙ ap (λ (x : Bool). contours_at rs cw h old ++ cond x (answered cw (ring_at rs i).1 ∷ []) []) (sym t)));
+    }
+
+pub members_all : (rs : List Ring) (i h : ℕ) (places : List ℕ) → length rs ≤ i → AreMembersTo rs i h places → AreMembers rs h places
+members_all rs i h places l m = record { within = m.within; contours = λ cw. shape_end rs cw h i (contours_at rs cw h places) l (m.contours cw) }
+
+-- a place is put to the list of its home alone
+pub put_home : (old new : List (Vec ℕ Global)) (i b : ℕ) → (b ≡ i → ⊥) → length new ≡ length old
+    → ((d : Vec ℕ Global) → (get_or new b d).items ≡ (get_or old b d).items ++ i ∷ [])
+    → ((k : ℕ) (d : Vec ℕ Global) → (k ≡ b → ⊥) → get_or new k d ≡ get_or old k d) → IsPutHome old new i b
+put_home old new i b apart len at others = record { len = len; put = λ h d l. by h d (nat_eq b h) refl (nat_eq i h) refl }
+  where
+    by : (h : ℕ) (d : Vec ℕ Global) (s : Bool) → nat_eq b h ≡ s → (t : Bool) → nat_eq i h ≡ t
+        → (get_or new h d).items ≡ (get_or old h d).items ++ cond (nat_eq b h && not (nat_eq i h)) (i ∷ []) []
+    by h d true p true q = absurd (apart (eqb-true b h p ∙ sym (eqb-true i h q)))
+    by h d true p false q =
+        subst (λ (k : ℕ). (get_or new k d).items ≡ (get_or old k d).items ++ i ∷ []) (eqb-true b h p) (at d)
+        ∙ (λ j. (get_or old h d).items ++ cond (sym p j && not (sym q j)) (i ∷ []) [])
+    by h d false p t q =
+        ap (λ (v : Vec ℕ Global). v.items) (others h d (λ (e : h ≡ b). both_ways (nat_eq b h) p (eq-eqb b h (sym e))))
+        ∙ (sym (append-nil (get_or old h d).items) ∙ (λ j. (get_or old h d).items ++ cond (sym p j && not (nat_eq i h)) (i ∷ []) []))
+
+pub put_at_home : (lists : List (Vec ℕ Global)) (i b : ℕ) → b ≡ i → IsPutHome lists lists i b
+put_at_home lists i b same = record { len = refl; put = λ h d l. by h d (nat_eq b h) refl }
+  where
+    by : (h : ℕ) (d : Vec ℕ Global) (s : Bool) → nat_eq b h ≡ s → (get_or lists h d).items ≡ (get_or lists h d).items ++ cond (nat_eq b h && not (nat_eq i h)) (i ∷ []) []
+    by h d true p =
+        sym (append-nil (get_or lists h d).items)
+        ∙ (λ j. (get_or lists h d).items ++ cond (sym p j && not (sym (ap (λ (k : ℕ). nat_eq k h) (sym same) ∙ p) j)) (i ∷ []) [])
+    by h d false p = sym (append-nil (get_or lists h d).items) ∙ (λ j. (get_or lists h d).items ++ cond (sym p j && not (nat_eq i h)) (i ∷ []) [])
+
+-- a ring's contour is added to a shape
+pub pushed_contour : (rs : List Held) (cw : Bool) (i : ℕ) (r : Held) (old : List (Vec Point Global)) (c : Vec Point Global) (new : List (Vec Point Global)) → i < length rs →
+    c.items ≡ answered cw (view (get_or rs i r)) → new ≡ old ++ (c ∷ []) → points_of new ≡ points_of old ++ (answered cw (ring_at (views rs) i).1 ∷ [])
+pushed_contour rs cw i r old c new low a e =
     ap points_of e
     ∙ (map-append (λ (v : Vec Point Global). v.items) old (c ∷ [])
-    ∙ (λ j. points_of old ++ cond (sym (eq-eqb b h t) j && not (sym other j)) ((a ∙ ap (answered cw) (sym (view_at rs i r ([], (pos 0, pos 0)) low))) j ∷ []) []))
-  where
-    other : nat_eq i h ≡ false
-    other = ⊎_elim (λ (s : nat_eq i h ≡ true). absurd (f (eqb-true i h s))) (λ (s : nat_eq i h ≡ false). s) (cases_Bool (nat_eq i h))
+    ∙ (λ j. points_of old ++ ((a ∙ ap (answered cw) (sym (view_at rs i r ([], (pos 0, pos 0)) low))) j ∷ [])))

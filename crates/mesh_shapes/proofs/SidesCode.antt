@@ -1,5 +1,5 @@
 -- Lemmas over whole numbers and lists: sums of counts, as 128 bits hold them.
-use Rattle.std.proofs.Common.{◌≡◌, ℕ, ◌+◌, ◌<◌, ◌≤◌, ◌^◌, List, [], ◌∷◌, take, length, get_or, add-one, max, ◌*◌, refl, sym, ◌∙◌, ap, arith, zero, suc}
+use Rattle.std.proofs.Common.{◌≡◌, ℕ, ◌+◌, ◌<◌, ◌^◌, List, [], ◌∷◌, take, length, get_or, add-one, refl, sym, ◌∙◌, ap, arith, zero, suc}
 use Rattle.std.specs.Prelude.{ℤ, pos, neg_ℤ, ◌+ℤ◌, ◌*ℤ◌, ◌≤ℤ◌, ◌<ℤ◌, unsigned_abs}
 use Rattle.std.proofs.lemmas.Int.{ints, to_z-of_z}
 use mir.Syntax.{w128}
@@ -8,7 +8,6 @@ use Rattle.mesh_plane.specs.Bounds.{IsSmall}
 use Rattle.mesh_plane.specs.Winding.{sum_of}
 use Rattle.mesh_plane.proofs.Whole.{mul_one, mul_neg}
 use Rattle.mesh_cuts.specs.Counted.{Counted}
-use Rattle.std.proofs.Math.Nat.{mul-le-mul_left}
 use Rattle.mesh_cuts.specs.Counted.{size}
 
 times_zero : (n : ℤ) → n *ℤ pos 0 ≡ pos 0

@@ -1,12 +1,12 @@
 -- Rings as the program holds them, and where each of them belongs.
-use Rattle.std.specs.Prelude.{ℕ, ◌≡◌, ◌<◌, Bool, true, false, ◌&&◌, List, [], ◌∷◌, ◌++◌, ◌^◌, map, length, slice_index_or, nat_eq, ℤ, pos, Vec}
+use Rattle.std.specs.Prelude.{ℕ, ◌≡◌, ◌<◌, Bool, true, false, cond, not, ◌&&◌, List, [], ◌∷◌, ◌++◌, ◌^◌, map, length, slice_index_or, nat_eq, ℤ, pos, Vec}
 use Rattle.std.specs.List.{All, filter, flat_map, enumerate_from}
 use Rattle.std.specs.declared.alloc.Global.{Global}
 use Rattle.mesh_plane.specs.Bounds.{IsSafe}
 use Rattle.mesh_plane.specs.Plane.{Point, Edge}
 use Rattle.mesh_plane.specs.Winding.{sum_of, boundary, holds}
 use Rattle.mesh_shapes.specs.Contours.{IsBegun, double_area}
-use Rattle.mesh_shapes.specs.Resolution.{Ring, Placed, ring_of, is_large, is_positive, is_head, stands_with}
+use Rattle.mesh_shapes.specs.Resolution.{Ring, Placed, ring_of, is_large, is_positive, is_head, stands_with, shape_of, answered}
 use Rattle.mesh_shapes.specs.Unused.{contour_edges}
 
 -- a ring's vertices in a vector, and its side point
@@ -66,3 +66,17 @@ points_of shape = map (λ (c : Vec Point Global). c.items) shape
 -- the points of the contours of each shape
 abbrev pub shapes_points : List (Vec (Vec Point Global) Global) → List (List (List Point))
 shapes_points shapes = map (λ (s : Vec (Vec Point Global) Global). points_of s.items) shapes
+
+-- the contours of the shape that the ring at `h` heads, where these are the places of its other rings
+abbrev pub contours_at : List Ring → Bool → ℕ → List ℕ → List (List Point)
+contours_at rs clockwise h places = answered clockwise (ring_at rs h).1 ∷ map (λ (i : ℕ). answered clockwise (ring_at rs i).1) places
+
+-- the places of the rings that head no shape and stand with the ring at `h`
+pub record AreMembers (rs : List Ring) (h : ℕ) (places : List ℕ) : Type 0 where
+  pub within : All (λ (i : ℕ). i < length rs) places
+  pub contours : (clockwise : Bool) → contours_at rs clockwise h places ≡ map (answered clockwise) (shape_of (placed rs) (ring_at rs h))
+
+-- the place `i` was added to the list of its home, unless that is itself
+pub record IsPutHome (old new : List (Vec ℕ Global)) (i home : ℕ) : Type 0 where
+  pub len : length new ≡ length old
+  pub put : (h : ℕ) (d : Vec ℕ Global) → h < length old → (slice_index_or new h d).items ≡ (slice_index_or old h d).items ++ cond (nat_eq home h && not (nat_eq i h)) (i ∷ []) []

@@ -1,8 +1,11 @@
-use Rattle.std.proofs.Common.{◌<◌, sym, subst, ℕ, List, length}
-use Rattle.std.specs.Prelude.{slice_index_or}
-use Rattle.mesh_shapes.specs.Grouping.{views, IsHome}
+use Rattle.std.proofs.Common.{◌∙◌, ap, sym, subst, ℕ, List}
+use Rattle.std.specs.Prelude.{Vec}
+use Rattle.std.specs.declared.alloc.Global.{Global}
+use Rattle.mesh_shapes.specs.Grouping.{views, AreMembers}
 use Rattle.mesh_shapes.proofs.arrange.grouped.Goals as goal
 
-pub push_shape-requires-clause-homes_are : goal.push_shape-requires-clause-homes_are
-push_shape-requires-clause-homes_are c =
-    subst (λ (l : List ℕ). (i : ℕ) → i < length c.args.rings.now → IsHome (views c.args.rings.now) i (slice_index_or l i 0)) (sym c.deref.ensures.value) c.in_ok-homes.ensures.homes
+pub push_shape-requires-clause-members : goal.push_shape-requires-clause-members
+push_shape-requires-clause-members c =
+    subst (λ (places : List ℕ). AreMembers (views c.args.rings.now) c.loop-h.h places)
+    (sym (c.deref-in-loop-h-2.ensures.value ∙ ap (λ (v : Vec ℕ Global). v.items) c.index.ensures))
+    (c.in_ok-members.ensures.members c.loop-h.h c.index.result.now c.loop-h-test.true)
