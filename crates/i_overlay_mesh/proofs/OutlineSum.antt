@@ -10,9 +10,10 @@ use Rattle.mesh_plane.proofs.Whole.{linear}
 use Rattle.mesh_plane.proofs.Sums.{sum_of_add, sum_of_none, sum_of_equal, sum_of_filter, total_append, total_flat_map, pieces_total_append, pieces_total_flat_map, pieces_total_map, sum_of_zero}
 use Rattle.mesh_plane.proofs.ClosedLists.{boundary_ends, boundary_all, all_both}
 use Rattle.mesh_plane.proofs.Pieces.{fan_total}
-use Rattle.mesh_plane.proofs.Balance.{same_point_is, same_point_self, growth, growth_odd, balanced_by_pieces}
+use Rattle.mesh_plane.proofs.Balance.{growth, growth_odd, balanced_by_pieces}
 use Rattle.mesh_num.specs.Segments.{proper_edges}
 use Rattle.i_overlay_mesh.specs.Outline.{Section, Corner, own_edge, top_edge, strip, inner_edges, join_edges, corner_edges, corner_pieces, drawn_edges, drawn_pieces}
+use Rattle.mesh_plane.proofs.Comparing.{decides_point}
 
 -- each corner's second section starts where its first ends
 abbrev pub IsClosed : List Section → Type 0
@@ -54,7 +55,7 @@ module _ (f : Point → Point → ℤ) (odd : IsOdd f) where
 
   point_total : (e : Edge) → not (same_point e.0 e.1) ≡ false → f e.0 e.1 ≡ pos 0
   point_total e h =
-      let same : e.0 ≡ e.1 = same_point_is e.0 e.1 (not_false (same_point e.0 e.1) h) in
+      let same : e.0 ≡ e.1 = (decides_point e.0 e.1).0 (not_false (same_point e.0 e.1) h) in
       omega (arith, linear, odd e.1 e.1, ap (λ p. f p e.1) same)
     where
       not_false : (b : Bool) → not b ≡ false → b ≡ true
@@ -109,7 +110,7 @@ module _ (f : Point → Point → ℤ) (odd : IsOdd f) where
 
   still_fan : (v p r : Point) (xs : List Point) → p ≡ v → r ≡ v → pieces_total f (fan v (route p (cond (same_point p r) [] xs) r)) ≡ pos 0
   still_fan v p r xs ep er =
-      let same : same_point p r ≡ true = rw (ep, er) (same_point_self v) in
+      let same : same_point p r ≡ true = rw (ep, er) ((decides_point v v).1 refl) in
       rw same (omega (arith, linear, none_round v, ap (λ x. f v x) ep, ap (λ x. f x r) ep, ap (λ x. f v x) er, ap (λ x. f x v) er))
 
   still_corner : (is_outer : Corner → Bool) (join : Corner → List Point) (c : Corner) → Stays c.0 → Stays c.1 → c.0.b ≡ c.1.a →

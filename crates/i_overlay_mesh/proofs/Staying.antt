@@ -16,13 +16,13 @@ use Rattle.mesh_cuts.specs.Reach.{AreEdgesSafe, ArePointsSafe}
 use Rattle.mesh_cuts.specs.Split.{back}
 use Rattle.mesh_join.proofs.CleaningEnds.{cleaned_sections-ends}
 use Rattle.mesh_below.proofs.AnswerPoints.{resolution_safe}
-use Rattle.mesh_below.proofs.Resolving.{all_left, all_right}
 use Rattle.i_overlay_mesh.specs.Building.{IsMovable, bevelled_edges}
 use Rattle.i_overlay_mesh.specs.Padding.{outline_padding, ArePathsSafe}
 use Rattle.i_overlay_mesh.specs.Resolved.{answer_edges, IsAnswerAlone, Gives, Give}
 use Rattle.i_overlay_mesh.specs.Staying.{IsSafeResolving, IsSafeAlone, StaysSafe}
 use Rattle.i_overlay_mesh.proofs.BuilderTheorems.{cleaned_ring}
 use Rattle.i_overlay_mesh.proofs.Padding.{outer_accepted, inner_accepted, outline_safe}
+use Rattle.mesh_plane.proofs.ClosedLists.{all_left, all_right}
 
 abbrev IsSafeEdge : ℕ → Edge → Type 0
 IsSafeEdge unit e = IsSafe unit e.0 × IsSafe unit e.1

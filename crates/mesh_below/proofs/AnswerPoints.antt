@@ -1,29 +1,23 @@
 -- Lemmas over points and lists: split segments and answers of safe edges are safe.
-use Rattle.std.proofs.Common.{◌≡◌, ⊎_elim, ℕ, ◌+◌, ◌<◌, length, get_or, Bool, true, false, cond, not, ◌&&◌, List, [], ◌∷◌, map, reverse, refl, sym, subst, arith}
-use Rattle.std.specs.Prelude.{ℤ, ◌≤ℤ◌, ◌<ℤ◌}
+use Rattle.std.proofs.Common.{◌≡◌, ℕ, ◌+◌, ◌<◌, length, get_or, Bool, true, false, cond, not, ◌&&◌, List, [], ◌∷◌, map, reverse, sym, subst}
+use Rattle.std.specs.Prelude.{ℤ}
 use Rattle.std.specs.List.{All, filter, flat_map, enumerate_from}
-use Rattle.std.proofs.lemmas.Bool.{false≢true, or_cases}
-use Rattle.std.proofs.lemmas.Int.{ints, by_lt_z}
 use Rattle.std.proofs.lemmas.List.{get_or-map}
-use Rattle.std.proofs.lemmas.List.Elements.{All-nil, All-cons, All-head, All-tail, All-append, All-filter}
+use Rattle.std.proofs.lemmas.List.Elements.{All-nil, All-cons, All-head, All-tail, All-filter}
 use Rattle.std.proofs.lemmas.List.Sorted.{All-permutation, IsPermutation-reverse}
-use Rattle.mesh_plane.specs.Bounds.{IsSmall, IsSafe}
+use Rattle.mesh_plane.specs.Bounds.{IsSafe}
 use Rattle.mesh_plane.specs.Plane.{Point, Edge}
 use Rattle.mesh_plane.specs.Winding.{route, boundary}
 use Rattle.mesh_cuts.specs.Boundary.{IsBoundary}
-use Rattle.mesh_shapes.specs.Contours.{is_corner, first_or, corners, vertices, reversed}
+use Rattle.mesh_shapes.specs.Contours.{turns_at, first_or, turning_points, vertices, reversed}
 use Rattle.mesh_cuts.specs.Reach.{AreEdgesSafe, ArePointsSafe}
 use Rattle.mesh_shapes.specs.Resolution.{Choices, Ring, Placed, ring_of, is_large, is_head, stands_with, shape_of, answered, AreArranged, IsResolution}
-use Rattle.mesh_cuts.specs.Split.{back, same_ends, occurs, IsBetween, IsInBox, Cut, pieces, cut, after, IsLegal}
+use Rattle.mesh_cuts.specs.Split.{occurs, after}
 use Rattle.mesh_regions.proofs.BoundaryFill.{boundary_cover}
-use Rattle.mesh_cuts.proofs.KeptByCuts.{Boxed, cut_box}
-use Rattle.mesh_cuts.proofs.SoundCuts.{legal_boxed}
-use Rattle.mesh_cuts.proofs.Ends.{decides_ends}
 use Rattle.mesh_shapes.proofs.Groups.{length_map}
-use Rattle.mesh_below.proofs.Resolving.{all_left, all_right, all_occurs}
+use Rattle.mesh_below.proofs.Resolving.{all_occurs}
 use Rattle.mesh_cuts.proofs.SafeCuts.{IsSafeEdge, occurs_safe, split_safe}
-
--- ---- points in the box of a safe edge
+use Rattle.mesh_plane.proofs.ClosedLists.{all_left, all_right}
 
 -- ---- split segments
 
@@ -50,19 +44,19 @@ module _ (P : Point → Type 0) where
   contours_points (c ∷ cs) h =
       All-cons (All P) c cs (contour_points c (all_left Starts (boundary c) (flat_map boundary cs) h)) (contours_points cs (all_right Starts (boundary c) (flat_map boundary cs) h))
 
-  corner_points : (a z : Point) (xs : List Point) → All P xs → All P (corners a xs z)
+  corner_points : (a z : Point) (xs : List Point) → All P xs → All P (turning_points a xs z)
   corner_points a z [] h = h
-  corner_points a z (x ∷ xs) h = by (is_corner a x (first_or z xs)) (corner_points x z xs (All-tail P x xs h))
+  corner_points a z (x ∷ xs) h = by (turns_at a x (first_or z xs)) (corner_points x z xs (All-tail P x xs h))
     where
-      by : (b : Bool) → All P (corners x xs z) → All P (cond b (x ∷ corners x xs z) (corners x xs z))
-      by true k = All-cons P x (corners x xs z) (All-head P x xs h) k
+      by : (b : Bool) → All P (turning_points x xs z) → All P (cond b (x ∷ turning_points x xs z) (turning_points x xs z))
+      by true k = All-cons P x (turning_points x xs z) (All-head P x xs h) k
       by false k = k
 
   vertex_points : (all : Bool) (c : List Point) → All P c → All P (vertices all c)
   vertex_points true [] h = h
   vertex_points false [] h = h
   vertex_points true (p ∷ xs) h = h
-  vertex_points false (p ∷ xs) h = All-cons P p (corners p xs p) (All-head P p xs h) (corner_points p p xs (All-tail P p xs h))
+  vertex_points false (p ∷ xs) h = All-cons P p (turning_points p xs p) (All-head P p xs h) (corner_points p p xs (All-tail P p xs h))
 
   -- ---- rings, shapes and answers
   abbrev OfRing : Ring → Type 0

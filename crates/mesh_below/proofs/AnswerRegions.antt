@@ -1,47 +1,30 @@
 -- Lemmas over points and lists: one winding inside a segment, and contours that wind once round what is filled.
-use Rattle.std.proofs.Common.{◌≡◌, ◌⊎◌, inl, inr, ℕ, ◌<◌, Bool, true, false, List, [], ◌∷◌, ◌++◌, map, refl, sym, ◌∙◌, ap, subst, arith}
-use Rattle.std.specs.Prelude.{ℤ, pos, ◌+ℤ◌, ◌-ℤ◌, ◌*ℤ◌, ◌≤ℤ◌, ◌<ℤ◌}
+use Rattle.std.proofs.Common.{◌≡◌, ℕ, ◌<◌, Bool, true, false, List, [], ◌∷◌, ◌++◌, map, refl, sym, ◌∙◌, ap, arith}
+use Rattle.std.specs.Prelude.{ℤ, pos, ◌+ℤ◌}
 use Rattle.std.specs.List.{flat_map}
-use Rattle.std.proofs.lemmas.Bool.{both_ways}
-use Rattle.std.proofs.lemmas.Int.{ints, by_lt_z}
-use Rattle.mesh_plane.specs.Plane.{Point, Edge, turn}
+use Rattle.std.proofs.lemmas.Int.{ints}
+use Rattle.mesh_plane.specs.Plane.{Point, Edge}
 use Rattle.mesh_plane.specs.Winding.{boundary, crossing_on, winding, IsBalanced}
-use Rattle.mesh_plane.proofs.Ring.{ring, var, lit, ◌⊕◌, ◌⊖◌, ◌⊗◌}
 use Rattle.mesh_plane.proofs.Sums.{sum_of_append}
-use Rattle.mesh_plane.proofs.Whole.{linear, mul_nonneg, mul_nonpos, mul_pos, mul_zero, mul_cancel, mul_le_mul_left, square_nonneg, square_pos}
-use Rattle.mesh_cuts.specs.Boundary.{IsBoundary, winding_beside}
-use Rattle.mesh_cuts.specs.Clean.{IsProper, refined_edge}
+use Rattle.mesh_cuts.specs.Clean.{IsProper}
 use Rattle.mesh_shapes.specs.Contours.{vertices}
 use Rattle.mesh_cuts.specs.FillRules.{filled}
 use Rattle.mesh_regions.specs.Laws.{AreSplit, once}
 use Rattle.mesh_below.specs.Laws.{AreRegions}
 use Rattle.mesh_regions.specs.Regions.{OutsideBent}
 use Rattle.mesh_shapes.specs.Resolution.{Choices, IsResolution}
-use Rattle.mesh_cuts.specs.Split.{occurs, IsBetween, IsInside, is_end, after}
+use Rattle.mesh_cuts.specs.Split.{occurs, after}
 use Rattle.mesh_cuts.specs.declared.fill.FillRule.{FillRule}
 use Rattle.mesh_cuts.specs.declared.fill.FillRule.TheVariants.{Positive, Negative}
-use Rattle.mesh_regions.proofs.BoundaryBalance.{boundary_is_balanced}
-use Rattle.mesh_regions.proofs.BoundaryFill.{boundary_cover, fill_is}
-use Rattle.mesh_regions.proofs.BoundaryGrids.{winds_finer}
-use Rattle.mesh_cuts.proofs.Keys.{keys, keys_are}
-use Rattle.mesh_regions.proofs.BoundaryLine.{Setting, inside_beside}
+use Rattle.mesh_regions.proofs.BoundaryFill.{boundary_cover}
 use Rattle.mesh_cuts.proofs.KeptByCuts.{after_balanced}
 use Rattle.mesh_regions.proofs.BoundaryRegions.{after_winds}
 use Rattle.mesh_cuts.proofs.SoundCuts.{legal_sound, legal_boxed, after_proper}
 use Rattle.mesh_shapes.proofs.ContoursKept.{Proper, vertices_winding}
-use Rattle.mesh_cuts.proofs.Ends.{decides_end}
 use Rattle.mesh_below.proofs.Partition.{answer_winds}
-use Rattle.mesh_plane.proofs.Places.{place, coordinates, turned, scaled}
 use Rattle.mesh_cuts.proofs.Each.{proper_of, each_of}
 use Rattle.mesh_cuts.proofs.Each.{Each}
-use Rattle.mesh_plane.proofs.Grids.{scale, winds, part}
 use Rattle.mesh_regions.proofs.Inside.{boundary_winds}
-
--- ---- a point inside a segment as a part of the way from end to end
-
--- ---- inside means between the ends
-
--- ---- boundaries
 
 -- ---- contours
 

@@ -14,10 +14,10 @@ use Rattle.mesh_plane.proofs.Sums.{sum_of_map}
 use Rattle.mesh_plane.proofs.Whole.{linear}
 use Rattle.mesh_cuts.specs.Counted.{bit}
 use Rattle.mesh_cuts.specs.Split.{back}
-use Rattle.mesh_shapes.specs.Unused.{StartsInOrder}
-use Rattle.mesh_cuts.proofs.Ends.{decides_point}
+use Rattle.mesh_shapes.specs.Vectors.{StartsInOrder}
 use Rattle.mesh_plane.proofs.Sums.{sum_least}
 use Rattle.mesh_shapes.proofs.Walking.{Before, of_before, three_ways}
+use Rattle.mesh_plane.proofs.Comparing.{decides_point}
 
 -- ---- elements tested one by one
 pub all_more : {X : Type 0} (P : X → Type 0) (xs : List X) (i : ℕ) (d : X) → i < length xs → All P (take i xs) → P (get_or xs i d) → All P (take (i + 1) xs)
@@ -39,9 +39,6 @@ starts_at xs ys i d h k e =
 -- ---- lists in order with the same sums have the same starts
 abbrev sums : (Point → ℤ) → List Edge → ℤ
 sums g es = sum_of (λ (e : Edge). g e.0) es
-
-head_first : (x : Edge) (xs : List Edge) → StartsInOrder (x ∷ xs) → All (λ (e : Edge). point_lt e.0 x.0 ≡ false) xs
-head_first x xs h k d low = h 0 (suc k) d (omega arith) (omega arith)
 
 rest_ordered : (x : Edge) (xs : List Edge) → StartsInOrder (x ∷ xs) → StartsInOrder xs
 rest_ordered x xs h i j d le low = h (suc i) (suc j) d (omega arith) (omega arith)

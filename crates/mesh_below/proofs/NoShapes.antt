@@ -11,8 +11,8 @@ use Rattle.mesh_plane.specs.Plane.{Point, Edge}
 use Rattle.mesh_plane.specs.Winding.{route, boundary}
 use Rattle.mesh_cuts.specs.Boundary.{IsBoundary}
 use Rattle.mesh_shapes.specs.Contours.{IsBegun}
-use Rattle.mesh_shapes.specs.Resolution.{Choices, Ring, ring_of, is_large, answered, shapes_of, AreArranged, IsResolution}
-use Rattle.mesh_cuts.specs.Split.{same_ends, occurs, Cut, cut, after}
+use Rattle.mesh_shapes.specs.Resolution.{Choices, Ring, ring_of, is_large, answered, rings_by_shape, AreArranged, IsResolution}
+use Rattle.mesh_cuts.specs.Split.{same_ends, occurs}
 use Rattle.mesh_regions.proofs.BoundaryFill.{boundary_cover}
 use Rattle.mesh_cuts.proofs.Ends.{ends_self}
 use Rattle.mesh_cuts.proofs.KeptByCuts.{after_none}
@@ -35,7 +35,7 @@ permuted_none ys h = nil_from_length ys (length_permutation [] ys h)
 
 arranged_none : (clockwise : Bool) (rings : List Ring) (answer : List (List (List Point))) → rings ≡ [] → AreArranged clockwise rings answer → answer ≡ []
 arranged_none clockwise rings answer none a =
-    a.shapes ∙ ap (λ (rs : List Ring). map (map (answered clockwise)) (shapes_of (enumerate_from 0 rs))) (permuted_none a.sorted (subst (λ (rs : List Ring). IsPermutation rs a.sorted) none a.same))
+    a.shapes ∙ ap (λ (rs : List Ring). map (map (answered clockwise)) (rings_by_shape (enumerate_from 0 rs))) (permuted_none a.sorted (subst (λ (rs : List Ring). IsPermutation rs a.sorted) none a.same))
 
 pub no_shapes : (fill : ℤ → Bool) (options : Choices) (answer : List (List (List Point))) → IsResolution [] fill options answer → answer ≡ []
 no_shapes fill options answer r =

@@ -11,9 +11,9 @@ use Rattle.mesh_plane.specs.Winding.{sum_of, boundary, crossing_on, winding, hol
 use Rattle.mesh_plane.proofs.Sums.{sum_of_map, sum_of_flat_map, sum_of_add, sum_of_same, sum_of_equal, sum_of_zero, sum_of_permutation}
 use Rattle.mesh_plane.proofs.Whole.{linear}
 use Rattle.mesh_shapes.specs.Contours.{vertices, double_area}
-use Rattle.mesh_shapes.specs.Grouping.{ring_at, placed, is_round_at, IsHome}
-use Rattle.mesh_shapes.specs.Progress.{NoneRound, IsHolder}
-use Rattle.mesh_shapes.specs.Resolution.{Choices, IsResolution, Ring, Placed, ring_of, is_large, is_positive, is_head, is_round, stands_with, shape_of, shapes_of, answered}
+use Rattle.mesh_shapes.specs.Midway.Grouping.{ring_at, placed, is_round_at, IsHome}
+use Rattle.mesh_shapes.specs.Midway.Progress.{NoneRound, IsHolder}
+use Rattle.mesh_shapes.specs.Resolution.{Choices, IsResolution, Ring, Placed, ring_of, is_large, is_positive, is_head, is_round, stands_with, shape_of, rings_by_shape, answered}
 use Rattle.mesh_shapes.proofs.Groups.{area, holder_none, holder_kept, holder_no_less, holder_first, holder_less, home_positive, home_alone, home_held, member_test, head_test}
 
 -- ---- where each ring belongs
@@ -187,13 +187,13 @@ module _ (g : Ring → ℤ) (rs : List Ring) where
   placed_sum n (x ∷ xs) = ap (λ (z : ℤ). g x +ℤ z) (placed_sum (n + 1) xs)
 
   -- what is added up over the shapes is added up over the rings
-  pub shapes_sum : sum_of (sum_of g) (shapes_of (placed rs)) ≡ sum_of g rs
+  pub shapes_sum : sum_of (sum_of g) (rings_by_shape (placed rs)) ≡ sum_of g rs
   shapes_sum =
       let p : List Placed = placed rs in
       let whole : Placed → ℤ = λ (h : Placed). sum_of g (shape_of p h) in
       let led : Placed → ℤ = λ (h : Placed). cond (Heads h) (g h.1) (pos 0) in
       let joined : Placed → ℤ = λ (r : Placed). cond (Heads r) (pos 0) (g r.1) in
-      let first : sum_of (sum_of g) (shapes_of p) ≡ sum_of (λ (h : Placed). cond (Heads h) (whole h) (pos 0)) p =
+      let first : sum_of (sum_of g) (rings_by_shape p) ≡ sum_of (λ (h : Placed). cond (Heads h) (whole h) (pos 0)) p =
       sum_of_map (sum_of g) (shape_of p) (filter Heads p) ∙ sum_filtered whole Heads p in
       let parts : sum_of (λ (h : Placed). cond (Heads h) (whole h) (pos 0)) p ≡ sum_of led p +ℤ sum_of (λ (h : Placed). sum_of (share h) p) p =
       sum_of_same (λ (h : Placed). cond (Heads h) (whole h) (pos 0)) (λ (h : Placed). led h +ℤ sum_of (share h) p) head_parts p ∙ sum_of_add led (λ (h : Placed). sum_of (share h) p) p in
@@ -230,10 +230,10 @@ answer_winds edges fill options answer r least same m q =
     let rings : List Ring = map (ring_of options.all_vertices) r.contours in
     let by_contours : sum_of f (flat_map boundary (contours_of answer)) ≡ sum_of (sum_of whole) answer =
     sum_of_flat_map f boundary (contours_of answer) ∙ sum_of_flat_map whole (λ (s : List (List Point)). s) answer in
-    let by_rings : sum_of (sum_of whole) answer ≡ sum_of (sum_of g) (shapes_of (placed a.sorted)) =
+    let by_rings : sum_of (sum_of whole) answer ≡ sum_of (sum_of g) (rings_by_shape (placed a.sorted)) =
     ap (sum_of (sum_of whole)) a.shapes
-    ∙ (sum_of_map (sum_of whole) (map (answered options.clockwise)) (shapes_of (placed a.sorted))
-    ∙ sum_of_same (λ (s : List Ring). sum_of whole (map (answered options.clockwise) s)) (sum_of g) (λ (s : List Ring). sum_of_map whole (answered options.clockwise) s) (shapes_of (placed a.sorted))) in
+    ∙ (sum_of_map (sum_of whole) (map (answered options.clockwise)) (rings_by_shape (placed a.sorted))
+    ∙ sum_of_same (λ (s : List Ring). sum_of whole (map (answered options.clockwise) s)) (sum_of g) (λ (s : List Ring). sum_of_map whole (answered options.clockwise) s) (rings_by_shape (placed a.sorted))) in
     let kept : filter (is_large options.least_area) rings ≡ rings = ap (λ (n : ℕ). filter (is_large n) rings) least ∙ keeps_all rings in
     by_contours
     ∙ (by_rings

@@ -1,14 +1,13 @@
 -- Lemmas over lists: the rings of contours, and the whole way from edges to shapes.
-use Rattle.std.proofs.Common.{◌≡◌, ℕ, ◌+◌, ◌<◌, ◌≤◌, ◌^◌, ◌||◌, Bool, true, false, cond, List, [], ◌∷◌, ◌++◌, map, length, take, get_or, zero, suc, refl, sym, ◌∙◌, ap, subst, arith}
+use Rattle.std.proofs.Common.{◌≡◌, ℕ, ◌+◌, ◌<◌, ◌||◌, Bool, true, false, cond, List, [], ◌∷◌, ◌++◌, map, length, take, get_or, zero, suc, sym, ◌∙◌, ap, subst, arith}
 use Rattle.std.specs.Prelude.{ℤ, pos, ◌+ℤ◌, Vec}
 use Rattle.std.specs.List.{All, filter, flat_map}
 use Rattle.std.specs.declared.alloc.Global.{Global}
 use Rattle.std.proofs.lemmas.Bool.{or_right}
 use Rattle.std.proofs.lemmas.Grind.{flat_map-append}
-use Rattle.std.proofs.lemmas.List.{append-nil, map-append, take_more, take_all}
-use Rattle.std.proofs.lemmas.List.Elements.{All-nil, All-cons, All-head, All-tail, All-push, filter-append}
+use Rattle.std.proofs.lemmas.List.{append-nil, map-append, take_more}
+use Rattle.std.proofs.lemmas.List.Elements.{All-nil, All-cons, All-push, filter-append}
 use Rattle.mesh_plane.proofs.Sums.{sum_of_append}
-use Rattle.mesh_plane.specs.Bounds.{IsSafe}
 use Rattle.mesh_plane.specs.Plane.{Point, Edge}
 use Rattle.mesh_plane.specs.Winding.{IsBalanced, sum_of, boundary, same_point}
 use Rattle.mesh_regions.proofs.BoundaryBalance.{boundary_is_balanced}
@@ -20,54 +19,32 @@ use Rattle.mesh_cuts.specs.Boundary.{count, IsBoundary}
 use Rattle.mesh_cuts.specs.Clean.{IsProper}
 use Rattle.mesh_shapes.specs.Contours.{IsBegun, IsRingOf}
 use Rattle.mesh_cuts.specs.Counted.{Counted}
-use Rattle.mesh_shapes.specs.Grouping.{Held, view, views, AreRingsOf, PushesRing}
+use Rattle.mesh_shapes.specs.Vectors.{HeldRing, ring_held, rings_held}
+use Rattle.mesh_below.specs.Midway.Rings.{AreRingsOf, PushesRing}
 use Rattle.mesh_shapes.specs.Resolution.{Choices, Ring, ring_of, is_large, AreArranged, IsResolution}
 use Rattle.mesh_cuts.specs.Split.{occurs, after, same_ends}
 use Rattle.mesh_cuts.specs.Splitting.{IsSplitting}
-use Rattle.mesh_shapes.specs.Unused.{contour_edges}
+use Rattle.mesh_shapes.specs.Vectors.{contour_edges}
+use Rattle.mesh_plane.proofs.ClosedLists.{all_left, all_right}
 
 -- ---- the ring of one contour
-ring_is : (all : Bool) (given : List Point) (r : Held) → (k : IsRingOf all given (view r)) → ring_of all k.contour ≡ view r
+ring_is : (all : Bool) (given : List Point) (r : HeldRing) → (k : IsRingOf all given (ring_held r)) → ring_of all k.contour ≡ ring_held r
 ring_is all given r k i = (sym k.vertices_are i, sym k.side_is i)
 
-pub push_none : (all : Bool) (least : ℕ) (given : List Point) (r : Held) (old : List Held) → IsRingOf all given (view r) → is_large least (view r) ≡ false → PushesRing all least given old old
-push_none all least given r old k small = record {
-  contour = k.contour;
-  same = k.same;
-  begun = k.begun;
-  rings_are = sym (append-nil (views old)) ∙ sym (λ i. views old ++ cond ((ap (is_large least) (ring_is all given r k) ∙ small) i) (ring_of all k.contour ∷ []) []);
-  sides_small = λ (h : All (λ (s : Held). IsSafe (2 ^ 33) s.1) old). h;
-}
-
-pub push_one : (all : Bool) (least : ℕ) (given : List Point) (r : Held) (old new : List Held) → IsRingOf all given (view r) → IsSafe (2 ^ 33) r.1 → is_large least (view r) ≡ true →
+pub push_one : (all : Bool) (least : ℕ) (given : List Point) (r : HeldRing) (old new : List HeldRing) → IsRingOf all given (ring_held r) → is_large least (ring_held r) ≡ true →
     new ≡ old ++ (r ∷ []) → PushesRing all least given old new
-push_one all least given r old new k safe large e = record {
+push_one all least given r old new k large e = record {
   contour = k.contour;
   same = k.same;
   begun = k.begun;
   rings_are =
-      ap views e
-      ∙ (map-append view old (r ∷ [])
-      ∙ sym (λ i. views old ++ cond ((ap (is_large least) (ring_is all given r k) ∙ large) i) (ring_is all given r k i ∷ []) []));
-  sides_small = λ (h : All (λ (s : Held). IsSafe (2 ^ 33) s.1) old).
-      subst (λ (l : List Held). All (λ (s : Held). IsSafe (2 ^ 33) s.1) l) (sym e) (All-push (λ (s : Held). IsSafe (2 ^ 33) s.1) old r h safe);
+      ap rings_held e
+      ∙ (map-append ring_held old (r ∷ [])
+      ∙ sym (λ i. rings_held old ++ cond ((ap (is_large least) (ring_is all given r k) ∙ large) i) (ring_is all given r k i ∷ []) []));
 }
 
 -- ---- the rings of contours
-pub rings_none : (all : Bool) (least : ℕ) (given : List (Vec Point Global)) (rings : List Held) → rings ≡ [] → AreRingsOf all least (take 0 given) rings
-rings_none all least given rings e = record {
-  contours = [];
-  same = λ (f : Edge → ℤ). sym (ap (λ (cs : List (Vec Point Global)). sum_of f (contour_edges cs)) (none given));
-  begun = All-nil (IsBegun all);
-  rings_are = ap views e;
-  sides_small = subst (λ (l : List Held). All (λ (s : Held). IsSafe (2 ^ 33) s.1) l) (sym e) (All-nil (λ (s : Held). IsSafe (2 ^ 33) s.1));
-}
-  where
-    none : (cs : List (Vec Point Global)) → take 0 cs ≡ []
-    none [] = refl
-    none (c ∷ cs) = refl
-
-pub rings_more : (all : Bool) (least : ℕ) (given : List (Vec Point Global)) (i : ℕ) (d : Vec Point Global) (old new : List Held) → i < length given →
+pub rings_more : (all : Bool) (least : ℕ) (given : List (Vec Point Global)) (i : ℕ) (d : Vec Point Global) (old new : List HeldRing) → i < length given →
     AreRingsOf all least (take i given) old → PushesRing all least (get_or given i d).items old new → AreRingsOf all least (take (i + 1) given) new
 rings_more all least given i d old new low k p = record {
   contours = k.contours ++ (p.contour ∷ []);
@@ -78,7 +55,6 @@ rings_more all least given i d old new low k p = record {
       ∙ (ap (λ (l : List Ring). l ++ filter (is_large least) (ring_of all p.contour ∷ [])) k.rings_are
       ∙ (sym (filter-append (is_large least) (map (ring_of all) k.contours) (ring_of all p.contour ∷ []))
       ∙ ap (filter (is_large least)) (sym (map-append (ring_of all) k.contours (p.contour ∷ [])))));
-  sides_small = p.sides_small k.sides_small;
 }
   where
     c : Vec Point Global
@@ -99,18 +75,7 @@ rings_more all least given i d old new low k p = record {
         ∙ (ap (sum_of f) (sym (flat_map-append (λ (v : Vec Point Global). boundary v.items) (take i given) (c ∷ [])))
         ∙ ap (λ (cs : List (Vec Point Global)). sum_of f (contour_edges cs)) (sym (take_more given i d low))))))
 
-pub rings_all : (all : Bool) (least : ℕ) (given : List (Vec Point Global)) (n : ℕ) (rings : List Held) → length given ≤ n → AreRingsOf all least (take n given) rings → AreRingsOf all least given rings
-rings_all all least given n rings h = subst (λ (cs : List (Vec Point Global)). AreRingsOf all least cs rings) (take_all n given h)
-
 -- ---- what holds of all edges of contours holds of those of one
-pub all_left : {X : Type 0} (P : X → Type 0) (xs ys : List X) → All P (xs ++ ys) → All P xs
-all_left P [] ys h = All-nil P
-all_left P (x ∷ xs) ys h = All-cons P x xs (All-head P x (xs ++ ys) h) (all_left P xs ys (All-tail P x (xs ++ ys) h))
-
-pub all_right : {X : Type 0} (P : X → Type 0) (xs ys : List X) → All P (xs ++ ys) → All P ys
-all_right P [] ys h = h
-all_right P (x ∷ xs) ys h = all_right P xs ys (All-tail P x (xs ++ ys) h)
-
 pub of_one : (P : Edge → Type 0) (cs : List (Vec Point Global)) (i : ℕ) (d : Vec Point Global) → i < length cs → All P (contour_edges cs) → All P (boundary (get_or cs i d).items)
 of_one P [] i d low h = absurd (omega arith)
 of_one P (c ∷ cs) zero d low h = all_left P (boundary c.items) (contour_edges cs) h
@@ -136,9 +101,9 @@ same_boundary es fill bs cs h is = record { counts = λ (e : Edge). h e ∙ is.c
 pub boundary_proper : (es bs : List Edge) (fill : ℤ → Bool) → IsProper es → IsBoundary es fill bs → All (λ (e : Edge). same_point e.0 e.1 ≡ false) bs
 boundary_proper es bs fill proper is = all_occurs (λ (e : Edge). same_point e.0 e.1 ≡ false) bs (λ (e : Edge) (o : occurs e bs ≡ true). proper e (boundary_cover es bs fill is e o))
 
-pub resolved : (edges : List Edge) (segments : List Counted) (fill : ℤ → Bool) (choices : Choices) (closed : List (Vec Point Global)) (rings : List Held) (answer : List (List (List Point))) →
+pub resolved : (edges : List Edge) (segments : List Counted) (fill : ℤ → Bool) (choices : Choices) (closed : List (Vec Point Global)) (rings : List HeldRing) (answer : List (List (List Point))) →
     (s : IsSplitting edges segments) → IsBoundary (after s.cuts edges) fill (contour_edges closed) → AreRingsOf choices.all_vertices choices.least_area closed rings →
-    AreArranged choices.clockwise (views rings) answer → IsResolution edges fill choices answer
+    AreArranged choices.clockwise (rings_held rings) answer → IsResolution edges fill choices answer
 resolved edges segments fill choices closed rings answer s is k a = record {
   cuts = s.cuts;
   legal = s.legal;

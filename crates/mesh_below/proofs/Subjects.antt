@@ -10,9 +10,9 @@ use Rattle.mesh_num.specs.Segments.{SignedEdge, IsSubject, edge_of, edges_of}
 use Rattle.mesh_plane.specs.Winding.{same_point}
 use Rattle.mesh_cuts.specs.Clean.{IsProper}
 use Rattle.mesh_cuts.proofs.SoundCuts.{ProperEnds, each_proper, proper_each}
-use Rattle.mesh_cuts.proofs.Ends.{decides_point}
 use Rattle.mesh_cuts.proofs.Ends.{forward_proper}
 use Rattle.mesh_cuts.proofs.Each.{Each}
+use Rattle.mesh_plane.proofs.Comparing.{decides_point}
 
 subject_ends : (s : SignedEdge) → IsSubject s → ProperEnds (edge_of s)
 subject_ends s h = by (int_lt (pos 0) s.1)

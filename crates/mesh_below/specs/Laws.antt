@@ -1,16 +1,15 @@
 -- Laws of sides, boundaries and answers. The function of the same name in the module `laws` carries each.
-use Rattle.std.specs.Prelude.{ℕ, ◌<◌, ◌≡◌, Bool, true, false, cond, List, [], map, ℤ, pos}
+use Rattle.std.specs.Prelude.{ℕ, ◌<◌, ◌≡◌, Bool, false, List, [], map, ℤ, pos}
 use Rattle.std.specs.List.{flat_map}
 use Rattle.mesh_num.specs.Paths.{contours_of}
 use Rattle.mesh_plane.specs.Plane.{Point, Edge}
 use Rattle.mesh_plane.specs.Winding.{boundary, winding, IsBalanced}
-use Rattle.mesh_cuts.specs.Boundary.{IsBoundary, winding_beside}
-use Rattle.mesh_cuts.specs.Clean.{IsClean, IsProper, refined_edge}
+use Rattle.mesh_cuts.specs.Clean.{IsProper}
 use Rattle.mesh_shapes.specs.Contours.{vertices}
 use Rattle.mesh_cuts.specs.Reach.{AreEdgesSafe, ArePointsSafe}
 use Rattle.mesh_regions.specs.Regions.{OutsideBent}
 use Rattle.mesh_shapes.specs.Resolution.{Choices, IsResolution}
-use Rattle.mesh_cuts.specs.Split.{occurs, IsInside, after}
+use Rattle.mesh_cuts.specs.Split.{after}
 use Rattle.mesh_regions.specs.Laws.{once}
 
 -- the contours of a resolution, with the vertices that are answered and before small ones are left out, wind once round

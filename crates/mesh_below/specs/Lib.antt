@@ -1,5 +1,7 @@
+pub mod Answers
 pub mod Asked
 pub mod Laws
+pub mod Midway
 pub mod Options
 pub use Rattle.mesh_cuts.specs.Boundary
 pub use Rattle.mesh_cuts.specs.Clean

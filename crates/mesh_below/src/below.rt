@@ -8,6 +8,8 @@ ghost use Rattle.mesh_plane.specs.Plane.{Point};
 ghost use Rattle.mesh_num.specs.Segments.{IsSubject, edges_of};
 ghost use Rattle.mesh_plane.specs.Winding.{IsBalanced};
 ghost use Rattle.mesh_cuts.specs.FillRules.{filled};
+ghost use Rattle.mesh_below.specs.Answers.{IsAnswer};
+ghost use Rattle.mesh_below.specs.Asked.{AreResolvable};
 ghost use Rattle.mesh_below.specs.Laws.{AreRegions};
 ghost use Rattle.mesh_below.specs.Options.{choices_of, plain};
 ghost use Rattle.mesh_cuts.specs.Reach.{AreEdgesSafe, ArePointsSafe};
@@ -108,8 +110,10 @@ impl<I: IntNumber> Overlay<I> {
         requires subject { All IsSubject self.now.segments.items }
         requires balanced { IsBalanced (edges_of self.now.segments.items) }
         requires safe { AreEdgesSafe I.unit (edges_of self.now.segments.items) }
-        ensures resolution { IfOk result (λ shapes. IsResolution (edges_of self.now.segments.items) (filled fill) (choices_of I.WideUInt.value self.now.options) (shapes_of shapes.items)) }
-        ensures regions { IfOk result (λ shapes. AreRegions (edges_of self.now.segments.items) (filled fill) (choices_of I.WideUInt.value self.now.options) (shapes_of shapes.items)) }
+        ensures resolution { IfOk result (λ shapes. IsResolution (edges_of self.now.segments.items) (filled fill)
+            (choices_of I.WideUInt.value self.now.options) (shapes_of shapes.items)) }
+        ensures regions { IfOk result (λ shapes. AreRegions (edges_of self.now.segments.items) (filled fill)
+            (choices_of I.WideUInt.value self.now.options) (shapes_of shapes.items)) }
         ensures safe { IfOk result (λ shapes. ArePointsSafe I.unit (shapes_of shapes.items)) }
     {
         match rule {
@@ -130,11 +134,13 @@ impl<I: IntNumber> Overlay<I> {
         requires balanced { IsBalanced (edges_of self.now.segments.items) }
         requires safe { AreEdgesSafe I.unit (edges_of self.now.segments.items) }
         ensures resolution { OnOk result ((answer : List (List (List Point)))
-            × IsResolution (edges_of self.now.segments.items) (filled fill) (choices_of I.WideUInt.value self.now.options) answer
+            × IsResolution (edges_of self.now.segments.items) (filled fill)
+            (choices_of I.WideUInt.value self.now.options) answer
             × ArePointsSafe I.unit answer
             × HoldsContours buffer.new (contours_of answer)) }
         ensures regions { OnOk result ((answer : List (List (List Point)))
-            × AreRegions (edges_of self.now.segments.items) (filled fill) (choices_of I.WideUInt.value self.now.options) answer
+            × AreRegions (edges_of self.now.segments.items) (filled fill)
+            (choices_of I.WideUInt.value self.now.options) answer
             × HoldsContours buffer.new (contours_of answer)) }
         ensures err { OnErr result (buffer.new ≡ buffer.old) }
     {
@@ -144,12 +150,9 @@ impl<I: IntNumber> Overlay<I> {
 
     /// The shapes of what all segments fill.
     fn resolved(&self, fill: FillRule) -> Result<IntShapes<I>, AllocError>
-        requires subject { All IsSubject self.now.segments.items }
-        requires balanced { IsBalanced (edges_of self.now.segments.items) }
-        requires safe { AreEdgesSafe I.unit (edges_of self.now.segments.items) }
-        ensures resolution { IfOk result (λ shapes. IsResolution (edges_of self.now.segments.items) (filled fill) (choices_of I.WideUInt.value self.now.options) (shapes_of shapes.items)) }
-        ensures regions { IfOk result (λ shapes. AreRegions (edges_of self.now.segments.items) (filled fill) (choices_of I.WideUInt.value self.now.options) (shapes_of shapes.items)) }
-        ensures safe { IfOk result (λ shapes. ArePointsSafe I.unit (shapes_of shapes.items)) }
+        requires { AreResolvable I.unit self.now.segments.items }
+        ensures { IfOk result (λ shapes. IsAnswer I.unit (edges_of self.now.segments.items) (filled fill)
+            (choices_of I.WideUInt.value self.now.options) (shapes_of shapes.items)) }
     {
         let alloc = *self.segments.allocator();
         let edges = grid_edges(alloc, &self.segments)?;
@@ -159,7 +162,8 @@ impl<I: IntNumber> Overlay<I> {
 
     /// The options, as the resolving takes them.
     fn choices(&self) -> Choices
-        ensures { (record { least_area = result.least_area; all_vertices = result.all_vertices; clockwise = result.clockwise }) ≡ choices_of I.WideUInt.value self.now.options }
+        ensures { (record { least_area = result.least_area; all_vertices = result.all_vertices; clockwise = result.clockwise })
+            ≡ choices_of I.WideUInt.value self.now.options }
     {
         Choices {
             least_area: I::uint_to_u128(self.options.min_output_area) as u64,

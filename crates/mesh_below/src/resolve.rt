@@ -6,15 +6,16 @@ ghost use Rattle.mesh_plane.specs.Plane.{Edge};
 ghost use Rattle.mesh_plane.specs.Winding.{IsBalanced, boundary, same_point};
 ghost use Rattle.mesh_cuts.specs.Clean.{IsProper};
 ghost use Rattle.mesh_cuts.specs.FillRules.{filled};
-ghost use Rattle.mesh_shapes.specs.Grouping.{AreRingsOf, PushesRing, shapes_points};
+ghost use Rattle.mesh_below.specs.Midway.Rings.{AreRingsOf, PushesRing};
+ghost use Rattle.mesh_shapes.specs.Vectors.{shapes_points};
 ghost use Rattle.mesh_shapes.specs.Resolution.{IsResolution};
-ghost use Rattle.mesh_shapes.specs.Unused.{HavePoints, contour_edges};
+ghost use Rattle.mesh_shapes.specs.Vectors.{HavePoints, contour_edges};
 
 use mesh_cuts::fill::FillRule;
 use mesh_cuts::grid::{GridEdge, GridPoint};
 use mesh_shapes::arrange::{is_large, shapes};
 use mesh_shapes::ring::{Ring, ring_of};
-use mesh_shapes::sides::boundary;
+use mesh_shapes::sides::find_boundary;
 use mesh_shapes::walk::contours;
 use mesh_split::splitter::split_edges;
 use std::alloc::{AllocError, Global};
@@ -39,7 +40,8 @@ fn push_ring(
 ) -> Result<(), AllocError>
     requires has_points { 0 < length contour.now }
     requires proper { All (λ (e : Edge). same_point e.0 e.1 ≡ false) (boundary contour.now) }
-    ensures { OnOk result (PushesRing choices.all_vertices choices.least_area contour.now rings.old.items rings.new.items) }
+    ensures { OnOk result (PushesRing choices.all_vertices choices.least_area contour.now
+        rings.old.items rings.new.items) }
 {
     let ring = ring_of(alloc, contour, choices.all_vertices)?;
     if !is_large(&ring, choices.least_area) {
@@ -76,10 +78,11 @@ pub fn resolve(
     requires proper { IsProper edges.now }
     requires balanced { IsBalanced edges.now }
     ensures { IfOk result (λ v. IsResolution edges.now (filled fill)
-        (record { least_area = choices.least_area; all_vertices = choices.all_vertices; clockwise = choices.clockwise }) (shapes_points v.items)) }
+        (record { least_area = choices.least_area; all_vertices = choices.all_vertices; clockwise = choices.clockwise })
+        (shapes_points v.items)) }
 {
     let segments = split_edges(alloc, edges)?;
-    let parted = boundary(alloc, &segments, fill)?;
+    let parted = find_boundary(alloc, &segments, fill)?;
     let closed = contours(alloc, parted)?;
     let rings = rings_of(alloc, &closed, choices)?;
     let shapes = shapes(alloc, rings, choices.clockwise)?;

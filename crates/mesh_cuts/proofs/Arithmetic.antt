@@ -1,9 +1,9 @@
 -- Lemmas over whole numbers: sums and products that fit 128 bits, and what is kept of them there.
-use Rattle.std.proofs.Common.{◌≡◌, ℕ, ◌+◌, ◌*◌, ◌/◌, ◌^◌, ◌<◌, ◌≤◌, Bool, true, false, sym, ◌∙◌, ap, refl, arith, zero, suc, lit≤, eqb}
+use Rattle.std.proofs.Common.{◌≡◌, ℕ, ◌+◌, ◌*◌, ◌/◌, ◌^◌, ◌<◌, ◌≤◌, true, false, sym, ◌∙◌, ap, refl, arith, zero, suc, lit≤, eqb}
 use Rattle.std.specs.Prelude.{ℤ, pos, negsuc, ◌+ℤ◌, ◌-ℤ◌, ◌*ℤ◌, neg_ℤ, ◌≤ℤ◌, ◌<ℤ◌, unsigned_abs}
 use Rattle.std.proofs.lemmas.Int.{ints, to_z-of_z, to_z_pos, unsigned_abs-mul, by_lt_z}
 use Rattle.std.proofs.lemmas.Nat.{mul-lt}
-use Rattle.std.proofs.lemmas.Bool.{false≢true, true≢false, eqb-true, eq-eqb}
+use Rattle.std.proofs.lemmas.Bool.{true≢false, eqb-true, eq-eqb}
 use Rattle.std.proofs.Math.Nat.{div-eq_of_lt, div-le_self}
 use lib.Signed.{lt_z}
 use mathlib.Core.Bool.{beq}
@@ -48,12 +48,6 @@ i32_small z f = record { low = omega (arith, ints); high = omega (arith, ints) }
 -- a rounded quotient by the sizes of its two numbers, with its sign
 sign_of : (n : ℕ) → lt_z (pos n) (pos 0) ≡ false
 sign_of n = grind (arith, ints)
-
-pub quotient_same_sign : (n d : ℤ) → beq (lt_z n (pos 0)) (lt_z d (pos 0)) ≡ true → pos ((2 * unsigned_abs n + unsigned_abs d) / (2 * unsigned_abs d)) ≡ rounded_quotient n d
-quotient_same_sign (pos n) (pos d) h = refl
-quotient_same_sign (negsuc n) (negsuc d) h = refl
-quotient_same_sign (pos n) (negsuc d) h = absurd (false≢true (ap (λ (b : Bool). beq b true) (sym (sign_of n)) ∙ h))
-quotient_same_sign (negsuc n) (pos d) h = absurd (false≢true (ap (λ (b : Bool). beq true b) (sym (sign_of d)) ∙ h))
 
 pub quotient_other_sign : (n d : ℤ) → beq (lt_z n (pos 0)) (lt_z d (pos 0)) ≡ false → neg_ℤ (pos ((2 * unsigned_abs n + unsigned_abs d) / (2 * unsigned_abs d))) ≡ rounded_quotient n d
 quotient_other_sign (pos n) (pos d) h = absurd (true≢false (sym (λ i. beq (sign_of n i) (sign_of d i)) ∙ h))

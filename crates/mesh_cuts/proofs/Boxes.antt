@@ -12,14 +12,26 @@ use Rattle.mesh_plane.proofs.Rounding.{rounded_at_least, rounded_at_most}
 use Rattle.mesh_cuts.specs.Split.{is_end, IsBetween, IsInBox, AreOpposite, IsCrossing, rounded_quotient, crossing_at, rounded_crossing, Meets, at_start_of_second, at_end_of_second, at_start_of_first, at_end_of_first, at_crossing}
 use Rattle.mesh_cuts.proofs.Ends.{decides_end}
 use Rattle.mesh_plane.proofs.Places.{place, coordinates, turned}
+use Rattle.mesh_plane.proofs.Crossings.{turn_flip}
+use Rattle.mesh_cuts.specs.Clean.{IsOn}
+use Rattle.mesh_cuts.specs.Split.{back}
 
--- ---- a coordinate between two others
+-- ---- a coordinate between two others, and a point on an edge
 
 pub between_start : (a b : ℤ) → IsBetween a a b
 between_start a b = record { up = λ h. (omega (arith, linear), h); down = λ h. (h, omega (arith, linear)) }
 
 pub between_end : (a b : ℤ) → IsBetween a b b
 between_end a b = record { up = λ h. (h, omega (arith, linear)); down = λ h. (omega (arith, linear), h) }
+
+pub between_back : (a z b : ℤ) → IsBetween b z a → IsBetween a z b
+between_back a z b h = record { up = h.down; down = h.up }
+
+pub on_back : (e : Edge) (z : Point) → IsOn e z → IsOn (back e) z
+on_back e z h = record {
+  on_line = turn_flip e.0 e.1 z ∙ omega (arith, linear, h.on_line);
+  in_box = record { by_x = between_back e.1.0 z.0 e.0.0 h.in_box.by_x; by_y = between_back e.1.1 z.1 e.0.1 h.in_box.by_y };
+}
 
 quotient_between : (n d low high : ℤ) → pos 0 <ℤ d → (low *ℤ d) ≤ℤ n → n ≤ℤ (high *ℤ d) → (low ≤ℤ rounded_quotient n d) × (rounded_quotient n d ≤ℤ high)
 quotient_between n (pos d) low high h l m =
@@ -170,5 +182,3 @@ meets_once {e} {f} (at_crossing h) y =
     (λ (t : is_end (rounded_crossing e f) e ≡ true). absurd (no_common_end e f (rounded_crossing e f) h ((decides_end (rounded_crossing e f) e).0 t) ((decides_end (rounded_crossing e f) f).0 y)))
     (λ (n : is_end (rounded_crossing e f) e ≡ false). n)
     (cases_Bool (is_end (rounded_crossing e f) e))
-
--- ---- the extent of edges

@@ -5,7 +5,8 @@ use Rattle.mesh_plane.specs.Plane.{Edge}
 use Rattle.mesh_plane.specs.Winding.{same_point}
 use Rattle.mesh_cuts.specs.Clean.{IsProper}
 use Rattle.mesh_cuts.specs.Split.{occurs, same_ends}
-use Rattle.mesh_cuts.proofs.Ends.{decides_point, ends_self}
+use Rattle.mesh_cuts.proofs.Ends.{ends_self}
+use Rattle.mesh_plane.proofs.Comparing.{decides_point}
 
 -- `P` holds of each element
 abbrev pub Each : {A : Type 0} → (A → Type 0) → List A → Type 0

@@ -3,7 +3,7 @@ use Rattle.std.proofs.Common.{◌≡◌, ◌⊎◌, inl, inr, ⊎_elim, Bool, tr
 use Rattle.std.specs.Prelude.{pos, ◌-ℤ◌, neg_ℤ, ℤ}
 use Rattle.std.specs.Bool.{Decides}
 use Rattle.std.proofs.lemmas.Bool.{both_ways, cases_Bool, or_parts}
-use Rattle.std.proofs.lemmas.Bool.Decides.{Decides-int_eq, Decides-and, Decides-or, Decides-like, same_from_decides}
+use Rattle.std.proofs.lemmas.Bool.Decides.{Decides-and, Decides-or, Decides-like, same_from_decides}
 use Rattle.std.proofs.lemmas.Int.{ints}
 use Rattle.mesh_plane.specs.Plane.{Point, Edge}
 use Rattle.mesh_plane.specs.Winding.{same_point}
@@ -11,12 +11,7 @@ use Rattle.mesh_cuts.specs.Split.{back, same_edge, same_ends, is_end}
 use Rattle.mesh_cuts.specs.Counted.{bit, along}
 use Rattle.mesh_plane.specs.Order.{point_lt}
 use Rattle.mesh_cuts.specs.Split.{IsForward}
-
-pub decides_point : (p q : Point) → Decides (same_point p q) (p ≡ q)
-decides_point p q =
-    Decides-like (same_point p q) (λ (h : (p.0 ≡ q.0) × (p.1 ≡ q.1)). λ i. (h.0 i, h.1 i))
-    (λ (h : p ≡ q). (ap (λ (v : Point). v.0) h, ap (λ (v : Point). v.1) h))
-    (Decides-and _ _ (Decides-int_eq p.0 q.0) (Decides-int_eq p.1 q.1))
+use Rattle.mesh_plane.proofs.Comparing.{decides_point}
 
 pub decides_edge : (e f : Edge) → Decides (same_edge e f) (e ≡ f)
 unfolding same_edge
@@ -32,9 +27,6 @@ decides_ends e f = Decides-or _ _ (decides_edge e f) (decides_edge e (back f))
 pub decides_end : (c : Point) (e : Edge) → Decides (is_end c e) ((c ≡ e.0) ⊎ (c ≡ e.1))
 unfolding is_end
 decides_end c e = Decides-or _ _ (decides_point c e.0) (decides_point c e.1)
-
-pub edge_self : (e : Edge) → same_edge e e ≡ true
-edge_self e = (decides_edge e e).1 refl
 
 pub ends_self : (e : Edge) → same_ends e e ≡ true
 ends_self e = (decides_ends e e).1 (inl refl)

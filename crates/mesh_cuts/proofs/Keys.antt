@@ -11,9 +11,10 @@ use Rattle.mesh_plane.proofs.Whole.{linear, add_mul, one_mul}
 use Rattle.mesh_cuts.specs.Clean.{IsProper}
 use Rattle.mesh_cuts.specs.Split.{back, same_edge, same_ends, occurs}
 use Rattle.mesh_cuts.specs.Counted.{bit, along, net}
-use Rattle.mesh_cuts.proofs.Ends.{decides_point, decides_edge, decides_ends, ends_self, ends_sym, ends_along, along_turned, along_self, not_along}
+use Rattle.mesh_cuts.proofs.Ends.{decides_edge, decides_ends, ends_self, ends_sym, ends_along, along_turned, along_self, not_along}
 use Rattle.mesh_cuts.proofs.Each.{Each}
 use Rattle.mesh_cuts.proofs.Each.{each_of, proper_of}
+use Rattle.mesh_plane.proofs.Comparing.{decides_point}
 
 -- upwards, or level and to the east
 abbrev pub Leans : Edge → Type 0

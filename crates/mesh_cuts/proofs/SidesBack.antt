@@ -1,6 +1,6 @@
 -- Lemmas over points and lists: counts of edges, and the sides of an edge and of the edge back.
 use Rattle.std.proofs.Common.{◌≡◌, ℕ, ◌+◌, Bool, true, false, cond, List, ◌∷◌, ap, ⊎_elim, arith, ◌&&◌, ◌||◌, sym, not, refl, ◌∙◌}
-use Rattle.std.specs.Prelude.{pos, ◌+ℤ◌, ℤ, ◌<ℤ◌, int_lt, ◌≤ℤ◌, ◌-ℤ◌, neg_ℤ}
+use Rattle.std.specs.Prelude.{pos, ◌+ℤ◌, ℤ, ◌<ℤ◌, int_lt, ◌-ℤ◌, neg_ℤ}
 use Rattle.std.proofs.lemmas.List.Sums.{sum_by-cons}
 use Rattle.mesh_plane.specs.Plane.{Edge, Point}
 use Rattle.mesh_cuts.specs.Split.{same_edge, back}
@@ -15,6 +15,7 @@ use Rattle.mesh_cuts.proofs.Keys.{Leans, net_back}
 use Rattle.mesh_plane.proofs.Whole.{linear}
 use Rattle.mesh_plane.proofs.Crossings.{crossing_odd}
 use Rattle.mesh_plane.proofs.Grids.{scale}
+use Rattle.mesh_plane.proofs.Comparing.{less_test, not_less_test}
 
 pub count_more : (s e : Edge) (es : List Edge) → pos (count s (e ∷ es)) ≡ bit (same_edge s e) +ℤ pos (count s es)
 count_more s e es = by (same_edge s e) (count s es) (count s (e ∷ es)) (sum_by-cons (λ (x : Edge). cond (same_edge s x) 1 0) e es)
@@ -29,12 +30,6 @@ apart_test a b h =
   where
     no_less : (a b : ℤ) → a <ℤ b → b ≡ a → ⊥
     no_less a b h e = omega (arith, ints)
-
-less_test : (a b : ℤ) → a <ℤ b → int_lt a b ≡ true
-less_test a b h = grind (arith, ints)
-
-not_less_test : (a b : ℤ) → b ≤ℤ a → int_lt a b ≡ false
-not_less_test a b h = grind (arith, ints)
 
 pub rises_up : (s : Edge) → s.0.1 <ℤ s.1.1 → (rises s ≡ true) × (rises (back s) ≡ false)
 unfolding rises

@@ -5,11 +5,12 @@ use Rattle.mesh_plane.specs.Plane.{Point, Edge}
 use Rattle.mesh_plane.specs.Winding.{same_point}
 use Rattle.mesh_cuts.specs.Clean.{IsProper}
 use Rattle.mesh_cuts.specs.Split.{back, same_ends, occurs, is_end, IsInBox, Cut, pieces, cut, after, add_cut, IsLegal, no_cut, split}
-use Rattle.mesh_cuts.proofs.Ends.{decides_point, decides_ends, decides_end}
+use Rattle.mesh_cuts.proofs.Ends.{decides_ends, decides_end}
 use Rattle.mesh_cuts.proofs.Boxes.{meets_box}
 use Rattle.mesh_cuts.proofs.Each.{Each, each_more}
 use Rattle.mesh_cuts.proofs.Each.{proper_of, each_of}
 use Rattle.mesh_cuts.proofs.KeptByCuts.{Boxed}
+use Rattle.mesh_plane.proofs.Comparing.{decides_point}
 
 -- a cut's point lies in the box of what it cuts, and is none of its ends
 pub record IsSound (k : Cut) : Type 0 where

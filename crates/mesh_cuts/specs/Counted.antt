@@ -3,6 +3,7 @@ use Rattle.std.specs.Prelude.{◌≡◌, Bool, cond, List, ℤ, pos, ◌-ℤ◌,
 use Rattle.mesh_plane.specs.Plane.{Edge}
 use Rattle.mesh_plane.specs.Winding.{sum_of}
 use Rattle.mesh_cuts.specs.Split.{back, same_edge, same_ends, occurs}
+use Rattle.std.specs.Prelude.{◌≤ℤ◌, ◌^◌}
 
 -- a segment's ends and its count: how many edges run from start to end less how many run back
 abbrev pub Counted : Type 0
@@ -36,3 +37,7 @@ pub record IsCountOf (es : List Edge) (ks : List Counted) : Type 0 where
 -- the size of a count
 abbrev pub size : Counted → ℤ
 size k = pos (unsigned_abs k.1)
+
+-- sums of counts up to this stay far from the ends of 128 bits; it is far more than the edges that memory holds can give
+abbrev pub IsRoomy : ℤ → Type 0
+IsRoomy total = total ≤ℤ pos (2 ^ 120)

@@ -7,9 +7,39 @@ ghost use Rattle.mesh_plane.specs.Winding.{crossing, refined};
 ghost use Rattle.mesh_cuts.specs.Boundary.{middle};
 
 use crate::grid::{GridEdge, GridPoint};
+use std::marker::Model;
 
-/// A point on the fine grid, or a vector between two of them.
-pub type FinePoint = (i128, i128);
+/// A point on the fine grid. Contracts see the pair of its coordinates, each below 2^33 in size.
+#[derive(Copy, Clone, PartialEq, Eq, PartialOrd, Ord)]
+pub struct FinePoint {
+    x: i128,
+    y: i128,
+}
+
+impl Model for FinePoint {
+    ghost use Rattle.std.specs.Prelude.{ℤ, ◌^◌};
+    ghost use Rattle.mesh_plane.specs.Bounds.{IsSafe};
+
+    ghost Value = { ℤ × ℤ };
+
+    ghost view = { λ p. (p.x, p.y) };
+
+    ghost invariant = { λ p. IsSafe (2 ^ 33) (p.x, p.y) };
+
+    ghost inverse = { λ v. record { x = v.0; y = v.1 } };
+}
+
+impl FinePoint {
+    /// The point's height.
+    pub fn height(self) -> i128
+        ensures { result ≡ self.1 }
+    {
+        self.y
+    }
+}
+
+/// A vector between two points of the fine grid.
+type FineVector = (i128, i128);
 
 fn twice(a: i32) -> i128
     ensures value { result ≡ pos 2 *ℤ a }
@@ -27,18 +57,22 @@ fn sum(a: i32, b: i32) -> i128
 
 /// The point on the fine grid.
 pub fn doubled(p: GridPoint) -> FinePoint
-    ensures value { result ≡ refined 2 p }
-    ensures size { IsSafe (2 ^ 33) result }
+    ensures { result ≡ refined 2 p }
 {
-    (twice(p.0), twice(p.1))
+    FinePoint {
+        x: twice(p.0),
+        y: twice(p.1),
+    }
 }
 
 /// The midpoint of an edge.
 pub fn middle(e: GridEdge) -> FinePoint
-    ensures value { result ≡ middle e }
-    ensures size { IsSafe (2 ^ 33) result }
+    ensures { result ≡ middle e }
 {
-    (sum(e.0.0, e.1.0), sum(e.0.1, e.1.1))
+    FinePoint {
+        x: sum(e.0.0, e.1.0),
+        y: sum(e.0.1, e.1.1),
+    }
 }
 
 fn difference(a: i128, b: i128) -> i128
@@ -50,13 +84,11 @@ fn difference(a: i128, b: i128) -> i128
     a - b
 }
 
-fn minus(p: FinePoint, q: FinePoint) -> FinePoint
-    requires p_small { IsSafe (2 ^ 33) p }
-    requires q_small { IsSafe (2 ^ 33) q }
+fn minus(p: FinePoint, q: FinePoint) -> FineVector
     ensures value { result ≡ minus p q }
     ensures size { IsSafe (2 ^ 34) result }
 {
-    (difference(p.0, q.0), difference(p.1, q.1))
+    (difference(p.x, q.x), difference(p.y, q.y))
 }
 
 fn product(a: i128, b: i128) -> i128
@@ -68,7 +100,7 @@ fn product(a: i128, b: i128) -> i128
     a * b
 }
 
-fn cross(v: FinePoint, w: FinePoint) -> i128
+fn cross(v: FineVector, w: FineVector) -> i128
     requires v_small { IsSafe (2 ^ 34) v }
     requires w_small { IsSafe (2 ^ 34) w }
     ensures value { result ≡ cross v w }
@@ -78,9 +110,6 @@ fn cross(v: FinePoint, w: FinePoint) -> i128
 }
 
 fn turn(p: FinePoint, r: FinePoint, q: FinePoint) -> i128
-    requires p_small { IsSafe (2 ^ 33) p }
-    requires r_small { IsSafe (2 ^ 33) r }
-    requires q_small { IsSafe (2 ^ 33) q }
     ensures value { result ≡ turn p r q }
     ensures size { IsSmall (2 ^ 69) result }
 {
@@ -91,14 +120,11 @@ fn turn(p: FinePoint, r: FinePoint, q: FinePoint) -> i128
 fn spans(p: FinePoint, q: FinePoint, r: FinePoint) -> bool
     ensures { result ≡ (int_le p.1 q.1 && int_lt q.1 r.1) }
 {
-    p.1 <= q.1 && q.1 < r.1
+    p.y <= q.y && q.y < r.y
 }
 
 /// How the edge from `p` to `r` crosses the ray from the point to the east: 1 upwards, -1 downwards, else 0.
 pub fn crossing(q: FinePoint, p: FinePoint, r: FinePoint) -> i128
-    requires q_small { IsSafe (2 ^ 33) q }
-    requires p_small { IsSafe (2 ^ 33) p }
-    requires r_small { IsSafe (2 ^ 33) r }
     ensures value { result ≡ crossing q p r }
     ensures size { IsSmall 2 result }
 {

@@ -5,7 +5,6 @@ ghost use Rattle.std.specs.declared.alloc.Global.{Global};
 ghost use Rattle.mesh_cuts.specs.Marks.{place, AreRising};
 ghost use Rattle.mesh_cuts.specs.Marks.{IsPutTo};
 
-use crate::fine::FinePoint;
 use crate::grid::GridPoint;
 use std::alloc::{AllocError, Global};
 

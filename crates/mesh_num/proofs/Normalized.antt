@@ -4,8 +4,8 @@ use Rattle.std.specs.Prelude.{MatchOption, IfSome}
 use Rattle.std.specs.declared.option.Option.{Option}
 use Rattle.std.specs.declared.option.Option.TheVariants.{None, Some}
 use Rattle.mesh_plane.specs.Plane.{Point, length_sq}
-use Rattle.mesh_num.specs.Direction.{IsDirection, IsShort, IsFresh, IsOdd, SameWay, KeepsTurns}
-use Rattle.mesh_num.proofs.Parts.{direction_short, direction_fresh, direction_odd}
+use Rattle.mesh_num.specs.Direction.{IsDirection, IsFresh, KeepsOpposites, SameWay, KeepsTurns}
+use Rattle.mesh_num.proofs.Parts.{direction_fresh, direction_odd}
 use Rattle.mesh_num.proofs.Turns.{direction_same_way, direction_keeps_turns}
 
 -- what follows of the value of an option, if it has one
@@ -19,11 +19,8 @@ keeps_turns_of unit v r h = if_some r (length_sq v ≡ 0) (λ n. IsDirection uni
 pub same_way_of : (unit : ℕ) (v : Point) (r : Option Point) → MatchOption r (length_sq v ≡ 0) (λ n. IsDirection unit v n) → IfSome r (λ n. SameWay unit v n)
 same_way_of unit v r h = if_some r (length_sq v ≡ 0) (λ n. IsDirection unit v n) (λ n. SameWay unit v n) (λ n d. direction_same_way d) h
 
-pub odd_of : (unit : ℕ) (v : Point) (r : Option Point) → MatchOption r (length_sq v ≡ 0) (λ n. IsDirection unit v n) → IfSome r (λ n. IsOdd unit v n)
-odd_of unit v r h = if_some r (length_sq v ≡ 0) (λ n. IsDirection unit v n) (λ n. IsOdd unit v n) (λ n d. direction_odd d) h
-
-pub short_of : (unit : ℕ) (v : Point) (r : Option Point) → MatchOption r (length_sq v ≡ 0) (λ n. IsDirection unit v n) → IfSome r (λ n. IsShort unit n)
-short_of unit v r h = if_some r (length_sq v ≡ 0) (λ n. IsDirection unit v n) (λ n. IsShort unit n) (λ n d. direction_short d) h
+pub odd_of : (unit : ℕ) (v : Point) (r : Option Point) → MatchOption r (length_sq v ≡ 0) (λ n. IsDirection unit v n) → IfSome r (λ n. KeepsOpposites unit v n)
+odd_of unit v r h = if_some r (length_sq v ≡ 0) (λ n. IsDirection unit v n) (λ n. KeepsOpposites unit v n) (λ n d. direction_odd d) h
 
 pub fresh_of : (unit : ℕ) (v : Point) (r : Option Point) → 2 ≤ unit → MatchOption r (length_sq v ≡ 0) (λ n. IsDirection unit v n) → IfSome r (λ n. IsFresh unit n)
 fresh_of unit v r l h = if_some r (length_sq v ≡ 0) (λ n. IsDirection unit v n) (λ n. IsFresh unit n) (λ n d. direction_fresh l d) h

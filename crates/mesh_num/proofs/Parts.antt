@@ -5,7 +5,7 @@ use Rattle.std.proofs.Math.Nat.{mul-le-mul_left, mul-le-mul_right, le_of_mul-le-
 use Rattle.std.proofs.lemmas.Bool.{cases_lt}
 use mathlib.Core.Logic.{⊎_elim}
 use Rattle.mesh_plane.specs.Plane.{Point, opposite, length_sq, right_quarter}
-use Rattle.mesh_num.specs.Direction.{IsPart, IsDirection, IsShort, IsFresh, IsOdd}
+use Rattle.mesh_num.specs.Direction.{IsPart, IsDirection, IsShort, IsFresh, KeepsOpposites}
 use Rattle.mesh_plane.proofs.Sizes.{size_neg, length_opposite, lt_of_squares, le_of_squares, two_products}
 use Rattle.mesh_plane.proofs.Signs.{sign_neg, same_number}
 
@@ -63,7 +63,7 @@ direction_opposite {unit} {v} {n} p =
       y = subst (λ (l : ℕ). IsPart unit l (neg_ℤ v.1) (neg_ℤ n.1)) e (part_opposite p.y);
     }
 
--- a vector turned by a quarter has the direction turned by a quarter
+-- a vector turned by a quarter has the direction turned by a quarter, for caps and the sides of strokes
 pub direction_quarter : {unit : ℕ} {v n : Point} → IsDirection unit v n → IsDirection unit (right_quarter v) (right_quarter n)
 direction_quarter {unit} {v} {n} p =
     let e : length_sq v ≡ length_sq (right_quarter v) = turned (unsigned_abs v.0) (unsigned_abs v.1) (unsigned_abs (neg_ℤ v.0)) (size_neg v.0) in
@@ -75,7 +75,7 @@ direction_quarter {unit} {v} {n} p =
     turned : (a b c : ℕ) → c ≡ a → a * a + b * b ≡ b * b + c * c
     turned a b c e = rw e (omega arith)
 
-pub direction_odd : {unit : ℕ} {v n : Point} → IsDirection unit v n → IsOdd unit v n
+pub direction_odd : {unit : ℕ} {v n : Point} → IsDirection unit v n → KeepsOpposites unit v n
 direction_odd p m q = direction_unique q (direction_opposite p)
 
 -- a vector with a direction is not 0
@@ -86,6 +86,7 @@ has_length {unit} {v} {n} p = omega (arith, long unit (length_sq v) (unsigned_ab
     long u zero x k h = absurd (omega arith)
     long u (suc l) x k h = omega arith
 
+-- for rotated directions of arcs and caps
 pub direction_bounded : {unit : ℕ} {v n : Point} → IsDirection unit v n → (unsigned_abs n.0 ≤ unit) × (unsigned_abs n.1 ≤ unit)
 direction_bounded {unit} {v} {n} p =
     let l : 0 < length_sq v = has_length p in

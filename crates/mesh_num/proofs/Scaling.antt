@@ -48,6 +48,7 @@ scaled_bound unit r k h l =
 pub scaled_direction_opposite_radius : (unit : ℕ) (r : ℤ) (n : Point) → 0 < unit → scaled_direction unit (neg_ℤ r) n ≡ opposite (scaled_direction unit r n)
 scaled_direction_opposite_radius unit r n h = λ i. (scaled_opposite_radius unit r n.0 h i, scaled_opposite_radius unit r n.1 h i)
 
+-- for the two sides of strokes
 pub scaled_direction_opposite : (unit : ℕ) (r : ℤ) (n : Point) → 0 < unit → scaled_direction unit r (opposite n) ≡ opposite (scaled_direction unit r n)
 scaled_direction_opposite unit r n h = λ i. (scaled_opposite_part unit r n.0 h i, scaled_opposite_part unit r n.1 h i)
 
@@ -61,7 +62,7 @@ scaled_direction_bounded unit r n h s =
     let b : (unsigned_abs n.0 ≤ unit) × (unsigned_abs n.1 ≤ unit) = short_bounded unit n s in
     (scaled_bound unit r n.0 h b.0, scaled_bound unit r n.1 h b.1)
 
--- a quarter turn and a radius may be applied in either order
+-- a quarter turn and a radius may be applied in either order, for caps and the sides of strokes
 pub scaled_direction_quarter : (unit : ℕ) (r : ℤ) (n : Point) → 0 < unit → scaled_direction unit r (right_quarter n) ≡ right_quarter (scaled_direction unit r n)
 scaled_direction_quarter unit r n h = λ i. (scaled unit r n.1, scaled_opposite_part unit r n.0 h i)
 
@@ -111,7 +112,7 @@ scaled_parallel_kept {unit} {v} {n} {w} {m} r h p q t =
 pub direction_keeps_scaled_turns : (unit : ℕ) (r : ℤ) (n : Point) → 0 < unit → KeepsScaledTurns unit r n (scaled_direction unit r n)
 direction_keeps_scaled_turns unit r n h v w m p q t = scaled_turn_kept r h p q t
 
--- ---- a fresh direction times a radius other than 0 is not 0
+-- ---- a fresh direction times a radius other than 0 is not 0, for joins and caps that are no point
 
 pub fresh_length : (unit : ℕ) (n : Point) → 3 ≤ unit → IsFresh unit n → 0 < length_sq n
 fresh_length unit n h f =

@@ -2,7 +2,6 @@
 use Rattle.std.proofs.Common.{◌≡◌, Bool, true, false, cond, not, List, [], ◌∷◌, ◌++◌, refl, sym, ◌∙◌, ap, append_assoc}
 use Rattle.std.specs.Prelude.{pos, negsuc}
 use Rattle.std.proofs.lemmas.List.{map-append}
-use Rattle.std.proofs.lemmas.List.Elements.{filter-append}
 use Rattle.mesh_plane.specs.Plane.{Point, Edge}
 use Rattle.mesh_plane.specs.Winding.{same_point}
 use Rattle.mesh_plane.specs.Order.{point_lt}
@@ -38,9 +37,6 @@ edges_of_segments (e ∷ es) =
 pub segments_of-append : (es fs : List Edge) → segments_of (es ++ fs) ≡ segments_of es ++ segments_of fs
 segments_of-append [] fs = refl
 segments_of-append (e ∷ es) fs = ap (λ l. segment_between e.0 e.1 ++ l) (segments_of-append es fs) ∙ sym (append_assoc (segment_between e.0 e.1) (segments_of es) (segments_of fs))
-
-pub proper_edges-append : (es fs : List Edge) → proper_edges (es ++ fs) ≡ proper_edges es ++ proper_edges fs
-proper_edges-append es fs = filter-append (λ (e : Edge). not (same_point e.0 e.1)) es fs
 
 pub edges_of-append : (ss ts : List SignedEdge) → edges_of (ss ++ ts) ≡ edges_of ss ++ edges_of ts
 edges_of-append ss ts = map-append edge_of ss ts

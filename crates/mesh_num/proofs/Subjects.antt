@@ -6,11 +6,11 @@ use Rattle.std.specs.List.{All}
 use Rattle.std.proofs.lemmas.Bool.{true≢false}
 use Rattle.std.proofs.lemmas.Bool.Decides.{Decides-int_eq}
 use Rattle.std.proofs.lemmas.Int.{ints}
-use Rattle.std.proofs.lemmas.List.Elements.{All-nil, All-cons, All-head, All-tail, All-append}
+use Rattle.std.proofs.lemmas.List.Elements.{All-nil, All-cons, All-append}
 use Rattle.mesh_plane.specs.Plane.{Point, Edge}
 use Rattle.mesh_plane.specs.Winding.{same_point}
 use Rattle.mesh_plane.specs.Order.{point_lt}
-use Rattle.mesh_num.specs.Segments.{SignedEdge, subject_of, segment_between, segments_of, IsSubject}
+use Rattle.mesh_num.specs.Segments.{subject_of, segment_between, segments_of, IsSubject}
 
 -- of two different points of which the first is not the smaller one, the second is
 other_smaller : (p r : Point) → same_point p r ≡ false → point_lt p r ≡ false → point_lt r p ≡ true
@@ -55,16 +55,3 @@ segment_between_subject p r = by (same_point p r) refl
 pub segments_of_subjects : (es : List Edge) → All IsSubject (segments_of es)
 segments_of_subjects [] = All-nil IsSubject
 segments_of_subjects (e ∷ es) = All-append IsSubject (segment_between e.0 e.1) (segments_of es) (segment_between_subject e.0 e.1) (segments_of_subjects es)
-
--- what holds of both ends of some edges holds of both ends of their segments
-pub segments_of_ends : (P : Point → Type 0) (es : List Edge) → All (λ (e : Edge). P e.0 × P e.1) es → All (λ (s : SignedEdge). P s.0.0 × P s.0.1) (segments_of es)
-segments_of_ends P [] h = All-nil (λ (s : SignedEdge). P s.0.0 × P s.0.1)
-segments_of_ends P (e ∷ es) h =
-    All-append (λ (s : SignedEdge). P s.0.0 × P s.0.1) (segment_between e.0 e.1) (segments_of es)
-    (between (All-head (λ (e : Edge). P e.0 × P e.1) e es h) (same_point e.0 e.1) (point_lt e.0 e.1))
-    (segments_of_ends P es (All-tail (λ (e : Edge). P e.0 × P e.1) e es h))
-  where
-    between : P e.0 × P e.1 → (same less : Bool) → All (λ (s : SignedEdge). P s.0.0 × P s.0.1) (cond same [] (cond less ((e.0, e.1), pos 1) ((e.1, e.0), negsuc 0) ∷ []))
-    between p true less = All-nil (λ (s : SignedEdge). P s.0.0 × P s.0.1)
-    between p false true = All-cons (λ (s : SignedEdge). P s.0.0 × P s.0.1) ((e.0, e.1), pos 1) [] p (All-nil (λ (s : SignedEdge). P s.0.0 × P s.0.1))
-    between p false false = All-cons (λ (s : SignedEdge). P s.0.0 × P s.0.1) ((e.1, e.0), negsuc 0) [] (p.1, p.0) (All-nil (λ (s : SignedEdge). P s.0.0 × P s.0.1))

@@ -73,6 +73,7 @@ parallel_kept_by {unit} {v} {n} {w} {m} f k p q e =
 pub turn_kept : {unit : ℕ} {v n w m : Point} → IsDirection unit v n → IsDirection unit w m → pos 0 ≤ℤ cross v w → pos 0 ≤ℤ cross n m
 turn_kept p q h = turn_kept_by (λ (x : ℤ). x) keeps_self p q h
 
+-- for joins where an edge goes straight on
 pub parallel_kept : {unit : ℕ} {v n w m : Point} → IsDirection unit v n → IsDirection unit w m → cross v w ≡ pos 0 → cross n m ≡ pos 0
 parallel_kept p q e = parallel_kept_by (λ (x : ℤ). x) keeps_self p q e
 
@@ -131,7 +132,7 @@ same_kept {unit} {v} {n} {w} {m} p q e h =
 pub direction_same_way : {unit : ℕ} {v n : Point} → IsDirection unit v n → SameWay unit v n
 direction_same_way p w m q e h = same_kept p q e h
 
--- parallel vectors that look opposite ways have opposite directions
+-- parallel vectors that look opposite ways have opposite directions, for joins and caps where an edge turns back
 pub opposite_kept : {unit : ℕ} {v n w m : Point} → IsDirection unit v n → IsDirection unit w m → cross v w ≡ pos 0 → dot v w <ℤ pos 0 → m ≡ opposite n
 opposite_kept {unit} {v} {n} {w} {m} p q e h =
     sym

@@ -37,8 +37,8 @@ abbrev pub scaled_direction : ℕ → ℤ → Point → Point
 scaled_direction unit radius n = (scaled unit radius n.0, scaled unit radius n.1)
 
 -- the opposite vector has the opposite direction; `n` is the direction of `v`
-abbrev pub IsOdd : ℕ → Point → Point → Type 0
-IsOdd unit v n = (m : Point) → IsDirection unit (opposite v) m → m ≡ opposite n
+abbrev pub KeepsOpposites : ℕ → Point → Point → Type 0
+KeepsOpposites unit v n = (m : Point) → IsDirection unit (opposite v) m → m ≡ opposite n
 
 -- a parallel vector that looks the same way has the same direction; `n` is the direction of `v`
 abbrev pub SameWay : ℕ → Point → Point → Type 0

@@ -1,11 +1,9 @@
 -- Lemmas over points and lists: balance, and sums of differences over edges.
 use Rattle.std.proofs.Common.{◌≡◌, ℕ, ◌+◌, ◌≤◌, List, [], ◌∷◌, ◌++◌, refl, sym, ◌∙◌, ap, arith}
 use Rattle.std.specs.Prelude.{ℤ, pos, ◌+ℤ◌, ◌-ℤ◌, neg_ℤ, Bool, true, false, cond, count_by, map}
-use Rattle.std.specs.Ordering.{int_eq}
 use Rattle.std.specs.List.{All}
 use Rattle.std.proofs.lemmas.List.Elements.{All-weaker}
 use Rattle.std.specs.List.Sorted.{IsPermutation}
-use Rattle.std.proofs.lemmas.Bool.Decides.{Decides-int_eq, Decides-and}
 use Rattle.std.proofs.lemmas.List.Sums.{sum_by-cons, sum_by-append}
 use Rattle.std.proofs.lemmas.List.Sorted.{sum_by-IsPermutation}
 use Rattle.std.proofs.lemmas.Int.{ints}
@@ -14,6 +12,7 @@ use Rattle.mesh_plane.specs.Winding.{sum_of, total, boundary, pieces_total, same
 use Rattle.mesh_plane.proofs.Whole.{linear}
 use Rattle.mesh_plane.proofs.Sums.{sum_of_same, sum_of_equal, sum_of_none, sum_of_map}
 use Rattle.mesh_plane.proofs.ClosedLists.{boundary_ends}
+use Rattle.mesh_plane.proofs.Comparing.{decides_point}
 
 -- how much `g` grows along an edge
 abbrev pub growth : (Point → ℤ) → Point → Point → ℤ
@@ -22,6 +21,7 @@ growth g p r = g r -ℤ g p
 pub growth_odd : (g : Point → ℤ) → IsOdd (growth g)
 growth_odd g p r = omega (arith, linear)
 
+-- for joins whose points divide an edge
 pub growth_straight : (g : Point → ℤ) → IsStraight (growth g)
 growth_straight g p r s e = omega (arith, linear)
 
@@ -68,14 +68,6 @@ pub balanced_append : (es gs : List Edge) → IsBalanced es → IsBalanced gs �
 balanced_append es gs h k p =
     omega (arith, h p, k p, sum_by-append (λ (e : Edge). cond (same_point p e.0) 1 0) es gs, sum_by-append (λ (e : Edge). cond (same_point p e.1) 1 0) es gs)
 
-pub balanced_rest : (es gs : List Edge) → IsBalanced (es ++ gs) → IsBalanced es → IsBalanced gs
-balanced_rest es gs h k p =
-    omega (arith, h p, k p, sum_by-append (λ (e : Edge). cond (same_point p e.0) 1 0) es gs, sum_by-append (λ (e : Edge). cond (same_point p e.1) 1 0) es gs)
-
-pub balanced_start : (es gs : List Edge) → IsBalanced (es ++ gs) → IsBalanced gs → IsBalanced es
-balanced_start es gs h k p =
-    omega (arith, h p, k p, sum_by-append (λ (e : Edge). cond (same_point p e.0) 1 0) es gs, sum_by-append (λ (e : Edge). cond (same_point p e.1) 1 0) es gs)
-
 pub balanced_permutation : (es gs : List Edge) → IsPermutation es gs → IsBalanced es → IsBalanced gs
 balanced_permutation es gs h k p =
     omega (arith, k p, sum_by-IsPermutation (λ (e : Edge). cond (same_point p e.0) 1 0) es gs h, sum_by-IsPermutation (λ (e : Edge). cond (same_point p e.1) 1 0) es gs h)
@@ -93,13 +85,6 @@ closed_growth g es closed =
 pub closed_balanced : (es : List Edge) → All (λ (c : Edge × Edge). c.0.1 ≡ c.1.0) (boundary es) → IsBalanced es
 closed_balanced es closed = balanced_by_growth es (λ g. closed_growth g es closed)
 
--- back: lists with equal counts of each point have equal sums
-pub same_point_is : (p x : Point) → same_point p x ≡ true → p ≡ x
-same_point_is p x e = let k = (Decides-and (int_eq p.0 x.0) (int_eq p.1 x.1) (Decides-int_eq p.0 x.0) (Decides-int_eq p.1 x.1)).0 e in λ i. (k.0 i, k.1 i)
-
-pub same_point_self : (p : Point) → same_point p p ≡ true
-same_point_self p = (Decides-and (int_eq p.0 p.0) (int_eq p.1 p.1) (Decides-int_eq p.0 p.0) (Decides-int_eq p.1 p.1)).1 (refl, refl)
-
 without : Point → List Point → List Point
 without x [] = []
 without x (y ∷ ys) = cond (same_point x y) ys (y ∷ without x ys)
@@ -112,7 +97,7 @@ sum_without h x (y ∷ ys) some =
   where
     step : (1 ≤ count_by (same_point x) ys → sum_of h ys ≡ h x +ℤ sum_of h (without x ys)) →
         (b : Bool) → same_point x y ≡ b → h y +ℤ sum_of h ys ≡ h x +ℤ sum_of h (cond b ys (y ∷ without x ys))
-    step rest true e = omega (arith, linear, ap h (same_point_is x y e))
+    step rest true e = omega (arith, linear, ap h ((decides_point x y).0 e))
     step rest false e =
         let split : count_by (same_point x) (y ∷ ys) ≡ cond (same_point x y) 1 0 + count_by (same_point x) ys = sum_by-cons (λ z. cond (same_point x z) 1 0) y ys in
         let apart = ap (λ (b : Bool). cond {A = ℕ} b 1 0) e in
@@ -122,11 +107,11 @@ equal_sums : (xs ys : List Point) → ((p : Point) → count_by (same_point p) x
 equal_sums [] [] h g = refl
 equal_sums [] (y ∷ ys) h g =
     let split : count_by (same_point y) (y ∷ ys) ≡ cond (same_point y y) 1 0 + count_by (same_point y) ys = sum_by-cons (λ z. cond (same_point y z) 1 0) y ys in
-    let here = ap (λ (b : Bool). cond {A = ℕ} b 1 0) (same_point_self y) in
+    let here = ap (λ (b : Bool). cond {A = ℕ} b 1 0) ((decides_point y y).1 refl) in
     absurd (omega (arith, h y))
 equal_sums (x ∷ xs) ys h g =
     let counted = λ (p : Point). sum_by-cons (λ z. cond {A = ℕ} (same_point p z) 1 0) x xs in
-    let here = ap (λ (b : Bool). cond {A = ℕ} b 1 0) (same_point_self x) in
+    let here = ap (λ (b : Bool). cond {A = ℕ} b 1 0) ((decides_point x x).1 refl) in
     let some : 1 ≤ count_by (same_point x) ys = omega (arith, h x, counted x) in
     let rest : (p : Point) → count_by (same_point p) xs ≡ count_by (same_point p) (without x ys) = λ p.
     omega (

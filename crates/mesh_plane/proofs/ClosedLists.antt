@@ -47,7 +47,7 @@ boundary_map f [] = refl
 boundary_map f (x ∷ xs) = route_map f x xs x
 
 -- what holds of each one holds of both ends of each pair
-route_all : {A : Type 0} (P : A → Type 0) (a : A) (xs : List A) (z : A) → P a → All P xs → P z →
+pub route_all : {A : Type 0} (P : A → Type 0) (a : A) (xs : List A) (z : A) → P a → All P xs → P z →
     All (λ (e : A × A). P e.0 × P e.1) (route a xs z)
 route_all P a [] z pa pxs pz = All-cons (λ e. P e.0 × P e.1) (a, z) [] (pa, pz) (All-nil (λ e. P e.0 × P e.1))
 route_all P a (x ∷ xs) z pa pxs pz =
@@ -60,6 +60,15 @@ boundary_all P (x ∷ xs) h = let px = All-head P x xs h in route_all P x xs x p
 
 pub all_both : {A : Type 0} (P Q : A → Type 0) (xs : List A) → All P xs → All Q xs → All (λ x. P x × Q x) xs
 all_both P Q xs p q = λ k d h. (p k d h, q k d h)
+
+-- what holds of each of a list holds of each of a part of it
+pub all_left : {X : Type 0} (P : X → Type 0) (xs ys : List X) → All P (xs ++ ys) → All P xs
+all_left P [] ys h = All-nil P
+all_left P (x ∷ xs) ys h = All-cons P x xs (All-head P x (xs ++ ys) h) (all_left P xs ys (All-tail P x (xs ++ ys) h))
+
+pub all_right : {X : Type 0} (P : X → Type 0) (xs ys : List X) → All P (xs ++ ys) → All P ys
+all_right P [] ys h = h
+all_right P (x ∷ xs) ys h = all_right P xs ys (All-tail P x (xs ++ ys) h)
 
 pub all_flat_map : {A B : Type 0} (P : B → Type 0) (g : A → List B) (xs : List A) → All (λ x. All P (g x)) xs → All P (flat_map g xs)
 all_flat_map P g [] h = All-nil P

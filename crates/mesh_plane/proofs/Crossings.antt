@@ -17,18 +17,12 @@ turn_cycle p r s = simp multiplied (omega (arith, linear))
 pub turn_swap : (p r s : Point) → turn p s r ≡ neg_ℤ (turn p r s)
 turn_swap p r s = simp multiplied (omega (arith, linear))
 
-pub turn_same : (p r : Point) → turn p p r ≡ pos 0
-turn_same p r = simp multiplied (omega (arith, linear))
-
 -- the crossing over bare numbers: the heights of both ends, the height of the point and its turn
 pub crossing_of_flip : (a b h t s : ℤ) → s ≡ neg_ℤ t → crossing_of a b h t +ℤ crossing_of b a h s ≡ pos 0
 crossing_of_flip a b h t s e = grind (arith, ints)
 
 pub crossing_odd : (q p r : Point) → crossing q p r +ℤ crossing q r p ≡ pos 0
 crossing_odd q p r = crossing_of_flip p.1 r.1 q.1 (turn p r q) (turn r p q) (turn_flip p r q)
-
-pub crossing_same : (q p : Point) → crossing q p p ≡ pos 0
-crossing_same q p = omega (arith, linear, crossing_odd q p p)
 
 pub crossing_low : (a b h t : ℤ) → a ≤ℤ h → b ≤ℤ h → crossing_of a b h t ≡ pos 0
 crossing_low a b h t x y = grind (arith, ints)
@@ -68,6 +62,3 @@ turn_refined_flat m p r s h =
 
 pub crossing_on_odd : (m : ℕ) (q p r : Point) → crossing_on m q p r +ℤ crossing_on m q r p ≡ pos 0
 crossing_on_odd m q p r = crossing_odd q (refined m p) (refined m r)
-
-pub crossing_on_same : (m : ℕ) (q p : Point) → crossing_on m q p p ≡ pos 0
-crossing_on_same m q p = crossing_same q (refined m p)

@@ -35,26 +35,7 @@ cross_through u w z =
     let f = var 5 in
     ring (u.0 ∷ u.1 ∷ w.0 ∷ w.1 ∷ z.0 ∷ z.1 ∷ []) (dot_of a b a b ⊗ cross_of c d e f) ((dot_of a b c d ⊗ cross_of a b e f) ⊖ (cross_of a b c d ⊗ dot_of a b e f)) refl
 
--- a.y(b×c) + b.y(c×a) + c.y(a×b) = 0
-pub heights_weigh : (a b c : Point) → ((a.1 *ℤ cross b c) +ℤ (b.1 *ℤ cross c a)) +ℤ (c.1 *ℤ cross a b) ≡ pos 0
-heights_weigh a b c =
-    ring (a.0 ∷ a.1 ∷ b.0 ∷ b.1 ∷ c.0 ∷ c.1 ∷ [])
-    (((var 1 ⊗ cross_of (var 2) (var 3) (var 4) (var 5)) ⊕ (var 3 ⊗ cross_of (var 4) (var 5) (var 0) (var 1))) ⊕ (var 5 ⊗ cross_of (var 0) (var 1) (var 2) (var 3)))
-    (lit (pos 0))
-    refl
-
--- (u×v)(u·t) = (t×v)|u|² + (u×t)(u·v)
-pub cross_times_dot : (u v t : Point) → cross u v *ℤ dot u t ≡ (cross t v *ℤ dot u u) +ℤ (cross u t *ℤ dot u v)
-cross_times_dot u v t =
-    let a = var 0 in
-    let b = var 1 in
-    let c = var 2 in
-    let d = var 3 in
-    let e = var 4 in
-    let f = var 5 in
-    ring (u.0 ∷ u.1 ∷ v.0 ∷ v.1 ∷ t.0 ∷ t.1 ∷ []) (cross_of a b c d ⊗ dot_of a b e f) ((cross_of e f c d ⊗ dot_of a b a b) ⊕ (cross_of a b e f ⊗ dot_of a b c d)) refl
-
--- (cx - sy)² + (sx + cy)² = (c² + s²)(x² + y²)
+-- (cx - sy)² + (sx + cy)² = (c² + s²)(x² + y²), for rotated directions of arcs and caps
 pub rotation_length : (c s x y : ℤ) → (((c *ℤ x) -ℤ (s *ℤ y)) *ℤ ((c *ℤ x) -ℤ (s *ℤ y))) +ℤ (((s *ℤ x) +ℤ (c *ℤ y)) *ℤ ((s *ℤ x) +ℤ (c *ℤ y))) ≡ ((c *ℤ c) +ℤ (s *ℤ s)) *ℤ ((x *ℤ x) +ℤ (y *ℤ y))
 rotation_length c s x y =
     let p = (var 0 ⊗ var 2) ⊖ (var 1 ⊗ var 3) in
@@ -72,7 +53,7 @@ cross_self v = ring (v.0 ∷ v.1 ∷ []) (cross_of (var 0) (var 1) (var 0) (var 
 pub dot_swap : (v w : Point) → dot w v ≡ dot v w
 dot_swap v w = ring (v.0 ∷ v.1 ∷ w.0 ∷ w.1 ∷ []) (dot_of (var 2) (var 3) (var 0) (var 1)) (dot_of (var 0) (var 1) (var 2) (var 3)) refl
 
--- ---- quarter turns
+-- ---- quarter turns and opposites, for caps and the two sides of strokes
 
 pub cross_quarters : (s t : Point) → cross (right_quarter s) (right_quarter t) ≡ cross s t
 cross_quarters s t =
@@ -97,36 +78,3 @@ cross_opposite v w =
 pub dot_opposite : (v w : Point) → dot (opposite v) w ≡ neg_ℤ (dot v w)
 dot_opposite v w =
     ring (v.0 ∷ v.1 ∷ w.0 ∷ w.1 ∷ []) (dot_of (neg (var 0)) (neg (var 1)) (var 2) (var 3)) (neg (dot_of (var 0) (var 1) (var 2) (var 3))) refl
-
--- ---- squares of components
-
--- u.x²|w|² - w.x²|u|² = (u.x w.y)² - (w.x u.y)²
-pub shares_differ : (u w : Point) →
-    ((u.0 *ℤ u.0) *ℤ dot w w) -ℤ ((w.0 *ℤ w.0) *ℤ dot u u) ≡ ((u.0 *ℤ w.1) *ℤ (u.0 *ℤ w.1)) -ℤ ((w.0 *ℤ u.1) *ℤ (w.0 *ℤ u.1))
-shares_differ u w =
-    let a = var 0 in
-    let b = var 1 in
-    let c = var 2 in
-    let d = var 3 in
-    ring (u.0 ∷ u.1 ∷ w.0 ∷ w.1 ∷ [])
-    (((a ⊗ a) ⊗ dot_of c d c d) ⊖ ((c ⊗ c) ⊗ dot_of a b a b))
-    (((a ⊗ d) ⊗ (a ⊗ d)) ⊖ ((c ⊗ b) ⊗ (c ⊗ b)))
-    refl
-
--- (u·w) u.x² = u.x w.x |u|² + u.x u.y (u×w)
-pub dot_times_square : (u w : Point) → dot u w *ℤ (u.0 *ℤ u.0) ≡ ((u.0 *ℤ w.0) *ℤ dot u u) +ℤ ((u.0 *ℤ u.1) *ℤ cross u w)
-dot_times_square u w =
-    let a = var 0 in
-    let b = var 1 in
-    let c = var 2 in
-    let d = var 3 in
-    ring (u.0 ∷ u.1 ∷ w.0 ∷ w.1 ∷ []) (dot_of a b c d ⊗ (a ⊗ a)) (((a ⊗ c) ⊗ dot_of a b a b) ⊕ ((a ⊗ b) ⊗ cross_of a b c d)) refl
-
--- (u·w) u.y² = u.y w.y |u|² - u.x u.y (u×w)
-pub dot_times_square_y : (u w : Point) → dot u w *ℤ (u.1 *ℤ u.1) ≡ ((u.1 *ℤ w.1) *ℤ dot u u) -ℤ ((u.0 *ℤ u.1) *ℤ cross u w)
-dot_times_square_y u w =
-    let a = var 0 in
-    let b = var 1 in
-    let c = var 2 in
-    let d = var 3 in
-    ring (u.0 ∷ u.1 ∷ w.0 ∷ w.1 ∷ []) (dot_of a b c d ⊗ (b ⊗ b)) (((b ⊗ d) ⊗ dot_of a b a b) ⊖ ((a ⊗ b) ⊗ cross_of a b c d)) refl

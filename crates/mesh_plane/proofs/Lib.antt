@@ -1,5 +1,6 @@
 pub mod Balance
 pub mod ClosedLists
+pub mod Comparing
 pub mod Crossings
 pub mod Grids
 pub mod Identities

@@ -26,5 +26,5 @@ abbrev pub turned : Place → Place → Place → Expr
 turned p r q = crossed (apart r p) (apart q p)
 
 -- a point whose coordinates are multiplied
-abbrev pub scaled : Expr → Place → Place
-scaled m p = (m ⊗ p.0, m ⊗ p.1)
+abbrev pub scaled_place : Expr → Place → Place
+scaled_place m p = (m ⊗ p.0, m ⊗ p.1)

@@ -1,6 +1,6 @@
 -- Lemmas over whole numbers: sizes, squares and quotients of natural numbers.
 use Rattle.std.proofs.Common.{◌≡◌, ℕ, ◌+◌, ◌*◌, ◌-◌, ◌/◌, ◌<◌, ◌≤◌, refl, arith}
-use Rattle.std.specs.Prelude.{ℤ, pos, negsuc, ◌*ℤ◌, ◌≤ℤ◌, neg_ℤ, unsigned_abs}
+use Rattle.std.specs.Prelude.{ℤ, pos, negsuc, ◌*ℤ◌, neg_ℤ, unsigned_abs}
 use Rattle.std.proofs.Math.Nat.{mul-le-mul, div-mul-le_self}
 use Rattle.std.proofs.lemmas.Nat.{mul-lt, le-div}
 use Rattle.std.proofs.lemmas.Bool.{cases_lt}
@@ -33,21 +33,6 @@ size_neg z = omega (arith, ints)
 pub size_square : (z : ℤ) → z *ℤ z ≡ pos (unsigned_abs z * unsigned_abs z)
 size_square (pos n) = refl
 size_square (negsuc n) = refl
-
-pub size_nonneg : (z : ℤ) → pos 0 ≤ℤ z → z ≡ pos (unsigned_abs z)
-size_nonneg z h = omega (arith, ints)
-
-pub size_nonpos : (z : ℤ) → z ≤ℤ pos 0 → z ≡ neg_ℤ (pos (unsigned_abs z))
-size_nonpos z h = omega (arith, ints)
-
-pub le_size : (z : ℤ) (n : ℕ) → unsigned_abs z ≤ n → z ≤ℤ pos n
-le_size z n h = omega (arith, ints)
-
-pub neg_le_size : (z : ℤ) (n : ℕ) → unsigned_abs z ≤ n → neg_ℤ (pos n) ≤ℤ z
-neg_le_size z n h = omega (arith, ints)
-
-pub size_le : (z : ℤ) (n : ℕ) → z ≤ℤ pos n → neg_ℤ (pos n) ≤ℤ z → unsigned_abs z ≤ n
-size_le z n h k = omega (arith, ints)
 
 pub size_zero : (z : ℤ) → unsigned_abs z ≡ 0 → z ≡ pos 0
 size_zero z h = omega (arith, ints)

@@ -1,6 +1,6 @@
 -- Lemmas over points and lists: sums over a list, of any function, and their regrouping.
 use Rattle.std.proofs.Common.{◌≡◌, List, [], ◌∷◌, ◌++◌, refl, ◌∙◌, arith}
-use Rattle.std.specs.Prelude.{Bool, true, false, cond, ℤ, pos, ◌+ℤ◌, neg_ℤ, map, ◌≤ℤ◌}
+use Rattle.std.specs.Prelude.{Bool, true, false, cond, ℤ, pos, ◌+ℤ◌, map, ◌≤ℤ◌}
 use Rattle.std.specs.List.{All, filter, flat_map, sum_by}
 use Rattle.std.specs.List.Sorted.{IsPermutation}
 use Rattle.std.proofs.lemmas.List.Sums.{sum_by-cons}
@@ -28,10 +28,6 @@ sum_of_flat_map f g (x ∷ xs) = omega (arith, linear, sum_of_flat_map f g xs, s
 pub sum_of_add : {A : Type 0} (f g : A → ℤ) (xs : List A) → sum_of (λ x. f x +ℤ g x) xs ≡ sum_of f xs +ℤ sum_of g xs
 sum_of_add f g [] = omega (arith, linear)
 sum_of_add f g (x ∷ xs) = omega (arith, linear, sum_of_add f g xs)
-
-pub sum_of_neg : {A : Type 0} (f : A → ℤ) (xs : List A) → sum_of (λ x. neg_ℤ (f x)) xs ≡ neg_ℤ (sum_of f xs)
-sum_of_neg f [] = omega (arith, linear)
-sum_of_neg f (x ∷ xs) = omega (arith, linear, sum_of_neg f xs)
 
 pub sum_of_same : {A : Type 0} (f g : A → ℤ) → ((x : A) → f x ≡ g x) → (xs : List A) → sum_of f xs ≡ sum_of g xs
 sum_of_same f g e [] = refl
@@ -80,9 +76,6 @@ total_flat_map f g xs = sum_of_flat_map (λ (e : Edge). f e.0 e.1) g xs
 
 pub total_permutation : (f : Point → Point → ℤ) (es gs : List Edge) → IsPermutation es gs → total f gs ≡ total f es
 total_permutation f es gs h = sum_of_permutation (λ (e : Edge). f e.0 e.1) es gs h
-
-pub total_same : (f g : Point → Point → ℤ) → ((p r : Point) → f p r ≡ g p r) → (es : List Edge) → total f es ≡ total g es
-total_same f g h es = sum_of_same (λ (e : Edge). f e.0 e.1) (λ (e : Edge). g e.0 e.1) (λ e. h e.0 e.1) es
 
 pub pieces_total_append : (f : Point → Point → ℤ) (ps qs : List (List Point)) →
     pieces_total f (ps ++ qs) ≡ pieces_total f ps +ℤ pieces_total f qs

@@ -29,9 +29,6 @@ neg_mul_neg a b = omega (arith, linear, neg_mul a (neg_ℤ b), mul_neg a b)
 pub mul_sub : (a b c : ℤ) → a *ℤ (b -ℤ c) ≡ (a *ℤ b) -ℤ (a *ℤ c)
 mul_sub a b c = omega (arith, linear, mul_add a b (neg_ℤ c), mul_neg a c)
 
-pub sub_mul : (a b c : ℤ) → (a -ℤ b) *ℤ c ≡ (a *ℤ c) -ℤ (b *ℤ c)
-sub_mul a b c = omega (arith, linear, add_mul a (neg_ℤ b) c, neg_mul b c)
-
 pub mul_assoc : (a b c : ℤ) → (a *ℤ b) *ℤ c ≡ a *ℤ (b *ℤ c)
 mul_assoc a b c =
     omega (
@@ -202,6 +199,7 @@ square_lt_square a b h k =
     let q : pos 0 <ℤ b = omega (arith, linear) in
     omega (arith, linear, mul_le_mul_left a a b h p, mul_lt_mul_right b a b q k)
 
+-- from squares back to lengths, for the limits of miters and the steps of arcs
 pub le_of_square_le : (a b : ℤ) → pos 0 ≤ℤ b → (a *ℤ a) ≤ℤ (b *ℤ b) → a ≤ℤ b
 le_of_square_le a b h k = by_lt_z b a (λ l. absurd (omega (arith, linear, square_lt_square b a h l))) (λ l. l)
 

@@ -14,7 +14,6 @@ use Rattle.mesh_cuts.specs.Clean.{IsOn, IsClean, IsProper}
 use Rattle.mesh_cuts.specs.Split.{back, same_ends, occurs, IsBetween}
 use Rattle.mesh_cuts.specs.Counted.{bit, net}
 use Rattle.mesh_cuts.specs.Boundary.{winding_beside, left_winding, right_winding, IsBoundary}
-use Rattle.mesh_cuts.proofs.Ends.{decides_point}
 use Rattle.mesh_plane.proofs.Places.{place, coordinates, turned}
 use Rattle.mesh_plane.proofs.Grids.{scale, part, winds}
 use Rattle.mesh_cuts.proofs.Each.{Each}
@@ -25,6 +24,7 @@ use Rattle.mesh_regions.proofs.BoundaryLine.{Setting, inside_beside, above_place
 use Rattle.mesh_cuts.proofs.SidesBack.{crossing_back}
 use Rattle.mesh_cuts.proofs.SidesBack.{rises_flat}
 use Rattle.mesh_regions.proofs.BoundaryFill.{boundary_net, boundary_cover, crossing_below_back, fill_is, fill_is_below}
+use Rattle.mesh_plane.proofs.Comparing.{decides_point}
 
 -- 1 where a point at the height `v` and the column `c` is level with `h` and to the east of `x`
 abbrev behind_at : ℤ → ℤ → ℤ → ℤ → ℤ
@@ -167,10 +167,6 @@ flat_lift q s flat =
     ap (λ (y : ℤ). below_of (pos 2 *ℤ y) (pos 2 *ℤ s.1.1) q.1 (turn (scale (pos 2) s.0) (scale (pos 2) s.1) q)) flat
     ∙ level_below_none (pos 2 *ℤ s.1.1) q.1 (turn (scale (pos 2) s.0) (scale (pos 2) s.1) q) in
     omega (arith, linear, none, none_below)
-
--- no even number is odd
-odd_apart : (x z : ℤ) → (pos 2 *ℤ x) +ℤ pos 1 ≡ pos 2 *ℤ z → ⊥
-odd_apart x z e = absurd (omega (arith, ints))
 
 lifted_of : (x y : ℤ) (s : Edge) → Leans s → Lifted ((pos 2 *ℤ x) +ℤ pos 1, pos 2 *ℤ y) s
 lifted_of x y s (inl up) =

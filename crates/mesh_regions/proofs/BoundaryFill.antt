@@ -1,21 +1,18 @@
 -- Lemmas over points and lists: the boundary's winding is 1 where the segments' winding is filled and 0 elsewhere.
-use Rattle.std.proofs.Common.{◌≡◌, ℕ, ◌+◌, ⊎_elim, Bool, true, false, cond, ◌&&◌, ◌||◌, not, List, [], ◌∷◌, refl, sym, ◌∙◌, ap, arith}
-use Rattle.std.specs.Prelude.{ℤ, pos, neg_ℤ, ◌+ℤ◌, ◌-ℤ◌, ◌*ℤ◌, ◌≤ℤ◌, ◌<ℤ◌, int_lt}
-use Rattle.std.specs.Ordering.{int_eq}
+use Rattle.std.proofs.Common.{◌≡◌, ℕ, ⊎_elim, Bool, true, false, cond, ◌&&◌, ◌||◌, not, List, [], ◌∷◌, refl, sym, ◌∙◌, ap, arith}
+use Rattle.std.specs.Prelude.{ℤ, pos, neg_ℤ, ◌+ℤ◌, ◌-ℤ◌, ◌*ℤ◌, ◌<ℤ◌}
 use Rattle.std.proofs.lemmas.Int.{ints}
-use Rattle.std.proofs.lemmas.Bool.{cases_Bool, false≢true, or_from, or_right, both_ways}
-use Rattle.std.proofs.lemmas.Bool.Decides.{Decides-int_eq}
-use Rattle.std.proofs.lemmas.List.Sums.{sum_by-cons}
+use Rattle.std.proofs.lemmas.Bool.{cases_Bool, or_from, or_right, both_ways}
 use Rattle.mesh_plane.specs.Plane.{Point, Edge, turn}
-use Rattle.mesh_plane.specs.Winding.{sum_of, crossing, winding}
+use Rattle.mesh_plane.specs.Winding.{sum_of, crossing}
 use Rattle.mesh_plane.proofs.Whole.{linear}
 use Rattle.mesh_plane.proofs.Crossings.{turn_flip}
 use Rattle.mesh_cuts.specs.Split.{back, same_edge, same_ends, occurs}
 use Rattle.mesh_cuts.specs.Counted.{bit, along, net}
-use Rattle.mesh_cuts.specs.Boundary.{count, winding_beside, left_winding, right_winding, rises, IsBoundary}
+use Rattle.mesh_cuts.specs.Boundary.{count, winding_beside, left_winding, right_winding, IsBoundary}
 use Rattle.mesh_plane.proofs.Grids.{scale, winds}
 use Rattle.mesh_cuts.proofs.Each.{Each}
-use Rattle.mesh_cuts.proofs.Keys.{Leans, grouped, occurs_head, occurs_back, net_back, edge_back}
+use Rattle.mesh_cuts.proofs.Keys.{Leans, grouped, occurs_head, occurs_back, edge_back}
 use Rattle.mesh_regions.proofs.BoundaryGrids.{below_of, crossing_below}
 use Rattle.mesh_regions.proofs.BoundaryFine.{Fine, fine_up, fine_down}
 use Rattle.mesh_regions.proofs.BoundaryLine.{Setting, filled}
@@ -42,8 +39,6 @@ no_count s (e ∷ es) h k =
     by : (b : Bool) (n m : ℕ) → m ≡ 0 → pos m ≡ bit b +ℤ pos n → (b ≡ false) × (n ≡ 0)
     by true n m z h = absurd (omega (arith, ints))
     by false n m z h = let e : n ≡ 0 = omega (arith, ints) in (refl, e)
-
--- ---- the sides of an edge and of the edge back
 
 -- ---- the boundary's net count at a segment
 

@@ -1,20 +1,19 @@
 -- Lemmas over points and lists: along one line that meets segments inside, a function of the winding gains at each segment
 -- what it gains from one side to the other.
 use Rattle.std.proofs.Common.{◌≡◌, ◌⊎◌, inl, inr, Bool, true, false, cond, List, [], ◌∷◌, refl, sym, ◌∙◌, ap, subst, arith}
-use Rattle.std.specs.Prelude.{ℤ, pos, neg_ℤ, ◌+ℤ◌, ◌-ℤ◌, ◌*ℤ◌, ◌≤ℤ◌, ◌<ℤ◌, int_lt}
+use Rattle.std.specs.Prelude.{ℤ, pos, ◌+ℤ◌, ◌-ℤ◌, ◌*ℤ◌, ◌≤ℤ◌, ◌<ℤ◌, int_lt}
 use Rattle.std.proofs.lemmas.Int.{ints, by_lt_z}
 use Rattle.std.proofs.lemmas.Bool.{or_parts, or_right}
 use Rattle.mesh_plane.specs.Plane.{Point, Edge, turn}
 use Rattle.mesh_plane.specs.Winding.{sum_of, crossing_of, crossing, IsBalanced}
 use Rattle.mesh_plane.proofs.Whole.{linear, mul_pos, mul_nonneg_nonpos}
 use Rattle.mesh_plane.proofs.Ring.{ring, var, lit, ◌⊕◌, ◌⊖◌, ◌⊗◌}
-use Rattle.mesh_plane.proofs.Crossings.{crossing_odd}
 use Rattle.mesh_cuts.specs.Clean.{IsOn, IsClean, IsProper}
-use Rattle.mesh_cuts.specs.Split.{back, same_ends, occurs}
+use Rattle.mesh_cuts.specs.Split.{same_ends, occurs}
 use Rattle.mesh_cuts.specs.Counted.{net}
 use Rattle.mesh_cuts.specs.Boundary.{middle, winding_beside}
 use Rattle.mesh_regions.proofs.Line.{past, past_yes, past_none, beyond, steps, Free, Scattered, telescope}
-use Rattle.mesh_plane.proofs.Places.{place, coordinates, turned, scaled}
+use Rattle.mesh_plane.proofs.Places.{place, coordinates, turned, scaled_place}
 use Rattle.mesh_plane.proofs.Grids.{scale, part, winds}
 use Rattle.mesh_cuts.proofs.Each.{Each, each_more}
 use Rattle.mesh_regions.proofs.SidesConstant.{inside_same}
@@ -57,7 +56,7 @@ hit_turn : (m t x : ℤ) (p r : Point) →
     ≡ (m *ℤ (r.1 -ℤ p.1)) *ℤ (((m *ℤ p.0) +ℤ (t *ℤ (r.0 -ℤ p.0))) -ℤ x)
 hit_turn m t x p r =
     ring (coordinates (p ∷ r ∷ []) (m ∷ t ∷ x ∷ []))
-    (turned (scaled (var 4) (place 0)) (scaled (var 4) (place 1)) (var 6, (var 4 ⊗ var 1) ⊕ (var 5 ⊗ (var 3 ⊖ var 1))))
+    (turned (scaled_place (var 4) (place 0)) (scaled_place (var 4) (place 1)) (var 6, (var 4 ⊗ var 1) ⊕ (var 5 ⊗ (var 3 ⊖ var 1))))
     ((var 4 ⊗ (var 3 ⊖ var 1)) ⊗ (((var 4 ⊗ var 0) ⊕ (var 5 ⊗ (var 2 ⊖ var 0))) ⊖ var 6))
     refl
 
@@ -243,8 +242,8 @@ filled es rs set f d gain g fine =
     (sym (ap (λ (q : Point). winds m q es) (sym (hit_part m h s k)) ∙ inside_beside fine.half k.parts es set.balanced set.clean set.proper s o k.low k.high))) in
     let known : (s : Edge) → occurs s rs ≡ true → occurs s es ≡ true = λ (s : Edge) (o : occurs s rs ≡ true). sym (set.keys.same s) ∙ o in
     let marked = marked_of m h (λ (s : Edge). net s es) d f w rs met gains (spread_of m h es set.clean set.proper rs known set.keys.distinct) in
-    let along : (y : ℤ) → w y ≡ beyond y marked.marks = λ (y : ℤ). winds_grouped m (y, h) es rs set.keys ∙ marked.sums y in
+    let on_row : (y : ℤ) → w y ≡ beyond y marked.marks = λ (y : ℤ). winds_grouped m (y, h) es rs set.keys ∙ marked.sums y in
     let line : steps f w x marked.marks ≡ f (beyond x marked.marks) -ℤ f (pos 0) =
-    (λ i. steps f (λ (y : ℤ). along y i) x marked.marks) ∙ telescope marked.marks marked.scattered f x in
+    (λ i. steps f (λ (y : ℤ). on_row y i) x marked.marks) ∙ telescope marked.marks marked.scattered f x in
     let total_is : sum_of (λ (s : Edge). net s es *ℤ g s) rs ≡ beyond x marked.marks = same_sums (λ (s : Edge). net s es) g value rs same ∙ marked.sums x in
     same_sums d g value rs same ∙ (marked.gains x ∙ (line ∙ ap (λ (z : ℤ). f z -ℤ f (pos 0)) (sym total_is)))

@@ -1,5 +1,5 @@
 -- Lemmas over points and lists: the segments have the winding of the given edges at every point in the box of no bent edge.
-use Rattle.std.proofs.Common.{◌≡◌, ⊎_elim, Bool, true, false, cond, not, List, [], ◌∷◌, ◌++◌, refl, sym, ◌∙◌, ap, subst, arith, append_assoc}
+use Rattle.std.proofs.Common.{◌≡◌, ⊎_elim, Bool, true, false, cond, not, List, [], ◌∷◌, ◌++◌, refl, sym, ◌∙◌, ap, subst, arith}
 use Rattle.std.specs.Prelude.{ℤ, pos, ◌+ℤ◌, ◌-ℤ◌, ◌*ℤ◌, ◌≤ℤ◌, ◌<ℤ◌}
 use Rattle.std.specs.Ordering.{int_eq}
 use Rattle.std.specs.List.{list_any}
@@ -7,22 +7,20 @@ use Rattle.std.proofs.lemmas.Int.{ints, by_lt_z}
 use Rattle.std.proofs.lemmas.Bool.{cases_Bool, or_parts, or_right}
 use Rattle.std.proofs.lemmas.Bool.Decides.{Decides-int_eq}
 use Rattle.mesh_plane.specs.Plane.{Point, Edge, turn}
-use Rattle.mesh_plane.specs.Winding.{crossing, total, IsBalanced}
+use Rattle.mesh_plane.specs.Winding.{crossing}
 use Rattle.mesh_plane.proofs.Whole.{linear, mul_pos, mul_nonneg, mul_pos_neg, mul_nonneg_nonpos, mul_neg_pos, mul_nonpos, mul_nonpos_nonneg, pos_of_mul, neg_of_mul, nonpos_of_mul, nonneg_of_mul, mul_le_mul_left, factor}
 use Rattle.mesh_plane.proofs.Ring.{ring, var, lit, ◌⊕◌, ◌⊖◌, ◌⊗◌}
 use Rattle.mesh_plane.proofs.Crossings.{crossing_low, crossing_high, turn_flip}
 use Rattle.mesh_plane.proofs.Sums.{total_append}
-use Rattle.mesh_plane.proofs.Balance.{growth, growth_of_balanced, balanced_by_growth}
-use Rattle.mesh_cuts.specs.Split.{back, same_ends, occurs, IsInBox, IsBetween, Cut, pieces, cut, after, path}
+use Rattle.mesh_cuts.specs.Split.{same_ends, occurs, IsInBox, IsBetween, Cut, cut, after, path}
 use Rattle.mesh_regions.specs.Regions.{is_bent}
-use Rattle.mesh_cuts.proofs.Ends.{decides_ends}
-use Rattle.mesh_plane.proofs.Places.{place, coordinates, turned, scaled}
+use Rattle.mesh_plane.proofs.Places.{place, coordinates, turned, scaled_place}
 use Rattle.mesh_regions.proofs.SidesPotential.{above, crosses_west, crosses_east}
 use Rattle.mesh_plane.proofs.Grids.{scale, winds}
-use Rattle.mesh_cuts.proofs.Each.{Each}
-use Rattle.mesh_regions.proofs.SidesClear.{turn_end}
 use Rattle.mesh_cuts.proofs.Keys.{occurs_head}
 use Rattle.mesh_cuts.proofs.KeptByCuts.{Boxed, after_append, box_first, box_last, box_trans, cut_box}
+use Rattle.mesh_cuts.proofs.Boxes.{turn_start, turn_end}
+use Rattle.std.proofs.lemmas.Bool.{not-false}
 
 -- the crossings of edges between points with `P` are differences of a number of the point
 pub record Level (m : ℤ) (q : Point) (P : Point → Type 0) : Type 0 where
@@ -37,7 +35,7 @@ line_identity : (m : ℤ) (p r v w q : Point) →
     -ℤ ((m *ℤ (turn p r w -ℤ turn p r v)) *ℤ (q.1 -ℤ (m *ℤ v.1)))
 line_identity m p r v w q =
     ring (coordinates (p ∷ r ∷ v ∷ w ∷ q ∷ []) (m ∷ []))
-    ((var 3 ⊖ var 1) ⊗ turned (scaled (var 10) (place 2)) (scaled (var 10) (place 3)) (place 4))
+    ((var 3 ⊖ var 1) ⊗ turned (scaled_place (var 10) (place 2)) (scaled_place (var 10) (place 3)) (place 4))
     ((((var 10 ⊗ var 7) ⊖ (var 10 ⊗ var 5)) ⊗ ((((var 2 ⊖ var 0) ⊗ (var 9 ⊖ (var 10 ⊗ var 1))) ⊖ ((var 3 ⊖ var 1) ⊗ (var 8 ⊖ (var 10 ⊗ var 0)))) ⊖ (var 10 ⊗ turned (place 0) (place 1) (place 2))))
     ⊖ ((var 10 ⊗ (turned (place 0) (place 1) (place 3) ⊖ turned (place 0) (place 1) (place 2))) ⊗ (var 9 ⊖ (var 10 ⊗ var 5))))
     refl
@@ -276,14 +274,7 @@ straight_chain : (e : Edge) (p r : Point) (es : List Edge) → Chain (IsInBox e)
 straight_chain e p r [] h n = h
 straight_chain e p r (f ∷ es) h n =
     let parts = or_parts (not (int_eq (turn e.0 e.1 f.1) (pos 0))) (list_any (λ (f : Edge). not (int_eq (turn e.0 e.1 f.1) (pos 0))) es) n in
-    (h.0, ((Decides-int_eq (turn e.0 e.1 f.1) (pos 0)).0 (not_false (int_eq (turn e.0 e.1 f.1) (pos 0)) parts.0), straight_chain e f.1 r es h.1.1 parts.1))
-  where
-    not_false : (b : Bool) → not b ≡ false → b ≡ true
-    not_false true h = refl
-    not_false false h = sym h
-
-turn_first : (p r : Point) → turn p r p ≡ pos 0
-turn_first p r = ring (coordinates (p ∷ r ∷ []) []) (turned (place 0) (place 1) (place 0)) (lit (pos 0)) refl
+    (h.0, ((Decides-int_eq (turn e.0 e.1 f.1) (pos 0)).0 (not-false (int_eq (turn e.0 e.1 f.1) (pos 0)) parts.0), straight_chain e f.1 r es h.1.1 parts.1))
 
 -- the path of an edge has the edge's crossing where it is straight, and at points outside its box
 pub path_winds : (ks : List Cut) (e : Edge) (m : ℤ) (q : Point) → Boxed ks → pos 0 <ℤ m → (e.0 ≡ e.1 → ⊥) →
@@ -293,7 +284,7 @@ path_winds ks e m q boxed some differ out =
     (λ (t : is_bent ks e ≡ true).
     chain_winds m q (IsInBox e) (box_level m e q some (out t)) e.0 e.1 (path ks e) (box_first e) (box_last e) (path_chain ks e boxed))
     (λ (f : is_bent ks e ≡ false).
-    chain_winds m q (OnLine e.0 e.1) (line_level m e.0 e.1 q differ) e.0 e.1 (path ks e) (turn_first e.0 e.1) (turn_end e.0 e.1) (straight_chain e e.0 e.1 (path ks e) (path_chain ks e boxed) f))
+    chain_winds m q (OnLine e.0 e.1) (line_level m e.0 e.1 q differ) e.0 e.1 (path ks e) (turn_start e.0 e.1) (turn_end e.0 e.1) (straight_chain e e.0 e.1 (path ks e) (path_chain ks e boxed) f))
     (cases_Bool (is_bent ks e))
 
 -- the segments have the winding of the given edges at every point in the box of no bent edge

@@ -1,22 +1,22 @@
 -- Lemmas over points and lists: segments that share only ends keep clear of one another's insides.
-use Rattle.std.proofs.Common.{◌≡◌, ℕ, ◌<◌, ◌⊎◌, inl, inr, ⊎_elim, true, false, ◌||◌, List, [], ◌∷◌, refl, sym, ◌∙◌, ap, subst, arith}
+use Rattle.std.proofs.Common.{◌≡◌, ℕ, ◌<◌, ◌⊎◌, inl, inr, ⊎_elim, true, false, List, [], ◌∷◌, refl, sym, ap, subst, arith}
 use Rattle.std.specs.Prelude.{ℤ, pos, negsuc, neg_ℤ, ◌+ℤ◌, ◌-ℤ◌, ◌*ℤ◌, ◌≤ℤ◌, ◌<ℤ◌}
-use Rattle.std.proofs.lemmas.Bool.{both_ways, cases_Bool, or_right}
+use Rattle.std.proofs.lemmas.Bool.{cases_Bool}
 use Rattle.std.proofs.lemmas.Int.{ints, by_lt_z}
 use Rattle.mesh_plane.specs.Plane.{Point, Edge, turn}
-use Rattle.mesh_plane.specs.Winding.{same_point}
 use Rattle.mesh_plane.proofs.Whole.{linear, factor, mul_nonneg, mul_nonneg_nonpos, le_of_mul_le_mul}
 use Rattle.mesh_plane.proofs.Ring.{ring, var, lit, neg, ◌⊕◌, ◌⊖◌, ◌⊗◌}
 use Rattle.mesh_plane.proofs.Crossings.{turn_flip}
 use Rattle.mesh_cuts.specs.Clean.{IsOn, refined_edge, IsClean, IsProper}
 use Rattle.mesh_cuts.specs.Split.{back, same_ends, occurs, IsBetween}
-use Rattle.mesh_cuts.proofs.Ends.{decides_point, decides_ends, decides_end, ends_self}
-use Rattle.mesh_plane.proofs.Places.{place, coordinates, turned, scaled}
+use Rattle.mesh_cuts.proofs.Ends.{decides_ends, decides_end}
+use Rattle.mesh_plane.proofs.Places.{place, coordinates, turned, scaled_place}
 use Rattle.mesh_plane.proofs.Grids.{scale, part}
-use Rattle.mesh_regions.proofs.SidesConstant.{Clear, on_left, on_right, ahead, behind, along, ClearOf}
+use Rattle.mesh_regions.proofs.SidesConstant.{Clear, on_left, on_right, ahead, behind, on_one_line, ClearOf}
 use Rattle.mesh_cuts.proofs.Each.{Each}
 use Rattle.mesh_cuts.proofs.Each.{each_of, proper_of}
 use Rattle.mesh_plane.proofs.LineTurns.{line_turn}
+use Rattle.mesh_cuts.proofs.Boxes.{turn_start, turn_end, on_back}
 
 -- ---- a number above 0 is a natural one
 
@@ -56,7 +56,7 @@ pub on_part : (m t : ℤ) (a b : Point) → pos 0 <ℤ m → pos 0 ≤ℤ t → 
 on_part m t a b some low high = record {
   on_line =
       ring (coordinates (a ∷ b ∷ []) (m ∷ t ∷ []))
-      (turned (scaled (var 4) (place 0)) (scaled (var 4) (place 1))
+      (turned (scaled_place (var 4) (place 0)) (scaled_place (var 4) (place 1))
       ((var 4 ⊗ var 0) ⊕ (var 5 ⊗ (var 2 ⊖ var 0)), (var 4 ⊗ var 1) ⊕ (var 5 ⊗ (var 3 ⊖ var 1))))
       (lit (pos 0)) refl;
   in_box = record { by_x = between_part m t a.0 b.0 some low high; by_y = between_part m t a.1 b.1 some low high };
@@ -109,12 +109,6 @@ common a b p r =
     refl in
     λ i. (x i, y i)
 
-pub turn_start : (p r : Point) → turn p r p ≡ pos 0
-turn_start p r = ring (coordinates (p ∷ r ∷ []) []) (turned (place 0) (place 1) (place 0)) (lit (pos 0)) refl
-
-pub turn_end : (p r : Point) → turn p r r ≡ pos 0
-turn_end p r = ring (coordinates (p ∷ r ∷ []) []) (turned (place 0) (place 1) (place 1)) (lit (pos 0)) refl
-
 -- ---- clear of each other
 
 -- on every grid, a point on both segments is an end of the first
@@ -122,19 +116,10 @@ pub record Meeting (a b p r : Point) : Type 0 where
   pub at_end : (m : ℤ) → pos 0 <ℤ m → (z : Point) → IsOn (scale m a, scale m b) z → IsOn (scale m p, scale m r) z
       → (z ≡ scale m a) ⊎ (z ≡ scale m b)
 
-between_back : (a z b : ℤ) → IsBetween a z b → IsBetween b z a
-between_back a z b h = record { up = h.down; down = h.up }
-
-pub on_back : (p r z : Point) → IsOn (p, r) z → IsOn (r, p) z
-on_back p r z h = record {
-  on_line = omega (arith, linear, turn_flip p r z, h.on_line);
-  in_box = record { by_x = between_back p.0 z.0 r.0 h.in_box.by_x; by_y = between_back p.1 z.1 r.1 h.in_box.by_y };
-}
-
 pub meeting_back : (a b p r : Point) → Meeting a b p r → Meeting a b r p
 meeting_back a b p r h = record {
   at_end = λ (m : ℤ) (some : pos 0 <ℤ m) (z : Point) (x : IsOn (scale m a, scale m b) z) (y : IsOn (scale m r, scale m p) z).
-      h.at_end m some z x (on_back (scale m r) (scale m p) z y);
+      h.at_end m some z x (on_back (scale m r, scale m p) z y);
 }
 
 clear_back : (a b p r : Point) → Clear a b r p → Clear a b p r
@@ -142,7 +127,7 @@ clear_back a b p r (on_left x y) = on_left y x
 clear_back a b p r (on_right x y) = on_right y x
 clear_back a b p r (ahead x y some) = behind (omega (arith, linear, turn_flip p r a)) (omega (arith, linear, turn_flip p r b)) (omega (arith, linear, turn_flip p r a, turn_flip p r b))
 clear_back a b p r (behind x y some) = ahead (omega (arith, linear, turn_flip p r a)) (omega (arith, linear, turn_flip p r b)) (omega (arith, linear, turn_flip p r a, turn_flip p r b))
-clear_back a b p r (along x y u v) = along y x (omega (arith, linear, turn_flip p r a)) (omega (arith, linear, turn_flip p r b))
+clear_back a b p r (on_one_line x y u v) = on_one_line y x (omega (arith, linear, turn_flip p r a)) (omega (arith, linear, turn_flip p r b))
 
 no_crossing : (a b p r : Point) → (a ≡ b → ⊥) → Meeting a b p r → pos 0 <ℤ turn p r a → turn p r b <ℤ pos 0 → turn a b p ≤ℤ pos 0 → pos 0 ≤ℤ turn a b r → ⊥
 no_crossing a b p r differ meet s3 s4 s1 s2 =
@@ -168,7 +153,7 @@ clear_crossed a b p r differ meet s3 s4 =
 clear_line : (a b p r : Point) → (p ≡ r → ⊥) → turn p r a ≡ pos 0 → turn p r b ≡ pos 0 → Clear a b p r
 clear_line a b p r apart ea eb =
     let first : turn a b p ≡ pos 0 = line_turn a b p r apart ea eb in
-    along first (omega (arith, linear, four_turns a b p r)) ea eb
+    on_one_line first (omega (arith, linear, four_turns a b p r)) ea eb
 
 pub clear_of : (a b p r : Point) → (a ≡ b → ⊥) → (p ≡ r → ⊥) → Meeting a b p r → Clear a b p r
 clear_of a b p r differ apart meet =
@@ -210,9 +195,9 @@ clear_pair es clean proper s e hs he =
     ⊎_elim
     (λ (t : same_ends s e ≡ true).
     ⊎_elim
-    (λ (x : s ≡ e). subst (λ (f : Edge). Clear s.0 s.1 f.0 f.1) x (along (turn_start s.0 s.1) (turn_end s.0 s.1) (turn_start s.0 s.1) (turn_end s.0 s.1)))
+    (λ (x : s ≡ e). subst (λ (f : Edge). Clear s.0 s.1 f.0 f.1) x (on_one_line (turn_start s.0 s.1) (turn_end s.0 s.1) (turn_start s.0 s.1) (turn_end s.0 s.1)))
     (λ (x : s ≡ back e).
-    subst (λ (f : Edge). Clear f.0 f.1 e.0 e.1) (sym x) (along (turn_end e.1 e.0) (turn_start e.1 e.0) (turn_end e.0 e.1) (turn_start e.0 e.1)))
+    subst (λ (f : Edge). Clear f.0 f.1 e.0 e.1) (sym x) (on_one_line (turn_end e.1 e.0) (turn_start e.1 e.0) (turn_end e.0 e.1) (turn_start e.0 e.1)))
     ((decides_ends s e).0 t))
     (λ (f : same_ends s e ≡ false). clear_of s.0 s.1 e.0 e.1 (proper_of es proper s hs) (proper_of es proper e he) (meeting_of es clean s e hs he f))
     (cases_Bool (same_ends s e))

@@ -3,12 +3,12 @@ use Rattle.std.proofs.Common.{◌≡◌, List, [], ◌∷◌, refl, sym, ◌∙�
 use Rattle.std.specs.Prelude.{ℤ, pos, neg_ℤ, ◌+ℤ◌, ◌-ℤ◌, ◌*ℤ◌, ◌≤ℤ◌, ◌<ℤ◌}
 use Rattle.std.proofs.lemmas.Int.{ints, by_lt_z}
 use Rattle.mesh_plane.specs.Plane.{Point, Edge, turn}
-use Rattle.mesh_plane.specs.Winding.{crossing, total, IsBalanced}
+use Rattle.mesh_plane.specs.Winding.{total, IsBalanced}
 use Rattle.mesh_plane.proofs.Whole.{linear, mul_nonneg, mul_pos, mul_pos_neg, mul_neg}
 use Rattle.mesh_plane.proofs.Ring.{ring, var, ◌⊕◌, ◌⊖◌, ◌⊗◌, lit}
 use Rattle.mesh_plane.proofs.Crossings.{turn_flip}
 use Rattle.mesh_plane.proofs.Balance.{growth, growth_of_balanced}
-use Rattle.mesh_plane.proofs.Places.{place, coordinates, turned, scaled}
+use Rattle.mesh_plane.proofs.Places.{place, coordinates, turned, scaled_place}
 use Rattle.mesh_regions.proofs.SidesPotential.{Parted, edge_left, edge_right, way_left, way_right, one_line, potential, east}
 use Rattle.mesh_plane.proofs.Grids.{part, scale, winds}
 use Rattle.mesh_cuts.proofs.Each.{Each, each_more}
@@ -19,7 +19,7 @@ pub data Clear (a b p r : Point) : Type 0 where
   on_right : turn a b p <ℤ pos 0 → turn a b r <ℤ pos 0 → Clear a b p r
   ahead : pos 0 ≤ℤ turn p r a → pos 0 ≤ℤ turn p r b → pos 0 <ℤ (turn p r a +ℤ turn p r b) → Clear a b p r
   behind : turn p r a ≤ℤ pos 0 → turn p r b ≤ℤ pos 0 → (turn p r a +ℤ turn p r b) <ℤ pos 0 → Clear a b p r
-  along : turn a b p ≡ pos 0 → turn a b r ≡ pos 0 → turn p r a ≡ pos 0 → turn p r b ≡ pos 0 → Clear a b p r
+  on_one_line : turn a b p ≡ pos 0 → turn a b r ≡ pos 0 → turn p r a ≡ pos 0 → turn p r b ≡ pos 0 → Clear a b p r
 
 pub way_turn : (m t s : ℤ) (a b p : Point) →
     turn (part m t a b) (part m s a b) (scale m p) ≡ (s -ℤ t) *ℤ (m *ℤ turn a b p)
@@ -28,7 +28,7 @@ way_turn m t s a b p =
     (let a' = place 0 in let b' = place 1 in
     turned (((var 6) ⊗ a'.0) ⊕ ((var 7) ⊗ (b'.0 ⊖ a'.0)), ((var 6) ⊗ a'.1) ⊕ ((var 7) ⊗ (b'.1 ⊖ a'.1)))
     (((var 6) ⊗ a'.0) ⊕ ((var 8) ⊗ (b'.0 ⊖ a'.0)), ((var 6) ⊗ a'.1) ⊕ ((var 8) ⊗ (b'.1 ⊖ a'.1)))
-    (scaled (var 6) (place 2)))
+    (scaled_place (var 6) (place 2)))
     ((var 8 ⊖ var 7) ⊗ (var 6 ⊗ turned (place 0) (place 1) (place 2)))
     refl
 
@@ -36,7 +36,7 @@ pub edge_turn : (m t : ℤ) (a b p r : Point) →
     turn (scale m p) (scale m r) (part m t a b) ≡ m *ℤ (((m -ℤ t) *ℤ turn p r a) +ℤ (t *ℤ turn p r b))
 edge_turn m t a b p r =
     ring (coordinates (a ∷ b ∷ p ∷ r ∷ []) (m ∷ t ∷ []))
-    (turned (scaled (var 8) (place 2)) (scaled (var 8) (place 3))
+    (turned (scaled_place (var 8) (place 2)) (scaled_place (var 8) (place 3))
     (((var 8) ⊗ var 0) ⊕ ((var 9) ⊗ (var 2 ⊖ var 0)), ((var 8) ⊗ var 1) ⊕ ((var 9) ⊗ (var 3 ⊖ var 1))))
     (var 8 ⊗ (((var 8 ⊖ var 9) ⊗ turned (place 2) (place 3) (place 0)) ⊕ (var 9 ⊗ turned (place 2) (place 3) (place 1))))
     refl
@@ -92,7 +92,7 @@ parted_of m t s a b p r low order high (behind x y some) =
     way_right
     (subst (λ (z : ℤ). z <ℤ pos 0) (sym (edge_turn m t a b p r)) (weighed_down m t (turn p r a) (turn p r b) low (omega (arith, linear)) x y some))
     (subst (λ (z : ℤ). z <ℤ pos 0) (sym (edge_turn m s a b p r)) (weighed_down m s (turn p r a) (turn p r b) (omega (arith, linear)) high x y some))
-parted_of m t s a b p r low order high (along x y u v) =
+parted_of m t s a b p r low order high (on_one_line x y u v) =
     one_line
     (way_turn m t s a b p ∙ between_none (s -ℤ t) m (turn a b p) x)
     (way_turn m t s a b r ∙ between_none (s -ℤ t) m (turn a b r) y)

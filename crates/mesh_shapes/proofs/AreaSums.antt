@@ -10,16 +10,16 @@ use Rattle.mesh_plane.specs.Bounds.{IsSmall}
 use Rattle.mesh_plane.specs.Plane.{Point}
 use Rattle.mesh_plane.specs.Winding.{total, route, boundary}
 use Rattle.mesh_plane.proofs.Whole.{linear}
-use Rattle.mesh_shapes.specs.Progress.{point_at}
+use Rattle.mesh_shapes.specs.Midway.Progress.{point_at}
 use Rattle.mesh_shapes.proofs.ContoursBegun.{at_place}
 
 -- a number below 2 ^ 127 in size
-pub record Held (z : ℤ) : Type 0 where
+pub record FitsLong (z : ℤ) : Type 0 where
   pub fits : SFits w128 z
   pub kept : to_z w128 (of_z w128 z) ≡ z
 
-pub held : (z : ℤ) (n : ℕ) → unsigned_abs z ≤ n → n < 2 ^ 127 → Held z
-held z n h m =
+pub fits_long : (z : ℤ) (n : ℕ) → unsigned_abs z ≤ n → n < 2 ^ 127 → FitsLong z
+fits_long z n h m =
     let f : SFits w128 z = omega (arith, ints) in
     record { fits = f; kept = to_z-of_z w128 z f }
 
@@ -74,8 +74,8 @@ pub record Added (a b : ℤ) (n : ℕ) : Type 0 where
 
 pub added_of : (a b : ℤ) (k m n : ℕ) → unsigned_abs a ≤ k → unsigned_abs b ≤ m → k + m ≤ n → m < 2 ^ 127 → n < 2 ^ 127 → Added a b n
 added_of a b k m n ha hb le mm mn =
-    let own = held b m hb mm in
-    let sum = held (a +ℤ b) (k + m) (sum_size a b k m ha hb) (omega arith) in
+    let own = fits_long b m hb mm in
+    let sum = fits_long (a +ℤ b) (k + m) (sum_size a b k m ha hb) (omega arith) in
     let same : added a b ≡ a +ℤ b = ap (λ (z : ℤ). to_z w128 (of_z w128 (a +ℤ z))) own.kept ∙ sum.kept in
     record {
       fits = subst (λ (z : ℤ). SFits w128 (a +ℤ z)) (sym own.kept) sum.fits;

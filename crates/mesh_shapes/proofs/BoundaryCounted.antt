@@ -12,7 +12,7 @@ use Rattle.mesh_cuts.specs.Clean.{IsProper}
 use Rattle.mesh_cuts.specs.Split.{back, same_edge, same_ends, occurs}
 use Rattle.mesh_cuts.specs.Counted.{Counted, bit, along, net, counted_net, times, IsCountOf}
 use Rattle.mesh_cuts.specs.Boundary.{count, IsBoundary, middle, rises, winding_beside, left_winding, right_winding}
-use Rattle.mesh_shapes.specs.CountedSides.{counted_winding, sides_by, sides_of, is_parted, boundary_edge}
+use Rattle.mesh_shapes.specs.Midway.CountedSides.{counted_winding, sides_by, sides_of, is_parted, boundary_edge}
 use Rattle.mesh_cuts.proofs.Ends.{decides_edge, decides_ends, ends_self, along_self, not_along}
 use Rattle.mesh_cuts.proofs.Counts.{times_least, absent_net}
 use Rattle.mesh_cuts.proofs.Each.{Each, each_more}

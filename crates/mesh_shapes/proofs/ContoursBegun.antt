@@ -1,5 +1,5 @@
 -- Lemmas over points and lists: where a contour begins, and the next vertices of the visits of its least point.
-use Rattle.std.proofs.Common.{◌≡◌, ℕ, ◌+◌, ◌<◌, ◌≤◌, ◌⊎◌, inl, inr, ⊎_elim, zero, suc, Bool, true, false, cond, not, ◌||◌, ◌&&◌, List, [], ◌∷◌, ◌++◌, length, drop, take, append-nil, below_more, refl, sym, ◌∙◌, ap, subst, arith}
+use Rattle.std.proofs.Common.{◌≡◌, ℕ, ◌+◌, ◌<◌, ◌⊎◌, inl, inr, ⊎_elim, zero, suc, Bool, true, false, cond, not, ◌||◌, ◌&&◌, List, [], ◌∷◌, ◌++◌, length, drop, take, append-nil, below_more, refl, sym, ◌∙◌, ap, subst, arith}
 use Rattle.std.specs.Prelude.{ℤ, pos, neg_ℤ, ◌+ℤ◌, ◌-ℤ◌, ◌*ℤ◌, ◌≤ℤ◌, ◌<ℤ◌, int_lt}
 use Rattle.std.specs.Ordering.{int_eq}
 use Rattle.std.specs.List.{All}
@@ -15,22 +15,22 @@ use Rattle.mesh_plane.specs.Winding.{sum_of, route, boundary, same_point}
 use Rattle.mesh_plane.proofs.Whole.{linear, mul_both_neg, mul_neg_pos, pos_of_mul, neg_mul, square_nonneg}
 use Rattle.mesh_plane.proofs.Ring.{ring, var, ◌⊕◌, ◌⊖◌, ◌⊗◌}
 use Rattle.mesh_plane.proofs.ClosedLists.{boundary_rotated}
-use Rattle.mesh_shapes.specs.Contours.{is_corner, first_or, corners, kept, next_kept, vertices, edge_lt, FirstIsLeast, IsBegun, side_point, IsRingOf}
+use Rattle.mesh_shapes.specs.Contours.{turns_at, first_or, turning_points, kept, next_kept, vertices, edge_lt, FirstIsLeast, IsBegun, side_point, IsRingOf}
 use Rattle.mesh_cuts.specs.Counted.{bit}
-use Rattle.mesh_shapes.specs.Progress.{point_at, next_at, IsBestVisit, IsLeastBefore}
-use Rattle.mesh_cuts.proofs.Ends.{decides_point}
+use Rattle.mesh_shapes.specs.Midway.Progress.{point_at, next_at, IsBestVisit, IsLeastBefore}
 use Rattle.mesh_cuts.proofs.Each.{Each, each_more}
 use Rattle.mesh_shapes.proofs.ContoursKept.{Proper}
 use Rattle.mesh_shapes.proofs.Walking.{Before, before_of, of_before, not_before, three_ways, lt_self, from_after, before_trans, before_not_self}
+use Rattle.mesh_plane.proofs.Comparing.{decides_point}
 
--- ---- corners
-pub corner_yes : (a p n : Point) → (cross (minus p a) (minus p n) ≡ pos 0 → ⊥) → is_corner a p n ≡ true
+-- ---- turning points
+pub corner_yes : (a p n : Point) → (cross (minus p a) (minus p n) ≡ pos 0 → ⊥) → turns_at a p n ≡ true
 corner_yes a p n h =
     ap (λ (b : Bool). not b || int_lt (pos 0) (dot (minus p a) (minus p n)))
     (⊎_elim (λ (t : int_eq (cross (minus p a) (minus p n)) (pos 0) ≡ true). absurd (h ((Decides-int_eq (cross (minus p a) (minus p n)) (pos 0)).0 t)))
     (λ (f : int_eq (cross (minus p a) (minus p n)) (pos 0) ≡ false). f) (cases_Bool (int_eq (cross (minus p a) (minus p n)) (pos 0))))
 
-pub corner_flat : (a p n : Point) → cross (minus p a) (minus p n) ≡ pos 0 → is_corner a p n ≡ int_lt (pos 0) (dot (minus p a) (minus p n))
+pub corner_flat : (a p n : Point) → cross (minus p a) (minus p n) ≡ pos 0 → turns_at a p n ≡ int_lt (pos 0) (dot (minus p a) (minus p n))
 corner_flat a p n h = ap (λ (b : Bool). not b || int_lt (pos 0) (dot (minus p a) (minus p n))) ((Decides-int_eq (cross (minus p a) (minus p n)) (pos 0)).1 h)
 
 -- two vectors that both lead to lesser points, and lie on one line, look the same way
@@ -82,7 +82,7 @@ leads_less p q h differ =
     by (inr x) = inr (omega (arith, linear, x.0), omega (arith, linear, x.1))
 
 -- the least point is a corner
-pub least_corner : (a p n : Point) → point_lt a p ≡ false → point_lt n p ≡ false → (a ≡ p → ⊥) → (n ≡ p → ⊥) → is_corner a p n ≡ true
+pub least_corner : (a p n : Point) → point_lt a p ≡ false → point_lt n p ≡ false → (a ≡ p → ⊥) → (n ≡ p → ⊥) → turns_at a p n ≡ true
 least_corner a p n la ln da dn =
     by_cross (Decides-int_eq (cross (minus p a) (minus p n)) (pos 0)).0 (cases_Bool (int_eq (cross (minus p a) (minus p n)) (pos 0)))
   where
@@ -90,17 +90,11 @@ least_corner a p n la ln da dn =
     less_true x h = grind (arith, ints)
 
     by_cross : (int_eq (cross (minus p a) (minus p n)) (pos 0) ≡ true → cross (minus p a) (minus p n) ≡ pos 0) →
-        (int_eq (cross (minus p a) (minus p n)) (pos 0) ≡ true) ⊎ (int_eq (cross (minus p a) (minus p n)) (pos 0) ≡ false) → is_corner a p n ≡ true
+        (int_eq (cross (minus p a) (minus p n)) (pos 0) ≡ true) ⊎ (int_eq (cross (minus p a) (minus p n)) (pos 0) ≡ false) → turns_at a p n ≡ true
     by_cross f (inl t) =
         corner_flat a p n (f t)
         ∙ less_true (dot (minus p a) (minus p n)) (same_way (minus p a).0 (minus p a).1 (minus p n).0 (minus p n).1 (leads_less p a la da) (leads_less p n ln dn) (f t))
     by_cross f (inr t) = ap (λ (b : Bool). not b || int_lt (pos 0) (dot (minus p a) (minus p n))) t
-
--- ---- kept points, one at a time
-pub kept_step : (all : Bool) (a x : Point) (xs : List Point) (z : Point) →
-    kept all a (x ∷ xs) z ≡ cond (all || is_corner a x (first_or z xs)) (x ∷ kept all x xs z) (kept all x xs z)
-kept_step true a x xs z = refl
-kept_step false a x xs z = refl
 
 -- ---- a contour that comes by its least point `p` again
 abbrev last_by : Point → List Point → Point
@@ -112,16 +106,16 @@ first_append p [] ys = refl
 first_append p (x ∷ xs) ys = refl
 
 -- the next vertex is the same, whether the contour ends at the point or goes on from it
-pub next_same : (all : Bool) (p a : Point) (xs ys : List Point) → is_corner (last_by a xs) p (first_or p ys) ≡ true →
+pub next_same : (all : Bool) (p a : Point) (xs ys : List Point) → turns_at (last_by a xs) p (first_or p ys) ≡ true →
     next_kept all a (xs ++ p ∷ ys) p ≡ next_kept all a xs p
 next_same true p a xs ys h = first_append p xs ys
-next_same false p a [] ys h = ap (λ (b : Bool). first_or p (cond b (p ∷ corners p ys p) (corners p ys p))) h
+next_same false p a [] ys h = ap (λ (b : Bool). first_or p (cond b (p ∷ turning_points p ys p) (turning_points p ys p))) h
 next_same false p a (x ∷ xs) ys h =
-    ap (λ (n : Point). first_or p (cond (is_corner a x n) (x ∷ corners x (xs ++ p ∷ ys) p) (corners x (xs ++ p ∷ ys) p))) (first_append p xs ys)
-    ∙ by (is_corner a x (first_or p xs)) (next_same false p x xs ys h)
+    ap (λ (n : Point). first_or p (cond (turns_at a x n) (x ∷ turning_points x (xs ++ p ∷ ys) p) (turning_points x (xs ++ p ∷ ys) p))) (first_append p xs ys)
+    ∙ by (turns_at a x (first_or p xs)) (next_same false p x xs ys h)
   where
-    by : (b : Bool) → first_or p (corners x (xs ++ p ∷ ys) p) ≡ first_or p (corners x xs p) →
-        first_or p (cond b (x ∷ corners x (xs ++ p ∷ ys) p) (corners x (xs ++ p ∷ ys) p)) ≡ first_or p (cond b (x ∷ corners x xs p) (corners x xs p))
+    by : (b : Bool) → first_or p (turning_points x (xs ++ p ∷ ys) p) ≡ first_or p (turning_points x xs p) →
+        first_or p (cond b (x ∷ turning_points x (xs ++ p ∷ ys) p) (turning_points x (xs ++ p ∷ ys) p)) ≡ first_or p (cond b (x ∷ turning_points x xs p) (turning_points x xs p))
     by true f = refl
     by false f = f
 
@@ -133,10 +127,6 @@ VisitsLeast all p m (y ∷ ys) = (y ≡ p → point_lt (next_kept all y ys p) m 
 -- the points are not less than `p`
 abbrev NoneLess : Point → List Point → Type 0
 NoneLess p xs = Each (λ (q : Point). point_lt q p ≡ false) xs
-
-none_less_append : (p : Point) (xs ys : List Point) → NoneLess p (xs ++ ys) → NoneLess p xs × NoneLess p ys
-none_less_append p [] ys h = (tt, h)
-none_less_append p (x ∷ xs) ys h = let r = none_less_append p xs ys h.1 in ((h.0, r.0), r.1)
 
 first_less : (p : Point) (ys : List Point) → NoneLess p ys → point_lt (first_or p ys) p ≡ false
 first_less p [] h = lt_self p
@@ -158,7 +148,7 @@ proper_first a (x ∷ xs) p ys z h = proper_first x xs p ys z h.1
 
 -- the least point within a contour is a corner of it
 inner_corner : (p a : Point) (xs ys : List Point) → point_lt a p ≡ false → NoneLess p xs → NoneLess p ys → Each Proper (route a (xs ++ p ∷ ys) p) →
-    is_corner (last_by a xs) p (first_or p ys) ≡ true
+    turns_at (last_by a xs) p (first_or p ys) ≡ true
 inner_corner p a xs ys ha hx hy proper =
     least_corner (last_by a xs) p (first_or p ys) (last_less p a xs ha hx) (first_less p ys hy) (proper_last a xs p ys p proper)
     (λ (e : first_or p ys ≡ p). proper_first a xs p ys p proper (sym e))
@@ -198,11 +188,11 @@ kept_edges : (all : Bool) (p m k a : Point) (xs : List Point) → point_lt k p �
 kept_edges true p m k a [] lk hk hx v = (not_less_edge p m k p lk hk, tt)
 kept_edges true p m k a (x ∷ xs) lk hk hx v = (not_less_edge p m k x lk hk, kept_edges true p m x x xs hx.0 v.0 hx.1 v.1)
 kept_edges false p m k a [] lk hk hx v = (not_less_edge p m k p lk hk, tt)
-kept_edges false p m k a (x ∷ xs) lk hk hx v = by (is_corner a x (first_or p xs)) hk (kept_edges false p m x x xs hx.0 v.0 hx.1 v.1) (λ (h : k ≡ p → point_lt (first_or p (corners x xs p)) m ≡ false). kept_edges false p m k x xs lk h hx.1 v.1)
+kept_edges false p m k a (x ∷ xs) lk hk hx v = by (turns_at a x (first_or p xs)) hk (kept_edges false p m x x xs hx.0 v.0 hx.1 v.1) (λ (h : k ≡ p → point_lt (first_or p (turning_points x xs p)) m ≡ false). kept_edges false p m k x xs lk h hx.1 v.1)
   where
-    by : (b : Bool) → (k ≡ p → point_lt (first_or p (cond b (x ∷ corners x xs p) (corners x xs p))) m ≡ false) → Each (NotLess p m) (route x (corners x xs p) p) →
-        ((k ≡ p → point_lt (first_or p (corners x xs p)) m ≡ false) → Each (NotLess p m) (route k (corners x xs p) p)) →
-        Each (NotLess p m) (route k (cond b (x ∷ corners x xs p) (corners x xs p)) p)
+    by : (b : Bool) → (k ≡ p → point_lt (first_or p (cond b (x ∷ turning_points x xs p) (turning_points x xs p))) m ≡ false) → Each (NotLess p m) (route x (turning_points x xs p) p) →
+        ((k ≡ p → point_lt (first_or p (turning_points x xs p)) m ≡ false) → Each (NotLess p m) (route k (turning_points x xs p) p)) →
+        Each (NotLess p m) (route k (cond b (x ∷ turning_points x xs p) (turning_points x xs p)) p)
     by true h own further = (not_less_edge p m k x lk h, own)
     by false h own further = further h
 
@@ -412,34 +402,6 @@ ring_made all given c₀ c₁ vs side j i proper least first best second v s = r
 -- ---- steps of the loops over a contour
 pub at_place : (c : List Point) (i : ℕ) → i < length c → drop i c ≡ point_at c i ∷ drop (i + 1) c
 at_place c i h = drop-cons c i (pos 0, pos 0) h ∙ (let e : suc i ≡ i + 1 = omega arith in ap (λ (n : ℕ). point_at c i ∷ drop n c) e)
-
-pub kept_place : (all : Bool) (before z : Point) (c : List Point) (i : ℕ) (b : Bool) → i < length c →
-    b ≡ (all || is_corner before (point_at c i) (first_or z (drop (i + 1) c))) →
-    kept all before (drop i c) z ≡ cond b (point_at c i ∷ kept all (point_at c i) (drop (i + 1) c) z) (kept all (point_at c i) (drop (i + 1) c) z)
-kept_place all before z c i b low h =
-    ap (λ (l : List Point). kept all before l z) (at_place c i low)
-    ∙ (kept_step all before (point_at c i) (drop (i + 1) c) z
-    ∙ ap (λ (x : Bool). cond x (point_at c i ∷ kept all (point_at c i) (drop (i + 1) c) z) (kept all (point_at c i) (drop (i + 1) c) z)) (sym h))
-
-pub least_init : (c : List Point) → 0 < length c → IsLeastBefore c 0 0
-least_init c h = record { within = h; none_less = λ (k : ℕ) (l : k < 0). absurd (omega arith) }
-
-pub visit_init : (all : Bool) (c : List Point) → 0 < length c → IsBestVisit all c 0 0
-visit_init all c h = record { within = h; visit = refl; least = λ (k : ℕ) (l : k < 0). absurd (omega arith) }
-
--- what is kept of no points
-pub kept_none : (all : Bool) (a z : Point) (c : List Point) (n : ℕ) → length c ≤ n → kept all a (drop n c) z ≡ []
-kept_none all a z c n h = ap (λ (l : List Point). kept all a l z) (drop_past c n h) ∙ by all
-  where
-    drop_past : (c : List Point) (n : ℕ) → length c ≤ n → drop n c ≡ []
-    drop_past [] zero h = refl
-    drop_past [] (suc n) h = refl
-    drop_past (x ∷ c) zero h = absurd (omega arith)
-    drop_past (x ∷ c) (suc n) h = drop_past c n (omega arith)
-
-    by : (b : Bool) → kept b a [] z ≡ []
-    by true = refl
-    by false = refl
 
 -- a better visit, or none
 pub visit_same : (all : Bool) (c : List Point) (i best : ℕ) → IsBestVisit all c i best → (point_at c i ≡ point_at c 0 → point_lt (next_at all c i) (next_at all c best) ≡ false) →

@@ -10,28 +10,25 @@ use Rattle.mesh_plane.proofs.Whole.{linear}
 use Rattle.mesh_plane.proofs.Ring.{ring, lit, neg}
 use Rattle.mesh_plane.proofs.Crossings.{turn_swap, turn_cycle}
 use Rattle.mesh_plane.proofs.Triangles.{crossing_on_straight}
-use Rattle.mesh_shapes.specs.Contours.{is_corner, first_or, corners, vertices}
+use Rattle.mesh_shapes.specs.Contours.{turns_at, first_or, turning_points, vertices}
 use Rattle.mesh_plane.proofs.Places.{place, coordinates, turned, crossed, apart}
 use Rattle.mesh_cuts.proofs.Each.{Each}
 use Rattle.mesh_plane.proofs.LineTurns.{line_turn}
+use Rattle.std.proofs.lemmas.Bool.{not-false}
 
 -- the two ends of an edge differ
 abbrev pub Proper : Edge → Type 0
 Proper e = e.0 ≡ e.1 → ⊥
 
 -- at a point that is no corner the way runs on a line
-pub straight_turn : (a p n : Point) → is_corner a p n ≡ false → turn a p n ≡ pos 0
+pub straight_turn : (a p n : Point) → turns_at a p n ≡ false → turn a p n ≡ pos 0
 straight_turn a p n h =
     let flat : cross (minus p a) (minus p n) ≡ pos 0 =
     (Decides-int_eq (cross (minus p a) (minus p n)) (pos 0)).0
-    (not_false (int_eq (cross (minus p a) (minus p n)) (pos 0)) (or_parts (not (int_eq (cross (minus p a) (minus p n)) (pos 0))) (int_lt (pos 0) (dot (minus p a) (minus p n))) h).0) in
+    (not-false (int_eq (cross (minus p a) (minus p n)) (pos 0)) (or_parts (not (int_eq (cross (minus p a) (minus p n)) (pos 0))) (int_lt (pos 0) (dot (minus p a) (minus p n))) h).0) in
     let same : turn a p n ≡ neg_ℤ (cross (minus p a) (minus p n)) =
     ring (coordinates (a ∷ p ∷ n ∷ []) []) (turned (place 0) (place 1) (place 2)) (neg (crossed (apart (place 1) (place 0)) (apart (place 1) (place 2)))) refl in
     omega (arith, linear, same, flat)
-  where
-    not_false : (b : Bool) → not b ≡ false → b ≡ true
-    not_false true h = refl
-    not_false false h = sym h
 
 -- `k` is `a`, or on a line with `a` and the next point
 abbrev Onward : Point → Point → Point → Type 0
@@ -58,15 +55,15 @@ module _ (f : Point → Point → ℤ) (straight : IsStraight f) where
   onward_sum k a n (inr e) = straight k a n e
 
   corner_sum : (k a : Point) (xs : List Point) (z : Point) → Each Proper (route a xs z) → Onward k a (first_or z xs) →
-      f k a +ℤ total f (route a xs z) ≡ total f (route k (corners a xs z) z)
+      f k a +ℤ total f (route a xs z) ≡ total f (route k (turning_points a xs z) z)
   corner_sum k a [] z proper on = omega (arith, linear, onward_sum k a z on)
   corner_sum k a (x ∷ xs) z proper on =
-      by (is_corner a x (first_or z xs)) refl (corner_sum x x xs z) (corner_sum k x xs z)
+      by (turns_at a x (first_or z xs)) refl (corner_sum x x xs z) (corner_sum k x xs z)
     where
-      by : (b : Bool) → is_corner a x (first_or z xs) ≡ b →
-          (Each Proper (route x xs z) → Onward x x (first_or z xs) → f x x +ℤ total f (route x xs z) ≡ total f (route x (corners x xs z) z)) →
-          (Each Proper (route x xs z) → Onward k x (first_or z xs) → f k x +ℤ total f (route x xs z) ≡ total f (route k (corners x xs z) z)) →
-          f k a +ℤ (f a x +ℤ total f (route x xs z)) ≡ total f (route k (cond b (x ∷ corners x xs z) (corners x xs z)) z)
+      by : (b : Bool) → turns_at a x (first_or z xs) ≡ b →
+          (Each Proper (route x xs z) → Onward x x (first_or z xs) → f x x +ℤ total f (route x xs z) ≡ total f (route x (turning_points x xs z) z)) →
+          (Each Proper (route x xs z) → Onward k x (first_or z xs) → f k x +ℤ total f (route x xs z) ≡ total f (route k (turning_points x xs z) z)) →
+          f k a +ℤ (f a x +ℤ total f (route x xs z)) ≡ total f (route k (cond b (x ∷ turning_points x xs z) (turning_points x xs z)) z)
       by true h own further = omega (arith, linear, onward_sum k a x on, own proper.1 (inl refl), none x)
       by false h own further =
           let next : turn k x (first_or z xs) ≡ pos 0 = onward_step k a x (first_or z xs) proper.0 on (straight_turn a x (first_or z xs) h) in

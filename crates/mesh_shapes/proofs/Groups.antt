@@ -1,23 +1,23 @@
 -- Lemmas over points and lists: rings in order, and where each of them belongs.
-use Rattle.std.proofs.Common.{◌≡◌, ℕ, ◌+◌, ◌<◌, ◌≤◌, ⊎_elim, zero, suc, Bool, true, false, cond, not, ◌||◌, ◌&&◌, List, [], ◌∷◌, map, length, drop, get_or, below_more, refl, sym, ◌∙◌, ap, subst, arith}
+use Rattle.std.proofs.Common.{◌≡◌, ℕ, ◌+◌, ◌<◌, ◌≤◌, ⊎_elim, zero, suc, Bool, true, false, not, ◌||◌, ◌&&◌, List, [], ◌∷◌, map, length, get_or, below_more, refl, sym, ◌∙◌, ap, subst, arith}
 use Rattle.std.specs.Prelude.{ℤ, pos, ◌≤ℤ◌, ◌<ℤ◌, int_lt, nat_eq, Option, Some, None, MatchOption}
-use Rattle.std.specs.Ordering.{int_eq, int_cmp, ordering_then, is_lt, is_eq}
+use Rattle.std.specs.Ordering.{int_eq, int_cmp, ordering_then, is_lt}
 use Rattle.std.specs.declared.cmp.Ordering.{Ordering}
-use Rattle.std.specs.declared.cmp.Ordering.TheVariants.{Less, Equal, Greater}
 use Rattle.std.specs.Cmp.Lexicographic.{slice_cmp}
 use Rattle.std.specs.List.{list_any, enumerate_from}
 use Rattle.std.specs.List.Sorted.{IsSorted, IsSortedBy}
 use Rattle.std.proofs.lemmas.Int.{ints, by_lt_z}
 use Rattle.std.proofs.lemmas.Bool.{cases_Bool, both_ways, and_parts, or_from, eqb-true, eq-eqb}
 use Rattle.std.proofs.lemmas.Bool.Decides.{Decides-int_eq}
-use Rattle.std.proofs.Math.Seq.{drop-cons}
 use Rattle.mesh_plane.specs.Plane.{Point}
 use Rattle.mesh_plane.specs.Order.{point_lt}
 use Rattle.mesh_plane.specs.Winding.{holds}
 use Rattle.mesh_shapes.specs.Contours.{double_area}
-use Rattle.mesh_shapes.specs.Progress.{NoneRound, IsHolder}
+use Rattle.mesh_shapes.specs.Midway.Progress.{NoneRound, IsHolder}
 use Rattle.mesh_shapes.specs.Resolution.{Ring, Placed, points_lt, is_positive, is_round, is_before, is_head, stands_with}
-use Rattle.mesh_shapes.specs.Grouping.{Held, view, views, ring_at, placed, areas_of, is_round_at, IsHome, heads, stands}
+use Rattle.mesh_shapes.specs.Vectors.{HeldRing, ring_held, rings_held}
+use Rattle.mesh_shapes.specs.Midway.Grouping.{ring_at, placed, areas_of, is_round_at, IsHome, heads, stands}
+use Rattle.mesh_plane.proofs.Comparing.{less_test, not_less_test, test_less, test_not_less, point_cmp, cmp_lt, then_lt, then_eq, first_not_less}
 
 -- ---- what stands at a place
 get_map : {A B : Type 0} (f : A → B) (xs : List A) (i : ℕ) (d : A) (e : B) → i < length xs → get_or (map f xs) i e ≡ f (get_or xs i d)
@@ -29,23 +29,11 @@ pub length_map : {A B : Type 0} (f : A → B) (xs : List A) → length (map f xs
 length_map f [] = refl
 length_map f (x ∷ xs) = ap suc (length_map f xs)
 
-pub view_at : (rs : List Held) (i : ℕ) (r : Held) (d : Ring) → i < length rs → get_or (views rs) i d ≡ view (get_or rs i r)
-view_at rs i r d low = get_map view rs i r d low
+pub view_at : (rs : List HeldRing) (i : ℕ) (r : HeldRing) (d : Ring) → i < length rs → get_or (rings_held rs) i d ≡ ring_held (get_or rs i r)
+view_at rs i r d low = get_map ring_held rs i r d low
 
 pub area_at : (rs : List Ring) (areas : List ℤ) (i : ℕ) → areas ≡ areas_of rs → i < length rs → get_or areas i (pos 0) ≡ double_area (ring_at rs i).1.0
 area_at rs areas i e low = ap (λ (l : List ℤ). get_or l i (pos 0)) e ∙ get_map (λ (r : Ring). double_area r.0) rs i ([], (pos 0, pos 0)) (pos 0) low
-
-less_test : (a b : ℤ) → a <ℤ b → int_lt a b ≡ true
-less_test a b h = grind (arith, ints)
-
-not_less_test : (a b : ℤ) → b ≤ℤ a → int_lt a b ≡ false
-not_less_test a b h = grind (arith, ints)
-
-test_less : (a b : ℤ) → int_lt a b ≡ true → a <ℤ b
-test_less a b h = grind (arith, ints)
-
-test_not_less : (a b : ℤ) → int_lt a b ≡ false → b ≤ℤ a
-test_not_less a b h = grind (arith, ints)
 
 pub positive_at : (rs : List Ring) (areas : List ℤ) (i : ℕ) → areas ≡ areas_of rs → i < length rs → int_lt (pos 0) (get_or areas i (pos 0)) ≡ is_positive (ring_at rs i)
 positive_at rs areas i e low = ap (λ (z : ℤ). int_lt (pos 0) z) (area_at rs areas i e low)
@@ -273,49 +261,9 @@ head_test rs i b (heads t e) = t ∙ sym (eq-eqb b i e)
 head_test rs i b (stands f differ one) =
     f ∙ sym (⊎_elim (λ (s : nat_eq b i ≡ true). absurd (differ (eqb-true b i s))) (λ (s : nat_eq b i ≡ false). s) (cases_Bool (nat_eq b i)))
 
--- ---- rings one after the other
-pub place_next : (rs : List Ring) (i : ℕ) → i < length rs → enumerate_from i (drop i rs) ≡ ring_at rs i ∷ enumerate_from (i + 1) (drop (i + 1) rs)
-place_next rs i low =
-    ap (λ (l : List Ring). enumerate_from i l) (drop-cons rs i ([], (pos 0, pos 0)) low)
-    ∙ (let e : suc i ≡ i + 1 = omega arith in ap (λ (n : ℕ). ring_at rs i ∷ enumerate_from (i + 1) (drop n rs)) e)
-
-pub places_none : (rs : List Ring) (n : ℕ) → length rs ≤ n → enumerate_from n (drop n rs) ≡ []
-places_none rs n h = ap (λ (l : List Ring). enumerate_from n l) (past rs n h)
-  where
-    past : (l : List Ring) (n : ℕ) → length l ≤ n → drop n l ≡ []
-    past [] zero h = refl
-    past [] (suc n) h = refl
-    past (x ∷ l) zero h = absurd (omega arith)
-    past (x ∷ l) (suc n) h = past l n (omega arith)
-
-pub places_all : (rs : List Ring) → enumerate_from 0 (drop 0 rs) ≡ placed rs
-places_all [] = refl
-places_all (r ∷ rs) = refl
-
 -- ---- the order of rings
-abbrev pub point_cmp : Point → Point → Ordering
-point_cmp p q = ordering_then (int_cmp p.0 q.0) (int_cmp p.1 q.1)
-
-abbrev pub held_cmp : Held → Held → Ordering
+abbrev pub held_cmp : HeldRing → HeldRing → Ordering
 held_cmp x y = ordering_then (slice_cmp point_cmp x.0.items y.0.items) (point_cmp x.1 y.1)
-
-then_lt : (o p : Ordering) → is_lt (ordering_then o p) ≡ (is_lt o || (is_eq o && is_lt p))
-then_lt Less p = refl
-then_lt Equal p = refl
-then_lt Greater p = refl
-
-then_eq : (o p : Ordering) → is_eq (ordering_then o p) ≡ (is_eq o && is_eq p)
-then_eq Less p = refl
-then_eq Equal p = refl
-then_eq Greater p = refl
-
-cmp_lt : (a b : ℤ) → is_lt (int_cmp a b) ≡ int_lt a b
-cmp_lt a b = by (int_lt a b) (int_lt b a)
-  where
-    by : (x y : Bool) → is_lt (cond x Less (cond y Greater Equal)) ≡ x
-    by true y = refl
-    by false true = refl
-    by false false = refl
 
 point_cmp_lt : (p q : Point) → is_lt (point_cmp p q) ≡ point_lt p q
 point_cmp_lt p q = then_lt (int_cmp p.0 q.0) (int_cmp p.1 q.1) ∙ (λ i. cmp_lt p.0 q.0 i || (int_eq p.0 q.0 && cmp_lt p.1 q.1 i))
@@ -328,19 +276,14 @@ slice_lt (p ∷ ps) (q ∷ qs) =
     then_lt (point_cmp p q) (slice_cmp point_cmp ps qs)
     ∙ (λ i. point_cmp_lt p q i || (then_eq (int_cmp p.0 q.0) (int_cmp p.1 q.1) i && slice_lt ps qs i))
 
-held_lt : (x y : Held) → is_lt (held_cmp x y) ≡ false → points_lt x.0.items y.0.items ≡ false
+held_lt : (x y : HeldRing) → is_lt (held_cmp x y) ≡ false → points_lt x.0.items y.0.items ≡ false
 held_lt x y h =
-    sym (slice_lt x.0.items y.0.items) ∙ first (slice_cmp point_cmp x.0.items y.0.items) (point_cmp x.1 y.1) h
-  where
-    first : (o p : Ordering) → is_lt (ordering_then o p) ≡ false → is_lt o ≡ false
-    first Less p h = h
-    first Equal p h = refl
-    first Greater p h = refl
+    sym (slice_lt x.0.items y.0.items) ∙ first_not_less (slice_cmp point_cmp x.0.items y.0.items) (point_cmp x.1 y.1) h
 
-pub sorted_views : (rs : List Held) → IsSorted held_cmp rs → IsSortedBy (λ (r s : Ring). points_lt r.0 s.0) (views rs)
+pub sorted_views : (rs : List HeldRing) → IsSorted held_cmp rs → IsSortedBy (λ (r s : Ring). points_lt r.0 s.0) (rings_held rs)
 sorted_views [] h k d le low = absurd (omega arith)
 sorted_views (x ∷ rs) h k d le low =
-    let n : k + 1 < length (x ∷ rs) = omega (arith, length_map view (x ∷ rs)) in
+    let n : k + 1 < length (x ∷ rs) = omega (arith, length_map ring_held (x ∷ rs)) in
     let a : k < length (x ∷ rs) = omega arith in
-    (λ i. points_lt (get_map view (x ∷ rs) (k + 1) x d n i).0 (get_map view (x ∷ rs) k x d a i).0)
+    (λ i. points_lt (get_map ring_held (x ∷ rs) (k + 1) x d n i).0 (get_map ring_held (x ∷ rs) k x d a i).0)
     ∙ held_lt (get_or (x ∷ rs) (k + 1) x) (get_or (x ∷ rs) k x) (h k x le n)

@@ -11,8 +11,8 @@ use Rattle.mesh_cuts.specs.declared.places.Mark.{Mark}
 use Rattle.mesh_cuts.specs.Counted.{Counted, size}
 use Rattle.mesh_cuts.specs.Marks.{place, AreRising, IsPutTo}
 use Rattle.mesh_cuts.proofs.PlacesAmong.{place_most, lesser_place}
-use Rattle.mesh_shapes.specs.CountedSides.{counted_winding}
-use Rattle.mesh_shapes.specs.Rows.{AreRows}
+use Rattle.mesh_shapes.specs.Midway.CountedSides.{counted_winding}
+use Rattle.mesh_shapes.specs.Midway.Rows.{AreRows}
 use Rattle.mesh_shapes.proofs.SidesCode.{sum_more, size_least}
 
 test_le : (a b : ℤ) → b <ℤ a → int_le a b ≡ false

@@ -1,18 +1,19 @@
 -- Lemmas over lists: how shapes come about, ring by ring.
 use Rattle.std.proofs.Common.{zero, suc, ◌≡◌, ℕ, ◌+◌, ◌<◌, ◌≤◌, Bool, true, false, cond, not, ◌&&◌, List, [], ◌∷◌, ◌++◌, map, length, drop, get_or, below_more, refl, sym, ◌∙◌, ap, subst, arith, append_assoc}
 use Rattle.std.specs.Prelude.{ℤ, pos, int_lt, nat_eq, Option, Some, None, MatchOption, Vec}
-use Rattle.std.specs.Option.{ForSome}
 use Rattle.std.specs.List.{All, filter, enumerate_from}
+use Rattle.std.proofs.Math.Seq.{drop-cons}
 use Rattle.std.proofs.lemmas.List.Elements.{All-nil, All-push}
 use Rattle.std.specs.declared.alloc.Global.{Global}
 use Rattle.std.proofs.lemmas.Bool.{both_ways, eqb-true, eq-eqb}
 use Rattle.std.proofs.lemmas.List.{append-nil, map-append, length-append}
 use Rattle.mesh_plane.specs.Plane.{Point}
 use Rattle.mesh_plane.specs.Winding.{holds}
-use Rattle.mesh_shapes.specs.Progress.{NoneRound, IsHolder}
-use Rattle.mesh_shapes.specs.Resolution.{Ring, Placed, is_head, shape_of, shapes_of, answered}
-use Rattle.mesh_shapes.specs.Grouping.{Held, view, views, ring_at, placed, areas_of, is_round_at, IsHome, points_of, contours_at, AreMembers, IsPutHome}
-use Rattle.mesh_shapes.proofs.Groups.{length_map, view_at, area_at, positive_at, holder_no_less, holder_first, holder_less, home_alone, home_held, is_member, member_test, head_test, place_next, places_none, places_all}
+use Rattle.mesh_shapes.specs.Midway.Progress.{NoneRound, IsHolder}
+use Rattle.mesh_shapes.specs.Resolution.{Ring, Placed, is_head, shape_of, rings_by_shape, answered}
+use Rattle.mesh_shapes.specs.Vectors.{HeldRing, ring_held, rings_held, points_of}
+use Rattle.mesh_shapes.specs.Midway.Grouping.{ring_at, placed, areas_of, is_round_at, IsHome, contours_at, AreMembers, IsPutHome}
+use Rattle.mesh_shapes.proofs.Groups.{length_map, view_at, area_at, positive_at, holder_no_less, home_alone, home_held, is_member, member_test}
 
 -- ---- one more element of a filtered list
 pub filter_step : {A B C : Type 0} (g : B → C) (f : A → B) (p : A → Bool) (x : A) (rest : List A) (done : List C) (t : Bool) → p x ≡ t →
@@ -31,66 +32,16 @@ abbrev pub ShapeTo : List Ring → Bool → ℕ → ℕ → List (List Point) �
 ShapeTo rs cw h i done =
     done ++ lists_of cw (filter (is_member rs h) (enumerate_from i (drop i rs))) ≡ map (answered cw) (shape_of (placed rs) (ring_at rs h))
 
-pub shape_init : (rs : List Ring) (cw : Bool) (h : ℕ) (done : List (List Point)) → done ≡ answered cw (ring_at rs h).1 ∷ [] → ShapeTo rs cw h 0 done
-shape_init rs cw h done e =
-    (λ i. e i ++ lists_of cw (filter (is_member rs h) (places_all rs i)))
-
-pub shape_next : (rs : List Ring) (cw : Bool) (h i b : ℕ) (done new : List (List Point)) → IsHome rs i b → h < length rs → i < length rs → ShapeTo rs cw h i done →
-    new ≡ done ++ cond (nat_eq b h && not (nat_eq i h)) (answered cw (ring_at rs i).1 ∷ []) [] → ShapeTo rs cw h (i + 1) new
-shape_next rs cw h i b done new home lh li kept e =
-    ap (λ (l : List (List Point)). l ++ lists_of cw (filter (is_member rs h) (enumerate_from (i + 1) (drop (i + 1) rs)))) e
-    ∙ (sym (filter_step (answered cw) (λ (r : Placed). r.1) (is_member rs h) (ring_at rs i) (enumerate_from (i + 1) (drop (i + 1) rs)) done (nat_eq b h && not (nat_eq i h)) (member_test rs i b h home lh))
-    ∙ (ap (λ (l : List Placed). done ++ lists_of cw (filter (is_member rs h) l)) (sym (place_next rs i li)) ∙ kept))
-
-pub shape_end : (rs : List Ring) (cw : Bool) (h i : ℕ) (done : List (List Point)) → length rs ≤ i → ShapeTo rs cw h i done → done ≡ map (answered cw) (shape_of (placed rs) (ring_at rs h))
-shape_end rs cw h i done l kept =
-    sym (append-nil done) ∙ (ap (λ (r : List Placed). done ++ lists_of cw (filter (is_member rs h) r)) (sym (places_none rs i l)) ∙ kept)
-
 -- what is left to add to the shapes, from place `h` on
 abbrev pub ShapesTo : List Ring → Bool → ℕ → List (List (List Point)) → Type 0
 ShapesTo rs cw h done =
-    done ++ map (map (answered cw)) (map (shape_of (placed rs)) (filter (is_head (placed rs)) (enumerate_from h (drop h rs)))) ≡ map (map (answered cw)) (shapes_of (placed rs))
-
-pub shapes_init : (rs : List Ring) (cw : Bool) → ShapesTo rs cw 0 []
-shapes_init rs cw i = map (map (answered cw)) (map (shape_of (placed rs)) (filter (is_head (placed rs)) (places_all rs i)))
-
-pub shapes_next : (rs : List Ring) (cw : Bool) (h : ℕ) (done new : List (List (List Point))) → h < length rs → ShapesTo rs cw h done →
-    new ≡ done ++ cond (is_head (placed rs) (ring_at rs h)) (map (answered cw) (shape_of (placed rs) (ring_at rs h)) ∷ []) [] → ShapesTo rs cw (h + 1) new
-shapes_next rs cw h done new lh kept e =
-    ap (λ (l : List (List (List Point))). l ++ map (map (answered cw)) (map (shape_of (placed rs)) (filter (is_head (placed rs)) (enumerate_from (h + 1) (drop (h + 1) rs))))) e
-    ∙ (sym (filter_step (map (answered cw)) (shape_of (placed rs)) (is_head (placed rs)) (ring_at rs h) (enumerate_from (h + 1) (drop (h + 1) rs)) done (is_head (placed rs) (ring_at rs h)) refl)
-    ∙ (ap (λ (l : List Placed). done ++ map (map (answered cw)) (map (shape_of (placed rs)) (filter (is_head (placed rs)) l))) (sym (place_next rs h lh)) ∙ kept))
-
-pub shapes_end : (rs : List Ring) (cw : Bool) (h : ℕ) (done : List (List (List Point))) → length rs ≤ h → ShapesTo rs cw h done → done ≡ map (map (answered cw)) (shapes_of (placed rs))
-shapes_end rs cw h done l kept =
-    sym (append-nil done) ∙ (ap (λ (r : List Placed). done ++ map (map (answered cw)) (map (shape_of (placed rs)) (filter (is_head (placed rs)) r))) (sym (places_none rs h l)) ∙ kept)
-
--- a shape is pushed where its ring heads one
-pub pushed_head : (rs : List Ring) (cw : Bool) (h b : ℕ) (done new : List (List (List Point))) → IsHome rs h b → nat_eq b h ≡ true →
-    new ≡ done ++ (map (answered cw) (shape_of (placed rs) (ring_at rs h)) ∷ []) →
-    new ≡ done ++ cond (is_head (placed rs) (ring_at rs h)) (map (answered cw) (shape_of (placed rs) (ring_at rs h)) ∷ []) []
-pushed_head rs cw h b done new home t e =
-    e ∙ sym (λ i. done ++ cond ((head_test rs h b home ∙ t) i) (map (answered cw) (shape_of (placed rs) (ring_at rs h)) ∷ []) [])
-
-pub pushed_none : (rs : List Ring) (cw : Bool) (h b : ℕ) (done : List (List (List Point))) → IsHome rs h b → nat_eq b h ≡ false →
-    done ≡ done ++ cond (is_head (placed rs) (ring_at rs h)) (map (answered cw) (shape_of (placed rs) (ring_at rs h)) ∷ []) []
-pushed_none rs cw h b done home f =
-    sym (append-nil done) ∙ sym (λ i. done ++ cond ((head_test rs h b home ∙ f) i) (map (answered cw) (shape_of (placed rs) (ring_at rs h)) ∷ []) [])
+    done ++ map (map (answered cw)) (map (shape_of (placed rs)) (filter (is_head (placed rs)) (enumerate_from h (drop h rs)))) ≡ map (map (answered cw)) (rings_by_shape (placed rs))
 
 -- ---- whether a ring is round a point
-pub round_at : (rs : List Held) (areas : List ℤ) (h : ℕ) (q : Point) (r : Held) (x : Bool) → areas ≡ areas_of (views rs) → h < length (views rs) → h < length rs →
-    int_lt (pos 0) (get_or areas h (pos 0)) ≡ true → x ≡ holds 2 q (get_or rs h r).0.items → x ≡ is_round_at (views rs) h q
+pub round_at : (rs : List HeldRing) (areas : List ℤ) (h : ℕ) (q : Point) (r : HeldRing) (x : Bool) → areas ≡ areas_of (rings_held rs) → h < length (rings_held rs) → h < length rs →
+    int_lt (pos 0) (get_or areas h (pos 0)) ≡ true → x ≡ holds 2 q (get_or rs h r).0.items → x ≡ is_round_at (rings_held rs) h q
 round_at rs areas h q r x known lv low t e =
-    e ∙ sym (λ i. (sym (positive_at (views rs) areas h known lv) ∙ t) i && holds 2 q (view_at rs h r ([], (pos 0, pos 0)) low i).0)
-
-pub flat_at : (rs : List Held) (areas : List ℤ) (h : ℕ) (q : Point) → areas ≡ areas_of (views rs) → h < length (views rs) → int_lt (pos 0) (get_or areas h (pos 0)) ≡ false → false ≡ is_round_at (views rs) h q
-flat_at rs areas h q known lv f = sym (λ i. (sym (positive_at (views rs) areas h known lv) ∙ f) i && holds 2 q (ring_at (views rs) h).1.0)
-
--- the known holder stands before the place
-pub best_below : (rs : List Ring) (q : Point) (k n : ℕ) (best : Option ℕ) → k < n → MatchOption best (NoneRound rs k q) (IsHolder rs k q) → ForSome best (λ (b : ℕ). b < n)
-best_below rs q k n best l h b e =
-    let holder : IsHolder rs k q b = subst (λ (o : Option ℕ). MatchOption o (NoneRound rs k q) (IsHolder rs k q)) e h in
-    omega (arith, holder.within)
+    e ∙ sym (λ i. (sym (positive_at (rings_held rs) areas h known lv) ∙ t) i && holds 2 q (view_at rs h r ([], (pos 0, pos 0)) low i).0)
 
 -- where the ring is not less than the known holder, that stays
 pub not_less_kept : (rs : List Ring) (areas : List ℤ) (q : Point) (k : ℕ) (best : Option ℕ) (less : Bool) → areas ≡ areas_of rs → k < length rs →
@@ -100,27 +51,19 @@ not_less_kept rs areas q k None less known low h t f = absurd (both_ways less f 
 not_less_kept rs areas q k (Some b) less known low h t f =
     holder_no_less rs q k b h ((λ i. int_lt (sym (area_at rs areas k known low) i) (sym (area_at rs areas b known (omega (arith, h.within))) i)) ∙ (sym t ∙ f))
 
--- a ring of more than no area is itself a holder: a better one
-pub better_some : (rs : List Ring) (areas : List ℤ) (q : Point) (k : ℕ) (best : Option ℕ) (less : Bool) → areas ≡ areas_of rs → k < length rs →
-    MatchOption best (NoneRound rs k q) (IsHolder rs k q) → MatchOption best (less ≡ true) (λ (b : ℕ). less ≡ int_lt (get_or areas k (pos 0)) (get_or areas b (pos 0))) → less ≡ true →
-    is_round_at rs k q ≡ true → IsHolder rs (k + 1) q k
-better_some rs areas q k None less known low h t f r = holder_first rs q k h r
-better_some rs areas q k (Some b) less known low h t f r =
-    holder_less rs q k b h r ((λ i. int_lt (sym (area_at rs areas k known low) i) (sym (area_at rs areas b known (omega (arith, h.within))) i)) ∙ (sym t ∙ f))
-
 -- the place of a ring that no ring is round, and of one that a ring is round
-pub home_none : (rs : List Held) (i : ℕ) (r : Held) → i < length rs → NoneRound (views rs) (length rs) (get_or rs i r).1 → IsHome (views rs) i i
+pub home_none : (rs : List HeldRing) (i : ℕ) (r : HeldRing) → i < length rs → NoneRound (rings_held rs) (length rs) (get_or rs i r).1 → IsHome (rings_held rs) i i
 home_none rs i r low h =
-    home_alone (views rs) i
-    (subst (λ (n : ℕ). NoneRound (views rs) n (ring_at (views rs) i).1.1) (sym (length_map view rs))
-    (subst (λ (q : Point). NoneRound (views rs) (length rs) q) (λ j. (sym (view_at rs i r ([], (pos 0, pos 0)) low) j).1) h))
+    home_alone (rings_held rs) i
+    (subst (λ (n : ℕ). NoneRound (rings_held rs) n (ring_at (rings_held rs) i).1.1) (sym (length_map ring_held rs))
+    (subst (λ (q : Point). NoneRound (rings_held rs) (length rs) q) (λ j. (sym (view_at rs i r ([], (pos 0, pos 0)) low) j).1) h))
 
-pub home_some : (rs : List Held) (areas : List ℤ) (i b : ℕ) (r : Held) → areas ≡ areas_of (views rs) → i < length rs → int_lt (pos 0) (get_or areas i (pos 0)) ≡ false →
-    IsHolder (views rs) (length rs) (get_or rs i r).1 b → IsHome (views rs) i b
+pub home_some : (rs : List HeldRing) (areas : List ℤ) (i b : ℕ) (r : HeldRing) → areas ≡ areas_of (rings_held rs) → i < length rs → int_lt (pos 0) (get_or areas i (pos 0)) ≡ false →
+    IsHolder (rings_held rs) (length rs) (get_or rs i r).1 b → IsHome (rings_held rs) i b
 home_some rs areas i b r known low flat h =
-    home_held (views rs) i b (sym (positive_at (views rs) areas i known (omega (arith, length_map view rs, low))) ∙ flat)
-    (subst (λ (n : ℕ). IsHolder (views rs) n (ring_at (views rs) i).1.1 b) (sym (length_map view rs))
-    (subst (λ (q : Point). IsHolder (views rs) (length rs) q b) (λ j. (sym (view_at rs i r ([], (pos 0, pos 0)) low) j).1) h))
+    home_held (rings_held rs) i b (sym (positive_at (rings_held rs) areas i known (omega (arith, length_map ring_held rs, low))) ∙ flat)
+    (subst (λ (n : ℕ). IsHolder (rings_held rs) n (ring_at (rings_held rs) i).1.1 b) (sym (length_map ring_held rs))
+    (subst (λ (q : Point). IsHolder (rings_held rs) (length rs) q b) (λ j. (sym (view_at rs i r ([], (pos 0, pos 0)) low) j).1) h))
 
 -- what holds of each place and the number that is known of it
 pub record KnownTo (P : ℕ → ℕ → Type 0) (i : ℕ) (known : List ℕ) : Type 0 where
@@ -148,6 +91,39 @@ known_more P i b old new len h here e = record {
     get_last (y ∷ xs) x (suc i) d e = get_last xs x i d (omega (arith, e))
 
 -- ---- the rings that stand with another
+
+pub place_next : (rs : List Ring) (i : ℕ) → i < length rs → enumerate_from i (drop i rs) ≡ ring_at rs i ∷ enumerate_from (i + 1) (drop (i + 1) rs)
+place_next rs i low =
+    ap (λ (l : List Ring). enumerate_from i l) (drop-cons rs i ([], (pos 0, pos 0)) low)
+    ∙ (let e : suc i ≡ i + 1 = omega arith in ap (λ (n : ℕ). ring_at rs i ∷ enumerate_from (i + 1) (drop n rs)) e)
+
+pub places_none : (rs : List Ring) (n : ℕ) → length rs ≤ n → enumerate_from n (drop n rs) ≡ []
+places_none rs n h = ap (λ (l : List Ring). enumerate_from n l) (past rs n h)
+  where
+    past : (l : List Ring) (n : ℕ) → length l ≤ n → drop n l ≡ []
+    past [] zero h = refl
+    past [] (suc n) h = refl
+    past (x ∷ l) zero h = absurd (omega arith)
+    past (x ∷ l) (suc n) h = past l n (omega arith)
+
+pub places_all : (rs : List Ring) → enumerate_from 0 (drop 0 rs) ≡ placed rs
+places_all [] = refl
+places_all (r ∷ rs) = refl
+
+pub shape_init : (rs : List Ring) (cw : Bool) (h : ℕ) (done : List (List Point)) → done ≡ answered cw (ring_at rs h).1 ∷ [] → ShapeTo rs cw h 0 done
+shape_init rs cw h done e =
+    (λ i. e i ++ lists_of cw (filter (is_member rs h) (places_all rs i)))
+
+pub shape_next : (rs : List Ring) (cw : Bool) (h i b : ℕ) (done new : List (List Point)) → IsHome rs i b → h < length rs → i < length rs → ShapeTo rs cw h i done →
+    new ≡ done ++ cond (nat_eq b h && not (nat_eq i h)) (answered cw (ring_at rs i).1 ∷ []) [] → ShapeTo rs cw h (i + 1) new
+shape_next rs cw h i b done new home lh li kept e =
+    ap (λ (l : List (List Point)). l ++ lists_of cw (filter (is_member rs h) (enumerate_from (i + 1) (drop (i + 1) rs)))) e
+    ∙ (sym (filter_step (answered cw) (λ (r : Placed). r.1) (is_member rs h) (ring_at rs i) (enumerate_from (i + 1) (drop (i + 1) rs)) done (nat_eq b h && not (nat_eq i h)) (member_test rs i b h home lh))
+    ∙ (ap (λ (l : List Placed). done ++ lists_of cw (filter (is_member rs h) l)) (sym (place_next rs i li)) ∙ kept))
+
+pub shape_end : (rs : List Ring) (cw : Bool) (h i : ℕ) (done : List (List Point)) → length rs ≤ i → ShapeTo rs cw h i done → done ≡ map (answered cw) (shape_of (placed rs) (ring_at rs h))
+shape_end rs cw h i done l kept =
+    sym (append-nil done) ∙ (ap (λ (r : List Placed). done ++ lists_of cw (filter (is_member rs h) r)) (sym (places_none rs i l)) ∙ kept)
 
 -- the places of the rings below `i` that stand with the ring at `h`
 pub record AreMembersTo (rs : List Ring) (i h : ℕ) (places : List ℕ) : Type 0 where
@@ -220,8 +196,8 @@ put_at_home lists i b same = record { len = refl; put = λ h d l. by h d (nat_eq
     by h d false p = sym (append-nil (get_or lists h d).items) ∙ (λ j. (get_or lists h d).items ++ cond (sym p j && not (nat_eq i h)) (i ∷ []) [])
 
 -- a ring's contour is added to a shape
-pub pushed_contour : (rs : List Held) (cw : Bool) (i : ℕ) (r : Held) (old : List (Vec Point Global)) (c : Vec Point Global) (new : List (Vec Point Global)) → i < length rs →
-    c.items ≡ answered cw (view (get_or rs i r)) → new ≡ old ++ (c ∷ []) → points_of new ≡ points_of old ++ (answered cw (ring_at (views rs) i).1 ∷ [])
+pub pushed_contour : (rs : List HeldRing) (cw : Bool) (i : ℕ) (r : HeldRing) (old : List (Vec Point Global)) (c : Vec Point Global) (new : List (Vec Point Global)) → i < length rs →
+    c.items ≡ answered cw (ring_held (get_or rs i r)) → new ≡ old ++ (c ∷ []) → points_of new ≡ points_of old ++ (answered cw (ring_at (rings_held rs) i).1 ∷ [])
 pushed_contour rs cw i r old c new low a e =
     ap points_of e
     ∙ (map-append (λ (v : Vec Point Global). v.items) old (c ∷ [])

@@ -3,9 +3,7 @@ use Rattle.std.proofs.Common.{◌≡◌, ℕ, ◌+◌, ◌-◌, ◌<◌, ◌≤�
 use Rattle.std.specs.Prelude.{ℤ, pos, ◌+ℤ◌, ◌-ℤ◌, ◌≤ℤ◌, ◌<ℤ◌, int_lt, Option, Some, None, MatchOption, Vec}
 use Rattle.std.specs.declared.alloc.Global.{Global}
 use Rattle.std.proofs.lemmas.List.{get_or_default}
-use Rattle.std.specs.Ordering.{int_eq, int_cmp, ordering_then, is_lt, is_eq}
-use Rattle.std.specs.declared.cmp.Ordering.{Ordering}
-use Rattle.std.specs.declared.cmp.Ordering.TheVariants.{Less, Equal, Greater}
+use Rattle.std.specs.Ordering.{int_eq, int_cmp, ordering_then, is_lt}
 use Rattle.std.specs.List.Sorted.{IsSorted}
 use Rattle.std.proofs.lemmas.Int.{ints, by_lt_z}
 use Rattle.std.proofs.lemmas.Bool.{cases_Bool, both_ways, or_cases, and_parts, false≢true}
@@ -21,39 +19,30 @@ use Rattle.mesh_plane.proofs.Balance.{growth, growth_round, growth_of_balanced, 
 use Rattle.mesh_cuts.specs.Split.{same_edge}
 use Rattle.mesh_cuts.specs.Boundary.{count}
 use Rattle.mesh_cuts.specs.Counted.{bit}
-use Rattle.mesh_shapes.specs.Unused.{unused, StartsInOrder, IsOpen, IsNext, TakesContours, HavePoints, contour_edges}
-use Rattle.mesh_cuts.proofs.Ends.{decides_point}
+use Rattle.mesh_shapes.specs.Midway.Unused.{unused, IsOpen, IsNext, TakesContours}
+use Rattle.mesh_shapes.specs.Vectors.{StartsInOrder, HavePoints, contour_edges}
 use Rattle.mesh_cuts.proofs.SidesBack.{count_more}
+use Rattle.mesh_plane.proofs.Comparing.{decides_point}
+use Rattle.mesh_plane.proofs.Comparing.{less_test, not_less_test, test_less, edge_cmp, cmp_lt, then_lt, first_not_less}
+use Rattle.std.specs.List.Sorted.{IsPartitionedBy}
 
 -- ---- the order of points
-lt_test : (a b : ℤ) → int_lt a b ≡ true → a <ℤ b
-lt_test a b h = grind (arith, ints)
-
-ge_test : (a b : ℤ) → int_lt a b ≡ false → b ≤ℤ a
-ge_test a b h = grind (arith, ints)
-
-test_lt : (a b : ℤ) → a <ℤ b → int_lt a b ≡ true
-test_lt a b h = grind (arith, ints)
-
-test_ge : (a b : ℤ) → b ≤ℤ a → int_lt a b ≡ false
-test_ge a b h = grind (arith, ints)
-
 -- before another in the order
 abbrev pub Before : Point → Point → Type 0
 Before p q = (p.0 <ℤ q.0) ⊎ ((p.0 ≡ q.0) × (p.1 <ℤ q.1))
 
 pub before_of : (p q : Point) → point_lt p q ≡ true → Before p q
 before_of p q h =
-    ⊎_elim (λ (x : int_lt p.0 q.0 ≡ true). inl (lt_test p.0 q.0 x))
+    ⊎_elim (λ (x : int_lt p.0 q.0 ≡ true). inl (test_less p.0 q.0 x))
     (λ (x : (int_eq p.0 q.0 && int_lt p.1 q.1) ≡ true).
     let parts = and_parts (int_eq p.0 q.0) (int_lt p.1 q.1) x in
-    inr ((Decides-int_eq p.0 q.0).0 parts.0, lt_test p.1 q.1 parts.1))
+    inr ((Decides-int_eq p.0 q.0).0 parts.0, test_less p.1 q.1 parts.1))
     (or_cases (int_lt p.0 q.0) (int_eq p.0 q.0 && int_lt p.1 q.1) h)
 
 pub of_before : (p q : Point) → Before p q → point_lt p q ≡ true
-of_before p q (inl h) = λ i. test_lt p.0 q.0 h i || (int_eq p.0 q.0 && int_lt p.1 q.1)
+of_before p q (inl h) = λ i. less_test p.0 q.0 h i || (int_eq p.0 q.0 && int_lt p.1 q.1)
 of_before p q (inr h) =
-    (λ i. test_ge p.0 q.0 (same p.0 q.0 h.0) i || ((Decides-int_eq p.0 q.0).1 h.0 i && test_lt p.1 q.1 h.1 i))
+    (λ i. not_less_test p.0 q.0 (same p.0 q.0 h.0) i || ((Decides-int_eq p.0 q.0).1 h.0 i && less_test p.1 q.1 h.1 i))
   where
     same : (a b : ℤ) → a ≡ b → b ≤ℤ a
     same a b e = omega (arith, ints)
@@ -121,31 +110,10 @@ pub lt_self : (a : Point) → point_lt a a ≡ false
 lt_self a = not_before a a (before_not_self a)
 
 -- ---- what a sort of edges gives
-abbrev pub edge_cmp : Edge → Edge → Ordering
-edge_cmp x y = ordering_then (ordering_then (int_cmp x.0.0 y.0.0) (int_cmp x.0.1 y.0.1)) (ordering_then (int_cmp x.1.0 y.1.0) (int_cmp x.1.1 y.1.1))
-
-then_lt : (o p : Ordering) → is_lt (ordering_then o p) ≡ false → is_lt o ≡ false
-then_lt Less p h = h
-then_lt Equal p h = refl
-then_lt Greater p h = refl
-
-then_is : (o p : Ordering) → is_lt (ordering_then o p) ≡ (is_lt o || (is_eq o && is_lt p))
-then_is Less p = refl
-then_is Equal p = refl
-then_is Greater p = refl
-
-cmp_lt : (a b : ℤ) → is_lt (int_cmp a b) ≡ int_lt a b
-cmp_lt a b = by (int_lt a b) (int_lt b a)
-  where
-    by : (x y : Bool) → is_lt (cond x Less (cond y Greater Equal)) ≡ x
-    by true y = refl
-    by false true = refl
-    by false false = refl
-
 pub adjacent_starts : (x y : Edge) → is_lt (edge_cmp x y) ≡ false → point_lt x.0 y.0 ≡ false
 adjacent_starts x y h =
-    sym ((then_is (int_cmp x.0.0 y.0.0) (int_cmp x.0.1 y.0.1)) ∙ λ i. cmp_lt x.0.0 y.0.0 i || (int_eq x.0.0 y.0.0 && cmp_lt x.0.1 y.0.1 i))
-    ∙ then_lt (ordering_then (int_cmp x.0.0 y.0.0) (int_cmp x.0.1 y.0.1)) (ordering_then (int_cmp x.1.0 y.1.0) (int_cmp x.1.1 y.1.1)) h
+    sym ((then_lt (int_cmp x.0.0 y.0.0) (int_cmp x.0.1 y.0.1)) ∙ λ i. cmp_lt x.0.0 y.0.0 i || (int_eq x.0.0 y.0.0 && cmp_lt x.0.1 y.0.1 i))
+    ∙ first_not_less (ordering_then (int_cmp x.0.0 y.0.0) (int_cmp x.0.1 y.0.1)) (ordering_then (int_cmp x.1.0 y.1.0) (int_cmp x.1.1 y.1.1)) h
 
 chain_starts : (es : List Edge) → ((k : ℕ) (d : Edge) → k + 1 < length es → point_lt (get_or es (k + 1) d).0 (get_or es k d).0 ≡ false) →
     (i n : ℕ) (d : Edge) → i + n < length es → point_lt (get_or es (i + n) d).0 (get_or es i d).0 ≡ false
@@ -280,17 +248,9 @@ pub counts_same : (e : Edge) (xs ys : List Edge) → ((g : Edge → ℤ) → sum
 counts_same e xs ys h = omega (arith, ints, count_sum e xs, count_sum e ys, h (λ (d : Edge). bit (same_edge e d)))
 
 -- ---- looking edges up by their start
-pub below_mid : (es : List Edge) (at : Point) (mid : ℕ) (d₀ : Edge) → StartsInOrder es → mid < length es → point_lt (get_or es mid d₀).0 at ≡ true →
-    (k : ℕ) (d : Edge) → k < mid + 1 → point_lt (get_or es k d).0 at ≡ true
-below_mid es at mid d₀ ordered low h k d l =
-    upto_before (get_or es k d).0 (get_or es mid d).0 at (ordered k mid d (omega arith) low)
-    (subst (λ (e : Edge). point_lt e.0 at ≡ true) (get_or_default es mid d₀ d low) h)
-
-pub above_mid : (es : List Edge) (at : Point) (mid : ℕ) (d₀ : Edge) → StartsInOrder es → mid < length es → point_lt (get_or es mid d₀).0 at ≡ false →
-    (k : ℕ) (d : Edge) → mid ≤ k → k < length es → point_lt (get_or es k d).0 at ≡ false
-above_mid es at mid d₀ ordered low h k d le l =
-    from_after (get_or es mid d).0 (get_or es k d).0 at (ordered mid k d le l)
-    (subst (λ (e : Edge). point_lt e.0 at ≡ false) (get_or_default es mid d₀ d low) h)
+-- edges in order are parted at a point: those that start before it come first
+pub parted_at : (es : List Edge) (at : Point) → StartsInOrder es → IsPartitionedBy (λ (e : Edge). point_lt e.0 at) es
+parted_at es at ordered i j d le low h = upto_before (get_or es i d).0 (get_or es j d).0 at (ordered i j d le low) h
 
 -- none before the first that does not start at a lesser point
 pub none_before : (es : List Edge) (used : List Bool) (first : ℕ) (at : Point) (d : Edge) (n : ℕ) →
@@ -406,17 +366,6 @@ pub walk_smaller : (es : List Edge) (now : List Bool) (first k : ℕ) (at : Poin
 walk_smaller es now first k at next other =
     ⊎_elim (λ (h : get_or now k true ≡ false). omega (arith, unused_length es now k next.within h)) (λ (h : k ≡ first). absurd (other h)) next.open'
 
--- back on its first edge the walk is closed
-pub walk_closed : (es : List Edge) (was now : List Bool) (first k : ℕ) (points : List Point) (at : Point) → IsWalk es was now first points at → IsNext es now first at k → k ≡ first →
-    (g : Edge → ℤ) → sum_of g (unused es was) ≡ sum_of g (boundary points) +ℤ sum_of g (unused es now)
-walk_closed es was now first k points at w next same g =
-    w.walked g
-    ∙ (λ i. sum_of g (route w.start w.rest (back i)) +ℤ sum_of g (unused es now))
-    ∙ ap (λ (l : List Point). sum_of g (boundary l) +ℤ sum_of g (unused es now)) (sym w.points_are)
-  where
-    back : at ≡ w.start
-    back = sym (next.starts (at, at)) ∙ (ap (λ (i : ℕ). (get_or es i (at, at)).0) same ∙ w.begins (at, at))
-
 -- a walk along balanced edges finds an edge to go on
 pub walk_goes_on : (es : List Edge) (was now : List Bool) (first : ℕ) (points : List Point) (at : Point) → first < length es → IsBalanced (unused es was) →
     IsWalk es was now first points at → ((k : ℕ) → IsNext es now first at k → ⊥) → ⊥
@@ -452,16 +401,6 @@ takes_one es was now old new c first balanced closed kept marked has are = recor
   kept = kept;
   marked = marked;
   have_points = λ (h : HavePoints old). subst HavePoints (sym are) (All-push (λ (v : Vec Point Global). 0 < length v.items) old c h has);
-}
-
-pub takes_none : (es : List Edge) (was : List Bool) (old : List (Vec Point Global)) (first : ℕ) → IsBalanced (unused es was) → get_or was first true ≡ true →
-    TakesContours es was was old old first
-takes_none es was old first balanced marked = record {
-  same = λ (g : Edge → ℤ). refl;
-  balanced = balanced;
-  kept = λ (k : ℕ) (h : get_or was k true ≡ true). h;
-  marked = marked;
-  have_points = λ (h : HavePoints old). h;
 }
 
 -- the contours so far, of the edges before `first` all

@@ -7,8 +7,8 @@ use Rattle.mesh_plane.specs.Order.{point_lt}
 use Rattle.mesh_plane.specs.Winding.{sum_of, total, boundary, same_point}
 
 -- whether a way from `p0` by `p1` to `p2` turns or turns back at `p1`, rather than run straight through
-abbrev pub is_corner : Point → Point → Point → Bool
-is_corner p0 p1 p2 =
+abbrev pub turns_at : Point → Point → Point → Bool
+turns_at p0 p1 p2 =
     not (int_eq (cross (minus p1 p0) (minus p1 p2)) (pos 0))
     || int_lt (pos 0) (dot (minus p1 p0) (minus p1 p2))
 
@@ -18,19 +18,19 @@ first_or z [] = z
 first_or z (x ∷ xs) = x
 
 -- of the list, the points at which the way from `a` by all of them to `z` has a corner
-abbrev pub corners : Point → List Point → Point → List Point
-corners a [] z = []
-corners a (x ∷ xs) z = cond (is_corner a x (first_or z xs)) (x ∷ corners x xs z) (corners x xs z)
+abbrev pub turning_points : Point → List Point → Point → List Point
+turning_points a [] z = []
+turning_points a (x ∷ xs) z = cond (turns_at a x (first_or z xs)) (x ∷ turning_points x xs z) (turning_points x xs z)
 
--- the points of the list that are answered: all of them, or the corners of the way
+-- the points of the list that are answered: all of them, or the turning points of the way
 abbrev pub kept : Bool → Point → List Point → Point → List Point
-kept all a xs z = cond all xs (corners a xs z)
+kept all a xs z = cond all xs (turning_points a xs z)
 
 -- the first of them, or the way's end where there is none
 abbrev pub next_kept : Bool → Point → List Point → Point → Point
 next_kept all a xs z = first_or z (kept all a xs z)
 
--- the answered vertices of a closed contour that begins at `p`: all of them, or `p` and the corners
+-- the answered vertices of a closed contour that begins at `p`: all of them, or `p` and the turning points
 abbrev pub vertices : Bool → List Point → List Point
 vertices all [] = []
 vertices all (p ∷ xs) = p ∷ kept all p xs p

@@ -1,7 +1,4 @@
 pub mod Contours
-pub mod CountedSides
-pub mod Grouping
-pub mod Progress
+pub mod Midway
 pub mod Resolution
-pub mod Rows
-pub mod Unused
+pub mod Vectors

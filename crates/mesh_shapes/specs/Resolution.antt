@@ -67,8 +67,8 @@ shape_of rings h =
     h.1 ∷ map (λ (r : Placed). r.1) (filter (λ (r : Placed). not (is_head rings r) && stands_with rings h r) rings)
 
 -- the shapes of rings that stand in order
-abbrev pub shapes_of : List Placed → List (List Ring)
-shapes_of rings = map (shape_of rings) (filter (is_head rings) rings)
+abbrev pub rings_by_shape : List Placed → List (List Ring)
+rings_by_shape rings = map (shape_of rings) (filter (is_head rings) rings)
 
 -- the contour that is answered for a ring
 abbrev pub answered : Bool → Ring → List Point
@@ -79,7 +79,7 @@ pub record AreArranged (clockwise : Bool) (rings : List Ring) (answer : List (Li
   pub sorted : List Ring
   pub same : IsPermutation rings sorted
   pub ordered : IsSortedBy (λ (r s : Ring). points_lt r.0 s.0) sorted
-  pub shapes : answer ≡ map (map (answered clockwise)) (shapes_of (enumerate_from 0 sorted))
+  pub shapes : answer ≡ map (map (answered clockwise)) (rings_by_shape (enumerate_from 0 sorted))
 
 -- an answer is a resolution of edges by a fill and options; no order of splitting, no structure of the program and no
 -- choice of a walk is named

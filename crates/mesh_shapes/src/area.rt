@@ -43,7 +43,6 @@ pub fn double_area(points: &[GridPoint]) -> i128
 
 /// How often a closed list of points winds round a point of the fine grid.
 fn winding(points: &[GridPoint], q: FinePoint) -> i128
-    requires { IsSafe (2 ^ 33) q }
     ensures value { result ≡ winding 2 q (boundary points.now) }
     ensures size { unsigned_abs result < 2 ^ 65 }
 {
@@ -61,7 +60,6 @@ fn winding(points: &[GridPoint], q: FinePoint) -> i128
 
 /// Whether a closed list of points winds round a point of the fine grid.
 pub fn holds(points: &[GridPoint], q: FinePoint) -> bool
-    requires { IsSafe (2 ^ 33) q }
     ensures { result ≡ holds 2 q points.now }
 {
     winding(points, q) != 0

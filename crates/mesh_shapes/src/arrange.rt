@@ -8,9 +8,10 @@ ghost use Rattle.std.specs.List.Sorted.{IsSortedBy, IsPermutation};
 ghost use Rattle.mesh_plane.specs.Bounds.{IsSafe};
 ghost use Rattle.mesh_plane.specs.Plane.{Point};
 ghost use Rattle.mesh_shapes.specs.Contours.{reversed, double_area};
-ghost use Rattle.mesh_shapes.specs.Grouping.{Held, view, views, ring_at, placed, areas_of, is_round_at, IsHome, points_of, shapes_points, AreMembers, IsPutHome};
-ghost use Rattle.mesh_shapes.specs.Progress.{NoneRound, IsHolder};
-ghost use Rattle.mesh_shapes.specs.Resolution.{is_large, points_lt, is_head, shape_of, shapes_of, answered, AreArranged};
+ghost use Rattle.mesh_shapes.specs.Vectors.{HeldRing, ring_held, rings_held, points_of, shapes_points};
+ghost use Rattle.mesh_shapes.specs.Midway.Grouping.{ring_at, placed, areas_of, is_round_at, IsHome, AreHomes, AreWithin, is_less_at, AreMembers, IsPutHome, shape_at, headed, all_shapes};
+ghost use Rattle.mesh_shapes.specs.Midway.Progress.{NoneRound, IsHolder, IsFound};
+ghost use Rattle.mesh_shapes.specs.Resolution.{is_large, points_lt, is_head, shape_of, rings_by_shape, answered, AreArranged};
 
 use crate::area::{double_area, holds};
 use crate::ring::Ring;
@@ -21,14 +22,14 @@ use std::alloc::{AllocError, Global};
 
 /// Whether the ring's double area is in size at least twice the least area.
 pub fn is_large(ring: &Ring, least_area: u64) -> bool
-    ensures { result ≡ is_large least_area (view ring.now) }
+    ensures { result ≡ is_large least_area (ring_held ring.now) }
 {
     2 * least_area as u128 <= double_area(&ring.0).unsigned_abs()
 }
 
 /// The double areas of rings, in their order.
 fn areas(alloc: Global, rings: &[Ring]) -> Result<Vec<i128>, AllocError>
-    ensures { IfOk result (λ v. v.items ≡ areas_of (views rings.now)) }
+    ensures { IfOk result (λ v. v.items ≡ areas_of (rings_held rings.now)) }
 {
     let mut areas = Vec::new(alloc);
     for r in rings {
@@ -40,9 +41,8 @@ fn areas(alloc: Global, rings: &[Ring]) -> Result<Vec<i128>, AllocError>
 /// Whether the ring at `h` has positive area and holds the point.
 fn is_round_at(rings: &[Ring], areas: &[i128], h: usize, q: FinePoint) -> bool
     requires in_range { h < length rings.now }
-    requires known { areas.now ≡ areas_of (views rings.now) }
-    requires q_small { IsSafe (2 ^ 33) q }
-    ensures { result ≡ is_round_at (views rings.now) h q }
+    requires known { areas.now ≡ areas_of (rings_held rings.now) }
+    ensures { result ≡ is_round_at (rings_held rings.now) h q }
 {
     if areas[h] <= 0 {
         return false;
@@ -54,7 +54,7 @@ fn is_round_at(rings: &[Ring], areas: &[i128], h: usize, q: FinePoint) -> bool
 fn is_less(areas: &[i128], best: Option<usize>, k: usize) -> bool
     requires in_range { k < length areas.now }
     requires known { ForSome best (λ b. b < length areas.now) }
-    ensures { MatchOption best (result ≡ true) (λ b. result ≡ int_lt (slice_index_or areas.now k (pos 0)) (slice_index_or areas.now b (pos 0))) }
+    ensures { MatchOption best (result ≡ true) (λ b. result ≡ is_less_at areas.now k b) }
 {
     let Some(b) = best else {
         return true;
@@ -71,10 +71,9 @@ fn better_holder(
     k: usize,
 ) -> Option<usize>
     requires in_range { k < length rings.now }
-    requires areas_known { areas.now ≡ areas_of (views rings.now) }
-    requires q_small { IsSafe (2 ^ 33) q }
-    requires known { MatchOption best (NoneRound (views rings.now) k q) (IsHolder (views rings.now) k q) }
-    ensures { MatchOption result (NoneRound (views rings.now) (k + 1) q) (IsHolder (views rings.now) (k + 1) q) }
+    requires areas_known { areas.now ≡ areas_of (rings_held rings.now) }
+    requires known { IsFound (rings_held rings.now) k q best }
+    ensures { IsFound (rings_held rings.now) (k + 1) q result }
 {
     if !is_less(areas, best, k) {
         return best;
@@ -87,9 +86,8 @@ fn better_holder(
 
 /// The place of the first ring of least area among those of positive area that hold the point, if there is one.
 fn holder(rings: &[Ring], areas: &[i128], q: FinePoint) -> Option<usize>
-    requires areas_known { areas.now ≡ areas_of (views rings.now) }
-    requires q_small { IsSafe (2 ^ 33) q }
-    ensures { MatchOption result (NoneRound (views rings.now) (length rings.now) q) (IsHolder (views rings.now) (length rings.now) q) }
+    requires areas_known { areas.now ≡ areas_of (rings_held rings.now) }
+    ensures { IsFound (rings_held rings.now) (length rings.now) q result }
 {
     let mut best = None;
     for k in 0..rings.len() {
@@ -101,9 +99,8 @@ fn holder(rings: &[Ring], areas: &[i128], q: FinePoint) -> Option<usize>
 /// The place of the ring with which the ring at `i` stands, its own where it heads a shape.
 fn home(rings: &[Ring], areas: &[i128], i: usize) -> usize
     requires in_range { i < length rings.now }
-    requires areas_known { areas.now ≡ areas_of (views rings.now) }
-    requires sides_small { All (λ (r : Held). IsSafe (2 ^ 33) r.1) rings.now }
-    ensures home { IsHome (views rings.now) i result }
+    requires areas_known { areas.now ≡ areas_of (rings_held rings.now) }
+    ensures home { IsHome (rings_held rings.now) i result }
     ensures within { result < length rings.now }
 {
     if areas[i] > 0 {
@@ -117,10 +114,9 @@ fn home(rings: &[Ring], areas: &[i128], i: usize) -> usize
 
 /// The places of the rings with which rings stand.
 fn homes(alloc: Global, rings: &[Ring]) -> Result<Vec<usize>, AllocError>
-    requires { All (λ (r : Held). IsSafe (2 ^ 33) r.1) rings.now }
     ensures len { IfOk result (λ v. length v.items ≡ length rings.now) }
-    ensures homes { IfOk result (λ v. (i : ℕ) → i < length rings.now → IsHome (views rings.now) i (slice_index_or v.items i 0)) }
-    ensures within { IfOk result (λ v. (i : ℕ) → i < length rings.now → slice_index_or v.items i 0 < length rings.now) }
+    ensures homes { IfOk result (λ v. AreHomes rings.now v.items) }
+    ensures within { IfOk result (λ v. AreWithin rings.now v.items) }
 {
     let areas = areas(alloc, rings)?;
     let mut homes = Vec::new(alloc);
@@ -146,7 +142,7 @@ fn reversed(alloc: Global, points: &[GridPoint]) -> Result<Vec<GridPoint>, Alloc
 
 /// The ring's contour, the other way about where contours are to run clockwise.
 fn answered(alloc: Global, ring: &Ring, clockwise: bool) -> Result<Vec<GridPoint>, AllocError>
-    ensures { IfOk result (λ v. v.items ≡ answered clockwise (view ring.now)) }
+    ensures { IfOk result (λ v. v.items ≡ answered clockwise (ring_held ring.now)) }
 {
     if clockwise {
         return reversed(alloc, &ring.0);
@@ -177,10 +173,10 @@ fn push_home(
 /// For each ring the places of the rings that stand with it and head no shape.
 fn members(alloc: Global, rings: &[Ring], homes: &[usize]) -> Result<Vec<Vec<usize>>, AllocError>
     requires homes_len { length homes.now ≡ length rings.now }
-    requires homes_are { (i : ℕ) → i < length rings.now → IsHome (views rings.now) i (slice_index_or homes.now i 0) }
-    requires within { (i : ℕ) → i < length rings.now → slice_index_or homes.now i 0 < length rings.now }
+    requires homes_are { AreHomes rings.now homes.now }
+    requires within { AreWithin rings.now homes.now }
     ensures len { IfOk result (λ v. length v.items ≡ length rings.now) }
-    ensures members { IfOk result (λ v. (h : ℕ) (d : Vec ℕ Global) → h < length rings.now → AreMembers (views rings.now) h (slice_index_or v.items h d).items) }
+    ensures members { IfOk result (λ v. (h : ℕ) (d : Vec ℕ Global) → h < length rings.now → AreMembers (rings_held rings.now) h (slice_index_or v.items h d).items) }
 {
     let mut members = empty_lists(alloc, rings.len())?;
     for i in 0..rings.len() {
@@ -198,7 +194,7 @@ fn push_contour(
     clockwise: bool,
 ) -> Result<(), AllocError>
     requires { i < length rings.now }
-    ensures { OnOk result (points_of shape.new.items ≡ points_of shape.old.items ++ answered clockwise (ring_at (views rings.now) i).1 ∷ []) }
+    ensures { OnOk result (points_of shape.new.items ≡ points_of shape.old.items ++ answered clockwise (ring_at (rings_held rings.now) i).1 ∷ []) }
 {
     shape.push(answered(alloc, &rings[i], clockwise)?)?;
     Ok(())
@@ -213,8 +209,8 @@ fn shape(
     clockwise: bool,
 ) -> Result<Vec<Vec<GridPoint>>, AllocError>
     requires in_range { h < length rings.now }
-    requires members { AreMembers (views rings.now) h members.now }
-    ensures { IfOk result (λ v. points_of v.items ≡ map (answered clockwise) (shape_of (placed (views rings.now)) (ring_at (views rings.now) h))) }
+    requires members { AreMembers (rings_held rings.now) h members.now }
+    ensures { IfOk result (λ v. points_of v.items ≡ shape_at clockwise (rings_held rings.now) h) }
 {
     let mut shape = Vec::with_capacity(alloc, members.len() + 1)?;
     push_contour(alloc, &mut shape, rings, h, clockwise)?;
@@ -236,10 +232,10 @@ fn push_shape(
 ) -> Result<(), AllocError>
     requires in_range { h < length rings.now }
     requires homes_len { length homes.now ≡ length rings.now }
-    requires home { IsHome (views rings.now) h (slice_index_or homes.now h 0) }
-    requires members { AreMembers (views rings.now) h members.now }
+    requires home { IsHome (rings_held rings.now) h (slice_index_or homes.now h 0) }
+    requires members { AreMembers (rings_held rings.now) h members.now }
     ensures { OnOk result (shapes_points shapes.new.items ≡ shapes_points shapes.old.items ++
-        cond (is_head (placed (views rings.now)) (ring_at (views rings.now) h)) (map (answered clockwise) (shape_of (placed (views rings.now)) (ring_at (views rings.now) h)) ∷ []) []) }
+        headed clockwise (rings_held rings.now) h) }
 {
     if homes[h] != h {
         return Ok(());
@@ -254,8 +250,7 @@ fn grouped(
     rings: &[Ring],
     clockwise: bool,
 ) -> Result<Vec<Vec<Vec<GridPoint>>>, AllocError>
-    requires { All (λ (r : Held). IsSafe (2 ^ 33) r.1) rings.now }
-    ensures { IfOk result (λ v. shapes_points v.items ≡ map (map (answered clockwise)) (shapes_of (placed (views rings.now)))) }
+    ensures { IfOk result (λ v. shapes_points v.items ≡ all_shapes clockwise (rings_held rings.now)) }
 {
     let homes = homes(alloc, rings)?;
     let members = members(alloc, rings, &homes)?;
@@ -269,7 +264,7 @@ fn grouped(
 /// Rings in the order of their points.
 fn in_order(mut rings: Vec<Ring>) -> Result<Vec<Ring>, AllocError>
     ensures same { IfOk result (λ v. IsPermutation rings.items v.items) }
-    ensures ordered { IfOk result (λ v. IsSortedBy (λ r s. points_lt r.0 s.0) (views v.items)) }
+    ensures ordered { IfOk result (λ v. IsSortedBy (λ r s. points_lt r.0 s.0) (rings_held v.items)) }
 {
     rings.sort()?;
     Ok(rings)
@@ -281,8 +276,7 @@ pub fn shapes(
     rings: Vec<Ring>,
     clockwise: bool,
 ) -> Result<Vec<Vec<Vec<GridPoint>>>, AllocError>
-    requires { All (λ (r : Held). IsSafe (2 ^ 33) r.1) rings.items }
-    ensures { IfOk result (λ v. AreArranged clockwise (views rings.items) (shapes_points v.items)) }
+    ensures { IfOk result (λ v. AreArranged clockwise (rings_held rings.items) (shapes_points v.items)) }
 {
     let ordered = in_order(rings)?;
     let shapes = grouped(alloc, &ordered, clockwise)?;

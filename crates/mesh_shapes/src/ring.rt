@@ -5,8 +5,8 @@ ghost use Rattle.std.specs.List.{All};
 ghost use Rattle.mesh_plane.specs.Bounds.{IsSmall, IsSafe};
 ghost use Rattle.mesh_plane.specs.Plane.{Point, Edge, dot, cross};
 ghost use Rattle.mesh_plane.specs.Winding.{boundary, same_point};
-ghost use Rattle.mesh_shapes.specs.Contours.{is_corner, first_or, kept, vertices, side_point, IsRingOf};
-ghost use Rattle.mesh_shapes.specs.Progress.{point_at, next_at, IsBestVisit, IsLeastBefore};
+ghost use Rattle.mesh_shapes.specs.Contours.{turns_at, first_or, kept, vertices, side_point, IsRingOf};
+ghost use Rattle.mesh_shapes.specs.Midway.Progress.{point_at, next_at, IsBestVisit, IsLeastBefore, point_after, kept_after};
 
 use mesh_cuts::exact::{cross, is_before, minus, product, same_point};
 use mesh_cuts::fine::{FinePoint, middle};
@@ -29,8 +29,8 @@ fn dot(v: Vector, w: Vector) -> i128
 }
 
 /// Whether a way from `a` by `p` to `n` turns or turns back at `p`.
-fn is_corner(a: GridPoint, p: GridPoint, n: GridPoint) -> bool
-    ensures { result ≡ is_corner a p n }
+fn turns_at(a: GridPoint, p: GridPoint, n: GridPoint) -> bool
+    ensures { result ≡ turns_at a p n }
 {
     let v = minus(p, a);
     let w = minus(p, n);
@@ -82,7 +82,7 @@ fn turned_to(
 /// The point that follows, the first after the last.
 fn following(contour: &[GridPoint], i: usize) -> GridPoint
     requires { i < length contour.now }
-    ensures { result ≡ first_or (point_at contour.now 0) (drop (i + 1) contour.now) }
+    ensures { result ≡ point_after contour.now i }
 {
     if i + 1 < contour.len() {
         return contour[i + 1];
@@ -93,12 +93,12 @@ fn following(contour: &[GridPoint], i: usize) -> GridPoint
 /// Whether the point at a place is answered: all are, or it is a corner.
 fn is_kept(contour: &[GridPoint], all: bool, before: GridPoint, i: usize) -> bool
     requires { i < length contour.now }
-    ensures { result ≡ (all || is_corner before (point_at contour.now i) (first_or (point_at contour.now 0) (drop (i + 1) contour.now))) }
+    ensures { result ≡ (all || turns_at before (point_at contour.now i) (point_after contour.now i)) }
 {
     if all {
         return true;
     }
-    is_corner(before, contour[i], following(contour, i))
+    turns_at(before, contour[i], following(contour, i))
 }
 
 /// The next vertex that is answered after the place `at`, in a contour that begins with an answered one.
@@ -155,7 +155,7 @@ fn push_kept(
     i: usize,
 ) -> Result<(), AllocError>
     requires { i < length contour.now }
-    ensures { OnOk result (points.new.items ++ kept all (point_at contour.now i) (drop (i + 1) contour.now) (point_at contour.now 0)
+    ensures { OnOk result (points.new.items ++ kept_after all (point_at contour.now i) contour.now i
         ≡ points.old.items ++ kept all before (drop i contour.now) (point_at contour.now 0)) }
 {
     if !is_kept(contour, all, before, i) {
@@ -165,7 +165,7 @@ fn push_kept(
     Ok(())
 }
 
-/// The first point and the corners, or all points.
+/// The first point and the turning points, or all points.
 fn vertices(alloc: Global, contour: &[GridPoint], all: bool) -> Result<Vec<GridPoint>, AllocError>
     requires { 0 < length contour.now }
     ensures { IfOk result (λ v. v.items ≡ vertices all contour.now) }
@@ -182,8 +182,7 @@ fn vertices(alloc: Global, contour: &[GridPoint], all: bool) -> Result<Vec<GridP
 
 fn side_point(contour: &[GridPoint]) -> FinePoint
     requires { 0 < length contour.now }
-    ensures value { result ≡ side_point contour.now }
-    ensures size { IsSafe (2 ^ 33) result }
+    ensures { result ≡ side_point contour.now }
 {
     middle((contour[0], following(contour, 0)))
 }
@@ -192,8 +191,7 @@ fn side_point(contour: &[GridPoint]) -> FinePoint
 pub fn ring_of(alloc: Global, contour: &[GridPoint], all: bool) -> Result<Ring, AllocError>
     requires has_points { 0 < length contour.now }
     requires proper { All (λ (e : Edge). same_point e.0 e.1 ≡ false) (boundary contour.now) }
-    ensures ring { IfOk result (λ r. IsRingOf all contour.now (r.0.items, r.1)) }
-    ensures side { IfOk result (λ r. IsSafe (2 ^ 33) r.1) }
+    ensures { IfOk result (λ r. IsRingOf all contour.now (r.0.items, r.1)) }
 {
     let from_least = turned_to(alloc, contour, least_place(contour))?;
     let begun = turned_to(alloc, &from_least, start_place(&from_least, all))?;

@@ -4,7 +4,7 @@ ghost use Rattle.std.specs.Prelude.{◌≡◌, ◌+◌, ◌<◌, ◌*ℤ◌, pos
 ghost use Rattle.std.specs.declared.alloc.Global.{Global};
 ghost use Rattle.mesh_cuts.specs.Counted.{Counted};
 ghost use Rattle.mesh_cuts.specs.Marks.{place, AreRising, IsPutTo};
-ghost use Rattle.mesh_shapes.specs.Rows.{AreRows};
+ghost use Rattle.mesh_shapes.specs.Midway.Rows.{AreRows};
 
 use mesh_cuts::fine::{FinePoint, doubled};
 use mesh_cuts::grid::{CountedSegment, GridPoint};
@@ -31,8 +31,9 @@ pub struct Rows {
 fn height(p: GridPoint) -> Mark
     ensures { result.at ≡ pos 2 *ℤ p.1 }
 {
-    let fine = doubled(p);
-    Mark { at: fine.1 }
+    Mark {
+        at: doubled(p).height(),
+    }
 }
 
 /// The heights of some of the segments' ends.
@@ -117,6 +118,6 @@ impl Rows {
         requires len { length self.now.lists.items ≡ length self.now.marks.items + 1 }
         ensures { (d : Vec Counted Global) → result.now ≡ (slice_index_or self.now.lists.items (place self.now.marks.items q.1) d).items }
     {
-        &self.lists[place(&self.marks, Mark { at: q.1 })]
+        &self.lists[place(&self.marks, Mark { at: q.height() })]
     }
 }

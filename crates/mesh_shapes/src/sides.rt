@@ -9,8 +9,8 @@ ghost use Rattle.mesh_cuts.specs.Boundary.{rises, IsBoundary};
 ghost use Rattle.mesh_cuts.specs.Clean.{IsProper};
 ghost use Rattle.mesh_cuts.specs.Counted.{IsCountOf};
 ghost use Rattle.mesh_cuts.specs.FillRules.{filled};
-ghost use Rattle.mesh_shapes.specs.CountedSides.{counted_winding, sides_by, sides_of, is_parted, boundary_edge};
-ghost use Rattle.mesh_cuts.specs.Counted.{size};
+ghost use Rattle.mesh_shapes.specs.Midway.CountedSides.{counted_winding, sides_by, sides_of, is_parted, boundary_edge};
+ghost use Rattle.mesh_cuts.specs.Counted.{size, IsRoomy};
 
 use crate::rows::Rows;
 use mesh_cuts::fill::FillRule;
@@ -23,8 +23,7 @@ type Sides = (i128, i128);
 
 /// A segment's crossing at a point, as often as it counts.
 fn counted_crossing(q: FinePoint, s: CountedSegment) -> i128
-    requires q_small { IsSafe (2 ^ 33) q }
-    requires count_small { size s ≤ℤ pos (2 ^ 120) }
+    requires count_small { IsRoomy (size s) }
     ensures value { result ≡ s.1 *ℤ crossing_on 2 q s.0.0 s.0.1 }
     ensures size { pos (unsigned_abs result) ≤ℤ size s }
 {
@@ -40,8 +39,7 @@ fn counted_crossing(q: FinePoint, s: CountedSegment) -> i128
 
 /// How often the segments wind round a point.
 fn winding(segments: &[CountedSegment], q: FinePoint) -> i128
-    requires q_small { IsSafe (2 ^ 33) q }
-    requires room { sum_of size segments.now ≤ℤ pos (2 ^ 120) }
+    requires room { IsRoomy (sum_of size segments.now) }
     ensures value { result ≡ counted_winding q segments.now }
     ensures size { IsSmall (2 ^ 121) result }
 {
@@ -66,7 +64,7 @@ fn rises(e: GridEdge) -> bool
 /// The windings on both sides of a segment, from that beside it.
 fn sides_by(beside: i128, s: CountedSegment) -> Sides
     requires beside_small { IsSmall (2 ^ 121) beside }
-    requires count_small { size s ≤ℤ pos (2 ^ 120) }
+    requires count_small { IsRoomy (size s) }
     ensures { result ≡ sides_by beside s }
 {
     if rises(s.0) {
@@ -76,8 +74,8 @@ fn sides_by(beside: i128, s: CountedSegment) -> Sides
 }
 
 fn sides_of(segments: &[CountedSegment], s: CountedSegment) -> Sides
-    requires room { sum_of size segments.now ≤ℤ pos (2 ^ 120) }
-    requires count_small { size s ≤ℤ pos (2 ^ 120) }
+    requires room { IsRoomy (sum_of size segments.now) }
+    requires count_small { IsRoomy (size s) }
     ensures { result ≡ sides_of segments.now s }
 {
     sides_by(winding(segments, middle(s.0)), s)
@@ -119,13 +117,14 @@ fn push_edge(
 }
 
 /// The segments whose two sides differ in fill, each once, with the filled side on its left.
-pub fn boundary(
+pub fn find_boundary(
     alloc: Global,
     segments: &[CountedSegment],
     fill: FillRule,
 ) -> Result<Vec<GridEdge>, AllocError>
-    requires { sum_of size segments.now ≤ℤ pos (2 ^ 120) }
-    ensures { IfOk result (λ v. (es : List Edge) → IsCountOf es segments.now → IsProper es → IsBoundary es (filled fill) v.items) }
+    requires { IsRoomy (sum_of size segments.now) }
+    ensures { IfOk result (λ v. (es : List Edge) → IsCountOf es segments.now → IsProper es
+        → IsBoundary es (filled fill) v.items) }
 {
     let rows = Rows::new(alloc, segments)?;
     let mut edges = Vec::new(alloc);

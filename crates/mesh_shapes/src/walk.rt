@@ -5,7 +5,8 @@ ghost use Rattle.mesh_plane.specs.Order.{point_lt};
 ghost use Rattle.mesh_plane.specs.Plane.{Point, Edge};
 ghost use Rattle.mesh_plane.specs.Winding.{sum_of, boundary, IsBalanced};
 ghost use Rattle.mesh_cuts.specs.Boundary.{count};
-ghost use Rattle.mesh_shapes.specs.Unused.{HavePoints, unused, StartsInOrder, IsOpen, IsNext, TakesContours, contour_edges};
+ghost use Rattle.mesh_shapes.specs.Vectors.{HavePoints, StartsInOrder, contour_edges};
+ghost use Rattle.mesh_shapes.specs.Midway.Unused.{unused, IsOpen, IsNext, TakesContours};
 
 use mesh_cuts::exact::{cross, is_before, minus, same_point};
 use mesh_cuts::grid::{GridEdge, GridPoint};
@@ -49,19 +50,14 @@ fn first_from(edges: &[GridEdge], at: GridPoint) -> usize
     requires { StartsInOrder edges.now }
     ensures bound { result ≤ length edges.now }
     ensures before { (k : ℕ) (d : Edge) → k < result → point_lt (slice_index_or edges.now k d).0 at ≡ true }
-    ensures after { (k : ℕ) (d : Edge) → result ≤ k → k < length edges.now → point_lt (slice_index_or edges.now k d).0 at ≡ false }
+    ensures after { (k : ℕ) (d : Edge) → result ≤ k → k < length edges.now
+        → point_lt (slice_index_or edges.now k d).0 at ≡ false }
 {
-    let mut low = 0;
-    let mut high = edges.len();
-    while low < high {
-        let mid = low + (high - low) / 2;
-        if is_before(edges[mid].0, at) {
-            low = mid + 1;
-        } else {
-            high = mid;
-        }
-    }
-    low
+    edges.partition_point(
+        |e: &GridEdge| -> bool
+            ensures { result ≡ point_lt e.now.0 at }
+        { is_before(e.0, at) },
+    )
 }
 
 /// The one of two edges, if there is one already, that comes first on the turn.
@@ -107,7 +103,8 @@ fn with_edge(
 ) -> Option<usize>
     requires within { k < length edges.now }
     requires marks { length used.now ≡ length edges.now }
-    ensures { MatchOption result ((best ≡ None) × (IsOpen used.now first k → ⊥)) (λ b. ((b ≡ k) × IsOpen used.now first k) ⊎ (best ≡ Some b)) }
+    ensures { MatchOption result ((best ≡ None) × (IsOpen used.now first k → ⊥))
+        (λ b. ((b ≡ k) × IsOpen used.now first k) ⊎ (best ≡ Some b)) }
 {
     if !is_open(used, first, k) {
         return best;
@@ -126,7 +123,8 @@ fn next_edge(
 ) -> Option<usize>
     requires ordered { StartsInOrder edges.now }
     requires marks { length used.now ≡ length edges.now }
-    ensures { MatchOption result ((k : ℕ) → IsNext edges.now used.now first at k → ⊥) (IsNext edges.now used.now first at) }
+    ensures { MatchOption result ((k : ℕ) → IsNext edges.now used.now first at k → ⊥)
+        (IsNext edges.now used.now first at) }
 {
     let mut best = None;
     for k in first_from(edges, at)..edges.len() {
@@ -151,7 +149,8 @@ fn walk(
     requires first_unused { slice_index_or used.old first true ≡ false }
     requires balanced { IsBalanced (unused edges.now used.old) }
     ensures has_points { IfOk result (λ v. 0 < length v.items) }
-    ensures closed { IfOk result (λ v. (g : Edge → ℤ) → sum_of g (unused edges.now used.old) ≡ sum_of g (boundary v.items) +ℤ sum_of g (unused edges.now used.new)) }
+    ensures closed { IfOk result (λ v. (g : Edge → ℤ) → sum_of g (unused edges.now used.old)
+        ≡ sum_of g (boundary v.items) +ℤ sum_of g (unused edges.now used.new)) }
     ensures kept { (k : ℕ) → slice_index_or used.old k true ≡ true → slice_index_or used.new k true ≡ true }
     ensures marked { OnOk result (slice_index_or used.new first true ≡ true) }
 {
@@ -212,7 +211,8 @@ fn contours_of(
     requires ordered { StartsInOrder edges.now }
     requires marks { length used.old ≡ length edges.now }
     requires balanced { IsBalanced (unused edges.now used.old) }
-    ensures edges { IfOk result (λ v. (g : Edge → ℤ) → sum_of g (unused edges.now used.old) ≡ sum_of g (contour_edges v.items)) }
+    ensures edges { IfOk result (λ v. (g : Edge → ℤ) → sum_of g (unused edges.now used.old)
+        ≡ sum_of g (contour_edges v.items)) }
     ensures have_points { IfOk result (λ v. HavePoints v.items) }
 {
     let mut contours = Vec::new(alloc);

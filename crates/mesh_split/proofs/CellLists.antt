@@ -18,8 +18,8 @@ use Rattle.mesh_cuts.proofs.Counts.{bit_least}
 use Rattle.mesh_cuts.proofs.Ends.{decides_edge}
 use Rattle.mesh_cuts.proofs.PlacesAmong.{place_rises, place_most}
 use Rattle.mesh_split.specs.declared.axes.Axes.{Axes}
-use Rattle.mesh_split.specs.Cells.{cell_of, IsListed, Grows, AreFiled, IsCellClear, IsColumnClear}
-use Rattle.mesh_split.specs.Steps.{exactly, IsPut, IsTaken, IsClearOf, AddsIf}
+use Rattle.mesh_split.specs.Midway.Cells.{cell_of, IsListed, Grows, AreFiled, IsCellClear, IsColumnClear}
+use Rattle.mesh_split.specs.Midway.Steps.{exactly, IsPut, IsTaken, IsClearOf, AddsIf}
 
 -- ---- lists that grow
 

@@ -10,7 +10,7 @@ use Rattle.mesh_plane.proofs.Whole.{linear, factor, le_of_mul_le_mul, mul_le_mul
 use Rattle.mesh_cuts.specs.Clean.{IsOn, refined_edge, ShareEnds, IsClean, IsProper}
 use Rattle.mesh_cuts.specs.Counted.{Counted, IsCountOf, bit, times}
 use Rattle.mesh_cuts.specs.Split.{back, same_edge, same_ends, occurs, is_end, IsBetween, IsInside, at_start_of_second, at_end_of_second, at_start_of_first, at_end_of_first, at_crossing}
-use Rattle.mesh_split.specs.Steps.{exactly, AllClear}
+use Rattle.mesh_split.specs.Midway.Steps.{exactly, AllClear}
 use Rattle.mesh_cuts.specs.Split.{AreClear}
 use Rattle.mesh_cuts.proofs.Ends.{decides_edge, decides_end, decides_ends}
 use Rattle.mesh_split.proofs.Entries.{exactly_least}

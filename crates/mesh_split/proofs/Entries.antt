@@ -20,16 +20,13 @@ use Rattle.mesh_plane.specs.Winding.{sum_of}
 use Rattle.mesh_plane.proofs.Whole.{linear}
 use Rattle.mesh_cuts.specs.Split.{back, same_edge, same_ends}
 use Rattle.mesh_cuts.specs.Counted.{Counted, bit, times}
-use Rattle.mesh_split.specs.Steps.{exactly, IsTaken, IsRaised, IsNew, HaveRoom}
+use Rattle.mesh_split.specs.Midway.Steps.{exactly, IsTaken, IsRaised, IsNew, HaveRoom}
 use Rattle.mesh_cuts.specs.Split.{IsForward}
 use Rattle.mesh_cuts.specs.Counted.{size}
 use Rattle.mesh_cuts.proofs.Ends.{decides_edge, decides_ends}
 use Rattle.mesh_cuts.proofs.Arithmetic.{small_kept, small_fits}
 use Rattle.mesh_cuts.proofs.Counts.{bit_least}
-
--- the order of a map's keys
-abbrev pub edge_cmp : Edge → Edge → Ordering
-edge_cmp e f = ordering_then (ordering_then (int_cmp e.0.0 f.0.0) (int_cmp e.0.1 f.0.1)) (ordering_then (int_cmp e.1.0 f.1.0) (int_cmp e.1.1 f.1.1))
+use Rattle.mesh_plane.proofs.Comparing.{edge_cmp}
 
 both_equal : (o p : Ordering) → is_eq (ordering_then o p) ≡ true → (is_eq o ≡ true) × (is_eq p ≡ true)
 both_equal Less p h = absurd (both_ways false refl h)
@@ -242,10 +239,6 @@ count_kept ks k room =
     small_kept (2 ^ 121) k.1 (lit≤ tt) b
 
 -- ---- an entry taken out
-
-pub first_taken : (o : Option Counted) (old new : List Counted) → IfSome o (λ k. old ≡ k ∷ new) → IfSome o (λ k. IsTaken old new k)
-first_taken None old new s = tt
-first_taken (Some k) old new s = λ (g : Counted → ℤ). ap (sum_of g) s ∙ omega (arith, linear)
 
 entry_taken : (k : Edge) (m : ℤ) (es : List Counted) → found k es ≡ Some m → IsTaken es (remove_entry (is_at (edge_cmp k)) es) (k, m)
 entry_taken k m [] h g = absurd (none_some h)

@@ -5,10 +5,10 @@ use Rattle.std.proofs.lemmas.Int.{ints, by_lt_z}
 use Rattle.mesh_plane.proofs.Whole.{linear}
 use Rattle.mesh_cuts.specs.Split.{IsBetween, IsInBox}
 use Rattle.mesh_plane.specs.Plane.{Point, Edge}
-use Rattle.mesh_split.specs.Steps.{extent}
+use Rattle.mesh_split.specs.Midway.Steps.{extent}
 use Rattle.std.proofs.lemmas.Bool.{both_ways}
 use Rattle.mesh_plane.specs.Winding.{same_point}
-use Rattle.mesh_cuts.proofs.Ends.{decides_point}
+use Rattle.mesh_plane.proofs.Comparing.{decides_point}
 
 length_split : (a c b : ℤ) → IsBetween a c b → unsigned_abs (c -ℤ a) + unsigned_abs (b -ℤ c) ≡ unsigned_abs (b -ℤ a)
 length_split a c b h =

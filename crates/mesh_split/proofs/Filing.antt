@@ -1,23 +1,26 @@
 -- Lemmas over points and lists: a segment put in, as it is or turned over, and the two pieces of a cut.
-use Rattle.std.proofs.Common.{◌≡◌, ◌⊎◌, inl, inr, ⊎_elim, ℕ, ◌+◌, ◌-◌, ◌*◌, ◌≤◌, ◌^◌, Bool, true, false, cond, ◌||◌, sym, ◌∙◌, ap, subst, refl, arith, List, [], ◌∷◌, max}
+use Rattle.std.proofs.Common.{◌≡◌, ◌⊎◌, inl, inr, ⊎_elim, ℕ, ◌+◌, ◌-◌, ◌*◌, ◌≤◌, Bool, true, false, cond, ◌||◌, sym, ◌∙◌, ap, subst, refl, arith, List, [], ◌∷◌, max}
 use Rattle.std.specs.Prelude.{ℤ, pos, ◌+ℤ◌, ◌*ℤ◌, ◌≤ℤ◌, ◌<ℤ◌, neg_ℤ, unsigned_abs, int_lt}
 use Rattle.std.proofs.lemmas.Bool.{both_ways, cases_Bool}
-use Rattle.std.proofs.Math.Nat.{mul-le-mul_left, mul-le-mul_right}
+use Rattle.std.proofs.Math.Nat.{mul-le-mul_right}
 use Rattle.std.proofs.lemmas.Int.{ints}
 use mir.Syntax.{w128}
 use mir.Val.{to_z, of_z}
 use Rattle.mesh_plane.specs.Plane.{Point, Edge}
-use Rattle.mesh_plane.specs.Winding.{same_point, sum_of}
+use Rattle.mesh_plane.specs.Winding.{same_point}
 use Rattle.mesh_plane.proofs.Whole.{linear, add_mul, neg_mul_neg}
 use Rattle.mesh_cuts.specs.Split.{back, same_edge, same_ends, is_end, IsInBox}
 use Rattle.mesh_cuts.specs.Counted.{Counted, bit, along, times}
-use Rattle.mesh_split.specs.Steps.{exactly, IsRaised, IsNew, IsKept, IsTaken, Puts, PutsPieces, at_least_once, extent, weight, waiting_work, live_work, total_weight, HaveRoom}
-use Rattle.mesh_cuts.specs.Counted.{size}
-use Rattle.mesh_cuts.proofs.Ends.{decides_point, decides_end, ends_turned, along_turned}
+use Rattle.mesh_split.specs.Midway.Steps.{exactly, IsRaised, IsNew, IsKept, IsTaken, Puts, PutsPieces, at_least_once, extent, weight, waiting_work, live_work, total_weight, HaveRoom}
+use Rattle.mesh_cuts.proofs.Ends.{decides_end, ends_turned, along_turned}
 use Rattle.mesh_split.proofs.Extents.{extent_split, extent_least}
 use Rattle.mesh_cuts.proofs.Counts.{bit_least, times_least}
 use Rattle.mesh_split.proofs.Stages.{times_along}
 use Rattle.mesh_split.proofs.Entries.{count_kept}
+use Rattle.mesh_plane.proofs.Comparing.{decides_point}
+use Rattle.mesh_split.proofs.Room.{size_weight, sizes_weights, weights_least}
+use Rattle.mesh_plane.proofs.Sizes.{size_neg}
+use Rattle.mesh_cuts.specs.Counted.{IsRoomy}
 
 -- ---- counts
 
@@ -61,10 +64,6 @@ weight_sum e m n = scaled (max 1 (extent e))
 
 pub weight_one : (k : Counted) → pos 0 ≤ℤ weight k
 weight_one k = omega (arith, ints)
-
-pub weight_least : (ks : List Counted) → pos 0 ≤ℤ sum_of weight ks
-weight_least [] = omega (arith, ints)
-weight_least (k ∷ ks) = omega (arith, ints, weight_least ks)
 
 -- a live segment's count was raised
 pub raised_live : (todo live live' : List Counted) (k : Counted) → IsRaised live live' k → Puts todo live todo live' k
@@ -110,9 +109,6 @@ new_waiting todo live todo' k none n = record {
 pub extent_turned : (e : Edge) → extent (back e) ≡ extent e
 extent_turned e = omega (arith, ints)
 
-size_neg : (n : ℤ) → unsigned_abs (neg_ℤ n) ≡ unsigned_abs n
-size_neg n = omega (arith, ints)
-
 pub weight_turned : (k : Counted) → weight (back k.0, neg_ℤ k.1) ≡ weight k
 weight_turned k = λ i. pos (size_neg k.1 i * max 1 (extent_turned k.0 i))
 
@@ -126,13 +122,6 @@ puts_turned todo live todo' live' k p = record {
   weight_grows = omega (arith, linear, p.weight_grows, weight_turned k);
   live_ends = p.live_ends;
 }
-
-pub turned_proper : (e : Edge) → same_point e.0 e.1 ≡ false → same_point e.1 e.0 ≡ false
-turned_proper e h =
-    ⊎_elim
-    (λ (t : same_point e.1 e.0 ≡ true). absurd (both_ways _ h ((decides_point e.0 e.1).1 (sym ((decides_point e.1 e.0).0 t)))))
-    (λ (f : same_point e.1 e.0 ≡ false). f)
-    (cases_Bool (same_point e.1 e.0))
 
 -- ---- the pieces of a cut
 
@@ -177,27 +166,17 @@ work_pieces e c inner box =
 
 -- ---- room for the counts
 
-pub size_weight : (k : Counted) → size k ≤ℤ weight k
-size_weight k = wide (unsigned_abs k.1) (max 1 (extent k.0)) (omega arith)
-  where
-    wide : (n w : ℕ) → 1 ≤ w → pos n ≤ℤ pos (n * w)
-    wide n w h = omega (arith, ints, mul-le-mul_left n h)
+pub room_live : (todo live : List Counted) (k : Counted) → IsRoomy (total_weight todo live +ℤ weight k) → HaveRoom live k
+room_live todo live k h = omega (arith, linear, sizes_weights live, size_weight k, weights_least todo)
 
-pub sizes_weights : (ks : List Counted) → sum_of size ks ≤ℤ sum_of weight ks
-sizes_weights [] = omega (arith, ints)
-sizes_weights (k ∷ ks) = omega (arith, linear, size_weight k, sizes_weights ks)
-
-pub room_live : (todo live : List Counted) (k : Counted) → (total_weight todo live +ℤ weight k) ≤ℤ pos (2 ^ 120) → HaveRoom live k
-room_live todo live k h = omega (arith, linear, sizes_weights live, size_weight k, weight_least todo)
-
-pub room_waiting : (todo live : List Counted) (k : Counted) → (total_weight todo live +ℤ weight k) ≤ℤ pos (2 ^ 120) → HaveRoom todo k
-room_waiting todo live k h = omega (arith, linear, sizes_weights todo, size_weight k, weight_least live)
+pub room_waiting : (todo live : List Counted) (k : Counted) → IsRoomy (total_weight todo live +ℤ weight k) → HaveRoom todo k
+room_waiting todo live k h = omega (arith, linear, sizes_weights todo, size_weight k, weights_least live)
 
 pub total_least : (todo live : List Counted) → pos 0 ≤ℤ total_weight todo live
-total_least todo live = omega (arith, linear, weight_least todo, weight_least live)
+total_least todo live = omega (arith, linear, weights_least todo, weights_least live)
 
-pub room_turned : (todo live : List Counted) (k j : Counted) → j ≡ (back k.0, neg_ℤ k.1) → (total_weight todo live +ℤ weight k) ≤ℤ pos (2 ^ 120)
-    → (total_weight todo live +ℤ weight j) ≤ℤ pos (2 ^ 120)
+pub room_turned : (todo live : List Counted) (k j : Counted) → j ≡ (back k.0, neg_ℤ k.1) → IsRoomy (total_weight todo live +ℤ weight k)
+    → IsRoomy (total_weight todo live +ℤ weight j)
 room_turned todo live k j e h = omega (arith, linear, ap weight e, weight_turned k)
 
 -- a segment that was filed: a live one was raised, or there was none and the worklist took it
@@ -209,27 +188,27 @@ pub puts_back : (todo live todo' live' : List Counted) (k j : Counted) → j ≡
 puts_back todo live todo' live' k j e p = puts_turned todo live todo' live' k (subst (λ (x : Counted). Puts todo live todo' live' x) e p)
 
 -- room for the two pieces of a cut, one after the other
-pub room_first : (todo live : List Counted) (k : Counted) (c : Point) → is_end c k.0 ≡ false → IsInBox k.0 c → (total_weight todo live +ℤ weight k) ≤ℤ pos (2 ^ 120)
-    → (total_weight todo live +ℤ weight ((k.0.0, c), k.1)) ≤ℤ pos (2 ^ 120)
+pub room_first : (todo live : List Counted) (k : Counted) (c : Point) → is_end c k.0 ≡ false → IsInBox k.0 c → IsRoomy (total_weight todo live +ℤ weight k)
+    → IsRoomy (total_weight todo live +ℤ weight ((k.0.0, c), k.1))
 room_first todo live k c inner box h = omega (arith, linear, weight_pieces k c inner box, weight_one ((c, k.0.1), k.1))
 
-pub room_second : (todo live todo' live' : List Counted) (k : Counted) (c : Point) → is_end c k.0 ≡ false → IsInBox k.0 c → (total_weight todo live +ℤ weight k) ≤ℤ pos (2 ^ 120)
-    → Puts todo live todo' live' ((k.0.0, c), k.1) → (total_weight todo' live' +ℤ weight ((c, k.0.1), k.1)) ≤ℤ pos (2 ^ 120)
+pub room_second : (todo live todo' live' : List Counted) (k : Counted) (c : Point) → is_end c k.0 ≡ false → IsInBox k.0 c → IsRoomy (total_weight todo live +ℤ weight k)
+    → Puts todo live todo' live' ((k.0.0, c), k.1) → IsRoomy (total_weight todo' live' +ℤ weight ((c, k.0.1), k.1))
 room_second todo live todo' live' k c inner box h p = omega (arith, linear, weight_pieces k c inner box, p.weight_grows)
 
 -- what 128 bits keep of a count that has room
-pub room_kept : (todo live : List Counted) (k : Counted) → (total_weight todo live +ℤ weight k) ≤ℤ pos (2 ^ 120) → to_z w128 (of_z w128 k.1) ≡ k.1
+pub room_kept : (todo live : List Counted) (k : Counted) → IsRoomy (total_weight todo live +ℤ weight k) → to_z w128 (of_z w128 k.1) ≡ k.1
 room_kept todo live k h = count_kept live k (room_live todo live k h)
 
 -- room after a live segment was taken in hand
-pub room_taken : (todo live live' : List Counted) (k j : Counted) → IsTaken live live' j → (total_weight todo live +ℤ weight k) ≤ℤ pos (2 ^ 120)
-    → (total_weight todo live' +ℤ weight k) ≤ℤ pos (2 ^ 120)
+pub room_taken : (todo live live' : List Counted) (k j : Counted) → IsTaken live live' j → IsRoomy (total_weight todo live +ℤ weight k)
+    → IsRoomy (total_weight todo live' +ℤ weight k)
 room_taken todo live live' k j t h = omega (arith, linear, t weight, weight_one j)
 
-pub room_other : (todo live live1 todo' live' : List Counted) (k j : Counted) → IsTaken live live1 j → Puts todo live1 todo' live' k → (total_weight todo live +ℤ weight k) ≤ℤ pos (2 ^ 120)
-    → (total_weight todo' live' +ℤ weight j) ≤ℤ pos (2 ^ 120)
+pub room_other : (todo live live1 todo' live' : List Counted) (k j : Counted) → IsTaken live live1 j → Puts todo live1 todo' live' k → IsRoomy (total_weight todo live +ℤ weight k)
+    → IsRoomy (total_weight todo' live' +ℤ weight j)
 room_other todo live live1 todo' live' k j t p h = omega (arith, linear, t weight, p.weight_grows)
 
 pub room_pieces : (todo live live1 todo' live' : List Counted) (k j : Counted) (c : Point) → is_end c k.0 ≡ false → IsInBox k.0 c → IsTaken live live1 j
-    → PutsPieces todo live1 todo' live' k c → (total_weight todo live +ℤ weight k) ≤ℤ pos (2 ^ 120) → (total_weight todo' live' +ℤ weight j) ≤ℤ pos (2 ^ 120)
+    → PutsPieces todo live1 todo' live' k c → IsRoomy (total_weight todo live +ℤ weight k) → IsRoomy (total_weight todo' live' +ℤ weight j)
 room_pieces todo live live1 todo' live' k j c inner box t p h = omega (arith, linear, t weight, p.first.weight_grows, p.second.weight_grows, weight_pieces k c inner box)

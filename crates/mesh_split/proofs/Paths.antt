@@ -9,7 +9,7 @@ use Rattle.mesh_cuts.specs.Clean.{IsProper}
 use Rattle.mesh_cuts.specs.Counted.{Counted, IsCountOf}
 use Rattle.mesh_cuts.specs.Split.{back, same_ends, occurs, IsInBox, Cut, cut, after, path}
 use Rattle.mesh_cuts.specs.Splitting.{Leads, IsOnward, IsPathOf, ComesFrom, IsSplitting}
-use Rattle.mesh_split.specs.Steps.{AllClear, IsReached}
+use Rattle.mesh_split.specs.Midway.Steps.{AllClear, IsReached}
 use Rattle.mesh_cuts.proofs.SafeCuts.{split_safe}
 use Rattle.mesh_cuts.proofs.Keys.{occurs_head}
 use Rattle.mesh_cuts.proofs.KeptByCuts.{box_trans, after_append, after_balanced}

@@ -8,7 +8,7 @@ use Rattle.mesh_plane.specs.Winding.{same_point}
 use Rattle.mesh_plane.proofs.Whole.{linear}
 use Rattle.mesh_cuts.specs.Split.{same_edge, same_ends, occurs, is_end, IsInBox, IsCrossing, Meets, at_start_of_second, at_end_of_second, at_start_of_first, at_end_of_first, at_crossing, Cut, cut, after, add_cut, IsLegal, split}
 use Rattle.mesh_cuts.specs.Counted.{Counted, bit, times}
-use Rattle.mesh_split.specs.Steps.{exactly, IsPut, IsTaken, Puts, PutsPieces, IsClearOf, AllClear, AreCountOf, IsReached, Settles, extent, weight, waiting_work, live_work}
+use Rattle.mesh_split.specs.Midway.Steps.{exactly, IsPut, IsTaken, Puts, PutsPieces, IsClearOf, AllClear, AreCountOf, IsReached, Settles, extent, weight, waiting_work, live_work}
 use Rattle.mesh_cuts.specs.Split.{AreClear}
 use Rattle.mesh_cuts.proofs.Ends.{decides_edge, decides_end, ends_sym, not_ends}
 use Rattle.mesh_cuts.proofs.Boxes.{meets_box, meets_once, crossing_swapped, turn_start}

@@ -12,8 +12,10 @@ use Rattle.mesh_plane.proofs.Ring.{ring, var, neg, ◌⊕◌, ◌⊖◌, ◌⊗�
 use Rattle.mesh_cuts.specs.Clean.{IsOn, refined_edge}
 use Rattle.mesh_cuts.specs.Split.{back, same_ends, is_end, IsBetween, IsInside, AreOpposite, IsCrossing}
 use Rattle.mesh_cuts.proofs.Boxes.{turns_differ}
-use Rattle.mesh_cuts.proofs.Ends.{decides_point, decides_end, decides_ends, ends_turned, ends_sym}
-use Rattle.mesh_plane.proofs.Places.{place, coordinates, turned, scaled}
+use Rattle.mesh_cuts.proofs.Ends.{decides_end, decides_ends, ends_turned, ends_sym}
+use Rattle.mesh_plane.proofs.Places.{place, coordinates, turned, scaled_place}
+use Rattle.mesh_plane.proofs.Comparing.{decides_point}
+use Rattle.mesh_cuts.proofs.Boxes.{between_back, on_back}
 
 -- two edges without a point inside one of them that is the other's end, and without a crossing
 pub record IsApart (e f : Edge) : Type 0 where
@@ -78,9 +80,6 @@ turn_exchanged p r q =
     (neg (turned (place 0) (place 1) (place 2)))
     refl
 
-between_back : (a z b : ℤ) → IsBetween b z a → IsBetween a z b
-between_back a z b h = record { up = h.down; down = h.up }
-
 end_back : (c : Point) (e : Edge) → is_end c (back e) ≡ is_end c e
 end_back c e =
     same_from_decides _ _ (decides_end c (back e))
@@ -109,8 +108,8 @@ inside_flip e c h = record {
   no_end = sym (end_flip c e) ∙ h.no_end;
 }
 
-crossing_back : (e f : Edge) → IsCrossing (back e) f → IsCrossing e f
-crossing_back e f h = record {
+is_crossing_back : (e f : Edge) → IsCrossing (back e) f → IsCrossing e f
+is_crossing_back e f h = record {
   second_parted = opposite_neg (turn e.0 e.1 f.0) (turn e.0 e.1 f.1) (turn e.1 e.0 f.0) (turn e.1 e.0 f.1) (turn_flip e.0 e.1 f.0) (turn_flip e.0 e.1 f.1) h.second_parted;
   first_parted = opposite_swap (turn f.0 f.1 e.1) (turn f.0 f.1 e.0) h.first_parted;
 }
@@ -136,7 +135,7 @@ apart_back e f h = record {
   first_end = h.first_start;
   second_start = λ i. h.second_start (inside_back e f.0 i);
   second_end = λ i. h.second_end (inside_back e f.1 i);
-  crossing = λ c. h.crossing (crossing_back e f c);
+  crossing = λ c. h.crossing (is_crossing_back e f c);
 }
 
 apart_flip : (e f : Edge) → IsApart e f → IsApart (flip_edge e) (flip_edge f)
@@ -146,12 +145,6 @@ apart_flip e f h = record {
   second_start = λ i. h.second_start (inside_flip e f.0 i);
   second_end = λ i. h.second_end (inside_flip e f.1 i);
   crossing = λ c. h.crossing (crossing_flip e f c);
-}
-
-on_back : (e : Edge) (z : Point) → IsOn e z → IsOn (back e) z
-on_back e z h = record {
-  on_line = turn_flip e.0 e.1 z ∙ omega (arith, linear, h.on_line);
-  in_box = record { by_x = between_back e.1.0 z.0 e.0.0 h.in_box.by_x; by_y = between_back e.1.1 z.1 e.0.1 h.in_box.by_y };
 }
 
 on_flip : (e : Edge) (z : Point) → IsOn e z → IsOn (flip_edge e) (flip z)
@@ -257,8 +250,8 @@ part_turn : (m : ℤ) (a b p r z : Point)
     +ℤ ((m *ℤ (r.0 -ℤ p.0)) *ℤ turn (m *ℤ a.0, m *ℤ a.1) (m *ℤ b.0, m *ℤ b.1) z)
 part_turn m a b p r z =
     let k = var 10 in
-    let e = turned (scaled k (place 0)) (scaled k (place 1)) (place 4) in
-    let f = turned (scaled k (place 2)) (scaled k (place 3)) (place 4) in
+    let e = turned (scaled_place k (place 0)) (scaled_place k (place 1)) (place 4) in
+    let f = turned (scaled_place k (place 2)) (scaled_place k (place 3)) (place 4) in
     ring (coordinates (a ∷ b ∷ p ∷ r ∷ z ∷ []) (m ∷ []))
     ((k ⊗ (var 2 ⊖ var 0)) ⊗ f)
     (((k ⊗ k) ⊗ ((((k ⊗ var 2) ⊖ var 8) ⊗ turned (place 2) (place 3) (place 0)) ⊕ ((var 8 ⊖ (k ⊗ var 0)) ⊗ turned (place 2) (place 3) (place 1)))) ⊕ ((k ⊗ (var 6 ⊖ var 4)) ⊗ e))

@@ -7,7 +7,7 @@ use Rattle.mesh_plane.specs.Winding.{same_point}
 use Rattle.mesh_plane.proofs.Whole.{linear, mul_add, mul_sub}
 use Rattle.mesh_cuts.specs.Split.{same_ends, occurs, cut}
 use Rattle.mesh_cuts.specs.Counted.{Counted, bit, along, net, times}
-use Rattle.mesh_split.specs.Steps.{IsTaken, IsPut, Puts, PutsPieces, AreCountOf, at_least_once}
+use Rattle.mesh_split.specs.Midway.Steps.{IsTaken, IsPut, Puts, PutsPieces, AreCountOf, at_least_once}
 use Rattle.mesh_cuts.proofs.Ends.{ends_self, ends_sym, ends_along, along_self}
 use Rattle.mesh_cuts.proofs.Cuts.{net_cut, occurs_cut, change}
 use Rattle.mesh_cuts.proofs.Counts.{absent_net, bit_least, times_least}
@@ -18,12 +18,6 @@ times_along q s [] h = refl
 times_along q s (k ∷ ks) h =
     let e : same_ends q k.0 ≡ same_ends s k.0 = ends_sym q k.0 ∙ sym (ends_along k.0 s q (ends_sym s q ∙ h)) ∙ ends_sym k.0 s in
     omega (arith, linear, ap bit e, times_along q s ks h)
-
-pub occurs_along : (q s : Edge) (es : List Edge) → same_ends q s ≡ true → occurs q es ≡ occurs s es
-occurs_along q s [] h = refl
-occurs_along q s (x ∷ xs) h =
-    let e : same_ends q x ≡ same_ends s x = ends_sym q x ∙ sym (ends_along x s q (ends_sym s q ∙ h)) ∙ ends_sym x s in
-    λ i. e i || occurs_along q s xs h i
 
 -- ---- a held segment
 

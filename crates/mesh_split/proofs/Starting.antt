@@ -11,12 +11,13 @@ use Rattle.mesh_plane.proofs.Sums.{sum_of_append}
 use Rattle.mesh_plane.proofs.Whole.{linear}
 use Rattle.mesh_cuts.specs.Split.{same_ends, occurs, after, no_cut}
 use Rattle.mesh_cuts.specs.Counted.{Counted, bit, along, times}
-use Rattle.mesh_split.specs.Steps.{IsTaken, Puts, AllClear, AreCountOf, IsReached, Settles, at_least_once, extent, weight, waiting_work, live_work, work, total_weight}
+use Rattle.mesh_split.specs.Midway.Steps.{IsTaken, Puts, AllClear, AreCountOf, IsReached, Settles, at_least_once, extent, weight, waiting_work, live_work, work, total_weight}
 use Rattle.mesh_cuts.proofs.Ends.{ends_self}
 use Rattle.mesh_cuts.proofs.Counts.{times_least}
 use Rattle.mesh_cuts.proofs.Cuts.{occurs_append}
 use Rattle.mesh_split.proofs.Stages.{pop_count}
 use Rattle.mesh_split.proofs.Settling.{fewer_clear}
+use Rattle.mesh_cuts.specs.Counted.{IsRoomy}
 
 once_given : (b o : Bool) (z : ℤ) → z +ℤ pos 0 ≡ bit o → at_least_once b z +ℤ pos 0 ≡ bit (o || (b || false))
 once_given true true z h = ap (λ (x : ℤ). cond (int_lt (pos 0) x) x (pos 1) +ℤ pos 0) (one z h)
@@ -91,7 +92,7 @@ pub settled_weight : (old todo live todo' live' : List Counted) (k : Counted) (w
     → total_weight old live ≤ℤ w → total_weight todo' live' ≤ℤ w
 settled_weight old todo live todo' live' k w e s h = omega (arith, linear, s.weight_stays, e weight)
 
-pub popped_room : (old todo live : List Counted) (k : Counted) → IsTaken old todo k → total_weight old live ≤ℤ pos (2 ^ 97) → (total_weight todo live +ℤ weight k) ≤ℤ pos (2 ^ 120)
+pub popped_room : (old todo live : List Counted) (k : Counted) → IsTaken old todo k → total_weight old live ≤ℤ pos (2 ^ 97) → IsRoomy (total_weight todo live +ℤ weight k)
 popped_room old todo live k e h =
     let more : pos (2 ^ 97) ≤ℤ pos (2 ^ 120) = omega (arith, ints) in
     omega (arith, linear, e weight)

@@ -11,8 +11,9 @@ use Rattle.mesh_plane.proofs.Whole.{linear}
 use Rattle.mesh_cuts.specs.Split.{same_edge}
 use Rattle.mesh_cuts.specs.Counted.{Counted, bit, times}
 use Rattle.mesh_cuts.proofs.Ends.{decides_edge}
-use Rattle.mesh_split.specs.Steps.{exactly, IsPut}
-use Rattle.mesh_split.proofs.Entries.{edge_cmp, equal_self, found_stands, insert_put}
+use Rattle.mesh_plane.proofs.Comparing.{edge_cmp}
+use Rattle.mesh_split.specs.Midway.Steps.{exactly, IsPut}
+use Rattle.mesh_split.proofs.Entries.{equal_self, found_stands, insert_put}
 use Rattle.mesh_split.proofs.Filing.{positive_times}
 
 -- ends that are not found do not stand

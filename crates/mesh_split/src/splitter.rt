@@ -6,8 +6,8 @@ ghost use Rattle.mesh_cuts.specs.Clean.{IsProper};
 ghost use Rattle.mesh_cuts.specs.Split.{is_end, IsInBox, Meets};
 ghost use Rattle.mesh_cuts.specs.Splitting.{IsSplitting};
 ghost use Rattle.mesh_cuts.specs.Split.{IsForward};
-ghost use Rattle.mesh_split.specs.Steps.{Puts, PutsPieces, Settles, exactly, weight, total_weight};
-ghost use Rattle.mesh_cuts.specs.Counted.{size, times};
+ghost use Rattle.mesh_split.specs.Midway.Steps.{Puts, PutsPieces, Settles, exactly, weight, total_weight};
+ghost use Rattle.mesh_cuts.specs.Counted.{size, times, IsRoomy};
 
 use crate::store::{Meeting, Store};
 use crate::worklist::Worklist;
@@ -33,7 +33,7 @@ fn single(e: GridEdge) -> CountedSegment
 
 /// The segment seen from its other end.
 fn turned(s: CountedSegment) -> CountedSegment
-    requires { weight s ≤ℤ pos (2 ^ 120) }
+    requires { IsRoomy (weight s) }
     ensures { result ≡ ((s.0.1, s.0.0), neg_ℤ s.1) }
 {
     let (start, end) = s.0;
@@ -56,7 +56,7 @@ impl Splitter {
     /// Adds a segment to the one with its ends, or else to the worklist.
     fn put(&mut self, s: CountedSegment) -> Result<(), AllocError>
         requires proper { same_point s.0.0 s.0.1 ≡ false }
-        requires room { (total_weight self.old.todo self.old.live +ℤ weight s) ≤ℤ pos (2 ^ 120) }
+        requires room { IsRoomy (total_weight self.old.todo self.old.live +ℤ weight s) }
         ensures { OnOk result (Puts self.old.todo self.old.live self.new.todo self.new.live s) }
     {
         if is_before(s.0.0, s.0.1) {
@@ -68,7 +68,7 @@ impl Splitter {
     /// The same, where the lesser end is first.
     fn file(&mut self, s: CountedSegment) -> Result<(), AllocError>
         requires forward { IsForward s.0 }
-        requires room { (total_weight self.old.todo self.old.live +ℤ weight s) ≤ℤ pos (2 ^ 120) }
+        requires room { IsRoomy (total_weight self.old.todo self.old.live +ℤ weight s) }
         ensures { OnOk result (Puts self.old.todo self.old.live self.new.todo self.new.live s) }
     {
         let added = self.live.add(s)?;
@@ -83,7 +83,7 @@ impl Splitter {
     fn cut(&mut self, s: CountedSegment, c: GridPoint) -> Result<(), AllocError>
         requires inner { is_end c s.0 ≡ false }
         requires in_box { IsInBox s.0 c }
-        requires room { (total_weight self.old.todo self.old.live +ℤ weight s) ≤ℤ pos (2 ^ 120) }
+        requires room { IsRoomy (total_weight self.old.todo self.old.live +ℤ weight s) }
         ensures { OnOk result (PutsPieces self.old.todo self.old.live self.new.todo self.new.live s c) }
     {
         let (start, end) = s.0;
@@ -97,7 +97,7 @@ impl Splitter {
         requires proper { same_point s.0.0 s.0.1 ≡ false }
         requires meets { Meets s.0 m.0 m.1 }
         requires lives { pos 0 <ℤ exactly m.0 self.old.live }
-        requires room { (total_weight self.old.todo self.old.live +ℤ weight s) ≤ℤ pos (2 ^ 120) }
+        requires room { IsRoomy (total_weight self.old.todo self.old.live +ℤ weight s) }
         ensures { OnOk result (Settles self.old.todo self.old.live self.new.todo self.new.live s) }
     {
         if is_end(m.1, m.0) {
@@ -119,7 +119,7 @@ impl Splitter {
     fn settle(&mut self, s: CountedSegment) -> Result<(), AllocError>
         requires forward { IsForward s.0 }
         requires absent { times s.0 self.old.live ≡ pos 0 }
-        requires room { (total_weight self.old.todo self.old.live +ℤ weight s) ≤ℤ pos (2 ^ 120) }
+        requires room { IsRoomy (total_weight self.old.todo self.old.live +ℤ weight s) }
         ensures { OnOk result (Settles self.old.todo self.old.live self.new.todo self.new.live s) }
     {
         if let Some(m) = self.live.conflict(s.0) {
@@ -139,7 +139,7 @@ impl Splitter {
 pub fn split_edges(alloc: Global, edges: &[GridEdge]) -> Result<Vec<CountedSegment>, AllocError>
     requires { IsProper edges.now }
     ensures splitting { IfOk result (λ v. IsSplitting edges.now v.items) }
-    ensures room { IfOk result (λ v. sum_of size v.items ≤ℤ pos (2 ^ 120)) }
+    ensures room { IfOk result (λ v. IsRoomy (sum_of size v.items)) }
 {
     let mut splitter = Splitter::new(alloc, edges)?;
     for e in edges {

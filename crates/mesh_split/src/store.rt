@@ -8,8 +8,8 @@ ghost use Rattle.mesh_plane.specs.Plane.{Point, Edge};
 ghost use Rattle.mesh_cuts.specs.Counted.{times};
 ghost use Rattle.mesh_cuts.specs.Marks.{AreRising};
 ghost use Rattle.mesh_cuts.specs.Split.{IsForward, IsInBox, AreClear, Meets};
-ghost use Rattle.mesh_split.specs.Cells.{Grows, IsListed, IsCellClear, IsColumnClear, cell_of};
-ghost use Rattle.mesh_split.specs.Steps.{HaveRoom, IsPut, IsTaken, IsClearOf, AddsIf, exactly};
+ghost use Rattle.mesh_split.specs.Midway.Cells.{Grows, IsListed, IsCellClear, IsColumnClear, cell_of};
+ghost use Rattle.mesh_split.specs.Midway.Steps.{HaveRoom, IsPut, IsTaken, IsClearOf, AddsIf, exactly};
 
 use crate::axes::{Axes, Span};
 use crate::tally::Tally;
@@ -36,7 +36,7 @@ impl Model for Store {
 
     ghost Value = { List (((ℤ × ℤ) × (ℤ × ℤ)) × ℤ) };
 
-    ghost use Rattle.mesh_split.specs.Cells.{AreFiled};
+    ghost use Rattle.mesh_split.specs.Midway.Cells.{AreFiled};
 
     ghost view = { λ s. s.live };
 

@@ -3,7 +3,7 @@
 ghost use Rattle.std.specs.Prelude.{◌≡◌, ℕ, ◌*◌, ◌≤◌, ◌↔◌, ℤ, pos, unsigned_abs, IsTrue, IsNone, IfSome, MatchOption};
 ghost use Rattle.mesh_plane.specs.Bounds.{IsSafe};
 ghost use Rattle.mesh_plane.specs.Plane.{length_sq};
-ghost use Rattle.mesh_num.specs.Direction.{IsDirection, IsFresh, IsShort, IsOdd, SameWay, KeepsTurns, KeepsScaledTurns, scaled, scaled_direction};
+ghost use Rattle.mesh_num.specs.Direction.{IsDirection, IsFresh, IsShort, KeepsOpposites, SameWay, KeepsTurns, KeepsScaledTurns, scaled, scaled_direction};
 
 use crate::num::convert::{narrow, unit, widen};
 use crate::num::exact::square_sum;
@@ -114,7 +114,7 @@ impl<I: IntNumber> IntVector<I> {
         ensures value { IfSome result (λ n. IsDirection I.unit self.now n) }
         ensures short { IfSome result (λ n. IsShort I.unit n) }
         ensures fresh { IfSome result (λ n. IsFresh I.unit n) }
-        ensures odd { IfSome result (λ n. IsOdd I.unit self.now n) }
+        ensures odd { IfSome result (λ n. KeepsOpposites I.unit self.now n) }
         ensures same_way { IfSome result (λ n. SameWay I.unit self.now n) }
         ensures turns { IfSome result (λ n. KeepsTurns I.unit self.now n) }
     {

@@ -1,7 +1,7 @@
 //! Contours in one list of points.
 
 ghost use Rattle.std.specs.Prelude.{◌≡◌, ℤ, List, [], ◌∷◌, ◌++◌, OnOk, OnErr, IfOk};
-ghost use Rattle.mesh_num.specs.FlatContours.{HoldsContours};
+ghost use Rattle.mesh_num.specs.FlatContours.{HoldsContours, AddsContours};
 ghost use Rattle.mesh_num.specs.Paths.{paths_of, shapes_of, contours_of};
 
 use crate::num::number::IntNumber;
@@ -51,7 +51,7 @@ impl<I: IntNumber> FlatContoursBuffer<I> {
     }
 
     fn push_shape(&mut self, shape: &Vec<Vec<IntPoint<I>>>) -> Result<(), AllocError>
-        ensures { OnOk result ((cs : List (List (ℤ × ℤ))) → HoldsContours self.old cs → HoldsContours self.new (cs ++ paths_of shape.now.items)) }
+        ensures { OnOk result (AddsContours self.old self.new (paths_of shape.now.items)) }
     {
         for contour in shape {
             self.push(contour)?;
@@ -60,7 +60,7 @@ impl<I: IntNumber> FlatContoursBuffer<I> {
     }
 
     fn push(&mut self, contour: &Vec<IntPoint<I>>) -> Result<(), AllocError>
-        ensures { OnOk result ((cs : List (List (ℤ × ℤ))) → HoldsContours self.old cs → HoldsContours self.new (cs ++ contour.now.items ∷ [])) }
+        ensures { OnOk result (AddsContours self.old self.new (contour.now.items ∷ [])) }
     {
         let start = self.points.len();
         self.points.extend_from_slice(contour.as_slice())?;

@@ -7,7 +7,6 @@ use Rattle.mesh_plane.specs.Plane.{Point}
 use Rattle.mesh_below.proofs.AnswerPoints.{image_at}
 use Rattle.mesh_below.proofs.answer.int_shape.Goals as goal
 
--- src/answer.rt:48:23
 pub int_contour-requires : goal.int_contour-requires
 int_contour-requires g c =
     let safe : List Point → Type 0 = λ (ps : List Point). All (IsSafe g.I.IntNumber.unit) ps in

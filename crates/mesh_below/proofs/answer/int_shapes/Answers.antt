@@ -8,7 +8,6 @@ use Rattle.mesh_plane.specs.Plane.{Point}
 use Rattle.mesh_below.proofs.AnswerPoints.{image_at}
 use Rattle.mesh_below.proofs.answer.int_shapes.Goals as goal
 
--- src/answer.rt:63:21
 pub int_shape-requires : goal.int_shape-requires
 int_shape-requires g c =
     let safe : List (List Point) → Type 0 = λ (shape : List (List Point)). All (λ (ps : List Point). All (IsSafe g.I.IntNumber.unit) ps) shape in

@@ -10,10 +10,10 @@ use Rattle.mesh_below.proofs.resolve.resolve.Goals as goal
 use Rattle.mesh_cuts.specs.Boundary.{IsBoundary}
 use Rattle.mesh_cuts.specs.Counted.{Counted, IsCountOf}
 use Rattle.mesh_cuts.specs.FillRules.{filled}
-use Rattle.mesh_shapes.specs.Grouping.{AreRingsOf}
+use Rattle.mesh_below.specs.Midway.Rings.{AreRingsOf}
 use Rattle.mesh_shapes.specs.Resolution.{Choices}
 use Rattle.mesh_cuts.specs.Split.{after}
-use Rattle.mesh_shapes.specs.Unused.{contour_edges}
+use Rattle.mesh_shapes.specs.Vectors.{contour_edges}
 
 pub contours-requires : goal.contours-requires
 contours-requires c =

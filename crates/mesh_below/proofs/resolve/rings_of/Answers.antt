@@ -4,7 +4,7 @@ use Rattle.std.specs.List.{All}
 use Rattle.std.specs.declared.alloc.Global.{Global}
 use Rattle.mesh_plane.specs.Plane.{Point, Edge}
 use Rattle.mesh_plane.specs.Winding.{boundary, same_point}
-use Rattle.mesh_shapes.specs.Grouping.{PushesRing}
+use Rattle.mesh_below.specs.Midway.Rings.{PushesRing}
 use Rattle.mesh_below.proofs.Resolving.{rings_more, of_one}
 use Rattle.mesh_below.proofs.resolve.rings_of.Goals as goal
 

@@ -20,7 +20,7 @@ loop-i-preserved c =
     let l : c.loop-i.i < 2 ^ 64 = omega (arith, c.loop-i-test.true) in
     let a = closed_added (crossing_on 2 c.args.q) 1 c.args.points.now c.loop-i.i c.loop-i.before (to_z w128 c.loop-i.sum-bits) c.crossing-sum.result c.loop-i.invariant (one_size c.crossing-sum.result c.crossing-sum.ensures.size) (lit≤ tt) l in
     closed_next (crossing_on 2 c.args.q) 1 c.args.points.now c.loop-i.i c.loop-i.before (to_z w128 c.loop-i.sum-bits) c.crossing-sum.result c.loop-i.invariant a c.loop-i-test.true
-    (c.crossing-sum.ensures.value ∙ λ j. crossing c.args.q (c.doubled.ensures.value j) (c.doubled-in-loop-i.ensures.value j))
+    (c.crossing-sum.ensures.value ∙ λ j. crossing c.args.q (c.doubled.ensures j) (c.doubled-in-loop-i.ensures j))
 
 pub overflow_add-result : goal.overflow_add-result
 overflow_add-result c =
@@ -36,7 +36,7 @@ returns-clause-value c =
     let l : c.loop-i.i < 2 ^ 64 = omega (arith, c.loop-i.auto.i-end some) in
     let a = closed_added (crossing_on 2 c.args.q) 1 c.args.points.now c.loop-i.i c.loop-i.before (to_z w128 c.loop-i.sum-bits) c.crossing.result c.loop-i.invariant (one_size c.crossing.result c.crossing.ensures.size) (lit≤ tt) l in
     closed_end (crossing_on 2 c.args.q) 1 c.args.points.now c.loop-i.i c.loop-i.before (to_z w128 c.loop-i.sum-bits) c.crossing.result c.loop-i.invariant a c.loop-i-test.false
-    (c.crossing.ensures.value ∙ λ j. crossing c.args.q (c.doubled-2.ensures.value j) (c.doubled-3.ensures.value j))
+    (c.crossing.ensures.value ∙ λ j. crossing c.args.q (c.doubled-2.ensures j) (c.doubled-3.ensures j))
 
 pub returns-clause-size : goal.returns-clause-size
 returns-clause-size c =

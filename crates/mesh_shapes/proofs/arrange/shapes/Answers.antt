@@ -1,20 +1,14 @@
-use Rattle.std.proofs.Common.{◌^◌, ◌∙◌, ap, sym, subst, List, map}
-use Rattle.std.specs.List.{All, enumerate_from}
-use Rattle.std.proofs.lemmas.List.Sorted.{IsPermutation-map, All-permutation}
-use Rattle.mesh_plane.specs.Bounds.{IsSafe}
-use Rattle.mesh_shapes.specs.Resolution.{answered, shapes_of}
-use Rattle.mesh_shapes.specs.Grouping.{Held, view, views}
+use Rattle.std.proofs.Common.{◌∙◌, ap, List, map}
+use Rattle.std.specs.List.{enumerate_from}
+use Rattle.std.proofs.lemmas.List.Sorted.{IsPermutation-map}
+use Rattle.mesh_shapes.specs.Resolution.{answered, rings_by_shape}
+use Rattle.mesh_shapes.specs.Vectors.{HeldRing, ring_held, rings_held}
 use Rattle.mesh_shapes.proofs.arrange.shapes.Goals as goal
-
-pub grouped-requires : goal.grouped-requires
-grouped-requires c =
-    subst (λ (l : List Held). All (λ (r : Held). IsSafe (2 ^ 33) r.1) l) (sym c.deref.ensures.value)
-    (All-permutation (λ (r : Held). IsSafe (2 ^ 33) r.1) c.args.rings.items c.in_ok-ordered.ordered.items c.in_ok-ordered.ensures.same c.requires)
 
 pub returns : goal.returns
 returns c = record {
-  sorted = views c.in_ok-ordered.ordered.items;
-  same = IsPermutation-map view c.args.rings.items c.in_ok-ordered.ordered.items c.in_ok-ordered.ensures.same;
+  sorted = rings_held c.in_ok-ordered.ordered.items;
+  same = IsPermutation-map ring_held c.args.rings.items c.in_ok-ordered.ordered.items c.in_ok-ordered.ensures.same;
   ordered = c.in_ok-ordered.ensures.ordered;
-  shapes = c.in_ok-shapes.ensures ∙ ap (λ (l : List Held). map (map (answered c.args.clockwise)) (shapes_of (enumerate_from 0 (views l)))) c.deref.ensures.value;
+  shapes = c.in_ok-shapes.ensures ∙ ap (λ (l : List HeldRing). map (map (answered c.args.clockwise)) (rings_by_shape (enumerate_from 0 (rings_held l)))) c.deref.ensures.value;
 }

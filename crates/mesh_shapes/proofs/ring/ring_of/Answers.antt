@@ -1,12 +1,12 @@
 use Rattle.std.proofs.Common.{◌++◌, ◌∙◌, ap, subst, List, drop, take, length}
 use Rattle.mesh_plane.specs.Plane.{Point}
 use Rattle.mesh_shapes.specs.Contours.{vertices, side_point}
-use Rattle.mesh_shapes.specs.Progress.{IsBestVisit}
+use Rattle.mesh_shapes.specs.Midway.Progress.{IsBestVisit}
 use Rattle.mesh_shapes.proofs.ContoursBegun.{ring_made}
 use Rattle.mesh_shapes.proofs.ring.ring_of.Goals as goal
 
-pub returns-clause-ring : goal.returns-clause-ring
-returns-clause-ring c =
+pub returns : goal.returns
+returns c =
     let all = c.args.all in
     let first = c.in_ok-from_least.from_least.items in
     let begun = c.in_ok-begun.begun.items in
@@ -15,4 +15,4 @@ returns-clause-ring c =
     c.in_ok-from_least.ensures best
     (c.in_ok-begun.ensures ∙ ap (λ (l : List Point). drop c.start_place.result l ++ take c.start_place.result l) c.deref.ensures.value)
     (c.in_ok-vertices.ensures ∙ ap (vertices all) c.deref-4.ensures.value)
-    (c.side_point-side.ensures.value ∙ ap side_point c.deref-3.ensures.value)
+    (c.side_point-side.ensures ∙ ap side_point c.deref-3.ensures.value)

@@ -11,7 +11,7 @@ pub returns-then-c-gt0-clause-value : goal.returns-then-c-gt0-clause-value
 returns-then-c-gt0-clause-value c =
     let n = c.args.s.1 in
     let d = c.crossing-c.result in
-    let value = c.crossing-c.ensures.value ∙ λ i. crossing c.args.q (c.doubled.ensures.value i) (c.doubled-2.ensures.value i) in
+    let value = c.crossing-c.ensures.value ∙ λ i. crossing c.args.q (c.doubled.ensures i) (c.doubled-2.ensures i) in
     let kept = small_kept 2 d (lit≤ tt) c.crossing-c.ensures.size in
     let test = simp kept at c.if-c-gt0.true in
     let above : pos 0 <ℤ d = omega (arith, ints, test) in
@@ -21,7 +21,7 @@ pub returns-then-c-lt0-clause-value : goal.returns-then-c-lt0-clause-value
 returns-then-c-lt0-clause-value c =
     let n = c.args.s.1 in
     let d = c.crossing-c.result in
-    let value = c.crossing-c.ensures.value ∙ λ i. crossing c.args.q (c.doubled.ensures.value i) (c.doubled-2.ensures.value i) in
+    let value = c.crossing-c.ensures.value ∙ λ i. crossing c.args.q (c.doubled.ensures i) (c.doubled-2.ensures i) in
     let kept = small_kept 2 d (lit≤ tt) c.crossing-c.ensures.size in
     let test = simp kept at c.if-c-lt0.true in
     let below : d <ℤ pos 0 = omega (arith, ints, test) in
@@ -35,7 +35,7 @@ pub returns-clause-value : goal.returns-clause-value
 returns-clause-value c =
     let n = c.args.s.1 in
     let d = c.crossing-c.result in
-    let value = c.crossing-c.ensures.value ∙ λ i. crossing c.args.q (c.doubled.ensures.value i) (c.doubled-2.ensures.value i) in
+    let value = c.crossing-c.ensures.value ∙ λ i. crossing c.args.q (c.doubled.ensures i) (c.doubled-2.ensures i) in
     let kept = small_kept 2 d (lit≤ tt) c.crossing-c.ensures.size in
     let first = simp kept at c.if-c-gt0.false in
     let second = simp kept at c.if-c-lt0.false in

@@ -10,8 +10,8 @@ use Rattle.mesh_shapes.proofs.SidesCode.{size_least, next_part, sum_more, adds_o
 use Rattle.mesh_plane.proofs.Sums.{sum_least}
 use Rattle.mesh_shapes.proofs.sides.winding.Goals as goal
 
-pub counted_crossing-sum-requires-clause-count_small : goal.counted_crossing-sum-requires-clause-count_small
-counted_crossing-sum-requires-clause-count_small c =
+pub counted_crossing-sum-requires : goal.counted_crossing-sum-requires
+counted_crossing-sum-requires c =
     let xs = c.args.segments.now in
     omega (arith, ints, next_part size size_least xs c.loop-s.s-index (((pos 0, pos 0), (pos 0, pos 0)), pos 0) c.loop-s-test.true, sum_least size size_least (take c.loop-s.s-index xs), c.requires.room)
 

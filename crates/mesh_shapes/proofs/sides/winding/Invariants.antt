@@ -1,7 +1,7 @@
 use Rattle.std.proofs.Common.{◌≡◌, take}
 use Rattle.std.specs.Prelude.{pos, ◌≤ℤ◌, unsigned_abs}
 use Rattle.mesh_plane.specs.Winding.{sum_of}
-use Rattle.mesh_shapes.specs.CountedSides.{counted_winding}
+use Rattle.mesh_shapes.specs.Midway.CountedSides.{counted_winding}
 use Rattle.mesh_cuts.specs.Counted.{size}
 use Rattle.mesh_shapes.proofs.sides.winding.Given as goal
 

@@ -2,7 +2,8 @@ use Rattle.std.proofs.Common.{◌≡◌, ◌∙◌, ap, sym, subst, Bool, replic
 use Rattle.std.specs.Prelude.{ℤ}
 use Rattle.mesh_plane.specs.Plane.{Edge}
 use Rattle.mesh_plane.specs.Winding.{sum_of, IsBalanced}
-use Rattle.mesh_shapes.specs.Unused.{unused, contour_edges}
+use Rattle.mesh_shapes.specs.Midway.Unused.{unused}
+use Rattle.mesh_shapes.specs.Vectors.{contour_edges}
 use Rattle.mesh_shapes.proofs.Walking.{same_balanced, unused_all, counts_same}
 use Rattle.mesh_shapes.proofs.walk.contours.Goals as goal
 

@@ -1,33 +1,16 @@
-use Rattle.std.proofs.Common.{◌+◌, ◌-◌, ◌/◌, ◌<◌, ◌∙◌, sym, arith, length}
-use Rattle.std.specs.Prelude.{pos}
-use Rattle.mesh_shapes.proofs.Walking.{below_mid, above_mid}
+use Rattle.std.proofs.Common.{arith, rules}
+use Rattle.std.proofs.lemmas.List.Sorted.{IsPartitionPoint-from_clause}
+use Rattle.mesh_plane.specs.Plane.{Edge}
+use Rattle.mesh_plane.specs.Order.{point_lt}
+use Rattle.mesh_shapes.proofs.Walking.{parted_at}
 use Rattle.mesh_shapes.proofs.walk.first_from.Goals as goal
 
-pub loop-low-preserved-then-is_before : goal.loop-low-preserved-then-is_before
-loop-low-preserved-then-is_before c =
-    let es = c.args.edges.now in
-    let l = c.loop-low in
-    let mid = l.low + (l.high - l.low) / 2 in
-    let inside : mid < length es = omega (arith, l.invariant.bound, c.loop-low-test.true) in
-    record {
-      order = omega (arith, c.loop-low-test.true);
-      bound = l.invariant.bound;
-      before = below_mid es c.args.at mid ((pos 0, pos 0), (pos 0, pos 0)) c.requires inside (sym c.is_before.ensures ∙ c.if-is_before.true);
-      after = l.invariant.after;
-    }
-
-pub loop-low-preserved : goal.loop-low-preserved
-loop-low-preserved c =
-    let es = c.args.edges.now in
-    let l = c.loop-low in
-    let mid = l.low + (l.high - l.low) / 2 in
-    let inside : mid < length es = omega (arith, l.invariant.bound, c.loop-low-test.true) in
-    record {
-      order = omega arith;
-      bound = omega arith;
-      before = l.invariant.before;
-      after = above_mid es c.args.at mid ((pos 0, pos 0), (pos 0, pos 0)) c.requires inside (sym c.is_before.ensures ∙ c.if-is_before.false);
-    }
+pub returns-clause-before : goal.returns-clause-before
+returns-clause-before c =
+    let point = IsPartitionPoint-from_clause (λ (e : Edge). point_lt e.0 c.args.at) _ _ c.partition_point.ensures.partitioned (parted_at c.args.edges.now c.args.at c.requires) (λ a r q k. search rules) in
+    λ k d h. point.0 k d (omega arith) h
 
 pub returns-clause-after : goal.returns-clause-after
-returns-clause-after c = λ k d h l. c.loop-low.invariant.after k d (omega (arith, c.loop-low-test.false, c.loop-low.invariant.order)) l
+returns-clause-after c =
+    let point = IsPartitionPoint-from_clause (λ (e : Edge). point_lt e.0 c.args.at) _ _ c.partition_point.ensures.partitioned (parted_at c.args.edges.now c.args.at c.requires) (λ a r q k. search rules) in
+    λ k d l h. point.1 k d l h

@@ -2,10 +2,10 @@ use Rattle.std.proofs.Common.{◌∙◌, ap, sym, get_or}
 use Rattle.std.specs.Prelude.{pos}
 use Rattle.std.proofs.lemmas.List.{get_or_default}
 use Rattle.mesh_plane.specs.Plane.{Edge}
-use Rattle.mesh_shapes.specs.Unused.{IsNext}
-use Rattle.mesh_cuts.proofs.Ends.{decides_point}
+use Rattle.mesh_shapes.specs.Midway.Unused.{IsNext}
 use Rattle.mesh_shapes.proofs.Walking.{none_before, none_after, next_step, match_none}
 use Rattle.mesh_shapes.proofs.walk.next_edge.Goals as goal
+use Rattle.mesh_plane.proofs.Comparing.{decides_point}
 
 pub loop-k-init : goal.loop-k-init
 loop-k-init c =

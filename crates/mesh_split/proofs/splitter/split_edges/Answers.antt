@@ -1,15 +1,15 @@
 use Rattle.std.proofs.Common.{rules, ◌≡◌, subst, sym, length, false, List, ◌*◌, ◌+◌, ◌<◌, ◌≤◌, ◌^◌, arith}
-use Rattle.std.specs.Prelude.{pos, ◌≤ℤ◌}
 use Rattle.mesh_plane.specs.Winding.{same_point, sum_of}
 use Rattle.mesh_cuts.specs.Counted.{Counted}
 use Rattle.mesh_cuts.specs.Splitting.{IsSplitting}
-use Rattle.mesh_split.specs.Steps.{Puts}
+use Rattle.mesh_split.specs.Midway.Steps.{Puts}
 use Rattle.mesh_cuts.specs.Counted.{size}
 use Rattle.mesh_split.proofs.Paths.{splitting_of}
 use Rattle.mesh_split.proofs.Starting.{none_count, none_clear, none_weight, more_room, more_count, more_clear, more_weight, most_weight, settled_reached, settled_weight, settled_less, popped_room, popped_absent, start_reached, end_reached}
 use Rattle.mesh_cuts.proofs.Each.{proper_at}
 use Rattle.mesh_split.proofs.Room.{live_room}
 use Rattle.mesh_split.proofs.splitter.split_edges.Goals as goal
+use Rattle.mesh_cuts.specs.Counted.{IsRoomy}
 
 pub loop-e-init : goal.loop-e-init
 loop-e-init c =
@@ -80,4 +80,4 @@ returns-clause-splitting c =
 pub returns-clause-room : goal.returns-clause-room
 returns-clause-room c =
     let s = c.loop-s.splitter in
-    subst (λ (l : List Counted). sum_of size l ≤ℤ pos (2 ^ 120)) (sym c.in_ok-segments.ensures) (live_room s.todo s.live c.loop-s.invariant.weight)
+    subst (λ (l : List Counted). IsRoomy (sum_of size l)) (sym c.in_ok-segments.ensures) (live_room s.todo s.live c.loop-s.invariant.weight)

@@ -1,6 +1,6 @@
 use Rattle.std.proofs.Common.{◌*◌, ◌^◌, take, []}
 use Rattle.std.specs.Prelude.{pos, ◌≤ℤ◌, unsigned_abs}
-use Rattle.mesh_split.specs.Steps.{AreCountOf, IsReached, AllClear, total_weight, work}
+use Rattle.mesh_split.specs.Midway.Steps.{AreCountOf, IsReached, AllClear, total_weight, work}
 use Rattle.mesh_split.proofs.splitter.split_edges.Given as goal
 
 abbrev pub invariant-loop-e : goal.invariant-loop-e

@@ -1,4 +1,4 @@
-use Rattle.mesh_split.specs.Cells.{Grows}
+use Rattle.mesh_split.specs.Midway.Cells.{Grows}
 use Rattle.mesh_split.proofs.CellLists.{IsFiledTo}
 use Rattle.mesh_split.proofs.store.file.Given as goal
 

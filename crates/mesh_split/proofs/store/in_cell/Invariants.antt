@@ -2,7 +2,7 @@ use Rattle.std.proofs.Common.{ℕ, ◌<◌, get_or}
 use Rattle.std.specs.Prelude.{pos, ◌<ℤ◌}
 use Rattle.mesh_plane.specs.Plane.{Edge}
 use Rattle.mesh_cuts.specs.Split.{AreClear}
-use Rattle.mesh_split.specs.Steps.{exactly}
+use Rattle.mesh_split.specs.Midway.Steps.{exactly}
 use Rattle.mesh_split.proofs.store.in_cell.Given as goal
 
 abbrev pub invariant-loop-e : goal.invariant-loop-e

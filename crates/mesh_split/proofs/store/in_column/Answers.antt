@@ -3,7 +3,7 @@ use Rattle.std.specs.Prelude.{Vec}
 use Rattle.std.specs.declared.alloc.Global.{Global}
 use Rattle.std.proofs.lemmas.List.{get_or_default}
 use Rattle.mesh_plane.specs.Plane.{Edge}
-use Rattle.mesh_split.specs.Cells.{IsCellClear}
+use Rattle.mesh_split.specs.Midway.Cells.{IsCellClear}
 use Rattle.mesh_split.proofs.CellLists.{column_more, column_none}
 use Rattle.mesh_split.proofs.store.in_column.Goals as goal
 

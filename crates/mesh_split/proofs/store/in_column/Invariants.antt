@@ -1,4 +1,4 @@
-use Rattle.mesh_split.specs.Cells.{IsColumnClear}
+use Rattle.mesh_split.specs.Midway.Cells.{IsColumnClear}
 use Rattle.mesh_split.proofs.store.in_column.Given as goal
 
 abbrev pub invariant-loop-r : goal.invariant-loop-r

@@ -2,14 +2,12 @@ use Rattle.std.proofs.lemmas.Result.{on_ok_weaker}
 use Rattle.mesh_num.specs.Paths.{shapes_of}
 use Rattle.mesh_below.proofs.below.Overlay.overlay_into.Goals as goal
 
--- src/below.rt:106:5
 pub returns-clause-resolution : goal.returns-clause-resolution
 returns-clause-resolution g c =
     on_ok_weaker c.replace_with.result
     (λ holds. (shapes_of c.in_ok-shapes.shapes.items, c.in_ok-shapes.ensures.resolution, c.in_ok-shapes.ensures.safe, holds))
     c.replace_with.ensures.ok
 
--- src/below.rt:106:5
 pub returns-clause-regions : goal.returns-clause-regions
 returns-clause-regions g c =
     on_ok_weaker c.replace_with.result

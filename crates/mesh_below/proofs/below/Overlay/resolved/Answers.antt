@@ -15,14 +15,12 @@ use Rattle.mesh_below.proofs.AnswerRegions.{regions_of, filled_none}
 use Rattle.mesh_below.proofs.AnswerPoints.{answer_safe, same_resolution}
 use Rattle.mesh_below.proofs.below.Overlay.resolved.Goals as goal
 
--- src/below.rt:135:22
 pub resolve-requires-clause-balanced : goal.resolve-requires-clause-balanced
 resolve-requires-clause-balanced g c =
     let same : c.deref-2.result.now ≡ edges_of c.args.self.now.segments.items =
     c.deref-2.ensures.value ∙ (c.in_ok-edges.ensures.value ∙ ap (λ (ss : List SignedEdge). edges_of ss) c.deref.ensures.value) in
     subst (λ (es : List Edge). IsBalanced es) (sym same) c.requires.balanced
 
--- src/below.rt:136:9
 pub int_shapes-requires : goal.int_shapes-requires
 int_shapes-requires g c =
     let same : c.deref-2.result.now ≡ edges_of c.args.self.now.segments.items =
@@ -30,38 +28,23 @@ int_shapes-requires g c =
     subst (λ (shapes : List (Vec (Vec Point Global) Global)). ArePointsSafe g.I.IntNumber.unit (shapes_of shapes)) (sym c.deref-3.ensures.value)
     (answer_safe g.I.IntNumber.unit c.deref-2.result.now (edges_of c.args.self.now.segments.items) (filled c.args.fill) _ (shapes_of c.in_ok-shapes.shapes.items) same c.requires.safe c.in_ok-shapes.ensures)
 
--- src/below.rt:126:5
-pub returns-clause-resolution : goal.returns-clause-resolution
-returns-clause-resolution g c =
-    let same : c.deref-2.result.now ≡ edges_of c.args.self.now.segments.items =
+pub returns : goal.returns
+returns g c =
+    let es = edges_of c.args.self.now.segments.items in
+    let fill = filled c.args.fill in
+    let options = choices_of g.I.WideUInt.WideUnsigned.value c.args.self.now.options in
+    let same : c.deref-2.result.now ≡ es =
     c.deref-2.ensures.value ∙ (c.in_ok-edges.ensures.value ∙ ap (λ (ss : List SignedEdge). edges_of ss) c.deref.ensures.value) in
+    let proper : IsProper es = subst (λ (es : List Edge). IsProper es) (sym c.deref-2.ensures.value ∙ same) c.in_ok-edges.ensures.proper in
     let choices : Choices = record { least_area = c.choices.result.least_area; all_vertices = c.choices.result.all_vertices; clockwise = c.choices.result.clockwise } in
     IfOk-weaker c.int_shapes.result _ _
     (λ v (told : shapes_of v.items ≡ shapes_of c.deref-3.result.now).
-    same_resolution c.deref-2.result.now (edges_of c.args.self.now.segments.items) (filled c.args.fill) choices (choices_of g.I.WideUInt.WideUnsigned.value c.args.self.now.options)
-    (shapes_of c.in_ok-shapes.shapes.items) (shapes_of v.items) same c.choices.ensures
-    (sym (told ∙ ap (λ (shapes : List (Vec (Vec Point Global) Global)). shapes_of shapes) c.deref-3.ensures.value)) c.in_ok-shapes.ensures)
-    c.int_shapes.ensures
-
--- src/below.rt:126:5
-pub returns-clause-regions : goal.returns-clause-regions
-returns-clause-regions g c =
-    let same : c.deref-2.result.now ≡ edges_of c.args.self.now.segments.items =
-    c.deref-2.ensures.value ∙ (c.in_ok-edges.ensures.value ∙ ap (λ (ss : List SignedEdge). edges_of ss) c.deref.ensures.value) in
-    let proper : IsProper (edges_of c.args.self.now.segments.items) = subst (λ (es : List Edge). IsProper es) (sym c.deref-2.ensures.value ∙ same) c.in_ok-edges.ensures.proper in
-    IfOk-weaker c.int_shapes.result _ _
-    (λ v r. regions_of (edges_of c.args.self.now.segments.items) (filled c.args.fill) (choices_of g.I.WideUInt.WideUnsigned.value c.args.self.now.options) (shapes_of v.items)
-    proper c.requires.balanced (filled_none c.args.fill) r)
-    (returns-clause-resolution g c)
-
--- src/below.rt:126:5
-pub returns-clause-safe : goal.returns-clause-safe
-returns-clause-safe g c =
-    let same : c.deref-2.result.now ≡ edges_of c.args.self.now.segments.items =
-    c.deref-2.ensures.value ∙ (c.in_ok-edges.ensures.value ∙ ap (λ (ss : List SignedEdge). edges_of ss) c.deref.ensures.value) in
-    IfOk-weaker c.int_shapes.result _ _
-    (λ v (told : shapes_of v.items ≡ shapes_of c.deref-3.result.now).
-    subst (λ (answer : List (List (List Point))). ArePointsSafe g.I.IntNumber.unit answer)
-    (sym (told ∙ ap (λ (shapes : List (Vec (Vec Point Global) Global)). shapes_of shapes) c.deref-3.ensures.value))
-    (answer_safe g.I.IntNumber.unit c.deref-2.result.now (edges_of c.args.self.now.segments.items) (filled c.args.fill) _ (shapes_of c.in_ok-shapes.shapes.items) same c.requires.safe c.in_ok-shapes.ensures))
+    let is : shapes_of v.items ≡ shapes_of c.in_ok-shapes.shapes.items = told ∙ ap (λ (shapes : List (Vec (Vec Point Global) Global)). shapes_of shapes) c.deref-3.ensures.value in
+    let r = same_resolution c.deref-2.result.now es fill choices options (shapes_of c.in_ok-shapes.shapes.items) (shapes_of v.items) same c.choices.ensures (sym is) c.in_ok-shapes.ensures in
+    record {
+      resolution = r;
+      regions = regions_of es fill options (shapes_of v.items) proper c.requires.balanced (filled_none c.args.fill) r;
+      safe = subst (λ (answer : List (List (List Point))). ArePointsSafe g.I.IntNumber.unit answer) (sym is)
+          (answer_safe g.I.IntNumber.unit c.deref-2.result.now es fill _ (shapes_of c.in_ok-shapes.shapes.items) same c.requires.safe c.in_ok-shapes.ensures);
+    })
     c.int_shapes.ensures

@@ -1,6 +1,6 @@
 use Rattle.std.proofs.Common.{arith, subst, List, take_all}
 use Rattle.mesh_cuts.specs.Counted.{Counted}
-use Rattle.mesh_shapes.specs.Rows.{AreRows}
+use Rattle.mesh_shapes.specs.Midway.Rows.{AreRows}
 use Rattle.mesh_shapes.proofs.RowSums.{rows_none, rows_more}
 use Rattle.mesh_shapes.proofs.rows.Rows.new.Goals as goal
 

@@ -1,6 +1,6 @@
 use Rattle.std.proofs.Common.{arith, subst, List, ◌+◌, ◌≡◌, length}
 use Rattle.mesh_cuts.specs.Counted.{Counted}
-use Rattle.mesh_split.specs.Steps.{IsClearOf}
+use Rattle.mesh_split.specs.Midway.Steps.{IsClearOf}
 use Rattle.mesh_split.proofs.CellLists.{columns_none, columns_more, clear_of_cells}
 use Rattle.mesh_split.proofs.store.Store.conflict.Goals as goal
 

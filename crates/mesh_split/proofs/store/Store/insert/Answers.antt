@@ -1,6 +1,6 @@
 use Rattle.std.proofs.Common.{subst, sym, List}
 use Rattle.mesh_cuts.specs.Counted.{Counted}
-use Rattle.mesh_split.specs.Cells.{AreFiled}
+use Rattle.mesh_split.specs.Midway.Cells.{AreFiled}
 use Rattle.mesh_split.proofs.CellLists.{filed_grows, filed_put}
 use Rattle.mesh_split.proofs.store.Store.insert.Goals as goal
 

@@ -5,8 +5,9 @@ use Rattle.std.specs.Map.{lookup}
 use Rattle.std.proofs.lemmas.Map.Views.{All-keys-insert_entry}
 use Rattle.mesh_cuts.specs.Counted.{Counted, times}
 use Rattle.mesh_cuts.specs.Split.{IsForward}
-use Rattle.mesh_split.specs.Steps.{IsRaised, HaveRoom}
-use Rattle.mesh_split.proofs.Entries.{edge_cmp, absent, found_size, has_room, inserted_raised, same_length}
+use Rattle.mesh_plane.proofs.Comparing.{edge_cmp}
+use Rattle.mesh_split.specs.Midway.Steps.{IsRaised, HaveRoom}
+use Rattle.mesh_split.proofs.Entries.{absent, found_size, has_room, inserted_raised, same_length}
 use Rattle.mesh_split.proofs.tally.Tally.add.Goals as goal
 
 pub overflow_add-sum : goal.overflow_add-sum

@@ -4,7 +4,7 @@ use Rattle.std.proofs.lemmas.Map.Views.{All-keys-insert_entry}
 use mir.Syntax.{w128}
 use mir.Val.{SFits}
 use Rattle.mesh_cuts.specs.Split.{IsForward}
-use Rattle.mesh_split.proofs.Entries.{edge_cmp}
+use Rattle.mesh_plane.proofs.Comparing.{edge_cmp}
 use Rattle.mesh_split.proofs.Tallies.{put_absent}
 use Rattle.mesh_split.proofs.tally.Tally.insert.Goals as goal
 

@@ -5,9 +5,10 @@ use Rattle.std.specs.Map.{lookup}
 use Rattle.std.proofs.lemmas.Map.Views.{All-keys-insert_entry}
 use Rattle.mesh_cuts.specs.Counted.{Counted}
 use Rattle.mesh_cuts.specs.Split.{IsForward}
-use Rattle.mesh_split.specs.Steps.{IsRaised, IsNew, HaveRoom}
-use Rattle.mesh_split.proofs.Entries.{edge_cmp, found_size, has_room, inserted_new, inserted_raised, same_length, count_kept}
+use Rattle.mesh_split.specs.Midway.Steps.{IsRaised, IsNew, HaveRoom}
+use Rattle.mesh_split.proofs.Entries.{found_size, has_room, inserted_new, inserted_raised, same_length, count_kept}
 use Rattle.mesh_split.proofs.worklist.Worklist.add.Goals as goal
+use Rattle.mesh_plane.proofs.Comparing.{edge_cmp}
 
 pub overflow_add-sum : goal.overflow_add-sum
 overflow_add-sum c =

@@ -1,10 +1,12 @@
--- What holds midway through a search for a contour's start or a ring's holder. Private contracts alone cite it.
+-- What holds midway through a search for a contour's start or a ring's holder.
 use Rattle.std.specs.Prelude.{ℕ, ◌≡◌, ◌+◌, ◌<◌, Bool, true, false, List, length, drop, slice_index_or, pos}
 use Rattle.mesh_plane.specs.Plane.{Point}
 use Rattle.mesh_plane.specs.Order.{point_lt}
 use Rattle.mesh_shapes.specs.Contours.{next_kept}
-use Rattle.mesh_shapes.specs.Grouping.{ring_at, is_round_at}
+use Rattle.mesh_shapes.specs.Midway.Grouping.{ring_at, is_round_at}
 use Rattle.mesh_shapes.specs.Resolution.{Ring, is_before}
+use Rattle.std.specs.Prelude.{Option, MatchOption}
+use Rattle.mesh_shapes.specs.Contours.{first_or, kept}
 
 -- the point at a place of a list
 abbrev pub point_at : List Point → ℕ → Point
@@ -34,3 +36,15 @@ pub record IsHolder (rs : List Ring) (n : ℕ) (q : Point) (b : ℕ) : Type 0 wh
   pub within : b < n
   pub round : is_round_at rs b q ≡ true
   pub first : (k : ℕ) → k < n → is_round_at rs k q ≡ true → is_before (ring_at rs k) (ring_at rs b) ≡ false
+
+-- what a search among the first `n` rings for the holder of the point has found
+abbrev pub IsFound : List Ring → ℕ → Point → Option ℕ → Type 0
+IsFound rs n q best = MatchOption best (NoneRound rs n q) (IsHolder rs n q)
+
+-- the point after the place `i`, the first after the last
+abbrev pub point_after : List Point → ℕ → Point
+point_after ps i = first_or (point_at ps 0) (drop (i + 1) ps)
+
+-- the points that are answered after the place `i`, where the way comes to them from `before`
+abbrev pub kept_after : Bool → Point → List Point → ℕ → List Point
+kept_after all before ps i = kept all before (drop (i + 1) ps) (point_at ps 0)

@@ -5,7 +5,7 @@ use Rattle.mesh_cuts.proofs.Arithmetic.{zero_bits, small_fits, small_kept}
 use Rattle.mesh_shapes.proofs.ContoursBegun.{corner_yes, corner_flat}
 use mir.Val.{of_z}
 use mir.Syntax.{w128}
-use Rattle.mesh_shapes.proofs.ring.is_corner.Goals as goal
+use Rattle.mesh_shapes.proofs.ring.turns_at.Goals as goal
 
 pub returns : goal.returns
 returns c =

@@ -1,12 +1,13 @@
 -- What the steps of the splitting do to lists of counted segments, whatever order they stand in:
 -- each fact speaks of the sums of every function over the list.
-use Rattle.std.specs.Prelude.{ℕ, ◌+◌, ◌*◌, ◌-◌, ◌^◌, ◌≡◌, Bool, true, false, cond, List, [], ◌∷◌, ℤ, pos, ◌+ℤ◌, ◌-ℤ◌, ◌*ℤ◌, ◌≤ℤ◌, ◌<ℤ◌, unsigned_abs, max, int_lt}
+use Rattle.std.specs.Prelude.{ℕ, ◌+◌, ◌*◌, ◌-◌, ◌≡◌, Bool, true, false, cond, List, [], ◌∷◌, ℤ, pos, ◌+ℤ◌, ◌-ℤ◌, ◌*ℤ◌, ◌≤ℤ◌, ◌<ℤ◌, unsigned_abs, max, int_lt}
 use Rattle.mesh_plane.specs.Plane.{Point, Edge}
 use Rattle.mesh_plane.specs.Winding.{sum_of}
 use Rattle.mesh_cuts.specs.Split.{same_edge, same_ends, occurs, Cut, after, IsLegal}
 use Rattle.mesh_cuts.specs.Counted.{Counted, bit, along, net, counted_net, times}
 use Rattle.mesh_cuts.specs.Split.{AreClear}
 use Rattle.mesh_cuts.specs.Counted.{size}
+use Rattle.mesh_cuts.specs.Counted.{IsRoomy}
 
 -- how many of the counted segments run just from the first end to the second
 abbrev pub exactly : Edge → List Counted → ℤ
@@ -53,9 +54,9 @@ AllClear ks = (e : Edge) → pos 0 <ℤ exactly e ks → IsClearOf e ks
 abbrev pub extent : Edge → ℕ
 extent e = unsigned_abs (e.1.0 -ℤ e.0.0) + unsigned_abs (e.1.1 -ℤ e.0.1)
 
--- the most that counts may add up to: far more than the edges that memory holds can give
+-- there is room for one more count
 abbrev pub HaveRoom : List Counted → Counted → Type 0
-HaveRoom ks k = (sum_of size ks +ℤ size k) ≤ℤ pos (2 ^ 120)
+HaveRoom ks k = IsRoomy (sum_of size ks +ℤ size k)
 
 -- the size of a count, once for each step of the extent, at least once: cutting doesn't raise the sum of it
 abbrev pub weight : Counted → ℤ

@@ -6,7 +6,7 @@ use Rattle.mesh_plane.specs.Winding.{sum_of}
 use Rattle.mesh_cuts.specs.declared.places.Mark.{Mark}
 use Rattle.mesh_cuts.specs.Counted.{Counted, size}
 use Rattle.mesh_cuts.specs.Marks.{place, AreRising}
-use Rattle.mesh_shapes.specs.CountedSides.{counted_winding}
+use Rattle.mesh_shapes.specs.Midway.CountedSides.{counted_winding}
 
 -- the row of a point has all segments that cross the ray from it to the east, and no row weighs more than all segments
 pub record AreRows (marks : List Mark) (lists : List (Vec Counted Global)) (ks : List Counted) : Type 0 where

@@ -6,7 +6,7 @@ use Rattle.mesh_cuts.specs.Counted.{Counted}
 use Rattle.mesh_cuts.specs.Marks.{place, AreRising}
 use Rattle.mesh_cuts.specs.Split.{IsInBox, AreClear}
 use Rattle.mesh_split.specs.declared.axes.Axes.{Axes}
-use Rattle.mesh_split.specs.Steps.{exactly}
+use Rattle.mesh_split.specs.Midway.Steps.{exactly}
 
 -- the number of the cell of a point: columns one after another, in each the rows
 abbrev pub cell_of : Axes → Point → ℕ

@@ -1,0 +1,2 @@
+-- States of the program's loops, which private contracts alone read.
+pub mod Rings

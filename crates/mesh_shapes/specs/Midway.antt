@@ -1,0 +1,6 @@
+-- States of the program's loops, which private contracts alone read.
+pub mod CountedSides
+pub mod Grouping
+pub mod Progress
+pub mod Rows
+pub mod Unused

@@ -1,0 +1,71 @@
+-- Where each ring belongs: its place, its area, and the ring with which it stands.
+use Rattle.std.specs.Prelude.{ℕ, ◌≡◌, ◌<◌, Bool, true, false, ◌&&◌, List, [], map, length, slice_index_or, nat_eq, ℤ, pos}
+use Rattle.std.specs.List.{All, enumerate_from}
+use Rattle.mesh_plane.specs.Plane.{Point}
+use Rattle.mesh_plane.specs.Winding.{holds}
+use Rattle.mesh_shapes.specs.Contours.{double_area}
+use Rattle.mesh_shapes.specs.Resolution.{Ring, Placed, is_positive, is_head, stands_with}
+use Rattle.std.specs.Prelude.{cond, not, int_lt, ◌∷◌, ◌++◌, Vec}
+use Rattle.std.specs.declared.alloc.Global.{Global}
+use Rattle.mesh_shapes.specs.Resolution.{shape_of, rings_by_shape, answered}
+use Rattle.mesh_shapes.specs.Vectors.{HeldRing, rings_held}
+
+-- the ring at a place, with that place
+abbrev pub ring_at : List Ring → ℕ → Placed
+ring_at rs i = (i, slice_index_or rs i ([], (pos 0, pos 0)))
+
+-- rings, each with its place
+abbrev pub placed : List Ring → List Placed
+placed rs = enumerate_from 0 rs
+
+-- the double areas of rings
+abbrev pub areas_of : List Ring → List ℤ
+areas_of rs = map (λ (r : Ring). double_area r.0) rs
+
+-- a ring of positive area that holds the point `q`
+abbrev pub is_round_at : List Ring → ℕ → Point → Bool
+is_round_at rs h q = is_positive (ring_at rs h) && holds 2 q (ring_at rs h).1.0
+
+-- the ring at `i` stands with that at `h`, which is its own place where it heads a shape
+pub data IsHome (rs : List Ring) (i h : ℕ) : Type 0 where
+  heads : is_head (placed rs) (ring_at rs i) ≡ true → h ≡ i → IsHome rs i h
+  stands : is_head (placed rs) (ring_at rs i) ≡ false → (h ≡ i → ⊥)
+      → ((k : ℕ) → k < length rs → stands_with (placed rs) (ring_at rs k) (ring_at rs i) ≡ nat_eq k h) → IsHome rs i h
+
+-- the ring at each place stands with that at the place which the list has for it
+abbrev pub AreHomes : List HeldRing → List ℕ → Type 0
+AreHomes rings homes = (i : ℕ) → i < length rings → IsHome (rings_held rings) i (slice_index_or homes i 0)
+
+-- each of these places is the place of a ring
+abbrev pub AreWithin : List HeldRing → List ℕ → Type 0
+AreWithin rings homes = (i : ℕ) → i < length rings → slice_index_or homes i 0 < length rings
+
+-- the area at the place `k` is less than that at `b`
+abbrev pub is_less_at : List ℤ → ℕ → ℕ → Bool
+is_less_at areas k b = int_lt (slice_index_or areas k (pos 0)) (slice_index_or areas b (pos 0))
+
+-- the contours of the shape that the ring at `h` heads
+abbrev pub shape_at : Bool → List Ring → ℕ → List (List Point)
+shape_at clockwise rs h = map (answered clockwise) (shape_of (placed rs) (ring_at rs h))
+
+-- that shape, where the ring at `h` heads one
+abbrev pub headed : Bool → List Ring → ℕ → List (List (List Point))
+headed clockwise rs h = cond (is_head (placed rs) (ring_at rs h)) (shape_at clockwise rs h ∷ []) []
+
+-- the contours of all shapes of rings that stand in order
+abbrev pub all_shapes : Bool → List Ring → List (List (List Point))
+all_shapes clockwise rs = map (map (answered clockwise)) (rings_by_shape (placed rs))
+
+-- the contours of the shape that the ring at `h` heads, where these are the places of its other rings
+abbrev pub contours_at : List Ring → Bool → ℕ → List ℕ → List (List Point)
+contours_at rs clockwise h places = answered clockwise (ring_at rs h).1 ∷ map (λ (i : ℕ). answered clockwise (ring_at rs i).1) places
+
+-- the places of the rings that head no shape and stand with the ring at `h`
+pub record AreMembers (rs : List Ring) (h : ℕ) (places : List ℕ) : Type 0 where
+  pub within : All (λ (i : ℕ). i < length rs) places
+  pub contours : (clockwise : Bool) → contours_at rs clockwise h places ≡ shape_at clockwise rs h
+
+-- the place `i` was added to the list of its home, unless that is itself
+pub record IsPutHome (old new : List (Vec ℕ Global)) (i home : ℕ) : Type 0 where
+  pub len : length new ≡ length old
+  pub put : (h : ℕ) (d : Vec ℕ Global) → h < length old → (slice_index_or new h d).items ≡ (slice_index_or old h d).items ++ cond (nat_eq home h && not (nat_eq i h)) (i ∷ []) []

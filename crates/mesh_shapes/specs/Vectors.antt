@@ -1,0 +1,41 @@
+-- Rings, contours, shapes and ordered edges, as the vectors that hold them.
+use Rattle.std.specs.Prelude.{ℕ, ◌≡◌, ◌<◌, ◌≤◌, false, List, map, length, slice_index_or, Vec}
+use Rattle.std.specs.List.{All, flat_map}
+use Rattle.std.specs.declared.alloc.Global.{Global}
+use Rattle.mesh_plane.specs.Plane.{Point, Edge}
+use Rattle.mesh_plane.specs.Order.{point_lt}
+use Rattle.mesh_plane.specs.Winding.{boundary}
+use Rattle.mesh_shapes.specs.Resolution.{Ring}
+
+-- a ring's vertices in a vector, and its side point
+abbrev pub HeldRing : Type 0
+HeldRing = Vec Point Global × Point
+
+-- the ring that is held
+abbrev pub ring_held : HeldRing → Ring
+ring_held r = (r.0.items, r.1)
+
+-- the rings that are held
+abbrev pub rings_held : List HeldRing → List Ring
+rings_held rs = map ring_held rs
+
+-- the contours of a shape, and of shapes, as lists of points
+abbrev pub points_of : List (Vec Point Global) → List (List Point)
+points_of shape = map (λ (c : Vec Point Global). c.items) shape
+
+-- the points of the contours of each shape
+abbrev pub shapes_points : List (Vec (Vec Point Global) Global) → List (List (List Point))
+shapes_points shapes = map (λ (s : Vec (Vec Point Global) Global). points_of s.items) shapes
+
+-- the edges of contours
+abbrev pub contour_edges : List (Vec Point Global) → List Edge
+contour_edges cs = flat_map (λ (c : Vec Point Global). boundary c.items) cs
+
+-- each contour has a point
+abbrev pub HavePoints : List (Vec Point Global) → Type 0
+HavePoints cs = All (λ (c : Vec Point Global). 0 < length c.items) cs
+
+-- no edge starts at a lesser point than one before it
+abbrev pub StartsInOrder : List Edge → Type 0
+StartsInOrder es =
+    (i j : ℕ) (d : Edge) → i ≤ j → j < length es → point_lt (slice_index_or es j d).0 (slice_index_or es i d).0 ≡ false
