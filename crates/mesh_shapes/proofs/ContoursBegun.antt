@@ -81,7 +81,7 @@ leads_less p q h differ =
     by (inl x) = inl (omega (arith, linear))
     by (inr x) = inr (omega (arith, linear, x.0), omega (arith, linear, x.1))
 
--- the least point is a corner
+-- at the least point the way turns
 pub least_corner : (a p n : Point) → point_lt a p ≡ false → point_lt n p ≡ false → (a ≡ p → ⊥) → (n ≡ p → ⊥) → turns_at a p n ≡ true
 least_corner a p n la ln da dn =
     by_cross (Decides-int_eq (cross (minus p a) (minus p n)) (pos 0)).0 (cases_Bool (int_eq (cross (minus p a) (minus p n)) (pos 0)))
@@ -146,7 +146,7 @@ proper_first a [] p [] z h = h.1.0
 proper_first a [] p (y ∷ ys) z h = h.1.0
 proper_first a (x ∷ xs) p ys z h = proper_first x xs p ys z h.1
 
--- the least point within a contour is a corner of it
+-- a contour turns at the least point within it
 inner_corner : (p a : Point) (xs ys : List Point) → point_lt a p ≡ false → NoneLess p xs → NoneLess p ys → Each Proper (route a (xs ++ p ∷ ys) p) →
     turns_at (last_by a xs) p (first_or p ys) ≡ true
 inner_corner p a xs ys ha hx hy proper =

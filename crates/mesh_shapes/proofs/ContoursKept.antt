@@ -20,7 +20,7 @@ use Rattle.std.proofs.lemmas.Bool.{not-false}
 abbrev pub Proper : Edge → Type 0
 Proper e = e.0 ≡ e.1 → ⊥
 
--- at a point that is no corner the way runs on a line
+-- where the way doesn't turn, it runs on a line
 pub straight_turn : (a p n : Point) → turns_at a p n ≡ false → turn a p n ≡ pos 0
 straight_turn a p n h =
     let flat : cross (minus p a) (minus p n) ≡ pos 0 =

@@ -17,7 +17,7 @@ abbrev pub first_or : Point → List Point → Point
 first_or z [] = z
 first_or z (x ∷ xs) = x
 
--- of the list, the points at which the way from `a` by all of them to `z` has a corner
+-- of the list, the points at which the way from `a` by all of them to `z` turns or turns back
 abbrev pub turning_points : Point → List Point → Point → List Point
 turning_points a [] z = []
 turning_points a (x ∷ xs) z = cond (turns_at a x (first_or z xs)) (x ∷ turning_points x xs z) (turning_points x xs z)

@@ -90,7 +90,7 @@ fn following(contour: &[GridPoint], i: usize) -> GridPoint
     contour[0]
 }
 
-/// Whether the point at a place is answered: all are, or it is a corner.
+/// Whether the point at a place is answered: all are, or the way turns there.
 fn is_kept(contour: &[GridPoint], all: bool, before: GridPoint, i: usize) -> bool
     requires { i < length contour.now }
     ensures { result ≡ (all || turns_at before (point_at contour.now i) (point_after contour.now i)) }

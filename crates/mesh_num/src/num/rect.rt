@@ -32,11 +32,18 @@ impl<I: IntNumber> Model for IntRect<I> {
     ghost view = { λ r. ((I.value r.min_x, I.value r.min_y), (I.value r.max_x, I.value r.max_y)) };
 
     ghost inverse = { λ v. record {
-        min_x = I.of_value v.0.0; max_x = I.of_value v.1.0; min_y = I.of_value v.0.1; max_y = I.of_value v.1.1 } };
+      min_x = I.of_value v.0.0;
+      max_x = I.of_value v.1.0;
+      min_y = I.of_value v.0.1;
+      max_y = I.of_value v.1.1;
+    } };
 
     ghost inverse_ok = { λ a h. λ i. record {
-        min_x = I.value_back a.min_x i; max_x = I.value_back a.max_x i;
-        min_y = I.value_back a.min_y i; max_y = I.value_back a.max_y i } };
+      min_x = I.value_back a.min_x i;
+      max_x = I.value_back a.max_x i;
+      min_y = I.value_back a.min_y i;
+      max_y = I.value_back a.max_y i;
+    } };
 }
 
 impl<I: IntNumber> Clone for IntRect<I> {
