@@ -28,9 +28,6 @@ pub decides_end : (c : Point) (e : Edge) → Decides (is_end c e) ((c ≡ e.0) �
 unfolding is_end
 decides_end c e = Decides-or _ _ (decides_point c e.0) (decides_point c e.1)
 
-pub edge_self : (e : Edge) → same_edge e e ≡ true
-edge_self e = (decides_edge e e).1 refl
-
 pub ends_self : (e : Edge) → same_ends e e ≡ true
 ends_self e = (decides_ends e e).1 (inl refl)
 

@@ -7,6 +7,7 @@ pub mod Ends
 pub mod KeptByCuts
 pub mod Keys
 pub mod Meeting
+pub mod PlacesAmong
 pub mod SafeCuts
 pub mod SidesBack
 pub mod SoundCuts

@@ -29,6 +29,15 @@ impl Model for FinePoint {
     ghost inverse = { λ v. record { x = v.0; y = v.1 } };
 }
 
+impl FinePoint {
+    /// The point's height.
+    pub fn height(self) -> i128
+        ensures { result ≡ self.1 }
+    {
+        self.y
+    }
+}
+
 /// A vector between two points of the fine grid.
 type FineVector = (i128, i128);
 

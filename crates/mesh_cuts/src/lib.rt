@@ -8,3 +8,4 @@ pub mod exact;
 pub mod fill;
 pub mod fine;
 pub mod grid;
+pub mod places;

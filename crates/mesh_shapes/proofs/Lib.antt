@@ -3,6 +3,7 @@ pub mod BoundaryCounted
 pub mod ContoursBegun
 pub mod ContoursKept
 pub mod Groups
+pub mod RowSums
 pub mod Shapes
 pub mod SidesCode
 pub mod Walking

@@ -2,4 +2,5 @@
 pub mod CountedSides
 pub mod Grouping
 pub mod Progress
+pub mod Rows
 pub mod Unused

@@ -1,6 +1,7 @@
 //! Shapes of rings: order and grouping.
 
-ghost use Rattle.std.specs.Prelude.{◌≡◌, ◌⊎◌, ℕ, ◌+◌, ◌*◌, ◌^◌, ◌<◌, ◌≤◌, Bool, true, false, not, ◌&&◌, cond, List, [], ◌∷◌, ◌++◌, map, length, take, drop, reverse, slice_index_or, nat_le, nat_eq, unsigned_abs, int_lt, pos, IfOk, OnOk, MatchOption};
+ghost use Rattle.std.specs.Prelude.{◌≡◌, ◌⊎◌, ℕ, ◌+◌, ◌*◌, ◌^◌, ◌<◌, ◌≤◌, Bool, true, false, not, ◌&&◌, cond, List, [], ◌∷◌, ◌++◌, map, length, take, drop, reverse, slice_index_or, nat_le, nat_eq, unsigned_abs, int_lt, pos, IfOk, OnOk, MatchOption, Vec};
+ghost use Rattle.std.specs.declared.alloc.Global.{Global};
 ghost use Rattle.std.specs.Option.{ForSome};
 ghost use Rattle.std.specs.List.{All, filter, enumerate_from};
 ghost use Rattle.std.specs.List.Sorted.{IsSortedBy, IsPermutation};
@@ -8,7 +9,7 @@ ghost use Rattle.mesh_plane.specs.Bounds.{IsSafe};
 ghost use Rattle.mesh_plane.specs.Plane.{Point};
 ghost use Rattle.mesh_shapes.specs.Contours.{reversed, double_area};
 ghost use Rattle.mesh_shapes.specs.Vectors.{HeldRing, ring_held, rings_held, points_of, shapes_points};
-ghost use Rattle.mesh_shapes.specs.Midway.Grouping.{ring_at, placed, areas_of, is_round_at, IsHome, AreHomes, is_less_at, member, shape_at, headed, all_shapes};
+ghost use Rattle.mesh_shapes.specs.Midway.Grouping.{ring_at, placed, areas_of, is_round_at, IsHome, AreHomes, AreWithin, is_less_at, AreMembers, IsPutHome, shape_at, headed, all_shapes};
 ghost use Rattle.mesh_shapes.specs.Midway.Progress.{NoneRound, IsHolder, IsFound};
 ghost use Rattle.mesh_shapes.specs.Resolution.{is_large, points_lt, is_head, shape_of, rings_by_shape, answered, AreArranged};
 
@@ -16,6 +17,7 @@ use crate::area::{double_area, holds};
 use crate::ring::Ring;
 use mesh_cuts::fine::FinePoint;
 use mesh_cuts::grid::GridPoint;
+use mesh_cuts::places::{empty_lists, push_to};
 use std::alloc::{AllocError, Global};
 
 /// Whether the ring's double area is in size at least twice the least area.
@@ -98,7 +100,8 @@ fn holder(rings: &[Ring], areas: &[i128], q: FinePoint) -> Option<usize>
 fn home(rings: &[Ring], areas: &[i128], i: usize) -> usize
     requires in_range { i < length rings.now }
     requires areas_known { areas.now ≡ areas_of (rings_held rings.now) }
-    ensures { IsHome (rings_held rings.now) i result }
+    ensures home { IsHome (rings_held rings.now) i result }
+    ensures within { result < length rings.now }
 {
     if areas[i] > 0 {
         return i;
@@ -113,6 +116,7 @@ fn home(rings: &[Ring], areas: &[i128], i: usize) -> usize
 fn homes(alloc: Global, rings: &[Ring]) -> Result<Vec<usize>, AllocError>
     ensures len { IfOk result (λ v. length v.items ≡ length rings.now) }
     ensures homes { IfOk result (λ v. AreHomes rings.now v.items) }
+    ensures within { IfOk result (λ v. AreWithin rings.now v.items) }
 {
     let areas = areas(alloc, rings)?;
     let mut homes = Vec::new(alloc);
@@ -146,48 +150,72 @@ fn answered(alloc: Global, ring: &Ring, clockwise: bool) -> Result<Vec<GridPoint
     Vec::from_slice(alloc, &ring.0)
 }
 
-/// Adds the ring at `i` to the shape that the ring at `h` heads, if it stands with that.
-fn push_member(
-    alloc: Global,
-    shape: &mut Vec<Vec<GridPoint>>,
+/// Adds a ring to those that stand with another, unless it heads a shape.
+fn push_home(
+    members: &mut Vec<Vec<usize>>,
     rings: &[Ring],
     homes: &[usize],
-    h: usize,
     i: usize,
-    clockwise: bool,
 ) -> Result<(), AllocError>
     requires in_range { i < length rings.now }
     requires homes_len { length homes.now ≡ length rings.now }
-    ensures { OnOk result (points_of shape.new.items ≡ points_of shape.old.items ++
-        member clockwise (rings_held rings.now) homes.now h i) }
+    requires len { length members.old.items ≡ length rings.now }
+    requires home { slice_index_or homes.now i 0 < length rings.now }
+    ensures { OnOk result (IsPutHome members.old.items members.new.items i (slice_index_or homes.now i 0)) }
 {
-    if i == h {
+    if homes[i] == i {
         return Ok(());
     }
-    if homes[i] != h {
-        return Ok(());
+    push_to(members, homes[i], i)?;
+    Ok(())
+}
+
+/// For each ring the places of the rings that stand with it and head no shape.
+fn members(alloc: Global, rings: &[Ring], homes: &[usize]) -> Result<Vec<Vec<usize>>, AllocError>
+    requires homes_len { length homes.now ≡ length rings.now }
+    requires homes_are { AreHomes rings.now homes.now }
+    requires within { AreWithin rings.now homes.now }
+    ensures len { IfOk result (λ v. length v.items ≡ length rings.now) }
+    ensures members { IfOk result (λ v. (h : ℕ) (d : Vec ℕ Global) → h < length rings.now → AreMembers (rings_held rings.now) h (slice_index_or v.items h d).items) }
+{
+    let mut members = empty_lists(alloc, rings.len())?;
+    for i in 0..rings.len() {
+        push_home(&mut members, rings, homes, i)?;
     }
+    Ok(members)
+}
+
+/// Adds the contour of the ring at a place to a shape.
+fn push_contour(
+    alloc: Global,
+    shape: &mut Vec<Vec<GridPoint>>,
+    rings: &[Ring],
+    i: usize,
+    clockwise: bool,
+) -> Result<(), AllocError>
+    requires { i < length rings.now }
+    ensures { OnOk result (points_of shape.new.items ≡ points_of shape.old.items ++ answered clockwise (ring_at (rings_held rings.now) i).1 ∷ []) }
+{
     shape.push(answered(alloc, &rings[i], clockwise)?)?;
     Ok(())
 }
 
-/// The shape that the ring at `h` heads.
+/// The shape that the ring at `h` heads, where the others that stand with it are known.
 fn shape(
     alloc: Global,
     rings: &[Ring],
-    homes: &[usize],
+    members: &[usize],
     h: usize,
     clockwise: bool,
 ) -> Result<Vec<Vec<GridPoint>>, AllocError>
     requires in_range { h < length rings.now }
-    requires homes_len { length homes.now ≡ length rings.now }
-    requires homes_are { AreHomes rings.now homes.now }
+    requires members { AreMembers (rings_held rings.now) h members.now }
     ensures { IfOk result (λ v. points_of v.items ≡ shape_at clockwise (rings_held rings.now) h) }
 {
-    let mut shape = Vec::new(alloc);
-    shape.push(answered(alloc, &rings[h], clockwise)?)?;
-    for i in 0..rings.len() {
-        push_member(alloc, &mut shape, rings, homes, h, i, clockwise)?;
+    let mut shape = Vec::with_capacity(alloc, members.len() + 1)?;
+    push_contour(alloc, &mut shape, rings, h, clockwise)?;
+    for i in members {
+        push_contour(alloc, &mut shape, rings, *i, clockwise)?;
     }
     Ok(shape)
 }
@@ -198,19 +226,21 @@ fn push_shape(
     shapes: &mut Vec<Vec<Vec<GridPoint>>>,
     rings: &[Ring],
     homes: &[usize],
+    members: &[usize],
     h: usize,
     clockwise: bool,
 ) -> Result<(), AllocError>
     requires in_range { h < length rings.now }
     requires homes_len { length homes.now ≡ length rings.now }
-    requires homes_are { AreHomes rings.now homes.now }
+    requires home { IsHome (rings_held rings.now) h (slice_index_or homes.now h 0) }
+    requires members { AreMembers (rings_held rings.now) h members.now }
     ensures { OnOk result (shapes_points shapes.new.items ≡ shapes_points shapes.old.items ++
         headed clockwise (rings_held rings.now) h) }
 {
     if homes[h] != h {
         return Ok(());
     }
-    shapes.push(shape(alloc, rings, homes, h, clockwise)?)?;
+    shapes.push(shape(alloc, rings, members, h, clockwise)?)?;
     Ok(())
 }
 
@@ -223,9 +253,10 @@ fn grouped(
     ensures { IfOk result (λ v. shapes_points v.items ≡ all_shapes clockwise (rings_held rings.now)) }
 {
     let homes = homes(alloc, rings)?;
+    let members = members(alloc, rings, &homes)?;
     let mut shapes = Vec::new(alloc);
     for h in 0..rings.len() {
-        push_shape(alloc, &mut shapes, rings, &homes, h, clockwise)?;
+        push_shape(alloc, &mut shapes, rings, &homes, &members[h], h, clockwise)?;
     }
     Ok(shapes)
 }

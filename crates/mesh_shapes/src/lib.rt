@@ -8,5 +8,6 @@
 pub mod area;
 pub mod arrange;
 pub mod ring;
+mod rows;
 pub mod sides;
 pub mod walk;

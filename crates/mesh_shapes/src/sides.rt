@@ -12,6 +12,7 @@ ghost use Rattle.mesh_cuts.specs.FillRules.{filled};
 ghost use Rattle.mesh_shapes.specs.Midway.CountedSides.{counted_winding, sides_by, sides_of, is_parted, boundary_edge};
 ghost use Rattle.mesh_cuts.specs.Counted.{size, IsRoomy};
 
+use crate::rows::Rows;
 use mesh_cuts::fill::FillRule;
 use mesh_cuts::fine::{FinePoint, crossing, doubled, middle};
 use mesh_cuts::grid::{CountedSegment, GridEdge};
@@ -125,9 +126,11 @@ pub fn find_boundary(
     ensures { IfOk result (λ v. (es : List Edge) → IsCountOf es segments.now → IsProper es
         → IsBoundary es (filled fill) v.items) }
 {
+    let rows = Rows::new(alloc, segments)?;
     let mut edges = Vec::new(alloc);
     for s in segments {
-        push_edge(&mut edges, fill, sides_of(segments, *s), s.0)?;
+        let row = rows.row(middle(s.0));
+        push_edge(&mut edges, fill, sides_of(row, *s), s.0)?;
     }
     Ok(edges)
 }

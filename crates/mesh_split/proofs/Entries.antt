@@ -38,7 +38,7 @@ equal_both Less p h k = h
 equal_both Equal p h k = k
 equal_both Greater p h k = h
 
-edge_equal : (e f : Edge) → is_eq (edge_cmp e f) ≡ true → e ≡ f
+pub edge_equal : (e f : Edge) → is_eq (edge_cmp e f) ≡ true → e ≡ f
 edge_equal e f h =
     let parts = both_equal (ordering_then (int_cmp e.0.0 f.0.0) (int_cmp e.0.1 f.0.1)) (ordering_then (int_cmp e.1.0 f.1.0) (int_cmp e.1.1 f.1.1)) h in
     let start = both_equal (int_cmp e.0.0 f.0.0) (int_cmp e.0.1 f.0.1) parts.0 in
@@ -49,7 +49,7 @@ edge_equal e f h =
     let d = (Decides-int_eq e.1.1 f.1.1).0 end.1 in
     λ i. ((a i, b i), (c i, d i))
 
-equal_self : (e : Edge) → is_eq (edge_cmp e e) ≡ true
+pub equal_self : (e : Edge) → is_eq (edge_cmp e e) ≡ true
 equal_self e =
     equal_both (ordering_then (int_cmp e.0.0 e.0.0) (int_cmp e.0.1 e.0.1)) (ordering_then (int_cmp e.1.0 e.1.0) (int_cmp e.1.1 e.1.1))
     (equal_both (int_cmp e.0.0 e.0.0) (int_cmp e.0.1 e.0.1) ((Decides-int_eq e.0.0 e.0.0).1 refl) ((Decides-int_eq e.0.1 e.0.1).1 refl))
@@ -112,7 +112,7 @@ found_size k m es h =
     (λ (e : Counted) (es : List Counted) (p : size (k, m) ≤ℤ sum_of size es). omega (arith, ints))
     es h
 
-absent : (k : Edge) (es : List Counted) → IsForward k → All IsForward (keys_of es) → found k es ≡ None → times k es ≡ pos 0
+pub absent : (k : Edge) (es : List Counted) → IsForward k → All IsForward (keys_of es) → found k es ≡ None → times k es ≡ pos 0
 absent k [] f all h = refl
 absent k (e ∷ es) f all h =
     ⊎_elim
@@ -144,7 +144,7 @@ put_step Less k e es rest g n h = omega (arith, linear)
 put_step Equal k e es rest g n h = absurd (n refl)
 put_step Greater k e es rest g n h = omega (arith, linear)
 
-insert_put : (k : Counted) (es : List Counted) (g : Counted → ℤ) → found k.0 es ≡ None → sum_of g (insert_entry edge_cmp es k.0 k.1) ≡ sum_of g es +ℤ g k
+pub insert_put : (k : Counted) (es : List Counted) (g : Counted → ℤ) → found k.0 es ≡ None → sum_of g (insert_entry edge_cmp es k.0 k.1) ≡ sum_of g es +ℤ g k
 insert_put k [] g h = omega (arith, linear)
 insert_put k (e ∷ es) g h =
     let other : is_eq (edge_cmp k.0 e.0) ≡ true → ⊥ =

@@ -1,11 +1,12 @@
+pub mod CellLists
 pub mod Clean
 pub mod Entries
 pub mod Extents
 pub mod Filing
-pub mod Live
 pub mod Paths
 pub mod Room
 pub mod Settling
 pub mod Sharing
 pub mod Stages
 pub mod Starting
+pub mod Tallies

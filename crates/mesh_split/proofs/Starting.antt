@@ -9,9 +9,11 @@ use Rattle.mesh_plane.specs.Plane.{Edge}
 use Rattle.mesh_plane.specs.Winding.{sum_of}
 use Rattle.mesh_plane.proofs.Sums.{sum_of_append}
 use Rattle.mesh_plane.proofs.Whole.{linear}
-use Rattle.mesh_cuts.specs.Split.{same_ends, occurs, no_cut}
+use Rattle.mesh_cuts.specs.Split.{same_ends, occurs, after, no_cut}
 use Rattle.mesh_cuts.specs.Counted.{Counted, bit, along, times}
 use Rattle.mesh_split.specs.Midway.Steps.{IsTaken, Puts, AllClear, AreCountOf, IsReached, Settles, at_least_once, extent, weight, waiting_work, live_work, work, total_weight}
+use Rattle.mesh_cuts.proofs.Ends.{ends_self}
+use Rattle.mesh_cuts.proofs.Counts.{times_least}
 use Rattle.mesh_cuts.proofs.Cuts.{occurs_append}
 use Rattle.mesh_split.proofs.Stages.{pop_count}
 use Rattle.mesh_split.proofs.Settling.{fewer_clear}
@@ -94,6 +96,24 @@ pub popped_room : (old todo live : List Counted) (k : Counted) → IsTaken old t
 popped_room old todo live k e h =
     let more : pos (2 ^ 97) ≤ℤ pos (2 ^ 120) = omega (arith, ints) in
     omega (arith, linear, e weight)
+
+-- the segment that was taken from the worklist does not live
+pub popped_absent : (given : List Edge) (old todo live : List Counted) (k : Counted) → IsTaken old todo k → IsReached given old live [] → times k.0 live ≡ pos 0
+popped_absent given old todo live k e r =
+    omega (
+      arith,
+      linear,
+      r.count.once k.0,
+      e (λ (j : Counted). bit (same_ends k.0 j.0)),
+      ap bit (ends_self k.0),
+      times_least k.0 todo,
+      times_least k.0 live,
+      bit_most (occurs k.0 (after r.cuts given)),
+    )
+  where
+    bit_most : (b : Bool) → bit b ≤ℤ pos 1
+    bit_most true = omega (arith, ints)
+    bit_most false = omega (arith, ints)
 
 pub settled_less : (old todo live todo' live' : List Counted) (k : Counted) → IsTaken old todo k → Settles todo live todo' live' k
     → unsigned_abs (work todo' live') < unsigned_abs (work old live)

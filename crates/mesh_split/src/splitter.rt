@@ -7,7 +7,7 @@ ghost use Rattle.mesh_cuts.specs.Split.{is_end, IsInBox, Meets};
 ghost use Rattle.mesh_cuts.specs.Splitting.{IsSplitting};
 ghost use Rattle.mesh_cuts.specs.Split.{IsForward};
 ghost use Rattle.mesh_split.specs.Midway.Steps.{Puts, PutsPieces, Settles, exactly, weight, total_weight};
-ghost use Rattle.mesh_cuts.specs.Counted.{size, IsRoomy};
+ghost use Rattle.mesh_cuts.specs.Counted.{size, times, IsRoomy};
 
 use crate::store::{Meeting, Store};
 use crate::worklist::Worklist;
@@ -41,14 +41,16 @@ fn turned(s: CountedSegment) -> CountedSegment
 }
 
 impl Splitter {
-    fn new(alloc: Global) -> Self
-        ensures todo { result.todo ≡ [] }
-        ensures live { result.live ≡ [] }
+    /// No segment, to split the given edges.
+    fn new(alloc: Global, edges: &[GridEdge]) -> Result<Self, AllocError>
+        ensures todo { IfOk result (λ s. s.todo ≡ []) }
+        ensures live { IfOk result (λ s. s.live ≡ []) }
     {
-        Splitter {
+        let live = Store::new(alloc, edges)?;
+        Ok(Splitter {
             todo: Worklist::new(alloc),
-            live: Store::new(alloc),
-        }
+            live,
+        })
     }
 
     /// Adds a segment to the one with its ends, or else to the worklist.
@@ -69,7 +71,8 @@ impl Splitter {
         requires room { IsRoomy (total_weight self.old.todo self.old.live +ℤ weight s) }
         ensures { OnOk result (Puts self.old.todo self.old.live self.new.todo self.new.live s) }
     {
-        if self.live.add(s) {
+        let added = self.live.add(s)?;
+        if added {
             return Ok(());
         }
         self.todo.add(s)?;
@@ -115,6 +118,7 @@ impl Splitter {
     /// Makes a segment live, or splits it.
     fn settle(&mut self, s: CountedSegment) -> Result<(), AllocError>
         requires forward { IsForward s.0 }
+        requires absent { times s.0 self.old.live ≡ pos 0 }
         requires room { IsRoomy (total_weight self.old.todo self.old.live +ℤ weight s) }
         ensures { OnOk result (Settles self.old.todo self.old.live self.new.todo self.new.live s) }
     {
@@ -137,12 +141,13 @@ pub fn split_edges(alloc: Global, edges: &[GridEdge]) -> Result<Vec<CountedSegme
     ensures splitting { IfOk result (λ v. IsSplitting edges.now v.items) }
     ensures room { IfOk result (λ v. IsRoomy (sum_of size v.items)) }
 {
-    let mut splitter = Splitter::new(alloc);
+    let mut splitter = Splitter::new(alloc, edges)?;
     for e in edges {
         splitter.put(single(*e))?;
     }
     while let Some(s) = splitter.todo.pop() {
         splitter.settle(s)?;
     }
-    Ok(splitter.live.into_segments())
+    let segments = splitter.live.into_segments(alloc)?;
+    Ok(segments)
 }

@@ -1,14 +1,21 @@
-//! The live segments: those that were tested against each other and don't meet.
+//! The live segments: those that were tested against each other and don't meet. Each is listed in the cells of the plane that
+//! its box reaches, where those are sought that a segment may meet. What was taken out stays listed, so what a cell lists
+//! counts only where it lives.
 
-ghost use Rattle.std.specs.Prelude.{◌≡◌, List, [], ◌∷◌, ◌++◌, ℤ, pos, ◌<ℤ◌, MatchOption, OnOk, IfSome, IfNone, slice_index_or, vec_len, ◌<◌};
-ghost use Rattle.std.specs.List.{All};
-ghost use Rattle.mesh_cuts.specs.Split.{Meets};
+ghost use Rattle.std.specs.Prelude.{◌≡◌, ℕ, ◌+◌, ◌*◌, ◌<◌, ◌≤◌, List, [], ℤ, pos, ◌<ℤ◌, length, slice_index_or, MatchOption, IfOk, OnOk, Vec};
+ghost use Rattle.std.specs.declared.alloc.Global.{Global};
+ghost use Rattle.mesh_plane.specs.Plane.{Point, Edge};
 ghost use Rattle.mesh_cuts.specs.Counted.{times};
-ghost use Rattle.mesh_cuts.specs.Split.{IsForward};
-ghost use Rattle.mesh_split.specs.Midway.Steps.{HaveRoom, IsPut, IsTaken, IsClearOf, AddsIf, IsAt, exactly};
+ghost use Rattle.mesh_cuts.specs.Marks.{AreRising};
+ghost use Rattle.mesh_cuts.specs.Split.{IsForward, IsInBox, AreClear, Meets};
+ghost use Rattle.mesh_split.specs.Midway.Cells.{Grows, IsListed, IsCellClear, IsColumnClear, cell_of};
+ghost use Rattle.mesh_split.specs.Midway.Steps.{HaveRoom, IsPut, IsTaken, IsClearOf, AddsIf, exactly};
 
-use mesh_cuts::exact::{meeting, same_edge};
+use crate::axes::{Axes, Span};
+use crate::tally::Tally;
+use mesh_cuts::exact::meeting;
 use mesh_cuts::grid::{CountedSegment, GridEdge, GridPoint};
+use mesh_cuts::places::{empty_lists, put_to};
 use std::alloc::{AllocError, Global};
 use std::marker::Model;
 
@@ -18,34 +25,111 @@ pub type Meeting = (GridEdge, GridPoint);
 /// The live segments, in no order that a caller may rely on. Contracts see the list of them.
 #[derive(Drop)]
 pub struct Store {
-    live: Vec<CountedSegment>,
+    live: Tally,
+    axes: Axes,
+    /// The ends listed in each cell, column after column.
+    cells: Vec<Vec<GridEdge>>,
 }
 
 impl Model for Store {
+    ghost use Rattle.std.specs.Prelude.{List, ℤ};
+
     ghost Value = { List (((ℤ × ℤ) × (ℤ × ℤ)) × ℤ) };
 
-    ghost view = { λ s. s.live.items };
+    ghost use Rattle.mesh_split.specs.Midway.Cells.{AreFiled};
 
-    ghost invariant = { λ s. All (λ (k : ((ℤ × ℤ) × (ℤ × ℤ)) × ℤ). IsForward k.0) s.live.items };
+    ghost view = { λ s. s.live };
+
+    ghost invariant = { λ s. AreFiled s.axes s.cells.items s.live };
+}
+
+/// A listed segment as one that the given segment meets, where it lives and does so.
+fn live_meeting(live: &Tally, s: GridEdge, e: GridEdge) -> Option<Meeting>
+    ensures { MatchOption result (pos 0 <ℤ exactly e live.now → AreClear s e) (λ m. Meets s m.0 m.1 × (pos 0 <ℤ exactly m.0 live.now)) }
+{
+    let Some(at) = meeting(s, e) else {
+        return None;
+    };
+    if live.has(e) {
+        return Some((e, at));
+    }
+    None
+}
+
+/// A live segment that a cell lists and the given one meets.
+fn in_cell(live: &Tally, cell: &[GridEdge], s: GridEdge) -> Option<Meeting>
+    ensures { MatchOption result (IsCellClear s cell.now live.now) (λ m. Meets s m.0 m.1 × (pos 0 <ℤ exactly m.0 live.now)) }
+{
+    for e in cell {
+        if let Some(m) = live_meeting(live, s, *e) {
+            return Some(m);
+        }
+    }
+    None
+}
+
+/// The same among the cells of a column, whose first cell is at `at`.
+fn in_column(
+    live: &Tally,
+    cells: &[Vec<GridEdge>],
+    at: usize,
+    rows: Span,
+    s: GridEdge,
+) -> Option<Meeting>
+    requires { at + rows.last < length cells.now }
+    ensures { MatchOption result (IsColumnClear s cells.now live.now at rows.first (rows.last + 1)) (λ m. Meets s m.0 m.1 × (pos 0 <ℤ exactly m.0 live.now)) }
+{
+    for r in rows.first..rows.last + 1 {
+        if let Some(m) = in_cell(live, &cells[at + r], s) {
+            return Some(m);
+        }
+    }
+    None
+}
+
+/// Lists a segment in each cell that its box reaches. Where memory is refused, some of them may list it.
+fn file(axes: &Axes, cells: &mut Vec<Vec<GridEdge>>, e: GridEdge) -> Result<(), AllocError>
+    requires columns { AreRising axes.now.columns.items }
+    requires rows { AreRising axes.now.rows.items }
+    requires len { length cells.old.items ≡ (length axes.now.columns.items + 1) * (length axes.now.rows.items + 1) }
+    ensures grows { Grows cells.old.items cells.new.items }
+    ensures filed { OnOk result ((c : Point) (d : Vec Edge Global) → IsInBox e c → IsListed e (slice_index_or cells.new.items (cell_of axes.now c) d).items) }
+{
+    let columns = axes.columns_of(e);
+    let rows = axes.rows_of(e);
+    let width = axes.rows.len() + 1;
+    for c in columns.first..columns.last + 1 {
+        let at = c * width;
+        put_to(cells, at + rows.first, at + rows.last, e)?;
+    }
+    Ok(())
 }
 
 impl Store {
-    /// No segment.
-    pub fn new(alloc: Global) -> Self
-        ensures { result ≡ [] }
+    /// No segment, and cells that serve for the segments of some edges.
+    pub fn new(alloc: Global, edges: &[GridEdge]) -> Result<Self, AllocError>
+        ensures { IfOk result (λ s. s ≡ []) }
     {
-        Store {
-            live: Vec::new(alloc),
-        }
+        let axes = Axes::new(alloc, edges)?;
+        let count = (axes.columns.len() + 1) * (axes.rows.len() + 1);
+        let cells = empty_lists(alloc, count)?;
+        Ok(Store {
+            live: Tally::new(alloc),
+            axes,
+            cells,
+        })
     }
 
     /// A live segment that meets the given one, or none where all are clear of it.
     pub fn conflict(&self, s: GridEdge) -> Option<Meeting>
         ensures { MatchOption result (IsClearOf s self.now) (λ m. Meets s m.0 m.1 × (pos 0 <ℤ exactly m.0 self.now)) }
     {
-        for k in &self.live {
-            if let Some(at) = meeting(s, k.0) {
-                return Some((k.0, at));
+        let columns = self.axes.columns_of(s);
+        let rows = self.axes.rows_of(s);
+        let width = self.axes.rows.len() + 1;
+        for c in columns.first..columns.last + 1 {
+            if let Some(m) = in_column(&self.live, &self.cells, c * width, rows, s) {
+                return Some(m);
             }
         }
         None
@@ -53,23 +137,13 @@ impl Store {
 
     /// Makes a segment live.
     pub fn insert(&mut self, s: CountedSegment) -> Result<(), AllocError>
-        requires { IsForward s.0 }
+        requires forward { IsForward s.0 }
+        requires absent { times s.0 self.old ≡ pos 0 }
         ensures { OnOk result (IsPut self.old self.new s) }
     {
-        self.live.push(s)?;
+        file(&self.axes, &mut self.cells, s.0)?;
+        self.live.insert(s)?;
         Ok(())
-    }
-
-    /// Where the segment with these ends stands.
-    fn place(&self, ends: GridEdge) -> Option<usize>
-        ensures { MatchOption result (exactly ends self.now ≡ pos 0) (λ i. IsAt self.now i ends) }
-    {
-        for (i, k) in self.live.iter().enumerate() {
-            if same_edge(k.0, ends) {
-                return Some(i);
-            }
-        }
-        None
     }
 
     /// Takes the live segment with these ends out.
@@ -79,31 +153,23 @@ impl Store {
         ensures taken { IsTaken self.old self.new result }
         ensures forward { IsForward ends }
     {
-        match self.place(ends) {
-            Some(i) => self.live.remove(i),
-            None => unreachable!(),
-        }
+        self.live.remove(ends)
     }
 
     /// Adds the segment's count to that of the live segment with its ends, if there is one.
-    pub fn add(&mut self, s: CountedSegment) -> bool
+    pub fn add(&mut self, s: CountedSegment) -> Result<bool, AllocError>
         requires forward { IsForward s.0 }
         requires room { HaveRoom self.old s }
-        ensures { AddsIf result self.old self.new s }
+        ensures { IfOk result (λ b. AddsIf b self.old self.new s) }
     {
-        match self.place(s.0) {
-            Some(i) => {
-                self.live[i].1 += s.1;
-                true
-            }
-            None => false,
-        }
+        let added = self.live.add(s)?;
+        Ok(added)
     }
 
     /// The live segments as a list.
-    pub fn into_segments(self) -> Vec<CountedSegment>
-        ensures { result.items ≡ self }
+    pub fn into_segments(self, alloc: Global) -> Result<Vec<CountedSegment>, AllocError>
+        ensures { IfOk result (λ v. v.items ≡ self) }
     {
-        self.live
+        self.live.into_segments(alloc)
     }
 }

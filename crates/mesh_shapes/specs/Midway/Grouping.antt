@@ -1,11 +1,12 @@
 -- Where each ring belongs: its place, its area, and the ring with which it stands.
 use Rattle.std.specs.Prelude.{ℕ, ◌≡◌, ◌<◌, Bool, true, false, ◌&&◌, List, [], map, length, slice_index_or, nat_eq, ℤ, pos}
-use Rattle.std.specs.List.{enumerate_from}
+use Rattle.std.specs.List.{All, enumerate_from}
 use Rattle.mesh_plane.specs.Plane.{Point}
 use Rattle.mesh_plane.specs.Winding.{holds}
 use Rattle.mesh_shapes.specs.Contours.{double_area}
 use Rattle.mesh_shapes.specs.Resolution.{Ring, Placed, is_positive, is_head, stands_with}
-use Rattle.std.specs.Prelude.{cond, not, int_lt, ◌∷◌}
+use Rattle.std.specs.Prelude.{cond, not, int_lt, ◌∷◌, ◌++◌, Vec}
+use Rattle.std.specs.declared.alloc.Global.{Global}
 use Rattle.mesh_shapes.specs.Resolution.{shape_of, rings_by_shape, answered}
 use Rattle.mesh_shapes.specs.Vectors.{HeldRing, rings_held}
 
@@ -35,14 +36,13 @@ pub data IsHome (rs : List Ring) (i h : ℕ) : Type 0 where
 abbrev pub AreHomes : List HeldRing → List ℕ → Type 0
 AreHomes rings homes = (i : ℕ) → i < length rings → IsHome (rings_held rings) i (slice_index_or homes i 0)
 
+-- each of these places is the place of a ring
+abbrev pub AreWithin : List HeldRing → List ℕ → Type 0
+AreWithin rings homes = (i : ℕ) → i < length rings → slice_index_or homes i 0 < length rings
+
 -- the area at the place `k` is less than that at `b`
 abbrev pub is_less_at : List ℤ → ℕ → ℕ → Bool
 is_less_at areas k b = int_lt (slice_index_or areas k (pos 0)) (slice_index_or areas b (pos 0))
-
--- the contour of the ring at `i`, where that stands with the one at `h` and is another
-abbrev pub member : Bool → List Ring → List ℕ → ℕ → ℕ → List (List Point)
-member clockwise rs homes h i =
-    cond (nat_eq (slice_index_or homes i 0) h && not (nat_eq i h)) (answered clockwise (ring_at rs i).1 ∷ []) []
 
 -- the contours of the shape that the ring at `h` heads
 abbrev pub shape_at : Bool → List Ring → ℕ → List (List Point)
@@ -55,3 +55,17 @@ headed clockwise rs h = cond (is_head (placed rs) (ring_at rs h)) (shape_at cloc
 -- the contours of all shapes of rings that stand in order
 abbrev pub all_shapes : Bool → List Ring → List (List (List Point))
 all_shapes clockwise rs = map (map (answered clockwise)) (rings_by_shape (placed rs))
+
+-- the contours of the shape that the ring at `h` heads, where these are the places of its other rings
+abbrev pub contours_at : List Ring → Bool → ℕ → List ℕ → List (List Point)
+contours_at rs clockwise h places = answered clockwise (ring_at rs h).1 ∷ map (λ (i : ℕ). answered clockwise (ring_at rs i).1) places
+
+-- the places of the rings that head no shape and stand with the ring at `h`
+pub record AreMembers (rs : List Ring) (h : ℕ) (places : List ℕ) : Type 0 where
+  pub within : All (λ (i : ℕ). i < length rs) places
+  pub contours : (clockwise : Bool) → contours_at rs clockwise h places ≡ shape_at clockwise rs h
+
+-- the place `i` was added to the list of its home, unless that is itself
+pub record IsPutHome (old new : List (Vec ℕ Global)) (i home : ℕ) : Type 0 where
+  pub len : length new ≡ length old
+  pub put : (h : ℕ) (d : Vec ℕ Global) → h < length old → (slice_index_or new h d).items ≡ (slice_index_or old h d).items ++ cond (nat_eq home h && not (nat_eq i h)) (i ∷ []) []

@@ -1,6 +1,6 @@
 -- What the steps of the splitting do to lists of counted segments, whatever order they stand in:
 -- each fact speaks of the sums of every function over the list.
-use Rattle.std.specs.Prelude.{ℕ, ◌+◌, ◌*◌, ◌-◌, ◌≡◌, Bool, true, false, cond, List, [], ◌∷◌, ℤ, pos, ◌+ℤ◌, ◌-ℤ◌, ◌*ℤ◌, ◌≤ℤ◌, ◌<ℤ◌, unsigned_abs, max, int_lt, length, slice_index_or, ◌<◌}
+use Rattle.std.specs.Prelude.{ℕ, ◌+◌, ◌*◌, ◌-◌, ◌≡◌, Bool, true, false, cond, List, [], ◌∷◌, ℤ, pos, ◌+ℤ◌, ◌-ℤ◌, ◌*ℤ◌, ◌≤ℤ◌, ◌<ℤ◌, unsigned_abs, max, int_lt}
 use Rattle.mesh_plane.specs.Plane.{Point, Edge}
 use Rattle.mesh_plane.specs.Winding.{sum_of}
 use Rattle.mesh_cuts.specs.Split.{same_edge, same_ends, occurs, Cut, after, IsLegal}
@@ -12,11 +12,6 @@ use Rattle.mesh_cuts.specs.Counted.{IsRoomy}
 -- how many of the counted segments run just from the first end to the second
 abbrev pub exactly : Edge → List Counted → ℤ
 exactly q ks = sum_of (λ (k : Counted). bit (same_edge q k.0)) ks
-
--- the segment at a place runs just from the first end to the second
-pub record IsAt (ks : List Counted) (i : ℕ) (e : Edge) : Type 0 where
-  pub within : i < length ks
-  pub ends : (k : Counted) → (slice_index_or ks i k).0 ≡ e
 
 -- one segment was taken out
 abbrev pub IsTaken : List Counted → List Counted → Counted → Type 0

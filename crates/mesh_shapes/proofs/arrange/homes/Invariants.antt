@@ -8,4 +8,5 @@ abbrev pub invariant-loop-i : goal.invariant-loop-i
 invariant-loop-i l = record {
   len : length l.homes.items ≡ l.i;
   homes : (j : ℕ) → j < l.i → IsHome (rings_held l.rings) j (slice_index_or l.homes.items j 0);
+  within : (j : ℕ) → j < l.i → slice_index_or l.homes.items j 0 < length l.rings;
 }

@@ -5,7 +5,7 @@ use Rattle.mesh_cuts.specs.Splitting.{IsSplitting}
 use Rattle.mesh_split.specs.Midway.Steps.{Puts}
 use Rattle.mesh_cuts.specs.Counted.{size}
 use Rattle.mesh_split.proofs.Paths.{splitting_of}
-use Rattle.mesh_split.proofs.Starting.{none_count, none_clear, none_weight, more_room, more_count, more_clear, more_weight, most_weight, settled_reached, settled_weight, settled_less, popped_room, start_reached, end_reached}
+use Rattle.mesh_split.proofs.Starting.{none_count, none_clear, none_weight, more_room, more_count, more_clear, more_weight, most_weight, settled_reached, settled_weight, settled_less, popped_room, popped_absent, start_reached, end_reached}
 use Rattle.mesh_cuts.proofs.Each.{proper_at}
 use Rattle.mesh_split.proofs.Room.{live_room}
 use Rattle.mesh_split.proofs.splitter.split_edges.Goals as goal
@@ -13,8 +13,8 @@ use Rattle.mesh_cuts.specs.Counted.{IsRoomy}
 
 pub loop-e-init : goal.loop-e-init
 loop-e-init c =
-    let s = c.new-splitter.result in
-    let e = c.new-splitter.ensures in
+    let s = c.in_ok-splitter.splitter in
+    let e = c.in_ok-splitter.ensures in
     record { count = none_count s.todo s.live e.todo e.live; clear = none_clear s.live e.live; weight = none_weight s.todo s.live e.todo e.live }
 
 pub put-requires-clause-proper : goal.put-requires-clause-proper
@@ -53,6 +53,10 @@ pub settle-requires-clause-room : goal.settle-requires-clause-room
 settle-requires-clause-room c =
     popped_room c.loop-s.splitter.todo c.pop.new.self c.loop-s.splitter.live c.in-Some.s c.in-Some.ensures.taken c.loop-s.invariant.weight
 
+pub settle-requires-clause-absent : goal.settle-requires-clause-absent
+settle-requires-clause-absent c =
+    popped_absent c.args.edges.now c.loop-s.splitter.todo c.pop.new.self c.loop-s.splitter.live c.in-Some.s c.in-Some.ensures.taken c.loop-s.invariant.reached
+
 pub loop-s-smaller : goal.loop-s-smaller
 loop-s-smaller c =
     settled_less c.loop-s.splitter.todo c.pop.new.self c.loop-s.splitter.live c.settle.new.self.todo c.settle.new.self.live c.in-Some.s c.in-Some.ensures.taken c.in_ok-settle.ensures
@@ -71,9 +75,9 @@ pub returns-clause-splitting : goal.returns-clause-splitting
 returns-clause-splitting c =
     let s = c.loop-s.splitter in
     let reached = end_reached c.args.edges.now s.todo s.live c.in_default.ensures.taken.0 c.loop-s.invariant.reached in
-    subst (IsSplitting c.args.edges.now) (sym c.into_segments.ensures) (splitting_of c.args.edges.now s.live c.requires reached c.loop-s.invariant.clear)
+    subst (IsSplitting c.args.edges.now) (sym c.in_ok-segments.ensures) (splitting_of c.args.edges.now s.live c.requires reached c.loop-s.invariant.clear)
 
 pub returns-clause-room : goal.returns-clause-room
 returns-clause-room c =
     let s = c.loop-s.splitter in
-    subst (λ (l : List Counted). IsRoomy (sum_of size l)) (sym c.into_segments.ensures) (live_room s.todo s.live c.loop-s.invariant.weight)
+    subst (λ (l : List Counted). IsRoomy (sum_of size l)) (sym c.in_ok-segments.ensures) (live_room s.todo s.live c.loop-s.invariant.weight)

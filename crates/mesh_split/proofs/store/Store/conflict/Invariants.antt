@@ -1,6 +1,6 @@
-use Rattle.std.proofs.Common.{take}
-use Rattle.mesh_split.specs.Midway.Steps.{IsClearOf}
+use Rattle.std.proofs.Common.{◌+◌}
+use Rattle.mesh_split.proofs.CellLists.{AreColumnsClear}
 use Rattle.mesh_split.proofs.store.Store.conflict.Given as goal
 
-abbrev pub invariant-loop-k : goal.invariant-loop-k
-invariant-loop-k l = IsClearOf l.s (take l.k-index l.k-items)
+abbrev pub invariant-loop-c : goal.invariant-loop-c
+invariant-loop-c l = AreColumnsClear l.s l.self-inside.axes l.self-inside.cells.items l.self-inside.live l.initial.c l.c l.rows.first (l.rows.last + 1)

@@ -1,0 +1,99 @@
+//! Segments by their ends, each once, with their counts.
+
+ghost use Rattle.std.specs.Prelude.{◌≡◌, true, false, List, [], ℤ, pos, ◌<ℤ◌, IfOk, OnOk, OnErr};
+ghost use Rattle.std.specs.List.{All};
+ghost use Rattle.std.specs.Map.{keys_of};
+ghost use Rattle.mesh_cuts.specs.Counted.{times};
+ghost use Rattle.mesh_cuts.specs.Split.{IsForward};
+ghost use Rattle.mesh_split.specs.Midway.Steps.{HaveRoom, IsPut, IsTaken, AddsIf, exactly};
+
+use mesh_cuts::grid::{CountedSegment, GridEdge};
+use std::alloc::{AllocError, Global};
+use std::collections::BTreeMap;
+use std::marker::Model;
+
+/// Segments by their ends, the lesser end first. Contracts see the list of them.
+#[derive(Drop)]
+pub struct Tally {
+    counts: BTreeMap<GridEdge, i128>,
+}
+
+impl Model for Tally {
+    ghost Value = { List (((ℤ × ℤ) × (ℤ × ℤ)) × ℤ) };
+
+    ghost view = { λ t. t.counts.entries };
+
+    ghost invariant = { λ t. All IsForward (keys_of t.counts.entries) };
+}
+
+impl Tally {
+    /// No segment.
+    pub fn new(alloc: Global) -> Self
+        ensures { result ≡ [] }
+    {
+        Tally {
+            counts: BTreeMap::new(alloc),
+        }
+    }
+
+    /// Whether the segment with these ends stands.
+    pub fn has(&self, ends: GridEdge) -> bool
+        ensures yes { result ≡ true → pos 0 <ℤ exactly ends self.now }
+        ensures no { result ≡ false → exactly ends self.now ≡ pos 0 }
+    {
+        match self.counts.get(&ends) {
+            Some(_) => true,
+            None => false,
+        }
+    }
+
+    /// Puts a segment in.
+    pub fn insert(&mut self, s: CountedSegment) -> Result<(), AllocError>
+        requires forward { IsForward s.0 }
+        requires absent { times s.0 self.old ≡ pos 0 }
+        ensures ok { OnOk result (IsPut self.old self.new s) }
+        ensures err { OnErr result (self.new ≡ self.old) }
+    {
+        self.counts.insert(s.0, s.1)?;
+        Ok(())
+    }
+
+    /// Takes the segment with these ends out.
+    pub fn remove(&mut self, ends: GridEdge) -> CountedSegment
+        requires { pos 0 <ℤ exactly ends self.old }
+        ensures ends { result.0 ≡ ends }
+        ensures taken { IsTaken self.old self.new result }
+        ensures forward { IsForward ends }
+    {
+        match self.counts.remove_entry(&ends) {
+            Some(s) => s,
+            None => unreachable!(),
+        }
+    }
+
+    /// Adds the segment's count to that of the segment with its ends, if there is one.
+    pub fn add(&mut self, s: CountedSegment) -> Result<bool, AllocError>
+        requires forward { IsForward s.0 }
+        requires room { HaveRoom self.old s }
+        ensures ok { IfOk result (λ b. AddsIf b self.old self.new s) }
+        ensures err { OnErr result (self.new ≡ self.old) }
+    {
+        if let Some(count) = self.counts.get(&s.0) {
+            let sum = *count + s.1;
+            self.counts.insert(s.0, sum)?;
+            return Ok(true);
+        }
+        Ok(false)
+    }
+
+    /// The segments as a list.
+    pub fn into_segments(mut self, alloc: Global) -> Result<Vec<CountedSegment>, AllocError>
+        ensures { IfOk result (λ v. v.items ≡ self) }
+    {
+        let mut segments = Vec::new(alloc);
+        while let Some(s) = self.counts.pop_first() {
+            segments.push(s)?;
+        }
+        Ok(segments)
+    }
+}
