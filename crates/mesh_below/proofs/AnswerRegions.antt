@@ -55,8 +55,8 @@ regions_of edges fill options answer proper balanced empty r = record {
   resolution = r;
   split = by_split;
   given = λ (m : ℕ) (some : 0 < m) (q : Point) (out : OutsideBent r.cuts edges m q).
-      by_split m some q ∙ ap (once fill)
-      (after_winds r.cuts edges (pos m) q (legal_boxed edges r.cuts r.legal) (omega (arith, ints)) (proper_of edges proper) out);
+      by_split m some q ∙ ap (once fill) (unbent m some q out);
+  unbent = unbent;
   answered = answer_winds edges fill options answer r;
 }
   where
@@ -75,6 +75,9 @@ regions_of edges fill options answer proper balanced empty r = record {
 
     sound : Each Proper bounds
     sound = each_of Proper bounds (λ (e : Edge) (o : occurs e bounds ≡ true). proper_of es split.proper e (boundary_cover es bounds fill r.bounded e o))
+
+    unbent : (m : ℕ) → 0 < m → (q : Point) → OutsideBent r.cuts edges m q → winding m q es ≡ winding m q edges
+    unbent m some q out = after_winds r.cuts edges (pos m) q (legal_boxed edges r.cuts r.legal) (omega (arith, ints)) (proper_of edges proper) out
 
     by_split : (m : ℕ) → 0 < m → (q : Point) → winding m q (flat_map boundary (map (vertices options.all_vertices) r.contours)) ≡ once fill (winding m q es)
     by_split m some q = vertices_wind options.all_vertices m q r.contours sound ∙ boundary_winds es bounds fill split empty r.bounded m some q

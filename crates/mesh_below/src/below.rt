@@ -1,6 +1,6 @@
 //! The overlay: what directed edges fill, as shapes of contours.
 
-ghost use Rattle.std.specs.Prelude.{◌≡◌, ◌++◌, List, IfOk, OnOk, OnErr};
+ghost use Rattle.std.specs.Prelude.{◌≡◌, ◌+◌, ◌≤◌, ◌++◌, List, [], length, vec_capacity, IfOk, IsOk, OnOk, OnErr};
 ghost use Rattle.std.specs.List.{All};
 ghost use Rattle.mesh_num.specs.FlatContours.{HoldsContours};
 ghost use Rattle.mesh_num.specs.Paths.{contours_of, shapes_of};
@@ -94,11 +94,15 @@ impl<I: IntNumber> Overlay<I> {
         }
     }
 
-    /// Adds segments to those that the overlay has. `Err` says that memory was refused, and then it is unchanged.
+    /// Adds segments to those that the overlay has. Where there is room for them it succeeds. `Err` says that memory was refused,
+    /// and then it is unchanged.
     pub fn add_segments(&mut self, segments: &[Segment<I>]) -> Result<(), AllocError>
         ensures ok { OnOk result (self.new.segments.items ≡ self.old.segments.items ++ segments.now) }
         ensures err { OnErr result (self.new.segments.items ≡ self.old.segments.items) }
         ensures options { self.new.options ≡ self.old.options }
+        ensures room { length self.old.segments.items + length segments.now ≤ vec_capacity self.old.segments → IsOk result }
+        ensures nothing { segments.now ≡ [] → IsOk result }
+        ensures capacity { vec_capacity self.old.segments ≤ vec_capacity self.new.segments }
     {
         self.segments.extend_from_slice(segments)
     }

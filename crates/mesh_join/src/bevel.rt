@@ -1,6 +1,6 @@
 //! Bevels.
 
-ghost use Rattle.std.specs.Prelude.{◌≡◌, [], ◌++◌, IsOk, OnOk, OnErr};
+ghost use Rattle.std.specs.Prelude.{◌≡◌, ◌+◌, ◌≤◌, [], ◌++◌, length, vec_capacity, IsOk, OnOk, OnErr};
 ghost use Rattle.mesh_num.specs.Segments.{segments_of};
 ghost use Rattle.mesh_plane.specs.Winding.{route};
 ghost use Rattle.mesh_join.specs.Bevels.{bevel_padding};
@@ -26,6 +26,8 @@ pub(crate) fn add<I: IntNumber>(
     ensures ok { OnOk result (segments.new.items ≡ segments.old.items ++ segments_of (route a [] b)) }
     ensures err { OnErr result (segments.new.items ≡ segments.old.items) }
     ensures same_ends { a ≡ b → IsOk result }
+    ensures room { length segments.old.items + length (segments_of (route a [] b)) ≤ vec_capacity segments.old → IsOk result }
+    ensures capacity { vec_capacity segments.old ≤ vec_capacity segments.new }
 {
     segments.push_non_degenerate(a, b)
 }

@@ -1,6 +1,6 @@
 //! Joins of outer corners.
 
-ghost use Rattle.std.specs.Prelude.{◌≡◌, ℤ, ◌++◌, OnOk, OnErr, IsOk};
+ghost use Rattle.std.specs.Prelude.{◌≡◌, ◌+◌, ◌≤◌, ℤ, ◌++◌, length, vec_capacity, OnOk, OnErr, IsOk};
 ghost use Rattle.mesh_num.specs.Segments.{edges_of, segments_of, proper_edges};
 ghost use Rattle.mesh_join.specs.Joints.{joint};
 ghost use Rattle.mesh_join.specs.Joins.{join_edges, join_padding, IsJoint};
@@ -51,7 +51,8 @@ impl<I: IntNumber> Join<I> {
     }
 
     /// Adds the edges of the join round `center` from `a` to `b`, the contact points of the directions before and after
-    /// the corner, none where `a` equals `b`, which takes no memory. After a refusal the vector is cut back to its old length.
+    /// the corner, none where `a` equals `b`, which takes no memory. Where there is room for
+    /// these edges it succeeds. After a refusal the vector is cut back to its old length.
     ///
     /// The radius, in grid units, is at least 0. Both directions are fresh, and do not turn back from the first to the
     /// second in the sense of the arc. The corner stays in the safe range where it moves by the padding.
@@ -72,6 +73,8 @@ impl<I: IntNumber> Join<I> {
         ensures edges { OnOk result (edges_of segments.new.items ≡ edges_of segments.old.items ++ proper_edges (join_edges I.unit self.old (joint center a b incoming outgoing (I.value radius) direction))) }
         ensures err { OnErr result (segments.new.items ≡ segments.old.items) }
         ensures same_ends { a ≡ b → IsOk result }
+        ensures room { length segments.old.items + length (segments_of (join_edges I.unit self.old (joint center a b incoming outgoing (I.value radius) direction))) ≤ vec_capacity segments.old → IsOk result }
+        ensures capacity { vec_capacity segments.old ≤ vec_capacity segments.new }
         ensures same { self.new ≡ self.old }
     {
         match self.kind {

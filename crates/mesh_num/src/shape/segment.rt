@@ -1,6 +1,6 @@
 //! Segments with a sign, each of which stands for one directed edge.
 
-ghost use Rattle.std.specs.Prelude.{◌≡◌, ◌≢◌, ℤ, List, OnOk, OnErr, IsOk, ◌++◌};
+ghost use Rattle.std.specs.Prelude.{◌≡◌, ◌≢◌, ℕ, ◌+◌, ◌≤◌, ℤ, List, OnOk, OnErr, IsOk, ◌++◌, length, vec_capacity};
 ghost use Rattle.mesh_num.specs.Segments.{edge_of, subject_of, segment_between, IsSubject, SignedEdge};
 ghost use Rattle.mesh_plane.specs.Plane.{Point};
 
@@ -96,18 +96,24 @@ pub trait SubjectSegments<P> {
 
     ghost point: { P → Point };
 
+    ghost capacity: { Self → ℕ };
+
     /// Adds the segment of the edge from `a` to `b`, or nothing where they are one point, which takes no memory.
-    /// After a refusal the vector is unchanged.
+    /// Where there is room for what is added it succeeds. After a refusal the vector is unchanged.
     fn push_non_degenerate(&mut self, a: P, b: P) -> Result<(), AllocError>
         ensures ok { OnOk result (segments self.new ≡ segments self.old ++ segment_between (point a) (point b)) }
         ensures err { OnErr result (segments self.new ≡ segments self.old) }
-        ensures same_ends { point a ≡ point b → IsOk result };
+        ensures same_ends { point a ≡ point b → IsOk result }
+        ensures room { length (segments self.old) + length (segment_between (point a) (point b)) ≤ capacity self.old → IsOk result }
+        ensures capacity { capacity self.old ≤ capacity self.new };
 }
 
 impl<I: IntNumber> SubjectSegments<IntPoint<I>> for Vec<Segment<I>> {
     ghost segments = { λ v. v.items };
 
     ghost point = { λ p. p };
+
+    ghost capacity = { λ v. vec_capacity v };
 
     fn push_non_degenerate(&mut self, a: IntPoint<I>, b: IntPoint<I>) -> Result<(), AllocError> {
         if a != b {
