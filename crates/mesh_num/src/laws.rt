@@ -7,6 +7,7 @@ pub use mesh_plane::laws::{
     flat_triangles_do_not_wind, lengths_are_products, parallelograms_wind_once,
     rounded_is_monotone, rounded_is_nearest, rounded_is_odd, triangles_wind_once,
 };
+pub use mesh_sine::laws::sines_are_not_small;
 
 /// A vector other than 0 has one direction.
 pub fn directions_are_unique()

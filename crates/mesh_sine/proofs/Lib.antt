@@ -1,3 +1,4 @@
 pub mod Halves
 pub mod Lengths
 pub mod Roots
+pub mod Small
