@@ -2,6 +2,7 @@ pub mod Clean
 pub mod Entries
 pub mod Extents
 pub mod Filing
+pub mod Kept
 pub mod Live
 pub mod Paths
 pub mod Room

@@ -4,6 +4,7 @@
 //! segments that wait and those that live.
 #![tactic(auto)]
 
+pub mod laws;
 pub mod splitter;
 mod store;
 mod worklist;
