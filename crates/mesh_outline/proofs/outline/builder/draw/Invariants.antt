@@ -1,5 +1,6 @@
 -- What is still to be added, and that the sections still to come meet.
-use Rattle.std.proofs.Common.{◌≡◌, ◌++◌}
+use Rattle.std.proofs.Common.{◌≡◌, ◌≤◌, ◌++◌}
+use Rattle.std.specs.Prelude.{vec_capacity}
 use Rattle.mesh_join.specs.Cleaned.{cleaned_sections}
 use Rattle.mesh_join.specs.Styles.{OffsetJoin}
 use Rattle.mesh_draw.specs.Adding.{Keeps}
@@ -14,5 +15,6 @@ invariant-loop-segment g l =
           ≡ l.fn.segments.items ++ walk_segments g.I.IntNumber.unit style (cleaned_sections l.fn.path);
       kept : Keeps l.fn.segments.items l.segments.items;
       going : Continues g.I.IntNumber.unit style l.previous l.segment-iterator l.first;
+      room : vec_capacity l.fn.segments ≤ vec_capacity l.segments;
       same : l.join ≡ l.fn.join;
     }
