@@ -29,8 +29,7 @@ returns-clause-accepted g c =
 pub returns-clause-refused : goal.returns-clause-refused
 returns-clause-refused g c =
     let paths = paths_of c.self.inside.paths.items in
-    let half = g.I.Wide.WideNumber.half in
-    (
+    let half = g.I.Wide.WideNumber.half in (
       λ e accepted.
           let a = rw (sym c.self.view_is) at accepted in
           c.outline_custom.ensures.refused.0 e (half_fit half g.I.IntNumber.unit paths g.met.I.IntNumber.half_law a.fit),
