@@ -190,11 +190,11 @@ started-found q p k zs n t =
     )
 
 -- the points that are kept in the ring of `q`, `p`, `zs`
-abbrev around : Point → Point → List Point → List Point
+abbrev pub around : Point → Point → List Point → List Point
 around q p zs = kept_between q p (without_end q (changes_from p zs) ++ q ∷ p ∷ [])
 
 -- the same, with the point `k` after `q`
-around-on : (q p k : Point) (zs : List Point) → same_point q p ≡ false → same_point q k ≡ false → Alike q k p →
+pub around-on : (q p k : Point) (zs : List Point) → same_point q p ≡ false → same_point q k ≡ false → Alike q k p →
     kept_between q p (changes_from p (zs ++ q ∷ k ∷ [])) ≡ around q p zs
 around-on q p k zs n m f =
     ap (kept_between q p) (round_to q p k zs n m) ∙ kept_between-end q p (without_end q (changes_from p zs)) q k p f

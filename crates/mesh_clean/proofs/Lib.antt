@@ -1,3 +1,4 @@
+pub mod CleaningBegun
 pub mod CleaningEnds
 pub mod CleaningLoop
 pub mod CleaningPass

@@ -1,8 +1,8 @@
 -- Laws of cleaned contours. The function of the same name in the module `laws` carries each.
-use Rattle.std.specs.Prelude.{ℕ, ◌≡◌, List, []}
+use Rattle.std.specs.Prelude.{ℕ, ◌≡◌, List, [], ◌∷◌}
 use Rattle.mesh_plane.specs.Plane.{Point}
 use Rattle.mesh_plane.specs.Winding.{boundary, winding}
-use Rattle.mesh_clean.specs.Cleaned.{AllEqual, IsClean, cleaned_sections}
+use Rattle.mesh_clean.specs.Cleaned.{AllEqual, IsClean, cleaned_points, cleaned_sections, kept_inside, without_repeats}
 
 -- at every point of every grid a cleaned contour winds as often as the contour
 abbrev pub CleanedContoursWindAlike : Type 0
@@ -17,3 +17,20 @@ CleanedContoursAreClean = (points : List Point) → (AllEqual points → ⊥) �
 -- a contour of no point or of equal ones has no section
 abbrev pub EqualPointsHaveNoSections : Type 0
 EqualPointsHaveNoSections = (points : List Point) → AllEqual points → cleaned_sections points ≡ []
+
+-- the list begins at a point
+abbrev pub BeginsAt : Point → List Point → Type 0
+BeginsAt p [] = ⊥
+BeginsAt p (q ∷ qs) = q ≡ p
+
+-- the first point of a list, another one where there is none
+abbrev pub first_or : Point → List Point → Point
+first_or p [] = p
+first_or p (q ∷ qs) = q
+
+-- a contour of points that are not all equal is cleaned to one that begins at the first kept point of the second to the last but
+-- one of the list without repeats, or where none of these is kept at the list's first point
+abbrev pub CleanedContoursBegin : Type 0
+CleanedContoursBegin =
+    (first : Point) (others : List Point) → (AllEqual (first ∷ others) → ⊥)
+    → BeginsAt (first_or first (kept_inside (without_repeats (first ∷ others)))) (cleaned_points (first ∷ others))

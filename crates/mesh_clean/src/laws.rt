@@ -1,6 +1,6 @@
 //! Laws of cleaned contours. Each function does nothing: its clause is the law.
 
-ghost use Rattle.mesh_clean.specs.Laws.{CleanedContoursWindAlike, CleanedContoursAreClean, EqualPointsHaveNoSections};
+ghost use Rattle.mesh_clean.specs.Laws.{CleanedContoursWindAlike, CleanedContoursAreClean, EqualPointsHaveNoSections, CleanedContoursBegin};
 
 /// At every point of every grid a cleaned contour winds as often as the contour.
 pub fn cleaned_contours_wind_alike()
@@ -15,4 +15,9 @@ pub fn cleaned_contours_are_clean()
 /// A contour of no point or of equal ones has no section.
 pub fn equal_points_have_no_sections()
     ensures { EqualPointsHaveNoSections }
+{}
+
+/// A cleaned contour begins at the first kept point of the second to the last but one, else at the first point.
+pub fn cleaned_contours_begin()
+    ensures { CleanedContoursBegin }
 {}

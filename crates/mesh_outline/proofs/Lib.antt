@@ -1,5 +1,6 @@
 pub mod Adding
 pub mod Areas
+pub mod BuilderRoom
 pub mod BuilderTheorems
 pub mod BuilderWalk
 pub mod Corners

@@ -106,7 +106,7 @@ on_path_boxed e (d ∷ es) h f o =
     own : AreInBox e d
     own = let first = All-head (IsOnward e) d es h in (first.start_in_box, first.end_in_box)
 
-comes_from : (ks : List Cut) → Each IsSound ks → (es : List Edge) → (f : Edge) → occurs f (after ks es) ≡ true → ComesFrom es ks f
+pub comes_from : (ks : List Cut) → Each IsSound ks → (es : List Edge) → (f : Edge) → occurs f (after ks es) ≡ true → ComesFrom es ks f
 comes_from ks sound [] f o = absurd (false≢true (subst (λ (l : List Edge). occurs f l ≡ true) (after_none ks) o))
 comes_from ks sound (e ∷ es) f o =
     ⊎_elim

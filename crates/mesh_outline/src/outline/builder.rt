@@ -1,6 +1,6 @@
 //! The edges of one contour's outline.
 
-ghost use Rattle.std.specs.Prelude.{◌≡◌, ◌*◌, ◌≤◌, length, OnOk, OnErr, IsOk, ◌++◌};
+ghost use Rattle.std.specs.Prelude.{◌≡◌, ◌+◌, ◌*◌, ◌≤◌, length, vec_capacity, OnOk, OnErr, IsOk, ◌++◌};
 ghost use Rattle.std.specs.List.Sorted.{IsPermutation};
 ghost use Rattle.mesh_plane.specs.Bounds.{IsSafe};
 ghost use Rattle.mesh_num.specs.Segments.{IsSubject};
@@ -67,7 +67,7 @@ impl<I: IntNumber> OutlineBuilder<I> {
 
     /// Adds the edges of the outline of the closed contour through these points, each of which stays in the safe range
     /// where it moves by the padding of the joins. What the vector holds stays. No memory is taken where there is no point
-    /// or all are equal. After a refusal the vector is cut back to its old length.
+    /// or all are equal. Where there is room for the edges, of which there are at most four a section, it succeeds. After a refusal the vector is cut back to its old length.
     pub fn build(
         &mut self,
         path: &[IntPoint<I>],
@@ -82,6 +82,8 @@ impl<I: IntNumber> OutlineBuilder<I> {
         ensures few { OnOk result (length (added segments.old.items segments.new.items) ≤ 4 * length (cleaned_sections path.now)) }
         ensures refused { OnErr result (segments.new.items ≡ segments.old.items) }
         ensures nothing { AllEqual path.now → IsOk result }
+        ensures room { length segments.old.items + length (outline_edges I.unit self.old path.now) ≤ vec_capacity segments.old → IsOk result }
+        ensures room_for_four { length segments.old.items + 4 * length (cleaned_sections path.now) ≤ vec_capacity segments.old → IsOk result }
         ensures same { self.new ≡ self.old }
 
         // The edges close up, and stay near the contour.
@@ -112,6 +114,8 @@ fn feed_join<I: IntNumber>(
 ) -> Result<(), AllocError>
     requires { IsCorner I.unit (record { offset = I.value offset; join = join.old }) (previous.now, next.now) }
     ensures ok { OnOk result (segments.new.items ≡ segments.old.items ++ corner_segments I.unit (record { offset = I.value offset; join = join.old }) (previous.now, next.now)) }
+    ensures room { length segments.old.items + length (corner_segments I.unit (record { offset = I.value offset; join = join.old }) (previous.now, next.now)) ≤ vec_capacity segments.old → IsOk result }
+    ensures capacity { vec_capacity segments.old ≤ vec_capacity segments.new }
     ensures kept { Keeps segments.old.items segments.new.items }
     ensures same { join.new ≡ join.old }
 {
@@ -131,6 +135,8 @@ fn feed_section<I: IntNumber>(
 ) -> Result<(), AllocError>
     requires { IsCorner I.unit (record { offset = I.value offset; join = join.old }) (previous.now, next.now) }
     ensures ok { OnOk result (segments.new.items ≡ segments.old.items ++ (corner_segments I.unit (record { offset = I.value offset; join = join.old }) (previous.now, next.now) ++ top_segments next.now)) }
+    ensures room { length segments.old.items + length (corner_segments I.unit (record { offset = I.value offset; join = join.old }) (previous.now, next.now) ++ top_segments next.now) ≤ vec_capacity segments.old → IsOk result }
+    ensures capacity { vec_capacity segments.old ≤ vec_capacity segments.new }
     ensures kept { Keeps segments.old.items segments.new.items }
     ensures same { join.new ≡ join.old }
 {
@@ -149,6 +155,7 @@ fn draw<I: IntNumber>(
     ensures kept { Keeps segments.old.items segments.new.items }
     ensures same { join.new ≡ join.old }
     ensures nothing { AllEqual path.now → IsOk result }
+    ensures room { length segments.old.items + length (outline_edges I.unit (record { offset = I.value offset; join = join.old }) path.now) ≤ vec_capacity segments.old → IsOk result }
 {
     let Some(mut sections) = UniqueSegmentsIter::new(path) else {
         return Ok(());

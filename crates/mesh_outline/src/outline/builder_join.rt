@@ -1,6 +1,6 @@
 //! Joins between two neighbouring sections.
 
-ghost use Rattle.std.specs.Prelude.{◌≡◌, OnOk, OnErr, IsTrue, ◌++◌};
+ghost use Rattle.std.specs.Prelude.{◌≡◌, ◌+◌, ◌≤◌, OnOk, OnErr, IsOk, IsTrue, ◌++◌, length, vec_capacity};
 ghost use Rattle.mesh_num.specs.Segments.{segments_of};
 ghost use Rattle.mesh_join.specs.Joins.{join_edges};
 ghost use Rattle.mesh_join.specs.Styles.{JoinStyle};
@@ -31,6 +31,8 @@ pub(crate) trait JoinBuilder<I: IntNumber> {
         requires outer { IsTrue (parts (I.value offset) (previous.now, next.now)) }
         ensures ok { OnOk result (segments.new.items ≡ segments.old.items ++ segments_of (join_edges I.unit (style self.old) (joint_at (I.value offset) (previous.now, next.now)))) }
         ensures err { OnErr result (segments.new.items ≡ segments.old.items) }
+        ensures room { length segments.old.items + length (segments_of (join_edges I.unit (style self.old) (joint_at (I.value offset) (previous.now, next.now)))) ≤ vec_capacity segments.old → IsOk result }
+        ensures capacity { vec_capacity segments.old ≤ vec_capacity segments.new }
         ensures same { self.new ≡ self.old };
 }
 

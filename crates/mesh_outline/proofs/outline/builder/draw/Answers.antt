@@ -1,6 +1,16 @@
 -- What the walk adds, and that it can go on.
+<<<<<<< HEAD
 use Rattle.std.proofs.Common.{◌++◌, refl, sym, ◌∙◌, ap}
 use Rattle.mesh_clean.specs.Cleaned.{cleaned_sections}
+=======
+use Rattle.std.proofs.Common.{ℕ, ◌+◌, ◌≤◌, ◌++◌, length, refl, sym, subst, ◌∙◌, ap}
+use Rattle.std.specs.Prelude.{vec_capacity}
+use Rattle.std.proofs.lemmas.Bool.{false≢true}
+use Rattle.mesh_join.specs.Styles.{OffsetJoin}
+use Rattle.mesh_outline.specs.Outline.{Section}
+use Rattle.mesh_outline.proofs.BuilderRoom.{room_first, room_step, room_last}
+use Rattle.mesh_join.specs.Cleaned.{cleaned_sections}
+>>>>>>> contracts
 use Rattle.mesh_clean.proofs.CleaningSteps.{cleaned-none}
 use Rattle.mesh_outline.specs.Building.{top_segments}
 use Rattle.mesh_outline.proofs.Padding.{movable_within}
@@ -43,6 +53,7 @@ loop-segment-init g c =
           rw c.into_iter-segment-iterator.ensures.into_iter_gives
           (walk_continues g.I.IntNumber.unit (record { offset = g.I.IntNumber.value c.args.offset; join = c.args.join.now }) c.args.path.now _ c.next.new.self c.new-first.result c.new-first.ensures c.requires
           (sym s ∙ c.in-Some-next.ensures.steps) (rw s at c.in-Some.ensures.clean));
+      room = c.push_non_degenerate.ensures.capacity;
       same = refl;
     }
 
@@ -54,3 +65,32 @@ returns-clause-ok g c =
     (walk_ends g.I.IntNumber.unit (record { offset = g.I.IntNumber.value c.args.offset; join = c.loop-segment.join }) (cleaned_sections c.args.path.now) _ c.next.new.self c.loop-segment.segment-iterator
     c.loop-segment.previous c.new-first.result c.args.segments.now.items c.loop-segment.segments.items c.feed_join.new.segments.items
     (sym s ∙ c.in-Some-next.ensures.steps) c.in-None.ensures.steps.0 c.loop-segment.invariant.todo h))
+
+pub returns-in_err-push_non_degenerate-clause-room : goal.returns-in_err-push_non_degenerate-clause-room
+returns-in_err-push_non_degenerate-clause-room g c room =
+    let s = c.in-Some.ensures.sections.1 in
+    let style : OffsetJoin = record { offset = g.I.IntNumber.value c.args.offset; join = c.args.join.now } in
+    let n = length c.args.segments.now.items in
+    let cap = vec_capacity c.args.segments.now in
+    let fits = room_first g.I.IntNumber.unit style (cleaned_sections c.args.path.now) _ c.next.new.self c.new-first.result n cap (sym s ∙ c.in-Some-next.ensures.steps) c.new-first.ensures room in
+    absurd (false≢true (c.in_err-push_non_degenerate.ensures.room (subst (λ (x : Section). n + length (top_segments x) ≤ cap) (sym c.first.view_is) fits)))
+
+pub returns-in_err-feed_section-clause-room : goal.returns-in_err-feed_section-clause-room
+returns-in_err-feed_section-clause-room g c room =
+    let s = c.in-Some.ensures.sections.1 in
+    let style : OffsetJoin = record { offset = g.I.IntNumber.value c.args.offset; join = c.loop-segment.join } in
+    let whole = rw (sym c.loop-segment.invariant.same) at room in
+    let fits = room_step g.I.IntNumber.unit style (cleaned_sections c.args.path.now) _ c.next.new.self c.loop-segment.segment-iterator c.next-in-loop-segment.new.self _
+    c.loop-segment.previous c.new-next.result c.new-first.result c.args.segments.now.items c.loop-segment.segments.items (vec_capacity c.args.segments.now) (vec_capacity c.loop-segment.segments)
+    (sym s ∙ c.in-Some-next.ensures.steps) c.in-Some-segment.ensures.steps c.new-next.ensures c.loop-segment.invariant.todo c.loop-segment.invariant.room whole in
+    absurd (false≢true (c.in_err-feed_section.ensures.room fits))
+
+pub returns-clause-room : goal.returns-clause-room
+returns-clause-room g c room =
+    let s = c.in-Some.ensures.sections.1 in
+    let style : OffsetJoin = record { offset = g.I.IntNumber.value c.args.offset; join = c.loop-segment.join } in
+    let whole = rw (sym c.loop-segment.invariant.same) at room in
+    c.feed_join.ensures.room
+    (room_last g.I.IntNumber.unit style (cleaned_sections c.args.path.now) _ c.next.new.self c.loop-segment.segment-iterator
+    c.loop-segment.previous c.new-first.result c.args.segments.now.items c.loop-segment.segments.items (vec_capacity c.args.segments.now) (vec_capacity c.loop-segment.segments)
+    (sym s ∙ c.in-Some-next.ensures.steps) c.in-None.ensures.steps.0 c.loop-segment.invariant.todo c.loop-segment.invariant.room whole)

@@ -1,6 +1,12 @@
 -- What is still to be added, and that the sections still to come meet.
+<<<<<<< HEAD
 use Rattle.std.proofs.Common.{◌≡◌, ◌++◌}
 use Rattle.mesh_clean.specs.Cleaned.{cleaned_sections}
+=======
+use Rattle.std.proofs.Common.{◌≡◌, ◌≤◌, ◌++◌}
+use Rattle.std.specs.Prelude.{vec_capacity}
+use Rattle.mesh_join.specs.Cleaned.{cleaned_sections}
+>>>>>>> contracts
 use Rattle.mesh_join.specs.Styles.{OffsetJoin}
 use Rattle.mesh_draw.specs.Adding.{Keeps}
 use Rattle.mesh_outline.proofs.BuilderWalk.{to_come, walk_segments, Continues}
@@ -14,5 +20,6 @@ invariant-loop-segment g l =
           ≡ l.fn.segments.items ++ walk_segments g.I.IntNumber.unit style (cleaned_sections l.fn.path);
       kept : Keeps l.fn.segments.items l.segments.items;
       going : Continues g.I.IntNumber.unit style l.previous l.segment-iterator l.first;
+      room : vec_capacity l.fn.segments ≤ vec_capacity l.segments;
       same : l.join ≡ l.fn.join;
     }

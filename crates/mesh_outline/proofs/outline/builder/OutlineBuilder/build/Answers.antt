@@ -1,5 +1,10 @@
 -- What holds of the edges that the walk added.
-use Rattle.std.proofs.Common.{subst}
+use Rattle.std.proofs.Common.{◌+◌, ◌≤◌, List, length, sym, subst}
+use Rattle.std.specs.Prelude.{vec_capacity}
+use Rattle.std.specs.List.{All}
+use Rattle.mesh_num.specs.Segments.{SignedEdge, IsSubject}
+use Rattle.mesh_draw.proofs.Adding.{added_is}
+use Rattle.mesh_outline.proofs.BuilderRoom.{room_of_four}
 use Rattle.mesh_join.proofs.Joins.{each_has_few}
 use Rattle.mesh_join.specs.Styles.{OffsetJoin}
 use Rattle.mesh_draw.specs.Adding.{Adds}
@@ -13,6 +18,18 @@ use Rattle.mesh_outline.proofs.outline.builder.OutlineBuilder.build.Goals as goa
 abbrev adds : (g : given.Over) (c : goal.In_default g) → Adds c.args.segments.now.items c.draw.new.segments.items (outline_edges g.I.IntNumber.unit c.args.self.now c.args.path.now)
 adds g c =
     subst (λ (style : OffsetJoin). Adds c.args.segments.now.items c.draw.new.segments.items (outline_edges g.I.IntNumber.unit style c.args.path.now)) c.self.view_is c.in_default.ensures.ok
+
+pub returns-clause-form : goal.returns-clause-form
+returns-clause-form g c =
+    let h = adds g c in
+    subst (λ (l : List SignedEdge). All IsSubject l) (sym (added_is c.args.segments.now.items c.draw.new.segments.items h.0 h.1)) h.3
+
+pub returns-in-Err-clause-room_for_four : goal.returns-in-Err-clause-room_for_four
+returns-in-Err-clause-room_for_four g c room =
+    let n = length c.args.segments.now.items in
+    let cap = vec_capacity c.args.segments.now in
+    let fits = room_of_four g.I.IntNumber.unit c.args.self.now c.args.path.now n cap g.met.I.IntNumber.least_law (each_has_few c.args.self.now.join.kind) room in
+    c.in-Err.ensures.room (subst (λ (style : OffsetJoin). n + length (outline_edges g.I.IntNumber.unit style c.args.path.now) ≤ cap) (sym c.self.view_is) fits)
 
 pub returns-clause-few : goal.returns-clause-few
 returns-clause-few g c = adds_few g.I.IntNumber.unit c.args.self.now c.args.path.now g.met.I.IntNumber.least_law (each_has_few c.args.self.now.join.kind) _ _ (adds g c)
