@@ -3,11 +3,7 @@ pub mod Clean
 pub mod Entries
 pub mod Extents
 pub mod Filing
-<<<<<<< HEAD
-=======
 pub mod Kept
-pub mod Live
->>>>>>> contracts
 pub mod Paths
 pub mod Room
 pub mod Settling

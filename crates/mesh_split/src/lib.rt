@@ -5,11 +5,8 @@
 //! its loops, which private contracts alone read.
 #![tactic(auto)]
 
-<<<<<<< HEAD
 mod axes;
-=======
 pub mod laws;
->>>>>>> contracts
 pub mod splitter;
 mod store;
 mod tally;

@@ -1,16 +1,11 @@
 -- What the walk adds, and that it can go on.
-<<<<<<< HEAD
-use Rattle.std.proofs.Common.{◌++◌, refl, sym, ◌∙◌, ap}
-use Rattle.mesh_clean.specs.Cleaned.{cleaned_sections}
-=======
 use Rattle.std.proofs.Common.{ℕ, ◌+◌, ◌≤◌, ◌++◌, length, refl, sym, subst, ◌∙◌, ap}
 use Rattle.std.specs.Prelude.{vec_capacity}
 use Rattle.std.proofs.lemmas.Bool.{false≢true}
 use Rattle.mesh_join.specs.Styles.{OffsetJoin}
 use Rattle.mesh_outline.specs.Outline.{Section}
 use Rattle.mesh_outline.proofs.BuilderRoom.{room_first, room_step, room_last}
-use Rattle.mesh_join.specs.Cleaned.{cleaned_sections}
->>>>>>> contracts
+use Rattle.mesh_clean.specs.Cleaned.{cleaned_sections}
 use Rattle.mesh_clean.proofs.CleaningSteps.{cleaned-none}
 use Rattle.mesh_outline.specs.Building.{top_segments}
 use Rattle.mesh_outline.proofs.Padding.{movable_within}

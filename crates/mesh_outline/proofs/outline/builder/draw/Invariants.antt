@@ -1,12 +1,7 @@
 -- What is still to be added, and that the sections still to come meet.
-<<<<<<< HEAD
-use Rattle.std.proofs.Common.{◌≡◌, ◌++◌}
-use Rattle.mesh_clean.specs.Cleaned.{cleaned_sections}
-=======
 use Rattle.std.proofs.Common.{◌≡◌, ◌≤◌, ◌++◌}
 use Rattle.std.specs.Prelude.{vec_capacity}
-use Rattle.mesh_join.specs.Cleaned.{cleaned_sections}
->>>>>>> contracts
+use Rattle.mesh_clean.specs.Cleaned.{cleaned_sections}
 use Rattle.mesh_join.specs.Styles.{OffsetJoin}
 use Rattle.mesh_draw.specs.Adding.{Keeps}
 use Rattle.mesh_outline.proofs.BuilderWalk.{to_come, walk_segments, Continues}
