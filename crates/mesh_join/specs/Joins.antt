@@ -6,13 +6,15 @@ use Rattle.mesh_num.specs.Rectangle.{IsSafeWidened}
 use Rattle.mesh_plane.specs.Winding.{route, same_point}
 use Rattle.mesh_join.specs.Bevels.{bevel_points, bevel_padding}
 use Rattle.mesh_join.specs.Joints.{Joint, IsTurn}
+use Rattle.mesh_join.specs.Miters.{miter_points, miter_padding}
 use Rattle.mesh_join.specs.Styles.{JoinStyle, OffsetJoin, OutlineStyle, outer, inner}
 use Rattle.mesh_join.specs.declared.style.IntLineJoin.{IntLineJoin}
-use Rattle.mesh_join.specs.declared.style.IntLineJoin.TheVariants.{Bevel}
+use Rattle.mesh_join.specs.declared.style.IntLineJoin.TheVariants.{Bevel, Miter}
 
 -- the points of a join of each kind, where `min_turn` is the turn below which a miter is a bevel
 abbrev pub points_of : IntLineJoin → ℕ → ℕ → Joint → List Point
 points_of Bevel min_turn unit j = bevel_points j
+points_of (Miter angle) min_turn unit j = miter_points angle min_turn unit j
 
 -- the points of a join
 abbrev pub join_points : ℕ → JoinStyle → Joint → List Point
@@ -21,10 +23,12 @@ join_points unit style j = points_of style.kind style.min_turn unit j
 -- how far a join of each kind reaches from its corner in each coordinate, by its radius or an offset of that size
 abbrev pub join_padding : IntLineJoin → ℤ → ℤ
 join_padding Bevel radius = bevel_padding radius
+join_padding (Miter angle) radius = miter_padding angle radius
 
 -- whether joins of each kind have at most three edges
 abbrev pub has_few : IntLineJoin → Bool
 has_few Bevel = true
+has_few (Miter _) = true
 
 -- the points on the way from `a` to `b`: none where these are one point
 abbrev pub between : Point → List Point → Point → List Point

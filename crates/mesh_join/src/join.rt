@@ -7,26 +7,35 @@ ghost use Rattle.mesh_join.specs.Joins.{join_edges, join_padding, IsJoint};
 
 use crate::arc::ArcDirection;
 use crate::bevel;
+use crate::joint::Joint;
+use crate::miter::{self, Miter};
 use crate::style::IntLineJoin;
 use mesh_num::num::{Angle, IntNumber, IntPoint, UnitIntVector, WideNumber};
 use mesh_num::shape::segment::Segment;
 use std::alloc::{AllocError, Global};
 use std::marker::{Model, PhantomData};
 
+/// How a join is drawn. A bevel keeps the turn below which a miter would be one, which it has no use for.
+#[derive(Debug, Drop)]
+pub(crate) enum Method {
+    Bevel(Angle),
+    Miter(Miter),
+}
+
 /// Adds the edges that connect both offset points of an outer corner. Contracts see its style.
 #[derive(Debug, Drop)]
 pub struct Join<I: IntNumber> {
-    kind: IntLineJoin,
-    min_turn: Angle,
+    method: Method,
     coordinate: PhantomData<I>,
 }
 
 impl<I: IntNumber> Model for Join<I> {
     ghost use Rattle.mesh_join.specs.Styles.{JoinStyle};
+    ghost use Rattle.mesh_join.specs.Methods.{style_of_method};
 
     ghost Value = { JoinStyle };
 
-    ghost view = { λ j. record { kind = j.kind; min_turn = j.min_turn } };
+    ghost view = { λ j. style_of_method j.method };
 }
 
 impl<I: IntNumber> Join<I> {
@@ -34,9 +43,12 @@ impl<I: IntNumber> Join<I> {
     pub fn new(_alloc: Global, kind: IntLineJoin, min_turn: Angle) -> Self
         ensures { result ≡ record { kind = kind; min_turn = min_turn } }
     {
+        let method = match kind {
+            IntLineJoin::Bevel => Method::Bevel(min_turn),
+            IntLineJoin::Miter(angle) => Method::Miter(Miter::new(angle, min_turn)),
+        };
         Join {
-            kind,
-            min_turn,
+            method,
             coordinate: PhantomData,
         }
     }
@@ -47,6 +59,7 @@ impl<I: IntNumber> Join<I> {
     {
         match kind {
             IntLineJoin::Bevel => bevel::padding(radius),
+            IntLineJoin::Miter(angle) => miter::padding(angle, radius),
         }
     }
 
@@ -77,8 +90,23 @@ impl<I: IntNumber> Join<I> {
         ensures capacity { vec_capacity segments.old ≤ vec_capacity segments.new }
         ensures same { self.new ≡ self.old }
     {
-        match self.kind {
-            IntLineJoin::Bevel => bevel::add(a, b, segments),
+        if a == b {
+            return Ok(());
+        }
+        match &self.method {
+            Method::Bevel(_) => bevel::add(a, b, segments),
+            Method::Miter(miter) => {
+                let joint = Joint {
+                    center,
+                    first: a,
+                    last: b,
+                    incoming,
+                    outgoing,
+                    radius,
+                    sense: direction,
+                };
+                miter.add(&joint, segments)
+            }
         }
     }
 }

@@ -1,12 +1,16 @@
 //! Styles and joins of integer polygon offsetting. `mesh_clean` has the cleaned contour, whose corners are joined.
 //!
-//! A kind of join is a variant of `IntLineJoin`, a module beside `bevel` and a file each of definitions and of lemmas.
+//! A kind of join is a variant of `IntLineJoin`, a module beside `bevel` and `miter`, and a file each of definitions and of
+//! lemmas.
 //! `specs/Joins.antt`, `proofs/Joins.antt` and `join` choose between the kinds.
 #![tactic(auto)]
 
 pub mod arc;
 mod bevel;
 pub mod join;
+mod joint;
+mod miter;
+mod route;
 pub mod style;
 
 pub use mesh_clean::{laws, uniq_iter};

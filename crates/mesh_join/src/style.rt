@@ -17,6 +17,10 @@ pub enum IntLineJoin {
     /// The straight edge between both offset points.
     #[default]
     Bevel,
+    /// The peak in which both moved sections meet. Where the angle between the sections is below this one, which counts as
+    /// at least 5 degrees (59,652,323 bits) and less than half a turn, the peak is clipped by an edge as far away as the
+    /// peak of this angle. Slight turns are bevelled, and corners whose peak would turn back or lie past the padding.
+    Miter(Angle),
 }
 
 /// The turn below which a miter is a bevel, in bits of 2^32 a turn: 5 degrees, cut.
@@ -31,7 +35,7 @@ pub struct IntOutlineStyle<I: IntNumber> {
     pub inner_offset: I,
     /// The join of outer corners.
     pub join: IntLineJoin,
-    /// The turn below which a miter is a bevel.
+    /// The turn below which a miter is a bevel. More than half a turn counts as half a turn.
     pub miter_min_turn: Angle,
     /// The arithmetic.
     pub math: MathMode,
@@ -79,6 +83,16 @@ impl<I: IntNumber> IntOutlineStyle<I> {
         ensures { result ≡ record self { join = join } }
     {
         IntOutlineStyle { join, ..self }
+    }
+
+    /// The style with another turn below which a miter is a bevel. More than half a turn counts as half a turn.
+    pub fn miter_min_turn(self, turn: Angle) -> Self
+        ensures { result ≡ record self { miter_min_turn = turn } }
+    {
+        IntOutlineStyle {
+            miter_min_turn: turn,
+            ..self
+        }
     }
 
     /// The style with another arithmetic.

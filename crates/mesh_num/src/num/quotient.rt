@@ -13,12 +13,12 @@ pub fn mul_div<I: IntNumber>(a: I::Wide, b: I::Wide, d: I::Wide) -> I::Wide
     requires fits { IsWithin I.Wide.half (rounded_product (I.Wide.value a) (I.Wide.value b) (I.Wide.value d)) }
     ensures value { I.Wide.value result ≡ rounded_product (I.Wide.value a) (I.Wide.value b) (I.Wide.value d) }
 {
-    let quotient = quotient(I::wide_to_i128(a), I::wide_to_i128(b), I::wide_to_i128(d));
+    let quotient = rounded_product(I::wide_to_i128(a), I::wide_to_i128(b), I::wide_to_i128(d));
     I::wide_from_i128(quotient)
 }
 
-// The rounded quotient in 128 bits.
-fn quotient(a: i128, b: i128, d: i128) -> i128
+/// `a * b / d` rounded to a whole number, halves away from 0, with the sign by the rule of signs, in 128 bits.
+pub fn rounded_product(a: i128, b: i128, d: i128) -> i128
     requires a { unsigned_abs a ≤ 2 ^ 63 }
     requires b { unsigned_abs b ≤ 2 ^ 63 }
     requires size { unsigned_abs d ≤ 2 ^ 63 }

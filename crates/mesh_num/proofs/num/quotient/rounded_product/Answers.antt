@@ -8,7 +8,7 @@ use mir.Syntax.{w128}
 use mir.Val.{SFits}
 use Rattle.mesh_plane.specs.Rounding.{rounded}
 use Rattle.mesh_num.specs.Quotient.{rounded_product}
-use Rattle.mesh_num.proofs.num.quotient.quotient.Goals as goal
+use Rattle.mesh_num.proofs.num.quotient.rounded_product.Goals as goal
 
 below : (a b d : ℤ) → lt_z d (pos 0) ≡ true → rounded (neg_ℤ (a *ℤ b)) (unsigned_abs d) ≡ rounded_product a b d
 below a b (pos d) h = absurd (omega (arith, ltb-true d 0 h))

@@ -1,0 +1,11 @@
+-- The style that a join's method stands for.
+use Rattle.std.specs.Prelude.{ℕ}
+use Rattle.mesh_join.specs.Miters.{MiterStyle}
+use Rattle.mesh_join.specs.Styles.{JoinStyle}
+use Rattle.mesh_join.specs.declared.join.Method.{Method}
+use Rattle.mesh_join.specs.declared.join.Method.TheVariants as method
+use Rattle.mesh_join.specs.declared.style.IntLineJoin.TheVariants.{Bevel, Miter}
+
+abbrev pub style_of_method : Method → JoinStyle
+style_of_method (method.Bevel min_turn) = record { kind = Bevel; min_turn = min_turn }
+style_of_method (method.Miter m) = record { kind = Miter m.angle; min_turn = m.min_turn }

@@ -1,0 +1,70 @@
+//! What a join is asked for at an outer corner.
+
+ghost use Rattle.std.specs.Prelude.{◌≡◌, pos, Option, Some, None, IfSome, if◌then◌else◌};
+ghost use Rattle.mesh_plane.specs.Bounds.{IsSafe};
+ghost use Rattle.mesh_num.specs.Rectangle.{IsSafeWidened};
+ghost use Rattle.mesh_join.specs.Joints.{Joint};
+ghost use Rattle.mesh_join.specs.Miters.{is_near, runs_ahead};
+
+use crate::arc::ArcDirection;
+use mesh_num::num::convert::{is_wide_less, narrow, widen};
+use mesh_num::num::{IntNumber, IntPoint, UnitIntVector};
+use std::marker::Model;
+
+/// An outer corner, the points that its sections are moved to, their directions, how far they are moved, and the sense of
+/// the turn. Contracts see the record of all.
+pub(crate) struct Joint<I: IntNumber> {
+    pub(crate) center: IntPoint<I>,
+    pub(crate) first: IntPoint<I>,
+    pub(crate) last: IntPoint<I>,
+    pub(crate) incoming: UnitIntVector<I>,
+    pub(crate) outgoing: UnitIntVector<I>,
+    pub(crate) radius: I,
+    pub(crate) sense: ArcDirection,
+}
+
+impl<I: IntNumber> Model for Joint<I> {
+    ghost use Rattle.mesh_join.specs.Joints.{Joint, joint};
+
+    ghost Value = { Joint };
+
+    ghost view = { λ j. joint j.center j.first j.last j.incoming j.outgoing (I.value j.radius) j.sense };
+}
+
+impl<I: IntNumber> Joint<I> {
+    /// The point with these coordinates, if it is away from the corner by at most the padding in each coordinate.
+    pub(crate) fn near(&self, padding: i128, x: i128, y: i128) -> Option<IntPoint<I>>
+        requires { IsSafeWidened I.unit padding self.now.center }
+        ensures value { result ≡ (if is_near padding self.now.center (x, y) then Some (x, y) else None) }
+        ensures safe { IfSome result (λ p. IsSafe I.unit p) }
+    {
+        if is_between(x, widen(self.center.x), padding)
+            && is_between(y, widen(self.center.y), padding)
+        {
+            Some(IntPoint::new(narrow(x), narrow(y)))
+        } else {
+            None
+        }
+    }
+
+    /// Whether the edge does not turn back round the corner.
+    pub(crate) fn runs_ahead(&self, from: IntPoint<I>, to: IntPoint<I>) -> bool
+        requires center { IsSafe I.unit self.now.center }
+        requires from { IsSafe I.unit from }
+        requires to { IsSafe I.unit to }
+        ensures { result ≡ runs_ahead self.now (from, to) }
+    {
+        let turn = (from - self.center).cross_product(&(to - self.center));
+        let zero = I::ZERO.to_wide();
+        match self.sense {
+            ArcDirection::Counterclockwise => !is_wide_less::<I>(turn, zero),
+            ArcDirection::Clockwise => !is_wide_less::<I>(zero, turn),
+        }
+    }
+}
+
+// Whether a coordinate is away from another by at most the padding.
+fn is_between(coordinate: i128, center: i128, padding: i128) -> bool
+{
+    center - padding <= coordinate && coordinate <= center + padding
+}
