@@ -13,6 +13,7 @@ use std::marker::Model;
 
 /// An outer corner, the points that its sections are moved to, their directions, how far they are moved, and the sense of
 /// the turn. Contracts see the record of all.
+#[derive(Drop)]
 pub(crate) struct Joint<I: IntNumber> {
     pub(crate) center: IntPoint<I>,
     pub(crate) first: IntPoint<I>,

@@ -1,8 +1,8 @@
 -- What a request says, as data of JSON. Coordinates are of a type with `unit`, which holds the whole numbers from
 -- `-2 * unit` on that are below `2 * unit`; areas are of one that holds those without sign below `16 * unit * unit`.
-use Rattle.std.specs.Prelude.{ℕ, ◌*◌, ◌^◌, ◌&&◌, ◌||◌, Bool, false, if◌then◌else◌, ℤ, pos, neg_ℤ, int_le, int_lt, nat_lt, List, [], ◌∷◌, codes, Option, Some, None, is_some, option_map, option_and_then}
+use Rattle.std.specs.Prelude.{ℕ, ◌*◌, ◌^◌, ◌&&◌, ◌||◌, Bool, false, if◌then◌else◌, ℤ, pos, neg_ℤ, int_le, int_lt, nat_eq, nat_lt, suc, List, [], ◌∷◌, codes, Option, Some, None, is_some, option_map, option_and_then}
 use Rattle.std.specs.Str.{bytes_eq}
-use Rattle.serde_json.specs.Data.{Data, Items, no_items, item}
+use Rattle.serde_json.specs.Data.{Data, Items, no_items, item, Members, no_members, member}
 use Rattle.serde_json.specs.Find.{get, as_number, as_i64, as_u64, as_bool, as_str, as_array, as_object}
 use Rattle.mesh_plane.specs.Plane.{Point}
 use Rattle.mesh_below.specs.Options.{plain}
@@ -10,7 +10,7 @@ use Rattle.mesh_shapes.specs.Resolution.{Choices}
 use Rattle.mesh_draw.specs.declared.error.IntOutlineError.TheVariants.{CoordinateOutOfRange, OutOfMemory}
 use Rattle.mesh_join.specs.Styles.{OutlineStyle}
 use Rattle.mesh_join.specs.declared.style.IntLineJoin.{IntLineJoin}
-use Rattle.mesh_join.specs.declared.style.IntLineJoin.TheVariants.{Bevel}
+use Rattle.mesh_join.specs.declared.style.IntLineJoin.TheVariants.{Bevel, Miter}
 use Rattle.mesh_service.specs.Requests.{Asked, for_edges, for_shapes, Request}
 use Rattle.mesh_service.specs.declared.failure.Failure.{Failure}
 use Rattle.mesh_service.specs.declared.failure.Failure.TheVariants.{Unreadable, Refused}
@@ -75,23 +75,46 @@ has_key key d = is_some (get key d)
 
 -- whether a style has a key that means something and is not served
 abbrev pub has_unserved : Data → Bool
-has_unserved d = has_key (codes "width") d || has_key (codes "min_turn") d || has_key (codes "start") d || has_key (codes "end") d || has_key (codes "arc") d
+has_unserved d = has_key (codes "width") d || has_key (codes "start") d || has_key (codes "end") d || has_key (codes "arc") d
 
--- the kind of join that a value names, a bevel where there is none
+-- the angle of as many bits as a value says: a whole number of 32 bits without sign
+abbrev pub angle_of : Data → Option ℕ
+angle_of d = option_and_then (λ bits. if nat_lt bits (2 ^ 32) then Some bits else None) (option_and_then as_u64 (as_number d))
+
+-- how many members an object has
+abbrev pub member_count : Members → ℕ
+member_count no_members = 0
+member_count (member k d ms) = suc (member_count ms)
+
+-- whether a value is an object with one member
+abbrev pub has_one_member : Option Members → Bool
+has_one_member None = false
+has_one_member (Some ms) = nat_eq (member_count ms) 1
+
+-- what an object holds under a key, where it has no other
+abbrev pub sole_in : List ℕ → Data → Option Data
+sole_in key d = if has_one_member (as_object d) then get key d else None
+
+-- the kind of join that a value names: "bevel" or {"miter":bits}, a bevel where there is none
 abbrev pub join_of : Option Data → Option IntLineJoin
 join_of None = Some Bevel
-join_of (Some d) = if is_word (codes "bevel") (as_str d) then Some Bevel else None
+join_of (Some d) = if is_word (codes "bevel") (as_str d) then Some Bevel else option_map Miter (option_and_then angle_of (sole_in (codes "miter") d))
+
+-- the turn below which a miter is a bevel, the default one where there is none: 5 degrees, cut
+abbrev pub min_turn_of : Option Data → Option ℕ
+min_turn_of None = Some 59652323
+min_turn_of (Some d) = angle_of d
 
 -- the offset that a style gives under a key
 abbrev pub offset_of : ℕ → List ℕ → Data → Option ℤ
 offset_of unit key d = option_and_then (coordinate_of unit) (get key d)
 
--- a join and the outer and the inner offset, as a style; miters turn by at least 5 degrees, cut, as by default
-abbrev pub style_with : IntLineJoin × (ℤ × ℤ) → OutlineStyle
+-- a join, the turn below which a miter is a bevel, and the outer and the inner offset, as a style
+abbrev pub style_with : IntLineJoin × (ℕ × (ℤ × ℤ)) → OutlineStyle
 style_with said = record {
-  outer_offset = said.1.0;
-  inner_offset = said.1.1;
-  join = record { kind = said.0; min_turn = 59652323 };
+  outer_offset = said.1.1.0;
+  inner_offset = said.1.1.1;
+  join = record { kind = said.0; min_turn = said.1.0 };
 }
 
 -- the style that an object gives
@@ -99,7 +122,9 @@ abbrev pub style_in : ℕ → Data → Option OutlineStyle
 style_in unit d =
     if has_unserved d
     then None
-    else option_map style_with (both (join_of (get (codes "join") d)) (both (offset_of unit (codes "outer") d) (offset_of unit (codes "inner") d)))
+    else option_map style_with
+    (both (join_of (get (codes "join") d))
+    (both (min_turn_of (get (codes "min_turn") d)) (both (offset_of unit (codes "outer") d) (offset_of unit (codes "inner") d))))
 
 -- the number, where it fits the type of areas
 abbrev pub where_area_fits : ℕ → ℕ → Option ℕ

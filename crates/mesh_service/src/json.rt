@@ -6,7 +6,7 @@ ghost use Rattle.serde_json.specs.Find.{get, as_str, of_integer};
 ghost use Rattle.serde_json.specs.Read.{read};
 ghost use Rattle.serde_json.specs.View.{view, items_view, members_view};
 ghost use Rattle.serde_json.specs.Written.{has_float as holds_float, items_have_float, members_have_float};
-ghost use Rattle.mesh_service.specs.Reading.{coordinate_of, says as says_text, IsOfReading};
+ghost use Rattle.mesh_service.specs.Reading.{coordinate_of, is_word, says as says_text, IsOfReading};
 
 use crate::coordinate::narrowed;
 use crate::failure::Failure;
@@ -64,6 +64,16 @@ fn has_float_in_members(members: &Map<String, Value>) -> bool
         }
     }
     false
+}
+
+/// Whether a value is this text.
+pub fn is_text(value: &Value, text: &str) -> bool
+    ensures { result ≡ is_word text.now (as_str (view value.now)) }
+{
+    match value.as_str() {
+        Some(found) => found == text,
+        None => false,
+    }
 }
 
 /// Whether a member of an object is this text.

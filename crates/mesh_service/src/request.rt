@@ -3,16 +3,16 @@
 ghost use Rattle.std.specs.Prelude.{◌≡◌, Some, None, MatchResult, option_map, option_and_then};
 ghost use Rattle.serde_json.specs.View.{view, items_view};
 ghost use Rattle.mesh_num.specs.Paths.{paths_of};
-ghost use Rattle.mesh_service.specs.Reading.{point_of, points_of, path_of, path_list_of, paths_in, has_unserved as unserved, join_of, style_in, offset_of, asked_in, outline_of, IsOfReading};
+ghost use Rattle.mesh_service.specs.Reading.{point_of, points_of, path_of, path_list_of, paths_in, has_unserved as unserved, join_of, sole_in, angle_of, min_turn_of, style_in, offset_of, asked_in, outline_of, IsOfReading};
 ghost use Rattle.mesh_join.specs.Styles.{style_of};
 ghost use Rattle.mesh_service.specs.Requests.{asked_of};
 
 use crate::failure::Failure;
-use crate::json::{coordinate, says};
+use crate::json::{coordinate, is_text, says};
 use crate::options::read_options;
 use crate::outline::{OutlineRequest, Output};
-use mesh_join::style::{IntLineJoin, IntOutlineStyle};
-use mesh_num::num::{IntNumber, IntPoint, OverlayInt};
+use mesh_join::style::{DEFAULT_MITER_MIN_TURN, IntLineJoin, IntOutlineStyle};
+use mesh_num::num::{Angle, IntNumber, IntPoint, OverlayInt};
 use serde_json::Value;
 use std::alloc::Global;
 
@@ -118,12 +118,14 @@ fn outline_style<I: OverlayInt>(style: Option<&Value>) -> Option<IntOutlineStyle
         return None;
     }
     let join = line_join(style.get("join"))?;
+    let turn = min_turn(style.get("min_turn"))?;
     let outer = offset(style, "outer")?;
     let inner = offset(style, "inner")?;
     Some(
         IntOutlineStyle::new(outer)
             .inner_offset(inner)
-            .line_join(join),
+            .line_join(join)
+            .miter_min_turn(turn),
     )
 }
 
@@ -132,7 +134,6 @@ fn has_unserved_key(style: &Value) -> bool
     ensures { result ≡ unserved (view style.now) }
 {
     style.get("width").is_some()
-        || style.get("min_turn").is_some()
         || style.get("start").is_some()
         || style.get("end").is_some()
         || style.get("arc").is_some()
@@ -145,10 +146,42 @@ fn line_join(value: Option<&Value>) -> Option<IntLineJoin>
     let Some(value) = value else {
         return Some(IntLineJoin::Bevel);
     };
-    if value.as_str()? == "bevel" {
+    if is_text(value, "bevel") {
         Some(IntLineJoin::Bevel)
     } else {
+        Some(IntLineJoin::Miter(angle(sole_member(value, "miter")?)?))
+    }
+}
+
+/// What an object holds under a key, where it has no other.
+fn sole_member<'a>(value: &'a Value, key: &str) -> Option<&'a Value>
+    ensures { option_map (λ v. view v.now) result ≡ sole_in key.now (view value.now) }
+{
+    if value.as_object()?.len() != 1 {
+        return None;
+    }
+    value.get(key)
+}
+
+/// The angle of as many bits as a value says.
+fn angle(value: &Value) -> Option<Angle>
+    ensures { result ≡ angle_of (view value.now) }
+{
+    let bits = value.as_u64()?;
+    if bits < 1 << 32 {
+        Some(Angle::from_bits(bits as u32))
+    } else {
         None
+    }
+}
+
+/// The turn below which a miter is a bevel, the default one where there is none.
+fn min_turn(value: Option<&Value>) -> Option<Angle>
+    ensures { result ≡ min_turn_of (option_map (λ v. view v.now) value.entry) }
+{
+    match value {
+        Some(turn) => angle(turn),
+        None => Some(Angle::from_bits(DEFAULT_MITER_MIN_TURN)),
     }
 }
 
