@@ -12,7 +12,7 @@ use Rattle.mesh_join.specs.Joints.{Joint, IsTurn, IsWithinPadding, sense_of}
 use Rattle.mesh_join.specs.Styles.{JoinStyle}
 use Rattle.mesh_join.specs.declared.style.IntLineJoin.TheVariants.{Bevel}
 
-nothing_between : (a b : Point) → between a [] b ≡ []
+pub nothing_between : (a b : Point) → between a [] b ≡ []
 nothing_between a b = by (same_point a b)
   where
     by : (t : Bool) → ◌≡◌ {A = List Point} (cond t [] []) []

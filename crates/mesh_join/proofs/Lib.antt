@@ -1,3 +1,4 @@
 pub mod Bevels
 pub mod JoinLaws
 pub mod Joins
+pub mod Miters

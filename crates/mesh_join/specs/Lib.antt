@@ -6,3 +6,4 @@ pub mod Joints
 pub mod Methods
 pub mod Miters
 pub mod Styles
+pub mod Midway

@@ -27,11 +27,15 @@ slightest min_turn = min min_turn (2 ^ 31)
 unfoldable pub half_sharpest : ℕ → Point
 half_sharpest angle = sin_cos (sharpest angle / 2)
 
--- how far a miter reaches from its corner in each coordinate: as the peak of the sharpest angle does, and 2 for what is lost
--- to rounding
+-- how far a miter reaches from its corner in each coordinate, by the sine of half its sharpest angle: as the peak of that
+-- angle does, and 2 for what is lost to rounding
+abbrev pub reach : ℤ → ℤ → ℤ
+reach sine radius =
+    if int_eq radius (pos 0) then pos 0 else rounded_product (pos (unsigned_abs radius)) (pos (2 ^ 30)) sine +ℤ pos 2
+
+-- how far a miter reaches from its corner in each coordinate
 unfoldable pub miter_padding : ℕ → ℤ → ℤ
-miter_padding angle radius =
-    if int_eq radius (pos 0) then pos 0 else rounded_product (pos (unsigned_abs radius)) (pos (2 ^ 30)) (half_sharpest angle).0 +ℤ pos 2
+miter_padding angle radius = reach (half_sharpest angle).0 radius
 
 -- whether the angle between two vectors is below one of at most half a turn, whose sine and cosine are given
 abbrev pub is_angle_below : Point → Point → Point → Bool
@@ -84,7 +88,11 @@ runs_ahead j e = int_le (pos 0) (sense_of j.sense *ℤ turn j.center e.0 e.1)
 unfoldable pub are_usable : ℤ → Joint → List Point → Bool
 are_usable padding j points = list_all (is_near padding j.center) points && list_all (runs_ahead j) (route j.first points j.last)
 
+-- the points, if they can be used
+abbrev pub usable : ℤ → Joint → List Point → List Point
+usable padding j points = if are_usable padding j points then points else []
+
 -- the points of a miter: none where it is a bevel
 unfoldable pub miter_points : ℕ → ℕ → ℕ → Joint → List Point
 miter_points angle min_turn unit j =
-    if is_slight min_turn j then [] else if are_usable (miter_padding angle j.radius) j (miter_tip angle unit j) then miter_tip angle unit j else []
+    if is_slight min_turn j then [] else usable (miter_padding angle j.radius) j (miter_tip angle unit j)

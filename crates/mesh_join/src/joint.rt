@@ -1,6 +1,6 @@
 //! What a join is asked for at an outer corner.
 
-ghost use Rattle.std.specs.Prelude.{◌≡◌, pos, Option, Some, None, IfSome, if◌then◌else◌};
+ghost use Rattle.std.specs.Prelude.{◌≡◌, ◌^◌, ◌≤◌, ◌&&◌, Some, None, IfSome, ◌+ℤ◌, ◌-ℤ◌, unsigned_abs, int_le, if◌then◌else◌};
 ghost use Rattle.mesh_plane.specs.Bounds.{IsSafe};
 ghost use Rattle.mesh_num.specs.Rectangle.{IsSafeWidened};
 ghost use Rattle.mesh_join.specs.Joints.{Joint};
@@ -66,6 +66,9 @@ impl<I: IntNumber> Joint<I> {
 
 // Whether a coordinate is away from another by at most the padding.
 fn is_between(coordinate: i128, center: i128, padding: i128) -> bool
+    requires center { unsigned_abs center ≤ 2 ^ 40 }
+    requires padding { unsigned_abs padding ≤ 2 ^ 40 }
+    ensures { result ≡ (int_le (center -ℤ padding) coordinate && int_le coordinate (center +ℤ padding)) }
 {
     center - padding <= coordinate && coordinate <= center + padding
 }

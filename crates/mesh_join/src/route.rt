@@ -1,6 +1,6 @@
 //! Edges through points.
 
-ghost use Rattle.std.specs.Prelude.{◌≡◌, ◌+◌, ◌≤◌, ◌++◌, length, vec_capacity, IsOk, OnOk, OnErr};
+ghost use Rattle.std.specs.Prelude.{◌≡◌, ◌+◌, ◌≤◌, ◌++◌, length, take, vec_capacity, IsOk, OnOk, OnErr};
 ghost use Rattle.mesh_num.specs.Segments.{segments_of};
 ghost use Rattle.mesh_plane.specs.Winding.{route};
 
@@ -35,6 +35,10 @@ fn push_route<I: IntNumber>(
     b: IntPoint<I>,
     segments: &mut Vec<Segment<I>>,
 ) -> Result<(), AllocError>
+    ensures ok { OnOk result (segments.new.items ≡ segments.old.items ++ segments_of (route a points.now b)) }
+    ensures kept { take (length segments.old.items) segments.new.items ≡ segments.old.items }
+    ensures room { length segments.old.items + length (segments_of (route a points.now b)) ≤ vec_capacity segments.old → IsOk result }
+    ensures capacity { vec_capacity segments.old ≤ vec_capacity segments.new }
 {
     let mut from = a;
     for &point in points {

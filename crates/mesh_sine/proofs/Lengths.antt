@@ -1,11 +1,12 @@
 -- Lemmas over pairs: halves, sums and the end of the fold are at most `one` long.
-use Rattle.std.proofs.Common.{◌≡◌, ℕ, ◌+◌, ◌*◌, ◌-◌, ◌/◌, ◌%◌, ◌^◌, ◌<◌, ◌≤◌, refl, ap, subst, arith, zero, suc, lit<}
-use Rattle.std.specs.Prelude.{min, nat_eq}
+use Rattle.std.proofs.Common.{◌≡◌, ℕ, ◌+◌, ◌*◌, ◌-◌, ◌/◌, ◌%◌, ◌^◌, ◌<◌, ◌≤◌, refl, sym, ap, subst, arith, zero, suc, lit<}
+use Rattle.std.specs.Prelude.{min, nat_eq, pos, ◌≤ℤ◌}
 use Rattle.std.proofs.Math.Nat.{mul-le-mul, div-mul-le_self, le_of_mul-le-mul_right}
-use Rattle.std.proofs.lemmas.Bool.{cases_lt, cond-true, cond-false, eq-eqb, ne_eqb}
+use Rattle.std.proofs.lemmas.Bool.{cases_lt, cases_eq, cond-true, cond-false, eq-eqb, ne_eqb}
+use Rattle.std.proofs.lemmas.Int.{ints}
 use mathlib.Core.Logic.{⊎_elim}
 use Rattle.mesh_plane.proofs.Sizes.{le_of_squares, two_products}
-use Rattle.mesh_sine.specs.Sine.{one, root, half_cosine, half_pair, halved, sum_pair, with_bits}
+use Rattle.mesh_sine.specs.Sine.{one, root, half_cosine, half_pair, halved, sum_pair, with_bits, low_pair, sin_cos}
 use Rattle.mesh_sine.proofs.Roots.{root_is}
 
 -- a pair that is at most `one` long
@@ -89,3 +90,18 @@ bit_left low j a h = ap (with_bits low j) (cond-false (nat_eq (low / 2 ^ j % 2) 
 pub bits_end : (low : ℕ) (a : ℕ × ℕ) → with_bits low 0 a ≡ a
 unfolding with_bits
 bits_end low a = refl
+
+with_bits_is_pair : (low j : ℕ) (a : ℕ × ℕ) → IsPair a → IsPair (with_bits low j a)
+with_bits_is_pair low zero a h = subst IsPair (sym (bits_end low a)) h
+with_bits_is_pair low (suc j) a h =
+    ⊎_elim
+    (λ t. subst IsPair (sym (bit_taken low j a t)) (with_bits_is_pair low j (sum_pair a (halved (30 - j))) (sum_is_pair a (halved (30 - j)) h (halved_is_pair (30 - j)))))
+    (λ t. subst IsPair (sym (bit_left low j a t)) (with_bits_is_pair low j a h))
+    (cases_eq (low / 2 ^ j % 2) 1)
+
+-- below a quarter turn the sine is at most 1
+pub sine_at_most : (bits : ℕ) → bits < 2 ^ 30 → (sin_cos bits).0 ≤ℤ pos (2 ^ 30)
+sine_at_most bits h =
+    let q : bits / 2 ^ 30 ≡ 0 = omega arith in
+    let p : (low_pair (bits % 2 ^ 30)).1 ≤ one = (pair_bounded (low_pair (bits % 2 ^ 30)) (with_bits_is_pair (bits % 2 ^ 30) 30 (one, 0) (omega arith))).1 in
+    rw q (omega (arith, ints))
