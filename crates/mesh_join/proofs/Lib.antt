@@ -1,4 +1,6 @@
 pub mod Bevels
 pub mod JoinLaws
+pub mod Joints
 pub mod Joins
 pub mod Miters
+pub mod Quotients

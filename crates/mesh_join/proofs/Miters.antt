@@ -12,11 +12,13 @@ use Rattle.mesh_plane.specs.Rounding.{rounded}
 use Rattle.mesh_plane.specs.Winding.{route, same_point}
 use Rattle.mesh_plane.proofs.Rounding.{rounded_at_least, rounded_at_most}
 use Rattle.mesh_plane.proofs.Whole.{mul_le_mul_left}
-use Rattle.mesh_plane.specs.Bounds.{IsWithin}
+use Rattle.mesh_plane.specs.Bounds.{IsSafe, IsWithin}
 use Rattle.mesh_num.specs.Quotient.{rounded_product}
 use Rattle.mesh_sine.proofs.Lengths.{sine_at_most}
 use Rattle.mesh_sine.proofs.Small.{sine_not_small}
 use Rattle.mesh_join.proofs.Bevels.{nothing_between}
+use Rattle.mesh_num.specs.Rectangle.{IsSafeWidened}
+use Rattle.mesh_join.proofs.Joints.{within_safe}
 use Rattle.mesh_join.proofs.JoinLaws.{KeepsJoint, KeepsJoints}
 use Rattle.mesh_join.specs.Joins.{between, through}
 use Rattle.mesh_join.specs.Joints.{Joint, IsTurn, IsWithinPadding, NeverTurnsBack, sense_of}
@@ -130,7 +132,8 @@ each : {X : Type 0} (test : X → Bool) (P : X → Type 0) → ((x : X) → test
 each test P means [] h = All-nil P
 each test P means (x ∷ xs) h = All-cons P x xs (means x (both_are (test x) (list_all test xs) h).0) (each test P means xs (both_are (test x) (list_all test xs) h).1)
 
-means_near : (padding : ℤ) (v p : Point) → is_near padding v p ≡ true → IsWithinPadding padding v p
+-- a point that passes the test is near
+pub means_near : (padding : ℤ) (v p : Point) → is_near padding v p ≡ true → IsWithinPadding padding v p
 means_near padding v p h =
     let x = both_are (int_le (v.0 -ℤ padding) p.0 && int_le p.0 (v.0 +ℤ padding)) (int_le (v.1 -ℤ padding) p.1 && int_le p.1 (v.1 +ℤ padding)) h in
     let w = both_are (int_le (v.0 -ℤ padding) p.0) (int_le p.0 (v.0 +ℤ padding)) x.0 in
@@ -151,6 +154,10 @@ tested_keep unit padding j points h few u = by (same_point j.first j.last) refl
           near = rw n (each (is_near padding j.center) (IsWithinPadding padding j.center) (means_near padding j.center) points both.0);
           few = rw n (omega (arith, route_length j.first points j.last));
         }
+
+-- a point that passes the test at a corner that stays safe is safe
+pub tested_safe : (unit : ℕ) (padding to : ℤ) (v w p : Point) (b : Bool) → IsSafeWidened unit padding v → b ≡ is_near to w p → to ≡ padding → w ≡ v → b ≡ true → IsSafe unit p
+tested_safe unit padding to v w p b s t e f passed = within_safe unit padding v p s (means_near padding v p (rw (e, f) at (sym t ∙ passed)))
 
 usable_keeps : (unit : ℕ) (padding : ℤ) (j : Joint) (points : List Point) → IsTurn unit j → length points ≤ 2 → Keeps padding j (usable padding j points)
 usable_keeps unit padding j points h few = by (are_usable padding j points) refl

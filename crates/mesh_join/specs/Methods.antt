@@ -6,6 +6,9 @@ use Rattle.mesh_join.specs.declared.join.Method.{Method}
 use Rattle.mesh_join.specs.declared.join.Method.TheVariants as method
 use Rattle.mesh_join.specs.declared.style.IntLineJoin.TheVariants.{Bevel, Miter}
 
+abbrev pub style_of_miter : MiterStyle → JoinStyle
+style_of_miter m = record { kind = Miter m.angle; min_turn = m.min_turn }
+
 abbrev pub style_of_method : Method → JoinStyle
 style_of_method (method.Bevel min_turn) = record { kind = Bevel; min_turn = min_turn }
-style_of_method (method.Miter m) = record { kind = Miter m.angle; min_turn = m.min_turn }
+style_of_method (method.Miter m) = style_of_miter m

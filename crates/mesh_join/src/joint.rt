@@ -3,13 +3,16 @@
 ghost use Rattle.std.specs.Prelude.{◌≡◌, ◌^◌, ◌≤◌, ◌&&◌, Some, None, IfSome, ◌+ℤ◌, ◌-ℤ◌, unsigned_abs, int_le, if◌then◌else◌};
 ghost use Rattle.mesh_plane.specs.Bounds.{IsSafe};
 ghost use Rattle.mesh_num.specs.Rectangle.{IsSafeWidened};
-ghost use Rattle.mesh_join.specs.Joints.{Joint};
-ghost use Rattle.mesh_join.specs.Miters.{is_near, runs_ahead};
+ghost use Rattle.mesh_join.specs.Midway.Miters.{IsNarrow};
+ghost use Rattle.mesh_join.specs.Miters.{is_near as is_near_to, runs_ahead};
 
 use crate::arc::ArcDirection;
 use mesh_num::num::convert::{is_wide_less, narrow, widen};
 use mesh_num::num::{IntNumber, IntPoint, UnitIntVector};
 use std::marker::Model;
+
+/// A point or a vector in 128 bits.
+pub(crate) type Pair = (i128, i128);
 
 /// An outer corner, the points that its sections are moved to, their directions, how far they are moved, and the sense of
 /// the turn. Contracts see the record of all.
@@ -34,15 +37,13 @@ impl<I: IntNumber> Model for Joint<I> {
 
 impl<I: IntNumber> Joint<I> {
     /// The point with these coordinates, if it is away from the corner by at most the padding in each coordinate.
-    pub(crate) fn near(&self, padding: i128, x: i128, y: i128) -> Option<IntPoint<I>>
+    pub(crate) fn near(&self, padding: i128, point: Pair) -> Option<IntPoint<I>>
         requires { IsSafeWidened I.unit padding self.now.center }
-        ensures value { result ≡ (if is_near padding self.now.center (x, y) then Some (x, y) else None) }
+        ensures value { result ≡ (if is_near_to padding self.now.center point then Some point else None) }
         ensures safe { IfSome result (λ p. IsSafe I.unit p) }
     {
-        if is_between(x, widen(self.center.x), padding)
-            && is_between(y, widen(self.center.y), padding)
-        {
-            Some(IntPoint::new(narrow(x), narrow(y)))
+        if is_near(padding, coordinates(self.center), point) {
+            Some(IntPoint::new(narrow(point.0), narrow(point.1)))
         } else {
             None
         }
@@ -62,6 +63,23 @@ impl<I: IntNumber> Joint<I> {
             ArcDirection::Clockwise => !is_wide_less::<I>(zero, turn),
         }
     }
+}
+
+/// A point in 128 bits.
+pub(crate) fn coordinates<I: IntNumber>(point: IntPoint<I>) -> Pair
+    ensures value { result ≡ point }
+    ensures narrow { IsNarrow (2 ^ 31) result }
+{
+    (widen(point.x), widen(point.y))
+}
+
+// Whether a point is away from another by at most the padding in each coordinate.
+fn is_near(padding: i128, center: Pair, point: Pair) -> bool
+    requires center { IsNarrow (2 ^ 40) center }
+    requires padding { unsigned_abs padding ≤ 2 ^ 40 }
+    ensures { result ≡ is_near_to padding center point }
+{
+    is_between(point.0, center.0, padding) && is_between(point.1, center.1, padding)
 }
 
 // Whether a coordinate is away from another by at most the padding.

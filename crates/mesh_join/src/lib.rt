@@ -10,7 +10,6 @@ mod bevel;
 pub mod join;
 mod joint;
 mod miter;
-mod route;
 pub mod style;
 
 pub use mesh_clean::{laws, uniq_iter};

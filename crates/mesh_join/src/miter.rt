@@ -1,23 +1,22 @@
 //! Miters.
 
-ghost use Rattle.std.specs.Prelude.{◌≡◌, ◌≢◌, [], ◌∷◌, ◌++◌, ◌+◌, ◌^◌, ◌≤◌, length, vec_capacity, IsOk, OnOk, OnErr, pos, ◌*ℤ◌, unsigned_abs, int_lt};
+ghost use Rattle.std.specs.Prelude.{◌≡◌, ◌≢◌, [], ◌∷◌, ◌++◌, ◌+◌, ◌^◌, ◌≤◌, length, take, vec_capacity, IsOk, OnOk, OnErr, pos, ◌*ℤ◌, unsigned_abs, int_lt};
 ghost use Rattle.mesh_plane.specs.Bounds.{IsWithin};
-ghost use Rattle.mesh_plane.specs.Plane.{cross as cross_of};
+ghost use Rattle.mesh_plane.specs.Plane.{plus, minus, cross as cross_of, dot as dot_of};
 ghost use Rattle.mesh_plane.specs.Winding.{route};
-ghost use Rattle.mesh_num.specs.Direction.{scaled as scaled_of};
+ghost use Rattle.mesh_num.specs.Direction.{scaled_direction};
 ghost use Rattle.mesh_num.specs.Quotient.{rounded_product as product_over};
 ghost use Rattle.mesh_num.specs.Segments.{segments_of};
 ghost use Rattle.mesh_join.specs.Joins.{IsJoint};
-ghost use Rattle.mesh_join.specs.Midway.Miters.{IsInReach, IsHalfSine};
-ghost use Rattle.mesh_join.specs.Miters.{sharpest as sharpest_of, half_sharpest as half_of, reach as reach_of, miter_padding, clip_points, peak, usable, miter_points};
-ghost use Rattle.mesh_join.specs.declared.style.IntLineJoin.TheVariants.{Miter};
+ghost use Rattle.mesh_join.specs.Methods.{style_of_miter};
+ghost use Rattle.mesh_join.specs.Midway.Miters.{IsInReach, IsHalfSine, IsNarrow};
+ghost use Rattle.mesh_join.specs.Miters.{sharpest as sharpest_of, half_sharpest as half_of, reach as reach_of, miter_padding, peak as peak_of, usable, miter_points};
 
-use crate::joint::Joint;
-use crate::route::add_route;
+use crate::joint::{Joint, Pair, coordinates};
 use mesh_num::num::convert::widen;
 use mesh_num::num::quotient::rounded_product;
-use mesh_num::num::{Angle, IntNumber, IntVector, UnitIntVector};
-use mesh_num::shape::segment::Segment;
+use mesh_num::num::{Angle, IntNumber, UnitIntVector};
+use mesh_num::shape::segment::{Segment, SubjectSegments};
 use std::alloc::AllocError;
 use std::marker::Model;
 
@@ -99,128 +98,220 @@ impl Miter {
         }
     }
 
-    /// Adds the edges of the miter at a joint.
+    /// Adds the edges of the miter at a joint. Where there is room for them it succeeds. After a refusal the vector is cut
+    /// back to its old length.
     pub(crate) fn add<I: IntNumber>(
         &self,
         joint: &Joint<I>,
         segments: &mut Vec<Segment<I>>,
     ) -> Result<(), AllocError>
-        requires { IsJoint I.unit (record { kind = Miter self.now.angle; min_turn = self.now.min_turn }) joint.now }
+        requires { IsJoint I.unit (style_of_miter self.now) joint.now }
         ensures ok { OnOk result (segments.new.items ≡ segments.old.items ++ segments_of (route joint.now.first (miter_points self.now.angle self.now.min_turn I.unit joint.now) joint.now.last)) }
         ensures err { OnErr result (segments.new.items ≡ segments.old.items) }
         ensures room { length segments.old.items + length (segments_of (route joint.now.first (miter_points self.now.angle self.now.min_turn I.unit joint.now) joint.now.last)) ≤ vec_capacity segments.old → IsOk result }
         ensures capacity { vec_capacity segments.old ≤ vec_capacity segments.new }
     {
-        let incoming = vector(joint.incoming);
-        let outgoing = vector(joint.outgoing);
-        let cross = I::wide_to_i128(incoming.cross_product(&outgoing));
-        let dot = I::wide_to_i128(incoming.dot_product(&outgoing));
-        if cross == 0 || is_angle_below(self.slightest, cross, dot) {
-            return add_route(joint.first, &[], joint.last, segments);
+        let length = segments.len();
+        if let Err(error) = self.push(joint, segments) {
+            segments.truncate(length);
+            return Err(error);
         }
-        let padding = reach(joint.radius, self.half.0);
-        if is_angle_below(self.sharpest, cross, -dot) {
-            self.add_clipped(joint, padding, segments)
-        } else {
-            add_peak(joint, cross, padding, segments)
-        }
+        Ok(())
     }
 
-    // Adds the edges of a clipped peak, or the bevel where the clipping edge can't be used.
-    fn add_clipped<I: IntNumber>(
+    fn push<I: IntNumber>(
         &self,
         joint: &Joint<I>,
-        padding: i128,
         segments: &mut Vec<Segment<I>>,
     ) -> Result<(), AllocError>
-        requires { IsInReach I.unit padding joint.now }
-        ensures ok { OnOk result (segments.new.items ≡ segments.old.items ++ segments_of (route joint.now.first (usable padding joint.now (clip_points self.now.angle I.unit joint.now)) joint.now.last)) }
-        ensures err { OnErr result (segments.new.items ≡ segments.old.items) }
-        ensures room { length segments.old.items + length (segments_of (route joint.now.first (usable padding joint.now (clip_points self.now.angle I.unit joint.now)) joint.now.last)) ≤ vec_capacity segments.old → IsOk result }
+        requires { IsJoint I.unit (style_of_miter self.now) joint.now }
+        ensures ok { OnOk result (segments.new.items ≡ segments.old.items ++ segments_of (route joint.now.first (miter_points self.now.angle self.now.min_turn I.unit joint.now) joint.now.last)) }
+        ensures kept { take (length segments.old.items) segments.new.items ≡ segments.old.items }
+        ensures room { length segments.old.items + length (segments_of (route joint.now.first (miter_points self.now.angle self.now.min_turn I.unit joint.now) joint.now.last)) ≤ vec_capacity segments.old → IsOk result }
         ensures capacity { vec_capacity segments.old ≤ vec_capacity segments.new }
     {
-        let (a, b) = (joint.first, joint.last);
-        let reach = clip_reach(joint.radius, self.half);
-        let start = joint.near(
-            padding,
-            widen(a.x) + scaled(joint.incoming.x(), reach),
-            widen(a.y) + scaled(joint.incoming.y(), reach),
-        );
-        let end = joint.near(
-            padding,
-            widen(b.x) - scaled(joint.outgoing.x(), reach),
-            widen(b.y) - scaled(joint.outgoing.y(), reach),
-        );
-        if let (Some(start), Some(end)) = (start, end) {
-            if joint.runs_ahead(a, start) && joint.runs_ahead(start, end) && joint.runs_ahead(end, b) {
-                return add_route(a, &[start, end], b, segments);
-            }
+        let (cross, dot) = products(joint);
+        if cross == 0 || is_angle_below(self.slightest.0, self.slightest.1, cross, dot) {
+            return segments.push_non_degenerate(joint.first, joint.last);
         }
-        add_route(a, &[], b, segments)
+        let padding = reach(joint.radius, self.half.0);
+        if is_angle_below(self.sharpest.0, self.sharpest.1, cross, -dot) {
+            let reach = clip_reach(joint.radius, self.half.0, self.half.1);
+            let (start, end) = clip_points(joint, reach);
+            push_clipped(joint, padding, start, end, segments)
+        } else {
+            push_peak(joint, padding, peak(joint, cross), segments)
+        }
     }
 }
 
-// Adds the edges through the peak, or the bevel where it can't be used.
-fn add_peak<I: IntNumber>(
+// The cross and the dot product of both directions.
+fn products<I: IntNumber>(joint: &Joint<I>) -> (i128, i128)
+    ensures value { result ≡ (cross_of joint.now.incoming joint.now.outgoing, dot_of joint.now.incoming joint.now.outgoing) }
+    ensures narrow { IsNarrow (2 ^ 63) result }
+{
+    let incoming = coordinates_of(joint.incoming);
+    let outgoing = coordinates_of(joint.outgoing);
+    (cross(incoming, outgoing), dot(incoming, outgoing))
+}
+
+// Adds the edges of a clipped peak, or the bevel where the clipping edge can't be used.
+fn push_clipped<I: IntNumber>(
     joint: &Joint<I>,
-    cross: i128,
     padding: i128,
+    start: Pair,
+    end: Pair,
     segments: &mut Vec<Segment<I>>,
 ) -> Result<(), AllocError>
-    requires reach { IsInReach I.unit padding joint.now }
-    requires cross { cross ≡ cross_of joint.now.incoming joint.now.outgoing }
-    requires turns { cross ≢ pos 0 }
-    ensures ok { OnOk result (segments.new.items ≡ segments.old.items ++ segments_of (route joint.now.first (usable padding joint.now (peak joint.now ∷ [])) joint.now.last)) }
-    ensures err { OnErr result (segments.new.items ≡ segments.old.items) }
-    ensures room { length segments.old.items + length (segments_of (route joint.now.first (usable padding joint.now (peak joint.now ∷ [])) joint.now.last)) ≤ vec_capacity segments.old → IsOk result }
+    requires { IsInReach I.unit padding joint.now }
+    ensures ok { OnOk result (segments.new.items ≡ segments.old.items ++ segments_of (route joint.now.first (usable padding joint.now (start ∷ end ∷ [])) joint.now.last)) }
+    ensures kept { take (length segments.old.items) segments.new.items ≡ segments.old.items }
+    ensures room { length segments.old.items + length (segments_of (route joint.now.first (usable padding joint.now (start ∷ end ∷ [])) joint.now.last)) ≤ vec_capacity segments.old → IsOk result }
     ensures capacity { vec_capacity segments.old ≤ vec_capacity segments.new }
 {
-    let (a, b) = (joint.first, joint.last);
-    let share = I::wide_to_i128((b - a).cross_product(&vector(joint.outgoing)));
-    let peak = joint.near(
-        padding,
-        widen(a.x) + rounded_product(widen(joint.incoming.x()), share, cross),
-        widen(a.y) + rounded_product(widen(joint.incoming.y()), share, cross),
-    );
-    if let Some(peak) = peak {
-        if joint.runs_ahead(a, peak) && joint.runs_ahead(peak, b) {
-            return add_route(a, &[peak], b, segments);
+    if let (Some(start), Some(end)) = (joint.near(padding, start), joint.near(padding, end)) {
+        if joint.runs_ahead(joint.first, start)
+            && joint.runs_ahead(start, end)
+            && joint.runs_ahead(end, joint.last)
+        {
+            segments.push_non_degenerate(joint.first, start)?;
+            segments.push_non_degenerate(start, end)?;
+            return segments.push_non_degenerate(end, joint.last);
         }
     }
-    add_route(a, &[], b, segments)
+    segments.push_non_degenerate(joint.first, joint.last)
+}
+
+// Adds the edges through a peak, or the bevel where it can't be used.
+fn push_peak<I: IntNumber>(
+    joint: &Joint<I>,
+    padding: i128,
+    peak: Pair,
+    segments: &mut Vec<Segment<I>>,
+) -> Result<(), AllocError>
+    requires { IsInReach I.unit padding joint.now }
+    ensures ok { OnOk result (segments.new.items ≡ segments.old.items ++ segments_of (route joint.now.first (usable padding joint.now (peak ∷ [])) joint.now.last)) }
+    ensures kept { take (length segments.old.items) segments.new.items ≡ segments.old.items }
+    ensures room { length segments.old.items + length (segments_of (route joint.now.first (usable padding joint.now (peak ∷ [])) joint.now.last)) ≤ vec_capacity segments.old → IsOk result }
+    ensures capacity { vec_capacity segments.old ≤ vec_capacity segments.new }
+{
+    if let Some(peak) = joint.near(padding, peak) {
+        if joint.runs_ahead(joint.first, peak) && joint.runs_ahead(peak, joint.last) {
+            segments.push_non_degenerate(joint.first, peak)?;
+            return segments.push_non_degenerate(peak, joint.last);
+        }
+    }
+    segments.push_non_degenerate(joint.first, joint.last)
+}
+
+// The ends of the edge that clips a sharp peak, where the sections run on by so much.
+fn clip_points<I: IntNumber>(joint: &Joint<I>, reach: i128) -> (Pair, Pair)
+    requires { unsigned_abs reach ≤ 2 ^ 62 }
+    ensures start { result.0 ≡ plus joint.now.first (scaled_direction I.unit reach joint.now.incoming) }
+    ensures end { result.1 ≡ minus joint.now.last (scaled_direction I.unit reach joint.now.outgoing) }
+{
+    (
+        sum(coordinates(joint.first), scaled(joint.incoming, reach)),
+        difference(coordinates(joint.last), scaled(joint.outgoing, reach)),
+    )
+}
+
+// The point in which the moved sections meet, where `cross` is the product of their directions.
+fn peak<I: IntNumber>(joint: &Joint<I>, product: i128) -> Pair
+    requires product { product ≡ cross_of joint.now.incoming joint.now.outgoing }
+    requires turns { product ≢ pos 0 }
+    requires size { unsigned_abs product ≤ 2 ^ 63 }
+    ensures { result ≡ peak_of joint.now }
+{
+    let first = coordinates(joint.first);
+    let (x, y) = coordinates_of(joint.incoming);
+    let share = peak_share(first, coordinates(joint.last), coordinates_of(joint.outgoing));
+    let along = (
+        rounded_product(x, share, product),
+        rounded_product(y, share, product),
+    );
+    sum(first, along)
+}
+
+// How much of the incoming direction leads from the first point to the peak.
+fn peak_share(first: Pair, last: Pair, outgoing: Pair) -> i128
+    requires first { IsNarrow (2 ^ 31) first }
+    requires last { IsNarrow (2 ^ 31) last }
+    requires outgoing { IsNarrow (2 ^ 30) outgoing }
+    ensures value { result ≡ cross_of (minus last first) outgoing }
+    ensures size { unsigned_abs result ≤ 2 ^ 63 }
+{
+    cross(difference(last, first), outgoing)
 }
 
 // How far the sections run on before a sharp peak is clipped.
-fn clip_reach<I: IntNumber>(radius: I, half: (i32, i32)) -> i128
-    requires { IsHalfSine half.0 }
-    ensures value { result ≡ product_over (I.value radius) half.1 half.0 }
+fn clip_reach<I: IntNumber>(radius: I, sine: i32, cosine: i32) -> i128
+    requires { IsHalfSine sine }
+    ensures value { result ≡ product_over (I.value radius) cosine sine }
     ensures size { unsigned_abs result ≤ 2 ^ 62 }
 {
-    rounded_product(widen(radius), half.1 as i128, half.0 as i128)
+    rounded_product(widen(radius), cosine as i128, sine as i128)
 }
 
-// A component of a direction times a reach.
-fn scaled<I: IntNumber>(part: I, reach: i128) -> i128
+// A direction times a reach.
+fn scaled<I: IntNumber>(direction: UnitIntVector<I>, reach: i128) -> Pair
     requires { unsigned_abs reach ≤ 2 ^ 62 }
-    ensures value { result ≡ scaled_of I.unit reach (I.value part) }
-    ensures size { unsigned_abs result ≤ 2 ^ 94 }
+    ensures value { result ≡ scaled_direction I.unit reach direction }
+    ensures narrow { IsNarrow (2 ^ 100) result }
 {
-    rounded_product(widen(part), reach, widen(I::UNIT))
+    let (x, y) = coordinates_of(direction);
+    let unit = widen(I::UNIT);
+    (rounded_product(x, reach, unit), rounded_product(y, reach, unit))
 }
 
-// The vector of a direction.
-fn vector<I: IntNumber>(direction: UnitIntVector<I>) -> IntVector<I>
-    ensures { result ≡ direction }
+fn sum(point: Pair, vector: Pair) -> Pair
+    requires point { IsNarrow (2 ^ 100) point }
+    requires vector { IsNarrow (2 ^ 100) vector }
+    ensures { result ≡ plus point vector }
 {
-    IntVector::new(direction.x().to_wide(), direction.y().to_wide())
+    (point.0 + vector.0, point.1 + vector.1)
+}
+
+fn difference(point: Pair, vector: Pair) -> Pair
+    requires point { IsNarrow (2 ^ 100) point }
+    requires vector { IsNarrow (2 ^ 100) vector }
+    ensures { result ≡ minus point vector }
+{
+    (point.0 - vector.0, point.1 - vector.1)
+}
+
+// The components of a direction in 128 bits.
+fn coordinates_of<I: IntNumber>(direction: UnitIntVector<I>) -> Pair
+    ensures value { result ≡ direction }
+    ensures narrow { IsNarrow (2 ^ 30) result }
+{
+    (widen(direction.x()), widen(direction.y()))
+}
+
+fn cross(v: Pair, w: Pair) -> i128
+    requires v { IsNarrow (2 ^ 32) v }
+    requires w { IsNarrow (2 ^ 30) w }
+    ensures value { result ≡ cross_of v w }
+    ensures size { unsigned_abs result ≤ 2 ^ 63 }
+{
+    v.0 * w.1 - v.1 * w.0
+}
+
+fn dot(v: Pair, w: Pair) -> i128
+    requires v { IsNarrow (2 ^ 32) v }
+    requires w { IsNarrow (2 ^ 30) w }
+    ensures value { result ≡ dot_of v w }
+    ensures size { unsigned_abs result ≤ 2 ^ 63 }
+{
+    v.0 * w.0 + v.1 * w.1
 }
 
 // Whether the angle between two vectors is below one of at most half a turn, whose sine and cosine are given, by the
 // vectors' cross and dot product.
-fn is_angle_below(sin_cos: (i32, i32), cross: i128, dot: i128) -> bool
+fn is_angle_below(sine: i32, cosine: i32, cross: i128, dot: i128) -> bool
     requires cross { unsigned_abs cross ≤ 2 ^ 64 }
     requires dot { unsigned_abs dot ≤ 2 ^ 64 }
-    ensures { result ≡ int_lt (sin_cos.1 *ℤ pos (unsigned_abs cross)) (sin_cos.0 *ℤ dot) }
+    ensures { result ≡ int_lt (cosine *ℤ pos (unsigned_abs cross)) (sine *ℤ dot) }
 {
-    sin_cos.1 as i128 * cross.abs() < sin_cos.0 as i128 * dot
+    cosine as i128 * cross.abs() < sine as i128 * dot
 }

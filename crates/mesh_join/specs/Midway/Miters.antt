@@ -1,7 +1,7 @@
 -- What the steps of a miter know: only private contracts read this.
-use Rattle.std.specs.Prelude.{ℕ, ℤ, pos, ◌≡◌, ◌^◌, ◌≤ℤ◌}
+use Rattle.std.specs.Prelude.{ℕ, ℤ, pos, ◌≡◌, ◌^◌, ◌≤◌, ◌≤ℤ◌, unsigned_abs}
 use Rattle.mesh_plane.specs.Bounds.{IsSafe}
-use Rattle.mesh_plane.specs.Plane.{Point}
+use Rattle.mesh_plane.specs.Plane.{Point, length_sq}
 use Rattle.mesh_num.specs.Rectangle.{IsSafeWidened}
 use Rattle.mesh_join.specs.Joints.{Joint}
 use Rattle.mesh_join.specs.Miters.{sharpest, slightest, half_sharpest}
@@ -18,8 +18,16 @@ pub record HasSines (angle min_turn : ℕ) (slight sharp half : Point) : Type 0 
   pub of_slightest : slight ≡ sin_cos (slightest min_turn)
   pub of_sharpest : sharp ≡ sin_cos (sharpest angle)
   pub of_half : half ≡ half_sharpest angle
+  pub short_slightest : length_sq slight ≤ 2 ^ 60
+  pub short_sharpest : length_sq sharp ≤ 2 ^ 60
+  pub short_half : length_sq half ≤ 2 ^ 60
 
 -- the size of the sine of half a sharpest angle: 1 is 2 ^ 30
 pub record IsHalfSine (s : ℤ) : Type 0 where
   pub least : pos (2 ^ 24) ≤ℤ s
   pub most : s ≤ℤ pos (2 ^ 30)
+
+-- both parts are at most `n` in size
+pub record IsNarrow (n : ℕ) (v : Point) : Type 0 where
+  pub x : unsigned_abs v.0 ≤ n
+  pub y : unsigned_abs v.1 ≤ n

@@ -1,0 +1,41 @@
+-- Lemmas over whole numbers: the size of a rounded quotient of a product.
+use Rattle.std.proofs.Common.{◌≡◌, ◌≢◌, ℕ, ◌+◌, ◌*◌, ◌/◌, ◌<◌, ◌≤◌, ◌^◌, ◌∙◌, zero, suc, refl, arith, sym}
+use Rattle.std.specs.Prelude.{ℤ, pos, negsuc, ◌*ℤ◌, neg_ℤ, unsigned_abs}
+use Rattle.std.proofs.Math.Nat.{mul-le-mul, mul-le-mul_left}
+use Rattle.std.proofs.lemmas.Int.{ints, unsigned_abs-mul, to_z-of_z}
+use mir.Syntax.{w128}
+use mir.Val.{to_z, of_z}
+use Rattle.mesh_plane.specs.Rounding.{rounded}
+use Rattle.mesh_plane.proofs.Rounding.{rounded_within}
+use Rattle.mesh_plane.proofs.Sizes.{size_neg}
+use Rattle.mesh_num.specs.Quotient.{rounded_product}
+
+-- rounding makes no size greater
+rounded_small : (a : ℤ) (d : ℕ) → 0 < d → unsigned_abs (rounded a d) ≤ unsigned_abs a
+rounded_small a d h =
+    let l : unsigned_abs a * 1 ≤ unsigned_abs a * d = mul-le-mul_left (unsigned_abs a) h in
+    rounded_within a d (unsigned_abs a) h (omega arith)
+
+-- the quotient of a product is at most as great as the product of the factors' bounds
+pub product_small : (m n : ℕ) (a b d : ℤ) → 0 < unsigned_abs d → unsigned_abs a ≤ m → unsigned_abs b ≤ n → unsigned_abs (rounded_product a b d) ≤ m * n
+product_small m n a b (pos zero) h k l = absurd (omega arith)
+product_small m n a b (pos (suc d)) h k l =
+    let p : unsigned_abs a * unsigned_abs b ≤ m * n = mul-le-mul k l in
+    omega (arith, rounded_small (a *ℤ b) (suc d) (omega arith), unsigned_abs-mul a b)
+product_small m n a b (negsuc d) h k l =
+    let p : unsigned_abs a * unsigned_abs b ≤ m * n = mul-le-mul k l in
+    omega (arith, rounded_small (neg_ℤ (a *ℤ b)) (suc d) (omega arith), size_neg (a *ℤ b), unsigned_abs-mul a b)
+
+-- what is not 0 has a size
+pub has_size : (d : ℤ) → d ≢ pos 0 → 0 < unsigned_abs d
+has_size (pos zero) h = absurd (h refl)
+has_size (pos (suc d)) h = omega arith
+has_size (negsuc d) h = omega arith
+
+pub size_of_product : (m n : ℕ) (a b : ℤ) → unsigned_abs a ≤ m → unsigned_abs b ≤ n → unsigned_abs (a *ℤ b) ≤ m * n
+size_of_product m n a b h l = let p : unsigned_abs a * unsigned_abs b ≤ m * n = mul-le-mul h l in omega (arith, unsigned_abs-mul a b)
+
+-- reading a quotient of 128 bits
+pub product_read : (r a b d : ℤ) → r ≡ rounded_product (to_z w128 (of_z w128 a)) (to_z w128 (of_z w128 b)) (to_z w128 (of_z w128 d)) → unsigned_abs a ≤ 2 ^ 30 →
+    unsigned_abs b ≤ 2 ^ 63 → unsigned_abs d ≤ 2 ^ 63 → r ≡ rounded_product a b d
+product_read r a b d e h k l = simp (to_z-of_z w128 a (omega (arith, ints)), to_z-of_z w128 b (omega (arith, ints)), to_z-of_z w128 d (omega (arith, ints))) at e
