@@ -1,9 +1,10 @@
 -- Lemmas over points: what the theory of outlines needs of miters.
 use Rattle.std.proofs.Common.{◌≡◌, ℕ, ◌+◌, ◌^◌, ◌≤◌, ◌<◌, ◌*◌, ◌/◌, Bool, true, false, refl, sym, subst, ap, arith, [], List, length, ◌∙◌, lit<}
-use Rattle.std.specs.Prelude.{ℤ, pos, negsuc, ◌*ℤ◌, ◌≤ℤ◌, ◌<ℤ◌, ◌+ℤ◌, ◌-ℤ◌, cond, zero, suc, ◌∷◌, unsigned_abs, ◌&&◌, int_le}
+use Rattle.std.specs.Prelude.{ℤ, pos, negsuc, ◌*ℤ◌, ◌≤ℤ◌, ◌<ℤ◌, ◌+ℤ◌, ◌-ℤ◌, cond, zero, suc, ◌∷◌, unsigned_abs, ◌&&◌, int_le, Option, Some, None}
 use Rattle.std.specs.List.{All, list_all}
 use Rattle.std.specs.Ordering.{int_eq}
 use Rattle.std.proofs.Math.Nat.{mul-le-mul_right}
+use Rattle.std.proofs.Math.Bool.{and-true}
 use Rattle.std.proofs.lemmas.Bool.{false≢true}
 use Rattle.std.proofs.lemmas.Int.{ints}
 use Rattle.std.proofs.lemmas.List.Elements.{All-nil, All-cons}
@@ -154,6 +155,44 @@ tested_keep unit padding j points h few u = by (same_point j.first j.last) refl
           near = rw n (each (is_near padding j.center) (IsWithinPadding padding j.center) (means_near padding j.center) points both.0);
           few = rw n (omega (arith, route_length j.first points j.last));
         }
+
+-- which points can be used
+pub one_far : (padding : ℤ) (j : Joint) (p : Point) → is_near padding j.center p ≡ false → are_usable padding j (p ∷ []) ≡ false
+unfolding are_usable
+one_far padding j p e = rw e refl
+
+pub one_near : (padding : ℤ) (j : Joint) (p : Point) (t : Bool) → is_near padding j.center p ≡ true → t ≡ (runs_ahead j (j.first, p) && runs_ahead j (p, j.last)) →
+    are_usable padding j (p ∷ []) ≡ t
+unfolding are_usable
+one_near padding j p t e f = rw (e, f) (ap (λ (b : Bool). runs_ahead j (j.first, p) && b) (and-true (runs_ahead j (p, j.last))))
+
+pub start_far : (padding : ℤ) (j : Joint) (p q : Point) → is_near padding j.center p ≡ false → are_usable padding j (p ∷ q ∷ []) ≡ false
+unfolding are_usable
+start_far padding j p q e = rw e refl
+
+pub end_far : (padding : ℤ) (j : Joint) (p q : Point) → is_near padding j.center p ≡ true → is_near padding j.center q ≡ false → are_usable padding j (p ∷ q ∷ []) ≡ false
+unfolding are_usable
+end_far padding j p q e f = rw (e, f) refl
+
+pub both_near : (padding : ℤ) (j : Joint) (p q : Point) (t : Bool) → is_near padding j.center p ≡ true → is_near padding j.center q ≡ true →
+    t ≡ (runs_ahead j (j.first, p) && (runs_ahead j (p, q) && runs_ahead j (q, j.last))) → are_usable padding j (p ∷ q ∷ []) ≡ t
+unfolding are_usable
+both_near padding j p q t e f g = rw (e, f, g) (ap (λ (b : Bool). runs_ahead j (j.first, p) && (runs_ahead j (p, q) && b)) (and-true (runs_ahead j (q, j.last))))
+
+pub usable_is : (padding : ℤ) (j : Joint) (points : List Point) → are_usable padding j points ≡ true → usable padding j points ≡ points
+usable_is padding j points e = ap (λ (t : Bool). cond t points []) e
+
+pub unusable_is : (padding : ℤ) (j : Joint) (points : List Point) → are_usable padding j points ≡ false → usable padding j points ≡ []
+unusable_is padding j points e = ap (λ (t : Bool). cond t points []) e
+
+-- a value that is there only where a test was passed
+pub some_if : {A : Type 0} (b : Bool) (p q : A) → ◌≡◌ {A = Option A} (Some q) (cond b (Some p) None) → (b ≡ true) × (q ≡ p)
+some_if true p q e = (refl, cc)
+some_if false p q e = absurd (cc)
+
+pub none_if : {A : Type 0} (b : Bool) (p : A) → ◌≡◌ {A = Option A} None (cond b (Some p) None) → b ≡ false
+none_if true p e = absurd (cc)
+none_if false p e = refl
 
 -- a point that passes the test at a corner that stays safe is safe
 pub tested_safe : (unit : ℕ) (padding to : ℤ) (v w p : Point) (b : Bool) → IsSafeWidened unit padding v → b ≡ is_near to w p → to ≡ padding → w ≡ v → b ≡ true → IsSafe unit p

@@ -1,10 +1,10 @@
 //! What a join is asked for at an outer corner.
 
-ghost use Rattle.std.specs.Prelude.{◌≡◌, ◌^◌, ◌≤◌, ◌&&◌, Some, None, IfSome, ◌+ℤ◌, ◌-ℤ◌, unsigned_abs, int_le, if◌then◌else◌};
+ghost use Rattle.std.specs.Prelude.{◌≡◌, [], ◌∷◌, ◌^◌, ◌≤◌, ◌&&◌, Some, None, IfSome, ◌+ℤ◌, ◌-ℤ◌, unsigned_abs, int_le, if◌then◌else◌};
 ghost use Rattle.mesh_plane.specs.Bounds.{IsSafe};
 ghost use Rattle.mesh_num.specs.Rectangle.{IsSafeWidened};
-ghost use Rattle.mesh_join.specs.Midway.Miters.{IsNarrow};
-ghost use Rattle.mesh_join.specs.Miters.{is_near as is_near_to, runs_ahead};
+ghost use Rattle.mesh_join.specs.Midway.Miters.{IsInReach, IsNarrow};
+ghost use Rattle.mesh_join.specs.Miters.{is_near as is_near_to, runs_ahead, are_usable};
 
 use crate::arc::ArcDirection;
 use mesh_num::num::convert::{is_wide_less, narrow, widen};
@@ -47,6 +47,62 @@ impl<I: IntNumber> Joint<I> {
         } else {
             None
         }
+    }
+
+    /// The point with these coordinates, if it can be used in a join.
+    pub(crate) fn usable_point(&self, padding: i128, point: Pair) -> Option<IntPoint<I>>
+        requires { IsInReach I.unit padding self.now }
+        ensures { result ≡ (if are_usable padding self.now (point ∷ []) then Some point else None) }
+    {
+        let point = self.near(padding, point)?;
+        if self.runs_through(point) {
+            Some(point)
+        } else {
+            None
+        }
+    }
+
+    /// Both points with these coordinates, if they can be used in a join.
+    pub(crate) fn usable_pair(
+        &self,
+        padding: i128,
+        start: Pair,
+        end: Pair,
+    ) -> Option<(IntPoint<I>, IntPoint<I>)>
+        requires { IsInReach I.unit padding self.now }
+        ensures { result ≡ (if are_usable padding self.now (start ∷ end ∷ []) then Some (start, end) else None) }
+    {
+        let start = self.near(padding, start)?;
+        let end = self.near(padding, end)?;
+        if self.runs_through_both(start, end) {
+            Some((start, end))
+        } else {
+            None
+        }
+    }
+
+    // Whether no edge through the point turns back round the corner.
+    fn runs_through(&self, point: IntPoint<I>) -> bool
+        requires center { IsSafe I.unit self.now.center }
+        requires first { IsSafe I.unit self.now.first }
+        requires last { IsSafe I.unit self.now.last }
+        requires point { IsSafe I.unit point }
+        ensures { result ≡ (runs_ahead self.now (self.now.first, point) && runs_ahead self.now (point, self.now.last)) }
+    {
+        self.runs_ahead(self.first, point) && self.runs_ahead(point, self.last)
+    }
+
+    // Whether no edge through both points turns back round the corner.
+    fn runs_through_both(&self, start: IntPoint<I>, end: IntPoint<I>) -> bool
+        requires center { IsSafe I.unit self.now.center }
+        requires first { IsSafe I.unit self.now.first }
+        requires last { IsSafe I.unit self.now.last }
+        requires start { IsSafe I.unit start }
+        requires end { IsSafe I.unit end }
+        ensures { result ≡ (runs_ahead self.now (self.now.first, start) && (runs_ahead self.now (start, end) && runs_ahead self.now (end, self.now.last))) }
+    {
+        self.runs_ahead(self.first, start)
+            && (self.runs_ahead(start, end) && self.runs_ahead(end, self.last))
     }
 
     /// Whether the edge does not turn back round the corner.

@@ -10,6 +10,7 @@ mod bevel;
 pub mod join;
 mod joint;
 mod miter;
+mod route;
 pub mod style;
 
 pub use mesh_clean::{laws, uniq_iter};

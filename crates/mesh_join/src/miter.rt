@@ -2,7 +2,7 @@
 
 ghost use Rattle.std.specs.Prelude.{◌≡◌, ◌≢◌, [], ◌∷◌, ◌++◌, ◌+◌, ◌^◌, ◌≤◌, length, take, vec_capacity, IsOk, OnOk, OnErr, pos, ◌*ℤ◌, unsigned_abs, int_lt};
 ghost use Rattle.mesh_plane.specs.Bounds.{IsWithin};
-ghost use Rattle.mesh_plane.specs.Plane.{plus, minus, cross as cross_of, dot as dot_of};
+ghost use Rattle.mesh_plane.specs.Plane.{plus, minus, length_sq, cross as cross_of, dot as dot_of};
 ghost use Rattle.mesh_plane.specs.Winding.{route};
 ghost use Rattle.mesh_num.specs.Direction.{scaled_direction};
 ghost use Rattle.mesh_num.specs.Quotient.{rounded_product as product_over};
@@ -10,13 +10,14 @@ ghost use Rattle.mesh_num.specs.Segments.{segments_of};
 ghost use Rattle.mesh_join.specs.Joins.{IsJoint};
 ghost use Rattle.mesh_join.specs.Methods.{style_of_miter};
 ghost use Rattle.mesh_join.specs.Midway.Miters.{IsInReach, IsHalfSine, IsNarrow};
-ghost use Rattle.mesh_join.specs.Miters.{sharpest as sharpest_of, half_sharpest as half_of, reach as reach_of, miter_padding, peak as peak_of, usable, miter_points};
+ghost use Rattle.mesh_join.specs.Miters.{sharpest as sharpest_of, slightest as slightest_of, half_sharpest as half_of, reach as reach_of, miter_padding, peak as peak_of, usable, miter_points};
 
 use crate::joint::{Joint, Pair, coordinates};
+use crate::route::{push_straight, push_through, push_through_both};
 use mesh_num::num::convert::widen;
 use mesh_num::num::quotient::rounded_product;
 use mesh_num::num::{Angle, IntNumber, UnitIntVector};
-use mesh_num::shape::segment::{Segment, SubjectSegments};
+use mesh_num::shape::segment::Segment;
 use std::alloc::AllocError;
 use std::marker::Model;
 
@@ -56,9 +57,17 @@ fn sharpest(angle: Angle) -> Angle
     Angle::from_bits(angle.bits().max(LEAST_SHARPEST).min(GREATEST_SHARPEST))
 }
 
+// The turn below which a miter is a bevel.
+fn slightest(min_turn: Angle) -> Angle
+    ensures { result ≡ slightest_of min_turn }
+{
+    Angle::from_bits(min_turn.bits().min(GREATEST_SLIGHTEST))
+}
+
 // Sine and cosine of half the sharpest angle.
 fn half_sharpest(angle: Angle) -> (i32, i32)
-    ensures { result ≡ half_of angle }
+    ensures value { result ≡ half_of angle }
+    ensures bounded { length_sq result ≤ 2 ^ 60 }
 {
     Angle::from_bits(sharpest(angle).bits() / 2).sin_cos()
 }
@@ -88,11 +97,10 @@ impl Miter {
     pub(crate) fn new(angle: Angle, min_turn: Angle) -> Self
         ensures { result ≡ record { angle = angle; min_turn = min_turn } }
     {
-        let slightest = Angle::from_bits(min_turn.bits().min(GREATEST_SLIGHTEST));
         Miter {
             angle,
             min_turn,
-            slightest: slightest.sin_cos(),
+            slightest: slightest(min_turn).sin_cos(),
             sharpest: sharpest(angle).sin_cos(),
             half: half_sharpest(angle),
         }
@@ -132,7 +140,7 @@ impl Miter {
     {
         let (cross, dot) = products(joint);
         if cross == 0 || is_angle_below(self.slightest.0, self.slightest.1, cross, dot) {
-            return segments.push_non_degenerate(joint.first, joint.last);
+            return push_straight(joint.first, joint.last, segments);
         }
         let padding = reach(joint.radius, self.half.0);
         if is_angle_below(self.sharpest.0, self.sharpest.1, cross, -dot) {
@@ -169,17 +177,10 @@ fn push_clipped<I: IntNumber>(
     ensures room { length segments.old.items + length (segments_of (route joint.now.first (usable padding joint.now (start ∷ end ∷ [])) joint.now.last)) ≤ vec_capacity segments.old → IsOk result }
     ensures capacity { vec_capacity segments.old ≤ vec_capacity segments.new }
 {
-    if let (Some(start), Some(end)) = (joint.near(padding, start), joint.near(padding, end)) {
-        if joint.runs_ahead(joint.first, start)
-            && joint.runs_ahead(start, end)
-            && joint.runs_ahead(end, joint.last)
-        {
-            segments.push_non_degenerate(joint.first, start)?;
-            segments.push_non_degenerate(start, end)?;
-            return segments.push_non_degenerate(end, joint.last);
-        }
+    match joint.usable_pair(padding, start, end) {
+        Some(edge) => push_through_both(joint.first, edge.0, edge.1, joint.last, segments),
+        None => push_straight(joint.first, joint.last, segments),
     }
-    segments.push_non_degenerate(joint.first, joint.last)
 }
 
 // Adds the edges through a peak, or the bevel where it can't be used.
@@ -195,13 +196,10 @@ fn push_peak<I: IntNumber>(
     ensures room { length segments.old.items + length (segments_of (route joint.now.first (usable padding joint.now (peak ∷ [])) joint.now.last)) ≤ vec_capacity segments.old → IsOk result }
     ensures capacity { vec_capacity segments.old ≤ vec_capacity segments.new }
 {
-    if let Some(peak) = joint.near(padding, peak) {
-        if joint.runs_ahead(joint.first, peak) && joint.runs_ahead(peak, joint.last) {
-            segments.push_non_degenerate(joint.first, peak)?;
-            return segments.push_non_degenerate(peak, joint.last);
-        }
+    match joint.usable_point(padding, peak) {
+        Some(peak) => push_through(joint.first, peak, joint.last, segments),
+        None => push_straight(joint.first, joint.last, segments),
     }
-    segments.push_non_degenerate(joint.first, joint.last)
 }
 
 // The ends of the edge that clips a sharp peak, where the sections run on by so much.

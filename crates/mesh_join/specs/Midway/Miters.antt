@@ -9,7 +9,8 @@ use Rattle.mesh_sine.specs.Sine.{sin_cos}
 
 -- the corner stays safe within the padding, and both points that are joined are safe
 pub record IsInReach (unit : ℕ) (padding : ℤ) (j : Joint) : Type 0 where
-  pub center : IsSafeWidened unit padding j.center
+  pub center : IsSafe unit j.center
+  pub widened : IsSafeWidened unit padding j.center
   pub first : IsSafe unit j.first
   pub last : IsSafe unit j.last
 

@@ -13,14 +13,14 @@ use Rattle.mesh_join.proofs.miter.padding.Goals as goal
 
 pub reach-requires : goal.reach-requires
 reach-requires g c =
-    let s : IsHalfSine c.half_sharpest.result.0 = subst (λ (p : Point). IsHalfSine p.0) (sym c.half_sharpest.ensures) (half_sine c.args.angle) in
+    let s : IsHalfSine c.half_sharpest.result.0 = subst (λ (p : Point). IsHalfSine p.0) (sym c.half_sharpest.ensures.value) (half_sine c.args.angle) in
     rw (to_z-of_z w32 c.half_sharpest.result.0 (omega (arith, ints, s.least, s.most))) s
 
 pub returns : goal.returns
 unfolding miter_padding
 returns g c =
-    let s : IsHalfSine c.half_sharpest.result.0 = subst (λ (p : Point). IsHalfSine p.0) (sym c.half_sharpest.ensures) (half_sine c.args.angle) in
+    let s : IsHalfSine c.half_sharpest.result.0 = subst (λ (p : Point). IsHalfSine p.0) (sym c.half_sharpest.ensures.value) (half_sine c.args.angle) in
     let t = to_z-of_z w32 c.half_sharpest.result.0 (omega (arith, ints, s.least, s.most)) in
     let r = to_z-of_z w128 c.reach.result (search rules) in
     let radius = g.I.IntNumber.value c.args.radius in
-    c.wide_from_i128.ensures ∙ r ∙ c.reach.ensures.value ∙ ap (λ (z : ℤ). reach z radius) (t ∙ ap (λ (p : Point). p.0) c.half_sharpest.ensures)
+    c.wide_from_i128.ensures ∙ r ∙ c.reach.ensures.value ∙ ap (λ (z : ℤ). reach z radius) (t ∙ ap (λ (p : Point). p.0) c.half_sharpest.ensures.value)

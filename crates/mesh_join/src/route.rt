@@ -1,0 +1,56 @@
+//! Edges through points. What a vector held stays, also after a refusal.
+
+ghost use Rattle.std.specs.Prelude.{◌≡◌, [], ◌∷◌, ◌+◌, ◌≤◌, ◌++◌, length, take, vec_capacity, IsOk, OnOk};
+ghost use Rattle.mesh_num.specs.Segments.{segments_of};
+ghost use Rattle.mesh_plane.specs.Winding.{route};
+
+use mesh_num::num::{IntNumber, IntPoint};
+use mesh_num::shape::segment::{Segment, SubjectSegments};
+use std::alloc::AllocError;
+
+/// Adds the edge from `a` to `b`.
+pub(crate) fn push_straight<I: IntNumber>(
+    a: IntPoint<I>,
+    b: IntPoint<I>,
+    segments: &mut Vec<Segment<I>>,
+) -> Result<(), AllocError>
+    ensures ok { OnOk result (segments.new.items ≡ segments.old.items ++ segments_of (route a [] b)) }
+    ensures kept { take (length segments.old.items) segments.new.items ≡ segments.old.items }
+    ensures room { length segments.old.items + length (segments_of (route a [] b)) ≤ vec_capacity segments.old → IsOk result }
+    ensures capacity { vec_capacity segments.old ≤ vec_capacity segments.new }
+{
+    segments.push_non_degenerate(a, b)
+}
+
+/// Adds the edges from `a` through `p` to `b`.
+pub(crate) fn push_through<I: IntNumber>(
+    a: IntPoint<I>,
+    p: IntPoint<I>,
+    b: IntPoint<I>,
+    segments: &mut Vec<Segment<I>>,
+) -> Result<(), AllocError>
+    ensures ok { OnOk result (segments.new.items ≡ segments.old.items ++ segments_of (route a (p ∷ []) b)) }
+    ensures kept { take (length segments.old.items) segments.new.items ≡ segments.old.items }
+    ensures room { length segments.old.items + length (segments_of (route a (p ∷ []) b)) ≤ vec_capacity segments.old → IsOk result }
+    ensures capacity { vec_capacity segments.old ≤ vec_capacity segments.new }
+{
+    push_straight(a, p, segments)?;
+    push_straight(p, b, segments)
+}
+
+/// Adds the edges from `a` through `p` and `q` to `b`.
+pub(crate) fn push_through_both<I: IntNumber>(
+    a: IntPoint<I>,
+    p: IntPoint<I>,
+    q: IntPoint<I>,
+    b: IntPoint<I>,
+    segments: &mut Vec<Segment<I>>,
+) -> Result<(), AllocError>
+    ensures ok { OnOk result (segments.new.items ≡ segments.old.items ++ segments_of (route a (p ∷ q ∷ []) b)) }
+    ensures kept { take (length segments.old.items) segments.new.items ≡ segments.old.items }
+    ensures room { length segments.old.items + length (segments_of (route a (p ∷ q ∷ []) b)) ≤ vec_capacity segments.old → IsOk result }
+    ensures capacity { vec_capacity segments.old ≤ vec_capacity segments.new }
+{
+    push_straight(a, p, segments)?;
+    push_through(p, q, b, segments)
+}
