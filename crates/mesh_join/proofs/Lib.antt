@@ -4,3 +4,4 @@ pub mod Joints
 pub mod Joins
 pub mod Miters
 pub mod Quotients
+pub mod Sines

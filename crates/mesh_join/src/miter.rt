@@ -10,7 +10,7 @@ ghost use Rattle.mesh_num.specs.Segments.{segments_of};
 ghost use Rattle.mesh_join.specs.Joins.{IsJoint};
 ghost use Rattle.mesh_join.specs.Methods.{style_of_miter};
 ghost use Rattle.mesh_join.specs.Midway.Miters.{IsInReach, IsHalfSine, IsNarrow};
-ghost use Rattle.mesh_join.specs.Miters.{sharpest as sharpest_of, slightest as slightest_of, half_sharpest as half_of, reach as reach_of, miter_padding, peak as peak_of, usable, miter_points};
+ghost use Rattle.mesh_join.specs.Miters.{sharpest as sharpest_of, slightest as slightest_of, half_sharpest as half_of, reach as reach_of, miter_padding, is_slight as is_slight_at, is_sharp as is_sharp_at, clip_points as clip_points_of, peak as peak_of, usable, miter_points};
 
 use crate::joint::{Joint, Pair, coordinates};
 use crate::route::{push_straight, push_through, push_through_both};
@@ -138,18 +138,50 @@ impl Miter {
         ensures room { length segments.old.items + length (segments_of (route joint.now.first (miter_points self.now.angle self.now.min_turn I.unit joint.now) joint.now.last)) ≤ vec_capacity segments.old → IsOk result }
         ensures capacity { vec_capacity segments.old ≤ vec_capacity segments.new }
     {
-        let (cross, dot) = products(joint);
-        if cross == 0 || is_angle_below(self.slightest.0, self.slightest.1, cross, dot) {
+        if self.is_slight(joint) {
             return push_straight(joint.first, joint.last, segments);
         }
-        let padding = reach(joint.radius, self.half.0);
-        if is_angle_below(self.sharpest.0, self.sharpest.1, cross, -dot) {
-            let reach = clip_reach(joint.radius, self.half.0, self.half.1);
-            let (start, end) = clip_points(joint, reach);
+        let padding = self.padding_at(joint);
+        if self.is_sharp(joint) {
+            let (start, end) = self.clip_points(joint);
             push_clipped(joint, padding, start, end, segments)
         } else {
-            push_peak(joint, padding, peak(joint, cross), segments)
+            push_peak(joint, padding, peak(joint), segments)
         }
+    }
+
+    // Whether the corner is bevelled at once: it does not turn, or by less than the least turn.
+    fn is_slight<I: IntNumber>(&self, joint: &Joint<I>) -> bool
+        ensures { result ≡ is_slight_at self.now.min_turn joint.now }
+    {
+        let (cross, dot) = products(joint);
+        cross == 0 || is_angle_below(self.slightest.0, self.slightest.1, cross, dot)
+    }
+
+    // Whether the angle between the corner's sections is below the sharpest that has a peak.
+    fn is_sharp<I: IntNumber>(&self, joint: &Joint<I>) -> bool
+        ensures { result ≡ is_sharp_at self.now.angle joint.now }
+    {
+        let (cross, dot) = products(joint);
+        is_angle_below(self.sharpest.0, self.sharpest.1, cross, -dot)
+    }
+
+    // How far the miter reaches from its corner.
+    fn padding_at<I: IntNumber>(&self, joint: &Joint<I>) -> i128
+        ensures { result ≡ miter_padding self.now.angle joint.now.radius }
+    {
+        reach(joint.radius, self.half.0)
+    }
+
+    // The ends of the edge that clips a sharp peak.
+    fn clip_points<I: IntNumber>(&self, joint: &Joint<I>) -> (Pair, Pair)
+        ensures { (result.0 ∷ result.1 ∷ []) ≡ clip_points_of self.now.angle I.unit joint.now }
+    {
+        let reach = clip_reach(joint.radius, self.half.0, self.half.1);
+        (
+            sum(coordinates(joint.first), scaled(joint.incoming, reach)),
+            difference(coordinates(joint.last), scaled(joint.outgoing, reach)),
+        )
     }
 }
 
@@ -202,25 +234,12 @@ fn push_peak<I: IntNumber>(
     }
 }
 
-// The ends of the edge that clips a sharp peak, where the sections run on by so much.
-fn clip_points<I: IntNumber>(joint: &Joint<I>, reach: i128) -> (Pair, Pair)
-    requires { unsigned_abs reach ≤ 2 ^ 62 }
-    ensures start { result.0 ≡ plus joint.now.first (scaled_direction I.unit reach joint.now.incoming) }
-    ensures end { result.1 ≡ minus joint.now.last (scaled_direction I.unit reach joint.now.outgoing) }
-{
-    (
-        sum(coordinates(joint.first), scaled(joint.incoming, reach)),
-        difference(coordinates(joint.last), scaled(joint.outgoing, reach)),
-    )
-}
-
-// The point in which the moved sections meet, where `cross` is the product of their directions.
-fn peak<I: IntNumber>(joint: &Joint<I>, product: i128) -> Pair
-    requires product { product ≡ cross_of joint.now.incoming joint.now.outgoing }
-    requires turns { product ≢ pos 0 }
-    requires size { unsigned_abs product ≤ 2 ^ 63 }
+// The point in which the moved sections meet.
+fn peak<I: IntNumber>(joint: &Joint<I>) -> Pair
+    requires { cross_of joint.now.incoming joint.now.outgoing ≢ pos 0 }
     ensures { result ≡ peak_of joint.now }
 {
+    let product = products(joint).0;
     let first = coordinates(joint.first);
     let (x, y) = coordinates_of(joint.incoming);
     let share = peak_share(first, coordinates(joint.last), coordinates_of(joint.outgoing));
