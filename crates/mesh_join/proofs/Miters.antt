@@ -185,6 +185,20 @@ usable_is padding j points e = ap (λ (t : Bool). cond t points []) e
 pub unusable_is : (padding : ℤ) (j : Joint) (points : List Point) → are_usable padding j points ≡ false → usable padding j points ≡ []
 unusable_is padding j points e = ap (λ (t : Bool). cond t points []) e
 
+pub points_slight : (angle min_turn unit : ℕ) (j : Joint) → is_slight min_turn j ≡ true → miter_points angle min_turn unit j ≡ []
+unfolding miter_points
+points_slight angle min_turn unit j e = ap (λ (t : Bool). cond t [] (usable (miter_padding angle j.radius) j (miter_tip angle unit j))) e
+
+pub points_sharp : (angle min_turn unit : ℕ) (j : Joint) → is_slight min_turn j ≡ false → is_sharp angle j ≡ true →
+    miter_points angle min_turn unit j ≡ usable (miter_padding angle j.radius) j (clip_points angle unit j)
+unfolding miter_points
+points_sharp angle min_turn unit j e f = rw (e, f) refl
+
+pub points_blunt : (angle min_turn unit : ℕ) (j : Joint) → is_slight min_turn j ≡ false → is_sharp angle j ≡ false →
+    miter_points angle min_turn unit j ≡ usable (miter_padding angle j.radius) j (peak j ∷ [])
+unfolding miter_points
+points_blunt angle min_turn unit j e f = rw (e, f) refl
+
 -- a value that is there only where a test was passed
 pub some_if : {A : Type 0} (b : Bool) (p q : A) → ◌≡◌ {A = Option A} (Some q) (cond b (Some p) None) → (b ≡ true) × (q ≡ p)
 some_if true p q e = (refl, cc)

@@ -1,13 +1,13 @@
 //! What a join is asked for at an outer corner.
 
-ghost use Rattle.std.specs.Prelude.{◌≡◌, [], ◌∷◌, ◌^◌, ◌≤◌, ◌&&◌, Some, None, IfSome, ◌+ℤ◌, ◌-ℤ◌, unsigned_abs, int_le, if◌then◌else◌};
-ghost use Rattle.mesh_plane.specs.Bounds.{IsSafe};
+ghost use Rattle.std.specs.Prelude.{◌≡◌, [], ◌∷◌, ◌^◌, ◌≤◌, ◌&&◌, Some, None, ◌+ℤ◌, ◌-ℤ◌, unsigned_abs, int_le, if◌then◌else◌};
+ghost use Rattle.mesh_plane.specs.Plane.{plus, minus, cross as cross_of, dot as dot_of, turn as turn_of};
 ghost use Rattle.mesh_num.specs.Rectangle.{IsSafeWidened};
-ghost use Rattle.mesh_join.specs.Midway.Miters.{IsInReach, IsNarrow};
+ghost use Rattle.mesh_join.specs.Midway.Miters.{IsNarrow};
 ghost use Rattle.mesh_join.specs.Miters.{is_near as is_near_to, runs_ahead, are_usable};
 
 use crate::arc::ArcDirection;
-use mesh_num::num::convert::{is_wide_less, narrow, widen};
+use mesh_num::num::convert::{narrow, widen};
 use mesh_num::num::{IntNumber, IntPoint, UnitIntVector};
 use std::marker::Model;
 
@@ -39,8 +39,7 @@ impl<I: IntNumber> Joint<I> {
     /// The point with these coordinates, if it is away from the corner by at most the padding in each coordinate.
     pub(crate) fn near(&self, padding: i128, point: Pair) -> Option<IntPoint<I>>
         requires { IsSafeWidened I.unit padding self.now.center }
-        ensures value { result ≡ (if is_near_to padding self.now.center point then Some point else None) }
-        ensures safe { IfSome result (λ p. IsSafe I.unit p) }
+        ensures { result ≡ (if is_near_to padding self.now.center point then Some point else None) }
     {
         if is_near(padding, coordinates(self.center), point) {
             Some(IntPoint::new(narrow(point.0), narrow(point.1)))
@@ -51,7 +50,7 @@ impl<I: IntNumber> Joint<I> {
 
     /// The point with these coordinates, if it can be used in a join.
     pub(crate) fn usable_point(&self, padding: i128, point: Pair) -> Option<IntPoint<I>>
-        requires { IsInReach I.unit padding self.now }
+        requires { IsSafeWidened I.unit padding self.now.center }
         ensures { result ≡ (if are_usable padding self.now (point ∷ []) then Some point else None) }
     {
         let point = self.near(padding, point)?;
@@ -69,7 +68,7 @@ impl<I: IntNumber> Joint<I> {
         start: Pair,
         end: Pair,
     ) -> Option<(IntPoint<I>, IntPoint<I>)>
-        requires { IsInReach I.unit padding self.now }
+        requires { IsSafeWidened I.unit padding self.now.center }
         ensures { result ≡ (if are_usable padding self.now (start ∷ end ∷ []) then Some (start, end) else None) }
     {
         let start = self.near(padding, start)?;
@@ -83,10 +82,6 @@ impl<I: IntNumber> Joint<I> {
 
     // Whether no edge through the point turns back round the corner.
     fn runs_through(&self, point: IntPoint<I>) -> bool
-        requires center { IsSafe I.unit self.now.center }
-        requires first { IsSafe I.unit self.now.first }
-        requires last { IsSafe I.unit self.now.last }
-        requires point { IsSafe I.unit point }
         ensures { result ≡ (runs_ahead self.now (self.now.first, point) && runs_ahead self.now (point, self.now.last)) }
     {
         self.runs_ahead(self.first, point) && self.runs_ahead(point, self.last)
@@ -94,31 +89,32 @@ impl<I: IntNumber> Joint<I> {
 
     // Whether no edge through both points turns back round the corner.
     fn runs_through_both(&self, start: IntPoint<I>, end: IntPoint<I>) -> bool
-        requires center { IsSafe I.unit self.now.center }
-        requires first { IsSafe I.unit self.now.first }
-        requires last { IsSafe I.unit self.now.last }
-        requires start { IsSafe I.unit start }
-        requires end { IsSafe I.unit end }
         ensures { result ≡ (runs_ahead self.now (self.now.first, start) && (runs_ahead self.now (start, end) && runs_ahead self.now (end, self.now.last))) }
     {
         self.runs_ahead(self.first, start)
             && (self.runs_ahead(start, end) && self.runs_ahead(end, self.last))
     }
 
-    /// Whether the edge does not turn back round the corner.
-    pub(crate) fn runs_ahead(&self, from: IntPoint<I>, to: IntPoint<I>) -> bool
-        requires center { IsSafe I.unit self.now.center }
-        requires from { IsSafe I.unit from }
-        requires to { IsSafe I.unit to }
+    // Whether the edge does not turn back round the corner.
+    fn runs_ahead(&self, from: IntPoint<I>, to: IntPoint<I>) -> bool
         ensures { result ≡ runs_ahead self.now (from, to) }
     {
-        let turn = (from - self.center).cross_product(&(to - self.center));
-        let zero = I::ZERO.to_wide();
+        let turn = turn(coordinates(self.center), coordinates(from), coordinates(to));
         match self.sense {
-            ArcDirection::Counterclockwise => !is_wide_less::<I>(turn, zero),
-            ArcDirection::Clockwise => !is_wide_less::<I>(zero, turn),
+            ArcDirection::Counterclockwise => 0 <= turn,
+            ArcDirection::Clockwise => turn <= 0,
         }
     }
+}
+
+// Above 0 where `to` lies to the left of the line from `center` to `from`.
+fn turn(center: Pair, from: Pair, to: Pair) -> i128
+    requires center { IsNarrow (2 ^ 31) center }
+    requires from { IsNarrow (2 ^ 31) from }
+    requires to { IsNarrow (2 ^ 31) to }
+    ensures { result ≡ turn_of center from to }
+{
+    cross(difference(from, center), difference(to, center))
 }
 
 /// A point in 128 bits.
@@ -145,4 +141,40 @@ fn is_between(coordinate: i128, center: i128, padding: i128) -> bool
     ensures { result ≡ (int_le (center -ℤ padding) coordinate && int_le coordinate (center +ℤ padding)) }
 {
     center - padding <= coordinate && coordinate <= center + padding
+}
+
+/// A point moved by a vector.
+pub(crate) fn sum(point: Pair, vector: Pair) -> Pair
+    requires point { IsNarrow (2 ^ 100) point }
+    requires vector { IsNarrow (2 ^ 100) vector }
+    ensures { result ≡ plus point vector }
+{
+    (point.0 + vector.0, point.1 + vector.1)
+}
+
+/// A point moved back by a vector, or the vector from the second point to the first.
+pub(crate) fn difference(point: Pair, vector: Pair) -> Pair
+    requires point { IsNarrow (2 ^ 100) point }
+    requires vector { IsNarrow (2 ^ 100) vector }
+    ensures { result ≡ minus point vector }
+{
+    (point.0 - vector.0, point.1 - vector.1)
+}
+
+/// The cross product of two vectors.
+pub(crate) fn cross(v: Pair, w: Pair) -> i128
+    requires v { IsNarrow (2 ^ 32) v }
+    requires w { IsNarrow (2 ^ 32) w }
+    ensures { result ≡ cross_of v w }
+{
+    v.0 * w.1 - v.1 * w.0
+}
+
+/// The dot product of two vectors.
+pub(crate) fn dot(v: Pair, w: Pair) -> i128
+    requires v { IsNarrow (2 ^ 32) v }
+    requires w { IsNarrow (2 ^ 32) w }
+    ensures { result ≡ dot_of v w }
+{
+    v.0 * w.0 + v.1 * w.1
 }

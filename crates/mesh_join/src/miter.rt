@@ -2,17 +2,18 @@
 
 ghost use Rattle.std.specs.Prelude.{◌≡◌, ◌≢◌, [], ◌∷◌, ◌++◌, ◌+◌, ◌^◌, ◌≤◌, length, take, vec_capacity, IsOk, OnOk, OnErr, pos, ◌*ℤ◌, unsigned_abs, int_lt};
 ghost use Rattle.mesh_plane.specs.Bounds.{IsWithin};
-ghost use Rattle.mesh_plane.specs.Plane.{plus, minus, length_sq, cross as cross_of, dot as dot_of};
+ghost use Rattle.mesh_plane.specs.Plane.{minus, length_sq, cross as cross_of, dot as dot_of};
 ghost use Rattle.mesh_plane.specs.Winding.{route};
 ghost use Rattle.mesh_num.specs.Direction.{scaled_direction};
 ghost use Rattle.mesh_num.specs.Quotient.{rounded_product as product_over};
+ghost use Rattle.mesh_num.specs.Rectangle.{IsSafeWidened};
 ghost use Rattle.mesh_num.specs.Segments.{segments_of};
 ghost use Rattle.mesh_join.specs.Joins.{IsJoint};
 ghost use Rattle.mesh_join.specs.Methods.{style_of_miter};
-ghost use Rattle.mesh_join.specs.Midway.Miters.{IsInReach, IsHalfSine, IsNarrow};
+ghost use Rattle.mesh_join.specs.Midway.Miters.{IsHalfSine, IsNarrow};
 ghost use Rattle.mesh_join.specs.Miters.{sharpest as sharpest_of, slightest as slightest_of, half_sharpest as half_of, reach as reach_of, miter_padding, is_slight as is_slight_at, is_sharp as is_sharp_at, clip_points as clip_points_of, peak as peak_of, usable, miter_points};
 
-use crate::joint::{Joint, Pair, coordinates};
+use crate::joint::{Joint, Pair, coordinates, cross, difference, dot, sum};
 use crate::route::{push_straight, push_through, push_through_both};
 use mesh_num::num::convert::widen;
 use mesh_num::num::quotient::rounded_product;
@@ -203,7 +204,7 @@ fn push_clipped<I: IntNumber>(
     end: Pair,
     segments: &mut Vec<Segment<I>>,
 ) -> Result<(), AllocError>
-    requires { IsInReach I.unit padding joint.now }
+    requires { IsSafeWidened I.unit padding joint.now.center }
     ensures ok { OnOk result (segments.new.items ≡ segments.old.items ++ segments_of (route joint.now.first (usable padding joint.now (start ∷ end ∷ [])) joint.now.last)) }
     ensures kept { take (length segments.old.items) segments.new.items ≡ segments.old.items }
     ensures room { length segments.old.items + length (segments_of (route joint.now.first (usable padding joint.now (start ∷ end ∷ [])) joint.now.last)) ≤ vec_capacity segments.old → IsOk result }
@@ -222,7 +223,7 @@ fn push_peak<I: IntNumber>(
     peak: Pair,
     segments: &mut Vec<Segment<I>>,
 ) -> Result<(), AllocError>
-    requires { IsInReach I.unit padding joint.now }
+    requires { IsSafeWidened I.unit padding joint.now.center }
     ensures ok { OnOk result (segments.new.items ≡ segments.old.items ++ segments_of (route joint.now.first (usable padding joint.now (peak ∷ [])) joint.now.last)) }
     ensures kept { take (length segments.old.items) segments.new.items ≡ segments.old.items }
     ensures room { length segments.old.items + length (segments_of (route joint.now.first (usable padding joint.now (peak ∷ [])) joint.now.last)) ≤ vec_capacity segments.old → IsOk result }
@@ -281,46 +282,12 @@ fn scaled<I: IntNumber>(direction: UnitIntVector<I>, reach: i128) -> Pair
     (rounded_product(x, reach, unit), rounded_product(y, reach, unit))
 }
 
-fn sum(point: Pair, vector: Pair) -> Pair
-    requires point { IsNarrow (2 ^ 100) point }
-    requires vector { IsNarrow (2 ^ 100) vector }
-    ensures { result ≡ plus point vector }
-{
-    (point.0 + vector.0, point.1 + vector.1)
-}
-
-fn difference(point: Pair, vector: Pair) -> Pair
-    requires point { IsNarrow (2 ^ 100) point }
-    requires vector { IsNarrow (2 ^ 100) vector }
-    ensures { result ≡ minus point vector }
-{
-    (point.0 - vector.0, point.1 - vector.1)
-}
-
 // The components of a direction in 128 bits.
 fn coordinates_of<I: IntNumber>(direction: UnitIntVector<I>) -> Pair
     ensures value { result ≡ direction }
     ensures narrow { IsNarrow (2 ^ 30) result }
 {
     (widen(direction.x()), widen(direction.y()))
-}
-
-fn cross(v: Pair, w: Pair) -> i128
-    requires v { IsNarrow (2 ^ 32) v }
-    requires w { IsNarrow (2 ^ 30) w }
-    ensures value { result ≡ cross_of v w }
-    ensures size { unsigned_abs result ≤ 2 ^ 63 }
-{
-    v.0 * w.1 - v.1 * w.0
-}
-
-fn dot(v: Pair, w: Pair) -> i128
-    requires v { IsNarrow (2 ^ 32) v }
-    requires w { IsNarrow (2 ^ 30) w }
-    ensures value { result ≡ dot_of v w }
-    ensures size { unsigned_abs result ≤ 2 ^ 63 }
-{
-    v.0 * w.0 + v.1 * w.1
 }
 
 // Whether the angle between two vectors is below one of at most half a turn, whose sine and cosine are given, by the

@@ -1,18 +1,8 @@
 -- What the steps of a miter know: only private contracts read this.
 use Rattle.std.specs.Prelude.{ℕ, ℤ, pos, ◌≡◌, ◌^◌, ◌≤◌, ◌≤ℤ◌, unsigned_abs}
-use Rattle.mesh_plane.specs.Bounds.{IsSafe}
 use Rattle.mesh_plane.specs.Plane.{Point, length_sq}
-use Rattle.mesh_num.specs.Rectangle.{IsSafeWidened}
-use Rattle.mesh_join.specs.Joints.{Joint}
 use Rattle.mesh_join.specs.Miters.{sharpest, slightest, half_sharpest}
 use Rattle.mesh_sine.specs.Sine.{sin_cos}
-
--- the corner stays safe within the padding, and both points that are joined are safe
-pub record IsInReach (unit : ℕ) (padding : ℤ) (j : Joint) : Type 0 where
-  pub center : IsSafe unit j.center
-  pub widened : IsSafeWidened unit padding j.center
-  pub first : IsSafe unit j.first
-  pub last : IsSafe unit j.last
 
 -- the sines and cosines of a miter's angles, computed once
 pub record HasSines (angle min_turn : ℕ) (slight sharp half : Point) : Type 0 where

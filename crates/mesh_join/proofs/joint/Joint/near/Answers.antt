@@ -21,12 +21,3 @@ narrow-requires-then-is_near g c =
     let s = tested_safe g.I.IntNumber.unit c.args.padding _ c.self.inside.center _ c.args.point _ h c.is_near.ensures (to_z-of_z w128 c.args.padding c.ranges.padding) c.coordinates.ensures.value c.if-is_near.true in
     let most = g.met.I.IntNumber.most_law in
     rw (to_z-of_z w128 c.args.point.1 (omega (arith, ints, s.y.low, s.y.high, most))) (safe_fits g.I.IntNumber.unit c.args.point.1 s.y)
-
-pub returns-then-is_near-clause-safe : goal.returns-then-is_near-clause-safe
-returns-then-is_near-clause-safe g c =
-    let h = rw (← c.self.view_is) at c.requires in
-    let s = tested_safe g.I.IntNumber.unit c.args.padding _ c.self.inside.center _ c.args.point _ h c.is_near.ensures (to_z-of_z w128 c.args.padding c.ranges.padding) c.coordinates.ensures.value c.if-is_near.true in
-    let most = g.met.I.IntNumber.most_law in
-    let x = c.narrow.ensures ∙ to_z-of_z w128 c.args.point.0 (omega (arith, ints, s.x.low, s.x.high, most)) in
-    let y = c.narrow-then-is_near.ensures ∙ to_z-of_z w128 c.args.point.1 (omega (arith, ints, s.y.low, s.y.high, most)) in
-    rw (c.new.ensures, x, y) s

@@ -22,6 +22,4 @@ returns g c =
     let cosine = to_z-of_z w32 c.self.inside.half.1 fits.1 in
     let r = rw (sine, cosine, half) at c.clip_reach-reach.ensures.value in
     let reach = to_z-of_z w128 c.clip_reach-reach.result (search rules) in
-    let start = c.sum.ensures ∙ rw (c.coordinates.ensures.value, c.scaled.ensures.value, reach, r) refl in
-    let end = c.difference.ensures ∙ rw (c.coordinates-2.ensures.value, c.scaled-2.ensures.value, reach, r) refl in
-    rw (start, end, ← c.self.view_is, ← c.joint.view_is) refl
+    rw (← c.self.view_is, ← c.joint.view_is, c.sum.ensures, c.difference.ensures, c.coordinates.ensures.value, c.coordinates-2.ensures.value, c.scaled.ensures.value, c.scaled-2.ensures.value, reach, r) refl

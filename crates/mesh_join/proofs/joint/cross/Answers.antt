@@ -5,7 +5,7 @@ use Rattle.std.proofs.lemmas.Int.{to_z-of_z, fits_signed_from_abs, ints}
 use mir.Syntax.{w128}
 use mir.Val.{SFits, to_z, of_z}
 use Rattle.mesh_join.proofs.Quotients.{size_of_product}
-use Rattle.mesh_join.proofs.miter.cross.Goals as goal
+use Rattle.mesh_join.proofs.joint.cross.Goals as goal
 
 pub overflow_sub-result : goal.overflow_sub-result
 overflow_sub-result c =
@@ -13,8 +13,8 @@ overflow_sub-result c =
     let b = to_z-of_z w128 c.args.v.1 (omega (arith, ints, c.requires.v.y)) in
     let d = to_z-of_z w128 c.args.w.0 (omega (arith, ints, c.requires.w.x)) in
     let e = to_z-of_z w128 c.args.w.1 (omega (arith, ints, c.requires.w.y)) in
-    let h = size_of_product (2 ^ 32) (2 ^ 30) c.args.v.0 c.args.w.1 c.requires.v.x c.requires.w.y in
-    let l = size_of_product (2 ^ 32) (2 ^ 30) c.args.v.1 c.args.w.0 c.requires.v.y c.requires.w.x in
+    let h = size_of_product (2 ^ 32) (2 ^ 32) c.args.v.0 c.args.w.1 c.requires.v.x c.requires.w.y in
+    let l = size_of_product (2 ^ 32) (2 ^ 32) c.args.v.1 c.args.w.0 c.requires.v.y c.requires.w.x in
     let x = to_z-of_z w128 (c.args.v.0 *ℤ c.args.w.1) (omega (arith, ints)) in
     let y = to_z-of_z w128 (c.args.v.1 *ℤ c.args.w.0) (omega (arith, ints)) in
     simp (a, b, d, e, x, y) (fits_signed_from_abs w128 ((c.args.v.0 *ℤ c.args.w.1) -ℤ (c.args.v.1 *ℤ c.args.w.0)) (omega (arith, ints)))
@@ -25,9 +25,9 @@ returns c =
     let b = to_z-of_z w128 c.args.v.1 (omega (arith, ints, c.requires.v.y)) in
     let d = to_z-of_z w128 c.args.w.0 (omega (arith, ints, c.requires.w.x)) in
     let e = to_z-of_z w128 c.args.w.1 (omega (arith, ints, c.requires.w.y)) in
-    let h = size_of_product (2 ^ 32) (2 ^ 30) c.args.v.0 c.args.w.1 c.requires.v.x c.requires.w.y in
-    let l = size_of_product (2 ^ 32) (2 ^ 30) c.args.v.1 c.args.w.0 c.requires.v.y c.requires.w.x in
+    let h = size_of_product (2 ^ 32) (2 ^ 32) c.args.v.0 c.args.w.1 c.requires.v.x c.requires.w.y in
+    let l = size_of_product (2 ^ 32) (2 ^ 32) c.args.v.1 c.args.w.0 c.requires.v.y c.requires.w.x in
     let x = to_z-of_z w128 (c.args.v.0 *ℤ c.args.w.1) (omega (arith, ints)) in
     let y = to_z-of_z w128 (c.args.v.1 *ℤ c.args.w.0) (omega (arith, ints)) in
     let z = to_z-of_z w128 ((c.args.v.0 *ℤ c.args.w.1) -ℤ (c.args.v.1 *ℤ c.args.w.0)) (omega (arith, ints)) in
-    record { value = simp (a, b, d, e, x, y, z); size = simp (a, b, d, e, x, y, z) (omega (arith, ints)) }
+    simp (a, b, d, e, x, y, z)

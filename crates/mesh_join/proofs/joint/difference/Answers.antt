@@ -4,7 +4,7 @@ use Rattle.std.specs.Prelude.{◌-ℤ◌}
 use Rattle.std.proofs.lemmas.Int.{to_z-of_z, ints}
 use mir.Syntax.{w128}
 use mir.Val.{SFits}
-use Rattle.mesh_join.proofs.miter.difference.Goals as goal
+use Rattle.mesh_join.proofs.joint.difference.Goals as goal
 
 pub returns : goal.returns
 returns c =
