@@ -19,6 +19,7 @@ use Rattle.mesh_sine.proofs.Lengths.{sine_at_most}
 use Rattle.mesh_sine.proofs.Small.{sine_not_small}
 use Rattle.mesh_join.proofs.Bevels.{nothing_between}
 use Rattle.mesh_num.specs.Rectangle.{IsSafeWidened}
+use Rattle.mesh_num.specs.Segments.{segments_of}
 use Rattle.mesh_join.proofs.Joints.{within_safe}
 use Rattle.mesh_join.proofs.JoinLaws.{KeepsJoint, KeepsJoints}
 use Rattle.mesh_join.specs.Joins.{between, through}
@@ -198,6 +199,13 @@ pub points_blunt : (angle min_turn unit : ℕ) (j : Joint) → is_slight min_tur
     miter_points angle min_turn unit j ≡ usable (miter_padding angle j.radius) j (peak j ∷ [])
 unfolding miter_points
 points_blunt angle min_turn unit j e f = rw (e, f) refl
+
+-- what is joined where both points are one, and where they are not
+pub nothing_joined : (a b : Point) (points : List Point) → same_point a b ≡ true → segments_of (through a points b) ≡ []
+nothing_joined a b points e = rw e (rw e refl)
+
+pub all_between : (a b : Point) (points : List Point) → same_point a b ≡ false → through a points b ≡ route a points b
+all_between a b points e = ap (λ (t : Bool). route a (cond t [] points) b) e
 
 -- a value that is there only where a test was passed
 pub some_if : {A : Type 0} (b : Bool) (p q : A) → ◌≡◌ {A = Option A} (Some q) (cond b (Some p) None) → (b ≡ true) × (q ≡ p)

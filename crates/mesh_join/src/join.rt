@@ -7,7 +7,7 @@ ghost use Rattle.mesh_join.specs.Joins.{join_edges, join_padding, IsJoint};
 
 use crate::arc::ArcDirection;
 use crate::bevel;
-use crate::joint::Joint;
+use crate::joint::{Joint, coordinates, is_one_point};
 use crate::miter::{self, Miter};
 use crate::style::IntLineJoin;
 use mesh_num::num::{Angle, IntNumber, IntPoint, UnitIntVector, WideNumber};
@@ -90,23 +90,36 @@ impl<I: IntNumber> Join<I> {
         ensures capacity { vec_capacity segments.old ≤ vec_capacity segments.new }
         ensures same { self.new ≡ self.old }
     {
-        if a == b {
+        let joint = Joint {
+            center,
+            first: a,
+            last: b,
+            incoming,
+            outgoing,
+            radius,
+            sense: direction,
+        };
+        self.draw(&joint, segments)
+    }
+
+    fn draw(
+        &self,
+        joint: &Joint<I>,
+        segments: &mut Vec<Segment<I>>,
+    ) -> Result<(), AllocError>
+        requires { IsJoint I.unit self.now joint.now }
+        ensures ok { OnOk result (segments.new.items ≡ segments.old.items ++ segments_of (join_edges I.unit self.now joint.now)) }
+        ensures err { OnErr result (segments.new.items ≡ segments.old.items) }
+        ensures same_ends { joint.now.first ≡ joint.now.last → IsOk result }
+        ensures room { length segments.old.items + length (segments_of (join_edges I.unit self.now joint.now)) ≤ vec_capacity segments.old → IsOk result }
+        ensures capacity { vec_capacity segments.old ≤ vec_capacity segments.new }
+    {
+        if is_one_point(coordinates(joint.first), coordinates(joint.last)) {
             return Ok(());
         }
-        match &self.method {
-            Method::Bevel(_) => bevel::add(a, b, segments),
-            Method::Miter(miter) => {
-                let joint = Joint {
-                    center,
-                    first: a,
-                    last: b,
-                    incoming,
-                    outgoing,
-                    radius,
-                    sense: direction,
-                };
-                miter.add(&joint, segments)
-            }
+        if let Method::Miter(miter) = &self.method {
+            return miter.add(joint, segments);
         }
+        bevel::add(joint.first, joint.last, segments)
     }
 }

@@ -2,6 +2,7 @@
 
 ghost use Rattle.std.specs.Prelude.{◌≡◌, [], ◌∷◌, ◌^◌, ◌≤◌, ◌&&◌, Some, None, ◌+ℤ◌, ◌-ℤ◌, unsigned_abs, int_le, if◌then◌else◌};
 ghost use Rattle.mesh_plane.specs.Plane.{plus, minus, cross as cross_of, dot as dot_of, turn as turn_of};
+ghost use Rattle.mesh_plane.specs.Winding.{same_point};
 ghost use Rattle.mesh_num.specs.Rectangle.{IsSafeWidened};
 ghost use Rattle.mesh_join.specs.Midway.Miters.{IsNarrow};
 ghost use Rattle.mesh_join.specs.Miters.{is_near as is_near_to, runs_ahead, are_usable};
@@ -123,6 +124,15 @@ pub(crate) fn coordinates<I: IntNumber>(point: IntPoint<I>) -> Pair
     ensures narrow { IsNarrow (2 ^ 31) result }
 {
     (widen(point.x), widen(point.y))
+}
+
+/// Whether two points are one.
+pub(crate) fn is_one_point(p: Pair, q: Pair) -> bool
+    requires p { IsNarrow (2 ^ 31) p }
+    requires q { IsNarrow (2 ^ 31) q }
+    ensures { result ≡ same_point p q }
+{
+    p.0 == q.0 && p.1 == q.1
 }
 
 // Whether a point is away from another by at most the padding in each coordinate.
