@@ -1,6 +1,6 @@
 -- Lemmas over points: what the steps of joins need to know of a corner.
 use Rattle.std.proofs.Common.{◌≡◌, ℕ, ◌*◌, ◌≤◌, ◌^◌, Bool, true, false, refl, ap, sym, arith}
-use Rattle.std.specs.Prelude.{ℤ, pos, negsuc, ◌+ℤ◌, ◌-ℤ◌, ◌*ℤ◌, ◌≤ℤ◌, ◌<ℤ◌, ◌↔◌, IsTrue, not, unsigned_abs, int_le}
+use Rattle.std.specs.Prelude.{ℤ, pos, negsuc, ◌+ℤ◌, ◌-ℤ◌, ◌*ℤ◌, ◌≤ℤ◌, ◌<ℤ◌, ◌↔◌, IsTrue, not, unsigned_abs, int_le, Result, Ok, Err, OnOk}
 use Rattle.std.proofs.lemmas.Int.{ints}
 use Rattle.mesh_plane.specs.Bounds.{IsSafe, IsWithin, IsSmall}
 use Rattle.mesh_plane.specs.Plane.{Point, plus, minus}
@@ -28,3 +28,7 @@ left_ahead t = ap (int_le (pos 0)) (sym (one_mul t))
 
 pub right_ahead : (t : ℤ) → int_le t (pos 0) ≡ int_le (pos 0) (negsuc 0 *ℤ t)
 right_ahead t = grind (arith, ints)
+
+pub on_ok_then : {A E : Type 0} (r : Result A E) {P Q : Type 0} → OnOk r P → (P → Q) → OnOk r Q
+on_ok_then (Ok x) h f = f h
+on_ok_then (Err e) h f = tt
