@@ -17,6 +17,7 @@ use Rattle.mesh_shapes.specs.Contours.{double_area}
 use Rattle.mesh_join.specs.Joins.{outline_padding}
 use Rattle.mesh_join.specs.Styles.{OffsetJoin, OutlineStyle, outer, inner}
 use Rattle.mesh_outline.specs.Building.{IsMovable}
+use Rattle.mesh_outline.specs.Kinds.{contour_kind}
 use Rattle.mesh_outline.specs.Outline.{outline_edges}
 use Rattle.mesh_draw.specs.Padding.{ArePathsSafe}
 use Rattle.mesh_draw.specs.Adding.{answer_edges}
@@ -49,7 +50,7 @@ gives_safe : (unit : ℕ) (style : OutlineStyle) (contour : List Point) (edges :
     Gives unit style contour edges → AreEdgesSafe unit edges
 gives_safe unit style contour _ least safe (Gives.moved {way = way} {answer = answer} moves a) =
     along_safe unit (fill_for (double_area contour)) (answer_edges answer)
-    (answer_alone_safe unit way _ contour answer least (path_movable unit style (double_area contour) way contour moves safe) a)
+    (answer_alone_safe unit way _ contour answer least (path_movable unit style (contour_kind contour) way contour moves safe) a)
 gives_safe unit style contour _ least safe (Gives.ignored none) = All-nil (IsSafeEdge unit)
 
 give_safe : (unit : ℕ) (style : OutlineStyle) (contours : List (List Point)) (edges : List Edge) → 2 ^ 14 ≤ unit → ArePathsSafe unit (outline_padding style) contours →

@@ -1,15 +1,16 @@
 -- What the outline's builder asks and adds.
-use Rattle.std.specs.Prelude.{ℕ, ◌≡◌, ◌≢◌, List, cond, ℤ, pos, int_lt, unsigned_abs, Option, Some, None}
+use Rattle.std.specs.Prelude.{ℕ, ◌≡◌, ◌≢◌, List, ℤ, pos, unsigned_abs, Option}
 use Rattle.mesh_plane.specs.Plane.{Point}
 use Rattle.mesh_num.specs.Rectangle.{IsSafeWidened}
 use Rattle.mesh_join.specs.Joins.{offset_padding}
-use Rattle.mesh_join.specs.Styles.{OffsetJoin, OutlineStyle, outer, inner}
+use Rattle.mesh_join.specs.Styles.{OffsetJoin, OutlineStyle}
 use Rattle.mesh_num.specs.Segments.{SignedEdge, segments_of, segment_between}
+use Rattle.mesh_outline.specs.Kinds.{kind_for, way_for}
 use Rattle.mesh_outline.specs.Outline.{Section, Corner, own_edge, section_of, corner_edges, parts, joined}
 
--- how a contour moves, by its double area: an outer boundary has an area above 0, a hole one below 0; a contour of area 0 does not move
+-- how a contour moves, by its double area: as its kind does
 abbrev pub style_for : OutlineStyle → ℤ → Option OffsetJoin
-style_for style area = cond (int_lt (pos 0) area) (Some (outer style)) (cond (int_lt area (pos 0)) (Some (inner style)) None)
+style_for style area = way_for style (kind_for area)
 
 -- a point that stays safe where it moves by at most the padding of the offset's joins
 abbrev pub IsMovable : ℕ → OffsetJoin → Point → Type 0

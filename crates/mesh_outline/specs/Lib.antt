@@ -5,6 +5,7 @@ pub use Rattle.mesh_draw.specs.Adding
 pub use Rattle.mesh_draw.specs.Drawing
 pub use Rattle.mesh_draw.specs.Padding
 pub mod Building
+pub mod Kinds
 pub mod Laws
 pub mod Outline
 pub mod Resolved

@@ -1,5 +1,5 @@
 -- The outline of many contours: each is moved and resolved alone, and what comes of all of them is resolved together.
-use Rattle.std.specs.Prelude.{ℕ, ◌≡◌, List, [], ◌∷◌, ◌++◌, ℤ, pos, int_lt, Bool, cond, Some, None, IfSome}
+use Rattle.std.specs.Prelude.{ℕ, ◌≡◌, List, [], ◌∷◌, ◌++◌, ℤ, Bool, Some, None, IfSome}
 use Rattle.std.specs.List.{All}
 use Rattle.std.specs.List.Sorted.{IsPermutation}
 use Rattle.mesh_plane.specs.Bounds.{IsWithin}
@@ -10,11 +10,12 @@ use Rattle.mesh_cuts.specs.FillRules.{filled}
 use Rattle.mesh_below.specs.Options.{plain}
 use Rattle.mesh_shapes.specs.Resolution.{Choices, IsResolution}
 use Rattle.mesh_cuts.specs.declared.fill.FillRule.{FillRule}
-use Rattle.mesh_cuts.specs.declared.fill.FillRule.TheVariants.{Positive, Negative}
+use Rattle.mesh_cuts.specs.declared.fill.FillRule.TheVariants.{Positive}
 use Rattle.mesh_join.specs.Joins.{offset_padding}
 use Rattle.mesh_join.specs.Styles.{OffsetJoin, OutlineStyle}
 use Rattle.mesh_draw.specs.Adding.{along}
 use Rattle.mesh_outline.specs.Building.{style_for}
+use Rattle.mesh_outline.specs.Kinds.{kind_for, sense_of}
 use Rattle.mesh_draw.specs.Drawing.{AreDrawn}
 use Rattle.mesh_outline.specs.Outline.{outline_edges, outline_pieces}
 use Rattle.mesh_draw.specs.Adding.{answer_edges}
@@ -29,9 +30,9 @@ pub record IsAnswerAlone (unit : ℕ) (style : OffsetJoin) (fill : ℤ → Bool)
   pub same : IsPermutation built (outline_edges unit style contour)
   pub resolution : IsResolution built fill plain answer
 
--- the sense in which a contour is filled, by its double area: a hole in the negative one
+-- the sense in which a contour is filled, by its double area: as its kind is
 abbrev pub fill_for : ℤ → FillRule
-fill_for area = cond (int_lt area (pos 0)) Negative Positive
+fill_for area = sense_of (kind_for area)
 
 -- the edges that a contour gives to the outline. An outer boundary moves by the outer offset, what is wound round in its
 -- sense is filled, and it gives the contours of its answer. A hole moves by the inner offset, what is wound round in its

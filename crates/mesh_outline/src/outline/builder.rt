@@ -13,9 +13,11 @@ ghost use Rattle.mesh_clean.specs.Cleaned.{AllEqual, cleaned_sections};
 ghost use Rattle.mesh_outline.specs.Outline.{outline_edges, outline_pieces};
 ghost use Rattle.mesh_draw.specs.Adding.{Adds, added, added_edges, Keeps};
 ghost use Rattle.mesh_outline.specs.Building.{style_for, IsCorner, IsMovable, corner_segments, top_segments};
+ghost use Rattle.mesh_outline.specs.Kinds.{way_for};
 ghost use Rattle.mesh_draw.specs.Drawing.{NeverTurnedRound, WindAsPieces, WindsByCount};
 
 use crate::outline::builder_join::{JoinBuilder, is_outer};
+use crate::outline::kind::ContourKind;
 use crate::outline::section::OffsetSection;
 use mesh_join::join::Join;
 use mesh_join::style::IntOutlineStyle;
@@ -54,12 +56,17 @@ impl<I: IntNumber> OutlineBuilder<I> {
     pub fn for_area(alloc: Global, style: &IntOutlineStyle<I>, double_area: i128) -> Option<Self>
         ensures { result ≡ style_for (style_of I.value style.now) double_area }
     {
-        let offset = if double_area > 0 {
-            style.outer_offset
-        } else if double_area < 0 {
-            style.inner_offset
-        } else {
-            return None;
+        Self::for_kind(alloc, style, ContourKind::of_area(double_area))
+    }
+
+    /// A builder for a contour of this kind, in this style; `None` for contours that do not move. It takes no memory.
+    pub fn for_kind(alloc: Global, style: &IntOutlineStyle<I>, kind: ContourKind) -> Option<Self>
+        ensures { result ≡ way_for (style_of I.value style.now) kind }
+    {
+        let offset = match kind {
+            ContourKind::Outer => style.outer_offset,
+            ContourKind::Hole => style.inner_offset,
+            ContourKind::Ignored => return None,
         };
         let join = Join::new(alloc, style.join, style.miter_min_turn);
         Some(OutlineBuilder::new(offset, join))

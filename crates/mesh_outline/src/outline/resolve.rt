@@ -1,6 +1,6 @@
 //! The two steps of an outline: each contour is resolved alone, and what comes of all of them together.
 
-ghost use Rattle.std.specs.Prelude.{◌≡◌, ◌↔◌, [], ◌∷◌, ◌++◌, List, OnOk, IfOk};
+ghost use Rattle.std.specs.Prelude.{◌≡◌, ◌↔◌, [], ◌∷◌, ◌++◌, List, map, OnOk, IfOk};
 ghost use Rattle.std.specs.List.{All, flat_map};
 ghost use Rattle.mesh_num.specs.Paths.{paths_of, shapes_of};
 ghost use Rattle.mesh_plane.specs.Plane.{Point, Edge};
@@ -14,10 +14,11 @@ ghost use Rattle.mesh_join.specs.Joins.{outline_padding};
 ghost use Rattle.mesh_join.specs.Styles.{style_of};
 ghost use Rattle.mesh_draw.specs.Padding.{ArePathsSafe};
 ghost use Rattle.mesh_draw.specs.Adding.{answer_edges};
-ghost use Rattle.mesh_outline.specs.Resolved.{fill_for, DoAreasFit, IsAnswerAlone, Gives, Give};
+ghost use Rattle.mesh_outline.specs.Kinds.{contour_kind, sense_of};
+ghost use Rattle.mesh_outline.specs.Resolved.{DoAreasFit, IsAnswerAlone, Gives, Give};
 
-use crate::outline::area::{check_areas, double_area};
 use crate::outline::builder::OutlineBuilder;
+use crate::outline::kind::{ContourKind, contour_kinds};
 use mesh_below::below::{FillRule, IntOverlayOptions, Overlay, OverlayRule};
 use mesh_draw::error::IntOutlineError;
 use mesh_join::style::IntOutlineStyle;
@@ -27,8 +28,8 @@ use mesh_num::shape::resource::IntShapeResource;
 use mesh_num::shape::segment::{Segment, SubjectSegments};
 use std::alloc::{AllocError, Global};
 
-/// What all contours of the source give, to be resolved with these options. `CoordinateOutOfRange` is answered where a
-/// double area does not fit the wide type, before anything is built.
+/// What all contours of the source give, to be resolved with these options. `CoordinateOutOfRange` is answered exactly
+/// where a double area does not fit the wide type, before anything is built.
 pub(crate) fn given_overlay<I: IntNumber, S: IntShapeResource<I>>(
     source: &S,
     alloc: Global,
@@ -41,53 +42,62 @@ pub(crate) fn given_overlay<I: IntNumber, S: IntShapeResource<I>>(
     ensures fit { OnOk result (DoAreasFit I.Wide.half (S.paths source.now)) }
     ensures refused { result ≡ Err IntOutlineError.CoordinateOutOfRange ↔ ¬ DoAreasFit I.Wide.half (S.paths source.now) }
 {
-    check_areas(source)?;
-    let mut overlay = Overlay::with_segments(given_segments(source, alloc, style)?);
+    let kinds = contour_kinds(source, alloc)?;
+    let mut overlay = Overlay::with_segments(given_segments(source, alloc, style, &kinds)?);
     overlay.options = options;
     Ok(overlay)
 }
 
-/// The segments of what all contours of the source give, one contour after another.
+/// The segments of what all contours of the source, of these kinds, give, one contour after another.
 fn given_segments<I: IntNumber, S: IntShapeResource<I>>(
     source: &S,
     alloc: Global,
     style: &IntOutlineStyle<I>,
+    kinds: &[ContourKind],
 ) -> Result<Vec<Segment<I>>, AllocError>
-    requires { ArePathsSafe I.unit (outline_padding (style_of I.value style.now)) (S.paths source.now) }
+    requires safe { ArePathsSafe I.unit (outline_padding (style_of I.value style.now)) (S.paths source.now) }
+    requires kinds { kinds.now ≡ map contour_kind (S.paths source.now) }
     ensures { IfOk result (λ segments. (given : List Edge) × Give I.unit (style_of I.value style.now) (S.paths source.now) given × AddsClosed I.unit [] segments.items given) }
 {
     let mut segments = Vec::new(alloc);
     for index in 0..source.path_count() {
-        add_contour(alloc, style, source.path_at(index), &mut segments)?;
+        add_contour(
+            alloc,
+            style,
+            kinds[index],
+            source.path_at(index),
+            &mut segments,
+        )?;
     }
     Ok(segments)
 }
 
-/// Adds what one contour gives: an outer boundary the edges of its answer, a hole those of its answer the other way about.
+/// Adds what one contour of this kind gives: an outer boundary the edges of its answer, a hole those of its answer the
+/// other way about.
 fn add_contour<I: IntNumber>(
     alloc: Global,
     style: &IntOutlineStyle<I>,
+    kind: ContourKind,
     path: &[IntPoint<I>],
     segments: &mut Vec<Segment<I>>,
 ) -> Result<(), AllocError>
-    requires { All (IsSafeWidened I.unit (outline_padding (style_of I.value style.now))) path.now }
+    requires safe { All (IsSafeWidened I.unit (outline_padding (style_of I.value style.now))) path.now }
+    requires kind { kind ≡ contour_kind path.now }
     ensures { OnOk result ((edges : List Edge) × Gives I.unit (style_of I.value style.now) path.now edges × AddsClosed I.unit segments.old.items segments.new.items edges) }
 {
-    let area = double_area(path);
-    let Some(mut builder) = OutlineBuilder::for_area(alloc, style, area) else {
+    let Some(mut builder) = OutlineBuilder::for_kind(alloc, style, kind) else {
         return Ok(());
     };
-    add_resolved(alloc, &mut builder, fill_for(area), path, segments)
+    add_resolved(alloc, &mut builder, fill_of(kind), path, segments)
 }
 
-/// The sense in which a contour of this double area is filled: a hole in the negative one.
-fn fill_for(double_area: i128) -> FillRule
-    ensures { result ≡ fill_for double_area }
+/// The sense in which a contour of this kind is filled: a hole in the negative one.
+fn fill_of(kind: ContourKind) -> FillRule
+    ensures { result ≡ sense_of kind }
 {
-    if double_area < 0 {
-        FillRule::Negative
-    } else {
-        FillRule::Positive
+    match kind {
+        ContourKind::Hole => FillRule::Negative,
+        ContourKind::Outer | ContourKind::Ignored => FillRule::Positive,
     }
 }
 
