@@ -6,13 +6,14 @@ use Rattle.mesh_plane.specs.Plane.{Point, Edge}
 use Rattle.mesh_num.specs.Segments.{SignedEdge, edges_of}
 use Rattle.mesh_shapes.specs.Contours.{double_area}
 use Rattle.mesh_cuts.specs.FillRules.{filled}
+use Rattle.mesh_below.specs.Asked.{AreResolvable}
 use Rattle.mesh_below.specs.Options.{plain}
 use Rattle.mesh_shapes.specs.Resolution.{Choices, IsResolution}
 use Rattle.mesh_cuts.specs.declared.fill.FillRule.{FillRule}
 use Rattle.mesh_cuts.specs.declared.fill.FillRule.TheVariants.{Positive}
 use Rattle.mesh_join.specs.Styles.{OffsetJoin, OutlineStyle}
 use Rattle.mesh_draw.specs.Adding.{along, AddsClosed}
-use Rattle.mesh_draw.proofs.Resolving.{given_edges}
+use Rattle.mesh_draw.proofs.Resolving.{given_edges, given_subjects, given_balanced, given_safe}
 use Rattle.mesh_outline.specs.Building.{style_for}
 use Rattle.mesh_outline.specs.Kinds.{contour_kind, way_for, sense_of}
 use Rattle.mesh_outline.specs.declared.outline.kind.ContourKind.{ContourKind}
@@ -50,6 +51,14 @@ pub gives_nothing : (unit : ℕ) (style : OutlineStyle) (kind : ContourKind) (pa
 gives_nothing unit style kind path k none = Gives.ignored (sym (ap (way_for style) k) ∙ none)
 
 -- ---- what is resolved at last
+
+-- what contours give can be resolved
+pub resolvable : (unit : ℕ) (ss held : List SignedEdge) (given : List Edge) → held ≡ ss → AddsClosed unit [] ss given → AreResolvable unit held
+resolvable unit ss held given e h = record {
+  subject = rw e (given_subjects unit ss given h);
+  balanced = rw e (given_balanced unit ss given h);
+  safe = rw e (given_safe unit ss given h);
+}
 
 -- the answer is the outline of the contours
 pub is_outline : (unit : ℕ) (style : OutlineStyle) (choices : Choices) (contours : List (List Point)) (ss : List SignedEdge) (answer : List (List (List Point))) →

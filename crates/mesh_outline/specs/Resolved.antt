@@ -1,6 +1,6 @@
 -- The outline of many contours: each is moved and resolved alone, and what comes of all of them is resolved together.
-use Rattle.std.specs.Prelude.{ℕ, ◌≡◌, List, [], ◌∷◌, ◌++◌, ℤ, Bool, Some, None, IfSome}
-use Rattle.std.specs.List.{All}
+use Rattle.std.specs.Prelude.{ℕ, ◌≡◌, List, [], ℤ, Bool, Some, None, IfSome}
+use Rattle.std.specs.List.{All, AllZip, flat_map}
 use Rattle.std.specs.List.Sorted.{IsPermutation}
 use Rattle.mesh_plane.specs.Bounds.{IsWithin}
 use Rattle.mesh_plane.specs.Plane.{Point, Edge}
@@ -43,11 +43,11 @@ pub data Gives (unit : ℕ) (style : OutlineStyle) (contour : List Point) : List
       → Gives unit style contour (along (fill_for (double_area contour)) (answer_edges answer))
   ignored : style_for style (double_area contour) ≡ None → Gives unit style contour []
 
--- the edges that contours give, one contour after another
-pub data Give (unit : ℕ) (style : OutlineStyle) : List (List Point) → List Edge → Type 0 where
-  no_contour : Give unit style [] []
-  one_more : {contours : List (List Point)} {contour : List Point} {edges more : List Edge} → Give unit style contours edges
-      → Gives unit style contour more → Give unit style (contours ++ contour ∷ []) (edges ++ more)
+-- the edges that contours give together: those that each of them gives, end to end
+pub record Give (unit : ℕ) (style : OutlineStyle) (contours : List (List Point)) (given : List Edge) : Type 0 where
+  pub edges : List (List Edge)
+  pub each : AllZip (Gives unit style) contours edges
+  pub joined : given ≡ flat_map (λ (es : List Edge). es) edges
 
 -- the answer is the outline of contours in this style: the edges that the contours give are resolved together, with the
 -- choices of the caller

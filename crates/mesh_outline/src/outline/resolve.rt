@@ -15,7 +15,9 @@ ghost use Rattle.mesh_join.specs.Styles.{style_of};
 ghost use Rattle.mesh_draw.specs.Padding.{ArePathsSafe};
 ghost use Rattle.mesh_draw.specs.Adding.{answer_edges};
 ghost use Rattle.mesh_outline.specs.Kinds.{contour_kind, sense_of};
-ghost use Rattle.mesh_outline.specs.Resolved.{DoAreasFit, IsAnswerAlone, Gives, Give};
+ghost use Rattle.mesh_below.specs.Asked.{AreResolvable};
+ghost use Rattle.mesh_outline.specs.Resolved.{DoAreasFit, HavePromisedEdges, IsAnswerAlone, Gives, Give};
+ghost use Rattle.mesh_outline.specs.Staying.{StaysSafe};
 
 use crate::outline::builder::OutlineBuilder;
 use crate::outline::kind::{ContourKind, contour_kinds};
@@ -37,10 +39,15 @@ pub(crate) fn given_overlay<I: IntNumber, S: IntShapeResource<I>>(
     options: IntOverlayOptions<I::WideUInt>,
 ) -> Result<Overlay<I>, IntOutlineError>
     requires { ArePathsSafe I.unit (outline_padding (style_of I.value style.now)) (S.paths source.now) }
-    ensures given { IfOk result (λ overlay. (given : List Edge) × Give I.unit (style_of I.value style.now) (S.paths source.now) given × AddsClosed I.unit [] overlay.segments.items given) }
+    ensures given { IfOk result (λ overlay. (given : List Edge)
+        × Give I.unit (style_of I.value style.now) (S.paths source.now) given
+        × AddsClosed I.unit [] overlay.segments.items given) }
     ensures options { IfOk result (λ overlay. overlay.options ≡ options) }
+    ensures resolvable { IfOk result (λ overlay. AreResolvable I.unit overlay.segments.items) }
     ensures fit { OnOk result (DoAreasFit I.Wide.half (S.paths source.now)) }
     ensures refused { result ≡ Err IntOutlineError.CoordinateOutOfRange ↔ ¬ DoAreasFit I.Wide.half (S.paths source.now) }
+    ensures built { HavePromisedEdges I.unit (style_of I.value style.now) (S.paths source.now) }
+    ensures stays_safe { StaysSafe I.unit (style_of I.value style.now) (S.paths source.now) }
 {
     let kinds = contour_kinds(source, alloc)?;
     let mut overlay = Overlay::with_segments(given_segments(source, alloc, style, &kinds)?);

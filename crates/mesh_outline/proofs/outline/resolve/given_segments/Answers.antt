@@ -1,15 +1,14 @@
 -- One contour after another.
 use Rattle.std.proofs.Common.{[], arith}
 use Rattle.mesh_join.specs.Styles.{style_of}
-use Rattle.mesh_outline.specs.Resolved.{Give}
 use Rattle.mesh_draw.proofs.Adding.{adds_nothing}
 use Rattle.mesh_outline.specs.declared.outline.kind.ContourKind.TheVariants.{Outer}
-use Rattle.mesh_outline.proofs.Adding.{give_more, give_all}
+use Rattle.mesh_outline.proofs.Adding.{give_none, give_more, give_all}
 use Rattle.mesh_outline.proofs.ContourKinds.{kind_count, kind_at}
 use Rattle.mesh_outline.proofs.outline.resolve.given_segments.Goals as goal
 
 pub loop-index-init : goal.loop-index-init
-loop-index-init g c = ([], Give.no_contour, rw c.new-segments.ensures.items (adds_nothing g.I.IntNumber.unit []))
+loop-index-init g c = ([], give_none g.I.IntNumber.unit (style_of g.I.IntNumber.value c.args.style.now), rw c.new-segments.ensures.items (adds_nothing g.I.IntNumber.unit []))
 
 pub bounds-kinds-index : goal.bounds-kinds-index
 bounds-kinds-index g c =
