@@ -7,7 +7,7 @@ use Rattle.std.proofs.lemmas.Slice.Zip.{all_zipped_more}
 use Rattle.mesh_plane.specs.Plane.{Point, Edge}
 use Rattle.mesh_num.specs.Segments.{SignedEdge}
 use Rattle.mesh_join.specs.Styles.{OutlineStyle}
-use Rattle.mesh_draw.specs.Adding.{AddsClosed}
+use Rattle.mesh_outline.specs.Midway.{AddsGiven, AreGiven}
 use Rattle.mesh_outline.specs.Resolved.{Gives, Give}
 use Rattle.mesh_draw.proofs.Adding.{adds_more}
 
@@ -20,11 +20,9 @@ pub give_none : (unit : ℕ) (style : OutlineStyle) → Give unit style [] []
 give_none unit style = record { edges = []; each = tt; joined = refl }
 
 -- one contour more
-pub give_more : (unit : ℕ) (style : OutlineStyle) (paths : List (List Point)) (i : ℕ) (old mid new : List SignedEdge) → i < length paths →
-    ((given : List Edge) × Give unit style (take i paths) given × AddsClosed unit old mid given) →
-    ((edges : List Edge) × Gives unit style (get_or paths i []) edges × AddsClosed unit mid new edges) →
-    (given : List Edge) × Give unit style (take (i + 1) paths) given × AddsClosed unit old new given
-give_more unit style paths i old mid new l h k = (h.0 ++ k.0, more, adds_more unit old mid new h.0 k.0 h.2 k.2)
+pub give_more : (unit : ℕ) (style : OutlineStyle) (paths : List (List Point)) (i : ℕ) (mid new : List SignedEdge) → i < length paths →
+    AreGiven unit style (take i paths) mid → AddsGiven unit style (get_or paths i []) mid new → AreGiven unit style (take (i + 1) paths) new
+give_more unit style paths i mid new l h k = (h.0 ++ k.0, more, adds_more unit [] mid new h.0 k.0 h.2 k.2)
   where
     all : List (List Edge) → List Edge
     all edges = flat_map (λ (es : List Edge). es) edges
@@ -39,7 +37,6 @@ give_more unit style paths i old mid new l h k = (h.0 ++ k.0, more, adds_more un
     }
 
 -- all contours
-pub give_all : (unit : ℕ) (style : OutlineStyle) (paths : List (List Point)) (i : ℕ) (old new : List SignedEdge) → length paths ≤ i →
-    ((given : List Edge) × Give unit style (take i paths) given × AddsClosed unit old new given) →
-    (given : List Edge) × Give unit style paths given × AddsClosed unit old new given
-give_all unit style paths i old new past h = rw (take_all i paths past) at h
+pub give_all : (unit : ℕ) (style : OutlineStyle) (paths : List (List Point)) (i : ℕ) (ss : List SignedEdge) → length paths ≤ i →
+    AreGiven unit style (take i paths) ss → AreGiven unit style paths ss
+give_all unit style paths i ss past h = rw (take_all i paths past) at h

@@ -55,13 +55,19 @@ impl<I: OverlayInt> Model for OutlineRequest<I> {
 
     ghost Value = { Request };
 
-    ghost view = { λ r. record { unit = I.unit; paths = paths_of r.paths.items; style = style_of I.value r.style; asked = asked_of I.WideUInt.value r.output } };
+    ghost view = { λ r. record {
+      unit = I.unit;
+      paths = paths_of r.paths.items;
+      style = style_of I.value r.style;
+      asked = asked_of I.WideUInt.value r.output;
+    } };
 }
 
 impl<I: OverlayInt> OutlineRequest<I> {
     /// The edges of each path's outline, in their order. Nothing is built unless all paths are accepted.
     pub fn edges(&self, alloc: Global) -> Result<Vec<Vec<DirectedEdge<I>>>, IntOutlineError>
-        ensures edges { IfOk result (λ lists. AreListed (by_values I.cmp I.of_value) self.now.unit self.now.style self.now.paths (paths_of lists.items)) }
+        ensures edges { IfOk result (λ lists. AreListed (by_values I.cmp I.of_value) self.now.unit self.now.style
+            self.now.paths (paths_of lists.items)) }
         ensures accepted { OnOk result (IsAccepted self.now) }
         ensures refused { result ≡ Err IntOutlineError.CoordinateOutOfRange ↔ ¬ IsAccepted self.now }
     {
@@ -76,7 +82,8 @@ impl<I: OverlayInt> OutlineRequest<I> {
         alloc: Global,
         options: IntOverlayOptions<I::WideUInt>,
     ) -> Result<IntShapes<I>, IntOutlineError>
-        ensures shapes { IfOk result (λ shapes. IsOutline self.now.unit self.now.style (choices_of I.WideUInt.value options) self.now.paths (shapes_of shapes.items)) }
+        ensures shapes { IfOk result (λ shapes. IsOutline self.now.unit self.now.style
+            (choices_of I.WideUInt.value options) self.now.paths (shapes_of shapes.items)) }
         ensures accepted { OnOk result (IsAccepted self.now) }
         ensures refused { result ≡ Err IntOutlineError.CoordinateOutOfRange ↔ ¬ IsAccepted self.now }
     {
@@ -94,7 +101,8 @@ fn edge_lists<I: OverlayInt>(
 ) -> Result<Vec<Vec<DirectedEdge<I>>>, AllocError>
     requires safe { ArePathsSafe I.unit (outline_padding (style_of I.value style.now)) (paths_of paths.now) }
     requires kinds { kinds.now ≡ map contour_kind (paths_of paths.now) }
-    ensures { IfOk result (λ lists. AreListed (by_values I.cmp I.of_value) I.unit (style_of I.value style.now) (paths_of paths.now) (paths_of lists.items)) }
+    ensures { IfOk result (λ lists. AreListed (by_values I.cmp I.of_value) I.unit (style_of I.value style.now)
+        (paths_of paths.now) (paths_of lists.items)) }
 {
     let mut lists = Vec::with_capacity(alloc, paths.len())?;
     for (index, path) in paths.iter().enumerate() {
@@ -113,7 +121,8 @@ fn path_segments<I: OverlayInt>(
 ) -> Result<Vec<Segment<I>>, AllocError>
     requires safe { All (IsSafeWidened I.unit (outline_padding (style_of I.value style.now))) path.now }
     requires kind { kind ≡ contour_kind path.now }
-    ensures { IfOk result (λ ss. IsPermutation (edges_of ss.items) (served_edges I.unit (style_of I.value style.now) path.now)) }
+    ensures { IfOk result (λ ss. IsPermutation (edges_of ss.items)
+        (served_edges I.unit (style_of I.value style.now) path.now)) }
 {
     let mut segments = Vec::new(alloc);
     let Some(mut builder) = OutlineBuilder::for_kind(alloc, style, kind) else {

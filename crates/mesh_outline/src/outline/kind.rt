@@ -45,7 +45,8 @@ pub fn contour_kinds<I: IntNumber, S: IntShapeResource<I>>(
 ) -> Result<Vec<ContourKind>, IntOutlineError>
     ensures kinds { IfOk result (λ kinds. kinds.items ≡ map contour_kind (S.paths source.now)) }
     ensures fit { OnOk result (DoAreasFit I.Wide.half (S.paths source.now)) }
-    ensures refused { result ≡ Err IntOutlineError.CoordinateOutOfRange ↔ ¬ DoAreasFit I.Wide.half (S.paths source.now) }
+    ensures refused { result ≡ Err IntOutlineError.CoordinateOutOfRange
+        ↔ ¬ DoAreasFit I.Wide.half (S.paths source.now) }
 {
     let mut kinds = Vec::new(alloc);
     let mut refused = false;

@@ -1,5 +1,5 @@
 -- The area of each path so far fits, and at the end that of each path.
-use Rattle.std.proofs.Common.{[], ◌≡◌, ◌∙◌, ap, not, sym, arith, rules, refl}
+use Rattle.std.proofs.Common.{[], ◌∙◌, ap, not, sym, arith, rules, refl}
 use Rattle.std.proofs.lemmas.Bool.{false≢true}
 use Rattle.std.proofs.lemmas.Int.{to_z-of_z}
 use mir.Syntax.{w128}

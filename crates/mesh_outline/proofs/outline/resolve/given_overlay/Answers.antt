@@ -28,7 +28,8 @@ returns-in_err-given_segments-clause-stays_safe g c =
 
 pub returns-clause-resolvable : goal.returns-clause-resolvable
 returns-clause-resolvable g c =
-    resolvable g.I.IntNumber.unit _ _ _ (ap (λ v. v.items) c.with_segments-overlay.ensures.segments) c.in_ok-given_segments.ensures.2
+    resolvable g.I.IntNumber.unit (style_of g.I.IntNumber.value c.args.style.now) (g.S.IntShapeResource.paths c.args.source.now) _ _
+    (ap (λ v. v.items) c.with_segments-overlay.ensures.segments) c.in_ok-given_segments.ensures
 
 pub returns-clause-built : goal.returns-clause-built
 returns-clause-built g c =

@@ -25,9 +25,9 @@ add_contour-requires-clause-kind g c =
 pub loop-index-preserved : goal.loop-index-preserved
 loop-index-preserved g c =
     give_more g.I.IntNumber.unit (style_of g.I.IntNumber.value c.args.style.now) (g.S.IntShapeResource.paths c.args.source.now)
-    c.loop-index.index [] _ _ (omega arith) c.loop-index.invariant (rw c.path_at.ensures at c.in_ok-add_contour.ensures)
+    c.loop-index.index _ _ (omega arith) c.loop-index.invariant (rw c.path_at.ensures at c.in_ok-add_contour.ensures)
 
 pub returns : goal.returns
 returns g c =
     give_all g.I.IntNumber.unit (style_of g.I.IntNumber.value c.args.style.now) (g.S.IntShapeResource.paths c.args.source.now)
-    c.loop-index.index [] _ (omega arith) c.loop-index.invariant
+    c.loop-index.index _ (omega arith) c.loop-index.invariant
