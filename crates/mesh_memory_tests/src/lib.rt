@@ -1,7 +1,7 @@
 //! Tests of refused memory.
 //!
-//! In a run that is made to refuse the allocation `N` of each test, `rt try --test --fail-alloc N`, the tests look at what
-//! stands after the refusal, and call again. In other runs they see the answers alone.
+//! In a run that is made to refuse the allocation `N` of each test, `rt try --test --fail-alloc N`, the tests look at
+//! what stands after the refusal, and call again. In other runs they see the answers alone.
 #![tactic(auto)]
 
 #[cfg(test)]
