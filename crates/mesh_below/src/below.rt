@@ -41,7 +41,8 @@ pub enum ContourDirection {
     Clockwise,
 }
 
-/// What an answer depends on besides edges and fill rule. The type of the area is the unsigned wide one of the coordinates.
+/// What an answer depends on besides edges and fill rule. The type of the area is the unsigned wide one of the
+/// coordinates.
 #[derive(Debug, Copy, Clone)]
 pub struct IntOverlayOptions<U> {
     /// Contours of less area, in squares of the grid, are left out.
@@ -94,22 +95,24 @@ impl<I: IntNumber> Overlay<I> {
         }
     }
 
-    /// Adds segments to those that the overlay has. Where there is room for them it succeeds. `Err` says that memory was refused,
-    /// and then it is unchanged.
+    /// Adds segments to those that the overlay has. Where there is room for them it succeeds. `Err` says that memory
+    /// was refused, and then it is unchanged.
     pub fn add_segments(&mut self, segments: &[Segment<I>]) -> Result<(), AllocError>
         ensures ok { OnOk result (self.new.segments.items ≡ self.old.segments.items ++ segments.now) }
         ensures err { OnErr result (self.new.segments.items ≡ self.old.segments.items) }
         ensures options { self.new.options ≡ self.old.options }
-        ensures room { length self.old.segments.items + length segments.now ≤ vec_capacity self.old.segments → IsOk result }
+        ensures room { length self.old.segments.items + length segments.now ≤ vec_capacity self.old.segments
+            → IsOk result }
         ensures nothing { segments.now ≡ [] → IsOk result }
         ensures capacity { vec_capacity self.old.segments ≤ vec_capacity self.new.segments }
     {
         self.segments.extend_from_slice(segments)
     }
 
-    /// The shapes of what the segments fill. The segments are as `Segment::subject` gives them, balanced (at each point as
-    /// many of their edges start as end), and in the safe range: coordinates are in size below 2^14 for `i16` and below 2^30
-    /// for `i32`, in units of the grid. `Err` says that memory was refused. The overlay stays as it was in any case.
+    /// The shapes of what the segments fill. The segments are as `Segment::subject` gives them, balanced (at each
+    /// point as many of their edges start as end), and in the safe range: coordinates are in size below 2^14 for
+    /// `i16` and below 2^30 for `i32`, in units of the grid. `Err` says that memory was refused. The overlay stays as
+    /// it was in any case.
     pub fn overlay(&self, rule: OverlayRule, fill: FillRule) -> Result<IntShapes<I>, AllocError>
         requires subject { All IsSubject self.now.segments.items }
         requires balanced { IsBalanced (edges_of self.now.segments.items) }
@@ -125,9 +128,9 @@ impl<I: IntNumber> Overlay<I> {
         }
     }
 
-    /// Puts the contours of what the segments fill in place of the buffer's own, those of one shape after those of another.
-    /// It asks what `overlay` asks. `Err` says that memory was refused, and then the buffer is unchanged. The overlay itself
-    /// stays as it was in any case.
+    /// Puts the contours of what the segments fill in place of the buffer's own, those of one shape after those of
+    /// another. It asks what `overlay` asks. `Err` says that memory was refused, and then the buffer is unchanged.
+    /// The overlay itself stays as it was in any case.
     pub fn overlay_into(
         &self,
         rule: OverlayRule,
@@ -166,7 +169,11 @@ impl<I: IntNumber> Overlay<I> {
 
     /// The options, as the resolving takes them.
     fn choices(&self) -> Choices
-        ensures { (record { least_area = result.least_area; all_vertices = result.all_vertices; clockwise = result.clockwise })
+        ensures { (record {
+          least_area = result.least_area;
+          all_vertices = result.all_vertices;
+          clockwise = result.clockwise;
+        })
             ≡ choices_of I.WideUInt.value self.now.options }
     {
         Choices {

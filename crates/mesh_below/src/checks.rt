@@ -102,8 +102,8 @@ pub fn are_balanced(alloc: Global, edges: &[GridEdge]) -> Result<bool, AllocErro
     Ok(start_alike(&leaving, &entering))
 }
 
-/// Whether the overlay can resolve the segments: they are as `Segment::subject` gives them, balanced, and in the safe range.
-/// `Err` says that memory was refused.
+/// Whether the overlay can resolve the segments: they are as `Segment::subject` gives them, balanced, and in the safe
+/// range. `Err` says that memory was refused.
 pub fn are_resolvable<I: IntNumber>(
     alloc: Global,
     segments: &[Segment<I>],

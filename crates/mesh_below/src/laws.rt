@@ -5,7 +5,8 @@ ghost use Rattle.mesh_below.specs.Laws.{AnswersAreRegions, NothingHasNoShapes, A
 pub use mesh_regions::laws::{boundaries_are_balanced, boundaries_wind_once, sides_are_constant};
 pub use mesh_split::laws::legal_splits_keep_edges;
 
-/// The contours of an answer wind once round what is filled, outside the boxes of bent edges by the given edges' winding.
+/// The contours of an answer wind once round what is filled, outside the boxes of bent edges by the given edges'
+/// winding.
 pub fn answers_are_regions()
     ensures { AnswersAreRegions }
 {}

@@ -20,7 +20,8 @@ use mesh_shapes::walk::contours;
 use mesh_split::splitter::split_edges;
 use std::alloc::{AllocError, Global};
 
-/// What an answer depends on besides the edges: the least area, whether straight-through vertices stay, and the direction.
+/// What an answer depends on besides the edges: the least area, whether straight-through vertices stay, and the
+/// direction.
 #[derive(Debug, Copy, Clone)]
 pub struct Choices {
     /// Contours of less area, in squares of the grid, are left out.

@@ -1,6 +1,6 @@
 -- Lemmas over points and lists: what contours give to the last resolving closes up.
 use Rattle.std.proofs.Common.{◌≡◌, ℕ, ◌≤◌, ◌^◌, List, [], ◌∷◌, ◌++◌, map, refl}
-use Rattle.std.specs.List.{All, flat_map}
+use Rattle.std.specs.List.{All, AllZip, flat_map}
 use Rattle.std.specs.List.Sorted.{IsPermutation}
 use Rattle.std.proofs.lemmas.List.Elements.{All-nil, All-cons, All-head, All-tail}
 use Rattle.std.proofs.lemmas.List.Sorted.{IsPermutation-sym, All-permutation}
@@ -36,10 +36,16 @@ gives_balanced unit style contour _ (Gives.moved {way = way} {answer = answer} m
     along_balanced (fill_for (double_area contour)) (answer_edges answer) (contours_balanced (contours_of answer))
 gives_balanced unit style contour _ (Gives.ignored none) = λ p. refl
 
-give_balanced : (unit : ℕ) (style : OutlineStyle) (contours : List (List Point)) (edges : List Edge) → Give unit style contours edges → IsBalanced edges
-give_balanced unit style _ _ Give.no_contour = λ p. refl
-give_balanced unit style _ _ (Give.one_more {contours = contours} {contour = contour} {edges = edges} {more = more} before last) =
-    balanced_append edges more (give_balanced unit style contours edges before) (gives_balanced unit style contour more last)
+edges_balanced : (unit : ℕ) (style : OutlineStyle) (contours : List (List Point)) (edges : List (List Edge)) → AllZip (Gives unit style) contours edges →
+    IsBalanced (flat_map (λ (es : List Edge). es) edges)
+edges_balanced unit style [] [] each = λ p. refl
+edges_balanced unit style [] (es ∷ edges) each = absurd each
+edges_balanced unit style (contour ∷ contours) [] each = absurd each
+edges_balanced unit style (contour ∷ contours) (es ∷ edges) each =
+    balanced_append es (flat_map (λ (es : List Edge). es) edges) (gives_balanced unit style contour es each.0) (edges_balanced unit style contours edges each.1)
+
+give_balanced : (unit : ℕ) (style : OutlineStyle) (contours : List (List Point)) (given : List Edge) → Give unit style contours given → IsBalanced given
+give_balanced unit style contours given give = rw give.joined (edges_balanced unit style contours give.edges give.each)
 
 -- edges whose ends differ are proper
 proper_kept : (es : List Edge) → IsProper (proper_edges es)

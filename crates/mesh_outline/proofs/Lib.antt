@@ -3,6 +3,7 @@ pub mod Areas
 pub mod BuilderRoom
 pub mod BuilderTheorems
 pub mod BuilderWalk
+pub mod ContourKinds
 pub mod Corners
 pub mod Final
 pub mod OutlineCount

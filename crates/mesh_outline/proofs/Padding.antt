@@ -1,6 +1,6 @@
 -- Lemmas over points and lists: how far an outline reaches from its contour.
 use Rattle.std.proofs.Common.{◌≡◌, ◌≢◌, ℕ, ◌<◌, ◌≤◌, ◌^◌, Bool, true, false, cond, not, List, [], ◌∷◌, ◌++◌, map, refl, subst, arith}
-use Rattle.std.specs.Prelude.{ℤ, pos, ◌≤ℤ◌, unsigned_abs, int_lt, Option, Some, None, IfSome}
+use Rattle.std.specs.Prelude.{ℤ, pos, ◌≤ℤ◌, unsigned_abs, Option, Some, IfSome}
 use Rattle.std.specs.List.{All, Contains, flat_map}
 use Rattle.std.proofs.lemmas.Int.{ints, clamps}
 use Rattle.std.proofs.lemmas.List.Elements.{All-nil, All-cons, All-map, All-append, All-filter, All-weaker}
@@ -19,7 +19,10 @@ use Rattle.mesh_join.proofs.Joins.{join_keeps, padding_covers}
 use Rattle.mesh_join.specs.Joins.{between, offset_padding, outline_padding}
 use Rattle.mesh_join.specs.Joints.{IsWithinPadding}
 use Rattle.mesh_join.specs.Styles.{OffsetJoin, OutlineStyle, outer, inner}
-use Rattle.mesh_outline.specs.Building.{IsMovable, style_for}
+use Rattle.mesh_outline.specs.Building.{IsMovable}
+use Rattle.mesh_outline.specs.Kinds.{way_for}
+use Rattle.mesh_outline.specs.declared.outline.kind.ContourKind.{ContourKind}
+use Rattle.mesh_outline.specs.declared.outline.kind.ContourKind.TheVariants.{Outer, Hole, Ignored}
 use Rattle.mesh_outline.specs.Outline.{Section, Corner, top_edge, section_of, inner_edges, outer_edges, corner_edges, drawn_edges, parts, joint_at, joined, ring_outline, IsRing}
 use Rattle.mesh_draw.specs.Padding.{ArePathsSafe, IsNear}
 use Rattle.mesh_outline.proofs.Corners.{apart_long, corners, corners_keep}
@@ -38,14 +41,11 @@ outer_covered style = omega (arith, ints, clamps)
 pub inner_covered : (style : OutlineStyle) → offset_padding (inner style) ≤ℤ outline_padding style
 inner_covered style = omega (arith, ints, clamps)
 
--- what holds of both ways to move holds of the way of a contour
-pub way_of : (style : OutlineStyle) (area : ℤ) (P : OffsetJoin → Type 0) → P (outer style) → P (inner style) → IfSome (style_for style area) P
-way_of style area P of_outer of_inner = by (int_lt (pos 0) area) (int_lt area (pos 0))
-  where
-    by : (b c : Bool) → IfSome (cond b (Some (outer style)) (cond c (Some (inner style)) None)) P
-    by true c = of_outer
-    by false true = of_inner
-    by false false = tt
+-- what holds of both ways to move holds of that of each kind
+pub way_of : (style : OutlineStyle) (kind : ContourKind) (P : OffsetJoin → Type 0) → P (outer style) → P (inner style) → IfSome (way_for style kind) P
+way_of style Outer P of_outer of_inner = of_outer
+way_of style Hole P of_outer of_inner = of_inner
+way_of style Ignored P of_outer of_inner = tt
 
 pub outer_accepted : (unit : ℕ) (style : OutlineStyle) (paths : List (List Point)) → ArePathsSafe unit (outline_padding style) paths → ArePathsSafe unit (offset_padding (outer style)) paths
 outer_accepted unit style paths safe = paths_safe_less unit (outline_padding style) (offset_padding (outer style)) paths (padding_least (outer style)) (outer_covered style) safe
@@ -53,12 +53,12 @@ outer_accepted unit style paths safe = paths_safe_less unit (outline_padding sty
 pub inner_accepted : (unit : ℕ) (style : OutlineStyle) (paths : List (List Point)) → ArePathsSafe unit (outline_padding style) paths → ArePathsSafe unit (offset_padding (inner style)) paths
 inner_accepted unit style paths safe = paths_safe_less unit (outline_padding style) (offset_padding (inner style)) paths (padding_least (inner style)) (inner_covered style) safe
 
--- a path that is safe within the padding of an outline can be moved in the way of a contour
-pub path_movable : (unit : ℕ) (style : OutlineStyle) (area : ℤ) (way : OffsetJoin) (path : List Point) → style_for style area ≡ Some way →
+-- a path that is safe within the padding of an outline can be moved in the way of each kind
+pub path_movable : (unit : ℕ) (style : OutlineStyle) (kind : ContourKind) (way : OffsetJoin) (path : List Point) → way_for style kind ≡ Some way →
     All (IsSafeWidened unit (outline_padding style)) path → All (IsMovable unit way) path
-path_movable unit style area way path e safe =
+path_movable unit style kind way path e safe =
     subst (λ (o : Option OffsetJoin). IfSome o (λ (w : OffsetJoin). All (IsMovable unit w) path)) e
-    (way_of style area (λ (w : OffsetJoin). All (IsMovable unit w) path) (by (outer style) (outer_covered style)) (by (inner style) (inner_covered style)))
+    (way_of style kind (λ (w : OffsetJoin). All (IsMovable unit w) path) (by (outer style) (outer_covered style)) (by (inner style) (inner_covered style)))
   where
     by : (w : OffsetJoin) → offset_padding w ≤ℤ outline_padding style → All (IsMovable unit w) path
     by w covered =

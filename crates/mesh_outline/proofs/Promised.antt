@@ -7,12 +7,12 @@ use Rattle.std.proofs.lemmas.List.Elements.{All-nil, All-contains_itself}
 use Rattle.mesh_plane.specs.Plane.{Point, Edge}
 use Rattle.mesh_plane.specs.Winding.{boundary, winding, crossing_on, pieces_total, holds, IsBit}
 use Rattle.mesh_plane.proofs.Crossings.{crossing_on_odd}
-use Rattle.mesh_shapes.specs.Contours.{double_area}
 use Rattle.mesh_clean.proofs.CleaningEnds.{cleaned_sections-ends}
 use Rattle.mesh_clean.proofs.CleaningSteps.{cleaned-none, cleaned-clean, cleaned-winding}
 use Rattle.mesh_clean.specs.Cleaned.{cleaned_sections, IsClean}
 use Rattle.mesh_join.specs.Styles.{OffsetJoin, OutlineStyle, outer, inner}
 use Rattle.mesh_draw.specs.Drawing.{NeverTurnedRound}
+use Rattle.mesh_outline.specs.Kinds.{contour_kind}
 use Rattle.mesh_outline.specs.Outline.{parts, joined, section_of, drawn_pieces, outline_pieces, IsRing}
 use Rattle.mesh_draw.specs.Drawing.{sided}
 use Rattle.mesh_outline.specs.Resolved.{HasPromisedEdges, HavePromisedEdges}
@@ -67,4 +67,4 @@ has_promised_edges unit style points least =
 pub have_promised_edges : (unit : ℕ) (style : OutlineStyle) (contours : List (List Point)) → 2 ^ 14 ≤ unit → HavePromisedEdges unit style contours
 have_promised_edges unit style contours least k d h =
     let contour : List Point = get_or contours k d in
-    way_of style (double_area contour) (λ (way : OffsetJoin). HasPromisedEdges unit way contour) (has_promised_edges unit (outer style) contour least) (has_promised_edges unit (inner style) contour least)
+    way_of style (contour_kind contour) (λ (way : OffsetJoin). HasPromisedEdges unit way contour) (has_promised_edges unit (outer style) contour least) (has_promised_edges unit (inner style) contour least)

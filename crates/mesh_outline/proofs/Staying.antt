@@ -1,9 +1,9 @@
 -- Lemmas over points and lists: what is computed for an outline stays in the safe range.
 use Rattle.std.proofs.Common.{ℕ, ◌≤◌, ◌^◌, Bool, not, List, [], ◌∷◌}
 use Rattle.std.specs.Prelude.{ℤ}
-use Rattle.std.specs.List.{All}
+use Rattle.std.specs.List.{All, AllZip, flat_map}
 use Rattle.std.specs.List.Sorted.{IsPermutation}
-use Rattle.std.proofs.lemmas.List.Elements.{All-nil, All-head, All-append, All-filter, All-weaker}
+use Rattle.std.proofs.lemmas.List.Elements.{All-nil, All-head, All-tail, All-append, All-filter, All-weaker}
 use Rattle.std.proofs.lemmas.List.Sorted.{IsPermutation-sym, All-permutation}
 use Rattle.mesh_plane.specs.Plane.{Point, Edge}
 use Rattle.mesh_num.specs.Segments.{proper_edges}
@@ -11,12 +11,12 @@ use Rattle.mesh_plane.specs.Winding.{same_point}
 use Rattle.mesh_clean.specs.Cleaned.{cleaned_sections}
 use Rattle.mesh_cuts.specs.Reach.{AreEdgesSafe}
 use Rattle.mesh_below.proofs.AnswerPoints.{resolution_safe}
-use Rattle.mesh_plane.proofs.ClosedLists.{all_left, all_right}
 use Rattle.mesh_num.specs.Rectangle.{IsSafeWidened}
 use Rattle.mesh_shapes.specs.Contours.{double_area}
 use Rattle.mesh_join.specs.Joins.{outline_padding}
 use Rattle.mesh_join.specs.Styles.{OffsetJoin, OutlineStyle, outer, inner}
 use Rattle.mesh_outline.specs.Building.{IsMovable}
+use Rattle.mesh_outline.specs.Kinds.{contour_kind}
 use Rattle.mesh_outline.specs.Outline.{outline_edges}
 use Rattle.mesh_draw.specs.Padding.{ArePathsSafe}
 use Rattle.mesh_draw.specs.Adding.{answer_edges}
@@ -49,19 +49,25 @@ gives_safe : (unit : ℕ) (style : OutlineStyle) (contour : List Point) (edges :
     Gives unit style contour edges → AreEdgesSafe unit edges
 gives_safe unit style contour _ least safe (Gives.moved {way = way} {answer = answer} moves a) =
     along_safe unit (fill_for (double_area contour)) (answer_edges answer)
-    (answer_alone_safe unit way _ contour answer least (path_movable unit style (double_area contour) way contour moves safe) a)
+    (answer_alone_safe unit way _ contour answer least (path_movable unit style (contour_kind contour) way contour moves safe) a)
 gives_safe unit style contour _ least safe (Gives.ignored none) = All-nil (IsSafeEdge unit)
 
-give_safe : (unit : ℕ) (style : OutlineStyle) (contours : List (List Point)) (edges : List Edge) → 2 ^ 14 ≤ unit → ArePathsSafe unit (outline_padding style) contours →
-    Give unit style contours edges → AreEdgesSafe unit edges
-give_safe unit style _ _ least safe Give.no_contour = All-nil (IsSafeEdge unit)
-give_safe unit style _ _ least safe (Give.one_more {contours = contours} {contour = contour} {edges = edges} {more = more} before last) =
-    All-append (IsSafeEdge unit) edges more
-    (give_safe unit style contours edges least (all_left IsPathSafe contours (contour ∷ []) safe) before)
-    (gives_safe unit style contour more least (All-head IsPathSafe contour [] (all_right IsPathSafe contours (contour ∷ []) safe)) last)
+edges_safe : (unit : ℕ) (style : OutlineStyle) (contours : List (List Point)) (edges : List (List Edge)) → 2 ^ 14 ≤ unit → ArePathsSafe unit (outline_padding style) contours →
+    AllZip (Gives unit style) contours edges → AreEdgesSafe unit (flat_map (λ (es : List Edge). es) edges)
+edges_safe unit style [] [] least safe each = All-nil (IsSafeEdge unit)
+edges_safe unit style [] (es ∷ edges) least safe each = absurd each
+edges_safe unit style (contour ∷ contours) [] least safe each = absurd each
+edges_safe unit style (contour ∷ contours) (es ∷ edges) least safe each =
+    All-append (IsSafeEdge unit) es (flat_map (λ (es : List Edge). es) edges)
+    (gives_safe unit style contour es least (All-head IsPathSafe contour contours safe) each.0)
+    (edges_safe unit style contours edges least (All-tail IsPathSafe contour contours safe) each.1)
   where
     IsPathSafe : List Point → Type 0
     IsPathSafe c = All (IsSafeWidened unit (outline_padding style)) c
+
+give_safe : (unit : ℕ) (style : OutlineStyle) (contours : List (List Point)) (given : List Edge) → 2 ^ 14 ≤ unit → ArePathsSafe unit (outline_padding style) contours →
+    Give unit style contours given → AreEdgesSafe unit given
+give_safe unit style contours given least safe give = rw give.joined (edges_safe unit style contours give.edges least safe give.each)
 
 -- all edges, split segments and answers of an outline are safe where its contours stay safe
 pub stays_safe : (unit : ℕ) (style : OutlineStyle) (contours : List (List Point)) → 2 ^ 14 ≤ unit → ArePathsSafe unit (outline_padding style) contours → StaysSafe unit style contours

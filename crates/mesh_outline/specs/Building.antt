@@ -1,19 +1,36 @@
 -- What the outline's builder asks and adds.
-use Rattle.std.specs.Prelude.{ℕ, ◌≡◌, ◌≢◌, List, cond, ℤ, pos, int_lt, unsigned_abs, Option, Some, None}
-use Rattle.mesh_plane.specs.Plane.{Point}
+use Rattle.std.specs.Prelude.{ℕ, ◌≡◌, ◌≢◌, ◌+◌, ◌≤◌, List, length, vec_capacity, ℤ, pos, unsigned_abs, Option}
+use Rattle.std.specs.List.{All}
+use Rattle.std.specs.declared.alloc.Global.{Global}
+use Rattle.std.specs.declared.vec.Vec.{Vec}
+use Rattle.mesh_plane.specs.Plane.{Point, Edge}
 use Rattle.mesh_num.specs.Rectangle.{IsSafeWidened}
 use Rattle.mesh_join.specs.Joins.{offset_padding}
-use Rattle.mesh_join.specs.Styles.{OffsetJoin, OutlineStyle, outer, inner}
+use Rattle.mesh_join.specs.Styles.{JoinStyle, OffsetJoin, OutlineStyle}
 use Rattle.mesh_num.specs.Segments.{SignedEdge, segments_of, segment_between}
+use Rattle.mesh_draw.specs.Padding.{IsNear}
+use Rattle.mesh_outline.specs.Kinds.{kind_for, way_for}
 use Rattle.mesh_outline.specs.Outline.{Section, Corner, own_edge, section_of, corner_edges, parts, joined}
 
--- how a contour moves, by its double area: an outer boundary has an area above 0, a hole one below 0; a contour of area 0 does not move
+-- how a contour moves, by its double area: as its kind does
 abbrev pub style_for : OutlineStyle → ℤ → Option OffsetJoin
-style_for style area = cond (int_lt (pos 0) area) (Some (outer style)) (cond (int_lt area (pos 0)) (Some (inner style)) None)
+style_for style area = way_for style (kind_for area)
+
+-- an offset with the style of its joins
+abbrev pub offset_join : ℤ → JoinStyle → OffsetJoin
+offset_join offset join = record { offset = offset; join = join }
 
 -- a point that stays safe where it moves by at most the padding of the offset's joins
 abbrev pub IsMovable : ℕ → OffsetJoin → Point → Type 0
 IsMovable unit style p = IsSafeWidened unit (offset_padding style) p
+
+-- each end of the edges is away from one of the vertices by at most the padding in each coordinate
+abbrev pub AreEndsNear : ℤ → List Point → List Edge → Type 0
+AreEndsNear padding vertices edges = All (λ (e : Edge). IsNear padding vertices e.0 × IsNear padding vertices e.1) edges
+
+-- the vector has room for so many more items
+abbrev pub HasRoomFor : {X : Type 0} → Vec X Global → ℕ → Type 0
+HasRoomFor v count = length v.items + count ≤ vec_capacity v
 
 -- the section of an edge with different ends, both of which stay safe where they move by the offset's size
 pub record IsMoved (unit : ℕ) (offset : ℤ) (s : Section) : Type 0 where

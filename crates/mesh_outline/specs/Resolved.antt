@@ -1,6 +1,6 @@
 -- The outline of many contours: each is moved and resolved alone, and what comes of all of them is resolved together.
-use Rattle.std.specs.Prelude.{ℕ, ◌≡◌, List, [], ◌∷◌, ◌++◌, ℤ, pos, int_lt, Bool, cond, Some, None, IfSome}
-use Rattle.std.specs.List.{All}
+use Rattle.std.specs.Prelude.{ℕ, ◌≡◌, List, [], ℤ, Bool, Some, None, IfSome}
+use Rattle.std.specs.List.{All, AllZip, flat_map}
 use Rattle.std.specs.List.Sorted.{IsPermutation}
 use Rattle.mesh_plane.specs.Bounds.{IsWithin}
 use Rattle.mesh_plane.specs.Plane.{Point, Edge}
@@ -10,11 +10,12 @@ use Rattle.mesh_cuts.specs.FillRules.{filled}
 use Rattle.mesh_below.specs.Options.{plain}
 use Rattle.mesh_shapes.specs.Resolution.{Choices, IsResolution}
 use Rattle.mesh_cuts.specs.declared.fill.FillRule.{FillRule}
-use Rattle.mesh_cuts.specs.declared.fill.FillRule.TheVariants.{Positive, Negative}
+use Rattle.mesh_cuts.specs.declared.fill.FillRule.TheVariants.{Positive}
 use Rattle.mesh_join.specs.Joins.{offset_padding}
 use Rattle.mesh_join.specs.Styles.{OffsetJoin, OutlineStyle}
 use Rattle.mesh_draw.specs.Adding.{along}
 use Rattle.mesh_outline.specs.Building.{style_for}
+use Rattle.mesh_outline.specs.Kinds.{kind_for, sense_of}
 use Rattle.mesh_draw.specs.Drawing.{AreDrawn}
 use Rattle.mesh_outline.specs.Outline.{outline_edges, outline_pieces}
 use Rattle.mesh_draw.specs.Adding.{answer_edges}
@@ -29,9 +30,9 @@ pub record IsAnswerAlone (unit : ℕ) (style : OffsetJoin) (fill : ℤ → Bool)
   pub same : IsPermutation built (outline_edges unit style contour)
   pub resolution : IsResolution built fill plain answer
 
--- the sense in which a contour is filled, by its double area: a hole in the negative one
+-- the sense in which a contour is filled, by its double area: as its kind is
 abbrev pub fill_for : ℤ → FillRule
-fill_for area = cond (int_lt area (pos 0)) Negative Positive
+fill_for area = sense_of (kind_for area)
 
 -- the edges that a contour gives to the outline. An outer boundary moves by the outer offset, what is wound round in its
 -- sense is filled, and it gives the contours of its answer. A hole moves by the inner offset, what is wound round in its
@@ -42,11 +43,11 @@ pub data Gives (unit : ℕ) (style : OutlineStyle) (contour : List Point) : List
       → Gives unit style contour (along (fill_for (double_area contour)) (answer_edges answer))
   ignored : style_for style (double_area contour) ≡ None → Gives unit style contour []
 
--- the edges that contours give, one contour after another
-pub data Give (unit : ℕ) (style : OutlineStyle) : List (List Point) → List Edge → Type 0 where
-  no_contour : Give unit style [] []
-  one_more : {contours : List (List Point)} {contour : List Point} {edges more : List Edge} → Give unit style contours edges
-      → Gives unit style contour more → Give unit style (contours ++ contour ∷ []) (edges ++ more)
+-- the edges that contours give together: those that each of them gives, end to end
+pub record Give (unit : ℕ) (style : OutlineStyle) (contours : List (List Point)) (given : List Edge) : Type 0 where
+  pub edges : List (List Edge)
+  pub each : AllZip (Gives unit style) contours edges
+  pub joined : given ≡ flat_map (λ (es : List Edge). es) edges
 
 -- the answer is the outline of contours in this style: the edges that the contours give are resolved together, with the
 -- choices of the caller

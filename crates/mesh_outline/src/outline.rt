@@ -4,6 +4,7 @@ pub mod area;
 mod bounds;
 pub mod builder;
 mod builder_join;
+pub mod kind;
 pub mod offset;
 mod resolve;
 mod section;

@@ -13,7 +13,8 @@ use Rattle.mesh_num.specs.Paths.{paths_of}
 use Rattle.mesh_plane.specs.Plane.{Point, Edge}
 use Rattle.mesh_shapes.specs.Contours.{double_area}
 use Rattle.mesh_shapes.specs.Resolution.{Choices}
-use Rattle.mesh_outline.specs.Building.{style_for}
+use Rattle.mesh_outline.specs.Kinds.{contour_kind, way_for}
+use Rattle.mesh_outline.specs.declared.outline.kind.ContourKind.{ContourKind}
 use Rattle.mesh_outline.specs.Outline.{outline_edges}
 use Rattle.mesh_join.specs.Styles.{OffsetJoin, OutlineStyle}
 use Rattle.mesh_outline.specs.Resolved.{DoAreasFit, IsOutline}
@@ -88,6 +89,15 @@ err_told {B} {E} (Err t) test told error same here e =
     let k : error ≡ told = subst (λ (r : Result B E). IfErr r (λ x. x ≡ told)) e here in
     ap Err (same ∙ sym k)
 
+-- an error that is handed on is the refusal that it was
+pub refusal_handed : {A B : Type 0} (r : Result A IntOutlineError) (test : Result B IntOutlineError) (told : IntOutlineError) (P : Type 0) → IsErrAnd r (λ e. e ≡ told) → test ≡ Err told →
+    (test ≡ Err CoordinateOutOfRange → P) × (P → test ≡ Err CoordinateOutOfRange) → (r ≡ Err CoordinateOutOfRange → P) × (P → r ≡ Err CoordinateOutOfRange)
+refusal_handed (Ok x) test told P same here both = absurd same
+refusal_handed {A} {B} (Err t) test told P same here both = (
+  λ e. both.0 (let k : t ≡ CoordinateOutOfRange = cc in here ∙ ap Err (sym same ∙ k)),
+  λ p. let k : test ≡ Err CoordinateOutOfRange = both.1 p in let m : told ≡ CoordinateOutOfRange = cc in ap Err (same ∙ m),
+)
+
 -- what is accepted, and not refused, meets both ways of the refusal
 pub not_refused : {A : Type 0} (r : Result A IntOutlineError) (P : Type 0) → P → (r ≡ Err CoordinateOutOfRange → ⊥) →
     (r ≡ Err CoordinateOutOfRange → P → ⊥) × ((P → ⊥) → r ≡ Err CoordinateOutOfRange)
@@ -104,19 +114,19 @@ memory_other {A} (Err t) same e =
 pub answer_other : {A : Type 0} (x : A) → (Ok x) ≡ Err CoordinateOutOfRange → ⊥
 answer_other x e = true≢false (ap is_ok e)
 
--- ---- the edges by the double area
+-- ---- the edges by the kind
 
 -- of a path that moves they are its outline
-pub served_moved : (unit : ℕ) (style : OutlineStyle) (area : ℤ) (way : OffsetJoin) (points : List Point) → area ≡ double_area points → style_for style area ≡ Some way →
+pub served_moved : (unit : ℕ) (style : OutlineStyle) (kind : ContourKind) (way : OffsetJoin) (points : List Point) → kind ≡ contour_kind points → way_for style kind ≡ Some way →
     outline_edges unit way points ≡ served_edges unit style points
-served_moved unit style area way points e moves =
-    sym (ap (λ (o : Option OffsetJoin). moved_edges unit o points) (sym (ap (style_for style) e) ∙ moves))
+served_moved unit style kind way points e moves =
+    sym (ap (λ (o : Option OffsetJoin). moved_edges unit o points) (sym (ap (way_for style) e) ∙ moves))
 
 -- of one that does not move there are none
-pub served_none : (unit : ℕ) (style : OutlineStyle) (area : ℤ) (points : List Point) → area ≡ double_area points → style_for style area ≡ None →
+pub served_none : (unit : ℕ) (style : OutlineStyle) (kind : ContourKind) (points : List Point) → kind ≡ contour_kind points → way_for style kind ≡ None →
     [] ≡ served_edges unit style points
-served_none unit style area points e stays =
-    sym (ap (λ (o : Option OffsetJoin). moved_edges unit o points) (sym (ap (style_for style) e) ∙ stays))
+served_none unit style kind points e stays =
+    sym (ap (λ (o : Option OffsetJoin). moved_edges unit o points) (sym (ap (way_for style) e) ∙ stays))
 
 -- ---- requests and answers
 

@@ -74,7 +74,8 @@ impl From<serde_json::Error> for Failure {
     ghost use Rattle.mesh_service.specs.declared.failure.Failure.TheVariants.{Refused, Unreadable};
     ghost use Rattle.mesh_draw.specs.declared.error.IntOutlineError.TheVariants.{OutOfMemory};
 
-    ghost from_gives = { λ error failure. (IsMemory error → failure ≡ Refused OutOfMemory) × (¬ IsMemory error → failure ≡ Unreadable) };
+    ghost from_gives = { λ error failure. (IsMemory error → failure ≡ Refused OutOfMemory)
+        × (¬ IsMemory error → failure ≡ Unreadable) };
 
     fn from(error: serde_json::Error) -> Failure {
         if error.is_memory() {

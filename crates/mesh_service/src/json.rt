@@ -17,7 +17,9 @@ use std::alloc::Global;
 
 /// The value that the bytes are. A number that is no whole number of 64 bits, wherever it stands, makes it unreadable.
 pub fn parse(alloc: Global, bytes: &[u8]) -> Result<Value, Failure>
-    ensures ok { IfOk result (λ v. IsUtf8 bytes.now × (read bytes.now ≡ Some (view v)) × (holds_float (view v) ≡ false)) }
+    ensures ok { IfOk result (λ v. IsUtf8 bytes.now
+        × (read bytes.now ≡ Some (view v))
+        × (holds_float (view v) ≡ false)) }
     ensures unreadable { result ≡ Err Failure.Unreadable → IsUtf8 bytes.now
         → MatchOption (read bytes.now) (Unit {0}) (λ d. holds_float d ≡ true) }
     ensures err { IfErr result IsOfReading }
@@ -29,7 +31,8 @@ pub fn parse(alloc: Global, bytes: &[u8]) -> Result<Value, Failure>
     Ok(value)
 }
 
-/// Whether a number in the value is a float, as `serde_json` makes of one with a fraction, an exponent or too many digits.
+/// Whether a number in the value is a float, as `serde_json` makes of one with a fraction, an exponent or too many
+/// digits.
 #[cycle(has_float)]
 fn has_float(value: &Value) -> bool
     ensures { result ≡ holds_float (view value.now) }

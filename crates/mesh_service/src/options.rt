@@ -12,7 +12,8 @@ use serde_json::Value;
 
 /// The options that a value gives, the default ones where there is none.
 pub fn read_options<I: IntNumber>(value: Option<&Value>) -> Option<IntOverlayOptions<I::WideUInt>>
-    ensures { option_map (λ o. choices_of I.WideUInt.value o) result ≡ choices_given I.unit (option_map (λ v. view v.now) value.entry) }
+    ensures { option_map (λ o. choices_of I.WideUInt.value o) result
+        ≡ choices_given I.unit (option_map (λ v. view v.now) value.entry) }
 {
     match value {
         Some(options) => {

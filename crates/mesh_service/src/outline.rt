@@ -1,6 +1,6 @@
 //! Requests for outlines, and what the library answers to them.
 
-ghost use Rattle.std.specs.Prelude.{◌≡◌, ◌↔◌, OnOk, IfOk, IsTrue};
+ghost use Rattle.std.specs.Prelude.{◌≡◌, ◌↔◌, map, OnOk, IfOk};
 ghost use Rattle.std.specs.List.{All};
 ghost use Rattle.std.specs.List.Sorted.{IsPermutation};
 ghost use Rattle.mesh_num.specs.Paths.{paths_of, shapes_of};
@@ -10,14 +10,15 @@ ghost use Rattle.mesh_below.specs.Options.{choices_of};
 ghost use Rattle.mesh_join.specs.Joins.{outline_padding};
 ghost use Rattle.mesh_join.specs.Styles.{style_of};
 ghost use Rattle.mesh_draw.specs.Padding.{ArePathsSafe};
-ghost use Rattle.mesh_outline.specs.Resolved.{DoAreasFit, IsOutline};
+ghost use Rattle.mesh_outline.specs.Kinds.{contour_kind};
+ghost use Rattle.mesh_outline.specs.Resolved.{IsOutline};
 ghost use Rattle.mesh_service.specs.Lines.{by_values};
 ghost use Rattle.mesh_service.specs.Served.{AreListed, IsAccepted, served_edges};
 
 use crate::edge::{DirectedEdge, sorted_edges};
 use i_overlay_mesh::IntOutlineError;
-use i_overlay_mesh::outline::area::{double_area, fits_wide};
 use i_overlay_mesh::outline::builder::OutlineBuilder;
+use i_overlay_mesh::outline::kind::{ContourKind, contour_kinds};
 use i_overlay_mesh::outline::offset::IntOutlineOffset;
 use mesh_below::below::IntOverlayOptions;
 use mesh_join::style::IntOutlineStyle;
@@ -54,21 +55,25 @@ impl<I: OverlayInt> Model for OutlineRequest<I> {
 
     ghost Value = { Request };
 
-    ghost view = { λ r. record { unit = I.unit; paths = paths_of r.paths.items; style = style_of I.value r.style; asked = asked_of I.WideUInt.value r.output } };
+    ghost view = { λ r. record {
+      unit = I.unit;
+      paths = paths_of r.paths.items;
+      style = style_of I.value r.style;
+      asked = asked_of I.WideUInt.value r.output;
+    } };
 }
 
 impl<I: OverlayInt> OutlineRequest<I> {
     /// The edges of each path's outline, in their order. Nothing is built unless all paths are accepted.
     pub fn edges(&self, alloc: Global) -> Result<Vec<Vec<DirectedEdge<I>>>, IntOutlineError>
-        ensures edges { IfOk result (λ lists. AreListed (by_values I.cmp I.of_value) self.now.unit self.now.style self.now.paths (paths_of lists.items)) }
+        ensures edges { IfOk result (λ lists. AreListed (by_values I.cmp I.of_value) self.now.unit self.now.style
+            self.now.paths (paths_of lists.items)) }
         ensures accepted { OnOk result (IsAccepted self.now) }
         ensures refused { result ≡ Err IntOutlineError.CoordinateOutOfRange ↔ ¬ IsAccepted self.now }
     {
         self.paths.validate_outline(&self.style)?;
-        if !do_areas_fit(&self.paths) {
-            return Err(IntOutlineError::CoordinateOutOfRange);
-        }
-        Ok(edge_lists(alloc, &self.paths, &self.style)?)
+        let kinds = contour_kinds(&self.paths, alloc)?;
+        Ok(edge_lists(alloc, &self.paths, &kinds, &self.style)?)
     }
 
     /// The shapes of the paths' outline.
@@ -77,7 +82,8 @@ impl<I: OverlayInt> OutlineRequest<I> {
         alloc: Global,
         options: IntOverlayOptions<I::WideUInt>,
     ) -> Result<IntShapes<I>, IntOutlineError>
-        ensures shapes { IfOk result (λ shapes. IsOutline self.now.unit self.now.style (choices_of I.WideUInt.value options) self.now.paths (shapes_of shapes.items)) }
+        ensures shapes { IfOk result (λ shapes. IsOutline self.now.unit self.now.style
+            (choices_of I.WideUInt.value options) self.now.paths (shapes_of shapes.items)) }
         ensures accepted { OnOk result (IsAccepted self.now) }
         ensures refused { result ≡ Err IntOutlineError.CoordinateOutOfRange ↔ ¬ IsAccepted self.now }
     {
@@ -86,47 +92,40 @@ impl<I: OverlayInt> OutlineRequest<I> {
     }
 }
 
-/// Whether the double area of each path fits the wide type.
-fn do_areas_fit<I: OverlayInt>(paths: &[Vec<IntPoint<I>>]) -> bool
-    ensures { IsTrue result ↔ DoAreasFit I.Wide.half (paths_of paths.now) }
-{
-    for path in paths {
-        if !fits_wide::<I>(double_area(path)) {
-            return false;
-        }
-    }
-    true
-}
-
-/// The edges of each path's outline, in their order.
+/// The edges of the outline of each path, which is of the kind that stands at its place, in their order.
 fn edge_lists<I: OverlayInt>(
     alloc: Global,
     paths: &[Vec<IntPoint<I>>],
+    kinds: &[ContourKind],
     style: &IntOutlineStyle<I>,
 ) -> Result<Vec<Vec<DirectedEdge<I>>>, AllocError>
-    requires { ArePathsSafe I.unit (outline_padding (style_of I.value style.now)) (paths_of paths.now) }
-    ensures { IfOk result (λ lists. AreListed (by_values I.cmp I.of_value) I.unit (style_of I.value style.now) (paths_of paths.now) (paths_of lists.items)) }
+    requires safe { ArePathsSafe I.unit (outline_padding (style_of I.value style.now)) (paths_of paths.now) }
+    requires kinds { kinds.now ≡ map contour_kind (paths_of paths.now) }
+    ensures { IfOk result (λ lists. AreListed (by_values I.cmp I.of_value) I.unit (style_of I.value style.now)
+        (paths_of paths.now) (paths_of lists.items)) }
 {
     let mut lists = Vec::with_capacity(alloc, paths.len())?;
-    for path in paths {
-        let segments = path_segments(alloc, path, style)?;
+    for (index, path) in paths.iter().enumerate() {
+        let segments = path_segments(alloc, path, kinds[index], style)?;
         lists.push(sorted_edges(alloc, &segments)?)?;
     }
     Ok(lists)
 }
 
-/// The segments of a path's outline, none where its area is 0.
+/// The segments of the outline of a path of this kind, none where it is ignored.
 fn path_segments<I: OverlayInt>(
     alloc: Global,
     path: &[IntPoint<I>],
+    kind: ContourKind,
     style: &IntOutlineStyle<I>,
 ) -> Result<Vec<Segment<I>>, AllocError>
-    requires { All (IsSafeWidened I.unit (outline_padding (style_of I.value style.now))) path.now }
-    ensures { IfOk result (λ ss. IsPermutation (edges_of ss.items) (served_edges I.unit (style_of I.value style.now) path.now)) }
+    requires safe { All (IsSafeWidened I.unit (outline_padding (style_of I.value style.now))) path.now }
+    requires kind { kind ≡ contour_kind path.now }
+    ensures { IfOk result (λ ss. IsPermutation (edges_of ss.items)
+        (served_edges I.unit (style_of I.value style.now) path.now)) }
 {
     let mut segments = Vec::new(alloc);
-    let area = double_area(path);
-    let Some(mut builder) = OutlineBuilder::for_area(alloc, style, area) else {
+    let Some(mut builder) = OutlineBuilder::for_kind(alloc, style, kind) else {
         return Ok(segments);
     };
     builder.build(path, &mut segments)?;

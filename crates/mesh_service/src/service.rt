@@ -52,11 +52,16 @@ impl Status {
 
 /// Reads a request to the reader's end and writes its answer, one line, or the line of a failure.
 pub fn serve<R: Read, W: Write>(alloc: Global, reader: &mut R, writer: &mut W) -> Status
-    ensures answered { result ≡ Status.Answered → IfSome (R.remaining reader.old) (λ request. (line : List _) × IsAnswer request line
+    ensures answered { result ≡ Status.Answered → IfSome (R.remaining reader.old) (λ request. (line : List _)
+        × IsAnswer request line
         × Appends (W.contents writer.old) (W.contents writer.new) line) }
-    ensures unreadable { result ≡ Status.Unreadable → Appends (W.contents writer.old) (W.contents writer.new) (failure_line Failure.Unreadable) }
-    ensures refused { result ≡ Status.Refused → MetRefusal (R.remaining reader.old) (W.contents writer.old) (W.contents writer.new) }
-    ensures written { (line : List _) × IsReply (R.remaining reader.old) line × AppendsBeginning (W.contents writer.old) (W.contents writer.new) line }
+    ensures unreadable { result ≡ Status.Unreadable
+        → Appends (W.contents writer.old) (W.contents writer.new) (failure_line Failure.Unreadable) }
+    ensures refused { result ≡ Status.Refused
+        → MetRefusal (R.remaining reader.old) (W.contents writer.old) (W.contents writer.new) }
+    ensures written { (line : List _)
+        × IsReply (R.remaining reader.old) line
+        × AppendsBeginning (W.contents writer.old) (W.contents writer.new) line }
 {
     let answer = read_and_answer(alloc, reader);
     match print(writer, &answer) {
@@ -79,7 +84,8 @@ fn status_of(answer: &Result<String, Failure>) -> Status
 }
 
 fn read_and_answer<R: Read>(alloc: Global, reader: &mut R) -> Result<String, Failure>
-    ensures answered { IfOk result (λ line. IfSome (R.remaining reader.old) (λ request. IsAnswer request (string_bytes line))) }
+    ensures answered { IfOk result (λ line. IfSome (R.remaining reader.old)
+        (λ request. IsAnswer request (string_bytes line))) }
     ensures refused { result ≡ Err (Failure.Refused IntOutlineError.CoordinateOutOfRange)
         → (request : List _) × IfSome (R.remaining reader.old) (λ bytes. request ≡ bytes) × IsRefused request }
     ensures reply { IsReply (R.remaining reader.old) (told_line result) }
@@ -102,7 +108,8 @@ pub fn respond(alloc: Global, request: &[u8]) -> Result<String, Failure>
 /// The line that answers the request that a value is.
 fn answer(alloc: Global, value: &Value) -> Result<String, Failure>
     ensures answered { IfOk result (λ line. AnswersAsked int_cmp (request_of (view value.now)) (string_bytes line)) }
-    ensures refused { result ≡ Err (Failure.Refused IntOutlineError.CoordinateOutOfRange) → MayNotBeAnswered (request_of (view value.now)) }
+    ensures refused { result ≡ Err (Failure.Refused IntOutlineError.CoordinateOutOfRange)
+        → MayNotBeAnswered (request_of (view value.now)) }
     ensures unreadable { result ≡ Err Failure.Unreadable → request_of (view value.now) ≡ None }
 {
     if !says(value, "op", "outline") {
@@ -119,8 +126,10 @@ fn answer(alloc: Global, value: &Value) -> Result<String, Failure>
 
 /// The line that answers a request for an outline with coordinates of one type.
 fn answer_outline<I: OverlayInt>(alloc: Global, value: &Value) -> Result<String, Failure>
-    ensures answered { IfOk result (λ line. AnswersAsked (by_values I.cmp I.of_value) (outline_of I.unit (view value.now)) (string_bytes line)) }
-    ensures refused { result ≡ Err (Failure.Refused IntOutlineError.CoordinateOutOfRange) → MayNotBeAnswered (outline_of I.unit (view value.now)) }
+    ensures answered { IfOk result (λ line. AnswersAsked (by_values I.cmp I.of_value)
+        (outline_of I.unit (view value.now)) (string_bytes line)) }
+    ensures refused { result ≡ Err (Failure.Refused IntOutlineError.CoordinateOutOfRange)
+        → MayNotBeAnswered (outline_of I.unit (view value.now)) }
     ensures unreadable { result ≡ Err Failure.Unreadable → outline_of I.unit (view value.now) ≡ None }
 {
     let request = read_outline::<I>(alloc, value)?;

@@ -1,30 +1,12 @@
 //! Areas of contours.
 
-ghost use Rattle.std.specs.Prelude.{◌≡◌, ◌↔◌, pos, ◌^◌, ◌≤◌, IsTrue, IsOk, OnErr, unsigned_abs};
+ghost use Rattle.std.specs.Prelude.{◌≡◌, ◌↔◌, pos, ◌^◌, ◌≤◌, IsTrue, unsigned_abs};
 ghost use Rattle.mesh_plane.specs.Bounds.{IsWithin};
 ghost use Rattle.mesh_plane.specs.Plane.{cross};
 ghost use Rattle.mesh_shapes.specs.Contours.{double_area as double_area_of};
-ghost use Rattle.mesh_outline.specs.Resolved.{DoAreasFit};
 
-use mesh_draw::error::IntOutlineError;
 use mesh_num::num::convert::widen;
 use mesh_num::num::{IntNumber, IntPoint};
-use mesh_num::shape::resource::IntShapeResource;
-
-/// `Ok` where the double area of each path of the source fits the wide type, else `CoordinateOutOfRange`. Takes no memory.
-pub(crate) fn check_areas<I: IntNumber, S: IntShapeResource<I>>(
-    source: &S,
-) -> Result<(), IntOutlineError>
-    ensures fit { IsOk result ↔ DoAreasFit I.Wide.half (S.paths source.now) }
-    ensures error { OnErr result (result ≡ Err IntOutlineError.CoordinateOutOfRange) }
-{
-    for index in 0..source.path_count() {
-        if !fits_wide::<I>(double_area(source.path_at(index))) {
-            return Err(IntOutlineError::CoordinateOutOfRange);
-        }
-    }
-    Ok(())
-}
 
 /// Twice the signed area of the closed contour through these points, in squares of the grid: above 0 where it runs
 /// counterclockwise, 0 for less than three points. No sum wraps.

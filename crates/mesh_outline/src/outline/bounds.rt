@@ -19,7 +19,8 @@ pub(crate) fn validate_outline_bounds<I: IntNumber, S: IntShapeResource<I>>(
     source: &S,
     style: &IntOutlineStyle<I>,
 ) -> Result<(), IntOutlineError>
-    ensures safe { IsOk result ↔ ArePathsSafe I.unit (outline_padding (style_of I.value style.now)) (S.paths source.now) }
+    ensures safe { IsOk result
+        ↔ ArePathsSafe I.unit (outline_padding (style_of I.value style.now)) (S.paths source.now) }
     ensures error { OnErr result (result ≡ Err IntOutlineError.CoordinateOutOfRange) }
 {
     validate_bounds(source, outline_padding(style))

@@ -5,7 +5,7 @@ ghost use Rattle.mesh_num.specs.Segments.{segments_of};
 ghost use Rattle.mesh_join.specs.Joins.{join_edges};
 ghost use Rattle.mesh_join.specs.Styles.{JoinStyle};
 ghost use Rattle.mesh_outline.specs.Outline.{joint_at, parts, sense_for};
-ghost use Rattle.mesh_outline.specs.Building.{IsCorner, IsMoved};
+ghost use Rattle.mesh_outline.specs.Building.{offset_join, IsCorner, IsMoved};
 
 use crate::outline::section::OffsetSection;
 use mesh_join::arc::ArcDirection;
@@ -27,11 +27,15 @@ pub(crate) trait JoinBuilder<I: IntNumber> {
         next: &OffsetSection<I>,
         segments: &mut Vec<Segment<I>>,
     ) -> Result<(), AllocError>
-        requires corner { IsCorner I.unit (record { offset = I.value offset; join = style self.old }) (previous.now, next.now) }
+        requires corner { IsCorner I.unit (offset_join (I.value offset) (style self.old)) (previous.now, next.now) }
         requires outer { IsTrue (parts (I.value offset) (previous.now, next.now)) }
-        ensures ok { OnOk result (segments.new.items ≡ segments.old.items ++ segments_of (join_edges I.unit (style self.old) (joint_at (I.value offset) (previous.now, next.now)))) }
+        ensures ok { OnOk result (segments.new.items ≡ segments.old.items
+            ++ segments_of (join_edges I.unit (style self.old) (joint_at (I.value offset) (previous.now, next.now)))) }
         ensures err { OnErr result (segments.new.items ≡ segments.old.items) }
-        ensures room { length segments.old.items + length (segments_of (join_edges I.unit (style self.old) (joint_at (I.value offset) (previous.now, next.now)))) ≤ vec_capacity segments.old → IsOk result }
+        ensures room { length segments.old.items
+            + length (segments_of (join_edges I.unit (style self.old)
+            (joint_at (I.value offset) (previous.now, next.now))))
+            ≤ vec_capacity segments.old → IsOk result }
         ensures capacity { vec_capacity segments.old ≤ vec_capacity segments.new }
         ensures same { self.new ≡ self.old };
 }

@@ -25,12 +25,14 @@ use std::alloc::Global;
 
 /// Offset calls on each source of contours.
 pub trait IntOutlineOffset<I: OverlayInt>: IntShapeResource<I> {
-    /// Whether the source may be outlined in this style: `Ok` exactly where there is no point, or the bounds of all points,
-    /// moved outwards by the style's padding on each side, are in the safe range, for every value of the type.
-    /// The only error is `CoordinateOutOfRange`. It takes no memory.
+    /// Whether the source may be outlined in this style: `Ok` exactly where there is no point, or the bounds of all
+    /// points, moved outwards by the style's padding on each side, are in the safe range, for every value of the
+    /// type. The only error is `CoordinateOutOfRange`. It takes no memory.
     fn validate_outline(&self, style: &IntOutlineStyle<I>) -> Result<(), IntOutlineError>
-        ensures safe { IsOk result ↔ ArePathsSafe I.unit (outline_padding (style_of I.value style.now)) (Self.paths self.now) }
-        ensures bounds { (bounds : Edge) → IsBounds bounds (all_points (Self.paths self.now)) → IsOk result ↔ IsSafeRectangle I.unit (widened (outline_padding (style_of I.value style.now)) bounds) }
+        ensures safe { IsOk result
+            ↔ ArePathsSafe I.unit (outline_padding (style_of I.value style.now)) (Self.paths self.now) }
+        ensures bounds { (bounds : Edge) → IsBounds bounds (all_points (Self.paths self.now))
+            → IsOk result ↔ IsSafeRectangle I.unit (widened (outline_padding (style_of I.value style.now)) bounds) }
         ensures no_point { all_points (Self.paths self.now) ≡ [] → IsOk result }
         ensures error { OnErr result (result ≡ Err IntOutlineError.CoordinateOutOfRange) };
 
@@ -41,9 +43,11 @@ pub trait IntOutlineOffset<I: OverlayInt>: IntShapeResource<I> {
         style: &IntOutlineStyle<I>,
     ) -> Result<IntShapes<I>, IntOutlineError>
         requires { ArePathsSafe I.unit (outline_padding (style_of I.value style.now)) (Self.paths self.now) }
-        ensures outline { IfOk result (λ shapes. IsOutline I.unit (style_of I.value style.now) plain (Self.paths self.now) (shapes_of shapes.items)) }
+        ensures outline { IfOk result (λ shapes. IsOutline I.unit (style_of I.value style.now) plain
+            (Self.paths self.now) (shapes_of shapes.items)) }
         ensures safe { IfOk result (λ shapes. ArePointsSafe I.unit (shapes_of shapes.items)) }
-        ensures refused { result ≡ Err IntOutlineError.CoordinateOutOfRange ↔ ¬ DoAreasFit I.Wide.half (Self.paths self.now) }
+        ensures refused { result ≡ Err IntOutlineError.CoordinateOutOfRange
+            ↔ ¬ DoAreasFit I.Wide.half (Self.paths self.now) }
         ensures built { HavePromisedEdges I.unit (style_of I.value style.now) (Self.paths self.now) }
         ensures stays_safe { StaysSafe I.unit (style_of I.value style.now) (Self.paths self.now) }
     {
@@ -58,9 +62,11 @@ pub trait IntOutlineOffset<I: OverlayInt>: IntShapeResource<I> {
         buffer: &mut FlatContoursBuffer<I>,
     ) -> Result<(), IntOutlineError>
         requires { ArePathsSafe I.unit (outline_padding (style_of I.value style.now)) (Self.paths self.now) }
-        ensures outline { OnOk result ((answer : List (List (List Point))) × IsOutline I.unit (style_of I.value style.now) plain (Self.paths self.now) answer
+        ensures outline { OnOk result ((answer : List (List (List Point)))
+            × IsOutline I.unit (style_of I.value style.now) plain (Self.paths self.now) answer
             × ArePointsSafe I.unit answer × HoldsContours buffer.new (contours_of answer)) }
-        ensures refused { result ≡ Err IntOutlineError.CoordinateOutOfRange ↔ ¬ DoAreasFit I.Wide.half (Self.paths self.now) }
+        ensures refused { result ≡ Err IntOutlineError.CoordinateOutOfRange
+            ↔ ¬ DoAreasFit I.Wide.half (Self.paths self.now) }
         ensures err { OnErr result (buffer.new ≡ buffer.old) }
         ensures built { HavePromisedEdges I.unit (style_of I.value style.now) (Self.paths self.now) }
         ensures stays_safe { StaysSafe I.unit (style_of I.value style.now) (Self.paths self.now) }
@@ -68,12 +74,12 @@ pub trait IntOutlineOffset<I: OverlayInt>: IntShapeResource<I> {
         self.outline_custom_into(alloc, style, IntOverlayOptions::new(), buffer)
     }
 
-    /// The outline of the source's contours, as shapes. Each point has to stay in the safe range where it moves by the style's
-    /// padding, which `validate_outline` tests. A contour of positive area moves by the outer offset, one of negative area by
-    /// the inner one, one of area 0 is ignored. Each is resolved alone with the default options; what comes of outer
-    /// boundaries, and of holes the other way about, is resolved together with these options.
-    /// `CoordinateOutOfRange` is answered exactly where a double area does not fit the wide type, and then nothing was built;
-    /// `OutOfMemory` where a growth was refused.
+    /// The outline of the source's contours, as shapes. Each point has to stay in the safe range where it moves by
+    /// the style's padding, which `validate_outline` tests. A contour of positive area moves by the outer offset, one
+    /// of negative area by the inner one, one of area 0 is ignored. Each is resolved alone with the default options;
+    /// what comes of outer boundaries, and of holes the other way about, is resolved together with these options.
+    /// `CoordinateOutOfRange` is answered exactly where a double area does not fit the wide type, and then nothing
+    /// was built; `OutOfMemory` where a growth was refused.
     final fn outline_custom(
         &self,
         alloc: Global,
@@ -81,9 +87,11 @@ pub trait IntOutlineOffset<I: OverlayInt>: IntShapeResource<I> {
         options: IntOverlayOptions<I::WideUInt>,
     ) -> Result<IntShapes<I>, IntOutlineError>
         requires { ArePathsSafe I.unit (outline_padding (style_of I.value style.now)) (Self.paths self.now) }
-        ensures outline { IfOk result (λ shapes. IsOutline I.unit (style_of I.value style.now) (choices_of I.WideUInt.value options) (Self.paths self.now) (shapes_of shapes.items)) }
+        ensures outline { IfOk result (λ shapes. IsOutline I.unit (style_of I.value style.now)
+            (choices_of I.WideUInt.value options) (Self.paths self.now) (shapes_of shapes.items)) }
         ensures safe { IfOk result (λ shapes. ArePointsSafe I.unit (shapes_of shapes.items)) }
-        ensures refused { result ≡ Err IntOutlineError.CoordinateOutOfRange ↔ ¬ DoAreasFit I.Wide.half (Self.paths self.now) }
+        ensures refused { result ≡ Err IntOutlineError.CoordinateOutOfRange
+            ↔ ¬ DoAreasFit I.Wide.half (Self.paths self.now) }
         ensures built { HavePromisedEdges I.unit (style_of I.value style.now) (Self.paths self.now) }
         ensures stays_safe { StaysSafe I.unit (style_of I.value style.now) (Self.paths self.now) }
     {
@@ -91,8 +99,8 @@ pub trait IntOutlineOffset<I: OverlayInt>: IntShapeResource<I> {
         Ok(given.overlay(OverlayRule::Subject, FillRule::Positive)?)
     }
 
-    /// `outline_custom`, into a buffer: the contours of its shapes in their order, end to end, in place of the buffer's own,
-    /// where there are none too. After an error the buffer is unchanged.
+    /// `outline_custom`, into a buffer: the contours of its shapes in their order, end to end, in place of the
+    /// buffer's own, where there are none too. After an error the buffer is unchanged.
     final fn outline_custom_into(
         &self,
         alloc: Global,
@@ -101,9 +109,12 @@ pub trait IntOutlineOffset<I: OverlayInt>: IntShapeResource<I> {
         buffer: &mut FlatContoursBuffer<I>,
     ) -> Result<(), IntOutlineError>
         requires { ArePathsSafe I.unit (outline_padding (style_of I.value style.now)) (Self.paths self.now) }
-        ensures outline { OnOk result ((answer : List (List (List Point))) × IsOutline I.unit (style_of I.value style.now) (choices_of I.WideUInt.value options) (Self.paths self.now) answer
+        ensures outline { OnOk result ((answer : List (List (List Point)))
+            × IsOutline I.unit (style_of I.value style.now) (choices_of I.WideUInt.value options)
+            (Self.paths self.now) answer
             × ArePointsSafe I.unit answer × HoldsContours buffer.new (contours_of answer)) }
-        ensures refused { result ≡ Err IntOutlineError.CoordinateOutOfRange ↔ ¬ DoAreasFit I.Wide.half (Self.paths self.now) }
+        ensures refused { result ≡ Err IntOutlineError.CoordinateOutOfRange
+            ↔ ¬ DoAreasFit I.Wide.half (Self.paths self.now) }
         ensures err { OnErr result (buffer.new ≡ buffer.old) }
         ensures built { HavePromisedEdges I.unit (style_of I.value style.now) (Self.paths self.now) }
         ensures stays_safe { StaysSafe I.unit (style_of I.value style.now) (Self.paths self.now) }

@@ -1,23 +1,23 @@
 //! The two steps of an outline: each contour is resolved alone, and what comes of all of them together.
 
-ghost use Rattle.std.specs.Prelude.{◌≡◌, ◌↔◌, [], ◌∷◌, ◌++◌, List, OnOk, IfOk};
+ghost use Rattle.std.specs.Prelude.{◌≡◌, ◌↔◌, [], ◌∷◌, map, OnOk, IfOk};
 ghost use Rattle.std.specs.List.{All, flat_map};
 ghost use Rattle.mesh_num.specs.Paths.{paths_of, shapes_of};
-ghost use Rattle.mesh_plane.specs.Plane.{Point, Edge};
 ghost use Rattle.mesh_num.specs.Rectangle.{IsSafeWidened};
-ghost use Rattle.mesh_num.specs.Segments.{segments_of};
 ghost use Rattle.mesh_plane.specs.Winding.{boundary};
-ghost use Rattle.mesh_cuts.specs.FillRules.{filled};
-ghost use Rattle.mesh_draw.specs.Adding.{along, AddsClosed};
-ghost use Rattle.mesh_outline.specs.Building.{IsMovable};
+ghost use Rattle.mesh_below.specs.Asked.{AreResolvable};
 ghost use Rattle.mesh_join.specs.Joins.{outline_padding};
 ghost use Rattle.mesh_join.specs.Styles.{style_of};
 ghost use Rattle.mesh_draw.specs.Padding.{ArePathsSafe};
 ghost use Rattle.mesh_draw.specs.Adding.{answer_edges};
-ghost use Rattle.mesh_outline.specs.Resolved.{fill_for, DoAreasFit, IsAnswerAlone, Gives, Give};
+ghost use Rattle.mesh_outline.specs.Building.{IsMovable};
+ghost use Rattle.mesh_outline.specs.Kinds.{contour_kind, sense_of};
+ghost use Rattle.mesh_outline.specs.Midway.{AddsAlong, AddsAnswer, AddsGiven, AreGiven};
+ghost use Rattle.mesh_outline.specs.Resolved.{DoAreasFit, HavePromisedEdges};
+ghost use Rattle.mesh_outline.specs.Staying.{StaysSafe};
 
-use crate::outline::area::{check_areas, double_area};
 use crate::outline::builder::OutlineBuilder;
+use crate::outline::kind::{ContourKind, contour_kinds};
 use mesh_below::below::{FillRule, IntOverlayOptions, Overlay, OverlayRule};
 use mesh_draw::error::IntOutlineError;
 use mesh_join::style::IntOutlineStyle;
@@ -27,8 +27,8 @@ use mesh_num::shape::resource::IntShapeResource;
 use mesh_num::shape::segment::{Segment, SubjectSegments};
 use std::alloc::{AllocError, Global};
 
-/// What all contours of the source give, to be resolved with these options. `CoordinateOutOfRange` is answered where a
-/// double area does not fit the wide type, before anything is built.
+/// What all contours of the source give, to be resolved with these options. `CoordinateOutOfRange` is answered exactly
+/// where a double area does not fit the wide type, before anything is built.
 pub(crate) fn given_overlay<I: IntNumber, S: IntShapeResource<I>>(
     source: &S,
     alloc: Global,
@@ -36,58 +36,74 @@ pub(crate) fn given_overlay<I: IntNumber, S: IntShapeResource<I>>(
     options: IntOverlayOptions<I::WideUInt>,
 ) -> Result<Overlay<I>, IntOutlineError>
     requires { ArePathsSafe I.unit (outline_padding (style_of I.value style.now)) (S.paths source.now) }
-    ensures given { IfOk result (λ overlay. (given : List Edge) × Give I.unit (style_of I.value style.now) (S.paths source.now) given × AddsClosed I.unit [] overlay.segments.items given) }
+    ensures given { IfOk result (λ overlay. AreGiven I.unit (style_of I.value style.now) (S.paths source.now)
+        overlay.segments.items) }
     ensures options { IfOk result (λ overlay. overlay.options ≡ options) }
+    ensures resolvable { IfOk result (λ overlay. AreResolvable I.unit overlay.segments.items) }
     ensures fit { OnOk result (DoAreasFit I.Wide.half (S.paths source.now)) }
-    ensures refused { result ≡ Err IntOutlineError.CoordinateOutOfRange ↔ ¬ DoAreasFit I.Wide.half (S.paths source.now) }
+    ensures refused { result ≡ Err IntOutlineError.CoordinateOutOfRange
+        ↔ ¬ DoAreasFit I.Wide.half (S.paths source.now) }
+    ensures built { HavePromisedEdges I.unit (style_of I.value style.now) (S.paths source.now) }
+    ensures stays_safe { StaysSafe I.unit (style_of I.value style.now) (S.paths source.now) }
 {
-    check_areas(source)?;
-    let mut overlay = Overlay::with_segments(given_segments(source, alloc, style)?);
+    let kinds = contour_kinds(source, alloc)?;
+    let mut overlay = Overlay::with_segments(given_segments(source, alloc, style, &kinds)?);
     overlay.options = options;
     Ok(overlay)
 }
 
-/// The segments of what all contours of the source give, one contour after another.
+/// The segments of what all contours of the source, of these kinds, give, one contour after another.
 fn given_segments<I: IntNumber, S: IntShapeResource<I>>(
     source: &S,
     alloc: Global,
     style: &IntOutlineStyle<I>,
+    kinds: &[ContourKind],
 ) -> Result<Vec<Segment<I>>, AllocError>
-    requires { ArePathsSafe I.unit (outline_padding (style_of I.value style.now)) (S.paths source.now) }
-    ensures { IfOk result (λ segments. (given : List Edge) × Give I.unit (style_of I.value style.now) (S.paths source.now) given × AddsClosed I.unit [] segments.items given) }
+    requires safe { ArePathsSafe I.unit (outline_padding (style_of I.value style.now)) (S.paths source.now) }
+    requires kinds { kinds.now ≡ map contour_kind (S.paths source.now) }
+    ensures { IfOk result (λ segments. AreGiven I.unit (style_of I.value style.now) (S.paths source.now)
+        segments.items) }
 {
     let mut segments = Vec::new(alloc);
     for index in 0..source.path_count() {
-        add_contour(alloc, style, source.path_at(index), &mut segments)?;
+        add_contour(
+            alloc,
+            style,
+            kinds[index],
+            source.path_at(index),
+            &mut segments,
+        )?;
     }
     Ok(segments)
 }
 
-/// Adds what one contour gives: an outer boundary the edges of its answer, a hole those of its answer the other way about.
+/// Adds what one contour of this kind gives: an outer boundary the edges of its answer, a hole those of its answer the
+/// other way about.
 fn add_contour<I: IntNumber>(
     alloc: Global,
     style: &IntOutlineStyle<I>,
+    kind: ContourKind,
     path: &[IntPoint<I>],
     segments: &mut Vec<Segment<I>>,
 ) -> Result<(), AllocError>
-    requires { All (IsSafeWidened I.unit (outline_padding (style_of I.value style.now))) path.now }
-    ensures { OnOk result ((edges : List Edge) × Gives I.unit (style_of I.value style.now) path.now edges × AddsClosed I.unit segments.old.items segments.new.items edges) }
+    requires safe { All (IsSafeWidened I.unit (outline_padding (style_of I.value style.now))) path.now }
+    requires kind { kind ≡ contour_kind path.now }
+    ensures { OnOk result (AddsGiven I.unit (style_of I.value style.now) path.now
+        segments.old.items segments.new.items) }
 {
-    let area = double_area(path);
-    let Some(mut builder) = OutlineBuilder::for_area(alloc, style, area) else {
+    let Some(mut builder) = OutlineBuilder::for_kind(alloc, style, kind) else {
         return Ok(());
     };
-    add_resolved(alloc, &mut builder, fill_for(area), path, segments)
+    add_resolved(alloc, &mut builder, fill_of(kind), path, segments)
 }
 
-/// The sense in which a contour of this double area is filled: a hole in the negative one.
-fn fill_for(double_area: i128) -> FillRule
-    ensures { result ≡ fill_for double_area }
+/// The sense in which a contour of this kind is filled: a hole in the negative one.
+fn fill_of(kind: ContourKind) -> FillRule
+    ensures { result ≡ sense_of kind }
 {
-    if double_area < 0 {
-        FillRule::Negative
-    } else {
-        FillRule::Positive
+    match kind {
+        ContourKind::Hole => FillRule::Negative,
+        ContourKind::Outer | ContourKind::Ignored => FillRule::Positive,
     }
 }
 
@@ -100,7 +116,7 @@ fn add_resolved<I: IntNumber>(
     segments: &mut Vec<Segment<I>>,
 ) -> Result<(), AllocError>
     requires { All (IsMovable I.unit builder.old) path.now }
-    ensures { OnOk result ((answer : List (List (List Point))) × IsAnswerAlone I.unit builder.old (filled fill) path.now answer × AddsClosed I.unit segments.old.items segments.new.items (along fill (answer_edges answer))) }
+    ensures { OnOk result (AddsAnswer I.unit builder.old fill path.now segments.old.items segments.new.items) }
 {
     let mut built = Vec::new(alloc);
     builder.build(path, &mut built)?;
@@ -114,7 +130,8 @@ fn add_shapes<I: IntNumber>(
     fill: FillRule,
     segments: &mut Vec<Segment<I>>,
 ) -> Result<(), AllocError>
-    ensures { OnOk result (segments.new.items ≡ segments.old.items ++ segments_of (along fill (answer_edges (shapes_of shapes.now.items)))) }
+    ensures { OnOk result (AddsAlong fill segments.old.items segments.new.items
+        (answer_edges (shapes_of shapes.now.items))) }
 {
     for shape in shapes {
         add_shape(shape, fill, segments)?;
@@ -128,7 +145,8 @@ fn add_shape<I: IntNumber>(
     fill: FillRule,
     segments: &mut Vec<Segment<I>>,
 ) -> Result<(), AllocError>
-    ensures { OnOk result (segments.new.items ≡ segments.old.items ++ segments_of (along fill (flat_map boundary (paths_of shape.now.items)))) }
+    ensures { OnOk result (AddsAlong fill segments.old.items segments.new.items
+        (flat_map boundary (paths_of shape.now.items))) }
 {
     for contour in shape {
         add_closed(contour.as_slice(), fill, segments)?;
@@ -142,7 +160,7 @@ fn add_closed<I: IntNumber>(
     fill: FillRule,
     segments: &mut Vec<Segment<I>>,
 ) -> Result<(), AllocError>
-    ensures { OnOk result (segments.new.items ≡ segments.old.items ++ segments_of (along fill (boundary contour.now))) }
+    ensures { OnOk result (AddsAlong fill segments.old.items segments.new.items (boundary contour.now)) }
 {
     let Some((first, rest)) = contour.split_first() else {
         return Ok(());
@@ -162,7 +180,7 @@ fn add_edge<I: IntNumber>(
     fill: FillRule,
     segments: &mut Vec<Segment<I>>,
 ) -> Result<(), AllocError>
-    ensures { OnOk result (segments.new.items ≡ segments.old.items ++ segments_of (along fill ((start, end) ∷ []))) }
+    ensures { OnOk result (AddsAlong fill segments.old.items segments.new.items ((start, end) ∷ [])) }
 {
     match fill {
         FillRule::Positive => segments.push_non_degenerate(start, end),

@@ -10,7 +10,8 @@ use mesh_num::num::{IntNumber, IntPoint, IntVector, UnitIntVector};
 use std::alloc::AllocError;
 use std::marker::Model;
 
-/// An edge of a contour from `a` to `b`, its direction, and where its ends are moved to. Contracts see the record of all.
+/// An edge of a contour from `a` to `b`, its direction, and where its ends are moved to. Contracts see the record of
+/// all.
 #[derive(Copy)]
 pub(crate) struct OffsetSection<I: IntNumber> {
     pub(crate) direction: UnitIntVector<I>,

@@ -6,7 +6,7 @@ use Rattle.mesh_service.specs.Served.{AreListed}
 use Rattle.mesh_service.proofs.outline.edge_lists.Given as goal
 
 -- the edges of the paths so far
-abbrev pub invariant-loop-path : goal.invariant-loop-path
-invariant-loop-path g l =
+abbrev pub invariant-loop-index : goal.invariant-loop-index
+invariant-loop-index g l =
     AreListed (by_values g.I.Ord.cmp g.I.IntNumber.of_value) g.I.IntNumber.unit (style_of g.I.IntNumber.value l.style)
-    (take l.path-index (paths_of l.paths)) (paths_of l.lists.items)
+    (take l.index (paths_of l.paths)) (paths_of l.lists.items)

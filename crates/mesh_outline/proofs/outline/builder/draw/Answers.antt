@@ -1,5 +1,5 @@
 -- What the walk adds, and that it can go on.
-use Rattle.std.proofs.Common.{ℕ, ◌+◌, ◌≤◌, ◌++◌, length, refl, sym, subst, ◌∙◌, ap}
+use Rattle.std.proofs.Common.{◌+◌, ◌≤◌, ◌++◌, length, refl, sym, subst, ◌∙◌, ap}
 use Rattle.std.specs.Prelude.{vec_capacity}
 use Rattle.std.proofs.lemmas.Bool.{false≢true}
 use Rattle.mesh_join.specs.Styles.{OffsetJoin}

@@ -1,9 +1,10 @@
 -- What is accepted is safe, and its areas fit.
-use Rattle.std.proofs.Common.{Ok, sym, refl, ◌∙◌}
+use Rattle.std.proofs.Common.{Ok, sym, refl}
 use Rattle.std.proofs.lemmas.Bool.{false≢true}
 use Rattle.mesh_num.specs.Paths.{paths_of}
+use Rattle.mesh_outline.specs.Resolved.{DoAreasFit}
 use Rattle.mesh_service.specs.Served.{IsAccepted}
-use Rattle.mesh_service.proofs.PathsServed.{fit_half, half_fit, err_told, not_refused, memory_other, answer_other}
+use Rattle.mesh_service.proofs.PathsServed.{fit_half, half_fit, err_told, refusal_handed, not_refused, memory_other, answer_other}
 use Rattle.mesh_service.proofs.outline.OutlineRequest.edges.Goals as goal
 
 pub returns-in_err-validate_outline-clause-refused : goal.returns-in_err-validate_outline-clause-refused
@@ -14,24 +15,27 @@ returns-in_err-validate_outline-clause-refused g c = (
   λ _. err_told c.from_residual.result _ _ _ c.from_residual.ensures.1 refl c.in_err-validate_outline.ensures.error,
 )
 
-pub returns-then-not-do_areas_fit-clause-refused : goal.returns-then-not-do_areas_fit-clause-refused
-returns-then-not-do_areas_fit-clause-refused g c = (
-  λ _ accepted.
-      let a = rw (sym c.self.view_is) at accepted in
-      let paths = c.self.inside.paths.items in
-      let fit = half_fit _ g.I.IntNumber.unit (paths_of paths) g.met.I.IntNumber.half_law a.fit in
-      let told = c.do_areas_fit.ensures.1 (rw c.deref.ensures.value fit) in
-      false≢true (sym c.if-not-do_areas_fit.true ∙ told),
-  λ _. refl,
-)
+pub returns-in_err-kinds-clause-refused : goal.returns-in_err-kinds-clause-refused
+returns-in_err-kinds-clause-refused g c =
+    let paths = paths_of c.self.inside.paths.items in
+    let half = g.I.Wide.WideNumber.half in
+    let told = c.from_residual-in_err-kinds.result in
+    let areas = refusal_handed told _ _ (DoAreasFit half paths → ⊥) c.from_residual-in_err-kinds.ensures.1 refl c.in_err-kinds.ensures.refused in (
+      λ e accepted.
+          let a = rw (sym c.self.view_is) at accepted in
+          areas.0 e (half_fit half g.I.IntNumber.unit paths g.met.I.IntNumber.half_law a.fit),
+      λ not_accepted. areas.1 (λ fit. not_accepted (rw (sym c.self.view_is) (record {
+        safe = c.in_ok-validate_outline.ensures.safe.0 refl;
+        fit = fit_half half g.I.IntNumber.unit paths g.met.I.IntNumber.half_law fit;
+      }))),
+    )
 
 pub returns-in_err-edge_lists-clause-refused : goal.returns-in_err-edge_lists-clause-refused
 returns-in_err-edge_lists-clause-refused g c =
     let paths = paths_of c.self.inside.paths.items in
-    let fit = rw c.deref.ensures.value at (c.do_areas_fit.ensures.0 c.if-not-do_areas_fit.false) in
     let accepted : IsAccepted c.args.self.now = rw (sym c.self.view_is) (record {
       safe = c.in_ok-validate_outline.ensures.safe.0 refl;
-      fit = fit_half _ g.I.IntNumber.unit paths g.met.I.IntNumber.half_law fit;
+      fit = fit_half _ g.I.IntNumber.unit paths g.met.I.IntNumber.half_law c.in_ok-kinds.ensures.fit;
     }) in
     let told = c.from_residual-in_err-edge_lists.result in
     not_refused told (IsAccepted c.args.self.now) accepted (memory_other told c.from_residual-in_err-edge_lists.ensures.1)
@@ -39,12 +43,11 @@ returns-in_err-edge_lists-clause-refused g c =
 pub returns-clause-refused : goal.returns-clause-refused
 returns-clause-refused g c =
     let paths = paths_of c.self.inside.paths.items in
-    let fit = rw c.deref.ensures.value at (c.do_areas_fit.ensures.0 c.if-not-do_areas_fit.false) in
     let accepted : IsAccepted c.args.self.now = rw (sym c.self.view_is) (record {
       safe = c.in_ok-validate_outline.ensures.safe.0 refl;
-      fit = fit_half _ g.I.IntNumber.unit paths g.met.I.IntNumber.half_law fit;
+      fit = fit_half _ g.I.IntNumber.unit paths g.met.I.IntNumber.half_law c.in_ok-kinds.ensures.fit;
     }) in
     not_refused (Ok c.in_ok-edge_lists.field-0) (IsAccepted c.args.self.now) accepted (answer_other c.in_ok-edge_lists.field-0)
 
 pub returns-clause-edges : goal.returns-clause-edges
-returns-clause-edges g c = rw (sym c.self.view_is) (rw c.deref-2.ensures.value at c.in_ok-edge_lists.ensures)
+returns-clause-edges g c = rw (sym c.self.view_is) (rw c.deref.ensures.value at c.in_ok-edge_lists.ensures)

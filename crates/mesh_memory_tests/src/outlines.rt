@@ -1,0 +1,169 @@
+//! Outlines for which memory is refused.
+
+use i_overlay_mesh::IntOutlineError;
+use i_overlay_mesh::outline::area::double_area;
+use i_overlay_mesh::outline::builder::OutlineBuilder;
+use i_overlay_mesh::outline::kind::{ContourKind, contour_kinds};
+use i_overlay_mesh::outline::offset::IntOutlineOffset;
+use mesh_join::style::IntOutlineStyle;
+use mesh_num::num::{IntPoint, OverlayInt};
+use mesh_num::shape::buffer::FlatContoursBuffer;
+use mesh_num::shape::segment::{Segment, SubjectSegments};
+use mesh_toolbox::compared::{holds, is_contour};
+use mesh_toolbox::lists::{path, paths};
+use mesh_toolbox::{inner, outer};
+use std::alloc::{AllocError, Global};
+use std::test::Fail;
+
+/// A square with a square hole.
+const CONTOURS: &[&[(i32, i32)]] = &[outer!(0, 0, 40, 40), inner!(10, 10, 30, 30)];
+
+/// The outer square grown by 2 with its corners cut, and the hole shrunk by 3.
+const OUTLINE: &[&[&[(i32, i32)]]] = &[&[
+    &[
+        (-2, 0),
+        (0, -2),
+        (40, -2),
+        (42, 0),
+        (42, 40),
+        (40, 42),
+        (0, 42),
+        (-2, 40),
+    ],
+    &[(13, 13), (13, 27), (27, 27), (27, 13)],
+]];
+
+/// A hole, a contour of area 0, and an outer boundary.
+const KINDS: &[&[(i32, i32)]] = &[
+    inner!(10, 10, 30, 30),
+    &[(0, 0), (5, 5)],
+    outer!(0, 0, 40, 40),
+];
+
+/// A buffer of one point.
+fn filled(alloc: Global) -> Result<FlatContoursBuffer<i32>, AllocError> {
+    let mut buffer = FlatContoursBuffer::new(alloc);
+    buffer.points.push(IntPoint::new(7, 7))?;
+    Ok(buffer)
+}
+
+fn is_filled(buffer: &FlatContoursBuffer<i32>) -> bool {
+    is_contour(&buffer.points, &[(7, 7)]) && buffer.ranges.is_empty()
+}
+
+/// After a refusal the buffer is unchanged, and the next call answers.
+#[test]
+fn outline_into(rt: HostRuntime) -> Result<(), Fail> {
+    let (Ok(contours), Ok(mut buffer)) = (paths(rt.alloc(), CONTOURS), filled(rt.alloc())) else {
+        return Ok(());
+    };
+    let style = IntOutlineStyle::new(2).inner_offset(3);
+    contours.validate_outline(&style)?;
+    if let Err(refused) = contours.outline_into(rt.alloc(), &style, &mut buffer) {
+        assert_eq!(rt; refused, IntOutlineError::OutOfMemory);
+        assert!(rt; is_filled(&buffer));
+        contours.outline_into(rt.alloc(), &style, &mut buffer)?;
+    }
+    assert!(rt; holds(&buffer, OUTLINE), "{buffer:?}");
+    Ok(())
+}
+
+const FAR: i32 = 1_073_741_823;
+
+const NEAR: i32 = -1_073_741_823;
+
+/// Two contours whose areas fit the wide type, and a square twice round, whose double area is past it.
+const TOO_LARGE: &[&[(i32, i32)]] = &[
+    outer!(0, 0, 40, 40),
+    inner!(10, 10, 30, 30),
+    &[
+        (NEAR, NEAR),
+        (FAR, NEAR),
+        (FAR, FAR),
+        (NEAR, FAR),
+        (NEAR, NEAR),
+        (FAR, NEAR),
+        (FAR, FAR),
+        (NEAR, FAR),
+    ],
+];
+
+/// An area that does not fit is told, also where memory is refused.
+#[test]
+fn areas(rt: HostRuntime) -> Result<(), Fail> {
+    let Ok(contours) = paths(rt.alloc(), TOO_LARGE) else {
+        return Ok(());
+    };
+    let style = IntOutlineStyle::new(0);
+    contours.validate_outline(&style)?;
+    let answer = contours.outline(rt.alloc(), &style);
+    assert_eq!(rt; answer.err(), Some(IntOutlineError::CoordinateOutOfRange));
+    Ok(())
+}
+
+/// After a refusal the kinds are found by the next call.
+#[test]
+fn kinds(rt: HostRuntime) -> Result<(), Fail> {
+    let Ok(contours) = paths(rt.alloc(), KINDS) else {
+        return Ok(());
+    };
+    let kinds = match contour_kinds(&contours, rt.alloc()) {
+        Err(refused) => {
+            assert_eq!(rt; refused, IntOutlineError::OutOfMemory);
+            contour_kinds(&contours, rt.alloc())?
+        }
+        Ok(kinds) => kinds,
+    };
+    let wanted = [ContourKind::Hole, ContourKind::Ignored, ContourKind::Outer];
+    assert_eq!(rt; kinds.as_slice(), wanted.as_slice());
+    Ok(())
+}
+
+/// What a refusal of memory leaves of the segments: just the one that stood there.
+fn is_one(segments: &[Segment<i32>]) -> bool {
+    let Some(segment) = segments.first() else {
+        return false;
+    };
+    let ends = segment.x_segment;
+    segments.len() == 1
+        && (ends.a, ends.b) == (IntPoint::new(1, 2), IntPoint::new(3, 4))
+        && segment.count == 1
+}
+
+/// Adds the edges of the contour's outline in this style, chosen by its area.
+fn add_outline<I: OverlayInt>(
+    alloc: Global,
+    contour: &Vec<IntPoint<I>>,
+    style: &IntOutlineStyle<I>,
+    segments: &mut Vec<Segment<I>>,
+) -> Result<(), IntOutlineError> {
+    contour.validate_outline(style)?;
+    let area = double_area(contour);
+    let Some(mut builder) = OutlineBuilder::for_area(alloc, style, area) else {
+        return Ok(());
+    };
+    builder.build(contour, segments)?;
+    Ok(())
+}
+
+/// After a refusal the segments are cut back to those that stood there, and the next call adds all.
+#[test]
+fn building(rt: HostRuntime) -> Result<(), Fail> {
+    let Ok(contour) = path(rt.alloc(), &[(0, 0), (40, 0), (40, 40), (0, 40)]) else {
+        return Ok(());
+    };
+    let mut segments = Vec::new(rt.alloc());
+    let start = segments.push_non_degenerate(IntPoint::new(1, 2), IntPoint::new(3, 4));
+    if start.is_err() {
+        return Ok(());
+    }
+    let style = IntOutlineStyle::new(2);
+    if let Err(refused) = add_outline(rt.alloc(), &contour, &style, &mut segments) {
+        assert_eq!(rt; refused, IntOutlineError::OutOfMemory);
+        assert!(rt; is_one(&segments), "{segments:?}");
+        add_outline(rt.alloc(), &contour, &style, &mut segments)?;
+    }
+    assert_eq!(rt; segments.len(), 9);
+    assert!(rt; is_one(&segments[..1]), "{segments:?}");
+    Ok(())
+}

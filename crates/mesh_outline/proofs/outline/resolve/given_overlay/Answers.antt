@@ -1,0 +1,42 @@
+-- What holds of all contours that stay safe, and of what they give.
+use Rattle.std.proofs.Common.{ap}
+use Rattle.mesh_join.specs.Styles.{style_of}
+use Rattle.mesh_outline.proofs.Promised.{have_promised_edges}
+use Rattle.mesh_outline.proofs.Resolving.{resolvable}
+use Rattle.mesh_outline.proofs.Staying.{stays_safe}
+use Rattle.mesh_outline.proofs.outline.resolve.given_overlay.Goals as goal
+
+pub returns-in_err-kinds-clause-built : goal.returns-in_err-kinds-clause-built
+returns-in_err-kinds-clause-built g c =
+    have_promised_edges g.I.IntNumber.unit (style_of g.I.IntNumber.value c.args.style.now)
+    (g.S.IntShapeResource.paths c.args.source.now) g.met.I.IntNumber.least_law
+
+pub returns-in_err-kinds-clause-stays_safe : goal.returns-in_err-kinds-clause-stays_safe
+returns-in_err-kinds-clause-stays_safe g c =
+    stays_safe g.I.IntNumber.unit (style_of g.I.IntNumber.value c.args.style.now)
+    (g.S.IntShapeResource.paths c.args.source.now) g.met.I.IntNumber.least_law c.requires
+
+pub returns-in_err-given_segments-clause-built : goal.returns-in_err-given_segments-clause-built
+returns-in_err-given_segments-clause-built g c =
+    have_promised_edges g.I.IntNumber.unit (style_of g.I.IntNumber.value c.args.style.now)
+    (g.S.IntShapeResource.paths c.args.source.now) g.met.I.IntNumber.least_law
+
+pub returns-in_err-given_segments-clause-stays_safe : goal.returns-in_err-given_segments-clause-stays_safe
+returns-in_err-given_segments-clause-stays_safe g c =
+    stays_safe g.I.IntNumber.unit (style_of g.I.IntNumber.value c.args.style.now)
+    (g.S.IntShapeResource.paths c.args.source.now) g.met.I.IntNumber.least_law c.requires
+
+pub returns-clause-resolvable : goal.returns-clause-resolvable
+returns-clause-resolvable g c =
+    resolvable g.I.IntNumber.unit (style_of g.I.IntNumber.value c.args.style.now) (g.S.IntShapeResource.paths c.args.source.now) _ _
+    (ap (λ v. v.items) c.with_segments-overlay.ensures.segments) c.in_ok-given_segments.ensures
+
+pub returns-clause-built : goal.returns-clause-built
+returns-clause-built g c =
+    have_promised_edges g.I.IntNumber.unit (style_of g.I.IntNumber.value c.args.style.now)
+    (g.S.IntShapeResource.paths c.args.source.now) g.met.I.IntNumber.least_law
+
+pub returns-clause-stays_safe : goal.returns-clause-stays_safe
+returns-clause-stays_safe g c =
+    stays_safe g.I.IntNumber.unit (style_of g.I.IntNumber.value c.args.style.now)
+    (g.S.IntShapeResource.paths c.args.source.now) g.met.I.IntNumber.least_law c.requires
