@@ -74,9 +74,6 @@ off_row ms q e h = by (outside (first_row ms e) (place ms q.1) (last_row ms e) h
 where_is : (i first end : ℕ) → ((first ≤ i) × (i < end)) ⊎ ((i < first) ⊎ (end ≤ i))
 where_is i first end = grind arith
 
-filter_one : {A : Type 0} (t : A → Bool) (x : A) → filter t (x ∷ []) ≡ cond (t x) (x ∷ []) []
-filter_one t x = refl
-
 filter_more : {A : Type 0} (t : A → Bool) (xs : List A) (i : ℕ) (d : A) → i < length xs →
     filter t (take (i + 1) xs) ≡ filter t (take i xs) ++ cond (t (get_or xs i d)) (get_or xs i d ∷ []) []
 filter_more t xs i d h =

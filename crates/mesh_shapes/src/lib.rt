@@ -7,6 +7,7 @@
 
 pub mod area;
 pub mod arrange;
+mod holders;
 pub mod ring;
 mod rows;
 pub mod sides;
