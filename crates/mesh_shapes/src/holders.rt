@@ -1,5 +1,5 @@
-//! The ring that holds a point. The edges of rings are listed by rows, and the row of a point tells how often each ring winds
-//! round it.
+//! The ring that holds a point. The edges of rings stand ring after ring, and so they do in the row of the point: one pass
+//! over it tells how often each ring winds round the point.
 
 ghost use Rattle.std.specs.Prelude.{◌≡◌, ℕ, ◌+◌, ◌^◌, ◌<◌, ◌≤◌, true, not, List, ◌∷◌, ◌++◌, length, pos, unsigned_abs, IfOk, OnOk, MatchOption};
 ghost use Rattle.std.specs.Option.{ForSome};
@@ -21,7 +21,7 @@ use std::alloc::{AllocError, Global};
 pub type PlacedEdge = (GridEdge, usize);
 
 /// What is known midway through the row of a point.
-#[derive(Debug, Copy, Clone)]
+#[derive(Copy, Clone)]
 struct Search {
     /// The place of the ring that holds the point, among those of which all edges were met.
     best: Option<usize>,
