@@ -100,7 +100,7 @@ parted_of m t s a b p r low order high (on_one_line x y u v) =
     (edge_turn m s a b p r ∙ weighed_none m s (turn p r a) (turn p r b) u v)
 
 -- the way walked back
-parted_back : (q u p r : Point) → Parted q u p r → Parted u q p r
+pub parted_back : (q u p r : Point) → Parted q u p r → Parted u q p r
 parted_back q u p r (edge_left c d) = edge_right (omega (arith, linear, turn_flip q u p)) (omega (arith, linear, turn_flip q u r))
 parted_back q u p r (edge_right c d) = edge_left (omega (arith, linear, turn_flip q u p)) (omega (arith, linear, turn_flip q u r))
 parted_back q u p r (way_left a b) = way_left b a

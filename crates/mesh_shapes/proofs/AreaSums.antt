@@ -114,6 +114,3 @@ some_points (p ∷ ps) h = omega arith
 
 pub one_size : (z : ℤ) → IsSmall 2 z → unsigned_abs z ≤ 1
 one_size z h = omega (arith, ints, h.low, h.high)
-
-pub ones_below : (i : ℕ) (z : ℤ) → unsigned_abs z ≤ 1 * i → i < 2 ^ 64 → unsigned_abs z < 2 ^ 65
-ones_below i z h l = omega arith

@@ -3,6 +3,8 @@ pub mod BoundaryCounted
 pub mod ContoursBegun
 pub mod ContoursKept
 pub mod Groups
+pub mod HolderRows
+pub mod HolderSearch
 pub mod RowSums
 pub mod Shapes
 pub mod SidesCode

@@ -1,6 +1,6 @@
 -- Lemmas over lists: how shapes come about, ring by ring.
 use Rattle.std.proofs.Common.{zero, suc, ◌≡◌, ℕ, ◌+◌, ◌<◌, ◌≤◌, Bool, true, false, cond, not, ◌&&◌, List, [], ◌∷◌, ◌++◌, map, length, drop, get_or, below_more, refl, sym, ◌∙◌, ap, subst, arith, append_assoc}
-use Rattle.std.specs.Prelude.{ℤ, pos, int_lt, nat_eq, Option, Some, None, MatchOption, Vec}
+use Rattle.std.specs.Prelude.{ℤ, pos, int_lt, nat_eq, Vec}
 use Rattle.std.specs.List.{All, filter, enumerate_from}
 use Rattle.std.proofs.Math.Seq.{drop-cons}
 use Rattle.std.proofs.lemmas.List.Elements.{All-nil, All-push}
@@ -8,12 +8,11 @@ use Rattle.std.specs.declared.alloc.Global.{Global}
 use Rattle.std.proofs.lemmas.Bool.{both_ways, eqb-true, eq-eqb}
 use Rattle.std.proofs.lemmas.List.{append-nil, map-append, length-append}
 use Rattle.mesh_plane.specs.Plane.{Point}
-use Rattle.mesh_plane.specs.Winding.{holds}
 use Rattle.mesh_shapes.specs.Midway.Progress.{NoneRound, IsHolder}
 use Rattle.mesh_shapes.specs.Resolution.{Ring, Placed, is_head, shape_of, rings_by_shape, answered}
 use Rattle.mesh_shapes.specs.Vectors.{HeldRing, ring_held, rings_held, points_of}
-use Rattle.mesh_shapes.specs.Midway.Grouping.{ring_at, placed, areas_of, is_round_at, IsHome, contours_at, AreMembers, IsPutHome}
-use Rattle.mesh_shapes.proofs.Groups.{length_map, view_at, area_at, positive_at, holder_no_less, home_alone, home_held, is_member, member_test}
+use Rattle.mesh_shapes.specs.Midway.Grouping.{ring_at, placed, areas_of, IsHome, contours_at, AreMembers, IsPutHome}
+use Rattle.mesh_shapes.proofs.Groups.{length_map, view_at, positive_at, home_alone, home_held, is_member, member_test}
 
 -- ---- one more element of a filtered list
 pub filter_step : {A B C : Type 0} (g : B → C) (f : A → B) (p : A → Bool) (x : A) (rest : List A) (done : List C) (t : Bool) → p x ≡ t →
@@ -37,33 +36,17 @@ abbrev pub ShapesTo : List Ring → Bool → ℕ → List (List (List Point)) �
 ShapesTo rs cw h done =
     done ++ map (map (answered cw)) (map (shape_of (placed rs)) (filter (is_head (placed rs)) (enumerate_from h (drop h rs)))) ≡ map (map (answered cw)) (rings_by_shape (placed rs))
 
--- ---- whether a ring is round a point
-pub round_at : (rs : List HeldRing) (areas : List ℤ) (h : ℕ) (q : Point) (r : HeldRing) (x : Bool) → areas ≡ areas_of (rings_held rs) → h < length (rings_held rs) → h < length rs →
-    int_lt (pos 0) (get_or areas h (pos 0)) ≡ true → x ≡ holds 2 q (get_or rs h r).0.items → x ≡ is_round_at (rings_held rs) h q
-round_at rs areas h q r x known lv low t e =
-    e ∙ sym (λ i. (sym (positive_at (rings_held rs) areas h known lv) ∙ t) i && holds 2 q (view_at rs h r ([], (pos 0, pos 0)) low i).0)
-
--- where the ring is not less than the known holder, that stays
-pub not_less_kept : (rs : List Ring) (areas : List ℤ) (q : Point) (k : ℕ) (best : Option ℕ) (less : Bool) → areas ≡ areas_of rs → k < length rs →
-    MatchOption best (NoneRound rs k q) (IsHolder rs k q) → MatchOption best (less ≡ true) (λ (b : ℕ). less ≡ int_lt (get_or areas k (pos 0)) (get_or areas b (pos 0))) → less ≡ false →
-    MatchOption best (NoneRound rs (k + 1) q) (IsHolder rs (k + 1) q)
-not_less_kept rs areas q k None less known low h t f = absurd (both_ways less f t)
-not_less_kept rs areas q k (Some b) less known low h t f =
-    holder_no_less rs q k b h ((λ i. int_lt (sym (area_at rs areas k known low) i) (sym (area_at rs areas b known (omega (arith, h.within))) i)) ∙ (sym t ∙ f))
-
 -- the place of a ring that no ring is round, and of one that a ring is round
-pub home_none : (rs : List HeldRing) (i : ℕ) (r : HeldRing) → i < length rs → NoneRound (rings_held rs) (length rs) (get_or rs i r).1 → IsHome (rings_held rs) i i
+pub home_none : (rs : List HeldRing) (i : ℕ) (r : HeldRing) → i < length rs → NoneRound (rings_held rs) (length (rings_held rs)) (get_or rs i r).1 → IsHome (rings_held rs) i i
 home_none rs i r low h =
     home_alone (rings_held rs) i
-    (subst (λ (n : ℕ). NoneRound (rings_held rs) n (ring_at (rings_held rs) i).1.1) (sym (length_map ring_held rs))
-    (subst (λ (q : Point). NoneRound (rings_held rs) (length rs) q) (λ j. (sym (view_at rs i r ([], (pos 0, pos 0)) low) j).1) h))
+    (subst (λ (q : Point). NoneRound (rings_held rs) (length (rings_held rs)) q) (λ j. (sym (view_at rs i r ([], (pos 0, pos 0)) low) j).1) h)
 
 pub home_some : (rs : List HeldRing) (areas : List ℤ) (i b : ℕ) (r : HeldRing) → areas ≡ areas_of (rings_held rs) → i < length rs → int_lt (pos 0) (get_or areas i (pos 0)) ≡ false →
-    IsHolder (rings_held rs) (length rs) (get_or rs i r).1 b → IsHome (rings_held rs) i b
+    IsHolder (rings_held rs) (length (rings_held rs)) (get_or rs i r).1 b → IsHome (rings_held rs) i b
 home_some rs areas i b r known low flat h =
     home_held (rings_held rs) i b (sym (positive_at (rings_held rs) areas i known (omega (arith, length_map ring_held rs, low))) ∙ flat)
-    (subst (λ (n : ℕ). IsHolder (rings_held rs) n (ring_at (rings_held rs) i).1.1 b) (sym (length_map ring_held rs))
-    (subst (λ (q : Point). IsHolder (rings_held rs) (length rs) q b) (λ j. (sym (view_at rs i r ([], (pos 0, pos 0)) low) j).1) h))
+    (subst (λ (q : Point). IsHolder (rings_held rs) (length (rings_held rs)) q b) (λ j. (sym (view_at rs i r ([], (pos 0, pos 0)) low) j).1) h)
 
 -- what holds of each place and the number that is known of it
 pub record KnownTo (P : ℕ → ℕ → Type 0) (i : ℕ) (known : List ℕ) : Type 0 where

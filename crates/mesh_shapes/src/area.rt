@@ -1,12 +1,10 @@
-//! Sums along closed lists of points: areas, and which points are held.
+//! Areas of closed lists of points.
 
 ghost use Rattle.std.specs.Prelude.{◌≡◌, ℕ, ◌^◌, ◌<◌, ◌≤◌, ℤ, ◌*ℤ◌, unsigned_abs};
 ghost use Rattle.mesh_plane.specs.Bounds.{IsSafe};
 ghost use Rattle.mesh_plane.specs.Plane.{cross};
-ghost use Rattle.mesh_plane.specs.Winding.{boundary, holds, winding};
 ghost use Rattle.mesh_shapes.specs.Contours.{double_area};
 
-use mesh_cuts::fine::{FinePoint, crossing, doubled};
 use mesh_cuts::grid::GridPoint;
 
 fn long(a: i32, b: i32) -> i128
@@ -39,28 +37,4 @@ pub fn double_area(points: &[GridPoint]) -> i128
         before = points[i];
     }
     sum + area_of(before, points[0])
-}
-
-/// How often a closed list of points winds round a point of the fine grid.
-fn winding(points: &[GridPoint], q: FinePoint) -> i128
-    ensures value { result ≡ winding 2 q (boundary points.now) }
-    ensures size { unsigned_abs result < 2 ^ 65 }
-{
-    if points.is_empty() {
-        return 0;
-    }
-    let mut before = points[0];
-    let mut sum: i128 = 0;
-    for i in 1..points.len() {
-        sum += crossing(q, doubled(before), doubled(points[i]));
-        before = points[i];
-    }
-    sum + crossing(q, doubled(before), doubled(points[0]))
-}
-
-/// Whether a closed list of points winds round a point of the fine grid.
-pub fn holds(points: &[GridPoint], q: FinePoint) -> bool
-    ensures { result ≡ holds 2 q points.now }
-{
-    winding(points, q) != 0
 }

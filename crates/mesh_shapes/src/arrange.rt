@@ -9,13 +9,15 @@ ghost use Rattle.mesh_plane.specs.Bounds.{IsSafe};
 ghost use Rattle.mesh_plane.specs.Plane.{Point};
 ghost use Rattle.mesh_shapes.specs.Contours.{reversed, double_area};
 ghost use Rattle.mesh_shapes.specs.Vectors.{HeldRing, ring_held, rings_held, points_of, shapes_points};
-ghost use Rattle.mesh_shapes.specs.Midway.Grouping.{ring_at, placed, areas_of, is_round_at, IsHome, AreHomes, AreWithin, is_less_at, AreMembers, IsPutHome, shape_at, headed, all_shapes};
-ghost use Rattle.mesh_shapes.specs.Midway.Progress.{NoneRound, IsHolder, IsFound};
+ghost use Rattle.mesh_shapes.specs.Midway.Grouping.{ring_at, areas_of, IsHome, AreHomes, AreWithin, AreMembers, IsPutHome, shape_at, headed, all_shapes};
+ghost use Rattle.mesh_shapes.specs.Midway.Holders.{edges_of};
+ghost use Rattle.mesh_shapes.specs.Midway.Rows.{AreRows};
 ghost use Rattle.mesh_shapes.specs.Resolution.{is_large, points_lt, is_head, shape_of, rings_by_shape, answered, AreArranged};
 
-use crate::area::{double_area, holds};
+use crate::area::double_area;
+use crate::holders::{holder, ring_edges};
 use crate::ring::Ring;
-use mesh_cuts::fine::FinePoint;
+use crate::rows::Rows;
 use mesh_cuts::grid::GridPoint;
 use mesh_cuts::places::{empty_lists, push_to};
 use std::alloc::{AllocError, Global};
@@ -38,75 +40,19 @@ fn areas(alloc: Global, rings: &[Ring]) -> Result<Vec<i128>, AllocError>
     Ok(areas)
 }
 
-/// Whether the ring at `h` has positive area and holds the point.
-fn is_round_at(rings: &[Ring], areas: &[i128], h: usize, q: FinePoint) -> bool
-    requires in_range { h < length rings.now }
-    requires known { areas.now ≡ areas_of (rings_held rings.now) }
-    ensures { result ≡ is_round_at (rings_held rings.now) h q }
-{
-    if areas[h] <= 0 {
-        return false;
-    }
-    holds(&rings[h].0, q)
-}
-
-/// Whether no ring is known yet, or the one at `k` has less area than it.
-fn is_less(areas: &[i128], best: Option<usize>, k: usize) -> bool
-    requires in_range { k < length areas.now }
-    requires known { ForSome best (λ b. b < length areas.now) }
-    ensures { MatchOption best (result ≡ true) (λ b. result ≡ is_less_at areas.now k b) }
-{
-    let Some(b) = best else {
-        return true;
-    };
-    areas[k] < areas[b]
-}
-
-/// The better holder of the point, of the one known and the ring at `k`.
-fn better_holder(
-    rings: &[Ring],
-    areas: &[i128],
-    q: FinePoint,
-    best: Option<usize>,
-    k: usize,
-) -> Option<usize>
-    requires in_range { k < length rings.now }
-    requires areas_known { areas.now ≡ areas_of (rings_held rings.now) }
-    requires known { IsFound (rings_held rings.now) k q best }
-    ensures { IsFound (rings_held rings.now) (k + 1) q result }
-{
-    if !is_less(areas, best, k) {
-        return best;
-    }
-    if !is_round_at(rings, areas, k, q) {
-        return best;
-    }
-    Some(k)
-}
-
-/// The place of the first ring of least area among those of positive area that hold the point, if there is one.
-fn holder(rings: &[Ring], areas: &[i128], q: FinePoint) -> Option<usize>
-    requires areas_known { areas.now ≡ areas_of (rings_held rings.now) }
-    ensures { IsFound (rings_held rings.now) (length rings.now) q result }
-{
-    let mut best = None;
-    for k in 0..rings.len() {
-        best = better_holder(rings, areas, q, best, k);
-    }
-    best
-}
-
 /// The place of the ring with which the ring at `i` stands, its own where it heads a shape.
-fn home(rings: &[Ring], areas: &[i128], i: usize) -> usize
+fn home(rings: &[Ring], areas: &[i128], rows: &Rows<usize>, i: usize) -> usize
     requires in_range { i < length rings.now }
     requires areas_known { areas.now ≡ areas_of (rings_held rings.now) }
+    requires rows_known { AreRows rows.now.marks.items rows.now.lists.items (edges_of (rings_held rings.now)) }
     ensures home { IsHome (rings_held rings.now) i result }
     ensures within { result < length rings.now }
 {
     if areas[i] > 0 {
         return i;
     }
-    let Some(h) = holder(rings, areas, rings[i].1) else {
+    let q = rings[i].1;
+    let Some(h) = holder(areas, rows.row(q), q) else {
         return i;
     };
     h
@@ -119,9 +65,11 @@ fn homes(alloc: Global, rings: &[Ring]) -> Result<Vec<usize>, AllocError>
     ensures within { IfOk result (λ v. AreWithin rings.now v.items) }
 {
     let areas = areas(alloc, rings)?;
+    let edges = ring_edges(alloc, rings, &areas)?;
+    let rows = Rows::new(alloc, &edges)?;
     let mut homes = Vec::new(alloc);
     for i in 0..rings.len() {
-        homes.push(home(rings, &areas, i))?;
+        homes.push(home(rings, &areas, &rows, i))?;
     }
     Ok(homes)
 }

@@ -3,10 +3,12 @@
 //! Read `specs/Resolution.antt` first, the one relation that the overlay's calls promise, then `specs/Contours.antt`.
 //! `specs/Midway` has the states of loops, which private contracts alone read.
 //! `sides` finds the boundary, `walk` and `ring` make contours of it, `arrange` brings them into order and groups them.
+//! `rows` lists edges by height, for the winding beside a segment and, in `holders`, for the ring that holds a point.
 #![tactic(auto)]
 
 pub mod area;
 pub mod arrange;
+mod holders;
 pub mod ring;
 mod rows;
 pub mod sides;

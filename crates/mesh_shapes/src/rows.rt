@@ -1,30 +1,31 @@
-//! Segments listed by the rows that they reach, so that the winding round a point is a sum over one row in place of all.
+//! Edges listed by the rows that they reach, so that the winding round a point is a sum over one row in place of all.
+//! Beside each edge stands what a search wants of it, as its count.
 
-ghost use Rattle.std.specs.Prelude.{◌≡◌, ◌+◌, ◌<◌, ◌*ℤ◌, pos, min, max, length, slice_index_or, IfOk, OnOk, Vec};
+ghost use Rattle.std.specs.Prelude.{◌≡◌, ◌+◌, ◌<◌, ◌*ℤ◌, pos, length, slice_index_or, IfOk, OnOk, Vec};
 ghost use Rattle.std.specs.declared.alloc.Global.{Global};
-ghost use Rattle.mesh_cuts.specs.Counted.{Counted};
+ghost use Rattle.mesh_plane.specs.Plane.{Edge};
 ghost use Rattle.mesh_cuts.specs.Marks.{place, AreRising, IsPutTo};
-ghost use Rattle.mesh_shapes.specs.Midway.Rows.{AreRows};
+ghost use Rattle.mesh_shapes.specs.Midway.Rows.{first_row, last_row, AreRows};
 
 use mesh_cuts::fine::{FinePoint, doubled};
-use mesh_cuts::grid::{CountedSegment, GridPoint};
+use mesh_cuts::grid::{GridEdge, GridPoint};
 use mesh_cuts::places::{Mark, empty_lists, in_order, place, put_to, thinned};
 use std::alloc::{AllocError, Global};
 
-/// From how many segments on they are listed in more than one row.
+/// From how many edges on they are listed in more than one row.
 const FEWEST: usize = 64;
 
-/// About how many segments the marks are taken from.
+/// About how many edges the marks are taken from.
 const ENDS: usize = 16384;
 
-/// About how many segments are measured to choose the number of rows.
+/// About how many edges are measured to choose the number of rows.
 const MEASURED: usize = 2048;
 
-/// Lists of segments, one for each row between marks at heights on the fine grid. A segment may stand in several of them.
+/// Lists of edges, one for each row between marks at heights on the fine grid. An edge may stand in several of them.
 #[derive(Drop)]
-pub struct Rows {
+pub struct Rows<T> {
     marks: Vec<Mark>,
-    lists: Vec<Vec<CountedSegment>>,
+    lists: Vec<Vec<(GridEdge, T)>>,
 }
 
 /// The point's height on the fine grid.
@@ -36,87 +37,86 @@ fn height(p: GridPoint) -> Mark
     }
 }
 
-/// The heights of some of the segments' ends.
-fn heights(alloc: Global, segments: &[CountedSegment]) -> Result<Vec<Mark>, AllocError>
+/// The heights of some of the edges' ends.
+fn heights<T: Copy>(alloc: Global, edges: &[(GridEdge, T)]) -> Result<Vec<Mark>, AllocError>
     ensures { IfOk result (λ v. AreRising v.items) }
 {
-    let step = segments.len() / ENDS + 1;
+    let step = edges.len() / ENDS + 1;
     let mut heights = Vec::new(alloc);
-    for (i, s) in segments.iter().enumerate() {
+    for (i, e) in edges.iter().enumerate() {
         if i % step == 0 {
-            heights.push(height(s.0.0).at)?;
-            heights.push(height(s.0.1).at)?;
+            heights.push(height(e.0.0).at)?;
+            heights.push(height(e.0.1).at)?;
         }
     }
     in_order(alloc, heights)
 }
 
-/// How many rows serve best: a segment shall reach about four on average.
-fn rows_wanted(segments: &[CountedSegment], heights: &[Mark]) -> usize
+/// How many rows serve best: an edge shall reach about four on average.
+fn rows_wanted<T: Copy>(edges: &[(GridEdge, T)], heights: &[Mark]) -> usize
     requires { AreRising heights.now }
 {
-    let step = segments.len() / MEASURED + 1;
+    let step = edges.len() / MEASURED + 1;
     let mut measured: usize = 0;
     let mut reached: usize = 1;
-    for (i, s) in segments.iter().enumerate() {
+    for (i, e) in edges.iter().enumerate() {
         if i % step == 0 {
-            let a = place(heights, height(s.0.0));
-            let b = place(heights, height(s.0.1));
+            let a = place(heights, height(e.0.0));
+            let b = place(heights, height(e.0.1));
             measured = measured.saturating_add(3);
             reached = reached.saturating_add(a.abs_diff(b));
         }
     }
     let wanted = measured.saturating_mul(heights.len()) / reached.max(1);
-    wanted.min(segments.len() / 2)
+    wanted.min(edges.len() / 2)
 }
 
-/// Marks by which to list segments.
-fn marks(alloc: Global, segments: &[CountedSegment]) -> Result<Vec<Mark>, AllocError>
+/// Marks by which to list edges.
+fn marks<T: Copy>(alloc: Global, edges: &[(GridEdge, T)]) -> Result<Vec<Mark>, AllocError>
     ensures { IfOk result (λ v. AreRising v.items) }
 {
-    if segments.len() < FEWEST {
+    if edges.len() < FEWEST {
         return in_order(alloc, Vec::new(alloc));
     }
-    let heights = heights(alloc, segments)?;
-    let wanted = rows_wanted(segments, &heights);
+    let heights = heights(alloc, edges)?;
+    let wanted = rows_wanted(edges, &heights);
     thinned(alloc, &heights, wanted)
 }
 
-/// Adds a segment to each row that it reaches.
-fn file(
+/// Adds an edge to each row that it reaches.
+fn file<T: Copy>(
     marks: &[Mark],
-    lists: &mut Vec<Vec<CountedSegment>>,
-    s: CountedSegment,
+    lists: &mut Vec<Vec<(GridEdge, T)>>,
+    e: (GridEdge, T),
 ) -> Result<(), AllocError>
     requires rising { AreRising marks.now }
     requires len { length lists.old.items ≡ length marks.now + 1 }
     ensures { OnOk result (IsPutTo lists.old.items lists.new.items
-        (min (place marks.now (pos 2 *ℤ s.0.0.1)) (place marks.now (pos 2 *ℤ s.0.1.1)))
-        (max (place marks.now (pos 2 *ℤ s.0.0.1)) (place marks.now (pos 2 *ℤ s.0.1.1)) + 1) s) }
+        (first_row marks.now e) (last_row marks.now e + 1) e) }
 {
-    let a = place(marks, height(s.0.0));
-    let b = place(marks, height(s.0.1));
-    put_to(lists, a.min(b), a.max(b), s)
+    let a = place(marks, height(e.0.0));
+    let b = place(marks, height(e.0.1));
+    put_to(lists, a.min(b), a.max(b), e)
 }
 
-impl Rows {
-    /// The rows of segments.
-    pub fn new(alloc: Global, segments: &[CountedSegment]) -> Result<Rows, AllocError>
-        ensures { IfOk result (λ r. AreRows r.marks.items r.lists.items segments.now) }
+impl<T: Copy> Rows<T> {
+    /// The rows of edges.
+    pub fn new(alloc: Global, edges: &[(GridEdge, T)]) -> Result<Rows<T>, AllocError>
+        ensures { IfOk result (λ r. AreRows r.marks.items r.lists.items edges.now) }
     {
-        let marks = marks(alloc, segments)?;
+        let marks = marks(alloc, edges)?;
         let mut lists = empty_lists(alloc, marks.len() + 1)?;
-        for s in segments {
-            file(&marks, &mut lists, *s)?;
+        for e in edges {
+            file(&marks, &mut lists, *e)?;
         }
         Ok(Rows { marks, lists })
     }
 
-    /// The segments of the row of a point, among them all that cross the ray from it to the east.
-    pub fn row(&self, q: FinePoint) -> &[CountedSegment]
+    /// The edges of the row of a point, among them all that cross the ray from it to the east.
+    pub fn row(&self, q: FinePoint) -> &[(GridEdge, T)]
         requires rising { AreRising self.now.marks.items }
         requires len { length self.now.lists.items ≡ length self.now.marks.items + 1 }
-        ensures { (d : Vec Counted Global) → result.now ≡ (slice_index_or self.now.lists.items (place self.now.marks.items q.1) d).items }
+        ensures { (d : Vec (Edge × T) Global) → result.now ≡ (slice_index_or self.now.lists.items (place self.now.marks.items q.1) d).items }
     {
         &self.lists[place(&self.marks, Mark { at: q.height() })]
     }

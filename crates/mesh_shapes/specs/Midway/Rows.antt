@@ -1,16 +1,24 @@
--- Segments listed by the rows that they reach.
-use Rattle.std.specs.Prelude.{ℕ, ◌≡◌, ◌+◌, ◌<◌, List, length, slice_index_or, ◌≤ℤ◌, Vec}
+-- Edges listed by the rows that they reach. Beside each stands something else, as its count.
+use Rattle.std.specs.Prelude.{ℕ, ◌≡◌, ◌+◌, ◌<◌, Bool, ◌&&◌, List, length, slice_index_or, min, max, nat_le, pos, ◌*ℤ◌, Vec}
 use Rattle.std.specs.declared.alloc.Global.{Global}
-use Rattle.mesh_plane.specs.Plane.{Point}
-use Rattle.mesh_plane.specs.Winding.{sum_of}
+use Rattle.std.specs.List.{filter}
+use Rattle.mesh_plane.specs.Plane.{Edge}
 use Rattle.mesh_cuts.specs.declared.places.Mark.{Mark}
-use Rattle.mesh_cuts.specs.Counted.{Counted, size}
 use Rattle.mesh_cuts.specs.Marks.{place, AreRising}
-use Rattle.mesh_shapes.specs.Midway.CountedSides.{counted_winding}
 
--- the row of a point has all segments that cross the ray from it to the east, and no row weighs more than all segments
-pub record AreRows (marks : List Mark) (lists : List (Vec Counted Global)) (ks : List Counted) : Type 0 where
+-- the lowest and the highest row that an edge reaches, by the heights of its ends on the grid 2
+abbrev pub first_row : {T : Type 0} → List Mark → Edge × T → ℕ
+first_row marks e = min (place marks (pos 2 *ℤ e.0.0.1)) (place marks (pos 2 *ℤ e.0.1.1))
+
+abbrev pub last_row : {T : Type 0} → List Mark → Edge × T → ℕ
+last_row marks e = max (place marks (pos 2 *ℤ e.0.0.1)) (place marks (pos 2 *ℤ e.0.1.1))
+
+-- an edge reaches a row
+abbrev pub reaches : {T : Type 0} → List Mark → ℕ → Edge × T → Bool
+reaches marks row e = nat_le (first_row marks e) row && nat_le row (last_row marks e)
+
+-- each row has the edges that reach it, in their order
+pub record AreRows {T : Type 0} (marks : List Mark) (lists : List (Vec (Edge × T) Global)) (es : List (Edge × T)) : Type 0 where
   pub rising : AreRising marks
   pub len : length lists ≡ length marks + 1
-  pub sums : (q : Point) (d : Vec Counted Global) → counted_winding q (slice_index_or lists (place marks q.1) d).items ≡ counted_winding q ks
-  pub parts : (i : ℕ) (d : Vec Counted Global) → i < length lists → sum_of size (slice_index_or lists i d).items ≤ℤ sum_of size ks
+  pub rows : (i : ℕ) (d : Vec (Edge × T) Global) → i < length lists → (slice_index_or lists i d).items ≡ filter (reaches marks i) es

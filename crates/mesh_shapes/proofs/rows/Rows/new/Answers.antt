@@ -1,19 +1,19 @@
 use Rattle.std.proofs.Common.{arith, subst, List, take_all}
-use Rattle.mesh_cuts.specs.Counted.{Counted}
+use Rattle.mesh_plane.specs.Plane.{Edge}
 use Rattle.mesh_shapes.specs.Midway.Rows.{AreRows}
 use Rattle.mesh_shapes.proofs.RowSums.{rows_none, rows_more}
 use Rattle.mesh_shapes.proofs.rows.Rows.new.Goals as goal
 
-pub loop-s-init : goal.loop-s-init
-loop-s-init c =
+pub loop-e-init : goal.loop-e-init
+loop-e-init g c =
     rows_none c.in_ok-marks.marks.items c.in_ok-lists.lists.items c.in_ok-marks.ensures (omega (arith, c.in_ok-lists.ensures.len, c.len.ensures))
     (λ i d h. c.in_ok-lists.ensures.empty i d (omega (arith, c.len.ensures)))
 
-pub loop-s-preserved : goal.loop-s-preserved
-loop-s-preserved c =
-    rows_more c.in_ok-marks.marks.items c.loop-s.lists.items c.file.new.lists.items c.args.segments.now c.loop-s.s-index _ c.loop-s-test.true c.loop-s.invariant
+pub loop-e-preserved : goal.loop-e-preserved
+loop-e-preserved g c =
+    rows_more c.in_ok-marks.marks.items c.loop-e.lists.items c.file.new.lists.items c.args.edges.now c.loop-e.e-index c.e-item.result c.loop-e-test.true c.e-item.is c.loop-e.invariant
     (rw c.deref.ensures.value at c.in_ok-file.ensures)
 
 pub returns : goal.returns
-returns c =
-    subst (λ (ks : List Counted). AreRows c.in_ok-marks.marks.items c.loop-s.lists.items ks) (take_all c.loop-s.s-index c.args.segments.now (omega (arith, c.loop-s-test.false))) c.loop-s.invariant
+returns g c =
+    subst (λ (es : List (Edge × g.row.T.Denot)). AreRows c.in_ok-marks.marks.items c.loop-e.lists.items es) (take_all c.loop-e.e-index c.args.edges.now (omega (arith, c.loop-e-test.false))) c.loop-e.invariant
