@@ -2,7 +2,7 @@
 //! its box reaches, where those are sought that a segment may meet. What was taken out stays listed, so what a cell lists
 //! counts only where it lives.
 
-ghost use Rattle.std.specs.Prelude.{◌≡◌, ℕ, ◌+◌, ◌*◌, ◌<◌, ◌≤◌, List, [], ℤ, pos, ◌<ℤ◌, length, slice_index_or, MatchOption, IfOk, OnOk, Vec};
+ghost use Rattle.std.specs.Prelude.{◌≡◌, ℕ, ◌+◌, ◌*◌, ◌<◌, ◌≤◌, true, List, [], ℤ, pos, ◌<ℤ◌, length, slice_index_or, MatchOption, IfOk, OnOk, Vec};
 ghost use Rattle.std.specs.declared.alloc.Global.{Global};
 ghost use Rattle.mesh_plane.specs.Plane.{Point, Edge};
 ghost use Rattle.mesh_cuts.specs.Counted.{times};
@@ -12,15 +12,14 @@ ghost use Rattle.mesh_split.specs.Midway.Cells.{Grows, IsListed, IsCellClear, Is
 ghost use Rattle.mesh_split.specs.Midway.Steps.{HaveRoom, IsPut, IsTaken, IsClearOf, AddsIf, exactly};
 
 use crate::axes::{Axes, Span};
+use crate::hints::{Hints, Meeting};
 use crate::tally::Tally;
+use crate::worklist::Worklist;
 use mesh_cuts::exact::meeting;
 use mesh_cuts::grid::{CountedSegment, GridEdge, GridPoint};
 use mesh_cuts::places::{empty_lists, put_to};
 use std::alloc::{AllocError, Global};
 use std::marker::Model;
-
-/// The ends of a live segment that another segment meets, and where both are to be split.
-pub type Meeting = (GridEdge, GridPoint);
 
 /// The live segments, in no order that a caller may rely on. Contracts see the list of them.
 #[derive(Drop)]
@@ -135,6 +134,45 @@ impl Store {
         None
     }
 
+    /// Whether the segment with these ends lives.
+    pub fn has(&self, ends: GridEdge) -> bool
+        ensures { result ≡ true → pos 0 <ℤ exactly ends self.now }
+    {
+        self.live.has(ends)
+    }
+
+    /// Notes the live segments of one cell that a segment meets there.
+    fn note_in_cell(
+        &self,
+        column: usize,
+        row: usize,
+        cell: &[GridEdge],
+        s: GridEdge,
+        hints: &mut Hints,
+    ) -> Result<(), AllocError> {
+        for e in cell {
+            if let Some(m) = live_meeting(&self.live, s, *e) {
+                if self.axes.is_in_cell(m.1, column, row) {
+                    hints.note(s, m)?;
+                }
+            }
+        }
+        Ok(())
+    }
+
+    /// Notes the live segments that a segment meets, each in the cell in which it does.
+    pub fn note_meetings(&self, s: GridEdge, hints: &mut Hints) -> Result<(), AllocError> {
+        let columns = self.axes.columns_of(s);
+        let rows = self.axes.rows_of(s);
+        let width = self.axes.rows.len() + 1;
+        for c in columns.first..columns.last + 1 {
+            for row in rows.first..rows.last + 1 {
+                self.note_in_cell(c, row, &self.cells[c * width + row], s, hints)?;
+            }
+        }
+        Ok(())
+    }
+
     /// Makes a segment live.
     pub fn insert(&mut self, s: CountedSegment) -> Result<(), AllocError>
         requires forward { IsForward s.0 }
@@ -164,6 +202,13 @@ impl Store {
     {
         let added = self.live.add(s)?;
         Ok(added)
+    }
+
+    /// The live segments, which all wait again.
+    pub fn into_worklist(self, alloc: Global) -> Worklist
+        ensures { result ≡ self }
+    {
+        self.live.into_worklist(alloc)
     }
 
     /// The live segments as a list.

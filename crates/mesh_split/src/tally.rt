@@ -7,6 +7,7 @@ ghost use Rattle.mesh_cuts.specs.Counted.{times};
 ghost use Rattle.mesh_cuts.specs.Split.{IsForward};
 ghost use Rattle.mesh_split.specs.Midway.Steps.{HaveRoom, IsPut, IsTaken, AddsIf, exactly};
 
+use crate::worklist::Worklist;
 use mesh_cuts::grid::{CountedSegment, GridEdge};
 use std::alloc::{AllocError, Global};
 use std::collections::BTreeMap;
@@ -84,6 +85,13 @@ impl Tally {
             return Ok(true);
         }
         Ok(false)
+    }
+
+    /// The segments as ones that wait.
+    pub fn into_worklist(self, alloc: Global) -> Worklist
+        ensures { result ≡ self }
+    {
+        Worklist::with_counts(alloc, self.counts)
     }
 
     /// The segments as a list.

@@ -1,0 +1,108 @@
+//! The first pass: splits in an order that is seldom unlucky. It need not leave the segments clear of each other; what is left to
+//! split is found by the second pass, whatever was split here.
+
+ghost use Rattle.std.specs.Prelude.{◌≡◌, [], pos, ◌<ℤ◌, IfOk, IfSome, OnOk};
+ghost use Rattle.mesh_cuts.specs.Clean.{IsProper};
+ghost use Rattle.mesh_cuts.specs.Split.{Meets};
+ghost use Rattle.mesh_split.specs.Midway.Steps.{AllClear, IsPile, KeepsPile, StandOnce, exactly};
+
+use crate::hints::{Hints, Kind, Meeting};
+use crate::steps::Splitter;
+use crate::store::Store;
+use mesh_cuts::exact::meeting;
+use mesh_cuts::grid::GridEdge;
+use std::alloc::{AllocError, Global};
+
+/// How often each kind of attempt is made.
+const ROUNDS: usize = 4;
+
+/// How many more splits each round allows than the one before it.
+const GROWTH: usize = 4;
+
+/// How many splits the first round allows beside those that the number of meetings asks for.
+const SPARE: usize = 500;
+
+/// A segment, and one that it meets.
+type Pair = (GridEdge, Meeting);
+
+/// Makes all waiting segments live, whatever they meet, and notes what they meet.
+fn place(splitter: &mut Splitter, hints: &mut Hints) -> Result<(), AllocError>
+    requires { StandOnce splitter.old.todo splitter.old.live }
+    ensures none { OnOk result (splitter.new.todo ≡ []) }
+    ensures kept { OnOk result (KeepsPile splitter.old.todo splitter.old.live splitter.new.todo splitter.new.live) }
+{
+    while let Some(s) = splitter.todo.pop() {
+        splitter.live.note_meetings(s.0, hints)?;
+        splitter.live.insert(s)?;
+    }
+    Ok(())
+}
+
+/// The next hint that is still true: both segments live, and they meet.
+fn next(live: &Store, hints: &mut Hints) -> Option<Pair>
+    ensures first { IfSome result (λ p. pos 0 <ℤ exactly p.0 live.now) }
+    ensures second { IfSome result (λ p. pos 0 <ℤ exactly p.1.0 live.now) }
+    ensures meets { IfSome result (λ p. Meets p.0 p.1.0 p.1.1) }
+{
+    for _hint in 0..hints.len() {
+        let (first, second) = hints.pop()?;
+        if live.has(first) && live.has(second) {
+            if let Some(at) = meeting(first, second) {
+                return Some((first, (second, at)));
+            }
+        }
+    }
+    None
+}
+
+/// How many splits an attempt may make.
+fn budget(edges: usize, meetings: usize, factor: usize) -> usize {
+    meetings
+        .saturating_mul(2)
+        .saturating_add(edges)
+        .saturating_add(SPARE)
+        .saturating_mul(factor)
+}
+
+/// Splits the edges in one order, unless that takes too many splits. All that it leaves waits to be tested.
+fn attempt(
+    alloc: Global,
+    edges: &[GridEdge],
+    kind: Kind,
+    factor: usize,
+) -> Result<Option<Splitter>, AllocError>
+    requires { IsProper edges.now }
+    ensures pile { IfOk result (λ o. IfSome o (λ s. IsPile edges.now s.todo s.live)) }
+    ensures clear { IfOk result (λ o. IfSome o (λ s. AllClear s.live)) }
+{
+    let mut splitter = Splitter::of_edges(alloc, edges)?;
+    let mut hints = Hints::new(alloc, kind);
+    place(&mut splitter, &mut hints)?;
+    for _split in 0..budget(edges.len(), hints.len(), factor) {
+        let Some((first, m)) = next(&splitter.live, &mut hints) else {
+            let again = splitter.again(alloc, edges)?;
+            return Ok(Some(again));
+        };
+        splitter.split_live(first, m)?;
+        place(&mut splitter, &mut hints)?;
+    }
+    Ok(None)
+}
+
+/// The segments that wait for the second pass: those that an attempt left, or the edges, where none came to its end.
+pub fn first_pass(alloc: Global, edges: &[GridEdge]) -> Result<Splitter, AllocError>
+    requires { IsProper edges.now }
+    ensures pile { IfOk result (λ s. IsPile edges.now s.todo s.live) }
+    ensures clear { IfOk result (λ s. AllClear s.live) }
+{
+    let mut factor: usize = 1;
+    for _round in 0..ROUNDS {
+        for kind in [Kind::Plain, Kind::Rough] {
+            if let Some(splitter) = attempt(alloc, edges, kind, factor)? {
+                return Ok(splitter);
+            }
+        }
+        factor = factor.saturating_mul(GROWTH);
+    }
+    Splitter::of_edges(alloc, edges)
+}
