@@ -8,7 +8,7 @@ ghost use Rattle.mesh_plane.specs.Plane.{Point, Edge};
 ghost use Rattle.mesh_cuts.specs.Counted.{times};
 ghost use Rattle.mesh_cuts.specs.Marks.{AreRising};
 ghost use Rattle.mesh_cuts.specs.Split.{IsForward, IsInBox, AreClear, Meets};
-ghost use Rattle.mesh_split.specs.Midway.Cells.{Grows, IsListed, IsCellClear, IsColumnClear, cell_of};
+ghost use Rattle.mesh_split.specs.Midway.Cells.{AreFiled, Grows, IsListed, IsCellClear, IsColumnClear, cell_of};
 ghost use Rattle.mesh_split.specs.Midway.Steps.{HaveRoom, IsPut, IsTaken, IsClearOf, AddsIf, exactly};
 
 use crate::axes::{Axes, Span};
@@ -28,7 +28,13 @@ pub struct Store {
     axes: Axes,
     /// The ends listed in each cell, column after column.
     cells: Vec<Vec<GridEdge>>,
+    /// How many more segments are listed before the cells are laid out anew.
+    room: usize,
+    alloc: Global,
 }
+
+/// How many segments are listed at least before the cells are laid out anew.
+const LEAST_ROOM: usize = 64;
 
 impl Model for Store {
     ghost use Rattle.std.specs.Prelude.{List, ℤ};
@@ -104,6 +110,25 @@ fn file(axes: &Axes, cells: &mut Vec<Vec<GridEdge>>, e: GridEdge) -> Result<(), 
     Ok(())
 }
 
+/// Cells that serve for the live segments, which they list, and the marks that part them.
+fn laid_out(alloc: Global, live: &Tally) -> Result<(Axes, Vec<Vec<GridEdge>>), AllocError>
+    ensures { IfOk result (λ p. AreFiled p.0 p.1.items live.now) }
+{
+    let ends = live.ends(alloc)?;
+    let axes = Axes::new(alloc, &ends)?;
+    let count = (axes.columns.len() + 1) * (axes.rows.len() + 1);
+    let mut cells = empty_lists(alloc, count)?;
+    for e in &ends {
+        file(&axes, &mut cells, *e)?;
+    }
+    Ok((axes, cells))
+}
+
+/// How many segments are listed before cells are laid out anew that were laid out for so many.
+fn room_for(segments: usize) -> usize {
+    segments.saturating_mul(2).saturating_add(LEAST_ROOM)
+}
+
 impl Store {
     /// No segment, and cells that serve for the segments of some edges.
     pub fn new(alloc: Global, edges: &[GridEdge]) -> Result<Self, AllocError>
@@ -116,6 +141,8 @@ impl Store {
             live: Tally::new(alloc),
             axes,
             cells,
+            room: room_for(edges.len()),
+            alloc,
         })
     }
 
@@ -173,8 +200,30 @@ impl Store {
         Ok(())
     }
 
-    /// Makes a segment live.
-    pub fn insert(&mut self, s: CountedSegment) -> Result<(), AllocError>
+    /// Lays the cells out for the segments that live now. So they list nothing that lives no more, and are as fine as serves.
+    fn lay_out(&mut self) -> Result<(), AllocError>
+        ensures { self.new ≡ self.old }
+    {
+        let (axes, cells) = laid_out(self.alloc, &self.live)?;
+        self.axes = axes;
+        self.cells = cells;
+        self.room = room_for(self.live.len());
+        Ok(())
+    }
+
+    /// Makes room for one more segment in the cells.
+    fn make_room(&mut self) -> Result<(), AllocError>
+        ensures { self.new ≡ self.old }
+    {
+        if self.room == 0 {
+            self.lay_out()?;
+        }
+        self.room = self.room.saturating_sub(1);
+        Ok(())
+    }
+
+    /// Lists a segment, and makes it live.
+    fn enter(&mut self, s: CountedSegment) -> Result<(), AllocError>
         requires forward { IsForward s.0 }
         requires absent { times s.0 self.old ≡ pos 0 }
         ensures { OnOk result (IsPut self.old self.new s) }
@@ -182,6 +231,16 @@ impl Store {
         file(&self.axes, &mut self.cells, s.0)?;
         self.live.insert(s)?;
         Ok(())
+    }
+
+    /// Makes a segment live.
+    pub fn insert(&mut self, s: CountedSegment) -> Result<(), AllocError>
+        requires forward { IsForward s.0 }
+        requires absent { times s.0 self.old ≡ pos 0 }
+        ensures { OnOk result (IsPut self.old self.new s) }
+    {
+        self.make_room()?;
+        self.enter(s)
     }
 
     /// Takes the live segment with these ends out.

@@ -48,6 +48,18 @@ impl Tally {
         }
     }
 
+    /// How many segments stand.
+    pub fn len(&self) -> usize {
+        self.counts.len()
+    }
+
+    /// The ends of all segments.
+    pub fn ends(&self, alloc: Global) -> Result<Vec<GridEdge>, AllocError>
+        ensures { IfOk result (λ v. v.items ≡ keys_of self.now) }
+    {
+        self.counts.keys().copied().collect(alloc)
+    }
+
     /// Puts a segment in.
     pub fn insert(&mut self, s: CountedSegment) -> Result<(), AllocError>
         requires forward { IsForward s.0 }
