@@ -6,12 +6,32 @@ ghost use Rattle.mesh_cuts.specs.Clean.{IsProper};
 ghost use Rattle.mesh_cuts.specs.Split.{Meets};
 ghost use Rattle.mesh_split.specs.Midway.Steps.{AllClear, IsPile, KeepsPile, StandOnce, exactly};
 
-use crate::hints::{Hints, Kind, Meeting};
+use crate::hints::{Hints, Kind, Meeting, Order};
 use crate::steps::Splitter;
 use crate::store::Store;
 use mesh_cuts::exact::meeting;
 use mesh_cuts::grid::GridEdge;
 use std::alloc::{AllocError, Global};
+
+/// The kinds of attempts. Each order has its own unlucky cases, so the next kind is tried where one takes too many splits.
+const KINDS: [Kind; 4] = [
+    Kind {
+        order: Order::Angle,
+        is_eager: false,
+    },
+    Kind {
+        order: Order::RoughAngle,
+        is_eager: false,
+    },
+    Kind {
+        order: Order::Angle,
+        is_eager: true,
+    },
+    Kind {
+        order: Order::RoughAngle,
+        is_eager: true,
+    },
+];
 
 /// How often each kind of attempt is made.
 const ROUNDS: usize = 4;
@@ -25,34 +45,58 @@ const SPARE: usize = 500;
 /// A segment, and one that it meets.
 type Pair = (GridEdge, Meeting);
 
-/// Makes all waiting segments live, whatever they meet, and notes what they meet.
-fn place(splitter: &mut Splitter, hints: &mut Hints) -> Result<(), AllocError>
+/// Makes all waiting segments live, whatever they meet, and notes what they meet, at once or later.
+fn place(splitter: &mut Splitter, hints: &mut Hints, at_once: bool) -> Result<(), AllocError>
     requires { StandOnce splitter.old.todo splitter.old.live }
     ensures none { OnOk result (splitter.new.todo ≡ []) }
     ensures kept { OnOk result (KeepsPile splitter.old.todo splitter.old.live splitter.new.todo splitter.new.live) }
 {
     while let Some(s) = splitter.todo.pop() {
-        splitter.live.note_meetings(s.0, hints)?;
+        if at_once {
+            splitter.live.note_meetings(s.0, hints)?;
+        } else {
+            hints.note_fresh(s.0)?;
+        }
         splitter.live.insert(s)?;
     }
     Ok(())
 }
 
-/// The next hint that is still true: both segments live, and they meet.
-fn next(live: &Store, hints: &mut Hints) -> Option<Pair>
-    ensures first { IfSome result (λ p. pos 0 <ℤ exactly p.0 live.now) }
-    ensures second { IfSome result (λ p. pos 0 <ℤ exactly p.1.0 live.now) }
-    ensures meets { IfSome result (λ p. Meets p.0 p.1.0 p.1.1) }
-{
-    for _hint in 0..hints.len() {
-        let (first, second) = hints.pop()?;
-        if live.has(first) && live.has(second) {
-            if let Some(at) = meeting(first, second) {
-                return Some((first, (second, at)));
-            }
+/// Notes the meetings that were not sought yet.
+fn sweep(live: &Store, hints: &mut Hints) -> Result<(), AllocError> {
+    for _fresh in 0..usize::MAX {
+        let Some(e) = hints.pop_fresh() else {
+            return Ok(());
+        };
+        if live.has(e) {
+            live.note_meetings(e, hints)?;
         }
     }
-    None
+    Ok(())
+}
+
+/// The next hint that is true: both segments live, and they meet. Other hints are followed to pieces that live.
+fn next(live: &Store, hints: &mut Hints) -> Result<Option<Pair>, AllocError>
+    ensures first { IfOk result (λ o. IfSome o (λ p. pos 0 <ℤ exactly p.0 live.now)) }
+    ensures second { IfOk result (λ o. IfSome o (λ p. pos 0 <ℤ exactly p.1.0 live.now)) }
+    ensures meets { IfOk result (λ o. IfSome o (λ p. Meets p.0 p.1.0 p.1.1)) }
+{
+    for _hint in 0..usize::MAX {
+        if hints.len() == 0 {
+            sweep(live, hints)?;
+        }
+        let Some((first, second)) = hints.pop() else {
+            return Ok(None);
+        };
+        if !live.has(first) {
+            hints.follow(first, second)?;
+        } else if !live.has(second) {
+            hints.follow(second, first)?;
+        } else if let Some(at) = meeting(first, second) {
+            return Ok(Some((first, (second, at))));
+        }
+    }
+    Ok(None)
 }
 
 /// How many splits an attempt may make.
@@ -76,15 +120,17 @@ fn attempt(
     ensures clear { IfOk result (λ o. IfSome o (λ s. AllClear s.live)) }
 {
     let mut splitter = Splitter::of_edges(alloc, edges)?;
-    let mut hints = Hints::new(alloc, kind);
-    place(&mut splitter, &mut hints)?;
+    let mut hints = Hints::new(alloc, kind.order);
+    place(&mut splitter, &mut hints, true)?;
     for _split in 0..budget(edges.len(), hints.len(), factor) {
-        let Some((first, m)) = next(&splitter.live, &mut hints) else {
-            let again = splitter.again(alloc, edges)?;
+        let Some((first, m)) = next(&splitter.live, &mut hints)? else {
+            let again = splitter.again(alloc)?;
             return Ok(Some(again));
         };
+        hints.note_cut(first, m.1)?;
+        hints.note_cut(m.0, m.1)?;
         splitter.split_live(first, m)?;
-        place(&mut splitter, &mut hints)?;
+        place(&mut splitter, &mut hints, kind.is_eager)?;
     }
     Ok(None)
 }
@@ -97,7 +143,7 @@ pub fn first_pass(alloc: Global, edges: &[GridEdge]) -> Result<Splitter, AllocEr
 {
     let mut factor: usize = 1;
     for _round in 0..ROUNDS {
-        for kind in [Kind::Plain, Kind::Rough] {
+        for kind in KINDS {
             if let Some(splitter) = attempt(alloc, edges, kind, factor)? {
                 return Ok(splitter);
             }

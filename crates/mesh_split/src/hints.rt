@@ -1,10 +1,10 @@
 //! Which split comes first: the meetings that were noted, the best one to split at the next. Nothing is promised of them. A hint
 //! is tested again when it is taken, so neither what it says nor the order decides whether a split is legal.
 
-use mesh_cuts::exact::{cross, do_cross, is_end, minus};
+use mesh_cuts::exact::{cross, do_cross, is_before, is_end, meeting, minus};
 use mesh_cuts::grid::{GridEdge, GridPoint};
 use std::alloc::{AllocError, Global};
-use std::collections::BinaryHeap;
+use std::collections::{BTreeMap, BinaryHeap};
 
 /// The ends of a live segment that another segment meets, and where both are to be split.
 pub type Meeting = (GridEdge, GridPoint);
@@ -15,13 +15,21 @@ const LONG: u128 = 1000;
 /// Up to this far in both coordinates, a point is near an end, in grid units.
 const NEAR: u128 = 2;
 
-/// How an attempt chooses among crossings.
+/// Which of several crossings is split first.
 #[derive(Debug, Copy, Clone)]
-pub enum Kind {
-    /// The largest angle first.
-    Plain,
+pub enum Order {
+    /// That of the largest angle.
+    Angle,
     /// The same, but angles within a factor of about 2 are alike.
-    Rough,
+    RoughAngle,
+}
+
+/// How an attempt chooses the next split.
+#[derive(Debug, Copy, Clone)]
+pub struct Kind {
+    pub order: Order,
+    /// Whether new meetings, which rounding brings, are sought after each split, and not only where no other is left.
+    pub is_eager: bool,
 }
 
 /// Two segments that met when the latter was noted. The greatest hint is taken first.
@@ -37,9 +45,13 @@ struct Hint {
 /// The hints that were noted and not yet taken.
 #[derive(Drop)]
 pub struct Hints {
-    kind: Kind,
+    order: Order,
     heap: BinaryHeap<Hint>,
     noted: usize,
+    /// Where segments were cut, so that a hint about one can be followed to its pieces.
+    cuts: BTreeMap<GridEdge, GridPoint>,
+    /// Segments whose meetings were not sought yet.
+    fresh: Vec<GridEdge>,
 }
 
 /// The greater of an edge's differences in `x` and in `y`.
@@ -76,24 +88,33 @@ fn rank(first: GridEdge, m: Meeting) -> u8 {
 }
 
 /// Greater for a greater angle between two edges.
-fn angle(kind: Kind, e: GridEdge, f: GridEdge) -> u128 {
+fn angle(order: Order, e: GridEdge, f: GridEdge) -> u128 {
     let sine = cross(minus(e.1, e.0), minus(f.1, f.0)).unsigned_abs();
-    match kind {
-        Kind::Plain => { sine.saturating_mul(1 << 56) / length(e).saturating_mul(length(f)).max(1) }
-        Kind::Rough => digits(sine)
+    match order {
+        Order::Angle => {
+            sine.saturating_mul(1 << 56) / length(e).saturating_mul(length(f)).max(1)
+        }
+        Order::RoughAngle => digits(sine)
             .saturating_add(128)
             .saturating_sub(digits(length(e)))
             .saturating_sub(digits(length(f))),
     }
 }
 
+/// The edge between two points, the lesser one first.
+fn between(p: GridPoint, q: GridPoint) -> GridEdge {
+    if is_before(p, q) { (p, q) } else { (q, p) }
+}
+
 impl Hints {
     /// No hint.
-    pub fn new(alloc: Global, kind: Kind) -> Self {
+    pub fn new(alloc: Global, order: Order) -> Self {
         Hints {
-            kind,
+            order,
             heap: BinaryHeap::new(alloc),
             noted: 0,
+            cuts: BTreeMap::new(alloc),
+            fresh: Vec::new(alloc),
         }
     }
 
@@ -107,7 +128,7 @@ impl Hints {
         self.noted = self.noted.saturating_add(1);
         self.heap.push(Hint {
             rank: rank(first, m),
-            angle: angle(self.kind, first, m.0),
+            angle: angle(self.order, first, m.0),
             serial: self.noted,
             first,
             second: m.0,
@@ -115,9 +136,41 @@ impl Hints {
         Ok(())
     }
 
+    /// Notes that the meetings of a segment were not sought yet.
+    pub fn note_fresh(&mut self, e: GridEdge) -> Result<(), AllocError> {
+        self.fresh.push(e)?;
+        Ok(())
+    }
+
+    /// Notes where a segment is to be split.
+    pub fn note_cut(&mut self, e: GridEdge, c: GridPoint) -> Result<(), AllocError> {
+        if !is_end(c, e) {
+            self.cuts.insert(e, c)?;
+        }
+        Ok(())
+    }
+
     /// Takes the best hint: two segments that met when it was noted.
     pub fn pop(&mut self) -> Option<(GridEdge, GridEdge)> {
         let hint = self.heap.pop()?;
         Some((hint.first, hint.second))
+    }
+
+    /// Takes a segment whose meetings were not sought yet.
+    pub fn pop_fresh(&mut self) -> Option<GridEdge> {
+        self.fresh.pop()
+    }
+
+    /// Notes which pieces of a segment meet another one, where it was cut.
+    pub fn follow(&mut self, gone: GridEdge, other: GridEdge) -> Result<(), AllocError> {
+        let Some(c) = self.cuts.get(&gone).copied() else {
+            return Ok(());
+        };
+        for piece in [between(gone.0, c), between(c, gone.1)] {
+            if let Some(at) = meeting(piece, other) {
+                self.note(piece, (other, at))?;
+            }
+        }
+        Ok(())
     }
 }

@@ -141,12 +141,13 @@ impl Splitter {
         Ok(())
     }
 
-    /// The live segments alone, which all wait again. They may be split as the given edges are.
-    pub fn again(self, alloc: Global, edges: &[GridEdge]) -> Result<Self, AllocError>
+    /// The live segments alone, which all wait again.
+    pub fn again(self, alloc: Global) -> Result<Self, AllocError>
         ensures todo { IfOk result (λ s. s.todo ≡ self.live) }
         ensures live { IfOk result (λ s. s.live ≡ []) }
     {
-        let live = Store::new(alloc, edges)?;
+        let ends = self.live.ends(alloc)?;
+        let live = Store::new(alloc, &ends)?;
         Ok(Splitter {
             todo: self.live.into_worklist(alloc),
             live,

@@ -28,13 +28,19 @@ pub struct Store {
     axes: Axes,
     /// The ends listed in each cell, column after column.
     cells: Vec<Vec<GridEdge>>,
-    /// How many more segments are listed before the cells are laid out anew.
-    room: usize,
+    /// How much more work there may be before the cells are laid out anew.
+    work: usize,
     alloc: Global,
 }
 
-/// How many segments are listed at least before the cells are laid out anew.
-const LEAST_ROOM: usize = 64;
+/// For how many segments more than there are cells are laid out.
+const LEAST: usize = 64;
+
+/// How much work there may be for each segment before cells are laid out anew. To look at one that is listed is 1.
+const WORK: usize = 64;
+
+/// How much work it is to list a segment, whatever the cells list.
+const SPENT: usize = 32;
 
 impl Model for Store {
     ghost use Rattle.std.specs.Prelude.{List, ℤ};
@@ -124,9 +130,10 @@ fn laid_out(alloc: Global, live: &Tally) -> Result<(Axes, Vec<Vec<GridEdge>>), A
     Ok((axes, cells))
 }
 
-/// How many segments are listed before cells are laid out anew that were laid out for so many.
-fn room_for(segments: usize) -> usize {
-    segments.saturating_mul(2).saturating_add(LEAST_ROOM)
+/// How much work there may be before cells are laid out anew that were laid out for so many segments: to lay them out costs
+/// less.
+fn work_for(segments: usize) -> usize {
+    segments.saturating_add(LEAST).saturating_mul(WORK)
 }
 
 impl Store {
@@ -141,7 +148,7 @@ impl Store {
             live: Tally::new(alloc),
             axes,
             cells,
-            room: room_for(edges.len()),
+            work: work_for(edges.len()),
             alloc,
         })
     }
@@ -166,6 +173,11 @@ impl Store {
         ensures { result ≡ true → pos 0 <ℤ exactly ends self.now }
     {
         self.live.has(ends)
+    }
+
+    /// The ends of all live segments.
+    pub fn ends(&self, alloc: Global) -> Result<Vec<GridEdge>, AllocError> {
+        self.live.ends(alloc)
     }
 
     /// Notes the live segments of one cell that a segment meets there.
@@ -207,18 +219,33 @@ impl Store {
         let (axes, cells) = laid_out(self.alloc, &self.live)?;
         self.axes = axes;
         self.cells = cells;
-        self.room = room_for(self.live.len());
+        self.work = work_for(self.live.len());
         Ok(())
     }
 
-    /// Makes room for one more segment in the cells.
-    fn make_room(&mut self) -> Result<(), AllocError>
+    /// How many segments are listed in the cells that a segment's box reaches.
+    fn listed_near(&self, e: GridEdge) -> usize {
+        let columns = self.axes.columns_of(e);
+        let rows = self.axes.rows_of(e);
+        let width = self.axes.rows.len() + 1;
+        let mut sum: usize = 0;
+        for c in columns.first..columns.last + 1 {
+            for row in rows.first..rows.last + 1 {
+                sum = sum.saturating_add(self.cells[c * width + row].len());
+            }
+        }
+        sum
+    }
+
+    /// Lays the cells out anew, where so much was listed since that it pays.
+    fn make_room(&mut self, e: GridEdge) -> Result<(), AllocError>
         ensures { self.new ≡ self.old }
     {
-        if self.room == 0 {
+        if self.work == 0 {
             self.lay_out()?;
         }
-        self.room = self.room.saturating_sub(1);
+        let work = self.listed_near(e).saturating_add(SPENT);
+        self.work = self.work.saturating_sub(work);
         Ok(())
     }
 
@@ -239,7 +266,7 @@ impl Store {
         requires absent { times s.0 self.old ≡ pos 0 }
         ensures { OnOk result (IsPut self.old self.new s) }
     {
-        self.make_room()?;
+        self.make_room(s.0)?;
         self.enter(s)
     }
 
