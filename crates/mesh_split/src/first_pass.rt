@@ -6,31 +6,30 @@ ghost use Rattle.mesh_cuts.specs.Clean.{IsProper};
 ghost use Rattle.mesh_cuts.specs.Split.{Meets};
 ghost use Rattle.mesh_split.specs.Midway.Steps.{AllClear, IsPile, KeepsPile, StandOnce, exactly};
 
-use crate::hints::{Hints, Kind, Meeting, Order};
+use crate::hints::{Hints, Meeting, Order};
 use crate::steps::Splitter;
 use crate::store::Store;
 use mesh_cuts::exact::meeting;
 use mesh_cuts::grid::GridEdge;
 use std::alloc::{AllocError, Global};
 
-/// The kinds of attempts. Each order has its own unlucky cases, so the next kind is tried where one takes too many splits.
+/// How an attempt chooses the next split.
+#[derive(Debug, Copy, Clone)]
+enum Kind {
+    /// The best of the known meetings. Those that rounding brings are sought where no other is left.
+    Sweeping(Order),
+    /// The best of all meetings. Those that rounding brings are sought after each split.
+    Eager(Order),
+    /// As the second pass does.
+    InHand,
+}
+
+/// The kinds of attempts. Each has its own unlucky cases, so the next one is made where one takes too many splits.
 const KINDS: [Kind; 4] = [
-    Kind {
-        order: Order::Angle,
-        is_eager: false,
-    },
-    Kind {
-        order: Order::RoughAngle,
-        is_eager: false,
-    },
-    Kind {
-        order: Order::Angle,
-        is_eager: true,
-    },
-    Kind {
-        order: Order::RoughAngle,
-        is_eager: true,
-    },
+    Kind::Sweeping(Order::Angle),
+    Kind::Sweeping(Order::RoughAngle),
+    Kind::Eager(Order::Angle),
+    Kind::InHand,
 ];
 
 /// How often each kind of attempt is made.
@@ -41,6 +40,9 @@ const GROWTH: usize = 4;
 
 /// How many splits the first round allows beside those that the number of meetings asks for.
 const SPARE: usize = 500;
+
+/// How many segments are taken in hand for a split, about.
+const STEPS: usize = 4;
 
 /// A segment, and one that it meets.
 type Pair = (GridEdge, Meeting);
@@ -108,7 +110,51 @@ fn budget(edges: usize, meetings: usize, factor: usize) -> usize {
         .saturating_mul(factor)
 }
 
-/// Splits the edges in one order, unless that takes too many splits. All that it leaves waits to be tested.
+/// Splits the edges by hints, unless that takes too many splits. All that it leaves waits to be tested.
+fn by_hints(
+    alloc: Global,
+    edges: &[GridEdge],
+    order: Order,
+    is_eager: bool,
+    factor: usize,
+) -> Result<Option<Splitter>, AllocError>
+    requires { IsProper edges.now }
+    ensures pile { IfOk result (λ o. IfSome o (λ s. IsPile edges.now s.todo s.live)) }
+    ensures clear { IfOk result (λ o. IfSome o (λ s. AllClear s.live)) }
+{
+    let mut splitter = Splitter::of_edges(alloc, edges)?;
+    let mut hints = Hints::new(alloc, order);
+    place(&mut splitter, &mut hints, true)?;
+    for _split in 0..budget(edges.len(), hints.len(), factor) {
+        let Some((first, m)) = next(&splitter.live, &mut hints)? else {
+            let again = splitter.again(alloc)?;
+            return Ok(Some(again));
+        };
+        hints.note_cut(first, m.1)?;
+        hints.note_cut(m.0, m.1)?;
+        splitter.split_live(first, m)?;
+        place(&mut splitter, &mut hints, is_eager)?;
+    }
+    Ok(None)
+}
+
+/// Splits the edges as the second pass does, unless that takes too many steps.
+fn in_hand(alloc: Global, edges: &[GridEdge], steps: usize) -> Result<Option<Splitter>, AllocError>
+    requires { IsProper edges.now }
+    ensures pile { IfOk result (λ o. IfSome o (λ s. IsPile edges.now s.todo s.live)) }
+    ensures clear { IfOk result (λ o. IfSome o (λ s. AllClear s.live)) }
+{
+    let mut splitter = Splitter::of_edges(alloc, edges)?;
+    for _step in 0..steps {
+        let Some(s) = splitter.todo.pop() else {
+            return Ok(Some(splitter));
+        };
+        splitter.settle(s)?;
+    }
+    Ok(None)
+}
+
+/// An attempt of one kind, which is given up where it takes too many splits.
 fn attempt(
     alloc: Global,
     edges: &[GridEdge],
@@ -119,20 +165,15 @@ fn attempt(
     ensures pile { IfOk result (λ o. IfSome o (λ s. IsPile edges.now s.todo s.live)) }
     ensures clear { IfOk result (λ o. IfSome o (λ s. AllClear s.live)) }
 {
-    let mut splitter = Splitter::of_edges(alloc, edges)?;
-    let mut hints = Hints::new(alloc, kind.order);
-    place(&mut splitter, &mut hints, true)?;
-    for _split in 0..budget(edges.len(), hints.len(), factor) {
-        let Some((first, m)) = next(&splitter.live, &mut hints)? else {
-            let again = splitter.again(alloc)?;
-            return Ok(Some(again));
-        };
-        hints.note_cut(first, m.1)?;
-        hints.note_cut(m.0, m.1)?;
-        splitter.split_live(first, m)?;
-        place(&mut splitter, &mut hints, kind.is_eager)?;
+    match kind {
+        Kind::Sweeping(order) => by_hints(alloc, edges, order, false, factor),
+        Kind::Eager(order) => by_hints(alloc, edges, order, true, factor),
+        Kind::InHand => in_hand(
+            alloc,
+            edges,
+            budget(edges.len(), 0, factor).saturating_mul(STEPS),
+        ),
     }
-    Ok(None)
 }
 
 /// The segments that wait for the second pass: those that an attempt left, or the edges, where none came to its end.

@@ -24,14 +24,6 @@ pub enum Order {
     RoughAngle,
 }
 
-/// How an attempt chooses the next split.
-#[derive(Debug, Copy, Clone)]
-pub struct Kind {
-    pub order: Order,
-    /// Whether new meetings, which rounding brings, are sought after each split, and not only where no other is left.
-    pub is_eager: bool,
-}
-
 /// Two segments that met when the latter was noted. The greatest hint is taken first.
 #[derive(Debug, Copy, Clone, PartialEq, Eq, PartialOrd, Ord)]
 struct Hint {

@@ -1,5 +1,5 @@
 use Rattle.mesh_split.proofs.Piles.{pile_once, pile_again}
-use Rattle.mesh_split.proofs.first_pass.attempt.Goals as goal
+use Rattle.mesh_split.proofs.first_pass.by_hints.Goals as goal
 
 pub place-requires-in-loop-split : goal.place-requires-in-loop-split
 place-requires-in-loop-split c =
