@@ -42,6 +42,9 @@ const WORK: usize = 64;
 /// How much work it is to list a segment, whatever the cells list.
 const SPENT: usize = 32;
 
+/// Up to so many segments in a cell cost no further work.
+const USUAL: usize = 32;
+
 impl Model for Store {
     ghost use Rattle.std.specs.Prelude.{List, ℤ};
 
@@ -223,18 +226,14 @@ impl Store {
         Ok(())
     }
 
-    /// How many segments are listed in the cells that a segment's box reaches.
-    fn listed_near(&self, e: GridEdge) -> usize {
+    /// How many more segments than usual are listed in the cells at two corners of a segment's box.
+    fn crowd(&self, e: GridEdge) -> usize {
         let columns = self.axes.columns_of(e);
         let rows = self.axes.rows_of(e);
         let width = self.axes.rows.len() + 1;
-        let mut sum: usize = 0;
-        for c in columns.first..columns.last + 1 {
-            for row in rows.first..rows.last + 1 {
-                sum = sum.saturating_add(self.cells[c * width + row].len());
-            }
-        }
-        sum
+        let low = self.cells[columns.first * width + rows.first].len();
+        let high = self.cells[columns.last * width + rows.last].len();
+        low.max(high).saturating_sub(USUAL)
     }
 
     /// Lays the cells out anew, where so much was listed since that it pays.
@@ -244,7 +243,7 @@ impl Store {
         if self.work == 0 {
             self.lay_out()?;
         }
-        let work = self.listed_near(e).saturating_add(SPENT);
+        let work = self.crowd(e).saturating_add(SPENT);
         self.work = self.work.saturating_sub(work);
         Ok(())
     }
