@@ -8,6 +8,10 @@ mod calls;
 #[cfg(test)]
 mod counted;
 #[cfg(test)]
+mod hard_splits;
+#[cfg(test)]
+mod meeting_lists;
+#[cfg(test)]
 mod random_answers;
 #[cfg(test)]
 mod random_splits;

@@ -14,7 +14,7 @@ use std::alloc::{AllocError, Global};
 use std::process::Abort;
 
 /// Adds the edges of a closed list of points, but for those that end where they start.
-fn push_closed(edges: &mut Vec<GridEdge>, spots: &[(i32, i32)]) -> Result<(), AllocError> {
+pub fn push_closed(edges: &mut Vec<GridEdge>, spots: &[(i32, i32)]) -> Result<(), AllocError> {
     let Some(last) = spots.last() else {
         return Ok(());
     };
@@ -84,7 +84,7 @@ fn expect_same_winding(
 }
 
 /// All that split segments are, whether or not edges may be bent. Answers at how many points they wind.
-fn expect_split(
+pub fn expect_split(
     rt: &impl Abort,
     alloc: Global,
     edges: &[GridEdge],

@@ -1,17 +1,19 @@
 -- Lemmas over points and lists: segments listed by cells of the plane, and sought there.
-use Rattle.std.proofs.Common.{◌≡◌, ◌⊎◌, ⊎_elim, Bool, true, false, ℕ, ◌+◌, ◌*◌, ◌<◌, ◌≤◌, sym, ◌∙◌, ap, subst, refl, arith, List, [], ◌∷◌, ◌++◌, length, length-append, get_or, min, max, below_more}
+use Rattle.std.proofs.Common.{◌≡◌, ◌⊎◌, ⊎_elim, Bool, true, false, ℕ, suc, ◌+◌, ◌*◌, ◌<◌, ◌≤◌, sym, ◌∙◌, ap, subst, refl, arith, List, [], ◌∷◌, ◌++◌, length, length-append, get_or, min, max, below_more}
 use Rattle.std.specs.Prelude.{ℤ, pos, ◌≤ℤ◌, ◌<ℤ◌, Vec}
+use Rattle.std.specs.Map.{keys_of}
 use Rattle.std.specs.declared.alloc.Global.{Global}
 use Rattle.std.proofs.Math.ListN.{get_or-append}
 use Rattle.std.proofs.Math.Nat.{mul-le-mul_right}
 use Rattle.std.proofs.Math.Seq.{get_or-append_seam}
+use Rattle.std.proofs.lemmas.Bool.{cases_Bool}
 use Rattle.std.proofs.lemmas.Int.{ints}
 use Rattle.std.proofs.lemmas.List.{get_or_default}
 use Rattle.mesh_plane.specs.Plane.{Point, Edge}
 use Rattle.mesh_plane.proofs.Whole.{linear}
 use Rattle.mesh_cuts.specs.declared.places.Mark.{Mark}
 use Rattle.mesh_cuts.specs.Counted.{Counted, bit}
-use Rattle.mesh_cuts.specs.Marks.{place, IsPutTo}
+use Rattle.mesh_cuts.specs.Marks.{place, AreRising, IsPutTo}
 use Rattle.mesh_cuts.specs.Split.{same_edge, IsBetween, IsInBox, AreClear}
 use Rattle.mesh_cuts.proofs.Boxes.{meets_box}
 use Rattle.mesh_cuts.proofs.Counts.{bit_least}
@@ -183,6 +185,62 @@ pub filed_added : (axes : Axes) (cells : List (Vec Edge Global)) (live live' : L
     → AreFiled axes cells live → AreFiled axes cells live'
 filed_added axes cells live live' k true raised f = filed_fewer axes cells live live' (λ e h. omega (arith, linear, raised.totals (λ (j : Counted). bit (same_edge e j.0)))) f
 filed_added axes cells live live' k false kept f = subst (λ (ks : List Counted). AreFiled axes cells ks) (sym kept.same) f
+
+-- ---- cells laid out for what lives
+
+-- the first so many of some ends are listed in the cell of each point of their box
+pub record AreListedTo (axes : Axes) (cells : List (Vec Edge Global)) (ends : List Edge) (n : ℕ) : Type 0 where
+  pub listed : (k : ℕ) → k < n → (e : Edge) → ((d : Edge) → get_or ends k d ≡ e) → (c : Point) (d : Vec Edge Global) → IsInBox e c
+      → IsListed e (get_or cells (cell_of axes c) d).items
+
+pub listed_none : (axes : Axes) (cells : List (Vec Edge Global)) (ends : List Edge) → AreListedTo axes cells ends 0
+listed_none axes cells ends = record { listed = λ k h e same c d box. absurd (omega arith) }
+
+-- one more was filed
+pub listed_filed : (axes : Axes) (old new : List (Vec Edge Global)) (ends : List Edge) (i : ℕ) (d₀ : Edge)
+    → length old ≡ (length axes.columns.items + 1) * (length axes.rows.items + 1) → Grows old new
+    → ((c : Point) (d : Vec Edge Global) → IsInBox (get_or ends i d₀) c → IsListed (get_or ends i d₀) (get_or new (cell_of axes c) d).items)
+    → AreListedTo axes old ends i → AreListedTo axes new ends (i + 1)
+listed_filed axes old new ends i d₀ len g own before = record {
+  listed = λ k h e same c d box.
+      ⊎_elim
+      (λ (l : k < i).
+      g.kept (cell_of axes c) d e
+      (subst (λ (z : ℕ). cell_of axes c < z) (sym len)
+      (cell_within (place axes.columns.items c.0) (place axes.rows.items c.1) (length axes.columns.items) (length axes.rows.items) (place_most axes.columns.items c.0) (place_most axes.rows.items c.1)))
+      (before.listed k l e same c d box))
+      (λ (l : k ≡ i).
+      let here : get_or ends i d₀ ≡ e = ap (λ (j : ℕ). get_or ends j d₀) (sym l) ∙ same d₀ in
+      subst (λ (x : Edge). IsListed x (get_or new (cell_of axes c) d).items) here (own c d (subst (λ (x : Edge). IsInBox x c) (sym here) box)))
+      (below_or_last k i h);
+}
+  where
+    below_or_last : (a b : ℕ) → a < b + 1 → (a < b) ⊎ (a ≡ b)
+    below_or_last a b h = grind arith
+
+-- what lives is among the ends of what lives
+stands_listed : (e : Edge) (ks : List Counted) → pos 0 <ℤ exactly e ks → IsListed e (keys_of ks)
+stands_listed e [] h = absurd (omega (arith, ints, h))
+stands_listed e (k ∷ ks) h =
+    ⊎_elim
+    (λ (t : same_edge e k.0 ≡ true). record { at = 0; within = omega arith; same = λ d. sym ((decides_edge e k.0).0 t) })
+    (λ (n : same_edge e k.0 ≡ false).
+    let rest : pos 0 <ℤ exactly e ks = omega (arith, linear, ap bit n) in
+    let l = stands_listed e ks rest in
+    record { at = suc l.at; within = omega (arith, l.within); same = λ d. l.same d })
+    (cases_Bool (same_edge e k.0))
+
+pub filed_listed : (axes : Axes) (cells : List (Vec Edge Global)) (ends : List Edge) (live : List Counted) → AreRising axes.columns.items → AreRising axes.rows.items
+    → length cells ≡ (length axes.columns.items + 1) * (length axes.rows.items + 1) → ends ≡ keys_of live → (n : ℕ) → length ends ≤ n
+    → AreListedTo axes cells ends n → AreFiled axes cells live
+filed_listed axes cells ends live columns rows len is n all listed = record {
+  columns = columns;
+  rows = rows;
+  len = len;
+  filed = λ e c d lives box.
+      let l = subst (λ (es : List Edge). IsListed e es) (sym is) (stands_listed e live lives) in
+      listed.listed l.at (omega (arith, l.within)) e l.same c d box;
+}
 
 -- ---- the search
 

@@ -5,6 +5,7 @@ pub mod Extents
 pub mod Filing
 pub mod Kept
 pub mod Paths
+pub mod Piles
 pub mod Room
 pub mod Settling
 pub mod Sharing

@@ -165,4 +165,12 @@ impl Axes {
     {
         between(&self.rows, y_of(e.0), y_of(e.1))
     }
+
+    /// Whether a point lies in the cell of a column and a row.
+    pub fn is_in_cell(&self, c: GridPoint, column: usize, row: usize) -> bool
+        requires columns_rising { AreRising self.now.columns.items }
+        requires rows_rising { AreRising self.now.rows.items }
+    {
+        place(&self.columns, x_of(c)) == column && place(&self.rows, y_of(c)) == row
+    }
 }

@@ -6,8 +6,11 @@
 #![tactic(auto)]
 
 mod axes;
+mod first_pass;
+mod hints;
 pub mod laws;
 pub mod splitter;
+mod steps;
 mod store;
 mod tally;
 mod worklist;

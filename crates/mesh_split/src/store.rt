@@ -2,25 +2,24 @@
 //! its box reaches, where those are sought that a segment may meet. What was taken out stays listed, so what a cell lists
 //! counts only where it lives.
 
-ghost use Rattle.std.specs.Prelude.{◌≡◌, ℕ, ◌+◌, ◌*◌, ◌<◌, ◌≤◌, List, [], ℤ, pos, ◌<ℤ◌, length, slice_index_or, MatchOption, IfOk, OnOk, Vec};
+ghost use Rattle.std.specs.Prelude.{◌≡◌, ℕ, ◌+◌, ◌*◌, ◌<◌, ◌≤◌, true, List, [], ℤ, pos, ◌<ℤ◌, length, slice_index_or, MatchOption, IfOk, OnOk, Vec};
 ghost use Rattle.std.specs.declared.alloc.Global.{Global};
 ghost use Rattle.mesh_plane.specs.Plane.{Point, Edge};
 ghost use Rattle.mesh_cuts.specs.Counted.{times};
 ghost use Rattle.mesh_cuts.specs.Marks.{AreRising};
 ghost use Rattle.mesh_cuts.specs.Split.{IsForward, IsInBox, AreClear, Meets};
-ghost use Rattle.mesh_split.specs.Midway.Cells.{Grows, IsListed, IsCellClear, IsColumnClear, cell_of};
+ghost use Rattle.mesh_split.specs.Midway.Cells.{AreFiled, Grows, IsListed, IsCellClear, IsColumnClear, cell_of};
 ghost use Rattle.mesh_split.specs.Midway.Steps.{HaveRoom, IsPut, IsTaken, IsClearOf, AddsIf, exactly};
 
 use crate::axes::{Axes, Span};
+use crate::hints::{Hints, Meeting};
 use crate::tally::Tally;
+use crate::worklist::Worklist;
 use mesh_cuts::exact::meeting;
 use mesh_cuts::grid::{CountedSegment, GridEdge, GridPoint};
 use mesh_cuts::places::{empty_lists, put_to};
 use std::alloc::{AllocError, Global};
 use std::marker::Model;
-
-/// The ends of a live segment that another segment meets, and where both are to be split.
-pub type Meeting = (GridEdge, GridPoint);
 
 /// The live segments, in no order that a caller may rely on. Contracts see the list of them.
 #[derive(Drop)]
@@ -29,7 +28,22 @@ pub struct Store {
     axes: Axes,
     /// The ends listed in each cell, column after column.
     cells: Vec<Vec<GridEdge>>,
+    /// How much more work there may be before the cells are laid out anew.
+    work: usize,
+    alloc: Global,
 }
+
+/// For how many segments more than there are cells are laid out.
+const LEAST: usize = 64;
+
+/// How much work there may be for each segment before cells are laid out anew. To look at one that is listed is 1.
+const WORK: usize = 64;
+
+/// How much work it is to list a segment, whatever the cells list.
+const SPENT: usize = 32;
+
+/// Up to so many segments in a cell cost no further work.
+const USUAL: usize = 32;
 
 impl Model for Store {
     ghost use Rattle.std.specs.Prelude.{List, ℤ};
@@ -105,6 +119,26 @@ fn file(axes: &Axes, cells: &mut Vec<Vec<GridEdge>>, e: GridEdge) -> Result<(), 
     Ok(())
 }
 
+/// Cells that serve for the live segments, which they list, and the marks that part them.
+fn laid_out(alloc: Global, live: &Tally) -> Result<(Axes, Vec<Vec<GridEdge>>), AllocError>
+    ensures { IfOk result (λ p. AreFiled p.0 p.1.items live.now) }
+{
+    let ends = live.ends(alloc)?;
+    let axes = Axes::new(alloc, &ends)?;
+    let count = (axes.columns.len() + 1) * (axes.rows.len() + 1);
+    let mut cells = empty_lists(alloc, count)?;
+    for e in &ends {
+        file(&axes, &mut cells, *e)?;
+    }
+    Ok((axes, cells))
+}
+
+/// How much work there may be before cells are laid out anew that were laid out for so many segments: to lay them out costs
+/// less.
+fn work_for(segments: usize) -> usize {
+    segments.saturating_add(LEAST).saturating_mul(WORK)
+}
+
 impl Store {
     /// No segment, and cells that serve for the segments of some edges.
     pub fn new(alloc: Global, edges: &[GridEdge]) -> Result<Self, AllocError>
@@ -117,6 +151,8 @@ impl Store {
             live: Tally::new(alloc),
             axes,
             cells,
+            work: work_for(edges.len()),
+            alloc,
         })
     }
 
@@ -135,8 +171,85 @@ impl Store {
         None
     }
 
-    /// Makes a segment live.
-    pub fn insert(&mut self, s: CountedSegment) -> Result<(), AllocError>
+    /// Whether the segment with these ends lives.
+    pub fn has(&self, ends: GridEdge) -> bool
+        ensures { result ≡ true → pos 0 <ℤ exactly ends self.now }
+    {
+        self.live.has(ends)
+    }
+
+    /// The ends of all live segments.
+    pub fn ends(&self, alloc: Global) -> Result<Vec<GridEdge>, AllocError> {
+        self.live.ends(alloc)
+    }
+
+    /// Notes the live segments of one cell that a segment meets there.
+    fn note_in_cell(
+        &self,
+        column: usize,
+        row: usize,
+        cell: &[GridEdge],
+        s: GridEdge,
+        hints: &mut Hints,
+    ) -> Result<(), AllocError> {
+        for e in cell {
+            if let Some(m) = live_meeting(&self.live, s, *e) {
+                if self.axes.is_in_cell(m.1, column, row) {
+                    hints.note(s, m)?;
+                }
+            }
+        }
+        Ok(())
+    }
+
+    /// Notes the live segments that a segment meets, each in the cell in which it does.
+    pub fn note_meetings(&self, s: GridEdge, hints: &mut Hints) -> Result<(), AllocError> {
+        let columns = self.axes.columns_of(s);
+        let rows = self.axes.rows_of(s);
+        let width = self.axes.rows.len() + 1;
+        for c in columns.first..columns.last + 1 {
+            for row in rows.first..rows.last + 1 {
+                self.note_in_cell(c, row, &self.cells[c * width + row], s, hints)?;
+            }
+        }
+        Ok(())
+    }
+
+    /// Lays the cells out for the segments that live now. So they list nothing that lives no more, and are as fine as serves.
+    fn lay_out(&mut self) -> Result<(), AllocError>
+        ensures { self.new ≡ self.old }
+    {
+        let (axes, cells) = laid_out(self.alloc, &self.live)?;
+        self.axes = axes;
+        self.cells = cells;
+        self.work = work_for(self.live.len());
+        Ok(())
+    }
+
+    /// How many more segments than usual are listed in the cells at two corners of a segment's box.
+    fn crowd(&self, e: GridEdge) -> usize {
+        let columns = self.axes.columns_of(e);
+        let rows = self.axes.rows_of(e);
+        let width = self.axes.rows.len() + 1;
+        let low = self.cells[columns.first * width + rows.first].len();
+        let high = self.cells[columns.last * width + rows.last].len();
+        low.max(high).saturating_sub(USUAL)
+    }
+
+    /// Lays the cells out anew, where so much was listed since that it pays.
+    fn make_room(&mut self, e: GridEdge) -> Result<(), AllocError>
+        ensures { self.new ≡ self.old }
+    {
+        if self.work == 0 {
+            self.lay_out()?;
+        }
+        let work = self.crowd(e).saturating_add(SPENT);
+        self.work = self.work.saturating_sub(work);
+        Ok(())
+    }
+
+    /// Lists a segment, and makes it live.
+    fn enter(&mut self, s: CountedSegment) -> Result<(), AllocError>
         requires forward { IsForward s.0 }
         requires absent { times s.0 self.old ≡ pos 0 }
         ensures { OnOk result (IsPut self.old self.new s) }
@@ -144,6 +257,16 @@ impl Store {
         file(&self.axes, &mut self.cells, s.0)?;
         self.live.insert(s)?;
         Ok(())
+    }
+
+    /// Makes a segment live.
+    pub fn insert(&mut self, s: CountedSegment) -> Result<(), AllocError>
+        requires forward { IsForward s.0 }
+        requires absent { times s.0 self.old ≡ pos 0 }
+        ensures { OnOk result (IsPut self.old self.new s) }
+    {
+        self.make_room(s.0)?;
+        self.enter(s)
     }
 
     /// Takes the live segment with these ends out.
@@ -164,6 +287,13 @@ impl Store {
     {
         let added = self.live.add(s)?;
         Ok(added)
+    }
+
+    /// The live segments, which all wait again.
+    pub fn into_worklist(self, alloc: Global) -> Worklist
+        ensures { result ≡ self }
+    {
+        self.live.into_worklist(alloc)
     }
 
     /// The live segments as a list.

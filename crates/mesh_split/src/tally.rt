@@ -7,6 +7,7 @@ ghost use Rattle.mesh_cuts.specs.Counted.{times};
 ghost use Rattle.mesh_cuts.specs.Split.{IsForward};
 ghost use Rattle.mesh_split.specs.Midway.Steps.{HaveRoom, IsPut, IsTaken, AddsIf, exactly};
 
+use crate::worklist::Worklist;
 use mesh_cuts::grid::{CountedSegment, GridEdge};
 use std::alloc::{AllocError, Global};
 use std::collections::BTreeMap;
@@ -47,6 +48,18 @@ impl Tally {
         }
     }
 
+    /// How many segments stand.
+    pub fn len(&self) -> usize {
+        self.counts.len()
+    }
+
+    /// The ends of all segments.
+    pub fn ends(&self, alloc: Global) -> Result<Vec<GridEdge>, AllocError>
+        ensures { IfOk result (λ v. v.items ≡ keys_of self.now) }
+    {
+        self.counts.keys().copied().collect(alloc)
+    }
+
     /// Puts a segment in.
     pub fn insert(&mut self, s: CountedSegment) -> Result<(), AllocError>
         requires forward { IsForward s.0 }
@@ -84,6 +97,13 @@ impl Tally {
             return Ok(true);
         }
         Ok(false)
+    }
+
+    /// The segments as ones that wait.
+    pub fn into_worklist(self, alloc: Global) -> Worklist
+        ensures { result ≡ self }
+    {
+        Worklist::with_counts(alloc, self.counts)
     }
 
     /// The segments as a list.

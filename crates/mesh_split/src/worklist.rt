@@ -38,6 +38,17 @@ impl Worklist {
         }
     }
 
+    /// Segments by their ends, the lesser end first. The one with the least ends is taken first.
+    pub fn with_counts(alloc: Global, counts: BTreeMap<GridEdge, i128>) -> Self
+        requires { All IsForward (keys_of counts.entries) }
+        ensures { result ≡ counts.entries }
+    {
+        Worklist {
+            counts,
+            latest: Vec::new(alloc),
+        }
+    }
+
     /// Takes a segment out, if there is one: the one that came last, though any order would do.
     pub fn pop(&mut self) -> Option<CountedSegment>
         ensures taken { MatchOption result ((self.old ≡ []) × (self.new ≡ [])) (λ s. IsTaken self.old self.new s) }

@@ -1,6 +1,6 @@
 -- What the steps of the splitting do to lists of counted segments, whatever order they stand in:
 -- each fact speaks of the sums of every function over the list.
-use Rattle.std.specs.Prelude.{ℕ, ◌+◌, ◌*◌, ◌-◌, ◌≡◌, Bool, true, false, cond, List, [], ◌∷◌, ℤ, pos, ◌+ℤ◌, ◌-ℤ◌, ◌*ℤ◌, ◌≤ℤ◌, ◌<ℤ◌, unsigned_abs, max, int_lt}
+use Rattle.std.specs.Prelude.{ℕ, ◌+◌, ◌*◌, ◌-◌, ◌^◌, ◌≡◌, Bool, true, false, cond, List, [], ◌∷◌, ℤ, pos, ◌+ℤ◌, ◌-ℤ◌, ◌*ℤ◌, ◌≤ℤ◌, ◌<ℤ◌, unsigned_abs, max, int_lt}
 use Rattle.mesh_plane.specs.Plane.{Point, Edge}
 use Rattle.mesh_plane.specs.Winding.{sum_of}
 use Rattle.mesh_cuts.specs.Split.{same_edge, same_ends, occurs, Cut, after, IsLegal}
@@ -115,3 +115,16 @@ pub record Settles (todo live todo' live' : List Counted) (k : Counted) : Type 0
   pub clear : AllClear live → AllClear live'
   pub work_falls : work todo' live' <ℤ (work todo live +ℤ waiting_work k)
   pub weight_stays : total_weight todo' live' ≤ℤ (total_weight todo live +ℤ weight k)
+
+-- segments that legal splits of the given edges lead to, whether or not they meet, with room for their counts
+pub record IsPile (given : List Edge) (todo live : List Counted) : Type 0 where
+  pub reached : IsReached given todo live []
+  pub light : total_weight todo live ≤ℤ pos (2 ^ 97)
+
+-- legal splits lead to what is there now wherever they lead to what was there
+abbrev pub KeepsPile : List Counted → List Counted → List Counted → List Counted → Type 0
+KeepsPile todo live todo' live' = (given : List Edge) → IsPile given todo live → IsPile given todo' live'
+
+-- no ends stand twice
+pub record StandOnce (todo live : List Counted) : Type 0 where
+  pub most : (q : Edge) → (times q todo +ℤ times q live) ≤ℤ pos 1

@@ -1,5 +1,5 @@
 use Rattle.mesh_split.proofs.Filing.{first_proper, second_proper, room_first, room_second, room_kept}
-use Rattle.mesh_split.proofs.splitter.Splitter.cut.Goals as goal
+use Rattle.mesh_split.proofs.steps.Splitter.cut.Goals as goal
 
 pub put-requires-clause-proper : goal.put-requires-clause-proper
 put-requires-clause-proper c = first_proper c.args.c c.args.s.0 c.requires.inner

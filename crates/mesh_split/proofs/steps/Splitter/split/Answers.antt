@@ -6,7 +6,7 @@ use Rattle.mesh_cuts.proofs.Ends.{forward_proper}
 use Rattle.mesh_split.proofs.Filing.{room_taken, room_other, room_pieces}
 use Rattle.mesh_split.proofs.Settling.{settles_first, settles_second, settles_both}
 use Rattle.mesh_cuts.specs.Split.{IsForward}
-use Rattle.mesh_split.proofs.splitter.Splitter.split.Goals as goal
+use Rattle.mesh_split.proofs.steps.Splitter.split.Goals as goal
 
 pub cut-requires-clause-inner : goal.cut-requires-clause-inner
 cut-requires-clause-inner c = meets_once c.requires.meets (sym c.is_end.ensures ∙ c.if-is_end.true)

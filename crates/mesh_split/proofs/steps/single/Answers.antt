@@ -2,7 +2,7 @@ use Rattle.std.proofs.Common.{rules}
 use mir.Syntax.{w32}
 use mir.Val.{SFits}
 use Rattle.mesh_split.proofs.Starting.{edge_weight}
-use Rattle.mesh_split.proofs.splitter.single.Goals as goal
+use Rattle.mesh_split.proofs.steps.single.Goals as goal
 
 pub returns-clause-light : goal.returns-clause-light
 returns-clause-light c =

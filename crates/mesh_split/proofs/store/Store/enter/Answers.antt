@@ -2,7 +2,7 @@ use Rattle.std.proofs.Common.{subst, sym, List}
 use Rattle.mesh_cuts.specs.Counted.{Counted}
 use Rattle.mesh_split.specs.Midway.Cells.{AreFiled}
 use Rattle.mesh_split.proofs.CellLists.{filed_grows, filed_put}
-use Rattle.mesh_split.proofs.store.Store.insert.Goals as goal
+use Rattle.mesh_split.proofs.store.Store.enter.Goals as goal
 
 pub invariant_of-self : goal.invariant_of-self
 invariant_of-self c = filed_grows c.self.inside.axes c.self.inside.cells.items c.file.new.cells.items c.self.inside.live c.file.ensures.grows c.self.invariant

@@ -2,7 +2,7 @@ use Rattle.std.proofs.Common.{arith}
 use Rattle.std.proofs.lemmas.Result.{on_ok_weaker}
 use Rattle.mesh_plane.proofs.Whole.{linear}
 use Rattle.mesh_split.proofs.Filing.{total_least, room_turned, puts_back}
-use Rattle.mesh_split.proofs.splitter.Splitter.put.Goals as goal
+use Rattle.mesh_split.proofs.steps.Splitter.put.Goals as goal
 
 pub turned-requires : goal.turned-requires
 turned-requires c = omega (arith, linear, c.requires.room, total_least c.args.self.now.todo c.args.self.now.live)

@@ -1,6 +1,6 @@
 use Rattle.mesh_cuts.proofs.Ends.{forward_proper}
 use Rattle.mesh_split.proofs.Settling.{settles_kept}
-use Rattle.mesh_split.proofs.splitter.Splitter.settle.Goals as goal
+use Rattle.mesh_split.proofs.steps.Splitter.settle.Goals as goal
 
 pub returns : goal.returns
 returns c =

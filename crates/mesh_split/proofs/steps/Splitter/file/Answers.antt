@@ -1,7 +1,7 @@
 use Rattle.std.proofs.Common.{Bool, subst}
 use Rattle.mesh_split.specs.Midway.Steps.{AddsIf}
 use Rattle.mesh_split.proofs.Filing.{room_live, room_waiting, raised_live, filed}
-use Rattle.mesh_split.proofs.splitter.Splitter.file.Goals as goal
+use Rattle.mesh_split.proofs.steps.Splitter.file.Goals as goal
 
 pub add-requires-clause-room : goal.add-requires-clause-room
 add-requires-clause-room c = room_live c.args.self.now.todo c.args.self.now.live c.args.s c.requires.room

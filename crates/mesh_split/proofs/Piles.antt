@@ -1,0 +1,97 @@
+-- Lemmas over lists: segments that wait and live, as they are made live, split, and made to wait again.
+use Rattle.std.proofs.Common.{◌≡◌, ⊎_elim, ◌<◌, true, false, sym, ◌∙◌, ap, subst, refl, arith, List, [], ◌∷◌, length}
+use Rattle.std.specs.Prelude.{pos, ◌<ℤ◌}
+use Rattle.std.proofs.lemmas.Bool.{cases_Bool}
+use Rattle.std.proofs.lemmas.Int.{ints}
+use Rattle.mesh_plane.specs.Plane.{Point, Edge}
+use Rattle.mesh_plane.specs.Winding.{sum_of}
+use Rattle.mesh_plane.proofs.Whole.{linear}
+use Rattle.mesh_cuts.specs.Counted.{Counted, bit, times}
+use Rattle.mesh_cuts.specs.Split.{same_edge, same_ends, occurs, after, Meets}
+use Rattle.mesh_cuts.proofs.Counts.{times_least}
+use Rattle.mesh_cuts.proofs.Ends.{decides_edge, ends_self}
+use Rattle.mesh_split.specs.Midway.Steps.{exactly, IsTaken, IsPut, IsPile, StandOnce, Settles, weight}
+use Rattle.mesh_split.proofs.Settling.{clear_self}
+use Rattle.mesh_split.proofs.Stages.{bit_most, pop_count, take_count, keep_count}
+use Rattle.mesh_split.proofs.Starting.{settled_reached, settled_weight}
+
+-- ---- no ends stand twice
+
+pub pile_once : (given : List Edge) (todo live : List Counted) → IsPile given todo live → StandOnce todo live
+pile_once given todo live p =
+    let r = p.reached in
+    record { most = λ q. omega (arith, linear, r.count.once q, bit_most (occurs q (after r.cuts given))) }
+
+pub once_absent : (old todo live : List Counted) (k : Counted) → IsTaken old todo k → StandOnce old live → times k.0 live ≡ pos 0
+once_absent old todo live k e h =
+    omega (arith, linear, h.most k.0, e (λ (j : Counted). bit (same_ends k.0 j.0)), ap bit (ends_self k.0), times_least k.0 todo, times_least k.0 live)
+
+pub once_moved : (old todo live live' : List Counted) (k : Counted) → IsTaken old todo k → IsPut live live' k → StandOnce old live → StandOnce todo live'
+once_moved old todo live live' k e put h = record {
+  most = λ q. omega (arith, linear, h.most q, e (λ (j : Counted). bit (same_ends q j.0)), put (λ (j : Counted). bit (same_ends q j.0)));
+}
+
+-- ---- steps
+
+-- a waiting segment was made live
+pub pile_moved : (old todo live live' : List Counted) (k : Counted) (given : List Edge) → IsTaken old todo k → IsPut live live' k
+    → IsPile given old live → IsPile given todo live'
+pile_moved old todo live live' k given e put p =
+    let r = p.reached in
+    let es = after r.cuts given in
+    record {
+      reached = record { cuts = r.cuts; legal = r.legal; count = keep_count es todo live live' k [] put (pop_count es old todo live k [] e r.count) };
+      light = omega (arith, linear, e weight, put weight, p.light);
+    }
+
+-- a waiting segment was settled
+pub pile_settled : (given : List Edge) (old todo live todo' live' : List Counted) (k : Counted) → IsTaken old todo k → Settles todo live todo' live' k
+    → IsPile given old live → IsPile given todo' live'
+pile_settled given old todo live todo' live' k e s p = record {
+  reached = settled_reached given old todo live todo' live' k e s p.reached;
+  light = settled_weight old todo live todo' live' k _ e s p.light;
+}
+
+-- a live segment was taken and settled
+pub pile_split : (todo live live1 todo' live' : List Counted) (k : Counted) (given : List Edge) → IsTaken live live1 k → Settles todo live1 todo' live' k
+    → IsPile given todo live → IsPile given todo' live'
+pile_split todo live live1 todo' live' k given e s p =
+    let r = p.reached in
+    record {
+      reached = s.reached given (record { cuts = r.cuts; legal = r.legal; count = take_count (after r.cuts given) todo live live1 k [] e r.count });
+      light = omega (arith, linear, s.weight_stays, e weight, p.light);
+    }
+
+-- the live segments wait again
+pub pile_again : (given : List Edge) (todo live todo' live' : List Counted) → todo ≡ [] → todo' ≡ live → live' ≡ [] → IsPile given todo live → IsPile given todo' live'
+pile_again given todo live todo' live' none same fresh p =
+    subst (λ (x : List Counted). IsPile given x live') (sym same)
+    (subst (λ (x : List Counted). IsPile given live x) (sym fresh) (turned (subst (λ (x : List Counted). IsPile given x live) none p)))
+  where
+    turned : IsPile given [] live → IsPile given live []
+    turned q =
+        let r = q.reached in
+        record {
+          reached = record { cuts = r.cuts; legal = r.legal; count = record { counts = λ e. omega (arith, linear, r.count.counts e); once = λ e. omega (arith, linear, r.count.once e) } };
+          light = omega (arith, linear, q.light);
+        }
+
+-- a segment that meets the one that was taken lives on
+pub other_lives : (live live' : List Counted) (k : Counted) (e f : Edge) (c : Point) → IsTaken live live' k → k.0 ≡ e → Meets e f c
+    → pos 0 <ℤ exactly f live → pos 0 <ℤ exactly f live'
+other_lives live live' k e f c taken same m h =
+    ⊎_elim
+    (λ (t : same_edge f k.0 ≡ true).
+    let one : f ≡ e = (decides_edge f k.0).0 t ∙ same in
+    absurd (clear_self e c (subst (λ (x : Edge). Meets e x c) one m)))
+    (λ (n : same_edge f k.0 ≡ false). omega (arith, linear, ap bit n, taken (λ (j : Counted). bit (same_edge f j.0))))
+    (cases_Bool (same_edge f k.0))
+
+-- ---- fewer wait
+
+amount : (ks : List Counted) → sum_of (λ (k : Counted). pos 1) ks ≡ pos (length ks)
+amount [] = refl
+amount (k ∷ ks) = omega (arith, ints, amount ks)
+
+pub fewer_wait : (old todo : List Counted) (k : Counted) → IsTaken old todo k → length todo < length old
+fewer_wait old todo k e = omega (arith, ints, e (λ (j : Counted). pos 1), amount old, amount todo)

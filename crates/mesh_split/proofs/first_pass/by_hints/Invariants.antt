@@ -1,0 +1,6 @@
+use Rattle.std.proofs.Common.{◌≡◌, []}
+use Rattle.mesh_split.specs.Midway.Steps.{IsPile}
+use Rattle.mesh_split.proofs.first_pass.by_hints.Given as goal
+
+abbrev pub invariant-loop-split : goal.invariant-loop-split
+invariant-loop-split l = record { none : l.splitter.todo ≡ []; pile : IsPile l.fn.edges l.splitter.todo l.splitter.live }

@@ -1,0 +1,8 @@
+use Rattle.mesh_split.specs.Midway.Steps.{IsPile, AllClear}
+use Rattle.mesh_split.proofs.first_pass.in_hand.Given as goal
+
+abbrev pub invariant-loop-step : goal.invariant-loop-step
+invariant-loop-step l = record {
+  pile : IsPile l.fn.edges l.splitter.todo l.splitter.live;
+  clear : AllClear l.splitter.live;
+}

@@ -1,0 +1,195 @@
+//! The first pass: splits in an order that is seldom unlucky. It need not leave the segments clear of each other; what is left to
+//! split is found by the second pass, whatever was split here.
+
+ghost use Rattle.std.specs.Prelude.{◌≡◌, [], pos, ◌<ℤ◌, IfOk, IfSome, OnOk};
+ghost use Rattle.mesh_cuts.specs.Clean.{IsProper};
+ghost use Rattle.mesh_cuts.specs.Split.{Meets};
+ghost use Rattle.mesh_split.specs.Midway.Steps.{AllClear, IsPile, KeepsPile, StandOnce, exactly};
+
+use crate::hints::{Hints, Meeting, Order};
+use crate::steps::Splitter;
+use crate::store::Store;
+use mesh_cuts::exact::meeting;
+use mesh_cuts::grid::GridEdge;
+use std::alloc::{AllocError, Global};
+
+/// How an attempt chooses the next split.
+#[derive(Debug, Copy, Clone)]
+enum Kind {
+    /// The best of the known meetings. Those that rounding brings are sought where no other is left.
+    Sweeping(Order),
+    /// The best of all meetings. Those that rounding brings are sought after each split.
+    Eager(Order),
+    /// As the second pass does.
+    InHand,
+}
+
+/// The kinds of attempts. Each has its own unlucky cases, so the next one is made where one takes too many splits.
+const KINDS: [Kind; 4] = [
+    Kind::Sweeping(Order::Angle),
+    Kind::Sweeping(Order::RoughAngle),
+    Kind::Eager(Order::Angle),
+    Kind::InHand,
+];
+
+/// How often each kind of attempt is made.
+const ROUNDS: usize = 4;
+
+/// How many more splits each round allows than the one before it.
+const GROWTH: usize = 4;
+
+/// How many splits the first round allows beside those that the number of meetings asks for.
+const SPARE: usize = 500;
+
+/// How many segments are taken in hand for a split, about.
+const STEPS: usize = 4;
+
+/// A segment, and one that it meets.
+type Pair = (GridEdge, Meeting);
+
+/// Makes all waiting segments live, whatever they meet, and notes what they meet, at once or later.
+fn place(splitter: &mut Splitter, hints: &mut Hints, at_once: bool) -> Result<(), AllocError>
+    requires { StandOnce splitter.old.todo splitter.old.live }
+    ensures none { OnOk result (splitter.new.todo ≡ []) }
+    ensures kept { OnOk result (KeepsPile splitter.old.todo splitter.old.live splitter.new.todo splitter.new.live) }
+{
+    while let Some(s) = splitter.todo.pop() {
+        if at_once {
+            splitter.live.note_meetings(s.0, hints)?;
+        } else {
+            hints.note_fresh(s.0)?;
+        }
+        splitter.live.insert(s)?;
+    }
+    Ok(())
+}
+
+/// Notes the meetings that were not sought yet.
+fn sweep(live: &Store, hints: &mut Hints) -> Result<(), AllocError> {
+    for _fresh in 0..usize::MAX {
+        let Some(e) = hints.pop_fresh() else {
+            return Ok(());
+        };
+        if live.has(e) {
+            live.note_meetings(e, hints)?;
+        }
+    }
+    Ok(())
+}
+
+/// The next hint that is true: both segments live, and they meet. Other hints are followed to pieces that live.
+fn next(live: &Store, hints: &mut Hints) -> Result<Option<Pair>, AllocError>
+    ensures first { IfOk result (λ o. IfSome o (λ p. pos 0 <ℤ exactly p.0 live.now)) }
+    ensures second { IfOk result (λ o. IfSome o (λ p. pos 0 <ℤ exactly p.1.0 live.now)) }
+    ensures meets { IfOk result (λ o. IfSome o (λ p. Meets p.0 p.1.0 p.1.1)) }
+{
+    for _hint in 0..usize::MAX {
+        if hints.len() == 0 {
+            sweep(live, hints)?;
+        }
+        let Some((first, second)) = hints.pop() else {
+            return Ok(None);
+        };
+        if !live.has(first) {
+            hints.follow(first, second)?;
+        } else if !live.has(second) {
+            hints.follow(second, first)?;
+        } else if let Some(at) = meeting(first, second) {
+            return Ok(Some((first, (second, at))));
+        }
+    }
+    Ok(None)
+}
+
+/// How many splits an attempt may make.
+fn budget(edges: usize, meetings: usize, factor: usize) -> usize {
+    meetings
+        .saturating_mul(2)
+        .saturating_add(edges)
+        .saturating_add(SPARE)
+        .saturating_mul(factor)
+}
+
+/// Splits the edges by hints, unless that takes too many splits. All that it leaves waits to be tested.
+fn by_hints(
+    alloc: Global,
+    edges: &[GridEdge],
+    order: Order,
+    is_eager: bool,
+    factor: usize,
+) -> Result<Option<Splitter>, AllocError>
+    requires { IsProper edges.now }
+    ensures pile { IfOk result (λ o. IfSome o (λ s. IsPile edges.now s.todo s.live)) }
+    ensures clear { IfOk result (λ o. IfSome o (λ s. AllClear s.live)) }
+{
+    let mut splitter = Splitter::of_edges(alloc, edges)?;
+    let mut hints = Hints::new(alloc, order);
+    place(&mut splitter, &mut hints, true)?;
+    for _split in 0..budget(edges.len(), hints.len(), factor) {
+        let Some((first, m)) = next(&splitter.live, &mut hints)? else {
+            let again = splitter.again(alloc)?;
+            return Ok(Some(again));
+        };
+        hints.note_cut(first, m.1)?;
+        hints.note_cut(m.0, m.1)?;
+        splitter.split_live(first, m)?;
+        place(&mut splitter, &mut hints, is_eager)?;
+    }
+    Ok(None)
+}
+
+/// Splits the edges as the second pass does, unless that takes too many steps.
+fn in_hand(alloc: Global, edges: &[GridEdge], steps: usize) -> Result<Option<Splitter>, AllocError>
+    requires { IsProper edges.now }
+    ensures pile { IfOk result (λ o. IfSome o (λ s. IsPile edges.now s.todo s.live)) }
+    ensures clear { IfOk result (λ o. IfSome o (λ s. AllClear s.live)) }
+{
+    let mut splitter = Splitter::of_edges(alloc, edges)?;
+    for _step in 0..steps {
+        let Some(s) = splitter.todo.pop() else {
+            return Ok(Some(splitter));
+        };
+        splitter.settle(s)?;
+    }
+    Ok(None)
+}
+
+/// An attempt of one kind, which is given up where it takes too many splits.
+fn attempt(
+    alloc: Global,
+    edges: &[GridEdge],
+    kind: Kind,
+    factor: usize,
+) -> Result<Option<Splitter>, AllocError>
+    requires { IsProper edges.now }
+    ensures pile { IfOk result (λ o. IfSome o (λ s. IsPile edges.now s.todo s.live)) }
+    ensures clear { IfOk result (λ o. IfSome o (λ s. AllClear s.live)) }
+{
+    match kind {
+        Kind::Sweeping(order) => by_hints(alloc, edges, order, false, factor),
+        Kind::Eager(order) => by_hints(alloc, edges, order, true, factor),
+        Kind::InHand => in_hand(
+            alloc,
+            edges,
+            budget(edges.len(), 0, factor).saturating_mul(STEPS),
+        ),
+    }
+}
+
+/// The segments that wait for the second pass: those that an attempt left, or the edges, where none came to its end.
+pub fn first_pass(alloc: Global, edges: &[GridEdge]) -> Result<Splitter, AllocError>
+    requires { IsProper edges.now }
+    ensures pile { IfOk result (λ s. IsPile edges.now s.todo s.live) }
+    ensures clear { IfOk result (λ s. AllClear s.live) }
+{
+    let mut factor: usize = 1;
+    for _round in 0..ROUNDS {
+        for kind in KINDS {
+            if let Some(splitter) = attempt(alloc, edges, kind, factor)? {
+                return Ok(splitter);
+            }
+        }
+        factor = factor.saturating_mul(GROWTH);
+    }
+    Splitter::of_edges(alloc, edges)
+}

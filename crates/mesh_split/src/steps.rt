@@ -1,0 +1,171 @@
+//! The steps of the splitting: segments put in, cut, split with one that they meet, and made live.
+
+ghost use Rattle.std.specs.Prelude.{◌≡◌, ◌^◌, List, [], ◌∷◌, ℤ, pos, ◌+ℤ◌, ◌≤ℤ◌, ◌<ℤ◌, neg_ℤ, false, OnOk, IfOk};
+ghost use Rattle.mesh_plane.specs.Winding.{same_point};
+ghost use Rattle.mesh_cuts.specs.Clean.{IsProper};
+ghost use Rattle.mesh_cuts.specs.Split.{is_end, IsInBox, Meets};
+ghost use Rattle.mesh_cuts.specs.Split.{IsForward};
+ghost use Rattle.mesh_split.specs.Midway.Steps.{AllClear, Puts, PutsPieces, Settles, IsPile, KeepsPile, exactly, weight, total_weight};
+ghost use Rattle.mesh_cuts.specs.Counted.{times, IsRoomy};
+
+use crate::hints::Meeting;
+use crate::store::Store;
+use crate::worklist::Worklist;
+use mesh_cuts::exact::{is_before, is_end};
+use mesh_cuts::grid::{CountedSegment, GridEdge, GridPoint};
+use std::alloc::{AllocError, Global};
+
+/// The segments that wait to be tested, and the live ones. In the second pass these are clear of each other.
+#[derive(Drop)]
+pub struct Splitter {
+    pub todo: Worklist,
+    pub live: Store,
+}
+
+/// The segment of one edge.
+fn single(e: GridEdge) -> CountedSegment
+    ensures value { result ≡ (e, pos 1) }
+    ensures light { weight result ≤ℤ pos (2 ^ 33) }
+{
+    let (start, end) = e;
+    ((start, end), 1)
+}
+
+/// The segment seen from its other end.
+fn turned(s: CountedSegment) -> CountedSegment
+    requires { IsRoomy (weight s) }
+    ensures { result ≡ ((s.0.1, s.0.0), neg_ℤ s.1) }
+{
+    let (start, end) = s.0;
+    ((end, start), -s.1)
+}
+
+impl Splitter {
+    /// No segment, to split the given edges.
+    fn new(alloc: Global, edges: &[GridEdge]) -> Result<Self, AllocError>
+        ensures todo { IfOk result (λ s. s.todo ≡ []) }
+        ensures live { IfOk result (λ s. s.live ≡ []) }
+    {
+        let live = Store::new(alloc, edges)?;
+        Ok(Splitter {
+            todo: Worklist::new(alloc),
+            live,
+        })
+    }
+
+    /// Adds a segment to the one with its ends, or else to the worklist.
+    fn put(&mut self, s: CountedSegment) -> Result<(), AllocError>
+        requires proper { same_point s.0.0 s.0.1 ≡ false }
+        requires room { IsRoomy (total_weight self.old.todo self.old.live +ℤ weight s) }
+        ensures { OnOk result (Puts self.old.todo self.old.live self.new.todo self.new.live s) }
+    {
+        if is_before(s.0.0, s.0.1) {
+            return self.file(s);
+        }
+        self.file(turned(s))
+    }
+
+    /// The same, where the lesser end is first.
+    fn file(&mut self, s: CountedSegment) -> Result<(), AllocError>
+        requires forward { IsForward s.0 }
+        requires room { IsRoomy (total_weight self.old.todo self.old.live +ℤ weight s) }
+        ensures { OnOk result (Puts self.old.todo self.old.live self.new.todo self.new.live s) }
+    {
+        let added = self.live.add(s)?;
+        if added {
+            return Ok(());
+        }
+        self.todo.add(s)?;
+        Ok(())
+    }
+
+    /// Puts the two pieces of a segment that is cut.
+    fn cut(&mut self, s: CountedSegment, c: GridPoint) -> Result<(), AllocError>
+        requires inner { is_end c s.0 ≡ false }
+        requires in_box { IsInBox s.0 c }
+        requires room { IsRoomy (total_weight self.old.todo self.old.live +ℤ weight s) }
+        ensures { OnOk result (PutsPieces self.old.todo self.old.live self.new.todo self.new.live s c) }
+    {
+        let (start, end) = s.0;
+        self.put(((start, c), s.1))?;
+        self.put(((c, end), s.1))?;
+        Ok(())
+    }
+
+    /// Splits a segment and the live one that it meets. A segment in hand must have the ends of no piece that is put.
+    fn split(&mut self, s: CountedSegment, m: Meeting) -> Result<(), AllocError>
+        requires proper { same_point s.0.0 s.0.1 ≡ false }
+        requires meets { Meets s.0 m.0 m.1 }
+        requires lives { pos 0 <ℤ exactly m.0 self.old.live }
+        requires room { IsRoomy (total_weight self.old.todo self.old.live +ℤ weight s) }
+        ensures { OnOk result (Settles self.old.todo self.old.live self.new.todo self.new.live s) }
+    {
+        if is_end(m.1, m.0) {
+            self.cut(s, m.1)?;
+            return Ok(());
+        }
+        let other = self.live.remove(m.0);
+        if is_end(m.1, s.0) {
+            self.put(s)?;
+            self.cut(other, m.1)?;
+            return Ok(());
+        }
+        self.cut(s, m.1)?;
+        self.cut(other, m.1)?;
+        Ok(())
+    }
+
+    /// The given edges, all of which wait, those with the same ends as one segment.
+    pub fn of_edges(alloc: Global, edges: &[GridEdge]) -> Result<Self, AllocError>
+        requires { IsProper edges.now }
+        ensures pile { IfOk result (λ s. IsPile edges.now s.todo s.live) }
+        ensures clear { IfOk result (λ s. AllClear s.live) }
+    {
+        let mut splitter = Splitter::new(alloc, edges)?;
+        for e in edges {
+            splitter.put(single(*e))?;
+        }
+        Ok(splitter)
+    }
+
+    /// Splits a live segment and another one that it meets.
+    pub fn split_live(&mut self, first: GridEdge, m: Meeting) -> Result<(), AllocError>
+        requires first_lives { pos 0 <ℤ exactly first self.old.live }
+        requires second_lives { pos 0 <ℤ exactly m.0 self.old.live }
+        requires meets { Meets first m.0 m.1 }
+        requires room { total_weight self.old.todo self.old.live ≤ℤ pos (2 ^ 97) }
+        ensures { OnOk result (KeepsPile self.old.todo self.old.live self.new.todo self.new.live) }
+    {
+        let s = self.live.remove(first);
+        self.split(s, m)?;
+        Ok(())
+    }
+
+    /// The live segments alone, which all wait again.
+    pub fn again(self, alloc: Global) -> Result<Self, AllocError>
+        ensures todo { IfOk result (λ s. s.todo ≡ self.live) }
+        ensures live { IfOk result (λ s. s.live ≡ []) }
+    {
+        let ends = self.live.ends(alloc)?;
+        let live = Store::new(alloc, &ends)?;
+        Ok(Splitter {
+            todo: self.live.into_worklist(alloc),
+            live,
+        })
+    }
+
+    /// Makes a segment live, or splits it.
+    pub fn settle(&mut self, s: CountedSegment) -> Result<(), AllocError>
+        requires forward { IsForward s.0 }
+        requires absent { times s.0 self.old.live ≡ pos 0 }
+        requires room { IsRoomy (total_weight self.old.todo self.old.live +ℤ weight s) }
+        ensures { OnOk result (Settles self.old.todo self.old.live self.new.todo self.new.live s) }
+    {
+        if let Some(m) = self.live.conflict(s.0) {
+            self.split(s, m)?;
+            return Ok(());
+        }
+        self.live.insert(s)?;
+        Ok(())
+    }
+}
