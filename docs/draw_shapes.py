@@ -23,7 +23,11 @@ def load(request_file, answer_file):
     if "shapes" not in answer:
         sys.exit(f"{answer_file}: no shapes, but {json.dumps(answer)}")
     style = request["style"]
-    return request["paths"], answer["shapes"], f"outer offset {style['outer']}, inner offset {style['inner']}"
+    caption = f"outer offset {style['outer']}, inner offset {style['inner']}"
+    join = style.get("join")
+    if join is not None:
+        caption += f", {join}" if isinstance(join, str) else f", miter of {join['miter'] * 360 / 2**32:.0f} degrees"
+    return request["paths"], answer["shapes"], caption
 
 
 def bounds(panels):

@@ -1,6 +1,7 @@
 //! Requests in memory: what is written, and how the run ends.
 
 use crate::tables::edges::EDGES;
+use crate::tables::miters::MITERS;
 use crate::tables::refused::REFUSED;
 use crate::tables::shapes::SHAPES;
 use crate::tables::unreadable::UNREADABLE;
@@ -40,7 +41,7 @@ fn expect(
 
 #[test]
 fn answered(rt: HostRuntime) -> Result<(), Fail> {
-    for table in [EDGES, SHAPES] {
+    for table in [EDGES, MITERS, SHAPES] {
         for (request, line) in table {
             expect(&rt, rt.alloc(), request.as_bytes(), Status::Answered, line)?;
         }

@@ -1,6 +1,7 @@
 //! Requests and what is written for them, as data. An answer stands without its line feed.
 
 pub mod edges;
+pub mod miters;
 pub mod refused;
 pub mod shapes;
 pub mod unreadable;

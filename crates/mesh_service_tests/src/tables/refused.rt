@@ -22,4 +22,10 @@ pub const REFUSED: &[&str] = &[
     r#"{"op":"outline","int":"i16","out":"shapes","paths":[[[15360,0]]],"style":{"outer":1024,"inner":1024}}"#,
     r#"{"op":"outline","int":"i32","out":"shapes","paths":[[[0,0]],[[0,1073740800]]],"style":{"outer":1024,"inner":1024}}"#,
     r#"{"op":"outline","int":"i16","out":"shapes","paths":[[[-16383,-16383],[16383,-16383],[16383,16383],[-16383,16383],[-16383,-16383],[16383,-16383],[16383,16383],[-16383,16383]]],"style":{"outer":0,"inner":0}}"#,
+    // paddings of miters
+    r#"{"op":"outline","int":"i32","out":"edges","paths":[[[1073739146,0]]],"style":{"outer":1024,"inner":1024,"join":{"miter":536870912}}}"#,
+    r#"{"op":"outline","int":"i32","out":"edges","paths":[[[1073740714,0]]],"style":{"outer":1024,"inner":1024,"join":{"miter":1610612736}}}"#,
+    r#"{"op":"outline","int":"i32","out":"edges","paths":[[[1073741819,0]]],"style":{"outer":1,"inner":1,"join":{"miter":536870912}}}"#,
+    r#"{"op":"outline","int":"i16","out":"edges","paths":[[[0,0]]],"style":{"outer":-32768,"inner":-32768,"join":{"miter":0}}}"#,
+    r#"{"op":"outline","int":"i32","out":"edges","paths":[[[0,0]]],"style":{"outer":-2147483648,"inner":-2147483648,"join":{"miter":0}}}"#,
 ];
