@@ -68,7 +68,7 @@ peak_share j = cross (minus j.last j.first) j.outgoing
 unfoldable pub peak : Joint → Point
 peak j = (
   j.first.0 +ℤ rounded_product j.incoming.0 (peak_share j) (cross j.incoming j.outgoing),
-  j.first.1 +ℤ rounded_product j.incoming.1 (peak_share j) (cross j.incoming j.outgoing)
+  j.first.1 +ℤ rounded_product j.incoming.1 (peak_share j) (cross j.incoming j.outgoing),
 )
 
 -- the points of a miter before they are held against the corner

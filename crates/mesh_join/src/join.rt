@@ -102,11 +102,7 @@ impl<I: IntNumber> Join<I> {
         self.draw(&joint, segments)
     }
 
-    fn draw(
-        &self,
-        joint: &Joint<I>,
-        segments: &mut Vec<Segment<I>>,
-    ) -> Result<(), AllocError>
+    fn draw(&self, joint: &Joint<I>, segments: &mut Vec<Segment<I>>) -> Result<(), AllocError>
         requires { IsJoint I.unit self.now joint.now }
         ensures ok { OnOk result (segments.new.items ≡ segments.old.items ++ segments_of (join_edges I.unit self.now joint.now)) }
         ensures err { OnErr result (segments.new.items ≡ segments.old.items) }

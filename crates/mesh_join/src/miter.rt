@@ -24,6 +24,7 @@ use std::marker::Model;
 
 // The sharpest angles between sections that miters are asked for, in bits: 5 degrees, cut, and just below half a turn.
 const LEAST_SHARPEST: u32 = 59_652_323;
+
 const GREATEST_SHARPEST: u32 = (1 << 31) - 1;
 
 // The greatest turn below which a miter is a bevel, in bits: half a turn.
@@ -243,7 +244,11 @@ fn peak<I: IntNumber>(joint: &Joint<I>) -> Pair
     let product = products(joint).0;
     let first = coordinates(joint.first);
     let (x, y) = coordinates_of(joint.incoming);
-    let share = peak_share(first, coordinates(joint.last), coordinates_of(joint.outgoing));
+    let share = peak_share(
+        first,
+        coordinates(joint.last),
+        coordinates_of(joint.outgoing),
+    );
     let along = (
         rounded_product(x, share, product),
         rounded_product(y, share, product),
@@ -279,7 +284,10 @@ fn scaled<I: IntNumber>(direction: UnitIntVector<I>, reach: i128) -> Pair
 {
     let (x, y) = coordinates_of(direction);
     let unit = widen(I::UNIT);
-    (rounded_product(x, reach, unit), rounded_product(y, reach, unit))
+    (
+        rounded_product(x, reach, unit),
+        rounded_product(y, reach, unit),
+    )
 }
 
 // The components of a direction in 128 bits.
