@@ -2,8 +2,10 @@
 
 ghost use Rattle.mesh_below.specs.Laws.{AnswersAreRegions, NothingHasNoShapes, AnswersAreSafe};
 
-pub use mesh_regions::laws::{boundaries_are_balanced, boundaries_wind_once};
-pub use mesh_regions::laws::{facing_sides_agree, sides_are_constant, sides_follow_from_ends};
+pub use mesh_regions::laws::{
+    boundaries_are_balanced, boundaries_wind_once, facing_sides_agree, segments_have_neighbours,
+    sides_are_constant, sides_follow_from_ends,
+};
 pub use mesh_split::laws::legal_splits_keep_edges;
 
 /// The contours of an answer wind once round what is filled, outside the boxes of bent edges by the given edges'

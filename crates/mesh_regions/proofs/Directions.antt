@@ -1,9 +1,9 @@
 -- Lemmas over whole numbers and points: the order of directions round a point, counterclockwise from the east.
-use Rattle.std.proofs.Common.{◌≡◌, inl, inr, Bool, true, false, cond, ◌&&◌, ◌||◌, not, [], ◌∷◌, refl, sym, ◌∙◌, ap, subst, arith}
+use Rattle.std.proofs.Common.{◌≡◌, ◌⊎◌, ⊎_elim, inl, inr, Bool, true, false, cond, ◌&&◌, ◌||◌, not, [], ◌∷◌, refl, sym, ◌∙◌, ap, subst, arith}
 use Rattle.std.specs.Prelude.{ℤ, pos, neg_ℤ, ◌+ℤ◌, ◌-ℤ◌, ◌*ℤ◌, ◌≤ℤ◌, ◌<ℤ◌, int_lt}
 use Rattle.std.proofs.lemmas.Int.{ints, by_lt_z}
 use Rattle.mesh_plane.specs.Plane.{Point, turn}
-use Rattle.mesh_plane.proofs.Whole.{linear, mul_le_mul_left, mul_one, mul_zero, mul_pos, mul_pos_neg, mul_both_neg, mul_assoc, mul_nonneg, neg_mul, neg_mul_neg, square_nonneg}
+use Rattle.mesh_plane.proofs.Whole.{linear, mul_le_mul_left, mul_one, mul_zero, mul_pos, mul_pos_neg, mul_both_neg, mul_nonpos, mul_nonpos_nonneg, mul_assoc, mul_nonneg, neg_mul, neg_mul_neg, square_nonneg}
 use Rattle.mesh_plane.proofs.Ring.{ring, var, ◌⊕◌, ◌⊖◌, ◌⊗◌, lit, neg}
 use Rattle.mesh_plane.proofs.Places.{place, coordinates, turned}
 use Rattle.mesh_plane.proofs.Comparing.{less_test, not_less_test}
@@ -313,3 +313,47 @@ common_point v x y nx ny alike flat_turn =
     one_sign_product : (r : Bool) (a b : ℤ) → Signed r a → Signed r b → pos 0 <ℤ (a *ℤ b)
     one_sign_product true a b h k = mul_pos a b h k
     one_sign_product false a b h k = mul_both_neg a b h k
+
+-- ---- three directions in order follow each other counterclockwise
+
+-- one of two turns is to the left, where the tilts weigh the turns so
+some_left : (a b c k l n : ℤ) → ((a *ℤ k) +ℤ (b *ℤ l)) +ℤ (c *ℤ n) ≡ pos 0 → pos 0 <ℤ a → k <ℤ pos 0 → pos 0 <ℤ l → pos 0 <ℤ n → (pos 0 <ℤ b) ⊎ (pos 0 <ℤ c)
+some_left a b c k l n e ha hk hl hn =
+    by_lt_z (pos 0) b (λ (h : pos 0 <ℤ b). inl h)
+    (λ (h : b ≤ℤ pos 0).
+    by_lt_z (pos 0) c (λ (i : pos 0 <ℤ c). inr i)
+    (λ (i : c ≤ℤ pos 0).
+    absurd (omega (arith, linear, mul_pos_neg a k ha hk, mul_nonpos_nonneg b l h (omega (arith, linear)), mul_nonpos_nonneg c n i (omega (arith, linear))))))
+
+some_left_below : (a b c k l n : ℤ) → ((a *ℤ k) +ℤ (b *ℤ l)) +ℤ (c *ℤ n) ≡ pos 0 → pos 0 <ℤ b → k <ℤ pos 0 → pos 0 <ℤ l → n <ℤ pos 0 → (pos 0 <ℤ a) ⊎ (pos 0 <ℤ c)
+some_left_below a b c k l n e hb hk hl hn =
+    by_lt_z (pos 0) a (λ (h : pos 0 <ℤ a). inl h)
+    (λ (h : a ≤ℤ pos 0).
+    by_lt_z (pos 0) c (λ (i : pos 0 <ℤ c). inr i)
+    (λ (i : c ≤ℤ pos 0).
+    absurd (omega (arith, linear, mul_pos b l hb hl, mul_nonpos a k h (omega (arith, linear)), mul_nonpos c n i (omega (arith, linear))))))
+
+left_of : (t : ℤ) → bit (int_lt (pos 0) t) ≡ pos 1 → pos 0 <ℤ t
+left_of t h = by_lt_z (pos 0) t (λ (k : pos 0 <ℤ t). k) (λ (k : t ≤ℤ pos 0). absurd (omega (arith, ints, none t k)))
+
+two_left : (r q p : Bool) (a b c k l n : ℤ) → ((a *ℤ k) +ℤ (b *ℤ l)) +ℤ (c *ℤ n) ≡ pos 0 → Signed p k → Signed r l → Signed q n
+    → bit (first_before r q a) ≡ pos 1 → bit (first_before q p b) ≡ pos 1
+    → ((pos 0 <ℤ a) × (pos 0 <ℤ b)) ⊎ (((pos 0 <ℤ b) × (pos 0 <ℤ c)) ⊎ ((pos 0 <ℤ c) × (pos 0 <ℤ a)))
+two_left true true true a b c k l n e hk hl hn x y = inl (left_of a x, left_of b y)
+two_left true true false a b c k l n e hk hl hn x y =
+    let w = left_of a x in
+    ⊎_elim (λ (h : pos 0 <ℤ b). inl (w, h)) (λ (h : pos 0 <ℤ c). inr (inr (h, w))) (some_left a b c k l n e w hk hl hn)
+two_left true false true a b c k l n e hk hl hn x y = absurd (omega (arith, ints, y))
+two_left true false false a b c k l n e hk hl hn x y =
+    let w = left_of b y in
+    ⊎_elim (λ (h : pos 0 <ℤ a). inl (h, w)) (λ (h : pos 0 <ℤ c). inr (inl (w, h))) (some_left_below a b c k l n e w hk hl hn)
+two_left false true p a b c k l n e hk hl hn x y = absurd (omega (arith, ints, x))
+two_left false false true a b c k l n e hk hl hn x y = absurd (omega (arith, ints, y))
+two_left false false false a b c k l n e hk hl hn x y = inl (left_of a x, left_of b y)
+
+pub ordered_turning : (v x y z : Point) → (v ≡ x → ⊥) → (v ≡ y → ⊥) → (v ≡ z → ⊥) → before v x y ≡ pos 1 → before v y z ≡ pos 1 → AreCounterclockwise (v, x) (v, y) (v, z)
+ordered_turning v x y z nx ny nz a b =
+    let f = flat v x y z in
+    let m = f.by in
+    two_left (rises (v, x)) (rises (v, y)) (rises (v, z)) (turn v x y) (turn v y z) (turn v z x) (tilt m v z) (tilt m v x) (tilt m v y) (tilts_turned m v x y z)
+    (tilt_signed m v z f.third nz) (tilt_signed m v x f.first nx) (tilt_signed m v y f.second ny) a b

@@ -12,4 +12,5 @@ pub mod Line
 pub mod SidesClear
 pub mod SidesConstant
 pub mod SidesPotential
+pub mod StarNeighbours
 pub mod StarSums

@@ -56,7 +56,7 @@ one_direction es split v x y hx hy alike flat_turn =
         (on_part (a +ℤ b) b v y some (omega (arith, linear, c.some_second)) (omega (arith, linear, c.some_first))))))
 
 -- of two segments at a vertex one comes before the other, or they are one
-star_order : (es : List Edge) → AreSplit es → (v x y : Point) → occurs (v, x) es ≡ true → occurs (v, y) es ≡ true →
+pub star_order : (es : List Edge) → AreSplit es → (v x y : Point) → occurs (v, x) es ≡ true → occurs (v, y) es ≡ true →
     (before v x y +ℤ before v y x) +ℤ bit (same_edge (v, x) (v, y)) ≡ pos 1
 star_order es split v x y hx hy =
     ⊎_elim

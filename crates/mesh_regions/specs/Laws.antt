@@ -29,6 +29,10 @@ SidesFollowFromEnds =
     (es : List Edge) → AreSplit es → (e : Edge) → occurs e es ≡ true
     → (m : ℕ) → 0 < m → right_winding es e ≡ winding m (refined m e.0) es +ℤ net_before e es
 
+-- round its start each segment has a neighbour, the next segment counterclockwise
+abbrev pub SegmentsHaveNeighbours : Type 0
+SegmentsHaveNeighbours = (es : List Edge) → AreSplit es → (s : Edge) → occurs s es ≡ true → (t : Edge) × AreNeighbours es s t
+
 -- where two segments at a vertex neighbour in angle, the sides that face each other have one winding: the left of the first
 -- and the right of the second, counterclockwise
 abbrev pub FacingSidesAgree : Type 0

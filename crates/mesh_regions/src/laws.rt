@@ -3,6 +3,7 @@
 ghost use Rattle.mesh_regions.specs.Laws.{
   SidesAreConstant,
   SidesFollowFromEnds,
+  SegmentsHaveNeighbours,
   FacingSidesAgree,
   BoundariesWindOnce,
   BoundariesAreBalanced,
@@ -17,6 +18,11 @@ pub fn sides_are_constant()
 /// counterclockwise from the east. So the windings beside all segments at a vertex follow from the one at it.
 pub fn sides_follow_from_ends()
     ensures { SidesFollowFromEnds }
+{}
+
+/// Round its start each segment has a neighbour, the next segment counterclockwise.
+pub fn segments_have_neighbours()
+    ensures { SegmentsHaveNeighbours }
 {}
 
 /// Where two segments at a vertex neighbour in angle, the sides that face each other have one winding.
