@@ -41,8 +41,11 @@ const GROWTH: usize = 4;
 /// How many splits the first round allows beside those that the number of meetings asks for.
 const SPARE: usize = 500;
 
-/// How many segments are taken in hand for a split, about.
-const STEPS: usize = 4;
+/// Where there is at most one split for so many edges, and as many more as `FEW`, no order is sought.
+const SPARSE: usize = 16;
+
+/// So few splits need no order.
+const FEW: usize = 64;
 
 /// A segment, and one that it meets.
 type Pair = (GridEdge, Meeting);
@@ -138,18 +141,24 @@ fn by_hints(
     Ok(None)
 }
 
-/// Splits the edges as the second pass does, unless that takes too many steps.
-fn in_hand(alloc: Global, edges: &[GridEdge], steps: usize) -> Result<Option<Splitter>, AllocError>
+/// Splits the edges as the second pass does, unless that takes more splits than these.
+fn in_hand(alloc: Global, edges: &[GridEdge], most: usize) -> Result<Option<Splitter>, AllocError>
     requires { IsProper edges.now }
     ensures pile { IfOk result (λ o. IfSome o (λ s. IsPile edges.now s.todo s.live)) }
     ensures clear { IfOk result (λ o. IfSome o (λ s. AllClear s.live)) }
 {
     let mut splitter = Splitter::of_edges(alloc, edges)?;
-    for _step in 0..steps {
+    let mut splits: usize = 0;
+    for _step in 0..usize::MAX {
         let Some(s) = splitter.todo.pop() else {
             return Ok(Some(splitter));
         };
-        splitter.settle(s)?;
+        if splitter.settle(s)? {
+            splits = splits.saturating_add(1);
+        }
+        if splits > most {
+            return Ok(None);
+        }
     }
     Ok(None)
 }
@@ -168,11 +177,7 @@ fn attempt(
     match kind {
         Kind::Sweeping(order) => by_hints(alloc, edges, order, false, factor),
         Kind::Eager(order) => by_hints(alloc, edges, order, true, factor),
-        Kind::InHand => in_hand(
-            alloc,
-            edges,
-            budget(edges.len(), 0, factor).saturating_mul(STEPS),
-        ),
+        Kind::InHand => in_hand(alloc, edges, budget(edges.len(), 0, factor)),
     }
 }
 
@@ -182,6 +187,9 @@ pub fn first_pass(alloc: Global, edges: &[GridEdge]) -> Result<Splitter, AllocEr
     ensures pile { IfOk result (λ s. IsPile edges.now s.todo s.live) }
     ensures clear { IfOk result (λ s. AllClear s.live) }
 {
+    if let Some(splitter) = in_hand(alloc, edges, (edges.len() / SPARSE).saturating_add(FEW))? {
+        return Ok(splitter);
+    }
     let mut factor: usize = 1;
     for _round in 0..ROUNDS {
         for kind in KINDS {
