@@ -1,5 +1,5 @@
-//! The first pass: splits in an order that is seldom unlucky. It need not leave the segments clear of each other; what is left to
-//! split is found by the second pass, whatever was split here.
+//! The first pass: splits in another order where the usual one takes too many. It need not leave the segments clear of each
+//! other; what is left to split is found by the second pass, whatever was split here.
 
 ghost use Rattle.std.specs.Prelude.{◌≡◌, [], pos, ◌<ℤ◌, IfOk, IfSome, OnOk};
 ghost use Rattle.mesh_cuts.specs.Clean.{IsProper};
@@ -40,12 +40,6 @@ const GROWTH: usize = 4;
 
 /// How many splits the first round allows beside those that the number of meetings asks for.
 const SPARE: usize = 500;
-
-/// Where there is at most one split for so many edges, and as many more as `FEW`, no order is sought.
-const SPARSE: usize = 16;
-
-/// So few splits need no order.
-const FEW: usize = 64;
 
 /// A segment, and one that it meets.
 type Pair = (GridEdge, Meeting);
@@ -113,6 +107,11 @@ fn budget(edges: usize, meetings: usize, factor: usize) -> usize {
         .saturating_mul(factor)
 }
 
+/// How many splits an attempt in hand may make, which does not know the number of meetings: mostly there are no more than edges.
+fn usual(edges: usize, factor: usize) -> usize {
+    budget(edges, edges, factor)
+}
+
 /// Splits the edges by hints, unless that takes too many splits. All that it leaves waits to be tested.
 fn by_hints(
     alloc: Global,
@@ -177,7 +176,11 @@ fn attempt(
     match kind {
         Kind::Sweeping(order) => by_hints(alloc, edges, order, false, factor),
         Kind::Eager(order) => by_hints(alloc, edges, order, true, factor),
-        Kind::InHand => in_hand(alloc, edges, budget(edges.len(), 0, factor)),
+        Kind::InHand => in_hand(
+            alloc,
+            edges,
+            usual(edges.len(), factor.saturating_mul(GROWTH)),
+        ),
     }
 }
 
@@ -187,7 +190,7 @@ pub fn first_pass(alloc: Global, edges: &[GridEdge]) -> Result<Splitter, AllocEr
     ensures pile { IfOk result (λ s. IsPile edges.now s.todo s.live) }
     ensures clear { IfOk result (λ s. AllClear s.live) }
 {
-    if let Some(splitter) = in_hand(alloc, edges, (edges.len() / SPARSE).saturating_add(FEW))? {
+    if let Some(splitter) = in_hand(alloc, edges, usual(edges.len(), 1))? {
         return Ok(splitter);
     }
     let mut factor: usize = 1;
