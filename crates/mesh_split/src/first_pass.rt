@@ -1,5 +1,5 @@
-//! The first pass: splits in an order that is seldom unlucky. It need not leave the segments clear of each other; what is left to
-//! split is found by the second pass, whatever was split here.
+//! The first pass: splits in another order where the usual one takes too many. It need not leave the segments clear of each
+//! other; what is left to split is found by the second pass, whatever was split here.
 
 ghost use Rattle.std.specs.Prelude.{◌≡◌, [], pos, ◌<ℤ◌, IfOk, IfSome, OnOk};
 ghost use Rattle.mesh_cuts.specs.Clean.{IsProper};
@@ -40,9 +40,6 @@ const GROWTH: usize = 4;
 
 /// How many splits the first round allows beside those that the number of meetings asks for.
 const SPARE: usize = 500;
-
-/// How many segments are taken in hand for a split, about.
-const STEPS: usize = 4;
 
 /// A segment, and one that it meets.
 type Pair = (GridEdge, Meeting);
@@ -110,6 +107,11 @@ fn budget(edges: usize, meetings: usize, factor: usize) -> usize {
         .saturating_mul(factor)
 }
 
+/// How many splits an attempt in hand may make, which does not know the number of meetings: mostly there are no more than edges.
+fn usual(edges: usize, factor: usize) -> usize {
+    budget(edges, edges, factor)
+}
+
 /// Splits the edges by hints, unless that takes too many splits. All that it leaves waits to be tested.
 fn by_hints(
     alloc: Global,
@@ -138,18 +140,24 @@ fn by_hints(
     Ok(None)
 }
 
-/// Splits the edges as the second pass does, unless that takes too many steps.
-fn in_hand(alloc: Global, edges: &[GridEdge], steps: usize) -> Result<Option<Splitter>, AllocError>
+/// Splits the edges as the second pass does, unless that takes more splits than these.
+fn in_hand(alloc: Global, edges: &[GridEdge], most: usize) -> Result<Option<Splitter>, AllocError>
     requires { IsProper edges.now }
     ensures pile { IfOk result (λ o. IfSome o (λ s. IsPile edges.now s.todo s.live)) }
     ensures clear { IfOk result (λ o. IfSome o (λ s. AllClear s.live)) }
 {
     let mut splitter = Splitter::of_edges(alloc, edges)?;
-    for _step in 0..steps {
+    let mut splits: usize = 0;
+    for _step in 0..usize::MAX {
         let Some(s) = splitter.todo.pop() else {
             return Ok(Some(splitter));
         };
-        splitter.settle(s)?;
+        if splitter.settle(s)? {
+            splits = splits.saturating_add(1);
+        }
+        if splits > most {
+            return Ok(None);
+        }
     }
     Ok(None)
 }
@@ -171,7 +179,7 @@ fn attempt(
         Kind::InHand => in_hand(
             alloc,
             edges,
-            budget(edges.len(), 0, factor).saturating_mul(STEPS),
+            usual(edges.len(), factor.saturating_mul(GROWTH)),
         ),
     }
 }
@@ -182,6 +190,9 @@ pub fn first_pass(alloc: Global, edges: &[GridEdge]) -> Result<Splitter, AllocEr
     ensures pile { IfOk result (λ s. IsPile edges.now s.todo s.live) }
     ensures clear { IfOk result (λ s. AllClear s.live) }
 {
+    if let Some(splitter) = in_hand(alloc, edges, usual(edges.len(), 1))? {
+        return Ok(splitter);
+    }
     let mut factor: usize = 1;
     for _round in 0..ROUNDS {
         for kind in KINDS {

@@ -1,4 +1,4 @@
-//! The splitting itself: one legal split at a time, until no two segments meet.
+//! The splitting itself: one legal split at a time, until no two segments meet. What the first pass left is tested here.
 
 ghost use Rattle.std.specs.Prelude.{IfOk};
 ghost use Rattle.mesh_plane.specs.Winding.{sum_of};

@@ -154,8 +154,8 @@ impl Splitter {
         })
     }
 
-    /// Makes a segment live, or splits it.
-    pub fn settle(&mut self, s: CountedSegment) -> Result<(), AllocError>
+    /// Makes a segment live, or splits it and answers yes.
+    pub fn settle(&mut self, s: CountedSegment) -> Result<bool, AllocError>
         requires forward { IsForward s.0 }
         requires absent { times s.0 self.old.live ≡ pos 0 }
         requires room { IsRoomy (total_weight self.old.todo self.old.live +ℤ weight s) }
@@ -163,9 +163,9 @@ impl Splitter {
     {
         if let Some(m) = self.live.conflict(s.0) {
             self.split(s, m)?;
-            return Ok(());
+            return Ok(true);
         }
         self.live.insert(s)?;
-        Ok(())
+        Ok(false)
     }
 }

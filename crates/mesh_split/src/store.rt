@@ -1,4 +1,4 @@
-//! The live segments: those that were tested against each other and don't meet. Each is listed in the cells of the plane that
+//! The live segments. In the second pass they were tested against each other and don't meet. Each is listed in the cells of the plane that
 //! its box reaches, where those are sought that a segment may meet. What was taken out stays listed, so what a cell lists
 //! counts only where it lives.
 
