@@ -49,8 +49,8 @@ is_slight min_turn j = int_eq (cross j.incoming j.outgoing) (pos 0) || is_angle_
 unfoldable pub is_sharp : ℕ → Joint → Bool
 is_sharp angle j = is_angle_below (sin_cos (sharpest angle)) (opposite j.incoming) j.outgoing
 
--- how far the sections run on before a sharp peak is clipped, so that the edge that clips it is as far away as the peak of
--- the sharpest angle would be
+-- how far the sections run on before a sharp peak is clipped, so that the ends of the edge that clips it are as far away as
+-- the peak of the sharpest angle would be
 unfoldable pub clip_reach : ℕ → ℤ → ℤ
 clip_reach angle radius = rounded_product radius (half_sharpest angle).1 (half_sharpest angle).0
 

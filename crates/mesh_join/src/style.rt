@@ -17,9 +17,10 @@ pub enum IntLineJoin {
     /// The straight edge between both offset points.
     #[default]
     Bevel,
-    /// The peak in which both moved sections meet. Where the angle between the sections is below this one, which counts as
-    /// at least 5 degrees (59,652,323 bits) and less than half a turn, the peak is clipped by an edge as far away as the
-    /// peak of this angle. Slight turns are bevelled, and corners whose peak would turn back or lie past the padding.
+    /// The peak in which both moved sections meet. The angle, in bits of 2^32 a turn, counts as at least 5 degrees
+    /// (59,652,323 bits) and less than half a turn. Where the angle between the sections is below it, the peak is clipped
+    /// by an edge whose ends are as far away as the peak of this angle would be. Slight turns are bevelled, and corners
+    /// whose peak would turn back or lie past the padding.
     Miter(Angle),
 }
 
