@@ -9,7 +9,8 @@ use Rattle.mesh_plane.proofs.Sums.{sum_of_append}
 use Rattle.mesh_cuts.specs.Clean.{IsProper}
 use Rattle.mesh_shapes.specs.Contours.{vertices}
 use Rattle.mesh_cuts.specs.FillRules.{filled}
-use Rattle.mesh_regions.specs.Laws.{AreSplit, once}
+use Rattle.mesh_regions.specs.Laws.{once}
+use Rattle.mesh_sides.specs.Laws.{AreSplit}
 use Rattle.mesh_below.specs.Laws.{AreRegions}
 use Rattle.mesh_regions.specs.Regions.{OutsideBent}
 use Rattle.mesh_shapes.specs.Resolution.{Choices, IsResolution}
@@ -24,7 +25,7 @@ use Rattle.mesh_shapes.proofs.ContoursKept.{Proper, vertices_winding}
 use Rattle.mesh_below.proofs.Partition.{answer_winds}
 use Rattle.mesh_cuts.proofs.Each.{proper_of, each_of}
 use Rattle.mesh_cuts.proofs.Each.{Each}
-use Rattle.mesh_regions.proofs.Inside.{boundary_winds}
+use Rattle.mesh_regions.proofs.SplitBoundary.{boundary_winds}
 
 -- ---- contours
 

@@ -17,10 +17,10 @@ use Rattle.mesh_cuts.specs.Boundary.{winding_beside, left_winding, right_winding
 use Rattle.mesh_plane.proofs.Places.{place, coordinates, turned}
 use Rattle.mesh_plane.proofs.Grids.{scale, part, winds}
 use Rattle.mesh_cuts.proofs.Each.{Each}
-use Rattle.mesh_regions.proofs.SidesClear.{Meeting, meeting_of}
+use Rattle.mesh_sides.proofs.SidesClear.{Meeting, meeting_of}
 use Rattle.mesh_cuts.proofs.Keys.{Leans, Distinct, grouped, occurs_head, occurs_ends}
-use Rattle.mesh_regions.proofs.BoundaryGrids.{below_of, crossing_below, level_none, level_below_none, winds_finer}
-use Rattle.mesh_regions.proofs.BoundaryLine.{Setting, inside_beside, above_place}
+use Rattle.mesh_sides.proofs.FinerGrids.{below_of, crossing_below, level_none, level_below_none, winds_finer}
+use Rattle.mesh_sides.proofs.LineWindings.{Setting, inside_beside, above_place}
 use Rattle.mesh_cuts.proofs.SidesBack.{crossing_back}
 use Rattle.mesh_cuts.proofs.SidesBack.{rises_flat}
 use Rattle.mesh_regions.proofs.BoundaryFill.{boundary_net, boundary_cover, crossing_below_back, fill_is, fill_is_below}

@@ -13,9 +13,9 @@ use Rattle.mesh_cuts.specs.Boundary.{count, winding_beside, left_winding, right_
 use Rattle.mesh_plane.proofs.Grids.{scale, winds}
 use Rattle.mesh_cuts.proofs.Each.{Each}
 use Rattle.mesh_cuts.proofs.Keys.{Leans, grouped, occurs_head, occurs_back, edge_back}
-use Rattle.mesh_regions.proofs.BoundaryGrids.{below_of, crossing_below}
-use Rattle.mesh_regions.proofs.BoundaryFine.{Fine, fine_up, fine_down}
-use Rattle.mesh_regions.proofs.BoundaryLine.{Setting, filled}
+use Rattle.mesh_sides.proofs.FinerGrids.{below_of, crossing_below}
+use Rattle.mesh_sides.proofs.FinerPoints.{Fine, fine_up, fine_down}
+use Rattle.mesh_sides.proofs.LineWindings.{Setting, filled}
 use Rattle.mesh_cuts.proofs.SidesBack.{crossing_back}
 use Rattle.mesh_cuts.proofs.SidesBack.{count_more, rises_up, sides_back}
 

@@ -15,7 +15,7 @@ use Rattle.mesh_plane.proofs.Sums.{total_append}
 use Rattle.mesh_cuts.specs.Split.{same_ends, occurs, IsInBox, IsBetween, Cut, cut, after, path}
 use Rattle.mesh_regions.specs.Regions.{is_bent}
 use Rattle.mesh_plane.proofs.Places.{place, coordinates, turned, scaled_place}
-use Rattle.mesh_regions.proofs.SidesPotential.{above, crosses_west, crosses_east}
+use Rattle.mesh_sides.proofs.SidesPotential.{above, crosses_west, crosses_east}
 use Rattle.mesh_plane.proofs.Grids.{scale, winds}
 use Rattle.mesh_cuts.proofs.Keys.{occurs_head}
 use Rattle.mesh_cuts.proofs.KeptByCuts.{Boxed, after_append, box_first, box_last, box_trans, cut_box}

@@ -1,16 +1,4 @@
 pub mod BoundaryBalance
 pub mod BoundaryFill
-pub mod BoundaryFine
-pub mod BoundaryGrids
-pub mod BoundaryLine
 pub mod BoundaryRegions
-pub mod Directions
-pub mod EndsGains
-pub mod EndsParted
-pub mod Inside
-pub mod Line
-pub mod SidesClear
-pub mod SidesConstant
-pub mod SidesPotential
-pub mod StarNeighbours
-pub mod StarSums
+pub mod SplitBoundary

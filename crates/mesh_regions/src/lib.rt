@@ -1,6 +1,5 @@
-//! What holds of split segments and of their boundary, as laws: sides have one winding, which follows from that at an end
-//! and agrees with the facing side's, the boundary winds once round what is filled and is balanced, and outside the boxes
-//! of bent edges the winding is that of the given edges.
+//! What holds of the boundary of split segments, as laws: it winds once round what is filled and is balanced, and outside
+//! the boxes of bent edges the winding is that of the given edges.
 #![tactic(auto)]
 
 pub mod laws;

@@ -1,5 +1,5 @@
 -- Balance of the boundary.
-use Rattle.mesh_regions.proofs.Inside.{boundary_balances}
+use Rattle.mesh_regions.proofs.SplitBoundary.{boundary_balances}
 use Rattle.mesh_regions.proofs.laws.boundaries_are_balanced.Goals as goal
 
 pub returns : goal.returns

@@ -1,5 +1,5 @@
 -- The winding of the boundary.
-use Rattle.mesh_regions.proofs.Inside.{boundary_winds}
+use Rattle.mesh_regions.proofs.SplitBoundary.{boundary_winds}
 use Rattle.mesh_regions.proofs.laws.boundaries_wind_once.Goals as goal
 
 pub returns : goal.returns

@@ -16,14 +16,14 @@ use Rattle.mesh_cuts.specs.Split.{back, same_edge, same_ends, is_end, occurs}
 use Rattle.mesh_cuts.proofs.Each.{Each, each_of, proper_of}
 use Rattle.mesh_cuts.proofs.Ends.{decides_edge, decides_ends, decides_end, ends_sym, not_ends, along_turned, not_along}
 use Rattle.mesh_cuts.proofs.Keys.{occurs_back}
-use Rattle.mesh_regions.specs.Laws.{AreSplit}
-use Rattle.mesh_regions.specs.Star.{comes_before, leaves_before, net_before, AreCounterclockwise, AreNeighbours}
-use Rattle.mesh_regions.proofs.BoundaryGrids.{winds_finer}
-use Rattle.mesh_regions.proofs.Directions.{Slope, upward, westward, eastward, downward, slope, before, one_before, not_before, two_before, middle_apart, common_point}
-use Rattle.mesh_regions.proofs.EndsGains.{gain, gain_odd, gains_are, gain_none, gain_rising, gain_sinking, gain_level}
-use Rattle.mesh_regions.proofs.EndsParted.{end_parted, start_off}
-use Rattle.mesh_regions.proofs.SidesConstant.{parted_back}
-use Rattle.mesh_regions.proofs.SidesClear.{Meeting, meeting_of, clear_pair, inner_no_end, on_part}
+use Rattle.mesh_sides.specs.Laws.{AreSplit}
+use Rattle.mesh_sides.specs.Star.{comes_before, leaves_before, net_before, AreCounterclockwise, AreNeighbours}
+use Rattle.mesh_sides.proofs.FinerGrids.{winds_finer}
+use Rattle.mesh_sides.proofs.Directions.{Slope, upward, westward, eastward, downward, slope, before, one_before, not_before, two_before, middle_apart, common_point}
+use Rattle.mesh_sides.proofs.EndsGains.{gain, gain_odd, gains_are, gain_none, gain_rising, gain_sinking, gain_level}
+use Rattle.mesh_sides.proofs.EndsParted.{end_parted, start_off}
+use Rattle.mesh_sides.proofs.SidesConstant.{parted_back}
+use Rattle.mesh_sides.proofs.SidesClear.{Meeting, meeting_of, clear_pair, inner_no_end, on_part}
 
 -- ---- directions of segments are apart
 

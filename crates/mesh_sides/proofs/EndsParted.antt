@@ -13,9 +13,9 @@ use Rattle.mesh_cuts.specs.Clean.{IsOn, IsClean}
 use Rattle.mesh_cuts.specs.Split.{occurs, is_end, IsBetween}
 use Rattle.mesh_cuts.proofs.Boxes.{turn_start, start_box}
 use Rattle.mesh_cuts.proofs.Ends.{decides_end, not_ends}
-use Rattle.mesh_regions.proofs.SidesClear.{four_turns, meeting_of}
-use Rattle.mesh_regions.proofs.SidesConstant.{Clear, on_left, on_right, ahead, behind, on_one_line}
-use Rattle.mesh_regions.proofs.SidesPotential.{Parted, edge_left, edge_right, way_left, way_right, one_line}
+use Rattle.mesh_sides.proofs.SidesClear.{four_turns, meeting_of}
+use Rattle.mesh_sides.proofs.SidesConstant.{Clear, on_left, on_right, ahead, behind, on_one_line}
+use Rattle.mesh_sides.proofs.SidesPotential.{Parted, edge_left, edge_right, way_left, way_right, one_line}
 
 -- ---- the turns of the way from `a` to the middle, on the grid 2
 

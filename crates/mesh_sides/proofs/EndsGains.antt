@@ -15,9 +15,9 @@ use Rattle.mesh_cuts.specs.Boundary.{rises}
 use Rattle.mesh_cuts.specs.Counted.{bit}
 use Rattle.mesh_cuts.specs.Split.{back}
 use Rattle.mesh_cuts.proofs.Boxes.{turn_start, turn_end}
-use Rattle.mesh_regions.proofs.Directions.{Slope, upward, westward, eastward, downward, before}
-use Rattle.mesh_regions.proofs.EndsParted.{way_twice, start_twice}
-use Rattle.mesh_regions.proofs.SidesPotential.{Parted, potential, east, east_of}
+use Rattle.mesh_sides.proofs.Directions.{Slope, upward, westward, eastward, downward, before}
+use Rattle.mesh_sides.proofs.EndsParted.{way_twice, start_twice}
+use Rattle.mesh_sides.proofs.SidesPotential.{Parted, potential, east, east_of}
 
 -- how much an edge adds to the winding, on the grid 2, as a point moves up from `q` to `u`
 abbrev pub gain : Point → Point → Edge → ℤ

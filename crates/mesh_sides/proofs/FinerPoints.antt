@@ -11,7 +11,7 @@ use Rattle.mesh_plane.proofs.Crossings.{crossing_low, crossing_high}
 use Rattle.mesh_plane.proofs.Grids.{scale}
 use Rattle.mesh_cuts.proofs.Each.{Each}
 use Rattle.mesh_cuts.proofs.Keys.{Leans}
-use Rattle.mesh_regions.proofs.BoundaryGrids.{crossing_finer, scale_twice, crossing_below, below_of, level_none, level_below_none, Moves, crossing_up_moved, crossing_down_moved, bound, Divides, multiple}
+use Rattle.mesh_sides.proofs.FinerGrids.{crossing_finer, scale_twice, crossing_below, below_of, level_none, level_below_none, Moves, crossing_up_moved, crossing_down_moved, bound, Divides, multiple}
 
 -- the line at the height `h` of the grid `m` goes through a segment inside, at a whole place
 pub record Hit (m h : ℤ) (s : Edge) : Type 0 where

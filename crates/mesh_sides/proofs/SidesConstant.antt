@@ -9,7 +9,7 @@ use Rattle.mesh_plane.proofs.Ring.{ring, var, ◌⊕◌, ◌⊖◌, ◌⊗◌, l
 use Rattle.mesh_plane.proofs.Crossings.{turn_flip}
 use Rattle.mesh_plane.proofs.Balance.{growth, growth_of_balanced}
 use Rattle.mesh_plane.proofs.Places.{place, coordinates, turned, scaled_place}
-use Rattle.mesh_regions.proofs.SidesPotential.{Parted, edge_left, edge_right, way_left, way_right, one_line, potential, east}
+use Rattle.mesh_sides.proofs.SidesPotential.{Parted, edge_left, edge_right, way_left, way_right, one_line, potential, east}
 use Rattle.mesh_plane.proofs.Grids.{part, scale, winds}
 use Rattle.mesh_cuts.proofs.Each.{Each, each_more}
 

@@ -1,7 +1,7 @@
--- Lemmas over points and lists: one winding inside a segment, and the boundary winds once round what is filled.
+-- Lemmas over points and lists: one winding inside a segment.
 use Rattle.std.specs.Prelude.{ℤ, ◌+ℤ◌, ◌-ℤ◌, ◌*ℤ◌, pos, ◌≤ℤ◌, ◌<ℤ◌}
 use Rattle.mesh_plane.specs.Plane.{Point, turn, Edge}
-use Rattle.std.proofs.Common.{◌≡◌, [], ◌∷◌, refl, ◌∙◌, ap, arith, sym, ◌⊎◌, inl, inr, ℕ, ◌<◌, true, List, subst, Bool, false}
+use Rattle.std.proofs.Common.{◌≡◌, [], ◌∷◌, refl, ◌∙◌, ap, arith, sym, ◌⊎◌, inl, inr, ℕ, ◌<◌, true, List, subst}
 use Rattle.mesh_plane.proofs.Ring.{ring, var, ◌⊖◌, ◌⊗◌, lit, ◌⊕◌}
 use Rattle.mesh_plane.proofs.Places.{place, coordinates, turned, scaled_place}
 use Rattle.mesh_plane.proofs.Grids.{scale, part, winds}
@@ -9,17 +9,14 @@ use Rattle.mesh_plane.proofs.Whole.{linear, mul_zero, mul_nonneg, mul_nonpos, mu
 use Rattle.std.proofs.lemmas.Int.{by_lt_z, ints}
 use Rattle.mesh_cuts.specs.Split.{IsBetween, occurs, IsInside, is_end}
 use Rattle.std.proofs.lemmas.Bool.{both_ways}
-use Rattle.mesh_plane.specs.Winding.{winding, IsBalanced}
-use Rattle.mesh_cuts.specs.Boundary.{winding_beside, IsBoundary}
+use Rattle.mesh_plane.specs.Winding.{winding}
+use Rattle.mesh_cuts.specs.Boundary.{winding_beside}
 use Rattle.mesh_cuts.specs.Clean.{refined_edge}
-use Rattle.mesh_regions.specs.Laws.{AreSplit, once}
-use Rattle.mesh_regions.proofs.BoundaryGrids.{winds_finer}
-use Rattle.mesh_regions.proofs.BoundaryLine.{inside_beside, Setting}
+use Rattle.mesh_sides.specs.Laws.{AreSplit}
+use Rattle.mesh_sides.proofs.FinerGrids.{winds_finer}
+use Rattle.mesh_sides.proofs.LineWindings.{inside_beside}
 use Rattle.mesh_cuts.proofs.Ends.{decides_end}
 use Rattle.mesh_cuts.proofs.Each.{proper_of}
-use Rattle.mesh_cuts.proofs.Keys.{keys, keys_are}
-use Rattle.mesh_regions.proofs.BoundaryFill.{fill_is}
-use Rattle.mesh_regions.proofs.BoundaryBalance.{boundary_is_balanced}
 
 -- by how much the point lies beyond `p` along the way from `p` to `r`, times the way's length
 abbrev way_past : ℤ → Point → Point → Point → ℤ
@@ -203,12 +200,3 @@ inside_winding es split e stands m some q within =
 
     grids : (m n : ℤ) → (n *ℤ pos 2) *ℤ m ≡ (m *ℤ n) *ℤ pos 2
     grids m n = ring (m ∷ n ∷ []) ((var 1 ⊗ lit (pos 2)) ⊗ var 0) ((var 0 ⊗ var 1) ⊗ lit (pos 2)) refl
-
-setting_of : (es : List Edge) → AreSplit es → Setting es (keys es)
-setting_of es split = record { balanced = split.balanced; clean = split.clean; proper = split.proper; keys = keys_are es split.proper }
-
-pub boundary_winds : (es bs : List Edge) (fill : ℤ → Bool) → AreSplit es → fill (pos 0) ≡ false → IsBoundary es fill bs → (m : ℕ) → 0 < m → (q : Point) → winding m q bs ≡ once fill (winding m q es)
-boundary_winds es bs fill split empty is m some q = fill_is es (keys es) bs fill (setting_of es split) is empty (pos m) q (omega (arith, ints))
-
-pub boundary_balances : (es bs : List Edge) (fill : ℤ → Bool) → AreSplit es → fill (pos 0) ≡ false → IsBoundary es fill bs → IsBalanced bs
-boundary_balances es bs fill split empty is = boundary_is_balanced es (keys es) bs fill (setting_of es split) is empty

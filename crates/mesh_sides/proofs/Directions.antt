@@ -10,7 +10,7 @@ use Rattle.mesh_plane.proofs.Comparing.{less_test, not_less_test}
 use Rattle.mesh_plane.proofs.Crossings.{turn_swap}
 use Rattle.mesh_plane.proofs.Grids.{part}
 use Rattle.mesh_cuts.proofs.Boxes.{turn_end}
-use Rattle.mesh_regions.specs.Star.{comes_before, AreCounterclockwise}
+use Rattle.mesh_sides.specs.Star.{comes_before, AreCounterclockwise}
 use Rattle.mesh_cuts.specs.Boundary.{rises}
 use Rattle.mesh_cuts.specs.Counted.{bit}
 use Rattle.mesh_cuts.proofs.SidesBack.{rises_up, rises_flat}

@@ -10,10 +10,10 @@ use Rattle.mesh_cuts.specs.Split.{back, same_edge, same_ends, is_end, occurs}
 use Rattle.mesh_cuts.proofs.Each.{proper_of}
 use Rattle.mesh_cuts.proofs.Ends.{decides_edge, decides_ends, decides_end}
 use Rattle.mesh_cuts.proofs.Keys.{occurs_ends, occurs_head}
-use Rattle.mesh_regions.specs.Laws.{AreSplit}
-use Rattle.mesh_regions.specs.Star.{comes_before, AreCounterclockwise, AreNeighbours}
-use Rattle.mesh_regions.proofs.Directions.{before, not_before, two_before, ordered_turning}
-use Rattle.mesh_regions.proofs.StarSums.{star_order}
+use Rattle.mesh_sides.specs.Laws.{AreSplit}
+use Rattle.mesh_sides.specs.Star.{comes_before, AreCounterclockwise, AreNeighbours}
+use Rattle.mesh_sides.proofs.Directions.{before, not_before, two_before, ordered_turning}
+use Rattle.mesh_sides.proofs.StarSums.{star_order}
 
 -- of segments at a vertex, one that comes before a second that comes before a third comes before the third
 chained : (es : List Edge) → AreSplit es → (v x y z : Point) → occurs (v, x) es ≡ true → occurs (v, y) es ≡ true → occurs (v, z) es ≡ true

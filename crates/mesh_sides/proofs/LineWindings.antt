@@ -12,16 +12,16 @@ use Rattle.mesh_cuts.specs.Clean.{IsOn, IsClean, IsProper}
 use Rattle.mesh_cuts.specs.Split.{same_ends, occurs}
 use Rattle.mesh_cuts.specs.Counted.{net}
 use Rattle.mesh_cuts.specs.Boundary.{middle, winding_beside}
-use Rattle.mesh_regions.proofs.Line.{past, past_yes, past_none, beyond, steps, Free, Scattered, telescope}
+use Rattle.mesh_sides.proofs.Line.{past, past_yes, past_none, beyond, steps, Free, Scattered, telescope}
 use Rattle.mesh_plane.proofs.Places.{place, coordinates, turned, scaled_place}
 use Rattle.mesh_plane.proofs.Grids.{scale, part, winds}
 use Rattle.mesh_cuts.proofs.Each.{Each, each_more}
-use Rattle.mesh_regions.proofs.SidesConstant.{inside_same}
-use Rattle.mesh_regions.proofs.SidesClear.{on_part, inner_no_end, Meeting, meeting_of, clear_all}
+use Rattle.mesh_sides.proofs.SidesConstant.{inside_same}
+use Rattle.mesh_sides.proofs.SidesClear.{on_part, inner_no_end, Meeting, meeting_of, clear_all}
 use Rattle.mesh_cuts.proofs.Each.{proper_of}
 use Rattle.mesh_cuts.proofs.Keys.{Distinct, IsKeys, keys_each, grouped, occurs_head}
-use Rattle.mesh_regions.proofs.BoundaryGrids.{winds_finer}
-use Rattle.mesh_regions.proofs.BoundaryFine.{Hit, Met, idle, hit, Fine}
+use Rattle.mesh_sides.proofs.FinerGrids.{winds_finer}
+use Rattle.mesh_sides.proofs.FinerPoints.{Hit, Met, idle, hit, Fine}
 use Rattle.mesh_cuts.proofs.SidesBack.{crossing_back}
 
 -- ---- the winding at an inner point is that beside the segment

@@ -12,7 +12,7 @@ use Rattle.mesh_cuts.specs.Split.{back, same_ends, occurs, IsBetween}
 use Rattle.mesh_cuts.proofs.Ends.{decides_ends, decides_end}
 use Rattle.mesh_plane.proofs.Places.{place, coordinates, turned, scaled_place}
 use Rattle.mesh_plane.proofs.Grids.{scale, part}
-use Rattle.mesh_regions.proofs.SidesConstant.{Clear, on_left, on_right, ahead, behind, on_one_line, ClearOf}
+use Rattle.mesh_sides.proofs.SidesConstant.{Clear, on_left, on_right, ahead, behind, on_one_line, ClearOf}
 use Rattle.mesh_cuts.proofs.Each.{Each}
 use Rattle.mesh_cuts.proofs.Each.{each_of, proper_of}
 use Rattle.mesh_plane.proofs.LineTurns.{line_turn}
