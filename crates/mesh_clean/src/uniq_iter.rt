@@ -22,7 +22,8 @@ pub struct UniqueSegment<I: IntNumber> {
 }
 
 /// The edges between the neighbouring kept points of a closed contour, in their order. Points that the contour
-/// runs straight through are left out, those where it turns back stay. Contracts see the list of the edges still to come.
+/// runs straight through are left out, those where it turns back stay. Contracts see the list of the edges still to
+/// come.
 #[derive(Drop)]
 pub struct UniqueSegmentsIter<'a, I: IntNumber> {
     from: IntPoint<I>,
@@ -51,9 +52,11 @@ impl<'a, I: IntNumber> UniqueSegmentsIter<'a, I> {
     /// the one before it, the first after the last too. At every point they wind as often as the contour does.
     pub fn new(points: &'a [IntPoint<I>]) -> Option<Self>
         requires { All (IsSafe I.unit) points.now }
-        ensures sections { MatchOption result (AllEqual points.now) (λ s. (AllEqual points.now → ⊥) × (s ≡ cleaned_sections points.now)) }
+        ensures sections { MatchOption result (AllEqual points.now)
+            (λ s. (AllEqual points.now → ⊥) × (s ≡ cleaned_sections points.now)) }
         ensures clean { IfSome result IsClean }
-        ensures winding { (m : ℕ) (q : Point) → MatchOption result (winding m q (boundary points.now) ≡ pos 0) (λ s. winding m q s ≡ winding m q (boundary points.now)) }
+        ensures winding { (m : ℕ) (q : Point) → MatchOption result (winding m q (boundary points.now) ≡ pos 0)
+            (λ s. winding m q s ≡ winding m q (boundary points.now)) }
     {
         let Some((first, others)) = points.split_first() else {
             return None;
@@ -161,8 +164,10 @@ fn straight_on<I: IntNumber>(
     requires { All (IsSafe I.unit) (from ∷ to ∷ points.old) }
     ensures sections { MatchOption result.1
         ((open_sections (from ∷ to ∷ points.old) ≡ open_sections (from ∷ result.0 ∷ [])) × (points.new ≡ []))
-        (λ next. open_sections (from ∷ to ∷ points.old) ≡ (from, result.0) ∷ open_sections (result.0 ∷ next ∷ points.new)) }
-    ensures safe { MatchOption result.1 (IsSafe I.unit result.0) (λ next. All (IsSafe I.unit) (result.0 ∷ next ∷ points.new)) }
+        (λ next. open_sections (from ∷ to ∷ points.old)
+            ≡ (from, result.0) ∷ open_sections (result.0 ∷ next ∷ points.new)) }
+    ensures safe { MatchOption result.1 (IsSafe I.unit result.0)
+        (λ next. All (IsSafe I.unit) (result.0 ∷ next ∷ points.new)) }
 {
     while let Some(point) = points.next() {
         if is_kept(from, to, point) {
@@ -180,7 +185,8 @@ fn first_other<'a, I: IntNumber>(
 ) -> Option<(IntPoint<I>, &'a [IntPoint<I>])>
     requires { All (IsSafe I.unit) points.now }
     ensures sections { MatchOption result (AllEqual (first ∷ points.now))
-        (λ r. (same_point first r.0 ≡ false) × (AllEqual (first ∷ points.now) → ⊥) × (cleaned_sections (first ∷ points.now) ≡ cleaned_sections (first ∷ r.0 ∷ r.1.now))) }
+        (λ r. (same_point first r.0 ≡ false) × (AllEqual (first ∷ points.now) → ⊥)
+            × (cleaned_sections (first ∷ points.now) ≡ cleaned_sections (first ∷ r.0 ∷ r.1.now))) }
     ensures safe { IfSome result (λ r. All (IsSafe I.unit) (r.0 ∷ r.1.now)) }
 {
     let mut rest = points;

@@ -1,9 +1,13 @@
-//! Places among marks on an axis, and lists by such places. Whatever the marks are, a greater number has no lesser place.
+//! Places among marks on an axis, and lists by such places. Whatever the marks are, a greater number has no lesser
+//! place.
 
-ghost use Rattle.std.specs.Prelude.{◌≡◌, ℕ, ◌+◌, ◌-◌, ◌<◌, ◌≤◌, ◌≤ℤ◌, true, List, [], ◌∷◌, ◌++◌, length, slice_index_or, int_le, vec_len, IfOk, OnOk, OnErr, Vec};
+ghost use Rattle.std.specs.Prelude.{
+  ◌≡◌, ℕ, ◌+◌, ◌-◌, ◌<◌, ◌≤◌, ◌≤ℤ◌, true, List, [], ◌∷◌, ◌++◌, length, slice_index_or, int_le, vec_len, IfOk, OnOk,
+  OnErr, Vec,
+};
 ghost use Rattle.std.specs.declared.alloc.Global.{Global};
-ghost use Rattle.mesh_cuts.specs.Marks.{place, AreRising};
-ghost use Rattle.mesh_cuts.specs.Marks.{IsPutTo};
+ghost use Rattle.mesh_cuts.specs.Lists.{list_at, OthersStay};
+ghost use Rattle.mesh_cuts.specs.Marks.{place, AreRising, IsPutTo};
 
 use crate::grid::GridPoint;
 use std::alloc::{AllocError, Global};
@@ -56,7 +60,8 @@ pub fn place(marks: &[Mark], q: Mark) -> usize
 
 /// Whether a mark is not below the last one.
 fn goes_on(marks: &[Mark], m: Mark) -> bool
-    ensures { result ≡ true → (d : Mark) → 0 < length marks.now → (slice_index_or marks.now (length marks.now - 1) d).at ≤ℤ m.at }
+    ensures { result ≡ true → (d : Mark) → 0 < length marks.now
+        → (slice_index_or marks.now (length marks.now - 1) d).at ≤ℤ m.at }
 {
     if marks.is_empty() {
         return true;
@@ -107,7 +112,7 @@ pub fn thinned(alloc: Global, marks: &[Mark], most: usize) -> Result<Vec<Mark>, 
 /// So many lists without an element.
 pub fn empty_lists<T: Drop>(alloc: Global, count: usize) -> Result<Vec<Vec<T>>, AllocError>
     ensures len { IfOk result (λ v. length v.items ≡ count) }
-    ensures empty { IfOk result (λ v. (i : ℕ) (d : Vec T Global) → i < count → (slice_index_or v.items i d).items ≡ []) }
+    ensures empty { IfOk result (λ v. (i : ℕ) (d : Vec T Global) → i < count → list_at v.items i d ≡ []) }
 {
     let mut lists = Vec::with_capacity(alloc, count)?;
     for _made in 0..count {
@@ -120,9 +125,10 @@ pub fn empty_lists<T: Drop>(alloc: Global, count: usize) -> Result<Vec<Vec<T>>, 
 pub fn push_to<T: Drop>(lists: &mut Vec<Vec<T>>, i: usize, x: T) -> Result<(), AllocError>
     requires { i < length lists.old.items }
     ensures len { length lists.new.items ≡ length lists.old.items }
-    ensures at { OnOk result ((d : Vec T Global) → (slice_index_or lists.new.items i d).items ≡ (slice_index_or lists.old.items i d).items ++ x ∷ []) }
-    ensures others { (k : ℕ) (d : Vec T Global) → (k ≡ i → ⊥) → slice_index_or lists.new.items k d ≡ slice_index_or lists.old.items k d }
-    ensures err { OnErr result ((d : Vec T Global) → (slice_index_or lists.new.items i d).items ≡ (slice_index_or lists.old.items i d).items) }
+    ensures at { OnOk result ((d : Vec T Global)
+        → list_at lists.new.items i d ≡ list_at lists.old.items i d ++ x ∷ []) }
+    ensures others { OthersStay lists.old.items lists.new.items i }
+    ensures err { OnErr result ((d : Vec T Global) → list_at lists.new.items i d ≡ list_at lists.old.items i d) }
 {
     lists[i].push(x)?;
     Ok(())

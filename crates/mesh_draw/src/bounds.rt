@@ -11,8 +11,8 @@ use mesh_num::num::convert::is_wide_less;
 use mesh_num::num::{IntNumber, IntPoint, IntRect};
 use mesh_num::shape::resource::IntShapeResource;
 
-/// `Ok` where each point of the source stays in the safe range where it moves by at most the padding, in grid units, else
-/// `CoordinateOutOfRange`. Takes no memory.
+/// `Ok` where each point of the source stays in the safe range where it moves by at most the padding, in grid units,
+/// else `CoordinateOutOfRange`. Takes no memory.
 pub fn validate_bounds<I: IntNumber, S: IntShapeResource<I>>(
     source: &S,
     padding: I::Wide,
@@ -29,7 +29,8 @@ pub fn validate_bounds<I: IntNumber, S: IntShapeResource<I>>(
     Ok(())
 }
 
-/// Whether each point of a path stays in the safe range where it moves by at most the padding, as in a path of no point.
+/// Whether each point of a path stays in the safe range where it moves by at most the padding, as in a path of no
+/// point.
 fn is_path_safe<I: IntNumber>(path: &[IntPoint<I>], padding: I::Wide) -> bool
     requires { pos 0 ≤ℤ I.Wide.value padding }
     ensures { IsTrue result ↔ All (λ p. IsSafeWidened I.unit (I.Wide.value padding) p) path.now }

@@ -1,6 +1,9 @@
 //! Shapes of rings: order and grouping.
 
-ghost use Rattle.std.specs.Prelude.{◌≡◌, ◌⊎◌, ℕ, ◌+◌, ◌*◌, ◌^◌, ◌<◌, ◌≤◌, Bool, true, false, not, ◌&&◌, cond, List, [], ◌∷◌, ◌++◌, map, length, take, drop, reverse, slice_index_or, nat_le, nat_eq, unsigned_abs, int_lt, pos, IfOk, OnOk, MatchOption, Vec};
+ghost use Rattle.std.specs.Prelude.{
+  ◌≡◌, ◌⊎◌, ℕ, ◌+◌, ◌*◌, ◌^◌, ◌<◌, ◌≤◌, Bool, true, false, not, ◌&&◌, cond, List, [], ◌∷◌, ◌++◌, map, length, take,
+  drop, reverse, slice_index_or, nat_le, nat_eq, unsigned_abs, int_lt, pos, IfOk, OnOk, MatchOption, Vec,
+};
 ghost use Rattle.std.specs.declared.alloc.Global.{Global};
 ghost use Rattle.std.specs.Option.{ForSome};
 ghost use Rattle.std.specs.List.{All, filter, enumerate_from};
@@ -9,10 +12,15 @@ ghost use Rattle.mesh_plane.specs.Bounds.{IsSafe};
 ghost use Rattle.mesh_plane.specs.Plane.{Point};
 ghost use Rattle.mesh_shapes.specs.Contours.{reversed, double_area};
 ghost use Rattle.mesh_shapes.specs.Vectors.{HeldRing, ring_held, rings_held, points_of, shapes_points};
-ghost use Rattle.mesh_shapes.specs.Midway.Grouping.{ring_at, areas_of, IsHome, AreHomes, AreWithin, AreMembers, IsPutHome, shape_at, headed, all_shapes};
+ghost use Rattle.mesh_shapes.specs.Midway.Grouping.{
+  ring_at, areas_of, IsHome, AreHomes, AreWithin, AreMembers, HaveMembers, IsPutHome, contour_at, shape_at, headed,
+  all_shapes,
+};
 ghost use Rattle.mesh_shapes.specs.Midway.Holders.{edges_of};
 ghost use Rattle.mesh_shapes.specs.Midway.Rows.{AreRows};
-ghost use Rattle.mesh_shapes.specs.Resolution.{is_large, points_lt, is_head, shape_of, rings_by_shape, answered, AreArranged};
+ghost use Rattle.mesh_shapes.specs.Resolution.{
+  is_large, points_lt, is_head, shape_of, rings_by_shape, answered, AreArranged,
+};
 
 use crate::area::double_area;
 use crate::holders::{holder, ring_edges};
@@ -124,7 +132,7 @@ fn members(alloc: Global, rings: &[Ring], homes: &[usize]) -> Result<Vec<Vec<usi
     requires homes_are { AreHomes rings.now homes.now }
     requires within { AreWithin rings.now homes.now }
     ensures len { IfOk result (λ v. length v.items ≡ length rings.now) }
-    ensures members { IfOk result (λ v. (h : ℕ) (d : Vec ℕ Global) → h < length rings.now → AreMembers (rings_held rings.now) h (slice_index_or v.items h d).items) }
+    ensures members { IfOk result (λ v. HaveMembers rings.now v.items) }
 {
     let mut members = empty_lists(alloc, rings.len())?;
     for i in 0..rings.len() {
@@ -142,7 +150,8 @@ fn push_contour(
     clockwise: bool,
 ) -> Result<(), AllocError>
     requires { i < length rings.now }
-    ensures { OnOk result (points_of shape.new.items ≡ points_of shape.old.items ++ answered clockwise (ring_at (rings_held rings.now) i).1 ∷ []) }
+    ensures { OnOk result
+        (points_of shape.new.items ≡ points_of shape.old.items ++ contour_at clockwise rings.now i ∷ []) }
 {
     shape.push(answered(alloc, &rings[i], clockwise)?)?;
     Ok(())

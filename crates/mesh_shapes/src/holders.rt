@@ -1,13 +1,17 @@
-//! The ring that holds a point. The edges of rings stand ring after ring, and so they do in the row of the point: one pass
-//! over it tells how often each ring winds round the point.
+//! The ring that holds a point. The edges of rings stand ring after ring, and so they do in the row of the point: one
+//! pass over it tells how often each ring winds round the point.
 
-ghost use Rattle.std.specs.Prelude.{◌≡◌, ℕ, ◌+◌, ◌^◌, ◌<◌, ◌≤◌, true, not, List, ◌∷◌, ◌++◌, length, pos, unsigned_abs, IfOk, OnOk, MatchOption};
+ghost use Rattle.std.specs.Prelude.{
+  ◌≡◌, ℕ, ◌+◌, ◌^◌, ◌<◌, ◌≤◌, true, not, List, ◌∷◌, ◌++◌, length, pos, unsigned_abs, IfOk, OnOk, MatchOption,
+};
 ghost use Rattle.std.specs.Option.{ForSome};
 ghost use Rattle.std.specs.Ordering.{int_eq};
 ghost use Rattle.mesh_plane.specs.Plane.{Point};
 ghost use Rattle.mesh_plane.specs.Winding.{boundary};
 ghost use Rattle.mesh_shapes.specs.Midway.Grouping.{ring_at, areas_of, is_round_at, is_less_at};
-ghost use Rattle.mesh_shapes.specs.Midway.Holders.{PlacedEdge, with_place, ring_edges, edges_of, Rise, IsRowOf, IsSearch};
+ghost use Rattle.mesh_shapes.specs.Midway.Holders.{
+  PlacedEdge, with_place, ring_edges, edges_of, Rise, IsRowOf, IsSearch,
+};
 ghost use Rattle.mesh_shapes.specs.Midway.Progress.{IsFound};
 ghost use Rattle.mesh_shapes.specs.Resolution.{Ring};
 ghost use Rattle.mesh_shapes.specs.Vectors.{rings_held};
@@ -97,8 +101,8 @@ fn is_less(areas: &[i128], best: Option<usize>, k: usize) -> bool
 fn better_holder(areas: &[i128], best: Option<usize>, h: usize, winding: i128) -> Option<usize>
     requires in_range { h < length areas.now }
     requires known { ForSome best (λ b. b < length areas.now) }
-    ensures found { (rs : List Ring) (q : Point) → areas.now ≡ areas_of rs → is_round_at rs h q ≡ not (int_eq winding (pos 0))
-        → IsFound rs h q best → IsFound rs (h + 1) q result }
+    ensures found { (rs : List Ring) (q : Point) → areas.now ≡ areas_of rs
+        → is_round_at rs h q ≡ not (int_eq winding (pos 0)) → IsFound rs h q best → IsFound rs (h + 1) q result }
     ensures within { ForSome result (λ b. b < length areas.now) }
 {
     if winding == 0 {
@@ -116,7 +120,8 @@ fn met(areas: &[i128], q: FinePoint, search: Search, e: PlacedEdge) -> Search
     requires known { ForSome search.best (λ b. b < length areas.now) }
     requires room { unsigned_abs search.winding ≤ 2 ^ 64 }
     ensures search { (rs : List Ring) (row rest : List PlacedEdge) → areas.now ≡ areas_of rs → IsRowOf rs q row
-        → Rise search.place (length areas.now) (e ∷ rest) → IsSearch rs q row (e ∷ rest) search → IsSearch rs q row rest result }
+        → Rise search.place (length areas.now) (e ∷ rest) → IsSearch rs q row (e ∷ rest) search
+        → IsSearch rs q row rest result }
     ensures place { result.place ≡ e.1 }
     ensures within { ForSome result.best (λ b. b < length areas.now) }
     ensures size { unsigned_abs result.winding ≤ unsigned_abs search.winding + 1 }

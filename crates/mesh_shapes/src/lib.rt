@@ -1,4 +1,5 @@
-//! From split segments to shapes: the boundary of what they fill, closed contours of it, and the order and grouping of these.
+//! From split segments to shapes: the boundary of what they fill, closed contours of it, and the order and grouping of
+//! these.
 //!
 //! Read `specs/Resolution.antt` first, the one relation that the overlay's calls promise, then `specs/Contours.antt`.
 //! `specs/Midway` has the states of loops, which private contracts alone read.

@@ -1,9 +1,10 @@
 //! Edges listed by the rows that they reach, so that the winding round a point is a sum over one row in place of all.
 //! Beside each edge stands what a search wants of it, as its count.
 
-ghost use Rattle.std.specs.Prelude.{◌≡◌, ◌+◌, ◌<◌, ◌*ℤ◌, pos, length, slice_index_or, IfOk, OnOk, Vec};
+ghost use Rattle.std.specs.Prelude.{◌≡◌, ◌+◌, ◌<◌, ◌*ℤ◌, pos, length, IfOk, OnOk, Vec};
 ghost use Rattle.std.specs.declared.alloc.Global.{Global};
 ghost use Rattle.mesh_plane.specs.Plane.{Edge};
+ghost use Rattle.mesh_cuts.specs.Lists.{list_at};
 ghost use Rattle.mesh_cuts.specs.Marks.{place, AreRising, IsPutTo};
 ghost use Rattle.mesh_shapes.specs.Midway.Rows.{first_row, last_row, AreRows};
 
@@ -116,7 +117,8 @@ impl<T: Copy> Rows<T> {
     pub fn row(&self, q: FinePoint) -> &[(GridEdge, T)]
         requires rising { AreRising self.now.marks.items }
         requires len { length self.now.lists.items ≡ length self.now.marks.items + 1 }
-        ensures { (d : Vec (Edge × T) Global) → result.now ≡ (slice_index_or self.now.lists.items (place self.now.marks.items q.1) d).items }
+        ensures { (d : Vec (Edge × T) Global)
+            → result.now ≡ list_at self.now.lists.items (place self.now.marks.items q.1) d }
     {
         &self.lists[place(&self.marks, Mark { at: q.height() })]
     }

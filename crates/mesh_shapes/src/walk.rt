@@ -1,6 +1,9 @@
 //! The walk along a boundary: its edges become closed contours.
 
-ghost use Rattle.std.specs.Prelude.{◌≡◌, ◌⊎◌, ℕ, ◌+◌, ◌<◌, ◌≤◌, ◌↔◌, IsTrue, Bool, true, false, List, [], ◌∷◌, ◌++◌, ℤ, ◌+ℤ◌, length, slice_index_or, MatchOption, IfOk, OnOk};
+ghost use Rattle.std.specs.Prelude.{
+  ◌≡◌, ◌⊎◌, ℕ, ◌+◌, ◌<◌, ◌≤◌, ◌↔◌, IsTrue, Bool, true, false, List, [], ◌∷◌, ◌++◌, ℤ, ◌+ℤ◌, length, slice_index_or,
+  MatchOption, IfOk, OnOk,
+};
 ghost use Rattle.mesh_plane.specs.Order.{point_lt};
 ghost use Rattle.mesh_plane.specs.Plane.{Point, Edge};
 ghost use Rattle.mesh_plane.specs.Winding.{sum_of, boundary, IsBalanced};
@@ -35,7 +38,8 @@ fn part_of_turn(at: GridPoint, from: GridPoint, to: GridPoint) -> u8 {
     if look_alike(back, way) { 3 } else { 1 }
 }
 
-/// Whether the way to `first` comes before that to `second` on the turn clockwise from the way to `from`, all from `at`.
+/// Whether the way to `first` comes before that to `second` on the turn clockwise from the way to `from`, all from
+/// `at`.
 fn comes_before(at: GridPoint, from: GridPoint, first: GridPoint, second: GridPoint) -> bool {
     let a = part_of_turn(at, from, first);
     let b = part_of_turn(at, from, second);
@@ -112,8 +116,8 @@ fn with_edge(
     Some(better(edges, at, from, best, k))
 }
 
-/// The edge on which the walk goes on from `at`, where it came from `from`: of the unused ones that start there, and of the walk's
-/// first edge where it starts there, the first clockwise from the way back.
+/// The edge on which the walk goes on from `at`, where it came from `from`: of the unused ones that start there, and of
+/// the walk's first edge where it starts there, the first clockwise from the way back.
 fn next_edge(
     edges: &[GridEdge],
     used: &[bool],

@@ -1,4 +1,5 @@
-//! The cells of the plane: marks on both axes, as many as serve the edges that are to be split, and where an edge lies among them.
+//! The cells of the plane: marks on both axes, as many as serve the edges that are to be split, and where an edge lies
+//! among them.
 
 ghost use Rattle.std.specs.Prelude.{◌≡◌, ◌≤◌, ℕ, ℤ, min, max, length, IfOk};
 ghost use Rattle.mesh_cuts.specs.Marks.{place, AreRising};
@@ -87,7 +88,8 @@ fn measured(edges: &[GridEdge], axes: &Axes) -> Spread
     sum
 }
 
-/// How many columns and rows serve best: an edge shall reach some four cells on average, and there shall be at most four for each edge.
+/// How many columns and rows serve best: an edge shall reach some four cells on average, and there shall be at most
+/// four for each edge.
 fn wanted(edges: usize, ends: usize, spread: Spread) -> (usize, usize) {
     let all = spread.edges.saturating_mul(ends);
     let columns = (all / spread.columns.max(1)).saturating_add(1);

@@ -1,5 +1,5 @@
-//! The first pass: splits in another order where the usual one takes too many. It need not leave the segments clear of each
-//! other; what is left to split is found by the second pass, whatever was split here.
+//! The first pass: splits in another order where the usual one takes too many. It need not leave the segments clear of
+//! each other; what is left to split is found by the second pass, whatever was split here.
 
 ghost use Rattle.std.specs.Prelude.{◌≡◌, [], pos, ◌<ℤ◌, IfOk, IfSome, OnOk};
 ghost use Rattle.mesh_cuts.specs.Clean.{IsProper};
@@ -107,7 +107,8 @@ fn budget(edges: usize, meetings: usize, factor: usize) -> usize {
         .saturating_mul(factor)
 }
 
-/// How many splits an attempt in hand may make, which does not know the number of meetings: mostly there are no more than edges.
+/// How many splits an attempt in hand may make, which does not know the number of meetings: mostly there are no more
+/// than edges.
 fn usual(edges: usize, factor: usize) -> usize {
     budget(edges, edges, factor)
 }

@@ -1,5 +1,6 @@
-//! Which split comes first: the meetings that were noted, the best one to split at the next. Nothing is promised of them. A hint
-//! is tested again when it is taken, so neither what it says nor the order decides whether a split is legal.
+//! Which split comes first: the meetings that were noted, the best one to split at the next. Nothing is promised of
+//! them. A hint is tested again when it is taken, so neither what it says nor the order decides whether a split is
+//! legal.
 
 use mesh_cuts::exact::{cross, do_cross, is_before, is_end, meeting, minus};
 use mesh_cuts::grid::{GridEdge, GridPoint};

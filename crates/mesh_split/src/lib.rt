@@ -1,9 +1,10 @@
 //! The splitting: directed edges are cut, one legal split at a time, until any two segments share only common ends.
 //!
-//! `splitter` has the public call, which is the second pass; its contract is in `mesh_cuts/specs/Splitting.antt`. `first_pass`
-//! splits before it, in a better order where the usual one takes too many, and `hints` have that order. `steps` are the steps
-//! of both: `worklist` and `store` have the segments that wait and those that live, `axes` the cells by which the latter are
-//! sought. `specs/Midway` has the states of its loops, which private contracts alone read.
+//! `splitter` has the public call, which is the second pass; its contract is in `mesh_cuts/specs/Splitting.antt`.
+//! `first_pass` splits before it, in a better order where the usual one takes too many, and `hints` have that order.
+//! `steps` are the steps of both: `worklist` and `store` have the segments that wait and those that live, `axes` the
+//! cells by which the latter are sought. `specs/Midway` has the states of its loops, which private contracts alone
+//! read.
 #![tactic(auto)]
 
 mod axes;

@@ -1,4 +1,5 @@
-//! The splitting itself: one legal split at a time, until no two segments meet. What the first pass left is tested here.
+//! The splitting itself: one legal split at a time, until no two segments meet. What the first pass left is tested
+//! here.
 
 ghost use Rattle.std.specs.Prelude.{IfOk};
 ghost use Rattle.mesh_plane.specs.Winding.{sum_of};
@@ -12,9 +13,8 @@ use std::alloc::{AllocError, Global};
 
 /// Splits directed edges, none of which ends where it starts, until any two segments share only common ends:
 /// the segments come from the edges by legal splits, each stands once, with its net count, also where that is 0,
-/// and each edge has become a path in its own box that never goes back in `x` nor in `y`. So segments of edges in the safe
-/// range are in it.
-/// It fails only where memory is refused.
+/// and each edge has become a path in its own box that never goes back in `x` nor in `y`. So segments of edges in the
+/// safe range are in it. It fails only where memory is refused.
 pub fn split_edges(alloc: Global, edges: &[GridEdge]) -> Result<Vec<CountedSegment>, AllocError>
     requires { IsProper edges.now }
     ensures splitting { IfOk result (λ v. IsSplitting edges.now v.items) }

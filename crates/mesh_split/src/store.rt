@@ -1,14 +1,16 @@
-//! The live segments. In the second pass they were tested against each other and don't meet. Each is listed in the cells of the plane that
-//! its box reaches, where those are sought that a segment may meet. What was taken out stays listed, so what a cell lists
-//! counts only where it lives.
+//! The live segments. In the second pass they were tested against each other and don't meet. Each is listed in the
+//! cells of the plane that its box reaches, where those are sought that a segment may meet. What was taken out stays
+//! listed, so what a cell lists counts only where it lives.
 
-ghost use Rattle.std.specs.Prelude.{◌≡◌, ℕ, ◌+◌, ◌*◌, ◌<◌, ◌≤◌, true, List, [], ℤ, pos, ◌<ℤ◌, length, slice_index_or, MatchOption, IfOk, OnOk, Vec};
+ghost use Rattle.std.specs.Prelude.{
+  ◌≡◌, ℕ, ◌+◌, ◌*◌, ◌<◌, ◌≤◌, true, List, [], ℤ, pos, ◌<ℤ◌, length, MatchOption, IfOk, OnOk, Vec,
+};
 ghost use Rattle.std.specs.declared.alloc.Global.{Global};
-ghost use Rattle.mesh_plane.specs.Plane.{Point, Edge};
+ghost use Rattle.mesh_plane.specs.Plane.{Edge};
 ghost use Rattle.mesh_cuts.specs.Counted.{times};
 ghost use Rattle.mesh_cuts.specs.Marks.{AreRising};
-ghost use Rattle.mesh_cuts.specs.Split.{IsForward, IsInBox, AreClear, Meets};
-ghost use Rattle.mesh_split.specs.Midway.Cells.{AreFiled, Grows, IsListed, IsCellClear, IsColumnClear, cell_of};
+ghost use Rattle.mesh_cuts.specs.Split.{IsForward, AreClear};
+ghost use Rattle.mesh_split.specs.Midway.Cells.{AreFiled, Grows, IsFiled, IsCellClear, IsColumnClear, MeetsLive};
 ghost use Rattle.mesh_split.specs.Midway.Steps.{HaveRoom, IsPut, IsTaken, IsClearOf, AddsIf, exactly};
 
 use crate::axes::{Axes, Span};
@@ -59,7 +61,7 @@ impl Model for Store {
 
 /// A listed segment as one that the given segment meets, where it lives and does so.
 fn live_meeting(live: &Tally, s: GridEdge, e: GridEdge) -> Option<Meeting>
-    ensures { MatchOption result (pos 0 <ℤ exactly e live.now → AreClear s e) (λ m. Meets s m.0 m.1 × (pos 0 <ℤ exactly m.0 live.now)) }
+    ensures { MatchOption result (pos 0 <ℤ exactly e live.now → AreClear s e) (λ m. MeetsLive s live.now m) }
 {
     let Some(at) = meeting(s, e) else {
         return None;
@@ -72,7 +74,7 @@ fn live_meeting(live: &Tally, s: GridEdge, e: GridEdge) -> Option<Meeting>
 
 /// A live segment that a cell lists and the given one meets.
 fn in_cell(live: &Tally, cell: &[GridEdge], s: GridEdge) -> Option<Meeting>
-    ensures { MatchOption result (IsCellClear s cell.now live.now) (λ m. Meets s m.0 m.1 × (pos 0 <ℤ exactly m.0 live.now)) }
+    ensures { MatchOption result (IsCellClear s cell.now live.now) (λ m. MeetsLive s live.now m) }
 {
     for e in cell {
         if let Some(m) = live_meeting(live, s, *e) {
@@ -91,7 +93,8 @@ fn in_column(
     s: GridEdge,
 ) -> Option<Meeting>
     requires { at + rows.last < length cells.now }
-    ensures { MatchOption result (IsColumnClear s cells.now live.now at rows.first (rows.last + 1)) (λ m. Meets s m.0 m.1 × (pos 0 <ℤ exactly m.0 live.now)) }
+    ensures { MatchOption result (IsColumnClear s cells.now live.now at rows.first (rows.last + 1))
+        (λ m. MeetsLive s live.now m) }
 {
     for r in rows.first..rows.last + 1 {
         if let Some(m) = in_cell(live, &cells[at + r], s) {
@@ -107,7 +110,7 @@ fn file(axes: &Axes, cells: &mut Vec<Vec<GridEdge>>, e: GridEdge) -> Result<(), 
     requires rows { AreRising axes.now.rows.items }
     requires len { length cells.old.items ≡ (length axes.now.columns.items + 1) * (length axes.now.rows.items + 1) }
     ensures grows { Grows cells.old.items cells.new.items }
-    ensures filed { OnOk result ((c : Point) (d : Vec Edge Global) → IsInBox e c → IsListed e (slice_index_or cells.new.items (cell_of axes.now c) d).items) }
+    ensures filed { OnOk result (IsFiled axes.now cells.new.items e) }
 {
     let columns = axes.columns_of(e);
     let rows = axes.rows_of(e);
@@ -133,8 +136,8 @@ fn laid_out(alloc: Global, live: &Tally) -> Result<(Axes, Vec<Vec<GridEdge>>), A
     Ok((axes, cells))
 }
 
-/// How much work there may be before cells are laid out anew that were laid out for so many segments: to lay them out costs
-/// less.
+/// How much work there may be before cells are laid out anew that were laid out for so many segments: to lay them out
+/// costs less.
 fn work_for(segments: usize) -> usize {
     segments.saturating_add(LEAST).saturating_mul(WORK)
 }
@@ -158,7 +161,7 @@ impl Store {
 
     /// A live segment that meets the given one, or none where all are clear of it.
     pub fn conflict(&self, s: GridEdge) -> Option<Meeting>
-        ensures { MatchOption result (IsClearOf s self.now) (λ m. Meets s m.0 m.1 × (pos 0 <ℤ exactly m.0 self.now)) }
+        ensures { MatchOption result (IsClearOf s self.now) (λ m. MeetsLive s self.now m) }
     {
         let columns = self.axes.columns_of(s);
         let rows = self.axes.rows_of(s);
@@ -215,7 +218,8 @@ impl Store {
         Ok(())
     }
 
-    /// Lays the cells out for the segments that live now. So they list nothing that lives no more, and are as fine as serves.
+    /// Lays the cells out for the segments that live now. So they list nothing that lives no more, and are as fine as
+    /// serves.
     fn lay_out(&mut self) -> Result<(), AllocError>
         ensures { self.new ≡ self.old }
     {

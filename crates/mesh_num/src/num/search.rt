@@ -28,7 +28,8 @@ fn part_size(unit: u128, square: u128, size: u128) -> u128
     found
 }
 
-/// The component in a direction of length `unit` of a vector's component `x`, where `square` is the vector's squared length.
+/// The component in a direction of length `unit` of a vector's component `x`, where `square` is the vector's squared
+/// length.
 pub(crate) fn part(unit: u128, square: u128, x: i128) -> i128
     requires unit { unit ≤ 2 ^ 30 }
     requires square { square < 2 ^ 63 }
@@ -41,7 +42,8 @@ pub(crate) fn part(unit: u128, square: u128, x: i128) -> i128
     if x < 0 { -size } else { size }
 }
 
-/// The direction of length at most `unit` of the vector with these components, each below `2^31` in size; `None` for the vector 0.
+/// The direction of length at most `unit` of the vector with these components, each below `2^31` in size; `None` for
+/// the vector 0.
 pub(crate) fn direction(unit: u128, x: i128, y: i128) -> Option<(i128, i128)>
     requires unit { unit ≤ 2 ^ 30 }
     requires x_size { unsigned_abs x < 2 ^ 31 }

@@ -3,7 +3,9 @@
 ghost use Rattle.std.specs.Prelude.{◌≡◌, ℕ, ◌*◌, ◌≤◌, ◌↔◌, ℤ, pos, unsigned_abs, IsTrue, IsNone, IfSome, MatchOption};
 ghost use Rattle.mesh_plane.specs.Bounds.{IsSafe};
 ghost use Rattle.mesh_plane.specs.Plane.{length_sq};
-ghost use Rattle.mesh_num.specs.Direction.{IsDirection, IsFresh, IsShort, KeepsOpposites, SameWay, KeepsTurns, KeepsScaledTurns, scaled, scaled_direction};
+ghost use Rattle.mesh_num.specs.Direction.{
+  IsDirection, IsFresh, IsShort, KeepsOpposites, SameWay, KeepsTurns, KeepsScaledTurns, scaled, scaled_direction,
+};
 
 use crate::num::convert::{narrow, unit, widen};
 use crate::num::exact::square_sum;
@@ -13,7 +15,8 @@ use crate::num::search;
 use std::alloc::AllocError;
 use std::marker::Model;
 
-/// A direction: a vector of length at most `UNIT`, each component cut towards 0. Contracts see the pair of its components.
+/// A direction: a vector of length at most `UNIT`, each component cut towards 0. Contracts see the pair of its
+/// components.
 #[derive(Debug, Copy)]
 pub struct UnitIntVector<I: IntNumber> {
     x: I,
@@ -83,8 +86,8 @@ impl<I: IntNumber> UnitIntVector<I> {
 }
 
 impl<I: IntNumber> UnitIntVector<I> {
-    /// The direction times a radius in grid units: each component times the radius over `UNIT`, rounded to the nearest whole
-    /// number, halves away from zero. No component passes the radius in size.
+    /// The direction times a radius in grid units: each component times the radius over `UNIT`, rounded to the nearest
+    /// whole number, halves away from zero. No component passes the radius in size.
     pub fn scale(self, radius: I) -> IntVector<I>
         ensures value { result ≡ scaled_direction I.unit (I.value radius) self }
         ensures x_bound { unsigned_abs result.0 ≤ unsigned_abs (I.value radius) }
@@ -107,7 +110,8 @@ fn scale_part<I: IntNumber>(part: I, radius: I) -> I::Wide
 
 impl<I: IntNumber> IntVector<I> {
     /// The direction of this vector, `None` for zero: in each component the greatest whole `k` with
-    /// `k * k * length² <= UNIT * UNIT * component²`, with the component's sign. Components are below `2 * UNIT` in size.
+    /// `k * k * length² <= UNIT * UNIT * component²`, with the component's sign. Components are below `2 * UNIT` in
+    /// size.
     pub fn fast_normalize(&self) -> Option<UnitIntVector<I>>
         requires { IsSafe (2 * I.unit) self.now }
         ensures none { IsNone result ↔ (self.now ≡ (pos 0, pos 0)) }

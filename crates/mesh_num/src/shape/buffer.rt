@@ -41,7 +41,8 @@ impl<I: IntNumber> FlatContoursBuffer<I> {
         Ok(buffer)
     }
 
-    /// Puts the contours of the shapes, in order, in place of the buffer's own. After a refusal the buffer is unchanged.
+    /// Puts the contours of the shapes, in order, in place of the buffer's own. After a refusal the buffer is
+    /// unchanged.
     pub fn replace_with(&mut self, shapes: &IntShapes<I>) -> Result<(), AllocError>
         ensures ok { OnOk result (HoldsContours self.new (contours_of (shapes_of shapes.now.items))) }
         ensures err { OnErr result (self.new ≡ self.old) }

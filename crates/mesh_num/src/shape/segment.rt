@@ -69,7 +69,8 @@ impl<I: IntNumber> Model for Segment<I> {
 }
 
 impl<I: IntNumber> Segment<I> {
-    /// The segment of the edge from `p0` to `p1`, which differ: the smaller end first, with count 1 where `p0` is the smaller one, else -1.
+    /// The segment of the edge from `p0` to `p1`, which differ: the smaller end first, with count 1 where `p0` is the
+    /// smaller one, else -1.
     pub fn subject(p0: IntPoint<I>, p1: IntPoint<I>) -> Self
         requires { p0 ≢ p1 }
         ensures value { result ≡ subject_of p0 p1 }
@@ -104,7 +105,8 @@ pub trait SubjectSegments<P> {
         ensures ok { OnOk result (segments self.new ≡ segments self.old ++ segment_between (point a) (point b)) }
         ensures err { OnErr result (segments self.new ≡ segments self.old) }
         ensures same_ends { point a ≡ point b → IsOk result }
-        ensures room { length (segments self.old) + length (segment_between (point a) (point b)) ≤ capacity self.old → IsOk result }
+        ensures room { length (segments self.old) + length (segment_between (point a) (point b)) ≤ capacity self.old
+            → IsOk result }
         ensures capacity { capacity self.old ≤ capacity self.new };
 }
 

@@ -44,6 +44,10 @@ AreWithin rings homes = (i : ℕ) → i < length rings → slice_index_or homes 
 abbrev pub is_less_at : List ℤ → ℕ → ℕ → Bool
 is_less_at areas k b = int_lt (slice_index_or areas k (pos 0)) (slice_index_or areas b (pos 0))
 
+-- the contour that is answered for the ring at a place
+abbrev pub contour_at : Bool → List HeldRing → ℕ → List Point
+contour_at clockwise rings i = answered clockwise (ring_at (rings_held rings) i).1
+
 -- the contours of the shape that the ring at `h` heads
 abbrev pub shape_at : Bool → List Ring → ℕ → List (List Point)
 shape_at clockwise rs h = map (answered clockwise) (shape_of (placed rs) (ring_at rs h))
@@ -64,6 +68,10 @@ contours_at rs clockwise h places = answered clockwise (ring_at rs h).1 ∷ map 
 pub record AreMembers (rs : List Ring) (h : ℕ) (places : List ℕ) : Type 0 where
   pub within : All (λ (i : ℕ). i < length rs) places
   pub contours : (clockwise : Bool) → contours_at rs clockwise h places ≡ shape_at clockwise rs h
+
+-- for each ring there are the places of those that head no shape and stand with it
+abbrev pub HaveMembers : List HeldRing → List (Vec ℕ Global) → Type 0
+HaveMembers rings members = (h : ℕ) (d : Vec ℕ Global) → h < length rings → AreMembers (rings_held rings) h (slice_index_or members h d).items
 
 -- the place `i` was added to the list of its home, unless that is itself
 pub record IsPutHome (old new : List (Vec ℕ Global)) (i home : ℕ) : Type 0 where
