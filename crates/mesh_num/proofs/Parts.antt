@@ -6,7 +6,7 @@ use Rattle.std.proofs.lemmas.Bool.{cases_lt}
 use mathlib.Core.Logic.{⊎_elim}
 use Rattle.mesh_plane.specs.Plane.{Point, opposite, length_sq, right_quarter}
 use Rattle.mesh_num.specs.Direction.{IsPart, IsDirection, IsShort, IsFresh, KeepsOpposites}
-use Rattle.mesh_plane.proofs.Sizes.{size_neg, length_opposite, lt_of_squares, le_of_squares, two_products}
+use Rattle.mesh_plane.proofs.Sizes.{size_neg, length_opposite, lt_of_squares, two_products}
 use Rattle.mesh_plane.proofs.Signs.{sign_neg, same_number}
 
 -- ---- one component
@@ -36,13 +36,6 @@ part_grows {unit} {l} {m} {x} {k} {y} {j} h p q e = q.greatest (unsigned_abs k) 
         let b : u * u * (x * x * m) ≤ u * u * (y * y * l) = mul-le-mul_left (u * u) e in
         let c : k * k * m * l ≤ u * u * (y * y) * l = omega arith in
         le_of_mul-le-mul_right c h
-
--- a component is at most `unit`
-pub part_bounded : {unit square : ℕ} {x k : ℤ} → 0 < square → unsigned_abs x * unsigned_abs x ≤ square → IsPart unit square x k → unsigned_abs k ≤ unit
-part_bounded {unit} {square} {x} {k} h e p =
-    let a : unit * unit * (unsigned_abs x * unsigned_abs x) ≤ unit * unit * square = mul-le-mul_left (unit * unit) e in
-    let b : unsigned_abs k * unsigned_abs k * square ≤ unit * unit * square = omega (arith, p.within) in
-    le_of_squares (unsigned_abs k) unit (le_of_mul-le-mul_right b h)
 
 -- one more than the size of a component has a greater share
 pub part_ends : {unit square : ℕ} {x k : ℤ} → IsPart unit square x k
@@ -85,12 +78,6 @@ has_length {unit} {v} {n} p = omega (arith, long unit (length_sq v) (unsigned_ab
     long : (u l x k : ℕ) → u * u * (x * x) < (k + 1) * (k + 1) * l → 0 < l
     long u zero x k h = absurd (omega arith)
     long u (suc l) x k h = omega arith
-
--- for rotated directions of arcs and caps
-pub direction_bounded : {unit : ℕ} {v n : Point} → IsDirection unit v n → (unsigned_abs n.0 ≤ unit) × (unsigned_abs n.1 ≤ unit)
-direction_bounded {unit} {v} {n} p =
-    let l : 0 < length_sq v = has_length p in
-    (part_bounded l (omega arith) p.x, part_bounded l (omega arith) p.y)
 
 pub direction_short : {unit : ℕ} {v n : Point} → IsDirection unit v n → IsShort unit n
 direction_short {unit} {v} {n} p =

@@ -8,7 +8,7 @@ use Rattle.std.proofs.lemmas.List.Sums.{sum_by-cons, sum_by-append}
 use Rattle.std.proofs.lemmas.List.Sorted.{sum_by-IsPermutation}
 use Rattle.std.proofs.lemmas.Int.{ints}
 use Rattle.mesh_plane.specs.Plane.{Point, Edge}
-use Rattle.mesh_plane.specs.Winding.{sum_of, total, boundary, pieces_total, same_point, IsBalanced, IsOdd, IsStraight}
+use Rattle.mesh_plane.specs.Winding.{sum_of, total, boundary, pieces_total, same_point, IsBalanced, IsOdd}
 use Rattle.mesh_plane.proofs.Whole.{linear}
 use Rattle.mesh_plane.proofs.Sums.{sum_of_same, sum_of_equal, sum_of_none, sum_of_map}
 use Rattle.mesh_plane.proofs.ClosedLists.{boundary_ends}
@@ -20,10 +20,6 @@ growth g p r = g r -ℤ g p
 
 pub growth_odd : (g : Point → ℤ) → IsOdd (growth g)
 growth_odd g p r = omega (arith, linear)
-
--- for joins whose points divide an edge
-pub growth_straight : (g : Point → ℤ) → IsStraight (growth g)
-growth_straight g p r s e = omega (arith, linear)
 
 pub growth_round : (g : Point → ℤ) (xs : List Point) → total (growth g) (boundary xs) ≡ pos 0
 growth_round g xs =

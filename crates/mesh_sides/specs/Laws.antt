@@ -1,5 +1,5 @@
 -- Laws of the sides of split segments. The function of the same name in the module `laws` carries each.
-use Rattle.std.specs.Prelude.{List, ℤ, ◌+ℤ◌, ℕ, ◌<◌, ◌≡◌, true}
+use Rattle.std.specs.Prelude.{List, ◌+ℤ◌, ℕ, ◌<◌, ◌≡◌, true}
 use Rattle.mesh_plane.specs.Plane.{Edge, Point}
 use Rattle.mesh_plane.specs.Winding.{IsBalanced, refined, winding}
 use Rattle.mesh_cuts.specs.Clean.{IsClean, IsProper, refined_edge}
