@@ -71,7 +71,8 @@ pub record AreMembers (rs : List Ring) (h : ℕ) (places : List ℕ) : Type 0 wh
 
 -- for each ring there are the places of those that head no shape and stand with it
 abbrev pub HaveMembers : List HeldRing → List (Vec ℕ Global) → Type 0
-HaveMembers rings members = (h : ℕ) (d : Vec ℕ Global) → h < length rings → AreMembers (rings_held rings) h (slice_index_or members h d).items
+HaveMembers rings members =
+    (h : ℕ) (d : Vec ℕ Global) → h < length rings → AreMembers (rings_held rings) h (slice_index_or members h d).items
 
 -- the place `i` was added to the list of its home, unless that is itself
 pub record IsPutHome (old new : List (Vec ℕ Global)) (i home : ℕ) : Type 0 where
