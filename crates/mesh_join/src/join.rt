@@ -54,7 +54,8 @@ impl<I: IntNumber> Join<I> {
         }
     }
 
-    /// How far a join of this kind reaches from its corner in each coordinate, in grid units.
+    /// How far a join of this kind reaches from its corner in each coordinate, in grid units: at least the size of the
+    /// radius. A radius below 0, as an offset inwards, counts as its size; each radius is accepted.
     pub fn padding(kind: IntLineJoin, radius: I) -> I::Wide
         ensures value { I.Wide.value result ≡ join_padding kind (I.value radius) }
         ensures covers { pos (unsigned_abs (I.value radius)) ≤ℤ I.Wide.value result }
@@ -66,8 +67,9 @@ impl<I: IntNumber> Join<I> {
     }
 
     /// Adds the edges of the join round `center` from `a` to `b`, the contact points of the directions before and after
-    /// the corner, none where `a` equals `b`, which takes no memory. Where there is room for
-    /// these edges it succeeds. After a refusal the vector is cut back to its old length.
+    /// the corner, none where `a` equals `b`, which takes no memory. The edges never turn back round `center`, and stay
+    /// within the padding. Where there is room for them it succeeds. After a refusal the vector is cut back to its old
+    /// length.
     ///
     /// The radius, in grid units, is at least 0. Both directions are fresh, and do not turn back from the first to the
     /// second in the sense of the arc. The corner stays in the safe range where it moves by the padding.

@@ -1,5 +1,4 @@
 -- The padding of each kind covers the radius.
-use Rattle.std.proofs.Common.{◌≡◌}
 use Rattle.mesh_join.proofs.Joins.{padding_covers}
 use Rattle.mesh_join.specs.declared.style.IntLineJoin.TheVariants.{Miter}
 use Rattle.mesh_join.proofs.join.Join.padding.Goals as goal
