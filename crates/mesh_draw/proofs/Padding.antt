@@ -8,7 +8,7 @@ use Rattle.std.specs.List.{All, Contains}
 use Rattle.std.proofs.lemmas.List.Elements.{All-weaker, All-contains}
 use Rattle.mesh_draw.specs.Padding.{ArePathsSafe, IsNear}
 use Rattle.mesh_plane.specs.Bounds.{IsSafe, IsWithin}
-use Rattle.mesh_join.specs.Joints.{IsWithinPadding}
+use Rattle.mesh_join.proofs.Joints.{within_safe}
 
 -- what is safe within a padding is so within a smaller one
 pub safe_within_less : (unit : ℕ) (padding less : ℤ) (p : Point) → pos 0 ≤ℤ less → less ≤ℤ padding → IsSafeWidened unit padding p → IsSafeWidened unit less p
@@ -28,13 +28,6 @@ pub paths_safe_less : (unit : ℕ) (padding less : ℤ) (paths : List (List Poin
 paths_safe_less unit padding less paths least h safe =
     All-weaker (λ (path : List Point). All (IsSafeWidened unit padding) path) (λ (path : List Point). All (IsSafeWidened unit less) path)
     (λ path all. All-weaker (IsSafeWidened unit padding) (IsSafeWidened unit less) (λ p s. safe_within_less unit padding less p least h s) path all) paths safe
-
--- a point within the padding of one that stays safe is safe
-pub within_safe : (unit : ℕ) (padding : ℤ) (v p : Point) → IsSafeWidened unit padding v → IsWithinPadding padding v p → IsSafe unit p
-within_safe unit padding v p s w = record {
-  x = record { low = omega (arith, ints, s.0.x.low, w.west); high = omega (arith, ints, s.1.x.high, w.east) };
-  y = record { low = omega (arith, ints, s.0.y.low, w.south); high = omega (arith, ints, s.1.y.high, w.north) };
-}
 
 -- a point near vertices that stay safe is safe
 pub near_safe : (unit : ℕ) (padding : ℤ) (vertices : List Point) (p : Point) → All (λ (v : Point). IsSafeWidened unit padding v) vertices → IsNear padding vertices p → IsSafe unit p

@@ -1,9 +1,9 @@
 -- Lemmas over points: what the steps of joins need to know of a corner.
-use Rattle.std.proofs.Common.{◌≡◌, ℕ, ◌*◌, ◌≤◌, ◌^◌, Bool, true, false, refl, ap, sym, arith}
-use Rattle.std.specs.Prelude.{ℤ, pos, negsuc, ◌+ℤ◌, ◌-ℤ◌, ◌*ℤ◌, ◌≤ℤ◌, ◌<ℤ◌, ◌↔◌, IsTrue, not, unsigned_abs, int_le, Result, Ok, Err, OnOk}
+use Rattle.std.proofs.Common.{◌≡◌, ℕ, ◌*◌, ap, sym, arith}
+use Rattle.std.specs.Prelude.{ℤ, pos, negsuc, ◌*ℤ◌, int_le}
 use Rattle.std.proofs.lemmas.Int.{ints}
 use Rattle.mesh_plane.specs.Bounds.{IsSafe, IsWithin, IsSmall}
-use Rattle.mesh_plane.specs.Plane.{Point, plus, minus}
+use Rattle.mesh_plane.specs.Plane.{Point}
 use Rattle.mesh_plane.proofs.Whole.{one_mul}
 use Rattle.mesh_num.specs.Rectangle.{IsSafeWidened}
 use Rattle.mesh_join.specs.Joints.{IsWithinPadding}
@@ -15,10 +15,6 @@ within_safe unit padding v p s w = record {
   y = record { low = omega (arith, ints, s.0.y.low, w.south); high = omega (arith, ints, s.1.y.high, w.north) };
 }
 
--- the padding of a corner that stays safe is below the bound
-pub padding_below : (unit : ℕ) (padding : ℤ) (v : Point) → IsSafeWidened unit padding v → IsSmall unit padding
-padding_below unit padding v s = record { low = omega (arith, ints, s.0.x.high, s.1.x.low); high = omega (arith, ints, s.0.x.low, s.1.x.high) }
-
 pub safe_fits : (unit : ℕ) (z : ℤ) → IsSmall unit z → IsWithin (2 * unit) z
 safe_fits unit z s = record { low = omega (arith, ints, s.low, s.high); high = omega (arith, ints, s.low, s.high) }
 
@@ -28,7 +24,3 @@ left_ahead t = ap (int_le (pos 0)) (sym (one_mul t))
 
 pub right_ahead : (t : ℤ) → int_le t (pos 0) ≡ int_le (pos 0) (negsuc 0 *ℤ t)
 right_ahead t = grind (arith, ints)
-
-pub on_ok_then : {A E : Type 0} (r : Result A E) {P Q : Type 0} → OnOk r P → (P → Q) → OnOk r Q
-on_ok_then (Ok x) h f = f h
-on_ok_then (Err e) h f = tt

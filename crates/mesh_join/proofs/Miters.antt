@@ -1,6 +1,6 @@
 -- Lemmas over points: what the theory of outlines needs of miters.
-use Rattle.std.proofs.Common.{◌≡◌, ℕ, ◌+◌, ◌^◌, ◌≤◌, ◌<◌, ◌*◌, ◌/◌, Bool, true, false, refl, sym, subst, ap, arith, [], List, length, ◌∙◌, lit<}
-use Rattle.std.specs.Prelude.{ℤ, pos, negsuc, ◌*ℤ◌, ◌≤ℤ◌, ◌<ℤ◌, ◌+ℤ◌, ◌-ℤ◌, cond, zero, suc, ◌∷◌, unsigned_abs, ◌&&◌, int_le, Option, Some, None}
+use Rattle.std.proofs.Common.{◌≡◌, ℕ, ◌+◌, ◌^◌, ◌≤◌, ◌*◌, ◌/◌, Bool, true, false, refl, sym, ap, arith, [], List, length, ◌∙◌}
+use Rattle.std.specs.Prelude.{ℤ, pos, negsuc, ◌*ℤ◌, ◌≤ℤ◌, ◌+ℤ◌, ◌-ℤ◌, cond, zero, suc, ◌∷◌, unsigned_abs, ◌&&◌, int_le, Option, Some, None}
 use Rattle.std.specs.List.{All, list_all}
 use Rattle.std.specs.Ordering.{int_eq}
 use Rattle.std.proofs.Math.Nat.{mul-le-mul_right}
@@ -9,7 +9,6 @@ use Rattle.std.proofs.lemmas.Bool.{false≢true}
 use Rattle.std.proofs.lemmas.Int.{ints}
 use Rattle.std.proofs.lemmas.List.Elements.{All-nil, All-cons}
 use Rattle.mesh_plane.specs.Plane.{Point, Edge, turn}
-use Rattle.mesh_plane.specs.Rounding.{rounded}
 use Rattle.mesh_plane.specs.Winding.{route, same_point}
 use Rattle.mesh_plane.proofs.Rounding.{rounded_at_least, rounded_at_most}
 use Rattle.mesh_plane.proofs.Whole.{mul_le_mul_left}
@@ -65,7 +64,7 @@ reach_sized : (s radius : ℤ) → reach s (pos (unsigned_abs radius)) ≡ reach
 reach_sized s (pos n) = refl
 reach_sized s (negsuc n) = reach_pos s n ∙ sym (reach_negsuc s n)
 
-pub reach_covers : (s radius : ℤ) → IsHalfSine s → pos (unsigned_abs radius) ≤ℤ reach s radius
+reach_covers : (s radius : ℤ) → IsHalfSine s → pos (unsigned_abs radius) ≤ℤ reach s radius
 reach_covers s (pos zero) h = omega (arith, ints)
 reach_covers s (pos (suc n)) h = rw (reach_pos s n) (omega (arith, ints, product_covers (suc n) s h))
 reach_covers s (negsuc n) h = rw (reach_negsuc s n) (omega (arith, ints, product_covers (suc n) s h))
@@ -135,7 +134,7 @@ each test P means [] h = All-nil P
 each test P means (x ∷ xs) h = All-cons P x xs (means x (both_are (test x) (list_all test xs) h).0) (each test P means xs (both_are (test x) (list_all test xs) h).1)
 
 -- a point that passes the test is near
-pub means_near : (padding : ℤ) (v p : Point) → is_near padding v p ≡ true → IsWithinPadding padding v p
+means_near : (padding : ℤ) (v p : Point) → is_near padding v p ≡ true → IsWithinPadding padding v p
 means_near padding v p h =
     let x = both_are (int_le (v.0 -ℤ padding) p.0 && int_le p.0 (v.0 +ℤ padding)) (int_le (v.1 -ℤ padding) p.1 && int_le p.1 (v.1 +ℤ padding)) h in
     let w = both_are (int_le (v.0 -ℤ padding) p.0) (int_le p.0 (v.0 +ℤ padding)) x.0 in

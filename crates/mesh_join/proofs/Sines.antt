@@ -1,5 +1,5 @@
 -- Lemmas over whole numbers and points: what a miter reads from its sines and cosines.
-use Rattle.std.proofs.Common.{◌≡◌, ◌≢◌, ℕ, ◌+◌, ◌*◌, ◌≤◌, ◌^◌, ◌∙◌, Bool, true, false, ap, arith, refl, sym, subst}
+use Rattle.std.proofs.Common.{◌≡◌, ◌≢◌, ℕ, ◌≤◌, ◌^◌, ◌∙◌, Bool, true, false, ap, arith, refl, sym, subst}
 use Rattle.std.specs.Prelude.{ℤ, pos, neg_ℤ, ◌*ℤ◌, ◌||◌, unsigned_abs, int_lt}
 use Rattle.std.specs.Ordering.{int_eq}
 use Rattle.std.proofs.lemmas.Bool.{true≢false}
@@ -11,7 +11,7 @@ use Rattle.mesh_plane.proofs.Identities.{cross_opposite, dot_opposite}
 use Rattle.mesh_plane.proofs.Sizes.{le_of_squares, size_neg}
 use Rattle.mesh_sine.specs.Sine.{sin_cos}
 use Rattle.mesh_join.specs.Joints.{Joint}
-use Rattle.mesh_join.specs.Midway.Miters.{HasSines, IsHalfSine}
+use Rattle.mesh_join.specs.Midway.Miters.{IsHalfSine}
 use Rattle.mesh_join.specs.Miters.{slightest, sharpest, half_sharpest, is_angle_below, is_slight, is_sharp}
 use Rattle.mesh_join.proofs.Miters.{half_sine}
 

@@ -56,3 +56,7 @@ NeverTurnsBack sense v es = All (λ (e : Edge). pos 0 ≤ℤ (sense_of sense *�
 -- `p` is away from `v` by at most the padding in each coordinate
 abbrev pub IsWithinPadding : ℤ → Point → Point → Type 0
 IsWithinPadding padding v p = IsInRectangle (minus v (padding, padding), plus v (padding, padding)) p
+
+-- both ends of each edge are away from `v` by at most the padding in each coordinate
+abbrev pub StaysWithin : ℤ → Point → List Edge → Type 0
+StaysWithin padding v es = All (λ (e : Edge). IsWithinPadding padding v e.0 × IsWithinPadding padding v e.1) es

@@ -1,5 +1,6 @@
 pub use Rattle.mesh_clean.specs.Cleaned
 pub use Rattle.mesh_clean.specs.Laws
+pub mod Appending
 pub mod Bevels
 pub mod Joins
 pub mod Joints

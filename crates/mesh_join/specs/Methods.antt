@@ -1,5 +1,4 @@
 -- The style that a join's method stands for.
-use Rattle.std.specs.Prelude.{ℕ}
 use Rattle.mesh_join.specs.Miters.{MiterStyle}
 use Rattle.mesh_join.specs.Styles.{JoinStyle}
 use Rattle.mesh_join.specs.declared.join.Method.{Method}

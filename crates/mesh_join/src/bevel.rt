@@ -1,8 +1,8 @@
 //! Bevels.
 
-ghost use Rattle.std.specs.Prelude.{◌≡◌, ◌+◌, ◌≤◌, [], ◌++◌, length, vec_capacity, IsOk, OnOk, OnErr};
-ghost use Rattle.mesh_num.specs.Segments.{segments_of};
+ghost use Rattle.std.specs.Prelude.{◌≡◌, ◌≤◌, [], vec_capacity, IsOk, OnOk, OnErr};
 ghost use Rattle.mesh_plane.specs.Winding.{route};
+ghost use Rattle.mesh_join.specs.Appending.{Appends, HasRoomForEdges};
 ghost use Rattle.mesh_join.specs.Bevels.{bevel_padding};
 
 use mesh_num::num::convert::wide_size;
@@ -23,10 +23,10 @@ pub(crate) fn add<I: IntNumber>(
     b: IntPoint<I>,
     segments: &mut Vec<Segment<I>>,
 ) -> Result<(), AllocError>
-    ensures ok { OnOk result (segments.new.items ≡ segments.old.items ++ segments_of (route a [] b)) }
+    ensures ok { OnOk result (Appends segments.old segments.new (route a [] b)) }
     ensures err { OnErr result (segments.new.items ≡ segments.old.items) }
     ensures same_ends { a ≡ b → IsOk result }
-    ensures room { length segments.old.items + length (segments_of (route a [] b)) ≤ vec_capacity segments.old → IsOk result }
+    ensures room { HasRoomForEdges segments.old (route a [] b) → IsOk result }
     ensures capacity { vec_capacity segments.old ≤ vec_capacity segments.new }
 {
     segments.push_non_degenerate(a, b)

@@ -1,8 +1,9 @@
 //! Joins of outer corners.
 
-ghost use Rattle.std.specs.Prelude.{◌≡◌, ◌+◌, ◌≤◌, ℤ, ◌++◌, length, vec_capacity, OnOk, OnErr, IsOk};
-ghost use Rattle.mesh_num.specs.Segments.{edges_of, segments_of, proper_edges};
-ghost use Rattle.mesh_join.specs.Joints.{joint};
+ghost use Rattle.std.specs.Prelude.{◌≡◌, ◌≤◌, ◌++◌, vec_capacity, OnOk, OnErr, IsOk, pos, ◌≤ℤ◌, unsigned_abs};
+ghost use Rattle.mesh_num.specs.Segments.{edges_of, proper_edges};
+ghost use Rattle.mesh_join.specs.Appending.{Appends, HasRoomForEdges};
+ghost use Rattle.mesh_join.specs.Joints.{joint, NeverTurnsBack, StaysWithin};
 ghost use Rattle.mesh_join.specs.Joins.{join_edges, join_padding, IsJoint};
 
 use crate::arc::ArcDirection;
@@ -53,9 +54,11 @@ impl<I: IntNumber> Join<I> {
         }
     }
 
-    /// How far a join of this kind reaches from its corner in each coordinate, in grid units.
+    /// How far a join of this kind reaches from its corner in each coordinate, in grid units: at least the size of the
+    /// radius. A radius below 0, as an offset inwards, counts as its size; each radius is accepted.
     pub fn padding(kind: IntLineJoin, radius: I) -> I::Wide
-        ensures { I.Wide.value result ≡ join_padding kind (I.value radius) }
+        ensures value { I.Wide.value result ≡ join_padding kind (I.value radius) }
+        ensures covers { pos (unsigned_abs (I.value radius)) ≤ℤ I.Wide.value result }
     {
         match kind {
             IntLineJoin::Bevel => bevel::padding(radius),
@@ -64,8 +67,9 @@ impl<I: IntNumber> Join<I> {
     }
 
     /// Adds the edges of the join round `center` from `a` to `b`, the contact points of the directions before and after
-    /// the corner, none where `a` equals `b`, which takes no memory. Where there is room for
-    /// these edges it succeeds. After a refusal the vector is cut back to its old length.
+    /// the corner, none where `a` equals `b`, which takes no memory. The edges never turn back round `center`, and stay
+    /// within the padding. Where there is room for them it succeeds. After a refusal the vector is cut back to its old
+    /// length.
     ///
     /// The radius, in grid units, is at least 0. Both directions are fresh, and do not turn back from the first to the
     /// second in the sense of the arc. The corner stays in the safe range where it moves by the padding.
@@ -82,11 +86,18 @@ impl<I: IntNumber> Join<I> {
         segments: &mut Vec<Segment<I>>,
     ) -> Result<(), AllocError>
         requires { IsJoint I.unit self.old (joint center a b incoming outgoing (I.value radius) direction) }
-        ensures ok { OnOk result (segments.new.items ≡ segments.old.items ++ segments_of (join_edges I.unit self.old (joint center a b incoming outgoing (I.value radius) direction))) }
-        ensures edges { OnOk result (edges_of segments.new.items ≡ edges_of segments.old.items ++ proper_edges (join_edges I.unit self.old (joint center a b incoming outgoing (I.value radius) direction))) }
+        ensures ok { OnOk result (Appends segments.old segments.new
+            (join_edges I.unit self.old (joint center a b incoming outgoing (I.value radius) direction))) }
+        ensures edges { OnOk result (edges_of segments.new.items ≡ edges_of segments.old.items ++ proper_edges
+            (join_edges I.unit self.old (joint center a b incoming outgoing (I.value radius) direction))) }
+        ensures ahead { NeverTurnsBack direction center
+            (join_edges I.unit self.old (joint center a b incoming outgoing (I.value radius) direction)) }
+        ensures near { StaysWithin (join_padding self.old.kind (I.value radius)) center
+            (join_edges I.unit self.old (joint center a b incoming outgoing (I.value radius) direction)) }
         ensures err { OnErr result (segments.new.items ≡ segments.old.items) }
         ensures same_ends { a ≡ b → IsOk result }
-        ensures room { length segments.old.items + length (segments_of (join_edges I.unit self.old (joint center a b incoming outgoing (I.value radius) direction))) ≤ vec_capacity segments.old → IsOk result }
+        ensures room { HasRoomForEdges segments.old
+            (join_edges I.unit self.old (joint center a b incoming outgoing (I.value radius) direction)) → IsOk result }
         ensures capacity { vec_capacity segments.old ≤ vec_capacity segments.new }
         ensures same { self.new ≡ self.old }
     {
@@ -104,10 +115,10 @@ impl<I: IntNumber> Join<I> {
 
     fn draw(&self, joint: &Joint<I>, segments: &mut Vec<Segment<I>>) -> Result<(), AllocError>
         requires { IsJoint I.unit self.now joint.now }
-        ensures ok { OnOk result (segments.new.items ≡ segments.old.items ++ segments_of (join_edges I.unit self.now joint.now)) }
+        ensures ok { OnOk result (Appends segments.old segments.new (join_edges I.unit self.now joint.now)) }
         ensures err { OnErr result (segments.new.items ≡ segments.old.items) }
         ensures same_ends { joint.now.first ≡ joint.now.last → IsOk result }
-        ensures room { length segments.old.items + length (segments_of (join_edges I.unit self.now joint.now)) ≤ vec_capacity segments.old → IsOk result }
+        ensures room { HasRoomForEdges segments.old (join_edges I.unit self.now joint.now) → IsOk result }
         ensures capacity { vec_capacity segments.old ≤ vec_capacity segments.new }
     {
         if is_one_point(coordinates(joint.first), coordinates(joint.last)) {

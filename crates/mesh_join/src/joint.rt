@@ -1,6 +1,7 @@
 //! What a join is asked for at an outer corner.
 
-ghost use Rattle.std.specs.Prelude.{◌≡◌, [], ◌∷◌, ◌^◌, ◌≤◌, ◌&&◌, Some, None, ◌+ℤ◌, ◌-ℤ◌, unsigned_abs, int_le, if◌then◌else◌};
+ghost use Rattle.std.specs.Prelude.{◌≡◌, [], ◌∷◌, ◌^◌, ◌≤◌, ◌&&◌, Some, None, if◌then◌else◌};
+ghost use Rattle.std.specs.Prelude.{◌+ℤ◌, ◌-ℤ◌, unsigned_abs, int_le};
 ghost use Rattle.mesh_plane.specs.Plane.{plus, minus, cross as cross_of, dot as dot_of, turn as turn_of};
 ghost use Rattle.mesh_plane.specs.Winding.{same_point};
 ghost use Rattle.mesh_num.specs.Rectangle.{IsSafeWidened};
@@ -15,8 +16,8 @@ use std::marker::Model;
 /// A point or a vector in 128 bits.
 pub(crate) type Pair = (i128, i128);
 
-/// An outer corner, the points that its sections are moved to, their directions, how far they are moved, and the sense of
-/// the turn. Contracts see the record of all.
+/// An outer corner, the points that its sections are moved to, their directions, how far they are moved, and the sense
+/// of the turn. Contracts see the record of all.
 #[derive(Drop)]
 pub(crate) struct Joint<I: IntNumber> {
     pub(crate) center: IntPoint<I>,
@@ -90,7 +91,8 @@ impl<I: IntNumber> Joint<I> {
 
     // Whether no edge through both points turns back round the corner.
     fn runs_through_both(&self, start: IntPoint<I>, end: IntPoint<I>) -> bool
-        ensures { result ≡ (runs_ahead self.now (self.now.first, start) && (runs_ahead self.now (start, end) && runs_ahead self.now (end, self.now.last))) }
+        ensures { result ≡ (runs_ahead self.now (self.now.first, start)
+            && (runs_ahead self.now (start, end) && runs_ahead self.now (end, self.now.last))) }
     {
         self.runs_ahead(self.first, start)
             && (self.runs_ahead(start, end) && self.runs_ahead(end, self.last))

@@ -1,17 +1,20 @@
 //! Miters.
 
-ghost use Rattle.std.specs.Prelude.{◌≡◌, ◌≢◌, [], ◌∷◌, ◌++◌, ◌+◌, ◌^◌, ◌≤◌, length, take, vec_capacity, IsOk, OnOk, OnErr, pos, ◌*ℤ◌, unsigned_abs, int_lt};
+ghost use Rattle.std.specs.Prelude.{◌≡◌, ◌≢◌, [], ◌∷◌, ◌^◌, ◌≤◌, length, take, vec_capacity, IsOk, OnOk, OnErr};
+ghost use Rattle.std.specs.Prelude.{pos, ◌*ℤ◌, unsigned_abs, int_lt};
 ghost use Rattle.mesh_plane.specs.Bounds.{IsWithin};
 ghost use Rattle.mesh_plane.specs.Plane.{minus, length_sq, cross as cross_of, dot as dot_of};
-ghost use Rattle.mesh_plane.specs.Winding.{route};
 ghost use Rattle.mesh_num.specs.Direction.{scaled_direction};
 ghost use Rattle.mesh_num.specs.Quotient.{rounded_product as product_over};
 ghost use Rattle.mesh_num.specs.Rectangle.{IsSafeWidened};
-ghost use Rattle.mesh_num.specs.Segments.{segments_of};
+ghost use Rattle.mesh_join.specs.Appending.{Appends, HasRoomForEdges};
 ghost use Rattle.mesh_join.specs.Joins.{IsJoint};
 ghost use Rattle.mesh_join.specs.Methods.{style_of_miter};
 ghost use Rattle.mesh_join.specs.Midway.Miters.{IsHalfSine, IsNarrow};
-ghost use Rattle.mesh_join.specs.Miters.{sharpest as sharpest_of, slightest as slightest_of, half_sharpest as half_of, reach as reach_of, miter_padding, is_slight as is_slight_at, is_sharp as is_sharp_at, clip_points as clip_points_of, peak as peak_of, usable, miter_points};
+ghost use Rattle.mesh_join.specs.Miters.{sharpest as sharpest_of, slightest as slightest_of, half_sharpest as half_of};
+ghost use Rattle.mesh_join.specs.Miters.{reach as reach_of, miter_padding, is_slight as is_slight_at};
+ghost use Rattle.mesh_join.specs.Miters.{is_sharp as is_sharp_at, clip_points as clip_points_of, peak as peak_of};
+ghost use Rattle.mesh_join.specs.Miters.{usable_edges, miter_edges, turn_products};
 
 use crate::joint::{Joint, Pair, coordinates, cross, difference, dot, sum};
 use crate::route::{push_straight, push_through, push_through_both};
@@ -108,17 +111,17 @@ impl Miter {
         }
     }
 
-    /// Adds the edges of the miter at a joint. Where there is room for them it succeeds. After a refusal the vector is cut
-    /// back to its old length.
+    /// Adds the edges of the miter at a joint. Where there is room for them it succeeds. After a refusal the vector is
+    /// cut back to its old length.
     pub(crate) fn add<I: IntNumber>(
         &self,
         joint: &Joint<I>,
         segments: &mut Vec<Segment<I>>,
     ) -> Result<(), AllocError>
         requires { IsJoint I.unit (style_of_miter self.now) joint.now }
-        ensures ok { OnOk result (segments.new.items ≡ segments.old.items ++ segments_of (route joint.now.first (miter_points self.now.angle self.now.min_turn I.unit joint.now) joint.now.last)) }
+        ensures ok { OnOk result (Appends segments.old segments.new (miter_edges self.now I.unit joint.now)) }
         ensures err { OnErr result (segments.new.items ≡ segments.old.items) }
-        ensures room { length segments.old.items + length (segments_of (route joint.now.first (miter_points self.now.angle self.now.min_turn I.unit joint.now) joint.now.last)) ≤ vec_capacity segments.old → IsOk result }
+        ensures room { HasRoomForEdges segments.old (miter_edges self.now I.unit joint.now) → IsOk result }
         ensures capacity { vec_capacity segments.old ≤ vec_capacity segments.new }
     {
         let length = segments.len();
@@ -135,9 +138,9 @@ impl Miter {
         segments: &mut Vec<Segment<I>>,
     ) -> Result<(), AllocError>
         requires { IsJoint I.unit (style_of_miter self.now) joint.now }
-        ensures ok { OnOk result (segments.new.items ≡ segments.old.items ++ segments_of (route joint.now.first (miter_points self.now.angle self.now.min_turn I.unit joint.now) joint.now.last)) }
+        ensures ok { OnOk result (Appends segments.old segments.new (miter_edges self.now I.unit joint.now)) }
         ensures kept { take (length segments.old.items) segments.new.items ≡ segments.old.items }
-        ensures room { length segments.old.items + length (segments_of (route joint.now.first (miter_points self.now.angle self.now.min_turn I.unit joint.now) joint.now.last)) ≤ vec_capacity segments.old → IsOk result }
+        ensures room { HasRoomForEdges segments.old (miter_edges self.now I.unit joint.now) → IsOk result }
         ensures capacity { vec_capacity segments.old ≤ vec_capacity segments.new }
     {
         if self.is_slight(joint) {
@@ -189,7 +192,7 @@ impl Miter {
 
 // The cross and the dot product of both directions.
 fn products<I: IntNumber>(joint: &Joint<I>) -> (i128, i128)
-    ensures value { result ≡ (cross_of joint.now.incoming joint.now.outgoing, dot_of joint.now.incoming joint.now.outgoing) }
+    ensures value { result ≡ turn_products joint.now }
     ensures narrow { IsNarrow (2 ^ 63) result }
 {
     let incoming = coordinates_of(joint.incoming);
@@ -206,9 +209,9 @@ fn push_clipped<I: IntNumber>(
     segments: &mut Vec<Segment<I>>,
 ) -> Result<(), AllocError>
     requires { IsSafeWidened I.unit padding joint.now.center }
-    ensures ok { OnOk result (segments.new.items ≡ segments.old.items ++ segments_of (route joint.now.first (usable padding joint.now (start ∷ end ∷ [])) joint.now.last)) }
+    ensures ok { OnOk result (Appends segments.old segments.new (usable_edges padding joint.now (start ∷ end ∷ []))) }
     ensures kept { take (length segments.old.items) segments.new.items ≡ segments.old.items }
-    ensures room { length segments.old.items + length (segments_of (route joint.now.first (usable padding joint.now (start ∷ end ∷ [])) joint.now.last)) ≤ vec_capacity segments.old → IsOk result }
+    ensures room { HasRoomForEdges segments.old (usable_edges padding joint.now (start ∷ end ∷ [])) → IsOk result }
     ensures capacity { vec_capacity segments.old ≤ vec_capacity segments.new }
 {
     match joint.usable_pair(padding, start, end) {
@@ -225,9 +228,9 @@ fn push_peak<I: IntNumber>(
     segments: &mut Vec<Segment<I>>,
 ) -> Result<(), AllocError>
     requires { IsSafeWidened I.unit padding joint.now.center }
-    ensures ok { OnOk result (segments.new.items ≡ segments.old.items ++ segments_of (route joint.now.first (usable padding joint.now (peak ∷ [])) joint.now.last)) }
+    ensures ok { OnOk result (Appends segments.old segments.new (usable_edges padding joint.now (peak ∷ []))) }
     ensures kept { take (length segments.old.items) segments.new.items ≡ segments.old.items }
-    ensures room { length segments.old.items + length (segments_of (route joint.now.first (usable padding joint.now (peak ∷ [])) joint.now.last)) ≤ vec_capacity segments.old → IsOk result }
+    ensures room { HasRoomForEdges segments.old (usable_edges padding joint.now (peak ∷ [])) → IsOk result }
     ensures capacity { vec_capacity segments.old ≤ vec_capacity segments.new }
 {
     match joint.usable_point(padding, peak) {

@@ -1,8 +1,8 @@
 //! Edges through points. What a vector held stays, also after a refusal.
 
-ghost use Rattle.std.specs.Prelude.{◌≡◌, [], ◌∷◌, ◌+◌, ◌≤◌, ◌++◌, length, take, vec_capacity, IsOk, OnOk};
-ghost use Rattle.mesh_num.specs.Segments.{segments_of};
+ghost use Rattle.std.specs.Prelude.{◌≡◌, [], ◌∷◌, ◌≤◌, length, take, vec_capacity, IsOk, OnOk};
 ghost use Rattle.mesh_plane.specs.Winding.{route};
+ghost use Rattle.mesh_join.specs.Appending.{Appends, HasRoomForEdges};
 
 use mesh_num::num::{IntNumber, IntPoint};
 use mesh_num::shape::segment::{Segment, SubjectSegments};
@@ -14,9 +14,9 @@ pub(crate) fn push_straight<I: IntNumber>(
     b: IntPoint<I>,
     segments: &mut Vec<Segment<I>>,
 ) -> Result<(), AllocError>
-    ensures ok { OnOk result (segments.new.items ≡ segments.old.items ++ segments_of (route a [] b)) }
+    ensures ok { OnOk result (Appends segments.old segments.new (route a [] b)) }
     ensures kept { take (length segments.old.items) segments.new.items ≡ segments.old.items }
-    ensures room { length segments.old.items + length (segments_of (route a [] b)) ≤ vec_capacity segments.old → IsOk result }
+    ensures room { HasRoomForEdges segments.old (route a [] b) → IsOk result }
     ensures capacity { vec_capacity segments.old ≤ vec_capacity segments.new }
 {
     segments.push_non_degenerate(a, b)
@@ -29,9 +29,9 @@ pub(crate) fn push_through<I: IntNumber>(
     b: IntPoint<I>,
     segments: &mut Vec<Segment<I>>,
 ) -> Result<(), AllocError>
-    ensures ok { OnOk result (segments.new.items ≡ segments.old.items ++ segments_of (route a (p ∷ []) b)) }
+    ensures ok { OnOk result (Appends segments.old segments.new (route a (p ∷ []) b)) }
     ensures kept { take (length segments.old.items) segments.new.items ≡ segments.old.items }
-    ensures room { length segments.old.items + length (segments_of (route a (p ∷ []) b)) ≤ vec_capacity segments.old → IsOk result }
+    ensures room { HasRoomForEdges segments.old (route a (p ∷ []) b) → IsOk result }
     ensures capacity { vec_capacity segments.old ≤ vec_capacity segments.new }
 {
     push_straight(a, p, segments)?;
@@ -46,9 +46,9 @@ pub(crate) fn push_through_both<I: IntNumber>(
     b: IntPoint<I>,
     segments: &mut Vec<Segment<I>>,
 ) -> Result<(), AllocError>
-    ensures ok { OnOk result (segments.new.items ≡ segments.old.items ++ segments_of (route a (p ∷ q ∷ []) b)) }
+    ensures ok { OnOk result (Appends segments.old segments.new (route a (p ∷ q ∷ []) b)) }
     ensures kept { take (length segments.old.items) segments.new.items ≡ segments.old.items }
-    ensures room { length segments.old.items + length (segments_of (route a (p ∷ q ∷ []) b)) ≤ vec_capacity segments.old → IsOk result }
+    ensures room { HasRoomForEdges segments.old (route a (p ∷ q ∷ []) b) → IsOk result }
     ensures capacity { vec_capacity segments.old ≤ vec_capacity segments.new }
 {
     push_straight(a, p, segments)?;

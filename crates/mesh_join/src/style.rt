@@ -18,9 +18,9 @@ pub enum IntLineJoin {
     #[default]
     Bevel,
     /// The peak in which both moved sections meet. The angle, in bits of 2^32 a turn, counts as at least 5 degrees
-    /// (59,652,323 bits) and less than half a turn. Where the angle between the sections is below it, the peak is clipped
-    /// by an edge whose ends are as far away as the peak of this angle would be. Slight turns are bevelled, and corners
-    /// whose peak would turn back or lie past the padding.
+    /// (59,652,323 bits) and less than half a turn. Where the angle between the sections is below it, the peak is
+    /// clipped by an edge whose ends are as far away as the peak of this angle would be. Slight turns are bevelled, and
+    /// corners whose peak would turn back or lie past the padding.
     Miter(Angle),
 }
 
@@ -45,7 +45,13 @@ pub struct IntOutlineStyle<I: IntNumber> {
 impl<I: IntNumber> IntOutlineStyle<I> {
     /// Both offsets the same, with bevels.
     pub fn new(offset: I) -> Self
-        ensures { result ≡ record { outer_offset = offset; inner_offset = offset; join = IntLineJoin.Bevel; miter_min_turn = DEFAULT_MITER_MIN_TURN; math = MathMode.Integer } }
+        ensures { result ≡ record {
+          outer_offset = offset;
+          inner_offset = offset;
+          join = IntLineJoin.Bevel;
+          miter_min_turn = 59652323;
+          math = MathMode.Integer;
+        } }
     {
         IntOutlineStyle {
             outer_offset: offset,

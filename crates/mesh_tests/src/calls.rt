@@ -3,6 +3,7 @@
 use i_overlay_mesh::IntOutlineError;
 use mesh_join::join::Join;
 use mesh_join::style::{DEFAULT_MITER_MIN_TURN, IntLineJoin, IntOutlineStyle, MathMode};
+use mesh_num::num::Angle;
 use std::alloc::AllocError;
 use std::test::Fail;
 
@@ -18,6 +19,9 @@ fn setters_of_a_style(rt: HostRuntime) {
     assert!(rt; style.outer_offset == 5 && style.inner_offset == i16::MIN);
     assert!(rt; style.join == IntLineJoin::default());
     assert_eq!(rt; style.miter_min_turn.bits(), DEFAULT_MITER_MIN_TURN);
+    let style = style.miter_min_turn(Angle::from_bits(u32::MAX));
+    assert_eq!(rt; style.miter_min_turn.bits(), u32::MAX);
+    assert!(rt; style.outer_offset == 5 && style.inner_offset == i16::MIN);
 }
 
 #[test]
@@ -29,6 +33,32 @@ fn padding_of_a_bevel(rt: HostRuntime) {
         );
     }
     assert!(rt; Join::padding(IntLineJoin::Bevel, i32::MIN) == 2_147_483_648);
+}
+
+/// Bits of a miter's angle, a radius, and how far the miter reaches.
+const REACHES: [(u32, i16, i32); 8] = [
+    (536_870_912, 1024, 2678),
+    (536_870_912, -1024, 2678),
+    (1_610_612_736, 1024, 1110),
+    (59_652_323, i16::MIN, 751_228),
+    (0, i16::MIN, 751_228),
+    (536_870_912, 1, 5),
+    (u32::MAX, 1024, 1026),
+    (536_870_912, 0, 0),
+];
+
+#[test]
+fn padding_of_a_miter(rt: HostRuntime) {
+    for (bits, radius, want) in REACHES {
+        let miter = IntLineJoin::Miter(Angle::from_bits(bits));
+        assert!(rt; Join::padding(miter, radius) == want, "{radius} by {bits}");
+        assert!(rt;
+            Join::padding(miter, i32::from(radius)) == i64::from(want),
+            "{radius} by {bits}"
+        );
+    }
+    let sharpest = IntLineJoin::Miter(Angle::from_bits(0));
+    assert!(rt; Join::padding(sharpest, i32::MIN) == 49_232_321_886);
 }
 
 #[test]

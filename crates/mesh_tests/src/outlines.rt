@@ -1,11 +1,11 @@
 //! The edges that the builder adds: worked contours, and how they wind near the vertices of many contours.
 
-use crate::pieces::Pieces;
+use crate::pieces::{Pieces, Tip};
 use i_overlay_mesh::outline::builder::OutlineBuilder;
 use i_overlay_mesh::outline::offset::IntOutlineOffset;
 use mesh_join::join::Join;
-use mesh_join::style::IntOutlineStyle;
-use mesh_num::num::{IntPoint, OverlayInt};
+use mesh_join::style::{IntLineJoin, IntOutlineStyle};
+use mesh_num::num::{Angle, IntPoint, OverlayInt};
 use mesh_toolbox::compared::are_same_edges;
 use mesh_toolbox::edges::{edges_of_segments, plain_points, wide};
 use mesh_toolbox::lists::path;
@@ -28,12 +28,24 @@ pub struct Outline {
 const STEPS: [i128; 9] = [-4, -3, -2, -1, 0, 1, 2, 3, 4];
 
 impl Outline {
+    /// The bevelled outline.
     fn new<I: OverlayInt>(alloc: Global, contour: &[(I, I)], offset: I) -> Result<Outline, Fail> {
+        Outline::in_style(alloc, contour, IntOutlineStyle::new(offset), &[])
+    }
+
+    /// The outline in a style whose joins have these points.
+    fn in_style<I: OverlayInt>(
+        alloc: Global,
+        contour: &[(I, I)],
+        style: IntOutlineStyle<I>,
+        tips: &[Tip],
+    ) -> Result<Outline, Fail> {
         let points = plain_points(alloc, contour)?;
+        let offset = wide(style.outer_offset);
         Ok(Outline {
             own: closed(alloc, &points)?,
-            edges: built(alloc, &path(alloc, contour)?, offset)?,
-            between: Pieces::of_outline(alloc, wide(I::UNIT), wide(offset), &points)?,
+            edges: built(alloc, &path(alloc, contour)?, style)?,
+            between: Pieces::of_outline(alloc, wide(I::UNIT), offset, &points, tips)?,
         })
     }
 
@@ -60,13 +72,12 @@ impl Outline {
     }
 }
 
-/// The edges of the bevelled outline of a contour, as the builder adds them.
+/// The edges of the outline of a contour, as the builder adds them.
 fn built<I: OverlayInt>(
     alloc: Global,
     path: &Vec<IntPoint<I>>,
-    offset: I,
+    style: IntOutlineStyle<I>,
 ) -> Result<Vec<Edge>, Fail> {
-    let style = IntOutlineStyle::new(offset);
     path.validate_outline(&style)?;
     let join = Join::new(alloc, style.join, style.miter_min_turn);
     let mut segments = Vec::new(alloc);
@@ -166,6 +177,111 @@ const LOOPS: &[(&[(i32, i32)], i32, &[Point])] = &[
 fn worked_loops(rt: HostRuntime) -> Result<(), Fail> {
     for (contour, offset, points) in LOOPS.iter().copied() {
         expect_loop(&rt, rt.alloc(), contour, offset, points)?;
+    }
+    Ok(())
+}
+
+/// A contour, the offset and the bits of the angle of its miters, from slight turns on, the loop that its outline is, and
+/// the points of the joins.
+type Mitered = (
+    &'static [(i32, i32)],
+    i32,
+    u32,
+    &'static [Point],
+    &'static [Tip],
+);
+
+/// Peaks, clipped peaks, and a bevel where the peak would lie too far away.
+const MITERED: &[Mitered] = &[
+    (
+        &SQUARE,
+        1024,
+        536_870_912,
+        &[
+            (0, -1024),
+            (16_384, -1024),
+            (17_408, -1024),
+            (17_408, 0),
+            (17_408, 16_384),
+            (17_408, 17_408),
+            (16_384, 17_408),
+            (0, 17_408),
+            (-1024, 17_408),
+            (-1024, 16_384),
+            (-1024, 0),
+            (-1024, -1024),
+        ],
+        &[
+            ((0, 0), &[(-1024, -1024)]),
+            ((16_384, 0), &[(17_408, -1024)]),
+            ((16_384, 16_384), &[(17_408, 17_408)]),
+            ((0, 16_384), &[(-1024, 17_408)]),
+        ],
+    ),
+    (
+        &SQUARE,
+        1024,
+        1_610_612_736,
+        &[
+            (0, -1024),
+            (16_384, -1024),
+            (16_808, -1024),
+            (17_408, -424),
+            (17_408, 0),
+            (17_408, 16_384),
+            (17_408, 16_808),
+            (16_808, 17_408),
+            (16_384, 17_408),
+            (0, 17_408),
+            (-424, 17_408),
+            (-1024, 16_808),
+            (-1024, 16_384),
+            (-1024, 0),
+            (-1024, -424),
+            (-424, -1024),
+        ],
+        &[
+            ((0, 0), &[(-1024, -424), (-424, -1024)]),
+            ((16_384, 0), &[(16_808, -1024), (17_408, -424)]),
+            ((16_384, 16_384), &[(17_408, 16_808), (16_808, 17_408)]),
+            ((0, 16_384), &[(-424, 17_408), (-1024, 16_808)]),
+        ],
+    ),
+    (
+        &[(0, 0), (1000, 575), (2000, 1155), (0, 2000)],
+        1,
+        536_870_912,
+        &[
+            (0, -1),
+            (1000, 574),
+            (1001, 574),
+            (2001, 1154),
+            (2003, 1155),
+            (2000, 1156),
+            (0, 2001),
+            (-1, 2001),
+            (-1, 2000),
+            (-1, 0),
+            (-1, -2),
+        ],
+        &[
+            ((0, 0), &[(-1, -2)]),
+            ((2000, 1155), &[(2003, 1155)]),
+            ((0, 2000), &[(-1, 2001)]),
+        ],
+    ),
+];
+
+#[test]
+fn mitered_outlines(rt: HostRuntime) -> Result<(), Fail> {
+    for (contour, offset, bits, points, tips) in MITERED.iter().copied() {
+        let style = IntOutlineStyle::new(offset)
+            .line_join(IntLineJoin::Miter(Angle::from_bits(bits)))
+            .miter_min_turn(Angle::from_bits(0));
+        let outline = Outline::in_style(rt.alloc(), contour, style, tips)?;
+        outline.expect_count(&rt, &contour);
+        let wanted = closed(rt.alloc(), points)?;
+        assert!(rt; are_same_edges(outline.edges, wanted)?, "{contour:?}");
     }
     Ok(())
 }

@@ -1,4 +1,5 @@
-//! The pieces between a contour and its bevelled outline, made from the contour's own points and their neighbours.
+//! The pieces between a contour and its outline, made from the contour's own points, their neighbours, and the points
+//! that its joins are told to have.
 
 use mesh_toolbox::plain::{Edge, Point, closed, cross, dot, fan, holds, minus, plus, winding};
 use std::alloc::{AllocError, Global};
@@ -90,19 +91,27 @@ fn strip(unit: i128, offset: i128, edge: Edge) -> [Point; 4] {
     [a, plus(a, moved), plus(b, moved), b]
 }
 
-/// The points that a bevel joins at a corner: none at an inner one, nor where the edges are moved alike.
-fn bevel_list(
+/// A corner, and the points of its join between both moved points: none for a bevel.
+pub type Tip = (Point, &'static [Point]);
+
+/// The points that are joined at a corner: none at an inner one, nor where the edges are moved alike.
+fn join_list(
     alloc: Global,
     unit: i128,
     offset: i128,
-    before: Edge,
-    after: Edge,
+    (before, after): (Edge, Edge),
+    tips: &[Tip],
 ) -> Result<Vec<Point>, AllocError> {
     let from = plus(after.0, sideways(unit, offset, before));
     let to = plus(after.0, sideways(unit, offset, after));
     let mut list = Vec::new(alloc);
     if is_outer(offset, before, after) && from != to {
         list.push(from)?;
+        for (_, points) in tips.iter().filter(|tip| tip.0 == after.0) {
+            for point in points.iter() {
+                list.push(*point)?;
+            }
+        }
         list.push(to)?;
     }
     Ok(list)
@@ -115,12 +124,14 @@ impl Pieces {
         unit: i128,
         offset: i128,
         contour: &[Point],
+        tips: &[Tip],
     ) -> Result<Pieces, AllocError> {
         let mut boundaries = Vec::new(alloc);
         if offset != 0 {
-            for (before, after) in corners(alloc, &cleaned(alloc, contour)?)? {
+            for corner in corners(alloc, &cleaned(alloc, contour)?)? {
+                let after = corner.1;
                 boundaries.push(closed(alloc, &strip(unit, offset, after))?)?;
-                let list = bevel_list(alloc, unit, offset, before, after)?;
+                let list = join_list(alloc, unit, offset, corner, tips)?;
                 for triangle in fan(alloc, after.0, &list)? {
                     boundaries.push(closed(alloc, &triangle)?)?;
                 }

@@ -1,9 +1,8 @@
 -- Both differences fit 128 bits.
-use Rattle.std.proofs.Common.{◌≡◌, ◌≤◌, ◌^◌, arith, refl}
+use Rattle.std.proofs.Common.{arith}
 use Rattle.std.specs.Prelude.{◌-ℤ◌}
 use Rattle.std.proofs.lemmas.Int.{to_z-of_z, ints}
 use mir.Syntax.{w128}
-use mir.Val.{SFits}
 use Rattle.mesh_join.proofs.joint.difference.Goals as goal
 
 pub returns : goal.returns

@@ -1,9 +1,8 @@
 -- The products and what is made of them fit 128 bits.
-use Rattle.std.proofs.Common.{◌≡◌, ◌≤◌, ◌^◌, ◌∙◌, arith, refl, lit<}
-use Rattle.std.specs.Prelude.{ℤ, ◌*ℤ◌, ◌-ℤ◌, ◌+ℤ◌, unsigned_abs}
+use Rattle.std.proofs.Common.{◌^◌, arith}
+use Rattle.std.specs.Prelude.{◌*ℤ◌, ◌+ℤ◌}
 use Rattle.std.proofs.lemmas.Int.{to_z-of_z, fits_signed_from_abs, ints}
 use mir.Syntax.{w128}
-use mir.Val.{SFits, to_z, of_z}
 use Rattle.mesh_join.proofs.Quotients.{size_of_product}
 use Rattle.mesh_join.proofs.joint.dot.Goals as goal
 

@@ -1,6 +1,6 @@
 -- Both sums fit 128 bits.
-use Rattle.std.proofs.Common.{◌≡◌, ◌≤◌, ◌^◌, arith, refl, ap}
-use Rattle.std.specs.Prelude.{Bool, ◌+ℤ◌, ◌-ℤ◌, int_le, ◌&&◌}
+use Rattle.std.proofs.Common.{arith}
+use Rattle.std.specs.Prelude.{◌+ℤ◌, ◌-ℤ◌}
 use Rattle.std.proofs.lemmas.Int.{to_z-of_z, ints}
 use mir.Syntax.{w128}
 use mir.Val.{SFits}

@@ -1,8 +1,8 @@
 -- The quotient is at most the product of the radius and the cosine.
-use Rattle.std.proofs.Common.{◌≡◌, ◌≤◌, ◌^◌, ◌*◌, ◌∙◌, arith, refl, rules, subst, sym}
+use Rattle.std.proofs.Common.{◌≡◌, ◌≤◌, ◌^◌, arith, rules, subst, sym}
 use Rattle.std.specs.Prelude.{ℤ, unsigned_abs}
-use Rattle.std.proofs.lemmas.Int.{to_z-of_z, ints}
-use mir.Syntax.{w32, w128}
+use Rattle.std.proofs.lemmas.Int.{ints}
+use mir.Syntax.{w128}
 use mir.Val.{to_z, of_z}
 use Rattle.mesh_num.specs.Quotient.{rounded_product}
 use Rattle.mesh_join.proofs.Quotients.{product_small}

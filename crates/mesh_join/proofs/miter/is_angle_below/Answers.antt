@@ -1,9 +1,8 @@
 -- Both products fit 128 bits.
-use Rattle.std.proofs.Common.{◌≡◌, ◌≤◌, ◌^◌, ◌∙◌, arith, refl, lit<}
+use Rattle.std.proofs.Common.{◌^◌, arith, lit<}
 use Rattle.std.specs.Prelude.{pos, ◌*ℤ◌, unsigned_abs}
 use Rattle.std.proofs.lemmas.Int.{to_z-of_z, fits_signed_mul, ints}
 use mir.Syntax.{w32, w128}
-use mir.Val.{SFits}
 use Rattle.mesh_join.proofs.miter.is_angle_below.Goals as goal
 
 pub returns : goal.returns

@@ -1,14 +1,12 @@
 -- The sine is not small, so that the reach fits.
-use Rattle.std.proofs.Common.{◌≡◌, ◌^◌, ◌≤◌, ◌∙◌, ap, arith, rules, sym, subst}
-use Rattle.std.specs.Prelude.{ℤ, pos}
+use Rattle.std.proofs.Common.{◌∙◌, ap, arith, rules, sym, subst}
+use Rattle.std.specs.Prelude.{ℤ}
 use Rattle.std.proofs.lemmas.Int.{to_z-of_z, ints}
 use mir.Syntax.{w32, w128}
-use mir.Val.{SFits}
 use Rattle.mesh_plane.specs.Plane.{Point}
 use Rattle.mesh_join.specs.Midway.Miters.{IsHalfSine}
-use Rattle.mesh_join.specs.Miters.{half_sharpest, miter_padding, reach}
+use Rattle.mesh_join.specs.Miters.{miter_padding, reach}
 use Rattle.mesh_join.proofs.Miters.{half_sine}
-use Rattle.mesh_join.proofs.miter.padding.Given as given
 use Rattle.mesh_join.proofs.miter.padding.Goals as goal
 
 pub reach-requires : goal.reach-requires

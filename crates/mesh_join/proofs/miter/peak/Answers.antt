@@ -1,10 +1,9 @@
 -- The quotients are small enough to be added.
-use Rattle.std.proofs.Common.{◌≡◌, ◌<◌, ◌≤◌, ◌^◌, ◌*◌, ◌∙◌, ap, arith, refl, subst, sym}
-use Rattle.std.specs.Prelude.{ℤ, pos, unsigned_abs}
+use Rattle.std.proofs.Common.{◌≡◌, ◌<◌, ◌^◌, ◌∙◌, ap, arith, refl, sym}
+use Rattle.std.specs.Prelude.{unsigned_abs}
 use Rattle.std.proofs.lemmas.Int.{to_z-of_z, ints}
 use mir.Syntax.{w128}
-use Rattle.mesh_plane.specs.Plane.{Point, plus, minus, cross}
-use Rattle.mesh_num.specs.Quotient.{rounded_product}
+use Rattle.mesh_plane.specs.Plane.{Point, cross}
 use Rattle.mesh_join.specs.Miters.{peak}
 use Rattle.mesh_join.proofs.Quotients.{product_small, product_read, has_size}
 use Rattle.mesh_join.proofs.miter.peak.Goals as goal

@@ -1,8 +1,8 @@
 -- The difference of two points is short.
-use Rattle.std.proofs.Common.{◌≡◌, ◌≤◌, ◌^◌, ◌*◌, arith, rules, subst, sym}
+use Rattle.std.proofs.Common.{◌^◌, arith, rules}
 use Rattle.std.proofs.lemmas.Int.{to_z-of_z, ints}
 use mir.Syntax.{w128}
-use Rattle.mesh_plane.specs.Plane.{Point, minus}
+use Rattle.mesh_plane.specs.Plane.{minus}
 use Rattle.mesh_join.specs.Midway.Miters.{IsNarrow}
 use Rattle.mesh_join.proofs.Quotients.{cross_small}
 use Rattle.mesh_join.proofs.miter.peak_share.Goals as goal

@@ -1,8 +1,7 @@
 -- Directions are short.
-use Rattle.std.proofs.Common.{◌≡◌, ◌≤◌, ◌^◌, ◌*◌, arith, rules}
+use Rattle.std.proofs.Common.{◌^◌, arith, rules}
 use Rattle.std.proofs.lemmas.Int.{to_z-of_z}
 use mir.Syntax.{w128}
-use Rattle.mesh_join.specs.Midway.Miters.{IsNarrow}
 use Rattle.mesh_join.proofs.Quotients.{cross_small, dot_small}
 use Rattle.mesh_join.proofs.miter.products.Goals as goal
 

@@ -1,5 +1,5 @@
 -- The points that are used are those of the definition.
-use Rattle.std.proofs.Common.{◌≡◌, ◌∙◌, [], ◌∷◌, sym}
+use Rattle.std.proofs.Common.{◌∙◌, [], ◌∷◌, sym}
 use Rattle.std.proofs.lemmas.Int.{to_z-of_z}
 use mir.Syntax.{w128}
 use Rattle.mesh_join.specs.Miters.{are_usable}

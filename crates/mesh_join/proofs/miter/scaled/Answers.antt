@@ -1,13 +1,10 @@
 -- The quotients by the unit are small.
-use Rattle.std.proofs.Common.{◌≡◌, ◌≤◌, ◌^◌, ◌*◌, ◌∙◌, ap, arith, refl, rules, subst, sym}
-use Rattle.std.specs.Prelude.{ℤ, pos, unsigned_abs}
+use Rattle.std.proofs.Common.{◌≡◌, ◌^◌, ◌∙◌, ap, arith, refl, rules}
+use Rattle.std.specs.Prelude.{pos}
 use Rattle.std.proofs.lemmas.Int.{ints}
 use mir.Syntax.{w128}
 use mir.Val.{to_z, of_z}
-use Rattle.mesh_plane.specs.Plane.{Point}
-use Rattle.mesh_num.specs.Direction.{scaled_direction}
 use Rattle.mesh_num.specs.Quotient.{rounded_product}
-use Rattle.mesh_join.specs.Midway.Miters.{IsNarrow}
 use Rattle.mesh_join.proofs.Quotients.{product_small}
 use Rattle.mesh_join.proofs.miter.scaled.Goals as goal
 

@@ -1,6 +1,5 @@
 -- Where both points are one, nothing is joined; else the points between them are the miter's.
-use Rattle.std.proofs.Common.{◌≡◌, ◌∙◌, true, false, ap, rules, sym}
-use Rattle.mesh_plane.specs.Winding.{same_point}
+use Rattle.std.proofs.Common.{◌∙◌, rules, sym}
 use Rattle.mesh_join.proofs.Miters.{nothing_joined, all_between}
 use Rattle.mesh_join.proofs.join.Join.draw.Goals as goal
 

@@ -1,9 +1,7 @@
 -- A point near the corner is safe, so it fits its type.
-use Rattle.std.proofs.Common.{◌≡◌, ◌≤◌, ◌^◌, ◌∙◌, arith, sym, subst}
+use Rattle.std.proofs.Common.{arith}
 use Rattle.std.proofs.lemmas.Int.{to_z-of_z, ints}
 use mir.Syntax.{w128}
-use Rattle.mesh_plane.specs.Bounds.{IsSafe}
-use Rattle.mesh_plane.specs.Plane.{Point}
 use Rattle.mesh_join.proofs.Joints.{safe_fits}
 use Rattle.mesh_join.proofs.Miters.{tested_safe}
 use Rattle.mesh_join.proofs.joint.Joint.near.Goals as goal

@@ -1,6 +1,5 @@
 -- The test is that of the sense.
-use Rattle.std.proofs.Common.{◌≡◌, ◌∙◌, ap, rules, sym}
-use Rattle.std.specs.Prelude.{ℤ, pos, int_le}
+use Rattle.std.proofs.Common.{rules}
 use Rattle.std.proofs.lemmas.Int.{to_z-of_z}
 use mir.Syntax.{w128}
 use Rattle.mesh_plane.specs.Plane.{turn}

@@ -1,5 +1,5 @@
 -- Both points are near, and the edges through them run ahead.
-use Rattle.std.proofs.Common.{◌≡◌, ◌∙◌, refl, sym}
+use Rattle.std.proofs.Common.{◌∙◌, refl, sym}
 use Rattle.std.proofs.lemmas.Int.{to_z-of_z}
 use mir.Syntax.{w128}
 use Rattle.mesh_join.specs.Miters.{is_near}

@@ -1,9 +1,7 @@
 -- The sections run on by the reach of the definition.
-use Rattle.std.proofs.Common.{◌≡◌, ◌≤◌, ◌^◌, ◌∙◌, [], ◌∷◌, List, ap, arith, refl, rules, sym}
-use Rattle.std.specs.Prelude.{ℤ}
+use Rattle.std.proofs.Common.{refl, rules}
 use Rattle.std.proofs.lemmas.Int.{to_z-of_z}
 use mir.Syntax.{w32, w128}
-use Rattle.mesh_plane.specs.Plane.{Point}
 use Rattle.mesh_join.specs.Miters.{clip_points, clip_reach}
 use Rattle.mesh_join.proofs.Sines.{sine_fits, half_is_sine}
 use Rattle.mesh_join.proofs.miter.Miter.clip_points.Goals as goal

@@ -1,9 +1,7 @@
 -- The sine and the cosine are those of the slightest turn.
-use Rattle.std.proofs.Common.{◌≡◌, ◌≤◌, ◌^◌, ◌∙◌, ap, arith, refl, sym}
-use Rattle.std.specs.Prelude.{ℤ, pos, unsigned_abs}
+use Rattle.std.proofs.Common.{◌∙◌, ap, arith, refl, sym}
 use Rattle.std.proofs.lemmas.Int.{to_z-of_z, ints}
 use mir.Syntax.{w32, w128}
-use mir.Val.{SFits, of_z}
 use Rattle.mesh_plane.specs.Plane.{Point}
 use Rattle.mesh_join.proofs.Sines.{sine_fits, slight_test, slight_at_once, slight_by_angle, is_zero, not_zero}
 use Rattle.mesh_join.proofs.miter.Miter.is_slight.Goals as goal

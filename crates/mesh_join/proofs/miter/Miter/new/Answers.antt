@@ -1,6 +1,5 @@
 -- The sines and cosines are those of the angles.
-use Rattle.std.proofs.Common.{◌≡◌, ℕ, ◌≤◌, ◌^◌, ◌∙◌, ap, sym, subst}
-use Rattle.mesh_plane.specs.Plane.{Point, length_sq}
+use Rattle.std.proofs.Common.{◌∙◌, ap}
 use Rattle.mesh_sine.specs.Sine.{sin_cos}
 use Rattle.mesh_join.proofs.miter.Miter.new.Goals as goal
 

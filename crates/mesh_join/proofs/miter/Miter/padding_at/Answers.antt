@@ -1,10 +1,8 @@
 -- The sine is that of half the sharpest angle.
-use Rattle.std.proofs.Common.{◌≡◌, ◌≤◌, ◌^◌, ◌∙◌, ap, arith, refl, rules, sym}
-use Rattle.std.specs.Prelude.{ℤ}
+use Rattle.std.proofs.Common.{◌∙◌, refl, rules}
 use Rattle.std.proofs.lemmas.Int.{to_z-of_z}
 use mir.Syntax.{w32, w128}
-use Rattle.mesh_plane.specs.Plane.{Point}
-use Rattle.mesh_join.specs.Miters.{miter_padding, reach}
+use Rattle.mesh_join.specs.Miters.{miter_padding}
 use Rattle.mesh_join.proofs.Sines.{sine_fits, half_is_sine}
 use Rattle.mesh_join.proofs.miter.Miter.padding_at.Goals as goal
 

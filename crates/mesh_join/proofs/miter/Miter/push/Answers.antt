@@ -1,5 +1,5 @@
 -- The points are those of the definition.
-use Rattle.std.proofs.Common.{◌≡◌, ◌∙◌, ap, rules, sym}
+use Rattle.std.proofs.Common.{◌∙◌, rules, sym}
 use Rattle.std.proofs.lemmas.Int.{to_z-of_z}
 use mir.Syntax.{w128}
 use Rattle.mesh_join.proofs.Miters.{points_slight, points_sharp, points_blunt}
