@@ -1,0 +1,161 @@
+//! The steps of an arc.
+
+ghost use Rattle.std.specs.Prelude.{◌≡◌, ◌^◌, ◌≤◌, length, [], vec_capacity, IsOk, OnOk, OnErr};
+ghost use Rattle.mesh_plane.specs.Plane.{cross as cross_of, dot as dot_of, length_sq};
+ghost use Rattle.mesh_num.specs.Direction.{IsFresh};
+ghost use Rattle.mesh_arc.specs.Arcs.{ahead as ahead_of, is_within as is_within_of, is_good as is_good_of, is_passed as is_passed_of, stepped};
+
+use crate::arc::ArcDirection;
+use mesh_num::num::convert::widen;
+use mesh_num::num::{IntNumber, Rotation, UnitIntVector};
+use std::alloc::AllocError;
+use std::marker::Model;
+
+// The most directions of an arc.
+const MOST_DIRECTIONS: u32 = 1536;
+
+/// The steps of an arc: the rotation of each, the sine and cosine, times 2^30, of the greatest gap, and the sense.
+#[derive(Debug, Drop)]
+pub(crate) struct Steps<I: IntNumber> {
+    rotation: Rotation<I>,
+    bound: (i32, i32),
+    sense: ArcDirection,
+}
+
+impl<I: IntNumber> Model for Steps<I> {
+    ghost use Rattle.std.specs.Prelude.{◌^◌, ◌≤◌};
+    ghost use Rattle.mesh_plane.specs.Plane.{length_sq};
+    ghost use Rattle.mesh_arc.specs.Midway.{Steps};
+
+    ghost Value = { Steps };
+
+    ghost view = { λ s. record { step = s.rotation; bound = s.bound; sense = s.sense } };
+
+    ghost invariant = { λ s. length_sq s.bound ≤ 2 ^ 60 };
+}
+
+impl<I: IntNumber> Steps<I> {
+    /// Steps by this rotation in this sense, with gaps of at most the angle with this sine and cosine.
+    pub(crate) fn new(rotation: Rotation<I>, bound: (i32, i32), sense: ArcDirection) -> Self
+        requires { length_sq bound ≤ 2 ^ 60 }
+        ensures { result ≡ record { step = rotation; bound = bound; sense = sense } }
+    {
+        Steps {
+            rotation,
+            bound,
+            sense,
+        }
+    }
+
+    /// Replaces the directions by those of the arc between two. After a refusal there are none.
+    pub(crate) fn fill(
+        &self,
+        from: UnitIntVector<I>,
+        to: UnitIntVector<I>,
+        directions: &mut Vec<UnitIntVector<I>>,
+    ) -> Result<(), AllocError>
+        ensures ok { OnOk result (directions.new.items ≡ stepped self.now.sense self.now.bound self.now.step from to) }
+        ensures err { OnErr result (directions.new.items ≡ []) }
+        ensures room { length (stepped self.now.sense self.now.bound self.now.step from to) ≤ vec_capacity directions.old → IsOk result }
+        ensures capacity { vec_capacity directions.old ≤ vec_capacity directions.new }
+    {
+        directions.clear();
+        if self.is_within(from, to) {
+            return Ok(());
+        }
+        if let Err(error) = self.push(from, to, directions) {
+            directions.clear();
+            return Err(error);
+        }
+        Ok(())
+    }
+
+    // Adds the directions after `from` until the end is passed or a step is not good.
+    fn push(
+        &self,
+        from: UnitIntVector<I>,
+        to: UnitIntVector<I>,
+        directions: &mut Vec<UnitIntVector<I>>,
+    ) -> Result<(), AllocError> {
+        let mut current = from;
+        for _ in 0..MOST_DIRECTIONS {
+            let next = self.rotation.apply(current);
+            if self.ends(to, current, next) {
+                return Ok(());
+            }
+            directions.push(next)?;
+            current = next;
+        }
+        Ok(())
+    }
+
+    // Whether the arc ends before the step from `current` to `next`.
+    fn ends(
+        &self,
+        to: UnitIntVector<I>,
+        current: UnitIntVector<I>,
+        next: UnitIntVector<I>,
+    ) -> bool {
+        !self.is_good(current, next) || self.is_passed(to, current, next)
+    }
+
+    // Whether a step leads ahead, by at most the bound.
+    fn is_good(&self, from: UnitIntVector<I>, to: UnitIntVector<I>) -> bool
+        ensures { result ≡ is_good_of self.now.sense self.now.bound from to }
+    {
+        self.is_within(from, to) && 0 < ahead(self.sense, components(from), components(to))
+    }
+
+    // Whether a direction lies ahead of another by at most the bound.
+    fn is_within(&self, from: UnitIntVector<I>, to: UnitIntVector<I>) -> bool
+        ensures { result ≡ is_within_of self.now.sense self.now.bound from to }
+    {
+        let ahead = ahead(self.sense, components(from), components(to));
+        let dot = dot(components(from), components(to));
+        0 <= ahead && (0 < dot && ahead * self.bound.1 as i128 <= dot * self.bound.0 as i128)
+    }
+
+    // Whether the step from `current` to `next` comes to the end or passes it.
+    fn is_passed(
+        &self,
+        end: UnitIntVector<I>,
+        current: UnitIntVector<I>,
+        next: UnitIntVector<I>,
+    ) -> bool
+        ensures { result ≡ is_passed_of self.now.sense end current next }
+    {
+        0 <= ahead(self.sense, components(current), components(end))
+            && (0 <= dot(components(current), components(end))
+                && ahead(self.sense, components(next), components(end)) <= 0)
+    }
+}
+
+// The components of a direction in 128 bits.
+fn components<I: IntNumber>(direction: UnitIntVector<I>) -> (i128, i128)
+    ensures value { result ≡ direction }
+    ensures short { length_sq result ≤ 2 ^ 60 }
+{
+    (widen(direction.x()), widen(direction.y()))
+}
+
+// Above 0 where `w` lies ahead of `v` in this sense.
+fn ahead(sense: ArcDirection, v: (i128, i128), w: (i128, i128)) -> i128
+    requires v { length_sq v ≤ 2 ^ 60 }
+    requires w { length_sq w ≤ 2 ^ 60 }
+    ensures { result ≡ ahead_of sense v w }
+{
+    let cross = v.0 * w.1 - v.1 * w.0;
+    match sense {
+        ArcDirection::Counterclockwise => cross,
+        ArcDirection::Clockwise => -cross,
+    }
+}
+
+// The dot product of two vectors.
+fn dot(v: (i128, i128), w: (i128, i128)) -> i128
+    requires v { length_sq v ≤ 2 ^ 60 }
+    requires w { length_sq w ≤ 2 ^ 60 }
+    ensures { result ≡ dot_of v w }
+{
+    v.0 * w.0 + v.1 * w.1
+}
