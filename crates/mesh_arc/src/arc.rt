@@ -97,13 +97,17 @@ impl<I: IntNumber> IntegerArc<I> {
         ensures options { result.options ≡ clamped_of options }
         ensures empty { result.directions ≡ [] }
     {
-        let options = options.clamped();
-        let step = Rotation::new(step_angle::<I>(options));
-        let bound = options.max_step.sin_cos();
+        let ArcOptions {
+            max_step,
+            rotation_precision,
+        } = options.clamped();
         IntegerArc {
-            options,
-            step,
-            bound,
+            options: ArcOptions {
+                max_step,
+                rotation_precision,
+            },
+            step: Rotation::new(step_angle::<I>(max_step, rotation_precision)),
+            bound: max_step.sin_cos(),
             directions: Vec::new(alloc),
         }
     }
@@ -177,14 +181,14 @@ impl<I: IntNumber> IntegerArc<I> {
 }
 
 // The angle by which an arc turns at each step.
-fn step_angle<I: IntNumber>(options: ArcOptions) -> Angle
-    requires least { 2 ^ 22 ≤ options.max_step }
-    requires most { options.max_step ≤ 2 ^ 29 }
-    requires precision { options.rotation_precision ≤ 32 }
-    ensures { result ≡ step_bits I.unit options }
+fn step_angle<I: IntNumber>(max_step: Angle, rotation_precision: u32) -> Angle
+    requires least { 2 ^ 22 ≤ max_step }
+    requires most { max_step ≤ 2 ^ 29 }
+    requires precision { rotation_precision ≤ 32 }
+    ensures { result ≡ step_bits I.unit (record { max_step = max_step; rotation_precision = rotation_precision }) }
 {
     let reserve = (1 << 33) / widen(I::UNIT).unsigned_abs();
-    let share: u128 = 1 << options.rotation_precision;
-    let bits = (options.max_step.bits() as u128 - reserve) * share / (share + 1);
+    let share: u128 = 1 << rotation_precision;
+    let bits = (max_step.bits() as u128 - reserve) * share / (share + 1);
     Angle::from_bits(bits as u32)
 }
