@@ -1,5 +1,5 @@
 -- Lemmas over points: a default step from a long direction leads on, and takes at most 4 from its length.
-use Rattle.std.proofs.Common.{◌≡◌, ℕ, ◌+◌, ◌-◌, ◌*◌, ◌/◌, ◌^◌, ◌<◌, ◌≤◌, true, [], ◌∷◌, refl, sym, ap, subst, arith, zero, suc, lit<, lit≤, ◌⊎◌, ⊎_elim}
+use Rattle.std.proofs.Common.{◌≡◌, ℕ, ◌+◌, ◌-◌, ◌*◌, ◌/◌, ◌^◌, ◌<◌, ◌≤◌, true, [], ◌∷◌, refl, sym, ap, ◌∙◌, subst, arith, zero, suc, lit<, lit≤, ◌⊎◌, ⊎_elim}
 use Rattle.std.specs.Prelude.{ℤ, pos, negsuc, ◌+ℤ◌, ◌-ℤ◌, ◌*ℤ◌, ◌≤ℤ◌, ◌<ℤ◌, neg_ℤ, unsigned_abs}
 use Rattle.std.proofs.Math.Nat.{mul-le-mul, div-mul-le_self, lt-div-mul-add}
 use Rattle.std.proofs.lemmas.Bool.{cases_lt}
@@ -177,3 +177,121 @@ good_step unit sense m s d f z u h l =
   where
     sub_mul : (a b c : ℤ) → (a -ℤ b) *ℤ c ≡ (a *ℤ c) -ℤ (b *ℤ c)
     sub_mul a b c = ring (a ∷ b ∷ c ∷ []) ((var 0 ⊖ var 1) ⊗ var 2) ((var 0 ⊗ var 2) ⊖ (var 1 ⊗ var 2)) refl
+
+-- ---- a step takes at most 4 from the length
+
+-- a vector shorter than `m` has components that are together at most one and a half of `m`
+short_sum : (x y m : ℕ) → x * x + y * y < m * m → 2 * (x + y) < 3 * m
+short_sum x y m h = lt_of_squares (2 * (x + y)) (3 * m) (omega (arith, two_products x y))
+
+-- a whole component is at most the next multiple
+next_multiple : (z : ℤ) → unsigned_abs z ≤ 2 ^ 30 * (unsigned_abs (cut z) + 1)
+next_multiple z = rw (cut_size z) (omega arith)
+
+-- over plain numbers: `a` and `b` before they are cut, `x` and `y` after, `m` what is to be reached
+not_shorter : (a b x y q n m : ℕ) → m + 4 ≤ 2 ^ 30 → (m + 4) * (m + 4) ≤ n → 1073741822 * 1073741822 ≤ q
+    → a ≤ 2 ^ 30 * (x + 1) → b ≤ 2 ^ 30 * (y + 1) → a * a + b * b ≡ q * n → m * m ≤ x * x + y * y
+not_shorter a b x y q n m most long fine ha hb e =
+    ⊎_elim
+    (λ (h : x * x + y * y < m * m).
+    let s : 2 * (x + y) < 3 * m = short_sum x y m h in
+    let c : (x + 1) * (x + 1) + (y + 1) * (y + 1) ≤ m * m + 3 * m = omega arith in
+    let f : a * a ≤ (2 ^ 30 * (x + 1)) * (2 ^ 30 * (x + 1)) = mul-le-mul ha ha in
+    let g : b * b ≤ (2 ^ 30 * (y + 1)) * (2 ^ 30 * (y + 1)) = mul-le-mul hb hb in
+    let i : q * n ≤ 2 ^ 60 * (m * m + 3 * m) = omega arith in
+    let j : (1073741822 * 1073741822) * ((m + 4) * (m + 4)) ≤ q * n = mul-le-mul fine long in
+    let k : 2 ^ 30 * (m + 2) ≤ 1073741822 * (m + 4) = omega arith in
+    let l : (2 ^ 30 * (m + 2)) * (2 ^ 30 * (m + 2)) ≤ (1073741822 * (m + 4)) * (1073741822 * (m + 4)) = mul-le-mul k k in
+    absurd (omega arith))
+    (λ (h : m * m ≤ x * x + y * y). h)
+    (cases_lt (x * x + y * y) (m * m))
+
+pub stays_long : (s d : Point) (l : ℕ) → 4 ≤ l → l ≤ 2 ^ 30 → l * l ≤ length_sq d → 1073741822 * 1073741822 ≤ length_sq s
+    → (l - 4) * (l - 4) ≤ length_sq (rotated s d)
+stays_long s d l least most long fine =
+    let e : l - 4 + 4 ≡ l = omega arith in
+    let m : l - 4 + 4 ≤ 2 ^ 30 = omega arith in
+    let g : (l - 4 + 4) * (l - 4 + 4) ≤ length_sq d = subst (λ (n : ℕ). n * n ≤ length_sq d) (sym e) long in
+    not_shorter (unsigned_abs (whole_x s d)) (unsigned_abs (whole_y s d)) (unsigned_abs (cut (whole_x s d))) (unsigned_abs (cut (whole_y s d))) (length_sq s) (length_sq d) (l - 4)
+    m g fine
+    (next_multiple (whole_x s d))
+    (next_multiple (whole_y s d))
+    (whole_length s d)
+
+-- ---- so no step of a default arc fails
+
+-- what is known of a direction after `k` steps
+record IsLong (unit k : ℕ) (d : Point) : Type 0 where
+  at_most : length_sq d ≤ unit * unit
+  at_least : (unit - 2 - 4 * k) * (unit - 2 - 4 * k) ≤ length_sq d
+
+long_after : (unit : ℕ) (s from : Point) → 2 ^ 14 ≤ unit → unit ≤ 2 ^ 30 → length_sq s ≤ 2 ^ 60 → 1073741822 * 1073741822 ≤ length_sq s
+    → IsShort unit from → IsFresh unit from → (k : ℕ) → k ≤ 1536 → IsLong unit k (turned s from k)
+unfolding turned
+long_after unit s from u w short long h f zero b =
+    let e : unit - 2 ≡ unit - 2 - 4 * 0 = omega arith in
+    record { at_most = h; at_least = subst (λ (m : ℕ). m * m ≤ length_sq from) e f }
+long_after unit s from u w short long h f (suc k) b =
+    let c : k ≤ 1536 = omega arith in
+    let i : IsLong unit k (turned s from k) = long_after unit s from u w short long h f k c in
+    let l = unit - 2 - 4 * k in
+    let least : 4 ≤ l = omega arith in
+    let most : l ≤ 2 ^ 30 = omega arith in
+    let e : l - 4 ≡ unit - 2 - 4 * suc k = omega arith in
+    let g : (l - 4) * (l - 4) ≤ length_sq (rotated s (turned s from k)) = stays_long s (turned s from k) l least most i.at_least long in
+    let r : length_sq (rotated s (turned s from k)) ≤ length_sq (turned s from k) = rotated_length s (turned s from k) short in
+    let n : length_sq (rotated s (turned s from k)) ≤ unit * unit = omega (arith, i.at_most) in
+    record { at_most = n; at_least = subst (λ (m : ℕ). m * m ≤ length_sq (rotated s (turned s from k))) e g }
+
+half_left : (unit k n : ℕ) → 2 ^ 14 ≤ unit → k < 1536 → (unit - 2 - 4 * k) * (unit - 2 - 4 * k) ≤ n → unit * unit ≤ 4 * n
+half_left unit k n u b h =
+    let a : unit ≤ 2 * (unit - 2 - 4 * k) = omega arith in
+    let c : unit * unit ≤ (2 * (unit - 2 - 4 * k)) * (2 * (unit - 2 - 4 * k)) = mul-le-mul a a in
+    omega arith
+
+sensed_length : (sense : ArcDirection) (s : Point) → length_sq (sensed sense s) ≡ length_sq s
+sensed_length Counterclockwise s = refl
+sensed_length Clockwise s = turned_round_length s
+
+no_step_fails : (unit : ℕ) (sense : ArcDirection) (m : ℤ) (s from : Point) → IsFineStep s → pos 0 ≤ℤ m → 2 ^ 14 ≤ unit → unit ≤ 2 ^ 30
+    → IsShort unit from → IsFresh unit from → (k : ℕ) → k < 1536
+    → is_good sense (m, m) (turned (sensed sense s) from k) (turned (sensed sense s) from (suc k)) ≡ true
+unfolding turned
+no_step_fails unit sense m s from f z u w h l k b =
+    let c : k ≤ 1536 = omega arith in
+    let short : length_sq (sensed sense s) ≤ 2 ^ 60 = rw (sensed_length sense s) f.short in
+    let long : 1073741822 * 1073741822 ≤ length_sq (sensed sense s) = rw (sensed_length sense s) f.long in
+    let i : IsLong unit k (turned (sensed sense s) from k) = long_after unit (sensed sense s) from u w short long h l k c in
+    good_step unit sense m s (turned (sensed sense s) from k) f z u i.at_most (half_left unit k (length_sq (turned (sensed sense s) from k)) u b i.at_least)
+
+-- ---- the default steps of both widths
+
+narrow_fine : IsFineStep (pos 740388522, pos 777654383)
+narrow_fine = record { sine = omega (arith, ints); wide = omega (arith, ints); short = lit≤ tt; long = lit≤ tt }
+
+wide_fine : IsFineStep (pos 740966686, pos 777103515)
+wide_fine = record { sine = omega (arith, ints); wide = omega (arith, ints); short = lit≤ tt; long = lit≤ tt }
+
+step_sensed : (unit : ℕ) (sense : ArcDirection) → step_of unit default_options sense ≡ sensed sense (sin_cos (step_bits unit default_options))
+step_sensed unit Counterclockwise = refl
+step_sensed unit Clockwise = refl
+
+default_by : (unit : ℕ) (s : Point) → sin_cos (step_bits unit default_options) ≡ s → IsFineStep s → 2 ^ 14 ≤ unit → unit ≤ 2 ^ 30
+    → (sense : ArcDirection) (from : Point) → IsShort unit from → IsFresh unit from → NoStepFails unit default_options sense from
+default_by unit s e f u w sense from h l k b =
+    let z : pos 0 ≤ℤ pos 759250124 = omega (arith, ints) in
+    let p : step_of unit default_options sense ≡ sensed sense s = step_sensed unit sense ∙ ap (sensed sense) e in
+    let g : is_good sense (pos 759250124, pos 759250124) (turned (sensed sense s) from k) (turned (sensed sense s) from (suc k)) ≡ true = no_step_fails unit sense (pos 759250124) s from f z u w h l k b in
+    let i : is_good sense (pos 759250124, pos 759250124) (turned (step_of unit default_options sense) from k) (turned (step_of unit default_options sense) from (suc k)) ≡ true =
+    subst (λ (t : Point). is_good sense (pos 759250124, pos 759250124) (turned t from k) (turned t from (suc k)) ≡ true) (sym p) g in
+    subst (λ (q : Point). is_good sense q (turned (step_of unit default_options sense) from k) (turned (step_of unit default_options sense) from (suc k)) ≡ true) (sym greatest_step) i
+
+pub default_steps : (unit : ℕ) → (unit ≡ 2 ^ 14) ⊎ (unit ≡ 2 ^ 30) → (sense : ArcDirection) (from : Point)
+    → IsShort unit from → IsFresh unit from → NoStepFails unit default_options sense from
+default_steps unit cases sense from h l =
+    ⊎_elim
+    (λ (e : unit ≡ 2 ^ 14).
+    default_by unit (pos 740388522, pos 777654383) (ap (λ (n : ℕ). sin_cos (step_bits n default_options)) e ∙ narrow_step) narrow_fine (omega arith) (omega arith) sense from h l)
+    (λ (e : unit ≡ 2 ^ 30).
+    default_by unit (pos 740966686, pos 777103515) (ap (λ (n : ℕ). sin_cos (step_bits n default_options)) e ∙ wide_step) wide_fine (omega arith) (omega arith) sense from h l)
+    cases
