@@ -2,7 +2,7 @@
 
 ghost use Rattle.std.specs.Prelude.{◌≡◌, ◌^◌, ◌≤◌, length, [], IsOk, OnOk, OnErr, IfOk};
 ghost use Rattle.mesh_num.specs.Direction.{IsFresh};
-ghost use Rattle.mesh_arc.specs.Arcs.{clamped as clamped_of, step_bits, step_of, arc};
+ghost use Rattle.mesh_arc.specs.Arcs.{clamped as clamped_of, step_bits, step_of, bound_of, arc};
 ghost use Rattle.mesh_arc.specs.Gaps.{HasNearGaps, ReachesEnd, NoStepFails, default_options};
 
 use crate::steps::Steps;
@@ -137,7 +137,9 @@ impl<I: IntNumber> IntegerArc<I> {
     }
 
     // The steps in this sense.
-    fn steps(&self, direction: ArcDirection) -> Steps<I> {
+    fn steps(&self, direction: ArcDirection) -> Steps<I>
+        ensures { result ≡ record { step = step_of I.unit self.now.options direction; bound = bound_of self.now.options; sense = direction } }
+    {
         let rotation = match direction {
             ArcDirection::Counterclockwise => self.step,
             ArcDirection::Clockwise => self.step.inverse(),

@@ -1,13 +1,12 @@
 //! The steps of an arc.
 
-ghost use Rattle.std.specs.Prelude.{◌≡◌, ◌^◌, ◌≤◌, length, [], vec_capacity, IsOk, OnOk, OnErr};
+ghost use Rattle.std.specs.Prelude.{◌≡◌, ◌*◌, ◌^◌, ◌≤◌, ◌||◌, not, ◌*ℤ◌, int_le, unsigned_abs, length, [], vec_capacity, IsOk, OnOk, OnErr};
+ghost use Rattle.mesh_plane.specs.Bounds.{IsSafe};
 ghost use Rattle.mesh_plane.specs.Plane.{cross as cross_of, dot as dot_of, length_sq};
-ghost use Rattle.mesh_num.specs.Direction.{IsFresh};
-ghost use Rattle.mesh_arc.specs.Arcs.{ahead as ahead_of, is_within as is_within_of, is_good as is_good_of, is_passed as is_passed_of, stepped};
+ghost use Rattle.mesh_arc.specs.Arcs.{ahead as ahead_of, is_within as is_within_of, is_good as is_good_of, is_passed as is_passed_of, turned_list, least, ends_after, most_directions, stepped};
 
 use crate::arc::ArcDirection;
-use mesh_num::num::convert::widen;
-use mesh_num::num::{IntNumber, Rotation, UnitIntVector};
+use mesh_num::num::{IntNumber, IntVector, Rotation, UnitIntVector};
 use std::alloc::AllocError;
 use std::marker::Model;
 
@@ -76,7 +75,12 @@ impl<I: IntNumber> Steps<I> {
         from: UnitIntVector<I>,
         to: UnitIntVector<I>,
         directions: &mut Vec<UnitIntVector<I>>,
-    ) -> Result<(), AllocError> {
+    ) -> Result<(), AllocError>
+        requires { directions.old.items ≡ [] }
+        ensures ok { OnOk result (directions.new.items ≡ turned_list self.now.step from (least (ends_after self.now.sense self.now.bound self.now.step from to) most_directions)) }
+        ensures room { least (ends_after self.now.sense self.now.bound self.now.step from to) most_directions ≤ vec_capacity directions.old → IsOk result }
+        ensures capacity { vec_capacity directions.old ≤ vec_capacity directions.new }
+    {
         let mut current = from;
         for _ in 0..MOST_DIRECTIONS {
             let next = self.rotation.apply(current);
@@ -95,7 +99,9 @@ impl<I: IntNumber> Steps<I> {
         to: UnitIntVector<I>,
         current: UnitIntVector<I>,
         next: UnitIntVector<I>,
-    ) -> bool {
+    ) -> bool
+        ensures { result ≡ (not (is_good_of self.now.sense self.now.bound current next) || is_passed_of self.now.sense to current next) }
+    {
         !self.is_good(current, next) || self.is_passed(to, current, next)
     }
 
@@ -103,16 +109,16 @@ impl<I: IntNumber> Steps<I> {
     fn is_good(&self, from: UnitIntVector<I>, to: UnitIntVector<I>) -> bool
         ensures { result ≡ is_good_of self.now.sense self.now.bound from to }
     {
-        self.is_within(from, to) && 0 < ahead(self.sense, components(from), components(to))
+        self.is_within(from, to) && 0 < ahead(self.sense, from, to)
     }
 
     // Whether a direction lies ahead of another by at most the bound.
     fn is_within(&self, from: UnitIntVector<I>, to: UnitIntVector<I>) -> bool
         ensures { result ≡ is_within_of self.now.sense self.now.bound from to }
     {
-        let ahead = ahead(self.sense, components(from), components(to));
-        let dot = dot(components(from), components(to));
-        0 <= ahead && (0 < dot && ahead * self.bound.1 as i128 <= dot * self.bound.0 as i128)
+        let ahead = ahead(self.sense, from, to);
+        let dot = dot(from, to);
+        0 <= ahead && (0 < dot && is_flat(self.bound, ahead, dot))
     }
 
     // Whether the step from `current` to `next` comes to the end or passes it.
@@ -124,38 +130,52 @@ impl<I: IntNumber> Steps<I> {
     ) -> bool
         ensures { result ≡ is_passed_of self.now.sense end current next }
     {
-        0 <= ahead(self.sense, components(current), components(end))
-            && (0 <= dot(components(current), components(end))
-                && ahead(self.sense, components(next), components(end)) <= 0)
+        0 <= ahead(self.sense, current, end)
+            && (0 <= dot(current, end) && ahead(self.sense, next, end) <= 0)
     }
 }
 
-// The components of a direction in 128 bits.
-fn components<I: IntNumber>(direction: UnitIntVector<I>) -> (i128, i128)
-    ensures value { result ≡ direction }
-    ensures short { length_sq result ≤ 2 ^ 60 }
+// Whether an angle, by its products, is at most the one with this sine and cosine.
+fn is_flat(bound: (i32, i32), ahead: i128, dot: i128) -> bool
+    requires ahead { unsigned_abs ahead ≤ 2 ^ 63 }
+    requires dot { unsigned_abs dot ≤ 2 ^ 63 }
+    ensures { result ≡ int_le (ahead *ℤ bound.1) (dot *ℤ bound.0) }
 {
-    (widen(direction.x()), widen(direction.y()))
+    ahead * bound.1 as i128 <= dot * bound.0 as i128
 }
 
 // Above 0 where `w` lies ahead of `v` in this sense.
-fn ahead(sense: ArcDirection, v: (i128, i128), w: (i128, i128)) -> i128
-    requires v { length_sq v ≤ 2 ^ 60 }
-    requires w { length_sq w ≤ 2 ^ 60 }
-    ensures { result ≡ ahead_of sense v w }
+fn ahead<I: IntNumber>(sense: ArcDirection, v: UnitIntVector<I>, w: UnitIntVector<I>) -> i128
+    ensures value { result ≡ ahead_of sense v w }
+    ensures size { unsigned_abs result ≤ 2 ^ 63 }
 {
-    let cross = v.0 * w.1 - v.1 * w.0;
+    let cross = cross(v, w);
     match sense {
         ArcDirection::Counterclockwise => cross,
         ArcDirection::Clockwise => -cross,
     }
 }
 
-// The dot product of two vectors.
-fn dot(v: (i128, i128), w: (i128, i128)) -> i128
-    requires v { length_sq v ≤ 2 ^ 60 }
-    requires w { length_sq w ≤ 2 ^ 60 }
-    ensures { result ≡ dot_of v w }
+// The cross product of two directions.
+fn cross<I: IntNumber>(v: UnitIntVector<I>, w: UnitIntVector<I>) -> i128
+    ensures value { result ≡ cross_of v w }
+    ensures size { unsigned_abs result ≤ 2 ^ 63 }
 {
-    v.0 * w.0 + v.1 * w.1
+    I::wide_to_i128(vector(v).cross_product(&vector(w)))
+}
+
+// The dot product of two directions.
+fn dot<I: IntNumber>(v: UnitIntVector<I>, w: UnitIntVector<I>) -> i128
+    ensures value { result ≡ dot_of v w }
+    ensures size { unsigned_abs result ≤ 2 ^ 63 }
+{
+    I::wide_to_i128(vector(v).dot_product(&vector(w)))
+}
+
+// A direction as a vector.
+fn vector<I: IntNumber>(direction: UnitIntVector<I>) -> IntVector<I>
+    ensures value { result ≡ direction }
+    ensures safe { IsSafe (2 * I.unit) result }
+{
+    IntVector::new(direction.x().to_wide(), direction.y().to_wide())
 }
