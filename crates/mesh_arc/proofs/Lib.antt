@@ -1,3 +1,4 @@
+pub mod Gaps
 pub mod Passing
 pub mod StepConstants
 pub mod Steps

@@ -295,3 +295,10 @@ default_steps unit cases sense from h l =
     (λ (e : unit ≡ 2 ^ 30).
     default_by unit (pos 740966686, pos 777103515) (ap (λ (n : ℕ). sin_cos (step_bits n default_options)) e ∙ wide_step) wide_fine (omega arith) (omega arith) sense from h l)
     cases
+
+-- a fresh direction is not 0
+pub fresh_nonzero : (unit : ℕ) (d : Point) → 2 ^ 14 ≤ unit → IsFresh unit d → 0 < length_sq d
+fresh_nonzero unit d u h =
+    let a : 1 ≤ unit - 2 = omega arith in
+    let b : 1 * 1 ≤ (unit - 2) * (unit - 2) = mul-le-mul a a in
+    omega arith
