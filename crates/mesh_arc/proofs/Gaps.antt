@@ -1,5 +1,5 @@
 -- Lemmas over lists: neighbouring directions of an arc are within a step, and so is its end unless it broke off.
-use Rattle.std.proofs.Common.{◌≡◌, ℕ, ◌<◌, ◌≤◌, ◌^◌, ◌≢◌, Bool, true, false, not, ◌||◌, refl, sym, ◌∙◌, ap, subst, arith, zero, suc, List, [], ◌∷◌, length}
+use Rattle.std.proofs.Common.{◌≡◌, ℕ, ◌<◌, ◌≤◌, Bool, true, false, not, ◌||◌, refl, sym, ◌∙◌, ap, subst, arith, zero, suc, [], length}
 use Rattle.std.specs.Prelude.{pos, ◌≤ℤ◌, if◌then◌else◌}
 use Rattle.std.specs.List.{All}
 use Rattle.std.proofs.lemmas.List.Elements.{All-nil, All-cons}
@@ -7,7 +7,7 @@ use Rattle.std.proofs.lemmas.Bool.{or_parts, both_ways, not-false, not_from_true
 use Rattle.mesh_plane.specs.Plane.{Point, Edge, length_sq}
 use Rattle.mesh_num.specs.Rotation.{rotated}
 use Rattle.mesh_arc.specs.Arcs.{step_of, bound_of, is_within, is_good, is_passed, turned, turned_list, least, ends_after, most_directions, stepped, arc}
-use Rattle.mesh_arc.specs.Gaps.{gaps, last_of, HasNearGaps, CanGoOn, ReachesEnd}
+use Rattle.mesh_arc.specs.Gaps.{gaps, last_of, HasNearGaps, ReachesEnd}
 use Rattle.mesh_arc.specs.declared.arc.ArcDirection.{ArcDirection}
 use Rattle.mesh_arc.specs.declared.arc.ArcOptions.{ArcOptions}
 use Rattle.mesh_arc.proofs.Passing.{good_within, passing}
@@ -72,7 +72,6 @@ stepped_end : (sense : ArcDirection) (bound step from end : Point) → 0 < lengt
 unfolding stepped last_of turned
 stepped_end sense bound step from end h z = by (is_within sense bound from end) refl
   where
-
     by : (b : Bool) → is_within sense bound from end ≡ b
         → (length (if b then [] else turned_list step from (least (ends_after sense bound step from end) most_directions)) ≡ most_directions → ⊥)
         → is_good sense bound (last_of from (if b then [] else turned_list step from (least (ends_after sense bound step from end) most_directions)))

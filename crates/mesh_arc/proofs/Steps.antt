@@ -1,25 +1,25 @@
 -- Lemmas over points: a default step from a long direction leads on, and takes at most 4 from its length.
-use Rattle.std.proofs.Common.{◌≡◌, ℕ, ◌+◌, ◌-◌, ◌*◌, ◌/◌, ◌^◌, ◌<◌, ◌≤◌, true, [], ◌∷◌, refl, sym, ap, ◌∙◌, subst, arith, zero, suc, lit<, lit≤, ◌⊎◌, ⊎_elim}
+use Rattle.std.proofs.Common.{◌≡◌, ℕ, ◌+◌, ◌-◌, ◌*◌, ◌^◌, ◌<◌, ◌≤◌, true, [], ◌∷◌, refl, sym, ap, ◌∙◌, subst, arith, zero, suc, lit≤, ◌⊎◌, ⊎_elim}
 use Rattle.std.specs.Prelude.{ℤ, pos, negsuc, ◌+ℤ◌, ◌-ℤ◌, ◌*ℤ◌, ◌≤ℤ◌, ◌<ℤ◌, neg_ℤ, unsigned_abs}
-use Rattle.std.proofs.Math.Nat.{mul-le-mul, div-mul-le_self, lt-div-mul-add}
+use Rattle.std.proofs.Math.Nat.{mul-le-mul}
 use Rattle.std.proofs.lemmas.Bool.{cases_lt}
 use Rattle.std.proofs.lemmas.Int.{ints, unsigned_abs-mul}
 use Rattle.mesh_plane.specs.Plane.{Point, cross, dot, length_sq}
 use Rattle.mesh_plane.proofs.Ring.{ring, var, lit, ◌⊕◌, ◌⊖◌, ◌⊗◌, cross_of, dot_of}
 use Rattle.mesh_plane.proofs.Sizes.{le_of_squares, lt_of_squares, two_products, dot_self}
-use Rattle.mesh_plane.proofs.Whole.{linear, neg_mul, mul_sub, mul_le_mul_left, mul_le_mul_right}
+use Rattle.mesh_plane.proofs.Whole.{linear, neg_mul, mul_le_mul_right}
 use Rattle.mesh_num.specs.Rotation.{cut, rotated, turned_round}
 use Rattle.mesh_num.specs.Direction.{IsShort, IsFresh}
 use Rattle.mesh_num.proofs.Rotations.{cut_size, whole_length, rotated_length, turned_round_length}
 use Rattle.mesh_sine.specs.Sine.{sin_cos}
-use Rattle.mesh_arc.specs.Arcs.{ahead, step_bits, step_of, bound_of, is_good, turned, most_directions}
+use Rattle.mesh_arc.specs.Arcs.{ahead, step_bits, step_of, is_good, turned}
 use Rattle.mesh_arc.specs.Gaps.{NoStepFails, default_options}
 use Rattle.mesh_arc.specs.declared.arc.ArcDirection.{ArcDirection}
 use Rattle.mesh_arc.specs.declared.arc.ArcDirection.TheVariants.{Clockwise, Counterclockwise}
-use Rattle.mesh_arc.proofs.Passing.{IsNear, good_from}
+use Rattle.mesh_arc.proofs.Passing.{good_from}
 use Rattle.mesh_arc.proofs.StepConstants.{narrow_step, wide_step, greatest_step}
 
--- what is used of the sine and the cosine of a default step
+-- what is used of the sine and the cosine of a default step; 1073741822 is 2 ^ 30 - 2
 pub record IsFineStep (s : Point) : Type 0 where
   pub sine : pos (2 ^ 20) ≤ℤ s.0
   pub wide : pos (2 ^ 20) ≤ℤ (s.1 -ℤ s.0)
