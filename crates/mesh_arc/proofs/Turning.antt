@@ -8,37 +8,52 @@ use Rattle.mesh_arc.specs.Arcs.{least, turned, turned_list}
 
 -- ---- the least number that passes a test
 
+cases : (b : Bool) → (b ≡ true) ⊎ (b ≡ false)
+cases true = inl refl
+cases false = inr refl
+
+first : (test : ℕ → Bool) (n : ℕ) → test zero ≡ true → least test (suc n) ≡ zero
+unfolding least
+first test n e = rw e refl
+
+later : (test : ℕ → Bool) (n : ℕ) → test zero ≡ false → least test (suc n) ≡ suc (least (λ k. test (suc k)) n)
+unfolding least
+later test n e = rw e refl
+
+none_within : (test : ℕ → Bool) → least test zero ≡ zero
+unfolding least
+none_within test = refl
+
 -- no number below it passes
 pub least_before : (test : ℕ → Bool) (n j : ℕ) → j < least test n → test j ≡ false
-unfolding least
-least_before test zero j h = absurd (omega arith)
-least_before test (suc n) j h = by j h (test zero) refl
+least_before test zero j h = absurd (omega (arith, none_within test))
+least_before test (suc n) j h =
+    ⊎_elim
+    (λ e. absurd (omega (arith, first test n e)))
+    (λ e. by j e (λ i l. least_before (λ k. test (suc k)) n i (omega (arith, later test n e, l))))
+    (cases (test zero))
   where
-    by : (j : ℕ) → j < (if test zero then zero else suc (least (λ k. test (suc k)) n)) → (b : Bool) → test zero ≡ b → test j ≡ false
-    by j h true e = absurd (omega (arith, rw e at h))
-    by zero h false e = e
-    by (suc j) h false e = least_before (λ k. test (suc k)) n j (omega (arith, rw e at h))
+    by : (j : ℕ) → test zero ≡ false → ((i : ℕ) → suc i ≡ j → test (suc i) ≡ false) → test j ≡ false
+    by zero e f = e
+    by (suc i) e f = f i refl
 
 -- it is at most the bound
 pub least_bounded : (test : ℕ → Bool) (n : ℕ) → least test n ≤ n
-unfolding least
-least_bounded test zero = omega arith
-least_bounded test (suc n) = by (test zero) refl
-  where
-    by : (b : Bool) → test zero ≡ b → (if test zero then zero else suc (least (λ k. test (suc k)) n)) ≤ suc n
-    by true e = rw e (omega arith)
-    by false e = rw e (omega (arith, least_bounded (λ k. test (suc k)) n))
+least_bounded test zero = omega (arith, none_within test)
+least_bounded test (suc n) =
+    ⊎_elim
+    (λ e. omega (arith, first test n e))
+    (λ e. omega (arith, later test n e, least_bounded (λ k. test (suc k)) n))
+    (cases (test zero))
 
 -- it passes, or is the bound
 pub least_passes : (test : ℕ → Bool) (n : ℕ) → least test n < n → test (least test n) ≡ true
-unfolding least
 least_passes test zero h = absurd (omega arith)
-least_passes test (suc n) h = by (test zero) refl h
-  where
-    by : (b : Bool) → test zero ≡ b → (if test zero then zero else suc (least (λ k. test (suc k)) n)) < suc n
-        → test (if test zero then zero else suc (least (λ k. test (suc k)) n)) ≡ true
-    by true e l = rw e e
-    by false e l = rw e (least_passes (λ k. test (suc k)) n (omega (arith, rw e at l)))
+least_passes test (suc n) h =
+    ⊎_elim
+    (λ e. rw (first test n e) e)
+    (λ e. rw (later test n e) (least_passes (λ k. test (suc k)) n (omega (arith, later test n e))))
+    (cases (test zero))
 
 -- the first number that passes, or the bound where none before it does
 pub least_is : (test : ℕ → Bool) (n k : ℕ) → k ≤ n → ((j : ℕ) → j < k → test j ≡ false) → (k ≡ n) ⊎ (test k ≡ true) → least test n ≡ k

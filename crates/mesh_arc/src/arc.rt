@@ -1,8 +1,10 @@
 //! Directed arcs: a direction is turned by equal steps until an end is passed.
 
-ghost use Rattle.std.specs.Prelude.{◌≡◌, ◌^◌, ◌≤◌, length, [], IsOk, OnOk, OnErr, IfOk};
+ghost use Rattle.std.specs.Prelude.{⊤, ◌≡◌, ◌^◌, ◌≤◌, length, [], IsOk, IfOk};
+ghost use Rattle.std.specs.Borrow.{sem};
 ghost use Rattle.mesh_num.specs.Direction.{IsFresh};
 ghost use Rattle.mesh_arc.specs.Arcs.{clamped as clamped_of, step_bits, step_of, bound_of, arc};
+ghost use Rattle.mesh_arc.specs.Building.{IsBuilt};
 ghost use Rattle.mesh_arc.specs.Gaps.{HasNearGaps, ReachesEnd, NoStepFails, default_options};
 
 use crate::steps::Steps;
@@ -32,10 +34,10 @@ pub struct ArcOptions {
 
 impl ArcOptions {
     /// The least step that can be asked for, 2^22 bits.
-    pub const MIN_STEP: Angle = Angle::from_bits(1 << 22);
+    pub const MIN_STEP: Angle = Angle::FINE_TURN;
 
     /// The greatest step that can be asked for, 2^29 bits.
-    pub const MAX_STEP: Angle = Angle::from_bits(1 << 29);
+    pub const MAX_STEP: Angle = Angle::EIGHTH_TURN;
 
     // The options with both values brought into their ranges.
     fn clamped(self) -> Self
@@ -86,16 +88,22 @@ impl<I: IntNumber> Model for IntegerArc<I> {
 }
 
 impl<I: IntNumber> IntegerArc<I> {
+    ghost use Rattle.mesh_arc.specs.contracts.arc.IntegerArc.{the_row};
+    ghost use mathlib.Core.Option.{none};
+    ghost use denote.Follow.{follows_so};
+
     /// A builder of arcs with these options, each brought into its range. It takes no memory.
     pub fn new(alloc: Global, options: ArcOptions) -> Self
         ensures options { result.options ≡ clamped_of options }
         ensures empty { result.directions ≡ [] }
     {
         let options = options.clamped();
+        let step = Rotation::new(step_angle::<I>(options));
+        let bound = options.max_step.sin_cos();
         IntegerArc {
             options,
-            step: Rotation::new(step_angle::<I>(options)),
-            bound: options.max_step.sin_cos(),
+            step,
+            bound,
             directions: Vec::new(alloc),
         }
     }
@@ -105,6 +113,29 @@ impl<I: IntNumber> IntegerArc<I> {
         ensures { result ≡ self.now.options }
     {
         self.options
+    }
+
+    /// The directions of the arc that was built last, none where memory was refused.
+    pub fn directions(&self) -> &[UnitIntVector<I>]
+        ensures { result.now ≡ self.now.directions }
+    {
+        &self.directions
+    }
+
+    /// Builds the arc as `build` does, and keeps its directions.
+    pub fn rebuild(
+        &mut self,
+        from: UnitIntVector<I>,
+        to: UnitIntVector<I>,
+        direction: ArcDirection,
+    ) -> Result<(), AllocError>
+        requires from { IsFresh I.unit from }
+        requires to { IsFresh I.unit to }
+        ensures built { IsBuilt I.unit self.old self.new direction from to result }
+        ensures room { length (arc I.unit self.old.options direction from to) ≤ self.old.room → IsOk result }
+    {
+        let steps = self.steps(direction);
+        steps.fill(from, to, &mut self.directions)
     }
 
     /// The directions between `from` and `to`, in this sense, without these two: `from` turned by one step, two, and so on,
@@ -121,18 +152,15 @@ impl<I: IntNumber> IntegerArc<I> {
     ) -> Result<&[UnitIntVector<I>], AllocError>
         requires from { IsFresh I.unit from }
         requires to { IsFresh I.unit to }
-        ensures value { IfOk result (λ ds. ds ≡ arc I.unit self.old.options direction from to) }
-        ensures lent { IfOk result (λ ds. ds ≡ self.new.directions) }
-        ensures gaps { IfOk result (λ ds. HasNearGaps self.old.options direction from ds) }
-        ensures last_gap { IfOk result (λ ds. ReachesEnd I.unit self.old.options direction from to ds) }
+        ensures value { IfOk result (λ ds. ds.now ≡ arc I.unit self.old.options direction from to) }
+        ensures gaps { IfOk result (λ ds. HasNearGaps self.old.options direction from ds.now) }
+        ensures last_gap { IfOk result (λ ds. ReachesEnd I.unit self.old.options direction from to ds.now) }
         ensures default_steps { self.old.options ≡ default_options → NoStepFails I.unit default_options direction from }
-        ensures err { OnErr result (self.new.directions ≡ []) }
         ensures room { length (arc I.unit self.old.options direction from to) ≤ self.old.room → IsOk result }
-        ensures same { self.new.options ≡ self.old.options }
-        ensures kept_room { self.old.room ≤ self.new.room }
+        ensures* after { sem 𝓛 (follows_so (the_row I.row I.Wide.row I.WideUInt.row I.IntNumber.own I.Debug I.Ord.own I.PartialEq I.PartialOrd.own I.Hash.own I.Wide.WideNumber.own I.Wide.Debug I.Wide.Ord.own I.Wide.PartialEq I.Wide.PartialOrd.own I.Wide.Hash.own I.Wide.Add I.Wide.Sub I.Wide.Mul I.WideUInt.WideUnsigned.own I.WideUInt.Debug I.WideUInt.Ord.own I.WideUInt.PartialEq I.WideUInt.PartialOrd.own I.WideUInt.Hash.own) (the_row I.row I.Wide.row I.WideUInt.row I.IntNumber.own I.Debug I.Ord.own I.PartialEq I.PartialOrd.own I.Hash.own I.Wide.WideNumber.own I.Wide.Debug I.Wide.Ord.own I.Wide.PartialEq I.Wide.PartialOrd.own I.Wide.Hash.own I.Wide.Add I.Wide.Sub I.Wide.Mul I.WideUInt.WideUnsigned.own I.WideUInt.Debug I.WideUInt.Ord.own I.WideUInt.PartialEq I.WideUInt.PartialOrd.own I.WideUInt.Hash.own) self.entry.ghost_name none (λ _ _. ⊤)
+            (λ n. IsBuilt I.unit self.old n direction from to result)) }
     {
-        let steps = self.steps(direction);
-        steps.fill(from, to, &mut self.directions)?;
+        self.rebuild(from, to, direction)?;
         Ok(&self.directions)
     }
 
