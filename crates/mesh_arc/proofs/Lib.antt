@@ -1,5 +1,7 @@
+pub mod Answering
+pub mod Filling
 pub mod Gaps
 pub mod Passing
 pub mod StepConstants
-pub mod Steps
+pub mod FineSteps
 pub mod Turning

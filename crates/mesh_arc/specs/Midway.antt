@@ -17,6 +17,7 @@ pub record IsPrepared (unit : ℕ) (options : ArcOptions) (step bound : Point) :
   pub step_is : step ≡ sin_cos (step_bits unit options)
   pub bound_is : bound ≡ bound_of options
   pub bound_short : length_sq bound ≤ 2 ^ 60
+  pub most : options.max_step ≤ 2 ^ 29
 
 -- whether the arc by these steps ends after `k` of them
 abbrev pub ends : Steps → Point → Point → ℕ → Bool

@@ -118,7 +118,7 @@ impl<I: IntNumber> Steps<I> {
     {
         let ahead = ahead(self.sense, from, to);
         let dot = dot(from, to);
-        0 <= ahead && (0 < dot && is_flat(self.bound, ahead, dot))
+        0 <= ahead && (0 < dot && is_flat(self.bound.0, self.bound.1, ahead, dot))
     }
 
     // Whether the step from `current` to `next` comes to the end or passes it.
@@ -136,12 +136,12 @@ impl<I: IntNumber> Steps<I> {
 }
 
 // Whether an angle, by its products, is at most the one with this sine and cosine.
-fn is_flat(bound: (i32, i32), ahead: i128, dot: i128) -> bool
+fn is_flat(sine: i32, cosine: i32, ahead: i128, dot: i128) -> bool
     requires ahead { unsigned_abs ahead ≤ 2 ^ 63 }
     requires dot { unsigned_abs dot ≤ 2 ^ 63 }
-    ensures { result ≡ int_le (ahead *ℤ bound.1) (dot *ℤ bound.0) }
+    ensures { result ≡ int_le (ahead *ℤ cosine) (dot *ℤ sine) }
 {
-    ahead * bound.1 as i128 <= dot * bound.0 as i128
+    ahead * cosine as i128 <= dot * sine as i128
 }
 
 // Above 0 where `w` lies ahead of `v` in this sense.

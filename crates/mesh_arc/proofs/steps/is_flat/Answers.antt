@@ -7,14 +7,14 @@ use Rattle.mesh_arc.proofs.steps.is_flat.Goals as goal
 
 pub returns : goal.returns
 returns c =
-    let s = to_z-of_z w32 c.args.bound.0 c.ranges.bound.0 in
-    let k = to_z-of_z w32 c.args.bound.1 c.ranges.bound.1 in
-    let s' = to_z-of_z w128 c.args.bound.0 (omega (arith, ints, c.ranges.bound.0)) in
-    let k' = to_z-of_z w128 c.args.bound.1 (omega (arith, ints, c.ranges.bound.1)) in
+    let s = to_z-of_z w32 c.args.sine c.ranges.sine in
+    let k = to_z-of_z w32 c.args.cosine c.ranges.cosine in
+    let s' = to_z-of_z w128 c.args.sine (omega (arith, ints, c.ranges.sine)) in
+    let k' = to_z-of_z w128 c.args.cosine (omega (arith, ints, c.ranges.cosine)) in
     let a = to_z-of_z w128 c.args.ahead c.ranges.ahead in
     let d = to_z-of_z w128 c.args.dot c.ranges.dot in
-    let p = to_z-of_z w128 (c.args.ahead *ℤ c.args.bound.1)
-    (fits_signed_mul w128 c.args.ahead c.args.bound.1 (2 ^ 63) (2 ^ 31) c.requires.ahead (omega (arith, ints, c.ranges.bound.1)) (lit< tt)) in
-    let q = to_z-of_z w128 (c.args.dot *ℤ c.args.bound.0)
-    (fits_signed_mul w128 c.args.dot c.args.bound.0 (2 ^ 63) (2 ^ 31) c.requires.dot (omega (arith, ints, c.ranges.bound.0)) (lit< tt)) in
+    let p = to_z-of_z w128 (c.args.ahead *ℤ c.args.cosine)
+    (fits_signed_mul w128 c.args.ahead c.args.cosine (2 ^ 63) (2 ^ 31) c.requires.ahead (omega (arith, ints, c.ranges.cosine)) (lit< tt)) in
+    let q = to_z-of_z w128 (c.args.dot *ℤ c.args.sine)
+    (fits_signed_mul w128 c.args.dot c.args.sine (2 ^ 63) (2 ^ 31) c.requires.dot (omega (arith, ints, c.ranges.sine)) (lit< tt)) in
     simp (s, k, s', k', a, d, p, q)

@@ -28,8 +28,8 @@ returns-in_err-push-clause-room g c h =
     let e : ends c.args.self.now c.args.from c.args.to c.loop.counter ≡ false =
     sym (ends_is c.args.self.now c.args.from c.args.to c.loop.counter c.loop.current c.apply-next.result i.current_is n) ∙ sym c.ends.ensures ∙ c.if-ends.false in
     let l : c.loop.counter < most_directions = omega (arith, c.loop-test.true) in
-    let m = more_come _ _ _ _ _ _ _ i l e in
-    let k = turned_so_far _ _ _ _ _ _ _ i in
+    let m = more_come _ _ _ _ _ _ _ _ i l e in
+    let k = turned_so_far _ _ _ _ _ _ _ _ i in
     let f = c.in_err-push.ensures.full in
     absurd (omega (arith, m, k, f, i.grown, h))
 
