@@ -6,6 +6,7 @@ pub mod Paths
 pub mod Products
 pub mod Rectangles
 pub mod Roots
+pub mod Rotations
 pub mod Scaling
 pub mod SegmentLists
 pub mod Subjects

@@ -5,6 +5,7 @@ pub mod Laws
 pub mod Paths
 pub mod Quotient
 pub mod Rectangle
+pub mod Rotation
 pub mod Segments
 pub mod Widths
 pub use Rattle.mesh_plane.specs.Bounds

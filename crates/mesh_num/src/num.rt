@@ -7,6 +7,7 @@ pub mod number;
 pub mod point;
 pub mod quotient;
 pub mod rect;
+pub mod rotation;
 pub(crate) mod search;
 pub mod unit_vector;
 
@@ -14,4 +15,5 @@ pub use angle::Angle;
 pub use number::{IntNumber, OverlayInt, WideNumber, WideUnsigned};
 pub use point::{IntPoint, IntVector};
 pub use rect::IntRect;
+pub use rotation::Rotation;
 pub use unit_vector::UnitIntVector;

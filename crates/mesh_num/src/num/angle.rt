@@ -23,6 +23,12 @@ impl std::marker::Model for Angle {
 }
 
 impl Angle {
+    /// An eighth of a turn, 2^29 bits.
+    pub const EIGHTH_TURN: Angle = Angle { bits: 1 << 29 };
+
+    /// A turn over 1024, 2^22 bits.
+    pub const FINE_TURN: Angle = Angle { bits: 1 << 22 };
+
     /// The angle of so many bits.
     pub const fn from_bits(bits: u32) -> Self
         ensures { result ≡ bits }

@@ -5,7 +5,7 @@ ghost use Rattle.std.specs.Ordering.{int_cmp};
 ghost use Rattle.std.proofs.Common.{lit≤};
 ghost use Rattle.std.specs.declared.cmp.Ordering.{Ordering};
 ghost use Rattle.mesh_plane.specs.Bounds.{IsWithin};
-ghost use Rattle.mesh_num.specs.Widths.{within_fits_w32, within_fits_w64};
+ghost use Rattle.mesh_num.specs.Widths.{IsUnit, small_unit, large_unit, within_fits_w32, within_fits_w64};
 
 use std::fmt::Debug;
 use std::hash::Hash;
@@ -136,6 +136,8 @@ pub trait IntNumber: Copy + Debug + Drop + Ord + Hash {
     ghost most_law: { unit ≤ 2 ^ 30 };
 
     ghost least_law: { 2 ^ 14 ≤ unit };
+
+    ghost either_law: { IsUnit unit };
 
     ghost cmp_law: { (a b : Self) → Self.cmp a b ≡ int_cmp (value a) (value b) };
 
@@ -324,6 +326,8 @@ impl IntNumber for i16 {
 
     ghost least_law = { lit≤ tt };
 
+    ghost either_law = { small_unit };
+
     ghost cmp_law = { λ a b. refl };
 }
 
@@ -379,6 +383,8 @@ impl IntNumber for i32 {
     ghost most_law = { lit≤ tt };
 
     ghost least_law = { lit≤ tt };
+
+    ghost either_law = { large_unit };
 
     ghost cmp_law = { λ a b. refl };
 }

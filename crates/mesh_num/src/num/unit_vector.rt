@@ -66,7 +66,7 @@ impl<I: IntNumber> UnitIntVector<I> {
         self.y
     }
 
-    fn from_parts(x: i128, y: i128) -> Self
+    pub(crate) fn from_parts(x: i128, y: i128) -> Self
         requires { IsShort I.unit (x, y) }
         ensures { result ≡ (x, y) }
     {

@@ -1,0 +1,20 @@
+-- An arc's buffer, as contracts see it.
+use Rattle.std.specs.Prelude.{ℕ, ◌≡◌, ◌≤◌, List, [], Result, OnOk, OnErr}
+use Rattle.mesh_plane.specs.Plane.{Point}
+use Rattle.mesh_arc.specs.Arcs.{arc}
+use Rattle.mesh_arc.specs.declared.arc.ArcDirection.{ArcDirection}
+use Rattle.mesh_arc.specs.declared.arc.ArcOptions.{ArcOptions}
+
+-- the options, the directions of the arc that was built last, and how many there is memory for
+pub record Building : Type 0 where
+  pub options : ArcOptions
+  pub directions : List Point
+  pub room : ℕ
+
+-- what stands after an arc was asked for: the options are the same and no memory was given back; the directions are those of
+-- the arc, and none after a refusal
+pub record IsBuilt (unit : ℕ) (old new : Building) (sense : ArcDirection) (from end : Point) {A E : Type 0} (answer : Result A E) : Type 0 where
+  pub options : new.options ≡ old.options
+  pub room : old.room ≤ new.room
+  pub directions : OnOk answer (new.directions ≡ arc unit old.options sense from end)
+  pub none : OnErr answer (new.directions ≡ [])

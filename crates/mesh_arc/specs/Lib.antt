@@ -1,0 +1,4 @@
+pub mod Arcs
+pub mod Building
+pub mod Gaps
+pub mod Midway

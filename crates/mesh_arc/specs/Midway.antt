@@ -1,0 +1,32 @@
+-- What the code of an arc knows between its steps: only private contracts and invariants read this.
+use Rattle.std.specs.Prelude.{ℕ, ◌≡◌, ◌<◌, ◌≤◌, ◌^◌, Bool, false, List}
+use Rattle.mesh_plane.specs.Plane.{Point, length_sq}
+use Rattle.mesh_sine.specs.Sine.{sin_cos}
+use Rattle.mesh_arc.specs.Arcs.{step_bits, bound_of, turned, turned_list, ends_after, most_directions}
+use Rattle.mesh_arc.specs.declared.arc.ArcDirection.{ArcDirection}
+use Rattle.mesh_arc.specs.declared.arc.ArcOptions.{ArcOptions}
+
+-- the steps of an arc: the sine and cosine of each, those of the greatest gap, and the sense
+pub record Steps : Type 0 where
+  pub step : Point
+  pub bound : Point
+  pub sense : ArcDirection
+
+-- sines and cosines that were computed once from the options
+pub record IsPrepared (unit : ℕ) (options : ArcOptions) (step bound : Point) : Type 0 where
+  pub step_is : step ≡ sin_cos (step_bits unit options)
+  pub bound_is : bound ≡ bound_of options
+  pub bound_short : length_sq bound ≤ 2 ^ 60
+  pub most : options.max_step ≤ 2 ^ 29
+
+-- whether the arc by these steps ends after `k` of them
+abbrev pub ends : Steps → Point → Point → ℕ → Bool
+ends s from end = ends_after s.sense s.bound s.step from end
+
+-- the list after `k` steps that were all good, none past the end; `room` is what there was memory for at first, `capacity` now
+pub record HasTurned (s : Steps) (from end : Point) (room k : ℕ) (current : Point) (ds : List Point) (capacity : ℕ) : Type 0 where
+  pub count : k ≤ most_directions
+  pub current_is : current ≡ turned s.step from k
+  pub directions : ds ≡ turned_list s.step from k
+  pub goes_on : (j : ℕ) → j < k → ends s from end j ≡ false
+  pub grown : room ≤ capacity

@@ -1,0 +1,5 @@
+//! Directed arcs of integer polygon offsetting.
+#![tactic(auto)]
+
+pub mod arc;
+mod steps;
