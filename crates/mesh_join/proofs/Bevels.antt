@@ -8,7 +8,8 @@ use Rattle.mesh_plane.specs.Winding.{route, same_point}
 use Rattle.mesh_join.proofs.JoinLaws.{KeepsJoint, KeepsJoints}
 use Rattle.mesh_join.specs.Bevels.{bevel_padding}
 use Rattle.mesh_join.specs.Joins.{between, through}
-use Rattle.mesh_join.specs.Joints.{Joint, IsTurn, IsWithinPadding, sense_of}
+use Rattle.mesh_arc.specs.Arcs.{sense_of}
+use Rattle.mesh_join.specs.Joints.{Joint, IsTurn, IsWithinPadding}
 use Rattle.mesh_join.specs.Styles.{JoinStyle}
 use Rattle.mesh_join.specs.declared.style.IntLineJoin.TheVariants.{Bevel}
 

@@ -11,8 +11,8 @@ use Rattle.mesh_join.proofs.JoinLaws.{KeepsJoints}
 use Rattle.mesh_join.proofs.Miters.{miter_keeps}
 use Rattle.mesh_join.specs.Joins.{has_few, join_padding, join_edges, join_points, between}
 use Rattle.mesh_join.specs.Joints.{Joint, IsTurn, IsWithinPadding, NeverTurnsBack, StaysWithin, contact}
-use Rattle.mesh_join.specs.declared.arc.ArcDirection.{ArcDirection}
-use Rattle.mesh_join.specs.declared.arc.ArcDirection.TheVariants.{Clockwise, Counterclockwise}
+use Rattle.mesh_arc.specs.declared.arc.ArcDirection.{ArcDirection}
+use Rattle.mesh_arc.specs.declared.arc.ArcDirection.TheVariants.{Clockwise, Counterclockwise}
 use Rattle.mesh_join.specs.Styles.{JoinStyle}
 use Rattle.mesh_join.specs.declared.style.IntLineJoin.{IntLineJoin}
 use Rattle.mesh_join.specs.declared.style.IntLineJoin.TheVariants.{Bevel, Miter}

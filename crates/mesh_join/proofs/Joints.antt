@@ -24,3 +24,11 @@ left_ahead t = ap (int_le (pos 0)) (sym (one_mul t))
 
 pub right_ahead : (t : ℤ) → int_le t (pos 0) ≡ int_le (pos 0) (negsuc 0 *ℤ t)
 right_ahead t = grind (arith, ints)
+
+-- what tests tell
+pub both_are : (a b : Bool) → (a && b) ≡ true → (a ≡ true) × (b ≡ true)
+both_are true b h = (refl, h)
+both_are false b h = absurd (false≢true h)
+
+pub le_test : (a b : ℤ) → int_le a b ≡ true → a ≤ℤ b
+le_test a b h = grind (arith, ints)

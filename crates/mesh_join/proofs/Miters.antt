@@ -20,11 +20,13 @@ use Rattle.mesh_join.proofs.Bevels.{nothing_between}
 use Rattle.mesh_num.specs.Rectangle.{IsSafeWidened}
 use Rattle.mesh_num.specs.Segments.{segments_of}
 use Rattle.mesh_join.proofs.Joints.{within_safe}
+use Rattle.mesh_join.proofs.Joints.{both_are, le_test}
 use Rattle.mesh_join.proofs.JoinLaws.{KeepsJoint, KeepsJoints}
 use Rattle.mesh_join.specs.Joins.{between, through}
-use Rattle.mesh_join.specs.Joints.{Joint, IsTurn, IsWithinPadding, NeverTurnsBack, sense_of}
+use Rattle.mesh_arc.specs.Arcs.{sense_of}
+use Rattle.mesh_join.specs.Joints.{Joint, IsTurn, IsWithinPadding, NeverTurnsBack, runs_ahead}
 use Rattle.mesh_join.specs.Midway.Miters.{IsHalfSine}
-use Rattle.mesh_join.specs.Miters.{sharpest, half_sharpest, reach, miter_padding, is_slight, is_near, runs_ahead, are_usable, usable, miter_tip, miter_points, is_sharp, clip_points, peak}
+use Rattle.mesh_join.specs.Miters.{sharpest, half_sharpest, reach, miter_padding, is_slight, is_near, are_usable, usable, miter_tip, miter_points, is_sharp, clip_points, peak}
 use Rattle.mesh_join.specs.Styles.{JoinStyle}
 use Rattle.mesh_join.specs.declared.style.IntLineJoin.TheVariants.{Miter}
 
@@ -96,13 +98,6 @@ unfolding miter_padding
 sized angle radius = reach_sized (half_sharpest angle).0 radius
 
 -- ---- what points that can be used keep
-
-both_are : (a b : Bool) → (a && b) ≡ true → (a ≡ true) × (b ≡ true)
-both_are true b h = (refl, h)
-both_are false b h = absurd (false≢true h)
-
-le_test : (a b : ℤ) → int_le a b ≡ true → a ≤ℤ b
-le_test a b h = grind (arith, ints)
 
 -- the edges through the points never turn back, the points are near, and there are few
 record Keeps (padding : ℤ) (j : Joint) (points : List Point) : Type 0 where

@@ -1,11 +1,12 @@
 -- Joints: what a join is asked for at an outer corner, and how points run round it.
-use Rattle.std.specs.Prelude.{ℕ, ◌≡◌, List, ℤ, pos, negsuc, ◌*ℤ◌, ◌≤ℤ◌}
+use Rattle.std.specs.Prelude.{ℕ, Bool, ◌≡◌, List, ℤ, pos, ◌*ℤ◌, ◌≤ℤ◌, int_le}
 use Rattle.std.specs.List.{All}
 use Rattle.mesh_plane.specs.Plane.{Point, Edge, plus, minus, cross, turn, right_quarter}
 use Rattle.mesh_num.specs.Direction.{IsFresh, scaled_direction}
 use Rattle.mesh_num.specs.Rectangle.{IsInRectangle}
-use Rattle.mesh_join.specs.declared.arc.ArcDirection.{ArcDirection}
-use Rattle.mesh_join.specs.declared.arc.ArcDirection.TheVariants.{Clockwise, Counterclockwise}
+use Rattle.mesh_arc.specs.Arcs.{sense_of}
+use Rattle.mesh_arc.specs.declared.arc.ArcDirection.{ArcDirection}
+use Rattle.mesh_arc.specs.declared.arc.ArcDirection.TheVariants.{Clockwise, Counterclockwise}
 
 -- the corner that is joined, the points that its sections are moved to, the directions of the sections before and after it,
 -- how far they are moved, and the sense of the turn
@@ -29,11 +30,6 @@ joint center first last incoming outgoing radius sense = record {
   radius = radius;
   sense = sense;
 }
-
--- 1 for a turn to the left, -1 for one to the right
-abbrev pub sense_of : ArcDirection → ℤ
-sense_of Counterclockwise = pos 1
-sense_of Clockwise = negsuc 0
 
 -- the point beside `center` that a section with the direction `n` is moved to: to its right for a turn to the left, else to its left
 abbrev pub contact : ℕ → ℤ → ArcDirection → Point → Point → Point
@@ -60,3 +56,7 @@ IsWithinPadding padding v p = IsInRectangle (minus v (padding, padding), plus v 
 -- both ends of each edge are away from `v` by at most the padding in each coordinate
 abbrev pub StaysWithin : ℤ → Point → List Edge → Type 0
 StaysWithin padding v es = All (λ (e : Edge). IsWithinPadding padding v e.0 × IsWithinPadding padding v e.1) es
+
+-- whether an edge does not turn back round the corner
+abbrev pub runs_ahead : Joint → Edge → Bool
+runs_ahead j e = int_le (pos 0) (sense_of j.sense *ℤ turn j.center e.0 e.1)

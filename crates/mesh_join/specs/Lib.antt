@@ -6,5 +6,8 @@ pub mod Joins
 pub mod Joints
 pub mod Methods
 pub mod Miters
+pub mod RoundJoins
 pub mod Styles
 pub mod Midway
+pub use Rattle.mesh_arc.specs.Arcs
+pub use Rattle.mesh_arc.specs.Gaps

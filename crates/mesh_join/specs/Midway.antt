@@ -1,1 +1,2 @@
 pub mod Miters
+pub mod RoundJoins

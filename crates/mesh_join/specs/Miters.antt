@@ -3,11 +3,11 @@
 use Rattle.std.specs.Prelude.{ℕ, Bool, ◌&&◌, ◌||◌, List, [], ◌∷◌, ◌/◌, ◌-◌, ◌^◌, min, max, ℤ, pos, ◌+ℤ◌, ◌-ℤ◌, ◌*ℤ◌, unsigned_abs, int_le, int_lt, if◌then◌else◌}
 use Rattle.std.specs.List.{list_all}
 use Rattle.std.specs.Ordering.{int_eq}
-use Rattle.mesh_plane.specs.Plane.{Point, Edge, plus, minus, opposite, cross, dot, turn}
+use Rattle.mesh_plane.specs.Plane.{Point, plus, minus, opposite, cross, dot}
 use Rattle.mesh_plane.specs.Winding.{route}
 use Rattle.mesh_num.specs.Direction.{scaled_direction}
 use Rattle.mesh_num.specs.Quotient.{rounded_product}
-use Rattle.mesh_join.specs.Joints.{Joint, sense_of}
+use Rattle.mesh_join.specs.Joints.{Joint, runs_ahead}
 use Rattle.mesh_sine.specs.Sine.{sin_cos}
 
 -- what a miter is asked for, in angle bits: the sharpest angle that has a peak, and the turn below which it is a bevel
@@ -83,10 +83,6 @@ miter_tip angle unit j = if is_sharp angle j then clip_points angle unit j else 
 abbrev pub is_near : ℤ → Point → Point → Bool
 is_near padding v p =
     (int_le (v.0 -ℤ padding) p.0 && int_le p.0 (v.0 +ℤ padding)) && (int_le (v.1 -ℤ padding) p.1 && int_le p.1 (v.1 +ℤ padding))
-
--- whether an edge does not turn back round the corner
-abbrev pub runs_ahead : Joint → Edge → Bool
-runs_ahead j e = int_le (pos 0) (sense_of j.sense *ℤ turn j.center e.0 e.1)
 
 -- whether the points can be used: each is near the corner, and no edge through them turns back round it
 unfoldable pub are_usable : ℤ → Joint → List Point → Bool

@@ -1,33 +1,34 @@
 //! Joins of outer corners.
 
-ghost use Rattle.std.specs.Prelude.{◌≡◌, ◌≤◌, ◌++◌, vec_capacity, OnOk, OnErr, IsOk, pos, ◌≤ℤ◌, unsigned_abs};
+ghost use Rattle.std.specs.Prelude.{◌≡◌, ◌≤◌, ◌++◌, vec_capacity, OnOk, OnErr, IsOk, IsTrue, pos, ◌≤ℤ◌, unsigned_abs};
 ghost use Rattle.mesh_num.specs.Segments.{edges_of, proper_edges};
 ghost use Rattle.mesh_join.specs.Appending.{Appends, HasRoomForEdges};
 ghost use Rattle.mesh_join.specs.Joints.{joint, NeverTurnsBack, StaysWithin};
-ghost use Rattle.mesh_join.specs.Joins.{join_edges, join_padding, IsJoint};
+ghost use Rattle.mesh_join.specs.Joins.{join_edges, join_padding, has_few, IsJoint};
 
-use crate::arc::ArcDirection;
 use crate::bevel;
 use crate::joint::{Joint, coordinates, is_one_point};
 use crate::miter::{self, Miter};
+use crate::round::{self, Round};
 use crate::style::IntLineJoin;
+use mesh_arc::arc::ArcDirection;
 use mesh_num::num::{Angle, IntNumber, IntPoint, UnitIntVector, WideNumber};
 use mesh_num::shape::segment::Segment;
 use std::alloc::{AllocError, Global};
-use std::marker::{Model, PhantomData};
+use std::marker::Model;
 
 /// How a join is drawn. A bevel keeps the turn below which a miter would be one, which it has no use for.
 #[derive(Debug, Drop)]
-pub(crate) enum Method {
+pub(crate) enum Method<I: IntNumber> {
     Bevel(Angle),
     Miter(Miter),
+    Round(Round<I>),
 }
 
 /// Adds the edges that connect both offset points of an outer corner. Contracts see its style.
 #[derive(Debug, Drop)]
 pub struct Join<I: IntNumber> {
-    method: Method,
-    coordinate: PhantomData<I>,
+    method: Method<I>,
 }
 
 impl<I: IntNumber> Model for Join<I> {
@@ -41,17 +42,15 @@ impl<I: IntNumber> Model for Join<I> {
 
 impl<I: IntNumber> Join<I> {
     /// A join of this kind; `min_turn` is the turn below which a miter is a bevel. It takes no memory.
-    pub fn new(_alloc: Global, kind: IntLineJoin, min_turn: Angle) -> Self
+    pub fn new(alloc: Global, kind: IntLineJoin, min_turn: Angle) -> Self
         ensures { result ≡ record { kind = kind; min_turn = min_turn } }
     {
         let method = match kind {
             IntLineJoin::Bevel => Method::Bevel(min_turn),
             IntLineJoin::Miter(angle) => Method::Miter(Miter::new(angle, min_turn)),
+            IntLineJoin::Round(options) => Method::Round(Round::new(alloc, options, min_turn)),
         };
-        Join {
-            method,
-            coordinate: PhantomData,
-        }
+        Join { method }
     }
 
     /// How far a join of this kind reaches from its corner in each coordinate, in grid units: at least the size of the
@@ -63,13 +62,14 @@ impl<I: IntNumber> Join<I> {
         match kind {
             IntLineJoin::Bevel => bevel::padding(radius),
             IntLineJoin::Miter(angle) => miter::padding(angle, radius),
+            IntLineJoin::Round(_) => round::padding(radius),
         }
     }
 
     /// Adds the edges of the join round `center` from `a` to `b`, the contact points of the directions before and after
     /// the corner, none where `a` equals `b`, which takes no memory. The edges never turn back round `center`, and stay
-    /// within the padding. Where there is room for them it succeeds. After a refusal the vector is cut back to its old
-    /// length.
+    /// within the padding. Where there is room for them it succeeds, but for a round join, whose arc has a buffer of its own.
+    /// After a refusal the vector is cut back to its old length.
     ///
     /// The radius, in grid units, is at least 0. Both directions are fresh, and do not turn back from the first to the
     /// second in the sense of the arc. The corner stays in the safe range where it moves by the padding.
@@ -96,7 +96,7 @@ impl<I: IntNumber> Join<I> {
             (join_edges I.unit self.old (joint center a b incoming outgoing (I.value radius) direction)) }
         ensures err { OnErr result (segments.new.items ≡ segments.old.items) }
         ensures same_ends { a ≡ b → IsOk result }
-        ensures room { HasRoomForEdges segments.old
+        ensures room { IsTrue (has_few self.old.kind) → HasRoomForEdges segments.old
             (join_edges I.unit self.old (joint center a b incoming outgoing (I.value radius) direction)) → IsOk result }
         ensures capacity { vec_capacity segments.old ≤ vec_capacity segments.new }
         ensures same { self.new ≡ self.old }
@@ -113,20 +113,22 @@ impl<I: IntNumber> Join<I> {
         self.draw(&joint, segments)
     }
 
-    fn draw(&self, joint: &Joint<I>, segments: &mut Vec<Segment<I>>) -> Result<(), AllocError>
-        requires { IsJoint I.unit self.now joint.now }
-        ensures ok { OnOk result (Appends segments.old segments.new (join_edges I.unit self.now joint.now)) }
+    fn draw(&mut self, joint: &Joint<I>, segments: &mut Vec<Segment<I>>) -> Result<(), AllocError>
+        requires { IsJoint I.unit self.old joint.now }
+        ensures ok { OnOk result (Appends segments.old segments.new (join_edges I.unit self.old joint.now)) }
         ensures err { OnErr result (segments.new.items ≡ segments.old.items) }
         ensures same_ends { joint.now.first ≡ joint.now.last → IsOk result }
-        ensures room { HasRoomForEdges segments.old (join_edges I.unit self.now joint.now) → IsOk result }
+        ensures room { IsTrue (has_few self.old.kind) → HasRoomForEdges segments.old (join_edges I.unit self.old joint.now) → IsOk result }
         ensures capacity { vec_capacity segments.old ≤ vec_capacity segments.new }
+        ensures same { self.new ≡ self.old }
     {
         if is_one_point(coordinates(joint.first), coordinates(joint.last)) {
             return Ok(());
         }
-        if let Method::Miter(miter) = &self.method {
-            return miter.add(joint, segments);
+        match &mut self.method {
+            Method::Bevel(_) => bevel::add(joint.first, joint.last, segments),
+            Method::Miter(miter) => miter.add(joint, segments),
+            Method::Round(round) => round.add(joint, segments),
         }
-        bevel::add(joint.first, joint.last, segments)
     }
 }

@@ -6,9 +6,9 @@ ghost use Rattle.mesh_plane.specs.Plane.{plus, minus, cross as cross_of, dot as 
 ghost use Rattle.mesh_plane.specs.Winding.{same_point};
 ghost use Rattle.mesh_num.specs.Rectangle.{IsSafeWidened};
 ghost use Rattle.mesh_join.specs.Midway.Miters.{IsNarrow};
-ghost use Rattle.mesh_join.specs.Miters.{is_near as is_near_to, runs_ahead, are_usable};
+ghost use Rattle.mesh_join.specs.Miters.{is_near as is_near_to, are_usable};
 
-use crate::arc::ArcDirection;
+use mesh_arc::arc::ArcDirection;
 use mesh_num::num::convert::{narrow, widen};
 use mesh_num::num::{IntNumber, IntPoint, UnitIntVector};
 use std::marker::Model;
@@ -30,7 +30,7 @@ pub(crate) struct Joint<I: IntNumber> {
 }
 
 impl<I: IntNumber> Model for Joint<I> {
-    ghost use Rattle.mesh_join.specs.Joints.{Joint, joint};
+    ghost use Rattle.mesh_join.specs.Joints.{Joint, joint, runs_ahead};
 
     ghost Value = { Joint };
 
@@ -80,6 +80,13 @@ impl<I: IntNumber> Joint<I> {
         } else {
             None
         }
+    }
+
+    /// Whether neither the edge from `last` to the point nor that from the point to the last point turns back.
+    pub(crate) fn runs_on(&self, last: IntPoint<I>, point: IntPoint<I>) -> bool
+        ensures { result ≡ (runs_ahead self.now (last, point) && runs_ahead self.now (point, self.now.last)) }
+    {
+        self.runs_ahead(last, point) && self.runs_ahead(point, self.last)
     }
 
     // Whether no edge through the point turns back round the corner.

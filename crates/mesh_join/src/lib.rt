@@ -5,12 +5,13 @@
 //! `join` choose between the kinds.
 #![tactic(auto)]
 
-pub mod arc;
 mod bevel;
 pub mod join;
 mod joint;
 mod miter;
+mod round;
 mod route;
 pub mod style;
 
+pub use mesh_arc::arc;
 pub use mesh_clean::{laws, uniq_iter};

@@ -2,6 +2,7 @@
 
 ghost use Rattle.std.specs.Prelude.{◌≡◌};
 
+use mesh_arc::arc::ArcOptions;
 use mesh_num::num::{Angle, IntNumber};
 
 /// The arithmetic of a construction. Whole numbers give the same result on every machine.
@@ -22,6 +23,9 @@ pub enum IntLineJoin {
     /// clipped by an edge whose ends are as far away as the peak of this angle would be. Slight turns are bevelled, and
     /// corners whose peak would turn back or lie past the padding.
     Miter(Angle),
+    /// An arc round the corner, whose points are at most the greatest step of the options apart, seen from the corner.
+    /// Points that rounding puts behind the one before them are left out.
+    Round(ArcOptions),
 }
 
 /// The turn below which a miter is a bevel, in bits of 2^32 a turn: 5 degrees, cut.

@@ -19,9 +19,10 @@ use Rattle.mesh_num.proofs.Scaling.{scaled_direction_opposite_radius, scaled_tur
 use Rattle.mesh_num.proofs.Directed.{direction_of_is}
 use Rattle.mesh_join.proofs.JoinLaws.{KeepsJoint, KeepsJoints}
 use Rattle.mesh_join.proofs.Joins.{join_keeps}
-use Rattle.mesh_join.specs.declared.arc.ArcDirection.TheVariants.{Clockwise, Counterclockwise}
+use Rattle.mesh_arc.specs.declared.arc.ArcDirection.TheVariants.{Clockwise, Counterclockwise}
 use Rattle.mesh_join.specs.Joins.{IsJoint}
-use Rattle.mesh_join.specs.Joints.{IsTurn, contact, sense_of}
+use Rattle.mesh_arc.specs.Arcs.{sense_of}
+use Rattle.mesh_join.specs.Joints.{IsTurn, contact}
 use Rattle.mesh_join.specs.Styles.{OffsetJoin}
 use Rattle.mesh_outline.specs.Outline.{Section, Corner, own_edge, sideways, section_of, parts, sense_for, joint_at, IsRing}
 use Rattle.mesh_draw.specs.Drawing.{sided}

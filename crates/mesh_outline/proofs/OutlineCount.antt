@@ -23,9 +23,10 @@ use Rattle.mesh_plane.proofs.ClosedLists.{all_flat_map}
 use Rattle.mesh_plane.proofs.Triangles.{parallelogram_winds, parallelogram_winds_back}
 use Rattle.mesh_plane.proofs.Pieces.{fan_winds, fan_winds_back, pieces_counted, opposite_pieces_counted}
 use Rattle.mesh_join.proofs.JoinLaws.{KeepsJoint}
-use Rattle.mesh_join.specs.declared.arc.ArcDirection.{ArcDirection}
-use Rattle.mesh_join.specs.declared.arc.ArcDirection.TheVariants.{Clockwise, Counterclockwise}
-use Rattle.mesh_join.specs.Joints.{NeverTurnsBack, sense_of}
+use Rattle.mesh_arc.specs.declared.arc.ArcDirection.{ArcDirection}
+use Rattle.mesh_arc.specs.declared.arc.ArcDirection.TheVariants.{Clockwise, Counterclockwise}
+use Rattle.mesh_arc.specs.Arcs.{sense_of}
+use Rattle.mesh_join.specs.Joints.{NeverTurnsBack}
 use Rattle.mesh_join.specs.Styles.{OffsetJoin}
 use Rattle.mesh_outline.specs.Outline.{Corner, own_edge, strip, outer_edges, corner_pieces, drawn_pieces, sideways, section_of, parts, sense_for, joint_at, joined, ring_outline, ring_pieces, IsRing}
 use Rattle.mesh_draw.specs.Drawing.{sided}

@@ -12,8 +12,8 @@ use Rattle.mesh_clean.specs.Cleaned.{cleaned_sections}
 use Rattle.mesh_join.specs.Joins.{join_points, through}
 use Rattle.mesh_join.specs.Joints.{Joint, joint}
 use Rattle.mesh_join.specs.Styles.{OffsetJoin}
-use Rattle.mesh_join.specs.declared.arc.ArcDirection.{ArcDirection}
-use Rattle.mesh_join.specs.declared.arc.ArcDirection.TheVariants.{Clockwise, Counterclockwise}
+use Rattle.mesh_arc.specs.declared.arc.ArcDirection.{ArcDirection}
+use Rattle.mesh_arc.specs.declared.arc.ArcDirection.TheVariants.{Clockwise, Counterclockwise}
 
 -- an edge of the contour from `a` to `b`, its direction, and where the two ends lie once it has been moved
 pub record Section : Type 0 where
