@@ -10,17 +10,17 @@ use Rattle.mesh_arc.specs.Gaps.{NoStepFails, default_options}
 use Rattle.mesh_arc.proofs.FineSteps.{default_steps}
 use Rattle.mesh_arc.specs.declared.arc.ArcDirection.{ArcDirection}
 
-on_ok_of_err : {A E P : Type 0} (r : Result A E) → IsErr r → OnOk r P
-on_ok_of_err (Ok x) h = absurd (true≢false (sym h))
-on_ok_of_err (Err e) h = tt
+on_ok_of_err : {A E : Type 0} (P : Type 0) (r : Result A E) → IsErr r → OnOk r P
+on_ok_of_err P (Ok x) h = absurd (true≢false (sym h))
+on_ok_of_err P (Err e) h = tt
 
 on_err : {A E P : Type 0} (r : Result A E) → P → OnErr r P
 on_err (Ok x) p = tt
 on_err (Err e) p = p
 
-pub if_ok_of_err : {A E : Type 0} {P : A → Type 0} (r : Result A E) → IsErr r → IfOk r P
-if_ok_of_err (Ok x) h = absurd (true≢false (sym h))
-if_ok_of_err (Err e) h = tt
+pub if_ok_of_err : {A E : Type 0} (P : A → Type 0) (r : Result A E) → IsErr r → IfOk r P
+if_ok_of_err P (Ok x) h = absurd (true≢false (sym h))
+if_ok_of_err P (Err e) h = tt
 
 -- a refusal that is passed on
 pub built_passed : (unit : ℕ) (old new : Building) (sense : ArcDirection) (from end : Point) {A B E F : Type 0} (e : E) (r : Result B F)
@@ -28,7 +28,7 @@ pub built_passed : (unit : ℕ) (old new : Building) (sense : ArcDirection) (fro
 built_passed unit old new sense from end e r b h = record {
   options = b.options;
   room = b.room;
-  directions = on_ok_of_err r h;
+  directions = on_ok_of_err _ r h;
   none = on_err r b.none;
 }
 

@@ -1,8 +1,9 @@
 -- What is filled is the arc of the options.
-use Rattle.std.proofs.Common.{◌≡◌, ◌≤◌, refl, sym, ◌∙◌, subst, arith, length, vec_capacity, List}
+use Rattle.std.proofs.Common.{◌≡◌, ◌≤◌, refl, sym, ◌∙◌, subst, ap, arith, length, vec_capacity, List}
 use Rattle.std.specs.Prelude.{OnOk, IsOk}
 use Rattle.mesh_plane.specs.Plane.{Point}
 use Rattle.mesh_arc.specs.Arcs.{step_of, bound_of, stepped, arc}
+use Rattle.mesh_arc.specs.Building.{Building}
 use Rattle.mesh_arc.proofs.Filling.{arc_is}
 use Rattle.mesh_arc.proofs.arc.IntegerArc.rebuild.Goals as goal
 
@@ -21,4 +22,4 @@ returns-clause-room g c h =
     let room = rw c.steps-steps.ensures at c.fill.ensures.room in
     let l : length (stepped c.args.direction (bound_of c.args.self.now.options) (step_of g.I.IntNumber.unit c.args.self.now.options c.args.direction) c.args.from c.args.to) ≤ c.args.self.now.room =
     rw (arc_is g.I.IntNumber.unit c.args.self.now.options c.args.direction c.args.from c.args.to) h in
-    room (rw c.self.view_is l)
+    room (omega (arith, l, ap (λ (b : Building). b.room) c.self.view_is))
