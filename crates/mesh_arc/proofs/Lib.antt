@@ -5,3 +5,4 @@ pub mod Passing
 pub mod StepConstants
 pub mod FineSteps
 pub mod Turning
+pub mod Short

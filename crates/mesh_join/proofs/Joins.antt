@@ -9,13 +9,14 @@ use Rattle.mesh_num.proofs.Scaling.{scaled_direction_bounded}
 use Rattle.mesh_join.proofs.Bevels.{bevel_keeps}
 use Rattle.mesh_join.proofs.JoinLaws.{KeepsJoints}
 use Rattle.mesh_join.proofs.Miters.{miter_keeps}
+use Rattle.mesh_join.proofs.RoundJoins.{round_keeps}
 use Rattle.mesh_join.specs.Joins.{has_few, join_padding, join_edges, join_points, between}
 use Rattle.mesh_join.specs.Joints.{Joint, IsTurn, IsWithinPadding, NeverTurnsBack, StaysWithin, contact}
 use Rattle.mesh_arc.specs.declared.arc.ArcDirection.{ArcDirection}
 use Rattle.mesh_arc.specs.declared.arc.ArcDirection.TheVariants.{Clockwise, Counterclockwise}
 use Rattle.mesh_join.specs.Styles.{JoinStyle}
 use Rattle.mesh_join.specs.declared.style.IntLineJoin.{IntLineJoin}
-use Rattle.mesh_join.specs.declared.style.IntLineJoin.TheVariants.{Bevel, Miter}
+use Rattle.mesh_join.specs.declared.style.IntLineJoin.TheVariants.{Bevel, Miter, Round}
 
 pub join_keeps : (unit : ℕ) (style : JoinStyle) → 2 ^ 14 ≤ unit → KeepsJoints unit style
 join_keeps unit style least = by style.kind style.min_turn
@@ -23,15 +24,11 @@ join_keeps unit style least = by style.kind style.min_turn
     by : (kind : IntLineJoin) (min_turn : ℕ) → KeepsJoints unit (record { kind = kind; min_turn = min_turn })
     by Bevel min_turn = bevel_keeps unit min_turn
     by (Miter angle) min_turn = miter_keeps unit angle min_turn
+    by (Round options) min_turn = round_keeps unit options min_turn least
 
 -- the padding of each kind covers the radius
 pub padding_covers : (style : JoinStyle) (radius : ℤ) → pos (unsigned_abs radius) ≤ℤ join_padding style.kind radius
 padding_covers style = (join_keeps (2 ^ 14) style (omega arith)).covers
-
--- each kind has few edges
-pub each_has_few : (kind : IntLineJoin) → IsTrue (has_few kind)
-each_has_few Bevel = refl
-each_has_few (Miter _) = refl
 
 -- ---- what a join keeps at each turn
 

@@ -1,6 +1,7 @@
 -- Lemmas over points: what the steps of joins need to know of a corner.
-use Rattle.std.proofs.Common.{◌≡◌, ℕ, ◌*◌, ap, sym, arith}
-use Rattle.std.specs.Prelude.{ℤ, pos, negsuc, ◌*ℤ◌, int_le}
+use Rattle.std.proofs.Common.{◌≡◌, ℕ, ◌*◌, Bool, true, false, refl, ap, sym, arith}
+use Rattle.std.specs.Prelude.{ℤ, pos, negsuc, ◌*ℤ◌, ◌≤ℤ◌, ◌&&◌, int_le}
+use Rattle.std.proofs.lemmas.Bool.{false≢true}
 use Rattle.std.proofs.lemmas.Int.{ints}
 use Rattle.mesh_plane.specs.Bounds.{IsSafe, IsWithin, IsSmall}
 use Rattle.mesh_plane.specs.Plane.{Point}

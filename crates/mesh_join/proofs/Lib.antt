@@ -4,4 +4,5 @@ pub mod Joints
 pub mod Joins
 pub mod Miters
 pub mod Quotients
+pub mod RoundJoins
 pub mod Sines

@@ -19,8 +19,7 @@ use Rattle.mesh_sine.proofs.Small.{sine_not_small}
 use Rattle.mesh_join.proofs.Bevels.{nothing_between}
 use Rattle.mesh_num.specs.Rectangle.{IsSafeWidened}
 use Rattle.mesh_num.specs.Segments.{segments_of}
-use Rattle.mesh_join.proofs.Joints.{within_safe}
-use Rattle.mesh_join.proofs.Joints.{both_are, le_test}
+use Rattle.mesh_join.proofs.Joints.{within_safe, both_are, le_test}
 use Rattle.mesh_join.proofs.JoinLaws.{KeepsJoint, KeepsJoints}
 use Rattle.mesh_join.specs.Joins.{between, through}
 use Rattle.mesh_arc.specs.Arcs.{sense_of}
