@@ -1,8 +1,7 @@
 //! Laws of cleaned contours. Each function does nothing: its clause is the law.
 
-ghost use Rattle.mesh_clean.specs.Laws.{
-  CleanedContoursWindAlike, CleanedContoursAreClean, EqualPointsHaveNoSections, CleanedContoursBegin,
-};
+ghost use Rattle.mesh_clean.specs.Laws.{CleanedContoursWindAlike, CleanedContoursAreClean, EqualPointsHaveNoSections};
+ghost use Rattle.mesh_clean.specs.Laws.{CleanedContoursBegin};
 
 /// At every point of every grid a cleaned contour winds as often as the contour.
 pub fn cleaned_contours_wind_alike()

@@ -165,7 +165,7 @@ fn straight_on<I: IntNumber>(
     ensures sections { MatchOption result.1
         ((open_sections (from ∷ to ∷ points.old) ≡ open_sections (from ∷ result.0 ∷ [])) × (points.new ≡ []))
         (λ next. open_sections (from ∷ to ∷ points.old)
-            ≡ (from, result.0) ∷ open_sections (result.0 ∷ next ∷ points.new)) }
+        ≡ (from, result.0) ∷ open_sections (result.0 ∷ next ∷ points.new)) }
     ensures safe { MatchOption result.1 (IsSafe I.unit result.0)
         (λ next. All (IsSafe I.unit) (result.0 ∷ next ∷ points.new)) }
 {
@@ -186,7 +186,7 @@ fn first_other<'a, I: IntNumber>(
     requires { All (IsSafe I.unit) points.now }
     ensures sections { MatchOption result (AllEqual (first ∷ points.now))
         (λ r. (same_point first r.0 ≡ false) × (AllEqual (first ∷ points.now) → ⊥)
-            × (cleaned_sections (first ∷ points.now) ≡ cleaned_sections (first ∷ r.0 ∷ r.1.now))) }
+        × (cleaned_sections (first ∷ points.now) ≡ cleaned_sections (first ∷ r.0 ∷ r.1.now))) }
     ensures safe { IfSome result (λ r. All (IsSafe I.unit) (r.0 ∷ r.1.now)) }
 {
     let mut rest = points;

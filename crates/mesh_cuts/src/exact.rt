@@ -1,16 +1,13 @@
 //! Exact tests of edges against each other. Coordinates may be any `i32`; no value passes 128 bits.
 
-ghost use Rattle.std.specs.Prelude.{
-  ◌≡◌, ◌↔◌, ℕ, ◌+◌, ◌*◌, ◌/◌, ◌^◌, ◌<◌, ℤ, pos, ◌+ℤ◌, ◌-ℤ◌, ◌*ℤ◌, unsigned_abs, IsTrue, MatchOption,
-};
+ghost use Rattle.std.specs.Prelude.{◌≡◌, ◌↔◌, ℕ, ◌+◌, ◌*◌, ◌/◌, ◌^◌, ◌<◌, ℤ, pos, ◌+ℤ◌, ◌-ℤ◌, ◌*ℤ◌, unsigned_abs};
+ghost use Rattle.std.specs.Prelude.{IsTrue, MatchOption};
 ghost use Rattle.mesh_plane.specs.Bounds.{IsSmall, IsSafe};
 ghost use Rattle.mesh_plane.specs.Order.{point_lt};
 ghost use Rattle.mesh_plane.specs.Plane.{Point, minus, cross, turn};
 ghost use Rattle.mesh_plane.specs.Winding.{same_point};
-ghost use Rattle.mesh_cuts.specs.Split.{
-  same_edge, is_end, IsBetween, IsInBox, IsInside, AreOpposite, IsCrossing, rounded_quotient, crossing_at,
-  rounded_crossing, Meets,
-};
+ghost use Rattle.mesh_cuts.specs.Split.{same_edge, is_end, IsBetween, IsInBox, IsInside, AreOpposite, IsCrossing};
+ghost use Rattle.mesh_cuts.specs.Split.{rounded_quotient, crossing_at, rounded_crossing, Meets};
 ghost use Rattle.mesh_cuts.specs.Split.{AreClear};
 
 use crate::grid::{GridEdge, GridPoint};

@@ -1,9 +1,6 @@
 //! Laws of the boundary of split segments. Each function does nothing: its clause is the law.
 
-ghost use Rattle.mesh_regions.specs.Laws.{
-  BoundariesWindOnce,
-  BoundariesAreBalanced,
-};
+ghost use Rattle.mesh_regions.specs.Laws.{BoundariesWindOnce, BoundariesAreBalanced};
 
 /// The boundary winds once round the points where the winding is filled, and round no other.
 pub fn boundaries_wind_once()

@@ -1,9 +1,8 @@
 //! Shapes of rings: order and grouping.
 
-ghost use Rattle.std.specs.Prelude.{
-  ◌≡◌, ◌⊎◌, ℕ, ◌+◌, ◌*◌, ◌^◌, ◌<◌, ◌≤◌, Bool, true, false, not, ◌&&◌, cond, List, [], ◌∷◌, ◌++◌, map, length, take,
-  drop, reverse, slice_index_or, nat_le, nat_eq, unsigned_abs, int_lt, pos, IfOk, OnOk, MatchOption, Vec,
-};
+ghost use Rattle.std.specs.Prelude.{◌≡◌, ◌⊎◌, ℕ, ◌+◌, ◌*◌, ◌^◌, ◌<◌, ◌≤◌, Bool, true, false, not, ◌&&◌, cond, List, []};
+ghost use Rattle.std.specs.Prelude.{◌∷◌, ◌++◌, map, length, take, drop, reverse, slice_index_or, nat_le, nat_eq};
+ghost use Rattle.std.specs.Prelude.{unsigned_abs, int_lt, pos, IfOk, OnOk, MatchOption, Vec};
 ghost use Rattle.std.specs.declared.alloc.Global.{Global};
 ghost use Rattle.std.specs.Option.{ForSome};
 ghost use Rattle.std.specs.List.{All, filter, enumerate_from};
@@ -12,15 +11,12 @@ ghost use Rattle.mesh_plane.specs.Bounds.{IsSafe};
 ghost use Rattle.mesh_plane.specs.Plane.{Point};
 ghost use Rattle.mesh_shapes.specs.Contours.{reversed, double_area};
 ghost use Rattle.mesh_shapes.specs.Vectors.{HeldRing, ring_held, rings_held, points_of, shapes_points};
-ghost use Rattle.mesh_shapes.specs.Midway.Grouping.{
-  ring_at, areas_of, IsHome, AreHomes, AreWithin, AreMembers, HaveMembers, IsPutHome, contour_at, shape_at, headed,
-  all_shapes,
-};
+ghost use Rattle.mesh_shapes.specs.Midway.Grouping.{ring_at, areas_of, IsHome, AreHomes, AreWithin, AreMembers};
+ghost use Rattle.mesh_shapes.specs.Midway.Grouping.{HaveMembers, IsPutHome, contour_at, shape_at, headed, all_shapes};
 ghost use Rattle.mesh_shapes.specs.Midway.Holders.{edges_of};
 ghost use Rattle.mesh_shapes.specs.Midway.Rows.{AreRows};
-ghost use Rattle.mesh_shapes.specs.Resolution.{
-  is_large, points_lt, is_head, shape_of, rings_by_shape, answered, AreArranged,
-};
+ghost use Rattle.mesh_shapes.specs.Resolution.{is_large, points_lt, is_head, shape_of, rings_by_shape, answered};
+ghost use Rattle.mesh_shapes.specs.Resolution.{AreArranged};
 
 use crate::area::double_area;
 use crate::holders::{holder, ring_edges};

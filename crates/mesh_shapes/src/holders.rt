@@ -1,17 +1,15 @@
 //! The ring that holds a point. The edges of rings stand ring after ring, and so they do in the row of the point: one
 //! pass over it tells how often each ring winds round the point.
 
-ghost use Rattle.std.specs.Prelude.{
-  ◌≡◌, ℕ, ◌+◌, ◌^◌, ◌<◌, ◌≤◌, true, not, List, ◌∷◌, ◌++◌, length, pos, unsigned_abs, IfOk, OnOk, MatchOption,
-};
+ghost use Rattle.std.specs.Prelude.{◌≡◌, ℕ, ◌+◌, ◌^◌, ◌<◌, ◌≤◌, true, not, List, ◌∷◌, ◌++◌, length, pos, unsigned_abs};
+ghost use Rattle.std.specs.Prelude.{IfOk, OnOk, MatchOption};
 ghost use Rattle.std.specs.Option.{ForSome};
 ghost use Rattle.std.specs.Ordering.{int_eq};
 ghost use Rattle.mesh_plane.specs.Plane.{Point};
 ghost use Rattle.mesh_plane.specs.Winding.{boundary};
 ghost use Rattle.mesh_shapes.specs.Midway.Grouping.{ring_at, areas_of, is_round_at, is_less_at};
-ghost use Rattle.mesh_shapes.specs.Midway.Holders.{
-  PlacedEdge, with_place, ring_edges, edges_of, Rise, IsRowOf, IsSearch,
-};
+ghost use Rattle.mesh_shapes.specs.Midway.Holders.{PlacedEdge, with_place, ring_edges, edges_of, Rise, IsRowOf};
+ghost use Rattle.mesh_shapes.specs.Midway.Holders.{IsSearch};
 ghost use Rattle.mesh_shapes.specs.Midway.Progress.{IsFound};
 ghost use Rattle.mesh_shapes.specs.Resolution.{Ring};
 ghost use Rattle.mesh_shapes.specs.Vectors.{rings_held};

@@ -1,16 +1,14 @@
 //! What is answered of a contour: its vertices from its start on, and its side point.
 
-ghost use Rattle.std.specs.Prelude.{
-  ◌≡◌, ◌≢◌, ℕ, ◌+◌, ◌^◌, ◌<◌, ◌≤◌, ◌||◌, Bool, false, List, [], ◌∷◌, ◌++◌, ℤ, length, take, drop, IfOk, OnOk,
-};
+ghost use Rattle.std.specs.Prelude.{◌≡◌, ◌≢◌, ℕ, ◌+◌, ◌^◌, ◌<◌, ◌≤◌, ◌||◌, Bool, false, List, [], ◌∷◌, ◌++◌, ℤ, length};
+ghost use Rattle.std.specs.Prelude.{take, drop, IfOk, OnOk};
 ghost use Rattle.std.specs.List.{All};
 ghost use Rattle.mesh_plane.specs.Bounds.{IsSmall, IsSafe};
 ghost use Rattle.mesh_plane.specs.Plane.{Point, Edge, dot, cross};
 ghost use Rattle.mesh_plane.specs.Winding.{boundary, same_point};
 ghost use Rattle.mesh_shapes.specs.Contours.{turns_at, first_or, kept, vertices, side_point, IsRingOf};
-ghost use Rattle.mesh_shapes.specs.Midway.Progress.{
-  point_at, next_at, IsBestVisit, IsLeastBefore, point_after, kept_after,
-};
+ghost use Rattle.mesh_shapes.specs.Midway.Progress.{point_at, next_at, IsBestVisit, IsLeastBefore, point_after};
+ghost use Rattle.mesh_shapes.specs.Midway.Progress.{kept_after};
 
 use mesh_cuts::exact::{cross, is_before, minus, product, same_point};
 use mesh_cuts::fine::{FinePoint, middle};

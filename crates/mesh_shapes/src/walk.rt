@@ -1,9 +1,7 @@
 //! The walk along a boundary: its edges become closed contours.
 
-ghost use Rattle.std.specs.Prelude.{
-  ◌≡◌, ◌⊎◌, ℕ, ◌+◌, ◌<◌, ◌≤◌, ◌↔◌, IsTrue, Bool, true, false, List, [], ◌∷◌, ◌++◌, ℤ, ◌+ℤ◌, length, slice_index_or,
-  MatchOption, IfOk, OnOk,
-};
+ghost use Rattle.std.specs.Prelude.{◌≡◌, ◌⊎◌, ℕ, ◌+◌, ◌<◌, ◌≤◌, ◌↔◌, IsTrue, Bool, true, false, List, [], ◌∷◌, ◌++◌, ℤ};
+ghost use Rattle.std.specs.Prelude.{◌+ℤ◌, length, slice_index_or, MatchOption, IfOk, OnOk};
 ghost use Rattle.mesh_plane.specs.Order.{point_lt};
 ghost use Rattle.mesh_plane.specs.Plane.{Point, Edge};
 ghost use Rattle.mesh_plane.specs.Winding.{sum_of, boundary, IsBalanced};

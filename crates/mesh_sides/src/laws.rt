@@ -1,11 +1,7 @@
 //! Laws of the sides of split segments. Each function does nothing: its clause is the law.
 
-ghost use Rattle.mesh_sides.specs.Laws.{
-  SidesAreConstant,
-  SidesFollowFromEnds,
-  SegmentsHaveNeighbours,
-  FacingSidesAgree,
-};
+ghost use Rattle.mesh_sides.specs.Laws.{SidesAreConstant, SidesFollowFromEnds, SegmentsHaveNeighbours};
+ghost use Rattle.mesh_sides.specs.Laws.{FacingSidesAgree};
 
 /// A side of a split segment has one winding, at all its inner points on every grid.
 pub fn sides_are_constant()

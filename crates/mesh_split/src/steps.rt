@@ -5,9 +5,8 @@ ghost use Rattle.mesh_plane.specs.Winding.{same_point};
 ghost use Rattle.mesh_cuts.specs.Clean.{IsProper};
 ghost use Rattle.mesh_cuts.specs.Split.{is_end, IsInBox, Meets};
 ghost use Rattle.mesh_cuts.specs.Split.{IsForward};
-ghost use Rattle.mesh_split.specs.Midway.Steps.{
-  AllClear, Puts, PutsPieces, Settles, IsPile, KeepsPile, exactly, weight, total_weight,
-};
+ghost use Rattle.mesh_split.specs.Midway.Steps.{AllClear, Puts, PutsPieces, Settles, IsPile, KeepsPile, exactly};
+ghost use Rattle.mesh_split.specs.Midway.Steps.{weight, total_weight};
 ghost use Rattle.mesh_cuts.specs.Counted.{times, IsRoomy};
 
 use crate::hints::Meeting;

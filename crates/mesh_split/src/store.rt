@@ -2,9 +2,8 @@
 //! cells of the plane that its box reaches, where those are sought that a segment may meet. What was taken out stays
 //! listed, so what a cell lists counts only where it lives.
 
-ghost use Rattle.std.specs.Prelude.{
-  ◌≡◌, ℕ, ◌+◌, ◌*◌, ◌<◌, ◌≤◌, true, List, [], ℤ, pos, ◌<ℤ◌, length, MatchOption, IfOk, OnOk, Vec,
-};
+ghost use Rattle.std.specs.Prelude.{◌≡◌, ℕ, ◌+◌, ◌*◌, ◌<◌, ◌≤◌, true, List, [], ℤ, pos, ◌<ℤ◌, length, MatchOption};
+ghost use Rattle.std.specs.Prelude.{IfOk, OnOk, Vec};
 ghost use Rattle.std.specs.declared.alloc.Global.{Global};
 ghost use Rattle.mesh_plane.specs.Plane.{Edge};
 ghost use Rattle.mesh_cuts.specs.Counted.{times};

@@ -3,9 +3,8 @@
 ghost use Rattle.std.specs.Prelude.{◌≡◌, ℕ, ◌*◌, ◌≤◌, ◌↔◌, ℤ, pos, unsigned_abs, IsTrue, IsNone, IfSome, MatchOption};
 ghost use Rattle.mesh_plane.specs.Bounds.{IsSafe};
 ghost use Rattle.mesh_plane.specs.Plane.{length_sq};
-ghost use Rattle.mesh_num.specs.Direction.{
-  IsDirection, IsFresh, IsShort, KeepsOpposites, SameWay, KeepsTurns, KeepsScaledTurns, scaled, scaled_direction,
-};
+ghost use Rattle.mesh_num.specs.Direction.{IsDirection, IsFresh, IsShort, KeepsOpposites, SameWay, KeepsTurns};
+ghost use Rattle.mesh_num.specs.Direction.{KeepsScaledTurns, scaled, scaled_direction};
 
 use crate::num::convert::{narrow, unit, widen};
 use crate::num::exact::square_sum;
