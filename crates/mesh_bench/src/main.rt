@@ -1,15 +1,22 @@
 //! Splits segments that look random, always the same, to measure the splitting. The first argument is their number.
 //! With the second argument `overlay` they are the sides of closed lists of four points, and are resolved into shapes.
+//! With `round` and a third argument so many corners of half a turn are joined by arcs, whose step has so many bits.
 #![tactic(auto)]
 
 ghost use Rattle.std.specs.Prelude.{◌<◌, ◌≤◌, ◌^◌};
 
+use i_overlay_mesh::IntOutlineError;
+use i_overlay_mesh::outline::builder::OutlineBuilder;
+use i_overlay_mesh::outline::kind::ContourKind;
+use i_overlay_mesh::outline::offset::IntOutlineOffset;
 use mesh_below::below::{FillRule, Overlay, OverlayRule};
 use mesh_below::checks::are_resolvable;
 use mesh_below::given::are_proper;
 use mesh_below::grid::GridEdge;
 use mesh_below::splitter::split_edges;
-use mesh_num::num::IntPoint;
+use mesh_join::arc::ArcOptions;
+use mesh_join::style::{IntLineJoin, IntOutlineStyle};
+use mesh_num::num::{Angle, IntPoint, OverlayInt};
 use mesh_num::shape::segment::{Segment, SubjectSegments};
 use std::alloc::{AllocError, Global};
 use std::num::ParseIntError;
@@ -18,6 +25,9 @@ use thiserror::Error;
 
 /// The starts of the segments lie in a square of this side, in grid units.
 const SIDE: u64 = 1_048_576;
+
+/// How far corners are joined from, in grid units.
+const RADIUS: i32 = 1_048_576;
 
 /// Numbers that look random.
 #[derive(Drop)]
@@ -107,8 +117,10 @@ enum BenchError {
     OutOfMemory,
     #[error("the output can't be written")]
     Output,
-    #[error("the first argument is no whole number")]
+    #[error("an argument is no whole number")]
     Count,
+    #[error("a coordinate out of range")]
+    Range,
 }
 
 impl From<AllocError> for BenchError {
@@ -126,6 +138,15 @@ impl From<io::Error> for BenchError {
 impl From<ParseIntError> for BenchError {
     fn from(_error: ParseIntError) -> Self {
         BenchError::Count
+    }
+}
+
+impl From<IntOutlineError> for BenchError {
+    fn from(error: IntOutlineError) -> Self {
+        match error {
+            IntOutlineError::CoordinateOutOfRange => BenchError::Range,
+            IntOutlineError::OutOfMemory => BenchError::OutOfMemory,
+        }
     }
 }
 
@@ -171,10 +192,53 @@ fn resolve(rt: &HostRuntime, count: u64) -> Result<(), BenchError> {
     Ok(())
 }
 
+/// A contour that runs to and fro, as often as asked.
+fn spikes(alloc: Global, count: u64) -> Result<Vec<IntPoint<i32>>, AllocError> {
+    let mut contour = Vec::new(alloc);
+    for _ in 0..count {
+        contour.push(IntPoint::new(0, 0))?;
+        contour.push(IntPoint::new(RADIUS, 0))?;
+    }
+    Ok(contour)
+}
+
+/// The segments of the outline of a contour that moves as an outer boundary does.
+fn outlined<I: OverlayInt>(
+    alloc: Global,
+    contour: &Vec<IntPoint<I>>,
+    style: &IntOutlineStyle<I>,
+) -> Result<Vec<Segment<I>>, IntOutlineError> {
+    contour.validate_outline(style)?;
+    let mut segments = Vec::new(alloc);
+    if let Some(mut builder) = OutlineBuilder::for_kind(alloc, style, ContourKind::Outer) {
+        builder.build(contour, &mut segments)?;
+    }
+    Ok(segments)
+}
+
+fn join(rt: &HostRuntime, count: u64, step: u32) -> Result<(), BenchError> {
+    let contour = spikes(rt.alloc(), count / 2)?;
+    let options = ArcOptions {
+        max_step: Angle::from_bits(step),
+        rotation_precision: 32,
+    };
+    let style = IntOutlineStyle::new(RADIUS).line_join(IntLineJoin::Round(options));
+    let segments = outlined(rt.alloc(), &contour, &style)?;
+    println!(rt;
+        "{} corners give {} segments",
+        contour.len(),
+        segments.len()
+    )?;
+    Ok(())
+}
+
 fn main(rt: HostRuntime) -> Result<(), BenchError> {
     let mut count: u64 = 100;
     if let Some(word) = env::args(&rt)?.nth(1) {
         count = word.parse::<u64>()?;
+    }
+    if let Some(word) = env::args(&rt)?.nth(3) {
+        return join(&rt, count, word.parse::<u32>()?);
     }
     if env::args(&rt)?.nth(2).is_some() {
         return resolve(&rt, count);
