@@ -1,6 +1,7 @@
 //! Splits segments that look random, always the same, to measure the splitting. The first argument is their number.
 //! With the second argument `overlay` they are the sides of closed lists of four points, and are resolved into shapes.
-//! With `round` and a third argument so many corners of half a turn are joined by arcs, whose step has so many bits.
+//! With `round` and a third argument so many corners of half a turn are joined by arcs, whose step has so many bits;
+//! the time of that is told.
 #![tactic(auto)]
 
 ghost use Rattle.std.specs.Prelude.{◌<◌, ◌≤◌, ◌^◌};
@@ -20,6 +21,7 @@ use mesh_num::num::{Angle, IntPoint, OverlayInt};
 use mesh_num::shape::segment::{Segment, SubjectSegments};
 use std::alloc::{AllocError, Global};
 use std::num::ParseIntError;
+use std::time::Instant;
 use std::{env, io};
 use thiserror::Error;
 
@@ -223,11 +225,14 @@ fn join(rt: &HostRuntime, count: u64, step: u32) -> Result<(), BenchError> {
         rotation_precision: 32,
     };
     let style = IntOutlineStyle::new(RADIUS).line_join(IntLineJoin::Round(options));
+    let start = Instant::now(rt)?;
     let segments = outlined(rt.alloc(), &contour, &style)?;
+    let time = start.elapsed(rt)?;
     println!(rt;
-        "{} corners give {} segments",
+        "{} corners give {} segments in {} microseconds",
         contour.len(),
-        segments.len()
+        segments.len(),
+        time.as_micros()
     )?;
     Ok(())
 }
