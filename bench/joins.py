@@ -1,50 +1,44 @@
 #!/usr/bin/env python3
-"""Times round joins of corners of half a turn, by how many directions their arcs have, and prints a table.
+"""Times arcs of half a turn and the round joins that they are drawn with, by how many directions they have.
 
-Build the program first: in crates/mesh_bench run `rt run`.
+Build the program first: in crates/mesh_bench run `rt run`. It prints a table.
 """
 import pathlib
 import re
 import subprocess
-import time
 
 PROGRAM = pathlib.Path(__file__).resolve().parent.parent / "crates/mesh_bench/out/mesh_bench"
 
 # Greatest steps, in bits of 2^32 a turn, with which half a turn has so many directions.
 STEPS = {8: 252_645_135, 64: 33_294_320, 512: 4_194_304}
 
-# About how many edges a run adds.
-EDGES = 1_000_000
+# About how many directions a run has in all.
+DIRECTIONS = 1_000_000
 
 
-def run(corners, step):
-    """The number of segments, and the least of three times in seconds."""
+def run(count, step, *more):
+    """The numbers that the program prints: the count, that of directions or segments, and the least time of five."""
     least = None
-    for _ in range(3):
-        start = time.perf_counter()
-        answer = subprocess.run(
-            [PROGRAM, str(corners), "round", str(step)], capture_output=True, text=True, check=True
-        ).stdout
-        seconds = time.perf_counter() - start
-        least = seconds if least is None else min(least, seconds)
-    corners_again, segments = map(int, re.findall(r"\d+", answer))
-    assert corners_again == corners, answer
-    return segments, least
+    for _ in range(5):
+        words = [PROGRAM, str(count), "round", str(step), *more]
+        answer = subprocess.run(words, capture_output=True, text=True, check=True).stdout
+        told, items, microseconds = map(int, re.findall(r"\d+", answer))
+        assert told == count, answer
+        least = microseconds if least is None else min(least, microseconds)
+    return items, least
 
 
 def main():
-    print("| directions | joins | edges | microseconds a join | nanoseconds an edge |")
-    print("|---|---|---|---|---|")
+    print("| directions | an arc, microseconds | a join, microseconds |")
+    print("|---|---|---|")
     for directions, step in STEPS.items():
-        corners = EDGES // (directions + 2) // 2 * 2
-        segments, seconds = run(corners, step)
-        _, start = run(2, step)
+        count = DIRECTIONS // directions // 2 * 2
+        length, arcs = run(count, step, "arcs")
+        assert length == directions, (length, directions)
+        segments, joins = run(count, step)
         # Each corner has its join, and the moved edge before it.
-        assert segments == corners * (directions + 2), (segments, corners, directions)
-        print(
-            f"| {directions} | {corners} | {segments} | {(seconds - start) / corners * 1e6:.2f} |"
-            f" {(seconds - start) / segments * 1e9:.0f} |"
-        )
+        assert segments == count * (directions + 2), (segments, count, directions)
+        print(f"| {directions} | {arcs / count:.2f} | {joins / count:.2f} |")
 
 
 if __name__ == "__main__":

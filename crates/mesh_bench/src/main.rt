@@ -1,10 +1,11 @@
 //! Splits segments that look random, always the same, to measure the splitting. The first argument is their number.
 //! With the second argument `overlay` they are the sides of closed lists of four points, and are resolved into shapes.
 //! With `round` and a third argument so many corners of half a turn are joined by arcs, whose step has so many bits;
-//! the time of that is told.
+//! with a fourth argument `arcs` the arcs alone are built. The time of either is told.
 #![tactic(auto)]
 
 ghost use Rattle.std.specs.Prelude.{◌<◌, ◌≤◌, ◌^◌};
+ghost use Rattle.mesh_num.specs.Direction.{IsFresh};
 
 use i_overlay_mesh::IntOutlineError;
 use i_overlay_mesh::outline::builder::OutlineBuilder;
@@ -15,9 +16,9 @@ use mesh_below::checks::are_resolvable;
 use mesh_below::given::are_proper;
 use mesh_below::grid::GridEdge;
 use mesh_below::splitter::split_edges;
-use mesh_join::arc::ArcOptions;
+use mesh_join::arc::{ArcDirection, ArcOptions, IntegerArc};
 use mesh_join::style::{IntLineJoin, IntOutlineStyle};
-use mesh_num::num::{Angle, IntPoint, OverlayInt};
+use mesh_num::num::{Angle, IntPoint, IntVector, OverlayInt, UnitIntVector};
 use mesh_num::shape::segment::{Segment, SubjectSegments};
 use std::alloc::{AllocError, Global};
 use std::num::ParseIntError;
@@ -218,13 +219,17 @@ fn outlined<I: OverlayInt>(
     Ok(segments)
 }
 
-fn join(rt: &HostRuntime, count: u64, step: u32) -> Result<(), BenchError> {
-    let contour = spikes(rt.alloc(), count / 2)?;
-    let options = ArcOptions {
+/// Arcs with steps of so many bits.
+fn fine(step: u32) -> ArcOptions {
+    ArcOptions {
         max_step: Angle::from_bits(step),
         rotation_precision: 32,
-    };
-    let style = IntOutlineStyle::new(RADIUS).line_join(IntLineJoin::Round(options));
+    }
+}
+
+fn join(rt: &HostRuntime, count: u64, step: u32) -> Result<(), BenchError> {
+    let contour = spikes(rt.alloc(), count / 2)?;
+    let style = IntOutlineStyle::new(RADIUS).line_join(IntLineJoin::Round(fine(step)));
     let start = Instant::now(rt)?;
     let segments = outlined(rt.alloc(), &contour, &style)?;
     let time = start.elapsed(rt)?;
@@ -237,13 +242,66 @@ fn join(rt: &HostRuntime, count: u64, step: u32) -> Result<(), BenchError> {
     Ok(())
 }
 
+/// How many directions the arc from one direction to another has.
+fn arc_length(
+    arc: &mut IntegerArc<i32>,
+    from: UnitIntVector<i32>,
+    to: UnitIntVector<i32>,
+) -> Result<usize, AllocError>
+    requires from { IsFresh (2 ^ 30) from }
+    requires to { IsFresh (2 ^ 30) to }
+{
+    let directions = arc.build(from, to, ArcDirection::Counterclockwise)?;
+    Ok(directions.len())
+}
+
+fn repeat(
+    rt: &HostRuntime,
+    from: UnitIntVector<i32>,
+    to: UnitIntVector<i32>,
+    count: u64,
+    step: u32,
+) -> Result<(), BenchError>
+    requires from { IsFresh (2 ^ 30) from }
+    requires to { IsFresh (2 ^ 30) to }
+{
+    let mut arc = IntegerArc::new(rt.alloc(), fine(step));
+    let mut length = 0;
+    let start = Instant::now(rt)?;
+    for _ in 0..count {
+        length = arc_length(&mut arc, from, to)?;
+    }
+    let time = start.elapsed(rt)?;
+    println!(rt;
+        "{} arcs of {} directions in {} microseconds",
+        count,
+        length,
+        time.as_micros()
+    )?;
+    Ok(())
+}
+
+fn turn(rt: &HostRuntime, count: u64, step: u32) -> Result<(), BenchError> {
+    let Some(from) = IntVector::<i32>::new(0, -1).fast_normalize() else {
+        return Ok(());
+    };
+    let Some(to) = IntVector::<i32>::new(0, 1).fast_normalize() else {
+        return Ok(());
+    };
+    repeat(rt, from, to, count, step)
+}
+
 fn main(rt: HostRuntime) -> Result<(), BenchError> {
     let mut count: u64 = 100;
     if let Some(word) = env::args(&rt)?.nth(1) {
         count = word.parse::<u64>()?;
     }
     if let Some(word) = env::args(&rt)?.nth(3) {
-        return join(&rt, count, word.parse::<u32>()?);
+        let step = word.parse::<u32>()?;
+        if env::args(&rt)?.nth(4).is_some() {
+            return turn(&rt, count, step);
+        }
+        return join(&rt, count, step);
     }
     if env::args(&rt)?.nth(2).is_some() {
         return resolve(&rt, count);
