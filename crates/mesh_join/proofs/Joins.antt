@@ -1,16 +1,17 @@
 -- Lemmas over points: what the theory of outlines needs holds of each kind of join.
-use Rattle.std.proofs.Common.{ℕ, ◌<◌, ◌≤◌, ◌^◌, refl, arith, subst, sym}
-use Rattle.std.specs.Prelude.{IsTrue, ℤ, pos, ◌≤ℤ◌, unsigned_abs}
+use Rattle.std.proofs.Common.{ℕ, ◌<◌, ◌≤◌, ◌^◌, arith, subst, sym}
+use Rattle.std.specs.Prelude.{ℤ, pos, ◌≤ℤ◌, unsigned_abs}
 use Rattle.std.proofs.lemmas.Int.{ints}
 use Rattle.mesh_plane.specs.Plane.{Point, plus, minus, right_quarter}
 use Rattle.mesh_plane.proofs.ClosedLists.{route_all}
 use Rattle.mesh_num.specs.Direction.{IsShort, scaled_direction}
 use Rattle.mesh_num.proofs.Scaling.{scaled_direction_bounded}
 use Rattle.mesh_join.proofs.Bevels.{bevel_keeps}
+use Rattle.mesh_join.proofs.Joints.{contact_within}
 use Rattle.mesh_join.proofs.JoinLaws.{KeepsJoints}
 use Rattle.mesh_join.proofs.Miters.{miter_keeps}
 use Rattle.mesh_join.proofs.RoundJoins.{round_keeps}
-use Rattle.mesh_join.specs.Joins.{has_few, join_padding, join_edges, join_points, between}
+use Rattle.mesh_join.specs.Joins.{join_padding, join_edges, join_points, between}
 use Rattle.mesh_join.specs.Joints.{Joint, IsTurn, IsWithinPadding, NeverTurnsBack, StaysWithin, contact}
 use Rattle.mesh_arc.specs.declared.arc.ArcDirection.{ArcDirection}
 use Rattle.mesh_arc.specs.declared.arc.ArcDirection.TheVariants.{Clockwise, Counterclockwise}
@@ -31,28 +32,6 @@ pub padding_covers : (style : JoinStyle) (radius : ℤ) → pos (unsigned_abs ra
 padding_covers style = (join_keeps (2 ^ 14) style (omega arith)).covers
 
 -- ---- what a join keeps at each turn
-
--- a point beside a corner is within a padding that covers how far it is away
-right_within : (padding : ℤ) (v s : Point) → pos (unsigned_abs s.0) ≤ℤ padding → pos (unsigned_abs s.1) ≤ℤ padding → IsWithinPadding padding v (plus v (right_quarter s))
-right_within padding v s x y = record { west = omega (arith, ints); south = omega (arith, ints); east = omega (arith, ints); north = omega (arith, ints) }
-
-left_within : (padding : ℤ) (v s : Point) → pos (unsigned_abs s.0) ≤ℤ padding → pos (unsigned_abs s.1) ≤ℤ padding → IsWithinPadding padding v (minus v (right_quarter s))
-left_within padding v s x y = record { west = omega (arith, ints); south = omega (arith, ints); east = omega (arith, ints); north = omega (arith, ints) }
-
--- so the contact points are
-contact_within : (unit : ℕ) (padding radius : ℤ) (sense : ArcDirection) (v n : Point) → 0 < unit → IsShort unit n → pos (unsigned_abs radius) ≤ℤ padding →
-    IsWithinPadding padding v (contact unit radius sense v n)
-contact_within unit padding radius sense v n some short covers = by sense
-  where
-    b : (unsigned_abs (scaled_direction unit radius n).0 ≤ unsigned_abs radius) × (unsigned_abs (scaled_direction unit radius n).1 ≤ unsigned_abs radius)
-    b = scaled_direction_bounded unit radius n some short
-
-    within : (m : ℕ) → m ≤ unsigned_abs radius → pos m ≤ℤ padding
-    within m l = omega (arith, ints)
-
-    by : (sense : ArcDirection) → IsWithinPadding padding v (contact unit radius sense v n)
-    by Counterclockwise = right_within padding v (scaled_direction unit radius n) (within _ b.0) (within _ b.1)
-    by Clockwise = left_within padding v (scaled_direction unit radius n) (within _ b.0) (within _ b.1)
 
 -- a join never turns back round its corner
 pub join_runs_ahead : (unit : ℕ) (style : JoinStyle) (j : Joint) → 2 ^ 14 ≤ unit → IsShort unit j.incoming → IsShort unit j.outgoing → IsTurn unit j →

@@ -1,5 +1,5 @@
 -- Lemmas over points: what the theory of outlines needs of round joins.
-use Rattle.std.proofs.Common.{◌≡◌, ℕ, ◌+◌, ◌*◌, ◌<◌, ◌≤◌, ◌^◌, Bool, true, false, refl, ap, sym, ◌∙◌, subst, arith, List, [], ◌∷◌, ◌++◌, map}
+use Rattle.std.proofs.Common.{◌≡◌, ◌≢◌, ℕ, ◌+◌, ◌*◌, ◌<◌, ◌≤◌, ◌^◌, Bool, true, false, refl, ap, sym, ◌∙◌, subst, arith, List, [], ◌∷◌, ◌++◌, map, take, drop, length, append_assoc, append-nil}
 use Rattle.std.specs.Prelude.{IsTrue, ℤ, pos, neg_ℤ, ◌+ℤ◌, ◌-ℤ◌, ◌*ℤ◌, ◌≤ℤ◌, cond, ◌&&◌, unsigned_abs, int_le}
 use Rattle.std.specs.List.{All}
 use Rattle.std.proofs.lemmas.Bool.{true≢false}
@@ -7,6 +7,9 @@ use Rattle.std.proofs.lemmas.Bool.{cases_lt}
 use Rattle.std.proofs.lemmas.Int.{ints, unsigned_abs-mul}
 use Rattle.std.proofs.lemmas.List.Elements.{All-nil, All-cons, All-head, All-tail}
 use mathlib.Core.Logic.{⊎_elim}
+use Rattle.std.proofs.Math.Seq.{take-append_seam}
+use Rattle.std.proofs.lemmas.List.{take-append-drop}
+use Rattle.mesh_num.proofs.SegmentLists.{segments_of-append}
 use Rattle.mesh_plane.proofs.Comparing.{decides_point}
 use Rattle.mesh_plane.proofs.Rounding.{rounded_within}
 use Rattle.mesh_plane.proofs.Sizes.{size_neg, size_zero}
@@ -30,6 +33,9 @@ use Rattle.mesh_join.proofs.Joints.{both_are, le_test}
 use Rattle.mesh_join.specs.Joins.{between, through}
 use Rattle.mesh_join.specs.Joints.{Joint, IsTurn, IsWithinPadding, NeverTurnsBack, contact, runs_ahead}
 use Rattle.mesh_join.specs.RoundJoins.{joint_arc, arc_point, used, round_points, round_padding}
+use Rattle.mesh_num.specs.Segments.{SignedEdge, segments_of}
+use Rattle.mesh_join.proofs.Joints.{contact_within, near_difference}
+use Rattle.mesh_join.specs.Midway.RoundJoins.{IsApart, IsDrawn}
 use Rattle.mesh_join.specs.Styles.{JoinStyle}
 use Rattle.mesh_join.specs.declared.style.IntLineJoin.TheVariants.{Round}
 
@@ -90,11 +96,23 @@ contact_unmoved unit r sense v n some z = by sense
     y : scaled unit r n.1 ≡ pos 0
     y = scaled_nothing unit r n.1 some z
 
+    east : (v.0 +ℤ scaled unit r n.1) ≡ v.0
+    east = omega (arith, ints, y)
+
+    north : (v.1 +ℤ neg_ℤ (scaled unit r n.0)) ≡ v.1
+    north = omega (arith, ints, x)
+
+    west : (v.0 -ℤ scaled unit r n.1) ≡ v.0
+    west = omega (arith, ints, y)
+
+    south : (v.1 -ℤ neg_ℤ (scaled unit r n.0)) ≡ v.1
+    south = omega (arith, ints, x)
+
     right : plus v (right_quarter (scaled_direction unit r n)) ≡ v
-    right = λ i. (omega (arith, ints, x, y) i, omega (arith, ints, x, y) i)
+    right = λ i. (east i, north i)
 
     left : minus v (right_quarter (scaled_direction unit r n)) ≡ v
-    left = λ i. (omega (arith, ints, x, y) i, omega (arith, ints, x, y) i)
+    left = λ i. (west i, south i)
 
     by : (sense : ArcDirection) → contact unit r sense v n ≡ v
     by Counterclockwise = right
@@ -137,7 +155,7 @@ points_apart unit j least h apart = (rw h.first (away j.incoming h.fresh_incomin
 
 -- ---- the points are near
 
-moved_within : (padding : ℤ) (v s : Point) → pos (unsigned_abs s.0) ≤ℤ padding → pos (unsigned_abs s.1) ≤ℤ padding → IsWithinPadding padding v (plus v s)
+pub moved_within : (padding : ℤ) (v s : Point) → pos (unsigned_abs s.0) ≤ℤ padding → pos (unsigned_abs s.1) ≤ℤ padding → IsWithinPadding padding v (plus v s)
 moved_within padding v s x y = record { west = omega (arith, ints); south = omega (arith, ints); east = omega (arith, ints); north = omega (arith, ints) }
 
 pub arc_point_within : (unit : ℕ) (j : Joint) (d : Point) → 0 < unit → IsShort unit d → IsWithinPadding (round_padding j.radius) j.center (arc_point unit j d)
@@ -198,3 +216,101 @@ round_keeps unit options min_turn least = record {
   sized = λ radius. refl;
   joint = λ j _ _ h. round_keeps_joint unit options min_turn j least h;
 }
+
+-- ---- what the code knows of its points
+
+differ_by_length : (p q : Point) → 0 < length_sq (minus p q) → p ≢ q
+differ_by_length p q h e =
+    let z : length_sq (minus q q) ≡ 0 = rw (nothing q.0, nothing q.1) (omega arith) in
+    absurd (omega (arith, z, subst (λ (r : Point). 0 < length_sq (minus r q)) e h))
+  where
+    nothing : (a : ℤ) → (a -ℤ a) ≡ pos 0
+    nothing a = omega (arith, ints)
+
+-- the direction from the corner to either point can be asked for
+pub first_apart : (unit : ℕ) (j : Joint) → 2 ^ 14 ≤ unit → IsTurn unit j → IsShort unit j.incoming → IsSafeWidened unit (round_padding j.radius) j.center
+    → same_point j.first j.last ≡ false → IsApart unit j.center j.first
+first_apart unit j least h short safe apart = record {
+  safe = rw h.first (near_difference unit (round_padding j.radius) j.center _ safe (contact_within unit (round_padding j.radius) j.radius j.sense j.center j.incoming (omega arith) short (omega (arith, ints))));
+  differ = differ_by_length j.first j.center (points_apart unit j least h apart).0;
+}
+
+pub last_apart : (unit : ℕ) (j : Joint) → 2 ^ 14 ≤ unit → IsTurn unit j → IsShort unit j.outgoing → IsSafeWidened unit (round_padding j.radius) j.center
+    → same_point j.first j.last ≡ false → IsApart unit j.center j.last
+last_apart unit j least h short safe apart = record {
+  safe = rw h.last (near_difference unit (round_padding j.radius) j.center _ safe (contact_within unit (round_padding j.radius) j.radius j.sense j.center j.outgoing (omega arith) short (omega (arith, ints))));
+  differ = differ_by_length j.last j.center (points_apart unit j least h apart).1;
+}
+
+-- ---- the edges, as they are drawn one by one
+
+pub drawing_starts : (unit : ℕ) (j : Joint) (old : List SignedEdge) (room : ℕ) → IsDrawn unit j old room [] j.first old room
+drawing_starts unit j old room = record { goes_on = λ rest. refl; added = []; now_is = sym (append-nil old); grown = omega arith }
+
+-- what is drawn through one point more
+through_one : (now : List SignedEdge) (last p : Point) (es : List Edge) → (now ++ segments_of (route last [] p)) ++ segments_of es ≡ now ++ segments_of ((last, p) ∷ es)
+through_one now last p es =
+    append_assoc now (segments_of (route last [] p)) (segments_of es)
+    ∙ ap (λ (ss : List SignedEdge). now ++ ss) (sym (segments_of-append (route last [] p) es))
+
+one_more : (unit : ℕ) (j : Joint) (drawn : List Point) (d : Point) (rest : List Point) →
+    route j.first (used j j.first (map (arc_point unit j) (drawn ++ (d ∷ rest)))) j.last ≡ route j.first (used j j.first (map (arc_point unit j) ((drawn ++ (d ∷ [])) ++ rest))) j.last
+one_more unit j drawn d rest =
+    ap (λ (ds : List Point). route j.first (used j j.first (map (arc_point unit j) ds)) j.last) (sym (append_assoc drawn (d ∷ []) rest))
+
+pub drawing_takes : (unit : ℕ) (j : Joint) (old : List SignedEdge) (room : ℕ) (drawn : List Point) (last : Point) (now : List SignedEdge) (capacity : ℕ) (d p : Point) (more : List SignedEdge) (grown : ℕ)
+    → IsDrawn unit j old room drawn last now capacity → p ≡ arc_point unit j d → (runs_ahead j (last, p) && runs_ahead j (p, j.last)) ≡ true
+    → more ≡ now ++ segments_of (route last [] p) → capacity ≤ grown → IsDrawn unit j old room (drawn ++ (d ∷ [])) p more grown
+drawing_takes unit j old room drawn last now capacity d p more grown h e t m g = record {
+  goes_on = λ rest.
+      ap (λ (ss : List SignedEdge). ss ++ segments_of (route p (used j p (map (arc_point unit j) rest)) j.last)) m
+      ∙ through_one now last p (route p (used j p (map (arc_point unit j) rest)) j.last)
+      ∙ ap (λ (ps : List Point). now ++ segments_of (route last ps j.last))
+      (sym (used_takes j last p (map (arc_point unit j) rest) t) ∙ ap (λ (q : Point). used j last (q ∷ map (arc_point unit j) rest)) e)
+      ∙ h.goes_on (d ∷ rest)
+      ∙ ap (λ (es : List Edge). old ++ segments_of es) (one_more unit j drawn d rest);
+  added = h.added ++ segments_of (route last [] p);
+  now_is = m ∙ ap (λ (ss : List SignedEdge). ss ++ segments_of (route last [] p)) h.now_is ∙ append_assoc old h.added (segments_of (route last [] p));
+  grown = omega (arith, h.grown, g);
+}
+
+pub drawing_skips : (unit : ℕ) (j : Joint) (old : List SignedEdge) (room : ℕ) (drawn : List Point) (last : Point) (now : List SignedEdge) (capacity : ℕ) (d p : Point)
+    → IsDrawn unit j old room drawn last now capacity → p ≡ arc_point unit j d → (runs_ahead j (last, p) && runs_ahead j (p, j.last)) ≡ false
+    → IsDrawn unit j old room (drawn ++ (d ∷ [])) last now capacity
+drawing_skips unit j old room drawn last now capacity d p h e t = record {
+  goes_on = λ rest.
+      ap (λ (ps : List Point). now ++ segments_of (route last ps j.last))
+      (sym (used_skips j last p (map (arc_point unit j) rest) t) ∙ ap (λ (q : Point). used j last (q ∷ map (arc_point unit j) rest)) e)
+      ∙ h.goes_on (d ∷ rest)
+      ∙ ap (λ (es : List Edge). old ++ segments_of es) (one_more unit j drawn d rest);
+  added = h.added;
+  now_is = h.now_is;
+  grown = h.grown;
+}
+
+-- the last edge
+pub drawing_ends : (unit : ℕ) (j : Joint) (old : List SignedEdge) (room : ℕ) (drawn : List Point) (last : Point) (now : List SignedEdge) (capacity : ℕ)
+    → IsDrawn unit j old room drawn last now capacity
+    → now ++ segments_of (route last [] j.last) ≡ old ++ segments_of (route j.first (used j j.first (map (arc_point unit j) drawn)) j.last)
+drawing_ends unit j old room drawn last now capacity h =
+    ap (λ (ps : List Point). now ++ segments_of (route last ps j.last)) (sym (used_none j last))
+    ∙ h.goes_on []
+    ∙ ap (λ (ds : List Point). old ++ segments_of (route j.first (used j j.first (map (arc_point unit j) ds)) j.last)) (append-nil drawn)
+
+-- what the vector held first stays, where what it holds now does
+pub still_kept : (unit : ℕ) (j : Joint) (old : List SignedEdge) (room : ℕ) (drawn : List Point) (last : Point) (now : List SignedEdge) (capacity : ℕ) (then : List SignedEdge)
+    → IsDrawn unit j old room drawn last now capacity → take (length now) then ≡ now → take (length old) then ≡ old
+still_kept unit j old room drawn last now capacity then h k =
+    let e : then ≡ old ++ (h.added ++ drop (length now) then) =
+    sym (take-append-drop (length now) then) ∙ ap (λ (ss : List SignedEdge). ss ++ drop (length now) then) (k ∙ h.now_is) ∙ append_assoc old h.added (drop (length now) then) in
+    ap (take (length old)) e ∙ take-append_seam old (h.added ++ drop (length now) then)
+
+-- the points by the arc that the code builds
+pub points_are : (options now : ArcOptions) (unit : ℕ) (j : Joint) (from end : Point) → now ≡ clamped options
+    → from ≡ direction_of unit (minus j.first j.center) → end ≡ direction_of unit (minus j.last j.center)
+    → used j j.first (map (arc_point unit j) (arc unit now j.sense from end)) ≡ round_points options unit j
+unfolding round_points joint_arc
+points_are options now unit j from end o f e =
+    ap (λ (k : ArcOptions). used j j.first (map (arc_point unit j) (arc unit k j.sense from end))) o
+    ∙ ap (λ (d : Point). used j j.first (map (arc_point unit j) (arc unit (clamped options) j.sense d end))) f
+    ∙ ap (λ (d : Point). used j j.first (map (arc_point unit j) (arc unit (clamped options) j.sense (direction_of unit (minus j.first j.center)) d))) e

@@ -1,5 +1,5 @@
 -- Joins: the edges that an outer corner runs through, and how far they reach, for each kind of join.
-use Rattle.std.specs.Prelude.{ℕ, Bool, true, false, cond, List, [], ℤ}
+use Rattle.std.specs.Prelude.{ℕ, Bool, true, false, IsTrue, cond, List, [], ℤ}
 use Rattle.std.specs.Int.{int_max}
 use Rattle.mesh_plane.specs.Plane.{Point, Edge}
 use Rattle.mesh_num.specs.Rectangle.{IsSafeWidened}
@@ -33,6 +33,9 @@ abbrev pub has_few : IntLineJoin → Bool
 has_few Bevel = true
 has_few (Miter _) = true
 has_few (Round _) = false
+
+abbrev pub HasFew : JoinStyle → Type 0
+HasFew style = IsTrue (has_few style.kind)
 
 -- the points on the way from `a` to `b`: none where these are one point
 abbrev pub between : Point → List Point → Point → List Point

@@ -12,7 +12,7 @@ style_of_miter m = record { kind = Miter m.angle; min_turn = m.min_turn }
 abbrev pub style_of_round : RoundStyle → JoinStyle
 style_of_round r = record { kind = Round r.options; min_turn = r.min_turn }
 
-abbrev pub style_of_method : Method → JoinStyle
+abbrev pub style_of_method : {C W U : Type 0} → Method C W U → JoinStyle
 style_of_method (method.Bevel min_turn) = record { kind = Bevel; min_turn = min_turn }
 style_of_method (method.Miter m) = style_of_miter m
 style_of_method (method.Round r) = style_of_round r

@@ -3,7 +3,7 @@
 use Rattle.std.specs.Prelude.{ℕ, Bool, ◌&&◌, ◌||◌, List, [], ◌∷◌, ◌/◌, ◌-◌, ◌^◌, min, max, ℤ, pos, ◌+ℤ◌, ◌-ℤ◌, ◌*ℤ◌, unsigned_abs, int_le, int_lt, if◌then◌else◌}
 use Rattle.std.specs.List.{list_all}
 use Rattle.std.specs.Ordering.{int_eq}
-use Rattle.mesh_plane.specs.Plane.{Point, plus, minus, opposite, cross, dot}
+use Rattle.mesh_plane.specs.Plane.{Point, Edge, plus, minus, opposite, cross, dot}
 use Rattle.mesh_plane.specs.Winding.{route}
 use Rattle.mesh_num.specs.Direction.{scaled_direction}
 use Rattle.mesh_num.specs.Quotient.{rounded_product}

@@ -1,10 +1,10 @@
 //! Joins of outer corners.
 
-ghost use Rattle.std.specs.Prelude.{◌≡◌, ◌≤◌, ◌++◌, vec_capacity, OnOk, OnErr, IsOk, IsTrue, pos, ◌≤ℤ◌, unsigned_abs};
+ghost use Rattle.std.specs.Prelude.{◌≡◌, ◌≤◌, ◌++◌, vec_capacity, OnOk, OnErr, IsOk, pos, ◌≤ℤ◌, unsigned_abs};
 ghost use Rattle.mesh_num.specs.Segments.{edges_of, proper_edges};
 ghost use Rattle.mesh_join.specs.Appending.{Appends, HasRoomForEdges};
 ghost use Rattle.mesh_join.specs.Joints.{joint, NeverTurnsBack, StaysWithin};
-ghost use Rattle.mesh_join.specs.Joins.{join_edges, join_padding, has_few, IsJoint};
+ghost use Rattle.mesh_join.specs.Joins.{join_edges, join_padding, HasFew, IsJoint};
 
 use crate::bevel;
 use crate::joint::{Joint, coordinates, is_one_point};
@@ -96,7 +96,7 @@ impl<I: IntNumber> Join<I> {
             (join_edges I.unit self.old (joint center a b incoming outgoing (I.value radius) direction)) }
         ensures err { OnErr result (segments.new.items ≡ segments.old.items) }
         ensures same_ends { a ≡ b → IsOk result }
-        ensures room { IsTrue (has_few self.old.kind) → HasRoomForEdges segments.old
+        ensures room { HasFew self.old → HasRoomForEdges segments.old
             (join_edges I.unit self.old (joint center a b incoming outgoing (I.value radius) direction)) → IsOk result }
         ensures capacity { vec_capacity segments.old ≤ vec_capacity segments.new }
         ensures same { self.new ≡ self.old }
@@ -118,17 +118,19 @@ impl<I: IntNumber> Join<I> {
         ensures ok { OnOk result (Appends segments.old segments.new (join_edges I.unit self.old joint.now)) }
         ensures err { OnErr result (segments.new.items ≡ segments.old.items) }
         ensures same_ends { joint.now.first ≡ joint.now.last → IsOk result }
-        ensures room { IsTrue (has_few self.old.kind) → HasRoomForEdges segments.old (join_edges I.unit self.old joint.now) → IsOk result }
+        ensures room { HasFew self.old → HasRoomForEdges segments.old (join_edges I.unit self.old joint.now) → IsOk result }
         ensures capacity { vec_capacity segments.old ≤ vec_capacity segments.new }
         ensures same { self.new ≡ self.old }
     {
         if is_one_point(coordinates(joint.first), coordinates(joint.last)) {
             return Ok(());
         }
-        match &mut self.method {
-            Method::Bevel(_) => bevel::add(joint.first, joint.last, segments),
-            Method::Miter(miter) => miter.add(joint, segments),
-            Method::Round(round) => round.add(joint, segments),
+        if let Method::Miter(miter) = &self.method {
+            return miter.add(joint, segments);
         }
+        if let Method::Round(round) = &mut self.method {
+            return round.add(joint, segments);
+        }
+        bevel::add(joint.first, joint.last, segments)
     }
 }

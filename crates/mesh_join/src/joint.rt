@@ -5,6 +5,7 @@ ghost use Rattle.std.specs.Prelude.{◌+ℤ◌, ◌-ℤ◌, unsigned_abs, int_le
 ghost use Rattle.mesh_plane.specs.Plane.{plus, minus, cross as cross_of, dot as dot_of, turn as turn_of};
 ghost use Rattle.mesh_plane.specs.Winding.{same_point};
 ghost use Rattle.mesh_num.specs.Rectangle.{IsSafeWidened};
+ghost use Rattle.mesh_join.specs.Joints.{runs_ahead};
 ghost use Rattle.mesh_join.specs.Midway.Miters.{IsNarrow};
 ghost use Rattle.mesh_join.specs.Miters.{is_near as is_near_to, are_usable};
 
@@ -30,11 +31,14 @@ pub(crate) struct Joint<I: IntNumber> {
 }
 
 impl<I: IntNumber> Model for Joint<I> {
-    ghost use Rattle.mesh_join.specs.Joints.{Joint, joint, runs_ahead};
+    ghost use Rattle.mesh_join.specs.Joints.{Joint, joint};
+    ghost use Rattle.mesh_join.specs.Midway.RoundJoins.{HaveLength};
 
     ghost Value = { Joint };
 
     ghost view = { λ j. joint j.center j.first j.last j.incoming j.outgoing (I.value j.radius) j.sense };
+
+    ghost invariant = { λ j. HaveLength I.unit j.incoming j.outgoing };
 }
 
 impl<I: IntNumber> Joint<I> {

@@ -1,7 +1,8 @@
 //! Round joins.
 
-ghost use Rattle.std.specs.Prelude.{◌≡◌, ◌≤◌, ◌≢◌, false, List, [], ◌∷◌, map, length, take, vec_capacity, OnOk, OnErr, pos};
-ghost use Rattle.mesh_plane.specs.Plane.{Point, minus};
+ghost use Rattle.std.specs.Prelude.{◌≡◌, ◌≤◌, false, map, length, take, vec_capacity, OnOk, OnErr};
+ghost use Rattle.mesh_plane.specs.Bounds.{IsSafe};
+ghost use Rattle.mesh_plane.specs.Plane.{plus, minus};
 ghost use Rattle.mesh_plane.specs.Winding.{route, same_point};
 ghost use Rattle.mesh_num.specs.Direction.{IsFresh};
 ghost use Rattle.mesh_num.specs.Directed.{direction_of};
@@ -12,11 +13,11 @@ ghost use Rattle.mesh_join.specs.Methods.{style_of_round};
 ghost use Rattle.mesh_join.specs.Midway.RoundJoins.{round_edges, IsApart};
 ghost use Rattle.mesh_join.specs.RoundJoins.{round_padding, arc_point as arc_point_of, used};
 
-use crate::joint::{Joint, coordinates, sum};
+use crate::joint::Joint;
 use crate::route::push_straight;
 use mesh_arc::arc::{ArcOptions, IntegerArc};
-use mesh_num::num::convert::{narrow, wide_size};
-use mesh_num::num::{Angle, IntNumber, IntPoint, UnitIntVector};
+use mesh_num::num::convert::wide_size;
+use mesh_num::num::{Angle, IntNumber, IntPoint, IntVector, UnitIntVector, WideNumber};
 use mesh_num::shape::segment::Segment;
 use std::alloc::{AllocError, Global};
 use std::marker::Model;
@@ -53,10 +54,24 @@ impl<I: IntNumber> Round<I> {
     pub(crate) fn new(alloc: Global, options: ArcOptions, min_turn: Angle) -> Self
         ensures { result ≡ record { options = options; min_turn = min_turn } }
     {
+        let ArcOptions {
+            max_step,
+            rotation_precision,
+        } = options;
+        let arc = IntegerArc::new(
+            alloc,
+            ArcOptions {
+                max_step,
+                rotation_precision,
+            },
+        );
         Round {
-            options,
+            options: ArcOptions {
+                max_step,
+                rotation_precision,
+            },
             min_turn,
-            arc: IntegerArc::new(alloc, options),
+            arc,
         }
     }
 
@@ -129,10 +144,17 @@ fn arc_point<I: IntNumber>(joint: &Joint<I>, direction: UnitIntVector<I>) -> Int
     requires { IsSafeWidened I.unit (round_padding joint.now.radius) joint.now.center }
     ensures { result ≡ arc_point_of I.unit joint.now direction }
 {
-    let reach = direction.scale(joint.radius);
-    let reach = (I::wide_to_i128(reach.x), I::wide_to_i128(reach.y));
-    let (x, y) = sum(coordinates(joint.center), reach);
-    IntPoint::new(narrow(x), narrow(y))
+    moved(joint.center, &direction.scale(joint.radius))
+}
+
+// A point moved by a vector.
+fn moved<I: IntNumber>(point: IntPoint<I>, along: &IntVector<I>) -> IntPoint<I>
+    requires { IsSafe I.unit (plus point along.now) }
+    ensures { result ≡ plus point along.now }
+{
+    let x = point.x.to_wide() + along.x;
+    let y = point.y.to_wide() + along.y;
+    IntPoint::new(I::from_wide(x), I::from_wide(y))
 }
 
 // The direction from a corner to a point.
@@ -141,8 +163,8 @@ fn direction<I: IntNumber>(center: IntPoint<I>, point: IntPoint<I>) -> UnitIntVe
     ensures value { result ≡ direction_of I.unit (minus point center) }
     ensures fresh { IsFresh I.unit result }
 {
-    match (point - center).fast_normalize() {
-        Some(direction) => direction,
-        None => unreachable!(),
-    }
+    let Some(direction) = (point - center).fast_normalize() else {
+        unreachable!()
+    };
+    direction
 }

@@ -8,7 +8,7 @@ use Rattle.serde_json.specs.View.{view, items_view, members_view}
 use Rattle.serde_json.specs.Written.{has_float, items_have_float, members_have_float}
 use Rattle.serde_json.specs.declared.value.Value.{Value}
 use Rattle.mesh_plane.specs.Plane.{Point, Edge}
-use Rattle.mesh_service.specs.Reading.{pair_of}
+use Rattle.mesh_service.specs.Reading.{pair_of, options_in}
 use Rattle.mesh_service.specs.Lines.{point_data, edge_data, list_data, edges_data, shapes_data}
 
 pub members_float : (ms : List (String Global × Value)) → members_have_float (members_view ms) ≡ items_have_float (items_view (values_of ms))
@@ -43,3 +43,10 @@ no_pair unit [] h = refl
 no_pair unit (x ∷ []) h = refl
 no_pair unit (x ∷ y ∷ []) h = absurd (h (omega arith))
 no_pair unit (x ∷ y ∷ z ∷ vs) h = refl
+
+-- nor the options of an arc
+pub no_options : (vs : List Value) → (length vs ≡ 2 → ⊥) → options_in (items_view vs) ≡ None
+no_options [] h = refl
+no_options (x ∷ []) h = refl
+no_options (x ∷ y ∷ []) h = absurd (h (omega arith))
+no_options (x ∷ y ∷ z ∷ vs) h = refl

@@ -8,9 +8,10 @@ use Rattle.mesh_plane.specs.Plane.{Point}
 use Rattle.mesh_below.specs.Options.{plain}
 use Rattle.mesh_shapes.specs.Resolution.{Choices}
 use Rattle.mesh_draw.specs.declared.error.IntOutlineError.TheVariants.{CoordinateOutOfRange, OutOfMemory}
+use Rattle.mesh_arc.specs.declared.arc.ArcOptions.{ArcOptions}
 use Rattle.mesh_join.specs.Styles.{OutlineStyle}
 use Rattle.mesh_join.specs.declared.style.IntLineJoin.{IntLineJoin}
-use Rattle.mesh_join.specs.declared.style.IntLineJoin.TheVariants.{Bevel, Miter}
+use Rattle.mesh_join.specs.declared.style.IntLineJoin.TheVariants.{Bevel, Miter, Round}
 use Rattle.mesh_service.specs.Requests.{Asked, for_edges, for_shapes, Request}
 use Rattle.mesh_service.specs.declared.failure.Failure.{Failure}
 use Rattle.mesh_service.specs.declared.failure.Failure.TheVariants.{Unreadable, Refused}
@@ -77,9 +78,27 @@ has_key key d = is_some (get key d)
 abbrev pub has_unserved : Data → Bool
 has_unserved d = has_key (codes "width") d || has_key (codes "start") d || has_key (codes "end") d || has_key (codes "arc") d
 
--- the angle of as many bits as a value says: a whole number of 32 bits without sign
+-- the whole number of 32 bits without sign that a value is
+abbrev pub small_number_of : Data → Option ℕ
+small_number_of d = option_and_then (λ n. if nat_lt n (2 ^ 32) then Some n else None) (option_and_then as_u64 (as_number d))
+
+-- the angle of as many bits as a value says
 abbrev pub angle_of : Data → Option ℕ
-angle_of d = option_and_then (λ bits. if nat_lt bits (2 ^ 32) then Some bits else None) (option_and_then as_u64 (as_number d))
+angle_of d = small_number_of d
+
+-- the options of an arc: the bits of its greatest step, and its precision
+abbrev pub options_with : ℕ × ℕ → ArcOptions
+options_with said = record { max_step = said.0; rotation_precision = said.1 }
+
+abbrev pub options_in : Items → Option ArcOptions
+options_in no_items = None
+options_in (item s no_items) = None
+options_in (item s (item p no_items)) = option_map options_with (both (angle_of s) (small_number_of p))
+options_in (item s (item p (item z more))) = None
+
+-- the options of an arc that a value gives: [bits,precision]
+abbrev pub arc_options_of : Data → Option ArcOptions
+arc_options_of d = option_and_then options_in (as_array d)
 
 -- how many members an object has
 abbrev pub member_count : Members → ℕ
@@ -95,10 +114,13 @@ has_one_member (Some ms) = nat_eq (member_count ms) 1
 abbrev pub sole_in : List ℕ → Data → Option Data
 sole_in key d = if has_one_member (as_object d) then get key d else None
 
--- the kind of join that a value names: "bevel" or {"miter":bits}, a bevel where there is none
+-- the kind of join that a value names: "bevel", {"miter":bits} or {"round":[bits,precision]}, a bevel where there is none
 abbrev pub join_of : Option Data → Option IntLineJoin
 join_of None = Some Bevel
-join_of (Some d) = if is_word (codes "bevel") (as_str d) then Some Bevel else option_map Miter (option_and_then angle_of (sole_in (codes "miter") d))
+join_of (Some d) =
+    if is_word (codes "bevel") (as_str d) then Some Bevel
+    else if has_key (codes "miter") d then option_map Miter (option_and_then angle_of (sole_in (codes "miter") d))
+    else option_map Round (option_and_then arc_options_of (sole_in (codes "round") d))
 
 -- the turn below which a miter is a bevel, the default one where there is none: 5 degrees, cut
 abbrev pub min_turn_of : Option Data → Option ℕ

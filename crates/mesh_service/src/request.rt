@@ -3,7 +3,7 @@
 ghost use Rattle.std.specs.Prelude.{◌≡◌, Some, None, MatchResult, option_map, option_and_then};
 ghost use Rattle.serde_json.specs.View.{view, items_view};
 ghost use Rattle.mesh_num.specs.Paths.{paths_of};
-ghost use Rattle.mesh_service.specs.Reading.{point_of, points_of, path_of, path_list_of, paths_in, has_unserved as unserved, join_of, sole_in, angle_of, min_turn_of, style_in, offset_of, asked_in, outline_of, IsOfReading};
+ghost use Rattle.mesh_service.specs.Reading.{point_of, points_of, path_of, path_list_of, paths_in, has_unserved as unserved, join_of, arc_options_of, sole_in, angle_of, small_number_of, min_turn_of, style_in, offset_of, asked_in, outline_of, IsOfReading};
 ghost use Rattle.mesh_join.specs.Styles.{style_of};
 ghost use Rattle.mesh_service.specs.Requests.{asked_of};
 
@@ -11,6 +11,7 @@ use crate::failure::Failure;
 use crate::json::{coordinate, is_text, says};
 use crate::options::read_options;
 use crate::outline::{OutlineRequest, Output};
+use mesh_join::arc::ArcOptions;
 use mesh_join::style::{DEFAULT_MITER_MIN_TURN, IntLineJoin, IntOutlineStyle};
 use mesh_num::num::{Angle, IntNumber, IntPoint, OverlayInt};
 use serde_json::Value;
@@ -147,10 +148,28 @@ fn line_join(value: Option<&Value>) -> Option<IntLineJoin>
         return Some(IntLineJoin::Bevel);
     };
     if is_text(value, "bevel") {
-        Some(IntLineJoin::Bevel)
-    } else {
-        Some(IntLineJoin::Miter(angle(sole_member(value, "miter")?)?))
+        return Some(IntLineJoin::Bevel);
     }
+    if value.get("miter").is_some() {
+        return Some(IntLineJoin::Miter(angle(sole_member(value, "miter")?)?));
+    }
+    Some(IntLineJoin::Round(arc_options(sole_member(value, "round")?)?))
+}
+
+/// The options of an arc that a value gives.
+fn arc_options(value: &Value) -> Option<ArcOptions>
+    ensures { result ≡ arc_options_of (view value.now) }
+{
+    let numbers = value.as_array()?;
+    if numbers.len() != 2 {
+        return None;
+    }
+    let max_step = angle(&numbers[0])?;
+    let rotation_precision = small_number(&numbers[1])?;
+    Some(ArcOptions {
+        max_step,
+        rotation_precision,
+    })
 }
 
 /// What an object holds under a key, where it has no other.
@@ -167,9 +186,16 @@ fn sole_member<'a>(value: &'a Value, key: &str) -> Option<&'a Value>
 fn angle(value: &Value) -> Option<Angle>
     ensures { result ≡ angle_of (view value.now) }
 {
-    let bits = value.as_u64()?;
-    if bits < 1 << 32 {
-        Some(Angle::from_bits(bits as u32))
+    Some(Angle::from_bits(small_number(value)?))
+}
+
+/// The whole number of 32 bits without sign that a value is.
+fn small_number(value: &Value) -> Option<u32>
+    ensures { result ≡ small_number_of (view value.now) }
+{
+    let number = value.as_u64()?;
+    if number < 1 << 32 {
+        Some(number as u32)
     } else {
         None
     }

@@ -1,11 +1,13 @@
 -- What the steps of a round join know: only private contracts read this.
-use Rattle.std.specs.Prelude.{ℕ, ◌*◌, ◌<◌, List}
+use Rattle.std.specs.Prelude.{ℕ, ◌≡◌, ◌≢◌, ◌*◌, ◌≤◌, List, ◌++◌, map}
 use Rattle.mesh_plane.specs.Bounds.{IsSafe}
-use Rattle.mesh_plane.specs.Plane.{Point, Edge, minus, length_sq}
+use Rattle.mesh_plane.specs.Plane.{Point, Edge, minus}
 use Rattle.mesh_plane.specs.Winding.{route}
+use Rattle.mesh_num.specs.Direction.{IsShort}
+use Rattle.mesh_num.specs.Segments.{SignedEdge, segments_of}
 use Rattle.mesh_arc.specs.declared.arc.ArcOptions.{ArcOptions}
 use Rattle.mesh_join.specs.Joints.{Joint}
-use Rattle.mesh_join.specs.RoundJoins.{round_points}
+use Rattle.mesh_join.specs.RoundJoins.{arc_point, used, round_points}
 
 -- the edges of a round join at a joint whose points differ
 abbrev pub round_edges : ArcOptions → ℕ → Joint → List Edge
@@ -14,4 +16,17 @@ round_edges options unit j = route j.first (round_points options unit j) j.last
 -- two points that have a direction from one to the other
 pub record IsApart (unit : ℕ) (center point : Point) : Type 0 where
   pub safe : IsSafe (2 * unit) (minus point center)
-  pub length : 0 < length_sq (minus point center)
+  pub differ : point ≢ center
+
+-- what is left to draw after some directions: `last` is the last point that was used, `capacity` what the vector has room for
+pub record IsDrawn (unit : ℕ) (j : Joint) (old : List SignedEdge) (room : ℕ) (drawn : List Point) (last : Point) (now : List SignedEdge) (capacity : ℕ) : Type 0 where
+  pub goes_on : (rest : List Point) → now ++ segments_of (route last (used j last (map (arc_point unit j) rest)) j.last)
+      ≡ old ++ segments_of (route j.first (used j j.first (map (arc_point unit j) (drawn ++ rest))) j.last)
+  pub added : List SignedEdge
+  pub now_is : now ≡ old ++ added
+  pub grown : room ≤ capacity
+
+-- two directions are no longer than directions are
+pub record HaveLength (unit : ℕ) (incoming outgoing : Point) : Type 0 where
+  pub incoming_short : IsShort unit incoming
+  pub outgoing_short : IsShort unit outgoing

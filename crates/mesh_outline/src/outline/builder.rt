@@ -7,7 +7,7 @@ ghost use Rattle.mesh_plane.specs.Winding.{IsBalanced};
 ghost use Rattle.mesh_num.specs.Segments.{IsSubject};
 ghost use Rattle.mesh_cuts.specs.Reach.{AreEdgesSafe};
 ghost use Rattle.mesh_clean.specs.Cleaned.{AllEqual, cleaned_sections};
-ghost use Rattle.mesh_join.specs.Joins.{offset_padding};
+ghost use Rattle.mesh_join.specs.Joins.{offset_padding, HasFew};
 ghost use Rattle.mesh_join.specs.Styles.{style_of};
 ghost use Rattle.mesh_draw.specs.Adding.{Adds, added, added_edges, Keeps};
 ghost use Rattle.mesh_draw.specs.Drawing.{NeverTurnedRound, WindAsPieces, WindsByCount};
@@ -76,8 +76,8 @@ impl<I: IntNumber> OutlineBuilder<I> {
 
     /// Adds the edges of the outline of the closed contour through these points, each of which stays in the safe
     /// range where it moves by the padding of the joins. What the vector holds stays. No memory is taken where there
-    /// is no point or all are equal. Where there is room for the edges, of which there are at most four a section, it
-    /// succeeds. After a refusal the vector is cut back to its old length.
+    /// is no point or all are equal. Without round joins there are at most four edges a section, and where there is room
+    /// for them it succeeds. After a refusal the vector is cut back to its old length.
     pub fn build(
         &mut self,
         path: &[IntPoint<I>],
@@ -89,12 +89,14 @@ impl<I: IntNumber> OutlineBuilder<I> {
         ensures edges { OnOk result (IsPermutation (added_edges segments.old.items segments.new.items)
             (outline_edges I.unit self.old path.now)) }
         ensures form { OnOk result (All IsSubject (added segments.old.items segments.new.items)) }
-        ensures few { OnOk result (length (added segments.old.items segments.new.items)
+        ensures few { HasFew self.old.join → OnOk result (length (added segments.old.items segments.new.items)
             ≤ 4 * length (cleaned_sections path.now)) }
         ensures refused { OnErr result (segments.new.items ≡ segments.old.items) }
         ensures nothing { AllEqual path.now → IsOk result }
-        ensures room { HasRoomFor segments.old (length (outline_edges I.unit self.old path.now)) → IsOk result }
-        ensures room_for_four { HasRoomFor segments.old (4 * length (cleaned_sections path.now)) → IsOk result }
+        ensures room { HasFew self.old.join → HasRoomFor segments.old (length (outline_edges I.unit self.old path.now))
+            → IsOk result }
+        ensures room_for_four { HasFew self.old.join → HasRoomFor segments.old (4 * length (cleaned_sections path.now))
+            → IsOk result }
         ensures same { self.new ≡ self.old }
 
         // The edges close up, and stay near the contour.
@@ -129,7 +131,7 @@ fn feed_join<I: IntNumber>(
     requires { IsCorner I.unit (offset_join (I.value offset) join.old) (previous.now, next.now) }
     ensures ok { OnOk result (segments.new.items ≡ segments.old.items
         ++ corner_segments I.unit (offset_join (I.value offset) join.old) (previous.now, next.now)) }
-    ensures room { HasRoomFor segments.old
+    ensures room { HasFew join.old → HasRoomFor segments.old
         (length (corner_segments I.unit (offset_join (I.value offset) join.old) (previous.now, next.now)))
         → IsOk result }
     ensures capacity { vec_capacity segments.old ≤ vec_capacity segments.new }
@@ -154,7 +156,7 @@ fn feed_section<I: IntNumber>(
     ensures ok { OnOk result (segments.new.items ≡ segments.old.items
         ++ (corner_segments I.unit (offset_join (I.value offset) join.old) (previous.now, next.now)
         ++ top_segments next.now)) }
-    ensures room { HasRoomFor segments.old
+    ensures room { HasFew join.old → HasRoomFor segments.old
         (length (corner_segments I.unit (offset_join (I.value offset) join.old) (previous.now, next.now)
         ++ top_segments next.now)) → IsOk result }
     ensures capacity { vec_capacity segments.old ≤ vec_capacity segments.new }
@@ -177,7 +179,7 @@ fn draw<I: IntNumber>(
     ensures kept { Keeps segments.old.items segments.new.items }
     ensures same { join.new ≡ join.old }
     ensures nothing { AllEqual path.now → IsOk result }
-    ensures room { HasRoomFor segments.old
+    ensures room { HasFew join.old → HasRoomFor segments.old
         (length (outline_edges I.unit (offset_join (I.value offset) join.old) path.now)) → IsOk result }
 {
     let Some(mut sections) = UniqueSegmentsIter::new(path) else {

@@ -2,7 +2,7 @@
 
 ghost use Rattle.std.specs.Prelude.{◌≡◌, ◌+◌, ◌≤◌, OnOk, OnErr, IsOk, IsTrue, ◌++◌, length, vec_capacity};
 ghost use Rattle.mesh_num.specs.Segments.{segments_of};
-ghost use Rattle.mesh_join.specs.Joins.{join_edges};
+ghost use Rattle.mesh_join.specs.Joins.{join_edges, HasFew};
 ghost use Rattle.mesh_join.specs.Styles.{JoinStyle};
 ghost use Rattle.mesh_outline.specs.Outline.{joint_at, parts, sense_for};
 ghost use Rattle.mesh_outline.specs.Building.{offset_join, IsCorner, IsMoved};
@@ -32,7 +32,7 @@ pub(crate) trait JoinBuilder<I: IntNumber> {
         ensures ok { OnOk result (segments.new.items ≡ segments.old.items
             ++ segments_of (join_edges I.unit (style self.old) (joint_at (I.value offset) (previous.now, next.now)))) }
         ensures err { OnErr result (segments.new.items ≡ segments.old.items) }
-        ensures room { length segments.old.items
+        ensures room { HasFew (style self.old) → length segments.old.items
             + length (segments_of (join_edges I.unit (style self.old)
             (joint_at (I.value offset) (previous.now, next.now))))
             ≤ vec_capacity segments.old → IsOk result }

@@ -15,7 +15,13 @@ returns-in-Miter-clause-ok g c =
     rw (← c.joint.view_is, ← c.self.view_is, c.in-Miter.is, all_between c.joint.inside.first c.joint.inside.last _ e) h
 
 pub returns-in-Miter-clause-room : goal.returns-in-Miter-clause-room
-returns-in-Miter-clause-room g c =
+returns-in-Miter-clause-room g c few =
     let e = rw (c.coordinates.ensures.value, c.coordinates-2.ensures.value) at (sym c.is_one_point.ensures ∙ c.if-is_one_point.false) in
     let h = rw (← c.joint.view_is) at c.add.ensures.room in
     rw (← c.joint.view_is, ← c.self.view_is, c.in-Miter.is, all_between c.joint.inside.first c.joint.inside.last _ e) h
+
+pub returns-in-Round-clause-ok : goal.returns-in-Round-clause-ok
+returns-in-Round-clause-ok g c =
+    let e = rw (c.coordinates.ensures.value, c.coordinates-2.ensures.value) at (sym c.is_one_point.ensures ∙ c.if-is_one_point.false) in
+    let h = rw (← c.joint.view_is) at c.add-in-Round.ensures.ok in
+    rw (← c.joint.view_is, ← c.self.view_is, c.in-Round.is, all_between c.joint.inside.first c.joint.inside.last _ e) h

@@ -62,7 +62,7 @@ returns-clause-ok g c =
     (sym s ∙ c.in-Some-next.ensures.steps) c.in-None.ensures.steps.0 c.loop-segment.invariant.todo h))
 
 pub returns-in_err-push_non_degenerate-clause-room : goal.returns-in_err-push_non_degenerate-clause-room
-returns-in_err-push_non_degenerate-clause-room g c room =
+returns-in_err-push_non_degenerate-clause-room g c few room =
     let s = c.in-Some.ensures.sections.1 in
     let style : OffsetJoin = record { offset = g.I.IntNumber.value c.args.offset; join = c.args.join.now } in
     let n = length c.args.segments.now.items in
@@ -71,21 +71,22 @@ returns-in_err-push_non_degenerate-clause-room g c room =
     absurd (false≢true (c.in_err-push_non_degenerate.ensures.room (subst (λ (x : Section). n + length (top_segments x) ≤ cap) (sym c.first.view_is) fits)))
 
 pub returns-in_err-feed_section-clause-room : goal.returns-in_err-feed_section-clause-room
-returns-in_err-feed_section-clause-room g c room =
+returns-in_err-feed_section-clause-room g c few room =
     let s = c.in-Some.ensures.sections.1 in
     let style : OffsetJoin = record { offset = g.I.IntNumber.value c.args.offset; join = c.loop-segment.join } in
     let whole = rw (sym c.loop-segment.invariant.same) at room in
     let fits = room_step g.I.IntNumber.unit style (cleaned_sections c.args.path.now) _ c.next.new.self c.loop-segment.segment-iterator c.next-in-loop-segment.new.self _
     c.loop-segment.previous c.new-next.result c.new-first.result c.args.segments.now.items c.loop-segment.segments.items (vec_capacity c.args.segments.now) (vec_capacity c.loop-segment.segments)
     (sym s ∙ c.in-Some-next.ensures.steps) c.in-Some-segment.ensures.steps c.new-next.ensures c.loop-segment.invariant.todo c.loop-segment.invariant.room whole in
-    absurd (false≢true (c.in_err-feed_section.ensures.room fits))
+    absurd (false≢true (c.in_err-feed_section.ensures.room (rw (sym c.loop-segment.invariant.same) at few) fits))
 
 pub returns-clause-room : goal.returns-clause-room
-returns-clause-room g c room =
+returns-clause-room g c few room =
     let s = c.in-Some.ensures.sections.1 in
     let style : OffsetJoin = record { offset = g.I.IntNumber.value c.args.offset; join = c.loop-segment.join } in
     let whole = rw (sym c.loop-segment.invariant.same) at room in
     c.feed_join.ensures.room
+    (rw (sym c.loop-segment.invariant.same) at few)
     (room_last g.I.IntNumber.unit style (cleaned_sections c.args.path.now) _ c.next.new.self c.loop-segment.segment-iterator
     c.loop-segment.previous c.new-first.result c.args.segments.now.items c.loop-segment.segments.items (vec_capacity c.args.segments.now) (vec_capacity c.loop-segment.segments)
     (sym s ∙ c.in-Some-next.ensures.steps) c.in-None.ensures.steps.0 c.loop-segment.invariant.todo c.loop-segment.invariant.room whole)

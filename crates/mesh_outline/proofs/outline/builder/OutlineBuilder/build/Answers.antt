@@ -5,7 +5,7 @@ use Rattle.std.specs.List.{All}
 use Rattle.mesh_num.specs.Segments.{SignedEdge, IsSubject}
 use Rattle.mesh_draw.proofs.Adding.{added_is}
 use Rattle.mesh_outline.proofs.BuilderRoom.{room_of_four}
-use Rattle.mesh_join.proofs.Joins.{each_has_few}
+use Rattle.mesh_join.specs.Joins.{HasFew}
 use Rattle.mesh_join.specs.Styles.{OffsetJoin}
 use Rattle.mesh_draw.specs.Adding.{Adds}
 use Rattle.mesh_outline.specs.Outline.{outline_edges}
@@ -25,14 +25,14 @@ returns-clause-form g c =
     subst (λ (l : List SignedEdge). All IsSubject l) (sym (added_is c.args.segments.now.items c.draw.new.segments.items h.0 h.1)) h.3
 
 pub returns-in-Err-clause-room_for_four : goal.returns-in-Err-clause-room_for_four
-returns-in-Err-clause-room_for_four g c room =
+returns-in-Err-clause-room_for_four g c few room =
     let n = length c.args.segments.now.items in
     let cap = vec_capacity c.args.segments.now in
-    let fits = room_of_four g.I.IntNumber.unit c.args.self.now c.args.path.now n cap g.met.I.IntNumber.least_law (each_has_few c.args.self.now.join.kind) room in
-    c.in-Err.ensures.room (subst (λ (style : OffsetJoin). n + length (outline_edges g.I.IntNumber.unit style c.args.path.now) ≤ cap) (sym c.self.view_is) fits)
+    let fits = room_of_four g.I.IntNumber.unit c.args.self.now c.args.path.now n cap g.met.I.IntNumber.least_law few room in
+    c.in-Err.ensures.room (subst (λ (style : OffsetJoin). HasFew style.join) (sym c.self.view_is) few) (subst (λ (style : OffsetJoin). n + length (outline_edges g.I.IntNumber.unit style c.args.path.now) ≤ cap) (sym c.self.view_is) fits)
 
 pub returns-clause-few : goal.returns-clause-few
-returns-clause-few g c = adds_few g.I.IntNumber.unit c.args.self.now c.args.path.now g.met.I.IntNumber.least_law (each_has_few c.args.self.now.join.kind) _ _ (adds g c)
+returns-clause-few g c few = adds_few g.I.IntNumber.unit c.args.self.now c.args.path.now g.met.I.IntNumber.least_law few _ _ (adds g c)
 
 pub returns-clause-balanced : goal.returns-clause-balanced
 returns-clause-balanced g c = (adds_promised g.I.IntNumber.unit c.args.self.now c.args.path.now g.met.I.IntNumber.least_law _ _ (adds g c)).balanced
