@@ -26,8 +26,22 @@ def load(request_file, answer_file):
     caption = f"outer offset {style['outer']}, inner offset {style['inner']}"
     join = style.get("join")
     if join is not None:
-        caption += f", {join}" if isinstance(join, str) else f", miter of {join['miter'] * 360 / 2**32:.0f} degrees"
+        caption += f", {join_name(join)}"
     return request["paths"], answer["shapes"], caption
+
+
+def join_name(join):
+    """A join in words."""
+    if isinstance(join, str):
+        return join
+    if "miter" in join:
+        return f"miter of {degrees(join['miter'])}"
+    return f"round, steps of {degrees(join['round'][0])}"
+
+
+def degrees(bits):
+    """An angle in words; 2^32 bits are a turn."""
+    return f"{bits * 360 / 2**32:.0f} degrees"
 
 
 def bounds(panels):
