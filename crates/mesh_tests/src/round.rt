@@ -265,6 +265,9 @@ fn pieces(
     Ok(Pieces { boundaries, offset })
 }
 
+/// Steps on the grid 2, to points of the grid and between them.
+const STEPS: [i128; 9] = [-7, -4, -3, -1, 0, 1, 2, 5, 6];
+
 /// The edges close up, and near each vertex of the contour they wind as often as the contour, and once more for each
 /// piece, for a negative offset once less.
 fn expect_winding(
@@ -276,8 +279,8 @@ fn expect_winding(
 ) {
     assert!(rt; is_balanced(edges), "{case:?}");
     for (vertex, _) in own {
-        for x in -8i128..9 {
-            for y in -8i128..9 {
+        for x in STEPS {
+            for y in STEPS {
                 let q = plus(refined(2, *vertex), (x, y));
                 let (count, once) = between.count(2, q);
                 let more = count.wrapping_mul(between.offset.signum());
@@ -323,10 +326,10 @@ const FINENESSES: [Fineness; 5] = [
 fn winding_near_small_contours(rt: HostRuntime) -> Result<(), Fail> {
     let alloc = rt.alloc();
     let mut random = Random::new(1);
-    for _ in 0..6 {
+    for radius in [1i8, 2, 3] {
         for fineness in FINENESSES {
             let contour = small_contour(alloc, &mut random)?;
-            for offset in [1, 2, 3, -1, -2, -3] {
+            for offset in [radius, radius.wrapping_neg()] {
                 expect_count::<i16>(&rt, alloc, &contour, offset, fineness)?;
                 expect_count::<i32>(&rt, alloc, &contour, offset, fineness)?;
             }
