@@ -2,6 +2,8 @@
 #![tactic(auto)]
 
 #[cfg(test)]
+mod arcs;
+#[cfg(test)]
 mod cleaned;
 #[cfg(test)]
 mod directions;

@@ -3,5 +3,6 @@
 pub mod edges;
 pub mod miters;
 pub mod refused;
+pub mod round;
 pub mod shapes;
 pub mod unreadable;

@@ -11,6 +11,8 @@ mod outlines;
 mod pieces;
 pub mod readme;
 #[cfg(test)]
+mod round;
+#[cfg(test)]
 mod sources;
 #[cfg(test)]
 mod stored;

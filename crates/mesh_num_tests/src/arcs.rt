@@ -1,0 +1,328 @@
+//! Arcs of directions: worked ones, and fine ones whose gaps are measured.
+
+ghost use Rattle.std.specs.Prelude.{◌^◌};
+ghost use Rattle.mesh_num.specs.Direction.{IsFresh};
+
+use mesh_join::arc::{ArcBuilder, ArcDirection, ArcOptions};
+use mesh_num::num::{Angle, IntNumber, IntVector, UnitIntVector};
+use mesh_toolbox::edges::wide;
+use mesh_toolbox::plain::{Point, cross, dot};
+use mesh_toolbox::random::Random;
+use std::alloc::Global;
+use std::process::Abort;
+use std::test::Fail;
+
+const LEFT: ArcDirection = ArcDirection::Counterclockwise;
+
+const RIGHT: ArcDirection = ArcDirection::Clockwise;
+
+/// Options of so many bits and this precision.
+fn options(bits: u32, rotation_precision: u32) -> ArcOptions {
+    ArcOptions {
+        max_step: Angle::from_bits(bits),
+        rotation_precision,
+    }
+}
+
+/// The direction of a vector with components of at most 32,767 in size, not both 0.
+fn of_i16(rt: &impl Abort, vector: (i32, i32)) -> UnitIntVector<i16>
+    ensures { IsFresh (2 ^ 14) result }
+{
+    let (x, y) = vector;
+    assert!(rt; -32768 < x && x < 32768);
+    assert!(rt; -32768 < y && y < 32768);
+    let direction = IntVector::<i16>::new(x, y).fast_normalize();
+    direction.expect(rt, "a direction")
+}
+
+/// The direction of a vector with components of at most 32,767 in size, not both 0.
+fn of_i32(rt: &impl Abort, vector: (i32, i32)) -> UnitIntVector<i32>
+    ensures { IsFresh (2 ^ 30) result }
+{
+    let (x, y) = vector;
+    assert!(rt; -32768 < x && x < 32768);
+    assert!(rt; -32768 < y && y < 32768);
+    let direction = IntVector::<i32>::new(i64::from(x), i64::from(y)).fast_normalize();
+    direction.expect(rt, "a direction")
+}
+
+/// A direction as a vector.
+fn plain<I: IntNumber>(direction: UnitIntVector<I>) -> Point {
+    (wide(direction.x()), wide(direction.y()))
+}
+
+/// How many directions an arc has, and the last one.
+fn told<I: IntNumber>(directions: &[UnitIntVector<I>]) -> (usize, Point) {
+    let last = directions.last().copied();
+    (directions.len(), last.map(plain).unwrap_or((0, 0)))
+}
+
+/// The bits and the precision of the options, the vectors that the arc leads from and to, its sense, how many directions
+/// it has, and the last one, (0, 0) where there is none.
+type Arc = (
+    (u32, u32),
+    (i32, i32),
+    (i32, i32),
+    ArcDirection,
+    usize,
+    Point,
+);
+
+const DEFAULT: (u32, u32) = (536_870_912, 5);
+
+// The numbers were computed apart from this program, with Python's whole numbers, from the definition of an arc.
+const ARCS_OF_I16: &[Arc] = &[
+    (DEFAULT, (1, 0), (-1, 0), LEFT, 4, (-16303, 1606)),
+    (DEFAULT, (1, 0), (-1, 0), RIGHT, 4, (-16303, -1606)),
+    (DEFAULT, (1, 0), (0, 1), RIGHT, 6, (-2403, 16203)),
+    (DEFAULT, (1, 0), (0, 1), LEFT, 2, (804, 16363)),
+    (DEFAULT, (1, 0), (1, 0), RIGHT, 0, (0, 0)),
+    (DEFAULT, (1, 0), (1, 0), LEFT, 0, (0, 0)),
+    (DEFAULT, (1, 0), (1, 1), LEFT, 0, (0, 0)),
+    (DEFAULT, (1, 0), (1, 1), RIGHT, 7, (9432, 13391)),
+    (
+        (12309758, 32),
+        (0, -3),
+        (-2, -3),
+        RIGHT,
+        34,
+        (-9043, -13638),
+    ),
+    ((4194304, 4), (1, 0), (1, -8), LEFT, 957, (1917, -15661)),
+    ((4194304, 32), (7, -3), (7, -2), RIGHT, 1146, (15061, -4257)),
+    ((1, 40), (3, 4), (-7, 2), LEFT, 360, (-15524, 4471)),
+    (
+        (68356528, 5),
+        (-5, 12),
+        (-5, -12),
+        RIGHT,
+        40,
+        (-5033, -15566),
+    ),
+    (
+        (4294967295, 0),
+        (-5, 12),
+        (-5, -12),
+        LEFT,
+        3,
+        (-8300, -14122),
+    ),
+];
+
+const ARCS_OF_I32: &[Arc] = &[
+    (DEFAULT, (1, 0), (-1, 0), LEFT, 4, (-1068879827, 102065703)),
+    (
+        DEFAULT,
+        (1, 0),
+        (-1, 0),
+        RIGHT,
+        4,
+        (-1068879827, -102065703),
+    ),
+    (DEFAULT, (1, 0), (0, 1), RIGHT, 6, (-152809474, 1062812660)),
+    (DEFAULT, (1, 0), (0, 1), LEFT, 2, (51090720, 1072525635)),
+    (DEFAULT, (1, 0), (1, 0), RIGHT, 0, (0, 0)),
+    (DEFAULT, (1, 0), (1, 0), LEFT, 0, (0, 0)),
+    (DEFAULT, (1, 0), (1, 1), LEFT, 0, (0, 0)),
+    (DEFAULT, (1, 0), (1, 1), RIGHT, 7, (622831280, 874644316)),
+    (
+        (12309758, 32),
+        (0, -3),
+        (-2, -3),
+        RIGHT,
+        32,
+        (-585073850, -900338820),
+    ),
+    (
+        (4194304, 4),
+        (1, 0),
+        (1, -8),
+        LEFT,
+        837,
+        (129887817, -1065856039),
+    ),
+    (
+        (4194304, 32),
+        (7, -3),
+        (7, -2),
+        RIGHT,
+        1003,
+        (1033096426, -292628520),
+    ),
+    (
+        (1, 40),
+        (3, 4),
+        (-7, 2),
+        LEFT,
+        315,
+        (-1031483061, 298267677),
+    ),
+    (
+        (68356528, 5),
+        (-5, 12),
+        (-5, -12),
+        RIGHT,
+        40,
+        (-360511113, -1011411439),
+    ),
+    (
+        (4294967295, 0),
+        (-5, 12),
+        (-5, -12),
+        LEFT,
+        3,
+        (-542077233, -926862324),
+    ),
+];
+
+#[test]
+fn arcs_of_i16(rt: HostRuntime) -> Result<(), Fail> {
+    for ((bits, precision), from, to, sense, count, last) in ARCS_OF_I16.iter().copied() {
+        let mut arcs = ArcBuilder::<i16>::new(rt.alloc(), options(bits, precision));
+        let arc = arcs.build(of_i16(&rt, from), of_i16(&rt, to), sense)?;
+        assert_eq!(rt; told(arc), (count, last), "{from:?} to {to:?}");
+    }
+    Ok(())
+}
+
+#[test]
+fn arcs_of_i32(rt: HostRuntime) -> Result<(), Fail> {
+    for ((bits, precision), from, to, sense, count, last) in ARCS_OF_I32.iter().copied() {
+        let mut arcs = ArcBuilder::<i32>::new(rt.alloc(), options(bits, precision));
+        let arc = arcs.build(of_i32(&rt, from), of_i32(&rt, to), sense)?;
+        assert_eq!(rt; told(arc), (count, last), "{from:?} to {to:?}");
+    }
+    Ok(())
+}
+
+#[test]
+fn first_direction(rt: HostRuntime) -> Result<(), Fail> {
+    let mut arcs = ArcBuilder::<i32>::new(rt.alloc(), ArcOptions::default());
+    let arc = arcs.build(of_i32(&rt, (1, 0)), of_i32(&rt, (0, 1)), LEFT)?;
+    let reach = arc.first().ok_or("no direction")?.scale(1024);
+    assert_eq!(rt; (reach.x, reach.y), (741, 707));
+    Ok(())
+}
+
+/// Bits and precisions of options, and those that the builder has.
+const CLAMPED: &[((u32, u32), (u32, u32))] = &[
+    (DEFAULT, DEFAULT),
+    ((1, 40), (4_194_304, 32)),
+    ((0, 0), (4_194_304, 4)),
+    ((4_194_303, 3), (4_194_304, 4)),
+    ((4_194_305, 33), (4_194_305, 32)),
+    ((536_870_913, 31), (536_870_912, 31)),
+    ((4_294_967_295, 4_294_967_295), (536_870_912, 32)),
+];
+
+#[test]
+fn clamped_options(rt: HostRuntime) {
+    assert_eq!(rt; ArcOptions::default(), options(DEFAULT.0, DEFAULT.1));
+    for (asked, used) in CLAMPED.iter().copied() {
+        let arcs = ArcBuilder::<i16>::new(rt.alloc(), options(asked.0, asked.1));
+        assert_eq!(rt; arcs.options(), options(used.0, used.1), "{asked:?}");
+        assert!(rt; arcs.directions().is_empty(), "{asked:?}");
+    }
+}
+
+/// A value builds each arc as a new one does, whatever it built before.
+#[test]
+fn built_again(rt: HostRuntime) -> Result<(), Fail> {
+    let fine = options(12_309_758, 32);
+    let mut kept = ArcBuilder::<i32>::new(rt.alloc(), fine);
+    for (_, from, to, sense, _, _) in ARCS_OF_I32.iter().copied() {
+        let (from, to) = (of_i32(&rt, from), of_i32(&rt, to));
+        let mut fresh = ArcBuilder::<i32>::new(rt.alloc(), fine);
+        let wanted = fresh.build(from, to, sense)?;
+        expect_alike(&rt, kept.build(from, to, sense)?, wanted);
+        expect_alike(&rt, kept.directions(), wanted);
+        expect_alike(&rt, kept.build(from, to, sense)?, wanted);
+    }
+    Ok(())
+}
+
+fn expect_alike<I: IntNumber>(
+    rt: &impl Abort,
+    found: &[UnitIntVector<I>],
+    wanted: &[UnitIntVector<I>],
+) {
+    assert_eq!(rt; found.len(), wanted.len());
+    for (found, wanted) in found.iter().zip(wanted) {
+        assert_eq!(rt; plain(*found), plain(*wanted));
+    }
+}
+
+/// Where any allocation is refused there are no directions, and the next build answers; once an arc is built, building it
+/// again takes no memory.
+#[test]
+fn built_again_without_memory(rt: HostRuntime) {
+    let (from, to) = (of_i32(&rt, (1, 0)), of_i32(&rt, (1, -8)));
+    let mut arcs = ArcBuilder::<i32>::new(rt.alloc(), options(4_194_304, 4));
+    if arcs.build(from, to, LEFT).is_err() {
+        assert!(rt; arcs.directions().is_empty());
+        assert!(rt; arcs.build(from, to, LEFT).is_ok());
+    }
+    for _ in 0..3 {
+        assert!(rt; arcs.build(from, to, LEFT).is_ok());
+        assert_eq!(rt; arcs.directions().len(), 837);
+    }
+}
+
+/// Whether `w` lies ahead of `v` by at most the angle, of less than a quarter turn, with this sine and cosine.
+fn is_within(sense: ArcDirection, (sine, cosine): (i32, i32), v: Point, w: Point) -> bool {
+    let ahead = match sense {
+        ArcDirection::Counterclockwise => cross(v, w),
+        ArcDirection::Clockwise => cross(w, v),
+    };
+    let onward = dot(v, w);
+    let flat = ahead.wrapping_mul(i128::from(cosine)) <= onward.wrapping_mul(i128::from(sine));
+    0 <= ahead && 0 < onward && flat
+}
+
+/// Each gap of the arc, and the one to its end, is within a step. None of the tests' arcs breaks off.
+fn expect_gaps<I: IntNumber>(
+    rt: &impl Abort,
+    options: ArcOptions,
+    sense: ArcDirection,
+    (from, to): (UnitIntVector<I>, UnitIntVector<I>),
+    arc: &[UnitIntVector<I>],
+) {
+    let bound = options.max_step.sin_cos();
+    let mut last = plain(from);
+    for direction in arc {
+        let next = plain(*direction);
+        assert!(rt; is_within(sense, bound, last, next), "{last:?} to {next:?}");
+        assert!(rt; next != last, "{last:?} again");
+        last = next;
+    }
+    let end = plain(to);
+    assert!(rt; is_within(sense, bound, last, end), "{last:?} to {end:?}");
+}
+
+/// A vector that is not 0.
+fn vector(random: &mut Random) -> (i32, i32) {
+    let x = random.below(201) as i32;
+    let y = random.below(200) as i32;
+    (x.wrapping_sub(100), y.wrapping_mul(2).wrapping_sub(199))
+}
+
+/// The finest steps, with the least precision and the greatest, between 50 pairs of directions.
+#[test]
+fn fine_gaps(rt: HostRuntime) -> Result<(), Fail> {
+    let mut random = Random::new(1);
+    for precision in [4, 32] {
+        let fine = options(4_194_304, precision);
+        let mut small = ArcBuilder::<i16>::new(rt.alloc(), fine);
+        let mut large = ArcBuilder::<i32>::new(rt.alloc(), fine);
+        for _ in 0..25 {
+            let (from, to) = (vector(&mut random), vector(&mut random));
+            for sense in [LEFT, RIGHT] {
+                let ends = (of_i16(&rt, from), of_i16(&rt, to));
+                expect_gaps(&rt, fine, sense, ends, small.build(ends.0, ends.1, sense)?);
+                let ends = (of_i32(&rt, from), of_i32(&rt, to));
+                expect_gaps(&rt, fine, sense, ends, large.build(ends.0, ends.1, sense)?);
+            }
+        }
+    }
+    Ok(())
+}
