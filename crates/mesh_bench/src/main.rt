@@ -1,36 +1,23 @@
 //! Splits segments that look random, always the same, to measure the splitting. The first argument is their number.
 //! With the second argument `overlay` they are the sides of closed lists of four points, and are resolved into shapes.
-//! With `round` and a third argument so many corners of half a turn are joined by arcs, whose step has so many bits;
-//! with a fourth argument `arcs` the arcs alone are built. The time of either is told.
 #![tactic(auto)]
 
 ghost use Rattle.std.specs.Prelude.{◌<◌, ◌≤◌, ◌^◌};
-ghost use Rattle.mesh_num.specs.Direction.{IsFresh};
 
-use i_overlay_mesh::IntOutlineError;
-use i_overlay_mesh::outline::builder::OutlineBuilder;
-use i_overlay_mesh::outline::kind::ContourKind;
-use i_overlay_mesh::outline::offset::IntOutlineOffset;
 use mesh_below::below::{FillRule, Overlay, OverlayRule};
 use mesh_below::checks::are_resolvable;
 use mesh_below::given::are_proper;
 use mesh_below::grid::GridEdge;
 use mesh_below::splitter::split_edges;
-use mesh_join::arc::{ArcDirection, ArcOptions, IntegerArc};
-use mesh_join::style::{IntLineJoin, IntOutlineStyle};
-use mesh_num::num::{Angle, IntPoint, IntVector, OverlayInt, UnitIntVector};
+use mesh_num::num::IntPoint;
 use mesh_num::shape::segment::{Segment, SubjectSegments};
 use std::alloc::{AllocError, Global};
 use std::num::ParseIntError;
-use std::time::Instant;
 use std::{env, io};
 use thiserror::Error;
 
 /// The starts of the segments lie in a square of this side, in grid units.
 const SIDE: u64 = 1_048_576;
-
-/// How far corners are joined from, in grid units.
-const RADIUS: i32 = 1_048_576;
 
 /// Numbers that look random.
 #[derive(Drop)]
@@ -120,10 +107,8 @@ enum BenchError {
     OutOfMemory,
     #[error("the output can't be written")]
     Output,
-    #[error("an argument is no whole number")]
+    #[error("the first argument is no whole number")]
     Count,
-    #[error("a coordinate out of range")]
-    Range,
 }
 
 impl From<AllocError> for BenchError {
@@ -141,15 +126,6 @@ impl From<io::Error> for BenchError {
 impl From<ParseIntError> for BenchError {
     fn from(_error: ParseIntError) -> Self {
         BenchError::Count
-    }
-}
-
-impl From<IntOutlineError> for BenchError {
-    fn from(error: IntOutlineError) -> Self {
-        match error {
-            IntOutlineError::CoordinateOutOfRange => BenchError::Range,
-            IntOutlineError::OutOfMemory => BenchError::OutOfMemory,
-        }
     }
 }
 
@@ -195,113 +171,10 @@ fn resolve(rt: &HostRuntime, count: u64) -> Result<(), BenchError> {
     Ok(())
 }
 
-/// A contour that runs to and fro, as often as asked.
-fn spikes(alloc: Global, count: u64) -> Result<Vec<IntPoint<i32>>, AllocError> {
-    let mut contour = Vec::new(alloc);
-    for _ in 0..count {
-        contour.push(IntPoint::new(0, 0))?;
-        contour.push(IntPoint::new(RADIUS, 0))?;
-    }
-    Ok(contour)
-}
-
-/// The segments of the outline of a contour that moves as an outer boundary does.
-fn outlined<I: OverlayInt>(
-    alloc: Global,
-    contour: &Vec<IntPoint<I>>,
-    style: &IntOutlineStyle<I>,
-) -> Result<Vec<Segment<I>>, IntOutlineError> {
-    contour.validate_outline(style)?;
-    let mut segments = Vec::new(alloc);
-    if let Some(mut builder) = OutlineBuilder::for_kind(alloc, style, ContourKind::Outer) {
-        builder.build(contour, &mut segments)?;
-    }
-    Ok(segments)
-}
-
-/// Arcs with steps of so many bits.
-fn fine(step: u32) -> ArcOptions {
-    ArcOptions {
-        max_step: Angle::from_bits(step),
-        rotation_precision: 32,
-    }
-}
-
-fn join(rt: &HostRuntime, count: u64, step: u32) -> Result<(), BenchError> {
-    let contour = spikes(rt.alloc(), count / 2)?;
-    let style = IntOutlineStyle::new(RADIUS).line_join(IntLineJoin::Round(fine(step)));
-    let start = Instant::now(rt)?;
-    let segments = outlined(rt.alloc(), &contour, &style)?;
-    let time = start.elapsed(rt)?;
-    println!(rt;
-        "{} corners give {} segments in {} microseconds",
-        contour.len(),
-        segments.len(),
-        time.as_micros()
-    )?;
-    Ok(())
-}
-
-/// How many directions the arc from one direction to another has.
-fn arc_length(
-    arc: &mut IntegerArc<i32>,
-    from: UnitIntVector<i32>,
-    to: UnitIntVector<i32>,
-) -> Result<usize, AllocError>
-    requires from { IsFresh (2 ^ 30) from }
-    requires to { IsFresh (2 ^ 30) to }
-{
-    let directions = arc.build(from, to, ArcDirection::Counterclockwise)?;
-    Ok(directions.len())
-}
-
-fn repeat(
-    rt: &HostRuntime,
-    from: UnitIntVector<i32>,
-    to: UnitIntVector<i32>,
-    count: u64,
-    step: u32,
-) -> Result<(), BenchError>
-    requires from { IsFresh (2 ^ 30) from }
-    requires to { IsFresh (2 ^ 30) to }
-{
-    let mut arc = IntegerArc::new(rt.alloc(), fine(step));
-    let mut length = 0;
-    let start = Instant::now(rt)?;
-    for _ in 0..count {
-        length = arc_length(&mut arc, from, to)?;
-    }
-    let time = start.elapsed(rt)?;
-    println!(rt;
-        "{} arcs of {} directions in {} microseconds",
-        count,
-        length,
-        time.as_micros()
-    )?;
-    Ok(())
-}
-
-fn turn(rt: &HostRuntime, count: u64, step: u32) -> Result<(), BenchError> {
-    let Some(from) = IntVector::<i32>::new(0, -1).fast_normalize() else {
-        return Ok(());
-    };
-    let Some(to) = IntVector::<i32>::new(0, 1).fast_normalize() else {
-        return Ok(());
-    };
-    repeat(rt, from, to, count, step)
-}
-
 fn main(rt: HostRuntime) -> Result<(), BenchError> {
     let mut count: u64 = 100;
     if let Some(word) = env::args(&rt)?.nth(1) {
         count = word.parse::<u64>()?;
-    }
-    if let Some(word) = env::args(&rt)?.nth(3) {
-        let step = word.parse::<u32>()?;
-        if env::args(&rt)?.nth(4).is_some() {
-            return turn(&rt, count, step);
-        }
-        return join(&rt, count, step);
     }
     if env::args(&rt)?.nth(2).is_some() {
         return resolve(&rt, count);

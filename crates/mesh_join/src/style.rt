@@ -23,8 +23,8 @@ pub enum IntLineJoin {
     /// clipped by an edge whose ends are as far away as the peak of this angle would be. Slight turns are bevelled, and
     /// corners whose peak would turn back or lie past the padding.
     Miter(Angle),
-    /// An arc round the corner, whose points are at most the greatest step of the options apart, seen from the corner.
-    /// Points that rounding puts behind the one before them are left out.
+    /// An arc round the corner, whose directions are at most the greatest step of the options apart. Points that rounding
+    /// puts behind the one before them are left out.
     Round(ArcOptions),
 }
 
