@@ -73,7 +73,7 @@ impl Outline {
 }
 
 /// The edges of the outline of a contour, as the builder adds them.
-fn built<I: OverlayInt>(
+pub(crate) fn built<I: OverlayInt>(
     alloc: Global,
     path: &Vec<IntPoint<I>>,
     style: IntOutlineStyle<I>,

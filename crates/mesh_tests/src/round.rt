@@ -1,14 +1,13 @@
 //! Round outlines: worked ones, and how they wind near the vertices of many contours.
 
+use crate::outlines::built;
 use crate::pieces::Pieces;
-use i_overlay_mesh::outline::builder::OutlineBuilder;
 use i_overlay_mesh::outline::offset::IntOutlineOffset;
 use mesh_join::arc::ArcOptions;
-use mesh_join::join::Join;
 use mesh_join::style::{IntLineJoin, IntOutlineStyle};
 use mesh_num::num::{Angle, IntPoint, OverlayInt};
 use mesh_toolbox::compared::are_same_edges;
-use mesh_toolbox::edges::{edges_of_segments, plain_points, wide};
+use mesh_toolbox::edges::{plain_points, wide};
 use mesh_toolbox::lists::path;
 use mesh_toolbox::plain::{
     Edge, Point, closed, cross, dot, fan, is_balanced, minus, plus, refined, winding,
@@ -31,19 +30,6 @@ fn round<I: OverlayInt>(offset: I, (bits, rotation_precision): Fineness) -> IntO
         rotation_precision,
     });
     IntOutlineStyle::new(offset).line_join(join)
-}
-
-/// The edges of the outline of a contour, as the builder adds them.
-fn rounded<I: OverlayInt>(
-    alloc: Global,
-    path: &Vec<IntPoint<I>>,
-    style: IntOutlineStyle<I>,
-) -> Result<Vec<Edge>, Fail> {
-    path.validate_outline(&style)?;
-    let join = Join::new(alloc, style.join, style.miter_min_turn);
-    let mut segments = Vec::new(alloc);
-    OutlineBuilder::new(style.outer_offset, join).build(path, &mut segments)?;
-    Ok(edges_of_segments(alloc, &segments)?)
 }
 
 /// A contour, the offset, how fine the arcs are, and the loop that its outline is.
@@ -304,7 +290,7 @@ fn expect_loop<I: OverlayInt>(
     style: IntOutlineStyle<I>,
     points: &[Point],
 ) -> Result<(), Fail> {
-    let edges = rounded(alloc, &path(alloc, contour)?, style)?;
+    let edges = built(alloc, &path(alloc, contour)?, style)?;
     let wanted = closed(alloc, points)?;
     assert!(rt; are_same_edges(edges, wanted)?, "{contour:?}");
     Ok(())
@@ -525,7 +511,7 @@ fn expect_count<I: OverlayInt + From<i8>>(
     }
     let points = plain_points(alloc, &spots)?;
     let style = round(I::from(offset), fineness);
-    let edges = rounded(alloc, &path(alloc, &spots)?, style)?;
+    let edges = built(alloc, &path(alloc, &spots)?, style)?;
     let between = pieces(alloc, fineness, wide(I::UNIT), i128::from(offset), &points)?;
     let own = closed(alloc, &points)?;
     expect_winding(rt, &own, &edges, &between, &(contour, offset, fineness));
