@@ -4,6 +4,7 @@ use crate::outlines::built;
 use crate::pieces::Pieces;
 use i_overlay_mesh::outline::offset::IntOutlineOffset;
 use mesh_join::arc::ArcOptions;
+use mesh_join::join::Join;
 use mesh_join::style::{IntLineJoin, IntOutlineStyle};
 use mesh_num::num::{Angle, IntPoint, OverlayInt};
 use mesh_toolbox::compared::are_same_edges;
