@@ -4,10 +4,11 @@ mod table;
 
 use mesh_num::num::Angle;
 use std::process::Abort;
+use std::str::SplitWhitespace;
 use table::SINES;
 
 /// The next of the numbers of a row.
-fn number<'a>(rt: &impl Abort, words: &mut impl Iterator<Item = &'a str>) -> i64 {
+fn number(rt: &impl Abort, words: &mut SplitWhitespace<'_>) -> i64 {
     let word = words.next().expect(rt, "a number");
     word.parse::<i64>().expect(rt, "a whole number")
 }
