@@ -368,7 +368,7 @@ impl Arcs {
         let share = 1i128.wrapping_shl(precision);
         let most = i128::from(bits).wrapping_sub(reserve).wrapping_mul(share);
         let angle = most.checked_div(share.wrapping_add(1)).unwrap_or(0);
-        let (sine, cosine) = sine_and_cosine(angle as u32);
+        let (sine, cosine) = sine_and_cosine(u32::try_from(angle).unwrap_or(0));
         Arcs {
             unit,
             sense,

@@ -6,5 +6,5 @@ use Rattle.mesh_tests.proofs.outlines.built.Goals as goal
 
 pub build-requires : goal.build-requires
 build-requires g c =
-    let style = c.new-style.result in
+    let style = c.args.style in
     rw (c.deref.ensures.value, c.new.ensures, c.new-join.ensures) (movable _ (style_of g.I.IntNumber.value style) _ (c.in_ok-validate_outline.ensures.safe.0 refl))
