@@ -3,7 +3,7 @@
 use i_overlay_mesh::IntOutlineError;
 use mesh_join::join::Join;
 use mesh_join::style::{DEFAULT_MITER_MIN_TURN, IntLineJoin, IntOutlineStyle, MathMode};
-use mesh_num::num::Angle;
+use mesh_num::num::{Angle, IntNumber};
 use std::alloc::AllocError;
 use std::test::Fail;
 
@@ -47,18 +47,19 @@ const REACHES: [(u32, i16, i32); 8] = [
     (536_870_912, 0, 0),
 ];
 
+/// How far a miter reaches whose sharpest peak has so many bits.
+fn reach_of_a_miter<I: IntNumber>(bits: u32, radius: I) -> I::Wide {
+    Join::padding(IntLineJoin::Miter(Angle::from_bits(bits)), radius)
+}
+
 #[test]
 fn padding_of_a_miter(rt: HostRuntime) {
     for (bits, radius, want) in REACHES {
-        let miter = IntLineJoin::Miter(Angle::from_bits(bits));
-        assert!(rt; Join::padding(miter, radius) == want, "{radius} by {bits}");
-        assert!(rt;
-            Join::padding(miter, i32::from(radius)) == i64::from(want),
-            "{radius} by {bits}"
-        );
+        assert_eq!(rt; reach_of_a_miter(bits, radius), want, "{radius} by {bits}");
+        let wide = reach_of_a_miter(bits, i32::from(radius));
+        assert_eq!(rt; wide, i64::from(want), "{radius} by {bits}");
     }
-    let sharpest = IntLineJoin::Miter(Angle::from_bits(0));
-    assert!(rt; Join::padding(sharpest, i32::MIN) == 49_232_321_886);
+    assert_eq!(rt; reach_of_a_miter(0, i32::MIN), 49_232_321_886);
 }
 
 #[test]

@@ -327,13 +327,12 @@ fn paddings(rt: HostRuntime) -> Result<(), Fail> {
 fn component(unit: i128, x: i128, square: i128) -> i128 {
     let whole = unit.wrapping_mul(x);
     let goal = whole.wrapping_mul(whole);
-    let (mut size, mut bit) = (0i128, unit);
-    while bit > 0 {
-        let more = size.wrapping_add(bit);
+    let mut size = 0i128;
+    for shift in (0..31u32).rev() {
+        let more = size.wrapping_add(1i128.wrapping_shl(shift));
         if more.wrapping_mul(more).wrapping_mul(square) <= goal {
             size = more;
         }
-        bit /= 2;
     }
     size.wrapping_mul(x.signum())
 }
@@ -404,13 +403,16 @@ impl Arcs {
     /// The directions of the arc from one to another.
     fn directions(self, alloc: Global, from: Point, to: Point) -> Result<Vec<Point>, AllocError> {
         let mut found = Vec::new(alloc);
+        if self.is_within(from, to) {
+            return Ok(found);
+        }
         let mut last = from;
-        while found.len() < 1536 && !self.is_within(from, to) {
+        for _ in 0..1536 {
             let next = self.turned(last);
             let is_good = self.is_within(last, next) && 0 < self.ahead(last, next);
             let is_past = 0 <= self.ahead(last, to) && self.ahead(next, to) <= 0;
             if !is_good || (is_past && 0 <= dot(last, to)) {
-                break;
+                return Ok(found);
             }
             found.push(next)?;
             last = next;
