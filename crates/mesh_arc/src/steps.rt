@@ -94,12 +94,7 @@ impl<I: IntNumber> Steps<I> {
     }
 
     // Whether the arc ends before the step from `current` to `next`.
-    fn ends(
-        &self,
-        to: UnitIntVector<I>,
-        current: UnitIntVector<I>,
-        next: UnitIntVector<I>,
-    ) -> bool
+    fn ends(&self, to: UnitIntVector<I>, current: UnitIntVector<I>, next: UnitIntVector<I>) -> bool
         ensures { result ≡ (not (is_good_of self.now.sense self.now.bound current next) || is_passed_of self.now.sense to current next) }
     {
         !self.is_good(current, next) || self.is_passed(to, current, next)

@@ -97,11 +97,7 @@ impl<I: IntNumber> Round<I> {
         Ok(())
     }
 
-    fn push(
-        &mut self,
-        joint: &Joint<I>,
-        segments: &mut Vec<Segment<I>>,
-    ) -> Result<(), AllocError>
+    fn push(&mut self, joint: &Joint<I>, segments: &mut Vec<Segment<I>>) -> Result<(), AllocError>
         requires joint { IsJoint I.unit (style_of_round self.old) joint.now }
         requires apart { same_point joint.now.first joint.now.last ≡ false }
         ensures ok { OnOk result (Appends segments.old segments.new (round_edges self.old.options I.unit joint.now)) }

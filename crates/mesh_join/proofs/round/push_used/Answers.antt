@@ -27,12 +27,14 @@ loop-direction-preserved g c =
     take_more c.args.directions.now c.loop-direction.direction-index c.direction-item.result (omega (arith, c.loop-direction-test.true))
     ∙ ap (λ (d : Point). take c.loop-direction.direction-index c.args.directions.now ++ (d ∷ [])) (sym c.direction-item.is) in
     rw e
-    (elim c.if-runs_on.branch [ then-runs_on+in_ok-push_straight w ↦
-      rw (w.segments-is, w.last-is)
-      (drawing_takes _ _ _ _ _ _ _ _ _ _ _ _ i c.arc_point-point.ensures (sym c.runs_on.ensures ∙ w.if-runs_on.true) w.in_ok-push_straight.ensures.ok w.in_ok-push_straight.ensures.capacity)
-    | else-runs_on w ↦
-      rw (w.segments-is, w.last-is)
-      (drawing_skips _ _ _ _ _ _ _ _ _ _ i c.arc_point-point.ensures (sym c.runs_on.ensures ∙ w.if-runs_on.false)) ])
+    (elim c.if-runs_on.branch [
+      | then-runs_on+in_ok-push_straight w ↦
+          rw (w.segments-is, w.last-is)
+          (drawing_takes _ _ _ _ _ _ _ _ _ _ _ _ i c.arc_point-point.ensures (sym c.runs_on.ensures ∙ w.if-runs_on.true) w.in_ok-push_straight.ensures.ok w.in_ok-push_straight.ensures.capacity)
+      | else-runs_on w ↦
+          rw (w.segments-is, w.last-is)
+          (drawing_skips _ _ _ _ _ _ _ _ _ _ i c.arc_point-point.ensures (sym c.runs_on.ensures ∙ w.if-runs_on.false))
+    ])
 
 pub returns-clause-ok : goal.returns-clause-ok
 returns-clause-ok g c =
