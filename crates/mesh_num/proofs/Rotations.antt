@@ -6,7 +6,9 @@ use Rattle.std.proofs.lemmas.Int.{ints}
 use Rattle.mesh_plane.specs.Plane.{Point, length_sq, dot}
 use Rattle.mesh_plane.proofs.Identities.{rotation_length}
 use Rattle.mesh_plane.proofs.Sizes.{size_square, size_neg, dot_self, le_of_squares}
-use Rattle.mesh_num.specs.Rotation.{cut, rotated, turned_round}
+use Rattle.mesh_num.specs.Direction.{IsShort}
+use Rattle.mesh_num.specs.Rotation.{cut, turned, rotated, turned_along, turned_round, IsWithinLength}
+use Rattle.mesh_plane.proofs.Rounding.{rounded_within}
 
 pub cut_size : (a : ℤ) → unsigned_abs (cut a) ≡ unsigned_abs a / 2 ^ 30
 cut_size (pos a) = refl
@@ -44,6 +46,24 @@ rotated_length s v h =
 pub turned_round_length : (s : Point) → length_sq (turned_round s) ≡ length_sq s
 turned_round_length s = rw (size_neg s.0) refl
 
--- the sine and the cosine are at most 2 ^ 30
-pub rotation_bounded : (s : Point) → length_sq s ≤ 2 ^ 60 → (unsigned_abs s.0 ≤ 2 ^ 30) × (unsigned_abs s.1 ≤ 2 ^ 30)
-rotation_bounded s h = (le_of_squares (unsigned_abs s.0) (2 ^ 30) (omega arith), le_of_squares (unsigned_abs s.1) (2 ^ 30) (omega arith))
+-- a point turned with the axis x to a direction passes its own length in no coordinate
+pub turned_along_within : (unit : ℕ) (n v : Point) → 0 < unit → IsShort unit n → IsWithinLength v (turned_along unit n v)
+turned_along_within unit n v h short reach r =
+    let w = turned (n.1, n.0) v in
+    let a : length_sq (n.1, n.0) * length_sq v ≤ (unit * unit) * (reach * reach) = mul-le-mul (omega (arith, short)) r in
+    let b : unsigned_abs w.0 * unsigned_abs w.0 ≤ (reach * unit) * (reach * unit) = omega (arith, a, whole_length (n.1, n.0) v) in
+    let c : unsigned_abs w.1 * unsigned_abs w.1 ≤ (reach * unit) * (reach * unit) = omega (arith, a, whole_length (n.1, n.0) v) in
+    (rounded_within w.0 unit reach h (le_of_squares (unsigned_abs w.0) (reach * unit) b), rounded_within w.1 unit reach h (le_of_squares (unsigned_abs w.1) (reach * unit) c))
+
+-- before the rounding, a point of at most `2 * unit` in each coordinate
+pub turned_bounded : (unit : ℕ) (n v : Point) → IsShort unit n → unsigned_abs v.0 ≤ 2 * unit → unsigned_abs v.1 ≤ 2 * unit →
+    (unsigned_abs (turned (n.1, n.0) v).0 ≤ 4 * unit * unit) × (unsigned_abs (turned (n.1, n.0) v).1 ≤ 4 * unit * unit)
+turned_bounded unit n v short x y =
+    let w = turned (n.1, n.0) v in
+    let p : unsigned_abs v.0 * unsigned_abs v.0 ≤ (2 * unit) * (2 * unit) = mul-le-mul x x in
+    let q : unsigned_abs v.1 * unsigned_abs v.1 ≤ (2 * unit) * (2 * unit) = mul-le-mul y y in
+    let r : length_sq v ≤ (4 * unit) * (4 * unit) = omega (arith, p, q) in
+    let a : length_sq (n.1, n.0) * length_sq v ≤ (unit * unit) * ((4 * unit) * (4 * unit)) = mul-le-mul (omega (arith, short)) r in
+    let b : unsigned_abs w.0 * unsigned_abs w.0 ≤ (4 * unit * unit) * (4 * unit * unit) = omega (arith, a, whole_length (n.1, n.0) v) in
+    let c : unsigned_abs w.1 * unsigned_abs w.1 ≤ (4 * unit * unit) * (4 * unit * unit) = omega (arith, a, whole_length (n.1, n.0) v) in
+    (le_of_squares (unsigned_abs w.0) (4 * unit * unit) b, le_of_squares (unsigned_abs w.1) (4 * unit * unit) c)

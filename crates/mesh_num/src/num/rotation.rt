@@ -3,7 +3,7 @@
 ghost use Rattle.std.specs.Prelude.{◌≡◌, ◌^◌, ◌≤◌, ◌*ℤ◌, unsigned_abs};
 ghost use Rattle.mesh_plane.specs.Plane.{length_sq};
 ghost use Rattle.mesh_sine.specs.Sine.{sin_cos};
-ghost use Rattle.mesh_num.specs.Rotation.{cut as cut_of, rotated as rotated_of, turned_round};
+ghost use Rattle.mesh_num.specs.Rotation.{cut as cut_of, rotated as rotated_of, turned as turned_of, turned_round};
 
 use crate::num::angle::Angle;
 use crate::num::convert::widen;
@@ -85,24 +85,38 @@ impl<I: IntNumber> Rotation<I> {
 fn rotated(rotation: (i128, i128), vector: (i128, i128)) -> (i128, i128)
     requires sine { unsigned_abs rotation.0 ≤ 2 ^ 30 }
     requires cosine { unsigned_abs rotation.1 ≤ 2 ^ 30 }
-    requires x { unsigned_abs vector.0 ≤ 2 ^ 30 }
-    requires y { unsigned_abs vector.1 ≤ 2 ^ 30 }
+    requires x { unsigned_abs vector.0 ≤ 2 ^ 31 }
+    requires y { unsigned_abs vector.1 ≤ 2 ^ 31 }
     ensures { result ≡ rotated_of rotation vector }
+{
+    let (x, y) = turned(rotation, vector);
+    (cut(x), cut(y))
+}
+
+/// A vector turned by an angle, times the denominator of the angle's sine and cosine.
+pub(crate) fn turned(rotation: (i128, i128), vector: (i128, i128)) -> (i128, i128)
+    requires sine { unsigned_abs rotation.0 ≤ 2 ^ 30 }
+    requires cosine { unsigned_abs rotation.1 ≤ 2 ^ 30 }
+    requires x { unsigned_abs vector.0 ≤ 2 ^ 31 }
+    requires y { unsigned_abs vector.1 ≤ 2 ^ 31 }
+    ensures value { result ≡ turned_of rotation vector }
+    ensures x_size { unsigned_abs result.0 ≤ 2 ^ 62 }
+    ensures y_size { unsigned_abs result.1 ≤ 2 ^ 62 }
 {
     let (sine, cosine) = rotation;
     let (x, y) = vector;
     (
-        cut(product(cosine, x) - product(sine, y)),
-        cut(product(sine, x) + product(cosine, y)),
+        product(cosine, x) - product(sine, y),
+        product(sine, x) + product(cosine, y),
     )
 }
 
-// A product of numbers of at most 2^30 in size.
+// A product of a sine and a component of a vector.
 fn product(a: i128, b: i128) -> i128
     requires a { unsigned_abs a ≤ 2 ^ 30 }
-    requires b { unsigned_abs b ≤ 2 ^ 30 }
+    requires b { unsigned_abs b ≤ 2 ^ 31 }
     ensures value { result ≡ a *ℤ b }
-    ensures size { unsigned_abs result ≤ 2 ^ 60 }
+    ensures size { unsigned_abs result ≤ 2 ^ 61 }
 {
     a * b
 }

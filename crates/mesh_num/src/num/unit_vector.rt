@@ -5,11 +5,14 @@ ghost use Rattle.mesh_plane.specs.Bounds.{IsSafe};
 ghost use Rattle.mesh_plane.specs.Plane.{length_sq};
 ghost use Rattle.mesh_num.specs.Direction.{IsDirection, IsFresh, IsShort, KeepsOpposites, SameWay, KeepsTurns};
 ghost use Rattle.mesh_num.specs.Direction.{KeepsScaledTurns, scaled, scaled_direction};
+ghost use Rattle.mesh_num.specs.Rotation.{turned_along, IsWithinLength};
+ghost use Rattle.mesh_plane.specs.Rounding.{rounded};
 
 use crate::num::convert::{narrow, unit, widen};
 use crate::num::exact::square_sum;
 use crate::num::number::{IntNumber, WideNumber};
-use crate::num::point::IntVector;
+use crate::num::point::{IntPoint, IntVector};
+use crate::num::rotation::turned;
 use crate::num::search;
 use std::alloc::AllocError;
 use std::marker::Model;
@@ -95,6 +98,30 @@ impl<I: IntNumber> UnitIntVector<I> {
     {
         IntVector::new(scale_part(self.x, radius), scale_part(self.y, radius))
     }
+}
+
+impl<I: IntNumber> UnitIntVector<I> {
+    /// A point turned with the axis x to this direction, in grid units: as the direction holds the cosine and the sine of
+    /// its angle, both times `UNIT`. Each component is rounded to the nearest whole number, halves away from zero. None
+    /// passes the length of the point, made a whole number that is not less.
+    pub fn rotate(self, point: IntPoint<I>) -> IntVector<I>
+        ensures value { result ≡ turned_along I.unit self point }
+        ensures within { IsWithinLength point result }
+    {
+        let (x, y) = turned(
+            (widen(self.y), widen(self.x)),
+            (widen(point.x), widen(point.y)),
+        );
+        IntVector::new(over_unit::<I>(x), over_unit::<I>(y))
+    }
+}
+
+// A number over `UNIT`, rounded.
+fn over_unit<I: IntNumber>(number: i128) -> I::Wide
+    requires { unsigned_abs number ≤ 4 * I.unit * I.unit }
+    ensures { I.Wide.value result ≡ rounded number I.unit }
+{
+    I::Wide::from_i128(search::rounded_quotient(number, unit::<I>()))
 }
 
 // One component of a direction times a radius.
