@@ -1,9 +1,14 @@
 //! Splits segments that look random, always the same, to measure the splitting. The first argument is their number.
 //! With the second argument `overlay` they are the sides of closed lists of four points, and are resolved into shapes.
+//! With the second argument `round` so many round joins are added instead, with arcs of as many directions as the third
+//! argument tells, 8 where there is none.
 #![tactic(auto)]
+
+mod joins;
 
 ghost use Rattle.std.specs.Prelude.{◌<◌, ◌≤◌, ◌^◌};
 
+use crate::joins::add_joins;
 use mesh_below::below::{FillRule, Overlay, OverlayRule};
 use mesh_below::checks::are_resolvable;
 use mesh_below::given::are_proper;
@@ -102,13 +107,15 @@ fn push_contour(
 
 /// Why a run ends early.
 #[derive(Debug, Clone, Copy, Error)]
-enum BenchError {
+pub(crate) enum BenchError {
     #[error("out of memory")]
     OutOfMemory,
     #[error("the output can't be written")]
     Output,
-    #[error("the first argument is no whole number")]
+    #[error("a count is no whole number")]
     Count,
+    #[error("the second argument is neither `overlay` nor `round`")]
+    Family,
 }
 
 impl From<AllocError> for BenchError {
@@ -171,13 +178,26 @@ fn resolve(rt: &HostRuntime, count: u64) -> Result<(), BenchError> {
     Ok(())
 }
 
+/// Adds round joins with arcs of as many directions as the third argument tells.
+fn join(rt: &HostRuntime, count: u64) -> Result<(), BenchError> {
+    let mut directions: u32 = 8;
+    if let Some(word) = env::args(rt)?.nth(3) {
+        directions = word.parse::<u32>()?;
+    }
+    add_joins(rt, count, directions)
+}
+
 fn main(rt: HostRuntime) -> Result<(), BenchError> {
     let mut count: u64 = 100;
     if let Some(word) = env::args(&rt)?.nth(1) {
         count = word.parse::<u64>()?;
     }
-    if env::args(&rt)?.nth(2).is_some() {
-        return resolve(&rt, count);
+    let Some(family) = env::args(&rt)?.nth(2) else {
+        return split(&rt, count);
+    };
+    match family.as_str() {
+        "overlay" => resolve(&rt, count),
+        "round" => join(&rt, count),
+        _ => Err(BenchError::Family),
     }
-    split(&rt, count)
 }

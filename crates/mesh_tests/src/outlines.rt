@@ -24,9 +24,6 @@ pub struct Outline {
     pub between: Pieces,
 }
 
-/// Steps on the grid 2.
-const STEPS: [i128; 9] = [-4, -3, -2, -1, 0, 1, 2, 3, 4];
-
 impl Outline {
     /// The bevelled outline.
     fn new<I: OverlayInt>(alloc: Global, contour: &[(I, I)], offset: I) -> Result<Outline, Fail> {
@@ -49,14 +46,27 @@ impl Outline {
         })
     }
 
-    /// The edges close up, and near each vertex they wind as often as the contour, and once more for each piece,
-    /// for a negative offset once less.
+    /// Near each vertex of the contour and of its outline the edges wind as they have to.
     fn expect_count(&self, rt: &impl Abort, case: &impl Debug) {
+        self.expect_count_near(rt, &self.own, 4, case);
+        self.expect_count_near(rt, &self.edges, 4, case);
+    }
+
+    /// The edges close up, and up to this distance, on the grid 2, from the starts of these edges they wind as often as
+    /// the contour, and once more for each piece, for a negative offset once less.
+    pub fn expect_count_near(
+        &self,
+        rt: &impl Abort,
+        vertices: &[Edge],
+        distance: i128,
+        case: &impl Debug,
+    ) {
         assert!(rt; is_balanced(&self.edges), "{case:?}");
-        for edge in self.own.iter().chain(self.edges.iter()) {
-            let middle = refined(2, edge.0);
-            for x in STEPS {
-                for y in STEPS {
+        let least = distance.wrapping_neg();
+        for (vertex, _) in vertices {
+            let middle = refined(2, *vertex);
+            for x in least..=distance {
+                for y in least..=distance {
                     self.expect_count_at(rt, plus(middle, (x, y)), case);
                 }
             }
@@ -181,8 +191,8 @@ fn worked_loops(rt: HostRuntime) -> Result<(), Fail> {
     Ok(())
 }
 
-/// A contour, the offset and the bits of the angle of its miters, from slight turns on, the loop that its outline is, and
-/// the points of the joins.
+/// A contour, the offset and the bits of the angle of its miters, from slight turns on, the loop that its outline is,
+/// and the points of the joins.
 type Mitered = (
     &'static [(i32, i32)],
     i32,

@@ -1,6 +1,6 @@
 //! Round outlines: worked ones, and how they wind near the vertices of many contours.
 
-use crate::outlines::built;
+use crate::outlines::{Outline, built};
 use crate::pieces::Pieces;
 use i_overlay_mesh::outline::offset::IntOutlineOffset;
 use mesh_join::arc::ArcOptions;
@@ -10,12 +10,9 @@ use mesh_num::num::{Angle, IntPoint, OverlayInt};
 use mesh_toolbox::compared::are_same_edges;
 use mesh_toolbox::edges::{plain_points, wide};
 use mesh_toolbox::lists::path;
-use mesh_toolbox::plain::{
-    Edge, Point, closed, cross, dot, fan, is_balanced, minus, plus, refined, winding,
-};
+use mesh_toolbox::plain::{Point, closed, cross, dot, fan, minus, plus};
 use mesh_toolbox::random::{Random, small_contour};
 use std::alloc::{AllocError, Global};
-use std::fmt::Debug;
 use std::process::Abort;
 use std::test::Fail;
 
@@ -297,8 +294,8 @@ fn expect_loop<I: OverlayInt>(
     Ok(())
 }
 
-/// Corners of a square and of lines, clockwise arcs, options past their ranges, and an arc whose last point falls behind
-/// the one before it.
+/// Corners of a square and of lines, clockwise arcs, options past their ranges, and an arc whose last point falls
+/// behind the one before it.
 #[test]
 fn worked_loops(rt: HostRuntime) -> Result<(), Fail> {
     for (contour, offset, fineness, points) in LOOPS_OF_I32.iter().copied() {
@@ -472,34 +469,7 @@ fn pieces(
     Ok(Pieces { boundaries, offset })
 }
 
-/// Steps on the grid 2, to points of the grid and between them.
-const STEPS: [i128; 9] = [-7, -4, -3, -1, 0, 1, 2, 5, 6];
-
-/// The edges close up, and near each vertex of the contour they wind as often as the contour, and once more for each
-/// piece, for a negative offset once less.
-fn expect_winding(
-    rt: &impl Abort,
-    own: &[Edge],
-    edges: &[Edge],
-    between: &Pieces,
-    case: &impl Debug,
-) {
-    assert!(rt; is_balanced(edges), "{case:?}");
-    for (vertex, _) in own {
-        for x in STEPS {
-            for y in STEPS {
-                let q = plus(refined(2, *vertex), (x, y));
-                let (count, once) = between.count(2, q);
-                let more = count.wrapping_mul(between.offset.signum());
-                let want = winding(2, q, own).wrapping_add(more);
-                assert!(rt; once, "at {q:?} of {case:?}");
-                assert_eq!(rt; winding(2, q, edges), want, "at {q:?} of {case:?}");
-            }
-        }
-    }
-}
-
-/// The round outline of a contour of small coordinates winds as it has to.
+/// Near each vertex of a contour, up to where its joins reach, the round outline winds as it has to.
 fn expect_count<I: OverlayInt + From<i8>>(
     rt: &impl Abort,
     alloc: Global,
@@ -512,35 +482,96 @@ fn expect_count<I: OverlayInt + From<i8>>(
         spots.push((I::from(*x), I::from(*y)))?;
     }
     let points = plain_points(alloc, &spots)?;
-    let style = round(I::from(offset), fineness);
-    let edges = built(alloc, &path(alloc, &spots)?, style)?;
-    let between = pieces(alloc, fineness, wide(I::UNIT), i128::from(offset), &points)?;
-    let own = closed(alloc, &points)?;
-    expect_winding(rt, &own, &edges, &between, &(contour, offset, fineness));
+    let plain_offset = i128::from(offset);
+    let outline = Outline {
+        own: closed(alloc, &points)?,
+        edges: built(
+            alloc,
+            &path(alloc, &spots)?,
+            round(I::from(offset), fineness),
+        )?,
+        between: pieces(alloc, fineness, wide(I::UNIT), plain_offset, &points)?,
+    };
+    let distance = plain_offset.wrapping_abs().wrapping_mul(2).wrapping_add(1);
+    outline.expect_count_near(rt, &outline.own, distance, &(contour, offset, fineness));
     Ok(())
 }
 
-/// The finest steps, with the least precision and the greatest, others, and the default.
-const FINENESSES: [Fineness; 5] = [
+/// The finest steps, with the least precision and the greatest, and others.
+const FINE: [Fineness; 4] = [
     (12_309_758, 32),
     (4_194_304, 4),
     (4_194_304, 32),
     (68_356_528, 5),
-    DEFAULT,
 ];
 
-#[test]
-fn winding_near_small_contours(rt: HostRuntime) -> Result<(), Fail> {
-    let alloc = rt.alloc();
-    let mut random = Random::new(1);
+/// A contour for each radius and fineness, outwards and inwards.
+fn expect_counts(
+    rt: &impl Abort,
+    alloc: Global,
+    seed: u64,
+    finenesses: &[Fineness],
+) -> Result<(), Fail> {
+    let mut random = Random::new(seed);
     for radius in [1i8, 2, 3] {
-        for fineness in FINENESSES {
+        for fineness in finenesses.iter().copied() {
             let contour = small_contour(alloc, &mut random)?;
             for offset in [radius, radius.wrapping_neg()] {
-                expect_count::<i16>(&rt, alloc, &contour, offset, fineness)?;
-                expect_count::<i32>(&rt, alloc, &contour, offset, fineness)?;
+                expect_count::<i16>(rt, alloc, &contour, offset, fineness)?;
+                expect_count::<i32>(rt, alloc, &contour, offset, fineness)?;
             }
         }
     }
     Ok(())
+}
+
+// More than 100 contours with fine steps, in several tests, as the time of a test is limited.
+#[test]
+fn winding_of_seed_1(rt: HostRuntime) -> Result<(), Fail> {
+    expect_counts(&rt, rt.alloc(), 1, &FINE)
+}
+
+#[test]
+fn winding_of_seed_2(rt: HostRuntime) -> Result<(), Fail> {
+    expect_counts(&rt, rt.alloc(), 2, &FINE)
+}
+
+#[test]
+fn winding_of_seed_3(rt: HostRuntime) -> Result<(), Fail> {
+    expect_counts(&rt, rt.alloc(), 3, &FINE)
+}
+
+#[test]
+fn winding_of_seed_4(rt: HostRuntime) -> Result<(), Fail> {
+    expect_counts(&rt, rt.alloc(), 4, &FINE)
+}
+
+#[test]
+fn winding_of_seed_5(rt: HostRuntime) -> Result<(), Fail> {
+    expect_counts(&rt, rt.alloc(), 5, &FINE)
+}
+
+#[test]
+fn winding_of_seed_6(rt: HostRuntime) -> Result<(), Fail> {
+    expect_counts(&rt, rt.alloc(), 6, &FINE)
+}
+
+#[test]
+fn winding_of_seed_7(rt: HostRuntime) -> Result<(), Fail> {
+    expect_counts(&rt, rt.alloc(), 7, &FINE)
+}
+
+#[test]
+fn winding_of_seed_8(rt: HostRuntime) -> Result<(), Fail> {
+    expect_counts(&rt, rt.alloc(), 8, &FINE)
+}
+
+#[test]
+fn winding_of_seed_9(rt: HostRuntime) -> Result<(), Fail> {
+    expect_counts(&rt, rt.alloc(), 9, &FINE)
+}
+
+#[test]
+fn winding_by_default(rt: HostRuntime) -> Result<(), Fail> {
+    expect_counts(&rt, rt.alloc(), 10, &[DEFAULT, DEFAULT, DEFAULT, DEFAULT])
 }
