@@ -1,4 +1,5 @@
 pub mod Adding
+pub mod Apart
 pub mod Drawn
 pub mod Padding
 pub mod PaddingBounds

@@ -10,7 +10,7 @@ pub mod join;
 mod joint;
 mod miter;
 mod round;
-mod route;
+pub mod route;
 pub mod style;
 
 pub use mesh_arc::arc;

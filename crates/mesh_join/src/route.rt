@@ -9,7 +9,7 @@ use mesh_num::shape::segment::{Segment, SubjectSegments};
 use std::alloc::AllocError;
 
 /// Adds the edge from `a` to `b`.
-pub(crate) fn push_straight<I: IntNumber>(
+pub fn push_straight<I: IntNumber>(
     a: IntPoint<I>,
     b: IntPoint<I>,
     segments: &mut Vec<Segment<I>>,
@@ -23,7 +23,7 @@ pub(crate) fn push_straight<I: IntNumber>(
 }
 
 /// Adds the edges from `a` through `p` to `b`.
-pub(crate) fn push_through<I: IntNumber>(
+pub fn push_through<I: IntNumber>(
     a: IntPoint<I>,
     p: IntPoint<I>,
     b: IntPoint<I>,
@@ -39,7 +39,7 @@ pub(crate) fn push_through<I: IntNumber>(
 }
 
 /// Adds the edges from `a` through `p` and `q` to `b`.
-pub(crate) fn push_through_both<I: IntNumber>(
+pub fn push_through_both<I: IntNumber>(
     a: IntPoint<I>,
     p: IntPoint<I>,
     q: IntPoint<I>,

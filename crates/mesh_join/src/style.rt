@@ -1,9 +1,10 @@
-//! Styles: offsets, joins and the arithmetic that they are computed with.
+//! Styles: offsets, widths, joins, caps and the arithmetic that they are computed with.
 
 ghost use Rattle.std.specs.Prelude.{◌≡◌};
 
 use mesh_arc::arc::ArcOptions;
-use mesh_num::num::{Angle, IntNumber};
+use mesh_num::num::{Angle, IntNumber, IntPoint};
+use std::rc::RcSlice;
 
 /// The arithmetic of a construction. Whole numbers give the same result on every machine.
 #[derive(Debug, Clone, Copy, PartialEq, Eq)]
@@ -111,5 +112,111 @@ impl<I: IntNumber> IntOutlineStyle<I> {
         ensures { result ≡ record self { math = math } }
     {
         IntOutlineStyle { math, ..self }
+    }
+}
+
+/// How an end of an open path is closed.
+#[derive(Debug, Clone, Drop)]
+pub enum IntLineCap<I: IntNumber> {
+    /// The straight edge through the end.
+    Butt,
+    /// The edge moved outwards by half the width, and the two edges that lead to it.
+    Square,
+    /// An arc round the end, whose directions are at most the greatest step of the options apart. Points that rounding puts
+    /// behind the one before them are left out.
+    Round(ArcOptions),
+    /// Edges through these points, in grid units, round an end at (0, 0) that looks along the axis x; they are turned to
+    /// the direction in which the end looks. From the right of the path, where y is below 0, they lead to its left.
+    Custom(RcSlice<IntPoint<I>>),
+}
+
+/// How paths are stroked.
+#[derive(Debug, Clone, Drop)]
+pub struct IntStrokeStyle<I: IntNumber> {
+    /// The width in grid units; half of it is rounded up. Nothing is drawn for a width of at most 2.
+    pub width: I,
+    /// The cap at the start of an open path.
+    pub start_cap: IntLineCap<I>,
+    /// The cap at the end of an open path.
+    pub end_cap: IntLineCap<I>,
+    /// The join of two neighbouring sections on the side that they turn away from.
+    pub join: IntLineJoin,
+    /// The turn below which a miter is a bevel. More than half a turn counts as half a turn.
+    pub miter_min_turn: Angle,
+    /// The arithmetic.
+    pub math: MathMode,
+}
+
+impl<I: IntNumber> IntStrokeStyle<I> {
+    /// Strokes of this width, with butt caps and bevels.
+    pub fn new(width: I) -> Self
+        ensures { result ≡ record {
+          width = width;
+          start_cap = IntLineCap.Butt;
+          end_cap = IntLineCap.Butt;
+          join = IntLineJoin.Bevel;
+          miter_min_turn = 59652323;
+          math = MathMode.Integer;
+        } }
+    {
+        IntStrokeStyle {
+            width,
+            start_cap: IntLineCap::Butt,
+            end_cap: IntLineCap::Butt,
+            join: IntLineJoin::Bevel,
+            miter_min_turn: Angle::from_bits(DEFAULT_MITER_MIN_TURN),
+            math: MathMode::Integer,
+        }
+    }
+
+    /// The style with another width.
+    pub fn width(self, width: I) -> Self
+        ensures { result ≡ record self { width = width } }
+    {
+        IntStrokeStyle { width, ..self }
+    }
+
+    /// The style with another cap at the start.
+    pub fn start_cap(self, cap: IntLineCap<I>) -> Self
+        ensures { result ≡ record self { start_cap = cap } }
+    {
+        IntStrokeStyle {
+            start_cap: cap,
+            ..self
+        }
+    }
+
+    /// The style with another cap at the end.
+    pub fn end_cap(self, cap: IntLineCap<I>) -> Self
+        ensures { result ≡ record self { end_cap = cap } }
+    {
+        IntStrokeStyle {
+            end_cap: cap,
+            ..self
+        }
+    }
+
+    /// The style with another join.
+    pub fn line_join(self, join: IntLineJoin) -> Self
+        ensures { result ≡ record self { join = join } }
+    {
+        IntStrokeStyle { join, ..self }
+    }
+
+    /// The style with another turn below which a miter is a bevel. More than half a turn counts as half a turn.
+    pub fn miter_min_turn(self, turn: Angle) -> Self
+        ensures { result ≡ record self { miter_min_turn = turn } }
+    {
+        IntStrokeStyle {
+            miter_min_turn: turn,
+            ..self
+        }
+    }
+
+    /// The style with another arithmetic.
+    pub fn math(self, math: MathMode) -> Self
+        ensures { result ≡ record self { math = math } }
+    {
+        IntStrokeStyle { math, ..self }
     }
 }

@@ -8,6 +8,7 @@ use Rattle.std.proofs.lemmas.Bool.Decides.{leb_tells}
 use Rattle.std.proofs.lemmas.Int.{ints}
 use Rattle.std.proofs.lemmas.List.Elements.{All-map, All-weaker}
 use Rattle.mesh_plane.proofs.Identities.{cross_flip}
+use Rattle.mesh_draw.proofs.Apart.{apart_long}
 use Rattle.mesh_plane.specs.Plane.{Point, Edge, plus, minus, opposite, cross, dot, turn, right_quarter, length_sq}
 use Rattle.mesh_num.specs.Direction.{IsFresh, IsShort, scaled_direction}
 use Rattle.mesh_num.specs.Directed.{direction_of}
@@ -27,23 +28,6 @@ use Rattle.mesh_join.specs.Styles.{OffsetJoin}
 use Rattle.mesh_outline.specs.Outline.{Section, Corner, own_edge, sideways, section_of, parts, sense_for, joint_at, IsRing}
 use Rattle.mesh_draw.specs.Drawing.{sided}
 use Rattle.mesh_outline.specs.Building.{IsCorner}
-
--- vectors between different points
-square_none : (n : ℕ) → n * n < 1 → n ≡ 0
-square_none zero h = refl
-square_none (suc n) h = absurd (omega arith)
-
-pub apart_long : (e : Edge) → e.0 ≢ e.1 → 0 < length_sq (minus e.1 e.0)
-apart_long e apart = by (leb_tells 1 (length_sq (minus e.1 e.0)))
-  where
-    by : ((leb 1 (length_sq (minus e.1 e.0)) ≡ true) × (1 ≤ length_sq (minus e.1 e.0))) ⊎ ((leb 1 (length_sq (minus e.1 e.0)) ≡ false) × (length_sq (minus e.1 e.0) < 1)) → 0 < length_sq (minus e.1 e.0)
-    by (inl h) = omega arith
-    by (inr h) =
-        let x : unsigned_abs (e.1.0 -ℤ e.0.0) ≡ 0 = square_none (unsigned_abs (e.1.0 -ℤ e.0.0)) (omega arith) in
-        let y : unsigned_abs (e.1.1 -ℤ e.0.1) ≡ 0 = square_none (unsigned_abs (e.1.1 -ℤ e.0.1)) (omega arith) in
-        let ex : e.0.0 ≡ e.1.0 = omega (arith, ints) in
-        let ey : e.0.1 ≡ e.1.1 = omega (arith, ints) in
-        absurd (apart (λ i. (ex i, ey i)))
 
 -- on each side
 pub negative : (offset : ℤ) → int_lt offset (pos 0) ≡ true → offset <ℤ pos 0

@@ -30,7 +30,8 @@ use Rattle.mesh_join.specs.Joints.{NeverTurnsBack}
 use Rattle.mesh_join.specs.Styles.{OffsetJoin}
 use Rattle.mesh_outline.specs.Outline.{Corner, own_edge, strip, outer_edges, corner_pieces, drawn_pieces, sideways, section_of, parts, sense_for, joint_at, joined, ring_outline, ring_pieces, IsRing}
 use Rattle.mesh_draw.specs.Drawing.{sided}
-use Rattle.mesh_outline.proofs.Corners.{apart_long, negative, not_negative, corners, corners_keep}
+use Rattle.mesh_draw.proofs.Apart.{apart_long}
+use Rattle.mesh_outline.proofs.Corners.{negative, not_negative, corners, corners_keep}
 use Rattle.mesh_outline.proofs.OutlineSum.{IsClosed, Stays, drawn_total, still_total}
 
 -- the turns of moved points are products of the vectors

@@ -1,0 +1,8 @@
+use Rattle.std.proofs.Common.{take, vec_capacity}
+use Rattle.mesh_cap.proofs.CustomCaps.{IsDrawn}
+use Rattle.mesh_cap.proofs.custom.add.Given as goal
+
+abbrev pub invariant-loop-point : goal.invariant-loop-point
+invariant-loop-point g l =
+    IsDrawn g.I.IntNumber.unit l.end l.fn.segments.items (vec_capacity l.fn.segments)
+    (take l.point-index l.points) l.last l.segments.items (vec_capacity l.segments)

@@ -1,0 +1,6 @@
+pub mod ButtCaps
+pub mod Caps
+pub mod CustomCaps
+pub mod Ends
+pub mod Kinds
+pub mod SquareCaps

@@ -1,0 +1,42 @@
+//! The ends of open paths.
+
+ghost use Rattle.std.specs.Prelude.{◌≡◌};
+ghost use Rattle.mesh_plane.specs.Bounds.{IsSafe};
+ghost use Rattle.mesh_plane.specs.Plane.{plus};
+
+use mesh_num::num::{IntNumber, IntPoint, IntVector, UnitIntVector};
+use std::marker::Model;
+
+/// The end of an open path, the points to its right and to its left, the direction in which the path ends there, the
+/// opposite one, and how far both points are away. Contracts see the half turn round it.
+#[derive(Drop)]
+pub struct PathEnd<I: IntNumber> {
+    pub center: IntPoint<I>,
+    pub right: IntPoint<I>,
+    pub left: IntPoint<I>,
+    pub outward: UnitIntVector<I>,
+    pub inward: UnitIntVector<I>,
+    pub radius: I,
+}
+
+impl<I: IntNumber> Model for PathEnd<I> {
+    ghost use Rattle.mesh_join.specs.Joints.{Joint, joint};
+    ghost use Rattle.mesh_join.specs.Midway.RoundJoins.{HaveLength};
+    ghost use Rattle.mesh_arc.specs.declared.arc.ArcDirection.TheVariants.{Counterclockwise};
+
+    ghost Value = { Joint };
+
+    ghost view = { λ e. joint e.center e.right e.left e.outward e.inward (I.value e.radius) Counterclockwise };
+
+    ghost invariant = { λ e. HaveLength I.unit e.outward e.inward };
+}
+
+/// A point moved by a vector, which has to be safe there.
+pub(crate) fn moved<I: IntNumber>(point: IntPoint<I>, along: &IntVector<I>) -> IntPoint<I>
+    requires { IsSafe I.unit (plus point along.now) }
+    ensures { result ≡ plus point along.now }
+{
+    let x = point.x.to_wide() + along.x;
+    let y = point.y.to_wide() + along.y;
+    IntPoint::new(I::from_wide(x), I::from_wide(y))
+}

@@ -1,0 +1,165 @@
+-- Lemmas over points: the joins at the corners of a path are asked for as joins ask.
+use Rattle.std.proofs.Common.{◌≡◌, ◌≢◌, ℕ, ◌<◌, ◌≤◌, ◌^◌, List, ◌++◌, refl, sym, subst, ◌∙◌, ap, arith}
+use Rattle.std.specs.Prelude.{ℤ, pos, ◌*ℤ◌, ◌≤ℤ◌, ◌<ℤ◌, ◌↔◌, IsTrue, Bool, true, false, cond, int_lt}
+use Rattle.std.specs.List.{All}
+use Rattle.std.proofs.lemmas.Int.{ints, by_lt_z}
+use Rattle.std.proofs.lemmas.List.Elements.{All-weaker}
+use Rattle.mesh_plane.specs.Plane.{Point, Edge, plus, minus, cross, turn, right_quarter}
+use Rattle.mesh_plane.proofs.Identities.{cross_flip}
+use Rattle.mesh_plane.proofs.ClosedLists.{all_both}
+use Rattle.mesh_plane.proofs.Whole.{linear, multiplied}
+use Rattle.mesh_num.specs.Direction.{IsShort, scaled_direction}
+use Rattle.mesh_num.proofs.Parts.{direction_fresh, direction_short}
+use Rattle.mesh_num.proofs.Scaling.{scaled_turn_kept}
+use Rattle.mesh_cuts.specs.Split.{back}
+use Rattle.mesh_arc.specs.Arcs.{sense_of}
+use Rattle.mesh_arc.specs.declared.arc.ArcDirection.TheVariants.{Counterclockwise}
+use Rattle.mesh_join.specs.Joins.{IsJoint}
+use Rattle.mesh_join.specs.Joints.{joint, IsTurn, contact}
+use Rattle.mesh_join.specs.Styles.{JoinStyle}
+use Rattle.mesh_join.proofs.JoinLaws.{KeepsJoint}
+use Rattle.mesh_join.proofs.Joins.{join_keeps}
+use Rattle.mesh_stroke.specs.Paths.{neighbours}
+use Rattle.mesh_num.specs.Segments.{SignedEdge, segments_of}
+use Rattle.mesh_stroke.specs.Building.{Section, section_of, own_edge, IsCorner}
+use Rattle.mesh_stroke.specs.Strokes.{Corner, heading, facing, joint_right, inner_edges, outer_edges, corner_edges}
+use Rattle.mesh_stroke.proofs.Chains.{IsChain, neighbours_all}
+use Rattle.mesh_stroke.proofs.Sides.{heading_is}
+
+-- two edges with different ends that meet
+pub record IsMet (c : Corner) : Type 0 where
+  pub first : c.0.0 ≢ c.0.1
+  pub second : c.1.0 ≢ c.1.1
+  pub met : c.0.1 ≡ c.1.0
+
+-- each corner of a chain is one
+pub corners_met : (closed : Bool) (es : List Edge) → IsChain closed es → All IsMet (neighbours closed es)
+corners_met closed es chain =
+    All-weaker (λ (c : Corner). ((c.0.0 ≢ c.0.1) × (c.1.0 ≢ c.1.1)) × (c.0.1 ≡ c.1.0)) IsMet
+    (λ c h. record { first = h.0.0; second = h.0.1; met = h.1 }) (neighbours closed es)
+    (all_both (λ (c : Corner). (c.0.0 ≢ c.0.1) × (c.1.0 ≢ c.1.1)) (λ (c : Corner). c.0.1 ≡ c.1.0) (neighbours closed es)
+    (neighbours_all (λ (e : Edge). e.0 ≢ e.1) closed es chain.proper) chain.joined)
+
+-- how much a path turns to the left
+abbrev pub left_turn : Corner → ℤ
+left_turn c = cross (minus c.0.1 c.0.0) (minus c.1.1 c.1.0)
+
+-- the corner as it is seen from its other end
+abbrev pub other_way : Corner → Corner
+other_way c = (back c.1, back c.0)
+
+pub apart_back : (e : Edge) → e.0 ≢ e.1 → e.1 ≢ e.0
+apart_back e apart same = apart (sym same)
+
+pub other_way_met : (c : Corner) → IsMet c → IsMet (other_way c)
+other_way_met c h = record { first = apart_back c.1 h.second; second = apart_back c.0 h.first; met = sym h.met }
+
+other_way_turns : (c : Corner) → left_turn (other_way c) ≡ cross (minus c.1.1 c.1.0) (minus c.0.1 c.0.0)
+other_way_turns c = simp multiplied (omega (arith, linear))
+
+flipped : (v w : Point) → int_lt (cross v w) (pos 0) ≡ true → pos 0 ≤ℤ cross w v
+flipped v w h = omega (arith, ints, cross_flip v w, h)
+
+-- what holds of each corner that turns to the left, or not at all, holds of the corner as it is faced
+pub facing_is : (P : Corner → Type 0) (c : Corner) → (pos 0 ≤ℤ left_turn c → P c) → (pos 0 ≤ℤ left_turn (other_way c) → P (other_way c)) → P (facing c)
+facing_is P c here there = by (int_lt (left_turn c) (pos 0)) refl
+  where
+    by : (b : Bool) → int_lt (left_turn c) (pos 0) ≡ b → P (cond b (other_way c) c)
+    by true h = there (rw (other_way_turns c) (flipped (minus c.0.1 c.0.0) (minus c.1.1 c.1.0) h))
+    by false h = here (omega (arith, ints, h))
+
+moved_turn : (v s t : Point) → turn v (plus v (right_quarter s)) (plus v (right_quarter t)) ≡ cross s t
+moved_turn v s t = simp multiplied (omega (arith, linear))
+
+module _ (unit : ℕ) (least : 2 ^ 14 ≤ unit) (radius : ℤ) (sign : pos 0 ≤ℤ radius) where
+  pub heading_short : (e : Edge) → e.0 ≢ e.1 → IsShort unit (heading unit e)
+  heading_short e apart = direction_short (heading_is unit e apart)
+
+  -- a corner that turns to the left, or not at all, is a turn
+  pub turn_right : (c : Corner) → IsMet c → pos 0 ≤ℤ left_turn c → IsTurn unit (joint_right unit radius c)
+  turn_right c h left = record {
+    radius_sign = sign;
+    fresh_incoming = direction_fresh (omega arith) (heading_is unit c.0 h.first);
+    fresh_outgoing = direction_fresh (omega arith) (heading_is unit c.1 h.second);
+    first = refl;
+    last = ap (λ (v : Point). contact unit radius Counterclockwise v (heading unit c.1)) (sym h.met);
+    no_turn_back = ahead;
+  }
+    where
+      s : Point
+      s = scaled_direction unit radius (heading unit c.0)
+
+      t : Point
+      t = scaled_direction unit radius (heading unit c.1)
+
+      kept : pos 0 ≤ℤ cross s t
+      kept = scaled_turn_kept radius (omega arith) (heading_is unit c.0 h.first) (heading_is unit c.1 h.second) left
+
+      at : turn c.0.1 (plus c.0.1 (right_quarter s)) (plus c.1.0 (right_quarter t)) ≡ cross s t
+      at = subst (λ (v : Point). turn c.0.1 (plus c.0.1 (right_quarter s)) (plus v (right_quarter t)) ≡ cross s t) h.met (moved_turn c.0.1 s t)
+
+      ahead : pos 0 ≤ℤ (sense_of Counterclockwise *ℤ turn c.0.1 (plus c.0.1 (right_quarter s)) (plus c.1.0 (right_quarter t)))
+      ahead = omega (arith, ints, kept, at)
+
+  -- so its join keeps what joins keep
+  pub corner_keeps : (join : JoinStyle) (c : Corner) → IsMet c → pos 0 ≤ℤ left_turn c → KeepsJoint unit join (joint_right unit radius c)
+  corner_keeps join c h left =
+      (join_keeps unit join least).joint (joint_right unit radius c) (heading_short c.0 h.first) (heading_short c.1 h.second) (turn_right c h left)
+
+  -- and so does that of any corner, as it is faced
+  pub facing_keeps : (join : JoinStyle) (c : Corner) → IsMet c → KeepsJoint unit join (joint_right unit radius (facing c))
+  facing_keeps join c h =
+      facing_is (λ (k : Corner). KeepsJoint unit join (joint_right unit radius k)) c (corner_keeps join c h) (corner_keeps join (other_way c) (other_way_met c h))
+
+-- ---- the code's corners
+
+-- how a corner is faced
+pub faced_there : (c : Corner) → left_turn c <ℤ pos 0 → facing c ≡ other_way c
+faced_there c h = by (int_lt (left_turn c) (pos 0)) refl
+  where
+    by : (b : Bool) → int_lt (left_turn c) (pos 0) ≡ b → cond b (other_way c) c ≡ other_way c
+    by true e = refl
+    by false e = absurd (omega (arith, ints, h, e))
+
+pub faced_here : (c : Corner) → pos 0 ≤ℤ left_turn c → facing c ≡ c
+faced_here c h = by (int_lt (left_turn c) (pos 0)) refl
+  where
+    by : (b : Bool) → int_lt (left_turn c) (pos 0) ≡ b → cond b (other_way c) c ≡ c
+    by true e = absurd (omega (arith, ints, h, e))
+    by false e = refl
+
+-- a corner that turns to the right turns to the left seen from its other end
+pub turned_there : (p n : Edge) → left_turn (p, n) <ℤ pos 0 → pos 0 ≤ℤ left_turn (back n, back p)
+turned_there p n h = rw (other_way_turns (p, n)) (omega (arith, ints, cross_flip (minus p.1 p.0) (minus n.1 n.0), h))
+
+-- a number for which a test is false is not below 0
+pub not_below : (b : Bool) (x : ℤ) → (IsTrue b ↔ x <ℤ pos 0) → b ≡ false → pos 0 ≤ℤ x
+not_below b x h e = by_lt_z x (pos 0) (λ l. let k : true ≡ false = sym (h.1 l) ∙ e in cc) (λ l. l)
+
+-- the corner that the code hands to a join is as it asks
+pub joint_met : (unit : ℕ) (least : 2 ^ 14 ≤ unit) (radius : ℤ) (join : JoinStyle) (p n : Section) → IsCorner unit radius join (p, n) →
+    pos 0 ≤ℤ left_turn (own_edge p, own_edge n) → IsJoint unit join (joint p.b p.b_right n.a_right p.direction n.direction radius Counterclockwise)
+joint_met unit least radius join p n h left = record { turn = subst (IsTurn unit) (sym same) turn; safe = h.movable }
+  where
+    same : joint p.b p.b_right n.a_right p.direction n.direction radius Counterclockwise ≡ joint_right unit radius (own_edge p, own_edge n)
+    same = λ i. joint p.b (h.previous.made i).b_right (h.next.made i).a_right (h.previous.made i).direction (h.next.made i).direction radius Counterclockwise
+
+    turn : IsTurn unit (joint_right unit radius (own_edge p, own_edge n))
+    turn = turn_right unit least radius h.sign (own_edge p, own_edge n) (record { first = h.previous.differ; second = h.next.differ; met = h.met }) left
+
+-- what was drawn at the corner as it is faced was drawn at the corner
+pub drawn_there : (unit : ℕ) (radius : ℤ) (join : JoinStyle) (p n before after : Section) (old new : List SignedEdge) →
+    left_turn (own_edge p, own_edge n) <ℤ pos 0 → before ≡ section_of unit radius (n.b, n.a) → after ≡ section_of unit radius (p.b, p.a) →
+    new ≡ old ++ segments_of (inner_edges unit radius (own_edge before, own_edge after) ++ outer_edges unit radius join (own_edge before, own_edge after)) →
+    new ≡ old ++ segments_of (corner_edges unit radius join (own_edge p, own_edge n))
+drawn_there unit radius join p n before after old new turned b a h =
+    let e : (own_edge before, own_edge after) ≡ (back (own_edge n), back (own_edge p)) = λ i. (own_edge (b i), own_edge (a i)) in
+    let f : (own_edge before, own_edge after) ≡ facing (own_edge p, own_edge n) = e ∙ sym (faced_there (own_edge p, own_edge n) turned) in
+    h ∙ ap (λ (c : Corner). old ++ segments_of (inner_edges unit radius c ++ outer_edges unit radius join c)) f
+
+pub drawn_here : (unit : ℕ) (radius : ℤ) (join : JoinStyle) (p n : Section) (old new : List SignedEdge) →
+    pos 0 ≤ℤ left_turn (own_edge p, own_edge n) →
+    new ≡ old ++ segments_of (inner_edges unit radius (own_edge p, own_edge n) ++ outer_edges unit radius join (own_edge p, own_edge n)) →
+    new ≡ old ++ segments_of (corner_edges unit radius join (own_edge p, own_edge n))
+drawn_here unit radius join p n old new left h =
+    h ∙ ap (λ (c : Corner). old ++ segments_of (inner_edges unit radius c ++ outer_edges unit radius join c)) (sym (faced_here (own_edge p, own_edge n) left))

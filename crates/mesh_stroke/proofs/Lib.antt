@@ -1,0 +1,12 @@
+pub mod BuilderWalk
+pub mod Chains
+pub mod Corners
+pub mod PathEnds
+pub mod PathWalk
+pub mod Promised
+pub mod Reach
+pub mod Sections
+pub mod Sides
+pub mod Standing
+pub mod StrokeCount
+pub mod StrokeSum

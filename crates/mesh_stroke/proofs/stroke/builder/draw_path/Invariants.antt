@@ -1,0 +1,15 @@
+-- Where the walk stands.
+use Rattle.std.proofs.Common.{◌≡◌}
+use Rattle.mesh_draw.specs.Adding.{Keeps}
+use Rattle.mesh_stroke.specs.Building.{style_with}
+use Rattle.mesh_stroke.specs.Paths.{path_edges}
+use Rattle.mesh_stroke.proofs.Standing.{Stands}
+use Rattle.mesh_stroke.proofs.stroke.builder.draw_path.Given as goal
+
+abbrev pub invariant-loop-edge : goal.invariant-loop-edge
+invariant-loop-edge g l = record {
+  stands : Stands g.I.IntNumber.unit (style_with (g.I.IntNumber.value l.fn.radius) l.fn.join l.fn.caps) l.fn.closed (path_edges l.fn.closed l.fn.path)
+      l.fn.segments.items l.segments.items l.first l.previous l.edge-iterator;
+  kept : Keeps l.fn.segments.items l.segments.items;
+  same : l.join ≡ l.fn.join;
+}

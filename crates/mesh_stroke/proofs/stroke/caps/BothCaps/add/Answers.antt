@@ -1,0 +1,37 @@
+-- Both ends are as caps ask, and both caps were drawn.
+use Rattle.std.proofs.Common.{◌≡◌, ◌≤◌, ◌^◌, ◌++◌, false, sym, subst, ◌∙◌, ap}
+use Rattle.mesh_num.specs.Rectangle.{IsSafeWidened}
+use Rattle.mesh_num.specs.Segments.{segments_of}
+use Rattle.mesh_stroke.specs.Strokes.{both_caps}
+use Rattle.mesh_draw.proofs.Adding.{on_ok_then}
+use Rattle.mesh_cap.specs.Caps.{CapKind, cap_padding}
+use Rattle.mesh_stroke.specs.Building.{Section, section_of, own_edge}
+use Rattle.mesh_stroke.proofs.PathEnds.{end_capped, start_capped, caps_drawn}
+use Rattle.mesh_stroke.proofs.stroke.caps.BothCaps.add.Goals as goal
+
+pub add-requires : goal.add-requires
+add-requires g c =
+    let unit = g.I.IntNumber.unit in
+    let radius = g.I.IntNumber.value c.args.radius in
+    let least : 2 ^ 14 ≤ g.I.IntNumber.unit = g.met.I.IntNumber.least_law in
+    let before = c.new-before.ensures ∙ ap (λ (s : Section). section_of g.I.IntNumber.unit (g.I.IntNumber.value c.args.radius) (s.b, s.a)) c.first.view_is in
+    let safe = subst (λ (k : CapKind × CapKind). IsSafeWidened g.I.IntNumber.unit (cap_padding k.0 (g.I.IntNumber.value c.args.radius)) c.args.first.now.a) (sym c.self.view_is) c.requires.safe_start in
+    rw c.end_of.ensures (start_capped unit radius c.self.inside.start c.args.first.now c.new-before.result least c.requires.first before c.requires.sign safe)
+
+pub add-requires-2 : goal.add-requires-2
+add-requires-2 g c =
+    let unit = g.I.IntNumber.unit in
+    let radius = g.I.IntNumber.value c.args.radius in
+    let least : 2 ^ 14 ≤ g.I.IntNumber.unit = g.met.I.IntNumber.least_law in
+    let safe = subst (λ (k : CapKind × CapKind). IsSafeWidened g.I.IntNumber.unit (cap_padding k.1 (g.I.IntNumber.value c.args.radius)) c.args.last.now.b) (sym c.self.view_is) c.requires.safe_end in
+    rw c.end_of-2.ensures (end_capped unit radius c.self.inside.end (own_edge c.args.last.now) least c.requires.last.differ c.requires.sign safe)
+
+pub returns-clause-ok : goal.returns-clause-ok
+returns-clause-ok g c =
+    let before = c.new-before.ensures ∙ ap (λ (s : Section). section_of g.I.IntNumber.unit (g.I.IntNumber.value c.args.radius) (s.b, s.a)) c.first.view_is in
+    on_ok_then c.add-2.result c.add-2.ensures.ok
+    (λ h. subst (λ (k : CapKind × CapKind). c.add-2.new.segments.items ≡ c.args.segments.now.items ++ segments_of
+    (both_caps g.I.IntNumber.unit (g.I.IntNumber.value c.args.radius) k.0 k.1 false (own_edge c.args.first.now) (own_edge c.args.last.now))) c.self.view_is
+    (caps_drawn g.I.IntNumber.unit (g.I.IntNumber.value c.args.radius) c.self.inside.start c.self.inside.end c.args.first.now c.args.last.now c.new-before.result
+    c.args.segments.now.items c.add.new.segments.items c.add-2.new.segments.items before
+    (rw c.end_of.ensures at c.in_ok-add.ensures.ok) (rw c.end_of-2.ensures at h)))

@@ -1,0 +1,11 @@
+-- Points that are the last one again are passed over.
+use Rattle.std.proofs.Common.{◌∷◌, sym, ◌∙◌}
+use Rattle.mesh_num.specs.Segments.{proper_edges}
+use Rattle.mesh_stroke.specs.Paths.{pairs}
+use Rattle.mesh_stroke.proofs.PathWalk.{passed_over}
+use Rattle.mesh_stroke.proofs.stroke.path.next_other.Goals as goal
+
+pub loop-point-preserved : goal.loop-point-preserved
+loop-point-preserved g c =
+    passed_over (proper_edges (pairs (c.args.from ∷ c.args.points.now))) c.args.from c.in-Some.point c.loop-point.points c.next.new.self c.in-Some.ensures
+    (sym c.differ.ensures ∙ c.if-differ.false) c.loop-point.invariant

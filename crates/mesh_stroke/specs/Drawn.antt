@@ -1,0 +1,42 @@
+-- What is promised of the edges of a stroke.
+use Rattle.std.specs.Prelude.{ℕ, ◌≡◌, Bool, ◌&&◌, ◌||◌, IsTrue, List, ℤ, pos, count_by}
+use Rattle.std.specs.List.{All}
+use Rattle.mesh_plane.specs.Plane.{Point, Edge}
+use Rattle.mesh_plane.specs.Winding.{IsBalanced, IsBit, boundary, winding, crossing_on, pieces_total, holds}
+use Rattle.mesh_draw.specs.Padding.{IsNear}
+use Rattle.mesh_cap.specs.Caps.{is_stock}
+use Rattle.mesh_stroke.specs.Strokes.{stroke_pieces}
+use Rattle.mesh_stroke.specs.Styles.{StrokeStyle, stroke_padding}
+
+-- no custom cap is drawn: the path is closed, or both caps are stock ones
+abbrev pub HasStockCaps : StrokeStyle → Bool → Type 0
+HasStockCaps style closed = IsTrue (closed || (is_stock style.start && is_stock style.end))
+
+-- at each point of each grid the edges wind as often as the pieces together
+abbrev pub WindAsPieces : List (List Point) → List Edge → Type 0
+WindAsPieces pieces es = (m : ℕ) (q : Point) → winding m q es ≡ pieces_total (crossing_on m q) pieces
+
+-- at each point of each grid each piece winds 0 times or once
+abbrev pub NeverTurnedRound : List (List Point) → Type 0
+NeverTurnedRound pieces = (m : ℕ) (q : Point) → All (λ (piece : List Point). IsBit (winding m q (boundary piece))) pieces
+
+-- at each point of each grid the edges wind once for each piece that holds the point
+abbrev pub WindsByCount : List (List Point) → List Edge → Type 0
+WindsByCount pieces es = (m : ℕ) (q : Point) → winding m q es ≡ pos (count_by (holds m q) pieces)
+
+-- both ends of each edge are away from one of the points by at most the padding in each coordinate
+abbrev pub AreEndsNear : ℤ → List Point → List Edge → Type 0
+AreEndsNear padding points es = All (λ (e : Edge). IsNear padding points e.0 × IsNear padding points e.1) es
+
+-- edges that are drawn as the stroke of the path through these points
+pub record AreStroked (unit : ℕ) (style : StrokeStyle) (closed : Bool) (points : List Point) (es : List Edge) : Type 0 where
+  -- they close up: as many of them end in a point as start there
+  pub balanced : IsBalanced es
+  -- they stay near the path
+  pub near : AreEndsNear (stroke_padding style) points es
+  -- they wind as the pieces of the stroke together
+  pub sum : WindAsPieces (stroke_pieces unit style closed points) es
+  -- but for custom caps no piece is turned round
+  pub pieces : HasStockCaps style closed → NeverTurnedRound (stroke_pieces unit style closed points)
+  -- so they wind as often as there are pieces that hold the point
+  pub count : HasStockCaps style closed → WindsByCount (stroke_pieces unit style closed points) es

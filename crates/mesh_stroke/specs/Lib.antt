@@ -1,0 +1,5 @@
+pub mod Building
+pub mod Drawn
+pub mod Paths
+pub mod Strokes
+pub mod Styles
