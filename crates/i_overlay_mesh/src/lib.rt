@@ -4,4 +4,4 @@
 pub use mesh_draw::error;
 pub use mesh_draw::error::IntOutlineError;
 pub use mesh_outline::{laws, outline};
-pub use mesh_stroke::stroke;
+pub mod stroke;

@@ -1,0 +1,4 @@
+//! Strokes of paths: the builder of one path's edges, the calls on sources of paths, and how far strokes reach.
+
+pub use mesh_stroke::stroke::{builder, radius};
+pub use mesh_stroke_calls::offset;
