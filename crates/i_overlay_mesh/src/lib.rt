@@ -4,4 +4,5 @@
 pub use mesh_draw::error;
 pub use mesh_draw::error::IntOutlineError;
 pub use mesh_outline::{laws, outline};
+
 pub mod stroke;
