@@ -1,5 +1,5 @@
 -- Lemmas over points: what the theory of strokes needs of butt caps.
-use Rattle.std.proofs.Common.{ℕ, ◌<◌, []}
+use Rattle.std.proofs.Common.{ℕ, ◌<◌, [], arith}
 use Rattle.std.specs.Prelude.{ℤ, pos, ◌*ℤ◌, ◌≤ℤ◌}
 use Rattle.std.proofs.lemmas.List.Elements.{All-nil, All-cons}
 use Rattle.mesh_plane.specs.Plane.{Point, Edge, turn}
@@ -17,6 +17,7 @@ butt_keeps_half_turn unit radius v n some fresh sign = record {
   never_turns_back = λ _. All-cons Ahead (j.first, j.last) []
       (half_turn_is unit radius v n some fresh sign).no_turn_back (All-nil Ahead);
   near = All-nil (IsWithinPadding (butt_padding radius) v);
+  few = λ _. omega arith;
 }
   where
     j : Joint

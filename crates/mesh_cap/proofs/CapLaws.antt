@@ -1,12 +1,12 @@
 -- What the theory of strokes needs of caps. Each kind of cap has it; no more is known of a kind above here.
 use Rattle.std.proofs.Common.{subst, sym}
-use Rattle.std.specs.Prelude.{ℕ, IsTrue, ℤ, pos, ◌≤ℤ◌}
+use Rattle.std.specs.Prelude.{ℕ, ◌≤◌, IsTrue, length, ℤ, pos, ◌≤ℤ◌}
 use Rattle.std.specs.List.{All}
 use Rattle.mesh_plane.specs.Plane.{Point}
 use Rattle.mesh_num.specs.Direction.{IsShort, IsFresh}
 use Rattle.mesh_arc.specs.declared.arc.ArcDirection.TheVariants.{Counterclockwise}
 use Rattle.mesh_join.specs.Joints.{Joint, NeverTurnsBack, IsWithinPadding}
-use Rattle.mesh_cap.specs.Caps.{CapKind, cap_points, cap_edges, cap_padding, is_stock}
+use Rattle.mesh_cap.specs.Caps.{CapKind, cap_points, cap_edges, cap_padding, is_stock, has_few_edges}
 use Rattle.mesh_cap.specs.Ends.{IsEnd, half_turn}
 
 -- what holds of the cap at an end
@@ -15,6 +15,8 @@ pub record KeepsEnd (unit : ℕ) (kind : CapKind) (j : Joint) : Type 0 where
   pub never_turns_back : IsTrue (is_stock kind) → NeverTurnsBack Counterclockwise j.center (cap_edges kind unit j)
   -- its points are within the padding
   pub near : All (IsWithinPadding (cap_padding kind j.radius) j.center) (cap_points kind unit j)
+  -- it has at most three edges, where its kind has few
+  pub few : IsTrue (has_few_edges kind) → length (cap_edges kind unit j) ≤ 3
 
 -- what holds of the caps of a kind
 pub record KeepsEnds (unit : ℕ) (kind : CapKind) : Type 0 where

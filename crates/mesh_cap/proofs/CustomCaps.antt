@@ -1,6 +1,6 @@
 -- Lemmas over points: what the theory of strokes needs of custom caps, and what the code knows of their points.
 use Rattle.std.proofs.Common.{◌≡◌, ◌≢◌, ℕ, suc, ◌+◌, ◌*◌, ◌<◌, ◌≤◌, List, [], ◌∷◌, ◌++◌, length, get_or, take}
-use Rattle.std.proofs.Common.{drop, refl, sym, ap, subst, ◌∙◌, arith, append_assoc, append-nil}
+use Rattle.std.proofs.Common.{drop, refl, sym, ap, subst, ◌∙◌, arith, append_assoc, append-nil, length-append, drop-cons}
 use Rattle.std.specs.Prelude.{ℤ, pos, unsigned_abs, max, nat_eq}
 use Rattle.std.specs.List.{All}
 use Rattle.std.proofs.Math.Nat.{mul-le-mul}
@@ -125,6 +125,7 @@ custom_keeps_half_turn unit points radius v n some short = record {
   near =
       All-map (IsWithinPadding (pos (greatest_length points)) v) (λ (p : Point). plus v (turned_along unit n p)) points
       (points_near unit v n (greatest_length points) points some short (omega arith));
+  few = λ few. absurd (true≢false (sym few));
 }
 
 pub custom_keeps : (unit : ℕ) (points : List Point) → 0 < unit → KeepsEnds unit (CapKind.Custom points)
@@ -196,3 +197,64 @@ still_kept unit j old room drawn last now capacity then h k =
     ∙ ap (λ (ss : List SignedEdge). ss ++ drop (length now) then) (k ∙ h.now_is)
     ∙ append_assoc old h.added (drop (length now) then) in
     ap (take (length old)) e ∙ take-append_seam old (h.added ++ drop (length now) then)
+
+-- ---- where the vector has room for all edges of the cap, it has room for each of them
+
+-- the points are those that were drawn, the next one and those after it
+points_split : (points : List Point) (i : ℕ) (d : Point) → i < length points → d ≡ get_or points i d
+    → take i points ++ (d ∷ drop (i + 1) points) ≡ points
+points_split points i d lt e =
+    let next : suc i ≡ i + 1 = omega arith in
+    ap (λ (p : Point). take i points ++ (p ∷ drop (i + 1) points)) e
+    ∙ ap (λ (rest : List Point). take i points ++ rest)
+    (sym (drop-cons points i d lt ∙ ap (λ (k : ℕ). get_or points i d ∷ drop k points) next))
+    ∙ take-append-drop i points
+
+-- for the edge to the next point
+pub room_for_next : (unit : ℕ) (j : Joint) (old : List SignedEdge) (room : ℕ) (points : List Point) (i : ℕ)
+    (last : Point) (now : List SignedEdge) (capacity : ℕ) (d p : Point)
+    → IsDrawn unit j old room (take i points) last now capacity → i < length points → d ≡ get_or points i d
+    → p ≡ plus j.center (turned_along unit j.incoming d)
+    → length old + length (segments_of (route j.first (custom_points points unit j) j.last)) ≤ room
+    → length now + length (segments_of (route last [] p)) ≤ capacity
+room_for_next unit j old room points i last now capacity d p h lt e q fits =
+    subst (λ (r : Point). length now + length (segments_of (route last [] r)) ≤ capacity) (sym q)
+    (omega (
+      arith,
+      fits,
+      h.grown,
+      ap length whole,
+      length-append now (segments_of (route last [] next)),
+      length-append (now ++ segments_of (route last [] next)) (segments_of rest),
+      length-append old (segments_of (route j.first (custom_points points unit j) j.last)),
+    ))
+  where
+    next : Point
+    next = plus j.center (turned_along unit j.incoming d)
+
+    rest : List Edge
+    rest = route next (custom_points (drop (i + 1) points) unit j) j.last
+
+    whole : (now ++ segments_of (route last [] next)) ++ segments_of rest
+        ≡ old ++ segments_of (route j.first (custom_points points unit j) j.last)
+    whole =
+        through_one now last next rest
+        ∙ h.goes_on (d ∷ drop (i + 1) points)
+        ∙ ap (λ (ds : List Point). old ++ segments_of (route j.first (custom_points ds unit j) j.last))
+        (points_split points i d lt e)
+
+-- and for the last one
+pub room_for_last : (unit : ℕ) (j : Joint) (old : List SignedEdge) (room : ℕ) (drawn : List Point) (last : Point)
+    (now : List SignedEdge) (capacity : ℕ)
+    → IsDrawn unit j old room drawn last now capacity
+    → length old + length (segments_of (route j.first (custom_points drawn unit j) j.last)) ≤ room
+    → length now + length (segments_of (route last [] j.last)) ≤ capacity
+room_for_last unit j old room drawn last now capacity h fits =
+    omega (
+      arith,
+      fits,
+      h.grown,
+      ap length (drawing_ends unit j old room drawn last now capacity h),
+      length-append now (segments_of (route last [] j.last)),
+      length-append old (segments_of (route j.first (custom_points drawn unit j) j.last)),
+    )

@@ -1,6 +1,7 @@
 -- Lemmas over points: what the theory of strokes needs of round caps. They are round joins.
 use Rattle.std.proofs.Common.{◌≡◌, ℕ, ◌<◌, ◌≤◌, ◌^◌, subst, sym, arith}
 use Rattle.std.specs.Prelude.{ℤ, pos, ◌≤ℤ◌}
+use Rattle.std.proofs.lemmas.Bool.{true≢false}
 use Rattle.mesh_plane.specs.Plane.{Point}
 use Rattle.mesh_num.specs.Direction.{IsShort, IsFresh}
 use Rattle.mesh_arc.specs.declared.arc.ArcOptions.{ArcOptions}
@@ -21,6 +22,7 @@ round_keeps_half_turn : (unit : ℕ) (options : ArcOptions) (radius : ℤ) (v n 
 round_keeps_half_turn unit options radius v n least short fresh sign = record {
   never_turns_back = λ _. k.never_turns_back;
   near = k.near;
+  few = λ few. absurd (true≢false (sym few));
 }
   where
     k : KeepsJoint unit (record { kind = Round options; min_turn = 0 }) (half_turn unit radius v n)

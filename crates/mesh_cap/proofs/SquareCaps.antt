@@ -94,6 +94,7 @@ square_keeps_half_turn unit radius v n some short = record {
   near =
       All-cons Near (right_out v s) (left_out v s ∷ []) (right_within (unsigned_abs radius) v s b.0 b.1)
       (All-cons Near (left_out v s) [] (left_within (unsigned_abs radius) v s b.0 b.1) (All-nil Near));
+  few = λ _. omega arith;
 }
   where
     s : Point

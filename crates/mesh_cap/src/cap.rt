@@ -1,11 +1,11 @@
 //! Caps of the ends of open paths.
 
-ghost use Rattle.std.specs.Prelude.{◌≡◌, ◌≤◌, length, take, vec_capacity, OnOk, IsTrue};
+ghost use Rattle.std.specs.Prelude.{◌≡◌, ◌≤◌, length, take, vec_capacity, IsOk, OnOk, IsTrue};
 ghost use Rattle.std.specs.List.{All};
-ghost use Rattle.mesh_join.specs.Appending.{Appends};
+ghost use Rattle.mesh_join.specs.Appending.{Appends, HasRoomForEdges};
 ghost use Rattle.mesh_join.specs.Joints.{NeverTurnsBack, IsWithinPadding};
 ghost use Rattle.mesh_arc.specs.declared.arc.ArcDirection.TheVariants.{Counterclockwise};
-ghost use Rattle.mesh_cap.specs.Caps.{cap_edges, cap_points, cap_padding, is_stock, IsCapped};
+ghost use Rattle.mesh_cap.specs.Caps.{cap_edges, cap_points, cap_padding, is_stock, DrawsDirectly, IsCapped};
 ghost use Rattle.mesh_cap.specs.Kinds.{kind_of};
 
 use crate::end::PathEnd;
@@ -69,8 +69,9 @@ impl<'a, I: IntNumber> Cap<'a, I> {
     }
 
     /// Adds the edges of the cap round the end of a path, from the point to its right to the point to its left. Those
-    /// of stock caps never turn back round the end. The points of each cap are within its padding. After a refusal the
-    /// vector still begins with what it held.
+    /// of stock caps never turn back round the end. The points of each cap are within its padding. Where there is room
+    /// for the edges it succeeds, but for a round cap, whose arc has a buffer of its own. After a refusal the vector
+    /// still begins with what it held.
     ///
     /// The directions are fresh and opposite, both points are the contact points beside the end, the radius, in grid
     /// units, is at least 0, and the end stays in the safe range where it moves by the padding.
@@ -86,6 +87,8 @@ impl<'a, I: IntNumber> Cap<'a, I> {
         ensures near { All (IsWithinPadding (cap_padding self.old end.now.radius) end.now.center)
             (cap_points self.old I.unit end.now) }
         ensures kept { take (length segments.old.items) segments.new.items ≡ segments.old.items }
+        ensures room { DrawsDirectly self.old → HasRoomForEdges segments.old (cap_edges self.old I.unit end.now)
+            → IsOk result }
         ensures capacity { vec_capacity segments.old ≤ vec_capacity segments.new }
         ensures same { self.new ≡ self.old }
     {
@@ -98,6 +101,8 @@ impl<'a, I: IntNumber> Cap<'a, I> {
         requires { IsCapped I.unit self.old end.now }
         ensures ok { OnOk result (Appends segments.old segments.new (cap_edges self.old I.unit end.now)) }
         ensures kept { take (length segments.old.items) segments.new.items ≡ segments.old.items }
+        ensures room { DrawsDirectly self.old → HasRoomForEdges segments.old (cap_edges self.old I.unit end.now)
+            → IsOk result }
         ensures capacity { vec_capacity segments.old ≤ vec_capacity segments.new }
         ensures same { self.new ≡ self.old }
     {

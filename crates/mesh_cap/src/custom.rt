@@ -1,9 +1,9 @@
 //! Custom caps.
 
-ghost use Rattle.std.specs.Prelude.{◌≡◌, ◌*◌, ◌≤◌, length, take, vec_capacity, OnOk};
+ghost use Rattle.std.specs.Prelude.{◌≡◌, ◌*◌, ◌≤◌, length, take, vec_capacity, IsOk, OnOk};
 ghost use Rattle.mesh_plane.specs.Plane.{length_sq};
 ghost use Rattle.mesh_plane.specs.Winding.{route};
-ghost use Rattle.mesh_join.specs.Appending.{Appends};
+ghost use Rattle.mesh_join.specs.Appending.{Appends, HasRoomForEdges};
 ghost use Rattle.mesh_cap.specs.Caps.{CapKind, IsCapped};
 ghost use Rattle.mesh_cap.specs.CustomCaps.{custom_padding, custom_points, raised_root};
 
@@ -55,6 +55,8 @@ pub(crate) fn add<I: IntNumber>(
     ensures ok { OnOk result (Appends segments.old segments.new
         (route end.now.first (custom_points points.now I.unit end.now) end.now.last)) }
     ensures kept { take (length segments.old.items) segments.new.items ≡ segments.old.items }
+    ensures room { HasRoomForEdges segments.old
+        (route end.now.first (custom_points points.now I.unit end.now) end.now.last) → IsOk result }
     ensures capacity { vec_capacity segments.old ≤ vec_capacity segments.new }
 {
     let mut last = end.right;

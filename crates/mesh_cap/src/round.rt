@@ -2,8 +2,8 @@
 
 ghost use Rattle.std.specs.Prelude.{◌≡◌, ◌≤◌, length, take, vec_capacity, OnOk};
 ghost use Rattle.mesh_join.specs.Appending.{Appends};
-ghost use Rattle.mesh_join.specs.RoundJoins.{round_padding};
 ghost use Rattle.mesh_cap.specs.Caps.{cap_edges, CapKind, IsCapped};
+ghost use Rattle.mesh_cap.specs.RoundCaps.{round_cap_padding};
 
 use crate::end::PathEnd;
 use mesh_join::arc::{ArcDirection, ArcOptions};
@@ -36,7 +36,7 @@ impl<I: IntNumber> Model for RoundCap<I> {
 
 /// How far a round cap reaches from its end in each coordinate, in grid units.
 pub(crate) fn padding<I: IntNumber>(radius: I) -> I::Wide
-    ensures { I.Wide.value result ≡ round_padding (I.value radius) }
+    ensures { I.Wide.value result ≡ round_cap_padding (I.value radius) }
 {
     wide_size::<I>(radius)
 }

@@ -1,8 +1,8 @@
 //! Square caps.
 
-ghost use Rattle.std.specs.Prelude.{◌≡◌, ◌≤◌, length, take, vec_capacity, OnOk};
+ghost use Rattle.std.specs.Prelude.{◌≡◌, ◌≤◌, length, take, vec_capacity, IsOk, OnOk};
 ghost use Rattle.mesh_plane.specs.Winding.{route};
-ghost use Rattle.mesh_join.specs.Appending.{Appends};
+ghost use Rattle.mesh_join.specs.Appending.{Appends, HasRoomForEdges};
 ghost use Rattle.mesh_cap.specs.Caps.{CapKind, IsCapped};
 ghost use Rattle.mesh_cap.specs.SquareCaps.{square_padding, square_points};
 
@@ -29,6 +29,8 @@ pub(crate) fn add<I: IntNumber>(
     ensures ok { OnOk result (Appends segments.old segments.new
         (route end.now.first (square_points I.unit end.now) end.now.last)) }
     ensures kept { take (length segments.old.items) segments.new.items ≡ segments.old.items }
+    ensures room { HasRoomForEdges segments.old
+        (route end.now.first (square_points I.unit end.now) end.now.last) → IsOk result }
     ensures capacity { vec_capacity segments.old ≤ vec_capacity segments.new }
 {
     let outward = end.outward.scale(end.radius);

@@ -54,7 +54,7 @@ apart_back e apart same = apart (sym same)
 pub other_way_met : (c : Corner) → IsMet c → IsMet (other_way c)
 other_way_met c h = record { first = apart_back c.1 h.second; second = apart_back c.0 h.first; met = sym h.met }
 
-other_way_turns : (c : Corner) → left_turn (other_way c) ≡ cross (minus c.1.1 c.1.0) (minus c.0.1 c.0.0)
+pub other_way_turns : (c : Corner) → left_turn (other_way c) ≡ cross (minus c.1.1 c.1.0) (minus c.0.1 c.0.0)
 other_way_turns c = simp multiplied (omega (arith, linear))
 
 flipped : (v w : Point) → int_lt (cross v w) (pos 0) ≡ true → pos 0 ≤ℤ cross w v
@@ -147,15 +147,24 @@ joint_met unit least radius join p n h left = record { turn = subst (IsTurn unit
     turn : IsTurn unit (joint_right unit radius (own_edge p, own_edge n))
     turn = turn_right unit least radius h.sign (own_edge p, own_edge n) (record { first = h.previous.differ; second = h.next.differ; met = h.met }) left
 
+-- the sections that the code makes of a corner that turns to the right are those of the corner as it is faced
+pub faced_sections : (unit : ℕ) (radius : ℤ) (p n before after : Section) → left_turn (own_edge p, own_edge n) <ℤ pos 0
+    → before ≡ section_of unit radius (n.b, n.a) → after ≡ section_of unit radius (p.b, p.a)
+    → (own_edge before, own_edge after) ≡ facing (own_edge p, own_edge n)
+faced_sections unit radius p n before after turned b a =
+    let e : (own_edge before, own_edge after) ≡ (back (own_edge n), back (own_edge p)) =
+    λ i. (own_edge (b i), own_edge (a i)) in
+    e ∙ sym (faced_there (own_edge p, own_edge n) turned)
+
 -- what was drawn at the corner as it is faced was drawn at the corner
 pub drawn_there : (unit : ℕ) (radius : ℤ) (join : JoinStyle) (p n before after : Section) (old new : List SignedEdge) →
     left_turn (own_edge p, own_edge n) <ℤ pos 0 → before ≡ section_of unit radius (n.b, n.a) → after ≡ section_of unit radius (p.b, p.a) →
     new ≡ old ++ segments_of (inner_edges unit radius (own_edge before, own_edge after) ++ outer_edges unit radius join (own_edge before, own_edge after)) →
     new ≡ old ++ segments_of (corner_edges unit radius join (own_edge p, own_edge n))
 drawn_there unit radius join p n before after old new turned b a h =
-    let e : (own_edge before, own_edge after) ≡ (back (own_edge n), back (own_edge p)) = λ i. (own_edge (b i), own_edge (a i)) in
-    let f : (own_edge before, own_edge after) ≡ facing (own_edge p, own_edge n) = e ∙ sym (faced_there (own_edge p, own_edge n) turned) in
-    h ∙ ap (λ (c : Corner). old ++ segments_of (inner_edges unit radius c ++ outer_edges unit radius join c)) f
+    h
+    ∙ ap (λ (c : Corner). old ++ segments_of (inner_edges unit radius c ++ outer_edges unit radius join c))
+    (faced_sections unit radius p n before after turned b a)
 
 pub drawn_here : (unit : ℕ) (radius : ℤ) (join : JoinStyle) (p n : Section) (old new : List SignedEdge) →
     pos 0 ≤ℤ left_turn (own_edge p, own_edge n) →

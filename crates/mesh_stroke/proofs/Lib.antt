@@ -1,12 +1,17 @@
+pub mod Backwards
+pub mod BuilderRoom
 pub mod BuilderWalk
 pub mod Chains
 pub mod Corners
+pub mod Fitting
 pub mod PathEnds
 pub mod PathWalk
 pub mod Promised
 pub mod Reach
+pub mod Reversal
 pub mod Sections
 pub mod Sides
 pub mod Standing
 pub mod StrokeCount
+pub mod StrokeFew
 pub mod StrokeSum

@@ -35,15 +35,6 @@ end_capped unit radius kind e least apart sign safe = record {
   safe = safe;
 }
 
--- the section read backwards, of a section that was made
-pub back_made : (unit : ℕ) (radius : ℤ) (s b : Section) → IsMade unit radius s → b ≡ section_of unit radius (s.b, s.a) → IsMade unit radius b
-back_made unit radius s b h e = record {
-  made = e ∙ ap (section_of unit radius) (sym (ap own_edge e));
-  differ = subst (λ (t : Section). t.a ≢ t.b) (sym e) (apart_back (own_edge s) h.differ);
-  safe_a = subst (λ (t : Section). IsSafeWidened unit (pos (unsigned_abs radius)) t.a) (sym e) h.safe_b;
-  safe_b = subst (λ (t : Section). IsSafeWidened unit (pos (unsigned_abs radius)) t.b) (sym e) h.safe_a;
-}
-
 -- read backwards twice
 pub back_again : (unit : ℕ) (radius : ℤ) (s b : Section) → IsMade unit radius s → b ≡ section_of unit radius (s.b, s.a) → s ≡ section_of unit radius (b.b, b.a)
 back_again unit radius s b h e = h.made ∙ ap (section_of unit radius) (sym (ap (λ (t : Section). (t.b, t.a)) e))

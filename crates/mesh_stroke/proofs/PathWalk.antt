@@ -27,14 +27,3 @@ passed_over all from p points rest e same h =
     let a : all ≡ cond (not (same_point from p)) ((from, p) ∷ proper_edges (pairs (p ∷ rest))) (proper_edges (pairs (p ∷ rest))) = rw e at h in
     let b : all ≡ proper_edges (pairs (p ∷ rest)) = rw same at a in
     b ∙ ap (λ (x : Point). proper_edges (pairs (x ∷ rest))) (sym k)
-
--- another point ends the next edge
-pub next_edge : (all : List Edge) (from p : Point) (points rest : List Point) → points ≡ p ∷ rest → not (same_point from p) ≡ true →
-    all ≡ proper_edges (pairs (from ∷ points)) → all ≡ (from, p) ∷ proper_edges (pairs (p ∷ rest))
-next_edge all from p points rest e same h =
-    let a : all ≡ cond (not (same_point from p)) ((from, p) ∷ proper_edges (pairs (p ∷ rest))) (proper_edges (pairs (p ∷ rest))) = rw e at h in
-    rw same at a
-
--- no point, no edge
-pub no_edge : (all : List Edge) (from : Point) (points : List Point) → points ≡ [] → all ≡ proper_edges (pairs (from ∷ points)) → all ≡ []
-no_edge all from points e h = rw e at h

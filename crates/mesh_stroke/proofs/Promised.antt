@@ -1,5 +1,5 @@
 -- Lemmas over points and lists: what the edges of each stroke are promised.
-use Rattle.std.proofs.Common.{◌≡◌, ℕ, ◌<◌, ◌≤◌, ◌^◌, Bool, true, false, cond, List, [], ◌++◌, refl, sym, ◌∙◌, append-nil, arith}
+use Rattle.std.proofs.Common.{◌≡◌, ℕ, ◌<◌, ◌≤◌, ◌^◌, Bool, true, false, cond, List, [], ◌++◌, refl, sym, subst, ◌∙◌, append-nil, arith}
 use Rattle.std.specs.Prelude.{ℤ, pos, ◌≤ℤ◌, ◌<ℤ◌, ◌↔◌, IsTrue, int_le, count_by}
 use Rattle.std.specs.List.{All}
 use Rattle.std.specs.List.Sorted.{IsPermutation}
@@ -62,12 +62,14 @@ module _ (unit : ℕ) (least : 2 ^ 14 ≤ unit) (style : StrokeStyle) (closed : 
       by true h = All-nil EndsNear
       by false h = drawn_near unit least style (omega (arith, ints, h)) points closed edges (path_chain closed points) (path_listed closed points)
 
-  pub are_stroked : AreStroked unit style closed points (stroke_edges unit style closed points)
-  are_stroked = record {
+  -- the edges of a stroke have all that is promised of them, where the points stay safe within its padding
+  pub are_stroked : All (IsStrokable unit style) points → AreStroked unit style closed points (stroke_edges unit style closed points)
+  are_stroked safe = record {
     balanced =
         balanced_by_growth (stroke_edges unit style closed points)
         (λ g. stroke_total (growth g) (growth_odd g) (λ p r s h. omega (arith, linear)) ∙ growth_of_pieces g (stroke_pieces unit style closed points));
     near = near;
+    safe = ends_safe unit (stroke_padding style) points (stroke_edges unit style closed points) safe near;
     sum = λ m q. stroke_total (crossing_on m q) (crossing_on_odd m q) (crossing_on_straight m q);
     pieces = never_turned;
     count =
@@ -76,24 +78,25 @@ module _ (unit : ℕ) (least : 2 ^ 14 ≤ unit) (style : StrokeStyle) (closed : 
   }
 
   -- what is added has what is promised of the edges of the stroke
-  pub adds_stroked : (old new : List SignedEdge) → Adds old new (stroke_edges unit style closed points) → AreStroked unit style closed points (added_edges old new)
-  adds_stroked old new h = record {
-    balanced = balanced_permutation es (added_edges old new) permuted are_stroked.balanced;
-    near = All-permutation EndsNear es (added_edges old new) permuted are_stroked.near;
-    sum = λ m q. total_permutation (crossing_on m q) es (added_edges old new) permuted ∙ are_stroked.sum m q;
-    pieces = are_stroked.pieces;
-    count = λ stock m q. total_permutation (crossing_on m q) es (added_edges old new) permuted ∙ are_stroked.count stock m q;
+  pub adds_stroked : (old new : List SignedEdge) → All (IsStrokable unit style) points → Adds old new (stroke_edges unit style closed points) →
+      AreStroked unit style closed points (added_edges old new)
+  adds_stroked old new safe h = record {
+    balanced = balanced_permutation es (added_edges old new) permuted stroked.balanced;
+    near = All-permutation EndsNear es (added_edges old new) permuted stroked.near;
+    safe = All-permutation (λ (e : Edge). IsSafe unit e.0 × IsSafe unit e.1) es (added_edges old new) permuted stroked.safe;
+    sum = λ m q. total_permutation (crossing_on m q) es (added_edges old new) permuted ∙ stroked.sum m q;
+    pieces = stroked.pieces;
+    count = λ stock m q. total_permutation (crossing_on m q) es (added_edges old new) permuted ∙ stroked.count stock m q;
   }
     where
       es : List Edge
       es = stroke_edges unit style closed points
 
+      stroked : AreStroked unit style closed points es
+      stroked = are_stroked safe
+
       permuted : IsPermutation es (added_edges old new)
       permuted = IsPermutation-sym (added_edges old new) es (adds_edges old new es h)
-
-  pub adds_safe : (old new : List SignedEdge) → All (IsStrokable unit style) points → Adds old new (stroke_edges unit style closed points) →
-      All (λ (e : Edge). IsSafe unit e.0 × IsSafe unit e.1) (added_edges old new)
-  adds_safe old new safe h = ends_safe unit (stroke_padding style) points (added_edges old new) safe (adds_stroked old new h).near
 
   -- a stroke of a radius of at most 1 has no edge, and others those that are drawn along the path
   pub thin_adds : (old : List SignedEdge) → style.radius ≤ℤ pos 1 → Adds old old (stroke_edges unit style closed points)
@@ -103,12 +106,15 @@ module _ (unit : ℕ) (least : 2 ^ 14 ≤ unit) (style : StrokeStyle) (closed : 
       by true e = ([], sym (append-nil old), IsPermutation-refl [], All-nil IsSubject)
       by false e = absurd (omega (arith, ints, h, e))
 
-  pub thick_adds : (old new : List SignedEdge) → pos 1 <ℤ style.radius → Adds old new (drawn_edges unit style closed (path_edges closed points)) → Adds old new (stroke_edges unit style closed points)
-  thick_adds old new h added = by (int_le style.radius (pos 1)) refl
+  pub thick_is : pos 1 <ℤ style.radius → stroke_edges unit style closed points ≡ drawn_edges unit style closed (path_edges closed points)
+  thick_is h = by (int_le style.radius (pos 1)) refl
     where
-      by : (b : Bool) → int_le style.radius (pos 1) ≡ b → Adds old new (cond b [] (drawn_edges unit style closed edges))
+      by : (b : Bool) → int_le style.radius (pos 1) ≡ b → cond b [] (drawn_edges unit style closed edges) ≡ drawn_edges unit style closed edges
       by true e = absurd (omega (arith, ints, h, e))
-      by false e = added
+      by false e = refl
+
+  pub thick_adds : (old new : List SignedEdge) → pos 1 <ℤ style.radius → Adds old new (drawn_edges unit style closed (path_edges closed points)) → Adds old new (stroke_edges unit style closed points)
+  thick_adds old new h added = subst (Adds old new) (sym (thick_is h)) added
 
 -- a number for which a test is false is at most 1
 pub not_above : (b : Bool) (x : ℤ) → (IsTrue b ↔ pos 1 <ℤ x) → b ≡ false → x ≤ℤ pos 1

@@ -29,11 +29,11 @@ use Rattle.mesh_stroke.proofs.Chains.{IsChain, neighbours_all, last_all}
 use Rattle.mesh_stroke.proofs.Corners.{IsMet, corners_met, facing_keeps, heading_short, apart_back}
 use Rattle.mesh_stroke.proofs.Sides.{heading_is}
 
-left_true : (a b : Bool) → IsTrue (a && b) → IsTrue a
+pub left_true : (a b : Bool) → IsTrue (a && b) → IsTrue a
 left_true true b h = refl
 left_true false b h = h
 
-right_true : (a b : Bool) → IsTrue (a && b) → IsTrue b
+pub right_true : (a b : Bool) → IsTrue (a && b) → IsTrue b
 right_true true b h = h
 right_true false b h = let k : false ≡ true = h in cc
 

@@ -1,17 +1,32 @@
 -- What the stroke's builder asks. Private contracts read the rest.
-use Rattle.std.specs.Prelude.{ℕ, ◌≡◌, ◌≢◌, List, ℤ, pos, ◌≤ℤ◌, unsigned_abs}
+use Rattle.std.specs.Prelude.{ℕ, ◌≡◌, ◌≢◌, ◌+◌, ◌≤◌, Bool, ◌&&◌, ◌||◌, IsTrue, List, length, vec_capacity}
+use Rattle.std.specs.Prelude.{ℤ, pos, ◌≤ℤ◌, unsigned_abs}
+use Rattle.std.specs.declared.alloc.Global.{Global}
+use Rattle.std.specs.declared.vec.Vec.{Vec}
 use Rattle.mesh_plane.specs.Plane.{Point, Edge}
 use Rattle.mesh_num.specs.Rectangle.{IsSafeWidened}
 use Rattle.mesh_num.specs.Segments.{SignedEdge, segments_of}
 use Rattle.mesh_join.specs.Joins.{join_padding}
 use Rattle.mesh_join.specs.Styles.{JoinStyle}
-use Rattle.mesh_cap.specs.Caps.{CapKind, cap_padding}
+use Rattle.mesh_cap.specs.Caps.{CapKind, cap_padding, draws_directly, has_few_edges}
 use Rattle.mesh_stroke.specs.Strokes.{Corner, heading, right_of, left_of, side_edges, corner_edges}
 use Rattle.mesh_stroke.specs.Styles.{StrokeStyle, stroke_padding}
 
 -- a point that stays safe where it moves by at most the padding of the stroke
 abbrev pub IsStrokable : ℕ → StrokeStyle → Point → Type 0
 IsStrokable unit style p = IsSafeWidened unit (stroke_padding style) p
+
+-- the vector has room for so many more items
+abbrev pub HasRoomFor : {X : Type 0} → Vec X Global → ℕ → Type 0
+HasRoomFor v count = length v.items + count ≤ vec_capacity v
+
+-- the path is closed, or neither cap is round: no cap takes memory but for its edges
+abbrev pub HasDirectCaps : StrokeStyle → Bool → Type 0
+HasDirectCaps style closed = IsTrue (closed || (draws_directly style.start && draws_directly style.end))
+
+-- the path is closed, or both caps have at most three edges
+abbrev pub HasFewCapEdges : StrokeStyle → Bool → Type 0
+HasFewCapEdges style closed = IsTrue (closed || (has_few_edges style.start && has_few_edges style.end))
 
 -- an edge of a path, its direction, and the points beside both of its ends
 pub record Section : Type 0 where

@@ -3,6 +3,7 @@ use Rattle.std.specs.Prelude.{ℕ, ◌≡◌, Bool, ◌&&◌, ◌||◌, IsTrue, 
 use Rattle.std.specs.List.{All}
 use Rattle.mesh_plane.specs.Plane.{Point, Edge}
 use Rattle.mesh_plane.specs.Winding.{IsBalanced, IsBit, boundary, winding, crossing_on, pieces_total, holds}
+use Rattle.mesh_cuts.specs.Reach.{AreEdgesSafe}
 use Rattle.mesh_draw.specs.Padding.{IsNear}
 use Rattle.mesh_cap.specs.Caps.{is_stock}
 use Rattle.mesh_stroke.specs.Strokes.{stroke_pieces}
@@ -18,7 +19,8 @@ WindAsPieces pieces es = (m : ℕ) (q : Point) → winding m q es ≡ pieces_tot
 
 -- at each point of each grid each piece winds 0 times or once
 abbrev pub NeverTurnedRound : List (List Point) → Type 0
-NeverTurnedRound pieces = (m : ℕ) (q : Point) → All (λ (piece : List Point). IsBit (winding m q (boundary piece))) pieces
+NeverTurnedRound pieces =
+    (m : ℕ) (q : Point) → All (λ (piece : List Point). IsBit (winding m q (boundary piece))) pieces
 
 -- at each point of each grid the edges wind once for each piece that holds the point
 abbrev pub WindsByCount : List (List Point) → List Edge → Type 0
@@ -28,12 +30,15 @@ WindsByCount pieces es = (m : ℕ) (q : Point) → winding m q es ≡ pos (count
 abbrev pub AreEndsNear : ℤ → List Point → List Edge → Type 0
 AreEndsNear padding points es = All (λ (e : Edge). IsNear padding points e.0 × IsNear padding points e.1) es
 
--- edges that are drawn as the stroke of the path through these points
-pub record AreStroked (unit : ℕ) (style : StrokeStyle) (closed : Bool) (points : List Point) (es : List Edge) : Type 0 where
+-- edges that are drawn as the stroke of the path through these points, which stay safe where they move by its padding
+pub record AreStroked (unit : ℕ) (style : StrokeStyle) (closed : Bool) (points : List Point) (es : List Edge)
+    : Type 0 where
   -- they close up: as many of them end in a point as start there
   pub balanced : IsBalanced es
   -- they stay near the path
   pub near : AreEndsNear (stroke_padding style) points es
+  -- and in the safe range
+  pub safe : AreEdgesSafe unit es
   -- they wind as the pieces of the stroke together
   pub sum : WindAsPieces (stroke_pieces unit style closed points) es
   -- but for custom caps no piece is turned round

@@ -32,11 +32,15 @@ left_of unit radius e v = contact unit radius Clockwise v (heading unit e)
 
 -- an edge is drawn on its right as it runs, and on its left back
 abbrev pub side_edges : ℕ → ℤ → Edge → List Edge
-side_edges unit radius e = (right_of unit radius e e.0, right_of unit radius e e.1) ∷ (left_of unit radius e e.1, left_of unit radius e e.0) ∷ []
+side_edges unit radius e =
+    (right_of unit radius e e.0, right_of unit radius e e.1) ∷ (left_of unit radius e e.1, left_of unit radius e e.0)
+    ∷ []
 
 -- the piece between both sides
 abbrev pub section_piece : ℕ → ℤ → Edge → List Point
-section_piece unit radius e = right_of unit radius e e.0 ∷ right_of unit radius e e.1 ∷ left_of unit radius e e.1 ∷ left_of unit radius e e.0 ∷ []
+section_piece unit radius e =
+    right_of unit radius e e.0 ∷ right_of unit radius e e.1 ∷ left_of unit radius e e.1 ∷ left_of unit radius e e.0
+    ∷ []
 
 -- a corner seen so that it turns to the left or not at all: one that turns to the right is seen from its other end
 abbrev pub facing : Corner → Corner
@@ -45,7 +49,8 @@ facing c = if int_lt (cross (minus c.0.1 c.0.0) (minus c.1.1 c.1.0)) (pos 0) the
 -- the joint on the right of a corner that turns to the left
 abbrev pub joint_right : ℕ → ℤ → Corner → Joint
 joint_right unit radius c =
-    joint c.0.1 (right_of unit radius c.0 c.0.1) (right_of unit radius c.1 c.1.0) (heading unit c.0) (heading unit c.1) radius Counterclockwise
+    joint c.0.1 (right_of unit radius c.0 c.0.1) (right_of unit radius c.1 c.1.0)
+    (heading unit c.0) (heading unit c.1) radius Counterclockwise
 
 -- the edges of its join
 abbrev pub outer_edges : ℕ → ℤ → JoinStyle → Corner → List Edge
@@ -78,7 +83,8 @@ both_caps unit radius start end false first last = cap_at unit radius start (bac
 
 abbrev pub both_cap_pieces : ℕ → ℤ → CapKind → CapKind → Bool → Edge → Edge → List (List Point)
 both_cap_pieces unit radius start end true first last = []
-both_cap_pieces unit radius start end false first last = cap_pieces unit radius start (back first) ++ cap_pieces unit radius end last
+both_cap_pieces unit radius start end false first last =
+    cap_pieces unit radius start (back first) ++ cap_pieces unit radius end last
 
 -- what is drawn along the edges of a path
 unfoldable pub drawn_edges : ℕ → StrokeStyle → Bool → List Edge → List Edge
@@ -86,7 +92,8 @@ drawn_edges unit style closed [] = []
 drawn_edges unit style closed (e ∷ es) =
     proper_edges (
     flat_map (side_edges unit style.radius) (e ∷ es)
-    ++ (flat_map (corner_edges unit style.radius style.join) (neighbours closed (e ∷ es)) ++ both_caps unit style.radius style.start style.end closed e (last_of e es))
+    ++ (flat_map (corner_edges unit style.radius style.join) (neighbours closed (e ∷ es))
+    ++ both_caps unit style.radius style.start style.end closed e (last_of e es))
     )
 
 -- the pieces that are drawn along them
@@ -94,12 +101,15 @@ unfoldable pub drawn_pieces : ℕ → StrokeStyle → Bool → List Edge → Lis
 drawn_pieces unit style closed [] = []
 drawn_pieces unit style closed (e ∷ es) =
     map (section_piece unit style.radius) (e ∷ es)
-    ++ (flat_map (corner_pieces unit style.radius style.join) (neighbours closed (e ∷ es)) ++ both_cap_pieces unit style.radius style.start style.end closed e (last_of e es))
+    ++ (flat_map (corner_pieces unit style.radius style.join) (neighbours closed (e ∷ es))
+    ++ both_cap_pieces unit style.radius style.start style.end closed e (last_of e es))
 
 -- the edges of the stroke of the path through these points: none for a radius of at most 1
 abbrev pub stroke_edges : ℕ → StrokeStyle → Bool → List Point → List Edge
-stroke_edges unit style closed points = if int_le style.radius (pos 1) then [] else drawn_edges unit style closed (path_edges closed points)
+stroke_edges unit style closed points =
+    if int_le style.radius (pos 1) then [] else drawn_edges unit style closed (path_edges closed points)
 
 -- the pieces that the stroke is made of
 abbrev pub stroke_pieces : ℕ → StrokeStyle → Bool → List Point → List (List Point)
-stroke_pieces unit style closed points = if int_le style.radius (pos 1) then [] else drawn_pieces unit style closed (path_edges closed points)
+stroke_pieces unit style closed points =
+    if int_le style.radius (pos 1) then [] else drawn_pieces unit style closed (path_edges closed points)

@@ -31,4 +31,5 @@ stroke_style_of value style = record {
 -- how far a stroke reaches from its path in each coordinate: the greatest padding of its join and its caps
 abbrev pub stroke_padding : StrokeStyle → ℤ
 stroke_padding style =
-    int_max (join_padding style.join.kind style.radius) (int_max (cap_padding style.start style.radius) (cap_padding style.end style.radius))
+    int_max (join_padding style.join.kind style.radius)
+    (int_max (cap_padding style.start style.radius) (cap_padding style.end style.radius))

@@ -1,15 +1,20 @@
 //! The edges of one path's stroke.
 
-ghost use Rattle.std.specs.Prelude.{◌≡◌, ◌↔◌, ◌++◌, pos, ◌≤ℤ◌, ◌<ℤ◌, IsTrue, OnOk, OnErr};
+ghost use Rattle.std.specs.Prelude.{◌≡◌, ◌↔◌, ◌++◌, ◌+◌, ◌*◌, ◌≤◌, [], length, vec_capacity};
+ghost use Rattle.std.specs.Prelude.{pos, ◌≤ℤ◌, ◌<ℤ◌, IsTrue, IsOk, OnOk, OnErr};
 ghost use Rattle.std.specs.List.{All};
 ghost use Rattle.std.specs.List.Sorted.{IsPermutation};
 ghost use Rattle.mesh_plane.specs.Winding.{IsBalanced};
 ghost use Rattle.mesh_num.specs.Segments.{segments_of, IsSubject};
 ghost use Rattle.mesh_cuts.specs.Reach.{AreEdgesSafe};
 ghost use Rattle.mesh_draw.specs.Adding.{Adds, added, added_edges, Keeps};
+ghost use Rattle.mesh_join.specs.Joins.{HasFew};
+ghost use Rattle.mesh_join.specs.Appending.{HasRoomForEdges};
 ghost use Rattle.mesh_stroke.specs.Building.{own_edge, style_with, IsCorner, IsStrokable};
+ghost use Rattle.mesh_stroke.specs.Building.{HasDirectCaps, HasFewCapEdges, HasRoomFor};
 ghost use Rattle.mesh_stroke.specs.Drawn.{HasStockCaps, WindAsPieces, NeverTurnedRound, WindsByCount, AreEndsNear};
 ghost use Rattle.mesh_stroke.specs.Paths.{path_edges};
+ghost use Rattle.mesh_stroke.specs.Reversal.{CountAlike, reversed_edges};
 ghost use Rattle.mesh_stroke.specs.Strokes.{corner_edges, side_edges, drawn_edges, stroke_edges, stroke_pieces};
 ghost use Rattle.mesh_stroke.specs.Styles.{stroke_padding, stroke_style_of};
 
@@ -26,8 +31,8 @@ use mesh_num::shape::segment::Segment;
 use std::alloc::{AllocError, Global};
 use std::marker::Model;
 
-/// Builds the stroke of a path: both sides of its edges, joined at the corners and closed by caps at the ends of an open
-/// path. It borrows the style. Contracts see its radius, its joins and its caps.
+/// Builds the stroke of a path: both sides of its edges, joined at the corners and closed by caps at the ends of an
+/// open path. It borrows the style. Contracts see its radius, its joins and its caps.
 #[derive(Drop)]
 pub struct StrokeBuilder<'a, I: IntNumber> {
     radius: I,
@@ -58,8 +63,10 @@ impl<'a, I: IntNumber> StrokeBuilder<'a, I> {
 
     /// Adds the edges of the stroke of the path through these points, each of which stays in the safe range where it
     /// moves by the padding of the style. A closed path goes on from its last point to its first, and has no caps. What
-    /// the vector holds stays. Nothing is added for a radius of at most 1, and where all points are one. After a refusal
-    /// the vector is cut back to its old length.
+    /// the vector holds stays. Nothing is added for a radius of at most 1, and where all points are one, and no memory
+    /// is taken there. Without round joins, and without round caps where the path is open, it succeeds where there is
+    /// room for the edges. With butt or square caps, or none, these are at most seven for each edge of the path and six
+    /// more. After a refusal the vector is cut back to its old length.
     pub fn build(
         &mut self,
         path: &[IntPoint<I>],
@@ -72,7 +79,15 @@ impl<'a, I: IntNumber> StrokeBuilder<'a, I> {
         ensures edges { OnOk result (IsPermutation (added_edges segments.old.items segments.new.items)
             (stroke_edges I.unit self.old closed path.now)) }
         ensures form { OnOk result (All IsSubject (added segments.old.items segments.new.items)) }
+        ensures few { HasFew self.old.join → HasFewCapEdges self.old closed → OnOk result
+            (length (added segments.old.items segments.new.items) ≤ 7 * length (path_edges closed path.now) + 6) }
         ensures refused { OnErr result (segments.new.items ≡ segments.old.items) }
+        ensures thin { self.old.radius ≤ℤ pos 1 → IsOk result }
+        ensures no_section { path_edges closed path.now ≡ [] → IsOk result }
+        ensures room { HasFew self.old.join → HasDirectCaps self.old closed
+            → HasRoomFor segments.old (length (stroke_edges I.unit self.old closed path.now)) → IsOk result }
+        ensures room_for_seven { HasFew self.old.join → HasFewCapEdges self.old closed
+            → HasRoomFor segments.old (7 * length (path_edges closed path.now) + 6) → IsOk result }
         ensures same { self.new ≡ self.old }
 
         // The edges close up, and stay near the path.
@@ -84,9 +99,14 @@ impl<'a, I: IntNumber> StrokeBuilder<'a, I> {
         // How they wind.
         ensures sum { OnOk result (WindAsPieces (stroke_pieces I.unit self.old closed path.now)
             (added_edges segments.old.items segments.new.items)) }
-        ensures pieces { HasStockCaps self.old closed → NeverTurnedRound (stroke_pieces I.unit self.old closed path.now) }
+        ensures pieces { HasStockCaps self.old closed
+            → NeverTurnedRound (stroke_pieces I.unit self.old closed path.now) }
         ensures count { HasStockCaps self.old closed → OnOk result (WindsByCount
             (stroke_pieces I.unit self.old closed path.now) (added_edges segments.old.items segments.new.items)) }
+
+        // The reversed path has the same stroke.
+        ensures reversal { OnOk result (CountAlike (reversed_edges I.unit self.old closed path.now)
+            (added_edges segments.old.items segments.new.items)) }
     {
         let length = segments.len();
         if let Err(error) = draw(
@@ -117,6 +137,11 @@ fn draw<I: IntNumber>(
     ensures ok { OnOk result (Adds segments.old.items segments.new.items
         (stroke_edges I.unit (style_with (I.value radius) join.old caps.old) closed path.now)) }
     ensures kept { Keeps segments.old.items segments.new.items }
+    ensures thin { I.value radius ≤ℤ pos 1 → IsOk result }
+    ensures no_section { path_edges closed path.now ≡ [] → IsOk result }
+    ensures room { HasFew join.old → HasDirectCaps (style_with (I.value radius) join.old caps.old) closed
+        → HasRoomFor segments.old
+        (length (stroke_edges I.unit (style_with (I.value radius) join.old caps.old) closed path.now)) → IsOk result }
     ensures same_join { join.new ≡ join.old }
     ensures same_caps { caps.new ≡ caps.old }
 {
@@ -147,6 +172,10 @@ fn draw_path<I: IntNumber>(
     ensures ok { OnOk result (Adds segments.old.items segments.new.items
         (drawn_edges I.unit (style_with (I.value radius) join.old caps.old) closed (path_edges closed path.now))) }
     ensures kept { Keeps segments.old.items segments.new.items }
+    ensures no_section { path_edges closed path.now ≡ [] → IsOk result }
+    ensures room { HasFew join.old → HasDirectCaps (style_with (I.value radius) join.old caps.old) closed
+        → HasRoomFor segments.old (length (drawn_edges I.unit (style_with (I.value radius) join.old caps.old) closed
+        (path_edges closed path.now))) → IsOk result }
     ensures same_join { join.new ≡ join.old }
     ensures same_caps { caps.new ≡ caps.old }
 {
@@ -183,6 +212,10 @@ fn add_section<I: IntNumber>(
         ++ segments_of (corner_edges I.unit (I.value radius) join.old (own_edge previous.now, own_edge next.now)
         ++ side_edges I.unit (I.value radius) (own_edge next.now))) }
     ensures kept { Keeps segments.old.items segments.new.items }
+    ensures room { HasFew join.old → HasRoomForEdges segments.old
+        (corner_edges I.unit (I.value radius) join.old (own_edge previous.now, own_edge next.now)
+        ++ side_edges I.unit (I.value radius) (own_edge next.now)) → IsOk result }
+    ensures capacity { vec_capacity segments.old ≤ vec_capacity segments.new }
     ensures same { join.new ≡ join.old }
 {
     join.add_join(previous, next, radius, segments)?;

@@ -1,9 +1,11 @@
 //! Joins between two neighbouring sections.
 
-ghost use Rattle.std.specs.Prelude.{◌≡◌, ◌≤◌, ◌*◌, ◌++◌, IsTrue, ◌↔◌, pos, ◌<ℤ◌, ◌≤ℤ◌, length, take, vec_capacity, OnOk};
+ghost use Rattle.std.specs.Prelude.{◌≡◌, ◌≤◌, ◌*◌, ◌++◌, IsTrue, ◌↔◌, pos, ◌<ℤ◌, ◌≤ℤ◌, length, take, vec_capacity};
+ghost use Rattle.std.specs.Prelude.{IsOk, OnOk};
 ghost use Rattle.mesh_plane.specs.Bounds.{IsSafe};
 ghost use Rattle.mesh_plane.specs.Plane.{cross, minus};
-ghost use Rattle.mesh_join.specs.Appending.{Appends};
+ghost use Rattle.mesh_join.specs.Appending.{Appends, HasRoomForEdges};
+ghost use Rattle.mesh_join.specs.Joins.{HasFew};
 ghost use Rattle.mesh_join.specs.Styles.{JoinStyle};
 ghost use Rattle.mesh_stroke.specs.Building.{own_edge, IsCorner};
 ghost use Rattle.mesh_stroke.specs.Strokes.{corner_edges, inner_edges, outer_edges};
@@ -20,8 +22,9 @@ use std::alloc::AllocError;
 pub(crate) trait JoinBuilder<I: IntNumber> {
     ghost style: { Self → JoinStyle };
 
-    /// Adds the join on the side that the path turns away from, and on the other the edges through the vertex. After a
-    /// refusal the vector still begins with what it held.
+    /// Adds the join on the side that the path turns away from, and on the other the edges through the vertex. Where
+    /// there is room for them it succeeds, but for a round join. After a refusal the vector still begins with what it
+    /// held.
     fn add_join(
         &mut self,
         previous: &StrokeSection<I>,
@@ -33,6 +36,9 @@ pub(crate) trait JoinBuilder<I: IntNumber> {
         ensures ok { OnOk result (Appends segments.old segments.new
             (corner_edges I.unit (I.value radius) (style self.old) (own_edge previous.now, own_edge next.now))) }
         ensures kept { take (length segments.old.items) segments.new.items ≡ segments.old.items }
+        ensures room { HasFew (style self.old) → HasRoomForEdges segments.old
+            (corner_edges I.unit (I.value radius) (style self.old) (own_edge previous.now, own_edge next.now))
+            → IsOk result }
         ensures capacity { vec_capacity segments.old ≤ vec_capacity segments.new }
         ensures same { style self.new ≡ style self.old };
 }
@@ -81,6 +87,9 @@ fn add_facing<I: IntNumber>(
         (inner_edges I.unit (I.value radius) (own_edge previous.now, own_edge next.now)
         ++ outer_edges I.unit (I.value radius) join.old (own_edge previous.now, own_edge next.now))) }
     ensures kept { take (length segments.old.items) segments.new.items ≡ segments.old.items }
+    ensures room { HasFew join.old → HasRoomForEdges segments.old
+        (inner_edges I.unit (I.value radius) (own_edge previous.now, own_edge next.now)
+        ++ outer_edges I.unit (I.value radius) join.old (own_edge previous.now, own_edge next.now)) → IsOk result }
     ensures capacity { vec_capacity segments.old ≤ vec_capacity segments.new }
     ensures same { join.new ≡ join.old }
 {

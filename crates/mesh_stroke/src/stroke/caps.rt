@@ -1,7 +1,8 @@
 //! The caps of both ends of an open path.
 
-ghost use Rattle.std.specs.Prelude.{◌≡◌, ◌≤◌, false, length, take, vec_capacity, OnOk};
-ghost use Rattle.mesh_join.specs.Appending.{Appends};
+ghost use Rattle.std.specs.Prelude.{◌≡◌, ◌≤◌, false, length, take, vec_capacity, IsOk, OnOk};
+ghost use Rattle.mesh_join.specs.Appending.{Appends, HasRoomForEdges};
+ghost use Rattle.mesh_cap.specs.Caps.{DrawsDirectly};
 ghost use Rattle.mesh_cap.specs.Ends.{half_turn};
 ghost use Rattle.mesh_cap.specs.Kinds.{kind_of};
 ghost use Rattle.mesh_stroke.specs.Building.{own_edge, AreEnds, IsFacing};
@@ -42,8 +43,8 @@ impl<'a, I: IntNumber> BothCaps<'a, I> {
         }
     }
 
-    /// Adds the caps of an open path with these first and last sections. After a refusal the vector still begins with
-    /// what it held.
+    /// Adds the caps of an open path with these first and last sections. Where there is room for their edges it
+    /// succeeds, but for a round cap. After a refusal the vector still begins with what it held.
     pub(crate) fn add(
         &mut self,
         first: &StrokeSection<I>,
@@ -52,9 +53,12 @@ impl<'a, I: IntNumber> BothCaps<'a, I> {
         segments: &mut Vec<Segment<I>>,
     ) -> Result<(), AllocError>
         requires { AreEnds I.unit (I.value radius) self.old.0 self.old.1 first.now last.now }
-        ensures ok { OnOk result (Appends segments.old segments.new (both_caps I.unit (I.value radius) self.old.0 self.old.1 false
-            (own_edge first.now) (own_edge last.now))) }
+        ensures ok { OnOk result (Appends segments.old segments.new
+            (both_caps I.unit (I.value radius) self.old.0 self.old.1 false (own_edge first.now) (own_edge last.now))) }
         ensures kept { take (length segments.old.items) segments.new.items ≡ segments.old.items }
+        ensures room { DrawsDirectly self.old.0 → DrawsDirectly self.old.1 → HasRoomForEdges segments.old
+            (both_caps I.unit (I.value radius) self.old.0 self.old.1 false (own_edge first.now) (own_edge last.now))
+            → IsOk result }
         ensures capacity { vec_capacity segments.old ≤ vec_capacity segments.new }
         ensures same { self.new ≡ self.old }
     {

@@ -1,10 +1,10 @@
 //! Sections: edges of a path and the points beside their ends.
 
-ghost use Rattle.std.specs.Prelude.{◌≡◌, ◌≢◌, ◌≤◌, ℤ, pos, unsigned_abs, length, take, vec_capacity, OnOk, IfOk};
+ghost use Rattle.std.specs.Prelude.{◌≡◌, ◌≢◌, ◌≤◌, ℤ, pos, unsigned_abs, length, take, vec_capacity, IsOk, OnOk, IfOk};
 ghost use Rattle.mesh_plane.specs.Bounds.{IsSafe};
 ghost use Rattle.mesh_plane.specs.Plane.{plus, minus, right_quarter};
 ghost use Rattle.mesh_num.specs.Rectangle.{IsSafeWidened};
-ghost use Rattle.mesh_join.specs.Appending.{Appends};
+ghost use Rattle.mesh_join.specs.Appending.{Appends, HasRoomForEdges};
 ghost use Rattle.mesh_stroke.specs.Building.{own_edge, section_of, IsMade};
 ghost use Rattle.mesh_stroke.specs.Strokes.{side_edges};
 
@@ -87,6 +87,8 @@ impl<I: IntNumber> StrokeSection<I> {
         ensures ok { (radius : ℤ) → IsMade I.unit radius self.now → OnOk result (Appends segments.old segments.new
             (side_edges I.unit radius (own_edge self.now))) }
         ensures kept { take (length segments.old.items) segments.new.items ≡ segments.old.items }
+        ensures room { (radius : ℤ) → IsMade I.unit radius self.now → HasRoomForEdges segments.old
+            (side_edges I.unit radius (own_edge self.now)) → IsOk result }
         ensures capacity { vec_capacity segments.old ≤ vec_capacity segments.new }
     {
         segments.push_non_degenerate(self.a_right, self.b_right)?;

@@ -1,6 +1,7 @@
 -- Each point is safe, and one edge more; the last edge ends them.
-use Rattle.std.proofs.Common.{◌≡◌, ◌+◌, ◌++◌, ◌∷◌, [], List, sym, ◌∙◌, ap, subst, rules, arith, take, take_all}
+use Rattle.std.proofs.Common.{◌≡◌, ◌≤◌, ◌+◌, ◌++◌, ◌∷◌, [], List, length, sym, ◌∙◌, ap, subst, rules, arith, take, take_all}
 use Rattle.std.proofs.Common.{vec_capacity}
+use Rattle.std.proofs.lemmas.Bool.{false≢true}
 use Rattle.std.proofs.lemmas.List.{take_more}
 use Rattle.std.proofs.lemmas.Result.{on_ok_weaker}
 use Rattle.mesh_plane.specs.Plane.{Point, plus}
@@ -9,6 +10,7 @@ use Rattle.mesh_num.specs.Rotation.{turned_along}
 use Rattle.mesh_num.specs.Segments.{segments_of}
 use Rattle.mesh_cap.specs.CustomCaps.{custom_points}
 use Rattle.mesh_cap.proofs.CustomCaps.{IsDrawn, point_safe, drawing_starts, drawing_takes, drawing_ends, still_kept}
+use Rattle.mesh_cap.proofs.CustomCaps.{room_for_next, room_for_last}
 use Rattle.mesh_cap.proofs.custom.add.Goals as goal
 
 pub loop-point-init : goal.loop-point-init
@@ -79,3 +81,31 @@ returns-clause-kept g c =
     (take c.loop-point.point-index c.args.points.now) c.loop-point.last
     c.loop-point.segments.items (vec_capacity c.loop-point.segments)
     c.push_straight-2.new.segments.items c.loop-point.invariant c.push_straight-2.ensures.kept
+
+pub returns-in_err-push_straight-clause-room : goal.returns-in_err-push_straight-clause-room
+returns-in_err-push_straight-clause-room g c room =
+    let p : c.moved-next.result ≡ plus c.args.end.now.center
+    (turned_along g.I.IntNumber.unit c.args.end.now.incoming c.point-item.result) =
+    search rules in
+    absurd (false≢true (c.in_err-push_straight.ensures.room
+    (room_for_next g.I.IntNumber.unit c.args.end.now
+    c.args.segments.now.items (vec_capacity c.args.segments.now) c.args.points.now c.loop-point.point-index
+    c.loop-point.last c.loop-point.segments.items (vec_capacity c.loop-point.segments)
+    c.point-item.result c.moved-next.result
+    c.loop-point.invariant (omega (arith, c.loop-point-test.true)) c.point-item.is p room)))
+
+pub returns-clause-room : goal.returns-clause-room
+returns-clause-room g c room =
+    let all : take c.loop-point.point-index c.args.points.now ≡ c.args.points.now =
+    take_all c.loop-point.point-index c.args.points.now (omega (arith, c.loop-point-test.false)) in
+    let l : c.end.inside.left ≡ c.args.end.now.last = search rules in
+    let whole : length c.args.segments.now.items + length (segments_of (route c.args.end.now.first
+    (custom_points (take c.loop-point.point-index c.args.points.now) g.I.IntNumber.unit c.args.end.now)
+    c.args.end.now.last)) ≤ vec_capacity c.args.segments.now =
+    rw all room in
+    c.push_straight-2.ensures.room
+    (rw l
+    (room_for_last g.I.IntNumber.unit c.args.end.now
+    c.args.segments.now.items (vec_capacity c.args.segments.now)
+    (take c.loop-point.point-index c.args.points.now) c.loop-point.last
+    c.loop-point.segments.items (vec_capacity c.loop-point.segments) c.loop-point.invariant whole))

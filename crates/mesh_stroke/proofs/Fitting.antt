@@ -1,0 +1,85 @@
+-- Lemmas over points and lists: of what is added in steps, each step has room where all of it has.
+use Rattle.std.proofs.Common.{◌≡◌, ℕ, ◌+◌, ◌≤◌, List, ◌++◌, length, sym, subst, ap, ◌∙◌, arith, length-append}
+use Rattle.std.specs.Prelude.{false, ℤ, pos, ◌≤ℤ◌, ◌<ℤ◌}
+use Rattle.mesh_plane.specs.Plane.{Edge}
+use Rattle.mesh_num.specs.Segments.{SignedEdge, segments_of}
+use Rattle.mesh_num.proofs.SegmentLists.{segments_of-append}
+use Rattle.mesh_cuts.specs.Split.{back}
+use Rattle.mesh_join.specs.Styles.{JoinStyle}
+use Rattle.mesh_cap.specs.Caps.{CapKind, cap_edges}
+use Rattle.mesh_cap.specs.Ends.{half_turn}
+use Rattle.mesh_stroke.specs.Building.{Section, section_of, own_edge}
+use Rattle.mesh_stroke.specs.Strokes.{Corner, heading, inner_edges, outer_edges, corner_edges, cap_at, both_caps}
+use Rattle.mesh_stroke.proofs.Corners.{left_turn, faced_here, faced_sections}
+
+-- ---- the segments of edges
+
+pub first_edges_fit : (es gs : List Edge) (n capacity : ℕ) → n + length (segments_of (es ++ gs)) ≤ capacity
+    → n + length (segments_of es) ≤ capacity
+first_edges_fit es gs n capacity fits =
+    omega (arith, fits, ap length (segments_of-append es gs), length-append (segments_of es) (segments_of gs))
+
+pub other_edges_fit : (es gs : List Edge) (old mid : List SignedEdge) (capacity grown : ℕ)
+    → mid ≡ old ++ segments_of es → capacity ≤ grown → length old + length (segments_of (es ++ gs)) ≤ capacity
+    → length mid + length (segments_of gs) ≤ grown
+other_edges_fit es gs old mid capacity grown m more fits =
+    omega (
+      arith,
+      fits,
+      more,
+      ap length m,
+      length-append old (segments_of es),
+      ap length (segments_of-append es gs),
+      length-append (segments_of es) (segments_of gs),
+    )
+
+-- ---- corners
+
+-- the corner as it is faced
+abbrev drawn_at : ℕ → ℤ → JoinStyle → Corner → List Edge
+drawn_at unit radius join c = inner_edges unit radius c ++ outer_edges unit radius join c
+
+pub room_there : (unit : ℕ) (radius : ℤ) (join : JoinStyle) (p n before after : Section) (count capacity : ℕ)
+    → left_turn (own_edge p, own_edge n) <ℤ pos 0 → before ≡ section_of unit radius (n.b, n.a)
+    → after ≡ section_of unit radius (p.b, p.a)
+    → count + length (segments_of (corner_edges unit radius join (own_edge p, own_edge n))) ≤ capacity
+    → count + length (segments_of (inner_edges unit radius (own_edge before, own_edge after)
+    ++ outer_edges unit radius join (own_edge before, own_edge after))) ≤ capacity
+room_there unit radius join p n before after count capacity turned b a fits =
+    subst (λ (c : Corner). count + length (segments_of (drawn_at unit radius join c)) ≤ capacity)
+    (sym (faced_sections unit radius p n before after turned b a)) fits
+
+pub room_here : (unit : ℕ) (radius : ℤ) (join : JoinStyle) (p n : Section) (count capacity : ℕ)
+    → pos 0 ≤ℤ left_turn (own_edge p, own_edge n)
+    → count + length (segments_of (corner_edges unit radius join (own_edge p, own_edge n))) ≤ capacity
+    → count + length (segments_of (inner_edges unit radius (own_edge p, own_edge n)
+    ++ outer_edges unit radius join (own_edge p, own_edge n))) ≤ capacity
+room_here unit radius join p n count capacity left fits =
+    subst (λ (c : Corner). count + length (segments_of (drawn_at unit radius join c)) ≤ capacity)
+    (faced_here (own_edge p, own_edge n) left) fits
+
+-- ---- caps
+
+pub room_for_start : (unit : ℕ) (radius : ℤ) (start end : CapKind) (first last before : Section) (count capacity : ℕ)
+    → before ≡ section_of unit radius (first.b, first.a)
+    → count + length (segments_of (both_caps unit radius start end false (own_edge first) (own_edge last))) ≤ capacity
+    → count + length (segments_of (cap_edges start unit (half_turn unit radius before.b
+    (heading unit (own_edge before))))) ≤ capacity
+room_for_start unit radius start end first last before count capacity e fits =
+    subst (λ (g : Edge). count + length (segments_of (cap_at unit radius start g)) ≤ capacity) (sym (ap own_edge e))
+    (first_edges_fit (cap_at unit radius start (back (own_edge first))) (cap_at unit radius end (own_edge last))
+    count capacity fits)
+
+pub room_for_end : (unit : ℕ) (radius : ℤ) (start end : CapKind) (first last before : Section)
+    (old mid : List SignedEdge) (capacity grown : ℕ) → before ≡ section_of unit radius (first.b, first.a)
+    → mid ≡ old ++ segments_of (cap_edges start unit (half_turn unit radius before.b (heading unit (own_edge before))))
+    → capacity ≤ grown
+    → length old + length (segments_of (both_caps unit radius start end false (own_edge first) (own_edge last)))
+    ≤ capacity
+    → length mid + length (segments_of (cap_edges end unit (half_turn unit radius last.b
+    (heading unit (own_edge last))))) ≤ grown
+room_for_end unit radius start end first last before old mid capacity grown e m more fits =
+    let own : own_edge before ≡ back (own_edge first) = ap own_edge e in
+    other_edges_fit (cap_at unit radius start (back (own_edge first))) (cap_at unit radius end (own_edge last))
+    old mid capacity grown
+    (m ∙ ap (λ (g : Edge). old ++ segments_of (cap_at unit radius start g)) own) more fits
