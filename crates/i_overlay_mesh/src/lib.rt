@@ -2,7 +2,8 @@
 #![tactic(auto)]
 
 pub use mesh_draw::error;
-pub use mesh_draw::error::IntOutlineError;
-pub use mesh_outline::{laws, outline};
+pub use mesh_draw::error::{IntOutlineError, IntStrokeError, IntVariableStrokeError};
+pub use mesh_outline::outline;
 
+pub mod laws;
 pub mod stroke;

@@ -1,13 +1,16 @@
 //! Splits segments that look random, always the same, to measure the splitting. The first argument is their number.
 //! With the second argument `overlay` they are the sides of closed lists of four points, and are resolved into shapes.
 //! With the second argument `round` so many round joins are added instead, with arcs of as many directions as the third
-//! argument tells, 8 where there is none.
+//! argument tells, 8 where there is none. With the second argument `directions` the directions of so many vectors are
+//! found instead, with components of as many bits as the third argument tells, 31 where there is none.
 #![tactic(auto)]
 
+mod directions;
 mod joins;
 
 ghost use Rattle.std.specs.Prelude.{◌<◌, ◌≤◌, ◌^◌};
 
+use crate::directions::find_directions;
 use crate::joins::add_joins;
 use mesh_below::below::{FillRule, Overlay, OverlayRule};
 use mesh_below::checks::are_resolvable;
@@ -114,7 +117,7 @@ pub(crate) enum BenchError {
     Output,
     #[error("a count is no whole number")]
     Count,
-    #[error("the second argument is neither `overlay` nor `round`")]
+    #[error("the second argument is none of `overlay`, `round` and `directions`")]
     Family,
 }
 
@@ -187,6 +190,15 @@ fn join(rt: &HostRuntime, count: u64) -> Result<(), BenchError> {
     add_joins(rt, count, directions)
 }
 
+/// Finds the directions of vectors with components of as many bits as the third argument tells.
+fn direct(rt: &HostRuntime, count: u64) -> Result<(), BenchError> {
+    let mut bits: u32 = 31;
+    if let Some(word) = env::args(rt)?.nth(3) {
+        bits = word.parse::<u32>()?;
+    }
+    find_directions(rt, count, bits)
+}
+
 fn main(rt: HostRuntime) -> Result<(), BenchError> {
     let mut count: u64 = 100;
     if let Some(word) = env::args(&rt)?.nth(1) {
@@ -198,6 +210,7 @@ fn main(rt: HostRuntime) -> Result<(), BenchError> {
     match family.as_str() {
         "overlay" => resolve(&rt, count),
         "round" => join(&rt, count),
+        "directions" => direct(&rt, count),
         _ => Err(BenchError::Family),
     }
 }

@@ -1,4 +1,4 @@
--- How the edges that contours give to an outline are added to its segments.
+-- How edges that are drawn, and those that contours give to an outline, are added to segments.
 use Rattle.std.specs.Prelude.{ℕ, ◌≡◌, List, ◌++◌, map, length, take, drop}
 use Rattle.mesh_plane.specs.Plane.{Edge, Point}
 use Rattle.mesh_num.specs.Segments.{SignedEdge, segments_of, edges_of, IsSubject}
@@ -16,15 +16,18 @@ abbrev pub along : FillRule → List Edge → List Edge
 along Positive es = es
 along Negative es = map back es
 
--- the vector `new` holds what `old` held, and then the segments of these edges, which are balanced and in the safe range
+-- the vector `new` holds what `old` held, and then the segments of these edges, which are balanced and in the safe
+-- range
 pub record AddsClosed (unit : ℕ) (old new : List SignedEdge) (edges : List Edge) : Type 0 where
   pub balanced : IsBalanced edges
   pub safe : AreEdgesSafe unit edges
   pub added : new ≡ old ++ segments_of edges
 
--- the vector `new` holds what `old` held, and then segments that stand for the edges, in some order, each as `Segment::subject` gives it
+-- the vector `new` holds what `old` held, and then segments that stand for the edges, in some order, each as
+-- `Segment::subject` gives it
 abbrev pub Adds : List SignedEdge → List SignedEdge → List Edge → Type 0
-Adds old new edges = (added : List SignedEdge) × (new ≡ old ++ added) × IsPermutation (edges_of added) edges × All IsSubject added
+Adds old new edges =
+    (added : List SignedEdge) × (new ≡ old ++ added) × IsPermutation (edges_of added) edges × All IsSubject added
 
 -- the vector `new` begins with what `old` held
 abbrev pub Keeps : List SignedEdge → List SignedEdge → Type 0

@@ -1,4 +1,4 @@
--- How far an outline reaches from the vertices of its contours, and what stays in the safe range.
+-- How far outlines and strokes reach from the points of their contours and paths, and what stays in the safe range.
 use Rattle.std.specs.Prelude.{ℕ, List, ℤ}
 use Rattle.std.specs.List.{All, Contains, flat_map}
 use Rattle.mesh_plane.specs.Plane.{Point, Edge, plus, minus}
@@ -17,7 +17,7 @@ all_points paths = flat_map (λ (path : List Point). path) paths
 abbrev pub widened : ℤ → Edge → Edge
 widened padding corners = (minus corners.0 (padding, padding), plus corners.1 (padding, padding))
 
--- `p` is away from one of the vertices by at most the padding in each coordinate
+-- `p` is away from one of the vertices of a contour or path by at most the padding in each coordinate
 pub record IsNear (padding : ℤ) (vertices : List Point) (p : Point) : Type 0 where
   pub vertex : Point
   pub listed : Contains vertices vertex

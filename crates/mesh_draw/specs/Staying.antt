@@ -8,5 +8,6 @@ use Rattle.mesh_cuts.specs.Split.{after}
 -- edges are safe, and so is each resolving of them: its split segments, and each point of its answer
 pub record IsSafeResolving (unit : ℕ) (edges : List Edge) : Type 0 where
   pub edges_safe : AreEdgesSafe unit edges
-  pub resolving_safe : (fill : ℤ → Bool) (choices : Choices) (answer : List (List (List Point))) (r : IsResolution edges fill choices answer)
+  pub resolving_safe : (fill : ℤ → Bool) (choices : Choices) (answer : List (List (List Point)))
+      (r : IsResolution edges fill choices answer)
       → AreEdgesSafe unit (after r.cuts edges) × ArePointsSafe unit answer

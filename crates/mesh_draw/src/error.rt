@@ -15,6 +15,12 @@ pub enum IntOutlineError {
     OutOfMemory,
 }
 
+/// Why a stroke call refuses. `CoordinateOutOfRange` is answered by the validation alone.
+pub type IntStrokeError = IntOutlineError;
+
+/// Why a call on strokes of variable width refuses. `CoordinateOutOfRange` is answered by the validation alone.
+pub type IntVariableStrokeError = IntOutlineError;
+
 impl From<AllocError> for IntOutlineError {
     ghost use Rattle.std.specs.Prelude.{◌≡◌};
     ghost use Rattle.mesh_draw.specs.declared.error.IntOutlineError.TheVariants.{OutOfMemory};

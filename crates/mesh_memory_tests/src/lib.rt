@@ -5,8 +5,14 @@
 #![tactic(auto)]
 
 #[cfg(test)]
+mod arcs;
+#[cfg(test)]
+mod kept;
+#[cfg(test)]
 mod outlines;
 #[cfg(test)]
 mod overlays;
 #[cfg(test)]
 mod service;
+#[cfg(test)]
+mod strokes;

@@ -1,5 +1,6 @@
 //! Outlines for which memory is refused.
 
+use crate::kept::{is_one, one_segment};
 use i_overlay_mesh::IntOutlineError;
 use i_overlay_mesh::outline::area::double_area;
 use i_overlay_mesh::outline::builder::OutlineBuilder;
@@ -7,12 +8,11 @@ use i_overlay_mesh::outline::kind::{ContourKind, contour_kinds};
 use i_overlay_mesh::outline::offset::IntOutlineOffset;
 use mesh_join::style::IntOutlineStyle;
 use mesh_num::num::{IntPoint, OverlayInt};
-use mesh_num::shape::buffer::FlatContoursBuffer;
-use mesh_num::shape::segment::{Segment, SubjectSegments};
-use mesh_toolbox::compared::{holds, is_contour};
+use mesh_num::shape::segment::Segment;
+use mesh_toolbox::compared::{filled, holds, is_filled};
 use mesh_toolbox::lists::{path, paths};
 use mesh_toolbox::{inner, outer};
-use std::alloc::{AllocError, Global};
+use std::alloc::Global;
 use std::test::Fail;
 
 /// A square with a square hole.
@@ -39,17 +39,6 @@ const KINDS: &[&[(i32, i32)]] = &[
     &[(0, 0), (5, 5)],
     outer!(0, 0, 40, 40),
 ];
-
-/// A buffer of one point.
-fn filled(alloc: Global) -> Result<FlatContoursBuffer<i32>, AllocError> {
-    let mut buffer = FlatContoursBuffer::new(alloc);
-    buffer.points.push(IntPoint::new(7, 7))?;
-    Ok(buffer)
-}
-
-fn is_filled(buffer: &FlatContoursBuffer<i32>) -> bool {
-    is_contour(&buffer.points, &[(7, 7)]) && buffer.ranges.is_empty()
-}
 
 /// After a refusal the buffer is unchanged, and the next call answers.
 #[test]
@@ -119,17 +108,6 @@ fn kinds(rt: HostRuntime) -> Result<(), Fail> {
     Ok(())
 }
 
-/// What a refusal of memory leaves of the segments: just the one that stood there.
-fn is_one(segments: &[Segment<i32>]) -> bool {
-    let Some(segment) = segments.first() else {
-        return false;
-    };
-    let ends = segment.x_segment;
-    segments.len() == 1
-        && (ends.a, ends.b) == (IntPoint::new(1, 2), IntPoint::new(3, 4))
-        && segment.count == 1
-}
-
 /// Adds the edges of the contour's outline in this style, chosen by its area.
 fn add_outline<I: OverlayInt>(
     alloc: Global,
@@ -152,11 +130,9 @@ fn building(rt: HostRuntime) -> Result<(), Fail> {
     let Ok(contour) = path(rt.alloc(), &[(0, 0), (40, 0), (40, 40), (0, 40)]) else {
         return Ok(());
     };
-    let mut segments = Vec::new(rt.alloc());
-    let start = segments.push_non_degenerate(IntPoint::new(1, 2), IntPoint::new(3, 4));
-    if start.is_err() {
+    let Ok(mut segments) = one_segment(rt.alloc()) else {
         return Ok(());
-    }
+    };
     let style = IntOutlineStyle::new(2);
     if let Err(refused) = add_outline(rt.alloc(), &contour, &style, &mut segments) {
         assert_eq!(rt; refused, IntOutlineError::OutOfMemory);

@@ -7,8 +7,9 @@ pub mod number;
 pub mod point;
 pub mod quotient;
 pub mod rect;
+pub(crate) mod root;
 pub mod rotation;
-pub(crate) mod search;
+pub(crate) mod share;
 pub mod unit_vector;
 
 pub use angle::Angle;

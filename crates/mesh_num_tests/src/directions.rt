@@ -108,6 +108,110 @@ fn directions_of_i32(rt: HostRuntime) -> Result<(), Fail> {
     Ok(())
 }
 
+// The size of a direction's component for a component of this size, in a vector with this squared length, searched bit by
+// bit as the definition says. Nothing wraps: no product passes 2^125.
+fn searched_size(unit: u128, square: u128, size: u128) -> u128 {
+    let target = unit
+        .wrapping_mul(unit)
+        .wrapping_mul(size.wrapping_mul(size));
+    let mut found: u128 = 0;
+    for bit in (0..31u32).rev() {
+        let next = found | (1 << bit);
+        if next.wrapping_mul(next).wrapping_mul(square) <= target {
+            found = next;
+        }
+    }
+    found
+}
+
+// The sizes of both components, searched.
+fn searched_sizes(unit: u128, x: i64, y: i64) -> (u128, u128) {
+    let width = u128::from(x.unsigned_abs());
+    let height = u128::from(y.unsigned_abs());
+    let square = width
+        .wrapping_mul(width)
+        .wrapping_add(height.wrapping_mul(height));
+    (
+        searched_size(unit, square, width),
+        searched_size(unit, square, height),
+    )
+}
+
+// Whether a number other than 0 has the sign of this component.
+fn has_sign_of(component: i64, found: i64) -> bool {
+    found == 0 || (component < 0) == (found < 0)
+}
+
+// Compares a direction for `i16` with the search.
+fn compare_with_search_i16(rt: &impl Abort, x: i32, y: i32) -> Result<(), Fail> {
+    let direction = direction_of_i16(rt, x, y).ok_or("no direction")?;
+    let (x, y) = (i64::from(x), i64::from(y));
+    let found_x = i64::from(direction.x());
+    let found_y = i64::from(direction.y());
+    let found = (
+        u128::from(found_x.unsigned_abs()),
+        u128::from(found_y.unsigned_abs()),
+    );
+    assert_eq!(rt; found, searched_sizes(16384, x, y), "{x}, {y}");
+    assert!(rt;
+        has_sign_of(x, found_x) && has_sign_of(y, found_y),
+        "{x}, {y}"
+    );
+    Ok(())
+}
+
+// Compares a direction for `i32` with the search.
+fn compare_with_search_i32(rt: &impl Abort, x: i64, y: i64) -> Result<(), Fail> {
+    let direction = direction_of_i32(rt, x, y).ok_or("no direction")?;
+    let found_x = i64::from(direction.x());
+    let found_y = i64::from(direction.y());
+    let found = (
+        u128::from(found_x.unsigned_abs()),
+        u128::from(found_y.unsigned_abs()),
+    );
+    assert_eq!(rt; found, searched_sizes(1073741824, x, y), "{x}, {y}");
+    assert!(rt;
+        has_sign_of(x, found_x) && has_sign_of(y, found_y),
+        "{x}, {y}"
+    );
+    Ok(())
+}
+
+#[test]
+fn directions_by_one_root_are_those_of_the_search(rt: HostRuntime) -> Result<(), Fail> {
+    for x in -200..=200i32 {
+        for y in -200..=200i32 {
+            if x != 0 || y != 0 {
+                compare_with_search_i16(&rt, x, y)?;
+            }
+        }
+    }
+    for (x, y) in [(1, 30000), (32767, 32766), (32767, 1)] {
+        compare_with_search_i16(&rt, x, y)?;
+    }
+    Ok(())
+}
+
+// Vectors for `i32` that look random, of each length from one bit to 31.
+#[test]
+fn directions_for_i32_are_those_of_the_search(rt: HostRuntime) -> Result<(), Fail> {
+    let mut state: u64 = 1;
+    for round in 0..20_000u32 {
+        state = state
+            .wrapping_mul(6364136223846793005)
+            .wrapping_add(1442695040888963407);
+        let x = (state >> 33) >> (round % 31);
+        state = state
+            .wrapping_mul(6364136223846793005)
+            .wrapping_add(1442695040888963407);
+        let y = (state >> 33) >> (round / 31 % 31);
+        if x != 0 || y != 0 {
+            compare_with_search_i32(&rt, x as i64, -(y as i64))?;
+        }
+    }
+    Ok(())
+}
+
 /// Vectors, radii, and the directions times these. The first component of the vector (97, 168) has a direction of one half:
 /// its odd multiples are rounded away from 0.
 const SCALED_OF_I16: &[(i32, i32, i16, i32, i32)] = &[

@@ -1,7 +1,7 @@
 -- Lemmas over points and lists: paths, their areas, and what is answered to requests for them.
 use Rattle.std.proofs.Common.{◌≡◌, ℕ, ◌<◌, ◌+◌, ◌*◌, Bool, List, [], ◌∷◌, ◌++◌, get_or, take, length, Option, Some, None, option_and_then, true, false, refl, sym, ap, subst, ◌∙◌, arith}
 use Rattle.std.proofs.lemmas.Bool.{true≢false}
-use Rattle.std.specs.Prelude.{Result, Ok, Err, IfErr, IsErrAnd, is_ok, OnOk, ℤ, pos, ◌≤ℤ◌, ◌<ℤ◌, neg_ℤ, int_lt}
+use Rattle.std.specs.Prelude.{Result, Ok, Err, IfErr, IsErrAnd, is_ok, OnOk, OnErr, ℤ, pos, ◌≤ℤ◌, ◌<ℤ◌, neg_ℤ, int_lt}
 use Rattle.std.specs.List.{AllZip}
 use Rattle.std.specs.declared.cmp.Ordering.{Ordering}
 use Rattle.std.specs.declared.vec.Vec.{Vec}
@@ -17,7 +17,7 @@ use Rattle.mesh_outline.specs.Kinds.{contour_kind, way_for}
 use Rattle.mesh_outline.specs.declared.outline.kind.ContourKind.{ContourKind}
 use Rattle.mesh_outline.specs.Outline.{outline_edges}
 use Rattle.mesh_join.specs.Styles.{OffsetJoin, OutlineStyle}
-use Rattle.mesh_outline.specs.Resolved.{DoAreasFit, IsOutline}
+use Rattle.mesh_outline.specs.Resolved.{DoAreasFit}
 use Rattle.mesh_draw.specs.declared.error.IntOutlineError.{IntOutlineError}
 use Rattle.mesh_draw.specs.declared.error.IntOutlineError.TheVariants.{CoordinateOutOfRange, OutOfMemory}
 use Rattle.mesh_service.specs.declared.failure.Failure.TheVariants.{Refused}
@@ -27,7 +27,7 @@ use Rattle.serde_json.specs.Written.{has_float}
 use Rattle.mesh_service.specs.Lines.{edges_text, shapes_text}
 use Rattle.mesh_service.specs.Reading.{request_of, IsOfReading}
 use Rattle.mesh_service.specs.Requests.{Asked, Request}
-use Rattle.mesh_service.specs.Served.{AreListed, IsAccepted, Lists, Answers, served_edges, moved_edges}
+use Rattle.mesh_service.specs.Served.{AreEdgesOf, AreShapesOf, IsAccepted, Lists, Answers, served_edges, moved_edges}
 use Rattle.mesh_service.specs.Serving.{exact_request, request_in}
 
 -- ---- the paths that vectors hold, one after another
@@ -110,6 +110,11 @@ memory_other {A} (Err t) same e =
     let m : CoordinateOutOfRange ≡ OutOfMemory = subst (λ (r : Result A IntOutlineError). IsErrAnd r (λ x. x ≡ OutOfMemory)) e same in
     subst (λ (x : IntOutlineError). IsOfReading (Refused x)) (sym m) tt
 
+-- nor where it is the only error
+pub memory_only : {A : Type 0} (r : Result A IntOutlineError) → OnErr r (r ≡ Err OutOfMemory) → r ≡ Err CoordinateOutOfRange → ⊥
+memory_only (Ok x) same e = true≢false (ap is_ok e)
+memory_only (Err t) same e = cc
+
 -- nor is an answer
 pub answer_other : {A : Type 0} (x : A) → (Ok x) ≡ Err CoordinateOutOfRange → ⊥
 answer_other x e = true≢false (ap is_ok e)
@@ -136,7 +141,7 @@ is_requested text d request r f q =
     ap (λ (o : Option Data). option_and_then exact_request o) r ∙ exact
 
 pub edges_answer : (order : ℤ → ℤ → Ordering) (request : Request) (line : List ℕ) (lists : List (List Edge)) → request.asked ≡ Asked.for_edges → IsAccepted request →
-    AreListed order request.unit request.style request.paths lists → line ≡ edges_text lists → Answers order request line
+    AreEdgesOf order request.unit request.drawn lists → line ≡ edges_text lists → Answers order request line
 edges_answer order request line lists e accepted each written =
     record {
       accepted = accepted;
@@ -144,9 +149,9 @@ edges_answer order request line lists e accepted each written =
     }
 
 pub shapes_answer : (order : ℤ → ℤ → Ordering) (request : Request) (line : List ℕ) (choices : Choices) (shapes : List (List (List Point))) → request.asked ≡ Asked.for_shapes choices →
-    IsAccepted request → IsOutline request.unit request.style choices request.paths shapes → line ≡ shapes_text shapes → Answers order request line
-shapes_answer order request line choices shapes e accepted outline written =
+    IsAccepted request → AreShapesOf request.unit choices request.drawn shapes → line ≡ shapes_text shapes → Answers order request line
+shapes_answer order request line choices shapes e accepted drawn written =
     record {
       accepted = accepted;
-      listed = subst (λ (asked : Asked). Lists order request line asked) (sym e) (record { shapes = shapes; outline = outline; written = written });
+      listed = subst (λ (asked : Asked). Lists order request line asked) (sym e) (record { shapes = shapes; drawn = drawn; written = written });
     }

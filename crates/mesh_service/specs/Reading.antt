@@ -1,6 +1,6 @@
 -- What a request says, as data of JSON. Coordinates are of a type with `unit`, which holds the whole numbers from
 -- `-2 * unit` on that are below `2 * unit`; areas are of one that holds those without sign below `16 * unit * unit`.
-use Rattle.std.specs.Prelude.{ℕ, ◌*◌, ◌^◌, ◌&&◌, ◌||◌, Bool, false, if◌then◌else◌, ℤ, pos, neg_ℤ, int_le, int_lt, nat_eq, nat_lt, suc, List, [], ◌∷◌, codes, Option, Some, None, is_some, option_map, option_and_then}
+use Rattle.std.specs.Prelude.{ℕ, ◌*◌, ◌^◌, ◌&&◌, Bool, false, if◌then◌else◌, ℤ, pos, neg_ℤ, int_le, int_lt, nat_eq, nat_lt, suc, List, [], ◌∷◌, codes, Option, Some, None, is_some, option_map, option_and_then}
 use Rattle.std.specs.Str.{bytes_eq}
 use Rattle.serde_json.specs.Data.{Data, Items, no_items, item, Members, no_members, member}
 use Rattle.serde_json.specs.Find.{get, as_number, as_i64, as_u64, as_bool, as_str, as_array, as_object}
@@ -9,10 +9,12 @@ use Rattle.mesh_below.specs.Options.{plain}
 use Rattle.mesh_shapes.specs.Resolution.{Choices}
 use Rattle.mesh_draw.specs.declared.error.IntOutlineError.TheVariants.{CoordinateOutOfRange, OutOfMemory}
 use Rattle.mesh_arc.specs.declared.arc.ArcOptions.{ArcOptions}
-use Rattle.mesh_join.specs.Styles.{OutlineStyle}
+use Rattle.mesh_join.specs.Styles.{JoinStyle, OutlineStyle}
 use Rattle.mesh_join.specs.declared.style.IntLineJoin.{IntLineJoin}
 use Rattle.mesh_join.specs.declared.style.IntLineJoin.TheVariants.{Bevel, Miter, Round}
-use Rattle.mesh_service.specs.Requests.{Asked, for_edges, for_shapes, Request}
+use Rattle.mesh_cap.specs.Caps.{CapKind}
+use Rattle.mesh_stroke.specs.Styles.{StrokeStyle, radius_of}
+use Rattle.mesh_service.specs.Requests.{Drawn, as_outline, as_stroke, Asked, for_edges, for_shapes, Request}
 use Rattle.mesh_service.specs.declared.failure.Failure.{Failure}
 use Rattle.mesh_service.specs.declared.failure.Failure.TheVariants.{Unreadable, Refused}
 
@@ -76,7 +78,7 @@ has_key key d = is_some (get key d)
 
 -- whether a style has a key that means something and is not served
 abbrev pub has_unserved : Data → Bool
-has_unserved d = has_key (codes "width") d || has_key (codes "start") d || has_key (codes "end") d || has_key (codes "arc") d
+has_unserved d = has_key (codes "arc") d
 
 -- the whole number of 32 bits without sign that a value is
 abbrev pub small_number_of : Data → Option ℕ
@@ -114,39 +116,84 @@ has_one_member (Some ms) = nat_eq (member_count ms) 1
 abbrev pub sole_in : List ℕ → Data → Option Data
 sole_in key d = if has_one_member (as_object d) then get key d else None
 
+-- the options of arcs that an object gives: {"round":[bits,precision]}
+abbrev pub round_options_of : Data → Option ArcOptions
+round_options_of d = option_and_then arc_options_of (sole_in (codes "round") d)
+
 -- the kind of join that a value names: "bevel", {"miter":bits} or {"round":[bits,precision]}, a bevel where there is none
 abbrev pub join_of : Option Data → Option IntLineJoin
 join_of None = Some Bevel
 join_of (Some d) =
     if is_word (codes "bevel") (as_str d) then Some Bevel
     else if has_key (codes "miter") d then option_map Miter (option_and_then angle_of (sole_in (codes "miter") d))
-    else option_map Round (option_and_then arc_options_of (sole_in (codes "round") d))
+    else option_map Round (round_options_of d)
 
 -- the turn below which a miter is a bevel, the default one where there is none: 5 degrees, cut
 abbrev pub min_turn_of : Option Data → Option ℕ
 min_turn_of None = Some 59652323
 min_turn_of (Some d) = angle_of d
 
--- the offset that a style gives under a key
-abbrev pub offset_of : ℕ → List ℕ → Data → Option ℤ
-offset_of unit key d = option_and_then (coordinate_of unit) (get key d)
+-- the offset or the width that a style gives under a key
+abbrev pub length_of : ℕ → List ℕ → Data → Option ℤ
+length_of unit key d = option_and_then (coordinate_of unit) (get key d)
 
 -- a join, the turn below which a miter is a bevel, and the outer and the inner offset, as a style
-abbrev pub style_with : IntLineJoin × (ℕ × (ℤ × ℤ)) → OutlineStyle
-style_with said = record {
+abbrev pub outline_style_with : IntLineJoin × (ℕ × (ℤ × ℤ)) → OutlineStyle
+outline_style_with said = record {
   outer_offset = said.1.1.0;
   inner_offset = said.1.1.1;
   join = record { kind = said.0; min_turn = said.1.0 };
 }
 
--- the style that an object gives
-abbrev pub style_in : ℕ → Data → Option OutlineStyle
-style_in unit d =
+-- the style of outlines that an object gives
+abbrev pub outline_style_in : ℕ → Data → Option OutlineStyle
+outline_style_in unit d =
     if has_unserved d
     then None
-    else option_map style_with
+    else option_map outline_style_with
     (both (join_of (get (codes "join") d))
-    (both (min_turn_of (get (codes "min_turn") d)) (both (offset_of unit (codes "outer") d) (offset_of unit (codes "inner") d))))
+    (both (min_turn_of (get (codes "min_turn") d)) (both (length_of unit (codes "outer") d) (length_of unit (codes "inner") d))))
+
+-- the custom cap that an object gives: {"custom":[[x,y],..]}
+abbrev pub custom_cap_of : ℕ → Data → Option CapKind
+custom_cap_of unit d = option_map CapKind.Custom (option_and_then (path_of unit) (sole_in (codes "custom") d))
+
+-- the kind of cap that a value names: "butt", "square", {"round":[bits,precision]} or {"custom":[[x,y],..]}, a butt where there
+-- is none
+abbrev pub cap_of : ℕ → Option Data → Option CapKind
+cap_of unit None = Some CapKind.Butt
+cap_of unit (Some d) =
+    if is_word (codes "butt") (as_str d) then Some CapKind.Butt
+    else if is_word (codes "square") (as_str d) then Some CapKind.Square
+    else if has_key (codes "round") d then option_map CapKind.Round (round_options_of d)
+    else custom_cap_of unit d
+
+-- a join, the turn below which a miter is a bevel, and a width, as the width and the joins of a stroke
+abbrev pub uncapped_with : IntLineJoin × (ℕ × ℤ) → ℤ × JoinStyle
+uncapped_with said = (said.1.1, record { kind = said.0; min_turn = said.1.0 })
+
+-- the width and the joins of the strokes that an object gives
+abbrev pub uncapped_in : ℕ → Data → Option (ℤ × JoinStyle)
+uncapped_in unit d =
+    if has_unserved d
+    then None
+    else option_map uncapped_with
+    (both (join_of (get (codes "join") d)) (both (min_turn_of (get (codes "min_turn") d)) (length_of unit (codes "width") d)))
+
+-- a width and joins, and the caps at the start and the end, as a style
+abbrev pub stroke_style_with : (ℤ × JoinStyle) × (CapKind × CapKind) → StrokeStyle
+stroke_style_with said = record {
+  radius = radius_of said.0.0;
+  join = said.0.1;
+  start = said.1.0;
+  end = said.1.1;
+}
+
+-- the style of strokes that an object gives
+abbrev pub stroke_style_in : ℕ → Data → Option StrokeStyle
+stroke_style_in unit d =
+    option_map stroke_style_with
+    (both (uncapped_in unit d) (both (cap_of unit (get (codes "start") d)) (cap_of unit (get (codes "end") d))))
 
 -- the number, where it fits the type of areas
 abbrev pub where_area_fits : ℕ → ℕ → Option ℕ
@@ -179,13 +226,38 @@ choices_given unit (Some d) = if is_some (as_object d) then choices_in unit d el
 abbrev pub asked_in : ℕ → Data → Option Asked
 asked_in unit d = if says (codes "out") (codes "edges") d then Some for_edges else (if says (codes "out") (codes "shapes") d then option_map for_shapes (choices_given unit (get (codes "options") d)) else None)
 
--- the paths, the style and what is asked, as a request
-abbrev pub request_with : ℕ → List (List Point) × (OutlineStyle × Asked) → Request
-request_with unit said = record { unit = unit; paths = said.0; style = said.1.0; asked = said.1.1 }
+-- a style and paths, as an outline
+abbrev pub outline_with : OutlineStyle × List (List Point) → Drawn
+outline_with said = as_outline said.0 said.1
 
--- the request for an outline with coordinates of a type with `unit`
-abbrev pub outline_of : ℕ → Data → Option Request
-outline_of unit d = option_map (request_with unit) (both (paths_in unit d) (both (option_and_then (style_in unit) (get (codes "style") d)) (asked_in unit d)))
+-- the outline that is asked for, with coordinates of a type with `unit`
+abbrev pub outline_of : ℕ → Data → Option Drawn
+outline_of unit d = option_map outline_with (both (option_and_then (outline_style_in unit) (get (codes "style") d)) (paths_in unit d))
+
+-- whether paths are closed, a style and paths, as a stroke
+abbrev pub stroke_with : Bool × (StrokeStyle × List (List Point)) → Drawn
+stroke_with said = as_stroke said.1.0 said.0 said.1.1
+
+-- the stroke that is asked for, with coordinates of a type with `unit`
+abbrev pub stroke_of : ℕ → Data → Option Drawn
+stroke_of unit d =
+    option_map stroke_with
+    (both (flag_of (get (codes "closed") d)) (both (option_and_then (stroke_style_in unit) (get (codes "style") d)) (paths_in unit d)))
+
+-- what is drawn, with coordinates of a type with `unit`
+abbrev pub drawn_in : ℕ → Data → Option Drawn
+drawn_in unit d =
+    if says (codes "op") (codes "outline") d then outline_of unit d
+    else if says (codes "op") (codes "stroke") d then stroke_of unit d
+    else None
+
+-- what is drawn and what is asked, as a request
+abbrev pub request_with : ℕ → Drawn × Asked → Request
+request_with unit said = record { unit = unit; drawn = said.0; asked = said.1 }
+
+-- the request with coordinates of a type with `unit`
+abbrev pub request_as : ℕ → Data → Option Request
+request_as unit d = option_map (request_with unit) (both (drawn_in unit d) (asked_in unit d))
 
 -- the unit of the type that a request names
 abbrev pub unit_of : Data → Option ℕ
@@ -193,7 +265,7 @@ unit_of d = if says (codes "int") (codes "i16") d then Some (2 ^ 14) else (if sa
 
 -- the request that is served
 abbrev pub request_of : Data → Option Request
-request_of d = if says (codes "op") (codes "outline") d then option_and_then (λ unit. outline_of unit d) (unit_of d) else None
+request_of d = option_and_then (λ unit. request_as unit d) (unit_of d)
 
 -- a failure to read: no contour is refused
 abbrev pub IsOfReading : Failure → Type 0

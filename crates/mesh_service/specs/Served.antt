@@ -1,4 +1,4 @@
--- What is answered to a request for the outline of paths.
+-- What is answered to requests.
 use Rattle.std.specs.Prelude.{ℕ, ◌≡◌, ◌*◌, List, [], Option, Some, None, ℤ}
 use Rattle.std.specs.List.{AllZip}
 use Rattle.std.specs.List.Sorted.{IsPermutation, IsSorted}
@@ -12,14 +12,30 @@ use Rattle.mesh_outline.specs.Building.{style_for}
 use Rattle.mesh_outline.specs.Outline.{outline_edges}
 use Rattle.mesh_draw.specs.Padding.{ArePathsSafe}
 use Rattle.mesh_outline.specs.Resolved.{DoAreasFit, IsOutline}
+use Rattle.mesh_stroke.specs.Strokes.{stroke_edges}
+use Rattle.mesh_stroke.specs.Styles.{StrokeStyle, stroke_padding}
+use Rattle.mesh_stroke_calls.specs.Resolved.{IsStroke}
 use Rattle.mesh_service.specs.Lines.{edge_order, edges_text, shapes_text}
-use Rattle.mesh_service.specs.Requests.{Asked, Request}
+use Rattle.mesh_service.specs.Requests.{Drawn, as_outline, as_stroke, Asked, Request}
 
--- the paths stay safe where they move by the padding of the style, and the double area of each fits the wide type, which holds the
--- whole numbers from `-8 * unit * unit` on that are below `8 * unit * unit`
-pub record IsAccepted (request : Request) : Type 0 where
-  pub safe : ArePathsSafe request.unit (outline_padding request.style) request.paths
-  pub fit : DoAreasFit (8 * request.unit * request.unit) request.paths
+-- paths may be outlined where they stay safe as they move by the padding of the style, and the double area of each fits the wide type,
+-- which holds the whole numbers from `-8 * unit * unit` on that are below `8 * unit * unit`
+pub record MayBeOutlined (unit : ℕ) (style : OutlineStyle) (paths : List (List Point)) : Type 0 where
+  pub safe : ArePathsSafe unit (outline_padding style) paths
+  pub fit : DoAreasFit (8 * unit * unit) paths
+
+-- paths may be stroked where they stay safe as they move by the padding of the style
+pub record MayBeStroked (unit : ℕ) (style : StrokeStyle) (paths : List (List Point)) : Type 0 where
+  pub safe : ArePathsSafe unit (stroke_padding style) paths
+
+-- what is asked for may be drawn
+abbrev pub MayBeDrawn : ℕ → Drawn → Type 0
+MayBeDrawn unit (as_outline style paths) = MayBeOutlined unit style paths
+MayBeDrawn unit (as_stroke style closed paths) = MayBeStroked unit style paths
+
+-- so the request is accepted
+abbrev pub IsAccepted : Request → Type 0
+IsAccepted request = MayBeDrawn request.unit request.drawn
 
 -- the edges of the outline of a path that moves in this way, none where it does not move
 abbrev pub moved_edges : ℕ → Option OffsetJoin → List Point → List Edge
@@ -30,25 +46,35 @@ moved_edges unit (Some way) path = outline_edges unit way path
 abbrev pub served_edges : ℕ → OutlineStyle → List Point → List Edge
 served_edges unit style path = moved_edges unit (style_for style (double_area path)) path
 
--- the edges of a path's outline, listed in the order of edges that an order of coordinates gives
-pub record IsListed (order : ℤ → ℤ → Ordering) (unit : ℕ) (style : OutlineStyle) (path : List Point) (edges : List Edge) : Type 0 where
-  pub same : IsPermutation (served_edges unit style path) edges
+-- the edges that are drawn of a path, listed in the order of edges that an order of coordinates gives
+pub record IsListed (order : ℤ → ℤ → Ordering) (drawn : List Point → List Edge) (path : List Point) (edges : List Edge) : Type 0 where
+  pub same : IsPermutation (drawn path) edges
   pub sorted : IsSorted (edge_order order) edges
 
--- the edges of each path's outline, path by path
-abbrev pub AreListed : (ℤ → ℤ → Ordering) → ℕ → OutlineStyle → List (List Point) → List (List Edge) → Type 0
-AreListed order unit style paths lists = AllZip (IsListed order unit style) paths lists
+-- the edges that are drawn of each path, path by path
+abbrev pub AreListed : (ℤ → ℤ → Ordering) → (List Point → List Edge) → List (List Point) → List (List Edge) → Type 0
+AreListed order drawn paths lists = AllZip (IsListed order drawn) paths lists
+
+-- the edges of what is drawn
+abbrev pub AreEdgesOf : (ℤ → ℤ → Ordering) → ℕ → Drawn → List (List Edge) → Type 0
+AreEdgesOf order unit (as_outline style paths) lists = AreListed order (served_edges unit style) paths lists
+AreEdgesOf order unit (as_stroke style closed paths) lists = AreListed order (stroke_edges unit style closed) paths lists
+
+-- the shapes of what is drawn, with these choices
+abbrev pub AreShapesOf : ℕ → Choices → Drawn → List (List (List Point)) → Type 0
+AreShapesOf unit choices (as_outline style paths) shapes = IsOutline unit style choices paths shapes
+AreShapesOf unit choices (as_stroke style closed paths) shapes = IsStroke unit style closed choices paths shapes
 
 -- the line lists the edges of each path, path by path
 pub record ListsEdges (order : ℤ → ℤ → Ordering) (request : Request) (line : List ℕ) : Type 0 where
   pub lists : List (List Edge)
-  pub each : AreListed order request.unit request.style request.paths lists
+  pub each : AreEdgesOf order request.unit request.drawn lists
   pub written : line ≡ edges_text lists
 
--- the line lists shapes that are the outline of the paths, with these choices
+-- the line lists the shapes of what is drawn, with these choices
 pub record ListsShapes (choices : Choices) (request : Request) (line : List ℕ) : Type 0 where
   pub shapes : List (List (List Point))
-  pub outline : IsOutline request.unit request.style choices request.paths shapes
+  pub drawn : AreShapesOf request.unit choices request.drawn shapes
   pub written : line ≡ shapes_text shapes
 
 -- the line lists what is asked

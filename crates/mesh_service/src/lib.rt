@@ -3,6 +3,7 @@
 
 pub mod answer;
 pub mod coordinate;
+pub mod drawing;
 pub mod edge;
 pub mod failure;
 pub mod input;
@@ -12,3 +13,4 @@ pub mod outline;
 pub mod output;
 pub mod request;
 pub mod service;
+pub mod stroke;

@@ -52,7 +52,7 @@ fn least_area<I: IntNumber>(value: Option<&Value>) -> Option<I::WideUInt>
 }
 
 /// What a value says, false where there is none.
-fn flag(value: Option<&Value>) -> Option<bool>
+pub fn flag(value: Option<&Value>) -> Option<bool>
     ensures { result ≡ flag_of (option_map (λ v. view v.now) value.entry) }
 {
     match value {

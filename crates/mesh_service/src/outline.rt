@@ -1,4 +1,4 @@
-//! Requests for outlines, and what the library answers to them.
+//! Outlines that are asked for, and what the library answers.
 
 ghost use Rattle.std.specs.Prelude.{◌≡◌, ◌↔◌, map, OnOk, IfOk};
 ghost use Rattle.std.specs.List.{All};
@@ -13,7 +13,7 @@ ghost use Rattle.mesh_draw.specs.Padding.{ArePathsSafe};
 ghost use Rattle.mesh_outline.specs.Kinds.{contour_kind};
 ghost use Rattle.mesh_outline.specs.Resolved.{IsOutline};
 ghost use Rattle.mesh_service.specs.Lines.{by_values};
-ghost use Rattle.mesh_service.specs.Served.{AreListed, IsAccepted, served_edges};
+ghost use Rattle.mesh_service.specs.Served.{AreListed, MayBeOutlined, served_edges};
 
 use crate::edge::{DirectedEdge, sorted_edges};
 use i_overlay_mesh::IntOutlineError;
@@ -26,50 +26,26 @@ use mesh_num::num::{IntPoint, OverlayInt};
 use mesh_num::shape::buffer::IntShapes;
 use mesh_num::shape::segment::Segment;
 use std::alloc::{AllocError, Global};
-use std::marker::Model;
 
-/// What a request asks of an outline.
-#[derive(Debug, Copy, Clone)]
-pub enum Output<U> {
-    /// The edges of each path.
-    Edges,
-    /// The shapes of all paths, with these options.
-    Shapes(IntOverlayOptions<U>),
-}
-
-/// A request for the outline of paths. Contracts see it as what it asks.
+/// The outline of contours.
 #[derive(Drop)]
-pub struct OutlineRequest<I: OverlayInt> {
+pub struct Outline<I: OverlayInt> {
     /// The closed contours to be outlined.
     pub paths: Vec<Vec<IntPoint<I>>>,
     /// The offsets of outer contours and of holes, and the joins.
     pub style: IntOutlineStyle<I>,
-    /// What is listed.
-    pub output: Output<I::WideUInt>,
 }
 
-impl<I: OverlayInt> Model for OutlineRequest<I> {
-    ghost use Rattle.mesh_num.specs.Paths.{paths_of};
-    ghost use Rattle.mesh_join.specs.Styles.{style_of};
-    ghost use Rattle.mesh_service.specs.Requests.{Request, asked_of};
-
-    ghost Value = { Request };
-
-    ghost view = { λ r. record {
-      unit = I.unit;
-      paths = paths_of r.paths.items;
-      style = style_of I.value r.style;
-      asked = asked_of I.WideUInt.value r.output;
-    } };
-}
-
-impl<I: OverlayInt> OutlineRequest<I> {
-    /// The edges of each path's outline, in their order. Nothing is built unless all paths are accepted.
+impl<I: OverlayInt> Outline<I> {
+    /// The edges of each path's outline, in their order. Nothing is built unless all paths may be outlined.
     pub fn edges(&self, alloc: Global) -> Result<Vec<Vec<DirectedEdge<I>>>, IntOutlineError>
-        ensures edges { IfOk result (λ lists. AreListed (by_values I.cmp I.of_value) self.now.unit self.now.style
-            self.now.paths (paths_of lists.items)) }
-        ensures accepted { OnOk result (IsAccepted self.now) }
-        ensures refused { result ≡ Err IntOutlineError.CoordinateOutOfRange ↔ ¬ IsAccepted self.now }
+        ensures edges { IfOk result (λ lists. AreListed (by_values I.cmp I.of_value)
+            (served_edges I.unit (style_of I.value self.now.style))
+            (paths_of self.now.paths.items) (paths_of lists.items)) }
+        ensures accepted { OnOk result (MayBeOutlined I.unit (style_of I.value self.now.style)
+            (paths_of self.now.paths.items)) }
+        ensures refused { result ≡ Err IntOutlineError.CoordinateOutOfRange
+            ↔ ¬ MayBeOutlined I.unit (style_of I.value self.now.style) (paths_of self.now.paths.items) }
     {
         self.paths.validate_outline(&self.style)?;
         let kinds = contour_kinds(&self.paths, alloc)?;
@@ -82,10 +58,12 @@ impl<I: OverlayInt> OutlineRequest<I> {
         alloc: Global,
         options: IntOverlayOptions<I::WideUInt>,
     ) -> Result<IntShapes<I>, IntOutlineError>
-        ensures shapes { IfOk result (λ shapes. IsOutline self.now.unit self.now.style
-            (choices_of I.WideUInt.value options) self.now.paths (shapes_of shapes.items)) }
-        ensures accepted { OnOk result (IsAccepted self.now) }
-        ensures refused { result ≡ Err IntOutlineError.CoordinateOutOfRange ↔ ¬ IsAccepted self.now }
+        ensures shapes { IfOk result (λ shapes. IsOutline I.unit (style_of I.value self.now.style)
+            (choices_of I.WideUInt.value options) (paths_of self.now.paths.items) (shapes_of shapes.items)) }
+        ensures accepted { OnOk result (MayBeOutlined I.unit (style_of I.value self.now.style)
+            (paths_of self.now.paths.items)) }
+        ensures refused { result ≡ Err IntOutlineError.CoordinateOutOfRange
+            ↔ ¬ MayBeOutlined I.unit (style_of I.value self.now.style) (paths_of self.now.paths.items) }
     {
         self.paths.validate_outline(&self.style)?;
         self.paths.outline_custom(alloc, &self.style, options)
@@ -101,8 +79,8 @@ fn edge_lists<I: OverlayInt>(
 ) -> Result<Vec<Vec<DirectedEdge<I>>>, AllocError>
     requires safe { ArePathsSafe I.unit (outline_padding (style_of I.value style.now)) (paths_of paths.now) }
     requires kinds { kinds.now ≡ map contour_kind (paths_of paths.now) }
-    ensures { IfOk result (λ lists. AreListed (by_values I.cmp I.of_value) I.unit (style_of I.value style.now)
-        (paths_of paths.now) (paths_of lists.items)) }
+    ensures { IfOk result (λ lists. AreListed (by_values I.cmp I.of_value)
+        (served_edges I.unit (style_of I.value style.now)) (paths_of paths.now) (paths_of lists.items)) }
 {
     let mut lists = Vec::with_capacity(alloc, paths.len())?;
     for (index, path) in paths.iter().enumerate() {

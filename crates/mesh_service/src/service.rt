@@ -6,7 +6,7 @@ ghost use Rattle.std.specs.Ordering.{int_cmp};
 ghost use Rattle.serde_json.specs.View.{view};
 ghost use Rattle.mesh_service.specs.Lines.{by_values};
 ghost use Rattle.mesh_service.specs.Failures.{failure_line, told_line};
-ghost use Rattle.mesh_service.specs.Reading.{outline_of, request_of};
+ghost use Rattle.mesh_service.specs.Reading.{request_as, request_of};
 ghost use Rattle.mesh_service.specs.Served.{IsAccepted, Answers, AnswersAsked, MayNotBeAnswered};
 ghost use Rattle.mesh_service.specs.Serving.{request_in, IsAnswer, IsRefused, IsReply, AppendsBeginning, TellsRefusal, MetRefusal};
 
@@ -14,9 +14,8 @@ use crate::answer::{edges_line, shapes_line};
 use crate::failure::Failure;
 use crate::input::read_to_end;
 use crate::json::{parse, says};
-use crate::outline::{OutlineRequest, Output};
 use crate::output::write_line;
-use crate::request::read_outline;
+use crate::request::{Output, Request, read_request};
 use i_overlay_mesh::IntOutlineError;
 use mesh_num::num::OverlayInt;
 use serde_json::Value;
@@ -112,45 +111,42 @@ fn answer(alloc: Global, value: &Value) -> Result<String, Failure>
         → MayNotBeAnswered (request_of (view value.now)) }
     ensures unreadable { result ≡ Err Failure.Unreadable → request_of (view value.now) ≡ None }
 {
-    if !says(value, "op", "outline") {
-        return Err(Failure::Unreadable);
-    }
     if says(value, "int", "i16") {
-        answer_outline::<i16>(alloc, value)
+        answer_of_type::<i16>(alloc, value)
     } else if says(value, "int", "i32") {
-        answer_outline::<i32>(alloc, value)
+        answer_of_type::<i32>(alloc, value)
     } else {
         Err(Failure::Unreadable)
     }
 }
 
-/// The line that answers a request for an outline with coordinates of one type.
-fn answer_outline<I: OverlayInt>(alloc: Global, value: &Value) -> Result<String, Failure>
+/// The line that answers a request with coordinates of one type.
+fn answer_of_type<I: OverlayInt>(alloc: Global, value: &Value) -> Result<String, Failure>
     ensures answered { IfOk result (λ line. AnswersAsked (by_values I.cmp I.of_value)
-        (outline_of I.unit (view value.now)) (string_bytes line)) }
+        (request_as I.unit (view value.now)) (string_bytes line)) }
     ensures refused { result ≡ Err (Failure.Refused IntOutlineError.CoordinateOutOfRange)
-        → MayNotBeAnswered (outline_of I.unit (view value.now)) }
-    ensures unreadable { result ≡ Err Failure.Unreadable → outline_of I.unit (view value.now) ≡ None }
+        → MayNotBeAnswered (request_as I.unit (view value.now)) }
+    ensures unreadable { result ≡ Err Failure.Unreadable → request_as I.unit (view value.now) ≡ None }
 {
-    let request = read_outline::<I>(alloc, value)?;
-    Ok(outline_line(alloc, &request)?)
+    let request = read_request::<I>(alloc, value)?;
+    Ok(request_line(alloc, &request)?)
 }
 
-/// The line that lists what is asked of an outline.
-fn outline_line<I: OverlayInt>(
+/// The line that lists what is asked.
+fn request_line<I: OverlayInt>(
     alloc: Global,
-    request: &OutlineRequest<I>,
+    request: &Request<I>,
 ) -> Result<String, IntOutlineError>
     ensures answered { IfOk result (λ line. Answers (by_values I.cmp I.of_value) request.now (string_bytes line)) }
     ensures refused { result ≡ Err IntOutlineError.CoordinateOutOfRange ↔ ¬ IsAccepted request.now }
 {
     match request.output {
         Output::Edges => {
-            let edges = request.edges(alloc)?;
+            let edges = request.drawing.edges(alloc)?;
             Ok(edges_line(alloc, &edges)?)
         }
         Output::Shapes(options) => {
-            let shapes = request.shapes(alloc, options)?;
+            let shapes = request.drawing.shapes(alloc, options)?;
             Ok(shapes_line(alloc, &shapes)?)
         }
     }

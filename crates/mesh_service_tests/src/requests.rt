@@ -5,6 +5,7 @@ use crate::tables::miters::MITERS;
 use crate::tables::refused::REFUSED;
 use crate::tables::round::{ROUND, ROUND_REFUSED, ROUND_UNREADABLE};
 use crate::tables::shapes::SHAPES;
+use crate::tables::strokes::{STROKES, STROKES_REFUSED, STROKES_UNREADABLE};
 use crate::tables::unreadable::UNREADABLE;
 use i_overlay_mesh::IntOutlineError;
 use mesh_service::failure::Failure;
@@ -42,7 +43,7 @@ fn expect(
 
 #[test]
 fn answered(rt: HostRuntime) -> Result<(), Fail> {
-    for table in [EDGES, MITERS, ROUND, SHAPES] {
+    for table in [EDGES, MITERS, ROUND, SHAPES, STROKES] {
         for (request, line) in table {
             expect(&rt, rt.alloc(), request.as_bytes(), Status::Answered, line)?;
         }
@@ -55,8 +56,10 @@ fn not_answered(rt: HostRuntime) -> Result<(), Fail> {
     for (table, status, line) in [
         (REFUSED, Status::Refused, OUT_OF_RANGE),
         (ROUND_REFUSED, Status::Refused, OUT_OF_RANGE),
+        (STROKES_REFUSED, Status::Refused, OUT_OF_RANGE),
         (UNREADABLE, Status::Unreadable, NOT_SERVED),
         (ROUND_UNREADABLE, Status::Unreadable, NOT_SERVED),
+        (STROKES_UNREADABLE, Status::Unreadable, NOT_SERVED),
     ] {
         for request in table {
             expect(&rt, rt.alloc(), request.as_bytes(), status, line)?;

@@ -5,4 +5,5 @@ pub mod miters;
 pub mod refused;
 pub mod round;
 pub mod shapes;
+pub mod strokes;
 pub mod unreadable;

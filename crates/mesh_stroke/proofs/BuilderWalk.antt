@@ -1,6 +1,6 @@
 -- Lemmas over points and lists: what the builder's walk along the edges of a path adds.
-use Rattle.std.proofs.Common.{◌≡◌, ◌≢◌, ℕ, ◌≤◌, ◌^◌, List, [], ◌∷◌, ◌++◌, refl, sym, subst, ◌∙◌, ap, append_assoc, append-nil, length, take, drop, arith}
-use Rattle.std.specs.Prelude.{Bool, true, false, not, ℤ, pos, ◌≤ℤ◌, unsigned_abs, IsTrue}
+use Rattle.std.proofs.Common.{◌≡◌, ◌≢◌, ℕ, List, [], ◌∷◌, ◌++◌, refl, sym, subst, ◌∙◌, ap, append_assoc, append-nil, length, take, drop, arith}
+use Rattle.std.specs.Prelude.{Bool, true, false, not, pos, ◌≤ℤ◌, unsigned_abs, IsTrue}
 use Rattle.std.proofs.lemmas.Int.{ints}
 use Rattle.std.specs.List.{All, flat_map}
 use Rattle.std.specs.List.Sorted.{IsPermutation}

@@ -1,7 +1,7 @@
 -- Lemmas over points: the ends of an open path are asked for as caps ask.
-use Rattle.std.proofs.Common.{◌≡◌, ◌≢◌, ℕ, ◌<◌, ◌≤◌, ◌^◌, List, ◌++◌, refl, sym, subst, ◌∙◌, ap, append_assoc, arith}
-use Rattle.std.specs.Prelude.{ℤ, pos, ◌≤ℤ◌, unsigned_abs, false}
-use Rattle.mesh_plane.specs.Plane.{Point, Edge, opposite}
+use Rattle.std.proofs.Common.{◌≡◌, ◌≢◌, ℕ, ◌≤◌, ◌^◌, List, ◌++◌, refl, sym, subst, ◌∙◌, ap, append_assoc, arith}
+use Rattle.std.specs.Prelude.{ℤ, pos, ◌≤ℤ◌, false}
+use Rattle.mesh_plane.specs.Plane.{Edge, opposite}
 use Rattle.mesh_num.specs.Rectangle.{IsSafeWidened}
 use Rattle.mesh_num.specs.Segments.{SignedEdge, segments_of}
 use Rattle.mesh_num.specs.Direction.{IsShort}
@@ -10,7 +10,7 @@ use Rattle.mesh_join.specs.Midway.RoundJoins.{HaveLength}
 use Rattle.mesh_num.proofs.SegmentLists.{segments_of-append}
 use Rattle.mesh_cuts.specs.Split.{back}
 use Rattle.mesh_arc.specs.declared.arc.ArcDirection.TheVariants.{Counterclockwise}
-use Rattle.mesh_join.specs.Joints.{Joint, joint}
+use Rattle.mesh_join.specs.Joints.{joint}
 use Rattle.mesh_cap.specs.Caps.{CapKind, cap_edges, cap_padding, IsCapped}
 use Rattle.mesh_cap.specs.Ends.{half_turn}
 use Rattle.mesh_stroke.specs.Building.{Section, section_of, own_edge, IsMade, IsFacing}

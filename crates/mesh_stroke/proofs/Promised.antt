@@ -1,13 +1,13 @@
 -- Lemmas over points and lists: what the edges of each stroke are promised.
-use Rattle.std.proofs.Common.{◌≡◌, ℕ, ◌<◌, ◌≤◌, ◌^◌, Bool, true, false, cond, List, [], ◌++◌, refl, sym, subst, ◌∙◌, append-nil, arith}
-use Rattle.std.specs.Prelude.{ℤ, pos, ◌≤ℤ◌, ◌<ℤ◌, ◌↔◌, IsTrue, int_le, count_by}
+use Rattle.std.proofs.Common.{◌≡◌, ℕ, ◌≤◌, ◌^◌, Bool, true, false, cond, List, [], refl, sym, subst, ◌∙◌, append-nil, arith}
+use Rattle.std.specs.Prelude.{ℤ, pos, ◌≤ℤ◌, ◌<ℤ◌, ◌↔◌, IsTrue, int_le}
 use Rattle.std.specs.List.{All}
 use Rattle.std.specs.List.Sorted.{IsPermutation}
 use Rattle.std.proofs.lemmas.Int.{ints, by_lt_z}
 use Rattle.std.proofs.lemmas.List.Elements.{All-nil}
 use Rattle.std.proofs.lemmas.List.Sorted.{IsPermutation-refl, IsPermutation-sym, All-permutation}
 use Rattle.mesh_plane.specs.Plane.{Point, Edge}
-use Rattle.mesh_plane.specs.Winding.{total, boundary, winding, crossing_on, pieces_total, holds, IsBalanced, IsBit, IsOdd, IsStraight}
+use Rattle.mesh_plane.specs.Winding.{total, boundary, winding, crossing_on, pieces_total, IsBit, IsOdd, IsStraight}
 use Rattle.mesh_plane.specs.Bounds.{IsSafe}
 use Rattle.mesh_plane.proofs.Sums.{total_permutation}
 use Rattle.mesh_plane.proofs.Balance.{balanced_permutation, growth, growth_odd, growth_of_pieces, balanced_by_growth}

@@ -1,20 +1,18 @@
 -- Lemmas over points and lists: how far a stroke reaches from its path.
-use Rattle.std.proofs.Common.{◌≡◌, ◌≢◌, ℕ, ◌<◌, ◌≤◌, ◌^◌, List, [], ◌∷◌, ◌++◌, Bool, true, false, not, cond, refl, sym, subst, arith}
+use Rattle.std.proofs.Common.{◌≢◌, ℕ, ◌≤◌, ◌^◌, List, [], ◌∷◌, ◌++◌, Bool, true, false, not, refl, arith}
 use Rattle.std.specs.Prelude.{ℤ, pos, ◌≤ℤ◌, unsigned_abs}
 use Rattle.std.specs.List.{All, Contains, flat_map}
 use Rattle.std.proofs.lemmas.Int.{ints, clamps}
 use Rattle.std.proofs.lemmas.List.Elements.{All-nil, All-cons, All-head, All-append, All-filter, All-weaker, All-contains_itself}
 use Rattle.mesh_plane.specs.Plane.{Point, Edge}
-use Rattle.mesh_plane.specs.Winding.{route, same_point}
+use Rattle.mesh_plane.specs.Winding.{same_point}
 use Rattle.mesh_plane.proofs.ClosedLists.{all_both, all_flat_map, route_all}
 use Rattle.mesh_num.proofs.Parts.{direction_fresh}
 use Rattle.mesh_cuts.specs.Split.{back}
 use Rattle.mesh_arc.specs.declared.arc.ArcDirection.{ArcDirection}
 use Rattle.mesh_arc.specs.declared.arc.ArcDirection.TheVariants.{Clockwise, Counterclockwise}
 use Rattle.mesh_join.specs.Joins.{between, join_points, join_padding}
-use Rattle.mesh_join.specs.Joints.{Joint, contact, IsWithinPadding}
-use Rattle.mesh_join.specs.Styles.{JoinStyle}
-use Rattle.mesh_join.proofs.JoinLaws.{KeepsJoint}
+use Rattle.mesh_join.specs.Joints.{contact, IsWithinPadding}
 use Rattle.mesh_join.proofs.Joins.{padding_covers}
 use Rattle.mesh_join.proofs.Joints.{contact_within}
 use Rattle.mesh_cap.specs.Caps.{CapKind, cap_points, cap_padding}
@@ -25,7 +23,7 @@ use Rattle.mesh_draw.specs.Padding.{IsNear}
 use Rattle.mesh_draw.proofs.Padding.{vertex_near}
 use Rattle.mesh_stroke.specs.Paths.{neighbours, path_edges, last_of}
 use Rattle.mesh_stroke.specs.Styles.{StrokeStyle, stroke_padding}
-use Rattle.mesh_stroke.specs.Strokes.{Corner, heading, right_of, left_of, side_edges, facing, joint_right, outer_edges, inner_edges, corner_edges, cap_at, both_caps, drawn_edges}
+use Rattle.mesh_stroke.specs.Strokes.{Corner, heading, right_of, left_of, side_edges, joint_right, outer_edges, inner_edges, corner_edges, cap_at, both_caps, drawn_edges}
 use Rattle.mesh_stroke.proofs.Chains.{IsChain, neighbours_all, last_all}
 use Rattle.mesh_stroke.proofs.Corners.{IsMet, corners_met, left_turn, other_way, other_way_met, facing_is, corner_keeps, heading_short, apart_back}
 use Rattle.mesh_stroke.proofs.Sides.{heading_is}

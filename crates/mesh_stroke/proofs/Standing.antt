@@ -1,5 +1,5 @@
 -- Lemmas over points and lists: where the builder's walk stands, and how it goes on.
-use Rattle.std.proofs.Common.{◌≡◌, ◌≢◌, ℕ, ◌≤◌, List, [], ◌∷◌, ◌++◌, refl, sym, subst, ◌∙◌, ap}
+use Rattle.std.proofs.Common.{◌≡◌, ℕ, List, [], ◌∷◌, ◌++◌, sym, subst, ◌∙◌, ap}
 use Rattle.std.specs.Prelude.{Bool, true, false, ℤ, pos, ◌≤ℤ◌}
 use Rattle.std.specs.List.{All}
 use Rattle.mesh_plane.specs.Plane.{Point, Edge}

@@ -1,5 +1,5 @@
 -- Lemmas over points and lists: no piece of a stroke is turned round, but for those of custom caps.
-use Rattle.std.proofs.Common.{◌≡◌, ◌≢◌, ℕ, ◌<◌, ◌≤◌, ◌^◌, List, [], ◌∷◌, ◌++◌, refl, sym, arith}
+use Rattle.std.proofs.Common.{◌≡◌, ◌≢◌, ℕ, ◌≤◌, ◌^◌, List, [], ◌∷◌, ◌++◌, refl, arith}
 use Rattle.std.specs.Prelude.{ℤ, pos, neg_ℤ, ◌+ℤ◌, ◌≤ℤ◌, ◌*ℤ◌, Bool, true, false, ◌&&◌, ◌||◌, IsTrue, map}
 use Rattle.std.specs.List.{All, flat_map}
 use Rattle.std.proofs.lemmas.Int.{ints}
@@ -7,10 +7,10 @@ use Rattle.std.proofs.lemmas.List.Elements.{All-nil, All-map, All-append, All-we
 use Rattle.mesh_plane.specs.Plane.{Point, Edge, plus, minus, dot, turn, right_quarter}
 use Rattle.mesh_plane.specs.Winding.{boundary, winding, fan, IsBit}
 use Rattle.mesh_plane.proofs.Whole.{linear, multiplied}
-use Rattle.mesh_plane.proofs.ClosedLists.{all_flat_map, all_both}
+use Rattle.mesh_plane.proofs.ClosedLists.{all_flat_map}
 use Rattle.mesh_plane.proofs.Triangles.{parallelogram_winds}
 use Rattle.mesh_plane.proofs.Pieces.{fan_winds}
-use Rattle.mesh_num.specs.Direction.{scaled_direction, IsFresh}
+use Rattle.mesh_num.specs.Direction.{scaled_direction}
 use Rattle.mesh_num.proofs.Parts.{direction_fresh}
 use Rattle.mesh_num.proofs.Scaling.{dot_scaled_nonneg}
 use Rattle.mesh_cuts.specs.Split.{back}
@@ -25,7 +25,7 @@ use Rattle.mesh_cap.proofs.Caps.{cap_keeps}
 use Rattle.mesh_stroke.specs.Paths.{neighbours, last_of}
 use Rattle.mesh_stroke.specs.Styles.{StrokeStyle}
 use Rattle.mesh_stroke.specs.Strokes.{Corner, heading, section_piece, facing, outer_edges, corner_pieces, cap_at, cap_pieces, both_cap_pieces, drawn_pieces}
-use Rattle.mesh_stroke.proofs.Chains.{IsChain, neighbours_all, last_all}
+use Rattle.mesh_stroke.proofs.Chains.{IsChain, last_all}
 use Rattle.mesh_stroke.proofs.Corners.{IsMet, corners_met, facing_keeps, heading_short, apart_back}
 use Rattle.mesh_stroke.proofs.Sides.{heading_is}
 

@@ -1,6 +1,6 @@
 -- Lemmas over points and lists: how many edges a stroke has, where its joins and its caps have few.
 use Rattle.std.proofs.Common.{◌≡◌, ◌≢◌, ℕ, ◌+◌, ◌*◌, ◌≤◌, ◌^◌, List, [], ◌∷◌, ◌++◌, length, refl, arith, length-append}
-use Rattle.std.specs.Prelude.{Bool, true, false, not, cond, ◌&&◌, ◌||◌, IsTrue, ℤ, pos, ◌≤ℤ◌, int_le}
+use Rattle.std.specs.Prelude.{Bool, true, false, not, cond, ◌&&◌, IsTrue, pos, ◌≤ℤ◌, int_le}
 use Rattle.std.specs.List.{All, flat_map}
 use Rattle.std.proofs.lemmas.Int.{ints}
 use Rattle.std.proofs.lemmas.List.Elements.{All-head, All-tail, All-weaker}
@@ -13,7 +13,6 @@ use Rattle.mesh_cuts.specs.Split.{back}
 use Rattle.mesh_join.specs.Joins.{HasFew}
 use Rattle.mesh_cap.specs.Caps.{CapKind, draws_directly, has_few_edges}
 use Rattle.mesh_cap.specs.Ends.{half_turn, IsEnd}
-use Rattle.mesh_cap.proofs.CapLaws.{KeepsEnd}
 use Rattle.mesh_cap.proofs.Caps.{cap_keeps}
 use Rattle.mesh_draw.specs.Adding.{Adds, added}
 use Rattle.mesh_draw.proofs.Drawn.{added_length}

@@ -4,9 +4,9 @@ use Rattle.std.specs.Prelude.{ℤ, pos, neg_ℤ, ◌+ℤ◌, ◌-ℤ◌, Bool, t
 use Rattle.std.specs.List.{All, flat_map}
 use Rattle.std.proofs.lemmas.List.Elements.{All-weaker, All-head}
 use Rattle.mesh_plane.specs.Plane.{Point, Edge, minus, cross}
-use Rattle.mesh_plane.specs.Winding.{sum_of, total, boundary, route, fan, pieces_total, IsOdd, IsStraight}
+use Rattle.mesh_plane.specs.Winding.{sum_of, total, boundary, fan, pieces_total, IsOdd, IsStraight}
 use Rattle.mesh_plane.proofs.Whole.{linear}
-use Rattle.mesh_plane.proofs.Sums.{sum_of_add, sum_of_none, sum_of_equal, total_append, total_flat_map, pieces_total_append, pieces_total_flat_map, pieces_total_map}
+use Rattle.mesh_plane.proofs.Sums.{sum_of_add, sum_of_none, sum_of_equal, total_append, total_flat_map, pieces_total_append, pieces_total_flat_map}
 use Rattle.mesh_plane.proofs.ClosedLists.{all_both}
 use Rattle.mesh_num.specs.Segments.{proper_edges}
 use Rattle.mesh_plane.proofs.Pieces.{fan_total}
@@ -16,9 +16,9 @@ use Rattle.mesh_join.specs.Styles.{JoinStyle}
 use Rattle.mesh_cap.specs.Caps.{CapKind, cap_points}
 use Rattle.mesh_cap.specs.Ends.{half_turn}
 use Rattle.mesh_draw.proofs.ProperEdges.{proper_edges_total}
-use Rattle.mesh_stroke.specs.Paths.{pairs, neighbours, last_of}
+use Rattle.mesh_stroke.specs.Paths.{neighbours, last_of}
 use Rattle.mesh_stroke.specs.Styles.{StrokeStyle}
-use Rattle.mesh_stroke.specs.Strokes.{Corner, heading, right_of, left_of, side_edges, section_piece, facing, joint_right, outer_edges, inner_edges, corner_edges, corner_pieces, cap_at, cap_pieces, both_caps, both_cap_pieces, drawn_edges, drawn_pieces}
+use Rattle.mesh_stroke.specs.Strokes.{Corner, heading, right_of, left_of, side_edges, section_piece, joint_right, outer_edges, inner_edges, corner_edges, corner_pieces, cap_at, cap_pieces, both_caps, both_cap_pieces, drawn_edges, drawn_pieces}
 use Rattle.mesh_stroke.proofs.Chains.{IsChain, pairs_ends, boundary_parts, neighbours_all}
 use Rattle.mesh_stroke.proofs.Sides.{right_back, left_back, sides_straight}
 

@@ -9,7 +9,7 @@ use Rattle.mesh_num.specs.Segments.{SignedEdge, segments_of}
 use Rattle.mesh_join.specs.Joins.{join_padding}
 use Rattle.mesh_join.specs.Styles.{JoinStyle}
 use Rattle.mesh_cap.specs.Caps.{CapKind, cap_padding, draws_directly, has_few_edges}
-use Rattle.mesh_stroke.specs.Strokes.{Corner, heading, right_of, left_of, side_edges, corner_edges}
+use Rattle.mesh_stroke.specs.Strokes.{heading, right_of, left_of, side_edges, corner_edges}
 use Rattle.mesh_stroke.specs.Styles.{StrokeStyle, stroke_padding}
 
 -- a point that stays safe where it moves by at most the padding of the stroke

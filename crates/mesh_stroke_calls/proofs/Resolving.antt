@@ -1,5 +1,5 @@
 -- Lemmas over points and lists: the edges of the strokes of many paths, one path after another.
-use Rattle.std.proofs.Common.{◌≡◌, ℕ, ◌+◌, ◌<◌, ◌≤◌, ◌^◌, List, [], ◌∷◌, ◌++◌, Bool, length, take, drop, get_or, take_all, refl, sym, subst, ◌∙◌, ap, arith}
+use Rattle.std.proofs.Common.{◌≡◌, ℕ, ◌+◌, ◌<◌, ◌≤◌, ◌^◌, List, [], ◌∷◌, ◌++◌, Bool, length, take, get_or, refl, sym, subst, ◌∙◌, ap, arith}
 use Rattle.std.specs.Prelude.{pos, ◌≤ℤ◌}
 use Rattle.std.proofs.lemmas.Int.{ints}
 use Rattle.std.specs.List.{All, flat_map}
@@ -19,17 +19,19 @@ use Rattle.mesh_cuts.specs.Reach.{AreEdgesSafe}
 use Rattle.mesh_below.specs.Asked.{AreResolvable}
 use Rattle.mesh_draw.specs.Adding.{Keeps, added, added_edges}
 use Rattle.mesh_draw.specs.Padding.{ArePathsSafe}
-use Rattle.mesh_draw.proofs.Padding.{ends_safe}
-use Rattle.mesh_stroke.specs.Drawn.{AreStroked}
+use Rattle.mesh_draw.proofs.Staying.{safe_resolving}
 use Rattle.mesh_stroke.specs.Strokes.{stroke_edges}
 use Rattle.mesh_stroke.specs.Styles.{StrokeStyle, stroke_padding}
 use Rattle.mesh_stroke.proofs.Promised.{are_stroked}
 use Rattle.mesh_stroke.proofs.Reach.{radius_covered}
 use Rattle.mesh_stroke_calls.specs.Resolved.{all_edges, HavePromisedEdges, AreBuilt}
+use Rattle.mesh_stroke_calls.specs.Staying.{StaysSafe}
 
 -- the edges of each path's stroke have what is promised of them
-pub promised : (unit : ℕ) (style : StrokeStyle) (closed : Bool) (paths : List (List Point)) → 2 ^ 14 ≤ unit → HavePromisedEdges unit style closed paths
-promised unit style closed paths least k d h = are_stroked unit least style closed (get_or paths k d)
+pub promised : (unit : ℕ) (style : StrokeStyle) (closed : Bool) (paths : List (List Point)) → 2 ^ 14 ≤ unit
+    → ArePathsSafe unit (stroke_padding style) paths → HavePromisedEdges unit style closed paths
+promised unit style closed paths least safe k d h =
+    are_stroked unit least style closed (get_or paths k d) (safe k d h)
 
 -- no path has an edge
 pub built_none : (unit : ℕ) (style : StrokeStyle) (closed : Bool) → AreBuilt unit style closed [] []
@@ -54,30 +56,40 @@ built_more unit style closed paths i old new l h kept edges form =
       form = subst (All IsSubject) (sym whole) (All-append IsSubject old (added old new) h.form form);
     }
 
--- all paths
-pub built_all : (unit : ℕ) (style : StrokeStyle) (closed : Bool) (paths : List (List Point)) (i : ℕ) (ss : List SignedEdge) → length paths ≤ i →
-    AreBuilt unit style closed (take i paths) ss → AreBuilt unit style closed paths ss
-built_all unit style closed paths i ss past h = rw (take_all i paths past) at h
+-- points of a path that stay safe where they move by the padding
+abbrev IsPathSafe : ℕ → StrokeStyle → List Point → Type 0
+IsPathSafe unit style path = All (IsSafeWidened unit (stroke_padding style)) path
 
-all_balanced : (unit : ℕ) (style : StrokeStyle) (closed : Bool) (paths : List (List Point)) → 2 ^ 14 ≤ unit → IsBalanced (all_edges unit style closed paths)
-all_balanced unit style closed [] least = λ p. refl
-all_balanced unit style closed (path ∷ paths) least =
-    balanced_append (stroke_edges unit style closed path) (all_edges unit style closed paths) (are_stroked unit least style closed path).balanced (all_balanced unit style closed paths least)
+all_balanced : (unit : ℕ) (style : StrokeStyle) (closed : Bool) (paths : List (List Point)) → 2 ^ 14 ≤ unit
+    → ArePathsSafe unit (stroke_padding style) paths → IsBalanced (all_edges unit style closed paths)
+all_balanced unit style closed [] least safe = λ p. refl
+all_balanced unit style closed (path ∷ paths) least safe =
+    balanced_append (stroke_edges unit style closed path) (all_edges unit style closed paths)
+    (are_stroked unit least style closed path (All-head (IsPathSafe unit style) path paths safe)).balanced
+    (all_balanced unit style closed paths least (All-tail (IsPathSafe unit style) path paths safe))
 
 all_safe : (unit : ℕ) (style : StrokeStyle) (closed : Bool) (paths : List (List Point)) → 2 ^ 14 ≤ unit → ArePathsSafe unit (stroke_padding style) paths → AreEdgesSafe unit (all_edges unit style closed paths)
 all_safe unit style closed [] least safe = All-nil (λ (e : Edge). IsSafe unit e.0 × IsSafe unit e.1)
 all_safe unit style closed (path ∷ paths) least safe =
     All-append (λ (e : Edge). IsSafe unit e.0 × IsSafe unit e.1) (stroke_edges unit style closed path) (all_edges unit style closed paths)
-    (ends_safe unit (stroke_padding style) path (stroke_edges unit style closed path) (All-head (λ (p : List Point). All (IsSafeWidened unit (stroke_padding style)) p) path paths safe)
-    (are_stroked unit least style closed path).near)
-    (all_safe unit style closed paths least (All-tail (λ (p : List Point). All (IsSafeWidened unit (stroke_padding style)) p) path paths safe))
+    (are_stroked unit least style closed path (All-head (IsPathSafe unit style) path paths safe)).safe
+    (all_safe unit style closed paths least (All-tail (IsPathSafe unit style) path paths safe))
+
+-- in whatever order they were built
+pub stays_safe : (unit : ℕ) (style : StrokeStyle) (closed : Bool) (paths : List (List Point)) → 2 ^ 14 ≤ unit
+    → ArePathsSafe unit (stroke_padding style) paths → StaysSafe unit style closed paths
+stays_safe unit style closed paths least safe built same =
+    safe_resolving unit built
+    (All-permutation (λ (e : Edge). IsSafe unit e.0 × IsSafe unit e.1) (all_edges unit style closed paths) built
+    (IsPermutation-sym built (all_edges unit style closed paths) same)
+    (all_safe unit style closed paths least safe))
 
 -- what was built can be resolved
 pub resolvable : (unit : ℕ) (style : StrokeStyle) (closed : Bool) (paths : List (List Point)) (ss held : List SignedEdge) → 2 ^ 14 ≤ unit →
     ArePathsSafe unit (stroke_padding style) paths → held ≡ ss → AreBuilt unit style closed paths ss → AreResolvable unit held
 resolvable unit style closed paths ss held least safe e h = record {
   subject = rw e h.form;
-  balanced = rw e (balanced_permutation (all_edges unit style closed paths) (edges_of ss) permuted (all_balanced unit style closed paths least));
+  balanced = rw e (balanced_permutation (all_edges unit style closed paths) (edges_of ss) permuted (all_balanced unit style closed paths least safe));
   safe = rw e (All-permutation (λ (g : Edge). IsSafe unit g.0 × IsSafe unit g.1) (all_edges unit style closed paths) (edges_of ss) permuted (all_safe unit style closed paths least safe));
 }
   where

@@ -15,9 +15,10 @@ use Rattle.mesh_stroke.specs.Styles.{StrokeStyle}
 abbrev pub all_edges : ℕ → StrokeStyle → Bool → List (List Point) → List Edge
 all_edges unit style closed paths = flat_map (stroke_edges unit style closed) paths
 
--- the answer is the stroke of paths in this style: the edges of the strokes of all of them are resolved together, with the
--- choices of the caller
-pub record IsStroke (unit : ℕ) (style : StrokeStyle) (closed : Bool) (choices : Choices) (paths : List (List Point)) (answer : List (List (List Point))) : Type 0 where
+-- the answer is the stroke of paths in this style: the edges of the strokes of all of them are resolved together, with
+-- the choices of the caller
+pub record IsStroke (unit : ℕ) (style : StrokeStyle) (closed : Bool) (choices : Choices) (paths : List (List Point))
+    (answer : List (List (List Point))) : Type 0 where
   pub built : List Edge
   pub same : IsPermutation built (all_edges unit style closed paths)
   pub resolution : IsResolution built (filled Positive) choices answer
@@ -28,6 +29,7 @@ HavePromisedEdges unit style closed paths =
     All (λ (path : List Point). AreStroked unit style closed path (stroke_edges unit style closed path)) paths
 
 -- segments that stand for the edges of the strokes of all paths, in some order
-pub record AreBuilt (unit : ℕ) (style : StrokeStyle) (closed : Bool) (paths : List (List Point)) (ss : List SignedEdge) : Type 0 where
+pub record AreBuilt (unit : ℕ) (style : StrokeStyle) (closed : Bool) (paths : List (List Point))
+    (ss : List SignedEdge) : Type 0 where
   pub same : IsPermutation (edges_of ss) (all_edges unit style closed paths)
   pub form : All IsSubject ss

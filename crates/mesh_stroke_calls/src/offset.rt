@@ -10,11 +10,12 @@ ghost use Rattle.mesh_below.specs.Options.{choices_of, plain};
 ghost use Rattle.mesh_draw.specs.Padding.{ArePathsSafe, all_points, widened};
 ghost use Rattle.mesh_stroke.specs.Styles.{stroke_padding, stroke_style_of};
 ghost use Rattle.mesh_stroke_calls.specs.Resolved.{IsStroke, HavePromisedEdges};
+ghost use Rattle.mesh_stroke_calls.specs.Staying.{StaysSafe};
 
 use crate::resolve::stroke_overlay;
 use mesh_below::below::{FillRule, IntOverlayOptions, OverlayRule};
 use mesh_draw::bounds::validate_bounds;
-use mesh_draw::error::IntOutlineError;
+use mesh_draw::error::{IntOutlineError, IntStrokeError};
 use mesh_join::style::IntStrokeStyle;
 use mesh_num::num::OverlayInt;
 use mesh_num::shape::buffer::{FlatContoursBuffer, IntShapes};
@@ -27,7 +28,7 @@ pub trait IntStrokeOffset<I: OverlayInt>: IntShapeResource<I> {
     /// Whether the source may be stroked in this style: `Ok` exactly where there is no point, or the bounds of all
     /// points, moved outwards by the style's padding on each side, are in the safe range, for every value of the
     /// type and every custom cap. The only error is `CoordinateOutOfRange`. It takes no memory.
-    fn validate_stroke(&self, style: &IntStrokeStyle<I>) -> Result<(), IntOutlineError>
+    fn validate_stroke(&self, style: &IntStrokeStyle<I>) -> Result<(), IntStrokeError>
         ensures safe { IsOk result
             ↔ ArePathsSafe I.unit (stroke_padding (stroke_style_of I.value style.now)) (Self.paths self.now) }
         ensures bounds { (bounds : Edge) → IsBounds bounds (all_points (Self.paths self.now))
@@ -42,13 +43,14 @@ pub trait IntStrokeOffset<I: OverlayInt>: IntShapeResource<I> {
         alloc: Global,
         style: &IntStrokeStyle<I>,
         closed: bool,
-    ) -> Result<IntShapes<I>, IntOutlineError>
+    ) -> Result<IntShapes<I>, IntStrokeError>
         requires { ArePathsSafe I.unit (stroke_padding (stroke_style_of I.value style.now)) (Self.paths self.now) }
         ensures stroke { IfOk result (λ shapes. IsStroke I.unit (stroke_style_of I.value style.now) closed plain
             (Self.paths self.now) (shapes_of shapes.items)) }
         ensures safe { IfOk result (λ shapes. ArePointsSafe I.unit (shapes_of shapes.items)) }
         ensures error { OnErr result (result ≡ Err IntOutlineError.OutOfMemory) }
         ensures built { HavePromisedEdges I.unit (stroke_style_of I.value style.now) closed (Self.paths self.now) }
+        ensures stays_safe { StaysSafe I.unit (stroke_style_of I.value style.now) closed (Self.paths self.now) }
     {
         self.stroke_custom(alloc, style, closed, IntOverlayOptions::new())
     }
@@ -60,7 +62,7 @@ pub trait IntStrokeOffset<I: OverlayInt>: IntShapeResource<I> {
         style: &IntStrokeStyle<I>,
         closed: bool,
         buffer: &mut FlatContoursBuffer<I>,
-    ) -> Result<(), IntOutlineError>
+    ) -> Result<(), IntStrokeError>
         requires { ArePathsSafe I.unit (stroke_padding (stroke_style_of I.value style.now)) (Self.paths self.now) }
         ensures stroke { OnOk result ((answer : List (List (List Point)))
             × IsStroke I.unit (stroke_style_of I.value style.now) closed plain (Self.paths self.now) answer
@@ -68,6 +70,7 @@ pub trait IntStrokeOffset<I: OverlayInt>: IntShapeResource<I> {
         ensures error { OnErr result (result ≡ Err IntOutlineError.OutOfMemory) }
         ensures err { OnErr result (buffer.new ≡ buffer.old) }
         ensures built { HavePromisedEdges I.unit (stroke_style_of I.value style.now) closed (Self.paths self.now) }
+        ensures stays_safe { StaysSafe I.unit (stroke_style_of I.value style.now) closed (Self.paths self.now) }
     {
         self.stroke_custom_into(alloc, style, closed, IntOverlayOptions::new(), buffer)
     }
@@ -81,13 +84,14 @@ pub trait IntStrokeOffset<I: OverlayInt>: IntShapeResource<I> {
         style: &IntStrokeStyle<I>,
         closed: bool,
         options: IntOverlayOptions<I::WideUInt>,
-    ) -> Result<IntShapes<I>, IntOutlineError>
+    ) -> Result<IntShapes<I>, IntStrokeError>
         requires { ArePathsSafe I.unit (stroke_padding (stroke_style_of I.value style.now)) (Self.paths self.now) }
         ensures stroke { IfOk result (λ shapes. IsStroke I.unit (stroke_style_of I.value style.now) closed
             (choices_of I.WideUInt.value options) (Self.paths self.now) (shapes_of shapes.items)) }
         ensures safe { IfOk result (λ shapes. ArePointsSafe I.unit (shapes_of shapes.items)) }
         ensures error { OnErr result (result ≡ Err IntOutlineError.OutOfMemory) }
         ensures built { HavePromisedEdges I.unit (stroke_style_of I.value style.now) closed (Self.paths self.now) }
+        ensures stays_safe { StaysSafe I.unit (stroke_style_of I.value style.now) closed (Self.paths self.now) }
     {
         let drawn = stroke_overlay(self, alloc, style, closed, options)?;
         Ok(drawn.overlay(OverlayRule::Subject, FillRule::Positive)?)
@@ -102,7 +106,7 @@ pub trait IntStrokeOffset<I: OverlayInt>: IntShapeResource<I> {
         closed: bool,
         options: IntOverlayOptions<I::WideUInt>,
         buffer: &mut FlatContoursBuffer<I>,
-    ) -> Result<(), IntOutlineError>
+    ) -> Result<(), IntStrokeError>
         requires { ArePathsSafe I.unit (stroke_padding (stroke_style_of I.value style.now)) (Self.paths self.now) }
         ensures stroke { OnOk result ((answer : List (List (List Point)))
             × IsStroke I.unit (stroke_style_of I.value style.now) closed (choices_of I.WideUInt.value options)
@@ -111,6 +115,7 @@ pub trait IntStrokeOffset<I: OverlayInt>: IntShapeResource<I> {
         ensures error { OnErr result (result ≡ Err IntOutlineError.OutOfMemory) }
         ensures err { OnErr result (buffer.new ≡ buffer.old) }
         ensures built { HavePromisedEdges I.unit (stroke_style_of I.value style.now) closed (Self.paths self.now) }
+        ensures stays_safe { StaysSafe I.unit (stroke_style_of I.value style.now) closed (Self.paths self.now) }
     {
         let drawn = stroke_overlay(self, alloc, style, closed, options)?;
         drawn.overlay_into(OverlayRule::Subject, FillRule::Positive, buffer)?;
@@ -119,7 +124,7 @@ pub trait IntStrokeOffset<I: OverlayInt>: IntShapeResource<I> {
 }
 
 impl<I: OverlayInt, S: IntShapeResource<I>> IntStrokeOffset<I> for S {
-    fn validate_stroke(&self, style: &IntStrokeStyle<I>) -> Result<(), IntOutlineError> {
+    fn validate_stroke(&self, style: &IntStrokeStyle<I>) -> Result<(), IntStrokeError> {
         validate_bounds(self, padding(style))
     }
 }

@@ -5,6 +5,7 @@ ghost use Rattle.mesh_below.specs.Asked.{AreResolvable};
 ghost use Rattle.mesh_draw.specs.Padding.{ArePathsSafe};
 ghost use Rattle.mesh_stroke.specs.Styles.{stroke_padding, stroke_style_of};
 ghost use Rattle.mesh_stroke_calls.specs.Resolved.{AreBuilt};
+ghost use Rattle.mesh_stroke_calls.specs.Staying.{StaysSafe};
 
 use mesh_below::below::{IntOverlayOptions, Overlay};
 use mesh_join::style::IntStrokeStyle;
@@ -27,6 +28,7 @@ pub(crate) fn stroke_overlay<I: IntNumber, S: IntShapeResource<I>>(
         (S.paths source.now) overlay.segments.items) }
     ensures options { IfOk result (λ overlay. overlay.options ≡ options) }
     ensures resolvable { IfOk result (λ overlay. AreResolvable I.unit overlay.segments.items) }
+    ensures stays_safe { StaysSafe I.unit (stroke_style_of I.value style.now) closed (S.paths source.now) }
 {
     let mut overlay = Overlay::with_segments(stroke_segments(source, alloc, style, closed)?);
     overlay.options = options;

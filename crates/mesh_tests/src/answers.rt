@@ -4,31 +4,12 @@ use i_overlay_mesh::IntOutlineError;
 use i_overlay_mesh::outline::offset::IntOutlineOffset;
 use mesh_below::below::IntOverlayOptions;
 use mesh_join::style::IntOutlineStyle;
-use mesh_num::num::{IntPoint, OverlayInt};
+use mesh_num::num::OverlayInt;
 use mesh_num::shape::buffer::FlatContoursBuffer;
 use mesh_num::shape::resource::IntShapeResource;
-use mesh_toolbox::compared::expect_answers;
-use std::alloc::{AllocError, Global};
-use std::ops::Range;
+use mesh_toolbox::compared::{expect_answers, filled, is_filled};
+use std::alloc::Global;
 use std::test::Fail;
-
-/// A buffer with one contour of one point.
-fn filled<I: OverlayInt>(alloc: Global) -> Result<FlatContoursBuffer<I>, AllocError> {
-    let mut buffer = FlatContoursBuffer::new(alloc);
-    buffer.points.push(IntPoint::new(I::ONE, I::ZERO))?;
-    buffer.ranges.push(Range { start: 0, end: 1 })?;
-    Ok(buffer)
-}
-
-/// Whether the buffer is as `filled` gives it.
-fn is_filled<I: OverlayInt>(buffer: &FlatContoursBuffer<I>) -> bool {
-    let (Some(point), Some(range)) = (buffer.points.first(), buffer.ranges.first()) else {
-        return false;
-    };
-    *point == IntPoint::new(I::ONE, I::ZERO)
-        && (range.start, range.end) == (0, 1)
-        && (buffer.points.len(), buffer.ranges.len()) == (1, 1)
-}
 
 /// With these options the source answers these shapes, at each call, and puts their contours in place of a buffer's.
 pub fn expect_custom<I: OverlayInt, S: IntShapeResource<I>>(

@@ -6,6 +6,8 @@ mod answers;
 #[cfg(test)]
 mod calls;
 #[cfg(test)]
+mod mitered;
+#[cfg(test)]
 mod outlines;
 #[cfg(test)]
 mod pieces;

@@ -1,13 +1,15 @@
 //! The edges that the builder adds: worked contours, and how they wind near the vertices of many contours.
 
-use crate::pieces::{Pieces, Tip};
+use crate::pieces::Pieces;
 use i_overlay_mesh::outline::builder::OutlineBuilder;
 use i_overlay_mesh::outline::offset::IntOutlineOffset;
+use mesh_join::arc::ArcOptions;
 use mesh_join::join::Join;
 use mesh_join::style::{IntLineJoin, IntOutlineStyle};
 use mesh_num::num::{Angle, IntPoint, OverlayInt};
 use mesh_toolbox::compared::are_same_edges;
 use mesh_toolbox::edges::{edges_of_segments, plain_points, wide};
+use mesh_toolbox::joins::JoinKind;
 use mesh_toolbox::lists::path;
 use mesh_toolbox::plain::{Edge, Point, closed, is_balanced, plus, refined, winding};
 use mesh_toolbox::random::{Random, small_contour};
@@ -27,27 +29,26 @@ pub struct Outline {
 impl Outline {
     /// The bevelled outline.
     fn new<I: OverlayInt>(alloc: Global, contour: &[(I, I)], offset: I) -> Result<Outline, Fail> {
-        Outline::in_style(alloc, contour, IntOutlineStyle::new(offset), &[])
+        Outline::joined(alloc, contour, offset, JoinKind::Bevel)
     }
 
-    /// The outline in a style whose joins have these points.
-    fn in_style<I: OverlayInt>(
+    /// The outline with these joins.
+    pub fn joined<I: OverlayInt>(
         alloc: Global,
         contour: &[(I, I)],
-        style: IntOutlineStyle<I>,
-        tips: &[Tip],
+        offset: I,
+        join: JoinKind,
     ) -> Result<Outline, Fail> {
         let points = plain_points(alloc, contour)?;
-        let offset = wide(style.outer_offset);
         Ok(Outline {
             own: closed(alloc, &points)?,
-            edges: built(alloc, &path(alloc, contour)?, style)?,
-            between: Pieces::of_outline(alloc, wide(I::UNIT), offset, &points, tips)?,
+            edges: built(alloc, &path(alloc, contour)?, styled(offset, join))?,
+            between: Pieces::of_outline(alloc, wide(I::UNIT), wide(offset), &points, join)?,
         })
     }
 
     /// Near each vertex of the contour and of its outline the edges wind as they have to.
-    fn expect_count(&self, rt: &impl Abort, case: &impl Debug) {
+    pub fn expect_count(&self, rt: &impl Abort, case: &impl Debug) {
         self.expect_count_near(rt, &self.own, 4, case);
         self.expect_count_near(rt, &self.edges, 4, case);
     }
@@ -79,6 +80,23 @@ impl Outline {
         let more = count.wrapping_mul(self.between.offset.signum());
         let want = winding(2, q, &self.own).wrapping_add(more);
         assert_eq!(rt; winding(2, q, &self.edges), want, "at {q:?} of {case:?}");
+    }
+}
+
+/// The style with this offset and these joins.
+pub fn styled<I: OverlayInt>(offset: I, join: JoinKind) -> IntOutlineStyle<I> {
+    let style = IntOutlineStyle::new(offset);
+    match join {
+        JoinKind::Bevel => style,
+        JoinKind::Miter(bits, min_turn) => style
+            .line_join(IntLineJoin::Miter(Angle::from_bits(bits)))
+            .miter_min_turn(Angle::from_bits(min_turn)),
+        JoinKind::Round(bits, rotation_precision) => {
+            style.line_join(IntLineJoin::Round(ArcOptions {
+                max_step: Angle::from_bits(bits),
+                rotation_precision,
+            }))
+        }
     }
 }
 
@@ -191,111 +209,6 @@ fn worked_loops(rt: HostRuntime) -> Result<(), Fail> {
     Ok(())
 }
 
-/// A contour, the offset and the bits of the angle of its miters, from slight turns on, the loop that its outline is,
-/// and the points of the joins.
-type Mitered = (
-    &'static [(i32, i32)],
-    i32,
-    u32,
-    &'static [Point],
-    &'static [Tip],
-);
-
-/// Peaks, clipped peaks, and a bevel where the peak would lie too far away.
-const MITERED: &[Mitered] = &[
-    (
-        &SQUARE,
-        1024,
-        536_870_912,
-        &[
-            (0, -1024),
-            (16_384, -1024),
-            (17_408, -1024),
-            (17_408, 0),
-            (17_408, 16_384),
-            (17_408, 17_408),
-            (16_384, 17_408),
-            (0, 17_408),
-            (-1024, 17_408),
-            (-1024, 16_384),
-            (-1024, 0),
-            (-1024, -1024),
-        ],
-        &[
-            ((0, 0), &[(-1024, -1024)]),
-            ((16_384, 0), &[(17_408, -1024)]),
-            ((16_384, 16_384), &[(17_408, 17_408)]),
-            ((0, 16_384), &[(-1024, 17_408)]),
-        ],
-    ),
-    (
-        &SQUARE,
-        1024,
-        1_610_612_736,
-        &[
-            (0, -1024),
-            (16_384, -1024),
-            (16_808, -1024),
-            (17_408, -424),
-            (17_408, 0),
-            (17_408, 16_384),
-            (17_408, 16_808),
-            (16_808, 17_408),
-            (16_384, 17_408),
-            (0, 17_408),
-            (-424, 17_408),
-            (-1024, 16_808),
-            (-1024, 16_384),
-            (-1024, 0),
-            (-1024, -424),
-            (-424, -1024),
-        ],
-        &[
-            ((0, 0), &[(-1024, -424), (-424, -1024)]),
-            ((16_384, 0), &[(16_808, -1024), (17_408, -424)]),
-            ((16_384, 16_384), &[(17_408, 16_808), (16_808, 17_408)]),
-            ((0, 16_384), &[(-424, 17_408), (-1024, 16_808)]),
-        ],
-    ),
-    (
-        &[(0, 0), (1000, 575), (2000, 1155), (0, 2000)],
-        1,
-        536_870_912,
-        &[
-            (0, -1),
-            (1000, 574),
-            (1001, 574),
-            (2001, 1154),
-            (2003, 1155),
-            (2000, 1156),
-            (0, 2001),
-            (-1, 2001),
-            (-1, 2000),
-            (-1, 0),
-            (-1, -2),
-        ],
-        &[
-            ((0, 0), &[(-1, -2)]),
-            ((2000, 1155), &[(2003, 1155)]),
-            ((0, 2000), &[(-1, 2001)]),
-        ],
-    ),
-];
-
-#[test]
-fn mitered_outlines(rt: HostRuntime) -> Result<(), Fail> {
-    for (contour, offset, bits, points, tips) in MITERED.iter().copied() {
-        let style = IntOutlineStyle::new(offset)
-            .line_join(IntLineJoin::Miter(Angle::from_bits(bits)))
-            .miter_min_turn(Angle::from_bits(0));
-        let outline = Outline::in_style(rt.alloc(), contour, style, tips)?;
-        outline.expect_count(&rt, &contour);
-        let wanted = closed(rt.alloc(), points)?;
-        assert!(rt; are_same_edges(outline.edges, wanted)?, "{contour:?}");
-    }
-    Ok(())
-}
-
 #[test]
 fn winding_near_a_square(rt: HostRuntime) -> Result<(), Fail> {
     for offset in [1024, -1024, 0] {
@@ -326,9 +239,19 @@ pub fn small_outline<I: OverlayInt + From<i8>>(
     contour: &[(i8, i8)],
     offset: i8,
 ) -> Result<Outline, Fail> {
+    small_joined::<I>(alloc, contour, offset, JoinKind::Bevel)
+}
+
+/// The outline of a contour of small coordinates, with these joins.
+pub fn small_joined<I: OverlayInt + From<i8>>(
+    alloc: Global,
+    contour: &[(i8, i8)],
+    offset: i8,
+    join: JoinKind,
+) -> Result<Outline, Fail> {
     let mut points = Vec::new(alloc);
     for (x, y) in contour {
         points.push((I::from(*x), I::from(*y)))?;
     }
-    Outline::new(alloc, &points, I::from(offset))
+    Outline::joined(alloc, &points, I::from(offset), join)
 }

@@ -1,6 +1,8 @@
-//! The pieces between a contour and its outline, made from the contour's own points, their neighbours, and the points
-//! that its joins are told to have.
+//! The pieces between a contour and its outline, made from the contour's own points, their neighbours, and the lists of
+//! points that joins are defined to run through.
 
+use mesh_toolbox::directions::{direction, part};
+use mesh_toolbox::joins::{Corner, JoinKind};
 use mesh_toolbox::plain::{Edge, Point, closed, cross, dot, fan, holds, minus, plus, winding};
 use std::alloc::{AllocError, Global};
 
@@ -53,35 +55,15 @@ fn is_outer(offset: i128, before: Edge, after: Edge) -> bool {
     }
 }
 
+/// The direction of an edge.
+fn heading(unit: i128, edge: Edge) -> Point {
+    direction(unit, minus(edge.1, edge.0))
+}
+
 /// The vector by which an edge is moved.
 fn sideways(unit: i128, offset: i128, edge: Edge) -> Point {
-    let v = minus(edge.1, edge.0);
-    let x = part(unit, v.0, dot(v, v)).wrapping_mul(offset);
-    let y = part(unit, v.1, dot(v, v)).wrapping_mul(offset);
-    (rounded(y, unit), rounded(x.wrapping_neg(), unit))
-}
-
-/// The component in the direction of a vector that belongs to its component `x`.
-fn part(unit: i128, x: i128, square: i128) -> i128 {
-    let whole = unit.wrapping_mul(x);
-    let goal = whole.wrapping_mul(whole);
-    let (mut low, mut high) = (0i128, unit);
-    for _ in 0..31 {
-        let middle = low.wrapping_add(high).wrapping_add(1) / 2;
-        if middle.wrapping_mul(middle).wrapping_mul(square) <= goal {
-            low = middle;
-        } else {
-            high = middle.wrapping_sub(1);
-        }
-    }
-    if x < 0 { low.wrapping_neg() } else { low }
-}
-
-/// A quotient, halves away from 0.
-fn rounded(a: i128, divisor: i128) -> i128 {
-    let doubled = a.wrapping_abs().wrapping_mul(2).wrapping_add(divisor);
-    let size = doubled.checked_div(divisor.wrapping_mul(2)).unwrap_or(0);
-    if a < 0 { size.wrapping_neg() } else { size }
+    let (x, y) = part(heading(unit, edge), offset, unit);
+    (y, x.wrapping_neg())
 }
 
 /// The corners of the strip between an edge and where it is moved.
@@ -91,30 +73,28 @@ fn strip(unit: i128, offset: i128, edge: Edge) -> [Point; 4] {
     [a, plus(a, moved), plus(b, moved), b]
 }
 
-/// A corner, and the points of its join between both moved points: none for a bevel.
-pub type Tip = (Point, &'static [Point]);
-
 /// The points that are joined at a corner: none at an inner one, nor where the edges are moved alike.
 fn join_list(
     alloc: Global,
     unit: i128,
     offset: i128,
     (before, after): (Edge, Edge),
-    tips: &[Tip],
+    join: JoinKind,
 ) -> Result<Vec<Point>, AllocError> {
-    let from = plus(after.0, sideways(unit, offset, before));
-    let to = plus(after.0, sideways(unit, offset, after));
-    let mut list = Vec::new(alloc);
-    if is_outer(offset, before, after) && from != to {
-        list.push(from)?;
-        for (_, points) in tips.iter().filter(|tip| tip.0 == after.0) {
-            for point in points.iter() {
-                list.push(*point)?;
-            }
-        }
-        list.push(to)?;
+    let corner = Corner {
+        unit,
+        center: after.0,
+        from: plus(after.0, sideways(unit, offset, before)),
+        to: plus(after.0, sideways(unit, offset, after)),
+        incoming: heading(unit, before),
+        outgoing: heading(unit, after),
+        radius: offset.wrapping_abs(),
+        sense: if offset < 0 { -1 } else { 1 },
+    };
+    if is_outer(offset, before, after) && corner.from != corner.to {
+        return corner.join_list(alloc, join);
     }
-    Ok(list)
+    Ok(Vec::new(alloc))
 }
 
 impl Pieces {
@@ -124,14 +104,14 @@ impl Pieces {
         unit: i128,
         offset: i128,
         contour: &[Point],
-        tips: &[Tip],
+        join: JoinKind,
     ) -> Result<Pieces, AllocError> {
         let mut boundaries = Vec::new(alloc);
         if offset != 0 {
             for corner in corners(alloc, &cleaned(alloc, contour)?)? {
                 let after = corner.1;
                 boundaries.push(closed(alloc, &strip(unit, offset, after))?)?;
-                let list = join_list(alloc, unit, offset, corner, tips)?;
+                let list = join_list(alloc, unit, offset, corner, join)?;
                 for triangle in fan(alloc, after.0, &list)? {
                     boundaries.push(closed(alloc, &triangle)?)?;
                 }

@@ -1,33 +1,25 @@
 //! Round outlines: worked ones, and how they wind near the vertices of many contours.
 
-use crate::outlines::{Outline, built};
-use crate::pieces::Pieces;
+use crate::outlines::{built, small_joined, styled};
 use i_overlay_mesh::outline::offset::IntOutlineOffset;
-use mesh_join::arc::ArcOptions;
 use mesh_join::join::Join;
-use mesh_join::style::{IntLineJoin, IntOutlineStyle};
-use mesh_num::num::{Angle, IntPoint, OverlayInt};
+use mesh_join::style::IntOutlineStyle;
+use mesh_num::num::OverlayInt;
+use mesh_toolbox::arcs::Fineness;
 use mesh_toolbox::compared::are_same_edges;
-use mesh_toolbox::edges::{plain_points, wide};
+use mesh_toolbox::joins::{Corner, JoinKind};
 use mesh_toolbox::lists::path;
-use mesh_toolbox::plain::{Point, closed, cross, dot, fan, minus, plus};
+use mesh_toolbox::plain::{Point, closed, net_count};
 use mesh_toolbox::random::{Random, small_contour};
-use std::alloc::{AllocError, Global};
+use std::alloc::Global;
 use std::process::Abort;
 use std::test::Fail;
-
-/// The bits and the precision of an arc's options.
-type Fineness = (u32, u32);
 
 const DEFAULT: Fineness = (536_870_912, 5);
 
 /// A style with round joins.
-fn round<I: OverlayInt>(offset: I, (bits, rotation_precision): Fineness) -> IntOutlineStyle<I> {
-    let join = IntLineJoin::Round(ArcOptions {
-        max_step: Angle::from_bits(bits),
-        rotation_precision,
-    });
-    IntOutlineStyle::new(offset).line_join(join)
+fn round<I: OverlayInt>(offset: I, (bits, precision): Fineness) -> IntOutlineStyle<I> {
+    styled(offset, JoinKind::Round(bits, precision))
 }
 
 /// A contour, the offset, how fine the arcs are, and the loop that its outline is.
@@ -307,6 +299,43 @@ fn worked_loops(rt: HostRuntime) -> Result<(), Fail> {
     Ok(())
 }
 
+/// The arc round the second vertex of the first loop of `i16` has 34 directions, of which all but the last are used: its
+/// point falls behind the one before it. The builder's edges run through the points of the others, and not through it.
+#[test]
+fn a_point_that_falls_behind(rt: HostRuntime) -> Result<(), Fail> {
+    let corner = Corner {
+        unit: 16_384,
+        center: (0, 0),
+        from: (0, -3),
+        to: (-2, -3),
+        incoming: (-16_384, 0),
+        outgoing: (-13_781, 8859),
+        radius: 3,
+        sense: -1,
+    };
+    let (count, used) = corner.arc_points(rt.alloc(), 12_309_758, 32)?;
+    assert_eq!(rt; (count, used.len()), (34, 33));
+    let contour = path::<i16>(rt.alloc(), &[(20, 0), (0, 0), (-84, 54)])?;
+    let edges = built(rt.alloc(), &contour, round(-3, (12_309_758, 32)))?;
+    let mut last = corner.from;
+    for point in &used {
+        let want = if *point == last { 0 } else { 1 };
+        assert_eq!(rt;
+            net_count((last, *point), &edges),
+            want,
+            "{last:?} to {point:?}"
+        );
+        last = *point;
+    }
+    assert_eq!(rt; last, corner.to);
+    assert!(rt;
+        edges
+            .iter()
+            .all(|edge| edge.0 != (-2, -2) && edge.1 != (-2, -2))
+    );
+    Ok(())
+}
+
 /// A round join reaches as far as its radius, so an outline is refused where its contour is no farther from the end.
 #[test]
 fn paddings(rt: HostRuntime) -> Result<(), Fail> {
@@ -320,155 +349,6 @@ fn paddings(rt: HostRuntime) -> Result<(), Fail> {
     Ok(())
 }
 
-/// The component in the direction of a vector that belongs to its component `x`.
-fn component(unit: i128, x: i128, square: i128) -> i128 {
-    let whole = unit.wrapping_mul(x);
-    let goal = whole.wrapping_mul(whole);
-    let mut size = 0i128;
-    for shift in (0..31u32).rev() {
-        let more = size.wrapping_add(1i128.wrapping_shl(shift));
-        if more.wrapping_mul(more).wrapping_mul(square) <= goal {
-            size = more;
-        }
-    }
-    size.wrapping_mul(x.signum())
-}
-
-/// A component of a direction times a radius, halves away from 0.
-fn scaled(unit: i128, radius: i128, part: i128) -> i128 {
-    let doubled = part.wrapping_abs().wrapping_mul(radius).wrapping_mul(2);
-    let size = doubled.wrapping_add(unit).checked_div(unit.wrapping_mul(2));
-    size.unwrap_or(0).wrapping_mul(part.signum())
-}
-
-/// Arcs as their definition has them.
-#[derive(Copy, Clone)]
-struct Arcs {
-    unit: i128,
-    sense: i128,
-    step: (i128, i128),
-    bound: (i128, i128),
-}
-
-/// The sine and the cosine of an angle, times 2^30.
-fn sine_and_cosine(bits: u32) -> (i128, i128) {
-    let (sine, cosine) = Angle::from_bits(bits).sin_cos();
-    (i128::from(sine), i128::from(cosine))
-}
-
-impl Arcs {
-    /// Arcs with options in their ranges, to the left where `sense` is 1, to the right where it is -1.
-    fn new(unit: i128, sense: i128, (bits, precision): Fineness) -> Arcs {
-        let reserve = 8_589_934_592i128.checked_div(unit).unwrap_or(0);
-        let share = 1i128.wrapping_shl(precision);
-        let most = i128::from(bits).wrapping_sub(reserve).wrapping_mul(share);
-        let angle = most.checked_div(share.wrapping_add(1)).unwrap_or(0);
-        let (sine, cosine) = sine_and_cosine(u32::try_from(angle).unwrap_or(0));
-        Arcs {
-            unit,
-            sense,
-            step: (sine.wrapping_mul(sense), cosine),
-            bound: sine_and_cosine(bits),
-        }
-    }
-
-    /// The direction of a vector.
-    fn direction(self, v: Point) -> Point {
-        let square = dot(v, v);
-        let x = component(self.unit, v.0, square);
-        (x, component(self.unit, v.1, square))
-    }
-
-    /// The direction after one step.
-    fn turned(self, v: Point) -> Point {
-        let (sine, cosine) = self.step;
-        let x = cross((cosine, sine), (v.1, v.0));
-        let y = dot((sine, cosine), v);
-        (x / 1_073_741_824, y / 1_073_741_824)
-    }
-
-    fn ahead(self, v: Point, w: Point) -> i128 {
-        cross(v, w).wrapping_mul(self.sense)
-    }
-
-    fn is_within(self, v: Point, w: Point) -> bool {
-        let (ahead, onward) = (self.ahead(v, w), dot(v, w));
-        let (sine, cosine) = self.bound;
-        0 <= ahead && 0 < onward && ahead.wrapping_mul(cosine) <= onward.wrapping_mul(sine)
-    }
-
-    /// The directions of the arc from one to another.
-    fn directions(self, alloc: Global, from: Point, to: Point) -> Result<Vec<Point>, AllocError> {
-        let mut found = Vec::new(alloc);
-        if self.is_within(from, to) {
-            return Ok(found);
-        }
-        let mut last = from;
-        for _ in 0..1536 {
-            let next = self.turned(last);
-            let is_good = self.is_within(last, next) && 0 < self.ahead(last, next);
-            let is_past = 0 <= self.ahead(last, to) && self.ahead(next, to) <= 0;
-            if !is_good || (is_past && 0 <= dot(last, to)) {
-                return Ok(found);
-            }
-            found.push(next)?;
-            last = next;
-        }
-        Ok(found)
-    }
-
-    /// The points of the round join at a corner, without repeats.
-    fn join(
-        self,
-        alloc: Global,
-        radius: i128,
-        center: Point,
-        (from, to): (Point, Point),
-    ) -> Result<Vec<Point>, AllocError> {
-        let (first, end) = (minus(from, center), minus(to, center));
-        let mut last = first;
-        let mut points = Vec::new(alloc);
-        points.push(from)?;
-        for v in &self.directions(alloc, self.direction(first), self.direction(end))? {
-            let reach = (
-                scaled(self.unit, radius, v.0),
-                scaled(self.unit, radius, v.1),
-            );
-            if 0 <= self.ahead(last, reach) && 0 <= self.ahead(reach, end) {
-                if reach != last {
-                    points.push(plus(center, reach))?;
-                }
-                last = reach;
-            }
-        }
-        points.push(to)?;
-        Ok(points)
-    }
-}
-
-/// The pieces of a round outline: those of the bevelled one, each triangle at a corner cut up by the points of the arc.
-fn pieces(
-    alloc: Global,
-    fineness: Fineness,
-    unit: i128,
-    offset: i128,
-    contour: &[Point],
-) -> Result<Pieces, AllocError> {
-    let arcs = Arcs::new(unit, offset.signum(), fineness);
-    let mut boundaries = Vec::new(alloc);
-    for boundary in Pieces::of_outline(alloc, unit, offset, contour, &[])?.boundaries {
-        if let [(_, center), (_, from), (_, to)] = boundary.as_slice() {
-            let list = arcs.join(alloc, offset.wrapping_abs(), *center, (*from, *to))?;
-            for triangle in &fan(alloc, *center, &list)? {
-                boundaries.push(closed(alloc, triangle)?)?;
-            }
-        } else {
-            boundaries.push(boundary)?;
-        }
-    }
-    Ok(Pieces { boundaries, offset })
-}
-
 /// Near each vertex of a contour, up to where its joins reach, the round outline winds as it has to.
 fn expect_count<I: OverlayInt + From<i8>>(
     rt: &impl Abort,
@@ -477,22 +357,10 @@ fn expect_count<I: OverlayInt + From<i8>>(
     offset: i8,
     fineness: Fineness,
 ) -> Result<(), Fail> {
-    let mut spots = Vec::new(alloc);
-    for (x, y) in contour {
-        spots.push((I::from(*x), I::from(*y)))?;
-    }
-    let points = plain_points(alloc, &spots)?;
-    let plain_offset = i128::from(offset);
-    let outline = Outline {
-        own: closed(alloc, &points)?,
-        edges: built(
-            alloc,
-            &path(alloc, &spots)?,
-            round(I::from(offset), fineness),
-        )?,
-        between: pieces(alloc, fineness, wide(I::UNIT), plain_offset, &points)?,
-    };
-    let distance = plain_offset.wrapping_abs().wrapping_mul(2).wrapping_add(1);
+    let join = JoinKind::Round(fineness.0, fineness.1);
+    let outline = small_joined::<I>(alloc, contour, offset, join)?;
+    let reach = i128::from(offset).wrapping_abs();
+    let distance = reach.wrapping_mul(2).wrapping_add(1);
     outline.expect_count_near(rt, &outline.own, distance, &(contour, offset, fineness));
     Ok(())
 }

@@ -2,8 +2,8 @@
 
 use i_overlay_mesh::IntOutlineError;
 use i_overlay_mesh::outline::offset::IntOutlineOffset;
-use mesh_join::style::IntOutlineStyle;
-use mesh_num::num::OverlayInt;
+use mesh_join::style::{IntLineJoin, IntOutlineStyle};
+use mesh_num::num::{Angle, OverlayInt};
 use mesh_toolbox::lists::path;
 use std::alloc::{AllocError, Global};
 
@@ -82,6 +82,43 @@ fn large_paths(rt: HostRuntime) -> Result<(), AllocError> {
     for (points, outer, inner, want) in LARGE.iter().copied() {
         let found = answer::<i32>(rt.alloc(), points, outer, inner)?;
         assert!(rt; found == want, "{points:?} with {outer}, {inner}");
+    }
+    Ok(())
+}
+
+/// A coordinate, an outer and an inner offset, and whether a point with it may be moved with miters of an eighth of a turn:
+/// offsets of 1024 and 1 reach as far as 2678 and 5.
+const MITERED: &[(i16, i16, i16, Result<(), IntOutlineError>)] = &[
+    (13_705, 1024, 0, YES),
+    (13_706, 1024, 0, NO),
+    (13_705, -1, 1024, YES),
+    (13_706, -1, 1024, NO),
+    (13_705, 1, -1024, YES),
+    (13_706, 1, -1024, NO),
+    (13_705, -1024, 1023, YES),
+    (13_706, -1024, 1023, NO),
+    (16_378, 0, 1, YES),
+    (16_379, 0, 1, NO),
+    (16_378, -1, 0, YES),
+    (16_379, -1, 0, NO),
+    (16_383, 0, 0, YES),
+    (0, 0, i16::MIN, NO),
+    (0, i16::MIN, 0, NO),
+];
+
+/// The greater reach of both offsets decides, on each side of both axes.
+#[test]
+fn mitered_paths(rt: HostRuntime) -> Result<(), AllocError> {
+    let join = IntLineJoin::Miter(Angle::from_bits(536_870_912));
+    for (far, outer, inner, want) in MITERED.iter().copied() {
+        let style = IntOutlineStyle::new(outer)
+            .inner_offset(inner)
+            .line_join(join);
+        let near = far.wrapping_neg();
+        for point in [(far, 0), (near, 0), (0, far), (0, near)] {
+            let found = path(rt.alloc(), &[point])?.validate_outline(&style);
+            assert!(rt; found == want, "{point:?} with {outer}, {inner}");
+        }
     }
     Ok(())
 }

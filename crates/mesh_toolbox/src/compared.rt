@@ -1,10 +1,11 @@
 //! Comparers of answers with tables.
 
-use crate::plain::Edge;
+use crate::plain::{Edge, net_count};
 use mesh_num::num::{IntNumber, IntPoint};
 use mesh_num::shape::buffer::{FlatContoursBuffer, IntShapes};
 use mesh_num::shape::resource::IntShapeResource;
-use std::alloc::AllocError;
+use std::alloc::{AllocError, Global};
+use std::ops::Range;
 use std::test::Fail;
 
 /// Whether the contour has these points.
@@ -99,6 +100,36 @@ pub fn are_same_edges(mut first: Vec<Edge>, mut second: Vec<Edge>) -> Result<boo
     first.sort()?;
     second.sort()?;
     Ok(first == second)
+}
+
+/// Whether between any two points both lists have as many edges, less those that run back.
+pub fn have_same_counts(first: &[Edge], second: &[Edge]) -> bool {
+    for list in [first, second] {
+        for edge in list {
+            if net_count(*edge, first) != net_count(*edge, second) {
+                return false;
+            }
+        }
+    }
+    true
+}
+
+/// A buffer with one contour of one point.
+pub fn filled<I: IntNumber>(alloc: Global) -> Result<FlatContoursBuffer<I>, AllocError> {
+    let mut buffer = FlatContoursBuffer::new(alloc);
+    buffer.points.push(IntPoint::new(I::ONE, I::ZERO))?;
+    buffer.ranges.push(Range { start: 0, end: 1 })?;
+    Ok(buffer)
+}
+
+/// Whether the buffer is as `filled` gives it.
+pub fn is_filled<I: IntNumber>(buffer: &FlatContoursBuffer<I>) -> bool {
+    let (Some(point), Some(range)) = (buffer.points.first(), buffer.ranges.first()) else {
+        return false;
+    };
+    *point == IntPoint::new(I::ONE, I::ZERO)
+        && (range.start, range.end) == (0, 1)
+        && (buffer.points.len(), buffer.ranges.len()) == (1, 1)
 }
 
 /// Fails where the shapes are not these, or the buffer has not their contours.

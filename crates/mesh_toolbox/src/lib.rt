@@ -1,9 +1,12 @@
-//! What the tests share: points of tables and what is made of them, comparers of answers, a plain program that counts,
-//! and points that look random.
+//! What the tests share: points of tables and what is made of them, comparers of answers, plain programs that count and
+//! that repeat the definitions of directions, arcs and joins, and points that look random.
 #![tactic(auto)]
 
+pub mod arcs;
 pub mod compared;
+pub mod directions;
 pub mod edges;
+pub mod joins;
 pub mod lists;
 pub mod plain;
 pub mod random;

@@ -133,3 +133,32 @@ pub fn small_contour(alloc: Global, random: &mut Random) -> Result<Vec<(i8, i8)>
     }
     Ok(spots)
 }
+
+/// The point as far past `last` as `before` lies behind it, with coordinates of at most 24 in size.
+fn ahead(before: Step, last: Step) -> Step {
+    let x = last.0.wrapping_mul(2).wrapping_sub(before.0);
+    let y = last.1.wrapping_mul(2).wrapping_sub(before.1);
+    (x.max(-24).min(24), y.max(-24).min(24))
+}
+
+/// A point of a path of small coordinates.
+pub type Step = (i16, i16);
+
+/// One to eight points of small coordinates, among them repeats, points where the path turns back, and points that it
+/// runs straight through.
+pub fn small_path(alloc: Global, random: &mut Random) -> Result<Vec<Step>, AllocError> {
+    let mut spots = Vec::new(alloc);
+    let (mut before, mut last) = ((0, 0), (0, 0));
+    for _ in 0..1 + random.below(8) {
+        let spot = match random.below(7) {
+            0 => last,
+            1 => before,
+            2 => ahead(before, last),
+            _ => (i16::from(random.small()), i16::from(random.small())),
+        };
+        spots.push(spot)?;
+        before = last;
+        last = spot;
+    }
+    Ok(spots)
+}

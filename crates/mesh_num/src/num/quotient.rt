@@ -5,7 +5,7 @@ ghost use Rattle.mesh_plane.specs.Bounds.{IsWithin};
 ghost use Rattle.mesh_num.specs.Quotient.{rounded_product};
 
 use crate::num::number::IntNumber;
-use crate::num::search::rounded_quotient;
+use crate::num::share::rounded_quotient;
 
 /// `a * b / d` rounded to a whole number, halves away from 0, with the sign by the rule of signs. `d` is not 0, and the
 /// result fits the wide type; the product need not.

@@ -13,7 +13,7 @@ use crate::num::exact::square_sum;
 use crate::num::number::{IntNumber, WideNumber};
 use crate::num::point::{IntPoint, IntVector};
 use crate::num::rotation::turned;
-use crate::num::search;
+use crate::num::share;
 use std::alloc::AllocError;
 use std::marker::Model;
 
@@ -121,7 +121,7 @@ fn over_unit<I: IntNumber>(number: i128) -> I::Wide
     requires { unsigned_abs number ≤ 4 * I.unit * I.unit }
     ensures { I.Wide.value result ≡ rounded number I.unit }
 {
-    I::Wide::from_i128(search::rounded_quotient(number, unit::<I>()))
+    I::Wide::from_i128(share::rounded_quotient(number, unit::<I>()))
 }
 
 // One component of a direction times a radius.
@@ -130,7 +130,7 @@ fn scale_part<I: IntNumber>(part: I, radius: I) -> I::Wide
     ensures value { I.Wide.value result ≡ scaled I.unit (I.value radius) (I.value part) }
     ensures bound { unsigned_abs (I.Wide.value result) ≤ unsigned_abs (I.value radius) }
 {
-    let scaled = search::scaled_part(unit::<I>(), widen(part), widen(radius));
+    let scaled = share::scaled_part(unit::<I>(), widen(part), widen(radius));
     I::Wide::from_i128(scaled)
 }
 
@@ -155,7 +155,7 @@ impl<I: IntNumber> IntVector<I> {
         requires { IsSafe (2 * I.unit) self.now }
         ensures { MatchOption result (length_sq self.now ≡ 0) (λ n. IsDirection I.unit self.now n) }
     {
-        let (x, y) = search::direction(unit::<I>(), self.x.to_i128(), self.y.to_i128())?;
+        let (x, y) = share::direction(unit::<I>(), self.x.to_i128(), self.y.to_i128())?;
         Some(UnitIntVector::from_parts(x, y))
     }
 }

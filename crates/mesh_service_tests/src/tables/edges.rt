@@ -71,6 +71,14 @@ pub const EDGES: &[(&str, &str)] = &[
         r#"{"op":"outline","int":"i32","out":"edges","paths":[[[0,0]]],"style":{"outer":1,"inner":1,"join":"bevel","side":7}}"#,
         r#"{"edges":[[]]}"#,
     ),
+    (
+        r#"{"op":"outline","int":"i32","out":"edges","paths":[[[0,0]]],"style":{"outer":1,"inner":1,"width":1,"start":"butt","end":"square"}}"#,
+        r#"{"edges":[[]]}"#,
+    ),
+    (
+        r#"{"op":"outline","int":"i32","out":"edges","paths":[[[0,0]]],"style":{"outer":1,"inner":1,"width":null,"start":7,"end":{"custom":[1]}}}"#,
+        r#"{"edges":[[]]}"#,
+    ),
     // options, which are for shapes alone
     (
         r#"{"op":"outline","int":"i16","out":"edges","paths":[[[0,0]]],"style":{"outer":1,"inner":1},"options":null}"#,

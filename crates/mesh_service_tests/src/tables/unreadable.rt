@@ -18,7 +18,6 @@ pub const UNREADABLE: &[&str] = &[
     r#"{"op":"outline","int":"i32","paths":[[[0,0]]],"style":{"outer":1,"inner":1}}"#,
     r#"{"op":"outline","int":"i32","out":"edges","style":{"outer":1,"inner":1}}"#,
     r#"{"op":null,"int":"i32","out":"edges","paths":[[[0,0]]],"style":{"outer":1,"inner":1}}"#,
-    r#"{"op":"stroke","int":"i32","out":"edges","paths":[[[0,0]]],"style":{"width":1}}"#,
     // paths that are none, and numbers that are no coordinates
     r#"{"op":"outline","int":"i32","out":"edges","paths":[[[0,0]],null],"style":{"outer":1,"inner":1}}"#,
     r#"{"op":"outline","int":"i32","out":"edges","paths":[[[0,0]],[[0]]],"style":{"outer":1,"inner":1}}"#,
@@ -45,9 +44,6 @@ pub const UNREADABLE: &[&str] = &[
     r#"{"op":"outline","int":"i32","out":"edges","paths":[[[0,0]]],"style":{"outer":1,"inner":1,"join":null}}"#,
     r#"{"op":"outline","int":"i32","out":"edges","paths":[[[0,0]]],"style":{"outer":1,"inner":1,"join":"Bevel"}}"#,
     r#"{"op":"outline","int":"i32","out":"edges","paths":[[[0,0]]],"style":{"outer":1,"inner":1,"min_turn":-1}}"#,
-    r#"{"op":"outline","int":"i32","out":"edges","paths":[[[0,0]]],"style":{"outer":1,"inner":1,"width":1}}"#,
-    r#"{"op":"outline","int":"i32","out":"edges","paths":[[[0,0]]],"style":{"outer":1,"inner":1,"start":"butt"}}"#,
-    r#"{"op":"outline","int":"i32","out":"edges","paths":[[[0,0]]],"style":{"outer":1,"inner":1,"end":"butt"}}"#,
     r#"{"op":"outline","int":"i32","out":"edges","paths":[[[0,0]]],"style":{"outer":1,"inner":1,"arc":[1,5]}}"#,
     r#"{"op":"outline","int":"i32","out":"edges","paths":[[[0,0]]],"style":{"outer":1,"inner":1}}}"#,
     r#"{"op":"outline","int":"i32","out":"edges","paths":[[[0,0]]],"style":{"outer":1,"inner":1},}"#,

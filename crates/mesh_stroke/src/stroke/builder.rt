@@ -65,8 +65,8 @@ impl<'a, I: IntNumber> StrokeBuilder<'a, I> {
     /// moves by the padding of the style. A closed path goes on from its last point to its first, and has no caps. What
     /// the vector holds stays. Nothing is added for a radius of at most 1, and where all points are one, and no memory
     /// is taken there. Without round joins, and without round caps where the path is open, it succeeds where there is
-    /// room for the edges. With butt or square caps, or none, these are at most seven for each edge of the path and six
-    /// more. After a refusal the vector is cut back to its old length.
+    /// room for the edges; with butt or square caps, or with none, these are then at most seven for each edge of the
+    /// path and six more. After a refusal the vector is cut back to its old length.
     pub fn build(
         &mut self,
         path: &[IntPoint<I>],

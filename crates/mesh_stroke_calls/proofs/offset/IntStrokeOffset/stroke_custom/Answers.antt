@@ -6,11 +6,14 @@ use Rattle.mesh_stroke_calls.proofs.offset.IntStrokeOffset.stroke_custom.Goals a
 pub returns-in_err-drawn-clause-built : goal.returns-in_err-drawn-clause-built
 returns-in_err-drawn-clause-built g c =
     promised g.I.IntNumber.unit (stroke_style_of g.I.IntNumber.value c.args.style.now) c.args.closed (g.Self.IntShapeResource.paths c.args.self.now) g.met.I.IntNumber.least_law
+    c.requires
 
 pub returns-in_err-overlay-clause-built : goal.returns-in_err-overlay-clause-built
 returns-in_err-overlay-clause-built g c =
     promised g.I.IntNumber.unit (stroke_style_of g.I.IntNumber.value c.args.style.now) c.args.closed (g.Self.IntShapeResource.paths c.args.self.now) g.met.I.IntNumber.least_law
+    c.requires
 
 pub returns-clause-built : goal.returns-clause-built
 returns-clause-built g c =
     promised g.I.IntNumber.unit (stroke_style_of g.I.IntNumber.value c.args.style.now) c.args.closed (g.Self.IntShapeResource.paths c.args.self.now) g.met.I.IntNumber.least_law
+    c.requires

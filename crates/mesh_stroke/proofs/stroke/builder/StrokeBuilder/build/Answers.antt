@@ -1,5 +1,5 @@
 -- What holds of the edges that the walk added.
-use Rattle.std.proofs.Common.{◌+◌, ◌*◌, ◌≤◌, List, length, sym, subst, arith}
+use Rattle.std.proofs.Common.{◌+◌, ◌≤◌, List, length, sym, subst, arith}
 use Rattle.std.specs.Prelude.{vec_capacity}
 use Rattle.std.specs.List.{All}
 use Rattle.mesh_num.specs.Segments.{SignedEdge, IsSubject}

@@ -1,0 +1,89 @@
+//! Strokes that are asked for, and what the library answers.
+
+ghost use Rattle.std.specs.Prelude.{◌≡◌, ◌↔◌, OnOk, IfOk};
+ghost use Rattle.mesh_num.specs.Paths.{paths_of, shapes_of};
+ghost use Rattle.mesh_below.specs.Options.{choices_of};
+ghost use Rattle.mesh_draw.specs.Padding.{ArePathsSafe};
+ghost use Rattle.mesh_stroke.specs.Strokes.{stroke_edges};
+ghost use Rattle.mesh_stroke.specs.Styles.{stroke_padding, stroke_style_of};
+ghost use Rattle.mesh_stroke_calls.specs.Resolved.{IsStroke};
+ghost use Rattle.mesh_service.specs.Lines.{by_values};
+ghost use Rattle.mesh_service.specs.Served.{AreListed, MayBeStroked};
+
+use crate::edge::{DirectedEdge, sorted_edges};
+use i_overlay_mesh::IntOutlineError;
+use i_overlay_mesh::stroke::builder::StrokeBuilder;
+use i_overlay_mesh::stroke::offset::IntStrokeOffset;
+use mesh_below::below::IntOverlayOptions;
+use mesh_join::style::IntStrokeStyle;
+use mesh_num::num::{IntPoint, OverlayInt};
+use mesh_num::shape::buffer::IntShapes;
+use std::alloc::{AllocError, Global};
+
+/// The stroke of paths.
+#[derive(Drop)]
+pub struct Stroke<I: OverlayInt> {
+    /// The paths to be stroked.
+    pub paths: Vec<Vec<IntPoint<I>>>,
+    /// The width, the joins, and the caps of open paths.
+    pub style: IntStrokeStyle<I>,
+    /// Whether each path goes on from its last point to its first. A closed path has no caps.
+    pub closed: bool,
+}
+
+impl<I: OverlayInt> Stroke<I> {
+    /// The edges of each path's stroke, in their order. Nothing is built unless all paths may be stroked.
+    pub fn edges(&self, alloc: Global) -> Result<Vec<Vec<DirectedEdge<I>>>, IntOutlineError>
+        ensures edges { IfOk result (λ lists. AreListed (by_values I.cmp I.of_value)
+            (stroke_edges I.unit (stroke_style_of I.value self.now.style) self.now.closed)
+            (paths_of self.now.paths.items) (paths_of lists.items)) }
+        ensures accepted { OnOk result (MayBeStroked I.unit (stroke_style_of I.value self.now.style)
+            (paths_of self.now.paths.items)) }
+        ensures refused { result ≡ Err IntOutlineError.CoordinateOutOfRange
+            ↔ ¬ MayBeStroked I.unit (stroke_style_of I.value self.now.style) (paths_of self.now.paths.items) }
+    {
+        self.paths.validate_stroke(&self.style)?;
+        Ok(edge_lists(alloc, &self.paths, &self.style, self.closed)?)
+    }
+
+    /// The shapes of the paths' stroke.
+    pub fn shapes(
+        &self,
+        alloc: Global,
+        options: IntOverlayOptions<I::WideUInt>,
+    ) -> Result<IntShapes<I>, IntOutlineError>
+        ensures shapes { IfOk result (λ shapes. IsStroke I.unit (stroke_style_of I.value self.now.style)
+            self.now.closed (choices_of I.WideUInt.value options) (paths_of self.now.paths.items)
+            (shapes_of shapes.items)) }
+        ensures accepted { OnOk result (MayBeStroked I.unit (stroke_style_of I.value self.now.style)
+            (paths_of self.now.paths.items)) }
+        ensures refused { result ≡ Err IntOutlineError.CoordinateOutOfRange
+            ↔ ¬ MayBeStroked I.unit (stroke_style_of I.value self.now.style) (paths_of self.now.paths.items) }
+    {
+        self.paths.validate_stroke(&self.style)?;
+        self.paths
+            .stroke_custom(alloc, &self.style, self.closed, options)
+    }
+}
+
+/// The edges of the stroke of each path, in their order.
+fn edge_lists<I: OverlayInt>(
+    alloc: Global,
+    paths: &[Vec<IntPoint<I>>],
+    style: &IntStrokeStyle<I>,
+    closed: bool,
+) -> Result<Vec<Vec<DirectedEdge<I>>>, AllocError>
+    requires { ArePathsSafe I.unit (stroke_padding (stroke_style_of I.value style.now)) (paths_of paths.now) }
+    ensures { IfOk result (λ lists. AreListed (by_values I.cmp I.of_value)
+        (stroke_edges I.unit (stroke_style_of I.value style.now) closed)
+        (paths_of paths.now) (paths_of lists.items)) }
+{
+    let mut builder = StrokeBuilder::new(alloc, style);
+    let mut lists = Vec::with_capacity(alloc, paths.len())?;
+    for path in paths {
+        let mut segments = Vec::new(alloc);
+        builder.build(path, closed, &mut segments)?;
+        lists.push(sorted_edges(alloc, &segments)?)?;
+    }
+    Ok(lists)
+}

@@ -1,0 +1,52 @@
+//! What the stroke calls answer, against tables.
+
+use i_overlay_mesh::stroke::offset::IntStrokeOffset;
+use mesh_below::below::IntOverlayOptions;
+use mesh_join::style::IntStrokeStyle;
+use mesh_num::num::OverlayInt;
+use mesh_num::shape::resource::IntShapeResource;
+use mesh_toolbox::compared::{expect_answers, filled};
+use std::alloc::Global;
+use std::test::Fail;
+
+/// With these options the source answers these shapes, at each call, and puts their contours in place of a buffer's.
+pub fn expect_custom<I: OverlayInt, S: IntShapeResource<I>>(
+    alloc: Global,
+    source: &S,
+    style: &IntStrokeStyle<I>,
+    is_closed: bool,
+    options: IntOverlayOptions<I::WideUInt>,
+    wanted: &[&[&[(I, I)]]],
+) -> Result<(), Fail> {
+    source.validate_stroke(style)?;
+    let mut buffer = filled(alloc)?;
+    for _ in 0..2 {
+        let shapes = source.stroke_custom(alloc, style, is_closed, options)?;
+        source.stroke_custom_into(alloc, style, is_closed, options, &mut buffer)?;
+        expect_answers(&shapes, &buffer, wanted)?;
+    }
+    Ok(())
+}
+
+/// The same with the default options, by the calls that name none too.
+pub fn expect<I: OverlayInt, S: IntShapeResource<I>>(
+    alloc: Global,
+    source: &S,
+    style: &IntStrokeStyle<I>,
+    is_closed: bool,
+    wanted: &[&[&[(I, I)]]],
+) -> Result<(), Fail> {
+    source.validate_stroke(style)?;
+    let mut buffer = filled(alloc)?;
+    let shapes = source.stroke(alloc, style, is_closed)?;
+    source.stroke_into(alloc, style, is_closed, &mut buffer)?;
+    expect_answers(&shapes, &buffer, wanted)?;
+    expect_custom(
+        alloc,
+        source,
+        style,
+        is_closed,
+        IntOverlayOptions::new(),
+        wanted,
+    )
+}
