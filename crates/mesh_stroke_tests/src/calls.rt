@@ -21,9 +21,13 @@ fn is_style(
         && (start, end) == butts
 }
 
+/// Round joins with the default options.
+fn round() -> IntLineJoin {
+    IntLineJoin::Round(ArcOptions::default())
+}
+
 #[test]
 fn setters_of_a_style(rt: HostRuntime) {
-    let round = IntLineJoin::Round(ArcOptions::default());
     let turn = DEFAULT_MITER_MIN_TURN;
     let plain = IntStrokeStyle::new(7);
     assert!(rt; is_style(&plain, 7, IntLineJoin::Bevel, turn, (true, true)));
@@ -36,9 +40,9 @@ fn setters_of_a_style(rt: HostRuntime) {
     assert!(rt; is_style(&other, 7, IntLineJoin::Bevel, turn, (true, false)));
     let joined = IntStrokeStyle::new(7)
         .end_cap(IntLineCap::Square)
-        .line_join(round)
+        .line_join(round())
         .width(i16::MIN);
-    assert!(rt; is_style(&joined, i16::MIN, round, turn, (true, false)));
+    assert!(rt; is_style(&joined, i16::MIN, round(), turn, (true, false)));
     let turned = IntStrokeStyle::new(7)
         .end_cap(IntLineCap::Square)
         .miter_min_turn(Angle::from_bits(u32::MAX))

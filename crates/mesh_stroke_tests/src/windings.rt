@@ -33,6 +33,20 @@ impl Stroke {
         })
     }
 
+    /// Up to this distance from a point of the grid 2 the edges wind as the pieces together, also counted.
+    fn expect_near(&self, rt: &impl Abort, middle: Point, distance: i128, is_counted: bool) {
+        let least = distance.wrapping_neg();
+        for x in least..=distance {
+            for y in least..=distance {
+                let q = plus(middle, (x, y));
+                self.expect_sum_at(rt, q);
+                if is_counted {
+                    self.expect_count_at(rt, q);
+                }
+            }
+        }
+    }
+
     /// The edges wind round this point of the grid 2 as often as pieces hold it.
     fn expect_count_at(&self, rt: &impl Abort, q: Point) {
         let (count, once) = self.pieces.count(2, q);
@@ -66,17 +80,7 @@ fn expect_near<I: OverlayInt + From<i16>>(
     );
     let is_counted = is_closed || (is_stock(style.start) && is_stock(style.end));
     for vertex in &plain_points(alloc, path)? {
-        let middle = refined(2, *vertex);
-        for x in -4..=4i128 {
-            for y in -4..=4i128 {
-                let q = plus(middle, (x, y));
-                if is_counted {
-                    stroke.expect_count_at(rt, q);
-                } else {
-                    stroke.expect_sum_at(rt, q);
-                }
-            }
-        }
+        stroke.expect_near(rt, refined(2, *vertex), 4, is_counted);
     }
     Ok(())
 }
