@@ -9,7 +9,7 @@ use std::process::Abort;
 use std::test::Fail;
 
 /// The direction of a vector with components of at most 99 in size, not both 0.
-fn direction(rt: &impl Abort, (x, y): (i64, i64)) -> UnitIntVector<i32>
+fn direction(rt: &impl Abort, x: i64, y: i64) -> UnitIntVector<i32>
     ensures { IsFresh (2 ^ 30) result }
 {
     assert!(rt; -100 < x && x < 100);
@@ -29,7 +29,7 @@ fn fine() -> ArcOptions {
 /// After a refusal there are no directions, and the next call builds all.
 #[test]
 fn building(rt: HostRuntime) -> Result<(), Fail> {
-    let (from, to) = (direction(&rt, (1, 0)), direction(&rt, (1, -8)));
+    let (from, to) = (direction(&rt, 1, 0), direction(&rt, 1, -8));
     let mut arcs = ArcBuilder::<i32>::new(rt.alloc(), fine());
     let sense = ArcDirection::Counterclockwise;
     if arcs.build(from, to, sense).is_err() {
@@ -43,7 +43,7 @@ fn building(rt: HostRuntime) -> Result<(), Fail> {
 /// Once an arc is built, no arc that is as long is refused: it and shorter ones, in both senses.
 #[test]
 fn building_again(rt: HostRuntime) {
-    let (from, to) = (direction(&rt, (1, 0)), direction(&rt, (1, -8)));
+    let (from, to) = (direction(&rt, 1, 0), direction(&rt, 1, -8));
     let mut arcs = ArcBuilder::<i32>::new(rt.alloc(), fine());
     if arcs
         .build(from, to, ArcDirection::Counterclockwise)

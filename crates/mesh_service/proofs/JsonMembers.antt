@@ -1,8 +1,8 @@
 -- Lemmas over values of JSON: how many members an object has.
-use Rattle.std.proofs.Common.{◌≡◌, ◌≢◌, ℕ, ◌+◌, ◌∙◌, Bool, true, false, List, [], ◌∷◌, length, refl, ap, sym, arith, String, Global}
-use Rattle.std.specs.Prelude.{nat_eq, cond, Option, Some, None}
+use Rattle.std.proofs.Common.{◌≡◌, ◌≢◌, ℕ, ◌∙◌, Bool, List, [], ◌∷◌, length, refl, ap, arith, String, Global}
+use Rattle.std.specs.Prelude.{cond, Option, Some, None}
 use Rattle.std.proofs.lemmas.Bool.{eq-eqb, ne_eqb}
-use Rattle.serde_json.specs.Data.{Data, Members, no_members, member}
+use Rattle.serde_json.specs.Data.{Data, Members}
 use Rattle.serde_json.specs.Find.{get, as_object}
 use Rattle.serde_json.specs.View.{members_view}
 use Rattle.serde_json.specs.declared.value.Value.{Value}

@@ -120,7 +120,8 @@ sole_in key d = if has_one_member (as_object d) then get key d else None
 abbrev pub round_options_of : Data → Option ArcOptions
 round_options_of d = option_and_then arc_options_of (sole_in (codes "round") d)
 
--- the kind of join that a value names: "bevel", {"miter":bits} or {"round":[bits,precision]}, a bevel where there is none
+-- the kind of join that a value names: "bevel", {"miter":bits} or {"round":[bits,precision]}, a bevel where there is
+-- none
 abbrev pub join_of : Option Data → Option IntLineJoin
 join_of None = Some Bevel
 join_of (Some d) =
@@ -152,14 +153,15 @@ outline_style_in unit d =
     then None
     else option_map outline_style_with
     (both (join_of (get (codes "join") d))
-    (both (min_turn_of (get (codes "min_turn") d)) (both (length_of unit (codes "outer") d) (length_of unit (codes "inner") d))))
+    (both (min_turn_of (get (codes "min_turn") d))
+    (both (length_of unit (codes "outer") d) (length_of unit (codes "inner") d))))
 
 -- the custom cap that an object gives: {"custom":[[x,y],..]}
 abbrev pub custom_cap_of : ℕ → Data → Option CapKind
 custom_cap_of unit d = option_map CapKind.Custom (option_and_then (path_of unit) (sole_in (codes "custom") d))
 
--- the kind of cap that a value names: "butt", "square", {"round":[bits,precision]} or {"custom":[[x,y],..]}, a butt where there
--- is none
+-- the kind of cap that a value names: "butt", "square", {"round":[bits,precision]} or {"custom":[[x,y],..]}, a butt
+-- where there is none
 abbrev pub cap_of : ℕ → Option Data → Option CapKind
 cap_of unit None = Some CapKind.Butt
 cap_of unit (Some d) =
@@ -178,7 +180,8 @@ uncapped_in unit d =
     if has_unserved d
     then None
     else option_map uncapped_with
-    (both (join_of (get (codes "join") d)) (both (min_turn_of (get (codes "min_turn") d)) (length_of unit (codes "width") d)))
+    (both (join_of (get (codes "join") d))
+    (both (min_turn_of (get (codes "min_turn") d)) (length_of unit (codes "width") d)))
 
 -- a width and joins, and the caps at the start and the end, as a style
 abbrev pub stroke_style_with : (ℤ × JoinStyle) × (CapKind × CapKind) → StrokeStyle
@@ -232,7 +235,9 @@ outline_with said = as_outline said.0 said.1
 
 -- the outline that is asked for, with coordinates of a type with `unit`
 abbrev pub outline_of : ℕ → Data → Option Drawn
-outline_of unit d = option_map outline_with (both (option_and_then (outline_style_in unit) (get (codes "style") d)) (paths_in unit d))
+outline_of unit d =
+    option_map outline_with
+    (both (option_and_then (outline_style_in unit) (get (codes "style") d)) (paths_in unit d))
 
 -- whether paths are closed, a style and paths, as a stroke
 abbrev pub stroke_with : Bool × (StrokeStyle × List (List Point)) → Drawn
@@ -242,7 +247,8 @@ stroke_with said = as_stroke said.1.0 said.0 said.1.1
 abbrev pub stroke_of : ℕ → Data → Option Drawn
 stroke_of unit d =
     option_map stroke_with
-    (both (flag_of (get (codes "closed") d)) (both (option_and_then (stroke_style_in unit) (get (codes "style") d)) (paths_in unit d)))
+    (both (flag_of (get (codes "closed") d))
+    (both (option_and_then (stroke_style_in unit) (get (codes "style") d)) (paths_in unit d)))
 
 -- what is drawn, with coordinates of a type with `unit`
 abbrev pub drawn_in : ℕ → Data → Option Drawn

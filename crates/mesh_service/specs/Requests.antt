@@ -42,7 +42,8 @@ abbrev pub asked_of : {U : Type 0} → (U → ℕ) → Output U → Asked
 asked_of value Output.Edges = for_edges
 asked_of value (Output.Shapes options) = for_shapes (choices_of value options)
 
--- a request: what is drawn, and what is asked of it. Its coordinates are of the type with `unit`, which holds the whole numbers from `-2 * unit` on that are below `2 * unit`
+-- a request: what is drawn, and what is asked of it. Its coordinates are of the type with `unit`, which holds the whole
+-- numbers from `-2 * unit` on that are below `2 * unit`
 pub record Request : Type 0 where
   pub unit : ℕ
   pub drawn : Drawn

@@ -18,8 +18,8 @@ use Rattle.mesh_stroke_calls.specs.Resolved.{IsStroke}
 use Rattle.mesh_service.specs.Lines.{edge_order, edges_text, shapes_text}
 use Rattle.mesh_service.specs.Requests.{Drawn, as_outline, as_stroke, Asked, Request}
 
--- paths may be outlined where they stay safe as they move by the padding of the style, and the double area of each fits the wide type,
--- which holds the whole numbers from `-8 * unit * unit` on that are below `8 * unit * unit`
+-- paths may be outlined where they stay safe as they move by the padding of the style, and the double area of each fits
+-- the wide type, which holds the whole numbers from `-8 * unit * unit` on that are below `8 * unit * unit`
 pub record MayBeOutlined (unit : ℕ) (style : OutlineStyle) (paths : List (List Point)) : Type 0 where
   pub safe : ArePathsSafe unit (outline_padding style) paths
   pub fit : DoAreasFit (8 * unit * unit) paths
@@ -47,18 +47,21 @@ abbrev pub served_edges : ℕ → OutlineStyle → List Point → List Edge
 served_edges unit style path = moved_edges unit (style_for style (double_area path)) path
 
 -- the edges that are drawn of a path, listed in the order of edges that an order of coordinates gives
-pub record IsListed (order : ℤ → ℤ → Ordering) (drawn : List Point → List Edge) (path : List Point) (edges : List Edge) : Type 0 where
+pub record IsListed (order : ℤ → ℤ → Ordering) (drawn : List Point → List Edge)
+    (path : List Point) (edges : List Edge) : Type 0 where
   pub same : IsPermutation (drawn path) edges
   pub sorted : IsSorted (edge_order order) edges
 
 -- the edges that are drawn of each path, path by path
-abbrev pub AreListed : (ℤ → ℤ → Ordering) → (List Point → List Edge) → List (List Point) → List (List Edge) → Type 0
+abbrev pub AreListed :
+    (ℤ → ℤ → Ordering) → (List Point → List Edge) → List (List Point) → List (List Edge) → Type 0
 AreListed order drawn paths lists = AllZip (IsListed order drawn) paths lists
 
 -- the edges of what is drawn
 abbrev pub AreEdgesOf : (ℤ → ℤ → Ordering) → ℕ → Drawn → List (List Edge) → Type 0
 AreEdgesOf order unit (as_outline style paths) lists = AreListed order (served_edges unit style) paths lists
-AreEdgesOf order unit (as_stroke style closed paths) lists = AreListed order (stroke_edges unit style closed) paths lists
+AreEdgesOf order unit (as_stroke style closed paths) lists =
+    AreListed order (stroke_edges unit style closed) paths lists
 
 -- the shapes of what is drawn, with these choices
 abbrev pub AreShapesOf : ℕ → Choices → Drawn → List (List (List Point)) → Type 0

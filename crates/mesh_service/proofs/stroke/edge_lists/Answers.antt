@@ -1,8 +1,7 @@
 -- Path by path, by one builder; sorting keeps the edges.
-use Rattle.std.proofs.Common.{[], arith, sym, subst, ◌∙◌}
+use Rattle.std.proofs.Common.{[], sym, subst, ◌∙◌}
 use Rattle.std.specs.List.{All}
 use Rattle.std.proofs.lemmas.List.Sorted.{IsPermutation-sym, IsPermutation-trans}
-use Rattle.mesh_num.specs.Paths.{paths_of}
 use Rattle.mesh_stroke.specs.Building.{IsStrokable}
 use Rattle.mesh_stroke.specs.Styles.{StrokeStyle}
 use Rattle.mesh_service.proofs.PathsServed.{path_count, path_here, one_listed}

@@ -1,5 +1,5 @@
 -- An object has as many members as its map has entries.
-use Rattle.std.proofs.Common.{◌≡◌, ◌∙◌, ap, sym}
+use Rattle.std.proofs.Common.{◌∙◌, sym}
 use Rattle.serde_json.specs.View.{view, members_view}
 use Rattle.mesh_service.proofs.JsonMembers.{counted, sole_member, not_sole}
 use Rattle.mesh_service.proofs.request.joins.sole_member.Goals as goal
