@@ -15,7 +15,8 @@ import sys
 SEED = 1
 SOURCES = pathlib.Path(__file__).resolve().parent / "src"
 
-HEAD = f"""//! Small paths with their strokes. `make_tables.py` of this crate drew them at random, with the seed {SEED}, and a
+HEAD = f"""\
+//! Small paths with their strokes. `make_tables.py` of this crate drew them at random, with the seed {SEED}, and a
 //! reference program in Python stroked them, which was written from the definitions, apart from this repository. The
 //! script wrote these files: change it, and not them.
 

@@ -33,15 +33,16 @@ impl Stroke {
         })
     }
 
-    /// Up to this distance from a point of the grid 2 the edges wind as the pieces together, also counted.
+    /// Up to this distance from a point of the grid 2 the edges wind as the pieces together, or as often as they count.
     fn expect_near(&self, rt: &impl Abort, middle: Point, distance: i128, is_counted: bool) {
         let least = distance.wrapping_neg();
         for x in least..=distance {
             for y in least..=distance {
                 let q = plus(middle, (x, y));
-                self.expect_sum_at(rt, q);
                 if is_counted {
                     self.expect_count_at(rt, q);
+                } else {
+                    self.expect_sum_at(rt, q);
                 }
             }
         }
