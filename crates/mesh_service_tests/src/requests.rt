@@ -5,7 +5,9 @@ use crate::tables::miters::MITERS;
 use crate::tables::refused::REFUSED;
 use crate::tables::round::{ROUND, ROUND_REFUSED, ROUND_UNREADABLE};
 use crate::tables::shapes::SHAPES;
-use crate::tables::strokes::{STROKES, STROKES_REFUSED, STROKES_UNREADABLE};
+use crate::tables::stroke_failures::{STROKES_REFUSED, STROKES_UNREADABLE};
+use crate::tables::stroke_shapes::{STROKE_EXAMPLES, STROKE_SHAPES};
+use crate::tables::strokes::{STROKE_CORNERS, STROKES};
 use crate::tables::unreadable::UNREADABLE;
 use i_overlay_mesh::IntOutlineError;
 use mesh_service::failure::Failure;
@@ -43,7 +45,7 @@ fn expect(
 
 #[test]
 fn answered(rt: HostRuntime) -> Result<(), Fail> {
-    for table in [EDGES, MITERS, ROUND, SHAPES, STROKES] {
+    for table in [EDGES, MITERS, ROUND, SHAPES] {
         for (request, line) in table {
             expect(&rt, rt.alloc(), request.as_bytes(), Status::Answered, line)?;
         }
@@ -56,10 +58,8 @@ fn not_answered(rt: HostRuntime) -> Result<(), Fail> {
     for (table, status, line) in [
         (REFUSED, Status::Refused, OUT_OF_RANGE),
         (ROUND_REFUSED, Status::Refused, OUT_OF_RANGE),
-        (STROKES_REFUSED, Status::Refused, OUT_OF_RANGE),
         (UNREADABLE, Status::Unreadable, NOT_SERVED),
         (ROUND_UNREADABLE, Status::Unreadable, NOT_SERVED),
-        (STROKES_UNREADABLE, Status::Unreadable, NOT_SERVED),
     ] {
         for request in table {
             expect(&rt, rt.alloc(), request.as_bytes(), status, line)?;
@@ -72,6 +72,39 @@ fn not_answered(rt: HostRuntime) -> Result<(), Fail> {
         Status::Unreadable,
         NOT_SERVED,
     )
+}
+
+#[test]
+fn strokes_answered(rt: HostRuntime) -> Result<(), Fail> {
+    for table in [STROKES, STROKE_CORNERS] {
+        for (request, line) in table {
+            expect(&rt, rt.alloc(), request.as_bytes(), Status::Answered, line)?;
+        }
+    }
+    Ok(())
+}
+
+#[test]
+fn stroke_shapes_answered(rt: HostRuntime) -> Result<(), Fail> {
+    for table in [STROKE_SHAPES, STROKE_EXAMPLES] {
+        for (request, line) in table {
+            expect(&rt, rt.alloc(), request.as_bytes(), Status::Answered, line)?;
+        }
+    }
+    Ok(())
+}
+
+#[test]
+fn strokes_not_answered(rt: HostRuntime) -> Result<(), Fail> {
+    for (table, status, line) in [
+        (STROKES_REFUSED, Status::Refused, OUT_OF_RANGE),
+        (STROKES_UNREADABLE, Status::Unreadable, NOT_SERVED),
+    ] {
+        for request in table {
+            expect(&rt, rt.alloc(), request.as_bytes(), status, line)?;
+        }
+    }
+    Ok(())
 }
 
 const POINT: &str =

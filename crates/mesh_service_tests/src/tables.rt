@@ -5,5 +5,7 @@ pub mod miters;
 pub mod refused;
 pub mod round;
 pub mod shapes;
+pub mod stroke_failures;
+pub mod stroke_shapes;
 pub mod strokes;
 pub mod unreadable;
