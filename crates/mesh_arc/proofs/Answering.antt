@@ -30,6 +30,7 @@ built_passed unit old new sense from end e r b h = record {
   room = b.room;
   directions = on_ok_of_err _ r h;
   none = on_err r b.none;
+  fits = b.fits;
 }
 
 -- with the default options no step fails, for both coordinate types

@@ -1,5 +1,5 @@
 -- An arc's buffer, as contracts see it.
-use Rattle.std.specs.Prelude.{ℕ, ◌≡◌, ◌≤◌, List, [], Result, OnOk, OnErr}
+use Rattle.std.specs.Prelude.{ℕ, ◌≡◌, ◌≤◌, List, [], Result, OnOk, OnErr, length}
 use Rattle.mesh_plane.specs.Plane.{Point}
 use Rattle.mesh_arc.specs.Arcs.{arc}
 use Rattle.mesh_arc.specs.declared.arc.ArcDirection.{ArcDirection}
@@ -12,9 +12,10 @@ pub record Building : Type 0 where
   pub room : ℕ
 
 -- what stands after an arc was asked for: the options are the same and no memory was given back; the directions are those of
--- the arc, and none after a refusal
+-- the arc, and none after a refusal; there is memory for them, so an arc of no more directions can be asked for again
 pub record IsBuilt (unit : ℕ) (old new : Building) (sense : ArcDirection) (from end : Point) {A E : Type 0} (answer : Result A E) : Type 0 where
   pub options : new.options ≡ old.options
   pub room : old.room ≤ new.room
   pub directions : OnOk answer (new.directions ≡ arc unit old.options sense from end)
   pub none : OnErr answer (new.directions ≡ [])
+  pub fits : length new.directions ≤ new.room

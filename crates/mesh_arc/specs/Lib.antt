@@ -1,4 +1,5 @@
 pub mod Arcs
 pub mod Building
 pub mod Gaps
+pub mod Lent
 pub mod Midway

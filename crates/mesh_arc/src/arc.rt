@@ -1,11 +1,12 @@
 //! Directed arcs: a direction is turned by equal steps until an end is passed.
 
-ghost use Rattle.std.specs.Prelude.{⊤, ◌≡◌, ◌^◌, ◌≤◌, length, [], IsOk, IfOk};
+ghost use Rattle.std.specs.Prelude.{◌≡◌, ◌^◌, ◌≤◌, length, [], IsOk, IfOk};
 ghost use Rattle.std.specs.Borrow.{sem};
 ghost use Rattle.mesh_num.specs.Direction.{IsFresh};
 ghost use Rattle.mesh_arc.specs.Arcs.{clamped as clamped_of, step_bits, step_of, bound_of, arc};
 ghost use Rattle.mesh_arc.specs.Building.{IsBuilt};
 ghost use Rattle.mesh_arc.specs.Gaps.{HasNearGaps, ReachesEnd, NoStepFails, default_options};
+ghost use Rattle.mesh_arc.specs.Lent.{EndsWith};
 
 use crate::steps::Steps;
 use mesh_num::num::convert::widen;
@@ -43,8 +44,10 @@ impl ArcOptions {
     fn clamped(self) -> Self
         ensures { result ≡ clamped_of self }
     {
+        let least = ArcOptions::MIN_STEP.bits();
+        let most = ArcOptions::MAX_STEP.bits();
         ArcOptions {
-            max_step: Angle::from_bits(self.max_step.bits().max(1 << 22).min(1 << 29)),
+            max_step: Angle::from_bits(self.max_step.bits().max(least).min(most)),
             rotation_precision: self.rotation_precision.max(4).min(32),
         }
     }
@@ -89,8 +92,6 @@ impl<I: IntNumber> Model for IntegerArc<I> {
 
 impl<I: IntNumber> IntegerArc<I> {
     ghost use Rattle.mesh_arc.specs.contracts.arc.IntegerArc.{the_row};
-    ghost use mathlib.Core.Option.{none};
-    ghost use denote.Follow.{follows_so};
 
     /// A builder of arcs with these options, each brought into its range. It takes no memory.
     pub fn new(alloc: Global, options: ArcOptions) -> Self
@@ -161,8 +162,13 @@ impl<I: IntNumber> IntegerArc<I> {
         ensures last_gap { IfOk result (λ ds. ReachesEnd I.unit self.old.options direction from to ds.now) }
         ensures default_steps { self.old.options ≡ default_options → NoStepFails I.unit default_options direction from }
         ensures room { length (arc I.unit self.old.options direction from to) ≤ self.old.room → IsOk result }
-        ensures* after { sem 𝓛 (follows_so (the_row I.row I.Wide.row I.WideUInt.row I.IntNumber.own I.Debug I.Ord.own I.PartialEq I.PartialOrd.own I.Hash.own I.Wide.WideNumber.own I.Wide.Debug I.Wide.Ord.own I.Wide.PartialEq I.Wide.PartialOrd.own I.Wide.Hash.own I.Wide.Add I.Wide.Sub I.Wide.Mul I.WideUInt.WideUnsigned.own I.WideUInt.Debug I.WideUInt.Ord.own I.WideUInt.PartialEq I.WideUInt.PartialOrd.own I.WideUInt.Hash.own) (the_row I.row I.Wide.row I.WideUInt.row I.IntNumber.own I.Debug I.Ord.own I.PartialEq I.PartialOrd.own I.Hash.own I.Wide.WideNumber.own I.Wide.Debug I.Wide.Ord.own I.Wide.PartialEq I.Wide.PartialOrd.own I.Wide.Hash.own I.Wide.Add I.Wide.Sub I.Wide.Mul I.WideUInt.WideUnsigned.own I.WideUInt.Debug I.WideUInt.Ord.own I.WideUInt.PartialEq I.WideUInt.PartialOrd.own I.WideUInt.Hash.own) self.entry.ghost_name none (λ _ _. ⊤)
-            (λ n. IsBuilt I.unit self.old n direction from to result)) }
+        // Once the directions are no longer used, the builder is as after `rebuild`.
+        ensures* after { sem 𝓛 (EndsWith
+            (the_row I.row I.Wide.row I.WideUInt.row I.IntNumber.own I.Debug I.Ord.own I.PartialEq I.PartialOrd.own
+            I.Hash.own I.Wide.WideNumber.own I.Wide.Debug I.Wide.Ord.own I.Wide.PartialEq I.Wide.PartialOrd.own
+            I.Wide.Hash.own I.Wide.Add I.Wide.Sub I.Wide.Mul I.WideUInt.WideUnsigned.own I.WideUInt.Debug
+            I.WideUInt.Ord.own I.WideUInt.PartialEq I.WideUInt.PartialOrd.own I.WideUInt.Hash.own)
+            self.entry (λ n. IsBuilt I.unit self.old n direction from to result)) }
     {
         self.rebuild(from, to, direction)?;
         Ok(&self.directions)

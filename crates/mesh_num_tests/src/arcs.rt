@@ -8,7 +8,7 @@ use mesh_num::num::{Angle, IntNumber, IntVector, UnitIntVector};
 use mesh_toolbox::edges::wide;
 use mesh_toolbox::plain::{Point, cross, dot};
 use mesh_toolbox::random::Random;
-use std::alloc::Global;
+use std::alloc::AllocError;
 use std::process::Abort;
 use std::test::Fail;
 
@@ -252,20 +252,37 @@ fn expect_alike<I: IntNumber>(
     }
 }
 
-/// Where any allocation is refused there are no directions, and the next build answers; once an arc is built, building it
-/// again takes no memory.
+/// Builds an arc, and once more, and tells how many directions it has. The first build may be refused memory. The second
+/// is not, which is proved from what is promised of the first: there is memory for as many directions.
+fn built_twice<I: IntNumber>(
+    arcs: &mut ArcBuilder<I>,
+    from: UnitIntVector<I>,
+    to: UnitIntVector<I>,
+    sense: ArcDirection,
+) -> Result<usize, AllocError>
+    requires from { IsFresh I.unit from }
+    requires to { IsFresh I.unit to }
+{
+    arcs.rebuild(from, to, sense)?;
+    let Ok(again) = arcs.build(from, to, sense) else {
+        unreachable!()
+    };
+    Ok(again.len())
+}
+
 #[test]
-fn built_again_without_memory(rt: HostRuntime) {
-    let (from, to) = (of_i32(&rt, (1, 0)), of_i32(&rt, (1, -8)));
-    let mut arcs = ArcBuilder::<i32>::new(rt.alloc(), options(4_194_304, 4));
-    if arcs.build(from, to, LEFT).is_err() {
-        assert!(rt; arcs.directions().is_empty());
-        assert!(rt; arcs.build(from, to, LEFT).is_ok());
+fn built_twice_at_both_widths(rt: HostRuntime) -> Result<(), Fail> {
+    for ((bits, precision), from, to, sense, count, _) in ARCS_OF_I16.iter().copied() {
+        let mut arcs = ArcBuilder::<i16>::new(rt.alloc(), options(bits, precision));
+        let found = built_twice(&mut arcs, of_i16(&rt, from), of_i16(&rt, to), sense)?;
+        assert_eq!(rt; found, count, "{from:?} to {to:?}");
     }
-    for _ in 0..3 {
-        assert!(rt; arcs.build(from, to, LEFT).is_ok());
-        assert_eq!(rt; arcs.directions().len(), 837);
+    for ((bits, precision), from, to, sense, count, _) in ARCS_OF_I32.iter().copied() {
+        let mut arcs = ArcBuilder::<i32>::new(rt.alloc(), options(bits, precision));
+        let found = built_twice(&mut arcs, of_i32(&rt, from), of_i32(&rt, to), sense)?;
+        assert_eq!(rt; found, count, "{from:?} to {to:?}");
     }
+    Ok(())
 }
 
 /// Whether `w` lies ahead of `v` by at most the angle, of less than a quarter turn, with this sine and cosine.

@@ -38,7 +38,7 @@ returns g c =
     let m : c.args.self.now.options.max_step < 2 ^ 30 = omega (arith, c.self.invariant.most, ap (λ (x : Building). x.options.max_step) c.self.view_is, ap (λ (o : ArcOptions). o.max_step) b.options) in
     let n : pos 0 ≤ℤ (bound_of c.args.self.now.options).0 = sine_nonneg c.args.self.now.options.max_step m in
     let t = fresh_nonzero g.I.IntNumber.unit c.args.to g.met.I.IntNumber.least_law c.requires.to in (
-      (refl, λ _. tt, rw c.self.view_is (record { options = b.options; room = b.room; directions = b.directions; none = tt })),
+      (refl, λ _. tt, rw c.self.view_is (record { options = b.options; room = b.room; directions = b.directions; none = tt; fits = b.fits })),
       record {
         value = v;
         gaps = subst (λ (ds : List Point). HasNearGaps c.args.self.now.options c.args.direction c.args.from ds) (sym v) (arc_gaps g.I.IntNumber.unit c.args.self.now.options c.args.direction c.args.from c.args.to);

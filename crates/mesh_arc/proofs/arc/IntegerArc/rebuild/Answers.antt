@@ -15,6 +15,7 @@ returns-clause-built g c =
       room = rw (← c.self.view_is) c.fill.ensures.capacity;
       directions = subst (λ (ds : List Point). OnOk c.fill.result (c.fill.new.directions.items ≡ ds)) (arc_is g.I.IntNumber.unit c.args.self.now.options c.args.direction c.args.from c.args.to) ok;
       none = c.fill.ensures.err;
+      fits = rw (← c.fill.new.directions.ok.0) c.fill.new.directions.ok.1;
     }
 
 pub returns-clause-room : goal.returns-clause-room
