@@ -4,7 +4,7 @@ use Rattle.std.specs.Prelude.{not, ◌||◌}
 use mathlib.Core.Logic.{◌⊎◌, inl, inr, ⊎_elim}
 use Rattle.std.proofs.lemmas.Bool.{cases_lt, true≢false}
 use Rattle.mesh_plane.specs.Plane.{Point}
-use Rattle.mesh_num.specs.Rotation.{rotated}
+use Rattle.mesh_grid.specs.Rotation.{rotated}
 use Rattle.mesh_arc.specs.Arcs.{least, turned, turned_list, is_within, is_good, is_passed, most_directions, step_of, bound_of, stepped, arc}
 use Rattle.mesh_arc.specs.declared.arc.ArcDirection.{ArcDirection}
 use Rattle.mesh_arc.specs.declared.arc.ArcOptions.{ArcOptions}

@@ -9,9 +9,9 @@ use Rattle.mesh_plane.specs.Plane.{Point, length_sq}
 use Rattle.mesh_plane.proofs.Sizes.{size_neg}
 use Rattle.mesh_sine.specs.Sine.{one, halved, with_bits, low_pair, in_quarter, sin_cos}
 use Rattle.mesh_sine.proofs.Lengths.{IsPair, halved_is_pair, sum_is_pair, cut_length, bit_taken, bit_left, bits_end}
-use Rattle.mesh_num.specs.Direction.{IsShort}
-use Rattle.mesh_num.specs.Rotation.{rotated, turned_round}
-use Rattle.mesh_num.proofs.Rotations.{rotated_length, turned_round_length}
+use Rattle.mesh_grid.specs.Direction.{IsShort}
+use Rattle.mesh_grid.specs.Rotation.{rotated, turned_round}
+use Rattle.mesh_grid.proofs.Rotations.{rotated_length, turned_round_length}
 use Rattle.mesh_arc.specs.Arcs.{least, turned_list, is_within, ends_after, most_directions, step_bits, step_of, bound_of, stepped, arc}
 use Rattle.mesh_arc.specs.declared.arc.ArcDirection.{ArcDirection}
 use Rattle.mesh_arc.specs.declared.arc.ArcDirection.TheVariants.{Clockwise, Counterclockwise}

@@ -2,15 +2,15 @@
 
 ghost use Rattle.std.specs.Prelude.{◌≡◌, ◌^◌, ◌≤◌, length, [], IsOk, IfOk};
 ghost use Rattle.std.specs.Borrow.{sem};
-ghost use Rattle.mesh_num.specs.Direction.{IsFresh};
+ghost use Rattle.mesh_grid.specs.Direction.{IsFresh};
 ghost use Rattle.mesh_arc.specs.Arcs.{clamped as clamped_of, step_bits, step_of, bound_of, arc};
 ghost use Rattle.mesh_arc.specs.Building.{IsBuilt};
 ghost use Rattle.mesh_arc.specs.Gaps.{HasNearGaps, ReachesEnd, NoStepFails, default_options};
 ghost use Rattle.mesh_arc.specs.Lent.{EndsWith};
 
 use crate::steps::Steps;
-use mesh_num::num::convert::widen;
-use mesh_num::num::{Angle, IntNumber, Rotation, UnitIntVector};
+use mesh_grid::num::convert::widen;
+use mesh_grid::num::{Angle, IntNumber, Rotation, UnitIntVector};
 use std::alloc::{AllocError, Global};
 use std::marker::Model;
 

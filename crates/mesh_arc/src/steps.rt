@@ -6,7 +6,7 @@ ghost use Rattle.mesh_plane.specs.Plane.{cross as cross_of, dot as dot_of, lengt
 ghost use Rattle.mesh_arc.specs.Arcs.{ahead as ahead_of, is_within as is_within_of, is_good as is_good_of, is_passed as is_passed_of, turned_list, least, ends_after, most_directions, stepped};
 
 use crate::arc::ArcDirection;
-use mesh_num::num::{IntNumber, IntVector, Rotation, UnitIntVector};
+use mesh_grid::num::{IntNumber, IntVector, Rotation, UnitIntVector};
 use std::alloc::AllocError;
 use std::marker::Model;
 

@@ -4,8 +4,8 @@ use Rattle.std.specs.Prelude.{ℤ, pos, negsuc, ◌*ℤ◌, ◌≤ℤ◌}
 use Rattle.std.proofs.lemmas.Int.{ints}
 use Rattle.mesh_plane.specs.Plane.{Point, plus, cross, turn, right_quarter}
 use Rattle.mesh_plane.proofs.Whole.{linear, multiplied}
-use Rattle.mesh_num.specs.Direction.{IsDirection, scaled_direction}
-use Rattle.mesh_num.proofs.Scaling.{scaled_turn_kept}
+use Rattle.mesh_grid.specs.Direction.{IsDirection, scaled_direction}
+use Rattle.mesh_grid.proofs.Scaling.{scaled_turn_kept}
 use Rattle.mesh_arc.specs.Arcs.{sense_of}
 use Rattle.mesh_arc.specs.declared.arc.ArcDirection.TheVariants.{Counterclockwise}
 use Rattle.mesh_join.specs.Joints.{contact}

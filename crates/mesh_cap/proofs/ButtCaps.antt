@@ -3,7 +3,7 @@ use Rattle.std.proofs.Common.{ℕ, ◌<◌, [], arith}
 use Rattle.std.specs.Prelude.{ℤ, pos, ◌*ℤ◌, ◌≤ℤ◌}
 use Rattle.std.proofs.lemmas.List.Elements.{All-nil, All-cons}
 use Rattle.mesh_plane.specs.Plane.{Point, Edge, turn}
-use Rattle.mesh_num.specs.Direction.{IsFresh}
+use Rattle.mesh_grid.specs.Direction.{IsFresh}
 use Rattle.mesh_join.specs.Joints.{Joint, IsWithinPadding}
 use Rattle.mesh_cap.specs.ButtCaps.{butt_padding}
 use Rattle.mesh_cap.specs.Caps.{CapKind}

@@ -3,7 +3,7 @@ use Rattle.std.proofs.Common.{subst, sym}
 use Rattle.std.specs.Prelude.{ℕ, ◌≤◌, IsTrue, length, ℤ, pos, ◌≤ℤ◌}
 use Rattle.std.specs.List.{All}
 use Rattle.mesh_plane.specs.Plane.{Point}
-use Rattle.mesh_num.specs.Direction.{IsShort, IsFresh}
+use Rattle.mesh_grid.specs.Direction.{IsShort, IsFresh}
 use Rattle.mesh_arc.specs.declared.arc.ArcDirection.TheVariants.{Counterclockwise}
 use Rattle.mesh_join.specs.Joints.{Joint, NeverTurnsBack, IsWithinPadding}
 use Rattle.mesh_cap.specs.Caps.{CapKind, cap_points, cap_edges, cap_padding, is_stock, has_few_edges}

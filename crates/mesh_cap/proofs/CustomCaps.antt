@@ -14,9 +14,9 @@ use Rattle.mesh_plane.specs.Bounds.{IsSafe}
 use Rattle.mesh_plane.specs.Plane.{Point, Edge, plus, length_sq}
 use Rattle.mesh_plane.specs.Winding.{route}
 use Rattle.mesh_plane.proofs.Sizes.{le_of_squares}
-use Rattle.mesh_num.specs.Direction.{IsShort}
-use Rattle.mesh_num.specs.Rotation.{turned_along}
-use Rattle.mesh_num.proofs.Rotations.{turned_along_within}
+use Rattle.mesh_grid.specs.Direction.{IsShort}
+use Rattle.mesh_grid.specs.Rotation.{turned_along}
+use Rattle.mesh_grid.proofs.Rotations.{turned_along_within}
 use Rattle.mesh_sine.specs.Sine.{root}
 use Rattle.mesh_sine.proofs.Roots.{root_is, root_by}
 use Rattle.mesh_num.specs.Segments.{SignedEdge, segments_of}

@@ -6,8 +6,8 @@ use Rattle.mesh_plane.specs.Plane.{Point, plus, minus, opposite, cross, right_qu
 use Rattle.mesh_plane.proofs.Ring.{ring, var, lit, neg, ◌⊕◌, ◌⊖◌, cross_of}
 use Rattle.mesh_plane.proofs.Sizes.{length_opposite}
 use Rattle.mesh_plane.proofs.Whole.{one_mul}
-use Rattle.mesh_num.specs.Direction.{IsShort, IsFresh, scaled_direction}
-use Rattle.mesh_num.proofs.Scaling.{scaled_direction_opposite}
+use Rattle.mesh_grid.specs.Direction.{IsShort, IsFresh, scaled_direction}
+use Rattle.mesh_grid.proofs.Scaling.{scaled_direction_opposite}
 use Rattle.mesh_arc.specs.declared.arc.ArcDirection.TheVariants.{Clockwise, Counterclockwise}
 use Rattle.mesh_join.specs.Joints.{Joint, IsTurn, contact}
 use Rattle.mesh_cap.specs.Ends.{IsEnd, half_turn}

@@ -8,8 +8,8 @@ use Rattle.mesh_plane.specs.Plane.{Point, Edge, plus, minus, dot, turn, right_qu
 use Rattle.mesh_plane.specs.Bounds.{IsSafe}
 use Rattle.mesh_plane.proofs.Ring.{ring, var, neg, ◌⊕◌, ◌⊖◌, cross_of, dot_of}
 use Rattle.mesh_plane.proofs.Sizes.{dot_self}
-use Rattle.mesh_num.specs.Direction.{IsShort, scaled_direction}
-use Rattle.mesh_num.proofs.Scaling.{scaled_direction_bounded}
+use Rattle.mesh_grid.specs.Direction.{IsShort, scaled_direction}
+use Rattle.mesh_grid.proofs.Scaling.{scaled_direction_bounded}
 use Rattle.mesh_join.specs.Joints.{Joint, IsWithinPadding}
 use Rattle.mesh_join.proofs.Joints.{within_safe}
 use Rattle.mesh_cap.specs.Caps.{CapKind, IsCapped}

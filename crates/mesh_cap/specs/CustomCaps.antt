@@ -2,7 +2,7 @@
 -- end looks.
 use Rattle.std.specs.Prelude.{ℕ, suc, zero, ◌*◌, max, map, List, [], ◌∷◌, ℤ, pos, if◌then◌else◌, nat_eq}
 use Rattle.mesh_plane.specs.Plane.{Point, plus, length_sq}
-use Rattle.mesh_num.specs.Rotation.{turned_along}
+use Rattle.mesh_grid.specs.Rotation.{turned_along}
 use Rattle.mesh_sine.specs.Sine.{root}
 use Rattle.mesh_join.specs.Joints.{Joint}
 

@@ -1,7 +1,7 @@
 -- The ends of an open path, round which caps are drawn.
 use Rattle.std.specs.Prelude.{ℕ, ◌≡◌, ℤ}
 use Rattle.mesh_plane.specs.Plane.{Point, opposite}
-use Rattle.mesh_num.specs.Direction.{IsFresh}
+use Rattle.mesh_grid.specs.Direction.{IsFresh}
 use Rattle.mesh_join.specs.Joints.{Joint, joint, contact}
 use Rattle.mesh_arc.specs.declared.arc.ArcDirection.TheVariants.{Clockwise, Counterclockwise}
 

@@ -1,7 +1,7 @@
 -- Square caps: the edge through the end is moved outwards by the radius.
 use Rattle.std.specs.Prelude.{ℕ, ◌*◌, List, [], ◌∷◌, ℤ, pos, unsigned_abs}
 use Rattle.mesh_plane.specs.Plane.{Point, plus}
-use Rattle.mesh_num.specs.Direction.{scaled_direction}
+use Rattle.mesh_grid.specs.Direction.{scaled_direction}
 use Rattle.mesh_join.specs.Joints.{Joint}
 
 -- both points beside the end, moved outwards

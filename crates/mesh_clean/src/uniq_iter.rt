@@ -8,8 +8,8 @@ ghost use Rattle.mesh_plane.specs.Bounds.{IsSafe};
 ghost use Rattle.mesh_plane.specs.Winding.{boundary, winding, same_point};
 ghost use Rattle.mesh_clean.specs.Cleaned.{is_kept, cleaned_sections, open_sections, AllEqual, IsClean};
 
-use mesh_num::num::convert::{is_less, is_wide_less};
-use mesh_num::num::{IntNumber, IntPoint};
+use mesh_grid::num::convert::{is_less, is_wide_less};
+use mesh_grid::num::{IntNumber, IntPoint};
 use std::marker::Model;
 
 /// A directed edge of a contour from `a` to `b`.

@@ -10,7 +10,7 @@ use Rattle.mesh_plane.specs.Plane.{Edge, Point}
 use Rattle.mesh_plane.specs.Winding.{crossing_on}
 use Rattle.mesh_plane.proofs.Sums.{total_permutation}
 use Rattle.mesh_plane.proofs.Balance.{balanced_permutation}
-use Rattle.mesh_num.specs.Rectangle.{IsSafeWidened}
+use Rattle.mesh_grid.specs.Rectangle.{IsSafeWidened}
 use Rattle.mesh_num.specs.Segments.{SignedEdge, edge_of}
 use Rattle.mesh_draw.specs.Adding.{Adds, added, added_edges}
 use Rattle.mesh_draw.specs.Drawing.{AreDrawn}

@@ -6,3 +6,4 @@ pub mod PaddingBounds
 pub mod ProperEdges
 pub mod Resolving
 pub mod Staying
+pub mod Walks

@@ -3,7 +3,7 @@ use Rattle.std.proofs.Common.{ℕ, arith, List, ◌*◌, ◌≤◌, ◌≡◌}
 use Rattle.std.specs.Prelude.{ℤ, pos, ◌≤ℤ◌, unsigned_abs}
 use Rattle.std.proofs.lemmas.Int.{ints}
 use Rattle.mesh_plane.specs.Plane.{Point, plus, right_quarter, Edge, minus}
-use Rattle.mesh_num.specs.Rectangle.{IsSafeWidened}
+use Rattle.mesh_grid.specs.Rectangle.{IsSafeWidened}
 use Rattle.std.specs.List.{All, Contains}
 use Rattle.std.proofs.lemmas.List.Elements.{All-weaker, All-contains}
 use Rattle.mesh_draw.specs.Padding.{ArePathsSafe, IsNear}

@@ -9,7 +9,7 @@ use Rattle.std.proofs.Math.Nat.{mul-le-mul_right}
 use Rattle.mesh_plane.proofs.ClosedLists.{all_flat_map}
 use Rattle.mesh_plane.specs.Bounds.{IsSafe, IsSmall, IsWithin}
 use Rattle.mesh_plane.specs.Plane.{Point, Edge, plus, minus}
-use Rattle.mesh_num.specs.Rectangle.{IsInRectangle, IsBounds, IsSafeRectangle, IsSafeWidened}
+use Rattle.mesh_grid.specs.Rectangle.{IsInRectangle, IsBounds, IsSafeRectangle, IsSafeWidened}
 use Rattle.mesh_plane.proofs.ClosedLists.{all_left, all_right}
 use Rattle.mesh_draw.specs.Padding.{ArePathsSafe, all_points, widened}
 

@@ -1,5 +1,7 @@
 -- How edges that are drawn, and those that contours give to an outline, are added to segments.
-use Rattle.std.specs.Prelude.{ℕ, ◌≡◌, List, ◌++◌, map, length, take, drop}
+use Rattle.std.specs.Prelude.{ℕ, ◌≡◌, ◌+◌, ◌≤◌, List, ◌++◌, map, length, take, drop, vec_capacity}
+use Rattle.std.specs.declared.alloc.Global.{Global}
+use Rattle.std.specs.declared.vec.Vec.{Vec}
 use Rattle.mesh_plane.specs.Plane.{Edge, Point}
 use Rattle.mesh_num.specs.Segments.{SignedEdge, segments_of, edges_of, IsSubject}
 use Rattle.mesh_plane.specs.Winding.{IsBalanced, boundary}
@@ -44,3 +46,7 @@ added_edges old new = edges_of (added old new)
 -- the edges of an answer's contours
 abbrev pub answer_edges : List (List (List Point)) → List Edge
 answer_edges answer = flat_map boundary (contours_of answer)
+
+-- the vector has room for so many more items
+abbrev pub HasRoomFor : {X : Type 0} → Vec X Global → ℕ → Type 0
+HasRoomFor v count = length v.items + count ≤ vec_capacity v

@@ -1,4 +1,6 @@
 pub mod Adding
 pub mod Drawing
 pub mod Padding
+pub mod Radii
 pub mod Staying
+pub mod Walks

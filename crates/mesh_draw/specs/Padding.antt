@@ -2,7 +2,7 @@
 use Rattle.std.specs.Prelude.{ℕ, List, ℤ}
 use Rattle.std.specs.List.{All, Contains, flat_map}
 use Rattle.mesh_plane.specs.Plane.{Point, Edge, plus, minus}
-use Rattle.mesh_num.specs.Rectangle.{IsSafeWidened}
+use Rattle.mesh_grid.specs.Rectangle.{IsSafeWidened}
 use Rattle.mesh_join.specs.Joints.{IsWithinPadding}
 
 -- each point of each path stays safe where it moves by at most the padding
@@ -22,3 +22,7 @@ pub record IsNear (padding : ℤ) (vertices : List Point) (p : Point) : Type 0 w
   pub vertex : Point
   pub listed : Contains vertices vertex
   pub within : IsWithinPadding padding vertex p
+
+-- both ends of each edge are away from one of the points by at most the padding in each coordinate
+abbrev pub AreEndsNear : ℤ → List Point → List Edge → Type 0
+AreEndsNear padding points es = All (λ (e : Edge). IsNear padding points e.0 × IsNear padding points e.1) es

@@ -2,7 +2,7 @@
 
 ghost use Rattle.std.specs.Prelude.{◌≡◌, ◌↔◌, ◌≤ℤ◌, pos, IsTrue, IsOk, OnErr};
 ghost use Rattle.std.specs.List.{All};
-ghost use Rattle.mesh_num.specs.Rectangle.{IsSafeRectangle, IsSafeWidened};
+ghost use Rattle.mesh_grid.specs.Rectangle.{IsSafeRectangle, IsSafeWidened};
 ghost use Rattle.mesh_plane.specs.Bounds.{IsSafe, IsSmall};
 ghost use Rattle.mesh_draw.specs.Padding.{widened, ArePathsSafe};
 

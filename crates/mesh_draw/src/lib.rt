@@ -7,3 +7,4 @@
 
 pub mod bounds;
 pub mod error;
+pub mod radius;

@@ -4,8 +4,8 @@ use Rattle.std.specs.Prelude.{ℤ, pos, ◌≤ℤ◌, unsigned_abs}
 use Rattle.std.proofs.lemmas.Int.{ints}
 use Rattle.mesh_plane.specs.Plane.{Point, plus, minus, right_quarter}
 use Rattle.mesh_plane.proofs.ClosedLists.{route_all}
-use Rattle.mesh_num.specs.Direction.{IsShort, scaled_direction}
-use Rattle.mesh_num.proofs.Scaling.{scaled_direction_bounded}
+use Rattle.mesh_grid.specs.Direction.{IsShort, scaled_direction}
+use Rattle.mesh_grid.proofs.Scaling.{scaled_direction_bounded}
 use Rattle.mesh_join.proofs.Bevels.{bevel_keeps}
 use Rattle.mesh_join.proofs.Joints.{contact_within}
 use Rattle.mesh_join.proofs.JoinLaws.{KeepsJoints}

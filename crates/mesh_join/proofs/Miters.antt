@@ -13,11 +13,11 @@ use Rattle.mesh_plane.specs.Winding.{route, same_point}
 use Rattle.mesh_plane.proofs.Rounding.{rounded_at_least, rounded_at_most}
 use Rattle.mesh_plane.proofs.Whole.{mul_le_mul_left}
 use Rattle.mesh_plane.specs.Bounds.{IsSafe, IsWithin}
-use Rattle.mesh_num.specs.Quotient.{rounded_product}
+use Rattle.mesh_grid.specs.Quotient.{rounded_product}
 use Rattle.mesh_sine.proofs.Lengths.{sine_at_most}
 use Rattle.mesh_sine.proofs.Small.{sine_not_small}
 use Rattle.mesh_join.proofs.Bevels.{nothing_between}
-use Rattle.mesh_num.specs.Rectangle.{IsSafeWidened}
+use Rattle.mesh_grid.specs.Rectangle.{IsSafeWidened}
 use Rattle.mesh_num.specs.Segments.{segments_of}
 use Rattle.mesh_join.proofs.Joints.{within_safe, both_are, le_test}
 use Rattle.mesh_join.proofs.JoinLaws.{KeepsJoint, KeepsJoints}

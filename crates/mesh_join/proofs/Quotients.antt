@@ -9,7 +9,7 @@ use Rattle.mesh_plane.specs.Rounding.{rounded}
 use Rattle.mesh_plane.proofs.Rounding.{rounded_within}
 use Rattle.mesh_plane.proofs.Sizes.{size_neg}
 use Rattle.mesh_plane.specs.Plane.{Point, cross, dot}
-use Rattle.mesh_num.specs.Quotient.{rounded_product}
+use Rattle.mesh_grid.specs.Quotient.{rounded_product}
 use Rattle.mesh_join.specs.Midway.Miters.{IsNarrow}
 
 -- rounding makes no size greater

@@ -4,9 +4,9 @@ ghost use Rattle.std.specs.Prelude.{◌≡◌, ◌≢◌, [], ◌∷◌, ◌^◌
 ghost use Rattle.std.specs.Prelude.{pos, ◌*ℤ◌, unsigned_abs, int_lt};
 ghost use Rattle.mesh_plane.specs.Bounds.{IsWithin};
 ghost use Rattle.mesh_plane.specs.Plane.{minus, length_sq, cross as cross_of, dot as dot_of};
-ghost use Rattle.mesh_num.specs.Direction.{scaled_direction};
-ghost use Rattle.mesh_num.specs.Quotient.{rounded_product as product_over};
-ghost use Rattle.mesh_num.specs.Rectangle.{IsSafeWidened};
+ghost use Rattle.mesh_grid.specs.Direction.{scaled_direction};
+ghost use Rattle.mesh_grid.specs.Quotient.{rounded_product as product_over};
+ghost use Rattle.mesh_grid.specs.Rectangle.{IsSafeWidened};
 ghost use Rattle.mesh_join.specs.Appending.{Appends, HasRoomForEdges};
 ghost use Rattle.mesh_join.specs.Joins.{IsJoint};
 ghost use Rattle.mesh_join.specs.Methods.{style_of_miter};

@@ -4,9 +4,9 @@ ghost use Rattle.std.specs.Prelude.{◌≡◌, ◌≤◌, false, map, length, ta
 ghost use Rattle.mesh_plane.specs.Bounds.{IsSafe};
 ghost use Rattle.mesh_plane.specs.Plane.{plus, minus};
 ghost use Rattle.mesh_plane.specs.Winding.{route, same_point};
-ghost use Rattle.mesh_num.specs.Direction.{IsFresh};
-ghost use Rattle.mesh_num.specs.Directed.{direction_of};
-ghost use Rattle.mesh_num.specs.Rectangle.{IsSafeWidened};
+ghost use Rattle.mesh_grid.specs.Direction.{IsFresh};
+ghost use Rattle.mesh_grid.specs.Directed.{direction_of};
+ghost use Rattle.mesh_grid.specs.Rectangle.{IsSafeWidened};
 ghost use Rattle.mesh_join.specs.Appending.{Appends};
 ghost use Rattle.mesh_join.specs.Joins.{IsJoint};
 ghost use Rattle.mesh_join.specs.Methods.{style_of_round};

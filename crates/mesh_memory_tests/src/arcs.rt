@@ -1,7 +1,7 @@
 //! Arcs for which memory is refused.
 
 ghost use Rattle.std.specs.Prelude.{◌^◌};
-ghost use Rattle.mesh_num.specs.Direction.{IsFresh};
+ghost use Rattle.mesh_grid.specs.Direction.{IsFresh};
 
 use mesh_join::arc::{ArcBuilder, ArcDirection, ArcOptions};
 use mesh_num::num::{Angle, IntVector, UnitIntVector};

@@ -1,13 +1,4 @@
-pub mod Directed
 pub mod FlatContours
-pub mod Normalized
-pub mod Parts
 pub mod Paths
-pub mod Products
-pub mod Rectangles
-pub mod Roots
-pub mod Rotations
-pub mod Scaling
 pub mod SegmentLists
 pub mod Subjects
-pub mod Turns

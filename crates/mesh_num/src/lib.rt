@@ -1,6 +1,7 @@
-//! Numbers, points, directions, segments and paths of integer polygon offsetting.
+//! Paths as sources of points, buffers of contours and signed segments; and, from `mesh_grid`, the numbers and points
+//! that they are made of.
 #![tactic(auto)]
 
-pub mod laws;
-pub mod num;
 pub mod shape;
+
+pub use mesh_grid::{laws, num};

@@ -1,23 +1,22 @@
 -- Lemmas over points: an outer corner of an outline is as a join asks, so its join keeps what joins keep.
-use Rattle.std.proofs.Common.{◌≡◌, ◌≢◌, ℕ, ◌*◌, ◌<◌, ◌≤◌, ◌^◌, ◌⊎◌, inl, inr, Bool, true, false, cond, List, map, refl, sym, subst, ◌∙◌, ap, arith, zero, suc}
-use Rattle.std.specs.Prelude.{ℤ, pos, neg_ℤ, ◌+ℤ◌, ◌-ℤ◌, ◌*ℤ◌, ◌≤ℤ◌, ◌<ℤ◌, unsigned_abs, leb, int_lt}
+use Rattle.std.proofs.Common.{◌≡◌, ◌≢◌, ℕ, ◌<◌, ◌≤◌, ◌^◌, Bool, true, false, cond, List, map, refl, sym, subst, ◌∙◌, ap, arith}
+use Rattle.std.specs.Prelude.{ℤ, pos, neg_ℤ, ◌+ℤ◌, ◌-ℤ◌, ◌*ℤ◌, ◌≤ℤ◌, ◌<ℤ◌, unsigned_abs, int_lt}
 use Rattle.std.specs.Ordering.{int_eq}
 use Rattle.std.specs.List.{All}
 use Rattle.std.proofs.Math.Bool.{beq}
-use Rattle.std.proofs.lemmas.Bool.Decides.{leb_tells}
 use Rattle.std.proofs.lemmas.Int.{ints}
 use Rattle.std.proofs.lemmas.List.Elements.{All-map, All-weaker}
 use Rattle.mesh_plane.proofs.Identities.{cross_flip}
 use Rattle.mesh_draw.proofs.Apart.{apart_long}
-use Rattle.mesh_plane.specs.Plane.{Point, Edge, plus, minus, opposite, cross, dot, turn, right_quarter, length_sq}
-use Rattle.mesh_num.specs.Direction.{IsFresh, IsShort, scaled_direction}
-use Rattle.mesh_num.specs.Directed.{direction_of}
+use Rattle.mesh_plane.specs.Plane.{Point, Edge, plus, minus, opposite, cross, dot, turn, right_quarter}
+use Rattle.mesh_grid.specs.Direction.{IsFresh, IsShort, scaled_direction}
+use Rattle.mesh_grid.specs.Directed.{direction_of}
 use Rattle.mesh_plane.specs.Winding.{boundary}
 use Rattle.mesh_plane.proofs.Whole.{linear, multiplied}
 use Rattle.mesh_plane.proofs.ClosedLists.{boundary_map, boundary_all, all_both}
-use Rattle.mesh_num.proofs.Parts.{direction_fresh, direction_short}
-use Rattle.mesh_num.proofs.Scaling.{scaled_direction_opposite_radius, scaled_turn_kept, scaled_parallel_kept}
-use Rattle.mesh_num.proofs.Directed.{direction_of_is}
+use Rattle.mesh_grid.proofs.Parts.{direction_fresh, direction_short}
+use Rattle.mesh_grid.proofs.Scaling.{scaled_direction_opposite_radius, scaled_turn_kept, scaled_parallel_kept}
+use Rattle.mesh_grid.proofs.Directed.{direction_of_is}
 use Rattle.mesh_join.proofs.JoinLaws.{KeepsJoint, KeepsJoints}
 use Rattle.mesh_join.proofs.Joins.{join_keeps}
 use Rattle.mesh_arc.specs.declared.arc.ArcDirection.TheVariants.{Clockwise, Counterclockwise}

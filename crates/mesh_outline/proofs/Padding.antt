@@ -6,14 +6,14 @@ use Rattle.std.proofs.lemmas.Int.{ints, clamps}
 use Rattle.std.proofs.lemmas.List.Elements.{All-nil, All-cons, All-map, All-append, All-filter, All-weaker}
 use Rattle.mesh_plane.specs.Bounds.{IsSafe}
 use Rattle.mesh_plane.specs.Plane.{Point, Edge, minus}
-use Rattle.mesh_num.specs.Direction.{IsDirection, scaled_direction}
-use Rattle.mesh_num.specs.Directed.{direction_of}
-use Rattle.mesh_num.specs.Rectangle.{IsSafeWidened}
+use Rattle.mesh_grid.specs.Direction.{IsDirection, scaled_direction}
+use Rattle.mesh_grid.specs.Directed.{direction_of}
+use Rattle.mesh_grid.specs.Rectangle.{IsSafeWidened}
 use Rattle.mesh_plane.specs.Winding.{boundary, same_point}
 use Rattle.mesh_plane.proofs.ClosedLists.{boundary_all, all_both, all_flat_map, route_all}
-use Rattle.mesh_num.proofs.Directed.{direction_of_is}
-use Rattle.mesh_num.proofs.Parts.{direction_short}
-use Rattle.mesh_num.proofs.Scaling.{scaled_direction_bounded}
+use Rattle.mesh_grid.proofs.Directed.{direction_of_is}
+use Rattle.mesh_grid.proofs.Parts.{direction_short}
+use Rattle.mesh_grid.proofs.Scaling.{scaled_direction_bounded}
 use Rattle.mesh_join.proofs.JoinLaws.{KeepsJoint}
 use Rattle.mesh_join.proofs.Joins.{join_keeps, padding_covers}
 use Rattle.mesh_join.specs.Joins.{between, offset_padding, outline_padding}

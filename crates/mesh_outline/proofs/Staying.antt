@@ -11,7 +11,7 @@ use Rattle.mesh_plane.specs.Winding.{same_point}
 use Rattle.mesh_clean.specs.Cleaned.{cleaned_sections}
 use Rattle.mesh_cuts.specs.Reach.{AreEdgesSafe}
 use Rattle.mesh_below.proofs.AnswerPoints.{resolution_safe}
-use Rattle.mesh_num.specs.Rectangle.{IsSafeWidened}
+use Rattle.mesh_grid.specs.Rectangle.{IsSafeWidened}
 use Rattle.mesh_shapes.specs.Contours.{double_area}
 use Rattle.mesh_join.specs.Joins.{outline_padding}
 use Rattle.mesh_join.specs.Styles.{OffsetJoin, OutlineStyle, outer, inner}

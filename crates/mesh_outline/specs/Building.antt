@@ -1,14 +1,10 @@
 -- What the outline's builder asks and adds.
-use Rattle.std.specs.Prelude.{ℕ, ◌≡◌, ◌≢◌, ◌+◌, ◌≤◌, List, length, vec_capacity, ℤ, pos, unsigned_abs, Option}
-use Rattle.std.specs.List.{All}
-use Rattle.std.specs.declared.alloc.Global.{Global}
-use Rattle.std.specs.declared.vec.Vec.{Vec}
-use Rattle.mesh_plane.specs.Plane.{Point, Edge}
-use Rattle.mesh_num.specs.Rectangle.{IsSafeWidened}
+use Rattle.std.specs.Prelude.{ℕ, ◌≡◌, ◌≢◌, List, ℤ, pos, unsigned_abs, Option}
+use Rattle.mesh_plane.specs.Plane.{Point}
+use Rattle.mesh_grid.specs.Rectangle.{IsSafeWidened}
 use Rattle.mesh_join.specs.Joins.{offset_padding}
 use Rattle.mesh_join.specs.Styles.{JoinStyle, OffsetJoin, OutlineStyle}
 use Rattle.mesh_num.specs.Segments.{SignedEdge, segments_of, segment_between}
-use Rattle.mesh_draw.specs.Padding.{IsNear}
 use Rattle.mesh_outline.specs.Kinds.{kind_for, way_for}
 use Rattle.mesh_outline.specs.Outline.{Section, Corner, own_edge, section_of, corner_edges, parts, joined}
 
@@ -23,14 +19,6 @@ offset_join offset join = record { offset = offset; join = join }
 -- a point that stays safe where it moves by at most the padding of the offset's joins
 abbrev pub IsMovable : ℕ → OffsetJoin → Point → Type 0
 IsMovable unit style p = IsSafeWidened unit (offset_padding style) p
-
--- each end of the edges is away from one of the vertices by at most the padding in each coordinate
-abbrev pub AreEndsNear : ℤ → List Point → List Edge → Type 0
-AreEndsNear padding vertices edges = All (λ (e : Edge). IsNear padding vertices e.0 × IsNear padding vertices e.1) edges
-
--- the vector has room for so many more items
-abbrev pub HasRoomFor : {X : Type 0} → Vec X Global → ℕ → Type 0
-HasRoomFor v count = length v.items + count ≤ vec_capacity v
 
 -- the section of an edge with different ends, both of which stay safe where they move by the offset's size
 pub record IsMoved (unit : ℕ) (offset : ℤ) (s : Section) : Type 0 where

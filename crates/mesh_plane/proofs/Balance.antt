@@ -42,7 +42,7 @@ marked_is : (b : Bool) → cond b (pos 1) (pos 0) ≡ pos (cond b 1 0)
 marked_is true = refl
 marked_is false = refl
 
-marks_counted : {A : Type 0} (t : A → Bool) (xs : List A) → sum_of (λ x. cond (t x) (pos 1) (pos 0)) xs ≡ pos (count_by t xs)
+pub marks_counted : {A : Type 0} (t : A → Bool) (xs : List A) → sum_of (λ x. cond (t x) (pos 1) (pos 0)) xs ≡ pos (count_by t xs)
 marks_counted t [] = refl
 marks_counted t (x ∷ xs) = omega (arith, ints, marks_counted t xs, marked_is (t x), sum_by-cons (λ x. cond (t x) 1 0) x xs)
 

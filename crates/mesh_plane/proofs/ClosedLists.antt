@@ -84,7 +84,8 @@ boundary_rotated f (x ∷ xs) (y ∷ ys) =
     rw (route_append x xs y ys x, route_append y ys x xs y)
     (omega (arith, linear, sum_of_append f (route x xs y) (route y ys x), sum_of_append f (route y ys x) (route x xs y)))
 
-regrouped : {B : Type 0} (a b c d : List B) → IsPermutation ((a ++ b) ++ (c ++ d)) ((a ++ c) ++ (b ++ d))
+-- two lists between two others may be exchanged
+pub regrouped : {B : Type 0} (a b c d : List B) → IsPermutation ((a ++ b) ++ (c ++ d)) ((a ++ c) ++ (b ++ d))
 regrouped {B} a b c d =
     let swapped : IsPermutation ((b ++ c) ++ d) ((c ++ b) ++ d) =
     IsPermutation-append_left d (b ++ c) (c ++ b) (IsPermutation-append_comm b c) in

@@ -1,19 +1,11 @@
 -- Lemmas over lists: values of JSON in lists and in objects.
-use Rattle.std.proofs.Common.{◌≡◌, ℕ, List, [], ◌∷◌, String, Global, length, Bool, false, None, ◌||◌, refl, ap, arith}
+use Rattle.std.proofs.Common.{◌≡◌, List, [], ◌∷◌, false, refl}
 use Rattle.std.specs.Prelude.{ℤ, pos, negsuc}
-use Rattle.std.specs.Map.{values_of}
 use Rattle.serde_json.specs.Data.{Data}
 use Rattle.serde_json.specs.Find.{is_float, of_integer}
-use Rattle.serde_json.specs.View.{view, items_view, members_view}
-use Rattle.serde_json.specs.Written.{has_float, items_have_float, members_have_float}
-use Rattle.serde_json.specs.declared.value.Value.{Value}
+use Rattle.serde_json.specs.Written.{has_float}
 use Rattle.mesh_plane.specs.Plane.{Point, Edge}
-use Rattle.mesh_service.specs.Reading.{pair_of, options_in}
 use Rattle.mesh_service.specs.Lines.{point_data, edge_data, list_data, edges_data, shapes_data}
-
-pub members_float : (ms : List (String Global × Value)) → members_have_float (members_view ms) ≡ items_have_float (items_view (values_of ms))
-members_float [] = refl
-members_float (m ∷ ms) = ap (λ (b : Bool). has_float (view m.1) || b) (members_float ms)
 
 whole_no_float : (z : ℤ) → is_float (of_integer z) ≡ false
 whole_no_float (pos n) = refl
@@ -36,17 +28,3 @@ edges_no_float lists = rw (list_no_float (list_data edge_data) (list_no_float ed
 pub shapes_no_float : (shapes : List (List (List Point))) → has_float (shapes_data shapes) ≡ false
 shapes_no_float shapes =
     rw (list_no_float (list_data (list_data point_data)) (list_no_float (list_data point_data) (list_no_float point_data point_no_float)) shapes) refl
-
--- a list of another length than two is no pair
-pub no_pair : (unit : ℕ) (vs : List Value) → (length vs ≡ 2 → ⊥) → pair_of unit (items_view vs) ≡ None
-no_pair unit [] h = refl
-no_pair unit (x ∷ []) h = refl
-no_pair unit (x ∷ y ∷ []) h = absurd (h (omega arith))
-no_pair unit (x ∷ y ∷ z ∷ vs) h = refl
-
--- nor the options of an arc
-pub no_options : (vs : List Value) → (length vs ≡ 2 → ⊥) → options_in (items_view vs) ≡ None
-no_options [] h = refl
-no_options (x ∷ []) h = refl
-no_options (x ∷ y ∷ []) h = absurd (h (omega arith))
-no_options (x ∷ y ∷ z ∷ vs) h = refl

@@ -1,5 +1,3 @@
 pub mod JsonLists
-pub mod JsonMembers
 pub mod PathsServed
-pub mod Ranges
 pub mod Replies

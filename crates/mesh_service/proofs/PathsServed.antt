@@ -20,13 +20,13 @@ use Rattle.mesh_join.specs.Styles.{OffsetJoin, OutlineStyle}
 use Rattle.mesh_outline.specs.Resolved.{DoAreasFit}
 use Rattle.mesh_draw.specs.declared.error.IntOutlineError.{IntOutlineError}
 use Rattle.mesh_draw.specs.declared.error.IntOutlineError.TheVariants.{CoordinateOutOfRange, OutOfMemory}
-use Rattle.mesh_service.specs.declared.failure.Failure.TheVariants.{Refused}
+use Rattle.mesh_request.specs.declared.failure.Failure.TheVariants.{Refused}
 use Rattle.serde_json.specs.Data.{Data}
 use Rattle.serde_json.specs.Read.{read}
 use Rattle.serde_json.specs.Written.{has_float}
 use Rattle.mesh_service.specs.Lines.{edges_text, shapes_text}
-use Rattle.mesh_service.specs.Reading.{request_of, IsOfReading}
-use Rattle.mesh_service.specs.Requests.{Asked, Request}
+use Rattle.mesh_request.specs.Reading.{request_of, IsOfReading}
+use Rattle.mesh_request.specs.Requests.{Asked, Request}
 use Rattle.mesh_service.specs.Served.{AreEdgesOf, AreShapesOf, IsAccepted, Lists, Answers, served_edges, moved_edges}
 use Rattle.mesh_service.specs.Serving.{exact_request, request_in}
 

@@ -4,13 +4,13 @@ use Rattle.std.specs.Prelude.{string_bytes, IsUtf8}
 use Rattle.std.proofs.lemmas.Option.{none-some}
 use Rattle.std.specs.Io.KnownBytes.{Appends}
 use Rattle.mesh_draw.specs.declared.error.IntOutlineError.TheVariants.{CoordinateOutOfRange, OutOfMemory}
-use Rattle.mesh_service.specs.Failures.{failure_line, told_line}
-use Rattle.mesh_service.specs.Reading.{IsOfReading}
-use Rattle.mesh_service.specs.Requests.{Request}
+use Rattle.mesh_request.specs.Failures.{failure_line, told_line}
+use Rattle.mesh_request.specs.Reading.{IsOfReading}
+use Rattle.mesh_request.specs.Requests.{Request}
 use Rattle.mesh_service.specs.Served.{IsAccepted}
 use Rattle.mesh_service.specs.Serving.{IsAnswer, IsRefused, IsReply, TellsRefusal, MetRefusal, request_in}
-use Rattle.mesh_service.specs.declared.failure.Failure.{Failure}
-use Rattle.mesh_service.specs.declared.failure.Failure.TheVariants.{Unreadable, Refused}
+use Rattle.mesh_request.specs.declared.failure.Failure.{Failure}
+use Rattle.mesh_request.specs.declared.failure.Failure.TheVariants.{Unreadable, Refused}
 
 -- the line of a failure to read is a reply
 pub reading_told : (left : Option (List ℕ)) (failure : Failure) → IsOfReading failure → IsReply left (failure_line failure)

@@ -1,6 +1,6 @@
-pub mod Failures
 pub mod Lines
-pub mod Reading
-pub mod Requests
 pub mod Served
 pub mod Serving
+pub use Rattle.mesh_request.specs.Failures
+pub use Rattle.mesh_request.specs.Reading
+pub use Rattle.mesh_request.specs.Requests

@@ -16,7 +16,7 @@ use Rattle.mesh_stroke.specs.Strokes.{stroke_edges}
 use Rattle.mesh_stroke.specs.Styles.{StrokeStyle, stroke_padding}
 use Rattle.mesh_stroke_calls.specs.Resolved.{IsStroke}
 use Rattle.mesh_service.specs.Lines.{edge_order, edges_text, shapes_text}
-use Rattle.mesh_service.specs.Requests.{Drawn, as_outline, as_stroke, Asked, Request}
+use Rattle.mesh_request.specs.Requests.{Drawn, as_outline, as_stroke, Asked, Request}
 
 -- paths may be outlined where they stay safe as they move by the padding of the style, and the double area of each fits
 -- the wide type, which holds the whole numbers from `-8 * unit * unit` on that are below `8 * unit * unit`

@@ -8,12 +8,12 @@ use Rattle.serde_json.specs.Data.{Data}
 use Rattle.serde_json.specs.Read.{read}
 use Rattle.serde_json.specs.Written.{has_float}
 use Rattle.mesh_draw.specs.declared.error.IntOutlineError.TheVariants.{CoordinateOutOfRange, OutOfMemory}
-use Rattle.mesh_service.specs.Failures.{failure_line}
-use Rattle.mesh_service.specs.Reading.{request_of}
-use Rattle.mesh_service.specs.Requests.{Request}
+use Rattle.mesh_request.specs.Failures.{failure_line}
+use Rattle.mesh_request.specs.Reading.{request_of}
+use Rattle.mesh_request.specs.Requests.{Request}
 use Rattle.mesh_service.specs.Served.{IsAccepted, Answers}
-use Rattle.mesh_service.specs.declared.failure.Failure.{Failure}
-use Rattle.mesh_service.specs.declared.failure.Failure.TheVariants.{Unreadable, Refused}
+use Rattle.mesh_request.specs.declared.failure.Failure.{Failure}
+use Rattle.mesh_request.specs.declared.failure.Failure.TheVariants.{Unreadable, Refused}
 
 -- the request that data is; a number that is no whole number of 64 bits makes it none
 abbrev pub exact_request : Data → Option Request

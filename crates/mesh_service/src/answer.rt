@@ -1,14 +1,16 @@
 //! Answers, written as JSON.
 
 ghost use Rattle.std.specs.Prelude.{◌≡◌, IfOk, string_bytes, codes, false};
+ghost use Rattle.serde_json.specs.Data.{number as number_value};
+ghost use Rattle.serde_json.specs.Find.{of_integer};
 ghost use Rattle.serde_json.specs.View.{view};
 ghost use Rattle.serde_json.specs.Written.{has_float};
 ghost use Rattle.mesh_num.specs.Paths.{paths_of, shapes_of};
 ghost use Rattle.mesh_service.specs.Lines.{point_data, edge_data, list_data, only_member, line_text, edges_text, shapes_text};
 
 use crate::edge::DirectedEdge;
-use crate::json::number;
-use mesh_num::num::{IntPoint, OverlayInt};
+use mesh_num::num::convert::widen;
+use mesh_num::num::{IntNumber, IntPoint, OverlayInt};
 use mesh_num::shape::buffer::IntShapes;
 use serde_json::{Value, json};
 use std::alloc::{AllocError, Global};
@@ -129,4 +131,11 @@ fn point_value<I: OverlayInt>(alloc: Global, point: IntPoint<I>) -> Result<Value
     ensures { IfOk result (λ v. view v ≡ point_data point) }
 {
     json!(in alloc; [number(point.x), number(point.y)])
+}
+
+/// A coordinate as a value.
+fn number<I: IntNumber>(coordinate: I) -> Value
+    ensures { view result ≡ number_value (of_integer (I.value coordinate)) }
+{
+    Value::from(widen(coordinate) as i64)
 }

@@ -2,9 +2,9 @@
 
 ghost use Rattle.std.specs.Prelude.{◌≡◌, ◌++◌, List, IfOk, IfErr, IfSome, IsTrue};
 ghost use Rattle.std.specs.Io.KnownBytes.{Consumes, IsAtEnd};
-ghost use Rattle.mesh_service.specs.Reading.{IsOfReading};
+ghost use Rattle.mesh_request.specs.Reading.{IsOfReading};
 
-use crate::failure::Failure;
+use mesh_request::failure::Failure;
 use std::alloc::Global;
 use std::io::{ErrorKind, Read};
 

@@ -4,7 +4,7 @@ ghost use Rattle.std.specs.Prelude.{◌≡◌, ◌↔◌, map, OnOk, IfOk};
 ghost use Rattle.std.specs.List.{All};
 ghost use Rattle.std.specs.List.Sorted.{IsPermutation};
 ghost use Rattle.mesh_num.specs.Paths.{paths_of, shapes_of};
-ghost use Rattle.mesh_num.specs.Rectangle.{IsSafeWidened};
+ghost use Rattle.mesh_grid.specs.Rectangle.{IsSafeWidened};
 ghost use Rattle.mesh_num.specs.Segments.{edges_of};
 ghost use Rattle.mesh_below.specs.Options.{choices_of};
 ghost use Rattle.mesh_join.specs.Joins.{outline_padding};
@@ -25,49 +25,42 @@ use mesh_join::style::IntOutlineStyle;
 use mesh_num::num::{IntPoint, OverlayInt};
 use mesh_num::shape::buffer::IntShapes;
 use mesh_num::shape::segment::Segment;
+use mesh_request::drawing::Outline;
 use std::alloc::{AllocError, Global};
 
-/// The outline of contours.
-#[derive(Drop)]
-pub struct Outline<I: OverlayInt> {
-    /// The closed contours to be outlined.
-    pub paths: Vec<Vec<IntPoint<I>>>,
-    /// The offsets of outer contours and of holes, and the joins.
-    pub style: IntOutlineStyle<I>,
+/// The edges of each path's outline, in their order. Nothing is built unless all paths may be outlined.
+pub fn edges<I: OverlayInt>(
+    alloc: Global,
+    outline: &Outline<I>,
+) -> Result<Vec<Vec<DirectedEdge<I>>>, IntOutlineError>
+    ensures edges { IfOk result (λ lists. AreListed (by_values I.cmp I.of_value)
+        (served_edges I.unit (style_of I.value outline.now.style))
+        (paths_of outline.now.paths.items) (paths_of lists.items)) }
+    ensures accepted { OnOk result (MayBeOutlined I.unit (style_of I.value outline.now.style)
+        (paths_of outline.now.paths.items)) }
+    ensures refused { result ≡ Err IntOutlineError.CoordinateOutOfRange
+        ↔ ¬ MayBeOutlined I.unit (style_of I.value outline.now.style) (paths_of outline.now.paths.items) }
+{
+    outline.paths.validate_outline(&outline.style)?;
+    let kinds = contour_kinds(&outline.paths, alloc)?;
+    Ok(edge_lists(alloc, &outline.paths, &kinds, &outline.style)?)
 }
 
-impl<I: OverlayInt> Outline<I> {
-    /// The edges of each path's outline, in their order. Nothing is built unless all paths may be outlined.
-    pub fn edges(&self, alloc: Global) -> Result<Vec<Vec<DirectedEdge<I>>>, IntOutlineError>
-        ensures edges { IfOk result (λ lists. AreListed (by_values I.cmp I.of_value)
-            (served_edges I.unit (style_of I.value self.now.style))
-            (paths_of self.now.paths.items) (paths_of lists.items)) }
-        ensures accepted { OnOk result (MayBeOutlined I.unit (style_of I.value self.now.style)
-            (paths_of self.now.paths.items)) }
-        ensures refused { result ≡ Err IntOutlineError.CoordinateOutOfRange
-            ↔ ¬ MayBeOutlined I.unit (style_of I.value self.now.style) (paths_of self.now.paths.items) }
-    {
-        self.paths.validate_outline(&self.style)?;
-        let kinds = contour_kinds(&self.paths, alloc)?;
-        Ok(edge_lists(alloc, &self.paths, &kinds, &self.style)?)
-    }
-
-    /// The shapes of the paths' outline.
-    pub fn shapes(
-        &self,
-        alloc: Global,
-        options: IntOverlayOptions<I::WideUInt>,
-    ) -> Result<IntShapes<I>, IntOutlineError>
-        ensures shapes { IfOk result (λ shapes. IsOutline I.unit (style_of I.value self.now.style)
-            (choices_of I.WideUInt.value options) (paths_of self.now.paths.items) (shapes_of shapes.items)) }
-        ensures accepted { OnOk result (MayBeOutlined I.unit (style_of I.value self.now.style)
-            (paths_of self.now.paths.items)) }
-        ensures refused { result ≡ Err IntOutlineError.CoordinateOutOfRange
-            ↔ ¬ MayBeOutlined I.unit (style_of I.value self.now.style) (paths_of self.now.paths.items) }
-    {
-        self.paths.validate_outline(&self.style)?;
-        self.paths.outline_custom(alloc, &self.style, options)
-    }
+/// The shapes of the paths' outline.
+pub fn shapes<I: OverlayInt>(
+    alloc: Global,
+    outline: &Outline<I>,
+    options: IntOverlayOptions<I::WideUInt>,
+) -> Result<IntShapes<I>, IntOutlineError>
+    ensures shapes { IfOk result (λ shapes. IsOutline I.unit (style_of I.value outline.now.style)
+        (choices_of I.WideUInt.value options) (paths_of outline.now.paths.items) (shapes_of shapes.items)) }
+    ensures accepted { OnOk result (MayBeOutlined I.unit (style_of I.value outline.now.style)
+        (paths_of outline.now.paths.items)) }
+    ensures refused { result ≡ Err IntOutlineError.CoordinateOutOfRange
+        ↔ ¬ MayBeOutlined I.unit (style_of I.value outline.now.style) (paths_of outline.now.paths.items) }
+{
+    outline.paths.validate_outline(&outline.style)?;
+    outline.paths.outline_custom(alloc, &outline.style, options)
 }
 
 /// The edges of the outline of each path, which is of the kind that stands at its place, in their order.

@@ -5,19 +5,20 @@ ghost use Rattle.std.specs.Io.KnownBytes.{Appends};
 ghost use Rattle.std.specs.Ordering.{int_cmp};
 ghost use Rattle.serde_json.specs.View.{view};
 ghost use Rattle.mesh_service.specs.Lines.{by_values};
-ghost use Rattle.mesh_service.specs.Failures.{failure_line, told_line};
-ghost use Rattle.mesh_service.specs.Reading.{request_as, request_of};
+ghost use Rattle.mesh_request.specs.Failures.{failure_line, told_line};
+ghost use Rattle.mesh_request.specs.Reading.{request_as, request_of};
 ghost use Rattle.mesh_service.specs.Served.{IsAccepted, Answers, AnswersAsked, MayNotBeAnswered};
 ghost use Rattle.mesh_service.specs.Serving.{request_in, IsAnswer, IsRefused, IsReply, AppendsBeginning, TellsRefusal, MetRefusal};
 
 use crate::answer::{edges_line, shapes_line};
-use crate::failure::Failure;
+use crate::drawing;
 use crate::input::read_to_end;
-use crate::json::{parse, says};
 use crate::output::write_line;
-use crate::request::{Output, Request, read_request};
 use i_overlay_mesh::IntOutlineError;
 use mesh_num::num::OverlayInt;
+use mesh_request::failure::Failure;
+use mesh_request::json::{parse, says};
+use mesh_request::request::{Output, Request, read_request};
 use serde_json::Value;
 use std::alloc::Global;
 use std::io;
@@ -142,11 +143,11 @@ fn request_line<I: OverlayInt>(
 {
     match request.output {
         Output::Edges => {
-            let edges = request.drawing.edges(alloc)?;
+            let edges = drawing::edges(alloc, &request.drawing)?;
             Ok(edges_line(alloc, &edges)?)
         }
         Output::Shapes(options) => {
-            let shapes = request.drawing.shapes(alloc, options)?;
+            let shapes = drawing::shapes(alloc, &request.drawing, options)?;
             Ok(shapes_line(alloc, &shapes)?)
         }
     }

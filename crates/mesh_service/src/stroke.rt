@@ -18,52 +18,44 @@ use mesh_below::below::IntOverlayOptions;
 use mesh_join::style::IntStrokeStyle;
 use mesh_num::num::{IntPoint, OverlayInt};
 use mesh_num::shape::buffer::IntShapes;
+use mesh_request::drawing::Stroke;
 use std::alloc::{AllocError, Global};
 
-/// The stroke of paths.
-#[derive(Drop)]
-pub struct Stroke<I: OverlayInt> {
-    /// The paths to be stroked.
-    pub paths: Vec<Vec<IntPoint<I>>>,
-    /// The width, the joins, and the caps of open paths.
-    pub style: IntStrokeStyle<I>,
-    /// Whether each path goes on from its last point to its first. A closed path has no caps.
-    pub closed: bool,
+/// The edges of each path's stroke, in their order. Nothing is built unless all paths may be stroked.
+pub fn edges<I: OverlayInt>(
+    alloc: Global,
+    stroke: &Stroke<I>,
+) -> Result<Vec<Vec<DirectedEdge<I>>>, IntOutlineError>
+    ensures edges { IfOk result (λ lists. AreListed (by_values I.cmp I.of_value)
+        (stroke_edges I.unit (stroke_style_of I.value stroke.now.style) stroke.now.closed)
+        (paths_of stroke.now.paths.items) (paths_of lists.items)) }
+    ensures accepted { OnOk result (MayBeStroked I.unit (stroke_style_of I.value stroke.now.style)
+        (paths_of stroke.now.paths.items)) }
+    ensures refused { result ≡ Err IntOutlineError.CoordinateOutOfRange
+        ↔ ¬ MayBeStroked I.unit (stroke_style_of I.value stroke.now.style) (paths_of stroke.now.paths.items) }
+{
+    stroke.paths.validate_stroke(&stroke.style)?;
+    Ok(edge_lists(alloc, &stroke.paths, &stroke.style, stroke.closed)?)
 }
 
-impl<I: OverlayInt> Stroke<I> {
-    /// The edges of each path's stroke, in their order. Nothing is built unless all paths may be stroked.
-    pub fn edges(&self, alloc: Global) -> Result<Vec<Vec<DirectedEdge<I>>>, IntOutlineError>
-        ensures edges { IfOk result (λ lists. AreListed (by_values I.cmp I.of_value)
-            (stroke_edges I.unit (stroke_style_of I.value self.now.style) self.now.closed)
-            (paths_of self.now.paths.items) (paths_of lists.items)) }
-        ensures accepted { OnOk result (MayBeStroked I.unit (stroke_style_of I.value self.now.style)
-            (paths_of self.now.paths.items)) }
-        ensures refused { result ≡ Err IntOutlineError.CoordinateOutOfRange
-            ↔ ¬ MayBeStroked I.unit (stroke_style_of I.value self.now.style) (paths_of self.now.paths.items) }
-    {
-        self.paths.validate_stroke(&self.style)?;
-        Ok(edge_lists(alloc, &self.paths, &self.style, self.closed)?)
-    }
-
-    /// The shapes of the paths' stroke.
-    pub fn shapes(
-        &self,
-        alloc: Global,
-        options: IntOverlayOptions<I::WideUInt>,
-    ) -> Result<IntShapes<I>, IntOutlineError>
-        ensures shapes { IfOk result (λ shapes. IsStroke I.unit (stroke_style_of I.value self.now.style)
-            self.now.closed (choices_of I.WideUInt.value options) (paths_of self.now.paths.items)
-            (shapes_of shapes.items)) }
-        ensures accepted { OnOk result (MayBeStroked I.unit (stroke_style_of I.value self.now.style)
-            (paths_of self.now.paths.items)) }
-        ensures refused { result ≡ Err IntOutlineError.CoordinateOutOfRange
-            ↔ ¬ MayBeStroked I.unit (stroke_style_of I.value self.now.style) (paths_of self.now.paths.items) }
-    {
-        self.paths.validate_stroke(&self.style)?;
-        self.paths
-            .stroke_custom(alloc, &self.style, self.closed, options)
-    }
+/// The shapes of the paths' stroke.
+pub fn shapes<I: OverlayInt>(
+    alloc: Global,
+    stroke: &Stroke<I>,
+    options: IntOverlayOptions<I::WideUInt>,
+) -> Result<IntShapes<I>, IntOutlineError>
+    ensures shapes { IfOk result (λ shapes. IsStroke I.unit (stroke_style_of I.value stroke.now.style)
+        stroke.now.closed (choices_of I.WideUInt.value options) (paths_of stroke.now.paths.items)
+        (shapes_of shapes.items)) }
+    ensures accepted { OnOk result (MayBeStroked I.unit (stroke_style_of I.value stroke.now.style)
+        (paths_of stroke.now.paths.items)) }
+    ensures refused { result ≡ Err IntOutlineError.CoordinateOutOfRange
+        ↔ ¬ MayBeStroked I.unit (stroke_style_of I.value stroke.now.style) (paths_of stroke.now.paths.items) }
+{
+    stroke.paths.validate_stroke(&stroke.style)?;
+    stroke
+        .paths
+        .stroke_custom(alloc, &stroke.style, stroke.closed, options)
 }
 
 /// The edges of the stroke of each path, in their order.

@@ -11,7 +11,8 @@ use Rattle.mesh_plane.proofs.Sums.{sum_of_append}
 use Rattle.mesh_plane.proofs.Whole.{linear}
 use Rattle.mesh_num.specs.Segments.{proper_edges}
 use Rattle.mesh_cuts.specs.Split.{back}
-use Rattle.mesh_stroke.specs.Paths.{pairs, neighbours, last_of}
+use Rattle.mesh_draw.specs.Walks.{pairs, last_of}
+use Rattle.mesh_stroke.specs.Paths.{neighbours}
 
 -- a pair read backwards, each of both turned by `k`
 abbrev pub turned : {A : Type 0} → (A → A) → A × A → A × A

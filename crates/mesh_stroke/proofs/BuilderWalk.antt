@@ -8,33 +8,27 @@ use Rattle.std.proofs.Math.Seq.{take-append_seam}
 use Rattle.std.proofs.lemmas.Grind.{flat_map-append}
 use Rattle.std.proofs.lemmas.List.{take-append-drop}
 use Rattle.std.proofs.lemmas.List.Elements.{All-nil, All-head, All-tail, All-filter, filter-append}
-use Rattle.std.proofs.lemmas.List.Sorted.{IsPermutation-refl, IsPermutation-trans, IsPermutation-append, IsPermutation-append_left, IsPermutation-append_right, IsPermutation-append_comm}
+use Rattle.std.proofs.lemmas.List.Sorted.{IsPermutation-refl, IsPermutation-trans, IsPermutation-append, IsPermutation-append_right, IsPermutation-append_comm}
 use Rattle.mesh_plane.specs.Plane.{Point, Edge}
 use Rattle.mesh_plane.specs.Winding.{route, same_point}
-use Rattle.mesh_plane.proofs.ClosedLists.{woven}
+use Rattle.mesh_plane.proofs.ClosedLists.{woven, regrouped}
 use Rattle.mesh_num.specs.Segments.{SignedEdge, segments_of, edges_of, proper_edges, IsSubject}
 use Rattle.mesh_num.proofs.Subjects.{segments_of_subjects}
 use Rattle.mesh_num.proofs.SegmentLists.{edges_of_segments, segments_of-append}
-use Rattle.mesh_num.specs.Rectangle.{IsSafeWidened}
+use Rattle.mesh_grid.specs.Rectangle.{IsSafeWidened}
 use Rattle.mesh_join.specs.Joins.{join_padding}
 use Rattle.mesh_join.proofs.Joins.{padding_covers}
 use Rattle.mesh_cap.specs.Caps.{cap_padding}
 use Rattle.mesh_draw.proofs.Padding.{safe_within_less}
 use Rattle.mesh_draw.specs.Adding.{Adds}
 use Rattle.mesh_stroke.specs.Building.{IsStrokable}
-use Rattle.mesh_stroke.specs.Paths.{pairs, neighbours, path_edges, last_of}
+use Rattle.mesh_draw.specs.Walks.{pairs, last_of}
+use Rattle.mesh_stroke.specs.Paths.{neighbours, path_edges}
 use Rattle.mesh_stroke.specs.Styles.{StrokeStyle, stroke_padding}
 use Rattle.mesh_stroke.specs.Strokes.{Corner, side_edges, corner_edges, both_caps, drawn_edges}
 use Rattle.mesh_stroke.specs.Building.{Section, section_of, own_edge, IsMade, IsCorner, AreEnds}
 use Rattle.mesh_stroke.proofs.Chains.{neighbours_all, path_chain}
 use Rattle.mesh_stroke.proofs.Reach.{join_covered, start_covered, end_covered, radius_covered, cap_padding_least}
-
--- two lists between two others may be exchanged
-exchanged : {B : Type 0} (a b c d : List B) → IsPermutation ((a ++ b) ++ (c ++ d)) ((a ++ c) ++ (b ++ d))
-exchanged a b c d =
-    let inner : IsPermutation (b ++ (c ++ d)) (c ++ (b ++ d)) =
-    rw (sym (append_assoc b c d), sym (append_assoc c b d)) (IsPermutation-append_left d (b ++ c) (c ++ b) (IsPermutation-append_comm b c)) in
-    rw (append_assoc a b (c ++ d), append_assoc a c (b ++ d)) (IsPermutation-append_right a (b ++ (c ++ d)) (c ++ (b ++ d)) inner)
 
 -- a walk that ends in something of its own
 pub woven_through : {A B : Type 0} (top : A → List B) (corner : A × A → List B) (step : A → A → List B) (final : A × A → List B) →
@@ -49,7 +43,7 @@ woven_through top corner step final mixed p (x ∷ xs) z =
     ((top x ++ flat_map top xs) ++ (corner (p, x) ++ rest))
     (IsPermutation-append (step p x) (top x ++ corner (p, x)) (woven step final x xs z) (flat_map top xs ++ rest)
     (mixed p x) (woven_through top corner step final mixed x xs z))
-    (exchanged (top x) (corner (p, x)) (flat_map top xs) rest) in
+    (regrouped (top x) (corner (p, x)) (flat_map top xs) rest) in
     rw (append_assoc (corner (p, x)) (flat_map corner (pairs (x ∷ xs))) (final (last_of x xs, z))) whole
 
 route_split : {A : Type 0} (x : A) (xs : List A) (z : A) → route x xs z ≡ pairs (x ∷ xs) ++ (last_of x xs, z) ∷ []

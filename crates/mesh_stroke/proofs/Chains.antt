@@ -2,7 +2,7 @@
 use Rattle.std.proofs.Common.{◌≡◌, ◌≢◌, List, [], ◌∷◌, refl, sym, ◌∙◌, subst, arith}
 use Rattle.std.specs.Prelude.{Bool, true, false, cond, not, ℤ, neg_ℤ, ◌+ℤ◌, ◌-ℤ◌}
 use Rattle.std.specs.List.{All}
-use Rattle.std.proofs.lemmas.List.Elements.{All-nil, All-cons, All-head, All-tail}
+use Rattle.std.proofs.lemmas.List.Elements.{All-nil, All-cons}
 use Rattle.mesh_plane.specs.Plane.{Point, Edge}
 use Rattle.mesh_plane.specs.Winding.{route, boundary, same_point, sum_of}
 use Rattle.mesh_plane.proofs.Whole.{linear}
@@ -10,7 +10,9 @@ use Rattle.mesh_plane.proofs.Sums.{sum_of_same}
 use Rattle.mesh_plane.proofs.ClosedLists.{boundary_ends, boundary_all}
 use Rattle.mesh_plane.proofs.Comparing.{decides_point}
 use Rattle.mesh_num.specs.Segments.{proper_edges}
-use Rattle.mesh_stroke.specs.Paths.{pairs, neighbours, path_edges, last_of}
+use Rattle.mesh_draw.specs.Walks.{pairs, last_of}
+use Rattle.mesh_draw.proofs.Walks.{pairs_all}
+use Rattle.mesh_stroke.specs.Paths.{neighbours, path_edges}
 use Rattle.mesh_stroke.specs.Strokes.{Corner}
 
 -- edges with different ends, each starting where the one before ends; the first where the last does, where they are closed
@@ -75,12 +77,6 @@ path_chain false (x ∷ xs) = record {
   joined = pairs_joined x (proper_edges (pairs (x ∷ xs))) (last_of x xs) (pairs_runs x xs);
 }
 
--- each inner one of an open list is once the end of a pair and once the start of one
-pub pairs_ends : {A : Type 0} (g h : A → ℤ) (x : A) (xs : List A) →
-    sum_of (λ (c : A × A). g c.0 -ℤ h c.1) (pairs (x ∷ xs)) ≡ (sum_of (λ e. g e -ℤ h e) (x ∷ xs) -ℤ g (last_of x xs)) +ℤ h x
-pairs_ends g h x [] = omega (arith, linear)
-pairs_ends g h x (y ∷ ys) = omega (arith, linear, pairs_ends g h y ys)
-
 -- round a closed one too
 pub boundary_parts : {A : Type 0} (g h : A → ℤ) (xs : List A) → sum_of (λ (c : A × A). g c.0 -ℤ h c.1) (boundary xs) ≡ sum_of (λ e. g e -ℤ h e) xs
 boundary_parts {A} g h xs =
@@ -91,15 +87,3 @@ boundary_parts {A} g h xs =
 pub neighbours_all : {A : Type 0} (P : A → Type 0) (closed : Bool) (xs : List A) → All P xs → All (λ (c : A × A). P c.0 × P c.1) (neighbours closed xs)
 neighbours_all P true xs h = boundary_all P xs h
 neighbours_all P false xs h = pairs_all P xs h
-  where
-    pairs_all : {A : Type 0} (P : A → Type 0) (xs : List A) → All P xs → All (λ (c : A × A). P c.0 × P c.1) (pairs xs)
-    pairs_all {A} P [] h = All-nil (λ (c : A × A). P c.0 × P c.1)
-    pairs_all {A} P (x ∷ []) h = All-nil (λ (c : A × A). P c.0 × P c.1)
-    pairs_all {A} P (x ∷ y ∷ ys) h =
-        let rest = All-tail P x (y ∷ ys) h in
-        All-cons (λ (c : A × A). P c.0 × P c.1) (x, y) (pairs (y ∷ ys)) (All-head P x (y ∷ ys) h, All-head P y ys rest) (pairs_all P (y ∷ ys) rest)
-
--- what holds of each of a list holds of its last
-pub last_all : {A : Type 0} (P : A → Type 0) (x : A) (xs : List A) → All P (x ∷ xs) → P (last_of x xs)
-last_all P x [] h = All-head P x [] h
-last_all P x (y ∷ ys) h = last_all P y ys (All-tail P x (y ∷ ys) h)

@@ -8,9 +8,9 @@ use Rattle.mesh_plane.specs.Plane.{Point, Edge, plus, minus, cross, turn, right_
 use Rattle.mesh_plane.proofs.Identities.{cross_flip}
 use Rattle.mesh_plane.proofs.ClosedLists.{all_both}
 use Rattle.mesh_plane.proofs.Whole.{linear, multiplied}
-use Rattle.mesh_num.specs.Direction.{IsShort, scaled_direction}
-use Rattle.mesh_num.proofs.Parts.{direction_fresh, direction_short}
-use Rattle.mesh_num.proofs.Scaling.{scaled_turn_kept}
+use Rattle.mesh_grid.specs.Direction.{IsShort, scaled_direction}
+use Rattle.mesh_grid.proofs.Parts.{direction_fresh, direction_short}
+use Rattle.mesh_grid.proofs.Scaling.{scaled_turn_kept}
 use Rattle.mesh_cuts.specs.Split.{back}
 use Rattle.mesh_arc.specs.Arcs.{sense_of}
 use Rattle.mesh_arc.specs.declared.arc.ArcDirection.TheVariants.{Counterclockwise}

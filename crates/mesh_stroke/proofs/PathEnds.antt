@@ -2,10 +2,10 @@
 use Rattle.std.proofs.Common.{◌≡◌, ◌≢◌, ℕ, ◌≤◌, ◌^◌, List, ◌++◌, refl, sym, subst, ◌∙◌, ap, append_assoc, arith}
 use Rattle.std.specs.Prelude.{ℤ, pos, ◌≤ℤ◌, false}
 use Rattle.mesh_plane.specs.Plane.{Edge, opposite}
-use Rattle.mesh_num.specs.Rectangle.{IsSafeWidened}
+use Rattle.mesh_grid.specs.Rectangle.{IsSafeWidened}
 use Rattle.mesh_num.specs.Segments.{SignedEdge, segments_of}
-use Rattle.mesh_num.specs.Direction.{IsShort}
-use Rattle.mesh_num.proofs.Parts.{direction_fresh, direction_short}
+use Rattle.mesh_grid.specs.Direction.{IsShort}
+use Rattle.mesh_grid.proofs.Parts.{direction_fresh, direction_short}
 use Rattle.mesh_join.specs.Midway.RoundJoins.{HaveLength}
 use Rattle.mesh_num.proofs.SegmentLists.{segments_of-append}
 use Rattle.mesh_cuts.specs.Split.{back}

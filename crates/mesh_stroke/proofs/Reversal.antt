@@ -1,12 +1,12 @@
 -- Lemmas over points and lists: the stroke of a path that runs the other way about.
 use Rattle.std.proofs.Common.{◌≡◌, ◌≢◌, ◌⊎◌, inl, inr, ℕ, ◌<◌, ◌≤◌, ◌^◌, List, [], ◌∷◌, ◌++◌, refl, sym, ◌∙◌, ap, arith}
-use Rattle.std.specs.Prelude.{ℤ, pos, neg_ℤ, ◌+ℤ◌, ◌-ℤ◌, ◌*ℤ◌, ◌<ℤ◌, ◌≤ℤ◌, Bool, true, false, cond, reverse, count_by, int_le, ◌&&◌}
+use Rattle.std.specs.Prelude.{ℤ, pos, neg_ℤ, ◌+ℤ◌, ◌-ℤ◌, ◌*ℤ◌, ◌<ℤ◌, ◌≤ℤ◌, Bool, true, false, cond, reverse, int_le, ◌&&◌}
 use Rattle.std.specs.List.{flat_map}
 use Rattle.std.proofs.lemmas.Int.{ints, by_lt_z}
 use Rattle.std.proofs.lemmas.List.Elements.{All-weaker}
-use Rattle.std.proofs.lemmas.List.Sums.{sum_by-cons}
 use Rattle.mesh_plane.specs.Plane.{Point, Edge, minus, opposite, cross, dot, length_sq}
 use Rattle.mesh_plane.specs.Winding.{sum_of, total, crossing_on, IsOdd, same_point, boundary, route}
+use Rattle.mesh_plane.proofs.Balance.{marks_counted}
 use Rattle.mesh_plane.proofs.ClosedLists.{route_append, boundary_rotated}
 use Rattle.mesh_plane.proofs.Comparing.{decides_point}
 use Rattle.mesh_plane.proofs.Crossings.{crossing_on_odd}
@@ -17,7 +17,7 @@ use Rattle.mesh_plane.proofs.Whole.{linear, mul_pos}
 use Rattle.mesh_num.specs.Segments.{SignedEdge, proper_edges}
 use Rattle.mesh_draw.specs.Adding.{Adds, added_edges}
 use Rattle.mesh_draw.proofs.Adding.{adds_edges}
-use Rattle.mesh_num.proofs.Turns.{same_kept, opposite_kept}
+use Rattle.mesh_grid.proofs.Turns.{same_kept, opposite_kept}
 use Rattle.mesh_cuts.specs.Split.{back, same_edge}
 use Rattle.mesh_draw.proofs.Apart.{apart_long}
 use Rattle.mesh_draw.proofs.ProperEdges.{proper_edges_total}
@@ -26,7 +26,8 @@ use Rattle.mesh_cap.specs.Caps.{CapKind}
 use Rattle.mesh_join.specs.Joins.{through, join_points, join_edges}
 use Rattle.mesh_join.specs.Joints.{joint, contact}
 use Rattle.mesh_join.specs.Styles.{JoinStyle}
-use Rattle.mesh_stroke.specs.Paths.{pairs, neighbours, path_edges, last_of}
+use Rattle.mesh_draw.specs.Walks.{pairs, last_of}
+use Rattle.mesh_stroke.specs.Paths.{neighbours, path_edges}
 use Rattle.mesh_stroke.specs.Reversal.{net_count, CountAlike, with_caps_exchanged, reversed_edges, StrokesCanBeReversed}
 use Rattle.mesh_stroke.specs.Styles.{StrokeStyle}
 use Rattle.mesh_stroke.specs.Strokes.{Corner, heading, side_edges, outer_edges, inner_edges, corner_edges, cap_at, both_caps, drawn_edges, stroke_edges}
@@ -257,14 +258,6 @@ module _ (f : Point → Point → ℤ) (odd : IsOdd f) (unit : ℕ) (some : 0 < 
 
 -- ---- net counts
 
-marked_is : (b : Bool) → cond b (pos 1) (pos 0) ≡ pos (cond b 1 0)
-marked_is true = refl
-marked_is false = refl
-
-marks : {A : Type 0} (t : A → Bool) (xs : List A) → pos (count_by t xs) ≡ sum_of (λ x. cond (t x) (pos 1) (pos 0)) xs
-marks t [] = refl
-marks t (x ∷ xs) = omega (arith, ints, marks t xs, marked_is (t x), sum_by-cons (λ x. cond (t x) 1 0) x xs)
-
 -- how much an edge counts
 abbrev pub counted : Edge → Point → Point → ℤ
 counted e p r = cond (same_edge e (p, r)) (pos 1) (pos 0) -ℤ cond (same_edge (back e) (p, r)) (pos 1) (pos 0)
@@ -280,7 +273,7 @@ unfolding same_edge
 counted_odd e p r = omega (arith, linear, both_ways (same_point e.0 p) (same_point e.1 r), both_ways (same_point e.1 p) (same_point e.0 r))
 
 net_total : (e : Edge) (es : List Edge) → net_count e es ≡ total (counted e) es
-net_total e es = (λ i. marks (same_edge e) es i -ℤ marks (same_edge (back e)) es i) ∙ sym (differences es)
+net_total e es = (λ i. sym (marks_counted (same_edge e) es) i -ℤ sym (marks_counted (same_edge (back e)) es) i) ∙ sym (differences es)
   where
     differences : (es : List Edge) → total (counted e) es
         ≡ sum_of (λ g. cond (same_edge e g) (pos 1) (pos 0)) es -ℤ sum_of (λ g. cond (same_edge (back e) g) (pos 1) (pos 0)) es

@@ -4,10 +4,10 @@ use Rattle.std.specs.Prelude.{ℤ, pos, unsigned_abs}
 use Rattle.std.proofs.lemmas.Int.{ints}
 use Rattle.mesh_plane.specs.Bounds.{IsSafe}
 use Rattle.mesh_plane.specs.Plane.{Point, plus, minus, right_quarter}
-use Rattle.mesh_num.specs.Direction.{IsDirection, scaled_direction}
-use Rattle.mesh_num.specs.Directed.{direction_of}
-use Rattle.mesh_num.specs.Rectangle.{IsSafeWidened}
-use Rattle.mesh_num.proofs.Directed.{is_direction_of}
+use Rattle.mesh_grid.specs.Direction.{IsDirection, scaled_direction}
+use Rattle.mesh_grid.specs.Directed.{direction_of}
+use Rattle.mesh_grid.specs.Rectangle.{IsSafeWidened}
+use Rattle.mesh_grid.proofs.Directed.{is_direction_of}
 use Rattle.mesh_stroke.specs.Building.{Section, section_of}
 
 -- a point on the left is safe where a point moved by the padding is

@@ -8,7 +8,7 @@ use Rattle.std.proofs.lemmas.List.Sums.{length-filter, count_by-le-length}
 use Rattle.mesh_plane.specs.Plane.{Point, Edge}
 use Rattle.mesh_plane.specs.Winding.{route, same_point}
 use Rattle.mesh_num.specs.Segments.{SignedEdge, proper_edges}
-use Rattle.mesh_num.proofs.Parts.{direction_fresh}
+use Rattle.mesh_grid.proofs.Parts.{direction_fresh}
 use Rattle.mesh_cuts.specs.Split.{back}
 use Rattle.mesh_join.specs.Joins.{HasFew}
 use Rattle.mesh_cap.specs.Caps.{CapKind, draws_directly, has_few_edges}
@@ -17,11 +17,13 @@ use Rattle.mesh_cap.proofs.Caps.{cap_keeps}
 use Rattle.mesh_draw.specs.Adding.{Adds, added}
 use Rattle.mesh_draw.proofs.Drawn.{added_length}
 use Rattle.mesh_stroke.specs.Building.{HasDirectCaps, HasFewCapEdges}
-use Rattle.mesh_stroke.specs.Paths.{pairs, neighbours, path_edges, last_of}
+use Rattle.mesh_draw.specs.Walks.{pairs, last_of}
+use Rattle.mesh_stroke.specs.Paths.{neighbours, path_edges}
 use Rattle.mesh_stroke.specs.Styles.{StrokeStyle}
 use Rattle.mesh_stroke.specs.Strokes.{Corner, heading, facing, side_edges, inner_edges, outer_edges, corner_edges}
 use Rattle.mesh_stroke.specs.Strokes.{cap_at, both_caps, drawn_edges, stroke_edges}
-use Rattle.mesh_stroke.proofs.Chains.{IsChain, path_chain, last_all}
+use Rattle.mesh_draw.proofs.Walks.{last_all}
+use Rattle.mesh_stroke.proofs.Chains.{IsChain, path_chain}
 use Rattle.mesh_stroke.proofs.Corners.{IsMet, corners_met, facing_keeps, heading_short, apart_back}
 use Rattle.mesh_stroke.proofs.Sides.{heading_is}
 use Rattle.mesh_stroke.proofs.StrokeCount.{left_true, right_true}

@@ -16,10 +16,12 @@ use Rattle.mesh_join.specs.Styles.{JoinStyle}
 use Rattle.mesh_cap.specs.Caps.{CapKind, cap_points}
 use Rattle.mesh_cap.specs.Ends.{half_turn}
 use Rattle.mesh_draw.proofs.ProperEdges.{proper_edges_total}
-use Rattle.mesh_stroke.specs.Paths.{neighbours, last_of}
+use Rattle.mesh_draw.specs.Walks.{last_of}
+use Rattle.mesh_stroke.specs.Paths.{neighbours}
 use Rattle.mesh_stroke.specs.Styles.{StrokeStyle}
 use Rattle.mesh_stroke.specs.Strokes.{Corner, heading, right_of, left_of, side_edges, section_piece, joint_right, outer_edges, inner_edges, corner_edges, corner_pieces, cap_at, cap_pieces, both_caps, both_cap_pieces, drawn_edges, drawn_pieces}
-use Rattle.mesh_stroke.proofs.Chains.{IsChain, pairs_ends, boundary_parts, neighbours_all}
+use Rattle.mesh_draw.proofs.Walks.{pairs_ends}
+use Rattle.mesh_stroke.proofs.Chains.{IsChain, boundary_parts, neighbours_all}
 use Rattle.mesh_stroke.proofs.Sides.{right_back, left_back, sides_straight}
 
 module _ (f : Point → Point → ℤ) (odd : IsOdd f) (straight : IsStraight f) (unit : ℕ) (some : 0 < unit) where

@@ -1,10 +1,8 @@
 -- What the stroke's builder asks. Private contracts read the rest.
-use Rattle.std.specs.Prelude.{ℕ, ◌≡◌, ◌≢◌, ◌+◌, ◌≤◌, Bool, ◌&&◌, ◌||◌, IsTrue, List, length, vec_capacity}
+use Rattle.std.specs.Prelude.{ℕ, ◌≡◌, ◌≢◌, Bool, ◌&&◌, ◌||◌, IsTrue, List}
 use Rattle.std.specs.Prelude.{ℤ, pos, ◌≤ℤ◌, unsigned_abs}
-use Rattle.std.specs.declared.alloc.Global.{Global}
-use Rattle.std.specs.declared.vec.Vec.{Vec}
 use Rattle.mesh_plane.specs.Plane.{Point, Edge}
-use Rattle.mesh_num.specs.Rectangle.{IsSafeWidened}
+use Rattle.mesh_grid.specs.Rectangle.{IsSafeWidened}
 use Rattle.mesh_num.specs.Segments.{SignedEdge, segments_of}
 use Rattle.mesh_join.specs.Joins.{join_padding}
 use Rattle.mesh_join.specs.Styles.{JoinStyle}
@@ -15,10 +13,6 @@ use Rattle.mesh_stroke.specs.Styles.{StrokeStyle, stroke_padding}
 -- a point that stays safe where it moves by at most the padding of the stroke
 abbrev pub IsStrokable : ℕ → StrokeStyle → Point → Type 0
 IsStrokable unit style p = IsSafeWidened unit (stroke_padding style) p
-
--- the vector has room for so many more items
-abbrev pub HasRoomFor : {X : Type 0} → Vec X Global → ℕ → Type 0
-HasRoomFor v count = length v.items + count ≤ vec_capacity v
 
 -- the path is closed, or neither cap is round: no cap takes memory but for its edges
 abbrev pub HasDirectCaps : StrokeStyle → Bool → Type 0

@@ -1,10 +1,10 @@
 -- What is promised of the edges of a stroke.
-use Rattle.std.specs.Prelude.{ℕ, ◌≡◌, Bool, ◌&&◌, ◌||◌, IsTrue, List, ℤ, pos, count_by}
+use Rattle.std.specs.Prelude.{ℕ, ◌≡◌, Bool, ◌&&◌, ◌||◌, IsTrue, List, pos, count_by}
 use Rattle.std.specs.List.{All}
 use Rattle.mesh_plane.specs.Plane.{Point, Edge}
 use Rattle.mesh_plane.specs.Winding.{IsBalanced, IsBit, boundary, winding, crossing_on, pieces_total, holds}
 use Rattle.mesh_cuts.specs.Reach.{AreEdgesSafe}
-use Rattle.mesh_draw.specs.Padding.{IsNear}
+use Rattle.mesh_draw.specs.Padding.{AreEndsNear}
 use Rattle.mesh_cap.specs.Caps.{is_stock}
 use Rattle.mesh_stroke.specs.Strokes.{stroke_pieces}
 use Rattle.mesh_stroke.specs.Styles.{StrokeStyle, stroke_padding}
@@ -25,10 +25,6 @@ NeverTurnedRound pieces =
 -- at each point of each grid the edges wind once for each piece that holds the point
 abbrev pub WindsByCount : List (List Point) → List Edge → Type 0
 WindsByCount pieces es = (m : ℕ) (q : Point) → winding m q es ≡ pos (count_by (holds m q) pieces)
-
--- both ends of each edge are away from one of the points by at most the padding in each coordinate
-abbrev pub AreEndsNear : ℤ → List Point → List Edge → Type 0
-AreEndsNear padding points es = All (λ (e : Edge). IsNear padding points e.0 × IsNear padding points e.1) es
 
 -- edges that are drawn as the stroke of the path through these points, which stay safe where they move by its padding
 pub record AreStroked (unit : ℕ) (style : StrokeStyle) (closed : Bool) (points : List Point) (es : List Edge)

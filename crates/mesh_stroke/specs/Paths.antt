@@ -1,14 +1,9 @@
 -- The edges of a path, open or closed.
-use Rattle.std.specs.Prelude.{Bool, true, false, List, [], ◌∷◌}
+use Rattle.std.specs.Prelude.{Bool, true, false, List}
 use Rattle.mesh_plane.specs.Plane.{Point, Edge}
 use Rattle.mesh_plane.specs.Winding.{boundary}
 use Rattle.mesh_num.specs.Segments.{proper_edges}
-
--- the neighbouring pairs of a list
-abbrev pub pairs : {A : Type 0} → List A → List (A × A)
-pairs [] = []
-pairs (x ∷ []) = []
-pairs (x ∷ y ∷ ys) = (x, y) ∷ pairs (y ∷ ys)
+use Rattle.mesh_draw.specs.Walks.{pairs}
 
 -- the neighbouring pairs of a list that is open or closed: last to first too where it is closed
 abbrev pub neighbours : {A : Type 0} → Bool → List A → List (A × A)
@@ -18,8 +13,3 @@ neighbours false xs = pairs xs
 -- the edges of a path: its neighbouring points, but for those that are one point
 abbrev pub path_edges : Bool → List Point → List Edge
 path_edges closed points = proper_edges (neighbours closed points)
-
--- the last of a list that begins so
-abbrev pub last_of : {A : Type 0} → A → List A → A
-last_of x [] = x
-last_of x (y ∷ ys) = last_of y ys

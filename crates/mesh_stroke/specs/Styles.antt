@@ -1,11 +1,12 @@
 -- How paths are stroked, as contracts see it.
-use Rattle.std.specs.Prelude.{◌+◌, ◌/◌, ℤ, pos, negsuc}
+use Rattle.std.specs.Prelude.{ℤ}
 use Rattle.std.specs.Int.{int_max}
 use Rattle.mesh_join.specs.Joins.{join_padding}
 use Rattle.mesh_join.specs.Styles.{JoinStyle}
 use Rattle.mesh_join.specs.declared.style.IntStrokeStyle.{IntStrokeStyle}
 use Rattle.mesh_cap.specs.Caps.{CapKind, cap_padding}
 use Rattle.mesh_cap.specs.Kinds.{kind_of}
+use Rattle.mesh_draw.specs.Radii.{radius_of}
 
 -- half of the width, rounded up, the joins, and the caps of open paths
 pub record StrokeStyle : Type 0 where
@@ -13,11 +14,6 @@ pub record StrokeStyle : Type 0 where
   pub join : JoinStyle
   pub start : CapKind
   pub end : CapKind
-
--- half of a width, rounded up; a width below 0 counts as 0
-abbrev pub radius_of : ℤ → ℤ
-radius_of (pos width) = pos ((width + 1) / 2)
-radius_of (negsuc width) = pos 0
 
 -- what a style stands for, where `value` is the whole number that a coordinate stands for
 abbrev pub stroke_style_of : {C W U : Type 0} → (C → ℤ) → IntStrokeStyle C W U → StrokeStyle

@@ -12,7 +12,7 @@ use Rattle.mesh_plane.specs.Bounds.{IsSafe}
 use Rattle.mesh_plane.specs.Plane.{Point, Edge}
 use Rattle.mesh_plane.specs.Winding.{IsBalanced}
 use Rattle.mesh_plane.proofs.Balance.{balanced_append, balanced_permutation}
-use Rattle.mesh_num.specs.Rectangle.{IsSafeWidened}
+use Rattle.mesh_grid.specs.Rectangle.{IsSafeWidened}
 use Rattle.mesh_num.specs.Segments.{SignedEdge, edges_of, IsSubject}
 use Rattle.mesh_num.proofs.SegmentLists.{edges_of-append}
 use Rattle.mesh_cuts.specs.Reach.{AreEdgesSafe}

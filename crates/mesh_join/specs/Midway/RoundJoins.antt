@@ -3,7 +3,7 @@ use Rattle.std.specs.Prelude.{ℕ, ◌≡◌, ◌≢◌, ◌*◌, ◌≤◌, Lis
 use Rattle.mesh_plane.specs.Bounds.{IsSafe}
 use Rattle.mesh_plane.specs.Plane.{Point, Edge, minus}
 use Rattle.mesh_plane.specs.Winding.{route}
-use Rattle.mesh_num.specs.Direction.{IsShort}
+use Rattle.mesh_grid.specs.Direction.{IsShort}
 use Rattle.mesh_num.specs.Segments.{SignedEdge, segments_of}
 use Rattle.mesh_arc.specs.declared.arc.ArcOptions.{ArcOptions}
 use Rattle.mesh_join.specs.Joints.{Joint}

@@ -4,8 +4,8 @@ ghost use Rattle.std.specs.Prelude.{◌≡◌, ℤ, List, [], ◌∷◌, ◌++�
 ghost use Rattle.mesh_num.specs.FlatContours.{HoldsContours, AddsContours};
 ghost use Rattle.mesh_num.specs.Paths.{paths_of, shapes_of, contours_of};
 
-use crate::num::number::IntNumber;
-use crate::num::point::IntPoint;
+use mesh_grid::num::number::IntNumber;
+use mesh_grid::num::point::IntPoint;
 use std::alloc::{AllocError, Global};
 use std::ops::Range;
 

@@ -3,9 +3,9 @@
 ghost use Rattle.std.specs.Prelude.{◌≡◌, ◌<◌, ℤ, List, [], ◌∷◌, length, get_or};
 ghost use Rattle.mesh_num.specs.Paths.{paths_of, shapes_of, contours_of, counted};
 
-use crate::num::number::IntNumber;
-use crate::num::point::IntPoint;
 use crate::shape::path_slice::PathSlice;
+use mesh_grid::num::number::IntNumber;
+use mesh_grid::num::point::IntPoint;
 
 /// A source of paths of points. Contracts see the list of its paths, each the list of its points.
 pub trait IntShapeResource<I: IntNumber> {

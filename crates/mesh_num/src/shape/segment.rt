@@ -4,8 +4,8 @@ ghost use Rattle.std.specs.Prelude.{◌≡◌, ◌≢◌, ℕ, ◌+◌, ◌≤�
 ghost use Rattle.mesh_num.specs.Segments.{edge_of, subject_of, segment_between, IsSubject, SignedEdge};
 ghost use Rattle.mesh_plane.specs.Plane.{Point};
 
-use crate::num::number::IntNumber;
-use crate::num::point::IntPoint;
+use mesh_grid::num::number::IntNumber;
+use mesh_grid::num::point::IntPoint;
 use std::alloc::AllocError;
 use std::marker::Model;
 

@@ -4,7 +4,7 @@ ghost use Rattle.std.specs.Prelude.{◌≡◌, ◌↔◌, IsOk, IfOk, OnOk, OnEr
 ghost use Rattle.mesh_num.specs.FlatContours.{HoldsContours};
 ghost use Rattle.mesh_num.specs.Paths.{contours_of, shapes_of};
 ghost use Rattle.mesh_plane.specs.Plane.{Point, Edge};
-ghost use Rattle.mesh_num.specs.Rectangle.{IsBounds, IsSafeRectangle};
+ghost use Rattle.mesh_grid.specs.Rectangle.{IsBounds, IsSafeRectangle};
 ghost use Rattle.mesh_join.specs.Joins.{outline_padding};
 ghost use Rattle.mesh_join.specs.Styles.{style_of};
 ghost use Rattle.mesh_draw.specs.Padding.{ArePathsSafe, all_points, widened};

@@ -3,7 +3,7 @@
 ghost use Rattle.std.specs.Prelude.{◌≡◌, ◌≢◌, ◌+ℤ◌, ℤ, pos, unsigned_abs, IfOk};
 ghost use Rattle.mesh_plane.specs.Bounds.{IsSafe};
 ghost use Rattle.mesh_plane.specs.Plane.{plus, right_quarter};
-ghost use Rattle.mesh_num.specs.Rectangle.{IsSafeWidened};
+ghost use Rattle.mesh_grid.specs.Rectangle.{IsSafeWidened};
 ghost use Rattle.mesh_outline.specs.Outline.{section_of};
 
 use mesh_num::num::{IntNumber, IntPoint, IntVector, UnitIntVector};

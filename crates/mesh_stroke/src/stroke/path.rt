@@ -4,7 +4,8 @@ ghost use Rattle.std.specs.Prelude.{◌≡◌, [], ◌∷◌, not, Some, None, M
 ghost use Rattle.std.specs.Iterator.{YieldsFirstBy, item_count};
 ghost use Rattle.mesh_plane.specs.Winding.{same_point};
 ghost use Rattle.mesh_num.specs.Segments.{proper_edges};
-ghost use Rattle.mesh_stroke.specs.Paths.{pairs, path_edges};
+ghost use Rattle.mesh_draw.specs.Walks.{pairs};
+ghost use Rattle.mesh_stroke.specs.Paths.{path_edges};
 
 use mesh_join::uniq_iter::UniqueSegment;
 use mesh_num::num::convert::is_less;
@@ -22,7 +23,7 @@ pub(crate) struct PathEdges<'a, I: IntNumber> {
 impl<'a, I: IntNumber> Model for PathEdges<'a, I> {
     ghost use Rattle.std.specs.Prelude.{ℤ, List, ◌∷◌};
     ghost use Rattle.mesh_num.specs.Segments.{proper_edges};
-    ghost use Rattle.mesh_stroke.specs.Paths.{pairs};
+    ghost use Rattle.mesh_draw.specs.Walks.{pairs};
 
     ghost Value = { List ((ℤ × ℤ) × (ℤ × ℤ)) };
 

@@ -1,26 +1,15 @@
-//! Half of the width of strokes, and how far they reach.
+//! How far strokes reach, and half of their width.
 
 ghost use Rattle.std.specs.Prelude.{◌≡◌, pos, ◌≤ℤ◌};
 ghost use Rattle.std.specs.Int.{int_max};
-ghost use Rattle.mesh_stroke.specs.Styles.{radius_of, stroke_padding, stroke_style_of};
+ghost use Rattle.mesh_stroke.specs.Styles.{stroke_padding, stroke_style_of};
 
 use mesh_cap::cap::Cap;
+pub use mesh_draw::radius::stroke_radius;
 use mesh_join::join::Join;
 use mesh_join::style::IntStrokeStyle;
 use mesh_num::num::IntNumber;
-use mesh_num::num::convert::{is_wide_less, narrow, widen};
-
-/// Half of a width in grid units, rounded up; a width below 0 counts as 0.
-pub fn stroke_radius<I: IntNumber>(width: I) -> I
-    ensures value { I.value result ≡ radius_of (I.value width) }
-    ensures least { pos 0 ≤ℤ I.value result }
-{
-    let width = widen(width);
-    if width < 0 {
-        return I::ZERO;
-    }
-    narrow((width + 1) / 2)
-}
+use mesh_num::num::convert::is_wide_less;
 
 /// How far a stroke of this style reaches from its path in each coordinate, in grid units: the greatest padding of its
 /// joins and its caps. Each style is accepted.

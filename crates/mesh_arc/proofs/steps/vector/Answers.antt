@@ -2,8 +2,8 @@
 use Rattle.std.proofs.Common.{◌≡◌, ◌*◌, ◌≤◌, ◌^◌, arith, rules}
 use Rattle.std.proofs.lemmas.Int.{ints}
 use Rattle.mesh_plane.specs.Bounds.{IsSafe}
-use Rattle.mesh_num.specs.Direction.{IsShort}
-use Rattle.mesh_num.proofs.Scaling.{short_bounded}
+use Rattle.mesh_grid.specs.Direction.{IsShort}
+use Rattle.mesh_grid.proofs.Scaling.{short_bounded}
 use Rattle.mesh_arc.proofs.steps.vector.Goals as goal
 
 pub returns-clause-safe : goal.returns-clause-safe

@@ -6,7 +6,7 @@ use Rattle.std.proofs.lemmas.List.{take_more}
 use Rattle.std.proofs.lemmas.Result.{on_ok_weaker}
 use Rattle.mesh_plane.specs.Plane.{Point, plus}
 use Rattle.mesh_plane.specs.Winding.{route}
-use Rattle.mesh_num.specs.Rotation.{turned_along}
+use Rattle.mesh_grid.specs.Rotation.{turned_along}
 use Rattle.mesh_num.specs.Segments.{segments_of}
 use Rattle.mesh_cap.specs.CustomCaps.{custom_points}
 use Rattle.mesh_cap.proofs.CustomCaps.{IsDrawn, point_safe, drawing_starts, drawing_takes, drawing_ends, still_kept}

@@ -1,7 +1,7 @@
 -- What was read, accepted, built and written is the answer, or the refusal, of the request.
 use Rattle.std.proofs.Common.{sym, subst, rules}
 use Rattle.std.proofs.lemmas.Result.{IfOk-weaker}
-use Rattle.mesh_service.specs.Reading.{IsOfReading}
+use Rattle.mesh_request.specs.Reading.{IsOfReading}
 use Rattle.mesh_service.proofs.PathsServed.{is_requested}
 use Rattle.mesh_service.proofs.Replies.{refusal_told, refusal_read}
 use Rattle.mesh_service.proofs.service.respond.Goals as goal

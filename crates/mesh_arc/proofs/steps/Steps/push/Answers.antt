@@ -1,7 +1,7 @@
 -- One direction more, or the end.
 use Rattle.std.proofs.Common.{◌≡◌, ℕ, ◌<◌, ◌≤◌, Bool, true, false, refl, sym, ◌∙◌, rules, arith, length, vec_capacity}
 use mathlib.Core.Logic.{inl, inr}
-use Rattle.mesh_num.specs.Rotation.{rotated}
+use Rattle.mesh_grid.specs.Rotation.{rotated}
 use Rattle.mesh_arc.specs.Arcs.{most_directions}
 use Rattle.mesh_arc.specs.Midway.{ends}
 use Rattle.mesh_arc.proofs.Filling.{turning_starts, ends_is, turning_goes, turning_ends, more_come, turned_so_far}

@@ -1,7 +1,7 @@
 -- Points that are the last one again are passed over.
 use Rattle.std.proofs.Common.{◌∷◌, sym, ◌∙◌}
 use Rattle.mesh_num.specs.Segments.{proper_edges}
-use Rattle.mesh_stroke.specs.Paths.{pairs}
+use Rattle.mesh_draw.specs.Walks.{pairs}
 use Rattle.mesh_stroke.proofs.PathWalk.{passed_over}
 use Rattle.mesh_stroke.proofs.stroke.path.next_other.Goals as goal
 

@@ -1,7 +1,7 @@
 -- The edges still to come are the same.
 use Rattle.std.proofs.Common.{◌≡◌, ◌∷◌, length}
 use Rattle.mesh_num.specs.Segments.{proper_edges}
-use Rattle.mesh_stroke.specs.Paths.{pairs}
+use Rattle.mesh_draw.specs.Walks.{pairs}
 use Rattle.mesh_stroke.proofs.stroke.path.next_other.Given as goal
 
 abbrev pub invariant-loop-point : goal.invariant-loop-point

@@ -1,0 +1,9 @@
+pub mod Directed
+pub mod Normalized
+pub mod Parts
+pub mod Products
+pub mod Rectangles
+pub mod Roots
+pub mod Rotations
+pub mod Scaling
+pub mod Turns

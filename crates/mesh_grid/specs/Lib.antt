@@ -1,0 +1,14 @@
+pub mod Directed
+pub mod Direction
+pub mod Laws
+pub mod Quotient
+pub mod Rectangle
+pub mod Rotation
+pub mod Widths
+pub use Rattle.mesh_plane.specs.Bounds
+pub use Rattle.mesh_plane.specs.Order
+pub use Rattle.mesh_plane.specs.Plane
+pub use Rattle.mesh_plane.specs.Rounding
+pub use Rattle.mesh_plane.specs.Signs
+pub use Rattle.mesh_plane.specs.Winding
+pub use Rattle.mesh_sine.specs.Sine

@@ -1,0 +1,3 @@
+pub mod JsonLists
+pub mod JsonMembers
+pub mod Ranges
