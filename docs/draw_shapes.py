@@ -69,7 +69,7 @@ def join_name(join):
 
 def degrees(bits):
     """An angle in words; 2^32 bits are a turn."""
-    return f"{bits * 360 / 2**32:.0f} degrees"
+    return f"{bits * 360 / 2**32:g} degrees"
 
 
 def bounds(panels):

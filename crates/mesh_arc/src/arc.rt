@@ -26,10 +26,10 @@ pub enum ArcDirection {
 /// How finely an arc is drawn.
 #[derive(Debug, Clone, Copy, PartialEq, Eq)]
 pub struct ArcOptions {
-    /// The greatest angle between neighbouring directions, at least `MIN_STEP` and at most `MAX_STEP`.
+    /// The greatest angle between neighbouring directions. Below `MIN_STEP` it counts as that, above `MAX_STEP` as that.
     pub max_step: Angle,
-    /// How near the step comes to the greatest one: with precision `p` it is the fraction `2^p / (2^p + 1)` of it. At least 4
-    /// and at most 32.
+    /// How near the step comes to the greatest one: with precision `p` it is the fraction `2^p / (2^p + 1)` of it, less
+    /// `2^33 / UNIT` bits for the sake of rounding. Below 4 it counts as 4, above 32 as 32.
     pub rotation_precision: u32,
 }
 

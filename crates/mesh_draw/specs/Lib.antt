@@ -1,6 +1,7 @@
 pub mod Adding
 pub mod Drawing
 pub mod Padding
+pub mod Pieces
 pub mod Radii
 pub mod Staying
 pub mod Walks

@@ -8,6 +8,7 @@ pub mod Methods
 pub mod Miters
 pub mod RoundJoins
 pub mod Styles
+pub mod VariableStyles
 pub mod Midway
 pub use Rattle.mesh_arc.specs.Arcs
 pub use Rattle.mesh_arc.specs.Gaps

@@ -6,6 +6,10 @@ use mesh_arc::arc::ArcOptions;
 use mesh_num::num::{Angle, IntNumber, IntPoint};
 use std::rc::RcSlice;
 
+mod variable;
+
+pub use variable::{DEFAULT_VARIABLE_STEP, IntStrokeVertex, IntVariableStrokeStyle};
+
 /// The arithmetic of a construction. Whole numbers give the same result on every machine.
 #[derive(Debug, Clone, Copy, PartialEq, Eq)]
 pub enum MathMode {
@@ -24,8 +28,8 @@ pub enum IntLineJoin {
     /// clipped by an edge whose ends are as far away as the peak of this angle would be. Slight turns are bevelled, and
     /// corners whose peak would turn back or lie past the padding.
     Miter(Angle),
-    /// An arc round the corner, whose directions are at most the greatest step of the options apart. Points that rounding
-    /// puts behind the one before them are left out.
+    /// An arc round the corner, whose directions are at most the greatest step of the options apart, but for the last one
+    /// where the arc broke off. Points that rounding puts behind the one before them are left out, and leave a wider gap.
     Round(ArcOptions),
 }
 

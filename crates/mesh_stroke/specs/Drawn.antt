@@ -5,6 +5,7 @@ use Rattle.mesh_plane.specs.Plane.{Point, Edge}
 use Rattle.mesh_plane.specs.Winding.{IsBalanced, IsBit, boundary, winding, crossing_on, pieces_total, holds}
 use Rattle.mesh_cuts.specs.Reach.{AreEdgesSafe}
 use Rattle.mesh_draw.specs.Padding.{AreEndsNear}
+use Rattle.mesh_draw.specs.Pieces.{WindAsPieces}
 use Rattle.mesh_cap.specs.Caps.{is_stock}
 use Rattle.mesh_stroke.specs.Strokes.{stroke_pieces}
 use Rattle.mesh_stroke.specs.Styles.{StrokeStyle, stroke_padding}
@@ -12,10 +13,6 @@ use Rattle.mesh_stroke.specs.Styles.{StrokeStyle, stroke_padding}
 -- no custom cap is drawn: the path is closed, or both caps are stock ones
 abbrev pub HasStockCaps : StrokeStyle → Bool → Type 0
 HasStockCaps style closed = IsTrue (closed || (is_stock style.start && is_stock style.end))
-
--- at each point of each grid the edges wind as often as the pieces together
-abbrev pub WindAsPieces : List (List Point) → List Edge → Type 0
-WindAsPieces pieces es = (m : ℕ) (q : Point) → winding m q es ≡ pieces_total (crossing_on m q) pieces
 
 -- at each point of each grid each piece winds 0 times or once
 abbrev pub NeverTurnedRound : List (List Point) → Type 0

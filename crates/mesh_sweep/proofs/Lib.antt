@@ -1,0 +1,5 @@
+pub mod Cases
+pub mod Drawing
+pub mod Nearness
+pub mod Sums
+pub mod Swept

@@ -1,0 +1,182 @@
+-- Lemmas over points: what circles and arcs know of the points round a vertex.
+use Rattle.std.proofs.Common.{◌≡◌, ◌≢◌, ℕ, ◌+◌, ◌*◌, ◌<◌, ◌≤◌, Bool, true, false, refl, sym, ◌∙◌, ap, map, arith}
+use Rattle.std.specs.Prelude.{ℤ, pos, ◌≤ℤ◌, ◌<ℤ◌, ◌||◌, unsigned_abs}
+use Rattle.std.proofs.lemmas.Bool.{true≢false}
+use Rattle.std.proofs.lemmas.Int.{ints}
+use Rattle.mesh_plane.specs.Bounds.{IsSafe}
+use Rattle.mesh_plane.specs.Plane.{Point, minus, length_sq}
+use Rattle.mesh_plane.specs.Winding.{same_point}
+use Rattle.mesh_plane.proofs.Comparing.{decides_point}
+use Rattle.mesh_plane.proofs.Sizes.{lt_of_squares}
+use Rattle.mesh_sine.specs.Sine.{root}
+use Rattle.mesh_sine.proofs.Roots.{root_is, root_by}
+use Rattle.mesh_grid.specs.Direction.{IsShort}
+use Rattle.mesh_grid.specs.Rectangle.{IsSafeWidened}
+use Rattle.mesh_grid.proofs.Scaling.{short_bounded}
+use Rattle.mesh_arc.specs.Arcs.{arc, clamped}
+use Rattle.mesh_arc.specs.declared.arc.ArcDirection.TheVariants.{Counterclockwise}
+use Rattle.mesh_arc.specs.declared.arc.ArcOptions.{ArcOptions}
+use Rattle.mesh_join.specs.Midway.RoundJoins.{IsApart}
+use Rattle.mesh_join.proofs.Joints.{within_safe}
+use Rattle.mesh_sweep.specs.Sweeps.{distance, bearing, point_round, polyline_points, east_of, west_of, is_central}
+use Rattle.mesh_sweep.specs.Sweeps.{IsSwept, IsReached}
+
+-- ---- distances
+
+-- the root that the code takes
+pub distance_by : (p q : Point) (r : ℕ) → r * r ≤ length_sq (minus q p) → length_sq (minus q p) < (r + 1) * (r + 1)
+    → distance p q ≡ r
+unfolding distance
+distance_by p q r h l = root_by (length_sq (minus q p)) r h l
+
+-- the cut distance of a point that is less far away than the next whole number
+pub distance_most : (p q : Point) (r : ℕ) → length_sq (minus q p) < (r + 1) * (r + 1) → distance p q ≤ r
+unfolding distance
+distance_most p q r h =
+    let d = root_is (length_sq (minus q p)) in
+    let l : root (length_sq (minus q p)) < r + 1 =
+    lt_of_squares (root (length_sq (minus q p))) (r + 1) (omega (arith, d.within, h)) in
+    omega arith
+
+-- ---- what is safe
+
+-- the vector between safe points is short
+safe_difference : (unit : ℕ) (p q : Point) → IsSafe unit p → IsSafe unit q → IsSafe (2 * unit) (minus p q)
+safe_difference unit p q h k = record {
+  x = record { low = omega (arith, ints, h.x.low, k.x.high); high = omega (arith, ints, h.x.high, k.x.low) };
+  y = record { low = omega (arith, ints, h.y.low, k.y.high); high = omega (arith, ints, h.y.high, k.y.low) };
+}
+
+-- a center that stays safe is safe
+center_safe : (unit d : ℕ) (c : Point) → IsSafeWidened unit (pos d) c → IsSafe unit c
+center_safe unit d c h = record {
+  x = record { low = omega (arith, ints, h.0.x.low); high = omega (arith, ints, h.1.x.high) };
+  y = record { low = omega (arith, ints, h.0.y.low); high = omega (arith, ints, h.1.y.high) };
+}
+
+-- and does not move far
+pub reach_small : (unit d : ℕ) (c : Point) → IsSafeWidened unit (pos d) c → d < unit
+reach_small unit d c h = omega (arith, ints, h.0.x.low, h.1.x.high)
+
+-- the components of a direction are small
+pub short_safe : (unit : ℕ) (n : Point) → 0 < unit → IsShort unit n → IsSafe (2 * unit) n
+short_safe unit n some short =
+    let b : (unsigned_abs n.0 ≤ unit) × (unsigned_abs n.1 ≤ unit) = short_bounded unit n short in
+    record {
+      x = record { low = omega (arith, ints, b.0); high = omega (arith, ints, b.0) };
+      y = record { low = omega (arith, ints, b.1); high = omega (arith, ints, b.1) };
+    }
+
+-- a center that stays safe within some padding does within a smaller one
+safe_less : (unit : ℕ) (padding reach : ℤ) (c : Point) → pos 0 ≤ℤ padding → padding ≤ℤ reach
+    → IsSafeWidened unit reach c → IsSafeWidened unit padding c
+safe_less unit padding reach c some covers h = (
+  record {
+    x = record { low = omega (arith, ints, h.0.x.low); high = omega (arith, ints, h.0.x.low, h.1.x.high) };
+    y = record { low = omega (arith, ints, h.0.y.low); high = omega (arith, ints, h.0.y.low, h.1.y.high) };
+  },
+  record {
+    x = record { low = omega (arith, ints, h.0.x.low, h.1.x.high); high = omega (arith, ints, h.1.x.high) };
+    y = record { low = omega (arith, ints, h.0.y.low, h.1.y.high); high = omega (arith, ints, h.1.y.high) };
+  },
+)
+
+-- what a center reaches can be swept where it stays safe by that reach
+pub swept_within : (unit : ℕ) (reach : ℤ) (c x y : Point) → IsSafeWidened unit reach c → IsReached reach c x y
+    → IsSwept unit c x y
+swept_within unit reach c x y safe h = record {
+  center = safe_less unit (pos (distance c x)) reach c (omega (arith, ints)) h.distance safe;
+  from = within_safe unit reach c x safe h.from;
+  to = within_safe unit reach c y safe h.to;
+}
+
+pub swept_from : (unit : ℕ) (c x y : Point) → IsSwept unit c x y → IsSafe (2 * unit) (minus x c)
+swept_from unit c x y h = safe_difference unit x c h.from (center_safe unit (distance c x) c h.center)
+
+pub swept_to : (unit : ℕ) (c x y : Point) → IsSwept unit c x y → IsSafe (2 * unit) (minus y c)
+swept_to unit c x y h = safe_difference unit y c h.to (center_safe unit (distance c x) c h.center)
+
+-- ---- what has a direction
+
+-- an arc that is more than one edge begins and ends apart from its center
+pub ends_apart : (c x y : Point) → is_central c x y ≡ false → (x ≢ c) × (y ≢ c)
+ends_apart c x y h = (from h, to h)
+  where
+    from : is_central c x y ≡ false → x ≢ c
+    from h e = absurd (true≢false (sym (ap (λ (b : Bool). b || same_point y c) ((decides_point x c).1 e)) ∙ h))
+
+    any : (b : Bool) → (b || true) ≡ true
+    any true = refl
+    any false = refl
+
+    to : is_central c x y ≡ false → y ≢ c
+    to h e =
+        let t : is_central c x y ≡ true =
+        ap (λ (b : Bool). same_point x c || b) ((decides_point y c).1 e) ∙ any (same_point x c) in
+        absurd (true≢false (sym t ∙ h))
+
+pub from_seen : (unit : ℕ) (c x y : Point) → IsSwept unit c x y → is_central c x y ≡ false → IsApart unit c x
+from_seen unit c x y h apart = record {
+  safe = swept_from unit c x y h;
+  differ = (ends_apart c x y apart).0;
+}
+
+pub to_seen : (unit : ℕ) (c x y : Point) → IsSwept unit c x y → is_central c x y ≡ false → IsApart unit c y
+to_seen unit c x y h apart = record {
+  safe = swept_to unit c x y h;
+  differ = (ends_apart c x y apart).1;
+}
+
+-- the points by the arc that the code builds
+pub points_are : (options now : ArcOptions) (unit : ℕ) (c x y : Point) (radius : ℤ) (from end : Point)
+    → now ≡ clamped options → from ≡ bearing unit c x → end ≡ bearing unit c y
+    → map (point_round unit c radius) (arc unit now Counterclockwise from end)
+    ≡ polyline_points unit options c x y radius
+unfolding polyline_points
+points_are options now unit c x y radius from end o f e =
+    ap (λ (k : ArcOptions). map at (arc unit k Counterclockwise from end)) o
+    ∙ ap (λ (d : Point). map at (arc unit (clamped options) Counterclockwise d end)) f
+    ∙ ap (λ (d : Point). map at (arc unit (clamped options) Counterclockwise (bearing unit c x) d)) e
+  where
+    at : Point → Point
+    at = point_round unit c radius
+
+-- ---- the points of a circle to the east and to the west
+
+module _ (unit : ℕ) (c : Point) (radius : ℤ) (large : pos 1 <ℤ radius) where
+  pub east_apart : east_of c radius ≢ c
+  east_apart e = absurd (omega (arith, ints, large, ap (λ (p : Point). p.0) e))
+
+  pub west_apart : west_of c radius ≢ c
+  west_apart e = absurd (omega (arith, ints, large, ap (λ (p : Point). p.0) e))
+
+  module _ (h : IsSafeWidened unit radius c) where
+    pub east_safe : IsSafe unit (east_of c radius)
+    east_safe = record {
+      x = record { low = omega (arith, ints, large, h.0.x.low); high = omega (arith, ints, h.1.x.high) };
+      y = record { low = omega (arith, ints, large, h.0.y.low); high = omega (arith, ints, large, h.1.y.high) };
+    }
+
+    pub west_safe : IsSafe unit (west_of c radius)
+    west_safe = record {
+      x = record { low = omega (arith, ints, h.0.x.low); high = omega (arith, ints, large, h.1.x.high) };
+      y = record { low = omega (arith, ints, large, h.0.y.low); high = omega (arith, ints, large, h.1.y.high) };
+    }
+
+    center_is_safe : IsSafe unit c
+    center_is_safe = record {
+      x = record { low = omega (arith, ints, large, h.0.x.low); high = omega (arith, ints, large, h.1.x.high) };
+      y = record { low = omega (arith, ints, large, h.0.y.low); high = omega (arith, ints, large, h.1.y.high) };
+    }
+
+    pub east_seen : IsApart unit c (east_of c radius)
+    east_seen = record {
+      safe = safe_difference unit (east_of c radius) c east_safe center_is_safe;
+      differ = east_apart;
+    }
+
+    pub west_seen : IsApart unit c (west_of c radius)
+    west_seen = record {
+      safe = safe_difference unit (west_of c radius) c west_safe center_is_safe;
+      differ = west_apart;
+    }
