@@ -1,0 +1,2 @@
+pub mod Reach
+pub mod Resolving

@@ -1,0 +1,6 @@
+pub use Rattle.mesh_variable_stroke.specs.Chains
+pub use Rattle.mesh_variable_stroke.specs.Drawn
+pub use Rattle.mesh_variable_stroke.specs.VariableStrokes
+pub mod Resolved
+pub mod Staying
+pub mod Strokable

@@ -1,0 +1,26 @@
+-- Which paths may be stroked, and how far their strokes reach.
+use Rattle.std.specs.Prelude.{ℕ, List, [], ◌∷◌, map, ℤ, pos, ◌+ℤ◌, ◌-ℤ◌}
+use Rattle.std.specs.Int.{int_max}
+use Rattle.std.specs.List.{All}
+use Rattle.mesh_plane.specs.Bounds.{IsSmall}
+use Rattle.mesh_plane.specs.Plane.{Point}
+use Rattle.mesh_join.specs.VariableStyles.{Vertex}
+use Rattle.mesh_draw.specs.Padding.{all_points}
+use Rattle.mesh_variable_stroke.specs.Drawn.{points_of, greatest_radius, AreStrokable}
+
+-- the greatest radius of all vertices of all paths, 0 where there is none
+unfoldable pub padding_of : List (List Vertex) → ℤ
+padding_of [] = pos 0
+padding_of (path ∷ paths) = int_max (greatest_radius path) (padding_of paths)
+
+-- each vertex of each path stays safe where it moves by at most the greatest radius of all
+abbrev pub ArePathsStrokable : ℕ → List (List Vertex) → Type 0
+ArePathsStrokable unit paths = All (λ (path : List Vertex). AreStrokable unit (padding_of paths) path) paths
+
+-- the points of all vertices of all paths
+abbrev pub all_vertex_points : List (List Vertex) → List Point
+all_vertex_points paths = all_points (map points_of paths)
+
+-- a coordinate stays safe where it moves by at most the padding, either way
+abbrev pub IsRoomLeft : ℕ → ℤ → ℤ → Type 0
+IsRoomLeft unit padding coordinate = IsSmall unit (coordinate -ℤ padding) × IsSmall unit (coordinate +ℤ padding)

@@ -1,0 +1,105 @@
+-- Lemmas over paths: each kind of step of a walk, and that a walk stays good.
+use Rattle.std.proofs.Common.{◌≡◌, ℕ, List, ◌++◌, sym, subst, ◌∙◌, ap, append_assoc}
+use Rattle.std.specs.Prelude.{Bool, true, false, cond, Option, Some, None, IfSome}
+use Rattle.mesh_plane.specs.Plane.{Edge}
+use Rattle.mesh_num.specs.Segments.{SignedEdge, segments_of}
+use Rattle.mesh_num.proofs.SegmentLists.{segments_of-append}
+use Rattle.mesh_arc.specs.declared.arc.ArcOptions.{ArcOptions}
+use Rattle.mesh_tangent.specs.Sections.{Circle, Section, section_of, with_contacts, has_no_section, IsSafeCircle, HasContacts, IsSafeSection}
+use Rattle.mesh_variable_stroke.specs.Building.{Open, Walk, opened, gone_on, step_edges, finish_edges}
+use Rattle.mesh_variable_stroke.specs.Building.{IsGoodOpen, IsGoodSection, IsGoodWalk, last_with}
+use Rattle.mesh_variable_stroke.specs.VariableStrokes.{Joint, is_apart, start_edges, end_edges, left_edges, right_edges, joint_edges}
+use Rattle.mesh_variable_stroke.specs.declared.chain_end.ChainEnd.{ChainEnd}
+use Rattle.mesh_variable_stroke.specs.declared.chain_end.ChainEnd.TheVariants.{Butt, Round}
+
+-- edges added one after the other
+pub both_added : (old mid new : List SignedEdge) (es gs : List Edge) → mid ≡ old ++ segments_of es → new ≡ mid ++ segments_of gs → new ≡ old ++ segments_of (es ++ gs)
+both_added old mid new es gs m h = rw (h, m, segments_of-append es gs) (append_assoc old (segments_of es) (segments_of gs))
+
+-- both ends of sections that do not meet
+pub apart_added : (unit : ℕ) (options later : ArcOptions) (j : Joint) (old mid new : List SignedEdge) → is_apart j ≡ true →
+    mid ≡ old ++ segments_of (end_edges unit options Butt j.0) → new ≡ mid ++ segments_of (start_edges unit later Butt j.1) →
+    new ≡ old ++ segments_of (joint_edges unit options j)
+apart_added unit options later j old mid new a m h =
+    rw a (both_added old mid new (end_edges unit options Butt j.0) (start_edges unit options Butt j.1) m h)
+
+-- both sides of sections that meet
+pub met_added : (unit : ℕ) (options later : ArcOptions) (j : Joint) (old mid new : List SignedEdge) → is_apart j ≡ false → later ≡ options →
+    mid ≡ old ++ segments_of (left_edges unit options j) → new ≡ mid ++ segments_of (right_edges unit later j) →
+    new ≡ old ++ segments_of (joint_edges unit options j)
+met_added unit options later j old mid new a same m h =
+    rw a (both_added old mid new (left_edges unit options j) (right_edges unit options j) m (rw same at h))
+
+-- the end of a chain, and a step of the next one
+pub again_added : (unit : ℕ) (options later : ArcOptions) (c next : Open) (at : Circle) (o : Option Section) (old mid new : List SignedEdge) →
+    later ≡ options → next ≡ opened at Butt → mid ≡ old ++ segments_of (finish_edges unit options c Round) →
+    new ≡ mid ++ segments_of (step_edges unit later next o) →
+    new ≡ old ++ segments_of (finish_edges unit options c Round ++ step_edges unit options (opened at Butt) o)
+again_added unit options later c next at o old mid new same starts m h =
+    both_added old mid new (finish_edges unit options c Round) (step_edges unit options (opened at Butt) o) m
+    (h ∙ (ap (λ (k : ArcOptions). mid ++ segments_of (step_edges unit k next o)) same
+    ∙ ap (λ (k : Open). mid ++ segments_of (step_edges unit options k o)) starts))
+
+-- ---- sections and chains stay good
+
+pub section_good : (unit : ℕ) (a b : Circle) (o : Option Section) → o ≡ section_of unit a b → IfSome o HasContacts → IfSome o (IsSafeSection unit) →
+    IsSafeCircle unit a → IsSafeCircle unit b → IfSome o (IsGoodSection unit)
+section_good unit a b None h contacts safe ha hb = tt
+section_good unit a b (Some s) h contacts safe ha hb = by (has_no_section a b) h
+  where
+    by : (none : Bool) → Some s ≡ cond none None (Some (with_contacts unit a b)) → IsGoodSection unit s
+    by true k = absurd (let e : Some s ≡ None = k in cc)
+    by false k =
+        let e : s ≡ with_contacts unit a b = cc in
+        record {
+          a = subst (λ (t : Section). IsSafeCircle unit t.a) (sym e) ha;
+          b = subst (λ (t : Section). IsSafeCircle unit t.b) (sym e) hb;
+          contacts = contacts;
+          safe = safe;
+        }
+
+last_good : (unit : ℕ) (last o : Option Section) → IfSome last (IsGoodSection unit) → IfSome o (IsGoodSection unit) → IfSome (last_with last o) (IsGoodSection unit)
+last_good unit last None h k = h
+last_good unit last (Some s) h k = k
+
+pub gone_on_good : (unit : ℕ) (c : Open) (o : Option Section) → IsGoodOpen unit c → IfSome o (IsGoodSection unit) → IsGoodOpen unit (gone_on c o)
+gone_on_good unit c o h k = record { start = h.start; last = last_good unit c.last o h.last k }
+
+pub opened_good : (unit : ℕ) (c : Circle) (e : ChainEnd) → IsSafeCircle unit c → IsGoodOpen unit (opened c e)
+opened_good unit c e h = record { start = h; last = tt }
+
+-- ---- walks stay good; `v` is how the code sees the walk `w`
+
+pub section_seen : (unit : ℕ) (w v : Walk) (b : Circle) (o : Option Section) → v ≡ w → IsGoodWalk unit w → IsSafeCircle unit b → o ≡ section_of unit v.at b →
+    IfSome o HasContacts → IfSome o (IsSafeSection unit) → IfSome o (IsGoodSection unit)
+section_seen unit w v b o e h safe is contacts inside =
+    section_good unit v.at b o is contacts inside (subst (IsSafeCircle unit) (ap (λ (k : Walk). k.at) (sym e)) h.at) safe
+
+abbrev stood : Open → Option Section → Circle → ChainEnd → Walk
+stood c o b end = record { chain = c; before = o; at = b; end = end }
+
+pub broken_good : (unit : ℕ) (c : Open) (o : Option Section) (b : Circle) (start end : ChainEnd) → c ≡ opened b start → IsSafeCircle unit b →
+    IfSome o (IsGoodSection unit) → IsGoodWalk unit (stood c o b end)
+broken_good unit c o b start end e safe good = record {
+  chain = subst (IsGoodOpen unit) (sym e) (opened_good unit b start safe);
+  before = good;
+  at = safe;
+}
+
+pub covered_good : (unit : ℕ) (w v : Walk) (c : Open) (o : Option Section) (b : Circle) (end : ChainEnd) → v ≡ w → IsGoodWalk unit w →
+    c ≡ gone_on (opened v.at Butt) o → IsSafeCircle unit b → IfSome o (IsGoodSection unit) → IsGoodWalk unit (stood c o b end)
+covered_good unit w v c o b end e h is safe good = record {
+  chain =
+      subst (IsGoodOpen unit) (sym is)
+      (gone_on_good unit (opened v.at Butt) o (opened_good unit v.at Butt (subst (IsSafeCircle unit) (ap (λ (k : Walk). k.at) (sym e)) h.at)) good);
+  before = good;
+  at = safe;
+}
+
+pub plain_good : (unit : ℕ) (w v : Walk) (c : Open) (o : Option Section) (b : Circle) (end : ChainEnd) → v ≡ w → IsGoodWalk unit w →
+    c ≡ gone_on v.chain o → IsSafeCircle unit b → IfSome o (IsGoodSection unit) → IsGoodWalk unit (stood c o b end)
+plain_good unit w v c o b end e h is safe good = record {
+  chain = subst (IsGoodOpen unit) (sym is) (gone_on_good unit v.chain o (subst (IsGoodOpen unit) (ap (λ (k : Walk). k.chain) (sym e)) h.chain) good);
+  before = good;
+  at = safe;
+}

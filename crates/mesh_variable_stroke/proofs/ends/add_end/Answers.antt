@@ -1,0 +1,7 @@
+-- The arc begins at a contact of its circle.
+use Rattle.mesh_variable_stroke.proofs.Safe.{end_swept}
+use Rattle.mesh_variable_stroke.proofs.ends.add_end.Goals as goal
+
+pub add_arc-requires : goal.add_arc-requires
+add_arc-requires g c =
+    end_swept g.I.IntNumber.unit c.args.last.now _ _ c.last.view_is c.end_center.ensures c.requires

@@ -1,0 +1,35 @@
+-- The walk stays good.
+use Rattle.mesh_variable_stroke.proofs.Stepping.{section_seen, broken_good, covered_good, plain_good}
+use Rattle.mesh_draw.proofs.Adding.{on_ok_then}
+use Rattle.mesh_variable_stroke.proofs.walk.Walk.step.Goals as goal
+
+pub returns-then-is_nested_with-clause-good : goal.returns-then-is_nested_with-clause-good
+returns-then-is_nested_with-clause-good g c =
+    broken_good g.I.IntNumber.unit _ c.new-section.result c.args.next _ _ c.in_ok-self-inside.ensures.chain c.requires.next
+    (section_seen g.I.IntNumber.unit c.args.self.now _ c.args.next c.new-section.result c.self.view_is c.requires.walk
+    c.requires.next c.new-section.ensures.value c.new-section.ensures.contacts c.new-section.ensures.safe)
+
+pub start_again-requires-clause-section : goal.start_again-requires-clause-section
+start_again-requires-clause-section g c =
+    section_seen g.I.IntNumber.unit c.args.self.now _ c.args.next c.new-section.result c.self.view_is c.requires.walk
+    c.requires.next c.new-section.ensures.value c.new-section.ensures.contacts c.new-section.ensures.safe
+
+pub returns-then-covered-clause-good : goal.returns-then-covered-clause-good
+returns-then-covered-clause-good g c =
+    covered_good g.I.IntNumber.unit c.args.self.now _ _ c.new-section.result c.args.next _ c.self.view_is c.requires.walk
+    c.in_ok-self-inside-2.ensures.chain c.requires.next
+    (section_seen g.I.IntNumber.unit c.args.self.now _ c.args.next c.new-section.result c.self.view_is c.requires.walk
+    c.requires.next c.new-section.ensures.value c.new-section.ensures.contacts c.new-section.ensures.safe)
+
+pub go_on-requires-clause-section : goal.go_on-requires-clause-section
+go_on-requires-clause-section g c =
+    section_seen g.I.IntNumber.unit c.args.self.now _ c.args.next c.new-section.result c.self.view_is c.requires.walk
+    c.requires.next c.new-section.ensures.value c.new-section.ensures.contacts c.new-section.ensures.safe
+
+pub returns-clause-good : goal.returns-clause-good
+returns-clause-good g c =
+    on_ok_then c.go_on.result c.go_on.ensures.chain
+    (λ h. plain_good g.I.IntNumber.unit c.args.self.now _ _ c.new-section.result c.args.next _ c.self.view_is c.requires.walk
+    h c.requires.next
+    (section_seen g.I.IntNumber.unit c.args.self.now _ c.args.next c.new-section.result c.self.view_is c.requires.walk
+    c.requires.next c.new-section.ensures.value c.new-section.ensures.contacts c.new-section.ensures.safe))

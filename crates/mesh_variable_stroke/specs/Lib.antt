@@ -1,0 +1,4 @@
+pub mod Building
+pub mod Chains
+pub mod Drawn
+pub mod VariableStrokes

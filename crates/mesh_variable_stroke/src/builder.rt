@@ -1,0 +1,111 @@
+//! The edges of one path's stroke of variable width.
+
+ghost use Rattle.std.specs.Prelude.{◌≡◌, [], IsOk, OnOk, OnErr};
+ghost use Rattle.std.specs.List.{All};
+ghost use Rattle.std.specs.List.Sorted.{IsPermutation};
+ghost use Rattle.mesh_plane.specs.Winding.{IsBalanced};
+ghost use Rattle.mesh_num.specs.Segments.{IsSubject};
+ghost use Rattle.mesh_cuts.specs.Reach.{AreEdgesSafe};
+ghost use Rattle.mesh_draw.specs.Adding.{Adds, added, added_edges, Keeps};
+ghost use Rattle.mesh_draw.specs.Padding.{AreEndsNear};
+ghost use Rattle.mesh_draw.specs.Pieces.{WindAsPieces};
+ghost use Rattle.mesh_variable_stroke.specs.Drawn.{points_of, greatest_radius, AreStrokable};
+ghost use Rattle.mesh_variable_stroke.specs.VariableStrokes.{variable_stroke_edges, variable_stroke_pieces};
+
+use crate::vertex::circle_of;
+use crate::walk::Walk;
+use mesh_join::style::{IntStrokeVertex, IntVariableStrokeStyle};
+use mesh_num::num::IntNumber;
+use mesh_num::shape::segment::Segment;
+use mesh_sweep::sweeper::Sweeper;
+use std::alloc::{AllocError, Global};
+use std::marker::Model;
+
+/// Builds the stroke of a path whose width changes from vertex to vertex: the tangents of neighbouring circles, joined
+/// by arcs round the vertices. Contracts see how finely arcs are drawn.
+#[derive(Drop)]
+pub struct VariableStrokeBuilder<I: IntNumber> {
+    sweeper: Sweeper<I>,
+}
+
+impl<I: IntNumber> Model for VariableStrokeBuilder<I> {
+    ghost use Rattle.mesh_arc.specs.declared.arc.ArcOptions.{ArcOptions};
+
+    ghost Value = { ArcOptions };
+
+    ghost view = { λ b. b.sweeper };
+}
+
+impl<I: IntNumber> VariableStrokeBuilder<I> {
+    /// A builder of strokes of this style. It takes no memory.
+    pub fn new(alloc: Global, style: IntVariableStrokeStyle) -> Self
+        ensures { result ≡ style.arc }
+    {
+        VariableStrokeBuilder {
+            sweeper: Sweeper::new(alloc, style.arc),
+        }
+    }
+
+    /// Adds the edges of the stroke of the open path through these vertices, each of which stays in the safe range
+    /// where it moves by the greatest radius of all. A vertex's radius is half of its width, rounded up. What the
+    /// vector holds stays. Nothing is added for a path without vertices, which takes no memory. After a refusal the
+    /// vector is cut back to its old length.
+    ///
+    /// A step of the path where one circle holds the other, or the section before holds the next circle, starts a new
+    /// chain. Each chain is drawn along the outer tangents of its neighbouring circles, and ends round or straight.
+    pub fn build(
+        &mut self,
+        path: &[IntStrokeVertex<I>],
+        segments: &mut Vec<Segment<I>>,
+    ) -> Result<(), AllocError>
+        requires { AreStrokable I.unit (greatest_radius path.now) path.now }
+        // What is added, and what stays.
+        ensures kept { OnOk result (Keeps segments.old.items segments.new.items) }
+        ensures edges { OnOk result (IsPermutation (added_edges segments.old.items segments.new.items)
+            (variable_stroke_edges I.unit self.old path.now)) }
+        ensures form { OnOk result (All IsSubject (added segments.old.items segments.new.items)) }
+        ensures refused { OnErr result (segments.new.items ≡ segments.old.items) }
+        ensures no_vertex { path.now ≡ [] → IsOk result }
+        ensures same { self.new ≡ self.old }
+
+        // The edges close up, and stay near the path.
+        ensures balanced { OnOk result (IsBalanced (added_edges segments.old.items segments.new.items)) }
+        ensures near { OnOk result (AreEndsNear (greatest_radius path.now) (points_of path.now)
+            (added_edges segments.old.items segments.new.items)) }
+        ensures safe { OnOk result (AreEdgesSafe I.unit (added_edges segments.old.items segments.new.items)) }
+
+        // How they wind.
+        ensures sum { OnOk result (WindAsPieces (variable_stroke_pieces I.unit self.old path.now)
+            (added_edges segments.old.items segments.new.items)) }
+    {
+        let length = segments.len();
+        if let Err(error) = draw(&mut self.sweeper, path, segments) {
+            segments.truncate(length);
+            return Err(error);
+        }
+        Ok(())
+    }
+}
+
+/// Adds the edges of a stroke.
+fn draw<I: IntNumber>(
+    sweeper: &mut Sweeper<I>,
+    path: &[IntStrokeVertex<I>],
+    segments: &mut Vec<Segment<I>>,
+) -> Result<(), AllocError>
+    requires { AreStrokable I.unit (greatest_radius path.now) path.now }
+    ensures ok { OnOk result (Adds segments.old.items segments.new.items
+        (variable_stroke_edges I.unit sweeper.old path.now)) }
+    ensures kept { Keeps segments.old.items segments.new.items }
+    ensures no_vertex { path.now ≡ [] → IsOk result }
+    ensures same { sweeper.new ≡ sweeper.old }
+{
+    let Some((first, rest)) = path.split_first() else {
+        return Ok(());
+    };
+    let mut walk = Walk::new(circle_of(first));
+    for vertex in rest {
+        walk.step(circle_of(vertex), sweeper, segments)?;
+    }
+    walk.finish(sweeper, segments)
+}
