@@ -10,12 +10,13 @@ use Rattle.mesh_shapes.specs.Resolution.{Choices}
 use Rattle.mesh_draw.specs.declared.error.IntOutlineError.TheVariants.{CoordinateOutOfRange, OutOfMemory}
 use Rattle.mesh_arc.specs.declared.arc.ArcOptions.{ArcOptions}
 use Rattle.mesh_join.specs.Styles.{JoinStyle, OutlineStyle}
+use Rattle.mesh_join.specs.VariableStyles.{Vertex, default_variable_style}
 use Rattle.mesh_join.specs.declared.style.IntLineJoin.{IntLineJoin}
 use Rattle.mesh_join.specs.declared.style.IntLineJoin.TheVariants.{Bevel, Miter, Round}
 use Rattle.mesh_cap.specs.Caps.{CapKind}
 use Rattle.mesh_draw.specs.Radii.{radius_of}
 use Rattle.mesh_stroke.specs.Styles.{StrokeStyle}
-use Rattle.mesh_request.specs.Requests.{Drawn, as_outline, as_stroke, Asked, for_edges, for_shapes, Request}
+use Rattle.mesh_request.specs.Requests.{Drawn, as_outline, as_stroke, as_variable_stroke, Asked, for_edges, for_shapes, Request}
 use Rattle.mesh_request.specs.declared.failure.Failure.{Failure}
 use Rattle.mesh_request.specs.declared.failure.Failure.TheVariants.{Unreadable, Refused}
 
@@ -64,6 +65,42 @@ path_list_of unit (item d ds) = option_and_then (λ p. option_map (λ ps. p ∷ 
 abbrev pub paths_in : ℕ → Data → Option (List (List Point))
 paths_in unit d = option_and_then (path_list_of unit) (option_and_then as_array (get (codes "paths") d))
 
+-- two coordinates and a width, as a vertex
+abbrev pub vertex_with : ℤ × (ℤ × ℤ) → Vertex
+vertex_with said = record { point = (said.0, said.1.0); width = said.1.1 }
+
+-- two coordinates and a width
+abbrev pub triple_of : ℕ → Items → Option Vertex
+triple_of unit no_items = None
+triple_of unit (item x no_items) = None
+triple_of unit (item x (item y no_items)) = None
+triple_of unit (item x (item y (item w no_items))) =
+    option_map vertex_with (both (coordinate_of unit x) (both (coordinate_of unit y) (coordinate_of unit w)))
+triple_of unit (item x (item y (item w (item z more)))) = None
+
+-- the vertex that a value is: [x,y,width]
+abbrev pub vertex_of : ℕ → Data → Option Vertex
+vertex_of unit d = option_and_then (triple_of unit) (as_array d)
+
+-- the vertices that values are
+abbrev pub vertices_of : ℕ → Items → Option (List Vertex)
+vertices_of unit no_items = Some []
+vertices_of unit (item d ds) = option_and_then (λ v. option_map (λ vs. v ∷ vs) (vertices_of unit ds)) (vertex_of unit d)
+
+-- the path of vertices that a value is: a list of them
+abbrev pub vertex_path_of : ℕ → Data → Option (List Vertex)
+vertex_path_of unit d = option_and_then (vertices_of unit) (as_array d)
+
+-- the paths of vertices that values are
+abbrev pub vertex_path_list_of : ℕ → Items → Option (List (List Vertex))
+vertex_path_list_of unit no_items = Some []
+vertex_path_list_of unit (item d ds) =
+    option_and_then (λ p. option_map (λ ps. p ∷ ps) (vertex_path_list_of unit ds)) (vertex_path_of unit d)
+
+-- the paths of a request whose width changes from vertex to vertex
+abbrev pub vertex_paths_in : ℕ → Data → Option (List (List Vertex))
+vertex_paths_in unit d = option_and_then (vertex_path_list_of unit) (option_and_then as_array (get (codes "paths") d))
+
 -- whether a value is a text
 abbrev pub is_word : List ℕ → Option (List ℕ) → Bool
 is_word word None = false
@@ -76,10 +113,6 @@ says key word d = is_word word (option_and_then as_str (get key d))
 -- whether there is a member
 abbrev pub has_key : List ℕ → Data → Bool
 has_key key d = is_some (get key d)
-
--- whether a style has a key that means something and is not served
-abbrev pub has_unserved : Data → Bool
-has_unserved d = has_key (codes "arc") d
 
 -- the whole number of 32 bits without sign that a value is
 abbrev pub small_number_of : Data → Option ℕ
@@ -150,9 +183,7 @@ outline_style_with said = record {
 -- the style of outlines that an object gives
 abbrev pub outline_style_in : ℕ → Data → Option OutlineStyle
 outline_style_in unit d =
-    if has_unserved d
-    then None
-    else option_map outline_style_with
+    option_map outline_style_with
     (both (join_of (get (codes "join") d))
     (both (min_turn_of (get (codes "min_turn") d))
     (both (length_of unit (codes "outer") d) (length_of unit (codes "inner") d))))
@@ -178,9 +209,7 @@ uncapped_with said = (said.1.1, record { kind = said.0; min_turn = said.1.0 })
 -- the width and the joins of the strokes that an object gives
 abbrev pub uncapped_in : ℕ → Data → Option (ℤ × JoinStyle)
 uncapped_in unit d =
-    if has_unserved d
-    then None
-    else option_map uncapped_with
+    option_map uncapped_with
     (both (join_of (get (codes "join") d))
     (both (min_turn_of (get (codes "min_turn") d)) (length_of unit (codes "width") d)))
 
@@ -198,6 +227,15 @@ abbrev pub stroke_style_in : ℕ → Data → Option StrokeStyle
 stroke_style_in unit d =
     option_map stroke_style_with
     (both (uncapped_in unit d) (both (cap_of unit (get (codes "start") d)) (cap_of unit (get (codes "end") d))))
+
+-- the options of the arcs of variable strokes that a value gives, the default ones where there is none
+abbrev pub arc_given : Option Data → Option ArcOptions
+arc_given None = Some default_variable_style.arc
+arc_given (Some d) = arc_options_of d
+
+-- the options of arcs in a style of variable strokes, which is an object
+abbrev pub arc_in : Data → Option ArcOptions
+arc_in d = if is_some (as_object d) then arc_given (get (codes "arc") d) else None
 
 -- the number, where it fits the type of areas
 abbrev pub where_area_fits : ℕ → ℕ → Option ℕ
@@ -251,11 +289,21 @@ stroke_of unit d =
     (both (flag_of (get (codes "closed") d))
     (both (option_and_then (stroke_style_in unit) (get (codes "style") d)) (paths_in unit d)))
 
+-- options of arcs and paths of vertices, as a stroke of variable width
+abbrev pub variable_stroke_with : ArcOptions × List (List Vertex) → Drawn
+variable_stroke_with said = as_variable_stroke said.0 said.1
+
+-- the stroke of variable width that is asked for, with coordinates of a type with `unit`
+abbrev pub variable_stroke_of : ℕ → Data → Option Drawn
+variable_stroke_of unit d =
+    option_map variable_stroke_with (both (option_and_then arc_in (get (codes "style") d)) (vertex_paths_in unit d))
+
 -- what is drawn, with coordinates of a type with `unit`
 abbrev pub drawn_in : ℕ → Data → Option Drawn
 drawn_in unit d =
     if says (codes "op") (codes "outline") d then outline_of unit d
     else if says (codes "op") (codes "stroke") d then stroke_of unit d
+    else if says (codes "op") (codes "variable_stroke") d then variable_stroke_of unit d
     else None
 
 -- what is drawn and what is asked, as a request

@@ -1,6 +1,6 @@
-//! What is drawn of paths: their outline or their stroke.
+//! What is drawn of paths: their outline, or their stroke with one width or one that changes.
 
-use mesh_join::style::{IntOutlineStyle, IntStrokeStyle};
+use mesh_join::style::{IntOutlineStyle, IntStrokeStyle, IntStrokeVertex, IntVariableStrokeStyle};
 use mesh_num::num::{IntPoint, OverlayInt};
 
 /// What is drawn of paths, and how.
@@ -10,6 +10,8 @@ pub enum Drawing<I: OverlayInt> {
     Outline(Outline<I>),
     /// The stroke of paths with a width.
     Stroke(Stroke<I>),
+    /// The stroke of paths whose width changes from vertex to vertex.
+    VariableStroke(VariableStroke<I>),
 }
 
 /// The outline of contours.
@@ -30,4 +32,13 @@ pub struct Stroke<I: OverlayInt> {
     pub style: IntStrokeStyle<I>,
     /// Whether each path goes on from its last point to its first. A closed path has no caps.
     pub closed: bool,
+}
+
+/// The stroke of paths whose width changes from vertex to vertex.
+#[derive(Drop)]
+pub struct VariableStroke<I: OverlayInt> {
+    /// The paths to be stroked, with the width at each vertex.
+    pub paths: Vec<Vec<IntStrokeVertex<I>>>,
+    /// How finely arcs are drawn.
+    pub style: IntVariableStrokeStyle,
 }

@@ -10,6 +10,8 @@ pub mod joins;
 pub mod outline;
 pub mod paths;
 pub mod stroke;
+pub mod variable_stroke;
+pub mod vertices;
 
 use crate::drawing::Drawing;
 use crate::failure::Failure;
@@ -22,6 +24,7 @@ use serde_json::Value;
 use std::alloc::Global;
 use std::marker::Model;
 use stroke::read_stroke;
+use variable_stroke::read_variable_stroke;
 
 /// What a request asks of what is drawn.
 #[derive(Debug, Copy, Clone)]
@@ -74,6 +77,8 @@ fn read_drawing<I: OverlayInt>(alloc: Global, value: &Value) -> Result<Drawing<I
         Ok(Drawing::Outline(read_outline(alloc, value)?))
     } else if says(value, "op", "stroke") {
         Ok(Drawing::Stroke(read_stroke(alloc, value)?))
+    } else if says(value, "op", "variable_stroke") {
+        Ok(Drawing::VariableStroke(read_variable_stroke(alloc, value)?))
     } else {
         Err(Failure::Unreadable)
     }

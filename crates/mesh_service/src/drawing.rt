@@ -8,7 +8,7 @@ ghost use Rattle.mesh_request.specs.Requests.{drawn_of};
 ghost use Rattle.mesh_service.specs.Served.{AreEdgesOf, AreShapesOf, MayBeDrawn};
 
 use crate::edge::DirectedEdge;
-use crate::{outline, stroke};
+use crate::{outline, stroke, variable_stroke};
 use i_overlay_mesh::IntOutlineError;
 use mesh_below::below::IntOverlayOptions;
 use mesh_num::num::OverlayInt;
@@ -30,6 +30,7 @@ pub fn edges<I: OverlayInt>(
     match drawing {
         Drawing::Outline(outline) => outline::edges(alloc, outline),
         Drawing::Stroke(stroke) => stroke::edges(alloc, stroke),
+        Drawing::VariableStroke(stroke) => variable_stroke::edges(alloc, stroke),
     }
 }
 
@@ -48,5 +49,6 @@ pub fn shapes<I: OverlayInt>(
     match drawing {
         Drawing::Outline(outline) => outline::shapes(alloc, outline, options),
         Drawing::Stroke(stroke) => stroke::shapes(alloc, stroke, options),
+        Drawing::VariableStroke(stroke) => variable_stroke::shapes(alloc, stroke, options),
     }
 }

@@ -11,3 +11,4 @@ pub mod outline;
 pub mod output;
 pub mod service;
 pub mod stroke;
+pub mod variable_stroke;

@@ -9,6 +9,11 @@ use crate::tables::stroke_failures::{STROKES_REFUSED, STROKES_UNREADABLE};
 use crate::tables::stroke_shapes::{STROKE_EXAMPLES, STROKE_SHAPES};
 use crate::tables::strokes::{STROKE_CORNERS, STROKES};
 use crate::tables::unreadable::UNREADABLE;
+use crate::tables::variable_stroke_failures::{
+    VARIABLE_STROKES_REFUSED, VARIABLE_STROKES_UNREADABLE,
+};
+use crate::tables::variable_stroke_shapes::{VARIABLE_STROKE_EXAMPLES, VARIABLE_STROKE_SHAPES};
+use crate::tables::variable_strokes::VARIABLE_STROKES;
 use i_overlay_mesh::IntOutlineError;
 use mesh_service::failure::Failure;
 use mesh_service::service::{Status, serve};
@@ -99,6 +104,33 @@ fn strokes_not_answered(rt: HostRuntime) -> Result<(), Fail> {
     for (table, status, line) in [
         (STROKES_REFUSED, Status::Refused, OUT_OF_RANGE),
         (STROKES_UNREADABLE, Status::Unreadable, NOT_SERVED),
+    ] {
+        for request in table {
+            expect(&rt, rt.alloc(), request.as_bytes(), status, line)?;
+        }
+    }
+    Ok(())
+}
+
+#[test]
+fn variable_strokes_answered(rt: HostRuntime) -> Result<(), Fail> {
+    for table in [
+        VARIABLE_STROKES,
+        VARIABLE_STROKE_SHAPES,
+        VARIABLE_STROKE_EXAMPLES,
+    ] {
+        for (request, line) in table {
+            expect(&rt, rt.alloc(), request.as_bytes(), Status::Answered, line)?;
+        }
+    }
+    Ok(())
+}
+
+#[test]
+fn variable_strokes_not_answered(rt: HostRuntime) -> Result<(), Fail> {
+    for (table, status, line) in [
+        (VARIABLE_STROKES_REFUSED, Status::Refused, OUT_OF_RANGE),
+        (VARIABLE_STROKES_UNREADABLE, Status::Unreadable, NOT_SERVED),
     ] {
         for request in table {
             expect(&rt, rt.alloc(), request.as_bytes(), status, line)?;

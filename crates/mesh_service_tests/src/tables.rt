@@ -9,3 +9,6 @@ pub mod stroke_failures;
 pub mod stroke_shapes;
 pub mod strokes;
 pub mod unreadable;
+pub mod variable_stroke_failures;
+pub mod variable_stroke_shapes;
+pub mod variable_strokes;

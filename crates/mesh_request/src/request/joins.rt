@@ -1,21 +1,14 @@
-//! Joins and angles, read from JSON.
+//! Joins, arcs and angles, read from JSON.
 
 ghost use Rattle.std.specs.Prelude.{◌≡◌, option_map};
 ghost use Rattle.serde_json.specs.View.{view};
-ghost use Rattle.mesh_request.specs.Reading.{has_unserved as unserved, join_of, round_options_of, arc_options_of, sole_in, angle_of, small_number_of, min_turn_of};
+ghost use Rattle.mesh_request.specs.Reading.{join_of, round_options_of, arc_options_of, sole_in, angle_of, small_number_of, min_turn_of};
 
 use crate::json::is_text;
 use mesh_join::arc::ArcOptions;
 use mesh_join::style::{DEFAULT_MITER_MIN_TURN, IntLineJoin};
 use mesh_num::num::Angle;
 use serde_json::Value;
-
-/// Whether a style has a key that means something and is not served.
-pub fn has_unserved_key(style: &Value) -> bool
-    ensures { result ≡ unserved (view style.now) }
-{
-    style.get("arc").is_some()
-}
 
 /// The kind of join that a value names, a bevel where there is none.
 pub fn line_join(value: Option<&Value>) -> Option<IntLineJoin>
@@ -41,7 +34,7 @@ pub fn round_options(value: &Value) -> Option<ArcOptions>
 }
 
 /// The options of an arc that a value gives.
-fn arc_options(value: &Value) -> Option<ArcOptions>
+pub fn arc_options(value: &Value) -> Option<ArcOptions>
     ensures { result ≡ arc_options_of (view value.now) }
 {
     let numbers = value.as_array()?;

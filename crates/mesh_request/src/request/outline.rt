@@ -8,7 +8,7 @@ ghost use Rattle.mesh_request.specs.Requests.{drawn_outline};
 
 use crate::drawing::Outline;
 use crate::failure::Failure;
-use crate::request::joins::{has_unserved_key, line_join, min_turn};
+use crate::request::joins::{line_join, min_turn};
 use crate::request::paths::{length, read_paths};
 use mesh_join::style::IntOutlineStyle;
 use mesh_num::num::OverlayInt;
@@ -32,9 +32,6 @@ fn outline_style<I: OverlayInt>(style: Option<&Value>) -> Option<IntOutlineStyle
         ≡ option_and_then (outline_style_in I.unit) (option_map (λ v. view v.now) style.entry) }
 {
     let style = style?;
-    if has_unserved_key(style) {
-        return None;
-    }
     let join = line_join(style.get("join"))?;
     let turn = min_turn(style.get("min_turn"))?;
     let outer = length(style, "outer")?;

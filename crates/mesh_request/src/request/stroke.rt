@@ -10,7 +10,7 @@ use crate::drawing::Stroke;
 use crate::failure::Failure;
 use crate::options::flag;
 use crate::request::caps::line_cap;
-use crate::request::joins::{has_unserved_key, line_join, min_turn};
+use crate::request::joins::{line_join, min_turn};
 use crate::request::paths::{length, read_paths};
 use mesh_join::style::IntStrokeStyle;
 use mesh_num::num::OverlayInt;
@@ -57,9 +57,6 @@ fn stroke_style<I: OverlayInt>(
 fn uncapped_style<I: OverlayInt>(style: &Value) -> Option<IntStrokeStyle<I>>
     ensures { option_map (λ s. uncapped_of I.value s) result ≡ uncapped_in I.unit (view style.now) }
 {
-    if has_unserved_key(style) {
-        return None;
-    }
     let join = line_join(style.get("join"))?;
     let turn = min_turn(style.get("min_turn"))?;
     let width = length(style, "width")?;

@@ -59,6 +59,10 @@ pub const EDGES: &[(&str, &str)] = &[
     ),
     // what may stand beside the keys of the operation
     (
+        r#"{"op":"outline","int":"i32","out":"edges","paths":[[[0,0]]],"style":{"outer":1,"inner":1,"arc":null}}"#,
+        r#"{"edges":[[]]}"#,
+    ),
+    (
         r#"{"op":"outline","int":"i32","out":"edges","paths":[[[0,0]]],"style":{"outer":1,"inner":1},"options":null,"closed":3}"#,
         r#"{"edges":[[]]}"#,
     ),

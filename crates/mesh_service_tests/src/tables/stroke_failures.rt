@@ -33,7 +33,6 @@ pub const STROKES_UNREADABLE: &[&str] = &[
     r#"{"op":"strokes","int":"i32","out":"edges","paths":[[[0,0]]],"style":{"width":1}}"#,
     r#"{"op":"Stroke","int":"i32","out":"edges","paths":[[[0,0]]],"style":{"width":1}}"#,
     r#"{"op":["stroke"],"int":"i32","out":"edges","paths":[[[0,0]]],"style":{"width":1}}"#,
-    r#"{"op":"variable_stroke","int":"i32","out":"edges","paths":[[[0,0,1]]],"style":{}}"#,
     r#"{"op":"stroke","int":"i32","out":"edges","paths":[[[0,0]]],"style":{}}"#,
     r#"{"op":"stroke","int":"i32","out":"edges","paths":[[[0,0]]],"style":[]}"#,
     r#"{"op":"stroke","int":"i32","out":"edges","paths":[[[0,0]]],"style":null}"#,
@@ -118,6 +117,4 @@ pub const STROKES_UNREADABLE: &[&str] = &[
     r#"{"op":"stroke","int":"i16","out":"shapes","paths":[],"style":{"width":1,"start":"butt","end":{"custom":[[0,32768]]}}}"#,
     r#"{"op":"stroke","int":"i32","out":"edges","paths":[[[0,0]]],"style":{"width":1,"start":"flat"},"closed":true}"#,
     r#"{"op":"stroke","int":"i32","out":"edges","paths":[[[0,0]]],"style":{"width":1,"end":[[0,0]]},"closed":true}"#,
-    // a key that is not served yet
-    r#"{"op":"stroke","int":"i32","out":"edges","paths":[[[0,0]]],"style":{"width":1,"arc":[1,5]}}"#,
 ];

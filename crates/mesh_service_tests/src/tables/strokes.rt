@@ -224,6 +224,10 @@ pub const STROKE_CORNERS: &[(&str, &str)] = &[
     ),
     // what may stand beside the keys of the operation
     (
+        r#"{"op":"stroke","int":"i32","out":"edges","paths":[[[0,0]]],"style":{"width":1,"arc":[1]}}"#,
+        r#"{"edges":[[]]}"#,
+    ),
+    (
         r#"{"op":"stroke","int":"i32","out":"edges","paths":[[[0,0]]],"style":{"width":1,"outer":null,"inner":[]},"options":null}"#,
         r#"{"edges":[[]]}"#,
     ),

@@ -44,7 +44,6 @@ pub const UNREADABLE: &[&str] = &[
     r#"{"op":"outline","int":"i32","out":"edges","paths":[[[0,0]]],"style":{"outer":1,"inner":1,"join":null}}"#,
     r#"{"op":"outline","int":"i32","out":"edges","paths":[[[0,0]]],"style":{"outer":1,"inner":1,"join":"Bevel"}}"#,
     r#"{"op":"outline","int":"i32","out":"edges","paths":[[[0,0]]],"style":{"outer":1,"inner":1,"min_turn":-1}}"#,
-    r#"{"op":"outline","int":"i32","out":"edges","paths":[[[0,0]]],"style":{"outer":1,"inner":1,"arc":[1,5]}}"#,
     r#"{"op":"outline","int":"i32","out":"edges","paths":[[[0,0]]],"style":{"outer":1,"inner":1}}}"#,
     r#"{"op":"outline","int":"i32","out":"edges","paths":[[[0,0]]],"style":{"outer":1,"inner":1},}"#,
     r#"{"op":"outline","int":"i32","out":"edges","paths":[[[0,0]]],"style":{"outer":1,"inner":1},"n":1.0}"#,

@@ -1,0 +1,24 @@
+-- The circle round a vertex that was validated is safe.
+use Rattle.std.proofs.Common.{◌≡◌, ℕ, refl, [], ◌∷◌, lit<}
+use Rattle.std.specs.Prelude.{ℤ}
+use Rattle.mesh_grid.specs.Rectangle.{IsSafeWidened}
+use Rattle.mesh_join.specs.VariableStyles.{Vertex}
+use Rattle.mesh_draw.specs.Radii.{radius_of}
+use Rattle.mesh_variable_stroke.specs.Drawn.{greatest_radius, AreStrokable}
+use Rattle.mesh_variable_stroke.proofs.Safe.{path_safe}
+use Rattle.mesh_variable_calls.proofs.Reach.{each_strokable}
+use Rattle.mesh_variable_tests.proofs.sections.circle.Goals as goal
+
+-- the vertex as the code reads it
+read_safe : (unit : ℕ) (v w : Vertex) (radius : ℤ) → radius ≡ radius_of w.width → w ≡ v → AreStrokable unit (greatest_radius (v ∷ [])) (v ∷ []) →
+    IsSafeWidened unit radius w.point
+read_safe unit v w radius e f h = rw (e, f) ((path_safe unit (v ∷ []) h 0 v (lit< tt)).safe)
+
+pub returns : goal.returns
+returns g c =
+    let unit = g.I.IntNumber.unit in
+    let safe = rw (c.in_ok-push.ensures.items, c.new-path.ensures.items) at c.in_ok-validate_variable_stroke.ensures.safe.0 refl in
+    record {
+      nonneg = c.stroke_radius.ensures.least;
+      safe = read_safe unit c.args.vertex _ _ c.stroke_radius.ensures.value c.vertex.view_is (each_strokable unit (c.args.vertex ∷ [] ∷ []) safe 0 [] (lit< tt));
+    }

@@ -1,0 +1,121 @@
+//! The contacts of tangents, and the circles that sections cover.
+
+ghost use Rattle.std.specs.Prelude.{IfOk};
+ghost use Rattle.mesh_tangent.specs.Sections.{IsSafeCircle};
+
+use crate::reader::{broken, fields, is_for, points, vertices};
+use crate::tables::sections::SECTIONS;
+use i_overlay_mesh::stroke::radius::stroke_radius;
+use i_overlay_mesh::variable_stroke::offset::IntVariableStrokeOffset;
+use mesh_join::style::IntStrokeVertex;
+use mesh_num::num::convert::widen;
+use mesh_num::num::{IntPoint, IntVector, OverlayInt, WideNumber};
+use mesh_tangent::circle::Circle;
+use mesh_tangent::offsets::tangent_offsets;
+use mesh_tangent::section::Section;
+use mesh_toolbox::plain::{Point, minus};
+use std::alloc::{AllocError, Global};
+use std::process::Abort;
+use std::test::Fail;
+
+/// The circle round a vertex, whose square lies in the safe range.
+fn circle<I: OverlayInt>(alloc: Global, vertex: IntStrokeVertex<I>) -> Result<Circle<I>, Fail>
+    ensures { IfOk result (IsSafeCircle I.unit) }
+{
+    let mut path = Vec::new(alloc);
+    path.push(vertex)?;
+    path.validate_variable_stroke()?;
+    Ok(Circle {
+        center: vertex.point,
+        radius: stroke_radius(vertex.width),
+    })
+}
+
+/// A point of the grid.
+fn plain<I: OverlayInt>(point: IntPoint<I>) -> Point {
+    (widen(point.x), widen(point.y))
+}
+
+/// The contacts of a section, none where there is none.
+fn contacts<I: OverlayInt>(
+    alloc: Global,
+    section: &Option<Section<I>>,
+) -> Result<Vec<Point>, AllocError> {
+    let mut contacts = Vec::new(alloc);
+    if let Some(section) = section {
+        contacts.push(plain(section.a_left))?;
+        contacts.push(plain(section.a_right))?;
+        contacts.push(plain(section.b_left))?;
+        contacts.push(plain(section.b_right))?;
+    }
+    Ok(contacts)
+}
+
+/// The tangent offsets of two circles lead to the contacts of their section, and no coordinate passes its radius.
+fn expect_offsets<I: OverlayInt>(rt: &impl Abort, a: Circle<I>, b: Circle<I>, section: &Section<I>)
+    requires a { IsSafeCircle I.unit a }
+    requires b { IsSafeCircle I.unit b }
+{
+    assert!(rt; !a.is_nested_with(b));
+    let offsets = tangent_offsets(&(b.center - a.center), a.radius, b.radius);
+    expect_offset(rt, a, section.a_left, &offsets.a_left);
+    expect_offset(rt, a, section.a_right, &offsets.a_right);
+    expect_offset(rt, b, section.b_left, &offsets.b_left);
+    expect_offset(rt, b, section.b_right, &offsets.b_right);
+}
+
+fn expect_offset<I: OverlayInt>(
+    rt: &impl Abort,
+    circle: Circle<I>,
+    contact: IntPoint<I>,
+    offset: &IntVector<I>,
+) {
+    let (x, y) = (offset.x.to_i128(), offset.y.to_i128());
+    assert_eq!(rt; minus(plain(contact), plain(circle.center)), (x, y));
+    let radius = widen(circle.radius);
+    assert!(rt; x.wrapping_abs() <= radius && y.wrapping_abs() <= radius);
+}
+
+/// Both vertices of the row have the section that it stores, which covers the circles that it names, and not the others
+/// there, where the row is meant for this width.
+fn expect_section<I: OverlayInt>(rt: &impl Abort, alloc: Global, row: &str) -> Result<(), Fail> {
+    let fields = fields(alloc, row)?;
+    let [width, circles, wanted, covered, others] = fields.as_slice() else {
+        return Err(broken(row));
+    };
+    if !is_for::<I>(width) {
+        return Ok(());
+    }
+    let ends = vertices::<I>(alloc, circles)?;
+    let [a, b] = ends.as_slice() else {
+        return Err(broken(row));
+    };
+    let (a, b) = (circle(alloc, *a)?, circle(alloc, *b)?);
+    let section = Section::new(a, b);
+    assert_eq!(rt; contacts(alloc, &section)?, points(alloc, wanted)?, "{row}");
+    if let Some(section) = section {
+        expect_offsets(rt, a, b, &section);
+        for vertex in &vertices(alloc, covered)? {
+            assert!(rt;
+                section.covers_circle(circle(alloc, *vertex)?),
+                "{vertex:?} of {row}"
+            );
+        }
+        for vertex in &vertices(alloc, others)? {
+            assert!(rt;
+                !section.covers_circle(circle(alloc, *vertex)?),
+                "{vertex:?} of {row}"
+            );
+        }
+    }
+    Ok(())
+}
+
+#[test]
+fn stored_sections(rt: HostRuntime) -> Result<(), Fail> {
+    for row in SECTIONS.lines() {
+        expect_section::<i16>(&rt, rt.alloc(), row)?;
+        expect_section::<i32>(&rt, rt.alloc(), row)?;
+    }
+    Ok(())
+}
