@@ -1,0 +1,206 @@
+#!/usr/bin/env python3
+"""Prints a request of `mesh_run` for the outline of contours with about N vertices in all, the same in each run.
+
+    bench/families.py FAMILY N [--offset small|large] [--seed S] [--out shapes|edges] > request.json
+
+The drawings of a family look alike for every N: they fill the same box with ever finer detail, and offsets are
+measured by that detail. So the number of crossings a vertex stays about the same, but for `walk` and `hatch`.
+"""
+import argparse
+import json
+import math
+import random
+from typing import NamedTuple
+
+RADIUS = 2**26
+"""About half the side of the box that a drawing fills, in grid units; offsets stay in the safe range round it."""
+
+CLUSTER_RADIUS = 2**20
+"""That of the part which is crowded where all detail stands in a small part of the box, in grid units."""
+
+FAR = 2**29
+"""How far away the rest then is, in grid units."""
+
+BEND = 0.3
+"""How far a coast bends at most from the line between two of its points, as a part of their distance."""
+
+OFFSETS = {"small": 0.1, "large": 16}
+"""The offsets, as parts of a drawing's spacing."""
+
+GREATEST_OFFSET = 2**29
+"""No offset is greater, in grid units, so that drawings of few vertices stay in the safe range too."""
+
+LEAST_CONTOUR = 3
+
+
+class Drawing(NamedTuple):
+    """Contours, and how far details stand from each other, in grid units."""
+
+    contours: list
+    spacing: float
+
+
+def coast_between(noise, start, end, count):
+    """So many points between two: the middle one beside the line through both, and so on in each half."""
+    if count == 0:
+        return []
+    bend = noise.uniform(-BEND, BEND)
+    along = (end[0] - start[0], end[1] - start[1])
+    middle = (start[0] + along[0] / 2 + bend * along[1], start[1] + along[1] / 2 - bend * along[0])
+    before = (count - 1) // 2
+    return [
+        *coast_between(noise, start, middle, before),
+        middle,
+        *coast_between(noise, middle, end, count - 1 - before),
+    ]
+
+
+def island(count, noise, radius):
+    """A coast round a triangle of this radius. Its spacing is the mean length of its edges."""
+    corners = [polar(radius, index / 3) for index in range(3)]
+    points = []
+    for index in range(3):
+        inner = (count - 3) // 3 + (index < (count - 3) % 3)
+        points += [corners[index], *coast_between(noise, corners[index], corners[(index + 1) % 3], inner)]
+    length = sum(math.dist(points[index - 1], points[index]) for index in range(len(points)))
+    return Drawing([points], length / len(points))
+
+
+def coast(count, noise):
+    """One contour, rough on every scale."""
+    return island(count, noise, RADIUS)
+
+
+def cluster(count, noise):
+    """A coast that is small beside the distance of two squares to it."""
+    small = island(max(LEAST_CONTOUR, count - 8), noise, CLUSTER_RADIUS)
+    side = CLUSTER_RADIUS
+    far = [square(sign * FAR, sign * FAR, side) for sign in (-1, 1)]
+    return Drawing(small.contours + far, small.spacing)
+
+
+def rough_circle(count, noise):
+    """A circle whose radius changes from each vertex to the next. Its spacing is that of the vertices along it."""
+    step = 2 * math.pi * RADIUS / count
+    points = [polar(RADIUS + noise.uniform(-step, step) / 2, index / count) for index in range(count)]
+    return Drawing([points], step)
+
+
+def star(count, noise):
+    """Spikes all round, of unlike lengths. Its spacing is half the width of a spike at its foot."""
+    foot = RADIUS / 4
+    points = []
+    for spike in range(max(2, count // 2)):
+        turn = spike / max(2, count // 2)
+        points += [polar(RADIUS * noise.uniform(0.8, 1), turn), polar(foot, turn + 1 / count)]
+    return Drawing([points], 2 * math.pi * foot / count)
+
+
+def comb(count, _noise):
+    """One contour with upright teeth, all of one length. Its spacing is the gap between them."""
+    teeth = max(1, (count - 2) // 4)
+    pitch = 2 * RADIUS / teeth
+    width = 0.45 * pitch
+    points = [(RADIUS, -RADIUS), (-RADIUS, -RADIUS)]
+    for tooth in range(teeth):
+        left = -RADIUS + tooth * pitch
+        points += [(left, 0), (left, RADIUS), (left + width, RADIUS), (left + width, 0)]
+    return Drawing([counterclockwise(points)], pitch - width)
+
+
+def hatch(count, _noise):
+    """Long thin parallel strips, the box of each meets that of each other. Its spacing is the gap between them."""
+    strips = max(1, count // 4)
+    pitch = RADIUS / 2 / strips
+    contours = []
+    for strip in range(strips):
+        low = -RADIUS + strip * pitch
+        high = low + pitch / 2
+        contours.append(
+            [(-RADIUS, low), (RADIUS, low + RADIUS), (RADIUS, high + RADIUS), (-RADIUS, high)]
+        )
+    return Drawing(contours, pitch / 2)
+
+
+def walk(count, noise):
+    """One contour that wanders at random in the box, across itself. Its spacing is a twelfth of the longest step."""
+    step = 2 * RADIUS / math.sqrt(count)
+    points = [(0, 0)]
+    while len(points) < count:
+        points.append(tuple(within_box(value + noise.uniform(-step, step)) for value in points[-1]))
+    return Drawing([counterclockwise(points)], step / 12)
+
+
+def squares(count, noise):
+    """Squares with square holes, about in rows and columns. Its spacing is a sixteenth of that of the columns."""
+    number = max(1, count // 8)
+    columns = math.isqrt(number - 1) + 1
+    pitch = 2 * RADIUS / columns
+    contours = []
+    for index in range(number):
+        x = -RADIUS + (index % columns + noise.uniform(0.4, 0.6)) * pitch
+        y = -RADIUS + (index // columns + noise.uniform(0.4, 0.6)) * pitch
+        side = noise.uniform(0.5, 0.7) * pitch
+        contours += [square(x, y, side), square(x, y, side / 2)[::-1]]
+    return Drawing(contours, pitch / 16)
+
+
+FAMILIES = {
+    "coast": coast,
+    "comb": comb,
+    "walk": walk,
+    "hatch": hatch,
+    "cluster": cluster,
+    "rough circle": rough_circle,
+    "squares with holes": squares,
+    "star": star,
+}
+
+
+def polar(radius, turn):
+    """The point at this distance from 0, after this part of a turn."""
+    return (radius * math.cos(2 * math.pi * turn), radius * math.sin(2 * math.pi * turn))
+
+
+def square(x, y, side):
+    """A square about a point, counterclockwise."""
+    half = side / 2
+    return [(x - half, y - half), (x + half, y - half), (x + half, y + half), (x - half, y + half)]
+
+
+def counterclockwise(points):
+    """The contour itself, or the other way about where it would be a hole."""
+    area = sum(points[index - 1][0] * y - points[index - 1][1] * x for index, (x, y) in enumerate(points))
+    return points if area > 0 else points[::-1]
+
+
+def within_box(value):
+    """A coordinate, thrown back where it leaves the box."""
+    if abs(value) <= RADIUS:
+        return value
+    return math.copysign(2 * RADIUS, value) - value
+
+
+def request(family, count, offset="small", seed=1, out="shapes"):
+    """The request for the outline of a drawing of this family, with an offset by its name, as an object."""
+    drawing = FAMILIES[family](max(LEAST_CONTOUR, count), random.Random(f"{family} {count} {seed}"))
+    distance = min(max(1, round(OFFSETS[offset] * drawing.spacing)), GREATEST_OFFSET)
+    paths = [[[round(x), round(y)] for x, y in contour] for contour in drawing.contours]
+    style = {"outer": distance, "inner": distance}
+    return {"op": "outline", "int": "i32", "out": out, "paths": paths, "style": style}
+
+
+def main():
+    parser = argparse.ArgumentParser(description="Prints a request for the outline of contours of a family.")
+    parser.add_argument("family", choices=FAMILIES, metavar="FAMILY", help=", ".join(FAMILIES))
+    parser.add_argument("count", type=int, metavar="N", help="about how many vertices there are in all")
+    parser.add_argument("--offset", choices=OFFSETS, default="small")
+    parser.add_argument("--seed", default="1")
+    parser.add_argument("--out", choices=["shapes", "edges"], default="shapes")
+    words = parser.parse_args()
+    asked = request(words.family, words.count, words.offset, words.seed, words.out)
+    print(json.dumps(asked, separators=(",", ":")))
+
+
+if __name__ == "__main__":
+    main()
