@@ -2,23 +2,28 @@
 //! With the second argument `overlay` they are the sides of closed lists of four points, and are resolved into shapes.
 //! With the second argument `round` so many round joins are added instead, with arcs of as many directions as the third
 //! argument tells, 8 where there is none. With the second argument `directions` the directions of so many vectors are
-//! found instead, with components of as many bits as the third argument tells, 31 where there is none.
+//! found instead, with components of as many bits as the third argument tells, 31 where there is none. With the second
+//! argument `request` the request on standard input is answered so many times instead.
 #![tactic(auto)]
 
 mod directions;
 mod joins;
+mod requests;
 
 ghost use Rattle.std.specs.Prelude.{◌<◌, ◌≤◌, ◌^◌};
 
 use crate::directions::find_directions;
 use crate::joins::add_joins;
+use crate::requests::answer_again;
 use mesh_below::below::{FillRule, Overlay, OverlayRule};
 use mesh_below::checks::are_resolvable;
 use mesh_below::given::are_proper;
 use mesh_below::grid::GridEdge;
 use mesh_below::splitter::split_edges;
+use mesh_draw::error::IntOutlineError;
 use mesh_num::num::IntPoint;
 use mesh_num::shape::segment::{Segment, SubjectSegments};
+use mesh_request::failure::Failure;
 use std::alloc::{AllocError, Global};
 use std::num::ParseIntError;
 use std::{env, io};
@@ -117,13 +122,32 @@ pub(crate) enum BenchError {
     Output,
     #[error("a count is no whole number")]
     Count,
-    #[error("the second argument is none of `overlay`, `round` and `directions`")]
+    #[error("the second argument is none of `overlay`, `round`, `directions` and `request`")]
     Family,
+    #[error("the request can't be read")]
+    Request,
+    #[error("{0}")]
+    Refused(IntOutlineError),
 }
 
 impl From<AllocError> for BenchError {
     fn from(_error: AllocError) -> Self {
         BenchError::OutOfMemory
+    }
+}
+
+impl From<IntOutlineError> for BenchError {
+    fn from(error: IntOutlineError) -> Self {
+        BenchError::Refused(error)
+    }
+}
+
+impl From<Failure> for BenchError {
+    fn from(failure: Failure) -> Self {
+        match failure {
+            Failure::Unreadable => BenchError::Request,
+            Failure::Refused(error) => BenchError::Refused(error),
+        }
     }
 }
 
@@ -211,6 +235,7 @@ fn main(rt: HostRuntime) -> Result<(), BenchError> {
         "overlay" => resolve(&rt, count),
         "round" => join(&rt, count),
         "directions" => direct(&rt, count),
+        "request" => answer_again(&rt, count),
         _ => Err(BenchError::Family),
     }
 }

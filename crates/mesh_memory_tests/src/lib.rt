@@ -16,3 +16,5 @@ mod overlays;
 mod service;
 #[cfg(test)]
 mod strokes;
+#[cfg(test)]
+mod variable_strokes;

@@ -1,0 +1,67 @@
+#!/usr/bin/env python3
+"""Times outlines within one process, without reading and writing, and prints a table.
+
+    bench/in_process.py [PROGRAM] [--most N] [--seconds S] > table.md
+
+PROGRAM is `mesh_bench`, which `rt run` makes in crates/mesh_bench. It reads a request once and answers it as often as
+it is told; the time of one answer is that of many less that of one, so reading is not in it. The best of three is
+taken.
+"""
+import argparse
+import json
+import pathlib
+
+from families import FAMILIES, OFFSETS
+from families import request as family_request
+from program import add_program, run, seconds_above_zero, tell
+
+PROGRAM = pathlib.Path(__file__).resolve().parent.parent / "crates/mesh_bench/out/mesh_bench"
+
+SIZES = [10, 100, 1000]
+
+TIMES = 3
+
+LIMIT = 60
+"""Of one process, in seconds."""
+
+
+def seconds(command, text, count):
+    """The time of a process that answers a request so often."""
+    done = run([*command, str(count), "request"], text, LIMIT)
+    if done.status != 0:
+        raise SystemExit(f"{command} ended with {done.status}")
+    return done.seconds
+
+
+def seconds_each(command, text, wanted):
+    """The least time of one answer, measured over so many that they take about the wanted seconds."""
+    count = 10
+    while seconds(command, text, 1 + count) < wanted / 4 and count < 10_000_000:
+        count *= 4
+    rounds = [seconds(command, text, 1 + count) - seconds(command, text, 1) for _ in range(TIMES)]
+    return max(0, min(rounds)) / count
+
+
+def main():
+    parser = argparse.ArgumentParser(description="Times outlines within one process.")
+    add_program(parser)
+    parser.set_defaults(program=[str(PROGRAM)])
+    parser.add_argument("--most", type=int, default=SIZES[-1], metavar="N", help="no drawing has more vertices")
+    parser.add_argument("--seconds", type=seconds_above_zero, default=1, help="about how long a process runs")
+    words = parser.parse_args()
+    sizes = [count for count in SIZES if count <= words.most] or SIZES[:1]
+    print("Microseconds of an answer, the best of 3.\n")
+    heads = ["family", "offset", *[f"{count:,} vertices" for count in sizes]]
+    print(f"| {' | '.join(heads)} |\n|{'---|' * len(heads)}")
+    for family in FAMILIES:
+        for offset in OFFSETS:
+            cells = []
+            for count in sizes:
+                text = json.dumps(family_request(family, count, offset), separators=(",", ":")).encode()
+                cells.append(f"{1e6 * seconds_each(words.program, text, words.seconds):.1f}")
+                tell(f"{family}, {offset}, {count}: {cells[-1]} microseconds")
+            print(f"| {family} | {offset} | {' | '.join(cells)} |")
+
+
+if __name__ == "__main__":
+    main()

@@ -1,0 +1,42 @@
+//! A request that is read once and answered again and again, to measure what the library does in one process.
+
+use crate::BenchError;
+use mesh_num::num::OverlayInt;
+use mesh_request::json::parse;
+use mesh_request::request::{Output, Request, read_request};
+use mesh_service::drawing::{edges, shapes};
+use mesh_service::input::read_to_end;
+use std::alloc::Global;
+
+/// How many contours or lists of edges the answer of a request has.
+fn answer<I: OverlayInt>(alloc: Global, request: &Request<I>) -> Result<usize, BenchError> {
+    match request.output {
+        Output::Edges => {
+            let lists = edges(alloc, &request.drawing)?;
+            Ok(lists.len())
+        }
+        Output::Shapes(options) => {
+            let shapes = shapes(alloc, &request.drawing, options)?;
+            Ok(shapes.len())
+        }
+    }
+}
+
+/// Answers the request on standard input, whose numbers are `i32`, so many times. Standard error tells after 1, 10, 100
+/// times and so on, so that a run that takes long shows how far it is.
+pub(crate) fn answer_again(rt: &HostRuntime, count: u64) -> Result<(), BenchError> {
+    let bytes = read_to_end(rt.alloc(), &mut rt.stdin())?;
+    let value = parse(rt.alloc(), &bytes)?;
+    let request = read_request::<i32>(rt.alloc(), &value)?;
+    let mut told: u64 = 1;
+    let mut found: usize = 0;
+    for number in 0..count {
+        found = answer(rt.alloc(), &request)?;
+        if number + 1 == told {
+            eprintln!(rt; "answered {told} of {count} times")?;
+            told = told.saturating_mul(10);
+        }
+    }
+    println!(rt; "answered {count} times: {found} shapes, or lists of edges")?;
+    Ok(())
+}
