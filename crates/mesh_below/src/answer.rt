@@ -28,7 +28,7 @@ fn int_contour<I: IntNumber>(
     requires { All (IsSafe I.unit) contour.now }
     ensures { IfOk result (λ v. v.items ≡ contour.now) }
 {
-    let mut points = Vec::new(alloc);
+    let mut points = Vec::with_capacity(alloc, contour.len())?;
     for p in contour {
         points.push(int_point(*p))?;
     }
@@ -43,7 +43,7 @@ fn int_shape<I: IntNumber>(
     requires { All (λ c. All (IsSafe I.unit) c) (paths_of shape.now) }
     ensures { IfOk result (λ v. paths_of v.items ≡ paths_of shape.now) }
 {
-    let mut contours = Vec::new(alloc);
+    let mut contours = Vec::with_capacity(alloc, shape.len())?;
     for contour in shape {
         contours.push(int_contour(alloc, contour)?)?;
     }
@@ -58,7 +58,7 @@ pub fn int_shapes<I: IntNumber>(
     requires { ArePointsSafe I.unit (shapes_of shapes.now) }
     ensures { IfOk result (λ v. shapes_of v.items ≡ shapes_of shapes.now) }
 {
-    let mut answer = Vec::new(alloc);
+    let mut answer = Vec::with_capacity(alloc, shapes.len())?;
     for shape in shapes {
         answer.push(int_shape(alloc, shape)?)?;
     }

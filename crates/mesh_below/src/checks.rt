@@ -97,8 +97,8 @@ fn start_alike(first: &[GridEdge], second: &[GridEdge]) -> bool
 pub fn are_balanced(alloc: Global, edges: &[GridEdge]) -> Result<bool, AllocError>
     ensures { IfOk result (λ b. IsTrue b ↔ IsBalanced edges.now) }
 {
-    let leaving = in_order(Vec::from_slice(alloc, edges)?)?;
-    let entering = in_order(turned(alloc, edges)?)?;
+    let leaving = in_order(Vec::from_slice(alloc, edges)?);
+    let entering = in_order(turned(alloc, edges)?);
     Ok(start_alike(&leaving, &entering))
 }
 

@@ -44,7 +44,7 @@ pub fn grid_edges<I: IntNumber>(
     ensures value { IfOk result (λ v. v.items ≡ edges_of segments.now) }
     ensures proper { IfOk result (λ v. IsProper v.items) }
 {
-    let mut edges = Vec::new(alloc);
+    let mut edges = Vec::with_capacity(alloc, segments.len())?;
     for s in segments {
         edges.push(grid_edge(*s))?;
     }

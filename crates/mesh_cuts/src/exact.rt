@@ -1,6 +1,6 @@
 //! Exact tests of edges against each other. Coordinates may be any `i32`; no value passes 128 bits.
 
-ghost use Rattle.std.specs.Prelude.{◌≡◌, ◌↔◌, ℕ, ◌+◌, ◌*◌, ◌/◌, ◌^◌, ◌<◌, ℤ, pos, ◌+ℤ◌, ◌-ℤ◌, ◌*ℤ◌, unsigned_abs};
+ghost use Rattle.std.specs.Prelude.{◌≡◌, ◌↔◌, ◌⊎◌, ◌<ℤ◌, ℕ, ◌+◌, ◌*◌, ◌/◌, ◌^◌, ◌<◌, ℤ, pos, ◌+ℤ◌, ◌-ℤ◌, ◌*ℤ◌, unsigned_abs};
 ghost use Rattle.std.specs.Prelude.{IsTrue, MatchOption};
 ghost use Rattle.mesh_plane.specs.Bounds.{IsSmall, IsSafe};
 ghost use Rattle.mesh_plane.specs.Order.{point_lt};
@@ -135,17 +135,21 @@ pub fn is_end(c: GridPoint, e: GridEdge) -> bool
     same_point(c, e.0) || same_point(c, e.1)
 }
 
-/// Whether the point lies on the edge and is none of its ends.
-pub fn is_inside(e: GridEdge, c: GridPoint) -> bool
+/// Whether a point that lies so far beside an edge's line lies on the edge and is none of its ends.
+fn is_inside(e: GridEdge, c: GridPoint, beside: i128) -> bool
+    requires { beside ≡ turn e.0 e.1 c }
     ensures { IsTrue result ↔ IsInside e c }
 {
+    if beside != 0 {
+        return false;
+    }
     if !is_in_box(e, c) {
         return false;
     }
     if is_end(c, e) {
         return false;
     }
-    turn(e.0, e.1, c) == 0
+    true
 }
 
 /// How far the two ends of an edge lie beside a line, as turns.
@@ -168,6 +172,13 @@ fn are_opposite(s: Sides) -> bool
         return false;
     }
     s.1 < 0
+}
+
+/// Whether both ends lie on one side, and none on the line.
+fn are_alike(s: Sides) -> bool
+    ensures { IsTrue result → ((pos 0 <ℤ s.0) × (pos 0 <ℤ s.1)) ⊎ ((s.0 <ℤ pos 0) × (s.1 <ℤ pos 0)) }
+{
+    (s.0 > 0 && s.1 > 0) || (s.0 < 0 && s.1 < 0)
 }
 
 /// Whether the line of each edge parts the ends of the other.
@@ -230,12 +241,14 @@ fn crossing_at(a: i32, b: i32, s: Sides) -> i32
     rounded(crossing_ratio(a, b, s)) as i32
 }
 
-/// Where two edges that cross do so, each coordinate rounded to the nearest, halves away from zero.
-pub fn rounded_crossing(e: GridEdge, f: GridEdge) -> GridPoint
-    requires { IsCrossing e f }
+/// Where two edges that cross do so, each coordinate rounded to the nearest, halves away from zero. The ends of the
+/// first lie so far beside the second.
+fn rounded_crossing(e: GridEdge, f: GridEdge, s: Sides) -> GridPoint
+    requires parted { AreOpposite s.0 s.1 }
+    requires sides { s ≡ (turn f.0 f.1 e.0, turn f.0 f.1 e.1) }
+    requires small { IsSafe (2 ^ 65) s }
     ensures { result ≡ rounded_crossing e f }
 {
-    let s = sides_of(f, e);
     (crossing_at(e.0.0, e.1.0, s), crossing_at(e.0.1, e.1.1, s))
 }
 
@@ -246,20 +259,28 @@ pub fn meeting(e: GridEdge, f: GridEdge) -> Option<GridPoint>
     if are_boxes_apart(e, f) {
         return None;
     }
-    if is_inside(e, f.0) {
+    let second = sides_of(e, f);
+    if are_alike(second) {
+        return None;
+    }
+    let first = sides_of(f, e);
+    if is_inside(e, f.0, second.0) {
         return Some(f.0);
     }
-    if is_inside(e, f.1) {
+    if is_inside(e, f.1, second.1) {
         return Some(f.1);
     }
-    if is_inside(f, e.0) {
+    if is_inside(f, e.0, first.0) {
         return Some(e.0);
     }
-    if is_inside(f, e.1) {
+    if is_inside(f, e.1, first.1) {
         return Some(e.1);
     }
-    if do_cross(e, f) {
-        return Some(rounded_crossing(e, f));
+    if !are_opposite(second) {
+        return None;
     }
-    None
+    if !are_opposite(first) {
+        return None;
+    }
+    Some(rounded_crossing(e, f, first))
 }

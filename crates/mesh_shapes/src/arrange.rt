@@ -37,7 +37,7 @@ pub fn is_large(ring: &Ring, least_area: u64) -> bool
 fn areas(alloc: Global, rings: &[Ring]) -> Result<Vec<i128>, AllocError>
     ensures { IfOk result (λ v. v.items ≡ areas_of (rings_held rings.now)) }
 {
-    let mut areas = Vec::new(alloc);
+    let mut areas = Vec::with_capacity(alloc, rings.len())?;
     for r in rings {
         areas.push(double_area(&r.0))?;
     }
@@ -71,7 +71,7 @@ fn homes(alloc: Global, rings: &[Ring]) -> Result<Vec<usize>, AllocError>
     let areas = areas(alloc, rings)?;
     let edges = ring_edges(alloc, rings, &areas)?;
     let rows = Rows::new(alloc, &edges)?;
-    let mut homes = Vec::new(alloc);
+    let mut homes = Vec::with_capacity(alloc, rings.len())?;
     for i in 0..rings.len() {
         homes.push(home(rings, &areas, &rows, i))?;
     }
@@ -215,12 +215,12 @@ fn grouped(
 }
 
 /// Rings in the order of their points.
-fn in_order(mut rings: Vec<Ring>) -> Result<Vec<Ring>, AllocError>
-    ensures same { IfOk result (λ v. IsPermutation rings.items v.items) }
-    ensures ordered { IfOk result (λ v. IsSortedBy (λ r s. points_lt r.0 s.0) (rings_held v.items)) }
+fn in_order(mut rings: Vec<Ring>) -> Vec<Ring>
+    ensures same { IsPermutation rings.items result.items }
+    ensures ordered { IsSortedBy (λ r s. points_lt r.0 s.0) (rings_held result.items) }
 {
-    rings.sort()?;
-    Ok(rings)
+    rings.sort_unstable();
+    rings
 }
 
 /// The rings as shapes, in order.
@@ -231,7 +231,7 @@ pub fn shapes(
 ) -> Result<Vec<Vec<Vec<GridPoint>>>, AllocError>
     ensures { IfOk result (λ v. AreArranged clockwise (rings_held rings.items) (shapes_points v.items)) }
 {
-    let ordered = in_order(rings)?;
+    let ordered = in_order(rings);
     let shapes = grouped(alloc, &ordered, clockwise)?;
     Ok(shapes)
 }

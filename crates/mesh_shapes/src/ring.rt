@@ -66,21 +66,6 @@ fn least_place(contour: &[GridPoint]) -> usize
     least
 }
 
-/// The list from the place on, then what stands before it.
-fn turned_to(
-    alloc: Global,
-    contour: &[GridPoint],
-    place: usize,
-) -> Result<Vec<GridPoint>, AllocError>
-    requires { place ≤ length contour.now }
-    ensures { IfOk result (λ v. v.items ≡ drop place contour.now ++ take place contour.now) }
-{
-    let mut turned = Vec::new(alloc);
-    turned.extend_from_slice(&contour[place..])?;
-    turned.extend_from_slice(&contour[..place])?;
-    Ok(turned)
-}
-
 /// The point that follows, the first after the last.
 fn following(contour: &[GridPoint], i: usize) -> GridPoint
     requires { i < length contour.now }
@@ -172,7 +157,7 @@ fn vertices(alloc: Global, contour: &[GridPoint], all: bool) -> Result<Vec<GridP
     requires { 0 < length contour.now }
     ensures { IfOk result (λ v. v.items ≡ vertices all contour.now) }
 {
-    let mut points = Vec::new(alloc);
+    let mut points = Vec::with_capacity(alloc, contour.len())?;
     let mut before = contour[0];
     points.push(before)?;
     for i in 1..contour.len() {
@@ -195,8 +180,9 @@ pub fn ring_of(alloc: Global, contour: &[GridPoint], all: bool) -> Result<Ring, 
     requires proper { All (λ (e : Edge). same_point e.0 e.1 ≡ false) (boundary contour.now) }
     ensures { IfOk result (λ r. IsRingOf all contour.now (r.0.items, r.1)) }
 {
-    let from_least = turned_to(alloc, contour, least_place(contour))?;
-    let begun = turned_to(alloc, &from_least, start_place(&from_least, all))?;
+    let mut begun = Vec::from_slice(alloc, contour)?;
+    begun.rotate_left(least_place(contour));
+    begun.rotate_left(start_place(&begun, all));
     let side = side_point(&begun);
     Ok((vertices(alloc, &begun, all)?, side))
 }

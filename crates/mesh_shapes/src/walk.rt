@@ -174,12 +174,12 @@ fn walk(
 }
 
 /// The edges in the order of their starts.
-pub fn in_order(mut edges: Vec<GridEdge>) -> Result<Vec<GridEdge>, AllocError>
-    ensures ordered { IfOk result (λ v. StartsInOrder v.items) }
-    ensures same { IfOk result (λ v. (g : Edge → ℤ) → sum_of g v.items ≡ sum_of g edges.items) }
+pub fn in_order(mut edges: Vec<GridEdge>) -> Vec<GridEdge>
+    ensures ordered { StartsInOrder result.items }
+    ensures same { (g : Edge → ℤ) → sum_of g result.items ≡ sum_of g edges.items }
 {
-    edges.sort()?;
-    Ok(edges)
+    edges.sort_unstable();
+    edges
 }
 
 /// Adds the contour that begins with the edge `first`, unless that is used.
@@ -230,7 +230,7 @@ pub fn contours(alloc: Global, edges: Vec<GridEdge>) -> Result<Vec<Vec<GridPoint
     ensures edges { IfOk result (λ v. (e : Edge) → count e (contour_edges v.items) ≡ count e edges.items) }
     ensures have_points { IfOk result (λ v. HavePoints v.items) }
 {
-    let ordered = in_order(edges)?;
+    let ordered = in_order(edges);
     let mut used = vec![in alloc; false; ordered.len()]?;
     let contours = contours_of(alloc, &ordered, &mut used)?;
     Ok(contours)

@@ -1,11 +1,9 @@
 //! A reader of the rows of tables.
 
-ghost use Rattle.std.specs.Prelude.{◌≡◌, ◌*◌, ◌^◌, ◌≤◌, pos};
-
 use mesh_join::arc::ArcOptions;
 use mesh_join::style::{IntStrokeVertex, IntVariableStrokeStyle};
-use mesh_num::num::convert::{narrow, widen};
 use mesh_num::num::{Angle, IntPoint, OverlayInt};
+use mesh_request::coordinate::narrowed;
 use mesh_toolbox::plain::Point;
 use std::alloc::{AllocError, Global};
 use std::test::Fail;
@@ -67,29 +65,20 @@ pub fn triples(alloc: Global, list: &str) -> Result<Vec<Triple>, Fail> {
     Ok(triples)
 }
 
-/// The first number past the range of the width `I`.
-fn range_end<I: OverlayInt>() -> i128
-    ensures value { result ≡ pos (2 * I.unit) }
-    ensures size { I.unit ≤ 2 ^ 30 }
-{
-    2 * widen(I::UNIT)
-}
-
 /// A number of the width `I`.
-fn narrowed<I: OverlayInt>(number: i128) -> Result<I, Fail> {
-    let end = range_end::<I>();
-    if -end <= number && number < end {
-        return Ok(narrow(number));
+fn number<I: OverlayInt>(number: i128) -> Result<I, Fail> {
+    match narrowed(number) {
+        Some(narrow) => Ok(narrow),
+        None => Err(Fail::new(format_args!("{number} does not fit"))),
     }
-    Err(Fail::new(format_args!("{number} does not fit")))
 }
 
 /// The vertices of a list.
 pub fn vertices<I: OverlayInt>(alloc: Global, list: &str) -> Result<Vec<IntStrokeVertex<I>>, Fail> {
     let mut vertices = Vec::new(alloc);
     for (x, y, width) in &triples(alloc, list)? {
-        let point = IntPoint::new(narrowed(*x)?, narrowed(*y)?);
-        vertices.push(IntStrokeVertex::new(point, narrowed(*width)?))?;
+        let point = IntPoint::new(number(*x)?, number(*y)?);
+        vertices.push(IntStrokeVertex::new(point, number(*width)?))?;
     }
     Ok(vertices)
 }

@@ -1,7 +1,5 @@
 //! The shapes that the stroke calls answer, against tables: each call, with options and without.
 
-ghost use Rattle.std.specs.Prelude.{◌<◌, ◌^◌};
-
 use crate::reader::{broken, fields, is_for, numbers, paths, style};
 use crate::tables::shapes::SHAPES;
 use crate::written::{buffer_text, shapes_text};
@@ -9,27 +7,28 @@ use i_overlay_mesh::variable_stroke::offset::IntVariableStrokeOffset;
 use i_overlay_mesh::variable_stroke::resource::IntVariableStrokeSource;
 use mesh_below::below::{ContourDirection, IntOverlayOptions};
 use mesh_join::style::{IntStrokeVertex, IntVariableStrokeStyle, MathMode};
-use mesh_num::num::{OverlayInt, WideUnsigned};
+use mesh_num::num::OverlayInt;
 use mesh_num::shape::buffer::{FlatContoursBuffer, IntShapes};
+use mesh_request::coordinate::narrowed_area;
 use mesh_toolbox::compared::filled;
 use std::alloc::Global;
 use std::process::Abort;
 use std::test::Fail;
 
 /// The options of a field: the least area, whether contours are clockwise, and whether they keep points on a line.
-fn options<U: WideUnsigned>(
-    rt: &impl Abort,
+fn options<I: OverlayInt>(
     alloc: Global,
     field: &str,
-) -> Result<IntOverlayOptions<U>, Fail> {
+) -> Result<IntOverlayOptions<I::WideUInt>, Fail> {
     let numbers = numbers(alloc, field)?;
     let [area, clockwise, collinear] = numbers.as_slice() else {
         return Err(broken(field));
     };
-    let least = u128::try_from(*area)?;
-    assert!(rt; least < 65_536);
+    let Some(least) = narrowed_area::<I>(u128::try_from(*area)?) else {
+        return Err(broken(field));
+    };
     let mut options = IntOverlayOptions::new();
-    options.min_output_area = U::from_u128(least);
+    options.min_output_area = least;
     if *clockwise == 1 {
         options.output_direction = ContourDirection::Clockwise;
     }
@@ -101,7 +100,7 @@ fn expect_row<I: OverlayInt>(rt: &impl Abort, alloc: Global, row: &str) -> Resul
     if *choices == "0 0 0" {
         expect(rt, alloc, &paths, &style, wanted)?;
     }
-    let options = options(rt, alloc, choices)?;
+    let options = options::<I>(alloc, choices)?;
     expect_custom(rt, alloc, &paths, &style, options, wanted)
 }
 

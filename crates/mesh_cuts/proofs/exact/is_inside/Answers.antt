@@ -1,14 +1,18 @@
-use Rattle.std.proofs.Common.{◌^◌, lit≤, ◌∙◌, sym}
-use Rattle.mesh_cuts.proofs.Arithmetic.{zero_bits, small_fits}
+use Rattle.std.proofs.Common.{◌≡◌, ◌∙◌, refl, sym}
+use Rattle.std.specs.Prelude.{pos}
+use Rattle.std.proofs.lemmas.Bool.{eq-eqb}
+use mir.Syntax.{w128}
+use mir.Val.{of_z}
+use Rattle.mesh_cuts.proofs.Arithmetic.{zero_bits}
 use Rattle.mesh_cuts.proofs.exact.is_inside.Goals as goal
 
 pub returns : goal.returns
 returns c =
-    let zero = zero_bits c.turn.result (small_fits (2 ^ 65) c.turn.result (lit≤ tt) c.turn.ensures.size) in (
+    let zero : c.args.beside ≡ pos 0 = (zero_bits c.args.beside c.ranges.beside).0 (eq-eqb (of_z w128 c.args.beside) 0 c.if-beside-ne0.false) in (
       λ t. record {
-        on_line = sym c.turn.ensures.value ∙ zero.0 t;
+        on_line = sym c.requires ∙ zero;
         in_box = c.is_in_box.ensures.0 c.if-not-is_in_box.false;
         no_end = sym c.is_end.ensures ∙ c.if-is_end.false;
       },
-      λ inside. zero.1 (c.turn.ensures.value ∙ inside.on_line),
+      λ inside. refl,
     )

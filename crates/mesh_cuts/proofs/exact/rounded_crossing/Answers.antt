@@ -15,7 +15,7 @@ returns c =
     let g : SFits w32 e.1.1 = search rules in
     let x = simp (to_z-of_z w32 e.0.0 a, to_z-of_z w32 e.1.0 b) at c.crossing_at.ensures in
     let y = simp (to_z-of_z w32 e.0.1 f, to_z-of_z w32 e.1.1 g) at c.crossing_at-2.ensures in
-    let s = c.sides_of-s.ensures.value in
+    let s = c.requires.sides in
     let at = λ (p q : ℤ). ap (λ (v : ℤ × ℤ). crossing_at p q v.0 (v.0 -ℤ v.1)) s in
     let p = to_z-of_z w32 c.crossing_at.result (record { sfits = c.crossing_at.type_inv }) in
     let q = to_z-of_z w32 c.crossing_at-2.result (record { sfits = c.crossing_at-2.type_inv }) in

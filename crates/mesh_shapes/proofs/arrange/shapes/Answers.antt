@@ -7,8 +7,8 @@ use Rattle.mesh_shapes.proofs.arrange.shapes.Goals as goal
 
 pub returns : goal.returns
 returns c = record {
-  sorted = rings_held c.in_ok-ordered.ordered.items;
-  same = IsPermutation-map ring_held c.args.rings.items c.in_ok-ordered.ordered.items c.in_ok-ordered.ensures.same;
-  ordered = c.in_ok-ordered.ensures.ordered;
+  sorted = rings_held c.in_order-ordered.result.items;
+  same = IsPermutation-map ring_held c.args.rings.items c.in_order-ordered.result.items c.in_order-ordered.ensures.same;
+  ordered = c.in_order-ordered.ensures.ordered;
   shapes = c.in_ok-shapes.ensures ∙ ap (λ (l : List HeldRing). map (map (answered c.args.clockwise)) (rings_by_shape (enumerate_from 0 (rings_held l)))) c.deref.ensures.value;
 }

@@ -5,7 +5,7 @@ use Rattle.mesh_shapes.proofs.Walking.{sorted_starts}
 use Rattle.mesh_shapes.proofs.walk.in_order.Goals as goal
 
 pub returns-clause-ordered : goal.returns-clause-ordered
-returns-clause-ordered c = sorted_starts c.sort.new.self.items c.in_ok-sort.ensures.sorted
+returns-clause-ordered c = sorted_starts c.sort_unstable.new.self.items c.sort_unstable.ensures.sorted
 
 pub returns-clause-same : goal.returns-clause-same
-returns-clause-same c = λ (g : Edge → ℤ). sum_of_permutation g c.args.edges.items c.sort.new.self.items c.sort.ensures.permutation
+returns-clause-same c = λ (g : Edge → ℤ). sum_of_permutation g c.args.edges.items c.sort_unstable.new.self.items c.sort_unstable.ensures.permutation
