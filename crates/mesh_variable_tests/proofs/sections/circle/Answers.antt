@@ -1,5 +1,5 @@
 -- The circle round a vertex that was validated is safe.
-use Rattle.std.proofs.Common.{◌≡◌, ℕ, List, refl, [], ◌∷◌, lit<}
+use Rattle.std.proofs.Common.{◌≡◌, ◌∙◌, ◌++◌, ℕ, List, ap, subst, refl, [], ◌∷◌, lit<}
 use Rattle.std.specs.Prelude.{ℤ}
 use Rattle.mesh_grid.specs.Rectangle.{IsSafeWidened}
 use Rattle.mesh_join.specs.VariableStyles.{Vertex}
@@ -17,9 +17,11 @@ read_safe unit v w radius e f h = rw (e, f) ((path_safe unit (v ∷ []) h 0 v (l
 pub returns : goal.returns
 returns g c =
     let unit = g.I.IntNumber.unit in
-    let path : List Vertex = c.args.vertex ∷ [] in
-    let safe = rw (c.in_ok-push.ensures.items, c.new-path.ensures.items) at c.in_ok-validate_variable_stroke.ensures.safe.0 refl in
+    let one : c.push.new.self.items ≡ c.args.vertex ∷ [] = c.in_ok-push.ensures.items ∙ ap (λ (vs : List Vertex). vs ++ c.args.vertex ∷ []) c.new-path.ensures.items in
+    let all = each_strokable unit (c.push.new.self.items ∷ []) (c.in_ok-validate_variable_stroke.ensures.safe.0 refl) 0 [] (lit< tt) in
     record {
       nonneg = c.stroke_radius.ensures.least;
-      safe = read_safe unit c.args.vertex _ _ c.stroke_radius.ensures.value c.vertex.view_is (each_strokable unit (path ∷ []) safe 0 [] (lit< tt));
+      safe =
+          read_safe unit c.args.vertex _ _ c.stroke_radius.ensures.value c.vertex.view_is
+          (subst (λ (vs : List Vertex). AreStrokable unit (greatest_radius vs) vs) one all);
     }
