@@ -1,11 +1,8 @@
 pub mod AreaSums
-pub mod BoundaryCounted
 pub mod ContoursBegun
 pub mod ContoursKept
 pub mod Groups
 pub mod HolderRows
 pub mod HolderSearch
-pub mod RowSums
 pub mod Shapes
-pub mod SidesCode
 pub mod Walking

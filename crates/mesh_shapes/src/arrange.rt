@@ -14,14 +14,14 @@ ghost use Rattle.mesh_shapes.specs.Vectors.{HeldRing, ring_held, rings_held, poi
 ghost use Rattle.mesh_shapes.specs.Midway.Grouping.{ring_at, areas_of, IsHome, AreHomes, AreWithin, AreMembers};
 ghost use Rattle.mesh_shapes.specs.Midway.Grouping.{HaveMembers, IsPutHome, contour_at, shape_at, headed, all_shapes};
 ghost use Rattle.mesh_shapes.specs.Midway.Holders.{edges_of};
-ghost use Rattle.mesh_shapes.specs.Midway.Rows.{AreRows};
+ghost use Rattle.mesh_boundary.specs.Midway.Rows.{AreRows};
 ghost use Rattle.mesh_shapes.specs.Resolution.{is_large, points_lt, is_head, shape_of, rings_by_shape, answered};
 ghost use Rattle.mesh_shapes.specs.Resolution.{AreArranged};
 
 use crate::area::double_area;
 use crate::holders::{holder, ring_edges};
 use crate::ring::Ring;
-use crate::rows::Rows;
+use mesh_boundary::rows::Rows;
 use mesh_cuts::grid::GridPoint;
 use mesh_cuts::places::{empty_lists, push_to};
 use std::alloc::{AllocError, Global};

@@ -1,16 +1,13 @@
-//! From split segments to shapes: the boundary of what they fill, closed contours of it, and the order and grouping of
-//! these.
+//! From the boundary of what is filled to shapes: closed contours of it, and the order and grouping of these.
 //!
 //! Read `specs/Resolution.antt` first, the one relation that the overlay's calls promise, then `specs/Contours.antt`.
 //! `specs/Midway` has the states of loops, which private contracts alone read.
-//! `sides` finds the boundary, `walk` and `ring` make contours of it, `arrange` brings them into order and groups them.
-//! `rows` lists edges by height, for the winding beside a segment and, in `holders`, for the ring that holds a point.
+//! `walk` and `ring` make contours of a boundary, `arrange` brings them into order and groups them. `holders` finds the
+//! ring that holds a point, by the rows of `mesh_boundary`.
 #![tactic(auto)]
 
 pub mod area;
 pub mod arrange;
 mod holders;
 pub mod ring;
-mod rows;
-pub mod sides;
 pub mod walk;

@@ -1,0 +1,5 @@
+pub mod BoundaryCounted
+pub mod Levels
+pub mod RowSums
+pub mod SidesCode
+pub mod StarLists

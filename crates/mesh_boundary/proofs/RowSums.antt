@@ -1,0 +1,142 @@
+-- Lemmas over points and lists: edges listed by the rows that they reach.
+use Rattle.std.proofs.Common.{◌≡◌, ℕ, ◌+◌, ◌<◌, ◌≤◌, ◌⊎◌, inl, inr, Bool, true, false, cond, ◌&&◌, List, [], ◌∷◌, ◌++◌, length, take, get_or, add-one, refl, sym, ◌∙◌, ap, subst, arith}
+use Rattle.std.specs.Prelude.{ℤ, pos, negsuc, ◌*ℤ◌, ◌≤ℤ◌, ◌<ℤ◌, int_le, int_lt, nat_le, Vec}
+use Rattle.std.specs.declared.alloc.Global.{Global}
+use Rattle.std.specs.List.{filter}
+use Rattle.std.proofs.lemmas.Bool.Decides.{nat_tests}
+use Rattle.std.proofs.lemmas.Int.{ints}
+use Rattle.std.proofs.lemmas.List.{append-nil}
+use Rattle.std.proofs.lemmas.List.Elements.{filter-append}
+use Rattle.std.proofs.Math.Seq.{take-suc}
+use Rattle.mesh_plane.specs.Plane.{Point, Edge, turn}
+use Rattle.mesh_plane.specs.Winding.{sum_of, crossing_of, crossing_on, refined}
+use Rattle.mesh_plane.proofs.Whole.{linear, mul_zero}
+use Rattle.mesh_plane.proofs.Sums.{sum_of_filter}
+use Rattle.mesh_cuts.specs.declared.places.Mark.{Mark}
+use Rattle.mesh_cuts.specs.Counted.{Counted, size}
+use Rattle.mesh_cuts.specs.Marks.{place, AreRising, IsPutTo}
+use Rattle.mesh_cuts.proofs.PlacesAmong.{place_most, lesser_place}
+use Rattle.mesh_boundary.specs.Midway.CountedSides.{counted_winding}
+use Rattle.mesh_boundary.specs.Midway.Rows.{first_row, last_row, reaches, AreRows}
+use Rattle.mesh_boundary.proofs.SidesCode.{size_least}
+
+test_le : (a b : ℤ) → b <ℤ a → int_le a b ≡ false
+test_le a b h = grind (arith, ints)
+
+test_lt : (a b : ℤ) → b ≤ℤ a → int_lt a b ≡ false
+test_lt a b h = grind (arith, ints)
+
+-- an edge that lies above a height, or below it, does not cross a ray at it
+above_none : (a b h t : ℤ) → h <ℤ a → h <ℤ b → crossing_of a b h t ≡ pos 0
+above_none a b h t p q = rw (test_le a h p, test_le b h q) refl
+
+below_none : (a b h t : ℤ) → a <ℤ h → b <ℤ h → crossing_of a b h t ≡ pos 0
+below_none a b h t p q = by (int_le a h) (int_le b h) (int_lt h b) (int_lt h a) (test_lt h b (omega (arith, ints))) (test_lt h a (omega (arith, ints)))
+  where
+    by : (u v w x : Bool) → w ≡ false → x ≡ false → cond (u && w) (cond (int_lt (pos 0) t) (pos 1) (pos 0)) (cond (v && x) (cond (int_lt t (pos 0)) (negsuc 0) (pos 0)) (pos 0)) ≡ pos 0
+    by u v w x p q = rw (p, q) (both u v)
+      where
+        both : (u v : Bool) → cond (u && false) (cond (int_lt (pos 0) t) (pos 1) (pos 0)) (cond (v && false) (cond (int_lt t (pos 0)) (negsuc 0) (pos 0)) (pos 0)) ≡ pos 0
+        both true true = refl
+        both true false = refl
+        both false true = refl
+        both false false = refl
+
+-- ---- which rows an edge reaches
+
+outside : (f p l : ℕ) → (nat_le f p && nat_le p l) ≡ false → (p < f) ⊎ (l < p)
+outside f p l h = grind (arith, nat_tests)
+
+within : (f p l : ℕ) → f ≤ p → p < l + 1 → (nat_le f p && nat_le p l) ≡ true
+within f p l h k = grind (arith, nat_tests)
+
+without : (f p l : ℕ) → (p < f) ⊎ (l + 1 ≤ p) → (nat_le f p && nat_le p l) ≡ false
+without f p l (inl h) = grind (arith, nat_tests)
+without f p l (inr h) = grind (arith, nat_tests)
+
+-- an edge does not cross the ray from a point whose row it does not reach
+pub off_row : {T : Type 0} (ms : List Mark) (q : Point) (e : Edge × T) → reaches ms (place ms q.1) e ≡ false → crossing_on 2 q e.0.0 e.0.1 ≡ pos 0
+off_row ms q e h = by (outside (first_row ms e) (place ms q.1) (last_row ms e) h)
+  where
+    by : (place ms q.1 < first_row ms e) ⊎ (last_row ms e < place ms q.1) → crossing_on 2 q e.0.0 e.0.1 ≡ pos 0
+    by (inl k) =
+        let a = lesser_place ms q.1 (pos 2 *ℤ e.0.0.1) (omega arith) in
+        let b = lesser_place ms q.1 (pos 2 *ℤ e.0.1.1) (omega arith) in
+        above_none (pos 2 *ℤ e.0.0.1) (pos 2 *ℤ e.0.1.1) q.1 (turn (refined 2 e.0.0) (refined 2 e.0.1) q) a b
+    by (inr k) =
+        let a = lesser_place ms (pos 2 *ℤ e.0.0.1) q.1 (omega arith) in
+        let b = lesser_place ms (pos 2 *ℤ e.0.1.1) q.1 (omega arith) in
+        below_none (pos 2 *ℤ e.0.0.1) (pos 2 *ℤ e.0.1.1) q.1 (turn (refined 2 e.0.0) (refined 2 e.0.1) q) a b
+
+-- ---- listing
+
+-- a place before, in or past a range
+where_is : (i first end : ℕ) → ((first ≤ i) × (i < end)) ⊎ ((i < first) ⊎ (end ≤ i))
+where_is i first end = grind arith
+
+pub filter_more : {A : Type 0} (t : A → Bool) (xs : List A) (i : ℕ) (d : A) → i < length xs →
+    filter t (take (i + 1) xs) ≡ filter t (take i xs) ++ cond (t (get_or xs i d)) (get_or xs i d ∷ []) []
+filter_more t xs i d h =
+    ap (λ (n : ℕ). filter t (take n xs)) (add-one i) ∙ (ap (filter t) (take-suc xs i d h) ∙ filter-append t (take i xs) (get_or xs i d ∷ []))
+
+-- no edge is listed yet
+pub rows_none : {T : Type 0} (ms : List Mark) (lists : List (Vec (Edge × T) Global)) → AreRising ms → length lists ≡ length ms + 1
+    → ((i : ℕ) (d : Vec (Edge × T) Global) → i < length ms + 1 → (get_or lists i d).items ≡ []) → AreRows ms lists []
+rows_none ms lists rising len empty = record { rising = rising; len = len; rows = λ i d h. empty i d (omega (arith, len)) }
+
+-- one more edge is listed
+pub rows_more : {T : Type 0} (ms : List Mark) (old new : List (Vec (Edge × T) Global)) (es : List (Edge × T)) (i : ℕ) (e : Edge × T) → i < length es → e ≡ get_or es i e → AreRows ms old (take i es)
+    → IsPutTo old new (first_row ms e) (last_row ms e + 1) e → AreRows ms new (take (i + 1) es)
+rows_more {T = T} ms old new es i e h is rows put = record {
+  rising = rows.rising;
+  len = put.len ∙ rows.len;
+  rows = λ j d l. row j d l (where_is j (first_row ms e) (last_row ms e + 1));
+}
+  where
+    added : (j : ℕ) (b : Bool) → reaches ms j e ≡ b → filter (reaches ms j) (take (i + 1) es) ≡ filter (reaches ms j) (take i es) ++ cond b (e ∷ []) []
+    added j b r =
+        filter_more (reaches ms j) es i e h
+        ∙ (ap (λ (f : Edge × T). filter (reaches ms j) (take i es) ++ cond (reaches ms j f) (f ∷ []) []) (sym is)
+        ∙ ap (λ (x : Bool). filter (reaches ms j) (take i es) ++ cond x (e ∷ []) []) r)
+
+    row : (j : ℕ) (d : Vec (Edge × T) Global) → j < length new → ((first_row ms e ≤ j) × (j < last_row ms e + 1)) ⊎ ((j < first_row ms e) ⊎ (last_row ms e + 1 ≤ j))
+        → (get_or new j d).items ≡ filter (reaches ms j) (take (i + 1) es)
+    row j d l (inl w) =
+        let low : j < length old = omega (arith, put.len) in
+        put.inside j d w.0 w.1 low
+        ∙ (ap (λ (xs : List (Edge × T)). xs ++ e ∷ []) (rows.rows j d low) ∙ sym (added j true (within (first_row ms e) j (last_row ms e) w.0 w.1)))
+    row j d l (inr w) =
+        let low : j < length old = omega (arith, put.len) in
+        put.outside j d w
+        ∙ (rows.rows j d low ∙ (sym (append-nil (filter (reaches ms j) (take i es))) ∙ sym (added j false (without (first_row ms e) j (last_row ms e) w))))
+
+-- ---- the row of a point
+
+pub row_is : {T : Type 0} (ms : List Mark) (lists : List (Vec (Edge × T) Global)) (es row : List (Edge × T)) (q : Point) → AreRows ms lists es
+    → ((d : Vec (Edge × T) Global) → row ≡ (get_or lists (place ms q.1) d).items) → row ≡ filter (reaches ms (place ms q.1)) es
+row_is ms [] es row q rows is = absurd (omega (arith, rows.len))
+row_is ms (v ∷ vs) es row q rows is = is v ∙ rows.rows (place ms q.1) v (omega (arith, rows.len, place_most ms q.1))
+
+-- a sum over the row of what only edges give that cross the ray
+pub row_total : {T : Type 0} (ms : List Mark) (es row : List (Edge × T)) (q : Point) (g : Edge × T → ℤ) → row ≡ filter (reaches ms (place ms q.1)) es
+    → ((e : Edge × T) → crossing_on 2 q e.0.0 e.0.1 ≡ pos 0 → g e ≡ pos 0) → sum_of g row ≡ sum_of g es
+row_total ms es row q g is none =
+    ap (sum_of g) is ∙ sum_of_filter g (reaches ms (place ms q.1)) (λ e h. none e (off_row ms q e h)) es
+
+filtered_size : (t : Counted → Bool) (ks : List Counted) → sum_of size (filter t ks) ≤ℤ sum_of size ks
+filtered_size t [] = omega (arith, ints)
+filtered_size t (k ∷ ks) = by (filtered_size t ks) (t k) refl
+  where
+    by : sum_of size (filter t ks) ≤ℤ sum_of size ks → (b : Bool) → t k ≡ b → sum_of size (cond b (k ∷ filter t ks) (filter t ks)) ≤ℤ sum_of size (k ∷ ks)
+    by rest true h = omega (arith, linear)
+    by rest false h = omega (arith, linear, size_least k)
+
+pub row_sum : (ms : List Mark) (lists : List (Vec Counted Global)) (ks row : List Counted) (q : Point) → AreRows ms lists ks
+    → ((d : Vec Counted Global) → row ≡ (get_or lists (place ms q.1) d).items) → counted_winding q row ≡ counted_winding q ks
+row_sum ms lists ks row q rows is =
+    row_total ms ks row q (λ (k : Counted). k.1 *ℤ crossing_on 2 q k.0.0 k.0.1) (row_is ms lists ks row q rows is) (λ k h. ap (λ (z : ℤ). k.1 *ℤ z) h ∙ mul_zero k.1)
+
+pub row_size : (ms : List Mark) (lists : List (Vec Counted Global)) (ks row : List Counted) (q : Point) → AreRows ms lists ks
+    → ((d : Vec Counted Global) → row ≡ (get_or lists (place ms q.1) d).items) → sum_of size row ≤ℤ sum_of size ks
+row_size ms lists ks row q rows is =
+    subst (λ (l : List Counted). sum_of size l ≤ℤ sum_of size ks) (sym (row_is ms lists ks row q rows is)) (filtered_size (reaches ms (place ms q.1)) ks)

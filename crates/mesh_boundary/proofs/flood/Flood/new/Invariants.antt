@@ -1,0 +1,9 @@
+use Rattle.std.proofs.Common.{List}
+use Rattle.mesh_plane.specs.Plane.{Edge}
+use Rattle.mesh_cuts.specs.Counted.{IsCountOf}
+use Rattle.mesh_sides.specs.Laws.{AreSplit}
+use Rattle.mesh_boundary.specs.Midway.Flood.{IsFlood}
+use Rattle.mesh_boundary.proofs.flood.Flood.new.Given as goal
+
+abbrev pub invariant-loop-s : goal.invariant-loop-s
+invariant-loop-s l = (es : List Edge) → IsCountOf es l.segments → AreSplit es → IsFlood es l.flood

@@ -1,0 +1,5 @@
+-- States of the program's loops, which private contracts alone read.
+pub mod CountedSides
+pub mod Flood
+pub mod Rows
+pub mod Stars

@@ -1,0 +1,19 @@
+-- What is known midway of the windings at the ends of segments.
+use Rattle.std.specs.Prelude.{◌≡◌, List, ℤ, Option, IfSome}
+use Rattle.std.specs.List.{All}
+use Rattle.mesh_plane.specs.Plane.{Point, Edge}
+use Rattle.mesh_plane.specs.Winding.{refined, winding}
+use Rattle.mesh_boundary.specs.declared.flood.Flood.{Flood}
+
+-- a number is the winding of edges at a point
+abbrev pub IsLevel : List Edge → Point × ℤ → Type 0
+IsLevel es l = winding 2 (refined 2 l.0) es ≡ l.1
+
+-- where a winding is known it is right
+abbrev pub AreKnown : List Edge → List (Option (Point × ℤ)) → Type 0
+AreKnown es known = All (λ (o : Option (Point × ℤ)). IfSome o (IsLevel es)) known
+
+-- all windings that are known, and all that wait, are right
+pub record IsFlood (es : List Edge) (flood : Flood) : Type 0 where
+  pub known : AreKnown es flood.known.items
+  pub waiting : All (IsLevel es) flood.waiting.items

@@ -1,0 +1,125 @@
+//! Edges listed by the rows that they reach, so that the winding round a point is a sum over one row in place of all.
+//! Beside each edge stands what a search wants of it, as its count.
+
+ghost use Rattle.std.specs.Prelude.{◌≡◌, ◌+◌, ◌<◌, ◌*ℤ◌, pos, length, IfOk, OnOk, Vec};
+ghost use Rattle.std.specs.declared.alloc.Global.{Global};
+ghost use Rattle.mesh_plane.specs.Plane.{Edge};
+ghost use Rattle.mesh_cuts.specs.Lists.{list_at};
+ghost use Rattle.mesh_cuts.specs.Marks.{place, AreRising, IsPutTo};
+ghost use Rattle.mesh_boundary.specs.Midway.Rows.{first_row, last_row, AreRows};
+
+use mesh_cuts::fine::{FinePoint, doubled};
+use mesh_cuts::grid::{GridEdge, GridPoint};
+use mesh_cuts::places::{Mark, empty_lists, in_order, place, put_to, thinned};
+use std::alloc::{AllocError, Global};
+
+/// From how many edges on they are listed in more than one row.
+const FEWEST: usize = 64;
+
+/// About how many edges the marks are taken from.
+const ENDS: usize = 16384;
+
+/// About how many edges are measured to choose the number of rows.
+const MEASURED: usize = 2048;
+
+/// Lists of edges, one for each row between marks at heights on the fine grid. An edge may stand in several of them.
+#[derive(Drop)]
+pub struct Rows<T> {
+    pub marks: Vec<Mark>,
+    pub lists: Vec<Vec<(GridEdge, T)>>,
+}
+
+/// The point's height on the fine grid.
+fn height(p: GridPoint) -> Mark
+    ensures { result.at ≡ pos 2 *ℤ p.1 }
+{
+    Mark {
+        at: doubled(p).height(),
+    }
+}
+
+/// The heights of some of the edges' ends.
+fn heights<T: Copy>(alloc: Global, edges: &[(GridEdge, T)]) -> Result<Vec<Mark>, AllocError>
+    ensures { IfOk result (λ v. AreRising v.items) }
+{
+    let step = edges.len() / ENDS + 1;
+    let mut heights = Vec::new(alloc);
+    for (i, e) in edges.iter().enumerate() {
+        if i % step == 0 {
+            heights.push(height(e.0.0).at)?;
+            heights.push(height(e.0.1).at)?;
+        }
+    }
+    in_order(alloc, heights)
+}
+
+/// How many rows serve best: an edge shall reach about four on average.
+fn rows_wanted<T: Copy>(edges: &[(GridEdge, T)], heights: &[Mark]) -> usize
+    requires { AreRising heights.now }
+{
+    let step = edges.len() / MEASURED + 1;
+    let mut measured: usize = 0;
+    let mut reached: usize = 1;
+    for (i, e) in edges.iter().enumerate() {
+        if i % step == 0 {
+            let a = place(heights, height(e.0.0));
+            let b = place(heights, height(e.0.1));
+            measured = measured.saturating_add(3);
+            reached = reached.saturating_add(a.abs_diff(b));
+        }
+    }
+    let wanted = measured.saturating_mul(heights.len()) / reached.max(1);
+    wanted.min(edges.len() / 2)
+}
+
+/// Marks by which to list edges.
+fn marks<T: Copy>(alloc: Global, edges: &[(GridEdge, T)]) -> Result<Vec<Mark>, AllocError>
+    ensures { IfOk result (λ v. AreRising v.items) }
+{
+    if edges.len() < FEWEST {
+        return in_order(alloc, Vec::new(alloc));
+    }
+    let heights = heights(alloc, edges)?;
+    let wanted = rows_wanted(edges, &heights);
+    thinned(alloc, &heights, wanted)
+}
+
+/// Adds an edge to each row that it reaches.
+fn file<T: Copy>(
+    marks: &[Mark],
+    lists: &mut Vec<Vec<(GridEdge, T)>>,
+    e: (GridEdge, T),
+) -> Result<(), AllocError>
+    requires rising { AreRising marks.now }
+    requires len { length lists.old.items ≡ length marks.now + 1 }
+    ensures { OnOk result (IsPutTo lists.old.items lists.new.items
+        (first_row marks.now e) (last_row marks.now e + 1) e) }
+{
+    let a = place(marks, height(e.0.0));
+    let b = place(marks, height(e.0.1));
+    put_to(lists, a.min(b), a.max(b), e)
+}
+
+impl<T: Copy> Rows<T> {
+    /// The rows of edges.
+    pub fn new(alloc: Global, edges: &[(GridEdge, T)]) -> Result<Rows<T>, AllocError>
+        ensures { IfOk result (λ r. AreRows r.marks.items r.lists.items edges.now) }
+    {
+        let marks = marks(alloc, edges)?;
+        let mut lists = empty_lists(alloc, marks.len() + 1)?;
+        for e in edges {
+            file(&marks, &mut lists, *e)?;
+        }
+        Ok(Rows { marks, lists })
+    }
+
+    /// The edges of the row of a point, among them all that cross the ray from it to the east.
+    pub fn row(&self, q: FinePoint) -> &[(GridEdge, T)]
+        requires rising { AreRising self.now.marks.items }
+        requires len { length self.now.lists.items ≡ length self.now.marks.items + 1 }
+        ensures { (d : Vec (Edge × T) Global)
+            → result.now ≡ list_at self.now.lists.items (place self.now.marks.items q.1) d }
+    {
+        &self.lists[place(&self.marks, Mark { at: q.height() })]
+    }
+}
