@@ -10,7 +10,7 @@ ghost use Rattle.mesh_boundary.specs.Midway.Rows.{first_row, last_row, AreRows};
 
 use mesh_cuts::fine::{FinePoint, doubled};
 use mesh_cuts::grid::{GridEdge, GridPoint};
-use mesh_cuts::places::{Mark, empty_lists, in_order, place, put_to, thinned};
+use mesh_cuts::places::{Mark, empty_lists, in_order, is_sampled, place, put_to, thinned};
 use std::alloc::{AllocError, Global};
 
 /// From how many edges on they are listed in more than one row.
@@ -45,7 +45,7 @@ fn heights<T: Copy>(alloc: Global, edges: &[(GridEdge, T)]) -> Result<Vec<Mark>,
     let step = edges.len() / ENDS + 1;
     let mut heights = Vec::new(alloc);
     for (i, e) in edges.iter().enumerate() {
-        if i % step == 0 {
+        if is_sampled(i, step) {
             heights.push(height(e.0.0).at)?;
             heights.push(height(e.0.1).at)?;
         }
@@ -61,7 +61,7 @@ fn rows_wanted<T: Copy>(edges: &[(GridEdge, T)], heights: &[Mark]) -> usize
     let mut measured: usize = 0;
     let mut reached: usize = 1;
     for (i, e) in edges.iter().enumerate() {
-        if i % step == 0 {
+        if is_sampled(i, step) {
             let a = place(heights, height(e.0.0));
             let b = place(heights, height(e.0.1));
             measured = measured.saturating_add(3);

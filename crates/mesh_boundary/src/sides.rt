@@ -20,6 +20,7 @@ use crate::winding::winding;
 use mesh_cuts::fill::FillRule;
 use mesh_cuts::fine::middle;
 use mesh_cuts::grid::{CountedSegment, GridEdge};
+use mesh_cuts::places::is_sampled;
 use std::alloc::{AllocError, Global};
 
 /// The windings on both sides of a segment, from that beside it.
@@ -85,12 +86,11 @@ const SHORT: usize = 64;
 
 /// How many segments the rows have in which some of the segments' midpoints stand, all told.
 fn in_rows(segments: &[CountedSegment], rows: &Rows<i128>, step: usize) -> usize
-    requires step { 0 < step }
     requires rows { AreRows rows.now.marks.items rows.now.lists.items segments.now }
 {
     let mut sum: usize = 0;
     for (i, s) in segments.iter().enumerate() {
-        if i % step == 0 {
+        if is_sampled(i, step) {
             sum = sum.saturating_add(rows.row(middle(s.0)).len());
         }
     }
@@ -99,12 +99,11 @@ fn in_rows(segments: &[CountedSegment], rows: &Rows<i128>, step: usize) -> usize
 
 /// How many segments the stars have at which some of the segments start, all told.
 fn in_stars(segments: &[CountedSegment], stars: &Stars, step: usize) -> usize
-    requires step { 0 < step }
     requires stars { AreStars stars.now.marks.items stars.now.lists.items segments.now }
 {
     let mut sum: usize = 0;
     for (i, s) in segments.iter().enumerate() {
-        if i % step == 0 {
+        if is_sampled(i, step) {
             sum = sum.saturating_add(stars.star(s.0.0).len());
         }
     }

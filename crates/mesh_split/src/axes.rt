@@ -5,7 +5,7 @@ ghost use Rattle.std.specs.Prelude.{◌≡◌, ◌≤◌, ℕ, ℤ, min, max, le
 ghost use Rattle.mesh_cuts.specs.Marks.{place, AreRising};
 
 use mesh_cuts::grid::{GridEdge, GridPoint};
-use mesh_cuts::places::{Mark, in_order, place, thinned, x_of, y_of};
+use mesh_cuts::places::{Mark, in_order, is_sampled, place, thinned, x_of, y_of};
 use std::alloc::{AllocError, Global};
 
 /// From how many edges on the plane is parted.
@@ -72,7 +72,7 @@ fn measured(edges: &[GridEdge], axes: &Axes) -> Spread
         cells: 1,
     };
     for (i, e) in edges.iter().enumerate() {
-        if i % step == 0 {
+        if is_sampled(i, step) {
             let column = between(&axes.columns, x_of(e.0), x_of(e.1));
             let row = between(&axes.rows, y_of(e.0), y_of(e.1));
             let width = column.last - column.first;
@@ -116,7 +116,7 @@ impl Axes {
         let mut xs = Vec::new(alloc);
         let mut ys = Vec::new(alloc);
         for (i, e) in edges.iter().enumerate() {
-            if i % step == 0 {
+            if is_sampled(i, step) {
                 xs.push(x_of(e.0).at)?;
                 xs.push(x_of(e.1).at)?;
                 ys.push(y_of(e.0).at)?;
