@@ -24,6 +24,7 @@ use Rattle.mesh_below.specs.Midway.Rings.{AreRingsOf, PushesRing}
 use Rattle.mesh_shapes.specs.Resolution.{Choices, Ring, ring_of, is_large, AreArranged, IsResolution}
 use Rattle.mesh_cuts.specs.Split.{occurs, after, same_ends}
 use Rattle.mesh_cuts.specs.Splitting.{IsSplitting}
+use Rattle.mesh_sides.specs.Laws.{AreSplit}
 use Rattle.mesh_shapes.specs.Vectors.{contour_edges}
 use Rattle.mesh_plane.proofs.ClosedLists.{all_left, all_right}
 
@@ -87,6 +88,10 @@ all_occurs P (e ∷ es) h =
     All-cons P e es (h e (λ i. ends_self e i || occurs e es)) (all_occurs P es (λ (f : Edge) (o : occurs f es ≡ true). h f (or_right (same_ends f e) (occurs f es) o)))
 
 -- ---- the whole way
+-- balanced edges are split edges after a splitting
+pub parts_split : (edges : List Edge) (segments : List Counted) → IsBalanced edges → (s : IsSplitting edges segments) → AreSplit (after s.cuts edges)
+parts_split edges segments balanced s = record { balanced = s.balanced balanced; clean = s.clean; proper = s.proper }
+
 pub parted_balanced : (edges : List Edge) (segments : List Counted) (fill : ℤ → Bool) (parted : List Edge) → fill (pos 0) ≡ false → IsBalanced edges → (s : IsSplitting edges segments) →
     IsBoundary (after s.cuts edges) fill parted → IsBalanced parted
 parted_balanced edges segments fill parted empty balanced s is =

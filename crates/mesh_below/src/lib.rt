@@ -6,8 +6,8 @@
 //! in `specs/Laws.antt` and the module `laws`.
 //!
 //! The way from segments to shapes: `given` makes edges of them, `mesh_split` splits these until they share only
-//! ends, `mesh_shapes` finds the boundary of what they fill, makes contours of it, and brings these into order and
-//! groups them; `resolve` is the whole way, and `below` has its public calls.
+//! ends, `mesh_boundary` finds the boundary of what they fill, `mesh_shapes` makes contours of it, and brings these into
+//! order and groups them; `resolve` is the whole way, and `below` has its public calls.
 #![tactic(auto)]
 
 mod answer;

@@ -11,11 +11,11 @@ ghost use Rattle.mesh_shapes.specs.Vectors.{shapes_points};
 ghost use Rattle.mesh_shapes.specs.Resolution.{IsResolution};
 ghost use Rattle.mesh_shapes.specs.Vectors.{HavePoints, contour_edges};
 
+use mesh_boundary::sides::find_boundary;
 use mesh_cuts::fill::FillRule;
 use mesh_cuts::grid::{GridEdge, GridPoint};
 use mesh_shapes::arrange::{is_large, shapes};
 use mesh_shapes::ring::{Ring, ring_of};
-use mesh_shapes::sides::find_boundary;
 use mesh_shapes::walk::contours;
 use mesh_split::splitter::split_edges;
 use std::alloc::{AllocError, Global};
