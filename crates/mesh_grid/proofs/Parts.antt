@@ -4,7 +4,7 @@ use Rattle.std.specs.Prelude.{ℤ, neg_ℤ, unsigned_abs}
 use Rattle.std.proofs.Math.Nat.{mul-le-mul_left, mul-le-mul_right, le_of_mul-le-mul_right, lt_of_mul-lt-mul_right}
 use Rattle.std.proofs.lemmas.Bool.{cases_lt}
 use mathlib.Core.Logic.{⊎_elim}
-use Rattle.mesh_plane.specs.Plane.{Point, opposite, length_sq, right_quarter}
+use Rattle.mesh_plane.specs.Plane.{Point, opposite, length_sq}
 use Rattle.mesh_grid.specs.Direction.{IsPart, IsDirection, IsShort, IsFresh, KeepsOpposites}
 use Rattle.mesh_plane.proofs.Sizes.{size_neg, length_opposite, lt_of_squares, two_products}
 use Rattle.mesh_plane.proofs.Signs.{sign_neg, same_number}
@@ -55,18 +55,6 @@ direction_opposite {unit} {v} {n} p =
       x = subst (λ (l : ℕ). IsPart unit l (neg_ℤ v.0) (neg_ℤ n.0)) e (part_opposite p.x);
       y = subst (λ (l : ℕ). IsPart unit l (neg_ℤ v.1) (neg_ℤ n.1)) e (part_opposite p.y);
     }
-
--- a vector turned by a quarter has the direction turned by a quarter, for caps and the sides of strokes
-pub direction_quarter : {unit : ℕ} {v n : Point} → IsDirection unit v n → IsDirection unit (right_quarter v) (right_quarter n)
-direction_quarter {unit} {v} {n} p =
-    let e : length_sq v ≡ length_sq (right_quarter v) = turned (unsigned_abs v.0) (unsigned_abs v.1) (unsigned_abs (neg_ℤ v.0)) (size_neg v.0) in
-    record {
-      x = subst (λ (l : ℕ). IsPart unit l v.1 n.1) e p.y;
-      y = subst (λ (l : ℕ). IsPart unit l (neg_ℤ v.0) (neg_ℤ n.0)) e (part_opposite p.x);
-    }
-  where
-    turned : (a b c : ℕ) → c ≡ a → a * a + b * b ≡ b * b + c * c
-    turned a b c e = rw e (omega arith)
 
 pub direction_odd : {unit : ℕ} {v n : Point} → IsDirection unit v n → KeepsOpposites unit v n
 direction_odd p m q = direction_unique q (direction_opposite p)

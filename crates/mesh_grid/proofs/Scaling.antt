@@ -1,12 +1,12 @@
 -- Lemmas over points: directions times a radius keep signs, turns and opposites, and stay within the radius.
 use Rattle.std.proofs.Common.{◌≡◌, ℕ, ◌+◌, ◌*◌, ◌-◌, ◌<◌, ◌≤◌, refl, sym, ◌∙◌, ap, subst, arith, zero, suc}
 use Rattle.std.specs.Prelude.{ℤ, pos, ◌*ℤ◌, ◌≤ℤ◌, neg_ℤ, unsigned_abs}
-use Rattle.std.proofs.Math.Nat.{mul-le-mul, mul-le-mul_left, mul-le-mul_right}
+use Rattle.std.proofs.Math.Nat.{mul-le-mul_left, mul-le-mul_right}
 use Rattle.std.proofs.lemmas.Nat.{mul-lt}
 use Rattle.std.proofs.lemmas.Int.{unsigned_abs-mul, by_lt_z}
 use Rattle.std.proofs.lemmas.Bool.{cases_lt}
 use mathlib.Core.Logic.{⊎_elim}
-use Rattle.mesh_plane.specs.Plane.{Point, opposite, cross, dot, length_sq, right_quarter}
+use Rattle.mesh_plane.specs.Plane.{Point, opposite, cross, dot, length_sq}
 use Rattle.mesh_plane.specs.Signs.{HasSignOf}
 use Rattle.mesh_grid.specs.Direction.{IsDirection, IsShort, IsFresh, KeepsScaledTurns, scaled, scaled_direction}
 use Rattle.mesh_plane.specs.Rounding.{rounded}
@@ -62,10 +62,6 @@ scaled_direction_bounded unit r n h s =
     let b : (unsigned_abs n.0 ≤ unit) × (unsigned_abs n.1 ≤ unit) = short_bounded unit n s in
     (scaled_bound unit r n.0 h b.0, scaled_bound unit r n.1 h b.1)
 
--- a quarter turn and a radius may be applied in either order, for caps and the sides of strokes
-pub scaled_direction_quarter : (unit : ℕ) (r : ℤ) (n : Point) → 0 < unit → scaled_direction unit r (right_quarter n) ≡ right_quarter (scaled_direction unit r n)
-scaled_direction_quarter unit r n h = λ i. (scaled unit r n.1, scaled_opposite_part unit r n.0 h i)
-
 -- a vector looks the way of its direction times a radius of at least 0, in each coordinate
 pub along_scaled : {unit : ℕ} {v n : Point} → (r : ℤ) → 0 < unit → pos 0 ≤ℤ r → IsDirection unit v n
     → (pos 0 ≤ℤ (v.0 *ℤ scaled unit r n.0)) × (pos 0 ≤ℤ (v.1 *ℤ scaled unit r n.1))
@@ -113,12 +109,6 @@ pub direction_keeps_scaled_turns : (unit : ℕ) (r : ℤ) (n : Point) → 0 < un
 direction_keeps_scaled_turns unit r n h v w m p q t = scaled_turn_kept r h p q t
 
 -- ---- a fresh direction times a radius other than 0 is not 0, for joins and caps that are no point
-
-pub fresh_length : (unit : ℕ) (n : Point) → 3 ≤ unit → IsFresh unit n → 0 < length_sq n
-fresh_length unit n h f =
-    let a : 1 ≤ unit - 2 = omega arith in
-    let b : 1 * 1 ≤ (unit - 2) * (unit - 2) = mul-le-mul a a in
-    omega arith
 
 small_part : (unit : ℕ) (r k : ℤ) → 0 < unit → 1 ≤ unsigned_abs r → unsigned_abs (scaled unit r k) ≡ 0 → 4 * (unsigned_abs k * unsigned_abs k) < unit * unit
 small_part unit r k h l e =

@@ -73,10 +73,6 @@ parallel_kept_by {unit} {v} {n} {w} {m} f k p q e =
 pub turn_kept : {unit : ℕ} {v n w m : Point} → IsDirection unit v n → IsDirection unit w m → pos 0 ≤ℤ cross v w → pos 0 ≤ℤ cross n m
 turn_kept p q h = turn_kept_by (λ (x : ℤ). x) keeps_self p q h
 
--- for joins where an edge goes straight on
-pub parallel_kept : {unit : ℕ} {v n w m : Point} → IsDirection unit v n → IsDirection unit w m → cross v w ≡ pos 0 → cross n m ≡ pos 0
-parallel_kept p q e = parallel_kept_by (λ (x : ℤ). x) keeps_self p q e
-
 pub direction_keeps_turns : {unit : ℕ} {v n : Point} → IsDirection unit v n → KeepsTurns unit v n
 direction_keeps_turns p w m q h = turn_kept p q h
 

@@ -1,7 +1,7 @@
 -- Lemmas over whole numbers: identities of the plane's products, for any coordinates.
 use Rattle.std.proofs.Common.{◌≡◌, refl, [], ◌∷◌}
 use Rattle.std.specs.Prelude.{ℤ, pos, ◌+ℤ◌, ◌-ℤ◌, ◌*ℤ◌, neg_ℤ}
-use Rattle.mesh_plane.specs.Plane.{Point, opposite, cross, dot, right_quarter}
+use Rattle.mesh_plane.specs.Plane.{Point, opposite, cross, dot}
 use Rattle.mesh_plane.proofs.Ring.{ring, var, lit, neg, ◌⊕◌, ◌⊖◌, ◌⊗◌, cross_of, dot_of}
 
 -- (v·w)² + (v×w)² = |v|²|w|²
@@ -53,19 +53,7 @@ cross_self v = ring (v.0 ∷ v.1 ∷ []) (cross_of (var 0) (var 1) (var 0) (var 
 pub dot_swap : (v w : Point) → dot w v ≡ dot v w
 dot_swap v w = ring (v.0 ∷ v.1 ∷ w.0 ∷ w.1 ∷ []) (dot_of (var 2) (var 3) (var 0) (var 1)) (dot_of (var 0) (var 1) (var 2) (var 3)) refl
 
--- ---- quarter turns and opposites, for caps and the two sides of strokes
-
-pub cross_quarters : (s t : Point) → cross (right_quarter s) (right_quarter t) ≡ cross s t
-cross_quarters s t =
-    ring (s.0 ∷ s.1 ∷ t.0 ∷ t.1 ∷ []) (cross_of (var 1) (neg (var 0)) (var 3) (neg (var 2))) (cross_of (var 0) (var 1) (var 2) (var 3)) refl
-
-pub cross_quarter : (s w : Point) → cross (right_quarter s) w ≡ dot s w
-cross_quarter s w =
-    ring (s.0 ∷ s.1 ∷ w.0 ∷ w.1 ∷ []) (cross_of (var 1) (neg (var 0)) (var 2) (var 3)) (dot_of (var 0) (var 1) (var 2) (var 3)) refl
-
-pub quarter_cross : (w s : Point) → cross w (opposite (right_quarter s)) ≡ dot s w
-quarter_cross w s =
-    ring (s.0 ∷ s.1 ∷ w.0 ∷ w.1 ∷ []) (cross_of (var 2) (var 3) (neg (var 1)) (neg (neg (var 0)))) (dot_of (var 0) (var 1) (var 2) (var 3)) refl
+-- ---- opposites
 
 pub cross_opposites : (v w : Point) → cross (opposite v) (opposite w) ≡ cross v w
 cross_opposites v w =

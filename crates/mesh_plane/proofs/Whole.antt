@@ -1,7 +1,7 @@
 -- Lemmas over whole numbers: laws that std lacks, of products of sums, of opposites, and of signs.
 use Rattle.std.proofs.Common.{◌≡◌, ◌*◌, ◌⊎◌, inl, inr, sym, ◌∙◌, ap, arith, zero, suc}
 use Rattle.std.specs.Prelude.{ℤ, pos, negsuc, ◌+ℤ◌, ◌-ℤ◌, ◌*ℤ◌, ◌≤ℤ◌, neg_ℤ}
-use lib.IntN.{*ℤ_comm, *ℤ-zero}
+use lib.IntN.{*ℤ_comm}
 use lib.Signed.{◌<ℤ◌}
 use Rattle.std.proofs.lemmas.Int.{ints, by_lt_z}
 use borrow.Author.Differences.{up, down, sum_is_lem, neg_is, product_is, same_out, same_in, lt_out, le_out, below_in, at_most_in}
@@ -150,14 +150,6 @@ mul_lt_mul_left c a b h k =
     let q : pos 0 <ℤ (c *ℤ (b -ℤ a)) = mul_pos c (b -ℤ a) h p in
     omega (arith, linear, mul_sub c b a)
 
-pub mul_lt_mul_right : (c a b : ℤ) → pos 0 <ℤ c → a <ℤ b → (a *ℤ c) <ℤ (b *ℤ c)
-mul_lt_mul_right c a b h k = omega (arith, linear, mul_lt_mul_left c a b h k, *ℤ_comm c a, *ℤ_comm c b)
-
-pub mul_le_mul : (a b c d : ℤ) → pos 0 ≤ℤ a → a ≤ℤ b → pos 0 ≤ℤ c → c ≤ℤ d → (a *ℤ c) ≤ℤ (b *ℤ d)
-mul_le_mul a b c d h k i j =
-    let l : pos 0 ≤ℤ b = omega (arith, linear) in
-    omega (arith, linear, mul_le_mul_right c a b i k, mul_le_mul_left b c d l j)
-
 pub le_of_mul_le_mul : (c a b : ℤ) → pos 0 <ℤ c → (c *ℤ a) ≤ℤ (c *ℤ b) → a ≤ℤ b
 le_of_mul_le_mul c a b h k = by_lt_z b a (λ l. absurd (omega (arith, linear, mul_lt_mul_left c b a h l))) (λ l. l)
 
@@ -189,19 +181,3 @@ square_pos a n =
     by_lt_z a (pos 0)
     (λ h. mul_both_neg a a h h)
     (λ h. by_lt_z (pos 0) a (λ p. mul_pos a a p p) (λ p. absurd (n (omega (arith, linear)))))
-
-pub square_le_square : (a b : ℤ) → pos 0 ≤ℤ a → a ≤ℤ b → (a *ℤ a) ≤ℤ (b *ℤ b)
-square_le_square a b h k = mul_le_mul a b a b h k h k
-
-pub square_lt_square : (a b : ℤ) → pos 0 ≤ℤ a → a <ℤ b → (a *ℤ a) <ℤ (b *ℤ b)
-square_lt_square a b h k =
-    let p : a ≤ℤ b = omega (arith, linear) in
-    let q : pos 0 <ℤ b = omega (arith, linear) in
-    omega (arith, linear, mul_le_mul_left a a b h p, mul_lt_mul_right b a b q k)
-
--- from squares back to lengths, for the limits of miters and the steps of arcs
-pub le_of_square_le : (a b : ℤ) → pos 0 ≤ℤ b → (a *ℤ a) ≤ℤ (b *ℤ b) → a ≤ℤ b
-le_of_square_le a b h k = by_lt_z b a (λ l. absurd (omega (arith, linear, square_lt_square b a h l))) (λ l. l)
-
-pub lt_of_square_lt : (a b : ℤ) → pos 0 ≤ℤ b → (a *ℤ a) <ℤ (b *ℤ b) → a <ℤ b
-lt_of_square_lt a b h k = by_lt_z a b (λ l. l) (λ l. absurd (omega (arith, linear, square_le_square b a h l)))

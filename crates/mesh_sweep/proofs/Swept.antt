@@ -1,6 +1,6 @@
 -- Lemmas over points: what circles and arcs know of the points round a vertex.
 use Rattle.std.proofs.Common.{◌≡◌, ◌≢◌, ℕ, ◌+◌, ◌*◌, ◌<◌, ◌≤◌, Bool, true, false, refl, sym, ◌∙◌, ap, map, arith}
-use Rattle.std.specs.Prelude.{ℤ, pos, ◌≤ℤ◌, ◌<ℤ◌, ◌||◌, unsigned_abs}
+use Rattle.std.specs.Prelude.{ℤ, pos, ◌<ℤ◌, ◌||◌, unsigned_abs}
 use Rattle.std.proofs.lemmas.Bool.{true≢false}
 use Rattle.std.proofs.lemmas.Int.{ints}
 use Rattle.mesh_plane.specs.Bounds.{IsSafe}
@@ -17,9 +17,8 @@ use Rattle.mesh_arc.specs.Arcs.{arc, clamped}
 use Rattle.mesh_arc.specs.declared.arc.ArcDirection.TheVariants.{Counterclockwise}
 use Rattle.mesh_arc.specs.declared.arc.ArcOptions.{ArcOptions}
 use Rattle.mesh_join.specs.Midway.RoundJoins.{IsApart}
-use Rattle.mesh_join.proofs.Joints.{within_safe}
 use Rattle.mesh_sweep.specs.Sweeps.{distance, bearing, point_round, polyline_points, east_of, west_of, is_central}
-use Rattle.mesh_sweep.specs.Sweeps.{IsSwept, IsReached}
+use Rattle.mesh_sweep.specs.Sweeps.{IsSwept}
 
 -- ---- distances
 
@@ -66,29 +65,6 @@ short_safe unit n some short =
       x = record { low = omega (arith, ints, b.0); high = omega (arith, ints, b.0) };
       y = record { low = omega (arith, ints, b.1); high = omega (arith, ints, b.1) };
     }
-
--- a center that stays safe within some padding does within a smaller one
-safe_less : (unit : ℕ) (padding reach : ℤ) (c : Point) → pos 0 ≤ℤ padding → padding ≤ℤ reach
-    → IsSafeWidened unit reach c → IsSafeWidened unit padding c
-safe_less unit padding reach c some covers h = (
-  record {
-    x = record { low = omega (arith, ints, h.0.x.low); high = omega (arith, ints, h.0.x.low, h.1.x.high) };
-    y = record { low = omega (arith, ints, h.0.y.low); high = omega (arith, ints, h.0.y.low, h.1.y.high) };
-  },
-  record {
-    x = record { low = omega (arith, ints, h.0.x.low, h.1.x.high); high = omega (arith, ints, h.1.x.high) };
-    y = record { low = omega (arith, ints, h.0.y.low, h.1.y.high); high = omega (arith, ints, h.1.y.high) };
-  },
-)
-
--- what a center reaches can be swept where it stays safe by that reach
-pub swept_within : (unit : ℕ) (reach : ℤ) (c x y : Point) → IsSafeWidened unit reach c → IsReached reach c x y
-    → IsSwept unit c x y
-swept_within unit reach c x y safe h = record {
-  center = safe_less unit (pos (distance c x)) reach c (omega (arith, ints)) h.distance safe;
-  from = within_safe unit reach c x safe h.from;
-  to = within_safe unit reach c y safe h.to;
-}
 
 pub swept_from : (unit : ℕ) (c x y : Point) → IsSwept unit c x y → IsSafe (2 * unit) (minus x c)
 swept_from unit c x y h = safe_difference unit x c h.from (center_safe unit (distance c x) c h.center)

@@ -8,8 +8,7 @@ use Rattle.mesh_plane.proofs.Sizes.{lt_of_squares}
 use Rattle.mesh_plane.proofs.Whole.{linear, neg_mul}
 use Rattle.mesh_grid.specs.Widths.{IsUnit}
 use Rattle.mesh_sine.specs.Sine.{root}
-use Rattle.mesh_tangent.specs.Tangents.{lift, tangent_length, left_normal, right_normal, normal_length, at_radius}
-use Rattle.mesh_tangent.specs.Tangents.{left_offset, right_offset}
+use Rattle.mesh_tangent.specs.Tangents.{lift, tangent_length, left_normal, right_normal, normal_length}
 use Rattle.mesh_tangent.specs.Bounded.{IsBounded}
 use Rattle.mesh_tangent.proofs.Contacts.{left_normal_most, right_normal_most}
 use Rattle.mesh_tangent.proofs.Lifts.{bound_most, normal_length_most, lift_some}
@@ -97,13 +96,3 @@ right_made unit v delta l t c n e f g x y =
     let p : n.0 ≡ (right_normal unit v delta).0 = a ∙ (λ i. (h i *ℤ v.0) +ℤ (pos (f i) *ℤ v.1)) in
     let q : n.1 ≡ (right_normal unit v delta).1 = b ∙ (λ i. (h i *ℤ v.1) -ℤ (pos (f i) *ℤ v.0)) in
     λ i. (p i, q i)
-
-pub left_offset_made : (unit l : ℕ) (v n o : Point) (delta r : ℤ) → l ≡ normal_length unit v →
-    n ≡ left_normal unit v delta → o ≡ at_radius l r n →
-    o ≡ left_offset unit v delta r
-left_offset_made unit l v n o delta r e f g = g ∙ (λ i. at_radius (e i) r (f i))
-
-pub right_offset_made : (unit l : ℕ) (v n o : Point) (delta r : ℤ) → l ≡ normal_length unit v →
-    n ≡ right_normal unit v delta → o ≡ at_radius l r n →
-    o ≡ right_offset unit v delta r
-right_offset_made unit l v n o delta r e f g = g ∙ (λ i. at_radius (e i) r (f i))

@@ -4,7 +4,7 @@ use Rattle.std.specs.Prelude.{leb}
 use Rattle.std.specs.Int.{leading_zeros, w64}
 use Rattle.std.specs.Int.Count.{count_leading_zeros, leading_unique}
 use Rattle.std.proofs.lemmas.Bool.Decides.{leb_tells}
-use Rattle.std.proofs.lemmas.Nat.{leading_length, leading_le, pow-add, pow_pos, mul-lt}
+use Rattle.std.proofs.lemmas.Nat.{leading_length, pow-add, pow_pos, mul-lt}
 use Rattle.std.proofs.Math.Nat.{pow-le-pow_right, pow-suc, mul-le-mul_left, mul-le-mul_right}
 use Rattle.mesh_grid.specs.Widths.{IsUnit}
 use Rattle.mesh_tangent.specs.Tangents.{doublings, lift}
@@ -63,12 +63,6 @@ zeros_more unit square u h = by (bound_power unit u)
         omega (arith, z, zeros_of_power k l, zeros_below k square (omega (arith, e, h, p)) (omega (arith, e, h)))
 
 -- ---- the power of two
-
-pub doublings_most : (unit square : ℕ) → doublings unit square / 2 ≤ 31
-doublings_most unit square = omega (arith, leading_le 64 square)
-
-pub lift_most : (unit square : ℕ) → lift unit square ≤ 2 ^ 31
-lift_most unit square = pow-le-pow_right (omega arith) (doublings_most unit square)
 
 pub lift_some : (unit square : ℕ) → 0 < lift unit square
 lift_some unit square = pow_pos (doublings unit square / 2)
