@@ -1,9 +1,9 @@
-pub mod CellLists
 pub mod Clean
 pub mod Entries
 pub mod Extents
 pub mod Filing
 pub mod Kept
+pub mod Listing
 pub mod Paths
 pub mod Piles
 pub mod Room

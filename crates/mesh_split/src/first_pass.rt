@@ -108,9 +108,9 @@ fn budget(edges: usize, meetings: usize, factor: usize) -> usize {
 }
 
 /// How many splits an attempt in hand may make, which does not know the number of meetings: mostly there are no more
-/// than three for two edges, as along a coast.
+/// than five for each edge, also where an offset is as long as many edges of a coast.
 fn usual(edges: usize, factor: usize) -> usize {
-    budget(edges, edges.saturating_add(edges / 2), factor)
+    budget(edges, edges.saturating_mul(5), factor)
 }
 
 /// Splits the edges by hints, unless that takes too many splits. All that it leaves waits to be tested.

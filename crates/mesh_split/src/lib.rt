@@ -2,12 +2,11 @@
 //!
 //! `splitter` has the public call, which is the second pass; its contract is in `mesh_cuts/specs/Splitting.antt`.
 //! `first_pass` splits before it, in a better order where the usual one takes too many, and `hints` have that order.
-//! `steps` are the steps of both: `worklist` and `store` have the segments that wait and those that live, `axes` the
-//! cells by which the latter are sought. `specs/Midway` has the states of its loops, which private contracts alone
-//! read.
+//! `steps` are the steps of both: `worklist` and `store` have the segments that wait and those that live, `tree` the
+//! parts of the plane by which the latter are sought. `specs/Midway` has the states of its loops, which private
+//! contracts alone read.
 #![tactic(auto)]
 
-mod axes;
 mod first_pass;
 mod hints;
 pub mod laws;
@@ -15,4 +14,5 @@ pub mod splitter;
 mod steps;
 mod store;
 mod tally;
+mod tree;
 mod worklist;

@@ -130,6 +130,6 @@ abbrev pub AddUpTo : List Edge → List (List Point) → List Edge → Type 0
 AddUpTo own pieces es =
     (f : Point → Point → ℤ) → IsOdd f → total f es ≡ total f own +ℤ pieces_total f pieces
 
--- whether an arc has one edge at most, so that it takes no memory but for this
+-- whether an arc is empty, or begins or ends in the center, so that it takes no memory but for its edge
 abbrev pub is_direct : Point → Point → Point → Sweep → Bool
 is_direct c x y aligned = is_empty (sweep_of c x y aligned) x y || is_central c x y

@@ -98,8 +98,9 @@ impl<I: IntNumber> Sweeper<I> {
     /// or ends in `center` is one edge, and so is the last one of a whole turn, after its circle.
     ///
     /// The edges stay as near to `center` as both points and that distance, and are the edge between both points and
-    /// the boundaries of the pieces. An arc of at most one edge succeeds where there is room for it. After a refusal
-    /// the vector still begins with what it held.
+    /// the boundaries of the pieces. A minor arc from a point to itself takes no memory, and an arc that begins or ends
+    /// in `center` succeeds where there is room for its edge. After a refusal the vector still begins with what it
+    /// held.
     ///
     /// The center stays in the safe range where it moves by that distance, and both points are in it.
     pub fn add_arc(

@@ -71,7 +71,8 @@ has_no_section a b =
 abbrev pub section_of : ℕ → Circle → Circle → Option Section
 section_of unit a b = cond (has_no_section a b) None (Some (with_contacts unit a b))
 
--- the vector from the center of a circle to the point is no longer than the radius
+-- the vector from the center of a circle to the point has a length that, cut to a whole number, is no more than the
+-- radius, and no coordinate of it is more
 abbrev pub IsContact : Circle → Point → Type 0
 IsContact c p = IsWithinRadius c.radius (minus p c.center)
 
