@@ -1,4 +1,4 @@
-//! Random lists of so many edges that the plane is parted into cells, against a plain check of what split segments are.
+//! Random lists of so many edges that the plane is parted, against a plain check of what split segments are.
 
 ghost use Rattle.std.specs.Prelude.{◌<◌, ◌^◌};
 
@@ -7,10 +7,10 @@ use mesh_below::grid::GridEdge;
 use mesh_toolbox::random::{Random, scattered};
 use std::alloc::{AllocError, Global};
 
-/// From 64 edges on the plane is parted. These are some more, since edges that end where they start are left out.
+/// The plane is parted where more than 16 edges lie. These are many more.
 const COUNT: u32 = 90;
 
-/// Edges of one closed list in a square of this size. In a small one, many of the marks between cells are equal.
+/// Edges of one closed list in a square of this size. In a small one, many of their ends are equal.
 fn crowd(alloc: Global, random: &mut Random, size: u32) -> Result<Vec<GridEdge>, AllocError>
     requires least { 0 < size }
     requires most { size < 2 ^ 31 }
@@ -21,7 +21,7 @@ fn crowd(alloc: Global, random: &mut Random, size: u32) -> Result<Vec<GridEdge>,
 }
 
 #[test]
-fn many_cells(rt: HostRuntime) -> Result<(), AllocError> {
+fn crowds(rt: HostRuntime) -> Result<(), AllocError> {
     let mut random = Random::new(31);
     for round in 0u32..12 {
         let edges = crowd(rt.alloc(), &mut random, round % 4 * 4 + 4)?;
@@ -30,7 +30,7 @@ fn many_cells(rt: HostRuntime) -> Result<(), AllocError> {
     Ok(())
 }
 
-/// All points have one `x`, or one `y`, so there are cells along one axis alone.
+/// All points have one `x`, or one `y`, so the plane is parted along one axis alone.
 #[test]
 fn one_column_and_one_row(rt: HostRuntime) -> Result<(), AllocError> {
     let mut random = Random::new(32);
@@ -46,9 +46,9 @@ fn one_column_and_one_row(rt: HostRuntime) -> Result<(), AllocError> {
     Ok(())
 }
 
-/// A few edges reach far past the crowd at whose ends the marks stand.
+/// A few edges reach far past the crowd at whose ends the plane is parted.
 #[test]
-fn past_all_marks(rt: HostRuntime) -> Result<(), AllocError> {
+fn past_all_cuts(rt: HostRuntime) -> Result<(), AllocError> {
     let mut random = Random::new(33);
     for _ in 0..12 {
         let mut edges = crowd(rt.alloc(), &mut random, 4)?;
@@ -56,6 +56,51 @@ fn past_all_marks(rt: HostRuntime) -> Result<(), AllocError> {
             &mut edges,
             &[(-8, -7), (16, 3), (15, 16), (-5, 1), (7, -8), (-8, 14)],
         )?;
+        expect_split(&rt, rt.alloc(), &edges, true)?;
+    }
+    Ok(())
+}
+
+/// A long strip upwards to the right.
+fn strip(random: &mut Random) -> [(i32, i32); 4] {
+    let low = random.below(90) as i32 - 60;
+    let width = random.below(3) as i32 + 1;
+    [
+        (-30, low),
+        (30, low + 30),
+        (30, low + 30 + width),
+        (-30, low + width),
+    ]
+}
+
+/// The box of each strip meets those of most others, so the plane is parted along the strips.
+#[test]
+fn strips_side_by_side(rt: HostRuntime) -> Result<(), AllocError> {
+    let mut random = Random::new(34);
+    for _ in 0..8 {
+        let mut edges = Vec::new(rt.alloc());
+        for _ in 0..24 {
+            push_closed(&mut edges, &strip(&mut random))?;
+        }
+        expect_split(&rt, rt.alloc(), &edges, true)?;
+    }
+    Ok(())
+}
+
+/// Long edges that cross each other in the middle, in all directions, so the plane is parted along many of them.
+#[test]
+fn spikes_all_round(rt: HostRuntime) -> Result<(), AllocError> {
+    let mut random = Random::new(35);
+    for _ in 0..4 {
+        let mut spots = Vec::new(rt.alloc());
+        for _ in 0..12 {
+            let (x, y) = random.point(3);
+            spots.push((x.wrapping_add(6), y.wrapping_add(6)))?;
+            let (x, y) = random.point(60);
+            spots.push((x.wrapping_sub(22), y.wrapping_sub(22)))?;
+        }
+        let mut edges = Vec::new(rt.alloc());
+        push_closed(&mut edges, &spots)?;
         expect_split(&rt, rt.alloc(), &edges, true)?;
     }
     Ok(())

@@ -1,19 +1,18 @@
 -- Lemmas over segments that parts of the plane list.
 use Rattle.std.proofs.Common.{◌≡◌, ◌⊎◌, ⊎_elim, Bool, true, false, cond, ℕ, ◌+◌, ◌<◌, ◌≤◌, sym, ◌∙◌, ap, subst, refl, arith, List, [], ◌∷◌, ◌++◌, length, length-append, get_or, below_more}
-use Rattle.std.specs.Prelude.{ℤ, pos, ◌≤ℤ◌, ◌<ℤ◌, ◌||◌, not, int_lt, Option, Some, None, MatchOption}
+use Rattle.std.specs.Prelude.{pos, ◌<ℤ◌, Option, Some, None, MatchOption}
 use Rattle.std.proofs.Math.ListN.{get_or-append}
 use Rattle.std.proofs.Math.Seq.{get_or-append_seam}
-use Rattle.std.proofs.lemmas.Int.{ints}
 use Rattle.std.proofs.lemmas.List.{get_or_default}
-use Rattle.mesh_plane.specs.Plane.{Point, Edge}
+use Rattle.mesh_plane.specs.Plane.{Edge}
 use Rattle.mesh_plane.proofs.Whole.{linear}
 use Rattle.mesh_cuts.specs.Counted.{Counted, bit}
-use Rattle.mesh_cuts.specs.Split.{same_edge, IsBetween, IsInBox, AreClear}
-use Rattle.mesh_cuts.proofs.Boxes.{meets_box}
+use Rattle.mesh_cuts.specs.Split.{same_edge, AreClear}
 use Rattle.mesh_cuts.proofs.Counts.{bit_least}
 use Rattle.mesh_cuts.proofs.Ends.{decides_edge}
 use Rattle.mesh_split.specs.declared.tree.Cut.{Cut}
-use Rattle.mesh_split.specs.Midway.Parts.{is_below, reaches, IsListed, HasListed, KeepsListed, AreListed, IsPartClear}
+use Rattle.mesh_split.specs.Midway.Parts.{Place, IsAt, reaches, IsListed, KeepsThose, HasListed, KeepsListed, AreListed, IsPartClear}
+use Rattle.mesh_split.proofs.Places.{place_met}
 use Rattle.mesh_split.specs.Midway.Steps.{exactly, IsPut, IsTaken, IsClearOf, AddsIf}
 
 -- ---- lists that grow
@@ -65,46 +64,14 @@ kept_left_out P from left i d₀ lacks before = record {
     below_or_last : (a b : ℕ) → a < b + 1 → (a < b) ⊎ (a ≡ b)
     below_or_last a b h = grind arith
 
-pub kept_all : (P : Edge → Type 0) (from left : List Edge) (n : ℕ) → length from ≤ n → AreKept P from left n → (x : Edge) → P x → IsListed x from → IsListed x left
+pub kept_all : (P : Edge → Type 0) (from left : List Edge) (n : ℕ) → length from ≤ n → AreKept P from left n → KeepsThose P from left
 kept_all P from left n all a x p l = a.kept l.at (omega (arith, l.within)) x l.same p
 
 -- ---- cuts
 
--- where a point of a box lies on a side of a cut, so does an end
-pub box_reaches : (cut : Cut) (e : Edge) (c : Point) → IsInBox e c → reaches cut e (is_below cut c) ≡ true
-box_reaches cut e c box = by cut.by_x refl
-  where
-    sides : Bool → Bool → Bool → Bool
-    sides p q below = cond below (p || q) (not p || not q)
-
-    in_range : (a z b at : ℤ) → IsBetween a z b → sides (int_lt a at) (int_lt b at) (int_lt z at) ≡ true
-    in_range a z b at h =
-        ⊎_elim
-        (λ (l : a ≤ℤ b). ordered a z b at (h.up l).0 (h.up l).1)
-        (λ (l : b ≤ℤ a). swapped (int_lt a at) (int_lt b at) (int_lt z at) (ordered b z a at (h.down l).0 (h.down l).1))
-        (either a b)
-      where
-        either : (a b : ℤ) → (a ≤ℤ b) ⊎ (b ≤ℤ a)
-        either a b = grind (arith, ints)
-
-        ordered : (a z b at : ℤ) → a ≤ℤ z → z ≤ℤ b → sides (int_lt a at) (int_lt b at) (int_lt z at) ≡ true
-        ordered a z b at h k = grind (arith, ints)
-
-        swapped : (p q r : Bool) → sides q p r ≡ true → sides p q r ≡ true
-        swapped true true r h = h
-        swapped true false true h = refl
-        swapped true false false h = refl
-        swapped false true true h = refl
-        swapped false true false h = refl
-        swapped false false r h = h
-
-    by : (b : Bool) → cut.by_x ≡ b → reaches cut e (is_below cut c) ≡ true
-    by true t = rw t (in_range e.0.0 c.0 e.1.0 cut.at box.by_x)
-    by false t = rw t (in_range e.0.1 c.1 e.1.1 cut.at box.by_y)
-
--- what holds on each side of a cut that an edge reaches, holds on that of each point of its box
-pub at_point : (P : Bool → Type 0) (cut : Cut) (e : Edge) (c : Point) → IsInBox e c → (reaches cut e true ≡ true → P true) → (reaches cut e false ≡ true → P false) → P (is_below cut c)
-at_point P cut e c box low high = by (is_below cut c) (box_reaches cut e c box)
+-- what holds on each side of a cut that an edge reaches, holds on that of each place that it reaches
+pub at_place : (P : Bool → Type 0) (cut : Cut) (e : Edge) (c : Place) → IsAt e c → (reaches cut e true ≡ true → P true) → (reaches cut e false ≡ true → P false) → P (c cut)
+at_place P cut e c reach low high = by (c cut) (reach cut)
   where
     by : (b : Bool) → reaches cut e b ≡ true → P b
     by true t = low t
@@ -112,24 +79,24 @@ at_point P cut e c box low high = by (is_below cut c) (box_reaches cut e c box)
 
 -- ---- parts of parts
 
-pub kept_same : (live : List Counted) (listed : Point → List Edge) → KeepsListed live listed listed
-kept_same live listed e c lives box l = l
+pub kept_same : (live : List Counted) (listed : Place → List Edge) → KeepsListed live listed listed
+kept_same live listed e c lives reach l = l
 
-pub fork_keeps : (live : List Counted) (cut : Cut) (low high low' high' : Point → List Edge) → KeepsListed live low low' → KeepsListed live high high'
-    → KeepsListed live (λ c. cond (is_below cut c) (low c) (high c)) (λ c. cond (is_below cut c) (low' c) (high' c))
-fork_keeps live cut low high low' high' k m e c lives box l = by (is_below cut c) l
+pub fork_keeps : (live : List Counted) (cut : Cut) (low high low' high' : Place → List Edge) → KeepsListed live low low' → KeepsListed live high high'
+    → KeepsListed live (λ c. cond (c cut) (low c) (high c)) (λ c. cond (c cut) (low' c) (high' c))
+fork_keeps live cut low high low' high' k m e c lives reach l = by (c cut) l
   where
     by : (b : Bool) → IsListed e (cond b (low c) (high c)) → IsListed e (cond b (low' c) (high' c))
-    by true l = k e c lives box l
-    by false l = m e c lives box l
+    by true l = k e c lives reach l
+    by false l = m e c lives reach l
 
-pub fork_lists : (cut : Cut) (low high : Point → List Edge) (e : Edge) → (reaches cut e true ≡ true → HasListed low e) → (reaches cut e false ≡ true → HasListed high e)
-    → HasListed (λ c. cond (is_below cut c) (low c) (high c)) e
-fork_lists cut low high e l h c box = at_point (λ (b : Bool). IsListed e (cond b (low c) (high c))) cut e c box (λ t. l t c box) (λ t. h t c box)
+pub fork_lists : (cut : Cut) (low high : Place → List Edge) (e : Edge) → (reaches cut e true ≡ true → HasListed low e) → (reaches cut e false ≡ true → HasListed high e)
+    → HasListed (λ c. cond (c cut) (low c) (high c)) e
+fork_lists cut low high e l h c reach = at_place (λ (b : Bool). IsListed e (cond b (low c) (high c))) cut e c reach (λ t. l t c reach) (λ t. h t c reach)
 
-pub fork_is_clear : (cut : Cut) (low high : Point → List Edge) (s : Edge) (live : List Counted) → (reaches cut s true ≡ true → (c : Point) → IsInBox s c → IsPartClear s (low c) live)
-    → (reaches cut s false ≡ true → (c : Point) → IsInBox s c → IsPartClear s (high c) live) → (c : Point) → IsInBox s c → IsPartClear s (cond (is_below cut c) (low c) (high c)) live
-fork_is_clear cut low high s live l h c box = at_point (λ (b : Bool). IsPartClear s (cond b (low c) (high c)) live) cut s c box (λ t. l t c box) (λ t. h t c box)
+pub fork_is_clear : (cut : Cut) (low high : Place → List Edge) (s : Edge) (live : List Counted) → (reaches cut s true ≡ true → (c : Place) → IsAt s c → IsPartClear s (low c) live)
+    → (reaches cut s false ≡ true → (c : Place) → IsAt s c → IsPartClear s (high c) live) → (c : Place) → IsAt s c → IsPartClear s (cond (c cut) (low c) (high c)) live
+fork_is_clear cut low high s live l h c reach = at_place (λ (b : Bool). IsPartClear s (cond b (low c) (high c)) live) cut s c reach (λ t. l t c reach) (λ t. h t c reach)
 
 -- an answer of nothing that says more
 pub nothing_more : {A : Type 0} (o : Option A) (P Q : Type 0) (R : A → Type 0) → (P → Q) → MatchOption o P R → MatchOption o Q R
@@ -138,14 +105,14 @@ nothing_more (Some x) P Q R f h = h
 
 -- ---- what lives, and where it is listed
 
-pub listed_fewer : (listed : Point → List Edge) (live live' : List Counted) → ((e : Edge) → pos 0 <ℤ exactly e live' → pos 0 <ℤ exactly e live) → AreListed listed live → AreListed listed live'
+pub listed_fewer : (listed : Place → List Edge) (live live' : List Counted) → ((e : Edge) → pos 0 <ℤ exactly e live' → pos 0 <ℤ exactly e live) → AreListed listed live → AreListed listed live'
 listed_fewer listed live live' fewer f e h = f e (fewer e h)
 
-pub listed_kept : (old new : Point → List Edge) (live : List Counted) → KeepsListed live old new → AreListed old live → AreListed new live
-listed_kept old new live k f e lives c box = k e c lives box (f e lives c box)
+pub listed_kept : (old new : Place → List Edge) (live : List Counted) → KeepsListed live old new → AreListed old live → AreListed new live
+listed_kept old new live k f e lives c reach = k e c lives reach (f e lives c reach)
 
 -- one more segment lives, and it is listed
-pub listed_put : (listed : Point → List Edge) (live live' : List Counted) (k : Counted) → IsPut live live' k → HasListed listed k.0 → AreListed listed live → AreListed listed live'
+pub listed_put : (listed : Place → List Edge) (live live' : List Counted) (k : Counted) → IsPut live live' k → HasListed listed k.0 → AreListed listed live → AreListed listed live'
 listed_put listed live live' k put own f e lives = by (same_edge e k.0) refl
   where
     by : (b : Bool) → same_edge e k.0 ≡ b → HasListed listed e
@@ -153,12 +120,12 @@ listed_put listed live live' k put own f e lives = by (same_edge e k.0) refl
     by false t = f e (omega (arith, linear, put (λ (j : Counted). bit (same_edge e j.0)), ap bit t, lives))
 
 -- a segment was taken out
-pub listed_taken : (listed : Point → List Edge) (live live' : List Counted) (k : Counted) → IsTaken live live' k → AreListed listed live → AreListed listed live'
+pub listed_taken : (listed : Place → List Edge) (live live' : List Counted) (k : Counted) → IsTaken live live' k → AreListed listed live → AreListed listed live'
 listed_taken listed live live' k taken f =
     listed_fewer listed live live' (λ e h. omega (arith, linear, taken (λ (j : Counted). bit (same_edge e j.0)), bit_least (same_edge e k.0))) f
 
 -- a count was raised, or nothing was done
-pub listed_added : (listed : Point → List Edge) (live live' : List Counted) (k : Counted) (b : Bool) → AddsIf b live live' k → AreListed listed live → AreListed listed live'
+pub listed_added : (listed : Place → List Edge) (live live' : List Counted) (k : Counted) (b : Bool) → AddsIf b live live' k → AreListed listed live → AreListed listed live'
 listed_added listed live live' k true raised f = listed_fewer listed live live' (λ e h. omega (arith, linear, raised.totals (λ (j : Counted). bit (same_edge e j.0)))) f
 listed_added listed live live' k false kept f = subst (λ (ks : List Counted). AreListed listed ks) (sym kept.same) f
 
@@ -179,8 +146,8 @@ part_more s part live i d₀ h before here =
     let P : ℕ → Type 0 = λ k. (d : Edge) → pos 0 <ℤ exactly (get_or part k d) live → AreClear s (get_or part k d) in
     below_more P i before (λ d. subst (λ (x : Edge). pos 0 <ℤ exactly x live → AreClear s x) (get_or_default part i d₀ d h) here)
 
--- where no part that a segment's box reaches lists one that it meets, it is clear of all
-pub clear_of_parts : (s : Edge) (listed : Point → List Edge) (live : List Counted) → ((c : Point) → IsInBox s c → IsPartClear s (listed c) live) → AreListed listed live → IsClearOf s live
+-- where no part that a segment reaches lists one that it meets, it is clear of all
+pub clear_of_parts : (s : Edge) (listed : Place → List Edge) (live : List Counted) → ((c : Place) → IsAt s c → IsPartClear s (listed c) live) → AreListed listed live → IsClearOf s live
 clear_of_parts s listed live parts f e lives c meets =
-    let boxes = meets_box meets in
-    parts c boxes.0 e (f e lives c boxes.1) lives c meets
+    let both = place_met meets in
+    parts both.place both.first e (f e lives both.place both.second) lives c meets

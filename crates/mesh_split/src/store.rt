@@ -1,19 +1,15 @@
 //! The live segments. In the second pass they were tested against each other and don't meet. Those that a segment may
 //! meet are sought in the parts of the plane that it reaches.
 
-ghost use Rattle.std.specs.Prelude.{◌≡◌, ℕ, ◌+◌, ◌*◌, ◌<◌, ◌≤◌, true, List, [], ℤ, pos, ◌<ℤ◌, length, MatchOption};
-ghost use Rattle.std.specs.Prelude.{IfOk, OnOk, Vec};
-ghost use Rattle.std.specs.declared.alloc.Global.{Global};
-ghost use Rattle.mesh_plane.specs.Plane.{Edge};
+ghost use Rattle.std.specs.Prelude.{◌≡◌, true, List, [], ℤ, pos, ◌<ℤ◌, MatchOption, IfOk, OnOk};
 ghost use Rattle.mesh_cuts.specs.Counted.{times};
-ghost use Rattle.mesh_cuts.specs.Marks.{AreRising};
-ghost use Rattle.mesh_cuts.specs.Split.{IsForward, AreClear};
+ghost use Rattle.mesh_cuts.specs.Split.{IsForward};
 ghost use Rattle.mesh_split.specs.Midway.Parts.{MeetsLive};
 ghost use Rattle.mesh_split.specs.Midway.Steps.{HaveRoom, IsPut, IsTaken, IsClearOf, AddsIf, exactly};
 
 use crate::hints::{Hints, Meeting};
 use crate::tally::Tally;
-use crate::tree::Tree;
+use crate::tree::{DEPTH, Tree};
 use crate::worklist::Worklist;
 use mesh_cuts::grid::{CountedSegment, GridEdge};
 use std::alloc::{AllocError, Global};
@@ -26,12 +22,6 @@ pub struct Store {
     plane: Tree,
     alloc: Global,
 }
-
-/// No part of the plane lies under more cuts.
-const DEPTH: usize = 64;
-
-/// All points.
-const EVERYWHERE: GridEdge = ((i32::MIN, i32::MIN), (i32::MAX, i32::MAX));
 
 impl Model for Store {
     ghost use Rattle.std.specs.Prelude.{List, ℤ};
@@ -79,7 +69,8 @@ impl Store {
 
     /// Notes the live segments that a segment meets.
     pub fn note_meetings(&self, s: GridEdge, hints: &mut Hints) -> Result<(), AllocError> {
-        self.plane.note(&self.live, s, EVERYWHERE, hints)
+        let mut sides = Vec::new(self.alloc);
+        self.plane.note(&self.live, s, &mut sides, hints)
     }
 
     /// Makes a segment live.

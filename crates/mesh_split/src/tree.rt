@@ -1,12 +1,14 @@
-//! The plane in parts, by cuts along the axes, finer where much is listed. Each segment is listed in the parts that its
-//! box reaches, where those are sought that a segment may meet. What was taken out stays listed until its part is parted
-//! again, so what a part lists counts only where it lives.
+//! The plane in parts, by cuts along the axes and along long segments, finer where much is listed. Each segment is listed
+//! in the parts that it reaches, where those are sought that a segment may meet. What was taken out stays listed until
+//! its part is parted again, so what a part lists counts only where it lives.
 
-ghost use Rattle.std.specs.Prelude.{◌≡◌, ℕ, ◌<◌, true, ℤ, pos, ◌<ℤ◌, MatchOption};
+ghost use Rattle.std.specs.Prelude.{◌≡◌, ℕ, ◌^◌, ◌<◌, true, ℤ, pos, ◌*ℤ◌, ◌<ℤ◌, MatchOption};
 ghost use Rattle.std.specs.Prelude.{IfOk, OnOk};
-ghost use Rattle.mesh_plane.specs.Plane.{Point, Edge};
-ghost use Rattle.mesh_cuts.specs.Split.{IsInBox, AreClear};
-ghost use Rattle.mesh_split.specs.Midway.Parts.{is_below, reaches, listed_at, IsListed, HasListed, KeepsListed, IsPartClear, MeetsLive};
+ghost use Rattle.mesh_plane.specs.Bounds.{IsSmall};
+ghost use Rattle.mesh_plane.specs.Plane.{Edge};
+ghost use Rattle.mesh_cuts.specs.Split.{AreClear};
+ghost use Rattle.mesh_split.specs.Midway.Parts.{Place, IsAt, height, is_below, reaches, listed_at, IsListed, HasListed};
+ghost use Rattle.mesh_split.specs.Midway.Parts.{KeepsThose, KeepsListed, IsPartClear, MeetsLive};
 ghost use Rattle.mesh_split.specs.Midway.Steps.{exactly};
 
 use crate::hints::{Hints, Meeting};
@@ -18,16 +20,22 @@ use std::alloc::{AllocError, Global};
 /// Up to so many segments a part lists before it is parted.
 const FEW: usize = 16;
 
+/// No part of the plane lies under more cuts.
+pub const DEPTH: usize = 64;
+
 /// About how many segments a cut is chosen from.
 const SAMPLED: usize = 256;
 
-/// A line along an axis, which parts the plane.
+/// A vector across a cut.
+type Across = (i16, i16);
+
+/// A line, which parts the plane.
 #[derive(Debug, Copy, Clone)]
 pub struct Cut {
-    /// Whether it parts the plane by `x`, not by `y`.
-    by_x: bool,
-    /// The least coordinate beyond it.
-    at: i32,
+    /// A vector across it.
+    across: Across,
+    /// The least height beyond it, along that vector.
+    at: i64,
 }
 
 /// The plane, or a part of it.
@@ -39,14 +47,29 @@ pub enum Tree {
     Fork(Box<Tree>, Cut, Box<Tree>),
 }
 
+/// One term of a height.
+fn term(component: i16, coordinate: i32) -> i64
+    ensures value { result ≡ component *ℤ coordinate }
+    ensures size { IsSmall (2 ^ 48) result }
+{
+    component as i64 * coordinate as i64
+}
+
+/// How far a point lies along a vector, in units that are as long as the vector.
+fn height(across: Across, p: GridPoint) -> i64
+    ensures { result ≡ height across p }
+{
+    term(across.0, p.0) + term(across.1, p.1)
+}
+
 /// Whether a point lies below a cut.
 fn is_below(cut: Cut, p: GridPoint) -> bool
     ensures { result ≡ is_below cut p }
 {
-    if cut.by_x { p.0 < cut.at } else { p.1 < cut.at }
+    height(cut.across, p) < cut.at
 }
 
-/// Whether an end of an edge lies on this side of a cut. If none does, no point of its box does.
+/// Whether an end of an edge lies on this side of a cut. If none does, no point of it does.
 fn reaches(cut: Cut, e: GridEdge, below: bool) -> bool
     ensures { result ≡ reaches cut e below }
 {
@@ -84,7 +107,7 @@ fn in_part(live: &Tally, listed: &[GridEdge], s: GridEdge) -> Option<Meeting>
 
 /// Those that live.
 fn living(alloc: Global, live: &Tally, listed: &[GridEdge]) -> Result<Vec<GridEdge>, AllocError>
-    ensures { IfOk result (λ v. (x : Edge) → pos 0 <ℤ exactly x live.now → IsListed x listed.now → IsListed x v.items) }
+    ensures { IfOk result (λ v. KeepsThose (λ x. pos 0 <ℤ exactly x live.now) listed.now v.items) }
 {
     let mut left = Vec::new(alloc);
     for e in listed {
@@ -102,7 +125,7 @@ fn on_side(
     cut: Cut,
     below: bool,
 ) -> Result<Vec<GridEdge>, AllocError>
-    ensures { IfOk result (λ v. (x : Edge) → reaches cut x below ≡ true → IsListed x listed.now → IsListed x v.items) }
+    ensures { IfOk result (λ v. KeepsThose (λ x. reaches cut x below ≡ true) listed.now v.items) }
 {
     let mut left = Vec::new(alloc);
     for e in listed {
@@ -113,26 +136,64 @@ fn on_side(
     Ok(left)
 }
 
-fn coordinate(by_x: bool, p: GridPoint) -> i32 {
-    if by_x { p.0 } else { p.1 }
-}
-
-/// A cut in the middle of the ends of some of the edges.
-fn middle(alloc: Global, edges: &[GridEdge], by_x: bool) -> Result<Option<Cut>, AllocError> {
+/// Some of the edges, from which a cut is chosen.
+fn sample(alloc: Global, edges: &[GridEdge]) -> Result<Vec<GridEdge>, AllocError> {
     // (an odd step, since contours often go on in the same two, four or eight steps)
     let step = edges.len() / SAMPLED / 2 * 2 + 1;
-    let mut ends = Vec::new(alloc);
+    let mut found = Vec::new(alloc);
     for (i, e) in edges.iter().enumerate() {
         if i % step == 0 {
-            ends.push(coordinate(by_x, e.0))?;
-            ends.push(coordinate(by_x, e.1))?;
+            found.push(*e)?;
         }
+    }
+    Ok(found)
+}
+
+/// The cut across this vector in the middle of the ends of these edges.
+fn middle(alloc: Global, edges: &[GridEdge], across: Across) -> Result<Option<Cut>, AllocError> {
+    let mut ends = Vec::new(alloc);
+    for e in edges {
+        ends.push(height(across, e.0))?;
+        ends.push(height(across, e.1))?;
     }
     ends.sort_unstable();
     match ends.get(ends.len() / 2) {
-        Some(at) => Ok(Some(Cut { by_x, at: *at })),
+        Some(at) => Ok(Some(Cut { across, at: *at })),
         None => Ok(None),
     }
+}
+
+/// The vector from the start of an edge to its end, turned to the left by a right angle.
+fn left_of(e: GridEdge) -> (i64, i64) {
+    (e.0.1 as i64 - e.1.1 as i64, e.1.0 as i64 - e.0.0 as i64)
+}
+
+/// The vector across the longest of these edges, by the sum of both components, halved until it fits.
+fn across_longest(edges: &[GridEdge]) -> Across {
+    let mut longest = (0, 0);
+    let mut most: u64 = 0;
+    for e in edges {
+        let (x, y) = left_of(*e);
+        let size = x.unsigned_abs().saturating_add(y.unsigned_abs());
+        if size > most {
+            most = size;
+            longest = (x, y);
+        }
+    }
+    halved(longest)
+}
+
+/// A vector, halved until it fits.
+fn halved(v: (i64, i64)) -> Across {
+    let (mut x, mut y) = v;
+    for _bit in 0..i64::BITS {
+        if let (Ok(a), Ok(b)) = (i16::try_from(x), i16::try_from(y)) {
+            return (a, b);
+        }
+        x /= 2;
+        y /= 2;
+    }
+    (0, 0)
 }
 
 /// How much there is to search on both sides of a cut, if each edge is sought on each side that it reaches.
@@ -152,13 +213,14 @@ fn work(edges: &[GridEdge], cut: Cut) -> usize {
         .saturating_add(beyond.saturating_mul(beyond))
 }
 
-/// The cut in the middle that leaves least to search, where that is at most seven tenths of what there was. So what
-/// reaches both sides is listed not much more often.
+/// The cut in the middle, along an axis or along the longest edge, that leaves least to search, where that is at most
+/// seven tenths of what there was. So what reaches both sides is listed not much more often.
 fn best_cut(alloc: Global, edges: &[GridEdge]) -> Result<Option<Cut>, AllocError> {
+    let some = sample(alloc, edges)?;
     let mut best = None;
     let mut least = edges.len().saturating_mul(edges.len()) / 10 * 7;
-    for by_x in [true, false] {
-        if let Some(cut) = middle(alloc, edges, by_x)? {
+    for across in [(1, 0), (0, 1), across_longest(&some)] {
+        if let Some(cut) = middle(alloc, &some, across)? {
             let left = work(edges, cut);
             if left <= least {
                 least = left;
@@ -171,7 +233,7 @@ fn best_cut(alloc: Global, edges: &[GridEdge]) -> Result<Option<Cut>, AllocError
 
 /// A part that lists these, parted once where that serves.
 fn parted(alloc: Global, listed: Vec<GridEdge>, full: usize) -> Result<Tree, AllocError>
-    ensures { IfOk result (λ n. (x : Edge) (c : Point) → IsInBox x c → IsListed x listed.items → IsListed x (listed_at n c)) }
+    ensures { IfOk result (λ n. (x : Edge) → IsListed x listed.items → HasListed (listed_at n) x) }
 {
     if listed.len() <= full / 2 {
         return Ok(Tree::Leaf(listed, full));
@@ -187,21 +249,17 @@ fn parted(alloc: Global, listed: Vec<GridEdge>, full: usize) -> Result<Tree, All
     Ok(Tree::Fork(low, cut, high))
 }
 
-/// The part of a region on one side of a cut, where a region is given by its least and its greatest corner.
-fn narrowed(region: GridEdge, cut: Cut, below: bool) -> GridEdge {
-    let (low, high) = region;
-    let last = cut.at.saturating_sub(1);
-    match (cut.by_x, below) {
-        (true, true) => (low, (last, high.1)),
-        (true, false) => ((cut.at, low.1), high),
-        (false, true) => (low, (high.0, last)),
-        (false, false) => ((low.0, cut.at), high),
-    }
-}
+/// A side of a cut: whether it is the one below.
+type Side = (Cut, bool);
 
-fn holds(region: GridEdge, p: GridPoint) -> bool {
-    let (low, high) = region;
-    low.0 <= p.0 && p.0 <= high.0 && low.1 <= p.1 && p.1 <= high.1
+/// Whether a point lies on all these sides.
+fn holds(sides: &[Side], p: GridPoint) -> bool {
+    for (cut, below) in sides {
+        if is_below(*cut, p) != *below {
+            return false;
+        }
+    }
+    true
 }
 
 impl Tree {
@@ -263,7 +321,7 @@ impl Tree {
 
     /// A live segment that is listed where the given one reaches, and that it meets.
     pub fn find(&self, live: &Tally, s: GridEdge) -> Option<Meeting>
-        ensures { MatchOption result ((c : Point) → IsInBox s c → IsPartClear s (listed_at self.now c) live.now)
+        ensures { MatchOption result ((c : Place) → IsAt s c → IsPartClear s (listed_at self.now c) live.now)
             (λ m. MeetsLive s live.now m) }
     {
         match self {
@@ -283,19 +341,19 @@ impl Tree {
     }
 
     /// Notes the live segments that a segment meets, each in the part in which it does. This tree is the part of the
-    /// plane in the given region.
+    /// plane on the given sides, which are the same afterwards, unless memory was refused.
     pub fn note(
         &self,
         live: &Tally,
         s: GridEdge,
-        region: GridEdge,
+        sides: &mut Vec<Side>,
         hints: &mut Hints,
     ) -> Result<(), AllocError> {
         match self {
             Tree::Leaf(listed, _) => {
                 for e in listed {
                     if let Some(m) = live_meeting(live, s, *e) {
-                        if holds(region, m.1) {
+                        if holds(sides, m.1) {
                             hints.note(s, m)?;
                         }
                     }
@@ -304,10 +362,14 @@ impl Tree {
             }
             Tree::Fork(low, cut, high) => {
                 if reaches(*cut, s, true) {
-                    low.note(live, s, narrowed(region, *cut, true), hints)?;
+                    sides.push((*cut, true))?;
+                    low.note(live, s, sides, hints)?;
+                    sides.pop();
                 }
                 if reaches(*cut, s, false) {
-                    high.note(live, s, narrowed(region, *cut, false), hints)?;
+                    sides.push((*cut, false))?;
+                    high.note(live, s, sides, hints)?;
+                    sides.pop();
                 }
                 Ok(())
             }

@@ -1,24 +1,36 @@
--- Live segments listed by the parts of the plane that their boxes reach.
-use Rattle.std.specs.Prelude.{ℕ, ◌≡◌, ◌<◌, Bool, cond, not, ◌||◌, List, length, slice_index_or, pos, ◌<ℤ◌, int_lt}
+-- Live segments listed by the parts of the plane that they reach.
+use Rattle.std.specs.Prelude.{ℕ, ◌≡◌, ◌<◌, Bool, true, cond, not, ◌||◌, List, length, slice_index_or, ℤ, pos, ◌+ℤ◌, ◌*ℤ◌, ◌<ℤ◌, int_lt}
 use Rattle.mesh_plane.specs.Plane.{Point, Edge}
 use Rattle.mesh_cuts.specs.Counted.{Counted}
-use Rattle.mesh_cuts.specs.Split.{IsInBox, AreClear, Meets}
+use Rattle.mesh_cuts.specs.Split.{AreClear, Meets}
 use Rattle.mesh_split.specs.declared.tree.Cut.{Cut}
 use Rattle.mesh_split.specs.declared.tree.Tree.{Tree, Leaf, Fork'}
 use Rattle.mesh_split.specs.Midway.Steps.{exactly}
 
+-- how far a point lies along a vector, in units that are as long as the vector
+abbrev pub height : ℤ × ℤ → Point → ℤ
+height across c = (across.0 *ℤ c.0) +ℤ (across.1 *ℤ c.1)
+
 -- whether a point lies below a cut
 abbrev pub is_below : Cut → Point → Bool
-is_below cut c = cond cut.by_x (int_lt c.0 cut.at) (int_lt c.1 cut.at)
+is_below cut c = int_lt (height cut.across c) cut.at
 
 -- whether an end of an edge lies on a side of a cut
 abbrev pub reaches : Cut → Edge → Bool → Bool
 reaches cut e below = cond below (is_below cut e.0 || is_below cut e.1) (not (is_below cut e.0) || not (is_below cut e.1))
 
--- what is listed at a point
-abbrev pub listed_at : Tree → Point → List Edge
+-- a place in the plane, known by whether it lies below each cut
+abbrev pub Place : Type 0
+Place = Cut → Bool
+
+-- an edge reaches the sides on which a place lies
+abbrev pub IsAt : Edge → Place → Type 0
+IsAt e c = (cut : Cut) → reaches cut e (c cut) ≡ true
+
+-- what is listed at a place
+abbrev pub listed_at : Tree → Place → List Edge
 listed_at (Leaf listed full) c = listed.items
-listed_at (Fork' p low cut q high) c = cond (is_below cut c) (listed_at low c) (listed_at high c)
+listed_at (Fork' p low cut q high) c = cond (c cut) (listed_at low c) (listed_at high c)
 
 -- an element stands in a list
 pub record IsListed {A : Type 0} (x : A) (xs : List A) : Type 0 where
@@ -26,16 +38,20 @@ pub record IsListed {A : Type 0} (x : A) (xs : List A) : Type 0 where
   pub within : at < length xs
   pub same : (d : A) → slice_index_or xs at d ≡ x
 
--- an edge is listed at each point of its box
-abbrev pub HasListed : (Point → List Edge) → Edge → Type 0
-HasListed listed e = (c : Point) → IsInBox e c → IsListed e (listed c)
+-- those of a list that have a property stand in another one too
+abbrev pub KeepsThose : (Edge → Type 0) → List Edge → List Edge → Type 0
+KeepsThose P from left = (x : Edge) → P x → IsListed x from → IsListed x left
 
--- each live segment is still listed at the points of its box where it was
-abbrev pub KeepsListed : List Counted → (Point → List Edge) → (Point → List Edge) → Type 0
-KeepsListed live old new = (e : Edge) (c : Point) → pos 0 <ℤ exactly e live → IsInBox e c → IsListed e (old c) → IsListed e (new c)
+-- an edge is listed at each place that it reaches
+abbrev pub HasListed : (Place → List Edge) → Edge → Type 0
+HasListed listed e = (c : Place) → IsAt e c → IsListed e (listed c)
 
--- each live segment is listed at each point of its box
-abbrev pub AreListed : (Point → List Edge) → List Counted → Type 0
+-- each live segment is still listed at the places where it was
+abbrev pub KeepsListed : List Counted → (Place → List Edge) → (Place → List Edge) → Type 0
+KeepsListed live old new = (e : Edge) (c : Place) → pos 0 <ℤ exactly e live → IsAt e c → IsListed e (old c) → IsListed e (new c)
+
+-- each live segment is listed at each place that it reaches
+abbrev pub AreListed : (Place → List Edge) → List Counted → Type 0
 AreListed listed live = (e : Edge) → pos 0 <ℤ exactly e live → HasListed listed e
 
 -- a live segment, and where the given one meets it
