@@ -214,11 +214,11 @@ fn work(edges: &[GridEdge], cut: Cut) -> usize {
 }
 
 /// The cut in the middle, along an axis or along the longest edge, that leaves least to search, where that is at most
-/// seven tenths of what there was. So what reaches both sides is listed not much more often.
+/// four fifths of what there was. So what reaches both sides is listed not much more often.
 fn best_cut(alloc: Global, edges: &[GridEdge]) -> Result<Option<Cut>, AllocError> {
     let some = sample(alloc, edges)?;
     let mut best = None;
-    let mut least = edges.len().saturating_mul(edges.len()) / 10 * 7;
+    let mut least = edges.len().saturating_mul(edges.len()) / 5 * 4;
     for across in [(1, 0), (0, 1), across_longest(&some)] {
         if let Some(cut) = middle(alloc, &some, across)? {
             let left = work(edges, cut);
