@@ -55,7 +55,7 @@ fn term(component: i16, coordinate: i32) -> i64
     component as i64 * coordinate as i64
 }
 
-/// How far a point lies along a vector, in units that are as long as the vector.
+/// How far a point lies along a vector, times the length of the vector.
 fn height(across: Across, p: GridPoint) -> i64
     ensures { result ≡ height across p }
 {
@@ -151,15 +151,60 @@ fn sample(alloc: Global, edges: &[GridEdge]) -> Result<Vec<GridEdge>, AllocError
 
 /// The cut across this vector in the middle of the ends of these edges.
 fn middle(alloc: Global, edges: &[GridEdge], across: Across) -> Result<Option<Cut>, AllocError> {
-    let mut ends = Vec::new(alloc);
+    let mut ends = Vec::with_capacity(alloc, edges.len().saturating_mul(2))?;
     for e in edges {
         ends.push(height(across, e.0))?;
         ends.push(height(across, e.1))?;
     }
-    ends.sort_unstable();
-    match ends.get(ends.len() / 2) {
-        Some(at) => Ok(Some(Cut { across, at: *at })),
-        None => Ok(None),
+    let half = ends.len() / 2;
+    if half == ends.len() {
+        return Ok(None);
+    }
+    let (_, at, _) = ends.select_nth_unstable(half);
+    Ok(Some(Cut { across, at: *at }))
+}
+
+/// How far apart the least and the greatest of these numbers are.
+#[derive(Debug, Copy, Clone)]
+struct Extent {
+    least: i32,
+    greatest: i32,
+}
+
+impl Extent {
+    /// That of no number.
+    fn none() -> Extent {
+        Extent {
+            least: i32::MAX,
+            greatest: i32::MIN,
+        }
+    }
+
+    /// That of one number more.
+    fn with(self, number: i32) -> Extent {
+        Extent {
+            least: self.least.min(number),
+            greatest: self.greatest.max(number),
+        }
+    }
+
+    fn length(self) -> i64 {
+        self.greatest as i64 - self.least as i64
+    }
+}
+
+/// Vectors along the axes, the first one along that in which these edges reach farther.
+fn axes(edges: &[GridEdge]) -> [Across; 2] {
+    let mut width = Extent::none();
+    let mut height = Extent::none();
+    for e in edges {
+        width = width.with(e.0.0).with(e.1.0);
+        height = height.with(e.0.1).with(e.1.1);
+    }
+    if width.length() < height.length() {
+        [(0, 1), (1, 0)]
+    } else {
+        [(1, 0), (0, 1)]
     }
 }
 
@@ -214,18 +259,24 @@ fn work(edges: &[GridEdge], cut: Cut) -> usize {
 }
 
 /// The cut in the middle, along an axis or along the longest edge, that leaves least to search, where that is at most
-/// four fifths of what there was. So what reaches both sides is listed not much more often.
+/// four fifths of what there was: so what reaches both sides is listed not much more often. Where one leaves three
+/// fifths, no other is tried.
 fn best_cut(alloc: Global, edges: &[GridEdge]) -> Result<Option<Cut>, AllocError> {
     let some = sample(alloc, edges)?;
+    let [first, second] = axes(&some);
+    let whole = some.len().saturating_mul(some.len());
     let mut best = None;
-    let mut least = edges.len().saturating_mul(edges.len()) / 5 * 4;
-    for across in [(1, 0), (0, 1), across_longest(&some)] {
+    let mut least = whole / 5 * 4;
+    for across in [first, second, across_longest(&some)] {
         if let Some(cut) = middle(alloc, &some, across)? {
-            let left = work(edges, cut);
+            let left = work(&some, cut);
             if left <= least {
                 least = left;
                 best = Some(cut);
             }
+        }
+        if least <= whole / 5 * 3 {
+            return Ok(best);
         }
     }
     Ok(best)
@@ -252,10 +303,10 @@ fn parted(alloc: Global, listed: Vec<GridEdge>, full: usize) -> Result<Tree, All
 /// A side of a cut: whether it is the one below.
 type Side = (Cut, bool);
 
-/// Whether a point lies on all these sides.
-fn holds(sides: &[Side], p: GridPoint) -> bool {
+/// Whether no part that comes before the one on these sides is reached by both segments too.
+fn is_first(sides: &[Side], s: GridEdge, e: GridEdge) -> bool {
     for (cut, below) in sides {
-        if is_below(*cut, p) != *below {
+        if !*below && reaches(*cut, s, true) && reaches(*cut, e, true) {
             return false;
         }
     }
@@ -340,8 +391,8 @@ impl Tree {
         }
     }
 
-    /// Notes the live segments that a segment meets, each in the part in which it does. This tree is the part of the
-    /// plane on the given sides, which are the same afterwards, unless memory was refused.
+    /// Notes the live segments that a segment meets, each in the first part that both reach. This tree is the part of
+    /// the plane on the given sides, which are the same afterwards, unless memory was refused.
     pub fn note(
         &self,
         live: &Tally,
@@ -352,8 +403,8 @@ impl Tree {
         match self {
             Tree::Leaf(listed, _) => {
                 for e in listed {
-                    if let Some(m) = live_meeting(live, s, *e) {
-                        if holds(sides, m.1) {
+                    if is_first(sides, s, *e) {
+                        if let Some(m) = live_meeting(live, s, *e) {
                             hints.note(s, m)?;
                         }
                     }

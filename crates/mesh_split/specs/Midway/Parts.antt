@@ -7,7 +7,7 @@ use Rattle.mesh_split.specs.declared.tree.Cut.{Cut}
 use Rattle.mesh_split.specs.declared.tree.Tree.{Tree, Leaf, Fork'}
 use Rattle.mesh_split.specs.Midway.Steps.{exactly}
 
--- how far a point lies along a vector, in units that are as long as the vector
+-- how far a point lies along a vector, times the length of the vector
 abbrev pub height : ℤ × ℤ → Point → ℤ
 height across c = (across.0 *ℤ c.0) +ℤ (across.1 *ℤ c.1)
 
