@@ -1,4 +1,5 @@
 pub mod Arithmetic
+pub mod Beside
 pub mod Boxes
 pub mod Counts
 pub mod Cuts

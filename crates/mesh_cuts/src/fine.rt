@@ -1,6 +1,6 @@
 //! Exact geometry on the grid that is twice as fine, on which the midpoints of segments stand.
 
-ghost use Rattle.std.specs.Prelude.{◌≡◌, ℕ, ◌^◌, ◌&&◌, ℤ, pos, ◌+ℤ◌, ◌-ℤ◌, ◌*ℤ◌, int_le, int_lt};
+ghost use Rattle.std.specs.Prelude.{◌≡◌, ℕ, ◌^◌, ◌&&◌, true, ℤ, pos, ◌+ℤ◌, ◌-ℤ◌, ◌*ℤ◌, int_le, int_lt};
 ghost use Rattle.mesh_plane.specs.Bounds.{IsSmall, IsSafe};
 ghost use Rattle.mesh_plane.specs.Plane.{minus, cross, turn};
 ghost use Rattle.mesh_plane.specs.Winding.{crossing, refined};
@@ -123,19 +123,46 @@ fn spans(p: FinePoint, q: FinePoint, r: FinePoint) -> bool
     p.y <= q.y && q.y < r.y
 }
 
+fn lies_west(q: FinePoint, p: FinePoint, r: FinePoint) -> bool
+    ensures { result ≡ (int_lt q.0 p.0 && int_lt q.0 r.0) }
+{
+    q.x < p.x && q.x < r.x
+}
+
+fn lies_east(q: FinePoint, p: FinePoint, r: FinePoint) -> bool
+    ensures { result ≡ (int_le p.0 q.0 && int_le r.0 q.0) }
+{
+    p.x <= q.x && r.x <= q.x
+}
+
+/// Whether the line from `p` up to `r`, which passes the height of the point, passes it to the east. Where both ends lie
+/// to one side of the point, that tells, without a product.
+fn is_west_of(q: FinePoint, p: FinePoint, r: FinePoint) -> bool
+    requires { (int_le p.1 q.1 && int_lt q.1 r.1) ≡ true }
+    ensures { result ≡ int_lt (pos 0) (turn p r q) }
+{
+    if lies_west(q, p, r) {
+        return true;
+    }
+    if lies_east(q, p, r) {
+        return false;
+    }
+    turn(p, r, q) > 0
+}
+
 /// How the edge from `p` to `r` crosses the ray from the point to the east: 1 upwards, -1 downwards, else 0.
 pub fn crossing(q: FinePoint, p: FinePoint, r: FinePoint) -> i128
     ensures value { result ≡ crossing q p r }
     ensures size { IsSmall 2 result }
 {
     if spans(p, q, r) {
-        if turn(p, r, q) > 0 {
+        if is_west_of(q, p, r) {
             return 1;
         }
         return 0;
     }
     if spans(r, q, p) {
-        if turn(p, r, q) < 0 {
+        if is_west_of(q, r, p) {
             return -1;
         }
         return 0;
