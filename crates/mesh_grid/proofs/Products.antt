@@ -1,5 +1,5 @@
 -- Lemmas over whole numbers: sizes of products of coordinate differences.
-use Rattle.std.proofs.Common.{◌≡◌, ℕ, ◌*◌, ◌^◌, ◌<◌, ◌≤◌, arith}
+use Rattle.std.proofs.Common.{◌≡◌, ℕ, ◌+◌, ◌*◌, ◌^◌, ◌<◌, ◌≤◌, arith}
 use Rattle.std.specs.Prelude.{ℤ, pos, neg_ℤ, ◌+ℤ◌, ◌-ℤ◌, ◌*ℤ◌, unsigned_abs, FitsSigned}
 use Rattle.std.proofs.lemmas.Int.{ints, unsigned_abs-mul, fits_signed_from_abs}
 use Rattle.std.proofs.lemmas.Nat.{mul-lt}
@@ -101,3 +101,13 @@ pub size_of_coordinate_within : (half u : ℕ) (z r : ℤ) → half ≡ 8 * u * 
 size_of_coordinate_within half u z r e l w f =
     let size : unsigned_abs r ≤ unsigned_abs z = rw f (omega (arith, ints)) in
     within_of_coordinate half u r z e (omega arith) w size
+
+-- a sum is not below its parts
+pub left_within : (s a b : ℕ) → s ≡ a + b → a ≤ s
+left_within s a b e = omega arith
+
+pub right_within : (s a b : ℕ) → s ≡ a + b → b ≤ s
+right_within s a b e = omega arith
+
+pub squares_fit : (a b : ℕ) → a < 2 ^ 31 → b < 2 ^ 31 → a * a + b * b < 2 ^ 63
+squares_fit a b h l = omega (arith, mul-lt a a (2 ^ 31) (2 ^ 31) h h, mul-lt b b (2 ^ 31) (2 ^ 31) l l)
