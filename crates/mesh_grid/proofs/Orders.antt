@@ -1,6 +1,6 @@
 -- Lemmas over whole numbers: what the order of numbers says of a test.
-use Rattle.std.proofs.Common.{◌≡◌, ◌∙◌, ap, arith, Bool, true, false, Option, Some, ◌↔◌, IsTrue}
-use Rattle.std.specs.Prelude.{ℤ, int_lt, ◌<ℤ◌}
+use Rattle.std.proofs.Common.{◌≡◌, ◌∙◌, ap, arith, Bool, Option, Some, ◌↔◌, IsTrue}
+use Rattle.std.specs.Prelude.{ℤ, ◌<ℤ◌}
 use Rattle.std.specs.Ordering.{is_lt, is_some_and, int_cmp}
 use Rattle.std.specs.declared.cmp.Ordering.{Ordering}
 use Rattle.std.proofs.lemmas.Int.{ints}

@@ -1,8 +1,8 @@
 -- A rotated direction is no longer than before.
-use Rattle.std.proofs.Common.{◌≡◌, ℕ, ◌*◌, ◌≤◌, ◌^◌, ◌∙◌, arith, rules, subst, sym}
+use Rattle.std.proofs.Common.{◌^◌, ◌∙◌, arith, rules, subst, sym}
 use Rattle.std.proofs.lemmas.Int.{to_z-of_z}
 use mir.Syntax.{w128}
-use Rattle.mesh_plane.specs.Plane.{Point, length_sq}
+use Rattle.mesh_plane.specs.Plane.{Point}
 use Rattle.mesh_grid.specs.Direction.{IsShort}
 use Rattle.mesh_grid.specs.Rotation.{rotated}
 use Rattle.mesh_grid.proofs.Products.{size_of_within}

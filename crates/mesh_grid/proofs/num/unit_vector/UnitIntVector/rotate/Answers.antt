@@ -1,6 +1,6 @@
 -- A rotated point fits the wide type, and passes its own length in no coordinate.
-use Rattle.std.proofs.Common.{◌≡◌, ◌^◌, ◌∙◌, ap, arith, subst}
-use Rattle.std.specs.Prelude.{ℤ, unsigned_abs}
+use Rattle.std.proofs.Common.{◌^◌, ◌∙◌, ap, arith, subst}
+use Rattle.std.specs.Prelude.{ℤ}
 use Rattle.std.proofs.lemmas.Int.{to_z-of_z, fits_signed_from_abs}
 use mir.Syntax.{w128}
 use Rattle.mesh_plane.specs.Plane.{Point}
