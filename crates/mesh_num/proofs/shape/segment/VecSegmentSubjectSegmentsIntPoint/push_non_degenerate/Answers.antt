@@ -1,7 +1,6 @@
 -- The segment is added where the points differ.
-use Rattle.std.proofs.Common.{◌∷◌, [], ◌++◌, ◌∙◌, ap, sym}
-use Rattle.mesh_num.specs.Segments.{SignedEdge}
-use Rattle.mesh_num.proofs.Subjects.{apart_of, segment_is, none_between, added_is}
+use Rattle.std.proofs.Common.{◌∙◌, sym}
+use Rattle.mesh_num.proofs.Subjects.{apart_of, added_is}
 use Rattle.mesh_num.proofs.shape.segment.VecSegmentSubjectSegmentsIntPoint.push_non_degenerate.Goals as goal
 
 pub subject-requires : goal.subject-requires
