@@ -2,6 +2,7 @@ pub mod Answering
 pub mod Filling
 pub mod Gaps
 pub mod Passing
+pub mod Sizes
 pub mod StepConstants
 pub mod FineSteps
 pub mod Turning

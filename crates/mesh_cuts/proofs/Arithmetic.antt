@@ -1,7 +1,8 @@
 -- Lemmas over whole numbers: sums and products that fit 128 bits, and what is kept of them there.
 use Rattle.std.proofs.Common.{◌≡◌, ℕ, ◌+◌, ◌*◌, ◌/◌, ◌^◌, ◌<◌, ◌≤◌, true, false, sym, ◌∙◌, ap, refl, arith, zero, suc, lit≤, eqb}
-use Rattle.std.specs.Prelude.{ℤ, pos, negsuc, ◌+ℤ◌, ◌-ℤ◌, ◌*ℤ◌, neg_ℤ, ◌≤ℤ◌, ◌<ℤ◌, unsigned_abs}
-use Rattle.std.proofs.lemmas.Int.{ints, to_z-of_z, to_z_pos, unsigned_abs-mul, by_lt_z}
+use Rattle.std.specs.Int.{int_min, int_max}
+use Rattle.std.specs.Prelude.{Bool, IsTrue, ◌↔◌, ℤ, pos, negsuc, ◌+ℤ◌, ◌-ℤ◌, ◌*ℤ◌, neg_ℤ, ◌≤ℤ◌, ◌<ℤ◌, unsigned_abs}
+use Rattle.std.proofs.lemmas.Int.{ints, clamps, to_z-of_z, to_z_pos, unsigned_abs-mul, by_lt_z}
 use Rattle.std.proofs.lemmas.Nat.{mul-lt}
 use Rattle.std.proofs.lemmas.Bool.{true≢false, eqb-true, eq-eqb}
 use Rattle.std.proofs.Math.Nat.{div-eq_of_lt, div-le_self}
@@ -87,3 +88,41 @@ quotient_below n d s small_n small_d nonzero e other =
 -- the test of 0 on the bits of a number
 pub zero_bits : (z : ℤ) → SFits w128 z → (eqb (of_z w128 z) 0 ≡ true → z ≡ pos 0) × (z ≡ pos 0 → eqb (of_z w128 z) 0 ≡ true)
 zero_bits z f = ((λ h. let e = eqb-true (of_z w128 z) 0 h in omega (arith, ints)), λ h. eq-eqb (of_z w128 z) 0 (omega (arith, ints)))
+
+-- ---- ranges
+
+from_test : (x y : ℤ) → lt_z x y ≡ true → x <ℤ y
+from_test x y e = grind (arith, ints)
+
+from_no_test : (x y : ℤ) → lt_z x y ≡ false → y ≤ℤ x
+from_no_test x y e = grind (arith, ints)
+
+between_most : (a z b : ℤ) → IsBetween a z b → z ≤ℤ int_max a b
+between_most a z b h =
+    by_lt_z a b (λ (l : a <ℤ b). omega (arith, ints, clamps, (h.up (omega (arith, ints))).1)) (λ (l : b ≤ℤ a). omega (arith, ints, clamps, (h.down l).1))
+
+between_least : (a z b : ℤ) → IsBetween a z b → int_min a b ≤ℤ z
+between_least a z b h =
+    by_lt_z a b (λ (l : a <ℤ b). omega (arith, ints, clamps, (h.up (omega (arith, ints))).0)) (λ (l : b ≤ℤ a). omega (arith, ints, clamps, (h.down l).0))
+
+-- ranges of which one ends below the other have no number in common
+pub below_apart : (a b p r z : ℤ) → lt_z (int_max a b) (int_min p r) ≡ true → IsBetween a z b → IsBetween p z r → ⊥
+below_apart a b p r z h x y = omega (arith, ints, from_test (int_max a b) (int_min p r) h, between_most a z b x, between_least p z r y)
+
+-- between the lesser and the greater of two numbers
+pub between_down : (t : Bool) (a z b : ℤ) → lt_z b a ≡ true → (IsTrue t ↔ ((b ≤ℤ z) × (z ≤ℤ a))) → (IsTrue t ↔ IsBetween a z b)
+between_down t a z b h e =
+    let l : b <ℤ a = from_test b a h in (
+      (λ i. record { up = λ u. absurd (omega (arith, ints)); down = λ _. e.0 i }),
+      (λ (i : IsBetween a z b). e.1 (i.down (omega (arith, ints)))),
+    )
+
+pub between_up : (t : Bool) (a z b : ℤ) → lt_z b a ≡ false → (IsTrue t ↔ ((a ≤ℤ z) × (z ≤ℤ b))) → (IsTrue t ↔ IsBetween a z b)
+between_up t a z b h e =
+    let l : a ≤ℤ b = from_no_test b a h in (
+      (λ i. record { up = λ _. e.0 i; down = λ d. one (e.0 i) d }),
+      (λ (i : IsBetween a z b). e.1 (i.up l)),
+    )
+  where
+    one : (a ≤ℤ z) × (z ≤ℤ b) → b ≤ℤ a → (b ≤ℤ z) × (z ≤ℤ a)
+    one r d = (omega (arith, ints, r.0, r.1), omega (arith, ints, r.0, r.1))

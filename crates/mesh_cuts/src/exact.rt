@@ -1,6 +1,6 @@
 //! Exact tests of edges against each other. Coordinates may be any `i32`; no value passes 128 bits.
 
-ghost use Rattle.std.specs.Prelude.{◌≡◌, ◌↔◌, ◌⊎◌, ◌<ℤ◌, ℕ, ◌+◌, ◌*◌, ◌/◌, ◌^◌, ◌<◌, ℤ, pos, ◌+ℤ◌, ◌-ℤ◌, ◌*ℤ◌, unsigned_abs};
+ghost use Rattle.std.specs.Prelude.{◌≡◌, ◌↔◌, ◌⊎◌, ◌≤ℤ◌, ◌<ℤ◌, ℕ, ◌+◌, ◌*◌, ◌/◌, ◌^◌, ◌<◌, ℤ, pos, ◌+ℤ◌, ◌-ℤ◌, ◌*ℤ◌, unsigned_abs};
 ghost use Rattle.std.specs.Prelude.{IsTrue, MatchOption};
 ghost use Rattle.mesh_plane.specs.Bounds.{IsSmall, IsSafe};
 ghost use Rattle.mesh_plane.specs.Order.{point_lt};
@@ -61,11 +61,19 @@ pub fn turn(p: GridPoint, r: GridPoint, q: GridPoint) -> i128
 fn is_between(a: i32, z: i32, b: i32) -> bool
     ensures { IsTrue result ↔ IsBetween a z b }
 {
-    if a <= b {
-        a <= z && z <= b
-    } else {
-        b <= z && z <= a
+    if b < a {
+        return is_in_range(b, z, a);
     }
+    is_in_range(a, z, b)
+}
+
+fn is_in_range(low: i32, z: i32, high: i32) -> bool
+    ensures { IsTrue result ↔ (low ≤ℤ z) × (z ≤ℤ high) }
+{
+    if z < low {
+        return false;
+    }
+    z <= high
 }
 
 fn is_in_box(e: GridEdge, c: GridPoint) -> bool
@@ -81,10 +89,7 @@ fn is_in_box(e: GridEdge, c: GridPoint) -> bool
 fn is_range_below(a: i32, b: i32, p: i32, r: i32) -> bool
     ensures { IsTrue result → (z : ℤ) → IsBetween a z b → IsBetween p z r → ⊥ }
 {
-    if a < p && a < r && b < p && b < r {
-        return true;
-    }
-    false
+    a.max(b) < p.min(r)
 }
 
 /// Whether the range from `a` to `b` and that from `p` to `r` have no number in common.

@@ -1,6 +1,8 @@
 pub mod Directed
 pub mod Normalized
+pub mod Orders
 pub mod Parts
+pub mod Passed
 pub mod Products
 pub mod Rectangles
 pub mod Roots

@@ -1,11 +1,13 @@
 -- Lemmas over points: each vector other than 0 has one direction, which is odd, short and fresh.
-use Rattle.std.proofs.Common.{◌≡◌, ℕ, ◌+◌, ◌*◌, ◌-◌, ◌<◌, ◌≤◌, sym, subst, arith, zero, suc}
-use Rattle.std.specs.Prelude.{ℤ, neg_ℤ, unsigned_abs}
-use Rattle.std.proofs.Math.Nat.{mul-le-mul_left, mul-le-mul_right, le_of_mul-le-mul_right, lt_of_mul-lt-mul_right}
-use Rattle.std.proofs.lemmas.Bool.{cases_lt}
+use Rattle.std.proofs.Common.{◌≡◌, ℕ, ◌+◌, ◌*◌, ◌-◌, ◌<◌, ◌≤◌, refl, sym, subst, arith, zero, suc}
+use Rattle.std.specs.Prelude.{true, false, ℤ, pos, negsuc, neg_ℤ, unsigned_abs}
+use Rattle.std.specs.Int.Signed.{lt_z}
+use Rattle.std.proofs.Math.Nat.{mul-le-mul, mul-le-mul_left, mul-le-mul_right, le_of_mul-le-mul_right, lt_of_mul-lt-mul_right}
+use Rattle.std.proofs.lemmas.Bool.{cases_lt, ltb-true, true≢false}
+use Rattle.std.proofs.lemmas.Int.{ints}
 use mathlib.Core.Logic.{⊎_elim}
 use Rattle.mesh_plane.specs.Plane.{Point, opposite, length_sq}
-use Rattle.mesh_grid.specs.Direction.{IsPart, IsDirection, IsShort, IsFresh, KeepsOpposites}
+use Rattle.mesh_grid.specs.Direction.{IsShare, IsPart, IsDirection, IsShort, IsFresh, KeepsOpposites}
 use Rattle.mesh_plane.proofs.Sizes.{size_neg, length_opposite, lt_of_squares, two_products}
 use Rattle.mesh_plane.proofs.Signs.{sign_neg, same_number}
 
@@ -42,6 +44,38 @@ pub part_ends : {unit square : ℕ} {x k : ℤ} → IsPart unit square x k
     → unit * unit * (unsigned_abs x * unsigned_abs x) < (unsigned_abs k + 1) * (unsigned_abs k + 1) * square
 part_ends {unit} {square} {x} {k} p =
     ⊎_elim (λ l. l) (λ l. absurd (omega (arith, p.greatest (unsigned_abs k + 1) l))) (cases_lt (unit * unit * (unsigned_abs x * unsigned_abs x)) ((unsigned_abs k + 1) * (unsigned_abs k + 1) * square))
+
+-- only 0 has a share of 0
+no_share : (unit square k : ℕ) → 0 < square → IsShare unit square 0 k → k ≡ 0
+no_share unit square zero l h = refl
+no_share unit square (suc k) l h =
+    let one : 1 ≤ suc k = omega arith in
+    let product : 1 * 1 * square ≤ suc k * suc k * square = mul-le-mul_right square (mul-le-mul one one) in
+    absurd (omega arith)
+
+-- the greatest number with a share is the size of the component
+pub part_positive : (unit square k : ℕ) (x : ℤ) → 0 < square → lt_z x (pos 0) ≡ false → IsShare unit square (unsigned_abs x) k
+    → ((j : ℕ) → IsShare unit square (unsigned_abs x) j → j ≤ k) → IsPart unit square x (pos k)
+part_positive unit square k (negsuc x) l f w g = absurd (true≢false f)
+part_positive unit square k (pos zero) l f w g = record {
+  sign = record { nonneg = λ h. omega (arith, ints); nonpos = λ h. omega (arith, ints, no_share unit square k l w) };
+  within = w;
+  greatest = g;
+}
+part_positive unit square k (pos (suc x)) l f w g = record {
+  sign = record { nonneg = λ h. omega (arith, ints); nonpos = λ h. absurd (omega (arith, ints)) };
+  within = w;
+  greatest = g;
+}
+
+pub part_negative : (unit square k : ℕ) (x : ℤ) → lt_z x (pos 0) ≡ true → IsShare unit square (unsigned_abs x) k
+    → ((j : ℕ) → IsShare unit square (unsigned_abs x) j → j ≤ k) → IsPart unit square x (neg_ℤ (pos k))
+part_negative unit square k (pos x) f w g = absurd (omega (arith, ltb-true x 0 f))
+part_negative unit square k (negsuc x) f w g = record {
+  sign = record { nonneg = λ h. absurd (omega (arith, ints)); nonpos = λ h. omega (arith, ints) };
+  within = rw (size_neg (pos k)) w;
+  greatest = λ j. rw (size_neg (pos k)) (g j);
+}
 
 -- ---- both components
 

@@ -1,11 +1,11 @@
 -- Lemmas over points: turned vectors are no longer than before.
-use Rattle.std.proofs.Common.{◌≡◌, ℕ, ◌+◌, ◌*◌, ◌/◌, ◌^◌, ◌<◌, ◌≤◌, refl, sym, ◌∙◌, ap, arith, lit<}
-use Rattle.std.specs.Prelude.{ℤ, pos, negsuc, suc, ◌+ℤ◌, ◌-ℤ◌, ◌*ℤ◌, neg_ℤ, unsigned_abs}
+use Rattle.std.proofs.Common.{◌≡◌, ℕ, ◌*◌, ◌/◌, ◌^◌, ◌<◌, ◌≤◌, refl, sym, ◌∙◌, ap, arith, lit<}
+use Rattle.std.specs.Prelude.{ℤ, pos, negsuc, suc, ◌+ℤ◌, ◌-ℤ◌, ◌*ℤ◌, unsigned_abs}
 use Rattle.std.proofs.Math.Nat.{mul-le-mul, mul-le-mul_right, div-mul-le_self, le_of_mul-le-mul_right}
 use Rattle.std.proofs.lemmas.Int.{ints}
 use Rattle.mesh_plane.specs.Plane.{Point, length_sq, dot}
 use Rattle.mesh_plane.proofs.Identities.{rotation_length}
-use Rattle.mesh_plane.proofs.Sizes.{size_square, size_neg, dot_self, le_of_squares}
+use Rattle.mesh_plane.proofs.Sizes.{size_neg, dot_self, le_of_squares}
 use Rattle.mesh_grid.specs.Direction.{IsShort}
 use Rattle.mesh_grid.specs.Rotation.{cut, turned, rotated, turned_along, turned_round, IsWithinLength}
 use Rattle.mesh_plane.proofs.Rounding.{rounded_within}

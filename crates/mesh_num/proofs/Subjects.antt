@@ -1,16 +1,18 @@
 -- Lemmas over points and lists: the segments of edges have their smaller end first, and a count of 1 or -1.
-use Rattle.std.proofs.Common.{◌≡◌, inl, inr, Bool, true, false, cond, ◌&&◌, ◌||◌, List, [], ◌∷◌, refl, sym, ◌∙◌, ap, arith}
-use Rattle.std.specs.Prelude.{pos, negsuc, int_lt}
-use Rattle.std.specs.Ordering.{int_eq}
+use Rattle.std.proofs.Common.{◌≡◌, ◌↔◌, IsTrue, not, ⊎_elim, inl, inr, Bool, true, false, cond, ◌&&◌, ◌||◌, ◌++◌, List, [], ◌∷◌, refl, sym, ◌∙◌, ap, arith}
+use Rattle.std.specs.Prelude.{ℤ, ◌≤ℤ◌, ◌<ℤ◌, pos, negsuc, int_lt}
+use Rattle.std.specs.Ordering.{int_eq, is_eq}
+use Rattle.std.specs.declared.cmp.Ordering.TheVariants.{Less, Equal, Greater}
 use Rattle.std.specs.List.{All}
-use Rattle.std.proofs.lemmas.Bool.{true≢false}
+use Rattle.std.proofs.lemmas.Bool.{true≢false, cases_Bool}
 use Rattle.std.proofs.lemmas.Bool.Decides.{Decides-int_eq}
-use Rattle.std.proofs.lemmas.Int.{ints}
+use Rattle.std.proofs.lemmas.Int.{ints, by_lt_z}
 use Rattle.std.proofs.lemmas.List.Elements.{All-nil, All-cons, All-append}
 use Rattle.mesh_plane.specs.Plane.{Point, Edge}
 use Rattle.mesh_plane.specs.Winding.{same_point}
 use Rattle.mesh_plane.specs.Order.{point_lt}
-use Rattle.mesh_num.specs.Segments.{subject_of, segment_between, segments_of, IsSubject}
+use Rattle.mesh_plane.proofs.Comparing.{decides_point, less_test, not_less_test}
+use Rattle.mesh_num.specs.Segments.{SignedEdge, subject_of, segment_between, segments_of, IsSubject}
 
 -- of two different points of which the first is not the smaller one, the second is
 other_smaller : (p r : Point) → same_point p r ≡ false → point_lt p r ≡ false → point_lt r p ≡ true
@@ -36,7 +38,7 @@ other_smaller p r differ after = by_x (int_lt r.0 p.0) refl
             let apart : int_eq p.1 r.1 ≡ false = ap (λ (b : Bool). b && int_eq p.1 r.1) (sym same) ∙ differ in
             ap (λ (b : Bool). b && int_lt r.1 p.1) back ∙ by_y x above apart (int_lt r.1 p.1) refl
 
-subject_ordered : (p r : Point) → same_point p r ≡ false → IsSubject (subject_of p r)
+pub subject_ordered : (p r : Point) → same_point p r ≡ false → IsSubject (subject_of p r)
 subject_ordered p r differ = by (point_lt p r) refl
   where
     by : (b : Bool) → point_lt p r ≡ b → IsSubject (cond b ((p, r), pos 1) ((r, p), negsuc 0))
@@ -55,3 +57,53 @@ segment_between_subject p r = by (same_point p r) refl
 pub segments_of_subjects : (es : List Edge) → All IsSubject (segments_of es)
 segments_of_subjects [] = All-nil IsSubject
 segments_of_subjects (e ∷ es) = All-append IsSubject (segment_between e.0 e.1) (segments_of es) (segment_between_subject e.0 e.1) (segments_of_subjects es)
+
+-- ---- the two forms of a subject, by the order of its points
+
+pub forward_is : (p r : Point) → point_lt p r ≡ true → ((p, r), pos 1) ≡ subject_of p r
+forward_is p r h = sym (ap (λ (b : Bool). cond b ((p, r), pos 1) ((r, p), negsuc 0)) h)
+
+pub back_is : (p r : Point) → point_lt p r ≡ false → ((r, p), negsuc 0) ≡ subject_of p r
+back_is p r h = sym (ap (λ (b : Bool). cond b ((p, r), pos 1) ((r, p), negsuc 0)) h)
+
+pub differ : (p r : Point) → (p ≡ r → ⊥) → same_point p r ≡ false
+differ p r apart =
+    ⊎_elim (λ (t : same_point p r ≡ true). absurd (apart ((decides_point p r).0 t))) (λ (f : same_point p r ≡ false). f) (cases_Bool (same_point p r))
+
+pub apart_of : (p r : Point) → same_point p r ≡ false → p ≡ r → ⊥
+apart_of p r f e = true≢false (sym ((decides_point p r).1 e) ∙ f)
+
+pub segment_is : (p r : Point) → same_point p r ≡ false → segment_between p r ≡ subject_of p r ∷ []
+segment_is p r h = ap (λ (b : Bool). cond b [] (subject_of p r ∷ [])) h
+
+pub none_between : (p r : Point) → same_point p r ≡ true → segment_between p r ≡ []
+none_between p r h = ap (λ (b : Bool). cond b [] (subject_of p r ∷ [])) h
+
+pub added_is : (old new : List SignedEdge) (s : SignedEdge) (p r : Point) → same_point p r ≡ false → s ≡ subject_of p r → new ≡ old ++ s ∷ []
+    → new ≡ old ++ segment_between p r
+added_is old new s p r h e f = f ∙ ap (λ (t : SignedEdge). old ++ t ∷ []) e ∙ ap (λ (l : List SignedEdge). old ++ l) (sym (segment_is p r h))
+
+-- ---- tests of points, coordinate by coordinate
+
+pub less_is : (r : Bool) (x y : ℤ) → (IsTrue r ↔ x <ℤ y) → r ≡ int_lt x y
+less_is true x y h = sym (less_test x y (h.0 refl))
+less_is false x y h = by_lt_z x y (λ (l : x <ℤ y). absurd (true≢false (sym (h.1 l)))) (λ (l : y ≤ℤ x). sym (not_less_test x y l))
+
+pub before_by_x : (p r : Point) → int_lt p.0 r.0 ≡ true → true ≡ point_lt p r
+before_by_x p r e = sym (ap (λ (b : Bool). b || (int_eq p.0 r.0 && int_lt p.1 r.1)) e)
+
+pub after_by_x : (p r : Point) → int_lt p.0 r.0 ≡ false → int_lt r.0 p.0 ≡ true → false ≡ point_lt p r
+after_by_x p r e f = sym (λ i. e i || (is_eq (cond (e i) Less (cond (f i) Greater Equal)) && int_lt p.1 r.1))
+
+pub before_by_y : (p r : Point) → int_lt p.0 r.0 ≡ false → int_lt r.0 p.0 ≡ false → int_lt p.1 r.1 ≡ point_lt p r
+before_by_y p r e f = sym (λ i. e i || (is_eq (cond (e i) Less (cond (f i) Greater Equal)) && int_lt p.1 r.1))
+
+pub other_by_x : (p r : Point) → int_eq p.0 r.0 ≡ false → false ≡ same_point p r
+other_by_x p r e = sym (ap (λ (b : Bool). b && int_eq p.1 r.1) e)
+
+pub same_by_y : (p r : Point) → int_eq p.0 r.0 ≡ true → int_eq p.1 r.1 ≡ same_point p r
+same_by_y p r e = sym (ap (λ (b : Bool). b && int_eq p.1 r.1) e)
+
+pub not_is : (b c : Bool) → b ≡ not c → c ≡ not b
+not_is b true e = sym (ap not e)
+not_is b false e = sym (ap not e)

@@ -2,8 +2,11 @@
 
 ghost use Rattle.std.specs.Prelude.{◌≡◌, ◌≢◌, ℕ, ◌+◌, ◌≤◌, ℤ, List, OnOk, OnErr, IsOk, ◌++◌, length, vec_capacity};
 ghost use Rattle.mesh_num.specs.Segments.{edge_of, subject_of, segment_between, IsSubject, SignedEdge};
+ghost use Rattle.mesh_plane.specs.Order.{point_lt};
 ghost use Rattle.mesh_plane.specs.Plane.{Point};
+ghost use Rattle.mesh_plane.specs.Winding.{same_point};
 
+use mesh_grid::num::convert::is_less;
 use mesh_grid::num::number::IntNumber;
 use mesh_grid::num::point::IntPoint;
 use std::alloc::AllocError;
@@ -77,7 +80,7 @@ impl<I: IntNumber> Segment<I> {
         ensures edge { edge_of result ≡ (p0, p1) }
         ensures form { IsSubject result }
     {
-        if p0 < p1 {
+        if is_before(p0, p1) {
             Segment {
                 x_segment: XSegment { a: p0, b: p1 },
                 count: 1,
@@ -89,6 +92,27 @@ impl<I: IntNumber> Segment<I> {
             }
         }
     }
+}
+
+fn is_before<I: IntNumber>(p: IntPoint<I>, q: IntPoint<I>) -> bool
+    ensures { result ≡ point_lt p q }
+{
+    if is_less(p.x, q.x) {
+        return true;
+    }
+    if is_less(q.x, p.x) {
+        return false;
+    }
+    is_less(p.y, q.y)
+}
+
+fn is_same<I: IntNumber>(p: IntPoint<I>, q: IntPoint<I>) -> bool
+    ensures { result ≡ same_point p q }
+{
+    if p.x != q.x {
+        return false;
+    }
+    p.y == q.y
 }
 
 /// Vectors of segments that edges are added to. Contracts see their list of segments, and the points as pairs.
@@ -118,9 +142,10 @@ impl<I: IntNumber> SubjectSegments<IntPoint<I>> for Vec<Segment<I>> {
     ghost capacity = { λ v. vec_capacity v };
 
     fn push_non_degenerate(&mut self, a: IntPoint<I>, b: IntPoint<I>) -> Result<(), AllocError> {
-        if a != b {
-            self.push(Segment::subject(a, b))?;
+        if is_same(a, b) {
+            return Ok(());
         }
+        self.push(Segment::subject(a, b))?;
         Ok(())
     }
 }

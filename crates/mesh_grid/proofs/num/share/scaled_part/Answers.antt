@@ -1,4 +1,4 @@
-use Rattle.std.proofs.Common.{◌^◌, ◌≤◌, arith, rules, lit<}
+use Rattle.std.proofs.Common.{◌^◌, ◌≤◌, arith, lit<}
 use Rattle.std.specs.Prelude.{◌*ℤ◌, unsigned_abs}
 use Rattle.std.proofs.lemmas.Int.{to_z-of_z, fits_signed_mul}
 use mir.Syntax.{w128}
@@ -8,7 +8,7 @@ use Rattle.mesh_grid.proofs.num.share.scaled_part.Goals as goal
 
 pub returns-clause-bounded : goal.returns-clause-bounded
 returns-clause-bounded c =
-    let r : SFits w128 c.rounded_quotient.result = search rules in
+    let r : SFits w128 c.rounded_quotient.result = record { sfits = c.rounded_quotient.type_inv } in
     let f : SFits w128 c.args.part = c.ranges.part in
     let g : SFits w128 c.args.radius = c.ranges.radius in
     let p : unsigned_abs c.args.part ≤ 2 ^ 30 = omega arith in

@@ -1,4 +1,7 @@
 -- The products and their sum fit the wide type.
+use Rattle.std.proofs.Common.{◌∙◌}
+use Rattle.std.specs.Prelude.{◌+ℤ◌}
+use Rattle.mesh_plane.specs.Plane.{dot}
 use Rattle.mesh_grid.proofs.Products.{product_within, sum_within}
 use Rattle.mesh_grid.proofs.num.point.IntVector.dot_product.Goals as goal
 
@@ -21,3 +24,9 @@ add-requires g c =
     let p = g.met.I.Wide.WideNumber.mul_law _ _ _ c.mul.ensures in
     let q = g.met.I.Wide.WideNumber.mul_law _ _ _ c.mul-2.ensures in
     g.met.I.Wide.WideNumber.can_add_law _ _ (sum_within _ g.I.IntNumber.unit _ _ _ _ _ _ g.met.I.IntNumber.half_law p q s.x o.x s.y o.y)
+
+pub returns : goal.returns
+returns g c =
+    let p = g.met.I.Wide.WideNumber.mul_law _ _ _ c.mul.ensures in
+    let q = g.met.I.Wide.WideNumber.mul_law _ _ _ c.mul-2.ensures in
+    g.met.I.Wide.WideNumber.add_law _ _ _ c.add.ensures ∙ (λ i. p i +ℤ q i) ∙ (λ i. dot (c.self.view_is i) (c.other.view_is i))
