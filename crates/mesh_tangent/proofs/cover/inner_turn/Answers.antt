@@ -16,12 +16,6 @@ pub cross_product-requires-clause-other : goal.cross_product-requires-clause-oth
 cross_product-requires-clause-other g c =
     rw c.sub-2.ensures (safe_apart g.I.IntNumber.unit c.args.point c.args.from c.requires.point c.requires.from)
 
-pub overflow_sub-result : goal.overflow_sub-result
-overflow_sub-result g c =
-    rw (to_z-of_z w128 c.wide_to_i128-side.result (search rules))
-    (opposite_fits g.I.IntNumber.unit g.I.Wide.WideNumber.half _ _ g.met.I.IntNumber.either_law
-    g.met.I.IntNumber.half_law c.wide_to_i128-side.ensures.value c.wide_to_i128-side.ensures.range)
-
 pub returns-then-turn-lt0 : goal.returns-then-turn-lt0
 returns-then-turn-lt0 g c =
     let n : SFits w128 (pos 0 -ℤ c.wide_to_i128-side.result) =
