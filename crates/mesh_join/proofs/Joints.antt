@@ -1,6 +1,7 @@
 -- Lemmas over points: what the steps of joins need to know of a corner.
-use Rattle.std.proofs.Common.{◌≡◌, ℕ, ◌*◌, ◌<◌, ◌≤◌, Bool, true, false, refl, ap, sym, arith}
+use Rattle.std.proofs.Common.{◌≡◌, ℕ, ◌*◌, ◌<◌, ◌≤◌, ◌^◌, Bool, true, false, refl, ap, sym, arith}
 use Rattle.std.specs.Prelude.{ℤ, pos, negsuc, ◌*ℤ◌, ◌≤ℤ◌, ◌&&◌, int_le, unsigned_abs}
+use Rattle.std.proofs.Math.Nat.{mul-le-mul_left}
 use Rattle.std.proofs.lemmas.Bool.{false≢true}
 use Rattle.std.proofs.lemmas.Int.{ints}
 use Rattle.mesh_plane.specs.Bounds.{IsSafe, IsWithin, IsSmall}
@@ -22,6 +23,16 @@ within_safe unit padding v p s w = record {
 
 pub safe_fits : (unit : ℕ) (z : ℤ) → IsSmall unit z → IsWithin (2 * unit) z
 safe_fits unit z s = record { low = omega (arith, ints, s.low, s.high); high = omega (arith, ints, s.low, s.high) }
+
+-- what is as small as a safe coordinate lies in the ranges of the narrow and of the wide type
+pub small_within : (unit : ℕ) (z r : ℤ) → z ≡ r → IsSmall unit r → IsWithin (2 * unit) z
+small_within unit z r e s = rw e (safe_fits unit r s)
+
+pub small_in_half : (unit half : ℕ) (z r : ℤ) → half ≡ 8 * unit * unit → 2 ^ 14 ≤ unit → z ≡ r → IsSmall unit r →
+    IsWithin half z
+small_in_half unit half z r h l e s =
+    let m : unit ≤ half = omega (arith, h, mul-le-mul_left (8 * unit) l) in
+    record { low = omega (arith, ints, e, s.low, m); high = omega (arith, ints, e, s.high, m) }
 
 -- the test of the sense of a turn
 pub left_ahead : (t : ℤ) → int_le (pos 0) t ≡ int_le (pos 0) (pos 1 *ℤ t)
