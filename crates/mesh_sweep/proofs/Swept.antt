@@ -1,9 +1,9 @@
 -- Lemmas over points: what circles and arcs know of the points round a vertex.
-use Rattle.std.proofs.Common.{◌≡◌, ◌≢◌, ℕ, ◌+◌, ◌*◌, ◌<◌, ◌≤◌, Bool, true, false, refl, sym, ◌∙◌, ap, map, arith}
+use Rattle.std.proofs.Common.{◌≡◌, ◌≢◌, ℕ, ◌+◌, ◌*◌, ◌<◌, ◌≤◌, ◌^◌, Bool, true, false, refl, sym, ◌∙◌, ap, map, arith}
 use Rattle.std.specs.Prelude.{ℤ, pos, ◌<ℤ◌, ◌||◌, unsigned_abs}
 use Rattle.std.proofs.lemmas.Bool.{true≢false}
 use Rattle.std.proofs.lemmas.Int.{ints}
-use Rattle.mesh_plane.specs.Bounds.{IsSafe}
+use Rattle.mesh_plane.specs.Bounds.{IsSafe, IsSmall, IsWithin}
 use Rattle.mesh_plane.specs.Plane.{Point, minus, length_sq}
 use Rattle.mesh_plane.specs.Winding.{same_point}
 use Rattle.mesh_plane.proofs.Comparing.{decides_point}
@@ -12,10 +12,12 @@ use Rattle.mesh_sine.specs.Sine.{root}
 use Rattle.mesh_sine.proofs.Roots.{root_is, root_by}
 use Rattle.mesh_grid.specs.Direction.{IsShort}
 use Rattle.mesh_grid.specs.Rectangle.{IsSafeWidened}
+use Rattle.mesh_grid.proofs.Products.{within_of_coordinate}
 use Rattle.mesh_grid.proofs.Scaling.{short_bounded}
 use Rattle.mesh_arc.specs.Arcs.{arc, clamped}
 use Rattle.mesh_arc.specs.declared.arc.ArcDirection.TheVariants.{Counterclockwise}
 use Rattle.mesh_arc.specs.declared.arc.ArcOptions.{ArcOptions}
+use Rattle.mesh_join.proofs.Joints.{safe_fits}
 use Rattle.mesh_join.specs.Midway.RoundJoins.{IsApart}
 use Rattle.mesh_sweep.specs.Sweeps.{distance, bearing, point_round, polyline_points, east_of, west_of, is_central}
 use Rattle.mesh_sweep.specs.Sweeps.{IsSwept}
@@ -38,6 +40,15 @@ distance_most p q r h =
     omega arith
 
 -- ---- what is safe
+
+-- what is as small as a safe coordinate lies in the ranges of the narrow and of the wide type
+pub small_within : (unit : ℕ) (z r : ℤ) → z ≡ r → IsSmall unit r → IsWithin (2 * unit) z
+small_within unit z r e s = rw e (safe_fits unit r s)
+
+pub small_in_half : (unit half : ℕ) (z r : ℤ) → half ≡ 8 * unit * unit → 2 ^ 14 ≤ unit → z ≡ r → IsSmall unit r
+    → IsWithin half z
+small_in_half unit half z r h l e s =
+    rw e (within_of_coordinate half unit r r h (omega (arith, l)) (safe_fits unit r s) (omega arith))
 
 -- the vector between safe points is short
 safe_difference : (unit : ℕ) (p q : Point) → IsSafe unit p → IsSafe unit q → IsSafe (2 * unit) (minus p q)
