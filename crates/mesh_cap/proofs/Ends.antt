@@ -1,5 +1,5 @@
 -- Lemmas over points: the half turn round an end is a turn, so joins can be drawn there.
-use Rattle.std.proofs.Common.{◌≡◌, ℕ, ◌*◌, ◌-◌, ◌<◌, ◌≤◌, ◌^◌, refl, sym, ap, ◌∙◌, subst, arith, [], ◌∷◌}
+use Rattle.std.proofs.Common.{◌≡◌, ℕ, ◌*◌, ◌-◌, ◌<◌, ◌≤◌, refl, sym, ap, ◌∙◌, subst, arith, [], ◌∷◌}
 use Rattle.std.specs.Prelude.{ℤ, pos, neg_ℤ, ◌+ℤ◌, ◌-ℤ◌, ◌*ℤ◌, ◌≤ℤ◌}
 use Rattle.std.proofs.lemmas.Int.{ints}
 use Rattle.mesh_plane.specs.Bounds.{IsSmall, IsWithin}
@@ -8,21 +8,15 @@ use Rattle.mesh_plane.proofs.Ring.{ring, var, lit, neg, ◌⊕◌, ◌⊖◌, cr
 use Rattle.mesh_plane.proofs.Sizes.{length_opposite}
 use Rattle.mesh_plane.proofs.Whole.{one_mul}
 use Rattle.mesh_grid.specs.Direction.{IsShort, IsFresh, scaled_direction}
-use Rattle.mesh_grid.proofs.Products.{within_of_coordinate}
 use Rattle.mesh_grid.proofs.Scaling.{scaled_direction_opposite}
 use Rattle.mesh_arc.specs.declared.arc.ArcDirection.TheVariants.{Clockwise, Counterclockwise}
 use Rattle.mesh_join.proofs.Joints.{safe_fits}
 use Rattle.mesh_join.specs.Joints.{Joint, IsTurn, contact}
 use Rattle.mesh_cap.specs.Ends.{IsEnd, half_turn}
 
--- what is as small as a safe coordinate lies in the ranges of the narrow and of the wide type
+-- what is as small as a safe coordinate lies in the range of its type
 pub small_within : (unit : ℕ) (z r : ℤ) → z ≡ r → IsSmall unit r → IsWithin (2 * unit) z
 small_within unit z r e s = rw e (safe_fits unit r s)
-
-pub small_in_half : (unit half : ℕ) (z r : ℤ) → half ≡ 8 * unit * unit → 2 ^ 14 ≤ unit → z ≡ r → IsSmall unit r
-    → IsWithin half z
-small_in_half unit half z r h l e s =
-    rw e (within_of_coordinate half unit r r h (omega (arith, l)) (safe_fits unit r s) (omega arith))
 
 -- the point to the left is the one to the right for the opposite direction
 left_is_right : (unit : ℕ) (radius : ℤ) (v n : Point) → 0 < unit

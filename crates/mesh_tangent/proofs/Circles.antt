@@ -1,7 +1,6 @@
 -- Lemmas over points: safe circles lie near one another, and hold one another where the code says so.
-use Rattle.std.proofs.Common.{◌≡◌, ℕ, ◌+◌, ◌*◌, ◌<◌, ◌≤◌, ◌^◌, ◌⊎◌, inl, inr, refl, sym, ◌∙◌, ap, arith}
+use Rattle.std.proofs.Common.{◌≡◌, ℕ, ◌+◌, ◌*◌, ◌<◌, ◌≤◌, ◌⊎◌, inl, inr, refl, sym, ◌∙◌, ap, arith}
 use Rattle.std.specs.Prelude.{ℤ, Bool, pos, true, false, ◌-ℤ◌, leb, int_le, ◌&&◌, ◌||◌, unsigned_abs}
-use Rattle.std.proofs.Math.Nat.{mul-le-mul_left}
 use Rattle.std.proofs.lemmas.Bool.Decides.{leb_tells, Decides-and, Decides-int_eq}
 use Rattle.std.proofs.lemmas.Int.{ints}
 use Rattle.mesh_plane.specs.Bounds.{IsSafe, IsSmall, IsWithin}
@@ -28,16 +27,10 @@ safe_apart unit p q s t = record {
   y = record { low = omega (arith, ints, s.y.low, t.y.high); high = omega (arith, ints, s.y.high, t.y.low) };
 }
 
--- what is as small as a safe coordinate lies in the ranges of the narrow and of the wide type
+-- what is as small as a safe coordinate lies in the range of its type
 pub small_within : (unit : ℕ) (z r : ℤ) → z ≡ r → IsSmall unit r → IsWithin (2 * unit) z
 small_within unit z r e s =
     record { low = omega (arith, ints, e, s.low); high = omega (arith, ints, e, s.high) }
-
-pub small_in_half : (unit half : ℕ) (z r : ℤ) → half ≡ 8 * unit * unit → 2 ^ 14 ≤ unit → z ≡ r → IsSmall unit r →
-    IsWithin half z
-small_in_half unit half z r h l e s =
-    let m : unit ≤ half = omega (arith, h, mul-le-mul_left (8 * unit) l) in
-    record { low = omega (arith, ints, e, s.low, m); high = omega (arith, ints, e, s.high, m) }
 
 -- the vector from a center to the other
 pub centers_apart : (unit : ℕ) (a b : Circle) → IsSafeCircle unit a → IsSafeCircle unit b →

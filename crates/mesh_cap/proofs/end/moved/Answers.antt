@@ -2,22 +2,8 @@
 use Rattle.std.proofs.Common.{◌∙◌}
 use Rattle.std.specs.Prelude.{◌+ℤ◌}
 use Rattle.mesh_plane.specs.Plane.{plus}
-use Rattle.mesh_cap.proofs.Ends.{small_within, small_in_half}
+use Rattle.mesh_cap.proofs.Ends.{small_within}
 use Rattle.mesh_cap.proofs.end.moved.Goals as goal
-
-pub add-x-requires : goal.add-x-requires
-add-x-requires g c =
-    g.met.I.Wide.WideNumber.can_add_law _ _
-    (small_in_half g.I.IntNumber.unit g.I.Wide.WideNumber.half _ _ g.met.I.IntNumber.half_law g.met.I.IntNumber.least_law
-    ((λ i. c.to_wide.ensures.value i +ℤ g.I.Wide.WideNumber.value c.along.inside.x)
-    ∙ (λ i. (plus (c.point.view_is i) (c.along.view_is i)).0)) c.requires.x)
-
-pub add-y-requires : goal.add-y-requires
-add-y-requires g c =
-    g.met.I.Wide.WideNumber.can_add_law _ _
-    (small_in_half g.I.IntNumber.unit g.I.Wide.WideNumber.half _ _ g.met.I.IntNumber.half_law g.met.I.IntNumber.least_law
-    ((λ i. c.to_wide-2.ensures.value i +ℤ g.I.Wide.WideNumber.value c.along.inside.y)
-    ∙ (λ i. (plus (c.point.view_is i) (c.along.view_is i)).1)) c.requires.y)
 
 pub from_wide-requires : goal.from_wide-requires
 from_wide-requires g c =

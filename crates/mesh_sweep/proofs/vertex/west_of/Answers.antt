@@ -1,15 +1,8 @@
 -- The difference is a coordinate of a safe point.
 use Rattle.std.proofs.Common.{◌∙◌}
 use Rattle.std.specs.Prelude.{◌-ℤ◌}
-use Rattle.mesh_sweep.proofs.Swept.{small_within, small_in_half}
+use Rattle.mesh_sweep.proofs.Swept.{small_within}
 use Rattle.mesh_sweep.proofs.vertex.west_of.Goals as goal
-
-pub sub-x-requires : goal.sub-x-requires
-sub-x-requires g c =
-    g.met.I.Wide.WideNumber.can_sub_law _ _
-    (small_in_half g.I.IntNumber.unit g.I.Wide.WideNumber.half _ _ g.met.I.IntNumber.half_law g.met.I.IntNumber.least_law
-    ((λ i. c.to_wide.ensures.value i -ℤ c.to_wide-2.ensures.value i)
-    ∙ (λ i. (c.center.view_is i).0 -ℤ g.I.IntNumber.value c.args.radius)) c.requires.x)
 
 pub from_wide-requires : goal.from_wide-requires
 from_wide-requires g c =
