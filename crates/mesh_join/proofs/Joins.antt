@@ -1,20 +1,16 @@
 -- Lemmas over points: what the theory of outlines needs holds of each kind of join.
-use Rattle.std.proofs.Common.{ℕ, ◌<◌, ◌≤◌, ◌^◌, arith, subst, sym}
+use Rattle.std.proofs.Common.{ℕ, ◌≤◌, ◌^◌, arith, subst, sym}
 use Rattle.std.specs.Prelude.{ℤ, pos, ◌≤ℤ◌, unsigned_abs}
-use Rattle.std.proofs.lemmas.Int.{ints}
-use Rattle.mesh_plane.specs.Plane.{Point, plus, minus, right_quarter}
+use Rattle.mesh_plane.specs.Plane.{Point}
 use Rattle.mesh_plane.proofs.ClosedLists.{route_all}
-use Rattle.mesh_grid.specs.Direction.{IsShort, scaled_direction}
-use Rattle.mesh_grid.proofs.Scaling.{scaled_direction_bounded}
+use Rattle.mesh_grid.specs.Direction.{IsShort}
 use Rattle.mesh_join.proofs.Bevels.{bevel_keeps}
 use Rattle.mesh_join.proofs.Joints.{contact_within}
 use Rattle.mesh_join.proofs.JoinLaws.{KeepsJoints}
 use Rattle.mesh_join.proofs.Miters.{miter_keeps}
 use Rattle.mesh_join.proofs.RoundJoins.{round_keeps}
 use Rattle.mesh_join.specs.Joins.{join_padding, join_edges, join_points, between}
-use Rattle.mesh_join.specs.Joints.{Joint, IsTurn, IsWithinPadding, NeverTurnsBack, StaysWithin, contact}
-use Rattle.mesh_arc.specs.declared.arc.ArcDirection.{ArcDirection}
-use Rattle.mesh_arc.specs.declared.arc.ArcDirection.TheVariants.{Clockwise, Counterclockwise}
+use Rattle.mesh_join.specs.Joints.{Joint, IsTurn, IsWithinPadding, NeverTurnsBack, StaysWithin}
 use Rattle.mesh_join.specs.Styles.{JoinStyle}
 use Rattle.mesh_join.specs.declared.style.IntLineJoin.{IntLineJoin}
 use Rattle.mesh_join.specs.declared.style.IntLineJoin.TheVariants.{Bevel, Miter, Round}

@@ -20,8 +20,20 @@ within_safe unit padding v p s w = record {
   y = record { low = omega (arith, ints, s.0.y.low, w.south); high = omega (arith, ints, s.1.y.high, w.north) };
 }
 
+-- a point moved by no more than the padding of a center that stays safe is safe
+pub moved_safe : (unit : ℕ) (r : ℤ) (c v : Point) → IsSafeWidened unit (pos (unsigned_abs r)) c → unsigned_abs v.0 ≤ unsigned_abs r →
+    unsigned_abs v.1 ≤ unsigned_abs r → IsSafe unit (plus c v)
+moved_safe unit r c v s x y = record {
+  x = record { low = omega (arith, ints, s.0.x.low, x); high = omega (arith, ints, s.1.x.high, x) };
+  y = record { low = omega (arith, ints, s.0.y.low, y); high = omega (arith, ints, s.1.y.high, y) };
+}
+
 pub safe_fits : (unit : ℕ) (z : ℤ) → IsSmall unit z → IsWithin (2 * unit) z
 safe_fits unit z s = record { low = omega (arith, ints, s.low, s.high); high = omega (arith, ints, s.low, s.high) }
+
+-- what is as small as a safe coordinate lies in the range of its type
+pub small_within : (unit : ℕ) (z r : ℤ) → z ≡ r → IsSmall unit r → IsWithin (2 * unit) z
+small_within unit z r e s = rw e (safe_fits unit r s)
 
 -- the test of the sense of a turn
 pub left_ahead : (t : ℤ) → int_le (pos 0) t ≡ int_le (pos 0) (pos 1 *ℤ t)

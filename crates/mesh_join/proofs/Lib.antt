@@ -6,3 +6,4 @@ pub mod Miters
 pub mod Quotients
 pub mod RoundJoins
 pub mod Sines
+pub mod Wide

@@ -1,6 +1,6 @@
 -- Lemmas over points: what the theory of outlines needs of round joins.
-use Rattle.std.proofs.Common.{◌≡◌, ◌≢◌, ℕ, ◌+◌, ◌*◌, ◌<◌, ◌≤◌, ◌^◌, Bool, true, false, refl, ap, sym, ◌∙◌, subst, arith, List, [], ◌∷◌, ◌++◌, map, take, drop, length, append_assoc, append-nil}
-use Rattle.std.specs.Prelude.{IsTrue, ℤ, pos, neg_ℤ, ◌+ℤ◌, ◌-ℤ◌, ◌*ℤ◌, ◌≤ℤ◌, cond, ◌&&◌, unsigned_abs, int_le}
+use Rattle.std.proofs.Common.{◌≡◌, ◌≢◌, ℕ, ◌*◌, ◌<◌, ◌≤◌, ◌^◌, Bool, true, false, refl, ap, sym, ◌∙◌, subst, arith, List, [], ◌∷◌, ◌++◌, map, take, drop, length, append_assoc, append-nil}
+use Rattle.std.specs.Prelude.{ℤ, pos, neg_ℤ, ◌+ℤ◌, ◌-ℤ◌, ◌*ℤ◌, ◌≤ℤ◌, cond, ◌&&◌, unsigned_abs}
 use Rattle.std.specs.List.{All}
 use Rattle.std.proofs.lemmas.Bool.{true≢false}
 use Rattle.std.proofs.lemmas.Bool.{cases_lt}
@@ -13,8 +13,7 @@ use Rattle.mesh_num.proofs.SegmentLists.{segments_of-append}
 use Rattle.mesh_plane.proofs.Comparing.{decides_point}
 use Rattle.mesh_plane.proofs.Rounding.{rounded_within}
 use Rattle.mesh_plane.proofs.Sizes.{size_neg, size_zero}
-use Rattle.mesh_plane.specs.Bounds.{IsSafe}
-use Rattle.mesh_plane.specs.Plane.{Point, Edge, plus, minus, opposite, right_quarter, turn, length_sq}
+use Rattle.mesh_plane.specs.Plane.{Point, Edge, plus, minus, right_quarter, turn, length_sq}
 use Rattle.mesh_plane.specs.Winding.{route, same_point}
 use Rattle.mesh_grid.specs.Direction.{IsShort, IsFresh, scaled, scaled_direction}
 use Rattle.mesh_grid.specs.Directed.{direction_of}
@@ -27,11 +26,10 @@ use Rattle.mesh_arc.specs.declared.arc.ArcOptions.{ArcOptions}
 use Rattle.mesh_arc.specs.declared.arc.ArcDirection.{ArcDirection}
 use Rattle.mesh_arc.specs.declared.arc.ArcDirection.TheVariants.{Clockwise, Counterclockwise}
 use Rattle.mesh_arc.proofs.Short.{arc_short}
-use Rattle.mesh_join.proofs.Bevels.{nothing_between}
 use Rattle.mesh_join.proofs.JoinLaws.{KeepsJoint, KeepsJoints}
 use Rattle.mesh_join.proofs.Joints.{both_are, le_test}
-use Rattle.mesh_join.specs.Joins.{between, through}
-use Rattle.mesh_join.specs.Joints.{Joint, IsTurn, IsWithinPadding, NeverTurnsBack, contact, runs_ahead}
+use Rattle.mesh_join.specs.Joins.{between}
+use Rattle.mesh_join.specs.Joints.{Joint, IsTurn, IsWithinPadding, contact, runs_ahead}
 use Rattle.mesh_join.specs.RoundJoins.{joint_arc, arc_point, used, round_points, round_padding}
 use Rattle.mesh_num.specs.Segments.{SignedEdge, segments_of}
 use Rattle.mesh_join.proofs.Joints.{contact_within, near_difference}

@@ -1,22 +1,27 @@
 -- Lemmas over whole numbers and points: a circle that keeps inside each side of a quadrilateral is held by it.
-use Rattle.std.proofs.Common.{◌≡◌, ℕ, ◌+◌, ◌*◌, ◌<◌, ◌≤◌, refl, sym, ◌∙◌, ap, arith, suc}
-use Rattle.std.specs.Prelude.{ℤ, Bool, true, false, pos, negsuc, ◌*ℤ◌, ◌≤ℤ◌, neg_ℤ, ◌&&◌, not, int_le, int_lt}
+use Rattle.std.proofs.Common.{◌≡◌, ℕ, ◌+◌, ◌*◌, ◌<◌, ◌≤◌, ◌^◌, refl, sym, ◌∙◌, ap, arith, suc}
+use Rattle.std.specs.Prelude.{ℤ, Bool, true, false, pos, negsuc, ◌-ℤ◌, ◌*ℤ◌, ◌≤ℤ◌, neg_ℤ, ◌&&◌, not, int_le, int_lt}
 use Rattle.std.specs.Prelude.{nat_eq, List, [], ◌∷◌, unsigned_abs}
 use Rattle.std.specs.List.{list_all, All}
 use Rattle.std.specs.Int.Signed.{le_z_yes}
 use Rattle.std.specs.Ordering.{int_eq}
 use Rattle.std.proofs.Math.Nat.{mul-le-mul, mul-le-mul_left}
-use Rattle.std.proofs.lemmas.Bool.{cond_both, cond-true, false_from_ne_true, true≢false}
+use Rattle.std.proofs.lemmas.Bool.{cond_both, cond-true, cond-false, false_from_ne_true, true≢false}
 use Rattle.std.proofs.lemmas.Bool.Decides.{Decides-and, Decides-eqb, Decides-int_eq, Decides-not}
 use Rattle.std.proofs.lemmas.Float.{T_from_true}
 use Rattle.std.proofs.lemmas.Int.{ints}
 use Rattle.std.proofs.lemmas.List.Sums.{AllPass-from_list_all}
+use mir.Syntax.{w128}
+use mir.Val.{SFits}
+use Rattle.mesh_plane.specs.Bounds.{IsWithin}
 use Rattle.mesh_plane.specs.Plane.{Point, Edge, minus, cross, turn, length_sq}
 use Rattle.mesh_plane.specs.Winding.{boundary}
+use Rattle.mesh_grid.specs.Widths.{IsUnit}
 use Rattle.mesh_sine.specs.Sine.{root}
 use Rattle.mesh_sine.proofs.Roots.{root_is, root_by}
 use Rattle.mesh_tangent.specs.Sections.{Circle, Section, sides, orientation, inner_turn, raised_root, keeps_inside}
 use Rattle.mesh_tangent.specs.Sections.{covers_circle, IsBeyond, HoldsCircle}
+use Rattle.mesh_tangent.proofs.Lifts.{bound_most}
 
 -- a raised root is not too small
 pub raised_enough : (n : ℕ) → n ≤ raised_root n * raised_root n
@@ -79,13 +84,28 @@ raised_next n r h l e =
     let t : nat_eq (r * r) n ≡ false = false_from_ne_true _ (λ k. e ((Decides-eqb (r * r) n).0 k)) in
     rw (s, t) (omega arith)
 
+-- the opposite of a number of the wide type fits
+pub opposite_fits : (unit half : ℕ) (t v : ℤ) → IsUnit unit → half ≡ 8 * unit * unit → t ≡ v → IsWithin half v →
+    SFits w128 (pos 0 -ℤ t)
+opposite_fits unit half t v u e f s =
+    let l : half ≤ 2 ^ 63 = omega (arith, e, bound_most unit u) in
+    let m : SFits w128 (pos 0 -ℤ v) = omega (arith, ints, s.low, s.high, l) in
+    rw f m
+
 -- a turn to the other side
 pub turned_round : (o : ℤ) (from to p v w : Point) (t r : ℤ) → int_lt o (pos 0) ≡ true → t ≡ cross v w →
-    v ≡ minus to from → w ≡ minus p from → r ≡ neg_ℤ t →
+    v ≡ minus to from → w ≡ minus p from → r ≡ (pos 0 -ℤ t) →
     r ≡ inner_turn o (from, to) p
 turned_round o from to p v w t r h e f g k =
     let m : t ≡ turn from to p = e ∙ (λ i. cross (f i) (g i)) in
-    k ∙ ap neg_ℤ m ∙ sym (cond-true (int_lt o (pos 0)) (neg_ℤ (turn from to p)) (turn from to p) h)
+    let n : (pos 0 -ℤ t) ≡ neg_ℤ t = omega (arith, ints) in
+    k ∙ n ∙ ap neg_ℤ m ∙ sym (cond-true (int_lt o (pos 0)) (neg_ℤ (turn from to p)) (turn from to p) h)
+
+-- a turn to this side
+pub turned_on : (o : ℤ) (from to p v w : Point) (t : ℤ) → int_lt o (pos 0) ≡ false → t ≡ cross v w →
+    v ≡ minus to from → w ≡ minus p from → t ≡ inner_turn o (from, to) p
+turned_on o from to p v w t h e f g =
+    e ∙ (λ i. cross (f i) (g i)) ∙ sym (cond-false (int_lt o (pos 0)) (neg_ℤ (turn from to p)) (turn from to p) h)
 
 pub keeps_made : (o : ℤ) (c : Circle) (side : Edge) (p : Point) (radius t r : ℤ) (l : ℕ) →
     ◌≡◌ {A = Circle} (record { center = p; radius = radius }) c →
@@ -97,6 +117,13 @@ keeps_made o c side p radius t r l e h f g k =
     let w : r ≡ c.radius *ℤ pos (raised_root (length_sq (minus side.1 side.0))) =
     g ∙ (λ i. ap (λ (d : Circle). d.radius) e i *ℤ pos (k i)) in
     sym (ap (λ (b : Bool). b && int_le r t) h) ∙ (λ i. int_le (pos 0) (u i) && int_le (w i) (u i))
+
+-- one side and one more
+pub pair_both : (x y p q : Bool) → p ≡ x → q ≡ y → p ≡ true → q ≡ (x && y)
+pair_both x y p q e f h = f ∙ sym (ap (λ (b : Bool). b && y) (sym e ∙ h))
+
+pub pair_none : (x y p : Bool) → p ≡ x → p ≡ false → p ≡ (x && y)
+pair_none x y p e h = h ∙ sym (ap (λ (b : Bool). b && y) (sym e ∙ h))
 
 -- two sides and two more
 four_both : (a b x y p q : Bool) → p ≡ (a && b) → q ≡ (x && y) → p ≡ true → q ≡ (a && (b && (x && (y && true))))
@@ -129,4 +156,12 @@ covers_made w s c o n e f g h =
     false_from_ne_true _ (λ k. g (f ∙ (Decides-int_eq (orientation w) (pos 0)).0 k)) in
     h ∙ ap (λ (k : ℤ). list_all (keeps_inside k c) (sides w)) f
     ∙ sym (ap (λ (b : Bool). not b && list_all (keeps_inside (orientation w) c) (sides w)) z)
+    ∙ ap (λ (k : Section). covers_circle k c) e
+
+pub covers_none : (w s : Section) (c : Circle) (o : ℤ) → w ≡ s → o ≡ orientation w → o ≡ pos 0 →
+    false ≡ covers_circle s c
+unfolding covers_circle
+covers_none w s c o e f g =
+    let z : int_eq (orientation w) (pos 0) ≡ true = (Decides-int_eq (orientation w) (pos 0)).1 (sym f ∙ g) in
+    sym (ap (λ (b : Bool). not b && list_all (keeps_inside (orientation w) c) (sides w)) z)
     ∙ ap (λ (k : Section). covers_circle k c) e

@@ -2,7 +2,10 @@
 -- is too great.
 use Rattle.std.proofs.Common.{◌≡◌, ℕ, ◌-◌, ◌*◌, ◌<◌, ◌≤◌, ◌^◌, ◌∙◌, ap, arith}
 use Rattle.std.specs.Prelude.{ℤ, pos, ◌+ℤ◌, ◌-ℤ◌, ◌*ℤ◌, neg_ℤ, unsigned_abs}
+use Rattle.std.proofs.lemmas.Int.{ints}
 use Rattle.std.proofs.lemmas.Nat.{mul-lt}
+use mir.Syntax.{w128}
+use mir.Val.{SFits}
 use Rattle.mesh_plane.specs.Plane.{Point, length_sq}
 use Rattle.mesh_plane.proofs.Sizes.{lt_of_squares}
 use Rattle.mesh_plane.proofs.Whole.{linear, neg_mul}
@@ -25,6 +28,13 @@ pub length_small : (unit square l : ℕ) → square < 2 ^ 63 → l ≡ lift unit
 length_small unit square l h e =
     let p : square * l ≡ square * lift unit square = ap (λ (n : ℕ). square * n) e in
     omega (arith, p, normal_length_most unit square h)
+
+-- a difference and a sum of two products
+pub difference_fits : (p q : ℤ) → unsigned_abs p ≤ 2 ^ 96 → unsigned_abs q ≤ 2 ^ 96 → SFits w128 (p -ℤ q)
+difference_fits p q h k = omega (arith, ints)
+
+pub sum_fits : (p q : ℤ) → unsigned_abs p ≤ 2 ^ 96 → unsigned_abs q ≤ 2 ^ 96 → SFits w128 (p +ℤ q)
+sum_fits p q h k = omega (arith, ints)
 
 -- ---- bounds
 

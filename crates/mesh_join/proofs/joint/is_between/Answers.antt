@@ -1,19 +1,15 @@
 -- Both sums fit 128 bits.
-use Rattle.std.proofs.Common.{arith}
-use Rattle.std.specs.Prelude.{◌+ℤ◌, ◌-ℤ◌}
-use Rattle.std.proofs.lemmas.Int.{to_z-of_z, ints}
+use Rattle.std.proofs.Common.{◌≡◌, true, refl}
+use Rattle.std.specs.Prelude.{◌-ℤ◌, int_le}
+use Rattle.std.proofs.lemmas.Int.{to_z-of_z}
 use mir.Syntax.{w128}
-use mir.Val.{SFits}
+use Rattle.mesh_join.proofs.Wide.{close_sum, close_difference}
 use Rattle.mesh_join.proofs.joint.is_between.Goals as goal
 
 pub returns-then-center-padding : goal.returns-then-center-padding
 returns-then-center-padding c =
     let x = to_z-of_z w128 c.args.coordinate c.ranges.coordinate in
-    let v = to_z-of_z w128 c.args.center c.ranges.center in
-    let p = to_z-of_z w128 c.args.padding c.ranges.padding in
-    let below : SFits w128 (c.args.center -ℤ c.args.padding) = omega (arith, ints) in
-    let above : SFits w128 (c.args.center +ℤ c.args.padding) = omega (arith, ints) in
-    let l = to_z-of_z w128 (c.args.center -ℤ c.args.padding) below in
-    let h = to_z-of_z w128 (c.args.center +ℤ c.args.padding) above in
-    let t = simp (x, v, p, l) at c.if-center-padding.true in
-    simp (x, v, p, h, t)
+    let l = close_difference c.args.center c.args.padding c.requires.center c.requires.padding in
+    let h = close_sum c.args.center c.args.padding c.requires.center c.requires.padding in
+    let t : int_le (c.args.center -ℤ c.args.padding) c.args.coordinate ≡ true = rw (l, x) at c.if-center-padding.true in
+    rw (h, x, t) refl

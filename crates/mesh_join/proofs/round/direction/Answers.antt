@@ -1,7 +1,5 @@
 -- A vector's direction is the one that the definition gives.
-use Rattle.std.proofs.Common.{◌≡◌, rules}
 use Rattle.mesh_plane.specs.Plane.{minus}
-use Rattle.mesh_grid.specs.Direction.{IsDirection}
 use Rattle.mesh_grid.proofs.Directed.{is_direction_of}
 use Rattle.mesh_join.proofs.round.direction.Goals as goal
 

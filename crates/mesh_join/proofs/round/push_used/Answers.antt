@@ -1,5 +1,5 @@
 -- Each point that is used is one edge more; the last edge ends them.
-use Rattle.std.proofs.Common.{◌≡◌, ◌+◌, ◌<◌, ◌≤◌, ◌++◌, ◌∷◌, [], List, refl, sym, ◌∙◌, ap, subst, rules, arith, take, take_all, length, map, vec_capacity}
+use Rattle.std.proofs.Common.{◌≡◌, ◌+◌, ◌++◌, ◌∷◌, [], List, sym, ◌∙◌, ap, subst, rules, arith, take, take_all, map, vec_capacity}
 use Rattle.std.proofs.lemmas.List.{take_more}
 use Rattle.std.proofs.lemmas.Result.{on_ok_weaker}
 use Rattle.mesh_plane.specs.Plane.{Point}
@@ -10,7 +10,6 @@ use Rattle.mesh_join.specs.RoundJoins.{arc_point, used}
 use Rattle.mesh_join.proofs.RoundJoins.{drawing_starts, drawing_takes, drawing_skips, drawing_ends, still_kept}
 use Rattle.mesh_join.proofs.round.push_used.Goals as goal
 use Rattle.mesh_join.proofs.round.push_used.Goals.{then-runs_on+in_ok-push_straight, else-runs_on}
-use Rattle.mesh_join.proofs.round.push_used.Given as given
 
 pub loop-direction-init : goal.loop-direction-init
 loop-direction-init g c =

@@ -1,33 +1,35 @@
--- The opposite of a product of differences fits 128 bits.
-use Rattle.std.proofs.Common.{◌≡◌, ◌*◌, ◌≤◌, ◌^◌, ◌∙◌, arith, rules}
-use Rattle.std.specs.Prelude.{pos, neg_ℤ, ◌-ℤ◌, unsigned_abs}
-use Rattle.std.proofs.lemmas.Int.{to_z-of_z, ints}
+-- The cross product of two differences of safe points, whose opposite fits 128 bits.
+use Rattle.std.proofs.Common.{◌∙◌, rules}
+use Rattle.std.specs.Prelude.{pos, ◌-ℤ◌}
+use Rattle.std.proofs.lemmas.Int.{to_z-of_z}
 use mir.Syntax.{w128}
 use mir.Val.{SFits}
-use Rattle.mesh_tangent.proofs.Covers.{turned_round}
-use Rattle.mesh_tangent.proofs.Lifts.{bound_most}
+use Rattle.mesh_tangent.proofs.Circles.{safe_apart}
+use Rattle.mesh_tangent.proofs.Covers.{opposite_fits, turned_round, turned_on}
 use Rattle.mesh_tangent.proofs.cover.inner_turn.Goals as goal
+
+pub cross_product-requires-clause-own : goal.cross_product-requires-clause-own
+cross_product-requires-clause-own g c =
+    rw c.sub.ensures (safe_apart g.I.IntNumber.unit c.args.to c.args.from c.requires.to c.requires.from)
+
+pub cross_product-requires-clause-other : goal.cross_product-requires-clause-other
+cross_product-requires-clause-other g c =
+    rw c.sub-2.ensures (safe_apart g.I.IntNumber.unit c.args.point c.args.from c.requires.point c.requires.from)
 
 pub returns-then-turn-lt0 : goal.returns-then-turn-lt0
 returns-then-turn-lt0 g c =
-    let r : SFits w128 c.wide_to_i128-side.result = search rules in
-    let b : 8 * g.I.IntNumber.unit * g.I.IntNumber.unit ≤ 2 ^ 63 =
-    bound_most g.I.IntNumber.unit g.met.I.IntNumber.either_law in
-    let s : unsigned_abs c.wide_to_i128-side.result ≤ 2 ^ 63 =
-    omega (
-      arith,
-      ints,
-      c.wide_to_i128-side.ensures.value,
-      c.wide_to_i128-side.ensures.range.low,
-      c.wide_to_i128-side.ensures.range.high,
-      g.met.I.IntNumber.half_law,
-      b,
-    ) in
-    let n : SFits w128 (neg_ℤ c.wide_to_i128-side.result) = omega (arith, ints, s) in
-    let m : (pos 0 -ℤ c.wide_to_i128-side.result) ≡ neg_ℤ c.wide_to_i128-side.result = omega (arith, ints) in
-    let h = simp (to_z-of_z w128 c.args.turn c.ranges.turn) at c.if-turn-lt0.true in
-    rw (to_z-of_z w128 c.wide_to_i128-side.result r, m)
+    let n : SFits w128 (pos 0 -ℤ c.wide_to_i128-side.result) =
+    opposite_fits g.I.IntNumber.unit g.I.Wide.WideNumber.half _ _ g.met.I.IntNumber.either_law
+    g.met.I.IntNumber.half_law c.wide_to_i128-side.ensures.value c.wide_to_i128-side.ensures.range in
+    rw (to_z-of_z w128 c.wide_to_i128-side.result (search rules))
     (turned_round c.args.turn c.args.from c.args.to c.args.point c.sub.result c.sub-2.result
-    c.wide_to_i128-side.result _ h
+    c.wide_to_i128-side.result _ (rw (to_z-of_z w128 c.args.turn c.ranges.turn) at c.if-turn-lt0.true)
     (c.wide_to_i128-side.ensures.value ∙ c.cross_product.ensures) c.sub.ensures c.sub-2.ensures
-    (to_z-of_z w128 (neg_ℤ c.wide_to_i128-side.result) n))
+    (to_z-of_z w128 (pos 0 -ℤ c.wide_to_i128-side.result) n))
+
+pub returns-else-turn-lt0 : goal.returns-else-turn-lt0
+returns-else-turn-lt0 g c =
+    rw (to_z-of_z w128 c.wide_to_i128-side.result (search rules))
+    (turned_on c.args.turn c.args.from c.args.to c.args.point c.sub.result c.sub-2.result
+    c.wide_to_i128-side.result (rw (to_z-of_z w128 c.args.turn c.ranges.turn) at c.if-turn-lt0.false)
+    (c.wide_to_i128-side.ensures.value ∙ c.cross_product.ensures) c.sub.ensures c.sub-2.ensures)

@@ -1,11 +1,11 @@
 -- The arc is that of the corner, and its directions' points are drawn.
-use Rattle.std.proofs.Common.{◌≡◌, ◌++◌, sym, ◌∙◌, ap, rules, List, map}
+use Rattle.std.proofs.Common.{◌≡◌, ◌++◌, ◌∙◌, ap, rules, List, map}
 use Rattle.std.proofs.lemmas.Result.{on_ok_weaker}
 use Rattle.mesh_plane.specs.Plane.{Point, minus}
 use Rattle.mesh_plane.specs.Winding.{route}
 use Rattle.mesh_grid.specs.Directed.{direction_of}
 use Rattle.mesh_num.specs.Segments.{segments_of}
-use Rattle.mesh_arc.specs.Arcs.{arc, clamped}
+use Rattle.mesh_arc.specs.Arcs.{arc}
 use Rattle.mesh_join.specs.RoundJoins.{arc_point, used, round_points}
 use Rattle.mesh_join.proofs.RoundJoins.{first_apart, last_apart, points_are}
 use Rattle.mesh_join.proofs.round.Round.push.Goals as goal
