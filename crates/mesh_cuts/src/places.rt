@@ -7,7 +7,6 @@ ghost use Rattle.std.specs.declared.alloc.Global.{Global};
 ghost use Rattle.mesh_cuts.specs.Lists.{list_at, OthersStay};
 ghost use Rattle.mesh_cuts.specs.Marks.{place, AreRising, IsPutTo};
 
-use crate::grid::GridPoint;
 use std::alloc::{AllocError, Global};
 
 /// How many elements stand side by side in a sample.
@@ -18,20 +17,6 @@ const BLOCK: usize = 64;
 pub struct Mark {
     /// The coordinate, on whatever grid.
     pub at: i128,
-}
-
-/// The point's `x`, on the grid.
-pub fn x_of(p: GridPoint) -> Mark
-    ensures { result.at ≡ p.0 }
-{
-    Mark { at: p.0 as i128 }
-}
-
-/// The point's `y`, on the grid.
-pub fn y_of(p: GridPoint) -> Mark
-    ensures { result.at ≡ p.1 }
-{
-    Mark { at: p.1 as i128 }
 }
 
 /// Whether the element at a place is in a sample of one in so many. The sample has blocks of elements side by side, since

@@ -76,9 +76,6 @@ apart_of p r f e = true≢false (sym ((decides_point p r).1 e) ∙ f)
 pub segment_is : (p r : Point) → same_point p r ≡ false → segment_between p r ≡ subject_of p r ∷ []
 segment_is p r h = ap (λ (b : Bool). cond b [] (subject_of p r ∷ [])) h
 
-pub none_between : (p r : Point) → same_point p r ≡ true → segment_between p r ≡ []
-none_between p r h = ap (λ (b : Bool). cond b [] (subject_of p r ∷ [])) h
-
 pub added_is : (old new : List SignedEdge) (s : SignedEdge) (p r : Point) → same_point p r ≡ false → s ≡ subject_of p r → new ≡ old ++ s ∷ []
     → new ≡ old ++ segment_between p r
 added_is old new s p r h e f = f ∙ ap (λ (t : SignedEdge). old ++ t ∷ []) e ∙ ap (λ (l : List SignedEdge). old ++ l) (sym (segment_is p r h))

@@ -94,6 +94,7 @@ impl<I: IntNumber> Segment<I> {
     }
 }
 
+/// Whether a point comes before another one, by `x` and then by `y`.
 fn is_before<I: IntNumber>(p: IntPoint<I>, q: IntPoint<I>) -> bool
     ensures { result ≡ point_lt p q }
 {
@@ -106,6 +107,7 @@ fn is_before<I: IntNumber>(p: IntPoint<I>, q: IntPoint<I>) -> bool
     is_less(p.y, q.y)
 }
 
+/// Whether two points are one.
 fn is_same<I: IntNumber>(p: IntPoint<I>, q: IntPoint<I>) -> bool
     ensures { result ≡ same_point p q }
 {
