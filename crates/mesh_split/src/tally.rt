@@ -107,13 +107,9 @@ impl Tally {
     }
 
     /// The segments as a list.
-    pub fn into_segments(mut self, alloc: Global) -> Result<Vec<CountedSegment>, AllocError>
+    pub fn into_segments(self, alloc: Global) -> Result<Vec<CountedSegment>, AllocError>
         ensures { IfOk result (λ v. v.items ≡ self) }
     {
-        let mut segments = Vec::new(alloc);
-        while let Some(s) = self.counts.pop_first() {
-            segments.push(s)?;
-        }
-        Ok(segments)
+        self.counts.into_iter().collect(alloc)
     }
 }

@@ -127,7 +127,7 @@ fn on_side(
 ) -> Result<Vec<GridEdge>, AllocError>
     ensures { IfOk result (λ v. KeepsThose (λ x. reaches cut x below ≡ true) listed.now v.items) }
 {
-    let mut left = Vec::new(alloc);
+    let mut left = Vec::with_capacity(alloc, listed.len())?;
     for e in listed {
         if reaches(cut, *e, below) {
             left.push(*e)?;
@@ -140,7 +140,7 @@ fn on_side(
 fn sample(alloc: Global, edges: &[GridEdge]) -> Result<Vec<GridEdge>, AllocError> {
     // (an odd step, since contours often go on in the same two, four or eight steps)
     let step = edges.len() / SAMPLED / 2 * 2 + 1;
-    let mut found = Vec::new(alloc);
+    let mut found = Vec::with_capacity(alloc, edges.len() / step + 1)?;
     for (i, e) in edges.iter().enumerate() {
         if i % step == 0 {
             found.push(*e)?;

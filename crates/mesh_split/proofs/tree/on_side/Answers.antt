@@ -7,7 +7,7 @@ use Rattle.mesh_split.proofs.tree.on_side.Goals as goal
 use Rattle.mesh_split.proofs.tree.on_side.Goals.{then-reaches+in_ok-push, else-reaches}
 
 pub loop-e-init : goal.loop-e-init
-loop-e-init c = kept_none (λ (x : Edge). reaches c.args.cut x c.args.below ≡ true) c.args.listed.now c.new-left.result.items
+loop-e-init c = kept_none (λ (x : Edge). reaches c.args.cut x c.args.below ≡ true) c.args.listed.now c.in_ok-left.left.items
 
 pub loop-e-preserved : goal.loop-e-preserved
 loop-e-preserved c =
