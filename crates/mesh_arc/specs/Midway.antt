@@ -1,8 +1,8 @@
 -- What the code of an arc knows between its steps: only private contracts and invariants read this.
-use Rattle.std.specs.Prelude.{ℕ, ◌≡◌, ◌<◌, ◌≤◌, ◌^◌, Bool, false, List}
+use Rattle.std.specs.Prelude.{ℕ, ◌≡◌, ◌<◌, ◌≤◌, ◌^◌, Bool, false, ◌||◌, not, List}
 use Rattle.mesh_plane.specs.Plane.{Point, length_sq}
 use Rattle.mesh_sine.specs.Sine.{sin_cos}
-use Rattle.mesh_arc.specs.Arcs.{step_bits, bound_of, turned, turned_list, ends_after, most_directions}
+use Rattle.mesh_arc.specs.Arcs.{step_bits, step_of, bound_of, is_good, is_passed, turned, turned_list, least, ends_after, most_directions, stepped}
 use Rattle.mesh_arc.specs.declared.arc.ArcDirection.{ArcDirection}
 use Rattle.mesh_arc.specs.declared.arc.ArcOptions.{ArcOptions}
 
@@ -11,6 +11,10 @@ pub record Steps : Type 0 where
   pub step : Point
   pub bound : Point
   pub sense : ArcDirection
+
+-- the steps of an arc with these options in this sense
+abbrev pub steps_of : ℕ → ArcOptions → ArcDirection → Steps
+steps_of unit options sense = record { step = step_of unit options sense; bound = bound_of options; sense = sense }
 
 -- sines and cosines that were computed once from the options
 pub record IsPrepared (unit : ℕ) (options : ArcOptions) (step bound : Point) : Type 0 where
@@ -22,6 +26,18 @@ pub record IsPrepared (unit : ℕ) (options : ArcOptions) (step bound : Point) :
 -- whether the arc by these steps ends after `k` of them
 abbrev pub ends : Steps → Point → Point → ℕ → Bool
 ends s from end = ends_after s.sense s.bound s.step from end
+
+-- whether the arc by these steps ends before the one from `v` to `w`
+abbrev pub ends_before : Steps → Point → Point → Point → Bool
+ends_before s end v w = not (is_good s.sense s.bound v w) || is_passed s.sense end v w
+
+-- how many steps the arc by these steps takes
+abbrev pub steps_taken : Steps → Point → Point → ℕ
+steps_taken s from end = least (ends s from end) most_directions
+
+-- the directions of the arc by these steps
+abbrev pub directions_by : Steps → Point → Point → List Point
+directions_by s from end = stepped s.sense s.bound s.step from end
 
 -- the list after `k` steps that were all good, none past the end; `room` is what there was memory for at first, `capacity` now
 pub record HasTurned (s : Steps) (from end : Point) (room k : ℕ) (current : Point) (ds : List Point) (capacity : ℕ) : Type 0 where

@@ -3,10 +3,11 @@
 ghost use Rattle.std.specs.Prelude.{◌≡◌, ◌^◌, ◌≤◌, length, [], IsOk, IfOk};
 ghost use Rattle.std.specs.Borrow.{sem};
 ghost use Rattle.mesh_grid.specs.Direction.{IsFresh};
-ghost use Rattle.mesh_arc.specs.Arcs.{clamped as clamped_of, step_bits, step_of, bound_of, arc};
+ghost use Rattle.mesh_arc.specs.Arcs.{clamped as clamped_of, step_bits, arc};
 ghost use Rattle.mesh_arc.specs.Building.{IsBuilt};
 ghost use Rattle.mesh_arc.specs.Gaps.{HasNearGaps, ReachesEnd, NoStepFails, default_options};
 ghost use Rattle.mesh_arc.specs.Lent.{EndsWith};
+ghost use Rattle.mesh_arc.specs.Midway.{steps_of};
 
 use crate::steps::Steps;
 use mesh_grid::num::convert::widen;
@@ -79,13 +80,12 @@ pub struct IntegerArc<I: IntNumber> {
 pub type ArcBuilder<I> = IntegerArc<I>;
 
 impl<I: IntNumber> Model for IntegerArc<I> {
-    ghost use Rattle.std.specs.Prelude.{vec_capacity};
-    ghost use Rattle.mesh_arc.specs.Building.{Building};
+    ghost use Rattle.mesh_arc.specs.Building.{Building, building_with};
     ghost use Rattle.mesh_arc.specs.Midway.{IsPrepared};
 
     ghost Value = { Building };
 
-    ghost view = { λ a. record { options = a.options; directions = a.directions.items; room = vec_capacity a.directions } };
+    ghost view = { λ a. building_with a.options a.directions };
 
     ghost invariant = { λ a. IsPrepared I.unit a.options a.step a.bound };
 }
@@ -176,7 +176,7 @@ impl<I: IntNumber> IntegerArc<I> {
 
     // The steps in this sense.
     fn steps(&self, direction: ArcDirection) -> Steps<I>
-        ensures { result ≡ record { step = step_of I.unit self.now.options direction; bound = bound_of self.now.options; sense = direction } }
+        ensures { result ≡ steps_of I.unit self.now.options direction }
     {
         let rotation = match direction {
             ArcDirection::Counterclockwise => self.step,

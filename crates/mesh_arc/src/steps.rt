@@ -1,9 +1,10 @@
 //! The steps of an arc.
 
-ghost use Rattle.std.specs.Prelude.{◌≡◌, ◌*◌, ◌^◌, ◌≤◌, ◌||◌, not, ◌*ℤ◌, int_le, unsigned_abs, length, [], vec_capacity, IsOk, OnOk, OnErr};
+ghost use Rattle.std.specs.Prelude.{◌≡◌, ◌*◌, ◌^◌, ◌≤◌, ◌*ℤ◌, int_le, unsigned_abs, length, [], vec_capacity, IsOk, OnOk, OnErr};
 ghost use Rattle.mesh_plane.specs.Bounds.{IsSafe};
 ghost use Rattle.mesh_plane.specs.Plane.{cross as cross_of, dot as dot_of, length_sq};
-ghost use Rattle.mesh_arc.specs.Arcs.{ahead as ahead_of, is_within as is_within_of, is_good as is_good_of, is_passed as is_passed_of, turned_list, least, ends_after, most_directions, stepped};
+ghost use Rattle.mesh_arc.specs.Arcs.{ahead as ahead_of, is_within as is_within_of, is_good as is_good_of, is_passed as is_passed_of, turned_list};
+ghost use Rattle.mesh_arc.specs.Midway.{steps_taken, ends_before, directions_by};
 
 use crate::arc::ArcDirection;
 use mesh_grid::num::{IntNumber, IntVector, Rotation, UnitIntVector};
@@ -53,9 +54,9 @@ impl<I: IntNumber> Steps<I> {
         to: UnitIntVector<I>,
         directions: &mut Vec<UnitIntVector<I>>,
     ) -> Result<(), AllocError>
-        ensures ok { OnOk result (directions.new.items ≡ stepped self.now.sense self.now.bound self.now.step from to) }
+        ensures ok { OnOk result (directions.new.items ≡ directions_by self.now from to) }
         ensures err { OnErr result (directions.new.items ≡ []) }
-        ensures room { length (stepped self.now.sense self.now.bound self.now.step from to) ≤ vec_capacity directions.old → IsOk result }
+        ensures room { length (directions_by self.now from to) ≤ vec_capacity directions.old → IsOk result }
         ensures capacity { vec_capacity directions.old ≤ vec_capacity directions.new }
     {
         directions.clear();
@@ -77,8 +78,8 @@ impl<I: IntNumber> Steps<I> {
         directions: &mut Vec<UnitIntVector<I>>,
     ) -> Result<(), AllocError>
         requires { directions.old.items ≡ [] }
-        ensures ok { OnOk result (directions.new.items ≡ turned_list self.now.step from (least (ends_after self.now.sense self.now.bound self.now.step from to) most_directions)) }
-        ensures room { least (ends_after self.now.sense self.now.bound self.now.step from to) most_directions ≤ vec_capacity directions.old → IsOk result }
+        ensures ok { OnOk result (directions.new.items ≡ turned_list self.now.step from (steps_taken self.now from to)) }
+        ensures room { steps_taken self.now from to ≤ vec_capacity directions.old → IsOk result }
         ensures capacity { vec_capacity directions.old ≤ vec_capacity directions.new }
     {
         let mut current = from;
@@ -95,7 +96,7 @@ impl<I: IntNumber> Steps<I> {
 
     // Whether the arc ends before the step from `current` to `next`.
     fn ends(&self, to: UnitIntVector<I>, current: UnitIntVector<I>, next: UnitIntVector<I>) -> bool
-        ensures { result ≡ (not (is_good_of self.now.sense self.now.bound current next) || is_passed_of self.now.sense to current next) }
+        ensures { result ≡ ends_before self.now to current next }
     {
         !self.is_good(current, next) || self.is_passed(to, current, next)
     }
