@@ -5,10 +5,9 @@ ghost use Rattle.std.specs.Prelude.{◌≡◌, true, List, neg_ℤ, IfOk, IfSome
 ghost use Rattle.mesh_plane.specs.Plane.{Edge};
 ghost use Rattle.mesh_plane.specs.Winding.{sum_of};
 ghost use Rattle.mesh_cuts.specs.Boundary.{left_winding, right_winding};
-ghost use Rattle.mesh_cuts.specs.Counted.{size, IsCountOf, IsRoomy};
+ghost use Rattle.mesh_cuts.specs.Counted.{size, IsRoomy};
 ghost use Rattle.mesh_cuts.specs.Split.{back, occurs};
-ghost use Rattle.mesh_sides.specs.Laws.{AreSplit};
-ghost use Rattle.mesh_boundary.specs.Midway.Flood.{IsLevel, AreKnown, IsFlood};
+ghost use Rattle.mesh_boundary.specs.Midway.Flood.{OfSplitEdges, IsLevel, AreKnown, IsFlood};
 ghost use Rattle.mesh_boundary.specs.Midway.Rows.{AreRows};
 ghost use Rattle.mesh_boundary.specs.Midway.Stars.{AreStars, AreShaped, HaveStars, IsSegment};
 
@@ -185,7 +184,7 @@ impl Flood {
         requires room { IsRoomy (sum_of size segments.now) }
         requires rows { AreRows rows.now.marks.items rows.now.lists.items segments.now }
         requires stars { AreStars stars.now.marks.items stars.now.lists.items segments.now }
-        ensures { IfOk result (λ f. (es : List Edge) → IsCountOf es segments.now → AreSplit es → AreKnown es f.known.items) }
+        ensures { IfOk result (λ f. OfSplitEdges segments.now (λ es. AreKnown es f.known.items)) }
     {
         let mut flood = Flood::unknown(alloc, stars.lists.len())?;
         for s in segments {

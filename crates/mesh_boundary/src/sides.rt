@@ -9,7 +9,7 @@ ghost use Rattle.mesh_cuts.specs.Counted.{Counted, size, IsCountOf, IsRoomy};
 ghost use Rattle.mesh_cuts.specs.FillRules.{filled};
 ghost use Rattle.mesh_sides.specs.Laws.{AreSplit};
 ghost use Rattle.mesh_boundary.specs.Midway.CountedSides.{sides_by, sides_of, is_parted, boundary_edge};
-ghost use Rattle.mesh_boundary.specs.Midway.Flood.{AreKnown};
+ghost use Rattle.mesh_boundary.specs.Midway.Flood.{OfSplitEdges, AreKnown};
 ghost use Rattle.mesh_boundary.specs.Midway.Rows.{AreRows};
 ghost use Rattle.mesh_boundary.specs.Midway.Stars.{AreStars};
 
@@ -133,8 +133,8 @@ fn known_sides(
     requires room { IsRoomy (sum_of size segments.now) }
     requires rows { AreRows rows.now.marks.items rows.now.lists.items segments.now }
     requires stars { AreStars stars.now.marks.items stars.now.lists.items segments.now }
-    ensures { (es : List Edge) (d : Counted) → IsCountOf es segments.now → AreSplit es → AreKnown es flood.now.known.items
-        → result ≡ sides_of segments.now (slice_index_or segments.now i d) }
+    ensures { OfSplitEdges segments.now (λ es. AreKnown es flood.now.known.items
+        → (d : Counted) → result ≡ sides_of segments.now (slice_index_or segments.now i d)) }
 {
     if let Some(sides) = flood.sides(stars, segments[i]) {
         return sides;

@@ -3,7 +3,13 @@ use Rattle.std.specs.Prelude.{◌≡◌, List, ℤ, Option, IfSome}
 use Rattle.std.specs.List.{All}
 use Rattle.mesh_plane.specs.Plane.{Point, Edge}
 use Rattle.mesh_plane.specs.Winding.{refined, winding}
+use Rattle.mesh_cuts.specs.Counted.{Counted, IsCountOf}
+use Rattle.mesh_sides.specs.Laws.{AreSplit}
 use Rattle.mesh_boundary.specs.declared.flood.Flood.{Flood}
+
+-- what holds of all split edges that have these counts
+abbrev pub OfSplitEdges : List Counted → (List Edge → Type 0) → Type 0
+OfSplitEdges ks Holds = (es : List Edge) → IsCountOf es ks → AreSplit es → Holds es
 
 -- a number is the winding of edges at a point
 abbrev pub IsLevel : List Edge → Point × ℤ → Type 0

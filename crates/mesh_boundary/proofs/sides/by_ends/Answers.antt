@@ -12,7 +12,7 @@ pub loop-i-preserved : goal.loop-i-preserved
 loop-i-preserved c = λ es is split.
     let d : Counted = (((pos 0, pos 0), (pos 0, pos 0)), pos 0) in
     emitted_more (filled c.args.fill) c.args.segments.now c.loop-i.i d c.loop-i.edges.items c.push_edge.new.edges.items c.known_sides-sides.result c.loop-i-test.true
-    (c.loop-i.invariant es is split) (c.known_sides-sides.ensures es d is split (c.in_ok-flood.ensures es is split)) c.in_ok-push_edge.ensures
+    (c.loop-i.invariant es is split) (c.known_sides-sides.ensures es is split (c.in_ok-flood.ensures es is split) d) c.in_ok-push_edge.ensures
 
 pub returns : goal.returns
 returns c = λ es is split.
