@@ -26,9 +26,13 @@ unfoldable pub used : Joint → Point → List Point → List Point
 used j p [] = []
 used j p (q ∷ points) = if runs_ahead j (p, q) && runs_ahead j (q, j.last) then q ∷ used j q points else used j p points
 
+-- the points round the corner in these directions that are used
+abbrev pub used_points : ℕ → Joint → List Point → List Point
+used_points unit j ds = used j j.first (map (arc_point unit j) ds)
+
 -- the points of a round join
 unfoldable pub round_points : ArcOptions → ℕ → Joint → List Point
-round_points options unit j = used j j.first (map (arc_point unit j) (joint_arc options unit j))
+round_points options unit j = used_points unit j (joint_arc options unit j)
 
 -- how far a round join reaches from its corner in each coordinate: the size of the radius
 abbrev pub round_padding : ℤ → ℤ

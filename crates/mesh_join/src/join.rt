@@ -4,7 +4,7 @@ ghost use Rattle.std.specs.Prelude.{◌≡◌, ◌≤◌, ◌++◌, vec_capacity
 ghost use Rattle.mesh_num.specs.Segments.{edges_of, proper_edges};
 ghost use Rattle.mesh_join.specs.Appending.{Appends, HasRoomForEdges};
 ghost use Rattle.mesh_join.specs.Joints.{joint, NeverTurnsBack, StaysWithin};
-ghost use Rattle.mesh_join.specs.Joins.{join_edges, join_padding, HasFew, IsJoint};
+ghost use Rattle.mesh_join.specs.Joins.{join_edges, join_padding, HasFew, HasRoomForJoin, IsJoint};
 
 use crate::bevel;
 use crate::joint::{Joint, coordinates, is_one_point};
@@ -118,7 +118,7 @@ impl<I: IntNumber> Join<I> {
         ensures ok { OnOk result (Appends segments.old segments.new (join_edges I.unit self.old joint.now)) }
         ensures err { OnErr result (segments.new.items ≡ segments.old.items) }
         ensures same_ends { joint.now.first ≡ joint.now.last → IsOk result }
-        ensures room { HasFew self.old → HasRoomForEdges segments.old (join_edges I.unit self.old joint.now) → IsOk result }
+        ensures room { HasFew self.old → HasRoomForJoin segments.old I.unit self.old joint.now → IsOk result }
         ensures capacity { vec_capacity segments.old ≤ vec_capacity segments.new }
         ensures same { self.new ≡ self.old }
     {

@@ -1,6 +1,6 @@
 //! Round joins.
 
-ghost use Rattle.std.specs.Prelude.{◌≡◌, ◌≤◌, false, map, length, take, vec_capacity, OnOk, OnErr};
+ghost use Rattle.std.specs.Prelude.{◌≡◌, ◌≤◌, false, length, take, vec_capacity, OnOk, OnErr};
 ghost use Rattle.mesh_plane.specs.Bounds.{IsSafe};
 ghost use Rattle.mesh_plane.specs.Plane.{plus, minus};
 ghost use Rattle.mesh_plane.specs.Winding.{route, same_point};
@@ -11,7 +11,7 @@ ghost use Rattle.mesh_join.specs.Appending.{Appends};
 ghost use Rattle.mesh_join.specs.Joins.{IsJoint};
 ghost use Rattle.mesh_join.specs.Methods.{style_of_round};
 ghost use Rattle.mesh_join.specs.Midway.RoundJoins.{round_edges, IsApart};
-ghost use Rattle.mesh_join.specs.RoundJoins.{round_padding, arc_point as arc_point_of, used};
+ghost use Rattle.mesh_join.specs.RoundJoins.{round_padding, arc_point as arc_point_of, used_points};
 
 use crate::joint::Joint;
 use crate::route::push_straight;
@@ -120,7 +120,7 @@ fn push_used<I: IntNumber>(
 ) -> Result<(), AllocError>
     requires { IsSafeWidened I.unit (round_padding joint.now.radius) joint.now.center }
     ensures ok { OnOk result (Appends segments.old segments.new
-        (route joint.now.first (used joint.now joint.now.first (map (arc_point_of I.unit joint.now) directions.now)) joint.now.last)) }
+        (route joint.now.first (used_points I.unit joint.now directions.now) joint.now.last)) }
     ensures kept { take (length segments.old.items) segments.new.items ≡ segments.old.items }
     ensures capacity { vec_capacity segments.old ≤ vec_capacity segments.new }
 {
