@@ -1,12 +1,12 @@
 -- Lemmas over whole numbers and lists: places among marks.
 use Rattle.std.proofs.Common.{◌≡◌, ℕ, ◌+◌, ◌-◌, ◌<◌, ◌≤◌, ◌⊎◌, inl, inr, ⊎_elim, Bool, true, false, cond, List, [], ◌∷◌, ◌++◌, length, get_or, zero, suc, refl, sym, ◌∙◌, ap, subst, arith, length-append}
 use Rattle.std.specs.Prelude.{ℤ, ◌≤ℤ◌, ◌<ℤ◌, int_le, Vec}
+use Rattle.std.specs.List.Sorted.{IsPartitionedBy}
 use Rattle.std.specs.declared.alloc.Global.{Global}
 use Rattle.std.proofs.Math.ListN.{get_or-append}
 use Rattle.std.proofs.Math.Seq.{get_or-append_seam}
 use Rattle.std.proofs.lemmas.Bool.{both_ways}
 use Rattle.std.proofs.lemmas.Int.{ints}
-use Rattle.std.proofs.lemmas.List.{get_or_default}
 use Rattle.mesh_cuts.specs.declared.places.Mark.{Mark}
 use Rattle.mesh_cuts.specs.Marks.{place, AreRising, IsPutTo}
 
@@ -62,19 +62,9 @@ place_is (m ∷ ms) x (suc n) h below above =
     let rest = place_is ms x n (omega arith) (λ k d l. below (suc k) d (omega arith)) (λ k d l g. above (suc k) d (omega arith) (omega arith)) in
     rw (below 0 m (omega arith)) (omega arith)
 
--- ---- the search by halves
-
-pub below_mid : (ms : List Mark) (x : ℤ) (mid : ℕ) (d₀ : Mark) → AreRising ms → mid < length ms → int_le (get_or ms mid d₀).at x ≡ true
-    → (k : ℕ) (d : Mark) → k < mid + 1 → int_le (get_or ms k d).at x ≡ true
-below_mid ms x mid d₀ r low h k d l =
-    let mid_at : (get_or ms mid d).at ≤ℤ x = le_test _ x (subst (λ (m : Mark). int_le m.at x ≡ true) (get_or_default ms mid d₀ d low) h) in
-    test_le (get_or ms k d).at x (omega (arith, ints, r.rising k mid d (omega arith) low, mid_at))
-
-pub above_mid : (ms : List Mark) (x : ℤ) (mid : ℕ) (d₀ : Mark) → AreRising ms → mid < length ms → int_le (get_or ms mid d₀).at x ≡ false
-    → (k : ℕ) (d : Mark) → mid ≤ k → k < length ms → int_le (get_or ms k d).at x ≡ false
-above_mid ms x mid d₀ r low h k d le l =
-    let mid_at : x <ℤ (get_or ms mid d).at = gt_test _ x (subst (λ (m : Mark). int_le m.at x ≡ false) (get_or_default ms mid d₀ d low) h) in
-    test_gt (get_or ms k d).at x (omega (arith, ints, r.rising mid k d le l, mid_at))
+-- rising marks are parted at a number: those that are not above it come first
+pub parted_at : (ms : List Mark) (x : ℤ) → AreRising ms → IsPartitionedBy (λ (m : Mark). int_le m.at x) ms
+parted_at ms x r i j d le low h = test_le (get_or ms i d).at x (omega (arith, ints, r.rising i j d le low, le_test (get_or ms j d).at x h))
 
 -- ---- one more mark
 

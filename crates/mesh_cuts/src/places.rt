@@ -37,17 +37,11 @@ pub fn place(marks: &[Mark], q: Mark) -> usize
     ensures value { result ≡ place marks.now q.at }
     ensures bound { result ≤ length marks.now }
 {
-    let mut low = 0;
-    let mut high = marks.len();
-    while low < high {
-        let mid = low + (high - low) / 2;
-        if is_at_most(marks[mid], q) {
-            low = mid + 1;
-        } else {
-            high = mid;
-        }
-    }
-    low
+    marks.partition_point(
+        |m: &Mark| -> bool
+            ensures { result ≡ int_le m.now.at q.at }
+        { is_at_most(*m, q) },
+    )
 }
 
 /// Whether a mark is not below the last one.
