@@ -32,8 +32,8 @@ abbrev pub ends_before : Steps → Point → Point → Point → Bool
 ends_before s end v w = not (is_good s.sense s.bound v w) || is_passed s.sense end v w
 
 -- how many steps the arc by these steps takes
-abbrev pub steps_taken : Steps → Point → Point → ℕ
-steps_taken s from end = least (ends s from end) most_directions
+abbrev pub step_count : Steps → Point → Point → ℕ
+step_count s from end = least (ends s from end) most_directions
 
 -- the directions of the arc by these steps
 abbrev pub directions_by : Steps → Point → Point → List Point

@@ -4,7 +4,7 @@ ghost use Rattle.std.specs.Prelude.{◌≡◌, ◌*◌, ◌^◌, ◌≤◌, ◌*
 ghost use Rattle.mesh_plane.specs.Bounds.{IsSafe};
 ghost use Rattle.mesh_plane.specs.Plane.{cross as cross_of, dot as dot_of, length_sq};
 ghost use Rattle.mesh_arc.specs.Arcs.{ahead as ahead_of, is_within as is_within_of, is_good as is_good_of, is_passed as is_passed_of, turned_list};
-ghost use Rattle.mesh_arc.specs.Midway.{steps_taken, ends_before, directions_by};
+ghost use Rattle.mesh_arc.specs.Midway.{step_count, ends_before, directions_by};
 
 use crate::arc::ArcDirection;
 use mesh_grid::num::{IntNumber, IntVector, Rotation, UnitIntVector};
@@ -78,8 +78,8 @@ impl<I: IntNumber> Steps<I> {
         directions: &mut Vec<UnitIntVector<I>>,
     ) -> Result<(), AllocError>
         requires { directions.old.items ≡ [] }
-        ensures ok { OnOk result (directions.new.items ≡ turned_list self.now.step from (steps_taken self.now from to)) }
-        ensures room { steps_taken self.now from to ≤ vec_capacity directions.old → IsOk result }
+        ensures ok { OnOk result (directions.new.items ≡ turned_list self.now.step from (step_count self.now from to)) }
+        ensures room { step_count self.now from to ≤ vec_capacity directions.old → IsOk result }
         ensures capacity { vec_capacity directions.old ≤ vec_capacity directions.new }
     {
         let mut current = from;
