@@ -19,9 +19,6 @@ gt_test a b h = grind (arith, ints)
 test_le : (a b : ℤ) → a ≤ℤ b → int_le a b ≡ true
 test_le a b h = grind (arith, ints)
 
-test_gt : (a b : ℤ) → b <ℤ a → int_le a b ≡ false
-test_gt a b h = grind (arith, ints)
-
 rise : (a b : Bool) (m x y : ℤ) (p q : ℕ) → x ≤ℤ y → int_le m x ≡ a → int_le m y ≡ b → p ≤ q → cond a 1 0 + p ≤ cond b 1 0 + q
 rise true true m x y p q h u v l = omega arith
 rise true false m x y p q h u v l = absurd (both_ways (int_le m y) v (test_le m y (omega (arith, ints, le_test m x u))))
