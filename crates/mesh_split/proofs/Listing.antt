@@ -1,9 +1,10 @@
 -- Lemmas over segments that parts of the plane list.
-use Rattle.std.proofs.Common.{◌≡◌, ◌⊎◌, ⊎_elim, Bool, true, false, cond, ℕ, ◌+◌, ◌<◌, ◌≤◌, sym, ◌∙◌, ap, subst, refl, arith, List, [], ◌∷◌, ◌++◌, length, length-append, get_or, below_more}
-use Rattle.std.specs.Prelude.{pos, ◌<ℤ◌, Option, Some, None, MatchOption}
+use Rattle.std.proofs.Common.{◌≡◌, ◌⊎◌, inl, inr, ⊎_elim, Bool, true, false, cond, filter, ℕ, zero, suc, ◌+◌, ◌<◌, ◌≤◌, sym, ◌∙◌, ap, subst, refl, arith, List, [], ◌∷◌, ◌++◌, length, length-append, get_or, below_more}
+use Rattle.std.specs.Prelude.{ℤ, pos, ◌<ℤ◌, Option, Some, None, MatchOption}
 use Rattle.std.proofs.Math.ListN.{get_or-append}
 use Rattle.std.proofs.Math.Seq.{get_or-append_seam}
 use Rattle.std.proofs.lemmas.List.{get_or_default}
+use Rattle.std.proofs.lemmas.Bool.{both_ways}
 use Rattle.mesh_plane.specs.Plane.{Edge}
 use Rattle.mesh_plane.proofs.Whole.{linear}
 use Rattle.mesh_cuts.specs.Counted.{Counted, bit}
@@ -11,7 +12,7 @@ use Rattle.mesh_cuts.specs.Split.{same_edge, AreClear}
 use Rattle.mesh_cuts.proofs.Counts.{bit_least}
 use Rattle.mesh_cuts.proofs.Ends.{decides_edge}
 use Rattle.mesh_split.specs.declared.tree.Cut.{Cut}
-use Rattle.mesh_split.specs.Midway.Parts.{Place, IsAt, reaches, IsListed, KeepsThose, HasListed, KeepsListed, AreListed, IsPartClear}
+use Rattle.mesh_split.specs.Midway.Parts.{Place, IsAt, reaches, IsListed, KeepsThose, HasListed, KeepsListed, KeepsOthers, AreListed, IsPartClear}
 use Rattle.mesh_split.proofs.Places.{place_met}
 use Rattle.mesh_split.specs.Midway.Steps.{exactly, IsPut, IsTaken, IsClearOf, AddsIf}
 
@@ -67,6 +68,23 @@ kept_left_out P from left i d₀ lacks before = record {
 pub kept_all : (P : Edge → Type 0) (from left : List Edge) (n : ℕ) → length from ≤ n → AreKept P from left n → KeepsThose P from left
 kept_all P from left n all a x p l = a.kept l.at (omega (arith, l.within)) x l.same p
 
+-- what passes a test is still listed among those that do
+listed_first : (test : Edge → Bool) (x y : Edge) (ys : List Edge) → test x ≡ true → y ≡ x → (b : Bool) → test y ≡ b → IsListed x (cond b (y ∷ filter test ys) (filter test ys))
+listed_first test x y ys t e true s = record { at = 0; within = omega arith; same = λ d. e }
+listed_first test x y ys t e false s = absurd (both_ways (test y) s (ap test e ∙ t))
+
+listed_later : (test : Edge → Bool) (x y : Edge) (ys : List Edge) (b : Bool) → IsListed x (filter test ys) → IsListed x (cond b (y ∷ filter test ys) (filter test ys))
+listed_later test x y ys true l = record { at = suc l.at; within = omega (arith, l.within); same = λ d. l.same d }
+listed_later test x y ys false l = l
+
+listed_filtered : (test : Edge → Bool) (x : Edge) → test x ≡ true → (ys : List Edge) (k : ℕ) → k < length ys → ((d : Edge) → get_or ys k d ≡ x) → IsListed x (filter test ys)
+listed_filtered test x t [] k h same = absurd (omega (arith, h))
+listed_filtered test x t (y ∷ ys) zero h same = listed_first test x y ys t (same y) (test y) refl
+listed_filtered test x t (y ∷ ys) (suc k) h same = listed_later test x y ys (test y) (listed_filtered test x t ys k (omega (arith, h)) same)
+
+pub filtered_keeps : (test : Edge → Bool) (P : Edge → Type 0) → ((x : Edge) → P x → test x ≡ true) → (from left : List Edge) → left ≡ filter test from → KeepsThose P from left
+filtered_keeps test P passes from left is x p l = subst (λ (ys : List Edge). IsListed x ys) (sym is) (listed_filtered test x (passes x p) from l.at l.within l.same)
+
 -- ---- cuts
 
 -- what holds on each side of a cut that an edge reaches, holds on that of each place that it reaches
@@ -79,16 +97,27 @@ at_place P cut e c reach low high = by (c cut) (reach cut)
 
 -- ---- parts of parts
 
-pub kept_same : (live : List Counted) (listed : Place → List Edge) → KeepsListed live listed listed
-kept_same live listed e c lives reach l = l
+pub kept_same : (listed : Place → List Edge) → KeepsListed listed listed
+kept_same listed e c reach l = l
 
-pub fork_keeps : (live : List Counted) (cut : Cut) (low high low' high' : Place → List Edge) → KeepsListed live low low' → KeepsListed live high high'
-    → KeepsListed live (λ c. cond (c cut) (low c) (high c)) (λ c. cond (c cut) (low' c) (high' c))
-fork_keeps live cut low high low' high' k m e c lives reach l = by (c cut) l
+pub fork_keeps : (cut : Cut) (low high low' high' : Place → List Edge) → KeepsListed low low' → KeepsListed high high'
+    → KeepsListed (λ c. cond (c cut) (low c) (high c)) (λ c. cond (c cut) (low' c) (high' c))
+fork_keeps cut low high low' high' k m e c reach l = by (c cut) l
   where
     by : (b : Bool) → IsListed e (cond b (low c) (high c)) → IsListed e (cond b (low' c) (high' c))
-    by true l = k e c lives reach l
-    by false l = m e c lives reach l
+    by true l = k e c reach l
+    by false l = m e c reach l
+
+pub others_same : (s : Edge) (listed : Place → List Edge) → KeepsOthers s listed listed
+others_same s listed e c other l = l
+
+pub fork_keeps_others : (s : Edge) (cut : Cut) (low high low' high' : Place → List Edge) → KeepsOthers s low low' → KeepsOthers s high high'
+    → KeepsOthers s (λ c. cond (c cut) (low c) (high c)) (λ c. cond (c cut) (low' c) (high' c))
+fork_keeps_others s cut low high low' high' k m e c other l = by (c cut) l
+  where
+    by : (b : Bool) → IsListed e (cond b (low c) (high c)) → IsListed e (cond b (low' c) (high' c))
+    by true l = k e c other l
+    by false l = m e c other l
 
 pub fork_lists : (cut : Cut) (low high : Place → List Edge) (e : Edge) → (reaches cut e true ≡ true → HasListed low e) → (reaches cut e false ≡ true → HasListed high e)
     → HasListed (λ c. cond (c cut) (low c) (high c)) e
@@ -108,8 +137,19 @@ nothing_more (Some x) P Q R f h = h
 pub listed_fewer : (listed : Place → List Edge) (live live' : List Counted) → ((e : Edge) → pos 0 <ℤ exactly e live' → pos 0 <ℤ exactly e live) → AreListed listed live → AreListed listed live'
 listed_fewer listed live live' fewer f e h = f e (fewer e h)
 
-pub listed_kept : (old new : Place → List Edge) (live : List Counted) → KeepsListed live old new → AreListed old live → AreListed new live
-listed_kept old new live k f e lives c reach = k e c lives reach (f e lives c reach)
+pub listed_kept : (old new : Place → List Edge) (live : List Counted) → KeepsListed old new → AreListed old live → AreListed new live
+listed_kept old new live k f e lives c reach = k e c reach (f e lives c reach)
+
+-- one that lives no more is no longer listed
+pub listed_without : (old new : Place → List Edge) (live : List Counted) (s : Edge) → exactly s live ≡ pos 0 → KeepsOthers s old new → AreListed old live → AreListed new live
+listed_without old new live s none k f e lives c reach = by (same_edge e s) refl
+  where
+    by : (b : Bool) → same_edge e s ≡ b → IsListed e (new c)
+    by true t = absurd (nothing (exactly s live) none (subst (λ (x : Edge). pos 0 <ℤ exactly x live) ((decides_edge e s).0 t) lives))
+      where
+        nothing : (z : ℤ) → z ≡ pos 0 → pos 0 <ℤ z → ⊥
+        nothing z h l = omega (arith, linear, h, l)
+    by false t = k e c t (f e lives c reach)
 
 -- one more segment lives, and it is listed
 pub listed_put : (listed : Place → List Edge) (live live' : List Counted) (k : Counted) → IsPut live live' k → HasListed listed k.0 → AreListed listed live → AreListed listed live'

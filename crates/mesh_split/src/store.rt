@@ -79,7 +79,7 @@ impl Store {
         requires absent { times s.0 self.old ≡ pos 0 }
         ensures { OnOk result (IsPut self.old self.new s) }
     {
-        self.plane.put(self.alloc, &self.live, s.0, DEPTH)?;
+        self.plane.put(self.alloc, s.0, DEPTH)?;
         self.live.insert(s)?;
         Ok(())
     }
@@ -91,7 +91,11 @@ impl Store {
         ensures taken { IsTaken self.old self.new result }
         ensures forward { IsForward ends }
     {
-        self.live.remove(ends)
+        let s = self.live.remove(ends);
+        if !self.live.has(ends) {
+            self.plane.take(ends);
+        }
+        s
     }
 
     /// Adds the segment's count to that of the live segment with its ends, if there is one.

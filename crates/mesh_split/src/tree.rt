@@ -1,19 +1,19 @@
 //! The plane in parts, by cuts along the axes and along long segments, finer where much is listed. Each segment is listed
-//! in the parts that it reaches, where those are sought that a segment may meet. What was taken out stays listed until
-//! its part is parted again, so what a part lists counts only where it lives.
+//! in the parts that it reaches, where those are sought that a segment may meet, until it is taken out. What a part
+//! lists counts only where it lives.
 
-ghost use Rattle.std.specs.Prelude.{◌≡◌, ℕ, ◌^◌, ◌<◌, true, ℤ, pos, ◌*ℤ◌, ◌<ℤ◌, MatchOption};
+ghost use Rattle.std.specs.Prelude.{◌≡◌, ℕ, ◌^◌, ◌<◌, true, false, not, ℤ, pos, ◌*ℤ◌, ◌<ℤ◌, MatchOption};
 ghost use Rattle.std.specs.Prelude.{IfOk, OnOk};
 ghost use Rattle.mesh_plane.specs.Bounds.{IsSmall};
 ghost use Rattle.mesh_plane.specs.Plane.{Edge};
-ghost use Rattle.mesh_cuts.specs.Split.{AreClear};
+ghost use Rattle.mesh_cuts.specs.Split.{AreClear, same_edge};
 ghost use Rattle.mesh_split.specs.Midway.Parts.{Place, IsAt, height, is_below, reaches, listed_at, IsListed, HasListed};
-ghost use Rattle.mesh_split.specs.Midway.Parts.{KeepsThose, KeepsListed, IsPartClear, MeetsLive};
+ghost use Rattle.mesh_split.specs.Midway.Parts.{KeepsThose, KeepsListed, KeepsOthers, IsPartClear, MeetsLive};
 ghost use Rattle.mesh_split.specs.Midway.Steps.{exactly};
 
 use crate::hints::{Hints, Meeting};
 use crate::tally::Tally;
-use mesh_cuts::exact::meeting;
+use mesh_cuts::exact::{meeting, same_edge};
 use mesh_cuts::grid::{GridEdge, GridPoint};
 use std::alloc::{AllocError, Global};
 
@@ -105,17 +105,15 @@ fn in_part(live: &Tally, listed: &[GridEdge], s: GridEdge) -> Option<Meeting>
     None
 }
 
-/// Those that live.
-fn living(alloc: Global, live: &Tally, listed: &[GridEdge]) -> Result<Vec<GridEdge>, AllocError>
-    ensures { IfOk result (λ v. KeepsThose (λ x. pos 0 <ℤ exactly x live.now) listed.now v.items) }
+/// Takes a segment out of a list.
+fn take_out(listed: &mut Vec<GridEdge>, e: GridEdge)
+    ensures { KeepsThose (λ x. same_edge x e ≡ false) listed.old.items listed.new.items }
 {
-    let mut left = Vec::new(alloc);
-    for e in listed {
-        if live.has(*e) {
-            left.push(*e)?;
-        }
-    }
-    Ok(left)
+    listed.retain(
+        |x: &GridEdge| -> bool
+            ensures { result ≡ not (same_edge x.now e) }
+        { !same_edge(*x, e) },
+    );
 }
 
 /// Those that reach this side of a cut.
@@ -334,16 +332,10 @@ impl Tree {
         Ok(Tree::Fork(Box::new(alloc, low)?, cut, Box::new(alloc, high)?))
     }
 
-    /// Lists a segment in each part that its box reaches, and parts those further that list too many. Where memory is
-    /// refused, some of them may list it.
-    pub fn put(
-        &mut self,
-        alloc: Global,
-        live: &Tally,
-        e: GridEdge,
-        depth: usize,
-    ) -> Result<(), AllocError>
-        ensures kept { KeepsListed live.now (listed_at self.old) (listed_at self.new) }
+    /// Lists a segment in each part that it reaches, and parts those further that list too many. Where memory is refused,
+    /// some of them may list it.
+    pub fn put(&mut self, alloc: Global, e: GridEdge, depth: usize) -> Result<(), AllocError>
+        ensures kept { KeepsListed (listed_at self.old) (listed_at self.new) }
         ensures listed { OnOk result (HasListed (listed_at self.new) e) }
     {
         match self {
@@ -352,20 +344,41 @@ impl Tree {
                     listed.push(e)?;
                     return Ok(());
                 }
-                let mut left = living(alloc, live, listed)?;
-                left.push(e)?;
-                *self = parted(alloc, left, *full)?;
+                let mut more = Vec::from_slice(alloc, listed)?;
+                more.push(e)?;
+                *self = parted(alloc, more, *full)?;
                 Ok(())
             }
             Tree::Fork(low, cut, high) => {
                 let deeper = depth.saturating_sub(1);
-                if reaches(*cut, e, true) {
-                    low.put(alloc, live, e, deeper)?;
+                let below = reaches(*cut, e, true);
+                let beyond = reaches(*cut, e, false);
+                if below {
+                    low.put(alloc, e, deeper)?;
                 }
-                if reaches(*cut, e, false) {
-                    high.put(alloc, live, e, deeper)?;
+                if beyond {
+                    high.put(alloc, e, deeper)?;
                 }
                 Ok(())
+            }
+        }
+    }
+
+    /// Takes a segment out of each part that it reaches.
+    pub fn take(&mut self, e: GridEdge)
+        ensures { KeepsOthers e (listed_at self.old) (listed_at self.new) }
+    {
+        match self {
+            Tree::Leaf(listed, _) => take_out(listed, e),
+            Tree::Fork(low, cut, high) => {
+                let below = reaches(*cut, e, true);
+                let beyond = reaches(*cut, e, false);
+                if below {
+                    low.take(e);
+                }
+                if beyond {
+                    high.take(e);
+                }
             }
         }
     }
@@ -378,12 +391,14 @@ impl Tree {
         match self {
             Tree::Leaf(listed, _) => in_part(live, listed, s),
             Tree::Fork(low, cut, high) => {
-                if reaches(*cut, s, true) {
+                let below = reaches(*cut, s, true);
+                let beyond = reaches(*cut, s, false);
+                if below {
                     if let Some(m) = low.find(live, s) {
                         return Some(m);
                     }
                 }
-                if reaches(*cut, s, false) {
+                if beyond {
                     return high.find(live, s);
                 }
                 None

@@ -1,8 +1,8 @@
 -- Live segments listed by the parts of the plane that they reach.
-use Rattle.std.specs.Prelude.{ℕ, ◌≡◌, ◌<◌, Bool, true, cond, not, ◌||◌, List, length, slice_index_or, ℤ, pos, ◌+ℤ◌, ◌*ℤ◌, ◌<ℤ◌, int_lt}
+use Rattle.std.specs.Prelude.{ℕ, ◌≡◌, ◌<◌, Bool, true, false, cond, not, ◌||◌, List, length, slice_index_or, ℤ, pos, ◌+ℤ◌, ◌*ℤ◌, ◌<ℤ◌, int_lt}
 use Rattle.mesh_plane.specs.Plane.{Point, Edge}
 use Rattle.mesh_cuts.specs.Counted.{Counted}
-use Rattle.mesh_cuts.specs.Split.{AreClear, Meets}
+use Rattle.mesh_cuts.specs.Split.{same_edge, AreClear, Meets}
 use Rattle.mesh_split.specs.declared.tree.Cut.{Cut}
 use Rattle.mesh_split.specs.declared.tree.Tree.{Tree, Leaf, Fork'}
 use Rattle.mesh_split.specs.Midway.Steps.{exactly}
@@ -46,9 +46,13 @@ KeepsThose P from left = (x : Edge) → P x → IsListed x from → IsListed x l
 abbrev pub HasListed : (Place → List Edge) → Edge → Type 0
 HasListed listed e = (c : Place) → IsAt e c → IsListed e (listed c)
 
--- each live segment is still listed at the places where it was
-abbrev pub KeepsListed : List Counted → (Place → List Edge) → (Place → List Edge) → Type 0
-KeepsListed live old new = (e : Edge) (c : Place) → pos 0 <ℤ exactly e live → IsAt e c → IsListed e (old c) → IsListed e (new c)
+-- each segment is still listed at the places where it was
+abbrev pub KeepsListed : (Place → List Edge) → (Place → List Edge) → Type 0
+KeepsListed old new = (e : Edge) (c : Place) → IsAt e c → IsListed e (old c) → IsListed e (new c)
+
+-- so is each other segment than this one
+abbrev pub KeepsOthers : Edge → (Place → List Edge) → (Place → List Edge) → Type 0
+KeepsOthers s old new = (e : Edge) (c : Place) → same_edge e s ≡ false → IsListed e (old c) → IsListed e (new c)
 
 -- each live segment is listed at each place that it reaches
 abbrev pub AreListed : (Place → List Edge) → List Counted → Type 0
