@@ -2,7 +2,6 @@
 use Rattle.std.proofs.Common.{◌≡◌, ℕ, ◌*◌, ◌-◌, ◌<◌, ◌≤◌, refl, sym, ap, ◌∙◌, subst, arith, [], ◌∷◌}
 use Rattle.std.specs.Prelude.{ℤ, pos, neg_ℤ, ◌+ℤ◌, ◌-ℤ◌, ◌*ℤ◌, ◌≤ℤ◌}
 use Rattle.std.proofs.lemmas.Int.{ints}
-use Rattle.mesh_plane.specs.Bounds.{IsSmall, IsWithin}
 use Rattle.mesh_plane.specs.Plane.{Point, plus, minus, opposite, cross, right_quarter}
 use Rattle.mesh_plane.proofs.Ring.{ring, var, lit, neg, ◌⊕◌, ◌⊖◌, cross_of}
 use Rattle.mesh_plane.proofs.Sizes.{length_opposite}
@@ -10,13 +9,8 @@ use Rattle.mesh_plane.proofs.Whole.{one_mul}
 use Rattle.mesh_grid.specs.Direction.{IsShort, IsFresh, scaled_direction}
 use Rattle.mesh_grid.proofs.Scaling.{scaled_direction_opposite}
 use Rattle.mesh_arc.specs.declared.arc.ArcDirection.TheVariants.{Clockwise, Counterclockwise}
-use Rattle.mesh_join.proofs.Joints.{safe_fits}
 use Rattle.mesh_join.specs.Joints.{Joint, IsTurn, contact}
 use Rattle.mesh_cap.specs.Ends.{IsEnd, half_turn}
-
--- what is as small as a safe coordinate lies in the range of its type
-pub small_within : (unit : ℕ) (z r : ℤ) → z ≡ r → IsSmall unit r → IsWithin (2 * unit) z
-small_within unit z r e s = rw e (safe_fits unit r s)
 
 -- the point to the left is the one to the right for the opposite direction
 left_is_right : (unit : ℕ) (radius : ℤ) (v n : Point) → 0 < unit

@@ -7,7 +7,7 @@ ghost use Rattle.mesh_join.specs.Appending.{Appends, HasRoomForEdges};
 ghost use Rattle.mesh_cap.specs.Caps.{CapKind, IsCapped};
 ghost use Rattle.mesh_cap.specs.CustomCaps.{custom_padding, custom_points, raised_root};
 
-use crate::end::{PathEnd, moved};
+use crate::end::PathEnd;
 use mesh_join::route::push_straight;
 use mesh_num::num::convert::widen;
 use mesh_num::num::{IntNumber, IntPoint};
@@ -61,7 +61,7 @@ pub(crate) fn add<I: IntNumber>(
 {
     let mut last = end.right;
     for point in points {
-        let next = moved(end.center, &end.outward.rotate(*point));
+        let next = end.center.moved(&end.outward.rotate(*point));
         push_straight(last, next, segments)?;
         last = next;
     }

@@ -1,10 +1,6 @@
 //! The ends of open paths.
 
-ghost use Rattle.std.specs.Prelude.{◌≡◌};
-ghost use Rattle.mesh_plane.specs.Bounds.{IsSafe};
-ghost use Rattle.mesh_plane.specs.Plane.{plus};
-
-use mesh_num::num::{IntNumber, IntPoint, IntVector, UnitIntVector};
+use mesh_num::num::{IntNumber, IntPoint, UnitIntVector};
 use std::marker::Model;
 
 /// The end of an open path, the points to its right and to its left, the direction in which the path ends there, the
@@ -29,14 +25,4 @@ impl<I: IntNumber> Model for PathEnd<I> {
     ghost view = { λ e. joint e.center e.right e.left e.outward e.inward (I.value e.radius) Counterclockwise };
 
     ghost invariant = { λ e. HaveLength I.unit e.outward e.inward };
-}
-
-/// A point moved by a vector, which has to be safe there.
-pub(crate) fn moved<I: IntNumber>(point: IntPoint<I>, along: &IntVector<I>) -> IntPoint<I>
-    requires { IsSafe I.unit (plus point along.now) }
-    ensures { result ≡ plus point along.now }
-{
-    let x = point.x.to_wide() + along.x;
-    let y = point.y.to_wide() + along.y;
-    IntPoint::new(I::from_wide(x), I::from_wide(y))
 }

@@ -6,7 +6,7 @@ ghost use Rattle.mesh_join.specs.Appending.{Appends, HasRoomForEdges};
 ghost use Rattle.mesh_cap.specs.Caps.{CapKind, IsCapped};
 ghost use Rattle.mesh_cap.specs.SquareCaps.{square_padding, square_points};
 
-use crate::end::{PathEnd, moved};
+use crate::end::PathEnd;
 use mesh_join::route::push_through_both;
 use mesh_num::num::IntNumber;
 use mesh_num::num::convert::widen;
@@ -36,8 +36,8 @@ pub(crate) fn add<I: IntNumber>(
     let outward = end.outward.scale(end.radius);
     push_through_both(
         end.right,
-        moved(end.right, &outward),
-        moved(end.left, &outward),
+        end.right.moved(&outward),
+        end.left.moved(&outward),
         end.left,
         segments,
     )

@@ -1,4 +1,5 @@
 pub mod Directed
+pub mod Moving
 pub mod Normalized
 pub mod Orders
 pub mod Parts

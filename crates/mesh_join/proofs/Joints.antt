@@ -3,7 +3,7 @@ use Rattle.std.proofs.Common.{◌≡◌, ℕ, ◌*◌, ◌<◌, ◌≤◌, Bool,
 use Rattle.std.specs.Prelude.{ℤ, pos, negsuc, ◌*ℤ◌, ◌≤ℤ◌, ◌&&◌, int_le, unsigned_abs}
 use Rattle.std.proofs.lemmas.Bool.{false≢true}
 use Rattle.std.proofs.lemmas.Int.{ints}
-use Rattle.mesh_plane.specs.Bounds.{IsSafe, IsWithin, IsSmall}
+use Rattle.mesh_plane.specs.Bounds.{IsSafe}
 use Rattle.mesh_plane.specs.Plane.{Point, plus, minus, right_quarter}
 use Rattle.mesh_plane.proofs.Whole.{one_mul}
 use Rattle.mesh_grid.specs.Rectangle.{IsSafeWidened}
@@ -27,13 +27,6 @@ moved_safe unit r c v s x y = record {
   x = record { low = omega (arith, ints, s.0.x.low, x); high = omega (arith, ints, s.1.x.high, x) };
   y = record { low = omega (arith, ints, s.0.y.low, y); high = omega (arith, ints, s.1.y.high, y) };
 }
-
-pub safe_fits : (unit : ℕ) (z : ℤ) → IsSmall unit z → IsWithin (2 * unit) z
-safe_fits unit z s = record { low = omega (arith, ints, s.low, s.high); high = omega (arith, ints, s.low, s.high) }
-
--- what is as small as a safe coordinate lies in the range of its type
-pub small_within : (unit : ℕ) (z r : ℤ) → z ≡ r → IsSmall unit r → IsWithin (2 * unit) z
-small_within unit z r e s = rw e (safe_fits unit r s)
 
 -- the test of the sense of a turn
 pub left_ahead : (t : ℤ) → int_le (pos 0) t ≡ int_le (pos 0) (pos 1 *ℤ t)

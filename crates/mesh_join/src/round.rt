@@ -1,8 +1,7 @@
 //! Round joins.
 
 ghost use Rattle.std.specs.Prelude.{◌≡◌, ◌≤◌, false, length, take, vec_capacity, OnOk, OnErr};
-ghost use Rattle.mesh_plane.specs.Bounds.{IsSafe};
-ghost use Rattle.mesh_plane.specs.Plane.{plus, minus};
+ghost use Rattle.mesh_plane.specs.Plane.{minus};
 ghost use Rattle.mesh_plane.specs.Winding.{route, same_point};
 ghost use Rattle.mesh_grid.specs.Direction.{IsFresh};
 ghost use Rattle.mesh_grid.specs.Directed.{direction_of};
@@ -17,7 +16,7 @@ use crate::joint::Joint;
 use crate::route::push_straight;
 use mesh_arc::arc::{ArcOptions, IntegerArc};
 use mesh_num::num::convert::wide_size;
-use mesh_num::num::{Angle, IntNumber, IntPoint, IntVector, UnitIntVector, WideNumber};
+use mesh_num::num::{Angle, IntNumber, IntPoint, UnitIntVector, WideNumber};
 use mesh_num::shape::segment::Segment;
 use std::alloc::{AllocError, Global};
 use std::marker::Model;
@@ -140,17 +139,7 @@ fn arc_point<I: IntNumber>(joint: &Joint<I>, direction: UnitIntVector<I>) -> Int
     requires { IsSafeWidened I.unit (round_padding joint.now.radius) joint.now.center }
     ensures { result ≡ arc_point_of I.unit joint.now direction }
 {
-    moved(joint.center, &direction.scale(joint.radius))
-}
-
-// A point moved by a vector.
-fn moved<I: IntNumber>(point: IntPoint<I>, along: &IntVector<I>) -> IntPoint<I>
-    requires { IsSafe I.unit (plus point along.now) }
-    ensures { result ≡ plus point along.now }
-{
-    let x = point.x.to_wide() + along.x;
-    let y = point.y.to_wide() + along.y;
-    IntPoint::new(I::from_wide(x), I::from_wide(y))
+    joint.center.moved(&direction.scale(joint.radius))
 }
 
 // The direction from a corner to a point.

@@ -108,17 +108,6 @@ fork_keeps cut low high low' high' k m e c reach l = by (c cut) l
     by true l = k e c reach l
     by false l = m e c reach l
 
-pub others_same : (s : Edge) (listed : Place → List Edge) → KeepsOthers s listed listed
-others_same s listed e c other l = l
-
-pub fork_keeps_others : (s : Edge) (cut : Cut) (low high low' high' : Place → List Edge) → KeepsOthers s low low' → KeepsOthers s high high'
-    → KeepsOthers s (λ c. cond (c cut) (low c) (high c)) (λ c. cond (c cut) (low' c) (high' c))
-fork_keeps_others s cut low high low' high' k m e c other l = by (c cut) l
-  where
-    by : (b : Bool) → IsListed e (cond b (low c) (high c)) → IsListed e (cond b (low' c) (high' c))
-    by true l = k e c other l
-    by false l = m e c other l
-
 pub fork_lists : (cut : Cut) (low high : Place → List Edge) (e : Edge) → (reaches cut e true ≡ true → HasListed low e) → (reaches cut e false ≡ true → HasListed high e)
     → HasListed (λ c. cond (c cut) (low c) (high c)) e
 fork_lists cut low high e l h c reach = at_place (λ (b : Bool). IsListed e (cond b (low c) (high c))) cut e c reach (λ t. l t c reach) (λ t. h t c reach)

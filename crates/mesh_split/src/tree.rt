@@ -1,6 +1,6 @@
-//! The plane in parts, by cuts along the axes and along long segments, finer where much is listed. Each segment is listed
-//! in the parts that it reaches, where those are sought that a segment may meet, until it is taken out. What a part
-//! lists counts only where it lives.
+//! The plane in parts, by cuts along the axes and along long segments, finer where much is listed. Each segment is
+//! listed in the parts that it reaches, where those are sought that a segment may meet, until it is taken out. What a
+//! part lists counts only where it lives.
 
 ghost use Rattle.std.specs.Prelude.{◌≡◌, ℕ, ◌^◌, ◌<◌, true, false, not, ℤ, pos, ◌*ℤ◌, ◌<ℤ◌, MatchOption};
 ghost use Rattle.std.specs.Prelude.{IfOk, OnOk};
@@ -332,8 +332,8 @@ impl Tree {
         Ok(Tree::Fork(Box::new(alloc, low)?, cut, Box::new(alloc, high)?))
     }
 
-    /// Lists a segment in each part that it reaches, and parts those further that list too many. Where memory is refused,
-    /// some of them may list it.
+    /// Lists a segment in each part that it reaches, and parts those further that list too many. Where memory is
+    /// refused, some of them may list it.
     pub fn put(&mut self, alloc: Global, e: GridEdge, depth: usize) -> Result<(), AllocError>
         ensures kept { KeepsListed (listed_at self.old) (listed_at self.new) }
         ensures listed { OnOk result (HasListed (listed_at self.new) e) }

@@ -3,7 +3,7 @@ use Rattle.std.proofs.Common.{◌≡◌, ◌≢◌, ℕ, ◌+◌, ◌*◌, ◌<�
 use Rattle.std.specs.Prelude.{ℤ, pos, ◌<ℤ◌, ◌||◌, unsigned_abs}
 use Rattle.std.proofs.lemmas.Bool.{true≢false}
 use Rattle.std.proofs.lemmas.Int.{ints}
-use Rattle.mesh_plane.specs.Bounds.{IsSafe, IsSmall, IsWithin}
+use Rattle.mesh_plane.specs.Bounds.{IsSafe}
 use Rattle.mesh_plane.specs.Plane.{Point, plus, minus, length_sq}
 use Rattle.mesh_plane.specs.Winding.{same_point}
 use Rattle.mesh_plane.proofs.Comparing.{decides_point}
@@ -16,7 +16,6 @@ use Rattle.mesh_grid.proofs.Scaling.{short_bounded}
 use Rattle.mesh_arc.specs.Arcs.{arc, clamped}
 use Rattle.mesh_arc.specs.declared.arc.ArcDirection.TheVariants.{Counterclockwise}
 use Rattle.mesh_arc.specs.declared.arc.ArcOptions.{ArcOptions}
-use Rattle.mesh_join.proofs.Joints.{safe_fits}
 use Rattle.mesh_join.specs.Midway.RoundJoins.{IsApart}
 use Rattle.mesh_sweep.specs.Sweeps.{distance, bearing, point_round, polyline_points, east_of, west_of, is_central}
 use Rattle.mesh_sweep.specs.Sweeps.{IsSwept}
@@ -39,18 +38,6 @@ distance_most p q r h =
     omega arith
 
 -- ---- what is safe
-
--- what is as small as a safe coordinate lies in the range of its type
-pub small_within : (unit : ℕ) (z r : ℤ) → z ≡ r → IsSmall unit r → IsWithin (2 * unit) z
-small_within unit z r e s = rw e (safe_fits unit r s)
-
--- a point moved by no more than the padding of a center that stays safe is safe
-pub moved_safe : (unit : ℕ) (r : ℤ) (c v : Point) → IsSafeWidened unit (pos (unsigned_abs r)) c → unsigned_abs v.0 ≤ unsigned_abs r
-    → unsigned_abs v.1 ≤ unsigned_abs r → IsSafe unit (plus c v)
-moved_safe unit r c v s x y = record {
-  x = record { low = omega (arith, ints, s.0.x.low, x); high = omega (arith, ints, s.1.x.high, x) };
-  y = record { low = omega (arith, ints, s.0.y.low, y); high = omega (arith, ints, s.1.y.high, y) };
-}
 
 -- the vector between safe points is short
 safe_difference : (unit : ℕ) (p q : Point) → IsSafe unit p → IsSafe unit q → IsSafe (2 * unit) (minus p q)

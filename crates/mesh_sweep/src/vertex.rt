@@ -2,7 +2,7 @@
 
 ghost use Rattle.std.specs.Prelude.{◌≡◌, ◌*◌, ◌<◌, pos};
 ghost use Rattle.mesh_plane.specs.Bounds.{IsSafe};
-ghost use Rattle.mesh_plane.specs.Plane.{plus, minus};
+ghost use Rattle.mesh_plane.specs.Plane.{minus};
 ghost use Rattle.mesh_plane.specs.Winding.{same_point};
 ghost use Rattle.mesh_grid.specs.Direction.{IsFresh, IsShort};
 ghost use Rattle.mesh_grid.specs.Rectangle.{IsSafeWidened};
@@ -31,17 +31,7 @@ pub(crate) fn point_round<I: IntNumber>(
     requires { IsSafeWidened I.unit (round_padding (I.value radius)) center }
     ensures { result ≡ point_round_of I.unit center (I.value radius) direction }
 {
-    moved(center, &direction.scale(radius))
-}
-
-// A point moved by a vector.
-fn moved<I: IntNumber>(point: IntPoint<I>, along: &IntVector<I>) -> IntPoint<I>
-    requires { IsSafe I.unit (plus point along.now) }
-    ensures { result ≡ plus point along.now }
-{
-    let x = point.x.to_wide() + along.x;
-    let y = point.y.to_wide() + along.y;
-    IntPoint::new(I::from_wide(x), I::from_wide(y))
+    center.moved(&direction.scale(radius))
 }
 
 /// The point of a circle to the east of its center.

@@ -3,7 +3,7 @@ use Rattle.std.proofs.Common.{◌≡◌, ℕ, ◌+◌, ◌*◌, ◌<◌, ◌≤�
 use Rattle.std.specs.Prelude.{ℤ, Bool, pos, true, false, ◌-ℤ◌, leb, int_le, ◌&&◌, ◌||◌, unsigned_abs}
 use Rattle.std.proofs.lemmas.Bool.Decides.{leb_tells, Decides-and, Decides-int_eq}
 use Rattle.std.proofs.lemmas.Int.{ints}
-use Rattle.mesh_plane.specs.Bounds.{IsSafe, IsSmall, IsWithin}
+use Rattle.mesh_plane.specs.Bounds.{IsSafe}
 use Rattle.mesh_plane.specs.Plane.{Point, plus, minus, length_sq}
 use Rattle.mesh_plane.specs.Winding.{same_point}
 use Rattle.mesh_tangent.specs.Tangents.{IsWithinRadius}
@@ -26,11 +26,6 @@ safe_apart unit p q s t = record {
   x = record { low = omega (arith, ints, s.x.low, t.x.high); high = omega (arith, ints, s.x.high, t.x.low) };
   y = record { low = omega (arith, ints, s.y.low, t.y.high); high = omega (arith, ints, s.y.high, t.y.low) };
 }
-
--- what is as small as a safe coordinate lies in the range of its type
-pub small_within : (unit : ℕ) (z r : ℤ) → z ≡ r → IsSmall unit r → IsWithin (2 * unit) z
-small_within unit z r e s =
-    record { low = omega (arith, ints, e, s.low); high = omega (arith, ints, e, s.high) }
 
 -- the vector from a center to the other
 pub centers_apart : (unit : ℕ) (a b : Circle) → IsSafeCircle unit a → IsSafeCircle unit b →

@@ -144,15 +144,5 @@ fn contact<I: IntNumber>(circle: Circle<I>, offset: &IntVector<I>) -> IntPoint<I
     ensures contact { IsContact circle result }
     ensures safe { IsSafe I.unit result }
 {
-    moved(circle.center, offset)
-}
-
-// A point moved by a vector, which has to be safe.
-fn moved<I: IntNumber>(point: IntPoint<I>, vector: &IntVector<I>) -> IntPoint<I>
-    requires { IsSafe I.unit (plus point vector.now) }
-    ensures { result ≡ plus point vector.now }
-{
-    let x = point.x.to_wide() + vector.x;
-    let y = point.y.to_wide() + vector.y;
-    IntPoint::new(I::from_wide(x), I::from_wide(y))
+    circle.center.moved(offset)
 }

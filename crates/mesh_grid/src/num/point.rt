@@ -1,7 +1,7 @@
 //! Points of the grid and vectors between them.
 
 ghost use Rattle.std.specs.Prelude.{◌≡◌, ℕ, ◌+◌, ◌*◌, ℤ, ◌-ℤ◌};
-ghost use Rattle.mesh_plane.specs.Plane.{minus, cross, dot, length_sq};
+ghost use Rattle.mesh_plane.specs.Plane.{plus, minus, cross, dot, length_sq};
 ghost use Rattle.mesh_plane.specs.Bounds.{IsSafe};
 
 use crate::num::exact::square_sum;
@@ -47,6 +47,16 @@ impl<I: IntNumber> IntPoint<I> {
         ensures { result ≡ (I.value x, I.value y) }
     {
         IntPoint { x, y }
+    }
+
+    /// The point moved by a vector, where that is safe: both coordinates stay below `UNIT` in size.
+    pub fn moved(self, along: &IntVector<I>) -> Self
+        requires { IsSafe I.unit (plus self along.now) }
+        ensures { result ≡ plus self along.now }
+    {
+        let x = self.x.to_wide() + along.x;
+        let y = self.y.to_wide() + along.y;
+        IntPoint::new(I::from_wide(x), I::from_wide(y))
     }
 }
 

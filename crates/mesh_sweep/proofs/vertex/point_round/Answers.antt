@@ -1,6 +1,6 @@
 use Rattle.std.proofs.Common.{◌∙◌, ap}
 use Rattle.mesh_plane.specs.Plane.{plus}
-use Rattle.mesh_sweep.proofs.Swept.{moved_safe}
+use Rattle.mesh_join.proofs.Joints.{moved_safe}
 use Rattle.mesh_sweep.proofs.vertex.point_round.Goals as goal
 
 pub moved-requires : goal.moved-requires

@@ -1,7 +1,7 @@
 -- The difference is a coordinate of a safe point.
 use Rattle.std.proofs.Common.{◌∙◌}
 use Rattle.std.specs.Prelude.{◌-ℤ◌}
-use Rattle.mesh_sweep.proofs.Swept.{small_within}
+use Rattle.mesh_grid.proofs.Moving.{small_within}
 use Rattle.mesh_sweep.proofs.vertex.west_of.Goals as goal
 
 pub from_wide-requires : goal.from_wide-requires
