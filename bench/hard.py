@@ -5,8 +5,8 @@
 
 One process answers one request; the best of five is taken. Some contours take hundreds of thousands of splits in an
 unlucky order and few in another, some take many in every order that was tried. A program doesn't tell how many splits
-it made. So each time is also held against that of four points that take about 2,000 splits in any order, with the time
-of a process that splits nothing taken off both. Ends with the status 1 where a contour wasn't answered.
+it made. So each time is also held against that of four points whose segments are cut about 2,000 times in any order,
+with the time of a process that splits nothing taken off both. Ends with the status 1 where a contour wasn't answered.
 """
 import argparse
 import json
@@ -63,11 +63,11 @@ CONTOURS = [
 
 
 def four_points(size):
-    """Four points near one line, whose crossing moves along it step by step: 3 * size - 20 splits in every order."""
+    """Four points near one line, whose crossing moves along it step by step: 3 * size - 20 cuts in every order."""
     return [(size + 2, 2 * size + 1), (2, 0), (size + 1, 2 * size), (1, -2)]
 
 
-MEASURE = ("four points, n = 673", "1,999 in every order", four_points(673))
+MEASURE = ("four points, n = 673", "1,999 cuts in every order", four_points(673))
 
 
 def best_run(command, contour, limit):
@@ -86,7 +86,7 @@ def best_run(command, contour, limit):
 
 
 def row(name, splits, contour, done, measure):
-    """The row of a contour; `measure` is the time of 1,999 splits, and of none, in seconds."""
+    """The row of a contour; `measure` is the time of 1,999 cuts, and of none, in seconds."""
     cells = [name, str(len(contour)), splits]
     if done.status != 0:
         state = "stopped" if done.status is None else f"status {done.status}"
@@ -103,14 +103,14 @@ def main():
     parser.add_argument("--limit", type=seconds_above_zero, default=60, metavar="SECONDS", help="of one process")
     words = parser.parse_args()
     cases = [("triangle", "none", TRIANGLE), MEASURE, *CONTOURS]
-    cases.append(("four points, n = 3000", "8,980 in every order", four_points(3000)))
+    cases.append(("four points, n = 3000", "8,980 cuts in every order", four_points(3000)))
     runs = []
     for name, _, contour in cases:
         done = best_run(words.program, contour, words.limit)
         runs.append(done)
         tell(f"{name}: status {done.status}, {done.seconds:.4f} s")
     measure = (runs[1].seconds, runs[0].seconds)
-    print("| contour | points | splits | seconds | times 1,999 splits | MB | vertices of the outline |")
+    print("| contour | points | splits | seconds | times 1,999 cuts | MB | vertices of the outline |")
     print("|---|---|---|---|---|---|---|")
     for (name, splits, contour), done in zip(cases, runs):
         print(f"| {' | '.join(row(name, splits, contour, done, measure))} |")
