@@ -5,26 +5,13 @@ use Rattle.std.proofs.lemmas.Bool.{and_parts, and_from}
 use Rattle.std.proofs.lemmas.Int.{ints, by_lt_z}
 use Rattle.mesh_plane.specs.Plane.{Point, cross, dot, length_sq}
 use Rattle.mesh_plane.proofs.Ring.{ring, var, neg, ◌⊕◌, ◌⊗◌, cross_of, dot_of}
+use Rattle.mesh_plane.proofs.Comparing.{less_test, at_most_test, test_less, test_at_most}
 use Rattle.mesh_plane.proofs.Identities.{lagrange}
 use Rattle.mesh_plane.proofs.Sizes.{dot_self}
 use Rattle.mesh_plane.proofs.Whole.{linear, add_mul, mul_assoc, mul_left_comm, mul_nonneg, mul_pos, mul_le_mul_left, le_of_mul_le_mul, nonneg_of_mul, square_nonneg, factor}
 use Rattle.mesh_arc.specs.Arcs.{sense_of, ahead, is_within, is_good, is_passed}
 use Rattle.mesh_arc.specs.declared.arc.ArcDirection.{ArcDirection}
 use Rattle.mesh_arc.specs.declared.arc.ArcDirection.TheVariants.{Clockwise, Counterclockwise}
-
--- ---- tests as facts
-
-pub le_test : (a b : ℤ) → a ≤ℤ b → int_le a b ≡ true
-le_test a b h = grind (arith, ints)
-
-pub lt_test : (a b : ℤ) → a <ℤ b → int_lt a b ≡ true
-lt_test a b h = grind (arith, ints)
-
-pub test_le : (a b : ℤ) → int_le a b ≡ true → a ≤ℤ b
-test_le a b h = grind (arith, ints)
-
-pub test_lt : (a b : ℤ) → int_lt a b ≡ true → a <ℤ b
-test_lt a b h = grind (arith, ints)
 
 -- `w` lies ahead of `v` by at most the angle with the sine and cosine of the bound
 pub record IsNear (sense : ArcDirection) (bound v w : Point) : Type 0 where
@@ -37,8 +24,8 @@ within_from sense bound v w h =
     let a = ahead sense v w in
     let d = dot v w in
     and_from (int_le (pos 0) a) (int_lt (pos 0) d && int_le (a *ℤ bound.1) (d *ℤ bound.0))
-    (le_test (pos 0) a h.onward)
-    (and_from (int_lt (pos 0) d) (int_le (a *ℤ bound.1) (d *ℤ bound.0)) (lt_test (pos 0) d h.same_way) (le_test (a *ℤ bound.1) (d *ℤ bound.0) h.small))
+    (at_most_test (pos 0) a h.onward)
+    (and_from (int_lt (pos 0) d) (int_le (a *ℤ bound.1) (d *ℤ bound.0)) (less_test (pos 0) d h.same_way) (at_most_test (a *ℤ bound.1) (d *ℤ bound.0) h.small))
 
 pub within_parts : (sense : ArcDirection) (bound v w : Point) → is_within sense bound v w ≡ true → IsNear sense bound v w
 within_parts sense bound v w h =
@@ -46,16 +33,16 @@ within_parts sense bound v w h =
     let d = dot v w in
     let p = and_parts (int_le (pos 0) a) (int_lt (pos 0) d && int_le (a *ℤ bound.1) (d *ℤ bound.0)) h in
     let q = and_parts (int_lt (pos 0) d) (int_le (a *ℤ bound.1) (d *ℤ bound.0)) p.1 in
-    record { onward = test_le (pos 0) a p.0; same_way = test_lt (pos 0) d q.0; small = test_le (a *ℤ bound.1) (d *ℤ bound.0) q.1 }
+    record { onward = test_at_most (pos 0) a p.0; same_way = test_less (pos 0) d q.0; small = test_at_most (a *ℤ bound.1) (d *ℤ bound.0) q.1 }
 
 pub good_from : (sense : ArcDirection) (bound v w : Point) → IsNear sense bound v w → pos 0 <ℤ ahead sense v w → is_good sense bound v w ≡ true
 good_from sense bound v w h l =
-    and_from (is_within sense bound v w) (int_lt (pos 0) (ahead sense v w)) (within_from sense bound v w h) (lt_test (pos 0) (ahead sense v w) l)
+    and_from (is_within sense bound v w) (int_lt (pos 0) (ahead sense v w)) (within_from sense bound v w h) (less_test (pos 0) (ahead sense v w) l)
 
 pub good_parts : (sense : ArcDirection) (bound v w : Point) → is_good sense bound v w ≡ true → IsNear sense bound v w × (pos 0 <ℤ ahead sense v w)
 good_parts sense bound v w h =
     let p = and_parts (is_within sense bound v w) (int_lt (pos 0) (ahead sense v w)) h in
-    (within_parts sense bound v w p.0, test_lt (pos 0) (ahead sense v w) p.1)
+    (within_parts sense bound v w p.0, test_less (pos 0) (ahead sense v w) p.1)
 
 pub good_within : (sense : ArcDirection) (bound v w : Point) → is_good sense bound v w ≡ true → is_within sense bound v w ≡ true
 good_within sense bound v w h = (and_parts (is_within sense bound v w) (int_lt (pos 0) (ahead sense v w)) h).0
@@ -67,7 +54,7 @@ passed_parts sense end v w h =
     let b = ahead sense w end in
     let p = and_parts (int_le (pos 0) a) (int_le (pos 0) d && int_le b (pos 0)) h in
     let q = and_parts (int_le (pos 0) d) (int_le b (pos 0)) p.1 in
-    (test_le (pos 0) a p.0, test_le b (pos 0) q.1)
+    (test_at_most (pos 0) a p.0, test_at_most b (pos 0) q.1)
 
 -- ---- the core, over plain numbers: `x` to the next step, `y` to the end, `z` from the end to the next step
 

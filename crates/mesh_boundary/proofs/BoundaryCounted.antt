@@ -8,7 +8,7 @@ use Rattle.std.proofs.lemmas.Bool.{cases_Bool, both_ways}
 use Rattle.std.proofs.lemmas.List.Sums.{sum_by-append}
 use Rattle.mesh_plane.specs.Plane.{Point, Edge}
 use Rattle.mesh_plane.specs.Winding.{sum_of, same_point, crossing_on, winding}
-use Rattle.mesh_plane.proofs.Whole.{linear, add_mul, mul_add, mul_assoc, mul_one}
+use Rattle.mesh_plane.proofs.Whole.{linear, add_mul, mul_add, mul_assoc, mul_zero, mul_one}
 use Rattle.mesh_cuts.specs.Clean.{IsProper}
 use Rattle.mesh_cuts.specs.Split.{back, same_edge, same_ends, occurs}
 use Rattle.mesh_cuts.specs.Counted.{Counted, bit, along, net, counted_net, times, IsCountOf}
@@ -38,9 +38,6 @@ stands_each (k ∷ ks) = (
   each_more (λ (j : Counted). pos 1 ≤ℤ times j.0 ks) (λ (j : Counted). pos 1 ≤ℤ times j.0 (k ∷ ks)) (λ (j : Counted) (h : pos 1 ≤ℤ times j.0 ks). omega (arith, ints, times_grow j.0 k ks)) ks (stands_each ks),
 )
 
-times_zero : (n : ℤ) → n *ℤ pos 0 ≡ pos 0
-times_zero n = omega (arith, ints)
-
 -- where no segment stands twice and none is a point, each has its own count
 abbrev Own : List Counted → Counted → Type 0
 Own ks k = (pos 1 ≤ℤ times k.0 ks) × (counted_net k.0 ks ≡ k.1)
@@ -51,7 +48,7 @@ own_later k ks once j h =
   where
     by : (b : Bool) → same_ends j.0 k.0 ≡ b → counted_net j.0 (k ∷ ks) ≡ j.1
     by true t = absurd (omega (arith, ints, ap bit t, h.0, once j.0))
-    by false f = omega (arith, linear, ap (λ (z : ℤ). k.1 *ℤ z) (not_along j.0 k.0 f), times_zero k.1, h.1)
+    by false f = omega (arith, linear, ap (λ (z : ℤ). k.1 *ℤ z) (not_along j.0 k.0 f), mul_zero k.1, h.1)
 
 own_each : (ks : List Counted) → ((q : Edge) → times q ks ≤ℤ pos 1) → Each (λ (k : Counted). same_point k.0.0 k.0.1 ≡ false) ks → Each (Own ks) ks
 own_each [] once proper = tt
@@ -95,7 +92,7 @@ counted_segments es ks proper is =
 -- ---- a sum over counted segments
 counted_split : (f : Edge → ℤ) (k : Counted) (ks : List Counted) (rs : List Edge) →
     sum_of (λ (s : Edge). counted_net s (k ∷ ks) *ℤ f s) rs ≡ (k.1 *ℤ sum_of (λ (s : Edge). along s k.0 *ℤ f s) rs) +ℤ sum_of (λ (s : Edge). counted_net s ks *ℤ f s) rs
-counted_split f k ks [] = omega (arith, linear, times_zero k.1)
+counted_split f k ks [] = omega (arith, linear, mul_zero k.1)
 counted_split f k ks (s ∷ rs) =
     omega (
       arith,

@@ -10,6 +10,7 @@ use Rattle.std.proofs.lemmas.List.Elements.{filter-append}
 use Rattle.std.proofs.Math.Seq.{take-suc}
 use Rattle.mesh_plane.specs.Plane.{Point, Edge, turn}
 use Rattle.mesh_plane.specs.Winding.{sum_of, crossing_of, crossing_on, refined}
+use Rattle.mesh_plane.proofs.Comparing.{not_less_test, above_test}
 use Rattle.mesh_plane.proofs.Whole.{linear, mul_zero}
 use Rattle.mesh_plane.proofs.Sums.{sum_of_filter}
 use Rattle.mesh_cuts.specs.declared.places.Mark.{Mark}
@@ -20,18 +21,12 @@ use Rattle.mesh_boundary.specs.Midway.CountedSides.{counted_winding}
 use Rattle.mesh_boundary.specs.Midway.Rows.{first_row, last_row, reaches, AreRows}
 use Rattle.mesh_boundary.proofs.SidesCode.{size_least}
 
-test_le : (a b : ℤ) → b <ℤ a → int_le a b ≡ false
-test_le a b h = grind (arith, ints)
-
-test_lt : (a b : ℤ) → b ≤ℤ a → int_lt a b ≡ false
-test_lt a b h = grind (arith, ints)
-
 -- an edge that lies above a height, or below it, does not cross a ray at it
 above_none : (a b h t : ℤ) → h <ℤ a → h <ℤ b → crossing_of a b h t ≡ pos 0
-above_none a b h t p q = rw (test_le a h p, test_le b h q) refl
+above_none a b h t p q = rw (above_test a h p, above_test b h q) refl
 
 below_none : (a b h t : ℤ) → a <ℤ h → b <ℤ h → crossing_of a b h t ≡ pos 0
-below_none a b h t p q = by (int_le a h) (int_le b h) (int_lt h b) (int_lt h a) (test_lt h b (omega (arith, ints))) (test_lt h a (omega (arith, ints)))
+below_none a b h t p q = by (int_le a h) (int_le b h) (int_lt h b) (int_lt h a) (not_less_test h b (omega (arith, ints))) (not_less_test h a (omega (arith, ints)))
   where
     by : (u v w x : Bool) → w ≡ false → x ≡ false → cond (u && w) (cond (int_lt (pos 0) t) (pos 1) (pos 0)) (cond (v && x) (cond (int_lt t (pos 0)) (negsuc 0) (pos 0)) (pos 0)) ≡ pos 0
     by u v w x p q = rw (p, q) (both u v)

@@ -6,12 +6,9 @@ use mir.Syntax.{w128}
 use mir.Val.{SFits, to_z, of_z}
 use Rattle.mesh_plane.specs.Bounds.{IsSmall}
 use Rattle.mesh_plane.specs.Winding.{sum_of}
-use Rattle.mesh_plane.proofs.Whole.{mul_one, mul_neg}
+use Rattle.mesh_plane.proofs.Whole.{mul_zero, mul_one, mul_neg}
 use Rattle.mesh_cuts.specs.Counted.{Counted}
 use Rattle.mesh_cuts.specs.Counted.{size}
-
-times_zero : (n : ℤ) → n *ℤ pos 0 ≡ pos 0
-times_zero n = omega (arith, ints)
 
 pub times_up : (n d : ℤ) → IsSmall 2 d → pos 0 <ℤ d → n ≡ n *ℤ d
 times_up n d s h =
@@ -26,7 +23,7 @@ times_down n d s h =
 pub times_none : (n d : ℤ) → d ≤ℤ pos 0 → pos 0 ≤ℤ d → pos 0 ≡ n *ℤ d
 times_none n d h k =
     let e : d ≡ pos 0 = omega (arith, ints) in
-    sym (ap (λ (z : ℤ). n *ℤ z) e ∙ times_zero n)
+    sym (ap (λ (z : ℤ). n *ℤ z) e ∙ mul_zero n)
 
 -- ---- sums over the first of a list
 

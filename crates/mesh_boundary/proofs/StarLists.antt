@@ -1,11 +1,11 @@
 -- Lemmas over points and lists: segments listed by their ends, and sums over the star of a point.
-use Rattle.std.proofs.Common.{◌≡◌, ℕ, ◌+◌, ◌<◌, ⊎_elim, true, false, cond, ◌&&◌, List, [], ◌∷◌, ◌++◌, length, take, get_or, zero, suc, sym, ◌∙◌, ap, subst, arith}
+use Rattle.std.proofs.Common.{◌≡◌, ℕ, ◌+◌, ◌<◌, ⊎_elim, true, false, cond, ◌&&◌, List, [], ◌∷◌, ◌++◌, length, take, get_or, sym, ◌∙◌, ap, subst, arith}
 use Rattle.std.specs.Prelude.{ℤ, pos, neg_ℤ, ◌+ℤ◌, ◌-ℤ◌, ◌*ℤ◌, nat_eq, Vec}
 use Rattle.std.specs.declared.alloc.Global.{Global}
 use Rattle.std.specs.List.{All, filter}
 use Rattle.std.proofs.lemmas.Bool.{cases_Bool, both_ways, or_parts}
 use Rattle.std.proofs.lemmas.Bool.Decides.{nat_tests}
-use Rattle.std.proofs.lemmas.List.Elements.{All-filter}
+use Rattle.std.proofs.lemmas.List.Elements.{All-filter, All-from_recursion}
 use Rattle.mesh_plane.specs.Plane.{Point, Edge}
 use Rattle.mesh_plane.specs.Winding.{same_point}
 use Rattle.mesh_plane.proofs.Comparing.{decides_point}
@@ -16,7 +16,6 @@ use Rattle.mesh_cuts.specs.Counted.{Counted, bit, IsCountOf}
 use Rattle.mesh_cuts.specs.Lists.{list_at}
 use Rattle.mesh_cuts.specs.Marks.{place, AreRising}
 use Rattle.mesh_cuts.specs.Split.{back}
-use Rattle.mesh_cuts.proofs.Each.{Each}
 use Rattle.mesh_cuts.proofs.PlacesAmong.{place_most}
 use Rattle.mesh_sides.specs.Laws.{AreSplit}
 use Rattle.mesh_sides.specs.Star.{comes_before, leaves_before, net_before}
@@ -71,11 +70,6 @@ off_star ms s k h =
     (λ i. k.1 *ℤ (bit (off_place ms s.0 k.0.0 apart.0 i && comes_before k.0 s) -ℤ bit (off_place ms s.0 k.0.1 apart.1 i && comes_before (back k.0) s)))
     ∙ mul_zero k.1
 
-each_all : {A : Type 0} (P : A → Type 0) (xs : List A) → Each P xs → All P xs
-each_all P [] h k d l = absurd (omega arith)
-each_all P (x ∷ xs) h zero d l = h.0
-each_all P (x ∷ xs) h (suc k) d l = each_all P xs h.1 k d (omega arith)
-
 -- lists of segments that count split edges have the stars of these
 pub have_stars : (es : List Edge) (ks : List Counted) (ms : List Mark) (lists : List (Vec Counted Global)) → AreStars ms lists ks → IsCountOf es ks → AreSplit es → HaveStars es ms lists
 have_stars es ks ms lists stars is split = record {
@@ -86,7 +80,7 @@ have_stars es ks ms lists stars is split = record {
 }
   where
     all : All (IsSegment es) ks
-    all = each_all (IsSegment es) ks (counted_segments es ks split.proper is)
+    all = All-from_recursion (IsSegment es) ks (counted_segments es ks split.proper is)
 
     odd : (s e : Edge) → step s (back e) ≡ neg_ℤ (step s e)
     odd s e = omega (arith, linear)
@@ -98,4 +92,4 @@ have_stars es ks ms lists stars is split = record {
 
 -- a segment that counts split edges stands among them, with its net count
 pub segment_at : (es : List Edge) (ks : List Counted) (i : ℕ) (d : Counted) → IsCountOf es ks → AreSplit es → i < length ks → IsSegment es (get_or ks i d)
-segment_at es ks i d is split h = each_all (IsSegment es) ks (counted_segments es ks split.proper is) i d h
+segment_at es ks i d is split h = All-from_recursion (IsSegment es) ks (counted_segments es ks split.proper is) i d h

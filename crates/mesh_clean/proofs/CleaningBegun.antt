@@ -6,7 +6,8 @@ use Rattle.mesh_plane.specs.Plane.{Point}
 use Rattle.mesh_plane.specs.Winding.{same_point}
 use Rattle.mesh_clean.specs.Cleaned.{changes_from, without_repeats, ring, kept_between, kept_inside, kept_round, last_of, last_first, begun, cleaned_points, AllEqual}
 use Rattle.mesh_clean.specs.Laws.{BeginsAt, first_or}
-use Rattle.mesh_clean.proofs.CleaningVectors.{same_point-eq, SameWay, SameWay-self}
+use Rattle.mesh_plane.proofs.Comparing.{decides_point}
+use Rattle.mesh_clean.proofs.CleaningVectors.{SameWay, SameWay-self}
 use Rattle.mesh_clean.proofs.CleaningPass.{changes_from-same, changes_from-apart}
 use Rattle.mesh_clean.proofs.CleaningLoop.{without_end-cons}
 use Rattle.mesh_clean.proofs.CleaningStart.{Turned, Found, none_inside, first_inside, around, around-on}
@@ -37,7 +38,7 @@ begins q (p ∷ ps) n = by (cases_Bool (same_point q p)) (begins q ps)
   where
     by : (same_point q p ≡ true) ⊎ (same_point q p ≡ false) → ((AllEqual (q ∷ ps) → ⊥) → begun_from q (changes_from q ps)) → begun_from q (changes_from q (p ∷ ps))
     by (inl e) ih =
-        subst (begun_from q) (sym (changes_from-same q p ps e)) (ih (λ h. n (All-cons (λ (p : Point). p ≡ q) p ps (sym (same_point-eq q p e)) h)))
+        subst (begun_from q) (sym (changes_from-same q p ps e)) (ih (λ h. n (All-cons (λ (p : Point). p ≡ q) p ps (sym ((decides_point q p).0 e)) h)))
     by (inr e) ih =
         let inside = kept_between q p (changes_from p ps) in
         let here = subst (λ (ws : List Point). BeginsAt (first_or q inside) (begun inside (kept_round (q ∷ ws)))) (sym (without_end-cons q p (changes_from p ps) e)) (begun_apart q p ps e) in

@@ -4,7 +4,7 @@ use Rattle.std.proofs.lemmas.Bool.{cases_Bool, cond-true, cond-false}
 use Rattle.mesh_plane.specs.Plane.{Point}
 use Rattle.mesh_plane.specs.Winding.{same_point}
 use Rattle.mesh_clean.specs.Cleaned.{is_kept, changes_from, without_end, kept_between, last_of}
-use Rattle.mesh_clean.proofs.CleaningVectors.{same_point-eq, same_point-swap}
+use Rattle.mesh_plane.proofs.Comparing.{decides_point, points_swap}
 use Rattle.mesh_clean.proofs.CleaningPass.{changes_from-same, changes_from-apart}
 
 -- ---- lists
@@ -25,13 +25,13 @@ closing q x [] rest = elim (cases_Bool (same_point q x)) [ inl e ↦ repeated e 
     repeated : same_point q x ≡ true → without_end q (x ∷ []) ++ q ∷ changes_from q rest ≡ x ∷ changes_from x (q ∷ rest)
     repeated e =
         ap (λ ws. ws ++ q ∷ changes_from q rest) (cond-true (same_point q x) [] (x ∷ []) e)
-        ∙ ap (λ y. y ∷ changes_from y rest) (same_point-eq q x e)
-        ∙ ap (λ ws. x ∷ ws) (sym (changes_from-same x q rest (same_point-swap q x ∙ e)))
+        ∙ ap (λ y. y ∷ changes_from y rest) ((decides_point q x).0 e)
+        ∙ ap (λ ws. x ∷ ws) (sym (changes_from-same x q rest (points_swap q x ∙ e)))
 
     apart : same_point q x ≡ false → without_end q (x ∷ []) ++ q ∷ changes_from q rest ≡ x ∷ changes_from x (q ∷ rest)
     apart e =
         ap (λ ws. ws ++ q ∷ changes_from q rest) (cond-false (same_point q x) [] (x ∷ []) e)
-        ∙ ap (λ ws. x ∷ ws) (sym (changes_from-apart x q rest (same_point-swap q x ∙ e)))
+        ∙ ap (λ ws. x ∷ ws) (sym (changes_from-apart x q rest (points_swap q x ∙ e)))
 closing q x (z ∷ zs) rest = elim (cases_Bool (same_point x z)) [ inl e ↦ repeated e (closing q x zs rest) | inr e ↦ apart e (closing q z zs rest) ]
   where
     repeated : same_point x z ≡ true → without_end q (x ∷ changes_from x zs) ++ q ∷ changes_from q rest ≡ x ∷ changes_from x (zs ++ q ∷ rest)

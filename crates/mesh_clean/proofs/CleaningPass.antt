@@ -4,7 +4,8 @@ use Rattle.std.proofs.lemmas.Bool.{cases_Bool, cond-true, cond-false}
 use Rattle.mesh_plane.specs.Plane.{Point, Edge}
 use Rattle.mesh_plane.specs.Winding.{route, same_point}
 use Rattle.mesh_clean.specs.Cleaned.{is_kept, changes_from, kept_between, last_of, sections_between, open_sections}
-use Rattle.mesh_clean.proofs.CleaningVectors.{same_point-eq, SameWay, SameWay-straight, SameWay-self, SameWay-apart, judged, is_kept-from_self, is_kept-to_self}
+use Rattle.mesh_plane.proofs.Comparing.{decides_point}
+use Rattle.mesh_clean.proofs.CleaningVectors.{SameWay, SameWay-straight, SameWay-self, SameWay-apart, judged, is_kept-from_self, is_kept-to_self}
 
 -- ---- the definitions, case by case
 
@@ -35,7 +36,7 @@ passed-on a p z zs e = cond-false (is_kept a p z) ((a, p) ∷ passed p z zs) (pa
 
 pub passed-same : (a p z : Point) (zs : List Point) → same_point p z ≡ true → passed a p (z ∷ zs) ≡ passed a p zs
 passed-same a p z zs e =
-    let same : p ≡ z = same_point-eq p z e in
+    let same : p ≡ z = (decides_point p z).0 e in
     let on : is_kept a p z ≡ false = subst (λ q. is_kept a p q ≡ false) same (is_kept-to_self a p) in
     passed-on a p z zs on ∙ ap (λ q. passed a q zs) (sym same)
 
@@ -78,6 +79,6 @@ passed-open p q (z ∷ zs) = elim (cases_Bool (same_point p q)) [
   where
     repeated : same_point p q ≡ true → passed p z zs ≡ open_sections (p ∷ z ∷ zs) → passed p q (z ∷ zs) ≡ open_sections (p ∷ q ∷ z ∷ zs)
     repeated e ih =
-        let same : p ≡ q = same_point-eq p q e in
+        let same : p ≡ q = (decides_point p q).0 e in
         let on : is_kept p q z ≡ false = subst (λ x. is_kept p x z ≡ false) same (is_kept-from_self p z) in
         passed-on p q z zs on ∙ ih ∙ ap (λ ws. sections_between (p ∷ ws)) (sym (changes_from-same p q (z ∷ zs) e))

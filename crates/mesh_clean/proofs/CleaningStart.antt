@@ -4,7 +4,8 @@ use Rattle.std.proofs.lemmas.Bool.{cases_Bool, cond-true, cond-false}
 use Rattle.mesh_plane.specs.Plane.{Point, Edge}
 use Rattle.mesh_plane.specs.Winding.{route, boundary, same_point}
 use Rattle.mesh_clean.specs.Cleaned.{is_kept, changes_from, without_end, ring, kept_between, kept_inside, kept_round, last_of, last_first, begun, cleaned_sections}
-use Rattle.mesh_clean.proofs.CleaningVectors.{same_point-eq, same_point-swap, SameWay, SameWay-straight, SameWay-ahead, SameWay-self, SameWay-apart, judged, judged_ahead, is_kept-to_self, is_kept-back}
+use Rattle.mesh_plane.proofs.Comparing.{decides_point, points_swap}
+use Rattle.mesh_clean.proofs.CleaningVectors.{SameWay, SameWay-straight, SameWay-ahead, SameWay-self, SameWay-apart, judged, judged_ahead, is_kept-to_self, is_kept-back}
 use Rattle.mesh_clean.proofs.CleaningPass.{changes_from-same, changes_from-apart, kept_between-kept, kept_between-passed, passed, passed-kept, passed-on, passed-same, passed-own}
 use Rattle.mesh_clean.proofs.CleaningLoop.{without_end-cons, last_of-append, round_to, kept_between-end}
 
@@ -21,7 +22,7 @@ started-on q p z zs e = cond-false (is_kept q p z) (passed p z (zs ++ q ∷ p �
 
 pub started-same : (q p z : Point) (zs : List Point) → same_point p z ≡ true → started q p (z ∷ zs) ≡ started q p zs
 started-same q p z zs e =
-    let same : p ≡ z = same_point-eq p z e in
+    let same : p ≡ z = (decides_point p z).0 e in
     let on : is_kept q p z ≡ false = subst (λ x. is_kept q p x ≡ false) same (is_kept-to_self q p) in
     started-on q p z zs on ∙ ap (λ x. started q x zs) (sym same)
 
@@ -43,7 +44,7 @@ pub record Turned (q r y p : Point) (zs : List Point) : Type 0 where
 pub none_inside : (q r y p : Point) (zs : List Point) → same_point q r ≡ false → SameWay q y p → Alike q p r → kept_between y p (changes_from p zs) ≡ [] → Turned q r y p zs
 none_inside q r y p [] n h f e =
     let apart : same_point q p ≡ false = SameWay-apart q y p h in
-    let out : same_point p q ≡ false = same_point-swap q p ∙ apart in
+    let out : same_point p q ≡ false = points_swap q p ∙ apart in
     let back : is_kept q p q ≡ true = is_kept-back q p out in
     let turn : is_kept p q r ≡ true = sym (f p) ∙ is_kept-back p q apart in
     let own : is_kept y p q ≡ true = sym (judged q y p q h) ∙ back in

@@ -8,7 +8,7 @@ use Rattle.mesh_plane.specs.Plane.{Point, Edge}
 use Rattle.mesh_plane.specs.Winding.{same_point, boundary, winding, crossing_on}
 use Rattle.mesh_plane.proofs.Triangles.{crossing_on_straight}
 use Rattle.mesh_clean.specs.Cleaned.{is_kept, cleaned_sections, open_sections, AllEqual, IsClean}
-use Rattle.mesh_clean.proofs.CleaningVectors.{same_point-eq, same_point-self}
+use Rattle.mesh_plane.proofs.Comparing.{decides_point, point_self}
 use Rattle.mesh_clean.proofs.CleaningPass.{passed-kept, passed-on, passed-open}
 use Rattle.mesh_clean.proofs.CleaningStart.{started, started-kept, started-on, cleaned_sections-same}
 use Rattle.mesh_clean.proofs.CleaningSums.{cleaned-total}
@@ -21,7 +21,7 @@ AllAt q ps = All (λ (p : Point). p ≡ q) ps
 
 pub equal_on : (q x : Point) (zs rest : List Point) → rest ≡ x ∷ zs → same_point q x ≡ true → AllAt q zs → AllAt q rest
 equal_on q x zs rest e s h =
-    subst (AllAt q) (sym e) (All-cons (λ (p : Point). p ≡ q) x zs (sym (same_point-eq q x s)) h)
+    subst (AllAt q) (sym e) (All-cons (λ (p : Point). p ≡ q) x zs (sym ((decides_point q x).0 s)) h)
 
 pub unequal_on : (q x : Point) (zs rest : List Point) → rest ≡ x ∷ zs → AllAt q rest → AllAt q zs
 unequal_on q x zs rest e h = All-rest (λ (p : Point). p ≡ q) x zs rest e h
@@ -33,7 +33,7 @@ pub differs : (q x : Point) (zs ps rest : List Point) → rest ≡ x ∷ zs → 
 differs q x zs ps rest e s f h =
     let all : AllAt q (x ∷ zs) = subst (AllAt q) e (f h) in
     let same : x ≡ q = All-head (λ (p : Point). p ≡ q) x zs all in
-    true≢false (sym (same_point-self q) ∙ ap (same_point q) (sym same) ∙ s)
+    true≢false (sym (point_self q) ∙ ap (same_point q) (sym same) ∙ s)
 
 -- ---- a walk straight on
 
@@ -53,7 +53,7 @@ open_on all a b x zs ps e k h =
 
 pub none_left : (a : Point) (ps : List Point) → ps ≡ [] → open_sections (a ∷ a ∷ ps) ≡ []
 none_left a ps e =
-    ap (λ ws. open_sections (a ∷ a ∷ ws)) e ∙ sym (passed-open a a []) ∙ cond-true (same_point a a) [] ((a, a) ∷ []) (same_point-self a)
+    ap (λ ws. open_sections (a ∷ a ∷ ws)) e ∙ sym (passed-open a a []) ∙ cond-true (same_point a a) [] ((a, a) ∷ []) (point_self a)
 
 pub ended : (all : List Edge) (a b : Point) → all ≡ open_sections (a ∷ b ∷ []) → same_point a b ≡ true → all ≡ []
 ended all a b h e = h ∙ sym (passed-open a b []) ∙ cond-true (same_point a b) [] ((a, b) ∷ []) e
@@ -123,7 +123,7 @@ cleaned-none [] h = refl
 cleaned-none (q ∷ []) h = refl
 cleaned-none (q ∷ p ∷ ps) h =
     let same : p ≡ q = All-head (λ (p : Point). p ≡ q) p ps h in
-    let test : same_point q p ≡ true = ap (same_point q) same ∙ same_point-self q in
+    let test : same_point q p ≡ true = ap (same_point q) same ∙ point_self q in
     cleaned_sections-same q p ps test ∙ cleaned-none (q ∷ ps) (All-tail (λ (p : Point). p ≡ q) p ps h)
 
 pub cleaned-clean : (points : List Point) → (AllEqual points → ⊥) → IsClean (cleaned_sections points)
@@ -134,7 +134,7 @@ cleaned-clean (q ∷ p ∷ ps) n = by (cases_Bool (same_point q p)) (cleaned-cle
     by : (same_point q p ≡ true) ⊎ (same_point q p ≡ false) → ((AllEqual (q ∷ ps) → ⊥) → IsClean (cleaned_sections (q ∷ ps))) → IsClean (cleaned_sections (q ∷ p ∷ ps))
     by (inl e) ih =
         subst IsClean (sym (cleaned_sections-same q p ps e))
-        (ih (λ h. n (All-cons (λ (p : Point). p ≡ q) p ps (sym (same_point-eq q p e)) h)))
+        (ih (λ h. n (All-cons (λ (p : Point). p ≡ q) p ps (sym ((decides_point q p).0 e)) h)))
     by (inr e) ih = cleaned_sections-clean q p ps e
 
 pub cleaned-winding : (m : ℕ) (q : Point) (points : List Point) → winding m q (cleaned_sections points) ≡ winding m q (boundary points)

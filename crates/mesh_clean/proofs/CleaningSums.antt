@@ -6,7 +6,8 @@ use Rattle.mesh_plane.specs.Plane.{Point, Edge, turn}
 use Rattle.mesh_plane.specs.Winding.{route, boundary, same_point, total}
 use Rattle.mesh_plane.proofs.Whole.{linear}
 use Rattle.mesh_clean.specs.Cleaned.{is_kept, cleaned_sections}
-use Rattle.mesh_clean.proofs.CleaningVectors.{same_point-eq, straight-turn, is_kept-from_self}
+use Rattle.mesh_plane.proofs.Comparing.{decides_point}
+use Rattle.mesh_clean.proofs.CleaningVectors.{straight-turn, is_kept-from_self}
 use Rattle.mesh_clean.proofs.CleaningPass.{passed, passed-kept, passed-on}
 use Rattle.mesh_clean.proofs.CleaningStart.{started, started-kept, started-on, started-cleaned, cleaned_sections-same}
 
@@ -30,7 +31,7 @@ module _ (f : Point → Point → ℤ) (straight : (p r s : Point) → turn p r 
   pub passed-total : (a p : Point) (zs : List Point) → total f (passed a p zs) ≡ f a p +ℤ total f (along p zs)
   passed-total a p [] = elim (cases_Bool (same_point a p)) [
     | inl e ↦
-        let none : f a p ≡ pos 0 = ap (f a) (sym (same_point-eq a p e)) ∙ flat-self a in
+        let none : f a p ≡ pos 0 = ap (f a) (sym ((decides_point a p).0 e)) ∙ flat-self a in
         let empty : total f (passed a p []) ≡ pos 0 = ap (total f) (cond-true (same_point a p) [] ((a, p) ∷ []) e) in
         omega (arith, linear, none, empty)
     | inr e ↦
@@ -67,7 +68,7 @@ module _ (f : Point → Point → ℤ) (straight : (p r s : Point) → turn p r 
     where
       repeated : same_point q z ≡ true → total f (cleaned_sections (q ∷ zs)) ≡ total f (along q (zs ++ q ∷ [])) → total f (cleaned_sections (q ∷ z ∷ zs)) ≡ f q z +ℤ total f (along z (zs ++ q ∷ []))
       repeated e ih =
-          let same : q ≡ z = same_point-eq q z e in
+          let same : q ≡ z = (decides_point q z).0 e in
           let less : total f (cleaned_sections (q ∷ z ∷ zs)) ≡ total f (cleaned_sections (q ∷ zs)) = ap (total f) (cleaned_sections-same q z zs e) in
           let way : total f (along q (zs ++ q ∷ [])) ≡ total f (along z (zs ++ q ∷ [])) = ap (λ x. total f (along x (zs ++ q ∷ []))) same in
           let none : f q z ≡ pos 0 = ap (f q) (sym same) ∙ flat-self q in

@@ -9,7 +9,8 @@ use Rattle.mesh_plane.specs.Winding.{route, boundary, same_point}
 use Rattle.mesh_plane.proofs.Whole.{linear}
 use Rattle.mesh_plane.proofs.Ring.{ring, var, neg, ◌⊖◌, cross_of, dot_of}
 use Rattle.mesh_clean.specs.Cleaned.{is_kept, changes_from, kept_between, last_of, without_end, cleaned_sections, RunsOn, IsClean}
-use Rattle.mesh_clean.proofs.CleaningVectors.{same_point-swap, SameWay, SameWay-straight, SameWay-ahead, SameWay-self, SameWay-apart, judged, judged_ahead, is_kept-from_self, is_kept-to_self, is_kept-back, is_kept-straight}
+use Rattle.mesh_plane.proofs.Comparing.{points_swap}
+use Rattle.mesh_clean.proofs.CleaningVectors.{SameWay, SameWay-straight, SameWay-ahead, SameWay-self, SameWay-apart, judged, judged_ahead, is_kept-from_self, is_kept-to_self, is_kept-back, is_kept-straight}
 use Rattle.mesh_clean.proofs.CleaningPass.{changes_from-same, changes_from-apart, kept_between-kept, kept_between-passed}
 use Rattle.mesh_clean.proofs.CleaningLoop.{round_to}
 use Rattle.mesh_clean.proofs.CleaningStart.{started, Turned, Found, none_inside, first_inside, ends_at, started-found, started-cleaned}
@@ -155,7 +156,7 @@ started-clean q p zs n = cases (kept_between q p (changes_from p zs)) refl
     cases [] e =
         let t : Turned q p q p zs = none_inside q p q p zs n same (λ x. refl) e in
         let l : Point = last_of p (changes_from p zs) in
-        subst IsClean (sym t.edges) (closed_clean q l [] (is_kept-back q l (same_point-swap q l ∙ t.apart)) (is_kept-back l q t.apart))
+        subst IsClean (sym t.edges) (closed_clean q l [] (is_kept-back q l (points_swap q l ∙ t.apart)) (is_kept-back l q t.apart))
     cases (k ∷ ks) e =
         let t : Found q p k q p zs = first_inside q p k q p zs ks same (λ x. refl) e in
         subst IsClean (sym (started-found q p k zs n t)) (found t)

@@ -4,50 +4,17 @@ use Rattle.std.specs.Prelude.{ℤ, pos, ◌-ℤ◌, ◌*ℤ◌, ◌≤ℤ◌, ne
 use Rattle.std.specs.Ordering.{int_eq}
 use lib.Signed.{◌<ℤ◌}
 use lib.IntN.{*ℤ_comm, *ℤ-zero, zero-*ℤ}
-use Rattle.std.proofs.lemmas.Int.{ints, by_lt_z}
-use Rattle.std.proofs.lemmas.Bool.{true≢false, and_parts, or_parts, not-false, true_from_ne_false, false_from_ne_true, cases_Bool}
+use Rattle.std.proofs.lemmas.Int.{by_lt_z}
+use Rattle.std.proofs.lemmas.Bool.{true≢false, or_parts, not-false, true_from_ne_false}
 use Rattle.std.proofs.lemmas.Bool.Decides.{same_from_decides, Decides-int_eq, Decides-like}
 use Rattle.mesh_plane.specs.Plane.{Point, minus, cross, dot, turn}
 use Rattle.mesh_plane.specs.Bounds.{IsSafe}
 use Rattle.mesh_plane.specs.Winding.{same_point}
+use Rattle.mesh_plane.proofs.Comparing.{point_self, points_apart, points_swap, less_test, not_less_test, test_less, test_not_less}
 use Rattle.mesh_plane.proofs.Whole.{linear, mul_pos, square_nonneg, mul_cancel, pos_of_mul, factor}
 use Rattle.mesh_plane.proofs.Ring.{ring, var, lit, neg, ◌⊖◌, cross_of, dot_of}
 use Rattle.mesh_plane.proofs.Identities.{lagrange, dot_through, cross_through, cross_flip, cross_self, dot_swap}
 use Rattle.mesh_clean.specs.Cleaned.{is_kept}
-
--- ---- tests
-
-pub same_point-eq : (p q : Point) → same_point p q ≡ true → p ≡ q
-same_point-eq p q e =
-    let both : (int_eq p.0 q.0 ≡ true) × (int_eq p.1 q.1 ≡ true) = and_parts (int_eq p.0 q.0) (int_eq p.1 q.1) e in
-    let x : p.0 ≡ q.0 = (Decides-int_eq p.0 q.0).0 both.0 in
-    let y : p.1 ≡ q.1 = (Decides-int_eq p.1 q.1).0 both.1 in
-    λ i. (x i, y i)
-
-pub same_point-self : (p : Point) → same_point p p ≡ true
-same_point-self p =
-    let x : int_eq p.0 p.0 ≡ true = (Decides-int_eq p.0 p.0).1 refl in
-    let y : int_eq p.1 p.1 ≡ true = (Decides-int_eq p.1 p.1).1 refl in
-    ap (λ b. b && int_eq p.1 p.1) x ∙ y
-
-pub same_point-apart : (p q : Point) → (p ≡ q → ⊥) → same_point p q ≡ false
-same_point-apart p q n = false_from_ne_true (same_point p q) (λ e. n (same_point-eq p q e))
-
-pub same_point-swap : (p q : Point) → same_point q p ≡ same_point p q
-same_point-swap p q =
-    elim (cases_Bool (same_point p q)) [
-      | inl e ↦ subst (λ x. same_point x p ≡ true) (same_point-eq p q e) (same_point-self p) ∙ sym e
-      | inr e ↦ same_point-apart q p (λ g. true≢false (sym (same_point-self p) ∙ ap (same_point p) (sym g) ∙ e)) ∙ sym e
-    ]
-
-lt_true : (a b : ℤ) → a <ℤ b → int_lt a b ≡ true
-lt_true a b h = grind (arith, ints)
-
-true_lt : (a b : ℤ) → int_lt a b ≡ true → a <ℤ b
-true_lt a b h = grind (arith, ints)
-
-false_lt : (a b : ℤ) → int_lt a b ≡ false → b ≤ℤ a
-false_lt a b h = grind (arith, ints)
 
 -- ---- two vectors in one direction
 
@@ -101,8 +68,8 @@ int_eq-same x y z w f g =
 int_lt-same : (x y z w : ℤ) → (x <ℤ y → z <ℤ w) → (z <ℤ w → x <ℤ y) → int_lt x y ≡ int_lt z w
 int_lt-same x y z w f g =
     same_from_decides (int_lt x y) (int_lt z w)
-    ((λ e. f (true_lt x y e)), (λ h. lt_true x y (g h)))
-    ((λ e. true_lt z w e), (λ h. lt_true z w h))
+    ((λ e. f (test_less x y e)), (λ h. less_test x y (g h)))
+    ((λ e. test_less z w e), (λ h. less_test z w h))
 
 -- ---- judged
 
@@ -145,17 +112,14 @@ pub is_kept-false : (a p z : Point) → is_kept a p z ≡ false → (cross (minu
 is_kept-false a p z e =
     let both = or_parts (not (int_eq (cross (minus p a) (minus p z)) (pos 0))) (int_lt (pos 0) (dot (minus p a) (minus p z))) e in (
       (Decides-int_eq (cross (minus p a) (minus p z)) (pos 0)).0 (not-false (int_eq (cross (minus p a) (minus p z)) (pos 0)) both.0),
-      false_lt (pos 0) (dot (minus p a) (minus p z)) both.1,
+      test_not_less (pos 0) (dot (minus p a) (minus p z)) both.1,
     )
 
 pub is_kept-straight : (a p z : Point) → cross (minus p a) (minus p z) ≡ pos 0 → dot (minus p a) (minus p z) ≤ℤ pos 0 → is_kept a p z ≡ false
 is_kept-straight a p z e h =
     let flat : int_eq (cross (minus p a) (minus p z)) (pos 0) ≡ true = (Decides-int_eq (cross (minus p a) (minus p z)) (pos 0)).1 e in
-    let back : int_lt (pos 0) (dot (minus p a) (minus p z)) ≡ false = lt_false (pos 0) (dot (minus p a) (minus p z)) h in
+    let back : int_lt (pos 0) (dot (minus p a) (minus p z)) ≡ false = not_less_test (pos 0) (dot (minus p a) (minus p z)) h in
     λ i. not (flat i) || back i
-  where
-    lt_false : (a b : ℤ) → b ≤ℤ a → int_lt a b ≡ false
-    lt_false a b h = grind (arith, ints)
 
 pub straight-turn : (a p z : Point) → is_kept a p z ≡ false → turn a p z ≡ pos 0
 straight-turn a p z e =
@@ -174,7 +138,7 @@ length_apart p x n =
         let e : p.0 ≡ x.0 = omega (arith, linear) in
         let g : p.1 ≡ x.1 = omega (arith, linear) in
         let same : same_point p p ≡ same_point p x = λ i. int_eq p.0 (e i) && int_eq p.1 (g i) in
-        sym same ∙ same_point-self p
+        sym same ∙ point_self p
 
 pub SameWay-straight : (a p x : Point) → same_point p x ≡ false → is_kept a p x ≡ false → SameWay a p x
 SameWay-straight a p x n e =
@@ -196,7 +160,7 @@ SameWay-straight a p x n e =
 -- the point goes straight on from `p` to `y` and to `z`
 pub SameWay-ahead : (p y z : Point) → same_point p y ≡ false → is_kept p y z ≡ false → SameWay z y p
 SameWay-ahead p y z n e =
-    SameWay-straight z y p (same_point-swap p y ∙ n) (is_kept-swap z y p ∙ e)
+    SameWay-straight z y p (points_swap p y ∙ n) (is_kept-swap z y p ∙ e)
 
 pub SameWay-self : (p x : Point) → same_point p x ≡ false → SameWay p p x
 SameWay-self p x n =
@@ -214,7 +178,7 @@ SameWay-self p x n =
 
 pub SameWay-apart : (a b p : Point) → SameWay a b p → same_point a p ≡ false
 SameWay-apart a b p h =
-    same_point-apart a p (λ e.
+    points_apart a p (λ e.
     let none : dot (minus p a) (minus p a) ≡ pos 0 = ap (λ (q : Point). dot (minus p q) (minus p q)) e ∙ zero in
     absurd (omega (arith, linear, OneWay-length (minus p a) (minus p b) h, none)))
   where

@@ -11,6 +11,7 @@ use mathlib.Core.Bool.{beq}
 use mir.Syntax.{w32, w128}
 use mir.Val.{to_z, of_z, SFits}
 use Rattle.mesh_plane.specs.Bounds.{IsSmall}
+use Rattle.mesh_plane.proofs.Sizes.{small_size}
 use Rattle.mesh_plane.proofs.Whole.{linear}
 use Rattle.mesh_cuts.specs.Split.{rounded_quotient, IsBetween}
 
@@ -20,9 +21,6 @@ small_fits h z m s = omega (arith, ints, s.low, s.high)
 -- what 128 bits keep of a small number
 pub small_kept : (h : ℕ) (z : ℤ) → h ≤ 2 ^ 127 → IsSmall h z → to_z w128 (of_z w128 z) ≡ z
 small_kept h z m s = to_z-of_z w128 z (small_fits h z m s)
-
-pub small_size : (h : ℕ) (z : ℤ) → IsSmall h z → unsigned_abs z < h
-small_size h z s = omega (arith, ints, s.low, s.high)
 
 pub small_of_size : (h : ℕ) (z : ℤ) → unsigned_abs z < h → IsSmall h z
 small_of_size h z s = record { low = omega (arith, ints); high = omega (arith, ints) }

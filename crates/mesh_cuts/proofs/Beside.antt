@@ -10,7 +10,7 @@ use Rattle.mesh_plane.proofs.Whole.{linear, mul_nonneg, mul_pos}
 use Rattle.mesh_plane.proofs.Ring.{ring, var, neg, ◌⊕◌, ◌⊖◌, ◌⊗◌, cross_of}
 
 -- the turn from both ends, as the point sees them
-turn_between : (p r q : Point) → turn p r q ≡ ((r.0 -ℤ q.0) *ℤ (q.1 -ℤ p.1)) +ℤ ((p.0 -ℤ q.0) *ℤ (r.1 -ℤ q.1))
+pub turn_between : (p r q : Point) → turn p r q ≡ ((r.0 -ℤ q.0) *ℤ (q.1 -ℤ p.1)) +ℤ ((p.0 -ℤ q.0) *ℤ (r.1 -ℤ q.1))
 turn_between p r q =
     let a = var 0 in
     let b = var 1 in

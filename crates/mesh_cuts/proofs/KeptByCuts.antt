@@ -9,7 +9,6 @@ use Rattle.mesh_cuts.proofs.Ends.{decides_ends}
 use Rattle.mesh_plane.specs.Winding.{total, IsBalanced}
 use Rattle.mesh_plane.proofs.Whole.{linear}
 use Rattle.mesh_plane.proofs.Balance.{growth, growth_of_balanced, balanced_by_growth}
-use Rattle.mesh_cuts.proofs.Boxes.{between_start, between_end}
 
 between_trans : (a x y b z : ℤ) → IsBetween a x b → IsBetween a y b → IsBetween x z y → IsBetween a z b
 between_trans a x y b z hx hy h = record {
@@ -22,12 +21,6 @@ between_trans a x y b z hx hy h = record {
         by_lt_z y x
         (λ (k : y <ℤ x). let g = h.down (omega (arith, ints)) in let u : a ≤ℤ z = omega (arith, ints) in let v : z ≤ℤ b = omega (arith, ints) in (u, v))
         (λ (k : x ≤ℤ y). let g = h.up k in let u : a ≤ℤ z = omega (arith, ints) in let v : z ≤ℤ b = omega (arith, ints) in (u, v))
-
-pub box_first : (e : Edge) → IsInBox e e.0
-box_first e = record { by_x = between_start e.0.0 e.1.0; by_y = between_start e.0.1 e.1.1 }
-
-pub box_last : (e : Edge) → IsInBox e e.1
-box_last e = record { by_x = between_end e.0.0 e.1.0; by_y = between_end e.0.1 e.1.1 }
 
 pub box_trans : (e f : Edge) (c : Point) → IsInBox e f.0 → IsInBox e f.1 → IsInBox f c → IsInBox e c
 box_trans e f c h k l = record {

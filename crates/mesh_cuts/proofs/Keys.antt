@@ -7,14 +7,14 @@ use Rattle.std.proofs.lemmas.Bool.Decides.{Decides-int_eq, Decides-like, same_fr
 use Rattle.std.proofs.lemmas.Int.{ints, by_lt_z}
 use Rattle.mesh_plane.specs.Plane.{Point, Edge}
 use Rattle.mesh_plane.specs.Winding.{sum_of, same_point}
-use Rattle.mesh_plane.proofs.Whole.{linear, add_mul, one_mul}
+use Rattle.mesh_plane.proofs.Whole.{linear, add_mul, zero_mul, one_mul}
 use Rattle.mesh_cuts.specs.Clean.{IsProper}
 use Rattle.mesh_cuts.specs.Split.{back, same_edge, same_ends, occurs}
 use Rattle.mesh_cuts.specs.Counted.{bit, along, net}
 use Rattle.mesh_cuts.proofs.Ends.{decides_edge, decides_ends, ends_self, ends_sym, ends_along, along_turned, along_self, not_along}
 use Rattle.mesh_cuts.proofs.Each.{Each}
 use Rattle.mesh_cuts.proofs.Each.{each_of, proper_of}
-use Rattle.mesh_plane.proofs.Comparing.{decides_point}
+use Rattle.mesh_plane.proofs.Comparing.{decides_point, test_less, test_not_less}
 
 -- upwards, or level and to the east
 abbrev pub Leans : Edge → Type 0
@@ -74,9 +74,6 @@ none_along f e (s ∷ rs) h =
     let parts = or_parts (same_ends e s) (occurs e rs) h in
     let none : along s e *ℤ f s ≡ pos 0 *ℤ f s = ap (λ (z : ℤ). z *ℤ f s) (not_along s e (ends_sym s e ∙ parts.0)) in
     omega (arith, linear, none, zero_mul (f s), none_along f e rs parts.1)
-  where
-    zero_mul : (x : ℤ) → pos 0 *ℤ x ≡ pos 0
-    zero_mul x = omega (arith, ints)
 
 -- an odd number of an edge, by its own key
 own_key : (f : Edge → ℤ) → ((e : Edge) → f (back e) ≡ neg_ℤ (f e)) → (s e : Edge) → Leans s → same_ends e s ≡ true → along s e *ℤ f s ≡ f e
@@ -103,9 +100,6 @@ pick f odd e (s ∷ rs) lean distinct h =
     let none : along s e *ℤ f s ≡ pos 0 *ℤ f s = ap (λ (z : ℤ). z *ℤ f s) (not_along s e (ends_sym s e ∙ n)) in
     omega (arith, linear, none, zero_mul (f s), pick f odd e rs lean.1 distinct.1 rest))
     (cases_Bool (same_ends e s))
-  where
-    zero_mul : (x : ℤ) → pos 0 *ℤ x ≡ pos 0
-    zero_mul x = omega (arith, ints)
 
 split_sum : (f : Edge → ℤ) (e : Edge) (es rs : List Edge) →
     sum_of (λ (s : Edge). net s (e ∷ es) *ℤ f s) rs ≡ sum_of (λ (s : Edge). along s e *ℤ f s) rs +ℤ sum_of (λ (s : Edge). net s es *ℤ f s) rs
@@ -115,9 +109,6 @@ split_sum f e es (s ∷ rs) = omega (arith, linear, add_mul (along s e) (net s e
 no_sum : (f : Edge → ℤ) (rs : List Edge) → sum_of (λ (s : Edge). pos 0 *ℤ f s) rs ≡ pos 0
 no_sum f [] = refl
 no_sum f (s ∷ rs) = omega (arith, linear, zero_mul (f s), no_sum f rs)
-  where
-    zero_mul : (x : ℤ) → pos 0 *ℤ x ≡ pos 0
-    zero_mul x = omega (arith, ints)
 
 -- a sum of an odd number of each edge is the sum over the keys of the net counts times that number
 pub grouped : (f : Edge → ℤ) → ((e : Edge) → f (back e) ≡ neg_ℤ (f e)) → (rs : List Edge) → Each Leans rs → Distinct rs →
@@ -158,27 +149,21 @@ lean_yes a b c d h =
     (λ (x : (int_eq b d && int_lt a c) ≡ true).
     let parts = and_parts (int_eq b d) (int_lt a c) x in
     let same : b ≡ d = (Decides-int_eq b d).0 parts.0 in
-    let less : a <ℤ c = lt_from a c parts.1 in
+    let less : a <ℤ c = test_less a c parts.1 in
     inr (same, less))
     (or_cases (int_lt b d) (int_eq b d && int_lt a c) h)
-  where
-    lt_from : (x y : ℤ) → int_lt x y ≡ true → x <ℤ y
-    lt_from x y e = grind (arith, ints)
 
 lean_not : (a b c d : ℤ) → ((a ≡ c) × (b ≡ d) → ⊥) → (int_lt b d || (int_eq b d && int_lt a c)) ≡ false → (d <ℤ b) ⊎ ((d ≡ b) × (c <ℤ a))
 lean_not a b c d apart h =
     let parts = or_parts (int_lt b d) (int_eq b d && int_lt a c) h in
-    let low : d ≤ℤ b = le_from b d parts.0 in
+    let low : d ≤ℤ b = test_not_less b d parts.0 in
     by_lt_z d b (λ (x : d <ℤ b). inl x)
     (λ (x : b ≤ℤ d).
     let same : b ≡ d = omega (arith, ints) in
     let test : int_lt a c ≡ false = sym (ap (λ (t : Bool). t && int_lt a c) ((Decides-int_eq b d).1 same)) ∙ parts.1 in
-    let left : c ≤ℤ a = le_from a c test in
+    let left : c ≤ℤ a = test_not_less a c test in
     by_lt_z c a (λ (y : c <ℤ a). inr (sym same, y))
     (λ (y : a ≤ℤ c). let e : a ≡ c = omega (arith, ints) in absurd (apart (e, same))))
-  where
-    le_from : (x y : ℤ) → int_lt x y ≡ false → y ≤ℤ x
-    le_from x y e = grind (arith, ints)
 
 leaning_leans : (e : Edge) → (e.0 ≡ e.1 → ⊥) → Leans (leaning_of (leans e) e)
 leaning_leans e apart =

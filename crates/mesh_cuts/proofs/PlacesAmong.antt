@@ -7,21 +7,13 @@ use Rattle.std.proofs.Math.ListN.{get_or-append}
 use Rattle.std.proofs.Math.Seq.{get_or-append_seam}
 use Rattle.std.proofs.lemmas.Bool.{both_ways}
 use Rattle.std.proofs.lemmas.Int.{ints}
+use Rattle.mesh_plane.proofs.Comparing.{at_most_test, test_at_most, test_above}
 use Rattle.mesh_cuts.specs.declared.places.Mark.{Mark}
 use Rattle.mesh_cuts.specs.Marks.{place, AreRising, IsPutTo}
 
-le_test : (a b : ℤ) → int_le a b ≡ true → a ≤ℤ b
-le_test a b h = grind (arith, ints)
-
-gt_test : (a b : ℤ) → int_le a b ≡ false → b <ℤ a
-gt_test a b h = grind (arith, ints)
-
-test_le : (a b : ℤ) → a ≤ℤ b → int_le a b ≡ true
-test_le a b h = grind (arith, ints)
-
 rise : (a b : Bool) (m x y : ℤ) (p q : ℕ) → x ≤ℤ y → int_le m x ≡ a → int_le m y ≡ b → p ≤ q → cond a 1 0 + p ≤ cond b 1 0 + q
 rise true true m x y p q h u v l = omega arith
-rise true false m x y p q h u v l = absurd (both_ways (int_le m y) v (test_le m y (omega (arith, ints, le_test m x u))))
+rise true false m x y p q h u v l = absurd (both_ways (int_le m y) v (at_most_test m y (omega (arith, ints, test_at_most m x u))))
 rise false true m x y p q h u v l = omega arith
 rise false false m x y p q h u v l = omega arith
 
@@ -35,8 +27,8 @@ pub lesser_place : (ms : List Mark) (x y : ℤ) → place ms x < place ms y → 
 lesser_place ms x y h = by (int_le y x) refl
   where
     by : (b : Bool) → int_le y x ≡ b → x <ℤ y
-    by true p = absurd (omega (arith, place_rises ms y x (le_test y x p)))
-    by false p = gt_test y x p
+    by true p = absurd (omega (arith, place_rises ms y x (test_at_most y x p)))
+    by false p = test_above y x p
 
 most : (b : Bool) (p l : ℕ) → p ≤ l → cond b 1 0 + p ≤ suc l
 most true p l h = omega arith
@@ -61,7 +53,7 @@ place_is (m ∷ ms) x (suc n) h below above =
 
 -- rising marks are parted at a number: those that are not above it come first
 pub parted_at : (ms : List Mark) (x : ℤ) → AreRising ms → IsPartitionedBy (λ (m : Mark). int_le m.at x) ms
-parted_at ms x r i j d le low h = test_le (get_or ms i d).at x (omega (arith, ints, r.rising i j d le low, le_test (get_or ms j d).at x h))
+parted_at ms x r i j d le low h = at_most_test (get_or ms i d).at x (omega (arith, ints, r.rising i j d le low, test_at_most (get_or ms j d).at x h))
 
 -- ---- one more mark
 

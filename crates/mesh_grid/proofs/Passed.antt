@@ -1,12 +1,12 @@
 -- Lemmas over whole numbers: numbers that are passed on as bits, at sizes that fit.
-use Rattle.std.proofs.Common.{◌≡◌, ℕ, zero, suc, ◌*◌, ◌^◌, ◌<◌, ◌≤◌, ◌∙◌, refl, ap, arith}
-use Rattle.std.specs.Prelude.{◌≢◌, ℤ, pos, negsuc, neg_ℤ, ◌+ℤ◌, ◌-ℤ◌, ◌*ℤ◌, unsigned_abs}
+use Rattle.std.proofs.Common.{◌≡◌, ℕ, ◌*◌, ◌^◌, ◌≤◌, ◌∙◌, ap, arith}
+use Rattle.std.specs.Prelude.{ℤ, pos, neg_ℤ, ◌+ℤ◌, ◌-ℤ◌, ◌*ℤ◌, unsigned_abs}
 use Rattle.std.proofs.Math.Nat.{mul-le-mul}
 use Rattle.std.proofs.lemmas.Int.{ints, to_z-of_z, to_z_pos, fits_signed_from_abs, unsigned_abs-mul}
 use mir.Syntax.{w32, w128}
 use mir.Val.{SFits, to_z, of_z}
 use Rattle.mesh_plane.specs.Plane.{Point, length_sq}
-use Rattle.mesh_plane.proofs.Sizes.{le_of_squares}
+use Rattle.mesh_plane.proofs.Sizes.{le_of_squares, sum_size, difference_size}
 use Rattle.mesh_grid.specs.Direction.{IsShort}
 use Rattle.mesh_grid.proofs.Products.{short_sizes}
 
@@ -44,32 +44,26 @@ passed_product a b h l =
     let y = passed b (omega arith) in
     λ i. x i *ℤ y i
 
-pub difference_size : (a b : ℤ) → unsigned_abs a ≤ 2 ^ 61 → unsigned_abs b ≤ 2 ^ 61 → unsigned_abs (a -ℤ b) ≤ 2 ^ 62
-difference_size a b h l = omega (arith, ints)
-
-pub sum_size : (a b : ℤ) → unsigned_abs a ≤ 2 ^ 61 → unsigned_abs b ≤ 2 ^ 61 → unsigned_abs (a +ℤ b) ≤ 2 ^ 62
-sum_size a b h l = omega (arith, ints)
-
 pub difference_fits : (a b : ℤ) → unsigned_abs a ≤ 2 ^ 61 → unsigned_abs b ≤ 2 ^ 61 → SFits w128 (to_z w128 (of_z w128 a) -ℤ to_z w128 (of_z w128 b))
 difference_fits a b h l =
-    let s : unsigned_abs (a -ℤ b) ≤ 2 ^ 62 = difference_size a b h l in
+    let s : unsigned_abs (a -ℤ b) ≤ 2 ^ 62 = difference_size a b (2 ^ 61) (2 ^ 61) h l in
     rw (passed a (omega arith), passed b (omega arith)) (fits_signed_from_abs w128 (a -ℤ b) (omega arith))
 
 pub sum_fits : (a b : ℤ) → unsigned_abs a ≤ 2 ^ 61 → unsigned_abs b ≤ 2 ^ 61 → SFits w128 (to_z w128 (of_z w128 a) +ℤ to_z w128 (of_z w128 b))
 sum_fits a b h l =
-    let s : unsigned_abs (a +ℤ b) ≤ 2 ^ 62 = sum_size a b h l in
+    let s : unsigned_abs (a +ℤ b) ≤ 2 ^ 62 = sum_size a b (2 ^ 61) (2 ^ 61) h l in
     rw (passed a (omega arith), passed b (omega arith)) (fits_signed_from_abs w128 (a +ℤ b) (omega arith))
 
 pub passed_difference : (a b : ℤ) → unsigned_abs a ≤ 2 ^ 61 → unsigned_abs b ≤ 2 ^ 61
     → to_z w128 (of_z w128 (to_z w128 (of_z w128 a) -ℤ to_z w128 (of_z w128 b))) ≡ a -ℤ b
 passed_difference a b h l =
-    let s : unsigned_abs (a -ℤ b) ≤ 2 ^ 62 = difference_size a b h l in
+    let s : unsigned_abs (a -ℤ b) ≤ 2 ^ 62 = difference_size a b (2 ^ 61) (2 ^ 61) h l in
     rw (passed a (omega arith), passed b (omega arith)) (passed (a -ℤ b) (omega arith))
 
 pub passed_sum : (a b : ℤ) → unsigned_abs a ≤ 2 ^ 61 → unsigned_abs b ≤ 2 ^ 61
     → to_z w128 (of_z w128 (to_z w128 (of_z w128 a) +ℤ to_z w128 (of_z w128 b))) ≡ a +ℤ b
 passed_sum a b h l =
-    let s : unsigned_abs (a +ℤ b) ≤ 2 ^ 62 = sum_size a b h l in
+    let s : unsigned_abs (a +ℤ b) ≤ 2 ^ 62 = sum_size a b (2 ^ 61) (2 ^ 61) h l in
     rw (passed a (omega arith), passed b (omega arith)) (passed (a +ℤ b) (omega arith))
 
 -- ---- opposites
@@ -99,9 +93,3 @@ negated_fits k h = rw (to_z_pos w128 k (omega arith), zero_less (pos k)) (fits_s
 
 pub passed_negated : (k : ℕ) → k ≤ 2 ^ 126 → to_z w128 (of_z w128 (pos 0 -ℤ to_z w128 k)) ≡ neg_ℤ (pos k)
 passed_negated k h = rw (to_z_pos w128 k (omega arith), zero_less (pos k)) (passed (neg_ℤ (pos k)) (opposite_size (pos k) h))
-
--- a divisor
-pub size_positive : (z : ℤ) → z ≢ pos 0 → 0 < unsigned_abs z
-size_positive (pos zero) h = absurd (h refl)
-size_positive (pos (suc n)) h = omega arith
-size_positive (negsuc n) h = omega arith

@@ -9,11 +9,8 @@ use Rattle.mesh_plane.specs.Bounds.{IsWithin, IsSmall, IsSafe}
 use Rattle.mesh_plane.specs.Plane.{Point, length_sq}
 use Rattle.mesh_plane.specs.Rounding.{rounded}
 use Rattle.mesh_plane.proofs.Rounding.{rounded_within}
-use Rattle.mesh_plane.proofs.Sizes.{le_of_squares}
+use Rattle.mesh_plane.proofs.Sizes.{le_of_squares, small_size}
 use Rattle.mesh_grid.specs.Direction.{IsShort}
-
-pub size_below : (h : ℕ) (z : ℤ) → IsSmall h z → unsigned_abs z < h
-size_below h z s = omega (arith, ints, s.low, s.high)
 
 pub within_of_size : (h : ℕ) (z : ℤ) → unsigned_abs z < h → IsWithin h z
 within_of_size h z s = record { low = omega (arith, ints); high = omega (arith, ints) }
@@ -21,8 +18,8 @@ within_of_size h z s = record { low = omega (arith, ints); high = omega (arith, 
 -- the product of two differences of coordinates stays below half of what the wide type holds
 pub product_size : (u : ℕ) (a b : ℤ) → IsSmall (2 * u) a → IsSmall (2 * u) b → unsigned_abs (a *ℤ b) < 4 * u * u
 product_size u a b s t =
-    let x : unsigned_abs a < 2 * u = size_below (2 * u) a s in
-    let y : unsigned_abs b < 2 * u = size_below (2 * u) b t in
+    let x : unsigned_abs a < 2 * u = small_size (2 * u) a s in
+    let y : unsigned_abs b < 2 * u = small_size (2 * u) b t in
     omega (arith, unsigned_abs-mul a b, mul-lt (unsigned_abs a) (unsigned_abs b) (2 * u) (2 * u) x y)
 
 pub product_within : (h u : ℕ) (a b : ℤ) → h ≡ 8 * u * u → IsSmall (2 * u) a → IsSmall (2 * u) b → IsWithin h (a *ℤ b)
@@ -46,8 +43,8 @@ sum_within h u a b c d p q e f g s t v w =
 
 pub square_sum_below : (u : ℕ) (v : Point) → IsSafe (2 * u) v → length_sq v < 8 * u * u
 square_sum_below u v s =
-    let x : unsigned_abs v.0 < 2 * u = size_below (2 * u) v.0 s.x in
-    let y : unsigned_abs v.1 < 2 * u = size_below (2 * u) v.1 s.y in
+    let x : unsigned_abs v.0 < 2 * u = small_size (2 * u) v.0 s.x in
+    let y : unsigned_abs v.1 < 2 * u = small_size (2 * u) v.1 s.y in
     omega (arith, mul-lt (unsigned_abs v.0) (unsigned_abs v.0) (2 * u) (2 * u) x x, mul-lt (unsigned_abs v.1) (unsigned_abs v.1) (2 * u) (2 * u) y y)
 
 pub square_sum_fits : (r l u : ℕ) (x y a b : ℤ) → r ≡ length_sq (a, b) → a ≡ x → b ≡ y → IsSafe (2 * u) (x, y) → l ≡ 16 * u * u → r < l
@@ -61,10 +58,6 @@ within_of_coordinate half u z r e l h b =
     let s : u ≤ u * u = omega (arith, mul-le-mul_left u l) in
     let size : unsigned_abs r ≤ 2 * u = omega (arith, ints, h.low, h.high) in
     within_of_size half z (omega arith)
-
--- the size of a coordinate
-pub size_of_within : (h : ℕ) (z : ℤ) → IsWithin h z → unsigned_abs z ≤ h
-size_of_within h z w = omega (arith, ints, w.low, w.high)
 
 -- a coordinate is turned round in 128 bits
 pub opposite_fits : (z : ℤ) → IsWithin (2 ^ 31) z → FitsSigned w128 (neg_ℤ z)

@@ -1,17 +1,17 @@
 -- Lemmas over points and lists: the segments of edges have their smaller end first, and a count of 1 or -1.
-use Rattle.std.proofs.Common.{◌≡◌, ◌↔◌, IsTrue, not, ⊎_elim, inl, inr, Bool, true, false, cond, ◌&&◌, ◌||◌, ◌++◌, List, [], ◌∷◌, refl, sym, ◌∙◌, ap, arith}
+use Rattle.std.proofs.Common.{◌≡◌, ◌↔◌, IsTrue, not, inl, inr, Bool, true, false, cond, ◌&&◌, ◌||◌, ◌++◌, List, [], ◌∷◌, refl, sym, ◌∙◌, ap, arith}
 use Rattle.std.specs.Prelude.{ℤ, ◌≤ℤ◌, ◌<ℤ◌, pos, negsuc, int_lt}
 use Rattle.std.specs.Ordering.{int_eq, is_eq}
 use Rattle.std.specs.declared.cmp.Ordering.TheVariants.{Less, Equal, Greater}
 use Rattle.std.specs.List.{All}
-use Rattle.std.proofs.lemmas.Bool.{true≢false, cases_Bool}
+use Rattle.std.proofs.lemmas.Bool.{true≢false}
 use Rattle.std.proofs.lemmas.Bool.Decides.{Decides-int_eq}
 use Rattle.std.proofs.lemmas.Int.{ints, by_lt_z}
 use Rattle.std.proofs.lemmas.List.Elements.{All-nil, All-cons, All-append}
 use Rattle.mesh_plane.specs.Plane.{Point, Edge}
 use Rattle.mesh_plane.specs.Winding.{same_point}
 use Rattle.mesh_plane.specs.Order.{point_lt}
-use Rattle.mesh_plane.proofs.Comparing.{decides_point, less_test, not_less_test}
+use Rattle.mesh_plane.proofs.Comparing.{less_test, not_less_test}
 use Rattle.mesh_num.specs.Segments.{SignedEdge, subject_of, segment_between, segments_of, IsSubject}
 
 -- of two different points of which the first is not the smaller one, the second is
@@ -65,13 +65,6 @@ forward_is p r h = sym (ap (λ (b : Bool). cond b ((p, r), pos 1) ((r, p), negsu
 
 pub back_is : (p r : Point) → point_lt p r ≡ false → ((r, p), negsuc 0) ≡ subject_of p r
 back_is p r h = sym (ap (λ (b : Bool). cond b ((p, r), pos 1) ((r, p), negsuc 0)) h)
-
-pub differ : (p r : Point) → (p ≡ r → ⊥) → same_point p r ≡ false
-differ p r apart =
-    ⊎_elim (λ (t : same_point p r ≡ true). absurd (apart ((decides_point p r).0 t))) (λ (f : same_point p r ≡ false). f) (cases_Bool (same_point p r))
-
-pub apart_of : (p r : Point) → same_point p r ≡ false → p ≡ r → ⊥
-apart_of p r f e = true≢false (sym ((decides_point p r).1 e) ∙ f)
 
 pub segment_is : (p r : Point) → same_point p r ≡ false → segment_between p r ≡ subject_of p r ∷ []
 segment_is p r h = ap (λ (b : Bool). cond b [] (subject_of p r ∷ [])) h

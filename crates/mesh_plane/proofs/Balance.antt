@@ -30,7 +30,7 @@ pub growth_of_pieces : (g : Point → ℤ) (pieces : List (List Point)) → piec
 growth_of_pieces g pieces = sum_of_none (λ (piece : List Point). total (growth g) (boundary piece)) (λ piece. growth_round g piece) pieces
 
 -- the sum at the ends less the sum at the starts
-growth_parts : (g : Point → ℤ) (es : List Edge) →
+pub growth_parts : (g : Point → ℤ) (es : List Edge) →
     total (growth g) es +ℤ sum_of (λ (e : Edge). g e.0) es ≡ sum_of (λ (e : Edge). g e.1) es
 growth_parts g [] = refl
 growth_parts g (e ∷ es) = omega (arith, linear, growth_parts g es)

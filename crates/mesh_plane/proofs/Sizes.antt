@@ -1,11 +1,12 @@
 -- Lemmas over whole numbers: sizes, squares and quotients of natural numbers.
-use Rattle.std.proofs.Common.{◌≡◌, ℕ, ◌+◌, ◌*◌, ◌-◌, ◌/◌, ◌<◌, ◌≤◌, refl, arith}
-use Rattle.std.specs.Prelude.{ℤ, pos, negsuc, ◌*ℤ◌, neg_ℤ, unsigned_abs}
+use Rattle.std.proofs.Common.{◌≡◌, ℕ, ◌+◌, ◌*◌, ◌-◌, ◌/◌, ◌<◌, ◌≤◌, zero, suc, refl, arith}
+use Rattle.std.specs.Prelude.{◌≢◌, ℤ, pos, negsuc, ◌+ℤ◌, ◌-ℤ◌, ◌*ℤ◌, neg_ℤ, unsigned_abs}
 use Rattle.std.proofs.Math.Nat.{mul-le-mul, div-mul-le_self}
 use Rattle.std.proofs.lemmas.Nat.{mul-lt, le-div}
 use Rattle.std.proofs.lemmas.Bool.{cases_lt}
-use Rattle.std.proofs.lemmas.Int.{ints}
+use Rattle.std.proofs.lemmas.Int.{ints, unsigned_abs-mul}
 use mathlib.Core.Logic.{⊎_elim}
+use Rattle.mesh_plane.specs.Bounds.{IsWithin, IsSmall}
 use Rattle.mesh_plane.specs.Plane.{Point, dot, opposite, length_sq}
 use Rattle.mesh_plane.proofs.Whole.{linear}
 
@@ -36,6 +37,26 @@ size_square (negsuc n) = refl
 
 pub size_zero : (z : ℤ) → unsigned_abs z ≡ 0 → z ≡ pos 0
 size_zero z h = omega (arith, ints)
+
+pub size_positive : (z : ℤ) → z ≢ pos 0 → 0 < unsigned_abs z
+size_positive (pos zero) h = absurd (h refl)
+size_positive (pos (suc n)) h = omega arith
+size_positive (negsuc n) h = omega arith
+
+pub small_size : (h : ℕ) (z : ℤ) → IsSmall h z → unsigned_abs z < h
+small_size h z s = omega (arith, ints, s.low, s.high)
+
+pub within_size : (h : ℕ) (z : ℤ) → IsWithin h z → unsigned_abs z ≤ h
+within_size h z w = omega (arith, ints, w.low, w.high)
+
+pub sum_size : (a b : ℤ) (m n : ℕ) → unsigned_abs a ≤ m → unsigned_abs b ≤ n → unsigned_abs (a +ℤ b) ≤ m + n
+sum_size a b m n h k = omega (arith, ints)
+
+pub difference_size : (a b : ℤ) (m n : ℕ) → unsigned_abs a ≤ m → unsigned_abs b ≤ n → unsigned_abs (a -ℤ b) ≤ m + n
+difference_size a b m n h k = omega (arith, ints)
+
+pub product_size : (a b : ℤ) (m n : ℕ) → unsigned_abs a ≤ m → unsigned_abs b ≤ n → unsigned_abs (a *ℤ b) ≤ m * n
+product_size a b m n h k = omega (arith, unsigned_abs-mul a b, mul-le-mul h k)
 
 -- ---- the squared length of a vector
 

@@ -56,6 +56,9 @@ zero_mul a = omega (arith, ints)
 pub mul_zero : (a : ℤ) → a *ℤ pos 0 ≡ pos 0
 mul_zero a = omega (arith, ints)
 
+pub times_zero : (a b : ℤ) → b ≡ pos 0 → a *ℤ b ≡ pos 0
+times_zero a b e = ap (λ (n : ℤ). a *ℤ n) e ∙ mul_zero a
+
 pub mul_one : (a : ℤ) → a *ℤ pos 1 ≡ a
 mul_one a = omega (arith, ints)
 

@@ -6,7 +6,7 @@ use Rattle.std.proofs.lemmas.Bool.{cases_Bool, or_right, both_ways}
 use Rattle.std.proofs.lemmas.List.Sums.{sum_by-cons}
 use Rattle.mesh_plane.specs.Plane.{Point, Edge, turn}
 use Rattle.mesh_plane.specs.Winding.{sum_of, crossing_of, crossing, total, IsBalanced, same_point}
-use Rattle.mesh_plane.proofs.Whole.{linear, mul_one}
+use Rattle.mesh_plane.proofs.Whole.{linear, times_zero, mul_one}
 use Rattle.mesh_plane.proofs.Ring.{ring, var, lit, ◌⊕◌, ◌⊖◌, ◌⊗◌}
 use Rattle.mesh_plane.proofs.Crossings.{crossing_low, crossing_high}
 use Rattle.mesh_plane.proofs.Balance.{growth, growth_of_balanced}
@@ -266,12 +266,6 @@ two_over q s e meet o k =
 pub data Alone (q : Point) (rs : List Edge) : Type 0 where
   nowhere : ((n : Edge → ℤ) → sum_of (λ (s : Edge). n s *ℤ lift q s) rs ≡ pos 0) → Alone q rs
   at_one : (s : Edge) → Over q s → Leans s → occurs s rs ≡ true → ((n : Edge → ℤ) → sum_of (λ (e : Edge). n e *ℤ lift q e) rs ≡ n s) → Alone q rs
-
-times_zero : (n z : ℤ) → z ≡ pos 0 → n *ℤ z ≡ pos 0
-times_zero n z e = ap (λ (x : ℤ). n *ℤ x) e ∙ none n
-  where
-    none : (a : ℤ) → a *ℤ pos 0 ≡ pos 0
-    none a = omega (arith, ints)
 
 times_one : (n z : ℤ) → z ≡ pos 1 → n *ℤ z ≡ n
 times_one n z e = ap (λ (x : ℤ). n *ℤ x) e ∙ mul_one n

@@ -9,7 +9,7 @@ use Rattle.std.proofs.lemmas.Bool.Decides.{Decides-int_eq}
 use Rattle.mesh_plane.specs.Plane.{Point, Edge, turn}
 use Rattle.mesh_plane.specs.Winding.{crossing}
 use Rattle.mesh_plane.proofs.Whole.{linear, mul_pos, mul_nonneg, mul_pos_neg, mul_nonneg_nonpos, mul_neg_pos, mul_nonpos, mul_nonpos_nonneg, pos_of_mul, neg_of_mul, nonpos_of_mul, nonneg_of_mul, mul_le_mul_left, factor}
-use Rattle.mesh_plane.proofs.Ring.{ring, var, lit, ◌⊕◌, ◌⊖◌, ◌⊗◌}
+use Rattle.mesh_plane.proofs.Ring.{ring, var, lit, ◌⊖◌, ◌⊗◌}
 use Rattle.mesh_plane.proofs.Crossings.{crossing_low, crossing_high, turn_flip}
 use Rattle.mesh_plane.proofs.Sums.{total_append}
 use Rattle.mesh_cuts.specs.Split.{same_ends, occurs, IsInBox, IsBetween, Cut, cut, after, path}
@@ -18,8 +18,9 @@ use Rattle.mesh_plane.proofs.Places.{place, coordinates, turned, scaled_place}
 use Rattle.mesh_sides.proofs.SidesPotential.{above, crosses_west, crosses_east}
 use Rattle.mesh_plane.proofs.Grids.{scale, winds}
 use Rattle.mesh_cuts.proofs.Keys.{occurs_head}
-use Rattle.mesh_cuts.proofs.KeptByCuts.{Boxed, after_append, box_first, box_last, box_trans, cut_box}
-use Rattle.mesh_cuts.proofs.Boxes.{turn_start, turn_end}
+use Rattle.mesh_cuts.proofs.KeptByCuts.{Boxed, after_append, box_trans, cut_box}
+use Rattle.mesh_cuts.proofs.Boxes.{turn_start, turn_end, start_box, end_box}
+use Rattle.mesh_cuts.proofs.Beside.{turn_between}
 use Rattle.std.proofs.lemmas.Bool.{not-false}
 
 -- the crossings of edges between points with `P` are differences of a number of the point
@@ -173,26 +174,21 @@ scaled_past m a v b z some h x y =
     (λ (k : b <ℤ a). let l : (m *ℤ v) ≤ℤ (m *ℤ a) = mul_le_mul_left m v a (omega (arith, linear)) (h.down (omega (arith, linear))).1 in omega (arith, linear))
     (λ (k : a ≤ℤ b). let l : (m *ℤ v) ≤ℤ (m *ℤ b) = mul_le_mul_left m v b (omega (arith, linear)) (h.up k).1 in omega (arith, linear))
 
-side_turn : (v w q : Point) → turn v w q ≡ ((w.0 -ℤ q.0) *ℤ (q.1 -ℤ v.1)) +ℤ ((v.0 -ℤ q.0) *ℤ (w.1 -ℤ q.1))
-side_turn v w q =
-    ring (coordinates (v ∷ w ∷ q ∷ []) []) (turned (place 0) (place 1) (place 2))
-    (((var 2 ⊖ var 4) ⊗ (var 5 ⊖ var 1)) ⊕ ((var 0 ⊖ var 4) ⊗ (var 3 ⊖ var 5))) refl
-
 east_of_point : (v w q : Point) → q.0 <ℤ v.0 → q.0 <ℤ w.0 → crossing q v w ≡ above q.1 w.1 -ℤ above q.1 v.1
 east_of_point v w q a b =
     crosses_west v.1 w.1 q.1 (turn v w q)
     (λ (low : v.1 ≤ℤ q.1) (high : q.1 <ℤ w.1).
-    omega (arith, linear, side_turn v w q, mul_nonneg (w.0 -ℤ q.0) (q.1 -ℤ v.1) (omega (arith, linear)) (omega (arith, linear)), mul_pos (v.0 -ℤ q.0) (w.1 -ℤ q.1) (omega (arith, linear)) (omega (arith, linear))))
+    omega (arith, linear, turn_between v w q, mul_nonneg (w.0 -ℤ q.0) (q.1 -ℤ v.1) (omega (arith, linear)) (omega (arith, linear)), mul_pos (v.0 -ℤ q.0) (w.1 -ℤ q.1) (omega (arith, linear)) (omega (arith, linear))))
     (λ (low : w.1 ≤ℤ q.1) (high : q.1 <ℤ v.1).
-    omega (arith, linear, side_turn v w q, mul_pos_neg (w.0 -ℤ q.0) (q.1 -ℤ v.1) (omega (arith, linear)) (omega (arith, linear)), mul_nonneg_nonpos (v.0 -ℤ q.0) (w.1 -ℤ q.1) (omega (arith, linear)) (omega (arith, linear))))
+    omega (arith, linear, turn_between v w q, mul_pos_neg (w.0 -ℤ q.0) (q.1 -ℤ v.1) (omega (arith, linear)) (omega (arith, linear)), mul_nonneg_nonpos (v.0 -ℤ q.0) (w.1 -ℤ q.1) (omega (arith, linear)) (omega (arith, linear))))
 
 west_of_point : (v w q : Point) → v.0 <ℤ q.0 → w.0 <ℤ q.0 → crossing q v w ≡ pos 0
 west_of_point v w q a b =
     crosses_east v.1 w.1 q.1 (turn v w q)
     (λ (low : v.1 ≤ℤ q.1) (high : q.1 <ℤ w.1).
-    omega (arith, linear, side_turn v w q, mul_nonpos_nonneg (w.0 -ℤ q.0) (q.1 -ℤ v.1) (omega (arith, linear)) (omega (arith, linear)), mul_nonpos_nonneg (v.0 -ℤ q.0) (w.1 -ℤ q.1) (omega (arith, linear)) (omega (arith, linear))))
+    omega (arith, linear, turn_between v w q, mul_nonpos_nonneg (w.0 -ℤ q.0) (q.1 -ℤ v.1) (omega (arith, linear)) (omega (arith, linear)), mul_nonpos_nonneg (v.0 -ℤ q.0) (w.1 -ℤ q.1) (omega (arith, linear)) (omega (arith, linear))))
     (λ (low : w.1 ≤ℤ q.1) (high : q.1 <ℤ v.1).
-    omega (arith, linear, side_turn v w q, mul_nonpos (w.0 -ℤ q.0) (q.1 -ℤ v.1) (omega (arith, linear)) (omega (arith, linear)), mul_nonpos (v.0 -ℤ q.0) (w.1 -ℤ q.1) (omega (arith, linear)) (omega (arith, linear))))
+    omega (arith, linear, turn_between v w q, mul_nonpos (w.0 -ℤ q.0) (q.1 -ℤ v.1) (omega (arith, linear)) (omega (arith, linear)), mul_nonpos (v.0 -ℤ q.0) (w.1 -ℤ q.1) (omega (arith, linear)) (omega (arith, linear))))
 
 -- crossings between points of a box that the point lies outside of
 pub box_level : (m : ℤ) (e : Edge) (q : Point) → pos 0 <ℤ m → (IsInBox (scale m e.0, scale m e.1) q → ⊥) → Level m q (IsInBox e)
@@ -265,8 +261,8 @@ cut_chain k e box p r (f ∷ es) hp h =
 
 -- the path of an edge stays in the edge's box
 pub path_chain : (ks : List Cut) (e : Edge) → Boxed ks → Chain (IsInBox e) e.0 (path ks e) e.1
-path_chain [] e boxed = (refl, (box_last e, refl))
-path_chain (k ∷ ks) e boxed = cut_chain k e boxed.0 e.0 e.1 (path ks e) (box_first e) (path_chain ks e boxed.1)
+path_chain [] e boxed = (refl, (end_box e, refl))
+path_chain (k ∷ ks) e boxed = cut_chain k e boxed.0 e.0 e.1 (path ks e) (start_box e) (path_chain ks e boxed.1)
 
 -- a chain all of whose points lie on a line
 straight_chain : (e : Edge) (p r : Point) (es : List Edge) → Chain (IsInBox e) p es r →
@@ -282,7 +278,7 @@ pub path_winds : (ks : List Cut) (e : Edge) (m : ℤ) (q : Point) → Boxed ks �
 path_winds ks e m q boxed some differ out =
     ⊎_elim
     (λ (t : is_bent ks e ≡ true).
-    chain_winds m q (IsInBox e) (box_level m e q some (out t)) e.0 e.1 (path ks e) (box_first e) (box_last e) (path_chain ks e boxed))
+    chain_winds m q (IsInBox e) (box_level m e q some (out t)) e.0 e.1 (path ks e) (start_box e) (end_box e) (path_chain ks e boxed))
     (λ (f : is_bent ks e ≡ false).
     chain_winds m q (OnLine e.0 e.1) (line_level m e.0 e.1 q differ) e.0 e.1 (path ks e) (turn_start e.0 e.1) (turn_end e.0 e.1) (straight_chain e e.0 e.1 (path ks e) (path_chain ks e boxed) f))
     (cases_Bool (is_bent ks e))

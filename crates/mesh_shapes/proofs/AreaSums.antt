@@ -1,7 +1,7 @@
 -- Lemmas over whole numbers and lists: sums along a closed list of points, as 128 bits hold them.
 use Rattle.std.proofs.Common.{◌≡◌, ℕ, ◌+◌, ◌*◌, ◌^◌, ◌<◌, ◌≤◌, zero, suc, List, [], ◌∷◌, length, drop, ◌-◌, false, refl, sym, ◌∙◌, ap, subst, arith}
-use Rattle.std.specs.Prelude.{ℤ, pos, ◌+ℤ◌, ◌-ℤ◌, ◌*ℤ◌, unsigned_abs, ◌==◌}
-use Rattle.std.proofs.lemmas.Int.{ints, to_z-of_z, unsigned_abs-mul}
+use Rattle.std.specs.Prelude.{ℤ, pos, ◌+ℤ◌, unsigned_abs, ◌==◌}
+use Rattle.std.proofs.lemmas.Int.{ints, to_z-of_z}
 use Rattle.std.proofs.Math.Nat.{mul-le-mul}
 use Rattle.std.proofs.lemmas.Bool.{true≢false}
 use mir.Syntax.{w32, w128}
@@ -9,6 +9,7 @@ use mir.Val.{SFits, to_z, of_z}
 use Rattle.mesh_plane.specs.Bounds.{IsSmall}
 use Rattle.mesh_plane.specs.Plane.{Point}
 use Rattle.mesh_plane.specs.Winding.{total, route, boundary}
+use Rattle.mesh_plane.proofs.Sizes.{sum_size}
 use Rattle.mesh_plane.proofs.Whole.{linear}
 use Rattle.mesh_shapes.specs.Midway.Progress.{point_at}
 use Rattle.mesh_shapes.proofs.ContoursBegun.{at_place}
@@ -23,17 +24,8 @@ fits_long z n h m =
     let f : SFits w128 z = omega (arith, ints) in
     record { fits = f; kept = to_z-of_z w128 z f }
 
-pub sum_size : (a b : ℤ) (m n : ℕ) → unsigned_abs a ≤ m → unsigned_abs b ≤ n → unsigned_abs (a +ℤ b) ≤ m + n
-sum_size a b m n h k = omega (arith, ints)
-
-pub difference_size : (a b : ℤ) (m n : ℕ) → unsigned_abs a ≤ m → unsigned_abs b ≤ n → unsigned_abs (a -ℤ b) ≤ m + n
-difference_size a b m n h k = omega (arith, ints)
-
 pub narrow_size : (z : ℤ) → SFits w32 z → unsigned_abs z ≤ 2 ^ 31
 narrow_size z f = omega (arith, ints)
-
-pub product_size : (a b : ℤ) (m n : ℕ) → unsigned_abs a ≤ m → unsigned_abs b ≤ n → unsigned_abs (a *ℤ b) ≤ m * n
-product_size a b m n h k = omega (arith, unsigned_abs-mul a b, mul-le-mul h k)
 
 -- one more edge of the sum along a list
 pub route_place : (f : Point → Point → ℤ) (before z : Point) (ps : List Point) (i : ℕ) → i < length ps →

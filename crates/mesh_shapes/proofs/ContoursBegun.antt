@@ -6,7 +6,7 @@ use Rattle.std.specs.List.{All}
 use Rattle.std.proofs.lemmas.Int.{ints}
 use Rattle.std.proofs.lemmas.Bool.{cases_Bool, both_ways, or_from}
 use Rattle.std.proofs.lemmas.Bool.Decides.{Decides-int_eq}
-use Rattle.std.proofs.lemmas.List.Elements.{All-nil, All-cons, All-head, All-tail}
+use Rattle.std.proofs.lemmas.List.Elements.{All-head, All-tail, All-from_recursion}
 use Rattle.std.proofs.lemmas.List.{take-append-drop}
 use Rattle.std.proofs.Math.Seq.{drop-cons}
 use Rattle.mesh_plane.specs.Plane.{Point, Edge, minus, cross, dot}
@@ -196,19 +196,15 @@ kept_edges false p m k a (x ∷ xs) lk hk hx v = by (turns_at a x (first_or p xs
     by true h own further = (not_less_edge p m k x lk h, own)
     by false h own further = further h
 
-all_each : {A : Type 0} (P : A → Type 0) (xs : List A) → Each P xs → All P xs
-all_each P [] h = All-nil P
-all_each P (x ∷ xs) h = All-cons P x xs h.0 (all_each P xs h.1)
-
 first_least : (p m : Point) (xs : List Point) → first_or p xs ≡ m → Each (NotLess p m) (route p xs p) → FirstIsLeast (route p xs p)
-first_least p m [] e h = all_each (λ (f : Edge). edge_lt f (p, p) ≡ false) [] tt
+first_least p m [] e h = All-from_recursion (λ (f : Edge). edge_lt f (p, p) ≡ false) [] tt
 first_least p m (x ∷ xs) e h =
-    all_each (λ (f : Edge). edge_lt f (p, x) ≡ false) (route x xs p) (each_more (NotLess p m) (λ (f : Edge). edge_lt f (p, x) ≡ false) (λ (f : Edge) (g : NotLess p m f). subst (λ (q : Point). edge_lt f (p, q) ≡ false) (sym e) g) (route x xs p) h.1)
+    All-from_recursion (λ (f : Edge). edge_lt f (p, x) ≡ false) (route x xs p) (each_more (NotLess p m) (λ (f : Edge). edge_lt f (p, x) ≡ false) (λ (f : Edge) (g : NotLess p m f). subst (λ (q : Point). edge_lt f (p, q) ≡ false) (sym e) g) (route x xs p) h.1)
 
 -- a contour begins at its least point and at the visit of it with the least next vertex
 pub begun_of : (all : Bool) (p : Point) (xs : List Point) → NoneLess p xs → VisitsLeast all p (next_kept all p xs p) (p ∷ xs) → IsBegun all (p ∷ xs)
 begun_of all p xs hx v = record {
-  at_least = all_each (λ (q : Point). point_lt q p ≡ false) xs hx;
+  at_least = All-from_recursion (λ (q : Point). point_lt q p ≡ false) xs hx;
   least_next =
       first_least p (next_kept all p xs p) (kept all p xs p) refl
       (kept_edges all p (next_kept all p xs p) p p xs (lt_self p) v.0 hx v.1);

@@ -21,6 +21,7 @@ use Rattle.mesh_cuts.specs.Boundary.{count}
 use Rattle.mesh_cuts.specs.Counted.{bit}
 use Rattle.mesh_shapes.specs.Midway.Unused.{unused, IsOpen, IsNext, TakesContours}
 use Rattle.mesh_shapes.specs.Vectors.{StartsInOrder, HavePoints, contour_edges}
+use Rattle.mesh_cuts.proofs.Counts.{bit_least}
 use Rattle.mesh_cuts.proofs.SidesBack.{count_more}
 use Rattle.mesh_plane.proofs.Comparing.{decides_point}
 use Rattle.mesh_plane.proofs.Comparing.{less_test, not_less_test, test_less, edge_cmp, cmp_lt, then_lt, first_not_less}
@@ -230,10 +231,6 @@ not_stuck es p xs at left balanced apart same none =
     ends : (l : List Edge) → total (growth mark) l ≡ sum_of (λ (e : Edge). mark e.1) l -ℤ sum_of (λ (e : Edge). mark e.0) l
     ends [] = refl
     ends (e ∷ es) = omega (arith, linear, ends es)
-
-    bit_least : (b : Bool) → pos 0 ≤ℤ bit b
-    bit_least true = omega (arith, ints)
-    bit_least false = omega (arith, ints)
 
     least : (l : List Edge) → pos 0 ≤ℤ sum_of (λ (e : Edge). mark e.1) l
     least [] = omega (arith, ints)

@@ -11,7 +11,7 @@ use Rattle.mesh_plane.proofs.Crossings.{turn_flip}
 use Rattle.mesh_plane.proofs.Grids.{scale}
 use Rattle.mesh_cuts.specs.Clean.{IsOn, IsClean}
 use Rattle.mesh_cuts.specs.Split.{occurs, is_end, IsBetween}
-use Rattle.mesh_cuts.proofs.Boxes.{turn_start, start_box}
+use Rattle.mesh_cuts.proofs.Boxes.{turn_start, start_box, on_back}
 use Rattle.mesh_cuts.proofs.Ends.{decides_end, not_ends}
 use Rattle.mesh_sides.proofs.SidesClear.{four_turns, meeting_of}
 use Rattle.mesh_sides.proofs.SidesConstant.{Clear, on_left, on_right, ahead, behind, on_one_line}
@@ -123,15 +123,6 @@ parted_turned q u p r (way_left a b) = way_right (omega (arith, linear, turn_fli
 parted_turned q u p r (way_right a b) = way_left (omega (arith, linear, turn_flip p r q)) (omega (arith, linear, turn_flip p r u))
 parted_turned q u p r (one_line c d a b) = one_line d c (omega (arith, linear, turn_flip p r q)) (omega (arith, linear, turn_flip p r u))
 
-on_turned : (p r a : Point) → IsOn (r, p) a → IsOn (p, r) a
-on_turned p r a h = record {
-  on_line = omega (arith, linear, turn_flip p r a, h.on_line);
-  in_box = record {
-    by_x = record { up = λ x. (let w = h.in_box.by_x.down x in w); down = λ x. (let w = h.in_box.by_x.up x in w) };
-    by_y = record { up = λ x. (let w = h.in_box.by_y.down x in w); down = λ x. (let w = h.in_box.by_y.up x in w) };
-  };
-}
-
 -- the way from an end of a segment to its middle is parted from an edge that keeps clear of the segment and is not on the end
 pub end_parted : (a b p r : Point) → (IsOn (p, r) a → ⊥) → Clear a b p r → PartedEnd a b p r
 end_parted a b p r off (on_left x y) = edge_left (omega (arith, linear, way_twice a b p)) (omega (arith, linear, way_twice a b r))
@@ -139,7 +130,7 @@ end_parted a b p r off (on_right x y) = edge_right (omega (arith, linear, way_tw
 end_parted a b p r off (ahead x y some) = ahead_parted a b p r off x y some
 end_parted a b p r off (behind x y some) =
     parted_turned (scale (pos 2) a) (plus a b) (scale (pos 2) p) (scale (pos 2) r)
-    (ahead_parted a b r p (λ (h : IsOn (r, p) a). off (on_turned p r a h)) (omega (arith, linear, turn_flip p r a)) (omega (arith, linear, turn_flip p r b))
+    (ahead_parted a b r p (λ (h : IsOn (r, p) a). off (on_back (r, p) a h)) (omega (arith, linear, turn_flip p r a)) (omega (arith, linear, turn_flip p r b))
     (omega (arith, linear, turn_flip p r a, turn_flip p r b)))
 end_parted a b p r off (on_one_line x y u v) =
     one_line (omega (arith, linear, way_twice a b p)) (omega (arith, linear, way_twice a b r)) (omega (arith, linear, end_twice a p r)) (omega (arith, linear, middle_twice a b p r))

@@ -15,6 +15,7 @@ use Rattle.mesh_cuts.specs.Clean.{refined_edge}
 use Rattle.mesh_sides.specs.Laws.{AreSplit}
 use Rattle.mesh_sides.proofs.FinerGrids.{winds_finer}
 use Rattle.mesh_sides.proofs.LineWindings.{inside_beside}
+use Rattle.mesh_cuts.proofs.Boxes.{between_back}
 use Rattle.mesh_cuts.proofs.Ends.{decides_end}
 use Rattle.mesh_cuts.proofs.Each.{proper_of}
 
@@ -92,12 +93,6 @@ forth m a b z some w =
     (λ (h : a ≤ℤ b).
     let o : (m *ℤ a) ≤ℤ (m *ℤ b) = mul_le_mul_left m a b (omega (arith, linear)) h in
     let r = w.up o in mul_nonneg (b -ℤ a) (z -ℤ (m *ℤ a)) (omega (arith, linear)) (omega (arith, linear, r.0)))
-
-turned_between : (a z b : ℤ) → IsBetween a z b → IsBetween b z a
-turned_between a z b w = record {
-  up = λ (h : b ≤ℤ a). (let r = w.down h in r);
-  down = λ (h : a ≤ℤ b). (let r = w.up h in r);
-}
 
 square_some : (p r : Point) → (p ≡ r → ⊥) → pos 0 <ℤ square p r
 square_some p r differ =
@@ -182,7 +177,7 @@ inside_winding es split e stands m some q within =
     along_some (pos m) p r q big long flat within.in_box.by_x within.in_box.by_y (λ (h : q ≡ scale (pos m) p). no_end (inl h)) in
     let last : pos 0 <ℤ way_past (pos m) r p q =
     along_some (pos m) r p q big (subst (λ (z : ℤ). pos 0 <ℤ z) (sym (square_back p r)) long) (omega (arith, linear, bare_back (pos m) p r q))
-    (turned_between (pos m *ℤ p.0) q.0 (pos m *ℤ r.0) within.in_box.by_x) (turned_between (pos m *ℤ p.1) q.1 (pos m *ℤ r.1) within.in_box.by_y)
+    (between_back (pos m *ℤ r.0) q.0 (pos m *ℤ p.0) within.in_box.by_x) (between_back (pos m *ℤ r.1) q.1 (pos m *ℤ p.1) within.in_box.by_y)
     (λ (h : q ≡ scale (pos m) r). no_end (inr h)) in
     let half : ℤ = pos m *ℤ n in
     let t : ℤ = pos 2 *ℤ way_past (pos m) p r q in

@@ -7,7 +7,7 @@ use Rattle.mesh_plane.specs.Plane.{Point, Edge, plus, turn}
 use Rattle.mesh_plane.specs.Winding.{sum_of, total, same_point, refined, winding}
 use Rattle.mesh_plane.proofs.Whole.{linear, mul_one, mul_zero}
 use Rattle.mesh_plane.proofs.Balance.{growth, growth_of_balanced}
-use Rattle.mesh_plane.proofs.Comparing.{decides_point}
+use Rattle.mesh_plane.proofs.Comparing.{point_self, points_apart}
 use Rattle.mesh_plane.proofs.Grids.{scale, part, winds}
 use Rattle.mesh_cuts.specs.Boundary.{rises, winding_beside, left_winding, right_winding}
 use Rattle.mesh_cuts.specs.Clean.{IsOn}
@@ -107,20 +107,13 @@ step s e = bit (leaves_before s e) -ℤ bit (leaves_before s (back e))
 abbrev comes_in : ℤ → Point → Edge → ℤ
 comes_in c v e = growth (λ (p : Point). c *ℤ bit (same_point v p)) e.0 e.1
 
-apart_points : (v x : Point) → (v ≡ x → ⊥) → same_point v x ≡ false
-apart_points v x differ =
-    ⊎_elim (λ (t : same_point v x ≡ true). absurd (differ ((decides_point v x).0 t))) (λ (f : same_point v x ≡ false). f) (cases_Bool (same_point v x))
-
-own_point : (v : Point) → same_point v v ≡ true
-own_point v = (decides_point v v).1 refl
-
 apart_ends : (v : Point) (e : Edge) → is_end v e ≡ false → (same_point v e.0 ≡ false) × (same_point v e.1 ≡ false)
 unfolding is_end
 apart_ends v e h = or_parts (same_point v e.0) (same_point v e.1) h
 
 step_leaving : (v w x : Point) → (v ≡ x → ⊥) → step (v, w) (v, x) ≡ before v x w
 step_leaving v w x differ =
-    (λ i. bit (own_point v i && comes_before (v, x) (v, w)) -ℤ bit (apart_points v x differ i && comes_before (x, v) (v, w))) ∙ less_none (before v x w)
+    (λ i. bit (point_self v i && comes_before (v, x) (v, w)) -ℤ bit (points_apart v x differ i && comes_before (x, v) (v, w))) ∙ less_none (before v x w)
   where
     less_none : (a : ℤ) → a -ℤ pos 0 ≡ a
     less_none a = omega (arith, linear)
@@ -143,7 +136,7 @@ along_none s e h = not_along s e (ends_sym s e ∙ not_ends s.0 e s h ((decides_
 
 comes_in_leaving : (c : ℤ) (v x : Point) → (v ≡ x → ⊥) → comes_in c v (v, x) ≡ neg_ℤ c
 comes_in_leaving c v x differ =
-    (λ i. (c *ℤ bit (apart_points v x differ i)) -ℤ (c *ℤ bit (own_point v i))) ∙ omega (arith, linear, mul_zero c, mul_one c)
+    (λ i. (c *ℤ bit (points_apart v x differ i)) -ℤ (c *ℤ bit (point_self v i))) ∙ omega (arith, linear, mul_zero c, mul_one c)
 
 comes_in_none : (c : ℤ) (v : Point) (e : Edge) → is_end v e ≡ false → comes_in c v e ≡ pos 0
 comes_in_none c v e h =

@@ -3,7 +3,8 @@ use Rattle.std.specs.Prelude.{◌-ℤ◌}
 use Rattle.std.proofs.lemmas.Int.{to_z-of_z}
 use mir.Syntax.{w32}
 use mir.Val.{SFits}
-use Rattle.mesh_shapes.proofs.AreaSums.{fits_long, difference_size}
+use Rattle.mesh_plane.proofs.Sizes.{difference_size}
+use Rattle.mesh_shapes.proofs.AreaSums.{fits_long}
 use Rattle.mesh_shapes.proofs.area.area_of.Goals as goal
 
 pub returns-clause-value : goal.returns-clause-value

@@ -2,7 +2,8 @@ use Rattle.std.proofs.Common.{lit<, ◌*◌, ◌^◌}
 use Rattle.std.specs.Prelude.{◌*ℤ◌}
 use Rattle.std.proofs.lemmas.Int.{to_z-of_z}
 use mir.Syntax.{w32}
-use Rattle.mesh_shapes.proofs.AreaSums.{fits_long, narrow_size, product_size}
+use Rattle.mesh_plane.proofs.Sizes.{product_size}
+use Rattle.mesh_shapes.proofs.AreaSums.{fits_long, narrow_size}
 use Rattle.mesh_shapes.proofs.area.long.Goals as goal
 
 pub returns-clause-size : goal.returns-clause-size

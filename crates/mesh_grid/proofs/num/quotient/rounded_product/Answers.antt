@@ -9,7 +9,8 @@ use mir.Val.{to_z, of_z}
 use Rattle.mesh_plane.specs.Rounding.{rounded}
 use Rattle.mesh_plane.proofs.Sizes.{size_neg}
 use Rattle.mesh_grid.specs.Quotient.{rounded_product}
-use Rattle.mesh_grid.proofs.Passed.{product_small, opposite_fits, passed_opposite, size_positive}
+use Rattle.mesh_plane.proofs.Sizes.{size_positive}
+use Rattle.mesh_grid.proofs.Passed.{product_small, opposite_fits, passed_opposite}
 use Rattle.mesh_grid.proofs.num.quotient.rounded_product.Goals as goal
 
 below : (a b d : ℤ) → lt_z d (pos 0) ≡ true → rounded (neg_ℤ (a *ℤ b)) (unsigned_abs d) ≡ rounded_product a b d

@@ -1,7 +1,8 @@
 -- Sums of two products of at most 2 ^ 61 fit 128 bits.
-use Rattle.std.proofs.Common.{◌∙◌}
+use Rattle.std.proofs.Common.{◌∙◌, ◌^◌}
 use Rattle.std.specs.Prelude.{◌-ℤ◌, ◌+ℤ◌}
-use Rattle.mesh_grid.proofs.Passed.{passed_product, difference_size, sum_size, difference_fits, sum_fits, passed_difference, passed_sum}
+use Rattle.mesh_plane.proofs.Sizes.{sum_size, difference_size}
+use Rattle.mesh_grid.proofs.Passed.{passed_product, difference_fits, sum_fits, passed_difference, passed_sum}
 use Rattle.mesh_grid.proofs.num.rotation.turned.Goals as goal
 
 pub overflow_sub-result : goal.overflow_sub-result
@@ -23,9 +24,9 @@ returns-clause-value c =
 pub returns-clause-x_size : goal.returns-clause-x_size
 returns-clause-x_size c =
     rw (passed_difference c.product.result c.product-2.result c.product.ensures.size c.product-2.ensures.size)
-    (difference_size c.product.result c.product-2.result c.product.ensures.size c.product-2.ensures.size)
+    (difference_size c.product.result c.product-2.result (2 ^ 61) (2 ^ 61) c.product.ensures.size c.product-2.ensures.size)
 
 pub returns-clause-y_size : goal.returns-clause-y_size
 returns-clause-y_size c =
     rw (passed_sum c.product-3.result c.product-4.result c.product-3.ensures.size c.product-4.ensures.size)
-    (sum_size c.product-3.result c.product-4.result c.product-3.ensures.size c.product-4.ensures.size)
+    (sum_size c.product-3.result c.product-4.result (2 ^ 61) (2 ^ 61) c.product-3.ensures.size c.product-4.ensures.size)

@@ -5,7 +5,7 @@ use mir.Syntax.{w128}
 use Rattle.mesh_plane.specs.Plane.{Point}
 use Rattle.mesh_grid.specs.Direction.{IsShort}
 use Rattle.mesh_grid.specs.Rotation.{rotated}
-use Rattle.mesh_grid.proofs.Products.{size_of_within}
+use Rattle.mesh_plane.proofs.Sizes.{within_size}
 use Rattle.mesh_grid.proofs.Rotations.{rotated_length}
 use Rattle.mesh_grid.proofs.Passed.{sines_small, widened_fits, widened_is, short_passed}
 use Rattle.mesh_grid.proofs.num.rotation.Rotation.apply.Goals as goal
@@ -31,12 +31,12 @@ rotated-x-requires-clause-cosine g c =
 pub rotated-x-requires-clause-x : goal.rotated-x-requires-clause-x
 rotated-x-requires-clause-x g c =
     rw (to_z-of_z w128 c.widen.result (record { sfits = c.widen.type_inv }))
-    (size_of_within (2 ^ 31) c.widen.result c.widen.ensures.small)
+    (within_size (2 ^ 31) c.widen.result c.widen.ensures.small)
 
 pub rotated-x-requires-clause-y : goal.rotated-x-requires-clause-y
 rotated-x-requires-clause-y g c =
     rw (to_z-of_z w128 c.widen-2.result (record { sfits = c.widen-2.type_inv }))
-    (size_of_within (2 ^ 31) c.widen-2.result c.widen-2.ensures.small)
+    (within_size (2 ^ 31) c.widen-2.result c.widen-2.ensures.small)
 
 pub from_parts-requires : goal.from_parts-requires
 from_parts-requires g c =

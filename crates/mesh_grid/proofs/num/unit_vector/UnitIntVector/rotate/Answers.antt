@@ -7,7 +7,8 @@ use Rattle.mesh_plane.specs.Plane.{Point}
 use Rattle.mesh_plane.specs.Rounding.{rounded}
 use Rattle.mesh_grid.specs.Direction.{IsShort}
 use Rattle.mesh_grid.specs.Rotation.{turned, turned_along}
-use Rattle.mesh_grid.proofs.Products.{short_sizes, size_of_within}
+use Rattle.mesh_plane.proofs.Sizes.{within_size}
+use Rattle.mesh_grid.proofs.Products.{short_sizes}
 use Rattle.mesh_grid.proofs.Rotations.{turned_bounded, turned_along_within}
 use Rattle.mesh_grid.proofs.num.unit_vector.UnitIntVector.rotate.Goals as goal
 
@@ -26,12 +27,12 @@ turned-x-requires-clause-cosine g c =
 pub turned-x-requires-clause-x : goal.turned-x-requires-clause-x
 turned-x-requires-clause-x g c =
     rw (to_z-of_z w128 c.widen-3.result (record { sfits = c.widen-3.type_inv }))
-    (size_of_within (2 ^ 31) c.widen-3.result c.widen-3.ensures.small)
+    (within_size (2 ^ 31) c.widen-3.result c.widen-3.ensures.small)
 
 pub turned-x-requires-clause-y : goal.turned-x-requires-clause-y
 turned-x-requires-clause-y g c =
     rw (to_z-of_z w128 c.widen-4.result (record { sfits = c.widen-4.type_inv }))
-    (size_of_within (2 ^ 31) c.widen-4.result c.widen-4.ensures.small)
+    (within_size (2 ^ 31) c.widen-4.result c.widen-4.ensures.small)
 
 pub over_unit-requires : goal.over_unit-requires
 over_unit-requires g c =
@@ -43,7 +44,7 @@ over_unit-requires g c =
     let y = to_z-of_z w128 c.widen-4.result (record { sfits = c.widen-4.type_inv }) ∙ c.widen-4.ensures.value in
     let e = c.turned-x.ensures.value ∙ (λ i. turned (a i, b i) (x i, y i)) in
     rw (to_z-of_z w128 c.turned-x.result.0 (fits_signed_from_abs w128 c.turned-x.result.0 (omega (arith, c.turned-x.ensures.x_size))), e)
-    ((turned_bounded g.I.IntNumber.unit n v c.self.invariant (size_of_within _ _ c.widen-3.ensures.range) (size_of_within _ _ c.widen-4.ensures.range)).0)
+    ((turned_bounded g.I.IntNumber.unit n v c.self.invariant (within_size _ _ c.widen-3.ensures.range) (within_size _ _ c.widen-4.ensures.range)).0)
 
 pub over_unit-requires-2 : goal.over_unit-requires-2
 over_unit-requires-2 g c =
@@ -55,7 +56,7 @@ over_unit-requires-2 g c =
     let y = to_z-of_z w128 c.widen-4.result (record { sfits = c.widen-4.type_inv }) ∙ c.widen-4.ensures.value in
     let e = c.turned-x.ensures.value ∙ (λ i. turned (a i, b i) (x i, y i)) in
     rw (to_z-of_z w128 c.turned-x.result.1 (fits_signed_from_abs w128 c.turned-x.result.1 (omega (arith, c.turned-x.ensures.y_size))), e)
-    ((turned_bounded g.I.IntNumber.unit n v c.self.invariant (size_of_within _ _ c.widen-3.ensures.range) (size_of_within _ _ c.widen-4.ensures.range)).1)
+    ((turned_bounded g.I.IntNumber.unit n v c.self.invariant (within_size _ _ c.widen-3.ensures.range) (within_size _ _ c.widen-4.ensures.range)).1)
 
 pub returns-clause-value : goal.returns-clause-value
 returns-clause-value g c =
