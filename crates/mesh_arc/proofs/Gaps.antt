@@ -7,7 +7,8 @@ use Rattle.std.proofs.lemmas.Bool.{or_parts, both_ways, not-false, not_from_true
 use Rattle.mesh_plane.specs.Plane.{Point, Edge, length_sq}
 use Rattle.mesh_grid.specs.Rotation.{rotated}
 use Rattle.mesh_arc.specs.Arcs.{step_of, bound_of, is_within, is_good, is_passed, turned, turned_list, least, ends_after, most_directions, stepped, arc}
-use Rattle.mesh_arc.specs.Gaps.{gaps, last_of, HasNearGaps, ReachesEnd}
+use Rattle.mesh_plane.specs.Ways.{last_of}
+use Rattle.mesh_arc.specs.Gaps.{gaps, HasNearGaps, ReachesEnd}
 use Rattle.mesh_arc.specs.declared.arc.ArcDirection.{ArcDirection}
 use Rattle.mesh_arc.specs.declared.arc.ArcOptions.{ArcOptions}
 use Rattle.mesh_arc.proofs.Passing.{good_within, passing}
@@ -25,7 +26,7 @@ near_gaps P step from (suc n) h =
     subst P (λ i. (sym (turned_first step from k) i, ap (rotated step) (sym (turned_first step from k)) i)) (h (suc k) m)))
 
 last_turned : (step from : Point) (n : ℕ) → last_of from (turned_list step from n) ≡ turned step from n
-unfolding turned turned_list last_of
+unfolding turned turned_list
 last_turned step from zero = refl
 last_turned step from (suc n) = last_turned step (rotated step from) n ∙ turned_first step from n
 
@@ -69,7 +70,7 @@ stepped_end : (sense : ArcDirection) (bound step from end : Point) → 0 < lengt
     → (length (stepped sense bound step from end) ≡ most_directions → ⊥)
     → is_good sense bound (last_of from (stepped sense bound step from end)) (rotated step (last_of from (stepped sense bound step from end))) ≡ true
     → is_within sense bound (last_of from (stepped sense bound step from end)) end ≡ true
-unfolding stepped last_of turned
+unfolding stepped turned
 stepped_end sense bound step from end h z = by (is_within sense bound from end) refl
   where
     by : (b : Bool) → is_within sense bound from end ≡ b

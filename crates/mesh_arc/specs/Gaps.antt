@@ -1,7 +1,8 @@
 -- Gaps of arcs: how far neighbouring directions lie apart.
-use Rattle.std.specs.Prelude.{ℕ, suc, ◌≡◌, ◌≢◌, ◌≤◌, ◌<◌, ◌^◌, IsTrue, List, [], ◌∷◌, length}
+use Rattle.std.specs.Prelude.{ℕ, suc, ◌≢◌, ◌<◌, ◌^◌, IsTrue, List, [], ◌∷◌, length}
 use Rattle.std.specs.List.{All}
 use Rattle.mesh_plane.specs.Plane.{Point, Edge}
+use Rattle.mesh_plane.specs.Ways.{last_of}
 use Rattle.mesh_grid.specs.Rotation.{rotated}
 use Rattle.mesh_arc.specs.Arcs.{step_of, bound_of, is_within, is_good, turned, most_directions}
 use Rattle.mesh_arc.specs.declared.arc.ArcDirection.{ArcDirection}
@@ -11,11 +12,6 @@ use Rattle.mesh_arc.specs.declared.arc.ArcOptions.{ArcOptions}
 unfoldable pub gaps : Point → List Point → List Edge
 gaps from [] = []
 gaps from (d ∷ ds) = (from, d) ∷ gaps d ds
-
--- the last of `from` and the directions after it
-unfoldable pub last_of : Point → List Point → Point
-last_of from [] = from
-last_of from (d ∷ ds) = last_of d ds
 
 -- each gap is within a step
 abbrev pub HasNearGaps : ArcOptions → ArcDirection → Point → List Point → Type 0

@@ -9,7 +9,8 @@ use Rattle.mesh_plane.specs.Bounds.{IsSafe}
 use Rattle.mesh_plane.specs.Plane.{Point, Edge}
 use Rattle.mesh_plane.specs.Winding.{route, boundary}
 use Rattle.mesh_cuts.specs.Boundary.{IsBoundary}
-use Rattle.mesh_shapes.specs.Contours.{turns_at, first_or, turning_points, vertices, reversed}
+use Rattle.mesh_plane.specs.Ways.{turns_at, first_or}
+use Rattle.mesh_shapes.specs.Contours.{turning_points, vertices, reversed}
 use Rattle.mesh_cuts.specs.Reach.{AreEdgesSafe, ArePointsSafe}
 use Rattle.mesh_shapes.specs.Resolution.{Choices, Ring, Placed, ring_of, is_large, is_head, stands_with, shape_of, answered, AreArranged, IsResolution}
 use Rattle.mesh_cuts.specs.Split.{occurs, after}

@@ -1,18 +1,18 @@
 -- Lemmas over lists: tests of each element, and balance as a comparison of two sorted lists.
-use Rattle.std.proofs.Common.{◌≡◌, ℕ, ◌+◌, ◌<◌, ◌≤◌, ◌⊎◌, ⊎_elim, Bool, true, false, List, [], ◌∷◌, map, length, take, get_or, suc, refl, sym, ◌∙◌, ap, subst, arith}
-use Rattle.std.specs.Prelude.{ℤ, pos, ◌+ℤ◌, ◌≤ℤ◌}
+use Rattle.std.proofs.Common.{◌≡◌, ℕ, ◌+◌, ◌<◌, ◌≤◌, ◌⊎◌, ⊎_elim, true, false, List, [], ◌∷◌, map, length, take, get_or, suc, refl, sym, ◌∙◌, ap, subst, arith}
+use Rattle.std.specs.Prelude.{ℤ, pos, ◌≤ℤ◌}
 use Rattle.std.specs.List.{All}
 use Rattle.std.proofs.lemmas.Bool.{both_ways, cases_Bool}
-use Rattle.std.proofs.lemmas.Int.{ints}
 use Rattle.std.proofs.lemmas.List.{take_more, take_all, get_or-map}
 use Rattle.std.proofs.lemmas.List.Elements.{All-push}
 use Rattle.mesh_plane.specs.Plane.{Point, Edge}
-use Rattle.mesh_plane.specs.Winding.{IsBalanced, sum_of, total, same_point}
+use Rattle.mesh_plane.specs.Winding.{IsBalanced, sum_of, same_point}
 use Rattle.mesh_plane.specs.Order.{point_lt}
-use Rattle.mesh_plane.proofs.Balance.{growth, growth_of_balanced, balanced_by_growth}
+use Rattle.mesh_plane.proofs.Balance.{growth_parts, growth_of_balanced, balanced_by_growth}
 use Rattle.mesh_plane.proofs.Sums.{sum_of_map}
 use Rattle.mesh_plane.proofs.Whole.{linear}
 use Rattle.mesh_cuts.specs.Counted.{bit}
+use Rattle.mesh_cuts.proofs.Counts.{bit_least}
 use Rattle.mesh_cuts.specs.Split.{back}
 use Rattle.mesh_shapes.specs.Vectors.{StartsInOrder}
 use Rattle.mesh_plane.proofs.Sums.{sum_least}
@@ -49,10 +49,6 @@ none_at p (e ∷ es) h =
     let own : bit (same_point p e.0) ≡ pos 0 = ap bit (h 0 e (omega arith)) in
     let rest : sums (λ (q : Point). bit (same_point p q)) es ≡ pos 0 = none_at p es (λ k d low. h (suc k) d (omega arith)) in
     omega (arith, linear)
-
-bit_least : (b : Bool) → pos 0 ≤ℤ bit b
-bit_least true = omega (arith, ints)
-bit_least false = omega (arith, ints)
 
 -- a start before all of the other list would be counted in one list alone
 not_less : (x y : Edge) (xs ys : List Edge) → StartsInOrder (y ∷ ys) → ((g : Point → ℤ) → sums g (x ∷ xs) ≡ sums g (y ∷ ys)) → Before x.0 y.0 → ⊥
@@ -91,10 +87,6 @@ same_starts (x ∷ xs) (y ∷ ys) h k same =
     (three_ways x.0 y.0)
 
 -- ---- balance
-growth_parts : (g : Point → ℤ) (es : List Edge) → total (growth g) es +ℤ sums g es ≡ sums g (map back es)
-growth_parts g [] = refl
-growth_parts g (e ∷ es) = omega (arith, linear, growth_parts g es)
-
 by_starts : (g : Point → ℤ) (xs ys : List Edge) → map start xs ≡ map start ys → sums g xs ≡ sums g ys
 by_starts g xs ys e = sym (sum_of_map g start xs) ∙ (ap (sum_of g) e ∙ sum_of_map g start ys)
 
@@ -103,10 +95,10 @@ pub alike_balanced : (es leaving entering : List Edge) → ((g : Edge → ℤ) �
     map start leaving ≡ map start entering → IsBalanced es
 alike_balanced es leaving entering l r e =
     balanced_by_growth es (λ (g : Point → ℤ).
-    omega (arith, linear, growth_parts g es, l (λ (x : Edge). g x.0), r (λ (x : Edge). g x.0), by_starts g leaving entering e))
+    omega (arith, linear, growth_parts g es, sum_of_map (λ (x : Edge). g x.0) back es, l (λ (x : Edge). g x.0), r (λ (x : Edge). g x.0), by_starts g leaving entering e))
 
 pub balanced_alike : (es leaving entering : List Edge) → ((g : Edge → ℤ) → sum_of g leaving ≡ sum_of g es) → ((g : Edge → ℤ) → sum_of g entering ≡ sum_of g (map back es)) →
     StartsInOrder leaving → StartsInOrder entering → IsBalanced es → map start leaving ≡ map start entering
 balanced_alike es leaving entering l r h k balanced =
     same_starts leaving entering h k (λ (g : Point → ℤ).
-    omega (arith, linear, growth_parts g es, l (λ (x : Edge). g x.0), r (λ (x : Edge). g x.0), growth_of_balanced es balanced g))
+    omega (arith, linear, growth_parts g es, sum_of_map (λ (x : Edge). g x.0) back es, l (λ (x : Edge). g x.0), r (λ (x : Edge). g x.0), growth_of_balanced es balanced g))

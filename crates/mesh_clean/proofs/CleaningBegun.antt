@@ -4,8 +4,9 @@ use Rattle.std.proofs.lemmas.Bool.{cases_Bool}
 use Rattle.std.proofs.lemmas.List.Elements.{All-nil, All-cons}
 use Rattle.mesh_plane.specs.Plane.{Point}
 use Rattle.mesh_plane.specs.Winding.{same_point}
-use Rattle.mesh_clean.specs.Cleaned.{changes_from, without_repeats, ring, kept_between, kept_inside, kept_round, last_of, last_first, begun, cleaned_points, AllEqual}
-use Rattle.mesh_clean.specs.Laws.{BeginsAt, first_or}
+use Rattle.mesh_plane.specs.Ways.{last_of, first_or}
+use Rattle.mesh_clean.specs.Cleaned.{changes_from, without_repeats, ring, kept_between, kept_inside, kept_round, last_first, begun, cleaned_points, AllEqual}
+use Rattle.mesh_clean.specs.Laws.{BeginsAt}
 use Rattle.mesh_plane.proofs.Comparing.{decides_point}
 use Rattle.mesh_clean.proofs.CleaningVectors.{SameWay, SameWay-self}
 use Rattle.mesh_clean.proofs.CleaningPass.{changes_from-same, changes_from-apart}

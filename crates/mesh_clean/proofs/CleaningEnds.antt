@@ -4,7 +4,8 @@ use Rattle.std.specs.List.{All}
 use Rattle.std.proofs.lemmas.List.Elements.{All-append, All-nil, All-cons, All-head, All-tail, All-take, All-drop}
 use Rattle.mesh_plane.specs.Plane.{Point, Edge}
 use Rattle.mesh_plane.specs.Winding.{route, boundary, same_point}
-use Rattle.mesh_clean.specs.Cleaned.{is_kept, changes_from, without_repeats, without_end, ring, kept_between, kept_inside, kept_round, last_first, begun, cleaned_points, cleaned_sections}
+use Rattle.mesh_plane.specs.Ways.{turns_at}
+use Rattle.mesh_clean.specs.Cleaned.{changes_from, without_repeats, without_end, ring, kept_between, kept_inside, kept_round, last_first, begun, cleaned_points, cleaned_sections}
 
 either_list : (P : Point → Type 0) (b : Bool) (xs ys : List Point) → All P xs → All P ys → All P (cond b xs ys)
 either_list P true xs ys h k = h
@@ -33,7 +34,7 @@ all_kept_between : (P : Point → Type 0) (p0 p1 : Point) (ps : List Point) → 
 all_kept_between P p0 p1 [] q h = All-nil P
 all_kept_between P p0 p1 (p2 ∷ ps) q h =
     let k = all_kept_between P p1 p2 ps (All-head P p2 ps h) (All-tail P p2 ps h) in
-    either_list P (is_kept p0 p1 p2) (p1 ∷ kept_between p1 p2 ps) (kept_between p1 p2 ps) (All-cons P p1 (kept_between p1 p2 ps) q k) k
+    either_list P (turns_at p0 p1 p2) (p1 ∷ kept_between p1 p2 ps) (kept_between p1 p2 ps) (All-cons P p1 (kept_between p1 p2 ps) q k) k
 
 all_kept_round : (P : Point → Type 0) (ps : List Point) → All P ps → All P (kept_round ps)
 all_kept_round P [] h = h

@@ -3,7 +3,8 @@ use Rattle.std.proofs.Common.{◌≡◌, inl, inr, refl, sym, ◌∙◌, ap, tru
 use Rattle.std.proofs.lemmas.Bool.{cases_Bool, cond-true, cond-false}
 use Rattle.mesh_plane.specs.Plane.{Point}
 use Rattle.mesh_plane.specs.Winding.{same_point}
-use Rattle.mesh_clean.specs.Cleaned.{is_kept, changes_from, without_end, kept_between, last_of}
+use Rattle.mesh_plane.specs.Ways.{turns_at, last_of}
+use Rattle.mesh_clean.specs.Cleaned.{changes_from, without_end, kept_between}
 use Rattle.mesh_plane.proofs.Comparing.{decides_point, points_swap}
 use Rattle.mesh_clean.proofs.CleaningPass.{changes_from-same, changes_from-apart}
 
@@ -59,8 +60,8 @@ round_to q p k zs e g =
     tail (x ∷ xs) = xs
 
 -- the verdict on the last but one hangs on the direction to the last
-pub kept_between-end : (y p : Point) (ts : List Point) (q k r : Point) → ((x : Point) → is_kept x q k ≡ is_kept x q r) →
+pub kept_between-end : (y p : Point) (ts : List Point) (q k r : Point) → ((x : Point) → turns_at x q k ≡ turns_at x q r) →
     kept_between y p (ts ++ q ∷ k ∷ []) ≡ kept_between y p (ts ++ q ∷ r ∷ [])
-kept_between-end y p [] q k r f = ap (λ b. cond (is_kept y p q) (p ∷ cond b (q ∷ []) []) (cond b (q ∷ []) [])) (f p)
+kept_between-end y p [] q k r f = ap (λ b. cond (turns_at y p q) (p ∷ cond b (q ∷ []) []) (cond b (q ∷ []) [])) (f p)
 kept_between-end y p (t ∷ ts) q k r f =
-    ap (λ ws. cond (is_kept y p t) (p ∷ ws) ws) (kept_between-end p t ts q k r f)
+    ap (λ ws. cond (turns_at y p t) (p ∷ ws) ws) (kept_between-end p t ts q k r f)

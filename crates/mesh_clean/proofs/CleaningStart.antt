@@ -3,35 +3,36 @@ use Rattle.std.proofs.Common.{◌≡◌, ◌⊎◌, inl, inr, refl, sym, ◌∙�
 use Rattle.std.proofs.lemmas.Bool.{cases_Bool, cond-true, cond-false}
 use Rattle.mesh_plane.specs.Plane.{Point, Edge}
 use Rattle.mesh_plane.specs.Winding.{route, boundary, same_point}
-use Rattle.mesh_clean.specs.Cleaned.{is_kept, changes_from, without_end, ring, kept_between, kept_inside, kept_round, last_of, last_first, begun, cleaned_sections}
+use Rattle.mesh_plane.specs.Ways.{turns_at, last_of}
+use Rattle.mesh_clean.specs.Cleaned.{changes_from, without_end, ring, kept_between, kept_inside, kept_round, last_first, begun, cleaned_sections}
 use Rattle.mesh_plane.proofs.Comparing.{decides_point, points_swap}
-use Rattle.mesh_clean.proofs.CleaningVectors.{SameWay, SameWay-straight, SameWay-ahead, SameWay-self, SameWay-apart, judged, judged_ahead, is_kept-to_self, is_kept-back}
+use Rattle.mesh_clean.proofs.CleaningVectors.{SameWay, SameWay-straight, SameWay-ahead, SameWay-self, SameWay-apart, judged, judged_ahead, turns_at-to_self, turns_at-back}
 use Rattle.mesh_clean.proofs.CleaningPass.{changes_from-same, changes_from-apart, kept_between-kept, kept_between-passed, passed, passed-kept, passed-on, passed-same, passed-own}
 use Rattle.mesh_clean.proofs.CleaningLoop.{without_end-cons, last_of-append, round_to, kept_between-end}
 
 -- the edges of the closed list `q`, `p`, `zs`, by a pass that begins at the first point that it keeps
 abbrev pub started : Point → Point → List Point → List Edge
 started q p [] = passed q p (q ∷ q ∷ [])
-started q p (z ∷ zs) = cond (is_kept q p z) (passed p z (zs ++ q ∷ p ∷ [])) (started q z zs)
+started q p (z ∷ zs) = cond (turns_at q p z) (passed p z (zs ++ q ∷ p ∷ [])) (started q z zs)
 
-pub started-kept : (q p z : Point) (zs : List Point) → is_kept q p z ≡ true → started q p (z ∷ zs) ≡ passed p z (zs ++ q ∷ p ∷ [])
-started-kept q p z zs e = cond-true (is_kept q p z) (passed p z (zs ++ q ∷ p ∷ [])) (started q z zs) e
+pub started-kept : (q p z : Point) (zs : List Point) → turns_at q p z ≡ true → started q p (z ∷ zs) ≡ passed p z (zs ++ q ∷ p ∷ [])
+started-kept q p z zs e = cond-true (turns_at q p z) (passed p z (zs ++ q ∷ p ∷ [])) (started q z zs) e
 
-pub started-on : (q p z : Point) (zs : List Point) → is_kept q p z ≡ false → started q p (z ∷ zs) ≡ started q z zs
-started-on q p z zs e = cond-false (is_kept q p z) (passed p z (zs ++ q ∷ p ∷ [])) (started q z zs) e
+pub started-on : (q p z : Point) (zs : List Point) → turns_at q p z ≡ false → started q p (z ∷ zs) ≡ started q z zs
+started-on q p z zs e = cond-false (turns_at q p z) (passed p z (zs ++ q ∷ p ∷ [])) (started q z zs) e
 
 pub started-same : (q p z : Point) (zs : List Point) → same_point p z ≡ true → started q p (z ∷ zs) ≡ started q p zs
 started-same q p z zs e =
     let same : p ≡ z = (decides_point p z).0 e in
-    let on : is_kept q p z ≡ false = subst (λ x. is_kept q p x ≡ false) same (is_kept-to_self q p) in
+    let on : turns_at q p z ≡ false = subst (λ x. turns_at q p x ≡ false) same (turns_at-to_self q p) in
     started-on q p z zs on ∙ ap (λ x. started q x zs) (sym same)
 
 -- for the verdict on `q`, the points `p` and `r` after it are alike
 abbrev pub Alike : Point → Point → Point → Type 0
-Alike q p r = (x : Point) → is_kept x q p ≡ is_kept x q r
+Alike q p r = (x : Point) → turns_at x q p ≡ turns_at x q r
 
 -- the way from `q` goes straight on by `p` to `z`
-Alike-on : (q p z r : Point) → same_point q p ≡ false → is_kept q p z ≡ false → Alike q p r → Alike q z r
+Alike-on : (q p z r : Point) → same_point q p ≡ false → turns_at q p z ≡ false → Alike q p r → Alike q z r
 Alike-on q p z r n e f x = judged_ahead x q z p (SameWay-ahead q p z n e) ∙ f x
 
 -- ---- no point inside is kept
@@ -45,14 +46,14 @@ pub none_inside : (q r y p : Point) (zs : List Point) → same_point q r ≡ fal
 none_inside q r y p [] n h f e =
     let apart : same_point q p ≡ false = SameWay-apart q y p h in
     let out : same_point p q ≡ false = points_swap q p ∙ apart in
-    let back : is_kept q p q ≡ true = is_kept-back q p out in
-    let turn : is_kept p q r ≡ true = sym (f p) ∙ is_kept-back p q apart in
-    let own : is_kept y p q ≡ true = sym (judged q y p q h) ∙ back in
+    let back : turns_at q p q ≡ true = turns_at-back q p out in
+    let turn : turns_at p q r ≡ true = sym (f p) ∙ turns_at-back p q apart in
+    let own : turns_at y p q ≡ true = sym (judged q y p q h) ∙ back in
     record {
       apart = apart;
       edges =
           passed-kept q p q (q ∷ []) back
-          ∙ ap (λ (es : List Edge). (q, p) ∷ es) (passed-on p q q [] (is_kept-to_self p q) ∙ cond-false (same_point p q) [] ((p, q) ∷ []) out);
+          ∙ ap (λ (es : List Edge). (q, p) ∷ es) (passed-on p q q [] (turns_at-to_self p q) ∙ cond-false (same_point p q) [] ((p, q) ∷ []) out);
       kept =
           ap (kept_between y p) (changes_from-apart p q (r ∷ []) out ∙ ap (λ ws. q ∷ ws) (changes_from-apart q r [] n))
           ∙ kept_between-kept y p q (r ∷ []) own
@@ -61,7 +62,7 @@ none_inside q r y p [] n h f e =
 none_inside q r y p (z ∷ zs) n h f e =
     elim (cases_Bool (same_point p z)) [
       | inl s ↦ repeated s (λ g. none_inside q r y p zs n h f g)
-      | inr s ↦ apart s (λ k g i. none_inside q r p z zs n k g i) (cases_Bool (is_kept y p z))
+      | inr s ↦ apart s (λ k g i. none_inside q r p z zs n k g i) (cases_Bool (turns_at y p z))
     ]
   where
     repeated : same_point p z ≡ true → (kept_between y p (changes_from p zs) ≡ [] → Turned q r y p zs) → Turned q r y p (z ∷ zs)
@@ -76,13 +77,13 @@ none_inside q r y p (z ∷ zs) n h f e =
         }
 
     apart : same_point p z ≡ false → (SameWay q p z → Alike q z r → kept_between p z (changes_from z zs) ≡ [] → Turned q r p z zs)
-        → (is_kept y p z ≡ true) ⊎ (is_kept y p z ≡ false) → Turned q r y p (z ∷ zs)
+        → (turns_at y p z ≡ true) ⊎ (turns_at y p z ≡ false) → Turned q r y p (z ∷ zs)
     apart s ih (inl k) = absurd (filled (sym (kept_between-kept y p z (changes_from z zs) k) ∙ ap (kept_between y p) (sym (changes_from-apart p z zs s)) ∙ e))
       where
         filled : p ∷ kept_between p z (changes_from z zs) ≡ [] → ⊥
         filled g = cc
     apart s ih (inr k) =
-        let on : is_kept q p z ≡ false = judged q y p z h ∙ k in
+        let on : turns_at q p z ≡ false = judged q y p z h ∙ k in
         let split : changes_from p (z ∷ zs) ≡ z ∷ changes_from z zs = changes_from-apart p z zs s in
         let none : kept_between p z (changes_from z zs) ≡ [] = sym (kept_between-passed y p z (changes_from z zs) k) ∙ ap (kept_between y p) (sym split) ∙ e in
         let t : Turned q r p z zs = ih (SameWay-straight q p z s on) (Alike-on q p z r (SameWay-apart q y p h) on f) none in
@@ -121,7 +122,7 @@ first_inside q r k y p [] ks h f e = absurd (nothing e)
 first_inside q r k y p (z ∷ zs) ks h f e =
     elim (cases_Bool (same_point p z)) [
       | inl s ↦ repeated s (λ g. first_inside q r k y p zs ks h f g)
-      | inr s ↦ apart s (λ l g i. first_inside q r k p z zs ks l g i) (cases_Bool (is_kept y p z))
+      | inr s ↦ apart s (λ l g i. first_inside q r k p z zs ks l g i) (cases_Bool (turns_at y p z))
     ]
   where
     repeated : same_point p z ≡ true → (kept_between y p (changes_from p zs) ≡ k ∷ ks → Found q r k y p zs) → Found q r k y p (z ∷ zs)
@@ -135,7 +136,7 @@ first_inside q r k y p (z ∷ zs) ks h f e =
           kept = ap (kept_between y p) (changes_from-same p z (zs ++ q ∷ k ∷ []) s) ∙ t.kept;
         }
 
-    at_once : same_point p z ≡ false → is_kept y p z ≡ true → Found q r p y p (z ∷ zs)
+    at_once : same_point p z ≡ false → turns_at y p z ≡ true → Found q r p y p (z ∷ zs)
     at_once s i =
         record {
           edges =
@@ -150,13 +151,13 @@ first_inside q r k y p (z ∷ zs) ks h f e =
         }
 
     apart : same_point p z ≡ false → (SameWay q p z → Alike q z r → kept_between p z (changes_from z zs) ≡ k ∷ ks → Found q r k p z zs)
-        → (is_kept y p z ≡ true) ⊎ (is_kept y p z ≡ false) → Found q r k y p (z ∷ zs)
+        → (turns_at y p z ≡ true) ⊎ (turns_at y p z ≡ false) → Found q r k y p (z ∷ zs)
     apart s ih (inl i) =
         let shown : p ∷ kept_between p z (changes_from z zs) ≡ k ∷ ks =
         sym (kept_between-kept y p z (changes_from z zs) i) ∙ ap (kept_between y p) (sym (changes_from-apart p z zs s)) ∙ e in
         subst (λ x. Found q r x y p (z ∷ zs)) (heads p k (kept_between p z (changes_from z zs)) ks shown) (at_once s i)
     apart s ih (inr i) =
-        let on : is_kept q p z ≡ false = judged q y p z h ∙ i in
+        let on : turns_at q p z ≡ false = judged q y p z h ∙ i in
         let more : kept_between p z (changes_from z zs) ≡ k ∷ ks =
         sym (kept_between-passed y p z (changes_from z zs) i) ∙ ap (kept_between y p) (sym (changes_from-apart p z zs s)) ∙ e in
         let t : Found q r k p z zs = ih (SameWay-straight q p z s on) (Alike-on q p z r (SameWay-apart q y p h) on f) more in

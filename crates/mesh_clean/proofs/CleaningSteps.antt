@@ -7,7 +7,8 @@ use Rattle.std.proofs.lemmas.List.Elements.{All-head, All-tail, All-cons, All-ni
 use Rattle.mesh_plane.specs.Plane.{Point, Edge}
 use Rattle.mesh_plane.specs.Winding.{same_point, boundary, winding, crossing_on}
 use Rattle.mesh_plane.proofs.Triangles.{crossing_on_straight}
-use Rattle.mesh_clean.specs.Cleaned.{is_kept, cleaned_sections, open_sections, AllEqual, IsClean}
+use Rattle.mesh_plane.specs.Ways.{turns_at}
+use Rattle.mesh_clean.specs.Cleaned.{cleaned_sections, open_sections, AllEqual, IsClean}
 use Rattle.mesh_plane.proofs.Comparing.{decides_point, point_self}
 use Rattle.mesh_clean.proofs.CleaningPass.{passed-kept, passed-on, passed-open}
 use Rattle.mesh_clean.proofs.CleaningStart.{started, started-kept, started-on, cleaned_sections-same}
@@ -37,7 +38,7 @@ differs q x zs ps rest e s f h =
 
 -- ---- a walk straight on
 
-pub open_kept : (all : List Edge) (a b x : Point) (zs ps : List Point) → ps ≡ x ∷ zs → is_kept a b x ≡ true → all ≡ open_sections (a ∷ b ∷ ps) → all ≡ (a, b) ∷ open_sections (b ∷ x ∷ zs)
+pub open_kept : (all : List Edge) (a b x : Point) (zs ps : List Point) → ps ≡ x ∷ zs → turns_at a b x ≡ true → all ≡ open_sections (a ∷ b ∷ ps) → all ≡ (a, b) ∷ open_sections (b ∷ x ∷ zs)
 open_kept all a b x zs ps e k h =
     h
     ∙ ap (λ ws. open_sections (a ∷ b ∷ ws)) e
@@ -45,7 +46,7 @@ open_kept all a b x zs ps e k h =
     ∙ passed-kept a b x zs k
     ∙ ap (λ (es : List Edge). (a, b) ∷ es) (passed-open b x zs)
 
-pub open_on : (all : List Edge) (a b x : Point) (zs ps : List Point) → ps ≡ x ∷ zs → is_kept a b x ≡ false → all ≡ open_sections (a ∷ b ∷ ps) → all ≡ open_sections (a ∷ x ∷ zs)
+pub open_on : (all : List Edge) (a b x : Point) (zs ps : List Point) → ps ≡ x ∷ zs → turns_at a b x ≡ false → all ≡ open_sections (a ∷ b ∷ ps) → all ≡ open_sections (a ∷ x ∷ zs)
 open_on all a b x zs ps e k h =
     h ∙ ap (λ ws. open_sections (a ∷ b ∷ ws)) e ∙ sym (passed-open a b (x ∷ zs)) ∙ passed-on a b x zs k ∙ passed-open a x zs
 
@@ -98,10 +99,10 @@ module _ (P : Point → Type 0) (a b : Point) (ps : List Point) (h : All P (a �
 
 -- ---- the walk begun
 
-pub started_on : (goal : List Edge) (q a x : Point) (zs ps : List Point) → ps ≡ x ∷ zs → is_kept q a x ≡ false → started q a ps ≡ goal → started q x zs ≡ goal
+pub started_on : (goal : List Edge) (q a x : Point) (zs ps : List Point) → ps ≡ x ∷ zs → turns_at q a x ≡ false → started q a ps ≡ goal → started q x zs ≡ goal
 started_on goal q a x zs ps e k h = sym (started-on q a x zs k) ∙ ap (started q a) (sym e) ∙ h
 
-pub started_here : (goal : List Edge) (q a x : Point) (zs ps : List Point) → ps ≡ x ∷ zs → is_kept q a x ≡ true → started q a ps ≡ goal → open_sections (a ∷ x ∷ (zs ++ q ∷ a ∷ [])) ≡ goal
+pub started_here : (goal : List Edge) (q a x : Point) (zs ps : List Point) → ps ≡ x ∷ zs → turns_at q a x ≡ true → started q a ps ≡ goal → open_sections (a ∷ x ∷ (zs ++ q ∷ a ∷ [])) ≡ goal
 started_here goal q a x zs ps e k h =
     sym (passed-open a x (zs ++ q ∷ a ∷ [])) ∙ sym (started-kept q a x zs k) ∙ ap (started q a) (sym e) ∙ h
 

@@ -5,9 +5,11 @@ use Rattle.std.proofs.lemmas.Bool.{cases_Bool, cond-true, cond-false}
 use Rattle.mesh_plane.specs.Plane.{Point, Edge, turn}
 use Rattle.mesh_plane.specs.Winding.{route, boundary, same_point, total}
 use Rattle.mesh_plane.proofs.Whole.{linear}
-use Rattle.mesh_clean.specs.Cleaned.{is_kept, cleaned_sections}
+use Rattle.mesh_plane.specs.Ways.{turns_at}
+use Rattle.mesh_clean.specs.Cleaned.{cleaned_sections}
 use Rattle.mesh_plane.proofs.Comparing.{decides_point}
-use Rattle.mesh_clean.proofs.CleaningVectors.{straight-turn, is_kept-from_self}
+use Rattle.mesh_plane.proofs.Ways.{straight_turn}
+use Rattle.mesh_clean.proofs.CleaningVectors.{turns_at-from_self}
 use Rattle.mesh_clean.proofs.CleaningPass.{passed, passed-kept, passed-on}
 use Rattle.mesh_clean.proofs.CleaningStart.{started, started-kept, started-on, started-cleaned, cleaned_sections-same}
 
@@ -22,7 +24,7 @@ along-route p (x ∷ xs) z = ap (λ (es : List Edge). (p, x) ∷ es) (along-rout
 
 module _ (f : Point → Point → ℤ) (straight : (p r s : Point) → turn p r s ≡ pos 0 → f p r +ℤ f r s ≡ f p s) where
   flat-self : (p : Point) → f p p ≡ pos 0
-  flat-self p = omega (arith, linear, straight p p p (straight-turn p p p (is_kept-from_self p p)))
+  flat-self p = omega (arith, linear, straight p p p (straight_turn p p p (turns_at-from_self p p)))
 
   along-append : (p : Point) (zs : List Point) (q r : Point) → total f (along p (zs ++ q ∷ r ∷ [])) ≡ total f (along p (zs ++ q ∷ [])) +ℤ f q r
   along-append p [] q r = omega (arith, linear)
@@ -38,24 +40,24 @@ module _ (f : Point → Point → ℤ) (straight : (p r s : Point) → turn p r 
         let one : total f (passed a p []) ≡ f a p +ℤ pos 0 = ap (total f) (cond-false (same_point a p) [] ((a, p) ∷ []) e) in
         one
   ]
-  passed-total a p (z ∷ zs) = elim (cases_Bool (is_kept a p z)) [
+  passed-total a p (z ∷ zs) = elim (cases_Bool (turns_at a p z)) [
     | inl e ↦
         let kept : total f (passed a p (z ∷ zs)) ≡ f a p +ℤ total f (passed p z zs) = ap (total f) (passed-kept a p z zs e) in
         omega (arith, linear, kept, passed-total p z zs)
     | inr e ↦
         let on : total f (passed a p (z ∷ zs)) ≡ total f (passed a z zs) = ap (total f) (passed-on a p z zs e) in
-        omega (arith, linear, on, passed-total a z zs, straight a p z (straight-turn a p z e))
+        omega (arith, linear, on, passed-total a z zs, straight a p z (straight_turn a p z e))
   ]
 
   pub started-total : (q p : Point) (zs : List Point) → total f (started q p zs) ≡ f q p +ℤ total f (along p (zs ++ q ∷ []))
   started-total q p [] = omega (arith, linear, passed-total q p (q ∷ q ∷ []), flat-self q)
-  started-total q p (z ∷ zs) = elim (cases_Bool (is_kept q p z)) [
+  started-total q p (z ∷ zs) = elim (cases_Bool (turns_at q p z)) [
     | inl e ↦
         let kept : total f (started q p (z ∷ zs)) ≡ total f (passed p z (zs ++ q ∷ p ∷ [])) = ap (total f) (started-kept q p z zs e) in
         omega (arith, linear, kept, passed-total p z (zs ++ q ∷ p ∷ []), along-append z zs q p)
     | inr e ↦
         let on : total f (started q p (z ∷ zs)) ≡ total f (started q z zs) = ap (total f) (started-on q p z zs e) in
-        omega (arith, linear, on, started-total q z zs, straight q p z (straight-turn q p z e))
+        omega (arith, linear, on, started-total q z zs, straight q p z (straight_turn q p z e))
   ]
 
   cleaned-along : (q : Point) (zs : List Point) → total f (cleaned_sections (q ∷ zs)) ≡ total f (along q (zs ++ q ∷ []))

@@ -8,9 +8,10 @@ use Rattle.mesh_plane.specs.Plane.{Point, Edge, minus, cross, dot}
 use Rattle.mesh_plane.specs.Winding.{route, boundary, same_point}
 use Rattle.mesh_plane.proofs.Whole.{linear}
 use Rattle.mesh_plane.proofs.Ring.{ring, var, neg, ◌⊖◌, cross_of, dot_of}
-use Rattle.mesh_clean.specs.Cleaned.{is_kept, changes_from, kept_between, last_of, without_end, cleaned_sections, RunsOn, IsClean}
+use Rattle.mesh_plane.specs.Ways.{turns_at, last_of}
+use Rattle.mesh_clean.specs.Cleaned.{changes_from, kept_between, without_end, cleaned_sections, RunsOn, IsClean}
 use Rattle.mesh_plane.proofs.Comparing.{points_swap}
-use Rattle.mesh_clean.proofs.CleaningVectors.{SameWay, SameWay-straight, SameWay-ahead, SameWay-self, SameWay-apart, judged, judged_ahead, is_kept-from_self, is_kept-to_self, is_kept-back, is_kept-straight}
+use Rattle.mesh_clean.proofs.CleaningVectors.{SameWay, SameWay-straight, SameWay-ahead, SameWay-self, SameWay-apart, judged, judged_ahead, turns_at-from_self, turns_at-to_self, turns_at-back, turns_at-straight}
 use Rattle.mesh_clean.proofs.CleaningPass.{changes_from-same, changes_from-apart, kept_between-kept, kept_between-passed}
 use Rattle.mesh_clean.proofs.CleaningLoop.{round_to}
 use Rattle.mesh_clean.proofs.CleaningStart.{started, Turned, Found, none_inside, first_inside, ends_at, started-found, started-cleaned}
@@ -19,8 +20,8 @@ use Rattle.mesh_clean.proofs.CleaningStart.{started, Turned, Found, none_inside,
 
 -- of the list `h`, `p`, `xs`, `z` each point but the ends turns
 abbrev pub Turning : Point → Point → List Point → Point → Type 0
-Turning h p [] z = is_kept h p z ≡ true
-Turning h p (x ∷ xs) z = (is_kept h p x ≡ true) × Turning p x xs z
+Turning h p [] z = turns_at h p z ≡ true
+Turning h p (x ∷ xs) z = (turns_at h p x ≡ true) × Turning p x xs z
 
 -- no neighbours are equal in the list `p`, `ws`
 abbrev pub Apart : Point → List Point → Type 0
@@ -35,17 +36,17 @@ changes_from-Apart p (z ∷ zs) = elim (cases_Bool (same_point p z)) [
 ]
 
 -- from the kept point `p`, to which the way came from `h`, straight on to `r`, before which `y` stands
-Turning-on : (h p y r : Point) (ws : List Point) → Apart r ws → SameWay p y r → is_kept h p r ≡ true → Turning h p (kept_between y r ws) (last_of r ws)
+Turning-on : (h p y r : Point) (ws : List Point) → Apart r ws → SameWay p y r → turns_at h p r ≡ true → Turning h p (kept_between y r ws) (last_of r ws)
 Turning-on h p y r [] n s k = k
-Turning-on h p y r (z ∷ ws) n s k = by (cases_Bool (is_kept y r z)) (λ h p y. Turning-on h p y z ws n.1)
+Turning-on h p y r (z ∷ ws) n s k = by (cases_Bool (turns_at y r z)) (λ h p y. Turning-on h p y z ws n.1)
   where
-    by : (is_kept y r z ≡ true) ⊎ (is_kept y r z ≡ false) → ((h p y : Point) → SameWay p y z → is_kept h p z ≡ true → Turning h p (kept_between y z ws) (last_of z ws))
+    by : (turns_at y r z ≡ true) ⊎ (turns_at y r z ≡ false) → ((h p y : Point) → SameWay p y z → turns_at h p z ≡ true → Turning h p (kept_between y z ws) (last_of z ws))
         → Turning h p (kept_between y r (z ∷ ws)) (last_of z ws)
     by (inl e) ih =
         subst (λ xs. Turning h p xs (last_of z ws)) (sym (kept_between-kept y r z ws e))
         (k, ih p r r (SameWay-self r z n.0) (judged p y r z s ∙ e))
     by (inr e) ih =
-        let on : is_kept p r z ≡ false = judged p y r z s ∙ e in
+        let on : turns_at p r z ≡ false = judged p y r z s ∙ e in
         let ahead : SameWay z r p = SameWay-ahead p r z (SameWay-apart p y r s) on in
         subst (λ xs. Turning h p xs (last_of z ws)) (sym (kept_between-passed y r z ws e))
         (ih h p r (SameWay-straight p r z n.0 on) (judged_ahead h p z r ahead ∙ k))
@@ -56,13 +57,13 @@ Turning-from q y r k [] ms n s e = absurd (nothing e)
   where
     nothing : [] ≡ k ∷ ms → ⊥
     nothing g = cc
-Turning-from q y r k (z ∷ ws) ms n s e = by (cases_Bool (is_kept y r z)) (λ y. Turning-from q y z k ws ms n.1)
+Turning-from q y r k (z ∷ ws) ms n s e = by (cases_Bool (turns_at y r z)) (λ y. Turning-from q y z k ws ms n.1)
   where
     Whole : List Point → Type 0
     Whole [] = Unit {0}
     Whole (x ∷ xs) = Turning q x xs (last_of z ws)
 
-    by : (is_kept y r z ≡ true) ⊎ (is_kept y r z ≡ false) → ((y : Point) → SameWay q y z → kept_between y z ws ≡ k ∷ ms → Turning q k ms (last_of z ws)) → Turning q k ms (last_of z ws)
+    by : (turns_at y r z ≡ true) ⊎ (turns_at y r z ≡ false) → ((y : Point) → SameWay q y z → kept_between y z ws ≡ k ∷ ms → Turning q k ms (last_of z ws)) → Turning q k ms (last_of z ws)
     by (inl i) ih =
         let whole : Turning q r (kept_between r z ws) (last_of z ws) = Turning-on q r r z ws n.1 (SameWay-self r z n.0) (judged q y r z s ∙ i) in
         let at : Whole (r ∷ kept_between r z ws) = whole in
@@ -77,12 +78,12 @@ before_last y r (z ∷ ws) = before_last r z ws
 
 pub last_kept : (p y r : Point) (ws : List Point) → Apart r ws → SameWay p y r → SameWay (last_of p (kept_between y r ws)) (before_last y r ws) (last_of r ws)
 last_kept p y r [] n s = s
-last_kept p y r (z ∷ ws) n s = by (cases_Bool (is_kept y r z)) (λ p y. last_kept p y z ws n.1)
+last_kept p y r (z ∷ ws) n s = by (cases_Bool (turns_at y r z)) (λ p y. last_kept p y z ws n.1)
   where
     Goal : List Point → Type 0
     Goal xs = SameWay (last_of p xs) (before_last r z ws) (last_of z ws)
 
-    by : (is_kept y r z ≡ true) ⊎ (is_kept y r z ≡ false) → ((p y : Point) → SameWay p y z → SameWay (last_of p (kept_between y z ws)) (before_last y z ws) (last_of z ws)) → Goal (kept_between y r (z ∷ ws))
+    by : (turns_at y r z ≡ true) ⊎ (turns_at y r z ≡ false) → ((p y : Point) → SameWay p y z → SameWay (last_of p (kept_between y z ws)) (before_last y z ws) (last_of z ws)) → Goal (kept_between y r (z ∷ ws))
     by (inl i) ih = subst Goal (sym (kept_between-kept y r z ws i)) (ih r r (SameWay-self r z n.0))
     by (inr i) ih = subst Goal (sym (kept_between-passed y r z ws i)) (ih p r (SameWay-straight p r z n.0 (judged p y r z s ∙ i)))
 
@@ -95,9 +96,9 @@ before_last-append y r (w ∷ ws) q k = before_last-append r w ws q k
 -- an edge and the next one, which starts where the first ends and does not run on
 pub record Corner (c : Edge × Edge) : Type 0 where
   pub meets : c.0.1 ≡ c.1.0
-  pub turns : is_kept c.0.0 c.0.1 c.1.1 ≡ true
+  pub turns : turns_at c.0.0 c.0.1 c.1.1 ≡ true
 
-corners : (h n z w : Point) (ns : List Point) → Turning h n ns z → is_kept (last_of n ns) z w ≡ true → All Corner (route (h, n) (route n ns z) (z, w))
+corners : (h n z w : Point) (ns : List Point) → Turning h n ns z → turns_at (last_of n ns) z w ≡ true → All Corner (route (h, n) (route n ns z) (z, w))
 corners h n z w [] t k = All-cons Corner ((h, n), (n, z)) (((n, z), (z, w)) ∷ []) (record { meets = refl; turns = t }) (All-cons Corner ((n, z), (z, w)) [] (record { meets = refl; turns = k }) (All-nil Corner))
 corners h n z w (x ∷ xs) t k = All-cons Corner ((h, n), (n, x)) (route (n, x) (route x xs z) (z, w)) (record { meets = refl; turns = t.0 }) (corners n x z w xs t.1 k)
 
@@ -111,7 +112,7 @@ length-route p [] z = omega arith
 length-route p (w ∷ ws) z = omega (arith, length-route w ws z)
 
 -- the way by `p` does not go on to `z` in the direction from `a` to `p`
-not_on : (a p z : Point) → is_kept a p z ≡ true → cross (minus p a) (minus z p) ≡ pos 0 → pos 0 <ℤ dot (minus p a) (minus z p) → ⊥
+not_on : (a p z : Point) → turns_at a p z ≡ true → cross (minus p a) (minus z p) ≡ pos 0 → pos 0 <ℤ dot (minus p a) (minus z p) → ⊥
 not_on a p z k flat ahead =
     let c : cross (minus p a) (minus p z) ≡ neg_ℤ (cross (minus p a) (minus z p)) =
     ring (a.0 ∷ a.1 ∷ p.0 ∷ p.1 ∷ z.0 ∷ z.1 ∷ [])
@@ -123,17 +124,17 @@ not_on a p z k flat ahead =
     (dot_of (var 2 ⊖ var 0) (var 3 ⊖ var 1) (var 2 ⊖ var 4) (var 3 ⊖ var 5))
     (neg (dot_of (var 2 ⊖ var 0) (var 3 ⊖ var 1) (var 4 ⊖ var 2) (var 5 ⊖ var 3)))
     refl in
-    true≢false (sym k ∙ is_kept-straight a p z (c ∙ ap neg_ℤ flat) (omega (arith, linear)))
+    true≢false (sym k ∙ turns_at-straight a p z (c ∙ ap neg_ℤ flat) (omega (arith, linear)))
 
 Corner-proper : (c : Edge × Edge) → Corner c → c.0.0 ≢ c.0.1
-Corner-proper c h e = true≢false (sym h.turns ∙ ap (λ p. is_kept p c.0.1 c.1.1) e ∙ is_kept-from_self c.0.1 c.1.1)
+Corner-proper c h e = true≢false (sym h.turns ∙ ap (λ p. turns_at p c.0.1 c.1.1) e ∙ turns_at-from_self c.0.1 c.1.1)
 
 Corner-turns : (c : Edge × Edge) → Corner c → RunsOn c.0 c.1 → ⊥
 Corner-turns c h r =
     let way : RunsOn c.0 (c.0.1, c.1.1) = subst (λ p. RunsOn c.0 (p, c.1.1)) (sym h.meets) r in
     not_on c.0.0 c.0.1 c.1.1 h.turns way.0 way.1
 
-closed_clean : (k n : Point) (ns : List Point) → Turning k n ns k → is_kept (last_of n ns) k n ≡ true → IsClean (boundary (k ∷ n ∷ ns))
+closed_clean : (k n : Point) (ns : List Point) → Turning k n ns k → turns_at (last_of n ns) k n ≡ true → IsClean (boundary (k ∷ n ∷ ns))
 closed_clean k n ns t e =
     let all : All Corner (boundary (boundary (k ∷ n ∷ ns))) = corners k n k n ns t e in
     record {
@@ -156,7 +157,7 @@ started-clean q p zs n = cases (kept_between q p (changes_from p zs)) refl
     cases [] e =
         let t : Turned q p q p zs = none_inside q p q p zs n same (λ x. refl) e in
         let l : Point = last_of p (changes_from p zs) in
-        subst IsClean (sym t.edges) (closed_clean q l [] (is_kept-back q l (points_swap q l ∙ t.apart)) (is_kept-back l q t.apart))
+        subst IsClean (sym t.edges) (closed_clean q l [] (turns_at-back q l (points_swap q l ∙ t.apart)) (turns_at-back l q t.apart))
     cases (k ∷ ks) e =
         let t : Found q p k q p zs = first_inside q p k q p zs ks same (λ x. refl) e in
         subst IsClean (sym (started-found q p k zs n t)) (found t)
@@ -174,7 +175,7 @@ started-clean q p zs n = cases (kept_between q p (changes_from p zs)) refl
             by t.rest turning near
           where
             by : (ms : List Point) → Turning q k ms k → SameWay (last_of k ms) q k → IsClean (boundary (k ∷ ms))
-            by [] t s = absurd (true≢false (sym t ∙ is_kept-to_self q k))
+            by [] t s = absurd (true≢false (sym t ∙ turns_at-to_self q k))
             by (m ∷ ms) t s = closed_clean k m ms t.1 (judged (last_of m ms) q k m s ∙ t.0)
 
 -- two points that differ

@@ -5,16 +5,17 @@ use Rattle.std.specs.Ordering.{int_eq}
 use lib.Signed.{◌<ℤ◌}
 use lib.IntN.{*ℤ_comm, *ℤ-zero, zero-*ℤ}
 use Rattle.std.proofs.lemmas.Int.{by_lt_z}
-use Rattle.std.proofs.lemmas.Bool.{true≢false, or_parts, not-false, true_from_ne_false}
+use Rattle.std.proofs.lemmas.Bool.{true≢false, true_from_ne_false}
 use Rattle.std.proofs.lemmas.Bool.Decides.{same_from_decides, Decides-int_eq, Decides-like}
-use Rattle.mesh_plane.specs.Plane.{Point, minus, cross, dot, turn}
+use Rattle.mesh_plane.specs.Plane.{Point, minus, cross, dot}
 use Rattle.mesh_plane.specs.Bounds.{IsSafe}
 use Rattle.mesh_plane.specs.Winding.{same_point}
-use Rattle.mesh_plane.proofs.Comparing.{point_self, points_apart, points_swap, less_test, not_less_test, test_less, test_not_less}
+use Rattle.mesh_plane.proofs.Comparing.{point_self, points_apart, points_swap, less_test, not_less_test, test_less}
+use Rattle.mesh_plane.proofs.Ways.{straight_parts}
 use Rattle.mesh_plane.proofs.Whole.{linear, mul_pos, square_nonneg, mul_cancel, pos_of_mul, factor}
 use Rattle.mesh_plane.proofs.Ring.{ring, var, lit, neg, ◌⊖◌, cross_of, dot_of}
 use Rattle.mesh_plane.proofs.Identities.{lagrange, dot_through, cross_through, cross_flip, cross_self, dot_swap}
-use Rattle.mesh_clean.specs.Cleaned.{is_kept}
+use Rattle.mesh_plane.specs.Ways.{turns_at}
 
 -- ---- two vectors in one direction
 
@@ -90,7 +91,7 @@ OneWay-turns v w b h =
 abbrev pub SameWay : Point → Point → Point → Type 0
 SameWay a b p = OneWay (minus p a) (minus p b)
 
-pub judged : (a b p z : Point) → SameWay a b p → is_kept a p z ≡ is_kept b p z
+pub judged : (a b p z : Point) → SameWay a b p → turns_at a p z ≡ turns_at b p z
 judged a b p z h = OneWay-turns (minus p a) (minus p b) (minus p z) h
 
 turns-swap : (v w : Point) → (not (int_eq (cross v w) (pos 0)) || int_lt (pos 0) (dot v w)) ≡ (not (int_eq (cross w v) (pos 0)) || int_lt (pos 0) (dot w v))
@@ -100,34 +101,19 @@ turns-swap v w =
     let g : int_lt (pos 0) (dot v w) ≡ int_lt (pos 0) (dot w v) = ap (int_lt (pos 0)) (dot_swap w v) in
     λ i. not (e i) || g i
 
-pub is_kept-swap : (a p z : Point) → is_kept a p z ≡ is_kept z p a
-is_kept-swap a p z = turns-swap (minus p a) (minus p z)
+pub turns_at-swap : (a p z : Point) → turns_at a p z ≡ turns_at z p a
+turns_at-swap a p z = turns-swap (minus p a) (minus p z)
 
-pub judged_ahead : (a p y z : Point) → SameWay y z p → is_kept a p y ≡ is_kept a p z
-judged_ahead a p y z h = is_kept-swap a p y ∙ judged y z p a h ∙ is_kept-swap z p a
+pub judged_ahead : (a p y z : Point) → SameWay y z p → turns_at a p y ≡ turns_at a p z
+judged_ahead a p y z h = turns_at-swap a p y ∙ judged y z p a h ∙ turns_at-swap z p a
 
 -- ---- a point that a way runs straight through
 
-pub is_kept-false : (a p z : Point) → is_kept a p z ≡ false → (cross (minus p a) (minus p z) ≡ pos 0) × (dot (minus p a) (minus p z) ≤ℤ pos 0)
-is_kept-false a p z e =
-    let both = or_parts (not (int_eq (cross (minus p a) (minus p z)) (pos 0))) (int_lt (pos 0) (dot (minus p a) (minus p z))) e in (
-      (Decides-int_eq (cross (minus p a) (minus p z)) (pos 0)).0 (not-false (int_eq (cross (minus p a) (minus p z)) (pos 0)) both.0),
-      test_not_less (pos 0) (dot (minus p a) (minus p z)) both.1,
-    )
-
-pub is_kept-straight : (a p z : Point) → cross (minus p a) (minus p z) ≡ pos 0 → dot (minus p a) (minus p z) ≤ℤ pos 0 → is_kept a p z ≡ false
-is_kept-straight a p z e h =
+pub turns_at-straight : (a p z : Point) → cross (minus p a) (minus p z) ≡ pos 0 → dot (minus p a) (minus p z) ≤ℤ pos 0 → turns_at a p z ≡ false
+turns_at-straight a p z e h =
     let flat : int_eq (cross (minus p a) (minus p z)) (pos 0) ≡ true = (Decides-int_eq (cross (minus p a) (minus p z)) (pos 0)).1 e in
     let back : int_lt (pos 0) (dot (minus p a) (minus p z)) ≡ false = not_less_test (pos 0) (dot (minus p a) (minus p z)) h in
     λ i. not (flat i) || back i
-
-pub straight-turn : (a p z : Point) → is_kept a p z ≡ false → turn a p z ≡ pos 0
-straight-turn a p z e =
-    ring (a.0 ∷ a.1 ∷ p.0 ∷ p.1 ∷ z.0 ∷ z.1 ∷ [])
-    (cross_of (var 2 ⊖ var 0) (var 3 ⊖ var 1) (var 4 ⊖ var 0) (var 5 ⊖ var 1))
-    (neg (cross_of (var 2 ⊖ var 0) (var 3 ⊖ var 1) (var 2 ⊖ var 4) (var 3 ⊖ var 5)))
-    refl
-    ∙ ap neg_ℤ (is_kept-false a p z e).0
 
 pub length_apart : (p x : Point) → same_point p x ≡ false → pos 0 <ℤ dot (minus p x) (minus p x)
 length_apart p x n =
@@ -140,7 +126,7 @@ length_apart p x n =
         let same : same_point p p ≡ same_point p x = λ i. int_eq p.0 (e i) && int_eq p.1 (g i) in
         sym same ∙ point_self p
 
-pub SameWay-straight : (a p x : Point) → same_point p x ≡ false → is_kept a p x ≡ false → SameWay a p x
+pub SameWay-straight : (a p x : Point) → same_point p x ≡ false → turns_at a p x ≡ false → SameWay a p x
 SameWay-straight a p x n e =
     let flat : cross (minus x a) (minus x p) ≡ neg_ℤ (cross (minus p a) (minus p x)) =
     ring (a.0 ∷ a.1 ∷ p.0 ∷ p.1 ∷ x.0 ∷ x.1 ∷ [])
@@ -153,14 +139,14 @@ SameWay-straight a p x n e =
     (dot_of (var 2 ⊖ var 4) (var 3 ⊖ var 5) (var 2 ⊖ var 4) (var 3 ⊖ var 5) ⊖ dot_of (var 2 ⊖ var 0) (var 3 ⊖ var 1) (var 2 ⊖ var 4) (var 3 ⊖ var 5))
     refl in
     record {
-      flat = flat ∙ ap neg_ℤ (is_kept-false a p x e).0;
-      ahead = omega (arith, linear, ahead, length_apart p x n, (is_kept-false a p x e).1);
+      flat = flat ∙ ap neg_ℤ (straight_parts a p x e).0;
+      ahead = omega (arith, linear, ahead, length_apart p x n, (straight_parts a p x e).1);
     }
 
 -- the point goes straight on from `p` to `y` and to `z`
-pub SameWay-ahead : (p y z : Point) → same_point p y ≡ false → is_kept p y z ≡ false → SameWay z y p
+pub SameWay-ahead : (p y z : Point) → same_point p y ≡ false → turns_at p y z ≡ false → SameWay z y p
 SameWay-ahead p y z n e =
-    SameWay-straight z y p (points_swap p y ∙ n) (is_kept-swap z y p ∙ e)
+    SameWay-straight z y p (points_swap p y ∙ n) (turns_at-swap z y p ∙ e)
 
 pub SameWay-self : (p x : Point) → same_point p x ≡ false → SameWay p p x
 SameWay-self p x n =
@@ -187,19 +173,19 @@ SameWay-apart a b p h =
 
 -- ---- repeats and reversals
 
-pub is_kept-from_self : (p z : Point) → is_kept p p z ≡ false
-is_kept-from_self p z =
-    is_kept-straight p p z
+pub turns_at-from_self : (p z : Point) → turns_at p p z ≡ false
+turns_at-from_self p z =
+    turns_at-straight p p z
     (ring (p.0 ∷ p.1 ∷ z.0 ∷ z.1 ∷ []) (cross_of (var 0 ⊖ var 0) (var 1 ⊖ var 1) (var 0 ⊖ var 2) (var 1 ⊖ var 3)) (lit (pos 0)) refl)
     (omega (arith, linear, ring (p.0 ∷ p.1 ∷ z.0 ∷ z.1 ∷ []) (dot_of (var 0 ⊖ var 0) (var 1 ⊖ var 1) (var 0 ⊖ var 2) (var 1 ⊖ var 3)) (lit (pos 0)) refl))
 
-pub is_kept-to_self : (a p : Point) → is_kept a p p ≡ false
-is_kept-to_self a p = is_kept-swap a p p ∙ is_kept-from_self p a
+pub turns_at-to_self : (a p : Point) → turns_at a p p ≡ false
+turns_at-to_self a p = turns_at-swap a p p ∙ turns_at-from_self p a
 
-pub is_kept-back : (a p : Point) → same_point p a ≡ false → is_kept a p a ≡ true
-is_kept-back a p n =
-    true_from_ne_false (is_kept a p a) (λ e.
-    absurd (omega (arith, linear, length_apart p a n, (is_kept-false a p a e).1)))
+pub turns_at-back : (a p : Point) → same_point p a ≡ false → turns_at a p a ≡ true
+turns_at-back a p n =
+    true_from_ne_false (turns_at a p a) (λ e.
+    absurd (omega (arith, linear, length_apart p a n, (straight_parts a p a e).1)))
 
 -- ---- ranges
 

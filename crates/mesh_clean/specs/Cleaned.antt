@@ -1,15 +1,9 @@
 -- The cleaned contour: a closed list of points without repeats and without points that it runs straight through.
-use Rattle.std.specs.Prelude.{◌≡◌, ◌≢◌, ◌-◌, ◌≤◌, Bool, cond, not, ◌||◌, List, [], ◌∷◌, ◌++◌, length, take, drop, pos, ◌<ℤ◌, int_lt, ⊤}
-use Rattle.std.specs.Ordering.{int_eq}
+use Rattle.std.specs.Prelude.{◌≡◌, ◌≢◌, ◌-◌, ◌≤◌, cond, List, [], ◌∷◌, ◌++◌, length, take, drop, pos, ◌<ℤ◌, ⊤}
 use Rattle.std.specs.List.{All}
 use Rattle.mesh_plane.specs.Plane.{Point, Edge, minus, cross, dot}
+use Rattle.mesh_plane.specs.Ways.{turns_at, last_of}
 use Rattle.mesh_plane.specs.Winding.{route, boundary, same_point}
-
--- whether a way from `p0` by `p1` to `p2` turns or turns back at `p1`, rather than run straight through
-abbrev pub is_kept : Point → Point → Point → Bool
-is_kept p0 p1 p2 =
-    not (int_eq (cross (minus p1 p0) (minus p1 p2)) (pos 0))
-    || int_lt (pos 0) (dot (minus p1 p0) (minus p1 p2))
 
 -- the points that differ from the one before, which is `p` for the first
 abbrev pub changes_from : Point → List Point → List Point
@@ -35,7 +29,7 @@ ring (p ∷ ps) = p ∷ without_end p ps
 -- of the list `p0`, `p1`, `ps`, the points between the first and the last that are kept between their neighbours
 abbrev pub kept_between : Point → Point → List Point → List Point
 kept_between p0 p1 [] = []
-kept_between p0 p1 (p2 ∷ ps) = cond (is_kept p0 p1 p2) (p1 ∷ kept_between p1 p2 ps) (kept_between p1 p2 ps)
+kept_between p0 p1 (p2 ∷ ps) = cond (turns_at p0 p1 p2) (p1 ∷ kept_between p1 p2 ps) (kept_between p1 p2 ps)
 
 -- the kept points of an open list, without its ends
 abbrev pub kept_inside : List Point → List Point
@@ -65,11 +59,6 @@ cleaned_points points = begun (kept_inside (without_repeats points)) (kept_round
 -- the edges of the cleaned contour
 unfoldable pub cleaned_sections : List Point → List Edge
 cleaned_sections points = boundary (cleaned_points points)
-
--- the last point of the list `p`, `ps`
-abbrev pub last_of : Point → List Point → Point
-last_of p [] = p
-last_of p (q ∷ qs) = last_of q qs
 
 -- the edges between neighbouring kept points of an open list without repeats, its ends among them
 abbrev pub sections_between : List Point → List Edge

@@ -1,6 +1,7 @@
 -- Laws of cleaned contours. The function of the same name in the module `laws` carries each.
 use Rattle.std.specs.Prelude.{ℕ, ◌≡◌, List, [], ◌∷◌}
 use Rattle.mesh_plane.specs.Plane.{Point}
+use Rattle.mesh_plane.specs.Ways.{first_or}
 use Rattle.mesh_plane.specs.Winding.{boundary, winding}
 use Rattle.mesh_clean.specs.Cleaned.{AllEqual, IsClean, cleaned_points, cleaned_sections, kept_inside, without_repeats}
 
@@ -22,11 +23,6 @@ EqualPointsHaveNoSections = (points : List Point) → AllEqual points → cleane
 abbrev pub BeginsAt : Point → List Point → Type 0
 BeginsAt p [] = ⊥
 BeginsAt p (q ∷ qs) = q ≡ p
-
--- the first point of a list, another one where there is none
-abbrev pub first_or : Point → List Point → Point
-first_or p [] = p
-first_or p (q ∷ qs) = q
 
 -- a contour of points that are not all equal is cleaned to one that begins at the first kept point of the second to the last but
 -- one of the list without repeats, or where none of these is kept at the list's first point

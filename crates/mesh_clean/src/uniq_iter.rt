@@ -6,7 +6,8 @@ ghost use Rattle.std.specs.Iterator.{YieldsFirstBy, item_count};
 ghost use Rattle.mesh_plane.specs.Plane.{Point};
 ghost use Rattle.mesh_plane.specs.Bounds.{IsSafe};
 ghost use Rattle.mesh_plane.specs.Winding.{boundary, winding, same_point};
-ghost use Rattle.mesh_clean.specs.Cleaned.{is_kept, cleaned_sections, open_sections, AllEqual, IsClean};
+ghost use Rattle.mesh_plane.specs.Ways.{turns_at};
+ghost use Rattle.mesh_clean.specs.Cleaned.{cleaned_sections, open_sections, AllEqual, IsClean};
 
 use mesh_grid::num::convert::{is_less, is_wide_less};
 use mesh_grid::num::{IntNumber, IntPoint};
@@ -68,7 +69,7 @@ impl<'a, I: IntNumber> UniqueSegmentsIter<'a, I> {
         let mut to = found.0;
         let mut rest = found.1;
         while let Some((next, others)) = rest.split_first() {
-            if is_kept(first, to, *next) {
+            if turns_at(first, to, *next) {
                 return Some(UniqueSegmentsIter {
                     from: to,
                     to: *next,
@@ -170,7 +171,7 @@ fn straight_on<I: IntNumber>(
         (λ next. All (IsSafe I.unit) (result.0 ∷ next ∷ points.new)) }
 {
     while let Some(point) = points.next() {
-        if is_kept(from, to, point) {
+        if turns_at(from, to, point) {
             return (to, Some(point));
         }
         to = point;
@@ -207,11 +208,11 @@ fn is_same<I: IntNumber>(p: IntPoint<I>, q: IntPoint<I>) -> bool
 }
 
 /// Whether the way from `p0` by `p1` to `p2` turns or turns back at `p1`.
-fn is_kept<I: IntNumber>(p0: IntPoint<I>, p1: IntPoint<I>, p2: IntPoint<I>) -> bool
+fn turns_at<I: IntNumber>(p0: IntPoint<I>, p1: IntPoint<I>, p2: IntPoint<I>) -> bool
     requires first { IsSafe I.unit p0 }
     requires middle { IsSafe I.unit p1 }
     requires last { IsSafe I.unit p2 }
-    ensures { result ≡ is_kept p0 p1 p2 }
+    ensures { result ≡ turns_at p0 p1 p2 }
 {
     let back = p1 - p0;
     let on = p1 - p2;

@@ -15,7 +15,8 @@ use Rattle.mesh_plane.specs.Winding.{sum_of, route, boundary, same_point}
 use Rattle.mesh_plane.proofs.Whole.{linear, mul_both_neg, mul_neg_pos, pos_of_mul, neg_mul, square_nonneg}
 use Rattle.mesh_plane.proofs.Ring.{ring, var, ◌⊕◌, ◌⊖◌, ◌⊗◌}
 use Rattle.mesh_plane.proofs.ClosedLists.{boundary_rotated}
-use Rattle.mesh_shapes.specs.Contours.{turns_at, first_or, turning_points, kept, next_kept, vertices, edge_lt, FirstIsLeast, IsBegun, side_point, IsRingOf}
+use Rattle.mesh_plane.specs.Ways.{turns_at, first_or, last_of}
+use Rattle.mesh_shapes.specs.Contours.{turning_points, kept, next_kept, vertices, edge_lt, FirstIsLeast, IsBegun, side_point, IsRingOf}
 use Rattle.mesh_cuts.specs.Counted.{bit}
 use Rattle.mesh_shapes.specs.Midway.Progress.{point_at, next_at, IsBestVisit, IsLeastBefore}
 use Rattle.mesh_cuts.proofs.Each.{Each, each_more}
@@ -97,16 +98,12 @@ least_corner a p n la ln da dn =
     by_cross f (inr t) = ap (λ (b : Bool). not b || int_lt (pos 0) (dot (minus p a) (minus p n))) t
 
 -- ---- a contour that comes by its least point `p` again
-abbrev last_by : Point → List Point → Point
-last_by a [] = a
-last_by a (x ∷ xs) = last_by x xs
-
 first_append : (p : Point) (xs ys : List Point) → first_or p (xs ++ p ∷ ys) ≡ first_or p xs
 first_append p [] ys = refl
 first_append p (x ∷ xs) ys = refl
 
 -- the next vertex is the same, whether the contour ends at the point or goes on from it
-pub next_same : (all : Bool) (p a : Point) (xs ys : List Point) → turns_at (last_by a xs) p (first_or p ys) ≡ true →
+pub next_same : (all : Bool) (p a : Point) (xs ys : List Point) → turns_at (last_of a xs) p (first_or p ys) ≡ true →
     next_kept all a (xs ++ p ∷ ys) p ≡ next_kept all a xs p
 next_same true p a xs ys h = first_append p xs ys
 next_same false p a [] ys h = ap (λ (b : Bool). first_or p (cond b (p ∷ turning_points p ys p) (turning_points p ys p))) h
@@ -132,12 +129,12 @@ first_less : (p : Point) (ys : List Point) → NoneLess p ys → point_lt (first
 first_less p [] h = lt_self p
 first_less p (y ∷ ys) h = h.0
 
-last_less : (p a : Point) (xs : List Point) → point_lt a p ≡ false → NoneLess p xs → point_lt (last_by a xs) p ≡ false
+last_less : (p a : Point) (xs : List Point) → point_lt a p ≡ false → NoneLess p xs → point_lt (last_of a xs) p ≡ false
 last_less p a [] ha h = ha
 last_less p a (x ∷ xs) ha h = last_less p x xs h.0 h.1
 
 -- an edge into the point, and one out of it, where the way `a`, `xs`, `p`, `ys`, `z` is proper
-proper_last : (a : Point) (xs : List Point) (p : Point) (ys : List Point) (z : Point) → Each Proper (route a (xs ++ p ∷ ys) z) → last_by a xs ≡ p → ⊥
+proper_last : (a : Point) (xs : List Point) (p : Point) (ys : List Point) (z : Point) → Each Proper (route a (xs ++ p ∷ ys) z) → last_of a xs ≡ p → ⊥
 proper_last a [] p ys z h = h.0
 proper_last a (x ∷ xs) p ys z h = proper_last x xs p ys z h.1
 
@@ -148,9 +145,9 @@ proper_first a (x ∷ xs) p ys z h = proper_first x xs p ys z h.1
 
 -- a contour turns at the least point within it
 inner_corner : (p a : Point) (xs ys : List Point) → point_lt a p ≡ false → NoneLess p xs → NoneLess p ys → Each Proper (route a (xs ++ p ∷ ys) p) →
-    turns_at (last_by a xs) p (first_or p ys) ≡ true
+    turns_at (last_of a xs) p (first_or p ys) ≡ true
 inner_corner p a xs ys ha hx hy proper =
-    least_corner (last_by a xs) p (first_or p ys) (last_less p a xs ha hx) (first_less p ys hy) (proper_last a xs p ys p proper)
+    least_corner (last_of a xs) p (first_or p ys) (last_less p a xs ha hx) (first_less p ys hy) (proper_last a xs p ys p proper)
     (λ (e : first_or p ys ≡ p). proper_first a xs p ys p proper (sym e))
 
 -- visits before and after a visit in between

@@ -1,34 +1,22 @@
 -- Lemmas over points and lists: a closed list without the points that it runs straight through winds as the whole list.
-use Rattle.std.proofs.Common.{◌≡◌, ℕ, ◌⊎◌, inl, inr, Bool, true, false, cond, not, List, [], ◌∷◌, refl, sym, ◌∙◌, ap, subst, arith}
-use Rattle.std.specs.Prelude.{ℤ, pos, neg_ℤ, ◌+ℤ◌, int_lt}
-use Rattle.std.specs.Ordering.{int_eq}
-use Rattle.std.proofs.lemmas.Bool.{or_parts}
-use Rattle.std.proofs.lemmas.Bool.Decides.{Decides-int_eq}
-use Rattle.mesh_plane.specs.Plane.{Point, Edge, turn, minus, cross, dot}
+use Rattle.std.proofs.Common.{◌≡◌, ℕ, ◌⊎◌, inl, inr, Bool, true, false, cond, List, [], ◌∷◌, refl, sym, ◌∙◌, ap, subst, arith}
+use Rattle.std.specs.Prelude.{ℤ, pos, ◌+ℤ◌}
+use Rattle.mesh_plane.specs.Plane.{Point, Edge, turn}
 use Rattle.mesh_plane.specs.Winding.{total, route, boundary, winding, IsStraight, crossing_on}
+use Rattle.mesh_plane.proofs.Ways.{straight_turn}
 use Rattle.mesh_plane.proofs.Whole.{linear}
-use Rattle.mesh_plane.proofs.Ring.{ring, lit, neg}
+use Rattle.mesh_plane.proofs.Ring.{ring, lit}
 use Rattle.mesh_plane.proofs.Crossings.{turn_swap, turn_cycle}
 use Rattle.mesh_plane.proofs.Triangles.{crossing_on_straight}
-use Rattle.mesh_shapes.specs.Contours.{turns_at, first_or, turning_points, vertices}
-use Rattle.mesh_plane.proofs.Places.{place, coordinates, turned, crossed, apart}
+use Rattle.mesh_plane.specs.Ways.{turns_at, first_or}
+use Rattle.mesh_shapes.specs.Contours.{turning_points, vertices}
+use Rattle.mesh_plane.proofs.Places.{place, coordinates, turned}
 use Rattle.mesh_cuts.proofs.Each.{Each}
 use Rattle.mesh_plane.proofs.LineTurns.{line_turn}
-use Rattle.std.proofs.lemmas.Bool.{not-false}
 
 -- the two ends of an edge differ
 abbrev pub Proper : Edge → Type 0
 Proper e = e.0 ≡ e.1 → ⊥
-
--- where the way doesn't turn, it runs on a line
-pub straight_turn : (a p n : Point) → turns_at a p n ≡ false → turn a p n ≡ pos 0
-straight_turn a p n h =
-    let flat : cross (minus p a) (minus p n) ≡ pos 0 =
-    (Decides-int_eq (cross (minus p a) (minus p n)) (pos 0)).0
-    (not-false (int_eq (cross (minus p a) (minus p n)) (pos 0)) (or_parts (not (int_eq (cross (minus p a) (minus p n)) (pos 0))) (int_lt (pos 0) (dot (minus p a) (minus p n))) h).0) in
-    let same : turn a p n ≡ neg_ℤ (cross (minus p a) (minus p n)) =
-    ring (coordinates (a ∷ p ∷ n ∷ []) []) (turned (place 0) (place 1) (place 2)) (neg (crossed (apart (place 1) (place 0)) (apart (place 1) (place 2)))) refl in
-    omega (arith, linear, same, flat)
 
 -- `k` is `a`, or on a line with `a` and the next point
 abbrev Onward : Point → Point → Point → Type 0

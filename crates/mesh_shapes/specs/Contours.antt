@@ -1,21 +1,10 @@
 -- Closed contours: the vertices that are answered, where a contour begins, its area and its side point.
-use Rattle.std.specs.Prelude.{◌≡◌, Bool, false, cond, not, ◌&&◌, ◌||◌, List, [], ◌∷◌, reverse, ℤ, pos, int_lt}
-use Rattle.std.specs.Ordering.{int_eq}
+use Rattle.std.specs.Prelude.{◌≡◌, Bool, false, cond, ◌&&◌, ◌||◌, List, [], ◌∷◌, reverse, ℤ, pos}
 use Rattle.std.specs.List.{All}
-use Rattle.mesh_plane.specs.Plane.{Point, Edge, minus, plus, cross, dot}
+use Rattle.mesh_plane.specs.Plane.{Point, Edge, plus, cross}
 use Rattle.mesh_plane.specs.Order.{point_lt}
+use Rattle.mesh_plane.specs.Ways.{turns_at, first_or}
 use Rattle.mesh_plane.specs.Winding.{sum_of, total, boundary, same_point}
-
--- whether a way from `p0` by `p1` to `p2` turns or turns back at `p1`, rather than run straight through
-abbrev pub turns_at : Point → Point → Point → Bool
-turns_at p0 p1 p2 =
-    not (int_eq (cross (minus p1 p0) (minus p1 p2)) (pos 0))
-    || int_lt (pos 0) (dot (minus p1 p0) (minus p1 p2))
-
--- the first point of a list, or another where it has none
-abbrev pub first_or : Point → List Point → Point
-first_or z [] = z
-first_or z (x ∷ xs) = x
 
 -- of the list, the points at which the way from `a` by all of them to `z` turns or turns back
 abbrev pub turning_points : Point → List Point → Point → List Point

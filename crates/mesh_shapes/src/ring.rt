@@ -6,7 +6,8 @@ ghost use Rattle.std.specs.List.{All};
 ghost use Rattle.mesh_plane.specs.Bounds.{IsSmall, IsSafe};
 ghost use Rattle.mesh_plane.specs.Plane.{Point, Edge, dot, cross};
 ghost use Rattle.mesh_plane.specs.Winding.{boundary, same_point};
-ghost use Rattle.mesh_shapes.specs.Contours.{turns_at, first_or, kept, vertices, side_point, IsRingOf};
+ghost use Rattle.mesh_plane.specs.Ways.{turns_at, first_or};
+ghost use Rattle.mesh_shapes.specs.Contours.{kept, vertices, side_point, IsRingOf};
 ghost use Rattle.mesh_shapes.specs.Midway.Progress.{point_at, next_at, IsBestVisit, IsLeastBefore, point_after};
 ghost use Rattle.mesh_shapes.specs.Midway.Progress.{kept_after};
 

@@ -6,7 +6,8 @@ use Rattle.mesh_shapes.specs.Contours.{next_kept}
 use Rattle.mesh_shapes.specs.Midway.Grouping.{ring_at, is_round_at}
 use Rattle.mesh_shapes.specs.Resolution.{Ring, is_before}
 use Rattle.std.specs.Prelude.{Option, MatchOption}
-use Rattle.mesh_shapes.specs.Contours.{first_or, kept}
+use Rattle.mesh_plane.specs.Ways.{first_or}
+use Rattle.mesh_shapes.specs.Contours.{kept}
 
 -- the point at a place of a list
 abbrev pub point_at : List Point → ℕ → Point

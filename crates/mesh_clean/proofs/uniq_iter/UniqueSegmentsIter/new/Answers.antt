@@ -20,14 +20,14 @@ loop-next-init g c =
       safe = all_begun (IsSafe g.I.IntNumber.unit) c.in-Some.first.now c.args.points.now c.in-Some.others.now (c.in-Some-first_other.found.0 ∷ c.in-Some-first_other.found.1.now) c.requires c.in-Some.ensures.cases.0 c.in-Some-first_other.ensures.safe;
     }
 
-pub is_kept-requires-clause-first : goal.is_kept-requires-clause-first
-is_kept-requires-clause-first g c = first_of_all (IsSafe g.I.IntNumber.unit) c.in-Some.first.now c.loop-next.to c.loop-next.rest.now c.loop-next.invariant.safe
+pub turns_at-requires-clause-first : goal.turns_at-requires-clause-first
+turns_at-requires-clause-first g c = first_of_all (IsSafe g.I.IntNumber.unit) c.in-Some.first.now c.loop-next.to c.loop-next.rest.now c.loop-next.invariant.safe
 
-pub is_kept-requires-clause-middle : goal.is_kept-requires-clause-middle
-is_kept-requires-clause-middle g c = second_of_all (IsSafe g.I.IntNumber.unit) c.in-Some.first.now c.loop-next.to c.loop-next.rest.now c.loop-next.invariant.safe
+pub turns_at-requires-clause-middle : goal.turns_at-requires-clause-middle
+turns_at-requires-clause-middle g c = second_of_all (IsSafe g.I.IntNumber.unit) c.in-Some.first.now c.loop-next.to c.loop-next.rest.now c.loop-next.invariant.safe
 
-pub is_kept-requires-clause-last : goal.is_kept-requires-clause-last
-is_kept-requires-clause-last g c =
+pub turns_at-requires-clause-last : goal.turns_at-requires-clause-last
+turns_at-requires-clause-last g c =
     next_of_all (IsSafe g.I.IntNumber.unit) c.in-Some.first.now c.loop-next.to c.loop-next.rest.now c.loop-next.invariant.safe c.in-Some-split_first.next.now c.in-Some-split_first.others.now c.in-Some-split_first.ensures.cases.0
 
 pub loop-next-preserved : goal.loop-next-preserved
@@ -35,7 +35,7 @@ loop-next-preserved g c =
     record {
       sections =
           started_on (cleaned_sections c.args.points.now) c.in-Some.first.now c.loop-next.to c.in-Some-split_first.next.now c.in-Some-split_first.others.now c.loop-next.rest.now c.in-Some-split_first.ensures.cases.0
-          (sym c.is_kept.ensures ∙ c.if-is_kept.false) c.loop-next.invariant.sections;
+          (sym c.turns_at.ensures ∙ c.if-turns_at.false) c.loop-next.invariant.sections;
       safe =
           all_without_second (IsSafe g.I.IntNumber.unit) c.in-Some.first.now c.loop-next.to c.loop-next.rest.now c.loop-next.invariant.safe c.in-Some-split_first.next.now c.in-Some-split_first.others.now c.in-Some-split_first.ensures.cases.0;
     }
@@ -44,21 +44,21 @@ pub invariant_of-result : goal.invariant_of-result
 invariant_of-result g c =
     all_closed_here (IsSafe g.I.IntNumber.unit) c.in-Some.first.now c.loop-next.to c.loop-next.rest.now c.loop-next.invariant.safe c.in-Some-split_first.next.now c.in-Some-split_first.others.now c.in-Some-split_first.ensures.cases.0
 
-pub returns-then-is_kept-clause-sections : goal.returns-then-is_kept-clause-sections
-returns-then-is_kept-clause-sections g c = (
+pub returns-then-turns_at-clause-sections : goal.returns-then-turns_at-clause-sections
+returns-then-turns_at-clause-sections g c = (
   not_equal c.in-Some.first.now c.args.points.now c.in-Some.others.now c.in-Some.ensures.cases.0 c.in-Some-first_other.ensures.sections.1,
   started_here (cleaned_sections c.args.points.now) c.in-Some.first.now c.loop-next.to c.in-Some-split_first.next.now c.in-Some-split_first.others.now c.loop-next.rest.now c.in-Some-split_first.ensures.cases.0
-      (sym c.is_kept.ensures ∙ c.if-is_kept.true) c.loop-next.invariant.sections,
+      (sym c.turns_at.ensures ∙ c.if-turns_at.true) c.loop-next.invariant.sections,
 )
 
-pub returns-then-is_kept-clause-clean : goal.returns-then-is_kept-clause-clean
-returns-then-is_kept-clause-clean g c =
-    let s = returns-then-is_kept-clause-sections g c in
+pub returns-then-turns_at-clause-clean : goal.returns-then-turns_at-clause-clean
+returns-then-turns_at-clause-clean g c =
+    let s = returns-then-turns_at-clause-sections g c in
     subst IsClean (sym s.1) (cleaned-clean c.args.points.now s.0)
 
-pub returns-then-is_kept-clause-winding : goal.returns-then-is_kept-clause-winding
-returns-then-is_kept-clause-winding g c m q =
-    ap (winding m q) (returns-then-is_kept-clause-sections g c).1 ∙ cleaned-winding m q c.args.points.now
+pub returns-then-turns_at-clause-winding : goal.returns-then-turns_at-clause-winding
+returns-then-turns_at-clause-winding g c m q =
+    ap (winding m q) (returns-then-turns_at-clause-sections g c).1 ∙ cleaned-winding m q c.args.points.now
 
 pub invariant_of-result-2 : goal.invariant_of-result-2
 invariant_of-result-2 g c = all_closed (IsSafe g.I.IntNumber.unit) c.in-Some.first.now c.loop-next.to c.loop-next.rest.now c.loop-next.invariant.safe

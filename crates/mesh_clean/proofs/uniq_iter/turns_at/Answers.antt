@@ -1,5 +1,5 @@
 use Rattle.mesh_clean.proofs.CleaningVectors.{minus_safe}
-use Rattle.mesh_clean.proofs.uniq_iter.is_kept.Goals as goal
+use Rattle.mesh_clean.proofs.uniq_iter.turns_at.Goals as goal
 
 pub cross_product-cross-requires-clause-own : goal.cross_product-cross-requires-clause-own
 cross_product-cross-requires-clause-own g c = minus_safe g.I.IntNumber.unit c.args.p1 c.args.p0 c.sub-back.result c.sub-back.ensures c.requires.middle c.requires.first
