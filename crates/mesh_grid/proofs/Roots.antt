@@ -1,11 +1,16 @@
 -- Lemmas over whole numbers: a whole root by Newton's steps, and the greatest number with a share by one root.
-use Rattle.std.proofs.Common.{◌≡◌, ℕ, ◌+◌, ◌*◌, ◌-◌, ◌/◌, ◌^◌, ◌<◌, ◌≤◌, zero, suc, arith}
+use Rattle.std.proofs.Common.{◌≡◌, ◌≢◌, ℕ, ◌+◌, ◌*◌, ◌-◌, ◌/◌, ◌^◌, ◌<◌, ◌≤◌, zero, suc, sym, subst, ◌∙◌, arith}
+use Rattle.std.specs.Prelude.{nat_eq}
 use Rattle.std.proofs.Math.Nat.{mul-le-mul, mul-le-mul_left, mul-le-mul_right, div-mul-le_self}
 use Rattle.std.proofs.Math.Nat.{le_of_mul-le-mul_right, lt_of_mul-lt-mul_right, lt-div-mul-add}
 use Rattle.std.proofs.lemmas.Nat.{le-div}
-use Rattle.std.proofs.lemmas.Bool.{cases_lt}
+use Rattle.std.proofs.lemmas.Bool.{cases_lt, cond_both, eqb-true, true≢false}
+use borrow.Author.Tests.{eq-eqb}
 use mathlib.Core.Logic.{⊎_elim}
 use Rattle.mesh_plane.proofs.Sizes.{le_of_squares, lt_of_squares, two_products}
+use Rattle.mesh_sine.specs.Sine.{root}
+use Rattle.mesh_sine.proofs.Roots.{root_is, root_by}
+use Rattle.mesh_grid.specs.Roots.{raised_root}
 
 -- ---- Newton's steps
 
@@ -138,3 +143,30 @@ pub share_small : (number unit square : ℕ) → number ≤ unit + 1 → unit �
 share_small number unit square h u s =
     let a : square ≤ 2 ^ 63 = omega arith in
     omega (arith, mul-le-mul (square_small number unit h u) a)
+
+-- ---- raised roots
+
+-- a raised root's square is not less than the number
+pub raised_root_reaches : (n : ℕ) → n ≤ raised_root n * raised_root n
+unfolding raised_root
+raised_root_reaches n =
+    cond_both (nat_eq (root n * root n) n) (root n) (suc (root n)) (λ r. n ≤ r * r)
+    (λ e. omega (arith, eqb-true (root n * root n) n e))
+    (λ e. omega (arith, (root_is n).above))
+
+-- the root that the code takes, and how it is raised
+pub raised_root_exact : (n r : ℕ) → r * r ≤ n → n < (r + 1) * (r + 1) → r * r ≡ n → r ≡ raised_root n
+unfolding raised_root
+raised_root_exact n r h l e =
+    let s : root n ≡ r = root_by n r h l in
+    cond_both (nat_eq (root n * root n) n) (root n) (suc (root n)) (λ k. r ≡ k)
+    (λ _. sym s)
+    (λ f. absurd (true≢false (sym (eq-eqb (root n * root n) n (rw s e)) ∙ f)))
+
+pub raised_root_next : (n r : ℕ) → r * r ≤ n → n < (r + 1) * (r + 1) → r * r ≢ n → r + 1 ≡ raised_root n
+unfolding raised_root
+raised_root_next n r h l ne =
+    let s : root n ≡ r = root_by n r h l in
+    cond_both (nat_eq (root n * root n) n) (root n) (suc (root n)) (λ k. r + 1 ≡ k)
+    (λ f. absurd (ne (subst (λ (k : ℕ). k * k ≡ n) s (eqb-true (root n * root n) n f))))
+    (λ _. omega (arith, s))

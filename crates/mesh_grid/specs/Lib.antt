@@ -3,6 +3,7 @@ pub mod Direction
 pub mod Laws
 pub mod Quotient
 pub mod Rectangle
+pub mod Roots
 pub mod Rotation
 pub mod Widths
 pub use Rattle.mesh_plane.specs.Bounds

@@ -7,7 +7,7 @@ pub mod number;
 pub mod point;
 pub mod quotient;
 pub mod rect;
-pub(crate) mod root;
+pub mod root;
 pub mod rotation;
 pub(crate) mod share;
 pub mod unit_vector;

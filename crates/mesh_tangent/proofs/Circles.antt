@@ -6,31 +6,17 @@ use Rattle.std.proofs.lemmas.Int.{ints}
 use Rattle.mesh_plane.specs.Bounds.{IsSafe}
 use Rattle.mesh_plane.specs.Plane.{Point, plus, minus, length_sq}
 use Rattle.mesh_plane.specs.Winding.{same_point}
+use Rattle.mesh_grid.proofs.Moving.{safe_difference, stays_safe}
 use Rattle.mesh_tangent.specs.Tangents.{IsWithinRadius}
 use Rattle.mesh_tangent.specs.Sections.{Circle, IsSafeCircle, IsContact, is_nested, has_no_section}
 
 pub center_safe : (unit : ℕ) (c : Circle) → IsSafeCircle unit c → IsSafe unit c.center
-center_safe unit c s = record {
-  x = record {
-    low = omega (arith, ints, s.nonneg, s.safe.0.x.low);
-    high = omega (arith, ints, s.nonneg, s.safe.1.x.high);
-  };
-  y = record {
-    low = omega (arith, ints, s.nonneg, s.safe.0.y.low);
-    high = omega (arith, ints, s.nonneg, s.safe.1.y.high);
-  };
-}
-
-pub safe_apart : (unit : ℕ) (p q : Point) → IsSafe unit p → IsSafe unit q → IsSafe (2 * unit) (minus p q)
-safe_apart unit p q s t = record {
-  x = record { low = omega (arith, ints, s.x.low, t.x.high); high = omega (arith, ints, s.x.high, t.x.low) };
-  y = record { low = omega (arith, ints, s.y.low, t.y.high); high = omega (arith, ints, s.y.high, t.y.low) };
-}
+center_safe unit c s = stays_safe unit c.radius c.center s.nonneg s.safe
 
 -- the vector from a center to the other
 pub centers_apart : (unit : ℕ) (a b : Circle) → IsSafeCircle unit a → IsSafeCircle unit b →
     IsSafe (2 * unit) (minus b.center a.center)
-centers_apart unit a b s t = safe_apart unit b.center a.center (center_safe unit b t) (center_safe unit a s)
+centers_apart unit a b s t = safe_difference unit b.center a.center (center_safe unit b t) (center_safe unit a s)
 
 -- a point of a circle is safe
 pub contact_safe : (unit : ℕ) (c : Circle) (v : Point) → IsSafeCircle unit c → IsWithinRadius c.radius v →

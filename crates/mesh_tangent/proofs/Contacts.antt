@@ -12,7 +12,7 @@ use Rattle.mesh_plane.proofs.Whole.{linear, multiplied}
 use Rattle.mesh_plane.proofs.Rounding.{rounded_within, rounded_not_above}
 use Rattle.mesh_sine.specs.Sine.{root}
 use Rattle.mesh_sine.proofs.Roots.{root_is}
-use Rattle.mesh_tangent.specs.Bounded.{IsBounded}
+use Rattle.mesh_tangent.specs.Midway.Normals.{IsBounded}
 use Rattle.mesh_tangent.specs.Tangents.{lift, tangent_length, left_normal, right_normal, normal_length, at_radius}
 use Rattle.mesh_tangent.specs.Tangents.{IsWithinRadius}
 

@@ -1,13 +1,13 @@
 -- Lemmas over whole numbers and points: a circle that keeps inside each side of a quadrilateral is held by it.
-use Rattle.std.proofs.Common.{◌≡◌, ℕ, ◌+◌, ◌*◌, ◌<◌, ◌≤◌, ◌^◌, refl, sym, ◌∙◌, ap, arith, suc}
+use Rattle.std.proofs.Common.{◌≡◌, ℕ, ◌*◌, ◌≤◌, ◌^◌, sym, ◌∙◌, ap, arith}
 use Rattle.std.specs.Prelude.{ℤ, Bool, true, false, pos, negsuc, ◌-ℤ◌, ◌*ℤ◌, ◌≤ℤ◌, neg_ℤ, ◌&&◌, not, int_le, int_lt}
-use Rattle.std.specs.Prelude.{nat_eq, List, [], ◌∷◌, unsigned_abs}
+use Rattle.std.specs.Prelude.{List, [], ◌∷◌, unsigned_abs}
 use Rattle.std.specs.List.{list_all, All}
 use Rattle.std.specs.Int.Signed.{le_z_yes}
 use Rattle.std.specs.Ordering.{int_eq}
 use Rattle.std.proofs.Math.Nat.{mul-le-mul, mul-le-mul_left}
-use Rattle.std.proofs.lemmas.Bool.{cond_both, cond-true, cond-false, false_from_ne_true, true≢false}
-use Rattle.std.proofs.lemmas.Bool.Decides.{Decides-and, Decides-eqb, Decides-int_eq, Decides-not}
+use Rattle.std.proofs.lemmas.Bool.{and_parts, cond-true, cond-false, false_from_ne_true, true≢false}
+use Rattle.std.proofs.lemmas.Bool.Decides.{Decides-int_eq, Decides-not}
 use Rattle.std.proofs.lemmas.Float.{T_from_true}
 use Rattle.std.proofs.lemmas.Int.{ints}
 use Rattle.std.proofs.lemmas.List.Sums.{AllPass-from_list_all}
@@ -17,19 +17,11 @@ use Rattle.mesh_plane.specs.Bounds.{IsWithin}
 use Rattle.mesh_plane.specs.Plane.{Point, Edge, minus, cross, turn, length_sq}
 use Rattle.mesh_plane.specs.Winding.{boundary}
 use Rattle.mesh_grid.specs.Widths.{IsUnit}
-use Rattle.mesh_sine.specs.Sine.{root}
-use Rattle.mesh_sine.proofs.Roots.{root_is, root_by}
-use Rattle.mesh_tangent.specs.Sections.{Circle, Section, sides, orientation, inner_turn, raised_root, keeps_inside}
+use Rattle.mesh_grid.specs.Roots.{raised_root}
+use Rattle.mesh_grid.proofs.Roots.{raised_root_reaches}
+use Rattle.mesh_tangent.specs.Sections.{Circle, Section, sides, orientation, inner_turn, keeps_inside}
 use Rattle.mesh_tangent.specs.Sections.{covers_circle, IsBeyond, HoldsCircle}
 use Rattle.mesh_tangent.proofs.Lifts.{bound_most}
-
--- a raised root is not too small
-pub raised_enough : (n : ℕ) → n ≤ raised_root n * raised_root n
-unfolding raised_root
-raised_enough n =
-    cond_both (nat_eq (root n * root n) n) (root n) (suc (root n)) (λ r. n ≤ r * r)
-    (λ e. let s : root n * root n ≡ n = (Decides-eqb (root n * root n) n).0 e in omega (arith, s))
-    (λ e. omega (arith, (root_is n).above))
 
 -- a distance times a length that is at least a radius times a length that is not too short
 far : (r t : ℤ) (l n : ℕ) → pos 0 ≤ℤ r → n ≤ l * l → (r *ℤ pos l) ≤ℤ t →
@@ -40,19 +32,16 @@ far (pos r) (pos t) l n h m k =
 far (pos r) (negsuc t) l n h m k = absurd (omega (arith, ints, k))
 far (negsuc r) t l n h m k = absurd (omega (arith, ints, h))
 
-both : (x y : Bool) → (x && y) ≡ true → (x ≡ true) × (y ≡ true)
-both x y = (Decides-and x y (λ e. e, λ e. e) (λ e. e, λ e. e)).0
-
 beyond : (o : ℤ) (c : Circle) (side : Edge) → pos 0 ≤ℤ c.radius → keeps_inside o c side ≡ true → IsBeyond o c side
 beyond o c side h e =
-    let b = both _ _ e in
+    let b = and_parts _ _ e in
     let t : pos 0 ≤ℤ inner_turn o side c.center = le_z_yes (T_from_true _ b.0) in
     let d : (c.radius *ℤ pos (raised_root (length_sq (minus side.1 side.0)))) ≤ℤ inner_turn o side c.center =
     le_z_yes (T_from_true _ b.1) in
     record {
       inside = t;
       distance = far c.radius _ (raised_root (length_sq (minus side.1 side.0))) _ h
-          (raised_enough (length_sq (minus side.1 side.0))) d;
+          (raised_root_reaches (length_sq (minus side.1 side.0))) d;
     }
 
 all_beyond : (o : ℤ) (c : Circle) (es : List Edge) → pos 0 ≤ℤ c.radius → list_all (keeps_inside o c) es ≡ true →
@@ -62,27 +51,13 @@ all_beyond o c es h e = λ k d l. beyond o c _ h (AllPass-from_list_all (keeps_i
 pub covers_holds : (s : Section) (c : Circle) → pos 0 ≤ℤ c.radius → covers_circle s c ≡ true → HoldsCircle s c
 unfolding covers_circle
 covers_holds s c h e =
-    let b = both _ _ e in
+    let b = and_parts _ _ e in
     record {
       turns = (Decides-not _ (Decides-int_eq (orientation s) (pos 0))).0 b.0;
       beyond = all_beyond (orientation s) c (sides s) h b.1;
     }
 
 -- ---- what the code puts together
-
-pub raised_exact : (n r : ℕ) → r * r ≤ n → n < (r + 1) * (r + 1) → r * r ≡ n → r ≡ raised_root n
-unfolding raised_root
-raised_exact n r h l e =
-    let s : root n ≡ r = root_by n r h l in
-    let t : nat_eq (r * r) n ≡ true = (Decides-eqb (r * r) n).1 e in
-    rw (s, t) refl
-
-pub raised_next : (n r : ℕ) → r * r ≤ n → n < (r + 1) * (r + 1) → (r * r ≡ n → ⊥) → r + 1 ≡ raised_root n
-unfolding raised_root
-raised_next n r h l e =
-    let s : root n ≡ r = root_by n r h l in
-    let t : nat_eq (r * r) n ≡ false = false_from_ne_true _ (λ k. e ((Decides-eqb (r * r) n).0 k)) in
-    rw (s, t) (omega arith)
 
 -- the opposite of a number of the wide type fits
 pub opposite_fits : (unit half : ℕ) (t v : ℤ) → IsUnit unit → half ≡ 8 * unit * unit → t ≡ v → IsWithin half v →

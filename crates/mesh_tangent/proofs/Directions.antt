@@ -12,7 +12,7 @@ use Rattle.mesh_plane.proofs.Whole.{linear, neg_mul}
 use Rattle.mesh_grid.specs.Widths.{IsUnit}
 use Rattle.mesh_sine.specs.Sine.{root}
 use Rattle.mesh_tangent.specs.Tangents.{lift, tangent_length, left_normal, right_normal, normal_length}
-use Rattle.mesh_tangent.specs.Bounded.{IsBounded}
+use Rattle.mesh_tangent.specs.Midway.Normals.{IsBounded}
 use Rattle.mesh_tangent.proofs.Contacts.{left_normal_most, right_normal_most}
 use Rattle.mesh_tangent.proofs.Lifts.{bound_most, normal_length_most, lift_some}
 

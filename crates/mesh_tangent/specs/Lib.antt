@@ -1,3 +1,3 @@
-pub mod Bounded
+pub mod Midway
 pub mod Sections
 pub mod Tangents

@@ -1,5 +1,5 @@
 -- Sections of a variable stroke: circles round two neighbouring vertices of a path and their common outer tangents.
-use Rattle.std.specs.Prelude.{ℕ, ◌≢◌, ◌*◌, ◌≤◌, suc, Bool, not, ◌&&◌, ◌||◌, cond, if◌then◌else◌, nat_eq, leb, int_le}
+use Rattle.std.specs.Prelude.{ℕ, ◌≢◌, ◌*◌, ◌≤◌, Bool, not, ◌&&◌, ◌||◌, cond, leb, int_le}
 use Rattle.std.specs.Prelude.{int_lt, List, [], ◌∷◌, Option, Some, None, ℤ, pos, ◌-ℤ◌, ◌*ℤ◌, ◌≤ℤ◌, neg_ℤ}
 use Rattle.std.specs.Prelude.{unsigned_abs}
 use Rattle.std.specs.List.{list_all, All}
@@ -8,7 +8,7 @@ use Rattle.mesh_plane.specs.Bounds.{IsSafe}
 use Rattle.mesh_plane.specs.Plane.{Point, Edge, plus, minus, cross, turn, length_sq}
 use Rattle.mesh_plane.specs.Winding.{boundary, same_point}
 use Rattle.mesh_grid.specs.Rectangle.{IsSafeWidened}
-use Rattle.mesh_sine.specs.Sine.{root}
+use Rattle.mesh_grid.specs.Roots.{raised_root}
 use Rattle.mesh_tangent.specs.Tangents.{left_offset, right_offset, IsWithinRadius}
 
 -- ---- circles
@@ -103,10 +103,6 @@ orientation s = cross (minus s.b_left s.a_left) (minus s.b_right s.b_left)
 -- how far a point lies on the inner side of a side, times the side's length; below 0 on the outer side
 abbrev pub inner_turn : ℤ → Edge → Point → ℤ
 inner_turn o side p = cond (int_lt o (pos 0)) (neg_ℤ (turn side.0 side.1 p)) (turn side.0 side.1 p)
-
--- the root of a whole number, raised to the next whole number where it is none
-unfoldable pub raised_root : ℕ → ℕ
-raised_root n = if nat_eq (root n * root n) n then root n else suc (root n)
 
 -- the center is on the inner side, at a distance of at least the radius; the side's length is raised to a whole number
 abbrev pub keeps_inside : ℤ → Circle → Edge → Bool

@@ -5,12 +5,14 @@ ghost use Rattle.std.specs.List.{list_all};
 ghost use Rattle.mesh_plane.specs.Bounds.{IsSafe};
 ghost use Rattle.mesh_plane.specs.Plane.{minus, cross, length_sq};
 ghost use Rattle.mesh_plane.specs.Winding.{boundary};
-ghost use Rattle.mesh_tangent.specs.Sections.{IsSafeCircle, IsSafeSection, inner_turn, raised_root, keeps_inside};
+ghost use Rattle.mesh_grid.specs.Roots.{raised_root};
+ghost use Rattle.mesh_tangent.specs.Sections.{IsSafeCircle, IsSafeSection, inner_turn, keeps_inside};
 ghost use Rattle.mesh_tangent.specs.Sections.{covers_circle, HoldsCircle};
 
 use crate::circle::Circle;
 use crate::section::Section;
 use mesh_grid::num::convert::widen;
+use mesh_grid::num::root::raised_root;
 use mesh_grid::num::{IntNumber, IntPoint};
 
 impl<I: IntNumber> Section<I> {
@@ -134,18 +136,4 @@ fn raised_length<I: IntNumber>(from: IntPoint<I>, to: IntPoint<I>) -> u128
     ensures size { result ≤ 2 ^ 32 }
 {
     raised_root(I::uint_to_u128((to - from).sqr_length()))
-}
-
-// The root of a whole number, raised to a whole number.
-fn raised_root(number: u128) -> u128
-    requires { number < 2 ^ 64 }
-    ensures value { result ≡ raised_root number }
-    ensures size { result ≤ 2 ^ 32 }
-{
-    let root = number.isqrt();
-    if root * root == number {
-        root
-    } else {
-        root + 1
-    }
 }

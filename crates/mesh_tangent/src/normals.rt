@@ -4,7 +4,7 @@ ghost use Rattle.std.specs.Prelude.{◌≡◌, ◌-◌, ◌*◌, ◌+ℤ◌, ◌
 ghost use Rattle.mesh_grid.specs.Widths.{IsUnit};
 ghost use Rattle.mesh_plane.specs.Plane.{length_sq};
 ghost use Rattle.mesh_sine.specs.Sine.{root};
-ghost use Rattle.mesh_tangent.specs.Bounded.{IsBounded};
+ghost use Rattle.mesh_tangent.specs.Midway.Normals.{IsBounded};
 ghost use Rattle.mesh_tangent.specs.Tangents.{lift, left_normal, right_normal, normal_length};
 
 /// The directions from the centers of two circles to the points at which their outer tangents touch them, on the left

@@ -4,7 +4,7 @@ ghost use Rattle.std.specs.Prelude.{◌≡◌, ◌*◌, ◌^◌, ◌<◌, ◌≤
 ghost use Rattle.mesh_grid.specs.Widths.{IsUnit};
 ghost use Rattle.mesh_plane.specs.Bounds.{IsSafe};
 ghost use Rattle.mesh_plane.specs.Plane.{length_sq};
-ghost use Rattle.mesh_tangent.specs.Bounded.{IsBounded};
+ghost use Rattle.mesh_tangent.specs.Midway.Normals.{IsBounded};
 ghost use Rattle.mesh_tangent.specs.Tangents.{left_normal, right_normal, normal_length, left_offset, right_offset};
 ghost use Rattle.mesh_tangent.specs.Tangents.{at_radius, IsWithinRadius};
 

@@ -1,6 +1,7 @@
 //! Whole roots in 128 bits, apart from any coordinate type.
 
 ghost use Rattle.std.specs.Prelude.{ℕ, ◌≡◌, ◌+◌, ◌*◌, ◌^◌, ◌<◌, ◌≤◌};
+ghost use Rattle.mesh_grid.specs.Roots.{raised_root};
 
 /// The greatest number whose square is at most `number`, by Newton's steps: each comes nearer to the root, and none
 /// falls below it.
@@ -32,4 +33,18 @@ pub(crate) fn fine_length(square: u128, width: u128, height: u128) -> u128
     // The greater size and half the other are never below the length, and pass it by less than an eighth.
     let start = (width + height + greater) * (1 << 31);
     whole_root(square * (1 << 64), start)
+}
+
+/// The root of a number, raised to the next whole number where it is none.
+pub fn raised_root(number: u128) -> u128
+    requires { number < 2 ^ 64 }
+    ensures value { result ≡ raised_root number }
+    ensures size { result ≤ 2 ^ 32 }
+{
+    let root = number.isqrt();
+    if root * root == number {
+        root
+    } else {
+        root + 1
+    }
 }

@@ -4,17 +4,17 @@ use Rattle.std.specs.Prelude.{pos, ◌-ℤ◌}
 use Rattle.std.proofs.lemmas.Int.{to_z-of_z}
 use mir.Syntax.{w128}
 use mir.Val.{SFits}
-use Rattle.mesh_tangent.proofs.Circles.{safe_apart}
+use Rattle.mesh_grid.proofs.Moving.{safe_difference}
 use Rattle.mesh_tangent.proofs.Covers.{opposite_fits, turned_round, turned_on}
 use Rattle.mesh_tangent.proofs.cover.inner_turn.Goals as goal
 
 pub cross_product-requires-clause-own : goal.cross_product-requires-clause-own
 cross_product-requires-clause-own g c =
-    rw c.sub.ensures (safe_apart g.I.IntNumber.unit c.args.to c.args.from c.requires.to c.requires.from)
+    rw c.sub.ensures (safe_difference g.I.IntNumber.unit c.args.to c.args.from c.requires.to c.requires.from)
 
 pub cross_product-requires-clause-other : goal.cross_product-requires-clause-other
 cross_product-requires-clause-other g c =
-    rw c.sub-2.ensures (safe_apart g.I.IntNumber.unit c.args.point c.args.from c.requires.point c.requires.from)
+    rw c.sub-2.ensures (safe_difference g.I.IntNumber.unit c.args.point c.args.from c.requires.point c.requires.from)
 
 pub returns-then-turn-lt0 : goal.returns-then-turn-lt0
 returns-then-turn-lt0 g c =

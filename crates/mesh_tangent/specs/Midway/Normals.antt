@@ -1,4 +1,4 @@
--- What private contracts say of normals.
+-- What is known of normals on the way to a section: only private contracts read this.
 use Rattle.std.specs.Prelude.{ℕ, ◌*◌, ◌<◌, ◌≤◌, ◌^◌}
 use Rattle.mesh_plane.specs.Plane.{Point, length_sq}
 
