@@ -41,6 +41,17 @@ const GROWTH: usize = 4;
 /// How many splits the first round allows beside those that the number of meetings asks for.
 const SPARE: usize = 500;
 
+/// Up to so many edges are few. With more, stars and combs with a long offset would be left to the heap, which takes
+/// two to ten times as long.
+const FEW: usize = 300;
+
+/// How many splits an attempt at few edges allows in place of `SPARE`.
+const SPARE_OF_FEW: usize = 64;
+
+/// How many splits the first attempt allows for each of few edges. Where an offset is as long as many edges, four were
+/// too few for some drawings of a hundred vertices.
+const SPLITS_OF_FEW: usize = 5;
+
 /// A segment, and one that it meets.
 type Pair = (GridEdge, Meeting);
 
@@ -113,6 +124,30 @@ fn usual(edges: usize, factor: usize) -> usize {
     budget(edges, edges.saturating_mul(5), factor)
 }
 
+/// How many splits the first attempt may make. Each split rounds a point, so a long run drags points away from the
+/// edges. The heap leaves them nearer, but it costs more, above all where edges are many: so few edges are soon left to
+/// it, and many keep the usual budget.
+fn first_budget(edges: usize) -> usize {
+    if edges > FEW {
+        return usual(edges, 1);
+    }
+    edges
+        .saturating_mul(SPLITS_OF_FEW)
+        .saturating_add(SPARE_OF_FEW)
+}
+
+/// How many splits an attempt with a heap may make. At few edges one for each meeting and each edge has to do: what
+/// needs more is a run, and another kind of attempt may have none.
+fn heap_budget(edges: usize, meetings: usize, factor: usize) -> usize {
+    if edges > FEW {
+        return budget(edges, meetings, factor);
+    }
+    meetings
+        .saturating_add(edges)
+        .saturating_add(SPARE_OF_FEW)
+        .saturating_mul(factor)
+}
+
 /// Splits the edges by hints, unless that takes too many splits. All that it leaves waits to be tested.
 fn by_hints(
     alloc: Global,
@@ -128,7 +163,7 @@ fn by_hints(
     let mut splitter = Splitter::of_edges(alloc, edges)?;
     let mut hints = Hints::new(alloc, order);
     place(&mut splitter, &mut hints, true)?;
-    for _split in 0..budget(edges.len(), hints.len(), factor) {
+    for _split in 0..heap_budget(edges.len(), hints.len(), factor) {
         let Some((first, m)) = next(&splitter.live, &mut hints)? else {
             let again = splitter.again(alloc)?;
             return Ok(Some(again));
@@ -191,7 +226,7 @@ pub fn first_pass(alloc: Global, edges: &[GridEdge]) -> Result<Splitter, AllocEr
     ensures pile { IfOk result (λ s. IsPile edges.now s.todo s.live) }
     ensures clear { IfOk result (λ s. AllClear s.live) }
 {
-    if let Some(splitter) = in_hand(alloc, edges, usual(edges.len(), 1))? {
+    if let Some(splitter) = in_hand(alloc, edges, first_budget(edges.len()))? {
         return Ok(splitter);
     }
     let mut factor: usize = 1;
