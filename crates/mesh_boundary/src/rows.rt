@@ -38,7 +38,7 @@ fn height(p: GridPoint) -> Mark
     }
 }
 
-/// The heights of some of the edges' ends.
+/// The heights at which some of the edges start. Where edges close up, they tell of ends too.
 fn heights<T: Copy>(alloc: Global, edges: &[(GridEdge, T)]) -> Result<Vec<Mark>, AllocError>
     ensures { IfOk result (λ v. AreRising v.items) }
 {
@@ -47,7 +47,6 @@ fn heights<T: Copy>(alloc: Global, edges: &[(GridEdge, T)]) -> Result<Vec<Mark>,
     for (i, e) in edges.iter().enumerate() {
         if is_sampled(i, step) {
             heights.push(height(e.0.0).at)?;
-            heights.push(height(e.0.1).at)?;
         }
     }
     in_order(alloc, heights)

@@ -19,7 +19,7 @@ ghost use Rattle.mesh_shapes.specs.Resolution.{is_large, points_lt, is_head, sha
 ghost use Rattle.mesh_shapes.specs.Resolution.{AreArranged};
 
 use crate::area::double_area;
-use crate::holders::{holder, ring_edges};
+use crate::holders::{PlacedEdge, holder, ring_edges};
 use crate::ring::Ring;
 use mesh_boundary::rows::Rows;
 use mesh_cuts::grid::GridPoint;
@@ -48,7 +48,8 @@ fn areas(alloc: Global, rings: &[Ring]) -> Result<Vec<i128>, AllocError>
 fn home(rings: &[Ring], areas: &[i128], rows: &Rows<usize>, i: usize) -> usize
     requires in_range { i < length rings.now }
     requires areas_known { areas.now ≡ areas_of (rings_held rings.now) }
-    requires rows_known { AreRows rows.now.marks.items rows.now.lists.items (edges_of (rings_held rings.now)) }
+    requires rows_known { int_lt (pos 0) (slice_index_or areas.now i (pos 0)) ≡ false
+        → AreRows rows.now.marks.items rows.now.lists.items (edges_of (rings_held rings.now)) }
     ensures home { IsHome (rings_held rings.now) i result }
     ensures within { result < length rings.now }
 {
@@ -62,6 +63,36 @@ fn home(rings: &[Ring], areas: &[i128], rows: &Rows<usize>, i: usize) -> usize
     h
 }
 
+/// Whether all areas are positive.
+fn are_positive(areas: &[i128]) -> bool
+    ensures { result ≡ true → (i : ℕ) → i < length areas.now
+        → int_lt (pos 0) (slice_index_or areas.now i (pos 0)) ≡ true }
+{
+    for i in 0..areas.len() {
+        if areas[i] <= 0 {
+            return false;
+        }
+    }
+    true
+}
+
+/// The edges among which holes look for the rings that hold them: none where there are no holes.
+fn edges_wanted(
+    alloc: Global,
+    rings: &[Ring],
+    areas: &[i128],
+) -> Result<Vec<PlacedEdge>, AllocError>
+    requires { areas.now ≡ areas_of (rings_held rings.now) }
+    ensures { IfOk result (λ v. (i : ℕ) → i < length areas.now
+        → int_lt (pos 0) (slice_index_or areas.now i (pos 0)) ≡ false → v.items ≡ edges_of (rings_held rings.now)) }
+{
+    if are_positive(areas) {
+        return Ok(Vec::new(alloc));
+    }
+    let edges = ring_edges(alloc, rings, areas)?;
+    Ok(edges)
+}
+
 /// The places of the rings with which rings stand.
 fn homes(alloc: Global, rings: &[Ring]) -> Result<Vec<usize>, AllocError>
     ensures len { IfOk result (λ v. length v.items ≡ length rings.now) }
@@ -69,7 +100,7 @@ fn homes(alloc: Global, rings: &[Ring]) -> Result<Vec<usize>, AllocError>
     ensures within { IfOk result (λ v. AreWithin rings.now v.items) }
 {
     let areas = areas(alloc, rings)?;
-    let edges = ring_edges(alloc, rings, &areas)?;
+    let edges = edges_wanted(alloc, rings, &areas)?;
     let rows = Rows::new(alloc, &edges)?;
     let mut homes = Vec::with_capacity(alloc, rings.len())?;
     for i in 0..rings.len() {
