@@ -1,29 +1,19 @@
 -- Lemmas over lists: sines and cosines are together at most 2 ^ 30 long, and no direction of an arc is longer than the first.
-use Rattle.std.proofs.Common.{◌≡◌, ℕ, ◌+◌, ◌*◌, ◌-◌, ◌/◌, ◌%◌, ◌^◌, ◌≤◌, Bool, true, false, sym, subst, arith, zero, suc, List, [], ◌∷◌, lit<}
+use Rattle.std.proofs.Common.{ℕ, ◌+◌, ◌*◌, ◌-◌, ◌/◌, ◌%◌, ◌^◌, ◌≤◌, Bool, true, false, arith, zero, suc, [], lit<}
 use Rattle.std.specs.Prelude.{pos, if◌then◌else◌}
 use Rattle.std.specs.List.{All}
-use Rattle.std.proofs.lemmas.Bool.{cases_eq}
 use Rattle.std.proofs.lemmas.List.Elements.{All-nil, All-cons}
-use mathlib.Core.Logic.{⊎_elim}
 use Rattle.mesh_plane.specs.Plane.{Point, length_sq}
 use Rattle.mesh_plane.proofs.Sizes.{size_neg}
-use Rattle.mesh_sine.specs.Sine.{one, halved, with_bits, low_pair, in_quarter, sin_cos}
-use Rattle.mesh_sine.proofs.Lengths.{IsPair, halved_is_pair, sum_is_pair, cut_length, bit_taken, bit_left, bits_end}
+use Rattle.mesh_sine.specs.Sine.{one, low_pair, in_quarter, sin_cos}
+use Rattle.mesh_sine.proofs.Lengths.{IsPair, cut_length, with_bits_is_pair}
 use Rattle.mesh_grid.specs.Direction.{IsShort}
-use Rattle.mesh_grid.specs.Rotation.{rotated, turned_round}
+use Rattle.mesh_grid.specs.Rotation.{rotated}
 use Rattle.mesh_grid.proofs.Rotations.{rotated_length, turned_round_length}
 use Rattle.mesh_arc.specs.Arcs.{least, turned_list, is_within, ends_after, most_directions, step_bits, step_of, bound_of, stepped, arc}
 use Rattle.mesh_arc.specs.declared.arc.ArcDirection.{ArcDirection}
 use Rattle.mesh_arc.specs.declared.arc.ArcDirection.TheVariants.{Clockwise, Counterclockwise}
 use Rattle.mesh_arc.specs.declared.arc.ArcOptions.{ArcOptions}
-
-bits_keep : (low j : ℕ) (a : ℕ × ℕ) → IsPair a → IsPair (with_bits low j a)
-bits_keep low zero a h = subst IsPair (sym (bits_end low a)) h
-bits_keep low (suc j) a h =
-    ⊎_elim
-    (λ t. subst IsPair (sym (bit_taken low j a t)) (bits_keep low j _ (sum_is_pair a (halved (30 - j)) h (halved_is_pair (30 - j)))))
-    (λ t. subst IsPair (sym (bit_left low j a t)) (bits_keep low j a h))
-    (cases_eq (low / 2 ^ j % 2) 1)
 
 quarter_short : (quarter c s : ℕ) → c * c + s * s ≤ 2 ^ 60 → length_sq (in_quarter quarter c s) ≤ 2 ^ 60
 quarter_short zero c s h = omega (arith, h)
@@ -34,7 +24,7 @@ quarter_short (suc (suc (suc n))) c s h = rw (size_neg (pos c)) (omega (arith, h
 pub sin_cos_short : (bits : ℕ) → length_sq (sin_cos bits) ≤ 2 ^ 60
 sin_cos_short bits =
     let a : ℕ × ℕ = low_pair (bits % 2 ^ 30) in
-    let p : IsPair a = bits_keep (bits % 2 ^ 30) 30 (one, 0) (omega arith) in
+    let p : IsPair a = with_bits_is_pair (bits % 2 ^ 30) 30 (one, 0) (omega arith) in
     quarter_short (bits / 2 ^ 30) (a.0 / 2 ^ 30) (a.1 / 2 ^ 30) (cut_length a.0 a.1 (2 ^ 30) (2 ^ 60) (lit< tt) (omega (arith, p)))
 
 step_short : (unit : ℕ) (options : ArcOptions) (sense : ArcDirection) → length_sq (step_of unit options sense) ≤ 2 ^ 60

@@ -2,7 +2,7 @@
 use Rattle.std.proofs.Common.{◌≡◌, ℕ, ◌+◌, ◌<◌, length, get_or, Bool, true, false, cond, not, ◌&&◌, List, [], ◌∷◌, map, reverse, sym, subst}
 use Rattle.std.specs.Prelude.{ℤ}
 use Rattle.std.specs.List.{All, filter, flat_map, enumerate_from}
-use Rattle.std.proofs.lemmas.List.{get_or-map}
+use Rattle.std.proofs.lemmas.List.{get_or-map, length-map}
 use Rattle.std.proofs.lemmas.List.Elements.{All-nil, All-cons, All-head, All-tail, All-filter}
 use Rattle.std.proofs.lemmas.List.Sorted.{All-permutation, IsPermutation-reverse}
 use Rattle.mesh_plane.specs.Bounds.{IsSafe}
@@ -15,7 +15,6 @@ use Rattle.mesh_cuts.specs.Reach.{AreEdgesSafe, ArePointsSafe}
 use Rattle.mesh_shapes.specs.Resolution.{Choices, Ring, Placed, ring_of, is_large, is_head, stands_with, shape_of, answered, AreArranged, IsResolution}
 use Rattle.mesh_cuts.specs.Split.{occurs, after}
 use Rattle.mesh_regions.proofs.BoundaryFill.{boundary_cover}
-use Rattle.mesh_shapes.proofs.Groups.{length_map}
 use Rattle.mesh_below.proofs.Resolving.{all_occurs}
 use Rattle.mesh_cuts.proofs.SafeCuts.{IsSafeEdge, occurs_safe, split_safe}
 use Rattle.mesh_plane.proofs.ClosedLists.{all_left, all_right}
@@ -140,7 +139,7 @@ answer_safe unit edges given fill options answer same h r =
 
 -- what holds of each image of a list holds of that of the element at a place
 pub image_at : {A B : Type 0} (P : B → Type 0) (f : A → B) (xs : List A) (i : ℕ) (d : A) → i < length xs → All P (map f xs) → P (f (get_or xs i d))
-image_at P f xs i d low h = subst P (get_or-map f xs i d (f d) low) (h i (f d) (subst (λ (n : ℕ). i < n) (sym (length_map f xs)) low))
+image_at P f xs i d low h = subst P (get_or-map f xs i d (f d) low) (h i (f d) (subst (λ (n : ℕ). i < n) (sym (length-map xs f)) low))
 
 -- a resolution in other words
 pub same_resolution : (edges given : List Edge) (fill : ℤ → Bool) (options choices : Choices) (answer told : List (List (List Point))) → edges ≡ given → options ≡ choices → answer ≡ told →

@@ -5,6 +5,7 @@ use Rattle.std.specs.List.{All, filter, flat_map, list_any, enumerate_from}
 use Rattle.std.proofs.lemmas.Bool.{cases_Bool, both_ways, and_parts, eqb-true, eq-eqb}
 use Rattle.std.proofs.lemmas.List.{get_or_default}
 use Rattle.std.proofs.lemmas.List.FromFn.{length-enumerate_from, get_or-enumerate_from}
+use Rattle.std.proofs.Math.Bool.{and-not_self}
 use Rattle.mesh_num.specs.Paths.{contours_of}
 use Rattle.mesh_plane.specs.Plane.{Point, Edge}
 use Rattle.mesh_plane.specs.Winding.{sum_of, boundary, crossing_on, winding, holds}
@@ -147,11 +148,7 @@ module _ (g : Ring → ℤ) (rs : List Ring) where
           ∙ sym (ap (λ (x : Bool). cond x (pos 0) c) (head_test rs i k.at k.home ∙ t))
         where
           never : (j : ℕ) → (nat_eq k.at j && not (nat_eq i j)) ≡ false
-          never j = subst (λ (n : ℕ). (nat_eq n j && not (nat_eq i j)) ≡ false) (sym (eqb-true k.at i t)) (both (nat_eq i j))
-            where
-              both : (x : Bool) → (x && not x) ≡ false
-              both true = refl
-              both false = refl
+          never j = subst (λ (n : ℕ). (nat_eq n j && not (nat_eq i j)) ≡ false) (sym (eqb-true k.at i t)) (and-not_self (nat_eq i j))
       by false f =
           sum_of_equal (λ (h : Placed). share h (ring_at rs i)) (λ (h : Placed). cond (nat_eq k.at h.0) c (pos 0)) (placed rs)
           (placed_all (λ (h : Placed). share h (ring_at rs i) ≡ cond (nat_eq k.at h.0) c (pos 0)) rs (λ (j : ℕ) (low : j < length rs).

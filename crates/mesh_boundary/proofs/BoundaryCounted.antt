@@ -16,10 +16,10 @@ use Rattle.mesh_cuts.specs.Boundary.{count, IsBoundary, middle, rises, winding_b
 use Rattle.mesh_boundary.specs.Midway.CountedSides.{counted_winding, sides_by, sides_of, is_parted, boundary_edge}
 use Rattle.mesh_boundary.specs.Midway.Stars.{IsSegment}
 use Rattle.mesh_cuts.proofs.Ends.{decides_edge, decides_ends, ends_self, along_self, not_along}
-use Rattle.mesh_cuts.proofs.Counts.{times_least, absent_net}
+use Rattle.mesh_cuts.proofs.Counts.{times_least, absent_net, bit_most}
 use Rattle.mesh_cuts.proofs.Each.{Each, each_more}
 use Rattle.mesh_cuts.proofs.Each.{proper_of}
-use Rattle.mesh_cuts.proofs.Keys.{Leans, Distinct, keys, keys_are, grouped, pick, leaning_either}
+use Rattle.mesh_cuts.proofs.Keys.{Leans, Distinct, keys, keys_are, grouped, pick, leaning_either, no_sum}
 use Rattle.mesh_cuts.proofs.SidesBack.{count_more, sides_back}
 use Rattle.mesh_cuts.proofs.SidesBack.{crossing_back}
 
@@ -80,12 +80,8 @@ counted_stands es ks is =
 pub counted_segments : (es : List Edge) (ks : List Counted) → IsProper es → IsCountOf es ks → Each (IsSegment es) ks
 counted_segments es ks proper is =
     each_more (Own ks) (IsSegment es) (λ (k : Counted) (h : Own ks k). record { stands = stands_once es ks is k h.0; net = sym (is.counts k.0) ∙ h.1 }) ks
-    (own_each ks (λ (q : Edge). subst (λ (z : ℤ). z ≤ℤ pos 1) (sym (is.once q)) (least (occurs q es))) all_proper)
+    (own_each ks (λ (q : Edge). subst (λ (z : ℤ). z ≤ℤ pos 1) (sym (is.once q)) (bit_most (occurs q es))) all_proper)
   where
-    least : (b : Bool) → bit b ≤ℤ pos 1
-    least true = omega (arith, ints)
-    least false = omega (arith, ints)
-
     all_proper : Each (λ (k : Counted). same_point k.0.0 k.0.1 ≡ false) ks
     all_proper = each_more (λ (k : Counted). occurs k.0 es ≡ true) (λ (k : Counted). same_point k.0.0 k.0.1 ≡ false) (λ (k : Counted) (o : occurs k.0 es ≡ true). proper k.0 o) ks (counted_stands es ks is)
 
@@ -103,17 +99,10 @@ counted_split f k ks (s ∷ rs) =
       counted_split f k ks rs,
     )
 
-counted_none : (f : Edge → ℤ) (rs : List Edge) → sum_of (λ (s : Edge). pos 0 *ℤ f s) rs ≡ pos 0
-counted_none f [] = refl
-counted_none f (s ∷ rs) = omega (arith, linear, zero_times (f s), counted_none f rs)
-  where
-    zero_times : (x : ℤ) → pos 0 *ℤ x ≡ pos 0
-    zero_times x = omega (arith, ints)
-
 counted_grouped : (f : Edge → ℤ) → ((e : Edge) → f (back e) ≡ neg_ℤ (f e)) → (rs : List Edge) → Each Leans rs → Distinct rs →
     (ks : List Counted) → Each (λ (k : Counted). occurs k.0 rs ≡ true) ks →
     sum_of (λ (k : Counted). k.1 *ℤ f k.0) ks ≡ sum_of (λ (s : Edge). counted_net s ks *ℤ f s) rs
-counted_grouped f odd rs lean distinct [] cover = sym (counted_none f rs)
+counted_grouped f odd rs lean distinct [] cover = sym (no_sum f rs)
 counted_grouped f odd rs lean distinct (k ∷ ks) cover =
     omega (
       arith,

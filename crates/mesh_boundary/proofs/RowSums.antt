@@ -10,9 +10,10 @@ use Rattle.std.proofs.lemmas.List.Elements.{filter-append}
 use Rattle.std.proofs.Math.Seq.{take-suc}
 use Rattle.mesh_plane.specs.Plane.{Point, Edge, turn}
 use Rattle.mesh_plane.specs.Winding.{sum_of, crossing_of, crossing_on, refined}
-use Rattle.mesh_plane.proofs.Comparing.{not_less_test, above_test}
+use Rattle.mesh_plane.proofs.Comparing.{not_less_test}
 use Rattle.mesh_plane.proofs.Whole.{linear, mul_zero}
 use Rattle.mesh_plane.proofs.Sums.{sum_of_filter}
+use Rattle.mesh_plane.proofs.Crossings.{crossing_high}
 use Rattle.mesh_cuts.specs.declared.places.Mark.{Mark}
 use Rattle.mesh_cuts.specs.Counted.{Counted, size}
 use Rattle.mesh_cuts.specs.Marks.{place, AreRising, IsPutTo}
@@ -20,10 +21,6 @@ use Rattle.mesh_cuts.proofs.PlacesAmong.{place_most, lesser_place}
 use Rattle.mesh_boundary.specs.Midway.CountedSides.{counted_winding}
 use Rattle.mesh_boundary.specs.Midway.Rows.{first_row, last_row, reaches, AreRows}
 use Rattle.mesh_boundary.proofs.SidesCode.{size_least}
-
--- an edge that lies above a height, or below it, does not cross a ray at it
-above_none : (a b h t : ℤ) → h <ℤ a → h <ℤ b → crossing_of a b h t ≡ pos 0
-above_none a b h t p q = rw (above_test a h p, above_test b h q) refl
 
 below_none : (a b h t : ℤ) → a <ℤ h → b <ℤ h → crossing_of a b h t ≡ pos 0
 below_none a b h t p q = by (int_le a h) (int_le b h) (int_lt h b) (int_lt h a) (not_less_test h b (omega (arith, ints))) (not_less_test h a (omega (arith, ints)))
@@ -57,7 +54,7 @@ off_row ms q e h = by (outside (first_row ms e) (place ms q.1) (last_row ms e) h
     by (inl k) =
         let a = lesser_place ms q.1 (pos 2 *ℤ e.0.0.1) (omega arith) in
         let b = lesser_place ms q.1 (pos 2 *ℤ e.0.1.1) (omega arith) in
-        above_none (pos 2 *ℤ e.0.0.1) (pos 2 *ℤ e.0.1.1) q.1 (turn (refined 2 e.0.0) (refined 2 e.0.1) q) a b
+        crossing_high (pos 2 *ℤ e.0.0.1) (pos 2 *ℤ e.0.1.1) q.1 (turn (refined 2 e.0.0) (refined 2 e.0.1) q) a b
     by (inr k) =
         let a = lesser_place ms (pos 2 *ℤ e.0.0.1) q.1 (omega arith) in
         let b = lesser_place ms (pos 2 *ℤ e.0.1.1) q.1 (omega arith) in

@@ -9,7 +9,8 @@ ghost use Rattle.mesh_plane.specs.Winding.{boundary, winding, same_point};
 ghost use Rattle.mesh_plane.specs.Ways.{turns_at};
 ghost use Rattle.mesh_clean.specs.Cleaned.{cleaned_sections, open_sections, AllEqual, IsClean};
 
-use mesh_grid::num::convert::{is_less, is_wide_less};
+use mesh_grid::num::convert::is_wide_less;
+use mesh_grid::num::point::is_one_point;
 use mesh_grid::num::{IntNumber, IntPoint};
 use std::marker::Model;
 
@@ -114,7 +115,7 @@ impl<'a, I: IntNumber> Iterator for UniqueSegmentsIter<'a, I> {
             }
             None => {
                 self.to = from;
-                if is_same(from, to) {
+                if is_one_point(from, to) {
                     return None;
                 }
                 Some(section)
@@ -192,19 +193,12 @@ fn first_other<'a, I: IntNumber>(
 {
     let mut rest = points;
     while let Some((next, others)) = rest.split_first() {
-        if !is_same(first, *next) {
+        if !is_one_point(first, *next) {
             return Some((*next, others));
         }
         rest = others;
     }
     None
-}
-
-/// Whether both are one point.
-fn is_same<I: IntNumber>(p: IntPoint<I>, q: IntPoint<I>) -> bool
-    ensures { result ≡ same_point p q }
-{
-    !(is_less(p.x, q.x) || is_less(q.x, p.x) || is_less(p.y, q.y) || is_less(q.y, p.y))
 }
 
 /// Whether the way from `p0` by `p1` to `p2` turns or turns back at `p1`.

@@ -12,6 +12,10 @@ pub bit_least : (b : Bool) → pos 0 ≤ℤ bit b
 bit_least true = omega (arith, ints)
 bit_least false = omega (arith, ints)
 
+pub bit_most : (b : Bool) → bit b ≤ℤ pos 1
+bit_most true = omega (arith, ints)
+bit_most false = omega (arith, ints)
+
 pub times_least : (q : Edge) (ks : List Counted) → pos 0 ≤ℤ times q ks
 times_least q [] = omega (arith, ints)
 times_least q (k ∷ ks) = omega (arith, linear, bit_least (same_ends q k.0), times_least q ks)

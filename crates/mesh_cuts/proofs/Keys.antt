@@ -31,7 +31,7 @@ pub record IsKeys (es rs : List Edge) : Type 0 where
   pub leaning : Each Leans rs
   pub distinct : Distinct rs
 
-less_apart : (a b : ℤ) → a <ℤ b → a ≡ b → ⊥
+pub less_apart : (a b : ℤ) → a <ℤ b → a ≡ b → ⊥
 less_apart a b h e = omega (arith, ints)
 
 leans_apart : (s : Edge) → Leans s → same_point s.0 s.1 ≡ false
@@ -106,7 +106,7 @@ split_sum : (f : Edge → ℤ) (e : Edge) (es rs : List Edge) →
 split_sum f e es [] = refl
 split_sum f e es (s ∷ rs) = omega (arith, linear, add_mul (along s e) (net s es) (f s), split_sum f e es rs)
 
-no_sum : (f : Edge → ℤ) (rs : List Edge) → sum_of (λ (s : Edge). pos 0 *ℤ f s) rs ≡ pos 0
+pub no_sum : (f : Edge → ℤ) (rs : List Edge) → sum_of (λ (s : Edge). pos 0 *ℤ f s) rs ≡ pos 0
 no_sum f [] = refl
 no_sum f (s ∷ rs) = omega (arith, linear, zero_mul (f s), no_sum f rs)
 

@@ -8,7 +8,7 @@ use mir.Val.{SFits, to_z, of_z}
 use Rattle.mesh_plane.specs.Plane.{Point, length_sq}
 use Rattle.mesh_plane.proofs.Sizes.{le_of_squares, sum_size, difference_size}
 use Rattle.mesh_grid.specs.Direction.{IsShort}
-use Rattle.mesh_grid.proofs.Products.{short_sizes}
+use Rattle.mesh_grid.proofs.Scaling.{short_bounded}
 
 passed : (z : ℤ) → unsigned_abs z ≤ 2 ^ 126 → to_z w128 (of_z w128 z) ≡ z
 passed z h = to_z-of_z w128 z (fits_signed_from_abs w128 z (omega arith))
@@ -30,7 +30,7 @@ widened_is z h =
 -- a direction
 pub short_passed : (unit : ℕ) (n : Point) → unit ≤ 2 ^ 30 → IsShort unit n → (to_z w128 (of_z w128 n.0), to_z w128 (of_z w128 n.1)) ≡ n
 short_passed unit n l h =
-    let b : (unsigned_abs n.0 ≤ unit) × (unsigned_abs n.1 ≤ unit) = short_sizes unit n h in
+    let b : (unsigned_abs n.0 ≤ unit) × (unsigned_abs n.1 ≤ unit) = short_bounded unit n h in
     let x = passed n.0 (omega arith) in
     let y = passed n.1 (omega arith) in
     λ i. (x i, y i)

@@ -9,8 +9,9 @@ use Rattle.mesh_plane.specs.Bounds.{IsWithin, IsSmall, IsSafe}
 use Rattle.mesh_plane.specs.Plane.{Point, length_sq}
 use Rattle.mesh_plane.specs.Rounding.{rounded}
 use Rattle.mesh_plane.proofs.Rounding.{rounded_within}
-use Rattle.mesh_plane.proofs.Sizes.{le_of_squares, small_size}
+use Rattle.mesh_plane.proofs.Sizes.{small_size}
 use Rattle.mesh_grid.specs.Direction.{IsShort}
+use Rattle.mesh_grid.proofs.Scaling.{short_bounded}
 
 pub within_of_size : (h : ℕ) (z : ℤ) → unsigned_abs z < h → IsWithin h z
 within_of_size h z s = record { low = omega (arith, ints); high = omega (arith, ints) }
@@ -81,13 +82,9 @@ over_unit_within half u z r e l h f =
 pub over_unit_small : (u s : ℕ) → u ≤ 2 ^ 30 → s ≤ 4 * u * u → s ≤ 2 ^ 126
 over_unit_small u s l h = let p : u * u ≤ 2 ^ 30 * 2 ^ 30 = mul-le-mul l l in omega arith
 
--- the components of a direction
-pub short_sizes : (u : ℕ) (n : Point) → IsShort u n → (unsigned_abs n.0 ≤ u) × (unsigned_abs n.1 ≤ u)
-short_sizes u n h = (le_of_squares (unsigned_abs n.0) u (omega arith), le_of_squares (unsigned_abs n.1) u (omega arith))
-
 pub short_within : (u : ℕ) (n : Point) → 2 ^ 14 ≤ u → IsShort u n → IsWithin (2 * u) n.0 × IsWithin (2 * u) n.1
 short_within u n l h =
-    let b : (unsigned_abs n.0 ≤ u) × (unsigned_abs n.1 ≤ u) = short_sizes u n h in
+    let b : (unsigned_abs n.0 ≤ u) × (unsigned_abs n.1 ≤ u) = short_bounded u n h in
     (within_of_size (2 * u) n.0 (omega arith), within_of_size (2 * u) n.1 (omega arith))
 
 pub size_of_coordinate_within : (half u : ℕ) (z r : ℤ) → half ≡ 8 * u * u → 2 ^ 14 ≤ u → IsWithin (2 * u) z → r ≡ pos (unsigned_abs z) → IsWithin half r

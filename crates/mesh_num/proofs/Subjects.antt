@@ -1,5 +1,5 @@
 -- Lemmas over points and lists: the segments of edges have their smaller end first, and a count of 1 or -1.
-use Rattle.std.proofs.Common.{◌≡◌, ◌↔◌, IsTrue, not, inl, inr, Bool, true, false, cond, ◌&&◌, ◌||◌, ◌++◌, List, [], ◌∷◌, refl, sym, ◌∙◌, ap, arith}
+use Rattle.std.proofs.Common.{◌≡◌, ◌↔◌, IsTrue, inl, inr, Bool, true, false, cond, ◌&&◌, ◌||◌, ◌++◌, List, [], ◌∷◌, refl, sym, ◌∙◌, ap, arith}
 use Rattle.std.specs.Prelude.{ℤ, ◌≤ℤ◌, ◌<ℤ◌, pos, negsuc, int_lt}
 use Rattle.std.specs.Ordering.{int_eq, is_eq}
 use Rattle.std.specs.declared.cmp.Ordering.TheVariants.{Less, Equal, Greater}
@@ -87,13 +87,3 @@ after_by_x p r e f = sym (λ i. e i || (is_eq (cond (e i) Less (cond (f i) Great
 
 pub before_by_y : (p r : Point) → int_lt p.0 r.0 ≡ false → int_lt r.0 p.0 ≡ false → int_lt p.1 r.1 ≡ point_lt p r
 before_by_y p r e f = sym (λ i. e i || (is_eq (cond (e i) Less (cond (f i) Greater Equal)) && int_lt p.1 r.1))
-
-pub other_by_x : (p r : Point) → int_eq p.0 r.0 ≡ false → false ≡ same_point p r
-other_by_x p r e = sym (ap (λ (b : Bool). b && int_eq p.1 r.1) e)
-
-pub same_by_y : (p r : Point) → int_eq p.0 r.0 ≡ true → int_eq p.1 r.1 ≡ same_point p r
-same_by_y p r e = sym (ap (λ (b : Bool). b && int_eq p.1 r.1) e)
-
-pub not_is : (b c : Bool) → b ≡ not c → c ≡ not b
-not_is b true e = sym (ap not e)
-not_is b false e = sym (ap not e)

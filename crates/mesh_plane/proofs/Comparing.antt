@@ -27,9 +27,6 @@ test_not_less a b h = grind (arith, ints)
 pub at_most_test : (a b : ℤ) → a ≤ℤ b → int_le a b ≡ true
 at_most_test a b h = grind (arith, ints)
 
-pub above_test : (a b : ℤ) → b <ℤ a → int_le a b ≡ false
-above_test a b h = grind (arith, ints)
-
 pub test_at_most : (a b : ℤ) → int_le a b ≡ true → a ≤ℤ b
 test_at_most a b h = grind (arith, ints)
 

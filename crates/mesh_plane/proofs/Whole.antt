@@ -65,6 +65,9 @@ mul_one a = omega (arith, ints)
 -- multiplies out and sorts
 pub ruleset multiplied = (mul_add, add_mul, mul_neg, neg_mul, mul_assoc, mul_left_comm, *ℤ_comm)
 
+pub both_le : (a b : ℤ) → a ≤ℤ b → b ≤ℤ a → a ≡ b
+both_le a b h l = omega (arith, ints)
+
 -- ---- signs of products
 
 pub square_nonneg : (a : ℤ) → pos 0 ≤ℤ (a *ℤ a)

@@ -6,7 +6,7 @@ use Rattle.std.proofs.lemmas.Bool.{cases_Bool, or_right, both_ways}
 use Rattle.std.proofs.lemmas.List.Sums.{sum_by-cons}
 use Rattle.mesh_plane.specs.Plane.{Point, Edge, turn}
 use Rattle.mesh_plane.specs.Winding.{sum_of, crossing_of, crossing, total, IsBalanced, same_point}
-use Rattle.mesh_plane.proofs.Whole.{linear, times_zero, mul_one}
+use Rattle.mesh_plane.proofs.Whole.{linear, times_zero, mul_one, both_le}
 use Rattle.mesh_plane.proofs.Ring.{ring, var, lit, ◌⊕◌, ◌⊖◌, ◌⊗◌}
 use Rattle.mesh_plane.proofs.Crossings.{crossing_low, crossing_high}
 use Rattle.mesh_plane.proofs.Balance.{growth, growth_of_balanced}
@@ -18,13 +18,13 @@ use Rattle.mesh_plane.proofs.Places.{place, coordinates, turned}
 use Rattle.mesh_plane.proofs.Grids.{scale, part, winds}
 use Rattle.mesh_cuts.proofs.Each.{Each}
 use Rattle.mesh_sides.proofs.SidesClear.{Meeting, meeting_of}
-use Rattle.mesh_cuts.proofs.Keys.{Leans, Distinct, grouped, occurs_head, occurs_ends}
+use Rattle.mesh_cuts.proofs.Keys.{Leans, Distinct, grouped, occurs_head, occurs_ends, less_apart}
 use Rattle.mesh_sides.proofs.FinerGrids.{below_of, crossing_below, level_none, level_below_none, winds_finer}
 use Rattle.mesh_sides.proofs.LineWindings.{Setting, inside_beside, above_place}
 use Rattle.mesh_cuts.proofs.SidesBack.{crossing_back}
 use Rattle.mesh_cuts.proofs.SidesBack.{rises_flat}
 use Rattle.mesh_regions.proofs.BoundaryFill.{boundary_net, boundary_cover, crossing_below_back, fill_is, fill_is_below}
-use Rattle.mesh_plane.proofs.Comparing.{decides_point}
+use Rattle.mesh_plane.proofs.Comparing.{decides_point, less_test, not_less_test}
 
 -- 1 where a point at the height `v` and the column `c` is level with `h` and to the east of `x`
 abbrev behind_at : ℤ → ℤ → ℤ → ℤ → ℤ
@@ -113,9 +113,6 @@ lift_up q p r up =
     (λ (w : q.1 ≤ℤ r.1). at_end y (both_le r.1 q.1 z w))))
     (λ (y : q.1 ≤ℤ p.1). at_start (both_le p.1 q.1 x y)))
   where
-    both_le : (a b : ℤ) → a ≤ℤ b → b ≤ℤ a → a ≡ b
-    both_le a b k l = omega (arith, ints)
-
     at_start : p.1 ≡ q.1 → Lift q p r
     at_start e =
         let sign : int_lt (pos 0) (turn p r q) ≡ int_lt q.0 p.0 =
@@ -168,12 +165,18 @@ flat_lift q s flat =
     ∙ level_below_none (pos 2 *ℤ s.1.1) q.1 (turn (scale (pos 2) s.0) (scale (pos 2) s.1) q) in
     omega (arith, linear, none, none_below)
 
+twice_less : (a b : ℤ) → a <ℤ b → (pos 2 *ℤ a) <ℤ (pos 2 *ℤ b)
+twice_less a b h = omega (arith, ints)
+
+less_bit : (a b : ℤ) → a <ℤ b → bit (int_lt a b) ≡ pos 1
+less_bit a b h = ap bit (less_test a b h)
+
+least_bit : (a b : ℤ) → b ≤ℤ a → bit (int_lt a b) ≡ pos 0
+least_bit a b h = ap bit (not_less_test a b h)
+
 lifted_of : (x y : ℤ) (s : Edge) → Leans s → Lifted ((pos 2 *ℤ x) +ℤ pos 1, pos 2 *ℤ y) s
 lifted_of x y s (inl up) =
     level_with (lift_up ((pos 2 *ℤ x) +ℤ pos 1, pos 2 *ℤ y) (scale (pos 2) s.0) (scale (pos 2) s.1) (twice_less s.0.1 s.1.1 up))
-  where
-    twice_less : (a b : ℤ) → a <ℤ b → (pos 2 *ℤ a) <ℤ (pos 2 *ℤ b)
-    twice_less a b h = omega (arith, ints)
 lifted_of x y s (inr flat) =
     let q : Point = ((pos 2 *ℤ x) +ℤ pos 1, pos 2 *ℤ y) in
     let h : ℤ = pos 2 *ℤ y in
@@ -208,20 +211,8 @@ lifted_of x y s (inr flat) =
     }))
     (λ (k : (pos 2 *ℤ s.1.0) ≤ℤ c). level_with (omega (arith, linear, lifts, a, b, least_bit c (pos 2 *ℤ s.0.0) l, least_bit c (pos 2 *ℤ s.1.0) k))))))
   where
-    both_le : (a b : ℤ) → a ≤ℤ b → b ≤ℤ a → a ≡ b
-    both_le a b k l = omega (arith, ints)
-
-    twice_less : (a b : ℤ) → a <ℤ b → (pos 2 *ℤ a) <ℤ (pos 2 *ℤ b)
-    twice_less a b h = omega (arith, ints)
-
     further : (a b c : ℤ) → a <ℤ b → b <ℤ c → a <ℤ c
     further a b c h k = omega (arith, ints)
-
-    less_bit : (a b : ℤ) → a <ℤ b → bit (int_lt a b) ≡ pos 1
-    less_bit a b h = grind (arith, ints)
-
-    least_bit : (a b : ℤ) → b ≤ℤ a → bit (int_lt a b) ≡ pos 0
-    least_bit a b h = grind (arith, ints)
 
     strict : (a x : ℤ) → (pos 2 *ℤ a) ≤ℤ ((pos 2 *ℤ x) +ℤ pos 1) → (pos 2 *ℤ a) <ℤ ((pos 2 *ℤ x) +ℤ pos 1)
     strict a x h = omega (arith, ints)
@@ -258,9 +249,6 @@ two_over q s e meet o k =
     (λ (x : q ≡ scale (pos 2) s.0). less_apart (pos 2 *ℤ s.0.0) q.0 o.west (sym (ap (λ (v : Point). v.0) x)))
     (λ (x : q ≡ scale (pos 2) s.1). less_apart q.0 (pos 2 *ℤ s.1.0) o.east (ap (λ (v : Point). v.0) x))
     (meet.at_end (pos 2) (omega (arith, ints)) q (over_on q s o) (over_on q e k))
-  where
-    less_apart : (a b : ℤ) → a <ℤ b → a ≡ b → ⊥
-    less_apart a b h e = omega (arith, ints)
 
 -- either no segment of the list has a lift, or one alone
 pub data Alone (q : Point) (rs : List Edge) : Type 0 where
@@ -408,16 +396,10 @@ one_point p v =
           linear,
           behind_level (pos 2 *ℤ y) ((pos 2 *ℤ (x -ℤ pos 1)) +ℤ pos 1) (pos 2 *ℤ y) (pos 2 *ℤ x) refl,
           behind_level (pos 2 *ℤ y) ((pos 2 *ℤ x) +ℤ pos 1) (pos 2 *ℤ y) (pos 2 *ℤ x) refl,
-          yes ((pos 2 *ℤ (x -ℤ pos 1)) +ℤ pos 1) (pos 2 *ℤ x) (left x),
-          none ((pos 2 *ℤ x) +ℤ pos 1) (pos 2 *ℤ x) (right x),
+          less_bit ((pos 2 *ℤ (x -ℤ pos 1)) +ℤ pos 1) (pos 2 *ℤ x) (left x),
+          least_bit ((pos 2 *ℤ x) +ℤ pos 1) (pos 2 *ℤ x) (right x),
         )
       where
-        yes : (a b : ℤ) → a <ℤ b → bit (int_lt a b) ≡ pos 1
-        yes a b h = grind (arith, ints)
-
-        none : (a b : ℤ) → b ≤ℤ a → bit (int_lt a b) ≡ pos 0
-        none a b h = grind (arith, ints)
-
         left : (x : ℤ) → ((pos 2 *ℤ (x -ℤ pos 1)) +ℤ pos 1) <ℤ (pos 2 *ℤ x)
         left x = omega (arith, ints)
 
@@ -429,11 +411,11 @@ one_point p v =
     other x y a b apart =
         by_lt_z y b
         (λ (h : y <ℤ b).
-        omega (arith, linear, behind_apart (pos 2 *ℤ y) ((pos 2 *ℤ (x -ℤ pos 1)) +ℤ pos 1) (pos 2 *ℤ b) (pos 2 *ℤ a) (inr (twice y b h)), behind_apart (pos 2 *ℤ y) ((pos 2 *ℤ x) +ℤ pos 1) (pos 2 *ℤ b) (pos 2 *ℤ a) (inr (twice y b h))))
+        omega (arith, linear, behind_apart (pos 2 *ℤ y) ((pos 2 *ℤ (x -ℤ pos 1)) +ℤ pos 1) (pos 2 *ℤ b) (pos 2 *ℤ a) (inr (twice_less y b h)), behind_apart (pos 2 *ℤ y) ((pos 2 *ℤ x) +ℤ pos 1) (pos 2 *ℤ b) (pos 2 *ℤ a) (inr (twice_less y b h))))
         (λ (h : b ≤ℤ y).
         by_lt_z b y
         (λ (k : b <ℤ y).
-        omega (arith, linear, behind_apart (pos 2 *ℤ y) ((pos 2 *ℤ (x -ℤ pos 1)) +ℤ pos 1) (pos 2 *ℤ b) (pos 2 *ℤ a) (inl (twice b y k)), behind_apart (pos 2 *ℤ y) ((pos 2 *ℤ x) +ℤ pos 1) (pos 2 *ℤ b) (pos 2 *ℤ a) (inl (twice b y k))))
+        omega (arith, linear, behind_apart (pos 2 *ℤ y) ((pos 2 *ℤ (x -ℤ pos 1)) +ℤ pos 1) (pos 2 *ℤ b) (pos 2 *ℤ a) (inl (twice_less b y k)), behind_apart (pos 2 *ℤ y) ((pos 2 *ℤ x) +ℤ pos 1) (pos 2 *ℤ b) (pos 2 *ℤ a) (inl (twice_less b y k))))
         (λ (k : y ≤ℤ b).
         let e : y ≡ b = both_le y b k h in
         let l : pos 2 *ℤ b ≡ pos 2 *ℤ y = ap (λ (z : ℤ). pos 2 *ℤ z) (sym e) in
@@ -445,12 +427,6 @@ one_point p v =
           ap bit (column x a (λ (c : x ≡ a). apart (c, e))),
         )))
       where
-        twice : (a b : ℤ) → a <ℤ b → (pos 2 *ℤ a) <ℤ (pos 2 *ℤ b)
-        twice a b h = omega (arith, ints)
-
-        both_le : (a b : ℤ) → a ≤ℤ b → b ≤ℤ a → a ≡ b
-        both_le a b k l = omega (arith, ints)
-
         column : (x a : ℤ) → (x ≡ a → ⊥) → int_lt ((pos 2 *ℤ (x -ℤ pos 1)) +ℤ pos 1) (pos 2 *ℤ a) ≡ int_lt ((pos 2 *ℤ x) +ℤ pos 1) (pos 2 *ℤ a)
         column x a differ =
             by_lt_z x a

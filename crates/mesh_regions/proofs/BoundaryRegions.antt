@@ -8,7 +8,7 @@ use Rattle.std.proofs.lemmas.Bool.{cases_Bool, or_parts, or_right}
 use Rattle.std.proofs.lemmas.Bool.Decides.{Decides-int_eq}
 use Rattle.mesh_plane.specs.Plane.{Point, Edge, turn}
 use Rattle.mesh_plane.specs.Winding.{crossing}
-use Rattle.mesh_plane.proofs.Whole.{linear, mul_pos, mul_nonneg, mul_pos_neg, mul_nonneg_nonpos, mul_neg_pos, mul_nonpos, mul_nonpos_nonneg, pos_of_mul, neg_of_mul, nonpos_of_mul, nonneg_of_mul, mul_le_mul_left, factor}
+use Rattle.mesh_plane.proofs.Whole.{linear, mul_pos, mul_nonneg, mul_pos_neg, mul_nonneg_nonpos, mul_neg_pos, mul_nonpos, mul_nonpos_nonneg, pos_of_mul, neg_of_mul, nonpos_of_mul, nonneg_of_mul, mul_le_mul_left, factor, both_le}
 use Rattle.mesh_plane.proofs.Ring.{ring, var, lit, ◌⊖◌, ◌⊗◌}
 use Rattle.mesh_plane.proofs.Crossings.{crossing_low, crossing_high, turn_flip}
 use Rattle.mesh_plane.proofs.Sums.{total_append}
@@ -18,7 +18,7 @@ use Rattle.mesh_plane.proofs.Places.{place, coordinates, turned, scaled_place}
 use Rattle.mesh_sides.proofs.SidesPotential.{above, crosses_west, crosses_east}
 use Rattle.mesh_plane.proofs.Grids.{scale, winds}
 use Rattle.mesh_cuts.proofs.Keys.{occurs_head}
-use Rattle.mesh_cuts.proofs.KeptByCuts.{Boxed, after_append, box_trans, cut_box}
+use Rattle.mesh_cuts.proofs.KeptByCuts.{Boxed, after_append, box_trans, cut_box, after_none}
 use Rattle.mesh_cuts.proofs.Boxes.{turn_start, turn_end, start_box, end_box}
 use Rattle.mesh_cuts.proofs.Beside.{turn_between}
 use Rattle.std.proofs.lemmas.Bool.{not-false}
@@ -120,9 +120,6 @@ line_level m p r q differ =
     by_lt_z r.1 p.1
     (λ (k : r.1 <ℤ p.1). level_back m p r q (rising_level m r p q k))
     (λ (k : p.1 ≤ℤ r.1). flat_level m p r q differ (both_le p.1 r.1 k h)))
-  where
-    both_le : (a b : ℤ) → a ≤ℤ b → b ≤ℤ a → a ≡ b
-    both_le a b k l = omega (arith, ints)
 
 -- ---- in a box that the point lies outside of
 
@@ -130,6 +127,9 @@ pub data Side (a z b : ℤ) : Type 0 where
   within : IsBetween a z b → Side a z b
   under : z <ℤ a → z <ℤ b → Side a z b
   past : a <ℤ z → b <ℤ z → Side a z b
+
+weaker : (a b : ℤ) → a <ℤ b → a ≤ℤ b
+weaker a b h = omega (arith, ints)
 
 side_of : (a z b : ℤ) → Side a z b
 side_of a z b =
@@ -146,9 +146,6 @@ side_of a z b =
     (λ (w : z ≤ℤ a). within (record { up = λ (h : a ≤ℤ b). absurd (no_up' a z b w y h); down = λ (h : b ≤ℤ a). (weaker b z y, w) })))
     (λ (y : z ≤ℤ b). within (record { up = λ (h : a ≤ℤ b). (x, y); down = λ (h : b ≤ℤ a). (turn_le a z b x y h, turn_le' a z b x y h) })))
   where
-    weaker : (a b : ℤ) → a <ℤ b → a ≤ℤ b
-    weaker a b h = omega (arith, ints)
-
     no_up : (a z b : ℤ) → z <ℤ a → b ≤ℤ z → a ≤ℤ b → ⊥
     no_up a z b x y h = omega (arith, ints)
 
@@ -207,9 +204,6 @@ box_level m e q some out = by (side_of (m *ℤ e.0.0) q.0 (m *ℤ e.1.0)) (side_
           crossing_low (m *ℤ v.1) (m *ℤ w.1) q.1 (turn (scale m v) (scale m w) q)
           (weaker (m *ℤ v.1) q.1 (scaled_past m e.0.1 v.1 e.1.1 q.1 some hv.by_y a b)) (weaker (m *ℤ w.1) q.1 (scaled_past m e.0.1 w.1 e.1.1 q.1 some hw.by_y a b));
     }
-      where
-        weaker : (a b : ℤ) → a <ℤ b → a ≤ℤ b
-        weaker a b h = omega (arith, ints)
     by (under a b) (within y) = record {
       value = λ (v : Point). above q.1 (m *ℤ v.1);
       is = λ (v w : Point) (hv : IsInBox e v) (hw : IsInBox e w).
@@ -292,11 +286,7 @@ after_winds ks [] m q boxed some differ out = nothing ks
   where
     nothing : (ks : List Cut) → winds m q (after ks []) ≡ pos 0
     nothing [] = refl
-    nothing (k ∷ ks) = ap (λ (l : List Edge). winds m q (cut k l)) (empty ks)
-      where
-        empty : (ks : List Cut) → after ks [] ≡ []
-        empty [] = refl
-        empty (k ∷ ks) = ap (cut k) (empty ks)
+    nothing (k ∷ ks) = ap (λ (l : List Edge). winds m q (cut k l)) (after_none ks)
 after_winds ks (e ∷ es) m q boxed some differ out =
     ap (λ (l : List Edge). winds m q l) (after_append ks (e ∷ []) es)
     ∙ (total_append (λ (p r : Point). crossing q (scale m p) (scale m r)) (path ks e) (after ks es)

@@ -12,7 +12,7 @@ use Rattle.std.proofs.Math.Seq.{drop-cons}
 use Rattle.mesh_plane.specs.Plane.{Point, Edge, minus, cross, dot}
 use Rattle.mesh_plane.specs.Order.{point_lt}
 use Rattle.mesh_plane.specs.Winding.{sum_of, route, boundary, same_point}
-use Rattle.mesh_plane.proofs.Whole.{linear, mul_both_neg, mul_neg_pos, pos_of_mul, neg_mul, square_nonneg}
+use Rattle.mesh_plane.proofs.Whole.{linear, mul_both_neg, mul_neg_pos, pos_of_mul, neg_mul, square_nonneg, mul_zero, zero_mul}
 use Rattle.mesh_plane.proofs.Ring.{ring, var, ◌⊕◌, ◌⊖◌, ◌⊗◌}
 use Rattle.mesh_plane.proofs.ClosedLists.{boundary_rotated}
 use Rattle.mesh_plane.specs.Ways.{turns_at, first_or, last_of}
@@ -22,7 +22,7 @@ use Rattle.mesh_shapes.specs.Midway.Progress.{point_at, next_at, IsBestVisit, Is
 use Rattle.mesh_cuts.proofs.Each.{Each, each_more}
 use Rattle.mesh_shapes.proofs.ContoursKept.{Proper}
 use Rattle.mesh_shapes.proofs.Walking.{Before, before_of, of_before, not_before, three_ways, lt_self, from_after, before_trans, before_not_self}
-use Rattle.mesh_plane.proofs.Comparing.{decides_point}
+use Rattle.mesh_plane.proofs.Comparing.{decides_point, less_test}
 
 -- ---- turning points
 pub corner_yes : (a p n : Point) → (cross (minus p a) (minus p n) ≡ pos 0 → ⊥) → turns_at a p n ≡ true
@@ -40,34 +40,22 @@ same_way : (a b c d : ℤ) → (a <ℤ pos 0) ⊎ ((a ≡ pos 0) × (b <ℤ pos 
 same_way a b c d (inl ha) (inl hc) e =
     let id : a *ℤ ((a *ℤ c) +ℤ (b *ℤ d)) ≡ (c *ℤ ((a *ℤ a) +ℤ (b *ℤ b))) +ℤ (b *ℤ ((a *ℤ d) -ℤ (b *ℤ c))) =
     ring (a ∷ b ∷ c ∷ d ∷ []) (var 0 ⊗ ((var 0 ⊗ var 2) ⊕ (var 1 ⊗ var 3))) ((var 2 ⊗ ((var 0 ⊗ var 0) ⊕ (var 1 ⊗ var 1))) ⊕ (var 1 ⊗ ((var 0 ⊗ var 3) ⊖ (var 1 ⊗ var 2)))) refl in
-    let none : b *ℤ ((a *ℤ d) -ℤ (b *ℤ c)) ≡ pos 0 = ap (λ (z : ℤ). b *ℤ z) e ∙ times_none b in
+    let none : b *ℤ ((a *ℤ d) -ℤ (b *ℤ c)) ≡ pos 0 = ap (λ (z : ℤ). b *ℤ z) e ∙ mul_zero b in
     let square : pos 0 <ℤ ((a *ℤ a) +ℤ (b *ℤ b)) = omega (arith, linear, mul_both_neg a a ha ha, square_nonneg b) in
     let less : (c *ℤ ((a *ℤ a) +ℤ (b *ℤ b))) <ℤ pos 0 = mul_neg_pos c ((a *ℤ a) +ℤ (b *ℤ b)) hc square in
     pos_of_mul (neg_ℤ a) ((a *ℤ c) +ℤ (b *ℤ d)) (omega (arith, linear)) (omega (arith, linear, neg_mul a ((a *ℤ c) +ℤ (b *ℤ d))))
-  where
-    times_none : (x : ℤ) → x *ℤ pos 0 ≡ pos 0
-    times_none x = omega (arith, ints)
 same_way a b c d (inl ha) (inr hc) e =
     let lean : pos 0 <ℤ (a *ℤ d) = mul_both_neg a d ha hc.1 in
-    let none : b *ℤ c ≡ pos 0 = ap (λ (z : ℤ). b *ℤ z) hc.0 ∙ times_none b in
+    let none : b *ℤ c ≡ pos 0 = ap (λ (z : ℤ). b *ℤ z) hc.0 ∙ mul_zero b in
     absurd (omega (arith, linear))
-  where
-    times_none : (x : ℤ) → x *ℤ pos 0 ≡ pos 0
-    times_none x = omega (arith, ints)
 same_way a b c d (inr ha) (inl hc) e =
     let lean : pos 0 <ℤ (b *ℤ c) = mul_both_neg b c ha.1 hc in
-    let none : a *ℤ d ≡ pos 0 = ap (λ (z : ℤ). z *ℤ d) ha.0 ∙ none_times d in
+    let none : a *ℤ d ≡ pos 0 = ap (λ (z : ℤ). z *ℤ d) ha.0 ∙ zero_mul d in
     absurd (omega (arith, linear))
-  where
-    none_times : (x : ℤ) → pos 0 *ℤ x ≡ pos 0
-    none_times x = omega (arith, ints)
 same_way a b c d (inr ha) (inr hc) e =
     let lean : pos 0 <ℤ (b *ℤ d) = mul_both_neg b d ha.1 hc.1 in
-    let none : a *ℤ c ≡ pos 0 = ap (λ (z : ℤ). z *ℤ c) ha.0 ∙ none_times c in
+    let none : a *ℤ c ≡ pos 0 = ap (λ (z : ℤ). z *ℤ c) ha.0 ∙ zero_mul c in
     omega (arith, linear)
-  where
-    none_times : (x : ℤ) → pos 0 *ℤ x ≡ pos 0
-    none_times x = omega (arith, ints)
 
 leads_less : (p q : Point) → point_lt q p ≡ false → (q ≡ p → ⊥) → ((minus p q).0 <ℤ pos 0) ⊎ (((minus p q).0 ≡ pos 0) × ((minus p q).1 <ℤ pos 0))
 leads_less p q h differ =
@@ -87,14 +75,11 @@ pub least_corner : (a p n : Point) → point_lt a p ≡ false → point_lt n p �
 least_corner a p n la ln da dn =
     by_cross (Decides-int_eq (cross (minus p a) (minus p n)) (pos 0)).0 (cases_Bool (int_eq (cross (minus p a) (minus p n)) (pos 0)))
   where
-    less_true : (x : ℤ) → pos 0 <ℤ x → int_lt (pos 0) x ≡ true
-    less_true x h = grind (arith, ints)
-
     by_cross : (int_eq (cross (minus p a) (minus p n)) (pos 0) ≡ true → cross (minus p a) (minus p n) ≡ pos 0) →
         (int_eq (cross (minus p a) (minus p n)) (pos 0) ≡ true) ⊎ (int_eq (cross (minus p a) (minus p n)) (pos 0) ≡ false) → turns_at a p n ≡ true
     by_cross f (inl t) =
         corner_flat a p n (f t)
-        ∙ less_true (dot (minus p a) (minus p n)) (same_way (minus p a).0 (minus p a).1 (minus p n).0 (minus p n).1 (leads_less p a la da) (leads_less p n ln dn) (f t))
+        ∙ less_test (pos 0) (dot (minus p a) (minus p n)) (same_way (minus p a).0 (minus p a).1 (minus p n).0 (minus p n).1 (leads_less p a la da) (leads_less p n ln dn) (f t))
     by_cross f (inr t) = ap (λ (b : Bool). not b || int_lt (pos 0) (dot (minus p a) (minus p n))) t
 
 -- ---- a contour that comes by its least point `p` again
@@ -256,6 +241,10 @@ each_parts P [] ys h = (tt, h)
 each_parts P (x ∷ xs) ys h = let r = each_parts P xs ys h.1 in ((h.0, r.0), r.1)
 
 -- the visits of a list, by their places
+drop_zero : (l : List Point) → drop 0 l ≡ l
+drop_zero [] = refl
+drop_zero (x ∷ l) = refl
+
 visits_places : (all : Bool) (p m : Point) (ps : List Point) →
     ((k : ℕ) → k < length ps → point_at ps k ≡ p → point_lt (next_kept all (point_at ps k) (drop (k + 1) ps) p) m ≡ false) → VisitsLeast all p m ps
 visits_places all p m [] h = tt
@@ -265,10 +254,6 @@ visits_places all p m (y ∷ ys) h = (
       subst (λ (l : List Point). point_lt (next_kept all (point_at ys k) l p) m ≡ false) (drop_next k) (h (suc k) (omega arith) e)),
 )
   where
-    drop_zero : (l : List Point) → drop 0 l ≡ l
-    drop_zero [] = refl
-    drop_zero (x ∷ l) = refl
-
     drop_next : (k : ℕ) → drop (suc k + 1) (y ∷ ys) ≡ drop (k + 1) ys
     drop_next k = ap (λ (n : ℕ). drop n (y ∷ ys)) (let e : suc k + 1 ≡ suc (k + 1) = omega arith in e)
 
@@ -335,10 +320,6 @@ best_begun all p xs zero hx proper best =
     (begun_of all p xs hx (visits_places all p (next_kept all p xs p) (p ∷ xs)
     (λ (k : ℕ) (l : k < length (p ∷ xs)) (e : point_at (p ∷ xs) k ≡ p). subst (λ (q : Point). point_lt (next_at all (p ∷ xs) k) q ≡ false) first (best.least k l e))))
   where
-    drop_zero : (l : List Point) → drop 0 l ≡ l
-    drop_zero [] = refl
-    drop_zero (x ∷ l) = refl
-
     first : next_at all (p ∷ xs) 0 ≡ next_kept all p xs p
     first = ap (λ (l : List Point). next_kept all p l p) (drop_zero xs)
 best_begun all p xs (suc i) hx proper best =

@@ -1,5 +1,5 @@
 -- Lemmas over points and lists: rings in order, and where each of them belongs.
-use Rattle.std.proofs.Common.{◌≡◌, ℕ, ◌+◌, ◌<◌, ◌≤◌, ⊎_elim, zero, suc, Bool, true, false, not, ◌||◌, ◌&&◌, List, [], ◌∷◌, map, length, get_or, below_more, refl, sym, ◌∙◌, ap, subst, arith}
+use Rattle.std.proofs.Common.{◌≡◌, ℕ, ◌+◌, ◌<◌, ◌≤◌, ⊎_elim, zero, suc, Bool, true, false, not, ◌||◌, ◌&&◌, List, [], ◌∷◌, length, get_or, below_more, refl, sym, ◌∙◌, ap, subst, arith}
 use Rattle.std.specs.Prelude.{ℤ, pos, ◌≤ℤ◌, ◌<ℤ◌, int_lt, nat_eq, Option, Some, None, MatchOption}
 use Rattle.std.specs.Ordering.{int_eq, int_cmp, ordering_then, is_lt}
 use Rattle.std.specs.declared.cmp.Ordering.{Ordering}
@@ -7,8 +7,10 @@ use Rattle.std.specs.Cmp.Lexicographic.{slice_cmp}
 use Rattle.std.specs.List.{list_any, enumerate_from}
 use Rattle.std.specs.List.Sorted.{IsSorted, IsSortedBy}
 use Rattle.std.proofs.lemmas.Int.{ints, by_lt_z}
-use Rattle.std.proofs.lemmas.Bool.{cases_Bool, both_ways, and_parts, or_from, eqb-true, eq-eqb}
+use Rattle.std.proofs.lemmas.Bool.{cases_Bool, both_ways, and_parts, or_from, eqb-true, eq-eqb, or_right}
 use Rattle.std.proofs.lemmas.Bool.Decides.{Decides-int_eq}
+use Rattle.std.proofs.Math.Bool.{and-not_self}
+use Rattle.std.proofs.lemmas.List.{get_or-map, length-map}
 use Rattle.mesh_plane.specs.Plane.{Point}
 use Rattle.mesh_plane.specs.Order.{point_lt}
 use Rattle.mesh_plane.specs.Winding.{holds}
@@ -18,22 +20,14 @@ use Rattle.mesh_shapes.specs.Resolution.{Ring, Placed, points_lt, is_positive, i
 use Rattle.mesh_shapes.specs.Vectors.{HeldRing, ring_held, rings_held}
 use Rattle.mesh_shapes.specs.Midway.Grouping.{ring_at, placed, areas_of, is_round_at, IsHome, heads, stands}
 use Rattle.mesh_plane.proofs.Comparing.{less_test, not_less_test, test_less, test_not_less, point_cmp, cmp_lt, then_lt, then_eq, first_not_less}
+use Rattle.mesh_plane.proofs.Whole.{both_le}
 
 -- ---- what stands at a place
-get_map : {A B : Type 0} (f : A → B) (xs : List A) (i : ℕ) (d : A) (e : B) → i < length xs → get_or (map f xs) i e ≡ f (get_or xs i d)
-get_map f [] i d e h = absurd (omega arith)
-get_map f (x ∷ xs) zero d e h = refl
-get_map f (x ∷ xs) (suc i) d e h = get_map f xs i d e (omega arith)
-
-pub length_map : {A B : Type 0} (f : A → B) (xs : List A) → length (map f xs) ≡ length xs
-length_map f [] = refl
-length_map f (x ∷ xs) = ap suc (length_map f xs)
-
 pub view_at : (rs : List HeldRing) (i : ℕ) (r : HeldRing) (d : Ring) → i < length rs → get_or (rings_held rs) i d ≡ ring_held (get_or rs i r)
-view_at rs i r d low = get_map ring_held rs i r d low
+view_at rs i r d low = get_or-map ring_held rs i r d low
 
 pub area_at : (rs : List Ring) (areas : List ℤ) (i : ℕ) → areas ≡ areas_of rs → i < length rs → get_or areas i (pos 0) ≡ double_area (ring_at rs i).1.0
-area_at rs areas i e low = ap (λ (l : List ℤ). get_or l i (pos 0)) e ∙ get_map (λ (r : Ring). double_area r.0) rs i ([], (pos 0, pos 0)) (pos 0) low
+area_at rs areas i e low = ap (λ (l : List ℤ). get_or l i (pos 0)) e ∙ get_or-map (λ (r : Ring). double_area r.0) rs i ([], (pos 0, pos 0)) (pos 0) low
 
 pub positive_at : (rs : List Ring) (areas : List ℤ) (i : ℕ) → areas ≡ areas_of rs → i < length rs → int_lt (pos 0) (get_or areas i (pos 0)) ≡ is_positive (ring_at rs i)
 positive_at rs areas i e low = ap (λ (z : ℤ). int_lt (pos 0) z) (area_at rs areas i e low)
@@ -80,14 +74,11 @@ one_before rs j k differ h =
     by_lt_z (area rs k) (area rs j)
     (λ (l : area rs k <ℤ area rs j). ap (λ (b : Bool). b || (int_eq (area rs k) (area rs j) && int_lt (pos k) (pos j))) (less_test (area rs k) (area rs j) l))
     (λ (l : area rs j ≤ℤ area rs k).
-    let e : area rs k ≡ area rs j = both (area rs k) (area rs j) le l in
+    let e : area rs k ≡ area rs j = both_le (area rs k) (area rs j) le l in
     let same : int_eq (area rs k) (area rs j) ≡ true = (Decides-int_eq (area rs k) (area rs j)).1 e in
     let same' : int_eq (area rs j) (area rs k) ≡ true = (Decides-int_eq (area rs j) (area rs k)).1 (sym e) in
     (λ i. not_less_test (area rs k) (area rs j) l i || (same i && by_place same' i)))
   where
-    both : (a b : ℤ) → a ≤ℤ b → b ≤ℤ a → a ≡ b
-    both a b x y = omega (arith, ints)
-
     less_places : (j k : ℕ) → (j ≡ k → ⊥) → int_lt (pos j) (pos k) ≡ false → int_lt (pos k) (pos j) ≡ true
     less_places j k n f = less_test (pos k) (pos j) (apart j k n (test_not_less (pos j) (pos k) f))
       where
@@ -99,12 +90,8 @@ one_before rs j k differ h =
         less_places j k differ
         (⊎_elim
         (λ (t : int_lt (pos j) (pos k) ≡ true).
-        absurd (both_ways (is_before (ring_at rs j) (ring_at rs k)) h (or_second (int_lt (area rs j) (area rs k)) (int_eq (area rs j) (area rs k) && int_lt (pos j) (pos k)) (λ i. s i && t i))))
+        absurd (both_ways (is_before (ring_at rs j) (ring_at rs k)) h (or_right (int_lt (area rs j) (area rs k)) (int_eq (area rs j) (area rs k) && int_lt (pos j) (pos k)) (λ i. s i && t i))))
         (λ (f : int_lt (pos j) (pos k) ≡ false). f) (cases_Bool (int_lt (pos j) (pos k))))
-      where
-        or_second : (a b : Bool) → b ≡ true → (a || b) ≡ true
-        or_second true b h = refl
-        or_second false b h = h
 
 -- ---- the best holder so far
 pub holder_none : (rs : List Ring) (q : Point) → NoneRound rs 0 q
@@ -173,11 +160,7 @@ any_one_from p n [] k l h = absurd (omega arith)
 any_one_from p n (r ∷ rs) zero l h =
     ap (λ (b : Bool). b || list_any p (enumerate_from (n + 1) rs)) (subst (λ (m : ℕ). p (m, r) ≡ true) (omega arith) h)
 any_one_from p n (r ∷ rs) (suc k) l h =
-    or_second (p (n, r)) (list_any p (enumerate_from (n + 1) rs)) (any_one_from p (n + 1) rs k (omega arith) (subst (λ (m : ℕ). p (m, get_or rs k ([], (pos 0, pos 0))) ≡ true) (omega arith) h))
-  where
-    or_second : (a b : Bool) → b ≡ true → (a || b) ≡ true
-    or_second true b h = refl
-    or_second false b h = h
+    or_right (p (n, r)) (list_any p (enumerate_from (n + 1) rs)) (any_one_from p (n + 1) rs k (omega arith) (subst (λ (m : ℕ). p (m, get_or rs k ([], (pos 0, pos 0))) ≡ true) (omega arith) h))
 
 pub any_one : (p : Placed → Bool) (rs : List Ring) (k : ℕ) → k < length rs → p (ring_at rs k) ≡ true → list_any p (placed rs) ≡ true
 any_one p rs k l h = any_one_from p 0 rs k l (subst (λ (m : ℕ). p (m, get_or rs k ([], (pos 0, pos 0))) ≡ true) (omega arith) h)
@@ -188,12 +171,8 @@ home_positive rs i h = heads (ap (λ (b : Bool). b || not (list_any (λ (k : Pla
 
 pub home_alone : (rs : List Ring) (i : ℕ) → NoneRound rs (length rs) (ring_at rs i).1.1 → IsHome rs i i
 home_alone rs i h =
-    heads (or_second (is_positive (ring_at rs i)) (not (list_any (λ (k : Placed). is_round k (ring_at rs i)) (placed rs)))
+    heads (or_right (is_positive (ring_at rs i)) (not (list_any (λ (k : Placed). is_round k (ring_at rs i)) (placed rs)))
     (ap not (any_none (λ (k : Placed). is_round k (ring_at rs i)) rs h))) refl
-  where
-    or_second : (a b : Bool) → b ≡ true → (a || b) ≡ true
-    or_second true b h = refl
-    or_second false b h = h
 
 pub home_held : (rs : List Ring) (i b : ℕ) → is_positive (ring_at rs i) ≡ false → IsHolder rs (length rs) (ring_at rs i).1.1 b → IsHome rs i b
 home_held rs i b flat h =
@@ -233,11 +212,7 @@ is_member rs h r = not (is_head (placed rs) r) && stands_with (placed rs) (ring_
 pub member_test : (rs : List Ring) (i b h : ℕ) → IsHome rs i b → h < length rs → is_member rs h (ring_at rs i) ≡ (nat_eq b h && not (nat_eq i h))
 member_test rs i b h (heads t e) low =
     (λ j. not (t j) && stands_with (placed rs) (ring_at rs h) (ring_at rs i))
-    ∙ sym ((λ j. nat_eq (e j) h && not (nat_eq i h)) ∙ none (nat_eq i h))
-  where
-    none : (x : Bool) → (x && not x) ≡ false
-    none true = refl
-    none false = refl
+    ∙ sym ((λ j. nat_eq (e j) h && not (nat_eq i h)) ∙ and-not_self (nat_eq i h))
 member_test rs i b h (stands f differ one) low =
     (λ j. not (f j) && one h low j)
     ∙ by (nat_eq b h) refl
@@ -283,7 +258,7 @@ held_lt x y h =
 pub sorted_views : (rs : List HeldRing) → IsSorted held_cmp rs → IsSortedBy (λ (r s : Ring). points_lt r.0 s.0) (rings_held rs)
 sorted_views [] h k d le low = absurd (omega arith)
 sorted_views (x ∷ rs) h k d le low =
-    let n : k + 1 < length (x ∷ rs) = omega (arith, length_map ring_held (x ∷ rs)) in
+    let n : k + 1 < length (x ∷ rs) = omega (arith, length-map (x ∷ rs) ring_held) in
     let a : k < length (x ∷ rs) = omega arith in
-    (λ i. points_lt (get_map ring_held (x ∷ rs) (k + 1) x d n i).0 (get_map ring_held (x ∷ rs) k x d a i).0)
+    (λ i. points_lt (get_or-map ring_held (x ∷ rs) (k + 1) x d n i).0 (get_or-map ring_held (x ∷ rs) k x d a i).0)
     ∙ held_lt (get_or (x ∷ rs) (k + 1) x) (get_or (x ∷ rs) k x) (h k x le n)

@@ -3,7 +3,7 @@ use Rattle.std.proofs.Common.{zero, suc, ◌≡◌, ◌⊎◌, inl, inr, ℕ, �
 use Rattle.std.specs.Prelude.{ℤ, pos, ◌+ℤ◌, ◌==◌, Option, Some, None}
 use Rattle.std.specs.Ordering.{int_eq}
 use Rattle.std.proofs.Math.Seq.{drop-cons}
-use Rattle.std.proofs.lemmas.Bool.{both_ways, true≢false}
+use Rattle.std.proofs.lemmas.Bool.{both_ways, true≢false, cases_lt}
 use Rattle.mesh_plane.specs.Plane.{Point}
 use Rattle.mesh_plane.specs.Winding.{crossing_on}
 use Rattle.mesh_plane.proofs.Whole.{linear}
@@ -19,23 +19,17 @@ use Rattle.mesh_shapes.proofs.HolderRows.{gives_none, gives_own, none_below}
 -- rings that are not round the point change nothing
 pub found_on : (rs : List Ring) (q : Point) (best : Option ℕ) (n m : ℕ) → n ≤ m → IsFound rs n q best
     → ((k : ℕ) → n ≤ k → k < m → is_round_at rs k q ≡ false) → IsFound rs m q best
-found_on rs q None n m le h none = λ (k : ℕ) (l : k < m). by k l (before k n)
+found_on rs q None n m le h none = λ (k : ℕ) (l : k < m). by k l (cases_lt k n)
   where
-    before : (k n : ℕ) → (k < n) ⊎ (n ≤ k)
-    before k n = grind arith
-
     by : (k : ℕ) → k < m → (k < n) ⊎ (n ≤ k) → is_round_at rs k q ≡ false
     by k l (inl a) = h k a
     by k l (inr a) = none k a l
 found_on rs q (Some b) n m le h none = record {
   within = omega (arith, h.within);
   round = h.round;
-  first = λ (k : ℕ) (l : k < m) (t : is_round_at rs k q ≡ true). by k l t (before k n);
+  first = λ (k : ℕ) (l : k < m) (t : is_round_at rs k q ≡ true). by k l t (cases_lt k n);
 }
   where
-    before : (k n : ℕ) → (k < n) ⊎ (n ≤ k)
-    before k n = grind arith
-
     by : (k : ℕ) → k < m → is_round_at rs k q ≡ true → (k < n) ⊎ (n ≤ k) → is_before (ring_at rs k) (ring_at rs b) ≡ false
     by k l t (inl a) = h.first k a t
     by k l t (inr a) = absurd (both_ways (is_round_at rs k q) (none k a l) t)
@@ -85,11 +79,8 @@ search_next rs q row rest e s best w end len low rise apart row_of is better kno
     }
   where
     later : (a b : ℕ) → a ≤ b → (b ≡ a → ⊥) → a < b
-    later a b h n = by (which a b)
+    later a b h n = by (cases_lt a b)
       where
-        which : (a b : ℕ) → (a < b) ⊎ (b ≤ a)
-        which a b = grind arith
-
         by : (a < b) ⊎ (b ≤ a) → a < b
         by (inl l) = l
         by (inr l) = absurd (n (omega arith))

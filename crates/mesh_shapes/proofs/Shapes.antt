@@ -6,13 +6,13 @@ use Rattle.std.proofs.Math.Seq.{drop-cons}
 use Rattle.std.proofs.lemmas.List.Elements.{All-nil, All-push}
 use Rattle.std.specs.declared.alloc.Global.{Global}
 use Rattle.std.proofs.lemmas.Bool.{both_ways, eqb-true, eq-eqb}
-use Rattle.std.proofs.lemmas.List.{append-nil, map-append, length-append}
+use Rattle.std.proofs.lemmas.List.{append-nil, map-append, length-append, length-map}
 use Rattle.mesh_plane.specs.Plane.{Point}
 use Rattle.mesh_shapes.specs.Midway.Progress.{NoneRound, IsHolder}
 use Rattle.mesh_shapes.specs.Resolution.{Ring, Placed, is_head, shape_of, rings_by_shape, answered}
 use Rattle.mesh_shapes.specs.Vectors.{HeldRing, ring_held, rings_held, points_of}
 use Rattle.mesh_shapes.specs.Midway.Grouping.{ring_at, placed, areas_of, IsHome, contours_at, AreMembers, IsPutHome}
-use Rattle.mesh_shapes.proofs.Groups.{length_map, view_at, positive_at, home_alone, home_held, is_member, member_test}
+use Rattle.mesh_shapes.proofs.Groups.{view_at, positive_at, home_alone, home_held, is_member, member_test}
 
 -- ---- one more element of a filtered list
 pub filter_step : {A B C : Type 0} (g : B → C) (f : A → B) (p : A → Bool) (x : A) (rest : List A) (done : List C) (t : Bool) → p x ≡ t →
@@ -45,7 +45,7 @@ home_none rs i r low h =
 pub home_some : (rs : List HeldRing) (areas : List ℤ) (i b : ℕ) (r : HeldRing) → areas ≡ areas_of (rings_held rs) → i < length rs → int_lt (pos 0) (get_or areas i (pos 0)) ≡ false →
     IsHolder (rings_held rs) (length (rings_held rs)) (get_or rs i r).1 b → IsHome (rings_held rs) i b
 home_some rs areas i b r known low flat h =
-    home_held (rings_held rs) i b (sym (positive_at (rings_held rs) areas i known (omega (arith, length_map ring_held rs, low))) ∙ flat)
+    home_held (rings_held rs) i b (sym (positive_at (rings_held rs) areas i known (omega (arith, length-map rs ring_held, low))) ∙ flat)
     (subst (λ (q : Point). IsHolder (rings_held rs) (length (rings_held rs)) q b) (λ j. (sym (view_at rs i r ([], (pos 0, pos 0)) low) j).1) h)
 
 -- what holds of each place and the number that is known of it

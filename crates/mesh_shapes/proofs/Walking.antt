@@ -6,7 +6,7 @@ use Rattle.std.proofs.lemmas.List.{get_or_default}
 use Rattle.std.specs.Ordering.{int_eq, int_cmp, ordering_then, is_lt}
 use Rattle.std.specs.List.Sorted.{IsSorted}
 use Rattle.std.proofs.lemmas.Int.{ints, by_lt_z}
-use Rattle.std.proofs.lemmas.Bool.{cases_Bool, both_ways, or_cases, and_parts, false≢true}
+use Rattle.std.proofs.lemmas.Bool.{cases_Bool, both_ways, or_cases, and_parts, false≢true, cases_lt}
 use Rattle.std.proofs.lemmas.Bool.Decides.{Decides-int_eq}
 use Rattle.std.proofs.lemmas.List.Elements.{All-nil, All-push}
 use Rattle.mesh_plane.specs.Plane.{Point, Edge}
@@ -267,12 +267,7 @@ none_after es used first at d₀ k ordered low after apart before j h =
     both_ways (same_point (get_or es k d₀).0 at) apart ((decides_point (get_or es k d₀).0 at).1 (neither_before (get_or es k d₀).0 at (after d₀) upto)))
   where
     by_order : (j < k → ⊥) → (k ≤ j → ⊥) → ⊥
-    by_order f g = ⊎_elim f g (split j k)
-      where
-        split : (a b : ℕ) → (a < b) ⊎ (b ≤ a)
-        split a zero = inr (omega arith)
-        split zero (suc b) = inl (omega arith)
-        split (suc a) (suc b) = ⊎_elim (λ (x : a < b). inl (omega arith)) (λ (x : b ≤ a). inr (omega arith)) (split a b)
+    by_order f g = ⊎_elim f g (cases_lt j k)
 
 -- one more edge looked at
 pub next_step : (es : List Edge) (used : List Bool) (first : ℕ) (at : Point) (best r : Option ℕ) (k : ℕ) → k < length es → ((d : Edge) → (get_or es k d).0 ≡ at) →

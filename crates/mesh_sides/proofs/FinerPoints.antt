@@ -135,6 +135,9 @@ fine_of k x h f rs hk apart lean same =
     }
 
 -- ---- the point moved a little up, or down, and to the east
+one_le : (z : ℤ) → pos 0 <ℤ z → pos 1 ≤ℤ z
+one_le z h = omega (arith, ints)
+
 -- no multiple of `k` is 1 away from another
 no_end : (k m y h u : ℤ) → pos 2 ≤ℤ k → (u ≡ pos 1) ⊎ (u ≡ negsuc 0) → (k *ℤ m) *ℤ y ≡ (k *ℤ h) +ℤ u → ⊥
 no_end k m y h u two one e =
@@ -157,9 +160,6 @@ no_end k m y h u two one e =
     let o' : k *ℤ pos 0 ≡ pos 0 = omega (arith, ints) in
     ⊎_elim (λ (g : u ≡ pos 1). absurd (omega (arith, linear))) (λ (g : u ≡ negsuc 0). absurd (omega (arith, linear))) one))
   where
-    one_le : (z : ℤ) → pos 0 <ℤ z → pos 1 ≤ℤ z
-    one_le z h = omega (arith, ints)
-
     le_minus_one : (z : ℤ) → z <ℤ pos 0 → z ≤ℤ negsuc 0
     le_minus_one z h = omega (arith, ints)
 
@@ -177,9 +177,6 @@ moves_of m u v b s hm hv hb up wide deep =
     let least : (pos 1 *ℤ v) ≤ℤ (((m *ℤ s.1.1) -ℤ (m *ℤ s.0.1)) *ℤ v) =
     mul_le_mul_right v (pos 1) ((m *ℤ s.1.1) -ℤ (m *ℤ s.0.1)) (omega (arith, linear)) (one_le ((m *ℤ s.1.1) -ℤ (m *ℤ s.0.1)) (omega (arith, linear))) in
     record { step = omega (arith, linear); low = omega (arith, linear, one_mul v); high = omega (arith, linear) }
-  where
-    one_le : (z : ℤ) → pos 0 <ℤ z → pos 1 ≤ℤ z
-    one_le z h = omega (arith, ints)
 
 level_at : (m : ℤ) (q : Point) (s : Edge) → s.0.1 ≡ s.1.1 → crossing q (scale m s.0) (scale m s.1) ≡ pos 0
 level_at m q s flat =

@@ -6,7 +6,7 @@ use Rattle.std.proofs.lemmas.Int.{ints, by_lt_z}
 use Rattle.std.proofs.lemmas.Bool.{or_parts, or_right}
 use Rattle.mesh_plane.specs.Plane.{Point, Edge, turn}
 use Rattle.mesh_plane.specs.Winding.{sum_of, crossing_of, crossing, IsBalanced}
-use Rattle.mesh_plane.proofs.Whole.{linear, mul_pos, mul_nonneg_nonpos}
+use Rattle.mesh_plane.proofs.Whole.{linear, mul_pos, mul_nonneg_nonpos, mul_zero, mul_one}
 use Rattle.mesh_plane.proofs.Ring.{ring, var, lit, ◌⊕◌, ◌⊖◌, ◌⊗◌}
 use Rattle.mesh_cuts.specs.Clean.{IsOn, IsClean, IsProper}
 use Rattle.mesh_cuts.specs.Split.{same_ends, occurs}
@@ -131,14 +131,8 @@ pub record Marked (m h : ℤ) (n d : Edge → ℤ) (f w : ℤ → ℤ) (rs : Lis
 times_past : (w x p : ℤ) → w *ℤ past x p (pos 1) ≡ past x p w
 times_past w x p =
     by_lt_z x p
-    (λ (h : x <ℤ p). ap (λ (z : ℤ). w *ℤ z) (past_yes x p (pos 1) h) ∙ (times_one w ∙ sym (past_yes x p w h)))
-    (λ (h : p ≤ℤ x). ap (λ (z : ℤ). w *ℤ z) (past_none x p (pos 1) h) ∙ (times_none w ∙ sym (past_none x p w h)))
-  where
-    times_one : (a : ℤ) → a *ℤ pos 1 ≡ a
-    times_one a = omega (arith, ints)
-
-    times_none : (a : ℤ) → a *ℤ pos 0 ≡ pos 0
-    times_none a = omega (arith, ints)
+    (λ (h : x <ℤ p). ap (λ (z : ℤ). w *ℤ z) (past_yes x p (pos 1) h) ∙ (mul_one w ∙ sym (past_yes x p w h)))
+    (λ (h : p ≤ℤ x). ap (λ (z : ℤ). w *ℤ z) (past_none x p (pos 1) h) ∙ (mul_zero w ∙ sym (past_none x p w h)))
 
 -- a segment that the line misses adds no mark, one that it goes through adds one
 pub marked_of : (m h : ℤ) (n d : Edge → ℤ) (f w : ℤ → ℤ) (rs : List Edge) → Each (Met m h) rs →
@@ -154,10 +148,7 @@ marked_of m h n d f w [] met gain spread = record {
 marked_of m h n d f w (s ∷ rs) met gain spread = by met.0 (marked_of m h n d f w rs met.1 gain.1 spread.1)
   where
     none : (c x : ℤ) → crossing (x, h) (scale m s.0) (scale m s.1) ≡ pos 0 → c *ℤ crossing (x, h) (scale m s.0) (scale m s.1) ≡ pos 0
-    none c x e = ap (λ (z : ℤ). c *ℤ z) e ∙ times_none c
-      where
-        times_none : (a : ℤ) → a *ℤ pos 0 ≡ pos 0
-        times_none a = omega (arith, ints)
+    none c x e = ap (λ (z : ℤ). c *ℤ z) e ∙ mul_zero c
 
     by : Met m h s → Marked m h n d f w rs → Marked m h n d f w (s ∷ rs)
     by (idle still) k = record {

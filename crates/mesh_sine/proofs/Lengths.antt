@@ -91,7 +91,7 @@ pub bits_end : (low : ℕ) (a : ℕ × ℕ) → with_bits low 0 a ≡ a
 unfolding with_bits
 bits_end low a = refl
 
-with_bits_is_pair : (low j : ℕ) (a : ℕ × ℕ) → IsPair a → IsPair (with_bits low j a)
+pub with_bits_is_pair : (low j : ℕ) (a : ℕ × ℕ) → IsPair a → IsPair (with_bits low j a)
 with_bits_is_pair low zero a h = subst IsPair (sym (bits_end low a)) h
 with_bits_is_pair low (suc j) a h =
     ⊎_elim

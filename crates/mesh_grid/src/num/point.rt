@@ -3,6 +3,7 @@
 ghost use Rattle.std.specs.Prelude.{◌≡◌, ℕ, ◌+◌, ◌*◌, ℤ, ◌-ℤ◌};
 ghost use Rattle.mesh_plane.specs.Plane.{plus, minus, cross, dot, length_sq};
 ghost use Rattle.mesh_plane.specs.Bounds.{IsSafe};
+ghost use Rattle.mesh_plane.specs.Winding.{same_point};
 
 use crate::num::exact::square_sum;
 use crate::num::number::{IntNumber, WideNumber, WideUnsigned};
@@ -58,6 +59,13 @@ impl<I: IntNumber> IntPoint<I> {
         let y = self.y.to_wide() + along.y;
         IntPoint::new(I::from_wide(x), I::from_wide(y))
     }
+}
+
+/// Whether two points are one.
+pub fn is_one_point<I: IntNumber>(p: IntPoint<I>, q: IntPoint<I>) -> bool
+    ensures { result ≡ same_point p q }
+{
+    p == q
 }
 
 /// The vector from the second point to the first.

@@ -4,11 +4,10 @@ ghost use Rattle.std.specs.Prelude.{◌≡◌, ◌≢◌, ℕ, ◌+◌, ◌≤�
 ghost use Rattle.mesh_num.specs.Segments.{edge_of, subject_of, segment_between, IsSubject, SignedEdge};
 ghost use Rattle.mesh_plane.specs.Order.{point_lt};
 ghost use Rattle.mesh_plane.specs.Plane.{Point};
-ghost use Rattle.mesh_plane.specs.Winding.{same_point};
 
 use mesh_grid::num::convert::is_less;
 use mesh_grid::num::number::IntNumber;
-use mesh_grid::num::point::IntPoint;
+use mesh_grid::num::point::{IntPoint, is_one_point};
 use std::alloc::AllocError;
 use std::marker::Model;
 
@@ -107,16 +106,6 @@ fn is_before<I: IntNumber>(p: IntPoint<I>, q: IntPoint<I>) -> bool
     is_less(p.y, q.y)
 }
 
-/// Whether two points are one.
-fn is_same<I: IntNumber>(p: IntPoint<I>, q: IntPoint<I>) -> bool
-    ensures { result ≡ same_point p q }
-{
-    if p.x != q.x {
-        return false;
-    }
-    p.y == q.y
-}
-
 /// Vectors of segments that edges are added to. Contracts see their list of segments, and the points as pairs.
 pub trait SubjectSegments<P> {
     ghost segments: { Self → List SignedEdge };
@@ -144,7 +133,7 @@ impl<I: IntNumber> SubjectSegments<IntPoint<I>> for Vec<Segment<I>> {
     ghost capacity = { λ v. vec_capacity v };
 
     fn push_non_degenerate(&mut self, a: IntPoint<I>, b: IntPoint<I>) -> Result<(), AllocError> {
-        if is_same(a, b) {
+        if is_one_point(a, b) {
             return Ok(());
         }
         self.push(Segment::subject(a, b))?;

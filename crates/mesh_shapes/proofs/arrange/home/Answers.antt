@@ -1,10 +1,10 @@
 use Rattle.std.proofs.Common.{rules, ◌≡◌, ℕ, false, length, ap, subst, arith, get_or}
 use Rattle.std.specs.Prelude.{pos, int_lt}
+use Rattle.std.proofs.lemmas.List.{length-map}
 use Rattle.mesh_shapes.specs.Contours.{double_area}
 use Rattle.mesh_shapes.specs.Midway.Holders.{Rise, edges_of}
 use Rattle.mesh_shapes.specs.Resolution.{Ring}
 use Rattle.mesh_shapes.specs.Vectors.{ring_held, rings_held}
-use Rattle.mesh_shapes.proofs.Groups.{length_map}
 use Rattle.mesh_shapes.proofs.HolderRows.{row_rises, row_tells}
 use Rattle.mesh_boundary.proofs.RowSums.{row_is}
 use Rattle.mesh_shapes.proofs.Shapes.{home_none, home_some}
@@ -21,7 +21,7 @@ holder-requires c =
     let flat : int_lt (pos 0) (get_or c.args.areas.now c.args.i (pos 0)) ≡ false = search rules in
     let rs = rings_held c.args.rings.now in
     let same = ap length c.requires.areas_known in
-    let len : length rs ≡ length c.args.areas.now = omega (arith, same, length_map (λ (r : Ring). double_area r.0) rs) in
+    let len : length rs ≡ length c.args.areas.now = omega (arith, same, length-map rs (λ (r : Ring). double_area r.0)) in
     let q = (get_or c.args.rings.now c.args.i c.index-rings-i.result).1 in
     subst (λ (n : ℕ). Rise 0 n c.row.result.now) len
     (row_rises rs c.args.rows.now.marks.items c.row.result.now q
@@ -52,4 +52,4 @@ returns-clause-within c =
     let q = (get_or c.args.rings.now c.args.i c.index-rings-i.result).1 in
     let row = row_is c.args.rows.now.marks.items c.args.rows.now.lists.items (edges_of rs) c.row.result.now q (c.requires.rows_known flat) c.row.ensures in
     let found = c.in-Some.ensures rs c.requires.areas_known (row_tells rs c.args.rows.now.marks.items c.row.result.now q row) in
-    omega (arith, found.within, length_map ring_held c.args.rings.now)
+    omega (arith, found.within, length-map c.args.rings.now ring_held)

@@ -1,6 +1,6 @@
 use Rattle.std.proofs.Common.{◌∙◌, arith}
+use Rattle.std.proofs.lemmas.List.{length-map}
 use Rattle.mesh_shapes.specs.Vectors.{ring_held, rings_held}
-use Rattle.mesh_shapes.proofs.Groups.{length_map}
 use Rattle.mesh_shapes.proofs.Shapes.{members_none, members_more, members_all}
 use Rattle.mesh_shapes.proofs.arrange.members.Goals as goal
 
@@ -10,7 +10,7 @@ loop-i-init c = record { len = c.in_ok-members.ensures.len; members = λ h d l. 
 pub loop-i-preserved : goal.loop-i-preserved
 loop-i-preserved c =
     let put = c.in_ok-push_home.ensures in
-    let same = length_map ring_held c.args.rings.now in
+    let same = length-map c.args.rings.now ring_held in
     record {
       len = put.len ∙ c.loop-i.invariant.len;
       members = λ h d l.
@@ -20,4 +20,4 @@ loop-i-preserved c =
 
 pub returns-clause-members : goal.returns-clause-members
 returns-clause-members c =
-    λ h d l. members_all (rings_held c.args.rings.now) c.loop-i.i h _ (omega (arith, length_map ring_held c.args.rings.now, c.loop-i-test.false)) (c.loop-i.invariant.members h d l)
+    λ h d l. members_all (rings_held c.args.rings.now) c.loop-i.i h _ (omega (arith, length-map c.args.rings.now ring_held, c.loop-i-test.false)) (c.loop-i.invariant.members h d l)

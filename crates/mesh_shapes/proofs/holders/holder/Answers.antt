@@ -1,11 +1,11 @@
 use Rattle.std.proofs.Common.{rules, ℕ, ◌+◌, ◌^◌, ◌<◌, ◌≤◌, lit≤, not, List, ◌∷◌, length, drop, get_or, sym, ◌∙◌, ap, subst, arith}
 use Rattle.std.specs.Prelude.{ℤ, pos, unsigned_abs}
 use Rattle.std.specs.Ordering.{int_eq}
+use Rattle.std.proofs.lemmas.List.{length-map}
 use Rattle.mesh_shapes.specs.Contours.{double_area}
 use Rattle.mesh_shapes.specs.Resolution.{Ring}
 use Rattle.mesh_shapes.specs.Midway.Holders.{PlacedEdge, Rise, IsSearch}
 use Rattle.mesh_shapes.proofs.AreaSums.{fits_long}
-use Rattle.mesh_shapes.proofs.Groups.{length_map}
 use Rattle.mesh_shapes.proofs.HolderSearch.{search_none, search_end, some_edges, rise_first, next_edge, past_edges}
 use Rattle.mesh_shapes.proofs.holders.holder.Goals as goal
 
@@ -17,7 +17,7 @@ loop-e-init c =
     record {
       search = λ rs known row_of.
           (let same = ap length known in
-          search_none rs c.args.q row (get_or row 0 (((pos 0, pos 0), (pos 0, pos 0)), 0)).1 end (omega (arith, same, length_map (λ (r : Ring). double_area r.0) rs)) first.1 first.0 row_of);
+          search_none rs c.args.q row (get_or row 0 (((pos 0, pos 0), (pos 0, pos 0)), 0)).1 end (omega (arith, same, length-map rs (λ (r : Ring). double_area r.0))) first.1 first.0 row_of);
       rise = first.1;
       in_range = first.0;
       known = λ x e. cc;
@@ -52,6 +52,6 @@ returns c =
     let own = fits_long s.winding (2 ^ 64) small (lit≤ tt) in
     λ rs known row_of.
     (let same = ap length known in
-    search_end rs c.args.q row s c.better_holder.result (omega (arith, same, length_map (λ (r : Ring). double_area r.0) rs, c.loop-e.invariant.in_range)) row_of
+    search_end rs c.args.q row s c.better_holder.result (omega (arith, same, length-map rs (λ (r : Ring). double_area r.0), c.loop-e.invariant.in_range)) row_of
     (λ round found. c.better_holder.ensures.found rs c.args.q known (round ∙ ap (λ (z : ℤ). not (int_eq z (pos 0))) (sym own.kept)) found)
     (subst (λ (l : List PlacedEdge). IsSearch rs c.args.q row l s) (past_edges row c.loop-e.e-index (omega (arith, c.loop-e-test.false))) (c.loop-e.invariant.search rs known row_of)))

@@ -1,13 +1,13 @@
 use Rattle.std.proofs.Common.{◌+◌, ◌^◌, not, length, sym, ◌∙◌, ap, lit≤, arith}
 use Rattle.std.specs.Prelude.{ℤ, pos, ◌+ℤ◌}
 use Rattle.std.specs.Ordering.{int_eq}
+use Rattle.std.proofs.lemmas.List.{length-map}
 use mir.Syntax.{w128}
 use mir.Val.{to_z, of_z}
 use Rattle.mesh_plane.specs.Winding.{crossing}
 use Rattle.mesh_shapes.specs.Contours.{double_area}
 use Rattle.mesh_shapes.specs.Resolution.{Ring}
 use Rattle.mesh_shapes.proofs.AreaSums.{one_size, fits_long, added_of}
-use Rattle.mesh_shapes.proofs.Groups.{length_map}
 use Rattle.mesh_shapes.proofs.HolderSearch.{search_same, search_next}
 use Rattle.mesh_shapes.proofs.holders.met.Goals as goal
 
@@ -31,7 +31,7 @@ returns-clause-search c =
     let value = c.crossing-c.ensures.value ∙ λ i. crossing c.args.q (c.doubled.ensures i) (c.doubled-2.ensures i) in
     λ rs row rest known row_of rise known_so_far.
     search_next rs c.args.q row rest c.args.e s c.better_holder.result (to_z w128 (of_z w128 b)) (length c.args.areas.now)
-    (let same = ap length known in omega (arith, same, length_map (λ (r : Ring). double_area r.0) rs))
+    (let same = ap length known in omega (arith, same, length-map rs (λ (r : Ring). double_area r.0)))
     c.requires.in_range rise c.if-e-search.false row_of (one.kept ∙ value)
     (λ round found. c.better_holder.ensures.found rs c.args.q known (round ∙ ap (λ (z : ℤ). not (int_eq z (pos 0))) (sym own.kept)) found)
     known_so_far

@@ -8,7 +8,7 @@ use Rattle.mesh_plane.specs.Rounding.{rounded}
 use Rattle.mesh_grid.specs.Direction.{IsShort}
 use Rattle.mesh_grid.specs.Rotation.{turned, turned_along}
 use Rattle.mesh_plane.proofs.Sizes.{within_size}
-use Rattle.mesh_grid.proofs.Products.{short_sizes}
+use Rattle.mesh_grid.proofs.Scaling.{short_bounded}
 use Rattle.mesh_grid.proofs.Rotations.{turned_bounded, turned_along_within}
 use Rattle.mesh_grid.proofs.num.unit_vector.UnitIntVector.rotate.Goals as goal
 
@@ -16,13 +16,13 @@ pub turned-x-requires-clause-sine : goal.turned-x-requires-clause-sine
 turned-x-requires-clause-sine g c =
     let n : Point = (g.I.IntNumber.value c.self.inside.x, g.I.IntNumber.value c.self.inside.y) in
     rw (to_z-of_z w128 c.widen.result (record { sfits = c.widen.type_inv }), c.widen.ensures.value)
-    (omega (arith, (short_sizes g.I.IntNumber.unit n c.self.invariant).1, g.met.I.IntNumber.most_law))
+    (omega (arith, (short_bounded g.I.IntNumber.unit n c.self.invariant).1, g.met.I.IntNumber.most_law))
 
 pub turned-x-requires-clause-cosine : goal.turned-x-requires-clause-cosine
 turned-x-requires-clause-cosine g c =
     let n : Point = (g.I.IntNumber.value c.self.inside.x, g.I.IntNumber.value c.self.inside.y) in
     rw (to_z-of_z w128 c.widen-2.result (record { sfits = c.widen-2.type_inv }), c.widen-2.ensures.value)
-    (omega (arith, (short_sizes g.I.IntNumber.unit n c.self.invariant).0, g.met.I.IntNumber.most_law))
+    (omega (arith, (short_bounded g.I.IntNumber.unit n c.self.invariant).0, g.met.I.IntNumber.most_law))
 
 pub turned-x-requires-clause-x : goal.turned-x-requires-clause-x
 turned-x-requires-clause-x g c =
