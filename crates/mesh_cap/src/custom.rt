@@ -3,11 +3,13 @@
 ghost use Rattle.std.specs.Prelude.{◌≡◌, ◌*◌, ◌≤◌, length, take, vec_capacity, IsOk, OnOk};
 ghost use Rattle.mesh_plane.specs.Plane.{length_sq};
 ghost use Rattle.mesh_plane.specs.Winding.{route};
+ghost use Rattle.mesh_grid.specs.Roots.{raised_root};
 ghost use Rattle.mesh_join.specs.Appending.{Appends, HasRoomForEdges};
 ghost use Rattle.mesh_cap.specs.Caps.{CapKind, IsCapped};
-ghost use Rattle.mesh_cap.specs.CustomCaps.{custom_padding, custom_points, raised_root};
+ghost use Rattle.mesh_cap.specs.CustomCaps.{custom_padding, custom_points};
 
 use crate::end::PathEnd;
+use mesh_grid::num::root::raised_root;
 use mesh_join::route::push_straight;
 use mesh_num::num::convert::widen;
 use mesh_num::num::{IntNumber, IntPoint};
@@ -36,13 +38,7 @@ fn raised_length<I: IntNumber>(point: IntPoint<I>) -> u128
 {
     let x = widen(point.x).unsigned_abs();
     let y = widen(point.y).unsigned_abs();
-    let square = x * x + y * y;
-    let root = square.isqrt();
-    if root * root == square {
-        root
-    } else {
-        root + 1
-    }
+    raised_root(x * x + y * y)
 }
 
 /// Adds the edges of a custom cap. After a refusal the vector still begins with what it held.

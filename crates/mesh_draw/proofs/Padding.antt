@@ -4,6 +4,7 @@ use Rattle.std.specs.Prelude.{ℤ, pos, ◌≤ℤ◌, unsigned_abs}
 use Rattle.std.proofs.lemmas.Int.{ints}
 use Rattle.mesh_plane.specs.Plane.{Point, plus, right_quarter, Edge, minus}
 use Rattle.mesh_grid.specs.Rectangle.{IsSafeWidened}
+use Rattle.mesh_grid.proofs.Moving.{safe_difference, stays_safe}
 use Rattle.std.specs.List.{All, Contains}
 use Rattle.std.proofs.lemmas.List.Elements.{All-weaker, All-contains}
 use Rattle.mesh_draw.specs.Padding.{ArePathsSafe, IsNear}
@@ -60,16 +61,9 @@ ends_safe unit padding vertices es safe near =
 
 -- the vector between two safe points is short enough for products
 pub between_safe : (unit n : ℕ) (a b : Point) → IsSafeWidened unit (pos n) a → IsSafeWidened unit (pos n) b → IsSafe (2 * unit) (minus b a)
-between_safe unit n a b s t = record {
-  x = record {
-    low = omega (arith, ints, s.0.x.low, s.0.x.high, s.1.x.low, s.1.x.high, t.0.x.low, t.0.x.high, t.1.x.low, t.1.x.high);
-    high = omega (arith, ints, s.0.x.low, s.0.x.high, s.1.x.low, s.1.x.high, t.0.x.low, t.0.x.high, t.1.x.low, t.1.x.high);
-  };
-  y = record {
-    low = omega (arith, ints, s.0.y.low, s.0.y.high, s.1.y.low, s.1.y.high, t.0.y.low, t.0.y.high, t.1.y.low, t.1.y.high);
-    high = omega (arith, ints, s.0.y.low, s.0.y.high, s.1.y.low, s.1.y.high, t.0.y.low, t.0.y.high, t.1.y.low, t.1.y.high);
-  };
-}
+between_safe unit n a b s t =
+    safe_difference unit b a (stays_safe unit (pos n) b (omega (arith, ints)) t)
+    (stays_safe unit (pos n) a (omega (arith, ints)) s)
 
 -- a point moved by no more than the padding is safe
 pub beside_safe : (unit n : ℕ) (a s : Point) → IsSafeWidened unit (pos n) a → unsigned_abs s.0 ≤ n → unsigned_abs s.1 ≤ n → IsSafe unit (plus a (right_quarter s))

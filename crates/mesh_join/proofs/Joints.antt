@@ -1,7 +1,6 @@
 -- Lemmas over points: what the steps of joins need to know of a corner.
-use Rattle.std.proofs.Common.{◌≡◌, ℕ, ◌*◌, ◌<◌, ◌≤◌, Bool, true, false, refl, ap, sym, arith}
-use Rattle.std.specs.Prelude.{ℤ, pos, negsuc, ◌*ℤ◌, ◌≤ℤ◌, ◌&&◌, int_le, unsigned_abs}
-use Rattle.std.proofs.lemmas.Bool.{false≢true}
+use Rattle.std.proofs.Common.{◌≡◌, ℕ, ◌*◌, ◌<◌, ◌≤◌, true, ap, sym, arith}
+use Rattle.std.specs.Prelude.{ℤ, pos, negsuc, ◌*ℤ◌, ◌≤ℤ◌, int_le, unsigned_abs}
 use Rattle.std.proofs.lemmas.Int.{ints}
 use Rattle.mesh_plane.specs.Bounds.{IsSafe}
 use Rattle.mesh_plane.specs.Plane.{Point, plus, minus, right_quarter}
@@ -35,11 +34,7 @@ left_ahead t = ap (int_le (pos 0)) (sym (one_mul t))
 pub right_ahead : (t : ℤ) → int_le t (pos 0) ≡ int_le (pos 0) (negsuc 0 *ℤ t)
 right_ahead t = grind (arith, ints)
 
--- what tests tell
-pub both_are : (a b : Bool) → (a && b) ≡ true → (a ≡ true) × (b ≡ true)
-both_are true b h = (refl, h)
-both_are false b h = absurd (false≢true h)
-
+-- what a test tells
 pub le_test : (a b : ℤ) → int_le a b ≡ true → a ≤ℤ b
 le_test a b h = grind (arith, ints)
 

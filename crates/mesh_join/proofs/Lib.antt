@@ -1,4 +1,5 @@
 pub mod Bevels
+pub mod Drawing
 pub mod JoinLaws
 pub mod Joints
 pub mod Joins

@@ -5,6 +5,7 @@ use Rattle.std.specs.List.{All, list_all}
 use Rattle.std.specs.Ordering.{int_eq}
 use Rattle.std.proofs.Math.Nat.{mul-le-mul_right}
 use Rattle.std.proofs.Math.Bool.{and-true}
+use Rattle.std.proofs.lemmas.Bool.{and_parts}
 use Rattle.std.proofs.lemmas.Int.{ints}
 use Rattle.std.proofs.lemmas.List.Elements.{All-nil, All-cons}
 use Rattle.mesh_plane.specs.Plane.{Point, Edge, turn}
@@ -16,9 +17,10 @@ use Rattle.mesh_grid.specs.Quotient.{rounded_product}
 use Rattle.mesh_sine.proofs.Lengths.{sine_at_most}
 use Rattle.mesh_sine.proofs.Small.{sine_not_small}
 use Rattle.mesh_join.proofs.Bevels.{nothing_between}
+use Rattle.mesh_join.proofs.Drawing.{route_length}
 use Rattle.mesh_grid.specs.Rectangle.{IsSafeWidened}
 use Rattle.mesh_num.specs.Segments.{segments_of}
-use Rattle.mesh_join.proofs.Joints.{within_safe, both_are, le_test}
+use Rattle.mesh_join.proofs.Joints.{within_safe, le_test}
 use Rattle.mesh_join.proofs.JoinLaws.{KeepsJoint, KeepsJoints}
 use Rattle.mesh_join.specs.Joins.{between, through}
 use Rattle.mesh_arc.specs.Arcs.{sense_of}
@@ -117,21 +119,17 @@ nothing_keeps unit padding j points h e = record {
 abbrev miters : ℕ → ℕ → JoinStyle
 miters angle min_turn = record { kind = Miter angle; min_turn = min_turn }
 
-route_length : (a : Point) (points : List Point) (b : Point) → length (route a points b) ≡ length points + 1
-route_length a [] b = omega arith
-route_length a (p ∷ points) b = omega (arith, route_length p points b)
-
 -- a test of a list's elements says something of each
 each : {X : Type 0} (test : X → Bool) (P : X → Type 0) → ((x : X) → test x ≡ true → P x) → (xs : List X) → list_all test xs ≡ true → All P xs
 each test P means [] h = All-nil P
-each test P means (x ∷ xs) h = All-cons P x xs (means x (both_are (test x) (list_all test xs) h).0) (each test P means xs (both_are (test x) (list_all test xs) h).1)
+each test P means (x ∷ xs) h = All-cons P x xs (means x (and_parts (test x) (list_all test xs) h).0) (each test P means xs (and_parts (test x) (list_all test xs) h).1)
 
 -- a point that passes the test is near
 means_near : (padding : ℤ) (v p : Point) → is_near padding v p ≡ true → IsWithinPadding padding v p
 means_near padding v p h =
-    let x = both_are (int_le (v.0 -ℤ padding) p.0 && int_le p.0 (v.0 +ℤ padding)) (int_le (v.1 -ℤ padding) p.1 && int_le p.1 (v.1 +ℤ padding)) h in
-    let w = both_are (int_le (v.0 -ℤ padding) p.0) (int_le p.0 (v.0 +ℤ padding)) x.0 in
-    let t = both_are (int_le (v.1 -ℤ padding) p.1) (int_le p.1 (v.1 +ℤ padding)) x.1 in
+    let x = and_parts (int_le (v.0 -ℤ padding) p.0 && int_le p.0 (v.0 +ℤ padding)) (int_le (v.1 -ℤ padding) p.1 && int_le p.1 (v.1 +ℤ padding)) h in
+    let w = and_parts (int_le (v.0 -ℤ padding) p.0) (int_le p.0 (v.0 +ℤ padding)) x.0 in
+    let t = and_parts (int_le (v.1 -ℤ padding) p.1) (int_le p.1 (v.1 +ℤ padding)) x.1 in
     record { west = le_test _ _ w.0; south = le_test _ _ t.0; east = le_test _ _ w.1; north = le_test _ _ t.1 }
 
 tested_keep : (unit : ℕ) (padding : ℤ) (j : Joint) (points : List Point) → IsTurn unit j → length points ≤ 2 → are_usable padding j points ≡ true → Keeps padding j points
@@ -142,7 +140,7 @@ tested_keep unit padding j points h few u = by (same_point j.first j.last) refl
     by true e = nothing_keeps unit padding j points h (ap (λ (t : Bool). cond t [] points) e)
     by false e =
         let n : between j.first points j.last ≡ points = ap (λ (t : Bool). cond t [] points) e in
-        let both = both_are (list_all (is_near padding j.center) points) (list_all (runs_ahead j) (route j.first points j.last)) u in
+        let both = and_parts (list_all (is_near padding j.center) points) (list_all (runs_ahead j) (route j.first points j.last)) u in
         record {
           ahead = rw n (each (runs_ahead j) (λ (e : Edge). pos 0 ≤ℤ (sense_of j.sense *ℤ turn j.center e.0 e.1)) (λ e t. le_test _ _ t) (route j.first points j.last) both.1);
           near = rw n (each (is_near padding j.center) (IsWithinPadding padding j.center) (means_near padding j.center) points both.0);

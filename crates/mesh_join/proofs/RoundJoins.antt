@@ -1,15 +1,11 @@
 -- Lemmas over points: what the theory of outlines needs of round joins.
-use Rattle.std.proofs.Common.{◌≡◌, ◌≢◌, ℕ, ◌*◌, ◌<◌, ◌≤◌, ◌^◌, Bool, true, false, refl, ap, sym, ◌∙◌, subst, arith, List, [], ◌∷◌, ◌++◌, map, take, drop, length, append_assoc, append-nil}
+use Rattle.std.proofs.Common.{◌≡◌, ◌≢◌, ℕ, ◌*◌, ◌<◌, ◌≤◌, ◌^◌, Bool, true, false, refl, ap, sym, ◌∙◌, subst, arith, List, [], ◌∷◌, map}
 use Rattle.std.specs.Prelude.{ℤ, pos, neg_ℤ, ◌+ℤ◌, ◌-ℤ◌, ◌*ℤ◌, ◌≤ℤ◌, cond, ◌&&◌, unsigned_abs}
 use Rattle.std.specs.List.{All}
-use Rattle.std.proofs.lemmas.Bool.{true≢false}
-use Rattle.std.proofs.lemmas.Bool.{cases_lt}
+use Rattle.std.proofs.lemmas.Bool.{true≢false, and_parts, cases_lt}
 use Rattle.std.proofs.lemmas.Int.{ints, unsigned_abs-mul}
 use Rattle.std.proofs.lemmas.List.Elements.{All-nil, All-cons, All-head, All-tail}
 use mathlib.Core.Logic.{⊎_elim}
-use Rattle.std.proofs.Math.Seq.{take-append_seam}
-use Rattle.std.proofs.lemmas.List.{take-append-drop}
-use Rattle.mesh_num.proofs.SegmentLists.{segments_of-append}
 use Rattle.mesh_plane.proofs.Comparing.{decides_point}
 use Rattle.mesh_plane.proofs.Rounding.{rounded_within}
 use Rattle.mesh_plane.proofs.Sizes.{size_neg, size_zero}
@@ -27,13 +23,12 @@ use Rattle.mesh_arc.specs.declared.arc.ArcDirection.{ArcDirection}
 use Rattle.mesh_arc.specs.declared.arc.ArcDirection.TheVariants.{Clockwise, Counterclockwise}
 use Rattle.mesh_arc.proofs.Short.{arc_short}
 use Rattle.mesh_join.proofs.JoinLaws.{KeepsJoint, KeepsJoints}
-use Rattle.mesh_join.proofs.Joints.{both_are, le_test}
+use Rattle.mesh_join.proofs.Joints.{le_test}
 use Rattle.mesh_join.specs.Joins.{between}
 use Rattle.mesh_join.specs.Joints.{Joint, IsTurn, IsWithinPadding, contact, runs_ahead}
 use Rattle.mesh_join.specs.RoundJoins.{joint_arc, arc_point, used, round_points, round_padding}
-use Rattle.mesh_num.specs.Segments.{SignedEdge, segments_of}
 use Rattle.mesh_join.proofs.Joints.{contact_within, near_difference}
-use Rattle.mesh_join.specs.Midway.RoundJoins.{IsApart, IsDrawn}
+use Rattle.mesh_join.specs.Midway.RoundJoins.{IsApart, used_past}
 use Rattle.mesh_join.specs.Styles.{JoinStyle}
 use Rattle.mesh_join.specs.declared.style.IntLineJoin.TheVariants.{Round}
 
@@ -43,11 +38,11 @@ used_none : (j : Joint) (p : Point) → used j p [] ≡ []
 unfolding used
 used_none j p = refl
 
-pub used_takes : (j : Joint) (p q : Point) (points : List Point) → (runs_ahead j (p, q) && runs_ahead j (q, j.last)) ≡ true → used j p (q ∷ points) ≡ q ∷ used j q points
+used_takes : (j : Joint) (p q : Point) (points : List Point) → (runs_ahead j (p, q) && runs_ahead j (q, j.last)) ≡ true → used j p (q ∷ points) ≡ q ∷ used j q points
 unfolding used
 used_takes j p q points h = rw h refl
 
-pub used_skips : (j : Joint) (p q : Point) (points : List Point) → (runs_ahead j (p, q) && runs_ahead j (q, j.last)) ≡ false → used j p (q ∷ points) ≡ used j p points
+used_skips : (j : Joint) (p q : Point) (points : List Point) → (runs_ahead j (p, q) && runs_ahead j (q, j.last)) ≡ false → used j p (q ∷ points) ≡ used j p points
 unfolding used
 used_skips j p q points h = rw h refl
 
@@ -62,7 +57,7 @@ used_ahead j p (q ∷ points) h = by (runs_ahead j (p, q) && runs_ahead j (q, j.
     by : (b : Bool) → (runs_ahead j (p, q) && runs_ahead j (q, j.last)) ≡ b → All (IsAhead j) (route p (used j p points) j.last)
         → (IsAhead j (q, j.last) → All (IsAhead j) (route q (used j q points) j.last)) → All (IsAhead j) (route p (used j p (q ∷ points)) j.last)
     by true e skipped taken =
-        let both = both_are (runs_ahead j (p, q)) (runs_ahead j (q, j.last)) e in
+        let both = and_parts (runs_ahead j (p, q)) (runs_ahead j (q, j.last)) e in
         rw (used_takes j p q points e)
         (All-cons (IsAhead j) (p, q) (route q (used j q points) j.last) (le_test _ _ both.0) (taken (le_test _ _ both.1)))
     by false e skipped taken = rw (used_skips j p q points e) skipped
@@ -240,68 +235,24 @@ last_apart unit j least h short safe apart = record {
   differ = differ_by_length j.last j.center (points_apart unit j least h apart).1;
 }
 
--- ---- the edges, as they are drawn one by one
+-- ---- what one direction more gives
 
-pub drawing_starts : (unit : ℕ) (j : Joint) (old : List SignedEdge) (room : ℕ) → IsDrawn unit j old room [] j.first old room
-drawing_starts unit j old room = record { goes_on = λ rest. refl; added = []; now_is = sym (append-nil old); grown = omega arith }
+pub past_none : (unit : ℕ) (j : Joint) (last : Point) → used_past unit j last [] ≡ []
+past_none unit j last = used_none j last
 
--- what is drawn through one point more
-through_one : (now : List SignedEdge) (last p : Point) (es : List Edge) → (now ++ segments_of (route last [] p)) ++ segments_of es ≡ now ++ segments_of ((last, p) ∷ es)
-through_one now last p es =
-    append_assoc now (segments_of (route last [] p)) (segments_of es)
-    ∙ ap (λ (ss : List SignedEdge). now ++ ss) (sym (segments_of-append (route last [] p) es))
+pub past_takes : (unit : ℕ) (j : Joint) (last d p : Point) → p ≡ arc_point unit j d
+    → (runs_ahead j (last, p) && runs_ahead j (p, j.last)) ≡ true → (rest : List Point)
+    → used_past unit j last (d ∷ rest) ≡ p ∷ used_past unit j p rest
+past_takes unit j last d p e t rest =
+    ap (λ (q : Point). used j last (q ∷ map (arc_point unit j) rest)) (sym e)
+    ∙ used_takes j last p (map (arc_point unit j) rest) t
 
-one_more : (unit : ℕ) (j : Joint) (drawn : List Point) (d : Point) (rest : List Point) →
-    route j.first (used j j.first (map (arc_point unit j) (drawn ++ (d ∷ rest)))) j.last ≡ route j.first (used j j.first (map (arc_point unit j) ((drawn ++ (d ∷ [])) ++ rest))) j.last
-one_more unit j drawn d rest =
-    ap (λ (ds : List Point). route j.first (used j j.first (map (arc_point unit j) ds)) j.last) (sym (append_assoc drawn (d ∷ []) rest))
-
-pub drawing_takes : (unit : ℕ) (j : Joint) (old : List SignedEdge) (room : ℕ) (drawn : List Point) (last : Point) (now : List SignedEdge) (capacity : ℕ) (d p : Point) (more : List SignedEdge) (grown : ℕ)
-    → IsDrawn unit j old room drawn last now capacity → p ≡ arc_point unit j d → (runs_ahead j (last, p) && runs_ahead j (p, j.last)) ≡ true
-    → more ≡ now ++ segments_of (route last [] p) → capacity ≤ grown → IsDrawn unit j old room (drawn ++ (d ∷ [])) p more grown
-drawing_takes unit j old room drawn last now capacity d p more grown h e t m g = record {
-  goes_on = λ rest.
-      ap (λ (ss : List SignedEdge). ss ++ segments_of (route p (used j p (map (arc_point unit j) rest)) j.last)) m
-      ∙ through_one now last p (route p (used j p (map (arc_point unit j) rest)) j.last)
-      ∙ ap (λ (ps : List Point). now ++ segments_of (route last ps j.last))
-      (sym (used_takes j last p (map (arc_point unit j) rest) t) ∙ ap (λ (q : Point). used j last (q ∷ map (arc_point unit j) rest)) e)
-      ∙ h.goes_on (d ∷ rest)
-      ∙ ap (λ (es : List Edge). old ++ segments_of es) (one_more unit j drawn d rest);
-  added = h.added ++ segments_of (route last [] p);
-  now_is = m ∙ ap (λ (ss : List SignedEdge). ss ++ segments_of (route last [] p)) h.now_is ∙ append_assoc old h.added (segments_of (route last [] p));
-  grown = omega (arith, h.grown, g);
-}
-
-pub drawing_skips : (unit : ℕ) (j : Joint) (old : List SignedEdge) (room : ℕ) (drawn : List Point) (last : Point) (now : List SignedEdge) (capacity : ℕ) (d p : Point)
-    → IsDrawn unit j old room drawn last now capacity → p ≡ arc_point unit j d → (runs_ahead j (last, p) && runs_ahead j (p, j.last)) ≡ false
-    → IsDrawn unit j old room (drawn ++ (d ∷ [])) last now capacity
-drawing_skips unit j old room drawn last now capacity d p h e t = record {
-  goes_on = λ rest.
-      ap (λ (ps : List Point). now ++ segments_of (route last ps j.last))
-      (sym (used_skips j last p (map (arc_point unit j) rest) t) ∙ ap (λ (q : Point). used j last (q ∷ map (arc_point unit j) rest)) e)
-      ∙ h.goes_on (d ∷ rest)
-      ∙ ap (λ (es : List Edge). old ++ segments_of es) (one_more unit j drawn d rest);
-  added = h.added;
-  now_is = h.now_is;
-  grown = h.grown;
-}
-
--- the last edge
-pub drawing_ends : (unit : ℕ) (j : Joint) (old : List SignedEdge) (room : ℕ) (drawn : List Point) (last : Point) (now : List SignedEdge) (capacity : ℕ)
-    → IsDrawn unit j old room drawn last now capacity
-    → now ++ segments_of (route last [] j.last) ≡ old ++ segments_of (route j.first (used j j.first (map (arc_point unit j) drawn)) j.last)
-drawing_ends unit j old room drawn last now capacity h =
-    ap (λ (ps : List Point). now ++ segments_of (route last ps j.last)) (sym (used_none j last))
-    ∙ h.goes_on []
-    ∙ ap (λ (ds : List Point). old ++ segments_of (route j.first (used j j.first (map (arc_point unit j) ds)) j.last)) (append-nil drawn)
-
--- what the vector held first stays, where what it holds now does
-pub still_kept : (unit : ℕ) (j : Joint) (old : List SignedEdge) (room : ℕ) (drawn : List Point) (last : Point) (now : List SignedEdge) (capacity : ℕ) (then : List SignedEdge)
-    → IsDrawn unit j old room drawn last now capacity → take (length now) then ≡ now → take (length old) then ≡ old
-still_kept unit j old room drawn last now capacity then h k =
-    let e : then ≡ old ++ (h.added ++ drop (length now) then) =
-    sym (take-append-drop (length now) then) ∙ ap (λ (ss : List SignedEdge). ss ++ drop (length now) then) (k ∙ h.now_is) ∙ append_assoc old h.added (drop (length now) then) in
-    ap (take (length old)) e ∙ take-append_seam old (h.added ++ drop (length now) then)
+pub past_skips : (unit : ℕ) (j : Joint) (last d p : Point) → p ≡ arc_point unit j d
+    → (runs_ahead j (last, p) && runs_ahead j (p, j.last)) ≡ false → (rest : List Point)
+    → used_past unit j last (d ∷ rest) ≡ used_past unit j last rest
+past_skips unit j last d p e t rest =
+    ap (λ (q : Point). used j last (q ∷ map (arc_point unit j) rest)) (sym e)
+    ∙ used_skips j last p (map (arc_point unit j) rest) t
 
 -- the points by the arc that the code builds
 pub points_are : (options now : ArcOptions) (unit : ℕ) (j : Joint) (from end : Point) → now ≡ clamped options

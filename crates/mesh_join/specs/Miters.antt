@@ -75,7 +75,7 @@ peak j = (
   j.first.1 +ℤ rounded_product j.incoming.1 (peak_share j) (cross j.incoming j.outgoing),
 )
 
--- the points of a miter before they are held against the corner
+-- the points of a miter before they are tested at the corner
 abbrev pub miter_tip : ℕ → ℕ → Joint → List Point
 miter_tip angle unit j = if is_sharp angle j then clip_points angle unit j else peak j ∷ []
 

@@ -6,7 +6,7 @@ ghost use Rattle.mesh_plane.specs.Plane.{plus, minus, cross as cross_of, dot as 
 ghost use Rattle.mesh_plane.specs.Winding.{same_point};
 ghost use Rattle.mesh_grid.specs.Rectangle.{IsSafeWidened};
 ghost use Rattle.mesh_join.specs.Joints.{runs_ahead};
-ghost use Rattle.mesh_join.specs.Midway.Miters.{IsNarrow};
+ghost use Rattle.mesh_join.specs.Midway.Miters.{IsNarrow, IsPointPair, IsSummand, IsVectorPair};
 ghost use Rattle.mesh_join.specs.Miters.{is_near as is_near_to, are_usable};
 
 use mesh_arc::arc::ArcDirection;
@@ -123,9 +123,9 @@ impl<I: IntNumber> Joint<I> {
 
 // Above 0 where `to` lies to the left of the line from `center` to `from`.
 fn turn(center: Pair, from: Pair, to: Pair) -> i128
-    requires center { IsNarrow (2 ^ 31) center }
-    requires from { IsNarrow (2 ^ 31) from }
-    requires to { IsNarrow (2 ^ 31) to }
+    requires center { IsPointPair center }
+    requires from { IsPointPair from }
+    requires to { IsPointPair to }
     ensures { result ≡ turn_of center from to }
 {
     cross(difference(from, center), difference(to, center))
@@ -134,15 +134,15 @@ fn turn(center: Pair, from: Pair, to: Pair) -> i128
 /// A point in 128 bits.
 pub(crate) fn coordinates<I: IntNumber>(point: IntPoint<I>) -> Pair
     ensures value { result ≡ point }
-    ensures narrow { IsNarrow (2 ^ 31) result }
+    ensures narrow { IsPointPair result }
 {
     (widen(point.x), widen(point.y))
 }
 
 /// Whether two points are one.
 pub(crate) fn is_one_point(p: Pair, q: Pair) -> bool
-    requires p { IsNarrow (2 ^ 31) p }
-    requires q { IsNarrow (2 ^ 31) q }
+    requires p { IsPointPair p }
+    requires q { IsPointPair q }
     ensures { result ≡ same_point p q }
 {
     p.0 == q.0 && p.1 == q.1
@@ -168,8 +168,8 @@ fn is_between(coordinate: i128, center: i128, padding: i128) -> bool
 
 /// A point moved by a vector.
 pub(crate) fn sum(point: Pair, vector: Pair) -> Pair
-    requires point { IsNarrow (2 ^ 100) point }
-    requires vector { IsNarrow (2 ^ 100) vector }
+    requires point { IsSummand point }
+    requires vector { IsSummand vector }
     ensures { result ≡ plus point vector }
 {
     (point.0 + vector.0, point.1 + vector.1)
@@ -177,8 +177,8 @@ pub(crate) fn sum(point: Pair, vector: Pair) -> Pair
 
 /// A point moved back by a vector, or the vector from the second point to the first.
 pub(crate) fn difference(point: Pair, vector: Pair) -> Pair
-    requires point { IsNarrow (2 ^ 100) point }
-    requires vector { IsNarrow (2 ^ 100) vector }
+    requires point { IsSummand point }
+    requires vector { IsSummand vector }
     ensures { result ≡ minus point vector }
 {
     (point.0 - vector.0, point.1 - vector.1)
@@ -186,8 +186,8 @@ pub(crate) fn difference(point: Pair, vector: Pair) -> Pair
 
 /// The cross product of two vectors.
 pub(crate) fn cross(v: Pair, w: Pair) -> i128
-    requires v { IsNarrow (2 ^ 32) v }
-    requires w { IsNarrow (2 ^ 32) w }
+    requires v { IsVectorPair v }
+    requires w { IsVectorPair w }
     ensures { result ≡ cross_of v w }
 {
     v.0 * w.1 - v.1 * w.0
@@ -195,8 +195,8 @@ pub(crate) fn cross(v: Pair, w: Pair) -> i128
 
 /// The dot product of two vectors.
 pub(crate) fn dot(v: Pair, w: Pair) -> i128
-    requires v { IsNarrow (2 ^ 32) v }
-    requires w { IsNarrow (2 ^ 32) w }
+    requires v { IsVectorPair v }
+    requires w { IsVectorPair w }
     ensures { result ≡ dot_of v w }
 {
     v.0 * w.0 + v.1 * w.1

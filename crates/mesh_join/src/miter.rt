@@ -3,14 +3,14 @@
 ghost use Rattle.std.specs.Prelude.{◌≡◌, ◌≢◌, [], ◌∷◌, ◌^◌, ◌≤◌, length, take, vec_capacity, IsOk, OnOk, OnErr};
 ghost use Rattle.std.specs.Prelude.{pos, ◌*ℤ◌, unsigned_abs, int_lt};
 ghost use Rattle.mesh_plane.specs.Bounds.{IsWithin};
-ghost use Rattle.mesh_plane.specs.Plane.{minus, length_sq, cross as cross_of, dot as dot_of};
+ghost use Rattle.mesh_plane.specs.Plane.{minus, cross as cross_of, dot as dot_of};
 ghost use Rattle.mesh_grid.specs.Direction.{scaled_direction};
 ghost use Rattle.mesh_grid.specs.Quotient.{rounded_product as product_over};
 ghost use Rattle.mesh_grid.specs.Rectangle.{IsSafeWidened};
 ghost use Rattle.mesh_join.specs.Appending.{Appends, HasRoomForEdges};
 ghost use Rattle.mesh_join.specs.Joins.{IsJoint};
 ghost use Rattle.mesh_join.specs.Methods.{style_of_miter};
-ghost use Rattle.mesh_join.specs.Midway.Miters.{IsHalfSine, IsNarrow};
+ghost use Rattle.mesh_join.specs.Midway.Miters.{IsHalfSine, IsNarrow, IsPointPair, IsSinePair, IsSummand};
 ghost use Rattle.mesh_join.specs.Miters.{sharpest as sharpest_of, slightest as slightest_of, half_sharpest as half_of};
 ghost use Rattle.mesh_join.specs.Miters.{reach as reach_of, miter_padding, is_slight as is_slight_at};
 ghost use Rattle.mesh_join.specs.Miters.{is_sharp as is_sharp_at, clip_points as clip_points_of, peak as peak_of};
@@ -33,7 +33,7 @@ const GREATEST_SHARPEST: u32 = (1 << 31) - 1;
 // The greatest turn below which a miter is a bevel, in bits: half a turn.
 const GREATEST_SLIGHTEST: u32 = 1 << 31;
 
-/// A miter, with the sines and cosines that its corners are held against. Contracts see the angles that were asked for.
+/// A miter, with the sines and cosines that corners are compared with. Contracts see the angles that were asked for.
 #[derive(Debug, Drop)]
 pub(crate) struct Miter {
     angle: Angle,
@@ -72,7 +72,7 @@ fn slightest(min_turn: Angle) -> Angle
 // Sine and cosine of half the sharpest angle.
 fn half_sharpest(angle: Angle) -> (i32, i32)
     ensures value { result ≡ half_of angle }
-    ensures bounded { length_sq result ≤ 2 ^ 60 }
+    ensures bounded { IsSinePair result }
 {
     Angle::from_bits(sharpest(angle).bits() / 2).sin_cos()
 }
@@ -261,8 +261,8 @@ fn peak<I: IntNumber>(joint: &Joint<I>) -> Pair
 
 // How much of the incoming direction leads from the first point to the peak.
 fn peak_share(first: Pair, last: Pair, outgoing: Pair) -> i128
-    requires first { IsNarrow (2 ^ 31) first }
-    requires last { IsNarrow (2 ^ 31) last }
+    requires first { IsPointPair first }
+    requires last { IsPointPair last }
     requires outgoing { IsNarrow (2 ^ 30) outgoing }
     ensures value { result ≡ cross_of (minus last first) outgoing }
     ensures size { unsigned_abs result ≤ 2 ^ 63 }
@@ -283,7 +283,7 @@ fn clip_reach<I: IntNumber>(radius: I, sine: i32, cosine: i32) -> i128
 fn scaled<I: IntNumber>(direction: UnitIntVector<I>, reach: i128) -> Pair
     requires { unsigned_abs reach ≤ 2 ^ 62 }
     ensures value { result ≡ scaled_direction I.unit reach direction }
-    ensures narrow { IsNarrow (2 ^ 100) result }
+    ensures narrow { IsSummand result }
 {
     let (x, y) = coordinates_of(direction);
     let unit = widen(I::UNIT);

@@ -52,15 +52,15 @@ module _ (unit : ℕ) (options : ArcOptions) (c x y : Point) (aligned : Sweep) w
   abbrev circle : List Edge
   circle = circle_edges unit options c (pos (distance c x)) ++ route x [] y
 
-  abbrev along : List Edge
-  along = polyline_edges unit options c x y (pos (distance c x))
+  abbrev polyline : List Edge
+  polyline = polyline_edges unit options c x y (pos (distance c x))
 
   -- the edges of an arc that has some, and of one that has more than one
   abbrev some_edges : List Edge
-  some_edges = if is_central c x y then route x [] y else if whole then circle else along
+  some_edges = if is_central c x y then route x [] y else if whole then circle else polyline
 
   abbrev more_edges : List Edge
-  more_edges = if whole then circle else along
+  more_edges = if whole then circle else polyline
 
   pub arc_empty : empty ≡ true → arc_edges unit options c x y aligned ≡ []
   unfolding arc_edges
@@ -78,8 +78,8 @@ module _ (unit : ℕ) (options : ArcOptions) (c x y : Point) (aligned : Sweep) w
 
   pub arc_whole : empty ≡ false → is_central c x y ≡ false → whole ≡ true
       → arc_edges unit options c x y aligned ≡ circle
-  arc_whole h k l = arc_more h k ∙ ap (λ (b : Bool). if b then circle else along) l
+  arc_whole h k l = arc_more h k ∙ ap (λ (b : Bool). if b then circle else polyline) l
 
-  pub arc_along : empty ≡ false → is_central c x y ≡ false → whole ≡ false
-      → arc_edges unit options c x y aligned ≡ along
-  arc_along h k l = arc_more h k ∙ ap (λ (b : Bool). if b then circle else along) l
+  pub arc_polyline : empty ≡ false → is_central c x y ≡ false → whole ≡ false
+      → arc_edges unit options c x y aligned ≡ polyline
+  arc_polyline h k l = arc_more h k ∙ ap (λ (b : Bool). if b then circle else polyline) l

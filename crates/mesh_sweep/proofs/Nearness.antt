@@ -131,7 +131,7 @@ unfolding arc_edges
 arc_within unit options c x y aligned reach some h =
     cond_both (is_empty sweep x y) [] (if is_central c x y then edge else rest) Stays (λ _. All-nil Near)
     (λ _. cond_both (is_central c x y) edge rest Stays (λ _. alone)
-    (λ apart. cond_both (is_whole unit sweep c x y) (circle ++ edge) along Stays
+    (λ apart. cond_both (is_whole unit sweep c x y) (circle ++ edge) polyline Stays
     (λ _. All-append Near circle edge (circle_within unit options c radius reach some h.distance) alone)
     (λ _. polyline_within unit options c x y radius reach some (ends_apart c x y apart).0 h.distance h.from h.to)))
   where
@@ -156,8 +156,8 @@ arc_within unit options c x y aligned reach some h =
     circle : List Edge
     circle = circle_edges unit options c radius
 
-    along : List Edge
-    along = polyline_edges unit options c x y radius
+    polyline : List Edge
+    polyline = polyline_edges unit options c x y radius
 
     rest : List Edge
-    rest = if is_whole unit sweep c x y then circle ++ edge else along
+    rest = if is_whole unit sweep c x y then circle ++ edge else polyline

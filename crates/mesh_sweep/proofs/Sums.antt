@@ -1,6 +1,7 @@
 -- Lemmas over points and lists: what is drawn along circles and arcs is the boundaries of their pieces.
 use Rattle.std.proofs.Common.{◌≡◌, ℕ, List, [], ◌∷◌, ◌++◌, refl, ap, arith}
 use Rattle.std.specs.Prelude.{ℤ, pos, ◌+ℤ◌, Bool, true, false, not, int_le, if◌then◌else◌}
+use Rattle.std.proofs.lemmas.Bool.{and_parts}
 use Rattle.mesh_plane.specs.Plane.{Point, Edge}
 use Rattle.mesh_plane.specs.Winding.{total, route, fan, pieces_total, same_point, IsOdd}
 use Rattle.mesh_plane.proofs.Whole.{linear}
@@ -8,7 +9,6 @@ use Rattle.mesh_plane.proofs.Sums.{total_append, pieces_total_append}
 use Rattle.mesh_plane.proofs.Pieces.{fan_total}
 use Rattle.mesh_plane.proofs.Comparing.{decides_point}
 use Rattle.mesh_arc.specs.declared.arc.ArcOptions.{ArcOptions}
-use Rattle.mesh_join.proofs.Joints.{both_are}
 use Rattle.mesh_sweep.specs.declared.sweep.Sweep.{Sweep}
 use Rattle.mesh_sweep.specs.Sweeps.{distance, polyline_points, polyline_edges, half_circles, circle_edges}
 use Rattle.mesh_sweep.specs.Sweeps.{circle_pieces, east_of, west_of, sweep_of, is_major, is_empty, is_central}
@@ -69,19 +69,19 @@ module _ (f : Point → Point → ℤ) (odd : IsOdd f) (unit : ℕ) (options : A
       radius : ℤ
       radius = pos (distance c x)
 
-      along : List Edge
-      along = polyline_edges unit options c x y radius
+      polyline : List Edge
+      polyline = polyline_edges unit options c x y radius
 
       same : is_empty sweep x y ≡ true → f x y ≡ pos 0
       same h =
-          let e : x ≡ y = (decides_point x y).0 (both_are (not (is_major sweep)) (same_point x y) h).1 in
+          let e : x ≡ y = (decides_point x y).0 (and_parts (not (is_major sweep)) (same_point x y) h).1 in
           omega (arith, linear, odd y y, ap (λ (p : Point). f p y) e)
 
       by : (empty central whole : Bool) → is_empty sweep x y ≡ empty →
           total f (if empty then [] else if central then route x [] y
-          else if whole then circle_edges unit options c radius ++ route x [] y else along)
+          else if whole then circle_edges unit options c radius ++ route x [] y else polyline)
           ≡ f x y +ℤ pieces_total f (if empty then [] else if central then []
-          else if whole then circle_pieces unit options c radius else (c ∷ y ∷ x ∷ []) ∷ fan c along)
+          else if whole then circle_pieces unit options c radius else (c ∷ y ∷ x ∷ []) ∷ fan c polyline)
       by true central whole h = omega (arith, linear, same h)
       by false true whole h = omega (arith, linear)
       by false false true h =

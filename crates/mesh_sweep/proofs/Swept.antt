@@ -1,18 +1,17 @@
 -- Lemmas over points: what circles and arcs know of the points round a vertex.
 use Rattle.std.proofs.Common.{◌≡◌, ◌≢◌, ℕ, ◌+◌, ◌*◌, ◌<◌, ◌≤◌, Bool, true, false, refl, sym, ◌∙◌, ap, map, arith}
-use Rattle.std.specs.Prelude.{ℤ, pos, ◌<ℤ◌, ◌||◌, unsigned_abs}
+use Rattle.std.specs.Prelude.{ℤ, pos, ◌<ℤ◌, ◌||◌}
 use Rattle.std.proofs.lemmas.Bool.{true≢false}
 use Rattle.std.proofs.lemmas.Int.{ints}
 use Rattle.mesh_plane.specs.Bounds.{IsSafe}
-use Rattle.mesh_plane.specs.Plane.{Point, plus, minus, length_sq}
+use Rattle.mesh_plane.specs.Plane.{Point, minus, length_sq}
 use Rattle.mesh_plane.specs.Winding.{same_point}
 use Rattle.mesh_plane.proofs.Comparing.{decides_point}
 use Rattle.mesh_plane.proofs.Sizes.{lt_of_squares}
 use Rattle.mesh_sine.specs.Sine.{root}
 use Rattle.mesh_sine.proofs.Roots.{root_is, root_by}
-use Rattle.mesh_grid.specs.Direction.{IsShort}
 use Rattle.mesh_grid.specs.Rectangle.{IsSafeWidened}
-use Rattle.mesh_grid.proofs.Scaling.{short_bounded}
+use Rattle.mesh_grid.proofs.Moving.{safe_difference, stays_safe}
 use Rattle.mesh_arc.specs.Arcs.{arc, clamped}
 use Rattle.mesh_arc.specs.declared.arc.ArcDirection.TheVariants.{Counterclockwise}
 use Rattle.mesh_arc.specs.declared.arc.ArcOptions.{ArcOptions}
@@ -39,38 +38,15 @@ distance_most p q r h =
 
 -- ---- what is safe
 
--- the vector between safe points is short
-safe_difference : (unit : ℕ) (p q : Point) → IsSafe unit p → IsSafe unit q → IsSafe (2 * unit) (minus p q)
-safe_difference unit p q h k = record {
-  x = record { low = omega (arith, ints, h.x.low, k.x.high); high = omega (arith, ints, h.x.high, k.x.low) };
-  y = record { low = omega (arith, ints, h.y.low, k.y.high); high = omega (arith, ints, h.y.high, k.y.low) };
-}
-
--- a center that stays safe is safe
-center_safe : (unit d : ℕ) (c : Point) → IsSafeWidened unit (pos d) c → IsSafe unit c
-center_safe unit d c h = record {
-  x = record { low = omega (arith, ints, h.0.x.low); high = omega (arith, ints, h.1.x.high) };
-  y = record { low = omega (arith, ints, h.0.y.low); high = omega (arith, ints, h.1.y.high) };
-}
-
--- and does not move far
+-- a center that stays safe does not move far
 pub reach_small : (unit d : ℕ) (c : Point) → IsSafeWidened unit (pos d) c → d < unit
 reach_small unit d c h = omega (arith, ints, h.0.x.low, h.1.x.high)
 
--- the components of a direction are small
-pub short_safe : (unit : ℕ) (n : Point) → 0 < unit → IsShort unit n → IsSafe (2 * unit) n
-short_safe unit n some short =
-    let b : (unsigned_abs n.0 ≤ unit) × (unsigned_abs n.1 ≤ unit) = short_bounded unit n short in
-    record {
-      x = record { low = omega (arith, ints, b.0); high = omega (arith, ints, b.0) };
-      y = record { low = omega (arith, ints, b.1); high = omega (arith, ints, b.1) };
-    }
-
 pub swept_from : (unit : ℕ) (c x y : Point) → IsSwept unit c x y → IsSafe (2 * unit) (minus x c)
-swept_from unit c x y h = safe_difference unit x c h.from (center_safe unit (distance c x) c h.center)
+swept_from unit c x y h = safe_difference unit x c h.from (stays_safe unit (pos (distance c x)) c (omega (arith, ints)) h.center)
 
 pub swept_to : (unit : ℕ) (c x y : Point) → IsSwept unit c x y → IsSafe (2 * unit) (minus y c)
-swept_to unit c x y h = safe_difference unit y c h.to (center_safe unit (distance c x) c h.center)
+swept_to unit c x y h = safe_difference unit y c h.to (stays_safe unit (pos (distance c x)) c (omega (arith, ints)) h.center)
 
 -- ---- what has a direction
 
@@ -139,20 +115,17 @@ module _ (unit : ℕ) (c : Point) (radius : ℤ) (large : pos 1 <ℤ radius) whe
       y = record { low = omega (arith, ints, large, h.0.y.low); high = omega (arith, ints, large, h.1.y.high) };
     }
 
-    center_is_safe : IsSafe unit c
-    center_is_safe = record {
-      x = record { low = omega (arith, ints, large, h.0.x.low); high = omega (arith, ints, large, h.1.x.high) };
-      y = record { low = omega (arith, ints, large, h.0.y.low); high = omega (arith, ints, large, h.1.y.high) };
-    }
+    center_safe : IsSafe unit c
+    center_safe = stays_safe unit radius c (omega (arith, ints, large)) h
 
     pub east_seen : IsApart unit c (east_of c radius)
     east_seen = record {
-      safe = safe_difference unit (east_of c radius) c east_safe center_is_safe;
+      safe = safe_difference unit (east_of c radius) c east_safe center_safe;
       differ = east_apart;
     }
 
     pub west_seen : IsApart unit c (west_of c radius)
     west_seen = record {
-      safe = safe_difference unit (west_of c radius) c west_safe center_is_safe;
+      safe = safe_difference unit (west_of c radius) c west_safe center_safe;
       differ = west_apart;
     }

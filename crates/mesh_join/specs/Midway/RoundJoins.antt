@@ -1,10 +1,9 @@
 -- What the steps of a round join know: only private contracts read this.
-use Rattle.std.specs.Prelude.{ℕ, ◌≡◌, ◌≢◌, ◌*◌, ◌≤◌, List, ◌++◌, map}
+use Rattle.std.specs.Prelude.{ℕ, ◌≢◌, ◌*◌, List, map}
 use Rattle.mesh_plane.specs.Bounds.{IsSafe}
 use Rattle.mesh_plane.specs.Plane.{Point, Edge, minus}
 use Rattle.mesh_plane.specs.Winding.{route}
 use Rattle.mesh_grid.specs.Direction.{IsShort}
-use Rattle.mesh_num.specs.Segments.{SignedEdge, segments_of}
 use Rattle.mesh_arc.specs.declared.arc.ArcOptions.{ArcOptions}
 use Rattle.mesh_join.specs.Joints.{Joint}
 use Rattle.mesh_join.specs.RoundJoins.{arc_point, used, round_points}
@@ -18,13 +17,9 @@ pub record IsApart (unit : ℕ) (center point : Point) : Type 0 where
   pub safe : IsSafe (2 * unit) (minus point center)
   pub differ : point ≢ center
 
--- what is left to draw after some directions: `last` is the last point that was used, `capacity` what the vector has room for
-pub record IsDrawn (unit : ℕ) (j : Joint) (old : List SignedEdge) (room : ℕ) (drawn : List Point) (last : Point) (now : List SignedEdge) (capacity : ℕ) : Type 0 where
-  pub goes_on : (rest : List Point) → now ++ segments_of (route last (used j last (map (arc_point unit j) rest)) j.last)
-      ≡ old ++ segments_of (route j.first (used j j.first (map (arc_point unit j) (drawn ++ rest))) j.last)
-  pub added : List SignedEdge
-  pub now_is : now ≡ old ++ added
-  pub grown : room ≤ capacity
+-- the points that these directions give past `last`: those of them that are used
+abbrev pub used_past : ℕ → Joint → Point → List Point → List Point
+used_past unit j last directions = used j last (map (arc_point unit j) directions)
 
 -- two directions are no longer than directions are
 pub record HaveLength (unit : ℕ) (incoming outgoing : Point) : Type 0 where

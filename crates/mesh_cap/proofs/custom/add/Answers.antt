@@ -4,23 +4,24 @@ use Rattle.std.proofs.Common.{vec_capacity}
 use Rattle.std.proofs.lemmas.Bool.{false≢true}
 use Rattle.std.proofs.lemmas.List.{take_more}
 use Rattle.std.proofs.lemmas.Result.{on_ok_weaker}
-use Rattle.mesh_plane.specs.Plane.{Point, plus}
+use Rattle.mesh_plane.specs.Plane.{Point}
 use Rattle.mesh_plane.specs.Winding.{route}
-use Rattle.mesh_grid.specs.Rotation.{turned_along}
 use Rattle.mesh_num.specs.Segments.{segments_of}
-use Rattle.mesh_cap.specs.CustomCaps.{custom_points}
-use Rattle.mesh_cap.proofs.CustomCaps.{IsDrawn, point_safe, drawing_starts, drawing_takes, drawing_ends, still_kept}
-use Rattle.mesh_cap.proofs.CustomCaps.{room_for_next, room_for_last}
+use Rattle.mesh_join.proofs.Drawing.{IsDrawn, each, drawing_starts, each_takes, each_ends, still_kept}
+use Rattle.mesh_cap.specs.CustomCaps.{custom_point, custom_points}
+use Rattle.mesh_cap.proofs.CustomCaps.{point_safe, room_for_next, room_for_last}
 use Rattle.mesh_cap.proofs.custom.add.Goals as goal
 
 pub loop-point-init : goal.loop-point-init
 loop-point-init g c =
     subst
-    (λ (p : Point). IsDrawn g.I.IntNumber.unit c.args.end.now c.args.segments.now.items
-    (vec_capacity c.args.segments.now) []
+    (λ (p : Point). IsDrawn
+    (each (custom_point g.I.IntNumber.unit c.args.end.now)) c.args.end.now.first c.args.end.now.last
+    c.args.segments.now.items (vec_capacity c.args.segments.now) []
     p c.args.segments.now.items (vec_capacity c.args.segments.now))
-    (search rules) (drawing_starts g.I.IntNumber.unit c.args.end.now c.args.segments.now.items
-    (vec_capacity c.args.segments.now))
+    (search rules)
+    (drawing_starts (each (custom_point g.I.IntNumber.unit c.args.end.now)) c.args.end.now.first c.args.end.now.last
+    c.args.segments.now.items (vec_capacity c.args.segments.now))
 
 pub moved-next-requires : goal.moved-next-requires
 moved-next-requires g c =
@@ -33,7 +34,7 @@ moved-next-requires g c =
 
 pub returns-in_err-push_straight-clause-kept : goal.returns-in_err-push_straight-clause-kept
 returns-in_err-push_straight-clause-kept g c =
-    still_kept g.I.IntNumber.unit c.args.end.now
+    still_kept (each (custom_point g.I.IntNumber.unit c.args.end.now)) c.args.end.now.first c.args.end.now.last
     c.args.segments.now.items (vec_capacity c.args.segments.now)
     (take c.loop-point.point-index c.args.points.now) c.loop-point.last
     c.loop-point.segments.items (vec_capacity c.loop-point.segments)
@@ -45,11 +46,9 @@ loop-point-preserved g c =
     ≡ take c.loop-point.point-index c.args.points.now ++ (c.point-item.result ∷ []) =
     take_more c.args.points.now c.loop-point.point-index c.point-item.result (omega (arith, c.loop-point-test.true))
     ∙ ap (λ (d : Point). take c.loop-point.point-index c.args.points.now ++ (d ∷ [])) (sym c.point-item.is) in
-    let p : c.moved-next.result ≡ plus c.args.end.now.center
-    (turned_along g.I.IntNumber.unit c.args.end.now.incoming c.point-item.result) =
-    search rules in
+    let p : c.moved-next.result ≡ custom_point g.I.IntNumber.unit c.args.end.now c.point-item.result = search rules in
     rw e
-    (drawing_takes g.I.IntNumber.unit c.args.end.now
+    (each_takes (custom_point g.I.IntNumber.unit c.args.end.now) c.args.end.now.first c.args.end.now.last
     c.args.segments.now.items (vec_capacity c.args.segments.now)
     (take c.loop-point.point-index c.args.points.now) c.loop-point.last
     c.loop-point.segments.items (vec_capacity c.loop-point.segments) c.point-item.result c.moved-next.result
@@ -63,7 +62,7 @@ returns-clause-ok g c =
     let l : c.end.inside.left ≡ c.args.end.now.last = search rules in
     on_ok_weaker c.push_straight-2.result
     (λ h. h ∙ ap (λ (p : Point). c.loop-point.segments.items ++ segments_of (route c.loop-point.last [] p)) l
-    ∙ drawing_ends g.I.IntNumber.unit c.args.end.now
+    ∙ each_ends (custom_point g.I.IntNumber.unit c.args.end.now) c.args.end.now.first c.args.end.now.last
     c.args.segments.now.items (vec_capacity c.args.segments.now)
     (take c.loop-point.point-index c.args.points.now) c.loop-point.last
     c.loop-point.segments.items (vec_capacity c.loop-point.segments) c.loop-point.invariant
@@ -76,7 +75,7 @@ returns-clause-ok g c =
 
 pub returns-clause-kept : goal.returns-clause-kept
 returns-clause-kept g c =
-    still_kept g.I.IntNumber.unit c.args.end.now
+    still_kept (each (custom_point g.I.IntNumber.unit c.args.end.now)) c.args.end.now.first c.args.end.now.last
     c.args.segments.now.items (vec_capacity c.args.segments.now)
     (take c.loop-point.point-index c.args.points.now) c.loop-point.last
     c.loop-point.segments.items (vec_capacity c.loop-point.segments)
@@ -84,9 +83,7 @@ returns-clause-kept g c =
 
 pub returns-in_err-push_straight-clause-room : goal.returns-in_err-push_straight-clause-room
 returns-in_err-push_straight-clause-room g c room =
-    let p : c.moved-next.result ≡ plus c.args.end.now.center
-    (turned_along g.I.IntNumber.unit c.args.end.now.incoming c.point-item.result) =
-    search rules in
+    let p : c.moved-next.result ≡ custom_point g.I.IntNumber.unit c.args.end.now c.point-item.result = search rules in
     absurd (false≢true (c.in_err-push_straight.ensures.room
     (room_for_next g.I.IntNumber.unit c.args.end.now
     c.args.segments.now.items (vec_capacity c.args.segments.now) c.args.points.now c.loop-point.point-index

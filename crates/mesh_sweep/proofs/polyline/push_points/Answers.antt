@@ -5,18 +5,18 @@ use Rattle.std.proofs.lemmas.Result.{on_ok_weaker}
 use Rattle.mesh_plane.specs.Plane.{Point}
 use Rattle.mesh_plane.specs.Winding.{route}
 use Rattle.mesh_num.specs.Segments.{segments_of}
+use Rattle.mesh_join.proofs.Drawing.{each, drawing_starts, each_takes, each_ends, still_kept}
 use Rattle.mesh_sweep.specs.Sweeps.{point_round}
-use Rattle.mesh_sweep.proofs.Drawing.{drawing_starts, drawing_takes, drawing_ends, still_kept}
 use Rattle.mesh_sweep.proofs.polyline.push_points.Goals as goal
 
 pub loop-direction-init : goal.loop-direction-init
 loop-direction-init g c =
-    drawing_starts (point_round g.I.IntNumber.unit c.args.center (g.I.IntNumber.value c.args.radius)) c.args.from
+    drawing_starts (each (point_round g.I.IntNumber.unit c.args.center (g.I.IntNumber.value c.args.radius))) c.args.from
     c.args.to c.args.segments.now.items (vec_capacity c.args.segments.now)
 
 pub returns-in_err-push_straight-clause-kept : goal.returns-in_err-push_straight-clause-kept
 returns-in_err-push_straight-clause-kept g c =
-    still_kept (point_round g.I.IntNumber.unit c.args.center (g.I.IntNumber.value c.args.radius)) c.args.from
+    still_kept (each (point_round g.I.IntNumber.unit c.args.center (g.I.IntNumber.value c.args.radius))) c.args.from
     c.args.to c.args.segments.now.items (vec_capacity c.args.segments.now)
     (take c.loop-direction.direction-index c.args.directions.now) c.loop-direction.last
     c.loop-direction.segments.items (vec_capacity c.loop-direction.segments)
@@ -29,7 +29,7 @@ loop-direction-preserved g c =
     take_more c.args.directions.now i c.direction-item.result (omega (arith, c.loop-direction-test.true))
     ∙ ap (λ (d : Point). take i c.args.directions.now ++ (d ∷ [])) (sym c.direction-item.is) in
     rw e
-    (drawing_takes (point_round g.I.IntNumber.unit c.args.center (g.I.IntNumber.value c.args.radius)) c.args.from
+    (each_takes (point_round g.I.IntNumber.unit c.args.center (g.I.IntNumber.value c.args.radius)) c.args.from
     c.args.to c.args.segments.now.items (vec_capacity c.args.segments.now)
     (take i c.args.directions.now) c.loop-direction.last
     c.loop-direction.segments.items (vec_capacity c.loop-direction.segments) c.direction-item.result
@@ -43,7 +43,7 @@ returns-clause-ok g c =
     let all : take c.loop-direction.direction-index c.args.directions.now ≡ c.args.directions.now =
     take_all c.loop-direction.direction-index c.args.directions.now (omega (arith, c.loop-direction-test.false)) in
     on_ok_weaker c.push_straight-2.result
-    (λ h. h ∙ drawing_ends at c.args.from c.args.to c.args.segments.now.items (vec_capacity c.args.segments.now)
+    (λ h. h ∙ each_ends at c.args.from c.args.to c.args.segments.now.items (vec_capacity c.args.segments.now)
     (take c.loop-direction.direction-index c.args.directions.now) c.loop-direction.last
     c.loop-direction.segments.items (vec_capacity c.loop-direction.segments) c.loop-direction.invariant
     ∙ ap
@@ -53,7 +53,7 @@ returns-clause-ok g c =
 
 pub returns-clause-kept : goal.returns-clause-kept
 returns-clause-kept g c =
-    still_kept (point_round g.I.IntNumber.unit c.args.center (g.I.IntNumber.value c.args.radius)) c.args.from
+    still_kept (each (point_round g.I.IntNumber.unit c.args.center (g.I.IntNumber.value c.args.radius))) c.args.from
     c.args.to c.args.segments.now.items (vec_capacity c.args.segments.now)
     (take c.loop-direction.direction-index c.args.directions.now) c.loop-direction.last
     c.loop-direction.segments.items (vec_capacity c.loop-direction.segments)

@@ -8,8 +8,8 @@ use Rattle.mesh_plane.specs.Winding.{route}
 use Rattle.mesh_num.specs.Segments.{segments_of}
 use Rattle.mesh_sweep.specs.declared.sweep.Sweep.{Sweep}
 use Rattle.mesh_sweep.specs.Sweeps.{distance, sweep_of, is_empty, is_whole, circle_edges, polyline_edges}
-use Rattle.mesh_sweep.proofs.Cases.{arc_empty, arc_central, arc_whole, arc_along}
-use Rattle.mesh_sweep.proofs.Drawing.{appends_both}
+use Rattle.mesh_sweep.proofs.Cases.{arc_empty, arc_central, arc_whole, arc_polyline}
+use Rattle.mesh_join.proofs.Drawing.{appends_both}
 use Rattle.mesh_sweep.proofs.Swept.{swept_from, swept_to, from_seen, to_seen, reach_small}
 use Rattle.mesh_sweep.proofs.sweeper.Sweeper.push_arc.Goals as goal
 
@@ -120,6 +120,6 @@ returns-else-is_whole-clause-ok g c =
     on_ok_weaker c.push_polyline.result
     (λ h. h ∙ ap (λ (r : ℤ). c.args.segments.now.items ++ segments_of (es r)) c.distance-radius.ensures
     ∙ ap (λ (gs : List Edge). c.args.segments.now.items ++ segments_of gs)
-    (sym (arc_along unit c.args.self.now c.args.center c.args.from c.args.to c.args.aligned e
+    (sym (arc_polyline unit c.args.self.now c.args.center c.args.from c.args.to c.args.aligned e
     (sym c.is_central.ensures ∙ c.if-is_central.false) w)))
     c.push_polyline.ensures.ok

@@ -6,7 +6,7 @@ use Rattle.mesh_plane.specs.Plane.{Point, Edge}
 use Rattle.mesh_num.specs.Segments.{segments_of}
 use Rattle.mesh_join.specs.Midway.RoundJoins.{IsApart}
 use Rattle.mesh_sweep.specs.Sweeps.{east_of, west_of, polyline_edges}
-use Rattle.mesh_sweep.proofs.Drawing.{appends_both}
+use Rattle.mesh_join.proofs.Drawing.{appends_both}
 use Rattle.mesh_sweep.proofs.Swept.{east_safe, west_safe, east_seen, west_seen}
 use Rattle.mesh_sweep.proofs.sweeper.Sweeper.push_halves.Goals as goal
 
