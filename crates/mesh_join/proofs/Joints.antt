@@ -34,10 +34,6 @@ left_ahead t = ap (int_le (pos 0)) (sym (one_mul t))
 pub right_ahead : (t : ℤ) → int_le t (pos 0) ≡ int_le (pos 0) (negsuc 0 *ℤ t)
 right_ahead t = grind (arith, ints)
 
--- what a test tells
-pub le_test : (a b : ℤ) → int_le a b ≡ true → a ≤ℤ b
-le_test a b h = grind (arith, ints)
-
 -- a point beside a corner is within a padding that covers how far it is away
 right_within : (padding : ℤ) (v s : Point) → pos (unsigned_abs s.0) ≤ℤ padding → pos (unsigned_abs s.1) ≤ℤ padding → IsWithinPadding padding v (plus v (right_quarter s))
 right_within padding v s x y = record { west = omega (arith, ints); south = omega (arith, ints); east = omega (arith, ints); north = omega (arith, ints) }

@@ -13,6 +13,7 @@ use Rattle.mesh_plane.specs.Winding.{route, same_point}
 use Rattle.mesh_plane.proofs.Rounding.{rounded_at_least, rounded_at_most}
 use Rattle.mesh_plane.proofs.Whole.{mul_le_mul_left}
 use Rattle.mesh_plane.specs.Bounds.{IsSafe, IsWithin}
+use Rattle.mesh_plane.proofs.Comparing.{test_at_most}
 use Rattle.mesh_grid.specs.Quotient.{rounded_product}
 use Rattle.mesh_sine.proofs.Lengths.{sine_at_most}
 use Rattle.mesh_sine.proofs.Small.{sine_not_small}
@@ -20,7 +21,7 @@ use Rattle.mesh_join.proofs.Bevels.{nothing_between}
 use Rattle.mesh_join.proofs.Drawing.{route_length}
 use Rattle.mesh_grid.specs.Rectangle.{IsSafeWidened}
 use Rattle.mesh_num.specs.Segments.{segments_of}
-use Rattle.mesh_join.proofs.Joints.{within_safe, le_test}
+use Rattle.mesh_join.proofs.Joints.{within_safe}
 use Rattle.mesh_join.proofs.JoinLaws.{KeepsJoint, KeepsJoints}
 use Rattle.mesh_join.specs.Joins.{between, through}
 use Rattle.mesh_arc.specs.Arcs.{sense_of}
@@ -130,7 +131,7 @@ means_near padding v p h =
     let x = and_parts (int_le (v.0 -ℤ padding) p.0 && int_le p.0 (v.0 +ℤ padding)) (int_le (v.1 -ℤ padding) p.1 && int_le p.1 (v.1 +ℤ padding)) h in
     let w = and_parts (int_le (v.0 -ℤ padding) p.0) (int_le p.0 (v.0 +ℤ padding)) x.0 in
     let t = and_parts (int_le (v.1 -ℤ padding) p.1) (int_le p.1 (v.1 +ℤ padding)) x.1 in
-    record { west = le_test _ _ w.0; south = le_test _ _ t.0; east = le_test _ _ w.1; north = le_test _ _ t.1 }
+    record { west = test_at_most _ _ w.0; south = test_at_most _ _ t.0; east = test_at_most _ _ w.1; north = test_at_most _ _ t.1 }
 
 tested_keep : (unit : ℕ) (padding : ℤ) (j : Joint) (points : List Point) → IsTurn unit j → length points ≤ 2 → are_usable padding j points ≡ true → Keeps padding j points
 unfolding are_usable
@@ -142,7 +143,7 @@ tested_keep unit padding j points h few u = by (same_point j.first j.last) refl
         let n : between j.first points j.last ≡ points = ap (λ (t : Bool). cond t [] points) e in
         let both = and_parts (list_all (is_near padding j.center) points) (list_all (runs_ahead j) (route j.first points j.last)) u in
         record {
-          ahead = rw n (each (runs_ahead j) (λ (e : Edge). pos 0 ≤ℤ (sense_of j.sense *ℤ turn j.center e.0 e.1)) (λ e t. le_test _ _ t) (route j.first points j.last) both.1);
+          ahead = rw n (each (runs_ahead j) (λ (e : Edge). pos 0 ≤ℤ (sense_of j.sense *ℤ turn j.center e.0 e.1)) (λ e t. test_at_most _ _ t) (route j.first points j.last) both.1);
           near = rw n (each (is_near padding j.center) (IsWithinPadding padding j.center) (means_near padding j.center) points both.0);
           few = rw n (omega (arith, route_length j.first points j.last));
         }

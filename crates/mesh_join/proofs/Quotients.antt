@@ -7,7 +7,7 @@ use mir.Syntax.{w128}
 use mir.Val.{to_z, of_z}
 use Rattle.mesh_plane.specs.Rounding.{rounded}
 use Rattle.mesh_plane.proofs.Rounding.{rounded_within}
-use Rattle.mesh_plane.proofs.Sizes.{size_neg}
+use Rattle.mesh_plane.proofs.Sizes.{size_neg, product_size}
 use Rattle.mesh_plane.specs.Plane.{Point, cross, dot}
 use Rattle.mesh_grid.specs.Quotient.{rounded_product}
 use Rattle.mesh_join.specs.Midway.Miters.{IsNarrow}
@@ -28,21 +28,12 @@ product_small m n a b (negsuc d) h k l =
     let p : unsigned_abs a * unsigned_abs b ≤ m * n = mul-le-mul k l in
     omega (arith, rounded_small (neg_ℤ (a *ℤ b)) (suc d) (omega arith), size_neg (a *ℤ b), unsigned_abs-mul a b)
 
--- what is not 0 has a size
-pub has_size : (d : ℤ) → d ≢ pos 0 → 0 < unsigned_abs d
-has_size (pos zero) h = absurd (h refl)
-has_size (pos (suc d)) h = omega arith
-has_size (negsuc d) h = omega arith
-
-pub size_of_product : (m n : ℕ) (a b : ℤ) → unsigned_abs a ≤ m → unsigned_abs b ≤ n → unsigned_abs (a *ℤ b) ≤ m * n
-size_of_product m n a b h l = let p : unsigned_abs a * unsigned_abs b ≤ m * n = mul-le-mul h l in omega (arith, unsigned_abs-mul a b)
-
 -- products of vectors
 pub cross_small : (m n : ℕ) (v w : Point) → IsNarrow m v → IsNarrow n w → unsigned_abs (cross v w) ≤ 2 * (m * n)
-cross_small m n v w h l = let a = size_of_product m n v.0 w.1 h.x l.y in let b = size_of_product m n v.1 w.0 h.y l.x in omega (arith, ints)
+cross_small m n v w h l = let a = product_size v.0 w.1 m n h.x l.y in let b = product_size v.1 w.0 m n h.y l.x in omega (arith, ints)
 
 pub dot_small : (m n : ℕ) (v w : Point) → IsNarrow m v → IsNarrow n w → unsigned_abs (dot v w) ≤ 2 * (m * n)
-dot_small m n v w h l = let a = size_of_product m n v.0 w.0 h.x l.x in let b = size_of_product m n v.1 w.1 h.y l.y in omega (arith, ints)
+dot_small m n v w h l = let a = product_size v.0 w.0 m n h.x l.x in let b = product_size v.1 w.1 m n h.y l.y in omega (arith, ints)
 
 -- reading a quotient of 128 bits
 pub product_read : (r a b d : ℤ) → r ≡ rounded_product (to_z w128 (of_z w128 a)) (to_z w128 (of_z w128 b)) (to_z w128 (of_z w128 d)) → unsigned_abs a ≤ 2 ^ 30 →

@@ -6,7 +6,7 @@ use Rattle.std.proofs.lemmas.Bool.{true≢false, and_parts, cases_lt}
 use Rattle.std.proofs.lemmas.Int.{ints, unsigned_abs-mul}
 use Rattle.std.proofs.lemmas.List.Elements.{All-nil, All-cons, All-head, All-tail}
 use mathlib.Core.Logic.{⊎_elim}
-use Rattle.mesh_plane.proofs.Comparing.{decides_point}
+use Rattle.mesh_plane.proofs.Comparing.{decides_point, test_at_most}
 use Rattle.mesh_plane.proofs.Rounding.{rounded_within}
 use Rattle.mesh_plane.proofs.Sizes.{size_neg, size_zero}
 use Rattle.mesh_plane.specs.Plane.{Point, Edge, plus, minus, right_quarter, turn, length_sq}
@@ -23,7 +23,6 @@ use Rattle.mesh_arc.specs.declared.arc.ArcDirection.{ArcDirection}
 use Rattle.mesh_arc.specs.declared.arc.ArcDirection.TheVariants.{Clockwise, Counterclockwise}
 use Rattle.mesh_arc.proofs.Short.{arc_short}
 use Rattle.mesh_join.proofs.JoinLaws.{KeepsJoint, KeepsJoints}
-use Rattle.mesh_join.proofs.Joints.{le_test}
 use Rattle.mesh_join.specs.Joins.{between}
 use Rattle.mesh_join.specs.Joints.{Joint, IsTurn, IsWithinPadding, contact, runs_ahead}
 use Rattle.mesh_join.specs.RoundJoins.{joint_arc, arc_point, used, round_points, round_padding}
@@ -59,7 +58,7 @@ used_ahead j p (q ∷ points) h = by (runs_ahead j (p, q) && runs_ahead j (q, j.
     by true e skipped taken =
         let both = and_parts (runs_ahead j (p, q)) (runs_ahead j (q, j.last)) e in
         rw (used_takes j p q points e)
-        (All-cons (IsAhead j) (p, q) (route q (used j q points) j.last) (le_test _ _ both.0) (taken (le_test _ _ both.1)))
+        (All-cons (IsAhead j) (p, q) (route q (used j q points) j.last) (test_at_most _ _ both.0) (taken (test_at_most _ _ both.1)))
     by false e skipped taken = rw (used_skips j p q points e) skipped
 
 -- they are among the given ones

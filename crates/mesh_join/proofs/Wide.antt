@@ -6,11 +6,11 @@ use mir.Syntax.{w32, w128}
 use mir.Val.{SFits, to_z, of_z}
 use Rattle.mesh_plane.specs.Bounds.{IsWithin, IsSmall}
 use Rattle.mesh_plane.specs.Plane.{Point, plus, minus, cross, dot}
-use Rattle.mesh_plane.proofs.Sizes.{le_of_squares}
+use Rattle.mesh_plane.proofs.Sizes.{le_of_squares, product_size, size_positive, within_size}
 use Rattle.mesh_grid.specs.Direction.{IsShort}
 use Rattle.mesh_grid.specs.Quotient.{rounded_product}
 use Rattle.mesh_join.specs.Midway.Miters.{IsNarrow}
-use Rattle.mesh_join.proofs.Quotients.{size_of_product, product_small, product_read, has_size, cross_small, dot_small}
+use Rattle.mesh_join.proofs.Quotients.{product_small, product_read, cross_small, dot_small}
 
 abbrev pub read : ℤ → ℤ
 read z = to_z w128 (of_z w128 z)
@@ -52,7 +52,7 @@ close_difference a b h k = difference_read a b (omega arith) (omega arith)
 -- ---- products
 
 factors_small : (a b : ℤ) → unsigned_abs a ≤ 2 ^ 32 → unsigned_abs b ≤ 2 ^ 32 → unsigned_abs (a *ℤ b) ≤ 2 ^ 64
-factors_small a b h k = size_of_product (2 ^ 32) (2 ^ 32) a b h k
+factors_small a b h k = product_size a b (2 ^ 32) (2 ^ 32) h k
 
 pub factors_fit : (a b : ℤ) → unsigned_abs a ≤ 2 ^ 32 → unsigned_abs b ≤ 2 ^ 32 → SFits w128 (read a *ℤ read b)
 factors_fit a b h k =
@@ -98,7 +98,7 @@ module _ (v w : Point) (h : IsNarrow (2 ^ 32) v) (k : IsNarrow (2 ^ 32) w) where
 module _ (r a k d : ℤ) (e : r ≡ rounded_product (read a) (read k) (read d)) (h : unsigned_abs a ≤ 2 ^ 30)
     (l : unsigned_abs k ≤ 2 ^ 63) (m : unsigned_abs d ≤ 2 ^ 63) (some : d ≢ pos 0) where
   quotient_most : unsigned_abs (rounded_product a k d) ≤ 2 ^ 93
-  quotient_most = product_small (2 ^ 30) (2 ^ 63) a k d (has_size d some) h l
+  quotient_most = product_small (2 ^ 30) (2 ^ 63) a k d (size_positive d some) h l
 
   pub quotient_read : read r ≡ rounded_product a k d
   quotient_read = rw (product_read r a k d e h l m) (small_read (rounded_product a k d) (omega (arith, quotient_most)))
@@ -108,19 +108,16 @@ module _ (r a k d : ℤ) (e : r ≡ rounded_product (read a) (read k) (read d)) 
 
 -- ---- coordinates
 
-within_narrow : (n : ℕ) (z : ℤ) → IsWithin n z → unsigned_abs z ≤ n
-within_narrow n z w = omega (arith, ints, w.low, w.high)
-
 pub pair_read : (x y : ℤ) (p : Point) → IsWithin (2 ^ 31) x → IsWithin (2 ^ 31) y → ◌≡◌ {A = Point} (x, y) p →
     ◌≡◌ {A = Point} (read x, read y) p
 pair_read x y p u w e =
-    rw (small_read x (omega (arith, within_narrow (2 ^ 31) x u)), small_read y (omega (arith, within_narrow (2 ^ 31) y w)))
+    rw (small_read x (omega (arith, within_size (2 ^ 31) x u)), small_read y (omega (arith, within_size (2 ^ 31) y w)))
     e
 
 pub pair_narrow : (x y : ℤ) → IsWithin (2 ^ 31) x → IsWithin (2 ^ 31) y → IsNarrow (2 ^ 31) (read x, read y)
 pair_narrow x y u w = record {
-  x = rw (small_read x (omega (arith, within_narrow (2 ^ 31) x u))) (within_narrow (2 ^ 31) x u);
-  y = rw (small_read y (omega (arith, within_narrow (2 ^ 31) y w))) (within_narrow (2 ^ 31) y w);
+  x = rw (small_read x (omega (arith, within_size (2 ^ 31) x u))) (within_size (2 ^ 31) x u);
+  y = rw (small_read y (omega (arith, within_size (2 ^ 31) y w))) (within_size (2 ^ 31) y w);
 }
 
 -- a direction is no longer than the unit

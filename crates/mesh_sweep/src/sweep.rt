@@ -7,7 +7,8 @@ ghost use Rattle.mesh_join.specs.Midway.RoundJoins.{IsApart};
 ghost use Rattle.mesh_sweep.specs.Sweeps.{is_central as is_central_to, is_empty as is_empty_of};
 ghost use Rattle.mesh_sweep.specs.Sweeps.{is_major as is_major_of, is_whole as is_whole_of, sweep_of as sweep_between};
 
-use crate::vertex::{direction, is_one_point, is_one_way};
+use crate::vertex::{direction, is_one_way};
+use mesh_grid::num::point::is_one_point;
 use mesh_num::num::{IntNumber, IntPoint};
 
 /// How far an arc runs counterclockwise.

@@ -3,7 +3,6 @@
 ghost use Rattle.std.specs.Prelude.{◌≡◌, ◌*◌, ◌<◌, pos};
 ghost use Rattle.mesh_plane.specs.Bounds.{IsSafe};
 ghost use Rattle.mesh_plane.specs.Plane.{minus};
-ghost use Rattle.mesh_plane.specs.Winding.{same_point};
 ghost use Rattle.mesh_grid.specs.Direction.{IsFresh, IsShort};
 ghost use Rattle.mesh_grid.specs.Rectangle.{IsSafeWidened};
 ghost use Rattle.mesh_join.specs.RoundJoins.{round_padding};
@@ -14,13 +13,6 @@ ghost use Rattle.mesh_sweep.specs.Sweeps.{east_of as east_point, west_of as west
 
 use mesh_num::num::convert::narrow;
 use mesh_num::num::{IntNumber, IntPoint, IntVector, UnitIntVector};
-
-/// Whether two points are one.
-pub(crate) fn is_one_point<I: IntNumber>(p: IntPoint<I>, q: IntPoint<I>) -> bool
-    ensures { result ≡ same_point p q }
-{
-    p == q
-}
 
 /// The point away from a vertex by the radius in a direction.
 pub(crate) fn point_round<I: IntNumber>(

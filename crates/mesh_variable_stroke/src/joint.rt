@@ -3,7 +3,6 @@
 ghost use Rattle.std.specs.Prelude.{◌≡◌, length, take, OnOk, false, pos, int_lt};
 ghost use Rattle.mesh_plane.specs.Bounds.{IsSafe};
 ghost use Rattle.mesh_plane.specs.Plane.{minus, cross};
-ghost use Rattle.mesh_plane.specs.Winding.{same_point};
 ghost use Rattle.mesh_join.specs.Appending.{Appends};
 ghost use Rattle.mesh_variable_stroke.specs.Building.{IsGoodJoint};
 ghost use Rattle.mesh_variable_stroke.specs.VariableStrokes.{joint_edges, left_edges, right_edges, is_apart as are_apart};
@@ -13,6 +12,7 @@ ghost use Rattle.mesh_variable_stroke.specs.VariableStrokes.{middle_turn as midd
 
 use crate::chain_end::ChainEnd;
 use crate::ends::{add_end, add_start, end_center, start_center};
+use mesh_grid::num::point::is_one_point;
 use mesh_join::route::push_straight;
 use mesh_num::num::{IntNumber, IntPoint};
 use mesh_num::shape::segment::Segment;
@@ -47,13 +47,6 @@ fn is_apart<I: IntNumber>(previous: &Section<I>, next: &Section<I>) -> bool
     ensures { result ≡ are_apart (previous.now, next.now) }
 {
     !is_one_point(end_center(previous), start_center(next))
-}
-
-// Whether two points are one.
-fn is_one_point<I: IntNumber>(p: IntPoint<I>, q: IntPoint<I>) -> bool
-    ensures { result ≡ same_point p q }
-{
-    p == q
 }
 
 // Adds the left side of a joint, back along the path.

@@ -59,7 +59,7 @@ pub(crate) fn lesser<I: IntNumber>(first: I, second: I) -> I
 }
 
 /// The greater of two coordinates.
-pub(crate) fn greater<I: IntNumber>(first: I, second: I) -> I
+pub fn greater<I: IntNumber>(first: I, second: I) -> I
     ensures { I.value result ≡ int_max (I.value first) (I.value second) }
 {
     if is_less(first, second) {
