@@ -1,12 +1,12 @@
 use Rattle.std.proofs.Common.{◌≡◌, ℕ, ◌<◌, false, List, length, get_or, sym, ◌∙◌, ap, subst, arith}
 use Rattle.std.specs.Prelude.{ℤ, pos, int_lt}
+use Rattle.std.proofs.lemmas.List.{length-map}
 use Rattle.mesh_boundary.specs.Midway.Rows.{AreRows}
 use Rattle.mesh_shapes.specs.Contours.{double_area}
 use Rattle.mesh_shapes.specs.Resolution.{Ring}
 use Rattle.mesh_shapes.specs.Vectors.{ring_held, rings_held}
 use Rattle.mesh_shapes.specs.Midway.Grouping.{areas_of, IsHome}
 use Rattle.mesh_shapes.specs.Midway.Holders.{PlacedEdge}
-use Rattle.mesh_shapes.proofs.Groups.{length_map}
 use Rattle.mesh_shapes.proofs.Shapes.{known_more}
 use Rattle.mesh_shapes.proofs.arrange.homes.Goals as goal
 
@@ -16,7 +16,7 @@ home-requires-clause-rows_known c = λ flat.
     let i = c.loop-i.i in
     let areas_are : length c.deref.result.now ≡ length (areas_of rs) = ap length (c.deref.ensures.value ∙ c.in_ok-areas.ensures) in
     let low : i < length c.deref.result.now =
-    omega (arith, areas_are, length_map (λ (r : Ring). double_area r.0) rs, length_map ring_held c.args.rings.now, c.loop-i-test.true) in
+    omega (arith, areas_are, length-map rs (λ (r : Ring). double_area r.0), length-map c.args.rings.now ring_held, c.loop-i-test.true) in
     let same : c.deref-in-loop-i.result.now ≡ c.deref.result.now = c.deref-in-loop-i.ensures.value ∙ sym c.deref.ensures.value in
     let hole = subst (λ (l : List ℤ). int_lt (pos 0) (get_or l i (pos 0)) ≡ false) same flat in
     subst (λ (es : List PlacedEdge). AreRows c.in_ok-rows.rows.marks.items c.in_ok-rows.rows.lists.items es)
