@@ -5,6 +5,7 @@ ghost use Rattle.mesh_grid.specs.Direction.{IsFresh};
 
 use mesh_join::arc::{ArcBuilder, ArcDirection, ArcOptions};
 use mesh_num::num::{Angle, IntNumber, IntVector, UnitIntVector};
+use mesh_toolbox::compared::{expect_equal, expect_that};
 use mesh_toolbox::edges::wide;
 use mesh_toolbox::plain::{Point, cross, dot};
 use mesh_toolbox::random::Random;
@@ -177,20 +178,22 @@ const ARCS_OF_I32: &[Arc] = &[
 
 #[test]
 fn arcs_of_i16(rt: HostRuntime) -> Result<(), Fail> {
-    for ((bits, precision), from, to, sense, count, last) in ARCS_OF_I16.iter().copied() {
+    for row in ARCS_OF_I16 {
+        let ((bits, precision), from, to, sense, count, last) = *row;
         let mut arcs = ArcBuilder::<i16>::new(rt.alloc(), options(bits, precision));
         let arc = arcs.build(of_i16(&rt, from), of_i16(&rt, to), sense)?;
-        assert_eq!(rt; told(arc), (count, last), "{from:?} to {to:?}");
+        expect_equal(&told(arc), &(count, last), &(from, to))?;
     }
     Ok(())
 }
 
 #[test]
 fn arcs_of_i32(rt: HostRuntime) -> Result<(), Fail> {
-    for ((bits, precision), from, to, sense, count, last) in ARCS_OF_I32.iter().copied() {
+    for row in ARCS_OF_I32 {
+        let ((bits, precision), from, to, sense, count, last) = *row;
         let mut arcs = ArcBuilder::<i32>::new(rt.alloc(), options(bits, precision));
         let arc = arcs.build(of_i32(&rt, from), of_i32(&rt, to), sense)?;
-        assert_eq!(rt; told(arc), (count, last), "{from:?} to {to:?}");
+        expect_equal(&told(arc), &(count, last), &(from, to))?;
     }
     Ok(())
 }
@@ -200,8 +203,7 @@ fn first_direction(rt: HostRuntime) -> Result<(), Fail> {
     let mut arcs = ArcBuilder::<i32>::new(rt.alloc(), ArcOptions::default());
     let arc = arcs.build(of_i32(&rt, (1, 0)), of_i32(&rt, (0, 1)), LEFT)?;
     let reach = arc.first().ok_or("no direction")?.scale(1024);
-    assert_eq!(rt; (reach.x, reach.y), (741, 707));
-    Ok(())
+    expect_equal(&(reach.x, reach.y), &(741, 707), &"the first direction")
 }
 
 /// Bits and precisions of options, and those that the builder has.
@@ -216,13 +218,19 @@ const CLAMPED: &[((u32, u32), (u32, u32))] = &[
 ];
 
 #[test]
-fn clamped_options(rt: HostRuntime) {
-    assert_eq!(rt; ArcOptions::default(), options(DEFAULT.0, DEFAULT.1));
-    for (asked, used) in CLAMPED.iter().copied() {
+fn clamped_options(rt: HostRuntime) -> Result<(), Fail> {
+    expect_equal(
+        &ArcOptions::default(),
+        &options(DEFAULT.0, DEFAULT.1),
+        &DEFAULT,
+    )?;
+    for row in CLAMPED {
+        let (asked, used) = *row;
         let arcs = ArcBuilder::<i16>::new(rt.alloc(), options(asked.0, asked.1));
-        assert_eq!(rt; arcs.options(), options(used.0, used.1), "{asked:?}");
-        assert!(rt; arcs.directions().is_empty(), "{asked:?}");
+        expect_equal(&arcs.options(), &options(used.0, used.1), &asked)?;
+        expect_that(arcs.directions().is_empty(), &asked)?;
     }
+    Ok(())
 }
 
 /// A value builds each arc as a new one does, whatever it built before.
@@ -230,26 +238,27 @@ fn clamped_options(rt: HostRuntime) {
 fn built_again(rt: HostRuntime) -> Result<(), Fail> {
     let fine = options(12_309_758, 32);
     let mut kept = ArcBuilder::<i32>::new(rt.alloc(), fine);
-    for (_, from, to, sense, _, _) in ARCS_OF_I32.iter().copied() {
+    for row in ARCS_OF_I32 {
+        let (_, from, to, sense, _, _) = *row;
         let (from, to) = (of_i32(&rt, from), of_i32(&rt, to));
         let mut fresh = ArcBuilder::<i32>::new(rt.alloc(), fine);
         let wanted = fresh.build(from, to, sense)?;
-        expect_alike(&rt, kept.build(from, to, sense)?, wanted);
-        expect_alike(&rt, kept.directions(), wanted);
-        expect_alike(&rt, kept.build(from, to, sense)?, wanted);
+        expect_alike(kept.build(from, to, sense)?, wanted)?;
+        expect_alike(kept.directions(), wanted)?;
+        expect_alike(kept.build(from, to, sense)?, wanted)?;
     }
     Ok(())
 }
 
 fn expect_alike<I: IntNumber>(
-    rt: &impl Abort,
     found: &[UnitIntVector<I>],
     wanted: &[UnitIntVector<I>],
-) {
-    assert_eq!(rt; found.len(), wanted.len());
+) -> Result<(), Fail> {
+    expect_equal(&found.len(), &wanted.len(), &"the length of an arc")?;
     for (found, wanted) in found.iter().zip(wanted) {
-        assert_eq!(rt; plain(*found), plain(*wanted));
+        expect_equal(&plain(*found), &plain(*wanted), &"an arc")?;
     }
+    Ok(())
 }
 
 /// Builds an arc, and once more, and tells how many directions it has. The first build may be refused memory. The second
@@ -271,16 +280,23 @@ fn built_twice<I: IntNumber>(
 }
 
 #[test]
-fn built_twice_at_both_widths(rt: HostRuntime) -> Result<(), Fail> {
-    for ((bits, precision), from, to, sense, count, _) in ARCS_OF_I16.iter().copied() {
+fn built_twice_of_i16(rt: HostRuntime) -> Result<(), Fail> {
+    for row in ARCS_OF_I16 {
+        let ((bits, precision), from, to, sense, count, _) = *row;
         let mut arcs = ArcBuilder::<i16>::new(rt.alloc(), options(bits, precision));
         let found = built_twice(&mut arcs, of_i16(&rt, from), of_i16(&rt, to), sense)?;
-        assert_eq!(rt; found, count, "{from:?} to {to:?}");
+        expect_equal(&found, &count, &(from, to))?;
     }
-    for ((bits, precision), from, to, sense, count, _) in ARCS_OF_I32.iter().copied() {
+    Ok(())
+}
+
+#[test]
+fn built_twice_of_i32(rt: HostRuntime) -> Result<(), Fail> {
+    for row in ARCS_OF_I32 {
+        let ((bits, precision), from, to, sense, count, _) = *row;
         let mut arcs = ArcBuilder::<i32>::new(rt.alloc(), options(bits, precision));
         let found = built_twice(&mut arcs, of_i32(&rt, from), of_i32(&rt, to), sense)?;
-        assert_eq!(rt; found, count, "{from:?} to {to:?}");
+        expect_equal(&found, &count, &(from, to))?;
     }
     Ok(())
 }
@@ -298,22 +314,21 @@ fn is_within(sense: ArcDirection, (sine, cosine): (i32, i32), v: Point, w: Point
 
 /// Each gap of the arc, and the one to its end, is within a step. None of the tests' arcs breaks off.
 fn expect_gaps<I: IntNumber>(
-    rt: &impl Abort,
     options: ArcOptions,
     sense: ArcDirection,
     (from, to): (UnitIntVector<I>, UnitIntVector<I>),
     arc: &[UnitIntVector<I>],
-) {
+) -> Result<(), Fail> {
     let bound = options.max_step.sin_cos();
     let mut last = plain(from);
     for direction in arc {
         let next = plain(*direction);
-        assert!(rt; is_within(sense, bound, last, next), "{last:?} to {next:?}");
-        assert!(rt; next != last, "{last:?} again");
+        let is_good = next != last && is_within(sense, bound, last, next);
+        expect_that(is_good, &(last, next))?;
         last = next;
     }
     let end = plain(to);
-    assert!(rt; is_within(sense, bound, last, end), "{last:?} to {end:?}");
+    expect_that(is_within(sense, bound, last, end), &(last, end))
 }
 
 /// A vector that is not 0.
@@ -335,9 +350,9 @@ fn fine_gaps(rt: HostRuntime) -> Result<(), Fail> {
             let (from, to) = (vector(&mut random), vector(&mut random));
             for sense in [LEFT, RIGHT] {
                 let ends = (of_i16(&rt, from), of_i16(&rt, to));
-                expect_gaps(&rt, fine, sense, ends, small.build(ends.0, ends.1, sense)?);
+                expect_gaps(fine, sense, ends, small.build(ends.0, ends.1, sense)?)?;
                 let ends = (of_i32(&rt, from), of_i32(&rt, to));
-                expect_gaps(&rt, fine, sense, ends, large.build(ends.0, ends.1, sense)?);
+                expect_gaps(fine, sense, ends, large.build(ends.0, ends.1, sense)?)?;
             }
         }
     }

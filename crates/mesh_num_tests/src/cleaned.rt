@@ -6,8 +6,8 @@ ghost use Rattle.mesh_plane.specs.Bounds.{IsSafe};
 
 use mesh_join::uniq_iter::{UniqueSegment, UniqueSegmentsIter};
 use mesh_num::num::IntPoint;
+use mesh_toolbox::compared::{expect_equal, expect_that};
 use std::alloc::{AllocError, Global};
-use std::process::Abort;
 use std::test::Fail;
 
 fn point(coordinates: &(u8, u8)) -> IntPoint<i32>
@@ -48,25 +48,28 @@ fn sections(
 }
 
 /// The contour, begun at any of its points, has `count` sections, each of which starts where the one before it ends.
-fn expect_loops(
-    rt: &impl Abort,
-    alloc: Global,
-    coordinates: &[(u8, u8)],
-    count: usize,
-) -> Result<(), AllocError> {
+fn expect_loops(alloc: Global, coordinates: &[(u8, u8)], count: usize) -> Result<(), Fail> {
     for start in 0..=coordinates.len() {
         let found = sections(alloc, coordinates, start)?;
-        assert_eq!(rt; found.len(), count, "{coordinates:?} from {start}");
-        if let Some(last) = found.last() {
-            let mut end = last.b;
-            for section in &found {
-                assert!(rt; section.a == end, "{coordinates:?} from {start}");
-                assert!(rt; section.a != section.b, "{coordinates:?} from {start}");
-                end = section.b;
-            }
-        }
+        expect_equal(&found.len(), &count, &(coordinates, start))?;
+        expect_that(is_loop(&found), &(coordinates, start))?;
     }
     Ok(())
+}
+
+/// Whether each section starts where the one before it ends, and ends elsewhere.
+fn is_loop(sections: &[UniqueSegment<i32>]) -> bool {
+    let Some(last) = sections.last() else {
+        return true;
+    };
+    let mut end = last.b;
+    for section in sections {
+        if section.a != end || section.a == section.b {
+            return false;
+        }
+        end = section.b;
+    }
+    true
 }
 
 const THERE_AND_BACK: &[(u8, u8)] = &[(0, 0), (5, 0), (10, 0), (5, 0)];
@@ -118,9 +121,10 @@ const CONTOURS: &[(&[(u8, u8)], usize)] = &[
 ];
 
 #[test]
-fn worked_contours(rt: HostRuntime) -> Result<(), AllocError> {
-    for (coordinates, count) in CONTOURS.iter().copied() {
-        expect_loops(&rt, rt.alloc(), coordinates, count)?;
+fn worked_contours(rt: HostRuntime) -> Result<(), Fail> {
+    for row in CONTOURS {
+        let (coordinates, count) = *row;
+        expect_loops(rt.alloc(), coordinates, count)?;
     }
     Ok(())
 }
@@ -128,9 +132,10 @@ fn worked_contours(rt: HostRuntime) -> Result<(), AllocError> {
 #[test]
 fn a_line_there_and_back(rt: HostRuntime) -> Result<(), Fail> {
     let found = sections(rt.alloc(), THERE_AND_BACK, 0)?;
-    assert_eq!(rt; found.len(), 2);
     let (near, far) = (IntPoint::new(0, 0), IntPoint::new(10, 0));
-    assert_eq!(rt; (found[0].a, found[0].b), (far, near));
-    assert_eq!(rt; (found[1].a, found[1].b), (near, far));
-    Ok(())
+    let [first, second] = found.as_slice() else {
+        return Err(Fail::new("not two sections"));
+    };
+    expect_equal(&(first.a, first.b), &(far, near), &"the first")?;
+    expect_equal(&(second.a, second.b), &(near, far), &"the second")
 }

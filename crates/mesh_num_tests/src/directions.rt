@@ -1,6 +1,8 @@
 //! Directions of vectors and their multiples, from outside the program.
 
 use mesh_num::num::{IntVector, UnitIntVector};
+use mesh_toolbox::compared::{expect_equal, expect_that};
+use mesh_toolbox::random::Random;
 use std::process::Abort;
 use std::test::Fail;
 
@@ -86,26 +88,26 @@ const DIRECTIONS_OF_I32: &[(i64, i64, i32, i32)] = &[
 
 #[test]
 fn directions_of_i16(rt: HostRuntime) -> Result<(), Fail> {
-    for (x, y, want_x, want_y) in DIRECTIONS_OF_I16.iter().copied() {
+    for row in DIRECTIONS_OF_I16 {
+        let (x, y, want_x, want_y) = *row;
         let direction = direction_of_i16(&rt, x, y).ok_or("no direction")?;
         let found = (direction.x(), direction.y(), direction.is_fresh());
-        assert_eq!(rt; found, (want_x, want_y, true), "{x}, {y}");
+        expect_equal(&found, &(want_x, want_y, true), row)?;
     }
     assert!(rt; direction_of_i16(&rt, 0, 0).is_none());
-    assert_eq!(rt; UnitIntVector::<i16>::DENOMINATOR, 16384);
-    Ok(())
+    expect_equal(&UnitIntVector::<i16>::DENOMINATOR, &16384, &"the unit")
 }
 
 #[test]
 fn directions_of_i32(rt: HostRuntime) -> Result<(), Fail> {
-    for (x, y, want_x, want_y) in DIRECTIONS_OF_I32.iter().copied() {
+    for row in DIRECTIONS_OF_I32 {
+        let (x, y, want_x, want_y) = *row;
         let direction = direction_of_i32(&rt, x, y).ok_or("no direction")?;
         let found = (direction.x(), direction.y(), direction.is_fresh());
-        assert_eq!(rt; found, (want_x, want_y, true), "{x}, {y}");
+        expect_equal(&found, &(want_x, want_y, true), row)?;
     }
     assert!(rt; direction_of_i32(&rt, 0, 0).is_none());
-    assert_eq!(rt; UnitIntVector::<i32>::DENOMINATOR, 1073741824);
-    Ok(())
+    expect_equal(&UnitIntVector::<i32>::DENOMINATOR, &1073741824, &"the unit")
 }
 
 // The size of a direction's component for a component of this size, in a vector with this squared length, searched bit by
@@ -152,12 +154,9 @@ fn compare_with_search_i16(rt: &impl Abort, x: i32, y: i32) -> Result<(), Fail> 
         u128::from(found_x.unsigned_abs()),
         u128::from(found_y.unsigned_abs()),
     );
-    assert_eq!(rt; found, searched_sizes(16384, x, y), "{x}, {y}");
-    assert!(rt;
-        has_sign_of(x, found_x) && has_sign_of(y, found_y),
-        "{x}, {y}"
-    );
-    Ok(())
+    expect_equal(&found, &searched_sizes(16384, x, y), &(x, y))?;
+    let are_signs = has_sign_of(x, found_x) && has_sign_of(y, found_y);
+    expect_that(are_signs, &(x, y))
 }
 
 // Compares a direction for `i32` with the search.
@@ -169,12 +168,9 @@ fn compare_with_search_i32(rt: &impl Abort, x: i64, y: i64) -> Result<(), Fail> 
         u128::from(found_x.unsigned_abs()),
         u128::from(found_y.unsigned_abs()),
     );
-    assert_eq!(rt; found, searched_sizes(1073741824, x, y), "{x}, {y}");
-    assert!(rt;
-        has_sign_of(x, found_x) && has_sign_of(y, found_y),
-        "{x}, {y}"
-    );
-    Ok(())
+    expect_equal(&found, &searched_sizes(1073741824, x, y), &(x, y))?;
+    let are_signs = has_sign_of(x, found_x) && has_sign_of(y, found_y);
+    expect_that(are_signs, &(x, y))
 }
 
 #[test]
@@ -186,27 +182,20 @@ fn directions_by_one_root_are_those_of_the_search(rt: HostRuntime) -> Result<(),
             }
         }
     }
-    for (x, y) in [(1, 30000), (32767, 32766), (32767, 1)] {
-        compare_with_search_i16(&rt, x, y)?;
-    }
-    Ok(())
+    compare_with_search_i16(&rt, 1, 30000)?;
+    compare_with_search_i16(&rt, 32767, 32766)?;
+    compare_with_search_i16(&rt, 32767, 1)
 }
 
 // Vectors for `i32` that look random, of each length from one bit to 31.
 #[test]
 fn directions_for_i32_are_those_of_the_search(rt: HostRuntime) -> Result<(), Fail> {
-    let mut state: u64 = 1;
+    let mut random = Random::new(1);
     for round in 0..20_000u32 {
-        state = state
-            .wrapping_mul(6364136223846793005)
-            .wrapping_add(1442695040888963407);
-        let x = (state >> 33) >> (round % 31);
-        state = state
-            .wrapping_mul(6364136223846793005)
-            .wrapping_add(1442695040888963407);
-        let y = (state >> 33) >> (round / 31 % 31);
+        let x = random.below(2_147_483_648) >> (round % 31);
+        let y = random.below(2_147_483_648) >> (round / 31 % 31);
         if x != 0 || y != 0 {
-            compare_with_search_i32(&rt, x as i64, -(y as i64))?;
+            compare_with_search_i32(&rt, i64::from(x), i64::from(y).wrapping_neg())?;
         }
     }
     Ok(())
@@ -237,28 +226,22 @@ const SCALED_OF_I32: &[(i64, i64, i32, i64, i64)] = &[
 
 #[test]
 fn scaled_directions_of_i16(rt: HostRuntime) -> Result<(), Fail> {
-    for (x, y, radius, want_x, want_y) in SCALED_OF_I16.iter().copied() {
+    for row in SCALED_OF_I16 {
+        let (x, y, radius, want_x, want_y) = *row;
         let direction = direction_of_i16(&rt, x, y).ok_or("no direction")?;
         let vector = direction.clone()?.scale(radius);
-        assert_eq!(rt;
-            (vector.x, vector.y),
-            (want_x, want_y),
-            "{x}, {y} by {radius}"
-        );
+        expect_equal(&(vector.x, vector.y), &(want_x, want_y), row)?;
     }
     Ok(())
 }
 
 #[test]
 fn scaled_directions_of_i32(rt: HostRuntime) -> Result<(), Fail> {
-    for (x, y, radius, want_x, want_y) in SCALED_OF_I32.iter().copied() {
+    for row in SCALED_OF_I32 {
+        let (x, y, radius, want_x, want_y) = *row;
         let direction = direction_of_i32(&rt, x, y).ok_or("no direction")?;
         let vector = direction.scale(radius);
-        assert_eq!(rt;
-            (vector.x, vector.y),
-            (want_x, want_y),
-            "{x}, {y} by {radius}"
-        );
+        expect_equal(&(vector.x, vector.y), &(want_x, want_y), row)?;
     }
     Ok(())
 }

@@ -4,6 +4,7 @@ use crate::pairs::expect_pairs;
 use mesh_num::num::convert::{is_less, is_wide_less, wide_size};
 use mesh_num::num::quotient::mul_div;
 use mesh_num::num::{Angle, IntNumber, WideUnsigned};
+use mesh_toolbox::compared::expect_equal;
 use std::test::Fail;
 
 #[test]
@@ -40,12 +41,13 @@ fn steps_between_widths() -> Result<(), Fail> {
 }
 
 #[test]
-fn steps_to_unsigned_numbers(rt: HostRuntime) {
-    assert_eq!(rt; i16::uint_to_u128(4294967295), 4294967295);
-    assert_eq!(rt;
-        i32::uint_to_u128(18446744073709551615),
-        18446744073709551615
-    );
+fn steps_to_unsigned_numbers() -> Result<(), Fail> {
+    expect_equal(&i16::uint_to_u128(4294967295), &4294967295, &"of i16")?;
+    expect_equal(
+        &i32::uint_to_u128(18446744073709551615),
+        &18446744073709551615,
+        &"of i32",
+    )
 }
 
 #[test]

@@ -2,6 +2,7 @@
 
 use crate::pairs::expect_pairs;
 use mesh_num::num::{IntPoint, IntRect, IntVector};
+use mesh_toolbox::compared::{expect_equal, expect_that};
 use mesh_toolbox::lists::path;
 use std::test::Fail;
 
@@ -34,15 +35,14 @@ fn products_of_i32() -> Result<(), Fail> {
 const IN_ORDER: &[(i16, i16)] = &[(-1, 9), (0, -5), (0, 3), (2, 0)];
 
 #[test]
-fn points_are_ordered_by_x_then_y(rt: HostRuntime) -> Result<(), Fail> {
+fn points_are_ordered_by_x_then_y() -> Result<(), Fail> {
     let mut last = IntPoint::<i16>::new(-1, 8);
-    for (x, y) in IN_ORDER.iter().copied() {
-        let point = IntPoint::new(x, y);
-        assert!(rt; last < point, "{x}, {y}");
+    for (x, y) in IN_ORDER {
+        let point = IntPoint::new(*x, *y);
+        expect_that(last < point, &point)?;
         last = point.clone()?;
     }
-    assert_eq!(rt; last, IntPoint { x: 2, y: 0 });
-    Ok(())
+    expect_equal(&last, &IntPoint { x: 2, y: 0 }, &"the last")
 }
 
 #[test]
@@ -73,17 +73,24 @@ const RANGES: &[(i16, i16, i16, i16, bool)] = &[
 const SIZES: &[(i32, bool)] = &[(1073741823, true), (1073741824, false), (2147483647, false)];
 
 #[test]
-fn safe_ranges(rt: HostRuntime) {
-    for (min_x, max_x, min_y, max_y, want) in RANGES.iter().copied() {
+fn safe_ranges_of_i16() -> Result<(), Fail> {
+    for row in RANGES {
+        let (min_x, max_x, min_y, max_y, want) = *row;
         let rect = IntRect::<i16> {
             min_x,
             max_x,
             min_y,
             max_y,
         };
-        assert_eq!(rt; rect.is_in_safe_range(), want, "{rect:?}");
+        expect_equal(&rect.is_in_safe_range(), &want, &rect)?;
     }
-    for (most, want) in SIZES.iter().copied() {
+    Ok(())
+}
+
+#[test]
+fn safe_ranges_of_i32() -> Result<(), Fail> {
+    for row in SIZES {
+        let (most, want) = *row;
         let least = most.wrapping_neg();
         let rect = IntRect::<i32> {
             min_x: least,
@@ -91,6 +98,7 @@ fn safe_ranges(rt: HostRuntime) {
             min_y: least,
             max_y: most,
         };
-        assert_eq!(rt; rect.is_in_safe_range(), want, "{rect:?}");
+        expect_equal(&rect.is_in_safe_range(), &want, &rect)?;
     }
+    Ok(())
 }

@@ -15,45 +15,47 @@ use crate::sines::near_eighths::NEAR_EIGHTHS;
 use crate::sines::second_quarter::SECOND_QUARTER;
 use crate::sines::third_quarter::THIRD_QUARTER;
 use mesh_num::num::Angle;
-use std::process::Abort;
+use mesh_toolbox::compared::expect_equal;
+use std::test::Fail;
 
 /// The bits of an angle, its sine and its cosine.
 pub type Row = (u32, i32, i32);
 
-fn expect_rows(rt: &impl Abort, rows: &[Row]) {
+fn expect_rows(rows: &[Row]) -> Result<(), Fail> {
     for (bits, sine, cosine) in rows {
         let found = Angle::from_bits(*bits).sin_cos();
-        assert_eq!(rt; found, (*sine, *cosine), "{bits}");
+        expect_equal(&found, &(*sine, *cosine), bits)?;
     }
+    Ok(())
 }
 
 // One table for each test: the checker reads a table whole where it stands.
 #[test]
-fn at_the_eighths(rt: HostRuntime) {
-    expect_rows(&rt, &EIGHTHS);
+fn at_the_eighths() -> Result<(), Fail> {
+    expect_rows(&EIGHTHS)
 }
 
 #[test]
-fn in_the_first_quarter(rt: HostRuntime) {
-    expect_rows(&rt, &FIRST_QUARTER);
+fn in_the_first_quarter() -> Result<(), Fail> {
+    expect_rows(&FIRST_QUARTER)
 }
 
 #[test]
-fn in_the_second_quarter(rt: HostRuntime) {
-    expect_rows(&rt, &SECOND_QUARTER);
+fn in_the_second_quarter() -> Result<(), Fail> {
+    expect_rows(&SECOND_QUARTER)
 }
 
 #[test]
-fn in_the_third_quarter(rt: HostRuntime) {
-    expect_rows(&rt, &THIRD_QUARTER);
+fn in_the_third_quarter() -> Result<(), Fail> {
+    expect_rows(&THIRD_QUARTER)
 }
 
 #[test]
-fn in_the_fourth_quarter(rt: HostRuntime) {
-    expect_rows(&rt, &FOURTH_QUARTER);
+fn in_the_fourth_quarter() -> Result<(), Fail> {
+    expect_rows(&FOURTH_QUARTER)
 }
 
 #[test]
-fn beside_the_eighths(rt: HostRuntime) {
-    expect_rows(&rt, &NEAR_EIGHTHS);
+fn beside_the_eighths() -> Result<(), Fail> {
+    expect_rows(&NEAR_EIGHTHS)
 }

@@ -5,8 +5,32 @@ use mesh_num::num::{IntNumber, IntPoint};
 use mesh_num::shape::buffer::{FlatContoursBuffer, IntShapes};
 use mesh_num::shape::resource::IntShapeResource;
 use std::alloc::{AllocError, Global};
+use std::fmt::Debug;
 use std::ops::Range;
 use std::test::Fail;
+
+// The text of a failed `assert_eq!` is proved anew wherever one stands, which takes longer than most tests: these two are
+// proved once.
+
+/// Fails where two values differ, and tells the case.
+pub fn expect_equal<T: PartialEq + Debug>(
+    found: &T,
+    wanted: &T,
+    case: &impl Debug,
+) -> Result<(), Fail> {
+    if *found == *wanted {
+        return Ok(());
+    }
+    Err(Fail::new(format_args!("{found:?} and not {wanted:?} at {case:?}")))
+}
+
+/// Fails where something does not hold, and tells the case.
+pub fn expect_that(holds: bool, case: &impl Debug) -> Result<(), Fail> {
+    if holds {
+        return Ok(());
+    }
+    Err(Fail::new(format_args!("not so at {case:?}")))
+}
 
 /// Whether the contour has these points.
 pub fn is_contour<I: IntNumber>(found: &[IntPoint<I>], wanted: &[(I, I)]) -> bool {
