@@ -1,6 +1,7 @@
 pub mod Adding
 pub mod Apart
 pub mod Drawn
+pub mod ManyPaths
 pub mod Padding
 pub mod PaddingBounds
 pub mod ProperEdges
