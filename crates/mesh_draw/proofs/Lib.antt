@@ -5,6 +5,7 @@ pub mod ManyPaths
 pub mod Padding
 pub mod PaddingBounds
 pub mod ProperEdges
+pub mod Quarters
 pub mod Resolving
 pub mod Staying
 pub mod Walks
