@@ -1,6 +1,7 @@
 -- Lemmas over points and lists: edges are added to segments one after another.
-use Rattle.std.proofs.Common.{◌≡◌, List, ◌++◌, length, refl, Result, Ok, Err, [], sym, ap, ◌∙◌, append_assoc, ℕ, ◌+◌, ◌<◌, ◌∷◌, take, get_or, ◌≤◌, take_all}
-use Rattle.std.proofs.lemmas.List.{drop_at, take_at, map-append, append-nil, map_more}
+use Rattle.std.proofs.Common.{◌≡◌, List, ◌++◌, length, refl, Result, Ok, Err, [], sym, ap, ◌∙◌, append_assoc, ℕ, ◌+◌, ◌<◌, ◌∷◌, take, drop, get_or, ◌≤◌, take_all}
+use Rattle.std.proofs.Math.Seq.{take-append_seam}
+use Rattle.std.proofs.lemmas.List.{drop_at, take_at, take-append-drop, map-append, append-nil, map_more}
 use Rattle.mesh_num.specs.Segments.{SignedEdge, segments_of}
 use Rattle.mesh_draw.specs.Adding.{added, Adds, added_edges, Keeps}
 use Rattle.std.specs.List.Sorted.{IsPermutation}
@@ -104,3 +105,12 @@ adds_more unit old mid new es gs h k = record {
   safe = All-append (λ (e : Edge). IsSafe unit e.0 × IsSafe unit e.1) es gs h.safe k.safe;
   added = added_more Positive old mid new es gs h.added k.added;
 }
+
+-- what a vector began with it begins with still
+pub keeps_through : (old mid new : List SignedEdge) → Keeps old mid → Keeps mid new → Keeps old new
+keeps_through old mid new h k =
+    let e : mid ≡ old ++ drop (length old) mid = sym (take-append-drop (length old) mid) ∙ ap (λ l. l ++ drop (length old) mid) h in
+    let f : new ≡ mid ++ drop (length mid) new = sym (take-append-drop (length mid) new) ∙ ap (λ l. l ++ drop (length mid) new) k in
+    let a : new ≡ old ++ (drop (length old) mid ++ drop (length mid) new) =
+    f ∙ (ap (λ l. l ++ drop (length mid) new) e ∙ append_assoc old (drop (length old) mid) (drop (length mid) new)) in
+    ap (take (length old)) a ∙ take-append_seam old (drop (length old) mid ++ drop (length mid) new)

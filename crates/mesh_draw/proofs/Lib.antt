@@ -1,9 +1,11 @@
 pub mod Adding
 pub mod Apart
 pub mod Drawn
+pub mod ManyPaths
 pub mod Padding
 pub mod PaddingBounds
 pub mod ProperEdges
+pub mod Quarters
 pub mod Resolving
 pub mod Staying
 pub mod Walks

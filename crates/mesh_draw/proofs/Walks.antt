@@ -1,9 +1,12 @@
--- Lemmas over lists: neighbouring pairs, and the last.
-use Rattle.std.proofs.Common.{◌≡◌, List, [], ◌∷◌, arith}
+-- Lemmas over lists: neighbouring pairs, routes, and the last.
+use Rattle.std.proofs.Common.{◌≡◌, ◌+◌, List, [], ◌∷◌, ◌++◌, length, append_assoc, arith}
 use Rattle.std.specs.Prelude.{ℤ, ◌+ℤ◌, ◌-ℤ◌}
-use Rattle.std.specs.List.{All}
+use Rattle.std.specs.List.{All, flat_map}
+use Rattle.std.specs.List.Sorted.{IsPermutation}
 use Rattle.std.proofs.lemmas.List.Elements.{All-nil, All-cons, All-head, All-tail}
-use Rattle.mesh_plane.specs.Winding.{sum_of}
+use Rattle.std.proofs.lemmas.List.Sorted.{IsPermutation-refl, IsPermutation-trans, IsPermutation-append}
+use Rattle.mesh_plane.specs.Winding.{route, sum_of}
+use Rattle.mesh_plane.proofs.ClosedLists.{woven, regrouped}
 use Rattle.mesh_plane.proofs.Whole.{linear}
 use Rattle.mesh_draw.specs.Walks.{pairs, last_of}
 
@@ -25,3 +28,24 @@ pairs_all {A} P (x ∷ y ∷ ys) h =
 pub last_all : {A : Type 0} (P : A → Type 0) (x : A) (xs : List A) → All P (x ∷ xs) → P (last_of x xs)
 last_all P x [] h = All-head P x [] h
 last_all P x (y ∷ ys) h = last_all P y ys (All-tail P x (y ∷ ys) h)
+
+-- a route has a pair for each point between its ends, and one more
+pub route_length : {A : Type 0} (a : A) (xs : List A) (z : A) → length (route a xs z) ≡ length xs + 1
+route_length a [] z = omega arith
+route_length a (x ∷ xs) z = omega (arith, route_length x xs z)
+
+-- a walk that ends in something of its own
+pub woven_through : {A B : Type 0} (top : A → List B) (corner : A × A → List B) (step : A → A → List B) (final : A × A → List B) →
+    ((p x : A) → IsPermutation (step p x) (top x ++ corner (p, x))) → (p : A) (xs : List A) (z : A) →
+    IsPermutation (woven step final p xs z) (flat_map top xs ++ (flat_map corner (pairs (p ∷ xs)) ++ final (last_of p xs, z)))
+woven_through top corner step final mixed p [] z = IsPermutation-refl (final (p, z))
+woven_through top corner step final mixed p (x ∷ xs) z =
+    let rest = flat_map corner (pairs (x ∷ xs)) ++ final (last_of x xs, z) in
+    let whole =
+    IsPermutation-trans (step p x ++ woven step final x xs z)
+    ((top x ++ corner (p, x)) ++ (flat_map top xs ++ rest))
+    ((top x ++ flat_map top xs) ++ (corner (p, x) ++ rest))
+    (IsPermutation-append (step p x) (top x ++ corner (p, x)) (woven step final x xs z) (flat_map top xs ++ rest)
+    (mixed p x) (woven_through top corner step final mixed x xs z))
+    (regrouped (top x) (corner (p, x)) (flat_map top xs) rest) in
+    rw (append_assoc (corner (p, x)) (flat_map corner (pairs (x ∷ xs))) (final (last_of x xs, z))) whole

@@ -1,5 +1,6 @@
 pub mod Adding
 pub mod Drawing
+pub mod Midway
 pub mod Padding
 pub mod Pieces
 pub mod Radii

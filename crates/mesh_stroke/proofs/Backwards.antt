@@ -2,7 +2,6 @@
 use Rattle.std.proofs.Common.{◌≡◌, List, [], ◌∷◌, ◌++◌, refl, sym, ◌∙◌, ap, append-nil, arith}
 use Rattle.std.specs.Prelude.{Bool, true, false, cond, not, reverse, ℤ}
 use Rattle.std.proofs.lemmas.List.{reverse-append}
-use Rattle.std.proofs.lemmas.List.Elements.{filter-append}
 use Rattle.mesh_plane.specs.Plane.{Point, Edge}
 use Rattle.mesh_plane.specs.Winding.{route, boundary, same_point, sum_of}
 use Rattle.mesh_plane.proofs.ClosedLists.{route_append, boundary_rotated}
@@ -12,6 +11,7 @@ use Rattle.mesh_plane.proofs.Whole.{linear}
 use Rattle.mesh_num.specs.Segments.{proper_edges}
 use Rattle.mesh_cuts.specs.Split.{back}
 use Rattle.mesh_draw.specs.Walks.{pairs, last_of}
+use Rattle.mesh_draw.proofs.ProperEdges.{proper_append}
 use Rattle.mesh_stroke.specs.Paths.{neighbours}
 
 -- a pair read backwards, each of both turned by `k`
@@ -44,10 +44,6 @@ pairs_backwards k (x ∷ []) = refl
 pairs_backwards k (x ∷ y ∷ ys) =
     pairs_two (backwards k ys) (k y) (k x) ∙ ap (λ l. l ++ ((k y, k x) ∷ [])) (pairs_backwards k (y ∷ ys))
 
--- the edges whose ends differ
-pub proper_append : (es gs : List Edge) → proper_edges (es ++ gs) ≡ proper_edges es ++ proper_edges gs
-proper_append es gs = filter-append (λ (e : Edge). not (same_point e.0 e.1)) es gs
-
 same_swapped : (p q : Point) → same_point q p ≡ same_point p q
 same_swapped p q = by (same_point q p) (same_point p q) refl refl
   where
@@ -57,6 +53,7 @@ same_swapped p q = by (same_point q p) (same_point p q) refl refl
     by true false h g = sym ((decides_point p q).1 (sym ((decides_point q p).0 h))) ∙ g
     by false true h g = sym h ∙ (decides_point q p).1 (sym ((decides_point p q).0 g))
 
+-- the edges whose ends differ
 pub proper_backwards : (es : List Edge) → proper_edges (backwards back es) ≡ backwards back (proper_edges es)
 proper_backwards [] = refl
 proper_backwards (e ∷ es) =

@@ -1,19 +1,20 @@
 -- Lemmas over points and lists: where there is room for all that is drawn, there is room for each step of the builder's
 -- walk.
 use Rattle.std.proofs.Common.{◌≡◌, ℕ, ◌+◌, ◌≤◌, List, [], ◌∷◌, ◌++◌, length, sym, subst, ap, arith, length-append}
-use Rattle.std.specs.Prelude.{Bool, true, false, ◌&&◌, IsTrue}
+use Rattle.std.specs.Prelude.{Bool, true, false}
+use Rattle.std.proofs.lemmas.Bool.{and_parts}
 use Rattle.std.proofs.lemmas.List.{length-map}
 use Rattle.std.proofs.lemmas.List.Sorted.{length_permutation}
 use Rattle.mesh_plane.specs.Plane.{Edge}
 use Rattle.mesh_num.specs.Segments.{SignedEdge, edge_of, edges_of, segments_of}
 use Rattle.mesh_cap.specs.Caps.{draws_directly, DrawsDirectly}
-use Rattle.mesh_stroke.specs.Building.{Section, section_of, own_edge, HasDirectCaps}
+use Rattle.mesh_stroke.specs.Building.{HasDirectCaps}
+use Rattle.mesh_stroke.specs.Building.{Section, section_of, own_edge}
 use Rattle.mesh_stroke.specs.Strokes.{side_edges, corner_edges, both_caps, drawn_edges}
 use Rattle.mesh_stroke.specs.Styles.{StrokeStyle}
 use Rattle.mesh_stroke.proofs.Fitting.{first_edges_fit}
 use Rattle.mesh_stroke.proofs.BuilderWalk.{step_edges, ends_by, to_come, walk_edges, walk_permutes}
 use Rattle.mesh_stroke.proofs.Standing.{Stands}
-use Rattle.mesh_stroke.proofs.StrokeCount.{left_true, right_true}
 
 -- ---- caps
 
@@ -21,10 +22,7 @@ use Rattle.mesh_stroke.proofs.StrokeCount.{left_true, right_true}
 pub direct_caps : (style : StrokeStyle) (closed : Bool) → closed ≡ false → HasDirectCaps style closed
     → DrawsDirectly style.start × DrawsDirectly style.end
 direct_caps style closed is_open h =
-    let both : IsTrue (draws_directly style.start && draws_directly style.end) = rw is_open at h in (
-      left_true (draws_directly style.start) (draws_directly style.end) both,
-      right_true (draws_directly style.start) (draws_directly style.end) both,
-    )
+    and_parts (draws_directly style.start) (draws_directly style.end) (rw is_open at h)
 
 -- ---- the walk
 

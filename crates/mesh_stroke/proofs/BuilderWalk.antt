@@ -1,17 +1,15 @@
 -- Lemmas over points and lists: what the builder's walk along the edges of a path adds.
-use Rattle.std.proofs.Common.{◌≡◌, ◌≢◌, ℕ, List, [], ◌∷◌, ◌++◌, refl, sym, subst, ◌∙◌, ap, append_assoc, append-nil, length, take, drop, arith}
+use Rattle.std.proofs.Common.{◌≡◌, ◌≢◌, ℕ, List, [], ◌∷◌, ◌++◌, refl, sym, subst, ◌∙◌, ap, append_assoc, append-nil, arith}
 use Rattle.std.specs.Prelude.{Bool, true, false, not, pos, ◌≤ℤ◌, unsigned_abs, IsTrue}
 use Rattle.std.proofs.lemmas.Int.{ints}
 use Rattle.std.specs.List.{All, flat_map}
 use Rattle.std.specs.List.Sorted.{IsPermutation}
-use Rattle.std.proofs.Math.Seq.{take-append_seam}
 use Rattle.std.proofs.lemmas.Grind.{flat_map-append}
-use Rattle.std.proofs.lemmas.List.{take-append-drop}
-use Rattle.std.proofs.lemmas.List.Elements.{All-nil, All-head, All-tail, All-filter, filter-append}
-use Rattle.std.proofs.lemmas.List.Sorted.{IsPermutation-refl, IsPermutation-trans, IsPermutation-append, IsPermutation-append_right, IsPermutation-append_comm}
+use Rattle.std.proofs.lemmas.List.Elements.{All-nil, All-head, All-tail, All-filter}
+use Rattle.std.proofs.lemmas.List.Sorted.{IsPermutation-refl, IsPermutation-append_right, IsPermutation-append_comm}
 use Rattle.mesh_plane.specs.Plane.{Point, Edge}
 use Rattle.mesh_plane.specs.Winding.{route, same_point}
-use Rattle.mesh_plane.proofs.ClosedLists.{woven, regrouped}
+use Rattle.mesh_plane.proofs.ClosedLists.{woven}
 use Rattle.mesh_num.specs.Segments.{SignedEdge, segments_of, edges_of, proper_edges, IsSubject}
 use Rattle.mesh_num.proofs.Subjects.{segments_of_subjects}
 use Rattle.mesh_num.proofs.SegmentLists.{edges_of_segments, segments_of-append}
@@ -20,9 +18,11 @@ use Rattle.mesh_join.specs.Joins.{join_padding}
 use Rattle.mesh_join.proofs.Joins.{padding_covers}
 use Rattle.mesh_cap.specs.Caps.{cap_padding}
 use Rattle.mesh_draw.proofs.Padding.{safe_within_less}
+use Rattle.mesh_draw.proofs.ProperEdges.{proper_append, proper_flat_map}
 use Rattle.mesh_draw.specs.Adding.{Adds}
 use Rattle.mesh_stroke.specs.Building.{IsStrokable}
 use Rattle.mesh_draw.specs.Walks.{pairs, last_of}
+use Rattle.mesh_draw.proofs.Walks.{woven_through}
 use Rattle.mesh_stroke.specs.Paths.{neighbours, path_edges}
 use Rattle.mesh_stroke.specs.Styles.{StrokeStyle, stroke_padding}
 use Rattle.mesh_stroke.specs.Strokes.{Corner, side_edges, corner_edges, both_caps, drawn_edges}
@@ -30,39 +30,15 @@ use Rattle.mesh_stroke.specs.Building.{Section, section_of, own_edge, IsMade, Is
 use Rattle.mesh_stroke.proofs.Chains.{neighbours_all, path_chain}
 use Rattle.mesh_stroke.proofs.Reach.{join_covered, start_covered, end_covered, radius_covered, cap_padding_least}
 
--- a walk that ends in something of its own
-pub woven_through : {A B : Type 0} (top : A → List B) (corner : A × A → List B) (step : A → A → List B) (final : A × A → List B) →
-    ((p x : A) → IsPermutation (step p x) (top x ++ corner (p, x))) → (p : A) (xs : List A) (z : A) →
-    IsPermutation (woven step final p xs z) (flat_map top xs ++ (flat_map corner (pairs (p ∷ xs)) ++ final (last_of p xs, z)))
-woven_through top corner step final mixed p [] z = IsPermutation-refl (final (p, z))
-woven_through top corner step final mixed p (x ∷ xs) z =
-    let rest = flat_map corner (pairs (x ∷ xs)) ++ final (last_of x xs, z) in
-    let whole =
-    IsPermutation-trans (step p x ++ woven step final x xs z)
-    ((top x ++ corner (p, x)) ++ (flat_map top xs ++ rest))
-    ((top x ++ flat_map top xs) ++ (corner (p, x) ++ rest))
-    (IsPermutation-append (step p x) (top x ++ corner (p, x)) (woven step final x xs z) (flat_map top xs ++ rest)
-    (mixed p x) (woven_through top corner step final mixed x xs z))
-    (regrouped (top x) (corner (p, x)) (flat_map top xs) rest) in
-    rw (append_assoc (corner (p, x)) (flat_map corner (pairs (x ∷ xs))) (final (last_of x xs, z))) whole
-
 route_split : {A : Type 0} (x : A) (xs : List A) (z : A) → route x xs z ≡ pairs (x ∷ xs) ++ (last_of x xs, z) ∷ []
 route_split x [] z = refl
 route_split x (y ∷ ys) z = ap (λ (l : List _). (x, y) ∷ l) (route_split y ys z)
-
-without_parts : {A : Type 0} (g : A → List Edge) (xs : List A) → proper_edges (flat_map g xs) ≡ flat_map (λ x. proper_edges (g x)) xs
-without_parts g [] = refl
-without_parts g (x ∷ xs) =
-    filter-append (λ (e : Edge). not (same_point e.0 e.1)) (g x) (flat_map g xs) ∙ ap (λ l. proper_edges (g x) ++ l) (without_parts g xs)
-
-without_both : (es gs : List Edge) → proper_edges (es ++ gs) ≡ proper_edges es ++ proper_edges gs
-without_both es gs = filter-append (λ (e : Edge). not (same_point e.0 e.1)) es gs
 
 without_woven : {A : Type 0} (step : A → A → List Edge) (final : A × A → List Edge) (p : A) (xs : List A) (z : A) →
     proper_edges (woven step final p xs z) ≡ woven (λ q n. proper_edges (step q n)) (λ c. proper_edges (final c)) p xs z
 without_woven step final p [] z = refl
 without_woven step final p (x ∷ xs) z =
-    without_both (step p x) (woven step final x xs z) ∙ ap (λ l. proper_edges (step p x) ++ l) (without_woven step final x xs z)
+    proper_append (step p x) (woven step final x xs z) ∙ ap (λ l. proper_edges (step p x) ++ l) (without_woven step final x xs z)
 
 module _ (unit : ℕ) (style : StrokeStyle) (closed : Bool) where
   abbrev sides : Edge → List Edge
@@ -110,19 +86,19 @@ module _ (unit : ℕ) (style : StrokeStyle) (closed : Bool) where
       let step : Edge → Edge → List Edge = λ q n. proper_edges (step_edges q n) in
       let final : Corner → List Edge = λ c. proper_edges (end_edges c) in
       let mixed : (q n : Edge) → IsPermutation (step q n) (top n ++ corner (q, n)) =
-      λ q n. rw (without_both (at (q, n)) (sides n)) (IsPermutation-append_comm (corner (q, n)) (top n)) in
+      λ q n. rw (proper_append (at (q, n)) (sides n)) (IsPermutation-append_comm (corner (q, n)) (top n)) in
       let rest : IsPermutation (top e ++ woven step final e es e) (top e ++ (flat_map top es ++ (flat_map corner (pairs (e ∷ es)) ++ final (last_of e es, e)))) =
       IsPermutation-append_right (top e) (woven step final e es e) (flat_map top es ++ (flat_map corner (pairs (e ∷ es)) ++ final (last_of e es, e)))
       (woven_through top corner step final mixed e es e) in
       let from : edges_of (segments_of (walk_edges (e ∷ es))) ≡ top e ++ woven step final e es e =
-      edges_of_segments (walk_edges (e ∷ es)) ∙ (without_both (sides e) (to_come e es e) ∙ ap (λ l. top e ++ l) (without_woven step_edges end_edges e es e)) in
+      edges_of_segments (walk_edges (e ∷ es)) ∙ (proper_append (sides e) (to_come e es e) ∙ ap (λ l. top e ++ l) (without_woven step_edges end_edges e es e)) in
       let to : proper_edges (flat_map sides (e ∷ es) ++ (flat_map at (neighbours closed (e ∷ es)) ++ both_caps unit style.radius style.start style.end closed e (last_of e es)))
       ≡ top e ++ (flat_map top es ++ (flat_map corner (pairs (e ∷ es)) ++ final (last_of e es, e))) =
       ap (λ l. proper_edges (flat_map sides (e ∷ es) ++ l)) (sym (tail_is closed e es))
-      ∙ (without_both (flat_map sides (e ∷ es)) (flat_map at (pairs (e ∷ es)) ++ end_edges (last_of e es, e))
-      ∙ (ap (λ l. proper_edges (flat_map sides (e ∷ es)) ++ l) (without_both (flat_map at (pairs (e ∷ es))) (end_edges (last_of e es, e)))
-      ∙ (ap (λ l. proper_edges (flat_map sides (e ∷ es)) ++ (l ++ final (last_of e es, e))) (without_parts at (pairs (e ∷ es)))
-      ∙ (ap (λ l. l ++ (flat_map corner (pairs (e ∷ es)) ++ final (last_of e es, e))) (without_parts sides (e ∷ es))
+      ∙ (proper_append (flat_map sides (e ∷ es)) (flat_map at (pairs (e ∷ es)) ++ end_edges (last_of e es, e))
+      ∙ (ap (λ l. proper_edges (flat_map sides (e ∷ es)) ++ l) (proper_append (flat_map at (pairs (e ∷ es))) (end_edges (last_of e es, e)))
+      ∙ (ap (λ l. proper_edges (flat_map sides (e ∷ es)) ++ (l ++ final (last_of e es, e))) (proper_flat_map at (pairs (e ∷ es)))
+      ∙ (ap (λ l. l ++ (flat_map corner (pairs (e ∷ es)) ++ final (last_of e es, e))) (proper_flat_map sides (e ∷ es))
       ∙ append_assoc (top e) (flat_map top es) (flat_map corner (pairs (e ∷ es)) ++ final (last_of e es, e)))))) in
       subst (λ l. IsPermutation (edges_of (segments_of (walk_edges (e ∷ es)))) l) (sym to)
       (subst (λ l. IsPermutation l (top e ++ (flat_map top es ++ (flat_map corner (pairs (e ∷ es)) ++ final (last_of e es, e))))) (sym from) rest)
@@ -262,12 +238,3 @@ both_added old mid new es gs m h = rw (h, m, segments_of-append es gs) (append_a
 pub no_points : (closed : Bool) (points : List Point) → points ≡ [] → path_edges closed points ≡ []
 no_points true points e = rw e refl
 no_points false points e = rw e refl
-
--- what a vector began with it begins with still
-pub keeps_through : (old mid new : List SignedEdge) → take (length old) mid ≡ old → take (length mid) new ≡ mid → take (length old) new ≡ old
-keeps_through old mid new h k =
-    let e : mid ≡ old ++ drop (length old) mid = sym (take-append-drop (length old) mid) ∙ ap (λ l. l ++ drop (length old) mid) h in
-    let f : new ≡ mid ++ drop (length mid) new = sym (take-append-drop (length mid) new) ∙ ap (λ l. l ++ drop (length mid) new) k in
-    let a : new ≡ old ++ (drop (length old) mid ++ drop (length mid) new) =
-    f ∙ (ap (λ l. l ++ drop (length mid) new) e ∙ append_assoc old (drop (length old) mid) (drop (length mid) new)) in
-    ap (take (length old)) a ∙ take-append_seam old (drop (length old) mid ++ drop (length mid) new)

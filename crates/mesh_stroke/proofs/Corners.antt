@@ -19,6 +19,7 @@ use Rattle.mesh_join.specs.Joints.{joint, IsTurn, contact}
 use Rattle.mesh_join.specs.Styles.{JoinStyle}
 use Rattle.mesh_join.proofs.JoinLaws.{KeepsJoint}
 use Rattle.mesh_join.proofs.Joins.{join_keeps}
+use Rattle.mesh_draw.proofs.Quarters.{quarters_turn}
 use Rattle.mesh_stroke.specs.Paths.{neighbours}
 use Rattle.mesh_num.specs.Segments.{SignedEdge, segments_of}
 use Rattle.mesh_stroke.specs.Building.{Section, section_of, own_edge, IsCorner}
@@ -68,9 +69,6 @@ facing_is P c here there = by (int_lt (left_turn c) (pos 0)) refl
     by true h = there (rw (other_way_turns c) (flipped (minus c.0.1 c.0.0) (minus c.1.1 c.1.0) h))
     by false h = here (omega (arith, ints, h))
 
-moved_turn : (v s t : Point) → turn v (plus v (right_quarter s)) (plus v (right_quarter t)) ≡ cross s t
-moved_turn v s t = simp multiplied (omega (arith, linear))
-
 module _ (unit : ℕ) (least : 2 ^ 14 ≤ unit) (radius : ℤ) (sign : pos 0 ≤ℤ radius) where
   pub heading_short : (e : Edge) → e.0 ≢ e.1 → IsShort unit (heading unit e)
   heading_short e apart = direction_short (heading_is unit e apart)
@@ -96,7 +94,7 @@ module _ (unit : ℕ) (least : 2 ^ 14 ≤ unit) (radius : ℤ) (sign : pos 0 ≤
       kept = scaled_turn_kept radius (omega arith) (heading_is unit c.0 h.first) (heading_is unit c.1 h.second) left
 
       at : turn c.0.1 (plus c.0.1 (right_quarter s)) (plus c.1.0 (right_quarter t)) ≡ cross s t
-      at = subst (λ (v : Point). turn c.0.1 (plus c.0.1 (right_quarter s)) (plus v (right_quarter t)) ≡ cross s t) h.met (moved_turn c.0.1 s t)
+      at = subst (λ (v : Point). turn c.0.1 (plus c.0.1 (right_quarter s)) (plus v (right_quarter t)) ≡ cross s t) h.met (quarters_turn c.0.1 s t)
 
       ahead : pos 0 ≤ℤ (sense_of Counterclockwise *ℤ turn c.0.1 (plus c.0.1 (right_quarter s)) (plus c.1.0 (right_quarter t)))
       ahead = omega (arith, ints, kept, at)

@@ -20,7 +20,7 @@ use Rattle.mesh_draw.proofs.Adding.{adds_edges}
 use Rattle.mesh_grid.proofs.Turns.{same_kept, opposite_kept}
 use Rattle.mesh_cuts.specs.Split.{back, same_edge}
 use Rattle.mesh_draw.proofs.Apart.{apart_long}
-use Rattle.mesh_draw.proofs.ProperEdges.{proper_edges_total}
+use Rattle.mesh_draw.proofs.ProperEdges.{proper_append, proper_edges_total}
 use Rattle.mesh_arc.specs.declared.arc.ArcDirection.TheVariants.{Clockwise, Counterclockwise}
 use Rattle.mesh_cap.specs.Caps.{CapKind}
 use Rattle.mesh_join.specs.Joins.{through, join_points, join_edges}
@@ -31,7 +31,7 @@ use Rattle.mesh_stroke.specs.Paths.{neighbours, path_edges}
 use Rattle.mesh_stroke.specs.Reversal.{net_count, CountAlike, with_caps_exchanged, reversed_edges, StrokesCanBeReversed}
 use Rattle.mesh_stroke.specs.Styles.{StrokeStyle}
 use Rattle.mesh_stroke.specs.Strokes.{Corner, heading, side_edges, outer_edges, inner_edges, corner_edges, cap_at, both_caps, drawn_edges, stroke_edges}
-use Rattle.mesh_stroke.proofs.Backwards.{backwards, reverse_is, route_backwards, pairs_backwards, proper_append, proper_backwards, ends_backwards, sum_backwards, neighbours_sum_backwards}
+use Rattle.mesh_stroke.proofs.Backwards.{backwards, reverse_is, route_backwards, pairs_backwards, proper_backwards, ends_backwards, sum_backwards, neighbours_sum_backwards}
 use Rattle.mesh_stroke.proofs.Chains.{IsChain, path_chain}
 use Rattle.mesh_stroke.proofs.Corners.{IsMet, corners_met, left_turn, other_way, other_way_met, other_way_turns, faced_here, faced_there}
 use Rattle.mesh_stroke.proofs.Sides.{heading_is, heading_back, right_back, left_back}

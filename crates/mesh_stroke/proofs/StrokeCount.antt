@@ -2,6 +2,7 @@
 use Rattle.std.proofs.Common.{◌≡◌, ◌≢◌, ℕ, ◌≤◌, ◌^◌, List, [], ◌∷◌, ◌++◌, refl, arith}
 use Rattle.std.specs.Prelude.{ℤ, pos, neg_ℤ, ◌+ℤ◌, ◌≤ℤ◌, ◌*ℤ◌, Bool, true, false, ◌&&◌, ◌||◌, IsTrue, map}
 use Rattle.std.specs.List.{All, flat_map}
+use Rattle.std.proofs.lemmas.Bool.{and_parts}
 use Rattle.std.proofs.lemmas.Int.{ints}
 use Rattle.std.proofs.lemmas.List.Elements.{All-nil, All-map, All-append, All-weaker, All-head}
 use Rattle.mesh_plane.specs.Plane.{Point, Edge, plus, minus, dot, turn, right_quarter}
@@ -31,14 +32,6 @@ use Rattle.mesh_stroke.proofs.Chains.{IsChain}
 use Rattle.mesh_stroke.proofs.Corners.{IsMet, corners_met, facing_keeps, heading_short, apart_back}
 use Rattle.mesh_stroke.proofs.Sides.{heading_is}
 
-pub left_true : (a b : Bool) → IsTrue (a && b) → IsTrue a
-left_true true b h = refl
-left_true false b h = h
-
-pub right_true : (a b : Bool) → IsTrue (a && b) → IsTrue b
-right_true true b h = h
-right_true false b h = let k : false ≡ true = h in cc
-
 -- the turn of a section's piece
 piece_turn_by : (a b : Point) (x y : ℤ) → turn (plus a (y, neg_ℤ x)) (plus b (y, neg_ℤ x)) (minus a (y, neg_ℤ x)) ≡ dot (minus b a) (x, y) +ℤ dot (minus b a) (x, y)
 piece_turn_by a b x y = simp multiplied (omega (arith, linear))
@@ -59,9 +52,9 @@ module _ (unit : ℕ) (least : 2 ^ 14 ≤ unit) (m : ℕ) (q : Point) where
   section_winds : (radius : ℤ) → pos 0 ≤ℤ radius → (e : Edge) → e.0 ≢ e.1 → Winds (section_piece unit radius e)
   section_winds radius sign e apart =
       let s = scaled_direction unit radius (heading unit e) in
-      let along : pos 0 ≤ℤ dot (minus e.1 e.0) s = dot_scaled_nonneg radius (omega arith) sign (heading_is unit e apart) in
+      let ahead : pos 0 ≤ℤ dot (minus e.1 e.0) s = dot_scaled_nonneg radius (omega arith) sign (heading_is unit e apart) in
       let turned : pos 0 ≤ℤ turn (plus e.0 (right_quarter s)) (plus e.1 (right_quarter s)) (minus e.0 (right_quarter s)) =
-      rw (piece_turn e.0 e.1 s) (omega (arith, ints, along)) in
+      rw (piece_turn e.0 e.1 s) (omega (arith, ints, ahead)) in
       parallelogram_winds m q (plus e.0 (right_quarter s)) (plus e.1 (right_quarter s)) (minus e.1 (right_quarter s)) (minus e.0 (right_quarter s))
       (omega (arith, linear)) (omega (arith, linear)) turned
 
@@ -102,5 +95,5 @@ module _ (unit : ℕ) (least : 2 ^ 14 ≤ unit) (m : ℕ) (q : Point) where
       caps true h = All-nil Winds
       caps false h =
           All-append Winds (cap_pieces unit style.radius style.start (back e)) (cap_pieces unit style.radius style.end (last_of e es))
-          (cap_winds style.radius sign style.start (left_true (is_stock style.start) (is_stock style.end) h) (back e) (apart_back e first))
-          (cap_winds style.radius sign style.end (right_true (is_stock style.start) (is_stock style.end) h) (last_of e es) last)
+          (cap_winds style.radius sign style.start (and_parts (is_stock style.start) (is_stock style.end) h).0 (back e) (apart_back e first))
+          (cap_winds style.radius sign style.end (and_parts (is_stock style.start) (is_stock style.end) h).1 (last_of e es) last)

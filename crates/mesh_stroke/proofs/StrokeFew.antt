@@ -1,13 +1,13 @@
 -- Lemmas over points and lists: how many edges a stroke has, where its joins and its caps have few.
 use Rattle.std.proofs.Common.{◌≡◌, ◌≢◌, ℕ, ◌+◌, ◌*◌, ◌≤◌, ◌^◌, List, [], ◌∷◌, ◌++◌, length, refl, arith, length-append}
-use Rattle.std.specs.Prelude.{Bool, true, false, not, cond, ◌&&◌, IsTrue, pos, ◌≤ℤ◌, int_le}
+use Rattle.std.specs.Prelude.{Bool, true, false, cond, IsTrue, pos, ◌≤ℤ◌, int_le}
 use Rattle.std.specs.List.{All, flat_map}
+use Rattle.std.specs.Cmp.Derive.{both_true}
+use Rattle.std.proofs.lemmas.Bool.{and_parts}
 use Rattle.std.proofs.lemmas.Int.{ints}
 use Rattle.std.proofs.lemmas.List.Elements.{All-head, All-tail, All-weaker}
-use Rattle.std.proofs.lemmas.List.Sums.{length-filter, count_by-le-length}
 use Rattle.mesh_plane.specs.Plane.{Point, Edge}
-use Rattle.mesh_plane.specs.Winding.{route, same_point}
-use Rattle.mesh_num.specs.Segments.{SignedEdge, proper_edges}
+use Rattle.mesh_num.specs.Segments.{SignedEdge}
 use Rattle.mesh_grid.proofs.Parts.{direction_fresh}
 use Rattle.mesh_cuts.specs.Split.{back}
 use Rattle.mesh_join.specs.Joins.{HasFew}
@@ -22,11 +22,11 @@ use Rattle.mesh_stroke.specs.Paths.{neighbours, path_edges}
 use Rattle.mesh_stroke.specs.Styles.{StrokeStyle}
 use Rattle.mesh_stroke.specs.Strokes.{Corner, heading, facing, side_edges, inner_edges, outer_edges, corner_edges}
 use Rattle.mesh_stroke.specs.Strokes.{cap_at, both_caps, drawn_edges, stroke_edges}
-use Rattle.mesh_draw.proofs.Walks.{last_all}
+use Rattle.mesh_draw.proofs.ProperEdges.{proper_length}
+use Rattle.mesh_draw.proofs.Walks.{last_all, route_length}
 use Rattle.mesh_stroke.proofs.Chains.{IsChain, path_chain}
 use Rattle.mesh_stroke.proofs.Corners.{IsMet, corners_met, facing_keeps, heading_short, apart_back}
 use Rattle.mesh_stroke.proofs.Sides.{heading_is}
-use Rattle.mesh_stroke.proofs.StrokeCount.{left_true, right_true}
 
 -- ---- caps with few edges draw directly
 
@@ -36,26 +36,13 @@ few_is_direct CapKind.Square few = few
 few_is_direct (CapKind.Round options) few = few
 few_is_direct (CapKind.Custom points) few = let k : false ≡ true = few in cc
 
-both_true : (a b : Bool) → IsTrue a → IsTrue b → IsTrue (a && b)
-both_true true b h k = k
-both_true false b h k = h
-
 pub few_are_direct : (style : StrokeStyle) (closed : Bool) → HasFewCapEdges style closed → HasDirectCaps style closed
 few_are_direct style true few = few
 few_are_direct style false few =
-    both_true (draws_directly style.start) (draws_directly style.end)
-    (few_is_direct style.start (left_true (has_few_edges style.start) (has_few_edges style.end) few))
-    (few_is_direct style.end (right_true (has_few_edges style.start) (has_few_edges style.end) few))
+    let each = and_parts (has_few_edges style.start) (has_few_edges style.end) few in
+    both_true (few_is_direct style.start each.0) (few_is_direct style.end each.1)
 
 -- ---- lists
-
-without_length : (es : List Edge) → length (proper_edges es) ≤ length es
-without_length es =
-    omega (
-      arith,
-      length-filter (λ (e : Edge). not (same_point e.0 e.1)) es,
-      count_by-le-length (λ (e : Edge). not (same_point e.0 e.1)) es,
-    )
 
 parts_length : {A : Type 0} (f : A → List Edge) (most : ℕ) (xs : List A) → All (λ (x : A). length (f x) ≤ most) xs
     → length (flat_map f xs) ≤ most * length xs
@@ -67,10 +54,6 @@ parts_length f most (x ∷ xs) h =
       All-head (λ (y : _). length (f y) ≤ most) x xs h,
       parts_length f most xs (All-tail (λ (y : _). length (f y) ≤ most) x xs h),
     )
-
-route_length : {A : Type 0} (a : A) (xs : List A) (z : A) → length (route a xs z) ≡ length xs + 1
-route_length a [] z = omega arith
-route_length a (x ∷ xs) z = omega (arith, route_length x xs z)
 
 pairs_length : {A : Type 0} (x : A) (xs : List A) → length (pairs (x ∷ xs)) ≡ length xs
 pairs_length x [] = omega arith
@@ -109,9 +92,9 @@ module _ (unit : ℕ) (least : 2 ^ 14 ≤ unit) (style : StrokeStyle) (few : Has
       omega (
         arith,
         length-append (cap_at unit style.radius style.start (back first)) (cap_at unit style.radius style.end last),
-        cap_length sign style.start (left_true (has_few_edges style.start) (has_few_edges style.end) short) (back first)
+        cap_length sign style.start (and_parts (has_few_edges style.start) (has_few_edges style.end) short).0 (back first)
             (apart_back first p),
-        cap_length sign style.end (right_true (has_few_edges style.start) (has_few_edges style.end) short) last q,
+        cap_length sign style.end (and_parts (has_few_edges style.start) (has_few_edges style.end) short).1 last q,
       )
 
   drawn_length : pos 0 ≤ℤ style.radius → (closed : Bool) → HasFewCapEdges style closed → (es : List Edge)
@@ -121,7 +104,7 @@ module _ (unit : ℕ) (least : 2 ^ 14 ≤ unit) (style : StrokeStyle) (few : Has
   drawn_length sign closed short (e ∷ es) chain =
       omega (
         arith,
-        without_length (sides ++ (corners ++ caps)),
+        proper_length (sides ++ (corners ++ caps)),
         length-append sides (corners ++ caps),
         length-append corners caps,
         parts_length (side_edges unit style.radius) 2 (e ∷ es) (λ k d h. omega arith),

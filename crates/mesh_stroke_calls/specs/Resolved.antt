@@ -3,7 +3,6 @@ use Rattle.std.specs.Prelude.{ℕ, Bool, List}
 use Rattle.std.specs.List.{All, flat_map}
 use Rattle.std.specs.List.Sorted.{IsPermutation}
 use Rattle.mesh_plane.specs.Plane.{Point, Edge}
-use Rattle.mesh_num.specs.Segments.{SignedEdge, edges_of, IsSubject}
 use Rattle.mesh_cuts.specs.FillRules.{filled}
 use Rattle.mesh_cuts.specs.declared.fill.FillRule.TheVariants.{Positive}
 use Rattle.mesh_shapes.specs.Resolution.{Choices, IsResolution}
@@ -27,9 +26,3 @@ pub record IsStroke (unit : ℕ) (style : StrokeStyle) (closed : Bool) (choices 
 abbrev pub HavePromisedEdges : ℕ → StrokeStyle → Bool → List (List Point) → Type 0
 HavePromisedEdges unit style closed paths =
     All (λ (path : List Point). AreStroked unit style closed path (stroke_edges unit style closed path)) paths
-
--- segments that stand for the edges of the strokes of all paths, in some order
-pub record AreBuilt (unit : ℕ) (style : StrokeStyle) (closed : Bool) (paths : List (List Point))
-    (ss : List SignedEdge) : Type 0 where
-  pub same : IsPermutation (edges_of ss) (all_edges unit style closed paths)
-  pub form : All IsSubject ss

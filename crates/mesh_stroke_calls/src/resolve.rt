@@ -2,9 +2,10 @@
 
 ghost use Rattle.std.specs.Prelude.{◌≡◌, IfOk};
 ghost use Rattle.mesh_below.specs.Asked.{AreResolvable};
+ghost use Rattle.mesh_draw.specs.Midway.{AreBuilt};
 ghost use Rattle.mesh_draw.specs.Padding.{ArePathsSafe};
+ghost use Rattle.mesh_stroke.specs.Strokes.{stroke_edges};
 ghost use Rattle.mesh_stroke.specs.Styles.{stroke_padding, stroke_style_of};
-ghost use Rattle.mesh_stroke_calls.specs.Resolved.{AreBuilt};
 ghost use Rattle.mesh_stroke_calls.specs.Staying.{StaysSafe};
 
 use mesh_below::below::{IntOverlayOptions, Overlay};
@@ -24,7 +25,7 @@ pub(crate) fn stroke_overlay<I: IntNumber, S: IntShapeResource<I>>(
     options: IntOverlayOptions<I::WideUInt>,
 ) -> Result<Overlay<I>, AllocError>
     requires { ArePathsSafe I.unit (stroke_padding (stroke_style_of I.value style.now)) (S.paths source.now) }
-    ensures built { IfOk result (λ overlay. AreBuilt I.unit (stroke_style_of I.value style.now) closed
+    ensures built { IfOk result (λ overlay. AreBuilt (stroke_edges I.unit (stroke_style_of I.value style.now) closed)
         (S.paths source.now) overlay.segments.items) }
     ensures options { IfOk result (λ overlay. overlay.options ≡ options) }
     ensures resolvable { IfOk result (λ overlay. AreResolvable I.unit overlay.segments.items) }
@@ -43,7 +44,7 @@ fn stroke_segments<I: IntNumber, S: IntShapeResource<I>>(
     closed: bool,
 ) -> Result<Vec<Segment<I>>, AllocError>
     requires { ArePathsSafe I.unit (stroke_padding (stroke_style_of I.value style.now)) (S.paths source.now) }
-    ensures { IfOk result (λ segments. AreBuilt I.unit (stroke_style_of I.value style.now) closed
+    ensures { IfOk result (λ segments. AreBuilt (stroke_edges I.unit (stroke_style_of I.value style.now) closed)
         (S.paths source.now) segments.items) }
 {
     let mut segments = Vec::new(alloc);

@@ -1,6 +1,6 @@
 -- Lemmas over vertices and lists: the greatest radius of vertices and of paths, and what stays safe within it.
 use Rattle.std.proofs.Common.{◌≡◌, ℕ, ◌+◌, ◌<◌, List, [], ◌∷◌, ◌++◌, map, length, get_or, take, refl, sym, ◌∙◌, ap, arith}
-use Rattle.std.specs.Prelude.{ℤ, pos, negsuc, ◌≤ℤ◌, ◌↔◌, IsTrue, ltb, unsigned_abs}
+use Rattle.std.specs.Prelude.{ℤ, pos, ◌≤ℤ◌, ◌↔◌, IsTrue, ltb, unsigned_abs}
 use Rattle.std.specs.Int.{int_max}
 use Rattle.std.specs.List.{All}
 use Rattle.std.proofs.lemmas.Bool.{ltb-true, lt-ltb}
@@ -15,7 +15,9 @@ use Rattle.mesh_draw.specs.Radii.{radius_of}
 use Rattle.mesh_draw.proofs.Padding.{safe_within_less}
 use Rattle.mesh_draw.proofs.PaddingBounds.{accepted_by_bounds, accepted_without_points}
 use Rattle.mesh_variable_stroke.specs.Drawn.{points_of, greatest_radius, AreStrokable}
-use Rattle.mesh_variable_calls.specs.Strokable.{padding_of, ArePathsStrokable, all_vertex_points, IsRoomLeft}
+use Rattle.mesh_variable_stroke.proofs.Safe.{radius_least}
+use Rattle.mesh_variable_calls.specs.Midway.{IsRoomLeft}
+use Rattle.mesh_variable_calls.specs.Strokable.{padding_of, ArePathsStrokable, all_vertex_points}
 
 -- ---- the greatest of numbers
 
@@ -26,10 +28,6 @@ greatest_from_none : (x : ℤ) → pos 0 ≤ℤ x → int_max x (pos 0) ≡ int_
 greatest_from_none x h = omega (arith, ints, clamps)
 
 -- ---- radii
-
-radius_least : (width : ℤ) → pos 0 ≤ℤ radius_of width
-radius_least (pos n) = omega (arith, ints)
-radius_least (negsuc n) = omega (arith, ints)
 
 pub greatest_least : (vertices : List Vertex) → pos 0 ≤ℤ greatest_radius vertices
 unfolding greatest_radius

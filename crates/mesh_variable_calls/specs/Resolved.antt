@@ -3,7 +3,6 @@ use Rattle.std.specs.Prelude.{ℕ, List}
 use Rattle.std.specs.List.{All, flat_map}
 use Rattle.std.specs.List.Sorted.{IsPermutation}
 use Rattle.mesh_plane.specs.Plane.{Point, Edge}
-use Rattle.mesh_num.specs.Segments.{SignedEdge, edges_of, IsSubject}
 use Rattle.mesh_cuts.specs.FillRules.{filled}
 use Rattle.mesh_cuts.specs.declared.fill.FillRule.TheVariants.{Positive}
 use Rattle.mesh_shapes.specs.Resolution.{Choices, IsResolution}
@@ -28,9 +27,3 @@ pub record IsVariableStroke (unit : ℕ) (options : ArcOptions) (choices : Choic
 abbrev pub HavePromisedEdges : ℕ → ArcOptions → List (List Vertex) → Type 0
 HavePromisedEdges unit options paths =
     All (λ (path : List Vertex). AreVariablyStroked unit options path (variable_stroke_edges unit options path)) paths
-
--- segments that stand for the edges of the strokes of all paths, in some order
-pub record AreBuilt (unit : ℕ) (options : ArcOptions) (paths : List (List Vertex)) (ss : List SignedEdge)
-    : Type 0 where
-  pub same : IsPermutation (edges_of ss) (all_edges unit options paths)
-  pub form : All IsSubject ss

@@ -1,8 +1,7 @@
 -- Which paths may be stroked, and how far their strokes reach.
-use Rattle.std.specs.Prelude.{ℕ, List, [], ◌∷◌, map, ℤ, pos, ◌+ℤ◌, ◌-ℤ◌}
+use Rattle.std.specs.Prelude.{ℕ, List, [], ◌∷◌, map, ℤ, pos}
 use Rattle.std.specs.Int.{int_max}
 use Rattle.std.specs.List.{All}
-use Rattle.mesh_plane.specs.Bounds.{IsSmall}
 use Rattle.mesh_plane.specs.Plane.{Point}
 use Rattle.mesh_join.specs.VariableStyles.{Vertex}
 use Rattle.mesh_draw.specs.Padding.{all_points}
@@ -20,7 +19,3 @@ ArePathsStrokable unit paths = All (λ (path : List Vertex). AreStrokable unit (
 -- the points of all vertices of all paths
 abbrev pub all_vertex_points : List (List Vertex) → List Point
 all_vertex_points paths = all_points (map points_of paths)
-
--- a coordinate stays safe where it moves by at most the padding, either way
-abbrev pub IsRoomLeft : ℕ → ℤ → ℤ → Type 0
-IsRoomLeft unit padding coordinate = IsSmall unit (coordinate -ℤ padding) × IsSmall unit (coordinate +ℤ padding)

@@ -4,7 +4,8 @@ ghost use Rattle.std.specs.Prelude.{◌≡◌, ◌↔◌, ◌≤ℤ◌, pos, IsT
 ghost use Rattle.std.specs.Int.{int_max};
 ghost use Rattle.mesh_grid.specs.Rectangle.{IsSafeWidened};
 ghost use Rattle.mesh_variable_stroke.specs.Drawn.{greatest_radius as greatest_radius_of, AreStrokable};
-ghost use Rattle.mesh_variable_calls.specs.Strokable.{padding_of, ArePathsStrokable, IsRoomLeft};
+ghost use Rattle.mesh_variable_calls.specs.Midway.{IsRoomLeft};
+ghost use Rattle.mesh_variable_calls.specs.Strokable.{padding_of, ArePathsStrokable};
 
 use mesh_draw::error::{IntOutlineError, IntVariableStrokeError};
 use mesh_draw::radius::stroke_radius;

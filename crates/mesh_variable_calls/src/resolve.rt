@@ -2,7 +2,8 @@
 
 ghost use Rattle.std.specs.Prelude.{◌≡◌, IfOk};
 ghost use Rattle.mesh_below.specs.Asked.{AreResolvable};
-ghost use Rattle.mesh_variable_calls.specs.Resolved.{AreBuilt};
+ghost use Rattle.mesh_draw.specs.Midway.{AreBuilt};
+ghost use Rattle.mesh_variable_stroke.specs.VariableStrokes.{variable_stroke_edges};
 ghost use Rattle.mesh_variable_calls.specs.Staying.{StaysSafe};
 ghost use Rattle.mesh_variable_calls.specs.Strokable.{ArePathsStrokable};
 
@@ -22,7 +23,8 @@ pub(crate) fn stroke_overlay<I: IntNumber, S: IntVariableStrokeSource<I>>(
     options: IntOverlayOptions<I::WideUInt>,
 ) -> Result<Overlay<I>, AllocError>
     requires { ArePathsStrokable I.unit (S.paths source.now) }
-    ensures built { IfOk result (λ overlay. AreBuilt I.unit style.arc (S.paths source.now) overlay.segments.items) }
+    ensures built { IfOk result (λ overlay. AreBuilt (variable_stroke_edges I.unit style.arc)
+        (S.paths source.now) overlay.segments.items) }
     ensures options { IfOk result (λ overlay. overlay.options ≡ options) }
     ensures resolvable { IfOk result (λ overlay. AreResolvable I.unit overlay.segments.items) }
     ensures stays_safe { StaysSafe I.unit style.arc (S.paths source.now) }
@@ -39,7 +41,8 @@ fn stroke_segments<I: IntNumber, S: IntVariableStrokeSource<I>>(
     style: IntVariableStrokeStyle,
 ) -> Result<Vec<Segment<I>>, AllocError>
     requires { ArePathsStrokable I.unit (S.paths source.now) }
-    ensures { IfOk result (λ segments. AreBuilt I.unit style.arc (S.paths source.now) segments.items) }
+    ensures { IfOk result (λ segments. AreBuilt (variable_stroke_edges I.unit style.arc)
+        (S.paths source.now) segments.items) }
 {
     let mut segments = Vec::new(alloc);
     let mut builder = VariableStrokeBuilder::new(alloc, style);

@@ -45,6 +45,7 @@ use Rattle.mesh_variable_stroke.specs.VariableStrokes.{has_left_arc, has_right_a
 use Rattle.mesh_variable_stroke.specs.VariableStrokes.{joint_edges, sections_of, are_butt}
 use Rattle.mesh_variable_stroke.specs.VariableStrokes.{bare_edges, edges_with, chain_edges}
 use Rattle.mesh_variable_stroke.specs.VariableStrokes.{variable_stroke_edges}
+use Rattle.mesh_variable_stroke.proofs.Safe.{radius_least}
 
 -- ---- the points of sections
 
@@ -374,10 +375,6 @@ max_first x y = omega (arith, ints, clamps)
 max_second : (x y : ℤ) → y ≤ℤ int_max x y
 max_second x y = omega (arith, ints, clamps)
 
-radius_sign : (width : ℤ) → pos 0 ≤ℤ radius_of width
-radius_sign (pos width) = omega (arith, ints)
-radius_sign (negsuc width) = omega (arith, ints)
-
 abbrev AtMost : ℤ → Vertex → Type 0
 AtMost reach v = radius_of v.width ≤ℤ reach
 
@@ -403,7 +400,7 @@ circles_on_path vertices =
     All-map (IsOnPath (greatest_radius vertices) (points_of vertices)) circle_of vertices
     (All-weaker (λ (v : Vertex). Contains (points_of vertices) v.point × AtMost (greatest_radius vertices) v)
     (λ v. IsOnPath (greatest_radius vertices) (points_of vertices) (circle_of v))
-    (λ v h. record { listed = h.0; sign = radius_sign v.width; covered = h.1 }) vertices
+    (λ v h. record { listed = h.0; sign = radius_least v.width; covered = h.1 }) vertices
     (all_both (λ (v : Vertex). Contains (points_of vertices) v.point) (AtMost (greatest_radius vertices)) vertices
     (all_mapped (Contains (points_of vertices)) (λ (v : Vertex). v.point) vertices
     (All-contains_itself (points_of vertices)))

@@ -1,16 +1,16 @@
 -- Lemmas over lists: a chain drawn step by step has what it has drawn kind by kind, in another order.
 use Rattle.std.proofs.Common.{◌≡◌, List, [], ◌∷◌, ◌++◌, refl, sym, subst, ◌∙◌, ap, append_assoc}
-use Rattle.std.specs.Prelude.{Bool, true, false, ◌||◌, not, if◌then◌else◌, Option, Some, None}
+use Rattle.std.specs.Prelude.{Bool, true, false, ◌||◌, if◌then◌else◌, Option, Some, None}
 use Rattle.std.specs.List.{flat_map}
 use Rattle.std.specs.List.Sorted.{IsPermutation}
 use Rattle.std.specs.Option.{option_to_list}
-use Rattle.std.proofs.lemmas.List.Elements.{filter-append}
 use Rattle.std.proofs.lemmas.List.Sorted.{IsPermutation-refl, IsPermutation-trans, IsPermutation-append, IsPermutation-append_comm, IsPermutation-append_right}
 use Rattle.mesh_plane.specs.Plane.{Edge}
-use Rattle.mesh_plane.specs.Winding.{same_point}
-use Rattle.mesh_plane.proofs.ClosedLists.{regrouped}
+use Rattle.mesh_plane.proofs.ClosedLists.{woven, regrouped}
 use Rattle.mesh_num.specs.Segments.{proper_edges}
 use Rattle.mesh_draw.specs.Walks.{pairs, last_of}
+use Rattle.mesh_draw.proofs.ProperEdges.{proper_append, proper_flat_map}
+use Rattle.mesh_draw.proofs.Walks.{woven_through}
 use Rattle.mesh_tangent.specs.Sections.{Circle, Section}
 use Rattle.mesh_variable_stroke.specs.Building.{last_with}
 use Rattle.mesh_variable_stroke.specs.VariableStrokes.{Joint, are_butt}
@@ -68,18 +68,16 @@ module _ {B : Type 0} (side : Section → List B) (start : ChainEnd → Section 
   streamed_bare c e (None ∷ os) f = streamed_bare c e os f
   streamed_bare c e (Some s ∷ os) f = ap (λ l. (side s ++ start e s) ++ l) (streamed_on c e s true os f)
 
+  through_is : (f : ChainEnd) (p : Section) (ss : List Section) (z : Section) →
+      through f p ss ≡ woven (λ q s. side s ++ joint (q, s)) (λ c. finish f c.0) p ss z
+  through_is f p [] z = refl
+  through_is f p (s ∷ ss) z = ap (λ l. (side s ++ joint (p, s)) ++ l) (through_is f s ss z)
+
   through_permutes : (f : ChainEnd) (p : Section) (ss : List Section) →
       IsPermutation (through f p ss) (flat_map side ss ++ (flat_map joint (pairs (p ∷ ss)) ++ finish f (last_of p ss)))
-  through_permutes f p [] = IsPermutation-refl (finish f p)
-  through_permutes f p (s ∷ ss) =
-      let rest = flat_map joint (pairs (s ∷ ss)) ++ finish f (last_of s ss) in
-      let whole =
-      IsPermutation-trans ((side s ++ joint (p, s)) ++ through f s ss)
-      ((side s ++ joint (p, s)) ++ (flat_map side ss ++ rest))
-      ((side s ++ flat_map side ss) ++ (joint (p, s) ++ rest))
-      (IsPermutation-append_right (side s ++ joint (p, s)) (through f s ss) (flat_map side ss ++ rest) (through_permutes f s ss))
-      (regrouped (side s) (joint (p, s)) (flat_map side ss) rest) in
-      rw (append_assoc (joint (p, s)) (flat_map joint (pairs (s ∷ ss))) (finish f (last_of s ss))) whole
+  through_permutes f p ss =
+      rw (through_is f p ss p)
+      (woven_through side joint (λ q s. side s ++ joint (q, s)) (λ c. finish f c.0) (λ q s. IsPermutation-refl (side s ++ joint (q, s))) p ss p)
 
   -- a start that stands before what comes next stands after the joints as well
   first_permutes : (e f : ChainEnd) (s : Section) (ss : List Section) →
@@ -115,13 +113,6 @@ module _ {B : Type 0} (side : Section → List B) (start : ChainEnd → Section 
 
 -- ---- what is kept of edges whose ends differ
 
-without_both : (es gs : List Edge) → proper_edges (es ++ gs) ≡ proper_edges es ++ proper_edges gs
-without_both es gs = filter-append (λ (e : Edge). not (same_point e.0 e.1)) es gs
-
-without_parts : {A : Type 0} (g : A → List Edge) (xs : List A) → proper_edges (flat_map g xs) ≡ flat_map (λ x. proper_edges (g x)) xs
-without_parts g [] = refl
-without_parts g (x ∷ xs) = without_both (g x) (flat_map g xs) ∙ ap (λ l. proper_edges (g x) ++ l) (without_parts g xs)
-
 without_either : (b : Bool) (es : List Edge) → proper_edges (if b then [] else es) ≡ (if b then [] else proper_edges es)
 without_either true es = refl
 without_either false es = refl
@@ -144,8 +135,8 @@ module _ (side : Section → List Edge) (start : ChainEnd → Section → List E
 
   part_without : (e : ChainEnd) (last o : Option Section) → proper_edges (part side start finish joint circle e last o) ≡ part side' start' finish' joint' circle' e last o
   part_without e last None = refl
-  part_without e None (Some s) = without_both (side s) (start e s)
-  part_without e (Some p) (Some s) = without_both (side s) (joint (p, s))
+  part_without e None (Some s) = proper_append (side s) (start e s)
+  part_without e (Some p) (Some s) = proper_append (side s) (joint (p, s))
 
   closed_without : (c : Circle) (e : ChainEnd) (has : Bool) (f : ChainEnd) (last : Option Section) →
       proper_edges (closed_by side start finish joint circle c e has f last) ≡ closed_by side' start' finish' joint' circle' c e has f last
@@ -156,7 +147,7 @@ module _ (side : Section → List Edge) (start : ChainEnd → Section → List E
       proper_edges (streamed side start finish joint circle c e last has os f) ≡ streamed side' start' finish' joint' circle' c e last has os f
   stream_without c e last has [] f = closed_without c e has f last
   stream_without c e last has (o ∷ os) f =
-      without_both (part side start finish joint circle e last o) (streamed side start finish joint circle c e (last_with last o) true os f)
+      proper_append (part side start finish joint circle e last o) (streamed side start finish joint circle c e (last_with last o) true os f)
       ∙ (ap (λ l. l ++ proper_edges (streamed side start finish joint circle c e (last_with last o) true os f)) (part_without e last o)
       ∙ ap (λ l. part side' start' finish' joint' circle' e last o ++ l) (stream_without c e (last_with last o) true os f))
 
@@ -165,11 +156,11 @@ module _ (side : Section → List Edge) (start : ChainEnd → Section → List E
   kinds_without c e f [] [] = without_either (are_butt e f) (circle c)
   kinds_without c e f (o ∷ os) [] = refl
   kinds_without c e f os (s ∷ ss) =
-      without_both (flat_map side (s ∷ ss)) (flat_map joint (pairs (s ∷ ss)) ++ (start e s ++ finish f (last_of s ss)))
-      ∙ (ap (λ l. l ++ proper_edges (flat_map joint (pairs (s ∷ ss)) ++ (start e s ++ finish f (last_of s ss)))) (without_parts side (s ∷ ss))
-      ∙ (ap (λ l. flat_map side' (s ∷ ss) ++ l) (without_both (flat_map joint (pairs (s ∷ ss))) (start e s ++ finish f (last_of s ss)))
-      ∙ (ap (λ l. flat_map side' (s ∷ ss) ++ (l ++ proper_edges (start e s ++ finish f (last_of s ss)))) (without_parts joint (pairs (s ∷ ss)))
-      ∙ ap (λ l. flat_map side' (s ∷ ss) ++ (flat_map joint' (pairs (s ∷ ss)) ++ l)) (without_both (start e s) (finish f (last_of s ss))))))
+      proper_append (flat_map side (s ∷ ss)) (flat_map joint (pairs (s ∷ ss)) ++ (start e s ++ finish f (last_of s ss)))
+      ∙ (ap (λ l. l ++ proper_edges (flat_map joint (pairs (s ∷ ss)) ++ (start e s ++ finish f (last_of s ss)))) (proper_flat_map side (s ∷ ss))
+      ∙ (ap (λ l. flat_map side' (s ∷ ss) ++ l) (proper_append (flat_map joint (pairs (s ∷ ss))) (start e s ++ finish f (last_of s ss)))
+      ∙ (ap (λ l. flat_map side' (s ∷ ss) ++ (l ++ proper_edges (start e s ++ finish f (last_of s ss)))) (proper_flat_map joint (pairs (s ∷ ss)))
+      ∙ ap (λ l. flat_map side' (s ∷ ss) ++ (flat_map joint' (pairs (s ∷ ss)) ++ l)) (proper_append (start e s) (finish f (last_of s ss))))))
 
   -- so it is for the edges whose ends differ
   pub proper_permutes : (c : Circle) (e : ChainEnd) (os : List (Option Section)) (f : ChainEnd) →
@@ -184,5 +175,5 @@ pub chains_permute : {A : Type 0} (g h : A → List Edge) → ((a : A) → IsPer
     IsPermutation (proper_edges (flat_map g cs)) (proper_edges (flat_map h cs))
 chains_permute g h each [] = IsPermutation-refl []
 chains_permute g h each (c ∷ cs) =
-    rw (without_both (g c) (flat_map g cs), without_both (h c) (flat_map h cs))
+    rw (proper_append (g c) (flat_map g cs), proper_append (h c) (flat_map h cs))
     (IsPermutation-append (proper_edges (g c)) (proper_edges (h c)) (proper_edges (flat_map g cs)) (proper_edges (flat_map h cs)) (each c) (chains_permute g h each cs))

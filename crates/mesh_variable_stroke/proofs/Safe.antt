@@ -1,10 +1,10 @@
 -- Lemmas over points: sections and circles of a path in the safe range.
-use Rattle.std.proofs.Common.{◌≡◌, ℕ, List, [], ◌∷◌, ◌*◌, refl, ◌∙◌, arith}
-use Rattle.std.specs.Prelude.{ℤ, pos, negsuc, ◌≤ℤ◌, Bool, true, false, cond, int_lt, not}
+use Rattle.std.proofs.Common.{◌≡◌, ℕ, List, [], ◌∷◌, ◌*◌, ◌∙◌, arith}
+use Rattle.std.specs.Prelude.{ℤ, pos, negsuc, ◌≤ℤ◌, false, not}
 use Rattle.std.specs.Int.{int_max}
 use Rattle.std.specs.List.{All}
-use Rattle.std.proofs.lemmas.Bool.{true≢false}
-use Rattle.std.proofs.lemmas.Int.{ints}
+use Rattle.std.proofs.lemmas.Bool.{not-false}
+use Rattle.std.proofs.lemmas.Int.{ints, clamps}
 use Rattle.std.proofs.lemmas.List.Elements.{All-nil, All-cons, All-head, All-tail}
 use Rattle.mesh_plane.specs.Bounds.{IsSafe}
 use Rattle.mesh_plane.specs.Plane.{Point, minus}
@@ -20,13 +20,6 @@ use Rattle.mesh_variable_stroke.specs.Building.{IsGoodSection, IsGoodJoint}
 use Rattle.mesh_variable_stroke.specs.Chains.{circle_of}
 use Rattle.mesh_variable_stroke.specs.Drawn.{greatest_radius, AreStrokable}
 use Rattle.mesh_variable_stroke.specs.VariableStrokes.{Joint, is_apart}
-
--- the center of a safe circle is safe
-pub center_safe : (unit : ℕ) (c : Circle) → IsSafeCircle unit c → IsSafe unit c.center
-center_safe unit c h = record {
-  x = record { low = omega (arith, ints, h.nonneg, h.safe.0.x.low); high = omega (arith, ints, h.nonneg, h.safe.1.x.high) };
-  y = record { low = omega (arith, ints, h.nonneg, h.safe.0.y.low); high = omega (arith, ints, h.nonneg, h.safe.1.y.high) };
-}
 
 -- an arc from a contact of a circle round its center
 pub contact_swept : (unit : ℕ) (c : Circle) (x y : Point) → IsSafeCircle unit c → IsContact c x → IsSafe unit x → IsSafe unit y →
@@ -56,11 +49,7 @@ right_swept unit j p n c e f g h =
 
 -- sections that are not apart meet
 pub met_at : (p q : Point) → not (same_point p q) ≡ false → p ≡ q
-met_at p q h = by (same_point p q) refl h
-  where
-    by : (b : Bool) → same_point p q ≡ b → not b ≡ false → p ≡ q
-    by true e k = (decides_point p q).0 e
-    by false e k = absurd (true≢false k)
+met_at p q h = (decides_point p q).0 (not-false (same_point p q) h)
 
 pub left_swept : (unit : ℕ) (j : Joint) (p n : Section) (c : Point) → p ≡ j.0 → n ≡ j.1 → c ≡ j.0.b.center → IsGoodJoint unit j →
     is_apart j ≡ false → IsSwept unit c n.a_left p.b_left
@@ -84,26 +73,12 @@ vertex_safe unit greatest v most h = record {
 abbrev pub IsSafeVertex : ℕ → Vertex → Type 0
 IsSafeVertex unit v = IsSafeCircle unit (circle_of v)
 
-max_left : (x y : ℤ) → x ≤ℤ int_max x y
-max_left x y = by (int_lt y x) refl
-  where
-    by : (b : Bool) → int_lt y x ≡ b → x ≤ℤ cond b x y
-    by true e = omega (arith, ints)
-    by false e = omega (arith, ints, e)
-
-max_right : (x y : ℤ) → y ≤ℤ int_max x y
-max_right x y = by (int_lt y x) refl
-  where
-    by : (b : Bool) → int_lt y x ≡ b → y ≤ℤ cond b x y
-    by true e = omega (arith, ints, e)
-    by false e = omega (arith, ints)
-
 vertices_safe : (unit : ℕ) (greatest : ℤ) (vs : List Vertex) → greatest_radius vs ≤ℤ greatest → AreStrokable unit greatest vs → All (IsSafeVertex unit) vs
 unfolding greatest_radius
 vertices_safe unit greatest [] most h = All-nil (IsSafeVertex unit)
 vertices_safe unit greatest (v ∷ vs) most h =
-    let own = max_left (radius_of v.width) (greatest_radius vs) in
-    let others = max_right (radius_of v.width) (greatest_radius vs) in
+    let own : radius_of v.width ≤ℤ int_max (radius_of v.width) (greatest_radius vs) = omega (arith, ints, clamps) in
+    let others : greatest_radius vs ≤ℤ int_max (radius_of v.width) (greatest_radius vs) = omega (arith, ints, clamps) in
     All-cons (IsSafeVertex unit) v vs
     (vertex_safe unit greatest v (omega (arith, ints, own, most)) (All-head (λ (w : Vertex). IsSafeWidened unit greatest w.point) v vs h))
     (vertices_safe unit greatest vs (omega (arith, ints, others, most)) (All-tail (λ (w : Vertex). IsSafeWidened unit greatest w.point) v vs h))

@@ -1,12 +1,10 @@
 -- Lemmas over paths: what a walk along a path adds, and what is still to come.
-use Rattle.std.proofs.Common.{◌≡◌, ℕ, List, [], ◌∷◌, ◌++◌, refl, sym, subst, ◌∙◌, ap, append_assoc, append-nil, map, length, take, drop, take_all, arith}
+use Rattle.std.proofs.Common.{◌≡◌, ℕ, List, [], ◌∷◌, ◌++◌, refl, sym, subst, ◌∙◌, ap, append_assoc, append-nil, map, length, take, take_all, arith}
 use Rattle.std.specs.Prelude.{Bool, true, false, Option, Some, None}
 use Rattle.std.specs.List.{flat_map}
 use Rattle.std.specs.List.Sorted.{IsPermutation}
 use Rattle.std.specs.Option.{option_to_list}
 use Rattle.std.specs.List.{All}
-use Rattle.std.proofs.Math.Seq.{take-append_seam}
-use Rattle.std.proofs.lemmas.List.{take-append-drop}
 use Rattle.std.proofs.lemmas.List.Elements.{All-head, All-tail}
 use Rattle.mesh_plane.specs.Plane.{Edge}
 use Rattle.mesh_num.specs.Segments.{SignedEdge, segments_of, proper_edges}
@@ -15,6 +13,7 @@ use Rattle.mesh_num.proofs.SegmentLists.{edges_of_segments, segments_of-append}
 use Rattle.mesh_arc.specs.declared.arc.ArcOptions.{ArcOptions}
 use Rattle.mesh_join.specs.VariableStyles.{Vertex}
 use Rattle.mesh_draw.specs.Adding.{Adds}
+use Rattle.mesh_draw.proofs.Adding.{keeps_through}
 use Rattle.mesh_sweep.specs.Sweeps.{circle_edges}
 use Rattle.mesh_tangent.specs.Sections.{Circle, Section, IsSafeCircle}
 use Rattle.mesh_variable_stroke.specs.Building.{Open, Walk, opened, gone_on, step_edges, finish_edges, begun, step_to, walked, walked_edges}
@@ -171,15 +170,6 @@ module _ (unit : ℕ) (options : ArcOptions) where
   -- no vertex, no edge
   pub none_adds : (vertices : List Vertex) (old : List SignedEdge) → vertices ≡ [] → Adds old old (variable_stroke_edges unit options vertices)
   none_adds vertices old none = rw none (walk_adds [] old old (sym (append-nil old)))
-
--- what a vector began with it begins with still
-keeps_through : (old mid new : List SignedEdge) → take (length old) mid ≡ old → take (length mid) new ≡ mid → take (length old) new ≡ old
-keeps_through old mid new h k =
-    let e : mid ≡ old ++ drop (length old) mid = sym (take-append-drop (length old) mid) ∙ ap (λ l. l ++ drop (length old) mid) h in
-    let f : new ≡ mid ++ drop (length mid) new = sym (take-append-drop (length mid) new) ∙ ap (λ l. l ++ drop (length mid) new) k in
-    let a : new ≡ old ++ (drop (length old) mid ++ drop (length mid) new) =
-    f ∙ (ap (λ l. l ++ drop (length mid) new) e ∙ append_assoc old (drop (length old) mid) (drop (length mid) new)) in
-    ap (take (length old)) a ∙ take-append_seam old (drop (length old) mid ++ drop (length mid) new)
 
 -- where the walk stands that has the vertices `left` before it
 pub record IsWalked (unit : ℕ) (options : ArcOptions) (path : List Vertex) (old now : List SignedEdge) (later : ArcOptions) (w : Walk) (left : List Vertex) : Type 0 where

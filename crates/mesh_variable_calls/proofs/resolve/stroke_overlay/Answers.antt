@@ -5,8 +5,8 @@ use Rattle.mesh_variable_calls.proofs.resolve.stroke_overlay.Goals as goal
 
 pub returns-clause-resolvable : goal.returns-clause-resolvable
 returns-clause-resolvable g c =
-    resolvable g.I.IntNumber.unit c.args.style.arc (g.S.IntVariableStrokeSource.paths c.args.source.now) _ _
-    g.met.I.IntNumber.least_law c.requires (ap (λ v. v.items) c.with_segments-overlay.ensures.segments) c.in_ok-stroke_segments.ensures
+    resolvable g.I.IntNumber.unit c.args.style.arc (g.S.IntVariableStrokeSource.paths c.args.source.now)
+    g.met.I.IntNumber.least_law c.requires _ _ (ap (λ v. v.items) c.with_segments-overlay.ensures.segments) c.in_ok-stroke_segments.ensures
 
 pub returns-in_err-stroke_segments-clause-stays_safe : goal.returns-in_err-stroke_segments-clause-stays_safe
 returns-in_err-stroke_segments-clause-stays_safe g c =

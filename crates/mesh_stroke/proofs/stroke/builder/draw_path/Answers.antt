@@ -2,12 +2,13 @@
 use Rattle.std.proofs.Common.{length, refl, sym, subst, ◌∙◌, arith}
 use Rattle.std.specs.Prelude.{vec_capacity}
 use Rattle.std.proofs.lemmas.Bool.{false≢true}
-use Rattle.mesh_draw.proofs.Adding.{on_ok_then}
+use Rattle.mesh_draw.proofs.Adding.{keeps_through, on_ok_then}
 use Rattle.mesh_join.specs.Styles.{JoinStyle}
-use Rattle.mesh_stroke.specs.Building.{style_with, IsCorner}
+use Rattle.mesh_stroke.specs.Building.{style_with}
+use Rattle.mesh_stroke.specs.Building.{IsCorner}
 use Rattle.mesh_stroke.specs.Paths.{path_edges}
 use Rattle.mesh_stroke.specs.Styles.{StrokeStyle}
-use Rattle.mesh_stroke.proofs.BuilderWalk.{no_points, none_adds, fit_made, fit_radius, keeps_through}
+use Rattle.mesh_stroke.proofs.BuilderWalk.{no_points, none_adds, fit_made, fit_radius}
 use Rattle.mesh_stroke.proofs.Standing.{first_fits, stands_first, next_fits, next_corner, stands_next, last_corner, both_ends, ends_closed, ends_open}
 use Rattle.mesh_stroke.proofs.BuilderRoom.{direct_caps, room_first, room_step, room_closed, room_open}
 use Rattle.mesh_stroke.proofs.stroke.builder.draw_path.Goals as goal
