@@ -12,7 +12,7 @@ use Rattle.mesh_join.specs.Cleaned.{cleaned_sections}
 use Rattle.mesh_join.specs.Joins.{has_few}
 use Rattle.mesh_join.specs.Styles.{OffsetJoin}
 use Rattle.mesh_outline.specs.Outline.{Section, Corner, outer_edges, parts, joint_at, joined, section_of, ring_outline, outline_edges}
-use Rattle.mesh_outline.specs.Building.{corner_segments, top_segments}
+use Rattle.mesh_outline.specs.Midway.{corner_segments, top_segments}
 use Rattle.mesh_outline.proofs.Corners.{corners_keep}
 use Rattle.mesh_outline.proofs.OutlineWalk.{drawn_length}
 use Rattle.mesh_outline.proofs.Promised.{cleaned_ring}

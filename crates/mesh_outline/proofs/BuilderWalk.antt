@@ -13,7 +13,8 @@ use Rattle.mesh_clean.specs.Cleaned.{cleaned_sections, IsClean}
 use Rattle.mesh_clean.proofs.CleaningEnds.{cleaned_sections-ends}
 use Rattle.mesh_num.proofs.SegmentLists.{edges_of_segments, edges_of-append}
 use Rattle.mesh_outline.specs.Outline.{Section, Corner, top_edge, section_of, corner_edges, parts, joined, ring_outline, drawn_edges}
-use Rattle.mesh_outline.specs.Building.{IsMovable, IsMoved, IsCorner, corner_segments, top_segments}
+use Rattle.mesh_outline.specs.Building.{IsMovable}
+use Rattle.mesh_outline.specs.Midway.{IsMoved, IsCorner, corner_segments, top_segments}
 use Rattle.mesh_draw.specs.Adding.{Adds}
 use Rattle.mesh_join.specs.Styles.{OffsetJoin}
 use Rattle.mesh_outline.proofs.Padding.{movable_within}

@@ -8,11 +8,12 @@ use Rattle.std.proofs.lemmas.Int.{ints}
 use Rattle.std.proofs.lemmas.List.Elements.{All-map, All-weaker}
 use Rattle.mesh_plane.proofs.Identities.{cross_flip}
 use Rattle.mesh_draw.proofs.Apart.{apart_long}
+use Rattle.mesh_draw.proofs.Quarters.{quarters_turn}
 use Rattle.mesh_plane.specs.Plane.{Point, Edge, plus, minus, opposite, cross, dot, turn, right_quarter}
 use Rattle.mesh_grid.specs.Direction.{IsFresh, IsShort, scaled_direction}
 use Rattle.mesh_grid.specs.Directed.{direction_of}
 use Rattle.mesh_plane.specs.Winding.{boundary}
-use Rattle.mesh_plane.proofs.Whole.{linear, multiplied}
+use Rattle.mesh_plane.proofs.Whole.{linear}
 use Rattle.mesh_plane.proofs.ClosedLists.{boundary_map, boundary_all, all_both}
 use Rattle.mesh_grid.proofs.Parts.{direction_fresh, direction_short}
 use Rattle.mesh_grid.proofs.Scaling.{scaled_direction_opposite_radius, scaled_turn_kept, scaled_parallel_kept}
@@ -24,9 +25,9 @@ use Rattle.mesh_join.specs.Joins.{IsJoint}
 use Rattle.mesh_arc.specs.Arcs.{sense_of}
 use Rattle.mesh_join.specs.Joints.{IsTurn, contact}
 use Rattle.mesh_join.specs.Styles.{OffsetJoin}
-use Rattle.mesh_outline.specs.Outline.{Section, Corner, own_edge, sideways, section_of, parts, sense_for, joint_at, IsRing}
+use Rattle.mesh_outline.specs.Outline.{Section, Corner, own_edge, sideways, section_of, parts, sense_for, joint_at}
 use Rattle.mesh_draw.specs.Drawing.{sided}
-use Rattle.mesh_outline.specs.Building.{IsCorner}
+use Rattle.mesh_outline.specs.Midway.{IsCorner}
 
 -- on each side
 pub negative : (offset : ℤ) → int_lt offset (pos 0) ≡ true → offset <ℤ pos 0
@@ -34,6 +35,11 @@ negative offset e = omega (arith, ints)
 
 pub not_negative : (offset : ℤ) → int_lt offset (pos 0) ≡ false → pos 0 ≤ℤ offset
 not_negative offset e = omega (arith, ints)
+
+-- edges with different ends, each starting where the one before ends, the first where the last does
+pub record IsRing (contour : List Edge) : Type 0 where
+  pub proper : All (λ (e : Edge). e.0 ≢ e.1) contour
+  pub closed : All (λ (c : Edge × Edge). c.0.1 ≡ c.1.0) (boundary contour)
 
 -- what holds of all pairs of neighbouring edges holds of the corners
 pub corners : (unit : ℕ) (offset : ℤ) (P : Corner → Type 0) (contour : List Edge) →
@@ -44,9 +50,6 @@ corners unit offset P contour h =
     (All-map P (λ (c : Edge × Edge). (section_of unit offset c.0, section_of unit offset c.1)) (boundary contour) h)
 
 -- ---- the ends of a join
-
-tops_turn : (v s t : Point) → turn v (plus v (right_quarter s)) (plus v (right_quarter t)) ≡ cross s t
-tops_turn v s t = simp multiplied (omega (arith, linear))
 
 -- the test for an outer corner tells on which side the second direction lies
 outer_side : (offset x d y : ℤ) → (x ≡ pos 0 → y ≡ pos 0) → (pos 0 ≤ℤ x → y ≤ℤ pos 0) → (x ≤ℤ pos 0 → pos 0 ≤ℤ y) →
@@ -64,7 +67,7 @@ ends_turn unit offset a v b some first second outer =
     let t = scaled_direction unit offset (direction_of unit u) in
     let dw = direction_of_is unit w (apart_long (a, v) first) in
     let du = direction_of_is unit u (apart_long (v, b) second) in
-    rw (tops_turn v s t)
+    rw (quarters_turn v s t)
     (outer_side offset (cross u w) (dot u w) (cross s t)
     (λ h. scaled_parallel_kept offset some dw du (omega (arith, linear, cross_flip u w)))
     (λ h. omega (arith, linear, cross_flip t s, scaled_turn_kept offset some du dw h))

@@ -28,10 +28,10 @@ use Rattle.mesh_arc.specs.declared.arc.ArcDirection.TheVariants.{Clockwise, Coun
 use Rattle.mesh_arc.specs.Arcs.{sense_of}
 use Rattle.mesh_join.specs.Joints.{NeverTurnsBack}
 use Rattle.mesh_join.specs.Styles.{OffsetJoin}
-use Rattle.mesh_outline.specs.Outline.{Corner, own_edge, strip, outer_edges, corner_pieces, drawn_pieces, sideways, section_of, parts, sense_for, joint_at, joined, ring_outline, ring_pieces, IsRing}
+use Rattle.mesh_outline.specs.Outline.{Corner, own_edge, strip, outer_edges, corner_pieces, drawn_pieces, sideways, section_of, parts, sense_for, joint_at, joined, ring_outline, ring_pieces}
 use Rattle.mesh_draw.specs.Drawing.{sided}
 use Rattle.mesh_draw.proofs.Apart.{apart_long}
-use Rattle.mesh_outline.proofs.Corners.{negative, not_negative, corners, corners_keep}
+use Rattle.mesh_outline.proofs.Corners.{IsRing, negative, not_negative, corners, corners_keep}
 use Rattle.mesh_outline.proofs.OutlineSum.{IsClosed, Stays, drawn_total, still_total}
 
 -- the turns of moved points are products of the vectors

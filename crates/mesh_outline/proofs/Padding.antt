@@ -23,10 +23,10 @@ use Rattle.mesh_outline.specs.Building.{IsMovable}
 use Rattle.mesh_outline.specs.Kinds.{way_for}
 use Rattle.mesh_outline.specs.declared.outline.kind.ContourKind.{ContourKind}
 use Rattle.mesh_outline.specs.declared.outline.kind.ContourKind.TheVariants.{Outer, Hole, Ignored}
-use Rattle.mesh_outline.specs.Outline.{Section, Corner, top_edge, section_of, inner_edges, outer_edges, corner_edges, drawn_edges, parts, joint_at, joined, ring_outline, IsRing}
+use Rattle.mesh_outline.specs.Outline.{Section, Corner, top_edge, section_of, inner_edges, outer_edges, corner_edges, drawn_edges, parts, joint_at, joined, ring_outline}
 use Rattle.mesh_draw.specs.Padding.{ArePathsSafe, IsNear}
 use Rattle.mesh_draw.proofs.Apart.{apart_long}
-use Rattle.mesh_outline.proofs.Corners.{corners, corners_keep}
+use Rattle.mesh_outline.proofs.Corners.{IsRing, corners, corners_keep}
 use Rattle.mesh_draw.proofs.Padding.{beside_near, ends_safe, paths_safe_less, safe_within_less, vertex_near}
 
 -- ---- paddings

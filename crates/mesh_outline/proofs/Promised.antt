@@ -13,9 +13,10 @@ use Rattle.mesh_clean.specs.Cleaned.{cleaned_sections, IsClean}
 use Rattle.mesh_join.specs.Styles.{OffsetJoin, OutlineStyle, outer, inner}
 use Rattle.mesh_draw.specs.Drawing.{NeverTurnedRound}
 use Rattle.mesh_outline.specs.Kinds.{contour_kind}
-use Rattle.mesh_outline.specs.Outline.{parts, joined, section_of, drawn_pieces, outline_pieces, IsRing}
+use Rattle.mesh_outline.specs.Outline.{parts, joined, section_of, drawn_pieces, outline_pieces}
 use Rattle.mesh_draw.specs.Drawing.{sided}
 use Rattle.mesh_outline.specs.Resolved.{HasPromisedEdges, HavePromisedEdges}
+use Rattle.mesh_outline.proofs.Corners.{IsRing}
 use Rattle.mesh_outline.proofs.OutlineCount.{outline_total, outline_balanced, outline_winding, pieces_wind}
 use Rattle.mesh_outline.proofs.Padding.{outline_near, way_of}
 

@@ -1,7 +1,7 @@
 -- Outlines: how a contour that is moved sideways by an offset is drawn, and the pieces between it and the contour.
-use Rattle.std.specs.Prelude.{ℕ, ◌≡◌, ◌≢◌, Bool, cond, List, [], ◌∷◌, ◌++◌, map, ℤ, pos, unsigned_abs, int_lt}
+use Rattle.std.specs.Prelude.{ℕ, Bool, cond, List, [], ◌∷◌, ◌++◌, map, ℤ, pos, unsigned_abs, int_lt}
 use Rattle.std.specs.Ordering.{int_eq}
-use Rattle.std.specs.List.{All, flat_map}
+use Rattle.std.specs.List.{flat_map}
 use Rattle.std.proofs.Math.Bool.{beq}
 use Rattle.mesh_plane.specs.Plane.{Point, Edge, plus, minus, cross, dot, right_quarter}
 use Rattle.mesh_grid.specs.Direction.{scaled_direction}
@@ -114,8 +114,3 @@ outline_edges unit style points = ring_outline unit style (cleaned_sections poin
 -- its pieces: the strips between the edges and the moved edges, and the triangles of the joins
 abbrev pub outline_pieces : ℕ → OffsetJoin → List Point → List (List Point)
 outline_pieces unit style points = ring_pieces unit style (cleaned_sections points)
-
--- edges with different ends, each starting where the one before ends, the first where the last does
-pub record IsRing (contour : List Edge) : Type 0 where
-  pub proper : All (λ (e : Edge). e.0 ≢ e.1) contour
-  pub closed : All (λ (c : Edge × Edge). c.0.1 ≡ c.1.0) (boundary contour)

@@ -13,9 +13,9 @@ ghost use Rattle.mesh_draw.specs.Adding.{Adds, added, added_edges, Keeps};
 ghost use Rattle.mesh_draw.specs.Drawing.{NeverTurnedRound, WindAsPieces, WindsByCount};
 ghost use Rattle.mesh_draw.specs.Adding.{HasRoomFor};
 ghost use Rattle.mesh_draw.specs.Padding.{AreEndsNear};
-ghost use Rattle.mesh_outline.specs.Building.{offset_join, style_for, IsCorner, IsMovable};
-ghost use Rattle.mesh_outline.specs.Building.{corner_segments, top_segments};
+ghost use Rattle.mesh_outline.specs.Building.{style_for, IsMovable};
 ghost use Rattle.mesh_outline.specs.Kinds.{way_for};
+ghost use Rattle.mesh_outline.specs.Midway.{corner_segments, offset_join, top_segments, IsCorner};
 ghost use Rattle.mesh_outline.specs.Outline.{outline_edges, outline_pieces};
 
 use crate::outline::builder_join::{JoinBuilder, is_outer};

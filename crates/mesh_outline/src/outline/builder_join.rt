@@ -5,7 +5,7 @@ ghost use Rattle.mesh_num.specs.Segments.{segments_of};
 ghost use Rattle.mesh_join.specs.Joins.{join_edges, HasFew};
 ghost use Rattle.mesh_join.specs.Styles.{JoinStyle};
 ghost use Rattle.mesh_outline.specs.Outline.{joint_at, parts, sense_for};
-ghost use Rattle.mesh_outline.specs.Building.{offset_join, IsCorner, IsMoved};
+ghost use Rattle.mesh_outline.specs.Midway.{offset_join, IsCorner, IsMoved};
 
 use crate::outline::section::OffsetSection;
 use mesh_join::arc::ArcDirection;

@@ -62,11 +62,11 @@ impl<I: IntNumber> OffsetSection<I> {
 }
 
 /// The point to the right of `point` by the length of a vector, which has to be safe.
-fn beside<I: IntNumber>(point: IntPoint<I>, along: &IntVector<I>) -> IntPoint<I>
-    requires { IsSafe I.unit (plus point (right_quarter along.now)) }
-    ensures { result ≡ plus point (right_quarter along.now) }
+fn beside<I: IntNumber>(point: IntPoint<I>, scaled: &IntVector<I>) -> IntPoint<I>
+    requires { IsSafe I.unit (plus point (right_quarter scaled.now)) }
+    ensures { result ≡ plus point (right_quarter scaled.now) }
 {
-    let x = point.x.to_wide() + along.y;
-    let y = point.y.to_wide() - along.x;
+    let x = point.x.to_wide() + scaled.y;
+    let y = point.y.to_wide() - scaled.x;
     IntPoint::new(I::from_wide(x), I::from_wide(y))
 }

@@ -7,7 +7,7 @@ use Rattle.mesh_outline.specs.Outline.{Section}
 use Rattle.mesh_outline.proofs.BuilderRoom.{room_first, room_step, room_last}
 use Rattle.mesh_clean.specs.Cleaned.{cleaned_sections}
 use Rattle.mesh_clean.proofs.CleaningSteps.{cleaned-none}
-use Rattle.mesh_outline.specs.Building.{top_segments}
+use Rattle.mesh_outline.specs.Midway.{top_segments}
 use Rattle.mesh_outline.proofs.Padding.{movable_within}
 use Rattle.mesh_outline.proofs.BuilderWalk.{none_adds, first_fits, walk_continues, walk_starts, walk_ends}
 use Rattle.mesh_draw.proofs.Adding.{keeps_added, on_ok_then}
