@@ -26,7 +26,7 @@ use Rattle.mesh_draw.proofs.Walks.{woven_through}
 use Rattle.mesh_stroke.specs.Paths.{neighbours, path_edges}
 use Rattle.mesh_stroke.specs.Styles.{StrokeStyle, stroke_padding}
 use Rattle.mesh_stroke.specs.Strokes.{Corner, side_edges, corner_edges, both_caps, drawn_edges}
-use Rattle.mesh_stroke.specs.Building.{Section, section_of, own_edge, IsMade, IsCorner, AreEnds}
+use Rattle.mesh_stroke.specs.Midway.{Section, section_of, own_edge, IsMade, IsCorner, AreEnds}
 use Rattle.mesh_stroke.proofs.Chains.{neighbours_all, path_chain}
 use Rattle.mesh_stroke.proofs.Reach.{join_covered, start_covered, end_covered, radius_covered, cap_padding_least}
 

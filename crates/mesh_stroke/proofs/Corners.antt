@@ -22,7 +22,7 @@ use Rattle.mesh_join.proofs.Joins.{join_keeps}
 use Rattle.mesh_draw.proofs.Quarters.{quarters_turn}
 use Rattle.mesh_stroke.specs.Paths.{neighbours}
 use Rattle.mesh_num.specs.Segments.{SignedEdge, segments_of}
-use Rattle.mesh_stroke.specs.Building.{Section, section_of, own_edge, IsCorner}
+use Rattle.mesh_stroke.specs.Midway.{Section, section_of, own_edge, IsCorner}
 use Rattle.mesh_stroke.specs.Strokes.{Corner, heading, facing, joint_right, inner_edges, outer_edges, corner_edges}
 use Rattle.mesh_stroke.proofs.Chains.{IsChain, neighbours_all}
 use Rattle.mesh_stroke.proofs.Sides.{heading_is}

@@ -8,7 +8,7 @@ use Rattle.mesh_cuts.specs.Split.{back}
 use Rattle.mesh_join.specs.Styles.{JoinStyle}
 use Rattle.mesh_cap.specs.Caps.{CapKind, cap_edges}
 use Rattle.mesh_cap.specs.Ends.{half_turn}
-use Rattle.mesh_stroke.specs.Building.{Section, section_of, own_edge}
+use Rattle.mesh_stroke.specs.Midway.{Section, section_of, own_edge}
 use Rattle.mesh_stroke.specs.Strokes.{Corner, heading, inner_edges, outer_edges, corner_edges, cap_at, both_caps}
 use Rattle.mesh_stroke.proofs.Corners.{left_turn, faced_here, faced_sections}
 

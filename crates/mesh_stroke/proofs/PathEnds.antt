@@ -13,7 +13,7 @@ use Rattle.mesh_arc.specs.declared.arc.ArcDirection.TheVariants.{Counterclockwis
 use Rattle.mesh_join.specs.Joints.{joint}
 use Rattle.mesh_cap.specs.Caps.{CapKind, cap_edges, cap_padding, IsCapped}
 use Rattle.mesh_cap.specs.Ends.{half_turn}
-use Rattle.mesh_stroke.specs.Building.{Section, section_of, own_edge, IsMade, IsFacing}
+use Rattle.mesh_stroke.specs.Midway.{Section, section_of, own_edge, IsMade, IsFacing}
 use Rattle.mesh_stroke.specs.Strokes.{heading, cap_at, both_caps}
 use Rattle.mesh_stroke.proofs.Corners.{apart_back}
 use Rattle.mesh_stroke.proofs.Sides.{heading_is, heading_back}

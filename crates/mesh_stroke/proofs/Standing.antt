@@ -5,7 +5,8 @@ use Rattle.std.specs.List.{All}
 use Rattle.mesh_plane.specs.Plane.{Point, Edge}
 use Rattle.mesh_num.specs.Segments.{SignedEdge, segments_of}
 use Rattle.mesh_draw.specs.Adding.{Adds}
-use Rattle.mesh_stroke.specs.Building.{Section, section_of, own_edge, IsStrokable, IsCorner, AreEnds}
+use Rattle.mesh_stroke.specs.Building.{IsStrokable}
+use Rattle.mesh_stroke.specs.Midway.{Section, section_of, own_edge, IsCorner, AreEnds}
 use Rattle.mesh_stroke.specs.Paths.{path_edges}
 use Rattle.mesh_stroke.specs.Styles.{StrokeStyle}
 use Rattle.mesh_stroke.specs.Strokes.{side_edges, corner_edges, both_caps, drawn_edges}

@@ -1,5 +1,6 @@
 pub mod Building
 pub mod Drawn
+pub mod Midway
 pub mod Paths
 pub mod Reversal
 pub mod Strokes

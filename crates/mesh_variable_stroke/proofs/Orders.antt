@@ -12,7 +12,7 @@ use Rattle.mesh_draw.specs.Walks.{pairs, last_of}
 use Rattle.mesh_draw.proofs.ProperEdges.{proper_append, proper_flat_map}
 use Rattle.mesh_draw.proofs.Walks.{woven_through}
 use Rattle.mesh_tangent.specs.Sections.{Circle, Section}
-use Rattle.mesh_variable_stroke.specs.Building.{last_with}
+use Rattle.mesh_variable_stroke.specs.Midway.{last_with}
 use Rattle.mesh_variable_stroke.specs.VariableStrokes.{Joint, are_butt}
 use Rattle.mesh_variable_stroke.specs.declared.chain_end.ChainEnd.{ChainEnd}
 

@@ -16,7 +16,7 @@ use Rattle.mesh_draw.specs.Radii.{radius_of}
 use Rattle.mesh_draw.proofs.Padding.{safe_within_less}
 use Rattle.mesh_sweep.specs.Sweeps.{distance, IsSwept}
 use Rattle.mesh_tangent.specs.Sections.{Circle, Section, IsSafeCircle, IsContact}
-use Rattle.mesh_variable_stroke.specs.Building.{IsGoodSection, IsGoodJoint}
+use Rattle.mesh_variable_stroke.specs.Midway.{IsGoodSection, IsGoodJoint}
 use Rattle.mesh_variable_stroke.specs.Chains.{circle_of}
 use Rattle.mesh_variable_stroke.specs.Drawn.{greatest_radius, AreStrokable}
 use Rattle.mesh_variable_stroke.specs.VariableStrokes.{Joint, is_apart}

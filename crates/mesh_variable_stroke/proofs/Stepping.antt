@@ -6,8 +6,8 @@ use Rattle.mesh_num.specs.Segments.{SignedEdge, segments_of}
 use Rattle.mesh_num.proofs.SegmentLists.{segments_of-append}
 use Rattle.mesh_arc.specs.declared.arc.ArcOptions.{ArcOptions}
 use Rattle.mesh_tangent.specs.Sections.{Circle, Section, section_of, with_contacts, has_no_section, IsSafeCircle, HasContacts, IsSafeSection}
-use Rattle.mesh_variable_stroke.specs.Building.{Open, Walk, opened, gone_on, step_edges, finish_edges}
-use Rattle.mesh_variable_stroke.specs.Building.{IsGoodOpen, IsGoodSection, IsGoodWalk, last_with}
+use Rattle.mesh_variable_stroke.specs.Midway.{Open, Walk, opened, gone_on, step_edges, finish_edges}
+use Rattle.mesh_variable_stroke.specs.Midway.{IsGoodOpen, IsGoodSection, IsGoodWalk, last_with}
 use Rattle.mesh_variable_stroke.specs.VariableStrokes.{Joint, is_apart, start_edges, end_edges, left_edges, right_edges, joint_edges}
 use Rattle.mesh_variable_stroke.specs.declared.chain_end.ChainEnd.{ChainEnd}
 use Rattle.mesh_variable_stroke.specs.declared.chain_end.ChainEnd.TheVariants.{Butt, Round}

@@ -16,8 +16,8 @@ use Rattle.mesh_draw.specs.Adding.{Adds}
 use Rattle.mesh_draw.proofs.Adding.{keeps_through}
 use Rattle.mesh_sweep.specs.Sweeps.{circle_edges}
 use Rattle.mesh_tangent.specs.Sections.{Circle, Section, IsSafeCircle}
-use Rattle.mesh_variable_stroke.specs.Building.{Open, Walk, opened, gone_on, step_edges, finish_edges, begun, step_to, walked, walked_edges}
-use Rattle.mesh_variable_stroke.specs.Building.{IsGoodWalk}
+use Rattle.mesh_variable_stroke.specs.Midway.{Open, Walk, opened, gone_on, step_edges, finish_edges, begun, step_to, walked, walked_edges}
+use Rattle.mesh_variable_stroke.specs.Midway.{IsGoodWalk}
 use Rattle.mesh_variable_stroke.specs.Drawn.{greatest_radius, AreStrokable}
 use Rattle.mesh_variable_stroke.specs.Chains.{Chain, Step, rest_of, is_break, is_cover, end_before, end_after, chains_of, circle_of, circles_of, steps_from}
 use Rattle.mesh_variable_stroke.specs.VariableStrokes.{side_edges, start_edges, end_edges, joint_edges, sections_of, edges_with, chain_edges, variable_stroke_edges}

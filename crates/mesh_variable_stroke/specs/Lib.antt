@@ -1,4 +1,4 @@
-pub mod Building
 pub mod Chains
 pub mod Drawn
+pub mod Midway
 pub mod VariableStrokes

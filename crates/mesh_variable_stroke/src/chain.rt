@@ -2,8 +2,8 @@
 
 ghost use Rattle.std.specs.Prelude.{◌≡◌, length, take, OnOk, IfSome};
 ghost use Rattle.mesh_join.specs.Appending.{Appends};
-ghost use Rattle.mesh_variable_stroke.specs.Building.{IsGoodOpen, IsGoodSection, opened, gone_on};
-ghost use Rattle.mesh_variable_stroke.specs.Building.{attaching_edges, finish_edges, step_edges};
+ghost use Rattle.mesh_variable_stroke.specs.Midway.{IsGoodOpen, IsGoodSection, opened, gone_on};
+ghost use Rattle.mesh_variable_stroke.specs.Midway.{attaching_edges, finish_edges, step_edges};
 
 use crate::chain_end::{ChainEnd, are_butt};
 use crate::ends::{add_end, add_start};
@@ -27,7 +27,7 @@ pub(crate) struct Chain<I: IntNumber> {
 }
 
 impl<I: IntNumber> Model for Chain<I> {
-    ghost use Rattle.mesh_variable_stroke.specs.Building.{Open};
+    ghost use Rattle.mesh_variable_stroke.specs.Midway.{Open};
 
     ghost Value = { Open };
 

@@ -2,7 +2,7 @@
 
 ghost use Rattle.std.specs.Prelude.{◌≡◌, length, take, OnOk};
 ghost use Rattle.mesh_join.specs.Appending.{Appends};
-ghost use Rattle.mesh_variable_stroke.specs.Building.{IsGoodSection};
+ghost use Rattle.mesh_variable_stroke.specs.Midway.{IsGoodSection};
 ghost use Rattle.mesh_variable_stroke.specs.VariableStrokes.{start_edges, end_edges, sweep_at as sweep_at_circle};
 
 use crate::chain_end::ChainEnd;

@@ -5,8 +5,8 @@ ghost use Rattle.mesh_join.specs.Appending.{Appends};
 ghost use Rattle.mesh_tangent.specs.Sections.{IsSafeCircle};
 ghost use Rattle.mesh_variable_stroke.specs.Chains.{is_covered_by as is_covered_in, is_smaller as is_smaller_than};
 ghost use Rattle.mesh_variable_stroke.specs.Chains.{end_before, end_after};
-ghost use Rattle.mesh_variable_stroke.specs.Building.{IsGoodOpen, IsGoodSection, IsGoodWalk, opened, gone_on, step_edges};
-ghost use Rattle.mesh_variable_stroke.specs.Building.{begun, step_to, walked, walked_edges, finish_edges};
+ghost use Rattle.mesh_variable_stroke.specs.Midway.{IsGoodOpen, IsGoodSection, IsGoodWalk, opened, gone_on, step_edges};
+ghost use Rattle.mesh_variable_stroke.specs.Midway.{begun, step_to, walked, walked_edges, finish_edges};
 ghost use Rattle.mesh_variable_stroke.specs.declared.chain_end.ChainEnd.TheVariants.{Butt, Round};
 
 use crate::chain::Chain;
@@ -31,7 +31,7 @@ pub(crate) struct Walk<I: IntNumber> {
 }
 
 impl<I: IntNumber> Model for Walk<I> {
-    ghost use Rattle.mesh_variable_stroke.specs.Building.{Walk as PlaneWalk};
+    ghost use Rattle.mesh_variable_stroke.specs.Midway.{Walk as PlaneWalk};
 
     ghost Value = { PlaneWalk };
 

@@ -7,7 +7,7 @@ ghost use Rattle.mesh_plane.specs.Plane.{cross, minus};
 ghost use Rattle.mesh_join.specs.Appending.{Appends, HasRoomForEdges};
 ghost use Rattle.mesh_join.specs.Joins.{HasFew};
 ghost use Rattle.mesh_join.specs.Styles.{JoinStyle};
-ghost use Rattle.mesh_stroke.specs.Building.{own_edge, IsCorner};
+ghost use Rattle.mesh_stroke.specs.Midway.{own_edge, IsCorner};
 ghost use Rattle.mesh_stroke.specs.Strokes.{corner_edges, inner_edges, outer_edges};
 
 use crate::stroke::section::StrokeSection;

@@ -5,7 +5,7 @@ ghost use Rattle.mesh_join.specs.Appending.{Appends, HasRoomForEdges};
 ghost use Rattle.mesh_cap.specs.Caps.{DrawsDirectly};
 ghost use Rattle.mesh_cap.specs.Ends.{half_turn};
 ghost use Rattle.mesh_cap.specs.Kinds.{kind_of};
-ghost use Rattle.mesh_stroke.specs.Building.{own_edge, AreEnds, IsFacing};
+ghost use Rattle.mesh_stroke.specs.Midway.{own_edge, AreEnds, IsFacing};
 ghost use Rattle.mesh_stroke.specs.Strokes.{both_caps, heading};
 
 use crate::stroke::section::StrokeSection;

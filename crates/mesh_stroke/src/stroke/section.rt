@@ -5,7 +5,7 @@ ghost use Rattle.mesh_plane.specs.Bounds.{IsSafe};
 ghost use Rattle.mesh_plane.specs.Plane.{plus, minus, right_quarter};
 ghost use Rattle.mesh_grid.specs.Rectangle.{IsSafeWidened};
 ghost use Rattle.mesh_join.specs.Appending.{Appends, HasRoomForEdges};
-ghost use Rattle.mesh_stroke.specs.Building.{own_edge, section_of, IsMade};
+ghost use Rattle.mesh_stroke.specs.Midway.{own_edge, section_of, IsMade};
 ghost use Rattle.mesh_stroke.specs.Strokes.{side_edges};
 
 use mesh_num::num::{IntNumber, IntPoint, IntVector, UnitIntVector};
@@ -26,7 +26,7 @@ pub(crate) struct StrokeSection<I: IntNumber> {
 }
 
 impl<I: IntNumber> Model for StrokeSection<I> {
-    ghost use Rattle.mesh_stroke.specs.Building.{Section};
+    ghost use Rattle.mesh_stroke.specs.Midway.{Section};
 
     ghost Value = { Section };
 
@@ -70,15 +70,15 @@ impl<I: IntNumber> StrokeSection<I> {
         let Some(direction) = (b - a).fast_normalize() else {
             unreachable!()
         };
-        let along = direction.scale(radius);
+        let scaled = direction.scale(radius);
         StrokeSection {
             direction,
             a,
             b,
-            a_left: left_of(a, &along),
-            a_right: right_of(a, &along),
-            b_left: left_of(b, &along),
-            b_right: right_of(b, &along),
+            a_left: left_of(a, &scaled),
+            a_right: right_of(a, &scaled),
+            b_left: left_of(b, &scaled),
+            b_right: right_of(b, &scaled),
         }
     }
 
@@ -97,21 +97,21 @@ impl<I: IntNumber> StrokeSection<I> {
 }
 
 /// The point to the right of `point` by the length of a vector, which has to be safe.
-fn right_of<I: IntNumber>(point: IntPoint<I>, along: &IntVector<I>) -> IntPoint<I>
-    requires { IsSafe I.unit (plus point (right_quarter along.now)) }
-    ensures { result ≡ plus point (right_quarter along.now) }
+fn right_of<I: IntNumber>(point: IntPoint<I>, scaled: &IntVector<I>) -> IntPoint<I>
+    requires { IsSafe I.unit (plus point (right_quarter scaled.now)) }
+    ensures { result ≡ plus point (right_quarter scaled.now) }
 {
-    let x = point.x.to_wide() + along.y;
-    let y = point.y.to_wide() - along.x;
+    let x = point.x.to_wide() + scaled.y;
+    let y = point.y.to_wide() - scaled.x;
     IntPoint::new(I::from_wide(x), I::from_wide(y))
 }
 
 /// The point to the left of `point` by the length of a vector, which has to be safe.
-fn left_of<I: IntNumber>(point: IntPoint<I>, along: &IntVector<I>) -> IntPoint<I>
-    requires { IsSafe I.unit (minus point (right_quarter along.now)) }
-    ensures { result ≡ minus point (right_quarter along.now) }
+fn left_of<I: IntNumber>(point: IntPoint<I>, scaled: &IntVector<I>) -> IntPoint<I>
+    requires { IsSafe I.unit (minus point (right_quarter scaled.now)) }
+    ensures { result ≡ minus point (right_quarter scaled.now) }
 {
-    let x = point.x.to_wide() - along.y;
-    let y = point.y.to_wide() + along.x;
+    let x = point.x.to_wide() - scaled.y;
+    let y = point.y.to_wide() + scaled.x;
     IntPoint::new(I::from_wide(x), I::from_wide(y))
 }

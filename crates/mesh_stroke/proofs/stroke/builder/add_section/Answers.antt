@@ -3,7 +3,7 @@ use Rattle.std.proofs.Common.{length}
 use Rattle.std.specs.Prelude.{vec_capacity}
 use Rattle.std.proofs.lemmas.Bool.{false≢true}
 use Rattle.mesh_draw.proofs.Adding.{on_ok_then}
-use Rattle.mesh_stroke.specs.Building.{own_edge}
+use Rattle.mesh_stroke.specs.Midway.{own_edge}
 use Rattle.mesh_stroke.specs.Strokes.{corner_edges, side_edges}
 use Rattle.mesh_stroke.proofs.Fitting.{first_edges_fit, other_edges_fit}
 use Rattle.mesh_stroke.proofs.BuilderWalk.{both_added}

@@ -5,7 +5,7 @@ use Rattle.std.proofs.lemmas.Bool.{false≢true}
 use Rattle.mesh_draw.proofs.Adding.{keeps_through, on_ok_then}
 use Rattle.mesh_join.specs.Styles.{JoinStyle}
 use Rattle.mesh_stroke.specs.Building.{style_with}
-use Rattle.mesh_stroke.specs.Building.{IsCorner}
+use Rattle.mesh_stroke.specs.Midway.{IsCorner}
 use Rattle.mesh_stroke.specs.Paths.{path_edges}
 use Rattle.mesh_stroke.specs.Styles.{StrokeStyle}
 use Rattle.mesh_stroke.proofs.BuilderWalk.{no_points, none_adds, fit_made, fit_radius}

@@ -3,7 +3,7 @@ use Rattle.std.proofs.Common.{length, ◌∙◌, ap}
 use Rattle.std.specs.Prelude.{vec_capacity, pos, unsigned_abs, ◌<ℤ◌}
 use Rattle.mesh_draw.proofs.Adding.{on_ok_then}
 use Rattle.mesh_draw.proofs.Padding.{between_safe}
-use Rattle.mesh_stroke.specs.Building.{Section, section_of, own_edge}
+use Rattle.mesh_stroke.specs.Midway.{Section, section_of, own_edge}
 use Rattle.mesh_stroke.proofs.Corners.{left_turn, turned_there, not_below, drawn_there, drawn_here}
 use Rattle.mesh_stroke.proofs.Fitting.{room_there, room_here}
 use Rattle.mesh_stroke.proofs.stroke.builder_join.JoinJoinBuilder.add_join.Goals as goal

@@ -7,7 +7,7 @@ use Rattle.mesh_num.specs.Segments.{segments_of}
 use Rattle.mesh_stroke.specs.Strokes.{both_caps}
 use Rattle.mesh_draw.proofs.Adding.{on_ok_then}
 use Rattle.mesh_cap.specs.Caps.{CapKind, cap_padding, DrawsDirectly}
-use Rattle.mesh_stroke.specs.Building.{Section, section_of, own_edge}
+use Rattle.mesh_stroke.specs.Midway.{Section, section_of, own_edge}
 use Rattle.mesh_stroke.proofs.PathEnds.{end_capped, start_capped, caps_drawn}
 use Rattle.mesh_stroke.proofs.Fitting.{room_for_start, room_for_end}
 use Rattle.mesh_stroke.proofs.stroke.caps.BothCaps.add.Goals as goal
