@@ -8,7 +8,8 @@ use Rattle.std.proofs.lemmas.List.Sorted.{IsPermutation-refl, IsPermutation-tran
 use Rattle.mesh_plane.specs.Winding.{route, sum_of}
 use Rattle.mesh_plane.proofs.ClosedLists.{woven, regrouped}
 use Rattle.mesh_plane.proofs.Whole.{linear}
-use Rattle.mesh_draw.specs.Walks.{pairs, last_of}
+use Rattle.mesh_plane.specs.Ways.{last_of}
+use Rattle.mesh_draw.specs.Walks.{pairs}
 
 -- each inner one of an open list is once the end of a pair and once the start of one
 pub pairs_ends : {A : Type 0} (g h : A → ℤ) (x : A) (xs : List A) →
@@ -28,11 +29,6 @@ pairs_all {A} P (x ∷ y ∷ ys) h =
 pub last_all : {A : Type 0} (P : A → Type 0) (x : A) (xs : List A) → All P (x ∷ xs) → P (last_of x xs)
 last_all P x [] h = All-head P x [] h
 last_all P x (y ∷ ys) h = last_all P y ys (All-tail P x (y ∷ ys) h)
-
--- a route has a pair for each point between its ends, and one more
-pub route_length : {A : Type 0} (a : A) (xs : List A) (z : A) → length (route a xs z) ≡ length xs + 1
-route_length a [] z = omega arith
-route_length a (x ∷ xs) z = omega (arith, route_length x xs z)
 
 -- a walk that ends in something of its own
 pub woven_through : {A B : Type 0} (top : A → List B) (corner : A × A → List B) (step : A → A → List B) (final : A × A → List B) →

@@ -12,11 +12,9 @@ use Rattle.mesh_plane.specs.Plane.{Point, cross}
 use Rattle.mesh_plane.specs.Winding.{total, route}
 use Rattle.std.proofs.lemmas.List.Elements.{All-more}
 use Rattle.mesh_plane.proofs.Whole.{linear}
+use Rattle.mesh_plane.proofs.Sizes.{within_size, sum_size, difference_size}
 use Rattle.mesh_shapes.specs.Contours.{double_area}
 use Rattle.mesh_outline.specs.Resolved.{DoAreasFit}
-
-pub within_size : (h : ℕ) (z : ℤ) → IsWithin h z → unsigned_abs z ≤ h
-within_size h z w = omega (arith, ints, w.low, w.high)
 
 pub size_fits : (z : ℤ) → unsigned_abs z < 2 ^ 127 → SFits w128 z
 size_fits z h = omega (arith, ints)
@@ -36,12 +34,6 @@ product_kept a b v w =
     let t : unsigned_abs b ≤ 2 ^ 31 = within_size (2 ^ 31) b w in
     let p : unsigned_abs (a *ℤ b) ≤ 2 ^ 62 = product_size a b v w in
     rw (size_kept a (omega arith), size_kept b (omega arith)) (size_kept (a *ℤ b) (omega arith))
-
-pub difference_size : (x y : ℤ) (m n : ℕ) → unsigned_abs x ≤ m → unsigned_abs y ≤ n → unsigned_abs (x -ℤ y) ≤ m + n
-difference_size x y m n h k = omega (arith, ints)
-
-pub sum_size : (x y : ℤ) (m n : ℕ) → unsigned_abs x ≤ m → unsigned_abs y ≤ n → unsigned_abs (x +ℤ y) ≤ m + n
-sum_size x y m n h k = omega (arith, ints)
 
 -- the size of a difference of two products of coordinates, and what 128 bits keep of it
 pub cross_size : (a b x y : ℤ) → IsWithin (2 ^ 31) a → IsWithin (2 ^ 31) b → IsWithin (2 ^ 31) x → IsWithin (2 ^ 31) y →

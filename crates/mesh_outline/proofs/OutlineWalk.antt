@@ -9,8 +9,8 @@ use Rattle.mesh_plane.specs.Winding.{boundary}
 use Rattle.mesh_plane.proofs.ClosedLists.{woven, woven_round}
 use Rattle.mesh_num.specs.Segments.{proper_edges}
 use Rattle.mesh_draw.proofs.ProperEdges.{proper_append, proper_flat_map, proper_length}
-use Rattle.mesh_draw.proofs.Walks.{route_length}
 use Rattle.mesh_outline.specs.Outline.{Section, Corner, top_edge, inner_edges, outer_edges, corner_edges, drawn_edges}
+use Rattle.mesh_join.proofs.Drawing.{route_length}
 
 -- what one section and what one corner draw
 abbrev pub drawn_top : Section → List Edge

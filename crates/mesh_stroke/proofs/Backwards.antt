@@ -5,12 +5,13 @@ use Rattle.std.proofs.lemmas.List.{reverse-append}
 use Rattle.mesh_plane.specs.Plane.{Point, Edge}
 use Rattle.mesh_plane.specs.Winding.{route, boundary, same_point, sum_of}
 use Rattle.mesh_plane.proofs.ClosedLists.{route_append, boundary_rotated}
-use Rattle.mesh_plane.proofs.Comparing.{decides_point}
+use Rattle.mesh_plane.proofs.Comparing.{decides_point, points_swap}
 use Rattle.mesh_plane.proofs.Sums.{sum_of_append}
 use Rattle.mesh_plane.proofs.Whole.{linear}
+use Rattle.mesh_plane.specs.Ways.{last_of}
 use Rattle.mesh_num.specs.Segments.{proper_edges}
 use Rattle.mesh_cuts.specs.Split.{back}
-use Rattle.mesh_draw.specs.Walks.{pairs, last_of}
+use Rattle.mesh_draw.specs.Walks.{pairs}
 use Rattle.mesh_draw.proofs.ProperEdges.{proper_append}
 use Rattle.mesh_stroke.specs.Paths.{neighbours}
 
@@ -44,15 +45,6 @@ pairs_backwards k (x ∷ []) = refl
 pairs_backwards k (x ∷ y ∷ ys) =
     pairs_two (backwards k ys) (k y) (k x) ∙ ap (λ l. l ++ ((k y, k x) ∷ [])) (pairs_backwards k (y ∷ ys))
 
-same_swapped : (p q : Point) → same_point q p ≡ same_point p q
-same_swapped p q = by (same_point q p) (same_point p q) refl refl
-  where
-    by : (a b : Bool) → same_point q p ≡ a → same_point p q ≡ b → a ≡ b
-    by true true h g = refl
-    by false false h g = refl
-    by true false h g = sym ((decides_point p q).1 (sym ((decides_point q p).0 h))) ∙ g
-    by false true h g = sym h ∙ (decides_point q p).1 (sym ((decides_point p q).0 g))
-
 -- the edges whose ends differ
 pub proper_backwards : (es : List Edge) → proper_edges (backwards back es) ≡ backwards back (proper_edges es)
 proper_backwards [] = refl
@@ -61,8 +53,8 @@ proper_backwards (e ∷ es) =
   where
     by : (b : Bool) → same_point e.0 e.1 ≡ b →
         backwards back (proper_edges es) ++ cond (not (same_point e.1 e.0)) (back e ∷ []) [] ≡ backwards back (cond (not b) (e ∷ proper_edges es) (proper_edges es))
-    by true h = rw (same_swapped e.0 e.1, h) (append-nil (backwards back (proper_edges es)))
-    by false h = rw (same_swapped e.0 e.1, h) refl
+    by true h = rw (points_swap e.0 e.1, h) (append-nil (backwards back (proper_edges es)))
+    by false h = rw (points_swap e.0 e.1, h) refl
 
 -- the first and the last of a list read backwards
 last_append : {A : Type 0} (x : A) (xs : List A) (z : A) → last_of x (xs ++ (z ∷ [])) ≡ z

@@ -10,6 +10,7 @@ use Rattle.std.proofs.lemmas.List.Sorted.{IsPermutation-refl, IsPermutation-appe
 use Rattle.mesh_plane.specs.Plane.{Point, Edge}
 use Rattle.mesh_plane.specs.Winding.{route, same_point}
 use Rattle.mesh_plane.proofs.ClosedLists.{woven}
+use Rattle.mesh_plane.specs.Ways.{last_of}
 use Rattle.mesh_num.specs.Segments.{SignedEdge, segments_of, edges_of, proper_edges, IsSubject}
 use Rattle.mesh_num.proofs.Subjects.{segments_of_subjects}
 use Rattle.mesh_num.proofs.SegmentLists.{edges_of_segments, segments_of-append}
@@ -21,7 +22,7 @@ use Rattle.mesh_draw.proofs.Padding.{safe_within_less}
 use Rattle.mesh_draw.proofs.ProperEdges.{proper_append, proper_flat_map}
 use Rattle.mesh_draw.specs.Adding.{Adds}
 use Rattle.mesh_stroke.specs.Building.{IsStrokable}
-use Rattle.mesh_draw.specs.Walks.{pairs, last_of}
+use Rattle.mesh_draw.specs.Walks.{pairs}
 use Rattle.mesh_draw.proofs.Walks.{woven_through}
 use Rattle.mesh_stroke.specs.Paths.{neighbours, path_edges}
 use Rattle.mesh_stroke.specs.Styles.{StrokeStyle, stroke_padding}
@@ -229,10 +230,6 @@ fit_ends unit style sign first last e g hf hl fe fg = record {
   safe_end = subst (λ (s : Section). IsSafeWidened unit (cap_padding style.end style.radius) s.b) (sym hl)
       (safe_within_less unit (stroke_padding style) (cap_padding style.end style.radius) g.1 (cap_padding_least style.end style.radius) (end_covered style) fg.safe_b);
 }
-
--- one after the other
-pub both_added : (old mid new : List SignedEdge) (es gs : List Edge) → mid ≡ old ++ segments_of es → new ≡ mid ++ segments_of gs → new ≡ old ++ segments_of (es ++ gs)
-both_added old mid new es gs m h = rw (h, m, segments_of-append es gs) (append_assoc old (segments_of es) (segments_of gs))
 
 -- no point, no edge
 pub no_points : (closed : Bool) (points : List Point) → points ≡ [] → path_edges closed points ≡ []

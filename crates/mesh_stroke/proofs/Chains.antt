@@ -9,8 +9,9 @@ use Rattle.mesh_plane.proofs.Whole.{linear}
 use Rattle.mesh_plane.proofs.Sums.{sum_of_same}
 use Rattle.mesh_plane.proofs.ClosedLists.{boundary_ends, boundary_all}
 use Rattle.mesh_plane.proofs.Comparing.{decides_point}
+use Rattle.mesh_plane.specs.Ways.{last_of}
 use Rattle.mesh_num.specs.Segments.{proper_edges}
-use Rattle.mesh_draw.specs.Walks.{pairs, last_of}
+use Rattle.mesh_draw.specs.Walks.{pairs}
 use Rattle.mesh_draw.proofs.Walks.{pairs_all}
 use Rattle.mesh_stroke.specs.Paths.{neighbours, path_edges}
 use Rattle.mesh_stroke.specs.Strokes.{Corner}

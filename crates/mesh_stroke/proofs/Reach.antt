@@ -7,6 +7,7 @@ use Rattle.std.proofs.lemmas.List.Elements.{All-nil, All-cons, All-head, All-app
 use Rattle.mesh_plane.specs.Plane.{Point, Edge}
 use Rattle.mesh_plane.specs.Winding.{same_point}
 use Rattle.mesh_plane.proofs.ClosedLists.{all_both, all_flat_map, route_all}
+use Rattle.mesh_plane.specs.Ways.{last_of}
 use Rattle.mesh_grid.proofs.Parts.{direction_fresh}
 use Rattle.mesh_cuts.specs.Split.{back}
 use Rattle.mesh_arc.specs.declared.arc.ArcDirection.{ArcDirection}
@@ -21,7 +22,6 @@ use Rattle.mesh_cap.proofs.CapLaws.{KeepsEnd}
 use Rattle.mesh_cap.proofs.Caps.{cap_keeps}
 use Rattle.mesh_draw.specs.Padding.{IsNear}
 use Rattle.mesh_draw.proofs.Padding.{vertex_near}
-use Rattle.mesh_draw.specs.Walks.{last_of}
 use Rattle.mesh_stroke.specs.Paths.{neighbours, path_edges}
 use Rattle.mesh_stroke.specs.Styles.{StrokeStyle, stroke_padding}
 use Rattle.mesh_stroke.specs.Strokes.{Corner, heading, right_of, left_of, side_edges, joint_right, outer_edges, inner_edges, corner_edges, cap_at, both_caps, drawn_edges}

@@ -14,6 +14,7 @@ use Rattle.mesh_plane.proofs.Identities.{lagrange, cross_flip}
 use Rattle.mesh_plane.proofs.Sizes.{dot_self}
 use Rattle.mesh_plane.proofs.Sums.{sum_of_equal, sum_of_append, total_append, total_flat_map, total_permutation}
 use Rattle.mesh_plane.proofs.Whole.{linear, mul_pos}
+use Rattle.mesh_plane.specs.Ways.{last_of}
 use Rattle.mesh_num.specs.Segments.{SignedEdge, proper_edges}
 use Rattle.mesh_draw.specs.Adding.{Adds, added_edges}
 use Rattle.mesh_draw.proofs.Adding.{adds_edges}
@@ -26,7 +27,7 @@ use Rattle.mesh_cap.specs.Caps.{CapKind}
 use Rattle.mesh_join.specs.Joins.{through, join_points, join_edges}
 use Rattle.mesh_join.specs.Joints.{joint, contact}
 use Rattle.mesh_join.specs.Styles.{JoinStyle}
-use Rattle.mesh_draw.specs.Walks.{pairs, last_of}
+use Rattle.mesh_draw.specs.Walks.{pairs}
 use Rattle.mesh_stroke.specs.Paths.{neighbours, path_edges}
 use Rattle.mesh_stroke.specs.Reversal.{net_count, CountAlike, with_caps_exchanged, reversed_edges, StrokesCanBeReversed}
 use Rattle.mesh_stroke.specs.Styles.{StrokeStyle}

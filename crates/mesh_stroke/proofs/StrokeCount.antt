@@ -11,6 +11,7 @@ use Rattle.mesh_plane.proofs.Whole.{linear, multiplied}
 use Rattle.mesh_plane.proofs.ClosedLists.{all_flat_map}
 use Rattle.mesh_plane.proofs.Triangles.{parallelogram_winds}
 use Rattle.mesh_plane.proofs.Pieces.{fan_winds}
+use Rattle.mesh_plane.specs.Ways.{last_of}
 use Rattle.mesh_grid.specs.Direction.{scaled_direction}
 use Rattle.mesh_grid.proofs.Parts.{direction_fresh}
 use Rattle.mesh_grid.proofs.Scaling.{dot_scaled_nonneg}
@@ -23,7 +24,6 @@ use Rattle.mesh_cap.specs.Caps.{CapKind, is_stock}
 use Rattle.mesh_cap.specs.Ends.{half_turn, IsEnd}
 use Rattle.mesh_cap.proofs.CapLaws.{KeepsEnd}
 use Rattle.mesh_cap.proofs.Caps.{cap_keeps}
-use Rattle.mesh_draw.specs.Walks.{last_of}
 use Rattle.mesh_stroke.specs.Paths.{neighbours}
 use Rattle.mesh_stroke.specs.Styles.{StrokeStyle}
 use Rattle.mesh_stroke.specs.Strokes.{Corner, heading, section_piece, facing, outer_edges, corner_pieces, cap_at, cap_pieces, both_cap_pieces, drawn_pieces}

@@ -14,12 +14,13 @@ use Rattle.mesh_plane.specs.Plane.{Point, Edge, minus, length_sq}
 use Rattle.mesh_plane.specs.Winding.{route, same_point}
 use Rattle.mesh_plane.proofs.ClosedLists.{all_both, all_flat_map}
 use Rattle.mesh_plane.proofs.Comparing.{decides_point}
+use Rattle.mesh_plane.specs.Ways.{last_of}
 use Rattle.mesh_arc.specs.declared.arc.ArcOptions.{ArcOptions}
 use Rattle.mesh_join.specs.Joints.{IsWithinPadding, StaysWithin}
 use Rattle.mesh_join.specs.VariableStyles.{Vertex}
 use Rattle.mesh_draw.specs.Padding.{IsNear}
 use Rattle.mesh_draw.specs.Radii.{radius_of}
-use Rattle.mesh_draw.specs.Walks.{pairs, last_of}
+use Rattle.mesh_draw.specs.Walks.{pairs}
 use Rattle.mesh_draw.proofs.Walks.{pairs_all, last_all}
 use Rattle.mesh_tangent.specs.Sections.{Circle, Section, IsContact, HasContacts, is_nested, has_no_section}
 use Rattle.mesh_tangent.specs.Sections.{radius_difference, left_contact, right_contact, with_contacts, section_of}

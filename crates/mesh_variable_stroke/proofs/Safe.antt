@@ -86,9 +86,3 @@ vertices_safe unit greatest (v ∷ vs) most h =
 pub path_safe : (unit : ℕ) (vs : List Vertex) → AreStrokable unit (greatest_radius vs) vs → All (IsSafeVertex unit) vs
 path_safe unit vs h = vertices_safe unit (greatest_radius vs) vs (omega (arith, ints)) h
 
--- the vector between safe points is short
-pub safe_difference : (unit : ℕ) (p q : Point) → IsSafe unit p → IsSafe unit q → IsSafe (2 * unit) (minus p q)
-safe_difference unit p q h k = record {
-  x = record { low = omega (arith, ints, h.x.low, k.x.high); high = omega (arith, ints, h.x.high, k.x.low) };
-  y = record { low = omega (arith, ints, h.y.low, k.y.high); high = omega (arith, ints, h.y.high, k.y.low) };
-}

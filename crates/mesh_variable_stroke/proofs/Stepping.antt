@@ -11,24 +11,21 @@ use Rattle.mesh_variable_stroke.specs.Midway.{IsGoodOpen, IsGoodSection, IsGoodW
 use Rattle.mesh_variable_stroke.specs.VariableStrokes.{Joint, is_apart, start_edges, end_edges, left_edges, right_edges, joint_edges}
 use Rattle.mesh_variable_stroke.specs.declared.chain_end.ChainEnd.{ChainEnd}
 use Rattle.mesh_variable_stroke.specs.declared.chain_end.ChainEnd.TheVariants.{Butt, Round}
-
--- edges added one after the other
-pub both_added : (old mid new : List SignedEdge) (es gs : List Edge) → mid ≡ old ++ segments_of es → new ≡ mid ++ segments_of gs → new ≡ old ++ segments_of (es ++ gs)
-both_added old mid new es gs m h = rw (h, m, segments_of-append es gs) (append_assoc old (segments_of es) (segments_of gs))
+use Rattle.mesh_join.proofs.Drawing.{appends_both}
 
 -- both ends of sections that do not meet
 pub apart_added : (unit : ℕ) (options later : ArcOptions) (j : Joint) (old mid new : List SignedEdge) → is_apart j ≡ true →
     mid ≡ old ++ segments_of (end_edges unit options Butt j.0) → new ≡ mid ++ segments_of (start_edges unit later Butt j.1) →
     new ≡ old ++ segments_of (joint_edges unit options j)
 apart_added unit options later j old mid new a m h =
-    rw a (both_added old mid new (end_edges unit options Butt j.0) (start_edges unit options Butt j.1) m h)
+    rw a (appends_both old mid new (end_edges unit options Butt j.0) (start_edges unit options Butt j.1) m h)
 
 -- both sides of sections that meet
 pub met_added : (unit : ℕ) (options later : ArcOptions) (j : Joint) (old mid new : List SignedEdge) → is_apart j ≡ false → later ≡ options →
     mid ≡ old ++ segments_of (left_edges unit options j) → new ≡ mid ++ segments_of (right_edges unit later j) →
     new ≡ old ++ segments_of (joint_edges unit options j)
 met_added unit options later j old mid new a same m h =
-    rw a (both_added old mid new (left_edges unit options j) (right_edges unit options j) m (rw same at h))
+    rw a (appends_both old mid new (left_edges unit options j) (right_edges unit options j) m (rw same at h))
 
 -- the end of a chain, and a step of the next one
 pub again_added : (unit : ℕ) (options later : ArcOptions) (c next : Open) (at : Circle) (o : Option Section) (old mid new : List SignedEdge) →
@@ -36,7 +33,7 @@ pub again_added : (unit : ℕ) (options later : ArcOptions) (c next : Open) (at 
     new ≡ mid ++ segments_of (step_edges unit later next o) →
     new ≡ old ++ segments_of (finish_edges unit options c Round ++ step_edges unit options (opened at Butt) o)
 again_added unit options later c next at o old mid new same starts m h =
-    both_added old mid new (finish_edges unit options c Round) (step_edges unit options (opened at Butt) o) m
+    appends_both old mid new (finish_edges unit options c Round) (step_edges unit options (opened at Butt) o) m
     (h ∙ (ap (λ (k : ArcOptions). mid ++ segments_of (step_edges unit k next o)) same
     ∙ ap (λ (k : Open). mid ++ segments_of (step_edges unit options k o)) starts))
 

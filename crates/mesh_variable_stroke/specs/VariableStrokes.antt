@@ -4,10 +4,11 @@ use Rattle.std.specs.List.{flat_map}
 use Rattle.std.specs.Option.{option_to_list}
 use Rattle.mesh_plane.specs.Plane.{Point, Edge, minus, cross}
 use Rattle.mesh_plane.specs.Winding.{route, same_point}
+use Rattle.mesh_plane.specs.Ways.{last_of}
 use Rattle.mesh_num.specs.Segments.{proper_edges}
 use Rattle.mesh_arc.specs.declared.arc.ArcOptions.{ArcOptions}
 use Rattle.mesh_join.specs.VariableStyles.{Vertex}
-use Rattle.mesh_draw.specs.Walks.{pairs, last_of}
+use Rattle.mesh_draw.specs.Walks.{pairs}
 use Rattle.mesh_tangent.specs.Sections.{Circle, Section}
 use Rattle.mesh_sweep.specs.declared.sweep.Sweep.{Sweep}
 use Rattle.mesh_sweep.specs.declared.sweep.Sweep.TheVariants.{Minor, Major}

@@ -2,8 +2,9 @@ use Rattle.std.proofs.Common.{◌^◌, ◌*◌, ◌+◌, ◌<◌, ◌≤◌, len
 use Rattle.std.specs.Prelude.{◌+ℤ◌, unsigned_abs}
 use mir.Syntax.{w128}
 use mir.Val.{to_z}
-use Rattle.mesh_outline.proofs.Areas.{sum_kept, sum_size, area_step, area_end}
+use Rattle.mesh_outline.proofs.Areas.{sum_kept, area_step, area_end}
 use Rattle.mesh_outline.proofs.outline.area.double_area.Goals as goal
+use Rattle.mesh_plane.proofs.Sizes.{sum_size}
 
 pub loop-point-preserved : goal.loop-point-preserved
 loop-point-preserved g c =

@@ -6,13 +6,13 @@ use Rattle.mesh_draw.proofs.Adding.{on_ok_then}
 use Rattle.mesh_stroke.specs.Midway.{own_edge}
 use Rattle.mesh_stroke.specs.Strokes.{corner_edges, side_edges}
 use Rattle.mesh_stroke.proofs.Fitting.{first_edges_fit, other_edges_fit}
-use Rattle.mesh_stroke.proofs.BuilderWalk.{both_added}
 use Rattle.mesh_stroke.proofs.stroke.builder.add_section.Goals as goal
+use Rattle.mesh_join.proofs.Drawing.{appends_both}
 
 pub returns-clause-ok : goal.returns-clause-ok
 returns-clause-ok g c =
     on_ok_then c.add.result (c.add.ensures.ok (g.I.IntNumber.value c.args.radius) c.requires.next)
-    (λ h. both_added c.args.segments.now.items c.add_join.new.segments.items c.add.new.segments.items
+    (λ h. appends_both c.args.segments.now.items c.add_join.new.segments.items c.add.new.segments.items
     (corner_edges g.I.IntNumber.unit (g.I.IntNumber.value c.args.radius) c.args.join.now (own_edge c.args.previous.now, own_edge c.args.next.now))
     (side_edges g.I.IntNumber.unit (g.I.IntNumber.value c.args.radius) (own_edge c.args.next.now)) c.in_ok-add_join.ensures.ok h)
 
