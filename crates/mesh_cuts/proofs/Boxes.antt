@@ -122,7 +122,7 @@ crossing_y a b p r =
     (neg ((var 5 ⊗ (f (place 2) ⊖ f (place 3))) ⊕ ((var 7 ⊖ var 5) ⊗ f (place 2))))
     refl
 
-parted : (s t : ℤ) → AreOpposite s t → (pos 0 <ℤ (s -ℤ t)) ⊎ ((s -ℤ t) <ℤ pos 0)
+pub parted : (s t : ℤ) → AreOpposite s t → (pos 0 <ℤ (s -ℤ t)) ⊎ ((s -ℤ t) <ℤ pos 0)
 parted s t (inl h) = inl (omega (arith, linear, h.0, h.1))
 parted s t (inr h) = inr (omega (arith, linear, h.0, h.1))
 

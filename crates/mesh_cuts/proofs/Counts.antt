@@ -16,6 +16,10 @@ pub bit_most : (b : Bool) → bit b ≤ℤ pos 1
 bit_most true = omega (arith, ints)
 bit_most false = omega (arith, ints)
 
+pub bit_none : (b : Bool) → bit b ≡ pos 0 → b ≡ false
+bit_none true h = absurd (omega (arith, ints, h))
+bit_none false h = refl
+
 pub times_least : (q : Edge) (ks : List Counted) → pos 0 ≤ℤ times q ks
 times_least q [] = omega (arith, ints)
 times_least q (k ∷ ks) = omega (arith, linear, bit_least (same_ends q k.0), times_least q ks)
@@ -26,10 +30,6 @@ absent_net q [] h = refl
 absent_net q (k ∷ ks) h =
     let p : times q ks ≡ pos 0 = omega (arith, linear, bit_least (same_ends q k.0), times_least q ks) in
     let r : bit (same_ends q k.0) ≡ pos 0 = omega (arith, linear) in
-    let none : same_ends q k.0 ≡ false = is_none (same_ends q k.0) r in
+    let none : same_ends q k.0 ≡ false = bit_none (same_ends q k.0) r in
     let e : k.1 *ℤ along q k.0 ≡ pos 0 = rw (not_along q k.0 none) (omega (arith, ints)) in
     omega (arith, linear, absent_net q ks p)
-  where
-    is_none : (b : Bool) → bit b ≡ pos 0 → b ≡ false
-    is_none true h = absurd (omega (arith, ints, h))
-    is_none false h = refl

@@ -7,7 +7,7 @@ use Rattle.mesh_plane.proofs.Places.{place, coordinates, turned}
 use Rattle.std.proofs.lemmas.Int.{ints}
 use Rattle.mesh_plane.proofs.Whole.{factor}
 
-along_x : (a b p r : Point) →
+pub along_x : (a b p r : Point) →
     (r.0 -ℤ p.0) *ℤ turn a b p ≡ ((a.0 -ℤ p.0) *ℤ (turn p r b -ℤ turn p r a)) -ℤ ((b.0 -ℤ a.0) *ℤ turn p r a)
 along_x a b p r =
     ring (coordinates (a ∷ b ∷ p ∷ r ∷ []) [])
@@ -15,7 +15,7 @@ along_x a b p r =
     (((var 0 ⊖ var 4) ⊗ (turned (place 2) (place 3) (place 1) ⊖ turned (place 2) (place 3) (place 0))) ⊖ ((var 2 ⊖ var 0) ⊗ turned (place 2) (place 3) (place 0)))
     refl
 
-along_y : (a b p r : Point) →
+pub along_y : (a b p r : Point) →
     (r.1 -ℤ p.1) *ℤ turn a b p ≡ ((a.1 -ℤ p.1) *ℤ (turn p r b -ℤ turn p r a)) -ℤ ((b.1 -ℤ a.1) *ℤ turn p r a)
 along_y a b p r =
     ring (coordinates (a ∷ b ∷ p ∷ r ∷ []) [])

@@ -8,11 +8,11 @@ use Rattle.mesh_plane.specs.Winding.{sum_of}
 use Rattle.mesh_plane.proofs.Whole.{linear}
 use Rattle.mesh_cuts.specs.Counted.{Counted, bit, times}
 use Rattle.mesh_cuts.specs.Split.{same_edge, same_ends, occurs, after, Meets}
-use Rattle.mesh_cuts.proofs.Counts.{times_least}
+use Rattle.mesh_cuts.proofs.Counts.{times_least, bit_most}
 use Rattle.mesh_cuts.proofs.Ends.{decides_edge, ends_self}
 use Rattle.mesh_split.specs.Midway.Steps.{exactly, IsTaken, IsPut, IsPile, StandOnce, Settles, weight}
 use Rattle.mesh_split.proofs.Settling.{clear_self}
-use Rattle.mesh_split.proofs.Stages.{bit_most, pop_count, take_count, keep_count}
+use Rattle.mesh_split.proofs.Stages.{pop_count, take_count, keep_count}
 use Rattle.mesh_split.proofs.Starting.{settled_reached, settled_weight}
 
 -- ---- no ends stand twice

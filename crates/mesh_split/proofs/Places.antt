@@ -7,7 +7,7 @@ use Rattle.mesh_plane.proofs.Whole.{linear, square_nonneg, mul_nonneg, mul_nonpo
 use Rattle.mesh_plane.proofs.Ring.{ring, var, neg, ◌⊕◌, ◌⊖◌, ◌⊗◌}
 use Rattle.mesh_plane.proofs.Places.{place, coordinates, turned}
 use Rattle.mesh_cuts.specs.Split.{IsBetween, IsInside, IsCrossing, AreOpposite, crossing_at, rounded_quotient, Meets, at_start_of_second, at_end_of_second, at_start_of_first, at_end_of_first, at_crossing}
-use Rattle.mesh_cuts.proofs.Boxes.{between_start, between_end, crossing_between, quotient_flip, turns_differ}
+use Rattle.mesh_cuts.proofs.Boxes.{between_start, between_end, crossing_between, quotient_flip, turns_differ, parted}
 use Rattle.mesh_split.specs.declared.tree.Cut.{Cut}
 use Rattle.mesh_split.specs.Midway.Parts.{Place, IsAt, height}
 
@@ -144,10 +144,6 @@ crossing_shared v e f h =
       first = crossing_between (height v e.0) (height v e.1) (turn f.0 f.1 e.0) (turn f.0 f.1 e.1) h.first_parted;
       second = subst (λ (z : ℤ). IsBetween (height v f.0) z (height v f.1)) (sym same) (crossing_between (height v f.0) (height v f.1) s t h.second_parted);
     }
-  where
-    parted : (s t : ℤ) → AreOpposite s t → (pos 0 <ℤ (s -ℤ t)) ⊎ ((s -ℤ t) <ℤ pos 0)
-    parted s t (inl h) = inl (omega (arith, linear, h.0, h.1))
-    parted s t (inr h) = inr (omega (arith, linear, h.0, h.1))
 
 shared : (v : ℤ × ℤ) {e f : Edge} {c : Point} → Meets e f c → Shared v e f
 shared v {e} {f} (at_start_of_second h) = record { height_of = height v f.0; first = inside_between v e f.0 h; second = between_start (height v f.0) (height v f.1) }

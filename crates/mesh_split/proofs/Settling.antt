@@ -14,7 +14,7 @@ use Rattle.mesh_cuts.proofs.Ends.{decides_edge, decides_end, ends_sym, not_ends}
 use Rattle.mesh_cuts.proofs.Boxes.{meets_box, meets_once, crossing_swapped, turn_start}
 use Rattle.mesh_split.proofs.Extents.{extent_least}
 use Rattle.mesh_split.proofs.Stages.{IsHeld, held_is, bit_true, take_count, swap_count, keep_count, put_count, cut_count}
-use Rattle.mesh_cuts.proofs.Counts.{bit_least, times_least}
+use Rattle.mesh_cuts.proofs.Counts.{bit_least, times_least, bit_none}
 use Rattle.mesh_split.proofs.Filing.{positive_times, weight_pieces, work_pieces}
 
 -- ---- segments that stay clear of each other
@@ -158,11 +158,7 @@ settles_first todo live todo' live' k t c m end p =
 apart_ends : (es : List Edge) (todo live live' : List Counted) (k j : Counted) → IsHeld es todo live k → IsTaken live live' j → same_ends k.0 j.0 ≡ false
 apart_ends es todo live live' k j h t =
     let none : bit (same_ends k.0 j.0) ≡ pos 0 = omega (arith, linear, h.lives, t (λ (x : Counted). bit (same_ends k.0 x.0)), times_least k.0 live', bit_least (same_ends k.0 j.0)) in
-    is_none (same_ends k.0 j.0) none
-  where
-    is_none : (b : Bool) → bit b ≡ pos 0 → b ≡ false
-    is_none true h = absurd (omega (arith, ints, h))
-    is_none false h = refl
+    bit_none (same_ends k.0 j.0) none
 
 alone : (e : Edge) (j : Counted) → same_ends e j.0 ≡ false → times e (j ∷ []) ≡ pos 0
 alone e j h = omega (arith, linear, ap bit h)

@@ -6,7 +6,7 @@ use Rattle.std.proofs.lemmas.Bool.Decides.{Decides-like, same_from_decides}
 use Rattle.std.proofs.lemmas.Int.{ints, by_lt_z}
 use Rattle.mesh_plane.specs.Plane.{Point, Edge, turn}
 use Rattle.mesh_plane.specs.Winding.{same_point, refined}
-use Rattle.mesh_plane.proofs.Whole.{linear, mul_neg, mul_nonneg, mul_nonpos_nonneg, mul_pos, mul_pos_neg, nonneg_of_mul, nonpos_of_mul, mul_lt_mul_left, pos_of_mul, neg_of_mul, factor, lt_of_mul_lt_mul}
+use Rattle.mesh_plane.proofs.Whole.{linear, mul_neg, mul_nonneg, mul_nonpos_nonneg, mul_pos, mul_pos_neg, nonneg_of_mul, nonpos_of_mul, mul_lt_mul_left, pos_of_mul, neg_of_mul, factor, lt_of_mul_lt_mul, times_zero}
 use Rattle.mesh_plane.proofs.Crossings.{turn_flip}
 use Rattle.mesh_plane.proofs.Ring.{ring, var, neg, ◌⊕◌, ◌⊖◌, ◌⊗◌}
 use Rattle.mesh_cuts.specs.Clean.{IsOn, refined_edge}
@@ -15,6 +15,7 @@ use Rattle.mesh_cuts.proofs.Boxes.{turns_differ}
 use Rattle.mesh_cuts.proofs.Ends.{decides_end, decides_ends, ends_turned, ends_sym}
 use Rattle.mesh_plane.proofs.Places.{place, coordinates, turned, scaled_place}
 use Rattle.mesh_plane.proofs.Comparing.{decides_point}
+use Rattle.mesh_plane.proofs.LineTurns.{along_x, along_y}
 use Rattle.mesh_cuts.proofs.Boxes.{between_back, on_back}
 
 -- two edges without a point inside one of them that is the other's end, and without a crossing
@@ -257,9 +258,6 @@ part_turn m a b p r z =
     (((k ⊗ k) ⊗ ((((k ⊗ var 2) ⊖ var 8) ⊗ turned (place 2) (place 3) (place 0)) ⊕ ((var 8 ⊖ (k ⊗ var 0)) ⊗ turned (place 2) (place 3) (place 1)))) ⊕ ((k ⊗ (var 6 ⊖ var 4)) ⊗ e))
     refl
 
-times_zero : (x y : ℤ) → y ≡ pos 0 → x *ℤ y ≡ pos 0
-times_zero x y e = rw e (omega (arith, ints))
-
 -- the ends of an edge to the east lie on two sides of a line through a point inside it, or both on the line
 ratio_east : (m : ℕ) (e f : Edge) (z : Point) → 0 < m → e.0.0 <ℤ e.1.0 → IsOn (refined_edge m e) z → is_end z (refined_edge m e) ≡ false
     → turn (refined m f.0) (refined m f.1) z ≡ pos 0 → Ratio (turn f.0 f.1 e.0) (turn f.0 f.1 e.1)
@@ -309,18 +307,6 @@ ratio m f z some e proper =
     (ratio_east m (flip_edge e) (flip_edge f) (flip z) some up (on_flip (refined_edge m e) z on) (end_flip z (refined_edge m e) ∙ inner)
     (turn_exchanged (refined m f.0) (refined m f.1) z ∙ omega (arith, linear, line))))
     e proper
-
-along_x : (a b p r : Point) → (r.0 -ℤ p.0) *ℤ turn a b p ≡ ((a.0 -ℤ p.0) *ℤ (turn p r b -ℤ turn p r a)) -ℤ ((b.0 -ℤ a.0) *ℤ turn p r a)
-along_x a b p r =
-    let e = turned (place 0) (place 1) in
-    let f = turned (place 2) (place 3) in
-    ring (coordinates (a ∷ b ∷ p ∷ r ∷ []) []) ((var 6 ⊖ var 4) ⊗ e (place 2)) (((var 0 ⊖ var 4) ⊗ (f (place 1) ⊖ f (place 0))) ⊖ ((var 2 ⊖ var 0) ⊗ f (place 0))) refl
-
-along_y : (a b p r : Point) → (r.1 -ℤ p.1) *ℤ turn a b p ≡ ((a.1 -ℤ p.1) *ℤ (turn p r b -ℤ turn p r a)) -ℤ ((b.1 -ℤ a.1) *ℤ turn p r a)
-along_y a b p r =
-    let e = turned (place 0) (place 1) in
-    let f = turned (place 2) (place 3) in
-    ring (coordinates (a ∷ b ∷ p ∷ r ∷ []) []) ((var 7 ⊖ var 5) ⊗ e (place 2)) (((var 1 ⊖ var 5) ⊗ (f (place 1) ⊖ f (place 0))) ⊖ ((var 3 ⊖ var 1) ⊗ f (place 0))) refl
 
 -- where both ends of one edge lie on the line of another, the first end of the other lies on the line of the one
 one_line : (a b p r : Point) → same_point p r ≡ false → turn p r a ≡ pos 0 → turn p r b ≡ pos 0 → turn a b p ≡ pos 0

@@ -10,7 +10,7 @@ use Rattle.mesh_cuts.specs.Counted.{Counted, bit, along, net, times}
 use Rattle.mesh_split.specs.Midway.Steps.{IsTaken, IsPut, Puts, PutsPieces, AreCountOf, at_least_once}
 use Rattle.mesh_cuts.proofs.Ends.{ends_self, ends_sym, ends_along, along_self}
 use Rattle.mesh_cuts.proofs.Cuts.{net_cut, occurs_cut, change}
-use Rattle.mesh_cuts.proofs.Counts.{absent_net, bit_least, times_least}
+use Rattle.mesh_cuts.proofs.Counts.{absent_net, bit_least, times_least, bit_most}
 
 -- the same ends stand the same number of times
 pub times_along : (q s : Edge) (ks : List Counted) → same_ends q s ≡ true → times q ks ≡ times s ks
@@ -24,10 +24,6 @@ times_along q s (k ∷ ks) h =
 pub bit_true : (b : Bool) → pos 1 ≤ℤ bit b → b ≡ true
 bit_true true h = refl
 bit_true false h = absurd (omega (arith, ints, h))
-
-pub bit_most : (b : Bool) → bit b ≤ℤ pos 1
-bit_most true = omega (arith, ints)
-bit_most false = omega (arith, ints)
 
 -- what is known of a held segment: it stands in the list of edges, nowhere else, and has its net count
 pub record IsHeld (es : List Edge) (todo live : List Counted) (k : Counted) : Type 0 where

@@ -13,7 +13,7 @@ use Rattle.mesh_cuts.specs.Split.{same_ends, occurs, after, no_cut}
 use Rattle.mesh_cuts.specs.Counted.{Counted, bit, along, times}
 use Rattle.mesh_split.specs.Midway.Steps.{IsTaken, Puts, AllClear, AreCountOf, IsReached, Settles, at_least_once, extent, weight, waiting_work, live_work, work, total_weight}
 use Rattle.mesh_cuts.proofs.Ends.{ends_self}
-use Rattle.mesh_cuts.proofs.Counts.{times_least}
+use Rattle.mesh_cuts.proofs.Counts.{times_least, bit_most}
 use Rattle.mesh_cuts.proofs.Cuts.{occurs_append}
 use Rattle.mesh_split.proofs.Stages.{pop_count}
 use Rattle.mesh_split.proofs.Settling.{fewer_clear}
@@ -110,10 +110,6 @@ popped_absent given old todo live k e r =
       times_least k.0 live,
       bit_most (occurs k.0 (after r.cuts given)),
     )
-  where
-    bit_most : (b : Bool) → bit b ≤ℤ pos 1
-    bit_most true = omega (arith, ints)
-    bit_most false = omega (arith, ints)
 
 pub settled_less : (old todo live todo' live' : List Counted) (k : Counted) → IsTaken old todo k → Settles todo live todo' live' k
     → unsigned_abs (work todo' live') < unsigned_abs (work old live)
