@@ -45,8 +45,8 @@ impl Read for FailingReader<'_> {
 fn readers(rt: HostRuntime) -> Result<(), Fail> {
     for (end, wanted, line) in [
         (None, Status::Answered, ANSWER),
-        (Some(ErrorKind::Other), Status::Unread, UNREADABLE),
-        (Some(ErrorKind::OutOfMemory), Status::Unread, UNREADABLE),
+        (Some(ErrorKind::Other), Status::Unreadable, UNREADABLE),
+        (Some(ErrorKind::OutOfMemory), Status::Unreadable, UNREADABLE),
     ] {
         let mut reader = FailingReader {
             left: REQUEST,
@@ -86,12 +86,12 @@ impl Write for FailingWriter {
 #[test]
 fn writers(rt: HostRuntime) {
     for (text, room, wanted) in [
-        (REQUEST, 0, Status::Unwritten),
-        (REQUEST, 1, Status::Unwritten),
-        (REQUEST, 40, Status::Unwritten),
+        (REQUEST, 0, Status::Refused),
+        (REQUEST, 1, Status::Refused),
+        (REQUEST, 40, Status::Refused),
         (REQUEST, 70, Status::Answered),
-        (b"{", 0, Status::Unwritten),
-        (b"{", 24, Status::Unwritten),
+        (b"{", 0, Status::Refused),
+        (b"{", 24, Status::Refused),
         (b"{", 25, Status::Unreadable),
     ] {
         let mut reader = text;
@@ -118,5 +118,5 @@ impl Write for FailingFlush {
 fn failing_flush(rt: HostRuntime) {
     let mut reader = REQUEST;
     let status = serve(rt.alloc(), &mut reader, &mut FailingFlush);
-    assert_eq!(rt; status, Status::Unwritten);
+    assert_eq!(rt; status, Status::Refused);
 }
