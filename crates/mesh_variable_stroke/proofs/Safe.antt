@@ -85,4 +85,3 @@ vertices_safe unit greatest (v ∷ vs) most h =
 
 pub path_safe : (unit : ℕ) (vs : List Vertex) → AreStrokable unit (greatest_radius vs) vs → All (IsSafeVertex unit) vs
 path_safe unit vs h = vertices_safe unit (greatest_radius vs) vs (omega (arith, ints)) h
-
