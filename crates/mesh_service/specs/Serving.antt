@@ -59,8 +59,8 @@ pub record AppendsBeginning (old new : Option (List ℕ)) (line : List ℕ) : Ty
   pub appended : Appends old new written
 
 -- how a run ended in a refusal that was met, where the reader had these bytes left: the request may not be answered, and the line of
--- that was written whole; memory was refused, and the line of that was written whole; or a beginning of a reply was written, which
--- may be all of it: no contract tells when a writer fails
+-- that was written whole; memory was refused, and the line of that was written whole; or a beginning of a reply was
+-- written, which may be all of it: no contract tells when a writer fails
 pub data MetRefusal (left old new : Option (List ℕ)) : Type 0 where
   of_range : {request : List ℕ} → IfSome left (λ bytes. request ≡ bytes) → IsRefused request
       → Appends old new (failure_line (Refused CoordinateOutOfRange)) → MetRefusal left old new

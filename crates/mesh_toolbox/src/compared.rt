@@ -9,8 +9,8 @@ use std::fmt::Debug;
 use std::ops::Range;
 use std::test::Fail;
 
-// The text of a failed `assert_eq!` is proved anew wherever one stands, which takes longer than most tests: these two are
-// proved once.
+// The text of a failed `assert_eq!` is proved anew wherever one stands, which takes longer than most tests. These two
+// are proved once.
 
 /// Fails where two values differ, and tells the case.
 pub fn expect_equal<T: PartialEq + Debug>(

@@ -1,7 +1,6 @@
 //! The range of coordinates that strokes of variable width reach.
 
 ghost use Rattle.std.specs.Prelude.{◌≡◌, ◌↔◌, ◌≤ℤ◌, pos, IsTrue, IsOk, OnErr};
-ghost use Rattle.std.specs.Int.{int_max};
 ghost use Rattle.mesh_grid.specs.Rectangle.{IsSafeWidened};
 ghost use Rattle.mesh_variable_stroke.specs.Drawn.{greatest_radius as greatest_radius_of, AreStrokable};
 ghost use Rattle.mesh_variable_calls.specs.Midway.{IsRoomLeft};
@@ -10,7 +9,7 @@ ghost use Rattle.mesh_variable_calls.specs.Strokable.{padding_of, ArePathsStroka
 use mesh_draw::error::{IntOutlineError, IntVariableStrokeError};
 use mesh_draw::radius::stroke_radius;
 use mesh_join::style::IntStrokeVertex;
-use mesh_num::num::convert::{is_less, widen};
+use mesh_num::num::convert::{greater, widen};
 use mesh_num::num::{IntNumber, IntPoint};
 use mesh_variable_source::resource::IntVariableStrokeSource;
 
@@ -84,15 +83,4 @@ fn has_room<I: IntNumber>(coordinate: I, padding: I) -> bool
     let size = widen(coordinate).unsigned_abs();
     let reach = widen(padding).unsigned_abs();
     size + reach < widen(I::UNIT).unsigned_abs()
-}
-
-/// The greater of two coordinates.
-fn greater<I: IntNumber>(first: I, second: I) -> I
-    ensures { I.value result ≡ int_max (I.value first) (I.value second) }
-{
-    if is_less(first, second) {
-        second
-    } else {
-        first
-    }
 }

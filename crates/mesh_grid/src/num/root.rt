@@ -37,9 +37,8 @@ pub(crate) fn fine_length(square: u128, width: u128, height: u128) -> u128
 
 /// The root of a number, raised to the next whole number where it is none.
 pub fn raised_root(number: u128) -> u128
-    requires { number < 2 ^ 64 }
     ensures value { result ≡ raised_root number }
-    ensures size { result ≤ 2 ^ 32 }
+    ensures size { number < 2 ^ 64 → result ≤ 2 ^ 32 }
 {
     let root = number.isqrt();
     if root * root == number {
