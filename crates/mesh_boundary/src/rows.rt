@@ -14,7 +14,7 @@ use mesh_cuts::places::{Mark, empty_lists, in_order, is_sampled, place, put_to, 
 use std::alloc::{AllocError, Global};
 
 /// From how many edges on they are listed in more than one row.
-const FEWEST: usize = 64;
+const FEWEST: usize = 24;
 
 /// About how many edges the marks are taken from.
 const ENDS: usize = 16384;

@@ -27,7 +27,7 @@ fn code(p: GridPoint) -> Mark
     ensures { result.at ≡ code p }
 {
     Mark {
-        at: p.0 as i128 * 4294967296 + p.1 as i128,
+        at: p.0 as i64 * 4294967296 + (p.1 as i64 + 2147483648),
     }
 }
 

@@ -12,8 +12,8 @@ use std::marker::Model;
 /// A point on the fine grid. Contracts see the pair of its coordinates, each below 2^33 in size.
 #[derive(Copy, Clone, PartialEq, Eq, PartialOrd, Ord)]
 pub struct FinePoint {
-    x: i128,
-    y: i128,
+    x: i64,
+    y: i64,
 }
 
 impl Model for FinePoint {
@@ -31,7 +31,7 @@ impl Model for FinePoint {
 
 impl FinePoint {
     /// The point's height.
-    pub fn height(self) -> i128
+    pub fn height(self) -> i64
         ensures { result ≡ self.1 }
     {
         self.y
@@ -41,18 +41,18 @@ impl FinePoint {
 /// A vector between two points of the fine grid.
 type FineVector = (i128, i128);
 
-fn twice(a: i32) -> i128
+fn twice(a: i32) -> i64
     ensures value { result ≡ pos 2 *ℤ a }
     ensures size { IsSmall (2 ^ 33) result }
 {
-    2 * a as i128
+    2 * a as i64
 }
 
-fn sum(a: i32, b: i32) -> i128
+fn sum(a: i32, b: i32) -> i64
     ensures value { result ≡ a +ℤ b }
     ensures size { IsSmall (2 ^ 33) result }
 {
-    a as i128 + b as i128
+    a as i64 + b as i64
 }
 
 /// The point on the fine grid.
@@ -75,13 +75,13 @@ pub fn middle(e: GridEdge) -> FinePoint
     }
 }
 
-fn difference(a: i128, b: i128) -> i128
+fn difference(a: i64, b: i64) -> i128
     requires a_small { IsSmall (2 ^ 33) a }
     requires b_small { IsSmall (2 ^ 33) b }
     ensures value { result ≡ a -ℤ b }
     ensures size { IsSmall (2 ^ 34) result }
 {
-    a - b
+    a as i128 - b as i128
 }
 
 fn minus(p: FinePoint, q: FinePoint) -> FineVector

@@ -16,7 +16,7 @@ const BLOCK: usize = 64;
 #[derive(Debug, Copy, Clone)]
 pub struct Mark {
     /// The coordinate, on whatever grid.
-    pub at: i128,
+    pub at: i64,
 }
 
 /// Whether the element at a place is in a sample of one in so many. The sample has blocks of elements side by side, since
@@ -69,7 +69,7 @@ fn push_rising(marks: &mut Vec<Mark>, m: Mark) -> Result<(), AllocError>
 }
 
 /// Marks at coordinates, in order.
-pub fn in_order(alloc: Global, mut coordinates: Vec<i128>) -> Result<Vec<Mark>, AllocError>
+pub fn in_order(alloc: Global, mut coordinates: Vec<i64>) -> Result<Vec<Mark>, AllocError>
     ensures { IfOk result (λ v. AreRising v.items) }
 {
     coordinates.sort_unstable();

@@ -24,7 +24,7 @@ const FEW: usize = 16;
 pub const DEPTH: usize = 64;
 
 /// About how many segments a cut is chosen from.
-const SAMPLED: usize = 256;
+const SAMPLED: usize = 64;
 
 /// A vector across a cut.
 type Across = (i16, i16);

@@ -14,7 +14,7 @@ use Rattle.mesh_sides.specs.Star.{leaves_before, net_before}
 
 -- one number for a point
 abbrev pub code : Point → ℤ
-code p = (p.0 *ℤ pos 4294967296) +ℤ p.1
+code p = (p.0 *ℤ pos 4294967296) +ℤ (p.1 +ℤ pos 2147483648)
 
 -- a segment has an end that has this place
 abbrev pub touches : List Mark → ℕ → Counted → Bool
