@@ -94,13 +94,13 @@ before_last-append y r (w ∷ ws) q k = before_last-append r w ws q k
 -- ---- round a closed list
 
 -- an edge and the next one, which starts where the first ends and does not run on
-pub record Corner (c : Edge × Edge) : Type 0 where
+pub record MeetsAndTurns (c : Edge × Edge) : Type 0 where
   pub meets : c.0.1 ≡ c.1.0
   pub turns : turns_at c.0.0 c.0.1 c.1.1 ≡ true
 
-corners : (h n z w : Point) (ns : List Point) → Turning h n ns z → turns_at (last_of n ns) z w ≡ true → All Corner (route (h, n) (route n ns z) (z, w))
-corners h n z w [] t k = All-cons Corner ((h, n), (n, z)) (((n, z), (z, w)) ∷ []) (record { meets = refl; turns = t }) (All-cons Corner ((n, z), (z, w)) [] (record { meets = refl; turns = k }) (All-nil Corner))
-corners h n z w (x ∷ xs) t k = All-cons Corner ((h, n), (n, x)) (route (n, x) (route x xs z) (z, w)) (record { meets = refl; turns = t.0 }) (corners n x z w xs t.1 k)
+corners : (h n z w : Point) (ns : List Point) → Turning h n ns z → turns_at (last_of n ns) z w ≡ true → All MeetsAndTurns (route (h, n) (route n ns z) (z, w))
+corners h n z w [] t k = All-cons MeetsAndTurns ((h, n), (n, z)) (((n, z), (z, w)) ∷ []) (record { meets = refl; turns = t }) (All-cons MeetsAndTurns ((n, z), (z, w)) [] (record { meets = refl; turns = k }) (All-nil MeetsAndTurns))
+corners h n z w (x ∷ xs) t k = All-cons MeetsAndTurns ((h, n), (n, x)) (route (n, x) (route x xs z) (z, w)) (record { meets = refl; turns = t.0 }) (corners n x z w xs t.1 k)
 
 All-firsts : (Q : Edge → Type 0) (e z : Edge) (es : List Edge) → All (λ (c : Edge × Edge). Q c.0) (route e es z) → All Q (e ∷ es)
 All-firsts Q e z [] h = All-cons Q e [] (All-head (λ (c : Edge × Edge). Q c.0) (e, z) [] h) (All-nil Q)
@@ -126,23 +126,23 @@ not_on a p z k flat ahead =
     refl in
     true≢false (sym k ∙ turns_at-straight a p z (c ∙ ap neg_ℤ flat) (omega (arith, linear)))
 
-Corner-proper : (c : Edge × Edge) → Corner c → c.0.0 ≢ c.0.1
-Corner-proper c h e = true≢false (sym h.turns ∙ ap (λ p. turns_at p c.0.1 c.1.1) e ∙ turns_at-from_self c.0.1 c.1.1)
+MeetsAndTurns-proper : (c : Edge × Edge) → MeetsAndTurns c → c.0.0 ≢ c.0.1
+MeetsAndTurns-proper c h e = true≢false (sym h.turns ∙ ap (λ p. turns_at p c.0.1 c.1.1) e ∙ turns_at-from_self c.0.1 c.1.1)
 
-Corner-turns : (c : Edge × Edge) → Corner c → RunsOn c.0 c.1 → ⊥
-Corner-turns c h r =
+MeetsAndTurns-turns : (c : Edge × Edge) → MeetsAndTurns c → RunsOn c.0 c.1 → ⊥
+MeetsAndTurns-turns c h r =
     let way : RunsOn c.0 (c.0.1, c.1.1) = subst (λ p. RunsOn c.0 (p, c.1.1)) (sym h.meets) r in
     not_on c.0.0 c.0.1 c.1.1 h.turns way.0 way.1
 
 closed_clean : (k n : Point) (ns : List Point) → Turning k n ns k → turns_at (last_of n ns) k n ≡ true → IsCleanContour (boundary (k ∷ n ∷ ns))
 closed_clean k n ns t e =
-    let all : All Corner (boundary (boundary (k ∷ n ∷ ns))) = corners k n k n ns t e in
+    let all : All MeetsAndTurns (boundary (boundary (k ∷ n ∷ ns))) = corners k n k n ns t e in
     record {
       many = omega (arith, length-route n ns k);
       proper =
-          All-firsts (λ (e : Edge). e.0 ≢ e.1) (k, n) (k, n) (route n ns k) (All-weaker Corner (λ (c : Edge × Edge). c.0.0 ≢ c.0.1) Corner-proper (boundary (boundary (k ∷ n ∷ ns))) all);
-      closed = All-weaker Corner (λ (c : Edge × Edge). c.0.1 ≡ c.1.0) (λ c h. h.meets) (boundary (boundary (k ∷ n ∷ ns))) all;
-      turns = All-weaker Corner (λ (c : Edge × Edge). RunsOn c.0 c.1 → ⊥) Corner-turns (boundary (boundary (k ∷ n ∷ ns))) all;
+          All-firsts (λ (e : Edge). e.0 ≢ e.1) (k, n) (k, n) (route n ns k) (All-weaker MeetsAndTurns (λ (c : Edge × Edge). c.0.0 ≢ c.0.1) MeetsAndTurns-proper (boundary (boundary (k ∷ n ∷ ns))) all);
+      closed = All-weaker MeetsAndTurns (λ (c : Edge × Edge). c.0.1 ≡ c.1.0) (λ c h. h.meets) (boundary (boundary (k ∷ n ∷ ns))) all;
+      turns = All-weaker MeetsAndTurns (λ (c : Edge × Edge). RunsOn c.0 c.1 → ⊥) MeetsAndTurns-turns (boundary (boundary (k ∷ n ∷ ns))) all;
     }
 
 -- ---- the cleaned contour
