@@ -8,7 +8,7 @@ ghost use Rattle.mesh_plane.specs.Plane.{Point};
 ghost use Rattle.mesh_num.specs.Segments.{IsSubject, edges_of};
 ghost use Rattle.mesh_plane.specs.Winding.{IsBalanced};
 ghost use Rattle.mesh_cuts.specs.FillRules.{filled};
-ghost use Rattle.mesh_below.specs.Answers.{IsAnswer};
+ghost use Rattle.mesh_below.specs.Answers.{IsOverlayAnswer};
 ghost use Rattle.mesh_below.specs.Asked.{AreResolvable};
 ghost use Rattle.mesh_below.specs.Laws.{AreRegions};
 ghost use Rattle.mesh_below.specs.Options.{choices_of, plain};
@@ -158,7 +158,7 @@ impl<I: IntNumber> Overlay<I> {
     /// The shapes of what all segments fill.
     fn resolved(&self, fill: FillRule) -> Result<IntShapes<I>, AllocError>
         requires { AreResolvable I.unit self.now.segments.items }
-        ensures { IfOk result (λ shapes. IsAnswer I.unit (edges_of self.now.segments.items) (filled fill)
+        ensures { IfOk result (λ shapes. IsOverlayAnswer I.unit (edges_of self.now.segments.items) (filled fill)
             (choices_of I.WideUInt.value self.now.options) (shapes_of shapes.items)) }
     {
         let alloc = *self.segments.allocator();

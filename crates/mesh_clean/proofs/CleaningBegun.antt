@@ -5,7 +5,8 @@ use Rattle.std.proofs.lemmas.List.Elements.{All-nil, All-cons}
 use Rattle.mesh_plane.specs.Plane.{Point}
 use Rattle.mesh_plane.specs.Winding.{same_point}
 use Rattle.mesh_plane.specs.Ways.{last_of, first_or}
-use Rattle.mesh_clean.specs.Cleaned.{changes_from, without_repeats, ring, kept_between, kept_inside, kept_round, last_first, begun, cleaned_points, AllEqual}
+use Rattle.mesh_clean.specs.Cleaned.{changes_from, without_repeats, without_repeated_end, kept_between, kept_inside}
+use Rattle.mesh_clean.specs.Cleaned.{kept_round, last_first, begun, cleaned_points, AllEqual}
 use Rattle.mesh_clean.specs.Laws.{BeginsAt}
 use Rattle.mesh_plane.proofs.Comparing.{decides_point}
 use Rattle.mesh_clean.proofs.CleaningVectors.{SameWay, SameWay-self}
@@ -15,7 +16,7 @@ use Rattle.mesh_clean.proofs.CleaningStart.{Turned, Found, none_inside, first_in
 
 -- that of a list whose points differ from the one before
 abbrev begun_from : Point → List Point → Type 0
-begun_from q ws = BeginsAt (first_or q (kept_inside (q ∷ ws))) (begun (kept_inside (q ∷ ws)) (kept_round (ring (q ∷ ws))))
+begun_from q ws = BeginsAt (first_or q (kept_inside (q ∷ ws))) (begun (kept_inside (q ∷ ws)) (kept_round (without_repeated_end (q ∷ ws))))
 
 begun_apart : (q p : Point) (zs : List Point) → same_point q p ≡ false →
     BeginsAt (first_or q (kept_between q p (changes_from p zs))) (begun (kept_between q p (changes_from p zs)) (around q p zs))

@@ -5,7 +5,9 @@ use Rattle.std.proofs.lemmas.List.Elements.{All-append, All-nil, All-cons, All-h
 use Rattle.mesh_plane.specs.Plane.{Point, Edge}
 use Rattle.mesh_plane.specs.Winding.{route, boundary, same_point}
 use Rattle.mesh_plane.specs.Ways.{turns_at}
-use Rattle.mesh_clean.specs.Cleaned.{changes_from, without_repeats, without_end, ring, kept_between, kept_inside, kept_round, last_first, begun, cleaned_points, cleaned_sections}
+use Rattle.mesh_clean.specs.Cleaned.{changes_from, without_repeats, without_end, without_repeated_end}
+use Rattle.mesh_clean.specs.Cleaned.{kept_between, kept_inside, kept_round, last_first}
+use Rattle.mesh_clean.specs.Cleaned.{begun, cleaned_points, cleaned_sections}
 
 either_list : (P : Point → Type 0) (b : Bool) (xs ys : List Point) → All P xs → All P ys → All P (cond b xs ys)
 either_list P true xs ys h k = h
@@ -26,9 +28,9 @@ all_without_end P p [] h = h
 all_without_end P p (x ∷ []) h = either_list P (same_point p x) [] (x ∷ []) (All-nil P) h
 all_without_end P p (x ∷ y ∷ ys) h = All-cons P x (without_end p (y ∷ ys)) (All-head P x (y ∷ ys) h) (all_without_end P p (y ∷ ys) (All-tail P x (y ∷ ys) h))
 
-all_ring : (P : Point → Type 0) (ps : List Point) → All P ps → All P (ring ps)
-all_ring P [] h = h
-all_ring P (p ∷ ps) h = All-cons P p (without_end p ps) (All-head P p ps h) (all_without_end P p ps (All-tail P p ps h))
+all_without_repeated_end : (P : Point → Type 0) (ps : List Point) → All P ps → All P (without_repeated_end ps)
+all_without_repeated_end P [] h = h
+all_without_repeated_end P (p ∷ ps) h = All-cons P p (without_end p ps) (All-head P p ps h) (all_without_end P p ps (All-tail P p ps h))
 
 all_kept_between : (P : Point → Type 0) (p0 p1 : Point) (ps : List Point) → P p1 → All P ps → All P (kept_between p0 p1 ps)
 all_kept_between P p0 p1 [] q h = All-nil P
@@ -54,8 +56,8 @@ all_begun P (p ∷ ps) round h = h
 
 pub cleaned_points-all : (P : Point → Type 0) (points : List Point) → All P points → All P (cleaned_points points)
 cleaned_points-all P points h =
-    all_begun P (kept_inside (without_repeats points)) (kept_round (ring (without_repeats points)))
-    (all_kept_round P (ring (without_repeats points)) (all_ring P (without_repeats points) (all_without_repeats P points h)))
+    all_begun P (kept_inside (without_repeats points)) (kept_round (without_repeated_end (without_repeats points)))
+    (all_kept_round P (without_repeated_end (without_repeats points)) (all_without_repeated_end P (without_repeats points) (all_without_repeats P points h)))
 
 all_route : (P : Point → Type 0) (a : Point) (xs : List Point) (z : Point) → P a → All P xs → P z → All (λ (e : Edge). P e.0 × P e.1) (route a xs z)
 all_route P a [] z ha h hz = All-cons (λ (e : Edge). P e.0 × P e.1) (a, z) [] (ha, hz) (All-nil (λ (e : Edge). P e.0 × P e.1))

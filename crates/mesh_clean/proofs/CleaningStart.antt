@@ -4,7 +4,8 @@ use Rattle.std.proofs.lemmas.Bool.{cases_Bool, cond-true, cond-false}
 use Rattle.mesh_plane.specs.Plane.{Point, Edge}
 use Rattle.mesh_plane.specs.Winding.{route, boundary, same_point}
 use Rattle.mesh_plane.specs.Ways.{turns_at, last_of}
-use Rattle.mesh_clean.specs.Cleaned.{changes_from, without_end, ring, kept_between, kept_inside, kept_round, last_first, begun, cleaned_sections}
+use Rattle.mesh_clean.specs.Cleaned.{changes_from, without_end, without_repeated_end, kept_between, kept_inside}
+use Rattle.mesh_clean.specs.Cleaned.{kept_round, last_first, begun, cleaned_sections}
 use Rattle.mesh_plane.proofs.Comparing.{decides_point, points_swap}
 use Rattle.mesh_clean.proofs.CleaningVectors.{SameWay, SameWay-straight, SameWay-ahead, SameWay-self, SameWay-apart, judged, judged_ahead, turns_at-to_self, turns_at-back}
 use Rattle.mesh_clean.proofs.CleaningPass.{changes_from-same, changes_from-apart, kept_between-kept, kept_between-passed, passed, passed-kept, passed-on, passed-same, passed-own}
@@ -191,7 +192,7 @@ started-found q p k zs n t =
     ∙ ap (λ l. route q (k ∷ t.rest) l) (ends_at q p k zs n t.apart)
     )
 
--- the points that are kept in the ring of `q`, `p`, `zs`
+-- the points that are kept on the way round `q`, `p`, `zs`
 abbrev pub around : Point → Point → List Point → List Point
 around q p zs = kept_between q p (without_end q (changes_from p zs) ++ q ∷ p ∷ [])
 
@@ -223,9 +224,9 @@ unfolding cleaned_sections
 started-cleaned q p zs n =
     started-begun q p zs n
     ∙ ap (λ ws. boundary (begun (kept_between q p (changes_from p zs)) (kept_round (q ∷ ws)))) (sym (without_end-cons q p (changes_from p zs) n))
-    ∙ ap (λ ws. boundary (begun (kept_inside (q ∷ ws)) (kept_round (ring (q ∷ ws))))) (sym (changes_from-apart q p zs n))
+    ∙ ap (λ ws. boundary (begun (kept_inside (q ∷ ws)) (kept_round (without_repeated_end (q ∷ ws))))) (sym (changes_from-apart q p zs n))
 
 -- repeats of the first point change nothing
 pub cleaned_sections-same : (q p : Point) (zs : List Point) → same_point q p ≡ true → cleaned_sections (q ∷ p ∷ zs) ≡ cleaned_sections (q ∷ zs)
 unfolding cleaned_sections
-cleaned_sections-same q p zs e = ap (λ ws. boundary (begun (kept_inside (q ∷ ws)) (kept_round (ring (q ∷ ws))))) (changes_from-same q p zs e)
+cleaned_sections-same q p zs e = ap (λ ws. boundary (begun (kept_inside (q ∷ ws)) (kept_round (without_repeated_end (q ∷ ws))))) (changes_from-same q p zs e)

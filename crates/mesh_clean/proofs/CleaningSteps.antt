@@ -8,7 +8,7 @@ use Rattle.mesh_plane.specs.Plane.{Point, Edge}
 use Rattle.mesh_plane.specs.Winding.{same_point, boundary, winding, crossing_on}
 use Rattle.mesh_plane.proofs.Triangles.{crossing_on_straight}
 use Rattle.mesh_plane.specs.Ways.{turns_at}
-use Rattle.mesh_clean.specs.Cleaned.{cleaned_sections, open_sections, AllEqual, IsClean}
+use Rattle.mesh_clean.specs.Cleaned.{cleaned_sections, open_sections, AllEqual, IsCleanContour}
 use Rattle.mesh_plane.proofs.Comparing.{decides_point, point_self}
 use Rattle.mesh_clean.proofs.CleaningPass.{passed-kept, passed-on, passed-open}
 use Rattle.mesh_clean.proofs.CleaningStart.{started, started-kept, started-on, cleaned_sections-same}
@@ -127,14 +127,14 @@ cleaned-none (q ∷ p ∷ ps) h =
     let test : same_point q p ≡ true = ap (same_point q) same ∙ point_self q in
     cleaned_sections-same q p ps test ∙ cleaned-none (q ∷ ps) (All-tail (λ (p : Point). p ≡ q) p ps h)
 
-pub cleaned-clean : (points : List Point) → (AllEqual points → ⊥) → IsClean (cleaned_sections points)
+pub cleaned-clean : (points : List Point) → (AllEqual points → ⊥) → IsCleanContour (cleaned_sections points)
 cleaned-clean [] n = absurd (n tt)
 cleaned-clean (q ∷ []) n = absurd (n (All-nil (λ (p : Point). p ≡ q)))
 cleaned-clean (q ∷ p ∷ ps) n = by (cases_Bool (same_point q p)) (cleaned-clean (q ∷ ps))
   where
-    by : (same_point q p ≡ true) ⊎ (same_point q p ≡ false) → ((AllEqual (q ∷ ps) → ⊥) → IsClean (cleaned_sections (q ∷ ps))) → IsClean (cleaned_sections (q ∷ p ∷ ps))
+    by : (same_point q p ≡ true) ⊎ (same_point q p ≡ false) → ((AllEqual (q ∷ ps) → ⊥) → IsCleanContour (cleaned_sections (q ∷ ps))) → IsCleanContour (cleaned_sections (q ∷ p ∷ ps))
     by (inl e) ih =
-        subst IsClean (sym (cleaned_sections-same q p ps e))
+        subst IsCleanContour (sym (cleaned_sections-same q p ps e))
         (ih (λ h. n (All-cons (λ (p : Point). p ≡ q) p ps (sym ((decides_point q p).0 e)) h)))
     by (inr e) ih = cleaned_sections-clean q p ps e
 

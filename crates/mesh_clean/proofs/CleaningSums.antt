@@ -14,23 +14,23 @@ use Rattle.mesh_clean.proofs.CleaningPass.{passed, passed-kept, passed-on}
 use Rattle.mesh_clean.proofs.CleaningStart.{started, started-kept, started-on, started-cleaned, cleaned_sections-same}
 
 -- the edges from `p` along the points
-abbrev pub along : Point → List Point → List Edge
-along p [] = []
-along p (z ∷ zs) = (p, z) ∷ along z zs
+abbrev pub edges_from : Point → List Point → List Edge
+edges_from p [] = []
+edges_from p (z ∷ zs) = (p, z) ∷ edges_from z zs
 
-pub along-route : (p : Point) (zs : List Point) (z : Point) → along p (zs ++ z ∷ []) ≡ route p zs z
-along-route p [] z = refl
-along-route p (x ∷ xs) z = ap (λ (es : List Edge). (p, x) ∷ es) (along-route x xs z)
+pub edges_from-route : (p : Point) (zs : List Point) (z : Point) → edges_from p (zs ++ z ∷ []) ≡ route p zs z
+edges_from-route p [] z = refl
+edges_from-route p (x ∷ xs) z = ap (λ (es : List Edge). (p, x) ∷ es) (edges_from-route x xs z)
 
 module _ (f : Point → Point → ℤ) (straight : (p r s : Point) → turn p r s ≡ pos 0 → f p r +ℤ f r s ≡ f p s) where
   flat-self : (p : Point) → f p p ≡ pos 0
   flat-self p = omega (arith, linear, straight p p p (straight_turn p p p (turns_at-from_self p p)))
 
-  along-append : (p : Point) (zs : List Point) (q r : Point) → total f (along p (zs ++ q ∷ r ∷ [])) ≡ total f (along p (zs ++ q ∷ [])) +ℤ f q r
-  along-append p [] q r = omega (arith, linear)
-  along-append p (z ∷ zs) q r = omega (arith, linear, along-append z zs q r)
+  edges_from-append : (p : Point) (zs : List Point) (q r : Point) → total f (edges_from p (zs ++ q ∷ r ∷ [])) ≡ total f (edges_from p (zs ++ q ∷ [])) +ℤ f q r
+  edges_from-append p [] q r = omega (arith, linear)
+  edges_from-append p (z ∷ zs) q r = omega (arith, linear, edges_from-append z zs q r)
 
-  pub passed-total : (a p : Point) (zs : List Point) → total f (passed a p zs) ≡ f a p +ℤ total f (along p zs)
+  pub passed-total : (a p : Point) (zs : List Point) → total f (passed a p zs) ≡ f a p +ℤ total f (edges_from p zs)
   passed-total a p [] = elim (cases_Bool (same_point a p)) [
     | inl e ↦
         let none : f a p ≡ pos 0 = ap (f a) (sym ((decides_point a p).0 e)) ∙ flat-self a in
@@ -49,30 +49,30 @@ module _ (f : Point → Point → ℤ) (straight : (p r s : Point) → turn p r 
         omega (arith, linear, on, passed-total a z zs, straight a p z (straight_turn a p z e))
   ]
 
-  pub started-total : (q p : Point) (zs : List Point) → total f (started q p zs) ≡ f q p +ℤ total f (along p (zs ++ q ∷ []))
+  pub started-total : (q p : Point) (zs : List Point) → total f (started q p zs) ≡ f q p +ℤ total f (edges_from p (zs ++ q ∷ []))
   started-total q p [] = omega (arith, linear, passed-total q p (q ∷ q ∷ []), flat-self q)
   started-total q p (z ∷ zs) = elim (cases_Bool (turns_at q p z)) [
     | inl e ↦
         let kept : total f (started q p (z ∷ zs)) ≡ total f (passed p z (zs ++ q ∷ p ∷ [])) = ap (total f) (started-kept q p z zs e) in
-        omega (arith, linear, kept, passed-total p z (zs ++ q ∷ p ∷ []), along-append z zs q p)
+        omega (arith, linear, kept, passed-total p z (zs ++ q ∷ p ∷ []), edges_from-append z zs q p)
     | inr e ↦
         let on : total f (started q p (z ∷ zs)) ≡ total f (started q z zs) = ap (total f) (started-on q p z zs e) in
         omega (arith, linear, on, started-total q z zs, straight q p z (straight_turn q p z e))
   ]
 
-  cleaned-along : (q : Point) (zs : List Point) → total f (cleaned_sections (q ∷ zs)) ≡ total f (along q (zs ++ q ∷ []))
+  cleaned-edges_from : (q : Point) (zs : List Point) → total f (cleaned_sections (q ∷ zs)) ≡ total f (edges_from q (zs ++ q ∷ []))
   unfolding cleaned_sections
-  cleaned-along q [] = omega (arith, linear, flat-self q)
-  cleaned-along q (z ∷ zs) = elim (cases_Bool (same_point q z)) [
-    | inl e ↦ repeated e (cleaned-along q zs)
+  cleaned-edges_from q [] = omega (arith, linear, flat-self q)
+  cleaned-edges_from q (z ∷ zs) = elim (cases_Bool (same_point q z)) [
+    | inl e ↦ repeated e (cleaned-edges_from q zs)
     | inr e ↦ ap (total f) (sym (started-cleaned q z zs e)) ∙ started-total q z zs
   ]
     where
-      repeated : same_point q z ≡ true → total f (cleaned_sections (q ∷ zs)) ≡ total f (along q (zs ++ q ∷ [])) → total f (cleaned_sections (q ∷ z ∷ zs)) ≡ f q z +ℤ total f (along z (zs ++ q ∷ []))
+      repeated : same_point q z ≡ true → total f (cleaned_sections (q ∷ zs)) ≡ total f (edges_from q (zs ++ q ∷ [])) → total f (cleaned_sections (q ∷ z ∷ zs)) ≡ f q z +ℤ total f (edges_from z (zs ++ q ∷ []))
       repeated e ih =
           let same : q ≡ z = (decides_point q z).0 e in
           let less : total f (cleaned_sections (q ∷ z ∷ zs)) ≡ total f (cleaned_sections (q ∷ zs)) = ap (total f) (cleaned_sections-same q z zs e) in
-          let way : total f (along q (zs ++ q ∷ [])) ≡ total f (along z (zs ++ q ∷ [])) = ap (λ x. total f (along x (zs ++ q ∷ []))) same in
+          let way : total f (edges_from q (zs ++ q ∷ [])) ≡ total f (edges_from z (zs ++ q ∷ [])) = ap (λ x. total f (edges_from x (zs ++ q ∷ []))) same in
           let none : f q z ≡ pos 0 = ap (f q) (sym same) ∙ flat-self q in
           omega (arith, linear, less, ih, way, none)
 
@@ -80,4 +80,4 @@ module _ (f : Point → Point → ℤ) (straight : (p r s : Point) → turn p r 
   pub cleaned-total : (points : List Point) → total f (cleaned_sections points) ≡ total f (boundary points)
   unfolding cleaned_sections
   cleaned-total [] = refl
-  cleaned-total (q ∷ zs) = cleaned-along q zs ∙ ap (total f) (along-route q zs q)
+  cleaned-total (q ∷ zs) = cleaned-edges_from q zs ∙ ap (total f) (edges_from-route q zs q)

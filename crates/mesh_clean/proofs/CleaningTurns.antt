@@ -9,7 +9,7 @@ use Rattle.mesh_plane.specs.Winding.{route, boundary, same_point}
 use Rattle.mesh_plane.proofs.Whole.{linear}
 use Rattle.mesh_plane.proofs.Ring.{ring, var, neg, ◌⊖◌, cross_of, dot_of}
 use Rattle.mesh_plane.specs.Ways.{turns_at, last_of}
-use Rattle.mesh_clean.specs.Cleaned.{changes_from, kept_between, without_end, cleaned_sections, RunsOn, IsClean}
+use Rattle.mesh_clean.specs.Cleaned.{changes_from, kept_between, without_end, cleaned_sections, RunsOn, IsCleanContour}
 use Rattle.mesh_plane.proofs.Comparing.{points_swap}
 use Rattle.mesh_clean.proofs.CleaningVectors.{SameWay, SameWay-straight, SameWay-ahead, SameWay-self, SameWay-apart, judged, judged_ahead, turns_at-from_self, turns_at-to_self, turns_at-back, turns_at-straight}
 use Rattle.mesh_clean.proofs.CleaningPass.{changes_from-same, changes_from-apart, kept_between-kept, kept_between-passed}
@@ -94,13 +94,13 @@ before_last-append y r (w ∷ ws) q k = before_last-append r w ws q k
 -- ---- round a closed list
 
 -- an edge and the next one, which starts where the first ends and does not run on
-pub record Corner (c : Edge × Edge) : Type 0 where
+pub record MeetsAndTurns (c : Edge × Edge) : Type 0 where
   pub meets : c.0.1 ≡ c.1.0
   pub turns : turns_at c.0.0 c.0.1 c.1.1 ≡ true
 
-corners : (h n z w : Point) (ns : List Point) → Turning h n ns z → turns_at (last_of n ns) z w ≡ true → All Corner (route (h, n) (route n ns z) (z, w))
-corners h n z w [] t k = All-cons Corner ((h, n), (n, z)) (((n, z), (z, w)) ∷ []) (record { meets = refl; turns = t }) (All-cons Corner ((n, z), (z, w)) [] (record { meets = refl; turns = k }) (All-nil Corner))
-corners h n z w (x ∷ xs) t k = All-cons Corner ((h, n), (n, x)) (route (n, x) (route x xs z) (z, w)) (record { meets = refl; turns = t.0 }) (corners n x z w xs t.1 k)
+corners : (h n z w : Point) (ns : List Point) → Turning h n ns z → turns_at (last_of n ns) z w ≡ true → All MeetsAndTurns (route (h, n) (route n ns z) (z, w))
+corners h n z w [] t k = All-cons MeetsAndTurns ((h, n), (n, z)) (((n, z), (z, w)) ∷ []) (record { meets = refl; turns = t }) (All-cons MeetsAndTurns ((n, z), (z, w)) [] (record { meets = refl; turns = k }) (All-nil MeetsAndTurns))
+corners h n z w (x ∷ xs) t k = All-cons MeetsAndTurns ((h, n), (n, x)) (route (n, x) (route x xs z) (z, w)) (record { meets = refl; turns = t.0 }) (corners n x z w xs t.1 k)
 
 All-firsts : (Q : Edge → Type 0) (e z : Edge) (es : List Edge) → All (λ (c : Edge × Edge). Q c.0) (route e es z) → All Q (e ∷ es)
 All-firsts Q e z [] h = All-cons Q e [] (All-head (λ (c : Edge × Edge). Q c.0) (e, z) [] h) (All-nil Q)
@@ -126,43 +126,43 @@ not_on a p z k flat ahead =
     refl in
     true≢false (sym k ∙ turns_at-straight a p z (c ∙ ap neg_ℤ flat) (omega (arith, linear)))
 
-Corner-proper : (c : Edge × Edge) → Corner c → c.0.0 ≢ c.0.1
-Corner-proper c h e = true≢false (sym h.turns ∙ ap (λ p. turns_at p c.0.1 c.1.1) e ∙ turns_at-from_self c.0.1 c.1.1)
+MeetsAndTurns-proper : (c : Edge × Edge) → MeetsAndTurns c → c.0.0 ≢ c.0.1
+MeetsAndTurns-proper c h e = true≢false (sym h.turns ∙ ap (λ p. turns_at p c.0.1 c.1.1) e ∙ turns_at-from_self c.0.1 c.1.1)
 
-Corner-turns : (c : Edge × Edge) → Corner c → RunsOn c.0 c.1 → ⊥
-Corner-turns c h r =
+MeetsAndTurns-turns : (c : Edge × Edge) → MeetsAndTurns c → RunsOn c.0 c.1 → ⊥
+MeetsAndTurns-turns c h r =
     let way : RunsOn c.0 (c.0.1, c.1.1) = subst (λ p. RunsOn c.0 (p, c.1.1)) (sym h.meets) r in
     not_on c.0.0 c.0.1 c.1.1 h.turns way.0 way.1
 
-closed_clean : (k n : Point) (ns : List Point) → Turning k n ns k → turns_at (last_of n ns) k n ≡ true → IsClean (boundary (k ∷ n ∷ ns))
+closed_clean : (k n : Point) (ns : List Point) → Turning k n ns k → turns_at (last_of n ns) k n ≡ true → IsCleanContour (boundary (k ∷ n ∷ ns))
 closed_clean k n ns t e =
-    let all : All Corner (boundary (boundary (k ∷ n ∷ ns))) = corners k n k n ns t e in
+    let all : All MeetsAndTurns (boundary (boundary (k ∷ n ∷ ns))) = corners k n k n ns t e in
     record {
       many = omega (arith, length-route n ns k);
       proper =
-          All-firsts (λ (e : Edge). e.0 ≢ e.1) (k, n) (k, n) (route n ns k) (All-weaker Corner (λ (c : Edge × Edge). c.0.0 ≢ c.0.1) Corner-proper (boundary (boundary (k ∷ n ∷ ns))) all);
-      closed = All-weaker Corner (λ (c : Edge × Edge). c.0.1 ≡ c.1.0) (λ c h. h.meets) (boundary (boundary (k ∷ n ∷ ns))) all;
-      turns = All-weaker Corner (λ (c : Edge × Edge). RunsOn c.0 c.1 → ⊥) Corner-turns (boundary (boundary (k ∷ n ∷ ns))) all;
+          All-firsts (λ (e : Edge). e.0 ≢ e.1) (k, n) (k, n) (route n ns k) (All-weaker MeetsAndTurns (λ (c : Edge × Edge). c.0.0 ≢ c.0.1) MeetsAndTurns-proper (boundary (boundary (k ∷ n ∷ ns))) all);
+      closed = All-weaker MeetsAndTurns (λ (c : Edge × Edge). c.0.1 ≡ c.1.0) (λ c h. h.meets) (boundary (boundary (k ∷ n ∷ ns))) all;
+      turns = All-weaker MeetsAndTurns (λ (c : Edge × Edge). RunsOn c.0 c.1 → ⊥) MeetsAndTurns-turns (boundary (boundary (k ∷ n ∷ ns))) all;
     }
 
 -- ---- the cleaned contour
 
-started-clean : (q p : Point) (zs : List Point) → same_point q p ≡ false → IsClean (started q p zs)
+started-clean : (q p : Point) (zs : List Point) → same_point q p ≡ false → IsCleanContour (started q p zs)
 started-clean q p zs n = cases (kept_between q p (changes_from p zs)) refl
   where
     same : SameWay q q p
     same = SameWay-self q p n
 
-    cases : (inside : List Point) → kept_between q p (changes_from p zs) ≡ inside → IsClean (started q p zs)
+    cases : (inside : List Point) → kept_between q p (changes_from p zs) ≡ inside → IsCleanContour (started q p zs)
     cases [] e =
         let t : Turned q p q p zs = none_inside q p q p zs n same (λ x. refl) e in
         let l : Point = last_of p (changes_from p zs) in
-        subst IsClean (sym t.edges) (closed_clean q l [] (turns_at-back q l (points_swap q l ∙ t.apart)) (turns_at-back l q t.apart))
+        subst IsCleanContour (sym t.edges) (closed_clean q l [] (turns_at-back q l (points_swap q l ∙ t.apart)) (turns_at-back l q t.apart))
     cases (k ∷ ks) e =
         let t : Found q p k q p zs = first_inside q p k q p zs ks same (λ x. refl) e in
-        subst IsClean (sym (started-found q p k zs n t)) (found t)
+        subst IsCleanContour (sym (started-found q p k zs n t)) (found t)
       where
-        found : (t : Found q p k q p zs) → IsClean (boundary (k ∷ t.rest))
+        found : (t : Found q p k q p zs) → IsCleanContour (boundary (k ∷ t.rest))
         found t =
             let all : List Point = changes_from p (zs ++ q ∷ k ∷ []) in
             let apart : Apart p all = changes_from-Apart p (zs ++ q ∷ k ∷ []) in
@@ -174,10 +174,10 @@ started-clean q p zs n = cases (kept_between q p (changes_from p zs)) refl
             subst (λ x. SameWay (last_of k t.rest) q x) end (subst (λ x. SameWay (last_of k t.rest) x (last_of p all)) before (subst (λ ws. SameWay (last_of q ws) (before_last q p all) (last_of p all)) t.kept seen)) in
             by t.rest turning near
           where
-            by : (ms : List Point) → Turning q k ms k → SameWay (last_of k ms) q k → IsClean (boundary (k ∷ ms))
+            by : (ms : List Point) → Turning q k ms k → SameWay (last_of k ms) q k → IsCleanContour (boundary (k ∷ ms))
             by [] t s = absurd (true≢false (sym t ∙ turns_at-to_self q k))
             by (m ∷ ms) t s = closed_clean k m ms t.1 (judged (last_of m ms) q k m s ∙ t.0)
 
 -- two points that differ
-pub cleaned_sections-clean : (q p : Point) (zs : List Point) → same_point q p ≡ false → IsClean (cleaned_sections (q ∷ p ∷ zs))
-cleaned_sections-clean q p zs n = subst IsClean (started-cleaned q p zs n) (started-clean q p zs n)
+pub cleaned_sections-clean : (q p : Point) (zs : List Point) → same_point q p ≡ false → IsCleanContour (cleaned_sections (q ∷ p ∷ zs))
+cleaned_sections-clean q p zs n = subst IsCleanContour (started-cleaned q p zs n) (started-clean q p zs n)

@@ -22,9 +22,9 @@ without_end p (x ∷ []) = cond (same_point p x) [] (x ∷ [])
 without_end p (x ∷ y ∷ ys) = x ∷ without_end p (y ∷ ys)
 
 -- a closed list, without its last point where that is the first
-abbrev pub ring : List Point → List Point
-ring [] = []
-ring (p ∷ ps) = p ∷ without_end p ps
+abbrev pub without_repeated_end : List Point → List Point
+without_repeated_end [] = []
+without_repeated_end (p ∷ ps) = p ∷ without_end p ps
 
 -- of the list `p0`, `p1`, `ps`, the points between the first and the last that are kept between their neighbours
 abbrev pub kept_between : Point → Point → List Point → List Point
@@ -54,7 +54,7 @@ begun (p ∷ ps) round = round
 
 -- the kept points of a closed list, begun at the first one that stands inside the list without repeats, or else at the list's first point
 abbrev pub cleaned_points : List Point → List Point
-cleaned_points points = begun (kept_inside (without_repeats points)) (kept_round (ring (without_repeats points)))
+cleaned_points points = begun (kept_inside (without_repeats points)) (kept_round (without_repeated_end (without_repeats points)))
 
 -- the edges of the cleaned contour
 unfoldable pub cleaned_sections : List Point → List Edge
@@ -80,7 +80,7 @@ abbrev pub RunsOn : Edge → Edge → Type 0
 RunsOn e f = (cross (minus e.1 e.0) (minus f.1 f.0) ≡ pos 0) × (pos 0 <ℤ dot (minus e.1 e.0) (minus f.1 f.0))
 
 -- at least two edges with different ends, each starting where the one before ends and not running on from it, the first after the last too
-pub record IsClean (sections : List Edge) : Type 0 where
+pub record IsCleanContour (sections : List Edge) : Type 0 where
   pub many : 2 ≤ length sections
   pub proper : All (λ (e : Edge). e.0 ≢ e.1) sections
   pub closed : All (λ (c : Edge × Edge). c.0.1 ≡ c.1.0) (boundary sections)

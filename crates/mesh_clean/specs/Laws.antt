@@ -3,7 +3,8 @@ use Rattle.std.specs.Prelude.{ℕ, ◌≡◌, List, [], ◌∷◌}
 use Rattle.mesh_plane.specs.Plane.{Point}
 use Rattle.mesh_plane.specs.Ways.{first_or}
 use Rattle.mesh_plane.specs.Winding.{boundary, winding}
-use Rattle.mesh_clean.specs.Cleaned.{AllEqual, IsClean, cleaned_points, cleaned_sections, kept_inside, without_repeats}
+use Rattle.mesh_clean.specs.Cleaned.{AllEqual, IsCleanContour, cleaned_points}
+use Rattle.mesh_clean.specs.Cleaned.{cleaned_sections, kept_inside, without_repeats}
 
 -- at every point of every grid a cleaned contour winds as often as the contour
 abbrev pub CleanedContoursWindAlike : Type 0
@@ -13,7 +14,7 @@ CleanedContoursWindAlike =
 -- a contour of points that are not all equal has at least two sections, which close up and of which none runs on from
 -- the one before it
 abbrev pub CleanedContoursAreClean : Type 0
-CleanedContoursAreClean = (points : List Point) → (AllEqual points → ⊥) → IsClean (cleaned_sections points)
+CleanedContoursAreClean = (points : List Point) → (AllEqual points → ⊥) → IsCleanContour (cleaned_sections points)
 
 -- a contour of no point or of equal ones has no section
 abbrev pub EqualPointsHaveNoSections : Type 0

@@ -7,7 +7,7 @@ ghost use Rattle.mesh_plane.specs.Plane.{Point};
 ghost use Rattle.mesh_plane.specs.Bounds.{IsSafe};
 ghost use Rattle.mesh_plane.specs.Winding.{boundary, winding, same_point};
 ghost use Rattle.mesh_plane.specs.Ways.{turns_at};
-ghost use Rattle.mesh_clean.specs.Cleaned.{cleaned_sections, open_sections, AllEqual, IsClean};
+ghost use Rattle.mesh_clean.specs.Cleaned.{cleaned_sections, open_sections, AllEqual, IsCleanContour};
 
 use mesh_grid::num::convert::is_wide_less;
 use mesh_grid::num::point::is_one_point;
@@ -56,7 +56,7 @@ impl<'a, I: IntNumber> UniqueSegmentsIter<'a, I> {
         requires { All (IsSafe I.unit) points.now }
         ensures sections { MatchOption result (AllEqual points.now)
             (λ s. (AllEqual points.now → ⊥) × (s ≡ cleaned_sections points.now)) }
-        ensures clean { IfSome result IsClean }
+        ensures clean { IfSome result IsCleanContour }
         ensures winding { (m : ℕ) (q : Point) → MatchOption result (winding m q (boundary points.now) ≡ pos 0)
             (λ s. winding m q s ≡ winding m q (boundary points.now)) }
     {

@@ -10,7 +10,8 @@ use Rattle.std.specs.Prelude.{OnOk}
 use Rattle.mesh_cuts.specs.Split.{back}
 use Rattle.mesh_cuts.specs.declared.fill.FillRule.{FillRule}
 use Rattle.mesh_cuts.specs.declared.fill.FillRule.TheVariants.{Positive, Negative}
-use Rattle.mesh_draw.specs.Adding.{along, AddsClosed}
+use Rattle.mesh_draw.specs.Adding.{in_sense}
+use Rattle.mesh_draw.specs.Midway.{AddsClosed}
 use Rattle.mesh_num.proofs.SegmentLists.{segments_of-append}
 use Rattle.std.specs.List.{flat_map}
 use Rattle.std.specs.declared.vec.Vec.{Vec}
@@ -37,28 +38,28 @@ pub on_ok_then : {A E : Type 0} (r : Result A E) {P Q : Type 0} → OnOk r P →
 on_ok_then (Ok x) h f = f h
 on_ok_then (Err e) h f = tt
 
-pub along-append : (fill : FillRule) (es gs : List Edge) → along fill (es ++ gs) ≡ along fill es ++ along fill gs
-along-append Positive es gs = refl
-along-append Negative es gs = map-append back es gs
+pub in_sense-append : (fill : FillRule) (es gs : List Edge) → in_sense fill (es ++ gs) ≡ in_sense fill es ++ in_sense fill gs
+in_sense-append Positive es gs = refl
+in_sense-append Negative es gs = map-append back es gs
 
-pub along-none : (fill : FillRule) → along fill [] ≡ []
-along-none Positive = refl
-along-none Negative = refl
+pub in_sense-none : (fill : FillRule) → in_sense fill [] ≡ []
+in_sense-none Positive = refl
+in_sense-none Negative = refl
 
 -- what is added in two steps
-pub added_more : (fill : FillRule) (old mid new : List SignedEdge) (es gs : List Edge) → mid ≡ old ++ segments_of (along fill es) →
-    new ≡ mid ++ segments_of (along fill gs) → new ≡ old ++ segments_of (along fill (es ++ gs))
+pub added_more : (fill : FillRule) (old mid new : List SignedEdge) (es gs : List Edge) → mid ≡ old ++ segments_of (in_sense fill es) →
+    new ≡ mid ++ segments_of (in_sense fill gs) → new ≡ old ++ segments_of (in_sense fill (es ++ gs))
 added_more fill old mid new es gs h k =
     k
-    ∙ ap (λ (ss : List SignedEdge). ss ++ segments_of (along fill gs)) h
-    ∙ append_assoc old (segments_of (along fill es)) (segments_of (along fill gs))
-    ∙ ap (λ (ss : List SignedEdge). old ++ ss) (sym (segments_of-append (along fill es) (along fill gs)))
-    ∙ ap (λ (ds : List Edge). old ++ segments_of ds) (sym (along-append fill es gs))
+    ∙ ap (λ (ss : List SignedEdge). ss ++ segments_of (in_sense fill gs)) h
+    ∙ append_assoc old (segments_of (in_sense fill es)) (segments_of (in_sense fill gs))
+    ∙ ap (λ (ss : List SignedEdge). old ++ ss) (sym (segments_of-append (in_sense fill es) (in_sense fill gs)))
+    ∙ ap (λ (ds : List Edge). old ++ segments_of ds) (sym (in_sense-append fill es gs))
 
 -- one contour of a shape more
 pub contour_more : (fill : FillRule) (paths : List (Vec Point Global)) (path : Vec Point Global) (i : ℕ) (old mid new : List SignedEdge) → i < length paths →
-    path ≡ get_or paths i path → mid ≡ old ++ segments_of (along fill (flat_map boundary (paths_of (take i paths)))) →
-    new ≡ mid ++ segments_of (along fill (boundary path.items)) → new ≡ old ++ segments_of (along fill (flat_map boundary (paths_of (take (i + 1) paths))))
+    path ≡ get_or paths i path → mid ≡ old ++ segments_of (in_sense fill (flat_map boundary (paths_of (take i paths)))) →
+    new ≡ mid ++ segments_of (in_sense fill (boundary path.items)) → new ≡ old ++ segments_of (in_sense fill (flat_map boundary (paths_of (take (i + 1) paths))))
 contour_more fill paths path i old mid new l is h k =
     let items : Vec Point Global → List Point = λ p. p.items in
     let more : paths_of (take (i + 1) paths) ≡ paths_of (take i paths) ++ path.items ∷ [] =
@@ -68,31 +69,31 @@ contour_more fill paths path i old mid new l is h k =
     ∙ flat_map-append boundary (paths_of (take i paths)) (path.items ∷ [])
     ∙ ap (λ (es : List Edge). flat_map boundary (paths_of (take i paths)) ++ es) (append-nil (boundary path.items)) in
     added_more fill old mid new (flat_map boundary (paths_of (take i paths))) (boundary path.items) h k
-    ∙ ap (λ (es : List Edge). old ++ segments_of (along fill es)) (sym edges)
+    ∙ ap (λ (es : List Edge). old ++ segments_of (in_sense fill es)) (sym edges)
 
 -- all contours of a shape
 pub contours_all : (fill : FillRule) (paths : List (Vec Point Global)) (i : ℕ) (old new : List SignedEdge) → length paths ≤ i →
-    new ≡ old ++ segments_of (along fill (flat_map boundary (paths_of (take i paths)))) → new ≡ old ++ segments_of (along fill (flat_map boundary (paths_of paths)))
+    new ≡ old ++ segments_of (in_sense fill (flat_map boundary (paths_of (take i paths)))) → new ≡ old ++ segments_of (in_sense fill (flat_map boundary (paths_of paths)))
 contours_all fill paths i old new past h =
-    h ∙ ap (λ ps. old ++ segments_of (along fill (flat_map boundary (paths_of ps)))) (take_all i paths past)
+    h ∙ ap (λ ps. old ++ segments_of (in_sense fill (flat_map boundary (paths_of ps)))) (take_all i paths past)
 
 -- one shape more
 pub shape_more : (fill : FillRule) (shapes : List (Vec (Vec Point Global) Global)) (shape : Vec (Vec Point Global) Global) (i : ℕ) (old mid new : List SignedEdge) → i < length shapes →
-    shape ≡ get_or shapes i shape → mid ≡ old ++ segments_of (along fill (answer_edges (shapes_of (take i shapes)))) →
-    new ≡ mid ++ segments_of (along fill (flat_map boundary (paths_of shape.items))) → new ≡ old ++ segments_of (along fill (answer_edges (shapes_of (take (i + 1) shapes))))
+    shape ≡ get_or shapes i shape → mid ≡ old ++ segments_of (in_sense fill (answer_edges (shapes_of (take i shapes)))) →
+    new ≡ mid ++ segments_of (in_sense fill (flat_map boundary (paths_of shape.items))) → new ≡ old ++ segments_of (in_sense fill (answer_edges (shapes_of (take (i + 1) shapes))))
 shape_more fill shapes shape i old mid new l is h k =
     let more : contours_of (shapes_of (take (i + 1) shapes)) ≡ contours_of (shapes_of (take i shapes)) ++ paths_of shape.items =
     contours_more shapes i shape l ∙ ap (λ s. contours_of (shapes_of (take i shapes)) ++ paths_of s.items) (sym is) in
     let edges : answer_edges (shapes_of (take (i + 1) shapes)) ≡ answer_edges (shapes_of (take i shapes)) ++ flat_map boundary (paths_of shape.items) =
     ap (flat_map boundary) more ∙ flat_map-append boundary (contours_of (shapes_of (take i shapes))) (paths_of shape.items) in
     added_more fill old mid new (answer_edges (shapes_of (take i shapes))) (flat_map boundary (paths_of shape.items)) h k
-    ∙ ap (λ (es : List Edge). old ++ segments_of (along fill es)) (sym edges)
+    ∙ ap (λ (es : List Edge). old ++ segments_of (in_sense fill es)) (sym edges)
 
 -- all shapes
 pub shapes_all : (fill : FillRule) (shapes : List (Vec (Vec Point Global) Global)) (i : ℕ) (old new : List SignedEdge) → length shapes ≤ i →
-    new ≡ old ++ segments_of (along fill (answer_edges (shapes_of (take i shapes)))) → new ≡ old ++ segments_of (along fill (answer_edges (shapes_of shapes)))
+    new ≡ old ++ segments_of (in_sense fill (answer_edges (shapes_of (take i shapes)))) → new ≡ old ++ segments_of (in_sense fill (answer_edges (shapes_of shapes)))
 shapes_all fill shapes i old new past h =
-    h ∙ ap (λ s. old ++ segments_of (along fill (answer_edges (shapes_of s)))) (take_all i shapes past)
+    h ∙ ap (λ s. old ++ segments_of (in_sense fill (answer_edges (shapes_of s)))) (take_all i shapes past)
 
 -- nothing
 pub adds_nothing : (unit : ℕ) (old : List SignedEdge) → AddsClosed unit old old []

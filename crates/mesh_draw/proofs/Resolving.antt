@@ -9,7 +9,8 @@ use Rattle.mesh_plane.proofs.Whole.{linear}
 use Rattle.mesh_cuts.specs.Split.{back}
 use Rattle.mesh_cuts.specs.declared.fill.FillRule.{FillRule}
 use Rattle.mesh_cuts.specs.declared.fill.FillRule.TheVariants.{Positive, Negative}
-use Rattle.mesh_draw.specs.Adding.{along, AddsClosed}
+use Rattle.mesh_draw.specs.Adding.{in_sense}
+use Rattle.mesh_draw.specs.Midway.{AddsClosed}
 use Rattle.std.proofs.lemmas.List.Elements.{All-map, All-weaker, All-filter}
 use Rattle.mesh_plane.specs.Bounds.{IsSafe}
 use Rattle.mesh_cuts.specs.Reach.{AreEdgesSafe, ArePointsSafe}
@@ -30,13 +31,13 @@ back_growth : (g : Point → ℤ) (es : List Edge) → total (growth g) (map bac
 back_growth g [] = refl
 back_growth g (e ∷ es) = omega (arith, linear, back_growth g es)
 
-pub along_balanced : (fill : FillRule) (es : List Edge) → IsBalanced es → IsBalanced (along fill es)
-along_balanced Positive es h = h
-along_balanced Negative es h = balanced_by_growth (map back es) (λ g. omega (arith, linear, back_growth g es, growth_of_balanced es h g))
+pub in_sense_balanced : (fill : FillRule) (es : List Edge) → IsBalanced es → IsBalanced (in_sense fill es)
+in_sense_balanced Positive es h = h
+in_sense_balanced Negative es h = balanced_by_growth (map back es) (λ g. omega (arith, linear, back_growth g es, growth_of_balanced es h g))
 
-pub along_safe : (unit : ℕ) (fill : FillRule) (es : List Edge) → AreEdgesSafe unit es → AreEdgesSafe unit (along fill es)
-along_safe unit Positive es h = h
-along_safe unit Negative es h =
+pub in_sense_safe : (unit : ℕ) (fill : FillRule) (es : List Edge) → AreEdgesSafe unit es → AreEdgesSafe unit (in_sense fill es)
+in_sense_safe unit Positive es h = h
+in_sense_safe unit Negative es h =
     All-map (λ (e : Edge). IsSafe unit e.0 × IsSafe unit e.1) back es
     (All-weaker (λ (e : Edge). IsSafe unit e.0 × IsSafe unit e.1) (λ (e : Edge). IsSafe unit e.1 × IsSafe unit e.0) (λ e s. (s.1, s.0)) es h)
 
@@ -50,10 +51,10 @@ answer_safe unit answer safe =
 
 -- the segments of an answer's edges are those of closed edges
 pub adds_answer : (unit : ℕ) (fill : FillRule) (answer : List (List (List Point))) (old new : List SignedEdge) → ArePointsSafe unit answer →
-    new ≡ old ++ segments_of (along fill (answer_edges answer)) → AddsClosed unit old new (along fill (answer_edges answer))
+    new ≡ old ++ segments_of (in_sense fill (answer_edges answer)) → AddsClosed unit old new (in_sense fill (answer_edges answer))
 adds_answer unit fill answer old new safe h = record {
-  balanced = along_balanced fill (answer_edges answer) (contours_balanced (contours_of answer));
-  safe = along_safe unit fill (answer_edges answer) (answer_safe unit answer safe);
+  balanced = in_sense_balanced fill (answer_edges answer) (contours_balanced (contours_of answer));
+  safe = in_sense_safe unit fill (answer_edges answer) (answer_safe unit answer safe);
   added = h;
 }
 

@@ -3,9 +3,8 @@ use Rattle.std.specs.Prelude.{ℕ, ◌≡◌, ◌+◌, ◌≤◌, List, ◌++◌
 use Rattle.std.specs.declared.alloc.Global.{Global}
 use Rattle.std.specs.declared.vec.Vec.{Vec}
 use Rattle.mesh_plane.specs.Plane.{Edge, Point}
-use Rattle.mesh_num.specs.Segments.{SignedEdge, segments_of, edges_of, IsSubject}
-use Rattle.mesh_plane.specs.Winding.{IsBalanced, boundary}
-use Rattle.mesh_cuts.specs.Reach.{AreEdgesSafe}
+use Rattle.mesh_num.specs.Segments.{SignedEdge, edges_of, IsSubject}
+use Rattle.mesh_plane.specs.Winding.{boundary}
 use Rattle.mesh_cuts.specs.Split.{back}
 use Rattle.mesh_cuts.specs.declared.fill.FillRule.{FillRule}
 use Rattle.mesh_cuts.specs.declared.fill.FillRule.TheVariants.{Positive, Negative}
@@ -14,16 +13,9 @@ use Rattle.std.specs.List.Sorted.{IsPermutation}
 use Rattle.mesh_num.specs.Paths.{contours_of}
 
 -- edges as they are given to the outline: those of what is filled in the negative sense go the other way about
-abbrev pub along : FillRule → List Edge → List Edge
-along Positive es = es
-along Negative es = map back es
-
--- the vector `new` holds what `old` held, and then the segments of these edges, which are balanced and in the safe
--- range
-pub record AddsClosed (unit : ℕ) (old new : List SignedEdge) (edges : List Edge) : Type 0 where
-  pub balanced : IsBalanced edges
-  pub safe : AreEdgesSafe unit edges
-  pub added : new ≡ old ++ segments_of edges
+abbrev pub in_sense : FillRule → List Edge → List Edge
+in_sense Positive es = es
+in_sense Negative es = map back es
 
 -- the vector `new` holds what `old` held, and then segments that stand for the edges, in some order, each as
 -- `Segment::subject` gives it

@@ -9,9 +9,9 @@ use mir.Val.{to_z, of_z, SFits}
 use Rattle.mesh_plane.specs.Plane.{Point, opposite, cross, dot}
 use Rattle.mesh_plane.proofs.Identities.{cross_opposite, dot_opposite}
 use Rattle.mesh_plane.proofs.Sizes.{le_of_squares, size_neg}
-use Rattle.mesh_sine.specs.Sine.{sin_cos}
+use Rattle.mesh_sine.specs.Sine.{sin_cos, IsSinePair}
 use Rattle.mesh_join.specs.Joints.{Joint}
-use Rattle.mesh_join.specs.Midway.Miters.{IsHalfSine, IsSinePair}
+use Rattle.mesh_join.specs.Midway.Miters.{IsHalfSine}
 use Rattle.mesh_join.specs.Miters.{slightest, sharpest, half_sharpest, is_angle_below, is_slight, is_sharp}
 use Rattle.mesh_join.proofs.Miters.{half_sine}
 

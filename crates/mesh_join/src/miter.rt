@@ -7,10 +7,11 @@ ghost use Rattle.mesh_plane.specs.Plane.{minus, cross as cross_of, dot as dot_of
 ghost use Rattle.mesh_grid.specs.Direction.{scaled_direction};
 ghost use Rattle.mesh_grid.specs.Quotient.{rounded_product as product_over};
 ghost use Rattle.mesh_grid.specs.Rectangle.{IsSafeWidened};
+ghost use Rattle.mesh_sine.specs.Sine.{IsSinePair};
 ghost use Rattle.mesh_join.specs.Appending.{Appends, HasRoomForEdges};
 ghost use Rattle.mesh_join.specs.Joins.{IsJoint};
 ghost use Rattle.mesh_join.specs.Methods.{style_of_miter};
-ghost use Rattle.mesh_join.specs.Midway.Miters.{IsHalfSine, IsNarrow, IsPointPair, IsSinePair, IsSummand};
+ghost use Rattle.mesh_join.specs.Midway.Miters.{IsHalfSine, IsNarrow, IsPointPair, IsSummand};
 ghost use Rattle.mesh_join.specs.Miters.{sharpest as sharpest_of, slightest as slightest_of, half_sharpest as half_of};
 ghost use Rattle.mesh_join.specs.Miters.{reach as reach_of, miter_padding, is_slight as is_slight_at};
 ghost use Rattle.mesh_join.specs.Miters.{is_sharp as is_sharp_at, clip_points as clip_points_of, peak as peak_of};

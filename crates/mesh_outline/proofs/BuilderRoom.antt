@@ -11,7 +11,8 @@ use Rattle.mesh_join.proofs.JoinLaws.{KeepsJoint}
 use Rattle.mesh_join.specs.Cleaned.{cleaned_sections}
 use Rattle.mesh_join.specs.Joins.{has_few}
 use Rattle.mesh_join.specs.Styles.{OffsetJoin}
-use Rattle.mesh_outline.specs.Outline.{Section, Corner, outer_edges, parts, joint_at, joined, section_of, ring_outline, outline_edges}
+use Rattle.mesh_outline.specs.Outline.{Section, SectionPair, outer_edges, parts, joint_at}
+use Rattle.mesh_outline.specs.Outline.{joined, section_of, ring_outline, outline_edges}
 use Rattle.mesh_outline.specs.Midway.{corner_segments, top_segments}
 use Rattle.mesh_outline.proofs.Corners.{corners_keep}
 use Rattle.mesh_outline.proofs.OutlineWalk.{drawn_length}
@@ -71,8 +72,8 @@ room_of_four unit style points n cap least few room =
       arith,
       room,
       drawn_length (parts style.offset) (joined unit style) sections
-          (All-weaker (λ (c : Corner). parts style.offset c ≡ true → KeepsJoint unit style.join (joint_at style.offset c))
-          (λ (c : Corner). parts style.offset c ≡ true → length (outer_edges (joined unit style) c) ≤ 3) (λ c keeps parted. (keeps parted).few few) (boundary sections)
+          (All-weaker (λ (c : SectionPair). parts style.offset c ≡ true → KeepsJoint unit style.join (joint_at style.offset c))
+          (λ (c : SectionPair). parts style.offset c ≡ true → length (outer_edges (joined unit style) c) ≤ 3) (λ c keeps parted. (keeps parted).few few) (boundary sections)
           (corners_keep unit style least (cleaned_sections points) (cleaned_ring points))),
       length-map (cleaned_sections points) (section_of unit style.offset),
     )

@@ -16,7 +16,8 @@ use Rattle.mesh_draw.specs.Adding.{Adds, added, added_edges}
 use Rattle.mesh_draw.specs.Drawing.{AreDrawn}
 use Rattle.mesh_draw.proofs.Drawn.{adds_drawn, drawn_safe, added_length}
 use Rattle.mesh_outline.specs.Building.{IsMovable}
-use Rattle.mesh_outline.specs.Outline.{Section, Corner, outer_edges, parts, joint_at, joined, section_of, outline_edges, outline_pieces}
+use Rattle.mesh_outline.specs.Outline.{Section, SectionPair, outer_edges, parts, joint_at}
+use Rattle.mesh_outline.specs.Outline.{joined, section_of, outline_edges, outline_pieces}
 use Rattle.mesh_outline.proofs.Corners.{corners_keep}
 use Rattle.mesh_outline.proofs.OutlineWalk.{drawn_length}
 use Rattle.mesh_outline.proofs.Promised.{cleaned_ring, has_promised_edges}
@@ -41,8 +42,8 @@ module _ (unit : ℕ) (style : OffsetJoin) (points : List Point) (least : 2 ^ 14
         arith,
         added_length old new (outline_edges unit style points) h,
         drawn_length (parts style.offset) (joined unit style) sections
-            (All-weaker (λ (c : Corner). parts style.offset c ≡ true → KeepsJoint unit style.join (joint_at style.offset c))
-            (λ (c : Corner). parts style.offset c ≡ true → length (outer_edges (joined unit style) c) ≤ 3) (λ c keeps parted. (keeps parted).few few) (boundary sections)
+            (All-weaker (λ (c : SectionPair). parts style.offset c ≡ true → KeepsJoint unit style.join (joint_at style.offset c))
+            (λ (c : SectionPair). parts style.offset c ≡ true → length (outer_edges (joined unit style) c) ≤ 3) (λ c keeps parted. (keeps parted).few few) (boundary sections)
             (corners_keep unit style least (cleaned_sections points) (cleaned_ring points))),
         length-map (cleaned_sections points) (section_of unit style.offset),
       )

@@ -9,10 +9,11 @@ use Rattle.mesh_plane.specs.Winding.{route}
 use Rattle.mesh_num.specs.Segments.{SignedEdge, edges_of, IsSubject}
 use Rattle.mesh_plane.proofs.ClosedLists.{woven}
 use Rattle.mesh_num.proofs.Subjects.{segments_of_subjects, segment_between_subject}
-use Rattle.mesh_clean.specs.Cleaned.{cleaned_sections, IsClean}
+use Rattle.mesh_clean.specs.Cleaned.{cleaned_sections, IsCleanContour}
 use Rattle.mesh_clean.proofs.CleaningEnds.{cleaned_sections-ends}
 use Rattle.mesh_num.proofs.SegmentLists.{edges_of_segments, edges_of-append}
-use Rattle.mesh_outline.specs.Outline.{Section, Corner, top_edge, section_of, corner_edges, parts, joined, ring_outline, drawn_edges}
+use Rattle.mesh_outline.specs.Outline.{Section, SectionPair, top_edge, section_of, corner_edges}
+use Rattle.mesh_outline.specs.Outline.{parts, joined, ring_outline, drawn_edges}
 use Rattle.mesh_outline.specs.Building.{IsMovable}
 use Rattle.mesh_outline.specs.Midway.{IsMoved, IsCorner, corner_segments, top_segments}
 use Rattle.mesh_draw.specs.Adding.{Adds}
@@ -41,7 +42,7 @@ Continues unit style p (e ∷ es) first = IsCorner unit style (p, section_of uni
 top_edges : (s : Section) → edges_of (top_segments s) ≡ drawn_top s
 top_edges s = ap edges_of (sym (append-nil (top_segments s))) ∙ edges_of_segments (top_edge s ∷ [])
 
-corner_edges_of : (unit : ℕ) (style : OffsetJoin) (c : Corner) → edges_of (corner_segments unit style c) ≡ drawn_corner (parts style.offset) (joined unit style) c
+corner_edges_of : (unit : ℕ) (style : OffsetJoin) (c : SectionPair) → edges_of (corner_segments unit style c) ≡ drawn_corner (parts style.offset) (joined unit style) c
 corner_edges_of unit style c = edges_of_segments (corner_edges (parts style.offset) (joined unit style) c)
 
 -- the edges that a step adds
@@ -125,19 +126,19 @@ fit_edges unit style es proper ends = λ k d h. record { differ = proper k d h; 
 
 -- the edges of a contour whose points can be moved are fit
 walk_fits : (unit : ℕ) (style : OffsetJoin) (points : List Point) (e : Edge) (es : List Edge) →
-    All (IsMovable unit style) points → cleaned_sections points ≡ e ∷ es → IsClean (cleaned_sections points) → All (IsFit unit style) (e ∷ es)
+    All (IsMovable unit style) points → cleaned_sections points ≡ e ∷ es → IsCleanContour (cleaned_sections points) → All (IsFit unit style) (e ∷ es)
 walk_fits unit style points e es movable c clean =
     let proper = rw c at clean.proper in
     let ends = rw c at (cleaned_sections-ends (IsMovable unit style) points movable) in
     fit_edges unit style (e ∷ es) proper ends
 
 pub first_fits : (unit : ℕ) (style : OffsetJoin) (points : List Point) (e : Edge) (es : List Edge) →
-    All (IsMovable unit style) points → cleaned_sections points ≡ e ∷ es → IsClean (cleaned_sections points) → IsFit unit style e
+    All (IsMovable unit style) points → cleaned_sections points ≡ e ∷ es → IsCleanContour (cleaned_sections points) → IsFit unit style e
 first_fits unit style points e es movable c clean = All-head (IsFit unit style) e es (walk_fits unit style points e es movable c clean)
 
 -- the sections of a contour whose points can be moved can be walked round
 pub walk_continues : (unit : ℕ) (style : OffsetJoin) (points : List Point) (e : Edge) (es : List Edge) (first : Section) → first ≡ section_of unit style.offset e →
-    All (IsMovable unit style) points → cleaned_sections points ≡ e ∷ es → IsClean (cleaned_sections points) →
+    All (IsMovable unit style) points → cleaned_sections points ≡ e ∷ es → IsCleanContour (cleaned_sections points) →
     Continues unit style first es first
 walk_continues unit style points e es first made movable c clean =
     let closed = rw c at clean.closed in

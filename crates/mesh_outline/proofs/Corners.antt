@@ -25,7 +25,7 @@ use Rattle.mesh_join.specs.Joins.{IsJoint}
 use Rattle.mesh_arc.specs.Arcs.{sense_of}
 use Rattle.mesh_join.specs.Joints.{IsTurn, contact}
 use Rattle.mesh_join.specs.Styles.{OffsetJoin}
-use Rattle.mesh_outline.specs.Outline.{Section, Corner, own_edge, sideways, section_of, parts, sense_for, joint_at}
+use Rattle.mesh_outline.specs.Outline.{Section, SectionPair, own_edge, sideways, section_of, parts, sense_for, joint_at}
 use Rattle.mesh_draw.specs.Drawing.{sided}
 use Rattle.mesh_outline.specs.Midway.{IsCorner}
 
@@ -42,7 +42,7 @@ pub record IsRing (contour : List Edge) : Type 0 where
   pub closed : All (λ (c : Edge × Edge). c.0.1 ≡ c.1.0) (boundary contour)
 
 -- what holds of all pairs of neighbouring edges holds of the corners
-pub corners : (unit : ℕ) (offset : ℤ) (P : Corner → Type 0) (contour : List Edge) →
+pub corners : (unit : ℕ) (offset : ℤ) (P : SectionPair → Type 0) (contour : List Edge) →
     All (λ (c : Edge × Edge). P (section_of unit offset c.0, section_of unit offset c.1)) (boundary contour) →
     All P (boundary (map (section_of unit offset) contour))
 corners unit offset P contour h =
@@ -132,14 +132,14 @@ start_contact : (unit : ℕ) (offset : ℤ) (s : Section) → 0 < unit → IsMad
 start_contact unit offset s some h =
     rw (made_direction unit offset s h) (ap (λ (t : Section). t.a_top) h.0 ∙ moved_contact unit offset s.a (minus s.b s.a) (int_lt offset (pos 0)) some refl)
 
-no_turn_back : (unit : ℕ) (offset : ℤ) (c : Corner) → 0 < unit → IsMade unit offset c.0 → IsMade unit offset c.1 → c.0.b ≡ c.1.a → parts offset c ≡ true →
+no_turn_back : (unit : ℕ) (offset : ℤ) (c : SectionPair) → 0 < unit → IsMade unit offset c.0 → IsMade unit offset c.1 → c.0.b ≡ c.1.a → parts offset c ≡ true →
     pos 0 ≤ℤ sided offset (turn c.0.b c.0.b_top c.1.a_top)
 no_turn_back unit offset c some p n met outer =
     rw (ap (λ (t : Section). t.b_top) p.0, ap (λ (t : Section). t.a_top) n.0)
     (outer_ends unit offset (own_edge c.0) (own_edge c.1) some p.1 n.1 met outer)
 
 -- an outer corner turns
-turn_at : (unit : ℕ) (offset : ℤ) (c : Corner) → 2 ≤ unit → IsMade unit offset c.0 → IsMade unit offset c.1 → c.0.b ≡ c.1.a → parts offset c ≡ true →
+turn_at : (unit : ℕ) (offset : ℤ) (c : SectionPair) → 2 ≤ unit → IsMade unit offset c.0 → IsMade unit offset c.1 → c.0.b ≡ c.1.a → parts offset c ≡ true →
     IsTurn unit (joint_at offset c)
 turn_at unit offset c some p n met outer = record {
   radius_sign = omega (arith, ints);
@@ -157,7 +157,7 @@ module _ (unit : ℕ) (style : OffsetJoin) (least : 2 ^ 14 ≤ unit) where
   keeps = join_keeps unit style.join least
 
   -- the corner that the code hands to a join is as it asks
-  pub joint_met : (c : Corner) → IsCorner unit style c → parts style.offset c ≡ true → IsJoint unit style.join (joint_at style.offset c)
+  pub joint_met : (c : SectionPair) → IsCorner unit style c → parts style.offset c ≡ true → IsJoint unit style.join (joint_at style.offset c)
   joint_met c h outer = record {
     turn = turn_at unit style.offset c (omega arith) (h.previous.made, h.previous.differ) (h.next.made, h.next.differ) h.met outer;
     safe = rw (keeps.sized style.offset) h.movable;
@@ -166,14 +166,14 @@ module _ (unit : ℕ) (style : OffsetJoin) (least : 2 ^ 14 ≤ unit) where
   keeps_at : (e g : Edge) → e.0 ≢ e.1 → g.0 ≢ g.1 → e.1 ≡ g.0 → parts style.offset (section_of unit style.offset e, section_of unit style.offset g) ≡ true →
       KeepsJoint unit style.join (joint_at style.offset (section_of unit style.offset e, section_of unit style.offset g))
   keeps_at e g pe pg met outer =
-      let c : Corner = (section_of unit style.offset e, section_of unit style.offset g) in
+      let c : SectionPair = (section_of unit style.offset e, section_of unit style.offset g) in
       let p : IsMade unit style.offset c.0 = (refl, pe) in
       let n : IsMade unit style.offset c.1 = (refl, pg) in
       keeps.joint (joint_at style.offset c) (made_short unit style.offset c.0 p) (made_short unit style.offset c.1 n) (turn_at unit style.offset c (omega arith) p n met outer)
 
   -- each outer corner of a ring keeps what joins keep
   pub corners_keep : (contour : List Edge) → IsRing contour →
-      All (λ (c : Corner). parts style.offset c ≡ true → KeepsJoint unit style.join (joint_at style.offset c)) (boundary (map (section_of unit style.offset) contour))
+      All (λ (c : SectionPair). parts style.offset c ≡ true → KeepsJoint unit style.join (joint_at style.offset c)) (boundary (map (section_of unit style.offset) contour))
   corners_keep contour ring =
       corners unit style.offset (λ c. parts style.offset c ≡ true → KeepsJoint unit style.join (joint_at style.offset c)) contour
       (All-weaker (λ (c : Edge × Edge). ((c.0.0 ≢ c.0.1) × (c.1.0 ≢ c.1.1)) × (c.0.1 ≡ c.1.0))

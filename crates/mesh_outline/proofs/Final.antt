@@ -28,12 +28,12 @@ use Rattle.mesh_below.proofs.Subjects.{subjects_proper}
 use Rattle.mesh_join.specs.Cleaned.{cleaned_sections}
 use Rattle.mesh_join.specs.Styles.{OffsetJoin, OutlineStyle}
 use Rattle.mesh_draw.specs.Adding.{answer_edges}
-use Rattle.mesh_draw.proofs.Resolving.{contours_balanced, along_balanced, proper_balanced}
+use Rattle.mesh_draw.proofs.Resolving.{contours_balanced, in_sense_balanced, proper_balanced}
 use Rattle.mesh_outline.specs.Resolved.{fill_for, IsAnswerAlone, Gives, Give, IsOutline}
 
 gives_balanced : (unit : ℕ) (style : OutlineStyle) (contour : List Point) (edges : List Edge) → Gives unit style contour edges → IsBalanced edges
 gives_balanced unit style contour _ (Gives.moved {way = way} {answer = answer} moves a) =
-    along_balanced (fill_for (double_area contour)) (answer_edges answer) (contours_balanced (contours_of answer))
+    in_sense_balanced (fill_for (double_area contour)) (answer_edges answer) (contours_balanced (contours_of answer))
 gives_balanced unit style contour _ (Gives.ignored none) = λ p. refl
 
 edges_balanced : (unit : ℕ) (style : OutlineStyle) (contours : List (List Point)) (edges : List (List Edge)) → AllZip (Gives unit style) contours edges →

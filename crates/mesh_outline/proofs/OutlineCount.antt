@@ -28,7 +28,9 @@ use Rattle.mesh_arc.specs.declared.arc.ArcDirection.TheVariants.{Clockwise, Coun
 use Rattle.mesh_arc.specs.Arcs.{sense_of}
 use Rattle.mesh_join.specs.Joints.{NeverTurnsBack}
 use Rattle.mesh_join.specs.Styles.{OffsetJoin}
-use Rattle.mesh_outline.specs.Outline.{Corner, own_edge, strip, outer_edges, corner_pieces, drawn_pieces, sideways, section_of, parts, sense_for, joint_at, joined, ring_outline, ring_pieces}
+use Rattle.mesh_outline.specs.Outline.{SectionPair, own_edge, strip, outer_edges, corner_pieces}
+use Rattle.mesh_outline.specs.Outline.{drawn_pieces, sideways, section_of, parts, sense_for}
+use Rattle.mesh_outline.specs.Outline.{joint_at, joined, ring_outline, ring_pieces}
 use Rattle.mesh_draw.specs.Drawing.{sided}
 use Rattle.mesh_draw.proofs.Apart.{apart_long}
 use Rattle.mesh_outline.proofs.Corners.{IsRing, negative, not_negative, corners, corners_keep}
@@ -82,7 +84,7 @@ fan_winds_on_side m q offset v es = by (int_lt offset (pos 0))
     by true h = fan_winds_back m q v es (All-weaker (ahead Clockwise) (λ (e : Edge). turn v e.0 e.1 ≤ℤ pos 0) (λ e k. omega (arith, ints, k)) es h)
     by false h = fan_winds m q v es (All-weaker (ahead Counterclockwise) (λ (e : Edge). pos 0 ≤ℤ turn v e.0 e.1) (λ e k. omega (arith, ints, k)) es h)
 
-corner_winds : (m : ℕ) (q : Point) (unit : ℕ) (style : OffsetJoin) (c : Corner) →
+corner_winds : (m : ℕ) (q : Point) (unit : ℕ) (style : OffsetJoin) (c : SectionPair) →
     (parts style.offset c ≡ true → KeepsJoint unit style.join (joint_at style.offset c)) →
     All (λ piece. IsBit (sided style.offset (winding m q (boundary piece)))) (corner_pieces (parts style.offset) (joined unit style) c)
 corner_winds m q unit style c keeps = by (parts style.offset c) refl
@@ -104,7 +106,7 @@ pieces_wind m q unit style contour least ring =
     (All-weaker (λ (e : Edge). e.0 ≢ e.1) (λ e. winds (strip (section_of unit style.offset e))) (λ e h. strip_winds m q unit style.offset e (omega arith) h) contour ring.proper)) in
     let fans : All winds (flat_map (corner_pieces (parts style.offset) (joined unit style)) (boundary sections)) =
     all_flat_map winds (corner_pieces (parts style.offset) (joined unit style)) (boundary sections)
-    (All-weaker (λ (c : Corner). parts style.offset c ≡ true → KeepsJoint unit style.join (joint_at style.offset c))
+    (All-weaker (λ (c : SectionPair). parts style.offset c ≡ true → KeepsJoint unit style.join (joint_at style.offset c))
     (λ c. All winds (corner_pieces (parts style.offset) (joined unit style) c)) (λ c h. corner_winds m q unit style c h) (boundary sections) (corners_keep unit style least contour ring)) in
     All-append winds (map strip sections) (flat_map (corner_pieces (parts style.offset) (joined unit style)) (boundary sections)) strips fans
 

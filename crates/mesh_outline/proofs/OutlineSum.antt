@@ -12,11 +12,12 @@ use Rattle.mesh_plane.proofs.Pieces.{fan_total}
 use Rattle.mesh_plane.proofs.Comparing.{decides_point}
 use Rattle.mesh_join.specs.Joins.{between, through}
 use Rattle.mesh_draw.proofs.ProperEdges.{proper_edges_total}
-use Rattle.mesh_outline.specs.Outline.{Section, Corner, own_edge, top_edge, strip, inner_edges, outer_edges, corner_edges, corner_pieces, drawn_edges, drawn_pieces}
+use Rattle.mesh_outline.specs.Outline.{Section, SectionPair, own_edge, top_edge, strip, inner_edges}
+use Rattle.mesh_outline.specs.Outline.{outer_edges, corner_edges, corner_pieces, drawn_edges, drawn_pieces}
 
 -- each corner's second section starts where its first ends
 abbrev pub IsClosed : List Section → Type 0
-IsClosed sections = All (λ (c : Corner). c.0.b ≡ c.1.a) (boundary sections)
+IsClosed sections = All (λ (c : SectionPair). c.0.b ≡ c.1.a) (boundary sections)
 
 module _ (f : Point → Point → ℤ) (odd : IsOdd f) where
   top_total : (s : Section) → f s.a_top s.b_top ≡ (f s.a s.b +ℤ total f (boundary (strip s))) +ℤ (f s.b s.b_top -ℤ f s.a s.a_top)
@@ -27,7 +28,7 @@ module _ (f : Point → Point → ℤ) (odd : IsOdd f) where
   tops_total [] = omega (arith, linear)
   tops_total (s ∷ sections) = omega (arith, linear, top_total s, tops_total sections)
 
-  corner_total : (is_outer : Corner → Bool) (join : Corner → List Point) (c : Corner) → c.0.b ≡ c.1.a →
+  corner_total : (is_outer : SectionPair → Bool) (join : SectionPair → List Point) (c : SectionPair) → c.0.b ≡ c.1.a →
       total f (corner_edges is_outer join c) ≡ pieces_total f (corner_pieces is_outer join c) +ℤ (f c.0.b_top c.0.b +ℤ f c.1.a c.1.a_top)
   corner_total is_outer join c e = by (is_outer c)
     where
@@ -39,20 +40,20 @@ module _ (f : Point → Point → ℤ) (odd : IsOdd f) where
           omega (arith, linear, fan_total f odd c.0.b c.0.b_top list c.1.a_top, odd c.0.b c.0.b_top, odd c.0.b c.1.a_top, ap (λ v. f v c.1.a_top) e)
       by false = omega (arith, linear)
 
-  corners_total : (is_outer : Corner → Bool) (join : Corner → List Point) (sections : List Section) → IsClosed sections →
+  corners_total : (is_outer : SectionPair → Bool) (join : SectionPair → List Point) (sections : List Section) → IsClosed sections →
       total f (flat_map (corner_edges is_outer join) (boundary sections)) ≡ pieces_total f (flat_map (corner_pieces is_outer join) (boundary sections)) +ℤ sum_of (λ s. f s.a s.a_top +ℤ f s.b_top s.b) sections
   corners_total is_outer join sections closed =
       let edges = total_flat_map f (corner_edges is_outer join) (boundary sections) in
       let pieces = pieces_total_flat_map f (corner_pieces is_outer join) (boundary sections) in
       let ends = boundary_ends (λ (s : Section). f s.b_top s.b) (λ (s : Section). f s.a s.a_top) sections in
-      let each : All (λ (c : Corner). total f (corner_edges is_outer join c) ≡ pieces_total f (corner_pieces is_outer join c) +ℤ (f c.0.b_top c.0.b +ℤ f c.1.a c.1.a_top)) (boundary sections) =
-      All-weaker (λ (c : Corner). c.0.b ≡ c.1.a) (λ (c : Corner). total f (corner_edges is_outer join c) ≡ pieces_total f (corner_pieces is_outer join c) +ℤ (f c.0.b_top c.0.b +ℤ f c.1.a c.1.a_top))
+      let each : All (λ (c : SectionPair). total f (corner_edges is_outer join c) ≡ pieces_total f (corner_pieces is_outer join c) +ℤ (f c.0.b_top c.0.b +ℤ f c.1.a c.1.a_top)) (boundary sections) =
+      All-weaker (λ (c : SectionPair). c.0.b ≡ c.1.a) (λ (c : SectionPair). total f (corner_edges is_outer join c) ≡ pieces_total f (corner_pieces is_outer join c) +ℤ (f c.0.b_top c.0.b +ℤ f c.1.a c.1.a_top))
       (λ c e. corner_total is_outer join c e) (boundary sections) closed in
-      let sums = sum_of_equal (λ (c : Corner). total f (corner_edges is_outer join c)) (λ (c : Corner). pieces_total f (corner_pieces is_outer join c) +ℤ (f c.0.b_top c.0.b +ℤ f c.1.a c.1.a_top)) (boundary sections) each in
-      let split = sum_of_add (λ (c : Corner). pieces_total f (corner_pieces is_outer join c)) (λ (c : Corner). f c.0.b_top c.0.b +ℤ f c.1.a c.1.a_top) (boundary sections) in
+      let sums = sum_of_equal (λ (c : SectionPair). total f (corner_edges is_outer join c)) (λ (c : SectionPair). pieces_total f (corner_pieces is_outer join c) +ℤ (f c.0.b_top c.0.b +ℤ f c.1.a c.1.a_top)) (boundary sections) each in
+      let split = sum_of_add (λ (c : SectionPair). pieces_total f (corner_pieces is_outer join c)) (λ (c : SectionPair). f c.0.b_top c.0.b +ℤ f c.1.a c.1.a_top) (boundary sections) in
       omega (arith, linear, edges, pieces, ends, sums, split)
 
-  pub drawn_total : (is_outer : Corner → Bool) (join : Corner → List Point) (sections : List Section) → IsClosed sections →
+  pub drawn_total : (is_outer : SectionPair → Bool) (join : SectionPair → List Point) (sections : List Section) → IsClosed sections →
       total f (drawn_edges is_outer join sections) ≡ total f (map own_edge sections) +ℤ pieces_total f (drawn_pieces is_outer join sections)
   unfolding drawn_edges drawn_pieces
   drawn_total is_outer join sections closed =
@@ -100,7 +101,7 @@ module _ (f : Point → Point → ℤ) (odd : IsOdd f) where
       let same : same_point p r ≡ true = rw (ep, er) ((decides_point v v).1 refl) in
       rw same (omega (arith, linear, none_round v, ap (λ x. f v x) ep, ap (λ x. f x r) ep, ap (λ x. f v x) er, ap (λ x. f x v) er))
 
-  still_corner : (is_outer : Corner → Bool) (join : Corner → List Point) (c : Corner) → Stays c.0 → Stays c.1 → c.0.b ≡ c.1.a →
+  still_corner : (is_outer : SectionPair → Bool) (join : SectionPair → List Point) (c : SectionPair) → Stays c.0 → Stays c.1 → c.0.b ≡ c.1.a →
       pieces_total f (corner_pieces is_outer join c) ≡ pos 0
   still_corner is_outer join c p n e = by (is_outer c)
     where
@@ -108,7 +109,7 @@ module _ (f : Point → Point → ℤ) (odd : IsOdd f) where
       by true = still_fan c.0.b c.0.b_top c.1.a_top (join c) p.1 (n.0 ∙ sym e)
       by false = refl
 
-  pub still_total : (is_outer : Corner → Bool) (join : Corner → List Point) (sections : List Section) → IsClosed sections → All Stays sections →
+  pub still_total : (is_outer : SectionPair → Bool) (join : SectionPair → List Point) (sections : List Section) → IsClosed sections → All Stays sections →
       pieces_total f (drawn_pieces is_outer join sections) ≡ pos 0
   unfolding drawn_pieces
   still_total is_outer join sections closed still =
@@ -116,10 +117,10 @@ module _ (f : Point → Point → ℤ) (odd : IsOdd f) where
       let fans = pieces_total_flat_map f (corner_pieces is_outer join) (boundary sections) in
       let each : All (λ s. total f (boundary (strip s)) ≡ pos 0) sections =
       All-weaker Stays (λ s. total f (boundary (strip s)) ≡ pos 0) still_strip sections still in
-      let at : All (λ (c : Corner). pieces_total f (corner_pieces is_outer join c) ≡ pos 0) (boundary sections) =
-      All-weaker (λ (c : Corner). (Stays c.0 × Stays c.1) × (c.0.b ≡ c.1.a)) (λ (c : Corner). pieces_total f (corner_pieces is_outer join c) ≡ pos 0)
+      let at : All (λ (c : SectionPair). pieces_total f (corner_pieces is_outer join c) ≡ pos 0) (boundary sections) =
+      All-weaker (λ (c : SectionPair). (Stays c.0 × Stays c.1) × (c.0.b ≡ c.1.a)) (λ (c : SectionPair). pieces_total f (corner_pieces is_outer join c) ≡ pos 0)
       (λ c h. still_corner is_outer join c h.0.0 h.0.1 h.1) (boundary sections)
-      (all_both (λ (c : Corner). Stays c.0 × Stays c.1) (λ (c : Corner). c.0.b ≡ c.1.a) (boundary sections) (boundary_all Stays sections still) closed) in
+      (all_both (λ (c : SectionPair). Stays c.0 × Stays c.1) (λ (c : SectionPair). c.0.b ≡ c.1.a) (boundary sections) (boundary_all Stays sections still) closed) in
       omega (
         arith,
         linear,
@@ -127,5 +128,5 @@ module _ (f : Point → Point → ℤ) (odd : IsOdd f) where
         fans,
         pieces_total_append f (map strip sections) (flat_map (corner_pieces is_outer join) (boundary sections)),
         sum_of_zero (λ s. total f (boundary (strip s))) sections each,
-        sum_of_zero (λ (c : Corner). pieces_total f (corner_pieces is_outer join c)) (boundary sections) at,
+        sum_of_zero (λ (c : SectionPair). pieces_total f (corner_pieces is_outer join c)) (boundary sections) at,
       )

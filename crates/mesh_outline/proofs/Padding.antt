@@ -23,7 +23,8 @@ use Rattle.mesh_outline.specs.Building.{IsMovable}
 use Rattle.mesh_outline.specs.Kinds.{way_for}
 use Rattle.mesh_outline.specs.declared.outline.kind.ContourKind.{ContourKind}
 use Rattle.mesh_outline.specs.declared.outline.kind.ContourKind.TheVariants.{Outer, Hole, Ignored}
-use Rattle.mesh_outline.specs.Outline.{Section, Corner, top_edge, section_of, inner_edges, outer_edges, corner_edges, drawn_edges, parts, joint_at, joined, ring_outline}
+use Rattle.mesh_outline.specs.Outline.{Section, SectionPair, top_edge, section_of, inner_edges, outer_edges}
+use Rattle.mesh_outline.specs.Outline.{corner_edges, drawn_edges, parts, joint_at, joined, ring_outline}
 use Rattle.mesh_draw.specs.Padding.{ArePathsSafe, IsNear}
 use Rattle.mesh_draw.proofs.Apart.{apart_long}
 use Rattle.mesh_outline.proofs.Corners.{IsRing, corners, corners_keep}
@@ -79,7 +80,7 @@ HoldsOf P s = P s.a × P s.b × P s.a_top × P s.b_top
 abbrev HoldsOfEnds : (Point → Type 0) → Edge → Type 0
 HoldsOfEnds P e = P e.0 × P e.1
 
-corner_all : (P : Point → Type 0) (is_outer : Corner → Bool) (join : Corner → List Point) (c : Corner) → HoldsOf P c.0 → HoldsOf P c.1 →
+corner_all : (P : Point → Type 0) (is_outer : SectionPair → Bool) (join : SectionPair → List Point) (c : SectionPair) → HoldsOf P c.0 → HoldsOf P c.1 →
     (is_outer c ≡ true → All P (between c.0.b_top (join c) c.1.a_top)) → All (HoldsOfEnds P) (corner_edges is_outer join c)
 corner_all P is_outer join c previous next joins = by (is_outer c) refl
   where
@@ -90,9 +91,9 @@ corner_all P is_outer join c previous next joins = by (is_outer c) refl
         (All-cons (HoldsOfEnds P) (c.1.a, c.1.a_top) [] (next.0, next.2) (All-nil (HoldsOfEnds P)))
 
 -- what holds of the ends and the tops of all sections and of the points of all outer joins holds of the ends of all that is drawn
-pub drawn_all : (P : Point → Type 0) (is_outer : Corner → Bool) (join : Corner → List Point) (sections : List Section) →
+pub drawn_all : (P : Point → Type 0) (is_outer : SectionPair → Bool) (join : SectionPair → List Point) (sections : List Section) →
     All (λ (s : Section). P s.a × P s.b × P s.a_top × P s.b_top) sections →
-    All (λ (c : Corner). is_outer c ≡ true → All P (between c.0.b_top (join c) c.1.a_top)) (boundary sections) →
+    All (λ (c : SectionPair). is_outer c ≡ true → All P (between c.0.b_top (join c) c.1.a_top)) (boundary sections) →
     All (λ (e : Edge). P e.0 × P e.1) (drawn_edges is_outer join sections)
 unfolding drawn_edges
 drawn_all P is_outer join sections each joins =
@@ -100,11 +101,11 @@ drawn_all P is_outer join sections each joins =
     (All-append (HoldsOfEnds P) (map top_edge sections) (flat_map (corner_edges is_outer join) (boundary sections))
     (All-map (HoldsOfEnds P) top_edge sections (All-weaker (HoldsOf P) (λ (s : Section). P s.a_top × P s.b_top) (λ s h. (h.2, h.3)) sections each))
     (all_flat_map (HoldsOfEnds P) (corner_edges is_outer join) (boundary sections)
-    (All-weaker (λ (c : Corner). (HoldsOf P c.0 × HoldsOf P c.1) × Joined c) (λ (c : Corner). All (HoldsOfEnds P) (corner_edges is_outer join c))
+    (All-weaker (λ (c : SectionPair). (HoldsOf P c.0 × HoldsOf P c.1) × Joined c) (λ (c : SectionPair). All (HoldsOfEnds P) (corner_edges is_outer join c))
     (λ c h. corner_all P is_outer join c h.0.0 h.0.1 h.1) (boundary sections)
-    (all_both (λ (c : Corner). HoldsOf P c.0 × HoldsOf P c.1) Joined (boundary sections) (boundary_all (HoldsOf P) sections each) joins))))
+    (all_both (λ (c : SectionPair). HoldsOf P c.0 × HoldsOf P c.1) Joined (boundary sections) (boundary_all (HoldsOf P) sections each) joins))))
   where
-    Joined : Corner → Type 0
+    Joined : SectionPair → Type 0
     Joined c = is_outer c ≡ true → All P (between c.0.b_top (join c) c.1.a_top)
 
 -- ---- outlines
@@ -143,27 +144,27 @@ module _ (unit : ℕ) (style : OffsetJoin) (vertices : List Point) (contour : Li
       (all_both (λ (e : Edge). e.0 ≢ e.1) (λ (e : Edge). Contains vertices e.0 × Contains vertices e.1) contour ring.proper listed))
 
   -- the point of each corner is a vertex
-  corners_listed : All (λ (c : Corner). Contains vertices c.0.b) (boundary sections)
+  corners_listed : All (λ (c : SectionPair). Contains vertices c.0.b) (boundary sections)
   corners_listed =
       corners unit style.offset (λ c. Contains vertices c.0.b) contour
       (All-weaker (λ (c : Edge × Edge). (Contains vertices c.0.0 × Contains vertices c.0.1) × (Contains vertices c.1.0 × Contains vertices c.1.1)) (λ (c : Edge × Edge). Contains vertices c.0.1)
       (λ c h. h.0.1) (boundary contour) (boundary_all (λ (e : Edge). Contains vertices e.0 × Contains vertices e.1) contour listed))
 
-  abbrev Joined : Corner → Type 0
+  abbrev Joined : SectionPair → Type 0
   Joined c = parts style.offset c ≡ true → All Near (between c.0.b_top (joined unit style c) c.1.a_top)
 
-  abbrev Keeps : Corner → Type 0
+  abbrev Keeps : SectionPair → Type 0
   Keeps c = parts style.offset c ≡ true → KeepsJoint unit style.join (joint_at style.offset c)
 
-  join_near : (c : Corner) → Keeps c → Contains vertices c.0.b → Joined c
+  join_near : (c : SectionPair) → Keeps c → Contains vertices c.0.b → Joined c
   join_near c keeps here parted =
       All-weaker (IsWithinPadding (offset_padding style) c.0.b) Near (λ p w. record { vertex = c.0.b; listed = here; within = w }) (between c.0.b_top (joined unit style c) c.1.a_top)
       (rw ((join_keeps unit style.join least).sized style.offset) at (keeps parted).near)
 
   joins_near : All Joined (boundary sections)
   joins_near =
-      All-weaker (λ (c : Corner). Keeps c × Contains vertices c.0.b) Joined (λ c h. join_near c h.0 h.1) (boundary sections)
-      (all_both Keeps (λ (c : Corner). Contains vertices c.0.b) (boundary sections) (corners_keep unit style least contour ring) corners_listed)
+      All-weaker (λ (c : SectionPair). Keeps c × Contains vertices c.0.b) Joined (λ c h. join_near c h.0 h.1) (boundary sections)
+      (all_both Keeps (λ (c : SectionPair). Contains vertices c.0.b) (boundary sections) (corners_keep unit style least contour ring) corners_listed)
 
   -- ends of the edges of an outline are away from a vertex by at most the padding in each coordinate
   pub outline_near : All (λ (e : Edge). IsNear (offset_padding style) vertices e.0 × IsNear (offset_padding style) vertices e.1) (ring_outline unit style contour)

@@ -9,7 +9,7 @@ use Rattle.mesh_plane.specs.Winding.{boundary, winding, crossing_on, pieces_tota
 use Rattle.mesh_plane.proofs.Crossings.{crossing_on_odd}
 use Rattle.mesh_clean.proofs.CleaningEnds.{cleaned_sections-ends}
 use Rattle.mesh_clean.proofs.CleaningSteps.{cleaned-none, cleaned-clean, cleaned-winding}
-use Rattle.mesh_clean.specs.Cleaned.{cleaned_sections, IsClean}
+use Rattle.mesh_clean.specs.Cleaned.{cleaned_sections, IsCleanContour}
 use Rattle.mesh_join.specs.Styles.{OffsetJoin, OutlineStyle, outer, inner}
 use Rattle.mesh_draw.specs.Drawing.{NeverTurnedRound}
 use Rattle.mesh_outline.specs.Kinds.{contour_kind}
@@ -27,7 +27,7 @@ cleaned_ring points = by (cleaned_sections points) refl
     by : (es : List Edge) → cleaned_sections points ≡ es → IsRing es
     by [] e = record { proper = All-nil (λ (f : Edge). f.0 ≡ f.1 → ⊥); closed = All-nil (λ (c : Edge × Edge). c.0.1 ≡ c.1.0) }
     by (x ∷ xs) e =
-        let clean : IsClean (cleaned_sections points) =
+        let clean : IsCleanContour (cleaned_sections points) =
         cleaned-clean points (λ h. let none : [] ≡ x ∷ xs = sym (cleaned-none points h) ∙ e in cc) in
         record { proper = rw e at clean.proper; closed = rw e at clean.closed }
 

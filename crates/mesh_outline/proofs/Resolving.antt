@@ -17,7 +17,7 @@ use Rattle.mesh_outline.specs.Building.{style_for}
 use Rattle.mesh_outline.specs.Kinds.{contour_kind, way_for, sense_of}
 use Rattle.mesh_outline.specs.declared.outline.kind.ContourKind.{ContourKind}
 use Rattle.mesh_outline.specs.Outline.{outline_edges}
-use Rattle.mesh_draw.specs.Adding.{along, added_edges, answer_edges}
+use Rattle.mesh_draw.specs.Adding.{in_sense, added_edges, answer_edges}
 use Rattle.mesh_outline.specs.Midway.{AddsAnswer, AddsGiven, AreGiven}
 use Rattle.mesh_outline.specs.Resolved.{fill_for, IsAnswerAlone, Gives, IsOutline}
 
@@ -40,7 +40,7 @@ gives_moved unit style kind way fill path old new k moves e h =
     let own : fill ≡ fill_for (double_area path) = e ∙ ap sense_of k in
     let here : style_for style (double_area path) ≡ Some way = sym (ap (way_for style) k) ∙ moves in
     let g : AddsAnswer unit way (fill_for (double_area path)) path old new = rw own at h in
-    (along (fill_for (double_area path)) (answer_edges g.0), Gives.moved here g.1, g.2)
+    (in_sense (fill_for (double_area path)) (answer_edges g.0), Gives.moved here g.1, g.2)
 
 -- a contour that does not move gives nothing
 pub gives_nothing : (unit : ℕ) (style : OutlineStyle) (kind : ContourKind) (path : List Point) → kind ≡ contour_kind path → way_for style kind ≡ None → Gives unit style path []

@@ -24,7 +24,7 @@ use Rattle.mesh_outline.specs.Resolved.{fill_for, IsAnswerAlone, Gives, Give}
 use Rattle.mesh_outline.specs.Staying.{IsSafeAlone, StaysSafe}
 use Rattle.mesh_outline.proofs.Promised.{cleaned_ring, cleaned_listed}
 use Rattle.mesh_outline.proofs.Padding.{outer_accepted, inner_accepted, path_movable, outline_safe}
-use Rattle.mesh_draw.proofs.Resolving.{answer_safe, along_safe}
+use Rattle.mesh_draw.proofs.Resolving.{answer_safe, in_sense_safe}
 use Rattle.mesh_draw.proofs.Staying.{IsSafeEdge, safe_resolving}
 
 -- the edges of an outline are safe, in whatever order
@@ -48,7 +48,7 @@ answer_alone_safe unit style fill contour answer least movable a =
 gives_safe : (unit : ℕ) (style : OutlineStyle) (contour : List Point) (edges : List Edge) → 2 ^ 14 ≤ unit → All (IsSafeWidened unit (outline_padding style)) contour →
     Gives unit style contour edges → AreEdgesSafe unit edges
 gives_safe unit style contour _ least safe (Gives.moved {way = way} {answer = answer} moves a) =
-    along_safe unit (fill_for (double_area contour)) (answer_edges answer)
+    in_sense_safe unit (fill_for (double_area contour)) (answer_edges answer)
     (answer_alone_safe unit way _ contour answer least (path_movable unit style (contour_kind contour) way contour moves safe) a)
 gives_safe unit style contour _ least safe (Gives.ignored none) = All-nil (IsSafeEdge unit)
 

@@ -6,9 +6,10 @@ use Rattle.mesh_num.specs.Segments.{SignedEdge, segments_of, segment_between}
 use Rattle.mesh_cuts.specs.FillRules.{filled}
 use Rattle.mesh_cuts.specs.declared.fill.FillRule.{FillRule}
 use Rattle.mesh_join.specs.Styles.{JoinStyle, OffsetJoin, OutlineStyle}
-use Rattle.mesh_draw.specs.Adding.{along, answer_edges, AddsClosed}
+use Rattle.mesh_draw.specs.Adding.{in_sense, answer_edges}
+use Rattle.mesh_draw.specs.Midway.{AddsClosed}
 use Rattle.mesh_outline.specs.Building.{IsMovable}
-use Rattle.mesh_outline.specs.Outline.{Section, Corner, own_edge, section_of, corner_edges, parts, joined}
+use Rattle.mesh_outline.specs.Outline.{Section, SectionPair, own_edge, section_of, corner_edges, parts, joined}
 use Rattle.mesh_outline.specs.Resolved.{IsAnswerAlone, Gives, Give}
 
 -- ---- sections
@@ -25,14 +26,14 @@ pub record IsMoved (unit : ℕ) (offset : ℤ) (s : Section) : Type 0 where
   pub safe_b : IsSafeWidened unit (pos (unsigned_abs offset)) s.b
 
 -- two sections that meet in a point that can be moved
-pub record IsCorner (unit : ℕ) (style : OffsetJoin) (c : Corner) : Type 0 where
+pub record IsCorner (unit : ℕ) (style : OffsetJoin) (c : SectionPair) : Type 0 where
   pub previous : IsMoved unit style.offset c.0
   pub next : IsMoved unit style.offset c.1
   pub met : c.0.b ≡ c.1.a
   pub movable : IsMovable unit style c.0.b
 
 -- what is drawn at a corner, as segments
-abbrev pub corner_segments : ℕ → OffsetJoin → Corner → List SignedEdge
+abbrev pub corner_segments : ℕ → OffsetJoin → SectionPair → List SignedEdge
 corner_segments unit style c = segments_of (corner_edges (parts style.offset) (joined unit style) c)
 
 -- the moved edge of a section, as a segment
@@ -42,14 +43,14 @@ top_segments s = segment_between s.a_top s.b_top
 -- ---- answers
 
 -- the vector `new` holds what `old` held, and then the segments of these edges, as they are given in this sense
-abbrev pub AddsAlong : FillRule → List SignedEdge → List SignedEdge → List Edge → Type 0
-AddsAlong fill old new edges = new ≡ old ++ segments_of (along fill edges)
+abbrev pub AddsInSense : FillRule → List SignedEdge → List SignedEdge → List Edge → Type 0
+AddsInSense fill old new edges = new ≡ old ++ segments_of (in_sense fill edges)
 
 -- the vector `new` holds what `old` held, and then the segments of the answer of one contour that moves so, closed and safe
 abbrev pub AddsAnswer : ℕ → OffsetJoin → FillRule → List Point → List SignedEdge → List SignedEdge → Type 0
 AddsAnswer unit way fill contour old new =
     (answer : List (List (List Point))) × IsAnswerAlone unit way (filled fill) contour answer
-    × AddsClosed unit old new (along fill (answer_edges answer))
+    × AddsClosed unit old new (in_sense fill (answer_edges answer))
 
 -- the vector `new` holds what `old` held, and then the segments of what a contour gives, closed and safe
 abbrev pub AddsGiven : ℕ → OutlineStyle → List Point → List SignedEdge → List SignedEdge → Type 0

@@ -24,8 +24,8 @@ pub record Section : Type 0 where
   pub b_top : Point
 
 -- two neighbouring sections: the second starts where the first ends
-abbrev pub Corner : Type 0
-Corner = Section × Section
+abbrev pub SectionPair : Type 0
+SectionPair = Section × Section
 
 -- the edge itself
 abbrev pub own_edge : Section → Edge
@@ -40,28 +40,28 @@ abbrev pub strip : Section → List Point
 strip s = s.a ∷ s.a_top ∷ s.b_top ∷ s.b ∷ []
 
 -- an inner corner goes from the one top to the vertex and from there to the other
-abbrev pub inner_edges : Corner → List Edge
+abbrev pub inner_edges : SectionPair → List Edge
 inner_edges c = (c.0.b_top, c.0.b) ∷ (c.1.a, c.1.a_top) ∷ []
 
 -- an outer corner goes from top to top through the points of its join; there are none where the tops are equal
-abbrev pub outer_edges : (Corner → List Point) → Corner → List Edge
+abbrev pub outer_edges : (SectionPair → List Point) → SectionPair → List Edge
 outer_edges join c = through c.0.b_top (join c) c.1.a_top
 
 -- what is drawn at a corner
-abbrev pub corner_edges : (Corner → Bool) → (Corner → List Point) → Corner → List Edge
+abbrev pub corner_edges : (SectionPair → Bool) → (SectionPair → List Point) → SectionPair → List Edge
 corner_edges is_outer join c = cond (is_outer c) (outer_edges join c) (inner_edges c)
 
 -- the pieces at a corner: the fan of an outer one's join
-abbrev pub corner_pieces : (Corner → Bool) → (Corner → List Point) → Corner → List (List Point)
+abbrev pub corner_pieces : (SectionPair → Bool) → (SectionPair → List Point) → SectionPair → List (List Point)
 corner_pieces is_outer join c = cond (is_outer c) (fan c.0.b (outer_edges join c)) []
 
 -- what is drawn over a closed list of sections: the moved edges and what is drawn at the corners
-unfoldable pub drawn_edges : (Corner → Bool) → (Corner → List Point) → List Section → List Edge
+unfoldable pub drawn_edges : (SectionPair → Bool) → (SectionPair → List Point) → List Section → List Edge
 drawn_edges is_outer join sections =
     proper_edges (map top_edge sections ++ flat_map (corner_edges is_outer join) (boundary sections))
 
 -- the pieces between that and the sections' own edges
-unfoldable pub drawn_pieces : (Corner → Bool) → (Corner → List Point) → List Section → List (List Point)
+unfoldable pub drawn_pieces : (SectionPair → Bool) → (SectionPair → List Point) → List Section → List (List Point)
 drawn_pieces is_outer join sections = map strip sections ++ flat_map (corner_pieces is_outer join) (boundary sections)
 
 -- the vector by which an edge along `v` moves: to its right by `offset`, to its left where that is negative
@@ -79,7 +79,7 @@ section_of unit offset e = record {
 }
 
 -- at an outer corner the moved edges part: the contour turns away from the side they are moved to, or turns back
-abbrev pub parts : ℤ → Corner → Bool
+abbrev pub parts : ℤ → SectionPair → Bool
 parts offset c =
     let next = minus c.1.b c.1.a in
     let previous = minus c.0.b c.0.a in
@@ -91,11 +91,11 @@ abbrev pub sense_for : ℤ → ArcDirection
 sense_for offset = cond (int_lt offset (pos 0)) Clockwise Counterclockwise
 
 -- what the join of an outer corner is asked for
-abbrev pub joint_at : ℤ → Corner → Joint
+abbrev pub joint_at : ℤ → SectionPair → Joint
 joint_at offset c = joint c.0.b c.0.b_top c.1.a_top c.0.direction c.1.direction (pos (unsigned_abs offset)) (sense_for offset)
 
 -- the points of that join
-abbrev pub joined : ℕ → OffsetJoin → Corner → List Point
+abbrev pub joined : ℕ → OffsetJoin → SectionPair → List Point
 joined unit style c = join_points unit style.join (joint_at style.offset c)
 
 -- the outline of a ring of edges: they are moved by the offset and joined at the outer corners

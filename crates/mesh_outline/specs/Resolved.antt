@@ -13,7 +13,7 @@ use Rattle.mesh_cuts.specs.declared.fill.FillRule.{FillRule}
 use Rattle.mesh_cuts.specs.declared.fill.FillRule.TheVariants.{Positive}
 use Rattle.mesh_join.specs.Joins.{offset_padding}
 use Rattle.mesh_join.specs.Styles.{OffsetJoin, OutlineStyle}
-use Rattle.mesh_draw.specs.Adding.{along}
+use Rattle.mesh_draw.specs.Adding.{in_sense}
 use Rattle.mesh_outline.specs.Building.{style_for}
 use Rattle.mesh_outline.specs.Kinds.{kind_for, sense_of}
 use Rattle.mesh_draw.specs.Drawing.{AreDrawn}
@@ -40,7 +40,7 @@ fill_for area = sense_of (kind_for area)
 pub data Gives (unit : ℕ) (style : OutlineStyle) (contour : List Point) : List Edge → Type 0 where
   moved : {way : OffsetJoin} {answer : List (List (List Point))} → style_for style (double_area contour) ≡ Some way
       → IsAnswerAlone unit way (filled (fill_for (double_area contour))) contour answer
-      → Gives unit style contour (along (fill_for (double_area contour)) (answer_edges answer))
+      → Gives unit style contour (in_sense (fill_for (double_area contour)) (answer_edges answer))
   ignored : style_for style (double_area contour) ≡ None → Gives unit style contour []
 
 -- the edges that contours give together: those that each of them gives, end to end

@@ -1,9 +1,14 @@
 -- Sines and cosines of angles, in whole numbers. A full turn has 2 ^ 32 bits. A pair is a cosine and a sine, both times `one`.
-use Rattle.std.specs.Prelude.{ℕ, zero, suc, ◌+◌, ◌-◌, ◌*◌, ◌/◌, ◌%◌, ◌^◌, min, pos, neg_ℤ, nat_eq, nat_le, if◌then◌else◌}
-use Rattle.mesh_plane.specs.Plane.{Point}
+use Rattle.std.specs.Prelude.{ℕ, zero, suc, ◌+◌, ◌-◌, ◌*◌, ◌/◌, ◌%◌}
+use Rattle.std.specs.Prelude.{◌^◌, ◌≤◌, min, pos, neg_ℤ, nat_eq, nat_le, if◌then◌else◌}
+use Rattle.mesh_plane.specs.Plane.{Point, length_sq}
 
 abbrev pub one : ℕ
 one = 2 ^ 60
+
+-- no longer than the sine and the cosine of one angle, each times 2 ^ 30
+abbrev pub IsSinePair : Point → Type 0
+IsSinePair p = length_sq p ≤ 2 ^ 60
 
 -- the greatest whole number of at most `k` whose square is at most `n`
 unfoldable pub root_within : ℕ → ℕ → ℕ

@@ -26,7 +26,7 @@ use Rattle.mesh_draw.specs.Walks.{pairs}
 use Rattle.mesh_draw.proofs.Walks.{woven_through}
 use Rattle.mesh_stroke.specs.Paths.{neighbours, path_edges}
 use Rattle.mesh_stroke.specs.Styles.{StrokeStyle, stroke_padding}
-use Rattle.mesh_stroke.specs.Strokes.{Corner, side_edges, corner_edges, both_caps, drawn_edges}
+use Rattle.mesh_stroke.specs.Strokes.{EdgePair, side_edges, corner_edges, both_caps, drawn_edges}
 use Rattle.mesh_stroke.specs.Midway.{Section, section_of, own_edge, IsMade, IsCorner, AreEnds}
 use Rattle.mesh_stroke.proofs.Chains.{neighbours_all, path_chain}
 use Rattle.mesh_stroke.proofs.Reach.{join_covered, start_covered, end_covered, radius_covered, cap_padding_least}
@@ -45,19 +45,19 @@ module _ (unit : ℕ) (style : StrokeStyle) (closed : Bool) where
   abbrev sides : Edge → List Edge
   sides = side_edges unit style.radius
 
-  abbrev at : Corner → List Edge
+  abbrev at : EdgePair → List Edge
   at = corner_edges unit style.radius style.join
 
   -- what one step of the walk adds: the corner before an edge, then its sides
   abbrev pub step_edges : Edge → Edge → List Edge
   step_edges p n = corner_edges unit style.radius style.join (p, n) ++ side_edges unit style.radius n
 
-  abbrev pub ends_by : Bool → Corner → List Edge
+  abbrev pub ends_by : Bool → EdgePair → List Edge
   ends_by true c = corner_edges unit style.radius style.join c
   ends_by false c = both_caps unit style.radius style.start style.end false c.1 c.0
 
   -- what the walk adds at its end, with its last edge and its first: the last corner, or both caps
-  abbrev pub end_edges : Corner → List Edge
+  abbrev pub end_edges : EdgePair → List Edge
   end_edges = ends_by closed
 
   -- what is still to be added where the walk stands at `p` and goes on through the edges
@@ -73,7 +73,7 @@ module _ (unit : ℕ) (style : StrokeStyle) (closed : Bool) where
   tail_is : (b : Bool) (e : Edge) (es : List Edge) →
       flat_map at (pairs (e ∷ es)) ++ ends_by b (last_of e es, e) ≡ flat_map at (neighbours b (e ∷ es)) ++ both_caps unit style.radius style.start style.end b e (last_of e es)
   tail_is true e es =
-      let last : Corner = (last_of e es, e) in
+      let last : EdgePair = (last_of e es, e) in
       let a : flat_map at (pairs (e ∷ es) ++ last ∷ []) ≡ flat_map at (pairs (e ∷ es)) ++ (at last ++ []) = flat_map-append at (pairs (e ∷ es)) (last ∷ []) in
       sym (append-nil (flat_map at (route e es e)) ∙ (ap (flat_map at) (route_split e es e) ∙ (a ∙ ap (λ l. flat_map at (pairs (e ∷ es)) ++ l) (append-nil (at last)))))
   tail_is false e es = refl
@@ -83,9 +83,9 @@ module _ (unit : ℕ) (style : StrokeStyle) (closed : Bool) where
   unfolding drawn_edges
   walk_permutes e es =
       let top : Edge → List Edge = λ g. proper_edges (sides g) in
-      let corner : Corner → List Edge = λ c. proper_edges (at c) in
+      let corner : EdgePair → List Edge = λ c. proper_edges (at c) in
       let step : Edge → Edge → List Edge = λ q n. proper_edges (step_edges q n) in
-      let final : Corner → List Edge = λ c. proper_edges (end_edges c) in
+      let final : EdgePair → List Edge = λ c. proper_edges (end_edges c) in
       let mixed : (q n : Edge) → IsPermutation (step q n) (top n ++ corner (q, n)) =
       λ q n. rw (proper_append (at (q, n)) (sides n)) (IsPermutation-append_comm (corner (q, n)) (top n)) in
       let rest : IsPermutation (top e ++ woven step final e es e) (top e ++ (flat_map top es ++ (flat_map corner (pairs (e ∷ es)) ++ final (last_of e es, e)))) =
@@ -151,7 +151,7 @@ abbrev pub Continues : ℕ → StrokeStyle → Bool → Edge → List Edge → E
 Continues unit style closed p [] first = IsTrue closed → p.1 ≡ first.0
 Continues unit style closed p (e ∷ es) first = IsFit unit style e × (p.1 ≡ e.0) × Continues unit style closed e es first
 
-abbrev Joined : Corner → Type 0
+abbrev Joined : EdgePair → Type 0
 Joined c = c.0.1 ≡ c.1.0
 
 continues_round : (unit : ℕ) (style : StrokeStyle) (p : Edge) (es : List Edge) (first : Edge) → All (IsFit unit style) es → All Joined (route p es first) →

@@ -14,19 +14,19 @@ use Rattle.mesh_num.specs.Segments.{proper_edges}
 use Rattle.mesh_draw.specs.Walks.{pairs}
 use Rattle.mesh_draw.proofs.Walks.{pairs_all}
 use Rattle.mesh_stroke.specs.Paths.{neighbours, path_edges}
-use Rattle.mesh_stroke.specs.Strokes.{Corner}
+use Rattle.mesh_stroke.specs.Strokes.{EdgePair}
 
 -- edges with different ends, each starting where the one before ends; the first where the last does, where they are closed
 pub record IsChain (closed : Bool) (es : List Edge) : Type 0 where
   pub proper : All (λ (e : Edge). e.0 ≢ e.1) es
-  pub joined : All (λ (c : Corner). c.0.1 ≡ c.1.0) (neighbours closed es)
+  pub joined : All (λ (c : EdgePair). c.0.1 ≡ c.1.0) (neighbours closed es)
 
 -- the edges run from `a` to `z`
 abbrev Runs : Point → List Edge → Point → Type 0
 Runs a [] z = a ≡ z
 Runs a (e ∷ es) z = (a ≡ e.0) × Runs e.1 es z
 
-abbrev Joined : Corner → Type 0
+abbrev Joined : EdgePair → Type 0
 Joined c = c.0.1 ≡ c.1.0
 
 pairs_joined : (a : Point) (es : List Edge) (z : Point) → Runs a es z → All Joined (pairs es)

@@ -23,12 +23,12 @@ use Rattle.mesh_draw.proofs.Quarters.{quarters_turn}
 use Rattle.mesh_stroke.specs.Paths.{neighbours}
 use Rattle.mesh_num.specs.Segments.{SignedEdge, segments_of}
 use Rattle.mesh_stroke.specs.Midway.{Section, section_of, own_edge, IsCorner}
-use Rattle.mesh_stroke.specs.Strokes.{Corner, heading, facing, joint_right, inner_edges, outer_edges, corner_edges}
+use Rattle.mesh_stroke.specs.Strokes.{EdgePair, heading, facing, joint_right, inner_edges, outer_edges, corner_edges}
 use Rattle.mesh_stroke.proofs.Chains.{IsChain, neighbours_all}
 use Rattle.mesh_stroke.proofs.Sides.{heading_is}
 
 -- two edges with different ends that meet
-pub record IsMet (c : Corner) : Type 0 where
+pub record IsMet (c : EdgePair) : Type 0 where
   pub first : c.0.0 ≢ c.0.1
   pub second : c.1.0 ≢ c.1.1
   pub met : c.0.1 ≡ c.1.0
@@ -36,33 +36,33 @@ pub record IsMet (c : Corner) : Type 0 where
 -- each corner of a chain is one
 pub corners_met : (closed : Bool) (es : List Edge) → IsChain closed es → All IsMet (neighbours closed es)
 corners_met closed es chain =
-    All-weaker (λ (c : Corner). ((c.0.0 ≢ c.0.1) × (c.1.0 ≢ c.1.1)) × (c.0.1 ≡ c.1.0)) IsMet
+    All-weaker (λ (c : EdgePair). ((c.0.0 ≢ c.0.1) × (c.1.0 ≢ c.1.1)) × (c.0.1 ≡ c.1.0)) IsMet
     (λ c h. record { first = h.0.0; second = h.0.1; met = h.1 }) (neighbours closed es)
-    (all_both (λ (c : Corner). (c.0.0 ≢ c.0.1) × (c.1.0 ≢ c.1.1)) (λ (c : Corner). c.0.1 ≡ c.1.0) (neighbours closed es)
+    (all_both (λ (c : EdgePair). (c.0.0 ≢ c.0.1) × (c.1.0 ≢ c.1.1)) (λ (c : EdgePair). c.0.1 ≡ c.1.0) (neighbours closed es)
     (neighbours_all (λ (e : Edge). e.0 ≢ e.1) closed es chain.proper) chain.joined)
 
 -- how much a path turns to the left
-abbrev pub left_turn : Corner → ℤ
+abbrev pub left_turn : EdgePair → ℤ
 left_turn c = cross (minus c.0.1 c.0.0) (minus c.1.1 c.1.0)
 
 -- the corner as it is seen from its other end
-abbrev pub other_way : Corner → Corner
+abbrev pub other_way : EdgePair → EdgePair
 other_way c = (back c.1, back c.0)
 
 pub apart_back : (e : Edge) → e.0 ≢ e.1 → e.1 ≢ e.0
 apart_back e apart same = apart (sym same)
 
-pub other_way_met : (c : Corner) → IsMet c → IsMet (other_way c)
+pub other_way_met : (c : EdgePair) → IsMet c → IsMet (other_way c)
 other_way_met c h = record { first = apart_back c.1 h.second; second = apart_back c.0 h.first; met = sym h.met }
 
-pub other_way_turns : (c : Corner) → left_turn (other_way c) ≡ cross (minus c.1.1 c.1.0) (minus c.0.1 c.0.0)
+pub other_way_turns : (c : EdgePair) → left_turn (other_way c) ≡ cross (minus c.1.1 c.1.0) (minus c.0.1 c.0.0)
 other_way_turns c = simp multiplied (omega (arith, linear))
 
 flipped : (v w : Point) → int_lt (cross v w) (pos 0) ≡ true → pos 0 ≤ℤ cross w v
 flipped v w h = omega (arith, ints, cross_flip v w, h)
 
 -- what holds of each corner that turns to the left, or not at all, holds of the corner as it is faced
-pub facing_is : (P : Corner → Type 0) (c : Corner) → (pos 0 ≤ℤ left_turn c → P c) → (pos 0 ≤ℤ left_turn (other_way c) → P (other_way c)) → P (facing c)
+pub facing_is : (P : EdgePair → Type 0) (c : EdgePair) → (pos 0 ≤ℤ left_turn c → P c) → (pos 0 ≤ℤ left_turn (other_way c) → P (other_way c)) → P (facing c)
 facing_is P c here there = by (int_lt (left_turn c) (pos 0)) refl
   where
     by : (b : Bool) → int_lt (left_turn c) (pos 0) ≡ b → P (cond b (other_way c) c)
@@ -74,7 +74,7 @@ module _ (unit : ℕ) (least : 2 ^ 14 ≤ unit) (radius : ℤ) (sign : pos 0 ≤
   heading_short e apart = direction_short (heading_is unit e apart)
 
   -- a corner that turns to the left, or not at all, is a turn
-  pub turn_right : (c : Corner) → IsMet c → pos 0 ≤ℤ left_turn c → IsTurn unit (joint_right unit radius c)
+  pub turn_right : (c : EdgePair) → IsMet c → pos 0 ≤ℤ left_turn c → IsTurn unit (joint_right unit radius c)
   turn_right c h left = record {
     radius_sign = sign;
     fresh_incoming = direction_fresh (omega arith) (heading_is unit c.0 h.first);
@@ -100,26 +100,26 @@ module _ (unit : ℕ) (least : 2 ^ 14 ≤ unit) (radius : ℤ) (sign : pos 0 ≤
       ahead = omega (arith, ints, kept, at)
 
   -- so its join keeps what joins keep
-  pub corner_keeps : (join : JoinStyle) (c : Corner) → IsMet c → pos 0 ≤ℤ left_turn c → KeepsJoint unit join (joint_right unit radius c)
+  pub corner_keeps : (join : JoinStyle) (c : EdgePair) → IsMet c → pos 0 ≤ℤ left_turn c → KeepsJoint unit join (joint_right unit radius c)
   corner_keeps join c h left =
       (join_keeps unit join least).joint (joint_right unit radius c) (heading_short c.0 h.first) (heading_short c.1 h.second) (turn_right c h left)
 
   -- and so does that of any corner, as it is faced
-  pub facing_keeps : (join : JoinStyle) (c : Corner) → IsMet c → KeepsJoint unit join (joint_right unit radius (facing c))
+  pub facing_keeps : (join : JoinStyle) (c : EdgePair) → IsMet c → KeepsJoint unit join (joint_right unit radius (facing c))
   facing_keeps join c h =
-      facing_is (λ (k : Corner). KeepsJoint unit join (joint_right unit radius k)) c (corner_keeps join c h) (corner_keeps join (other_way c) (other_way_met c h))
+      facing_is (λ (k : EdgePair). KeepsJoint unit join (joint_right unit radius k)) c (corner_keeps join c h) (corner_keeps join (other_way c) (other_way_met c h))
 
 -- ---- the code's corners
 
 -- how a corner is faced
-pub faced_there : (c : Corner) → left_turn c <ℤ pos 0 → facing c ≡ other_way c
+pub faced_there : (c : EdgePair) → left_turn c <ℤ pos 0 → facing c ≡ other_way c
 faced_there c h = by (int_lt (left_turn c) (pos 0)) refl
   where
     by : (b : Bool) → int_lt (left_turn c) (pos 0) ≡ b → cond b (other_way c) c ≡ other_way c
     by true e = refl
     by false e = absurd (omega (arith, ints, h, e))
 
-pub faced_here : (c : Corner) → pos 0 ≤ℤ left_turn c → facing c ≡ c
+pub faced_here : (c : EdgePair) → pos 0 ≤ℤ left_turn c → facing c ≡ c
 faced_here c h = by (int_lt (left_turn c) (pos 0)) refl
   where
     by : (b : Bool) → int_lt (left_turn c) (pos 0) ≡ b → cond b (other_way c) c ≡ c
@@ -161,7 +161,7 @@ pub drawn_there : (unit : ℕ) (radius : ℤ) (join : JoinStyle) (p n before aft
     new ≡ old ++ segments_of (corner_edges unit radius join (own_edge p, own_edge n))
 drawn_there unit radius join p n before after old new turned b a h =
     h
-    ∙ ap (λ (c : Corner). old ++ segments_of (inner_edges unit radius c ++ outer_edges unit radius join c))
+    ∙ ap (λ (c : EdgePair). old ++ segments_of (inner_edges unit radius c ++ outer_edges unit radius join c))
     (faced_sections unit radius p n before after turned b a)
 
 pub drawn_here : (unit : ℕ) (radius : ℤ) (join : JoinStyle) (p n : Section) (old new : List SignedEdge) →
@@ -169,4 +169,4 @@ pub drawn_here : (unit : ℕ) (radius : ℤ) (join : JoinStyle) (p n : Section) 
     new ≡ old ++ segments_of (inner_edges unit radius (own_edge p, own_edge n) ++ outer_edges unit radius join (own_edge p, own_edge n)) →
     new ≡ old ++ segments_of (corner_edges unit radius join (own_edge p, own_edge n))
 drawn_here unit radius join p n old new left h =
-    h ∙ ap (λ (c : Corner). old ++ segments_of (inner_edges unit radius c ++ outer_edges unit radius join c)) (sym (faced_here (own_edge p, own_edge n) left))
+    h ∙ ap (λ (c : EdgePair). old ++ segments_of (inner_edges unit radius c ++ outer_edges unit radius join c)) (sym (faced_here (own_edge p, own_edge n) left))

@@ -9,7 +9,7 @@ use Rattle.mesh_join.specs.Styles.{JoinStyle}
 use Rattle.mesh_cap.specs.Caps.{CapKind, cap_edges}
 use Rattle.mesh_cap.specs.Ends.{half_turn}
 use Rattle.mesh_stroke.specs.Midway.{Section, section_of, own_edge}
-use Rattle.mesh_stroke.specs.Strokes.{Corner, heading, inner_edges, outer_edges, corner_edges, cap_at, both_caps}
+use Rattle.mesh_stroke.specs.Strokes.{EdgePair, heading, inner_edges, outer_edges, corner_edges, cap_at, both_caps}
 use Rattle.mesh_stroke.proofs.Corners.{left_turn, faced_here, faced_sections}
 
 -- ---- the segments of edges
@@ -36,7 +36,7 @@ other_edges_fit es gs old mid capacity grown m more fits =
 -- ---- corners
 
 -- the corner as it is faced
-abbrev drawn_at : ℕ → ℤ → JoinStyle → Corner → List Edge
+abbrev drawn_at : ℕ → ℤ → JoinStyle → EdgePair → List Edge
 drawn_at unit radius join c = inner_edges unit radius c ++ outer_edges unit radius join c
 
 pub room_there : (unit : ℕ) (radius : ℤ) (join : JoinStyle) (p n before after : Section) (count capacity : ℕ)
@@ -46,7 +46,7 @@ pub room_there : (unit : ℕ) (radius : ℤ) (join : JoinStyle) (p n before afte
     → count + length (segments_of (inner_edges unit radius (own_edge before, own_edge after)
     ++ outer_edges unit radius join (own_edge before, own_edge after))) ≤ capacity
 room_there unit radius join p n before after count capacity turned b a fits =
-    subst (λ (c : Corner). count + length (segments_of (drawn_at unit radius join c)) ≤ capacity)
+    subst (λ (c : EdgePair). count + length (segments_of (drawn_at unit radius join c)) ≤ capacity)
     (sym (faced_sections unit radius p n before after turned b a)) fits
 
 pub room_here : (unit : ℕ) (radius : ℤ) (join : JoinStyle) (p n : Section) (count capacity : ℕ)
@@ -55,7 +55,7 @@ pub room_here : (unit : ℕ) (radius : ℤ) (join : JoinStyle) (p n : Section) (
     → count + length (segments_of (inner_edges unit radius (own_edge p, own_edge n)
     ++ outer_edges unit radius join (own_edge p, own_edge n))) ≤ capacity
 room_here unit radius join p n count capacity left fits =
-    subst (λ (c : Corner). count + length (segments_of (drawn_at unit radius join c)) ≤ capacity)
+    subst (λ (c : EdgePair). count + length (segments_of (drawn_at unit radius join c)) ≤ capacity)
     (faced_here (own_edge p, own_edge n) left) fits
 
 -- ---- caps

@@ -24,7 +24,8 @@ use Rattle.mesh_draw.specs.Padding.{IsNear}
 use Rattle.mesh_draw.proofs.Padding.{vertex_near}
 use Rattle.mesh_stroke.specs.Paths.{neighbours, path_edges}
 use Rattle.mesh_stroke.specs.Styles.{StrokeStyle, stroke_padding}
-use Rattle.mesh_stroke.specs.Strokes.{Corner, heading, right_of, left_of, side_edges, joint_right, outer_edges, inner_edges, corner_edges, cap_at, both_caps, drawn_edges}
+use Rattle.mesh_stroke.specs.Strokes.{EdgePair, heading, right_of, left_of, side_edges, joint_right}
+use Rattle.mesh_stroke.specs.Strokes.{outer_edges, inner_edges, corner_edges, cap_at, both_caps, drawn_edges}
 use Rattle.mesh_draw.proofs.Walks.{last_all}
 use Rattle.mesh_stroke.proofs.Chains.{IsChain, neighbours_all}
 use Rattle.mesh_stroke.proofs.Corners.{IsMet, corners_met, left_turn, other_way, other_way_met, facing_is, corner_keeps, heading_short, apart_back}
@@ -96,17 +97,17 @@ module _ (unit : ℕ) (least : 2 ^ 14 ≤ unit) (style : StrokeStyle) (sign : po
       (beside Clockwise e e.1 apart listed.1, beside Clockwise e e.0 apart listed.0) (All-nil EndsNear))
 
   -- a corner whose edges have their ends among the points
-  abbrev At : Corner → Type 0
+  abbrev At : EdgePair → Type 0
   At c = IsMet c × (Listed points c.0 × Listed points c.1)
 
-  inner_near : (c : Corner) → At c → All EndsNear (inner_edges unit style.radius c)
+  inner_near : (c : EdgePair) → At c → All EndsNear (inner_edges unit style.radius c)
   inner_near c h =
       All-cons EndsNear (left_of unit style.radius c.1 c.1.0, c.1.0) ((c.0.1, left_of unit style.radius c.0 c.0.1) ∷ [])
       (beside Clockwise c.1 c.1.0 h.0.second h.1.1.0, at_vertex c.1.0 h.1.1.0)
       (All-cons EndsNear (c.0.1, left_of unit style.radius c.0 c.0.1) []
       (at_vertex c.0.1 h.1.0.1, beside Clockwise c.0 c.0.1 h.0.first h.1.0.1) (All-nil EndsNear))
 
-  outer_near : (c : Corner) → At c → pos 0 ≤ℤ left_turn c → All EndsNear (outer_edges unit style.radius style.join c)
+  outer_near : (c : EdgePair) → At c → pos 0 ≤ℤ left_turn c → All EndsNear (outer_edges unit style.radius style.join c)
   outer_near c h left =
       let j = joint_right unit style.radius c in
       route_all Near j.first (between j.first (join_points unit style.join j) j.last) j.last
@@ -116,13 +117,13 @@ module _ (unit : ℕ) (least : 2 ^ 14 ≤ unit) (style : StrokeStyle) (sign : po
       (corner_keeps unit least style.radius sign style.join c h.0 left).near)
       (beside Counterclockwise c.1 c.1.0 h.0.second h.1.1.0)
 
-  faced_near : (c : Corner) → At c → pos 0 ≤ℤ left_turn c → All EndsNear (inner_edges unit style.radius c ++ outer_edges unit style.radius style.join c)
+  faced_near : (c : EdgePair) → At c → pos 0 ≤ℤ left_turn c → All EndsNear (inner_edges unit style.radius c ++ outer_edges unit style.radius style.join c)
   faced_near c h left =
       All-append EndsNear (inner_edges unit style.radius c) (outer_edges unit style.radius style.join c) (inner_near c h) (outer_near c h left)
 
-  corner_near : (c : Corner) → At c → All EndsNear (corner_edges unit style.radius style.join c)
+  corner_near : (c : EdgePair) → At c → All EndsNear (corner_edges unit style.radius style.join c)
   corner_near c h =
-      facing_is (λ (k : Corner). All EndsNear (inner_edges unit style.radius k ++ outer_edges unit style.radius style.join k)) c
+      facing_is (λ (k : EdgePair). All EndsNear (inner_edges unit style.radius k ++ outer_edges unit style.radius style.join k)) c
       (faced_near c h)
       (faced_near (other_way c) (other_way_met c h.0, ((h.1.1.1, h.1.1.0), (h.1.0.1, h.1.0.0))))
 
@@ -160,7 +161,7 @@ module _ (unit : ℕ) (least : 2 ^ 14 ≤ unit) (style : StrokeStyle) (sign : po
       (All-append EndsNear (flat_map (corner_edges unit style.radius style.join) (neighbours closed (e ∷ es))) (both_caps unit style.radius style.start style.end closed e (last_of e es))
       (all_flat_map EndsNear (corner_edges unit style.radius style.join) (neighbours closed (e ∷ es))
       (All-weaker At (λ c. All EndsNear (corner_edges unit style.radius style.join c)) corner_near (neighbours closed (e ∷ es))
-      (all_both IsMet (λ (c : Corner). Listed points c.0 × Listed points c.1) (neighbours closed (e ∷ es)) (corners_met closed (e ∷ es) chain) (neighbours_all (Listed points) closed (e ∷ es) listed))))
+      (all_both IsMet (λ (c : EdgePair). Listed points c.0 × Listed points c.1) (neighbours closed (e ∷ es)) (corners_met closed (e ∷ es) chain) (neighbours_all (Listed points) closed (e ∷ es) listed))))
       (caps_near closed e (last_of e es)
       (All-head (λ (g : Edge). g.0 ≢ g.1) e es chain.proper) (last_all (λ (g : Edge). g.0 ≢ g.1) e es chain.proper)
       (All-head (Listed points) e es listed) (last_all (Listed points) e es listed))))

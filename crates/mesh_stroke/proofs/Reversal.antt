@@ -31,7 +31,8 @@ use Rattle.mesh_draw.specs.Walks.{pairs}
 use Rattle.mesh_stroke.specs.Paths.{neighbours, path_edges}
 use Rattle.mesh_stroke.specs.Reversal.{net_count, CountAlike, with_caps_exchanged, reversed_edges, StrokesCanBeReversed}
 use Rattle.mesh_stroke.specs.Styles.{StrokeStyle}
-use Rattle.mesh_stroke.specs.Strokes.{Corner, heading, side_edges, outer_edges, inner_edges, corner_edges, cap_at, both_caps, drawn_edges, stroke_edges}
+use Rattle.mesh_stroke.specs.Strokes.{EdgePair, heading, side_edges, outer_edges, inner_edges}
+use Rattle.mesh_stroke.specs.Strokes.{corner_edges, cap_at, both_caps, drawn_edges, stroke_edges}
 use Rattle.mesh_stroke.proofs.Backwards.{backwards, reverse_is, route_backwards, pairs_backwards, proper_backwards, ends_backwards, sum_backwards, neighbours_sum_backwards}
 use Rattle.mesh_stroke.proofs.Chains.{IsChain, path_chain}
 use Rattle.mesh_stroke.proofs.Corners.{IsMet, corners_met, left_turn, other_way, other_way_met, other_way_turns, faced_here, faced_there}
@@ -54,7 +55,7 @@ back_again n = let x : neg_ℤ (neg_ℤ n.0) ≡ n.0 = omega (arith, linear) in
 below_of : (x : ℤ) → x ≤ℤ pos 0 → x ≢ pos 0 → x <ℤ pos 0
 below_of x h apart = by_lt_z x (pos 0) (λ l. l) (λ l. absurd (apart (omega (arith, ints, h, l))))
 
-headings : (unit : ℕ) (c : Corner) → IsMet c → left_turn c ≡ pos 0 → (heading unit c.1 ≡ heading unit c.0) ⊎ (heading unit c.1 ≡ opposite (heading unit c.0))
+headings : (unit : ℕ) (c : EdgePair) → IsMet c → left_turn c ≡ pos 0 → (heading unit c.1 ≡ heading unit c.0) ⊎ (heading unit c.1 ≡ opposite (heading unit c.0))
 headings unit c h flat =
     let v = minus c.0.1 c.0.0 in
     let w = minus c.1.1 c.1.0 in
@@ -72,7 +73,7 @@ module _ (f : Point → Point → ℤ) (odd : IsOdd f) (unit : ℕ) (some : 0 < 
       (((contact unit radius Clockwise w m, w) ∷ (v, contact unit radius Clockwise v n) ∷ [])
       ++ join_edges unit join (joint v (contact unit radius Counterclockwise v n) (contact unit radius Counterclockwise w m) n m radius Counterclockwise))
 
-  abbrev seen : ℤ → JoinStyle → Corner → ℤ
+  abbrev seen : ℤ → JoinStyle → EdgePair → ℤ
   seen radius join c = total f (inner_edges unit radius c ++ outer_edges unit radius join c)
 
   one_point : (a : Point) (points : List Point) → total f (through a points a) ≡ pos 0
@@ -85,11 +86,11 @@ module _ (f : Point → Point → ℤ) (odd : IsOdd f) (unit : ℕ) (some : 0 < 
       let left = contact unit radius Clockwise v n in
       omega (arith, linear, one_point a (join_points unit join (joint v a a n n radius Counterclockwise)), odd v left)
 
-  straight_none : (radius : ℤ) (join : JoinStyle) (c : Corner) → IsMet c → heading unit c.1 ≡ heading unit c.0 → seen radius join c ≡ pos 0
+  straight_none : (radius : ℤ) (join : JoinStyle) (c : EdgePair) → IsMet c → heading unit c.1 ≡ heading unit c.0 → seen radius join c ≡ pos 0
   straight_none radius join c h same =
       (λ i. drawn_at radius join c.0.1 (sym h.met i) (heading unit c.0) (same i)) ∙ none_at radius join c.0.1 (heading unit c.0)
 
-  flat_same : (radius : ℤ) (join : JoinStyle) (c : Corner) → IsMet c → (heading unit c.1 ≡ heading unit c.0) ⊎ (heading unit c.1 ≡ opposite (heading unit c.0)) →
+  flat_same : (radius : ℤ) (join : JoinStyle) (c : EdgePair) → IsMet c → (heading unit c.1 ≡ heading unit c.0) ⊎ (heading unit c.1 ≡ opposite (heading unit c.0)) →
       seen radius join (other_way c) ≡ seen radius join c
   flat_same radius join c h (inl same) =
       straight_none radius join (other_way c) (other_way_met c h)
@@ -101,7 +102,7 @@ module _ (f : Point → Point → ℤ) (odd : IsOdd f) (unit : ℕ) (some : 0 < 
       λ i. drawn_at radius join (sym h.met i) (h.met i) (n i) (m i)
 
   -- a corner seen from its other end
-  corner_reversed : (radius : ℤ) (join : JoinStyle) (c : Corner) → IsMet c →
+  corner_reversed : (radius : ℤ) (join : JoinStyle) (c : EdgePair) → IsMet c →
       total f (corner_edges unit radius join (other_way c)) ≡ total f (corner_edges unit radius join c)
   corner_reversed radius join c h = by_lt_z (left_turn c) (pos 0)
       (λ l. ap (seen radius join) (faced_here (other_way c) (there (omega (arith, linear, ints, l))) ∙ sym (faced_there c l)))
@@ -132,7 +133,7 @@ module _ (f : Point → Point → ℤ) (odd : IsOdd f) (unit : ℕ) (some : 0 < 
   abbrev sides_of : StrokeStyle → Edge → ℤ
   sides_of style e = total f (side_edges unit style.radius e)
 
-  abbrev corner_of : StrokeStyle → Corner → ℤ
+  abbrev corner_of : StrokeStyle → EdgePair → ℤ
   corner_of style c = total f (corner_edges unit style.radius style.join c)
 
   abbrev caps_of : StrokeStyle → Bool → Edge → Edge → ℤ
@@ -190,7 +191,7 @@ module _ (f : Point → Point → ℤ) (odd : IsOdd f) (unit : ℕ) (some : 0 < 
       corners =
           neighbours_sum_backwards (corner_of style) back closed (e ∷ es)
           ∙ sum_of_equal (λ c. corner_of style (other_way c)) (corner_of style) (neighbours closed (e ∷ es))
-          (All-weaker IsMet (λ (c : Corner). corner_of style (other_way c) ≡ corner_of style c) (λ c h. corner_reversed style.radius style.join c h) (neighbours closed (e ∷ es)) (corners_met closed (e ∷ es) chain))
+          (All-weaker IsMet (λ (c : EdgePair). corner_of style (other_way c) ≡ corner_of style c) (λ c h. corner_reversed style.radius style.join c h) (neighbours closed (e ∷ es)) (corners_met closed (e ∷ es) chain))
 
       by : (rest : List Edge) × (backwards back (e ∷ es) ≡ back (last_of e es) ∷ rest) × (last_of (back (last_of e es)) rest ≡ back e) →
           total f (drawn_edges unit other closed (backwards back (e ∷ es))) ≡ total f (drawn_edges unit style closed (e ∷ es))

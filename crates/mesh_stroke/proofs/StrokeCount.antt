@@ -26,7 +26,8 @@ use Rattle.mesh_cap.proofs.CapLaws.{KeepsEnd}
 use Rattle.mesh_cap.proofs.Caps.{cap_keeps}
 use Rattle.mesh_stroke.specs.Paths.{neighbours}
 use Rattle.mesh_stroke.specs.Styles.{StrokeStyle}
-use Rattle.mesh_stroke.specs.Strokes.{Corner, heading, section_piece, facing, outer_edges, corner_pieces, cap_at, cap_pieces, both_cap_pieces, drawn_pieces}
+use Rattle.mesh_stroke.specs.Strokes.{EdgePair, heading, section_piece, facing, outer_edges}
+use Rattle.mesh_stroke.specs.Strokes.{corner_pieces, cap_at, cap_pieces, both_cap_pieces, drawn_pieces}
 use Rattle.mesh_draw.proofs.Walks.{last_all}
 use Rattle.mesh_stroke.proofs.Chains.{IsChain}
 use Rattle.mesh_stroke.proofs.Corners.{IsMet, corners_met, facing_keeps, heading_short, apart_back}
@@ -58,7 +59,7 @@ module _ (unit : ℕ) (least : 2 ^ 14 ≤ unit) (m : ℕ) (q : Point) where
       parallelogram_winds m q (plus e.0 (right_quarter s)) (plus e.1 (right_quarter s)) (minus e.1 (right_quarter s)) (minus e.0 (right_quarter s))
       (omega (arith, linear)) (omega (arith, linear)) turned
 
-  corner_winds : (radius : ℤ) → pos 0 ≤ℤ radius → (join : JoinStyle) (c : Corner) → IsMet c → All Winds (corner_pieces unit radius join c)
+  corner_winds : (radius : ℤ) → pos 0 ≤ℤ radius → (join : JoinStyle) (c : EdgePair) → IsMet c → All Winds (corner_pieces unit radius join c)
   corner_winds radius sign join c h =
       fan_ahead m q (facing c).0.1 (outer_edges unit radius join (facing c)) (facing_keeps unit least radius sign join c h).never_turns_back
 

@@ -22,7 +22,7 @@ use Rattle.mesh_stroke.specs.Building.{HasDirectCaps, HasFewCapEdges}
 use Rattle.mesh_draw.specs.Walks.{pairs}
 use Rattle.mesh_stroke.specs.Paths.{neighbours, path_edges}
 use Rattle.mesh_stroke.specs.Styles.{StrokeStyle}
-use Rattle.mesh_stroke.specs.Strokes.{Corner, heading, facing, side_edges, inner_edges, outer_edges, corner_edges}
+use Rattle.mesh_stroke.specs.Strokes.{EdgePair, heading, facing, side_edges, inner_edges, outer_edges, corner_edges}
 use Rattle.mesh_stroke.specs.Strokes.{cap_at, both_caps, drawn_edges, stroke_edges}
 use Rattle.mesh_draw.proofs.ProperEdges.{proper_length}
 use Rattle.mesh_draw.proofs.Walks.{last_all}
@@ -69,7 +69,7 @@ neighbours_length false x xs = omega (arith, pairs_length x xs)
 -- ---- a stroke
 
 module _ (unit : ℕ) (least : 2 ^ 14 ≤ unit) (style : StrokeStyle) (few : HasFew style.join) where
-  corner_length : pos 0 ≤ℤ style.radius → (c : Corner) → IsMet c
+  corner_length : pos 0 ≤ℤ style.radius → (c : EdgePair) → IsMet c
       → length (corner_edges unit style.radius style.join c) ≤ 5
   corner_length sign c met =
       omega (
@@ -111,7 +111,7 @@ module _ (unit : ℕ) (least : 2 ^ 14 ≤ unit) (style : StrokeStyle) (few : Has
         length-append corners caps,
         parts_length (side_edges unit style.radius) 2 (e ∷ es) (λ k d h. omega arith),
         parts_length (corner_edges unit style.radius style.join) 5 (neighbours closed (e ∷ es))
-            (All-weaker IsMet (λ (c : Corner). length (corner_edges unit style.radius style.join c) ≤ 5)
+            (All-weaker IsMet (λ (c : EdgePair). length (corner_edges unit style.radius style.join c) ≤ 5)
             (corner_length sign) (neighbours closed (e ∷ es)) (corners_met closed (e ∷ es) chain)),
         neighbours_length closed e es,
         caps_length sign closed short e (last_of e es) (All-head IsApart e es chain.proper)

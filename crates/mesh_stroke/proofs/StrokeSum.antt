@@ -19,7 +19,9 @@ use Rattle.mesh_cap.specs.Ends.{half_turn}
 use Rattle.mesh_draw.proofs.ProperEdges.{proper_edges_total}
 use Rattle.mesh_stroke.specs.Paths.{neighbours}
 use Rattle.mesh_stroke.specs.Styles.{StrokeStyle}
-use Rattle.mesh_stroke.specs.Strokes.{Corner, heading, right_of, left_of, side_edges, section_piece, joint_right, outer_edges, inner_edges, corner_edges, corner_pieces, cap_at, cap_pieces, both_caps, both_cap_pieces, drawn_edges, drawn_pieces}
+use Rattle.mesh_stroke.specs.Strokes.{EdgePair, heading, right_of, left_of, side_edges, section_piece}
+use Rattle.mesh_stroke.specs.Strokes.{joint_right, outer_edges, inner_edges, corner_edges, corner_pieces, cap_at}
+use Rattle.mesh_stroke.specs.Strokes.{cap_pieces, both_caps, both_cap_pieces, drawn_edges, drawn_pieces}
 use Rattle.mesh_draw.proofs.Walks.{pairs_ends}
 use Rattle.mesh_stroke.proofs.Chains.{IsChain, boundary_parts, neighbours_all}
 use Rattle.mesh_stroke.proofs.Sides.{right_back, left_back, sides_straight}
@@ -56,7 +58,7 @@ module _ (f : Point → Point → ℤ) (odd : IsOdd f) (straight : IsStraight f)
       omega (arith, linear, section_total radius e, sections_total radius es, total_append f (side_edges unit radius e) (flat_map (side_edges unit radius) es))
 
   -- a corner that turns to the left
-  left_total : (radius : ℤ) (join : JoinStyle) (c : Corner) → c.0.1 ≡ c.1.0 →
+  left_total : (radius : ℤ) (join : JoinStyle) (c : EdgePair) → c.0.1 ≡ c.1.0 →
       total f (inner_edges unit radius c ++ outer_edges unit radius join c)
       ≡ pieces_total f (fan c.0.1 (outer_edges unit radius join c)) +ℤ (across radius c.0 c.0.1 -ℤ across radius c.1 c.1.0)
   left_total radius join c met =
@@ -73,11 +75,11 @@ module _ (f : Point → Point → ℤ) (odd : IsOdd f) (straight : IsStraight f)
         ap (λ (v : Point). f v j.last) met,
       )
 
-  abbrev ends_of : ℤ → Corner → ℤ
+  abbrev ends_of : ℤ → EdgePair → ℤ
   ends_of radius c = across radius c.0 c.0.1 -ℤ across radius c.1 c.1.0
 
   -- any corner
-  corner_total : (radius : ℤ) (join : JoinStyle) (c : Corner) → c.0.0 ≢ c.0.1 → c.1.0 ≢ c.1.1 → c.0.1 ≡ c.1.0 →
+  corner_total : (radius : ℤ) (join : JoinStyle) (c : EdgePair) → c.0.0 ≢ c.0.1 → c.1.0 ≢ c.1.1 → c.0.1 ≡ c.1.0 →
       total f (corner_edges unit radius join c) ≡ pieces_total f (corner_pieces unit radius join c) +ℤ ends_of radius c
   corner_total radius join c first second met = by (int_lt (cross (minus c.0.1 c.0.0) (minus c.1.1 c.1.0)) (pos 0))
     where
@@ -98,18 +100,18 @@ module _ (f : Point → Point → ℤ) (odd : IsOdd f) (straight : IsStraight f)
       ≡ pieces_total f (flat_map (corner_pieces unit style.radius style.join) (neighbours closed es)) +ℤ sum_of (ends_of style.radius) (neighbours closed es)
   corners_total style closed es chain =
       let cs = neighbours closed es in
-      let each : All (λ (c : Corner). total f (corner_edges unit style.radius style.join c) ≡ pieces_total f (corner_pieces unit style.radius style.join c) +ℤ ends_of style.radius c) cs =
-      All-weaker (λ (c : Corner). ((c.0.0 ≢ c.0.1) × (c.1.0 ≢ c.1.1)) × (c.0.1 ≡ c.1.0))
-      (λ (c : Corner). total f (corner_edges unit style.radius style.join c) ≡ pieces_total f (corner_pieces unit style.radius style.join c) +ℤ ends_of style.radius c)
+      let each : All (λ (c : EdgePair). total f (corner_edges unit style.radius style.join c) ≡ pieces_total f (corner_pieces unit style.radius style.join c) +ℤ ends_of style.radius c) cs =
+      All-weaker (λ (c : EdgePair). ((c.0.0 ≢ c.0.1) × (c.1.0 ≢ c.1.1)) × (c.0.1 ≡ c.1.0))
+      (λ (c : EdgePair). total f (corner_edges unit style.radius style.join c) ≡ pieces_total f (corner_pieces unit style.radius style.join c) +ℤ ends_of style.radius c)
       (λ c h. corner_total style.radius style.join c h.0.0 h.0.1 h.1) cs
-      (all_both (λ (c : Corner). (c.0.0 ≢ c.0.1) × (c.1.0 ≢ c.1.1)) (λ (c : Corner). c.0.1 ≡ c.1.0) cs (neighbours_all (λ (e : Edge). e.0 ≢ e.1) closed es chain.proper) chain.joined) in
+      (all_both (λ (c : EdgePair). (c.0.0 ≢ c.0.1) × (c.1.0 ≢ c.1.1)) (λ (c : EdgePair). c.0.1 ≡ c.1.0) cs (neighbours_all (λ (e : Edge). e.0 ≢ e.1) closed es chain.proper) chain.joined) in
       omega (
         arith,
         linear,
         total_flat_map f (corner_edges unit style.radius style.join) cs,
         pieces_total_flat_map f (corner_pieces unit style.radius style.join) cs,
-        sum_of_equal (λ (c : Corner). total f (corner_edges unit style.radius style.join c)) (λ (c : Corner). pieces_total f (corner_pieces unit style.radius style.join c) +ℤ ends_of style.radius c) cs each,
-        sum_of_add (λ (c : Corner). pieces_total f (corner_pieces unit style.radius style.join c)) (ends_of style.radius) cs,
+        sum_of_equal (λ (c : EdgePair). total f (corner_edges unit style.radius style.join c)) (λ (c : EdgePair). pieces_total f (corner_pieces unit style.radius style.join c) +ℤ ends_of style.radius c) cs each,
+        sum_of_add (λ (c : EdgePair). pieces_total f (corner_pieces unit style.radius style.join c)) (ends_of style.radius) cs,
       )
 
   -- a cap

@@ -17,8 +17,8 @@ use Rattle.mesh_stroke.specs.Paths.{neighbours, path_edges}
 use Rattle.mesh_stroke.specs.Styles.{StrokeStyle}
 
 -- two edges of a path: the second starts where the first ends
-abbrev pub Corner : Type 0
-Corner = Edge × Edge
+abbrev pub EdgePair : Type 0
+EdgePair = Edge × Edge
 
 -- the direction of an edge
 abbrev pub heading : ℕ → Edge → Point
@@ -44,29 +44,29 @@ section_piece unit radius e =
     ∷ []
 
 -- a corner seen so that it turns to the left or not at all: one that turns to the right is seen from its other end
-abbrev pub facing : Corner → Corner
+abbrev pub facing : EdgePair → EdgePair
 facing c = if int_lt (cross (minus c.0.1 c.0.0) (minus c.1.1 c.1.0)) (pos 0) then (back c.1, back c.0) else c
 
 -- the joint on the right of a corner that turns to the left
-abbrev pub joint_right : ℕ → ℤ → Corner → Joint
+abbrev pub joint_right : ℕ → ℤ → EdgePair → Joint
 joint_right unit radius c =
     joint c.0.1 (right_of unit radius c.0 c.0.1) (right_of unit radius c.1 c.1.0)
     (heading unit c.0) (heading unit c.1) radius Counterclockwise
 
 -- the edges of its join
-abbrev pub outer_edges : ℕ → ℤ → JoinStyle → Corner → List Edge
+abbrev pub outer_edges : ℕ → ℤ → JoinStyle → EdgePair → List Edge
 outer_edges unit radius join c = join_edges unit join (joint_right unit radius c)
 
 -- on its left the sides are connected through the vertex
-abbrev pub inner_edges : ℕ → ℤ → Corner → List Edge
+abbrev pub inner_edges : ℕ → ℤ → EdgePair → List Edge
 inner_edges unit radius c = (left_of unit radius c.1 c.1.0, c.1.0) ∷ (c.0.1, left_of unit radius c.0 c.0.1) ∷ []
 
 -- what is drawn at a corner
-abbrev pub corner_edges : ℕ → ℤ → JoinStyle → Corner → List Edge
+abbrev pub corner_edges : ℕ → ℤ → JoinStyle → EdgePair → List Edge
 corner_edges unit radius join c = inner_edges unit radius (facing c) ++ outer_edges unit radius join (facing c)
 
 -- the pieces at a corner
-abbrev pub corner_pieces : ℕ → ℤ → JoinStyle → Corner → List (List Point)
+abbrev pub corner_pieces : ℕ → ℤ → JoinStyle → EdgePair → List (List Point)
 corner_pieces unit radius join c = fan (facing c).0.1 (outer_edges unit radius join (facing c))
 
 -- the cap at the end of an edge; one at its start is that at the end of the edge read backwards

@@ -1,8 +1,7 @@
 //! Angles as whole numbers of bits.
 
-ghost use Rattle.std.specs.Prelude.{◌≡◌, ◌^◌, ◌≤◌};
-ghost use Rattle.mesh_plane.specs.Plane.{length_sq};
-ghost use Rattle.mesh_sine.specs.Sine.{sin_cos};
+ghost use Rattle.std.specs.Prelude.{◌≡◌};
+ghost use Rattle.mesh_sine.specs.Sine.{sin_cos, IsSinePair};
 
 use mesh_sine::sine;
 
@@ -46,7 +45,7 @@ impl Angle {
     /// The sine and the cosine, times 2^30, in this order.
     pub fn sin_cos(self) -> (i32, i32)
         ensures value { result ≡ sin_cos self }
-        ensures bounded { length_sq result ≤ 2 ^ 60 }
+        ensures bounded { IsSinePair result }
     {
         sine::sin_cos(self.bits)
     }

@@ -1,7 +1,7 @@
 //! Points of the grid and vectors between them.
 
 ghost use Rattle.std.specs.Prelude.{◌≡◌, ℕ, ◌+◌, ◌*◌, ℤ, ◌-ℤ◌};
-ghost use Rattle.mesh_plane.specs.Plane.{plus, minus, cross, dot, length_sq};
+ghost use Rattle.mesh_plane.specs.Plane.{plus, minus, cross, dot, length_sq, right_quarter};
 ghost use Rattle.mesh_plane.specs.Bounds.{IsSafe};
 ghost use Rattle.mesh_plane.specs.Winding.{same_point};
 
@@ -57,6 +57,16 @@ impl<I: IntNumber> IntPoint<I> {
     {
         let x = self.x.to_wide() + along.x;
         let y = self.y.to_wide() + along.y;
+        IntPoint::new(I::from_wide(x), I::from_wide(y))
+    }
+
+    /// The point moved by the length of a vector to the right of it, where that is safe as for `moved`.
+    pub fn moved_right(self, along: &IntVector<I>) -> Self
+        requires { IsSafe I.unit (plus self (right_quarter along.now)) }
+        ensures { result ≡ plus self (right_quarter along.now) }
+    {
+        let x = self.x.to_wide() + along.y;
+        let y = self.y.to_wide() - along.x;
         IntPoint::new(I::from_wide(x), I::from_wide(y))
     }
 }

@@ -22,14 +22,14 @@ pub struct Rotation<I: IntNumber> {
 }
 
 impl<I: IntNumber> Model for Rotation<I> {
-    ghost use Rattle.std.specs.Prelude.{ℤ, ◌^◌, ◌≤◌};
-    ghost use Rattle.mesh_plane.specs.Plane.{length_sq};
+    ghost use Rattle.std.specs.Prelude.{ℤ};
+    ghost use Rattle.mesh_sine.specs.Sine.{IsSinePair};
 
     ghost Value = { ℤ × ℤ };
 
     ghost view = { λ r. (r.sine, r.cosine) };
 
-    ghost invariant = { λ r. length_sq (r.sine, r.cosine) ≤ 2 ^ 60 };
+    ghost invariant = { λ r. IsSinePair (r.sine, r.cosine) };
 
     ghost inverse = { λ v. record { sine = v.0; cosine = v.1; coordinate = record {} } };
 }

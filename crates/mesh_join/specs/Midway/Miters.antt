@@ -1,12 +1,8 @@
 -- What the steps of a miter know: only private contracts read this.
 use Rattle.std.specs.Prelude.{ℕ, ℤ, pos, ◌≡◌, ◌^◌, ◌≤◌, ◌≤ℤ◌, unsigned_abs}
-use Rattle.mesh_plane.specs.Plane.{Point, length_sq}
+use Rattle.mesh_plane.specs.Plane.{Point}
 use Rattle.mesh_join.specs.Miters.{sharpest, slightest, half_sharpest}
-use Rattle.mesh_sine.specs.Sine.{sin_cos}
-
--- as long as a sine and a cosine of one angle: 1 is 2 ^ 30
-abbrev pub IsSinePair : Point → Type 0
-IsSinePair p = length_sq p ≤ 2 ^ 60
+use Rattle.mesh_sine.specs.Sine.{sin_cos, IsSinePair}
 
 -- the sines and cosines of a miter's angles, computed once
 pub record HasSines (angle min_turn : ℕ) (slight sharp half : Point) : Type 0 where

@@ -12,7 +12,7 @@ ghost use Rattle.mesh_draw.specs.Padding.{ArePathsSafe};
 ghost use Rattle.mesh_draw.specs.Adding.{answer_edges};
 ghost use Rattle.mesh_outline.specs.Building.{IsMovable};
 ghost use Rattle.mesh_outline.specs.Kinds.{contour_kind, sense_of};
-ghost use Rattle.mesh_outline.specs.Midway.{AddsAlong, AddsAnswer, AddsGiven, AreGiven};
+ghost use Rattle.mesh_outline.specs.Midway.{AddsInSense, AddsAnswer, AddsGiven, AreGiven};
 ghost use Rattle.mesh_outline.specs.Resolved.{DoAreasFit, HavePromisedEdges};
 ghost use Rattle.mesh_outline.specs.Staying.{StaysSafe};
 
@@ -130,7 +130,7 @@ fn add_shapes<I: IntNumber>(
     fill: FillRule,
     segments: &mut Vec<Segment<I>>,
 ) -> Result<(), AllocError>
-    ensures { OnOk result (AddsAlong fill segments.old.items segments.new.items
+    ensures { OnOk result (AddsInSense fill segments.old.items segments.new.items
         (answer_edges (shapes_of shapes.now.items))) }
 {
     for shape in shapes {
@@ -145,7 +145,7 @@ fn add_shape<I: IntNumber>(
     fill: FillRule,
     segments: &mut Vec<Segment<I>>,
 ) -> Result<(), AllocError>
-    ensures { OnOk result (AddsAlong fill segments.old.items segments.new.items
+    ensures { OnOk result (AddsInSense fill segments.old.items segments.new.items
         (flat_map boundary (paths_of shape.now.items))) }
 {
     for contour in shape {
@@ -160,7 +160,7 @@ fn add_closed<I: IntNumber>(
     fill: FillRule,
     segments: &mut Vec<Segment<I>>,
 ) -> Result<(), AllocError>
-    ensures { OnOk result (AddsAlong fill segments.old.items segments.new.items (boundary contour.now)) }
+    ensures { OnOk result (AddsInSense fill segments.old.items segments.new.items (boundary contour.now)) }
 {
     let Some((first, rest)) = contour.split_first() else {
         return Ok(());
@@ -180,7 +180,7 @@ fn add_edge<I: IntNumber>(
     fill: FillRule,
     segments: &mut Vec<Segment<I>>,
 ) -> Result<(), AllocError>
-    ensures { OnOk result (AddsAlong fill segments.old.items segments.new.items ((start, end) ∷ [])) }
+    ensures { OnOk result (AddsInSense fill segments.old.items segments.new.items ((start, end) ∷ [])) }
 {
     match fill {
         FillRule::Positive => segments.push_non_degenerate(start, end),

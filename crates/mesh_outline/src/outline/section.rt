@@ -1,12 +1,10 @@
 //! Sections: edges of a contour and where they are moved to.
 
-ghost use Rattle.std.specs.Prelude.{◌≡◌, ◌≢◌, ◌+ℤ◌, ℤ, pos, unsigned_abs, IfOk};
-ghost use Rattle.mesh_plane.specs.Bounds.{IsSafe};
-ghost use Rattle.mesh_plane.specs.Plane.{plus, right_quarter};
+ghost use Rattle.std.specs.Prelude.{◌≡◌, ◌≢◌, pos, unsigned_abs, IfOk};
 ghost use Rattle.mesh_grid.specs.Rectangle.{IsSafeWidened};
 ghost use Rattle.mesh_outline.specs.Outline.{section_of};
 
-use mesh_num::num::{IntNumber, IntPoint, IntVector, UnitIntVector};
+use mesh_num::num::{IntNumber, IntPoint, UnitIntVector};
 use std::alloc::AllocError;
 use std::marker::Model;
 
@@ -55,18 +53,8 @@ impl<I: IntNumber> OffsetSection<I> {
             direction,
             a,
             b,
-            a_top: beside(a, &scaled),
-            b_top: beside(b, &scaled),
+            a_top: a.moved_right(&scaled),
+            b_top: b.moved_right(&scaled),
         }
     }
-}
-
-/// The point to the right of `point` by the length of a vector, which has to be safe.
-fn beside<I: IntNumber>(point: IntPoint<I>, scaled: &IntVector<I>) -> IntPoint<I>
-    requires { IsSafe I.unit (plus point (right_quarter scaled.now)) }
-    ensures { result ≡ plus point (right_quarter scaled.now) }
-{
-    let x = point.x.to_wide() + scaled.y;
-    let y = point.y.to_wide() - scaled.x;
-    IntPoint::new(I::from_wide(x), I::from_wide(y))
 }

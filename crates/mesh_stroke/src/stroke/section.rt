@@ -2,7 +2,7 @@
 
 ghost use Rattle.std.specs.Prelude.{◌≡◌, ◌≢◌, ◌≤◌, ℤ, pos, unsigned_abs, length, take, vec_capacity, IsOk, OnOk, IfOk};
 ghost use Rattle.mesh_plane.specs.Bounds.{IsSafe};
-ghost use Rattle.mesh_plane.specs.Plane.{plus, minus, right_quarter};
+ghost use Rattle.mesh_plane.specs.Plane.{minus, right_quarter};
 ghost use Rattle.mesh_grid.specs.Rectangle.{IsSafeWidened};
 ghost use Rattle.mesh_join.specs.Appending.{Appends, HasRoomForEdges};
 ghost use Rattle.mesh_stroke.specs.Midway.{own_edge, section_of, IsMade};
@@ -76,9 +76,9 @@ impl<I: IntNumber> StrokeSection<I> {
             a,
             b,
             a_left: left_of(a, &scaled),
-            a_right: right_of(a, &scaled),
+            a_right: a.moved_right(&scaled),
             b_left: left_of(b, &scaled),
-            b_right: right_of(b, &scaled),
+            b_right: b.moved_right(&scaled),
         }
     }
 
@@ -94,16 +94,6 @@ impl<I: IntNumber> StrokeSection<I> {
         segments.push_non_degenerate(self.a_right, self.b_right)?;
         segments.push_non_degenerate(self.b_left, self.a_left)
     }
-}
-
-/// The point to the right of `point` by the length of a vector, which has to be safe.
-fn right_of<I: IntNumber>(point: IntPoint<I>, scaled: &IntVector<I>) -> IntPoint<I>
-    requires { IsSafe I.unit (plus point (right_quarter scaled.now)) }
-    ensures { result ≡ plus point (right_quarter scaled.now) }
-{
-    let x = point.x.to_wide() + scaled.y;
-    let y = point.y.to_wide() - scaled.x;
-    IntPoint::new(I::from_wide(x), I::from_wide(y))
 }
 
 /// The point to the left of `point` by the length of a vector, which has to be safe.

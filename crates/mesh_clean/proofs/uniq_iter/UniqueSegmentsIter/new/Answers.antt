@@ -1,7 +1,7 @@
 use Rattle.std.proofs.Common.{◌∷◌, sym, ◌∙◌, ap, subst}
 use Rattle.mesh_plane.specs.Bounds.{IsSafe}
 use Rattle.mesh_plane.specs.Winding.{winding}
-use Rattle.mesh_clean.specs.Cleaned.{cleaned_sections, AllEqual, IsClean}
+use Rattle.mesh_clean.specs.Cleaned.{cleaned_sections, AllEqual, IsCleanContour}
 use Rattle.mesh_clean.proofs.CleaningStart.{started-cleaned}
 use Rattle.mesh_clean.proofs.CleaningSteps.{started_on, started_here, started_never, cleaned-clean, cleaned-winding, equal-winding, all_begun, not_equal, first_of_all, second_of_all, next_of_all, all_without_second, all_closed_here, all_closed}
 use Rattle.mesh_clean.proofs.uniq_iter.UniqueSegmentsIter.new.Goals as goal
@@ -54,7 +54,7 @@ returns-then-turns_at-clause-sections g c = (
 pub returns-then-turns_at-clause-clean : goal.returns-then-turns_at-clause-clean
 returns-then-turns_at-clause-clean g c =
     let s = returns-then-turns_at-clause-sections g c in
-    subst IsClean (sym s.1) (cleaned-clean c.args.points.now s.0)
+    subst IsCleanContour (sym s.1) (cleaned-clean c.args.points.now s.0)
 
 pub returns-then-turns_at-clause-winding : goal.returns-then-turns_at-clause-winding
 returns-then-turns_at-clause-winding g c m q =
@@ -72,7 +72,7 @@ returns-clause-sections g c = (
 pub returns-clause-clean : goal.returns-clause-clean
 returns-clause-clean g c =
     let s = returns-clause-sections g c in
-    subst IsClean (sym s.1) (cleaned-clean c.args.points.now s.0)
+    subst IsCleanContour (sym s.1) (cleaned-clean c.args.points.now s.0)
 
 pub returns-clause-winding : goal.returns-clause-winding
 returns-clause-winding g c m q = ap (winding m q) (returns-clause-sections g c).1 ∙ cleaned-winding m q c.args.points.now

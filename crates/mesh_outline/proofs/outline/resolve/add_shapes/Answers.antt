@@ -2,11 +2,11 @@
 use Rattle.std.proofs.Common.{◌++◌, sym, ap, ◌∙◌}
 use Rattle.std.proofs.lemmas.List.{append-nil}
 use Rattle.mesh_num.specs.Segments.{segments_of}
-use Rattle.mesh_draw.proofs.Adding.{along-none, shape_more, shapes_all}
+use Rattle.mesh_draw.proofs.Adding.{in_sense-none, shape_more, shapes_all}
 use Rattle.mesh_outline.proofs.outline.resolve.add_shapes.Goals as goal
 
 pub loop-shape-init : goal.loop-shape-init
-loop-shape-init g c = sym (ap (λ es. c.args.segments.now.items ++ segments_of es) (along-none c.args.fill) ∙ append-nil c.args.segments.now.items)
+loop-shape-init g c = sym (ap (λ es. c.args.segments.now.items ++ segments_of es) (in_sense-none c.args.fill) ∙ append-nil c.args.segments.now.items)
 
 pub loop-shape-preserved : goal.loop-shape-preserved
 loop-shape-preserved g c =
