@@ -1,11 +1,11 @@
 -- Lemmas over lists: neighbouring pairs, routes, and the last.
-use Rattle.std.proofs.Common.{◌≡◌, ◌+◌, List, [], ◌∷◌, ◌++◌, length, append_assoc, arith}
+use Rattle.std.proofs.Common.{◌≡◌, List, [], ◌∷◌, ◌++◌, append_assoc, arith}
 use Rattle.std.specs.Prelude.{ℤ, ◌+ℤ◌, ◌-ℤ◌}
 use Rattle.std.specs.List.{All, flat_map}
 use Rattle.std.specs.List.Sorted.{IsPermutation}
 use Rattle.std.proofs.lemmas.List.Elements.{All-nil, All-cons, All-head, All-tail}
 use Rattle.std.proofs.lemmas.List.Sorted.{IsPermutation-refl, IsPermutation-trans, IsPermutation-append}
-use Rattle.mesh_plane.specs.Winding.{route, sum_of}
+use Rattle.mesh_plane.specs.Winding.{sum_of}
 use Rattle.mesh_plane.proofs.ClosedLists.{woven, regrouped}
 use Rattle.mesh_plane.proofs.Whole.{linear}
 use Rattle.mesh_plane.specs.Ways.{last_of}

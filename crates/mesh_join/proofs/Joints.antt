@@ -1,5 +1,5 @@
 -- Lemmas over points: what the steps of joins need to know of a corner.
-use Rattle.std.proofs.Common.{◌≡◌, ℕ, ◌*◌, ◌<◌, ◌≤◌, true, ap, sym, arith}
+use Rattle.std.proofs.Common.{◌≡◌, ℕ, ◌*◌, ◌<◌, ◌≤◌, ap, sym, arith}
 use Rattle.std.specs.Prelude.{ℤ, pos, negsuc, ◌*ℤ◌, ◌≤ℤ◌, int_le, unsigned_abs}
 use Rattle.std.proofs.lemmas.Int.{ints}
 use Rattle.mesh_plane.specs.Bounds.{IsSafe}

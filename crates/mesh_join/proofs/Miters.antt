@@ -1,5 +1,5 @@
 -- Lemmas over points: what the theory of outlines needs of miters.
-use Rattle.std.proofs.Common.{◌≡◌, ℕ, ◌+◌, ◌^◌, ◌≤◌, ◌*◌, ◌/◌, Bool, true, false, refl, sym, ap, arith, [], List, length, ◌∙◌}
+use Rattle.std.proofs.Common.{◌≡◌, ℕ, ◌^◌, ◌≤◌, ◌*◌, ◌/◌, Bool, true, false, refl, sym, ap, arith, [], List, length, ◌∙◌}
 use Rattle.std.specs.Prelude.{ℤ, pos, negsuc, ◌*ℤ◌, ◌≤ℤ◌, ◌+ℤ◌, ◌-ℤ◌, cond, zero, suc, ◌∷◌, unsigned_abs, ◌&&◌, int_le, Option, Some, None}
 use Rattle.std.specs.List.{All, list_all}
 use Rattle.std.specs.Ordering.{int_eq}

@@ -1,11 +1,11 @@
 -- Lemmas over lists: the neighbours and the edges of a list that is read backwards.
-use Rattle.std.proofs.Common.{◌≡◌, List, [], ◌∷◌, ◌++◌, refl, sym, ◌∙◌, ap, append-nil, arith}
+use Rattle.std.proofs.Common.{◌≡◌, List, [], ◌∷◌, ◌++◌, refl, ◌∙◌, ap, append-nil, arith}
 use Rattle.std.specs.Prelude.{Bool, true, false, cond, not, reverse, ℤ}
 use Rattle.std.proofs.lemmas.List.{reverse-append}
-use Rattle.mesh_plane.specs.Plane.{Point, Edge}
+use Rattle.mesh_plane.specs.Plane.{Edge}
 use Rattle.mesh_plane.specs.Winding.{route, boundary, same_point, sum_of}
 use Rattle.mesh_plane.proofs.ClosedLists.{route_append, boundary_rotated}
-use Rattle.mesh_plane.proofs.Comparing.{decides_point, points_swap}
+use Rattle.mesh_plane.proofs.Comparing.{points_swap}
 use Rattle.mesh_plane.proofs.Sums.{sum_of_append}
 use Rattle.mesh_plane.proofs.Whole.{linear}
 use Rattle.mesh_plane.specs.Ways.{last_of}

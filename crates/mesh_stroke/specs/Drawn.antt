@@ -2,7 +2,7 @@
 use Rattle.std.specs.Prelude.{ℕ, ◌≡◌, Bool, ◌&&◌, ◌||◌, IsTrue, List, pos, count_by}
 use Rattle.std.specs.List.{All}
 use Rattle.mesh_plane.specs.Plane.{Point, Edge}
-use Rattle.mesh_plane.specs.Winding.{IsBalanced, IsBit, boundary, winding, crossing_on, pieces_total, holds}
+use Rattle.mesh_plane.specs.Winding.{IsBalanced, IsBit, boundary, winding, holds}
 use Rattle.mesh_cuts.specs.Reach.{AreEdgesSafe}
 use Rattle.mesh_draw.specs.Padding.{AreEndsNear}
 use Rattle.mesh_draw.specs.Pieces.{WindAsPieces}

@@ -1,5 +1,5 @@
 -- Both products fit 128 bits.
-use Rattle.std.proofs.Common.{◌≡◌, ◌≤◌, ◌^◌, arith, lit<}
+use Rattle.std.proofs.Common.{◌^◌, arith, lit<}
 use Rattle.std.specs.Prelude.{◌*ℤ◌}
 use Rattle.std.proofs.lemmas.Int.{to_z-of_z, fits_signed_mul, ints}
 use mir.Syntax.{w32, w128}

@@ -1,13 +1,13 @@
 -- The directions are lent as they were built, and every arc keeps the laws of gaps.
-use Rattle.std.proofs.Common.{◌≡◌, ◌≤◌, ◌<◌, ◌^◌, refl, sym, ◌∙◌, rules, subst, ap, length, List, arith}
-use Rattle.std.specs.Prelude.{Ok, IsErr, ℤ, pos, ◌≤ℤ◌}
+use Rattle.std.proofs.Common.{◌≡◌, ◌<◌, ◌^◌, refl, sym, ◌∙◌, rules, subst, ap, List, arith}
+use Rattle.std.specs.Prelude.{IsErr, pos, ◌≤ℤ◌}
 use Rattle.mesh_plane.specs.Plane.{Point}
 use Rattle.mesh_grid.specs.Direction.{IsShort}
 use Rattle.mesh_arc.specs.Arcs.{bound_of, arc}
 use Rattle.mesh_arc.specs.Building.{Building}
 use Rattle.mesh_arc.specs.declared.arc.ArcOptions.{ArcOptions}
 use Rattle.std.proofs.lemmas.Bool.{true≢false}
-use Rattle.mesh_arc.specs.Gaps.{HasNearGaps, ReachesEnd, NoStepFails, default_options}
+use Rattle.mesh_arc.specs.Gaps.{HasNearGaps, ReachesEnd}
 use Rattle.mesh_arc.proofs.FineSteps.{fresh_nonzero}
 use Rattle.mesh_arc.proofs.Answering.{if_ok_of_err, built_passed, steps_of_units}
 use Rattle.mesh_arc.proofs.Gaps.{arc_gaps, arc_reaches}

@@ -1,8 +1,8 @@
 -- What is filled is the arc of the options.
-use Rattle.std.proofs.Common.{◌≡◌, ◌≤◌, refl, sym, ◌∙◌, subst, ap, arith, length, vec_capacity, List}
-use Rattle.std.specs.Prelude.{OnOk, IsOk}
+use Rattle.std.proofs.Common.{◌≡◌, ◌≤◌, refl, subst, ap, arith, length, List}
+use Rattle.std.specs.Prelude.{OnOk}
 use Rattle.mesh_plane.specs.Plane.{Point}
-use Rattle.mesh_arc.specs.Arcs.{step_of, bound_of, stepped, arc}
+use Rattle.mesh_arc.specs.Arcs.{step_of, bound_of, stepped}
 use Rattle.mesh_arc.specs.Building.{Building}
 use Rattle.mesh_arc.proofs.Filling.{arc_is}
 use Rattle.mesh_arc.proofs.arc.IntegerArc.rebuild.Goals as goal

@@ -1,6 +1,5 @@
 -- The list is that of the definition, or there is none.
-use Rattle.std.proofs.Common.{◌≡◌, ◌≤◌, sym, ◌∙◌, arith, length, vec_capacity}
-use Rattle.mesh_arc.specs.Arcs.{stepped}
+use Rattle.std.proofs.Common.{sym, ◌∙◌, arith}
 use Rattle.mesh_arc.proofs.Filling.{stepped_none, stepped_some, stepped_count}
 use Rattle.mesh_arc.proofs.steps.Steps.fill.Goals as goal
 
