@@ -1,10 +1,11 @@
 -- Lemmas over segments that parts of the plane list.
-use Rattle.std.proofs.Common.{◌≡◌, ◌⊎◌, inl, inr, ⊎_elim, Bool, true, false, cond, filter, ℕ, zero, suc, ◌+◌, ◌<◌, ◌≤◌, sym, ◌∙◌, ap, subst, refl, arith, List, [], ◌∷◌, ◌++◌, length, length-append, get_or, below_more}
+use Rattle.std.proofs.Common.{◌≡◌, ◌⊎◌, ⊎_elim, Bool, true, false, cond, filter, ℕ, zero, suc, ◌+◌, ◌<◌, ◌≤◌, sym, ◌∙◌, ap, subst, refl, arith, List, [], ◌∷◌, ◌++◌, length, length-append, get_or, below_more}
 use Rattle.std.specs.Prelude.{ℤ, pos, ◌<ℤ◌, Option, Some, None, MatchOption}
 use Rattle.std.proofs.Math.ListN.{get_or-append}
 use Rattle.std.proofs.Math.Seq.{get_or-append_seam}
 use Rattle.std.proofs.lemmas.List.{get_or_default}
 use Rattle.std.proofs.lemmas.Bool.{both_ways}
+use Rattle.std.specs.Map.{keys_of}
 use Rattle.mesh_plane.specs.Plane.{Edge}
 use Rattle.mesh_plane.proofs.Whole.{linear}
 use Rattle.mesh_cuts.specs.Counted.{Counted, bit}
@@ -128,6 +129,18 @@ listed_fewer listed live live' fewer f e h = f e (fewer e h)
 
 pub listed_kept : (old new : Place → List Edge) (live : List Counted) → KeepsListed old new → AreListed old live → AreListed new live
 listed_kept old new live k f e lives c reach = k e c reach (f e lives c reach)
+
+-- what lives stands among the ends of all that live
+pub stands_listed : (e : Edge) (ks : List Counted) → pos 0 <ℤ exactly e ks → IsListed e (keys_of ks)
+stands_listed e [] h = absurd (omega (arith, linear, h))
+stands_listed e (k ∷ ks) h = first_or_later e k ks h (same_edge e k.0) refl (stands_listed e ks)
+  where
+    first_or_later : (e : Edge) (k : Counted) (ks : List Counted) → pos 0 <ℤ exactly e (k ∷ ks) → (b : Bool) → same_edge e k.0 ≡ b
+        → (pos 0 <ℤ exactly e ks → IsListed e (keys_of ks)) → IsListed e (keys_of (k ∷ ks))
+    first_or_later e k ks h true t later = record { at = 0; within = omega arith; same = λ d. sym ((decides_edge e k.0).0 t) }
+    first_or_later e k ks h false t later =
+        let l = later (omega (arith, linear, ap bit t, h)) in
+        record { at = suc l.at; within = omega (arith, l.within); same = λ d. l.same d }
 
 -- one that lives no more is no longer listed
 pub listed_without : (old new : Place → List Edge) (live : List Counted) (s : Edge) → exactly s live ≡ pos 0 → KeepsOthers s old new → AreListed old live → AreListed new live

@@ -1,12 +1,12 @@
 -- Lemmas over points: where two segments meet, both reach the same side of each line.
-use Rattle.std.proofs.Common.{◌≡◌, ℕ, ◌⊎◌, inl, inr, ⊎_elim, Bool, true, false, cond, sym, ◌∙◌, subst, refl, arith, [], ◌∷◌}
+use Rattle.std.proofs.Common.{◌≡◌, ℕ, ◌⊎◌, ⊎_elim, Bool, true, false, cond, sym, ◌∙◌, subst, refl, arith, [], ◌∷◌}
 use Rattle.std.specs.Prelude.{ℤ, pos, ◌+ℤ◌, ◌-ℤ◌, ◌*ℤ◌, ◌≤ℤ◌, ◌<ℤ◌, neg_ℤ, ◌||◌, not, int_lt}
 use Rattle.std.proofs.lemmas.Int.{ints}
 use Rattle.mesh_plane.specs.Plane.{Point, Edge, turn}
 use Rattle.mesh_plane.proofs.Whole.{linear, square_nonneg, mul_nonneg, mul_nonpos, nonneg_of_mul, factor, zero_mul}
 use Rattle.mesh_plane.proofs.Ring.{ring, var, neg, ◌⊕◌, ◌⊖◌, ◌⊗◌}
 use Rattle.mesh_plane.proofs.Places.{place, coordinates, turned}
-use Rattle.mesh_cuts.specs.Split.{IsBetween, IsInside, IsCrossing, AreOpposite, crossing_at, rounded_quotient, Meets, at_start_of_second, at_end_of_second, at_start_of_first, at_end_of_first, at_crossing}
+use Rattle.mesh_cuts.specs.Split.{IsBetween, IsInside, IsCrossing, crossing_at, rounded_quotient, Meets, at_start_of_second, at_end_of_second, at_start_of_first, at_end_of_first, at_crossing}
 use Rattle.mesh_cuts.proofs.Boxes.{between_start, between_end, crossing_between, quotient_flip, turns_differ, parted}
 use Rattle.mesh_split.specs.declared.tree.Cut.{Cut}
 use Rattle.mesh_split.specs.Midway.Parts.{Place, IsAt, height}

@@ -40,7 +40,7 @@ impl Store {
     pub fn new(alloc: Global, edges: &[GridEdge]) -> Result<Self, AllocError>
         ensures { IfOk result (λ s. s ≡ []) }
     {
-        let plane = Tree::for_edges(alloc, edges, DEPTH)?;
+        let plane = Tree::for_edges(alloc, edges, false, DEPTH)?;
         Ok(Store {
             live: Tally::new(alloc),
             plane,
@@ -79,8 +79,20 @@ impl Store {
         requires absent { times s.0 self.old ≡ pos 0 }
         ensures { OnOk result (IsPut self.old self.new s) }
     {
-        self.plane.put(self.alloc, s.0, DEPTH)?;
+        let crowded = self.plane.put(self.alloc, s.0, DEPTH)?;
         self.live.insert(s)?;
+        if crowded {
+            self.part_anew()?;
+        }
+        Ok(())
+    }
+
+    /// Lists the live segments in a plane whose parts serve for them.
+    fn part_anew(&mut self) -> Result<(), AllocError>
+        ensures { self.new ≡ self.old }
+    {
+        let ends = self.live.ends(self.alloc)?;
+        self.plane = Tree::for_edges(self.alloc, &ends, true, DEPTH)?;
         Ok(())
     }
 

@@ -20,8 +20,9 @@ use std::alloc::{AllocError, Global};
 /// Up to so many segments a part lists before it is parted.
 const FEW: usize = 16;
 
-/// No part of the plane lies under more cuts.
-pub const DEPTH: usize = 64;
+/// No part of the plane lies under more cuts. Where one would, as where a run of splits goes on along a line, all cuts
+/// are chosen anew.
+pub const DEPTH: usize = 1024;
 
 /// About how many segments a cut is chosen from.
 const SAMPLED: usize = 64;
@@ -298,6 +299,18 @@ fn parted(alloc: Global, listed: Vec<GridEdge>, full: usize) -> Result<Tree, All
     Ok(Tree::Fork(low, cut, high))
 }
 
+/// A part that lists these, or none.
+fn leaf_for(alloc: Global, edges: &[GridEdge], lists: bool) -> Result<Tree, AllocError>
+    ensures { lists ≡ true → IfOk result (λ n. (x : Edge) → IsListed x edges.now → HasListed (listed_at n) x) }
+{
+    if !lists {
+        return Ok(Tree::Leaf(Vec::new(alloc), FEW));
+    }
+    let listed = Vec::from_slice(alloc, edges)?;
+    let full = listed.len().saturating_mul(2).max(FEW);
+    Ok(Tree::Leaf(listed, full))
+}
+
 /// A side of a cut: whether it is the one below.
 type Side = (Cut, bool);
 
@@ -312,54 +325,60 @@ fn is_first(sides: &[Side], s: GridEdge, e: GridEdge) -> bool {
 }
 
 impl Tree {
-    /// A part that lists nothing.
-    fn leaf(alloc: Global) -> Tree {
-        Tree::Leaf(Vec::new(alloc), FEW)
-    }
-
-    /// The plane in parts that serve for these edges, none of which is listed.
-    pub fn for_edges(alloc: Global, edges: &[GridEdge], depth: usize) -> Result<Tree, AllocError> {
+    /// The plane in parts that serve for these edges, which are listed or not.
+    pub fn for_edges(
+        alloc: Global,
+        edges: &[GridEdge],
+        lists: bool,
+        depth: usize,
+    ) -> Result<Tree, AllocError>
+        ensures { lists ≡ true → IfOk result (λ n. (x : Edge) → IsListed x edges.now → HasListed (listed_at n) x) }
+    {
         if depth == 0 || edges.len() <= FEW {
-            return Ok(Tree::leaf(alloc));
+            return leaf_for(alloc, edges, lists);
         }
         let Some(cut) = best_cut(alloc, edges)? else {
-            return Ok(Tree::leaf(alloc));
+            return leaf_for(alloc, edges, lists);
         };
         let low = on_side(alloc, edges, cut, true)?;
-        let low = Tree::for_edges(alloc, &low, depth - 1)?;
+        let low = Tree::for_edges(alloc, &low, lists, depth - 1)?;
         let high = on_side(alloc, edges, cut, false)?;
-        let high = Tree::for_edges(alloc, &high, depth - 1)?;
+        let high = Tree::for_edges(alloc, &high, lists, depth - 1)?;
         Ok(Tree::Fork(Box::new(alloc, low)?, cut, Box::new(alloc, high)?))
     }
 
-    /// Lists a segment in each part that it reaches, and parts those further that list too many. Where memory is
-    /// refused, some of them may list it.
-    pub fn put(&mut self, alloc: Global, e: GridEdge, depth: usize) -> Result<(), AllocError>
+    /// Lists a segment in each part that it reaches, and parts those further that list too many. Answers whether one
+    /// lies under too many cuts for that and lists twice as many as when that was told last, so that new cuts would serve
+    /// better. Where memory is refused, some of them may list it.
+    pub fn put(&mut self, alloc: Global, e: GridEdge, depth: usize) -> Result<bool, AllocError>
         ensures kept { KeepsListed (listed_at self.old) (listed_at self.new) }
         ensures listed { OnOk result (HasListed (listed_at self.new) e) }
     {
         match self {
             Tree::Leaf(listed, full) => {
                 if listed.len() < *full || depth == 0 {
+                    let crowded = listed.len() >= *full && listed.len().is_power_of_two();
                     listed.push(e)?;
-                    return Ok(());
+                    return Ok(crowded);
                 }
                 let mut more = Vec::from_slice(alloc, listed)?;
                 more.push(e)?;
                 *self = parted(alloc, more, *full)?;
-                Ok(())
+                Ok(false)
             }
             Tree::Fork(low, cut, high) => {
                 let deeper = depth.saturating_sub(1);
                 let below = reaches(*cut, e, true);
                 let beyond = reaches(*cut, e, false);
+                let mut crowded = false;
                 if below {
-                    low.put(alloc, e, deeper)?;
+                    crowded = low.put(alloc, e, deeper)?;
                 }
                 if beyond {
-                    high.put(alloc, e, deeper)?;
+                    let other = high.put(alloc, e, deeper)?;
+                    return Ok(crowded | other);
                 }
-                Ok(())
+                Ok(crowded)
             }
         }
     }

@@ -4,23 +4,23 @@ use Rattle.mesh_split.specs.declared.tree.Tree.{Tree}
 use Rattle.mesh_split.specs.Midway.Parts.{reaches, listed_at, IsListed, HasListed, KeepsListed}
 use Rattle.mesh_split.proofs.Listing.{listed_more, kept_same, fork_keeps, fork_lists}
 use Rattle.mesh_split.proofs.tree.Tree.+put.Goals as goal
-use Rattle.mesh_split.proofs.tree.Tree.+put.Goals.{then-below+in_ok-put-in-Fork, else-below}
+use Rattle.mesh_split.proofs.tree.Tree.+put.Goals.{then-below+in_ok-crowded-in-Fork, else-below}
 
-pub returns-in_err-put-in-Fork-clause-kept : goal.returns-in_err-put-in-Fork-clause-kept
-returns-in_err-put-in-Fork-clause-kept t c = λ e p reach l.
+pub returns-in_err-crowded-in-Fork-clause-kept : goal.returns-in_err-crowded-in-Fork-clause-kept
+returns-in_err-crowded-in-Fork-clause-kept t c = λ e p reach l.
     fork_keeps c.in-Fork.cut (listed_at c.in-Fork.low.value) (listed_at c.in-Fork.high.value) (listed_at c.put.new.self) (listed_at c.in-Fork.high.value)
-    (rw c.deref_mut.ensures.value at c.in_err-put-in-Fork.ensures.kept) (kept_same (listed_at c.in-Fork.high.value)) e p reach
+    (rw c.deref_mut.ensures.value at c.in_err-crowded-in-Fork.ensures.kept) (kept_same (listed_at c.in-Fork.high.value)) e p reach
     (subst (λ (z : Tree). IsListed e (listed_at z p)) c.in-Fork.is l)
 
-pub returns-in_err-put-in-Fork-2-clause-kept : goal.returns-in_err-put-in-Fork-2-clause-kept
-returns-in_err-put-in-Fork-2-clause-kept t c = λ e p reach l.
+pub returns-in_err-other-in-Fork-clause-kept : goal.returns-in_err-other-in-Fork-clause-kept
+returns-in_err-other-in-Fork-clause-kept t c = λ e p reach l.
     let low : KeepsListed (listed_at c.in-Fork.low.value) (listed_at c.if-below.self.1.1.0.value) =
     elim c.if-below.branch [
-      | then-below+in_ok-put-in-Fork w ↦ rw w.self-is (rw w.deref_mut.ensures.value at w.in_ok-put-in-Fork.ensures.kept)
+      | then-below+in_ok-crowded-in-Fork w ↦ rw w.self-is (rw w.deref_mut.ensures.value at w.in_ok-crowded-in-Fork.ensures.kept)
       | else-below w ↦ rw w.self-is (kept_same (listed_at c.in-Fork.low.value))
     ] in
     fork_keeps c.in-Fork.cut (listed_at c.in-Fork.low.value) (listed_at c.in-Fork.high.value) (listed_at c.if-below.self.1.1.0.value) (listed_at c.put-then-beyond.new.self)
-    low (rw c.deref_mut-then-beyond.ensures.value at c.in_err-put-in-Fork-2.ensures.kept) e p reach
+    low (rw c.deref_mut-then-beyond.ensures.value at c.in_err-other-in-Fork.ensures.kept) e p reach
     (subst (λ (z : Tree). IsListed e (listed_at z p)) c.in-Fork.is l)
 
 pub returns-in_ok-self-in-Leaf-clause-kept : goal.returns-in_ok-self-in-Leaf-clause-kept
@@ -29,31 +29,31 @@ returns-in_ok-self-in-Leaf-clause-kept t c = λ e p reach l.
     let left : IsListed e c.in_ok-more-in-Leaf.more.items = rw c.in_ok-more-in-Leaf.ensures.items (rw c.deref.ensures.value was) in
     c.in_ok-self-in-Leaf.ensures e (rw c.in_ok-push-in-Leaf-2.ensures.items (listed_more e c.in_ok-more-in-Leaf.more.items _ left)) p reach
 
-pub returns-in_ok-put-in-Fork-2-clause-kept : goal.returns-in_ok-put-in-Fork-2-clause-kept
-returns-in_ok-put-in-Fork-2-clause-kept t c = λ e p reach l.
+pub returns-then-beyond-clause-kept : goal.returns-then-beyond-clause-kept
+returns-then-beyond-clause-kept t c = λ e p reach l.
     let low : KeepsListed (listed_at c.in-Fork.low.value) (listed_at c.if-below.self.1.1.0.value) =
     elim c.if-below.branch [
-      | then-below+in_ok-put-in-Fork w ↦ rw w.self-is (rw w.deref_mut.ensures.value at w.in_ok-put-in-Fork.ensures.kept)
+      | then-below+in_ok-crowded-in-Fork w ↦ rw w.self-is (rw w.deref_mut.ensures.value at w.in_ok-crowded-in-Fork.ensures.kept)
       | else-below w ↦ rw w.self-is (kept_same (listed_at c.in-Fork.low.value))
     ] in
     fork_keeps c.in-Fork.cut (listed_at c.in-Fork.low.value) (listed_at c.in-Fork.high.value) (listed_at c.if-below.self.1.1.0.value) (listed_at c.put-then-beyond.new.self)
-    low (rw c.deref_mut-then-beyond.ensures.value at c.in_ok-put-in-Fork-2.ensures.kept) e p reach
+    low (rw c.deref_mut-then-beyond.ensures.value at c.in_ok-other-in-Fork.ensures.kept) e p reach
     (subst (λ (z : Tree). IsListed e (listed_at z p)) c.in-Fork.is l)
 
-pub returns-in_ok-put-in-Fork-2-clause-listed : goal.returns-in_ok-put-in-Fork-2-clause-listed
-returns-in_ok-put-in-Fork-2-clause-listed t c =
+pub returns-then-beyond-clause-listed : goal.returns-then-beyond-clause-listed
+returns-then-beyond-clause-listed t c =
     let low : reaches c.in-Fork.cut c.args.e true ≡ true → HasListed (listed_at c.if-below.self.1.1.0.value) c.args.e =
     elim c.if-below.branch [
-      | then-below+in_ok-put-in-Fork w ↦ λ e. rw w.self-is w.in_ok-put-in-Fork.ensures.listed
+      | then-below+in_ok-crowded-in-Fork w ↦ λ e. rw w.self-is w.in_ok-crowded-in-Fork.ensures.listed
       | else-below w ↦ λ e. absurd (true≢false (sym e ∙ sym c.reaches-below.ensures ∙ w.if-below.false))
     ] in
-    fork_lists c.in-Fork.cut (listed_at c.if-below.self.1.1.0.value) (listed_at c.put-then-beyond.new.self) c.args.e low (λ e. c.in_ok-put-in-Fork-2.ensures.listed)
+    fork_lists c.in-Fork.cut (listed_at c.if-below.self.1.1.0.value) (listed_at c.put-then-beyond.new.self) c.args.e low (λ e. c.in_ok-other-in-Fork.ensures.listed)
 
 pub returns-else-beyond-clause-kept : goal.returns-else-beyond-clause-kept
 returns-else-beyond-clause-kept t c = λ e p reach l.
     let low : KeepsListed (listed_at c.in-Fork.low.value) (listed_at c.if-below.self.1.1.0.value) =
     elim c.if-below.branch [
-      | then-below+in_ok-put-in-Fork w ↦ rw w.self-is (rw w.deref_mut.ensures.value at w.in_ok-put-in-Fork.ensures.kept)
+      | then-below+in_ok-crowded-in-Fork w ↦ rw w.self-is (rw w.deref_mut.ensures.value at w.in_ok-crowded-in-Fork.ensures.kept)
       | else-below w ↦ rw w.self-is (kept_same (listed_at c.in-Fork.low.value))
     ] in
     fork_keeps c.in-Fork.cut (listed_at c.in-Fork.low.value) (listed_at c.in-Fork.high.value) (listed_at c.if-below.self.1.1.0.value) (listed_at c.in-Fork.high.value)
@@ -64,7 +64,7 @@ pub returns-else-beyond-clause-listed : goal.returns-else-beyond-clause-listed
 returns-else-beyond-clause-listed t c =
     let low : reaches c.in-Fork.cut c.args.e true ≡ true → HasListed (listed_at c.if-below.self.1.1.0.value) c.args.e =
     elim c.if-below.branch [
-      | then-below+in_ok-put-in-Fork w ↦ λ e. rw w.self-is w.in_ok-put-in-Fork.ensures.listed
+      | then-below+in_ok-crowded-in-Fork w ↦ λ e. rw w.self-is w.in_ok-crowded-in-Fork.ensures.listed
       | else-below w ↦ λ e. absurd (true≢false (sym e ∙ sym c.reaches-below.ensures ∙ w.if-below.false))
     ] in
     fork_lists c.in-Fork.cut (listed_at c.if-below.self.1.1.0.value) (listed_at c.in-Fork.high.value) c.args.e low
