@@ -1,14 +1,15 @@
 -- Lemmas over lines: what is answered or told is a reply.
-use Rattle.std.proofs.Common.{◌≡◌, ◌∙◌, ℕ, List, String, Global, Option, None, Result, Ok, Err, IfSome, IfOk, IsErrAnd, refl, sym, subst}
-use Rattle.std.specs.Prelude.{string_bytes, IsUtf8}
+use Rattle.std.proofs.Common.{◌≡◌, ◌∙◌, ℕ, List, String, Global, Option, None, Some, Result, Ok, Err, IfSome, IfOk, IsOk, IsErrAnd, refl, sym, subst}
+use Rattle.std.specs.Prelude.{string_bytes}
+use Rattle.std.proofs.lemmas.Bool.{false≢true}
 use Rattle.std.proofs.lemmas.Option.{none-some}
-use Rattle.std.specs.Io.KnownBytes.{Appends}
+use Rattle.std.specs.Io.KnownBytes.{Appends, IsAtEnd}
 use Rattle.mesh_draw.specs.declared.error.IntOutlineError.TheVariants.{CoordinateOutOfRange, OutOfMemory}
 use Rattle.mesh_request.specs.Failures.{failure_line, told_line}
 use Rattle.mesh_request.specs.Reading.{IsOfReading}
 use Rattle.mesh_request.specs.Requests.{Request}
 use Rattle.mesh_service.specs.Served.{IsAccepted}
-use Rattle.mesh_service.specs.Serving.{IsAnswer, IsRefused, IsReply, TellsRefusal, MetRefusal, request_in}
+use Rattle.mesh_service.specs.Serving.{IsAnswer, IsRefused, IsReply, TellsRefusal, MetRefusal, HoldsNoRequest, request_in}
 use Rattle.mesh_request.specs.declared.failure.Failure.{Failure}
 use Rattle.mesh_request.specs.declared.failure.Failure.TheVariants.{Unreadable, Refused}
 
@@ -17,12 +18,6 @@ pub reading_told : (left : Option (List ℕ)) (failure : Failure) → IsOfReadin
 reading_told left Unreadable h = IsReply.unreadable
 reading_told left (Refused CoordinateOutOfRange) h = absurd h
 reading_told left (Refused OutOfMemory) h = IsReply.no_memory
-
--- so a failure that is handed on is told
-pub told_reading : (left : Option (List ℕ)) (failure : Failure) (told : Result (String Global) Failure) →
-    IsErrAnd told (λ told_failure. told_failure ≡ failure) → IsOfReading failure → IsReply left (told_line told)
-told_reading left failure (Ok line) same h = absurd same
-told_reading left failure (Err told_failure) same h = rw same (reading_told left failure h)
 
 -- what answers the bytes that were left, or tells why there is no answer, is a reply
 pub responded : (left : Option (List ℕ)) (request : List ℕ) (told : Result (String Global) Failure) →
@@ -33,20 +28,33 @@ responded left request (Err Unreadable) known answered refused = IsReply.unreada
 responded left request (Err (Refused OutOfMemory)) known answered refused = IsReply.no_memory
 responded left request (Err (Refused CoordinateOutOfRange)) known answered refused = IsReply.refusal known (refused refl)
 
+-- what was left holds no request, where what was read holds none
+pub none_left : (left : Option (List ℕ)) (request : List ℕ) → IfSome left (λ xs. request ≡ xs) → HoldsNoRequest request → IfSome left HoldsNoRequest
+none_left None request known none = tt
+none_left (Some xs) request known none = subst HoldsNoRequest known none
+
+-- an answer that was told answers what was left
+pub answer_told : (left old new : Option (List ℕ)) (told : Result (String Global) Failure) →
+    IfOk told (λ line. (request : List ℕ) × IfSome left (λ bytes. request ≡ bytes) × IsAnswer request (string_bytes line)) →
+    Appends old new (told_line told) → IsOk told →
+    (request : List ℕ) × (line : List ℕ) × IfSome left (λ bytes. request ≡ bytes) × IsAnswer request line × Appends old new line
+answer_told left old new (Ok line) (request, known, answered) whole ok = (request, string_bytes line, known, answered, whole)
+answer_told left old new (Err failure) answered whole ok = absurd (false≢true ok)
+
 -- a refusal that was told is one that was met
-pub refusal_met : (left old new : Option (List ℕ)) (told : Result (String Global) Failure) →
-    (told ≡ Err (Refused CoordinateOutOfRange) → (request : List ℕ) × IfSome left (λ bytes. request ≡ bytes) × IsRefused request) →
-    Appends old new (told_line told) → TellsRefusal told → MetRefusal left old new
-refusal_met left old new (Ok line) refused whole here = absurd here
-refusal_met left old new (Err Unreadable) refused whole here = absurd here
-refusal_met left old new (Err (Refused OutOfMemory)) refused whole here = MetRefusal.of_memory whole
-refusal_met left old new (Err (Refused CoordinateOutOfRange)) refused whole here =
-    let (request, known, is_refused) = refused refl in
-    MetRefusal.of_range known is_refused whole
+pub refusal_met : (left unread old new : Option (List ℕ)) (told : Result (String Global) Failure) →
+    (told ≡ Err (Refused CoordinateOutOfRange) → (request : List ℕ) × IfSome left (λ bytes. request ≡ bytes) × IsAtEnd unread × IsRefused request) →
+    Appends old new (told_line told) → TellsRefusal told → MetRefusal left unread old new
+refusal_met left unread old new (Ok line) refused whole here = absurd here
+refusal_met left unread old new (Err Unreadable) refused whole here = absurd here
+refusal_met left unread old new (Err (Refused OutOfMemory)) refused whole here = MetRefusal.of_memory whole
+refusal_met left unread old new (Err (Refused CoordinateOutOfRange)) refused whole here =
+    let (request, known, ended, is_refused) = refused refl in
+    MetRefusal.of_range known ended is_refused whole
 
 -- the request that may not be answered is not answered, and not told to be unreadable
 pub refusal_told : (text : List ℕ) (told : Result (String Global) Failure) → IfOk told (λ line. IsAnswer text (string_bytes line)) →
-    (told ≡ Err Unreadable → IsUtf8 text → request_in text ≡ None) → IsRefused text → TellsRefusal told
+    (told ≡ Err Unreadable → HoldsNoRequest text) → IsRefused text → TellsRefusal told
 refusal_told text (Ok line) answered unreadable kept =
     let here : IfSome (request_in text) (λ r. IsAccepted r) = subst (λ (o : Option Request). IfSome o (λ r. IsAccepted r)) (sym answered.requested) answered.answered.accepted in
     absurd (kept.refused (subst (λ (o : Option Request). IfSome o (λ r. IsAccepted r)) kept.requested here))
@@ -55,6 +63,6 @@ refusal_told text (Err Unreadable) answered unreadable kept = absurd (none-some 
 
 -- nor where reading fails
 pub refusal_read : (text : List ℕ) (told : Result (String Global) Failure) (failure : Failure) → IsErrAnd told (λ told_failure. told_failure ≡ failure) →
-    (told ≡ Err Unreadable → IsUtf8 text → request_in text ≡ None) → IsRefused text → TellsRefusal told
+    (told ≡ Err Unreadable → HoldsNoRequest text) → IsRefused text → TellsRefusal told
 refusal_read text (Ok line) failure same unreadable kept = absurd same
 refusal_read text (Err e) failure same unreadable kept = refusal_told text (Err e) tt unreadable kept

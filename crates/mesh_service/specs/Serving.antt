@@ -1,6 +1,6 @@
 -- What the service answers to a request.
 use Rattle.std.specs.Prelude.{ℕ, ◌≡◌, List, ◌++◌, Option, Some, None, Result, Ok, Err, IfSome, IsUtf8, option_and_then, if◌then◌else◌}
-use Rattle.std.specs.Io.KnownBytes.{Appends}
+use Rattle.std.specs.Io.KnownBytes.{Appends, IsAtEnd}
 use Rattle.std.specs.Ordering.{int_cmp}
 use Rattle.std.specs.declared.alloc.Global.{Global}
 use Rattle.std.specs.declared.string.String.{String}
@@ -37,6 +37,10 @@ pub record IsRefused (text : List ℕ) : Type 0 where
   pub requested : request_in text ≡ Some request
   pub refused : IsAccepted request → ⊥
 
+-- the text, where it is in UTF-8, is no request
+abbrev pub HoldsNoRequest : List ℕ → Type 0
+HoldsNoRequest text = IsUtf8 text → request_in text ≡ None
+
 -- what is told is a refusal, of the range or of memory
 abbrev pub TellsRefusal : Result (String Global) Failure → Type 0
 TellsRefusal (Ok line) = ⊥
@@ -58,11 +62,9 @@ pub record AppendsBeginning (old new : Option (List ℕ)) (line : List ℕ) : Ty
   pub whole : line ≡ written ++ rest
   pub appended : Appends old new written
 
--- how a run ended in a refusal that was met, where the reader had these bytes left: the request may not be answered, and the line of
--- that was written whole; memory was refused, and the line of that was written whole; or a beginning of a reply was
--- written, which may be all of it: no contract tells when a writer fails
-pub data MetRefusal (left old new : Option (List ℕ)) : Type 0 where
-  of_range : {request : List ℕ} → IfSome left (λ bytes. request ≡ bytes) → IsRefused request
-      → Appends old new (failure_line (Refused CoordinateOutOfRange)) → MetRefusal left old new
-  of_memory : Appends old new (failure_line (Refused OutOfMemory)) → MetRefusal left old new
-  of_writing : {line : List ℕ} → IsReply left line → AppendsBeginning old new line → MetRefusal left old new
+-- the refusal that a run met, where the reader had these bytes left, and these when the run ended: the request, which was read
+-- to the end, may not be answered, or memory was refused; and the line of that was written whole
+pub data MetRefusal (left unread old new : Option (List ℕ)) : Type 0 where
+  of_range : {request : List ℕ} → IfSome left (λ bytes. request ≡ bytes) → IsAtEnd unread → IsRefused request
+      → Appends old new (failure_line (Refused CoordinateOutOfRange)) → MetRefusal left unread old new
+  of_memory : Appends old new (failure_line (Refused OutOfMemory)) → MetRefusal left unread old new

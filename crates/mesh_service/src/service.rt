@@ -1,14 +1,15 @@
 //! One run of the service, over any reader and writer.
 
-ghost use Rattle.std.specs.Prelude.{◌≡◌, ◌↔◌, Some, None, List, IsOk, OnOk, IfOk, IfSome, IsUtf8, string_bytes};
-ghost use Rattle.std.specs.Io.KnownBytes.{Appends};
+ghost use Rattle.std.specs.Prelude.{◌≡◌, ◌↔◌, ◌⊎◌, Some, None, List, IsOk, OnOk, IfOk, IfSome, string_bytes};
+ghost use Rattle.std.specs.Io.KnownBytes.{Appends, IsAtEnd};
 ghost use Rattle.std.specs.Ordering.{int_cmp};
 ghost use Rattle.serde_json.specs.View.{view};
 ghost use Rattle.mesh_service.specs.Lines.{by_values};
 ghost use Rattle.mesh_request.specs.Failures.{failure_line, told_line};
 ghost use Rattle.mesh_request.specs.Reading.{request_as, request_of};
 ghost use Rattle.mesh_service.specs.Served.{IsAccepted, Answers, AnswersAsked, MayNotBeAnswered};
-ghost use Rattle.mesh_service.specs.Serving.{request_in, IsAnswer, IsRefused, IsReply, AppendsBeginning, TellsRefusal, MetRefusal};
+ghost use Rattle.mesh_service.specs.Serving.{IsAnswer, IsRefused, IsReply, HoldsNoRequest};
+ghost use Rattle.mesh_service.specs.Serving.{AppendsBeginning, TellsRefusal, MetRefusal};
 
 use crate::answer::{edges_line, shapes_line};
 use crate::drawing;
@@ -29,69 +30,93 @@ use std::io::{Read, Write};
 pub enum Status {
     /// The answer was written.
     Answered,
-    /// The request was refused, or writing failed.
+    /// The request was refused, or there was no memory for it, and the line of that was written.
     Refused,
-    /// What was read is no request that is served, or reading failed.
+    /// What was read is no request that is served, and the line of that was written.
     Unreadable,
+    /// Reading failed, and the line of what is unreadable was written.
+    Unread,
+    /// Writing failed. A beginning of the line was written.
+    Unwritten,
 }
 
 impl Status {
-    /// The exit status of the process.
+    /// The exit status of the process: 0 for an answer; 1 where the request was refused, or writing failed; 2 for what is
+    /// no request, or where reading failed.
     pub fn code(self) -> u8
         ensures answered { result ≡ 0 ↔ (self ≡ Status.Answered) }
-        ensures refused { result ≡ 1 ↔ (self ≡ Status.Refused) }
-        ensures unreadable { result ≡ 2 ↔ (self ≡ Status.Unreadable) }
+        ensures refused { result ≡ 1 ↔ (self ≡ Status.Refused) ⊎ (self ≡ Status.Unwritten) }
+        ensures unreadable { result ≡ 2 ↔ (self ≡ Status.Unreadable) ⊎ (self ≡ Status.Unread) }
     {
         match self {
             Status::Answered => 0,
-            Status::Refused => 1,
-            Status::Unreadable => 2,
+            Status::Refused | Status::Unwritten => 1,
+            Status::Unreadable | Status::Unread => 2,
+        }
+    }
+
+    /// How a run ends whose answer, or the line of its failure, is written.
+    pub fn of(answer: &Result<String, Failure>) -> Self
+        ensures answered { result ≡ Status.Answered ↔ IsOk answer.now }
+        ensures refused { result ≡ Status.Refused ↔ TellsRefusal answer.now }
+        ensures unreadable { result ≡ Status.Unreadable ↔ (answer.now ≡ Err Failure.Unreadable) }
+    {
+        match answer {
+            Ok(_) => Status::Answered,
+            Err(Failure::Refused(_)) => Status::Refused,
+            Err(Failure::Unreadable) => Status::Unreadable,
         }
     }
 }
 
 /// Reads a request to the reader's end and writes its answer, one line, or the line of a failure.
 pub fn serve<R: Read, W: Write>(alloc: Global, reader: &mut R, writer: &mut W) -> Status
-    ensures answered { result ≡ Status.Answered → IfSome (R.remaining reader.old) (λ request. (line : List _)
+    ensures answered { result ≡ Status.Answered → (request : List _) × (line : List _)
+        × IfSome (R.remaining reader.old) (λ bytes. request ≡ bytes)
         × IsAnswer request line
-        × Appends (W.contents writer.old) (W.contents writer.new) line) }
-    ensures unreadable { result ≡ Status.Unreadable
+        × Appends (W.contents writer.old) (W.contents writer.new) line }
+    ensures unreadable { result ≡ Status.Unreadable → IfSome (R.remaining reader.old) HoldsNoRequest
+        × Appends (W.contents writer.old) (W.contents writer.new) (failure_line Failure.Unreadable) }
+    ensures unread { result ≡ Status.Unread
         → Appends (W.contents writer.old) (W.contents writer.new) (failure_line Failure.Unreadable) }
-    ensures refused { result ≡ Status.Refused
-        → MetRefusal (R.remaining reader.old) (W.contents writer.old) (W.contents writer.new) }
+    ensures refused { result ≡ Status.Refused → MetRefusal (R.remaining reader.old) (R.remaining reader.new)
+        (W.contents writer.old) (W.contents writer.new) }
+    ensures read { (result ≡ Status.Answered) ⊎ (result ≡ Status.Unreadable) → IsAtEnd (R.remaining reader.new) }
     ensures written { (line : List _)
         × IsReply (R.remaining reader.old) line
         × AppendsBeginning (W.contents writer.old) (W.contents writer.new) line }
 {
-    let answer = read_and_answer(alloc, reader);
+    let (answer, status) = read_and_answer(alloc, reader);
     match print(writer, &answer) {
-        Err(_) => Status::Refused,
-        Ok(()) => status_of(&answer),
+        Err(_) => Status::Unwritten,
+        Ok(()) => status,
     }
 }
 
-/// How a run ended whose answer, or the line of its failure, was written.
-fn status_of(answer: &Result<String, Failure>) -> Status
-    ensures answered { result ≡ Status.Answered ↔ IsOk answer.now }
-    ensures refused { result ≡ Status.Refused ↔ TellsRefusal answer.now }
-    ensures unreadable { result ≡ Status.Unreadable ↔ (answer.now ≡ Err Failure.Unreadable) }
+/// The answer to what the reader has left, or the failure in its place, and how a run ends that writes it.
+fn read_and_answer<R: Read>(alloc: Global, reader: &mut R) -> (Result<String, Failure>, Status)
+    ensures answered { IfOk result.0 (λ line. (request : List _)
+        × IfSome (R.remaining reader.old) (λ bytes. request ≡ bytes) × IsAnswer request (string_bytes line)) }
+    ensures refused { result.0 ≡ Err (Failure.Refused IntOutlineError.CoordinateOutOfRange)
+        → (request : List _) × IfSome (R.remaining reader.old) (λ bytes. request ≡ bytes)
+        × IsAtEnd (R.remaining reader.new) × IsRefused request }
+    ensures unreadable { result.1 ≡ Status.Unreadable → IfSome (R.remaining reader.old) HoldsNoRequest }
+    ensures read { (result.1 ≡ Status.Answered) ⊎ (result.1 ≡ Status.Unreadable) → IsAtEnd (R.remaining reader.new) }
+    ensures reply { IsReply (R.remaining reader.old) (told_line result.0) }
+    ensures ends_answered { result.1 ≡ Status.Answered → IsOk result.0 }
+    ensures ends_refused { result.1 ≡ Status.Refused → TellsRefusal result.0 }
+    ensures ends_unreadable { result.1 ≡ Status.Unreadable → result.0 ≡ Err Failure.Unreadable }
+    ensures ends_unread { result.1 ≡ Status.Unread → result.0 ≡ Err Failure.Unreadable }
 {
-    match answer {
-        Ok(_) => Status::Answered,
-        Err(Failure::Refused(_)) => Status::Refused,
-        Err(Failure::Unreadable) => Status::Unreadable,
+    match read_to_end(alloc, reader) {
+        Ok(request) => {
+            let answer = respond(alloc, &request);
+            let status = Status::of(&answer);
+            (answer, status)
+        }
+        Err(Failure::Unreadable) => (Err(Failure::Unreadable), Status::Unread),
+        Err(refused) => (Err(refused), Status::Refused),
     }
-}
-
-fn read_and_answer<R: Read>(alloc: Global, reader: &mut R) -> Result<String, Failure>
-    ensures answered { IfOk result (λ line. IfSome (R.remaining reader.old)
-        (λ request. IsAnswer request (string_bytes line))) }
-    ensures refused { result ≡ Err (Failure.Refused IntOutlineError.CoordinateOutOfRange)
-        → (request : List _) × IfSome (R.remaining reader.old) (λ bytes. request ≡ bytes) × IsRefused request }
-    ensures reply { IsReply (R.remaining reader.old) (told_line result) }
-{
-    let request = read_to_end(alloc, reader)?;
-    respond(alloc, &request)
 }
 
 /// The line that answers a request. It is made as a whole, so that nothing is printed before memory is refused.
@@ -99,7 +124,7 @@ pub fn respond(alloc: Global, request: &[u8]) -> Result<String, Failure>
     ensures answered { IfOk result (λ line. IsAnswer request.now (string_bytes line)) }
     ensures refused { result ≡ Err (Failure.Refused IntOutlineError.CoordinateOutOfRange) → IsRefused request.now }
     ensures not_accepted { IsRefused request.now → TellsRefusal result }
-    ensures unreadable { result ≡ Err Failure.Unreadable → IsUtf8 request.now → request_in request.now ≡ None }
+    ensures unreadable { result ≡ Err Failure.Unreadable → HoldsNoRequest request.now }
 {
     let value = parse(alloc, request)?;
     answer(alloc, &value)

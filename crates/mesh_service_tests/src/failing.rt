@@ -40,13 +40,13 @@ impl Read for FailingReader<'_> {
     }
 }
 
-/// An interrupted read is tried again; any other failure makes the request unreadable.
+/// An interrupted read is tried again; after any other failure the run ends unread, and not unreadable.
 #[test]
 fn readers(rt: HostRuntime) -> Result<(), Fail> {
     for (end, wanted, line) in [
         (None, Status::Answered, ANSWER),
-        (Some(ErrorKind::Other), Status::Unreadable, UNREADABLE),
-        (Some(ErrorKind::OutOfMemory), Status::Unreadable, UNREADABLE),
+        (Some(ErrorKind::Other), Status::Unread, UNREADABLE),
+        (Some(ErrorKind::OutOfMemory), Status::Unread, UNREADABLE),
     ] {
         let mut reader = FailingReader {
             left: REQUEST,
@@ -82,16 +82,16 @@ impl Write for FailingWriter {
     }
 }
 
-/// Where writing fails, the run is no success, whatever was to be written.
+/// Where writing fails, the run ends unwritten, whatever was to be written.
 #[test]
 fn writers(rt: HostRuntime) {
     for (text, room, wanted) in [
-        (REQUEST, 0, Status::Refused),
-        (REQUEST, 1, Status::Refused),
-        (REQUEST, 40, Status::Refused),
+        (REQUEST, 0, Status::Unwritten),
+        (REQUEST, 1, Status::Unwritten),
+        (REQUEST, 40, Status::Unwritten),
         (REQUEST, 70, Status::Answered),
-        (b"{", 0, Status::Refused),
-        (b"{", 24, Status::Refused),
+        (b"{", 0, Status::Unwritten),
+        (b"{", 24, Status::Unwritten),
         (b"{", 25, Status::Unreadable),
     ] {
         let mut reader = text;
@@ -118,5 +118,5 @@ impl Write for FailingFlush {
 fn failing_flush(rt: HostRuntime) {
     let mut reader = REQUEST;
     let status = serve(rt.alloc(), &mut reader, &mut FailingFlush);
-    assert_eq!(rt; status, Status::Refused);
+    assert_eq!(rt; status, Status::Unwritten);
 }

@@ -1,12 +1,26 @@
 -- What was read is answered, or the failure to read it is told.
-use Rattle.mesh_service.proofs.Replies.{told_reading, responded}
+use Rattle.std.proofs.lemmas.Result.{IfOk-weaker}
+use Rattle.mesh_service.specs.Serving.{IsReply}
+use Rattle.mesh_service.proofs.Replies.{reading_told, responded, none_left}
 use Rattle.mesh_service.proofs.service.read_and_answer.Goals as goal
 
-pub returns-in_err-request-clause-reply : goal.returns-in_err-request-clause-reply
-returns-in_err-request-clause-reply g c =
-    told_reading (g.R.Read.remaining c.args.reader.now) _ c.from_residual.result c.from_residual.ensures.1 c.in_err-request.ensures.err
+pub returns-in-Ok-clause-answered : goal.returns-in-Ok-clause-answered
+returns-in-Ok-clause-answered g c =
+    IfOk-weaker c.respond-answer.result _ _ (λ line answers. (c.in-Ok.request.items, c.in-Ok.ensures.bytes, answers))
+    (rw c.deref.ensures.value at c.respond-answer.ensures.answered)
 
-pub returns-clause-reply : goal.returns-clause-reply
-returns-clause-reply g c =
-    responded (g.R.Read.remaining c.args.reader.now) c.in_ok-request.request.items c.respond.result c.in_ok-request.ensures.bytes
-    (rw c.deref.ensures.value at c.respond.ensures.answered) (rw c.deref.ensures.value at c.respond.ensures.refused)
+pub returns-in-Ok-clause-unreadable : goal.returns-in-Ok-clause-unreadable
+returns-in-Ok-clause-unreadable g c ended =
+    none_left (g.R.Read.remaining c.args.reader.now) c.in-Ok.request.items c.in-Ok.ensures.bytes
+    (rw c.deref.ensures.value at (c.respond-answer.ensures.unreadable (c.of-status.ensures.unreadable.0 ended)))
+
+pub returns-in-Ok-clause-reply : goal.returns-in-Ok-clause-reply
+returns-in-Ok-clause-reply g c =
+    responded (g.R.Read.remaining c.args.reader.now) c.in-Ok.request.items c.respond-answer.result c.in-Ok.ensures.bytes
+    (rw c.deref.ensures.value at c.respond-answer.ensures.answered) (rw c.deref.ensures.value at c.respond-answer.ensures.refused)
+
+pub returns-in-Err-Unreadable-clause-reply : goal.returns-in-Err-Unreadable-clause-reply
+returns-in-Err-Unreadable-clause-reply g c = IsReply.unreadable
+
+pub returns-in-Err-clause-reply : goal.returns-in-Err-clause-reply
+returns-in-Err-clause-reply g c = reading_told (g.R.Read.remaining c.args.reader.now) c.in-Err.refused c.in-Err.ensures.err
