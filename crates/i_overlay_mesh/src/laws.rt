@@ -5,3 +5,7 @@ pub use mesh_outline::laws::{
     outlines_stay_safe,
 };
 pub use mesh_stroke::laws::strokes_can_be_reversed;
+pub use mesh_stroke_calls::laws::{stroke_edges_are_balanced, strokes_are_regions};
+pub use mesh_variable_calls::laws::{
+    variable_stroke_edges_are_balanced, variable_strokes_are_regions,
+};

@@ -1,4 +1,4 @@
--- Lemmas over lists: the edges that are drawn of many paths, one after another, can be resolved together.
+-- Lemmas over lists: the edges that are drawn of many paths, one after another, can be resolved together, into regions.
 use Rattle.std.proofs.Common.{◌≡◌, ℕ, ◌+◌, ◌<◌, List, [], ◌∷◌, ◌++◌, length, take, get_or, refl, sym, subst, ◌∙◌, ap}
 use Rattle.std.specs.List.{All, flat_map}
 use Rattle.std.specs.List.Sorted.{IsPermutation}
@@ -6,17 +6,25 @@ use Rattle.std.proofs.lemmas.List.{take_more, take-append-drop, append-nil}
 use Rattle.std.proofs.lemmas.List.Concat.{flat_map-append}
 use Rattle.std.proofs.lemmas.List.Elements.{All-nil, All-head, All-tail, All-append}
 use Rattle.std.proofs.lemmas.List.Sorted.{IsPermutation-refl, IsPermutation-sym, IsPermutation-append, All-permutation}
-use Rattle.mesh_plane.specs.Plane.{Edge}
+use Rattle.mesh_plane.specs.Plane.{Point, Edge}
 use Rattle.mesh_plane.specs.Winding.{IsBalanced}
 use Rattle.mesh_plane.proofs.Balance.{balanced_append, balanced_permutation}
 use Rattle.mesh_plane.proofs.ClosedLists.{all_flat_map}
 use Rattle.mesh_num.specs.Segments.{SignedEdge, edges_of, IsSubject}
 use Rattle.mesh_num.proofs.SegmentLists.{edges_of-append}
+use Rattle.mesh_cuts.specs.Clean.{IsProper}
+use Rattle.mesh_cuts.specs.FillRules.{filled}
 use Rattle.mesh_cuts.specs.Reach.{AreEdgesSafe}
+use Rattle.mesh_cuts.specs.declared.fill.FillRule.{FillRule}
+use Rattle.mesh_cuts.proofs.SoundCuts.{ProperEnds}
+use Rattle.mesh_shapes.specs.Resolution.{Choices, IsResolution}
 use Rattle.mesh_below.specs.Asked.{AreResolvable}
+use Rattle.mesh_below.specs.Laws.{AreRegions}
+use Rattle.mesh_below.proofs.AnswerRegions.{regions_made, filled_none}
 use Rattle.mesh_draw.specs.Adding.{Keeps, added, added_edges}
 use Rattle.mesh_draw.specs.Midway.{AreBuilt}
 use Rattle.mesh_draw.specs.Staying.{IsSafeResolving}
+use Rattle.mesh_draw.proofs.ProperEdges.{all_proper, proper_all, proper_permutation}
 use Rattle.mesh_draw.proofs.Staying.{IsSafeEdge, safe_resolving}
 
 -- `draw` gives the edges of each path
@@ -81,3 +89,26 @@ module _ {P : Type 0} (draw : P → List Edge) where
           (IsPermutation-sym (edges_of ss) (flat_map draw paths) h.same) (all_balanced paths balanced));
       safe = rw e (built_safe (edges_of ss) h.same);
     }
+
+  -- where the edges of each path are proper and balanced, so are those of all, in whatever order they were built
+  module _ (proper : (path : P) → IsProper (draw path)) (balanced : (path : P) → IsBalanced (draw path)) where
+    pub built_closed : (paths : List P) (built : List Edge) → IsPermutation built (flat_map draw paths)
+        → IsProper built × IsBalanced built
+    built_closed paths built same =
+        let back : IsPermutation (flat_map draw paths) built = IsPermutation-sym built (flat_map draw paths) same in
+        let each : All ProperEnds (flat_map draw paths) =
+        all_flat_map ProperEnds draw paths
+        (λ k d h. all_proper (draw (get_or paths k d)) (proper (get_or paths k d))) in (
+          proper_permutation (flat_map draw paths) built back (proper_all (flat_map draw paths) each),
+          balanced_permutation (flat_map draw paths) built back
+              (all_balanced paths (λ k d h. balanced (get_or paths k d))),
+        )
+
+    -- and their resolution is made of regions
+    pub built_regions : (fill : FillRule) (choices : Choices) (paths : List P) (answer : List (List (List Point)))
+        (built : List Edge) → IsPermutation built (flat_map draw paths)
+        → (resolution : IsResolution built (filled fill) choices answer)
+        → (made : AreRegions built (filled fill) choices answer) × (made.resolution ≡ resolution)
+    built_regions fill choices paths answer built same resolution =
+        let closed = built_closed paths built same in
+        regions_made built (filled fill) choices answer closed.0 closed.1 (filled_none fill) resolution

@@ -1,16 +1,24 @@
--- Lemmas over points and lists: edges whose ends are one point are left out, and add nothing to a sum.
+-- Lemmas over points and lists: edges whose ends are one point are left out, add nothing to a sum, and none of them stays.
 use Rattle.std.proofs.Common.{◌≡◌, ◌≤◌, List, [], ◌∷◌, ◌++◌, length, refl, ◌∙◌, ap, arith}
 use Rattle.std.specs.Prelude.{ℤ, pos, false, not}
-use Rattle.std.specs.List.{flat_map}
+use Rattle.std.specs.List.{All, flat_map}
+use Rattle.std.specs.List.Sorted.{IsPermutation}
 use Rattle.std.proofs.lemmas.Bool.{not-false}
-use Rattle.std.proofs.lemmas.List.Elements.{filter-append}
+use Rattle.std.proofs.lemmas.List.Elements.{All-nil, All-cons, All-head, All-tail, filter-append}
+use Rattle.std.proofs.lemmas.List.Sorted.{All-permutation}
 use Rattle.std.proofs.lemmas.List.Sums.{length-filter, count_by-le-length}
 use Rattle.mesh_plane.specs.Plane.{Point, Edge}
 use Rattle.mesh_plane.specs.Winding.{total, same_point, IsOdd}
 use Rattle.mesh_plane.proofs.Whole.{linear}
 use Rattle.mesh_plane.proofs.Sums.{sum_of_filter}
 use Rattle.mesh_plane.proofs.Comparing.{decides_point}
-use Rattle.mesh_num.specs.Segments.{proper_edges}
+use Rattle.mesh_num.specs.Segments.{proper_edges, segments_of}
+use Rattle.mesh_num.proofs.SegmentLists.{edges_of_segments}
+use Rattle.mesh_num.proofs.Subjects.{segments_of_subjects}
+use Rattle.mesh_cuts.specs.Clean.{IsProper}
+use Rattle.mesh_cuts.proofs.Each.{Each}
+use Rattle.mesh_cuts.proofs.SoundCuts.{ProperEnds, proper_each, each_proper}
+use Rattle.mesh_below.proofs.Subjects.{subjects_proper}
 
 module _ (f : Point → Point → ℤ) (odd : IsOdd f) where
   point_total : (e : Edge) → not (same_point e.0 e.1) ≡ false → f e.0 e.1 ≡ pos 0
@@ -39,3 +47,27 @@ proper_length es =
       length-filter (λ (e : Edge). not (same_point e.0 e.1)) es,
       count_by-le-length (λ (e : Edge). not (same_point e.0 e.1)) es,
     )
+
+-- ---- edges none of which ends where it starts
+
+-- those that are kept are such
+pub proper_kept : (es : List Edge) → IsProper (proper_edges es)
+proper_kept es = rw (edges_of_segments es) at (subjects_proper (segments_of es) (segments_of_subjects es))
+
+each_of_all : (P : Edge → Type 0) (es : List Edge) → All P es → Each P es
+each_of_all P [] h = tt
+each_of_all P (e ∷ es) h = (All-head P e es h, each_of_all P es (All-tail P e es h))
+
+all_of_each : (P : Edge → Type 0) (es : List Edge) → Each P es → All P es
+all_of_each P [] h = All-nil P
+all_of_each P (e ∷ es) h = All-cons P e es h.0 (all_of_each P es h.1)
+
+pub all_proper : (es : List Edge) → IsProper es → All ProperEnds es
+all_proper es h = all_of_each ProperEnds es (proper_each es h)
+
+pub proper_all : (es : List Edge) → All ProperEnds es → IsProper es
+proper_all es h = each_proper es (each_of_all ProperEnds es h)
+
+-- and so are they in another order
+pub proper_permutation : (es gs : List Edge) → IsPermutation es gs → IsProper es → IsProper gs
+proper_permutation es gs same h = proper_all gs (All-permutation ProperEnds es gs same (all_proper es h))

@@ -1,22 +1,17 @@
 -- Lemmas over points and lists: what contours give to the last resolving closes up.
 use Rattle.std.proofs.Common.{◌≡◌, ℕ, ◌≤◌, ◌^◌, List, [], ◌∷◌, ◌++◌, map, refl}
-use Rattle.std.specs.List.{All, AllZip, flat_map}
+use Rattle.std.specs.List.{AllZip, flat_map}
 use Rattle.std.specs.List.Sorted.{IsPermutation}
-use Rattle.std.proofs.lemmas.List.Elements.{All-nil, All-cons, All-head, All-tail}
-use Rattle.std.proofs.lemmas.List.Sorted.{IsPermutation-sym, All-permutation}
+use Rattle.std.proofs.lemmas.List.Sorted.{IsPermutation-sym}
 use Rattle.mesh_plane.specs.Plane.{Point, Edge}
 use Rattle.mesh_plane.specs.Winding.{IsBalanced, boundary}
 use Rattle.mesh_plane.proofs.Balance.{balanced_append, balanced_permutation}
 use Rattle.mesh_num.specs.Paths.{contours_of}
-use Rattle.mesh_num.specs.Segments.{proper_edges, segments_of}
-use Rattle.mesh_num.proofs.SegmentLists.{edges_of_segments}
-use Rattle.mesh_num.proofs.Subjects.{segments_of_subjects}
+use Rattle.mesh_num.specs.Segments.{proper_edges}
 use Rattle.mesh_cuts.specs.Clean.{IsProper}
 use Rattle.mesh_cuts.specs.FillRules.{filled}
 use Rattle.mesh_cuts.specs.declared.fill.FillRule.{FillRule}
 use Rattle.mesh_cuts.specs.declared.fill.FillRule.TheVariants.{Positive}
-use Rattle.mesh_cuts.proofs.SoundCuts.{ProperEnds, proper_each, each_proper}
-use Rattle.mesh_cuts.proofs.Each.{Each}
 use Rattle.mesh_below.specs.Options.{plain}
 use Rattle.mesh_outline.specs.Outline.{outline_edges, drawn_edges, section_of, top_edge, corner_edges, parts, joined}
 use Rattle.mesh_outline.proofs.Promised.{has_promised_edges}
@@ -24,7 +19,7 @@ use Rattle.mesh_shapes.specs.Contours.{double_area}
 use Rattle.mesh_shapes.specs.Resolution.{Choices}
 use Rattle.mesh_below.specs.Laws.{AreRegions}
 use Rattle.mesh_below.proofs.AnswerRegions.{regions_made, filled_none}
-use Rattle.mesh_below.proofs.Subjects.{subjects_proper}
+use Rattle.mesh_draw.proofs.ProperEdges.{proper_kept, proper_permutation}
 use Rattle.mesh_join.specs.Cleaned.{cleaned_sections}
 use Rattle.mesh_join.specs.Styles.{OffsetJoin, OutlineStyle}
 use Rattle.mesh_draw.specs.Adding.{answer_edges}
@@ -47,10 +42,6 @@ edges_balanced unit style (contour ∷ contours) (es ∷ edges) each =
 give_balanced : (unit : ℕ) (style : OutlineStyle) (contours : List (List Point)) (given : List Edge) → Give unit style contours given → IsBalanced given
 give_balanced unit style contours given give = rw give.joined (edges_balanced unit style contours give.edges give.each)
 
--- edges whose ends differ are proper
-proper_kept : (es : List Edge) → IsProper (proper_edges es)
-proper_kept es = rw (edges_of_segments es) at (subjects_proper (segments_of es) (segments_of_subjects es))
-
 -- what contours give can be resolved
 pub final_edges : (unit : ℕ) (style : OutlineStyle) (contours : List (List Point)) (given : List Edge) → Give unit style contours given →
     IsProper (proper_edges given) × IsBalanced (proper_edges given)
@@ -66,18 +57,6 @@ outline_regions unit style choices contours answer outline =
 
 -- ---- one contour alone
 
-each_of_all : (P : Edge → Type 0) (es : List Edge) → All P es → Each P es
-each_of_all P [] h = tt
-each_of_all P (e ∷ es) h = (All-head P e es h, each_of_all P es (All-tail P e es h))
-
-all_of_each : (P : Edge → Type 0) (es : List Edge) → Each P es → All P es
-all_of_each P [] h = All-nil P
-all_of_each P (e ∷ es) h = All-cons P e es h.0 (all_of_each P es h.1)
-
-permuted_proper : (es gs : List Edge) → IsPermutation es gs → IsProper es → IsProper gs
-permuted_proper es gs same h =
-    each_proper gs (each_of_all ProperEnds gs (All-permutation ProperEnds es gs same (all_of_each ProperEnds es (proper_each es h))))
-
 outline_proper : (unit : ℕ) (style : OffsetJoin) (contour : List Point) → IsProper (outline_edges unit style contour)
 unfolding drawn_edges
 outline_proper unit style contour =
@@ -91,6 +70,6 @@ pub alone_regions : (unit : ℕ) (style : OffsetJoin) (rule : FillRule) (contour
 alone_regions unit style rule contour answer least alone =
     let same : IsPermutation (outline_edges unit style contour) alone.built = IsPermutation-sym alone.built (outline_edges unit style contour) alone.same in
     regions_made alone.built (filled rule) plain answer
-    (permuted_proper (outline_edges unit style contour) alone.built same (outline_proper unit style contour))
+    (proper_permutation (outline_edges unit style contour) alone.built same (outline_proper unit style contour))
     (balanced_permutation (outline_edges unit style contour) alone.built same (has_promised_edges unit style contour least).balanced)
     (filled_none rule) alone.resolution

@@ -1,13 +1,14 @@
 -- Lemmas over points and lists: what the edges of each stroke are promised.
-use Rattle.std.proofs.Common.{◌≡◌, ℕ, ◌≤◌, ◌^◌, Bool, true, false, cond, List, [], refl, sym, subst, ◌∙◌, append-nil, arith}
+use Rattle.std.proofs.Common.{◌≡◌, ℕ, ◌≤◌, ◌^◌, Bool, true, false, cond, List, [], ◌∷◌, ◌++◌, refl, sym, subst, ◌∙◌, append-nil, arith}
 use Rattle.std.specs.Prelude.{ℤ, pos, ◌≤ℤ◌, ◌<ℤ◌, ◌↔◌, IsTrue, int_le}
-use Rattle.std.specs.List.{All}
+use Rattle.std.specs.List.{All, flat_map}
 use Rattle.std.specs.List.Sorted.{IsPermutation}
 use Rattle.std.proofs.lemmas.Int.{ints, by_lt_z}
 use Rattle.std.proofs.lemmas.List.Elements.{All-nil}
 use Rattle.std.proofs.lemmas.List.Sorted.{IsPermutation-refl, IsPermutation-sym, All-permutation}
 use Rattle.mesh_plane.specs.Plane.{Point, Edge}
-use Rattle.mesh_plane.specs.Winding.{total, boundary, winding, crossing_on, pieces_total, IsBit, IsOdd, IsStraight}
+use Rattle.mesh_plane.specs.Winding.{IsBalanced, total, boundary, winding, crossing_on, pieces_total, IsBit, IsOdd, IsStraight}
+use Rattle.mesh_plane.specs.Ways.{last_of}
 use Rattle.mesh_plane.specs.Bounds.{IsSafe}
 use Rattle.mesh_plane.proofs.Sums.{total_permutation}
 use Rattle.mesh_plane.proofs.Balance.{balanced_permutation, growth, growth_odd, growth_of_pieces, balanced_by_growth}
@@ -16,15 +17,17 @@ use Rattle.mesh_plane.proofs.Pieces.{pieces_counted}
 use Rattle.mesh_plane.proofs.Triangles.{crossing_on_straight}
 use Rattle.mesh_plane.proofs.Whole.{linear}
 use Rattle.mesh_num.specs.Segments.{SignedEdge, IsSubject}
+use Rattle.mesh_cuts.specs.Clean.{IsProper}
 use Rattle.mesh_draw.specs.Adding.{Adds, added_edges}
 use Rattle.mesh_draw.specs.Padding.{IsNear}
 use Rattle.mesh_draw.proofs.Adding.{adds_edges}
 use Rattle.mesh_draw.proofs.Padding.{ends_safe}
+use Rattle.mesh_draw.proofs.ProperEdges.{proper_kept}
 use Rattle.mesh_stroke.specs.Building.{IsStrokable}
 use Rattle.mesh_stroke.specs.Drawn.{HasStockCaps, AreStroked}
-use Rattle.mesh_stroke.specs.Paths.{path_edges}
+use Rattle.mesh_stroke.specs.Paths.{neighbours, path_edges}
 use Rattle.mesh_stroke.specs.Styles.{StrokeStyle, stroke_padding}
-use Rattle.mesh_stroke.specs.Strokes.{drawn_edges, drawn_pieces, stroke_edges, stroke_pieces}
+use Rattle.mesh_stroke.specs.Strokes.{side_edges, corner_edges, both_caps, drawn_edges, drawn_pieces, stroke_edges, stroke_pieces}
 use Rattle.mesh_stroke.proofs.Chains.{path_chain}
 use Rattle.mesh_stroke.proofs.Reach.{drawn_near, path_listed}
 use Rattle.mesh_stroke.proofs.StrokeCount.{drawn_winds}
@@ -62,12 +65,16 @@ module _ (unit : ℕ) (least : 2 ^ 14 ≤ unit) (style : StrokeStyle) (closed : 
       by true h = All-nil EndsNear
       by false h = drawn_near unit least style (omega (arith, ints, h)) points closed edges (path_chain closed points) (path_listed closed points)
 
+  -- wherever the points lie, the edges of a stroke close up
+  pub stroke_balanced : IsBalanced (stroke_edges unit style closed points)
+  stroke_balanced =
+      balanced_by_growth (stroke_edges unit style closed points)
+      (λ g. stroke_total (growth g) (growth_odd g) (λ p r s h. omega (arith, linear)) ∙ growth_of_pieces g (stroke_pieces unit style closed points))
+
   -- the edges of a stroke have all that is promised of them, where the points stay safe within its padding
   pub are_stroked : All (IsStrokable unit style) points → AreStroked unit style closed points (stroke_edges unit style closed points)
   are_stroked safe = record {
-    balanced =
-        balanced_by_growth (stroke_edges unit style closed points)
-        (λ g. stroke_total (growth g) (growth_odd g) (λ p r s h. omega (arith, linear)) ∙ growth_of_pieces g (stroke_pieces unit style closed points));
+    balanced = stroke_balanced;
     near = near;
     safe = ends_safe unit (stroke_padding style) points (stroke_edges unit style closed points) safe near;
     sum = λ m q. stroke_total (crossing_on m q) (crossing_on_odd m q) (crossing_on_straight m q);
@@ -115,6 +122,23 @@ module _ (unit : ℕ) (least : 2 ^ 14 ≤ unit) (style : StrokeStyle) (closed : 
 
   pub thick_adds : (old new : List SignedEdge) → pos 1 <ℤ style.radius → Adds old new (drawn_edges unit style closed (path_edges closed points)) → Adds old new (stroke_edges unit style closed points)
   thick_adds old new h added = subst (Adds old new) (sym (thick_is h)) added
+
+-- none of its edges ends where it starts
+drawn_proper : (unit : ℕ) (style : StrokeStyle) (closed : Bool) (es : List Edge) → IsProper (drawn_edges unit style closed es)
+unfolding drawn_edges
+drawn_proper unit style closed [] = proper_kept []
+drawn_proper unit style closed (e ∷ es) =
+    proper_kept
+    (flat_map (side_edges unit style.radius) (e ∷ es)
+    ++ (flat_map (corner_edges unit style.radius style.join) (neighbours closed (e ∷ es))
+    ++ both_caps unit style.radius style.start style.end closed e (last_of e es)))
+
+pub stroke_proper : (unit : ℕ) (style : StrokeStyle) (closed : Bool) (points : List Point) → IsProper (stroke_edges unit style closed points)
+stroke_proper unit style closed points = by (int_le style.radius (pos 1))
+  where
+    by : (b : Bool) → IsProper (cond b [] (drawn_edges unit style closed (path_edges closed points)))
+    by true = proper_kept []
+    by false = drawn_proper unit style closed (path_edges closed points)
 
 -- a number for which a test is false is at most 1
 pub not_above : (b : Bool) (x : ℤ) → (IsTrue b ↔ pos 1 <ℤ x) → b ≡ false → x ≤ℤ pos 1

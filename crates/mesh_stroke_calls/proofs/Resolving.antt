@@ -1,23 +1,29 @@
--- Lemmas over points and lists: the edges of the strokes of many paths are closed and safe.
+-- Lemmas over points and lists: the edges of the strokes of many paths are closed and safe, and fill regions.
 use Rattle.std.proofs.Common.{◌≡◌, ℕ, ◌≤◌, ◌^◌, List, Bool, get_or, arith}
 use Rattle.std.specs.Prelude.{pos, ◌≤ℤ◌}
 use Rattle.std.specs.List.{All}
+use Rattle.std.specs.List.Sorted.{IsPermutation}
 use Rattle.std.proofs.lemmas.Int.{ints}
 use Rattle.std.proofs.lemmas.List.Elements.{All-weaker}
-use Rattle.mesh_plane.specs.Plane.{Point}
+use Rattle.mesh_plane.specs.Plane.{Point, Edge}
 use Rattle.mesh_plane.specs.Winding.{IsBalanced}
 use Rattle.mesh_num.specs.Segments.{SignedEdge}
+use Rattle.mesh_cuts.specs.Clean.{IsProper}
+use Rattle.mesh_cuts.specs.FillRules.{filled}
 use Rattle.mesh_cuts.specs.Reach.{AreEdgesSafe}
+use Rattle.mesh_cuts.specs.declared.fill.FillRule.TheVariants.{Positive}
+use Rattle.mesh_shapes.specs.Resolution.{Choices}
 use Rattle.mesh_below.specs.Asked.{AreResolvable}
+use Rattle.mesh_below.specs.Laws.{AreRegions}
 use Rattle.mesh_draw.specs.Midway.{AreBuilt}
 use Rattle.mesh_draw.specs.Padding.{ArePathsSafe}
-use Rattle.mesh_draw.proofs.ManyPaths.{built_stays_safe, built_resolvable}
+use Rattle.mesh_draw.proofs.ManyPaths.{built_stays_safe, built_resolvable, built_closed, built_regions}
 use Rattle.mesh_stroke.specs.Drawn.{AreStroked}
 use Rattle.mesh_stroke.specs.Strokes.{stroke_edges}
 use Rattle.mesh_stroke.specs.Styles.{StrokeStyle, stroke_padding}
-use Rattle.mesh_stroke.proofs.Promised.{are_stroked}
+use Rattle.mesh_stroke.proofs.Promised.{are_stroked, stroke_balanced, stroke_proper}
 use Rattle.mesh_stroke.proofs.Reach.{radius_covered}
-use Rattle.mesh_stroke_calls.specs.Resolved.{HavePromisedEdges}
+use Rattle.mesh_stroke_calls.specs.Resolved.{all_edges, IsStroke, HavePromisedEdges}
 use Rattle.mesh_stroke_calls.specs.Staying.{StaysSafe}
 
 module _ (unit : ℕ) (style : StrokeStyle) (closed : Bool) (paths : List (List Point)) (least : 2 ^ 14 ≤ unit)
@@ -47,6 +53,22 @@ module _ (unit : ℕ) (style : StrokeStyle) (closed : Bool) (paths : List (List 
   pub resolvable : (ss held : List SignedEdge) → held ≡ ss → AreBuilt (stroke_edges unit style closed) paths ss
       → AreResolvable unit held
   resolvable = built_resolvable (stroke_edges unit style closed) unit paths each_safe each_balanced
+
+-- what is resolved is proper and closes up, wherever the paths lie
+module _ (unit : ℕ) (least : 2 ^ 14 ≤ unit) (style : StrokeStyle) (closed : Bool) where
+  pub stroke_closed : (paths : List (List Point)) (built : List Edge)
+      → IsPermutation built (all_edges unit style closed paths) → IsProper built × IsBalanced built
+  stroke_closed =
+      built_closed (stroke_edges unit style closed) (stroke_proper unit style closed)
+      (stroke_balanced unit least style closed)
+
+  -- so strokes are made of regions
+  pub stroke_regions : (choices : Choices) (paths : List (List Point)) (answer : List (List (List Point)))
+      → (stroke : IsStroke unit style closed choices paths answer)
+      → (made : AreRegions stroke.built (filled Positive) choices answer) × (made.resolution ≡ stroke.resolution)
+  stroke_regions choices paths answer stroke =
+      built_regions (stroke_edges unit style closed) (stroke_proper unit style closed)
+      (stroke_balanced unit least style closed) Positive choices paths answer stroke.built stroke.same stroke.resolution
 
 -- the padding of a stroke is at least 0
 pub padding_least : (style : StrokeStyle) → pos 0 ≤ℤ stroke_padding style

@@ -3,5 +3,6 @@
 //! Read `specs/Resolved.antt` first: the stroke of many paths. `mesh_stroke` has the edges of one path's stroke.
 #![tactic(auto)]
 
+pub mod laws;
 pub mod offset;
 mod resolve;

@@ -6,5 +6,6 @@
 #![tactic(auto)]
 
 mod bounds;
+pub mod laws;
 pub mod offset;
 mod resolve;

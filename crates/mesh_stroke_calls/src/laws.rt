@@ -1,0 +1,13 @@
+//! Laws of strokes of many paths. Each function does nothing: its clause is the law.
+
+ghost use Rattle.mesh_stroke_calls.specs.Laws.{StrokeEdgesAreBalanced, StrokesAreRegions};
+
+/// The edges of which a stroke is the resolution are balanced, and none ends where it starts, wherever the paths lie.
+pub fn stroke_edges_are_balanced()
+    ensures { StrokeEdgesAreBalanced }
+{}
+
+/// The contours of a stroke wind once round what the edges of all its paths fill, and round no other point.
+pub fn strokes_are_regions()
+    ensures { StrokesAreRegions }
+{}

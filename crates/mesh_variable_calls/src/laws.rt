@@ -1,0 +1,15 @@
+//! Laws of strokes of variable width of many paths. Each function does nothing: its clause is the law.
+
+ghost use Rattle.mesh_variable_calls.specs.Laws.{VariableStrokeEdgesAreBalanced, VariableStrokesAreRegions};
+
+/// The edges of which a stroke of variable width is the resolution are balanced, and none ends where it starts,
+/// wherever the paths lie.
+pub fn variable_stroke_edges_are_balanced()
+    ensures { VariableStrokeEdgesAreBalanced }
+{}
+
+/// The contours of a stroke of variable width wind once round what the edges of all its paths fill, and round no other
+/// point.
+pub fn variable_strokes_are_regions()
+    ensures { VariableStrokesAreRegions }
+{}
