@@ -9,7 +9,7 @@ use Rattle.mesh_plane.proofs.Places.{place, coordinates, turned}
 use Rattle.mesh_cuts.specs.Split.{IsBetween, IsInside, IsCrossing, crossing_at, rounded_quotient, Meets, at_start_of_second, at_end_of_second, at_start_of_first, at_end_of_first, at_crossing}
 use Rattle.mesh_cuts.proofs.Boxes.{between_start, between_end, crossing_between, quotient_flip, turns_differ, parted}
 use Rattle.mesh_split.specs.declared.tree.Cut.{Cut}
-use Rattle.mesh_split.specs.Midway.Parts.{Place, IsAt, height}
+use Rattle.mesh_split.specs.Midway.Parts.{Cell, IsAt, height}
 
 -- ---- shares of a range
 
@@ -175,7 +175,7 @@ in_range a z b at h =
 
 -- a place that two segments reach
 pub record Reached (e f : Edge) : Type 0 where
-  pub place : Place
+  pub place : Cell
   pub first : IsAt e place
   pub second : IsAt f place
 

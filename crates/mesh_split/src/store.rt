@@ -28,11 +28,11 @@ impl Model for Store {
 
     ghost Value = { List (((ℤ × ℤ) × (ℤ × ℤ)) × ℤ) };
 
-    ghost use Rattle.mesh_split.specs.Midway.Parts.{AreListed, listed_at};
+    ghost use Rattle.mesh_split.specs.Midway.Parts.{LiveAreListed, listed_at};
 
     ghost view = { λ s. s.live };
 
-    ghost invariant = { λ s. AreListed (listed_at s.plane) s.live };
+    ghost invariant = { λ s. LiveAreListed (listed_at s.plane) s.live };
 }
 
 impl Store {

@@ -7,7 +7,7 @@ ghost use Rattle.std.specs.Prelude.{IfOk, OnOk};
 ghost use Rattle.mesh_plane.specs.Bounds.{IsSmall};
 ghost use Rattle.mesh_plane.specs.Plane.{Edge};
 ghost use Rattle.mesh_cuts.specs.Split.{AreClear, same_edge};
-ghost use Rattle.mesh_split.specs.Midway.Parts.{Place, IsAt, height, is_below, reaches, listed_at, IsListed, HasListed};
+ghost use Rattle.mesh_split.specs.Midway.Parts.{Cell, IsAt, height, is_below, reaches, listed_at, StandsIn, HasListed};
 ghost use Rattle.mesh_split.specs.Midway.Parts.{KeepsThose, KeepsListed, KeepsOthers, IsPartClear, MeetsLive};
 ghost use Rattle.mesh_split.specs.Midway.Steps.{exactly};
 
@@ -283,7 +283,7 @@ fn best_cut(alloc: Global, edges: &[GridEdge]) -> Result<Option<Cut>, AllocError
 
 /// A part that lists these, parted once where that serves.
 fn parted(alloc: Global, listed: Vec<GridEdge>, full: usize) -> Result<Tree, AllocError>
-    ensures { IfOk result (λ n. (x : Edge) → IsListed x listed.items → HasListed (listed_at n) x) }
+    ensures { IfOk result (λ n. (x : Edge) → StandsIn x listed.items → HasListed (listed_at n) x) }
 {
     if listed.len() <= full / 2 {
         return Ok(Tree::Leaf(listed, full));
@@ -301,7 +301,7 @@ fn parted(alloc: Global, listed: Vec<GridEdge>, full: usize) -> Result<Tree, All
 
 /// A part that lists these, or none.
 fn leaf_for(alloc: Global, edges: &[GridEdge], lists: bool) -> Result<Tree, AllocError>
-    ensures { lists ≡ true → IfOk result (λ n. (x : Edge) → IsListed x edges.now → HasListed (listed_at n) x) }
+    ensures { lists ≡ true → IfOk result (λ n. (x : Edge) → StandsIn x edges.now → HasListed (listed_at n) x) }
 {
     if !lists {
         return Ok(Tree::Leaf(Vec::new(alloc), FEW));
@@ -332,7 +332,7 @@ impl Tree {
         lists: bool,
         depth: usize,
     ) -> Result<Tree, AllocError>
-        ensures { lists ≡ true → IfOk result (λ n. (x : Edge) → IsListed x edges.now → HasListed (listed_at n) x) }
+        ensures { lists ≡ true → IfOk result (λ n. (x : Edge) → StandsIn x edges.now → HasListed (listed_at n) x) }
     {
         if depth == 0 || edges.len() <= FEW {
             return leaf_for(alloc, edges, lists);
@@ -404,7 +404,7 @@ impl Tree {
 
     /// A live segment that is listed where the given one reaches, and that it meets.
     pub fn find(&self, live: &Tally, s: GridEdge) -> Option<Meeting>
-        ensures { MatchOption result ((c : Place) → IsAt s c → IsPartClear s (listed_at self.now c) live.now)
+        ensures { MatchOption result ((c : Cell) → IsAt s c → IsPartClear s (listed_at self.now c) live.now)
             (λ m. MeetsLive s live.now m) }
     {
         match self {

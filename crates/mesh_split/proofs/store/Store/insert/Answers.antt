@@ -1,12 +1,12 @@
 use Rattle.std.proofs.Common.{List, subst, sym}
 use Rattle.mesh_cuts.specs.Counted.{Counted}
-use Rattle.mesh_split.specs.Midway.Parts.{listed_at, AreListed}
+use Rattle.mesh_split.specs.Midway.Parts.{listed_at, LiveAreListed}
 use Rattle.mesh_split.proofs.Listing.{listed_kept, listed_put}
 use Rattle.mesh_split.proofs.store.Store.insert.Goals as goal
 
 pub invariant_of-self-in_err-insert : goal.invariant_of-self-in_err-insert
 invariant_of-self-in_err-insert c =
-    subst (λ (ks : List Counted). AreListed (listed_at c.put.new.self) ks) (sym c.in_err-insert.ensures.err)
+    subst (λ (ks : List Counted). LiveAreListed (listed_at c.put.new.self) ks) (sym c.in_err-insert.ensures.err)
     (listed_kept (listed_at c.self.inside.plane) (listed_at c.put.new.self) c.self.inside.live c.in_ok-crowded.ensures.kept c.self.invariant)
 
 pub invariant_of-self-then-crowded : goal.invariant_of-self-then-crowded
