@@ -46,13 +46,24 @@ const UNLUCKY: &[Corners] = &[
     ],
 ];
 
-/// A contour that took thousands of splits in every order that was tried.
-const LONG: Corners = &[
-    (42, -2554),
-    (2823, 8472),
-    (42, -2555),
-    (-273, -3699),
-    (2666, 2402),
+/// Contours that took thousands of splits in every order that was tried, the second one tens of thousands along one
+/// line.
+const LONG: &[Corners] = &[
+    &[
+        (42, -2554),
+        (2823, 8472),
+        (42, -2555),
+        (-273, -3699),
+        (2666, 2402),
+    ],
+    &[
+        (-49084, -65240),
+        (-23045, 52569),
+        (-49084, -65241),
+        (-39270, 33461),
+        (-15692, 14092),
+        (-39270, 33460),
+    ],
 ];
 
 /// How far the segments lead in all, in `x` and in `y`: nowhere where they are balanced.
@@ -91,8 +102,10 @@ fn unlucky_orders_are_left(rt: HostRuntime) -> Result<(), AllocError> {
 }
 
 #[test]
-fn a_long_run_ends(rt: HostRuntime) -> Result<(), AllocError> {
-    split_contour(&rt, rt.alloc(), LONG)?;
+fn long_runs_end(rt: HostRuntime) -> Result<(), AllocError> {
+    for corners in LONG.iter().copied() {
+        split_contour(&rt, rt.alloc(), corners)?;
+    }
     Ok(())
 }
 
