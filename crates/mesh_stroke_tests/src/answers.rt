@@ -4,6 +4,7 @@ use i_overlay_mesh::stroke::offset::IntStrokeOffset;
 use mesh_below::below::IntOverlayOptions;
 use mesh_join::style::IntStrokeStyle;
 use mesh_num::num::OverlayInt;
+use mesh_num::shape::buffer::FlatContoursBuffer;
 use mesh_num::shape::resource::IntShapeResource;
 use mesh_toolbox::compared::{expect_answers, filled};
 use std::alloc::Global;
@@ -18,14 +19,41 @@ pub fn expect_custom<I: OverlayInt, S: IntShapeResource<I>>(
     options: IntOverlayOptions<I::WideUInt>,
     wanted: &[&[&[(I, I)]]],
 ) -> Result<(), Fail> {
-    source.validate_stroke(style)?;
     let mut buffer = filled(alloc)?;
-    for _ in 0..2 {
-        let shapes = source.stroke_custom(alloc, style, is_closed, options)?;
-        source.stroke_custom_into(alloc, style, is_closed, options, &mut buffer)?;
-        expect_answers(&shapes, &buffer, wanted)?;
-    }
-    Ok(())
+    expect_once(
+        alloc,
+        source,
+        style,
+        is_closed,
+        options,
+        wanted,
+        &mut buffer,
+    )?;
+    expect_once(
+        alloc,
+        source,
+        style,
+        is_closed,
+        options,
+        wanted,
+        &mut buffer,
+    )
+}
+
+/// The same, for one call of each kind.
+fn expect_once<I: OverlayInt, S: IntShapeResource<I>>(
+    alloc: Global,
+    source: &S,
+    style: &IntStrokeStyle<I>,
+    is_closed: bool,
+    options: IntOverlayOptions<I::WideUInt>,
+    wanted: &[&[&[(I, I)]]],
+    buffer: &mut FlatContoursBuffer<I>,
+) -> Result<(), Fail> {
+    source.validate_stroke(style)?;
+    let shapes = source.stroke_custom(alloc, style, is_closed, options)?;
+    source.stroke_custom_into(alloc, style, is_closed, options, buffer)?;
+    expect_answers(&shapes, buffer, wanted)
 }
 
 /// The same with the default options, by the calls that name none too.

@@ -10,11 +10,11 @@ use i_overlay_mesh::stroke::offset::IntStrokeOffset;
 use mesh_join::arc::ArcOptions;
 use mesh_join::style::{IntLineCap, IntLineJoin, IntStrokeStyle};
 use mesh_num::num::{Angle, OverlayInt};
+use mesh_num::shape::segment::Segment;
+use mesh_toolbox::compared::{expect_equal, expect_that};
 use mesh_toolbox::edges::edges_of_segments;
-use mesh_toolbox::lists::path;
 use mesh_toolbox::plain::is_balanced;
 use std::alloc::{AllocError, Global};
-use std::process::Abort;
 use std::rc::RcSlice;
 use std::test::Fail;
 
@@ -30,8 +30,8 @@ fn cap<I: OverlayInt + From<i16>>(
         2 => IntLineCap::Round(ArcOptions::default()),
         _ => {
             let low = radius.wrapping_neg();
-            let spots = widened(alloc, &[(0, low), (0, low), (radius, 0), (0, radius)])?;
-            IntLineCap::Custom(RcSlice::from_vec(path(alloc, &spots)?)?)
+            let points = widened(alloc, &[(0, low), (0, low), (radius, 0), (0, radius)])?;
+            IntLineCap::Custom(RcSlice::from_vec(points)?)
         }
     })
 }
@@ -46,10 +46,25 @@ fn join(number: u8) -> IntLineJoin {
     }
 }
 
+/// The style of this width with the cap and the join of these numbers.
+fn style<I: OverlayInt + From<i16>>(
+    alloc: Global,
+    width: i16,
+    radius: i16,
+    number: u8,
+    kind: u8,
+) -> Result<IntStrokeStyle<I>, AllocError> {
+    Ok(
+        IntStrokeStyle::new(I::from(width))
+            .start_cap(cap(alloc, number, radius)?)
+            .end_cap(cap(alloc, number, radius)?)
+            .line_join(join(kind)),
+    )
+}
+
 /// The builder of the style adds proper segments alone, which close up, and some if and only if the
 /// stroke is drawn. The form is whether the path is closed, and whether it is drawn.
 fn expect_proper<I: OverlayInt + From<i16>>(
-    rt: &impl Abort,
     alloc: Global,
     builder: &mut StrokeBuilder<'_, I>,
     style: &IntStrokeStyle<I>,
@@ -59,64 +74,75 @@ fn expect_proper<I: OverlayInt + From<i16>>(
     requires { builder.old ≡ stroke_style_of I.value style.now }
     ensures { builder.new ≡ builder.old }
 {
-    let (closed, is_drawn) = form;
-    let spots = widened(alloc, &[(0, 0), (0, 0), (10, 0), end])?;
-    let points = path(alloc, &spots)?;
+    let points = widened(alloc, &[(0, 0), (0, 0), (10, 0), end])?;
     points.validate_stroke(style)?;
     let mut segments = Vec::new(alloc);
-    builder.build(&points, closed, &mut segments)?;
-    for segment in &segments {
-        let is_proper = segment.x_segment.a < segment.x_segment.b;
-        assert!(rt; is_proper, "{segment:?} in {style:?}");
-    }
-    assert_eq!(rt; segments.is_empty(), !is_drawn, "{style:?}");
-    assert!(rt;
-        is_balanced(&edges_of_segments(alloc, &segments)?),
-        "{style:?}"
-    );
-    Ok(())
+    builder.build(&points, form.0, &mut segments)?;
+    expect_proper_segments(alloc, &segments, form.1, style)
 }
+
+/// The segments are proper and close up, and there are some if and only if a stroke is drawn.
+fn expect_proper_segments<I: OverlayInt>(
+    alloc: Global,
+    segments: &[Segment<I>],
+    is_drawn: bool,
+    style: &IntStrokeStyle<I>,
+) -> Result<(), Fail> {
+    for segment in segments {
+        let is_proper = segment.x_segment.a < segment.x_segment.b;
+        expect_that(is_proper, &(segment, style))?;
+    }
+    expect_equal(&segments.is_empty(), &!is_drawn, style)?;
+    let edges = edges_of_segments(alloc, segments)?;
+    expect_that(is_balanced(&edges), style)
+}
+
+/// Whether the path is closed, and where it ends.
+const FORMS: [(bool, (i16, i16)); 6] = [
+    (false, (10, 10)),
+    (false, (0, 0)),
+    (false, (20, 1)),
+    (true, (10, 10)),
+    (true, (0, 0)),
+    (true, (20, 1)),
+];
 
 /// One builder of the style, for paths that turn, turn back and run nearly straight on, open and closed.
 fn expect_all_proper<I: OverlayInt + From<i16>>(
-    rt: &impl Abort,
     alloc: Global,
     style: &IntStrokeStyle<I>,
     is_drawn: bool,
 ) -> Result<(), Fail> {
     let mut builder = StrokeBuilder::new(alloc, style);
-    expect_proper(rt, alloc, &mut builder, style, (false, is_drawn), (10, 10))?;
-    expect_proper(rt, alloc, &mut builder, style, (false, is_drawn), (0, 0))?;
-    expect_proper(rt, alloc, &mut builder, style, (false, is_drawn), (20, 1))?;
-    expect_proper(rt, alloc, &mut builder, style, (true, is_drawn), (10, 10))?;
-    expect_proper(rt, alloc, &mut builder, style, (true, is_drawn), (0, 0))?;
-    expect_proper(rt, alloc, &mut builder, style, (true, is_drawn), (20, 1))
+    for (is_closed, end) in &FORMS {
+        expect_proper(alloc, &mut builder, style, (*is_closed, is_drawn), *end)?;
+    }
+    Ok(())
 }
 
 /// All caps and joins with this width; half of it, rounded up, is the radius.
 fn expect_width<I: OverlayInt + From<i16>>(
-    rt: &impl Abort,
     alloc: Global,
     width: i16,
     radius: i16,
 ) -> Result<(), Fail> {
     for number in 0..4u8 {
         for kind in 0..4u8 {
-            let style = IntStrokeStyle::new(I::from(width))
-                .start_cap(cap(alloc, number, radius)?)
-                .end_cap(cap(alloc, number, radius)?)
-                .line_join(join(kind));
-            expect_all_proper(rt, alloc, &style, width > 2)?;
+            let style = style(alloc, width, radius, number, kind)?;
+            expect_all_proper::<I>(alloc, &style, width > 2)?;
         }
     }
     Ok(())
 }
 
+/// Widths and their radii.
+const WIDTHS: [(i16, i16); 5] = [(0, 0), (1, 1), (2, 1), (4, 2), (1024, 512)];
+
 #[test]
 fn joins_and_caps_skip_collapsed_edges(rt: HostRuntime) -> Result<(), Fail> {
-    for (width, radius) in [(0, 0), (1, 1), (2, 1), (4, 2), (1024, 512)] {
-        expect_width::<i16>(&rt, rt.alloc(), width, radius)?;
-        expect_width::<i32>(&rt, rt.alloc(), width, radius)?;
+    for (width, radius) in &WIDTHS {
+        expect_width::<i16>(rt.alloc(), *width, *radius)?;
+        expect_width::<i32>(rt.alloc(), *width, *radius)?;
     }
     Ok(())
 }

@@ -7,7 +7,6 @@ use mesh_join::style::IntStrokeStyle;
 use mesh_num::num::{IntPoint, OverlayInt};
 use mesh_num::shape::segment::Segment;
 use mesh_toolbox::edges::edges_of_segments;
-use mesh_toolbox::lists::path;
 use mesh_toolbox::plain::{Edge, Point, closed};
 use std::alloc::{AllocError, Global};
 use std::test::Fail;
@@ -32,7 +31,7 @@ pub fn drawn<I: OverlayInt + From<i16>>(
     is_closed: bool,
     row: StyleRow,
 ) -> Result<Vec<Edge>, Fail> {
-    let points = path(alloc, &widened::<i16, I>(alloc, spots)?)?;
+    let points = widened::<I>(alloc, spots)?;
     let style = row.style::<I>(alloc)?;
     let mut segments = Vec::new(alloc);
     add_stroke(alloc, &points, is_closed, &style, &mut segments)?;

@@ -3,11 +3,10 @@
 use crate::drawn::drawn;
 use crate::styles::{CapRow, StyleRow};
 use mesh_num::num::OverlayInt;
-use mesh_toolbox::compared::have_same_counts;
+use mesh_toolbox::compared::{expect_that, have_same_counts};
 use mesh_toolbox::joins::JoinKind;
 use mesh_toolbox::random::{Random, small_path};
 use std::alloc::Global;
-use std::process::Abort;
 use std::test::Fail;
 
 /// Bevels; peaks, clipped and not, from any turn on and from a slight one on; arcs of steps of 45 degrees and of few.
@@ -41,7 +40,6 @@ fn some_cap(random: &mut Random) -> CapRow {
 /// From each point to each other as many edges lead, less those that lead back, if the path is read backwards and has
 /// its caps exchanged.
 fn expect_same_backwards<I: OverlayInt + From<i16>>(
-    rt: &impl Abort,
     alloc: Global,
     path: &[(i16, i16)],
     is_closed: bool,
@@ -51,37 +49,33 @@ fn expect_same_backwards<I: OverlayInt + From<i16>>(
     back.reverse();
     let edges = drawn::<I>(alloc, path, is_closed, style)?;
     let other = drawn::<I>(alloc, &back, is_closed, style.exchanged())?;
-    assert!(rt;
-        have_same_counts(&edges, &other),
-        "{path:?}, {is_closed}, {style:?}"
-    );
-    Ok(())
+    expect_that(have_same_counts(&edges, &other), &(path, is_closed, style))
 }
 
 /// A random path, open and closed, with each of the joins, and with caps drawn at random.
-fn expect_all_same(rt: &impl Abort, alloc: Global, random: &mut Random) -> Result<(), Fail> {
+fn expect_all_same(alloc: Global, random: &mut Random) -> Result<(), Fail> {
     let path = small_path(alloc, random)?;
     let width = 2 + i16::from(random.small()).wrapping_abs();
-    for join in JOINS {
+    for join in &JOINS {
         let style = StyleRow {
             width,
-            join,
+            join: *join,
             start: some_cap(random),
             end: some_cap(random),
         };
         for is_closed in [false, true] {
-            expect_same_backwards::<i16>(rt, alloc, &path, is_closed, style)?;
-            expect_same_backwards::<i32>(rt, alloc, &path, is_closed, style)?;
+            expect_same_backwards::<i16>(alloc, &path, is_closed, style)?;
+            expect_same_backwards::<i32>(alloc, &path, is_closed, style)?;
         }
     }
     Ok(())
 }
 
 /// A hundred random paths.
-fn expect_hundred(rt: &impl Abort, alloc: Global, seed: u64) -> Result<(), Fail> {
+fn expect_hundred(alloc: Global, seed: u64) -> Result<(), Fail> {
     let mut random = Random::new(seed);
     for _ in 0..100 {
-        expect_all_same(rt, alloc, &mut random)?;
+        expect_all_same(alloc, &mut random)?;
     }
     Ok(())
 }
@@ -89,15 +83,15 @@ fn expect_hundred(rt: &impl Abort, alloc: Global, seed: u64) -> Result<(), Fail>
 // Three hundred paths, in several tests, as the time of a test is limited.
 #[test]
 fn paths_of_seed_1(rt: HostRuntime) -> Result<(), Fail> {
-    expect_hundred(&rt, rt.alloc(), 1)
+    expect_hundred(rt.alloc(), 1)
 }
 
 #[test]
 fn paths_of_seed_2(rt: HostRuntime) -> Result<(), Fail> {
-    expect_hundred(&rt, rt.alloc(), 2)
+    expect_hundred(rt.alloc(), 2)
 }
 
 #[test]
 fn paths_of_seed_3(rt: HostRuntime) -> Result<(), Fail> {
-    expect_hundred(&rt, rt.alloc(), 3)
+    expect_hundred(rt.alloc(), 3)
 }

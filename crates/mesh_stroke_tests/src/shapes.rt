@@ -7,11 +7,13 @@ use mesh_below::below::{ContourDirection, IntOverlayOptions};
 use mesh_join::style::IntStrokeStyle;
 use mesh_num::num::{IntPoint, OverlayInt};
 use mesh_num::shape::path_slice::PathSlice;
+use mesh_toolbox::compared::expect_equal;
 use mesh_toolbox::edges::edges_of_segments;
 use mesh_toolbox::joins::JoinKind;
 use mesh_toolbox::lists::{path, paths, shapes};
 use mesh_toolbox::plain::winding;
 use mesh_toolbox::{inner, outer};
+use std::alloc::Global;
 use std::test::Fail;
 
 type Path = &'static [(i32, i32)];
@@ -297,22 +299,29 @@ const SPIKES: &[Case] = &[
     ),
 ];
 
-#[test]
-fn by_default(rt: HostRuntime) -> Result<(), Fail> {
-    for cases in [LINES, CUSTOM, CORNERS, SPIKES] {
-        for (given, is_closed, width, join, (start, end), wanted) in cases.iter().copied() {
-            let row = StyleRow {
-                width,
-                join,
-                start,
-                end,
-            };
-            let source = paths(rt.alloc(), given)?;
-            let style = row.style::<i32>(rt.alloc())?;
-            expect(rt.alloc(), &source, &style, is_closed, wanted)?;
-        }
+/// Each of the cases is answered so.
+fn expect_cases(alloc: Global, cases: &[Case]) -> Result<(), Fail> {
+    for case in cases {
+        let (given, is_closed, width, join, (start, end), wanted) = *case;
+        let row = StyleRow {
+            width,
+            join,
+            start,
+            end,
+        };
+        let source = paths(alloc, given)?;
+        let style = row.style::<i32>(alloc)?;
+        expect(alloc, &source, &style, is_closed, wanted)?;
     }
     Ok(())
+}
+
+#[test]
+fn by_default(rt: HostRuntime) -> Result<(), Fail> {
+    expect_cases(rt.alloc(), LINES)?;
+    expect_cases(rt.alloc(), CUSTOM)?;
+    expect_cases(rt.alloc(), CORNERS)?;
+    expect_cases(rt.alloc(), SPIKES)
 }
 
 /// Two lines, the first of which has a stroke of area 16.
@@ -344,7 +353,8 @@ const OPTIONS: &[(u64, bool, &[&[Path]])] = &[
 fn options_are_handed_on(rt: HostRuntime) -> Result<(), Fail> {
     let source = paths(rt.alloc(), TWO)?;
     let style = IntStrokeStyle::new(4);
-    for (area, other, wanted) in OPTIONS.iter().copied() {
+    for case in OPTIONS {
+        let (area, other, wanted) = *case;
         let mut options = IntOverlayOptions::new();
         options.min_output_area = area;
         options.preserve_output_collinear = other;
@@ -377,21 +387,24 @@ fn sources(rt: HostRuntime) -> Result<(), Fail> {
 }
 
 /// The edges of a path that is drawn twice wind twice as often.
-fn twice<I: OverlayInt + From<i16>>(rt: &HostRuntime) -> Result<[i128; 2], Fail> {
-    let spots = widened::<i16, I>(rt.alloc(), &[(0, 0), (100, 0)])?;
-    let points = path(rt.alloc(), &spots)?;
+fn expect_twice<I: OverlayInt + From<i16>>(alloc: Global) -> Result<(), Fail> {
+    let points = widened(alloc, &[(0, 0), (100, 0)])?;
     let style = IntStrokeStyle::new(I::from(20));
-    let mut segments = Vec::new(rt.alloc());
-    add_stroke(rt.alloc(), &points, false, &style, &mut segments)?;
-    let once = winding(1, (50, 0), &edges_of_segments(rt.alloc(), &segments)?);
-    add_stroke(rt.alloc(), &points, false, &style, &mut segments)?;
-    let both = winding(1, (50, 0), &edges_of_segments(rt.alloc(), &segments)?);
-    Ok([once, both])
+    let mut segments = Vec::new(alloc);
+    for count in 1..3u8 {
+        add_stroke(alloc, &points, false, &style, &mut segments)?;
+        let edges = edges_of_segments(alloc, &segments)?;
+        expect_equal(
+            &winding(1, (50, 0), &edges),
+            &i128::from(count),
+            &"in a path",
+        )?;
+    }
+    Ok(())
 }
 
 #[test]
 fn drawn_twice(rt: HostRuntime) -> Result<(), Fail> {
-    assert_eq!(rt; twice::<i16>(&rt)?, [1, 2]);
-    assert_eq!(rt; twice::<i32>(&rt)?, [1, 2]);
-    Ok(())
+    expect_twice::<i16>(rt.alloc())?;
+    expect_twice::<i32>(rt.alloc())
 }

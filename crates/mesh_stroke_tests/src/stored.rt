@@ -8,10 +8,9 @@ use crate::tables::small_strokes::SMALL_STROKES;
 use crate::tables::strokes::STROKES;
 use crate::tables::{StrokeRow, StyleParts};
 use mesh_num::num::OverlayInt;
-use mesh_toolbox::compared::are_same_edges;
+use mesh_toolbox::compared::{are_same_edges, expect_equal, expect_that};
 use mesh_toolbox::edges::{plain_points, wide};
 use std::alloc::Global;
-use std::process::Abort;
 use std::test::Fail;
 
 fn style((width, join, start, end): StyleParts) -> StyleRow {
@@ -24,19 +23,16 @@ fn style((width, join, start, end): StyleParts) -> StyleRow {
 }
 
 /// At the width `I` the builder adds the stored edges, and the plain program makes pieces that wind as stored.
-fn expect_stored<I: OverlayInt + From<i16>>(
-    rt: &impl Abort,
-    alloc: Global,
-    row: &StrokeRow,
-) -> Result<(), Fail> {
+fn expect_stored<I: OverlayInt + From<i16>>(alloc: Global, row: &StrokeRow) -> Result<(), Fail> {
     let (path, is_closed, parts, wanted, spots) = *row;
     let style = style(parts);
     let edges = drawn::<I>(alloc, path, is_closed, style)?;
-    assert!(rt; are_same_edges(edges, loops(alloc, wanted)?)?, "{row:?}");
+    let is_same = are_same_edges(edges, loops(alloc, wanted)?)?;
+    expect_that(is_same, row)?;
     let points = plain_points(alloc, path)?;
     let pieces = Pieces::of_stroke(alloc, wide(I::UNIT), &points, is_closed, style)?;
-    for (m, q, want) in spots {
-        assert_eq!(rt; pieces.sum(m, q), want, "at {q:?} on {m} of {row:?}");
+    for (m, q, want) in &spots {
+        expect_equal(&pieces.sum(*m, *q), want, &(q, m, row))?;
     }
     Ok(())
 }
@@ -44,8 +40,8 @@ fn expect_stored<I: OverlayInt + From<i16>>(
 #[test]
 fn strokes(rt: HostRuntime) -> Result<(), Fail> {
     for row in STROKES {
-        expect_stored::<i16>(&rt, rt.alloc(), row)?;
-        expect_stored::<i32>(&rt, rt.alloc(), row)?;
+        expect_stored::<i16>(rt.alloc(), row)?;
+        expect_stored::<i32>(rt.alloc(), row)?;
     }
     Ok(())
 }
@@ -53,10 +49,10 @@ fn strokes(rt: HostRuntime) -> Result<(), Fail> {
 #[test]
 fn strokes_of_one_width(rt: HostRuntime) -> Result<(), Fail> {
     for row in SMALL_STROKES {
-        expect_stored::<i16>(&rt, rt.alloc(), row)?;
+        expect_stored::<i16>(rt.alloc(), row)?;
     }
     for row in LARGE_STROKES {
-        expect_stored::<i32>(&rt, rt.alloc(), row)?;
+        expect_stored::<i32>(rt.alloc(), row)?;
     }
     Ok(())
 }

@@ -2,9 +2,8 @@
 
 use mesh_join::arc::ArcOptions;
 use mesh_join::style::{IntLineCap, IntLineJoin, IntStrokeStyle};
-use mesh_num::num::{Angle, OverlayInt};
+use mesh_num::num::{Angle, IntPoint, OverlayInt};
 use mesh_toolbox::joins::JoinKind;
-use mesh_toolbox::lists::path;
 use std::alloc::{AllocError, Global};
 use std::rc::RcSlice;
 
@@ -57,8 +56,7 @@ impl CapRow {
             CapRow::Square => IntLineCap::Square,
             CapRow::Round(bits, precision) => IntLineCap::Round(options(bits, precision)),
             CapRow::Custom(points) => {
-                let points = path(alloc, &widened(alloc, points)?)?;
-                IntLineCap::Custom(RcSlice::from_vec(points)?)
+                IntLineCap::Custom(RcSlice::from_vec(widened(alloc, points)?)?)
             }
         })
     }
@@ -90,14 +88,14 @@ impl StyleRow {
     }
 }
 
-/// The points of a table at the width `I`.
-pub fn widened<S: Copy, I: OverlayInt + From<S>>(
+/// The path of a table's points at the width `I`.
+pub fn widened<I: OverlayInt + From<i16>>(
     alloc: Global,
-    spots: &[(S, S)],
-) -> Result<Vec<(I, I)>, AllocError> {
+    spots: &[(i16, i16)],
+) -> Result<Vec<IntPoint<I>>, AllocError> {
     let mut points = Vec::new(alloc);
     for (x, y) in spots {
-        points.push((I::from(*x), I::from(*y)))?;
+        points.push(IntPoint::new(I::from(*x), I::from(*y)))?;
     }
     Ok(points)
 }

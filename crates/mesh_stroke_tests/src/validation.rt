@@ -7,6 +7,7 @@ use i_overlay_mesh::stroke::radius::{padding, stroke_radius};
 use mesh_join::arc::ArcOptions;
 use mesh_join::style::{IntLineCap, IntLineJoin, IntStrokeStyle};
 use mesh_num::num::{Angle, OverlayInt};
+use mesh_toolbox::compared::expect_equal;
 use mesh_toolbox::joins::JoinKind;
 use mesh_toolbox::lists::path;
 use std::alloc::{AllocError, Global};
@@ -180,21 +181,31 @@ const ROWS: &[Row] = &[
 /// Each row is answered so, and its style reaches so far, which the types do not bound.
 #[test]
 fn small_paths(rt: HostRuntime) -> Result<(), Fail> {
-    for (points, width, join, (start, end), reach, want) in ROWS.iter().copied() {
-        let row = StyleRow {
+    for row in ROWS {
+        let (points, width, join, (start, end), reach, want) = *row;
+        let style = StyleRow {
             width,
             join,
             start,
             end,
         };
-        let style = row.style::<i16>(rt.alloc())?;
-        assert_eq!(rt; padding(&style), reach, "{points:?} in {row:?}");
-        let found = path(rt.alloc(), points)?.validate_stroke(&style);
-        assert!(rt; found == want, "{points:?} in {row:?}");
-        let wide = row.style::<i32>(rt.alloc())?;
-        assert_eq!(rt; padding(&wide), i64::from(reach), "{row:?}");
+        expect_reach::<i32>(rt.alloc(), style, i64::from(reach))?;
+        expect_reach::<i16>(rt.alloc(), style, reach)?;
+        let points = path(rt.alloc(), points)?;
+        let found = points.validate_stroke(&style.style(rt.alloc())?);
+        expect_equal(&found, &want, row)?;
     }
     Ok(())
+}
+
+/// The style of the row reaches so far.
+fn expect_reach<I: OverlayInt + From<i16>>(
+    alloc: Global,
+    row: StyleRow,
+    reach: I::Wide,
+) -> Result<(), Fail> {
+    let style = row.style::<I>(alloc)?;
+    expect_equal(&padding(&style), &reach, &row)
 }
 
 /// A point, a width, a custom point at both ends, how far the stroke reaches, and whether it may be drawn.
@@ -237,11 +248,12 @@ fn pointed(
 
 #[test]
 fn large_paths(rt: HostRuntime) -> Result<(), Fail> {
-    for (point, width, custom, reach, want) in LARGE_ROWS.iter().copied() {
+    for row in LARGE_ROWS {
+        let (point, width, custom, reach, want) = *row;
         let style = pointed(rt.alloc(), width, custom)?;
-        assert_eq!(rt; padding(&style), reach, "{custom:?}");
-        let found = path(rt.alloc(), &[point])?.validate_stroke(&style);
-        assert!(rt; found == want, "{point:?} with {width}, {custom:?}");
+        expect_equal(&padding(&style), &reach, row)?;
+        let points = path(rt.alloc(), &[point])?;
+        expect_equal(&points.validate_stroke(&style), &want, row)?;
     }
     Ok(())
 }
@@ -251,20 +263,23 @@ fn half<I: OverlayInt + From<i16>>(width: i16) -> I {
     stroke_radius(I::from(width))
 }
 
+/// Widths and their halves.
+const RADII: [(i16, i16); 7] = [
+    (i16::MIN, 0),
+    (-1, 0),
+    (0, 0),
+    (1, 1),
+    (2, 1),
+    (3, 2),
+    (i16::MAX, 16_384),
+];
+
 #[test]
-fn radii(rt: HostRuntime) {
-    for (width, want) in [
-        (i16::MIN, 0),
-        (-1, 0),
-        (0, 0),
-        (1, 1),
-        (2, 1),
-        (3, 2),
-        (i16::MAX, 16_384),
-    ] {
-        assert_eq!(rt; half::<i16>(width), want, "{width}");
-        assert_eq!(rt; half::<i32>(width), i32::from(want), "{width}");
+fn radii(_rt: HostRuntime) -> Result<(), Fail> {
+    for (width, want) in &RADII {
+        expect_equal(&half::<i16>(*width), want, width)?;
+        expect_equal(&half::<i32>(*width), &i32::from(*want), width)?;
     }
-    assert_eq!(rt; stroke_radius(i32::MIN), 0);
-    assert_eq!(rt; stroke_radius(i32::MAX), 1_073_741_824);
+    expect_equal(&stroke_radius(i32::MIN), &0, &i32::MIN)?;
+    expect_equal(&stroke_radius(i32::MAX), &1_073_741_824, &i32::MAX)
 }

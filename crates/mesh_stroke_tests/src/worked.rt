@@ -3,11 +3,10 @@
 use crate::drawn::{drawn, loops};
 use crate::styles::{CapRow, Caps, StyleRow};
 use mesh_num::num::OverlayInt;
-use mesh_toolbox::compared::are_same_edges;
+use mesh_toolbox::compared::{are_same_edges, expect_that};
 use mesh_toolbox::joins::JoinKind;
-use mesh_toolbox::plain::Point;
+use mesh_toolbox::plain::{Edge, Point};
 use std::alloc::Global;
-use std::process::Abort;
 use std::test::Fail;
 
 const ROUND: JoinKind = JoinKind::Round(536_870_912, 5);
@@ -198,11 +197,7 @@ const CUSTOM: &[Row] = &[
 
 /// The stroke of the row has these edges, at the width `I`, and so has that of the path read backwards with its caps
 /// exchanged: no vertex of these rows is one that the path runs straight through.
-fn expect_edges<I: OverlayInt + From<i16>>(
-    rt: &impl Abort,
-    alloc: Global,
-    row: &Row,
-) -> Result<(), Fail> {
+fn expect_edges<I: OverlayInt + From<i16>>(alloc: Global, row: &Row) -> Result<(), Fail> {
     let (path, is_closed, width, join, (start, end), wanted) = *row;
     let style = StyleRow {
         width,
@@ -211,37 +206,44 @@ fn expect_edges<I: OverlayInt + From<i16>>(
         end,
     };
     let found = drawn::<I>(alloc, path, is_closed, style)?;
-    assert!(rt; are_same_edges(found, loops(alloc, wanted)?)?, "{row:?}");
+    expect_loops(alloc, found, wanted, &(row, "read forwards"))?;
     let mut back = Vec::from_slice(alloc, path)?;
     back.reverse();
     let found = drawn::<I>(alloc, &back, is_closed, style.exchanged())?;
-    assert!(rt;
-        are_same_edges(found, loops(alloc, wanted)?)?,
-        "{row:?} read backwards"
-    );
-    Ok(())
+    expect_loops(alloc, found, wanted, &(row, "read backwards"))
+}
+
+/// The edges are those of the loops.
+fn expect_loops(
+    alloc: Global,
+    found: Vec<Edge>,
+    wanted: &[&[Point]],
+    case: &(&Row, &str),
+) -> Result<(), Fail> {
+    let is_same = are_same_edges(found, loops(alloc, wanted)?)?;
+    expect_that(is_same, case)
 }
 
 /// Each row, at both widths.
-fn expect_rows(rt: &impl Abort, alloc: Global, rows: &[Row]) -> Result<(), Fail> {
+fn expect_rows(alloc: Global, rows: &[Row]) -> Result<(), Fail> {
     for row in rows {
-        expect_edges::<i16>(rt, alloc, row)?;
-        expect_edges::<i32>(rt, alloc, row)?;
+        expect_edges::<i16>(alloc, row)?;
+        expect_edges::<i32>(alloc, row)?;
     }
     Ok(())
 }
 
 #[test]
 fn lines(rt: HostRuntime) -> Result<(), Fail> {
-    expect_rows(&rt, rt.alloc(), LINES)
+    expect_rows(rt.alloc(), LINES)
 }
 
 #[test]
 fn spikes(rt: HostRuntime) -> Result<(), Fail> {
-    expect_rows(&rt, rt.alloc(), SPIKES)
+    expect_rows(rt.alloc(), SPIKES)
 }
 
 #[test]
 fn custom_caps(rt: HostRuntime) -> Result<(), Fail> {
-    expect_rows(&rt, rt.alloc(), CUSTOM)
+    expect_rows(rt.alloc(), CUSTOM)
 }
