@@ -19,14 +19,24 @@ pub fn expect_custom<I: OverlayInt, S: IntShapeResource<I>>(
     options: IntOverlayOptions<I::WideUInt>,
     wanted: &[&[&[(I, I)]]],
 ) -> Result<(), Fail> {
-    source.validate_outline(style)?;
     let mut buffer = filled(alloc)?;
-    for _ in 0..2 {
-        let shapes = source.outline_custom(alloc, style, options)?;
-        source.outline_custom_into(alloc, style, options, &mut buffer)?;
-        expect_answers(&shapes, &buffer, wanted)?;
-    }
-    Ok(())
+    expect_once(alloc, source, style, options, wanted, &mut buffer)?;
+    expect_once(alloc, source, style, options, wanted, &mut buffer)
+}
+
+/// The same, for one call of each kind.
+fn expect_once<I: OverlayInt, S: IntShapeResource<I>>(
+    alloc: Global,
+    source: &S,
+    style: &IntOutlineStyle<I>,
+    options: IntOverlayOptions<I::WideUInt>,
+    wanted: &[&[&[(I, I)]]],
+    buffer: &mut FlatContoursBuffer<I>,
+) -> Result<(), Fail> {
+    source.validate_outline(style)?;
+    let shapes = source.outline_custom(alloc, style, options)?;
+    source.outline_custom_into(alloc, style, options, buffer)?;
+    expect_answers(&shapes, buffer, wanted)
 }
 
 /// The same with the default options, by the calls that name none too.

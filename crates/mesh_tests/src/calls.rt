@@ -4,6 +4,7 @@ use i_overlay_mesh::IntOutlineError;
 use mesh_join::join::Join;
 use mesh_join::style::{DEFAULT_MITER_MIN_TURN, IntLineJoin, IntOutlineStyle, MathMode};
 use mesh_num::num::{Angle, IntNumber};
+use mesh_toolbox::compared::expect_equal;
 use std::alloc::AllocError;
 use std::test::Fail;
 
@@ -53,26 +54,32 @@ fn reach_of_a_miter<I: IntNumber>(bits: u32, radius: I) -> I::Wide {
 }
 
 #[test]
-fn padding_of_a_miter(rt: HostRuntime) {
-    for (bits, radius, want) in REACHES {
-        assert_eq!(rt; reach_of_a_miter(bits, radius), want, "{radius} by {bits}");
-        let wide = reach_of_a_miter(bits, i32::from(radius));
-        assert_eq!(rt; wide, i64::from(want), "{radius} by {bits}");
+fn padding_of_a_miter(_rt: HostRuntime) -> Result<(), Fail> {
+    for row in &REACHES {
+        let (bits, radius, want) = *row;
+        expect_equal(&reach_of_a_miter::<i16>(bits, radius), &want, row)?;
+        let wide = reach_of_a_miter::<i32>(bits, i32::from(radius));
+        expect_equal(&wide, &i64::from(want), row)?;
     }
-    assert_eq!(rt; reach_of_a_miter(0, i32::MIN), 49_232_321_886);
+    let most = reach_of_a_miter::<i32>(0, i32::MIN);
+    expect_equal(&most, &49_232_321_886, &"the farthest")
 }
 
 #[test]
 fn texts_of_errors(rt: HostRuntime) -> Result<(), Fail> {
     let range = IntOutlineError::CoordinateOutOfRange;
     let text = format!(in rt.alloc(); "{range}")?;
-    assert_eq!(rt;
-        text.as_str(),
-        "mesh coordinate exceeds the integer engine range"
-    );
+    expect_equal(
+        &text.as_str(),
+        &"mesh coordinate exceeds the integer engine range",
+        &"the range",
+    )?;
     let memory = IntOutlineError::from(AllocError);
     let text = format!(in rt.alloc(); "{memory}")?;
-    assert_eq!(rt; text.as_str(), "mesh construction ran out of memory");
-    assert_eq!(rt; memory, IntOutlineError::OutOfMemory);
-    Ok(())
+    expect_equal(
+        &text.as_str(),
+        &"mesh construction ran out of memory",
+        &"memory",
+    )?;
+    expect_equal(&memory, &IntOutlineError::OutOfMemory, &"memory")
 }

@@ -8,12 +8,11 @@ use crate::tables::net_counts::NET_COUNTS;
 use crate::tables::outlines::{OUTLINES, OutlineRow};
 use crate::tables::pieces::{PIECES, PieceRow};
 use crate::tables::windings::WINDINGS;
-use mesh_toolbox::compared::are_same_edges;
+use mesh_toolbox::compared::{are_same_edges, expect_equal, expect_that};
 use mesh_toolbox::plain::{
     Edge, Point, closed, crossing, fan, holds, is_balanced, net_count, winding,
 };
 use std::alloc::{AllocError, Global};
-use std::process::Abort;
 use std::test::Fail;
 
 fn wide(spot: Spot) -> Point {
@@ -29,24 +28,24 @@ fn wide_points(alloc: Global, spots: &[Spot]) -> Result<Vec<Point>, AllocError> 
 }
 
 #[test]
-fn crossings(rt: HostRuntime) {
-    for (m, q, start, end, want) in CROSSINGS.iter().copied() {
+fn crossings(_rt: HostRuntime) -> Result<(), Fail> {
+    for row in CROSSINGS {
+        let (m, q, start, end, want) = *row;
         let found = crossing(i128::from(m), wide(q), (wide(start), wide(end)));
-        assert_eq!(rt;
-            found,
-            i128::from(want),
-            "at {q:?} of {start:?}, {end:?} on {m}"
-        );
+        expect_equal(&found, &i128::from(want), row)?;
     }
+    Ok(())
 }
 
 #[test]
 fn windings(rt: HostRuntime) -> Result<(), Fail> {
-    for (contour, spots) in WINDINGS.iter().copied() {
+    for row in WINDINGS {
+        let (contour, spots) = row;
         let edges = closed(rt.alloc(), &wide_points(rt.alloc(), contour)?)?;
-        for (m, q, want) in spots {
+        for spot in spots {
+            let (m, q, want) = *spot;
             let found = winding(i128::from(m), wide(q), &edges);
-            assert_eq!(rt; found, i128::from(want), "at {q:?} of {contour:?} on {m}");
+            expect_equal(&found, &i128::from(want), &(spot, contour))?;
         }
     }
     Ok(())
@@ -54,18 +53,25 @@ fn windings(rt: HostRuntime) -> Result<(), Fail> {
 
 #[test]
 fn net_counts(rt: HostRuntime) -> Result<(), Fail> {
-    for (given, asked, balanced) in NET_COUNTS.iter().copied() {
-        let mut edges = Vec::new(rt.alloc());
-        for (start, end) in given {
-            edges.push((wide(*start), wide(*end)))?;
-        }
-        for (start, end, want) in asked {
+    for row in NET_COUNTS {
+        let (given, asked, balanced) = row;
+        let edges = wide_edges(rt.alloc(), given)?;
+        for pair in asked {
+            let (start, end, want) = *pair;
             let found = net_count((wide(start), wide(end)), &edges);
-            assert_eq!(rt; found, i128::from(want), "{start:?}, {end:?} in {given:?}");
+            expect_equal(&found, &i128::from(want), &(pair, given))?;
         }
-        assert_eq!(rt; is_balanced(&edges), balanced, "{given:?}");
+        expect_equal(&is_balanced(&edges), balanced, given)?;
     }
     Ok(())
+}
+
+fn wide_edges(alloc: Global, pairs: &[(Spot, Spot)]) -> Result<Vec<Edge>, AllocError> {
+    let mut edges = Vec::new(alloc);
+    for (start, end) in pairs {
+        edges.push((wide(*start), wide(*end)))?;
+    }
+    Ok(edges)
 }
 
 /// How many of the triangles hold a point of the grid `m`.
@@ -83,12 +89,19 @@ fn same_triangle(points: [Point; 3], spots: [Spot; 3]) -> bool {
     points[0] == wide(spots[0]) && points[1] == wide(spots[1]) && points[2] == wide(spots[2])
 }
 
-fn expect_fan(rt: &impl Abort, triangles: &[[Point; 3]], row: &FanRow) {
-    let (center, spots, want, _) = *row;
-    assert_eq!(rt; triangles.len(), want.len(), "{center:?} over {spots:?}");
-    for (found, wanted) in triangles.iter().copied().zip(want.iter().copied()) {
-        assert!(rt; same_triangle(found, wanted), "{center:?} over {spots:?}");
+fn expect_fan(triangles: &[[Point; 3]], row: &FanRow) -> Result<(), Fail> {
+    let wanted = row.2;
+    expect_equal(&triangles.len(), &wanted.len(), row)?;
+    let mut number = 0usize;
+    for triangle in triangles {
+        let is_same = match wanted.get(number) {
+            Some(want) => same_triangle(*triangle, *want),
+            None => false,
+        };
+        expect_that(is_same, row)?;
+        number = number.wrapping_add(1);
     }
+    Ok(())
 }
 
 #[test]
@@ -97,10 +110,10 @@ fn fans(rt: HostRuntime) -> Result<(), Fail> {
         let (center, spots, _, asked) = *row;
         let points = wide_points(rt.alloc(), spots)?;
         let triangles = fan(rt.alloc(), wide(center), &points)?;
-        expect_fan(&rt, &triangles, row);
-        for (m, q, want) in asked {
-            let found = held(rt.alloc(), &triangles, m, q)?;
-            assert_eq!(rt; found, want, "{q:?} on {m} in {center:?} over {spots:?}");
+        expect_fan(&triangles, row)?;
+        for (m, q, want) in &asked {
+            let found = held(rt.alloc(), &triangles, *m, *q)?;
+            expect_equal(&found, want, &(q, m, row))?;
         }
     }
     Ok(())
@@ -128,26 +141,20 @@ fn edges_of(alloc: Global, boundaries: &[Vec<Edge>]) -> Result<Vec<Edge>, AllocE
     Ok(edges)
 }
 
-fn expect_pieces(
-    rt: &impl Abort,
-    alloc: Global,
-    outline: &Outline,
-    row: &PieceRow,
-) -> Result<(), AllocError> {
-    let (contour, offset, pieces) = *row;
+fn expect_pieces(alloc: Global, outline: &Outline, row: &PieceRow) -> Result<(), Fail> {
     let found = edges_of(alloc, &outline.between.boundaries)?;
-    let wanted = edges_round(alloc, pieces)?;
-    assert!(rt; are_same_edges(found, wanted)?, "{offset} of {contour:?}");
-    Ok(())
+    let wanted = edges_round(alloc, row.2)?;
+    let are_same = are_same_edges(found, wanted)?;
+    expect_that(are_same, row)
 }
 
 #[test]
 fn pieces(rt: HostRuntime) -> Result<(), Fail> {
     for row in PIECES {
         let small = small_outline::<i16>(rt.alloc(), row.0, row.1)?;
-        expect_pieces(&rt, rt.alloc(), &small, row)?;
+        expect_pieces(rt.alloc(), &small, row)?;
         let large = small_outline::<i32>(rt.alloc(), row.0, row.1)?;
-        expect_pieces(&rt, rt.alloc(), &large, row)?;
+        expect_pieces(rt.alloc(), &large, row)?;
     }
     Ok(())
 }
@@ -156,33 +163,23 @@ fn pieces(rt: HostRuntime) -> Result<(), Fail> {
 fn outlines(rt: HostRuntime) -> Result<(), Fail> {
     for row in OUTLINES {
         let small = small_outline::<i16>(rt.alloc(), row.0, row.1)?;
-        expect_answers(&rt, &small, row);
+        expect_answers(&small, row)?;
         let large = small_outline::<i32>(rt.alloc(), row.0, row.1)?;
-        expect_answers(&rt, &large, row);
+        expect_answers(&large, row)?;
     }
     Ok(())
 }
 
-fn expect_answers(rt: &impl Abort, outline: &Outline, row: &OutlineRow) {
-    let (contour, offset, edges, pieces, spots) = *row;
-    assert_eq!(rt; outline.edges.len(), edges, "{offset} of {contour:?}");
-    assert_eq!(rt;
-        outline.between.boundaries.len(),
-        pieces,
-        "{offset} of {contour:?}"
-    );
-    for (m, q, count, turns) in spots {
+fn expect_answers(outline: &Outline, row: &OutlineRow) -> Result<(), Fail> {
+    let (_, _, edges, pieces, spots) = row;
+    expect_equal(&outline.edges.len(), edges, row)?;
+    expect_equal(&outline.between.boundaries.len(), pieces, row)?;
+    for spot in spots {
+        let (m, q, count, turns) = *spot;
         let found = outline.between.count(i128::from(m), wide(q));
-        assert_eq!(rt;
-            found,
-            (i128::from(count), true),
-            "at {q:?} of {offset}, {contour:?} on {m}"
-        );
+        expect_equal(&found, &(i128::from(count), true), &(spot, row))?;
         let found = winding(i128::from(m), wide(q), &outline.edges);
-        assert_eq!(rt;
-            found,
-            i128::from(turns),
-            "at {q:?} of {offset}, {contour:?} on {m}"
-        );
+        expect_equal(&found, &i128::from(turns), &(spot, row))?;
     }
+    Ok(())
 }

@@ -4,8 +4,10 @@ use i_overlay_mesh::IntOutlineError;
 use i_overlay_mesh::outline::offset::IntOutlineOffset;
 use mesh_join::style::{IntLineJoin, IntOutlineStyle};
 use mesh_num::num::{Angle, OverlayInt};
+use mesh_toolbox::compared::expect_equal;
 use mesh_toolbox::lists::path;
 use std::alloc::{AllocError, Global};
+use std::test::Fail;
 
 /// What the path of these points answers to a style of these offsets.
 fn answer<I: OverlayInt>(
@@ -69,19 +71,21 @@ const LARGE: &[Row<i32>] = &[
 ];
 
 #[test]
-fn small_paths(rt: HostRuntime) -> Result<(), AllocError> {
-    for (points, outer, inner, want) in SMALL.iter().copied() {
+fn small_paths(rt: HostRuntime) -> Result<(), Fail> {
+    for row in SMALL {
+        let (points, outer, inner, want) = *row;
         let found = answer::<i16>(rt.alloc(), points, outer, inner)?;
-        assert!(rt; found == want, "{points:?} with {outer}, {inner}");
+        expect_equal(&found, &want, row)?;
     }
     Ok(())
 }
 
 #[test]
-fn large_paths(rt: HostRuntime) -> Result<(), AllocError> {
-    for (points, outer, inner, want) in LARGE.iter().copied() {
+fn large_paths(rt: HostRuntime) -> Result<(), Fail> {
+    for row in LARGE {
+        let (points, outer, inner, want) = *row;
         let found = answer::<i32>(rt.alloc(), points, outer, inner)?;
-        assert!(rt; found == want, "{points:?} with {outer}, {inner}");
+        expect_equal(&found, &want, row)?;
     }
     Ok(())
 }
@@ -108,16 +112,17 @@ const MITERED: &[(i16, i16, i16, Result<(), IntOutlineError>)] = &[
 
 /// The greater reach of both offsets decides, on each side of both axes.
 #[test]
-fn mitered_paths(rt: HostRuntime) -> Result<(), AllocError> {
+fn mitered_paths(rt: HostRuntime) -> Result<(), Fail> {
     let join = IntLineJoin::Miter(Angle::from_bits(536_870_912));
-    for (far, outer, inner, want) in MITERED.iter().copied() {
+    for row in MITERED {
+        let (far, outer, inner, want) = *row;
         let style = IntOutlineStyle::new(outer)
             .inner_offset(inner)
             .line_join(join);
         let near = far.wrapping_neg();
-        for point in [(far, 0), (near, 0), (0, far), (0, near)] {
-            let found = path(rt.alloc(), &[point])?.validate_outline(&style);
-            assert!(rt; found == want, "{point:?} with {outer}, {inner}");
+        for point in &[(far, 0), (near, 0), (0, far), (0, near)] {
+            let found = path(rt.alloc(), &[*point])?.validate_outline(&style);
+            expect_equal(&found, &want, &(point, row))?;
         }
     }
     Ok(())

@@ -110,7 +110,8 @@ const OTHERS: &[Case] = &[
 #[test]
 fn by_default(rt: HostRuntime) -> Result<(), Fail> {
     for cases in [SQUARES, OTHERS] {
-        for (contours, outer, inner, wanted) in cases.iter().copied() {
+        for case in cases {
+            let (contours, outer, inner, wanted) = *case;
             let source = paths(rt.alloc(), contours)?;
             let style = IntOutlineStyle::new(outer).inner_offset(inner);
             expect(rt.alloc(), &source, &style, wanted)?;
@@ -138,7 +139,8 @@ const OPTIONS: &[(u64, bool, &[&[Row]])] = &[
 fn least_area_of_the_whole(rt: HostRuntime) -> Result<(), Fail> {
     let source = paths(rt.alloc(), TWO)?;
     let style = IntOutlineStyle::new(0);
-    for (area, other, wanted) in OPTIONS.iter().copied() {
+    for case in OPTIONS {
+        let (area, other, wanted) = *case;
         let mut options = IntOverlayOptions::new();
         options.min_output_area = area;
         options.preserve_output_collinear = other;
@@ -189,7 +191,7 @@ const SMALL_REFUSED: &[&[&[(i16, i16)]]] = &[
 #[test]
 fn areas_at_the_end_of_the_wide_type(rt: HostRuntime) -> Result<(), Fail> {
     let style = IntOutlineStyle::new(0);
-    for contours in SMALL_REFUSED.iter().copied() {
+    for contours in SMALL_REFUSED {
         let source = paths(rt.alloc(), contours)?;
         expect_refused(rt.alloc(), &source, &style)?;
     }
