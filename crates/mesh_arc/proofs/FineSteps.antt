@@ -11,7 +11,7 @@ use Rattle.mesh_plane.proofs.Whole.{linear, neg_mul, mul_le_mul_right}
 use Rattle.mesh_grid.specs.Rotation.{cut, rotated, turned_round}
 use Rattle.mesh_grid.specs.Direction.{IsShort, IsFresh}
 use Rattle.mesh_grid.proofs.Rotations.{cut_size, whole_length, rotated_length, turned_round_length}
-use Rattle.mesh_sine.specs.Sine.{sin_cos, IsSinePair}
+use Rattle.mesh_sine.specs.Sine.{sin_cos, IsWithinOne}
 use Rattle.mesh_arc.specs.Arcs.{ahead, step_bits, step_of, is_good, turned}
 use Rattle.mesh_arc.specs.Gaps.{NoStepFails, default_options}
 use Rattle.mesh_arc.specs.declared.arc.ArcDirection.{ArcDirection}
@@ -23,7 +23,7 @@ use Rattle.mesh_arc.proofs.StepConstants.{narrow_step, wide_step, greatest_step}
 pub record IsFineStep (s : Point) : Type 0 where
   pub sine : pos (2 ^ 20) ≤ℤ s.0
   pub wide : pos (2 ^ 20) ≤ℤ (s.1 -ℤ s.0)
-  pub short : IsSinePair s
+  pub short : IsWithinOne s
   pub long : 1073741822 * 1073741822 ≤ length_sq s
 
 -- sine and cosine of a turn to the left, in this sense
@@ -225,7 +225,7 @@ record IsLong (unit k : ℕ) (d : Point) : Type 0 where
   at_most : length_sq d ≤ unit * unit
   at_least : (unit - 2 - 4 * k) * (unit - 2 - 4 * k) ≤ length_sq d
 
-long_after : (unit : ℕ) (s from : Point) → 2 ^ 14 ≤ unit → unit ≤ 2 ^ 30 → IsSinePair s → 1073741822 * 1073741822 ≤ length_sq s
+long_after : (unit : ℕ) (s from : Point) → 2 ^ 14 ≤ unit → unit ≤ 2 ^ 30 → IsWithinOne s → 1073741822 * 1073741822 ≤ length_sq s
     → IsShort unit from → IsFresh unit from → (k : ℕ) → k ≤ 1536 → IsLong unit k (turned s from k)
 unfolding turned
 long_after unit s from u w short long h f zero b =
@@ -259,7 +259,7 @@ no_step_fails : (unit : ℕ) (sense : ArcDirection) (m : ℤ) (s from : Point) �
 unfolding turned
 no_step_fails unit sense m s from f z u w h l k b =
     let c : k ≤ 1536 = omega arith in
-    let short : IsSinePair (sensed sense s) = rw (sensed_length sense s) f.short in
+    let short : IsWithinOne (sensed sense s) = rw (sensed_length sense s) f.short in
     let long : 1073741822 * 1073741822 ≤ length_sq (sensed sense s) = rw (sensed_length sense s) f.long in
     let i : IsLong unit k (turned (sensed sense s) from k) = long_after unit (sensed sense s) from u w short long h l k c in
     good_step unit sense m s (turned (sensed sense s) from k) f z u i.at_most (half_left unit k (length_sq (turned (sensed sense s) from k)) u b i.at_least)

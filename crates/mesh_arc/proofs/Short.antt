@@ -5,7 +5,7 @@ use Rattle.std.specs.List.{All}
 use Rattle.std.proofs.lemmas.List.Elements.{All-nil, All-cons}
 use Rattle.mesh_plane.specs.Plane.{Point}
 use Rattle.mesh_plane.proofs.Sizes.{size_neg}
-use Rattle.mesh_sine.specs.Sine.{one, low_pair, in_quarter, sin_cos, IsSinePair}
+use Rattle.mesh_sine.specs.Sine.{one, low_pair, in_quarter, sin_cos, IsWithinOne}
 use Rattle.mesh_sine.proofs.Lengths.{IsPair, cut_length, with_bits_is_pair}
 use Rattle.mesh_grid.specs.Direction.{IsShort}
 use Rattle.mesh_grid.specs.Rotation.{rotated}
@@ -15,23 +15,23 @@ use Rattle.mesh_arc.specs.declared.arc.ArcDirection.{ArcDirection}
 use Rattle.mesh_arc.specs.declared.arc.ArcDirection.TheVariants.{Clockwise, Counterclockwise}
 use Rattle.mesh_arc.specs.declared.arc.ArcOptions.{ArcOptions}
 
-quarter_short : (quarter c s : ℕ) → c * c + s * s ≤ 2 ^ 60 → IsSinePair (in_quarter quarter c s)
+quarter_short : (quarter c s : ℕ) → c * c + s * s ≤ 2 ^ 60 → IsWithinOne (in_quarter quarter c s)
 quarter_short zero c s h = omega (arith, h)
 quarter_short (suc zero) c s h = rw (size_neg (pos s)) (omega (arith, h))
 quarter_short (suc (suc zero)) c s h = rw (size_neg (pos s), size_neg (pos c)) (omega (arith, h))
 quarter_short (suc (suc (suc n))) c s h = rw (size_neg (pos c)) (omega (arith, h))
 
-pub sin_cos_short : (bits : ℕ) → IsSinePair (sin_cos bits)
+pub sin_cos_short : (bits : ℕ) → IsWithinOne (sin_cos bits)
 sin_cos_short bits =
     let a : ℕ × ℕ = low_pair (bits % 2 ^ 30) in
     let p : IsPair a = with_bits_is_pair (bits % 2 ^ 30) 30 (one, 0) (omega arith) in
     quarter_short (bits / 2 ^ 30) (a.0 / 2 ^ 30) (a.1 / 2 ^ 30) (cut_length a.0 a.1 (2 ^ 30) (2 ^ 60) (lit< tt) (omega (arith, p)))
 
-step_short : (unit : ℕ) (options : ArcOptions) (sense : ArcDirection) → IsSinePair (step_of unit options sense)
+step_short : (unit : ℕ) (options : ArcOptions) (sense : ArcDirection) → IsWithinOne (step_of unit options sense)
 step_short unit options Counterclockwise = sin_cos_short (step_bits unit options)
 step_short unit options Clockwise = rw (turned_round_length (sin_cos (step_bits unit options))) (sin_cos_short (step_bits unit options))
 
-list_short : (unit : ℕ) (step from : Point) (n : ℕ) → IsSinePair step → IsShort unit from → All (IsShort unit) (turned_list step from n)
+list_short : (unit : ℕ) (step from : Point) (n : ℕ) → IsWithinOne step → IsShort unit from → All (IsShort unit) (turned_list step from n)
 unfolding turned_list
 list_short unit step from zero h s = All-nil (IsShort unit)
 list_short unit step from (suc n) h s =

@@ -1,7 +1,7 @@
 -- What the code of an arc knows between its steps: only private contracts and invariants read this.
 use Rattle.std.specs.Prelude.{ℕ, ◌≡◌, ◌<◌, ◌≤◌, ◌^◌, Bool, false, ◌||◌, not, List}
 use Rattle.mesh_plane.specs.Plane.{Point}
-use Rattle.mesh_sine.specs.Sine.{sin_cos, IsSinePair}
+use Rattle.mesh_sine.specs.Sine.{sin_cos, IsWithinOne}
 use Rattle.mesh_arc.specs.Arcs.{step_bits, step_of, bound_of, is_good, is_passed, turned, turned_list, least, ends_after, most_directions, stepped}
 use Rattle.mesh_arc.specs.declared.arc.ArcDirection.{ArcDirection}
 use Rattle.mesh_arc.specs.declared.arc.ArcOptions.{ArcOptions}
@@ -20,7 +20,7 @@ steps_of unit options sense = record { step = step_of unit options sense; bound 
 pub record IsPrepared (unit : ℕ) (options : ArcOptions) (step bound : Point) : Type 0 where
   pub step_is : step ≡ sin_cos (step_bits unit options)
   pub bound_is : bound ≡ bound_of options
-  pub bound_short : IsSinePair bound
+  pub bound_short : IsWithinOne bound
   pub most : options.max_step ≤ 2 ^ 29
 
 -- whether the arc by these steps ends after `k` of them

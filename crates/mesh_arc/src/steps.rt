@@ -3,7 +3,7 @@
 ghost use Rattle.std.specs.Prelude.{◌≡◌, ◌*◌, ◌^◌, ◌≤◌, ◌*ℤ◌, int_le, unsigned_abs, length, [], vec_capacity, IsOk, OnOk, OnErr};
 ghost use Rattle.mesh_plane.specs.Bounds.{IsSafe};
 ghost use Rattle.mesh_plane.specs.Plane.{cross as cross_of, dot as dot_of};
-ghost use Rattle.mesh_sine.specs.Sine.{IsSinePair};
+ghost use Rattle.mesh_sine.specs.Sine.{IsWithinOne};
 ghost use Rattle.mesh_arc.specs.Arcs.{ahead as ahead_of, is_within as is_within_of, is_good as is_good_of, is_passed as is_passed_of, turned_list};
 ghost use Rattle.mesh_arc.specs.Midway.{step_count, ends_before, directions_by};
 
@@ -24,20 +24,20 @@ pub(crate) struct Steps<I: IntNumber> {
 }
 
 impl<I: IntNumber> Model for Steps<I> {
-    ghost use Rattle.mesh_sine.specs.Sine.{IsSinePair};
+    ghost use Rattle.mesh_sine.specs.Sine.{IsWithinOne};
     ghost use Rattle.mesh_arc.specs.Midway.{Steps};
 
     ghost Value = { Steps };
 
     ghost view = { λ s. record { step = s.rotation; bound = s.bound; sense = s.sense } };
 
-    ghost invariant = { λ s. IsSinePair s.bound };
+    ghost invariant = { λ s. IsWithinOne s.bound };
 }
 
 impl<I: IntNumber> Steps<I> {
     /// Steps by this rotation in this sense, with gaps of at most the angle with this sine and cosine.
     pub(crate) fn new(rotation: Rotation<I>, bound: (i32, i32), sense: ArcDirection) -> Self
-        requires { IsSinePair bound }
+        requires { IsWithinOne bound }
         ensures { result ≡ record { step = rotation; bound = bound; sense = sense } }
     {
         Steps {

@@ -54,7 +54,8 @@ begun (p ∷ ps) round = round
 
 -- the kept points of a closed list, begun at the first one that stands inside the list without repeats, or else at the list's first point
 abbrev pub cleaned_points : List Point → List Point
-cleaned_points points = begun (kept_inside (without_repeats points)) (kept_round (without_repeated_end (without_repeats points)))
+cleaned_points points =
+    begun (kept_inside (without_repeats points)) (kept_round (without_repeated_end (without_repeats points)))
 
 -- the edges of the cleaned contour
 unfoldable pub cleaned_sections : List Point → List Edge

@@ -11,7 +11,7 @@ use Rattle.mesh_plane.proofs.Ring.{ring, var, lit, neg, ◌⊕◌, ◌⊖◌, �
 use Rattle.mesh_plane.proofs.Rounding.{rounded_at_least, rounded_at_most}
 use Rattle.mesh_cuts.specs.Split.{is_end, IsBetween, IsInBox, AreOpposite, IsCrossing, rounded_quotient, crossing_at, rounded_crossing, Meets, at_start_of_second, at_end_of_second, at_start_of_first, at_end_of_first, at_crossing}
 use Rattle.mesh_cuts.proofs.Ends.{decides_end}
-use Rattle.mesh_plane.proofs.Places.{place, coordinates, turned}
+use Rattle.mesh_plane.proofs.PointExprs.{point_var, coordinates, turned}
 use Rattle.mesh_plane.proofs.Crossings.{turn_flip}
 use Rattle.mesh_cuts.specs.Clean.{IsOn}
 use Rattle.mesh_cuts.specs.Split.{back}
@@ -90,36 +90,36 @@ crossing_between a b s t (inr h) =
 -- ---- the crossing of two edges
 
 pub turn_start : (p r : Point) → turn p r p ≡ pos 0
-turn_start p r = ring (coordinates (p ∷ r ∷ []) []) (turned (place 0) (place 1) (place 0)) (lit (pos 0)) refl
+turn_start p r = ring (coordinates (p ∷ r ∷ []) []) (turned (point_var 0) (point_var 1) (point_var 0)) (lit (pos 0)) refl
 
 pub turn_end : (p r : Point) → turn p r r ≡ pos 0
-turn_end p r = ring (coordinates (p ∷ r ∷ []) []) (turned (place 0) (place 1) (place 1)) (lit (pos 0)) refl
+turn_end p r = ring (coordinates (p ∷ r ∷ []) []) (turned (point_var 0) (point_var 1) (point_var 1)) (lit (pos 0)) refl
 
 -- the turns of two edges' ends from each other differ by the same number
 pub turns_differ : (a b p r : Point) → turn p r a -ℤ turn p r b ≡ neg_ℤ (turn a b p -ℤ turn a b r)
 turns_differ a b p r =
-    let e = turned (place 2) (place 3) in
-    let f = turned (place 0) (place 1) in
-    ring (coordinates (a ∷ b ∷ p ∷ r ∷ []) []) (e (place 0) ⊖ e (place 1)) (neg (f (place 2) ⊖ f (place 3))) refl
+    let e = turned (point_var 2) (point_var 3) in
+    let f = turned (point_var 0) (point_var 1) in
+    ring (coordinates (a ∷ b ∷ p ∷ r ∷ []) []) (e (point_var 0) ⊖ e (point_var 1)) (neg (f (point_var 2) ⊖ f (point_var 3))) refl
 
 crossing_x : (a b p r : Point)
     → (a.0 *ℤ (turn p r a -ℤ turn p r b)) +ℤ ((b.0 -ℤ a.0) *ℤ turn p r a) ≡ neg_ℤ ((p.0 *ℤ (turn a b p -ℤ turn a b r)) +ℤ ((r.0 -ℤ p.0) *ℤ turn a b p))
 crossing_x a b p r =
-    let e = turned (place 2) (place 3) in
-    let f = turned (place 0) (place 1) in
+    let e = turned (point_var 2) (point_var 3) in
+    let f = turned (point_var 0) (point_var 1) in
     ring (coordinates (a ∷ b ∷ p ∷ r ∷ []) [])
-    ((var 0 ⊗ (e (place 0) ⊖ e (place 1))) ⊕ ((var 2 ⊖ var 0) ⊗ e (place 0)))
-    (neg ((var 4 ⊗ (f (place 2) ⊖ f (place 3))) ⊕ ((var 6 ⊖ var 4) ⊗ f (place 2))))
+    ((var 0 ⊗ (e (point_var 0) ⊖ e (point_var 1))) ⊕ ((var 2 ⊖ var 0) ⊗ e (point_var 0)))
+    (neg ((var 4 ⊗ (f (point_var 2) ⊖ f (point_var 3))) ⊕ ((var 6 ⊖ var 4) ⊗ f (point_var 2))))
     refl
 
 crossing_y : (a b p r : Point)
     → (a.1 *ℤ (turn p r a -ℤ turn p r b)) +ℤ ((b.1 -ℤ a.1) *ℤ turn p r a) ≡ neg_ℤ ((p.1 *ℤ (turn a b p -ℤ turn a b r)) +ℤ ((r.1 -ℤ p.1) *ℤ turn a b p))
 crossing_y a b p r =
-    let e = turned (place 2) (place 3) in
-    let f = turned (place 0) (place 1) in
+    let e = turned (point_var 2) (point_var 3) in
+    let f = turned (point_var 0) (point_var 1) in
     ring (coordinates (a ∷ b ∷ p ∷ r ∷ []) [])
-    ((var 1 ⊗ (e (place 0) ⊖ e (place 1))) ⊕ ((var 3 ⊖ var 1) ⊗ e (place 0)))
-    (neg ((var 5 ⊗ (f (place 2) ⊖ f (place 3))) ⊕ ((var 7 ⊖ var 5) ⊗ f (place 2))))
+    ((var 1 ⊗ (e (point_var 0) ⊖ e (point_var 1))) ⊕ ((var 3 ⊖ var 1) ⊗ e (point_var 0)))
+    (neg ((var 5 ⊗ (f (point_var 2) ⊖ f (point_var 3))) ⊕ ((var 7 ⊖ var 5) ⊗ f (point_var 2))))
     refl
 
 pub parted : (s t : ℤ) → AreOpposite s t → (pos 0 <ℤ (s -ℤ t)) ⊎ ((s -ℤ t) <ℤ pos 0)

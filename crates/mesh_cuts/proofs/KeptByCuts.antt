@@ -2,7 +2,7 @@
 use Rattle.std.proofs.Common.{arith, List, ◌≡◌, ⊎_elim, true, sym, ap, subst, [], ◌∷◌, ◌++◌, refl, ◌∙◌, append_assoc, Bool, false, cond}
 use Rattle.std.specs.Prelude.{ℤ, ◌≤ℤ◌, ◌<ℤ◌}
 use Rattle.std.proofs.lemmas.Int.{ints, by_lt_z}
-use Rattle.mesh_cuts.specs.Split.{IsBetween, IsInBox, back, Cut, same_ends, pieces, cut, after}
+use Rattle.mesh_cuts.specs.Split.{IsBetween, IsInBox, back, Cut, same_ends, cut_edge, cut, after}
 use Rattle.mesh_plane.specs.Plane.{Edge, Point}
 use Rattle.mesh_cuts.proofs.Each.{Each}
 use Rattle.mesh_cuts.proofs.Ends.{decides_ends}
@@ -46,7 +46,7 @@ cut_box k f h t =
 
 cut_append : (k : Cut) (xs ys : List Edge) → cut k (xs ++ ys) ≡ cut k xs ++ cut k ys
 cut_append k [] ys = refl
-cut_append k (x ∷ xs) ys = ap (λ (l : List Edge). pieces k x ++ l) (cut_append k xs ys) ∙ sym (append_assoc (pieces k x) (cut k xs) (cut k ys))
+cut_append k (x ∷ xs) ys = ap (λ (l : List Edge). cut_edge k x ++ l) (cut_append k xs ys) ∙ sym (append_assoc (cut_edge k x) (cut k xs) (cut k ys))
 
 pub after_append : (ks : List Cut) (xs ys : List Edge) → after ks (xs ++ ys) ≡ after ks xs ++ after ks ys
 after_append [] xs ys = refl

@@ -4,7 +4,7 @@ use Rattle.std.specs.Prelude.{ℤ, pos, neg_ℤ, ◌-ℤ◌, ◌*ℤ◌, ◌≤�
 use Rattle.std.proofs.lemmas.Bool.{both_ways}
 use Rattle.std.proofs.lemmas.Int.{by_lt_z}
 use Rattle.mesh_plane.proofs.Crossings.{turn_flip}
-use Rattle.mesh_plane.proofs.Places.{place, coordinates, turned}
+use Rattle.mesh_plane.proofs.PointExprs.{point_var, coordinates, turned}
 use Rattle.mesh_plane.proofs.Ring.{ring, var, ◌⊖◌, ◌⊗◌}
 use Rattle.mesh_plane.proofs.Whole.{linear, multiplied, mul_neg, mul_nonneg, mul_pos, mul_zero}
 use Rattle.mesh_cuts.proofs.Ends.{decides_end}
@@ -58,18 +58,18 @@ no_way a p r s t (inr h) e between =
 
 ways_x : (a b p r : Point) → (r.0 -ℤ a.0) *ℤ turn a b p ≡ ((p.0 -ℤ a.0) *ℤ turn a b r) -ℤ ((b.0 -ℤ a.0) *ℤ turn p r a)
 ways_x a b p r =
-    let f = turned (place 0) (place 1) in
+    let f = turned (point_var 0) (point_var 1) in
     ring (coordinates (a ∷ b ∷ p ∷ r ∷ []) [])
-    ((var 6 ⊖ var 0) ⊗ f (place 2))
-    (((var 4 ⊖ var 0) ⊗ f (place 3)) ⊖ ((var 2 ⊖ var 0) ⊗ turned (place 2) (place 3) (place 0)))
+    ((var 6 ⊖ var 0) ⊗ f (point_var 2))
+    (((var 4 ⊖ var 0) ⊗ f (point_var 3)) ⊖ ((var 2 ⊖ var 0) ⊗ turned (point_var 2) (point_var 3) (point_var 0)))
     refl
 
 ways_y : (a b p r : Point) → (r.1 -ℤ a.1) *ℤ turn a b p ≡ ((p.1 -ℤ a.1) *ℤ turn a b r) -ℤ ((b.1 -ℤ a.1) *ℤ turn p r a)
 ways_y a b p r =
-    let f = turned (place 0) (place 1) in
+    let f = turned (point_var 0) (point_var 1) in
     ring (coordinates (a ∷ b ∷ p ∷ r ∷ []) [])
-    ((var 7 ⊖ var 1) ⊗ f (place 2))
-    (((var 5 ⊖ var 1) ⊗ f (place 3)) ⊖ ((var 3 ⊖ var 1) ⊗ turned (place 2) (place 3) (place 0)))
+    ((var 7 ⊖ var 1) ⊗ f (point_var 2))
+    (((var 5 ⊖ var 1) ⊗ f (point_var 3)) ⊖ ((var 3 ⊖ var 1) ⊗ turned (point_var 2) (point_var 3) (point_var 0)))
     refl
 
 -- an edge with both ends on one side of a line has no inner point on it

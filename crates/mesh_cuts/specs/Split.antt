@@ -82,13 +82,13 @@ pub record Cut : Type 0 where
   pub at : Point
 
 -- what a cut leaves of an edge: two edges where it cuts it, else the edge
-abbrev pub pieces : Cut → Edge → List Edge
-pieces k e = cond (same_ends e k.ends) ((e.0, k.at) ∷ (k.at, e.1) ∷ []) (e ∷ [])
+abbrev pub cut_edge : Cut → Edge → List Edge
+cut_edge k e = cond (same_ends e k.ends) ((e.0, k.at) ∷ (k.at, e.1) ∷ []) (e ∷ [])
 
 -- the edges after one cut
 abbrev pub cut : Cut → List Edge → List Edge
 cut k [] = []
-cut k (e ∷ es) = pieces k e ++ cut k es
+cut k (e ∷ es) = cut_edge k e ++ cut k es
 
 -- the edges after a list of cuts, the latest of them first
 abbrev pub after : List Cut → List Edge → List Edge

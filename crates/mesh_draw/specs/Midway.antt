@@ -1,5 +1,5 @@
--- What stands after some of many paths were drawn, and after edges that close up were added. Private contracts alone read
--- this.
+-- What stands after some of many paths were drawn, and after edges that close up were added. Private contracts alone
+-- read this.
 use Rattle.std.specs.Prelude.{ℕ, ◌≡◌, List, ◌++◌}
 use Rattle.std.specs.List.{All, flat_map}
 use Rattle.std.specs.List.Sorted.{IsPermutation}

@@ -7,7 +7,7 @@ use mir.Syntax.{w32, w128}
 use mir.Val.{SFits, to_z, of_z}
 use Rattle.mesh_plane.specs.Plane.{Point}
 use Rattle.mesh_plane.proofs.Sizes.{le_of_squares, sum_size, difference_size}
-use Rattle.mesh_sine.specs.Sine.{IsSinePair}
+use Rattle.mesh_sine.specs.Sine.{IsWithinOne}
 use Rattle.mesh_grid.specs.Direction.{IsShort}
 use Rattle.mesh_grid.proofs.Scaling.{short_bounded}
 
@@ -17,7 +17,7 @@ passed z h = to_z-of_z w128 z (fits_signed_from_abs w128 z (omega arith))
 -- ---- sines and directions
 
 -- a sine and a cosine that are together at most 2 ^ 30 long
-pub sines_small : (s : Point) → IsSinePair s → (unsigned_abs s.0 ≤ 2 ^ 30) × (unsigned_abs s.1 ≤ 2 ^ 30)
+pub sines_small : (s : Point) → IsWithinOne s → (unsigned_abs s.0 ≤ 2 ^ 30) × (unsigned_abs s.1 ≤ 2 ^ 30)
 sines_small s h = (le_of_squares (unsigned_abs s.0) (2 ^ 30) (omega arith), le_of_squares (unsigned_abs s.1) (2 ^ 30) (omega arith))
 
 -- a number of 32 bits, widened to 128

@@ -6,7 +6,7 @@ use Rattle.std.proofs.lemmas.Int.{ints}
 use Rattle.mesh_plane.specs.Plane.{Point, length_sq, dot}
 use Rattle.mesh_plane.proofs.Identities.{rotation_length}
 use Rattle.mesh_plane.proofs.Sizes.{size_neg, dot_self, le_of_squares}
-use Rattle.mesh_sine.specs.Sine.{IsSinePair}
+use Rattle.mesh_sine.specs.Sine.{IsWithinOne}
 use Rattle.mesh_grid.specs.Direction.{IsShort}
 use Rattle.mesh_grid.specs.Rotation.{cut, turned, rotated, turned_along, turned_round, IsWithinLength}
 use Rattle.mesh_plane.proofs.Rounding.{rounded_within}
@@ -35,7 +35,7 @@ whole_length s v =
     omega (arith, ints, e)
 
 -- turned by a sine and a cosine that are together at most 2 ^ 30 long, a vector is no longer than before
-pub rotated_length : (s v : Point) → IsSinePair s → length_sq (rotated s v) ≤ length_sq v
+pub rotated_length : (s v : Point) → IsWithinOne s → length_sq (rotated s v) ≤ length_sq v
 rotated_length s v h =
     let a = (s.1 *ℤ v.0) -ℤ (s.0 *ℤ v.1) in
     let b = (s.0 *ℤ v.0) +ℤ (s.1 *ℤ v.1) in

@@ -9,14 +9,14 @@ use mir.Val.{to_z, of_z, SFits}
 use Rattle.mesh_plane.specs.Plane.{Point, opposite, cross, dot}
 use Rattle.mesh_plane.proofs.Identities.{cross_opposite, dot_opposite}
 use Rattle.mesh_plane.proofs.Sizes.{le_of_squares, size_neg}
-use Rattle.mesh_sine.specs.Sine.{sin_cos, IsSinePair}
+use Rattle.mesh_sine.specs.Sine.{sin_cos, IsWithinOne}
 use Rattle.mesh_join.specs.Joints.{Joint}
 use Rattle.mesh_join.specs.Midway.Miters.{IsHalfSine}
 use Rattle.mesh_join.specs.Miters.{slightest, sharpest, half_sharpest, is_angle_below, is_slight, is_sharp}
 use Rattle.mesh_join.proofs.Miters.{half_sine}
 
 -- a sine or a cosine fits 32 bits
-pub sine_fits : (p : Point) → IsSinePair p → SFits w32 p.0 × SFits w32 p.1
+pub sine_fits : (p : Point) → IsWithinOne p → SFits w32 p.0 × SFits w32 p.1
 sine_fits p h =
     let x : unsigned_abs p.0 ≤ 2 ^ 30 = le_of_squares (unsigned_abs p.0) (2 ^ 30) (omega arith) in
     let y : unsigned_abs p.1 ≤ 2 ^ 30 = le_of_squares (unsigned_abs p.1) (2 ^ 30) (omega arith) in

@@ -7,7 +7,7 @@ ghost use Rattle.mesh_plane.specs.Plane.{minus, cross as cross_of, dot as dot_of
 ghost use Rattle.mesh_grid.specs.Direction.{scaled_direction};
 ghost use Rattle.mesh_grid.specs.Quotient.{rounded_product as product_over};
 ghost use Rattle.mesh_grid.specs.Rectangle.{IsSafeWidened};
-ghost use Rattle.mesh_sine.specs.Sine.{IsSinePair};
+ghost use Rattle.mesh_sine.specs.Sine.{IsWithinOne};
 ghost use Rattle.mesh_join.specs.Appending.{Appends, HasRoomForEdges};
 ghost use Rattle.mesh_join.specs.Joins.{IsJoint};
 ghost use Rattle.mesh_join.specs.Methods.{style_of_miter};
@@ -73,7 +73,7 @@ fn slightest(min_turn: Angle) -> Angle
 // Sine and cosine of half the sharpest angle.
 fn half_sharpest(angle: Angle) -> (i32, i32)
     ensures value { result ≡ half_of angle }
-    ensures bounded { IsSinePair result }
+    ensures bounded { IsWithinOne result }
 {
     Angle::from_bits(sharpest(angle).bits() / 2).sin_cos()
 }

@@ -32,14 +32,15 @@ FinalEdgesAreBalanced =
     (unit : ℕ) (style : OutlineStyle) (contours : List (List Point)) (given : List Edge) → Give unit style contours given
     → IsProper (proper_edges given) × IsBalanced (proper_edges given)
 
--- so each outline is made of regions: its contours wind once round what the edges of the last resolving fill, and round no other point
+-- so each outline is made of regions: the contours of its last resolving wind once round what the split edges fill, and
+-- round no other point; outside the boxes of edges that rounding bent, round what the given edges fill
 abbrev pub OutlinesAreRegions : Type 0
 OutlinesAreRegions =
     (unit : ℕ) (style : OutlineStyle) (choices : Choices) (contours : List (List Point)) (answer : List (List (List Point)))
     → (outline : IsOutline unit style choices contours answer)
     → (made : AreRegions (proper_edges outline.given) (filled Positive) choices answer) × (made.resolution ≡ outline.resolution)
 
--- and so is what comes of one contour: the contours wind once round what the edges of its own outline fill, and round no other point
+-- and so is what comes of one contour alone, of the edges of its own outline
 abbrev pub AnswersAloneAreRegions : Type 0
 AnswersAloneAreRegions =
     (unit : ℕ) → 2 ^ 14 ≤ unit → (style : OffsetJoin) (rule : FillRule) (contour : List Point) (answer : List (List (List Point)))

@@ -17,12 +17,13 @@ pub fn final_edges_are_balanced()
     ensures { FinalEdgesAreBalanced }
 {}
 
-/// The contours of an outline wind once round what the edges of its last resolving fill, and round no other point.
+/// An outline is made of regions: the contours of its last resolving wind once round each point that the split edges
+/// fill, and round no other; outside the boxes of edges that rounding bent, so do they of the edges as given.
 pub fn outlines_are_regions()
     ensures { OutlinesAreRegions }
 {}
 
-/// The contours that come of one contour wind once round what the edges of its outline fill, and round no other point.
+/// What comes of one contour alone is made of regions, in the same sense, of the edges of its outline.
 pub fn answers_alone_are_regions()
     ensures { AnswersAloneAreRegions }
 {}

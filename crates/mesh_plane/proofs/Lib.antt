@@ -6,7 +6,7 @@ pub mod Grids
 pub mod Identities
 pub mod LineTurns
 pub mod Pieces
-pub mod Places
+pub mod PointExprs
 pub mod Ring
 pub mod Rounding
 pub mod Signs

@@ -3,7 +3,7 @@ use Rattle.std.proofs.Common.{◌≡◌, [], ◌∷◌, refl, ◌∙◌, ⊎_eli
 use Rattle.std.specs.Prelude.{◌-ℤ◌, ◌*ℤ◌, ℤ, pos}
 use Rattle.mesh_plane.specs.Plane.{Point, turn}
 use Rattle.mesh_plane.proofs.Ring.{ring, var, ◌⊖◌, ◌⊗◌, lit}
-use Rattle.mesh_plane.proofs.Places.{place, coordinates, turned}
+use Rattle.mesh_plane.proofs.PointExprs.{point_var, coordinates, turned}
 use Rattle.std.proofs.lemmas.Int.{ints}
 use Rattle.mesh_plane.proofs.Whole.{factor}
 
@@ -11,16 +11,16 @@ pub along_x : (a b p r : Point) →
     (r.0 -ℤ p.0) *ℤ turn a b p ≡ ((a.0 -ℤ p.0) *ℤ (turn p r b -ℤ turn p r a)) -ℤ ((b.0 -ℤ a.0) *ℤ turn p r a)
 along_x a b p r =
     ring (coordinates (a ∷ b ∷ p ∷ r ∷ []) [])
-    ((var 6 ⊖ var 4) ⊗ turned (place 0) (place 1) (place 2))
-    (((var 0 ⊖ var 4) ⊗ (turned (place 2) (place 3) (place 1) ⊖ turned (place 2) (place 3) (place 0))) ⊖ ((var 2 ⊖ var 0) ⊗ turned (place 2) (place 3) (place 0)))
+    ((var 6 ⊖ var 4) ⊗ turned (point_var 0) (point_var 1) (point_var 2))
+    (((var 0 ⊖ var 4) ⊗ (turned (point_var 2) (point_var 3) (point_var 1) ⊖ turned (point_var 2) (point_var 3) (point_var 0))) ⊖ ((var 2 ⊖ var 0) ⊗ turned (point_var 2) (point_var 3) (point_var 0)))
     refl
 
 pub along_y : (a b p r : Point) →
     (r.1 -ℤ p.1) *ℤ turn a b p ≡ ((a.1 -ℤ p.1) *ℤ (turn p r b -ℤ turn p r a)) -ℤ ((b.1 -ℤ a.1) *ℤ turn p r a)
 along_y a b p r =
     ring (coordinates (a ∷ b ∷ p ∷ r ∷ []) [])
-    ((var 7 ⊖ var 5) ⊗ turned (place 0) (place 1) (place 2))
-    (((var 1 ⊖ var 5) ⊗ (turned (place 2) (place 3) (place 1) ⊖ turned (place 2) (place 3) (place 0))) ⊖ ((var 3 ⊖ var 1) ⊗ turned (place 2) (place 3) (place 0)))
+    ((var 7 ⊖ var 5) ⊗ turned (point_var 0) (point_var 1) (point_var 2))
+    (((var 1 ⊖ var 5) ⊗ (turned (point_var 2) (point_var 3) (point_var 1) ⊖ turned (point_var 2) (point_var 3) (point_var 0))) ⊖ ((var 3 ⊖ var 1) ⊗ turned (point_var 2) (point_var 3) (point_var 0)))
     refl
 
 none_of : (c d x y : ℤ) → x ≡ pos 0 → y ≡ pos 0 → (c *ℤ (y -ℤ x)) -ℤ (d *ℤ x) ≡ pos 0

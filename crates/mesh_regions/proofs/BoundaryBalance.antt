@@ -14,7 +14,7 @@ use Rattle.mesh_cuts.specs.Clean.{IsOn, IsClean, IsProper}
 use Rattle.mesh_cuts.specs.Split.{back, same_ends, occurs, IsBetween}
 use Rattle.mesh_cuts.specs.Counted.{bit, net}
 use Rattle.mesh_cuts.specs.Boundary.{winding_beside, left_winding, right_winding, IsBoundary}
-use Rattle.mesh_plane.proofs.Places.{place, coordinates, turned}
+use Rattle.mesh_plane.proofs.PointExprs.{point_var, coordinates, turned}
 use Rattle.mesh_plane.proofs.Grids.{scale, part, winds}
 use Rattle.mesh_cuts.proofs.Each.{Each}
 use Rattle.mesh_sides.proofs.SidesClear.{Meeting, meeting_of}
@@ -71,11 +71,11 @@ below_over a b h t low high = grind (arith, ints)
 -- the turn of a point level with an end
 start_turn : (p r : Point) (x : ℤ) → turn p r (x, p.1) ≡ (r.1 -ℤ p.1) *ℤ (p.0 -ℤ x)
 start_turn p r x =
-    ring (coordinates (p ∷ r ∷ []) (x ∷ [])) (turned (place 0) (place 1) (var 4, var 1)) ((var 3 ⊖ var 1) ⊗ (var 0 ⊖ var 4)) refl
+    ring (coordinates (p ∷ r ∷ []) (x ∷ [])) (turned (point_var 0) (point_var 1) (var 4, var 1)) ((var 3 ⊖ var 1) ⊗ (var 0 ⊖ var 4)) refl
 
 end_turn : (p r : Point) (x : ℤ) → turn p r (x, r.1) ≡ (r.1 -ℤ p.1) *ℤ (r.0 -ℤ x)
 end_turn p r x =
-    ring (coordinates (p ∷ r ∷ []) (x ∷ [])) (turned (place 0) (place 1) (var 4, var 3)) ((var 3 ⊖ var 1) ⊗ (var 2 ⊖ var 4)) refl
+    ring (coordinates (p ∷ r ∷ []) (x ∷ [])) (turned (point_var 0) (point_var 1) (var 4, var 3)) ((var 3 ⊖ var 1) ⊗ (var 2 ⊖ var 4)) refl
 
 abbrev Lift : Point → Point → Point → Type 0
 Lift q p r = (crossing q p r -ℤ crossing_below q p r) -ℤ (behind q p -ℤ behind q r) ≡ pos 0

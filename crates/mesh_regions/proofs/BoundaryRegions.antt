@@ -14,7 +14,7 @@ use Rattle.mesh_plane.proofs.Crossings.{crossing_low, crossing_high, turn_flip}
 use Rattle.mesh_plane.proofs.Sums.{total_append}
 use Rattle.mesh_cuts.specs.Split.{same_ends, occurs, IsInBox, IsBetween, Cut, cut, after, path}
 use Rattle.mesh_regions.specs.Regions.{is_bent}
-use Rattle.mesh_plane.proofs.Places.{place, coordinates, turned, scaled_place}
+use Rattle.mesh_plane.proofs.PointExprs.{point_var, coordinates, turned, scaled_point_expr}
 use Rattle.mesh_sides.proofs.SidesPotential.{above, crosses_west, crosses_east}
 use Rattle.mesh_plane.proofs.Grids.{scale, winds}
 use Rattle.mesh_cuts.proofs.Keys.{occurs_head}
@@ -36,9 +36,9 @@ line_identity : (m : ℤ) (p r v w q : Point) →
     -ℤ ((m *ℤ (turn p r w -ℤ turn p r v)) *ℤ (q.1 -ℤ (m *ℤ v.1)))
 line_identity m p r v w q =
     ring (coordinates (p ∷ r ∷ v ∷ w ∷ q ∷ []) (m ∷ []))
-    ((var 3 ⊖ var 1) ⊗ turned (scaled_place (var 10) (place 2)) (scaled_place (var 10) (place 3)) (place 4))
-    ((((var 10 ⊗ var 7) ⊖ (var 10 ⊗ var 5)) ⊗ ((((var 2 ⊖ var 0) ⊗ (var 9 ⊖ (var 10 ⊗ var 1))) ⊖ ((var 3 ⊖ var 1) ⊗ (var 8 ⊖ (var 10 ⊗ var 0)))) ⊖ (var 10 ⊗ turned (place 0) (place 1) (place 2))))
-    ⊖ ((var 10 ⊗ (turned (place 0) (place 1) (place 3) ⊖ turned (place 0) (place 1) (place 2))) ⊗ (var 9 ⊖ (var 10 ⊗ var 5))))
+    ((var 3 ⊖ var 1) ⊗ turned (scaled_point_expr (var 10) (point_var 2)) (scaled_point_expr (var 10) (point_var 3)) (point_var 4))
+    ((((var 10 ⊗ var 7) ⊖ (var 10 ⊗ var 5)) ⊗ ((((var 2 ⊖ var 0) ⊗ (var 9 ⊖ (var 10 ⊗ var 1))) ⊖ ((var 3 ⊖ var 1) ⊗ (var 8 ⊖ (var 10 ⊗ var 0)))) ⊖ (var 10 ⊗ turned (point_var 0) (point_var 1) (point_var 2))))
+    ⊖ ((var 10 ⊗ (turned (point_var 0) (point_var 1) (point_var 3) ⊖ turned (point_var 0) (point_var 1) (point_var 2))) ⊗ (var 9 ⊖ (var 10 ⊗ var 5))))
     refl
 
 abbrev OnLine : Point → Point → Point → Type 0
@@ -96,7 +96,7 @@ flat_level m p r q differ flat = record {
 }
   where
     flat_turn : (v : Point) → turn p (r.0, p.1) v ≡ (r.0 -ℤ p.0) *ℤ (v.1 -ℤ p.1)
-    flat_turn v = ring (coordinates (p ∷ r ∷ v ∷ []) []) (turned (place 0) (var 2, var 1) (place 2)) ((var 2 ⊖ var 0) ⊗ (var 5 ⊖ var 1)) refl
+    flat_turn v = ring (coordinates (p ∷ r ∷ v ∷ []) []) (turned (point_var 0) (var 2, var 1) (point_var 2)) ((var 2 ⊖ var 0) ⊗ (var 5 ⊖ var 1)) refl
 
     height : (v : Point) → OnLine p r v → v.1 ≡ p.1
     height v hv =

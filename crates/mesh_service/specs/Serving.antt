@@ -62,8 +62,8 @@ pub record AppendsBeginning (old new : Option (List ℕ)) (line : List ℕ) : Ty
   pub whole : line ≡ written ++ rest
   pub appended : Appends old new written
 
--- the refusal that a run met, where the reader had these bytes left, and these when the run ended: the request, which was read
--- to the end, may not be answered, or memory was refused; and the line of that was written whole
+-- the refusal that a run met, where the reader had these bytes left, and these when the run ended: the request, which
+-- was read to the end, may not be answered, or memory was refused; and the line of that was written whole
 pub data MetRefusal (left unread old new : Option (List ℕ)) : Type 0 where
   of_range : {request : List ℕ} → IfSome left (λ bytes. request ≡ bytes) → IsAtEnd unread → IsRefused request
       → Appends old new (failure_line (Refused CoordinateOutOfRange)) → MetRefusal left unread old new

@@ -11,8 +11,8 @@ use std::io::{ErrorKind, Read};
 /// How many bytes are read at once.
 const CHUNK: usize = 4096;
 
-/// The bytes that the reader has left, all of which are read. An error of its own makes them unreadable; memory is wanted
-/// only where a growth was refused.
+/// The bytes that the reader has left, all of which are read. An error of its own makes them unreadable; memory is
+/// wanted only where a growth was refused.
 pub fn read_to_end<R: Read>(alloc: Global, reader: &mut R) -> Result<Vec<u8>, Failure>
     ensures bytes { IfOk result (λ bytes. IfSome (R.remaining reader.old) (λ xs. bytes.items ≡ xs)) }
     ensures end { OnOk result (IsAtEnd (R.remaining reader.new)) }

@@ -36,13 +36,13 @@ pub enum Status {
     Unreadable,
     /// Reading failed, and the line of what is unreadable was written.
     Unread,
-    /// Writing failed. A beginning of the line was written.
+    /// Writing failed. A beginning of the line was written, which may be all of it or nothing.
     Unwritten,
 }
 
 impl Status {
-    /// The exit status of the process: 0 for an answer; 1 where the request was refused, or writing failed; 2 for what is
-    /// no request, or where reading failed.
+    /// The exit status of the process: 0 for an answer; 1 where the request was refused, or writing failed; 2 for what
+    /// is no request, or where reading failed.
     pub fn code(self) -> u8
         ensures answered { result ≡ 0 ↔ (self ≡ Status.Answered) }
         ensures refused { result ≡ 1 ↔ (self ≡ Status.Refused) ⊎ (self ≡ Status.Unwritten) }

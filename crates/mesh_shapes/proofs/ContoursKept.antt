@@ -10,7 +10,7 @@ use Rattle.mesh_plane.proofs.Crossings.{turn_swap, turn_cycle}
 use Rattle.mesh_plane.proofs.Triangles.{crossing_on_straight}
 use Rattle.mesh_plane.specs.Ways.{turns_at, first_or}
 use Rattle.mesh_shapes.specs.Contours.{turning_points, vertices}
-use Rattle.mesh_plane.proofs.Places.{place, coordinates, turned}
+use Rattle.mesh_plane.proofs.PointExprs.{point_var, coordinates, turned}
 use Rattle.mesh_cuts.proofs.Each.{Each}
 use Rattle.mesh_plane.proofs.LineTurns.{line_turn}
 
@@ -36,7 +36,7 @@ module _ (f : Point → Point → ℤ) (straight : IsStraight f) where
   none p = omega (arith, linear, straight p p p (flat p))
     where
       flat : (p : Point) → turn p p p ≡ pos 0
-      flat p = ring (coordinates (p ∷ []) []) (turned (place 0) (place 0) (place 0)) (lit (pos 0)) refl
+      flat p = ring (coordinates (p ∷ []) []) (turned (point_var 0) (point_var 0) (point_var 0)) (lit (pos 0)) refl
 
   onward_sum : (k a n : Point) → Onward k a n → f k a +ℤ f a n ≡ f k n
   onward_sum k a n (inl e) = ap (λ (p : Point). f p a +ℤ f a n) e ∙ (omega (arith, linear, none a) ∙ ap (λ (p : Point). f p n) (sym e))

@@ -5,7 +5,7 @@ use Rattle.std.proofs.lemmas.Int.{ints, by_lt_z}
 use Rattle.mesh_plane.specs.Plane.{Point, turn}
 use Rattle.mesh_plane.proofs.Whole.{linear, mul_le_mul_left, mul_one, mul_zero, mul_pos, mul_pos_neg, mul_both_neg, mul_nonpos, mul_nonpos_nonneg, mul_assoc, mul_nonneg, neg_mul, neg_mul_neg, square_nonneg}
 use Rattle.mesh_plane.proofs.Ring.{ring, var, ◌⊕◌, ◌⊖◌, ◌⊗◌, lit, neg}
-use Rattle.mesh_plane.proofs.Places.{place, coordinates, turned}
+use Rattle.mesh_plane.proofs.PointExprs.{point_var, coordinates, turned}
 use Rattle.mesh_plane.proofs.Comparing.{less_test, not_less_test}
 use Rattle.mesh_plane.proofs.Crossings.{turn_swap}
 use Rattle.mesh_plane.proofs.Grids.{part}
@@ -120,9 +120,9 @@ tilts_turned : (m : ℤ) (v x y z : Point) →
     ((turn v x y *ℤ tilt m v z) +ℤ (turn v y z *ℤ tilt m v x)) +ℤ (turn v z x *ℤ tilt m v y) ≡ pos 0
 tilts_turned m v x y z =
     ring (coordinates (v ∷ x ∷ y ∷ z ∷ []) (m ∷ []))
-    (((turned (place 0) (place 1) (place 2) ⊗ ((var 8 ⊗ (var 7 ⊖ var 1)) ⊖ (var 6 ⊖ var 0)))
-    ⊕ (turned (place 0) (place 2) (place 3) ⊗ ((var 8 ⊗ (var 3 ⊖ var 1)) ⊖ (var 2 ⊖ var 0))))
-    ⊕ (turned (place 0) (place 3) (place 1) ⊗ ((var 8 ⊗ (var 5 ⊖ var 1)) ⊖ (var 4 ⊖ var 0))))
+    (((turned (point_var 0) (point_var 1) (point_var 2) ⊗ ((var 8 ⊗ (var 7 ⊖ var 1)) ⊖ (var 6 ⊖ var 0)))
+    ⊕ (turned (point_var 0) (point_var 2) (point_var 3) ⊗ ((var 8 ⊗ (var 3 ⊖ var 1)) ⊖ (var 2 ⊖ var 0))))
+    ⊕ (turned (point_var 0) (point_var 3) (point_var 1) ⊗ ((var 8 ⊗ (var 5 ⊖ var 1)) ⊖ (var 4 ⊖ var 0))))
     (lit (pos 0))
     refl
 
@@ -270,7 +270,7 @@ slides : (m : ℤ) (v x y : Point) → (tilt m v y *ℤ (x.0 -ℤ v.0) ≡ (tilt
 slides m v x y =
     let a = (var 6 ⊗ (var 3 ⊖ var 1)) ⊖ (var 2 ⊖ var 0) in
     let b = (var 6 ⊗ (var 5 ⊖ var 1)) ⊖ (var 4 ⊖ var 0) in
-    let t = turned (place 0) (place 1) (place 2) in (
+    let t = turned (point_var 0) (point_var 1) (point_var 2) in (
       ring (coordinates (v ∷ x ∷ y ∷ []) (m ∷ [])) (b ⊗ (var 2 ⊖ var 0)) ((a ⊗ (var 4 ⊖ var 0)) ⊕ (var 6 ⊗ t)) refl,
       ring (coordinates (v ∷ x ∷ y ∷ []) (m ∷ [])) (b ⊗ (var 3 ⊖ var 1)) ((a ⊗ (var 5 ⊖ var 1)) ⊕ t) refl,
     )

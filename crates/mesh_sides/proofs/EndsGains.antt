@@ -6,7 +6,7 @@ use Rattle.mesh_plane.specs.Plane.{Point, Edge, plus, turn}
 use Rattle.mesh_plane.specs.Winding.{crossing_of, crossing, sum_of, total, IsBalanced}
 use Rattle.mesh_plane.proofs.Whole.{linear, mul_nonneg_nonpos, mul_nonpos_nonneg, mul_nonpos, mul_pos}
 use Rattle.mesh_plane.proofs.Ring.{ring, var, ◌⊖◌, ◌⊗◌}
-use Rattle.mesh_plane.proofs.Places.{coordinates}
+use Rattle.mesh_plane.proofs.PointExprs.{coordinates}
 use Rattle.mesh_plane.proofs.Balance.{growth, growth_of_balanced}
 use Rattle.mesh_plane.proofs.Comparing.{less_test, not_less_test}
 use Rattle.mesh_plane.proofs.Crossings.{crossing_odd, turn_flip, turn_swap}

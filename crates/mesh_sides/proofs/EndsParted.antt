@@ -6,7 +6,7 @@ use Rattle.std.proofs.lemmas.Int.{ints, by_lt_z}
 use Rattle.mesh_plane.specs.Plane.{Point, Edge, plus, turn}
 use Rattle.mesh_plane.proofs.Whole.{linear, mul_nonneg, mul_nonneg_nonpos, mul_nonpos_nonneg, mul_nonpos, nonneg_of_mul, nonpos_of_mul, mul_zero, one_mul}
 use Rattle.mesh_plane.proofs.Ring.{ring, var, lit, ◌⊕◌, ◌⊖◌, ◌⊗◌}
-use Rattle.mesh_plane.proofs.Places.{place, coordinates, turned, scaled_place}
+use Rattle.mesh_plane.proofs.PointExprs.{point_var, coordinates, turned, scaled_point_expr}
 use Rattle.mesh_plane.proofs.Crossings.{turn_flip}
 use Rattle.mesh_plane.proofs.Grids.{scale}
 use Rattle.mesh_cuts.specs.Clean.{IsOn, IsClean}
@@ -22,23 +22,23 @@ use Rattle.mesh_sides.proofs.SidesPotential.{Parted, edge_left, edge_right, way_
 pub way_twice : (a b p : Point) → turn (scale (pos 2) a) (plus a b) (scale (pos 2) p) ≡ turn a b p +ℤ turn a b p
 way_twice a b p =
     ring (coordinates (a ∷ b ∷ p ∷ []) [])
-    (turned (scaled_place (lit (pos 2)) (place 0)) (var 0 ⊕ var 2, var 1 ⊕ var 3) (scaled_place (lit (pos 2)) (place 2)))
-    (turned (place 0) (place 1) (place 2) ⊕ turned (place 0) (place 1) (place 2))
+    (turned (scaled_point_expr (lit (pos 2)) (point_var 0)) (var 0 ⊕ var 2, var 1 ⊕ var 3) (scaled_point_expr (lit (pos 2)) (point_var 2)))
+    (turned (point_var 0) (point_var 1) (point_var 2) ⊕ turned (point_var 0) (point_var 1) (point_var 2))
     refl
 
 end_twice : (a p r : Point) → turn (scale (pos 2) p) (scale (pos 2) r) (scale (pos 2) a) ≡ (turn p r a +ℤ turn p r a) +ℤ (turn p r a +ℤ turn p r a)
 end_twice a p r =
-    let t = turned (place 1) (place 2) (place 0) in
+    let t = turned (point_var 1) (point_var 2) (point_var 0) in
     ring (coordinates (a ∷ p ∷ r ∷ []) [])
-    (turned (scaled_place (lit (pos 2)) (place 1)) (scaled_place (lit (pos 2)) (place 2)) (scaled_place (lit (pos 2)) (place 0)))
+    (turned (scaled_point_expr (lit (pos 2)) (point_var 1)) (scaled_point_expr (lit (pos 2)) (point_var 2)) (scaled_point_expr (lit (pos 2)) (point_var 0)))
     ((t ⊕ t) ⊕ (t ⊕ t))
     refl
 
 middle_twice : (a b p r : Point) → turn (scale (pos 2) p) (scale (pos 2) r) (plus a b) ≡ (turn p r a +ℤ turn p r b) +ℤ (turn p r a +ℤ turn p r b)
 middle_twice a b p r =
-    let t = turned (place 2) (place 3) (place 0) ⊕ turned (place 2) (place 3) (place 1) in
+    let t = turned (point_var 2) (point_var 3) (point_var 0) ⊕ turned (point_var 2) (point_var 3) (point_var 1) in
     ring (coordinates (a ∷ b ∷ p ∷ r ∷ []) [])
-    (turned (scaled_place (lit (pos 2)) (place 2)) (scaled_place (lit (pos 2)) (place 3)) (var 0 ⊕ var 2, var 1 ⊕ var 3))
+    (turned (scaled_point_expr (lit (pos 2)) (point_var 2)) (scaled_point_expr (lit (pos 2)) (point_var 3)) (var 0 ⊕ var 2, var 1 ⊕ var 3))
     (t ⊕ t)
     refl
 
@@ -52,9 +52,9 @@ start_twice a b r = omega (arith, linear, middle_twice a b a r, turn_start a r)
 from_start : (a b p r : Point) → (turn p r b *ℤ (a.0 -ℤ p.0) ≡ ((r.0 -ℤ p.0) *ℤ turn a b p) +ℤ ((b.0 -ℤ p.0) *ℤ turn p r a))
     × (turn p r b *ℤ (a.1 -ℤ p.1) ≡ ((r.1 -ℤ p.1) *ℤ turn a b p) +ℤ ((b.1 -ℤ p.1) *ℤ turn p r a))
 from_start a b p r =
-    let k = turned (place 2) (place 3) (place 1) in
-    let t = turned (place 0) (place 1) (place 2) in
-    let z = turned (place 2) (place 3) (place 0) in (
+    let k = turned (point_var 2) (point_var 3) (point_var 1) in
+    let t = turned (point_var 0) (point_var 1) (point_var 2) in
+    let z = turned (point_var 2) (point_var 3) (point_var 0) in (
       ring (coordinates (a ∷ b ∷ p ∷ r ∷ []) []) (k ⊗ (var 0 ⊖ var 4)) (((var 6 ⊖ var 4) ⊗ t) ⊕ ((var 2 ⊖ var 4) ⊗ z)) refl,
       ring (coordinates (a ∷ b ∷ p ∷ r ∷ []) []) (k ⊗ (var 1 ⊖ var 5)) (((var 7 ⊖ var 5) ⊗ t) ⊕ ((var 3 ⊖ var 5) ⊗ z)) refl,
     )
@@ -62,9 +62,9 @@ from_start a b p r =
 from_last : (a b p r : Point) → (turn p r b *ℤ (a.0 -ℤ r.0) ≡ ((r.0 -ℤ p.0) *ℤ turn a b r) +ℤ ((b.0 -ℤ r.0) *ℤ turn p r a))
     × (turn p r b *ℤ (a.1 -ℤ r.1) ≡ ((r.1 -ℤ p.1) *ℤ turn a b r) +ℤ ((b.1 -ℤ r.1) *ℤ turn p r a))
 from_last a b p r =
-    let k = turned (place 2) (place 3) (place 1) in
-    let t = turned (place 0) (place 1) (place 3) in
-    let z = turned (place 2) (place 3) (place 0) in (
+    let k = turned (point_var 2) (point_var 3) (point_var 1) in
+    let t = turned (point_var 0) (point_var 1) (point_var 3) in
+    let z = turned (point_var 2) (point_var 3) (point_var 0) in (
       ring (coordinates (a ∷ b ∷ p ∷ r ∷ []) []) (k ⊗ (var 0 ⊖ var 6)) (((var 6 ⊖ var 4) ⊗ t) ⊕ ((var 2 ⊖ var 6) ⊗ z)) refl,
       ring (coordinates (a ∷ b ∷ p ∷ r ∷ []) []) (k ⊗ (var 1 ⊖ var 7)) (((var 7 ⊖ var 5) ⊗ t) ⊕ ((var 3 ⊖ var 7) ⊗ z)) refl,
     )

@@ -6,7 +6,7 @@ use Rattle.mesh_plane.specs.Plane.{Point, Edge, turn}
 use Rattle.mesh_plane.specs.Winding.{crossing_of, crossing}
 use Rattle.mesh_plane.proofs.Whole.{linear, mul_assoc, mul_le_mul_left, mul_lt_mul_left, mul_pos, mul_nonneg_nonpos, mul_pos_neg, mul_nonneg, mul_one, mul_add}
 use Rattle.mesh_plane.proofs.Ring.{ring, var, ◌⊕◌, ◌⊖◌, ◌⊗◌}
-use Rattle.mesh_plane.proofs.Places.{place, coordinates, turned, scaled_place}
+use Rattle.mesh_plane.proofs.PointExprs.{point_var, coordinates, turned, scaled_point_expr}
 use Rattle.mesh_plane.proofs.Grids.{scale, winds}
 use Rattle.mesh_cuts.proofs.Each.{Each, each_more}
 
@@ -42,8 +42,8 @@ below_scaled k s some =
 turn_scaled : (k : ℤ) (p r q : Point) → turn (scale k p) (scale k r) (scale k q) ≡ k *ℤ (k *ℤ turn p r q)
 turn_scaled k p r q =
     ring (coordinates (p ∷ r ∷ q ∷ []) (k ∷ []))
-    (turned (scaled_place (var 6) (place 0)) (scaled_place (var 6) (place 1)) (scaled_place (var 6) (place 2)))
-    (var 6 ⊗ (var 6 ⊗ turned (place 0) (place 1) (place 2)))
+    (turned (scaled_point_expr (var 6) (point_var 0)) (scaled_point_expr (var 6) (point_var 1)) (scaled_point_expr (var 6) (point_var 2)))
+    (var 6 ⊗ (var 6 ⊗ turned (point_var 0) (point_var 1) (point_var 2)))
     refl
 
 -- the crossing stays when edge and point are multiplied
@@ -166,8 +166,8 @@ turn_moved : (k u v : ℤ) (p r q : Point) →
     ≡ k *ℤ ((k *ℤ turn p r q) +ℤ ((u *ℤ (r.0 -ℤ p.0)) -ℤ ((r.1 -ℤ p.1) *ℤ v)))
 turn_moved k u v p r q =
     ring (coordinates (p ∷ r ∷ q ∷ []) (k ∷ u ∷ v ∷ []))
-    (turned (scaled_place (var 6) (place 0)) (scaled_place (var 6) (place 1)) ((var 6 ⊗ var 4) ⊕ var 8, (var 6 ⊗ var 5) ⊕ var 7))
-    (var 6 ⊗ ((var 6 ⊗ turned (place 0) (place 1) (place 2)) ⊕ ((var 7 ⊗ (var 2 ⊖ var 0)) ⊖ ((var 3 ⊖ var 1) ⊗ var 8))))
+    (turned (scaled_point_expr (var 6) (point_var 0)) (scaled_point_expr (var 6) (point_var 1)) ((var 6 ⊗ var 4) ⊕ var 8, (var 6 ⊗ var 5) ⊕ var 7))
+    (var 6 ⊗ ((var 6 ⊗ turned (point_var 0) (point_var 1) (point_var 2)) ⊕ ((var 7 ⊗ (var 2 ⊖ var 0)) ⊖ ((var 3 ⊖ var 1) ⊗ var 8))))
     refl
 
 -- `v` and `k` are large enough for an edge upwards, where the point moves by (v, u)

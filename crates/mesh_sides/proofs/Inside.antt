@@ -3,7 +3,7 @@ use Rattle.std.specs.Prelude.{ℤ, ◌+ℤ◌, ◌-ℤ◌, ◌*ℤ◌, pos, ◌�
 use Rattle.mesh_plane.specs.Plane.{Point, turn, Edge}
 use Rattle.std.proofs.Common.{◌≡◌, [], ◌∷◌, refl, ◌∙◌, ap, arith, sym, ◌⊎◌, inl, inr, ℕ, ◌<◌, true, List, subst}
 use Rattle.mesh_plane.proofs.Ring.{ring, var, ◌⊖◌, ◌⊗◌, lit, ◌⊕◌}
-use Rattle.mesh_plane.proofs.Places.{place, coordinates, turned, scaled_place}
+use Rattle.mesh_plane.proofs.PointExprs.{point_var, coordinates, turned, scaled_point_expr}
 use Rattle.mesh_plane.proofs.Grids.{scale, part, winds}
 use Rattle.mesh_plane.proofs.Whole.{linear, mul_zero, mul_nonneg, mul_nonpos, mul_le_mul_left, mul_pos, square_nonneg, square_pos, mul_cancel}
 use Rattle.std.proofs.lemmas.Int.{by_lt_z, ints}
@@ -33,7 +33,7 @@ bare_turn m p r q = ((r.0 -ℤ p.0) *ℤ (q.1 -ℤ (m *ℤ p.1))) -ℤ ((r.1 -�
 turn_bare : (m : ℤ) (p r q : Point) → turn (scale m p) (scale m r) q ≡ m *ℤ bare_turn m p r q
 turn_bare m p r q =
     ring (coordinates (p ∷ r ∷ q ∷ []) (m ∷ []))
-    (turned (scaled_place (var 6) (place 0)) (scaled_place (var 6) (place 1)) (place 2))
+    (turned (scaled_point_expr (var 6) (point_var 0)) (scaled_point_expr (var 6) (point_var 1)) (point_var 2))
     (var 6 ⊗ (((var 2 ⊖ var 0) ⊗ (var 5 ⊖ (var 6 ⊗ var 1))) ⊖ ((var 3 ⊖ var 1) ⊗ (var 4 ⊖ (var 6 ⊗ var 0)))))
     refl
 

@@ -13,7 +13,7 @@ use Rattle.mesh_cuts.specs.Split.{same_ends, occurs}
 use Rattle.mesh_cuts.specs.Counted.{net}
 use Rattle.mesh_cuts.specs.Boundary.{middle, winding_beside}
 use Rattle.mesh_sides.proofs.Line.{past, past_yes, past_none, beyond, steps, Free, Scattered, telescope}
-use Rattle.mesh_plane.proofs.Places.{place, coordinates, turned, scaled_place}
+use Rattle.mesh_plane.proofs.PointExprs.{point_var, coordinates, turned, scaled_point_expr}
 use Rattle.mesh_plane.proofs.Grids.{scale, part, winds}
 use Rattle.mesh_cuts.proofs.Each.{Each, each_more}
 use Rattle.mesh_sides.proofs.SidesConstant.{inside_same}
@@ -56,7 +56,7 @@ hit_turn : (m t x : ℤ) (p r : Point) →
     ≡ (m *ℤ (r.1 -ℤ p.1)) *ℤ (((m *ℤ p.0) +ℤ (t *ℤ (r.0 -ℤ p.0))) -ℤ x)
 hit_turn m t x p r =
     ring (coordinates (p ∷ r ∷ []) (m ∷ t ∷ x ∷ []))
-    (turned (scaled_place (var 4) (place 0)) (scaled_place (var 4) (place 1)) (var 6, (var 4 ⊗ var 1) ⊕ (var 5 ⊗ (var 3 ⊖ var 1))))
+    (turned (scaled_point_expr (var 4) (point_var 0)) (scaled_point_expr (var 4) (point_var 1)) (var 6, (var 4 ⊗ var 1) ⊕ (var 5 ⊗ (var 3 ⊖ var 1))))
     ((var 4 ⊗ (var 3 ⊖ var 1)) ⊗ (((var 4 ⊗ var 0) ⊕ (var 5 ⊗ (var 2 ⊖ var 0))) ⊖ var 6))
     refl
 

@@ -10,7 +10,7 @@ use Rattle.mesh_plane.proofs.Crossings.{turn_flip}
 use Rattle.mesh_cuts.specs.Clean.{IsOn, refined_edge, IsClean, IsProper}
 use Rattle.mesh_cuts.specs.Split.{back, same_ends, occurs, IsBetween}
 use Rattle.mesh_cuts.proofs.Ends.{decides_ends, decides_end}
-use Rattle.mesh_plane.proofs.Places.{place, coordinates, turned, scaled_place}
+use Rattle.mesh_plane.proofs.PointExprs.{point_var, coordinates, turned, scaled_point_expr}
 use Rattle.mesh_plane.proofs.Grids.{scale, part}
 use Rattle.mesh_sides.proofs.SidesConstant.{Clear, on_left, on_right, ahead, behind, on_one_line, ClearOf}
 use Rattle.mesh_cuts.proofs.Each.{Each}
@@ -56,7 +56,7 @@ pub on_part : (m t : ℤ) (a b : Point) → pos 0 <ℤ m → pos 0 ≤ℤ t → 
 on_part m t a b some low high = record {
   on_line =
       ring (coordinates (a ∷ b ∷ []) (m ∷ t ∷ []))
-      (turned (scaled_place (var 4) (place 0)) (scaled_place (var 4) (place 1))
+      (turned (scaled_point_expr (var 4) (point_var 0)) (scaled_point_expr (var 4) (point_var 1))
       ((var 4 ⊗ var 0) ⊕ (var 5 ⊗ (var 2 ⊖ var 0)), (var 4 ⊗ var 1) ⊕ (var 5 ⊗ (var 3 ⊖ var 1))))
       (lit (pos 0)) refl;
   in_box = record { by_x = between_part m t a.0 b.0 some low high; by_y = between_part m t a.1 b.1 some low high };
@@ -88,24 +88,24 @@ inner_no_end m t a b low high (inr e) =
 pub four_turns : (a b p r : Point) → turn p r a -ℤ turn p r b ≡ turn a b r -ℤ turn a b p
 four_turns a b p r =
     ring (coordinates (a ∷ b ∷ p ∷ r ∷ []) [])
-    (turned (place 2) (place 3) (place 0) ⊖ turned (place 2) (place 3) (place 1))
-    (turned (place 0) (place 1) (place 3) ⊖ turned (place 0) (place 1) (place 2))
+    (turned (point_var 2) (point_var 3) (point_var 0) ⊖ turned (point_var 2) (point_var 3) (point_var 1))
+    (turned (point_var 0) (point_var 1) (point_var 3) ⊖ turned (point_var 0) (point_var 1) (point_var 2))
     refl
 
 -- where two edges cross, as a part of either
 common : (a b p r : Point) →
     part (turn p r a -ℤ turn p r b) (turn p r a) a b ≡ part (turn p r a -ℤ turn p r b) (neg_ℤ (turn a b p)) p r
 common a b p r =
-    let d = turned (place 2) (place 3) (place 0) ⊖ turned (place 2) (place 3) (place 1) in
+    let d = turned (point_var 2) (point_var 3) (point_var 0) ⊖ turned (point_var 2) (point_var 3) (point_var 1) in
     let x : (part (turn p r a -ℤ turn p r b) (turn p r a) a b).0 ≡ (part (turn p r a -ℤ turn p r b) (neg_ℤ (turn a b p)) p r).0 =
     ring (coordinates (a ∷ b ∷ p ∷ r ∷ []) [])
-    (((turned (place 2) (place 3) (place 0) ⊖ turned (place 2) (place 3) (place 1)) ⊗ var 0) ⊕ (turned (place 2) (place 3) (place 0) ⊗ (var 2 ⊖ var 0)))
-    (((turned (place 2) (place 3) (place 0) ⊖ turned (place 2) (place 3) (place 1)) ⊗ var 4) ⊕ (neg (turned (place 0) (place 1) (place 2)) ⊗ (var 6 ⊖ var 4)))
+    (((turned (point_var 2) (point_var 3) (point_var 0) ⊖ turned (point_var 2) (point_var 3) (point_var 1)) ⊗ var 0) ⊕ (turned (point_var 2) (point_var 3) (point_var 0) ⊗ (var 2 ⊖ var 0)))
+    (((turned (point_var 2) (point_var 3) (point_var 0) ⊖ turned (point_var 2) (point_var 3) (point_var 1)) ⊗ var 4) ⊕ (neg (turned (point_var 0) (point_var 1) (point_var 2)) ⊗ (var 6 ⊖ var 4)))
     refl in
     let y : (part (turn p r a -ℤ turn p r b) (turn p r a) a b).1 ≡ (part (turn p r a -ℤ turn p r b) (neg_ℤ (turn a b p)) p r).1 =
     ring (coordinates (a ∷ b ∷ p ∷ r ∷ []) [])
-    (((turned (place 2) (place 3) (place 0) ⊖ turned (place 2) (place 3) (place 1)) ⊗ var 1) ⊕ (turned (place 2) (place 3) (place 0) ⊗ (var 3 ⊖ var 1)))
-    (((turned (place 2) (place 3) (place 0) ⊖ turned (place 2) (place 3) (place 1)) ⊗ var 5) ⊕ (neg (turned (place 0) (place 1) (place 2)) ⊗ (var 7 ⊖ var 5)))
+    (((turned (point_var 2) (point_var 3) (point_var 0) ⊖ turned (point_var 2) (point_var 3) (point_var 1)) ⊗ var 1) ⊕ (turned (point_var 2) (point_var 3) (point_var 0) ⊗ (var 3 ⊖ var 1)))
+    (((turned (point_var 2) (point_var 3) (point_var 0) ⊖ turned (point_var 2) (point_var 3) (point_var 1)) ⊗ var 5) ⊕ (neg (turned (point_var 0) (point_var 1) (point_var 2)) ⊗ (var 7 ⊖ var 5)))
     refl in
     λ i. (x i, y i)
 

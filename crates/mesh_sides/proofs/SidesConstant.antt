@@ -8,7 +8,7 @@ use Rattle.mesh_plane.proofs.Whole.{linear, mul_nonneg, mul_pos, mul_pos_neg, mu
 use Rattle.mesh_plane.proofs.Ring.{ring, var, ◌⊕◌, ◌⊖◌, ◌⊗◌, lit}
 use Rattle.mesh_plane.proofs.Crossings.{turn_flip}
 use Rattle.mesh_plane.proofs.Balance.{growth, growth_of_balanced}
-use Rattle.mesh_plane.proofs.Places.{place, coordinates, turned, scaled_place}
+use Rattle.mesh_plane.proofs.PointExprs.{point_var, coordinates, turned, scaled_point_expr}
 use Rattle.mesh_sides.proofs.SidesPotential.{Parted, edge_left, edge_right, way_left, way_right, one_line, potential, east}
 use Rattle.mesh_plane.proofs.Grids.{part, scale, winds}
 use Rattle.mesh_cuts.proofs.Each.{Each, each_more}
@@ -25,20 +25,20 @@ pub way_turn : (m t s : ℤ) (a b p : Point) →
     turn (part m t a b) (part m s a b) (scale m p) ≡ (s -ℤ t) *ℤ (m *ℤ turn a b p)
 way_turn m t s a b p =
     ring (coordinates (a ∷ b ∷ p ∷ []) (m ∷ t ∷ s ∷ []))
-    (let a' = place 0 in let b' = place 1 in
+    (let a' = point_var 0 in let b' = point_var 1 in
     turned (((var 6) ⊗ a'.0) ⊕ ((var 7) ⊗ (b'.0 ⊖ a'.0)), ((var 6) ⊗ a'.1) ⊕ ((var 7) ⊗ (b'.1 ⊖ a'.1)))
     (((var 6) ⊗ a'.0) ⊕ ((var 8) ⊗ (b'.0 ⊖ a'.0)), ((var 6) ⊗ a'.1) ⊕ ((var 8) ⊗ (b'.1 ⊖ a'.1)))
-    (scaled_place (var 6) (place 2)))
-    ((var 8 ⊖ var 7) ⊗ (var 6 ⊗ turned (place 0) (place 1) (place 2)))
+    (scaled_point_expr (var 6) (point_var 2)))
+    ((var 8 ⊖ var 7) ⊗ (var 6 ⊗ turned (point_var 0) (point_var 1) (point_var 2)))
     refl
 
 pub edge_turn : (m t : ℤ) (a b p r : Point) →
     turn (scale m p) (scale m r) (part m t a b) ≡ m *ℤ (((m -ℤ t) *ℤ turn p r a) +ℤ (t *ℤ turn p r b))
 edge_turn m t a b p r =
     ring (coordinates (a ∷ b ∷ p ∷ r ∷ []) (m ∷ t ∷ []))
-    (turned (scaled_place (var 8) (place 2)) (scaled_place (var 8) (place 3))
+    (turned (scaled_point_expr (var 8) (point_var 2)) (scaled_point_expr (var 8) (point_var 3))
     (((var 8) ⊗ var 0) ⊕ ((var 9) ⊗ (var 2 ⊖ var 0)), ((var 8) ⊗ var 1) ⊕ ((var 9) ⊗ (var 3 ⊖ var 1))))
-    (var 8 ⊗ (((var 8 ⊖ var 9) ⊗ turned (place 2) (place 3) (place 0)) ⊕ (var 9 ⊗ turned (place 2) (place 3) (place 1))))
+    (var 8 ⊗ (((var 8 ⊖ var 9) ⊗ turned (point_var 2) (point_var 3) (point_var 0)) ⊕ (var 9 ⊗ turned (point_var 2) (point_var 3) (point_var 1))))
     refl
 
 -- ---- signs

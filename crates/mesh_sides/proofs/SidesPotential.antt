@@ -8,7 +8,7 @@ use Rattle.mesh_plane.specs.Winding.{crossing_of, crossing}
 use Rattle.mesh_plane.proofs.Whole.{linear, mul_nonneg, mul_pos, mul_neg, neg_mul, neg_of_mul, pos_of_mul}
 use Rattle.mesh_plane.proofs.Ring.{ring, var, ◌⊕◌, ◌⊖◌, ◌⊗◌, neg}
 use Rattle.mesh_plane.proofs.Crossings.{turn_flip, crossing_odd}
-use Rattle.mesh_plane.proofs.Places.{place, coordinates, turned}
+use Rattle.mesh_plane.proofs.PointExprs.{point_var, coordinates, turned}
 
 -- 1 where the height `v` lies above `h`
 abbrev pub above : ℤ → ℤ → ℤ
@@ -58,16 +58,16 @@ pub lever_first : (q u p r : Point) →
     (u.1 -ℤ q.1) *ℤ turn p r q ≡ neg_ℤ (((r.1 -ℤ q.1) *ℤ turn q u p) +ℤ ((q.1 -ℤ p.1) *ℤ turn q u r))
 lever_first q u p r =
     ring (coordinates (q ∷ u ∷ p ∷ r ∷ []) [])
-    ((var 3 ⊖ var 1) ⊗ turned (place 2) (place 3) (place 0))
-    (neg (((var 7 ⊖ var 1) ⊗ turned (place 0) (place 1) (place 2)) ⊕ ((var 1 ⊖ var 5) ⊗ turned (place 0) (place 1) (place 3))))
+    ((var 3 ⊖ var 1) ⊗ turned (point_var 2) (point_var 3) (point_var 0))
+    (neg (((var 7 ⊖ var 1) ⊗ turned (point_var 0) (point_var 1) (point_var 2)) ⊕ ((var 1 ⊖ var 5) ⊗ turned (point_var 0) (point_var 1) (point_var 3))))
     refl
 
 pub lever_second : (q u p r : Point) →
     (u.1 -ℤ q.1) *ℤ turn p r u ≡ neg_ℤ (((r.1 -ℤ u.1) *ℤ turn q u p) +ℤ ((u.1 -ℤ p.1) *ℤ turn q u r))
 lever_second q u p r =
     ring (coordinates (q ∷ u ∷ p ∷ r ∷ []) [])
-    ((var 3 ⊖ var 1) ⊗ turned (place 2) (place 3) (place 1))
-    (neg (((var 7 ⊖ var 3) ⊗ turned (place 0) (place 1) (place 2)) ⊕ ((var 3 ⊖ var 5) ⊗ turned (place 0) (place 1) (place 3))))
+    ((var 3 ⊖ var 1) ⊗ turned (point_var 2) (point_var 3) (point_var 1))
+    (neg (((var 7 ⊖ var 3) ⊗ turned (point_var 0) (point_var 1) (point_var 2)) ⊕ ((var 3 ⊖ var 5) ⊗ turned (point_var 0) (point_var 1) (point_var 3))))
     refl
 
 -- ---- crossings over bare numbers: the heights of both ends and of the point, and the point's turn

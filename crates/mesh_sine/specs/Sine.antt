@@ -7,8 +7,8 @@ abbrev pub one : ℕ
 one = 2 ^ 60
 
 -- no longer than the sine and the cosine of one angle, each times 2 ^ 30
-abbrev pub IsSinePair : Point → Type 0
-IsSinePair p = length_sq p ≤ 2 ^ 60
+abbrev pub IsWithinOne : Point → Type 0
+IsWithinOne p = length_sq p ≤ 2 ^ 60
 
 -- the greatest whole number of at most `k` whose square is at most `n`
 unfoldable pub root_within : ℕ → ℕ → ℕ

@@ -1,14 +1,14 @@
 //! The sine and the cosine of an angle. A full turn has 2^32 bits.
 
 ghost use Rattle.std.specs.Prelude.{◌≡◌, ◌+◌, ◌*◌, ◌^◌, ◌<◌, ◌≤◌};
-ghost use Rattle.mesh_sine.specs.Sine.{one, sum_pair, low_pair, in_quarter, sin_cos, IsSinePair};
+ghost use Rattle.mesh_sine.specs.Sine.{one, sum_pair, low_pair, in_quarter, sin_cos, IsWithinOne};
 
 use crate::table::pair_of_bit;
 
 /// The sine and the cosine, times 2^30, of an angle of so many bits.
 pub fn sin_cos(bits: u32) -> (i32, i32)
     ensures value { result ≡ sin_cos bits }
-    ensures bounded { IsSinePair result }
+    ensures bounded { IsWithinOne result }
 {
     let (cosine, sine) = in_first_quarter(bits % (1 << 30));
     in_quarter(
@@ -23,7 +23,7 @@ fn in_quarter(quarters: u32, cosine: u32, sine: u32) -> (i32, i32)
     requires quarters { quarters < 4 }
     requires short { cosine * cosine + sine * sine ≤ 2 ^ 60 }
     ensures value { result ≡ in_quarter quarters cosine sine }
-    ensures bounded { IsSinePair result }
+    ensures bounded { IsWithinOne result }
 {
     let cosine = cosine as i32;
     let sine = sine as i32;

@@ -6,7 +6,7 @@ pub mod Kept
 pub mod Listing
 pub mod Paths
 pub mod Piles
-pub mod Places
+pub mod Cells
 pub mod Room
 pub mod Settling
 pub mod Sharing

@@ -13,8 +13,8 @@ use Rattle.mesh_cuts.specs.Split.{same_edge, AreClear}
 use Rattle.mesh_cuts.proofs.Counts.{bit_least}
 use Rattle.mesh_cuts.proofs.Ends.{decides_edge}
 use Rattle.mesh_split.specs.declared.tree.Cut.{Cut}
-use Rattle.mesh_split.specs.Midway.Parts.{Cell, IsAt, reaches, StandsIn, KeepsThose, HasListed, KeepsListed, KeepsOthers, LiveAreListed, IsPartClear}
-use Rattle.mesh_split.proofs.Places.{place_met}
+use Rattle.mesh_split.specs.Midway.Cells.{Cell, IsAt, reaches, StandsIn, KeepsThose, HasListed, KeepsListed, KeepsOthers, LiveAreListed, IsCellClear}
+use Rattle.mesh_split.proofs.Cells.{cell_met}
 use Rattle.mesh_split.specs.Midway.Steps.{exactly, IsPut, IsTaken, IsClearOf, AddsIf}
 
 -- ---- lists that grow
@@ -113,9 +113,9 @@ pub fork_lists : (cut : Cut) (low high : Cell → List Edge) (e : Edge) → (rea
     → HasListed (λ c. cond (c cut) (low c) (high c)) e
 fork_lists cut low high e l h c reach = at_place (λ (b : Bool). StandsIn e (cond b (low c) (high c))) cut e c reach (λ t. l t c reach) (λ t. h t c reach)
 
-pub fork_is_clear : (cut : Cut) (low high : Cell → List Edge) (s : Edge) (live : List Counted) → (reaches cut s true ≡ true → (c : Cell) → IsAt s c → IsPartClear s (low c) live)
-    → (reaches cut s false ≡ true → (c : Cell) → IsAt s c → IsPartClear s (high c) live) → (c : Cell) → IsAt s c → IsPartClear s (cond (c cut) (low c) (high c)) live
-fork_is_clear cut low high s live l h c reach = at_place (λ (b : Bool). IsPartClear s (cond b (low c) (high c)) live) cut s c reach (λ t. l t c reach) (λ t. h t c reach)
+pub fork_is_clear : (cut : Cut) (low high : Cell → List Edge) (s : Edge) (live : List Counted) → (reaches cut s true ≡ true → (c : Cell) → IsAt s c → IsCellClear s (low c) live)
+    → (reaches cut s false ≡ true → (c : Cell) → IsAt s c → IsCellClear s (high c) live) → (c : Cell) → IsAt s c → IsCellClear s (cond (c cut) (low c) (high c)) live
+fork_is_clear cut low high s live l h c reach = at_place (λ (b : Bool). IsCellClear s (cond b (low c) (high c)) live) cut s c reach (λ t. l t c reach) (λ t. h t c reach)
 
 -- an answer of nothing that says more
 pub nothing_more : {A : Type 0} (o : Option A) (P Q : Type 0) (R : A → Type 0) → (P → Q) → MatchOption o P R → MatchOption o Q R
@@ -175,7 +175,7 @@ listed_added listed live live' k false kept f = subst (λ (ks : List Counted). L
 
 -- one more listed segment is clear, or does not live
 pub part_end : (s : Edge) (part : List Edge) (live : List Counted) → ((k : ℕ) → k < length part → (d : Edge) → pos 0 <ℤ exactly (get_or part k d) live → AreClear s (get_or part k d))
-    → IsPartClear s part live
+    → IsCellClear s part live
 part_end s part live all e l h =
     let same = l.same e in
     subst (λ (x : Edge). AreClear s x) same (all l.at l.within e (subst (λ (x : Edge). pos 0 <ℤ exactly x live) (sym same) h))
@@ -189,7 +189,7 @@ part_more s part live i d₀ h before here =
     below_more P i before (λ d. subst (λ (x : Edge). pos 0 <ℤ exactly x live → AreClear s x) (get_or_default part i d₀ d h) here)
 
 -- where no part that a segment reaches lists one that it meets, it is clear of all
-pub clear_of_parts : (s : Edge) (listed : Cell → List Edge) (live : List Counted) → ((c : Cell) → IsAt s c → IsPartClear s (listed c) live) → LiveAreListed listed live → IsClearOf s live
+pub clear_of_parts : (s : Edge) (listed : Cell → List Edge) (live : List Counted) → ((c : Cell) → IsAt s c → IsCellClear s (listed c) live) → LiveAreListed listed live → IsClearOf s live
 clear_of_parts s listed live parts f e lives c meets =
-    let both = place_met meets in
-    parts both.place both.first e (f e lives both.place both.second) lives c meets
+    let both = cell_met meets in
+    parts both.cell both.first e (f e lives both.cell both.second) lives c meets

@@ -13,7 +13,7 @@ use Rattle.mesh_cuts.specs.Clean.{IsOn, refined_edge}
 use Rattle.mesh_cuts.specs.Split.{back, same_ends, is_end, IsBetween, IsInside, AreOpposite, IsCrossing}
 use Rattle.mesh_cuts.proofs.Boxes.{turns_differ}
 use Rattle.mesh_cuts.proofs.Ends.{decides_end, decides_ends, ends_turned, ends_sym}
-use Rattle.mesh_plane.proofs.Places.{place, coordinates, turned, scaled_place}
+use Rattle.mesh_plane.proofs.PointExprs.{point_var, coordinates, turned, scaled_point_expr}
 use Rattle.mesh_plane.proofs.Comparing.{decides_point}
 use Rattle.mesh_plane.proofs.LineTurns.{along_x, along_y}
 use Rattle.mesh_cuts.proofs.Boxes.{between_back, on_back}
@@ -78,7 +78,7 @@ turn_exchanged : (p r q : Point) → turn (flip p) (flip r) (flip q) ≡ neg_ℤ
 turn_exchanged p r q =
     ring (coordinates (p ∷ r ∷ q ∷ []) [])
     (((var 3 ⊖ var 1) ⊗ (var 4 ⊖ var 0)) ⊖ ((var 2 ⊖ var 0) ⊗ (var 5 ⊖ var 1)))
-    (neg (turned (place 0) (place 1) (place 2)))
+    (neg (turned (point_var 0) (point_var 1) (point_var 2)))
     refl
 
 end_back : (c : Point) (e : Edge) → is_end c (back e) ≡ is_end c e
@@ -175,7 +175,7 @@ column_start a b c h t e =
 
 turn_from_end : (a b c : Point) → turn a b c ≡ ((b.0 -ℤ a.0) *ℤ (c.1 -ℤ b.1)) -ℤ ((b.1 -ℤ a.1) *ℤ (c.0 -ℤ b.0))
 turn_from_end a b c =
-    ring (coordinates (a ∷ b ∷ c ∷ []) []) (turned (place 0) (place 1) (place 2)) (((var 2 ⊖ var 0) ⊗ (var 5 ⊖ var 3)) ⊖ ((var 3 ⊖ var 1) ⊗ (var 4 ⊖ var 2))) refl
+    ring (coordinates (a ∷ b ∷ c ∷ []) []) (turned (point_var 0) (point_var 1) (point_var 2)) (((var 2 ⊖ var 0) ⊗ (var 5 ⊖ var 3)) ⊖ ((var 3 ⊖ var 1) ⊗ (var 4 ⊖ var 2))) refl
 
 column_end : (a b c : Point) → a.0 <ℤ b.0 → turn a b c ≡ pos 0 → c.0 ≡ b.0 → c ≡ b
 column_end a b c h t e =
@@ -251,11 +251,11 @@ part_turn : (m : ℤ) (a b p r z : Point)
     +ℤ ((m *ℤ (r.0 -ℤ p.0)) *ℤ turn (m *ℤ a.0, m *ℤ a.1) (m *ℤ b.0, m *ℤ b.1) z)
 part_turn m a b p r z =
     let k = var 10 in
-    let e = turned (scaled_place k (place 0)) (scaled_place k (place 1)) (place 4) in
-    let f = turned (scaled_place k (place 2)) (scaled_place k (place 3)) (place 4) in
+    let e = turned (scaled_point_expr k (point_var 0)) (scaled_point_expr k (point_var 1)) (point_var 4) in
+    let f = turned (scaled_point_expr k (point_var 2)) (scaled_point_expr k (point_var 3)) (point_var 4) in
     ring (coordinates (a ∷ b ∷ p ∷ r ∷ z ∷ []) (m ∷ []))
     ((k ⊗ (var 2 ⊖ var 0)) ⊗ f)
-    (((k ⊗ k) ⊗ ((((k ⊗ var 2) ⊖ var 8) ⊗ turned (place 2) (place 3) (place 0)) ⊕ ((var 8 ⊖ (k ⊗ var 0)) ⊗ turned (place 2) (place 3) (place 1)))) ⊕ ((k ⊗ (var 6 ⊖ var 4)) ⊗ e))
+    (((k ⊗ k) ⊗ ((((k ⊗ var 2) ⊖ var 8) ⊗ turned (point_var 2) (point_var 3) (point_var 0)) ⊕ ((var 8 ⊖ (k ⊗ var 0)) ⊗ turned (point_var 2) (point_var 3) (point_var 1)))) ⊕ ((k ⊗ (var 6 ⊖ var 4)) ⊗ e))
     refl
 
 -- the ends of an edge to the east lie on two sides of a line through a point inside it, or both on the line
@@ -389,7 +389,7 @@ not_upright e f east line proper same =
     let difference : ((e.1.0 -ℤ e.0.0) *ℤ (f.0.1 -ℤ f.1.1)) -ℤ ((e.1.1 -ℤ e.0.1) *ℤ (f.0.0 -ℤ f.1.0)) ≡ turn e.0 e.1 f.0 -ℤ turn e.0 e.1 f.1 =
     ring (coordinates (e.0 ∷ e.1 ∷ f.0 ∷ f.1 ∷ []) [])
     (((var 2 ⊖ var 0) ⊗ (var 5 ⊖ var 7)) ⊖ ((var 3 ⊖ var 1) ⊗ (var 4 ⊖ var 6)))
-    (turned (place 0) (place 1) (place 2) ⊖ turned (place 0) (place 1) (place 3))
+    (turned (point_var 0) (point_var 1) (point_var 2) ⊖ turned (point_var 0) (point_var 1) (point_var 3))
     refl in
     let rise : (e.1.0 -ℤ e.0.0) *ℤ (f.0.1 -ℤ f.1.1) ≡ pos 0 = omega (arith, linear, line.second_start, line.second_end, times_zero (e.1.1 -ℤ e.0.1) (f.0.0 -ℤ f.1.0) gap) in
     ⊎_elim

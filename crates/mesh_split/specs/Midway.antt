@@ -1,3 +1,3 @@
 -- States of the program's loops, which private contracts alone read. What splitting promises is in `mesh_cuts/specs/Splitting.antt`.
-pub mod Parts
+pub mod Cells
 pub mod Steps

@@ -56,7 +56,7 @@ const SPLITS_OF_FEW: usize = 5;
 type Pair = (GridEdge, Meeting);
 
 /// Makes all waiting segments live, whatever they meet, and notes what they meet, at once or later.
-fn place(splitter: &mut Splitter, hints: &mut Hints, at_once: bool) -> Result<(), AllocError>
+fn make_live(splitter: &mut Splitter, hints: &mut Hints, at_once: bool) -> Result<(), AllocError>
     requires { StandOnce splitter.old.todo splitter.old.live }
     ensures none { OnOk result (splitter.new.todo ≡ []) }
     ensures kept { OnOk result (KeepsPile splitter.old.todo splitter.old.live splitter.new.todo splitter.new.live) }
@@ -162,7 +162,7 @@ fn by_hints(
 {
     let mut splitter = Splitter::of_edges(alloc, edges)?;
     let mut hints = Hints::new(alloc, order);
-    place(&mut splitter, &mut hints, true)?;
+    make_live(&mut splitter, &mut hints, true)?;
     for _split in 0..heap_budget(edges.len(), hints.len(), factor) {
         let Some((first, m)) = next(&splitter.live, &mut hints)? else {
             let again = splitter.again(alloc)?;
@@ -171,7 +171,7 @@ fn by_hints(
         hints.note_cut(first, m.1)?;
         hints.note_cut(m.0, m.1)?;
         splitter.split_live(first, m)?;
-        place(&mut splitter, &mut hints, is_eager)?;
+        make_live(&mut splitter, &mut hints, is_eager)?;
     }
     Ok(None)
 }

@@ -4,7 +4,7 @@
 ghost use Rattle.std.specs.Prelude.{◌≡◌, true, List, [], ℤ, pos, ◌<ℤ◌, MatchOption, IfOk, OnOk};
 ghost use Rattle.mesh_cuts.specs.Counted.{times};
 ghost use Rattle.mesh_cuts.specs.Split.{IsForward};
-ghost use Rattle.mesh_split.specs.Midway.Parts.{MeetsLive};
+ghost use Rattle.mesh_split.specs.Midway.Cells.{MeetsLive};
 ghost use Rattle.mesh_split.specs.Midway.Steps.{HaveRoom, IsPut, IsTaken, IsClearOf, AddsIf, exactly};
 
 use crate::hints::{Hints, Meeting};
@@ -28,7 +28,7 @@ impl Model for Store {
 
     ghost Value = { List (((ℤ × ℤ) × (ℤ × ℤ)) × ℤ) };
 
-    ghost use Rattle.mesh_split.specs.Midway.Parts.{LiveAreListed, listed_at};
+    ghost use Rattle.mesh_split.specs.Midway.Cells.{LiveAreListed, listed_at};
 
     ghost view = { λ s. s.live };
 

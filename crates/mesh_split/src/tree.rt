@@ -7,8 +7,8 @@ ghost use Rattle.std.specs.Prelude.{IfOk, OnOk};
 ghost use Rattle.mesh_plane.specs.Bounds.{IsSmall};
 ghost use Rattle.mesh_plane.specs.Plane.{Edge};
 ghost use Rattle.mesh_cuts.specs.Split.{AreClear, same_edge};
-ghost use Rattle.mesh_split.specs.Midway.Parts.{Cell, IsAt, height, is_below, reaches, listed_at, StandsIn, HasListed};
-ghost use Rattle.mesh_split.specs.Midway.Parts.{KeepsThose, KeepsListed, KeepsOthers, IsPartClear, MeetsLive};
+ghost use Rattle.mesh_split.specs.Midway.Cells.{Cell, IsAt, height, is_below, reaches, listed_at, StandsIn, HasListed};
+ghost use Rattle.mesh_split.specs.Midway.Cells.{KeepsThose, KeepsListed, KeepsOthers, IsCellClear, MeetsLive};
 ghost use Rattle.mesh_split.specs.Midway.Steps.{exactly};
 
 use crate::hints::{Hints, Meeting};
@@ -18,14 +18,14 @@ use mesh_cuts::grid::{GridEdge, GridPoint};
 use std::alloc::{AllocError, Global};
 
 /// Up to so many segments a part lists before it is parted.
-const FEW: usize = 16;
+const FEW: usize = 32;
 
-/// No part of the plane lies under more cuts. Where one would, as where a run of splits goes on along a line, all cuts
-/// are chosen anew.
+/// No part of the plane lies under more cuts. Where a full one would, as where a run of splits goes on along a line, and
+/// lists as many as a power of two, all cuts are chosen anew.
 pub const DEPTH: usize = 1024;
 
 /// About how many segments a cut is chosen from.
-const SAMPLED: usize = 64;
+const SAMPLED: usize = 16;
 
 /// A vector across a cut.
 type Across = (i16, i16);
@@ -96,7 +96,7 @@ fn live_meeting(live: &Tally, s: GridEdge, e: GridEdge) -> Option<Meeting>
 
 /// A live segment among those listed that the given one meets.
 fn in_part(live: &Tally, listed: &[GridEdge], s: GridEdge) -> Option<Meeting>
-    ensures { MatchOption result (IsPartClear s listed.now live.now) (λ m. MeetsLive s live.now m) }
+    ensures { MatchOption result (IsCellClear s listed.now live.now) (λ m. MeetsLive s live.now m) }
 {
     for e in listed {
         if let Some(m) = live_meeting(live, s, *e) {
@@ -348,8 +348,8 @@ impl Tree {
     }
 
     /// Lists a segment in each part that it reaches, and parts those further that list too many. Answers whether one
-    /// lies under too many cuts for that and lists twice as many as when that was told last, so that new cuts would serve
-    /// better. Where memory is refused, some of them may list it.
+    /// that lies under too many cuts for that was full and listed as many as a power of two, so that new cuts would
+    /// serve better. Where memory is refused, some of them may list it.
     pub fn put(&mut self, alloc: Global, e: GridEdge, depth: usize) -> Result<bool, AllocError>
         ensures kept { KeepsListed (listed_at self.old) (listed_at self.new) }
         ensures listed { OnOk result (HasListed (listed_at self.new) e) }
@@ -404,7 +404,7 @@ impl Tree {
 
     /// A live segment that is listed where the given one reaches, and that it meets.
     pub fn find(&self, live: &Tally, s: GridEdge) -> Option<Meeting>
-        ensures { MatchOption result ((c : Cell) → IsAt s c → IsPartClear s (listed_at self.now c) live.now)
+        ensures { MatchOption result ((c : Cell) → IsAt s c → IsCellClear s (listed_at self.now c) live.now)
             (λ m. MeetsLive s live.now m) }
     {
         match self {

@@ -19,7 +19,8 @@ StrokeEdgesAreBalanced =
     (unit : ℕ) → 2 ^ 14 ≤ unit → (style : StrokeStyle) (closed : Bool) (paths : List (List Point)) (built : List Edge)
     → IsPermutation built (all_edges unit style closed paths) → IsProper built × IsBalanced built
 
--- so each stroke is made of regions: its contours wind once round what these edges fill, and round no other point
+-- so each stroke is made of regions: the contours of its resolution wind once round what these edges fill when they are
+-- split, and round no other point; outside the boxes of edges that rounding bent, round what they fill as built
 abbrev pub StrokesAreRegions : Type 0
 StrokesAreRegions =
     (unit : ℕ) → 2 ^ 14 ≤ unit → (style : StrokeStyle) (closed : Bool) (choices : Choices) (paths : List (List Point))

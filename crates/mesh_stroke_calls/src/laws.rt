@@ -7,7 +7,8 @@ pub fn stroke_edges_are_balanced()
     ensures { StrokeEdgesAreBalanced }
 {}
 
-/// The contours of a stroke wind once round what the edges of all its paths fill, and round no other point.
+/// A stroke is made of regions: the contours of its resolution wind once round each point that the split edges of all
+/// its paths fill, and round no other; outside the boxes of edges that rounding bent, so do they of the edges as built.
 pub fn strokes_are_regions()
     ensures { StrokesAreRegions }
 {}

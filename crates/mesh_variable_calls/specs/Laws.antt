@@ -20,7 +20,8 @@ VariableStrokeEdgesAreBalanced =
     (unit : ℕ) (options : ArcOptions) (paths : List (List Vertex)) (built : List Edge)
     → IsPermutation built (all_edges unit options paths) → IsProper built × IsBalanced built
 
--- so each stroke is made of regions: its contours wind once round what these edges fill, and round no other point
+-- so each stroke is made of regions: the contours of its resolution wind once round what these edges fill when they are
+-- split, and round no other point; outside the boxes of edges that rounding bent, round what they fill as built
 abbrev pub VariableStrokesAreRegions : Type 0
 VariableStrokesAreRegions =
     (unit : ℕ) (options : ArcOptions) (choices : Choices) (paths : List (List Vertex))

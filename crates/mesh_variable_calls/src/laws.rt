@@ -8,8 +8,9 @@ pub fn variable_stroke_edges_are_balanced()
     ensures { VariableStrokeEdgesAreBalanced }
 {}
 
-/// The contours of a stroke of variable width wind once round what the edges of all its paths fill, and round no other
-/// point.
+/// A stroke of variable width is made of regions: the contours of its resolution wind once round each point that the
+/// split edges of all its paths fill, and round no other; outside the boxes of edges that rounding bent, so do they of
+/// the edges as built.
 pub fn variable_strokes_are_regions()
     ensures { VariableStrokesAreRegions }
 {}

@@ -1,7 +1,7 @@
 //! Angles as whole numbers of bits.
 
 ghost use Rattle.std.specs.Prelude.{◌≡◌};
-ghost use Rattle.mesh_sine.specs.Sine.{sin_cos, IsSinePair};
+ghost use Rattle.mesh_sine.specs.Sine.{sin_cos, IsWithinOne};
 
 use mesh_sine::sine;
 
@@ -45,7 +45,7 @@ impl Angle {
     /// The sine and the cosine, times 2^30, in this order.
     pub fn sin_cos(self) -> (i32, i32)
         ensures value { result ≡ sin_cos self }
-        ensures bounded { IsSinePair result }
+        ensures bounded { IsWithinOne result }
     {
         sine::sin_cos(self.bits)
     }

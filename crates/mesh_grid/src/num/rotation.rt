@@ -23,13 +23,13 @@ pub struct Rotation<I: IntNumber> {
 
 impl<I: IntNumber> Model for Rotation<I> {
     ghost use Rattle.std.specs.Prelude.{ℤ};
-    ghost use Rattle.mesh_sine.specs.Sine.{IsSinePair};
+    ghost use Rattle.mesh_sine.specs.Sine.{IsWithinOne};
 
     ghost Value = { ℤ × ℤ };
 
     ghost view = { λ r. (r.sine, r.cosine) };
 
-    ghost invariant = { λ r. IsSinePair (r.sine, r.cosine) };
+    ghost invariant = { λ r. IsWithinOne (r.sine, r.cosine) };
 
     ghost inverse = { λ v. record { sine = v.0; cosine = v.1; coordinate = record {} } };
 }

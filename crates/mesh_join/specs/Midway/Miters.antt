@@ -2,16 +2,16 @@
 use Rattle.std.specs.Prelude.{ℕ, ℤ, pos, ◌≡◌, ◌^◌, ◌≤◌, ◌≤ℤ◌, unsigned_abs}
 use Rattle.mesh_plane.specs.Plane.{Point}
 use Rattle.mesh_join.specs.Miters.{sharpest, slightest, half_sharpest}
-use Rattle.mesh_sine.specs.Sine.{sin_cos, IsSinePair}
+use Rattle.mesh_sine.specs.Sine.{sin_cos, IsWithinOne}
 
 -- the sines and cosines of a miter's angles, computed once
 pub record HasSines (angle min_turn : ℕ) (slight sharp half : Point) : Type 0 where
   pub of_slightest : slight ≡ sin_cos (slightest min_turn)
   pub of_sharpest : sharp ≡ sin_cos (sharpest angle)
   pub of_half : half ≡ half_sharpest angle
-  pub short_slightest : IsSinePair slight
-  pub short_sharpest : IsSinePair sharp
-  pub short_half : IsSinePair half
+  pub short_slightest : IsWithinOne slight
+  pub short_sharpest : IsWithinOne sharp
+  pub short_half : IsWithinOne half
 
 -- the size of the sine of half a sharpest angle: 1 is 2 ^ 30
 pub record IsHalfSine (s : ℤ) : Type 0 where

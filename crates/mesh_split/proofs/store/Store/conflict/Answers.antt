@@ -1,7 +1,7 @@
 use Rattle.std.proofs.Common.{subst, List}
 use Rattle.std.specs.Prelude.{MatchOption}
 use Rattle.mesh_cuts.specs.Counted.{Counted}
-use Rattle.mesh_split.specs.Midway.Parts.{listed_at, MeetsLive}
+use Rattle.mesh_split.specs.Midway.Cells.{listed_at, MeetsLive}
 use Rattle.mesh_split.specs.Midway.Steps.{IsClearOf}
 use Rattle.mesh_split.proofs.Listing.{nothing_more, clear_of_parts}
 use Rattle.mesh_split.proofs.store.Store.conflict.Goals as goal

@@ -2,7 +2,7 @@ use Rattle.std.proofs.Common.{◌∙◌, sym, subst, List}
 use Rattle.mesh_cuts.specs.Counted.{Counted}
 use Rattle.mesh_split.specs.Midway.Steps.{IsPile}
 use Rattle.mesh_split.proofs.Piles.{once_absent, once_moved, pile_moved, fewer_wait}
-use Rattle.mesh_split.proofs.first_pass.place.Goals as goal
+use Rattle.mesh_split.proofs.first_pass.make_live.Goals as goal
 
 pub insert-requires-clause-absent : goal.insert-requires-clause-absent
 insert-requires-clause-absent c = once_absent c.loop-s.splitter.todo c.pop.new.self c.loop-s.splitter.live c.in-Some.s c.in-Some.ensures.taken c.loop-s.invariant.once

@@ -5,11 +5,11 @@ use Rattle.std.proofs.lemmas.Int.{ints}
 use Rattle.mesh_plane.specs.Plane.{Point, Edge, turn}
 use Rattle.mesh_plane.proofs.Whole.{linear, square_nonneg, mul_nonneg, mul_nonpos, nonneg_of_mul, factor, zero_mul}
 use Rattle.mesh_plane.proofs.Ring.{ring, var, neg, ◌⊕◌, ◌⊖◌, ◌⊗◌}
-use Rattle.mesh_plane.proofs.Places.{place, coordinates, turned}
+use Rattle.mesh_plane.proofs.PointExprs.{point_var, coordinates, turned}
 use Rattle.mesh_cuts.specs.Split.{IsBetween, IsInside, IsCrossing, crossing_at, rounded_quotient, Meets, at_start_of_second, at_end_of_second, at_start_of_first, at_end_of_first, at_crossing}
 use Rattle.mesh_cuts.proofs.Boxes.{between_start, between_end, crossing_between, quotient_flip, turns_differ, parted}
 use Rattle.mesh_split.specs.declared.tree.Cut.{Cut}
-use Rattle.mesh_split.specs.Midway.Parts.{Cell, IsAt, height}
+use Rattle.mesh_split.specs.Midway.Cells.{Cell, IsAt, height}
 
 -- ---- shares of a range
 
@@ -67,23 +67,23 @@ share_of : (v : ℤ × ℤ) (p r q : Point)
     → (((r.0 -ℤ p.0) *ℤ (r.0 -ℤ p.0)) +ℤ ((r.1 -ℤ p.1) *ℤ (r.1 -ℤ p.1))) *ℤ (height v q -ℤ height v p)
     ≡ ((((r.0 -ℤ p.0) *ℤ (q.0 -ℤ p.0)) +ℤ ((r.1 -ℤ p.1) *ℤ (q.1 -ℤ p.1))) *ℤ (height v r -ℤ height v p)) +ℤ (turn p r q *ℤ ((v.1 *ℤ (r.0 -ℤ p.0)) -ℤ (v.0 *ℤ (r.1 -ℤ p.1))))
 share_of v p r q =
-    let h = λ (i : ℕ). (var 6 ⊗ (place i).0) ⊕ (var 7 ⊗ (place i).1) in
-    let x = (place 1).0 ⊖ (place 0).0 in
-    let y = (place 1).1 ⊖ (place 0).1 in
+    let h = λ (i : ℕ). (var 6 ⊗ (point_var i).0) ⊕ (var 7 ⊗ (point_var i).1) in
+    let x = (point_var 1).0 ⊖ (point_var 0).0 in
+    let y = (point_var 1).1 ⊖ (point_var 0).1 in
     ring (coordinates (p ∷ r ∷ q ∷ []) (v.0 ∷ v.1 ∷ []))
     (((x ⊗ x) ⊕ (y ⊗ y)) ⊗ (h 2 ⊖ h 0))
-    ((((x ⊗ ((place 2).0 ⊖ (place 0).0)) ⊕ (y ⊗ ((place 2).1 ⊖ (place 0).1))) ⊗ (h 1 ⊖ h 0)) ⊕ (turned (place 0) (place 1) (place 2) ⊗ ((var 7 ⊗ x) ⊖ (var 6 ⊗ y))))
+    ((((x ⊗ ((point_var 2).0 ⊖ (point_var 0).0)) ⊕ (y ⊗ ((point_var 2).1 ⊖ (point_var 0).1))) ⊗ (h 1 ⊖ h 0)) ⊕ (turned (point_var 0) (point_var 1) (point_var 2) ⊗ ((var 7 ⊗ x) ⊖ (var 6 ⊗ y))))
     refl
 
 rest_of : (p r q : Point)
     → (((r.0 -ℤ p.0) *ℤ (r.0 -ℤ p.0)) +ℤ ((r.1 -ℤ p.1) *ℤ (r.1 -ℤ p.1))) -ℤ (((r.0 -ℤ p.0) *ℤ (q.0 -ℤ p.0)) +ℤ ((r.1 -ℤ p.1) *ℤ (q.1 -ℤ p.1)))
     ≡ ((r.0 -ℤ p.0) *ℤ (r.0 -ℤ q.0)) +ℤ ((r.1 -ℤ p.1) *ℤ (r.1 -ℤ q.1))
 rest_of p r q =
-    let x = (place 1).0 ⊖ (place 0).0 in
-    let y = (place 1).1 ⊖ (place 0).1 in
+    let x = (point_var 1).0 ⊖ (point_var 0).0 in
+    let y = (point_var 1).1 ⊖ (point_var 0).1 in
     ring (coordinates (p ∷ r ∷ q ∷ []) [])
-    (((x ⊗ x) ⊕ (y ⊗ y)) ⊖ ((x ⊗ ((place 2).0 ⊖ (place 0).0)) ⊕ (y ⊗ ((place 2).1 ⊖ (place 0).1))))
-    ((x ⊗ ((place 1).0 ⊖ (place 2).0)) ⊕ (y ⊗ ((place 1).1 ⊖ (place 2).1)))
+    (((x ⊗ x) ⊕ (y ⊗ y)) ⊖ ((x ⊗ ((point_var 2).0 ⊖ (point_var 0).0)) ⊕ (y ⊗ ((point_var 2).1 ⊖ (point_var 0).1))))
+    ((x ⊗ ((point_var 1).0 ⊖ (point_var 2).0)) ⊕ (y ⊗ ((point_var 1).1 ⊖ (point_var 2).1)))
     refl
 
 inside_between : (v : ℤ × ℤ) (e : Edge) (q : Point) → IsInside e q → IsBetween (height v e.0) (height v q) (height v e.1)
@@ -117,12 +117,12 @@ crossing_height : (v : ℤ × ℤ) (a b p r : Point)
     → (height v a *ℤ (turn p r a -ℤ turn p r b)) +ℤ ((height v b -ℤ height v a) *ℤ turn p r a)
     ≡ neg_ℤ ((height v p *ℤ (turn a b p -ℤ turn a b r)) +ℤ ((height v r -ℤ height v p) *ℤ turn a b p))
 crossing_height v a b p r =
-    let e = turned (place 2) (place 3) in
-    let f = turned (place 0) (place 1) in
-    let h = λ (i : ℕ). (var 8 ⊗ (place i).0) ⊕ (var 9 ⊗ (place i).1) in
+    let e = turned (point_var 2) (point_var 3) in
+    let f = turned (point_var 0) (point_var 1) in
+    let h = λ (i : ℕ). (var 8 ⊗ (point_var i).0) ⊕ (var 9 ⊗ (point_var i).1) in
     ring (coordinates (a ∷ b ∷ p ∷ r ∷ []) (v.0 ∷ v.1 ∷ []))
-    ((h 0 ⊗ (e (place 0) ⊖ e (place 1))) ⊕ ((h 1 ⊖ h 0) ⊗ e (place 0)))
-    (neg ((h 2 ⊗ (f (place 2) ⊖ f (place 3))) ⊕ ((h 3 ⊖ h 2) ⊗ f (place 2))))
+    ((h 0 ⊗ (e (point_var 0) ⊖ e (point_var 1))) ⊕ ((h 1 ⊖ h 0) ⊗ e (point_var 0)))
+    (neg ((h 2 ⊗ (f (point_var 2) ⊖ f (point_var 3))) ⊕ ((h 3 ⊖ h 2) ⊗ f (point_var 2))))
     refl
 
 -- ---- heights that two segments share
@@ -173,15 +173,15 @@ in_range a z b at h =
     swapped false true false h = refl
     swapped false false r h = h
 
--- a place that two segments reach
+-- a cell that two segments reach
 pub record Reached (e f : Edge) : Type 0 where
-  pub place : Cell
-  pub first : IsAt e place
-  pub second : IsAt f place
+  pub cell : Cell
+  pub first : IsAt e cell
+  pub second : IsAt f cell
 
-pub place_met : {e f : Edge} {c : Point} → Meets e f c → Reached e f
-place_met {e} {f} m = record {
-  place = λ (cut : Cut). int_lt (shared cut.across m).height_of cut.at;
+pub cell_met : {e f : Edge} {c : Point} → Meets e f c → Reached e f
+cell_met {e} {f} m = record {
+  cell = λ (cut : Cut). int_lt (shared cut.across m).height_of cut.at;
   first = λ (cut : Cut). in_range (height cut.across e.0) (shared cut.across m).height_of (height cut.across e.1) cut.at (shared cut.across m).first;
   second = λ (cut : Cut). in_range (height cut.across f.0) (shared cut.across m).height_of (height cut.across f.1) cut.at (shared cut.across m).second;
 }

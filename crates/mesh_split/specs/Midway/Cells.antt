@@ -63,5 +63,5 @@ abbrev pub MeetsLive : Edge → List Counted → Edge × Point → Type 0
 MeetsLive s live m = Meets s m.0 m.1 × (pos 0 <ℤ exactly m.0 live)
 
 -- each live segment that a part lists is clear of the given one
-abbrev pub IsPartClear : Edge → List Edge → List Counted → Type 0
-IsPartClear s listed live = (e : Edge) → StandsIn e listed → pos 0 <ℤ exactly e live → AreClear s e
+abbrev pub IsCellClear : Edge → List Edge → List Counted → Type 0
+IsCellClear s listed live = (e : Edge) → StandsIn e listed → pos 0 <ℤ exactly e live → AreClear s e
