@@ -24,45 +24,21 @@ use mesh_draw::error::IntOutlineError;
 use mesh_num::num::IntPoint;
 use mesh_num::shape::segment::{Segment, SubjectSegments};
 use mesh_request::failure::Failure;
+use mesh_toolbox::random::Random;
 use std::alloc::{AllocError, Global};
 use std::num::ParseIntError;
 use std::{env, io};
 use thiserror::Error;
 
 /// The starts of the segments lie in a square of this side, in grid units.
-const SIDE: u64 = 1_048_576;
-
-/// Numbers that look random.
-#[derive(Drop)]
-struct Random {
-    state: u64,
-}
-
-impl Random {
-    fn below(&mut self, n: u64) -> u64
-        requires { 0 < n }
-        ensures { result < n }
-    {
-        self.state = self
-            .state
-            .wrapping_mul(6364136223846793005)
-            .wrapping_add(1442695040888963407);
-        (self.state >> 33) % n
-    }
-
-    fn coordinate(&mut self) -> u64
-        ensures { result < 2 ^ 20 }
-    {
-        self.below(SIDE)
-    }
-}
+const SIDE: u32 = 1_048_576;
 
 /// A point of the square, and one that differs from it by at most `reach` in each coordinate.
-fn edge(random: &mut Random, reach: u64) -> GridEdge
+fn edge(random: &mut Random, reach: u32) -> GridEdge
     requires { reach ≤ 2 ^ 21 }
 {
-    let x = random.coordinate();
-    let y = random.coordinate();
+    let x = random.below(SIDE);
+    let y = random.below(SIDE);
     let east = x + random.below(2 * reach + 1);
     let north = y + random.below(2 * reach + 1);
     (
@@ -73,8 +49,8 @@ fn edge(random: &mut Random, reach: u64) -> GridEdge
 
 /// Segments of a length at which about every second one is crossed.
 fn edges(alloc: Global, count: u64) -> Result<Vec<GridEdge>, AllocError> {
-    let mut random = Random { state: 1 };
-    let reach = 7 * SIDE / (4 * (count.isqrt() + 1));
+    let mut random = Random::new(1);
+    let reach = (7 * u64::from(SIDE) / (4 * (count.isqrt() + 1))) as u32;
     let mut edges = Vec::new(alloc);
     for _ in 0..count {
         edges.push(edge(&mut random, reach))?;
@@ -83,7 +59,7 @@ fn edges(alloc: Global, count: u64) -> Result<Vec<GridEdge>, AllocError> {
 }
 
 /// A point that differs from the given one by at most `reach` in each coordinate, and lies in the square or beside it.
-fn beside(random: &mut Random, x: u64, y: u64, reach: u64) -> IntPoint<i32>
+fn beside(random: &mut Random, x: u32, y: u32, reach: u32) -> IntPoint<i32>
     requires x_small { x < 2 ^ 20 }
     requires y_small { y < 2 ^ 20 }
     requires reach_small { reach ≤ 2 ^ 21 }
@@ -97,12 +73,12 @@ fn beside(random: &mut Random, x: u64, y: u64, reach: u64) -> IntPoint<i32>
 fn push_contour(
     segments: &mut Vec<Segment<i32>>,
     random: &mut Random,
-    reach: u64,
+    reach: u32,
 ) -> Result<(), AllocError>
     requires { reach ≤ 2 ^ 21 }
 {
-    let x = random.coordinate();
-    let y = random.coordinate();
+    let x = random.below(SIDE);
+    let y = random.below(SIDE);
     let first = beside(random, x, y, reach);
     let mut before = first;
     for _ in 0..3 {
@@ -165,8 +141,8 @@ impl From<ParseIntError> for BenchError {
 
 /// The sides of closed lists, as many sides as asked.
 fn sides(alloc: Global, count: u64) -> Result<Vec<Segment<i32>>, AllocError> {
-    let mut random = Random { state: 1 };
-    let reach = SIDE / (count.isqrt() + 1);
+    let mut random = Random::new(1);
+    let reach = (u64::from(SIDE) / (count.isqrt() + 1)) as u32;
     let mut segments = Vec::new(alloc);
     for _ in 0..count / 4 {
         push_contour(&mut segments, &mut random, reach)?;
