@@ -12,7 +12,7 @@ pub fn wide<I: IntNumber>(number: I) -> i128 {
 }
 
 /// A point of the grid.
-fn plain_point<I: IntNumber>(point: IntPoint<I>) -> Point {
+pub fn plain_point<I: IntNumber>(point: IntPoint<I>) -> Point {
     (wide(point.x), wide(point.y))
 }
 

@@ -1,5 +1,6 @@
-//! What the tests share: points of tables and what is made of them, comparers of answers, plain programs that count and
-//! that repeat the definitions of directions, arcs and joins, and points that look random.
+//! What the tests share: points of tables and what is made of them, a reader of tables that are text, comparers of
+//! answers, plain programs that count and that repeat the definitions of directions, arcs and joins, and points that look
+//! random, which the benchmarks take too.
 #![tactic(auto)]
 
 pub mod arcs;
@@ -10,3 +11,4 @@ pub mod joins;
 pub mod lists;
 pub mod plain;
 pub mod random;
+pub mod rows;

@@ -1,13 +1,13 @@
 //! The builder adds the stored edges, of worked paths and of random ones.
 
 use crate::drawn::drawn;
-use crate::reader::{broken, fields, is_for, points, style, vertices};
 use crate::tables::edges::EDGES;
+use crate::values::{style, vertices};
 use mesh_num::num::OverlayInt;
-use mesh_toolbox::compared::are_same_edges;
+use mesh_toolbox::compared::{are_same_edges, expect_that};
 use mesh_toolbox::plain::{Edge, closed};
+use mesh_toolbox::rows::{broken, fields, is_for, points};
 use std::alloc::Global;
-use std::process::Abort;
 use std::test::Fail;
 
 /// The edges round the closed lists of points of a field.
@@ -22,7 +22,7 @@ fn loops(alloc: Global, field: &str) -> Result<Vec<Edge>, Fail> {
 }
 
 /// The stroke of the row's path has the stored edges, where the row is meant for this width.
-fn expect_edges<I: OverlayInt>(rt: &impl Abort, alloc: Global, row: &str) -> Result<(), Fail> {
+fn expect_edges<I: OverlayInt>(alloc: Global, row: &str) -> Result<(), Fail> {
     let fields = fields(alloc, row)?;
     let [width, arc, path, wanted] = fields.as_slice() else {
         return Err(broken(row));
@@ -30,7 +30,8 @@ fn expect_edges<I: OverlayInt>(rt: &impl Abort, alloc: Global, row: &str) -> Res
     if is_for::<I>(width) {
         let path = vertices::<I>(alloc, path)?;
         let edges = drawn(alloc, &path, style(alloc, arc)?)?;
-        assert!(rt; are_same_edges(edges, loops(alloc, wanted)?)?, "{row}");
+        let is_same = are_same_edges(edges, loops(alloc, wanted)?)?;
+        expect_that(is_same, &row)?;
     }
     Ok(())
 }
@@ -38,8 +39,8 @@ fn expect_edges<I: OverlayInt>(rt: &impl Abort, alloc: Global, row: &str) -> Res
 #[test]
 fn stored_edges(rt: HostRuntime) -> Result<(), Fail> {
     for row in EDGES.lines() {
-        expect_edges::<i16>(&rt, rt.alloc(), row)?;
-        expect_edges::<i32>(&rt, rt.alloc(), row)?;
+        expect_edges::<i16>(rt.alloc(), row)?;
+        expect_edges::<i32>(rt.alloc(), row)?;
     }
     Ok(())
 }

@@ -9,8 +9,6 @@ mod edges;
 #[cfg(test)]
 mod ranges;
 #[cfg(test)]
-mod reader;
-#[cfg(test)]
 mod sections;
 #[cfg(test)]
 mod shapes;
@@ -19,6 +17,6 @@ mod sources;
 #[cfg(test)]
 mod tables;
 #[cfg(test)]
-mod windings;
+mod values;
 #[cfg(test)]
-mod written;
+mod windings;

@@ -1,16 +1,17 @@
 //! Which paths may be stroked, at the ends of the safe range and of the types.
 
-use crate::reader::{broken, fields, is_for, paths};
 use crate::tables::ranges::RANGES;
+use crate::values::paths;
 use i_overlay_mesh::IntOutlineError;
 use i_overlay_mesh::variable_stroke::offset::IntVariableStrokeOffset;
 use mesh_num::num::OverlayInt;
+use mesh_toolbox::compared::expect_equal;
+use mesh_toolbox::rows::{broken, fields, is_for};
 use std::alloc::Global;
-use std::process::Abort;
 use std::test::Fail;
 
 /// The paths of the row may be stroked just where it says so, where the row is meant for this width.
-fn expect_range<I: OverlayInt>(rt: &impl Abort, alloc: Global, row: &str) -> Result<(), Fail> {
+fn expect_range<I: OverlayInt>(alloc: Global, row: &str) -> Result<(), Fail> {
     let fields = fields(alloc, row)?;
     let [width, lists, wanted] = fields.as_slice() else {
         return Err(broken(row));
@@ -19,7 +20,7 @@ fn expect_range<I: OverlayInt>(rt: &impl Abort, alloc: Global, row: &str) -> Res
         let answer = paths::<I>(alloc, lists)?.validate_variable_stroke();
         let refused = Err(IntOutlineError::CoordinateOutOfRange);
         let told = if *wanted == "1" { Ok(()) } else { refused };
-        assert_eq!(rt; answer, told, "{row}");
+        expect_equal(&answer, &told, &row)?;
     }
     Ok(())
 }
@@ -27,8 +28,8 @@ fn expect_range<I: OverlayInt>(rt: &impl Abort, alloc: Global, row: &str) -> Res
 #[test]
 fn validated_paths(rt: HostRuntime) -> Result<(), Fail> {
     for row in RANGES.lines() {
-        expect_range::<i16>(&rt, rt.alloc(), row)?;
-        expect_range::<i32>(&rt, rt.alloc(), row)?;
+        expect_range::<i16>(rt.alloc(), row)?;
+        expect_range::<i32>(rt.alloc(), row)?;
     }
     Ok(())
 }

@@ -3,8 +3,8 @@
 ghost use Rattle.std.specs.Prelude.{IfOk};
 ghost use Rattle.mesh_tangent.specs.Sections.{IsSafeCircle};
 
-use crate::reader::{broken, fields, is_for, points, vertices};
 use crate::tables::sections::SECTIONS;
+use crate::values::vertices;
 use i_overlay_mesh::stroke::radius::stroke_radius;
 use i_overlay_mesh::variable_stroke::offset::IntVariableStrokeOffset;
 use mesh_join::style::IntStrokeVertex;
@@ -13,7 +13,10 @@ use mesh_num::num::{IntPoint, IntVector, OverlayInt, WideNumber};
 use mesh_tangent::circle::Circle;
 use mesh_tangent::offsets::tangent_offsets;
 use mesh_tangent::section::Section;
+use mesh_toolbox::compared::{expect_equal, expect_that};
+use mesh_toolbox::edges::plain_point;
 use mesh_toolbox::plain::{Point, minus};
+use mesh_toolbox::rows::{broken, fields, is_for, points};
 use std::alloc::{AllocError, Global};
 use std::process::Abort;
 use std::test::Fail;
@@ -31,11 +34,6 @@ fn circle<I: OverlayInt>(alloc: Global, vertex: IntStrokeVertex<I>) -> Result<Ci
     })
 }
 
-/// A point of the grid.
-fn plain<I: OverlayInt>(point: IntPoint<I>) -> Point {
-    (widen(point.x), widen(point.y))
-}
-
 /// The contacts of a section, none where there is none.
 fn contacts<I: OverlayInt>(
     alloc: Global,
@@ -43,37 +41,44 @@ fn contacts<I: OverlayInt>(
 ) -> Result<Vec<Point>, AllocError> {
     let mut contacts = Vec::new(alloc);
     if let Some(section) = section {
-        contacts.push(plain(section.a_left))?;
-        contacts.push(plain(section.a_right))?;
-        contacts.push(plain(section.b_left))?;
-        contacts.push(plain(section.b_right))?;
+        contacts.push(plain_point(section.a_left))?;
+        contacts.push(plain_point(section.a_right))?;
+        contacts.push(plain_point(section.b_left))?;
+        contacts.push(plain_point(section.b_right))?;
     }
     Ok(contacts)
 }
 
 /// The tangent offsets of two circles lead to the contacts of their section, and no coordinate passes its radius.
-fn expect_offsets<I: OverlayInt>(rt: &impl Abort, a: Circle<I>, b: Circle<I>, section: &Section<I>)
+fn expect_offsets<I: OverlayInt>(
+    rt: &impl Abort,
+    a: Circle<I>,
+    b: Circle<I>,
+    section: &Section<I>,
+) -> Result<(), Fail>
     requires a { IsSafeCircle I.unit a }
     requires b { IsSafeCircle I.unit b }
 {
     assert!(rt; !a.is_nested_with(b));
     let offsets = tangent_offsets(&(b.center - a.center), a.radius, b.radius);
-    expect_offset(rt, a, section.a_left, &offsets.a_left);
-    expect_offset(rt, a, section.a_right, &offsets.a_right);
-    expect_offset(rt, b, section.b_left, &offsets.b_left);
-    expect_offset(rt, b, section.b_right, &offsets.b_right);
+    expect_offset(a, section.a_left, &offsets.a_left)?;
+    expect_offset(a, section.a_right, &offsets.a_right)?;
+    expect_offset(b, section.b_left, &offsets.b_left)?;
+    expect_offset(b, section.b_right, &offsets.b_right)
 }
 
+/// The offset leads from the center to the contact, and no coordinate passes the radius.
 fn expect_offset<I: OverlayInt>(
-    rt: &impl Abort,
     circle: Circle<I>,
     contact: IntPoint<I>,
     offset: &IntVector<I>,
-) {
+) -> Result<(), Fail> {
     let (x, y) = (offset.x.to_i128(), offset.y.to_i128());
-    assert_eq!(rt; minus(plain(contact), plain(circle.center)), (x, y));
+    let found = minus(plain_point(contact), plain_point(circle.center));
+    expect_equal(&found, &(x, y), &circle)?;
     let radius = widen(circle.radius);
-    assert!(rt; x.wrapping_abs() <= radius && y.wrapping_abs() <= radius);
+    let is_within = x.wrapping_abs() <= radius && y.wrapping_abs() <= radius;
+    expect_that(is_within, &(offset, circle))
 }
 
 /// Both vertices of the row have the section that it stores, which covers the circles that it names, and not the others
@@ -92,20 +97,16 @@ fn expect_section<I: OverlayInt>(rt: &impl Abort, alloc: Global, row: &str) -> R
     };
     let (a, b) = (circle(alloc, *a)?, circle(alloc, *b)?);
     let section = Section::new(a, b);
-    assert_eq!(rt; contacts(alloc, &section)?, points(alloc, wanted)?, "{row}");
+    expect_equal(&contacts(alloc, &section)?, &points(alloc, wanted)?, &row)?;
     if let Some(section) = section {
-        expect_offsets(rt, a, b, &section);
+        expect_offsets(rt, a, b, &section)?;
         for vertex in &vertices(alloc, covered)? {
-            assert!(rt;
-                section.covers_circle(circle(alloc, *vertex)?),
-                "{vertex:?} of {row}"
-            );
+            let is_covered = section.covers_circle(circle(alloc, *vertex)?);
+            expect_that(is_covered, &(vertex, row))?;
         }
         for vertex in &vertices(alloc, others)? {
-            assert!(rt;
-                !section.covers_circle(circle(alloc, *vertex)?),
-                "{vertex:?} of {row}"
-            );
+            let is_covered = section.covers_circle(circle(alloc, *vertex)?);
+            expect_that(!is_covered, &(vertex, row))?;
         }
     }
     Ok(())

@@ -1,12 +1,13 @@
 //! Each source of paths once, and both iterators.
 
-use crate::reader::{paths, vertices};
+use crate::values::{paths, vertices};
 use i_overlay_mesh::variable_stroke::resource::IntVariableStrokeSource;
 use i_overlay_mesh::variable_stroke::resource_iter::{
     ContourResourceIterator, ShapeResourceIterator,
 };
 use mesh_join::style::IntStrokeVertex;
 use mesh_num::shape::PathSlice;
+use mesh_toolbox::compared::{expect_equal, expect_that};
 use std::alloc::Global;
 use std::fmt::Write;
 use std::test::Fail;
@@ -41,32 +42,48 @@ fn given<S: IntVariableStrokeSource<i32>>(alloc: Global, source: &S) -> Result<S
     Ok(text)
 }
 
+/// The source has the paths that the text tells.
+fn expect_given<S: IntVariableStrokeSource<i32>>(
+    alloc: Global,
+    source: &S,
+    wanted: &str,
+) -> Result<(), Fail> {
+    expect_equal(&given(alloc, source)?.as_str(), &wanted, &"a source")
+}
+
 #[test]
 fn sources(rt: HostRuntime) -> Result<(), Fail> {
     let one = vertices::<i32>(rt.alloc(), PATH)?;
     let all = paths::<i32>(rt.alloc(), PATHS)?;
     assert_eq!(rt; one.len(), 3);
     let array = [one[0], one[1], one[2]];
-    assert_eq!(rt; given(rt.alloc(), &one)?.as_str(), ONE);
-    assert_eq!(rt; given(rt.alloc(), &array)?.as_str(), ONE);
-    assert_eq!(rt;
-        given(rt.alloc(), &PathSlice::new(one.as_slice()))?.as_str(),
-        ONE
-    );
-    assert_eq!(rt; given(rt.alloc(), &all)?.as_str(), ALL);
-    assert_eq!(rt;
-        given(rt.alloc(), &PathSlice::new(all.as_slice()))?.as_str(),
-        ALL
-    );
+    expect_given(rt.alloc(), &one, ONE)?;
+    expect_given(rt.alloc(), &array, ONE)?;
+    expect_given(rt.alloc(), &PathSlice::new(one.as_slice()), ONE)?;
+    expect_given(rt.alloc(), &all, ALL)?;
+    expect_given(rt.alloc(), &PathSlice::new(all.as_slice()), ALL)?;
     let lists = [
         one,
         Vec::new(rt.alloc()),
         vertices::<i32>(rt.alloc(), "6 7 8")?,
     ];
-    assert_eq!(rt; given(rt.alloc(), &lists)?.as_str(), ALL);
+    expect_given(rt.alloc(), &lists, ALL)?;
     let none: [IntStrokeVertex<i32>; 0] = [];
-    assert_eq!(rt; given(rt.alloc(), &none)?.as_str(), "[ ]");
-    Ok(())
+    expect_given(rt.alloc(), &none, "[ ]")
+}
+
+/// The iterator over one path gives it, tells how many paths it has, and then has none.
+fn push_single(text: &mut String, path: &[IntStrokeVertex<i32>]) -> Result<(), Fail> {
+    let mut single = ContourResourceIterator::with_slice(path);
+    let told = (single.len(), single.size_hint());
+    expect_equal(&told, &(1, (1, Some(1))), &path)?;
+    let Some(given) = single.next() else {
+        return Err(Fail::new(format_args!("no path for {path:?}")));
+    };
+    push_path(text, given)?;
+    expect_that(single.next().is_none() && single.len() == 0, &path)?;
+    let count = ContourResourceIterator::with_slice(path).count();
+    expect_equal(&count, &1, &path)
 }
 
 /// What both iterators give, and how many paths they tell.
@@ -75,29 +92,24 @@ fn iterators(rt: HostRuntime) -> Result<(), Fail> {
     let all = paths::<i32>(rt.alloc(), PATHS)?;
     let mut text = String::new(rt.alloc());
     for path in &all {
-        let mut single = ContourResourceIterator::with_slice(path);
-        assert_eq!(rt; (single.len(), single.size_hint()), (1, (1, Some(1))));
-        push_path(&mut text, single.next().ok_or("no path")?)?;
-        assert!(rt; single.next().is_none() && single.len() == 0);
-        assert_eq!(rt; ContourResourceIterator::with_slice(path).count(), 1);
+        push_single(&mut text, path)?;
     }
-    assert_eq!(rt; text.as_str(), ALL);
+    expect_equal(&text.as_str(), &ALL, &"one by one")?;
     text.clear();
     for path in ShapeResourceIterator::with_slice(&all) {
         push_path(&mut text, path)?;
     }
-    assert_eq!(rt; text.as_str(), ALL);
+    expect_equal(&text.as_str(), &ALL, &"all")?;
     let mut several = ShapeResourceIterator::with_slice(&all);
     for left in [3, 2, 1] {
-        assert_eq!(rt;
-            (several.len(), several.size_hint()),
-            (left, (left, Some(left)))
-        );
-        assert!(rt; several.next().is_some());
+        let told = (several.len(), several.size_hint());
+        expect_equal(&told, &(left, (left, Some(left))), &left)?;
+        expect_that(several.next().is_some(), &left)?;
     }
-    assert!(rt; several.next().is_none() && several.len() == 0);
-    assert_eq!(rt; ShapeResourceIterator::with_slice(&all).count(), 3);
+    expect_that(several.next().is_none() && several.len() == 0, &"the end")?;
+    let count = ShapeResourceIterator::with_slice(&all).count();
+    expect_equal(&count, &3, &"all")?;
     let nothing: &[Vec<IntStrokeVertex<i32>>] = &[];
-    assert_eq!(rt; ShapeResourceIterator::with_slice(nothing).count(), 0);
-    Ok(())
+    let count = ShapeResourceIterator::with_slice(nothing).count();
+    expect_equal(&count, &0, &"nothing")
 }
