@@ -6,7 +6,9 @@ use mesh_below::checks::are_resolvable;
 use mesh_num::num::IntPoint;
 use mesh_num::shape::buffer::FlatContoursBuffer;
 use mesh_num::shape::segment::{Segment, SubjectSegments, XSegment};
-use mesh_toolbox::compared::{are_shapes, holds, is_contour};
+use mesh_toolbox::compared::{
+    are_same_segments, are_shapes, expect_equal, expect_that, holds, is_contour,
+};
 use mesh_toolbox::lists::segments;
 use mesh_toolbox::outer;
 use std::alloc::{AllocError, Global};
@@ -28,23 +30,18 @@ const BOTH: Row = &[
 ];
 
 #[test]
-fn defaults(rt: HostRuntime) {
+fn defaults(rt: HostRuntime) -> Result<(), Fail> {
     let options = IntOverlayOptions::<u32>::default();
-    assert_eq!(rt; options.min_output_area, 0);
-    assert_eq!(rt;
-        options.output_direction,
-        ContourDirection::CounterClockwise
-    );
-    assert_eq!(rt; options.output_direction, ContourDirection::default());
-    assert!(rt; !options.preserve_output_collinear);
+    let onward = ContourDirection::CounterClockwise;
+    expect_equal(&options.min_output_area, &0, &"the default options")?;
+    expect_equal(&options.output_direction, &onward, &"the default options")?;
+    expect_equal(&ContourDirection::default(), &onward, &"the default")?;
+    expect_that(!options.preserve_output_collinear, &"the default options")?;
     let overlay: Overlay<i32> = Overlay::with_segments(Vec::new(rt.alloc()));
     let options = overlay.options;
-    assert_eq!(rt; options.min_output_area, 0);
-    assert_eq!(rt;
-        options.output_direction,
-        ContourDirection::CounterClockwise
-    );
-    assert!(rt; !options.preserve_output_collinear);
+    expect_equal(&options.min_output_area, &0, &"an overlay's options")?;
+    expect_equal(&options.output_direction, &onward, &"an overlay's options")?;
+    expect_that(!options.preserve_output_collinear, &"an overlay's options")
 }
 
 #[test]
@@ -54,7 +51,7 @@ fn segments_in_two_parts(rt: HostRuntime) -> Result<(), Fail> {
     expect(&overlay, FillRule::Positive, &[])?;
     let more = overlay_of(rt.alloc(), &[OTHER])?;
     overlay.add_segments(&more.segments)?;
-    assert_eq!(rt; overlay.segments.len(), 8);
+    expect_equal(&overlay.segments.len(), &8, &"two squares")?;
     expect(&overlay, FillRule::Positive, &[&[BOTH]])?;
     overlay.options.min_output_area = 29;
     expect(&overlay, FillRule::Positive, &[])
@@ -69,21 +66,7 @@ fn numbers_of_16_bits(rt: HostRuntime) -> Result<(), Fail> {
     let overlay = Overlay::with_segments(segments(rt.alloc(), square)?);
     expect_resolvable(&overlay)?;
     let shapes = overlay.overlay(OverlayRule::Subject, FillRule::Positive)?;
-    assert!(rt; are_shapes(&shapes, &[square]), "{shapes:?}");
-    Ok(())
-}
-
-fn are_same(first: &[Segment<i32>], second: &[Segment<i32>]) -> bool {
-    if first.len() != second.len() {
-        return false;
-    }
-    for (s, t) in first.iter().zip(second) {
-        let (e, f) = (s.x_segment, t.x_segment);
-        if e.a != f.a || e.b != f.b || s.count != t.count {
-            return false;
-        }
-    }
-    true
+    expect_that(are_shapes(&shapes, &[square]), &shapes)
 }
 
 /// The overlay stays as it was. The buffer has the answer, or what it had: a refusal comes only in a run that is made to
@@ -96,7 +79,7 @@ fn answers_leave_the_overlay_as_it_was(rt: HostRuntime) -> Result<(), Fail> {
     let mut buffer = FlatContoursBuffer::new(rt.alloc());
     buffer.points.push(IntPoint::new(7, 7))?;
     let done = overlay.overlay_into(OverlayRule::Subject, FillRule::Positive, &mut buffer);
-    assert!(rt; are_same(&overlay.segments, &before));
+    assert!(rt; are_same_segments(&overlay.segments, &before));
     if let Err(refused) = done {
         assert!(rt; is_contour(&buffer.points, &[(7, 7)]));
         assert!(rt; buffer.ranges.is_empty());
@@ -137,10 +120,11 @@ fn with_first_side(
 }
 
 #[test]
-fn what_is_no_list_to_resolve(rt: HostRuntime) -> Result<(), AllocError> {
-    for (a, b, count, want) in FIRST_SIDES.iter().copied() {
+fn what_is_no_list_to_resolve(rt: HostRuntime) -> Result<(), Fail> {
+    for row in FIRST_SIDES {
+        let (a, b, count, want) = *row;
         let segments = with_first_side(rt.alloc(), a, b, count)?;
-        assert_eq!(rt; are_resolvable(rt.alloc(), &segments)?, want);
+        expect_equal(&are_resolvable(rt.alloc(), &segments)?, &want, row)?;
     }
     Ok(())
 }

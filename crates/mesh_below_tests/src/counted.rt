@@ -92,9 +92,12 @@ fn is_in_box(e: Edge, p: Point) -> bool {
 
 /// Whether a segment lies in the box of one of the edges.
 pub fn is_boxed(edges: &[Edge], s: Edge) -> bool {
-    edges
-        .iter()
-        .any(|e| is_in_box(*e, s.0) && is_in_box(*e, s.1))
+    for e in edges {
+        if is_in_box(*e, s.0) && is_in_box(*e, s.1) {
+            return true;
+        }
+    }
+    false
 }
 
 /// Whether a segment lies in the box of an edge, but not on its line.
@@ -104,11 +107,21 @@ fn is_beside(e: Edge, s: Edge) -> bool {
     is_in_box(e, s.0) && is_in_box(e, s.1) && !is_on_line
 }
 
+/// Whether one of the segments lies in the box of an edge, but not on its line.
+fn has_beside(e: Edge, segments: &[Counted]) -> bool {
+    for s in segments {
+        if is_beside(e, s.0) {
+            return true;
+        }
+    }
+    false
+}
+
 /// The edges that may have been bent: of the others, all segments in their boxes lie on their lines.
 pub fn bent(alloc: Global, edges: &[Edge], segments: &[Counted]) -> Result<Vec<Edge>, AllocError> {
     let mut bent = Vec::new(alloc);
     for e in edges {
-        if segments.iter().any(|s| is_beside(*e, s.0)) {
+        if has_beside(*e, segments) {
             bent.push(*e)?;
         }
     }
@@ -117,7 +130,10 @@ pub fn bent(alloc: Global, edges: &[Edge], segments: &[Counted]) -> Result<Vec<E
 
 /// Whether a point of the grid 2 is in the box of one of the edges.
 pub fn is_near(edges: &[Edge], q: Point) -> bool {
-    edges
-        .iter()
-        .any(|e| is_in_box((refined(2, e.0), refined(2, e.1)), q))
+    for e in edges {
+        if is_in_box((refined(2, e.0), refined(2, e.1)), q) {
+            return true;
+        }
+    }
+    false
 }

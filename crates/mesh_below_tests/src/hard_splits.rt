@@ -5,8 +5,9 @@ ghost use Rattle.std.specs.Prelude.{◌<◌};
 use crate::random_splits::push_closed;
 use crate::splits::split_sorted;
 use mesh_below::grid::{CountedSegment, GridEdge};
+use mesh_toolbox::compared::{expect_equal, expect_that};
 use std::alloc::{AllocError, Global};
-use std::process::Abort;
+use std::test::Fail;
 
 /// The corners of a contour.
 type Corners = &'static [(i32, i32)];
@@ -69,7 +70,8 @@ const LONG: &[Corners] = &[
 /// How far the segments lead in all, in `x` and in `y`: nowhere where they are balanced.
 fn way(segments: &[CountedSegment]) -> (i128, i128) {
     let mut sum = (0i128, 0i128);
-    for ((start, end), count) in segments.iter().copied() {
+    for segment in segments {
+        let ((start, end), count) = *segment;
         let x = i128::from(end.0).wrapping_sub(i128::from(start.0));
         let y = i128::from(end.1).wrapping_sub(i128::from(start.1));
         sum.0 = sum.0.wrapping_add(x.wrapping_mul(count));
@@ -79,39 +81,35 @@ fn way(segments: &[CountedSegment]) -> (i128, i128) {
 }
 
 /// The segments that a contour is split into.
-fn split_contour(
-    rt: &impl Abort,
-    alloc: Global,
-    corners: &[(i32, i32)],
-) -> Result<Vec<CountedSegment>, AllocError> {
+fn split_contour(alloc: Global, corners: &[(i32, i32)]) -> Result<Vec<CountedSegment>, Fail> {
     let mut edges: Vec<GridEdge> = Vec::new(alloc);
     push_closed(&mut edges, corners)?;
     let segments = split_sorted(alloc, &edges)?;
-    assert!(rt; edges.len() <= segments.len(), "{corners:?}");
-    assert_eq!(rt; way(&segments), (0, 0), "{corners:?}");
+    expect_that(edges.len() <= segments.len(), &corners)?;
+    expect_equal(&way(&segments), &(0, 0), &corners)?;
     Ok(segments)
 }
 
 #[test]
-fn unlucky_orders_are_left(rt: HostRuntime) -> Result<(), AllocError> {
-    for corners in UNLUCKY.iter().copied() {
-        let segments = split_contour(&rt, rt.alloc(), corners)?;
-        assert!(rt; segments.len() <= 2000, "{corners:?}: {}", segments.len());
+fn unlucky_orders_are_left(rt: HostRuntime) -> Result<(), Fail> {
+    for corners in UNLUCKY {
+        let count = split_contour(rt.alloc(), corners)?.len();
+        expect_that(count <= 2000, &(corners, count))?;
     }
     Ok(())
 }
 
 #[test]
-fn long_runs_end(rt: HostRuntime) -> Result<(), AllocError> {
-    for corners in LONG.iter().copied() {
-        split_contour(&rt, rt.alloc(), corners)?;
+fn long_runs_end(rt: HostRuntime) -> Result<(), Fail> {
+    for corners in LONG {
+        split_contour(rt.alloc(), corners)?;
     }
     Ok(())
 }
 
 /// Four corners near one line, whose splits move step by step along it.
 #[test]
-fn many_splits_along_one_line_end(rt: HostRuntime) -> Result<(), AllocError> {
+fn many_splits_along_one_line_end(rt: HostRuntime) -> Result<(), Fail> {
     for n in [10i32, 100, 1000, 3000] {
         let far = n.wrapping_mul(2);
         let corners = [
@@ -120,7 +118,7 @@ fn many_splits_along_one_line_end(rt: HostRuntime) -> Result<(), AllocError> {
             (n.wrapping_add(1), far),
             (1, -2),
         ];
-        split_contour(&rt, rt.alloc(), &corners)?;
+        split_contour(rt.alloc(), &corners)?;
     }
     Ok(())
 }

@@ -6,8 +6,10 @@ ghost use Rattle.std.specs.Prelude.{◌<◌, ◌^◌};
 use crate::random_splits::{expect_split, push_closed};
 use crate::splits::split_sorted;
 use mesh_below::grid::GridEdge;
+use mesh_toolbox::compared::expect_equal;
 use mesh_toolbox::random::{Random, scattered};
 use std::alloc::{AllocError, Global};
+use std::test::Fail;
 
 /// Points in a square of 13.
 const SIZE: u32 = 13;
@@ -70,43 +72,43 @@ fn apart(alloc: Global, random: &mut Random) -> Result<Vec<GridEdge>, AllocError
 }
 
 #[test]
-fn few_meetings(rt: HostRuntime) -> Result<(), AllocError> {
+fn few_meetings(rt: HostRuntime) -> Result<(), Fail> {
     let mut random = Random::new(21);
     for _ in 0..150 {
         let edges = twins(rt.alloc(), &mut random)?;
-        expect_split(&rt, rt.alloc(), &edges, true)?;
+        expect_split(rt.alloc(), &edges, true)?;
     }
     Ok(())
 }
 
 #[test]
-fn many_meetings(rt: HostRuntime) -> Result<(), AllocError> {
+fn many_meetings(rt: HostRuntime) -> Result<(), Fail> {
     let mut random = Random::new(22);
     for round in 0u32..60 {
         let edges = crowded(rt.alloc(), &mut random, round % 9 + 8)?;
-        expect_split(&rt, rt.alloc(), &edges, true)?;
+        expect_split(rt.alloc(), &edges, true)?;
     }
     Ok(())
 }
 
 #[test]
-fn repeats(rt: HostRuntime) -> Result<(), AllocError> {
+fn repeats(rt: HostRuntime) -> Result<(), Fail> {
     let mut random = Random::new(23);
     for _ in 0..150 {
         let edges = repeated(rt.alloc(), &mut random)?;
-        expect_split(&rt, rt.alloc(), &edges, true)?;
+        expect_split(rt.alloc(), &edges, true)?;
     }
     Ok(())
 }
 
 #[test]
-fn no_meetings(rt: HostRuntime) -> Result<(), AllocError> {
+fn no_meetings(rt: HostRuntime) -> Result<(), Fail> {
     let mut random = Random::new(24);
     for _ in 0..50 {
         let edges = apart(rt.alloc(), &mut random)?;
         let segments = split_sorted(rt.alloc(), &edges)?;
-        assert_eq!(rt; segments.len(), edges.len(), "{edges:?}");
-        expect_split(&rt, rt.alloc(), &edges, false)?;
+        expect_equal(&segments.len(), &edges.len(), &edges)?;
+        expect_split(rt.alloc(), &edges, false)?;
     }
     Ok(())
 }

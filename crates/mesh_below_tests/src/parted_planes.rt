@@ -6,6 +6,7 @@ use crate::random_splits::{expect_split, push_closed};
 use mesh_below::grid::GridEdge;
 use mesh_toolbox::random::{Random, scattered};
 use std::alloc::{AllocError, Global};
+use std::test::Fail;
 
 /// The plane is parted where more than 16 edges lie. These are many more.
 const COUNT: u32 = 90;
@@ -21,18 +22,18 @@ fn crowd(alloc: Global, random: &mut Random, size: u32) -> Result<Vec<GridEdge>,
 }
 
 #[test]
-fn crowds(rt: HostRuntime) -> Result<(), AllocError> {
+fn crowds(rt: HostRuntime) -> Result<(), Fail> {
     let mut random = Random::new(31);
     for round in 0u32..12 {
         let edges = crowd(rt.alloc(), &mut random, round % 4 * 4 + 4)?;
-        expect_split(&rt, rt.alloc(), &edges, true)?;
+        expect_split(rt.alloc(), &edges, true)?;
     }
     Ok(())
 }
 
 /// All points have one `x`, or one `y`, so the plane is parted along one axis alone.
 #[test]
-fn one_column_and_one_row(rt: HostRuntime) -> Result<(), AllocError> {
+fn one_column_and_one_row(rt: HostRuntime) -> Result<(), Fail> {
     let mut random = Random::new(32);
     for round in 0u32..12 {
         let mut spots = Vec::new(rt.alloc());
@@ -41,14 +42,14 @@ fn one_column_and_one_row(rt: HostRuntime) -> Result<(), AllocError> {
         }
         let mut edges = Vec::new(rt.alloc());
         push_closed(&mut edges, &spots)?;
-        expect_split(&rt, rt.alloc(), &edges, false)?;
+        expect_split(rt.alloc(), &edges, false)?;
     }
     Ok(())
 }
 
 /// A few edges reach far past the crowd at whose ends the plane is parted.
 #[test]
-fn past_all_cuts(rt: HostRuntime) -> Result<(), AllocError> {
+fn past_all_cuts(rt: HostRuntime) -> Result<(), Fail> {
     let mut random = Random::new(33);
     for _ in 0..12 {
         let mut edges = crowd(rt.alloc(), &mut random, 4)?;
@@ -56,7 +57,7 @@ fn past_all_cuts(rt: HostRuntime) -> Result<(), AllocError> {
             &mut edges,
             &[(-8, -7), (16, 3), (15, 16), (-5, 1), (7, -8), (-8, 14)],
         )?;
-        expect_split(&rt, rt.alloc(), &edges, true)?;
+        expect_split(rt.alloc(), &edges, true)?;
     }
     Ok(())
 }
@@ -75,21 +76,21 @@ fn strip(random: &mut Random) -> [(i32, i32); 4] {
 
 /// The box of each strip meets those of most others, so the plane is parted along the strips.
 #[test]
-fn strips_side_by_side(rt: HostRuntime) -> Result<(), AllocError> {
+fn strips_side_by_side(rt: HostRuntime) -> Result<(), Fail> {
     let mut random = Random::new(34);
     for _ in 0..8 {
         let mut edges = Vec::new(rt.alloc());
         for _ in 0..24 {
             push_closed(&mut edges, &strip(&mut random))?;
         }
-        expect_split(&rt, rt.alloc(), &edges, true)?;
+        expect_split(rt.alloc(), &edges, true)?;
     }
     Ok(())
 }
 
 /// Long edges that cross each other in the middle, in all directions, so the plane is parted along many of them.
 #[test]
-fn spikes_all_round(rt: HostRuntime) -> Result<(), AllocError> {
+fn spikes_all_round(rt: HostRuntime) -> Result<(), Fail> {
     let mut random = Random::new(35);
     for _ in 0..4 {
         let mut spots = Vec::new(rt.alloc());
@@ -101,7 +102,7 @@ fn spikes_all_round(rt: HostRuntime) -> Result<(), AllocError> {
         }
         let mut edges = Vec::new(rt.alloc());
         push_closed(&mut edges, &spots)?;
-        expect_split(&rt, rt.alloc(), &edges, true)?;
+        expect_split(rt.alloc(), &edges, true)?;
     }
     Ok(())
 }

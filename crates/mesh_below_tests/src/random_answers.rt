@@ -6,12 +6,12 @@ use crate::splits::split_sorted;
 use mesh_below::below::{ContourDirection, FillRule, Overlay};
 use mesh_below::given::grid_edge;
 use mesh_num::shape::buffer::IntShapes;
+use mesh_toolbox::compared::{expect_equal, expect_that};
 use mesh_toolbox::edges::{edges_of_segments, edges_of_shapes};
 use mesh_toolbox::lists::{path, push_contour};
 use mesh_toolbox::plain::{Edge, winding};
 use mesh_toolbox::random::{Random, scattered, slanted};
 use std::alloc::{AllocError, Global};
-use std::process::Abort;
 use std::test::Fail;
 
 fn is_filled(fill: FillRule, winding: i128) -> bool {
@@ -24,13 +24,12 @@ fn is_filled(fill: FillRule, winding: i128) -> bool {
 /// Near the square and in it, but for the boxes of bent edges, the answer winds `once` where the given edges' winding is
 /// filled, and not elsewhere. Answers at how many points it is filled.
 fn expect_region(
-    rt: &impl Abort,
     edges: &[Edge],
     bent: &[Edge],
     fill: FillRule,
     answer: &[Edge],
     once: i128,
-) -> u32 {
+) -> Result<u32, Fail> {
     let mut filled = 0u32;
     for x in -1i32..35 {
         for y in -1i32..35 {
@@ -39,27 +38,22 @@ fn expect_region(
                 let is_filled = is_filled(fill, winding(2, q, edges));
                 let want = if is_filled { once } else { 0 };
                 let found = winding(2, q, answer);
-                assert_eq!(rt; found, want, "at {q:?} of {edges:?}");
+                expect_equal(&found, &want, &(q, edges))?;
                 filled = filled.wrapping_add(if is_filled { 1 } else { 0 });
             }
         }
     }
-    filled
+    Ok(filled)
 }
 
 /// By either rule the answer winds as the fill says, but for the boxes of bent edges. Answers at how many points it is filled.
-fn expect_regions(
-    rt: &impl Abort,
-    overlay: &Overlay<i32>,
-    bent: &[Edge],
-    once: i128,
-) -> Result<u32, Fail> {
+fn expect_regions(overlay: &Overlay<i32>, bent: &[Edge], once: i128) -> Result<u32, Fail> {
     let alloc = *overlay.segments.allocator();
     let mut filled = 0u32;
     let edges = edges_of_segments(alloc, &overlay.segments)?;
     for fill in [FillRule::Positive, FillRule::Negative] {
         let answer = edges_of_shapes(alloc, &shapes_of(overlay, fill)?)?;
-        let here = expect_region(rt, &edges, bent, fill, &answer, once);
+        let here = expect_region(&edges, bent, fill, &answer, once)?;
         filled = filled.wrapping_add(here);
     }
     Ok(filled)
@@ -99,15 +93,14 @@ fn answers_wind_as_the_fill_says(rt: HostRuntime) -> Result<(), Fail> {
     let mut filled = 0u32;
     for number in 0u32..300 {
         let mut overlay = slanted_overlay(rt.alloc(), &mut random, number)?;
-        let first = expect_regions(&rt, &overlay, &[], 1)?;
+        let first = expect_regions(&overlay, &[], 1)?;
         overlay.options.preserve_output_collinear = true;
         overlay.options.output_direction = ContourDirection::Clockwise;
-        let second = expect_regions(&rt, &overlay, &[], -1)?;
-        assert_eq!(rt; first, second);
+        let second = expect_regions(&overlay, &[], -1)?;
+        expect_equal(&first, &second, &number)?;
         filled = filled.wrapping_add(first);
     }
-    assert!(rt; filled > 10000, "{filled}");
-    Ok(())
+    expect_that(filled > 10000, &filled)
 }
 
 /// The given edges that may have been bent.
@@ -130,11 +123,10 @@ fn answers_wind_as_the_fill_says_beside_bent_edges(rt: HostRuntime) -> Result<()
     for number in 0u32..300 {
         let overlay = scattered_overlay(rt.alloc(), &mut random, number)?;
         let bent = bent_edges(&overlay)?;
-        let here = expect_regions(&rt, &overlay, &bent, 1)?;
+        let here = expect_regions(&overlay, &bent, 1)?;
         filled = filled.wrapping_add(if bent.is_empty() { 0 } else { here });
     }
-    assert!(rt; filled > 100, "{filled}");
-    Ok(())
+    expect_that(filled > 100, &filled)
 }
 
 /// The contours of shapes as an overlay's segments.
@@ -158,7 +150,7 @@ fn answers_handed_in_again_are_answered(rt: HostRuntime) -> Result<(), Fail> {
         let overlay = again(rt.alloc(), &first)?;
         let second = shapes_of(&overlay, FillRule::Positive)?;
         let answer = edges_of_shapes(rt.alloc(), &second)?;
-        expect_region(&rt, &edges, &[], FillRule::Positive, &answer, 1);
+        expect_region(&edges, &[], FillRule::Positive, &answer, 1)?;
     }
     Ok(())
 }

@@ -8,10 +8,11 @@ use crate::counted::{
 };
 use crate::splits::split_sorted;
 use mesh_below::grid::GridEdge;
+use mesh_toolbox::compared::{expect_equal, expect_that};
 use mesh_toolbox::plain::Edge;
 use mesh_toolbox::random::{Random, scattered, slanted_edges};
 use std::alloc::{AllocError, Global};
-use std::process::Abort;
+use std::test::Fail;
 
 /// Adds the edges of a closed list of points, but for those that end where they start.
 pub fn push_closed(edges: &mut Vec<GridEdge>, spots: &[(i32, i32)]) -> Result<(), AllocError> {
@@ -41,33 +42,46 @@ fn contours(alloc: Global, random: &mut Random, size: u32) -> Result<Vec<GridEdg
     Ok(edges)
 }
 
-/// Each segment stands once, shares only ends with the others, and lies in the box of an edge.
-fn expect_clean(rt: &impl Abort, edges: &[Edge], segments: &[Counted]) {
-    for s in segments {
-        let met = segments.iter().filter(|t| meet(s.0, t.0)).count();
-        assert_eq!(rt; met, 1, "{s:?} of {edges:?}");
-        assert!(rt; is_boxed(edges, s.0), "{s:?} of {edges:?}");
+/// How many of the segments meet this one.
+fn met(s: Edge, segments: &[Counted]) -> usize {
+    let mut met = 0usize;
+    for t in segments {
+        if meet(s, t.0) {
+            met = met.wrapping_add(1);
+        }
     }
+    met
+}
+
+/// Each segment stands once, shares only ends with the others, and lies in the box of an edge.
+fn expect_clean(edges: &[Edge], segments: &[Counted]) -> Result<(), Fail> {
+    for s in segments {
+        expect_equal(&met(s.0, segments), &1, &(s, edges))?;
+        expect_that(is_boxed(edges, s.0), &(s, edges))?;
+    }
+    Ok(())
 }
 
 /// At each end the segments count as much from it as the edges do.
-fn expect_same_excess(rt: &impl Abort, given: &[Counted], segments: &[Counted]) {
-    for s in given.iter().chain(segments.iter()) {
-        for p in [s.0.0, s.0.1] {
-            let want = excess(given, p);
-            assert_eq!(rt; excess(segments, p), want, "at {p:?} of {given:?}");
+fn expect_same_excess(given: &[Counted], segments: &[Counted]) -> Result<(), Fail> {
+    for list in [given, segments] {
+        for s in list {
+            for p in [s.0.0, s.0.1] {
+                let want = excess(given, p);
+                expect_equal(&excess(segments, p), &want, &(p, given))?;
+            }
         }
     }
+    Ok(())
 }
 
 /// At the points of the grid 2 that lie in the box of no bent edge, the segments wind as the given ones do. Answers at
 /// how many of these that is not 0.
 fn expect_same_winding(
-    rt: &impl Abort,
     given: &[Counted],
     segments: &[Counted],
     bent: &[Edge],
-) -> u32 {
+) -> Result<u32, Fail> {
     let mut wound = 0u32;
     for x in -17i32..34 {
         for y in -17i32..34 {
@@ -75,21 +89,16 @@ fn expect_same_winding(
             if !is_near(bent, q) {
                 let want = counted_winding(given, q);
                 let found = counted_winding(segments, q);
-                assert_eq!(rt; found, want, "at {q:?} of {given:?}");
+                expect_equal(&found, &want, &(q, given))?;
                 wound = wound.wrapping_add(if want == 0 { 0 } else { 1 });
             }
         }
     }
-    wound
+    Ok(wound)
 }
 
 /// All that split segments are, whether or not edges may be bent. Answers at how many points they wind.
-pub fn expect_split(
-    rt: &impl Abort,
-    alloc: Global,
-    edges: &[GridEdge],
-    may_bend: bool,
-) -> Result<u32, AllocError> {
+pub fn expect_split(alloc: Global, edges: &[GridEdge], may_bend: bool) -> Result<u32, Fail> {
     let segments = counted(alloc, &split_sorted(alloc, edges)?)?;
     let edges = plain_edges(alloc, edges)?;
     let given = once_each(alloc, &edges)?;
@@ -98,32 +107,30 @@ pub fn expect_split(
     } else {
         Vec::new(alloc)
     };
-    expect_clean(rt, &edges, &segments);
-    expect_same_excess(rt, &given, &segments);
-    Ok(expect_same_winding(rt, &given, &segments, &bent))
+    expect_clean(&edges, &segments)?;
+    expect_same_excess(&given, &segments)?;
+    expect_same_winding(&given, &segments, &bent)
 }
 
 #[test]
-fn contours_are_split(rt: HostRuntime) -> Result<(), AllocError> {
+fn contours_are_split(rt: HostRuntime) -> Result<(), Fail> {
     let mut random = Random::new(7);
     let mut wound = 0u32;
     for round in 0u32..300 {
         let edges = contours(rt.alloc(), &mut random, round % 13 + 2)?;
-        wound = wound.wrapping_add(expect_split(&rt, rt.alloc(), &edges, true)?);
+        wound = wound.wrapping_add(expect_split(rt.alloc(), &edges, true)?);
     }
-    assert!(rt; wound > 1000, "{wound}");
-    Ok(())
+    expect_that(wound > 1000, &wound)
 }
 
 /// No edge here is bent, so the segments wind as the edges do at all points.
 #[test]
-fn slanted_edges_are_split(rt: HostRuntime) -> Result<(), AllocError> {
+fn slanted_edges_are_split(rt: HostRuntime) -> Result<(), Fail> {
     let mut random = Random::new(8);
     let mut wound = 0u32;
     for round in 0u32..100 {
         let edges = slanted_edges(rt.alloc(), &mut random, round % 12 + 2)?;
-        wound = wound.wrapping_add(expect_split(&rt, rt.alloc(), &edges, false)?);
+        wound = wound.wrapping_add(expect_split(rt.alloc(), &edges, false)?);
     }
-    assert!(rt; wound > 50000, "{wound}");
-    Ok(())
+    expect_that(wound > 50000, &wound)
 }

@@ -3,7 +3,9 @@
 use mesh_below::given::are_proper;
 use mesh_below::grid::{CountedSegment, GridEdge};
 use mesh_below::splitter::split_edges;
+use mesh_toolbox::compared::expect_equal;
 use std::alloc::{AllocError, Global};
+use std::test::Fail;
 
 /// The segments that the edges are split into, in order; none where an edge ends where it starts.
 pub fn split_sorted(alloc: Global, edges: &[GridEdge]) -> Result<Vec<CountedSegment>, AllocError> {
@@ -179,11 +181,12 @@ const FARTHEST: &[Row] = &[
 ];
 
 #[test]
-fn worked_values(rt: HostRuntime) -> Result<(), AllocError> {
+fn worked_values(rt: HostRuntime) -> Result<(), Fail> {
     for rows in [CROSSINGS, TOUCHES, &[STAR], FARTHEST] {
-        for (edges, want) in rows.iter().copied() {
+        for row in rows {
+            let (edges, want) = *row;
             let found = split_sorted(rt.alloc(), edges)?;
-            assert!(rt; found.as_slice() == want, "{edges:?}");
+            expect_equal(&found.as_slice(), &want, &edges)?;
         }
     }
     Ok(())

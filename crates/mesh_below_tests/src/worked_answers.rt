@@ -15,7 +15,8 @@ type Chosen = (&'static [Row], (u64, bool, bool), Shapes, Shapes);
 #[test]
 fn by_default(rt: HostRuntime) -> Result<(), Fail> {
     for cases in [PLAIN, NESTED, TOUCHING, ROUND_A_GAP, REPEATED] {
-        for (contours, positive, negative) in cases.iter().copied() {
+        for case in cases {
+            let (contours, positive, negative) = *case;
             let overlay = overlay_of(rt.alloc(), contours)?;
             expect(&overlay, FillRule::Positive, positive)?;
             expect(&overlay, FillRule::Negative, negative)?;
@@ -27,7 +28,8 @@ fn by_default(rt: HostRuntime) -> Result<(), Fail> {
 #[test]
 fn by_options(rt: HostRuntime) -> Result<(), Fail> {
     for cases in [AREAS, DIRECTIONS, STRAIGHT] {
-        for (contours, (area, clockwise, straight), positive, negative) in cases.iter().copied() {
+        for case in cases {
+            let (contours, (area, clockwise, straight), positive, negative) = *case;
             let mut overlay = overlay_of(rt.alloc(), contours)?;
             overlay.options.min_output_area = area;
             overlay.options.preserve_output_collinear = straight;

@@ -5,6 +5,7 @@ ghost use Rattle.mesh_grid.specs.Direction.{IsFresh};
 
 use mesh_join::arc::{ArcBuilder, ArcDirection, ArcOptions};
 use mesh_num::num::{Angle, IntVector, UnitIntVector};
+use mesh_toolbox::compared::expect_equal;
 use std::process::Abort;
 use std::test::Fail;
 
@@ -36,26 +37,26 @@ fn building(rt: HostRuntime) -> Result<(), Fail> {
         assert!(rt; arcs.directions().is_empty());
         arcs.build(from, to, sense)?;
     }
-    assert_eq!(rt; arcs.directions().len(), 837);
-    Ok(())
+    expect_equal(&arcs.directions().len(), &837, &"an arc")
 }
 
 /// Once an arc is built, no arc that is as long is refused: it and shorter ones, in both senses.
 #[test]
-fn building_again(rt: HostRuntime) {
+fn building_again(rt: HostRuntime) -> Result<(), Fail> {
     let (from, to) = (direction(&rt, 1, 0), direction(&rt, 1, -8));
     let mut arcs = ArcBuilder::<i32>::new(rt.alloc(), fine());
     if arcs
         .build(from, to, ArcDirection::Counterclockwise)
         .is_err()
     {
-        return;
+        return Ok(());
     }
     for _ in 0..3 {
         assert!(rt; arcs.build(from, to, ArcDirection::Counterclockwise).is_ok());
-        assert_eq!(rt; arcs.directions().len(), 837);
+        expect_equal(&arcs.directions().len(), &837, &"an arc")?;
         assert!(rt; arcs.build(from, to, ArcDirection::Clockwise).is_ok());
         assert!(rt; arcs.build(from, from, ArcDirection::Clockwise).is_ok());
         assert!(rt; arcs.directions().is_empty());
     }
+    Ok(())
 }

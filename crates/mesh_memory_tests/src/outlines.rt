@@ -9,7 +9,7 @@ use i_overlay_mesh::outline::offset::IntOutlineOffset;
 use mesh_join::style::IntOutlineStyle;
 use mesh_num::num::{IntPoint, OverlayInt};
 use mesh_num::shape::segment::Segment;
-use mesh_toolbox::compared::{filled, holds, is_filled};
+use mesh_toolbox::compared::{expect_equal, expect_that, filled, holds, is_filled};
 use mesh_toolbox::lists::{path, paths};
 use mesh_toolbox::{inner, outer};
 use std::alloc::Global;
@@ -49,12 +49,11 @@ fn outline_into(rt: HostRuntime) -> Result<(), Fail> {
     let style = IntOutlineStyle::new(2).inner_offset(3);
     contours.validate_outline(&style)?;
     if let Err(refused) = contours.outline_into(rt.alloc(), &style, &mut buffer) {
-        assert_eq!(rt; refused, IntOutlineError::OutOfMemory);
-        assert!(rt; is_filled(&buffer));
+        expect_equal(&refused, &IntOutlineError::OutOfMemory, &"a refusal")?;
+        expect_that(is_filled(&buffer), &buffer)?;
         contours.outline_into(rt.alloc(), &style, &mut buffer)?;
     }
-    assert!(rt; holds(&buffer, OUTLINE), "{buffer:?}");
-    Ok(())
+    expect_that(holds(&buffer, OUTLINE), &buffer)
 }
 
 const FAR: i32 = 1_073_741_823;
@@ -85,9 +84,12 @@ fn areas(rt: HostRuntime) -> Result<(), Fail> {
     };
     let style = IntOutlineStyle::new(0);
     contours.validate_outline(&style)?;
-    let answer = contours.outline(rt.alloc(), &style);
-    assert_eq!(rt; answer.err(), Some(IntOutlineError::CoordinateOutOfRange));
-    Ok(())
+    let refused = contours.outline(rt.alloc(), &style).err();
+    expect_equal(
+        &refused,
+        &Some(IntOutlineError::CoordinateOutOfRange),
+        &"the areas",
+    )
 }
 
 /// After a refusal the kinds are found by the next call.
@@ -98,14 +100,13 @@ fn kinds(rt: HostRuntime) -> Result<(), Fail> {
     };
     let kinds = match contour_kinds(&contours, rt.alloc()) {
         Err(refused) => {
-            assert_eq!(rt; refused, IntOutlineError::OutOfMemory);
+            expect_equal(&refused, &IntOutlineError::OutOfMemory, &"a refusal")?;
             contour_kinds(&contours, rt.alloc())?
         }
         Ok(kinds) => kinds,
     };
     let wanted = [ContourKind::Hole, ContourKind::Ignored, ContourKind::Outer];
-    assert_eq!(rt; kinds.as_slice(), wanted.as_slice());
-    Ok(())
+    expect_equal(&kinds.as_slice(), &wanted.as_slice(), &"the kinds")
 }
 
 /// Adds the edges of the contour's outline in this style, chosen by its area.
@@ -135,11 +136,10 @@ fn building(rt: HostRuntime) -> Result<(), Fail> {
     };
     let style = IntOutlineStyle::new(2);
     if let Err(refused) = add_outline(rt.alloc(), &contour, &style, &mut segments) {
-        assert_eq!(rt; refused, IntOutlineError::OutOfMemory);
-        assert!(rt; is_one(&segments), "{segments:?}");
+        expect_equal(&refused, &IntOutlineError::OutOfMemory, &"a refusal")?;
+        expect_that(is_one(&segments), &segments)?;
         add_outline(rt.alloc(), &contour, &style, &mut segments)?;
     }
     assert_eq!(rt; segments.len(), 9);
-    assert!(rt; is_one(&segments[..1]), "{segments:?}");
-    Ok(())
+    expect_that(is_one(&segments[..1]), &segments)
 }

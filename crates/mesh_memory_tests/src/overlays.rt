@@ -4,8 +4,7 @@ use mesh_below::below::{FillRule, Overlay, OverlayRule};
 use mesh_below::checks::are_resolvable;
 use mesh_num::num::IntPoint;
 use mesh_num::shape::buffer::FlatContoursBuffer;
-use mesh_num::shape::segment::Segment;
-use mesh_toolbox::compared::{holds, is_contour};
+use mesh_toolbox::compared::{are_same_segments, expect_that, holds, is_contour};
 use mesh_toolbox::lists::segments;
 use mesh_toolbox::outer;
 use std::test::Fail;
@@ -24,20 +23,6 @@ const FILLED: &[&[&[(i32, i32)]]] = &[&[&[
     (2, 4),
     (0, 4),
 ]]];
-
-/// Whether both lists have the same segments, in the same order.
-fn are_same(first: &[Segment<i32>], second: &[Segment<i32>]) -> bool {
-    if first.len() != second.len() {
-        return false;
-    }
-    for (s, t) in first.iter().zip(second) {
-        let (e, f) = (s.x_segment, t.x_segment);
-        if e.a != f.a || e.b != f.b || s.count != t.count {
-            return false;
-        }
-    }
-    true
-}
 
 /// After a refusal the buffer and the overlay are unchanged, and the next call answers.
 #[test]
@@ -58,13 +43,12 @@ fn overlay_into(rt: HostRuntime) -> Result<(), Fail> {
         return Err(Fail::new("these segments are not to be resolved"));
     }
     let done = overlay.overlay_into(OverlayRule::Subject, FillRule::Positive, &mut buffer);
-    assert!(rt; are_same(&overlay.segments, &before));
+    assert!(rt; are_same_segments(&overlay.segments, &before));
     if done.is_err() {
         assert!(rt; is_contour(&buffer.points, &[(7, 7)]) && buffer.ranges.is_empty());
         overlay.overlay_into(OverlayRule::Subject, FillRule::Positive, &mut buffer)?;
     }
-    assert!(rt; holds(&buffer, FILLED), "{buffer:?}");
-    Ok(())
+    expect_that(holds(&buffer, FILLED), &buffer)
 }
 
 /// After a refusal the overlay has what it had, and the next call adds all.
@@ -80,9 +64,9 @@ fn add_segments(rt: HostRuntime) -> Result<(), Fail> {
     };
     let mut overlay = Overlay::with_segments(first);
     if overlay.add_segments(&more).is_err() {
-        assert!(rt; are_same(&overlay.segments, &before));
+        assert!(rt; are_same_segments(&overlay.segments, &before));
         overlay.add_segments(&more)?;
     }
-    assert!(rt; are_same(&overlay.segments, &both));
+    assert!(rt; are_same_segments(&overlay.segments, &both));
     Ok(())
 }

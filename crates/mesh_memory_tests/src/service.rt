@@ -1,6 +1,7 @@
 //! Requests for which memory is refused.
 
 use mesh_service::service::{Status, serve};
+use mesh_toolbox::compared::{expect_equal, expect_that};
 use std::test::Fail;
 
 /// A request, and its answer.
@@ -55,13 +56,13 @@ fn requests(rt: HostRuntime) -> Result<(), Fail> {
         };
         let mut reader = request.as_bytes();
         if serve(rt.alloc(), &mut reader, &mut writer) == Status::Refused {
-            assert!(rt; is_line(&writer, REFUSED), "{writer:?}");
+            expect_that(is_line(&writer, REFUSED), &writer)?;
             writer.clear();
             let mut again = request.as_bytes();
             let status = serve(rt.alloc(), &mut again, &mut writer);
-            assert_eq!(rt; status, Status::Answered);
+            expect_equal(&status, &Status::Answered, line)?;
         }
-        assert!(rt; is_line(&writer, line), "{writer:?}");
+        expect_that(is_line(&writer, line), &writer)?;
     }
     Ok(())
 }

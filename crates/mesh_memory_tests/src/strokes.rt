@@ -8,11 +8,10 @@ use mesh_join::arc::ArcOptions;
 use mesh_join::style::{IntLineCap, IntLineJoin, IntStrokeStyle};
 use mesh_num::num::{Angle, IntPoint, OverlayInt};
 use mesh_num::shape::segment::Segment;
-use mesh_toolbox::compared::{filled, holds, is_filled};
+use mesh_toolbox::compared::{expect_equal, expect_that, filled, holds, is_filled};
 use mesh_toolbox::lists::{path, paths};
 use mesh_toolbox::outer;
 use std::alloc::{AllocError, Global};
-use std::process::Abort;
 use std::rc::RcSlice;
 use std::test::Fail;
 
@@ -44,12 +43,11 @@ fn stroke_into(rt: HostRuntime) -> Result<(), Fail> {
     let style = IntStrokeStyle::new(20);
     lines.validate_stroke(&style)?;
     if let Err(refused) = lines.stroke_into(rt.alloc(), &style, false, &mut buffer) {
-        assert_eq!(rt; refused, IntOutlineError::OutOfMemory);
-        assert!(rt; is_filled(&buffer), "{buffer:?}");
+        expect_equal(&refused, &IntOutlineError::OutOfMemory, &"a refusal")?;
+        expect_that(is_filled(&buffer), &buffer)?;
         lines.stroke_into(rt.alloc(), &style, false, &mut buffer)?;
     }
-    assert!(rt; holds(&buffer, CROSS), "{buffer:?}");
-    Ok(())
+    expect_that(holds(&buffer, CROSS), &buffer)
 }
 
 /// A stroke of nothing takes no memory.
@@ -110,13 +108,12 @@ fn building(rt: HostRuntime) -> Result<(), Fail> {
         return Ok(());
     };
     if let Err(refused) = add_stroke(rt.alloc(), &corner, false, &style, &mut segments) {
-        assert_eq!(rt; refused, IntOutlineError::OutOfMemory);
-        assert!(rt; is_one(&segments), "{segments:?}");
+        expect_equal(&refused, &IntOutlineError::OutOfMemory, &"a refusal")?;
+        expect_that(is_one(&segments), &segments)?;
         add_stroke(rt.alloc(), &corner, false, &style, &mut segments)?;
     }
     assert_eq!(rt; segments.len(), 17);
-    assert!(rt; is_one(&segments[..1]), "{segments:?}");
-    Ok(())
+    expect_that(is_one(&segments[..1]), &segments)
 }
 
 /// Paths of three sections where they are open, among them some with repeats and with points where they turn back.
@@ -138,7 +135,6 @@ fn join(number: u8) -> IntLineJoin {
 
 /// Where there is free room for seven segments a section and six more, the stroke is added, and the room stays as it is.
 fn expect_added(
-    rt: &impl Abort,
     alloc: Global,
     points: &Vec<IntPoint<i32>>,
     closed: bool,
@@ -150,9 +146,8 @@ fn expect_added(
     };
     let room = segments.capacity();
     add_stroke(alloc, points, closed, style, &mut segments)?;
-    assert_eq!(rt; segments.capacity(), room, "{points:?} in {style:?}");
-    assert!(rt; !segments.is_empty(), "{points:?} in {style:?}");
-    Ok(())
+    expect_equal(&segments.capacity(), &room, &(points, style))?;
+    expect_that(!segments.is_empty(), &(points, style))
 }
 
 /// In free room a builder with bevels or miters and butt or square caps is refused nothing: it takes no memory of its own.
@@ -166,12 +161,12 @@ fn building_in_free_room(rt: HostRuntime) -> Result<(), Fail> {
             let butt = IntStrokeStyle::new(8)
                 .line_join(join(number))
                 .miter_min_turn(Angle::from_bits(0));
-            expect_added(&rt, rt.alloc(), &points, false, &butt)?;
-            expect_added(&rt, rt.alloc(), &points, true, &butt)?;
+            expect_added(rt.alloc(), &points, false, &butt)?;
+            expect_added(rt.alloc(), &points, true, &butt)?;
             let square = butt
                 .start_cap(IntLineCap::Square)
                 .end_cap(IntLineCap::Square);
-            expect_added(&rt, rt.alloc(), &points, false, &square)?;
+            expect_added(rt.alloc(), &points, false, &square)?;
         }
     }
     Ok(())

@@ -8,7 +8,7 @@ use mesh_join::arc::ArcOptions;
 use mesh_join::style::{IntStrokeVertex, IntVariableStrokeStyle};
 use mesh_num::num::{Angle, IntPoint, OverlayInt};
 use mesh_num::shape::segment::Segment;
-use mesh_toolbox::compared::{filled, holds, is_filled};
+use mesh_toolbox::compared::{expect_equal, expect_that, filled, holds, is_filled};
 use mesh_toolbox::inner;
 use std::alloc::{AllocError, Global};
 use std::test::Fail;
@@ -59,12 +59,11 @@ fn stroke_into(rt: HostRuntime) -> Result<(), Fail> {
     };
     path.validate_variable_stroke()?;
     if let Err(refused) = path.variable_stroke_into(rt.alloc(), eighths(), &mut buffer) {
-        assert_eq!(rt; refused, IntVariableStrokeError::OutOfMemory);
-        assert!(rt; is_filled(&buffer), "{buffer:?}");
+        expect_equal(&refused, &IntVariableStrokeError::OutOfMemory, &"a refusal")?;
+        expect_that(is_filled(&buffer), &buffer)?;
         path.variable_stroke_into(rt.alloc(), eighths(), &mut buffer)?;
     }
-    assert!(rt; holds(&buffer, FRAME), "{buffer:?}");
-    Ok(())
+    expect_that(holds(&buffer, FRAME), &buffer)
 }
 
 /// Adds the edges of the stroke of a path.
@@ -109,11 +108,10 @@ fn building(rt: HostRuntime) -> Result<(), Fail> {
         return Ok(());
     };
     if let Err(refused) = add_stroke(rt.alloc(), &corner, &mut segments) {
-        assert_eq!(rt; refused, IntVariableStrokeError::OutOfMemory);
-        assert!(rt; is_one(&segments), "{segments:?}");
+        expect_equal(&refused, &IntVariableStrokeError::OutOfMemory, &"a refusal")?;
+        expect_that(is_one(&segments), &segments)?;
         add_stroke(rt.alloc(), &corner, &mut segments)?;
     }
     assert_eq!(rt; segments.len(), 16);
-    assert!(rt; is_one(&segments[..1]), "{segments:?}");
-    Ok(())
+    expect_that(is_one(&segments[..1]), &segments)
 }

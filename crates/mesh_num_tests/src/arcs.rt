@@ -54,8 +54,11 @@ fn plain<I: IntNumber>(direction: UnitIntVector<I>) -> Point {
 
 /// How many directions an arc has, and the last one.
 fn told<I: IntNumber>(directions: &[UnitIntVector<I>]) -> (usize, Point) {
-    let last = directions.last().copied();
-    (directions.len(), last.map(plain).unwrap_or((0, 0)))
+    let last = match directions.last() {
+        Some(direction) => plain(*direction),
+        None => (0, 0),
+    };
+    (directions.len(), last)
 }
 
 /// The bits and the precision of the options, the vectors that the arc leads from and to, its sense, how many directions
@@ -202,7 +205,10 @@ fn arcs_of_i32(rt: HostRuntime) -> Result<(), Fail> {
 fn first_direction(rt: HostRuntime) -> Result<(), Fail> {
     let mut arcs = ArcBuilder::<i32>::new(rt.alloc(), ArcOptions::default());
     let arc = arcs.build(of_i32(&rt, (1, 0)), of_i32(&rt, (0, 1)), LEFT)?;
-    let reach = arc.first().ok_or("no direction")?.scale(1024);
+    let Some(first) = arc.first() else {
+        return Err(Fail::new("no direction"));
+    };
+    let reach = first.scale(1024);
     expect_equal(&(reach.x, reach.y), &(741, 707), &"the first direction")
 }
 
@@ -255,8 +261,13 @@ fn expect_alike<I: IntNumber>(
     wanted: &[UnitIntVector<I>],
 ) -> Result<(), Fail> {
     expect_equal(&found.len(), &wanted.len(), &"the length of an arc")?;
-    for (found, wanted) in found.iter().zip(wanted) {
-        expect_equal(&plain(*found), &plain(*wanted), &"an arc")?;
+    let mut number = 0usize;
+    for direction in found {
+        let Some(want) = wanted.get(number) else {
+            return Err(Fail::new("too long an arc"));
+        };
+        expect_equal(&plain(*direction), &plain(*want), &"an arc")?;
+        number = number.wrapping_add(1);
     }
     Ok(())
 }

@@ -90,7 +90,9 @@ const DIRECTIONS_OF_I32: &[(i64, i64, i32, i32)] = &[
 fn directions_of_i16(rt: HostRuntime) -> Result<(), Fail> {
     for row in DIRECTIONS_OF_I16 {
         let (x, y, want_x, want_y) = *row;
-        let direction = direction_of_i16(&rt, x, y).ok_or("no direction")?;
+        let Some(direction) = direction_of_i16(&rt, x, y) else {
+            return Err(Fail::new("no direction"));
+        };
         let found = (direction.x(), direction.y(), direction.is_fresh());
         expect_equal(&found, &(want_x, want_y, true), row)?;
     }
@@ -102,7 +104,9 @@ fn directions_of_i16(rt: HostRuntime) -> Result<(), Fail> {
 fn directions_of_i32(rt: HostRuntime) -> Result<(), Fail> {
     for row in DIRECTIONS_OF_I32 {
         let (x, y, want_x, want_y) = *row;
-        let direction = direction_of_i32(&rt, x, y).ok_or("no direction")?;
+        let Some(direction) = direction_of_i32(&rt, x, y) else {
+            return Err(Fail::new("no direction"));
+        };
         let found = (direction.x(), direction.y(), direction.is_fresh());
         expect_equal(&found, &(want_x, want_y, true), row)?;
     }
@@ -146,7 +150,9 @@ fn has_sign_of(component: i64, found: i64) -> bool {
 
 // Compares a direction for `i16` with the search.
 fn compare_with_search_i16(rt: &impl Abort, x: i32, y: i32) -> Result<(), Fail> {
-    let direction = direction_of_i16(rt, x, y).ok_or("no direction")?;
+    let Some(direction) = direction_of_i16(rt, x, y) else {
+        return Err(Fail::new("no direction"));
+    };
     let (x, y) = (i64::from(x), i64::from(y));
     let found_x = i64::from(direction.x());
     let found_y = i64::from(direction.y());
@@ -161,7 +167,9 @@ fn compare_with_search_i16(rt: &impl Abort, x: i32, y: i32) -> Result<(), Fail> 
 
 // Compares a direction for `i32` with the search.
 fn compare_with_search_i32(rt: &impl Abort, x: i64, y: i64) -> Result<(), Fail> {
-    let direction = direction_of_i32(rt, x, y).ok_or("no direction")?;
+    let Some(direction) = direction_of_i32(rt, x, y) else {
+        return Err(Fail::new("no direction"));
+    };
     let found_x = i64::from(direction.x());
     let found_y = i64::from(direction.y());
     let found = (
@@ -228,7 +236,9 @@ const SCALED_OF_I32: &[(i64, i64, i32, i64, i64)] = &[
 fn scaled_directions_of_i16(rt: HostRuntime) -> Result<(), Fail> {
     for row in SCALED_OF_I16 {
         let (x, y, radius, want_x, want_y) = *row;
-        let direction = direction_of_i16(&rt, x, y).ok_or("no direction")?;
+        let Some(direction) = direction_of_i16(&rt, x, y) else {
+            return Err(Fail::new("no direction"));
+        };
         let vector = direction.clone()?.scale(radius);
         expect_equal(&(vector.x, vector.y), &(want_x, want_y), row)?;
     }
@@ -239,7 +249,9 @@ fn scaled_directions_of_i16(rt: HostRuntime) -> Result<(), Fail> {
 fn scaled_directions_of_i32(rt: HostRuntime) -> Result<(), Fail> {
     for row in SCALED_OF_I32 {
         let (x, y, radius, want_x, want_y) = *row;
-        let direction = direction_of_i32(&rt, x, y).ok_or("no direction")?;
+        let Some(direction) = direction_of_i32(&rt, x, y) else {
+            return Err(Fail::new("no direction"));
+        };
         let vector = direction.scale(radius);
         expect_equal(&(vector.x, vector.y), &(want_x, want_y), row)?;
     }

@@ -50,9 +50,9 @@ fn bounds_of_points(rt: HostRuntime) -> Result<(), Fail> {
     let none = path::<i16>(rt.alloc(), &[])?;
     assert!(rt; IntRect::with_iter(none.iter()).is_none());
     let points = path::<i16>(rt.alloc(), &[(3, -7), (-2, 5), (4, 0)])?;
-    let bounds = IntRect::with_iter(points.iter())
-        .ok_or("no bounds")?
-        .clone()?;
+    let Some(bounds) = IntRect::with_iter(points.iter()) else {
+        return Err(Fail::new("no bounds"));
+    };
     expect_pairs(&[
         (i128::from(bounds.min_x), -2),
         (i128::from(bounds.max_x), 4),

@@ -1,6 +1,7 @@
 //! Readers and writers that fail, or are interrupted.
 
 use mesh_service::service::{Status, serve};
+use mesh_toolbox::compared::expect_equal;
 use std::io;
 use std::io::{Error, ErrorKind, Read, Write};
 use std::test::Fail;
@@ -55,8 +56,8 @@ fn readers(rt: HostRuntime) -> Result<(), Fail> {
         };
         let mut writer = Vec::new(rt.alloc());
         let status = serve(rt.alloc(), &mut reader, &mut writer);
-        assert_eq!(rt; status, wanted);
-        assert_eq!(rt; writer.as_slice(), line);
+        expect_equal(&status, &wanted, &end)?;
+        expect_equal(&writer.as_slice(), &line, &end)?;
     }
     Ok(())
 }
@@ -84,7 +85,7 @@ impl Write for FailingWriter {
 
 /// Where writing fails, the run ends unwritten, whatever was to be written.
 #[test]
-fn writers(rt: HostRuntime) {
+fn writers(rt: HostRuntime) -> Result<(), Fail> {
     for (text, room, wanted) in [
         (REQUEST, 0, Status::Unwritten),
         (REQUEST, 1, Status::Unwritten),
@@ -96,8 +97,9 @@ fn writers(rt: HostRuntime) {
     ] {
         let mut reader = text;
         let status = serve(rt.alloc(), &mut reader, &mut FailingWriter { room });
-        assert_eq!(rt; status, wanted, "with room for {room}");
+        expect_equal(&status, &wanted, &(text, room))?;
     }
+    Ok(())
 }
 
 /// Takes all bytes, and fails to hand them on.
@@ -115,8 +117,8 @@ impl Write for FailingFlush {
 }
 
 #[test]
-fn failing_flush(rt: HostRuntime) {
+fn failing_flush(rt: HostRuntime) -> Result<(), Fail> {
     let mut reader = REQUEST;
     let status = serve(rt.alloc(), &mut reader, &mut FailingFlush);
-    assert_eq!(rt; status, Status::Unwritten);
+    expect_equal(&status, &Status::Unwritten, &"a flush")
 }

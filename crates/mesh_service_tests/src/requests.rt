@@ -17,8 +17,8 @@ use crate::tables::variable_strokes::VARIABLE_STROKES;
 use i_overlay_mesh::IntOutlineError;
 use mesh_service::failure::Failure;
 use mesh_service::service::{Status, serve};
+use mesh_toolbox::compared::expect_equal;
 use std::alloc::Global;
-use std::process::Abort;
 use std::test::Fail;
 
 const NOT_SERVED: &str = r#"{"unreadable":"request"}"#;
@@ -28,22 +28,18 @@ const OUT_OF_RANGE: &str = r#"{"refused":"mesh coordinate exceeds the integer en
 const NO_EDGES: &str = r#"{"edges":[[]]}"#;
 
 /// The run ends so, and writes just this line, each time.
-fn expect(
-    rt: &impl Abort,
-    alloc: Global,
-    request: &[u8],
-    status: Status,
-    line: &str,
-) -> Result<(), Fail> {
+fn expect(alloc: Global, request: &[u8], status: Status, line: &str) -> Result<(), Fail> {
     let mut wanted = String::from_str(alloc, line)?;
     wanted.push('\n')?;
     for _ in 0..2 {
         let mut reader = request;
         let mut writer = Vec::new(alloc);
         let got = serve(alloc, &mut reader, &mut writer);
-        let written = String::from_utf8(writer).ok().ok_or("not UTF-8")?;
-        assert_eq!(rt; written.as_str(), wanted.as_str());
-        assert_eq!(rt; got, status, "after {line}");
+        let Ok(written) = String::from_utf8(writer) else {
+            return Err(Fail::new("not UTF-8"));
+        };
+        expect_equal(&written.as_str(), &wanted.as_str(), &"a line")?;
+        expect_equal(&got, &status, &line)?;
     }
     Ok(())
 }
@@ -52,7 +48,7 @@ fn expect(
 fn answered(rt: HostRuntime) -> Result<(), Fail> {
     for table in [EDGES, MITERS, ROUND, SHAPES] {
         for (request, line) in table {
-            expect(&rt, rt.alloc(), request.as_bytes(), Status::Answered, line)?;
+            expect(rt.alloc(), request.as_bytes(), Status::Answered, line)?;
         }
     }
     Ok(())
@@ -67,11 +63,10 @@ fn not_answered(rt: HostRuntime) -> Result<(), Fail> {
         (ROUND_UNREADABLE, Status::Unreadable, NOT_SERVED),
     ] {
         for request in table {
-            expect(&rt, rt.alloc(), request.as_bytes(), status, line)?;
+            expect(rt.alloc(), request.as_bytes(), status, line)?;
         }
     }
     expect(
-        &rt,
         rt.alloc(),
         b"{\"a\":\"\xff\"}",
         Status::Unreadable,
@@ -83,7 +78,7 @@ fn not_answered(rt: HostRuntime) -> Result<(), Fail> {
 fn strokes_answered(rt: HostRuntime) -> Result<(), Fail> {
     for table in [STROKES, STROKE_CORNERS] {
         for (request, line) in table {
-            expect(&rt, rt.alloc(), request.as_bytes(), Status::Answered, line)?;
+            expect(rt.alloc(), request.as_bytes(), Status::Answered, line)?;
         }
     }
     Ok(())
@@ -93,7 +88,7 @@ fn strokes_answered(rt: HostRuntime) -> Result<(), Fail> {
 fn stroke_shapes_answered(rt: HostRuntime) -> Result<(), Fail> {
     for table in [STROKE_SHAPES, STROKE_EXAMPLES] {
         for (request, line) in table {
-            expect(&rt, rt.alloc(), request.as_bytes(), Status::Answered, line)?;
+            expect(rt.alloc(), request.as_bytes(), Status::Answered, line)?;
         }
     }
     Ok(())
@@ -106,7 +101,7 @@ fn strokes_not_answered(rt: HostRuntime) -> Result<(), Fail> {
         (STROKES_UNREADABLE, Status::Unreadable, NOT_SERVED),
     ] {
         for request in table {
-            expect(&rt, rt.alloc(), request.as_bytes(), status, line)?;
+            expect(rt.alloc(), request.as_bytes(), status, line)?;
         }
     }
     Ok(())
@@ -120,7 +115,7 @@ fn variable_strokes_answered(rt: HostRuntime) -> Result<(), Fail> {
         VARIABLE_STROKE_EXAMPLES,
     ] {
         for (request, line) in table {
-            expect(&rt, rt.alloc(), request.as_bytes(), Status::Answered, line)?;
+            expect(rt.alloc(), request.as_bytes(), Status::Answered, line)?;
         }
     }
     Ok(())
@@ -133,7 +128,7 @@ fn variable_strokes_not_answered(rt: HostRuntime) -> Result<(), Fail> {
         (VARIABLE_STROKES_UNREADABLE, Status::Unreadable, NOT_SERVED),
     ] {
         for request in table {
-            expect(&rt, rt.alloc(), request.as_bytes(), status, line)?;
+            expect(rt.alloc(), request.as_bytes(), status, line)?;
         }
     }
     Ok(())
@@ -163,7 +158,7 @@ fn nesting(rt: HostRuntime) -> Result<(), Fail> {
         (127, Status::Unreadable, NOT_SERVED),
     ] {
         let request = nested(rt.alloc(), depth)?;
-        expect(&rt, rt.alloc(), request.as_bytes(), status, line)?;
+        expect(rt.alloc(), request.as_bytes(), status, line)?;
     }
     Ok(())
 }
@@ -174,7 +169,7 @@ fn long_request(rt: HostRuntime) -> Result<(), Fail> {
     let mut text = vec![in rt.alloc(); 32u8; 200_000]?;
     text.extend_from_slice(POINT.as_bytes())?;
     text.push(125)?;
-    expect(&rt, rt.alloc(), &text, Status::Answered, NO_EDGES)
+    expect(rt.alloc(), &text, Status::Answered, NO_EDGES)
 }
 
 /// The lines of refusals have the library's own words.
@@ -185,7 +180,7 @@ fn failure_lines(rt: HostRuntime) -> Result<(), Fail> {
         IntOutlineError::OutOfMemory,
     ] {
         let line = format!(in rt.alloc(); "{{\"refused\":\"{error}\"}}\n")?;
-        assert_eq!(rt; Failure::from(error).line(), line.as_str());
+        expect_equal(&Failure::from(error).line(), &line.as_str(), &error)?;
     }
     Ok(())
 }

@@ -9,7 +9,7 @@ use std::alloc::AllocError;
 use std::test::Fail;
 
 #[test]
-fn setters_of_a_style(rt: HostRuntime) {
+fn setters_of_a_style(rt: HostRuntime) -> Result<(), Fail> {
     let style = IntOutlineStyle::new(7)
         .outer_offset(-3)
         .line_join(IntLineJoin::Bevel);
@@ -19,21 +19,22 @@ fn setters_of_a_style(rt: HostRuntime) {
     let style = style.inner_offset(i16::MIN);
     assert!(rt; style.outer_offset == 5 && style.inner_offset == i16::MIN);
     assert!(rt; style.join == IntLineJoin::default());
-    assert_eq!(rt; style.miter_min_turn.bits(), DEFAULT_MITER_MIN_TURN);
+    let bits = style.miter_min_turn.bits();
+    expect_equal(&bits, &DEFAULT_MITER_MIN_TURN, &"the least turn")?;
     let style = style.miter_min_turn(Angle::from_bits(u32::MAX));
-    assert_eq!(rt; style.miter_min_turn.bits(), u32::MAX);
+    expect_equal(&style.miter_min_turn.bits(), &u32::MAX, &"the least turn")?;
     assert!(rt; style.outer_offset == 5 && style.inner_offset == i16::MIN);
+    Ok(())
 }
 
 #[test]
-fn padding_of_a_bevel(rt: HostRuntime) {
+fn padding_of_a_bevel(_rt: HostRuntime) -> Result<(), Fail> {
     for (radius, want) in [(0, 0), (1024, 1024), (-1024, 1024), (i16::MIN, 32_768)] {
-        assert!(rt;
-            Join::padding(IntLineJoin::Bevel, radius) == want,
-            "{radius}"
-        );
+        let reach = Join::padding(IntLineJoin::Bevel, radius);
+        expect_equal(&reach, &want, &radius)?;
     }
-    assert!(rt; Join::padding(IntLineJoin::Bevel, i32::MIN) == 2_147_483_648);
+    let most = Join::padding(IntLineJoin::Bevel, i32::MIN);
+    expect_equal(&most, &2_147_483_648, &"the farthest")
 }
 
 /// Bits of a miter's angle, a radius, and how far the miter reaches.

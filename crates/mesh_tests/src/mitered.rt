@@ -1,13 +1,12 @@
 //! Mitered outlines: worked ones, and how they wind near the vertices of many contours.
 
 use crate::outlines::{Outline, small_joined};
-use mesh_toolbox::compared::are_same_edges;
+use mesh_toolbox::compared::{are_same_edges, expect_that};
 use mesh_toolbox::joins::JoinKind;
 use mesh_toolbox::plain::{Point, closed};
 use mesh_toolbox::random::{Random, small_contour};
 use std::alloc::Global;
 use std::fmt::Debug;
-use std::process::Abort;
 use std::test::Fail;
 
 /// A contour, the offset, the bits of the angle of its miters, from slight turns on, and the loop that its outline is.
@@ -311,16 +310,15 @@ const LARGE: &[Row<i32>] = &[
 
 /// The outline is the loop of these points, and near each vertex it winds as it has to.
 fn expect_loop(
-    rt: &impl Abort,
     alloc: Global,
     outline: Outline,
     points: &[Point],
     case: &impl Debug,
 ) -> Result<(), Fail> {
-    outline.expect_count(rt, case);
+    outline.expect_count(case)?;
     let wanted = closed(alloc, points)?;
-    assert!(rt; are_same_edges(outline.edges, wanted)?, "{case:?}");
-    Ok(())
+    let is_same = are_same_edges(outline.edges, wanted)?;
+    expect_that(is_same, case)
 }
 
 #[test]
@@ -329,9 +327,9 @@ fn small_loops(rt: HostRuntime) -> Result<(), Fail> {
         let (contour, offset, bits, points) = *row;
         let join = JoinKind::Miter(bits, 0);
         let outline = small_joined::<i16>(rt.alloc(), contour, offset, join)?;
-        expect_loop(&rt, rt.alloc(), outline, points, row)?;
+        expect_loop(rt.alloc(), outline, points, row)?;
         let outline = small_joined::<i32>(rt.alloc(), contour, offset, join)?;
-        expect_loop(&rt, rt.alloc(), outline, points, row)?;
+        expect_loop(rt.alloc(), outline, points, row)?;
     }
     Ok(())
 }
@@ -341,7 +339,7 @@ fn large_loops(rt: HostRuntime) -> Result<(), Fail> {
     for row in LARGE {
         let (contour, offset, bits, points) = *row;
         let outline = Outline::joined(rt.alloc(), contour, offset, JoinKind::Miter(bits, 0))?;
-        expect_loop(&rt, rt.alloc(), outline, points, row)?;
+        expect_loop(rt.alloc(), outline, points, row)?;
     }
     Ok(())
 }
@@ -357,15 +355,15 @@ const MITERS: [JoinKind; 6] = [
 ];
 
 /// A contour for each of the miters, outwards and inwards, at both widths of numbers.
-fn expect_counts(rt: &impl Abort, alloc: Global, seed: u64) -> Result<(), Fail> {
+fn expect_counts(alloc: Global, seed: u64) -> Result<(), Fail> {
     let mut random = Random::new(seed);
     for join in MITERS {
         let contour = small_contour(alloc, &mut random)?;
         let size = random.small();
         for offset in [size, size.wrapping_neg()] {
             let case = (contour.as_slice(), offset, join);
-            small_joined::<i16>(alloc, &contour, offset, join)?.expect_count(rt, &case);
-            small_joined::<i32>(alloc, &contour, offset, join)?.expect_count(rt, &case);
+            small_joined::<i16>(alloc, &contour, offset, join)?.expect_count(&case)?;
+            small_joined::<i32>(alloc, &contour, offset, join)?.expect_count(&case)?;
         }
     }
     Ok(())
@@ -375,7 +373,7 @@ fn expect_counts(rt: &impl Abort, alloc: Global, seed: u64) -> Result<(), Fail> 
 #[test]
 fn winding_of_seeds_1_to_4(rt: HostRuntime) -> Result<(), Fail> {
     for seed in 1..=4u64 {
-        expect_counts(&rt, rt.alloc(), seed)?;
+        expect_counts(rt.alloc(), seed)?;
     }
     Ok(())
 }
@@ -383,7 +381,7 @@ fn winding_of_seeds_1_to_4(rt: HostRuntime) -> Result<(), Fail> {
 #[test]
 fn winding_of_seeds_5_to_8(rt: HostRuntime) -> Result<(), Fail> {
     for seed in 5..=8u64 {
-        expect_counts(&rt, rt.alloc(), seed)?;
+        expect_counts(rt.alloc(), seed)?;
     }
     Ok(())
 }

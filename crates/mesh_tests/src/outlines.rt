@@ -7,7 +7,7 @@ use mesh_join::arc::ArcOptions;
 use mesh_join::join::Join;
 use mesh_join::style::{IntLineJoin, IntOutlineStyle};
 use mesh_num::num::{Angle, IntPoint, OverlayInt};
-use mesh_toolbox::compared::are_same_edges;
+use mesh_toolbox::compared::{are_same_edges, expect_equal, expect_that};
 use mesh_toolbox::edges::{edges_of_segments, plain_points, wide};
 use mesh_toolbox::joins::JoinKind;
 use mesh_toolbox::lists::path;
@@ -15,7 +15,6 @@ use mesh_toolbox::plain::{Edge, Point, closed, is_balanced, plus, refined, windi
 use mesh_toolbox::random::{Random, small_contour};
 use std::alloc::Global;
 use std::fmt::Debug;
-use std::process::Abort;
 use std::test::Fail;
 
 /// A contour, the edges of its outline as the builder adds them, and the pieces between both.
@@ -48,38 +47,38 @@ impl Outline {
     }
 
     /// Near each vertex of the contour and of its outline the edges wind as they have to.
-    pub fn expect_count(&self, rt: &impl Abort, case: &impl Debug) {
-        self.expect_count_near(rt, &self.own, 4, case);
-        self.expect_count_near(rt, &self.edges, 4, case);
+    pub fn expect_count(&self, case: &impl Debug) -> Result<(), Fail> {
+        self.expect_count_near(&self.own, 4, case)?;
+        self.expect_count_near(&self.edges, 4, case)
     }
 
     /// The edges close up, and up to this distance, on the grid 2, from the starts of these edges they wind as often as
     /// the contour, and once more for each piece, for a negative offset once less.
     pub fn expect_count_near(
         &self,
-        rt: &impl Abort,
         vertices: &[Edge],
         distance: i128,
         case: &impl Debug,
-    ) {
-        assert!(rt; is_balanced(&self.edges), "{case:?}");
+    ) -> Result<(), Fail> {
+        expect_that(is_balanced(&self.edges), case)?;
         let least = distance.wrapping_neg();
         for (vertex, _) in vertices {
             let middle = refined(2, *vertex);
             for x in least..=distance {
                 for y in least..=distance {
-                    self.expect_count_at(rt, plus(middle, (x, y)), case);
+                    self.expect_count_at(plus(middle, (x, y)), case)?;
                 }
             }
         }
+        Ok(())
     }
 
-    fn expect_count_at(&self, rt: &impl Abort, q: Point, case: &impl Debug) {
+    fn expect_count_at(&self, q: Point, case: &impl Debug) -> Result<(), Fail> {
         let (count, once) = self.between.count(2, q);
-        assert!(rt; once, "at {q:?} of {case:?}");
+        expect_that(once, &(q, case))?;
         let more = count.wrapping_mul(self.between.offset.signum());
         let want = winding(2, q, &self.own).wrapping_add(more);
-        assert_eq!(rt; winding(2, q, &self.edges), want, "at {q:?} of {case:?}");
+        expect_equal(&winding(2, q, &self.edges), &want, &(q, case))
     }
 }
 
@@ -125,7 +124,6 @@ const HOLE: [(i32, i32); 4] = [
 
 /// The outline of the contour is the loop of these points.
 fn expect_loop(
-    rt: &impl Abort,
     alloc: Global,
     contour: &[(i32, i32)],
     offset: i32,
@@ -133,11 +131,8 @@ fn expect_loop(
 ) -> Result<(), Fail> {
     let outline = Outline::new(alloc, contour, offset)?;
     let wanted = closed(alloc, points)?;
-    assert!(rt;
-        are_same_edges(outline.edges, wanted)?,
-        "{offset} of {contour:?}"
-    );
-    Ok(())
+    let is_same = are_same_edges(outline.edges, wanted)?;
+    expect_that(is_same, &(offset, contour))
 }
 
 /// Contours, offsets, and the loops that their outlines are.
@@ -203,8 +198,9 @@ const LOOPS: &[(&[(i32, i32)], i32, &[Point])] = &[
 
 #[test]
 fn worked_loops(rt: HostRuntime) -> Result<(), Fail> {
-    for (contour, offset, points) in LOOPS.iter().copied() {
-        expect_loop(&rt, rt.alloc(), contour, offset, points)?;
+    for row in LOOPS {
+        let (contour, offset, points) = *row;
+        expect_loop(rt.alloc(), contour, offset, points)?;
     }
     Ok(())
 }
@@ -212,7 +208,7 @@ fn worked_loops(rt: HostRuntime) -> Result<(), Fail> {
 #[test]
 fn winding_near_a_square(rt: HostRuntime) -> Result<(), Fail> {
     for offset in [1024, -1024, 0] {
-        Outline::new(rt.alloc(), &SQUARE, offset)?.expect_count(&rt, &offset);
+        Outline::new(rt.alloc(), &SQUARE, offset)?.expect_count(&offset)?;
     }
     Ok(())
 }
@@ -226,8 +222,8 @@ fn winding_near_small_contours(rt: HostRuntime) -> Result<(), Fail> {
         let size = random.small();
         for offset in [size, size.wrapping_neg(), 0] {
             let case = (contour.as_slice(), offset);
-            small_outline::<i16>(alloc, &contour, offset)?.expect_count(&rt, &case);
-            small_outline::<i32>(alloc, &contour, offset)?.expect_count(&rt, &case);
+            small_outline::<i16>(alloc, &contour, offset)?.expect_count(&case)?;
+            small_outline::<i32>(alloc, &contour, offset)?.expect_count(&case)?;
         }
     }
     Ok(())

@@ -6,13 +6,12 @@ use mesh_join::join::Join;
 use mesh_join::style::IntOutlineStyle;
 use mesh_num::num::OverlayInt;
 use mesh_toolbox::arcs::Fineness;
-use mesh_toolbox::compared::are_same_edges;
+use mesh_toolbox::compared::{are_same_edges, expect_equal, expect_that};
 use mesh_toolbox::joins::{Corner, JoinKind};
 use mesh_toolbox::lists::path;
 use mesh_toolbox::plain::{Point, closed, net_count};
 use mesh_toolbox::random::{Random, small_contour};
 use std::alloc::Global;
-use std::process::Abort;
 use std::test::Fail;
 
 const DEFAULT: Fineness = (536_870_912, 5);
@@ -274,7 +273,6 @@ const LOOPS_OF_I16: &[Loop<i16>] = &[
 
 /// The outline of the contour is the loop of these points.
 fn expect_loop<I: OverlayInt>(
-    rt: &impl Abort,
     alloc: Global,
     contour: &[(I, I)],
     style: IntOutlineStyle<I>,
@@ -282,19 +280,21 @@ fn expect_loop<I: OverlayInt>(
 ) -> Result<(), Fail> {
     let edges = built(alloc, &path(alloc, contour)?, style)?;
     let wanted = closed(alloc, points)?;
-    assert!(rt; are_same_edges(edges, wanted)?, "{contour:?}");
-    Ok(())
+    let is_same = are_same_edges(edges, wanted)?;
+    expect_that(is_same, &contour)
 }
 
 /// Corners of a square and of lines, clockwise arcs, options past their ranges, and an arc whose last point falls
 /// behind the one before it.
 #[test]
 fn worked_loops(rt: HostRuntime) -> Result<(), Fail> {
-    for (contour, offset, fineness, points) in LOOPS_OF_I32.iter().copied() {
-        expect_loop(&rt, rt.alloc(), contour, round(offset, fineness), points)?;
+    for row in LOOPS_OF_I32 {
+        let (contour, offset, fineness, points) = *row;
+        expect_loop(rt.alloc(), contour, round(offset, fineness), points)?;
     }
-    for (contour, offset, fineness, points) in LOOPS_OF_I16.iter().copied() {
-        expect_loop(&rt, rt.alloc(), contour, round(offset, fineness), points)?;
+    for row in LOOPS_OF_I16 {
+        let (contour, offset, fineness, points) = *row;
+        expect_loop(rt.alloc(), contour, round(offset, fineness), points)?;
     }
     Ok(())
 }
@@ -314,25 +314,20 @@ fn a_point_that_falls_behind(rt: HostRuntime) -> Result<(), Fail> {
         sense: -1,
     };
     let (count, used) = corner.arc_points(rt.alloc(), 12_309_758, 32)?;
-    assert_eq!(rt; (count, used.len()), (34, 33));
+    expect_equal(&(count, used.len()), &(34, 33), &"the directions")?;
     let contour = path::<i16>(rt.alloc(), &[(20, 0), (0, 0), (-84, 54)])?;
     let edges = built(rt.alloc(), &contour, round(-3, (12_309_758, 32)))?;
     let mut last = corner.from;
     for point in &used {
         let want = if *point == last { 0 } else { 1 };
-        assert_eq!(rt;
-            net_count((last, *point), &edges),
-            want,
-            "{last:?} to {point:?}"
-        );
+        let step = (last, *point);
+        expect_equal(&net_count(step, &edges), &want, &step)?;
         last = *point;
     }
-    assert_eq!(rt; last, corner.to);
-    assert!(rt;
-        edges
-            .iter()
-            .all(|edge| edge.0 != (-2, -2) && edge.1 != (-2, -2))
-    );
+    expect_equal(&last, &corner.to, &"the last point")?;
+    for edge in &edges {
+        expect_that(edge.0 != (-2, -2) && edge.1 != (-2, -2), edge)?;
+    }
     Ok(())
 }
 
@@ -340,8 +335,10 @@ fn a_point_that_falls_behind(rt: HostRuntime) -> Result<(), Fail> {
 #[test]
 fn paddings(rt: HostRuntime) -> Result<(), Fail> {
     let style = round::<i16>(1024, DEFAULT);
-    assert_eq!(rt; Join::<i16>::padding(style.join, 1024), 1024);
-    assert_eq!(rt; Join::<i16>::padding(style.join, -1024), 1024);
+    for radius in [1024, -1024] {
+        let reach = Join::<i16>::padding(style.join, radius);
+        expect_equal(&reach, &1024, &radius)?;
+    }
     let near = path(rt.alloc(), &[(15_359i16, 0)])?;
     assert!(rt; near.validate_outline(&style).is_ok());
     let far = path(rt.alloc(), &[(15_360i16, 0)])?;
@@ -351,7 +348,6 @@ fn paddings(rt: HostRuntime) -> Result<(), Fail> {
 
 /// Near each vertex of a contour, up to where its joins reach, the round outline winds as it has to.
 fn expect_count<I: OverlayInt + From<i8>>(
-    rt: &impl Abort,
     alloc: Global,
     contour: &[(i8, i8)],
     offset: i8,
@@ -361,8 +357,7 @@ fn expect_count<I: OverlayInt + From<i8>>(
     let outline = small_joined::<I>(alloc, contour, offset, join)?;
     let reach = i128::from(offset).wrapping_abs();
     let distance = reach.wrapping_mul(2).wrapping_add(1);
-    outline.expect_count_near(rt, &outline.own, distance, &(contour, offset, fineness));
-    Ok(())
+    outline.expect_count_near(&outline.own, distance, &(contour, offset, fineness))
 }
 
 /// The finest steps, with the least precision and the greatest, and others.
@@ -374,19 +369,14 @@ const FINE: [Fineness; 4] = [
 ];
 
 /// A contour for each radius and fineness, outwards and inwards.
-fn expect_counts(
-    rt: &impl Abort,
-    alloc: Global,
-    seed: u64,
-    finenesses: &[Fineness],
-) -> Result<(), Fail> {
+fn expect_counts(alloc: Global, seed: u64, finenesses: &[Fineness]) -> Result<(), Fail> {
     let mut random = Random::new(seed);
     for radius in [1i8, 2, 3] {
-        for fineness in finenesses.iter().copied() {
+        for fineness in finenesses {
             let contour = small_contour(alloc, &mut random)?;
             for offset in [radius, radius.wrapping_neg()] {
-                expect_count::<i16>(rt, alloc, &contour, offset, fineness)?;
-                expect_count::<i32>(rt, alloc, &contour, offset, fineness)?;
+                expect_count::<i16>(alloc, &contour, offset, *fineness)?;
+                expect_count::<i32>(alloc, &contour, offset, *fineness)?;
             }
         }
     }
@@ -396,50 +386,50 @@ fn expect_counts(
 // More than 100 contours with fine steps, in several tests, as the time of a test is limited.
 #[test]
 fn winding_of_seed_1(rt: HostRuntime) -> Result<(), Fail> {
-    expect_counts(&rt, rt.alloc(), 1, &FINE)
+    expect_counts(rt.alloc(), 1, &FINE)
 }
 
 #[test]
 fn winding_of_seed_2(rt: HostRuntime) -> Result<(), Fail> {
-    expect_counts(&rt, rt.alloc(), 2, &FINE)
+    expect_counts(rt.alloc(), 2, &FINE)
 }
 
 #[test]
 fn winding_of_seed_3(rt: HostRuntime) -> Result<(), Fail> {
-    expect_counts(&rt, rt.alloc(), 3, &FINE)
+    expect_counts(rt.alloc(), 3, &FINE)
 }
 
 #[test]
 fn winding_of_seed_4(rt: HostRuntime) -> Result<(), Fail> {
-    expect_counts(&rt, rt.alloc(), 4, &FINE)
+    expect_counts(rt.alloc(), 4, &FINE)
 }
 
 #[test]
 fn winding_of_seed_5(rt: HostRuntime) -> Result<(), Fail> {
-    expect_counts(&rt, rt.alloc(), 5, &FINE)
+    expect_counts(rt.alloc(), 5, &FINE)
 }
 
 #[test]
 fn winding_of_seed_6(rt: HostRuntime) -> Result<(), Fail> {
-    expect_counts(&rt, rt.alloc(), 6, &FINE)
+    expect_counts(rt.alloc(), 6, &FINE)
 }
 
 #[test]
 fn winding_of_seed_7(rt: HostRuntime) -> Result<(), Fail> {
-    expect_counts(&rt, rt.alloc(), 7, &FINE)
+    expect_counts(rt.alloc(), 7, &FINE)
 }
 
 #[test]
 fn winding_of_seed_8(rt: HostRuntime) -> Result<(), Fail> {
-    expect_counts(&rt, rt.alloc(), 8, &FINE)
+    expect_counts(rt.alloc(), 8, &FINE)
 }
 
 #[test]
 fn winding_of_seed_9(rt: HostRuntime) -> Result<(), Fail> {
-    expect_counts(&rt, rt.alloc(), 9, &FINE)
+    expect_counts(rt.alloc(), 9, &FINE)
 }
 
 #[test]
 fn winding_by_default(rt: HostRuntime) -> Result<(), Fail> {
-    expect_counts(&rt, rt.alloc(), 10, &[DEFAULT, DEFAULT, DEFAULT, DEFAULT])
+    expect_counts(rt.alloc(), 10, &[DEFAULT, DEFAULT, DEFAULT, DEFAULT])
 }

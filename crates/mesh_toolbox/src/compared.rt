@@ -4,6 +4,7 @@ use crate::plain::{Edge, net_count};
 use mesh_num::num::{IntNumber, IntPoint};
 use mesh_num::shape::buffer::{FlatContoursBuffer, IntShapes};
 use mesh_num::shape::resource::IntShapeResource;
+use mesh_num::shape::segment::Segment;
 use std::alloc::{AllocError, Global};
 use std::fmt::Debug;
 use std::ops::Range;
@@ -37,10 +38,15 @@ pub fn is_contour<I: IntNumber>(found: &[IntPoint<I>], wanted: &[(I, I)]) -> boo
     if found.len() != wanted.len() {
         return false;
     }
-    for (p, q) in found.iter().zip(wanted) {
+    let mut number = 0usize;
+    for p in found {
+        let Some(q) = wanted.get(number) else {
+            return false;
+        };
         if p.x != q.0 || p.y != q.1 {
             return false;
         }
+        number = number.wrapping_add(1);
     }
     true
 }
@@ -49,10 +55,15 @@ fn is_shape<I: IntNumber>(found: &[Vec<IntPoint<I>>], wanted: &[&[(I, I)]]) -> b
     if found.len() != wanted.len() {
         return false;
     }
-    for (contour, points) in found.iter().zip(wanted) {
+    let mut number = 0usize;
+    for contour in found {
+        let Some(points) = wanted.get(number) else {
+            return false;
+        };
         if !is_contour(contour, points) {
             return false;
         }
+        number = number.wrapping_add(1);
     }
     true
 }
@@ -62,10 +73,15 @@ pub fn are_shapes<I: IntNumber>(found: &IntShapes<I>, wanted: &[&[&[(I, I)]]]) -
     if found.len() != wanted.len() {
         return false;
     }
-    for (shape, contours) in found.iter().zip(wanted) {
+    let mut number = 0usize;
+    for shape in found {
+        let Some(contours) = wanted.get(number) else {
+            return false;
+        };
         if !is_shape(shape, contours) {
             return false;
         }
+        number = number.wrapping_add(1);
     }
     true
 }
@@ -115,6 +131,25 @@ pub fn gives<I: IntNumber, S: IntShapeResource<I>>(source: &S, paths: &[&[(I, I)
         if !is_contour(source.path_at(index), paths[index]) {
             return false;
         }
+    }
+    true
+}
+
+/// Whether both lists have the same segments, in the same order.
+pub fn are_same_segments<I: IntNumber>(first: &[Segment<I>], second: &[Segment<I>]) -> bool {
+    if first.len() != second.len() {
+        return false;
+    }
+    let mut number = 0usize;
+    for s in first {
+        let Some(t) = second.get(number) else {
+            return false;
+        };
+        let (e, f) = (s.x_segment, t.x_segment);
+        if e.a != f.a || e.b != f.b || s.count != t.count {
+            return false;
+        }
+        number = number.wrapping_add(1);
     }
     true
 }

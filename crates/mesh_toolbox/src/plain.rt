@@ -103,13 +103,24 @@ pub fn fan(alloc: Global, center: Point, list: &[Point]) -> Result<Vec<[Point; 3
 
 /// Whether each end of an edge is the start of as many edges as it is the end.
 pub fn is_balanced(edges: &[Edge]) -> bool {
-    edges
-        .iter()
-        .all(|edge| is_even(edge.0, edges) && is_even(edge.1, edges))
+    for edge in edges {
+        if !is_even(edge.0, edges) || !is_even(edge.1, edges) {
+            return false;
+        }
+    }
+    true
 }
 
 fn is_even(point: Point, edges: &[Edge]) -> bool {
-    let starts = edges.iter().filter(|edge| edge.0 == point).count();
-    let ends = edges.iter().filter(|edge| edge.1 == point).count();
+    let mut starts = 0usize;
+    let mut ends = 0usize;
+    for edge in edges {
+        if edge.0 == point {
+            starts = starts.wrapping_add(1);
+        }
+        if edge.1 == point {
+            ends = ends.wrapping_add(1);
+        }
+    }
     starts == ends
 }
