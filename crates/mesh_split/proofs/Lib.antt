@@ -1,3 +1,4 @@
+pub mod Apart
 pub mod Clean
 pub mod Entries
 pub mod Extents

@@ -9,8 +9,10 @@ ghost use Rattle.mesh_plane.specs.Plane.{Edge};
 ghost use Rattle.mesh_cuts.specs.Split.{AreClear, same_edge};
 ghost use Rattle.mesh_split.specs.Midway.Cells.{Cell, IsAt, height, is_below, reaches, listed_at, StandsIn, HasListed};
 ghost use Rattle.mesh_split.specs.Midway.Cells.{KeepsThose, KeepsListed, KeepsOthers, IsCellClear, MeetsLive};
+ghost use Rattle.mesh_split.specs.Midway.BoundingBoxes.{AreBounds};
 ghost use Rattle.mesh_split.specs.Midway.Steps.{exactly};
 
+use crate::bounding::{BoundingBox, bounding_box, is_apart};
 use crate::hints::{Hints, Meeting};
 use crate::tally::Tally;
 use mesh_cuts::exact::{meeting, same_edge};
@@ -18,7 +20,7 @@ use mesh_cuts::grid::{GridEdge, GridPoint};
 use std::alloc::{AllocError, Global};
 
 /// Up to so many segments a part lists before it is parted.
-const FEW: usize = 32;
+const FEW: usize = 48;
 
 /// No part of the plane lies under more cuts. Where a full one would, as where a run of splits goes on along a line, and
 /// lists as many as a power of two, all cuts are chosen anew.
@@ -81,10 +83,15 @@ fn reaches(cut: Cut, e: GridEdge, below: bool) -> bool
     }
 }
 
-/// A listed segment as one that the given segment meets, where it lives and does so.
-fn live_meeting(live: &Tally, s: GridEdge, e: GridEdge) -> Option<Meeting>
+/// A listed segment as one that the given segment, whose box has these bounds, meets, where it lives and does so. Most
+/// of those listed lie beside the box.
+fn live_meeting(live: &Tally, s: GridEdge, bounds: BoundingBox, e: GridEdge) -> Option<Meeting>
+    requires { AreBounds bounds s }
     ensures { MatchOption result (pos 0 <ℤ exactly e live.now → AreClear s e) (λ m. MeetsLive s live.now m) }
 {
+    if is_apart(bounds, e) {
+        return None;
+    }
     let Some(at) = meeting(s, e) else {
         return None;
     };
@@ -98,8 +105,9 @@ fn live_meeting(live: &Tally, s: GridEdge, e: GridEdge) -> Option<Meeting>
 fn in_part(live: &Tally, listed: &[GridEdge], s: GridEdge) -> Option<Meeting>
     ensures { MatchOption result (IsCellClear s listed.now live.now) (λ m. MeetsLive s live.now m) }
 {
+    let bounds = bounding_box(s);
     for e in listed {
-        if let Some(m) = live_meeting(live, s, *e) {
+        if let Some(m) = live_meeting(live, s, bounds, *e) {
             return Some(m);
         }
     }
@@ -436,9 +444,10 @@ impl Tree {
     ) -> Result<(), AllocError> {
         match self {
             Tree::Leaf(listed, _) => {
+                let bounds = bounding_box(s);
                 for e in listed {
                     if is_first(sides, s, *e) {
-                        if let Some(m) = live_meeting(live, s, *e) {
+                        if let Some(m) = live_meeting(live, s, bounds, *e) {
                             hints.note(s, m)?;
                         }
                     }

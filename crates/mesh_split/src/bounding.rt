@@ -1,0 +1,48 @@
+//! The box of a segment, by which those are left out at once that have no point in common with it.
+
+ghost use Rattle.std.specs.Prelude.{◌≡◌, ◌≤ℤ◌};
+ghost use Rattle.mesh_split.specs.Midway.BoundingBoxes.{are_beyond, is_apart, AreBounds};
+
+use mesh_cuts::grid::{GridEdge, GridPoint};
+
+/// The least coordinates of a segment's ends, and the greatest.
+pub type BoundingBox = (GridPoint, GridPoint);
+
+fn lesser(a: i32, b: i32) -> i32
+    ensures first { result ≤ℤ a }
+    ensures second { result ≤ℤ b }
+{
+    if a < b { a } else { b }
+}
+
+fn greater(a: i32, b: i32) -> i32
+    ensures first { a ≤ℤ result }
+    ensures second { b ≤ℤ result }
+{
+    if a < b { b } else { a }
+}
+
+/// The bounds of a segment's box.
+pub fn bounding_box(s: GridEdge) -> BoundingBox
+    ensures { AreBounds result s }
+{
+    (
+        (lesser(s.0.0, s.1.0), lesser(s.0.1, s.1.1)),
+        (greater(s.0.0, s.1.0), greater(s.0.1, s.1.1)),
+    )
+}
+
+/// Whether two numbers are both below a range, or both above it.
+fn are_beyond(least: i32, most: i32, a: i32, b: i32) -> bool
+    ensures { result ≡ are_beyond least most a b }
+{
+    (a < least && b < least) || (most < a && most < b)
+}
+
+/// Whether an edge lies beside a box.
+pub fn is_apart(bounds: BoundingBox, e: GridEdge) -> bool
+    ensures { result ≡ is_apart bounds e }
+{
+    are_beyond(bounds.0.0, bounds.1.0, e.0.0, e.1.0)
+        || are_beyond(bounds.0.1, bounds.1.1, e.0.1, e.1.1)
+}
