@@ -335,10 +335,8 @@ fn a_point_that_falls_behind(rt: HostRuntime) -> Result<(), Fail> {
 #[test]
 fn paddings(rt: HostRuntime) -> Result<(), Fail> {
     let style = round::<i16>(1024, DEFAULT);
-    for radius in [1024, -1024] {
-        let reach = Join::<i16>::padding(style.join, radius);
-        expect_equal(&reach, &1024, &radius)?;
-    }
+    assert_eq!(rt; Join::<i16>::padding(style.join, 1024), 1024);
+    assert_eq!(rt; Join::<i16>::padding(style.join, -1024), 1024);
     let near = path(rt.alloc(), &[(15_359i16, 0)])?;
     assert!(rt; near.validate_outline(&style).is_ok());
     let far = path(rt.alloc(), &[(15_360i16, 0)])?;
