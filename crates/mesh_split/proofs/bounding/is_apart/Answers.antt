@@ -21,4 +21,3 @@ returns-else-are_beyond c =
     let x = simp (to_z-of_z w32 bounds.0.0 a, to_z-of_z w32 bounds.1.0 b, to_z-of_z w32 e.0.0 p, to_z-of_z w32 e.1.0 r) at c.are_beyond.ensures in
     let y = simp (to_z-of_z w32 bounds.0.1 f, to_z-of_z w32 bounds.1.1 g, to_z-of_z w32 e.0.1 u, to_z-of_z w32 e.1.1 v) at c.are_beyond-else-are_beyond.ensures in
     y ∙ ap (λ (t : Bool). t || are_beyond bounds.0.1 bounds.1.1 e.0.1 e.1.1) (sym c.if-are_beyond.false ∙ x)
-
