@@ -1,22 +1,22 @@
--- Lemmas over points and lists: the entries of an ordered map of segments, sought and inserted.
-use Rattle.std.proofs.Common.{◌≡◌, ⊎_elim, ℕ, suc, ◌+◌, ◌^◌, lit≤, Bool, true, false, cond, sym, ◌∙◌, ap, subst, refl, arith, List, [], ◌∷◌, length, Option, Some, None, Ordering}
-use Rattle.std.specs.Prelude.{ℤ, pos, ◌+ℤ◌, ◌≤ℤ◌, ◌<ℤ◌, IfSome, IfNone, is_some, if◌then◌else◌}
-use Rattle.std.specs.declared.cmp.Ordering.TheVariants.{Less, Equal, Greater}
-use Rattle.std.specs.BTreeMap.{insert_entry, is_at}
+-- Lemmas over points and lists: the entries of a map of segments by their ends, sought, put in, set and taken out. The
+-- order of the entries is any.
+use Rattle.std.proofs.Common.{◌≡◌, ⊎_elim, ◌^◌, lit≤, Bool, true, false, cond, sym, ◌∙◌, ap, subst, refl, arith, List, [], ◌∷◌, Option, Some, None, Bor}
+use Rattle.std.specs.Prelude.{ℤ, pos, ◌+ℤ◌, ◌≤ℤ◌, ◌<ℤ◌, ◌&&◌, IfSome, MatchOption}
 use Rattle.std.specs.List.{All}
-use Rattle.std.specs.Map.{lookup, keys_of, remove_entry}
-use Rattle.std.specs.Ordering.{int_cmp, is_eq, ordering_then, match_ordering}
+use Rattle.std.specs.List.Sorted.{IsPermutation}
+use Rattle.std.specs.Map.{lookup, keys_of, remove_entry, set_value}
+use Rattle.std.specs.Option.{option_map, option_copied}
 use Rattle.std.proofs.lemmas.Bool.{both_ways, cases_Bool}
-use Rattle.std.proofs.lemmas.Bool.Decides.{Decides-int_eq}
 use Rattle.std.proofs.lemmas.Int.{ints}
-use Rattle.std.proofs.lemmas.List.Elements.{All-head, All-tail}
-use Rattle.std.proofs.lemmas.Map.Views.{All-map-remove_entry}
+use Rattle.std.proofs.lemmas.List.Elements.{All-cons, All-head, All-tail}
+use Rattle.std.proofs.lemmas.Map.Views.{All-map-remove_entry, All-map-IsPermutation}
 use mir.Syntax.{w128}
 use mir.Val.{to_z, of_z, SFits}
 use Rattle.mesh_plane.specs.Bounds.{IsSmall}
 use Rattle.mesh_plane.specs.Order.{point_lt}
 use Rattle.mesh_plane.specs.Plane.{Edge}
-use Rattle.mesh_plane.specs.Winding.{sum_of}
+use Rattle.mesh_plane.specs.Winding.{sum_of, same_point}
+use Rattle.mesh_plane.proofs.Sums.{sum_of_permutation}
 use Rattle.mesh_plane.proofs.Whole.{linear}
 use Rattle.mesh_cuts.specs.Split.{back, same_edge, same_ends}
 use Rattle.mesh_cuts.specs.Counted.{Counted, bit, times}
@@ -26,34 +26,20 @@ use Rattle.mesh_cuts.specs.Counted.{size}
 use Rattle.mesh_cuts.proofs.Ends.{decides_edge, decides_ends}
 use Rattle.mesh_cuts.proofs.Arithmetic.{small_kept, small_fits}
 use Rattle.mesh_cuts.proofs.Counts.{bit_least}
-use Rattle.mesh_plane.proofs.Comparing.{edge_cmp}
 
-both_equal : (o p : Ordering) → is_eq (ordering_then o p) ≡ true → (is_eq o ≡ true) × (is_eq p ≡ true)
-both_equal Less p h = absurd (both_ways false refl h)
-both_equal Equal p h = (refl, h)
-both_equal Greater p h = absurd (both_ways false refl h)
+-- how the map compares its keys
+abbrev pub edge_eq : Edge → Edge → Bool
+edge_eq e f = same_point e.0 f.0 && same_point e.1 f.1
 
-equal_both : (o p : Ordering) → is_eq o ≡ true → is_eq p ≡ true → is_eq (ordering_then o p) ≡ true
-equal_both Less p h k = h
-equal_both Equal p h k = k
-equal_both Greater p h k = h
+opened : (e f : Edge) → same_edge e f ≡ edge_eq e f
+unfolding same_edge
+opened e f = refl
 
-pub edge_equal : (e f : Edge) → is_eq (edge_cmp e f) ≡ true → e ≡ f
-edge_equal e f h =
-    let parts = both_equal (ordering_then (int_cmp e.0.0 f.0.0) (int_cmp e.0.1 f.0.1)) (ordering_then (int_cmp e.1.0 f.1.0) (int_cmp e.1.1 f.1.1)) h in
-    let start = both_equal (int_cmp e.0.0 f.0.0) (int_cmp e.0.1 f.0.1) parts.0 in
-    let end = both_equal (int_cmp e.1.0 f.1.0) (int_cmp e.1.1 f.1.1) parts.1 in
-    let a = (Decides-int_eq e.0.0 f.0.0).0 start.0 in
-    let b = (Decides-int_eq e.0.1 f.0.1).0 start.1 in
-    let c = (Decides-int_eq e.1.0 f.1.0).0 end.0 in
-    let d = (Decides-int_eq e.1.1 f.1.1).0 end.1 in
-    λ i. ((a i, b i), (c i, d i))
+pub edge_equal : (e f : Edge) → edge_eq e f ≡ true → e ≡ f
+edge_equal e f h = (decides_edge e f).0 (opened e f ∙ h)
 
-pub equal_self : (e : Edge) → is_eq (edge_cmp e e) ≡ true
-equal_self e =
-    equal_both (ordering_then (int_cmp e.0.0 e.0.0) (int_cmp e.0.1 e.0.1)) (ordering_then (int_cmp e.1.0 e.1.0) (int_cmp e.1.1 e.1.1))
-    (equal_both (int_cmp e.0.0 e.0.0) (int_cmp e.0.1 e.0.1) ((Decides-int_eq e.0.0 e.0.0).1 refl) ((Decides-int_eq e.0.1 e.0.1).1 refl))
-    (equal_both (int_cmp e.1.0 e.1.0) (int_cmp e.1.1 e.1.1) ((Decides-int_eq e.1.0 e.1.0).1 refl) ((Decides-int_eq e.1.1 e.1.1).1 refl))
+pub equal_self : (e : Edge) → edge_eq e e ≡ true
+equal_self e = sym (opened e e) ∙ (decides_edge e e).1 refl
 
 -- ---- edges with the lesser end first
 
@@ -70,7 +56,7 @@ one_forward e f h k t =
 -- ---- the entry of a key
 
 abbrev found : Edge → List Counted → Option ℤ
-found k es = lookup (is_at (edge_cmp k)) es
+found k es = lookup (edge_eq k) es
 
 pub exactly_least : (q : Edge) (ks : List Counted) → pos 0 ≤ℤ exactly q ks
 exactly_least q [] = omega (arith, ints)
@@ -89,23 +75,23 @@ by_found P k m here there [] h = absurd (none_some h)
     none_some h = cc
 by_found P k m here there (e ∷ es) h =
     ⊎_elim
-    (λ (t : is_eq (edge_cmp k e.0) ≡ true).
+    (λ (t : edge_eq k e.0 ≡ true).
     let value : Some e.1 ≡ Some m = ap (λ (b : Bool). cond b (Some e.1) (found k es)) (sym t) ∙ h in
     let count : e.1 ≡ m = cc in
     let ends : k ≡ e.0 = edge_equal k e.0 t in
     subst (λ (x : Counted). P (x ∷ es)) (λ i. (ends i, sym count i)) (here es))
-    (λ (f : is_eq (edge_cmp k e.0) ≡ false).
+    (λ (f : edge_eq k e.0 ≡ false).
     there e es (by_found P k m here there es (ap (λ (b : Bool). cond b (Some e.1) (found k es)) (sym f) ∙ h)))
-    (cases_Bool (is_eq (edge_cmp k e.0)))
+    (cases_Bool (edge_eq k e.0))
 
-pub found_stands : (k : Edge) (m : ℤ) (es : List Counted) → lookup (is_at (edge_cmp k)) es ≡ Some m → pos 0 <ℤ exactly k es
+pub found_stands : (k : Edge) (m : ℤ) (es : List Counted) → lookup (edge_eq k) es ≡ Some m → pos 0 <ℤ exactly k es
 found_stands k m es h =
     by_found (λ (es : List Counted). pos 0 <ℤ exactly k es) k m
     (λ (es : List Counted). let one = ap bit ((decides_edge k k).1 refl) in omega (arith, linear, one, exactly_least k es))
     (λ (e : Counted) (es : List Counted) (p : pos 0 <ℤ exactly k es). omega (arith, linear, bit_least (same_edge k e.0)))
     es h
 
-pub found_size : (k : Edge) (m : ℤ) (es : List Counted) → lookup (is_at (edge_cmp k)) es ≡ Some m → size (k, m) ≤ℤ sum_of size es
+pub found_size : (k : Edge) (m : ℤ) (es : List Counted) → lookup (edge_eq k) es ≡ Some m → size (k, m) ≤ℤ sum_of size es
 found_size k m es h =
     by_found (λ (es : List Counted). size (k, m) ≤ℤ sum_of size es) k m
     (λ (es : List Counted). omega (arith, ints, size_least es))
@@ -116,86 +102,87 @@ pub absent : (k : Edge) (es : List Counted) → IsForward k → All IsForward (k
 absent k [] f all h = refl
 absent k (e ∷ es) f all h =
     ⊎_elim
-    (λ (t : is_eq (edge_cmp k e.0) ≡ true).
+    (λ (t : edge_eq k e.0 ≡ true).
     let value : Some e.1 ≡ None = ap (λ (b : Bool). cond b (Some e.1) (found k es)) (sym t) ∙ h in
     absurd (some_none value))
-    (λ (n : is_eq (edge_cmp k e.0) ≡ false).
+    (λ (n : edge_eq k e.0 ≡ false).
     let other : same_ends k e.0 ≡ false =
     ⊎_elim
     (λ (t : same_ends k e.0 ≡ true).
     let same = one_forward k e.0 f (All-head IsForward e.0 (keys_of es) all) t in
-    absurd (both_ways (is_eq (edge_cmp k e.0)) n (ap (λ (x : Edge). is_eq (edge_cmp k x)) (sym same) ∙ equal_self k)))
+    absurd (both_ways (edge_eq k e.0) n (ap (λ (x : Edge). edge_eq k x) (sym same) ∙ equal_self k)))
     (λ (o : same_ends k e.0 ≡ false). o)
     (cases_Bool (same_ends k e.0)) in
     omega (arith, linear, ap bit other, absent k es f (All-tail IsForward e.0 (keys_of es) all) (ap (λ (b : Bool). cond b (Some e.1) (found k es)) (sym n) ∙ h)))
-    (cases_Bool (is_eq (edge_cmp k e.0)))
+    (cases_Bool (edge_eq k e.0))
   where
     some_none : {m : ℤ} → Some m ≡ None → ⊥
     some_none h = cc
 
 -- ---- an insert
 
-abbrev inserted : Ordering → Counted → Counted → List Counted → List Counted → List Counted
-inserted o k e es rest = match_ordering o (k ∷ e ∷ es) ((e.0, k.1) ∷ es) (e ∷ rest)
+-- what a call of `insert` says of the entries, where the key was there and where it was not
+pub set_where_found : (o : Option ℤ) (m : ℤ) (P : Type 0) (Q : ℤ → Type 0) → o ≡ Some m → MatchOption o P Q → Q m
+set_where_found o m P Q e h = subst (λ (x : Option ℤ). MatchOption x P Q) e h
 
-put_step : (o : Ordering) (k e : Counted) (es rest : List Counted) (g : Counted → ℤ) → (is_eq o ≡ true → ⊥)
-    → sum_of g rest ≡ sum_of g es +ℤ g k → sum_of g (inserted o k e es rest) ≡ (g e +ℤ sum_of g es) +ℤ g k
-put_step Less k e es rest g n h = omega (arith, linear)
-put_step Equal k e es rest g n h = absurd (n refl)
-put_step Greater k e es rest g n h = omega (arith, linear)
+pub put_where_absent : (o : Option ℤ) (P : Type 0) (Q : ℤ → Type 0) → o ≡ None → MatchOption o P Q → P
+put_where_absent o P Q e h = subst (λ (x : Option ℤ). MatchOption x P Q) e h
 
-pub insert_put : (k : Counted) (es : List Counted) (g : Counted → ℤ) → found k.0 es ≡ None → sum_of g (insert_entry edge_cmp es k.0 k.1) ≡ sum_of g es +ℤ g k
-insert_put k [] g h = omega (arith, linear)
-insert_put k (e ∷ es) g h =
-    let other : is_eq (edge_cmp k.0 e.0) ≡ true → ⊥ =
-    λ t. some_none (ap (λ (b : Bool). cond b (Some e.1) (found k.0 es)) (sym t) ∙ h) in
-    let rest : found k.0 es ≡ None =
-    ⊎_elim
-    (λ (t : is_eq (edge_cmp k.0 e.0) ≡ true). absurd (other t))
-    (λ (n : is_eq (edge_cmp k.0 e.0) ≡ false). ap (λ (b : Bool). cond b (Some e.1) (found k.0 es)) (sym n) ∙ h)
-    (cases_Bool (is_eq (edge_cmp k.0 e.0))) in
-    put_step (edge_cmp k.0 e.0) k e es (insert_entry edge_cmp es k.0 k.1) g other (insert_put k es g rest)
+pub insert_put : (k : Counted) (es left : List Counted) → IsPermutation (k ∷ es) left → (g : Counted → ℤ) → sum_of g left ≡ sum_of g es +ℤ g k
+insert_put k es left h g = omega (arith, linear, sum_of_permutation g (k ∷ es) left h)
+
+pub inserted_new : (k : Counted) (es left : List Counted) → IsForward k.0 → All IsForward (keys_of es) → found k.0 es ≡ None
+    → IsPermutation (k ∷ es) left → IsNew es left k
+inserted_new k es left f all h p = record { absent = absent k.0 es f all h; totals = insert_put k es left p }
+
+pub forward_put : (k : Counted) (es left : List Counted) → IsForward k.0 → All IsForward (keys_of es) → IsPermutation (k ∷ es) left → All IsForward (keys_of left)
+forward_put k es left f all p = All-map-IsPermutation (λ (e : Counted). e.0) IsForward (k ∷ es) left p (All-cons IsForward k.0 (keys_of es) f all)
+
+value_set : (q : Edge) (m v : ℤ) (es : List Counted) (g : Counted → ℤ) → found q es ≡ Some m
+    → sum_of g (set_value (edge_eq q) es v) +ℤ g (q, m) ≡ sum_of g es +ℤ g (q, v)
+value_set q m v [] g h = absurd (none_some h)
   where
-    some_none : {m : ℤ} → Some m ≡ None → ⊥
-    some_none h = cc
-
-set_step : (o : Ordering) (k e : Counted) (es rest : List Counted) (m : ℤ) (g : Counted → ℤ) → (is_eq o ≡ true → e ≡ (k.0, m))
-    → length (inserted o k e es rest) ≡ suc (length es) → (is_eq o ≡ false → length rest ≡ length es → sum_of g rest +ℤ g (k.0, m) ≡ sum_of g es +ℤ g k)
-    → sum_of g (inserted o k e es rest) +ℤ g (k.0, m) ≡ (g e +ℤ sum_of g es) +ℤ g k
-set_step Less k e es rest m g s l h = absurd (omega arith)
-set_step Equal k e es rest m g s l h =
-    let first : g e ≡ g (k.0, m) = ap g (s refl) in
-    let second : g (e.0, k.1) ≡ g k = ap (λ (x : Counted). g (x.0, k.1)) (s refl) in
-    omega (arith, linear)
-set_step Greater k e es rest m g s l h =
-    let less : length rest ≡ length es = omega arith in
-    omega (arith, linear, h refl less)
-
-insert_set : (k : Counted) (m : ℤ) (es : List Counted) (g : Counted → ℤ) → found k.0 es ≡ Some m → length (insert_entry edge_cmp es k.0 k.1) ≡ length es
-    → sum_of g (insert_entry edge_cmp es k.0 k.1) +ℤ g (k.0, m) ≡ sum_of g es +ℤ g k
-insert_set k m [] g h l = absurd (omega arith)
-insert_set k m (e ∷ es) g h l =
-    set_step (edge_cmp k.0 e.0) k e es (insert_entry edge_cmp es k.0 k.1) m g
-    (λ t.
-    let value : Some e.1 ≡ Some m = ap (λ (b : Bool). cond b (Some e.1) (found k.0 es)) (sym t) ∙ h in
+    none_some : {m : ℤ} → None ≡ Some m → ⊥
+    none_some h = cc
+value_set q m v (e ∷ es) g h =
+    ⊎_elim
+    (λ (t : edge_eq q e.0 ≡ true).
+    let value : Some e.1 ≡ Some m = ap (λ (b : Bool). cond b (Some e.1) (found q es)) (sym t) ∙ h in
     let count : e.1 ≡ m = cc in
-    let ends : k.0 ≡ e.0 = edge_equal k.0 e.0 t in
-    λ i. (sym ends i, count i))
-    l
-    (λ n d. insert_set k m es g (ap (λ (b : Bool). cond b (Some e.1) (found k.0 es)) (sym n) ∙ h) d)
+    let ends : q ≡ e.0 = edge_equal q e.0 t in
+    let first : g e ≡ g (q, m) = λ i. g (sym ends i, count i) in
+    let second : g (e.0, v) ≡ g (q, v) = λ i. g (sym ends i, v) in
+    let set : sum_of g (cond (edge_eq q e.0) ((e.0, v) ∷ es) (e ∷ set_value (edge_eq q) es v)) ≡ g (e.0, v) +ℤ sum_of g es =
+    ap (λ (b : Bool). sum_of g (cond b ((e.0, v) ∷ es) (e ∷ set_value (edge_eq q) es v))) t in
+    omega (arith, linear, first, second, set))
+    (λ (n : edge_eq q e.0 ≡ false).
+    let rest = value_set q m v es g (ap (λ (b : Bool). cond b (Some e.1) (found q es)) (sym n) ∙ h) in
+    let set : sum_of g (cond (edge_eq q e.0) ((e.0, v) ∷ es) (e ∷ set_value (edge_eq q) es v)) ≡ g e +ℤ sum_of g (set_value (edge_eq q) es v) =
+    ap (λ (b : Bool). sum_of g (cond b ((e.0, v) ∷ es) (e ∷ set_value (edge_eq q) es v))) n in
+    omega (arith, linear, rest, set))
+    (cases_Bool (edge_eq q e.0))
 
--- what inserting does, where the key is not there and where it is
-pub inserted_new : (k : Counted) (es : List Counted) → IsForward k.0 → All IsForward (keys_of es) → lookup (is_at (edge_cmp k.0)) es ≡ None
-    → IsNew es (insert_entry edge_cmp es k.0 k.1) k
-inserted_new k es f all h = record { absent = absent k.0 es f all h; totals = λ g. insert_put k es g h }
-
-pub inserted_raised : (k : Counted) (m v : ℤ) (es : List Counted) → lookup (is_at (edge_cmp k.0)) es ≡ Some m → v ≡ m +ℤ k.1
-    → length (insert_entry edge_cmp es k.0 v) ≡ length es → IsRaised es (insert_entry edge_cmp es k.0 v) k
-inserted_raised k m v es h e l = record {
+pub inserted_raised : (k : Counted) (m v : ℤ) (es left : List Counted) → found k.0 es ≡ Some m → v ≡ m +ℤ k.1
+    → left ≡ set_value (edge_eq k.0) es v → IsRaised es left k
+inserted_raised k m v es left h e set = record {
   was = m;
   stood = found_stands k.0 m es h;
-  totals = λ g. insert_set (k.0, v) m es g h l ∙ ap (λ (n : ℤ). sum_of g es +ℤ g (k.0, n)) e;
+  totals = λ g.
+      ap (λ (ks : List Counted). sum_of g ks +ℤ g (k.0, m)) set
+      ∙ value_set k.0 m v es g h
+      ∙ ap (λ (n : ℤ). sum_of g es +ℤ g (k.0, n)) e;
 }
+
+set_keys : (q : Edge) (v : ℤ) (es : List Counted) → keys_of (set_value (edge_eq q) es v) ≡ keys_of es
+set_keys q v [] = refl
+set_keys q v (e ∷ es) = step (edge_eq q e.0) (set_keys q v es)
+  where
+    step : (b : Bool) → keys_of (set_value (edge_eq q) es v) ≡ keys_of es → keys_of (cond b ((e.0, v) ∷ es) (e ∷ set_value (edge_eq q) es v)) ≡ keys_of (e ∷ es)
+    step true h = refl
+    step false h = ap (λ (ks : List Edge). e.0 ∷ ks) h
+
+pub forward_set : (q : Edge) (v : ℤ) (es left : List Counted) → left ≡ set_value (edge_eq q) es v → All IsForward (keys_of es) → All IsForward (keys_of left)
+forward_set q v es left set all = subst (All IsForward) (sym (ap (λ (ks : List Counted). keys_of ks) set ∙ set_keys q v es)) all
 
 -- ---- a sum of two counts
 
@@ -216,23 +203,6 @@ has_room ks k m room stands =
       kept = simp (p, q) (small_kept (2 ^ 121) (m +ℤ k.1) (lit≤ tt) c);
     }
 
--- ---- the first entry taken out
-
-pub popped_rest : (o : Option Counted) (old new : List Counted) → IfSome o (λ k. old ≡ k ∷ new) → IfNone o (new ≡ old) → All IsForward (keys_of old) → All IsForward (keys_of new)
-popped_rest None old new s n all = subst (λ (ks : List Counted). All IsForward (keys_of ks)) (sym n) all
-popped_rest (Some k) old new s n all = All-tail IsForward k.0 (keys_of new) (subst (λ (ks : List Counted). All IsForward (keys_of ks)) s all)
-
-pub popped_first : (o : Option Counted) (old new : List Counted) → IfSome o (λ k. old ≡ k ∷ new) → All IsForward (keys_of old) → IfSome o (λ k. IsForward k.0)
-popped_first None old new s all = tt
-popped_first (Some k) old new s all = All-head IsForward k.0 (keys_of new) (subst (λ (ks : List Counted). All IsForward (keys_of ks)) s all)
-
-pub same_length : (o : Option ℤ) (m : ℤ) (a b : ℕ) → o ≡ Some m → a ≡ b + (if is_some o then 0 else 1) → a ≡ b
-same_length None m a b h e = absurd (none_some h)
-  where
-    none_some : {m : ℤ} → None ≡ Some m → ⊥
-    none_some h = cc
-same_length (Some x) m a b h e = omega arith
-
 pub count_kept : (ks : List Counted) (k : Counted) → HaveRoom ks k → to_z w128 (of_z w128 k.1) ≡ k.1
 count_kept ks k room =
     let b : IsSmall (2 ^ 121) k.1 = record { low = omega (arith, ints, room, size_least ks); high = omega (arith, ints, room, size_least ks) } in
@@ -240,46 +210,83 @@ count_kept ks k room =
 
 -- ---- an entry taken out
 
-entry_taken : (k : Edge) (m : ℤ) (es : List Counted) → found k es ≡ Some m → IsTaken es (remove_entry (is_at (edge_cmp k)) es) (k, m)
+entry_taken : (k : Edge) (m : ℤ) (es : List Counted) → found k es ≡ Some m → IsTaken es (remove_entry (edge_eq k) es) (k, m)
 entry_taken k m [] h g = absurd (none_some h)
   where
     none_some : {m : ℤ} → None ≡ Some m → ⊥
     none_some h = cc
 entry_taken k m (e ∷ es) h g =
     ⊎_elim
-    (λ (t : is_eq (edge_cmp k e.0) ≡ true).
+    (λ (t : edge_eq k e.0 ≡ true).
     let value : Some e.1 ≡ Some m = ap (λ (b : Bool). cond b (Some e.1) (found k es)) (sym t) ∙ h in
     let count : e.1 ≡ m = cc in
     let ends : k ≡ e.0 = edge_equal k e.0 t in
     let same : g e ≡ g (k, m) = λ i. g (sym ends i, count i) in
-    let left : sum_of g (cond (is_eq (edge_cmp k e.0)) es (e ∷ remove_entry (is_at (edge_cmp k)) es)) ≡ sum_of g es = ap (λ (b : Bool). sum_of g (cond b es (e ∷ remove_entry (is_at (edge_cmp k)) es))) t in
+    let left : sum_of g (cond (edge_eq k e.0) es (e ∷ remove_entry (edge_eq k) es)) ≡ sum_of g es = ap (λ (b : Bool). sum_of g (cond b es (e ∷ remove_entry (edge_eq k) es))) t in
     omega (arith, linear, same, left))
-    (λ (f : is_eq (edge_cmp k e.0) ≡ false).
+    (λ (f : edge_eq k e.0 ≡ false).
     let rest = entry_taken k m es (ap (λ (b : Bool). cond b (Some e.1) (found k es)) (sym f) ∙ h) g in
-    let left : sum_of g (cond (is_eq (edge_cmp k e.0)) es (e ∷ remove_entry (is_at (edge_cmp k)) es)) ≡ g e +ℤ sum_of g (remove_entry (is_at (edge_cmp k)) es) =
-    ap (λ (b : Bool). sum_of g (cond b es (e ∷ remove_entry (is_at (edge_cmp k)) es))) f in
+    let left : sum_of g (cond (edge_eq k e.0) es (e ∷ remove_entry (edge_eq k) es)) ≡ g e +ℤ sum_of g (remove_entry (edge_eq k) es) =
+    ap (λ (b : Bool). sum_of g (cond b es (e ∷ remove_entry (edge_eq k) es))) f in
     omega (arith, linear, rest, left))
-    (cases_Bool (is_eq (edge_cmp k e.0)))
+    (cases_Bool (edge_eq k e.0))
 
 -- the entry that was removed is that of the ends asked for
-same_ends_asked : (k : Edge) (s : Counted) → edge_cmp k s.0 ≡ Equal → s ≡ (k, s.1)
-same_ends_asked k s e = let ends : k ≡ s.0 = edge_equal k s.0 (ap is_eq e) in λ i. (sym ends i, s.1)
+same_ends_asked : (k : Edge) (s : Counted) → edge_eq k s.0 ≡ true → s ≡ (k, s.1)
+same_ends_asked k s e = let ends : k ≡ s.0 = edge_equal k s.0 e in λ i. (sym ends i, s.1)
 
-pub removed_taken : (k : Edge) (was es left : List Counted) (s : Counted) → es ≡ was → left ≡ remove_entry (is_at (edge_cmp k)) es → edge_cmp k s.0 ≡ Equal → Some s.1 ≡ lookup (is_at (edge_cmp k)) es →
+pub removed_taken : (k : Edge) (was es left : List Counted) (s : Counted) → es ≡ was → IsPermutation (remove_entry (edge_eq k) es) left → edge_eq k s.0 ≡ true → Some s.1 ≡ found k es →
     IsTaken was left s
 removed_taken k was es left s same removed key value =
-    subst (λ (x : List Counted × (List Counted × Counted)). IsTaken x.0 x.1.0 x.1.1) (λ i. (same i, (sym removed i, sym (same_ends_asked k s key) i)))
-    (entry_taken k s.1 es (sym value))
+    subst (λ (x : List Counted × Counted). IsTaken x.0 left x.1) (λ i. (same i, sym (same_ends_asked k s key) i))
+    (λ g. omega (arith, linear, entry_taken k s.1 es (sym value) g, sum_of_permutation g (remove_entry (edge_eq k) es) left removed))
 
-pub removed_left : (k : Edge) (was es left : List Counted) → es ≡ was → left ≡ remove_entry (is_at (edge_cmp k)) es → All IsForward (keys_of was) → All IsForward (keys_of left)
+pub removed_left : (k : Edge) (was es left : List Counted) → es ≡ was → IsPermutation (remove_entry (edge_eq k) es) left → All IsForward (keys_of was) → All IsForward (keys_of left)
 removed_left k was es left same removed all =
-    subst (λ (ks : List Counted). All IsForward (keys_of ks)) (sym removed)
-    (All-map-remove_entry (is_at (edge_cmp k)) (λ (e : Counted). e.0) IsForward es (subst (λ (ks : List Counted). All IsForward (keys_of ks)) (sym same) all))
+    All-map-IsPermutation (λ (e : Counted). e.0) IsForward (remove_entry (edge_eq k) es) left removed
+    (All-map-remove_entry (edge_eq k) (λ (e : Counted). e.0) IsForward es (subst (λ (ks : List Counted). All IsForward (keys_of ks)) (sym same) all))
 
-pub removed_forward : (k : Edge) (was es : List Counted) (s : Counted) → es ≡ was → edge_cmp k s.0 ≡ Equal → Some s.1 ≡ lookup (is_at (edge_cmp k)) es → All IsForward (keys_of was) → IsForward s.0
+pub removed_forward : (k : Edge) (was es : List Counted) (s : Counted) → es ≡ was → edge_eq k s.0 ≡ true → Some s.1 ≡ found k es → All IsForward (keys_of was) → IsForward s.0
 removed_forward k was es s same key value all =
-    subst IsForward (edge_equal k s.0 (ap is_eq key))
+    subst IsForward (edge_equal k s.0 key)
     (by_found (λ (es : List Counted). All IsForward (keys_of es) → IsForward k) k s.1
     (λ (es : List Counted) (a : All IsForward (keys_of ((k, s.1) ∷ es))). All-head IsForward k (keys_of es) a)
     (λ (e : Counted) (es : List Counted) (p : All IsForward (keys_of es) → IsForward k) (a : All IsForward (keys_of (e ∷ es))). p (All-tail IsForward e.0 (keys_of es) a))
     es (sym value) (subst (λ (ks : List Counted). All IsForward (keys_of ks)) (sym same) all))
+
+-- ---- some entry taken out
+
+-- the first item of an iterator over keys
+pub first_key : (ks rest : List Edge) (o : Option (Bor Edge)) (k : Edge) → MatchOption o ((ks ≡ []) × (rest ≡ [])) (λ x. ks ≡ x.now ∷ rest) → option_copied o ≡ Some k → ks ≡ k ∷ rest
+first_key ks rest None k h e = absurd (none_of e)
+  where
+    none_of : {k : Edge} → None ≡ Some k → ⊥
+    none_of h = cc
+first_key ks rest (Some x) k h e = h ∙ ap (λ (p : Edge). p ∷ rest) (known e)
+  where
+    known : Some x.now ≡ Some k → x.now ≡ k
+    known e = cc
+
+-- the first key is found
+pub first_found : (k : Edge) (ks : List Edge) (es : List Counted) → keys_of es ≡ k ∷ ks → found k es ≡ None → ⊥
+first_found k ks [] h n = none_of h
+  where
+    none_of : {k : Edge} {ks : List Edge} → [] ≡ k ∷ ks → ⊥
+    none_of h = cc
+first_found k ks (e ∷ es) h n =
+    let same : e.0 ≡ k = cc in
+    let equal : edge_eq k e.0 ≡ true = ap (edge_eq k) same ∙ equal_self k in
+    some_none (sym (ap (λ (b : Bool). cond b (Some e.1) (found k es)) equal) ∙ n)
+  where
+    some_none : {m : ℤ} → Some m ≡ None → ⊥
+    some_none h = cc
+
+pub some_taken : (k : Edge) (was es left : List Counted) (o : Option Counted) → es ≡ was → (found k es ≡ None → ⊥) → IsPermutation (remove_entry (edge_eq k) es) left
+    → IfSome o (λ s. edge_eq k s.0 ≡ true) → option_map (λ (s : Counted). s.1) o ≡ found k es → MatchOption o ((was ≡ []) × (left ≡ [])) (λ s. IsTaken was left s)
+some_taken k was es left None same stands removed key value = absurd (stands (sym value))
+some_taken k was es left (Some s) same stands removed key value = removed_taken k was es left s same removed key value
+
+pub some_forward : (k : Edge) (was es : List Counted) (o : Option Counted) → es ≡ was → IfSome o (λ s. edge_eq k s.0 ≡ true) → option_map (λ (s : Counted). s.1) o ≡ found k es
+    → All IsForward (keys_of was) → IfSome o (λ s. IsForward s.0)
+some_forward k was es None same key value all = tt
+some_forward k was es (Some s) same key value all = removed_forward k was es s same key value all

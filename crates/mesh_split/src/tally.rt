@@ -10,13 +10,13 @@ ghost use Rattle.mesh_split.specs.Midway.Steps.{HaveRoom, IsPut, IsTaken, AddsIf
 use crate::worklist::Worklist;
 use mesh_cuts::grid::{CountedSegment, GridEdge};
 use std::alloc::{AllocError, Global};
-use std::collections::BTreeMap;
+use std::collections::HashMap;
 use std::marker::Model;
 
 /// Segments by their ends, the lesser end first. Contracts see the list of them.
 #[derive(Drop)]
 pub struct Tally {
-    counts: BTreeMap<GridEdge, i128>,
+    counts: HashMap<GridEdge, i128>,
 }
 
 impl Model for Tally {
@@ -33,7 +33,7 @@ impl Tally {
         ensures { result ≡ [] }
     {
         Tally {
-            counts: BTreeMap::new(alloc),
+            counts: HashMap::new(alloc),
         }
     }
 

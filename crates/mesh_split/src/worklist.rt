@@ -8,13 +8,13 @@ ghost use Rattle.mesh_split.specs.Midway.Steps.{HaveRoom, IsTaken, IsRaised, IsN
 
 use mesh_cuts::grid::{CountedSegment, GridEdge};
 use std::alloc::{AllocError, Global};
-use std::collections::BTreeMap;
+use std::collections::HashMap;
 use std::marker::Model;
 
 /// Segments by their ends, each once, the lesser end first. Contracts see the list of them.
 #[derive(Drop)]
 pub struct Worklist {
-    counts: BTreeMap<GridEdge, i128>,
+    counts: HashMap<GridEdge, i128>,
     /// Ends in the order in which they came. It says which segment is taken next, and nothing else.
     latest: Vec<GridEdge>,
 }
@@ -33,13 +33,13 @@ impl Worklist {
         ensures { result ≡ [] }
     {
         Worklist {
-            counts: BTreeMap::new(alloc),
+            counts: HashMap::new(alloc),
             latest: Vec::new(alloc),
         }
     }
 
-    /// Segments by their ends, the lesser end first. The one with the least ends is taken first.
-    pub fn with_counts(alloc: Global, counts: BTreeMap<GridEdge, i128>) -> Self
+    /// Segments by their ends, the lesser end first. Any of them is taken first.
+    pub fn with_counts(alloc: Global, counts: HashMap<GridEdge, i128>) -> Self
         requires { All IsForward (keys_of counts.entries) }
         ensures { result ≡ counts.entries }
     {
@@ -59,7 +59,10 @@ impl Worklist {
                 return Some(s);
             }
         }
-        self.counts.pop_first()
+        let Some(ends) = self.counts.keys().next().copied() else {
+            return None;
+        };
+        self.counts.remove_entry(&ends)
     }
 
     /// Puts a segment in, or adds its count to that of the segment with its ends.

@@ -1,6 +1,5 @@
-use Rattle.std.proofs.Common.{ap, subst, sym, List, arith}
+use Rattle.std.proofs.Common.{subst, sym, List, arith}
 use Rattle.std.specs.Prelude.{pos, ◌<ℤ◌}
-use Rattle.std.specs.Ordering.{is_eq}
 use Rattle.std.proofs.lemmas.Int.{ints}
 use Rattle.mesh_cuts.specs.Counted.{Counted}
 use Rattle.mesh_cuts.specs.Split.{IsForward}
@@ -21,7 +20,7 @@ invariant_of-self c =
     removed_left c.args.ends es es c.remove_entry.new.self.entries (λ _. es) c.remove_entry.ensures.entries c.self.invariant
 
 pub returns-clause-ends : goal.returns-clause-ends
-returns-clause-ends c = sym (edge_equal c.args.ends c.in-Some.s.0 (ap is_eq c.in-Some.ensures.same_key))
+returns-clause-ends c = sym (edge_equal c.args.ends c.in-Some.s.0 c.in-Some.ensures.same_key)
 
 pub returns-clause-taken : goal.returns-clause-taken
 returns-clause-taken c =
@@ -30,5 +29,5 @@ returns-clause-taken c =
 pub returns-clause-forward : goal.returns-clause-forward
 returns-clause-forward c =
     let es = c.self.inside.counts.entries in
-    subst IsForward (sym (edge_equal c.args.ends c.in-Some.s.0 (ap is_eq c.in-Some.ensures.same_key)))
+    subst IsForward (sym (edge_equal c.args.ends c.in-Some.s.0 c.in-Some.ensures.same_key))
     (removed_forward c.args.ends es es c.in-Some.s (λ _. es) c.in-Some.ensures.same_key c.in-Some.ensures.value c.self.invariant)

@@ -1,9 +1,5 @@
-use Rattle.std.proofs.Common.{◌∙◌, sym, subst, List}
-use Rattle.std.specs.List.{All}
-use Rattle.std.specs.Map.{keys_of}
-use Rattle.mesh_cuts.specs.Counted.{Counted}
-use Rattle.mesh_cuts.specs.Split.{IsForward}
-use Rattle.mesh_split.proofs.Entries.{popped_rest, popped_first, removed_left, removed_taken, removed_forward}
+use Rattle.std.proofs.Common.{◌∙◌, sym}
+use Rattle.mesh_split.proofs.Entries.{removed_left, removed_taken, removed_forward, first_key, first_found, some_taken, some_forward}
 use Rattle.mesh_split.proofs.worklist.Worklist.pop.Goals as goal
 
 pub invariant_of-self : goal.invariant_of-self
@@ -25,10 +21,15 @@ returns-in-Some-remove_entry-clause-forward c =
 
 pub invariant_of-self-2 : goal.invariant_of-self-2
 invariant_of-self-2 c =
-    popped_rest c.pop_first.result c.loop-ends.self-inside.counts.entries c.pop_first.new.self.entries c.pop_first.ensures.removal c.pop_first.ensures.unchanged
-    (subst (λ (ks : List Counted). All IsForward (keys_of ks)) (sym c.loop-ends.invariant) c.self.invariant)
+    removed_left c.in-Some-copied.ends c.self.inside.counts.entries c.loop-ends.self-inside.counts.entries c.remove_entry-2.new.self.entries c.loop-ends.invariant c.remove_entry-2.ensures.entries c.self.invariant
+
+pub returns-clause-taken : goal.returns-clause-taken
+returns-clause-taken c =
+    let es = c.loop-ends.self-inside.counts.entries in
+    let keys = sym c.keys.ensures.rest ∙ first_key c.keys.result c.next.new.self c.next.result c.in-Some-copied.ends c.next.ensures.steps (sym c.copied.ensures ∙ c.in-Some-copied.is) in
+    some_taken c.in-Some-copied.ends c.args.self.now es c.remove_entry-2.new.self.entries c.remove_entry-2.result (c.loop-ends.invariant ∙ c.self.view_is) (first_found c.in-Some-copied.ends c.next.new.self es keys)
+    c.remove_entry-2.ensures.entries c.remove_entry-2.ensures.same_key c.remove_entry-2.ensures.value
 
 pub returns-clause-forward : goal.returns-clause-forward
 returns-clause-forward c =
-    popped_first c.pop_first.result c.loop-ends.self-inside.counts.entries c.pop_first.new.self.entries c.pop_first.ensures.removal
-    (subst (λ (ks : List Counted). All IsForward (keys_of ks)) (sym c.loop-ends.invariant) c.self.invariant)
+    some_forward c.in-Some-copied.ends c.self.inside.counts.entries c.loop-ends.self-inside.counts.entries c.remove_entry-2.result c.loop-ends.invariant c.remove_entry-2.ensures.same_key c.remove_entry-2.ensures.value c.self.invariant
