@@ -79,7 +79,7 @@ impl<I: IntNumber> OutlineBuilder<I> {
     /// Adds the edges of the outline of the closed contour through these points, each of which stays in the safe
     /// range where it moves by the padding of the joins. What the vector holds stays. No memory is taken where there
     /// is no point or all are equal. Without round joins there are at most four edges a section, and where there is room
-    /// for them it succeeds. After a refusal the vector is cut back to its old length.
+    /// for them it succeeds. After a refusal the vector is cut back to its old length. It keeps its room in either case.
     pub fn build(
         &mut self,
         path: &[IntPoint<I>],
@@ -99,6 +99,7 @@ impl<I: IntNumber> OutlineBuilder<I> {
             → IsOk result }
         ensures room_for_four { HasFew self.old.join → HasRoomFor segments.old (4 * length (cleaned_sections path.now))
             → IsOk result }
+        ensures capacity { vec_capacity segments.old ≤ vec_capacity segments.new }
         ensures same { self.new ≡ self.old }
 
         // The edges close up, and stay near the contour.
@@ -183,6 +184,7 @@ fn draw<I: IntNumber>(
     ensures nothing { AllEqual path.now → IsOk result }
     ensures room { HasFew join.old → HasRoomFor segments.old
         (length (outline_edges I.unit (offset_join (I.value offset) join.old) path.now)) → IsOk result }
+    ensures capacity { vec_capacity segments.old ≤ vec_capacity segments.new }
 {
     let Some(mut sections) = UniqueSegmentsIter::new(path) else {
         return Ok(());
