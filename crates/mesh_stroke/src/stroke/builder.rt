@@ -69,7 +69,7 @@ impl<'a, I: IntNumber> StrokeBuilder<'a, I> {
     /// the vector holds stays. Nothing is added for a radius of at most 1, and where all points are one, and no memory
     /// is taken there. Without round joins, and without round caps where the path is open, it succeeds where there is
     /// room for the edges; with butt or square caps, or with none, these are then at most seven for each edge of the
-    /// path and six more. After a refusal the vector is cut back to its old length.
+    /// path and six more. After a refusal the vector is cut back to its old length. It keeps its room in either case.
     pub fn build(
         &mut self,
         path: &[IntPoint<I>],
@@ -91,6 +91,7 @@ impl<'a, I: IntNumber> StrokeBuilder<'a, I> {
             → HasRoomFor segments.old (length (stroke_edges I.unit self.old closed path.now)) → IsOk result }
         ensures room_for_seven { HasFew self.old.join → HasFewCapEdges self.old closed
             → HasRoomFor segments.old (7 * length (path_edges closed path.now) + 6) → IsOk result }
+        ensures capacity { vec_capacity segments.old ≤ vec_capacity segments.new }
         ensures same { self.new ≡ self.old }
 
         // The edges close up, and stay near the path.
@@ -145,6 +146,7 @@ fn draw<I: IntNumber>(
     ensures room { HasFew join.old → HasDirectCaps (style_with (I.value radius) join.old caps.old) closed
         → HasRoomFor segments.old
         (length (stroke_edges I.unit (style_with (I.value radius) join.old caps.old) closed path.now)) → IsOk result }
+    ensures capacity { vec_capacity segments.old ≤ vec_capacity segments.new }
     ensures same_join { join.new ≡ join.old }
     ensures same_caps { caps.new ≡ caps.old }
 {
@@ -179,6 +181,7 @@ fn draw_path<I: IntNumber>(
     ensures room { HasFew join.old → HasDirectCaps (style_with (I.value radius) join.old caps.old) closed
         → HasRoomFor segments.old (length (drawn_edges I.unit (style_with (I.value radius) join.old caps.old) closed
         (path_edges closed path.now))) → IsOk result }
+    ensures capacity { vec_capacity segments.old ≤ vec_capacity segments.new }
     ensures same_join { join.new ≡ join.old }
     ensures same_caps { caps.new ≡ caps.old }
 {
