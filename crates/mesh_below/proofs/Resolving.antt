@@ -1,11 +1,11 @@
 -- Lemmas over lists: the rings of contours, and the whole way from edges to shapes.
-use Rattle.std.proofs.Common.{◌≡◌, ℕ, ◌+◌, ◌<◌, ◌||◌, Bool, true, false, cond, List, [], ◌∷◌, ◌++◌, map, length, take, get_or, zero, suc, sym, ◌∙◌, ap, subst, arith}
+use Rattle.std.proofs.Common.{◌≡◌, ℕ, ◌<◌, ◌||◌, Bool, true, false, cond, List, [], ◌∷◌, ◌++◌, map, length, get_or, zero, suc, sym, ◌∙◌, ap, subst, arith}
 use Rattle.std.specs.Prelude.{ℤ, pos, ◌+ℤ◌, Vec}
 use Rattle.std.specs.List.{All, filter, flat_map}
 use Rattle.std.specs.declared.alloc.Global.{Global}
 use Rattle.std.proofs.lemmas.Bool.{or_right}
 use Rattle.std.proofs.lemmas.Grind.{flat_map-append}
-use Rattle.std.proofs.lemmas.List.{append-nil, map-append, take_more}
+use Rattle.std.proofs.lemmas.List.{append-nil, map-append}
 use Rattle.std.proofs.lemmas.List.Elements.{All-nil, All-cons, All-push, filter-append}
 use Rattle.mesh_plane.proofs.Sums.{sum_of_append}
 use Rattle.mesh_plane.specs.Plane.{Point, Edge}
@@ -45,9 +45,9 @@ push_one all least given r old new k large e = record {
 }
 
 -- ---- the rings of contours
-pub rings_more : (all : Bool) (least : ℕ) (given : List (Vec Point Global)) (i : ℕ) (d : Vec Point Global) (old new : List HeldRing) → i < length given →
-    AreRingsOf all least (take i given) old → PushesRing all least (get_or given i d).items old new → AreRingsOf all least (take (i + 1) given) new
-rings_more all least given i d old new low k p = record {
+pub rings_more : (all : Bool) (least : ℕ) (given : List (Vec Point Global)) (c : Vec Point Global) (old new : List HeldRing) →
+    AreRingsOf all least given old → PushesRing all least c.items old new → AreRingsOf all least (given ++ (c ∷ [])) new
+rings_more all least given c old new k p = record {
   contours = k.contours ++ (p.contour ∷ []);
   same = same_sums;
   begun = All-push (IsBegun all) k.contours p.contour k.begun p.begun;
@@ -58,23 +58,19 @@ rings_more all least given i d old new low k p = record {
       ∙ ap (filter (is_large least)) (sym (map-append (ring_of all) k.contours (p.contour ∷ [])))));
 }
   where
-    c : Vec Point Global
-    c = get_or given i d
-
     one_left : (f : Edge → ℤ) → sum_of f (flat_map boundary (p.contour ∷ [])) ≡ sum_of f (boundary p.contour)
     one_left f = ap (sum_of f) (append-nil (boundary p.contour))
 
     one_right : (f : Edge → ℤ) → sum_of f (contour_edges (c ∷ [])) ≡ sum_of f (boundary c.items)
     one_right f = ap (sum_of f) (append-nil (boundary c.items))
 
-    same_sums : (f : Edge → ℤ) → sum_of f (flat_map boundary (k.contours ++ (p.contour ∷ []))) ≡ sum_of f (contour_edges (take (i + 1) given))
+    same_sums : (f : Edge → ℤ) → sum_of f (flat_map boundary (k.contours ++ (p.contour ∷ []))) ≡ sum_of f (contour_edges (given ++ (c ∷ [])))
     same_sums f =
         ap (sum_of f) (flat_map-append boundary k.contours (p.contour ∷ []))
         ∙ (sum_of_append f (flat_map boundary k.contours) (flat_map boundary (p.contour ∷ []))
         ∙ ((λ j. k.same f j +ℤ (one_left f ∙ (p.same f ∙ sym (one_right f))) j)
-        ∙ (sym (sum_of_append f (contour_edges (take i given)) (contour_edges (c ∷ [])))
-        ∙ (ap (sum_of f) (sym (flat_map-append (λ (v : Vec Point Global). boundary v.items) (take i given) (c ∷ [])))
-        ∙ ap (λ (cs : List (Vec Point Global)). sum_of f (contour_edges cs)) (sym (take_more given i d low))))))
+        ∙ (sym (sum_of_append f (contour_edges given) (contour_edges (c ∷ [])))
+        ∙ ap (sum_of f) (sym (flat_map-append (λ (v : Vec Point Global). boundary v.items) given (c ∷ []))))))
 
 -- ---- what holds of all edges of contours holds of those of one
 pub of_one : (P : Edge → Type 0) (cs : List (Vec Point Global)) (i : ℕ) (d : Vec Point Global) → i < length cs → All P (contour_edges cs) → All P (boundary (get_or cs i d).items)

@@ -36,12 +36,12 @@ pub struct Choices {
 fn push_ring(
     alloc: Global,
     rings: &mut Vec<Ring>,
-    contour: &[GridPoint],
+    contour: Vec<GridPoint>,
     choices: Choices,
 ) -> Result<(), AllocError>
-    requires has_points { 0 < length contour.now }
-    requires proper { All (λ (e : Edge). same_point e.0 e.1 ≡ false) (boundary contour.now) }
-    ensures { OnOk result (PushesRing choices.all_vertices choices.least_area contour.now
+    requires has_points { 0 < length contour.items }
+    requires proper { All (λ (e : Edge). same_point e.0 e.1 ≡ false) (boundary contour.items) }
+    ensures { OnOk result (PushesRing choices.all_vertices choices.least_area contour.items
         rings.old.items rings.new.items) }
 {
     let ring = ring_of(alloc, contour, choices.all_vertices)?;
@@ -55,12 +55,12 @@ fn push_ring(
 /// The rings of contours, without the small ones.
 fn rings_of(
     alloc: Global,
-    contours: &[Vec<GridPoint>],
+    contours: Vec<Vec<GridPoint>>,
     choices: Choices,
 ) -> Result<Vec<Ring>, AllocError>
-    requires have_points { HavePoints contours.now }
-    requires proper { All (λ (e : Edge). same_point e.0 e.1 ≡ false) (contour_edges contours.now) }
-    ensures { IfOk result (λ v. AreRingsOf choices.all_vertices choices.least_area contours.now v.items) }
+    requires have_points { HavePoints contours.items }
+    requires proper { All (λ (e : Edge). same_point e.0 e.1 ≡ false) (contour_edges contours.items) }
+    ensures { IfOk result (λ v. AreRingsOf choices.all_vertices choices.least_area contours.items v.items) }
 {
     let mut rings = Vec::new(alloc);
     for contour in contours {
@@ -85,7 +85,7 @@ pub fn resolve(
     let segments = split_edges(alloc, edges)?;
     let parted = find_boundary(alloc, &segments, fill)?;
     let closed = contours(alloc, parted)?;
-    let rings = rings_of(alloc, &closed, choices)?;
+    let rings = rings_of(alloc, closed, choices)?;
     let shapes = shapes(alloc, rings, choices.clockwise)?;
     Ok(shapes)
 }

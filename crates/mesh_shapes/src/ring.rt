@@ -176,14 +176,13 @@ fn side_point(contour: &[GridPoint]) -> FinePoint
 }
 
 /// The ring of a contour, from the contour's start on.
-pub fn ring_of(alloc: Global, contour: &[GridPoint], all: bool) -> Result<Ring, AllocError>
-    requires has_points { 0 < length contour.now }
-    requires proper { All (λ (e : Edge). same_point e.0 e.1 ≡ false) (boundary contour.now) }
-    ensures { IfOk result (λ r. IsRingOf all contour.now (r.0.items, r.1)) }
+pub fn ring_of(alloc: Global, mut contour: Vec<GridPoint>, all: bool) -> Result<Ring, AllocError>
+    requires has_points { 0 < length contour.items }
+    requires proper { All (λ (e : Edge). same_point e.0 e.1 ≡ false) (boundary contour.items) }
+    ensures { IfOk result (λ r. IsRingOf all contour.items (r.0.items, r.1)) }
 {
-    let mut begun = Vec::from_slice(alloc, contour)?;
-    begun.rotate_left(least_place(contour));
-    begun.rotate_left(start_place(&begun, all));
-    let side = side_point(&begun);
-    Ok((vertices(alloc, &begun, all)?, side))
+    contour.rotate_left(least_place(&contour));
+    contour.rotate_left(start_place(&contour, all));
+    let side = side_point(&contour);
+    Ok((vertices(alloc, &contour, all)?, side))
 }
