@@ -5,4 +5,5 @@ pub mod Groups
 pub mod HolderRows
 pub mod HolderSearch
 pub mod Shapes
+pub mod Taking
 pub mod Walking

@@ -1,21 +1,22 @@
 //! Shapes of rings: order and grouping.
 
-ghost use Rattle.std.specs.Prelude.{◌≡◌, ◌⊎◌, ℕ, ◌+◌, ◌*◌, ◌^◌, ◌<◌, ◌≤◌, Bool, true, false, not, ◌&&◌, cond, List, []};
+ghost use Rattle.std.specs.Prelude.{◌≡◌, ◌≢◌, ◌⊎◌, ℕ, ◌+◌, ◌*◌, ◌^◌, ◌<◌, ◌≤◌, Bool, true, false, not, ◌&&◌, cond, List, []};
 ghost use Rattle.std.specs.Prelude.{◌∷◌, ◌++◌, map, length, take, drop, reverse, slice_index_or, nat_le, nat_eq};
 ghost use Rattle.std.specs.Prelude.{unsigned_abs, int_lt, pos, IfOk, OnOk, MatchOption, Vec};
 ghost use Rattle.std.specs.declared.alloc.Global.{Global};
 ghost use Rattle.std.specs.Option.{ForSome};
-ghost use Rattle.std.specs.List.{All, filter, enumerate_from};
+ghost use Rattle.std.specs.List.{All, AllPairs, filter, enumerate_from};
 ghost use Rattle.std.specs.List.Sorted.{IsSortedBy, IsPermutation};
 ghost use Rattle.mesh_plane.specs.Bounds.{IsSafe};
 ghost use Rattle.mesh_plane.specs.Plane.{Point};
 ghost use Rattle.mesh_shapes.specs.Contours.{reversed, double_area};
 ghost use Rattle.mesh_shapes.specs.Vectors.{HeldRing, ring_held, rings_held, points_of, shapes_points};
-ghost use Rattle.mesh_shapes.specs.Midway.Grouping.{ring_at, areas_of, IsHome, AreHomes, AreWithin, AreMembers};
-ghost use Rattle.mesh_shapes.specs.Midway.Grouping.{HaveMembers, IsPutHome, contour_at, shape_at, headed, all_shapes};
+ghost use Rattle.mesh_shapes.specs.Midway.Grouping.{ring_at, areas_of, IsHome, AreHomes, AreWithin};
+ghost use Rattle.mesh_shapes.specs.Midway.Grouping.{HaveMembers, IsPutHome, contour_at, contours_at, all_shapes};
+ghost use Rattle.mesh_shapes.specs.Midway.Grouping.{Stays, OthersStay, AreApart, HaveApart, homed};
 ghost use Rattle.mesh_shapes.specs.Midway.Holders.{edges_of};
 ghost use Rattle.mesh_boundary.specs.Midway.Rows.{AreRows};
-ghost use Rattle.mesh_shapes.specs.Resolution.{is_large, points_lt, is_head, shape_of, rings_by_shape, answered};
+ghost use Rattle.mesh_shapes.specs.Resolution.{is_large, points_lt, is_head, shape_of, rings_by_shape};
 ghost use Rattle.mesh_shapes.specs.Resolution.{AreArranged};
 
 use crate::area::double_area;
@@ -25,6 +26,7 @@ use mesh_boundary::rows::Rows;
 use mesh_cuts::grid::GridPoint;
 use mesh_cuts::places::{empty_lists, push_to};
 use std::alloc::{AllocError, Global};
+use std::mem::replace;
 
 /// Whether the ring's double area is in size at least twice the least area.
 pub fn is_large(ring: &Ring, least_area: u64) -> bool
@@ -109,28 +111,23 @@ fn homes(alloc: Global, rings: &[Ring]) -> Result<Vec<usize>, AllocError>
     Ok(homes)
 }
 
-/// The first point, then the others from the last back.
-fn reversed(alloc: Global, points: &[GridPoint]) -> Result<Vec<GridPoint>, AllocError>
-    ensures { IfOk result (λ v. v.items ≡ reversed points.now) }
+/// Leaves the first point where it is, and turns the others about.
+fn reverse(points: &mut [GridPoint])
+    ensures { points.new ≡ reversed points.old }
 {
-    let mut list = Vec::new(alloc);
-    let Some((first, rest)) = points.split_first() else {
-        return Ok(list);
-    };
-    list.push(*first)?;
-    let back: Vec<GridPoint> = rest.iter().rev().copied().collect(alloc)?;
-    list.extend_from_slice(&back)?;
-    Ok(list)
+    if !points.is_empty() {
+        points[1..].reverse();
+    }
 }
 
-/// The ring's contour, the other way about where contours are to run clockwise.
-fn answered(alloc: Global, ring: &Ring, clockwise: bool) -> Result<Vec<GridPoint>, AllocError>
-    ensures { IfOk result (λ v. v.items ≡ answered clockwise (ring_held ring.now)) }
+/// A ring's points as its contour, the other way about where contours are to run clockwise.
+fn answered(mut points: Vec<GridPoint>, clockwise: bool) -> Vec<GridPoint>
+    ensures { result.items ≡ cond clockwise (reversed points.items) points.items }
 {
     if clockwise {
-        return reversed(alloc, &ring.0);
+        reverse(&mut points);
     }
-    Vec::from_slice(alloc, &ring.0)
+    points
 }
 
 /// Adds a ring to those that stand with another, unless it heads a shape.
@@ -160,6 +157,7 @@ fn members(alloc: Global, rings: &[Ring], homes: &[usize]) -> Result<Vec<Vec<usi
     requires within { AreWithin rings.now homes.now }
     ensures len { IfOk result (λ v. length v.items ≡ length rings.now) }
     ensures members { IfOk result (λ v. HaveMembers rings.now v.items) }
+    ensures apart { IfOk result (λ v. HaveApart homes.now v.items) }
 {
     let mut members = empty_lists(alloc, rings.len())?;
     for i in 0..rings.len() {
@@ -168,33 +166,38 @@ fn members(alloc: Global, rings: &[Ring], homes: &[usize]) -> Result<Vec<Vec<usi
     Ok(members)
 }
 
-/// Adds the contour of the ring at a place to a shape.
+/// Moves the points of the ring at a place to a shape, as its contour.
 fn push_contour(
     alloc: Global,
     shape: &mut Vec<Vec<GridPoint>>,
-    rings: &[Ring],
+    rings: &mut [Ring],
     i: usize,
     clockwise: bool,
 ) -> Result<(), AllocError>
-    requires { i < length rings.now }
-    ensures { OnOk result
-        (points_of shape.new.items ≡ points_of shape.old.items ++ contour_at clockwise rings.now i ∷ []) }
+    requires { i < length rings.old }
+    ensures added { OnOk result
+        (points_of shape.new.items ≡ points_of shape.old.items ++ contour_at clockwise rings.old i ∷ []) }
+    ensures others { OnOk result (OthersStay rings.old rings.new (i ∷ [])) }
 {
-    shape.push(answered(alloc, &rings[i], clockwise)?)?;
+    let points = replace(&mut rings[i].0, Vec::new(alloc));
+    shape.push(answered(points, clockwise))?;
     Ok(())
 }
 
-/// The shape that the ring at `h` heads, where the others that stand with it are known.
+/// The shape of the ring at `h` and of those at other places, whose points move there.
 fn shape(
     alloc: Global,
-    rings: &[Ring],
+    rings: &mut [Ring],
     members: &[usize],
     h: usize,
     clockwise: bool,
 ) -> Result<Vec<Vec<GridPoint>>, AllocError>
-    requires in_range { h < length rings.now }
-    requires members { AreMembers (rings_held rings.now) h members.now }
-    ensures { IfOk result (λ v. points_of v.items ≡ shape_at clockwise (rings_held rings.now) h) }
+    requires in_range { h < length rings.old }
+    requires within { All (λ i. i < length rings.old) members.now }
+    requires apart { AllPairs (λ i j. i ≢ j) (h ∷ members.now) }
+    ensures contours { IfOk result (λ v. points_of v.items
+        ≡ contours_at (rings_held rings.old) clockwise h members.now) }
+    ensures others { IfOk result (λ v. OthersStay rings.old rings.new (h ∷ members.now)) }
 {
     let mut shape = Vec::with_capacity(alloc, members.len() + 1)?;
     push_contour(alloc, &mut shape, rings, h, clockwise)?;
@@ -208,18 +211,19 @@ fn shape(
 fn push_shape(
     alloc: Global,
     shapes: &mut Vec<Vec<Vec<GridPoint>>>,
-    rings: &[Ring],
+    rings: &mut [Ring],
     homes: &[usize],
     members: &[usize],
     h: usize,
     clockwise: bool,
 ) -> Result<(), AllocError>
-    requires in_range { h < length rings.now }
-    requires homes_len { length homes.now ≡ length rings.now }
-    requires home { IsHome (rings_held rings.now) h (slice_index_or homes.now h 0) }
-    requires members { AreMembers (rings_held rings.now) h members.now }
-    ensures { OnOk result (shapes_points shapes.new.items ≡ shapes_points shapes.old.items ++
-        headed clockwise (rings_held rings.now) h) }
+    requires in_range { h < length rings.old }
+    requires homes_len { length homes.now ≡ length rings.old }
+    requires within { All (λ i. i < length rings.old) members.now }
+    requires apart { AreApart homes.now h members.now }
+    ensures added { OnOk result (shapes_points shapes.new.items ≡ shapes_points shapes.old.items ++
+        homed clockwise (rings_held rings.old) homes.now h members.now) }
+    ensures others { OnOk result ((k : ℕ) → slice_index_or homes.now k 0 ≢ h → Stays rings.old rings.new k) }
 {
     if homes[h] != h {
         return Ok(());
@@ -228,13 +232,13 @@ fn push_shape(
     Ok(())
 }
 
-/// The shapes of rings that stand in order.
+/// The shapes of rings that stand in order, whose points move there.
 fn grouped(
     alloc: Global,
-    rings: &[Ring],
+    rings: &mut [Ring],
     clockwise: bool,
 ) -> Result<Vec<Vec<Vec<GridPoint>>>, AllocError>
-    ensures { IfOk result (λ v. shapes_points v.items ≡ all_shapes clockwise (rings_held rings.now)) }
+    ensures { IfOk result (λ v. shapes_points v.items ≡ all_shapes clockwise (rings_held rings.old)) }
 {
     let homes = homes(alloc, rings)?;
     let members = members(alloc, rings, &homes)?;
@@ -262,7 +266,7 @@ pub fn shapes(
 ) -> Result<Vec<Vec<Vec<GridPoint>>>, AllocError>
     ensures { IfOk result (λ v. AreArranged clockwise (rings_held rings.items) (shapes_points v.items)) }
 {
-    let ordered = in_order(rings);
-    let shapes = grouped(alloc, &ordered, clockwise)?;
+    let mut ordered = in_order(rings);
+    let shapes = grouped(alloc, &mut ordered, clockwise)?;
     Ok(shapes)
 }

@@ -1,6 +1,6 @@
 -- Where each ring belongs: its place, its area, and the ring with which it stands.
-use Rattle.std.specs.Prelude.{ℕ, ◌≡◌, ◌<◌, Bool, true, false, ◌&&◌, List, [], map, length, slice_index_or, nat_eq, ℤ, pos}
-use Rattle.std.specs.List.{All, enumerate_from}
+use Rattle.std.specs.Prelude.{ℕ, ◌≡◌, ◌≢◌, ◌<◌, Bool, true, false, ◌&&◌, List, [], map, length, slice_index_or, nat_eq, ℤ, pos}
+use Rattle.std.specs.List.{All, AllPairs, enumerate_from}
 use Rattle.mesh_plane.specs.Plane.{Point}
 use Rattle.mesh_plane.specs.Winding.{holds}
 use Rattle.mesh_shapes.specs.Contours.{double_area}
@@ -78,3 +78,26 @@ HaveMembers rings members =
 pub record IsPutHome (old new : List (Vec ℕ Global)) (i home : ℕ) : Type 0 where
   pub len : length new ≡ length old
   pub put : (h : ℕ) (d : Vec ℕ Global) → h < length old → (slice_index_or new h d).items ≡ (slice_index_or old h d).items ++ cond (nat_eq home h && not (nat_eq i h)) (i ∷ []) []
+
+-- ---- the points of rings move to shapes
+
+-- the ring at the place `k` is as it was
+abbrev pub Stays : List HeldRing → List HeldRing → ℕ → Type 0
+Stays old new k = ring_at (rings_held new) k ≡ ring_at (rings_held old) k
+
+-- the rings at all other places are as they were
+abbrev pub OthersStay : List HeldRing → List HeldRing → List ℕ → Type 0
+OthersStay old new places = (k : ℕ) → All (λ (i : ℕ). k ≢ i) places → Stays old new k
+
+-- the place `h` and those of a list all differ, and `h` is the home of each in the list
+pub record AreApart (homes : List ℕ) (h : ℕ) (places : List ℕ) : Type 0 where
+  pub differ : AllPairs (λ (i j : ℕ). i ≢ j) (h ∷ places)
+  pub homes_are : All (λ (i : ℕ). slice_index_or homes i 0 ≡ h) places
+
+-- for each ring there are places apart from one another, whose home it is
+abbrev pub HaveApart : List ℕ → List (Vec ℕ Global) → Type 0
+HaveApart homes members = (h : ℕ) (d : Vec ℕ Global) → h < length members → AreApart homes h (slice_index_or members h d).items
+
+-- the contours of the ring at `h` and of those at other places, where that ring is its own home
+abbrev pub homed : Bool → List Ring → List ℕ → ℕ → List ℕ → List (List (List Point))
+homed clockwise rs homes h places = cond (nat_eq (slice_index_or homes h 0) h) (contours_at rs clockwise h places ∷ []) []

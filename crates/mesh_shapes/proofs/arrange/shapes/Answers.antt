@@ -10,5 +10,5 @@ returns c = record {
   sorted = rings_held c.in_order-ordered.result.items;
   same = IsPermutation-map ring_held c.args.rings.items c.in_order-ordered.result.items c.in_order-ordered.ensures.same;
   ordered = c.in_order-ordered.ensures.ordered;
-  shapes = c.in_ok-shapes.ensures ∙ ap (λ (l : List HeldRing). map (map (answered c.args.clockwise)) (rings_by_shape (enumerate_from 0 (rings_held l)))) c.deref.ensures.value;
+  shapes = c.in_ok-shapes.ensures ∙ ap (λ (l : List HeldRing). map (map (answered c.args.clockwise)) (rings_by_shape (enumerate_from 0 (rings_held l)))) c.deref_mut.ensures.value;
 }
