@@ -1,6 +1,6 @@
 //! Chains: what is drawn as one.
 
-ghost use Rattle.std.specs.Prelude.{◌≡◌, length, take, OnOk, IfSome};
+ghost use Rattle.std.specs.Prelude.{◌≡◌, ◌≤◌, length, take, vec_capacity, OnOk, IfSome};
 ghost use Rattle.mesh_join.specs.Appending.{Appends};
 ghost use Rattle.mesh_variable_stroke.specs.Midway.{IsGoodOpen, IsGoodSection, opened, gone_on};
 ghost use Rattle.mesh_variable_stroke.specs.Midway.{attaching_edges, finish_edges, step_edges};
@@ -65,6 +65,7 @@ impl<I: IntNumber> Chain<I> {
             (step_edges I.unit sweeper.old self.old section)) }
         ensures chain { OnOk result (self.new ≡ gone_on self.old section) }
         ensures kept { take (length segments.old.items) segments.new.items ≡ segments.old.items }
+        ensures capacity { vec_capacity segments.old ≤ vec_capacity segments.new }
         ensures same { sweeper.new ≡ sweeper.old }
     {
         self.has_step = true;
@@ -90,6 +91,7 @@ impl<I: IntNumber> Chain<I> {
         ensures ok { OnOk result (Appends segments.old segments.new
             (attaching_edges I.unit sweeper.old self.now.start_end self.now.last section.now)) }
         ensures kept { take (length segments.old.items) segments.new.items ≡ segments.old.items }
+        ensures capacity { vec_capacity segments.old ≤ vec_capacity segments.new }
         ensures same { sweeper.new ≡ sweeper.old }
     {
         match &self.last {
@@ -110,6 +112,7 @@ impl<I: IntNumber> Chain<I> {
         ensures ok { OnOk result (Appends segments.old segments.new
             (finish_edges I.unit sweeper.old self.now end)) }
         ensures kept { take (length segments.old.items) segments.new.items ≡ segments.old.items }
+        ensures capacity { vec_capacity segments.old ≤ vec_capacity segments.new }
         ensures same { sweeper.new ≡ sweeper.old }
     {
         if let Some(last) = &self.last {

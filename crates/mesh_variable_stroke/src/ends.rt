@@ -1,6 +1,6 @@
 //! Both ends of a chain that has sections.
 
-ghost use Rattle.std.specs.Prelude.{◌≡◌, length, take, OnOk};
+ghost use Rattle.std.specs.Prelude.{◌≡◌, ◌≤◌, length, take, vec_capacity, OnOk};
 ghost use Rattle.mesh_join.specs.Appending.{Appends};
 ghost use Rattle.mesh_variable_stroke.specs.Midway.{IsGoodSection};
 ghost use Rattle.mesh_variable_stroke.specs.VariableStrokes.{start_edges, end_edges, sweep_at as sweep_at_circle};
@@ -26,6 +26,7 @@ pub(crate) fn add_start<I: IntNumber>(
     requires { IsGoodSection I.unit first.now }
     ensures ok { OnOk result (Appends segments.old segments.new (start_edges I.unit sweeper.old end first.now)) }
     ensures kept { take (length segments.old.items) segments.new.items ≡ segments.old.items }
+    ensures capacity { vec_capacity segments.old ≤ vec_capacity segments.new }
     ensures same { sweeper.new ≡ sweeper.old }
 {
     match end {
@@ -50,6 +51,7 @@ pub(crate) fn add_end<I: IntNumber>(
     requires { IsGoodSection I.unit last.now }
     ensures ok { OnOk result (Appends segments.old segments.new (end_edges I.unit sweeper.old end last.now)) }
     ensures kept { take (length segments.old.items) segments.new.items ≡ segments.old.items }
+    ensures capacity { vec_capacity segments.old ≤ vec_capacity segments.new }
     ensures same { sweeper.new ≡ sweeper.old }
 {
     match end {

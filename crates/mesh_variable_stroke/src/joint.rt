@@ -1,6 +1,6 @@
 //! Joints of two neighbouring sections of a chain.
 
-ghost use Rattle.std.specs.Prelude.{◌≡◌, length, take, OnOk, false, pos, int_lt};
+ghost use Rattle.std.specs.Prelude.{◌≡◌, ◌≤◌, length, take, vec_capacity, OnOk, false, pos, int_lt};
 ghost use Rattle.mesh_plane.specs.Bounds.{IsSafe};
 ghost use Rattle.mesh_plane.specs.Plane.{minus, cross};
 ghost use Rattle.mesh_join.specs.Appending.{Appends};
@@ -32,6 +32,7 @@ pub(crate) fn add_joint<I: IntNumber>(
     ensures ok { OnOk result (Appends segments.old segments.new
         (joint_edges I.unit sweeper.old (previous.now, next.now))) }
     ensures kept { take (length segments.old.items) segments.new.items ≡ segments.old.items }
+    ensures capacity { vec_capacity segments.old ≤ vec_capacity segments.new }
     ensures same { sweeper.new ≡ sweeper.old }
 {
     if is_apart(previous, next) {
@@ -61,6 +62,7 @@ fn add_left<I: IntNumber>(
     ensures ok { OnOk result (Appends segments.old segments.new
         (left_edges I.unit sweeper.old (previous.now, next.now))) }
     ensures kept { take (length segments.old.items) segments.new.items ≡ segments.old.items }
+    ensures capacity { vec_capacity segments.old ≤ vec_capacity segments.new }
     ensures same { sweeper.new ≡ sweeper.old }
 {
     if has_left_arc(previous, next) {
@@ -87,6 +89,7 @@ fn add_right<I: IntNumber>(
     ensures ok { OnOk result (Appends segments.old segments.new
         (right_edges I.unit sweeper.old (previous.now, next.now))) }
     ensures kept { take (length segments.old.items) segments.new.items ≡ segments.old.items }
+    ensures capacity { vec_capacity segments.old ≤ vec_capacity segments.new }
     ensures same { sweeper.new ≡ sweeper.old }
 {
     if has_right_arc(previous, next) {

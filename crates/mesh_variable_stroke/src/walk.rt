@@ -1,6 +1,6 @@
 //! Walks along a path, from circle to circle.
 
-ghost use Rattle.std.specs.Prelude.{◌≡◌, ◌++◌, length, take, OnOk, IfOk, IfSome};
+ghost use Rattle.std.specs.Prelude.{◌≡◌, ◌≤◌, ◌++◌, length, take, vec_capacity, OnOk, IfOk, IfSome};
 ghost use Rattle.mesh_join.specs.Appending.{Appends};
 ghost use Rattle.mesh_tangent.specs.Sections.{IsSafeCircle};
 ghost use Rattle.mesh_variable_stroke.specs.Chains.{is_covered_by as is_covered_in, is_smaller as is_smaller_than};
@@ -65,6 +65,7 @@ impl<I: IntNumber> Walk<I> {
         ensures walk { OnOk result (self.new ≡ walked self.old (step_to I.unit self.old next)) }
         ensures good { OnOk result (IsGoodWalk I.unit self.new) }
         ensures kept { take (length segments.old.items) segments.new.items ≡ segments.old.items }
+        ensures capacity { vec_capacity segments.old ≤ vec_capacity segments.new }
         ensures same { sweeper.new ≡ sweeper.old }
     {
         let at = self.at;
@@ -95,6 +96,7 @@ impl<I: IntNumber> Walk<I> {
         ensures ok { OnOk result (Appends segments.old segments.new
             (finish_edges I.unit sweeper.old self.now.chain self.now.end)) }
         ensures kept { take (length segments.old.items) segments.new.items ≡ segments.old.items }
+        ensures capacity { vec_capacity segments.old ≤ vec_capacity segments.new }
         ensures same { sweeper.new ≡ sweeper.old }
     {
         self.chain.finish(self.end, sweeper, segments)
@@ -114,6 +116,7 @@ fn break_off<I: IntNumber>(
         (finish_edges I.unit sweeper.old chain.now (end_before at next))) }
     ensures chain { IfOk result (λ c. c ≡ opened next (end_after at next)) }
     ensures kept { take (length segments.old.items) segments.new.items ≡ segments.old.items }
+    ensures capacity { vec_capacity segments.old ≤ vec_capacity segments.new }
     ensures same { sweeper.new ≡ sweeper.old }
 {
     if is_less(at.radius, next.radius) {
@@ -141,6 +144,7 @@ fn start_again<I: IntNumber>(
         ++ step_edges I.unit sweeper.old (opened at Butt) section)) }
     ensures chain { IfOk result (λ c. c ≡ gone_on (opened at Butt) section) }
     ensures kept { take (length segments.old.items) segments.new.items ≡ segments.old.items }
+    ensures capacity { vec_capacity segments.old ≤ vec_capacity segments.new }
     ensures same { sweeper.new ≡ sweeper.old }
 {
     chain.finish(ChainEnd::Round, sweeper, segments)?;

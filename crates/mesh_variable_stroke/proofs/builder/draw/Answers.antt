@@ -12,17 +12,20 @@ returns-in_default-clause-ok g c =
     (nil_from_length c.args.path.now c.in_default.ensures.cases)
 
 pub loop-vertex-init : goal.loop-vertex-init
-loop-vertex-init g c =
-    walk_starts g.I.IntNumber.unit c.args.sweeper.now c.args.path.now c.args.segments.now.items c.in-Some.first.now
-    c.in-Some.rest.now c.circle_of.result c.new-walk.result c.in-Some.ensures.cases.0 c.circle_of.ensures
-    c.new-walk.ensures c.requires
+loop-vertex-init g c = record {
+  walked =
+      walk_starts g.I.IntNumber.unit c.args.sweeper.now c.args.path.now c.args.segments.now.items c.in-Some.first.now
+      c.in-Some.rest.now c.circle_of.result c.new-walk.result c.in-Some.ensures.cases.0 c.circle_of.ensures
+      c.new-walk.ensures c.requires;
+  capacity = omega arith;
+}
 
 -- the vertices to come begin with the next one
 left_is : (rest : List Vertex) (i : ℕ) (v : Vertex) → i < length rest → v ≡ slice_index_or rest i v → drop i rest ≡ v ∷ drop (i + 1) rest
 left_is rest i v l h = drop_more rest i v l ∙ ap (λ (x : Vertex). x ∷ drop (i + 1) rest) (sym h)
 
 pub step-requires-clause-walk : goal.step-requires-clause-walk
-step-requires-clause-walk g c = c.loop-vertex.invariant.good
+step-requires-clause-walk g c = c.loop-vertex.invariant.walked.good
 
 pub step-requires-clause-next : goal.step-requires-clause-next
 step-requires-clause-next g c =
@@ -30,41 +33,44 @@ step-requires-clause-next g c =
     c.loop-vertex.segments.items c.loop-vertex.sweeper c.loop-vertex.walk c.vertex-item.result
     (drop (c.loop-vertex.vertex-index + 1) c.in-Some.rest.now) c.circle_of-in-loop-vertex.result
     c.circle_of-in-loop-vertex.ensures
-    (rw (left_is c.in-Some.rest.now c.loop-vertex.vertex-index c.vertex-item.result c.loop-vertex-test.true c.vertex-item.is) at c.loop-vertex.invariant)
+    (rw (left_is c.in-Some.rest.now c.loop-vertex.vertex-index c.vertex-item.result c.loop-vertex-test.true c.vertex-item.is) at c.loop-vertex.invariant.walked)
 
 pub returns-in_err-step-clause-kept : goal.returns-in_err-step-clause-kept
 returns-in_err-step-clause-kept g c =
     kept_through g.I.IntNumber.unit c.args.sweeper.now c.args.path.now c.args.segments.now.items
     c.loop-vertex.segments.items c.loop-vertex.sweeper c.loop-vertex.walk
-    (drop c.loop-vertex.vertex-index c.in-Some.rest.now) c.step.new.segments.items c.loop-vertex.invariant c.step.ensures.kept
+    (drop c.loop-vertex.vertex-index c.in-Some.rest.now) c.step.new.segments.items c.loop-vertex.invariant.walked c.step.ensures.kept
 
 pub returns-in_err-step-clause-same : goal.returns-in_err-step-clause-same
-returns-in_err-step-clause-same g c = c.step.ensures.same ∙ c.loop-vertex.invariant.same
+returns-in_err-step-clause-same g c = c.step.ensures.same ∙ c.loop-vertex.invariant.walked.same
 
 pub loop-vertex-preserved : goal.loop-vertex-preserved
-loop-vertex-preserved g c =
-    walk_steps g.I.IntNumber.unit c.args.sweeper.now c.args.path.now c.args.segments.now.items
-    c.loop-vertex.segments.items c.loop-vertex.sweeper c.loop-vertex.walk c.vertex-item.result
-    (drop (c.loop-vertex.vertex-index + 1) c.in-Some.rest.now) c.circle_of-in-loop-vertex.result
-    c.step.new.segments.items c.step.new.sweeper c.step.new.self c.circle_of-in-loop-vertex.ensures
-    (rw (left_is c.in-Some.rest.now c.loop-vertex.vertex-index c.vertex-item.result c.loop-vertex-test.true c.vertex-item.is) at c.loop-vertex.invariant)
-    c.in_ok-step.ensures.ok c.in_ok-step.ensures.walk c.in_ok-step.ensures.good c.in_ok-step.ensures.kept c.in_ok-step.ensures.same
+loop-vertex-preserved g c = record {
+  walked =
+      walk_steps g.I.IntNumber.unit c.args.sweeper.now c.args.path.now c.args.segments.now.items
+      c.loop-vertex.segments.items c.loop-vertex.sweeper c.loop-vertex.walk c.vertex-item.result
+      (drop (c.loop-vertex.vertex-index + 1) c.in-Some.rest.now) c.circle_of-in-loop-vertex.result
+      c.step.new.segments.items c.step.new.sweeper c.step.new.self c.circle_of-in-loop-vertex.ensures
+      (rw (left_is c.in-Some.rest.now c.loop-vertex.vertex-index c.vertex-item.result c.loop-vertex-test.true c.vertex-item.is) at c.loop-vertex.invariant.walked)
+      c.in_ok-step.ensures.ok c.in_ok-step.ensures.walk c.in_ok-step.ensures.good c.in_ok-step.ensures.kept c.in_ok-step.ensures.same;
+  capacity = omega (arith, c.loop-vertex.invariant.capacity, c.in_ok-step.ensures.capacity);
+}
 
 pub finish-requires : goal.finish-requires
-finish-requires g c = c.loop-vertex.invariant.good
+finish-requires g c = c.loop-vertex.invariant.walked.good
 
 pub returns-clause-ok : goal.returns-clause-ok
 returns-clause-ok g c =
     on_ok_then c.finish.result c.finish.ensures.ok
     (λ h. walk_ends g.I.IntNumber.unit c.args.sweeper.now c.args.path.now c.args.segments.now.items
     c.loop-vertex.segments.items c.loop-vertex.sweeper c.loop-vertex.walk c.finish.new.segments.items
-    (rw (drop_all c.loop-vertex.vertex-index c.in-Some.rest.now (omega (arith, c.loop-vertex-test.false))) at c.loop-vertex.invariant) h)
+    (rw (drop_all c.loop-vertex.vertex-index c.in-Some.rest.now (omega (arith, c.loop-vertex-test.false))) at c.loop-vertex.invariant.walked) h)
 
 pub returns-clause-kept : goal.returns-clause-kept
 returns-clause-kept g c =
     kept_through g.I.IntNumber.unit c.args.sweeper.now c.args.path.now c.args.segments.now.items
     c.loop-vertex.segments.items c.loop-vertex.sweeper c.loop-vertex.walk
-    (drop c.loop-vertex.vertex-index c.in-Some.rest.now) c.finish.new.segments.items c.loop-vertex.invariant c.finish.ensures.kept
+    (drop c.loop-vertex.vertex-index c.in-Some.rest.now) c.finish.new.segments.items c.loop-vertex.invariant.walked c.finish.ensures.kept
 
 pub returns-clause-same : goal.returns-clause-same
-returns-clause-same g c = c.finish.ensures.same ∙ c.loop-vertex.invariant.same
+returns-clause-same g c = c.finish.ensures.same ∙ c.loop-vertex.invariant.walked.same
