@@ -4,4 +4,5 @@ pub mod Promised
 pub mod Safe
 pub mod Stepping
 pub mod Sums
+pub mod Thin
 pub mod Walking

@@ -1,5 +1,5 @@
 -- Lemmas over points: sections and circles of a path in the safe range.
-use Rattle.std.proofs.Common.{◌≡◌, ℕ, List, [], ◌∷◌, ◌*◌, ◌∙◌, arith}
+use Rattle.std.proofs.Common.{◌≡◌, ℕ, List, [], ◌∷◌, ◌∙◌, arith}
 use Rattle.std.specs.Prelude.{ℤ, pos, negsuc, ◌≤ℤ◌, false, not}
 use Rattle.std.specs.Int.{int_max}
 use Rattle.std.specs.List.{All}
@@ -7,7 +7,7 @@ use Rattle.std.proofs.lemmas.Bool.{not-false}
 use Rattle.std.proofs.lemmas.Int.{ints, clamps}
 use Rattle.std.proofs.lemmas.List.Elements.{All-nil, All-cons, All-head, All-tail}
 use Rattle.mesh_plane.specs.Bounds.{IsSafe}
-use Rattle.mesh_plane.specs.Plane.{Point, minus}
+use Rattle.mesh_plane.specs.Plane.{Point}
 use Rattle.mesh_plane.specs.Winding.{same_point}
 use Rattle.mesh_plane.proofs.Comparing.{decides_point}
 use Rattle.mesh_grid.specs.Rectangle.{IsSafeWidened}

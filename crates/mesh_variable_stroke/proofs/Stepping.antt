@@ -1,9 +1,7 @@
 -- Lemmas over paths: each kind of step of a walk, and that a walk stays good.
-use Rattle.std.proofs.Common.{◌≡◌, ℕ, List, ◌++◌, sym, subst, ◌∙◌, ap, append_assoc}
+use Rattle.std.proofs.Common.{◌≡◌, ℕ, List, ◌++◌, sym, subst, ◌∙◌, ap}
 use Rattle.std.specs.Prelude.{Bool, true, false, cond, Option, Some, None, IfSome}
-use Rattle.mesh_plane.specs.Plane.{Edge}
 use Rattle.mesh_num.specs.Segments.{SignedEdge, segments_of}
-use Rattle.mesh_num.proofs.SegmentLists.{segments_of-append}
 use Rattle.mesh_arc.specs.declared.arc.ArcOptions.{ArcOptions}
 use Rattle.mesh_tangent.specs.Sections.{Circle, Section, section_of, with_contacts, has_no_section, IsSafeCircle, HasContacts, IsSafeSection}
 use Rattle.mesh_variable_stroke.specs.Midway.{Open, Walk, opened, gone_on, step_edges, finish_edges}

@@ -1,6 +1,6 @@
 -- What private contracts of the builder read: where its walk along a path stands, and what it adds.
-use Rattle.std.specs.Prelude.{ℕ, Bool, true, false, ◌||◌, if◌then◌else◌, List, [], ◌++◌, Option, Some, None}
-use Rattle.std.specs.Prelude.{IfSome}
+use Rattle.std.specs.Prelude.{ℕ, ◌≡◌, Bool, true, false, ◌||◌, if◌then◌else◌, List, [], ◌++◌, Option, Some, None}
+use Rattle.std.specs.Prelude.{IfSome, pos, ◌≤ℤ◌}
 use Rattle.mesh_plane.specs.Plane.{Edge}
 use Rattle.mesh_arc.specs.declared.arc.ArcOptions.{ArcOptions}
 use Rattle.mesh_sweep.specs.Sweeps.{circle_edges}
@@ -112,3 +112,15 @@ walked_edges unit options w s =
     else if is_cover s
     then finish_edges unit options w.chain Round ++ step_edges unit options (opened s.a Butt) s.section
     else step_edges unit options w.chain s.section
+
+-- ---- what is too thin to be drawn
+
+-- a chain so far that starts at a circle of a radius of at most 1, and has no section
+pub record IsThinOpen (c : Open) : Type 0 where
+  pub start : c.start.radius ≤ℤ pos 1
+  pub last : c.last ≡ None
+
+-- a walk with such a chain, at a circle of a radius of at most 1
+pub record IsThinWalk (w : Walk) : Type 0 where
+  pub chain : IsThinOpen w.chain
+  pub at : w.at.radius ≤ℤ pos 1

@@ -1,6 +1,6 @@
 //! The edges of one path's stroke of variable width.
 
-ghost use Rattle.std.specs.Prelude.{◌≡◌, ◌≤◌, [], vec_capacity, IsOk, OnOk, OnErr};
+ghost use Rattle.std.specs.Prelude.{◌≡◌, ◌≤◌, [], vec_capacity, IsOk, OnOk, OnErr, pos, ◌≤ℤ◌};
 ghost use Rattle.std.specs.List.{All};
 ghost use Rattle.std.specs.List.Sorted.{IsPermutation};
 ghost use Rattle.mesh_plane.specs.Winding.{IsBalanced};
@@ -48,8 +48,8 @@ impl<I: IntNumber> VariableStrokeBuilder<I> {
 
     /// Adds the edges of the stroke of the open path through these vertices, each of which stays in the safe range
     /// where it moves by the greatest radius of all. A vertex's radius is half of its width, rounded up. What the
-    /// vector holds stays. Nothing is added for a path without vertices, which takes no memory. After a refusal the
-    /// vector is cut back to its old length. It keeps its room in any case.
+    /// vector holds stays, and it keeps its room. Nothing is added where no radius is above 1, as for a path without
+    /// vertices, and no memory is taken there. After a refusal the vector is cut back to its old length.
     ///
     /// A step of the path where one circle holds the other, or the section before holds the next circle, starts a new
     /// chain. Each chain is drawn along the outer tangents of its neighbouring circles, and ends round or straight.
@@ -66,6 +66,8 @@ impl<I: IntNumber> VariableStrokeBuilder<I> {
         ensures form { OnOk result (All IsSubject (added segments.old.items segments.new.items)) }
         ensures refused { OnErr result (segments.new.items ≡ segments.old.items) }
         ensures no_vertex { path.now ≡ [] → IsOk result }
+        ensures thin { greatest_radius path.now ≤ℤ pos 1 → IsOk result }
+        ensures nothing { greatest_radius path.now ≤ℤ pos 1 → segments.new.items ≡ segments.old.items }
         ensures capacity { vec_capacity segments.old ≤ vec_capacity segments.new }
         ensures same { self.new ≡ self.old }
 
@@ -99,6 +101,7 @@ fn draw<I: IntNumber>(
         (variable_stroke_edges I.unit sweeper.old path.now)) }
     ensures kept { Keeps segments.old.items segments.new.items }
     ensures no_vertex { path.now ≡ [] → IsOk result }
+    ensures thin { greatest_radius path.now ≤ℤ pos 1 → IsOk result }
     ensures capacity { vec_capacity segments.old ≤ vec_capacity segments.new }
     ensures same { sweeper.new ≡ sweeper.old }
 {

@@ -1,8 +1,8 @@
 //! Chains: what is drawn as one.
 
-ghost use Rattle.std.specs.Prelude.{◌≡◌, ◌≤◌, length, take, vec_capacity, OnOk, IfSome};
+ghost use Rattle.std.specs.Prelude.{◌≡◌, ◌≤◌, length, take, vec_capacity, IsOk, OnOk, IfSome, None};
 ghost use Rattle.mesh_join.specs.Appending.{Appends};
-ghost use Rattle.mesh_variable_stroke.specs.Midway.{IsGoodOpen, IsGoodSection, opened, gone_on};
+ghost use Rattle.mesh_variable_stroke.specs.Midway.{IsGoodOpen, IsGoodSection, IsThinOpen, opened, gone_on};
 ghost use Rattle.mesh_variable_stroke.specs.Midway.{attaching_edges, finish_edges, step_edges};
 
 use crate::chain_end::{ChainEnd, are_butt};
@@ -64,6 +64,7 @@ impl<I: IntNumber> Chain<I> {
         ensures ok { OnOk result (Appends segments.old segments.new
             (step_edges I.unit sweeper.old self.old section)) }
         ensures chain { OnOk result (self.new ≡ gone_on self.old section) }
+        ensures nothing { section ≡ None → IsOk result }
         ensures kept { take (length segments.old.items) segments.new.items ≡ segments.old.items }
         ensures capacity { vec_capacity segments.old ≤ vec_capacity segments.new }
         ensures same { sweeper.new ≡ sweeper.old }
@@ -111,6 +112,7 @@ impl<I: IntNumber> Chain<I> {
         requires { IsGoodOpen I.unit self.now }
         ensures ok { OnOk result (Appends segments.old segments.new
             (finish_edges I.unit sweeper.old self.now end)) }
+        ensures thin { IsThinOpen self.now → IsOk result }
         ensures kept { take (length segments.old.items) segments.new.items ≡ segments.old.items }
         ensures capacity { vec_capacity segments.old ≤ vec_capacity segments.new }
         ensures same { sweeper.new ≡ sweeper.old }

@@ -1,12 +1,14 @@
 //! Walks along a path, from circle to circle.
 
-ghost use Rattle.std.specs.Prelude.{◌≡◌, ◌≤◌, ◌++◌, length, take, vec_capacity, OnOk, IfOk, IfSome};
+ghost use Rattle.std.specs.Prelude.{◌≡◌, ◌≤◌, ◌++◌, length, take, vec_capacity, IsOk, OnOk, IfOk, IfSome};
+ghost use Rattle.std.specs.Prelude.{None, pos, ◌≤ℤ◌};
 ghost use Rattle.mesh_join.specs.Appending.{Appends};
 ghost use Rattle.mesh_tangent.specs.Sections.{IsSafeCircle};
 ghost use Rattle.mesh_variable_stroke.specs.Chains.{is_covered_by as is_covered_in, is_smaller as is_smaller_than};
 ghost use Rattle.mesh_variable_stroke.specs.Chains.{end_before, end_after};
 ghost use Rattle.mesh_variable_stroke.specs.Midway.{IsGoodOpen, IsGoodSection, IsGoodWalk, opened, gone_on, step_edges};
 ghost use Rattle.mesh_variable_stroke.specs.Midway.{begun, step_to, walked, walked_edges, finish_edges};
+ghost use Rattle.mesh_variable_stroke.specs.Midway.{IsThinOpen, IsThinWalk};
 ghost use Rattle.mesh_variable_stroke.specs.declared.chain_end.ChainEnd.TheVariants.{Butt, Round};
 
 use crate::chain::Chain;
@@ -64,6 +66,7 @@ impl<I: IntNumber> Walk<I> {
             (walked_edges I.unit sweeper.old self.old (step_to I.unit self.old next))) }
         ensures walk { OnOk result (self.new ≡ walked self.old (step_to I.unit self.old next)) }
         ensures good { OnOk result (IsGoodWalk I.unit self.new) }
+        ensures thin { IsThinWalk self.old → next.radius ≤ℤ pos 1 → IsOk result }
         ensures kept { take (length segments.old.items) segments.new.items ≡ segments.old.items }
         ensures capacity { vec_capacity segments.old ≤ vec_capacity segments.new }
         ensures same { sweeper.new ≡ sweeper.old }
@@ -95,6 +98,7 @@ impl<I: IntNumber> Walk<I> {
         requires { IsGoodWalk I.unit self.now }
         ensures ok { OnOk result (Appends segments.old segments.new
             (finish_edges I.unit sweeper.old self.now.chain self.now.end)) }
+        ensures thin { IsThinWalk self.now → IsOk result }
         ensures kept { take (length segments.old.items) segments.new.items ≡ segments.old.items }
         ensures capacity { vec_capacity segments.old ≤ vec_capacity segments.new }
         ensures same { sweeper.new ≡ sweeper.old }
@@ -115,6 +119,7 @@ fn break_off<I: IntNumber>(
     ensures ok { OnOk result (Appends segments.old segments.new
         (finish_edges I.unit sweeper.old chain.now (end_before at next))) }
     ensures chain { IfOk result (λ c. c ≡ opened next (end_after at next)) }
+    ensures thin { IsThinOpen chain.now → IsOk result }
     ensures kept { take (length segments.old.items) segments.new.items ≡ segments.old.items }
     ensures capacity { vec_capacity segments.old ≤ vec_capacity segments.new }
     ensures same { sweeper.new ≡ sweeper.old }
@@ -143,6 +148,7 @@ fn start_again<I: IntNumber>(
         (finish_edges I.unit sweeper.old chain.now Round
         ++ step_edges I.unit sweeper.old (opened at Butt) section)) }
     ensures chain { IfOk result (λ c. c ≡ gone_on (opened at Butt) section) }
+    ensures thin { IsThinOpen chain.now → section ≡ None → IsOk result }
     ensures kept { take (length segments.old.items) segments.new.items ≡ segments.old.items }
     ensures capacity { vec_capacity segments.old ≤ vec_capacity segments.new }
     ensures same { sweeper.new ≡ sweeper.old }

@@ -4,9 +4,10 @@ use Rattle.std.specs.List.{All}
 use Rattle.mesh_num.specs.Segments.{SignedEdge, IsSubject}
 use Rattle.mesh_arc.specs.declared.arc.ArcOptions.{ArcOptions}
 use Rattle.mesh_draw.specs.Adding.{Adds}
-use Rattle.mesh_draw.proofs.Adding.{added_is}
+use Rattle.mesh_draw.proofs.Adding.{added_is, adds_edges}
 use Rattle.mesh_variable_stroke.specs.VariableStrokes.{variable_stroke_edges}
 use Rattle.mesh_variable_stroke.proofs.Promised.{adds_stroked}
+use Rattle.mesh_variable_stroke.proofs.Thin.{thin_adds}
 use Rattle.mesh_variable_stroke.proofs.builder.VariableStrokeBuilder.build.Given as given
 use Rattle.mesh_variable_stroke.proofs.builder.VariableStrokeBuilder.build.Goals as goal
 
@@ -16,10 +17,20 @@ adds g c =
     subst (λ (options : ArcOptions). Adds c.args.segments.now.items c.draw.new.segments.items (variable_stroke_edges g.I.IntNumber.unit options c.args.path.now))
     c.self.view_is c.in_default.ensures.ok
 
+pub returns-clause-edges : goal.returns-clause-edges
+returns-clause-edges g c =
+    adds_edges c.args.segments.now.items c.draw.new.segments.items
+    (variable_stroke_edges g.I.IntNumber.unit c.args.self.now c.args.path.now) (adds g c)
+
 pub returns-clause-form : goal.returns-clause-form
 returns-clause-form g c =
     let h = adds g c in
     subst (λ (l : List SignedEdge). All IsSubject l) (sym (added_is c.args.segments.now.items c.draw.new.segments.items h.0 h.1)) h.3
+
+pub returns-clause-nothing : goal.returns-clause-nothing
+returns-clause-nothing g c thin =
+    thin_adds g.I.IntNumber.unit c.args.self.now c.args.path.now c.args.segments.now.items c.draw.new.segments.items
+    thin (adds g c)
 
 pub returns-clause-balanced : goal.returns-clause-balanced
 returns-clause-balanced g c =

@@ -1,5 +1,7 @@
 -- The walk stays good.
+use Rattle.std.proofs.Common.{◌≡◌, true, false}
 use Rattle.mesh_variable_stroke.proofs.Stepping.{section_seen, broken_good, covered_good, plain_good}
+use Rattle.mesh_variable_stroke.proofs.Thin.{thin_chain_seen, none_seen}
 use Rattle.mesh_draw.proofs.Adding.{on_ok_then}
 use Rattle.mesh_variable_stroke.proofs.walk.Walk.step.Goals as goal
 
@@ -33,3 +35,16 @@ returns-clause-good g c =
     h c.requires.next
     (section_seen g.I.IntNumber.unit c.args.self.now _ c.args.next c.new-section.result c.self.view_is c.requires.walk
     c.requires.next c.new-section.ensures.value c.new-section.ensures.contacts c.new-section.ensures.safe))
+
+pub returns-in_err-self-inside-2-clause-thin : goal.returns-in_err-self-inside-2-clause-thin
+returns-in_err-self-inside-2-clause-thin g c thin small =
+    let ok : false ≡ true = c.in_err-self-inside-2.ensures.thin (thin_chain_seen c.args.self.now _ c.self.view_is thin)
+    (none_seen g.I.IntNumber.unit c.args.self.now _ c.args.next c.new-section.result c.self.view_is
+    c.new-section.ensures.value thin small) in
+    absurd (cc)
+
+pub returns-clause-thin : goal.returns-clause-thin
+returns-clause-thin g c thin small =
+    c.go_on.ensures.nothing
+    (none_seen g.I.IntNumber.unit c.args.self.now _ c.args.next c.new-section.result c.self.view_is
+    c.new-section.ensures.value thin small)
