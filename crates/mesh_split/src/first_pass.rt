@@ -155,6 +155,7 @@ fn by_hints(
     order: Order,
     is_eager: bool,
     factor: usize,
+    splits: &mut usize,
 ) -> Result<Option<Splitter>, AllocError>
     requires { IsProper edges.now }
     ensures pile { IfOk result (λ o. IfSome o (λ s. IsPile edges.now s.todo s.live)) }
@@ -171,27 +172,33 @@ fn by_hints(
         hints.note_cut(first, m.1)?;
         hints.note_cut(m.0, m.1)?;
         splitter.split_live(first, m)?;
+        *splits = splits.saturating_add(1);
         make_live(&mut splitter, &mut hints, is_eager)?;
     }
     Ok(None)
 }
 
 /// Splits the edges as the second pass does, unless that takes more splits than these.
-fn in_hand(alloc: Global, edges: &[GridEdge], most: usize) -> Result<Option<Splitter>, AllocError>
+fn in_hand(
+    alloc: Global,
+    edges: &[GridEdge],
+    most: usize,
+    splits: &mut usize,
+) -> Result<Option<Splitter>, AllocError>
     requires { IsProper edges.now }
     ensures pile { IfOk result (λ o. IfSome o (λ s. IsPile edges.now s.todo s.live)) }
     ensures clear { IfOk result (λ o. IfSome o (λ s. AllClear s.live)) }
 {
     let mut splitter = Splitter::of_edges(alloc, edges)?;
-    let mut splits: usize = 0;
+    let last = splits.saturating_add(most);
     for _step in 0..usize::MAX {
         let Some(s) = splitter.todo.pop() else {
             return Ok(Some(splitter));
         };
         if splitter.settle(s)? {
-            splits = splits.saturating_add(1);
+            *splits = splits.saturating_add(1);
         }
-        if splits > most {
+        if *splits > last {
             return Ok(None);
         }
     }
@@ -204,35 +211,42 @@ fn attempt(
     edges: &[GridEdge],
     kind: Kind,
     factor: usize,
+    splits: &mut usize,
 ) -> Result<Option<Splitter>, AllocError>
     requires { IsProper edges.now }
     ensures pile { IfOk result (λ o. IfSome o (λ s. IsPile edges.now s.todo s.live)) }
     ensures clear { IfOk result (λ o. IfSome o (λ s. AllClear s.live)) }
 {
     match kind {
-        Kind::Sweeping(order) => by_hints(alloc, edges, order, false, factor),
-        Kind::Eager(order) => by_hints(alloc, edges, order, true, factor),
+        Kind::Sweeping(order) => by_hints(alloc, edges, order, false, factor, splits),
+        Kind::Eager(order) => by_hints(alloc, edges, order, true, factor, splits),
         Kind::InHand => in_hand(
             alloc,
             edges,
             usual(edges.len(), factor.saturating_mul(GROWTH)),
+            splits,
         ),
     }
 }
 
 /// The segments that wait for the second pass: those that an attempt left, or the edges, where none came to its end.
-pub fn first_pass(alloc: Global, edges: &[GridEdge]) -> Result<Splitter, AllocError>
+/// The splits of all attempts are counted on.
+pub fn first_pass(
+    alloc: Global,
+    edges: &[GridEdge],
+    splits: &mut usize,
+) -> Result<Splitter, AllocError>
     requires { IsProper edges.now }
     ensures pile { IfOk result (λ s. IsPile edges.now s.todo s.live) }
     ensures clear { IfOk result (λ s. AllClear s.live) }
 {
-    if let Some(splitter) = in_hand(alloc, edges, first_budget(edges.len()))? {
+    if let Some(splitter) = in_hand(alloc, edges, first_budget(edges.len()), splits)? {
         return Ok(splitter);
     }
     let mut factor: usize = 1;
     for _round in 0..ROUNDS {
         for kind in KINDS {
-            if let Some(splitter) = attempt(alloc, edges, kind, factor)? {
+            if let Some(splitter) = attempt(alloc, edges, kind, factor, splits)? {
                 return Ok(splitter);
             }
         }

@@ -20,9 +20,26 @@ pub fn split_edges(alloc: Global, edges: &[GridEdge]) -> Result<Vec<CountedSegme
     ensures splitting { IfOk result (λ v. IsSplitting edges.now v.items) }
     ensures room { IfOk result (λ v. IsRoomy (sum_of size v.items)) }
 {
-    let mut splitter = first_pass(alloc, edges)?;
+    let mut splits = 0;
+    split_edges_counted(alloc, edges, &mut splits)
+}
+
+/// The same, and counts on how often two segments were split, in attempts that were given up too. The count tells what
+/// the order of splits costs. Nothing is promised of it.
+pub fn split_edges_counted(
+    alloc: Global,
+    edges: &[GridEdge],
+    splits: &mut usize,
+) -> Result<Vec<CountedSegment>, AllocError>
+    requires { IsProper edges.now }
+    ensures splitting { IfOk result (λ v. IsSplitting edges.now v.items) }
+    ensures room { IfOk result (λ v. IsRoomy (sum_of size v.items)) }
+{
+    let mut splitter = first_pass(alloc, edges, splits)?;
     while let Some(s) = splitter.todo.pop() {
-        splitter.settle(s)?;
+        if splitter.settle(s)? {
+            *splits = splits.saturating_add(1);
+        }
     }
     let segments = splitter.live.into_segments(alloc)?;
     Ok(segments)

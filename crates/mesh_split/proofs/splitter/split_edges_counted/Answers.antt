@@ -6,7 +6,7 @@ use Rattle.mesh_split.proofs.Paths.{splitting_of}
 use Rattle.mesh_split.proofs.Piles.{pile_settled}
 use Rattle.mesh_split.proofs.Starting.{settled_less, popped_room, popped_absent, end_reached}
 use Rattle.mesh_split.proofs.Room.{live_room}
-use Rattle.mesh_split.proofs.splitter.split_edges.Goals as goal
+use Rattle.mesh_split.proofs.splitter.split_edges_counted.Goals as goal
 
 pub settle-requires-clause-room : goal.settle-requires-clause-room
 settle-requires-clause-room c =
@@ -39,3 +39,16 @@ pub returns-clause-room : goal.returns-clause-room
 returns-clause-room c =
     let s = c.loop-s.splitter in
     subst (λ (l : List Counted). IsRoomy (sum_of size l)) (sym c.in_ok-segments.ensures) (live_room s.todo s.live c.loop-s.invariant.pile.light)
+
+pub loop-s-smaller-then-branch : goal.loop-s-smaller-then-branch
+loop-s-smaller-then-branch c =
+    settled_less c.loop-s.splitter.todo c.pop.new.self c.loop-s.splitter.live c.settle.new.self.todo c.settle.new.self.live c.in-Some.s c.in-Some.ensures.taken c.in_ok-settle.ensures
+
+pub loop-s-preserved-then-branch : goal.loop-s-preserved-then-branch
+loop-s-preserved-then-branch c =
+    let s = c.loop-s.splitter in
+    let t = c.settle.new.self in
+    record {
+      pile = pile_settled c.args.edges.now s.todo c.pop.new.self s.live t.todo t.live c.in-Some.s c.in-Some.ensures.taken c.in_ok-settle.ensures c.loop-s.invariant.pile;
+      clear = c.in_ok-settle.ensures.clear c.loop-s.invariant.clear;
+    }

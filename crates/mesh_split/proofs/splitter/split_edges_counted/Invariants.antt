@@ -1,6 +1,6 @@
 use Rattle.std.specs.Prelude.{unsigned_abs}
 use Rattle.mesh_split.specs.Midway.Steps.{IsPile, AllClear, work}
-use Rattle.mesh_split.proofs.splitter.split_edges.Given as goal
+use Rattle.mesh_split.proofs.splitter.split_edges_counted.Given as goal
 
 abbrev pub invariant-loop-s : goal.invariant-loop-s
 invariant-loop-s l = record {
