@@ -3,10 +3,11 @@
 ghost use Rattle.std.specs.Prelude.{◌<◌};
 
 use crate::random_splits::push_closed;
-use crate::splits::split_sorted;
+use mesh_below::given::are_proper;
 use mesh_below::grid::{CountedSegment, GridEdge};
+use mesh_below::splitter::split_edges_counted;
 use mesh_toolbox::compared::{expect_equal, expect_that};
-use std::alloc::{AllocError, Global};
+use std::alloc::Global;
 use std::test::Fail;
 
 /// The corners of a contour.
@@ -67,6 +68,16 @@ const LONG: &[Corners] = &[
     ],
 ];
 
+/// A contour that took some 600,000 splits in every order that was tried.
+const LONGEST: [(i32, i32); 6] = [
+    (-514339, 278681),
+    (648638, 493878),
+    (-514338, 278681),
+    (-69009, 498496),
+    (1966, 211288),
+    (-69010, 498496),
+];
+
 /// How far the segments lead in all, in `x` and in `y`: nowhere where they are balanced.
 fn way(segments: &[CountedSegment]) -> (i128, i128) {
     let mut sum = (0i128, 0i128);
@@ -80,30 +91,42 @@ fn way(segments: &[CountedSegment]) -> (i128, i128) {
     sum
 }
 
-/// The segments that a contour is split into.
-fn split_contour(alloc: Global, corners: &[(i32, i32)]) -> Result<Vec<CountedSegment>, Fail> {
+/// How often segments of a contour were split, in attempts that were given up too, until none met another.
+fn splits_of(alloc: Global, corners: &[(i32, i32)]) -> Result<usize, Fail> {
     let mut edges: Vec<GridEdge> = Vec::new(alloc);
     push_closed(&mut edges, corners)?;
-    let segments = split_sorted(alloc, &edges)?;
+    if !are_proper(&edges) {
+        return Err(Fail::new(format_args!("{corners:?}")));
+    }
+    let mut splits = 0;
+    let segments = split_edges_counted(alloc, &edges, &mut splits)?;
     expect_that(edges.len() <= segments.len(), &corners)?;
     expect_equal(&way(&segments), &(0, 0), &corners)?;
-    Ok(segments)
+    Ok(splits)
 }
 
+/// A split cuts two segments at most, so these are no more than 2,000 cuts in all.
 #[test]
 fn unlucky_orders_are_left(rt: HostRuntime) -> Result<(), Fail> {
+    let mut splits: usize = 0;
     for corners in UNLUCKY {
-        let count = split_contour(rt.alloc(), corners)?.len();
-        expect_that(count <= 2000, &(corners, count))?;
+        splits = splits.saturating_add(splits_of(rt.alloc(), corners)?);
     }
-    Ok(())
+    expect_that(splits <= 1000, &splits)
 }
 
 #[test]
 fn long_runs_end(rt: HostRuntime) -> Result<(), Fail> {
     for corners in LONG {
-        split_contour(rt.alloc(), corners)?;
+        splits_of(rt.alloc(), corners)?;
     }
+    Ok(())
+}
+
+/// Hundreds of thousands of splits along one line, in every order that was tried.
+#[test]
+fn longest_run_ends(rt: HostRuntime) -> Result<(), Fail> {
+    splits_of(rt.alloc(), &LONGEST)?;
     Ok(())
 }
 
@@ -118,7 +141,7 @@ fn many_splits_along_one_line_end(rt: HostRuntime) -> Result<(), Fail> {
             (n.wrapping_add(1), far),
             (1, -2),
         ];
-        split_contour(rt.alloc(), &corners)?;
+        splits_of(rt.alloc(), &corners)?;
     }
     Ok(())
 }

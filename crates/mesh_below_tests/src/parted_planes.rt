@@ -8,7 +8,7 @@ use mesh_toolbox::random::{Random, scattered};
 use std::alloc::{AllocError, Global};
 use std::test::Fail;
 
-/// The plane is parted where more than 16 edges lie. These are many more.
+/// The plane is parted where more than 48 edges lie. These are more.
 const COUNT: u32 = 90;
 
 /// Edges of one closed list in a square of this size. In a small one, many of their ends are equal.
@@ -94,7 +94,7 @@ fn spikes_all_round(rt: HostRuntime) -> Result<(), Fail> {
     let mut random = Random::new(35);
     for _ in 0..4 {
         let mut spots = Vec::new(rt.alloc());
-        for _ in 0..12 {
+        for _ in 0..30 {
             let (x, y) = random.point(3);
             spots.push((x.wrapping_add(6), y.wrapping_add(6)))?;
             let (x, y) = random.point(60);
