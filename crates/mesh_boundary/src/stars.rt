@@ -35,7 +35,7 @@ fn code(p: GridPoint) -> Mark
 fn codes(alloc: Global, segments: &[CountedSegment]) -> Result<Vec<Mark>, AllocError>
     ensures { IfOk result (λ v. AreRising v.items) }
 {
-    let mut codes = Vec::new(alloc);
+    let mut codes = Vec::with_capacity(alloc, segments.len().saturating_mul(2))?;
     for s in segments {
         codes.push(code(s.0.0).at)?;
         codes.push(code(s.0.1).at)?;
