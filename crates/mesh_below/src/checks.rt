@@ -71,7 +71,7 @@ fn are_safe(unit: u32, edges: &[GridEdge]) -> bool
 fn turned(alloc: Global, edges: &[GridEdge]) -> Result<Vec<GridEdge>, AllocError>
     ensures { IfOk result (λ v. v.items ≡ map back edges.now) }
 {
-    let mut turned = Vec::new(alloc);
+    let mut turned = Vec::with_capacity(alloc, edges.len())?;
     for e in edges {
         turned.push((e.1, e.0))?;
     }

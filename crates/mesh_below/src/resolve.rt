@@ -62,7 +62,7 @@ fn rings_of(
     requires proper { All (λ (e : Edge). same_point e.0 e.1 ≡ false) (contour_edges contours.items) }
     ensures { IfOk result (λ v. AreRingsOf choices.all_vertices choices.least_area contours.items v.items) }
 {
-    let mut rings = Vec::new(alloc);
+    let mut rings = Vec::with_capacity(alloc, contours.len())?;
     for contour in contours {
         push_ring(alloc, &mut rings, contour, choices)?;
     }
