@@ -32,13 +32,22 @@ pub enum OverlayRule {
 }
 
 /// The sense in which contours that bound a shape from outside run; its holes run the other way.
-#[derive(Debug, Copy, Clone, PartialEq, Eq, Default)]
+#[derive(Debug, Copy, Clone, PartialEq, Eq)]
 pub enum ContourDirection {
     /// Outer contours counterclockwise, holes clockwise.
-    #[default]
     CounterClockwise,
     /// Outer contours clockwise, holes counterclockwise.
     Clockwise,
+}
+
+impl Default for ContourDirection {
+    ghost use Rattle.mesh_below.specs.declared.below.ContourDirection.TheVariants.{CounterClockwise};
+
+    ghost is_default = { λ direction. direction ≡ CounterClockwise };
+
+    fn default() -> Self {
+        ContourDirection::CounterClockwise
+    }
 }
 
 /// What an answer depends on besides edges and fill rule. The type of the area is the unsigned wide one of the
