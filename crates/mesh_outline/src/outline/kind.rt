@@ -49,7 +49,7 @@ pub fn contour_kinds<I: IntNumber, S: IntShapeResource<I>>(
         ↔ ¬ DoAreasFit I.Wide.half (S.paths source.now) }
 {
     let mut kinds = Vec::new(alloc);
-    let mut refused = false;
+    let mut refused = kinds.reserve_exact(source.path_count()).is_err();
     for index in 0..source.path_count() {
         let area = double_area(source.path_at(index));
         if !fits_wide::<I>(area) {

@@ -18,7 +18,7 @@ loop-index-preserved g c =
       kinds = λ some. elim c.if-refused.branch [
         | then-refused w ↦ absurd (false≢true (sym some ∙ w.refused-is ∙ w.if-refused.true))
         | else-refused w ↦
-            let ok = w.is_err-refused.ensures.negation ∙ ap not (sym w.refused-is ∙ some) in
+            let ok = w.is_err-refused-else-refused.ensures.negation ∙ ap not (sym w.refused-is ∙ some) in
             let items = rw ok at w.push.ensures.items in
             rw w.kinds-is (kinds_more paths c.loop-index.index _ _ w.of_area.result (omega arith) (c.loop-index.invariant.kinds w.if-refused.false) (w.of_area.ensures ∙ ap kind_for area) items)
       ];
