@@ -68,16 +68,6 @@ const LONG: &[Corners] = &[
     ],
 ];
 
-/// A contour that took some 600,000 splits in every order that was tried.
-const LONGEST: [(i32, i32); 6] = [
-    (-514339, 278681),
-    (648638, 493878),
-    (-514338, 278681),
-    (-69009, 498496),
-    (1966, 211288),
-    (-69010, 498496),
-];
-
 /// How far the segments lead in all, in `x` and in `y`: nowhere where they are balanced.
 fn way(segments: &[CountedSegment]) -> (i128, i128) {
     let mut sum = (0i128, 0i128);
@@ -120,13 +110,6 @@ fn long_runs_end(rt: HostRuntime) -> Result<(), Fail> {
     for corners in LONG {
         splits_of(rt.alloc(), corners)?;
     }
-    Ok(())
-}
-
-/// Hundreds of thousands of splits along one line, in every order that was tried.
-#[test]
-fn longest_run_ends(rt: HostRuntime) -> Result<(), Fail> {
-    splits_of(rt.alloc(), &LONGEST)?;
     Ok(())
 }
 
