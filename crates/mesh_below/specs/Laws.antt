@@ -14,14 +14,17 @@ use Rattle.mesh_regions.specs.Laws.{once}
 
 -- the contours of a resolution, with the vertices that are answered and before small ones are left out, wind once round
 -- each point where the split segments' winding is filled, and round no other; where no bent edge's box holds the point,
--- that is the winding of the given edges, as is that of the split segments; and where nothing is left out or reversed, the answer's contours wind as these
-pub record AreRegions (edges : List Edge) (fill : ℤ → Bool) (options : Choices) (answer : List (List (List Point))) : Type 0 where
+-- that is the winding of the given edges, as is that of the split segments; and where nothing is left out or reversed,
+-- the answer's contours wind as these
+pub record AreRegions (edges : List Edge) (fill : ℤ → Bool) (options : Choices) (answer : List (List (List Point)))
+    : Type 0 where
   pub resolution : IsResolution edges fill options answer
   pub split : (m : ℕ) → 0 < m → (q : Point) →
       winding m q (flat_map boundary (map (vertices options.all_vertices) resolution.contours))
       ≡ once fill (winding m q (after resolution.cuts edges))
   pub given : (m : ℕ) → 0 < m → (q : Point) → OutsideBent resolution.cuts edges m q →
-      winding m q (flat_map boundary (map (vertices options.all_vertices) resolution.contours)) ≡ once fill (winding m q edges)
+      winding m q (flat_map boundary (map (vertices options.all_vertices) resolution.contours))
+      ≡ once fill (winding m q edges)
   pub unbent : (m : ℕ) → 0 < m → (q : Point) → OutsideBent resolution.cuts edges m q →
       winding m q (after resolution.cuts edges) ≡ winding m q edges
   pub answered : options.least_area ≡ 0 → options.clockwise ≡ false → (m : ℕ) (q : Point) →
@@ -33,12 +36,14 @@ abbrev pub AnswersAreRegions : Type 0
 AnswersAreRegions =
     (edges : List Edge) (fill : ℤ → Bool) (options : Choices) (answer : List (List (List Point)))
     → IsProper edges → IsBalanced edges → fill (pos 0) ≡ false
-    → (r : IsResolution edges fill options answer) → (made : AreRegions edges fill options answer) × (made.resolution ≡ r)
+    → (r : IsResolution edges fill options answer)
+    → (made : AreRegions edges fill options answer) × (made.resolution ≡ r)
 
 -- where there is no edge, no shape is answered
 abbrev pub NothingHasNoShapes : Type 0
 NothingHasNoShapes =
-    (fill : ℤ → Bool) (options : Choices) (answer : List (List (List Point))) → IsResolution [] fill options answer → answer ≡ []
+    (fill : ℤ → Bool) (options : Choices) (answer : List (List (List Point)))
+    → IsResolution [] fill options answer → answer ≡ []
 
 -- split segments and answers of edges in the safe range are in the safe range
 abbrev pub AnswersAreSafe : Type 0

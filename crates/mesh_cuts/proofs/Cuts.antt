@@ -7,7 +7,7 @@ use Rattle.mesh_plane.specs.Plane.{Point, Edge}
 use Rattle.mesh_plane.specs.Winding.{same_point}
 use Rattle.mesh_plane.proofs.Whole.{add_mul}
 use Rattle.mesh_plane.proofs.Sums.{sum_of_append}
-use Rattle.mesh_cuts.specs.Split.{back, same_ends, occurs, cut_edge, cut}
+use Rattle.mesh_cuts.specs.Split.{back, same_ends, occurs, cut_edge, cut_edges}
 use Rattle.mesh_cuts.specs.Counted.{along, net}
 use Rattle.mesh_cuts.proofs.Ends.{decides_ends, ends_self, ends_turned, ends_sym, ends_along, along_turned, along_self, not_along}
 
@@ -59,10 +59,10 @@ net_cut_edge q s c e proper =
         (rw none (omega (arith, ints)))
 
 pub net_cut : (q s : Edge) (c : Point) (es : List Edge) → same_point s.0 s.1 ≡ false
-    → net q (cut (record { ends = s; at = c }) es) ≡ net q es +ℤ (net s es *ℤ change s c q)
+    → net q (cut_edges (record { ends = s; at = c }) es) ≡ net q es +ℤ (net s es *ℤ change s c q)
 net_cut q s c [] proper = omega (arith, ints)
 net_cut q s c (e ∷ es) proper =
-    sum_of_append (along q) (cut_edge (record { ends = s; at = c }) e) (cut (record { ends = s; at = c }) es)
+    sum_of_append (along q) (cut_edge (record { ends = s; at = c }) e) (cut_edges (record { ends = s; at = c }) es)
     ∙ omega (arith, ints, net_cut_edge q s c e proper, net_cut q s c es proper, add_mul (along s e) (net s es) (change s c q))
 
 or_unit : (a b : Bool) → (a || (b || false)) ≡ (a || b)
@@ -139,8 +139,8 @@ join_cut p q s m n x a b h k = (λ i. h i || k i) ∙ table p q (not s) m n x
     table p q false m n x = grind arith
 
 pub occurs_cut : (q s : Edge) (c : Point) (es : List Edge)
-    → occurs q (cut (record { ends = s; at = c }) es) ≡ ((occurs q es && not (same_ends q s)) || (occurs s es && (same_ends q (s.0, c) || same_ends q (c, s.1))))
+    → occurs q (cut_edges (record { ends = s; at = c }) es) ≡ ((occurs q es && not (same_ends q s)) || (occurs s es && (same_ends q (s.0, c) || same_ends q (c, s.1))))
 occurs_cut q s c [] = refl
 occurs_cut q s c (e ∷ es) =
-    occurs_append q (cut_edge (record { ends = s; at = c }) e) (cut (record { ends = s; at = c }) es)
+    occurs_append q (cut_edge (record { ends = s; at = c }) e) (cut_edges (record { ends = s; at = c }) es)
     ∙ join_cut (same_ends q e) (occurs q es) (same_ends q s) (same_ends s e) (occurs s es) (same_ends q (s.0, c) || same_ends q (c, s.1)) _ _ (occurs_cut_edge q s c e) (occurs_cut q s c es)

@@ -2,7 +2,7 @@
 use Rattle.std.proofs.Common.{arith, List, ◌≡◌, ⊎_elim, true, sym, ap, subst, [], ◌∷◌, ◌++◌, refl, ◌∙◌, append_assoc, Bool, false, cond}
 use Rattle.std.specs.Prelude.{ℤ, ◌≤ℤ◌, ◌<ℤ◌}
 use Rattle.std.proofs.lemmas.Int.{ints, by_lt_z}
-use Rattle.mesh_cuts.specs.Split.{IsBetween, IsInBox, back, Cut, same_ends, cut_edge, cut, after}
+use Rattle.mesh_cuts.specs.Split.{IsBetween, IsInBox, back, Cut, same_ends, cut_edge, cut_edges, after}
 use Rattle.mesh_plane.specs.Plane.{Edge, Point}
 use Rattle.mesh_cuts.proofs.Each.{Each}
 use Rattle.mesh_cuts.proofs.Ends.{decides_ends}
@@ -44,20 +44,20 @@ cut_box k f h t =
     (λ (x : f ≡ back k.ends). box_back f k.at (subst (λ (d : Edge). IsInBox d k.at) (ap back (sym x)) h))
     ((decides_ends f k.ends).0 t)
 
-cut_append : (k : Cut) (xs ys : List Edge) → cut k (xs ++ ys) ≡ cut k xs ++ cut k ys
+cut_append : (k : Cut) (xs ys : List Edge) → cut_edges k (xs ++ ys) ≡ cut_edges k xs ++ cut_edges k ys
 cut_append k [] ys = refl
-cut_append k (x ∷ xs) ys = ap (λ (l : List Edge). cut_edge k x ++ l) (cut_append k xs ys) ∙ sym (append_assoc (cut_edge k x) (cut k xs) (cut k ys))
+cut_append k (x ∷ xs) ys = ap (λ (l : List Edge). cut_edge k x ++ l) (cut_append k xs ys) ∙ sym (append_assoc (cut_edge k x) (cut_edges k xs) (cut_edges k ys))
 
 pub after_append : (ks : List Cut) (xs ys : List Edge) → after ks (xs ++ ys) ≡ after ks xs ++ after ks ys
 after_append [] xs ys = refl
-after_append (k ∷ ks) xs ys = ap (cut k) (after_append ks xs ys) ∙ cut_append k (after ks xs) (after ks ys)
+after_append (k ∷ ks) xs ys = ap (cut_edges k) (after_append ks xs ys) ∙ cut_append k (after ks xs) (after ks ys)
 
 -- cuts keep a list balanced
-cut_growth : (g : Point → ℤ) (k : Cut) (es : List Edge) → total (growth g) (cut k es) ≡ total (growth g) es
+cut_growth : (g : Point → ℤ) (k : Cut) (es : List Edge) → total (growth g) (cut_edges k es) ≡ total (growth g) es
 cut_growth g k [] = refl
 cut_growth g k (e ∷ es) = by (same_ends e k.ends) (cut_growth g k es)
   where
-    by : (b : Bool) → total (growth g) (cut k es) ≡ total (growth g) es → total (growth g) (cond b ((e.0, k.at) ∷ (k.at, e.1) ∷ []) (e ∷ []) ++ cut k es) ≡ total (growth g) (e ∷ es)
+    by : (b : Bool) → total (growth g) (cut_edges k es) ≡ total (growth g) es → total (growth g) (cond b ((e.0, k.at) ∷ (k.at, e.1) ∷ []) (e ∷ []) ++ cut_edges k es) ≡ total (growth g) (e ∷ es)
     by true h = omega (arith, linear, h)
     by false h = omega (arith, linear, h)
 
@@ -70,4 +70,4 @@ after_balanced ks es h = balanced_by_growth (after ks es) (λ (g : Point → ℤ
 
 pub after_none : (ks : List Cut) → after ks [] ≡ []
 after_none [] = refl
-after_none (k ∷ ks) = ap (cut k) (after_none ks)
+after_none (k ∷ ks) = ap (cut_edges k) (after_none ks)

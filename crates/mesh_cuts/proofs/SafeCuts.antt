@@ -3,7 +3,7 @@ use Rattle.std.proofs.Common.{ℕ, arith, ◌≡◌, Bool, true, false, cond, Li
 use Rattle.std.specs.Prelude.{ℤ, ◌≤ℤ◌, ◌<ℤ◌}
 use Rattle.std.proofs.lemmas.Int.{ints, by_lt_z}
 use Rattle.mesh_plane.specs.Bounds.{IsSmall, IsSafe}
-use Rattle.mesh_cuts.specs.Split.{IsBetween, IsInBox, same_ends, Cut, cut_edge, cut, after, IsLegal, back, occurs}
+use Rattle.mesh_cuts.specs.Split.{IsBetween, IsInBox, same_ends, Cut, cut_edge, cut_edges, after, IsLegal, back, occurs}
 use Rattle.mesh_plane.specs.Plane.{Point, Edge}
 use Rattle.std.specs.List.{All}
 use Rattle.std.proofs.lemmas.List.Elements.{All-nil, All-cons, All-head, All-tail, All-append}
@@ -28,10 +28,10 @@ box_safe unit e c h box = record {
 abbrev pub IsSafeEdge : ℕ → Edge → Type 0
 IsSafeEdge unit e = IsSafe unit e.0 × IsSafe unit e.1
 
-cut_safe : (unit : ℕ) (k : Cut) → IsInBox k.ends k.at → (es : List Edge) → AreEdgesSafe unit es → AreEdgesSafe unit (cut k es)
+cut_safe : (unit : ℕ) (k : Cut) → IsInBox k.ends k.at → (es : List Edge) → AreEdgesSafe unit es → AreEdgesSafe unit (cut_edges k es)
 cut_safe unit k box [] h = h
 cut_safe unit k box (e ∷ es) h =
-    All-append (IsSafeEdge unit) (cut_edge k e) (cut k es) (by (same_ends e k.ends) refl) (cut_safe unit k box es (All-tail (IsSafeEdge unit) e es h))
+    All-append (IsSafeEdge unit) (cut_edge k e) (cut_edges k es) (by (same_ends e k.ends) refl) (cut_safe unit k box es (All-tail (IsSafeEdge unit) e es h))
   where
     own : IsSafeEdge unit e
     own = All-head (IsSafeEdge unit) e es h

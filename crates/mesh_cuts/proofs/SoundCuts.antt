@@ -4,7 +4,7 @@ use Rattle.std.proofs.lemmas.Bool.{or_cases, both_ways, false≢true}
 use Rattle.mesh_plane.specs.Plane.{Point, Edge}
 use Rattle.mesh_plane.specs.Winding.{same_point}
 use Rattle.mesh_cuts.specs.Clean.{IsProper}
-use Rattle.mesh_cuts.specs.Split.{back, same_ends, occurs, is_end, IsInBox, Cut, cut_edge, cut, after, add_cut, IsLegal, no_cut, split}
+use Rattle.mesh_cuts.specs.Split.{back, same_ends, occurs, is_end, IsInBox, Cut, cut_edge, cut_edges, after, add_cut, IsLegal, no_cut, split}
 use Rattle.mesh_cuts.proofs.Ends.{decides_ends, decides_end}
 use Rattle.mesh_cuts.proofs.Boxes.{meets_box}
 use Rattle.mesh_cuts.proofs.Each.{Each, each_more}
@@ -54,9 +54,9 @@ not_an_end k e h t ends =
     ⊎_elim (λ (y : k.at ≡ e.0). inr (y ∙ ap (λ (d : Edge). d.0) x)) (λ (y : k.at ≡ e.1). inl (y ∙ ap (λ (d : Edge). d.1) x)) ends)
     ((decides_ends e k.ends).0 t)))
 
-cut_proper : (k : Cut) → IsSound k → (es : List Edge) → Each ProperEnds es → Each ProperEnds (cut k es)
+cut_proper : (k : Cut) → IsSound k → (es : List Edge) → Each ProperEnds es → Each ProperEnds (cut_edges k es)
 cut_proper k sound [] h = tt
-cut_proper k sound (e ∷ es) h = each_append ProperEnds (cut_edge k e) (cut k es) (by (same_ends e k.ends) refl) (cut_proper k sound es h.1)
+cut_proper k sound (e ∷ es) h = each_append ProperEnds (cut_edge k e) (cut_edges k es) (by (same_ends e k.ends) refl) (cut_proper k sound es h.1)
   where
     by : (b : Bool) → same_ends e k.ends ≡ b → Each ProperEnds (cond b ((e.0, k.at) ∷ (k.at, e.1) ∷ []) (e ∷ []))
     by true t = ((λ (x : e.0 ≡ k.at). not_an_end k e sound t (inl (sym x))), ((λ (x : k.at ≡ e.1). not_an_end k e sound t (inr x)), tt))

@@ -86,14 +86,14 @@ abbrev pub cut_edge : Cut → Edge → List Edge
 cut_edge k e = cond (same_ends e k.ends) ((e.0, k.at) ∷ (k.at, e.1) ∷ []) (e ∷ [])
 
 -- the edges after one cut
-abbrev pub cut : Cut → List Edge → List Edge
-cut k [] = []
-cut k (e ∷ es) = cut_edge k e ++ cut k es
+abbrev pub cut_edges : Cut → List Edge → List Edge
+cut_edges k [] = []
+cut_edges k (e ∷ es) = cut_edge k e ++ cut_edges k es
 
 -- the edges after a list of cuts, the latest of them first
 abbrev pub after : List Cut → List Edge → List Edge
 after [] es = es
-after (k ∷ ks) es = cut k (after ks es)
+after (k ∷ ks) es = cut_edges k (after ks es)
 
 -- the path that a given edge has become
 abbrev pub path : List Cut → Edge → List Edge

@@ -16,8 +16,8 @@ NeverTurnedRound offset pieces =
     (m : ℕ) (q : Point) → All (λ (piece : List Point). IsBit (sided offset (winding m q (boundary piece)))) pieces
 
 -- at each point of each grid the edges wind as often as the contour and its pieces together
-abbrev pub WindAsPieces : List Point → List (List Point) → List Edge → Type 0
-WindAsPieces points pieces es =
+abbrev pub WindAsContourAndPieces : List Point → List (List Point) → List Edge → Type 0
+WindAsContourAndPieces points pieces es =
     (m : ℕ) (q : Point) → winding m q es ≡ winding m q (boundary points) +ℤ pieces_total (crossing_on m q) pieces
 
 -- at each point of each grid the edges wind as often as the contour, and once more for each piece that holds the point;
@@ -35,7 +35,7 @@ pub record AreDrawn (padding offset : ℤ) (points : List Point) (between : List
   -- both ends of each are near a vertex of the contour
   pub near : All (λ (e : Edge). IsNear padding points e.0 × IsNear padding points e.1) es
   -- they wind as the contour and its pieces together
-  pub sum : WindAsPieces points between es
+  pub sum : WindAsContourAndPieces points between es
   -- no piece is turned round
   pub pieces : NeverTurnedRound offset between
   -- they wind as often as the contour, and once more for each piece that holds the point, once less for a negative

@@ -14,7 +14,7 @@ use Rattle.mesh_cuts.specs.declared.fill.FillRule.TheVariants.{Positive}
 use Rattle.mesh_join.specs.Styles.{OffsetJoin, OutlineStyle}
 use Rattle.mesh_draw.proofs.Resolving.{given_edges, given_subjects, given_balanced, given_safe}
 use Rattle.mesh_outline.specs.Building.{style_for}
-use Rattle.mesh_outline.specs.Kinds.{contour_kind, way_for, sense_of}
+use Rattle.mesh_outline.specs.Kinds.{contour_kind, way_for, kind_fill}
 use Rattle.mesh_outline.specs.declared.outline.kind.ContourKind.{ContourKind}
 use Rattle.mesh_outline.specs.Outline.{outline_edges}
 use Rattle.mesh_draw.specs.Adding.{in_sense, added_edges, answer_edges}
@@ -34,10 +34,10 @@ is_alone unit style fill path old built ss choices answer e f d same resolution 
 
 -- what a contour gives that moves in this way
 pub gives_moved : (unit : ℕ) (style : OutlineStyle) (kind : ContourKind) (way : OffsetJoin) (fill : FillRule) (path : List Point) (old new : List SignedEdge) →
-    kind ≡ contour_kind path → way_for style kind ≡ Some way → fill ≡ sense_of kind →
+    kind ≡ contour_kind path → way_for style kind ≡ Some way → fill ≡ kind_fill kind →
     AddsAnswer unit way fill path old new → AddsGiven unit style path old new
 gives_moved unit style kind way fill path old new k moves e h =
-    let own : fill ≡ fill_for (double_area path) = e ∙ ap sense_of k in
+    let own : fill ≡ fill_for (double_area path) = e ∙ ap kind_fill k in
     let here : style_for style (double_area path) ≡ Some way = sym (ap (way_for style) k) ∙ moves in
     let g : AddsAnswer unit way (fill_for (double_area path)) path old new = rw own at h in
     (in_sense (fill_for (double_area path)) (answer_edges g.0), Gives.moved here g.1, g.2)

@@ -8,7 +8,8 @@ use Rattle.mesh_shapes.specs.Contours.{double_area}
 use Rattle.mesh_outline.specs.declared.outline.kind.ContourKind.{ContourKind}
 use Rattle.mesh_outline.specs.declared.outline.kind.ContourKind.TheVariants.{Outer, Hole, Ignored}
 
--- a contour whose double area is above 0 is an outer boundary, one whose double area is below 0 a hole; one of area 0 is ignored
+-- a contour whose double area is above 0 is an outer boundary, one whose double area is below 0 a hole; one of area 0
+-- is ignored
 abbrev pub kind_for : ℤ → ContourKind
 kind_for area = cond (int_lt (pos 0) area) Outer (cond (int_lt area (pos 0)) Hole Ignored)
 
@@ -23,7 +24,7 @@ way_for style Hole = Some (inner style)
 way_for style Ignored = None
 
 -- the sense in which it is filled: a hole in the negative one
-abbrev pub sense_of : ContourKind → FillRule
-sense_of Outer = Positive
-sense_of Hole = Negative
-sense_of Ignored = Positive
+abbrev pub kind_fill : ContourKind → FillRule
+kind_fill Outer = Positive
+kind_fill Hole = Negative
+kind_fill Ignored = Positive

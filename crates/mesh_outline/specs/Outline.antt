@@ -92,7 +92,8 @@ sense_for offset = cond (int_lt offset (pos 0)) Clockwise Counterclockwise
 
 -- what the join of an outer corner is asked for
 abbrev pub joint_at : ℤ → SectionPair → Joint
-joint_at offset c = joint c.0.b c.0.b_top c.1.a_top c.0.direction c.1.direction (pos (unsigned_abs offset)) (sense_for offset)
+joint_at offset c =
+    joint c.0.b c.0.b_top c.1.a_top c.0.direction c.1.direction (pos (unsigned_abs offset)) (sense_for offset)
 
 -- the points of that join
 abbrev pub joined : ℕ → OffsetJoin → SectionPair → List Point
@@ -100,12 +101,14 @@ joined unit style c = join_points unit style.join (joint_at style.offset c)
 
 -- the outline of a ring of edges: they are moved by the offset and joined at the outer corners
 abbrev pub ring_outline : ℕ → OffsetJoin → List Edge → List Edge
-ring_outline unit style contour = drawn_edges (parts style.offset) (joined unit style) (map (section_of unit style.offset) contour)
+ring_outline unit style contour =
+    drawn_edges (parts style.offset) (joined unit style) (map (section_of unit style.offset) contour)
 
 -- its pieces; the offset 0 has none
 abbrev pub ring_pieces : ℕ → OffsetJoin → List Edge → List (List Point)
 ring_pieces unit style contour =
-    cond (int_eq style.offset (pos 0)) [] (drawn_pieces (parts style.offset) (joined unit style) (map (section_of unit style.offset) contour))
+    cond (int_eq style.offset (pos 0)) []
+    (drawn_pieces (parts style.offset) (joined unit style) (map (section_of unit style.offset) contour))
 
 -- the edges of the outline of the contour of these points
 abbrev pub outline_edges : ℕ → OffsetJoin → List Point → List Edge

@@ -15,7 +15,7 @@ use Rattle.mesh_join.specs.Joins.{offset_padding}
 use Rattle.mesh_join.specs.Styles.{OffsetJoin, OutlineStyle}
 use Rattle.mesh_draw.specs.Adding.{in_sense}
 use Rattle.mesh_outline.specs.Building.{style_for}
-use Rattle.mesh_outline.specs.Kinds.{kind_for, sense_of}
+use Rattle.mesh_outline.specs.Kinds.{kind_for, kind_fill}
 use Rattle.mesh_draw.specs.Drawing.{AreDrawn}
 use Rattle.mesh_outline.specs.Outline.{outline_edges, outline_pieces}
 use Rattle.mesh_draw.specs.Adding.{answer_edges}
@@ -25,14 +25,15 @@ abbrev pub DoAreasFit : ℕ → List (List Point) → Type 0
 DoAreasFit half contours = All (λ (contour : List Point). IsWithin half (double_area contour)) contours
 
 -- the answer of one contour: the edges of its outline are resolved alone, with default options
-pub record IsAnswerAlone (unit : ℕ) (style : OffsetJoin) (fill : ℤ → Bool) (contour : List Point) (answer : List (List (List Point))) : Type 0 where
+pub record IsAnswerAlone (unit : ℕ) (style : OffsetJoin) (fill : ℤ → Bool) (contour : List Point)
+    (answer : List (List (List Point))) : Type 0 where
   pub built : List Edge
   pub same : IsPermutation built (outline_edges unit style contour)
   pub resolution : IsResolution built fill plain answer
 
 -- the sense in which a contour is filled, by its double area: as its kind is
 abbrev pub fill_for : ℤ → FillRule
-fill_for area = sense_of (kind_for area)
+fill_for area = kind_fill (kind_for area)
 
 -- the edges that a contour gives to the outline. An outer boundary moves by the outer offset, what is wound round in its
 -- sense is filled, and it gives the contours of its answer. A hole moves by the inner offset, what is wound round in its
@@ -51,7 +52,8 @@ pub record Give (unit : ℕ) (style : OutlineStyle) (contours : List (List Point
 
 -- the answer is the outline of contours in this style: the edges that the contours give are resolved together, with the
 -- choices of the caller
-pub record IsOutline (unit : ℕ) (style : OutlineStyle) (choices : Choices) (contours : List (List Point)) (answer : List (List (List Point))) : Type 0 where
+pub record IsOutline (unit : ℕ) (style : OutlineStyle) (choices : Choices) (contours : List (List Point))
+    (answer : List (List (List Point))) : Type 0 where
   pub given : List Edge
   pub give : Give unit style contours given
   pub resolution : IsResolution (proper_edges given) (filled Positive) choices answer
@@ -59,9 +61,11 @@ pub record IsOutline (unit : ℕ) (style : OutlineStyle) (choices : Choices) (co
 -- what the edges of the contour's outline are promised
 abbrev pub HasPromisedEdges : ℕ → OffsetJoin → List Point → Type 0
 HasPromisedEdges unit style contour =
-    AreDrawn (offset_padding style) style.offset contour (outline_pieces unit style contour) (outline_edges unit style contour)
+    AreDrawn (offset_padding style) style.offset contour (outline_pieces unit style contour)
+    (outline_edges unit style contour)
 
 -- that holds of each contour that moves, in the way that it moves
 abbrev pub HavePromisedEdges : ℕ → OutlineStyle → List (List Point) → Type 0
 HavePromisedEdges unit style contours =
-    All (λ (contour : List Point). IfSome (style_for style (double_area contour)) (λ (way : OffsetJoin). HasPromisedEdges unit way contour)) contours
+    All (λ (contour : List Point).
+    IfSome (style_for style (double_area contour)) (λ (way : OffsetJoin). HasPromisedEdges unit way contour)) contours

@@ -12,7 +12,7 @@ use Rattle.mesh_plane.proofs.Whole.{linear, mul_pos, mul_nonneg, mul_pos_neg, mu
 use Rattle.mesh_plane.proofs.Ring.{ring, var, lit, ◌⊖◌, ◌⊗◌}
 use Rattle.mesh_plane.proofs.Crossings.{crossing_low, crossing_high, turn_flip}
 use Rattle.mesh_plane.proofs.Sums.{total_append}
-use Rattle.mesh_cuts.specs.Split.{same_ends, occurs, IsInBox, IsBetween, Cut, cut, after, path}
+use Rattle.mesh_cuts.specs.Split.{same_ends, occurs, IsInBox, IsBetween, Cut, cut_edges, after, path}
 use Rattle.mesh_regions.specs.Regions.{is_bent}
 use Rattle.mesh_plane.proofs.PointExprs.{point_var, coordinates, turned, scaled_point_expr}
 use Rattle.mesh_sides.proofs.SidesPotential.{above, crosses_west, crosses_east}
@@ -241,13 +241,13 @@ chain_winds m q P l p r es hp hr h = chain_total m q P l p r es hp h ∙ sym (l.
 
 -- ---- cuts
 
-cut_chain : (k : Cut) (e : Edge) → IsInBox k.ends k.at → (p r : Point) (es : List Edge) → IsInBox e p → Chain (IsInBox e) p es r → Chain (IsInBox e) p (cut k es) r
+cut_chain : (k : Cut) (e : Edge) → IsInBox k.ends k.at → (p r : Point) (es : List Edge) → IsInBox e p → Chain (IsInBox e) p es r → Chain (IsInBox e) p (cut_edges k es) r
 cut_chain k e box p r [] hp h = h
 cut_chain k e box p r (f ∷ es) hp h =
     by (same_ends f k.ends) refl (cut_chain k e box f.1 r es h.1.0 h.1.1)
   where
-    by : (b : Bool) → same_ends f k.ends ≡ b → Chain (IsInBox e) f.1 (cut k es) r →
-        Chain (IsInBox e) p (cond b ((f.0, k.at) ∷ (k.at, f.1) ∷ []) (f ∷ []) ++ cut k es) r
+    by : (b : Bool) → same_ends f k.ends ≡ b → Chain (IsInBox e) f.1 (cut_edges k es) r →
+        Chain (IsInBox e) p (cond b ((f.0, k.at) ∷ (k.at, f.1) ∷ []) (f ∷ []) ++ cut_edges k es) r
     by true t rest =
         let start : IsInBox e f.0 = subst (λ (z : Point). IsInBox e z) h.0 hp in
         (h.0, (box_trans e f k.at start h.1.0 (cut_box k f box t), (refl, (h.1.0, rest))))
@@ -286,7 +286,7 @@ after_winds ks [] m q boxed some differ out = nothing ks
   where
     nothing : (ks : List Cut) → winds m q (after ks []) ≡ pos 0
     nothing [] = refl
-    nothing (k ∷ ks) = ap (λ (l : List Edge). winds m q (cut k l)) (after_none ks)
+    nothing (k ∷ ks) = ap (λ (l : List Edge). winds m q (cut_edges k l)) (after_none ks)
 after_winds ks (e ∷ es) m q boxed some differ out =
     ap (λ (l : List Edge). winds m q l) (after_append ks (e ∷ []) es)
     ∙ (total_append (λ (p r : Point). crossing q (scale m p) (scale m r)) (path ks e) (after ks es)

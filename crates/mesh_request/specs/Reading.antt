@@ -48,13 +48,13 @@ abbrev pub point_of : ℕ → Data → Option Point
 point_of unit d = option_and_then (pair_of unit) (as_array d)
 
 -- the points that values are
-abbrev pub points_of : ℕ → Items → Option (List Point)
-points_of unit no_items = Some []
-points_of unit (item d ds) = option_and_then (λ p. option_map (λ ps. p ∷ ps) (points_of unit ds)) (point_of unit d)
+abbrev pub point_list_of : ℕ → Items → Option (List Point)
+point_list_of unit no_items = Some []
+point_list_of unit (item d ds) = option_and_then (λ p. option_map (λ ps. p ∷ ps) (point_list_of unit ds)) (point_of unit d)
 
 -- the path that a value is: a list of points
 abbrev pub path_of : ℕ → Data → Option (List Point)
-path_of unit d = option_and_then (points_of unit) (as_array d)
+path_of unit d = option_and_then (point_list_of unit) (as_array d)
 
 -- the paths that values are
 abbrev pub path_list_of : ℕ → Items → Option (List (List Point))

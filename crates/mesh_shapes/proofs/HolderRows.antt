@@ -12,7 +12,7 @@ use Rattle.mesh_cuts.specs.declared.places.Mark.{Mark}
 use Rattle.mesh_cuts.specs.Marks.{place}
 use Rattle.mesh_shapes.specs.Resolution.{Ring, is_positive}
 use Rattle.mesh_shapes.specs.Midway.Grouping.{ring_at, areas_of}
-use Rattle.mesh_shapes.specs.Midway.Holders.{PlacedEdge, with_place, ring_edges, edges_of, Rise, winding_of, IsRowOf}
+use Rattle.mesh_shapes.specs.Midway.Holders.{PlacedEdge, with_place, ring_edges, placed_edges, Rise, winding_of, IsRowOf}
 use Rattle.mesh_boundary.specs.Midway.Rows.{reaches}
 use Rattle.mesh_shapes.specs.Vectors.{HeldRing, rings_held}
 use Rattle.mesh_shapes.proofs.Groups.{view_at, positive_at}
@@ -123,12 +123,12 @@ ring_sums q n (suc j) (r ∷ rs) h =
 
 -- ---- the row of a point
 
-pub row_rises : (rs : List Ring) (ms : List Mark) (row : List PlacedEdge) (q : Point) → row ≡ filter (reaches ms (place ms q.1)) (edges_of rs) → Rise 0 (length rs) row
+pub row_rises : (rs : List Ring) (ms : List Mark) (row : List PlacedEdge) (q : Point) → row ≡ filter (reaches ms (place ms q.1)) (placed_edges rs) → Rise 0 (length rs) row
 row_rises rs ms row q is =
     subst (λ (es : List PlacedEdge). Rise 0 (length rs) es) (sym is)
-    (rise_filter (reaches ms (place ms q.1)) 0 (length rs) (edges_of rs) (rise_edges 0 (length rs) rs (omega arith)))
+    (rise_filter (reaches ms (place ms q.1)) 0 (length rs) (placed_edges rs) (rise_edges 0 (length rs) rs (omega arith)))
 
-pub row_tells : (rs : List Ring) (ms : List Mark) (row : List PlacedEdge) (q : Point) → row ≡ filter (reaches ms (place ms q.1)) (edges_of rs) → IsRowOf rs q row
+pub row_tells : (rs : List Ring) (ms : List Mark) (row : List PlacedEdge) (q : Point) → row ≡ filter (reaches ms (place ms q.1)) (placed_edges rs) → IsRowOf rs q row
 row_tells rs ms row q is k low = by (is_positive (ring_at rs k)) ∙ ap (λ (w : ℤ). not (int_eq w (pos 0))) (sym sum)
   where
     none : (b : Bool) (w : ℤ) → w ≡ pos 0 → cond b w (pos 0) ≡ pos 0
@@ -138,8 +138,8 @@ row_tells rs ms row q is k low = by (is_positive (ring_at rs k)) ∙ ap (λ (w :
     sum : winding_of q k row ≡ ring_winding q (get_or rs k ([], (pos 0, pos 0)))
     sum =
         let zero_plus : 0 + k ≡ k = omega arith in
-        row_total ms (edges_of rs) row q (gives q k) is (λ e h. none (nat_eq e.1 k) (crossing_on 2 q e.0.0 e.0.1) h)
-        ∙ subst (λ (j : ℕ). winding_of q j (edges_of rs) ≡ ring_winding q (get_or rs k ([], (pos 0, pos 0)))) zero_plus (ring_sums q 0 k rs low)
+        row_total ms (placed_edges rs) row q (gives q k) is (λ e h. none (nat_eq e.1 k) (crossing_on 2 q e.0.0 e.0.1) h)
+        ∙ subst (λ (j : ℕ). winding_of q j (placed_edges rs) ≡ ring_winding q (get_or rs k ([], (pos 0, pos 0)))) zero_plus (ring_sums q 0 k rs low)
 
     by : (b : Bool) → (b && not (int_eq (winding 2 q (boundary (ring_at rs k).1.0)) (pos 0))) ≡ not (int_eq (cond b (winding 2 q (boundary (ring_at rs k).1.0)) (pos 0)) (pos 0))
     by true = refl

@@ -10,7 +10,7 @@ use Rattle.std.proofs.lemmas.List.{append-nil, map-append, length-append, length
 use Rattle.mesh_plane.specs.Plane.{Point}
 use Rattle.mesh_shapes.specs.Midway.Progress.{NoneRound, IsHolder}
 use Rattle.mesh_shapes.specs.Resolution.{Ring, Placed, is_head, shape_of, rings_by_shape, answered}
-use Rattle.mesh_shapes.specs.Vectors.{HeldRing, ring_held, rings_held, points_of}
+use Rattle.mesh_shapes.specs.Vectors.{HeldRing, ring_held, rings_held, shape_points}
 use Rattle.mesh_shapes.specs.Midway.Grouping.{ring_at, placed, areas_of, IsHome, contours_at, AreMembers, IsPutHome}
 use Rattle.mesh_shapes.proofs.Groups.{view_at, positive_at, home_alone, home_held, is_member, member_test}
 
@@ -180,8 +180,8 @@ put_at_home lists i b same = record { len = refl; put = λ h d l. by h d (nat_eq
 
 -- a ring's contour is added to a shape
 pub pushed_contour : (rs : List HeldRing) (cw : Bool) (i : ℕ) (r : HeldRing) (old : List (Vec Point Global)) (c : Vec Point Global) (new : List (Vec Point Global)) → i < length rs →
-    c.items ≡ answered cw (ring_held (get_or rs i r)) → new ≡ old ++ (c ∷ []) → points_of new ≡ points_of old ++ (answered cw (ring_at (rings_held rs) i).1 ∷ [])
+    c.items ≡ answered cw (ring_held (get_or rs i r)) → new ≡ old ++ (c ∷ []) → shape_points new ≡ shape_points old ++ (answered cw (ring_at (rings_held rs) i).1 ∷ [])
 pushed_contour rs cw i r old c new low a e =
-    ap points_of e
+    ap shape_points e
     ∙ (map-append (λ (v : Vec Point Global). v.items) old (c ∷ [])
-    ∙ (λ j. points_of old ++ ((a ∙ ap (answered cw) (sym (view_at rs i r ([], (pos 0, pos 0)) low))) j ∷ [])))
+    ∙ (λ j. shape_points old ++ ((a ∙ ap (answered cw) (sym (view_at rs i r ([], (pos 0, pos 0)) low))) j ∷ [])))

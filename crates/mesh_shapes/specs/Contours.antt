@@ -57,7 +57,8 @@ abbrev pub reversed : List Point → List Point
 reversed [] = []
 reversed (p ∷ xs) = p ∷ reverse xs
 
--- a contour is that of a ring: with the same edges it begins at its start, and the ring has its vertices and its side point
+-- a contour is that of a ring: with the same edges it begins at its start, and the ring has its vertices and its side
+-- point
 pub record IsRingOf (all : Bool) (given : List Point) (ring : List Point × Point) : Type 0 where
   pub contour : List Point
   pub same : (f : Edge → ℤ) → sum_of f (boundary contour) ≡ sum_of f (boundary given)

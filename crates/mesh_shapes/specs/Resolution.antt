@@ -83,7 +83,8 @@ pub record AreArranged (clockwise : Bool) (rings : List Ring) (answer : List (Li
 
 -- an answer is a resolution of edges by a fill and options; no order of splitting, no structure of the program and no
 -- choice of a walk is named
-pub record IsResolution (edges : List Edge) (fill : ℤ → Bool) (options : Choices) (answer : List (List (List Point))) : Type 0 where
+pub record IsResolution (edges : List Edge) (fill : ℤ → Bool) (options : Choices) (answer : List (List (List Point)))
+    : Type 0 where
   -- the edges are split by a list of legal splits, until any two segments have the same ends or share only common ends
   pub cuts : List Cut
   pub legal : IsLegal edges cuts
@@ -94,4 +95,5 @@ pub record IsResolution (edges : List Edge) (fill : ℤ → Bool) (options : Cho
   -- each contour begins at its least point, at the visit with the least next vertex
   pub begun : All (IsBegun options.all_vertices) contours
   -- the answer arises from the rings of the contours, the small ones left out
-  pub arranged : AreArranged options.clockwise (filter (is_large options.least_area) (map (ring_of options.all_vertices) contours)) answer
+  pub arranged : AreArranged options.clockwise
+      (filter (is_large options.least_area) (map (ring_of options.all_vertices) contours)) answer

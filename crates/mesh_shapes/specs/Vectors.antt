@@ -20,12 +20,12 @@ abbrev pub rings_held : List HeldRing → List Ring
 rings_held rs = map ring_held rs
 
 -- the contours of a shape, and of shapes, as lists of points
-abbrev pub points_of : List (Vec Point Global) → List (List Point)
-points_of shape = map (λ (c : Vec Point Global). c.items) shape
+abbrev pub shape_points : List (Vec Point Global) → List (List Point)
+shape_points shape = map (λ (c : Vec Point Global). c.items) shape
 
 -- the points of the contours of each shape
 abbrev pub shapes_points : List (Vec (Vec Point Global) Global) → List (List (List Point))
-shapes_points shapes = map (λ (s : Vec (Vec Point Global) Global). points_of s.items) shapes
+shapes_points shapes = map (λ (s : Vec (Vec Point Global) Global). shape_points s.items) shapes
 
 -- the edges of contours
 abbrev pub contour_edges : List (Vec Point Global) → List Edge

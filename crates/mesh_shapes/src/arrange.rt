@@ -1,7 +1,7 @@
 //! Shapes of rings: order and grouping.
 
-ghost use Rattle.std.specs.Prelude.{◌≡◌, ◌≢◌, ◌⊎◌, ℕ, ◌+◌, ◌*◌, ◌^◌, ◌<◌, ◌≤◌, Bool, true, false, not, ◌&&◌, cond, List, []};
-ghost use Rattle.std.specs.Prelude.{◌∷◌, ◌++◌, map, length, take, drop, reverse, slice_index_or, nat_le, nat_eq};
+ghost use Rattle.std.specs.Prelude.{◌≡◌, ◌≢◌, ◌⊎◌, ℕ, ◌+◌, ◌*◌, ◌^◌, ◌<◌, ◌≤◌, Bool, true, false, not, ◌&&◌, cond, List};
+ghost use Rattle.std.specs.Prelude.{[], ◌∷◌, ◌++◌, map, length, take, drop, reverse, slice_index_or, nat_le, nat_eq};
 ghost use Rattle.std.specs.Prelude.{unsigned_abs, int_lt, pos, IfOk, OnOk, MatchOption, Vec};
 ghost use Rattle.std.specs.declared.alloc.Global.{Global};
 ghost use Rattle.std.specs.Option.{ForSome};
@@ -10,11 +10,11 @@ ghost use Rattle.std.specs.List.Sorted.{IsSortedBy, IsPermutation};
 ghost use Rattle.mesh_plane.specs.Bounds.{IsSafe};
 ghost use Rattle.mesh_plane.specs.Plane.{Point};
 ghost use Rattle.mesh_shapes.specs.Contours.{reversed, double_area};
-ghost use Rattle.mesh_shapes.specs.Vectors.{HeldRing, ring_held, rings_held, points_of, shapes_points};
+ghost use Rattle.mesh_shapes.specs.Vectors.{HeldRing, ring_held, rings_held, shape_points, shapes_points};
 ghost use Rattle.mesh_shapes.specs.Midway.Grouping.{ring_at, areas_of, IsHome, AreHomes, AreWithin};
 ghost use Rattle.mesh_shapes.specs.Midway.Grouping.{HaveMembers, IsPutHome, contour_at, contours_at, all_shapes};
 ghost use Rattle.mesh_shapes.specs.Midway.Grouping.{Stays, OthersStay, AreApart, HaveApart, homed};
-ghost use Rattle.mesh_shapes.specs.Midway.Holders.{edges_of};
+ghost use Rattle.mesh_shapes.specs.Midway.Holders.{placed_edges};
 ghost use Rattle.mesh_boundary.specs.Midway.Rows.{AreRows};
 ghost use Rattle.mesh_shapes.specs.Resolution.{is_large, points_lt, is_head, shape_of, rings_by_shape};
 ghost use Rattle.mesh_shapes.specs.Resolution.{AreArranged};
@@ -51,7 +51,7 @@ fn home(rings: &[Ring], areas: &[i128], rows: &Rows<usize>, i: usize) -> usize
     requires in_range { i < length rings.now }
     requires areas_known { areas.now ≡ areas_of (rings_held rings.now) }
     requires rows_known { int_lt (pos 0) (slice_index_or areas.now i (pos 0)) ≡ false
-        → AreRows rows.now.marks.items rows.now.lists.items (edges_of (rings_held rings.now)) }
+        → AreRows rows.now.marks.items rows.now.lists.items (placed_edges (rings_held rings.now)) }
     ensures home { IsHome (rings_held rings.now) i result }
     ensures within { result < length rings.now }
 {
@@ -86,7 +86,7 @@ fn edges_wanted(
 ) -> Result<Vec<PlacedEdge>, AllocError>
     requires { areas.now ≡ areas_of (rings_held rings.now) }
     ensures { IfOk result (λ v. (i : ℕ) → i < length areas.now
-        → int_lt (pos 0) (slice_index_or areas.now i (pos 0)) ≡ false → v.items ≡ edges_of (rings_held rings.now)) }
+        → int_lt (pos 0) (slice_index_or areas.now i (pos 0)) ≡ false → v.items ≡ placed_edges (rings_held rings.now)) }
 {
     if are_positive(areas) {
         return Ok(Vec::new(alloc));
@@ -176,7 +176,7 @@ fn push_contour(
 ) -> Result<(), AllocError>
     requires { i < length rings.old }
     ensures added { OnOk result
-        (points_of shape.new.items ≡ points_of shape.old.items ++ contour_at clockwise rings.old i ∷ []) }
+        (shape_points shape.new.items ≡ shape_points shape.old.items ++ contour_at clockwise rings.old i ∷ []) }
     ensures others { OnOk result (OthersStay rings.old rings.new (i ∷ [])) }
 {
     let points = replace(&mut rings[i].0, Vec::new(alloc));
@@ -195,7 +195,7 @@ fn shape(
     requires in_range { h < length rings.old }
     requires within { All (λ i. i < length rings.old) members.now }
     requires apart { AllPairs (λ i j. i ≢ j) (h ∷ members.now) }
-    ensures contours { IfOk result (λ v. points_of v.items
+    ensures contours { IfOk result (λ v. shape_points v.items
         ≡ contours_at (rings_held rings.old) clockwise h members.now) }
     ensures others { IfOk result (λ v. OthersStay rings.old rings.new (h ∷ members.now)) }
 {

@@ -8,7 +8,7 @@ ghost use Rattle.std.specs.Ordering.{int_eq};
 ghost use Rattle.mesh_plane.specs.Plane.{Point};
 ghost use Rattle.mesh_plane.specs.Winding.{boundary};
 ghost use Rattle.mesh_shapes.specs.Midway.Grouping.{ring_at, areas_of, is_round_at, is_less_at};
-ghost use Rattle.mesh_shapes.specs.Midway.Holders.{PlacedEdge, with_place, ring_edges, edges_of, Rise, IsRowOf};
+ghost use Rattle.mesh_shapes.specs.Midway.Holders.{PlacedEdge, with_place, ring_edges, placed_edges, Rise, IsRowOf};
 ghost use Rattle.mesh_shapes.specs.Midway.Holders.{IsSearch};
 ghost use Rattle.mesh_shapes.specs.Midway.Progress.{IsFound};
 ghost use Rattle.mesh_shapes.specs.Resolution.{Ring};
@@ -74,7 +74,7 @@ pub fn ring_edges(
     areas: &[i128],
 ) -> Result<Vec<PlacedEdge>, AllocError>
     requires { areas.now ≡ areas_of (rings_held rings.now) }
-    ensures { IfOk result (λ v. v.items ≡ edges_of (rings_held rings.now)) }
+    ensures { IfOk result (λ v. v.items ≡ placed_edges (rings_held rings.now)) }
 {
     let mut edges = Vec::new(alloc);
     for h in 0..rings.len() {

@@ -7,7 +7,7 @@ use Rattle.mesh_plane.specs.Plane.{Point, Edge}
 use Rattle.mesh_plane.proofs.Whole.{linear}
 use Rattle.mesh_cuts.specs.Clean.{IsProper}
 use Rattle.mesh_cuts.specs.Counted.{Counted, IsCountOf}
-use Rattle.mesh_cuts.specs.Split.{back, same_ends, occurs, IsInBox, Cut, cut, after, path}
+use Rattle.mesh_cuts.specs.Split.{back, same_ends, occurs, IsInBox, Cut, cut_edges, after, path}
 use Rattle.mesh_cuts.specs.Splitting.{Leads, IsOnward, IsPathOf, ComesFrom, IsSplitting}
 use Rattle.mesh_split.specs.Midway.Steps.{AllClear, IsReached}
 use Rattle.mesh_cuts.proofs.SafeCuts.{split_safe}
@@ -34,11 +34,11 @@ box_of_cut k f sound t =
 
 -- ---- paths stay chains
 
-leads_cut : (k : Cut) (p : Point) (es : List Edge) (r : Point) → Leads p es r → Leads p (cut k es) r
+leads_cut : (k : Cut) (p : Point) (es : List Edge) (r : Point) → Leads p es r → Leads p (cut_edges k es) r
 leads_cut k p [] r h = h
 leads_cut k p (f ∷ es) r h = by (same_ends f k.ends) (leads_cut k f.1 es r h.1)
   where
-    by : (b : Bool) → Leads f.1 (cut k es) r → Leads p (cond b ((f.0, k.at) ∷ (k.at, f.1) ∷ []) (f ∷ []) ++ cut k es) r
+    by : (b : Bool) → Leads f.1 (cut_edges k es) r → Leads p (cond b ((f.0, k.at) ∷ (k.at, f.1) ∷ []) (f ∷ []) ++ cut_edges k es) r
     by true rest = (h.0, (refl, rest))
     by false rest = (h.0, rest)
 
@@ -64,7 +64,7 @@ second_onward e f c h box = record {
   end_in_box = h.end_in_box;
 }
 
-onward_cut : (e : Edge) (k : Cut) → IsSound k → (es : List Edge) → All (IsOnward e) es → All (IsOnward e) (cut k es)
+onward_cut : (e : Edge) (k : Cut) → IsSound k → (es : List Edge) → All (IsOnward e) es → All (IsOnward e) (cut_edges k es)
 onward_cut e k sound [] h = h
 onward_cut e k sound (f ∷ es) h =
     let own = All-head (IsOnward e) f es h in
@@ -72,12 +72,12 @@ onward_cut e k sound (f ∷ es) h =
     ⊎_elim
     (λ (t : same_ends f k.ends ≡ true).
     let box = box_of_cut k f sound t in
-    subst (λ (b : Bool). All (IsOnward e) (cond b ((f.0, k.at) ∷ (k.at, f.1) ∷ []) (f ∷ []) ++ cut k es)) (sym t)
-    (All-cons (IsOnward e) (f.0, k.at) ((k.at, f.1) ∷ cut k es) (first_onward e f k.at own box)
-    (All-cons (IsOnward e) (k.at, f.1) (cut k es) (second_onward e f k.at own box) rest)))
+    subst (λ (b : Bool). All (IsOnward e) (cond b ((f.0, k.at) ∷ (k.at, f.1) ∷ []) (f ∷ []) ++ cut_edges k es)) (sym t)
+    (All-cons (IsOnward e) (f.0, k.at) ((k.at, f.1) ∷ cut_edges k es) (first_onward e f k.at own box)
+    (All-cons (IsOnward e) (k.at, f.1) (cut_edges k es) (second_onward e f k.at own box) rest)))
     (λ (n : same_ends f k.ends ≡ false).
-    subst (λ (b : Bool). All (IsOnward e) (cond b ((f.0, k.at) ∷ (k.at, f.1) ∷ []) (f ∷ []) ++ cut k es)) (sym n)
-    (All-cons (IsOnward e) f (cut k es) own rest))
+    subst (λ (b : Bool). All (IsOnward e) (cond b ((f.0, k.at) ∷ (k.at, f.1) ∷ []) (f ∷ []) ++ cut_edges k es)) (sym n)
+    (All-cons (IsOnward e) f (cut_edges k es) own rest))
     (cases_Bool (same_ends f k.ends))
 
 pub path_of_edge : (ks : List Cut) → Each IsSound ks → (e : Edge) → IsPathOf e (path ks e)

@@ -6,7 +6,7 @@ use Rattle.std.proofs.lemmas.Int.{ints}
 use Rattle.mesh_plane.specs.Plane.{Point, Edge, turn}
 use Rattle.mesh_plane.specs.Winding.{same_point}
 use Rattle.mesh_plane.proofs.Whole.{linear}
-use Rattle.mesh_cuts.specs.Split.{same_edge, same_ends, occurs, is_end, IsInBox, IsCrossing, Meets, at_start_of_second, at_end_of_second, at_start_of_first, at_end_of_first, at_crossing, Cut, cut, after, add_cut, IsLegal, split}
+use Rattle.mesh_cuts.specs.Split.{same_edge, same_ends, occurs, is_end, IsInBox, IsCrossing, Meets, at_start_of_second, at_end_of_second, at_start_of_first, at_end_of_first, at_crossing, Cut, cut_edges, after, add_cut, IsLegal, split}
 use Rattle.mesh_cuts.specs.Counted.{Counted, bit, times}
 use Rattle.mesh_split.specs.Midway.Steps.{exactly, IsPut, IsTaken, Puts, PutsPieces, IsClearOf, AllClear, AreCountOf, IsReached, Settles, extent, weight, waiting_work, live_work}
 use Rattle.mesh_cuts.specs.Split.{AreClear}
@@ -205,7 +205,7 @@ settles_both todo live live1 todo2 live2 todo' live' k j t c m outer inner other
           record {
             cuts = (record { ends = j.0; at = c }) ∷ (record { ends = k.0; at = c }) ∷ r.cuts;
             legal = subst (IsLegal given) (both_cut k.0 t c r.cuts outer inner ∙ ap (λ (x : Edge). (record { ends = x; at = c }) ∷ (record { ends = k.0; at = c }) ∷ r.cuts) (sym same)) (legal_split given todo live k t c m r);
-            count = cut_count (cut (record { ends = k.0; at = c }) (after r.cuts given)) todo2 live2 todo' live' j c [] other refl refl refl p done;
+            count = cut_count (cut_edges (record { ends = k.0; at = c }) (after r.cuts given)) todo2 live2 todo' live' j c [] other refl refl refl p done;
           };
       clear = fewer_clear live live' (λ q. omega (arith, linear, p.first.live_ends q, p.second.live_ends q, first.first.live_ends q, first.second.live_ends q, taken_fewer live live1 j taken q));
       work_falls =

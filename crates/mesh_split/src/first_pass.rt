@@ -6,6 +6,7 @@ ghost use Rattle.mesh_cuts.specs.Clean.{IsProper};
 ghost use Rattle.mesh_cuts.specs.Split.{Meets};
 ghost use Rattle.mesh_split.specs.Midway.Steps.{AllClear, IsPile, KeepsPile, StandOnce, exactly};
 
+use crate::budget::{Budget, of_heap};
 use crate::hints::{Hints, Meeting, Order};
 use crate::steps::Splitter;
 use crate::store::Store;
@@ -37,20 +38,6 @@ const ROUNDS: usize = 4;
 
 /// How many more splits each round allows than the one before it.
 const GROWTH: usize = 4;
-
-/// How many splits the first round allows beside those that the number of meetings asks for.
-const SPARE: usize = 500;
-
-/// Up to so many edges are few. With more, stars and combs with a long offset would be left to the heap, which takes
-/// two to ten times as long.
-const FEW: usize = 300;
-
-/// How many splits an attempt at few edges allows in place of `SPARE`.
-const SPARE_OF_FEW: usize = 64;
-
-/// How many splits the first attempt allows for each of few edges. Where an offset is as long as many edges, four were
-/// too few for some drawings of a hundred vertices.
-const SPLITS_OF_FEW: usize = 5;
 
 /// A segment, and one that it meets.
 type Pair = (GridEdge, Meeting);
@@ -109,45 +96,6 @@ fn next(live: &Store, hints: &mut Hints) -> Result<Option<Pair>, AllocError>
     Ok(None)
 }
 
-/// How many splits an attempt may make.
-fn budget(edges: usize, meetings: usize, factor: usize) -> usize {
-    meetings
-        .saturating_mul(2)
-        .saturating_add(edges)
-        .saturating_add(SPARE)
-        .saturating_mul(factor)
-}
-
-/// How many splits an attempt in hand may make, which does not know the number of meetings: mostly there are no more
-/// than five for each edge, also where an offset is as long as many edges of a coast.
-fn usual(edges: usize, factor: usize) -> usize {
-    budget(edges, edges.saturating_mul(5), factor)
-}
-
-/// How many splits the first attempt may make. Each split rounds a point, so a long run drags points away from the
-/// edges. The heap leaves them nearer, but it costs more, above all where edges are many: so few edges are soon left to
-/// it, and many keep the usual budget.
-fn first_budget(edges: usize) -> usize {
-    if edges > FEW {
-        return usual(edges, 1);
-    }
-    edges
-        .saturating_mul(SPLITS_OF_FEW)
-        .saturating_add(SPARE_OF_FEW)
-}
-
-/// How many splits an attempt with a heap may make. At few edges one for each meeting and each edge has to do: what
-/// needs more is a run, and another kind of attempt may have none.
-fn heap_budget(edges: usize, meetings: usize, factor: usize) -> usize {
-    if edges > FEW {
-        return budget(edges, meetings, factor);
-    }
-    meetings
-        .saturating_add(edges)
-        .saturating_add(SPARE_OF_FEW)
-        .saturating_mul(factor)
-}
-
 /// Splits the edges by hints, unless that takes too many splits. All that it leaves waits to be tested.
 fn by_hints(
     alloc: Global,
@@ -164,7 +112,7 @@ fn by_hints(
     let mut splitter = Splitter::of_edges(alloc, edges)?;
     let mut hints = Hints::new(alloc, order);
     make_live(&mut splitter, &mut hints, true)?;
-    for _split in 0..heap_budget(edges.len(), hints.len(), factor) {
+    for _split in 0..of_heap(edges.len(), hints.len(), factor) {
         let Some((first, m)) = next(&splitter.live, &mut hints)? else {
             let again = splitter.again(alloc)?;
             return Ok(Some(again));
@@ -178,11 +126,11 @@ fn by_hints(
     Ok(None)
 }
 
-/// Splits the edges as the second pass does, unless that takes more splits than these.
+/// Splits the edges as the second pass does, unless that takes too many splits.
 fn in_hand(
     alloc: Global,
     edges: &[GridEdge],
-    most: usize,
+    mut budget: Budget,
     splits: &mut usize,
 ) -> Result<Option<Splitter>, AllocError>
     requires { IsProper edges.now }
@@ -190,7 +138,7 @@ fn in_hand(
     ensures clear { IfOk result (λ o. IfSome o (λ s. AllClear s.live)) }
 {
     let mut splitter = Splitter::of_edges(alloc, edges)?;
-    let last = splits.saturating_add(most);
+    let before = *splits;
     for _step in 0..usize::MAX {
         let Some(s) = splitter.todo.pop() else {
             return Ok(Some(splitter));
@@ -198,7 +146,7 @@ fn in_hand(
         if splitter.settle(s)? {
             *splits = splits.saturating_add(1);
         }
-        if *splits > last {
+        if !budget.allows(edges, splits.saturating_sub(before)) {
             return Ok(None);
         }
     }
@@ -220,12 +168,10 @@ fn attempt(
     match kind {
         Kind::Sweeping(order) => by_hints(alloc, edges, order, false, factor, splits),
         Kind::Eager(order) => by_hints(alloc, edges, order, true, factor, splits),
-        Kind::InHand => in_hand(
-            alloc,
-            edges,
-            usual(edges.len(), factor.saturating_mul(GROWTH)),
-            splits,
-        ),
+        Kind::InHand => {
+            let budget = Budget::usual(edges, factor.saturating_mul(GROWTH));
+            in_hand(alloc, edges, budget, splits)
+        }
     }
 }
 
@@ -240,7 +186,7 @@ pub fn first_pass(
     ensures pile { IfOk result (λ s. IsPile edges.now s.todo s.live) }
     ensures clear { IfOk result (λ s. AllClear s.live) }
 {
-    if let Some(splitter) = in_hand(alloc, edges, first_budget(edges.len()), splits)? {
+    if let Some(splitter) = in_hand(alloc, edges, Budget::of_first(edges), splits)? {
         return Ok(splitter);
     }
     let mut factor: usize = 1;

@@ -248,6 +248,29 @@ fn halved(v: (i64, i64)) -> Across {
     (0, 0)
 }
 
+/// The vector across the edge at a place of a list.
+fn across_at(edges: &[GridEdge], place: usize) -> Across {
+    match edges.get(place) {
+        Some(e) => halved(left_of(*e)),
+        None => (0, 0),
+    }
+}
+
+/// Vectors across which a cut is tried: along the axes, across the longest edge, and across three others, since of edges
+/// that spread like a fan one in the middle serves, and a list often has them in their order round.
+fn candidates(edges: &[GridEdge]) -> [Across; 6] {
+    let [first, second] = axes(edges);
+    let half = edges.len() / 2;
+    [
+        first,
+        second,
+        across_longest(edges),
+        across_at(edges, half),
+        across_at(edges, half / 2),
+        across_at(edges, half + half / 2),
+    ]
+}
+
 /// How much there is to search on both sides of a cut, if each edge is sought on each side that it reaches.
 fn work(edges: &[GridEdge], cut: Cut) -> usize {
     let mut below: usize = 0;
@@ -265,16 +288,15 @@ fn work(edges: &[GridEdge], cut: Cut) -> usize {
         .saturating_add(beyond.saturating_mul(beyond))
 }
 
-/// The cut in the middle, along an axis or along the longest edge, that leaves least to search, where that is at most
-/// four fifths of what there was: so what reaches both sides is listed not much more often. Where one leaves three
-/// fifths, no other is tried.
+/// The cut in the middle, along an axis or along an edge, that leaves least to search, where that is at most four fifths
+/// of what there was: so what reaches both sides is listed not much more often. Where one leaves three fifths, no other
+/// is tried.
 fn best_cut(alloc: Global, edges: &[GridEdge]) -> Result<Option<Cut>, AllocError> {
     let some = sample(alloc, edges)?;
-    let [first, second] = axes(&some);
     let whole = some.len().saturating_mul(some.len());
     let mut best = None;
     let mut least = whole / 5 * 4;
-    for across in [first, second, across_longest(&some)] {
+    for across in candidates(&some) {
         if let Some(cut) = middle(alloc, &some, across)? {
             let left = work(&some, cut);
             if left <= least {

@@ -14,7 +14,7 @@ use Rattle.mesh_draw.specs.Padding.{ArePathsSafe, widened}
 use Rattle.mesh_draw.specs.Radii.{radius_of}
 use Rattle.mesh_draw.proofs.Padding.{safe_within_less}
 use Rattle.mesh_draw.proofs.PaddingBounds.{accepted_by_bounds, accepted_without_points}
-use Rattle.mesh_variable_stroke.specs.Drawn.{points_of, greatest_radius, AreStrokable}
+use Rattle.mesh_variable_stroke.specs.Drawn.{vertex_points, greatest_radius, AreStrokable}
 use Rattle.mesh_variable_stroke.proofs.Safe.{radius_least}
 use Rattle.mesh_variable_calls.specs.Midway.{IsRoomLeft}
 use Rattle.mesh_variable_calls.specs.Strokable.{padding_of, ArePathsStrokable, all_vertex_points}
@@ -124,28 +124,28 @@ abbrev IsSafeVertex : ℕ → ℤ → Vertex → Type 0
 IsSafeVertex unit padding v = IsSafeWidened unit padding v.point
 
 strokable_by_points : (unit : ℕ) (padding : ℤ) (paths : List (List Vertex))
-    → All (λ (path : List Vertex). AreStrokable unit padding path) paths ↔ ArePathsSafe unit padding (map points_of paths)
+    → All (λ (path : List Vertex). AreStrokable unit padding path) paths ↔ ArePathsSafe unit padding (map vertex_points paths)
 strokable_by_points unit padding paths = (
   λ safe.
-      All-map (λ (points : List Point). All (IsSafeWidened unit padding) points) points_of paths
-      (All-weaker (λ (path : List Vertex). All (IsSafeVertex unit padding) path) (λ (path : List Vertex). All (IsSafeWidened unit padding) (points_of path))
+      All-map (λ (points : List Point). All (IsSafeWidened unit padding) points) vertex_points paths
+      (All-weaker (λ (path : List Vertex). All (IsSafeVertex unit padding) path) (λ (path : List Vertex). All (IsSafeWidened unit padding) (vertex_points path))
       (λ path all. All-map (IsSafeWidened unit padding) (λ (v : Vertex). v.point) path all) paths safe),
   λ safe.
-      All-weaker (λ (path : List Vertex). All (IsSafeWidened unit padding) (points_of path)) (λ (path : List Vertex). All (IsSafeVertex unit padding) path)
+      All-weaker (λ (path : List Vertex). All (IsSafeWidened unit padding) (vertex_points path)) (λ (path : List Vertex). All (IsSafeVertex unit padding) path)
       (λ path all. all_mapped (IsSafeWidened unit padding) (λ (v : Vertex). v.point) path all) paths
-      (all_mapped (λ (points : List Point). All (IsSafeWidened unit padding) points) points_of paths safe),
+      (all_mapped (λ (points : List Point). All (IsSafeWidened unit padding) points) vertex_points paths safe),
 )
 
 module _ (unit : ℕ) (paths : List (List Vertex)) (P : Type 0) (told : P ↔ ArePathsStrokable unit paths) where
-  by_points : P ↔ ArePathsSafe unit (padding_of paths) (map points_of paths)
+  by_points : P ↔ ArePathsSafe unit (padding_of paths) (map vertex_points paths)
   by_points =
       let s = strokable_by_points unit (padding_of paths) paths in
       (λ p. s.0 (told.0 p), λ safe. told.1 (s.1 safe))
 
   -- what tells that the paths may be stroked tells that the bounds of all points are safe, moved outwards
   pub told_by_bounds : (bounds : Edge) → IsBounds bounds (all_vertex_points paths) → P ↔ IsSafeRectangle unit (widened (padding_of paths) bounds)
-  told_by_bounds = accepted_by_bounds unit (padding_of paths) (map points_of paths) P (padding_least paths) by_points
+  told_by_bounds = accepted_by_bounds unit (padding_of paths) (map vertex_points paths) P (padding_least paths) by_points
 
   -- where there is no point the paths may be stroked
   pub told_without_points : all_vertex_points paths ≡ [] → P
-  told_without_points = accepted_without_points unit (padding_of paths) (map points_of paths) P by_points
+  told_without_points = accepted_without_points unit (padding_of paths) (map vertex_points paths) P by_points

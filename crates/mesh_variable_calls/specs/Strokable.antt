@@ -5,7 +5,7 @@ use Rattle.std.specs.List.{All}
 use Rattle.mesh_plane.specs.Plane.{Point}
 use Rattle.mesh_join.specs.VariableStyles.{Vertex}
 use Rattle.mesh_draw.specs.Padding.{all_points}
-use Rattle.mesh_variable_stroke.specs.Drawn.{points_of, greatest_radius, AreStrokable}
+use Rattle.mesh_variable_stroke.specs.Drawn.{vertex_points, greatest_radius, AreStrokable}
 
 -- the greatest radius of all vertices of all paths, 0 where there is none
 unfoldable pub padding_of : List (List Vertex) → ℤ
@@ -18,4 +18,4 @@ ArePathsStrokable unit paths = All (λ (path : List Vertex). AreStrokable unit (
 
 -- the points of all vertices of all paths
 abbrev pub all_vertex_points : List (List Vertex) → List Point
-all_vertex_points paths = all_points (map points_of paths)
+all_vertex_points paths = all_points (map vertex_points paths)

@@ -38,7 +38,7 @@ use Rattle.mesh_sweep.proofs.Swept.{distance_most}
 use Rattle.mesh_variable_stroke.specs.Chains.{circle_of, circles_of, Step, steps_from, is_break, is_cover}
 use Rattle.mesh_variable_stroke.specs.Chains.{end_after, Chain, Rest, broken, covered, continued, rest_of}
 use Rattle.mesh_variable_stroke.specs.Chains.{chains_of}
-use Rattle.mesh_variable_stroke.specs.Drawn.{points_of, greatest_radius}
+use Rattle.mesh_variable_stroke.specs.Drawn.{vertex_points, greatest_radius}
 use Rattle.mesh_variable_stroke.specs.declared.chain_end.ChainEnd.{ChainEnd}
 use Rattle.mesh_variable_stroke.specs.declared.chain_end.ChainEnd.TheVariants.{Butt, Round}
 use Rattle.mesh_variable_stroke.specs.VariableStrokes.{side_edges, sweep_at, start_edges, end_edges, Joint, is_apart}
@@ -396,21 +396,21 @@ all_mapped P g (x ∷ xs) h =
     All-cons (λ x. P (g x)) x xs (All-head P (g x) (map g xs) h) (all_mapped P g xs (All-tail P (g x) (map g xs) h))
 
 circles_on_path : (vertices : List Vertex) →
-    All (IsOnPath (greatest_radius vertices) (points_of vertices)) (circles_of vertices)
+    All (IsOnPath (greatest_radius vertices) (vertex_points vertices)) (circles_of vertices)
 circles_on_path vertices =
-    All-map (IsOnPath (greatest_radius vertices) (points_of vertices)) circle_of vertices
-    (All-weaker (λ (v : Vertex). Contains (points_of vertices) v.point × AtMost (greatest_radius vertices) v)
-    (λ v. IsOnPath (greatest_radius vertices) (points_of vertices) (circle_of v))
+    All-map (IsOnPath (greatest_radius vertices) (vertex_points vertices)) circle_of vertices
+    (All-weaker (λ (v : Vertex). Contains (vertex_points vertices) v.point × AtMost (greatest_radius vertices) v)
+    (λ v. IsOnPath (greatest_radius vertices) (vertex_points vertices) (circle_of v))
     (λ v h. record { listed = h.0; sign = radius_least v.width; covered = h.1 }) vertices
-    (all_both (λ (v : Vertex). Contains (points_of vertices) v.point) (AtMost (greatest_radius vertices)) vertices
-    (all_mapped (Contains (points_of vertices)) (λ (v : Vertex). v.point) vertices
-    (All-contains_itself (points_of vertices)))
+    (all_both (λ (v : Vertex). Contains (vertex_points vertices) v.point) (AtMost (greatest_radius vertices)) vertices
+    (all_mapped (Contains (vertex_points vertices)) (λ (v : Vertex). v.point) vertices
+    (All-contains_itself (vertex_points vertices)))
     (greatest_covers vertices)))
 
 -- all that is drawn along a path is away from one of its points by at most the greatest radius in each coordinate
 pub variable_near : (unit : ℕ) → 2 ^ 14 ≤ unit → (options : ArcOptions) (vertices : List Vertex)
-    → All (λ (e : Edge). IsNear (greatest_radius vertices) (points_of vertices) e.0
-    × IsNear (greatest_radius vertices) (points_of vertices) e.1) (variable_stroke_edges unit options vertices)
+    → All (λ (e : Edge). IsNear (greatest_radius vertices) (vertex_points vertices) e.0
+    × IsNear (greatest_radius vertices) (vertex_points vertices) e.1) (variable_stroke_edges unit options vertices)
 unfolding variable_stroke_edges
 variable_near unit least options vertices =
     All-filter (λ (e : Edge). not (same_point e.0 e.1)) Near (flat_map (chain_edges unit options) chains)
@@ -423,7 +423,7 @@ variable_near unit least options vertices =
     reach = greatest_radius vertices
 
     points : List Point
-    points = points_of vertices
+    points = vertex_points vertices
 
     Near : Edge → Type 0
     Near e = IsNear reach points e.0 × IsNear reach points e.1

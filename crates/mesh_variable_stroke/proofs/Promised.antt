@@ -22,12 +22,12 @@ use Rattle.mesh_draw.proofs.Adding.{adds_edges}
 use Rattle.mesh_draw.proofs.Padding.{ends_safe}
 use Rattle.mesh_draw.proofs.ProperEdges.{proper_kept}
 use Rattle.mesh_variable_stroke.specs.Chains.{circles_of, chains_of}
-use Rattle.mesh_variable_stroke.specs.Drawn.{points_of, greatest_radius, AreStrokable, AreVariablyStroked}
+use Rattle.mesh_variable_stroke.specs.Drawn.{vertex_points, greatest_radius, AreStrokable, AreVariablyStroked}
 use Rattle.mesh_variable_stroke.specs.VariableStrokes.{chain_edges, variable_stroke_edges, variable_stroke_pieces}
 use Rattle.mesh_variable_stroke.proofs.Near.{variable_near}
 use Rattle.mesh_variable_stroke.proofs.Sums.{variable_total}
 
-points_safe : (unit : ℕ) (padding : ℤ) (vertices : List Vertex) → AreStrokable unit padding vertices → All (IsSafeWidened unit padding) (points_of vertices)
+points_safe : (unit : ℕ) (padding : ℤ) (vertices : List Vertex) → AreStrokable unit padding vertices → All (IsSafeWidened unit padding) (vertex_points vertices)
 points_safe unit padding vertices h = All-map (IsSafeWidened unit padding) (λ (v : Vertex). v.point) vertices h
 
 module _ (unit : ℕ) (options : ArcOptions) (vertices : List Vertex) where
@@ -47,14 +47,14 @@ module _ (unit : ℕ) (least : 2 ^ 14 ≤ unit) (options : ArcOptions) (vertices
   edges = variable_stroke_edges unit options vertices
 
   abbrev EndsNear : Edge → Type 0
-  EndsNear e = IsNear (greatest_radius vertices) (points_of vertices) e.0 × IsNear (greatest_radius vertices) (points_of vertices) e.1
+  EndsNear e = IsNear (greatest_radius vertices) (vertex_points vertices) e.0 × IsNear (greatest_radius vertices) (vertex_points vertices) e.1
 
   -- the edges of a stroke have all that is promised of them, where the vertices stay safe within the greatest radius
   pub are_variably_stroked : AreStrokable unit (greatest_radius vertices) vertices → AreVariablyStroked unit options vertices (variable_stroke_edges unit options vertices)
   are_variably_stroked safe = record {
     balanced = variable_balanced unit options vertices;
     near = variable_near unit least options vertices;
-    safe = ends_safe unit (greatest_radius vertices) (points_of vertices) edges (points_safe unit (greatest_radius vertices) vertices safe) (variable_near unit least options vertices);
+    safe = ends_safe unit (greatest_radius vertices) (vertex_points vertices) edges (points_safe unit (greatest_radius vertices) vertices safe) (variable_near unit least options vertices);
     sum = λ m q. variable_total (crossing_on m q) (crossing_on_odd m q) unit options vertices;
   }
 

@@ -14,8 +14,8 @@ use Rattle.mesh_draw.specs.Radii.{radius_of}
 use Rattle.mesh_variable_stroke.specs.VariableStrokes.{variable_stroke_pieces}
 
 -- the points of vertices
-abbrev pub points_of : List Vertex → List Point
-points_of vertices = map (λ (v : Vertex). v.point) vertices
+abbrev pub vertex_points : List Vertex → List Point
+vertex_points vertices = map (λ (v : Vertex). v.point) vertices
 
 -- the greatest radius of a vertex, 0 where there is none
 unfoldable pub greatest_radius : List Vertex → ℤ
@@ -33,7 +33,7 @@ pub record AreVariablyStroked (unit : ℕ) (options : ArcOptions) (vertices : Li
   -- they close up: as many of them end in a point as start there
   pub balanced : IsBalanced es
   -- they stay near the path
-  pub near : AreEndsNear (greatest_radius vertices) (points_of vertices) es
+  pub near : AreEndsNear (greatest_radius vertices) (vertex_points vertices) es
   -- and in the safe range
   pub safe : AreEdgesSafe unit es
   -- they wind as the pieces of the stroke together

@@ -9,7 +9,7 @@ ghost use Rattle.mesh_cuts.specs.Reach.{AreEdgesSafe};
 ghost use Rattle.mesh_draw.specs.Adding.{Adds, added, added_edges, Keeps};
 ghost use Rattle.mesh_draw.specs.Padding.{AreEndsNear};
 ghost use Rattle.mesh_draw.specs.Pieces.{WindAsPieces};
-ghost use Rattle.mesh_variable_stroke.specs.Drawn.{points_of, greatest_radius, AreStrokable};
+ghost use Rattle.mesh_variable_stroke.specs.Drawn.{vertex_points, greatest_radius, AreStrokable};
 ghost use Rattle.mesh_variable_stroke.specs.VariableStrokes.{variable_stroke_edges, variable_stroke_pieces};
 
 use crate::vertex::circle_of;
@@ -73,7 +73,7 @@ impl<I: IntNumber> VariableStrokeBuilder<I> {
 
         // The edges close up, and stay near the path.
         ensures balanced { OnOk result (IsBalanced (added_edges segments.old.items segments.new.items)) }
-        ensures near { OnOk result (AreEndsNear (greatest_radius path.now) (points_of path.now)
+        ensures near { OnOk result (AreEndsNear (greatest_radius path.now) (vertex_points path.now)
             (added_edges segments.old.items segments.new.items)) }
         ensures safe { OnOk result (AreEdgesSafe I.unit (added_edges segments.old.items segments.new.items)) }
 

@@ -10,7 +10,7 @@ ghost use Rattle.mesh_clean.specs.Cleaned.{AllEqual, cleaned_sections};
 ghost use Rattle.mesh_join.specs.Joins.{offset_padding, HasFew};
 ghost use Rattle.mesh_join.specs.Styles.{style_of};
 ghost use Rattle.mesh_draw.specs.Adding.{Adds, added, added_edges, Keeps};
-ghost use Rattle.mesh_draw.specs.Drawing.{NeverTurnedRound, WindAsPieces, WindsByCount};
+ghost use Rattle.mesh_draw.specs.Drawing.{NeverTurnedRound, WindAsContourAndPieces, WindsByCount};
 ghost use Rattle.mesh_draw.specs.Adding.{HasRoomFor};
 ghost use Rattle.mesh_draw.specs.Padding.{AreEndsNear};
 ghost use Rattle.mesh_outline.specs.Building.{style_for, IsMovable};
@@ -78,8 +78,9 @@ impl<I: IntNumber> OutlineBuilder<I> {
 
     /// Adds the edges of the outline of the closed contour through these points, each of which stays in the safe
     /// range where it moves by the padding of the joins. What the vector holds stays. No memory is taken where there
-    /// is no point or all are equal. Without round joins there are at most four edges a section, and where there is room
-    /// for them it succeeds. After a refusal the vector is cut back to its old length. It keeps its room in either case.
+    /// is no point or all are equal. Without round joins there are at most four edges a section, and where there is
+    /// room for them it succeeds. After a refusal the vector is cut back to its old length. It keeps its room in either
+    /// case.
     pub fn build(
         &mut self,
         path: &[IntPoint<I>],
@@ -109,7 +110,7 @@ impl<I: IntNumber> OutlineBuilder<I> {
         ensures safe { OnOk result (AreEdgesSafe I.unit (added_edges segments.old.items segments.new.items)) }
 
         // How they wind.
-        ensures sum { OnOk result (WindAsPieces path.now (outline_pieces I.unit self.old path.now)
+        ensures sum { OnOk result (WindAsContourAndPieces path.now (outline_pieces I.unit self.old path.now)
             (added_edges segments.old.items segments.new.items)) }
         ensures pieces { OnOk result (NeverTurnedRound self.old.offset (outline_pieces I.unit self.old path.now)) }
         ensures count { OnOk result (WindsByCount self.old.offset path.now (outline_pieces I.unit self.old path.now)

@@ -11,7 +11,7 @@ ghost use Rattle.mesh_join.specs.Styles.{style_of};
 ghost use Rattle.mesh_draw.specs.Padding.{ArePathsSafe};
 ghost use Rattle.mesh_draw.specs.Adding.{answer_edges};
 ghost use Rattle.mesh_outline.specs.Building.{IsMovable};
-ghost use Rattle.mesh_outline.specs.Kinds.{contour_kind, sense_of};
+ghost use Rattle.mesh_outline.specs.Kinds.{contour_kind, kind_fill};
 ghost use Rattle.mesh_outline.specs.Midway.{AddsInSense, AddsAnswer, AddsGiven, AreGiven};
 ghost use Rattle.mesh_outline.specs.Resolved.{DoAreasFit, HavePromisedEdges};
 ghost use Rattle.mesh_outline.specs.Staying.{StaysSafe};
@@ -99,7 +99,7 @@ fn add_contour<I: IntNumber>(
 
 /// The sense in which a contour of this kind is filled: a hole in the negative one.
 fn fill_of(kind: ContourKind) -> FillRule
-    ensures { result ≡ sense_of kind }
+    ensures { result ≡ kind_fill kind }
 {
     match kind {
         ContourKind::Hole => FillRule::Negative,

@@ -3,7 +3,7 @@
 ghost use Rattle.std.specs.Prelude.{◌≡◌, Some, None, MatchResult, option_map};
 ghost use Rattle.serde_json.specs.View.{view, items_view};
 ghost use Rattle.mesh_num.specs.Paths.{paths_of};
-ghost use Rattle.mesh_request.specs.Reading.{point_of, points_of, path_of, path_list_of, paths_in, length_of, IsOfReading};
+ghost use Rattle.mesh_request.specs.Reading.{point_of, point_list_of, path_of, path_list_of, paths_in, length_of, IsOfReading};
 
 use crate::failure::Failure;
 use crate::json::coordinate;
@@ -51,8 +51,8 @@ pub fn path<I: OverlayInt>(alloc: Global, value: &Value) -> Result<Vec<IntPoint<
 }
 
 fn points<I: OverlayInt>(alloc: Global, items: &[Value]) -> Result<Vec<IntPoint<I>>, Failure>
-    ensures { MatchResult result (λ ps. points_of I.unit (items_view items.now) ≡ Some ps.items)
-        (λ e. IsOfReading e × (e ≡ Failure.Unreadable → points_of I.unit (items_view items.now) ≡ None)) }
+    ensures { MatchResult result (λ ps. point_list_of I.unit (items_view items.now) ≡ Some ps.items)
+        (λ e. IsOfReading e × (e ≡ Failure.Unreadable → point_list_of I.unit (items_view items.now) ≡ None)) }
 {
     let mut points = Vec::new(alloc);
     for item in items {

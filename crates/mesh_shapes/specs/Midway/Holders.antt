@@ -22,8 +22,8 @@ abbrev pub ring_edges : Placed → List PlacedEdge
 ring_edges h = cond (is_positive h) (with_place h.0 (boundary h.1.0)) []
 
 -- the edges of all rings of positive area, ring after ring
-abbrev pub edges_of : List Ring → List PlacedEdge
-edges_of rs = flat_map ring_edges (placed rs)
+abbrev pub placed_edges : List Ring → List PlacedEdge
+placed_edges rs = flat_map ring_edges (placed rs)
 
 -- the places beside edges rise from `low`, and stay below `end`
 abbrev pub Rise : ℕ → ℕ → List PlacedEdge → Type 0

@@ -2,7 +2,7 @@ use Rattle.std.proofs.Common.{rules, ◌≡◌, ℕ, false, length, ap, subst, a
 use Rattle.std.specs.Prelude.{pos, int_lt}
 use Rattle.std.proofs.lemmas.List.{length-map}
 use Rattle.mesh_shapes.specs.Contours.{double_area}
-use Rattle.mesh_shapes.specs.Midway.Holders.{Rise, edges_of}
+use Rattle.mesh_shapes.specs.Midway.Holders.{Rise, placed_edges}
 use Rattle.mesh_shapes.specs.Resolution.{Ring}
 use Rattle.mesh_shapes.specs.Vectors.{ring_held, rings_held}
 use Rattle.mesh_shapes.proofs.HolderRows.{row_rises, row_tells}
@@ -25,14 +25,14 @@ holder-requires c =
     let q = (get_or c.args.rings.now c.args.i c.index-rings-i.result).1 in
     subst (λ (n : ℕ). Rise 0 n c.row.result.now) len
     (row_rises rs c.args.rows.now.marks.items c.row.result.now q
-    (row_is c.args.rows.now.marks.items c.args.rows.now.lists.items (edges_of rs) c.row.result.now q (c.requires.rows_known flat) c.row.ensures))
+    (row_is c.args.rows.now.marks.items c.args.rows.now.lists.items (placed_edges rs) c.row.result.now q (c.requires.rows_known flat) c.row.ensures))
 
 pub returns-in_default-clause-home : goal.returns-in_default-clause-home
 returns-in_default-clause-home c =
     let flat : int_lt (pos 0) (get_or c.args.areas.now c.args.i (pos 0)) ≡ false = search rules in
     let rs = rings_held c.args.rings.now in
     let q = (get_or c.args.rings.now c.args.i c.index-rings-i.result).1 in
-    let row = row_is c.args.rows.now.marks.items c.args.rows.now.lists.items (edges_of rs) c.row.result.now q (c.requires.rows_known flat) c.row.ensures in
+    let row = row_is c.args.rows.now.marks.items c.args.rows.now.lists.items (placed_edges rs) c.row.result.now q (c.requires.rows_known flat) c.row.ensures in
     home_none c.args.rings.now c.args.i c.index-rings-i.result c.requires.in_range
     (c.in_default.ensures rs c.requires.areas_known (row_tells rs c.args.rows.now.marks.items c.row.result.now q row))
 
@@ -41,7 +41,7 @@ returns-clause-home c =
     let flat : int_lt (pos 0) (get_or c.args.areas.now c.args.i (pos 0)) ≡ false = search rules in
     let rs = rings_held c.args.rings.now in
     let q = (get_or c.args.rings.now c.args.i c.index-rings-i.result).1 in
-    let row = row_is c.args.rows.now.marks.items c.args.rows.now.lists.items (edges_of rs) c.row.result.now q (c.requires.rows_known flat) c.row.ensures in
+    let row = row_is c.args.rows.now.marks.items c.args.rows.now.lists.items (placed_edges rs) c.row.result.now q (c.requires.rows_known flat) c.row.ensures in
     home_some c.args.rings.now c.args.areas.now c.args.i c.in-Some.h c.index-rings-i.result c.requires.areas_known c.requires.in_range flat
     (c.in-Some.ensures rs c.requires.areas_known (row_tells rs c.args.rows.now.marks.items c.row.result.now q row))
 
@@ -50,6 +50,6 @@ returns-clause-within c =
     let flat : int_lt (pos 0) (get_or c.args.areas.now c.args.i (pos 0)) ≡ false = search rules in
     let rs = rings_held c.args.rings.now in
     let q = (get_or c.args.rings.now c.args.i c.index-rings-i.result).1 in
-    let row = row_is c.args.rows.now.marks.items c.args.rows.now.lists.items (edges_of rs) c.row.result.now q (c.requires.rows_known flat) c.row.ensures in
+    let row = row_is c.args.rows.now.marks.items c.args.rows.now.lists.items (placed_edges rs) c.row.result.now q (c.requires.rows_known flat) c.row.ensures in
     let found = c.in-Some.ensures rs c.requires.areas_known (row_tells rs c.args.rows.now.marks.items c.row.result.now q row) in
     omega (arith, found.within, length-map c.args.rings.now ring_held)
