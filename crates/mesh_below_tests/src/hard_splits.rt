@@ -4,7 +4,7 @@ ghost use Rattle.std.specs.Prelude.{◌<◌};
 
 use crate::random_splits::push_closed;
 use mesh_below::given::are_proper;
-use mesh_below::grid::{CountedSegment, GridEdge};
+use mesh_below::grid::{CountedSegment, GridEdge, GridPoint};
 use mesh_below::splitter::split_edges_counted;
 use mesh_toolbox::compared::{expect_equal, expect_that};
 use std::alloc::Global;
@@ -68,21 +68,137 @@ const LONG: &[Corners] = &[
     ],
 ];
 
+/// Contours that go back a unit beside themselves. Where splits run on along a line for some hundred, as in an order once
+/// taken, they drag points 6 to 10 units off these edges.
+const DRAGGED: &[Corners] = &[
+    &[
+        (-648, 367),
+        (363, 621),
+        (-379, -532),
+        (520, 291),
+        (255, -826),
+        (-682, 575),
+        (835, -381),
+        (497, 944),
+        (-840, 95),
+        (498, 945),
+        (835, -382),
+        (-682, 575),
+        (256, -827),
+        (519, 292),
+        (-378, -531),
+        (364, 620),
+    ],
+    &[
+        (6493, -3717),
+        (-4192, -1137),
+        (-645, -2689),
+        (7102, -2590),
+        (1342, -5655),
+        (6348, -4202),
+        (3991, -2678),
+        (2572, -4704),
+        (7541, -6635),
+        (2572, -4703),
+        (3990, -2678),
+        (6347, -4203),
+        (1341, -5654),
+        (7103, -2590),
+        (-644, -2688),
+        (-4192, -1136),
+    ],
+    &[
+        (2245, 7630),
+        (5886, 7304),
+        (-58, 3153),
+        (2865, -6165),
+        (1087, 330),
+        (-6855, 7256),
+        (7063, -7685),
+        (-6856, 7255),
+        (1087, 331),
+        (2866, -6164),
+        (-59, 3153),
+        (5887, 7305),
+    ],
+];
+
+/// A way between two points, in `x` and in `y`.
+fn way_to(from: GridPoint, to: GridPoint) -> (i128, i128) {
+    (
+        i128::from(to.0).wrapping_sub(i128::from(from.0)),
+        i128::from(to.1).wrapping_sub(i128::from(from.1)),
+    )
+}
+
+/// The product of two ways along each other.
+fn dot(v: (i128, i128), w: (i128, i128)) -> i128 {
+    v.0.wrapping_mul(w.0).wrapping_add(v.1.wrapping_mul(w.1))
+}
+
+/// Whether a point is at most two units away from an edge.
+fn is_near(p: GridPoint, e: GridEdge) -> bool {
+    let along = way_to(e.0, e.1);
+    let off = way_to(e.0, p);
+    let length = dot(along, along);
+    let ahead = dot(off, along);
+    if ahead <= 0 {
+        return dot(off, off) <= 4;
+    }
+    if length <= ahead {
+        let past = way_to(e.1, p);
+        return dot(past, past) <= 4;
+    }
+    let beside = off
+        .0
+        .wrapping_mul(along.1)
+        .wrapping_sub(off.1.wrapping_mul(along.0));
+    beside.wrapping_mul(beside) <= length.wrapping_mul(4)
+}
+
+/// Whether a point is that near to one of these edges.
+fn is_near_some(p: GridPoint, edges: &[GridEdge]) -> bool {
+    for e in edges {
+        if is_near(p, *e) {
+            return true;
+        }
+    }
+    false
+}
+
 /// How far the segments lead in all, in `x` and in `y`: nowhere where they are balanced.
 fn way(segments: &[CountedSegment]) -> (i128, i128) {
     let mut sum = (0i128, 0i128);
     for segment in segments {
         let ((start, end), count) = *segment;
-        let x = i128::from(end.0).wrapping_sub(i128::from(start.0));
-        let y = i128::from(end.1).wrapping_sub(i128::from(start.1));
-        sum.0 = sum.0.wrapping_add(x.wrapping_mul(count));
-        sum.1 = sum.1.wrapping_add(y.wrapping_mul(count));
+        let way = way_to(start, end);
+        sum.0 = sum.0.wrapping_add(way.0.wrapping_mul(count));
+        sum.1 = sum.1.wrapping_add(way.1.wrapping_mul(count));
     }
     sum
 }
 
-/// How often segments of a contour were split, in attempts that were given up too, until none met another.
-fn splits_of(alloc: Global, corners: &[(i32, i32)]) -> Result<usize, Fail> {
+/// Both ends of each segment are that near to some edge.
+fn expect_near(segments: &[CountedSegment], edges: &[GridEdge]) -> Result<(), Fail> {
+    for segment in segments {
+        let (start, end) = segment.0;
+        expect_that(is_near_some(start, edges), &start)?;
+        expect_that(is_near_some(end, edges), &end)?;
+    }
+    Ok(())
+}
+
+/// The edges of a contour, what they were split into, and how often segments were split, in attempts that were given up
+/// too.
+#[derive(Drop)]
+struct Split {
+    edges: Vec<GridEdge>,
+    segments: Vec<CountedSegment>,
+    splits: usize,
+}
+
+/// Splits the edges of a contour until none meets another.
+fn split_contour(alloc: Global, corners: &[(i32, i32)]) -> Result<Split, Fail> {
     let mut edges: Vec<GridEdge> = Vec::new(alloc);
     push_closed(&mut edges, corners)?;
     if !are_proper(&edges) {
@@ -92,7 +208,11 @@ fn splits_of(alloc: Global, corners: &[(i32, i32)]) -> Result<usize, Fail> {
     let segments = split_edges_counted(alloc, &edges, &mut splits)?;
     expect_that(edges.len() <= segments.len(), &corners)?;
     expect_equal(&way(&segments), &(0, 0), &corners)?;
-    Ok(splits)
+    Ok(Split {
+        edges,
+        segments,
+        splits,
+    })
 }
 
 /// A split cuts two segments at most, so these are no more than 2,000 cuts in all.
@@ -100,7 +220,7 @@ fn splits_of(alloc: Global, corners: &[(i32, i32)]) -> Result<usize, Fail> {
 fn unlucky_orders_are_left(rt: HostRuntime) -> Result<(), Fail> {
     let mut splits: usize = 0;
     for corners in UNLUCKY {
-        splits = splits.saturating_add(splits_of(rt.alloc(), corners)?);
+        splits = splits.saturating_add(split_contour(rt.alloc(), corners)?.splits);
     }
     expect_that(splits <= 1000, &splits)
 }
@@ -108,7 +228,16 @@ fn unlucky_orders_are_left(rt: HostRuntime) -> Result<(), Fail> {
 #[test]
 fn long_runs_end(rt: HostRuntime) -> Result<(), Fail> {
     for corners in LONG {
-        splits_of(rt.alloc(), corners)?;
+        split_contour(rt.alloc(), corners)?;
+    }
+    Ok(())
+}
+
+#[test]
+fn splits_stay_near_the_edges(rt: HostRuntime) -> Result<(), Fail> {
+    for corners in DRAGGED {
+        let made = split_contour(rt.alloc(), corners)?;
+        expect_near(&made.segments, &made.edges)?;
     }
     Ok(())
 }
@@ -124,7 +253,7 @@ fn many_splits_along_one_line_end(rt: HostRuntime) -> Result<(), Fail> {
             (n.wrapping_add(1), far),
             (1, -2),
         ];
-        splits_of(rt.alloc(), &corners)?;
+        split_contour(rt.alloc(), &corners)?;
     }
     Ok(())
 }
