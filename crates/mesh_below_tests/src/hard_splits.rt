@@ -68,8 +68,8 @@ const LONG: &[Corners] = &[
     ],
 ];
 
-/// Contours that go back a unit beside themselves. Where splits run on along a line for some hundred, as in an order once
-/// taken, they drag points 6 to 10 units off these edges.
+/// Contours that go back a unit beside themselves. Where splits run on along a line for some hundred, as in an order
+/// once taken, they drag points 6 to 10 units off these edges.
 const DRAGGED: &[Corners] = &[
     &[
         (-648, 367),
@@ -140,12 +140,12 @@ fn dot(v: (i128, i128), w: (i128, i128)) -> i128 {
 fn is_near(p: GridPoint, e: GridEdge) -> bool {
     let along = way_to(e.0, e.1);
     let off = way_to(e.0, p);
-    let length = dot(along, along);
+    let squared_length = dot(along, along);
     let ahead = dot(off, along);
     if ahead <= 0 {
         return dot(off, off) <= 4;
     }
-    if length <= ahead {
+    if squared_length <= ahead {
         let past = way_to(e.1, p);
         return dot(past, past) <= 4;
     }
@@ -153,7 +153,7 @@ fn is_near(p: GridPoint, e: GridEdge) -> bool {
         .0
         .wrapping_mul(along.1)
         .wrapping_sub(off.1.wrapping_mul(along.0));
-    beside.wrapping_mul(beside) <= length.wrapping_mul(4)
+    beside.wrapping_mul(beside) <= squared_length.wrapping_mul(4)
 }
 
 /// Whether a point is that near to one of these edges.
