@@ -8,7 +8,8 @@ use std::alloc::{AllocError, Global};
 /// An edge, and how often it counts.
 pub type Counted = (Edge, i128);
 
-fn plain(e: GridEdge) -> Edge {
+/// The edge, plainly.
+pub fn plain(e: GridEdge) -> Edge {
     let ((a, b), (c, d)) = e;
     (
         (i128::from(a), i128::from(b)),

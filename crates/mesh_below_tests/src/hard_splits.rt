@@ -2,11 +2,13 @@
 
 ghost use Rattle.std.specs.Prelude.{◌<◌};
 
+use crate::counted::{plain, plain_edges};
 use crate::random_splits::push_closed;
 use mesh_below::given::are_proper;
-use mesh_below::grid::{CountedSegment, GridEdge, GridPoint};
+use mesh_below::grid::{CountedSegment, GridEdge};
 use mesh_below::splitter::split_edges_counted;
 use mesh_toolbox::compared::{expect_equal, expect_that};
+use mesh_toolbox::plain::{Edge, Point, cross, dot, minus};
 use std::alloc::Global;
 use std::test::Fail;
 
@@ -123,43 +125,27 @@ const DRAGGED: &[Corners] = &[
     ],
 ];
 
-/// A way between two points, in `x` and in `y`.
-fn way_to(from: GridPoint, to: GridPoint) -> (i128, i128) {
-    (
-        i128::from(to.0).wrapping_sub(i128::from(from.0)),
-        i128::from(to.1).wrapping_sub(i128::from(from.1)),
-    )
-}
-
-/// The product of two ways along each other.
-fn dot(v: (i128, i128), w: (i128, i128)) -> i128 {
-    v.0.wrapping_mul(w.0).wrapping_add(v.1.wrapping_mul(w.1))
-}
-
 /// Whether a point is at most two units away from an edge.
-fn is_near(p: GridPoint, e: GridEdge) -> bool {
-    let along = way_to(e.0, e.1);
-    let off = way_to(e.0, p);
+fn is_near_edge(p: Point, e: Edge) -> bool {
+    let along = minus(e.1, e.0);
+    let off = minus(p, e.0);
     let squared_length = dot(along, along);
     let ahead = dot(off, along);
     if ahead <= 0 {
         return dot(off, off) <= 4;
     }
     if squared_length <= ahead {
-        let past = way_to(e.1, p);
+        let past = minus(p, e.1);
         return dot(past, past) <= 4;
     }
-    let beside = off
-        .0
-        .wrapping_mul(along.1)
-        .wrapping_sub(off.1.wrapping_mul(along.0));
+    let beside = cross(along, off);
     beside.wrapping_mul(beside) <= squared_length.wrapping_mul(4)
 }
 
 /// Whether a point is that near to one of these edges.
-fn is_near_some(p: GridPoint, edges: &[GridEdge]) -> bool {
+fn is_near_some(p: Point, edges: &[Edge]) -> bool {
     for e in edges {
-        if is_near(p, *e) {
+        if is_near_edge(p, *e) {
             return true;
         }
     }
@@ -170,18 +156,18 @@ fn is_near_some(p: GridPoint, edges: &[GridEdge]) -> bool {
 fn way(segments: &[CountedSegment]) -> (i128, i128) {
     let mut sum = (0i128, 0i128);
     for segment in segments {
-        let ((start, end), count) = *segment;
-        let way = way_to(start, end);
-        sum.0 = sum.0.wrapping_add(way.0.wrapping_mul(count));
-        sum.1 = sum.1.wrapping_add(way.1.wrapping_mul(count));
+        let (start, end) = plain(segment.0);
+        let way = minus(end, start);
+        sum.0 = sum.0.wrapping_add(way.0.wrapping_mul(segment.1));
+        sum.1 = sum.1.wrapping_add(way.1.wrapping_mul(segment.1));
     }
     sum
 }
 
 /// Both ends of each segment are that near to some edge.
-fn expect_near(segments: &[CountedSegment], edges: &[GridEdge]) -> Result<(), Fail> {
+fn expect_near(segments: &[CountedSegment], edges: &[Edge]) -> Result<(), Fail> {
     for segment in segments {
-        let (start, end) = segment.0;
+        let (start, end) = plain(segment.0);
         expect_that(is_near_some(start, edges), &start)?;
         expect_that(is_near_some(end, edges), &end)?;
     }
@@ -237,7 +223,8 @@ fn long_runs_end(rt: HostRuntime) -> Result<(), Fail> {
 fn splits_stay_near_the_edges(rt: HostRuntime) -> Result<(), Fail> {
     for corners in DRAGGED {
         let made = split_contour(rt.alloc(), corners)?;
-        expect_near(&made.segments, &made.edges)?;
+        let edges = plain_edges(rt.alloc(), &made.edges)?;
+        expect_near(&made.segments, &edges)?;
     }
     Ok(())
 }
