@@ -1,18 +1,20 @@
 //! The windings at the ends of segments. One of each connected part is a sum over the row of its point. The others
 //! follow from it, along segments.
 
-ghost use Rattle.std.specs.Prelude.{◌≡◌, true, List, neg_ℤ, IfOk, IfSome, OnOk};
-ghost use Rattle.mesh_plane.specs.Plane.{Edge};
+ghost use Rattle.std.specs.Prelude.{◌≡◌, ℕ, ◌<◌, true, List, length, slice_index_or, neg_ℤ, IfOk, IfSome, OnOk};
+ghost use Rattle.std.specs.List.{All};
+ghost use Rattle.mesh_plane.specs.Plane.{Point, Edge};
 ghost use Rattle.mesh_plane.specs.Winding.{sum_of};
 ghost use Rattle.mesh_cuts.specs.Boundary.{left_winding, right_winding};
-ghost use Rattle.mesh_cuts.specs.Counted.{size, IsRoomy};
+ghost use Rattle.mesh_cuts.specs.Counted.{Counted, size, IsRoomy};
 ghost use Rattle.mesh_cuts.specs.Split.{back, occurs};
-ghost use Rattle.mesh_boundary.specs.Midway.Flood.{OfSplitEdges, IsLevel, AreKnown, IsFlood};
+ghost use Rattle.mesh_sides.specs.Laws.{AreSplit};
+ghost use Rattle.mesh_boundary.specs.Midway.Flood.{OfSplitEdges, IsLevel, AreKnown};
 ghost use Rattle.mesh_boundary.specs.Midway.Rows.{AreRows};
-ghost use Rattle.mesh_boundary.specs.Midway.Stars.{AreStars, AreShaped, HaveStars, IsSegment};
+ghost use Rattle.mesh_boundary.specs.Midway.Stars.{ends_at, segments_at, AreStars, AreShaped, HaveStars, IsSegment, IsStar};
 
 use crate::rows::Rows;
-use crate::stars::{Stars, back, before};
+use crate::stars::{Ends, Stars, back, before};
 use crate::winding::winding;
 use mesh_cuts::exact::same_point;
 use mesh_cuts::fine::doubled;
@@ -25,21 +27,31 @@ pub type Level = (GridPoint, i128);
 /// The windings to the left and to the right of a segment.
 pub type Sides = (i128, i128);
 
-/// What is known of the windings at ends: by place, and those from which segments are still to be followed.
+/// A segment, and the places of its ends.
+type Placed = (CountedSegment, Ends);
+
+/// What is known of the windings at ends: by place, and the places from which segments are still to be followed.
 #[derive(Drop)]
 pub struct Flood {
     known: Vec<Option<Level>>,
-    waiting: Vec<Level>,
+    waiting: Vec<usize>,
+}
+
+/// What is known at a place: a point that has it, and the winding there.
+fn known_at(known: &[Option<Level>], i: usize) -> Option<Level>
+    ensures { (es : List Edge) → AreKnown es known.now → IfSome result (λ l. IsLevel es l) }
+{
+    if i >= known.len() {
+        return None;
+    }
+    known[i]
 }
 
 /// The winding known at a place, if it is the one of the point.
 fn level_at(known: &[Option<Level>], i: usize, p: GridPoint) -> Option<i128>
     ensures { (es : List Edge) → AreKnown es known.now → IfSome result (λ w. IsLevel es (p, w)) }
 {
-    if i >= known.len() {
-        return None;
-    }
-    let l = known[i]?;
+    let l = known_at(known, i)?;
     if !same_point(l.0, p) {
         return None;
     }
@@ -63,42 +75,57 @@ fn turned(s: CountedSegment) -> Option<CountedSegment>
 }
 
 /// The segment directed away from a point, if it ends there.
-fn directed(p: GridPoint, s: CountedSegment) -> Option<CountedSegment>
-    ensures start { IfSome result (λ k. k.0.0 ≡ p) }
-    ensures segment { (es : List Edge) → IsSegment es s → IfSome result (λ k. IsSegment es k) }
+fn directed(p: GridPoint, s: CountedSegment, ends: Ends) -> Option<Placed>
+    ensures start { IfSome result (λ w. w.0.0.0 ≡ p) }
+    ensures segment { (es : List Edge) → IsSegment es s → IfSome result (λ w. IsSegment es w.0) }
+    ensures ends { (at : Point → ℕ) → ends ≡ ends_at at s.0 → IfSome result (λ w. w.1 ≡ ends_at at w.0.0) }
+    ensures below { (n : ℕ) → ends.0 < n → ends.1 < n → IfSome result (λ w. (w.1.0 < n) × (w.1.1 < n)) }
 {
     if same_point(p, s.0.0) {
-        return Some(s);
+        return Some((s, ends));
     }
     if same_point(p, s.0.1) {
-        return turned(s);
+        return Some((turned(s)?, (ends.1, ends.0)));
     }
     None
 }
 
-/// The winding on the right of a segment, from that at its start.
-fn right_of(stars: &Stars, winding: i128, e: GridEdge) -> Option<i128>
-    requires { AreShaped stars.now.marks.items stars.now.lists.items }
-    ensures { (es : List Edge) → HaveStars es stars.now.marks.items stars.now.lists.items → occurs e es ≡ true
+/// The winding on the right of a segment, from that at its start, with the indices of what ends there.
+fn right_of(
+    segments: &[CountedSegment],
+    star: &[usize],
+    winding: i128,
+    e: GridEdge,
+) -> Option<i128>
+    requires { All (λ k. k < length segments.now) star.now }
+    ensures { (es : List Edge) → AreSplit es → IsStar es e.0 (segments_at segments.now star.now) → occurs e es ≡ true
         → IsLevel es (e.0, winding) → IfSome result (λ r. r ≡ right_winding es e) }
 {
-    winding.checked_add(before(stars.star(e.0), e)?)
+    winding.checked_add(before(segments, star, e)?)
 }
 
-/// The winding at the end of a segment, from that at its start.
-fn across(stars: &Stars, winding: i128, s: CountedSegment) -> Option<i128>
-    requires { AreShaped stars.now.marks.items stars.now.lists.items }
-    ensures { (es : List Edge) → HaveStars es stars.now.marks.items stars.now.lists.items → IsSegment es s
-        → IsLevel es (s.0.0, winding) → IfSome result (λ w. IsLevel es (s.0.1, w)) }
+/// The winding at the end of a segment, from that at its start, with the indices of what ends at both.
+fn across(
+    segments: &[CountedSegment],
+    star: &[usize],
+    other: &[usize],
+    winding: i128,
+    s: CountedSegment,
+) -> Option<i128>
+    requires star { All (λ k. k < length segments.now) star.now }
+    requires other { All (λ k. k < length segments.now) other.now }
+    ensures { (es : List Edge) → AreSplit es → IsSegment es s → IsStar es s.0.0 (segments_at segments.now star.now)
+        → IsStar es s.0.1 (segments_at segments.now other.now) → IsLevel es (s.0.0, winding)
+        → IfSome result (λ w. IsLevel es (s.0.1, w)) }
 {
-    let left = right_of(stars, winding, s.0)?.checked_add(s.1)?;
-    left.checked_sub(before(stars.star(s.0.1), back(s.0))?)
+    let left = right_of(segments, star, winding, s.0)?.checked_add(s.1)?;
+    left.checked_sub(before(segments, other, back(s.0))?)
 }
 
 impl Flood {
     /// Nothing is known yet.
     fn unknown(alloc: Global, places: usize) -> Result<Flood, AllocError>
-        ensures { IfOk result (λ f. (es : List Edge) → IsFlood es f) }
+        ensures { IfOk result (λ f. (es : List Edge) → AreKnown es f.known.items) }
     {
         let mut known = Vec::with_capacity(alloc, places)?;
         for _made in 0..places {
@@ -110,66 +137,80 @@ impl Flood {
         })
     }
 
-    /// The winding at a point, where it is known.
-    fn level(&self, stars: &Stars, p: GridPoint) -> Option<i128>
-        requires { AreShaped stars.now.marks.items stars.now.lists.items }
-        ensures { (es : List Edge) → AreKnown es self.now.known.items → IfSome result (λ w. IsLevel es (p, w)) }
+    /// Puts down the winding at a point, which has this place.
+    fn note(&mut self, i: usize, l: Level) -> Result<(), AllocError>
+        ensures { OnOk result ((es : List Edge) → IsLevel es l → AreKnown es self.old.known.items
+            → AreKnown es self.new.known.items) }
     {
-        level_at(&self.known, stars.place(p), p)
-    }
-
-    /// Puts down the winding at a point.
-    fn note(&mut self, stars: &Stars, l: Level) -> Result<(), AllocError>
-        requires { AreShaped stars.now.marks.items stars.now.lists.items }
-        ensures { OnOk result ((es : List Edge) → IsLevel es l → IsFlood es self.old → IsFlood es self.new) }
-    {
-        put_level(&mut self.known, stars.place(l.0), l);
-        self.waiting.push(l)?;
+        put_level(&mut self.known, i, l);
+        self.waiting.push(i)?;
         Ok(())
     }
 
-    /// Follows a segment from a point to its other end.
-    fn follow(&mut self, stars: &Stars, l: Level, s: CountedSegment) -> Result<(), AllocError>
-        requires { AreShaped stars.now.marks.items stars.now.lists.items }
-        ensures { OnOk result ((es : List Edge) → HaveStars es stars.now.marks.items stars.now.lists.items
-            → IsSegment es s → IsLevel es l → IsFlood es self.old → IsFlood es self.new) }
+    /// Follows the segment with an index from a point to its other end.
+    fn follow(
+        &mut self,
+        segments: &[CountedSegment],
+        stars: &Stars,
+        l: Level,
+        k: usize,
+    ) -> Result<(), AllocError>
+        requires shape { AreShaped stars.now.lists.items stars.now.ends.items (length segments.now) }
+        requires in_range { k < length segments.now }
+        ensures { OnOk result ((es : List Edge)
+            → HaveStars es segments.now stars.now.lists.items stars.now.ends.items → IsLevel es l
+            → AreKnown es self.old.known.items → AreKnown es self.new.known.items) }
     {
-        let Some(away) = directed(l.0, s) else {
+        let Some((away, ends)) = directed(l.0, segments[k], stars.ends[k]) else {
             return Ok(());
         };
-        if self.level(stars, away.0.1).is_some() {
+        if level_at(&self.known, ends.1, away.0.1).is_some() {
             return Ok(());
         }
-        let Some(winding) = across(stars, l.1, away) else {
+        let star = stars.star(ends.0);
+        let Some(winding) = across(segments, star, stars.star(ends.1), l.1, away) else {
             return Ok(());
         };
-        self.note(stars, (away.0.1, winding))?;
+        self.note(ends.1, (away.0.1, winding))?;
         Ok(())
     }
 
-    /// Follows all segments at a point.
-    fn spread(&mut self, stars: &Stars, l: Level) -> Result<(), AllocError>
-        requires { AreShaped stars.now.marks.items stars.now.lists.items }
-        ensures { OnOk result ((es : List Edge) → HaveStars es stars.now.marks.items stars.now.lists.items
-            → IsLevel es l → IsFlood es self.old → IsFlood es self.new) }
+    /// Follows all segments at a place.
+    fn spread(
+        &mut self,
+        segments: &[CountedSegment],
+        stars: &Stars,
+        i: usize,
+    ) -> Result<(), AllocError>
+        requires shape { AreShaped stars.now.lists.items stars.now.ends.items (length segments.now) }
+        ensures { OnOk result ((es : List Edge)
+            → HaveStars es segments.now stars.now.lists.items stars.now.ends.items
+            → AreKnown es self.old.known.items → AreKnown es self.new.known.items) }
     {
-        for s in stars.star(l.0) {
-            self.follow(stars, l, *s)?;
+        let Some(l) = known_at(&self.known, i) else {
+            return Ok(());
+        };
+        if i >= stars.lists.len() {
+            return Ok(());
+        }
+        for k in stars.star(i) {
+            self.follow(segments, stars, l, *k)?;
         }
         Ok(())
     }
 
     /// Follows segments until none is left.
-    fn pour(&mut self, stars: &Stars) -> Result<(), AllocError>
-        requires { AreShaped stars.now.marks.items stars.now.lists.items }
-        ensures { OnOk result ((es : List Edge) → HaveStars es stars.now.marks.items stars.now.lists.items
-            → IsFlood es self.old → IsFlood es self.new) }
+    fn pour(&mut self, segments: &[CountedSegment], stars: &Stars) -> Result<(), AllocError>
+        requires shape { AreShaped stars.now.lists.items stars.now.ends.items (length segments.now) }
+        ensures { OnOk result ((es : List Edge)
+            → HaveStars es segments.now stars.now.lists.items stars.now.ends.items
+            → AreKnown es self.old.known.items → AreKnown es self.new.known.items) }
     {
         for _step in 0..usize::MAX {
-            let Some(l) = self.waiting.pop() else {
+            let Some(i) = self.waiting.pop() else {
                 return Ok(());
             };
-            self.spread(stars, l)?;
+            self.spread(segments, stars, i)?;
         }
         Ok(())
     }
@@ -183,29 +224,35 @@ impl Flood {
     ) -> Result<Flood, AllocError>
         requires room { IsRoomy (sum_of size segments.now) }
         requires rows { AreRows rows.now.marks.items rows.now.lists.items segments.now }
-        requires stars { AreStars stars.now.marks.items stars.now.lists.items segments.now }
+        requires stars { AreStars stars.now.lists.items stars.now.ends.items segments.now }
         ensures { IfOk result (λ f. OfSplitEdges segments.now (λ es. AreKnown es f.known.items)) }
     {
         let mut flood = Flood::unknown(alloc, stars.lists.len())?;
-        for s in segments {
-            let p = s.0.0;
-            if flood.level(stars, p).is_some() {
+        for k in 0..segments.len() {
+            let p = segments[k].0.0;
+            let i = stars.ends[k].0;
+            if level_at(&flood.known, i, p).is_some() {
                 continue;
             }
             let q = doubled(p);
-            flood.note(stars, (p, winding(rows.row(q), q)))?;
-            flood.pour(stars)?;
+            flood.note(i, (p, winding(rows.row(q), q)))?;
+            flood.pour(segments, stars)?;
         }
         Ok(flood)
     }
 
-    /// The windings to the left and to the right of a segment, where they are known.
-    pub fn sides(&self, stars: &Stars, s: CountedSegment) -> Option<Sides>
-        requires { AreShaped stars.now.marks.items stars.now.lists.items }
-        ensures { (es : List Edge) → HaveStars es stars.now.marks.items stars.now.lists.items → IsSegment es s
-            → AreKnown es self.now.known.items → IfSome result (λ p. p ≡ (left_winding es s.0, right_winding es s.0)) }
+    /// The windings to the left and to the right of the segment with an index, where they are known.
+    pub fn sides(&self, segments: &[CountedSegment], stars: &Stars, k: usize) -> Option<Sides>
+        requires shape { AreShaped stars.now.lists.items stars.now.ends.items (length segments.now) }
+        requires in_range { k < length segments.now }
+        ensures { (es : List Edge) (d : Counted)
+            → HaveStars es segments.now stars.now.lists.items stars.now.ends.items
+            → AreKnown es self.now.known.items → IfSome result (λ p.
+                p ≡ (left_winding es (slice_index_or segments.now k d).0, right_winding es (slice_index_or segments.now k d).0)) }
     {
-        let right = right_of(stars, self.level(stars, s.0.0)?, s.0)?;
+        let s = segments[k];
+        let i = stars.ends[k].0;
+        let right = right_of(segments, stars.star(i), level_at(&self.known, i, s.0.0)?, s.0)?;
         Some((right.checked_add(s.1)?, right))
     }
 }

@@ -99,12 +99,12 @@ fn in_rows(segments: &[CountedSegment], rows: &Rows<i128>, step: usize) -> usize
 
 /// How many segments the stars have at which some of the segments start, all told.
 fn in_stars(segments: &[CountedSegment], stars: &Stars, step: usize) -> usize
-    requires stars { AreStars stars.now.marks.items stars.now.lists.items segments.now }
+    requires stars { AreStars stars.now.lists.items stars.now.ends.items segments.now }
 {
     let mut sum: usize = 0;
-    for (i, s) in segments.iter().enumerate() {
+    for i in 0..segments.len() {
         if is_sampled(i, step) {
-            sum = sum.saturating_add(stars.star(s.0.0).len());
+            sum = sum.saturating_add(stars.star(stars.ends[i].0).len());
         }
     }
     sum
@@ -132,11 +132,11 @@ fn known_sides(
     requires in_range { i < length segments.now }
     requires room { IsRoomy (sum_of size segments.now) }
     requires rows { AreRows rows.now.marks.items rows.now.lists.items segments.now }
-    requires stars { AreStars stars.now.marks.items stars.now.lists.items segments.now }
+    requires stars { AreStars stars.now.lists.items stars.now.ends.items segments.now }
     ensures { OfSplitEdges segments.now (λ es. AreKnown es flood.now.known.items
         → (d : Counted) → result ≡ sides_of segments.now (slice_index_or segments.now i d)) }
 {
-    if let Some(sides) = flood.sides(stars, segments[i]) {
+    if let Some(sides) = flood.sides(segments, stars, i) {
         return sides;
     }
     row_sides(segments, rows, i)
@@ -172,7 +172,7 @@ fn by_ends(
 ) -> Result<Vec<GridEdge>, AllocError>
     requires room { IsRoomy (sum_of size segments.now) }
     requires rows { AreRows rows.now.marks.items rows.now.lists.items segments.now }
-    requires stars { AreStars stars.now.marks.items stars.now.lists.items segments.now }
+    requires stars { AreStars stars.now.lists.items stars.now.ends.items segments.now }
     ensures { IfOk result (λ v. (es : List Edge) → IsCountOf es segments.now → AreSplit es
         → IsBoundary es (filled fill) v.items) }
 {

@@ -1,25 +1,29 @@
 //! Segments listed by their ends, so that what leaves a point is a sum over one list, the star of the point.
 
-ghost use Rattle.std.specs.Prelude.{◌≡◌, ◌+◌, ◌+ℤ◌, ◌-ℤ◌, ◌*ℤ◌, List, length, IfOk, IfSome, OnOk};
-ghost use Rattle.mesh_plane.specs.Plane.{Edge};
+ghost use Rattle.std.specs.Prelude.{◌≡◌, ℕ, ◌<◌, ◌≤◌, ◌+ℤ◌, ◌-ℤ◌, ◌*ℤ◌, List, length, IfOk, IfSome, OnOk};
+ghost use Rattle.std.specs.List.{All};
+ghost use Rattle.mesh_plane.specs.Plane.{Point, Edge};
 ghost use Rattle.mesh_cuts.specs.Boundary.{rises};
-ghost use Rattle.mesh_cuts.specs.Counted.{bit};
+ghost use Rattle.mesh_cuts.specs.Counted.{Counted, bit};
 ghost use Rattle.mesh_cuts.specs.Marks.{AreRising};
 ghost use Rattle.mesh_cuts.specs.Split.{back};
 ghost use Rattle.mesh_sides.specs.Star.{comes_before, leaves_before};
-ghost use Rattle.mesh_boundary.specs.Midway.Stars.{code, counted_before, AreShaped, AreStars, IsListed, HaveStars, IsStar};
+ghost use Rattle.mesh_boundary.specs.Midway.Stars.{code, place_among, ends_at, segments_at, counted_before};
+ghost use Rattle.mesh_boundary.specs.Midway.Stars.{AreShaped, AreStars, IsListed, HaveStars, IsStar};
 
 use mesh_cuts::exact::{same_point, turn};
 use mesh_cuts::grid::{CountedSegment, GridEdge, GridPoint};
 use mesh_cuts::places::{Mark, empty_lists, in_order, place, push_to};
 use std::alloc::{AllocError, Global};
 
-/// Lists of segments, one for each place between marks at the codes of ends. A segment stands where its ends have their
-/// places.
+/// The places of an edge's ends.
+pub type Ends = (usize, usize);
+
+/// Lists of the indices of segments, one for each place of an end, and the places of the ends of each segment.
 #[derive(Drop)]
 pub struct Stars {
-    pub marks: Vec<Mark>,
-    pub lists: Vec<Vec<CountedSegment>>,
+    pub lists: Vec<Vec<usize>>,
+    pub ends: Vec<Ends>,
 }
 
 /// One number for a point, which no other point has. Nothing but the lengths of lists rests on that.
@@ -45,51 +49,54 @@ fn codes(alloc: Global, segments: &[CountedSegment]) -> Result<Vec<Mark>, AllocE
     in_order(alloc, codes)
 }
 
-/// Adds a segment to the lists of its ends.
-fn file(
-    marks: &[Mark],
-    lists: &mut Vec<Vec<CountedSegment>>,
-    s: CountedSegment,
-) -> Result<(), AllocError>
-    requires rising { AreRising marks.now }
-    requires len { length lists.old.items ≡ length marks.now + 1 }
-    ensures { OnOk result (IsListed marks.now lists.old.items lists.new.items s) }
+/// The places of an edge's ends among marks at codes.
+fn ends_at(marks: &[Mark], e: GridEdge) -> Ends
+    requires { AreRising marks.now }
+    ensures value { result ≡ ends_at (place_among marks.now) e }
+    ensures start { result.0 ≤ length marks.now }
+    ensures stop { result.1 ≤ length marks.now }
 {
-    let a = place(marks, code(s.0.0));
-    let b = place(marks, code(s.0.1));
-    push_to(lists, a, s)?;
-    if a == b {
+    (place(marks, code(e.0)), place(marks, code(e.1)))
+}
+
+/// Adds the index of a segment to the lists of its ends.
+fn file(lists: &mut Vec<Vec<usize>>, ends: Ends, k: usize) -> Result<(), AllocError>
+    requires start { ends.0 < length lists.old.items }
+    requires stop { ends.1 < length lists.old.items }
+    ensures { OnOk result (IsListed lists.old.items lists.new.items ends k) }
+{
+    push_to(lists, ends.0, k)?;
+    if ends.0 == ends.1 {
         return Ok(());
     }
-    push_to(lists, b, s)
+    push_to(lists, ends.1, k)
 }
 
 impl Stars {
     /// The stars of segments.
     pub fn new(alloc: Global, segments: &[CountedSegment]) -> Result<Stars, AllocError>
-        ensures { IfOk result (λ r. AreStars r.marks.items r.lists.items segments.now) }
+        ensures { IfOk result (λ r. AreStars r.lists.items r.ends.items segments.now) }
     {
         let marks = codes(alloc, segments)?;
         let mut lists = empty_lists(alloc, marks.len() + 1)?;
-        for s in segments {
-            file(&marks, &mut lists, *s)?;
+        let mut ends = Vec::with_capacity(alloc, segments.len())?;
+        for k in 0..segments.len() {
+            let places = ends_at(&marks, segments[k].0);
+            file(&mut lists, places, k)?;
+            ends.push(places)?;
         }
-        Ok(Stars { marks, lists })
+        Ok(Stars { lists, ends })
     }
 
-    /// The place of a point.
-    pub fn place(&self, p: GridPoint) -> usize
-        requires { AreShaped self.now.marks.items self.now.lists.items }
+    /// The indices listed at a place.
+    pub fn star(&self, i: usize) -> &[usize]
+        requires { i < length self.now.lists.items }
+        ensures within { (n : ℕ) → AreShaped self.now.lists.items self.now.ends.items n → All (λ k. k < n) result.now }
+        ensures star { (es : List Edge) (ks : List Counted)
+            (have : HaveStars es ks self.now.lists.items self.now.ends.items) (v : Point) → i ≡ have.at v
+            → IsStar es v (segments_at ks result.now) }
     {
-        place(&self.marks, code(p))
-    }
-
-    /// The segments listed where the point has its place, among them all that end there.
-    pub fn star(&self, p: GridPoint) -> &[CountedSegment]
-        requires { AreShaped self.now.marks.items self.now.lists.items }
-        ensures { (es : List Edge) → HaveStars es self.now.marks.items self.now.lists.items → IsStar es p result.now }
-    {
-        &self.lists[place(&self.marks, code(p))]
+        &self.lists[i]
     }
 }
 
@@ -142,12 +149,15 @@ fn with_count(sum: i128, count: i128, leaves: bool, comes_in: bool) -> Option<i1
     sum.checked_add(count)
 }
 
-/// How many edges leave the point where `e` starts before it, less how many come in there, if that can be told.
-pub fn before(star: &[CountedSegment], e: GridEdge) -> Option<i128>
-    ensures { IfSome result (λ n. n ≡ counted_before e star.now) }
+/// How many edges leave the point where `e` starts before it, less how many come in there, if that can be told. The
+/// segments with the indices in `star` tell it.
+pub fn before(segments: &[CountedSegment], star: &[usize], e: GridEdge) -> Option<i128>
+    requires { All (λ k. k < length segments.now) star.now }
+    ensures { IfSome result (λ n. n ≡ counted_before e (segments_at segments.now star.now)) }
 {
     let mut sum: i128 = 0;
-    for s in star {
+    for k in star {
+        let s = segments[*k];
         sum = with_count(sum, s.1, leaves_before(e, s.0), leaves_before(e, back(s.0)))?;
     }
     Some(sum)

@@ -5,7 +5,6 @@ use Rattle.mesh_plane.specs.Plane.{Point, Edge}
 use Rattle.mesh_plane.specs.Winding.{refined, winding}
 use Rattle.mesh_cuts.specs.Counted.{Counted, IsCountOf}
 use Rattle.mesh_sides.specs.Laws.{AreSplit}
-use Rattle.mesh_boundary.specs.declared.flood.Flood.{Flood}
 
 -- what holds of all split edges that have these counts
 abbrev pub OfSplitEdges : List Counted → (List Edge → Type 0) → Type 0
@@ -18,8 +17,3 @@ IsLevel es l = winding 2 (refined 2 l.0) es ≡ l.1
 -- where a winding is known it is right
 abbrev pub AreKnown : List Edge → List (Option (Point × ℤ)) → Type 0
 AreKnown es known = All (λ (o : Option (Point × ℤ)). IfSome o (IsLevel es)) known
-
--- all windings that are known, and all that wait, are right
-pub record IsFlood (es : List Edge) (flood : Flood) : Type 0 where
-  pub known : AreKnown es flood.known.items
-  pub waiting : All (IsLevel es) flood.waiting.items

@@ -8,11 +8,11 @@ use Rattle.mesh_boundary.proofs.Levels.{checked, right_from}
 use Rattle.mesh_boundary.proofs.flood.right_of.Goals as goal
 
 pub returns : goal.returns
-returns c = λ es have stands level.
+returns c = λ es split star stands level.
     let e = c.args.e in
     let w = c.args.winding in
     let n = c.in_ok-before.field-0 in
-    let count : n ≡ net_before e es = c.in_ok-before.ensures ∙ (c.star.ensures es have).before e.1 in
+    let count : n ≡ net_before e es = c.in_ok-before.ensures ∙ star e.1 in
     let w_kept : to_z w128 (of_z w128 w) ≡ w = search rules in
     let n_kept : to_z w128 (of_z w128 n) ≡ n = search rules in
-    checked c.checked_add.result _ _ (w +ℤ n) (λ (r : ℤ). r ≡ right_winding es e) c.checked_add.ensures (λ i. w_kept i +ℤ n_kept i) (right_from es e w n have.split stands level count)
+    checked c.checked_add.result _ _ (w +ℤ n) (λ (r : ℤ). r ≡ right_winding es e) c.checked_add.ensures (λ i. w_kept i +ℤ n_kept i) (right_from es e w n split stands level count)

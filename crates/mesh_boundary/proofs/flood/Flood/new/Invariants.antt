@@ -2,8 +2,8 @@ use Rattle.std.proofs.Common.{List}
 use Rattle.mesh_plane.specs.Plane.{Edge}
 use Rattle.mesh_cuts.specs.Counted.{IsCountOf}
 use Rattle.mesh_sides.specs.Laws.{AreSplit}
-use Rattle.mesh_boundary.specs.Midway.Flood.{IsFlood}
+use Rattle.mesh_boundary.specs.Midway.Flood.{AreKnown}
 use Rattle.mesh_boundary.proofs.flood.Flood.new.Given as goal
 
-abbrev pub invariant-loop-s : goal.invariant-loop-s
-invariant-loop-s l = (es : List Edge) → IsCountOf es l.segments → AreSplit es → IsFlood es l.flood
+abbrev pub invariant-loop-k : goal.invariant-loop-k
+invariant-loop-k l = (es : List Edge) → IsCountOf es l.segments → AreSplit es → AreKnown es l.flood.known.items

@@ -1,8 +1,8 @@
 use Rattle.std.proofs.Common.{List}
 use Rattle.mesh_plane.specs.Plane.{Edge}
-use Rattle.mesh_boundary.specs.Midway.Flood.{IsLevel, IsFlood}
+use Rattle.mesh_boundary.specs.Midway.Flood.{AreKnown}
 use Rattle.mesh_boundary.specs.Midway.Stars.{HaveStars}
 use Rattle.mesh_boundary.proofs.flood.Flood.spread.Given as goal
 
-abbrev pub invariant-loop-s : goal.invariant-loop-s
-invariant-loop-s l = (es : List Edge) → HaveStars es l.stars.marks.items l.stars.lists.items → IsLevel es l.l → IsFlood es l.fn.self → IsFlood es l.self
+abbrev pub invariant-loop-k : goal.invariant-loop-k
+invariant-loop-k l = (es : List Edge) → HaveStars es l.segments l.stars.lists.items l.stars.ends.items → AreKnown es l.fn.self.known.items → AreKnown es l.self.known.items
