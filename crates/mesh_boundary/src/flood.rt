@@ -21,8 +21,8 @@ use mesh_cuts::fine::doubled;
 use mesh_cuts::grid::{CountedSegment, GridEdge, GridPoint};
 use std::alloc::{AllocError, Global};
 
-/// A point and the winding at it.
-pub type Level = (GridPoint, i128);
+/// A point and the winding at it. No other than these numbers are noted.
+type Level = (GridPoint, i64);
 
 /// The windings to the left and to the right of a segment.
 pub type Sides = (i128, i128);
@@ -55,7 +55,7 @@ fn level_at(known: &[Option<Level>], i: usize, p: GridPoint) -> Option<i128>
     if !same_point(l.0, p) {
         return None;
     }
-    Some(l.1)
+    Some(i128::from(l.1))
 }
 
 /// Puts down the winding at a place.
@@ -137,12 +137,15 @@ impl Flood {
         })
     }
 
-    /// Puts down the winding at a point, which has this place.
-    fn note(&mut self, i: usize, l: Level) -> Result<(), AllocError>
-        ensures { OnOk result ((es : List Edge) → IsLevel es l → AreKnown es self.old.known.items
+    /// Puts down the winding at a point, which has this place, if it is not too large.
+    fn note(&mut self, i: usize, p: GridPoint, winding: i128) -> Result<(), AllocError>
+        ensures { OnOk result ((es : List Edge) → IsLevel es (p, winding) → AreKnown es self.old.known.items
             → AreKnown es self.new.known.items) }
     {
-        put_level(&mut self.known, i, l);
+        let Ok(small) = i64::try_from(winding) else {
+            return Ok(());
+        };
+        put_level(&mut self.known, i, (p, small));
         self.waiting.push(i)?;
         Ok(())
     }
@@ -168,10 +171,10 @@ impl Flood {
             return Ok(());
         }
         let star = stars.star(ends.0);
-        let Some(winding) = across(segments, star, stars.star(ends.1), l.1, away) else {
+        let Some(winding) = across(segments, star, stars.star(ends.1), i128::from(l.1), away) else {
             return Ok(());
         };
-        self.note(ends.1, (away.0.1, winding))?;
+        self.note(ends.1, away.0.1, winding)?;
         Ok(())
     }
 
@@ -235,7 +238,7 @@ impl Flood {
                 continue;
             }
             let q = doubled(p);
-            flood.note(i, (p, winding(rows.row(q), q)))?;
+            flood.note(i, p, winding(rows.row(q), q))?;
             flood.pour(segments, stars)?;
         }
         Ok(flood)

@@ -52,7 +52,8 @@ fn heights<T: Copy>(alloc: Global, edges: &[(GridEdge, T)]) -> Result<Vec<Mark>,
     in_order(alloc, heights)
 }
 
-/// How many rows serve best: an edge shall reach about four on average.
+/// How many rows serve best: an edge shall reach about three on average. More rows take more memory, and few sums are
+/// asked of those whose lists are long.
 fn rows_wanted<T: Copy>(edges: &[(GridEdge, T)], heights: &[Mark]) -> usize
     requires { AreRising heights.now }
 {
@@ -63,7 +64,7 @@ fn rows_wanted<T: Copy>(edges: &[(GridEdge, T)], heights: &[Mark]) -> usize
         if is_sampled(i, step) {
             let a = place(heights, height(e.0.0));
             let b = place(heights, height(e.0.1));
-            measured = measured.saturating_add(3);
+            measured = measured.saturating_add(2);
             reached = reached.saturating_add(a.abs_diff(b));
         }
     }

@@ -8,27 +8,13 @@ use mesh_cuts::grid::{GridEdge, GridPoint};
 /// The least coordinates of a segment's ends, and the greatest.
 pub type BoundingBox = (GridPoint, GridPoint);
 
-fn lesser(a: i32, b: i32) -> i32
-    ensures first { result ≤ℤ a }
-    ensures second { result ≤ℤ b }
-{
-    if a < b { a } else { b }
-}
-
-fn greater(a: i32, b: i32) -> i32
-    ensures first { a ≤ℤ result }
-    ensures second { b ≤ℤ result }
-{
-    if a < b { b } else { a }
-}
-
 /// The bounds of a segment's box.
 pub fn bounding_box(s: GridEdge) -> BoundingBox
     ensures { AreBounds result s }
 {
     (
-        (lesser(s.0.0, s.1.0), lesser(s.0.1, s.1.1)),
-        (greater(s.0.0, s.1.0), greater(s.0.1, s.1.1)),
+        (s.0.0.min(s.1.0), s.0.1.min(s.1.1)),
+        (s.0.0.max(s.1.0), s.0.1.max(s.1.1)),
     )
 }
 

@@ -5,7 +5,8 @@
 
 use crate::bounding::{bounding_box, is_apart};
 use mesh_cuts::exact::meeting;
-use mesh_cuts::grid::GridEdge;
+use mesh_cuts::grid::{GridEdge, GridPoint};
+use std::alloc::{AllocError, Global};
 
 /// Up to so many edges are few: then their meetings are counted pair by pair where an attempt needs it, and short runs
 /// are given up too. With more, that would take too long, as would the heap, which takes two to ten times as long for
@@ -50,29 +51,63 @@ impl Budget {
     }
 
     /// Whether an attempt at these edges that has made so many splits may go on.
-    pub fn allows(&mut self, edges: &[GridEdge], made: usize) -> bool {
+    pub fn allows(
+        &mut self,
+        alloc: Global,
+        edges: &[GridEdge],
+        made: usize,
+    ) -> Result<bool, AllocError> {
         if made > self.most && self.counts {
             self.counts = false;
-            self.most = meetings(edges)
+            self.most = meetings(alloc, edges)?
                 .saturating_add(edges.len() / 8)
                 .saturating_add(SPARE_OF_FEW);
         }
-        made <= self.most
+        Ok(made <= self.most)
     }
 }
 
+/// On which side of the line from `p` to `r` a point lies: above 0 to the left, below 0 to the right. 0 tells nothing:
+/// what does not fit is cut off, so that a difference of products may vanish, though it never changes its sign.
+fn side(p: GridPoint, r: GridPoint, q: GridPoint) -> i64 {
+    let along = (r.0 as i64 - p.0 as i64, r.1 as i64 - p.1 as i64);
+    let way = (q.0 as i64 - p.0 as i64, q.1 as i64 - p.1 as i64);
+    along.0.saturating_mul(way.1).saturating_sub(along.1.saturating_mul(way.0))
+}
+
+/// Whether two edges meet. Mostly the signs of four numbers tell it.
+fn do_meet(e: GridEdge, f: GridEdge) -> bool {
+    let first = side(e.0, e.1, f.0).signum().saturating_mul(side(e.0, e.1, f.1).signum());
+    if first > 0 {
+        return false;
+    }
+    let second = side(f.0, f.1, e.0).signum().saturating_mul(side(f.0, f.1, e.1).signum());
+    if second > 0 {
+        return false;
+    }
+    (first < 0 && second < 0) || meeting(e, f).is_some()
+}
+
 /// How many pairs of edges meet.
-fn meetings(edges: &[GridEdge]) -> usize {
+fn meetings(alloc: Global, edges: &[GridEdge]) -> Result<usize, AllocError> {
+    let mut boxes = Vec::with_capacity(alloc, edges.len())?;
+    for e in edges {
+        boxes.push((bounding_box(*e), *e))?;
+    }
+    // (from west to east, so that an edge is held against those alone that begin before it ends)
+    boxes.sort_unstable();
     let mut count: usize = 0;
-    for (i, e) in edges.iter().enumerate() {
-        let bounds = bounding_box(*e);
-        for f in edges.iter().take(i) {
-            if !is_apart(bounds, *f) && meeting(*e, *f).is_some() {
+    for (i, (bounds, e)) in boxes.iter().enumerate() {
+        for (other, f) in boxes.iter().skip(i + 1) {
+            if other.0.0 > bounds.1.0 {
+                break;
+            }
+            if !is_apart(*bounds, *f) && do_meet(*e, *f) {
                 count = count.saturating_add(1);
             }
         }
     }
-    count
+    Ok(count)
 }
 
 /// How many splits an attempt at many edges may make.

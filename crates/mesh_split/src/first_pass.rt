@@ -146,7 +146,7 @@ fn in_hand(
         if splitter.settle(s)? {
             *splits = splits.saturating_add(1);
         }
-        if !budget.allows(edges, splits.saturating_sub(before)) {
+        if !budget.allows(alloc, edges, splits.saturating_sub(before))? {
             return Ok(None);
         }
     }

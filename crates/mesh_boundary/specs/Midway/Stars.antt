@@ -1,5 +1,5 @@
 -- Segments listed by the points where they end, and what leaves a point, as a sum over such a list.
-use Rattle.std.specs.Prelude.{ℕ, ◌≡◌, ◌+◌, ◌<◌, Bool, true, cond, ◌||◌, List, [], ◌∷◌, ◌++◌, map, length, slice_index_or, nat_eq, ℤ, pos, ◌+ℤ◌, ◌-ℤ◌, ◌*ℤ◌, Vec}
+use Rattle.std.specs.Prelude.{ℕ, ◌≡◌, ◌<◌, Bool, true, cond, ◌||◌, List, [], ◌∷◌, ◌++◌, map, length, slice_index_or, nat_eq, ℤ, pos, ◌+ℤ◌, ◌-ℤ◌, ◌*ℤ◌, Vec}
 use Rattle.std.specs.declared.alloc.Global.{Global}
 use Rattle.std.specs.List.{All, filter}
 use Rattle.mesh_plane.specs.Plane.{Point, Edge}
@@ -7,7 +7,7 @@ use Rattle.mesh_plane.specs.Winding.{sum_of}
 use Rattle.mesh_cuts.specs.declared.places.Mark.{Mark}
 use Rattle.mesh_cuts.specs.Counted.{Counted, bit, net}
 use Rattle.mesh_cuts.specs.Lists.{list_at}
-use Rattle.mesh_cuts.specs.Marks.{place, AreRising}
+use Rattle.mesh_cuts.specs.Marks.{place}
 use Rattle.mesh_cuts.specs.Split.{back, occurs}
 use Rattle.mesh_sides.specs.Laws.{AreSplit}
 use Rattle.mesh_sides.specs.Star.{leaves_before, net_before}
