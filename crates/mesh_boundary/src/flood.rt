@@ -1,5 +1,5 @@
-//! The windings at the ends of segments. One of each connected part is a sum over the row of its point. The others
-//! follow from it, along segments.
+//! The windings at the ends of segments. One of each connected part is a sum of crossings. The others follow from it,
+//! along segments.
 
 ghost use Rattle.std.specs.Prelude.{◌≡◌, ℕ, ◌<◌, true, List, length, slice_index_or, neg_ℤ, IfOk, IfSome, OnOk};
 ghost use Rattle.std.specs.List.{All};
@@ -10,14 +10,11 @@ ghost use Rattle.mesh_cuts.specs.Counted.{Counted, size, IsRoomy};
 ghost use Rattle.mesh_cuts.specs.Split.{back, occurs};
 ghost use Rattle.mesh_sides.specs.Laws.{AreSplit};
 ghost use Rattle.mesh_boundary.specs.Midway.Flood.{OfSplitEdges, IsLevel, AreKnown};
-ghost use Rattle.mesh_boundary.specs.Midway.Rows.{AreRows};
 ghost use Rattle.mesh_boundary.specs.Midway.Stars.{ends_at, segments_at, AreStars, AreShaped, HaveStars, IsSegment, IsStar};
 
-use crate::rows::Rows;
+use crate::sums::Sums;
 use crate::stars::{Ends, Stars, back, before};
-use crate::winding::winding;
 use mesh_cuts::exact::same_point;
-use mesh_cuts::fine::doubled;
 use mesh_cuts::grid::{CountedSegment, GridEdge, GridPoint};
 use std::alloc::{AllocError, Global};
 
@@ -222,23 +219,22 @@ impl Flood {
     pub fn new(
         alloc: Global,
         segments: &[CountedSegment],
-        rows: &Rows<i128>,
         stars: &Stars,
     ) -> Result<Flood, AllocError>
         requires room { IsRoomy (sum_of size segments.now) }
-        requires rows { AreRows rows.now.marks.items rows.now.lists.items segments.now }
         requires stars { AreStars stars.now.lists.items stars.now.ends.items segments.now }
         ensures { IfOk result (λ f. OfSplitEdges segments.now (λ es. AreKnown es f.known.items)) }
     {
         let mut flood = Flood::unknown(alloc, stars.lists.len())?;
+        let mut sums = Sums::new();
         for k in 0..segments.len() {
             let p = segments[k].0.0;
             let i = stars.ends[k].0;
             if level_at(&flood.known, i, p).is_some() {
                 continue;
             }
-            let q = doubled(p);
-            flood.note(i, p, winding(rows.row(q), q))?;
+            let winding = sums.winding(alloc, segments, p)?;
+            flood.note(i, p, winding)?;
             flood.pour(segments, stars)?;
         }
         Ok(flood)

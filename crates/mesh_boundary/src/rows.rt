@@ -19,8 +19,8 @@ const FEWEST: usize = 24;
 /// About how many edges the marks are taken from.
 const ENDS: usize = 16384;
 
-/// About how many edges are measured to choose the number of rows.
-const MEASURED: usize = 2048;
+/// About how many edges are measured to choose the number of rows, or whether rows serve.
+pub const MEASURED: usize = 2048;
 
 /// Lists of edges, one for each row between marks at heights on the fine grid. An edge may stand in several of them.
 #[derive(Drop)]
@@ -52,8 +52,29 @@ fn heights<T: Copy>(alloc: Global, edges: &[(GridEdge, T)]) -> Result<Vec<Mark>,
     in_order(alloc, heights)
 }
 
-/// How many rows serve best: an edge shall reach about three on average. More rows take more memory, and few sums are
-/// asked of those whose lists are long.
+/// About how many of the edges reach the height of one of them, on average.
+pub fn mean_reached<T: Copy>(alloc: Global, edges: &[(GridEdge, T)]) -> Result<usize, AllocError> {
+    // (an odd step, since contours often go on in the same two, four or eight steps)
+    let step = edges.len() / MEASURED / 2 * 2 + 1;
+    let mut heights = Vec::with_capacity(alloc, edges.len() / step + 1)?;
+    for (i, e) in edges.iter().enumerate() {
+        if i % step == 0 {
+            heights.push(height(e.0.0).at)?;
+        }
+    }
+    let marks = in_order(alloc, heights)?;
+    let mut reached: usize = 0;
+    for (i, e) in edges.iter().enumerate() {
+        if i % step == 0 {
+            let a = place(&marks, height(e.0.0));
+            let b = place(&marks, height(e.0.1));
+            reached = reached.saturating_add(a.abs_diff(b));
+        }
+    }
+    Ok((reached / marks.len().max(1)).saturating_mul(step))
+}
+
+/// How many rows serve best: an edge shall reach about four on average.
 fn rows_wanted<T: Copy>(edges: &[(GridEdge, T)], heights: &[Mark]) -> usize
     requires { AreRising heights.now }
 {
@@ -64,7 +85,7 @@ fn rows_wanted<T: Copy>(edges: &[(GridEdge, T)], heights: &[Mark]) -> usize
         if is_sampled(i, step) {
             let a = place(heights, height(e.0.0));
             let b = place(heights, height(e.0.1));
-            measured = measured.saturating_add(2);
+            measured = measured.saturating_add(3);
             reached = reached.saturating_add(a.abs_diff(b));
         }
     }

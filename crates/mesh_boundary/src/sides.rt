@@ -14,13 +14,12 @@ ghost use Rattle.mesh_boundary.specs.Midway.Rows.{AreRows};
 ghost use Rattle.mesh_boundary.specs.Midway.Stars.{AreStars};
 
 use crate::flood::{Flood, Sides};
-use crate::rows::Rows;
+use crate::rows::{MEASURED, Rows, mean_reached};
 use crate::stars::{Stars, rises};
 use crate::winding::winding;
 use mesh_cuts::fill::FillRule;
 use mesh_cuts::fine::middle;
 use mesh_cuts::grid::{CountedSegment, GridEdge};
-use mesh_cuts::places::is_sampled;
 use std::alloc::{AllocError, Global};
 
 /// The windings on both sides of a segment, from that beside it.
@@ -78,36 +77,23 @@ fn push_edge(
     Ok(())
 }
 
-/// About how many segments are measured to choose the way.
-const MEASURED: usize = 2048;
+/// The greatest number of segments that reach a height, on average, for which rows serve.
+const SHORT: usize = 48;
 
-/// Up to so many segments in a row on average the rows serve.
-const SHORT: usize = 64;
-
-/// How many segments the rows have in which some of the segments' midpoints stand, all told.
-fn in_rows(segments: &[CountedSegment], rows: &Rows<i128>, step: usize) -> usize
-    requires rows { AreRows rows.now.marks.items rows.now.lists.items segments.now }
-{
-    let mut sum: usize = 0;
-    for (i, s) in segments.iter().enumerate() {
-        if is_sampled(i, step) {
-            sum = sum.saturating_add(rows.row(middle(s.0)).len());
-        }
-    }
-    sum
-}
-
-/// How many segments the stars have at which some of the segments start, all told.
-fn in_stars(segments: &[CountedSegment], stars: &Stars, step: usize) -> usize
+/// How many segments the stars have at which some of the segments start, on average.
+fn mean_star(segments: &[CountedSegment], stars: &Stars) -> usize
     requires stars { AreStars stars.now.lists.items stars.now.ends.items segments.now }
 {
+    let step = segments.len() / MEASURED / 2 * 2 + 1;
+    let mut count: usize = 0;
     let mut sum: usize = 0;
     for i in 0..segments.len() {
-        if is_sampled(i, step) {
+        if i % step == 0 {
+            count = count.saturating_add(1);
             sum = sum.saturating_add(stars.star(stars.ends[i].0).len());
         }
     }
-    sum
+    sum / count.max(1)
 }
 
 /// The sides of the segment at a place, by a sum over a row.
@@ -121,17 +107,10 @@ fn row_sides(segments: &[CountedSegment], rows: &Rows<i128>, i: usize) -> Sides
     sides_of(rows.row(middle(s.0)), s)
 }
 
-/// The sides of the segment at a place: those known of it, or else by a sum over a row.
-fn known_sides(
-    segments: &[CountedSegment],
-    rows: &Rows<i128>,
-    stars: &Stars,
-    flood: &Flood,
-    i: usize,
-) -> Sides
+/// The sides of the segment at a place: those known of it, or else by a sum over all segments.
+fn known_sides(segments: &[CountedSegment], stars: &Stars, flood: &Flood, i: usize) -> Sides
     requires in_range { i < length segments.now }
     requires room { IsRoomy (sum_of size segments.now) }
-    requires rows { AreRows rows.now.marks.items rows.now.lists.items segments.now }
     requires stars { AreStars stars.now.lists.items stars.now.ends.items segments.now }
     ensures { OfSplitEdges segments.now (λ es. AreKnown es flood.now.known.items
         → (d : Counted) → result ≡ sides_of segments.now (slice_index_or segments.now i d)) }
@@ -139,24 +118,23 @@ fn known_sides(
     if let Some(sides) = flood.sides(segments, stars, i) {
         return sides;
     }
-    row_sides(segments, rows, i)
+    sides_of(segments, segments[i])
 }
 
 /// The boundary, where the sides of each segment are a sum over a row.
 fn by_rows(
     alloc: Global,
     segments: &[CountedSegment],
-    rows: &Rows<i128>,
     fill: FillRule,
 ) -> Result<Vec<GridEdge>, AllocError>
-    requires room { IsRoomy (sum_of size segments.now) }
-    requires rows { AreRows rows.now.marks.items rows.now.lists.items segments.now }
+    requires { IsRoomy (sum_of size segments.now) }
     ensures { IfOk result (λ v. (es : List Edge) → IsCountOf es segments.now → AreSplit es
         → IsBoundary es (filled fill) v.items) }
 {
+    let rows = Rows::new(alloc, segments)?;
     let mut edges = Vec::new(alloc);
     for i in 0..segments.len() {
-        let sides = row_sides(segments, rows, i);
+        let sides = row_sides(segments, &rows, i);
         push_edge(&mut edges, fill, sides, segments[i].0)?;
     }
     Ok(edges)
@@ -166,20 +144,18 @@ fn by_rows(
 fn by_ends(
     alloc: Global,
     segments: &[CountedSegment],
-    rows: &Rows<i128>,
     stars: &Stars,
     fill: FillRule,
 ) -> Result<Vec<GridEdge>, AllocError>
     requires room { IsRoomy (sum_of size segments.now) }
-    requires rows { AreRows rows.now.marks.items rows.now.lists.items segments.now }
     requires stars { AreStars stars.now.lists.items stars.now.ends.items segments.now }
     ensures { IfOk result (λ v. (es : List Edge) → IsCountOf es segments.now → AreSplit es
         → IsBoundary es (filled fill) v.items) }
 {
-    let flood = Flood::new(alloc, segments, rows, stars)?;
+    let flood = Flood::new(alloc, segments, stars)?;
     let mut edges = Vec::new(alloc);
     for i in 0..segments.len() {
-        let sides = known_sides(segments, rows, stars, &flood, i);
+        let sides = known_sides(segments, stars, &flood, i);
         push_edge(&mut edges, fill, sides, segments[i].0)?;
     }
     Ok(edges)
@@ -195,15 +171,16 @@ pub fn find_boundary(
     ensures { IfOk result (λ v. (es : List Edge) → IsCountOf es segments.now → AreSplit es
         → IsBoundary es (filled fill) v.items) }
 {
-    let rows = Rows::new(alloc, segments)?;
-    let step = segments.len() / MEASURED + 1;
-    let reached = in_rows(segments, &rows, step);
-    if reached / SHORT <= segments.len() / step {
-        return by_rows(alloc, segments, &rows, fill);
+    if segments.len() <= SHORT {
+        return by_rows(alloc, segments, fill);
+    }
+    let reached = mean_reached(alloc, segments)?;
+    if reached <= SHORT {
+        return by_rows(alloc, segments, fill);
     }
     let stars = Stars::new(alloc, segments)?;
-    if in_stars(segments, &stars, step) > reached {
-        return by_rows(alloc, segments, &rows, fill);
+    if mean_star(segments, &stars) > reached {
+        return by_rows(alloc, segments, fill);
     }
-    by_ends(alloc, segments, &rows, &stars, fill)
+    by_ends(alloc, segments, &stars, fill)
 }
