@@ -19,8 +19,11 @@ const FEWEST: usize = 24;
 /// About how many edges the marks are taken from.
 const ENDS: usize = 16384;
 
-/// About how many edges are measured to choose the number of rows, or whether rows serve.
-pub const MEASURED: usize = 2048;
+/// About how many edges are measured to choose the number of rows.
+const MEASURED: usize = 2048;
+
+/// About how many edges are measured to choose whether rows serve.
+pub const SAMPLED: usize = 512;
 
 /// Lists of edges, one for each row between marks at heights on the fine grid. An edge may stand in several of them.
 #[derive(Drop)]
@@ -55,7 +58,7 @@ fn heights<T: Copy>(alloc: Global, edges: &[(GridEdge, T)]) -> Result<Vec<Mark>,
 /// About how many of the edges reach the height of one of them, on average.
 pub fn mean_reached<T: Copy>(alloc: Global, edges: &[(GridEdge, T)]) -> Result<usize, AllocError> {
     // (an odd step, since contours often go on in the same two, four or eight steps)
-    let step = edges.len() / MEASURED / 2 * 2 + 1;
+    let step = edges.len() / SAMPLED / 2 * 2 + 1;
     let mut heights = Vec::with_capacity(alloc, edges.len() / step + 1)?;
     for (i, e) in edges.iter().enumerate() {
         if i % step == 0 {
@@ -71,7 +74,7 @@ pub fn mean_reached<T: Copy>(alloc: Global, edges: &[(GridEdge, T)]) -> Result<u
             reached = reached.saturating_add(a.abs_diff(b));
         }
     }
-    Ok((reached / marks.len().max(1)).saturating_mul(step))
+    Ok(reached.saturating_mul(step) / marks.len().max(1))
 }
 
 /// How many rows serve best: an edge shall reach about four on average.

@@ -14,7 +14,7 @@ ghost use Rattle.mesh_boundary.specs.Midway.Rows.{AreRows};
 ghost use Rattle.mesh_boundary.specs.Midway.Stars.{AreStars};
 
 use crate::flood::{Flood, Sides};
-use crate::rows::{MEASURED, Rows, mean_reached};
+use crate::rows::{Rows, SAMPLED, mean_reached};
 use crate::stars::{Stars, rises};
 use crate::winding::winding;
 use mesh_cuts::fill::FillRule;
@@ -77,14 +77,17 @@ fn push_edge(
     Ok(())
 }
 
+/// For so few segments rows serve, however long they are.
+const FEW: usize = 64;
+
 /// The greatest number of segments that reach a height, on average, for which rows serve.
-const SHORT: usize = 48;
+const SHORT: usize = 12;
 
 /// How many segments the stars have at which some of the segments start, on average.
 fn mean_star(segments: &[CountedSegment], stars: &Stars) -> usize
     requires stars { AreStars stars.now.lists.items stars.now.ends.items segments.now }
 {
-    let step = segments.len() / MEASURED / 2 * 2 + 1;
+    let step = segments.len() / SAMPLED / 2 * 2 + 1;
     let mut count: usize = 0;
     let mut sum: usize = 0;
     for i in 0..segments.len() {
@@ -171,7 +174,7 @@ pub fn find_boundary(
     ensures { IfOk result (λ v. (es : List Edge) → IsCountOf es segments.now → AreSplit es
         → IsBoundary es (filled fill) v.items) }
 {
-    if segments.len() <= SHORT {
+    if segments.len() <= FEW {
         return by_rows(alloc, segments, fill);
     }
     let reached = mean_reached(alloc, segments)?;
