@@ -19,7 +19,7 @@ use Rattle.mesh_cuts.specs.Counted.{Counted, size}
 use Rattle.mesh_cuts.specs.Marks.{place, AreRising, IsPutTo}
 use Rattle.mesh_cuts.proofs.PlacesAmong.{place_most, lesser_place}
 use Rattle.mesh_boundary.specs.Midway.CountedSides.{counted_winding}
-use Rattle.mesh_boundary.specs.Midway.Rows.{first_row, last_row, reaches, AreRows}
+use Rattle.mesh_boundary.specs.Midway.Rows.{first_row, last_row, reaches_row, AreRows}
 use Rattle.mesh_boundary.proofs.SidesCode.{size_least}
 
 below_none : (a b h t : ℤ) → a <ℤ h → b <ℤ h → crossing_of a b h t ≡ pos 0
@@ -47,7 +47,7 @@ without f p l (inl h) = grind (arith, nat_tests)
 without f p l (inr h) = grind (arith, nat_tests)
 
 -- an edge does not cross the ray from a point whose row it does not reach
-pub off_row : {T : Type 0} (ms : List Mark) (q : Point) (e : Edge × T) → reaches ms (place ms q.1) e ≡ false → crossing_on 2 q e.0.0 e.0.1 ≡ pos 0
+pub off_row : {T : Type 0} (ms : List Mark) (q : Point) (e : Edge × T) → reaches_row ms (place ms q.1) e ≡ false → crossing_on 2 q e.0.0 e.0.1 ≡ pos 0
 off_row ms q e h = by (outside (first_row ms e) (place ms q.1) (last_row ms e) h)
   where
     by : (place ms q.1 < first_row ms e) ⊎ (last_row ms e < place ms q.1) → crossing_on 2 q e.0.0 e.0.1 ≡ pos 0
@@ -85,14 +85,14 @@ rows_more {T = T} ms old new es i e h is rows put = record {
   rows = λ j d l. row j d l (where_is j (first_row ms e) (last_row ms e + 1));
 }
   where
-    added : (j : ℕ) (b : Bool) → reaches ms j e ≡ b → filter (reaches ms j) (take (i + 1) es) ≡ filter (reaches ms j) (take i es) ++ cond b (e ∷ []) []
+    added : (j : ℕ) (b : Bool) → reaches_row ms j e ≡ b → filter (reaches_row ms j) (take (i + 1) es) ≡ filter (reaches_row ms j) (take i es) ++ cond b (e ∷ []) []
     added j b r =
-        filter_more (reaches ms j) es i e h
-        ∙ (ap (λ (f : Edge × T). filter (reaches ms j) (take i es) ++ cond (reaches ms j f) (f ∷ []) []) (sym is)
-        ∙ ap (λ (x : Bool). filter (reaches ms j) (take i es) ++ cond x (e ∷ []) []) r)
+        filter_more (reaches_row ms j) es i e h
+        ∙ (ap (λ (f : Edge × T). filter (reaches_row ms j) (take i es) ++ cond (reaches_row ms j f) (f ∷ []) []) (sym is)
+        ∙ ap (λ (x : Bool). filter (reaches_row ms j) (take i es) ++ cond x (e ∷ []) []) r)
 
     row : (j : ℕ) (d : Vec (Edge × T) Global) → j < length new → ((first_row ms e ≤ j) × (j < last_row ms e + 1)) ⊎ ((j < first_row ms e) ⊎ (last_row ms e + 1 ≤ j))
-        → (get_or new j d).items ≡ filter (reaches ms j) (take (i + 1) es)
+        → (get_or new j d).items ≡ filter (reaches_row ms j) (take (i + 1) es)
     row j d l (inl w) =
         let low : j < length old = omega (arith, put.len) in
         put.inside j d w.0 w.1 low
@@ -100,20 +100,20 @@ rows_more {T = T} ms old new es i e h is rows put = record {
     row j d l (inr w) =
         let low : j < length old = omega (arith, put.len) in
         put.outside j d w
-        ∙ (rows.rows j d low ∙ (sym (append-nil (filter (reaches ms j) (take i es))) ∙ sym (added j false (without (first_row ms e) j (last_row ms e) w))))
+        ∙ (rows.rows j d low ∙ (sym (append-nil (filter (reaches_row ms j) (take i es))) ∙ sym (added j false (without (first_row ms e) j (last_row ms e) w))))
 
 -- ---- the row of a point
 
 pub row_is : {T : Type 0} (ms : List Mark) (lists : List (Vec (Edge × T) Global)) (es row : List (Edge × T)) (q : Point) → AreRows ms lists es
-    → ((d : Vec (Edge × T) Global) → row ≡ (get_or lists (place ms q.1) d).items) → row ≡ filter (reaches ms (place ms q.1)) es
+    → ((d : Vec (Edge × T) Global) → row ≡ (get_or lists (place ms q.1) d).items) → row ≡ filter (reaches_row ms (place ms q.1)) es
 row_is ms [] es row q rows is = absurd (omega (arith, rows.len))
 row_is ms (v ∷ vs) es row q rows is = is v ∙ rows.rows (place ms q.1) v (omega (arith, rows.len, place_most ms q.1))
 
 -- a sum over the row of what only edges give that cross the ray
-pub row_total : {T : Type 0} (ms : List Mark) (es row : List (Edge × T)) (q : Point) (g : Edge × T → ℤ) → row ≡ filter (reaches ms (place ms q.1)) es
+pub row_total : {T : Type 0} (ms : List Mark) (es row : List (Edge × T)) (q : Point) (g : Edge × T → ℤ) → row ≡ filter (reaches_row ms (place ms q.1)) es
     → ((e : Edge × T) → crossing_on 2 q e.0.0 e.0.1 ≡ pos 0 → g e ≡ pos 0) → sum_of g row ≡ sum_of g es
 row_total ms es row q g is none =
-    ap (sum_of g) is ∙ sum_of_filter g (reaches ms (place ms q.1)) (λ e h. none e (off_row ms q e h)) es
+    ap (sum_of g) is ∙ sum_of_filter g (reaches_row ms (place ms q.1)) (λ e h. none e (off_row ms q e h)) es
 
 filtered_size : (t : Counted → Bool) (ks : List Counted) → sum_of size (filter t ks) ≤ℤ sum_of size ks
 filtered_size t [] = omega (arith, ints)
@@ -131,4 +131,4 @@ row_sum ms lists ks row q rows is =
 pub row_size : (ms : List Mark) (lists : List (Vec Counted Global)) (ks row : List Counted) (q : Point) → AreRows ms lists ks
     → ((d : Vec Counted Global) → row ≡ (get_or lists (place ms q.1) d).items) → sum_of size row ≤ℤ sum_of size ks
 row_size ms lists ks row q rows is =
-    subst (λ (l : List Counted). sum_of size l ≤ℤ sum_of size ks) (sym (row_is ms lists ks row q rows is)) (filtered_size (reaches ms (place ms q.1)) ks)
+    subst (λ (l : List Counted). sum_of size l ≤ℤ sum_of size ks) (sym (row_is ms lists ks row q rows is)) (filtered_size (reaches_row ms (place ms q.1)) ks)

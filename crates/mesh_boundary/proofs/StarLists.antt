@@ -19,7 +19,7 @@ use Rattle.mesh_cuts.specs.Split.{back}
 use Rattle.mesh_cuts.proofs.PlacesAmong.{place_most}
 use Rattle.mesh_sides.specs.Laws.{AreSplit}
 use Rattle.mesh_sides.specs.Star.{comes_before, leaves_before, net_before}
-use Rattle.mesh_boundary.specs.Midway.Stars.{code, place_among, ends_at, touches, segments_at, counted_before, AreShaped, AreStars, IsListed, IsSegment, IsStar, HaveStars}
+use Rattle.mesh_boundary.specs.Midway.Stars.{code, place_among, ends_at, touches, segments_at, counted_before, AreShaped, AreStars, IsFiled, IsSegment, IsStar, HaveStars}
 use Rattle.mesh_boundary.proofs.BoundaryCounted.{counted_segments, counted_sum}
 use Rattle.mesh_boundary.proofs.RowSums.{filter_more}
 use Rattle.mesh_boundary.proofs.SidesCode.{sum_more}
@@ -54,7 +54,7 @@ segment_if ks false k = refl
 
 -- one more segment is listed
 pub listed_more : (ms : List Mark) (old new : List (Vec ℕ Global)) (ends : List (ℕ × ℕ)) (ks : List Counted) (k : ℕ) → k < length ks → AreListed ms old ends ks k
-    → IsListed old new (ends_at (place_among ms) (get_or ks k (((pos 0, pos 0), (pos 0, pos 0)), pos 0)).0) k
+    → IsFiled old new (ends_at (place_among ms) (get_or ks k (((pos 0, pos 0), (pos 0, pos 0)), pos 0)).0) k
     → AreListed ms new (ends ++ ends_at (place_among ms) (get_or ks k (((pos 0, pos 0), (pos 0, pos 0)), pos 0)).0 ∷ []) ks (k + 1)
 listed_more ms old new ends ks k h listed put = record {
   len = put.len ∙ listed.len;
@@ -92,7 +92,7 @@ listed_all ms lists ends ks n h listed =
         places = listed.places ∙ ap (map (λ (k : Counted). ends_at (place_among ms) k.0)) whole;
         within = listed.within;
         stars = λ i d l. listed.stars i d l ∙ ap (filter (touches (place_among ms) i)) whole;
-      }
+      },
     )
 
 -- the place of an end has its list

@@ -5,20 +5,21 @@ ghost use Rattle.std.specs.Prelude.{◌≡◌, ℕ, ◌<◌, true, List, length,
 ghost use Rattle.std.specs.List.{All};
 ghost use Rattle.mesh_plane.specs.Plane.{Point, Edge};
 ghost use Rattle.mesh_plane.specs.Winding.{sum_of};
-ghost use Rattle.mesh_cuts.specs.Boundary.{left_winding, right_winding};
+ghost use Rattle.mesh_cuts.specs.Boundary.{right_winding};
 ghost use Rattle.mesh_cuts.specs.Counted.{Counted, size, IsRoomy};
 ghost use Rattle.mesh_cuts.specs.Split.{back, occurs};
 ghost use Rattle.mesh_sides.specs.Laws.{AreSplit};
-ghost use Rattle.mesh_boundary.specs.Midway.Flood.{OfSplitEdges, IsLevel, AreKnown};
-ghost use Rattle.mesh_boundary.specs.Midway.Stars.{ends_at, segments_at, AreStars, AreShaped, HaveStars, IsSegment, IsStar};
+ghost use Rattle.mesh_boundary.specs.Midway.Flood.{OfSplitEdges, IsLevel, AreKnown, windings_beside};
+ghost use Rattle.mesh_boundary.specs.Midway.Stars.{ends_at, segments_at, AreStars, AreShaped, HaveStars, IsSegment};
+ghost use Rattle.mesh_boundary.specs.Midway.Stars.{IsStar};
 
-use crate::sums::Sums;
 use crate::stars::{Ends, Stars, back, before};
+use crate::sums::Sums;
 use mesh_cuts::exact::same_point;
 use mesh_cuts::grid::{CountedSegment, GridEdge, GridPoint};
 use std::alloc::{AllocError, Global};
 
-/// A point and the winding at it. No other than these numbers are noted.
+/// A point and the winding at it. A greater one is not noted: then a sum over all segments tells the sides.
 type Level = (GridPoint, i64);
 
 /// The windings to the left and to the right of a segment.
@@ -88,12 +89,7 @@ fn directed(p: GridPoint, s: CountedSegment, ends: Ends) -> Option<Placed>
 }
 
 /// The winding on the right of a segment, from that at its start, with the indices of what ends there.
-fn right_of(
-    segments: &[CountedSegment],
-    star: &[usize],
-    winding: i128,
-    e: GridEdge,
-) -> Option<i128>
+fn right_of(segments: &[CountedSegment], star: &[usize], winding: i128, e: GridEdge) -> Option<i128>
     requires { All (λ k. k < length segments.now) star.now }
     ensures { (es : List Edge) → AreSplit es → IsStar es e.0 (segments_at segments.now star.now) → occurs e es ≡ true
         → IsLevel es (e.0, winding) → IfSome result (λ r. r ≡ right_winding es e) }
@@ -246,12 +242,17 @@ impl Flood {
         requires in_range { k < length segments.now }
         ensures { (es : List Edge) (d : Counted)
             → HaveStars es segments.now stars.now.lists.items stars.now.ends.items
-            → AreKnown es self.now.known.items → IfSome result (λ p.
-                p ≡ (left_winding es (slice_index_or segments.now k d).0, right_winding es (slice_index_or segments.now k d).0)) }
+            → AreKnown es self.now.known.items
+            → IfSome result (λ p. p ≡ windings_beside es (slice_index_or segments.now k d).0) }
     {
         let s = segments[k];
         let i = stars.ends[k].0;
-        let right = right_of(segments, stars.star(i), level_at(&self.known, i, s.0.0)?, s.0)?;
+        let right = right_of(
+            segments,
+            stars.star(i),
+            level_at(&self.known, i, s.0.0)?,
+            s.0,
+        )?;
         Some((right.checked_add(s.1)?, right))
     }
 }

@@ -9,7 +9,7 @@ ghost use Rattle.mesh_cuts.specs.Marks.{AreRising};
 ghost use Rattle.mesh_cuts.specs.Split.{back};
 ghost use Rattle.mesh_sides.specs.Star.{comes_before, leaves_before};
 ghost use Rattle.mesh_boundary.specs.Midway.Stars.{code, place_among, ends_at, segments_at, counted_before};
-ghost use Rattle.mesh_boundary.specs.Midway.Stars.{AreShaped, AreStars, IsListed, HaveStars, IsStar};
+ghost use Rattle.mesh_boundary.specs.Midway.Stars.{AreShaped, AreStars, IsFiled, HaveStars, IsStar};
 
 use mesh_cuts::exact::{same_point, turn};
 use mesh_cuts::grid::{CountedSegment, GridEdge, GridPoint};
@@ -63,7 +63,7 @@ fn ends_at(marks: &[Mark], e: GridEdge) -> Ends
 fn file(lists: &mut Vec<Vec<usize>>, ends: Ends, k: usize) -> Result<(), AllocError>
     requires start { ends.0 < length lists.old.items }
     requires stop { ends.1 < length lists.old.items }
-    ensures { OnOk result (IsListed lists.old.items lists.new.items ends k) }
+    ensures { OnOk result (IsFiled lists.old.items lists.new.items ends k) }
 {
     push_to(lists, ends.0, k)?;
     if ends.0 == ends.1 {

@@ -13,7 +13,7 @@ use Rattle.mesh_cuts.specs.Marks.{place}
 use Rattle.mesh_shapes.specs.Resolution.{Ring, is_positive}
 use Rattle.mesh_shapes.specs.Midway.Grouping.{ring_at, areas_of}
 use Rattle.mesh_shapes.specs.Midway.Holders.{PlacedEdge, with_place, ring_edges, placed_edges, Rise, winding_of, IsRowOf}
-use Rattle.mesh_boundary.specs.Midway.Rows.{reaches}
+use Rattle.mesh_boundary.specs.Midway.Rows.{reaches_row}
 use Rattle.mesh_shapes.specs.Vectors.{HeldRing, rings_held}
 use Rattle.mesh_shapes.proofs.Groups.{view_at, positive_at}
 use Rattle.mesh_boundary.proofs.RowSums.{row_total}
@@ -123,12 +123,12 @@ ring_sums q n (suc j) (r ∷ rs) h =
 
 -- ---- the row of a point
 
-pub row_rises : (rs : List Ring) (ms : List Mark) (row : List PlacedEdge) (q : Point) → row ≡ filter (reaches ms (place ms q.1)) (placed_edges rs) → Rise 0 (length rs) row
+pub row_rises : (rs : List Ring) (ms : List Mark) (row : List PlacedEdge) (q : Point) → row ≡ filter (reaches_row ms (place ms q.1)) (placed_edges rs) → Rise 0 (length rs) row
 row_rises rs ms row q is =
     subst (λ (es : List PlacedEdge). Rise 0 (length rs) es) (sym is)
-    (rise_filter (reaches ms (place ms q.1)) 0 (length rs) (placed_edges rs) (rise_edges 0 (length rs) rs (omega arith)))
+    (rise_filter (reaches_row ms (place ms q.1)) 0 (length rs) (placed_edges rs) (rise_edges 0 (length rs) rs (omega arith)))
 
-pub row_tells : (rs : List Ring) (ms : List Mark) (row : List PlacedEdge) (q : Point) → row ≡ filter (reaches ms (place ms q.1)) (placed_edges rs) → IsRowOf rs q row
+pub row_tells : (rs : List Ring) (ms : List Mark) (row : List PlacedEdge) (q : Point) → row ≡ filter (reaches_row ms (place ms q.1)) (placed_edges rs) → IsRowOf rs q row
 row_tells rs ms row q is k low = by (is_positive (ring_at rs k)) ∙ ap (λ (w : ℤ). not (int_eq w (pos 0))) (sym sum)
   where
     none : (b : Bool) (w : ℤ) → w ≡ pos 0 → cond b w (pos 0) ≡ pos 0

@@ -12,7 +12,7 @@ use Rattle.mesh_plane.specs.Plane.{Point}
 use Rattle.mesh_plane.proofs.ClosedLists.{all_left, all_right}
 use Rattle.mesh_shapes.specs.Resolution.{Ring, Placed, is_head, shape_of, answered}
 use Rattle.mesh_shapes.specs.Vectors.{HeldRing, ring_held, rings_held}
-use Rattle.mesh_shapes.specs.Midway.Grouping.{ring_at, placed, IsHome, contour_at, contours_at, shape_at, headed, AreMembers, HaveMembers, Stays, OthersStay, AreApart, HaveApart, homed}
+use Rattle.mesh_shapes.specs.Midway.Grouping.{ring_at, placed, IsHome, contour_at, contours_at, shape_at, headed, AreMembers, HaveMembers, Stays, OtherRingsStay, AreApart, HaveApart, homed}
 use Rattle.mesh_shapes.proofs.Groups.{head_test}
 use Rattle.mesh_shapes.proofs.Shapes.{filter_step, place_next, ShapesTo}
 
@@ -66,12 +66,12 @@ differs_from_earlier h places i apart low (suc k) d some e =
 
 -- ---- rings that stay as they are
 
-pub others_set : (rs : List HeldRing) (i : ℕ) (r : HeldRing) → OthersStay rs (set rs i r) (i ∷ [])
+pub others_set : (rs : List HeldRing) (i : ℕ) (r : HeldRing) → OtherRingsStay rs (set rs i r) (i ∷ [])
 others_set rs i r k apart =
     ap (λ (l : List Ring). ring_at l k) (map-set ring_held rs i r)
     ∙ ap (λ (x : Ring). (k, x)) (get_or-set_other (rings_held rs) i k (ring_held r) ([], (pos 0, pos 0)) (apart 0 i (omega arith)))
 
-others_more : (rs now after : List HeldRing) (xs ys : List ℕ) → OthersStay rs now xs → OthersStay now after ys → OthersStay rs after (xs ++ ys)
+others_more : (rs now after : List HeldRing) (xs ys : List ℕ) → OtherRingsStay rs now xs → OtherRingsStay now after ys → OtherRingsStay rs after (xs ++ ys)
 others_more rs now after xs ys first second k apart =
     second k (all_right (λ (i : ℕ). k ≢ i) xs ys apart) ∙ first k (all_left (λ (i : ℕ). k ≢ i) xs ys apart)
 
@@ -80,10 +80,10 @@ others_more rs now after xs ys first second k apart =
 -- those of the ring at `h` and of the rings at other places were moved, and all other rings stay
 pub record IsMovedTo (rs now : List HeldRing) (cw : Bool) (h : ℕ) (places : List ℕ) (done : List (List Point)) : Type 0 where
   pub contours : done ≡ contours_at (rings_held rs) cw h places
-  pub others : OthersStay rs now (h ∷ places)
+  pub others : OtherRingsStay rs now (h ∷ places)
 
 pub moved_more : (rs now after : List HeldRing) (cw : Bool) (h : ℕ) (places : List ℕ) (i : ℕ) (old new : List (List Point)) → AllPairs (λ (a b : ℕ). a ≢ b) (h ∷ places) → i < length places →
-    IsMovedTo rs now cw h (take i places) old → new ≡ old ++ contour_at cw now (get_or places i 0) ∷ [] → OthersStay now after (get_or places i 0 ∷ []) → IsMovedTo rs after cw h (take (i + 1) places) new
+    IsMovedTo rs now cw h (take i places) old → new ≡ old ++ contour_at cw now (get_or places i 0) ∷ [] → OtherRingsStay now after (get_or places i 0 ∷ []) → IsMovedTo rs after cw h (take (i + 1) places) new
 moved_more rs now after cw h places i old new apart low before e others =
     subst (λ (l : List ℕ). IsMovedTo rs after cw h l new) (sym (take_more places i 0 low)) (record {
       contours =

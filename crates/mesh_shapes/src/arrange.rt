@@ -1,7 +1,7 @@
 //! Shapes of rings: order and grouping.
 
-ghost use Rattle.std.specs.Prelude.{◌≡◌, ◌≢◌, ◌⊎◌, ℕ, ◌+◌, ◌*◌, ◌^◌, ◌<◌, ◌≤◌, Bool, true, false, not, ◌&&◌, cond, List};
-ghost use Rattle.std.specs.Prelude.{[], ◌∷◌, ◌++◌, map, length, take, drop, reverse, slice_index_or, nat_le, nat_eq};
+ghost use Rattle.std.specs.Prelude.{◌≡◌, ◌≢◌, ◌⊎◌, ℕ, ◌+◌, ◌*◌, ◌^◌, ◌<◌, ◌≤◌, Bool, true, false, not, ◌&&◌, cond};
+ghost use Rattle.std.specs.Prelude.{List, [], ◌∷◌, ◌++◌, map, length, take, drop, reverse, slice_index_or, nat_le, nat_eq};
 ghost use Rattle.std.specs.Prelude.{unsigned_abs, int_lt, pos, IfOk, OnOk, MatchOption, Vec};
 ghost use Rattle.std.specs.declared.alloc.Global.{Global};
 ghost use Rattle.std.specs.Option.{ForSome};
@@ -13,7 +13,7 @@ ghost use Rattle.mesh_shapes.specs.Contours.{reversed, double_area};
 ghost use Rattle.mesh_shapes.specs.Vectors.{HeldRing, ring_held, rings_held, shape_points, shapes_points};
 ghost use Rattle.mesh_shapes.specs.Midway.Grouping.{ring_at, areas_of, IsHome, AreHomes, AreWithin};
 ghost use Rattle.mesh_shapes.specs.Midway.Grouping.{HaveMembers, IsPutHome, contour_at, contours_at, all_shapes};
-ghost use Rattle.mesh_shapes.specs.Midway.Grouping.{Stays, OthersStay, AreApart, HaveApart, homed};
+ghost use Rattle.mesh_shapes.specs.Midway.Grouping.{Stays, OtherRingsStay, AreApart, HaveApart, homed};
 ghost use Rattle.mesh_shapes.specs.Midway.Holders.{placed_edges};
 ghost use Rattle.mesh_boundary.specs.Midway.Rows.{AreRows};
 ghost use Rattle.mesh_shapes.specs.Resolution.{is_large, points_lt, is_head, shape_of, rings_by_shape};
@@ -177,7 +177,7 @@ fn push_contour(
     requires { i < length rings.old }
     ensures added { OnOk result
         (shape_points shape.new.items ≡ shape_points shape.old.items ++ contour_at clockwise rings.old i ∷ []) }
-    ensures others { OnOk result (OthersStay rings.old rings.new (i ∷ [])) }
+    ensures others { OnOk result (OtherRingsStay rings.old rings.new (i ∷ [])) }
 {
     let points = replace(&mut rings[i].0, Vec::new(alloc));
     shape.push(answered(points, clockwise))?;
@@ -197,7 +197,7 @@ fn shape(
     requires apart { AllPairs (λ i j. i ≢ j) (h ∷ members.now) }
     ensures contours { IfOk result (λ v. shape_points v.items
         ≡ contours_at (rings_held rings.old) clockwise h members.now) }
-    ensures others { IfOk result (λ v. OthersStay rings.old rings.new (h ∷ members.now)) }
+    ensures others { IfOk result (λ v. OtherRingsStay rings.old rings.new (h ∷ members.now)) }
 {
     let mut shape = Vec::with_capacity(alloc, members.len() + 1)?;
     push_contour(alloc, &mut shape, rings, h, clockwise)?;

@@ -6,7 +6,7 @@ use Rattle.std.proofs.lemmas.Bool.{true≢false}
 use Rattle.mesh_plane.specs.Plane.{Point, Edge}
 use Rattle.mesh_cuts.specs.Split.{IsBetween, AreClear, Meets}
 use Rattle.mesh_cuts.proofs.Boxes.{meets_box}
-use Rattle.mesh_split.specs.Midway.BoundingBoxes.{are_beyond, is_apart, AreBounds}
+use Rattle.mesh_split.specs.Midway.BoundingBoxes.{are_beyond, is_beside, AreBounds}
 
 either : (a b : ℤ) → (a ≤ℤ b) ⊎ (b ≤ℤ a)
 either a b = grind (arith, ints)
@@ -44,7 +44,7 @@ not_beyond l m a z b h k r =
     swapped false q false s h = refl
 
 -- an edge beside the box of a segment does not meet it
-pub apart_clear : (bounds s e : Edge) → AreBounds bounds s → is_apart bounds e ≡ true → AreClear s e
+pub apart_clear : (bounds s e : Edge) → AreBounds bounds s → is_beside bounds e ≡ true → AreClear s e
 apart_clear bounds s e h t = λ (c : Point) (m : Meets s e c).
     let box = meets_box m in
     let x = not_beyond bounds.0.0 bounds.1.0 e.0.0 c.0 e.1.0

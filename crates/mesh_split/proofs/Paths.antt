@@ -9,7 +9,7 @@ use Rattle.mesh_cuts.specs.Clean.{IsProper}
 use Rattle.mesh_cuts.specs.Counted.{Counted, IsCountOf}
 use Rattle.mesh_cuts.specs.Split.{back, same_ends, occurs, IsInBox, Cut, cut_edges, after, path}
 use Rattle.mesh_cuts.specs.Splitting.{Leads, IsOnward, IsPathOf, ComesFrom, IsSplitting}
-use Rattle.mesh_split.specs.Midway.Steps.{AllClear, IsReached}
+use Rattle.mesh_split.specs.Midway.Steps.{AllClear, IsReachedBySplits}
 use Rattle.mesh_cuts.proofs.SafeCuts.{split_safe}
 use Rattle.mesh_cuts.proofs.Keys.{occurs_head}
 use Rattle.mesh_cuts.proofs.KeptByCuts.{box_trans, after_append, after_balanced}
@@ -131,7 +131,7 @@ comes_from ks sound (e ∷ es) f o =
 
 -- ---- the splitting as a whole
 
-pub splitting_of : (given : List Edge) (ks : List Counted) → IsProper given → IsReached given [] ks [] → AllClear ks → IsSplitting given ks
+pub splitting_of : (given : List Edge) (ks : List Counted) → IsProper given → IsReachedBySplits given [] ks [] → AllClear ks → IsSplitting given ks
 splitting_of given ks proper r clear =
     let sound = legal_sound given r.cuts r.legal in
     let whole = after_proper r.cuts sound given proper in

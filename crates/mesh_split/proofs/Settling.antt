@@ -8,7 +8,7 @@ use Rattle.mesh_plane.specs.Winding.{same_point}
 use Rattle.mesh_plane.proofs.Whole.{linear}
 use Rattle.mesh_cuts.specs.Split.{same_edge, same_ends, occurs, is_end, IsInBox, IsCrossing, Meets, at_start_of_second, at_end_of_second, at_start_of_first, at_end_of_first, at_crossing, Cut, cut_edges, after, add_cut, IsLegal, split}
 use Rattle.mesh_cuts.specs.Counted.{Counted, bit, times}
-use Rattle.mesh_split.specs.Midway.Steps.{exactly, IsPut, IsTaken, Puts, PutsPieces, IsClearOf, AllClear, AreCountOf, IsReached, Settles, extent, weight, waiting_work, live_work}
+use Rattle.mesh_split.specs.Midway.Steps.{exactly, IsPut, IsTaken, Puts, PutsPieces, IsClearOf, AllClear, AreCountOf, IsReachedBySplits, Settles, extent, weight, waiting_work, live_work}
 use Rattle.mesh_cuts.specs.Split.{AreClear}
 use Rattle.mesh_cuts.proofs.Ends.{decides_edge, decides_end, ends_sym, not_ends}
 use Rattle.mesh_cuts.proofs.Boxes.{meets_box, meets_once, crossing_swapped, turn_start}
@@ -109,7 +109,7 @@ pub record IsMeeting (todo live : List Counted) (k : Counted) (t : Edge) (c : Po
   pub meets : Meets k.0 t c
   pub lives : pos 0 <ℤ exactly t live
 
-legal_split : (given : List Edge) (todo live : List Counted) (k : Counted) (t : Edge) (c : Point) → IsMeeting todo live k t c → (r : IsReached given todo live (k ∷ []))
+legal_split : (given : List Edge) (todo live : List Counted) (k : Counted) (t : Edge) (c : Point) → IsMeeting todo live k t c → (r : IsReachedBySplits given todo live (k ∷ []))
     → IsLegal given (add_cut t c (add_cut k.0 c r.cuts))
 legal_split given todo live k t c m r =
     let h = held_is (after r.cuts given) todo live k [] m.proper r.count refl in

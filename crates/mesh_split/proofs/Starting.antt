@@ -11,7 +11,7 @@ use Rattle.mesh_plane.proofs.Sums.{sum_of_append}
 use Rattle.mesh_plane.proofs.Whole.{linear}
 use Rattle.mesh_cuts.specs.Split.{same_ends, occurs, after, no_cut}
 use Rattle.mesh_cuts.specs.Counted.{Counted, bit, along, times}
-use Rattle.mesh_split.specs.Midway.Steps.{IsTaken, Puts, AllClear, AreCountOf, IsReached, Settles, at_least_once, extent, weight, waiting_work, live_work, work, total_weight}
+use Rattle.mesh_split.specs.Midway.Steps.{IsTaken, Puts, AllClear, AreCountOf, IsReachedBySplits, Settles, at_least_once, extent, weight, waiting_work, live_work, work, total_weight}
 use Rattle.mesh_cuts.proofs.Ends.{ends_self}
 use Rattle.mesh_cuts.proofs.Counts.{times_least, bit_most}
 use Rattle.mesh_cuts.proofs.Cuts.{occurs_append}
@@ -84,7 +84,7 @@ work_least todo live = omega (arith, linear, waiting todo, living live)
 
 -- the state after a segment was taken from the worklist and settled
 pub settled_reached : (given : List Edge) (old todo live todo' live' : List Counted) (k : Counted) → IsTaken old todo k → Settles todo live todo' live' k
-    → IsReached given old live [] → IsReached given todo' live' []
+    → IsReachedBySplits given old live [] → IsReachedBySplits given todo' live' []
 settled_reached given old todo live todo' live' k e s r =
     s.reached given (record { cuts = r.cuts; legal = r.legal; count = pop_count _ old todo live k [] e r.count })
 
@@ -98,7 +98,7 @@ popped_room old todo live k e h =
     omega (arith, linear, e weight)
 
 -- the segment that was taken from the worklist does not live
-pub popped_absent : (given : List Edge) (old todo live : List Counted) (k : Counted) → IsTaken old todo k → IsReached given old live [] → times k.0 live ≡ pos 0
+pub popped_absent : (given : List Edge) (old todo live : List Counted) (k : Counted) → IsTaken old todo k → IsReachedBySplits given old live [] → times k.0 live ≡ pos 0
 popped_absent given old todo live k e r =
     omega (
       arith,
@@ -119,11 +119,11 @@ settled_less old todo live todo' live' k e s =
     below : (a b : ℤ) → pos 0 ≤ℤ a → a <ℤ b → unsigned_abs a < unsigned_abs b
     below a b h k = omega (arith, ints)
 
-pub start_reached : (given : List Edge) (n : ℕ) (todo live : List Counted) → length given ≤ n → AreCountOf (take n given) todo live [] → IsReached given todo live []
+pub start_reached : (given : List Edge) (n : ℕ) (todo live : List Counted) → length given ≤ n → AreCountOf (take n given) todo live [] → IsReachedBySplits given todo live []
 start_reached given n todo live h r = record { cuts = []; legal = no_cut; count = subst (λ (x : List Edge). AreCountOf x todo live []) (take_all n given h) r }
 
-pub end_reached : (given : List Edge) (todo live : List Counted) → todo ≡ [] → IsReached given todo live [] → IsReached given [] live []
-end_reached given todo live e r = subst (λ (x : List Counted). IsReached given x live []) e r
+pub end_reached : (given : List Edge) (todo live : List Counted) → todo ≡ [] → IsReachedBySplits given todo live [] → IsReachedBySplits given [] live []
+end_reached given todo live e r = subst (λ (x : List Counted). IsReachedBySplits given x live []) e r
 
 pub more_weight : (i : ℕ) (a b w : ℤ) → b ≤ℤ (a +ℤ w) → w ≤ℤ pos (2 ^ 33) → a ≤ℤ pos (2 ^ 33 * i) → b ≤ℤ pos (2 ^ 33 * (i + 1))
 more_weight i a b w h k l = omega (arith, ints, h, k, l)

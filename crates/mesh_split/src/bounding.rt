@@ -1,7 +1,7 @@
 //! The box of a segment, by which those are left out at once that have no point in common with it.
 
 ghost use Rattle.std.specs.Prelude.{◌≡◌, ◌≤ℤ◌};
-ghost use Rattle.mesh_split.specs.Midway.BoundingBoxes.{are_beyond, is_apart, AreBounds};
+ghost use Rattle.mesh_split.specs.Midway.BoundingBoxes.{are_beyond, is_beside, AreBounds};
 
 use mesh_cuts::grid::{GridEdge, GridPoint};
 
@@ -26,8 +26,8 @@ fn are_beyond(least: i32, most: i32, a: i32, b: i32) -> bool
 }
 
 /// Whether an edge lies beside a box.
-pub fn is_apart(bounds: BoundingBox, e: GridEdge) -> bool
-    ensures { result ≡ is_apart bounds e }
+pub fn is_beside(bounds: BoundingBox, e: GridEdge) -> bool
+    ensures { result ≡ is_beside bounds e }
 {
     are_beyond(bounds.0.0, bounds.1.0, e.0.0, e.1.0)
         || are_beyond(bounds.0.1, bounds.1.1, e.0.1, e.1.1)

@@ -3,7 +3,7 @@
 //! Mostly each split is that of one meeting, so few more splits than meetings will do. A run of splits takes more: it
 //! makes its own meetings, goes on along a line, and drags points with it.
 
-use crate::bounding::{bounding_box, is_apart};
+use crate::bounding::{bounding_box, is_beside};
 use mesh_cuts::exact::meeting;
 use mesh_cuts::grid::{GridEdge, GridPoint};
 use std::alloc::{AllocError, Global};
@@ -72,16 +72,23 @@ impl Budget {
 fn side(p: GridPoint, r: GridPoint, q: GridPoint) -> i64 {
     let along = (r.0 as i64 - p.0 as i64, r.1 as i64 - p.1 as i64);
     let way = (q.0 as i64 - p.0 as i64, q.1 as i64 - p.1 as i64);
-    along.0.saturating_mul(way.1).saturating_sub(along.1.saturating_mul(way.0))
+    along
+        .0
+        .saturating_mul(way.1)
+        .saturating_sub(along.1.saturating_mul(way.0))
 }
 
 /// Whether two edges meet. Mostly the signs of four numbers tell it.
 fn do_meet(e: GridEdge, f: GridEdge) -> bool {
-    let first = side(e.0, e.1, f.0).signum().saturating_mul(side(e.0, e.1, f.1).signum());
+    let first = side(e.0, e.1, f.0)
+        .signum()
+        .saturating_mul(side(e.0, e.1, f.1).signum());
     if first > 0 {
         return false;
     }
-    let second = side(f.0, f.1, e.0).signum().saturating_mul(side(f.0, f.1, e.1).signum());
+    let second = side(f.0, f.1, e.0)
+        .signum()
+        .saturating_mul(side(f.0, f.1, e.1).signum());
     if second > 0 {
         return false;
     }
@@ -102,7 +109,7 @@ fn meetings(alloc: Global, edges: &[GridEdge]) -> Result<usize, AllocError> {
             if other.0.0 > bounds.1.0 {
                 break;
             }
-            if !is_apart(*bounds, *f) && do_meet(*e, *f) {
+            if !is_beside(*bounds, *f) && do_meet(*e, *f) {
                 count = count.saturating_add(1);
             }
         }

@@ -12,7 +12,7 @@ ghost use Rattle.mesh_split.specs.Midway.Cells.{KeepsThose, KeepsListed, KeepsOt
 ghost use Rattle.mesh_split.specs.Midway.BoundingBoxes.{AreBounds};
 ghost use Rattle.mesh_split.specs.Midway.Steps.{exactly};
 
-use crate::bounding::{BoundingBox, bounding_box, is_apart};
+use crate::bounding::{BoundingBox, bounding_box, is_beside};
 use crate::hints::{Hints, Meeting};
 use crate::tally::Tally;
 use mesh_cuts::exact::{meeting, same_edge};
@@ -22,8 +22,8 @@ use std::alloc::{AllocError, Global};
 /// Up to so many segments a part lists before it is parted.
 const FEW: usize = 48;
 
-/// No part of the plane lies under more cuts. Where a full one would, as where a run of splits goes on along a line, and
-/// lists as many as a power of two, all cuts are chosen anew.
+/// No part of the plane lies under more cuts. Where a full one would, as where a run of splits goes on along a line,
+/// and lists as many as a power of two, all cuts are chosen anew.
 pub const DEPTH: usize = 1024;
 
 /// About how many segments a cut is chosen from.
@@ -89,7 +89,7 @@ fn live_meeting(live: &Tally, s: GridEdge, bounds: BoundingBox, e: GridEdge) -> 
     requires { AreBounds bounds s }
     ensures { MatchOption result (pos 0 <ℤ exactly e live.now → AreClear s e) (λ m. MeetsLive s live.now m) }
 {
-    if is_apart(bounds, e) {
+    if is_beside(bounds, e) {
         return None;
     }
     let Some(at) = meeting(s, e) else {
@@ -256,8 +256,8 @@ fn across_at(edges: &[GridEdge], place: usize) -> Across {
     }
 }
 
-/// Vectors across which a cut is tried: along the axes, across the longest edge, and across three others, since of edges
-/// that spread like a fan one in the middle serves, and a list often has them in their order round.
+/// Vectors across which a cut is tried: along the axes, across the longest edge, and across three others, since of
+/// edges that spread like a fan one in the middle serves, and a list often has them in their order round.
 fn candidates(edges: &[GridEdge]) -> [Across; 6] {
     let [first, second] = axes(edges);
     let half = edges.len() / 2;
@@ -288,9 +288,9 @@ fn work(edges: &[GridEdge], cut: Cut) -> usize {
         .saturating_add(beyond.saturating_mul(beyond))
 }
 
-/// The cut in the middle, along an axis or along an edge, that leaves least to search, where that is at most four fifths
-/// of what there was: so what reaches both sides is listed not much more often. Where one leaves three fifths, no other
-/// is tried.
+/// The cut in the middle, along an axis or along an edge, that leaves least to search, where that is at most four
+/// fifths of what there was: so what reaches both sides is listed not much more often. Where one leaves three fifths, no
+/// other is tried.
 fn best_cut(alloc: Global, edges: &[GridEdge]) -> Result<Option<Cut>, AllocError> {
     let some = sample(alloc, edges)?;
     let whole = some.len().saturating_mul(some.len());

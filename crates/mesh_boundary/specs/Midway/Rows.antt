@@ -16,14 +16,16 @@ abbrev pub last_row : {T : Type 0} → List Mark → Edge × T → ℕ
 last_row marks e = max (place marks (pos 2 *ℤ e.0.0.1)) (place marks (pos 2 *ℤ e.0.1.1))
 
 -- an edge reaches a row
-abbrev pub reaches : {T : Type 0} → List Mark → ℕ → Edge × T → Bool
-reaches marks row e = nat_le (first_row marks e) row && nat_le row (last_row marks e)
+abbrev pub reaches_row : {T : Type 0} → List Mark → ℕ → Edge × T → Bool
+reaches_row marks row e = nat_le (first_row marks e) row && nat_le row (last_row marks e)
 
 -- each row has the edges that reach it, in their order
-pub record AreRows {T : Type 0} (marks : List Mark) (lists : List (Vec (Edge × T) Global)) (es : List (Edge × T)) : Type 0 where
+pub record AreRows {T : Type 0} (marks : List Mark) (lists : List (Vec (Edge × T) Global)) (es : List (Edge × T))
+    : Type 0 where
   pub rising : AreRising marks
   pub len : length lists ≡ length marks + 1
-  pub rows : (i : ℕ) (d : Vec (Edge × T) Global) → i < length lists → (slice_index_or lists i d).items ≡ filter (reaches marks i) es
+  pub rows : (i : ℕ) (d : Vec (Edge × T) Global) → i < length lists
+      → (slice_index_or lists i d).items ≡ filter (reaches_row marks i) es
 
 -- rows, if there are any, have these segments
 abbrev pub MayHaveRows : Option (Rows ℤ) → List Counted → Type 0

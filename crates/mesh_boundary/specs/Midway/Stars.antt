@@ -39,25 +39,30 @@ pub record AreShaped (lists : List (Vec ℕ Global)) (ends : List (ℕ × ℕ)) 
   pub stops : (i : ℕ) (d : ℕ × ℕ) → i < count → (slice_index_or ends i d).1 < length lists
   pub within : (i : ℕ) (d : Vec ℕ Global) → i < length lists → All (λ (k : ℕ). k < count) (list_at lists i d)
 
--- each end of a segment has its place, and each list has the indices of the segments that have an end of its place, in their order
-pub record AreStarsAt (at : Point → ℕ) (lists : List (Vec ℕ Global)) (ends : List (ℕ × ℕ)) (ks : List Counted) : Type 0 where
+-- each end of a segment has its place, and each list has the indices of the segments that have an end of its place, in
+-- their order
+pub record AreStarsAt (at : Point → ℕ) (lists : List (Vec ℕ Global)) (ends : List (ℕ × ℕ)) (ks : List Counted)
+    : Type 0 where
   pub below : (p : Point) → at p < length lists
   pub places : ends ≡ map (λ (k : Counted). ends_at at k.0) ks
   pub within : (i : ℕ) (d : Vec ℕ Global) → i < length lists → All (λ (k : ℕ). k < length ks) (list_at lists i d)
-  pub stars : (i : ℕ) (d : Vec ℕ Global) → i < length lists → segments_at ks (list_at lists i d) ≡ filter (touches at i) ks
+  pub stars : (i : ℕ) (d : Vec ℕ Global) → i < length lists
+      → segments_at ks (list_at lists i d) ≡ filter (touches at i) ks
 
 -- the same, with some place for each point
 abbrev pub AreStars : List (Vec ℕ Global) → List (ℕ × ℕ) → List Counted → Type 0
 AreStars lists ends ks = (at : Point → ℕ) × AreStarsAt at lists ends ks
 
 -- an index was added at the end of each list that is of one of these places
-pub record IsListed (old new : List (Vec ℕ Global)) (ends : ℕ × ℕ) (k : ℕ) : Type 0 where
+pub record IsFiled (old new : List (Vec ℕ Global)) (ends : ℕ × ℕ) (k : ℕ) : Type 0 where
   pub len : length new ≡ length old
-  pub lists : (i : ℕ) (d : Vec ℕ Global) → i < length old → list_at new i d ≡ list_at old i d ++ cond (nat_eq i ends.0 || nat_eq i ends.1) (k ∷ []) []
+  pub lists : (i : ℕ) (d : Vec ℕ Global) → i < length old
+      → list_at new i d ≡ list_at old i d ++ cond (nat_eq i ends.0 || nat_eq i ends.1) (k ∷ []) []
 
 -- how often counted segments leave the point where `e` starts before `e`, less how often they come in there
 abbrev pub counted_before : Edge → List Counted → ℤ
-counted_before e ks = sum_of (λ (k : Counted). k.1 *ℤ (bit (leaves_before e k.0) -ℤ bit (leaves_before e (back k.0)))) ks
+counted_before e ks =
+    sum_of (λ (k : Counted). k.1 *ℤ (bit (leaves_before e k.0) -ℤ bit (leaves_before e (back k.0)))) ks
 
 -- a counted segment stands among edges, with its net count
 pub record IsSegment (es : List Edge) (k : Counted) : Type 0 where
@@ -69,7 +74,8 @@ abbrev pub IsStar : List Edge → Point → List Counted → Type 0
 IsStar es v star = (w : Point) → counted_before (v, w) star ≡ net_before (v, w) es
 
 -- segments count split edges, and lists have the stars of these
-pub record HaveStars (es : List Edge) (ks : List Counted) (lists : List (Vec ℕ Global)) (ends : List (ℕ × ℕ)) : Type 0 where
+pub record HaveStars (es : List Edge) (ks : List Counted) (lists : List (Vec ℕ Global)) (ends : List (ℕ × ℕ))
+    : Type 0 where
   pub at : Point → ℕ
   pub split : AreSplit es
   pub segments : All (IsSegment es) ks

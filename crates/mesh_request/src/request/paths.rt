@@ -3,7 +3,8 @@
 ghost use Rattle.std.specs.Prelude.{◌≡◌, Some, None, MatchResult, option_map};
 ghost use Rattle.serde_json.specs.View.{view, items_view};
 ghost use Rattle.mesh_num.specs.Paths.{paths_of};
-ghost use Rattle.mesh_request.specs.Reading.{point_of, point_list_of, path_of, path_list_of, paths_in, length_of, IsOfReading};
+ghost use Rattle.mesh_request.specs.Reading.{point_of, point_list_of, path_of, path_list_of, paths_in, length_of};
+ghost use Rattle.mesh_request.specs.Reading.{IsOfReading};
 
 use crate::failure::Failure;
 use crate::json::coordinate;

@@ -86,8 +86,8 @@ abbrev pub Stays : List HeldRing → List HeldRing → ℕ → Type 0
 Stays old new k = ring_at (rings_held new) k ≡ ring_at (rings_held old) k
 
 -- the rings at all other places are as they were
-abbrev pub OthersStay : List HeldRing → List HeldRing → List ℕ → Type 0
-OthersStay old new places = (k : ℕ) → All (λ (i : ℕ). k ≢ i) places → Stays old new k
+abbrev pub OtherRingsStay : List HeldRing → List HeldRing → List ℕ → Type 0
+OtherRingsStay old new places = (k : ℕ) → All (λ (i : ℕ). k ≢ i) places → Stays old new k
 
 -- the place `h` and those of a list all differ, and `h` is the home of each in the list
 pub record AreApart (homes : List ℕ) (h : ℕ) (places : List ℕ) : Type 0 where

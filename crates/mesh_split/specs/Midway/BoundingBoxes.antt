@@ -7,8 +7,8 @@ abbrev pub are_beyond : ℤ → ℤ → ℤ → ℤ → Bool
 are_beyond least most a b = (int_lt a least && int_lt b least) || (int_lt most a && int_lt most b)
 
 -- an edge lies beside the box with these bounds
-abbrev pub is_apart : Edge → Edge → Bool
-is_apart bounds e =
+abbrev pub is_beside : Edge → Edge → Bool
+is_beside bounds e =
     are_beyond bounds.0.0 bounds.1.0 e.0.0 e.1.0 || are_beyond bounds.0.1 bounds.1.1 e.0.1 e.1.1
 
 -- both ends of an edge lie in the box with these bounds

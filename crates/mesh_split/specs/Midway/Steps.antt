@@ -103,7 +103,7 @@ pub record AreCountOf (es : List Edge) (todo live held : List Counted) : Type 0 
   pub once : (q : Edge) → (times q todo +ℤ times q live) +ℤ times q held ≡ bit (occurs q es)
 
 -- a state that legal splits of the given edges lead to
-pub record IsReached (given : List Edge) (todo live held : List Counted) : Type 0 where
+pub record IsReachedBySplits (given : List Edge) (todo live held : List Counted) : Type 0 where
   pub cuts : List Cut
   pub legal : IsLegal given cuts
   pub count : AreCountOf (after cuts given) todo live held
@@ -111,14 +111,14 @@ pub record IsReached (given : List Edge) (todo live held : List Counted) : Type 
 -- a segment in hand was made live or split: the state stays one that legal splits lead to, live segments stay
 -- clear of each other, and less work is left
 pub record Settles (todo live todo' live' : List Counted) (k : Counted) : Type 0 where
-  pub reached : (given : List Edge) → IsReached given todo live (k ∷ []) → IsReached given todo' live' []
+  pub reached : (given : List Edge) → IsReachedBySplits given todo live (k ∷ []) → IsReachedBySplits given todo' live' []
   pub clear : AllClear live → AllClear live'
   pub work_falls : work todo' live' <ℤ (work todo live +ℤ waiting_work k)
   pub weight_stays : total_weight todo' live' ≤ℤ (total_weight todo live +ℤ weight k)
 
 -- segments that legal splits of the given edges lead to, whether or not they meet, with room for their counts
 pub record IsPile (given : List Edge) (todo live : List Counted) : Type 0 where
-  pub reached : IsReached given todo live []
+  pub reached : IsReachedBySplits given todo live []
   pub light : total_weight todo live ≤ℤ pos (2 ^ 97)
 
 -- legal splits lead to what is there now wherever they lead to what was there

@@ -4,7 +4,7 @@ use Rattle.std.proofs.lemmas.Int.{to_z-of_z}
 use mir.Syntax.{w32}
 use mir.Val.{SFits}
 use Rattle.mesh_split.specs.Midway.BoundingBoxes.{are_beyond}
-use Rattle.mesh_split.proofs.bounding.is_apart.Goals as goal
+use Rattle.mesh_split.proofs.bounding.is_beside.Goals as goal
 
 pub returns-else-are_beyond : goal.returns-else-are_beyond
 returns-else-are_beyond c =
