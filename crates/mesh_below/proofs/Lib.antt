@@ -4,4 +4,6 @@ pub mod Asking
 pub mod NoShapes
 pub mod Partition
 pub mod Resolving
+pub mod Settled
 pub mod Subjects
+pub mod Whole

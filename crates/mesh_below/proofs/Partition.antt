@@ -215,12 +215,12 @@ keeps_all [] = refl
 keeps_all (r ∷ rs) =
     (λ i. cond (no_less_than_none (unsigned_abs (double_area r.0)) i) (r ∷ filter (is_large 0) rs) (filter (is_large 0) rs)) ∙ ap (λ (l : List Ring). r ∷ l) (keeps_all rs)
 
--- where no contour is left out and none is reversed, the answer's contours wind as the contours with their answered vertices
-pub answer_winds : (edges : List Edge) (fill : ℤ → Bool) (options : Choices) (answer : List (List (List Point))) → (r : IsResolution edges fill options answer) →
-    options.least_area ≡ 0 → options.clockwise ≡ false → (m : ℕ) (q : Point) →
-    winding m q (flat_map boundary (contours_of answer)) ≡ winding m q (flat_map boundary (map (vertices options.all_vertices) r.contours))
-answer_winds edges fill options answer r least same m q =
-    let f : Edge → ℤ = λ (e : Edge). crossing_on m q e.0 e.1 in
+-- where no contour is left out and none is reversed, what is added up over the answer's edges is added up over those of the
+-- contours with their answered vertices
+pub answer_sums : (edges : List Edge) (fill : ℤ → Bool) (options : Choices) (answer : List (List (List Point))) → (r : IsResolution edges fill options answer) →
+    options.least_area ≡ 0 → options.clockwise ≡ false → (f : Edge → ℤ) →
+    sum_of f (flat_map boundary (contours_of answer)) ≡ sum_of f (flat_map boundary (map (vertices options.all_vertices) r.contours))
+answer_sums edges fill options answer r least same f =
     let whole : List Point → ℤ = λ (c : List Point). sum_of f (boundary c) in
     let g : Ring → ℤ = λ (x : Ring). whole (answered options.clockwise x) in
     let a = r.arranged in
@@ -241,3 +241,9 @@ answer_winds edges fill options answer r least same m q =
     ∙ (ap (λ (b : Bool). sum_of (λ (c : List Point). whole (answered b (ring_of options.all_vertices c))) r.contours) same
     ∙ (sym (sum_of_map whole (vertices options.all_vertices) r.contours)
     ∙ sym (sum_of_flat_map f boundary (map (vertices options.all_vertices) r.contours)))))))))
+
+-- so the answer's contours wind as those
+pub answer_winds : (edges : List Edge) (fill : ℤ → Bool) (options : Choices) (answer : List (List (List Point))) → (r : IsResolution edges fill options answer) →
+    options.least_area ≡ 0 → options.clockwise ≡ false → (m : ℕ) (q : Point) →
+    winding m q (flat_map boundary (contours_of answer)) ≡ winding m q (flat_map boundary (map (vertices options.all_vertices) r.contours))
+answer_winds edges fill options answer r least same m q = answer_sums edges fill options answer r least same (λ (e : Edge). crossing_on m q e.0 e.1)

@@ -20,21 +20,27 @@ use Rattle.mesh_cuts.specs.Clean.{IsProper}
 use Rattle.mesh_shapes.specs.Contours.{IsBegun, IsRingOf}
 use Rattle.mesh_cuts.specs.Counted.{Counted}
 use Rattle.mesh_shapes.specs.Vectors.{HeldRing, ring_held, rings_held}
-use Rattle.mesh_below.specs.Midway.Rings.{AreRingsOf, PushesRing}
+use Rattle.mesh_below.specs.Midway.Rings.{AreRingsOf, IsWhole, PushesRing}
 use Rattle.mesh_shapes.specs.Resolution.{Choices, Ring, ring_of, is_large, AreArranged, IsResolution}
 use Rattle.mesh_cuts.specs.Split.{occurs, after, same_ends}
 use Rattle.mesh_cuts.specs.Splitting.{IsSplitting}
 use Rattle.mesh_sides.specs.Laws.{AreSplit}
 use Rattle.mesh_shapes.specs.Vectors.{contour_edges}
 use Rattle.mesh_plane.proofs.ClosedLists.{all_left, all_right}
+use Rattle.mesh_below.proofs.Whole.{whole_vertices, same_length}
 
 -- ---- the ring of one contour
 ring_is : (all : Bool) (given : List Point) (r : HeldRing) → (k : IsRingOf all given (ring_held r)) → ring_of all k.contour ≡ ring_held r
 ring_is all given r k i = (sym k.vertices_are i, sym k.side_is i)
 
-pub push_one : (all : Bool) (least : ℕ) (given : List Point) (r : HeldRing) (old new : List HeldRing) → IsRingOf all given (ring_held r) → is_large least (ring_held r) ≡ true →
-    new ≡ old ++ (r ∷ []) → PushesRing all least given old new
-push_one all least given r old new k large e = record {
+-- a ring with as many points as its contour has each of them
+pub ring_whole : (all : Bool) (given : List Point) (r : HeldRing) → (k : IsRingOf all given (ring_held r)) → length r.0.items ≡ length given → IsWhole all k.contour
+ring_whole all given r k e =
+    whole_vertices all k.contour (ap length (sym k.vertices_are) ∙ (e ∙ sym (same_length k.contour given k.same)))
+
+pub push_one : (all : Bool) (least : ℕ) (given : List Point) (r : HeldRing) (old new : List HeldRing) (whole : Bool) → IsRingOf all given (ring_held r) → is_large least (ring_held r) ≡ true →
+    (whole ≡ true → length r.0.items ≡ length given) → new ≡ old ++ (r ∷ []) → PushesRing all least given old new whole
+push_one all least given r old new whole k large is_whole e = record {
   contour = k.contour;
   same = k.same;
   begun = k.begun;
@@ -42,12 +48,24 @@ push_one all least given r old new k large e = record {
       ap rings_held e
       ∙ (map-append ring_held old (r ∷ [])
       ∙ sym (λ i. rings_held old ++ cond ((ap (is_large least) (ring_is all given r k) ∙ large) i) (ring_is all given r k i ∷ []) []));
+  is_whole = λ t. ring_whole all given r k (is_whole t);
+}
+
+-- a small ring is left out
+pub push_none : (all : Bool) (least : ℕ) (given : List Point) (r : HeldRing) (old : List HeldRing) (whole : Bool) → IsRingOf all given (ring_held r) → is_large least (ring_held r) ≡ false →
+    (whole ≡ true → length r.0.items ≡ length given) → PushesRing all least given old old whole
+push_none all least given r old whole k small is_whole = record {
+  contour = k.contour;
+  same = k.same;
+  begun = k.begun;
+  rings_are = sym ((λ i. rings_held old ++ cond ((ap (is_large least) (ring_is all given r k) ∙ small) i) (ring_of all k.contour ∷ []) []) ∙ append-nil (rings_held old));
+  is_whole = λ t. ring_whole all given r k (is_whole t);
 }
 
 -- ---- the rings of contours
-pub rings_more : (all : Bool) (least : ℕ) (given : List (Vec Point Global)) (c : Vec Point Global) (old new : List HeldRing) →
-    AreRingsOf all least given old → PushesRing all least c.items old new → AreRingsOf all least (given ++ (c ∷ [])) new
-rings_more all least given c old new k p = record {
+pub rings_more : (all : Bool) (least : ℕ) (given : List (Vec Point Global)) (c : Vec Point Global) (old new : List HeldRing) (whole own both : Bool) →
+    (both ≡ true → (whole ≡ true) × (own ≡ true)) → AreRingsOf all least given old whole → PushesRing all least c.items old new own → AreRingsOf all least (given ++ (c ∷ [])) new both
+rings_more all least given c old new whole own both parts k p = record {
   contours = k.contours ++ (p.contour ∷ []);
   same = same_sums;
   begun = All-push (IsBegun all) k.contours p.contour k.begun p.begun;
@@ -56,6 +74,7 @@ rings_more all least given c old new k p = record {
       ∙ (ap (λ (l : List Ring). l ++ filter (is_large least) (ring_of all p.contour ∷ [])) k.rings_are
       ∙ (sym (filter-append (is_large least) (map (ring_of all) k.contours) (ring_of all p.contour ∷ []))
       ∙ ap (filter (is_large least)) (sym (map-append (ring_of all) k.contours (p.contour ∷ [])))));
+  are_whole = λ t. All-push (IsWhole all) k.contours p.contour (k.are_whole (parts t).0) (p.is_whole (parts t).1);
 }
   where
     one_left : (f : Edge → ℤ) → sum_of f (flat_map boundary (p.contour ∷ [])) ≡ sum_of f (boundary p.contour)
@@ -102,10 +121,10 @@ same_boundary es fill bs cs h is = record { counts = λ (e : Edge). h e ∙ is.c
 pub boundary_proper : (es bs : List Edge) (fill : ℤ → Bool) → IsProper es → IsBoundary es fill bs → All (λ (e : Edge). same_point e.0 e.1 ≡ false) bs
 boundary_proper es bs fill proper is = all_occurs (λ (e : Edge). same_point e.0 e.1 ≡ false) bs (λ (e : Edge) (o : occurs e bs ≡ true). proper e (boundary_cover es bs fill is e o))
 
-pub resolved : (edges : List Edge) (segments : List Counted) (fill : ℤ → Bool) (choices : Choices) (closed : List (Vec Point Global)) (rings : List HeldRing) (answer : List (List (List Point))) →
-    (s : IsSplitting edges segments) → IsBoundary (after s.cuts edges) fill (contour_edges closed) → AreRingsOf choices.all_vertices choices.least_area closed rings →
+unfoldable pub resolved : (edges : List Edge) (segments : List Counted) (fill : ℤ → Bool) (choices : Choices) (closed : List (Vec Point Global)) (rings : List HeldRing) (whole : Bool) (answer : List (List (List Point))) →
+    (s : IsSplitting edges segments) → IsBoundary (after s.cuts edges) fill (contour_edges closed) → AreRingsOf choices.all_vertices choices.least_area closed rings whole →
     AreArranged choices.clockwise (rings_held rings) answer → IsResolution edges fill choices answer
-resolved edges segments fill choices closed rings answer s is k a = record {
+resolved edges segments fill choices closed rings whole answer s is k a = record {
   cuts = s.cuts;
   legal = s.legal;
   clean = s.clean;

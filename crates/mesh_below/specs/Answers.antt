@@ -1,13 +1,27 @@
 -- What the overlay answers.
-use Rattle.std.specs.Prelude.{ℕ, Bool, List, ℤ}
+use Rattle.std.specs.Prelude.{ℕ, ◌≡◌, Bool, true, List, ℤ}
+use Rattle.std.specs.List.{flat_map}
+use Rattle.mesh_num.specs.Paths.{contours_of}
 use Rattle.mesh_plane.specs.Plane.{Point, Edge}
+use Rattle.mesh_plane.specs.Winding.{boundary}
+use Rattle.mesh_cuts.specs.Clean.{IsProper}
+use Rattle.mesh_cuts.specs.FillRules.{filled}
 use Rattle.mesh_cuts.specs.Reach.{ArePointsSafe}
+use Rattle.mesh_cuts.specs.declared.fill.FillRule.TheVariants.{Positive}
 use Rattle.mesh_shapes.specs.Resolution.{Choices, IsResolution}
 use Rattle.mesh_below.specs.Laws.{AreRegions}
 
--- an answer is a resolution of the edges, made of regions of what is filled, in the safe range
+-- an answer is settled where it is a resolution of its own edges too, by the fill rule `Positive` and with the same
+-- options, and none of them ends where it starts
+pub record IsSettled (options : Choices) (answer : List (List (List Point))) : Type 0 where
+  pub proper : IsProper (flat_map boundary (contours_of answer))
+  pub resolution : IsResolution (flat_map boundary (contours_of answer)) (filled Positive) options answer
+
+-- an answer is a resolution of the edges, made of regions of what is filled, in the safe range; where `settled` is true,
+-- it is settled
 pub record IsOverlayAnswer (unit : ℕ) (edges : List Edge) (fill : ℤ → Bool) (options : Choices)
-    (answer : List (List (List Point))) : Type 0 where
+    (answer : List (List (List Point))) (settled : Bool) : Type 0 where
   pub resolution : IsResolution edges fill options answer
   pub regions : AreRegions edges fill options answer
   pub safe : ArePointsSafe unit answer
+  pub is_settled : settled ≡ true → IsSettled options answer

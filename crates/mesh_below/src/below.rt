@@ -1,6 +1,7 @@
 //! The overlay: what directed edges fill, as shapes of contours.
 
-ghost use Rattle.std.specs.Prelude.{◌≡◌, ◌+◌, ◌≤◌, ◌++◌, List, [], length, vec_capacity, IfOk, IsOk, OnOk, OnErr};
+ghost use Rattle.std.specs.Prelude.{◌≡◌, ◌↔◌, ◌+◌, ◌≤◌, ◌++◌, true, List, [], length, vec_capacity, IsTrue};
+ghost use Rattle.std.specs.Prelude.{IfOk, IsOk, OnOk, OnErr};
 ghost use Rattle.std.specs.List.{All};
 ghost use Rattle.mesh_num.specs.FlatContours.{HoldsContours};
 ghost use Rattle.mesh_num.specs.Paths.{contours_of, shapes_of};
@@ -8,7 +9,7 @@ ghost use Rattle.mesh_plane.specs.Plane.{Point};
 ghost use Rattle.mesh_num.specs.Segments.{IsSubject, edges_of};
 ghost use Rattle.mesh_plane.specs.Winding.{IsBalanced};
 ghost use Rattle.mesh_cuts.specs.FillRules.{filled};
-ghost use Rattle.mesh_below.specs.Answers.{IsOverlayAnswer};
+ghost use Rattle.mesh_below.specs.Answers.{IsOverlayAnswer, IsSettled};
 ghost use Rattle.mesh_below.specs.Asked.{AreResolvable};
 ghost use Rattle.mesh_below.specs.Laws.{AreRegions};
 ghost use Rattle.mesh_below.specs.Options.{choices_of, plain};
@@ -73,6 +74,15 @@ impl<U: WideUnsigned> IntOverlayOptions<U> {
             preserve_output_collinear: false,
         }
     }
+
+    /// Whether these are the default options.
+    pub fn is_default(&self) -> bool
+        ensures { IsTrue result ↔ choices_of U.value self.now ≡ plain }
+    {
+        self.min_output_area.to_u128() == 0
+            && self.output_direction == ContourDirection::CounterClockwise
+            && !self.preserve_output_collinear
+    }
 }
 
 impl<U: WideUnsigned> Default for IntOverlayOptions<U> {
@@ -81,6 +91,16 @@ impl<U: WideUnsigned> Default for IntOverlayOptions<U> {
     fn default() -> Self {
         Self::new()
     }
+}
+
+/// What segments fill, as shapes, and whether resolving it again answers it again.
+#[derive(Debug, Drop)]
+pub struct OverlayAnswer<I: IntNumber> {
+    /// The shapes.
+    pub shapes: IntShapes<I>,
+    /// Whether the shapes are known to be settled: they are an answer also of the edges of their own contours, by the
+    /// fill rule `Positive` and with the same options.
+    pub is_settled: bool,
 }
 
 /// Segments that are resolved into shapes.
@@ -132,6 +152,28 @@ impl<I: IntNumber> Overlay<I> {
             (choices_of I.WideUInt.value self.now.options) (shapes_of shapes.items)) }
         ensures safe { IfOk result (λ shapes. ArePointsSafe I.unit (shapes_of shapes.items)) }
     {
+        Ok(self.overlay_answer(rule, fill)?.shapes)
+    }
+
+    /// `overlay`, and whether its shapes are settled: then their edges need not be resolved once more, by the fill rule
+    /// `Positive` and with the same options. They are known to be settled where the contours have all points of the
+    /// boundary as vertices, none is left out, and outer ones run counterclockwise.
+    pub fn overlay_answer(
+        &self,
+        rule: OverlayRule,
+        fill: FillRule,
+    ) -> Result<OverlayAnswer<I>, AllocError>
+        requires subject { All IsSubject self.now.segments.items }
+        requires balanced { IsBalanced (edges_of self.now.segments.items) }
+        requires safe { AreEdgesSafe I.unit (edges_of self.now.segments.items) }
+        ensures resolution { IfOk result (λ answer. IsResolution (edges_of self.now.segments.items) (filled fill)
+            (choices_of I.WideUInt.value self.now.options) (shapes_of answer.shapes.items)) }
+        ensures regions { IfOk result (λ answer. AreRegions (edges_of self.now.segments.items) (filled fill)
+            (choices_of I.WideUInt.value self.now.options) (shapes_of answer.shapes.items)) }
+        ensures safe { IfOk result (λ answer. ArePointsSafe I.unit (shapes_of answer.shapes.items)) }
+        ensures settled { IfOk result (λ answer. answer.is_settled ≡ true
+            → IsSettled (choices_of I.WideUInt.value self.now.options) (shapes_of answer.shapes.items)) }
+    {
         match rule {
             OverlayRule::Subject => self.resolved(fill),
         }
@@ -164,16 +206,19 @@ impl<I: IntNumber> Overlay<I> {
         buffer.replace_with(&shapes)
     }
 
-    /// The shapes of what all segments fill.
-    fn resolved(&self, fill: FillRule) -> Result<IntShapes<I>, AllocError>
+    /// What all segments fill.
+    fn resolved(&self, fill: FillRule) -> Result<OverlayAnswer<I>, AllocError>
         requires { AreResolvable I.unit self.now.segments.items }
-        ensures { IfOk result (λ shapes. IsOverlayAnswer I.unit (edges_of self.now.segments.items) (filled fill)
-            (choices_of I.WideUInt.value self.now.options) (shapes_of shapes.items)) }
+        ensures { IfOk result (λ answer. IsOverlayAnswer I.unit (edges_of self.now.segments.items) (filled fill)
+            (choices_of I.WideUInt.value self.now.options) (shapes_of answer.shapes.items) answer.is_settled) }
     {
         let alloc = *self.segments.allocator();
         let edges = grid_edges(alloc, &self.segments)?;
-        let shapes = resolve(alloc, &edges, fill, self.choices())?;
-        int_shapes(alloc, &shapes)
+        let answer = resolve(alloc, &edges, fill, self.choices())?;
+        Ok(OverlayAnswer {
+            shapes: int_shapes(alloc, &answer.shapes)?,
+            is_settled: answer.is_settled,
+        })
     }
 
     /// The options, as the resolving takes them.

@@ -45,6 +45,21 @@ fn defaults(rt: HostRuntime) -> Result<(), Fail> {
 }
 
 #[test]
+fn what_is_the_default(_rt: HostRuntime) -> Result<(), Fail> {
+    let plain = IntOverlayOptions::<u32>::new();
+    expect_that(plain.is_default(), &"the default options")?;
+    let mut options = plain;
+    options.min_output_area = 1;
+    expect_that(!options.is_default(), &"a least area")?;
+    options = plain;
+    options.output_direction = ContourDirection::Clockwise;
+    expect_that(!options.is_default(), &"the direction")?;
+    options = plain;
+    options.preserve_output_collinear = true;
+    expect_that(!options.is_default(), &"straight-through vertices")
+}
+
+#[test]
 fn segments_in_two_parts(rt: HostRuntime) -> Result<(), Fail> {
     let mut overlay = overlay_of(rt.alloc(), &[SQUARE])?;
     overlay.options.min_output_area = 28;

@@ -1,9 +1,9 @@
 //! Random closed lists, against a plain count of how often edges wind round points of the grid 2.
 
-use crate::answers::{overlay_of, shapes_of};
+use crate::answers::{expect_resolvable, overlay_of, shapes_of};
 use crate::counted::{bent, counted, is_near};
 use crate::splits::split_sorted;
-use mesh_below::below::{ContourDirection, FillRule, Overlay};
+use mesh_below::below::{ContourDirection, FillRule, Overlay, OverlayRule};
 use mesh_below::given::grid_edge;
 use mesh_num::shape::buffer::IntShapes;
 use mesh_toolbox::compared::{expect_equal, expect_that};
@@ -140,17 +140,26 @@ fn again(alloc: Global, shapes: &IntShapes<i32>) -> Result<Overlay<i32>, AllocEr
     Ok(overlay)
 }
 
+/// Where the first answer is settled, the second has its edges.
 #[test]
 fn answers_handed_in_again_are_answered(rt: HostRuntime) -> Result<(), Fail> {
     let mut random = Random::new(4);
+    let mut settled = 0u32;
     for number in 0u32..300 {
         let overlay = scattered_overlay(rt.alloc(), &mut random, number)?;
-        let first = shapes_of(&overlay, FillRule::Positive)?;
-        let edges = edges_of_shapes(rt.alloc(), &first)?;
-        let overlay = again(rt.alloc(), &first)?;
+        expect_resolvable(&overlay)?;
+        let first = overlay.overlay_answer(OverlayRule::Subject, FillRule::Positive)?;
+        let mut edges = edges_of_shapes(rt.alloc(), &first.shapes)?;
+        let overlay = again(rt.alloc(), &first.shapes)?;
         let second = shapes_of(&overlay, FillRule::Positive)?;
-        let answer = edges_of_shapes(rt.alloc(), &second)?;
+        let mut answer = edges_of_shapes(rt.alloc(), &second)?;
         expect_region(&edges, &[], FillRule::Positive, &answer, 1)?;
+        if first.is_settled {
+            edges.sort_unstable();
+            answer.sort_unstable();
+            expect_equal(&edges, &answer, &number)?;
+            settled = settled.wrapping_add(1);
+        }
     }
-    Ok(())
+    expect_that(settled > 100, &settled)
 }

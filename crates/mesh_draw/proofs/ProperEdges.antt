@@ -1,5 +1,5 @@
 -- Lemmas over points and lists: edges whose ends are one point are left out, add nothing to a sum, and none of them stays.
-use Rattle.std.proofs.Common.{◌≡◌, ◌≤◌, List, [], ◌∷◌, ◌++◌, length, refl, ◌∙◌, ap, arith}
+use Rattle.std.proofs.Common.{◌≡◌, ◌≤◌, cond, List, [], ◌∷◌, ◌++◌, length, refl, ◌∙◌, ap, arith}
 use Rattle.std.specs.Prelude.{ℤ, pos, false, not}
 use Rattle.std.specs.List.{All, flat_map}
 use Rattle.std.specs.List.Sorted.{IsPermutation}
@@ -18,6 +18,7 @@ use Rattle.mesh_num.proofs.Subjects.{segments_of_subjects}
 use Rattle.mesh_cuts.specs.Clean.{IsProper}
 use Rattle.mesh_cuts.proofs.Each.{Each}
 use Rattle.mesh_cuts.proofs.SoundCuts.{ProperEnds, proper_each, each_proper}
+use Rattle.mesh_below.proofs.Resolving.{all_occurs}
 use Rattle.mesh_below.proofs.Subjects.{subjects_proper}
 
 module _ (f : Point → Point → ℤ) (odd : IsOdd f) where
@@ -71,3 +72,14 @@ proper_all es h = each_proper es (each_of_all ProperEnds es h)
 -- and so are they in another order
 pub proper_permutation : (es gs : List Edge) → IsPermutation es gs → IsProper es → IsProper gs
 proper_permutation es gs same h = proper_all gs (All-permutation ProperEnds es gs same (all_proper es h))
+
+-- where all are such, all are kept
+kept_all : (es : List Edge) → All (λ (e : Edge). same_point e.0 e.1 ≡ false) es → proper_edges es ≡ es
+kept_all [] h = refl
+kept_all (e ∷ es) h =
+    let apart = All-head (λ (f : Edge). same_point f.0 f.1 ≡ false) e es h in
+    (λ i. cond (not (apart i)) (e ∷ proper_edges es) (proper_edges es))
+    ∙ ap (λ l. e ∷ l) (kept_all es (All-tail (λ (f : Edge). same_point f.0 f.1 ≡ false) e es h))
+
+pub proper_same : (es : List Edge) → IsProper es → proper_edges es ≡ es
+proper_same es h = kept_all es (all_occurs (λ (e : Edge). same_point e.0 e.1 ≡ false) es h)

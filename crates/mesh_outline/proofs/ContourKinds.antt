@@ -1,5 +1,5 @@
 -- Lemmas over lists: the kinds of contours, one after another.
-use Rattle.std.proofs.Common.{◌≡◌, ℕ, ◌+◌, ◌<◌, List, [], ◌∷◌, ◌++◌, length, take, get_or, map, ap, ◌∙◌, sym}
+use Rattle.std.proofs.Common.{◌≡◌, ℕ, ◌+◌, ◌<◌, List, [], ◌∷◌, ◌++◌, length, take, get_or, map, ap, ◌∙◌, sym, arith}
 use Rattle.std.proofs.lemmas.List.{get_or-map, length-map, map-append, take_more}
 use Rattle.mesh_plane.specs.Plane.{Point}
 use Rattle.mesh_outline.specs.Kinds.{contour_kind}
@@ -22,3 +22,10 @@ kind_count paths kinds e = ap (λ (ks : List ContourKind). length ks) e ∙ leng
 pub kind_at : (paths : List (List Point)) (kinds : List ContourKind) (i : ℕ) (d : ContourKind) → kinds ≡ map contour_kind paths → i < length paths →
     get_or kinds i d ≡ contour_kind (get_or paths i [])
 kind_at paths kinds i d e h = ap (λ (ks : List ContourKind). get_or ks i d) e ∙ get_or-map contour_kind paths i [] d h
+
+-- where there is one kind there is a contour
+pub one_path : (paths : List (List Point)) (kinds : List ContourKind) (kind : ContourKind) → kinds ≡ map contour_kind paths → kinds ≡ kind ∷ [] → 0 < length paths
+one_path paths kinds kind e one =
+    let count = kind_count paths kinds e in
+    let own = ap (λ (ks : List ContourKind). length ks) one in
+    omega (arith, count, own)

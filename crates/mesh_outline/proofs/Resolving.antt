@@ -1,24 +1,30 @@
 -- Lemmas over points and lists: what comes of one contour, and what is resolved at last.
-use Rattle.std.proofs.Common.{◌≡◌, ℕ, List, [], ap, sym, ◌∙◌}
+use Rattle.std.proofs.Common.{◌≡◌, ℕ, Bool, true, List, [], ◌∷◌, ◌++◌, map, length, get_or, ap, sym, ◌∙◌, arith}
 use Rattle.std.specs.Prelude.{Some, None}
 use Rattle.std.specs.List.Sorted.{IsPermutation}
+use Rattle.std.proofs.lemmas.List.{append-nil}
 use Rattle.mesh_plane.specs.Plane.{Point}
-use Rattle.mesh_num.specs.Segments.{SignedEdge, edges_of}
+use Rattle.mesh_num.specs.Segments.{SignedEdge, edges_of, segments_of}
 use Rattle.mesh_shapes.specs.Contours.{double_area}
 use Rattle.mesh_cuts.specs.FillRules.{filled}
+use Rattle.mesh_cuts.specs.Reach.{ArePointsSafe}
+use Rattle.mesh_below.specs.Answers.{IsSettled}
 use Rattle.mesh_below.specs.Asked.{AreResolvable}
 use Rattle.mesh_below.specs.Options.{plain}
 use Rattle.mesh_shapes.specs.Resolution.{Choices, IsResolution}
 use Rattle.mesh_cuts.specs.declared.fill.FillRule.{FillRule}
 use Rattle.mesh_cuts.specs.declared.fill.FillRule.TheVariants.{Positive}
-use Rattle.mesh_join.specs.Styles.{OffsetJoin, OutlineStyle}
-use Rattle.mesh_draw.proofs.Resolving.{given_edges, given_subjects, given_balanced, given_safe}
+use Rattle.mesh_join.specs.Styles.{OffsetJoin, OutlineStyle, outer}
+use Rattle.mesh_draw.specs.Midway.{AddsClosed}
+use Rattle.mesh_draw.proofs.ProperEdges.{proper_same}
+use Rattle.mesh_draw.proofs.Resolving.{adds_answer, given_edges, given_subjects, given_balanced, given_safe}
 use Rattle.mesh_outline.specs.Building.{style_for}
 use Rattle.mesh_outline.specs.Kinds.{contour_kind, way_for, kind_fill}
 use Rattle.mesh_outline.specs.declared.outline.kind.ContourKind.{ContourKind}
+use Rattle.mesh_outline.specs.declared.outline.kind.ContourKind.TheVariants.{Outer}
 use Rattle.mesh_outline.specs.Outline.{outline_edges}
 use Rattle.mesh_draw.specs.Adding.{in_sense, added_edges, answer_edges}
-use Rattle.mesh_outline.specs.Midway.{AddsAnswer, AddsGiven, AreGiven}
+use Rattle.mesh_outline.specs.Midway.{AddsAnswer, AddsGiven, AreGiven, ComesAlone, IsResolvedTwice}
 use Rattle.mesh_outline.specs.Resolved.{fill_for, IsAnswerAlone, Gives, IsOutline}
 
 -- ---- one contour's answer
@@ -30,6 +36,16 @@ is_alone unit style fill path old built ss choices answer e f d same resolution 
   built = edges_of built;
   same = rw e at same;
   resolution = rw (f, d) at resolution;
+}
+
+-- with what the overlay says of it
+pub comes_alone : (unit : ℕ) (style : OffsetJoin) (fill : FillRule) (path : List Point) (old built ss : List SignedEdge) (choices : Choices) (answer : List (List (List Point))) (settled : Bool) →
+    old ≡ [] → ss ≡ built → choices ≡ plain → IsPermutation (added_edges old built) (outline_edges unit style path) →
+    IsResolution (edges_of ss) (filled fill) choices answer → ArePointsSafe unit answer → (settled ≡ true → IsSettled choices answer) → ComesAlone unit style fill path answer settled
+comes_alone unit style fill path old built ss choices answer settled e f d same resolution safe is = record {
+  alone = is_alone unit style fill path old built ss choices answer e f d same resolution;
+  safe = safe;
+  is_settled = λ t. rw d at (is t);
 }
 
 -- what a contour gives that moves in this way
@@ -65,3 +81,75 @@ is_outline unit style choices contours ss answer h resolution = record {
   give = h.1;
   resolution = rw (given_edges unit ss h.0 h.2) at resolution;
 }
+
+-- ---- one outer boundary
+
+-- what is settled need not be resolved once more
+pub twice_settled : (unit : ℕ) (way : OffsetJoin) (contour : List Point) (answer : List (List (List Point))) →
+    IsAnswerAlone unit way (filled Positive) contour answer → ArePointsSafe unit answer → IsSettled plain answer → IsResolvedTwice unit way contour answer
+twice_settled unit way contour answer alone safe settled = record {
+  first = answer;
+  alone = alone;
+  resolution = rw (proper_same (answer_edges answer) settled.proper) settled.resolution;
+  safe = safe;
+}
+
+-- its edges as segments
+module _ (unit : ℕ) (first : List (List (List Point))) (old ss : List SignedEdge) (none : old ≡ []) (safe : ArePointsSafe unit first)
+    (added : ss ≡ old ++ segments_of (in_sense Positive (answer_edges first))) where
+  closed : AddsClosed unit [] ss (answer_edges first)
+  closed = rw none at (adds_answer unit Positive first old ss safe added)
+
+  pub again_resolvable : (held : List SignedEdge) → held ≡ ss → AreResolvable unit held
+  again_resolvable held e = record {
+    subject = rw e (given_subjects unit ss (answer_edges first) closed);
+    balanced = rw e (given_balanced unit ss (answer_edges first) closed);
+    safe = rw e (given_safe unit ss (answer_edges first) closed);
+  }
+
+  pub twice_anew : (way : OffsetJoin) (contour : List Point) (held : List SignedEdge) (choices : Choices) (answer : List (List (List Point))) → held ≡ ss → choices ≡ plain →
+      IsAnswerAlone unit way (filled Positive) contour first → IsResolution (edges_of held) (filled Positive) choices answer → ArePointsSafe unit answer →
+      IsResolvedTwice unit way contour answer
+  twice_anew way contour held choices answer e d alone resolution stays = record {
+    first = first;
+    alone = alone;
+    resolution = rw (given_edges unit ss (answer_edges first) closed) at (rw (e, d) at resolution);
+    safe = stays;
+  }
+
+-- what a contour gives that moves in this way and is filled in this sense
+gives_answer : (unit : ℕ) (style : OutlineStyle) (way : OffsetJoin) (fill : FillRule) (path : List Point) (answer : List (List (List Point))) →
+    fill ≡ fill_for (double_area path) → style_for style (double_area path) ≡ Some way → IsAnswerAlone unit way (filled fill) path answer →
+    Gives unit style path (in_sense fill (answer_edges answer))
+gives_answer unit style way fill path answer own here alone =
+    let a : IsAnswerAlone unit way (filled (fill_for (double_area path))) path answer = rw own at alone in
+    let g : Gives unit style path (in_sense (fill_for (double_area path)) (answer_edges answer)) = Gives.moved here a in
+    rw own g
+
+-- the way in which outer boundaries move
+pub outer_way : (style : OutlineStyle) (way : OffsetJoin) → way ≡ outer style → way_for style Outer ≡ Some way
+outer_way style way e = ap Some (sym e)
+
+-- the outline of a source that is one outer boundary
+pub single_outline : (unit : ℕ) (style : OutlineStyle) (way : OffsetJoin) (choices : Choices) (contours : List (List Point)) (path : List Point) (kinds : List ContourKind) (answer : List (List (List Point))) →
+    kinds ≡ map contour_kind contours → kinds ≡ Outer ∷ [] → path ≡ get_or contours 0 [] → way ≡ outer style → choices ≡ plain →
+    IsResolvedTwice unit way path answer → IsOutline unit style choices contours answer
+single_outline unit style way choices [] path kinds answer k single here w d h = absurd (let e = ap length (sym k ∙ single) in omega (arith, e))
+single_outline unit style way choices (c ∷ c' ∷ cs) path kinds answer k single here w d h = absurd (let e = ap length (sym k ∙ single) in omega (arith, e))
+single_outline unit style way choices (c ∷ []) path kinds answer k single here w d h = record {
+  given = answer_edges h.first;
+  give = record {
+    edges = answer_edges h.first ∷ [];
+    each = (gives, tt);
+    joined = sym (append-nil (answer_edges h.first));
+  };
+  resolution = rw d h.resolution;
+}
+  where
+    kind : contour_kind c ≡ Outer
+    kind = ap (λ (ks : List ContourKind). get_or ks 0 Outer) (sym k ∙ single)
+
+    gives : Gives unit style c (answer_edges h.first)
+    gives =
+        let alone : IsAnswerAlone unit way (filled Positive) c h.first = rw here at h.alone in
+        gives_answer unit style way Positive c h.first (sym (ap kind_fill kind)) (ap (way_for style) kind ∙ ap Some (sym w)) alone

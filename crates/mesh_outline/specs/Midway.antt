@@ -1,10 +1,15 @@
 -- What the steps of an outline ask and add. Private contracts alone read these.
-use Rattle.std.specs.Prelude.{ℕ, ◌≡◌, ◌≢◌, ◌++◌, List, [], ℤ, pos, unsigned_abs}
+use Rattle.std.specs.Prelude.{ℕ, ◌≡◌, ◌≢◌, ◌++◌, Bool, true, List, [], ℤ, pos, unsigned_abs}
 use Rattle.mesh_plane.specs.Plane.{Point, Edge}
 use Rattle.mesh_grid.specs.Rectangle.{IsSafeWidened}
-use Rattle.mesh_num.specs.Segments.{SignedEdge, segments_of, segment_between}
+use Rattle.mesh_num.specs.Segments.{SignedEdge, segments_of, segment_between, proper_edges}
 use Rattle.mesh_cuts.specs.FillRules.{filled}
+use Rattle.mesh_cuts.specs.Reach.{ArePointsSafe}
 use Rattle.mesh_cuts.specs.declared.fill.FillRule.{FillRule}
+use Rattle.mesh_cuts.specs.declared.fill.FillRule.TheVariants.{Positive}
+use Rattle.mesh_shapes.specs.Resolution.{IsResolution}
+use Rattle.mesh_below.specs.Answers.{IsSettled}
+use Rattle.mesh_below.specs.Options.{plain}
 use Rattle.mesh_join.specs.Styles.{JoinStyle, OffsetJoin, OutlineStyle}
 use Rattle.mesh_draw.specs.Adding.{in_sense, answer_edges}
 use Rattle.mesh_draw.specs.Midway.{AddsClosed}
@@ -45,6 +50,22 @@ top_segments s = segment_between s.a_top s.b_top
 -- the vector `new` holds what `old` held, and then the segments of these edges, as they are given in this sense
 abbrev pub AddsInSense : FillRule → List SignedEdge → List SignedEdge → List Edge → Type 0
 AddsInSense fill old new edges = new ≡ old ++ segments_of (in_sense fill edges)
+
+-- what comes of one contour that moves so and is resolved alone: an answer, in the safe range, which is settled where
+-- `settled` is true
+pub record ComesAlone (unit : ℕ) (way : OffsetJoin) (fill : FillRule) (contour : List Point)
+    (answer : List (List (List Point))) (settled : Bool) : Type 0 where
+  pub alone : IsAnswerAlone unit way (filled fill) contour answer
+  pub safe : ArePointsSafe unit answer
+  pub is_settled : settled ≡ true → IsSettled plain answer
+
+-- the edges of what comes of one outer boundary that moves so are resolved once more, with the default options
+pub record IsResolvedTwice (unit : ℕ) (way : OffsetJoin) (contour : List Point) (answer : List (List (List Point)))
+    : Type 0 where
+  pub first : List (List (List Point))
+  pub alone : IsAnswerAlone unit way (filled Positive) contour first
+  pub resolution : IsResolution (proper_edges (answer_edges first)) (filled Positive) plain answer
+  pub safe : ArePointsSafe unit answer
 
 -- the vector `new` holds what `old` held, and then the segments of the answer of one contour that moves so, closed and safe
 abbrev pub AddsAnswer : ℕ → OffsetJoin → FillRule → List Point → List SignedEdge → List SignedEdge → Type 0

@@ -8,3 +8,4 @@ pub mod kind;
 pub mod offset;
 mod resolve;
 mod section;
+mod shapes;

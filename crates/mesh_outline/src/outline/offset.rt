@@ -14,8 +14,8 @@ ghost use Rattle.mesh_below.specs.Options.{choices_of, plain};
 ghost use Rattle.mesh_cuts.specs.Reach.{ArePointsSafe};
 
 use crate::outline::bounds::validate_outline_bounds;
-use crate::outline::resolve::given_overlay;
-use mesh_below::below::{FillRule, IntOverlayOptions, OverlayRule};
+use crate::outline::shapes::outline_shapes;
+use mesh_below::below::IntOverlayOptions;
 use mesh_draw::error::IntOutlineError;
 use mesh_join::style::IntOutlineStyle;
 use mesh_num::num::OverlayInt;
@@ -95,8 +95,7 @@ pub trait IntOutlineOffset<I: OverlayInt>: IntShapeResource<I> {
         ensures built { HavePromisedEdges I.unit (style_of I.value style.now) (Self.paths self.now) }
         ensures stays_safe { StaysSafe I.unit (style_of I.value style.now) (Self.paths self.now) }
     {
-        let given = given_overlay(self, alloc, style, options)?;
-        Ok(given.overlay(OverlayRule::Subject, FillRule::Positive)?)
+        outline_shapes(self, alloc, style, options)
     }
 
     /// `outline_custom`, into a buffer: the contours of its shapes in their order, end to end, in place of the
@@ -119,8 +118,8 @@ pub trait IntOutlineOffset<I: OverlayInt>: IntShapeResource<I> {
         ensures built { HavePromisedEdges I.unit (style_of I.value style.now) (Self.paths self.now) }
         ensures stays_safe { StaysSafe I.unit (style_of I.value style.now) (Self.paths self.now) }
     {
-        let given = given_overlay(self, alloc, style, options)?;
-        given.overlay_into(OverlayRule::Subject, FillRule::Positive, buffer)?;
+        let shapes = outline_shapes(self, alloc, style, options)?;
+        buffer.replace_with(&shapes)?;
         Ok(())
     }
 }

@@ -1,25 +1,21 @@
-//! The two steps of an outline: each contour is resolved alone, and what comes of all of them together.
+//! The first step of an outline: each contour is resolved alone.
 
-ghost use Rattle.std.specs.Prelude.{◌≡◌, ◌↔◌, [], ◌∷◌, map, OnOk, IfOk};
+ghost use Rattle.std.specs.Prelude.{◌≡◌, [], ◌∷◌, map, OnOk, IfOk};
 ghost use Rattle.std.specs.List.{All, flat_map};
 ghost use Rattle.mesh_num.specs.Paths.{paths_of, shapes_of};
 ghost use Rattle.mesh_grid.specs.Rectangle.{IsSafeWidened};
 ghost use Rattle.mesh_plane.specs.Winding.{boundary};
-ghost use Rattle.mesh_below.specs.Asked.{AreResolvable};
 ghost use Rattle.mesh_join.specs.Joins.{outline_padding};
 ghost use Rattle.mesh_join.specs.Styles.{style_of};
 ghost use Rattle.mesh_draw.specs.Padding.{ArePathsSafe};
 ghost use Rattle.mesh_draw.specs.Adding.{answer_edges};
 ghost use Rattle.mesh_outline.specs.Building.{IsMovable};
 ghost use Rattle.mesh_outline.specs.Kinds.{contour_kind, kind_fill};
-ghost use Rattle.mesh_outline.specs.Midway.{AddsInSense, AddsAnswer, AddsGiven, AreGiven};
-ghost use Rattle.mesh_outline.specs.Resolved.{DoAreasFit, HavePromisedEdges};
-ghost use Rattle.mesh_outline.specs.Staying.{StaysSafe};
+ghost use Rattle.mesh_outline.specs.Midway.{AddsInSense, AddsAnswer, AddsGiven, AreGiven, ComesAlone};
 
 use crate::outline::builder::OutlineBuilder;
-use crate::outline::kind::{ContourKind, contour_kinds};
-use mesh_below::below::{FillRule, IntOverlayOptions, Overlay, OverlayRule};
-use mesh_draw::error::IntOutlineError;
+use crate::outline::kind::ContourKind;
+use mesh_below::below::{FillRule, Overlay, OverlayAnswer, OverlayRule};
 use mesh_join::style::IntOutlineStyle;
 use mesh_num::num::{IntNumber, IntPoint};
 use mesh_num::shape::buffer::IntShapes;
@@ -27,33 +23,8 @@ use mesh_num::shape::resource::IntShapeResource;
 use mesh_num::shape::segment::{Segment, SubjectSegments};
 use std::alloc::{AllocError, Global};
 
-/// What all contours of the source give, to be resolved with these options. `CoordinateOutOfRange` is answered exactly
-/// where a double area does not fit the wide type, before anything is built.
-pub(crate) fn given_overlay<I: IntNumber, S: IntShapeResource<I>>(
-    source: &S,
-    alloc: Global,
-    style: &IntOutlineStyle<I>,
-    options: IntOverlayOptions<I::WideUInt>,
-) -> Result<Overlay<I>, IntOutlineError>
-    requires { ArePathsSafe I.unit (outline_padding (style_of I.value style.now)) (S.paths source.now) }
-    ensures given { IfOk result (λ overlay. AreGiven I.unit (style_of I.value style.now) (S.paths source.now)
-        overlay.segments.items) }
-    ensures options { IfOk result (λ overlay. overlay.options ≡ options) }
-    ensures resolvable { IfOk result (λ overlay. AreResolvable I.unit overlay.segments.items) }
-    ensures fit { OnOk result (DoAreasFit I.Wide.half (S.paths source.now)) }
-    ensures refused { result ≡ Err IntOutlineError.CoordinateOutOfRange
-        ↔ ¬ DoAreasFit I.Wide.half (S.paths source.now) }
-    ensures built { HavePromisedEdges I.unit (style_of I.value style.now) (S.paths source.now) }
-    ensures stays_safe { StaysSafe I.unit (style_of I.value style.now) (S.paths source.now) }
-{
-    let kinds = contour_kinds(source, alloc)?;
-    let mut overlay = Overlay::with_segments(given_segments(source, alloc, style, &kinds)?);
-    overlay.options = options;
-    Ok(overlay)
-}
-
 /// The segments of what all contours of the source, of these kinds, give, one contour after another.
-fn given_segments<I: IntNumber, S: IntShapeResource<I>>(
+pub(crate) fn given_segments<I: IntNumber, S: IntShapeResource<I>>(
     source: &S,
     alloc: Global,
     style: &IntOutlineStyle<I>,
@@ -118,14 +89,29 @@ fn add_resolved<I: IntNumber>(
     requires { All (IsMovable I.unit builder.old) path.now }
     ensures { OnOk result (AddsAnswer I.unit builder.old fill path.now segments.old.items segments.new.items) }
 {
+    let answer = resolved_alone(alloc, builder, fill, path)?;
+    add_shapes(&answer.shapes, fill, segments)
+}
+
+/// What comes of one contour, which is moved by the builder and resolved alone.
+pub(crate) fn resolved_alone<I: IntNumber>(
+    alloc: Global,
+    builder: &mut OutlineBuilder<I>,
+    fill: FillRule,
+    path: &[IntPoint<I>],
+) -> Result<OverlayAnswer<I>, AllocError>
+    requires { All (IsMovable I.unit builder.old) path.now }
+    ensures { IfOk result (λ answer. ComesAlone I.unit builder.old fill path.now
+        (shapes_of answer.shapes.items) answer.is_settled) }
+{
     let mut built = Vec::new(alloc);
     builder.build(path, &mut built)?;
-    let shapes = Overlay::with_segments(built).overlay(OverlayRule::Subject, fill)?;
-    add_shapes(&shapes, fill, segments)
+    let answer = Overlay::with_segments(built).overlay_answer(OverlayRule::Subject, fill)?;
+    Ok(answer)
 }
 
 /// Adds the edges of all contours of shapes.
-fn add_shapes<I: IntNumber>(
+pub(crate) fn add_shapes<I: IntNumber>(
     shapes: &IntShapes<I>,
     fill: FillRule,
     segments: &mut Vec<Segment<I>>,

@@ -1,6 +1,8 @@
 use Rattle.std.proofs.Common.{List, sym, subst}
 use Rattle.mesh_below.proofs.AnswerRegions.{filled_none}
+use Rattle.std.proofs.lemmas.Bool.{and_parts}
 use Rattle.mesh_below.proofs.Resolving.{parts_split, parted_balanced, boundary_proper, same_boundary, resolved}
+use Rattle.mesh_below.proofs.Settled.{resolved_settled}
 use Rattle.mesh_below.proofs.resolve.resolve.Goals as goal
 use Rattle.mesh_cuts.specs.Boundary.{IsBoundary}
 use Rattle.mesh_cuts.specs.Counted.{Counted, IsCountOf}
@@ -24,13 +26,26 @@ rings_of-requires-clause-proper c =
     boundary_proper es (contour_edges c.in_ok-closed.closed.items) (filled c.args.fill) s.proper
     (same_boundary es (filled c.args.fill) c.in_ok-parted.parted.items (contour_edges c.in_ok-closed.closed.items) c.in_ok-closed.ensures.edges is)
 
-pub returns : goal.returns
-returns c =
+pub returns-clause-resolution : goal.returns-clause-resolution
+returns-clause-resolution c =
     let s = c.in_ok-segments.ensures.splitting in
     let es = after s.cuts c.args.edges.now in
     let is : IsBoundary es (filled c.args.fill) c.in_ok-parted.parted.items = c.in_ok-parted.ensures es (subst (λ (ks : List Counted). IsCountOf es ks) (sym c.deref.ensures.value) s.count) (parts_split c.args.edges.now c.in_ok-segments.segments.items c.requires.balanced s) in
     let choices : Choices = record { least_area = c.args.choices.least_area; all_vertices = c.args.choices.all_vertices; clockwise = c.args.choices.clockwise } in
-    resolved c.args.edges.now c.in_ok-segments.segments.items (filled c.args.fill) choices c.in_ok-closed.closed.items c.in_ok-rings.rings.items _ s
+    resolved c.args.edges.now c.in_ok-segments.segments.items (filled c.args.fill) choices c.in_ok-closed.closed.items _ _ _ s
     (same_boundary es (filled c.args.fill) c.in_ok-parted.parted.items (contour_edges c.in_ok-closed.closed.items) c.in_ok-closed.ensures.edges is)
     c.in_ok-rings.ensures
     c.in_ok-shapes.ensures
+
+pub returns-clause-settled : goal.returns-clause-settled
+returns-clause-settled c t =
+    let s = c.in_ok-segments.ensures.splitting in
+    let es = after s.cuts c.args.edges.now in
+    let is : IsBoundary es (filled c.args.fill) c.in_ok-parted.parted.items = c.in_ok-parted.ensures es (subst (λ (ks : List Counted). IsCountOf es ks) (sym c.deref.ensures.value) s.count) (parts_split c.args.edges.now c.in_ok-segments.segments.items c.requires.balanced s) in
+    let choices : Choices = record { least_area = c.args.choices.least_area; all_vertices = c.args.choices.all_vertices; clockwise = c.args.choices.clockwise } in
+    let both = and_parts _ c.answers_all.result t in
+    let kept = c.answers_all.ensures both.1 in
+    resolved_settled c.args.edges.now c.in_ok-segments.segments.items (filled c.args.fill) choices c.in_ok-closed.closed.items _ _ _ c.requires.proper c.requires.balanced (filled_none c.args.fill) s
+    (same_boundary es (filled c.args.fill) c.in_ok-parted.parted.items (contour_edges c.in_ok-closed.closed.items) c.in_ok-closed.ensures.edges is)
+    c.in_ok-rings.ensures
+    c.in_ok-shapes.ensures both.0 kept.0 kept.1

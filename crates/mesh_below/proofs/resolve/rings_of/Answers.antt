@@ -1,5 +1,6 @@
 use Rattle.std.proofs.Common.{rules, ◌≡◌, false, sym, subst}
 use Rattle.std.specs.Prelude.{Vec}
+use Rattle.std.proofs.lemmas.Bool.{and_parts}
 use Rattle.std.specs.List.{All}
 use Rattle.std.specs.declared.alloc.Global.{Global}
 use Rattle.std.proofs.lemmas.Iterator.Adapters.{YieldsList-from_vec}
@@ -18,4 +19,4 @@ push_ring-requires-clause-proper c =
 pub loop-contour-preserved : goal.loop-contour-preserved
 loop-contour-preserved c =
     rings_more c.args.choices.all_vertices c.args.choices.least_area c.loop-contour.yielded c.in-Some.contour c.loop-contour.rings.items c.push_ring.new.rings.items
-    c.loop-contour.invariant c.in_ok-push_ring.ensures
+    c.loop-contour.are_whole _ _ (λ t. and_parts c.loop-contour.are_whole _ t) c.loop-contour.invariant c.in_ok-are_whole.ensures

@@ -1,10 +1,8 @@
--- What holds of all contours that stay safe, and of what they give.
-use Rattle.std.proofs.Common.{ap}
+-- What holds of all contours that stay safe.
 use Rattle.mesh_join.specs.Styles.{style_of}
 use Rattle.mesh_outline.proofs.Promised.{have_promised_edges}
-use Rattle.mesh_outline.proofs.Resolving.{resolvable}
 use Rattle.mesh_outline.proofs.Staying.{stays_safe}
-use Rattle.mesh_outline.proofs.outline.resolve.given_overlay.Goals as goal
+use Rattle.mesh_outline.proofs.outline.shapes.outline_shapes.Goals as goal
 
 pub returns-in_err-kinds-clause-built : goal.returns-in_err-kinds-clause-built
 returns-in_err-kinds-clause-built g c =
@@ -16,20 +14,15 @@ returns-in_err-kinds-clause-stays_safe g c =
     stays_safe g.I.IntNumber.unit (style_of g.I.IntNumber.value c.args.style.now)
     (g.S.IntShapeResource.paths c.args.source.now) g.met.I.IntNumber.least_law c.requires
 
-pub returns-in_err-given_segments-clause-built : goal.returns-in_err-given_segments-clause-built
-returns-in_err-given_segments-clause-built g c =
+pub returns-in_err-resolved_together-clause-built : goal.returns-in_err-resolved_together-clause-built
+returns-in_err-resolved_together-clause-built g c =
     have_promised_edges g.I.IntNumber.unit (style_of g.I.IntNumber.value c.args.style.now)
     (g.S.IntShapeResource.paths c.args.source.now) g.met.I.IntNumber.least_law
 
-pub returns-in_err-given_segments-clause-stays_safe : goal.returns-in_err-given_segments-clause-stays_safe
-returns-in_err-given_segments-clause-stays_safe g c =
+pub returns-in_err-resolved_together-clause-stays_safe : goal.returns-in_err-resolved_together-clause-stays_safe
+returns-in_err-resolved_together-clause-stays_safe g c =
     stays_safe g.I.IntNumber.unit (style_of g.I.IntNumber.value c.args.style.now)
     (g.S.IntShapeResource.paths c.args.source.now) g.met.I.IntNumber.least_law c.requires
-
-pub returns-clause-resolvable : goal.returns-clause-resolvable
-returns-clause-resolvable g c =
-    resolvable g.I.IntNumber.unit (style_of g.I.IntNumber.value c.args.style.now) (g.S.IntShapeResource.paths c.args.source.now) _ _
-    (ap (λ v. v.items) c.with_segments-overlay.ensures.segments) c.in_ok-given_segments.ensures
 
 pub returns-clause-built : goal.returns-clause-built
 returns-clause-built g c =

@@ -1,5 +1,5 @@
 use Rattle.std.proofs.lemmas.Result.{IfOk-weaker}
-use Rattle.mesh_below.proofs.below.Overlay.overlay.Goals as goal
+use Rattle.mesh_below.proofs.below.Overlay.overlay_answer.Goals as goal
 
 pub returns-clause-resolution : goal.returns-clause-resolution
 returns-clause-resolution g c = IfOk-weaker c.resolved.result _ _ (λ v a. a.resolution) c.resolved.ensures
@@ -9,3 +9,6 @@ returns-clause-regions g c = IfOk-weaker c.resolved.result _ _ (λ v a. a.region
 
 pub returns-clause-safe : goal.returns-clause-safe
 returns-clause-safe g c = IfOk-weaker c.resolved.result _ _ (λ v a. a.safe) c.resolved.ensures
+
+pub returns-clause-settled : goal.returns-clause-settled
+returns-clause-settled g c = IfOk-weaker c.resolved.result _ _ (λ v a. a.is_settled) c.resolved.ensures
