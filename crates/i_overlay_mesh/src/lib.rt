@@ -1,5 +1,5 @@
-//! Offset operations over whole numbers: outlines of contours, strokes of paths, of one width or of a width that changes
-//! from vertex to vertex, and why a call refuses.
+//! Offset operations over whole numbers: outlines of contours, strokes of paths, of one width or of a width that
+//! changes from vertex to vertex, and why a call refuses.
 #![tactic(auto)]
 
 pub use mesh_draw::error;

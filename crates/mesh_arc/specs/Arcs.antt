@@ -1,5 +1,6 @@
 -- Arcs: a direction is turned by equal steps until an end is passed.
-use Rattle.std.specs.Prelude.{ℕ, zero, suc, ◌+◌, ◌-◌, ◌*◌, ◌/◌, ◌^◌, min, max, Bool, ◌&&◌, ◌||◌, not, if◌then◌else◌, List, [], ◌∷◌, ℤ, pos, negsuc, ◌*ℤ◌, int_le, int_lt}
+use Rattle.std.specs.Prelude.{ℕ, zero, suc, ◌+◌, ◌-◌, ◌*◌, ◌/◌, ◌^◌, min, max, Bool, ◌&&◌, ◌||◌, not, if◌then◌else◌}
+use Rattle.std.specs.Prelude.{List, [], ◌∷◌, ℤ, pos, negsuc, ◌*ℤ◌, int_le, int_lt}
 use Rattle.mesh_plane.specs.Plane.{Point, cross, dot}
 use Rattle.mesh_sine.specs.Sine.{sin_cos}
 use Rattle.mesh_grid.specs.Rotation.{rotated, turned_round}

@@ -16,8 +16,9 @@ pub record Building : Type 0 where
 abbrev pub building_with : ArcOptions → Vec Point Global → Building
 building_with options buffer = record { options = options; directions = buffer.items; room = vec_capacity buffer }
 
--- what stands after an arc was asked for: the options are the same and no memory was given back; the directions are those of
--- the arc, and none after a refusal; there is memory for them, so an arc of no more directions can be asked for again
+-- what stands after an arc was asked for: the options are the same and no memory was given back; the directions are
+-- those of the arc, and none after a refusal; there is memory for them, so an arc of no more directions can be asked
+-- for again
 pub record IsBuilt (unit : ℕ) (old new : Building) (sense : ArcDirection) (from end : Point) {A E : Type 0} (answer : Result A E) : Type 0 where
   pub options : new.options ≡ old.options
   pub room : old.room ≤ new.room

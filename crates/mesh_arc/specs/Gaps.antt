@@ -22,8 +22,8 @@ abbrev pub CanGoOn : ℕ → ArcOptions → ArcDirection → Point → List Poin
 CanGoOn unit options sense from ds =
     IsTrue (is_good sense (bound_of options) (last_of from ds) (rotated (step_of unit options sense) (last_of from ds)))
 
--- the end is within a step of the last direction, unless the arc broke off: it has as many directions as it may have, or
--- no good step follows
+-- the end is within a step of the last direction, unless the arc broke off: it has as many directions as it may have,
+-- or no good step follows
 abbrev pub ReachesEnd : ℕ → ArcOptions → ArcDirection → Point → Point → List Point → Type 0
 ReachesEnd unit options sense from end ds =
     length ds ≢ most_directions → CanGoOn unit options sense from ds → IsTrue (is_within sense (bound_of options) (last_of from ds) end)

@@ -2,7 +2,8 @@
 use Rattle.std.specs.Prelude.{ℕ, ◌≡◌, ◌<◌, ◌≤◌, ◌^◌, Bool, false, ◌||◌, not, List}
 use Rattle.mesh_plane.specs.Plane.{Point}
 use Rattle.mesh_sine.specs.Sine.{sin_cos, IsWithinOne}
-use Rattle.mesh_arc.specs.Arcs.{step_bits, step_of, bound_of, is_good, is_passed, turned, turned_list, least, ends_after, most_directions, stepped}
+use Rattle.mesh_arc.specs.Arcs.{step_bits, step_of, bound_of, is_good, is_passed, turned, turned_list, least}
+use Rattle.mesh_arc.specs.Arcs.{ends_after, most_directions, stepped}
 use Rattle.mesh_arc.specs.declared.arc.ArcDirection.{ArcDirection}
 use Rattle.mesh_arc.specs.declared.arc.ArcOptions.{ArcOptions}
 
@@ -39,7 +40,8 @@ step_count s from end = least (ends s from end) most_directions
 abbrev pub directions_by : Steps → Point → Point → List Point
 directions_by s from end = stepped s.sense s.bound s.step from end
 
--- the list after `k` steps that were all good, none past the end; `room` is what there was memory for at first, `capacity` now
+-- the list after `k` steps that were all good, none past the end; `room` is what there was memory for at first,
+-- `capacity` now
 pub record HasTurned (s : Steps) (from end : Point) (room k : ℕ) (current : Point) (ds : List Point) (capacity : ℕ) : Type 0 where
   pub count : k ≤ most_directions
   pub current_is : current ≡ turned s.step from k

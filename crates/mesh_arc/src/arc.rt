@@ -27,7 +27,8 @@ pub enum ArcDirection {
 /// How finely an arc is drawn.
 #[derive(Debug, Clone, Copy, PartialEq, Eq)]
 pub struct ArcOptions {
-    /// The greatest angle between neighbouring directions. Below `MIN_STEP` it counts as that, above `MAX_STEP` as that.
+    /// The greatest angle between neighbouring directions. Below `MIN_STEP` it counts as that, above `MAX_STEP` as
+    /// that.
     pub max_step: Angle,
     /// How near the step comes to the greatest one: with precision `p` it is the fraction `2^p / (2^p + 1)` of it, less
     /// `2^33 / UNIT` bits for the sake of rounding. Below 4 it counts as 4, above 32 as 32.
@@ -65,8 +66,8 @@ impl Default for ArcOptions {
     }
 }
 
-/// Builds arcs of directions. It keeps its buffer from one arc to the next. Contracts see its options, the directions of the
-/// last arc, and how many directions there is memory for.
+/// Builds arcs of directions. It keeps its buffer from one arc to the next. Contracts see its options, the directions
+/// of the last arc, and how many directions there is memory for.
 #[derive(Debug, Drop)]
 pub struct IntegerArc<I: IntNumber> {
     options: ArcOptions,
@@ -143,12 +144,13 @@ impl<I: IntNumber> IntegerArc<I> {
         steps.fill(from, to, &mut self.directions)
     }
 
-    /// The directions between `from` and `to`, in this sense, without these two: `from` turned by one step, two, and so on,
-    /// as long as `to` is not passed, but none where `to` is within the greatest step of `from`. There are at most 1536, and
-    /// fewer where cutting leaves a step that does not lead on or is too great, which with the default options it never does.
+    /// The directions between `from` and `to`, in this sense, without these two: `from` turned by one step, two, and so
+    /// on, as long as `to` is not passed, but none where `to` is within the greatest step of `from`. There are at most
+    /// 1536, and fewer where cutting leaves a step that does not lead on or is too great, which with the default
+    /// options it never does.
     ///
-    /// Both directions are fresh. The list is lent from a buffer that the next arc uses again; where the buffer has room for
-    /// the arc no memory is taken. After a refusal the buffer is empty.
+    /// Both directions are fresh. The list is lent from a buffer that the next arc uses again; where the buffer has
+    /// room for the arc no memory is taken. After a refusal the buffer is empty.
     pub fn build(
         &mut self,
         from: UnitIntVector<I>,

@@ -1,10 +1,12 @@
 //! The steps of an arc.
 
-ghost use Rattle.std.specs.Prelude.{◌≡◌, ◌*◌, ◌^◌, ◌≤◌, ◌*ℤ◌, int_le, unsigned_abs, length, [], vec_capacity, IsOk, OnOk, OnErr};
+ghost use Rattle.std.specs.Prelude.{◌≡◌, ◌*◌, ◌^◌, ◌≤◌, ◌*ℤ◌, int_le, unsigned_abs, length, [], vec_capacity, IsOk};
+ghost use Rattle.std.specs.Prelude.{OnOk, OnErr};
 ghost use Rattle.mesh_plane.specs.Bounds.{IsSafe};
 ghost use Rattle.mesh_plane.specs.Plane.{cross as cross_of, dot as dot_of};
 ghost use Rattle.mesh_sine.specs.Sine.{IsWithinOne};
-ghost use Rattle.mesh_arc.specs.Arcs.{ahead as ahead_of, is_within as is_within_of, is_good as is_good_of, is_passed as is_passed_of, turned_list};
+ghost use Rattle.mesh_arc.specs.Arcs.{ahead as ahead_of, is_within as is_within_of, is_good as is_good_of};
+ghost use Rattle.mesh_arc.specs.Arcs.{is_passed as is_passed_of, turned_list};
 ghost use Rattle.mesh_arc.specs.Midway.{step_count, ends_before, directions_by};
 
 use crate::arc::ArcDirection;

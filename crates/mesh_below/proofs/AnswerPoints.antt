@@ -3,8 +3,9 @@ use Rattle.std.proofs.Common.{◌≡◌, ℕ, ◌+◌, ◌<◌, length, get_or, 
 use Rattle.std.specs.Prelude.{ℤ}
 use Rattle.std.specs.List.{All, filter, flat_map, enumerate_from}
 use Rattle.std.proofs.lemmas.List.{get_or-map, length-map}
-use Rattle.std.proofs.lemmas.List.Elements.{All-nil, All-cons, All-head, All-tail, All-filter}
+use Rattle.std.proofs.lemmas.List.Elements.{All-nil, All-cons, All-head, All-tail, All-filter, All-weaker}
 use Rattle.std.proofs.lemmas.List.Sorted.{All-permutation, IsPermutation-reverse}
+use Rattle.mesh_num.specs.Paths.{contours_of}
 use Rattle.mesh_plane.specs.Bounds.{IsSafe}
 use Rattle.mesh_plane.specs.Plane.{Point, Edge}
 use Rattle.mesh_plane.specs.Winding.{route, boundary}
@@ -17,7 +18,7 @@ use Rattle.mesh_cuts.specs.Split.{occurs, after}
 use Rattle.mesh_regions.proofs.BoundaryFill.{boundary_cover}
 use Rattle.mesh_below.proofs.Resolving.{all_occurs}
 use Rattle.mesh_cuts.proofs.SafeCuts.{IsSafeEdge, occurs_safe, split_safe}
-use Rattle.mesh_plane.proofs.ClosedLists.{all_left, all_right}
+use Rattle.mesh_plane.proofs.ClosedLists.{all_flat_map, all_left, all_right, boundary_all}
 
 -- ---- split segments
 
@@ -146,3 +147,11 @@ pub same_resolution : (edges given : List Edge) (fill : ℤ → Bool) (options c
     IsResolution edges fill options answer → IsResolution given fill choices told
 same_resolution edges given fill options choices answer told e o a =
     subst (λ (x : List Edge × (Choices × List (List (List Point)))). IsResolution x.0 fill x.1.0 x.1.1) (λ i. (e i, (o i, a i)))
+
+-- the edges of an answer's contours are safe where its points are
+pub answer_edges_safe : (unit : ℕ) (answer : List (List (List Point))) → ArePointsSafe unit answer → AreEdgesSafe unit (flat_map boundary (contours_of answer))
+answer_edges_safe unit answer safe =
+    all_flat_map (λ (e : Edge). IsSafe unit e.0 × IsSafe unit e.1) boundary (contours_of answer)
+    (All-weaker (λ (contour : List Point). All (IsSafe unit) contour) (λ (contour : List Point). AreEdgesSafe unit (boundary contour))
+    (λ contour s. boundary_all (IsSafe unit) contour s) (contours_of answer)
+    (all_flat_map (λ (contour : List Point). All (IsSafe unit) contour) (λ (shape : List (List Point)). shape) answer safe))

@@ -1,9 +1,15 @@
 pub mod AnswerPoints
 pub mod AnswerRegions
 pub mod Asking
+pub mod GridContours
+pub mod MergedContours
+pub mod Merging
 pub mod NoShapes
+pub mod OwnBoundary
+pub mod OwnSides
 pub mod Partition
 pub mod Resolving
 pub mod Settled
+pub mod Straight
 pub mod Subjects
 pub mod Whole

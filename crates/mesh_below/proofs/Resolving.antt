@@ -1,9 +1,9 @@
 -- Lemmas over lists: the rings of contours, and the whole way from edges to shapes.
-use Rattle.std.proofs.Common.{◌≡◌, ℕ, ◌<◌, ◌||◌, Bool, true, false, cond, List, [], ◌∷◌, ◌++◌, map, length, get_or, zero, suc, sym, ◌∙◌, ap, subst, arith}
+use Rattle.std.proofs.Common.{◌≡◌, ℕ, ◌<◌, ◌&&◌, ◌||◌, Bool, true, false, cond, List, [], ◌∷◌, ◌++◌, map, length, get_or, zero, suc, refl, sym, ◌∙◌, ap, subst, arith}
 use Rattle.std.specs.Prelude.{ℤ, pos, ◌+ℤ◌, Vec}
 use Rattle.std.specs.List.{All, filter, flat_map}
 use Rattle.std.specs.declared.alloc.Global.{Global}
-use Rattle.std.proofs.lemmas.Bool.{or_right}
+use Rattle.std.proofs.lemmas.Bool.{and_parts, or_right}
 use Rattle.std.proofs.lemmas.Grind.{flat_map-append}
 use Rattle.std.proofs.lemmas.List.{append-nil, map-append}
 use Rattle.std.proofs.lemmas.List.Elements.{All-nil, All-cons, All-push, filter-append}
@@ -17,10 +17,10 @@ use Rattle.mesh_cuts.proofs.Ends.{ends_self}
 use Rattle.mesh_shapes.proofs.Walking.{counts_same}
 use Rattle.mesh_cuts.specs.Boundary.{count, IsBoundary}
 use Rattle.mesh_cuts.specs.Clean.{IsProper}
-use Rattle.mesh_shapes.specs.Contours.{IsBegun, IsRingOf}
+use Rattle.mesh_shapes.specs.Contours.{IsBegun, IsRingAmong, IsRingOf, StartsOnce, left_out}
 use Rattle.mesh_cuts.specs.Counted.{Counted}
 use Rattle.mesh_shapes.specs.Vectors.{HeldRing, ring_held, rings_held}
-use Rattle.mesh_below.specs.Midway.Rings.{AreRingsOf, IsWhole, PushesRing}
+use Rattle.mesh_below.specs.Midway.Rings.{AreRingsOf, IsWhole, PushesRing, Told}
 use Rattle.mesh_shapes.specs.Resolution.{Choices, Ring, ring_of, is_large, AreArranged, IsResolution}
 use Rattle.mesh_cuts.specs.Split.{occurs, after, same_ends}
 use Rattle.mesh_cuts.specs.Splitting.{IsSplitting}
@@ -38,9 +38,9 @@ pub ring_whole : (all : Bool) (given : List Point) (r : HeldRing) → (k : IsRin
 ring_whole all given r k e =
     whole_vertices all k.contour (ap length (sym k.vertices_are) ∙ (e ∙ sym (same_length k.contour given k.same)))
 
-pub push_one : (all : Bool) (least : ℕ) (given : List Point) (r : HeldRing) (old new : List HeldRing) (whole : Bool) → IsRingOf all given (ring_held r) → is_large least (ring_held r) ≡ true →
-    (whole ≡ true → length r.0.items ≡ length given) → new ≡ old ++ (r ∷ []) → PushesRing all least given old new whole
-push_one all least given r old new whole k large is_whole e = record {
+pub push_one : (all : Bool) (least : ℕ) (edges : List Edge) (given : List Point) (r : HeldRing) (old new : List HeldRing) (whole lone : Bool) → IsRingAmong all edges given (ring_held r) lone →
+    is_large least (ring_held r) ≡ true → (whole ≡ true → length r.0.items ≡ length given) → new ≡ old ++ (r ∷ []) → PushesRing all least edges given old new (whole, lone)
+push_one all least edges given r old new whole lone among large is_whole e = let k = among.is_ring in record {
   contour = k.contour;
   same = k.same;
   begun = k.begun;
@@ -49,23 +49,35 @@ push_one all least given r old new whole k large is_whole e = record {
       ∙ (map-append ring_held old (r ∷ [])
       ∙ sym (λ i. rings_held old ++ cond ((ap (is_large least) (ring_is all given r k) ∙ large) i) (ring_is all given r k i ∷ []) []));
   is_whole = λ t. ring_whole all given r k (is_whole t);
+  starts_once = among.starts_once;
 }
 
 -- a small ring is left out
-pub push_none : (all : Bool) (least : ℕ) (given : List Point) (r : HeldRing) (old : List HeldRing) (whole : Bool) → IsRingOf all given (ring_held r) → is_large least (ring_held r) ≡ false →
-    (whole ≡ true → length r.0.items ≡ length given) → PushesRing all least given old old whole
-push_none all least given r old whole k small is_whole = record {
+pub push_none : (all : Bool) (least : ℕ) (edges : List Edge) (given : List Point) (r : HeldRing) (old : List HeldRing) (whole lone : Bool) → IsRingAmong all edges given (ring_held r) lone →
+    is_large least (ring_held r) ≡ false → (whole ≡ true → length r.0.items ≡ length given) → PushesRing all least edges given old old (whole, lone)
+push_none all least edges given r old whole lone among small is_whole = let k = among.is_ring in record {
   contour = k.contour;
   same = k.same;
   begun = k.begun;
   rings_are = sym ((λ i. rings_held old ++ cond ((ap (is_large least) (ring_is all given r k) ∙ small) i) (ring_of all k.contour ∷ []) []) ∙ append-nil (rings_held old));
   is_whole = λ t. ring_whole all given r k (is_whole t);
+  starts_once = among.starts_once;
 }
 
 -- ---- the rings of contours
-pub rings_more : (all : Bool) (least : ℕ) (given : List (Vec Point Global)) (c : Vec Point Global) (old new : List HeldRing) (whole own both : Bool) →
-    (both ≡ true → (whole ≡ true) × (own ≡ true)) → AreRingsOf all least given old whole → PushesRing all least c.items old new own → AreRingsOf all least (given ++ (c ∷ [])) new both
-rings_more all least given c old new whole own both parts k p = record {
+pub rings_none : (all : Bool) (least : ℕ) (edges : List Edge) (rings : List HeldRing) (told : Told) → rings ≡ [] → AreRingsOf all least edges [] rings told
+rings_none all least edges rings told none = record {
+  contours = [];
+  same = λ f. refl;
+  begun = All-nil (IsBegun all);
+  rings_are = ap rings_held none;
+  are_whole = λ t. All-nil (IsWhole all);
+  start_once = λ t. All-nil (λ (c : List Point). All (StartsOnce edges) (left_out all c));
+}
+
+pub rings_more : (all : Bool) (least : ℕ) (edges : List Edge) (given : List (Vec Point Global)) (c : Vec Point Global) (old new : List HeldRing) (told own : Told) →
+    AreRingsOf all least edges given old told → PushesRing all least edges c.items old new own → AreRingsOf all least edges (given ++ (c ∷ [])) new (told.0 && own.0, told.1 && own.1)
+rings_more all least edges given c old new told own k p = record {
   contours = k.contours ++ (p.contour ∷ []);
   same = same_sums;
   begun = All-push (IsBegun all) k.contours p.contour k.begun p.begun;
@@ -74,7 +86,10 @@ rings_more all least given c old new whole own both parts k p = record {
       ∙ (ap (λ (l : List Ring). l ++ filter (is_large least) (ring_of all p.contour ∷ [])) k.rings_are
       ∙ (sym (filter-append (is_large least) (map (ring_of all) k.contours) (ring_of all p.contour ∷ []))
       ∙ ap (filter (is_large least)) (sym (map-append (ring_of all) k.contours (p.contour ∷ [])))));
-  are_whole = λ t. All-push (IsWhole all) k.contours p.contour (k.are_whole (parts t).0) (p.is_whole (parts t).1);
+  are_whole = λ t. let parts = and_parts told.0 own.0 t in All-push (IsWhole all) k.contours p.contour (k.are_whole parts.0) (p.is_whole parts.1);
+  start_once = λ t.
+      let parts = and_parts told.1 own.1 t in
+      All-push (λ (c : List Point). All (StartsOnce edges) (left_out all c)) k.contours p.contour (k.start_once parts.0) (p.starts_once parts.1);
 }
   where
     one_left : (f : Edge → ℤ) → sum_of f (flat_map boundary (p.contour ∷ [])) ≡ sum_of f (boundary p.contour)
@@ -121,10 +136,10 @@ same_boundary es fill bs cs h is = record { counts = λ (e : Edge). h e ∙ is.c
 pub boundary_proper : (es bs : List Edge) (fill : ℤ → Bool) → IsProper es → IsBoundary es fill bs → All (λ (e : Edge). same_point e.0 e.1 ≡ false) bs
 boundary_proper es bs fill proper is = all_occurs (λ (e : Edge). same_point e.0 e.1 ≡ false) bs (λ (e : Edge) (o : occurs e bs ≡ true). proper e (boundary_cover es bs fill is e o))
 
-unfoldable pub resolved : (edges : List Edge) (segments : List Counted) (fill : ℤ → Bool) (choices : Choices) (closed : List (Vec Point Global)) (rings : List HeldRing) (whole : Bool) (answer : List (List (List Point))) →
-    (s : IsSplitting edges segments) → IsBoundary (after s.cuts edges) fill (contour_edges closed) → AreRingsOf choices.all_vertices choices.least_area closed rings whole →
+unfoldable pub resolved : (edges : List Edge) (segments : List Counted) (fill : ℤ → Bool) (choices : Choices) (ordered : List Edge) (closed : List (Vec Point Global)) (rings : List HeldRing) (told : Told) (answer : List (List (List Point))) →
+    (s : IsSplitting edges segments) → IsBoundary (after s.cuts edges) fill (contour_edges closed) → AreRingsOf choices.all_vertices choices.least_area ordered closed rings told →
     AreArranged choices.clockwise (rings_held rings) answer → IsResolution edges fill choices answer
-resolved edges segments fill choices closed rings whole answer s is k a = record {
+resolved edges segments fill choices ordered closed rings told answer s is k a = record {
   cuts = s.cuts;
   legal = s.legal;
   clean = s.clean;

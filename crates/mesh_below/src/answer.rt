@@ -1,11 +1,13 @@
-//! Shapes of grid points as shapes of the caller's points.
+//! Shapes of grid points as shapes of the caller's points, and back.
 
-ghost use Rattle.std.specs.Prelude.{◌≡◌, IfOk};
+ghost use Rattle.std.specs.Prelude.{◌≡◌, [], ◌∷◌, IfOk, OnOk};
 ghost use Rattle.std.specs.List.{All};
 ghost use Rattle.mesh_plane.specs.Bounds.{IsSafe};
-ghost use Rattle.mesh_num.specs.Paths.{paths_of, shapes_of};
+ghost use Rattle.mesh_num.specs.Paths.{contours_of, paths_of, shapes_of};
+ghost use Rattle.mesh_below.specs.Midway.Rings.{AddsContours};
 ghost use Rattle.mesh_cuts.specs.Reach.{ArePointsSafe};
 
+use crate::given::grid_point;
 use mesh_cuts::grid::GridPoint;
 use mesh_num::num::convert::narrow;
 use mesh_num::num::{IntNumber, IntPoint};
@@ -63,4 +65,61 @@ pub fn int_shapes<I: IntNumber>(
         answer.push(int_shape(alloc, shape)?)?;
     }
     Ok(answer)
+}
+
+/// A contour as points of the grid.
+fn grid_contour<I: IntNumber>(
+    alloc: Global,
+    contour: &[IntPoint<I>],
+) -> Result<Vec<GridPoint>, AllocError>
+    ensures { IfOk result (λ v. v.items ≡ contour.now) }
+{
+    let mut points = Vec::with_capacity(alloc, contour.len())?;
+    for p in contour {
+        points.push(grid_point(*p))?;
+    }
+    Ok(points)
+}
+
+/// Adds a contour, if it has a point.
+fn push_contour<I: IntNumber>(
+    alloc: Global,
+    contours: &mut Vec<Vec<GridPoint>>,
+    contour: &[IntPoint<I>],
+) -> Result<(), AllocError>
+    ensures { OnOk result (AddsContours contours.old.items contours.new.items (contour.now ∷ [])) }
+{
+    if contour.is_empty() {
+        return Ok(());
+    }
+    contours.push(grid_contour(alloc, contour)?)?;
+    Ok(())
+}
+
+/// Adds the contours of a shape that have a point.
+fn push_contours<I: IntNumber>(
+    alloc: Global,
+    contours: &mut Vec<Vec<GridPoint>>,
+    shape: &[Vec<IntPoint<I>>],
+) -> Result<(), AllocError>
+    ensures { OnOk result (AddsContours contours.old.items contours.new.items (paths_of shape.now)) }
+{
+    for contour in shape {
+        push_contour(alloc, contours, contour)?;
+    }
+    Ok(())
+}
+
+/// The contours of shapes that have a point.
+pub fn grid_contours<I: IntNumber>(
+    alloc: Global,
+    shapes: &[Vec<Vec<IntPoint<I>>>],
+) -> Result<Vec<Vec<GridPoint>>, AllocError>
+    ensures { IfOk result (λ v. AddsContours [] v.items (contours_of (shapes_of shapes.now))) }
+{
+    let mut contours = Vec::new(alloc);
+    for shape in shapes {
+        push_contours(alloc, &mut contours, shape)?;
+    }
+    Ok(contours)
 }

@@ -2,28 +2,29 @@
 
 ghost use Rattle.std.specs.Prelude.{◌≡◌, ◌↔◌, ◌+◌, ◌≤◌, ◌++◌, true, List, [], length, vec_capacity, IsTrue};
 ghost use Rattle.std.specs.Prelude.{IfOk, IsOk, OnOk, OnErr};
-ghost use Rattle.std.specs.List.{All};
+ghost use Rattle.std.specs.List.{All, flat_map};
 ghost use Rattle.mesh_num.specs.FlatContours.{HoldsContours};
 ghost use Rattle.mesh_num.specs.Paths.{contours_of, shapes_of};
 ghost use Rattle.mesh_plane.specs.Plane.{Point};
 ghost use Rattle.mesh_num.specs.Segments.{IsSubject, edges_of};
-ghost use Rattle.mesh_plane.specs.Winding.{IsBalanced};
+ghost use Rattle.mesh_plane.specs.Winding.{IsBalanced, boundary};
 ghost use Rattle.mesh_cuts.specs.FillRules.{filled};
-ghost use Rattle.mesh_below.specs.Answers.{IsOverlayAnswer, IsSettled};
+ghost use Rattle.mesh_cuts.specs.declared.fill.FillRule.TheVariants.{Positive};
+ghost use Rattle.mesh_below.specs.Answers.{AreOwnBoundary, IsOverlayAnswer, IsSettled};
 ghost use Rattle.mesh_below.specs.Asked.{AreResolvable};
 ghost use Rattle.mesh_below.specs.Laws.{AreRegions};
 ghost use Rattle.mesh_below.specs.Options.{choices_of, plain};
 ghost use Rattle.mesh_cuts.specs.Reach.{AreEdgesSafe, ArePointsSafe};
 ghost use Rattle.mesh_shapes.specs.Resolution.{IsResolution};
 
-use crate::answer::int_shapes;
+use crate::answer::{grid_contours, int_shapes};
 use crate::given::grid_edges;
-use crate::resolve::{Choices, resolve};
+use crate::resolve::{Choices, arranged_contours, resolve};
 pub use mesh_cuts::fill::FillRule;
 use mesh_num::num::{IntNumber, WideUnsigned};
 use mesh_num::shape::buffer::{FlatContoursBuffer, IntShapes};
 use mesh_num::shape::segment::Segment;
-use std::alloc::AllocError;
+use std::alloc::{AllocError, Global};
 
 /// Which segments make up an answer: those of the subject, which all segments here belong to.
 #[derive(Debug, Copy, Clone, PartialEq, Eq)]
@@ -101,6 +102,10 @@ pub struct OverlayAnswer<I: IntNumber> {
     /// Whether the shapes are known to be settled: they are an answer also of the edges of their own contours, by the
     /// fill rule `Positive` and with the same options.
     pub is_settled: bool,
+    /// Whether the edges of the shapes' contours are known to be their own boundary: they share only common ends, and
+    /// of each the left side alone is filled by the fill rule `Positive`. Then `arranged` brings them into shapes
+    /// again.
+    pub is_own_boundary: bool,
 }
 
 /// Segments that are resolved into shapes.
@@ -155,9 +160,11 @@ impl<I: IntNumber> Overlay<I> {
         Ok(self.overlay_answer(rule, fill)?.shapes)
     }
 
-    /// `overlay`, and whether its shapes are settled: then their edges need not be resolved once more, by the fill rule
-    /// `Positive` and with the same options. They are known to be settled where the contours have all points of the
-    /// boundary as vertices, none is left out, and outer ones run counterclockwise.
+    /// `overlay`, and what is known of its shapes where the options drop none and outer contours run counterclockwise.
+    /// They are known to be settled where the contours have all points of the boundary as vertices: then their edges
+    /// need not be resolved once more, by the fill rule `Positive` and with the same options. Their edges are known to
+    /// be their own boundary where at each point that a contour leaves out one edge of the boundary alone starts: then
+    /// `arranged` brings them into shapes by any options.
     pub fn overlay_answer(
         &self,
         rule: OverlayRule,
@@ -173,6 +180,8 @@ impl<I: IntNumber> Overlay<I> {
         ensures safe { IfOk result (λ answer. ArePointsSafe I.unit (shapes_of answer.shapes.items)) }
         ensures settled { IfOk result (λ answer. answer.is_settled ≡ true
             → IsSettled (choices_of I.WideUInt.value self.now.options) (shapes_of answer.shapes.items)) }
+        ensures own_boundary { IfOk result (λ answer. answer.is_own_boundary ≡ true
+            → AreOwnBoundary (flat_map boundary (contours_of (shapes_of answer.shapes.items)))) }
     {
         match rule {
             OverlayRule::Subject => self.resolved(fill),
@@ -210,7 +219,8 @@ impl<I: IntNumber> Overlay<I> {
     fn resolved(&self, fill: FillRule) -> Result<OverlayAnswer<I>, AllocError>
         requires { AreResolvable I.unit self.now.segments.items }
         ensures { IfOk result (λ answer. IsOverlayAnswer I.unit (edges_of self.now.segments.items) (filled fill)
-            (choices_of I.WideUInt.value self.now.options) (shapes_of answer.shapes.items) answer.is_settled) }
+            (choices_of I.WideUInt.value self.now.options) (shapes_of answer.shapes.items)
+            answer.is_settled answer.is_own_boundary) }
     {
         let alloc = *self.segments.allocator();
         let edges = grid_edges(alloc, &self.segments)?;
@@ -218,6 +228,7 @@ impl<I: IntNumber> Overlay<I> {
         Ok(OverlayAnswer {
             shapes: int_shapes(alloc, &answer.shapes)?,
             is_settled: answer.is_settled,
+            is_own_boundary: answer.is_own_boundary,
         })
     }
 
@@ -230,10 +241,42 @@ impl<I: IntNumber> Overlay<I> {
         })
             ≡ choices_of I.WideUInt.value self.now.options }
     {
-        Choices {
-            least_area: I::uint_to_u128(self.options.min_output_area) as u64,
-            all_vertices: self.options.preserve_output_collinear,
-            clockwise: self.options.output_direction == ContourDirection::Clockwise,
-        }
+        choices_for::<I>(self.options)
     }
+}
+
+/// Options, as the resolving takes them.
+fn choices_for<I: IntNumber>(options: IntOverlayOptions<I::WideUInt>) -> Choices
+    ensures { (record {
+      least_area = result.least_area;
+      all_vertices = result.all_vertices;
+      clockwise = result.clockwise;
+    })
+        ≡ choices_of I.WideUInt.value options }
+{
+    Choices {
+        least_area: I::uint_to_u128(options.min_output_area) as u64,
+        all_vertices: options.preserve_output_collinear,
+        clockwise: options.output_direction == ContourDirection::Clockwise,
+    }
+}
+
+/// The shapes of what the edges of these shapes' contours fill by the fill rule `Positive`, with these options, where
+/// the edges are their own boundary, as `Overlay::overlay_answer` tells. Nothing is split: the contours are there, and
+/// are brought into order and grouped anew. `Err` says that memory was refused.
+pub fn arranged<I: IntNumber>(
+    alloc: Global,
+    shapes: &IntShapes<I>,
+    options: IntOverlayOptions<I::WideUInt>,
+) -> Result<IntShapes<I>, AllocError>
+    requires own_boundary { AreOwnBoundary (flat_map boundary (contours_of (shapes_of shapes.now.items))) }
+    requires safe { ArePointsSafe I.unit (shapes_of shapes.now.items) }
+    ensures resolution { IfOk result (λ answer.
+        IsResolution (flat_map boundary (contours_of (shapes_of shapes.now.items))) (filled Positive)
+        (choices_of I.WideUInt.value options) (shapes_of answer.items)) }
+    ensures safe { IfOk result (λ answer. ArePointsSafe I.unit (shapes_of answer.items)) }
+{
+    let contours = grid_contours(alloc, shapes)?;
+    let answer = arranged_contours(alloc, contours, choices_for::<I>(options))?;
+    Ok(int_shapes(alloc, &answer)?)
 }

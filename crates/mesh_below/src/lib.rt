@@ -5,8 +5,8 @@
 //! `Boundary` of `mesh_cuts/specs` and in `Contours` beside it. What follows from it, as that answers are regions, is
 //! in `specs/Laws.antt` and the module `laws`.
 //!
-//! The way from segments to shapes: `given` makes edges of them, `mesh_split` splits these until they share only
-//! ends, `mesh_boundary` finds the boundary of what they fill, `mesh_shapes` makes contours of it, and brings these into
+//! The way from segments to shapes: `given` makes edges of them, `mesh_split` splits these until they share only ends,
+//! `mesh_boundary` finds the boundary of what they fill, `mesh_shapes` makes contours of it, and brings these into
 //! order and groups them; `resolve` is the whole way, and `below` has its public calls.
 #![tactic(auto)]
 

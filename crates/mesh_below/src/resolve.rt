@@ -1,23 +1,25 @@
 //! The whole way from directed edges to shapes.
 
 ghost use Rattle.std.specs.Prelude.{◌≡◌, ◌<◌, true, false, length, IfOk};
-ghost use Rattle.std.specs.List.{All};
+ghost use Rattle.std.specs.List.{All, flat_map};
+ghost use Rattle.mesh_num.specs.Paths.{contours_of};
 ghost use Rattle.mesh_plane.specs.Plane.{Edge};
 ghost use Rattle.mesh_plane.specs.Winding.{IsBalanced, boundary, same_point};
 ghost use Rattle.mesh_cuts.specs.Clean.{IsProper};
 ghost use Rattle.mesh_cuts.specs.FillRules.{filled};
-ghost use Rattle.mesh_below.specs.Answers.{IsSettled};
+ghost use Rattle.mesh_cuts.specs.declared.fill.FillRule.TheVariants.{Positive};
+ghost use Rattle.mesh_below.specs.Answers.{AreOwnBoundary, IsSettled};
 ghost use Rattle.mesh_below.specs.Midway.Rings.{AreRingsOf, PushesRing};
 ghost use Rattle.mesh_shapes.specs.Vectors.{shapes_points};
 ghost use Rattle.mesh_shapes.specs.Resolution.{IsResolution};
-ghost use Rattle.mesh_shapes.specs.Vectors.{HavePoints, contour_edges};
+ghost use Rattle.mesh_shapes.specs.Vectors.{HavePoints, StartsInOrder, contour_edges};
 
 use mesh_boundary::sides::find_boundary;
 use mesh_cuts::fill::FillRule;
 use mesh_cuts::grid::{GridEdge, GridPoint};
 use mesh_shapes::arrange::{is_large, shapes};
 use mesh_shapes::ring::{Ring, ring_of};
-use mesh_shapes::walk::contours;
+use mesh_shapes::walk::{contours, in_order};
 use mesh_split::splitter::split_edges;
 use std::alloc::{AllocError, Global};
 
@@ -40,46 +42,57 @@ pub struct GridAnswer {
     pub shapes: Vec<Vec<Vec<GridPoint>>>,
     /// Whether they are known to be settled.
     pub is_settled: bool,
+    /// Whether the edges of their contours are known to be their own boundary.
+    pub is_own_boundary: bool,
 }
 
-/// Adds the ring of a contour, unless it is small. Answers whether each of the contour's points is a vertex of it.
+/// Adds the ring of a contour, unless it is small. Tells whether each of the contour's points is a vertex of it, and
+/// whether one of the edges at most, which stand in the order of their starts, starts at each point that is none.
 fn push_ring(
     alloc: Global,
     rings: &mut Vec<Ring>,
     contour: Vec<GridPoint>,
     choices: Choices,
-) -> Result<bool, AllocError>
+    ordered: &[GridEdge],
+) -> Result<(bool, bool), AllocError>
     requires has_points { 0 < length contour.items }
     requires proper { All (λ (e : Edge). same_point e.0 e.1 ≡ false) (boundary contour.items) }
-    ensures { IfOk result (λ whole. PushesRing choices.all_vertices choices.least_area contour.items
-        rings.old.items rings.new.items whole) }
+    requires ordered { StartsInOrder ordered.now }
+    ensures { IfOk result (λ told. PushesRing choices.all_vertices choices.least_area ordered.now contour.items
+        rings.old.items rings.new.items told) }
 {
     let count = contour.len();
-    let ring = ring_of(alloc, contour, choices.all_vertices)?;
+    let (ring, is_lone) = ring_of(alloc, contour, choices.all_vertices, ordered)?;
     let is_whole = ring.0.len() == count;
     if !is_large(&ring, choices.least_area) {
-        return Ok(is_whole);
+        return Ok((is_whole, is_lone));
     }
     rings.push(ring)?;
-    Ok(is_whole)
+    Ok((is_whole, is_lone))
 }
 
-/// The rings of contours, without the small ones, and whether each point of the contours is a vertex.
+/// The rings of contours, without the small ones, and what is told of the contours.
 fn rings_of(
     alloc: Global,
     contours: Vec<Vec<GridPoint>>,
     choices: Choices,
-) -> Result<(Vec<Ring>, bool), AllocError>
+    ordered: &[GridEdge],
+) -> Result<(Vec<Ring>, (bool, bool)), AllocError>
     requires have_points { HavePoints contours.items }
     requires proper { All (λ (e : Edge). same_point e.0 e.1 ≡ false) (contour_edges contours.items) }
-    ensures { IfOk result (λ v. AreRingsOf choices.all_vertices choices.least_area contours.items v.0.items v.1) }
+    requires ordered { StartsInOrder ordered.now }
+    ensures { IfOk result (λ v. AreRingsOf choices.all_vertices choices.least_area ordered.now contours.items
+        v.0.items v.1) }
 {
     let mut rings = Vec::with_capacity(alloc, contours.len())?;
     let mut are_whole = true;
+    let mut are_lone = true;
     for contour in contours {
-        are_whole &= push_ring(alloc, &mut rings, contour, choices)?;
+        let (is_whole, is_lone) = push_ring(alloc, &mut rings, contour, choices, ordered)?;
+        are_whole &= is_whole;
+        are_lone &= is_lone;
     }
-    Ok((rings, are_whole))
+    Ok((rings, (are_whole, are_lone)))
 }
 
 /// Whether no contour is left out, and none is reversed.
@@ -105,14 +118,37 @@ pub fn resolve(
     ensures settled { IfOk result (λ v. v.is_settled ≡ true → IsSettled
         (record { least_area = choices.least_area; all_vertices = choices.all_vertices; clockwise = choices.clockwise })
         (shapes_points v.shapes.items)) }
+    ensures own_boundary { IfOk result (λ v. v.is_own_boundary ≡ true
+        → AreOwnBoundary (flat_map boundary (contours_of (shapes_points v.shapes.items)))) }
 {
     let segments = split_edges(alloc, edges)?;
     let parted = find_boundary(alloc, &segments, fill)?;
-    let closed = contours(alloc, parted)?;
-    let (rings, are_whole) = rings_of(alloc, closed, choices)?;
+    let ordered = in_order(parted);
+    let closed = contours(alloc, &ordered)?;
+    let (rings, (are_whole, are_lone)) = rings_of(alloc, closed, choices, &ordered)?;
     let shapes = shapes(alloc, rings, choices.clockwise)?;
+    let is_all = answers_all(choices);
     Ok(GridAnswer {
         shapes,
-        is_settled: are_whole & answers_all(choices),
+        is_settled: are_whole & is_all,
+        is_own_boundary: are_lone & is_all,
     })
+}
+
+/// The shapes of contours whose edges are their own boundary: these are what the edges fill by the fill rule
+/// `Positive`, and need no splitting.
+pub fn arranged_contours(
+    alloc: Global,
+    contours: Vec<Vec<GridPoint>>,
+    choices: Choices,
+) -> Result<Vec<Vec<Vec<GridPoint>>>, AllocError>
+    requires have_points { HavePoints contours.items }
+    requires own_boundary { AreOwnBoundary (contour_edges contours.items) }
+    ensures { IfOk result (λ v. IsResolution (contour_edges contours.items) (filled Positive)
+        (record { least_area = choices.least_area; all_vertices = choices.all_vertices; clockwise = choices.clockwise })
+        (shapes_points v.items)) }
+{
+    let (rings, _) = rings_of(alloc, contours, choices, &[])?;
+    let shapes = shapes(alloc, rings, choices.clockwise)?;
+    Ok(shapes)
 }

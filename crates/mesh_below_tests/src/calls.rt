@@ -1,4 +1,5 @@
-//! The calls one by one: defaults, segments added in parts, the other width, what stays, and what is no list to resolve.
+//! The calls one by one: defaults, segments added in parts, the other width, what stays, and what is no list to
+//! resolve.
 
 use crate::answers::{Row, expect, expect_resolvable, overlay_of};
 use mesh_below::below::{ContourDirection, FillRule, IntOverlayOptions, Overlay, OverlayRule};
@@ -84,8 +85,8 @@ fn numbers_of_16_bits(rt: HostRuntime) -> Result<(), Fail> {
     expect_that(are_shapes(&shapes, &[square]), &shapes)
 }
 
-/// The overlay stays as it was. The buffer has the answer, or what it had: a refusal comes only in a run that is made to
-/// refuse memory.
+/// The overlay stays as it was. The buffer has the answer, or what it had: a refusal comes only in a run that is made
+/// to refuse memory.
 #[test]
 fn answers_leave_the_overlay_as_it_was(rt: HostRuntime) -> Result<(), Fail> {
     let overlay = overlay_of(rt.alloc(), &[SQUARE, OTHER])?;

@@ -1,5 +1,5 @@
-//! What split segments are, in plain words: how often they wind, how much more is counted from a point than to it, whether
-//! two of them meet, and which edges may have been bent.
+//! What split segments are, in plain words: how often they wind, how much more is counted from a point than to it,
+//! whether two of them meet, and which edges may have been bent.
 
 use mesh_below::grid::{CountedSegment, GridEdge};
 use mesh_toolbox::plain::{Edge, Point, cross, crossing, minus, refined};

@@ -12,6 +12,8 @@ mod hard_splits;
 #[cfg(test)]
 mod meeting_lists;
 #[cfg(test)]
+mod own_boundaries;
+#[cfg(test)]
 mod parted_planes;
 #[cfg(test)]
 mod random_answers;

@@ -21,9 +21,9 @@ fn is_filled(fill: FillRule, winding: i128) -> bool {
     }
 }
 
-/// Near the square and in it, but for the boxes of bent edges, the answer winds `once` where the given edges' winding is
-/// filled, and not elsewhere. Answers at how many points it is filled.
-fn expect_region(
+/// Near the square and in it, but for the boxes of bent edges, the answer winds `once` where the given edges' winding
+/// is filled, and not elsewhere. Answers at how many points it is filled.
+pub fn expect_region(
     edges: &[Edge],
     bent: &[Edge],
     fill: FillRule,
@@ -46,7 +46,8 @@ fn expect_region(
     Ok(filled)
 }
 
-/// By either rule the answer winds as the fill says, but for the boxes of bent edges. Answers at how many points it is filled.
+/// By either rule the answer winds as the fill says, but for the boxes of bent edges. Answers at how many points it is
+/// filled.
 fn expect_regions(overlay: &Overlay<i32>, bent: &[Edge], once: i128) -> Result<u32, Fail> {
     let alloc = *overlay.segments.allocator();
     let mut filled = 0u32;
@@ -74,7 +75,7 @@ fn slanted_overlay(
 }
 
 /// One to three lists of points anywhere in a square.
-fn scattered_overlay(
+pub fn scattered_overlay(
     alloc: Global,
     random: &mut Random,
     number: u32,
@@ -130,7 +131,7 @@ fn answers_wind_as_the_fill_says_beside_bent_edges(rt: HostRuntime) -> Result<()
 }
 
 /// The contours of shapes as an overlay's segments.
-fn again(alloc: Global, shapes: &IntShapes<i32>) -> Result<Overlay<i32>, AllocError> {
+pub fn again(alloc: Global, shapes: &IntShapes<i32>) -> Result<Overlay<i32>, AllocError> {
     let mut overlay = overlay_of(alloc, &[])?;
     for shape in shapes {
         for contour in shape {

@@ -140,8 +140,8 @@ const NESTED: &[Case] = &[
 /// A square, and a hole that touches one of its sides.
 const TOUCHED_SIDE: &[Row] = &[outer!(0, 0, 4, 4), &[(2, 0), (1, 1), (2, 2), (3, 1)]];
 
-/// At a point with several edges the walk takes the first clockwise from the way back: outer contours that touch part, and
-/// an outer contour and a hole that touch, or two holes, are one.
+/// At a point with several edges the walk takes the first clockwise from the way back: outer contours that touch part,
+/// and an outer contour and a hole that touch, or two holes, are one.
 const TOUCHING: &[Case] = &[
     (
         &[outer!(0, 0, 2, 2), outer!(2, 2, 4, 4)],

@@ -1,8 +1,6 @@
 -- Lemmas over points: the winding at an end of a segment follows from that at the other end.
-use Rattle.std.proofs.Common.{◌≡◌, Bool, true, false, cond, Option, None, Some, List, [], ◌∷◌, ◌++◌, length, get_or, refl, sym, ◌∙◌, ap, subst, arith, length-append}
+use Rattle.std.proofs.Common.{◌≡◌, Bool, true, false, cond, Option, None, Some, List, refl, sym, ◌∙◌, ap, subst, arith}
 use Rattle.std.specs.Prelude.{ℤ, neg_ℤ, ◌+ℤ◌, ◌-ℤ◌, IfSome, SomeIff}
-use Rattle.std.specs.List.{All}
-use Rattle.std.proofs.Math.Seq.{get_or-append_seam}
 use Rattle.mesh_plane.specs.Plane.{Edge}
 use Rattle.mesh_plane.proofs.Whole.{linear}
 use Rattle.mesh_cuts.specs.Boundary.{rises, winding_beside, left_winding, right_winding}
@@ -19,21 +17,10 @@ use Rattle.mesh_boundary.proofs.BoundaryCounted.{sides_turned}
 
 -- ---- what may be
 
--- what follows for what there is
-pub some_more : {A : Type 0} (o : Option A) (P Q : A → Type 0) → ((x : A) → P x → Q x) → IfSome o P → IfSome o Q
-some_more None P Q f h = tt
-some_more (Some x) P Q f h = f x h
-
 -- a number that is there where it fits
 pub checked : (o : Option ℤ) (fits : Type 0) (v w : ℤ) (P : ℤ → Type 0) → SomeIff o fits v → v ≡ w → P w → IfSome o P
 checked None fits v w P h e p = tt
 checked (Some x) fits v w P h e p = subst P (sym (h.1 ∙ e)) p
-
--- what holds of all holds of the last one
-pub last_of : {A : Type 0} (P : A → Type 0) (old new : List A) (x : A) → old ≡ new ++ x ∷ [] → All P old → P x
-last_of P old new x e h =
-    subst P (ap (λ (l : List _). get_or l (length new) x) e ∙ get_or-append_seam new x [] x)
-    (h (length new) x (omega (arith, ap length e, length-append new (x ∷ []))))
 
 -- ---- segments
 

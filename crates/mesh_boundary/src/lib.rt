@@ -2,9 +2,8 @@
 //!
 //! `sides` finds the boundary, by the windings on both sides of each segment. `winding` sums over the row of a point,
 //! where `rows` lists edges by height. `flood` knows the windings at the ends of segments, and goes on from end to end
-//! by sums over stars, where `stars` lists segments by their ends. It begins with a sum of `sums`, and serves where rows
-//! are long.
-//! `specs/Midway` has the states of loops, which private contracts alone read.
+//! by sums over stars, where `stars` lists segments by their ends. It begins with a sum of `sums`, and serves where
+//! rows are long. `specs/Midway` has the states of loops, which private contracts alone read.
 #![tactic(auto)]
 
 pub mod flood;

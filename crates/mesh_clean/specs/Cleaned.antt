@@ -47,12 +47,14 @@ kept_round (p ∷ q ∷ ps) = kept_between p q (ps ++ p ∷ q ∷ [])
 abbrev pub last_first : List Point → List Point
 last_first xs = drop (length xs - 1) xs ++ take (length xs - 1) xs
 
--- the kept points `round`, which begin at the first of `inside`; where nothing is inside, begun at their last one instead
+-- the kept points `round`, which begin at the first of `inside`; where nothing is inside, begun at their last one
+-- instead
 abbrev pub begun : List Point → List Point → List Point
 begun [] round = last_first round
 begun (p ∷ ps) round = round
 
--- the kept points of a closed list, begun at the first one that stands inside the list without repeats, or else at the list's first point
+-- the kept points of a closed list, begun at the first one that stands inside the list without repeats, or else at the
+-- list's first point
 abbrev pub cleaned_points : List Point → List Point
 cleaned_points points =
     begun (kept_inside (without_repeats points)) (kept_round (without_repeated_end (without_repeats points)))
@@ -80,7 +82,8 @@ AllEqual (p ∷ ps) = All (λ (q : Point). q ≡ p) ps
 abbrev pub RunsOn : Edge → Edge → Type 0
 RunsOn e f = (cross (minus e.1 e.0) (minus f.1 f.0) ≡ pos 0) × (pos 0 <ℤ dot (minus e.1 e.0) (minus f.1 f.0))
 
--- at least two edges with different ends, each starting where the one before ends and not running on from it, the first after the last too
+-- at least two edges with different ends, each starting where the one before ends and not running on from it, the first
+-- after the last too
 pub record IsCleanContour (sections : List Edge) : Type 0 where
   pub many : 2 ≤ length sections
   pub proper : All (λ (e : Edge). e.0 ≢ e.1) sections

@@ -25,8 +25,8 @@ abbrev pub BeginsAt : Point → List Point → Type 0
 BeginsAt p [] = ⊥
 BeginsAt p (q ∷ qs) = q ≡ p
 
--- a contour of points that are not all equal is cleaned to one that begins at the first kept point of the second to the last but
--- one of the list without repeats, or where none of these is kept at the list's first point
+-- a contour of points that are not all equal is cleaned to one that begins at the first kept point of the second to the
+-- last but one of the list without repeats, or where none of these is kept at the list's first point
 abbrev pub CleanedContoursBegin : Type 0
 CleanedContoursBegin =
     (first : Point) (others : List Point) → (AllEqual (first ∷ others) → ⊥)

@@ -38,6 +38,7 @@ pub record IsCountOf (es : List Edge) (ks : List Counted) : Type 0 where
 abbrev pub size : Counted → ℤ
 size k = pos (unsigned_abs k.1)
 
--- sums of counts up to this stay far from the ends of 128 bits; it is far more than the edges that memory holds can give
+-- sums of counts up to this stay far from the ends of 128 bits; it is far more than the edges that memory holds can
+-- give
 abbrev pub IsRoomy : ℤ → Type 0
 IsRoomy total = total ≤ℤ pos (2 ^ 120)

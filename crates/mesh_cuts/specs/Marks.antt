@@ -1,5 +1,6 @@
 -- Places among marks on an axis, and lists by such places.
-use Rattle.std.specs.Prelude.{ℕ, ◌≡◌, ◌+◌, ◌<◌, ◌≤◌, ◌⊎◌, cond, List, [], ◌∷◌, ◌++◌, length, slice_index_or, ℤ, int_le, ◌≤ℤ◌, Vec}
+use Rattle.std.specs.Prelude.{ℕ, ◌≡◌, ◌+◌, ◌<◌, ◌≤◌, ◌⊎◌, cond, List, [], ◌∷◌, ◌++◌, length, slice_index_or, ℤ, int_le}
+use Rattle.std.specs.Prelude.{◌≤ℤ◌, Vec}
 use Rattle.std.specs.declared.alloc.Global.{Global}
 use Rattle.mesh_cuts.specs.declared.places.Mark.{Mark}
 

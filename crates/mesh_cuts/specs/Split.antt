@@ -1,6 +1,7 @@
 -- Splitting: where two segments meet, and the cuts that this allows.
 -- Edges are directed; a segment is a pair of ends, whichever way the edges between them run.
-use Rattle.std.specs.Prelude.{◌≡◌, ◌⊎◌, Bool, true, false, cond, ◌&&◌, ◌||◌, List, [], ◌∷◌, ◌++◌, ℤ, pos, negsuc, suc, ◌+ℤ◌, ◌-ℤ◌, ◌*ℤ◌, ◌≤ℤ◌, ◌<ℤ◌, neg_ℤ, IsTrue}
+use Rattle.std.specs.Prelude.{◌≡◌, ◌⊎◌, Bool, true, false, cond, ◌&&◌, ◌||◌, List, [], ◌∷◌, ◌++◌, ℤ, pos, negsuc, suc}
+use Rattle.std.specs.Prelude.{◌+ℤ◌, ◌-ℤ◌, ◌*ℤ◌, ◌≤ℤ◌, ◌<ℤ◌, neg_ℤ, IsTrue}
 use Rattle.mesh_plane.specs.Plane.{Point, Edge, turn}
 use Rattle.mesh_plane.specs.Rounding.{rounded}
 use Rattle.mesh_plane.specs.Winding.{same_point}
@@ -68,7 +69,8 @@ rounded_crossing e f =
     let d = n -ℤ turn f.0 f.1 e.1 in
     (crossing_at e.0.0 e.1.0 n d, crossing_at e.0.1 e.1.1 n d)
 
--- two edges share a point inside one of them: an end of one lies inside the other, or they cross; `c` is where they are split
+-- two edges share a point inside one of them: an end of one lies inside the other, or they cross; `c` is where they are
+-- split
 pub data Meets : Edge → Edge → Point → Type 0 where
   at_start_of_second : {e f : Edge} → IsInside e f.0 → Meets e f f.0
   at_end_of_second : {e f : Edge} → IsInside e f.1 → Meets e f f.1

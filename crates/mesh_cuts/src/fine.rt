@@ -135,8 +135,8 @@ fn lies_east(q: FinePoint, p: FinePoint, r: FinePoint) -> bool
     p.x <= q.x && r.x <= q.x
 }
 
-/// Whether the line from `p` up to `r`, which passes the height of the point, passes it to the east. Where both ends lie
-/// to one side of the point, that tells, without a product.
+/// Whether the line from `p` up to `r`, which passes the height of the point, passes it to the east. Where both ends
+/// lie to one side of the point, that tells, without a product.
 fn is_west_of(q: FinePoint, p: FinePoint, r: FinePoint) -> bool
     requires { (int_le p.1 q.1 && int_lt q.1 r.1) ≡ true }
     ensures { result ≡ int_lt (pos 0) (turn p r q) }

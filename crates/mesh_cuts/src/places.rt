@@ -19,8 +19,8 @@ pub struct Mark {
     pub at: i64,
 }
 
-/// Whether the element at a place is in a sample of one in so many. The sample has blocks of elements side by side, since
-/// contours often go on in the same few steps, of which a sample of single elements could miss some.
+/// Whether the element at a place is in a sample of one in so many. The sample has blocks of elements side by side,
+/// since contours often go on in the same few steps, of which a sample of single elements could miss some.
 pub fn is_sampled(i: usize, step: usize) -> bool {
     i / BLOCK % step.max(1) == 0
 }

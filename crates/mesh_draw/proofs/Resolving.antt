@@ -15,10 +15,10 @@ use Rattle.std.proofs.lemmas.List.Elements.{All-map, All-weaker, All-filter}
 use Rattle.mesh_plane.specs.Bounds.{IsSafe}
 use Rattle.mesh_cuts.specs.Reach.{AreEdgesSafe, ArePointsSafe}
 use Rattle.mesh_num.specs.Paths.{contours_of}
-use Rattle.mesh_plane.proofs.ClosedLists.{boundary_all, all_flat_map}
 use Rattle.mesh_draw.specs.Adding.{answer_edges}
 use Rattle.mesh_num.specs.Segments.{SignedEdge, segments_of, edges_of, proper_edges, IsSubject}
 use Rattle.mesh_draw.specs.Adding.{added_edges}
+use Rattle.mesh_below.proofs.AnswerPoints.{answer_edges_safe}
 use Rattle.mesh_draw.proofs.ProperEdges.{proper_edges_total}
 use Rattle.mesh_num.proofs.SegmentLists.{edges_of_segments}
 use Rattle.mesh_num.proofs.Subjects.{segments_of_subjects}
@@ -41,20 +41,12 @@ in_sense_safe unit Negative es h =
     All-map (λ (e : Edge). IsSafe unit e.0 × IsSafe unit e.1) back es
     (All-weaker (λ (e : Edge). IsSafe unit e.0 × IsSafe unit e.1) (λ (e : Edge). IsSafe unit e.1 × IsSafe unit e.0) (λ e s. (s.1, s.0)) es h)
 
--- the edges of an answer's contours are safe where its points are
-pub answer_safe : (unit : ℕ) (answer : List (List (List Point))) → ArePointsSafe unit answer → AreEdgesSafe unit (answer_edges answer)
-answer_safe unit answer safe =
-    all_flat_map (λ (e : Edge). IsSafe unit e.0 × IsSafe unit e.1) boundary (contours_of answer)
-    (All-weaker (λ (contour : List Point). All (IsSafe unit) contour) (λ (contour : List Point). AreEdgesSafe unit (boundary contour))
-    (λ contour s. boundary_all (IsSafe unit) contour s) (contours_of answer)
-    (all_flat_map (λ (contour : List Point). All (IsSafe unit) contour) (λ (shape : List (List Point)). shape) answer safe))
-
 -- the segments of an answer's edges are those of closed edges
 pub adds_answer : (unit : ℕ) (fill : FillRule) (answer : List (List (List Point))) (old new : List SignedEdge) → ArePointsSafe unit answer →
     new ≡ old ++ segments_of (in_sense fill (answer_edges answer)) → AddsClosed unit old new (in_sense fill (answer_edges answer))
 adds_answer unit fill answer old new safe h = record {
   balanced = in_sense_balanced fill (answer_edges answer) (contours_balanced (contours_of answer));
-  safe = in_sense_safe unit fill (answer_edges answer) (answer_safe unit answer safe);
+  safe = in_sense_safe unit fill (answer_edges answer) (answer_edges_safe unit answer safe);
   added = h;
 }
 

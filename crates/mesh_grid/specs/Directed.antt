@@ -7,7 +7,8 @@ unfoldable pub greatest : (ℕ → Bool) → ℕ → ℕ
 greatest test zero = 0
 greatest test (suc n) = cond (test (suc n)) (suc n) (greatest test n)
 
--- the greatest `j` for which `j / unit` is at most the share of a component of size `size` in a vector with the squared length `square`
+-- the greatest `j` for which `j / unit` is at most the share of a component of size `size` in a vector with the squared
+-- length `square`
 abbrev pub share_of : ℕ → ℕ → ℕ → ℕ
 share_of unit square size = greatest (λ j. leb (j * j * square) (unit * unit * (size * size))) unit
 

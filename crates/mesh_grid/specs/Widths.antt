@@ -1,4 +1,5 @@
--- The units of both coordinate types, and lemmas over whole numbers: what fits a signed width. They stand here since the impls of `WideNumber` cite them.
+-- The units of both coordinate types, and lemmas over whole numbers: what fits a signed width. They stand here since
+-- the impls of `WideNumber` cite them.
 use Rattle.std.proofs.Common.{◌≡◌, ◌^◌, refl, inl, inr, arith}
 use Rattle.std.specs.Prelude.{ℕ, ◌⊎◌, ℤ, FitsSigned}
 use Rattle.std.proofs.lemmas.Int.{ints}

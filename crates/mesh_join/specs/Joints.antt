@@ -8,8 +8,8 @@ use Rattle.mesh_arc.specs.Arcs.{sense_of}
 use Rattle.mesh_arc.specs.declared.arc.ArcDirection.{ArcDirection}
 use Rattle.mesh_arc.specs.declared.arc.ArcDirection.TheVariants.{Clockwise, Counterclockwise}
 
--- the corner that is joined, the points that its sections are moved to, the directions of the sections before and after it,
--- how far they are moved, and the sense of the turn
+-- the corner that is joined, the points that its sections are moved to, the directions of the sections before and after
+-- it, how far they are moved, and the sense of the turn
 pub record Joint : Type 0 where
   pub center : Point
   pub first : Point
@@ -31,7 +31,8 @@ joint center first last incoming outgoing radius sense = record {
   sense = sense;
 }
 
--- the point beside `center` that a section with the direction `n` is moved to: to its right for a turn to the left, else to its left
+-- the point beside `center` that a section with the direction `n` is moved to: to its right for a turn to the left,
+-- else to its left
 abbrev pub contact : ℕ → ℤ → ArcDirection → Point → Point → Point
 contact unit radius Counterclockwise center n = plus center (right_quarter (scaled_direction unit radius n))
 contact unit radius Clockwise center n = minus center (right_quarter (scaled_direction unit radius n))

@@ -1,6 +1,7 @@
--- Miters: the moved sections of an outer corner run on to the peak in which they meet. A sharp peak is clipped by an edge.
--- Where the turn is slight, or a point would lie too far away or behind, the corner is bevelled.
-use Rattle.std.specs.Prelude.{ℕ, Bool, ◌&&◌, ◌||◌, List, [], ◌∷◌, ◌/◌, ◌-◌, ◌^◌, min, max, ℤ, pos, ◌+ℤ◌, ◌-ℤ◌, ◌*ℤ◌, unsigned_abs, int_le, int_lt, if◌then◌else◌}
+-- Miters: the moved sections of an outer corner run on to the peak in which they meet. A sharp peak is clipped by an
+-- edge. Where the turn is slight, or a point would lie too far away or behind, the corner is bevelled.
+use Rattle.std.specs.Prelude.{ℕ, Bool, ◌&&◌, ◌||◌, List, [], ◌∷◌, ◌/◌, ◌-◌, ◌^◌, min, max, ℤ, pos, ◌+ℤ◌, ◌-ℤ◌, ◌*ℤ◌}
+use Rattle.std.specs.Prelude.{unsigned_abs, int_le, int_lt, if◌then◌else◌}
 use Rattle.std.specs.List.{list_all}
 use Rattle.std.specs.Ordering.{int_eq}
 use Rattle.mesh_plane.specs.Plane.{Point, Edge, plus, minus, opposite, cross, dot}
@@ -15,7 +16,8 @@ pub record MiterStyle : Type 0 where
   pub angle : ℕ
   pub min_turn : ℕ
 
--- the sharpest angle between two sections that has a peak: the angle asked for, at least 5 degrees and below half a turn
+-- the sharpest angle between two sections that has a peak: the angle asked for, at least 5 degrees and below half a
+-- turn
 abbrev pub sharpest : ℕ → ℕ
 sharpest angle = min (max angle 59652323) (2 ^ 31 - 1)
 
@@ -27,8 +29,8 @@ slightest min_turn = min min_turn (2 ^ 31)
 unfoldable pub half_sharpest : ℕ → Point
 half_sharpest angle = sin_cos (sharpest angle / 2)
 
--- how far a miter reaches from its corner in each coordinate, by the sine of half its sharpest angle: as the peak of that
--- angle does, and 2 for what is lost to rounding
+-- how far a miter reaches from its corner in each coordinate, by the sine of half its sharpest angle: as the peak of
+-- that angle does, and 2 for what is lost to rounding
 abbrev pub reach : ℤ → ℤ → ℤ
 reach sine radius =
     if int_eq radius (pos 0) then pos 0 else rounded_product (pos (unsigned_abs radius)) (pos (2 ^ 30)) sine +ℤ pos 2
@@ -49,8 +51,8 @@ is_slight min_turn j = int_eq (cross j.incoming j.outgoing) (pos 0) || is_angle_
 unfoldable pub is_sharp : ℕ → Joint → Bool
 is_sharp angle j = is_angle_below (sin_cos (sharpest angle)) (opposite j.incoming) j.outgoing
 
--- how far the sections run on before a sharp peak is clipped, so that the ends of the edge that clips it are as far away as
--- the peak of the sharpest angle would be
+-- how far the sections run on before a sharp peak is clipped, so that the ends of the edge that clips it are as far
+-- away as the peak of the sharpest angle would be
 unfoldable pub clip_reach : ℕ → ℤ → ℤ
 clip_reach angle radius = rounded_product radius (half_sharpest angle).1 (half_sharpest angle).0
 

@@ -21,7 +21,8 @@ joint_arc options unit j =
 abbrev pub arc_point : ℕ → Joint → Point → Point
 arc_point unit j d = plus j.center (scaled_direction unit j.radius d)
 
--- the points that are used after `p`: each that is ahead of the one used before it, and behind which the last point lies ahead
+-- the points that are used after `p`: each that is ahead of the one used before it, and behind which the last point
+-- lies ahead
 unfoldable pub used : Joint → Point → List Point → List Point
 used j p [] = []
 used j p (q ∷ points) = if runs_ahead j (p, q) && runs_ahead j (q, j.last) then q ∷ used j q points else used j p points

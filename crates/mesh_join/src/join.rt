@@ -68,8 +68,8 @@ impl<I: IntNumber> Join<I> {
 
     /// Adds the edges of the join round `center` from `a` to `b`, the contact points of the directions before and after
     /// the corner, none where `a` equals `b`, which takes no memory. The edges never turn back round `center`, and stay
-    /// within the padding. Where there is room for them it succeeds, but for a round join, whose arc has a buffer of its own.
-    /// After a refusal the vector is cut back to its old length.
+    /// within the padding. Where there is room for them it succeeds, but for a round join, whose arc has a buffer of
+    /// its own. After a refusal the vector is cut back to its old length.
     ///
     /// The radius, in grid units, is at least 0. Both directions are fresh, and do not turn back from the first to the
     /// second in the sense of the arc. The corner stays in the safe range where it moves by the padding.

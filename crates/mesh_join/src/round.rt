@@ -74,8 +74,8 @@ impl<I: IntNumber> Round<I> {
         }
     }
 
-    /// Adds the edges of the round join at a joint whose points differ. After a refusal the vector is cut back to its old
-    /// length.
+    /// Adds the edges of the round join at a joint whose points differ. After a refusal the vector is cut back to its
+    /// old length.
     pub(crate) fn add(
         &mut self,
         joint: &Joint<I>,
@@ -111,7 +111,8 @@ impl<I: IntNumber> Round<I> {
     }
 }
 
-// Adds the edges from the first point of a joint through those points in these directions that are used to the last point.
+// Adds the edges from the first point of a joint through those points in these directions that are used to the last
+// point.
 fn push_used<I: IntNumber>(
     joint: &Joint<I>,
     directions: &[UnitIntVector<I>],

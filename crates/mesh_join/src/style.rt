@@ -28,8 +28,9 @@ pub enum IntLineJoin {
     /// clipped by an edge whose ends are as far away as the peak of this angle would be. Slight turns are bevelled, and
     /// corners whose peak would turn back or lie past the padding.
     Miter(Angle),
-    /// An arc round the corner, whose directions are at most the greatest step of the options apart, but for the last one
-    /// where the arc broke off. Points that rounding puts behind the one before them are left out, and leave a wider gap.
+    /// An arc round the corner, whose directions are at most the greatest step of the options apart, but for the last
+    /// one where the arc broke off. Points that rounding puts behind the one before them are left out, and leave a
+    /// wider gap.
     Round(ArcOptions),
 }
 
@@ -126,11 +127,11 @@ pub enum IntLineCap<I: IntNumber> {
     Butt,
     /// The edge moved outwards by half the width, and the two edges that lead to it.
     Square,
-    /// An arc round the end, whose directions are at most the greatest step of the options apart. Points that rounding puts
-    /// behind the one before them are left out.
+    /// An arc round the end, whose directions are at most the greatest step of the options apart. Points that rounding
+    /// puts behind the one before them are left out.
     Round(ArcOptions),
-    /// Edges through these points, in grid units, round an end at (0, 0) that looks along the axis x; they are turned to
-    /// the direction in which the end looks. From the right of the path, where y is below 0, they lead to its left.
+    /// Edges through these points, in grid units, round an end at (0, 0) that looks along the axis x; they are turned
+    /// to the direction in which the end looks. From the right of the path, where y is below 0, they lead to its left.
     Custom(RcSlice<IntPoint<I>>),
 }
 

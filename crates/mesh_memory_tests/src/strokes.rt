@@ -133,7 +133,8 @@ fn join(number: u8) -> IntLineJoin {
     }
 }
 
-/// Where there is free room for seven segments a section and six more, the stroke is added, and the room stays as it is.
+/// Where there is free room for seven segments a section and six more, the stroke is added, and the room stays as it
+/// is.
 fn expect_added(
     alloc: Global,
     points: &Vec<IntPoint<i32>>,
@@ -150,7 +151,8 @@ fn expect_added(
     expect_that(!segments.is_empty(), &(points, style))
 }
 
-/// In free room a builder with bevels or miters and butt or square caps is refused nothing: it takes no memory of its own.
+/// In free room a builder with bevels or miters and butt or square caps is refused nothing: it takes no memory of its
+/// own.
 #[test]
 fn building_in_free_room(rt: HostRuntime) -> Result<(), Fail> {
     for spots in PATHS {

@@ -61,8 +61,8 @@ fn told<I: IntNumber>(directions: &[UnitIntVector<I>]) -> (usize, Point) {
     (directions.len(), last)
 }
 
-/// The bits and the precision of the options, the vectors that the arc leads from and to, its sense, how many directions
-/// it has, and the last one, (0, 0) where there is none.
+/// The bits and the precision of the options, the vectors that the arc leads from and to, its sense, how many
+/// directions it has, and the last one, (0, 0) where there is none.
 type Arc = (
     (u32, u32),
     (i32, i32),
@@ -272,8 +272,8 @@ fn expect_alike<I: IntNumber>(
     Ok(())
 }
 
-/// Builds an arc, and once more, and tells how many directions it has. The first build may be refused memory. The second
-/// is not, which is proved from what is promised of the first: there is memory for as many directions.
+/// Builds an arc, and once more, and tells how many directions it has. The first build may be refused memory. The
+/// second is not, which is proved from what is promised of the first: there is memory for as many directions.
 fn built_twice<I: IntNumber>(
     arcs: &mut ArcBuilder<I>,
     from: UnitIntVector<I>,

@@ -74,8 +74,8 @@ fn is_loop(sections: &[UniqueSegment<i32>]) -> bool {
 
 const THERE_AND_BACK: &[(u8, u8)] = &[(0, 0), (5, 0), (10, 0), (5, 0)];
 
-/// Contours, and how many sections they have: of no point, one, equal ones, on a line, and squares with more and more points
-/// on their sides.
+/// Contours, and how many sections they have: of no point, one, equal ones, on a line, and squares with more and more
+/// points on their sides.
 const CONTOURS: &[(&[(u8, u8)], usize)] = &[
     (&[], 0),
     (&[(0, 0)], 0),

@@ -18,8 +18,9 @@ fn direction_of_i32(rt: &impl Abort, x: i64, y: i64) -> Option<UnitIntVector<i32
     IntVector::<i32>::new(x, y).fast_normalize()
 }
 
-// Vectors and their directions, each component the integer square root of `UNIT * UNIT * component * component / length²`,
-// computed apart from this program with Python's whole numbers; half of the rows are ends and edges, half random.
+// Vectors and their directions, each component the integer square root of `UNIT * UNIT * component * component /
+// length²`, computed apart from this program with Python's whole numbers; half of the rows are ends and edges, half
+// random.
 const DIRECTIONS_OF_I16: &[(i32, i32, i16, i16)] = &[
     (1, 0, 16384, 0),
     (0, 1, 0, 16384),
@@ -114,8 +115,8 @@ fn directions_of_i32(rt: HostRuntime) -> Result<(), Fail> {
     expect_equal(&UnitIntVector::<i32>::DENOMINATOR, &1073741824, &"the unit")
 }
 
-// The size of a direction's component for a component of this size, in a vector with this squared length, searched bit by
-// bit as the definition says. Nothing wraps: no product passes 2^125.
+// The size of a direction's component for a component of this size, in a vector with this squared length, searched bit
+// by bit as the definition says. Nothing wraps: no product passes 2^125.
 fn searched_size(unit: u128, square: u128, size: u128) -> u128 {
     let target = unit
         .wrapping_mul(unit)
@@ -209,8 +210,8 @@ fn directions_for_i32_are_those_of_the_search(rt: HostRuntime) -> Result<(), Fai
     Ok(())
 }
 
-/// Vectors, radii, and the directions times these. The first component of the vector (97, 168) has a direction of one half:
-/// its odd multiples are rounded away from 0.
+/// Vectors, radii, and the directions times these. The first component of the vector (97, 168) has a direction of one
+/// half: its odd multiples are rounded away from 0.
 const SCALED_OF_I16: &[(i32, i32, i16, i32, i32)] = &[
     (97, 168, 1, 1, 1),
     (97, 168, -1, -1, -1),

@@ -8,7 +8,7 @@ use Rattle.mesh_num.specs.Segments.{SignedEdge, edges_of, segments_of}
 use Rattle.mesh_shapes.specs.Contours.{double_area}
 use Rattle.mesh_cuts.specs.FillRules.{filled}
 use Rattle.mesh_cuts.specs.Reach.{ArePointsSafe}
-use Rattle.mesh_below.specs.Answers.{IsSettled}
+use Rattle.mesh_below.specs.Answers.{AreOwnBoundary, IsSettled}
 use Rattle.mesh_below.specs.Asked.{AreResolvable}
 use Rattle.mesh_below.specs.Options.{plain}
 use Rattle.mesh_shapes.specs.Resolution.{Choices, IsResolution}
@@ -39,13 +39,15 @@ is_alone unit style fill path old built ss choices answer e f d same resolution 
 }
 
 -- with what the overlay says of it
-pub comes_alone : (unit : ℕ) (style : OffsetJoin) (fill : FillRule) (path : List Point) (old built ss : List SignedEdge) (choices : Choices) (answer : List (List (List Point))) (settled : Bool) →
+pub comes_alone : (unit : ℕ) (style : OffsetJoin) (fill : FillRule) (path : List Point) (old built ss : List SignedEdge) (choices : Choices) (answer : List (List (List Point))) (settled own : Bool) →
     old ≡ [] → ss ≡ built → choices ≡ plain → IsPermutation (added_edges old built) (outline_edges unit style path) →
-    IsResolution (edges_of ss) (filled fill) choices answer → ArePointsSafe unit answer → (settled ≡ true → IsSettled choices answer) → ComesAlone unit style fill path answer settled
-comes_alone unit style fill path old built ss choices answer settled e f d same resolution safe is = record {
+    IsResolution (edges_of ss) (filled fill) choices answer → ArePointsSafe unit answer → (settled ≡ true → IsSettled choices answer) →
+    (own ≡ true → AreOwnBoundary (answer_edges answer)) → ComesAlone unit style fill path answer settled own
+comes_alone unit style fill path old built ss choices answer settled own e f d same resolution safe is bounds = record {
   alone = is_alone unit style fill path old built ss choices answer e f d same resolution;
   safe = safe;
   is_settled = λ t. rw d at (is t);
+  own_boundary = bounds;
 }
 
 -- what a contour gives that moves in this way
@@ -85,12 +87,23 @@ is_outline unit style choices contours ss answer h resolution = record {
 -- ---- one outer boundary
 
 -- what is settled need not be resolved once more
-pub twice_settled : (unit : ℕ) (way : OffsetJoin) (contour : List Point) (answer : List (List (List Point))) →
-    IsAnswerAlone unit way (filled Positive) contour answer → ArePointsSafe unit answer → IsSettled plain answer → IsResolvedTwice unit way contour answer
-twice_settled unit way contour answer alone safe settled = record {
+pub twice_settled : (unit : ℕ) (way : OffsetJoin) (choices : Choices) (contour : List Point) (answer : List (List (List Point))) → choices ≡ plain →
+    IsAnswerAlone unit way (filled Positive) contour answer → ArePointsSafe unit answer → IsSettled plain answer → IsResolvedTwice unit way choices contour answer
+twice_settled unit way choices contour answer d alone safe settled = record {
   first = answer;
   alone = alone;
-  resolution = rw (proper_same (answer_edges answer) settled.proper) settled.resolution;
+  resolution = rw (proper_same (answer_edges answer) settled.proper, d) settled.resolution;
+  safe = safe;
+}
+
+-- edges that are their own boundary need not be split again
+pub twice_arranged : (unit : ℕ) (way : OffsetJoin) (choices : Choices) (contour : List Point) (first answer : List (List (List Point))) →
+    IsAnswerAlone unit way (filled Positive) contour first → AreOwnBoundary (answer_edges first) → IsResolution (answer_edges first) (filled Positive) choices answer → ArePointsSafe unit answer →
+    IsResolvedTwice unit way choices contour answer
+twice_arranged unit way choices contour first answer alone own resolution safe = record {
+  first = first;
+  alone = alone;
+  resolution = rw (proper_same (answer_edges first) own.split.proper) resolution;
   safe = safe;
 }
 
@@ -107,13 +120,13 @@ module _ (unit : ℕ) (first : List (List (List Point))) (old ss : List SignedEd
     safe = rw e (given_safe unit ss (answer_edges first) closed);
   }
 
-  pub twice_anew : (way : OffsetJoin) (contour : List Point) (held : List SignedEdge) (choices : Choices) (answer : List (List (List Point))) → held ≡ ss → choices ≡ plain →
+  pub twice_anew : (way : OffsetJoin) (contour : List Point) (held : List SignedEdge) (choices : Choices) (answer : List (List (List Point))) → held ≡ ss →
       IsAnswerAlone unit way (filled Positive) contour first → IsResolution (edges_of held) (filled Positive) choices answer → ArePointsSafe unit answer →
-      IsResolvedTwice unit way contour answer
-  twice_anew way contour held choices answer e d alone resolution stays = record {
+      IsResolvedTwice unit way choices contour answer
+  twice_anew way contour held choices answer e alone resolution stays = record {
     first = first;
     alone = alone;
-    resolution = rw (given_edges unit ss (answer_edges first) closed) at (rw (e, d) at resolution);
+    resolution = rw (given_edges unit ss (answer_edges first) closed) at (rw e at resolution);
     safe = stays;
   }
 
@@ -132,18 +145,18 @@ outer_way style way e = ap Some (sym e)
 
 -- the outline of a source that is one outer boundary
 pub single_outline : (unit : ℕ) (style : OutlineStyle) (way : OffsetJoin) (choices : Choices) (contours : List (List Point)) (path : List Point) (kinds : List ContourKind) (answer : List (List (List Point))) →
-    kinds ≡ map contour_kind contours → kinds ≡ Outer ∷ [] → path ≡ get_or contours 0 [] → way ≡ outer style → choices ≡ plain →
-    IsResolvedTwice unit way path answer → IsOutline unit style choices contours answer
-single_outline unit style way choices [] path kinds answer k single here w d h = absurd (let e = ap length (sym k ∙ single) in omega (arith, e))
-single_outline unit style way choices (c ∷ c' ∷ cs) path kinds answer k single here w d h = absurd (let e = ap length (sym k ∙ single) in omega (arith, e))
-single_outline unit style way choices (c ∷ []) path kinds answer k single here w d h = record {
+    kinds ≡ map contour_kind contours → kinds ≡ Outer ∷ [] → path ≡ get_or contours 0 [] → way ≡ outer style →
+    IsResolvedTwice unit way choices path answer → IsOutline unit style choices contours answer
+single_outline unit style way choices [] path kinds answer k single here w h = absurd (let e = ap length (sym k ∙ single) in omega (arith, e))
+single_outline unit style way choices (c ∷ c' ∷ cs) path kinds answer k single here w h = absurd (let e = ap length (sym k ∙ single) in omega (arith, e))
+single_outline unit style way choices (c ∷ []) path kinds answer k single here w h = record {
   given = answer_edges h.first;
   give = record {
     edges = answer_edges h.first ∷ [];
     each = (gives, tt);
     joined = sym (append-nil (answer_edges h.first));
   };
-  resolution = rw d h.resolution;
+  resolution = h.resolution;
 }
   where
     kind : contour_kind c ≡ Outer

@@ -24,7 +24,8 @@ use Rattle.mesh_outline.specs.Resolved.{fill_for, IsAnswerAlone, Gives, Give}
 use Rattle.mesh_outline.specs.Staying.{IsSafeAlone, StaysSafe}
 use Rattle.mesh_outline.proofs.Promised.{cleaned_ring, cleaned_listed}
 use Rattle.mesh_outline.proofs.Padding.{outer_accepted, inner_accepted, path_movable, outline_safe}
-use Rattle.mesh_draw.proofs.Resolving.{answer_safe, in_sense_safe}
+use Rattle.mesh_below.proofs.AnswerPoints.{answer_edges_safe}
+use Rattle.mesh_draw.proofs.Resolving.{in_sense_safe}
 use Rattle.mesh_draw.proofs.Staying.{IsSafeEdge, safe_resolving}
 
 -- the edges of an outline are safe, in whatever order
@@ -43,7 +44,7 @@ alone_safe unit style contours least movable =
 answer_alone_safe : (unit : ℕ) (style : OffsetJoin) (fill : ℤ → Bool) (contour : List Point) (answer : List (List (List Point))) → 2 ^ 14 ≤ unit → All (IsMovable unit style) contour →
     IsAnswerAlone unit style fill contour answer → AreEdgesSafe unit (answer_edges answer)
 answer_alone_safe unit style fill contour answer least movable a =
-    answer_safe unit answer (resolution_safe unit a.built fill _ answer a.resolution (built_safe unit style contour least movable a.built a.same)).1
+    answer_edges_safe unit answer (resolution_safe unit a.built fill _ answer a.resolution (built_safe unit style contour least movable a.built a.same)).1
 
 gives_safe : (unit : ℕ) (style : OutlineStyle) (contour : List Point) (edges : List Edge) → 2 ^ 14 ≤ unit → All (IsSafeWidened unit (outline_padding style)) contour →
     Gives unit style contour edges → AreEdgesSafe unit edges

@@ -7,8 +7,8 @@ use Rattle.mesh_cuts.specs.FillRules.{filled}
 use Rattle.mesh_cuts.specs.Reach.{ArePointsSafe}
 use Rattle.mesh_cuts.specs.declared.fill.FillRule.{FillRule}
 use Rattle.mesh_cuts.specs.declared.fill.FillRule.TheVariants.{Positive}
-use Rattle.mesh_shapes.specs.Resolution.{IsResolution}
-use Rattle.mesh_below.specs.Answers.{IsSettled}
+use Rattle.mesh_shapes.specs.Resolution.{Choices, IsResolution}
+use Rattle.mesh_below.specs.Answers.{AreOwnBoundary, IsSettled}
 use Rattle.mesh_below.specs.Options.{plain}
 use Rattle.mesh_join.specs.Styles.{JoinStyle, OffsetJoin, OutlineStyle}
 use Rattle.mesh_draw.specs.Adding.{in_sense, answer_edges}
@@ -52,22 +52,24 @@ abbrev pub AddsInSense : FillRule → List SignedEdge → List SignedEdge → Li
 AddsInSense fill old new edges = new ≡ old ++ segments_of (in_sense fill edges)
 
 -- what comes of one contour that moves so and is resolved alone: an answer, in the safe range, which is settled where
--- `settled` is true
+-- `settled` is true, and whose edges are their own boundary where `own` is true
 pub record ComesAlone (unit : ℕ) (way : OffsetJoin) (fill : FillRule) (contour : List Point)
-    (answer : List (List (List Point))) (settled : Bool) : Type 0 where
+    (answer : List (List (List Point))) (settled own : Bool) : Type 0 where
   pub alone : IsAnswerAlone unit way (filled fill) contour answer
   pub safe : ArePointsSafe unit answer
   pub is_settled : settled ≡ true → IsSettled plain answer
+  pub own_boundary : own ≡ true → AreOwnBoundary (answer_edges answer)
 
--- the edges of what comes of one outer boundary that moves so are resolved once more, with the default options
-pub record IsResolvedTwice (unit : ℕ) (way : OffsetJoin) (contour : List Point) (answer : List (List (List Point)))
-    : Type 0 where
+-- the edges of what comes of one outer boundary that moves so are resolved once more, with these choices
+pub record IsResolvedTwice (unit : ℕ) (way : OffsetJoin) (choices : Choices) (contour : List Point)
+    (answer : List (List (List Point))) : Type 0 where
   pub first : List (List (List Point))
   pub alone : IsAnswerAlone unit way (filled Positive) contour first
-  pub resolution : IsResolution (proper_edges (answer_edges first)) (filled Positive) plain answer
+  pub resolution : IsResolution (proper_edges (answer_edges first)) (filled Positive) choices answer
   pub safe : ArePointsSafe unit answer
 
--- the vector `new` holds what `old` held, and then the segments of the answer of one contour that moves so, closed and safe
+-- the vector `new` holds what `old` held, and then the segments of the answer of one contour that moves so, closed and
+-- safe
 abbrev pub AddsAnswer : ℕ → OffsetJoin → FillRule → List Point → List SignedEdge → List SignedEdge → Type 0
 AddsAnswer unit way fill contour old new =
     (answer : List (List (List Point))) × IsAnswerAlone unit way (filled fill) contour answer

@@ -35,9 +35,10 @@ pub record IsAnswerAlone (unit : ℕ) (style : OffsetJoin) (fill : ℤ → Bool)
 abbrev pub fill_for : ℤ → FillRule
 fill_for area = kind_fill (kind_for area)
 
--- the edges that a contour gives to the outline. An outer boundary moves by the outer offset, what is wound round in its
--- sense is filled, and it gives the contours of its answer. A hole moves by the inner offset, what is wound round in its
--- sense is filled, and it gives the contours of its answer the other way about. A contour of area 0 gives nothing
+-- the edges that a contour gives to the outline. An outer boundary moves by the outer offset, what is wound round in
+-- its sense is filled, and it gives the contours of its answer. A hole moves by the inner offset, what is wound round
+-- in its sense is filled, and it gives the contours of its answer the other way about. A contour of area 0 gives
+-- nothing
 pub data Gives (unit : ℕ) (style : OutlineStyle) (contour : List Point) : List Edge → Type 0 where
   moved : {way : OffsetJoin} {answer : List (List (List Point))} → style_for style (double_area contour) ≡ Some way
       → IsAnswerAlone unit way (filled (fill_for (double_area contour))) contour answer

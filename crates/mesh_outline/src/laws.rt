@@ -1,6 +1,7 @@
 //! Laws of outlines. Each function does nothing: its clause is the law.
 
-ghost use Rattle.mesh_outline.specs.Laws.{OutlinesAreDrawn, OutlinesStaySafe, FinalEdgesAreBalanced, OutlinesAreRegions, AnswersAloneAreRegions};
+ghost use Rattle.mesh_outline.specs.Laws.{OutlinesAreDrawn, OutlinesStaySafe, FinalEdgesAreBalanced};
+ghost use Rattle.mesh_outline.specs.Laws.{OutlinesAreRegions, AnswersAloneAreRegions};
 
 /// The edges of each contour's outline are balanced, near its vertices, and wind as the count of its pieces says.
 pub fn outlines_are_drawn()

@@ -1,4 +1,5 @@
--- Laws of crossings, windings, balance and rounded quotients. The function of the same name in the module `laws` carries each.
+-- Laws of crossings, windings, balance and rounded quotients. The function of the same name in the module `laws`
+-- carries each.
 use Rattle.std.specs.Prelude.{ℕ, ◌≡◌, [], ◌∷◌, pos, ◌≤ℤ◌, List, ℤ, ◌-ℤ◌, ◌+◌, ◌*◌, ◌<◌, ◌≤◌, unsigned_abs, neg_ℤ}
 use Rattle.mesh_plane.specs.Plane.{Point, turn, plus, Edge, dot, length_sq}
 use Rattle.mesh_plane.specs.Winding.{crossing_on, IsOdd, IsStraight, winding, boundary, IsBit, IsBalanced, sum_of}
@@ -38,7 +39,8 @@ ClosedListsTelescope = (f : Point → ℤ) (points : List Point) → sum_of (λ 
 abbrev pub LengthsAreProducts : Type 0
 LengthsAreProducts = (v : Point) → dot v v ≡ pos (length_sq v)
 
--- `k` is the whole number next to `a / d`, on the same side of 0 and at most a half away; of two that are a half away the one farther from 0
+-- `k` is the whole number next to `a / d`, on the same side of 0 and at most a half away; of two that are a half away
+-- the one farther from 0
 pub record IsNearest (a : ℤ) (d : ℕ) (k : ℤ) : Type 0 where
   pub sign : HasSignOf a k
   pub at_most : 2 * (unsigned_abs k * d) ≤ 2 * unsigned_abs a + d

@@ -1,5 +1,6 @@
 -- Crossings, windings, closed lists and balance, over pairs of whole numbers.
-use Rattle.std.specs.Prelude.{ℕ, ◌≡◌, ◌⊎◌, Bool, cond, ◌&&◌, not, List, [], ◌∷◌, ℤ, pos, negsuc, ◌+ℤ◌, ◌*ℤ◌, count_by, int_le, int_lt}
+use Rattle.std.specs.Prelude.{ℕ, ◌≡◌, ◌⊎◌, Bool, cond, ◌&&◌, not, List, [], ◌∷◌, ℤ, pos, negsuc, ◌+ℤ◌, ◌*ℤ◌, count_by}
+use Rattle.std.specs.Prelude.{int_le, int_lt}
 use Rattle.std.specs.Ordering.{int_eq}
 use Rattle.mesh_plane.specs.Plane.{Point, Edge, turn}
 
@@ -13,7 +14,8 @@ abbrev pub total : (Point → Point → ℤ) → List Edge → ℤ
 total f es = sum_of (λ (e : Edge). f e.0 e.1) es
 
 -- how an edge with ends at the heights `a` and `b` crosses the ray that runs from a point of height `h` to the east,
--- where `t` is the turn of the point from the edge: 1 upwards and -1 downwards, with the point on the edge's left or right
+-- where `t` is the turn of the point from the edge: 1 upwards and -1 downwards, with the point on the edge's left or
+-- right
 abbrev pub crossing_of : ℤ → ℤ → ℤ → ℤ → ℤ
 crossing_of a b h t =
     cond (int_le a h && int_lt h b)

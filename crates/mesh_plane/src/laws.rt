@@ -1,6 +1,9 @@
 //! Laws of crossings, windings, closed lists and rounded quotients. Each function does nothing: its clause is the law.
 
-ghost use Rattle.mesh_plane.specs.Laws.{CrossingsAreOdd, CrossingsAddAlongLines, FlatTrianglesDoNotWind, TrianglesWindOnce, ParallelogramsWindOnce, ClosedListsBalance, ClosedListsTelescope, LengthsAreProducts, RoundedIsNearest, RoundedIsOdd, RoundedIsMonotone};
+ghost use Rattle.mesh_plane.specs.Laws.{CrossingsAreOdd, CrossingsAddAlongLines, FlatTrianglesDoNotWind};
+ghost use Rattle.mesh_plane.specs.Laws.{TrianglesWindOnce, ParallelogramsWindOnce, ClosedListsBalance};
+ghost use Rattle.mesh_plane.specs.Laws.{ClosedListsTelescope, LengthsAreProducts, RoundedIsNearest, RoundedIsOdd};
+ghost use Rattle.mesh_plane.specs.Laws.{RoundedIsMonotone};
 
 /// An edge and the same edge back cross nothing together.
 pub fn crossings_are_odd()

@@ -1,6 +1,8 @@
 -- What a request says, as data of JSON. Coordinates are of a type with `unit`, which holds the whole numbers from
 -- `-2 * unit` on that are below `2 * unit`; areas are of one that holds those without sign below `16 * unit * unit`.
-use Rattle.std.specs.Prelude.{ℕ, ◌*◌, ◌^◌, ◌&&◌, Bool, false, if◌then◌else◌, ℤ, pos, neg_ℤ, int_le, int_lt, nat_eq, nat_lt, suc, List, [], ◌∷◌, codes, Option, Some, None, is_some, option_map, option_and_then}
+use Rattle.std.specs.Prelude.{ℕ, ◌*◌, ◌^◌, ◌&&◌, Bool, false, if◌then◌else◌, ℤ, pos, neg_ℤ, int_le, int_lt, nat_eq}
+use Rattle.std.specs.Prelude.{nat_lt, suc, List, [], ◌∷◌, codes, Option, Some, None, is_some, option_map}
+use Rattle.std.specs.Prelude.{option_and_then}
 use Rattle.std.specs.Str.{bytes_eq}
 use Rattle.serde_json.specs.Data.{Data, Items, no_items, item, Members, no_members, member}
 use Rattle.serde_json.specs.Find.{get, as_number, as_i64, as_u64, as_bool, as_str, as_array, as_object}
@@ -16,7 +18,8 @@ use Rattle.mesh_join.specs.declared.style.IntLineJoin.TheVariants.{Bevel, Miter,
 use Rattle.mesh_cap.specs.Caps.{CapKind}
 use Rattle.mesh_draw.specs.Radii.{radius_of}
 use Rattle.mesh_stroke.specs.Styles.{StrokeStyle}
-use Rattle.mesh_request.specs.Requests.{Drawn, as_outline, as_stroke, as_variable_stroke, Asked, for_edges, for_shapes, Request}
+use Rattle.mesh_request.specs.Requests.{Drawn, as_outline, as_stroke, as_variable_stroke, Asked, for_edges, for_shapes}
+use Rattle.mesh_request.specs.Requests.{Request}
 use Rattle.mesh_request.specs.declared.failure.Failure.{Failure}
 use Rattle.mesh_request.specs.declared.failure.Failure.TheVariants.{Unreadable, Refused}
 

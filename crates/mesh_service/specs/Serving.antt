@@ -1,5 +1,6 @@
 -- What the service answers to a request.
-use Rattle.std.specs.Prelude.{ℕ, ◌≡◌, List, ◌++◌, Option, Some, None, Result, Ok, Err, IfSome, IsUtf8, option_and_then, if◌then◌else◌}
+use Rattle.std.specs.Prelude.{ℕ, ◌≡◌, List, ◌++◌, Option, Some, None, Result, Ok, Err, IfSome, IsUtf8, option_and_then}
+use Rattle.std.specs.Prelude.{if◌then◌else◌}
 use Rattle.std.specs.Io.KnownBytes.{Appends, IsAtEnd}
 use Rattle.std.specs.Ordering.{int_cmp}
 use Rattle.std.specs.declared.alloc.Global.{Global}
@@ -47,8 +48,8 @@ TellsRefusal (Ok line) = ⊥
 TellsRefusal (Err Unreadable) = ⊥
 TellsRefusal (Err (Refused error)) = Unit {0}
 
--- the lines that may be written where the reader has these bytes left, as far as they are known: an answer to them; the line
--- of a refusal, where they may not be answered; that of a want of memory; and that of what is unreadable
+-- the lines that may be written where the reader has these bytes left, as far as they are known: an answer to them; the
+-- line of a refusal, where they may not be answered; that of a want of memory; and that of what is unreadable
 pub data IsReply (left : Option (List ℕ)) : List ℕ → Type 0 where
   answer : {request line : List ℕ} → IfSome left (λ bytes. request ≡ bytes) → IsAnswer request line → IsReply left line
   refusal : {request : List ℕ} → IfSome left (λ bytes. request ≡ bytes) → IsRefused request → IsReply left (failure_line (Refused CoordinateOutOfRange))

@@ -6,7 +6,8 @@ ghost use Rattle.serde_json.specs.Find.{of_integer};
 ghost use Rattle.serde_json.specs.View.{view};
 ghost use Rattle.serde_json.specs.Written.{has_float};
 ghost use Rattle.mesh_num.specs.Paths.{paths_of, shapes_of};
-ghost use Rattle.mesh_service.specs.Lines.{point_data, edge_data, list_data, only_member, line_text, edges_text, shapes_text};
+ghost use Rattle.mesh_service.specs.Lines.{point_data, edge_data, list_data, only_member, line_text, edges_text};
+ghost use Rattle.mesh_service.specs.Lines.{shapes_text};
 
 use crate::edge::DirectedEdge;
 use mesh_num::num::convert::widen;

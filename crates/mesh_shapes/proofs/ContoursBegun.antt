@@ -16,7 +16,7 @@ use Rattle.mesh_plane.proofs.Whole.{linear, mul_both_neg, mul_neg_pos, pos_of_mu
 use Rattle.mesh_plane.proofs.Ring.{ring, var, ◌⊕◌, ◌⊖◌, ◌⊗◌}
 use Rattle.mesh_plane.proofs.ClosedLists.{boundary_rotated}
 use Rattle.mesh_plane.specs.Ways.{turns_at, first_or, last_of}
-use Rattle.mesh_shapes.specs.Contours.{turning_points, kept, next_kept, vertices, edge_lt, FirstIsLeast, IsBegun, side_point, IsRingOf}
+use Rattle.mesh_shapes.specs.Contours.{turning_points, kept, next_kept, vertices, edge_lt, FirstIsLeast, IsBegun, side_point, left_out, StartsOnce, IsRingOf, IsRingAmong}
 use Rattle.mesh_cuts.specs.Counted.{bit}
 use Rattle.mesh_shapes.specs.Midway.Progress.{point_at, next_at, IsBestVisit, IsLeastBefore}
 use Rattle.mesh_cuts.proofs.Each.{Each, each_more}
@@ -372,6 +372,16 @@ ring_made all given c₀ c₁ vs side j i proper least first best second v s = r
     begin_at c p t e b h n =
         subst (λ (l : List Point). IsBegun all (drop i l ++ take i l)) (sym e)
         (best_begun all p (drop (suc j) given ++ t) i n (subst (λ (l : List Point). Each Proper (boundary l)) e h) (subst (λ (l : List Point). IsBestVisit all l (length l) i) e b))
+
+-- and what edges start at the points that it leaves out
+pub ring_among : (all lone : Bool) (edges : List Edge) (given c₀ c₁ vs : List Point) (side : Point) (j i : ℕ) → (proper : All (λ (e : Edge). same_point e.0 e.1 ≡ false) (boundary given)) →
+    (least : IsLeastBefore given (length given) j) → (first : c₀ ≡ drop j given ++ take j given) → (best : IsBestVisit all c₀ (length c₀) i) → (second : c₁ ≡ drop i c₀ ++ take i c₀) →
+    (v : vs ≡ vertices all c₁) → (s : side ≡ side_point c₁) → (lone ≡ true → All (StartsOnce edges) (left_out all c₁)) → IsRingAmong all edges given (vs, side) lone
+unfolding ring_made
+ring_among all lone edges given c₀ c₁ vs side j i proper least first best second v s once = record {
+  is_ring = ring_made all given c₀ c₁ vs side j i proper least first best second v s;
+  starts_once = once;
+}
 
 -- ---- steps of the loops over a contour
 pub at_place : (c : List Point) (i : ℕ) → i < length c → drop i c ≡ point_at c i ∷ drop (i + 1) c

@@ -4,6 +4,7 @@ pub mod ContoursKept
 pub mod Groups
 pub mod HolderRows
 pub mod HolderSearch
+pub mod LeftOut
 pub mod Shapes
 pub mod Taking
 pub mod Walking

@@ -1,5 +1,5 @@
 -- Closed contours: the vertices that are answered, where a contour begins, its area and its side point.
-use Rattle.std.specs.Prelude.{◌≡◌, Bool, false, cond, ◌&&◌, ◌||◌, List, [], ◌∷◌, reverse, ℤ, pos}
+use Rattle.std.specs.Prelude.{◌≡◌, ◌≤◌, Bool, true, false, cond, ◌&&◌, ◌||◌, List, [], ◌∷◌, reverse, ℤ, pos, count_by}
 use Rattle.std.specs.List.{All}
 use Rattle.mesh_plane.specs.Plane.{Point, Edge, plus, cross}
 use Rattle.mesh_plane.specs.Order.{point_lt}
@@ -23,6 +23,24 @@ next_kept all a xs z = first_or z (kept all a xs z)
 abbrev pub vertices : Bool → List Point → List Point
 vertices all [] = []
 vertices all (p ∷ xs) = p ∷ kept all p xs p
+
+-- of the list, the points at which the way from `a` by all of them to `z` runs straight through
+abbrev pub straight_points : Point → List Point → Point → List Point
+straight_points a [] z = []
+straight_points a (x ∷ xs) z = cond (turns_at a x (first_or z xs)) (straight_points x xs z) (x ∷ straight_points x xs z)
+
+-- the points of the list that are left out: none, or those that the way runs straight through
+abbrev pub omitted : Bool → Point → List Point → Point → List Point
+omitted all a xs z = cond all [] (straight_points a xs z)
+
+-- the points of a closed contour that its vertices leave out
+abbrev pub left_out : Bool → List Point → List Point
+left_out all [] = []
+left_out all (p ∷ xs) = omitted all p xs p
+
+-- at most one of the edges starts at the point
+abbrev pub StartsOnce : List Edge → Point → Type 0
+StartsOnce es p = count_by (λ (e : Edge). same_point p e.0) es ≤ 1
 
 -- an edge that starts at a lesser point, or at the same point and ends at a lesser one
 abbrev pub edge_lt : Edge → Edge → Bool
@@ -65,3 +83,10 @@ pub record IsRingOf (all : Bool) (given : List Point) (ring : List Point × Poin
   pub begun : IsBegun all contour
   pub vertices_are : ring.0 ≡ vertices all contour
   pub side_is : ring.1 ≡ side_point contour
+
+-- the same, and where `lone` is true, at most one of these edges starts at each point that the contour's vertices leave
+-- out
+pub record IsRingAmong (all : Bool) (edges : List Edge) (given : List Point) (ring : List Point × Point) (lone : Bool)
+    : Type 0 where
+  pub is_ring : IsRingOf all given ring
+  pub starts_once : lone ≡ true → All (StartsOnce edges) (left_out all is_ring.contour)

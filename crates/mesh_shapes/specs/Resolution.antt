@@ -1,5 +1,6 @@
 -- What the overlay answers: a resolution of directed edges by a fill rule and options.
-use Rattle.std.specs.Prelude.{ℕ, ◌≡◌, ◌*◌, Bool, true, false, cond, not, ◌&&◌, ◌||◌, List, [], ◌∷◌, map, ℤ, pos, int_lt, nat_le, unsigned_abs}
+use Rattle.std.specs.Prelude.{ℕ, ◌≡◌, ◌*◌, Bool, true, false, cond, not, ◌&&◌, ◌||◌, List, [], ◌∷◌, map, ℤ, pos, int_lt}
+use Rattle.std.specs.Prelude.{nat_le, unsigned_abs}
 use Rattle.std.specs.Ordering.{int_eq}
 use Rattle.std.specs.List.{All, filter, list_any, flat_map, enumerate_from}
 use Rattle.std.specs.List.Sorted.{IsSortedBy, IsPermutation}

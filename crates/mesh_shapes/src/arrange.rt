@@ -1,7 +1,8 @@
 //! Shapes of rings: order and grouping.
 
 ghost use Rattle.std.specs.Prelude.{◌≡◌, ◌≢◌, ◌⊎◌, ℕ, ◌+◌, ◌*◌, ◌^◌, ◌<◌, ◌≤◌, Bool, true, false, not, ◌&&◌, cond};
-ghost use Rattle.std.specs.Prelude.{List, [], ◌∷◌, ◌++◌, map, length, take, drop, reverse, slice_index_or, nat_le, nat_eq};
+ghost use Rattle.std.specs.Prelude.{List, [], ◌∷◌, ◌++◌, map, length, take, drop, reverse, slice_index_or, nat_le};
+ghost use Rattle.std.specs.Prelude.{nat_eq};
 ghost use Rattle.std.specs.Prelude.{unsigned_abs, int_lt, pos, IfOk, OnOk, MatchOption, Vec};
 ghost use Rattle.std.specs.declared.alloc.Global.{Global};
 ghost use Rattle.std.specs.Option.{ForSome};

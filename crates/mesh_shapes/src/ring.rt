@@ -1,19 +1,22 @@
 //! What is answered of a contour: its vertices from its start on, and its side point.
 
-ghost use Rattle.std.specs.Prelude.{◌≡◌, ◌≢◌, ℕ, ◌+◌, ◌^◌, ◌<◌, ◌≤◌, ◌||◌, Bool, false, List, [], ◌∷◌, ◌++◌, ℤ, length};
+ghost use Rattle.std.specs.Prelude.{◌≡◌, ◌≢◌, ℕ, ◌+◌, ◌^◌, ◌<◌, ◌≤◌, ◌||◌, Bool, true, false, List, [], ◌∷◌, ◌++◌, ℤ};
+ghost use Rattle.std.specs.Prelude.{length};
 ghost use Rattle.std.specs.Prelude.{take, drop, IfOk, OnOk};
 ghost use Rattle.std.specs.List.{All};
 ghost use Rattle.mesh_plane.specs.Bounds.{IsSmall, IsSafe};
 ghost use Rattle.mesh_plane.specs.Plane.{Point, Edge, dot, cross};
 ghost use Rattle.mesh_plane.specs.Winding.{boundary, same_point};
 ghost use Rattle.mesh_plane.specs.Ways.{turns_at, first_or};
-ghost use Rattle.mesh_shapes.specs.Contours.{kept, vertices, side_point, IsRingOf};
+ghost use Rattle.mesh_shapes.specs.Contours.{kept, left_out, omitted, vertices, side_point, StartsOnce, IsRingAmong};
+ghost use Rattle.mesh_shapes.specs.Vectors.{StartsInOrder};
 ghost use Rattle.mesh_shapes.specs.Midway.Progress.{point_at, next_at, IsBestVisit, IsLeastBefore, point_after};
-ghost use Rattle.mesh_shapes.specs.Midway.Progress.{kept_after};
+ghost use Rattle.mesh_shapes.specs.Midway.Progress.{kept_after, omitted_after};
 
+use crate::walk::starts_once;
 use mesh_cuts::exact::{cross, is_before, minus, product, same_point};
 use mesh_cuts::fine::{FinePoint, middle};
-use mesh_cuts::grid::GridPoint;
+use mesh_cuts::grid::{GridEdge, GridPoint};
 use std::alloc::{AllocError, Global};
 
 /// The vertices of a contour, and the midpoint of its first edge on the grid that is twice as fine.
@@ -168,6 +171,38 @@ fn vertices(alloc: Global, contour: &[GridPoint], all: bool) -> Result<Vec<GridP
     Ok(points)
 }
 
+/// Whether the point at a place is answered, or at most one of the edges starts at it.
+fn may_leave(
+    contour: &[GridPoint],
+    all: bool,
+    before: GridPoint,
+    i: usize,
+    ordered: &[GridEdge],
+) -> bool
+    requires in_range { i < length contour.now }
+    requires ordered { StartsInOrder ordered.now }
+    ensures { result ≡ true → All (StartsOnce ordered.now) (omitted_after all (point_at contour.now i) contour.now i)
+        → All (StartsOnce ordered.now) (omitted all before (drop i contour.now) (point_at contour.now 0)) }
+{
+    is_kept(contour, all, before, i) || starts_once(ordered, contour[i])
+}
+
+/// Whether at most one of the edges starts at each point that the vertices leave out.
+fn leaves_lone_points(contour: &[GridPoint], all: bool, ordered: &[GridEdge]) -> bool
+    requires has_points { 0 < length contour.now }
+    requires ordered { StartsInOrder ordered.now }
+    ensures { result ≡ true → All (StartsOnce ordered.now) (left_out all contour.now) }
+{
+    let mut before = contour[0];
+    for i in 1..contour.len() {
+        if !may_leave(contour, all, before, i, ordered) {
+            return false;
+        }
+        before = contour[i];
+    }
+    true
+}
+
 fn side_point(contour: &[GridPoint]) -> FinePoint
     requires { 0 < length contour.now }
     ensures { result ≡ side_point contour.now }
@@ -175,14 +210,22 @@ fn side_point(contour: &[GridPoint]) -> FinePoint
     middle((contour[0], following(contour, 0)))
 }
 
-/// The ring of a contour, from the contour's start on.
-pub fn ring_of(alloc: Global, mut contour: Vec<GridPoint>, all: bool) -> Result<Ring, AllocError>
+/// The ring of a contour, from the contour's start on, and whether at most one of the edges, which stand in the order
+/// of their starts, starts at each point that it leaves out.
+pub fn ring_of(
+    alloc: Global,
+    mut contour: Vec<GridPoint>,
+    all: bool,
+    ordered: &[GridEdge],
+) -> Result<(Ring, bool), AllocError>
     requires has_points { 0 < length contour.items }
     requires proper { All (λ (e : Edge). same_point e.0 e.1 ≡ false) (boundary contour.items) }
-    ensures { IfOk result (λ r. IsRingOf all contour.items (r.0.items, r.1)) }
+    requires ordered { StartsInOrder ordered.now }
+    ensures { IfOk result (λ r. IsRingAmong all ordered.now contour.items (r.0.0.items, r.0.1) r.1) }
 {
     contour.rotate_left(least_place(&contour));
     contour.rotate_left(start_place(&contour, all));
     let side = side_point(&contour);
-    Ok((vertices(alloc, &contour, all)?, side))
+    let is_lone = leaves_lone_points(&contour, all, ordered);
+    Ok(((vertices(alloc, &contour, all)?, side), is_lone))
 }

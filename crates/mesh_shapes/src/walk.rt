@@ -6,6 +6,7 @@ ghost use Rattle.mesh_plane.specs.Order.{point_lt};
 ghost use Rattle.mesh_plane.specs.Plane.{Point, Edge};
 ghost use Rattle.mesh_plane.specs.Winding.{sum_of, boundary, IsBalanced};
 ghost use Rattle.mesh_cuts.specs.Boundary.{count};
+ghost use Rattle.mesh_shapes.specs.Contours.{StartsOnce};
 ghost use Rattle.mesh_shapes.specs.Vectors.{HavePoints, StartsInOrder, contour_edges};
 ghost use Rattle.mesh_shapes.specs.Midway.Unused.{unused, IsOpen, IsNext, TakesContours};
 
@@ -224,14 +225,24 @@ fn contours_of(
     Ok(contours)
 }
 
-/// Closed contours that together have the edges, each once. None is without a point.
-pub fn contours(alloc: Global, edges: Vec<GridEdge>) -> Result<Vec<Vec<GridPoint>>, AllocError>
-    requires { IsBalanced edges.items }
-    ensures edges { IfOk result (λ v. (e : Edge) → count e (contour_edges v.items) ≡ count e edges.items) }
+/// Closed contours that together have the edges, which stand in the order of their starts, each once. None is without a
+/// point.
+pub fn contours(alloc: Global, ordered: &[GridEdge]) -> Result<Vec<Vec<GridPoint>>, AllocError>
+    requires ordered { StartsInOrder ordered.now }
+    requires balanced { IsBalanced ordered.now }
+    ensures edges { IfOk result (λ v. (g : Edge → ℤ) → sum_of g (contour_edges v.items) ≡ sum_of g ordered.now) }
     ensures have_points { IfOk result (λ v. HavePoints v.items) }
 {
-    let ordered = in_order(edges);
     let mut used = vec![in alloc; false; ordered.len()]?;
-    let contours = contours_of(alloc, &ordered, &mut used)?;
+    let contours = contours_of(alloc, ordered, &mut used)?;
     Ok(contours)
+}
+
+/// Whether at most one of the edges, which stand in the order of their starts, starts at the point.
+pub fn starts_once(ordered: &[GridEdge], at: GridPoint) -> bool
+    requires { StartsInOrder ordered.now }
+    ensures { result ≡ true → StartsOnce ordered.now at }
+{
+    let next = first_from(ordered, at) + 1;
+    next >= ordered.len() || !same_point(ordered[next].0, at)
 }

@@ -19,7 +19,8 @@ SidesAreConstant =
     (es : List Edge) → AreSplit es → (e : Edge) → occurs e es ≡ true
     → (m : ℕ) → 0 < m → (q : Point) → IsInside (refined_edge m e) q → winding m q es ≡ winding_beside es e
 
--- the winding on a segment's right is that at its start, on every grid, and the net count of what leaves the start before it
+-- the winding on a segment's right is that at its start, on every grid, and the net count of what leaves the start
+-- before it
 abbrev pub SidesFollowFromEnds : Type 0
 SidesFollowFromEnds =
     (es : List Edge) → AreSplit es → (e : Edge) → occurs e es ≡ true
@@ -29,7 +30,7 @@ SidesFollowFromEnds =
 abbrev pub SegmentsHaveNeighbours : Type 0
 SegmentsHaveNeighbours = (es : List Edge) → AreSplit es → (s : Edge) → occurs s es ≡ true → (t : Edge) × AreNeighbours es s t
 
--- where two segments at a vertex neighbour in angle, the sides that face each other have one winding: the left of the first
--- and the right of the second, counterclockwise
+-- where two segments at a vertex neighbour in angle, the sides that face each other have one winding: the left of the
+-- first and the right of the second, counterclockwise
 abbrev pub FacingSidesAgree : Type 0
 FacingSidesAgree = (es : List Edge) → AreSplit es → (s t : Edge) → AreNeighbours es s t → left_winding es s ≡ right_winding es t

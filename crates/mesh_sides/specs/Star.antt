@@ -7,7 +7,8 @@ use Rattle.mesh_cuts.specs.Counted.{bit}
 use Rattle.mesh_cuts.specs.Split.{back, occurs}
 
 -- of two edges that leave one point, the first comes before the second, counterclockwise from the east: those that rise
--- come before those that do not, and of two alike the one that has the other on its left; so an edge to the east is the last
+-- come before those that do not, and of two alike the one that has the other on its left; so an edge to the east is the
+-- last
 abbrev pub comes_before : Edge → Edge → Bool
 comes_before e s =
     cond (rises e)

@@ -1,4 +1,5 @@
--- Sines and cosines of angles, in whole numbers. A full turn has 2 ^ 32 bits. A pair is a cosine and a sine, both times `one`.
+-- Sines and cosines of angles, in whole numbers. A full turn has 2 ^ 32 bits. A pair is a cosine and a sine, both times
+-- `one`.
 use Rattle.std.specs.Prelude.{ℕ, zero, suc, ◌+◌, ◌-◌, ◌*◌, ◌/◌, ◌%◌}
 use Rattle.std.specs.Prelude.{◌^◌, ◌≤◌, min, pos, neg_ℤ, nat_eq, nat_le, if◌then◌else◌}
 use Rattle.mesh_plane.specs.Plane.{Point, length_sq}

@@ -7,8 +7,9 @@ use Rattle.mesh_cuts.specs.Reach.{AreEdgesSafe}
 use Rattle.mesh_cuts.specs.Split.{occurs, Cut, after, path, IsLegal}
 use Rattle.mesh_cuts.specs.Splitting.{IsPathOf, ComesFrom}
 
--- each edge has become a path in its own box that never goes back in x nor in y, each split segment is part of such a path of a
--- given edge, and what holds of the given edges holds of the split segments: they differ in their ends, are safe, are balanced
+-- each edge has become a path in its own box that never goes back in x nor in y, each split segment is part of such a
+-- path of a given edge, and what holds of the given edges holds of the split segments: they differ in their ends, are
+-- safe, are balanced
 pub record KeepsEdges (given : List Edge) (cuts : List Cut) : Type 0 where
   pub paths : (e : Edge) → IsPathOf e (path cuts e)
   pub boxed : (segment : Edge) → occurs segment (after cuts given) ≡ true → ComesFrom given cuts segment

@@ -289,8 +289,8 @@ fn work(edges: &[GridEdge], cut: Cut) -> usize {
 }
 
 /// The cut in the middle, along an axis or along an edge, that leaves least to search, where that is at most four
-/// fifths of what there was: so what reaches both sides is listed not much more often. Where one leaves three fifths, no
-/// other is tried.
+/// fifths of what there was: so what reaches both sides is listed not much more often. Where one leaves three fifths,
+/// no other is tried.
 fn best_cut(alloc: Global, edges: &[GridEdge]) -> Result<Option<Cut>, AllocError> {
     let some = sample(alloc, edges)?;
     let whole = some.len().saturating_mul(some.len());

@@ -299,8 +299,9 @@ fn worked_loops(rt: HostRuntime) -> Result<(), Fail> {
     Ok(())
 }
 
-/// The arc round the second vertex of the first loop of `i16` has 34 directions, of which all but the last are used: its
-/// point falls behind the one before it. The builder's edges run through the points of the others, and not through it.
+/// The arc round the second vertex of the first loop of `i16` has 34 directions, of which all but the last are used:
+/// its point falls behind the one before it. The builder's edges run through the points of the others, and not through
+/// it.
 #[test]
 fn a_point_that_falls_behind(rt: HostRuntime) -> Result<(), Fail> {
     let corner = Corner {

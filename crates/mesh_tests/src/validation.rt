@@ -90,8 +90,8 @@ fn large_paths(rt: HostRuntime) -> Result<(), Fail> {
     Ok(())
 }
 
-/// A coordinate, an outer and an inner offset, and whether a point with it may be moved with miters of an eighth of a turn:
-/// offsets of 1024 and 1 reach as far as 2678 and 5.
+/// A coordinate, an outer and an inner offset, and whether a point with it may be moved with miters of an eighth of a
+/// turn: offsets of 1024 and 1 reach as far as 2678 and 5.
 const MITERED: &[(i16, i16, i16, Result<(), IntOutlineError>)] = &[
     (13_705, 1024, 0, YES),
     (13_706, 1024, 0, NO),

@@ -152,6 +152,70 @@ fn least_area_of_the_whole(rt: HostRuntime) -> Result<(), Fail> {
     Ok(())
 }
 
+/// A square with a vertex inside its lower side.
+const STRAIGHT: Row = &[(0, 0), (2, 0), (4, 0), (4, 4), (0, 4)];
+
+/// The same, with a triangle hung up there.
+const HUNG_UP: Row = &[
+    (0, 0),
+    (2, 0),
+    (1, -2),
+    (3, -2),
+    (2, 0),
+    (4, 0),
+    (4, 4),
+    (0, 4),
+];
+
+/// One contour, the least area, whether outer contours run clockwise, whether vertices stay that contours run straight
+/// through, and its outline. Alone the contour is resolved without these options, so the vertex inside the side comes
+/// back where the triangle touches it, and else not.
+const ALONE: &[(Row, (u64, bool, bool), &[&[Row]])] = &[
+    (STRAIGHT, (0, false, true), &[&[outer!(0, 0, 4, 4)]]),
+    (STRAIGHT, (16, true, true), &[&[inner!(0, 0, 4, 4)]]),
+    (STRAIGHT, (17, false, false), &[]),
+    (
+        HUNG_UP,
+        (0, true, false),
+        &[&[inner!(0, 0, 4, 4)], &[&[(1, -2), (2, 0), (3, -2)]]],
+    ),
+    (
+        HUNG_UP,
+        (0, false, true),
+        &[
+            &[&[(0, 0), (2, 0), (4, 0), (4, 4), (0, 4)]],
+            &[&[(1, -2), (3, -2), (2, 0)]],
+        ],
+    ),
+    (
+        HUNG_UP,
+        (5, true, true),
+        &[&[&[(0, 0), (0, 4), (4, 4), (4, 0), (2, 0)]]],
+    ),
+];
+
+#[test]
+fn options_of_one_contour(rt: HostRuntime) -> Result<(), Fail> {
+    for case in ALONE {
+        let (contour, (area, clockwise, straight), wanted) = *case;
+        let source = path(rt.alloc(), contour)?;
+        let mut options = IntOverlayOptions::new();
+        options.min_output_area = area;
+        options.preserve_output_collinear = straight;
+        if clockwise {
+            options.output_direction = ContourDirection::Clockwise;
+        }
+        expect_custom(
+            rt.alloc(),
+            &source,
+            &IntOutlineStyle::new(0),
+            options,
+            wanted,
+        )?;
+    }
+    Ok(())
+}
+
 const LEAST: i16 = -16_383;
 
 const MOST: i16 = 16_383;

@@ -1,6 +1,6 @@
 //! What the tests share: points of tables and what is made of them, a reader of tables that are text, comparers of
-//! answers, plain programs that count and that repeat the definitions of directions, arcs and joins, and points that look
-//! random, which the benchmarks take too.
+//! answers, plain programs that count and that repeat the definitions of directions, arcs and joins, and points that
+//! look random, which the benchmarks take too.
 #![tactic(auto)]
 
 pub mod arcs;

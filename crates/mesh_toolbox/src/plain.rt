@@ -1,5 +1,5 @@
-//! Crossings, windings, net counts, fans and balance, plainly. The numbers of the tests are far from the ends of 128 bits, so no
-//! operation wraps.
+//! Crossings, windings, net counts, fans and balance, plainly. The numbers of the tests are far from the ends of 128
+//! bits, so no operation wraps.
 
 use std::alloc::{AllocError, Global};
 

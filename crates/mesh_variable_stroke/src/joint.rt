@@ -5,8 +5,10 @@ ghost use Rattle.mesh_plane.specs.Bounds.{IsSafe};
 ghost use Rattle.mesh_plane.specs.Plane.{minus, cross};
 ghost use Rattle.mesh_join.specs.Appending.{Appends};
 ghost use Rattle.mesh_variable_stroke.specs.Midway.{IsGoodJoint};
-ghost use Rattle.mesh_variable_stroke.specs.VariableStrokes.{joint_edges, left_edges, right_edges, is_apart as are_apart};
-ghost use Rattle.mesh_variable_stroke.specs.VariableStrokes.{has_left_arc as is_left_arc, has_right_arc as is_right_arc};
+ghost use Rattle.mesh_variable_stroke.specs.VariableStrokes.{joint_edges, left_edges, right_edges};
+ghost use Rattle.mesh_variable_stroke.specs.VariableStrokes.{is_apart as are_apart};
+ghost use Rattle.mesh_variable_stroke.specs.VariableStrokes.{has_left_arc as is_left_arc};
+ghost use Rattle.mesh_variable_stroke.specs.VariableStrokes.{has_right_arc as is_right_arc};
 ghost use Rattle.mesh_variable_stroke.specs.VariableStrokes.{left_turn as left_turn_of, right_turn as right_turn_of};
 ghost use Rattle.mesh_variable_stroke.specs.VariableStrokes.{middle_turn as middle_turn_of};
 

@@ -1,5 +1,6 @@
 -- Edges listed by the rows that they reach. Beside each stands something else, as its count.
-use Rattle.std.specs.Prelude.{ℕ, ◌≡◌, ◌+◌, ◌<◌, Bool, ◌&&◌, List, length, slice_index_or, min, max, nat_le, ℤ, pos, ◌*ℤ◌, Vec, Option, IfSome}
+use Rattle.std.specs.Prelude.{ℕ, ◌≡◌, ◌+◌, ◌<◌, Bool, ◌&&◌, List, length, slice_index_or, min, max, nat_le, ℤ, pos}
+use Rattle.std.specs.Prelude.{◌*ℤ◌, Vec, Option, IfSome}
 use Rattle.std.specs.declared.alloc.Global.{Global}
 use Rattle.std.specs.List.{filter}
 use Rattle.mesh_plane.specs.Plane.{Edge}

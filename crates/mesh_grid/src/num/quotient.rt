@@ -18,8 +18,8 @@ pub fn mul_div<I: IntNumber>(a: I::Wide, b: I::Wide, d: I::Wide) -> I::Wide
     I::wide_from_i128(quotient)
 }
 
-/// `a * b / d` rounded to a whole number, halves away from 0, with the sign by the rule of signs, in 128 bits. `d` is not
-/// 0, and no number is above 2^63 in size.
+/// `a * b / d` rounded to a whole number, halves away from 0, with the sign by the rule of signs, in 128 bits. `d` is
+/// not 0, and no number is above 2^63 in size.
 pub fn rounded_product(a: i128, b: i128, d: i128) -> i128
     requires a { unsigned_abs a ≤ 2 ^ 63 }
     requires b { unsigned_abs b ≤ 2 ^ 63 }

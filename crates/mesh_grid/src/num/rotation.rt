@@ -12,8 +12,8 @@ use crate::num::unit_vector::UnitIntVector;
 use std::alloc::AllocError;
 use std::marker::{Model, PhantomData};
 
-/// The rotation of directions by an angle, counterclockwise. Contracts see the pair of the angle's sine and cosine, both
-/// times 2^30.
+/// The rotation of directions by an angle, counterclockwise. Contracts see the pair of the angle's sine and cosine,
+/// both times 2^30.
 #[derive(Debug, Copy)]
 pub struct Rotation<I: IntNumber> {
     sine: i32,

@@ -101,9 +101,9 @@ impl<I: IntNumber> UnitIntVector<I> {
 }
 
 impl<I: IntNumber> UnitIntVector<I> {
-    /// A point turned with the axis x to this direction, in grid units: as the direction holds the cosine and the sine of
-    /// its angle, both times `UNIT`. Each component is rounded to the nearest whole number, halves away from zero. None
-    /// passes the length of the point, made a whole number that is not less.
+    /// A point turned with the axis x to this direction, in grid units: as the direction holds the cosine and the sine
+    /// of its angle, both times `UNIT`. Each component is rounded to the nearest whole number, halves away from zero.
+    /// None passes the length of the point, made a whole number that is not less.
     pub fn rotate(self, point: IntPoint<I>) -> IntVector<I>
         ensures value { result ≡ turned_along I.unit self point }
         ensures within { IsWithinLength point result }

@@ -102,7 +102,7 @@ pub(crate) fn resolved_alone<I: IntNumber>(
 ) -> Result<OverlayAnswer<I>, AllocError>
     requires { All (IsMovable I.unit builder.old) path.now }
     ensures { IfOk result (λ answer. ComesAlone I.unit builder.old fill path.now
-        (shapes_of answer.shapes.items) answer.is_settled) }
+        (shapes_of answer.shapes.items) answer.is_settled answer.is_own_boundary) }
 {
     let mut built = Vec::new(alloc);
     builder.build(path, &mut built)?;

@@ -1,6 +1,6 @@
 //! The outline of a source, as shapes: what comes of its contours is resolved together.
 
-ghost use Rattle.std.specs.Prelude.{◌≡◌, ◌↔◌, [], ◌∷◌, map, true, IfOk, OnOk};
+ghost use Rattle.std.specs.Prelude.{◌≡◌, ◌↔◌, [], ◌∷◌, map, true, IfOk};
 ghost use Rattle.std.specs.List.{All};
 ghost use Rattle.mesh_num.specs.Paths.{shapes_of};
 ghost use Rattle.mesh_cuts.specs.Reach.{ArePointsSafe};
@@ -18,7 +18,7 @@ ghost use Rattle.mesh_outline.specs.declared.outline.kind.ContourKind.TheVariant
 use crate::outline::builder::OutlineBuilder;
 use crate::outline::kind::{ContourKind, contour_kinds};
 use crate::outline::resolve::{add_shapes, given_segments, resolved_alone};
-use mesh_below::below::{FillRule, IntOverlayOptions, Overlay, OverlayRule};
+use mesh_below::below::{FillRule, IntOverlayOptions, Overlay, OverlayRule, arranged};
 use mesh_draw::error::IntOutlineError;
 use mesh_join::join::Join;
 use mesh_join::style::IntOutlineStyle;
@@ -62,10 +62,10 @@ fn resolved_together<I: IntNumber, S: IntShapeResource<I>>(
         (choices_of I.WideUInt.value options) (S.paths source.now) (shapes_of shapes.items)) }
     ensures safe { IfOk result (λ shapes. ArePointsSafe I.unit (shapes_of shapes.items)) }
 {
-    if is_outer_boundary(kinds) && options.is_default() {
+    if is_outer_boundary(kinds) {
         let join = Join::new(alloc, style.join, style.miter_min_turn);
         let mut builder = OutlineBuilder::new(style.outer_offset, join);
-        let shapes = resolved_twice(alloc, &mut builder, source.path_at(0))?;
+        let shapes = resolved_twice(alloc, &mut builder, source.path_at(0), options)?;
         return Ok(shapes);
     }
     let segments = given_segments(source, alloc, style, kinds)?;
@@ -82,25 +82,30 @@ fn is_outer_boundary(kinds: &[ContourKind]) -> bool
     kinds.len() == 1 && kinds[0] == ContourKind::Outer
 }
 
-/// What comes of one outer boundary, which is moved by the builder and resolved alone, resolved once more with the default
-/// options. Where it is settled this is known to be what it was.
+/// What comes of one outer boundary, which is moved by the builder and resolved alone, resolved once more with these
+/// options. Where its edges are their own boundary they are not split again, and where it is settled it stays as it is.
 fn resolved_twice<I: IntNumber>(
     alloc: Global,
     builder: &mut OutlineBuilder<I>,
     path: &[IntPoint<I>],
+    options: IntOverlayOptions<I::WideUInt>,
 ) -> Result<IntShapes<I>, AllocError>
     requires { All (IsMovable I.unit builder.old) path.now }
-    ensures { IfOk result (λ shapes. IsResolvedTwice I.unit builder.old path.now (shapes_of shapes.items)) }
+    ensures { IfOk result (λ shapes. IsResolvedTwice I.unit builder.old (choices_of I.WideUInt.value options) path.now
+        (shapes_of shapes.items)) }
 {
     let answer = resolved_alone(alloc, builder, FillRule::Positive, path)?;
-    if answer.is_settled {
+    if answer.is_settled && options.is_default() {
         return Ok(answer.shapes);
+    }
+    if answer.is_own_boundary {
+        let shapes = arranged(alloc, &answer.shapes, options)?;
+        return Ok(shapes);
     }
     let mut segments = Vec::new(alloc);
     add_shapes(&answer.shapes, FillRule::Positive, &mut segments)?;
-    let shapes = Overlay::with_segments(segments).overlay(
-        OverlayRule::Subject,
-        FillRule::Positive,
-    )?;
+    let mut overlay = Overlay::with_segments(segments);
+    overlay.options = options;
+    let shapes = overlay.overlay(OverlayRule::Subject, FillRule::Positive)?;
     Ok(shapes)
 }

@@ -2,7 +2,8 @@
 
 ghost use Rattle.std.specs.Prelude.{◌≡◌, option_map};
 ghost use Rattle.serde_json.specs.View.{view};
-ghost use Rattle.mesh_request.specs.Reading.{join_of, round_options_of, arc_options_of, sole_in, angle_of, small_number_of, min_turn_of};
+ghost use Rattle.mesh_request.specs.Reading.{join_of, round_options_of, arc_options_of, sole_in, angle_of};
+ghost use Rattle.mesh_request.specs.Reading.{small_number_of, min_turn_of};
 
 use crate::json::is_text;
 use mesh_join::arc::ArcOptions;

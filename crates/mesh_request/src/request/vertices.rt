@@ -3,7 +3,8 @@
 ghost use Rattle.std.specs.Prelude.{◌≡◌, Some, None, MatchResult};
 ghost use Rattle.serde_json.specs.View.{view, items_view};
 ghost use Rattle.mesh_num.specs.Paths.{paths_of};
-ghost use Rattle.mesh_request.specs.Reading.{vertex_of, vertices_of, vertex_path_of, vertex_path_list_of, vertex_paths_in, IsOfReading};
+ghost use Rattle.mesh_request.specs.Reading.{vertex_of, vertices_of, vertex_path_of, vertex_path_list_of};
+ghost use Rattle.mesh_request.specs.Reading.{vertex_paths_in, IsOfReading};
 
 use crate::failure::Failure;
 use crate::json::coordinate;

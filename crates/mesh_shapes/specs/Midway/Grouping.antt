@@ -1,5 +1,6 @@
 -- Where each ring belongs: its place, its area, and the ring with which it stands.
-use Rattle.std.specs.Prelude.{ℕ, ◌≡◌, ◌≢◌, ◌<◌, Bool, true, false, ◌&&◌, List, [], map, length, slice_index_or, nat_eq, ℤ, pos}
+use Rattle.std.specs.Prelude.{ℕ, ◌≡◌, ◌≢◌, ◌<◌, Bool, true, false, ◌&&◌, List, [], map, length, slice_index_or, nat_eq}
+use Rattle.std.specs.Prelude.{ℤ, pos}
 use Rattle.std.specs.List.{All, AllPairs, enumerate_from}
 use Rattle.mesh_plane.specs.Plane.{Point}
 use Rattle.mesh_plane.specs.Winding.{holds}

@@ -38,8 +38,8 @@ winding_of q h es = sum_of (λ (e : PlacedEdge). cond (nat_eq e.1 h) (crossing_o
 abbrev pub IsRowOf : List Ring → Point → List PlacedEdge → Type 0
 IsRowOf rs q row = (k : ℕ) → k < length rs → is_round_at rs k q ≡ not (int_eq (winding_of q k row) (pos 0))
 
--- where a search along a row has still to go through `rest`, it knows the holder among the rings before the one whose edges
--- it meets, and how often the edges of that one wind round the point so far
+-- where a search along a row has still to go through `rest`, it knows the holder among the rings before the one whose
+-- edges it meets, and how often the edges of that one wind round the point so far
 pub record IsSearch (rs : List Ring) (q : Point) (row rest : List PlacedEdge) (s : Search) : Type 0 where
   pub found : IsFound rs s.place q s.best
   pub own : s.winding +ℤ winding_of q s.place rest ≡ winding_of q s.place row

@@ -2,7 +2,7 @@
 use Rattle.std.specs.Prelude.{ℕ, ◌≡◌, ◌+◌, ◌<◌, Bool, true, false, List, length, drop, slice_index_or, pos}
 use Rattle.mesh_plane.specs.Plane.{Point}
 use Rattle.mesh_plane.specs.Order.{point_lt}
-use Rattle.mesh_shapes.specs.Contours.{next_kept}
+use Rattle.mesh_shapes.specs.Contours.{next_kept, omitted}
 use Rattle.mesh_shapes.specs.Midway.Grouping.{ring_at, is_round_at}
 use Rattle.mesh_shapes.specs.Resolution.{Ring, is_before}
 use Rattle.std.specs.Prelude.{Option, MatchOption}
@@ -49,3 +49,7 @@ point_after ps i = first_or (point_at ps 0) (drop (i + 1) ps)
 -- the points that are answered after the place `i`, where the way comes to them from `before`
 abbrev pub kept_after : Bool → Point → List Point → ℕ → List Point
 kept_after all before ps i = kept all before (drop (i + 1) ps) (point_at ps 0)
+
+-- the points that are left out after the place `i`, where the way comes to them from `before`
+abbrev pub omitted_after : Bool → Point → List Point → ℕ → List Point
+omitted_after all before ps i = omitted all before (drop (i + 1) ps) (point_at ps 0)

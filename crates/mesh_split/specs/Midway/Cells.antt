@@ -1,5 +1,6 @@
 -- Live segments listed by the parts of the plane that they reach.
-use Rattle.std.specs.Prelude.{ℕ, ◌≡◌, ◌<◌, Bool, true, false, cond, not, ◌||◌, List, length, slice_index_or, ℤ, pos, ◌+ℤ◌, ◌*ℤ◌, ◌<ℤ◌, int_lt}
+use Rattle.std.specs.Prelude.{ℕ, ◌≡◌, ◌<◌, Bool, true, false, cond, not, ◌||◌, List, length, slice_index_or, ℤ, pos}
+use Rattle.std.specs.Prelude.{◌+ℤ◌, ◌*ℤ◌, ◌<ℤ◌, int_lt}
 use Rattle.mesh_plane.specs.Plane.{Point, Edge}
 use Rattle.mesh_cuts.specs.Counted.{Counted}
 use Rattle.mesh_cuts.specs.Split.{same_edge, AreClear, Meets}

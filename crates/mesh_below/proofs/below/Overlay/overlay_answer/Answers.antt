@@ -12,3 +12,6 @@ returns-clause-safe g c = IfOk-weaker c.resolved.result _ _ (λ v a. a.safe) c.r
 
 pub returns-clause-settled : goal.returns-clause-settled
 returns-clause-settled g c = IfOk-weaker c.resolved.result _ _ (λ v a. a.is_settled) c.resolved.ensures
+
+pub returns-clause-own_boundary : goal.returns-clause-own_boundary
+returns-clause-own_boundary g c = IfOk-weaker c.resolved.result _ _ (λ v a. a.own_boundary) c.resolved.ensures

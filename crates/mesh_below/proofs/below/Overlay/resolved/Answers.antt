@@ -1,13 +1,14 @@
 use Rattle.std.proofs.Common.{◌≡◌, List, sym, ◌∙◌, ap, subst}
 use Rattle.std.specs.Prelude.{Vec}
 use Rattle.std.specs.declared.alloc.Global.{Global}
-use Rattle.mesh_num.specs.Paths.{shapes_of}
+use Rattle.mesh_num.specs.Paths.{contours_of, shapes_of}
+use Rattle.std.specs.List.{flat_map}
 use Rattle.mesh_plane.specs.Plane.{Point, Edge}
 use Rattle.mesh_num.specs.Segments.{SignedEdge, edges_of}
-use Rattle.mesh_plane.specs.Winding.{IsBalanced}
+use Rattle.mesh_plane.specs.Winding.{IsBalanced, boundary}
 use Rattle.mesh_cuts.specs.Clean.{IsProper}
 use Rattle.mesh_cuts.specs.FillRules.{filled}
-use Rattle.mesh_below.specs.Answers.{IsSettled}
+use Rattle.mesh_below.specs.Answers.{AreOwnBoundary, IsSettled}
 use Rattle.mesh_below.specs.Options.{choices_of}
 use Rattle.mesh_cuts.specs.Reach.{ArePointsSafe}
 use Rattle.mesh_shapes.specs.Resolution.{Choices}
@@ -49,4 +50,5 @@ returns g c =
       is_settled = λ t.
           subst (λ (answer : List (List (List Point))). IsSettled options answer) (sym is)
           (subst (λ (own : Choices). IsSettled own (shapes_of told.items)) c.choices.ensures (c.in_ok-answer.ensures.settled t));
+      own_boundary = λ t. subst (λ (answer : List (List (List Point))). AreOwnBoundary (flat_map boundary (contours_of answer))) (sym is) (c.in_ok-answer.ensures.own_boundary t);
     }

@@ -13,6 +13,6 @@ overlay_answer-requires-clause-safe g c = built_safe g.I.IntNumber.unit _ _ _ c.
 
 pub returns : goal.returns
 returns g c =
-    comes_alone g.I.IntNumber.unit c.args.builder.now c.args.fill c.args.path.now _ _ _ _ (shapes_of c.in_ok-answer.answer.shapes.items) _
+    comes_alone g.I.IntNumber.unit c.args.builder.now c.args.fill c.args.path.now _ _ _ _ (shapes_of c.in_ok-answer.answer.shapes.items) _ _
     c.new-built.ensures.items (ap (λ v. v.items) c.with_segments.ensures.segments) c.with_segments.ensures.options c.in_ok-build.ensures.edges
-    c.in_ok-answer.ensures.resolution c.in_ok-answer.ensures.safe c.in_ok-answer.ensures.settled
+    c.in_ok-answer.ensures.resolution c.in_ok-answer.ensures.safe c.in_ok-answer.ensures.settled c.in_ok-answer.ensures.own_boundary

@@ -17,13 +17,13 @@ resolved_twice-requires g c =
     path_movable g.I.IntNumber.unit style Outer c.new-builder.result _ (outer_way style c.new-builder.result (c.new-builder.ensures ∙ ap (offset_join (g.I.IntNumber.value c.args.style.now.outer_offset)) c.new-join.ensures))
     (rw c.path_at.ensures (c.requires.safe 0 [] (one_path paths c.args.kinds.now Outer c.requires.kinds single)))
 
-pub returns-then-is_default-clause-outline : goal.returns-then-is_default-clause-outline
-returns-then-is_default-clause-outline g c =
+pub returns-then-is_outer_boundary-clause-outline : goal.returns-then-is_outer_boundary-clause-outline
+returns-then-is_outer_boundary-clause-outline g c =
     let style = style_of g.I.IntNumber.value c.args.style.now in
     let paths = g.S.IntShapeResource.paths c.args.source.now in
     let single = c.is_outer_boundary.ensures c.if-is_outer_boundary.true in
     single_outline g.I.IntNumber.unit style c.new-builder.result _ paths c.path_at.result.now c.args.kinds.now (shapes_of c.in_ok-shapes.shapes.items)
-    c.requires.kinds single c.path_at.ensures (c.new-builder.ensures ∙ ap (offset_join (g.I.IntNumber.value c.args.style.now.outer_offset)) c.new-join.ensures) (c.is_default.ensures.0 c.if-is_default.true) c.in_ok-shapes.ensures
+    c.requires.kinds single c.path_at.ensures (c.new-builder.ensures ∙ ap (offset_join (g.I.IntNumber.value c.args.style.now.outer_offset)) c.new-join.ensures) c.in_ok-shapes.ensures
 
 pub overlay-requires-clause-subject : goal.overlay-requires-clause-subject
 overlay-requires-clause-subject g c =
