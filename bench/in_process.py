@@ -17,7 +17,7 @@ from program import add_program, run, seconds_above_zero, tell
 
 PROGRAM = pathlib.Path(__file__).resolve().parent.parent / "crates/mesh_bench/out/mesh_bench"
 
-SIZES = [10, 100, 1000]
+SIZES = [10, 100, 1000, 10_000, 100_000]
 
 TIMES = 3
 
@@ -25,9 +25,15 @@ LIMIT = 60
 """Of one process, in seconds."""
 
 
+class TooLong(Exception):
+    """A process did not end in the limit."""
+
+
 def seconds(command, text, count):
     """The time of a process that answers a request so often."""
     done = run([*command, str(count), "request"], text, LIMIT)
+    if done.status is None:
+        raise TooLong
     if done.status != 0:
         raise SystemExit(f"{command} ended with {done.status}")
     return done.seconds
@@ -35,18 +41,26 @@ def seconds(command, text, count):
 
 def seconds_each(command, text, wanted):
     """The least time of one answer, measured over so many that they take about the wanted seconds."""
-    count = 10
+    count = 1
     while seconds(command, text, 1 + count) < wanted / 4 and count < 10_000_000:
         count *= 4
     rounds = [seconds(command, text, 1 + count) - seconds(command, text, 1) for _ in range(TIMES)]
     return max(0, min(rounds)) / count
 
 
+def cell(command, text, wanted):
+    """The microseconds of one answer, in a cell of the table."""
+    try:
+        return f"{1e6 * seconds_each(command, text, wanted):.1f}"
+    except TooLong:
+        return f"> {LIMIT // 2} s"
+
+
 def main():
     parser = argparse.ArgumentParser(description="Times outlines within one process.")
     add_program(parser)
     parser.set_defaults(program=[str(PROGRAM)])
-    parser.add_argument("--most", type=int, default=SIZES[-1], metavar="N", help="no drawing has more vertices")
+    parser.add_argument("--most", type=int, default=1000, metavar="N", help="no drawing has more vertices")
     parser.add_argument("--seconds", type=seconds_above_zero, default=1, help="about how long a process runs")
     words = parser.parse_args()
     sizes = [count for count in SIZES if count <= words.most] or SIZES[:1]
@@ -58,7 +72,7 @@ def main():
             cells = []
             for count in sizes:
                 text = json.dumps(family_request(family, count, offset), separators=(",", ":")).encode()
-                cells.append(f"{1e6 * seconds_each(words.program, text, words.seconds):.1f}")
+                cells.append(cell(words.program, text, words.seconds))
                 tell(f"{family}, {offset}, {count}: {cells[-1]} microseconds")
             print(f"| {family} | {offset} | {' | '.join(cells)} |")
 

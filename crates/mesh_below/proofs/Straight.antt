@@ -282,12 +282,6 @@ no_length v w l x y =
     let ahead = l.ahead in
     omega (arith, linear, first, second, ahead)
 
-pub first_apart : (a b c : Point) → RunsThrough a b c → a ≡ b → ⊥
-first_apart a b c l e =
-    let x = ap (λ (p : Point). p.0) e in
-    let y = ap (λ (p : Point). p.1) e in
-    no_length (minus b a) (minus c b) l (omega (arith, linear, x)) (omega (arith, linear, y))
-
 one_turned : (s r : ℤ) → HaveOneSign s r → s +ℤ r ≡ pos 0 → s ≡ pos 0
 one_turned s r h e =
     by_lt_z (pos 0) s (λ (k : pos 0 <ℤ s). absurd (let l = h.above k in omega (arith, linear, e)))

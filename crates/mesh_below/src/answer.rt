@@ -4,7 +4,7 @@ ghost use Rattle.std.specs.Prelude.{◌≡◌, [], ◌∷◌, IfOk, OnOk};
 ghost use Rattle.std.specs.List.{All};
 ghost use Rattle.mesh_plane.specs.Bounds.{IsSafe};
 ghost use Rattle.mesh_num.specs.Paths.{contours_of, paths_of, shapes_of};
-ghost use Rattle.mesh_below.specs.Midway.Rings.{AddsContours};
+ghost use Rattle.mesh_below.specs.Midway.Rings.{PushesContours};
 ghost use Rattle.mesh_cuts.specs.Reach.{ArePointsSafe};
 
 use crate::given::grid_point;
@@ -87,7 +87,7 @@ fn push_contour<I: IntNumber>(
     contours: &mut Vec<Vec<GridPoint>>,
     contour: &[IntPoint<I>],
 ) -> Result<(), AllocError>
-    ensures { OnOk result (AddsContours contours.old.items contours.new.items (contour.now ∷ [])) }
+    ensures { OnOk result (PushesContours contours.old.items contours.new.items (contour.now ∷ [])) }
 {
     if contour.is_empty() {
         return Ok(());
@@ -102,7 +102,7 @@ fn push_contours<I: IntNumber>(
     contours: &mut Vec<Vec<GridPoint>>,
     shape: &[Vec<IntPoint<I>>],
 ) -> Result<(), AllocError>
-    ensures { OnOk result (AddsContours contours.old.items contours.new.items (paths_of shape.now)) }
+    ensures { OnOk result (PushesContours contours.old.items contours.new.items (paths_of shape.now)) }
 {
     for contour in shape {
         push_contour(alloc, contours, contour)?;
@@ -115,7 +115,7 @@ pub fn grid_contours<I: IntNumber>(
     alloc: Global,
     shapes: &[Vec<Vec<IntPoint<I>>>],
 ) -> Result<Vec<Vec<GridPoint>>, AllocError>
-    ensures { IfOk result (λ v. AddsContours [] v.items (contours_of (shapes_of shapes.now))) }
+    ensures { IfOk result (λ v. PushesContours [] v.items (contours_of (shapes_of shapes.now))) }
 {
     let mut contours = Vec::new(alloc);
     for shape in shapes {

@@ -94,7 +94,8 @@ impl<U: WideUnsigned> Default for IntOverlayOptions<U> {
     }
 }
 
-/// What segments fill, as shapes, and whether resolving it again answers it again.
+/// What segments fill, as shapes, and what is known of these: whether they are settled, and whether their edges are
+/// their own boundary.
 #[derive(Debug, Drop)]
 pub struct OverlayAnswer<I: IntNumber> {
     /// The shapes.
@@ -160,11 +161,11 @@ impl<I: IntNumber> Overlay<I> {
         Ok(self.overlay_answer(rule, fill)?.shapes)
     }
 
-    /// `overlay`, and what is known of its shapes where the options drop none and outer contours run counterclockwise.
-    /// They are known to be settled where the contours have all points of the boundary as vertices: then their edges
-    /// need not be resolved once more, by the fill rule `Positive` and with the same options. Their edges are known to
-    /// be their own boundary where at each point that a contour leaves out one edge of the boundary alone starts: then
-    /// `arranged` brings them into shapes by any options.
+    /// `overlay`, and what is known of its shapes. Nothing is known where the options ask a least area above 0 or outer
+    /// contours that run clockwise. Else they are known to be settled where the contours have all points of the
+    /// boundary as vertices: then their edges need not be resolved once more, by the fill rule `Positive` and with the
+    /// same options. Their edges are known to be their own boundary where at each point that a contour leaves out one
+    /// edge of the boundary alone starts: then `arranged` brings them into shapes by any options.
     pub fn overlay_answer(
         &self,
         rule: OverlayRule,
@@ -273,6 +274,9 @@ pub fn arranged<I: IntNumber>(
     requires safe { ArePointsSafe I.unit (shapes_of shapes.now.items) }
     ensures resolution { IfOk result (λ answer.
         IsResolution (flat_map boundary (contours_of (shapes_of shapes.now.items))) (filled Positive)
+        (choices_of I.WideUInt.value options) (shapes_of answer.items)) }
+    ensures regions { IfOk result (λ answer.
+        AreRegions (flat_map boundary (contours_of (shapes_of shapes.now.items))) (filled Positive)
         (choices_of I.WideUInt.value options) (shapes_of answer.items)) }
     ensures safe { IfOk result (λ answer. ArePointsSafe I.unit (shapes_of answer.items)) }
 {

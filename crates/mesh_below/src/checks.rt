@@ -68,14 +68,14 @@ fn are_safe(unit: u32, edges: &[GridEdge]) -> bool
 }
 
 /// The edges the other way about.
-fn turned(alloc: Global, edges: &[GridEdge]) -> Result<Vec<GridEdge>, AllocError>
+fn backwards(alloc: Global, edges: &[GridEdge]) -> Result<Vec<GridEdge>, AllocError>
     ensures { IfOk result (λ v. v.items ≡ map back edges.now) }
 {
-    let mut turned = Vec::with_capacity(alloc, edges.len())?;
+    let mut backwards = Vec::with_capacity(alloc, edges.len())?;
     for e in edges {
-        turned.push((e.1, e.0))?;
+        backwards.push((e.1, e.0))?;
     }
-    Ok(turned)
+    Ok(backwards)
 }
 
 /// Whether the edges at the same places start at the same points, and there are as many.
@@ -98,7 +98,7 @@ pub fn are_balanced(alloc: Global, edges: &[GridEdge]) -> Result<bool, AllocErro
     ensures { IfOk result (λ b. IsTrue b ↔ IsBalanced edges.now) }
 {
     let leaving = in_order(Vec::from_slice(alloc, edges)?);
-    let entering = in_order(turned(alloc, edges)?);
+    let entering = in_order(backwards(alloc, edges)?);
     Ok(start_alike(&leaving, &entering))
 }
 

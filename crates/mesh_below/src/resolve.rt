@@ -35,7 +35,8 @@ pub struct Choices {
     pub clockwise: bool,
 }
 
-/// Shapes, and whether they are settled: resolving their own edges by the fill rule `Positive` answers them again.
+/// Shapes, and what is known of them: whether they are settled, so that they are an answer of their own edges too, by
+/// the fill rule `Positive` and with the same options, and whether these edges are their own boundary.
 #[derive(Drop)]
 pub struct GridAnswer {
     /// The shapes.
@@ -103,7 +104,9 @@ fn answers_all(choices: Choices) -> bool
 }
 
 /// The shapes of what balanced edges fill, none of which ends where it starts. They are settled where each point of the
-/// boundary is a vertex, no contour is left out and none is reversed. It fails only where memory is refused.
+/// boundary is a vertex, no contour is left out and none is reversed; their edges are their own boundary where no
+/// contour is left out or reversed, and one edge of the boundary alone starts at each of its points that is no vertex.
+/// It fails only where memory is refused.
 pub fn resolve(
     alloc: Global,
     edges: &[GridEdge],
@@ -135,8 +138,8 @@ pub fn resolve(
     })
 }
 
-/// The shapes of contours whose edges are their own boundary: these are what the edges fill by the fill rule
-/// `Positive`, and need no splitting.
+/// The shapes of what the edges of these contours fill by the fill rule `Positive`, where the edges are their own
+/// boundary, and so need no splitting. It fails only where memory is refused.
 pub fn arranged_contours(
     alloc: Global,
     contours: Vec<Vec<GridPoint>>,

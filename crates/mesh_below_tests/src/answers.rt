@@ -35,7 +35,7 @@ pub fn expect_resolvable<I: IntNumber>(overlay: &Overlay<I>) -> Result<(), Fail>
 }
 
 /// The shapes that the overlay answers.
-pub fn shapes_of(overlay: &Overlay<i32>, fill: FillRule) -> Result<IntShapes<i32>, Fail> {
+pub fn answered_shapes(overlay: &Overlay<i32>, fill: FillRule) -> Result<IntShapes<i32>, Fail> {
     expect_resolvable(overlay)?;
     Ok(overlay.overlay(OverlayRule::Subject, fill)?)
 }

@@ -1,6 +1,6 @@
 //! Answers whose edges are their own boundary, and what these are arranged to.
 
-use crate::answers::{Row, expect_resolvable, overlay_of, shapes_of};
+use crate::answers::{Row, expect_resolvable, overlay_of, answered_shapes};
 use crate::counted::meet;
 use crate::random_answers::{again, expect_region, scattered_overlay};
 use mesh_below::below::{ContourDirection, FillRule, IntOverlayOptions, OverlayRule, arranged};
@@ -91,7 +91,7 @@ fn own_boundaries_are_arranged(rt: HostRuntime) -> Result<(), Fail> {
             expect_own_boundary(&edges_of_shapes(rt.alloc(), &answer.shapes)?)?;
             let mut overlay = again(rt.alloc(), &answer.shapes)?;
             overlay.options = options_of(number);
-            let wanted = sorted(rt.alloc(), &shapes_of(&overlay, FillRule::Positive)?)?;
+            let wanted = sorted(rt.alloc(), &answered_shapes(&overlay, FillRule::Positive)?)?;
             let found = arranged(rt.alloc(), &answer.shapes, options_of(number))?;
             expect_equal(&sorted(rt.alloc(), &found)?, &wanted, &number)?;
             arranged_lists = arranged_lists.wrapping_add(1);

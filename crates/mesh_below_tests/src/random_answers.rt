@@ -1,6 +1,6 @@
 //! Random closed lists, against a plain count of how often edges wind round points of the grid 2.
 
-use crate::answers::{expect_resolvable, overlay_of, shapes_of};
+use crate::answers::{expect_resolvable, overlay_of, answered_shapes};
 use crate::counted::{bent, counted, is_near};
 use crate::splits::split_sorted;
 use mesh_below::below::{ContourDirection, FillRule, Overlay, OverlayRule};
@@ -53,7 +53,7 @@ fn expect_regions(overlay: &Overlay<i32>, bent: &[Edge], once: i128) -> Result<u
     let mut filled = 0u32;
     let edges = edges_of_segments(alloc, &overlay.segments)?;
     for fill in [FillRule::Positive, FillRule::Negative] {
-        let answer = edges_of_shapes(alloc, &shapes_of(overlay, fill)?)?;
+        let answer = edges_of_shapes(alloc, &answered_shapes(overlay, fill)?)?;
         let here = expect_region(&edges, bent, fill, &answer, once)?;
         filled = filled.wrapping_add(here);
     }
@@ -152,7 +152,7 @@ fn answers_handed_in_again_are_answered(rt: HostRuntime) -> Result<(), Fail> {
         let first = overlay.overlay_answer(OverlayRule::Subject, FillRule::Positive)?;
         let mut edges = edges_of_shapes(rt.alloc(), &first.shapes)?;
         let overlay = again(rt.alloc(), &first.shapes)?;
-        let second = shapes_of(&overlay, FillRule::Positive)?;
+        let second = answered_shapes(&overlay, FillRule::Positive)?;
         let mut answer = edges_of_shapes(rt.alloc(), &second)?;
         expect_region(&edges, &[], FillRule::Positive, &answer, 1)?;
         if first.is_settled {

@@ -156,6 +156,7 @@ fn split(rt: &HostRuntime, count: u64) -> Result<(), BenchError> {
         println!(rt; "a segment without length")?;
         return Ok(());
     }
+    eprintln!(rt; "splitting {} segments", edges.len())?;
     let segments = split_edges(rt.alloc(), &edges)?;
     println!(rt;
         "{} segments give {} split segments",
@@ -172,6 +173,7 @@ fn resolve(rt: &HostRuntime, count: u64) -> Result<(), BenchError> {
         println!(rt; "not balanced, or not in the safe range")?;
         return Ok(());
     }
+    eprintln!(rt; "resolving {} segments", overlay.segments.len())?;
     let shapes = overlay.overlay(OverlayRule::Subject, FillRule::Positive)?;
     println!(rt;
         "{} segments give {} shapes",

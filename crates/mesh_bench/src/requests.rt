@@ -22,12 +22,13 @@ fn answer<I: OverlayInt>(alloc: Global, request: &Request<I>) -> Result<usize, B
     }
 }
 
-/// Answers the request on standard input, whose numbers are `i32`, so many times. Standard error tells after 1, 10, 100
-/// times and so on, so that a run that takes long shows how far it is.
+/// Answers the request on standard input, whose numbers are `i32`, so many times. Standard error tells when it begins,
+/// and after 1, 10, 100 times and so on, so that a run that takes long shows how far it is.
 pub(crate) fn answer_again(rt: &HostRuntime, count: u64) -> Result<(), BenchError> {
     let bytes = read_to_end(rt.alloc(), &mut rt.stdin())?;
     let value = parse(rt.alloc(), &bytes)?;
     let request = read_request::<i32>(rt.alloc(), &value)?;
+    eprintln!(rt; "answering {count} times")?;
     let mut told: u64 = 1;
     let mut found: usize = 0;
     for number in 0..count {

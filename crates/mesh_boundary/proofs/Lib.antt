@@ -2,4 +2,5 @@ pub mod BoundaryCounted
 pub mod Levels
 pub mod RowSums
 pub mod SidesCode
+pub mod Slants
 pub mod StarLists

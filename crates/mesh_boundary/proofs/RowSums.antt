@@ -46,19 +46,23 @@ without : (f p l : ℕ) → (p < f) ⊎ (l + 1 ≤ p) → (nat_le f p && nat_le 
 without f p l (inl h) = grind (arith, nat_tests)
 without f p l (inr h) = grind (arith, nat_tests)
 
--- an edge does not cross the ray from a point whose row it does not reach
-pub off_row : {T : Type 0} (ms : List Mark) (q : Point) (e : Edge × T) → reaches_row ms (place ms q.1) e ≡ false → crossing_on 2 q e.0.0 e.0.1 ≡ pos 0
-off_row ms q e h = by (outside (first_row ms e) (place ms q.1) (last_row ms e) h)
+-- an edge that does not reach the row of a height lies above it or below it
+pub off_height : {T : Type 0} (ms : List Mark) (h : ℤ) (e : Edge × T) → reaches_row ms (place ms h) e ≡ false
+    → ((h <ℤ (pos 2 *ℤ e.0.0.1)) × (h <ℤ (pos 2 *ℤ e.0.1.1))) ⊎ (((pos 2 *ℤ e.0.0.1) <ℤ h) × ((pos 2 *ℤ e.0.1.1) <ℤ h))
+off_height ms h e off = by (outside (first_row ms e) (place ms h) (last_row ms e) off)
   where
-    by : (place ms q.1 < first_row ms e) ⊎ (last_row ms e < place ms q.1) → crossing_on 2 q e.0.0 e.0.1 ≡ pos 0
-    by (inl k) =
-        let a = lesser_place ms q.1 (pos 2 *ℤ e.0.0.1) (omega arith) in
-        let b = lesser_place ms q.1 (pos 2 *ℤ e.0.1.1) (omega arith) in
-        crossing_high (pos 2 *ℤ e.0.0.1) (pos 2 *ℤ e.0.1.1) q.1 (turn (refined 2 e.0.0) (refined 2 e.0.1) q) a b
-    by (inr k) =
-        let a = lesser_place ms (pos 2 *ℤ e.0.0.1) q.1 (omega arith) in
-        let b = lesser_place ms (pos 2 *ℤ e.0.1.1) q.1 (omega arith) in
-        below_none (pos 2 *ℤ e.0.0.1) (pos 2 *ℤ e.0.1.1) q.1 (turn (refined 2 e.0.0) (refined 2 e.0.1) q) a b
+    by : (place ms h < first_row ms e) ⊎ (last_row ms e < place ms h)
+        → ((h <ℤ (pos 2 *ℤ e.0.0.1)) × (h <ℤ (pos 2 *ℤ e.0.1.1))) ⊎ (((pos 2 *ℤ e.0.0.1) <ℤ h) × ((pos 2 *ℤ e.0.1.1) <ℤ h))
+    by (inl k) = inl (lesser_place ms h (pos 2 *ℤ e.0.0.1) (omega arith), lesser_place ms h (pos 2 *ℤ e.0.1.1) (omega arith))
+    by (inr k) = inr (lesser_place ms (pos 2 *ℤ e.0.0.1) h (omega arith), lesser_place ms (pos 2 *ℤ e.0.1.1) h (omega arith))
+
+-- so it does not cross the ray from a point at that height
+pub off_row : {T : Type 0} (ms : List Mark) (q : Point) (e : Edge × T) → reaches_row ms (place ms q.1) e ≡ false → crossing_on 2 q e.0.0 e.0.1 ≡ pos 0
+off_row ms q e h = by (off_height ms q.1 e h)
+  where
+    by : ((q.1 <ℤ (pos 2 *ℤ e.0.0.1)) × (q.1 <ℤ (pos 2 *ℤ e.0.1.1))) ⊎ (((pos 2 *ℤ e.0.0.1) <ℤ q.1) × ((pos 2 *ℤ e.0.1.1) <ℤ q.1)) → crossing_on 2 q e.0.0 e.0.1 ≡ pos 0
+    by (inl k) = crossing_high (pos 2 *ℤ e.0.0.1) (pos 2 *ℤ e.0.1.1) q.1 (turn (refined 2 e.0.0) (refined 2 e.0.1) q) k.0 k.1
+    by (inr k) = below_none (pos 2 *ℤ e.0.0.1) (pos 2 *ℤ e.0.1.1) q.1 (turn (refined 2 e.0.0) (refined 2 e.0.1) q) k.0 k.1
 
 -- ---- listing
 
@@ -115,13 +119,14 @@ pub row_total : {T : Type 0} (ms : List Mark) (es row : List (Edge × T)) (q : P
 row_total ms es row q g is none =
     ap (sum_of g) is ∙ sum_of_filter g (reaches_row ms (place ms q.1)) (λ e h. none e (off_row ms q e h)) es
 
-filtered_size : (t : Counted → Bool) (ks : List Counted) → sum_of size (filter t ks) ≤ℤ sum_of size ks
-filtered_size t [] = omega (arith, ints)
-filtered_size t (k ∷ ks) = by (filtered_size t ks) (t k) refl
+-- a sum over some of a list is at most that over all
+pub filtered_sum : {A : Type 0} (f : A → ℤ) → ((x : A) → pos 0 ≤ℤ f x) → (t : A → Bool) (xs : List A) → sum_of f (filter t xs) ≤ℤ sum_of f xs
+filtered_sum f least t [] = omega (arith, ints)
+filtered_sum f least t (x ∷ xs) = by (filtered_sum f least t xs) (t x) refl
   where
-    by : sum_of size (filter t ks) ≤ℤ sum_of size ks → (b : Bool) → t k ≡ b → sum_of size (cond b (k ∷ filter t ks) (filter t ks)) ≤ℤ sum_of size (k ∷ ks)
+    by : sum_of f (filter t xs) ≤ℤ sum_of f xs → (b : Bool) → t x ≡ b → sum_of f (cond b (x ∷ filter t xs) (filter t xs)) ≤ℤ sum_of f (x ∷ xs)
     by rest true h = omega (arith, linear)
-    by rest false h = omega (arith, linear, size_least k)
+    by rest false h = omega (arith, linear, least x)
 
 pub row_sum : (ms : List Mark) (lists : List (Vec Counted Global)) (ks row : List Counted) (q : Point) → AreRows ms lists ks
     → ((d : Vec Counted Global) → row ≡ (get_or lists (place ms q.1) d).items) → counted_winding q row ≡ counted_winding q ks
@@ -131,4 +136,4 @@ row_sum ms lists ks row q rows is =
 pub row_size : (ms : List Mark) (lists : List (Vec Counted Global)) (ks row : List Counted) (q : Point) → AreRows ms lists ks
     → ((d : Vec Counted Global) → row ≡ (get_or lists (place ms q.1) d).items) → sum_of size row ≤ℤ sum_of size ks
 row_size ms lists ks row q rows is =
-    subst (λ (l : List Counted). sum_of size l ≤ℤ sum_of size ks) (sym (row_is ms lists ks row q rows is)) (filtered_size (reaches_row ms (place ms q.1)) ks)
+    subst (λ (l : List Counted). sum_of size l ≤ℤ sum_of size ks) (sym (row_is ms lists ks row q rows is)) (filtered_sum size size_least (reaches_row ms (place ms q.1)) ks)

@@ -57,13 +57,13 @@ size_least k = omega (arith, ints)
 pub next_part : {A : Type 0} (f : A → ℤ) → ((x : A) → pos 0 ≤ℤ f x) → (xs : List A) (i : ℕ) (d : A) → i < length xs → (sum_of f (take i xs) +ℤ f (get_or xs i d)) ≤ℤ sum_of f xs
 next_part f h xs i d low = omega (arith, ints, sum_more f xs i d low, sum_part f h xs (i + 1))
 
--- two numbers that add up, in size, to at most 2 ^ 120
+-- two numbers that add up, in size, to at most 2 ^ 122
 pub record Adds (a b : ℤ) : Type 0 where
   pub fits : SFits w128 (a +ℤ b)
   pub kept : to_z w128 (of_z w128 (a +ℤ b)) ≡ a +ℤ b
   pub size : pos (unsigned_abs (a +ℤ b)) ≤ℤ (pos (unsigned_abs a) +ℤ pos (unsigned_abs b))
 
-pub adds_of : (a b : ℤ) → (pos (unsigned_abs a) +ℤ pos (unsigned_abs b)) ≤ℤ pos (2 ^ 120) → Adds a b
+pub adds_of : (a b : ℤ) → (pos (unsigned_abs a) +ℤ pos (unsigned_abs b)) ≤ℤ pos (2 ^ 122) → Adds a b
 adds_of a b h =
     let f : SFits w128 (a +ℤ b) = omega (arith, ints, h) in
     record { fits = f; kept = to_z-of_z w128 (a +ℤ b) f; size = omega (arith, ints) }

@@ -2,4 +2,5 @@
 pub mod CountedSides
 pub mod Flood
 pub mod Rows
+pub mod Slants
 pub mod Stars

@@ -66,7 +66,7 @@ fn put_level(known: &mut Vec<Option<Level>>, i: usize, l: Level)
 }
 
 /// The segment the other way about.
-fn turned(s: CountedSegment) -> Option<CountedSegment>
+fn backwards(s: CountedSegment) -> Option<CountedSegment>
     ensures { IfSome result (λ k. k ≡ (back s.0, neg_ℤ s.1)) }
 {
     Some((back(s.0), s.1.checked_neg()?))
@@ -83,7 +83,7 @@ fn directed(p: GridPoint, s: CountedSegment, ends: Ends) -> Option<Placed>
         return Some((s, ends));
     }
     if same_point(p, s.0.1) {
-        return Some((turned(s)?, (ends.1, ends.0)));
+        return Some((backwards(s)?, (ends.1, ends.0)));
     }
     None
 }

@@ -23,7 +23,7 @@ const ENDS: usize = 16384;
 const MEASURED: usize = 2048;
 
 /// About how many edges are measured to choose whether rows serve.
-pub const SAMPLED: usize = 512;
+pub(crate) const SAMPLED: usize = 512;
 
 /// Lists of edges, one for each row between marks at heights on the fine grid. An edge may stand in several of them.
 #[derive(Drop)]
@@ -56,7 +56,10 @@ fn heights<T: Copy>(alloc: Global, edges: &[(GridEdge, T)]) -> Result<Vec<Mark>,
 }
 
 /// About how many of the edges reach the height of one of them, on average.
-pub fn mean_reached<T: Copy>(alloc: Global, edges: &[(GridEdge, T)]) -> Result<usize, AllocError> {
+pub(crate) fn mean_reached<T: Copy>(
+    alloc: Global,
+    edges: &[(GridEdge, T)],
+) -> Result<usize, AllocError> {
     // (an odd step, since contours often go on in the same two, four or eight steps)
     let step = edges.len() / SAMPLED / 2 * 2 + 1;
     let mut heights = Vec::with_capacity(alloc, edges.len() / step + 1)?;

@@ -11,10 +11,12 @@ ghost use Rattle.mesh_sides.specs.Laws.{AreSplit};
 ghost use Rattle.mesh_boundary.specs.Midway.CountedSides.{sides_by, sides_of, is_parted, boundary_edge};
 ghost use Rattle.mesh_boundary.specs.Midway.Flood.{OfSplitEdges, AreKnown};
 ghost use Rattle.mesh_boundary.specs.Midway.Rows.{AreRows};
+ghost use Rattle.mesh_boundary.specs.Midway.Slants.{AreSlantedRows};
 ghost use Rattle.mesh_boundary.specs.Midway.Stars.{AreStars};
 
 use crate::flood::{Flood, Sides};
 use crate::rows::{Rows, SAMPLED, mean_reached};
+use crate::slanted::{SlantedRows, slanted_rows};
 use crate::stars::{Stars, rises};
 use crate::winding::winding;
 use mesh_cuts::fill::FillRule;
@@ -24,7 +26,7 @@ use std::alloc::{AllocError, Global};
 
 /// The windings on both sides of a segment, from that beside it.
 fn sides_by(beside: i128, s: CountedSegment) -> Sides
-    requires beside_small { IsSmall (2 ^ 121) beside }
+    requires beside_small { IsSmall (2 ^ 122) beside }
     requires count_small { IsRoomy (size s) }
     ensures { result ≡ sides_by beside s }
 {
@@ -124,6 +126,19 @@ fn known_sides(segments: &[CountedSegment], stars: &Stars, flood: &Flood, i: usi
     sides_of(segments, segments[i])
 }
 
+/// The sides of the segment at a place, by a sum over a row along a slant.
+fn slanted_sides(segments: &[CountedSegment], rows: &SlantedRows, i: usize) -> Sides
+    requires in_range { i < length segments.now }
+    requires room { IsRoomy (sum_of size segments.now) }
+    requires rows { AreSlantedRows rows.now.slant rows.now.rows segments.now }
+    ensures { OfSplitEdges segments.now (λ es. (d : Counted) → result ≡ sides_of segments.now
+        (slice_index_or segments.now i d)) }
+{
+    let s = segments[i];
+    let at = rows.slant.middle_across(s.0);
+    sides_by(rows.slant.winding(rows.row(at), middle(s.0), at), s)
+}
+
 /// The boundary, where the sides of each segment are a sum over a row.
 fn by_rows(
     alloc: Global,
@@ -138,6 +153,26 @@ fn by_rows(
     let mut edges = Vec::new(alloc);
     for i in 0..segments.len() {
         let sides = row_sides(segments, &rows, i);
+        push_edge(&mut edges, fill, sides, segments[i].0)?;
+    }
+    Ok(edges)
+}
+
+/// The boundary, where the sides of each segment are a sum over a row along a slant.
+fn by_slanted_rows(
+    alloc: Global,
+    segments: &[CountedSegment],
+    rows: &SlantedRows,
+    fill: FillRule,
+) -> Result<Vec<GridEdge>, AllocError>
+    requires room { IsRoomy (sum_of size segments.now) }
+    requires rows { AreSlantedRows rows.now.slant rows.now.rows segments.now }
+    ensures { IfOk result (λ v. (es : List Edge) → IsCountOf es segments.now → AreSplit es
+        → IsBoundary es (filled fill) v.items) }
+{
+    let mut edges = Vec::new(alloc);
+    for i in 0..segments.len() {
+        let sides = slanted_sides(segments, rows, i);
         push_edge(&mut edges, fill, sides, segments[i].0)?;
     }
     Ok(edges)
@@ -180,6 +215,9 @@ pub fn find_boundary(
     let reached = mean_reached(alloc, segments)?;
     if reached <= SHORT {
         return by_rows(alloc, segments, fill);
+    }
+    if let Some(rows) = slanted_rows(alloc, segments, SHORT)? {
+        return by_slanted_rows(alloc, segments, &rows, fill);
     }
     let stars = Stars::new(alloc, segments)?;
     if mean_star(segments, &stars) > reached {

@@ -12,7 +12,7 @@ use Rattle.mesh_join.specs.Cleaned.{cleaned_sections}
 use Rattle.mesh_join.specs.Joins.{has_few}
 use Rattle.mesh_join.specs.Styles.{OffsetJoin}
 use Rattle.mesh_outline.specs.Outline.{Section, SectionPair, outer_edges, parts, joint_at}
-use Rattle.mesh_outline.specs.Outline.{joined, section_of, ring_outline, outline_edges}
+use Rattle.mesh_outline.specs.Outline.{joined, section_of, closed_outline, outline_edges}
 use Rattle.mesh_outline.specs.Midway.{corner_segments, top_segments}
 use Rattle.mesh_outline.proofs.Corners.{corners_keep}
 use Rattle.mesh_outline.proofs.OutlineWalk.{drawn_length}
@@ -21,17 +21,17 @@ use Rattle.mesh_outline.proofs.BuilderWalk.{step_segments, to_come, walk_segment
 
 -- the walk adds as many segments as the outline has edges
 walk_length : (unit : ℕ) (style : OffsetJoin) (e : Edge) (es : List Edge) →
-    length (walk_segments unit style (e ∷ es)) ≡ length (ring_outline unit style (e ∷ es))
+    length (walk_segments unit style (e ∷ es)) ≡ length (closed_outline unit style (e ∷ es))
 walk_length unit style e es =
     omega (
       arith,
-      length_permutation (edges_of (walk_segments unit style (e ∷ es))) (ring_outline unit style (e ∷ es)) (walk_permutes unit style e es),
+      length_permutation (edges_of (walk_segments unit style (e ∷ es))) (closed_outline unit style (e ∷ es)) (walk_permutes unit style e es),
       length-map (walk_segments unit style (e ∷ es)) edge_of,
     )
 
 -- what is added first fits
 pub room_first : (unit : ℕ) (style : OffsetJoin) (contour : List Edge) (e : Edge) (es : List Edge) (first : Section) (n cap : ℕ) →
-    contour ≡ e ∷ es → first ≡ section_of unit style.offset e → n + length (ring_outline unit style contour) ≤ cap →
+    contour ≡ e ∷ es → first ≡ section_of unit style.offset e → n + length (closed_outline unit style contour) ≤ cap →
     n + length (top_segments first) ≤ cap
 room_first unit style contour e es first n cap c made room =
     let s = section_of unit style.offset e in
@@ -40,7 +40,7 @@ room_first unit style contour e es first n cap c made room =
 
 -- so does all that is still to come
 room_left : (unit : ℕ) (style : OffsetJoin) (contour : List Edge) (e : Edge) (es : List Edge) (old now more : List SignedEdge) (cap : ℕ) →
-    contour ≡ e ∷ es → now ++ more ≡ old ++ walk_segments unit style contour → length old + length (ring_outline unit style contour) ≤ cap →
+    contour ≡ e ∷ es → now ++ more ≡ old ++ walk_segments unit style contour → length old + length (closed_outline unit style contour) ≤ cap →
     length now + length more ≤ cap
 room_left unit style contour e es old now more cap c todo room =
     let whole = rw c at room in
@@ -50,7 +50,7 @@ room_left unit style contour e es old now more cap c todo room =
 -- the next step
 pub room_step : (unit : ℕ) (style : OffsetJoin) (contour : List Edge) (e : Edge) (es left rest : List Edge) (f : Edge) (p next first : Section) (old now : List SignedEdge) (cap grown : ℕ) →
     contour ≡ e ∷ es → left ≡ f ∷ rest → next ≡ section_of unit style.offset f → now ++ to_come unit style p left first ≡ old ++ walk_segments unit style contour →
-    cap ≤ grown → length old + length (ring_outline unit style contour) ≤ cap → length now + length (corner_segments unit style (p, next) ++ top_segments next) ≤ grown
+    cap ≤ grown → length old + length (closed_outline unit style contour) ≤ cap → length now + length (corner_segments unit style (p, next) ++ top_segments next) ≤ grown
 room_step unit style contour e es left rest f p next first old now cap grown c l made todo more room =
     let s = section_of unit style.offset f in
     let fits = room_left unit style contour e es old now (to_come unit style p (f ∷ rest) first) cap c (rw l at todo) room in
@@ -59,7 +59,7 @@ room_step unit style contour e es left rest f p next first old now cap grown c l
 -- and the last corner
 pub room_last : (unit : ℕ) (style : OffsetJoin) (contour : List Edge) (e : Edge) (es left : List Edge) (p first : Section) (old now : List SignedEdge) (cap grown : ℕ) →
     contour ≡ e ∷ es → left ≡ [] → now ++ to_come unit style p left first ≡ old ++ walk_segments unit style contour →
-    cap ≤ grown → length old + length (ring_outline unit style contour) ≤ cap → length now + length (corner_segments unit style (p, first)) ≤ grown
+    cap ≤ grown → length old + length (closed_outline unit style contour) ≤ cap → length now + length (corner_segments unit style (p, first)) ≤ grown
 room_last unit style contour e es left p first old now cap grown c l todo more room =
     let fits = room_left unit style contour e es old now (corner_segments unit style (p, first)) cap c (rw l at todo) room in
     omega (arith, fits, more)

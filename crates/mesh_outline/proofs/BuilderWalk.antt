@@ -13,7 +13,7 @@ use Rattle.mesh_clean.specs.Cleaned.{cleaned_sections, IsCleanContour}
 use Rattle.mesh_clean.proofs.CleaningEnds.{cleaned_sections-ends}
 use Rattle.mesh_num.proofs.SegmentLists.{edges_of_segments, edges_of-append}
 use Rattle.mesh_outline.specs.Outline.{Section, SectionPair, top_edge, section_of, corner_edges}
-use Rattle.mesh_outline.specs.Outline.{parts, joined, ring_outline, drawn_edges}
+use Rattle.mesh_outline.specs.Outline.{parts, joined, closed_outline, drawn_edges}
 use Rattle.mesh_outline.specs.Building.{IsMovable}
 use Rattle.mesh_outline.specs.Midway.{IsMoved, IsCorner, corner_segments, top_segments}
 use Rattle.mesh_draw.specs.Adding.{Adds}
@@ -59,7 +59,7 @@ woven_edges unit style p (x ∷ xs) z =
 
 -- the edges of the walk are those of the outline, in another order
 pub walk_permutes : (unit : ℕ) (style : OffsetJoin) (e : Edge) (es : List Edge) →
-    IsPermutation (edges_of (walk_segments unit style (e ∷ es))) (ring_outline unit style (e ∷ es))
+    IsPermutation (edges_of (walk_segments unit style (e ∷ es))) (closed_outline unit style (e ∷ es))
 walk_permutes unit style e es =
     let s = section_of unit style.offset e in
     let rest = map (section_of unit style.offset) es in
@@ -111,13 +111,13 @@ walk_subjects unit style e es =
 
 -- the whole walk adds the outline
 pub walk_adds : (unit : ℕ) (style : OffsetJoin) (contour : List Edge) (e : Edge) (es : List Edge) (old new : List SignedEdge) →
-    contour ≡ e ∷ es → new ≡ old ++ walk_segments unit style contour → Adds old new (ring_outline unit style contour)
+    contour ≡ e ∷ es → new ≡ old ++ walk_segments unit style contour → Adds old new (closed_outline unit style contour)
 walk_adds unit style contour e es old new c h =
     rw c
     (walk_segments unit style (e ∷ es), rw c at h, walk_permutes unit style e es, walk_subjects unit style e es)
 
 -- no section adds nothing
-pub none_adds : (unit : ℕ) (style : OffsetJoin) (contour : List Edge) (old : List SignedEdge) → contour ≡ [] → Adds old old (ring_outline unit style contour)
+pub none_adds : (unit : ℕ) (style : OffsetJoin) (contour : List Edge) (old : List SignedEdge) → contour ≡ [] → Adds old old (closed_outline unit style contour)
 unfolding drawn_edges
 none_adds unit style contour old c = rw c ([], sym (append-nil old), IsPermutation-refl [], All-nil IsSubject)
 
@@ -156,6 +156,6 @@ walk_starts unit style contour e es first old new c made h =
 -- after the last corner
 pub walk_ends : (unit : ℕ) (style : OffsetJoin) (contour : List Edge) (e : Edge) (es left : List Edge) (p first : Section) (old now new : List SignedEdge) →
     contour ≡ e ∷ es → left ≡ [] → now ++ to_come unit style p left first ≡ old ++ walk_segments unit style contour →
-    new ≡ now ++ corner_segments unit style (p, first) → Adds old new (ring_outline unit style contour)
+    new ≡ now ++ corner_segments unit style (p, first) → Adds old new (closed_outline unit style contour)
 walk_ends unit style contour e es left p first old now new c none todo h =
     walk_adds unit style contour e es old new c (h ∙ rw none at todo)

@@ -37,7 +37,7 @@ pub not_negative : (offset : ℤ) → int_lt offset (pos 0) ≡ false → pos 0 
 not_negative offset e = omega (arith, ints)
 
 -- edges with different ends, each starting where the one before ends, the first where the last does
-pub record IsRing (contour : List Edge) : Type 0 where
+pub record IsClosedProper (contour : List Edge) : Type 0 where
   pub proper : All (λ (e : Edge). e.0 ≢ e.1) contour
   pub closed : All (λ (c : Edge × Edge). c.0.1 ≡ c.1.0) (boundary contour)
 
@@ -172,7 +172,7 @@ module _ (unit : ℕ) (style : OffsetJoin) (least : 2 ^ 14 ≤ unit) where
       keeps.joint (joint_at style.offset c) (made_short unit style.offset c.0 p) (made_short unit style.offset c.1 n) (turn_at unit style.offset c (omega arith) p n met outer)
 
   -- each outer corner of a ring keeps what joins keep
-  pub corners_keep : (contour : List Edge) → IsRing contour →
+  pub corners_keep : (contour : List Edge) → IsClosedProper contour →
       All (λ (c : SectionPair). parts style.offset c ≡ true → KeepsJoint unit style.join (joint_at style.offset c)) (boundary (map (section_of unit style.offset) contour))
   corners_keep contour ring =
       corners unit style.offset (λ c. parts style.offset c ≡ true → KeepsJoint unit style.join (joint_at style.offset c)) contour

@@ -30,10 +30,10 @@ use Rattle.mesh_join.specs.Joints.{NeverTurnsBack}
 use Rattle.mesh_join.specs.Styles.{OffsetJoin}
 use Rattle.mesh_outline.specs.Outline.{SectionPair, own_edge, strip, outer_edges, corner_pieces}
 use Rattle.mesh_outline.specs.Outline.{drawn_pieces, sideways, section_of, parts, sense_for}
-use Rattle.mesh_outline.specs.Outline.{joint_at, joined, ring_outline, ring_pieces}
+use Rattle.mesh_outline.specs.Outline.{joint_at, joined, closed_outline, closed_pieces}
 use Rattle.mesh_draw.specs.Drawing.{sided}
 use Rattle.mesh_draw.proofs.Apart.{apart_long}
-use Rattle.mesh_outline.proofs.Corners.{IsRing, negative, not_negative, corners, corners_keep}
+use Rattle.mesh_outline.proofs.Corners.{IsClosedProper, negative, not_negative, corners, corners_keep}
 use Rattle.mesh_outline.proofs.OutlineSum.{IsClosed, Stays, drawn_total, still_total}
 
 -- the turns of moved points are products of the vectors
@@ -45,7 +45,7 @@ own_edges : (unit : ℕ) (offset : ℤ) (contour : List Edge) → map own_edge (
 own_edges unit offset [] = refl
 own_edges unit offset (e ∷ es) = ap (λ (l : List Edge). e ∷ l) (own_edges unit offset es)
 
-sections_closed : (unit : ℕ) (offset : ℤ) (contour : List Edge) → IsRing contour → IsClosed (map (section_of unit offset) contour)
+sections_closed : (unit : ℕ) (offset : ℤ) (contour : List Edge) → IsClosedProper contour → IsClosed (map (section_of unit offset) contour)
 sections_closed unit offset contour ring = corners unit offset (λ c. c.0.b ≡ c.1.a) contour ring.closed
 
 -- a moved edge and its own bound a parallelogram that never winds against the side
@@ -94,7 +94,7 @@ corner_winds m q unit style c keeps = by (parts style.offset c) refl
     by false h = All-nil (λ piece. IsBit (sided style.offset (winding m q (boundary piece))))
 
 -- every piece winds 0 or 1 times round a point, with the sign of its side
-pub pieces_wind : (m : ℕ) (q : Point) (unit : ℕ) (style : OffsetJoin) (contour : List Edge) → 2 ^ 14 ≤ unit → IsRing contour →
+pub pieces_wind : (m : ℕ) (q : Point) (unit : ℕ) (style : OffsetJoin) (contour : List Edge) → 2 ^ 14 ≤ unit → IsClosedProper contour →
     All (λ piece. IsBit (sided style.offset (winding m q (boundary piece)))) (drawn_pieces (parts style.offset) (joined unit style) (map (section_of unit style.offset) contour))
 unfolding drawn_pieces
 pieces_wind m q unit style contour least ring =
@@ -121,7 +121,7 @@ unmoved unit p v some =
     let y : p.1 +ℤ neg_ℤ (scaled unit (pos 0) (direction_of unit v).0) ≡ p.1 = omega (arith, linear, scaled_by_none unit (direction_of unit v).0 some) in
     λ i. (x i, y i)
 
-module _ (unit : ℕ) (style : OffsetJoin) (contour : List Edge) (least : 2 ^ 14 ≤ unit) (ring : IsRing contour) where
+module _ (unit : ℕ) (style : OffsetJoin) (contour : List Edge) (least : 2 ^ 14 ≤ unit) (ring : IsClosedProper contour) where
   drawn_pieces_none : (f : Point → Point → ℤ) → IsOdd f → style.offset ≡ pos 0 →
       pieces_total f (drawn_pieces (parts style.offset) (joined unit style) (map (section_of unit style.offset) contour)) ≡ pos 0
   drawn_pieces_none f odd e =
@@ -133,25 +133,25 @@ module _ (unit : ℕ) (style : OffsetJoin) (contour : List Edge) (least : 2 ^ 14
 
   -- for a function that is odd, such as the crossing at a point of a grid: the outline's edges give what the contour's and the boundaries of the pieces give
   pub outline_total : (f : Point → Point → ℤ) → IsOdd f →
-      total f (ring_outline unit style contour) ≡ total f contour +ℤ pieces_total f (ring_pieces unit style contour)
+      total f (closed_outline unit style contour) ≡ total f contour +ℤ pieces_total f (closed_pieces unit style contour)
   outline_total f odd = by (int_eq style.offset (pos 0)) refl
     where
-      drawn : total f (ring_outline unit style contour) ≡ total f contour +ℤ pieces_total f (drawn_pieces (parts style.offset) (joined unit style) (map (section_of unit style.offset) contour))
+      drawn : total f (closed_outline unit style contour) ≡ total f contour +ℤ pieces_total f (drawn_pieces (parts style.offset) (joined unit style) (map (section_of unit style.offset) contour))
       drawn = rw (own_edges unit style.offset contour) at (drawn_total f odd (parts style.offset) (joined unit style) (map (section_of unit style.offset) contour) (sections_closed unit style.offset contour ring))
 
       by : (b : Bool) → int_eq style.offset (pos 0) ≡ b →
-          total f (ring_outline unit style contour) ≡ total f contour +ℤ pieces_total f (cond b [] (drawn_pieces (parts style.offset) (joined unit style) (map (section_of unit style.offset) contour)))
+          total f (closed_outline unit style contour) ≡ total f contour +ℤ pieces_total f (cond b [] (drawn_pieces (parts style.offset) (joined unit style) (map (section_of unit style.offset) contour)))
       by true h = omega (arith, linear, drawn, drawn_pieces_none f odd ((Decides-int_eq style.offset (pos 0)).0 h))
       by false h = drawn
 
-  pub outline_balanced : IsBalanced (ring_outline unit style contour)
+  pub outline_balanced : IsBalanced (closed_outline unit style contour)
   outline_balanced =
-      balanced_by_pieces (ring_outline unit style contour) contour (ring_pieces unit style contour)
+      balanced_by_pieces (closed_outline unit style contour) contour (closed_pieces unit style contour)
       (λ g. outline_total (growth g) (growth_odd g)) (closed_balanced contour ring.closed)
 
   -- the outline winds as the contour does, and once more for each piece that holds the point, once less where the offset is negative
   pub outline_winding : (m : ℕ) (q : Point) →
-      winding m q (ring_outline unit style contour) ≡ winding m q contour +ℤ sided style.offset (pos (count_by (holds m q) (ring_pieces unit style contour)))
+      winding m q (closed_outline unit style contour) ≡ winding m q contour +ℤ sided style.offset (pos (count_by (holds m q) (closed_pieces unit style contour)))
   outline_winding m q =
       outline_total (crossing_on m q) (crossing_on_odd m q)
       ∙ ap (λ (x : ℤ). winding m q contour +ℤ x) (counted (int_eq style.offset (pos 0)))

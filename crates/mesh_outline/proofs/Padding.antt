@@ -24,10 +24,10 @@ use Rattle.mesh_outline.specs.Kinds.{way_for}
 use Rattle.mesh_outline.specs.declared.outline.kind.ContourKind.{ContourKind}
 use Rattle.mesh_outline.specs.declared.outline.kind.ContourKind.TheVariants.{Outer, Hole, Ignored}
 use Rattle.mesh_outline.specs.Outline.{Section, SectionPair, top_edge, section_of, inner_edges, outer_edges}
-use Rattle.mesh_outline.specs.Outline.{corner_edges, drawn_edges, parts, joint_at, joined, ring_outline}
+use Rattle.mesh_outline.specs.Outline.{corner_edges, drawn_edges, parts, joint_at, joined, closed_outline}
 use Rattle.mesh_draw.specs.Padding.{ArePathsSafe, IsNear}
 use Rattle.mesh_draw.proofs.Apart.{apart_long}
-use Rattle.mesh_outline.proofs.Corners.{IsRing, corners, corners_keep}
+use Rattle.mesh_outline.proofs.Corners.{IsClosedProper, corners, corners_keep}
 use Rattle.mesh_draw.proofs.Padding.{beside_near, ends_safe, paths_safe_less, safe_within_less, vertex_near}
 
 -- ---- paddings
@@ -128,7 +128,7 @@ section_near unit offset padding vertices e some h apart first last =
     within_radius : (n : ℕ) → n ≤ unsigned_abs offset → pos n ≤ℤ padding
     within_radius n l = omega (arith, ints)
 
-module _ (unit : ℕ) (style : OffsetJoin) (vertices : List Point) (contour : List Edge) (least : 2 ^ 14 ≤ unit) (ring : IsRing contour)
+module _ (unit : ℕ) (style : OffsetJoin) (vertices : List Point) (contour : List Edge) (least : 2 ^ 14 ≤ unit) (ring : IsClosedProper contour)
     (listed : All (λ (e : Edge). Contains vertices e.0 × Contains vertices e.1) contour) where
   abbrev Near : Point → Type 0
   Near = IsNear (offset_padding style) vertices
@@ -167,15 +167,15 @@ module _ (unit : ℕ) (style : OffsetJoin) (vertices : List Point) (contour : Li
       (all_both Keeps (λ (c : SectionPair). Contains vertices c.0.b) (boundary sections) (corners_keep unit style least contour ring) corners_listed)
 
   -- ends of the edges of an outline are away from a vertex by at most the padding in each coordinate
-  pub outline_near : All (λ (e : Edge). IsNear (offset_padding style) vertices e.0 × IsNear (offset_padding style) vertices e.1) (ring_outline unit style contour)
+  pub outline_near : All (λ (e : Edge). IsNear (offset_padding style) vertices e.0 × IsNear (offset_padding style) vertices e.1) (closed_outline unit style contour)
   outline_near = drawn_all Near (parts style.offset) (joined unit style) sections sections_near joins_near
 
 -- an outline of vertices that stay safe is in the safe range
-pub outline_safe : (unit : ℕ) (style : OffsetJoin) (vertices : List Point) (contour : List Edge) → 2 ^ 14 ≤ unit → IsRing contour →
+pub outline_safe : (unit : ℕ) (style : OffsetJoin) (vertices : List Point) (contour : List Edge) → 2 ^ 14 ≤ unit → IsClosedProper contour →
     All (λ (e : Edge). Contains vertices e.0 × Contains vertices e.1) contour → All (IsMovable unit style) vertices →
-    All (λ (e : Edge). IsSafe unit e.0 × IsSafe unit e.1) (ring_outline unit style contour)
+    All (λ (e : Edge). IsSafe unit e.0 × IsSafe unit e.1) (closed_outline unit style contour)
 outline_safe unit style vertices contour least ring listed safe =
-    ends_safe unit (offset_padding style) vertices (ring_outline unit style contour) safe (outline_near unit style vertices contour least ring listed)
+    ends_safe unit (offset_padding style) vertices (closed_outline unit style contour) safe (outline_near unit style vertices contour least ring listed)
 
 -- the padding of an outline is at least 0
 pub outline_padding_least : (style : OutlineStyle) → pos 0 ≤ℤ outline_padding style

@@ -16,15 +16,15 @@ use Rattle.mesh_outline.specs.Kinds.{contour_kind}
 use Rattle.mesh_outline.specs.Outline.{parts, joined, section_of, drawn_pieces, outline_pieces}
 use Rattle.mesh_draw.specs.Drawing.{sided}
 use Rattle.mesh_outline.specs.Resolved.{HasPromisedEdges, HavePromisedEdges}
-use Rattle.mesh_outline.proofs.Corners.{IsRing}
+use Rattle.mesh_outline.proofs.Corners.{IsClosedProper}
 use Rattle.mesh_outline.proofs.OutlineCount.{outline_total, outline_balanced, outline_winding, pieces_wind}
 use Rattle.mesh_outline.proofs.Padding.{outline_near, way_of}
 
 -- the cleaned contour is a ring of edges with different ends
-pub cleaned_ring : (points : List Point) → IsRing (cleaned_sections points)
+pub cleaned_ring : (points : List Point) → IsClosedProper (cleaned_sections points)
 cleaned_ring points = by (cleaned_sections points) refl
   where
-    by : (es : List Edge) → cleaned_sections points ≡ es → IsRing es
+    by : (es : List Edge) → cleaned_sections points ≡ es → IsClosedProper es
     by [] e = record { proper = All-nil (λ (f : Edge). f.0 ≡ f.1 → ⊥); closed = All-nil (λ (c : Edge × Edge). c.0.1 ≡ c.1.0) }
     by (x ∷ xs) e =
         let clean : IsCleanContour (cleaned_sections points) =

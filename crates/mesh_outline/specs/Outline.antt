@@ -100,20 +100,20 @@ abbrev pub joined : ℕ → OffsetJoin → SectionPair → List Point
 joined unit style c = join_points unit style.join (joint_at style.offset c)
 
 -- the outline of a ring of edges: they are moved by the offset and joined at the outer corners
-abbrev pub ring_outline : ℕ → OffsetJoin → List Edge → List Edge
-ring_outline unit style contour =
+abbrev pub closed_outline : ℕ → OffsetJoin → List Edge → List Edge
+closed_outline unit style contour =
     drawn_edges (parts style.offset) (joined unit style) (map (section_of unit style.offset) contour)
 
 -- its pieces; the offset 0 has none
-abbrev pub ring_pieces : ℕ → OffsetJoin → List Edge → List (List Point)
-ring_pieces unit style contour =
+abbrev pub closed_pieces : ℕ → OffsetJoin → List Edge → List (List Point)
+closed_pieces unit style contour =
     cond (int_eq style.offset (pos 0)) []
     (drawn_pieces (parts style.offset) (joined unit style) (map (section_of unit style.offset) contour))
 
 -- the edges of the outline of the contour of these points
 abbrev pub outline_edges : ℕ → OffsetJoin → List Point → List Edge
-outline_edges unit style points = ring_outline unit style (cleaned_sections points)
+outline_edges unit style points = closed_outline unit style (cleaned_sections points)
 
 -- its pieces: the strips between the edges and the moved edges, and the triangles of the joins
 abbrev pub outline_pieces : ℕ → OffsetJoin → List Point → List (List Point)
-outline_pieces unit style points = ring_pieces unit style (cleaned_sections points)
+outline_pieces unit style points = closed_pieces unit style (cleaned_sections points)

@@ -35,10 +35,6 @@ end_capped unit radius kind e least apart sign safe = record {
   safe = safe;
 }
 
--- read backwards twice
-pub back_again : (unit : ℕ) (radius : ℤ) (s b : Section) → IsMade unit radius s → b ≡ section_of unit radius (s.b, s.a) → s ≡ section_of unit radius (b.b, b.a)
-back_again unit radius s b h e = h.made ∙ ap (section_of unit radius) (sym (ap (λ (t : Section). (t.b, t.a)) e))
-
 -- both caps were drawn
 pub caps_drawn : (unit : ℕ) (radius : ℤ) (start end : CapKind) (first last before : Section) (old mid new : List SignedEdge) →
     before ≡ section_of unit radius (first.b, first.a) →

@@ -15,10 +15,10 @@ route_pairs x [] z = refl
 route_pairs x (y ∷ ys) z = ap (λ (l : List Edge). (x, y) ∷ l) (route_pairs y ys z)
 
 -- an open path walks through the rest of its points, a closed one on to its first point
-pub begun : (closed : Bool) (points rest : List Point) (first : Point) (returns : Option Point) → points ≡ first ∷ rest → returns ≡ (if closed then Some first else None) →
+pub path_begun : (closed : Bool) (points rest : List Point) (first : Point) (returns : Option Point) → points ≡ first ∷ rest → returns ≡ (if closed then Some first else None) →
     proper_edges (pairs (first ∷ (rest ++ option_to_list returns))) ≡ path_edges closed points
-begun true points rest first returns e h = rw (e, h) (ap proper_edges (route_pairs first rest first))
-begun false points rest first returns e h = rw (e, h, append-nil rest) refl
+path_begun true points rest first returns e h = rw (e, h) (ap proper_edges (route_pairs first rest first))
+path_begun false points rest first returns e h = rw (e, h, append-nil rest) refl
 
 -- a point that is the last one again is passed over
 pub passed_over : (all : List Edge) (from p : Point) (points rest : List Point) → points ≡ p ∷ rest → not (same_point from p) ≡ false →

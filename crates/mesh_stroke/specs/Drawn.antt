@@ -15,13 +15,13 @@ abbrev pub HasStockCaps : StrokeStyle → Bool → Type 0
 HasStockCaps style closed = IsTrue (closed || (is_stock style.start && is_stock style.end))
 
 -- at each point of each grid each piece winds 0 times or once
-abbrev pub NeverTurnedRound : List (List Point) → Type 0
-NeverTurnedRound pieces =
+abbrev pub PiecesWindOnce : List (List Point) → Type 0
+PiecesWindOnce pieces =
     (m : ℕ) (q : Point) → All (λ (piece : List Point). IsBit (winding m q (boundary piece))) pieces
 
 -- at each point of each grid the edges wind once for each piece that holds the point
-abbrev pub WindsByCount : List (List Point) → List Edge → Type 0
-WindsByCount pieces es = (m : ℕ) (q : Point) → winding m q es ≡ pos (count_by (holds m q) pieces)
+abbrev pub WindsAsManyPieces : List (List Point) → List Edge → Type 0
+WindsAsManyPieces pieces es = (m : ℕ) (q : Point) → winding m q es ≡ pos (count_by (holds m q) pieces)
 
 -- edges that are drawn as the stroke of the path through these points, which stay safe where they move by its padding
 pub record AreStroked (unit : ℕ) (style : StrokeStyle) (closed : Bool) (points : List Point) (es : List Edge)
@@ -35,6 +35,6 @@ pub record AreStroked (unit : ℕ) (style : StrokeStyle) (closed : Bool) (points
   -- they wind as the pieces of the stroke together
   pub sum : WindAsPieces (stroke_pieces unit style closed points) es
   -- but for custom caps no piece is turned round
-  pub pieces : HasStockCaps style closed → NeverTurnedRound (stroke_pieces unit style closed points)
+  pub pieces : HasStockCaps style closed → PiecesWindOnce (stroke_pieces unit style closed points)
   -- so they wind as often as there are pieces that hold the point
-  pub count : HasStockCaps style closed → WindsByCount (stroke_pieces unit style closed points) es
+  pub count : HasStockCaps style closed → WindsAsManyPieces (stroke_pieces unit style closed points) es

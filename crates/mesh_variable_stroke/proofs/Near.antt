@@ -41,7 +41,7 @@ use Rattle.mesh_variable_stroke.specs.Chains.{chains_of}
 use Rattle.mesh_variable_stroke.specs.Drawn.{vertex_points, greatest_radius}
 use Rattle.mesh_variable_stroke.specs.declared.chain_end.ChainEnd.{ChainEnd}
 use Rattle.mesh_variable_stroke.specs.declared.chain_end.ChainEnd.TheVariants.{Butt, Round}
-use Rattle.mesh_variable_stroke.specs.VariableStrokes.{side_edges, sweep_at, start_edges, end_edges, Joint, is_apart}
+use Rattle.mesh_variable_stroke.specs.VariableStrokes.{side_edges, sweep_at, start_edges, end_edges, SectionPair, is_apart}
 use Rattle.mesh_variable_stroke.specs.VariableStrokes.{has_left_arc, has_right_arc, left_edges, right_edges}
 use Rattle.mesh_variable_stroke.specs.VariableStrokes.{joint_edges, sections_of, are_butt}
 use Rattle.mesh_variable_stroke.specs.VariableStrokes.{bare_edges, edges_with, chain_edges}
@@ -228,7 +228,7 @@ module _ (unit : ℕ) (some : 0 < unit) (options : ArcOptions) (reach : ℤ) (po
   side_near true v x y aligned listed hx hy = arc_near v x y aligned listed hx hy
   side_near false v x y aligned listed hx hy = edge_near v v x y listed listed hx hy
 
-  met_near : (j : Joint) → Placed j.0 → Placed j.1 → j.0.b.center ≡ j.1.a.center →
+  met_near : (j : SectionPair) → Placed j.0 → Placed j.1 → j.0.b.center ≡ j.1.a.center →
       All EndsNear (left_edges unit options j ++ right_edges unit options j)
   met_near j p n met =
       All-append EndsNear (left_edges unit options j) (right_edges unit options j)
@@ -243,7 +243,7 @@ module _ (unit : ℕ) (some : 0 < unit) (options : ArcOptions) (reach : ℤ) (po
       next : (q : Point) → IsContact j.1.a q → IsRound reach v q
       next q contact = subst (λ (c : Point). IsRound reach c q) (sym met) (round j.1.a q n.a contact)
 
-  joint_near : (j : Joint) → Placed j.0 × Placed j.1 → All EndsNear (joint_edges unit options j)
+  joint_near : (j : SectionPair) → Placed j.0 × Placed j.1 → All EndsNear (joint_edges unit options j)
   joint_near j h =
       cond_both (is_apart j) (end_edges unit options Butt j.0 ++ start_edges unit options Butt j.1)
       (left_edges unit options j ++ right_edges unit options j) (All EndsNear)
@@ -273,7 +273,7 @@ module _ (unit : ℕ) (some : 0 < unit) (options : ArcOptions) (reach : ℤ) (po
       (All-weaker Placed (λ t. All EndsNear (side_edges t)) sides_near (s ∷ ss) h))
       (All-append EndsNear joints (first ++ last)
       (all_flat_map EndsNear (joint_edges unit options) (pairs (s ∷ ss))
-      (All-weaker (λ (j : Joint). Placed j.0 × Placed j.1) (λ j. All EndsNear (joint_edges unit options j)) joint_near
+      (All-weaker (λ (j : SectionPair). Placed j.0 × Placed j.1) (λ j. All EndsNear (joint_edges unit options j)) joint_near
       (pairs (s ∷ ss)) (pairs_all Placed (s ∷ ss) h)))
       (All-append EndsNear first last (start_near chain.start_end s (All-head Placed s ss h))
       (end_near chain.end (last_of s ss) (last_all Placed s ss h))))

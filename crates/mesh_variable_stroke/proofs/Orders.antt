@@ -14,14 +14,14 @@ use Rattle.mesh_draw.proofs.ProperEdges.{proper_append, proper_flat_map}
 use Rattle.mesh_draw.proofs.Walks.{woven_through}
 use Rattle.mesh_tangent.specs.Sections.{Circle, Section}
 use Rattle.mesh_variable_stroke.specs.Midway.{last_with}
-use Rattle.mesh_variable_stroke.specs.VariableStrokes.{Joint, are_butt}
+use Rattle.mesh_variable_stroke.specs.VariableStrokes.{SectionPair, are_butt}
 use Rattle.mesh_variable_stroke.specs.declared.chain_end.ChainEnd.{ChainEnd}
 
 -- the sections of steps
 abbrev pub listed_sections : List (Option Section) → List Section
 listed_sections os = flat_map option_to_list os
 
-module _ {B : Type 0} (side : Section → List B) (start : ChainEnd → Section → List B) (finish : ChainEnd → Section → List B) (joint : Joint → List B) (circle : Circle → List B) where
+module _ {B : Type 0} (side : Section → List B) (start : ChainEnd → Section → List B) (finish : ChainEnd → Section → List B) (joint : SectionPair → List B) (circle : Circle → List B) where
   abbrev pub attached : ChainEnd → Option Section → Section → List B
   attached e None s = start e s
   attached e (Some p) s = joint (p, s)
@@ -118,7 +118,7 @@ without_either : (b : Bool) (es : List Edge) → proper_edges (if b then [] else
 without_either true es = refl
 without_either false es = refl
 
-module _ (side : Section → List Edge) (start : ChainEnd → Section → List Edge) (finish : ChainEnd → Section → List Edge) (joint : Joint → List Edge) (circle : Circle → List Edge) where
+module _ (side : Section → List Edge) (start : ChainEnd → Section → List Edge) (finish : ChainEnd → Section → List Edge) (joint : SectionPair → List Edge) (circle : Circle → List Edge) where
   abbrev side' : Section → List Edge
   side' s = proper_edges (side s)
 
@@ -128,7 +128,7 @@ module _ (side : Section → List Edge) (start : ChainEnd → Section → List E
   abbrev finish' : ChainEnd → Section → List Edge
   finish' e s = proper_edges (finish e s)
 
-  abbrev joint' : Joint → List Edge
+  abbrev joint' : SectionPair → List Edge
   joint' j = proper_edges (joint j)
 
   abbrev circle' : Circle → List Edge

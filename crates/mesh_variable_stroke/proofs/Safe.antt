@@ -19,7 +19,7 @@ use Rattle.mesh_tangent.specs.Sections.{Circle, Section, IsSafeCircle, IsContact
 use Rattle.mesh_variable_stroke.specs.Midway.{IsGoodSection, IsGoodJoint}
 use Rattle.mesh_variable_stroke.specs.Chains.{circle_of}
 use Rattle.mesh_variable_stroke.specs.Drawn.{greatest_radius, AreStrokable}
-use Rattle.mesh_variable_stroke.specs.VariableStrokes.{Joint, is_apart}
+use Rattle.mesh_variable_stroke.specs.VariableStrokes.{SectionPair, is_apart}
 
 -- an arc from a contact of a circle round its center
 pub contact_swept : (unit : ℕ) (c : Circle) (x y : Point) → IsSafeCircle unit c → IsContact c x → IsSafe unit x → IsSafe unit y →
@@ -41,7 +41,7 @@ end_swept unit s t c e f h =
     rw (e, f) (contact_swept unit s.b s.b_right s.b_left h.b h.contacts.b_right h.safe.b_right h.safe.b_left)
 
 -- arcs at a joint
-pub right_swept : (unit : ℕ) (j : Joint) (p n : Section) (c : Point) → p ≡ j.0 → n ≡ j.1 → c ≡ j.0.b.center → IsGoodJoint unit j →
+pub right_swept : (unit : ℕ) (j : SectionPair) (p n : Section) (c : Point) → p ≡ j.0 → n ≡ j.1 → c ≡ j.0.b.center → IsGoodJoint unit j →
     IsSwept unit c p.b_right n.a_right
 right_swept unit j p n c e f g h =
     rw (e, f, g)
@@ -51,7 +51,7 @@ right_swept unit j p n c e f g h =
 pub met_at : (p q : Point) → not (same_point p q) ≡ false → p ≡ q
 met_at p q h = (decides_point p q).0 (not-false (same_point p q) h)
 
-pub left_swept : (unit : ℕ) (j : Joint) (p n : Section) (c : Point) → p ≡ j.0 → n ≡ j.1 → c ≡ j.0.b.center → IsGoodJoint unit j →
+pub left_swept : (unit : ℕ) (j : SectionPair) (p n : Section) (c : Point) → p ≡ j.0 → n ≡ j.1 → c ≡ j.0.b.center → IsGoodJoint unit j →
     is_apart j ≡ false → IsSwept unit c n.a_left p.b_left
 left_swept unit j p n c e f g h met =
     rw (e, f, g ∙ met_at j.0.b.center j.1.a.center met)

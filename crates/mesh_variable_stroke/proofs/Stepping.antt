@@ -6,20 +6,20 @@ use Rattle.mesh_arc.specs.declared.arc.ArcOptions.{ArcOptions}
 use Rattle.mesh_tangent.specs.Sections.{Circle, Section, section_of, with_contacts, has_no_section, IsSafeCircle, HasContacts, IsSafeSection}
 use Rattle.mesh_variable_stroke.specs.Midway.{Open, Walk, opened, gone_on, step_edges, finish_edges}
 use Rattle.mesh_variable_stroke.specs.Midway.{IsGoodOpen, IsGoodSection, IsGoodWalk, last_with}
-use Rattle.mesh_variable_stroke.specs.VariableStrokes.{Joint, is_apart, start_edges, end_edges, left_edges, right_edges, joint_edges}
+use Rattle.mesh_variable_stroke.specs.VariableStrokes.{SectionPair, is_apart, start_edges, end_edges, left_edges, right_edges, joint_edges}
 use Rattle.mesh_variable_stroke.specs.declared.chain_end.ChainEnd.{ChainEnd}
 use Rattle.mesh_variable_stroke.specs.declared.chain_end.ChainEnd.TheVariants.{Butt, Round}
 use Rattle.mesh_join.proofs.Drawing.{appends_both}
 
 -- both ends of sections that do not meet
-pub apart_added : (unit : ℕ) (options later : ArcOptions) (j : Joint) (old mid new : List SignedEdge) → is_apart j ≡ true →
+pub apart_added : (unit : ℕ) (options later : ArcOptions) (j : SectionPair) (old mid new : List SignedEdge) → is_apart j ≡ true →
     mid ≡ old ++ segments_of (end_edges unit options Butt j.0) → new ≡ mid ++ segments_of (start_edges unit later Butt j.1) →
     new ≡ old ++ segments_of (joint_edges unit options j)
 apart_added unit options later j old mid new a m h =
     rw a (appends_both old mid new (end_edges unit options Butt j.0) (start_edges unit options Butt j.1) m h)
 
 -- both sides of sections that meet
-pub met_added : (unit : ℕ) (options later : ArcOptions) (j : Joint) (old mid new : List SignedEdge) → is_apart j ≡ false → later ≡ options →
+pub met_added : (unit : ℕ) (options later : ArcOptions) (j : SectionPair) (old mid new : List SignedEdge) → is_apart j ≡ false → later ≡ options →
     mid ≡ old ++ segments_of (left_edges unit options j) → new ≡ mid ++ segments_of (right_edges unit later j) →
     new ≡ old ++ segments_of (joint_edges unit options j)
 met_added unit options later j old mid new a same m h =

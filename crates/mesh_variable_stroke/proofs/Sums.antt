@@ -21,7 +21,7 @@ use Rattle.mesh_variable_stroke.specs.Chains.{circles_of, chains_of, Chain, Step
 use Rattle.mesh_variable_stroke.specs.declared.chain_end.ChainEnd.{ChainEnd}
 use Rattle.mesh_variable_stroke.specs.declared.chain_end.ChainEnd.TheVariants.{Butt, Round}
 use Rattle.mesh_variable_stroke.specs.VariableStrokes.{side_edges, section_piece, sweep_at, start_edges, start_pieces}
-use Rattle.mesh_variable_stroke.specs.VariableStrokes.{end_edges, end_pieces, Joint, is_apart, has_left_arc}
+use Rattle.mesh_variable_stroke.specs.VariableStrokes.{end_edges, end_pieces, SectionPair, is_apart, has_left_arc}
 use Rattle.mesh_variable_stroke.specs.VariableStrokes.{has_right_arc, left_edges, right_edges, joint_edges}
 use Rattle.mesh_variable_stroke.specs.VariableStrokes.{left_pieces, right_pieces, joint_piece}
 use Rattle.mesh_variable_stroke.specs.VariableStrokes.{joint_pieces, sections_of, are_butt, bare_edges}
@@ -58,7 +58,7 @@ module _ (f : Point → Point → ℤ) (odd : IsOdd f) (unit : ℕ) (options : A
   side_total false c x y aligned = omega (arith, linear)
 
   -- a joint goes across the end of one section and the start of the next
-  joint_total : (j : Joint) →
+  joint_total : (j : SectionPair) →
       total f (joint_edges unit options j)
       ≡ pieces_total f (joint_pieces unit options j) +ℤ (across_end j.0 +ℤ across_start j.1)
   joint_total j = by (is_apart j)

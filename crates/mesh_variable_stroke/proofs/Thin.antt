@@ -21,7 +21,7 @@ use Rattle.mesh_sweep.proofs.Cases.{no_circle}
 use Rattle.mesh_tangent.specs.Sections.{Circle, Section, section_of, with_contacts, is_nested}
 use Rattle.mesh_variable_stroke.specs.Chains.{Step, is_break, is_cover, end_before, circle_of}
 use Rattle.mesh_variable_stroke.specs.Drawn.{greatest_radius}
-use Rattle.mesh_variable_stroke.specs.Midway.{Open, Walk, opened, last_with, begun, step_to, walked, walked_edges}
+use Rattle.mesh_variable_stroke.specs.Midway.{Open, Walk, opened, last_with, walk_from, step_to, walked, walked_edges}
 use Rattle.mesh_variable_stroke.specs.Midway.{step_edges, closing_edges, finish_edges, IsThinOpen, IsThinWalk}
 use Rattle.mesh_variable_stroke.specs.VariableStrokes.{are_butt, variable_stroke_edges}
 use Rattle.mesh_variable_stroke.specs.declared.chain_end.ChainEnd.{ChainEnd}
@@ -100,11 +100,11 @@ pub record IsThin (w : Walk) (rest : List Vertex) : Type 0 where
   pub walk : IsThinWalk w
   pub left : All IsThinVertex rest
 
-pub thin_starts : (path : List Vertex) (v : Vertex) (rest : List Vertex) (c : Circle) (w : Walk) → path ≡ v ∷ rest → c ≡ circle_of v → w ≡ begun c →
+pub thin_starts : (path : List Vertex) (v : Vertex) (rest : List Vertex) (c : Circle) (w : Walk) → path ≡ v ∷ rest → c ≡ circle_of v → w ≡ walk_from c →
     greatest_radius path ≤ℤ pos 1 → IsThin w rest
 thin_starts path v rest c w p e b h =
     let all : All IsThinVertex (v ∷ rest) = rw p at (thin_vertices path h) in
-    let start : w ≡ begun (circle_of v) = b ∙ ap begun e in
+    let start : w ≡ walk_from (circle_of v) = b ∙ ap walk_from e in
     let own : (circle_of v).radius ≤ℤ pos 1 = All-head IsThinVertex v rest all in
     record {
       walk = rw start (record { chain = record { start = own; last = refl }; at = own });
@@ -139,7 +139,7 @@ module _ (unit : ℕ) (options : ArcOptions) where
   thin_stream [] h = refl
   thin_stream (v ∷ rest) h =
       coming_starts unit options v rest
-      ∙ thin_coming (begun (circle_of v)) rest (thin_starts (v ∷ rest) v rest (circle_of v) (begun (circle_of v)) refl refl refl h)
+      ∙ thin_coming (walk_from (circle_of v)) rest (thin_starts (v ∷ rest) v rest (circle_of v) (walk_from (circle_of v)) refl refl refl h)
 
   thin_stroke : (path : List Vertex) → greatest_radius path ≤ℤ pos 1 → length (variable_stroke_edges unit options path) ≡ 0
   thin_stroke path h =

@@ -16,7 +16,7 @@ use Rattle.mesh_draw.specs.Adding.{Adds}
 use Rattle.mesh_draw.proofs.Adding.{keeps_through}
 use Rattle.mesh_sweep.specs.Sweeps.{circle_edges}
 use Rattle.mesh_tangent.specs.Sections.{Circle, Section, IsSafeCircle}
-use Rattle.mesh_variable_stroke.specs.Midway.{Open, Walk, opened, gone_on, step_edges, finish_edges, begun, step_to, walked, walked_edges}
+use Rattle.mesh_variable_stroke.specs.Midway.{Open, Walk, opened, gone_on, step_edges, finish_edges, walk_from, step_to, walked, walked_edges}
 use Rattle.mesh_variable_stroke.specs.Midway.{IsGoodWalk}
 use Rattle.mesh_variable_stroke.specs.Drawn.{greatest_radius, AreStrokable}
 use Rattle.mesh_variable_stroke.specs.Chains.{Chain, Step, rest_of, is_break, is_cover, end_before, end_after, chains_of, circle_of, circles_of, steps_from}
@@ -133,7 +133,7 @@ module _ (unit : ℕ) (options : ArcOptions) where
   abbrev pub path_stream : List Vertex → List Edge
   path_stream vertices = flat_map stream (chains_of unit (circles_of vertices))
 
-  pub coming_starts : (v : Vertex) (rest : List Vertex) → coming (begun (circle_of v)) rest ≡ path_stream (v ∷ rest)
+  pub coming_starts : (v : Vertex) (rest : List Vertex) → coming (walk_from (circle_of v)) rest ≡ path_stream (v ∷ rest)
   coming_starts v rest = refl
 
   -- ---- it is what the definition has, in another order
@@ -181,11 +181,11 @@ pub record IsWalked (unit : ℕ) (options : ArcOptions) (path : List Vertex) (ol
 
 module _ (unit : ℕ) (options : ArcOptions) (path : List Vertex) (old : List SignedEdge) where
   -- it begins at the first vertex
-  pub walk_starts : (v : Vertex) (rest : List Vertex) (c : Circle) (w : Walk) → path ≡ v ∷ rest → c ≡ circle_of v → w ≡ begun c →
+  pub walk_starts : (v : Vertex) (rest : List Vertex) (c : Circle) (w : Walk) → path ≡ v ∷ rest → c ≡ circle_of v → w ≡ walk_from c →
       AreStrokable unit (greatest_radius path) path → IsWalked unit options path old old options w rest
   walk_starts v rest c w p e b safe =
       let all : All (IsSafeVertex unit) (v ∷ rest) = rw p at (path_safe unit path safe) in
-      let start : w ≡ begun (circle_of v) = b ∙ ap begun e in
+      let start : w ≡ walk_from (circle_of v) = b ∙ ap walk_from e in
       record {
         todo = rw (start, p) refl;
         good = rw start (record { chain = opened_good unit (circle_of v) Round (All-head (IsSafeVertex unit) v rest all); before = tt; at = All-head (IsSafeVertex unit) v rest all });

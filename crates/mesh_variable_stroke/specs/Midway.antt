@@ -6,7 +6,7 @@ use Rattle.mesh_arc.specs.declared.arc.ArcOptions.{ArcOptions}
 use Rattle.mesh_sweep.specs.Sweeps.{circle_edges}
 use Rattle.mesh_tangent.specs.Sections.{Circle, Section, section_of, IsSafeCircle, HasContacts, IsSafeSection}
 use Rattle.mesh_variable_stroke.specs.Chains.{Step, is_break, is_cover, end_before, end_after}
-use Rattle.mesh_variable_stroke.specs.VariableStrokes.{Joint, are_butt, side_edges, start_edges, end_edges, joint_edges}
+use Rattle.mesh_variable_stroke.specs.VariableStrokes.{SectionPair, are_butt, side_edges, start_edges, end_edges, joint_edges}
 use Rattle.mesh_variable_stroke.specs.declared.chain_end.ChainEnd.{ChainEnd}
 use Rattle.mesh_variable_stroke.specs.declared.chain_end.ChainEnd.TheVariants.{Butt, Round}
 
@@ -20,7 +20,7 @@ pub record IsGoodSection (unit : ℕ) (s : Section) : Type 0 where
   pub safe : IsSafeSection unit s
 
 -- two such sections
-pub record IsGoodJoint (unit : ℕ) (j : Joint) : Type 0 where
+pub record IsGoodJoint (unit : ℕ) (j : SectionPair) : Type 0 where
   pub previous : IsGoodSection unit j.0
   pub next : IsGoodSection unit j.1
 
@@ -83,8 +83,8 @@ pub record Walk : Type 0 where
   pub at : Circle
   pub end : ChainEnd
 
-abbrev pub begun : Circle → Walk
-begun first = record { chain = opened first Round; before = None; at = first; end = Round }
+abbrev pub walk_from : Circle → Walk
+walk_from first = record { chain = opened first Round; before = None; at = first; end = Round }
 
 pub record IsGoodWalk (unit : ℕ) (w : Walk) : Type 0 where
   pub chain : IsGoodOpen unit w.chain

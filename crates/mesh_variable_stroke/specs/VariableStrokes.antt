@@ -54,63 +54,63 @@ end_pieces unit options Round s = arc_pieces unit options s.b.center s.b_right s
 -- ---- joints
 
 -- two neighbouring sections of a chain
-abbrev pub Joint : Type 0
-Joint = Section × Section
+abbrev pub SectionPair : Type 0
+SectionPair = Section × Section
 
 -- they do not meet, since the sections between were left out
-abbrev pub is_apart : Joint → Bool
+abbrev pub is_apart : SectionPair → Bool
 is_apart j = not (same_point j.0.b.center j.1.a.center)
 
 -- how the path turns at a joint, and how its tangents do, on the left back along the path
-abbrev pub middle_turn : Joint → ℤ
+abbrev pub middle_turn : SectionPair → ℤ
 middle_turn j = cross (minus j.0.b.center j.0.a.center) (minus j.1.b.center j.1.a.center)
 
-abbrev pub left_turn : Joint → ℤ
+abbrev pub left_turn : SectionPair → ℤ
 left_turn j = cross (minus j.1.b_left j.1.a_left) (minus j.0.b_left j.0.a_left)
 
-abbrev pub right_turn : Joint → ℤ
+abbrev pub right_turn : SectionPair → ℤ
 right_turn j = cross (minus j.0.b_right j.0.a_right) (minus j.1.b_right j.1.a_right)
 
 -- there is an arc on the left where the left tangents or the path turn to the right
-abbrev pub has_left_arc : Joint → Bool
+abbrev pub has_left_arc : SectionPair → Bool
 has_left_arc j = int_lt (pos 0) (left_turn j) || int_lt (middle_turn j) (pos 0)
 
 -- and one on the right where the right tangents turn to the left, or the path does not turn to the right
-abbrev pub has_right_arc : Joint → Bool
+abbrev pub has_right_arc : SectionPair → Bool
 has_right_arc j = int_lt (pos 0) (right_turn j) || not (int_lt (middle_turn j) (pos 0))
 
 -- the edges on the left of a joint, back along the path, and those on its right
-abbrev pub left_edges : ℕ → ArcOptions → Joint → List Edge
+abbrev pub left_edges : ℕ → ArcOptions → SectionPair → List Edge
 left_edges unit options j =
     if has_left_arc j then arc_edges unit options j.0.b.center j.1.a_left j.0.b_left Minor
     else route j.1.a_left [] j.0.b_left
 
-abbrev pub right_edges : ℕ → ArcOptions → Joint → List Edge
+abbrev pub right_edges : ℕ → ArcOptions → SectionPair → List Edge
 right_edges unit options j =
     if has_right_arc j then arc_edges unit options j.0.b.center j.0.b_right j.1.a_right Major
     else route j.0.b_right [] j.1.a_right
 
 -- the edges of a joint; sections that do not meet end straight
-abbrev pub joint_edges : ℕ → ArcOptions → Joint → List Edge
+abbrev pub joint_edges : ℕ → ArcOptions → SectionPair → List Edge
 joint_edges unit options j =
     if is_apart j then end_edges unit options Butt j.0 ++ start_edges unit options Butt j.1
     else left_edges unit options j ++ right_edges unit options j
 
 -- the pieces of both arcs
-abbrev pub left_pieces : ℕ → ArcOptions → Joint → List (List Point)
+abbrev pub left_pieces : ℕ → ArcOptions → SectionPair → List (List Point)
 left_pieces unit options j =
     if has_left_arc j then arc_pieces unit options j.0.b.center j.1.a_left j.0.b_left Minor else []
 
-abbrev pub right_pieces : ℕ → ArcOptions → Joint → List (List Point)
+abbrev pub right_pieces : ℕ → ArcOptions → SectionPair → List (List Point)
 right_pieces unit options j =
     if has_right_arc j then arc_pieces unit options j.0.b.center j.0.b_right j.1.a_right Major else []
 
 -- the piece between two sections that meet, from the tangents of one to those of the other
-abbrev pub joint_piece : Joint → List Point
+abbrev pub joint_piece : SectionPair → List Point
 joint_piece j = j.1.a_left ∷ j.0.b_left ∷ j.0.b_right ∷ j.1.a_right ∷ []
 
 -- the pieces of a joint; there are none where the sections do not meet
-abbrev pub joint_pieces : ℕ → ArcOptions → Joint → List (List Point)
+abbrev pub joint_pieces : ℕ → ArcOptions → SectionPair → List (List Point)
 joint_pieces unit options j =
     if is_apart j then [] else joint_piece j ∷ (left_pieces unit options j ++ right_pieces unit options j)
 

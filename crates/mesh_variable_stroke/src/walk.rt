@@ -7,7 +7,7 @@ ghost use Rattle.mesh_tangent.specs.Sections.{IsSafeCircle};
 ghost use Rattle.mesh_variable_stroke.specs.Chains.{is_covered_by as is_covered_in, is_smaller as is_smaller_than};
 ghost use Rattle.mesh_variable_stroke.specs.Chains.{end_before, end_after};
 ghost use Rattle.mesh_variable_stroke.specs.Midway.{IsGoodOpen, IsGoodSection, IsGoodWalk, opened, gone_on, step_edges};
-ghost use Rattle.mesh_variable_stroke.specs.Midway.{begun, step_to, walked, walked_edges, finish_edges};
+ghost use Rattle.mesh_variable_stroke.specs.Midway.{walk_from, step_to, walked, walked_edges, finish_edges};
 ghost use Rattle.mesh_variable_stroke.specs.Midway.{IsThinOpen, IsThinWalk};
 ghost use Rattle.mesh_variable_stroke.specs.declared.chain_end.ChainEnd.TheVariants.{Butt, Round};
 
@@ -43,7 +43,7 @@ impl<I: IntNumber> Model for Walk<I> {
 impl<I: IntNumber> Walk<I> {
     /// A walk that begins at a circle.
     pub(crate) fn new(first: Circle<I>) -> Self
-        ensures { result ≡ begun first }
+        ensures { result ≡ walk_from first }
     {
         Walk {
             chain: Chain::new(first, ChainEnd::Round),

@@ -39,6 +39,6 @@ pub record PushesRing (all : Bool) (least : ℕ) (edges : List Edge) (given : Li
   pub starts_once : told.1 ≡ true → All (StartsOnce edges) (left_out all contour)
 
 -- contours with points were added whose edges are those of these closed lists, and those that were there had points
-pub record AddsContours (old new : List (Vec Point Global)) (added : List (List Point)) : Type 0 where
+pub record PushesContours (old new : List (Vec Point Global)) (added : List (List Point)) : Type 0 where
   pub edges : contour_edges new ≡ contour_edges old ++ flat_map boundary added
   pub have_points : HavePoints old → HavePoints new

@@ -83,7 +83,8 @@ fn is_outer_boundary(kinds: &[ContourKind]) -> bool
 }
 
 /// What comes of one outer boundary, which is moved by the builder and resolved alone, resolved once more with these
-/// options. Where its edges are their own boundary they are not split again, and where it is settled it stays as it is.
+/// options. Where it is settled and the options are the default ones, it stays as it is; where its edges are their own
+/// boundary, they are not split again.
 fn resolved_twice<I: IntNumber>(
     alloc: Global,
     builder: &mut OutlineBuilder<I>,

@@ -14,7 +14,7 @@ ghost use Rattle.mesh_draw.specs.Adding.{HasRoomFor};
 ghost use Rattle.mesh_draw.specs.Padding.{AreEndsNear};
 ghost use Rattle.mesh_draw.specs.Pieces.{WindAsPieces};
 ghost use Rattle.mesh_stroke.specs.Building.{style_with, HasDirectCaps, HasFewCapEdges, IsStrokable};
-ghost use Rattle.mesh_stroke.specs.Drawn.{HasStockCaps, NeverTurnedRound, WindsByCount};
+ghost use Rattle.mesh_stroke.specs.Drawn.{HasStockCaps, PiecesWindOnce, WindsAsManyPieces};
 ghost use Rattle.mesh_stroke.specs.Midway.{own_edge, IsCorner};
 ghost use Rattle.mesh_stroke.specs.Paths.{path_edges};
 ghost use Rattle.mesh_stroke.specs.Reversal.{CountAlike, reversed_edges};
@@ -104,8 +104,8 @@ impl<'a, I: IntNumber> StrokeBuilder<'a, I> {
         ensures sum { OnOk result (WindAsPieces (stroke_pieces I.unit self.old closed path.now)
             (added_edges segments.old.items segments.new.items)) }
         ensures pieces { HasStockCaps self.old closed
-            → NeverTurnedRound (stroke_pieces I.unit self.old closed path.now) }
-        ensures count { HasStockCaps self.old closed → OnOk result (WindsByCount
+            → PiecesWindOnce (stroke_pieces I.unit self.old closed path.now) }
+        ensures count { HasStockCaps self.old closed → OnOk result (WindsAsManyPieces
             (stroke_pieces I.unit self.old closed path.now) (added_edges segments.old.items segments.new.items)) }
 
         // The reversed path has the same stroke.

@@ -1,4 +1,4 @@
-use Rattle.std.proofs.Common.{List, sym, subst, ◌∙◌, ap}
+use Rattle.std.proofs.Common.{List, refl, sym, subst, ◌∙◌, ap}
 use Rattle.std.specs.Prelude.{Vec}
 use Rattle.std.specs.List.{flat_map}
 use Rattle.std.specs.declared.alloc.Global.{Global}
@@ -13,6 +13,7 @@ use Rattle.mesh_shapes.specs.Vectors.{contour_edges}
 use Rattle.mesh_below.specs.Answers.{AreOwnBoundary}
 use Rattle.mesh_below.specs.Options.{choices_of}
 use Rattle.mesh_below.proofs.AnswerPoints.{answer_safe, answer_edges_safe, same_resolution}
+use Rattle.mesh_below.proofs.AnswerRegions.{regions_of}
 use Rattle.mesh_below.proofs.below.arranged.Goals as goal
 
 pub arranged_contours-requires-clause-own_boundary : goal.arranged_contours-requires-clause-own_boundary
@@ -42,3 +43,8 @@ returns-clause-safe g c =
     subst (λ (answer : List (List (List Point))). ArePointsSafe g.I.IntNumber.unit answer) (sym is)
     (answer_safe g.I.IntNumber.unit (contour_edges c.in_ok-contours.contours.items) (flat_map boundary (contours_of (shapes_of c.args.shapes.now.items))) (filled Positive) _ (shapes_of c.in_ok-answer.answer.items) same
     (answer_edges_safe g.I.IntNumber.unit (shapes_of c.args.shapes.now.items) c.requires.safe) c.in_ok-answer.ensures)
+
+pub returns-clause-regions : goal.returns-clause-regions
+returns-clause-regions g c =
+    let own = c.requires.own_boundary in
+    regions_of _ (filled Positive) _ _ own.split.proper own.split.balanced refl (returns-clause-resolution g c)

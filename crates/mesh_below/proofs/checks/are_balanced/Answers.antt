@@ -12,7 +12,7 @@ returns c =
     let leaving : List Edge = c.in_order-leaving.result.items in
     let entering : List Edge = c.in_order-entering.result.items in
     let l : (g : Edge → ℤ) → sum_of g leaving ≡ sum_of g es = λ (g : Edge → ℤ). c.in_order-leaving.ensures.same g ∙ ap (sum_of g) c.in_ok-from_slice.ensures.items in
-    let r : (g : Edge → ℤ) → sum_of g entering ≡ sum_of g (map back es) = λ (g : Edge → ℤ). c.in_order-entering.ensures.same g ∙ ap (sum_of g) c.in_ok-turned.ensures in (
+    let r : (g : Edge → ℤ) → sum_of g entering ≡ sum_of g (map back es) = λ (g : Edge → ℤ). c.in_order-entering.ensures.same g ∙ ap (sum_of g) c.in_ok-backwards.ensures in (
       (λ t. alike_balanced es leaving entering l r (sym (ap (map start) c.deref.ensures.value) ∙ (c.start_alike.ensures.0 t ∙ ap (map start) c.deref-2.ensures.value))),
       (λ (balanced : IsBalanced es).
           c.start_alike.ensures.1

@@ -1,0 +1,143 @@
+//! Drawings in which most edges reach most heights, against a plain count of how often edges wind round points.
+
+use crate::answers::{overlay_of, answered_shapes};
+use mesh_below::below::{FillRule, Overlay};
+use mesh_toolbox::compared::{expect_equal, expect_that};
+use mesh_toolbox::edges::{edges_of_segments, edges_of_shapes};
+use mesh_toolbox::lists::{path, push_contour};
+use mesh_toolbox::plain::winding;
+use mesh_toolbox::random::Random;
+use std::alloc::{AllocError, Global};
+use std::test::Fail;
+
+/// A point or a vector of a drawing.
+type Spot = (i32, i32);
+
+fn plus(p: Spot, v: Spot) -> Spot {
+    (p.0.wrapping_add(v.0), p.1.wrapping_add(v.1))
+}
+
+fn times(k: i32, v: Spot) -> Spot {
+    (k.wrapping_mul(v.0), k.wrapping_mul(v.1))
+}
+
+/// At points up to 400 from 0, on the grid 2, the answer winds once where the edges wind more often than never
+/// in the sense of the fill, and else not. Answers at how many it does.
+fn expect_counted(overlay: &Overlay<i32>, random: &mut Random) -> Result<u32, Fail> {
+    let alloc = *overlay.segments.allocator();
+    let edges = edges_of_segments(alloc, &overlay.segments)?;
+    let shapes = answered_shapes(overlay, FillRule::Positive)?;
+    let answer = edges_of_shapes(alloc, &shapes)?;
+    let mut filled = 0u32;
+    for _ in 0..200 {
+        let (x, y) = random.point(1601);
+        let q = (
+            i128::from(x).wrapping_sub(800),
+            i128::from(y).wrapping_sub(800),
+        );
+        let want = i128::from(winding(2, q, &edges) > 0);
+        expect_equal(&winding(2, q, &answer), &want, &q)?;
+        filled = filled.wrapping_add(if want == 1 { 1 } else { 0 });
+    }
+    Ok(filled)
+}
+
+/// A parallelogram from its least corner along both vectors, or the same the other way round.
+fn push_strip(
+    overlay: &mut Overlay<i32>,
+    corner: Spot,
+    along: Spot,
+    wide: Spot,
+    backwards: bool,
+) -> Result<(), AllocError> {
+    let alloc = *overlay.segments.allocator();
+    let mut spots = [
+        corner,
+        plus(corner, along),
+        plus(plus(corner, along), wide),
+        plus(corner, wide),
+    ];
+    if backwards {
+        spots.reverse();
+    }
+    push_contour(&mut overlay.segments, &path(alloc, &spots)?)
+}
+
+/// How strips lie: where the first one starts, along which vector, and how far each is from the one before it, which is
+/// to the left of it.
+const STRIPS: &[(Spot, Spot, Spot)] = &[
+    ((-400, -350), (700, 300), (-2, 6)),
+    ((300, -400), (-500, 600), (-6, -4)),
+    ((100, 380), (10, -750), (6, 2)),
+    ((-390, -390), (600, 2), (3, 10)),
+];
+
+/// Long strips side by side on a ground: of three one is a hole, one is filled twice, and one is not there.
+#[test]
+fn strips_aslope(rt: HostRuntime) -> Result<(), Fail> {
+    let mut random = Random::new(7);
+    for (corner, along, step) in STRIPS {
+        let mut overlay = overlay_of(rt.alloc(), &[])?;
+        push_strip(&mut overlay, *corner, *along, times(123, *step), false)?;
+        for number in 1..61 {
+            if number % 3 > 0 {
+                let beside = plus(*corner, times(2 * number, *step));
+                let inner = plus(beside, (along.0 / 100, along.1 / 100));
+                let short = (along.0 / 20 * 19, along.1 / 20 * 19);
+                push_strip(&mut overlay, inner, short, *step, number % 3 == 1)?;
+            }
+        }
+        let filled = expect_counted(&overlay, &mut random)?;
+        expect_that(filled > 20, &(corner, filled))?;
+    }
+    Ok(())
+}
+
+/// A point on the square of this half side, counted round from a corner in steps of so many a side.
+fn round(half: i32, number: i32, steps: i32) -> Spot {
+    let side = number / steps.max(1) % 4;
+    let gone = (number % steps.max(1)).wrapping_mul(half.wrapping_mul(2)) / steps.max(1);
+    let (from, way) = match side {
+        0 => ((-1, -1), (1, 0)),
+        1 => ((1, -1), (0, 1)),
+        2 => ((1, 1), (-1, 0)),
+        _ => ((-1, 1), (0, -1)),
+    };
+    plus(times(half, from), times(gone, way))
+}
+
+/// Rays apart from each other, each from a small square out to a large one.
+#[test]
+fn rays_all_round(rt: HostRuntime) -> Result<(), Fail> {
+    let mut random = Random::new(8);
+    let mut overlay = overlay_of(rt.alloc(), &[])?;
+    for number in 0..80 {
+        let first = number * 3;
+        let spots = [
+            round(60, first, 60),
+            round(390, first + 1, 60),
+            round(60, first + 1, 60),
+        ];
+        push_contour(&mut overlay.segments, &path(rt.alloc(), &spots)?)?;
+    }
+    let filled = expect_counted(&overlay, &mut random)?;
+    expect_that(filled > 5, &filled)
+}
+
+/// One contour in and out all round, with a star of the other sense inside.
+#[test]
+fn stars(rt: HostRuntime) -> Result<(), Fail> {
+    let mut random = Random::new(9);
+    let mut overlay = overlay_of(rt.alloc(), &[])?;
+    let mut outer = Vec::new(rt.alloc());
+    let mut inner = Vec::new(rt.alloc());
+    for number in 0..120 {
+        let (far, near) = if number % 2 == 0 { (390, 40) } else { (150, 10) };
+        outer.push(round(far, number, 30))?;
+        inner.push(round(near, 119 - number, 30))?;
+    }
+    push_contour(&mut overlay.segments, &path(rt.alloc(), &outer)?)?;
+    push_contour(&mut overlay.segments, &path(rt.alloc(), &inner)?)?;
+    let filled = expect_counted(&overlay, &mut random)?;
+    expect_that(filled > 20, &filled)
+}
