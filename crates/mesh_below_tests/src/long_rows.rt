@@ -1,6 +1,6 @@
 //! Drawings in which most edges reach most heights, against a plain count of how often edges wind round points.
 
-use crate::answers::{overlay_of, answered_shapes};
+use crate::answers::{answered_shapes, overlay_of};
 use mesh_below::below::{FillRule, Overlay};
 use mesh_toolbox::compared::{expect_equal, expect_that};
 use mesh_toolbox::edges::{edges_of_segments, edges_of_shapes};
@@ -132,7 +132,11 @@ fn stars(rt: HostRuntime) -> Result<(), Fail> {
     let mut outer = Vec::new(rt.alloc());
     let mut inner = Vec::new(rt.alloc());
     for number in 0..120 {
-        let (far, near) = if number % 2 == 0 { (390, 40) } else { (150, 10) };
+        let (far, near) = if number % 2 == 0 {
+            (390, 40)
+        } else {
+            (150, 10)
+        };
         outer.push(round(far, number, 30))?;
         inner.push(round(near, 119 - number, 30))?;
     }

@@ -1,6 +1,6 @@
 //! Answers whose edges are their own boundary, and what these are arranged to.
 
-use crate::answers::{Row, expect_resolvable, overlay_of, answered_shapes};
+use crate::answers::{Row, answered_shapes, expect_resolvable, overlay_of};
 use crate::counted::meet;
 use crate::random_answers::{again, expect_region, scattered_overlay};
 use mesh_below::below::{ContourDirection, FillRule, IntOverlayOptions, OverlayRule, arranged};

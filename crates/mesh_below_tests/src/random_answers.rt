@@ -1,6 +1,6 @@
 //! Random closed lists, against a plain count of how often edges wind round points of the grid 2.
 
-use crate::answers::{expect_resolvable, overlay_of, answered_shapes};
+use crate::answers::{answered_shapes, expect_resolvable, overlay_of};
 use crate::counted::{bent, counted, is_near};
 use crate::splits::split_sorted;
 use mesh_below::below::{ContourDirection, FillRule, Overlay, OverlayRule};
