@@ -81,7 +81,7 @@ fn strips_aslope(rt: HostRuntime) -> Result<(), Fail> {
         push_strip(&mut overlay, *corner, *along, times(123, *step), false)?;
         for number in 1..61 {
             if number % 3 > 0 {
-                let beside = plus(*corner, times(2 * number, *step));
+                let beside = plus(*corner, times(2i32.wrapping_mul(number), *step));
                 let inner = plus(beside, (along.0 / 100, along.1 / 100));
                 let short = (along.0 / 20 * 19, along.1 / 20 * 19);
                 push_strip(&mut overlay, inner, short, *step, number % 3 == 1)?;
@@ -112,11 +112,11 @@ fn rays_all_round(rt: HostRuntime) -> Result<(), Fail> {
     let mut random = Random::new(8);
     let mut overlay = overlay_of(rt.alloc(), &[])?;
     for number in 0..80 {
-        let first = number * 3;
+        let first = 3i32.wrapping_mul(number);
         let spots = [
             round(60, first, 60),
-            round(390, first + 1, 60),
-            round(60, first + 1, 60),
+            round(390, first.wrapping_add(1), 60),
+            round(60, first.wrapping_add(1), 60),
         ];
         push_contour(&mut overlay.segments, &path(rt.alloc(), &spots)?)?;
     }
@@ -138,7 +138,7 @@ fn stars(rt: HostRuntime) -> Result<(), Fail> {
             (150, 10)
         };
         outer.push(round(far, number, 30))?;
-        inner.push(round(near, 119 - number, 30))?;
+        inner.push(round(near, 119i32.wrapping_sub(number), 30))?;
     }
     push_contour(&mut overlay.segments, &path(rt.alloc(), &outer)?)?;
     push_contour(&mut overlay.segments, &path(rt.alloc(), &inner)?)?;
