@@ -18,10 +18,11 @@ use Rattle.mesh_cuts.specs.Clean.{IsProper}
 use Rattle.mesh_cuts.specs.Split.{back}
 use Rattle.mesh_cuts.proofs.SidesBack.{crossing_back}
 use Rattle.mesh_boundary.specs.Midway.CountedSides.{counted_winding}
-use Rattle.mesh_boundary.specs.Midway.Rows.{reaches_row, AreRows}
+use Rattle.mesh_rows.specs.Rows.{reaches_row, AreRows}
 use Rattle.mesh_boundary.specs.Midway.Slants.{is_between, slanted_crossing, slanted_winding, level_of, leveled}
 use Rattle.mesh_boundary.proofs.BoundaryCounted.{counted_sum, counted_at}
-use Rattle.mesh_boundary.proofs.RowSums.{off_height, row_is, filtered_sum}
+use Rattle.mesh_rows.proofs.RowLists.{off_height, row_is}
+use Rattle.mesh_boundary.proofs.RowSums.{filtered_sum}
 use Rattle.mesh_boundary.proofs.SidesCode.{size_least}
 
 and_true : (b : Bool) → (b && true) ≡ b

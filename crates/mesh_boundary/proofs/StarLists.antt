@@ -21,7 +21,7 @@ use Rattle.mesh_sides.specs.Laws.{AreSplit}
 use Rattle.mesh_sides.specs.Star.{comes_before, leaves_before, net_before}
 use Rattle.mesh_boundary.specs.Midway.Stars.{code, place_among, ends_at, touches, segments_at, counted_before, AreShaped, AreStars, IsFiled, IsSegment, IsStar, HaveStars}
 use Rattle.mesh_boundary.proofs.BoundaryCounted.{counted_segments, counted_sum}
-use Rattle.mesh_boundary.proofs.RowSums.{filter_more}
+use Rattle.mesh_rows.proofs.RowLists.{filter_more}
 use Rattle.mesh_boundary.proofs.SidesCode.{sum_more}
 
 -- ---- listing

@@ -1,6 +1,6 @@
 -- States of the program's loops, which private contracts alone read.
 pub mod CountedSides
 pub mod Flood
-pub mod Rows
 pub mod Slants
 pub mod Stars
+pub mod Sums

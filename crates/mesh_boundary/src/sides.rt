@@ -10,18 +10,18 @@ ghost use Rattle.mesh_cuts.specs.FillRules.{filled};
 ghost use Rattle.mesh_sides.specs.Laws.{AreSplit};
 ghost use Rattle.mesh_boundary.specs.Midway.CountedSides.{sides_by, sides_of, is_parted, boundary_edge};
 ghost use Rattle.mesh_boundary.specs.Midway.Flood.{OfSplitEdges, AreKnown};
-ghost use Rattle.mesh_boundary.specs.Midway.Rows.{AreRows};
+ghost use Rattle.mesh_rows.specs.Rows.{AreRows};
 ghost use Rattle.mesh_boundary.specs.Midway.Slants.{AreSlantedRows};
 ghost use Rattle.mesh_boundary.specs.Midway.Stars.{AreStars};
 
 use crate::flood::{Flood, Sides};
-use crate::rows::{Rows, SAMPLED, mean_reached};
 use crate::slanted::{SlantedRows, slanted_rows};
 use crate::stars::{Stars, rises};
 use crate::winding::winding;
 use mesh_cuts::fill::FillRule;
 use mesh_cuts::fine::middle;
 use mesh_cuts::grid::{CountedSegment, GridEdge};
+use mesh_rows::rows::{Rows, SAMPLED, mean_reached};
 use std::alloc::{AllocError, Global};
 
 /// The windings on both sides of a segment, from that beside it.

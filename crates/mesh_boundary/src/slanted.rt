@@ -13,10 +13,10 @@ ghost use Rattle.mesh_cuts.specs.Marks.{place, AreRising};
 ghost use Rattle.mesh_boundary.specs.Midway.Slants.{is_between, slanted_crossing, level_of, leveled_by, AreSlantedRows};
 ghost use Rattle.mesh_boundary.specs.Midway.Slants.{IsSlant, listed_winding, listed_size};
 
-use crate::rows::{Rows, SAMPLED, mean_reached};
 use mesh_cuts::exact::{Vector, cross, minus};
 use mesh_cuts::fine::{FinePoint, crossing, doubled, middle};
 use mesh_cuts::grid::{CountedSegment, GridEdge, GridPoint};
+use mesh_rows::rows::{Rows, SAMPLED, mean_of_others};
 use std::alloc::{AllocError, Global};
 use std::marker::Model;
 
@@ -259,7 +259,7 @@ pub fn slanted_rows(
         return Ok(None);
     };
     let listed = slant.leveled_all(alloc, segments)?;
-    if mean_reached(alloc, &listed)? > most {
+    if mean_of_others(alloc, &listed)? > most {
         return Ok(None);
     }
     let rows = Rows::new(alloc, &listed)?;

@@ -4,12 +4,12 @@ ghost use Rattle.std.specs.Prelude.{◌≡◌, List, IfOk};
 ghost use Rattle.mesh_plane.specs.Winding.{sum_of, refined};
 ghost use Rattle.mesh_cuts.specs.Counted.{Counted, size, IsRoomy};
 ghost use Rattle.mesh_boundary.specs.Midway.CountedSides.{counted_winding};
-ghost use Rattle.mesh_boundary.specs.Midway.Rows.{MayHaveRows};
+ghost use Rattle.mesh_boundary.specs.Midway.Sums.{MayHaveRows};
 
-use crate::rows::Rows;
 use crate::winding::winding;
 use mesh_cuts::fine::doubled;
 use mesh_cuts::grid::{CountedSegment, GridPoint};
+use mesh_rows::rows::Rows;
 use std::alloc::{AllocError, Global};
 
 /// For so many points all segments are gone through, which is quicker than to list them.

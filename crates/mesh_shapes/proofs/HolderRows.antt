@@ -13,10 +13,10 @@ use Rattle.mesh_cuts.specs.Marks.{place}
 use Rattle.mesh_shapes.specs.Resolution.{Ring, is_positive}
 use Rattle.mesh_shapes.specs.Midway.Grouping.{ring_at, areas_of}
 use Rattle.mesh_shapes.specs.Midway.Holders.{PlacedEdge, with_place, ring_edges, placed_edges, Rise, winding_of, IsRowOf}
-use Rattle.mesh_boundary.specs.Midway.Rows.{reaches_row}
+use Rattle.mesh_rows.specs.Rows.{reaches_row}
 use Rattle.mesh_shapes.specs.Vectors.{HeldRing, rings_held}
 use Rattle.mesh_shapes.proofs.Groups.{view_at, positive_at}
-use Rattle.mesh_boundary.proofs.RowSums.{row_total}
+use Rattle.mesh_rows.proofs.RowLists.{row_total}
 
 pub apart_places : (a b : ℕ) → (a ≡ b → ⊥) → nat_eq a b ≡ false
 apart_places a b n = ⊎_elim (λ (t : nat_eq a b ≡ true). absurd (n (eqb-true a b t))) (λ (f : nat_eq a b ≡ false). f) (cases_Bool (nat_eq a b))

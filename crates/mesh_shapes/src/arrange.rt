@@ -16,16 +16,16 @@ ghost use Rattle.mesh_shapes.specs.Midway.Grouping.{ring_at, areas_of, IsHome, A
 ghost use Rattle.mesh_shapes.specs.Midway.Grouping.{HaveMembers, IsPutHome, contour_at, contours_at, all_shapes};
 ghost use Rattle.mesh_shapes.specs.Midway.Grouping.{Stays, OtherRingsStay, AreApart, HaveApart, homed};
 ghost use Rattle.mesh_shapes.specs.Midway.Holders.{placed_edges};
-ghost use Rattle.mesh_boundary.specs.Midway.Rows.{AreRows};
+ghost use Rattle.mesh_rows.specs.Rows.{AreRows};
 ghost use Rattle.mesh_shapes.specs.Resolution.{is_large, points_lt, is_head, shape_of, rings_by_shape};
 ghost use Rattle.mesh_shapes.specs.Resolution.{AreArranged};
 
 use crate::area::double_area;
 use crate::holders::{PlacedEdge, holder, ring_edges};
 use crate::ring::Ring;
-use mesh_boundary::rows::Rows;
 use mesh_cuts::grid::GridPoint;
 use mesh_cuts::places::{empty_lists, push_to};
+use mesh_rows::rows::Rows;
 use std::alloc::{AllocError, Global};
 use std::mem::replace;
 

@@ -3,7 +3,7 @@
 //! Read `specs/Resolution.antt` first, the one relation that the overlay's calls promise, then `specs/Contours.antt`.
 //! `specs/Midway` has the states of loops, which private contracts alone read.
 //! `walk` and `ring` make contours of a boundary, `arrange` brings them into order and groups them. `holders` finds the
-//! ring that holds a point, by the rows of `mesh_boundary`.
+//! ring that holds a point, by the rows of `mesh_rows`.
 #![tactic(auto)]
 
 pub mod area;

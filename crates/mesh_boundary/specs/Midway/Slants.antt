@@ -5,8 +5,8 @@ use Rattle.mesh_plane.specs.Bounds.{IsSmall, IsSafe}
 use Rattle.mesh_plane.specs.Plane.{Point, Edge, cross}
 use Rattle.mesh_plane.specs.Winding.{sum_of, crossing_on, refined}
 use Rattle.mesh_cuts.specs.Counted.{Counted, bit, size}
-use Rattle.mesh_boundary.specs.declared.rows.Rows.{Rows}
-use Rattle.mesh_boundary.specs.Midway.Rows.{AreRows}
+use Rattle.mesh_rows.specs.declared.rows.Rows.{Rows}
+use Rattle.mesh_rows.specs.Rows.{AreRows}
 
 -- a direction, which leads upwards, and the base and the step of levels across it
 pub record IsSlant (s : Point × (ℤ × ℕ)) : Type 0 where

@@ -6,7 +6,7 @@ use Rattle.mesh_shapes.specs.Midway.Holders.{Rise, placed_edges}
 use Rattle.mesh_shapes.specs.Resolution.{Ring}
 use Rattle.mesh_shapes.specs.Vectors.{ring_held, rings_held}
 use Rattle.mesh_shapes.proofs.HolderRows.{row_rises, row_tells}
-use Rattle.mesh_boundary.proofs.RowSums.{row_is}
+use Rattle.mesh_rows.proofs.RowLists.{row_is}
 use Rattle.mesh_shapes.proofs.Shapes.{home_none, home_some}
 use Rattle.mesh_shapes.proofs.arrange.home.Goals as goal
 

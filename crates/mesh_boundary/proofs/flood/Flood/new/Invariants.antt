@@ -3,7 +3,7 @@ use Rattle.mesh_plane.specs.Plane.{Edge}
 use Rattle.mesh_cuts.specs.Counted.{IsCountOf}
 use Rattle.mesh_sides.specs.Laws.{AreSplit}
 use Rattle.mesh_boundary.specs.Midway.Flood.{AreKnown}
-use Rattle.mesh_boundary.specs.Midway.Rows.{MayHaveRows}
+use Rattle.mesh_boundary.specs.Midway.Sums.{MayHaveRows}
 use Rattle.mesh_boundary.proofs.flood.Flood.new.Given as goal
 
 abbrev pub invariant-loop-k : goal.invariant-loop-k

@@ -1,13 +1,11 @@
 -- Edges listed by the rows that they reach. Beside each stands something else, as its count.
-use Rattle.std.specs.Prelude.{ℕ, ◌≡◌, ◌+◌, ◌<◌, Bool, ◌&&◌, List, length, slice_index_or, min, max, nat_le, ℤ, pos}
-use Rattle.std.specs.Prelude.{◌*ℤ◌, Vec, Option, IfSome}
+use Rattle.std.specs.Prelude.{ℕ, ◌≡◌, ◌+◌, ◌<◌, Bool, ◌&&◌, List, length, slice_index_or, min, max, nat_le, pos}
+use Rattle.std.specs.Prelude.{◌*ℤ◌, Vec}
 use Rattle.std.specs.declared.alloc.Global.{Global}
 use Rattle.std.specs.List.{filter}
 use Rattle.mesh_plane.specs.Plane.{Edge}
 use Rattle.mesh_cuts.specs.declared.places.Mark.{Mark}
-use Rattle.mesh_cuts.specs.Counted.{Counted}
 use Rattle.mesh_cuts.specs.Marks.{place, AreRising}
-use Rattle.mesh_boundary.specs.declared.rows.Rows.{Rows}
 
 -- the lowest and the highest row that an edge reaches, by the heights of its ends on the grid 2
 abbrev pub first_row : {T : Type 0} → List Mark → Edge × T → ℕ
@@ -27,7 +25,3 @@ pub record AreRows {T : Type 0} (marks : List Mark) (lists : List (Vec (Edge × 
   pub len : length lists ≡ length marks + 1
   pub rows : (i : ℕ) (d : Vec (Edge × T) Global) → i < length lists
       → (slice_index_or lists i d).items ≡ filter (reaches_row marks i) es
-
--- rows, if there are any, have these segments
-abbrev pub MayHaveRows : Option (Rows ℤ) → List Counted → Type 0
-MayHaveRows rows ks = IfSome rows (λ r. AreRows r.marks.items r.lists.items ks)

@@ -1,8 +1,8 @@
 use Rattle.std.proofs.Common.{arith, subst, List, take_all}
 use Rattle.mesh_plane.specs.Plane.{Edge}
-use Rattle.mesh_boundary.specs.Midway.Rows.{AreRows}
-use Rattle.mesh_boundary.proofs.RowSums.{rows_none, rows_more}
-use Rattle.mesh_boundary.proofs.rows.Rows.new.Goals as goal
+use Rattle.mesh_rows.specs.Rows.{AreRows}
+use Rattle.mesh_rows.proofs.RowLists.{rows_none, rows_more}
+use Rattle.mesh_rows.proofs.rows.Rows.new.Goals as goal
 
 pub loop-e-init : goal.loop-e-init
 loop-e-init g c =

@@ -6,7 +6,7 @@ ghost use Rattle.std.specs.declared.alloc.Global.{Global};
 ghost use Rattle.mesh_plane.specs.Plane.{Edge};
 ghost use Rattle.mesh_cuts.specs.Lists.{list_at};
 ghost use Rattle.mesh_cuts.specs.Marks.{place, AreRising, IsPutTo};
-ghost use Rattle.mesh_boundary.specs.Midway.Rows.{first_row, last_row, AreRows};
+ghost use Rattle.mesh_rows.specs.Rows.{first_row, last_row, AreRows};
 
 use mesh_cuts::fine::{FinePoint, doubled};
 use mesh_cuts::grid::{GridEdge, GridPoint};
@@ -23,7 +23,7 @@ const ENDS: usize = 16384;
 const MEASURED: usize = 2048;
 
 /// About how many edges are measured to choose whether rows serve.
-pub(crate) const SAMPLED: usize = 512;
+pub const SAMPLED: usize = 512;
 
 /// Lists of edges, one for each row between marks at heights on the fine grid. An edge may stand in several of them.
 #[derive(Drop)]
@@ -55,10 +55,12 @@ fn heights<T: Copy>(alloc: Global, edges: &[(GridEdge, T)]) -> Result<Vec<Mark>,
     in_order(alloc, heights)
 }
 
-/// About how many of the edges reach the height of one of them, on average.
-pub(crate) fn mean_reached<T: Copy>(
+/// About how many of the edges reach the height at which one of them starts, on average. Of those that an edge which
+/// runs down reaches, so many are left out.
+fn mean_without<T: Copy>(
     alloc: Global,
     edges: &[(GridEdge, T)],
+    left_out: usize,
 ) -> Result<usize, AllocError> {
     // (an odd step, since contours often go on in the same two, four or eight steps)
     let step = edges.len() / SAMPLED / 2 * 2 + 1;
@@ -74,10 +76,25 @@ pub(crate) fn mean_reached<T: Copy>(
         if i % step == 0 {
             let a = place(&marks, height(e.0.0));
             let b = place(&marks, height(e.0.1));
-            reached = reached.saturating_add(a.abs_diff(b));
+            let down = a.saturating_sub(b).saturating_sub(left_out);
+            reached = reached.saturating_add(down.max(b.saturating_sub(a)));
         }
     }
     Ok(reached.saturating_mul(step) / marks.len().max(1))
+}
+
+/// About how many of the edges reach the height of one of them, on average. An edge that runs down counts its own start,
+/// so that of many edges this is much, however few reach a height.
+pub fn mean_reached<T: Copy>(alloc: Global, edges: &[(GridEdge, T)]) -> Result<usize, AllocError> {
+    mean_without(alloc, edges, 0)
+}
+
+/// About how many of the edges reach the height of another one, on average.
+pub fn mean_of_others<T: Copy>(
+    alloc: Global,
+    edges: &[(GridEdge, T)],
+) -> Result<usize, AllocError> {
+    mean_without(alloc, edges, 1)
 }
 
 /// How many rows serve best: an edge shall reach about four on average.
