@@ -21,8 +21,8 @@ fn times(k: i32, v: Spot) -> Spot {
     (k.wrapping_mul(v.0), k.wrapping_mul(v.1))
 }
 
-/// At points up to 400 from 0, on the grid 2, the answer winds once where the edges wind more often than never
-/// in the sense of the fill, and else not. Answers at how many it does.
+/// At 200 random points, whose coordinates are halves from -400 to 400, the filled shapes wind once where the drawing's
+/// edges wind more often counterclockwise than clockwise, and else not at all. Answers at how many of them they do.
 fn expect_counted(overlay: &Overlay<i32>, random: &mut Random) -> Result<u32, Fail> {
     let alloc = *overlay.segments.allocator();
     let edges = edges_of_segments(alloc, &overlay.segments)?;
@@ -42,7 +42,7 @@ fn expect_counted(overlay: &Overlay<i32>, random: &mut Random) -> Result<u32, Fa
     Ok(filled)
 }
 
-/// A parallelogram from its least corner along both vectors, or the same the other way round.
+/// A parallelogram from a corner of it along both vectors, or the same the other way round.
 fn push_strip(
     overlay: &mut Overlay<i32>,
     corner: Spot,
@@ -63,8 +63,8 @@ fn push_strip(
     push_contour(&mut overlay.segments, &path(alloc, &spots)?)
 }
 
-/// How strips lie: where the first one starts, along which vector, and how far each is from the one before it, which is
-/// to the left of it.
+/// Grounds with strips: a corner of the ground, the side of it that its strips run along, and how wide a strip is, as a
+/// vector to the left of that side. The ground is 123 such widths wide, and neighbouring strips are one apart.
 const STRIPS: &[(Spot, Spot, Spot)] = &[
     ((-400, -350), (700, 300), (-2, 6)),
     ((300, -400), (-500, 600), (-6, -4)),

@@ -7,11 +7,17 @@ use std::marker::Model;
 /// opposite one, and how far both points are away. Contracts see the half turn round it.
 #[derive(Drop)]
 pub struct PathEnd<I: IntNumber> {
+    /// Where the path ends, in grid units.
     pub center: IntPoint<I>,
+    /// Where the cap begins: to the right of the end, seen along the path, in grid units.
     pub right: IntPoint<I>,
+    /// Where the cap ends: to the left of the end, in grid units.
     pub left: IntPoint<I>,
+    /// The direction out of the path, in which it ends.
     pub outward: UnitIntVector<I>,
+    /// The direction back into the path.
     pub inward: UnitIntVector<I>,
+    /// Half the width of the stroke, in grid units: how far both points are away from the end.
     pub radius: I,
 }
 

@@ -28,7 +28,9 @@ pub const SAMPLED: usize = 512;
 /// Lists of edges, one for each row between marks at heights on the fine grid. An edge may stand in several of them.
 #[derive(Drop)]
 pub struct Rows<T> {
+    /// The heights between neighbouring rows, in half grid units; none is below the one before it.
     pub marks: Vec<Mark>,
+    /// The edges of each row, from the lowest to the highest: one list more than there are marks.
     pub lists: Vec<Vec<(GridEdge, T)>>,
 }
 

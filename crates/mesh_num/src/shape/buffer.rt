@@ -15,7 +15,9 @@ pub type IntShapes<I> = Vec<Vec<Vec<IntPoint<I>>>>;
 /// Contours whose points stand end to end in `points`; `ranges` has the range of each contour's points.
 #[derive(Debug, Drop)]
 pub struct FlatContoursBuffer<I: IntNumber> {
+    /// The points of all contours, in order, in grid units.
     pub points: Vec<IntPoint<I>>,
+    /// For each contour, in order, the indices of its points in `points`, the end excluded.
     pub ranges: Vec<Range<usize>>,
 }
 

@@ -5,6 +5,7 @@ ghost use Rattle.std.specs.Prelude.{◌≡◌};
 /// A borrowed slice of points, which is one path, or of paths.
 #[derive(Debug, Drop)]
 pub struct PathSlice<'a, T> {
+    /// The points of the path, or the paths, in order.
     pub items: &'a [T],
 }
 
