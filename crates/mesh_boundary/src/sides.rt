@@ -21,7 +21,7 @@ use crate::winding::winding;
 use mesh_cuts::fill::FillRule;
 use mesh_cuts::fine::middle;
 use mesh_cuts::grid::{CountedSegment, GridEdge};
-use mesh_rows::rows::{Rows, SAMPLED, mean_reached};
+use mesh_rows::rows::{Rows, mean_reached, sample_step};
 use std::alloc::{AllocError, Global};
 
 /// The windings on both sides of a segment, from that beside it.
@@ -89,7 +89,7 @@ const SHORT: usize = 12;
 fn mean_star(segments: &[CountedSegment], stars: &Stars) -> usize
     requires stars { AreStars stars.now.lists.items stars.now.ends.items segments.now }
 {
-    let step = segments.len() / SAMPLED / 2 * 2 + 1;
+    let step = sample_step(segments.len());
     let mut count: usize = 0;
     let mut sum: usize = 0;
     for i in 0..segments.len() {
@@ -213,14 +213,16 @@ pub fn find_boundary(
         return by_rows(alloc, segments, fill);
     }
     let reached = mean_reached(alloc, segments)?;
-    if reached <= SHORT {
+    if reached.all <= SHORT {
         return by_rows(alloc, segments, fill);
     }
-    if let Some(rows) = slanted_rows(alloc, segments, SHORT)? {
-        return by_slanted_rows(alloc, segments, &rows, fill);
+    if reached.others > SHORT {
+        if let Some(rows) = slanted_rows(alloc, segments, SHORT)? {
+            return by_slanted_rows(alloc, segments, &rows, fill);
+        }
     }
     let stars = Stars::new(alloc, segments)?;
-    if mean_star(segments, &stars) > reached {
+    if mean_star(segments, &stars) > reached.all {
         return by_rows(alloc, segments, fill);
     }
     by_ends(alloc, segments, &stars, fill)

@@ -16,7 +16,7 @@ ghost use Rattle.mesh_boundary.specs.Midway.Slants.{IsSlant, listed_winding, lis
 use mesh_cuts::exact::{Vector, cross, minus};
 use mesh_cuts::fine::{FinePoint, crossing, doubled, middle};
 use mesh_cuts::grid::{CountedSegment, GridEdge, GridPoint};
-use mesh_rows::rows::{Rows, SAMPLED, mean_of_others};
+use mesh_rows::rows::{Rows, mean_reached, sample_step};
 use std::alloc::{AllocError, Global};
 use std::marker::Model;
 
@@ -210,7 +210,7 @@ impl SlantedRows {
 
 /// The longest of some of the segments.
 fn longest(segments: &[CountedSegment]) -> Option<GridEdge> {
-    let step = segments.len() / SAMPLED / 2 * 2 + 1;
+    let step = sample_step(segments.len());
     let mut found: Option<GridEdge> = None;
     let mut length: u128 = 0;
     for (i, s) in segments.iter().enumerate() {
@@ -259,7 +259,7 @@ pub fn slanted_rows(
         return Ok(None);
     };
     let listed = slant.leveled_all(alloc, segments)?;
-    if mean_of_others(alloc, &listed)? > most {
+    if mean_reached(alloc, &listed)?.others > most {
         return Ok(None);
     }
     let rows = Rows::new(alloc, &listed)?;

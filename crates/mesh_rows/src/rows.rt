@@ -22,8 +22,8 @@ const ENDS: usize = 16384;
 /// About how many edges are measured to choose the number of rows.
 const MEASURED: usize = 2048;
 
-/// About how many edges are measured to choose whether rows serve.
-pub const SAMPLED: usize = 512;
+/// About how many edges are in a sample, at most.
+const SAMPLED: usize = 512;
 
 /// Lists of edges, one for each row between marks at heights on the fine grid. An edge may stand in several of them.
 #[derive(Drop)]
@@ -57,15 +57,34 @@ fn heights<T: Copy>(alloc: Global, edges: &[(GridEdge, T)]) -> Result<Vec<Mark>,
     in_order(alloc, heights)
 }
 
-/// About how many of the edges reach the height at which one of them starts, on average. Of those that an edge which
-/// runs down reaches, so many are left out.
-fn mean_without<T: Copy>(
+/// The step in which to go through so many edges, to meet a sample of them. It has no divisor 2 or 3, since contours
+/// often go on in the same two, three, four or eight edges.
+pub fn sample_step(count: usize) -> usize
+    ensures { 0 < result }
+{
+    let step = count / SAMPLED;
+    if step < 2 {
+        return 1;
+    }
+    step / 6 * 6 + 5
+}
+
+/// About how many edges reach the height at which one of them starts, on average.
+#[derive(Copy, Clone)]
+pub struct Reached {
+    /// An edge that runs down is among those that reach its own start. So of many edges this is much, however few reach
+    /// a height.
+    pub all: usize,
+    /// How many but the edge that starts there.
+    pub others: usize,
+}
+
+/// About how many of the edges reach the height at which one of them starts, by a sample.
+pub fn mean_reached<T: Copy>(
     alloc: Global,
     edges: &[(GridEdge, T)],
-    left_out: usize,
-) -> Result<usize, AllocError> {
-    // (an odd step, since contours often go on in the same two, four or eight steps)
-    let step = edges.len() / SAMPLED / 2 * 2 + 1;
+) -> Result<Reached, AllocError> {
+    let step = sample_step(edges.len());
     let mut heights = Vec::with_capacity(alloc, edges.len() / step + 1)?;
     for (i, e) in edges.iter().enumerate() {
         if i % step == 0 {
@@ -73,30 +92,23 @@ fn mean_without<T: Copy>(
         }
     }
     let marks = in_order(alloc, heights)?;
-    let mut reached: usize = 0;
+    let mut all: usize = 0;
+    let mut others: usize = 0;
     for (i, e) in edges.iter().enumerate() {
         if i % step == 0 {
             let a = place(&marks, height(e.0.0));
             let b = place(&marks, height(e.0.1));
-            let down = a.saturating_sub(b).saturating_sub(left_out);
-            reached = reached.saturating_add(down.max(b.saturating_sub(a)));
+            let up = b.saturating_sub(a);
+            let down = a.saturating_sub(b);
+            all = all.saturating_add(up.max(down));
+            others = others.saturating_add(up.max(down.saturating_sub(1)));
         }
     }
-    Ok(reached.saturating_mul(step) / marks.len().max(1))
-}
-
-/// About how many of the edges reach the height of one of them, on average. An edge that runs down counts its own start,
-/// so that of many edges this is much, however few reach a height.
-pub fn mean_reached<T: Copy>(alloc: Global, edges: &[(GridEdge, T)]) -> Result<usize, AllocError> {
-    mean_without(alloc, edges, 0)
-}
-
-/// About how many of the edges reach the height of another one, on average.
-pub fn mean_of_others<T: Copy>(
-    alloc: Global,
-    edges: &[(GridEdge, T)],
-) -> Result<usize, AllocError> {
-    mean_without(alloc, edges, 1)
+    let count = marks.len().max(1);
+    Ok(Reached {
+        all: all.saturating_mul(step) / count,
+        others: others.saturating_mul(step) / count,
+    })
 }
 
 /// How many rows serve best: an edge shall reach about four on average.
