@@ -12,4 +12,5 @@ pub mod sides;
 mod slanted;
 mod stars;
 mod sums;
+mod ways;
 mod winding;

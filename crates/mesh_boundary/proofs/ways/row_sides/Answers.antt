@@ -8,7 +8,7 @@ use Rattle.mesh_cuts.specs.Counted.{Counted, size}
 use Rattle.mesh_boundary.specs.Midway.CountedSides.{counted_winding, sides_by, sides_of}
 use Rattle.mesh_boundary.proofs.RowSums.{row_sum, row_size}
 use Rattle.mesh_boundary.proofs.SidesCode.{size_least, next_part}
-use Rattle.mesh_boundary.proofs.sides.row_sides.Goals as goal
+use Rattle.mesh_boundary.proofs.ways.row_sides.Goals as goal
 
 pub sides_of-requires-clause-room : goal.sides_of-requires-clause-room
 sides_of-requires-clause-room c =

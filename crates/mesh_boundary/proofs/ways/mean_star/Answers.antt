@@ -1,6 +1,6 @@
 use Rattle.std.proofs.Common.{ℕ, ◌<◌, length, sym, subst}
 use Rattle.mesh_boundary.proofs.StarLists.{shaped}
-use Rattle.mesh_boundary.proofs.sides.mean_star.Goals as goal
+use Rattle.mesh_boundary.proofs.ways.mean_star.Goals as goal
 
 pub star-requires : goal.star-requires
 star-requires c =

@@ -6,13 +6,13 @@ use Rattle.mesh_cuts.specs.Boundary.{IsBoundary}
 use Rattle.mesh_cuts.specs.Counted.{Counted}
 use Rattle.mesh_cuts.specs.FillRules.{filled}
 use Rattle.mesh_boundary.proofs.BoundaryCounted.{emitted, emitted_more, counted_boundary}
-use Rattle.mesh_boundary.proofs.sides.by_slanted_rows.Goals as goal
+use Rattle.mesh_boundary.proofs.sides.boundary_by.Goals as goal
 
 pub loop-i-preserved : goal.loop-i-preserved
 loop-i-preserved c = λ es is split.
     let d : Counted = (((pos 0, pos 0), (pos 0, pos 0)), pos 0) in
-    emitted_more (filled c.args.fill) c.args.segments.now c.loop-i.i d c.loop-i.edges.items c.push_edge.new.edges.items c.slanted_sides-sides.result c.loop-i-test.true
-    (c.loop-i.invariant es is split) (c.slanted_sides-sides.ensures es is split d) c.in_ok-push_edge.ensures
+    emitted_more (filled c.args.fill) c.args.segments.now c.loop-i.i d c.loop-i.edges.items c.push_edge.new.edges.items c.sides-sides.result c.loop-i-test.true
+    (c.loop-i.invariant es is split) (c.sides-sides.ensures es is split d) c.in_ok-push_edge.ensures
 
 pub returns : goal.returns
 returns c = λ es is split.

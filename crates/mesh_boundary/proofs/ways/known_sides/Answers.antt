@@ -8,7 +8,7 @@ use Rattle.mesh_boundary.proofs.SidesCode.{size_least, next_part}
 use Rattle.mesh_boundary.specs.Midway.CountedSides.{sides_of}
 use Rattle.mesh_boundary.proofs.BoundaryCounted.{sided}
 use Rattle.mesh_boundary.proofs.StarLists.{have_stars, segment_at, shaped}
-use Rattle.mesh_boundary.proofs.sides.known_sides.Goals as goal
+use Rattle.mesh_boundary.proofs.ways.known_sides.Goals as goal
 
 pub sides-requires-clause-shape : goal.sides-requires-clause-shape
 sides-requires-clause-shape c = shaped c.args.stars.now.lists.items c.args.stars.now.ends.items c.args.segments.now c.requires.stars

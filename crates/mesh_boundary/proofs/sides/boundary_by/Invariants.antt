@@ -5,7 +5,7 @@ use Rattle.mesh_cuts.specs.Counted.{IsCountOf}
 use Rattle.mesh_cuts.specs.FillRules.{filled}
 use Rattle.mesh_sides.specs.Laws.{AreSplit}
 use Rattle.mesh_boundary.proofs.BoundaryCounted.{emitted}
-use Rattle.mesh_boundary.proofs.sides.by_slanted_rows.Given as goal
+use Rattle.mesh_boundary.proofs.sides.boundary_by.Given as goal
 
 abbrev pub invariant-loop-i : goal.invariant-loop-i
 invariant-loop-i l = (es : List Edge) → IsCountOf es l.segments → AreSplit es → l.edges.items ≡ flat_map (emitted (filled l.fill) l.segments) (take l.i l.segments)

@@ -13,7 +13,7 @@ use Rattle.mesh_boundary.specs.Midway.CountedSides.{counted_winding, sides_by, s
 use Rattle.mesh_boundary.specs.Midway.Slants.{level_of, listed_winding}
 use Rattle.mesh_boundary.proofs.SidesCode.{size_least, next_part}
 use Rattle.mesh_boundary.proofs.Slants.{slanted_row, slanted_size, slanted_counts}
-use Rattle.mesh_boundary.proofs.sides.slanted_sides.Goals as goal
+use Rattle.mesh_boundary.proofs.ways.slanted_sides.Goals as goal
 
 pub winding-requires-clause-room : goal.winding-requires-clause-room
 winding-requires-clause-room c =

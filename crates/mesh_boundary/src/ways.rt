@@ -1,0 +1,163 @@
+//! The ways to find the windings on both sides of each segment, and which of them serves.
+
+ghost use Rattle.std.specs.Prelude.{◌≡◌, ◌^◌, ◌<◌, length, slice_index_or, IfOk};
+ghost use Rattle.mesh_plane.specs.Bounds.{IsSmall};
+ghost use Rattle.mesh_plane.specs.Winding.{sum_of};
+ghost use Rattle.mesh_cuts.specs.Counted.{Counted, size, IsRoomy};
+ghost use Rattle.mesh_rows.specs.Rows.{AreRows};
+ghost use Rattle.mesh_boundary.specs.Midway.CountedSides.{sides_by, sides_of};
+ghost use Rattle.mesh_boundary.specs.Midway.Flood.{OfSplitEdges, AreKnown};
+ghost use Rattle.mesh_boundary.specs.Midway.Slants.{AreSlantedRows};
+ghost use Rattle.mesh_boundary.specs.Midway.Stars.{AreStars};
+ghost use Rattle.mesh_boundary.specs.Midway.Ways.{Serves};
+
+use crate::flood::{Flood, Sides};
+use crate::slanted::{SlantedRows, slanted_rows};
+use crate::stars::{Stars, rises};
+use crate::winding::winding;
+use mesh_cuts::fine::middle;
+use mesh_cuts::grid::CountedSegment;
+use mesh_rows::rows::{Rows, mean_reached, sample_step};
+use std::alloc::{AllocError, Global};
+
+/// For so few segments rows serve, however long they are.
+const FEW: usize = 64;
+
+/// The greatest number of segments that reach a height, on average, for which rows serve.
+const SHORT: usize = 12;
+
+/// A way to find the sides of segments.
+#[derive(Drop)]
+pub enum Way {
+    /// By sums over rows to the east.
+    East(Rows<i128>),
+    /// By sums over rows along a slant.
+    Slanted(SlantedRows),
+    /// From the windings at their ends, where these are known.
+    Ends(Stars, Flood),
+}
+
+/// The windings on both sides of a segment, from that beside it.
+fn sides_by(beside: i128, s: CountedSegment) -> Sides
+    requires beside_small { IsSmall (2 ^ 122) beside }
+    requires count_small { IsRoomy (size s) }
+    ensures { result ≡ sides_by beside s }
+{
+    if rises(s.0) {
+        return (beside + s.1, beside);
+    }
+    (beside, beside - s.1)
+}
+
+fn sides_of(segments: &[CountedSegment], s: CountedSegment) -> Sides
+    requires room { IsRoomy (sum_of size segments.now) }
+    requires count_small { IsRoomy (size s) }
+    ensures { result ≡ sides_of segments.now s }
+{
+    sides_by(winding(segments, middle(s.0)), s)
+}
+
+/// How many segments the stars have at which some of the segments start, on average.
+fn mean_star(segments: &[CountedSegment], stars: &Stars) -> usize
+    requires stars { AreStars stars.now.lists.items stars.now.ends.items segments.now }
+{
+    let step = sample_step(segments.len());
+    let mut count: usize = 0;
+    let mut sum: usize = 0;
+    for i in 0..segments.len() {
+        if i % step == 0 {
+            count = count.saturating_add(1);
+            sum = sum.saturating_add(stars.star(stars.ends[i].0).len());
+        }
+    }
+    sum / count.max(1)
+}
+
+/// The sides of the segment at a place, by a sum over a row.
+fn row_sides(segments: &[CountedSegment], rows: &Rows<i128>, i: usize) -> Sides
+    requires in_range { i < length segments.now }
+    requires room { IsRoomy (sum_of size segments.now) }
+    requires rows { AreRows rows.now.marks.items rows.now.lists.items segments.now }
+    ensures { (d : Counted) → result ≡ sides_of segments.now (slice_index_or segments.now i d) }
+{
+    let s = segments[i];
+    sides_of(rows.row(middle(s.0)), s)
+}
+
+/// The sides of the segment at a place: those known of it, or else by a sum over all segments.
+fn known_sides(segments: &[CountedSegment], stars: &Stars, flood: &Flood, i: usize) -> Sides
+    requires in_range { i < length segments.now }
+    requires room { IsRoomy (sum_of size segments.now) }
+    requires stars { AreStars stars.now.lists.items stars.now.ends.items segments.now }
+    ensures { OfSplitEdges segments.now (λ es. AreKnown es flood.now.known.items
+        → (d : Counted) → result ≡ sides_of segments.now (slice_index_or segments.now i d)) }
+{
+    if let Some(sides) = flood.sides(segments, stars, i) {
+        return sides;
+    }
+    sides_of(segments, segments[i])
+}
+
+/// The sides of the segment at a place, by a sum over a row along a slant.
+fn slanted_sides(segments: &[CountedSegment], rows: &SlantedRows, i: usize) -> Sides
+    requires in_range { i < length segments.now }
+    requires room { IsRoomy (sum_of size segments.now) }
+    requires rows { AreSlantedRows rows.now.slant rows.now.rows segments.now }
+    ensures { OfSplitEdges segments.now (λ es. (d : Counted) → result ≡ sides_of segments.now
+        (slice_index_or segments.now i d)) }
+{
+    let s = segments[i];
+    let at = rows.slant.middle_across(s.0);
+    sides_by(rows.slant.winding(rows.row(at), middle(s.0), at), s)
+}
+
+impl Way {
+    /// From the windings at ends.
+    fn by_ends(alloc: Global, segments: &[CountedSegment], stars: Stars) -> Result<Way, AllocError>
+        requires room { IsRoomy (sum_of size segments.now) }
+        requires stars { AreStars stars.lists.items stars.ends.items segments.now }
+        ensures { IfOk result (λ w. Serves w segments.now) }
+    {
+        let flood = Flood::new(alloc, segments, &stars)?;
+        Ok(Way::Ends(stars, flood))
+    }
+
+    /// The way that serves for these segments.
+    pub fn new(alloc: Global, segments: &[CountedSegment]) -> Result<Way, AllocError>
+        requires { IsRoomy (sum_of size segments.now) }
+        ensures { IfOk result (λ w. Serves w segments.now) }
+    {
+        if segments.len() <= FEW {
+            return Ok(Way::East(Rows::new(alloc, segments)?));
+        }
+        let reached = mean_reached(alloc, segments)?;
+        if reached.all <= SHORT {
+            return Ok(Way::East(Rows::new(alloc, segments)?));
+        }
+        if reached.others > SHORT {
+            if let Some(rows) = slanted_rows(alloc, segments, SHORT)? {
+                return Ok(Way::Slanted(rows));
+            }
+        }
+        let stars = Stars::new(alloc, segments)?;
+        if mean_star(segments, &stars) > reached.all {
+            return Ok(Way::East(Rows::new(alloc, segments)?));
+        }
+        Way::by_ends(alloc, segments, stars)
+    }
+
+    /// The sides of the segment at a place.
+    pub fn sides(&self, segments: &[CountedSegment], i: usize) -> Sides
+        requires in_range { i < length segments.now }
+        requires room { IsRoomy (sum_of size segments.now) }
+        requires serves { Serves self.now segments.now }
+        ensures { OfSplitEdges segments.now (λ es. (d : Counted) → result ≡ sides_of segments.now
+            (slice_index_or segments.now i d)) }
+    {
+        match self {
+            Way::East(rows) => row_sides(segments, rows, i),
+            Way::Slanted(rows) => slanted_sides(segments, rows, i),
+            Way::Ends(stars, flood) => known_sides(segments, stars, flood, i),
+        }
+    }
+}
