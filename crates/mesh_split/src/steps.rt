@@ -32,8 +32,8 @@ fn single(e: GridEdge) -> CountedSegment
     ((start, end), 1)
 }
 
-/// The segment seen from its other end.
-fn turned(s: CountedSegment) -> CountedSegment
+/// The segment the other way about.
+fn backwards(s: CountedSegment) -> CountedSegment
     requires { IsRoomy (weight s) }
     ensures { result ≡ ((s.0.1, s.0.0), neg_ℤ s.1) }
 {
@@ -63,7 +63,7 @@ impl Splitter {
         if is_before(s.0.0, s.0.1) {
             return self.file(s);
         }
-        self.file(turned(s))
+        self.file(backwards(s))
     }
 
     /// The same, where the lesser end is first.
