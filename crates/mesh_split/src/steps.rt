@@ -4,9 +4,8 @@ ghost use Rattle.std.specs.Prelude.{◌≡◌, ◌^◌, List, [], ◌∷◌, ℤ
 ghost use Rattle.mesh_plane.specs.Winding.{same_point};
 ghost use Rattle.mesh_cuts.specs.Clean.{IsProper};
 ghost use Rattle.mesh_cuts.specs.Split.{is_end, IsInBox, Meets};
-ghost use Rattle.mesh_cuts.specs.Split.{IsForward};
 ghost use Rattle.mesh_split.specs.Midway.Steps.{AllClear, Puts, PutsPieces, Settles, IsPile, KeepsPile, exactly};
-ghost use Rattle.mesh_split.specs.Midway.Steps.{weight, total_weight};
+ghost use Rattle.mesh_split.specs.Midway.Steps.{IsForward, weight, total_weight};
 ghost use Rattle.mesh_cuts.specs.Counted.{times, IsRoomy};
 
 use crate::hints::Meeting;
