@@ -32,7 +32,8 @@ ReachesEnd unit options sense from end ds =
 abbrev pub NoStepFails : ℕ → ArcOptions → ArcDirection → Point → Type 0
 NoStepFails unit options sense from =
     (k : ℕ) → k < most_directions
-    → IsTrue (is_good sense (bound_of options) (turned_times (step_of unit options sense) from k) (turned_times (step_of unit options sense) from (suc k)))
+    → IsTrue (is_good sense (bound_of options) (turned_times (step_of unit options sense) from k)
+    (turned_times (step_of unit options sense) from (suc k)))
 
 -- the options that are used where none are asked for
 abbrev pub default_options : ArcOptions
