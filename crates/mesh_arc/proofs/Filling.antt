@@ -5,7 +5,7 @@ use mathlib.Core.Logic.{◌⊎◌, inl, inr, ⊎_elim}
 use Rattle.std.proofs.lemmas.Bool.{cases_lt, true≢false}
 use Rattle.mesh_plane.specs.Plane.{Point}
 use Rattle.mesh_grid.specs.Rotation.{rotated}
-use Rattle.mesh_arc.specs.Arcs.{least, turned, turned_list, is_within, is_good, is_passed, most_directions, step_of, bound_of, stepped, arc}
+use Rattle.mesh_arc.specs.Arcs.{least, turned_times, turned_list, is_within, is_good, is_passed, most_directions, step_of, bound_of, stepped, arc}
 use Rattle.mesh_arc.specs.declared.arc.ArcDirection.{ArcDirection}
 use Rattle.mesh_arc.specs.declared.arc.ArcOptions.{ArcOptions}
 use Rattle.mesh_arc.specs.Midway.{Steps, ends, HasTurned}
@@ -13,7 +13,7 @@ use Rattle.mesh_arc.proofs.Turning.{least_is, least_passes, turned_more, turned_
 
 -- no direction yet
 pub turning_starts : (s : Steps) (from end : Point) (room : ℕ) → HasTurned s from end room 0 from [] room
-unfolding turned turned_list
+unfolding turned_times turned_list
 turning_starts s from end room = record {
   count = omega arith;
   current_is = refl;
@@ -23,19 +23,19 @@ turning_starts s from end room = record {
 }
 
 -- the test of the code is that of the definition
-pub ends_is : (s : Steps) (from end : Point) (k : ℕ) (current next : Point) → current ≡ turned s.step from k → next ≡ rotated s.step current
+pub ends_is : (s : Steps) (from end : Point) (k : ℕ) (current next : Point) → current ≡ turned_times s.step from k → next ≡ rotated s.step current
     → (not (is_good s.sense s.bound current next) || is_passed s.sense end current next) ≡ ends s from end k
-unfolding turned
+unfolding turned_times
 ends_is s from end k current next p q = rw (q, p) refl
 
 -- one more
 pub turning_goes : (s : Steps) (from end : Point) (room k : ℕ) (current : Point) (ds : List Point) (capacity : ℕ) (next : Point) (grown : ℕ)
     → HasTurned s from end room k current ds capacity → k < most_directions → next ≡ rotated s.step current → ends s from end k ≡ false
     → capacity ≤ grown → HasTurned s from end room (k + 1) next (ds ++ (next ∷ [])) grown
-unfolding turned
+unfolding turned_times
 turning_goes s from end room k current ds capacity next grown h l q e c =
     let one : suc k ≡ k + 1 = omega arith in
-    let n : next ≡ turned s.step from (suc k) = q ∙ ap (rotated s.step) h.current_is in
+    let n : next ≡ turned_times s.step from (suc k) = q ∙ ap (rotated s.step) h.current_is in
     rw (← one)
     (record {
       count = l;

@@ -12,7 +12,7 @@ use Rattle.mesh_grid.specs.Rotation.{cut, rotated, turned_round}
 use Rattle.mesh_grid.specs.Direction.{IsShort, IsFresh}
 use Rattle.mesh_grid.proofs.Rotations.{cut_size, whole_length, rotated_length, turned_round_length}
 use Rattle.mesh_sine.specs.Sine.{sin_cos, IsWithinOne}
-use Rattle.mesh_arc.specs.Arcs.{ahead, step_bits, step_of, is_good, turned}
+use Rattle.mesh_arc.specs.Arcs.{ahead, step_bits, step_of, is_good, turned_times}
 use Rattle.mesh_arc.specs.Gaps.{NoStepFails, default_options}
 use Rattle.mesh_arc.specs.declared.arc.ArcDirection.{ArcDirection}
 use Rattle.mesh_arc.specs.declared.arc.ArcDirection.TheVariants.{Clockwise, Counterclockwise}
@@ -226,22 +226,22 @@ record IsLong (unit k : ℕ) (d : Point) : Type 0 where
   at_least : (unit - 2 - 4 * k) * (unit - 2 - 4 * k) ≤ length_sq d
 
 long_after : (unit : ℕ) (s from : Point) → 2 ^ 14 ≤ unit → unit ≤ 2 ^ 30 → IsWithinOne s → 1073741822 * 1073741822 ≤ length_sq s
-    → IsShort unit from → IsFresh unit from → (k : ℕ) → k ≤ 1536 → IsLong unit k (turned s from k)
-unfolding turned
+    → IsShort unit from → IsFresh unit from → (k : ℕ) → k ≤ 1536 → IsLong unit k (turned_times s from k)
+unfolding turned_times
 long_after unit s from u w short long h f zero b =
     let e : unit - 2 ≡ unit - 2 - 4 * 0 = omega arith in
     record { at_most = h; at_least = subst (λ (m : ℕ). m * m ≤ length_sq from) e f }
 long_after unit s from u w short long h f (suc k) b =
     let c : k ≤ 1536 = omega arith in
-    let i : IsLong unit k (turned s from k) = long_after unit s from u w short long h f k c in
+    let i : IsLong unit k (turned_times s from k) = long_after unit s from u w short long h f k c in
     let l = unit - 2 - 4 * k in
     let least : 4 ≤ l = omega arith in
     let most : l ≤ 2 ^ 30 = omega arith in
     let e : l - 4 ≡ unit - 2 - 4 * suc k = omega arith in
-    let g : (l - 4) * (l - 4) ≤ length_sq (rotated s (turned s from k)) = stays_long s (turned s from k) l least most i.at_least long in
-    let r : length_sq (rotated s (turned s from k)) ≤ length_sq (turned s from k) = rotated_length s (turned s from k) short in
-    let n : length_sq (rotated s (turned s from k)) ≤ unit * unit = omega (arith, i.at_most) in
-    record { at_most = n; at_least = subst (λ (m : ℕ). m * m ≤ length_sq (rotated s (turned s from k))) e g }
+    let g : (l - 4) * (l - 4) ≤ length_sq (rotated s (turned_times s from k)) = stays_long s (turned_times s from k) l least most i.at_least long in
+    let r : length_sq (rotated s (turned_times s from k)) ≤ length_sq (turned_times s from k) = rotated_length s (turned_times s from k) short in
+    let n : length_sq (rotated s (turned_times s from k)) ≤ unit * unit = omega (arith, i.at_most) in
+    record { at_most = n; at_least = subst (λ (m : ℕ). m * m ≤ length_sq (rotated s (turned_times s from k))) e g }
 
 half_left : (unit k n : ℕ) → 2 ^ 14 ≤ unit → k < 1536 → (unit - 2 - 4 * k) * (unit - 2 - 4 * k) ≤ n → unit * unit ≤ 4 * n
 half_left unit k n u b h =
@@ -255,14 +255,14 @@ sensed_length Clockwise s = turned_round_length s
 
 no_step_fails : (unit : ℕ) (sense : ArcDirection) (m : ℤ) (s from : Point) → IsFineStep s → pos 0 ≤ℤ m → 2 ^ 14 ≤ unit → unit ≤ 2 ^ 30
     → IsShort unit from → IsFresh unit from → (k : ℕ) → k < 1536
-    → is_good sense (m, m) (turned (sensed sense s) from k) (turned (sensed sense s) from (suc k)) ≡ true
-unfolding turned
+    → is_good sense (m, m) (turned_times (sensed sense s) from k) (turned_times (sensed sense s) from (suc k)) ≡ true
+unfolding turned_times
 no_step_fails unit sense m s from f z u w h l k b =
     let c : k ≤ 1536 = omega arith in
     let short : IsWithinOne (sensed sense s) = rw (sensed_length sense s) f.short in
     let long : 1073741822 * 1073741822 ≤ length_sq (sensed sense s) = rw (sensed_length sense s) f.long in
-    let i : IsLong unit k (turned (sensed sense s) from k) = long_after unit (sensed sense s) from u w short long h l k c in
-    good_step unit sense m s (turned (sensed sense s) from k) f z u i.at_most (half_left unit k (length_sq (turned (sensed sense s) from k)) u b i.at_least)
+    let i : IsLong unit k (turned_times (sensed sense s) from k) = long_after unit (sensed sense s) from u w short long h l k c in
+    good_step unit sense m s (turned_times (sensed sense s) from k) f z u i.at_most (half_left unit k (length_sq (turned_times (sensed sense s) from k)) u b i.at_least)
 
 -- ---- the default steps of both widths
 
@@ -281,10 +281,10 @@ default_by : (unit : ℕ) (s : Point) → sin_cos (step_bits unit default_option
 default_by unit s e f u w sense from h l k b =
     let z : pos 0 ≤ℤ pos 759250124 = omega (arith, ints) in
     let p : step_of unit default_options sense ≡ sensed sense s = step_sensed unit sense ∙ ap (sensed sense) e in
-    let g : is_good sense (pos 759250124, pos 759250124) (turned (sensed sense s) from k) (turned (sensed sense s) from (suc k)) ≡ true = no_step_fails unit sense (pos 759250124) s from f z u w h l k b in
-    let i : is_good sense (pos 759250124, pos 759250124) (turned (step_of unit default_options sense) from k) (turned (step_of unit default_options sense) from (suc k)) ≡ true =
-    subst (λ (t : Point). is_good sense (pos 759250124, pos 759250124) (turned t from k) (turned t from (suc k)) ≡ true) (sym p) g in
-    subst (λ (q : Point). is_good sense q (turned (step_of unit default_options sense) from k) (turned (step_of unit default_options sense) from (suc k)) ≡ true) (sym greatest_step) i
+    let g : is_good sense (pos 759250124, pos 759250124) (turned_times (sensed sense s) from k) (turned_times (sensed sense s) from (suc k)) ≡ true = no_step_fails unit sense (pos 759250124) s from f z u w h l k b in
+    let i : is_good sense (pos 759250124, pos 759250124) (turned_times (step_of unit default_options sense) from k) (turned_times (step_of unit default_options sense) from (suc k)) ≡ true =
+    subst (λ (t : Point). is_good sense (pos 759250124, pos 759250124) (turned_times t from k) (turned_times t from (suc k)) ≡ true) (sym p) g in
+    subst (λ (q : Point). is_good sense q (turned_times (step_of unit default_options sense) from k) (turned_times (step_of unit default_options sense) from (suc k)) ≡ true) (sym greatest_step) i
 
 pub default_steps : (unit : ℕ) → (unit ≡ 2 ^ 14) ⊎ (unit ≡ 2 ^ 30) → (sense : ArcDirection) (from : Point)
     → IsShort unit from → IsFresh unit from → NoStepFails unit default_options sense from

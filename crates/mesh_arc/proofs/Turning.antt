@@ -3,7 +3,7 @@ use Rattle.std.proofs.Common.{◌≡◌, ℕ, ◌<◌, ◌≤◌, Bool, true, fa
 use mathlib.Core.Logic.{◌⊎◌, inl, inr, ⊎_elim}
 use Rattle.mesh_plane.specs.Plane.{Point}
 use Rattle.mesh_grid.specs.Rotation.{rotated}
-use Rattle.mesh_arc.specs.Arcs.{least, turned, turned_list}
+use Rattle.mesh_arc.specs.Arcs.{least, turned_times, turned_list}
 
 -- ---- the least number that passes a test
 
@@ -67,14 +67,15 @@ least_is test (suc n) (suc k) l h p =
 
 -- ---- a direction turned again and again
 
-pub turned_first : (step from : Point) (k : ℕ) → turned step (rotated step from) k ≡ turned step from (suc k)
-unfolding turned
+pub turned_first : (step from : Point) (k : ℕ) →
+    turned_times step (rotated step from) k ≡ turned_times step from (suc k)
+unfolding turned_times
 turned_first step from zero = refl
 turned_first step from (suc k) = ap (rotated step) (turned_first step from k)
 
 -- one direction more
-pub turned_more : (step from : Point) (n : ℕ) → turned_list step from (suc n) ≡ turned_list step from n ++ (turned step from (suc n) ∷ [])
-unfolding turned turned_list
+pub turned_more : (step from : Point) (n : ℕ) → turned_list step from (suc n) ≡ turned_list step from n ++ (turned_times step from (suc n) ∷ [])
+unfolding turned_times turned_list
 turned_more step from zero = refl
 turned_more step from (suc n) =
     ap (λ (ds : List Point). rotated step from ∷ ds) (turned_more step (rotated step from) n)

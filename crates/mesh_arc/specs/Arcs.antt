@@ -63,9 +63,9 @@ is_passed sense end v w =
 -- ---- the directions of an arc
 
 -- `from` turned so many times
-unfoldable pub turned : Point → Point → ℕ → Point
-turned step from zero = from
-turned step from (suc k) = rotated step (turned step from k)
+unfoldable pub turned_times : Point → Point → ℕ → Point
+turned_times step from zero = from
+turned_times step from (suc k) = rotated step (turned_times step from k)
 
 -- the first `n` directions after `from`
 unfoldable pub turned_list : Point → Point → ℕ → List Point
@@ -80,8 +80,8 @@ least test (suc n) = if test zero then zero else suc (least (λ k. test (suc k))
 -- whether the arc ends after `k` steps, since the next one is not good or passes the end
 abbrev pub ends_after : ArcDirection → Point → Point → Point → Point → ℕ → Bool
 ends_after sense bound step from end k =
-    not (is_good sense bound (turned step from k) (turned step from (suc k)))
-    || is_passed sense end (turned step from k) (turned step from (suc k))
+    not (is_good sense bound (turned_times step from k) (turned_times step from (suc k)))
+    || is_passed sense end (turned_times step from k) (turned_times step from (suc k))
 
 -- the most directions of an arc
 abbrev pub most_directions : ℕ

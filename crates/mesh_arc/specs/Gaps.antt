@@ -4,7 +4,7 @@ use Rattle.std.specs.List.{All}
 use Rattle.mesh_plane.specs.Plane.{Point, Edge}
 use Rattle.mesh_plane.specs.Ways.{last_of}
 use Rattle.mesh_grid.specs.Rotation.{rotated}
-use Rattle.mesh_arc.specs.Arcs.{step_of, bound_of, is_within, is_good, turned, most_directions}
+use Rattle.mesh_arc.specs.Arcs.{step_of, bound_of, is_within, is_good, turned_times, most_directions}
 use Rattle.mesh_arc.specs.declared.arc.ArcDirection.{ArcDirection}
 use Rattle.mesh_arc.specs.declared.arc.ArcOptions.{ArcOptions}
 
@@ -32,7 +32,8 @@ ReachesEnd unit options sense from end ds =
 abbrev pub NoStepFails : ℕ → ArcOptions → ArcDirection → Point → Type 0
 NoStepFails unit options sense from =
     (k : ℕ) → k < most_directions
-    → IsTrue (is_good sense (bound_of options) (turned (step_of unit options sense) from k) (turned (step_of unit options sense) from (suc k)))
+    → IsTrue (is_good sense (bound_of options) (turned_times (step_of unit options sense) from k)
+    (turned_times (step_of unit options sense) from (suc k)))
 
 -- the options that are used where none are asked for
 abbrev pub default_options : ArcOptions

@@ -2,7 +2,7 @@
 use Rattle.std.specs.Prelude.{ℕ, ◌≡◌, ◌<◌, ◌≤◌, ◌^◌, Bool, false, ◌||◌, not, List}
 use Rattle.mesh_plane.specs.Plane.{Point}
 use Rattle.mesh_sine.specs.Sine.{sin_cos, IsWithinOne}
-use Rattle.mesh_arc.specs.Arcs.{step_bits, step_of, bound_of, is_good, is_passed, turned, turned_list, least}
+use Rattle.mesh_arc.specs.Arcs.{step_bits, step_of, bound_of, is_good, is_passed, turned_times, turned_list, least}
 use Rattle.mesh_arc.specs.Arcs.{ends_after, most_directions, stepped}
 use Rattle.mesh_arc.specs.declared.arc.ArcDirection.{ArcDirection}
 use Rattle.mesh_arc.specs.declared.arc.ArcOptions.{ArcOptions}
@@ -44,7 +44,7 @@ directions_by s from end = stepped s.sense s.bound s.step from end
 -- `capacity` now
 pub record HasTurned (s : Steps) (from end : Point) (room k : ℕ) (current : Point) (ds : List Point) (capacity : ℕ) : Type 0 where
   pub count : k ≤ most_directions
-  pub current_is : current ≡ turned s.step from k
+  pub current_is : current ≡ turned_times s.step from k
   pub directions : ds ≡ turned_list s.step from k
   pub goes_on : (j : ℕ) → j < k → ends s from end j ≡ false
   pub grown : room ≤ capacity

@@ -19,7 +19,7 @@ use Rattle.mesh_cuts.specs.Boundary.{count, IsBoundary}
 use Rattle.mesh_cuts.specs.Clean.{IsProper}
 use Rattle.mesh_shapes.specs.Contours.{IsBegun, IsRingAmong, IsRingOf, StartsOnce, left_out}
 use Rattle.mesh_cuts.specs.Counted.{Counted}
-use Rattle.mesh_shapes.specs.Vectors.{HeldRing, ring_held, rings_held}
+use Rattle.mesh_shapes.specs.Vectors.{RingVec, ring_of_vec, rings_of_vecs}
 use Rattle.mesh_below.specs.Midway.Rings.{AreRingsOf, IsWhole, PushesRing, Told}
 use Rattle.mesh_shapes.specs.Resolution.{Choices, Ring, ring_of, is_large, AreArranged, IsResolution}
 use Rattle.mesh_cuts.specs.Split.{occurs, after, same_ends}
@@ -30,52 +30,52 @@ use Rattle.mesh_plane.proofs.ClosedLists.{all_left, all_right}
 use Rattle.mesh_below.proofs.Whole.{whole_vertices, same_length}
 
 -- ---- the ring of one contour
-ring_is : (all : Bool) (given : List Point) (r : HeldRing) → (k : IsRingOf all given (ring_held r)) → ring_of all k.contour ≡ ring_held r
+ring_is : (all : Bool) (given : List Point) (r : RingVec) → (k : IsRingOf all given (ring_of_vec r)) → ring_of all k.contour ≡ ring_of_vec r
 ring_is all given r k i = (sym k.vertices_are i, sym k.side_is i)
 
 -- a ring with as many points as its contour has each of them
-pub ring_whole : (all : Bool) (given : List Point) (r : HeldRing) → (k : IsRingOf all given (ring_held r)) → length r.0.items ≡ length given → IsWhole all k.contour
+pub ring_whole : (all : Bool) (given : List Point) (r : RingVec) → (k : IsRingOf all given (ring_of_vec r)) → length r.0.items ≡ length given → IsWhole all k.contour
 ring_whole all given r k e =
     whole_vertices all k.contour (ap length (sym k.vertices_are) ∙ (e ∙ sym (same_length k.contour given k.same)))
 
-pub push_one : (all : Bool) (least : ℕ) (edges : List Edge) (given : List Point) (r : HeldRing) (old new : List HeldRing) (whole lone : Bool) → IsRingAmong all edges given (ring_held r) lone →
-    is_large least (ring_held r) ≡ true → (whole ≡ true → length r.0.items ≡ length given) → new ≡ old ++ (r ∷ []) → PushesRing all least edges given old new (whole, lone)
+pub push_one : (all : Bool) (least : ℕ) (edges : List Edge) (given : List Point) (r : RingVec) (old new : List RingVec) (whole lone : Bool) → IsRingAmong all edges given (ring_of_vec r) lone →
+    is_large least (ring_of_vec r) ≡ true → (whole ≡ true → length r.0.items ≡ length given) → new ≡ old ++ (r ∷ []) → PushesRing all least edges given old new (whole, lone)
 push_one all least edges given r old new whole lone among large is_whole e = let k = among.is_ring in record {
   contour = k.contour;
   same = k.same;
   begun = k.begun;
   rings_are =
-      ap rings_held e
-      ∙ (map-append ring_held old (r ∷ [])
-      ∙ sym (λ i. rings_held old ++ cond ((ap (is_large least) (ring_is all given r k) ∙ large) i) (ring_is all given r k i ∷ []) []));
+      ap rings_of_vecs e
+      ∙ (map-append ring_of_vec old (r ∷ [])
+      ∙ sym (λ i. rings_of_vecs old ++ cond ((ap (is_large least) (ring_is all given r k) ∙ large) i) (ring_is all given r k i ∷ []) []));
   is_whole = λ t. ring_whole all given r k (is_whole t);
   starts_once = among.starts_once;
 }
 
 -- a small ring is left out
-pub push_none : (all : Bool) (least : ℕ) (edges : List Edge) (given : List Point) (r : HeldRing) (old : List HeldRing) (whole lone : Bool) → IsRingAmong all edges given (ring_held r) lone →
-    is_large least (ring_held r) ≡ false → (whole ≡ true → length r.0.items ≡ length given) → PushesRing all least edges given old old (whole, lone)
+pub push_none : (all : Bool) (least : ℕ) (edges : List Edge) (given : List Point) (r : RingVec) (old : List RingVec) (whole lone : Bool) → IsRingAmong all edges given (ring_of_vec r) lone →
+    is_large least (ring_of_vec r) ≡ false → (whole ≡ true → length r.0.items ≡ length given) → PushesRing all least edges given old old (whole, lone)
 push_none all least edges given r old whole lone among small is_whole = let k = among.is_ring in record {
   contour = k.contour;
   same = k.same;
   begun = k.begun;
-  rings_are = sym ((λ i. rings_held old ++ cond ((ap (is_large least) (ring_is all given r k) ∙ small) i) (ring_of all k.contour ∷ []) []) ∙ append-nil (rings_held old));
+  rings_are = sym ((λ i. rings_of_vecs old ++ cond ((ap (is_large least) (ring_is all given r k) ∙ small) i) (ring_of all k.contour ∷ []) []) ∙ append-nil (rings_of_vecs old));
   is_whole = λ t. ring_whole all given r k (is_whole t);
   starts_once = among.starts_once;
 }
 
 -- ---- the rings of contours
-pub rings_none : (all : Bool) (least : ℕ) (edges : List Edge) (rings : List HeldRing) (told : Told) → rings ≡ [] → AreRingsOf all least edges [] rings told
+pub rings_none : (all : Bool) (least : ℕ) (edges : List Edge) (rings : List RingVec) (told : Told) → rings ≡ [] → AreRingsOf all least edges [] rings told
 rings_none all least edges rings told none = record {
   contours = [];
   same = λ f. refl;
   begun = All-nil (IsBegun all);
-  rings_are = ap rings_held none;
+  rings_are = ap rings_of_vecs none;
   are_whole = λ t. All-nil (IsWhole all);
   start_once = λ t. All-nil (λ (c : List Point). All (StartsOnce edges) (left_out all c));
 }
 
-pub rings_more : (all : Bool) (least : ℕ) (edges : List Edge) (given : List (Vec Point Global)) (c : Vec Point Global) (old new : List HeldRing) (told own : Told) →
+pub rings_more : (all : Bool) (least : ℕ) (edges : List Edge) (given : List (Vec Point Global)) (c : Vec Point Global) (old new : List RingVec) (told own : Told) →
     AreRingsOf all least edges given old told → PushesRing all least edges c.items old new own → AreRingsOf all least edges (given ++ (c ∷ [])) new (told.0 && own.0, told.1 && own.1)
 rings_more all least edges given c old new told own k p = record {
   contours = k.contours ++ (p.contour ∷ []);
@@ -136,9 +136,9 @@ same_boundary es fill bs cs h is = record { counts = λ (e : Edge). h e ∙ is.c
 pub boundary_proper : (es bs : List Edge) (fill : ℤ → Bool) → IsProper es → IsBoundary es fill bs → All (λ (e : Edge). same_point e.0 e.1 ≡ false) bs
 boundary_proper es bs fill proper is = all_occurs (λ (e : Edge). same_point e.0 e.1 ≡ false) bs (λ (e : Edge) (o : occurs e bs ≡ true). proper e (boundary_cover es bs fill is e o))
 
-unfoldable pub resolved : (edges : List Edge) (segments : List Counted) (fill : ℤ → Bool) (choices : Choices) (ordered : List Edge) (closed : List (Vec Point Global)) (rings : List HeldRing) (told : Told) (answer : List (List (List Point))) →
+unfoldable pub resolved : (edges : List Edge) (segments : List Counted) (fill : ℤ → Bool) (choices : Choices) (ordered : List Edge) (closed : List (Vec Point Global)) (rings : List RingVec) (told : Told) (answer : List (List (List Point))) →
     (s : IsSplitting edges segments) → IsBoundary (after s.cuts edges) fill (contour_edges closed) → AreRingsOf choices.all_vertices choices.least_area ordered closed rings told →
-    AreArranged choices.clockwise (rings_held rings) answer → IsResolution edges fill choices answer
+    AreArranged choices.clockwise (rings_of_vecs rings) answer → IsResolution edges fill choices answer
 resolved edges segments fill choices ordered closed rings told answer s is k a = record {
   cuts = s.cuts;
   legal = s.legal;

@@ -18,7 +18,7 @@ use Rattle.mesh_cuts.proofs.SoundCuts.{legal_sound, after_proper}
 use Rattle.mesh_sides.specs.Laws.{AreSplit}
 use Rattle.mesh_regions.proofs.BoundaryFill.{boundary_cover}
 use Rattle.mesh_shapes.specs.Resolution.{Choices, Ring, AreArranged, IsResolution}
-use Rattle.mesh_shapes.specs.Vectors.{HeldRing, rings_held, contour_edges}
+use Rattle.mesh_shapes.specs.Vectors.{RingVec, rings_of_vecs, contour_edges}
 use Rattle.mesh_shapes.proofs.Walking.{counts_same}
 use Rattle.mesh_below.specs.Answers.{AreOwnBoundary, IsSettled}
 use Rattle.mesh_below.specs.Midway.Rings.{AreRingsOf, IsWhole, Told}
@@ -75,10 +75,10 @@ settled edges fill options answer proper balanced empty r least same whole = rec
     }
 
 -- what the whole way from edges to shapes answers
-module _ (edges : List Edge) (segments : List Counted) (fill : ℤ → Bool) (choices : Choices) (ordered : List Edge) (closed : List (Vec Point Global)) (rings : List HeldRing) (told : Told)
+module _ (edges : List Edge) (segments : List Counted) (fill : ℤ → Bool) (choices : Choices) (ordered : List Edge) (closed : List (Vec Point Global)) (rings : List RingVec) (told : Told)
     (answer : List (List (List Point))) (proper : IsProper edges) (balanced : IsBalanced edges) (empty : fill (pos 0) ≡ false) (s : IsSplitting edges segments)
     (is : IsBoundary (after s.cuts edges) fill (contour_edges closed)) (k : AreRingsOf choices.all_vertices choices.least_area ordered closed rings told)
-    (a : AreArranged choices.clockwise (rings_held rings) answer) where
+    (a : AreArranged choices.clockwise (rings_of_vecs rings) answer) where
   pub resolved_settled : told.0 ≡ true → choices.least_area ≡ 0 → choices.clockwise ≡ false → IsSettled choices answer
   unfolding resolved
   resolved_settled t least same =
@@ -96,8 +96,8 @@ pub own_proper : (es : List Edge) → AreOwnBoundary es → All (λ (e : Edge). 
 own_proper es own = all_occurs (λ (e : Edge). same_point e.0 e.1 ≡ false) es own.split.proper
 
 -- they need no splitting
-pub arranged_again : (choices : Choices) (ordered : List Edge) (closed : List (Vec Point Global)) (rings : List HeldRing) (told : Told) (answer : List (List (List Point))) →
-    AreOwnBoundary (contour_edges closed) → AreRingsOf choices.all_vertices choices.least_area ordered closed rings told → AreArranged choices.clockwise (rings_held rings) answer →
+pub arranged_again : (choices : Choices) (ordered : List Edge) (closed : List (Vec Point Global)) (rings : List RingVec) (told : Told) (answer : List (List (List Point))) →
+    AreOwnBoundary (contour_edges closed) → AreRingsOf choices.all_vertices choices.least_area ordered closed rings told → AreArranged choices.clockwise (rings_of_vecs rings) answer →
     IsResolution (contour_edges closed) (filled Positive) choices answer
 arranged_again choices ordered closed rings told answer own k a = record {
   cuts = [];

@@ -1,6 +1,6 @@
 -- Lemmas over points and lists: edges with the same ends.
 use Rattle.std.proofs.Common.{◌≡◌, ◌⊎◌, inl, inr, ⊎_elim, Bool, true, false, sym, ◌∙◌, ap, refl, arith}
-use Rattle.std.specs.Prelude.{pos, ◌-ℤ◌, neg_ℤ, ℤ}
+use Rattle.std.specs.Prelude.{pos, ◌-ℤ◌, neg_ℤ, ℤ, IsTrue}
 use Rattle.std.specs.Bool.{Decides}
 use Rattle.std.proofs.lemmas.Bool.{both_ways, cases_Bool, or_parts}
 use Rattle.std.proofs.lemmas.Bool.Decides.{Decides-and, Decides-or, Decides-like, same_from_decides}
@@ -10,7 +10,6 @@ use Rattle.mesh_plane.specs.Winding.{same_point}
 use Rattle.mesh_cuts.specs.Split.{back, same_edge, same_ends, is_end}
 use Rattle.mesh_cuts.specs.Counted.{bit, along}
 use Rattle.mesh_plane.specs.Order.{point_lt}
-use Rattle.mesh_cuts.specs.Split.{IsForward}
 use Rattle.mesh_plane.proofs.Comparing.{decides_point}
 
 pub decides_edge : (e f : Edge) → Decides (same_edge e f) (e ≡ f)
@@ -82,7 +81,7 @@ along_self s h =
     let own : same_edge s s ≡ true = (decides_edge s s).1 refl in
     λ i. bit (own i) -ℤ bit (other i)
 
-pub forward_proper : (e : Edge) → IsForward e → same_point e.0 e.1 ≡ false
+pub forward_proper : (e : Edge) → IsTrue (point_lt e.0 e.1) → same_point e.0 e.1 ≡ false
 forward_proper e h =
     ⊎_elim
     (λ (t : same_point e.0 e.1 ≡ true). absurd (not_before e.0 e.1 ((decides_point e.0 e.1).0 t) h))

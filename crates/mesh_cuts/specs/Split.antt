@@ -1,11 +1,10 @@
 -- Splitting: where two segments meet, and the cuts that this allows.
 -- Edges are directed; a segment is a pair of ends, whichever way the edges between them run.
 use Rattle.std.specs.Prelude.{◌≡◌, ◌⊎◌, Bool, true, false, cond, ◌&&◌, ◌||◌, List, [], ◌∷◌, ◌++◌, ℤ, pos, negsuc, suc}
-use Rattle.std.specs.Prelude.{◌+ℤ◌, ◌-ℤ◌, ◌*ℤ◌, ◌≤ℤ◌, ◌<ℤ◌, neg_ℤ, IsTrue}
+use Rattle.std.specs.Prelude.{◌+ℤ◌, ◌-ℤ◌, ◌*ℤ◌, ◌≤ℤ◌, ◌<ℤ◌, neg_ℤ}
 use Rattle.mesh_plane.specs.Plane.{Point, Edge, turn}
 use Rattle.mesh_plane.specs.Rounding.{rounded}
 use Rattle.mesh_plane.specs.Winding.{same_point}
-use Rattle.mesh_plane.specs.Order.{point_lt}
 
 -- the edge the other way about
 abbrev pub back : Edge → Edge
@@ -116,7 +115,3 @@ pub data IsLegal : List Edge → List Cut → Type 0 where
 -- no point at which two segments would have to be split
 abbrev pub AreClear : Edge → Edge → Type 0
 AreClear e f = (c : Point) → Meets e f c → ⊥
-
--- the lesser end first, by x and then by y
-abbrev pub IsForward : Edge → Type 0
-IsForward e = IsTrue (point_lt e.0 e.1)

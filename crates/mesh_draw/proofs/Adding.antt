@@ -3,7 +3,8 @@ use Rattle.std.proofs.Common.{◌≡◌, List, ◌++◌, length, refl, Result, O
 use Rattle.std.proofs.Math.Seq.{take-append_seam}
 use Rattle.std.proofs.lemmas.List.{drop_at, take_at, take-append-drop, map-append, append-nil, map_more}
 use Rattle.mesh_num.specs.Segments.{SignedEdge, segments_of}
-use Rattle.mesh_draw.specs.Adding.{added, Adds, added_edges, Keeps}
+use Rattle.mesh_draw.specs.Adding.{added, added_edges, Keeps}
+use Rattle.mesh_draw.specs.Midway.{Adds}
 use Rattle.std.specs.List.Sorted.{IsPermutation}
 use Rattle.mesh_plane.specs.Plane.{Edge, Point}
 use Rattle.std.specs.Prelude.{OnOk}

@@ -12,7 +12,8 @@ use Rattle.mesh_plane.proofs.Sums.{total_permutation}
 use Rattle.mesh_plane.proofs.Balance.{balanced_permutation}
 use Rattle.mesh_grid.specs.Rectangle.{IsSafeWidened}
 use Rattle.mesh_num.specs.Segments.{SignedEdge, edge_of}
-use Rattle.mesh_draw.specs.Adding.{Adds, added, added_edges}
+use Rattle.mesh_draw.specs.Adding.{added, added_edges}
+use Rattle.mesh_draw.specs.Midway.{Adds}
 use Rattle.mesh_draw.specs.Drawing.{AreDrawn}
 use Rattle.mesh_draw.specs.Padding.{IsNear}
 use Rattle.mesh_draw.proofs.Adding.{adds_edges}

@@ -14,18 +14,18 @@ use Rattle.mesh_plane.proofs.ClosedLists.{all_left, all_right}
 use Rattle.mesh_draw.specs.Padding.{ArePathsSafe, all_points, widened}
 
 -- the west side is no farther east than the east side
-pub bounds_ordered : (corners : Edge) (points : List Point) → IsBounds corners points → corners.0.0 ≤ℤ corners.1.0
-bounds_ordered corners points h =
-    All-contains (λ (x : ℤ). x ≤ℤ corners.1.0) (map (λ (p : Point). p.0) points) corners.0.0
-    (All-map (λ (x : ℤ). x ≤ℤ corners.1.0) (λ (p : Point). p.0) points (All-weaker (λ (p : Point). IsInRectangle corners p) (λ (p : Point). p.0 ≤ℤ corners.1.0) (λ p i. i.east) points h.inside))
+pub bounds_ordered : (bounds : Edge) (points : List Point) → IsBounds bounds points → bounds.0.0 ≤ℤ bounds.1.0
+bounds_ordered bounds points h =
+    All-contains (λ (x : ℤ). x ≤ℤ bounds.1.0) (map (λ (p : Point). p.0) points) bounds.0.0
+    (All-map (λ (x : ℤ). x ≤ℤ bounds.1.0) (λ (p : Point). p.0) points (All-weaker (λ (p : Point). IsInRectangle bounds p) (λ (p : Point). p.0 ≤ℤ bounds.1.0) (λ p i. i.east) points h.inside))
     h.west
 
 -- what holds of a coordinate of each point holds of a side that is one of them
 of_side : (f : Point → ℤ) (P : ℤ → Type 0) (points : List Point) (side : ℤ) → All (λ (p : Point). P (f p)) points → Contains (map f points) side → P side
 of_side f P points side all found = All-contains P (map f points) side (All-map P f points all) found
 
-inside_safe : (unit : ℕ) (padding : ℤ) (corners : Edge) (p : Point) → pos 0 ≤ℤ padding → IsSafeRectangle unit (widened padding corners) → IsInRectangle corners p → IsSafeWidened unit padding p
-inside_safe unit padding corners p least s i = (
+inside_safe : (unit : ℕ) (padding : ℤ) (bounds : Edge) (p : Point) → pos 0 ≤ℤ padding → IsSafeRectangle unit (widened padding bounds) → IsInRectangle bounds p → IsSafeWidened unit padding p
+inside_safe unit padding bounds p least s i = (
   record {
     x = record { low = omega (arith, ints, s.0.x.low, i.west); high = omega (arith, ints, s.1.x.high, i.east) };
     y = record { low = omega (arith, ints, s.0.y.low, i.south); high = omega (arith, ints, s.1.y.high, i.north) };
@@ -37,33 +37,33 @@ inside_safe unit padding corners p least s i = (
 )
 
 -- bounds moved outwards are safe exactly where each point stays safe
-pub widened_bounds_safe : (unit : ℕ) (padding : ℤ) (corners : Edge) (points : List Point) → pos 0 ≤ℤ padding → IsBounds corners points →
-    IsSafeRectangle unit (widened padding corners) ↔ All (λ (p : Point). IsSafeWidened unit padding p) points
-widened_bounds_safe unit padding corners points least h = (λ s. there s, λ all. back all)
+pub widened_bounds_safe : (unit : ℕ) (padding : ℤ) (bounds : Edge) (points : List Point) → pos 0 ≤ℤ padding → IsBounds bounds points →
+    IsSafeRectangle unit (widened padding bounds) ↔ All (λ (p : Point). IsSafeWidened unit padding p) points
+widened_bounds_safe unit padding bounds points least h = (λ s. there s, λ all. back all)
   where
-    there : IsSafeRectangle unit (widened padding corners) → All (λ (p : Point). IsSafeWidened unit padding p) points
-    there s = All-weaker (λ (p : Point). IsInRectangle corners p) (λ (p : Point). IsSafeWidened unit padding p) (λ p i. inside_safe unit padding corners p least s i) points h.inside
+    there : IsSafeRectangle unit (widened padding bounds) → All (λ (p : Point). IsSafeWidened unit padding p) points
+    there s = All-weaker (λ (p : Point). IsInRectangle bounds p) (λ (p : Point). IsSafeWidened unit padding p) (λ p i. inside_safe unit padding bounds p least s i) points h.inside
 
-    back : All (λ (p : Point). IsSafeWidened unit padding p) points → IsSafeRectangle unit (widened padding corners)
+    back : All (λ (p : Point). IsSafeWidened unit padding p) points → IsSafeRectangle unit (widened padding bounds)
     back all =
         let low : All (λ (p : Point). IsSafe unit (minus p (padding, padding))) points = All-weaker (λ (p : Point). IsSafeWidened unit padding p) (λ (p : Point). IsSafe unit (minus p (padding, padding))) (λ p w. w.0) points all in
         let high : All (λ (p : Point). IsSafe unit (plus p (padding, padding))) points = All-weaker (λ (p : Point). IsSafeWidened unit padding p) (λ (p : Point). IsSafe unit (plus p (padding, padding))) (λ p w. w.1) points all in (
           record {
-            x = of_side (λ (p : Point). p.0) (λ (x : ℤ). IsSmall unit (x -ℤ padding)) points corners.0.0 (All-weaker (λ (p : Point). IsSafe unit (minus p (padding, padding))) (λ (p : Point). IsSmall unit (p.0 -ℤ padding)) (λ p s. s.x) points low) h.west;
-            y = of_side (λ (p : Point). p.1) (λ (y : ℤ). IsSmall unit (y -ℤ padding)) points corners.0.1 (All-weaker (λ (p : Point). IsSafe unit (minus p (padding, padding))) (λ (p : Point). IsSmall unit (p.1 -ℤ padding)) (λ p s. s.y) points low) h.south;
+            x = of_side (λ (p : Point). p.0) (λ (x : ℤ). IsSmall unit (x -ℤ padding)) points bounds.0.0 (All-weaker (λ (p : Point). IsSafe unit (minus p (padding, padding))) (λ (p : Point). IsSmall unit (p.0 -ℤ padding)) (λ p s. s.x) points low) h.west;
+            y = of_side (λ (p : Point). p.1) (λ (y : ℤ). IsSmall unit (y -ℤ padding)) points bounds.0.1 (All-weaker (λ (p : Point). IsSafe unit (minus p (padding, padding))) (λ (p : Point). IsSmall unit (p.1 -ℤ padding)) (λ p s. s.y) points low) h.south;
           },
           record {
-            x = of_side (λ (p : Point). p.0) (λ (x : ℤ). IsSmall unit (x +ℤ padding)) points corners.1.0 (All-weaker (λ (p : Point). IsSafe unit (plus p (padding, padding))) (λ (p : Point). IsSmall unit (p.0 +ℤ padding)) (λ p s. s.x) points high) h.east;
-            y = of_side (λ (p : Point). p.1) (λ (y : ℤ). IsSmall unit (y +ℤ padding)) points corners.1.1 (All-weaker (λ (p : Point). IsSafe unit (plus p (padding, padding))) (λ (p : Point). IsSmall unit (p.1 +ℤ padding)) (λ p s. s.y) points high) h.north;
+            x = of_side (λ (p : Point). p.0) (λ (x : ℤ). IsSmall unit (x +ℤ padding)) points bounds.1.0 (All-weaker (λ (p : Point). IsSafe unit (plus p (padding, padding))) (λ (p : Point). IsSmall unit (p.0 +ℤ padding)) (λ p s. s.x) points high) h.east;
+            y = of_side (λ (p : Point). p.1) (λ (y : ℤ). IsSmall unit (y +ℤ padding)) points bounds.1.1 (All-weaker (λ (p : Point). IsSafe unit (plus p (padding, padding))) (λ (p : Point). IsSmall unit (p.1 +ℤ padding)) (λ p s. s.y) points high) h.north;
           },
         )
 
 -- a test of the bounds of a path is one of its points
-pub path_tested : (unit : ℕ) (padding : ℤ) (corners : Edge) (points path : List Point) (b : Bool) → pos 0 ≤ℤ padding → IsBounds corners points → points ≡ path →
-    IsTrue b ↔ IsSafeRectangle unit (widened padding corners) → IsTrue b ↔ All (λ (p : Point). IsSafeWidened unit padding p) path
-path_tested unit padding corners points path b least h e t =
-    let w : IsSafeRectangle unit (widened padding corners) ↔ All (λ (p : Point). IsSafeWidened unit padding p) path =
-    rw (← e) (widened_bounds_safe unit padding corners points least h) in
+pub path_tested : (unit : ℕ) (padding : ℤ) (bounds : Edge) (points path : List Point) (b : Bool) → pos 0 ≤ℤ padding → IsBounds bounds points → points ≡ path →
+    IsTrue b ↔ IsSafeRectangle unit (widened padding bounds) → IsTrue b ↔ All (λ (p : Point). IsSafeWidened unit padding p) path
+path_tested unit padding bounds points path b least h e t =
+    let w : IsSafeRectangle unit (widened padding bounds) ↔ All (λ (p : Point). IsSafeWidened unit padding p) path =
+    rw (← e) (widened_bounds_safe unit padding bounds points least h) in
     (λ i. w.0 (t.0 i), λ a. t.1 (w.1 a))
 
 -- all points of safe paths are safe
@@ -89,17 +89,17 @@ side_fits half unit side padding e some s least most =
     let room : 8 * 1 * unit ≤ 8 * unit * unit = omega (arith, mul-le-mul_right unit some) in
     (record { low = omega (arith, ints, s.low); high = omega (arith, ints, s.high) }, record { low = omega (arith, ints, s.low); high = omega (arith, ints, s.high) })
 
--- two corners are tested by their coordinates
-pub corners_tested : (unit : ℕ) (padding : ℤ) (corners : Edge) (x y z w : ℤ) (low high both : Bool) → both ≡ (low && high) →
-    x ≡ corners.0.0 -ℤ padding → y ≡ corners.0.1 -ℤ padding → z ≡ corners.1.0 +ℤ padding → w ≡ corners.1.1 +ℤ padding →
-    IsTrue low ↔ IsSafe unit (x, y) → IsTrue high ↔ IsSafe unit (z, w) → IsTrue both ↔ IsSafeRectangle unit (widened padding corners)
-corners_tested unit padding corners x y z w low high both b ex ey ez ew l h =
-    let p : IsTrue low ↔ IsSafe unit (minus corners.0 (padding, padding)) = subst (λ (q : Point). IsTrue low ↔ IsSafe unit q) (λ i. (ex i, ey i)) l in
-    let q : IsTrue high ↔ IsSafe unit (plus corners.1 (padding, padding)) = subst (λ (q : Point). IsTrue high ↔ IsSafe unit q) (λ i. (ez i, ew i)) h in
+-- bounds are tested by the coordinates of their sides
+pub bounds_tested : (unit : ℕ) (padding : ℤ) (bounds : Edge) (x y z w : ℤ) (low high both : Bool) → both ≡ (low && high) →
+    x ≡ bounds.0.0 -ℤ padding → y ≡ bounds.0.1 -ℤ padding → z ≡ bounds.1.0 +ℤ padding → w ≡ bounds.1.1 +ℤ padding →
+    IsTrue low ↔ IsSafe unit (x, y) → IsTrue high ↔ IsSafe unit (z, w) → IsTrue both ↔ IsSafeRectangle unit (widened padding bounds)
+bounds_tested unit padding bounds x y z w low high both b ex ey ez ew l h =
+    let p : IsTrue low ↔ IsSafe unit (minus bounds.0 (padding, padding)) = subst (λ (q : Point). IsTrue low ↔ IsSafe unit q) (λ i. (ex i, ey i)) l in
+    let q : IsTrue high ↔ IsSafe unit (plus bounds.1 (padding, padding)) = subst (λ (q : Point). IsTrue high ↔ IsSafe unit q) (λ i. (ez i, ew i)) h in
     rw b (by low high p q)
   where
-    by : (l h : Bool) → IsTrue l ↔ IsSafe unit (minus corners.0 (padding, padding)) → IsTrue h ↔ IsSafe unit (plus corners.1 (padding, padding)) →
-        IsTrue (l && h) ↔ IsSafeRectangle unit (widened padding corners)
+    by : (l h : Bool) → IsTrue l ↔ IsSafe unit (minus bounds.0 (padding, padding)) → IsTrue h ↔ IsSafe unit (plus bounds.1 (padding, padding)) →
+        IsTrue (l && h) ↔ IsSafeRectangle unit (widened padding bounds)
     by true h p q = (λ t. (p.0 refl, q.0 t), λ s. q.1 s.1)
     by false h p q = (λ t. absurd (true≢false (sym t)), λ s. p.1 s.0)
 

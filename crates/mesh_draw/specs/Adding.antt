@@ -1,27 +1,20 @@
 -- How edges that are drawn, and those that contours give to an outline, are added to segments.
-use Rattle.std.specs.Prelude.{ℕ, ◌≡◌, ◌+◌, ◌≤◌, List, ◌++◌, map, length, take, drop, vec_capacity}
+use Rattle.std.specs.Prelude.{ℕ, ◌≡◌, ◌+◌, ◌≤◌, List, map, length, take, drop, vec_capacity}
 use Rattle.std.specs.declared.alloc.Global.{Global}
 use Rattle.std.specs.declared.vec.Vec.{Vec}
 use Rattle.mesh_plane.specs.Plane.{Edge, Point}
-use Rattle.mesh_num.specs.Segments.{SignedEdge, edges_of, IsSubject}
+use Rattle.mesh_num.specs.Segments.{SignedEdge, edges_of}
 use Rattle.mesh_plane.specs.Winding.{boundary}
 use Rattle.mesh_cuts.specs.Split.{back}
 use Rattle.mesh_cuts.specs.declared.fill.FillRule.{FillRule}
 use Rattle.mesh_cuts.specs.declared.fill.FillRule.TheVariants.{Positive, Negative}
-use Rattle.std.specs.List.{All, flat_map}
-use Rattle.std.specs.List.Sorted.{IsPermutation}
+use Rattle.std.specs.List.{flat_map}
 use Rattle.mesh_num.specs.Paths.{contours_of}
 
 -- edges as they are given to the outline: those of what is filled in the negative sense go the other way about
 abbrev pub in_sense : FillRule → List Edge → List Edge
 in_sense Positive es = es
 in_sense Negative es = map back es
-
--- the vector `new` holds what `old` held, and then segments that stand for the edges, in some order, each as
--- `Segment::subject` gives it
-abbrev pub Adds : List SignedEdge → List SignedEdge → List Edge → Type 0
-Adds old new edges =
-    (added : List SignedEdge) × (new ≡ old ++ added) × IsPermutation (edges_of added) edges × All IsSubject added
 
 -- the vector `new` begins with what `old` held
 abbrev pub Keeps : List SignedEdge → List SignedEdge → Type 0

@@ -1,5 +1,5 @@
--- What stands after some of many paths were drawn, and after edges that close up were added. Private contracts alone
--- read this.
+-- What stands after edges were added, after some of many paths were drawn, and after edges that close up were added.
+-- Private contracts alone read this.
 use Rattle.std.specs.Prelude.{ℕ, ◌≡◌, List, ◌++◌}
 use Rattle.std.specs.List.{All, flat_map}
 use Rattle.std.specs.List.Sorted.{IsPermutation}
@@ -12,6 +12,12 @@ use Rattle.mesh_cuts.specs.Reach.{AreEdgesSafe}
 pub record AreBuilt {P : Type 0} (draw : P → List Edge) (paths : List P) (ss : List SignedEdge) : Type 0 where
   pub same : IsPermutation (edges_of ss) (flat_map draw paths)
   pub form : All IsSubject ss
+
+-- the vector `new` holds what `old` held, and then segments that stand for the edges, in some order, each as
+-- `Segment::subject` gives it
+abbrev pub Adds : List SignedEdge → List SignedEdge → List Edge → Type 0
+Adds old new edges =
+    (added : List SignedEdge) × (new ≡ old ++ added) × IsPermutation (edges_of added) edges × All IsSubject added
 
 -- the vector `new` holds what `old` held, and then the segments of these edges, which are balanced and in the safe
 -- range

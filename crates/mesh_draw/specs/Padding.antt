@@ -15,7 +15,7 @@ all_points paths = flat_map (λ (path : List Point). path) paths
 
 -- a rectangle moved outwards by the padding on each side
 abbrev pub widened : ℤ → Edge → Edge
-widened padding corners = (minus corners.0 (padding, padding), plus corners.1 (padding, padding))
+widened padding bounds = (minus bounds.0 (padding, padding), plus bounds.1 (padding, padding))
 
 -- `p` is away from one of the vertices of a contour or path by at most the padding in each coordinate
 pub record IsNear (padding : ℤ) (vertices : List Point) (p : Point) : Type 0 where

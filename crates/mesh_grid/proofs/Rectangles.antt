@@ -19,20 +19,20 @@ min_found xs s x h = either_is (Contains (xs ++ x ∷ [])) (int_lt x s) x s (Con
 max_found : (xs : List ℤ) (s x : ℤ) → Contains xs s → Contains (xs ++ x ∷ []) (int_max s x)
 max_found xs s x h = either_is (Contains (xs ++ x ∷ [])) (int_lt x s) s x (Contains-append_left xs (x ∷ []) s h) (Contains-push xs x)
 
-still_inside : (corners : Edge) (p q : Point) → IsInRectangle corners q → IsInRectangle (extended corners p) q
-still_inside corners p q h = record { west = omega (arith, ints, clamps, h.west); south = omega (arith, ints, clamps, h.south); east = omega (arith, ints, clamps, h.east); north = omega (arith, ints, clamps, h.north) }
+still_inside : (bounds : Edge) (p q : Point) → IsInRectangle bounds q → IsInRectangle (extended bounds p) q
+still_inside bounds p q h = record { west = omega (arith, ints, clamps, h.west); south = omega (arith, ints, clamps, h.south); east = omega (arith, ints, clamps, h.east); north = omega (arith, ints, clamps, h.north) }
 
-reaches : (corners : Edge) (p : Point) → IsInRectangle (extended corners p) p
-reaches corners p = record { west = omega (arith, ints, clamps); south = omega (arith, ints, clamps); east = omega (arith, ints, clamps); north = omega (arith, ints, clamps) }
+reaches : (bounds : Edge) (p : Point) → IsInRectangle (extended bounds p) p
+reaches bounds p = record { west = omega (arith, ints, clamps); south = omega (arith, ints, clamps); east = omega (arith, ints, clamps); north = omega (arith, ints, clamps) }
 
 -- one more point
-pub bounds-push : (corners : Edge) (points : List Point) (p : Point) → IsBounds corners points → IsBounds (extended corners p) (points ++ p ∷ [])
-bounds-push corners points p h = record {
-  inside = All-push (IsInRectangle (extended corners p)) points p (All-weaker (IsInRectangle corners) (IsInRectangle (extended corners p)) (still_inside corners p) points h.inside) (reaches corners p);
-  west = rw map-append (min_found (map (λ (q : Point). q.0) points) corners.0.0 p.0 h.west);
-  south = rw map-append (min_found (map (λ (q : Point). q.1) points) corners.0.1 p.1 h.south);
-  east = rw map-append (max_found (map (λ (q : Point). q.0) points) corners.1.0 p.0 h.east);
-  north = rw map-append (max_found (map (λ (q : Point). q.1) points) corners.1.1 p.1 h.north);
+pub bounds-push : (bounds : Edge) (points : List Point) (p : Point) → IsBounds bounds points → IsBounds (extended bounds p) (points ++ p ∷ [])
+bounds-push bounds points p h = record {
+  inside = All-push (IsInRectangle (extended bounds p)) points p (All-weaker (IsInRectangle bounds) (IsInRectangle (extended bounds p)) (still_inside bounds p) points h.inside) (reaches bounds p);
+  west = rw map-append (min_found (map (λ (q : Point). q.0) points) bounds.0.0 p.0 h.west);
+  south = rw map-append (min_found (map (λ (q : Point). q.1) points) bounds.0.1 p.1 h.south);
+  east = rw map-append (max_found (map (λ (q : Point). q.0) points) bounds.1.0 p.0 h.east);
+  north = rw map-append (max_found (map (λ (q : Point). q.1) points) bounds.1.1 p.1 h.north);
 }
 
 pub bounds_of_one : (p : Point) → IsBounds (p, p) (p ∷ [])

@@ -5,33 +5,33 @@ use Rattle.std.specs.Int.{int_min, int_max}
 use Rattle.mesh_plane.specs.Bounds.{IsSafe}
 use Rattle.mesh_plane.specs.Plane.{Point, Edge, plus, minus}
 
--- the point lies in the closed rectangle of the two corners
-pub record IsInRectangle (corners : Edge) (p : Point) : Type 0 where
-  pub west : corners.0.0 ≤ℤ p.0
-  pub south : corners.0.1 ≤ℤ p.1
-  pub east : p.0 ≤ℤ corners.1.0
-  pub north : p.1 ≤ℤ corners.1.1
+-- the point lies in the closed rectangle
+pub record IsInRectangle (bounds : Edge) (p : Point) : Type 0 where
+  pub west : bounds.0.0 ≤ℤ p.0
+  pub south : bounds.0.1 ≤ℤ p.1
+  pub east : p.0 ≤ℤ bounds.1.0
+  pub north : p.1 ≤ℤ bounds.1.1
 
 -- the least closed rectangle that holds the points: it holds each, and each of its sides is a coordinate of one
-pub record IsBounds (corners : Edge) (points : List Point) : Type 0 where
-  pub inside : All (λ p. IsInRectangle corners p) points
-  pub west : Contains (map (λ p. p.0) points) corners.0.0
-  pub south : Contains (map (λ p. p.1) points) corners.0.1
-  pub east : Contains (map (λ p. p.0) points) corners.1.0
-  pub north : Contains (map (λ p. p.1) points) corners.1.1
+pub record IsBounds (bounds : Edge) (points : List Point) : Type 0 where
+  pub inside : All (λ p. IsInRectangle bounds p) points
+  pub west : Contains (map (λ p. p.0) points) bounds.0.0
+  pub south : Contains (map (λ p. p.1) points) bounds.0.1
+  pub east : Contains (map (λ p. p.0) points) bounds.1.0
+  pub north : Contains (map (λ p. p.1) points) bounds.1.1
 
 -- the rectangle that reaches out to one more point
 abbrev pub extended : Edge → Point → Edge
-extended corners p = ((int_min corners.0.0 p.0, int_min corners.0.1 p.1), (int_max corners.1.0 p.0, int_max corners.1.1 p.1))
+extended bounds p = ((int_min bounds.0.0 p.0, int_min bounds.0.1 p.1), (int_max bounds.1.0 p.0, int_max bounds.1.1 p.1))
 
 -- the bounds so far with one more point
 abbrev pub grown : Option Edge → Point → Edge
 grown None p = (p, p)
-grown (Some corners) p = extended corners p
+grown (Some bounds) p = extended bounds p
 
--- both corners are safe, so each side is
+-- the least and the greatest corner are safe, so each side is
 abbrev pub IsSafeRectangle : ℕ → Edge → Type 0
-IsSafeRectangle unit corners = IsSafe unit corners.0 × IsSafe unit corners.1
+IsSafeRectangle unit bounds = IsSafe unit bounds.0 × IsSafe unit bounds.1
 
 -- the point stays safe in each coordinate where it moves by at most the padding
 abbrev pub IsSafeWidened : ℕ → ℤ → Point → Type 0

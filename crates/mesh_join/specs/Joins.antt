@@ -1,12 +1,9 @@
 -- Joins: the edges that an outer corner runs through, and how far they reach, for each kind of join.
 use Rattle.std.specs.Prelude.{ℕ, Bool, true, false, IsTrue, cond, List, [], ℤ}
 use Rattle.std.specs.Int.{int_max}
-use Rattle.std.specs.declared.alloc.Global.{Global}
-use Rattle.std.specs.declared.vec.Vec.{Vec}
 use Rattle.mesh_plane.specs.Plane.{Point, Edge}
 use Rattle.mesh_grid.specs.Rectangle.{IsSafeWidened}
 use Rattle.mesh_plane.specs.Winding.{route, same_point}
-use Rattle.mesh_join.specs.Appending.{HasRoomForEdges}
 use Rattle.mesh_join.specs.Bevels.{bevel_points, bevel_padding}
 use Rattle.mesh_join.specs.Joints.{Joint, IsTurn}
 use Rattle.mesh_join.specs.Miters.{miter_points, miter_padding}
@@ -51,10 +48,6 @@ through a points b = route a (between a points b) b
 -- the edges of a join
 abbrev pub join_edges : ℕ → JoinStyle → Joint → List Edge
 join_edges unit style j = through j.first (join_points unit style j) j.last
-
--- the vector has room for the edges of a join
-abbrev pub HasRoomForJoin : {X : Type 0} → Vec X Global → ℕ → JoinStyle → Joint → Type 0
-HasRoomForJoin v unit style j = HasRoomForEdges v (join_edges unit style j)
 
 -- what a join asks: a turn, and a corner that stays safe within the padding
 pub record IsJoint (unit : ℕ) (style : JoinStyle) (j : Joint) : Type 0 where

@@ -4,7 +4,7 @@ use Rattle.std.specs.Prelude.{ℕ, Bool, ◌&&◌, ◌||◌, List, [], ◌∷◌
 use Rattle.std.specs.Prelude.{unsigned_abs, int_le, int_lt, if◌then◌else◌}
 use Rattle.std.specs.List.{list_all}
 use Rattle.std.specs.Ordering.{int_eq}
-use Rattle.mesh_plane.specs.Plane.{Point, Edge, plus, minus, opposite, cross, dot}
+use Rattle.mesh_plane.specs.Plane.{Point, plus, minus, opposite, cross, dot}
 use Rattle.mesh_plane.specs.Winding.{route}
 use Rattle.mesh_grid.specs.Direction.{scaled_direction}
 use Rattle.mesh_grid.specs.Quotient.{rounded_product}
@@ -62,10 +62,6 @@ clip_points angle unit j =
     plus j.first (scaled_direction unit (clip_reach angle j.radius) j.incoming)
     ∷ minus j.last (scaled_direction unit (clip_reach angle j.radius) j.outgoing) ∷ []
 
--- the cross and the dot product of both directions
-abbrev pub turn_products : Joint → Point
-turn_products j = (cross j.incoming j.outgoing, dot j.incoming j.outgoing)
-
 -- how much of the incoming direction leads from the first point to the peak: this over the product of both directions
 abbrev pub peak_share : Joint → ℤ
 peak_share j = cross (minus j.last j.first) j.outgoing
@@ -94,15 +90,7 @@ are_usable padding j points = list_all (is_near padding j.center) points && list
 abbrev pub usable : ℤ → Joint → List Point → List Point
 usable padding j points = if are_usable padding j points then points else []
 
--- the edges through the points, if they can be used, else the bevel
-abbrev pub usable_edges : ℤ → Joint → List Point → List Edge
-usable_edges padding j points = route j.first (usable padding j points) j.last
-
 -- the points of a miter: none where it is a bevel
 unfoldable pub miter_points : ℕ → ℕ → ℕ → Joint → List Point
 miter_points angle min_turn unit j =
     if is_slight min_turn j then [] else usable (miter_padding angle j.radius) j (miter_tip angle unit j)
-
--- the edges of a miter between two points that differ
-abbrev pub miter_edges : MiterStyle → ℕ → Joint → List Edge
-miter_edges style unit j = route j.first (miter_points style.angle style.min_turn unit j) j.last

@@ -12,10 +12,10 @@ ghost use Rattle.mesh_join.specs.Appending.{Appends, HasRoomForEdges};
 ghost use Rattle.mesh_join.specs.Joins.{IsJoint};
 ghost use Rattle.mesh_join.specs.Methods.{style_of_miter};
 ghost use Rattle.mesh_join.specs.Midway.Miters.{IsHalfSine, IsNarrow, IsPointPair, IsSummand};
+ghost use Rattle.mesh_join.specs.Midway.Miters.{usable_edges, miter_edges, turn_products};
 ghost use Rattle.mesh_join.specs.Miters.{sharpest as sharpest_of, slightest as slightest_of, half_sharpest as half_of};
 ghost use Rattle.mesh_join.specs.Miters.{reach as reach_of, miter_padding, is_slight as is_slight_at};
 ghost use Rattle.mesh_join.specs.Miters.{is_sharp as is_sharp_at, clip_points as clip_points_of, peak as peak_of};
-ghost use Rattle.mesh_join.specs.Miters.{usable_edges, miter_edges, turn_products};
 
 use crate::joint::{Joint, Pair, coordinates, cross, difference, dot, sum};
 use crate::route::{push_straight, push_through, push_through_both};

@@ -12,7 +12,8 @@ use Rattle.mesh_join.proofs.JoinLaws.{KeepsJoint}
 use Rattle.mesh_clean.specs.Cleaned.{cleaned_sections}
 use Rattle.mesh_join.specs.Joins.{offset_padding, has_few}
 use Rattle.mesh_join.specs.Styles.{OffsetJoin}
-use Rattle.mesh_draw.specs.Adding.{Adds, added, added_edges}
+use Rattle.mesh_draw.specs.Adding.{added, added_edges}
+use Rattle.mesh_draw.specs.Midway.{Adds}
 use Rattle.mesh_draw.specs.Drawing.{AreDrawn}
 use Rattle.mesh_draw.proofs.Drawn.{adds_drawn, drawn_safe, added_length}
 use Rattle.mesh_outline.specs.Building.{IsMovable}

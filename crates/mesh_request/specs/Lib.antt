@@ -1,3 +1,4 @@
 pub mod Failures
+pub mod Midway
 pub mod Reading
 pub mod Requests

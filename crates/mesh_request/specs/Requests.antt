@@ -5,9 +5,8 @@ use Rattle.mesh_num.specs.Paths.{paths_of}
 use Rattle.mesh_below.specs.Options.{choices_of}
 use Rattle.mesh_shapes.specs.Resolution.{Choices}
 use Rattle.mesh_arc.specs.declared.arc.ArcOptions.{ArcOptions}
-use Rattle.mesh_join.specs.Styles.{JoinStyle, OutlineStyle, style_of}
+use Rattle.mesh_join.specs.Styles.{OutlineStyle, style_of}
 use Rattle.mesh_join.specs.VariableStyles.{Vertex}
-use Rattle.mesh_join.specs.declared.style.IntStrokeStyle.{IntStrokeStyle}
 use Rattle.mesh_stroke.specs.Styles.{StrokeStyle, stroke_style_of}
 use Rattle.mesh_request.specs.declared.drawing.Drawing.{Drawing}
 use Rattle.mesh_request.specs.declared.drawing.Outline.{Outline}
@@ -36,10 +35,6 @@ abbrev pub drawn_of : {C W U : Type 0} → (C → ℤ) → Drawing C W U → Dra
 drawn_of value (Drawing.Outline outline) = drawn_outline value outline
 drawn_of value (Drawing.Stroke stroke) = drawn_stroke value stroke
 drawn_of value (Drawing.VariableStroke stroke) = drawn_variable_stroke stroke
-
--- the width and the joins of a stroke
-abbrev pub uncapped_of : {C W U : Type 0} → (C → ℤ) → IntStrokeStyle C W U → ℤ × JoinStyle
-uncapped_of value style = (value style.width, record { kind = style.join; min_turn = style.miter_min_turn })
 
 -- what is asked of what is drawn: the edges of each path, or the shapes of all paths with these choices
 pub data Asked : Type 0 where

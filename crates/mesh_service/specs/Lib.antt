@@ -1,4 +1,5 @@
 pub mod Lines
+pub mod Midway
 pub mod Served
 pub mod Serving
 pub use Rattle.mesh_request.specs.Failures

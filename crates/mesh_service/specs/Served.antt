@@ -101,11 +101,3 @@ Lists order request line (Asked.for_shapes choices) = ListsShapes choices reques
 pub record Answers (order : ℤ → ℤ → Ordering) (request : Request) (line : List ℕ) : Type 0 where
   pub accepted : IsAccepted request
   pub listed : Lists order request line request.asked
-
--- there is a request, and the line answers it
-abbrev pub AnswersAsked : (ℤ → ℤ → Ordering) → Option Request → List ℕ → Type 0
-AnswersAsked order asked line = (request : Request) × (asked ≡ Some request) × Answers order request line
-
--- there is a request, and it may not be answered
-abbrev pub MayNotBeAnswered : Option Request → Type 0
-MayNotBeAnswered asked = (request : Request) × (asked ≡ Some request) × (IsAccepted request → ⊥)

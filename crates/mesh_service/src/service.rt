@@ -7,7 +7,8 @@ ghost use Rattle.serde_json.specs.View.{view};
 ghost use Rattle.mesh_service.specs.Lines.{by_values};
 ghost use Rattle.mesh_request.specs.Failures.{failure_line, told_line};
 ghost use Rattle.mesh_request.specs.Reading.{request_as, request_of};
-ghost use Rattle.mesh_service.specs.Served.{IsAccepted, Answers, AnswersAsked, MayNotBeAnswered};
+ghost use Rattle.mesh_service.specs.Midway.{AnswersAsked, MayNotBeAnswered};
+ghost use Rattle.mesh_service.specs.Served.{IsAccepted, Answers};
 ghost use Rattle.mesh_service.specs.Serving.{IsAnswer, IsRefused, IsReply, HoldsNoRequest};
 ghost use Rattle.mesh_service.specs.Serving.{AppendsBeginning, TellsRefusal, MetRefusal};
 

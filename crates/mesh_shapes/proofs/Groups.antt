@@ -17,14 +17,14 @@ use Rattle.mesh_plane.specs.Winding.{holds}
 use Rattle.mesh_shapes.specs.Contours.{double_area}
 use Rattle.mesh_shapes.specs.Midway.Progress.{NoneRound, IsHolder}
 use Rattle.mesh_shapes.specs.Resolution.{Ring, Placed, points_lt, is_positive, is_round, is_before, is_head, stands_with}
-use Rattle.mesh_shapes.specs.Vectors.{HeldRing, ring_held, rings_held}
+use Rattle.mesh_shapes.specs.Vectors.{RingVec, ring_of_vec, rings_of_vecs}
 use Rattle.mesh_shapes.specs.Midway.Grouping.{ring_at, placed, areas_of, is_round_at, IsHome, heads, stands}
 use Rattle.mesh_plane.proofs.Comparing.{less_test, not_less_test, test_less, test_not_less, point_cmp, cmp_lt, then_lt, then_eq, first_not_less}
 use Rattle.mesh_plane.proofs.Whole.{both_le}
 
 -- ---- what stands at a place
-pub view_at : (rs : List HeldRing) (i : ℕ) (r : HeldRing) (d : Ring) → i < length rs → get_or (rings_held rs) i d ≡ ring_held (get_or rs i r)
-view_at rs i r d low = get_or-map ring_held rs i r d low
+pub view_at : (rs : List RingVec) (i : ℕ) (r : RingVec) (d : Ring) → i < length rs → get_or (rings_of_vecs rs) i d ≡ ring_of_vec (get_or rs i r)
+view_at rs i r d low = get_or-map ring_of_vec rs i r d low
 
 pub area_at : (rs : List Ring) (areas : List ℤ) (i : ℕ) → areas ≡ areas_of rs → i < length rs → get_or areas i (pos 0) ≡ double_area (ring_at rs i).1.0
 area_at rs areas i e low = ap (λ (l : List ℤ). get_or l i (pos 0)) e ∙ get_or-map (λ (r : Ring). double_area r.0) rs i ([], (pos 0, pos 0)) (pos 0) low
@@ -237,8 +237,8 @@ head_test rs i b (stands f differ one) =
     f ∙ sym (⊎_elim (λ (s : nat_eq b i ≡ true). absurd (differ (eqb-true b i s))) (λ (s : nat_eq b i ≡ false). s) (cases_Bool (nat_eq b i)))
 
 -- ---- the order of rings
-abbrev pub held_cmp : HeldRing → HeldRing → Ordering
-held_cmp x y = ordering_then (slice_cmp point_cmp x.0.items y.0.items) (point_cmp x.1 y.1)
+abbrev pub ring_vec_cmp : RingVec → RingVec → Ordering
+ring_vec_cmp x y = ordering_then (slice_cmp point_cmp x.0.items y.0.items) (point_cmp x.1 y.1)
 
 point_cmp_lt : (p q : Point) → is_lt (point_cmp p q) ≡ point_lt p q
 point_cmp_lt p q = then_lt (int_cmp p.0 q.0) (int_cmp p.1 q.1) ∙ (λ i. cmp_lt p.0 q.0 i || (int_eq p.0 q.0 && cmp_lt p.1 q.1 i))
@@ -251,14 +251,14 @@ slice_lt (p ∷ ps) (q ∷ qs) =
     then_lt (point_cmp p q) (slice_cmp point_cmp ps qs)
     ∙ (λ i. point_cmp_lt p q i || (then_eq (int_cmp p.0 q.0) (int_cmp p.1 q.1) i && slice_lt ps qs i))
 
-held_lt : (x y : HeldRing) → is_lt (held_cmp x y) ≡ false → points_lt x.0.items y.0.items ≡ false
-held_lt x y h =
+ring_vec_lt : (x y : RingVec) → is_lt (ring_vec_cmp x y) ≡ false → points_lt x.0.items y.0.items ≡ false
+ring_vec_lt x y h =
     sym (slice_lt x.0.items y.0.items) ∙ first_not_less (slice_cmp point_cmp x.0.items y.0.items) (point_cmp x.1 y.1) h
 
-pub sorted_views : (rs : List HeldRing) → IsSorted held_cmp rs → IsSortedBy (λ (r s : Ring). points_lt r.0 s.0) (rings_held rs)
+pub sorted_views : (rs : List RingVec) → IsSorted ring_vec_cmp rs → IsSortedBy (λ (r s : Ring). points_lt r.0 s.0) (rings_of_vecs rs)
 sorted_views [] h k d le low = absurd (omega arith)
 sorted_views (x ∷ rs) h k d le low =
-    let n : k + 1 < length (x ∷ rs) = omega (arith, length-map (x ∷ rs) ring_held) in
+    let n : k + 1 < length (x ∷ rs) = omega (arith, length-map (x ∷ rs) ring_of_vec) in
     let a : k < length (x ∷ rs) = omega arith in
-    (λ i. points_lt (get_or-map ring_held (x ∷ rs) (k + 1) x d n i).0 (get_or-map ring_held (x ∷ rs) k x d a i).0)
-    ∙ held_lt (get_or (x ∷ rs) (k + 1) x) (get_or (x ∷ rs) k x) (h k x le n)
+    (λ i. points_lt (get_or-map ring_of_vec (x ∷ rs) (k + 1) x d n i).0 (get_or-map ring_of_vec (x ∷ rs) k x d a i).0)
+    ∙ ring_vec_lt (get_or (x ∷ rs) (k + 1) x) (get_or (x ∷ rs) k x) (h k x le n)

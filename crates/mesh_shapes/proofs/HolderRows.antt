@@ -14,7 +14,7 @@ use Rattle.mesh_shapes.specs.Resolution.{Ring, is_positive}
 use Rattle.mesh_shapes.specs.Midway.Grouping.{ring_at, areas_of}
 use Rattle.mesh_shapes.specs.Midway.Holders.{PlacedEdge, with_place, ring_edges, placed_edges, Rise, winding_of, IsRowOf}
 use Rattle.mesh_rows.specs.Rows.{reaches_row}
-use Rattle.mesh_shapes.specs.Vectors.{HeldRing, rings_held}
+use Rattle.mesh_shapes.specs.Vectors.{RingVec, rings_of_vecs}
 use Rattle.mesh_shapes.proofs.Groups.{view_at, positive_at}
 use Rattle.mesh_rows.proofs.RowLists.{row_total}
 
@@ -32,10 +32,10 @@ pub gives_own : (q : Point) (k : ℕ) (e : PlacedEdge) → e.1 ≡ k → gives q
 gives_own q k e same = ap (λ (b : Bool). cond b (crossing_on 2 q e.0.0 e.0.1) (pos 0)) (eq-eqb e.1 k same)
 
 -- the edges of a ring of positive area
-pub ring_added : (rs : List HeldRing) (areas : List ℤ) (h : ℕ) (r : HeldRing) → areas ≡ areas_of (rings_held rs) → h < length (rings_held rs) → h < length rs
-    → int_lt (pos 0) (get_or areas h (pos 0)) ≡ true → ring_edges (ring_at (rings_held rs) h) ≡ with_place h (boundary (get_or rs h r).0.items)
+pub ring_added : (rs : List RingVec) (areas : List ℤ) (h : ℕ) (r : RingVec) → areas ≡ areas_of (rings_of_vecs rs) → h < length (rings_of_vecs rs) → h < length rs
+    → int_lt (pos 0) (get_or areas h (pos 0)) ≡ true → ring_edges (ring_at (rings_of_vecs rs) h) ≡ with_place h (boundary (get_or rs h r).0.items)
 ring_added rs areas h r known lv low t =
-    λ i. cond ((sym (positive_at (rings_held rs) areas h known lv) ∙ t) i) (with_place h (boundary (view_at rs h r ([], (pos 0, pos 0)) low i).0)) []
+    λ i. cond ((sym (positive_at (rings_of_vecs rs) areas h known lv) ∙ t) i) (with_place h (boundary (view_at rs h r ([], (pos 0, pos 0)) low i).0)) []
 
 -- ---- places that rise
 

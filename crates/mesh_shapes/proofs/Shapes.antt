@@ -10,7 +10,7 @@ use Rattle.std.proofs.lemmas.List.{append-nil, map-append, length-append, length
 use Rattle.mesh_plane.specs.Plane.{Point}
 use Rattle.mesh_shapes.specs.Midway.Progress.{NoneRound, IsHolder}
 use Rattle.mesh_shapes.specs.Resolution.{Ring, Placed, is_head, shape_of, rings_by_shape, answered}
-use Rattle.mesh_shapes.specs.Vectors.{HeldRing, ring_held, rings_held, shape_points}
+use Rattle.mesh_shapes.specs.Vectors.{RingVec, ring_of_vec, rings_of_vecs, shape_points}
 use Rattle.mesh_shapes.specs.Midway.Grouping.{ring_at, placed, areas_of, IsHome, contours_at, AreMembers, IsPutHome}
 use Rattle.mesh_shapes.proofs.Groups.{view_at, positive_at, home_alone, home_held, is_member, member_test}
 
@@ -37,16 +37,16 @@ ShapesTo rs cw h done =
     done ++ map (map (answered cw)) (map (shape_of (placed rs)) (filter (is_head (placed rs)) (enumerate_from h (drop h rs)))) ≡ map (map (answered cw)) (rings_by_shape (placed rs))
 
 -- the place of a ring that no ring is round, and of one that a ring is round
-pub home_none : (rs : List HeldRing) (i : ℕ) (r : HeldRing) → i < length rs → NoneRound (rings_held rs) (length (rings_held rs)) (get_or rs i r).1 → IsHome (rings_held rs) i i
+pub home_none : (rs : List RingVec) (i : ℕ) (r : RingVec) → i < length rs → NoneRound (rings_of_vecs rs) (length (rings_of_vecs rs)) (get_or rs i r).1 → IsHome (rings_of_vecs rs) i i
 home_none rs i r low h =
-    home_alone (rings_held rs) i
-    (subst (λ (q : Point). NoneRound (rings_held rs) (length (rings_held rs)) q) (λ j. (sym (view_at rs i r ([], (pos 0, pos 0)) low) j).1) h)
+    home_alone (rings_of_vecs rs) i
+    (subst (λ (q : Point). NoneRound (rings_of_vecs rs) (length (rings_of_vecs rs)) q) (λ j. (sym (view_at rs i r ([], (pos 0, pos 0)) low) j).1) h)
 
-pub home_some : (rs : List HeldRing) (areas : List ℤ) (i b : ℕ) (r : HeldRing) → areas ≡ areas_of (rings_held rs) → i < length rs → int_lt (pos 0) (get_or areas i (pos 0)) ≡ false →
-    IsHolder (rings_held rs) (length (rings_held rs)) (get_or rs i r).1 b → IsHome (rings_held rs) i b
+pub home_some : (rs : List RingVec) (areas : List ℤ) (i b : ℕ) (r : RingVec) → areas ≡ areas_of (rings_of_vecs rs) → i < length rs → int_lt (pos 0) (get_or areas i (pos 0)) ≡ false →
+    IsHolder (rings_of_vecs rs) (length (rings_of_vecs rs)) (get_or rs i r).1 b → IsHome (rings_of_vecs rs) i b
 home_some rs areas i b r known low flat h =
-    home_held (rings_held rs) i b (sym (positive_at (rings_held rs) areas i known (omega (arith, length-map rs ring_held, low))) ∙ flat)
-    (subst (λ (q : Point). IsHolder (rings_held rs) (length (rings_held rs)) q b) (λ j. (sym (view_at rs i r ([], (pos 0, pos 0)) low) j).1) h)
+    home_held (rings_of_vecs rs) i b (sym (positive_at (rings_of_vecs rs) areas i known (omega (arith, length-map rs ring_of_vec, low))) ∙ flat)
+    (subst (λ (q : Point). IsHolder (rings_of_vecs rs) (length (rings_of_vecs rs)) q b) (λ j. (sym (view_at rs i r ([], (pos 0, pos 0)) low) j).1) h)
 
 -- what holds of each place and the number that is known of it
 pub record KnownTo (P : ℕ → ℕ → Type 0) (i : ℕ) (known : List ℕ) : Type 0 where
@@ -179,8 +179,8 @@ put_at_home lists i b same = record { len = refl; put = λ h d l. by h d (nat_eq
     by h d false p = sym (append-nil (get_or lists h d).items) ∙ (λ j. (get_or lists h d).items ++ cond (sym p j && not (nat_eq i h)) (i ∷ []) [])
 
 -- a ring's contour is added to a shape
-pub pushed_contour : (rs : List HeldRing) (cw : Bool) (i : ℕ) (r : HeldRing) (old : List (Vec Point Global)) (c : Vec Point Global) (new : List (Vec Point Global)) → i < length rs →
-    c.items ≡ answered cw (ring_held (get_or rs i r)) → new ≡ old ++ (c ∷ []) → shape_points new ≡ shape_points old ++ (answered cw (ring_at (rings_held rs) i).1 ∷ [])
+pub pushed_contour : (rs : List RingVec) (cw : Bool) (i : ℕ) (r : RingVec) (old : List (Vec Point Global)) (c : Vec Point Global) (new : List (Vec Point Global)) → i < length rs →
+    c.items ≡ answered cw (ring_of_vec (get_or rs i r)) → new ≡ old ++ (c ∷ []) → shape_points new ≡ shape_points old ++ (answered cw (ring_at (rings_of_vecs rs) i).1 ∷ [])
 pushed_contour rs cw i r old c new low a e =
     ap shape_points e
     ∙ (map-append (λ (v : Vec Point Global). v.items) old (c ∷ [])

@@ -11,7 +11,7 @@ use Rattle.std.proofs.lemmas.List.Quantifiers.{all_pairs_push}
 use Rattle.mesh_plane.specs.Plane.{Point}
 use Rattle.mesh_plane.proofs.ClosedLists.{all_left, all_right}
 use Rattle.mesh_shapes.specs.Resolution.{Ring, Placed, is_head, shape_of, answered}
-use Rattle.mesh_shapes.specs.Vectors.{HeldRing, ring_held, rings_held}
+use Rattle.mesh_shapes.specs.Vectors.{RingVec, ring_of_vec, rings_of_vecs}
 use Rattle.mesh_shapes.specs.Midway.Grouping.{ring_at, placed, IsHome, contour_at, contours_at, shape_at, headed, AreMembers, HaveMembers, Stays, OtherRingsStay, AreApart, HaveApart, homed}
 use Rattle.mesh_shapes.proofs.Groups.{head_test}
 use Rattle.mesh_shapes.proofs.Shapes.{filter_step, place_next, ShapesTo}
@@ -66,23 +66,23 @@ differs_from_earlier h places i apart low (suc k) d some e =
 
 -- ---- rings that stay as they are
 
-pub others_set : (rs : List HeldRing) (i : ℕ) (r : HeldRing) → OtherRingsStay rs (set rs i r) (i ∷ [])
+pub others_set : (rs : List RingVec) (i : ℕ) (r : RingVec) → OtherRingsStay rs (set rs i r) (i ∷ [])
 others_set rs i r k apart =
-    ap (λ (l : List Ring). ring_at l k) (map-set ring_held rs i r)
-    ∙ ap (λ (x : Ring). (k, x)) (get_or-set_other (rings_held rs) i k (ring_held r) ([], (pos 0, pos 0)) (apart 0 i (omega arith)))
+    ap (λ (l : List Ring). ring_at l k) (map-set ring_of_vec rs i r)
+    ∙ ap (λ (x : Ring). (k, x)) (get_or-set_other (rings_of_vecs rs) i k (ring_of_vec r) ([], (pos 0, pos 0)) (apart 0 i (omega arith)))
 
-others_more : (rs now after : List HeldRing) (xs ys : List ℕ) → OtherRingsStay rs now xs → OtherRingsStay now after ys → OtherRingsStay rs after (xs ++ ys)
+others_more : (rs now after : List RingVec) (xs ys : List ℕ) → OtherRingsStay rs now xs → OtherRingsStay now after ys → OtherRingsStay rs after (xs ++ ys)
 others_more rs now after xs ys first second k apart =
     second k (all_right (λ (i : ℕ). k ≢ i) xs ys apart) ∙ first k (all_left (λ (i : ℕ). k ≢ i) xs ys apart)
 
 -- ---- the contours of one shape
 
 -- those of the ring at `h` and of the rings at other places were moved, and all other rings stay
-pub record IsMovedTo (rs now : List HeldRing) (cw : Bool) (h : ℕ) (places : List ℕ) (done : List (List Point)) : Type 0 where
-  pub contours : done ≡ contours_at (rings_held rs) cw h places
+pub record IsMovedTo (rs now : List RingVec) (cw : Bool) (h : ℕ) (places : List ℕ) (done : List (List Point)) : Type 0 where
+  pub contours : done ≡ contours_at (rings_of_vecs rs) cw h places
   pub others : OtherRingsStay rs now (h ∷ places)
 
-pub moved_more : (rs now after : List HeldRing) (cw : Bool) (h : ℕ) (places : List ℕ) (i : ℕ) (old new : List (List Point)) → AllPairs (λ (a b : ℕ). a ≢ b) (h ∷ places) → i < length places →
+pub moved_more : (rs now after : List RingVec) (cw : Bool) (h : ℕ) (places : List ℕ) (i : ℕ) (old new : List (List Point)) → AllPairs (λ (a b : ℕ). a ≢ b) (h ∷ places) → i < length places →
     IsMovedTo rs now cw h (take i places) old → new ≡ old ++ contour_at cw now (get_or places i 0) ∷ [] → OtherRingsStay now after (get_or places i 0 ∷ []) → IsMovedTo rs after cw h (take (i + 1) places) new
 moved_more rs now after cw h places i old new apart low before e others =
     subst (λ (l : List ℕ). IsMovedTo rs after cw h l new) (sym (take_more places i 0 low)) (record {
@@ -102,23 +102,23 @@ moved_more rs now after cw h places i old new apart low before e others =
 -- ---- the shapes of rings
 
 -- those that rings below `h` head are done, and the rings whose homes are not below `h` stay
-pub record AreShapesTo (rs now : List HeldRing) (homes : List ℕ) (cw : Bool) (h : ℕ) (done : List (List (List Point))) : Type 0 where
-  pub shapes : ShapesTo (rings_held rs) cw h done
+pub record AreShapesTo (rs now : List RingVec) (homes : List ℕ) (cw : Bool) (h : ℕ) (done : List (List (List Point))) : Type 0 where
+  pub shapes : ShapesTo (rings_of_vecs rs) cw h done
   pub others : (k : ℕ) → h ≤ get_or homes k 0 → Stays rs now k
 
-contours_stay : (rs now : List HeldRing) (cw : Bool) (places : List ℕ) → All (λ (i : ℕ). Stays rs now i) places → map (contour_at cw now) places ≡ map (contour_at cw rs) places
+contours_stay : (rs now : List RingVec) (cw : Bool) (places : List ℕ) → All (λ (i : ℕ). Stays rs now i) places → map (contour_at cw now) places ≡ map (contour_at cw rs) places
 contours_stay rs now cw [] stay = refl
 contours_stay rs now cw (i ∷ places) stay =
     let first = All-head (λ (i : ℕ). Stays rs now i) i places stay in
     let rest = contours_stay rs now cw places (All-tail (λ (i : ℕ). Stays rs now i) i places stay) in
     (λ j. answered cw (first j).1 ∷ rest j)
 
-homed_headed : (rs now : List HeldRing) (homes : List ℕ) (cw : Bool) (h : ℕ) (places : List ℕ) → IsHome (rings_held rs) h (get_or homes h 0) → AreMembers (rings_held rs) h places →
-    AreApart homes h places → ((k : ℕ) → h ≤ get_or homes k 0 → Stays rs now k) → homed cw (rings_held now) homes h places ≡ headed cw (rings_held rs) h
+homed_headed : (rs now : List RingVec) (homes : List ℕ) (cw : Bool) (h : ℕ) (places : List ℕ) → IsHome (rings_of_vecs rs) h (get_or homes h 0) → AreMembers (rings_of_vecs rs) h places →
+    AreApart homes h places → ((k : ℕ) → h ≤ get_or homes k 0 → Stays rs now k) → homed cw (rings_of_vecs now) homes h places ≡ headed cw (rings_of_vecs rs) h
 homed_headed rs now homes cw h places home members apart stay =
-    by (nat_eq (get_or homes h 0) h) refl ∙ sym (ap (λ (b : Bool). cond b (shape_at cw (rings_held rs) h ∷ []) []) (head_test (rings_held rs) h (get_or homes h 0) home))
+    by (nat_eq (get_or homes h 0) h) refl ∙ sym (ap (λ (b : Bool). cond b (shape_at cw (rings_of_vecs rs) h ∷ []) []) (head_test (rings_of_vecs rs) h (get_or homes h 0) home))
   where
-    by : (b : Bool) → nat_eq (get_or homes h 0) h ≡ b → cond b (contours_at (rings_held now) cw h places ∷ []) [] ≡ cond b (shape_at cw (rings_held rs) h ∷ []) []
+    by : (b : Bool) → nat_eq (get_or homes h 0) h ≡ b → cond b (contours_at (rings_of_vecs now) cw h places ∷ []) [] ≡ cond b (shape_at cw (rings_of_vecs rs) h ∷ []) []
     by false t = refl
     by true t =
         let own = eqb-true (get_or homes h 0) h t in
@@ -135,22 +135,22 @@ shapes_next rs cw h old new low kept e =
     lists : List Placed → List (List (List Point))
     lists ps = map (map (answered cw)) (map (shape_of (placed rs)) (filter (is_head (placed rs)) ps))
 
-pub shapes_more : (rs now after : List HeldRing) (homes told : List ℕ) (cw : Bool) (h : ℕ) (places : List ℕ) (old new : List (List (List Point))) → told ≡ homes → h < length rs →
-    AreShapesTo rs now homes cw h old → IsHome (rings_held rs) h (get_or homes h 0) → AreMembers (rings_held rs) h places → AreApart homes h places →
-    new ≡ old ++ homed cw (rings_held now) told h places → ((k : ℕ) → get_or told k 0 ≢ h → Stays now after k) → AreShapesTo rs after homes cw (h + 1) new
+pub shapes_more : (rs now after : List RingVec) (homes told : List ℕ) (cw : Bool) (h : ℕ) (places : List ℕ) (old new : List (List (List Point))) → told ≡ homes → h < length rs →
+    AreShapesTo rs now homes cw h old → IsHome (rings_of_vecs rs) h (get_or homes h 0) → AreMembers (rings_of_vecs rs) h places → AreApart homes h places →
+    new ≡ old ++ homed cw (rings_of_vecs now) told h places → ((k : ℕ) → get_or told k 0 ≢ h → Stays now after k) → AreShapesTo rs after homes cw (h + 1) new
 shapes_more rs now after homes told cw h places old new same low before home members apart e others = record {
-  shapes = shapes_next (rings_held rs) cw h old new (omega (arith, length-map rs ring_held)) before.shapes
-      (e ∙ (ap (λ (l : List ℕ). old ++ homed cw (rings_held now) l h places) same ∙ ap (λ (l : List (List (List Point))). old ++ l) (homed_headed rs now homes cw h places home members apart before.others)));
+  shapes = shapes_next (rings_of_vecs rs) cw h old new (omega (arith, length-map rs ring_of_vec)) before.shapes
+      (e ∙ (ap (λ (l : List ℕ). old ++ homed cw (rings_of_vecs now) l h places) same ∙ ap (λ (l : List (List (List Point))). old ++ l) (homed_headed rs now homes cw h places home members apart before.others)));
   others = λ k later. others k (λ (s : get_or told k 0 ≡ h). let t : get_or told k 0 ≡ get_or homes k 0 = ap (λ (l : List ℕ). get_or l k 0) same in absurd (omega arith)) ∙ before.others k (omega arith);
 }
 
 -- ---- the places that stand in a list of lists
-pub members_of : (rs : List HeldRing) (members : List (Vec ℕ Global)) (h : ℕ) (v : Vec ℕ Global) (places : List ℕ) → HaveMembers rs members → h < length rs → v ≡ get_or members h v → places ≡ v.items →
-    AreMembers (rings_held rs) h places
-members_of rs members h v places have low is e = subst (λ (l : List ℕ). AreMembers (rings_held rs) h l) (sym (e ∙ ap (λ (w : Vec ℕ Global). w.items) is)) (have h v low)
+pub members_of : (rs : List RingVec) (members : List (Vec ℕ Global)) (h : ℕ) (v : Vec ℕ Global) (places : List ℕ) → HaveMembers rs members → h < length rs → v ≡ get_or members h v → places ≡ v.items →
+    AreMembers (rings_of_vecs rs) h places
+members_of rs members h v places have low is e = subst (λ (l : List ℕ). AreMembers (rings_of_vecs rs) h l) (sym (e ∙ ap (λ (w : Vec ℕ Global). w.items) is)) (have h v low)
 
-pub members_within : (rs now : List HeldRing) (h : ℕ) (places : List ℕ) → length now ≡ length rs → AreMembers (rings_held rs) h places → All (λ (i : ℕ). i < length now) places
-members_within rs now h places same members k d low = let w = members.within k d low in omega (arith, length-map rs ring_held)
+pub members_within : (rs now : List RingVec) (h : ℕ) (places : List ℕ) → length now ≡ length rs → AreMembers (rings_of_vecs rs) h places → All (λ (i : ℕ). i < length now) places
+members_within rs now h places same members k d low = let w = members.within k d low in omega (arith, length-map rs ring_of_vec)
 
 pub apart_of : (homes told : List ℕ) (members : List (Vec ℕ Global)) (h : ℕ) (v : Vec ℕ Global) (places : List ℕ) → HaveApart told members → h < length members → v ≡ get_or members h v → places ≡ v.items →
     told ≡ homes → AreApart homes h places

@@ -15,10 +15,6 @@ turning_points a (x ∷ xs) z = cond (turns_at a x (first_or z xs)) (x ∷ turni
 abbrev pub kept : Bool → Point → List Point → Point → List Point
 kept all a xs z = cond all xs (turning_points a xs z)
 
--- the first of them, or the way's end where there is none
-abbrev pub next_kept : Bool → Point → List Point → Point → Point
-next_kept all a xs z = first_or z (kept all a xs z)
-
 -- the answered vertices of a closed contour that begins at `p`: all of them, or `p` and the turning points
 abbrev pub vertices : Bool → List Point → List Point
 vertices all [] = []

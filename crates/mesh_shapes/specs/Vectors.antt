@@ -8,16 +8,16 @@ use Rattle.mesh_plane.specs.Winding.{boundary}
 use Rattle.mesh_shapes.specs.Resolution.{Ring}
 
 -- a ring's vertices in a vector, and its side point
-abbrev pub HeldRing : Type 0
-HeldRing = Vec Point Global × Point
+abbrev pub RingVec : Type 0
+RingVec = Vec Point Global × Point
 
--- the ring that is held
-abbrev pub ring_held : HeldRing → Ring
-ring_held r = (r.0.items, r.1)
+-- the ring in a vector
+abbrev pub ring_of_vec : RingVec → Ring
+ring_of_vec r = (r.0.items, r.1)
 
--- the rings that are held
-abbrev pub rings_held : List HeldRing → List Ring
-rings_held rs = map ring_held rs
+-- the rings in vectors
+abbrev pub rings_of_vecs : List RingVec → List Ring
+rings_of_vecs rs = map ring_of_vec rs
 
 -- the contours of a shape, and of shapes, as lists of points
 abbrev pub shape_points : List (Vec Point Global) → List (List Point)

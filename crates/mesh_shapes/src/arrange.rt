@@ -11,7 +11,7 @@ ghost use Rattle.std.specs.List.Sorted.{IsSortedBy, IsPermutation};
 ghost use Rattle.mesh_plane.specs.Bounds.{IsSafe};
 ghost use Rattle.mesh_plane.specs.Plane.{Point};
 ghost use Rattle.mesh_shapes.specs.Contours.{reversed, double_area};
-ghost use Rattle.mesh_shapes.specs.Vectors.{HeldRing, ring_held, rings_held, shape_points, shapes_points};
+ghost use Rattle.mesh_shapes.specs.Vectors.{ring_of_vec, rings_of_vecs, shape_points, shapes_points};
 ghost use Rattle.mesh_shapes.specs.Midway.Grouping.{ring_at, areas_of, IsHome, AreHomes, AreWithin};
 ghost use Rattle.mesh_shapes.specs.Midway.Grouping.{HaveMembers, IsPutHome, contour_at, contours_at, all_shapes};
 ghost use Rattle.mesh_shapes.specs.Midway.Grouping.{Stays, OtherRingsStay, AreApart, HaveApart, homed};
@@ -31,14 +31,14 @@ use std::mem::replace;
 
 /// Whether the ring's double area is in size at least twice the least area.
 pub fn is_large(ring: &Ring, least_area: u64) -> bool
-    ensures { result ≡ is_large least_area (ring_held ring.now) }
+    ensures { result ≡ is_large least_area (ring_of_vec ring.now) }
 {
     2 * least_area as u128 <= double_area(&ring.0).unsigned_abs()
 }
 
 /// The double areas of rings, in their order.
 fn areas(alloc: Global, rings: &[Ring]) -> Result<Vec<i128>, AllocError>
-    ensures { IfOk result (λ v. v.items ≡ areas_of (rings_held rings.now)) }
+    ensures { IfOk result (λ v. v.items ≡ areas_of (rings_of_vecs rings.now)) }
 {
     let mut areas = Vec::with_capacity(alloc, rings.len())?;
     for r in rings {
@@ -50,10 +50,10 @@ fn areas(alloc: Global, rings: &[Ring]) -> Result<Vec<i128>, AllocError>
 /// The place of the ring with which the ring at `i` stands, its own where it heads a shape.
 fn home(rings: &[Ring], areas: &[i128], rows: &Rows<usize>, i: usize) -> usize
     requires in_range { i < length rings.now }
-    requires areas_known { areas.now ≡ areas_of (rings_held rings.now) }
+    requires areas_known { areas.now ≡ areas_of (rings_of_vecs rings.now) }
     requires rows_known { int_lt (pos 0) (slice_index_or areas.now i (pos 0)) ≡ false
-        → AreRows rows.now.marks.items rows.now.lists.items (placed_edges (rings_held rings.now)) }
-    ensures home { IsHome (rings_held rings.now) i result }
+        → AreRows rows.now.marks.items rows.now.lists.items (placed_edges (rings_of_vecs rings.now)) }
+    ensures home { IsHome (rings_of_vecs rings.now) i result }
     ensures within { result < length rings.now }
 {
     if areas[i] > 0 {
@@ -85,9 +85,10 @@ fn edges_wanted(
     rings: &[Ring],
     areas: &[i128],
 ) -> Result<Vec<PlacedEdge>, AllocError>
-    requires { areas.now ≡ areas_of (rings_held rings.now) }
+    requires { areas.now ≡ areas_of (rings_of_vecs rings.now) }
     ensures { IfOk result (λ v. (i : ℕ) → i < length areas.now
-        → int_lt (pos 0) (slice_index_or areas.now i (pos 0)) ≡ false → v.items ≡ placed_edges (rings_held rings.now)) }
+        → int_lt (pos 0) (slice_index_or areas.now i (pos 0)) ≡ false
+        → v.items ≡ placed_edges (rings_of_vecs rings.now)) }
 {
     if are_positive(areas) {
         return Ok(Vec::new(alloc));
@@ -197,7 +198,7 @@ fn shape(
     requires within { All (λ i. i < length rings.old) members.now }
     requires apart { AllPairs (λ i j. i ≢ j) (h ∷ members.now) }
     ensures contours { IfOk result (λ v. shape_points v.items
-        ≡ contours_at (rings_held rings.old) clockwise h members.now) }
+        ≡ contours_at (rings_of_vecs rings.old) clockwise h members.now) }
     ensures others { IfOk result (λ v. OtherRingsStay rings.old rings.new (h ∷ members.now)) }
 {
     let mut shape = Vec::with_capacity(alloc, members.len() + 1)?;
@@ -223,7 +224,7 @@ fn push_shape(
     requires within { All (λ i. i < length rings.old) members.now }
     requires apart { AreApart homes.now h members.now }
     ensures added { OnOk result (shapes_points shapes.new.items ≡ shapes_points shapes.old.items ++
-        homed clockwise (rings_held rings.old) homes.now h members.now) }
+        homed clockwise (rings_of_vecs rings.old) homes.now h members.now) }
     ensures others { OnOk result ((k : ℕ) → slice_index_or homes.now k 0 ≢ h → Stays rings.old rings.new k) }
 {
     if homes[h] != h {
@@ -239,7 +240,7 @@ fn grouped(
     rings: &mut [Ring],
     clockwise: bool,
 ) -> Result<Vec<Vec<Vec<GridPoint>>>, AllocError>
-    ensures { IfOk result (λ v. shapes_points v.items ≡ all_shapes clockwise (rings_held rings.old)) }
+    ensures { IfOk result (λ v. shapes_points v.items ≡ all_shapes clockwise (rings_of_vecs rings.old)) }
 {
     let homes = homes(alloc, rings)?;
     let members = members(alloc, rings, &homes)?;
@@ -253,7 +254,7 @@ fn grouped(
 /// Rings in the order of their points.
 fn in_order(mut rings: Vec<Ring>) -> Vec<Ring>
     ensures same { IsPermutation rings.items result.items }
-    ensures ordered { IsSortedBy (λ r s. points_lt r.0 s.0) (rings_held result.items) }
+    ensures ordered { IsSortedBy (λ r s. points_lt r.0 s.0) (rings_of_vecs result.items) }
 {
     rings.sort_unstable();
     rings
@@ -265,7 +266,7 @@ pub fn shapes(
     rings: Vec<Ring>,
     clockwise: bool,
 ) -> Result<Vec<Vec<Vec<GridPoint>>>, AllocError>
-    ensures { IfOk result (λ v. AreArranged clockwise (rings_held rings.items) (shapes_points v.items)) }
+    ensures { IfOk result (λ v. AreArranged clockwise (rings_of_vecs rings.items) (shapes_points v.items)) }
 {
     let mut ordered = in_order(rings);
     let shapes = grouped(alloc, &mut ordered, clockwise)?;

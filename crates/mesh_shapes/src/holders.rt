@@ -12,7 +12,7 @@ ghost use Rattle.mesh_shapes.specs.Midway.Holders.{PlacedEdge, with_place, ring_
 ghost use Rattle.mesh_shapes.specs.Midway.Holders.{IsSearch};
 ghost use Rattle.mesh_shapes.specs.Midway.Progress.{IsFound};
 ghost use Rattle.mesh_shapes.specs.Resolution.{Ring};
-ghost use Rattle.mesh_shapes.specs.Vectors.{rings_held};
+ghost use Rattle.mesh_shapes.specs.Vectors.{rings_of_vecs};
 
 use crate::ring::Ring;
 use mesh_cuts::fine::{FinePoint, crossing, doubled};
@@ -57,8 +57,8 @@ fn push_ring(
     h: usize,
 ) -> Result<(), AllocError>
     requires in_range { h < length rings.now }
-    requires areas_known { areas.now ≡ areas_of (rings_held rings.now) }
-    ensures { OnOk result (edges.new.items ≡ edges.old.items ++ ring_edges (ring_at (rings_held rings.now) h)) }
+    requires areas_known { areas.now ≡ areas_of (rings_of_vecs rings.now) }
+    ensures { OnOk result (edges.new.items ≡ edges.old.items ++ ring_edges (ring_at (rings_of_vecs rings.now) h)) }
 {
     if areas[h] <= 0 {
         return Ok(());
@@ -73,8 +73,8 @@ pub fn ring_edges(
     rings: &[Ring],
     areas: &[i128],
 ) -> Result<Vec<PlacedEdge>, AllocError>
-    requires { areas.now ≡ areas_of (rings_held rings.now) }
-    ensures { IfOk result (λ v. v.items ≡ placed_edges (rings_held rings.now)) }
+    requires { areas.now ≡ areas_of (rings_of_vecs rings.now) }
+    ensures { IfOk result (λ v. v.items ≡ placed_edges (rings_of_vecs rings.now)) }
 {
     let mut edges = Vec::new(alloc);
     for h in 0..rings.len() {

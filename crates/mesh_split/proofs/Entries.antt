@@ -20,8 +20,7 @@ use Rattle.mesh_plane.proofs.Sums.{sum_of_permutation}
 use Rattle.mesh_plane.proofs.Whole.{linear}
 use Rattle.mesh_cuts.specs.Split.{back, same_edge, same_ends}
 use Rattle.mesh_cuts.specs.Counted.{Counted, bit, times}
-use Rattle.mesh_split.specs.Midway.Steps.{exactly, IsTaken, IsRaised, IsNew, HaveRoom}
-use Rattle.mesh_cuts.specs.Split.{IsForward}
+use Rattle.mesh_split.specs.Midway.Steps.{exactly, IsForward, IsTaken, IsRaised, IsNew, HaveRoom}
 use Rattle.mesh_cuts.specs.Counted.{size}
 use Rattle.mesh_cuts.proofs.Ends.{decides_edge, decides_ends}
 use Rattle.mesh_cuts.proofs.Arithmetic.{small_kept, small_fits}

@@ -4,9 +4,8 @@ ghost use Rattle.std.specs.Prelude.{◌≡◌, ◌^◌, List, [], ◌∷◌, ℤ
 ghost use Rattle.mesh_plane.specs.Winding.{same_point};
 ghost use Rattle.mesh_cuts.specs.Clean.{IsProper};
 ghost use Rattle.mesh_cuts.specs.Split.{is_end, IsInBox, Meets};
-ghost use Rattle.mesh_cuts.specs.Split.{IsForward};
 ghost use Rattle.mesh_split.specs.Midway.Steps.{AllClear, Puts, PutsPieces, Settles, IsPile, KeepsPile, exactly};
-ghost use Rattle.mesh_split.specs.Midway.Steps.{weight, total_weight};
+ghost use Rattle.mesh_split.specs.Midway.Steps.{IsForward, weight, total_weight};
 ghost use Rattle.mesh_cuts.specs.Counted.{times, IsRoomy};
 
 use crate::hints::Meeting;
@@ -32,8 +31,8 @@ fn single(e: GridEdge) -> CountedSegment
     ((start, end), 1)
 }
 
-/// The segment seen from its other end.
-fn turned(s: CountedSegment) -> CountedSegment
+/// The segment the other way about.
+fn backwards(s: CountedSegment) -> CountedSegment
     requires { IsRoomy (weight s) }
     ensures { result ≡ ((s.0.1, s.0.0), neg_ℤ s.1) }
 {
@@ -63,7 +62,7 @@ impl Splitter {
         if is_before(s.0.0, s.0.1) {
             return self.file(s);
         }
-        self.file(turned(s))
+        self.file(backwards(s))
     }
 
     /// The same, where the lesser end is first.

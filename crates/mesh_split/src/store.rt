@@ -3,9 +3,8 @@
 
 ghost use Rattle.std.specs.Prelude.{◌≡◌, true, List, [], ℤ, pos, ◌<ℤ◌, MatchOption, IfOk, OnOk};
 ghost use Rattle.mesh_cuts.specs.Counted.{times};
-ghost use Rattle.mesh_cuts.specs.Split.{IsForward};
 ghost use Rattle.mesh_split.specs.Midway.Cells.{MeetsLive};
-ghost use Rattle.mesh_split.specs.Midway.Steps.{HaveRoom, IsPut, IsTaken, IsClearOf, AddsIf, exactly};
+ghost use Rattle.mesh_split.specs.Midway.Steps.{HaveRoom, IsForward, IsPut, IsTaken, IsClearOf, AddsIf, exactly};
 
 use crate::hints::{Hints, Meeting};
 use crate::tally::Tally;

@@ -4,8 +4,7 @@ ghost use Rattle.std.specs.Prelude.{◌≡◌, true, false, List, [], ℤ, pos, 
 ghost use Rattle.std.specs.List.{All};
 ghost use Rattle.std.specs.Map.{keys_of};
 ghost use Rattle.mesh_cuts.specs.Counted.{times};
-ghost use Rattle.mesh_cuts.specs.Split.{IsForward};
-ghost use Rattle.mesh_split.specs.Midway.Steps.{HaveRoom, IsPut, IsTaken, AddsIf, exactly};
+ghost use Rattle.mesh_split.specs.Midway.Steps.{HaveRoom, IsForward, IsPut, IsTaken, AddsIf, exactly};
 
 use crate::worklist::Worklist;
 use mesh_cuts::grid::{CountedSegment, GridEdge};

@@ -3,8 +3,7 @@
 ghost use Rattle.std.specs.Prelude.{◌≡◌, ◌⊎◌, List, [], ◌∷◌, ℤ, MatchOption, IfSome, OnOk};
 ghost use Rattle.std.specs.List.{All};
 ghost use Rattle.std.specs.Map.{keys_of};
-ghost use Rattle.mesh_cuts.specs.Split.{IsForward};
-ghost use Rattle.mesh_split.specs.Midway.Steps.{HaveRoom, IsTaken, IsRaised, IsNew};
+ghost use Rattle.mesh_split.specs.Midway.Steps.{HaveRoom, IsForward, IsTaken, IsRaised, IsNew};
 
 use mesh_cuts::grid::{CountedSegment, GridEdge};
 use std::alloc::{AllocError, Global};

@@ -20,7 +20,7 @@ use Rattle.mesh_join.proofs.Joins.{padding_covers}
 use Rattle.mesh_cap.specs.Caps.{cap_padding}
 use Rattle.mesh_draw.proofs.Padding.{safe_within_less}
 use Rattle.mesh_draw.proofs.ProperEdges.{proper_append, proper_flat_map}
-use Rattle.mesh_draw.specs.Adding.{Adds}
+use Rattle.mesh_draw.specs.Midway.{Adds}
 use Rattle.mesh_stroke.specs.Building.{IsStrokable}
 use Rattle.mesh_draw.specs.Walks.{pairs}
 use Rattle.mesh_draw.proofs.Walks.{woven_through}

@@ -18,7 +18,8 @@ use Rattle.mesh_plane.proofs.Triangles.{crossing_on_straight}
 use Rattle.mesh_plane.proofs.Whole.{linear}
 use Rattle.mesh_num.specs.Segments.{SignedEdge, IsSubject}
 use Rattle.mesh_cuts.specs.Clean.{IsProper}
-use Rattle.mesh_draw.specs.Adding.{Adds, added_edges}
+use Rattle.mesh_draw.specs.Adding.{added_edges}
+use Rattle.mesh_draw.specs.Midway.{Adds}
 use Rattle.mesh_draw.specs.Padding.{IsNear}
 use Rattle.mesh_draw.proofs.Adding.{adds_edges}
 use Rattle.mesh_draw.proofs.Padding.{ends_safe}

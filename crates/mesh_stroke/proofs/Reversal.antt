@@ -16,7 +16,8 @@ use Rattle.mesh_plane.proofs.Sums.{sum_of_equal, sum_of_append, total_append, to
 use Rattle.mesh_plane.proofs.Whole.{linear, mul_pos}
 use Rattle.mesh_plane.specs.Ways.{last_of}
 use Rattle.mesh_num.specs.Segments.{SignedEdge, proper_edges}
-use Rattle.mesh_draw.specs.Adding.{Adds, added_edges}
+use Rattle.mesh_draw.specs.Adding.{added_edges}
+use Rattle.mesh_draw.specs.Midway.{Adds}
 use Rattle.mesh_draw.proofs.Adding.{adds_edges}
 use Rattle.mesh_grid.proofs.Turns.{same_kept, opposite_kept}
 use Rattle.mesh_cuts.specs.Split.{back, same_edge}

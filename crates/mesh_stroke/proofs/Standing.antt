@@ -4,7 +4,7 @@ use Rattle.std.specs.Prelude.{Bool, true, false, ℤ, pos, ◌≤ℤ◌}
 use Rattle.std.specs.List.{All}
 use Rattle.mesh_plane.specs.Plane.{Point, Edge}
 use Rattle.mesh_num.specs.Segments.{SignedEdge, segments_of}
-use Rattle.mesh_draw.specs.Adding.{Adds}
+use Rattle.mesh_draw.specs.Midway.{Adds}
 use Rattle.mesh_stroke.specs.Building.{IsStrokable}
 use Rattle.mesh_stroke.specs.Midway.{Section, section_of, own_edge, IsCorner, AreEnds}
 use Rattle.mesh_stroke.specs.Paths.{path_edges}

@@ -16,7 +16,8 @@ use Rattle.mesh_join.proofs.Drawing.{route_length}
 use Rattle.mesh_cap.specs.Caps.{CapKind, draws_directly, has_few_edges}
 use Rattle.mesh_cap.specs.Ends.{half_turn, IsEnd}
 use Rattle.mesh_cap.proofs.Caps.{cap_keeps}
-use Rattle.mesh_draw.specs.Adding.{Adds, added}
+use Rattle.mesh_draw.specs.Adding.{added}
+use Rattle.mesh_draw.specs.Midway.{Adds}
 use Rattle.mesh_draw.proofs.Drawn.{added_length}
 use Rattle.mesh_stroke.specs.Building.{HasDirectCaps, HasFewCapEdges}
 use Rattle.mesh_draw.specs.Walks.{pairs}

@@ -27,7 +27,7 @@ impl<I: IntNumber> Section<I> {
         ensures value { result ≡ covers_circle self.now circle }
         ensures holds { IsTrue result → HoldsCircle self.now circle }
     {
-        let turn = corner(self.a_left, self.b_left, self.b_right);
+        let turn = turn_at_second(self.a_left, self.b_left, self.b_right);
         turn != 0
             && is_inside(
                 turn,
@@ -41,7 +41,7 @@ impl<I: IntNumber> Section<I> {
 }
 
 // The turn at the second of three points.
-fn corner<I: IntNumber>(first: IntPoint<I>, second: IntPoint<I>, third: IntPoint<I>) -> i128
+fn turn_at_second<I: IntNumber>(first: IntPoint<I>, second: IntPoint<I>, third: IntPoint<I>) -> i128
     requires first { IsSafe I.unit first }
     requires second { IsSafe I.unit second }
     requires third { IsSafe I.unit third }

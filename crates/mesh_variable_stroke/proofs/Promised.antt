@@ -16,7 +16,8 @@ use Rattle.mesh_num.specs.Segments.{SignedEdge}
 use Rattle.mesh_cuts.specs.Clean.{IsProper}
 use Rattle.mesh_arc.specs.declared.arc.ArcOptions.{ArcOptions}
 use Rattle.mesh_join.specs.VariableStyles.{Vertex}
-use Rattle.mesh_draw.specs.Adding.{Adds, added_edges}
+use Rattle.mesh_draw.specs.Adding.{added_edges}
+use Rattle.mesh_draw.specs.Midway.{Adds}
 use Rattle.mesh_draw.specs.Padding.{IsNear}
 use Rattle.mesh_draw.proofs.Adding.{adds_edges}
 use Rattle.mesh_draw.proofs.Padding.{ends_safe}

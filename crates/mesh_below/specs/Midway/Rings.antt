@@ -6,7 +6,7 @@ use Rattle.mesh_plane.specs.Plane.{Point, Edge}
 use Rattle.mesh_plane.specs.Winding.{sum_of, boundary}
 use Rattle.mesh_shapes.specs.Contours.{IsBegun, left_out, vertices, StartsOnce}
 use Rattle.mesh_shapes.specs.Resolution.{ring_of, is_large}
-use Rattle.mesh_shapes.specs.Vectors.{HavePoints, HeldRing, rings_held, contour_edges}
+use Rattle.mesh_shapes.specs.Vectors.{HavePoints, RingVec, rings_of_vecs, contour_edges}
 
 -- each point of the contour is one of its vertices
 abbrev pub IsWhole : Bool → List Point → Type 0
@@ -20,21 +20,21 @@ Told = Bool × Bool
 -- rings made of contours: each contour was turned to its start, and the small rings were left out. What is told of the
 -- contours is so
 pub record AreRingsOf (all : Bool) (least : ℕ) (edges : List Edge) (given : List (Vec Point Global))
-    (rings : List HeldRing) (told : Told) : Type 0 where
+    (rings : List RingVec) (told : Told) : Type 0 where
   pub contours : List (List Point)
   pub same : (f : Edge → ℤ) → sum_of f (flat_map boundary contours) ≡ sum_of f (contour_edges given)
   pub begun : All (IsBegun all) contours
-  pub rings_are : rings_held rings ≡ filter (is_large least) (map (ring_of all) contours)
+  pub rings_are : rings_of_vecs rings ≡ filter (is_large least) (map (ring_of all) contours)
   pub are_whole : told.0 ≡ true → All (IsWhole all) contours
   pub start_once : told.1 ≡ true → All (λ (c : List Point). All (StartsOnce edges) (left_out all c)) contours
 
 -- the ring of one more contour was added, or left out where it is small. What is told of the contour is so
-pub record PushesRing (all : Bool) (least : ℕ) (edges : List Edge) (given : List Point) (old new : List HeldRing)
+pub record PushesRing (all : Bool) (least : ℕ) (edges : List Edge) (given : List Point) (old new : List RingVec)
     (told : Told) : Type 0 where
   pub contour : List Point
   pub same : (f : Edge → ℤ) → sum_of f (boundary contour) ≡ sum_of f (boundary given)
   pub begun : IsBegun all contour
-  pub rings_are : rings_held new ≡ rings_held old ++ filter (is_large least) (ring_of all contour ∷ [])
+  pub rings_are : rings_of_vecs new ≡ rings_of_vecs old ++ filter (is_large least) (ring_of all contour ∷ [])
   pub is_whole : told.0 ≡ true → IsWhole all contour
   pub starts_once : told.1 ≡ true → All (StartsOnce edges) (left_out all contour)
 

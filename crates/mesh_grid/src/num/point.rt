@@ -51,22 +51,22 @@ impl<I: IntNumber> IntPoint<I> {
     }
 
     /// The point moved by a vector, where that is safe: both coordinates stay below `UNIT` in size.
-    pub fn moved(self, along: &IntVector<I>) -> Self
-        requires { IsSafe I.unit (plus self along.now) }
-        ensures { result ≡ plus self along.now }
+    pub fn moved(self, vector: &IntVector<I>) -> Self
+        requires { IsSafe I.unit (plus self vector.now) }
+        ensures { result ≡ plus self vector.now }
     {
-        let x = self.x.to_wide() + along.x;
-        let y = self.y.to_wide() + along.y;
+        let x = self.x.to_wide() + vector.x;
+        let y = self.y.to_wide() + vector.y;
         IntPoint::new(I::from_wide(x), I::from_wide(y))
     }
 
     /// The point moved by the length of a vector to the right of it, where that is safe as for `moved`.
-    pub fn moved_right(self, along: &IntVector<I>) -> Self
-        requires { IsSafe I.unit (plus self (right_quarter along.now)) }
-        ensures { result ≡ plus self (right_quarter along.now) }
+    pub fn moved_right(self, vector: &IntVector<I>) -> Self
+        requires { IsSafe I.unit (plus self (right_quarter vector.now)) }
+        ensures { result ≡ plus self (right_quarter vector.now) }
     {
-        let x = self.x.to_wide() + along.y;
-        let y = self.y.to_wide() - along.x;
+        let x = self.x.to_wide() + vector.y;
+        let y = self.y.to_wide() - vector.x;
         IntPoint::new(I::from_wide(x), I::from_wide(y))
     }
 }

@@ -9,7 +9,7 @@ use Rattle.mesh_shapes.specs.Resolution.{Ring, Placed, is_positive, is_head, sta
 use Rattle.std.specs.Prelude.{cond, not, int_lt, ◌∷◌, ◌++◌, Vec}
 use Rattle.std.specs.declared.alloc.Global.{Global}
 use Rattle.mesh_shapes.specs.Resolution.{shape_of, rings_by_shape, answered}
-use Rattle.mesh_shapes.specs.Vectors.{HeldRing, rings_held}
+use Rattle.mesh_shapes.specs.Vectors.{RingVec, rings_of_vecs}
 
 -- the ring at a place, with that place
 abbrev pub ring_at : List Ring → ℕ → Placed
@@ -34,11 +34,11 @@ pub data IsHome (rs : List Ring) (i h : ℕ) : Type 0 where
       → ((k : ℕ) → k < length rs → stands_with (placed rs) (ring_at rs k) (ring_at rs i) ≡ nat_eq k h) → IsHome rs i h
 
 -- the ring at each place stands with that at the place which the list has for it
-abbrev pub AreHomes : List HeldRing → List ℕ → Type 0
-AreHomes rings homes = (i : ℕ) → i < length rings → IsHome (rings_held rings) i (slice_index_or homes i 0)
+abbrev pub AreHomes : List RingVec → List ℕ → Type 0
+AreHomes rings homes = (i : ℕ) → i < length rings → IsHome (rings_of_vecs rings) i (slice_index_or homes i 0)
 
 -- each of these places is the place of a ring
-abbrev pub AreWithin : List HeldRing → List ℕ → Type 0
+abbrev pub AreWithin : List RingVec → List ℕ → Type 0
 AreWithin rings homes = (i : ℕ) → i < length rings → slice_index_or homes i 0 < length rings
 
 -- the area at the place `k` is less than that at `b`
@@ -46,8 +46,8 @@ abbrev pub is_less_at : List ℤ → ℕ → ℕ → Bool
 is_less_at areas k b = int_lt (slice_index_or areas k (pos 0)) (slice_index_or areas b (pos 0))
 
 -- the contour that is answered for the ring at a place
-abbrev pub contour_at : Bool → List HeldRing → ℕ → List Point
-contour_at clockwise rings i = answered clockwise (ring_at (rings_held rings) i).1
+abbrev pub contour_at : Bool → List RingVec → ℕ → List Point
+contour_at clockwise rings i = answered clockwise (ring_at (rings_of_vecs rings) i).1
 
 -- the contours of the shape that the ring at `h` heads
 abbrev pub shape_at : Bool → List Ring → ℕ → List (List Point)
@@ -71,9 +71,10 @@ pub record AreMembers (rs : List Ring) (h : ℕ) (places : List ℕ) : Type 0 wh
   pub contours : (clockwise : Bool) → contours_at rs clockwise h places ≡ shape_at clockwise rs h
 
 -- for each ring there are the places of those that head no shape and stand with it
-abbrev pub HaveMembers : List HeldRing → List (Vec ℕ Global) → Type 0
+abbrev pub HaveMembers : List RingVec → List (Vec ℕ Global) → Type 0
 HaveMembers rings members =
-    (h : ℕ) (d : Vec ℕ Global) → h < length rings → AreMembers (rings_held rings) h (slice_index_or members h d).items
+    (h : ℕ) (d : Vec ℕ Global) → h < length rings
+    → AreMembers (rings_of_vecs rings) h (slice_index_or members h d).items
 
 -- the place `i` was added to the list of its home, unless that is itself
 pub record IsPutHome (old new : List (Vec ℕ Global)) (i home : ℕ) : Type 0 where
@@ -83,11 +84,11 @@ pub record IsPutHome (old new : List (Vec ℕ Global)) (i home : ℕ) : Type 0 w
 -- ---- the points of rings move to shapes
 
 -- the ring at the place `k` is as it was
-abbrev pub Stays : List HeldRing → List HeldRing → ℕ → Type 0
-Stays old new k = ring_at (rings_held new) k ≡ ring_at (rings_held old) k
+abbrev pub Stays : List RingVec → List RingVec → ℕ → Type 0
+Stays old new k = ring_at (rings_of_vecs new) k ≡ ring_at (rings_of_vecs old) k
 
 -- the rings at all other places are as they were
-abbrev pub OtherRingsStay : List HeldRing → List HeldRing → List ℕ → Type 0
+abbrev pub OtherRingsStay : List RingVec → List RingVec → List ℕ → Type 0
 OtherRingsStay old new places = (k : ℕ) → All (λ (i : ℕ). k ≢ i) places → Stays old new k
 
 -- the place `h` and those of a list all differ, and `h` is the home of each in the list

@@ -2,16 +2,19 @@
 use Rattle.std.specs.Prelude.{ℕ, ◌≡◌, ◌+◌, ◌<◌, Bool, true, false, List, length, drop, slice_index_or, pos}
 use Rattle.mesh_plane.specs.Plane.{Point}
 use Rattle.mesh_plane.specs.Order.{point_lt}
-use Rattle.mesh_shapes.specs.Contours.{next_kept, omitted}
 use Rattle.mesh_shapes.specs.Midway.Grouping.{ring_at, is_round_at}
 use Rattle.mesh_shapes.specs.Resolution.{Ring, is_before}
 use Rattle.std.specs.Prelude.{Option, MatchOption}
 use Rattle.mesh_plane.specs.Ways.{first_or}
-use Rattle.mesh_shapes.specs.Contours.{kept}
+use Rattle.mesh_shapes.specs.Contours.{kept, omitted}
 
 -- the point at a place of a list
 abbrev pub point_at : List Point → ℕ → Point
 point_at ps i = slice_index_or ps i (pos 0, pos 0)
+
+-- the first point of the list that is answered, where the way runs from `a` by all of them to `z`, or else `z`
+abbrev pub next_kept : Bool → Point → List Point → Point → Point
+next_kept all a xs z = first_or z (kept all a xs z)
 
 -- the next vertex that is answered after the place `i` of a contour
 abbrev pub next_at : Bool → List Point → ℕ → Point

@@ -1,7 +1,8 @@
 -- What the steps of the splitting do to lists of counted segments, whatever order they stand in:
 -- each fact speaks of the sums of every function over the list.
 use Rattle.std.specs.Prelude.{ℕ, ◌+◌, ◌*◌, ◌-◌, ◌^◌, ◌≡◌, Bool, true, false, cond, List, [], ◌∷◌, ℤ, pos, ◌+ℤ◌, ◌-ℤ◌}
-use Rattle.std.specs.Prelude.{◌*ℤ◌, ◌≤ℤ◌, ◌<ℤ◌, unsigned_abs, max, int_lt}
+use Rattle.std.specs.Prelude.{◌*ℤ◌, ◌≤ℤ◌, ◌<ℤ◌, unsigned_abs, max, int_lt, IsTrue}
+use Rattle.mesh_plane.specs.Order.{point_lt}
 use Rattle.mesh_plane.specs.Plane.{Point, Edge}
 use Rattle.mesh_plane.specs.Winding.{sum_of}
 use Rattle.mesh_cuts.specs.Split.{same_edge, same_ends, occurs, Cut, after, IsLegal}
@@ -9,6 +10,10 @@ use Rattle.mesh_cuts.specs.Counted.{Counted, bit, along, net, counted_net, times
 use Rattle.mesh_cuts.specs.Split.{AreClear}
 use Rattle.mesh_cuts.specs.Counted.{size}
 use Rattle.mesh_cuts.specs.Counted.{IsRoomy}
+
+-- the lesser end first, by x and then by y
+abbrev pub IsForward : Edge → Type 0
+IsForward e = IsTrue (point_lt e.0 e.1)
 
 -- how many of the counted segments run just from the first end to the second
 abbrev pub exactly : Edge → List Counted → ℤ

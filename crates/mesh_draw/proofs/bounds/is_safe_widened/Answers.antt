@@ -1,7 +1,7 @@
--- The sides that are moved fit the wide type, and both corners are tested.
+-- The sides that are moved fit the wide type, and their coordinates are tested.
 use Rattle.std.proofs.Common.{◌^◌, ◌≤◌, ◌∙◌, ap, sym, arith}
 use Rattle.std.specs.Prelude.{Bool, pos, ◌<ℤ◌, ◌&&◌}
-use Rattle.mesh_draw.proofs.PaddingBounds.{side_fits, corners_tested}
+use Rattle.mesh_draw.proofs.PaddingBounds.{side_fits, bounds_tested}
 use Rattle.mesh_draw.proofs.bounds.is_safe_widened.Goals as goal
 
 pub add-requires : goal.add-requires
@@ -27,7 +27,7 @@ returns-then-low g c =
     let east = rw c.to_wide-3.ensures.value at (g.met.I.Wide.WideNumber.add_law _ _ _ c.add.ensures) in
     let north = rw c.to_wide-4.ensures.value at (g.met.I.Wide.WideNumber.add_law _ _ _ c.add-2.ensures) in
     rw (← c.bounds.view_is)
-    (corners_tested g.I.IntNumber.unit (g.I.Wide.WideNumber.value c.args.padding) _ _ _ _ _ c.are_safe-low.result c.are_safe-high.result _
+    (bounds_tested g.I.IntNumber.unit (g.I.Wide.WideNumber.value c.args.padding) _ _ _ _ _ c.are_safe-low.result c.are_safe-high.result _
     (ap (λ (b : Bool). b && c.are_safe-high.result) (sym c.if-low.true)) west south east north c.are_safe-low.ensures c.are_safe-high.ensures)
 
 pub returns-else-low : goal.returns-else-low
@@ -37,5 +37,5 @@ returns-else-low g c =
     let east = rw c.to_wide-3.ensures.value at (g.met.I.Wide.WideNumber.add_law _ _ _ c.add.ensures) in
     let north = rw c.to_wide-4.ensures.value at (g.met.I.Wide.WideNumber.add_law _ _ _ c.add-2.ensures) in
     rw (← c.bounds.view_is)
-    (corners_tested g.I.IntNumber.unit (g.I.Wide.WideNumber.value c.args.padding) _ _ _ _ _ c.are_safe-low.result c.are_safe-high.result _
+    (bounds_tested g.I.IntNumber.unit (g.I.Wide.WideNumber.value c.args.padding) _ _ _ _ _ c.are_safe-low.result c.are_safe-high.result _
     (c.if-low.false ∙ ap (λ (b : Bool). b && c.are_safe-high.result) (sym c.if-low.false)) west south east north c.are_safe-low.ensures c.are_safe-high.ensures)

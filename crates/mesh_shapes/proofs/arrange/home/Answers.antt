@@ -4,7 +4,7 @@ use Rattle.std.proofs.lemmas.List.{length-map}
 use Rattle.mesh_shapes.specs.Contours.{double_area}
 use Rattle.mesh_shapes.specs.Midway.Holders.{Rise, placed_edges}
 use Rattle.mesh_shapes.specs.Resolution.{Ring}
-use Rattle.mesh_shapes.specs.Vectors.{ring_held, rings_held}
+use Rattle.mesh_shapes.specs.Vectors.{ring_of_vec, rings_of_vecs}
 use Rattle.mesh_shapes.proofs.HolderRows.{row_rises, row_tells}
 use Rattle.mesh_rows.proofs.RowLists.{row_is}
 use Rattle.mesh_shapes.proofs.Shapes.{home_none, home_some}
@@ -19,7 +19,7 @@ row-requires c =
 pub holder-requires : goal.holder-requires
 holder-requires c =
     let flat : int_lt (pos 0) (get_or c.args.areas.now c.args.i (pos 0)) ≡ false = search rules in
-    let rs = rings_held c.args.rings.now in
+    let rs = rings_of_vecs c.args.rings.now in
     let same = ap length c.requires.areas_known in
     let len : length rs ≡ length c.args.areas.now = omega (arith, same, length-map rs (λ (r : Ring). double_area r.0)) in
     let q = (get_or c.args.rings.now c.args.i c.index-rings-i.result).1 in
@@ -30,7 +30,7 @@ holder-requires c =
 pub returns-in_default-clause-home : goal.returns-in_default-clause-home
 returns-in_default-clause-home c =
     let flat : int_lt (pos 0) (get_or c.args.areas.now c.args.i (pos 0)) ≡ false = search rules in
-    let rs = rings_held c.args.rings.now in
+    let rs = rings_of_vecs c.args.rings.now in
     let q = (get_or c.args.rings.now c.args.i c.index-rings-i.result).1 in
     let row = row_is c.args.rows.now.marks.items c.args.rows.now.lists.items (placed_edges rs) c.row.result.now q (c.requires.rows_known flat) c.row.ensures in
     home_none c.args.rings.now c.args.i c.index-rings-i.result c.requires.in_range
@@ -39,7 +39,7 @@ returns-in_default-clause-home c =
 pub returns-clause-home : goal.returns-clause-home
 returns-clause-home c =
     let flat : int_lt (pos 0) (get_or c.args.areas.now c.args.i (pos 0)) ≡ false = search rules in
-    let rs = rings_held c.args.rings.now in
+    let rs = rings_of_vecs c.args.rings.now in
     let q = (get_or c.args.rings.now c.args.i c.index-rings-i.result).1 in
     let row = row_is c.args.rows.now.marks.items c.args.rows.now.lists.items (placed_edges rs) c.row.result.now q (c.requires.rows_known flat) c.row.ensures in
     home_some c.args.rings.now c.args.areas.now c.args.i c.in-Some.h c.index-rings-i.result c.requires.areas_known c.requires.in_range flat
@@ -48,8 +48,8 @@ returns-clause-home c =
 pub returns-clause-within : goal.returns-clause-within
 returns-clause-within c =
     let flat : int_lt (pos 0) (get_or c.args.areas.now c.args.i (pos 0)) ≡ false = search rules in
-    let rs = rings_held c.args.rings.now in
+    let rs = rings_of_vecs c.args.rings.now in
     let q = (get_or c.args.rings.now c.args.i c.index-rings-i.result).1 in
     let row = row_is c.args.rows.now.marks.items c.args.rows.now.lists.items (placed_edges rs) c.row.result.now q (c.requires.rows_known flat) c.row.ensures in
     let found = c.in-Some.ensures rs c.requires.areas_known (row_tells rs c.args.rows.now.marks.items c.row.result.now q row) in
-    omega (arith, found.within, length-map c.args.rings.now ring_held)
+    omega (arith, found.within, length-map c.args.rings.now ring_of_vec)

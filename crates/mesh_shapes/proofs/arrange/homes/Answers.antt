@@ -4,7 +4,7 @@ use Rattle.std.proofs.lemmas.List.{length-map}
 use Rattle.mesh_rows.specs.Rows.{AreRows}
 use Rattle.mesh_shapes.specs.Contours.{double_area}
 use Rattle.mesh_shapes.specs.Resolution.{Ring}
-use Rattle.mesh_shapes.specs.Vectors.{ring_held, rings_held}
+use Rattle.mesh_shapes.specs.Vectors.{ring_of_vec, rings_of_vecs}
 use Rattle.mesh_shapes.specs.Midway.Grouping.{areas_of, IsHome}
 use Rattle.mesh_shapes.specs.Midway.Holders.{PlacedEdge}
 use Rattle.mesh_shapes.proofs.Shapes.{known_more}
@@ -12,11 +12,11 @@ use Rattle.mesh_shapes.proofs.arrange.homes.Goals as goal
 
 pub home-requires-clause-rows_known : goal.home-requires-clause-rows_known
 home-requires-clause-rows_known c = λ flat.
-    let rs = rings_held c.args.rings.now in
+    let rs = rings_of_vecs c.args.rings.now in
     let i = c.loop-i.i in
     let areas_are : length c.deref.result.now ≡ length (areas_of rs) = ap length (c.deref.ensures.value ∙ c.in_ok-areas.ensures) in
     let low : i < length c.deref.result.now =
-    omega (arith, areas_are, length-map rs (λ (r : Ring). double_area r.0), length-map c.args.rings.now ring_held, c.loop-i-test.true) in
+    omega (arith, areas_are, length-map rs (λ (r : Ring). double_area r.0), length-map c.args.rings.now ring_of_vec, c.loop-i-test.true) in
     let same : c.deref-in-loop-i.result.now ≡ c.deref.result.now = c.deref-in-loop-i.ensures.value ∙ sym c.deref.ensures.value in
     let hole = subst (λ (l : List ℤ). int_lt (pos 0) (get_or l i (pos 0)) ≡ false) same flat in
     subst (λ (es : List PlacedEdge). AreRows c.in_ok-rows.rows.marks.items c.in_ok-rows.rows.lists.items es)
@@ -24,7 +24,7 @@ home-requires-clause-rows_known c = λ flat.
 
 pub loop-i-preserved : goal.loop-i-preserved
 loop-i-preserved c =
-    let home : ℕ → ℕ → Type 0 = λ j n. IsHome (rings_held c.args.rings.now) j n in
+    let home : ℕ → ℕ → Type 0 = λ j n. IsHome (rings_of_vecs c.args.rings.now) j n in
     let place : ℕ → ℕ → Type 0 = λ j n. n < length c.args.rings.now in
     let homes = known_more home c.loop-i.i c.home.result c.loop-i.homes.items c.push.new.self.items c.loop-i.invariant.len c.loop-i.invariant.homes c.home.ensures.home c.in_ok-push.ensures.items in
     let within = known_more place c.loop-i.i c.home.result c.loop-i.homes.items c.push.new.self.items c.loop-i.invariant.len c.loop-i.invariant.within c.home.ensures.within c.in_ok-push.ensures.items in

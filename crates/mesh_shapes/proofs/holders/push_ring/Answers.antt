@@ -3,7 +3,7 @@ use Rattle.std.specs.Prelude.{pos, int_lt}
 use Rattle.std.proofs.lemmas.List.{length-map}
 use Rattle.mesh_plane.specs.Plane.{Point}
 use Rattle.mesh_plane.specs.Winding.{boundary}
-use Rattle.mesh_shapes.specs.Vectors.{ring_held}
+use Rattle.mesh_shapes.specs.Vectors.{ring_of_vec}
 use Rattle.mesh_shapes.specs.Midway.Holders.{PlacedEdge, with_place}
 use Rattle.mesh_shapes.proofs.HolderRows.{ring_added}
 use Rattle.mesh_shapes.proofs.holders.push_ring.Goals as goal
@@ -14,4 +14,4 @@ returns c =
     c.in_ok-push_edges.ensures
     ∙ ap (λ (es : List PlacedEdge). c.args.edges.now.items ++ es)
     (ap (λ (ps : List Point). with_place c.args.h (boundary ps)) c.deref.ensures.value
-    ∙ sym (ring_added c.args.rings.now c.args.areas.now c.args.h c.index-rings-h.result c.requires.areas_known (omega (arith, length-map c.args.rings.now ring_held, c.requires.in_range)) c.requires.in_range positive))
+    ∙ sym (ring_added c.args.rings.now c.args.areas.now c.args.h c.index-rings-h.result c.requires.areas_known (omega (arith, length-map c.args.rings.now ring_of_vec, c.requires.in_range)) c.requires.in_range positive))

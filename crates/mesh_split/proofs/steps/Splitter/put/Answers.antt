@@ -4,14 +4,14 @@ use Rattle.mesh_plane.proofs.Whole.{linear}
 use Rattle.mesh_split.proofs.Filing.{total_least, room_turned, puts_back}
 use Rattle.mesh_split.proofs.steps.Splitter.put.Goals as goal
 
-pub turned-requires : goal.turned-requires
-turned-requires c = omega (arith, linear, c.requires.room, total_least c.args.self.now.todo c.args.self.now.live)
+pub backwards-requires : goal.backwards-requires
+backwards-requires c = omega (arith, linear, c.requires.room, total_least c.args.self.now.todo c.args.self.now.live)
 
 pub file-requires-2-clause-room : goal.file-requires-2-clause-room
-file-requires-2-clause-room c = room_turned c.args.self.now.todo c.args.self.now.live c.args.s c.turned.result c.turned.ensures c.requires.room
+file-requires-2-clause-room c = room_turned c.args.self.now.todo c.args.self.now.live c.args.s c.backwards.result c.backwards.ensures c.requires.room
 
 pub returns : goal.returns
 returns c =
     on_ok_weaker c.file-2.result
-    (puts_back c.args.self.now.todo c.args.self.now.live c.file-2.new.self.todo c.file-2.new.self.live c.args.s c.turned.result c.turned.ensures)
+    (puts_back c.args.self.now.todo c.args.self.now.live c.file-2.new.self.todo c.file-2.new.self.live c.args.s c.backwards.result c.backwards.ensures)
     c.file-2.ensures

@@ -9,10 +9,10 @@ use Rattle.mesh_tangent.proofs.section.Section.covers_circle.Goals as goal
 
 pub returns-then-turn-ne0-clause-value : goal.returns-then-turn-ne0-clause-value
 returns-then-turn-ne0-clause-value g c =
-    let r : SFits w128 c.corner-turn.result = search rules in
-    let e = simp (to_z-of_z w128 c.corner-turn.result r) at c.is_inside.ensures in
-    covers_made _ c.args.self.now c.args.circle c.corner-turn.result c.is_inside.result c.self.view_is
-    c.corner-turn.ensures
+    let r : SFits w128 c.turn_at_second-turn.result = search rules in
+    let e = simp (to_z-of_z w128 c.turn_at_second-turn.result r) at c.is_inside.ensures in
+    covers_made _ c.args.self.now c.args.circle c.turn_at_second-turn.result c.is_inside.result c.self.view_is
+    c.turn_at_second-turn.ensures
     (λ h. c.if-turn-ne0.true (ap (of_z w128) h)) e
 
 pub returns-then-turn-ne0-clause-holds : goal.returns-then-turn-ne0-clause-holds
@@ -22,22 +22,22 @@ returns-then-turn-ne0-clause-holds g c =
 
 pub returns-else-turn-ne0-clause-value : goal.returns-else-turn-ne0-clause-value
 returns-else-turn-ne0-clause-value g c =
-    let r : SFits w128 c.corner-turn.result = search rules in
+    let r : SFits w128 c.turn_at_second-turn.result = search rules in
     rw c.if-turn-ne0.false
-    (covers_none _ c.args.self.now c.args.circle c.corner-turn.result c.self.view_is c.corner-turn.ensures
-    (sym (to_z-of_z w128 c.corner-turn.result r) ∙ ap (to_z w128) c.if-turn-ne0.false))
+    (covers_none _ c.args.self.now c.args.circle c.turn_at_second-turn.result c.self.view_is c.turn_at_second-turn.ensures
+    (sym (to_z-of_z w128 c.turn_at_second-turn.result r) ∙ ap (to_z w128) c.if-turn-ne0.false))
 
 pub returns-else-turn-ne0-clause-holds : goal.returns-else-turn-ne0-clause-holds
 returns-else-turn-ne0-clause-holds g c =
     λ h. covers_holds c.args.self.now c.args.circle c.requires.circle.nonneg
     (sym (returns-else-turn-ne0-clause-value g c) ∙ h)
 
-pub corner-turn-requires-clause-first : goal.corner-turn-requires-clause-first
-corner-turn-requires-clause-first g c =
+pub turn_at_second-turn-requires-clause-first : goal.turn_at_second-turn-requires-clause-first
+turn_at_second-turn-requires-clause-first g c =
     (subst (IsSafeSection g.I.IntNumber.unit) (sym c.self.view_is) c.requires.own).a_left
 
-pub corner-turn-requires-clause-third : goal.corner-turn-requires-clause-third
-corner-turn-requires-clause-third g c =
+pub turn_at_second-turn-requires-clause-third : goal.turn_at_second-turn-requires-clause-third
+turn_at_second-turn-requires-clause-third g c =
     (subst (IsSafeSection g.I.IntNumber.unit) (sym c.self.view_is) c.requires.own).b_right
 
 pub is_inside-requires-clause-circle : goal.is_inside-requires-clause-circle

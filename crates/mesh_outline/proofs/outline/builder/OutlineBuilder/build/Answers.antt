@@ -7,7 +7,7 @@ use Rattle.mesh_draw.proofs.Adding.{added_is}
 use Rattle.mesh_outline.proofs.BuilderRoom.{room_of_four}
 use Rattle.mesh_join.specs.Joins.{HasFew}
 use Rattle.mesh_join.specs.Styles.{OffsetJoin}
-use Rattle.mesh_draw.specs.Adding.{Adds}
+use Rattle.mesh_draw.specs.Midway.{Adds}
 use Rattle.mesh_outline.specs.Outline.{outline_edges}
 use Rattle.mesh_outline.proofs.BuilderTheorems.{adds_few, adds_promised, adds_safe}
 use Rattle.mesh_outline.proofs.Promised.{has_promised_edges}

@@ -4,7 +4,7 @@ use Rattle.std.specs.Prelude.{vec_capacity}
 use Rattle.std.specs.List.{All}
 use Rattle.mesh_num.specs.Segments.{SignedEdge, IsSubject}
 use Rattle.mesh_join.specs.Joins.{HasFew}
-use Rattle.mesh_draw.specs.Adding.{Adds}
+use Rattle.mesh_draw.specs.Midway.{Adds}
 use Rattle.mesh_draw.proofs.Adding.{added_is}
 use Rattle.mesh_stroke.specs.Building.{HasDirectCaps}
 use Rattle.mesh_stroke.specs.Strokes.{stroke_edges}

@@ -4,7 +4,7 @@ use Rattle.std.proofs.lemmas.Int.{to_z-of_z}
 use mir.Syntax.{w128}
 use Rattle.mesh_plane.specs.Plane.{cross}
 use Rattle.mesh_grid.proofs.Moving.{safe_difference}
-use Rattle.mesh_tangent.proofs.cover.corner.Goals as goal
+use Rattle.mesh_tangent.proofs.cover.turn_at_second.Goals as goal
 
 pub cross_product-turn-requires-clause-own : goal.cross_product-turn-requires-clause-own
 cross_product-turn-requires-clause-own g c =

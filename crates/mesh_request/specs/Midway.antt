@@ -1,0 +1,8 @@
+-- What is known of a style before its caps are read: only private contracts read this.
+use Rattle.std.specs.Prelude.{ℤ}
+use Rattle.mesh_join.specs.Styles.{JoinStyle}
+use Rattle.mesh_join.specs.declared.style.IntStrokeStyle.{IntStrokeStyle}
+
+-- the width and the joins of a stroke
+abbrev pub uncapped_of : {C W U : Type 0} → (C → ℤ) → IntStrokeStyle C W U → ℤ × JoinStyle
+uncapped_of value style = (value style.width, record { kind = style.join; min_turn = style.miter_min_turn })
