@@ -8,11 +8,6 @@ use Rattle.mesh_plane.specs.Winding.{route}
 use Rattle.mesh_num.specs.Segments.{SignedEdge, segments_of}
 use Rattle.mesh_num.proofs.SegmentLists.{segments_of-append}
 
--- a route has an edge for each point between its ends, and one more
-pub route_length : {A : Type 0} (a : A) (xs : List A) (z : A) → length (route a xs z) ≡ length xs + 1
-route_length a [] z = omega arith
-route_length a (x ∷ xs) z = omega (arith, route_length x xs z)
-
 -- ---- what stands after two steps
 
 pub appends_both : (old now then : List SignedEdge) (es gs : List Edge) → now ≡ old ++ segments_of es

@@ -9,6 +9,10 @@ use borrow.Author.Differences.{up, down, sum_is_lem, neg_is, product_is, same_ou
 -- linear facts on whole numbers, each product one unknown
 pub ruleset linear = (same_out, same_in, lt_out, le_out, below_in, at_most_in, sum_is_lem, neg_is)
 
+-- two numbers stand in the one order or in the other
+pub either_order : (a b : ℤ) → (a ≤ℤ b) ⊎ (b ≤ℤ a)
+either_order a b = grind (arith, ints)
+
 -- ---- products of sums, of opposites and of products
 
 pub mul_add : (a b c : ℤ) → a *ℤ (b +ℤ c) ≡ (a *ℤ b) +ℤ (a *ℤ c)

@@ -285,10 +285,6 @@ next_step es used first at best (Some b) k low starts was (inl h) =
 next_step es used first at best (Some b) k low starts was (inr h) =
     subst (λ (o : Option ℕ). MatchOption o ((j : ℕ) → j < k → IsNext es used first at j → ⊥) (IsNext es used first at)) h was
 
-pub match_none : {P R : Type 0} (Q : ℕ → Type 0) (o : Option ℕ) → (P → R) → MatchOption o P Q → MatchOption o R Q
-match_none Q None f h = f h
-match_none Q (Some b) f h = h
-
 -- ---- a walk under way
 -- from the edge `first` the walk has come to `at`: its points so far, and the marks before it and now
 pub record IsWalk (es : List Edge) (was now : List Bool) (first : ℕ) (points : List Point) (at : Point) : Type 0 where

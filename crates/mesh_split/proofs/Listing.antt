@@ -1,6 +1,6 @@
 -- Lemmas over segments that parts of the plane list.
 use Rattle.std.proofs.Common.{◌≡◌, ◌⊎◌, ⊎_elim, Bool, true, false, cond, filter, ℕ, zero, suc, ◌+◌, ◌<◌, ◌≤◌, sym, ◌∙◌, ap, subst, refl, arith, List, [], ◌∷◌, ◌++◌, length, length-append, get_or, below_more}
-use Rattle.std.specs.Prelude.{ℤ, pos, ◌<ℤ◌, Option, Some, None, MatchOption}
+use Rattle.std.specs.Prelude.{ℤ, pos, ◌<ℤ◌}
 use Rattle.std.proofs.Math.ListN.{get_or-append}
 use Rattle.std.proofs.Math.Seq.{get_or-append_seam}
 use Rattle.std.proofs.lemmas.List.{get_or_default}
@@ -116,11 +116,6 @@ fork_lists cut low high e l h c reach = at_place (λ (b : Bool). StandsIn e (con
 pub fork_is_clear : (cut : Cut) (low high : Cell → List Edge) (s : Edge) (live : List Counted) → (reaches cut s true ≡ true → (c : Cell) → IsAt s c → IsCellClear s (low c) live)
     → (reaches cut s false ≡ true → (c : Cell) → IsAt s c → IsCellClear s (high c) live) → (c : Cell) → IsAt s c → IsCellClear s (cond (c cut) (low c) (high c)) live
 fork_is_clear cut low high s live l h c reach = at_place (λ (b : Bool). IsCellClear s (cond b (low c) (high c)) live) cut s c reach (λ t. l t c reach) (λ t. h t c reach)
-
--- an answer of nothing that says more
-pub nothing_more : {A : Type 0} (o : Option A) (P Q : Type 0) (R : A → Type 0) → (P → Q) → MatchOption o P R → MatchOption o Q R
-nothing_more None P Q R f h = f h
-nothing_more (Some x) P Q R f h = h
 
 -- ---- what lives, and where it is listed
 

@@ -1,6 +1,7 @@
 use Rattle.std.proofs.Common.{sym, ◌∙◌, length}
 use Rattle.std.proofs.lemmas.Bool.{eqb-true}
-use Rattle.mesh_below.proofs.GridContours.{adds_one, adds_empty, some_points}
+use Rattle.mesh_shapes.proofs.AreaSums.{some_points}
+use Rattle.mesh_below.proofs.GridContours.{adds_one, adds_empty}
 use Rattle.mesh_below.proofs.answer.push_contour.Goals as goal
 
 pub returns-then-is_empty : goal.returns-then-is_empty
