@@ -143,6 +143,13 @@ factor a b e =
     (λ l. inr (omega (arith, linear)))))
     (λ p. inl (omega (arith, linear))))
 
+pub square_zero : (a : ℤ) → (a *ℤ a) ≤ℤ pos 0 → a ≡ pos 0
+square_zero a h = by (factor a a (omega (arith, linear, h, square_nonneg a)))
+  where
+    by : (a ≡ pos 0) ⊎ (a ≡ pos 0) → a ≡ pos 0
+    by (inl e) = e
+    by (inr e) = e
+
 -- ---- a factor that is not negative keeps the order, and one above 0 can be cancelled
 
 pub mul_le_mul_left : (c a b : ℤ) → pos 0 ≤ℤ c → a ≤ℤ b → (c *ℤ a) ≤ℤ (c *ℤ b)

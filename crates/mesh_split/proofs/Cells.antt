@@ -3,7 +3,7 @@ use Rattle.std.proofs.Common.{◌≡◌, ℕ, ◌⊎◌, ⊎_elim, Bool, true, f
 use Rattle.std.specs.Prelude.{ℤ, pos, ◌+ℤ◌, ◌-ℤ◌, ◌*ℤ◌, ◌≤ℤ◌, ◌<ℤ◌, neg_ℤ, ◌||◌, not, int_lt}
 use Rattle.std.proofs.lemmas.Int.{ints}
 use Rattle.mesh_plane.specs.Plane.{Point, Edge, turn}
-use Rattle.mesh_plane.proofs.Whole.{linear, square_nonneg, mul_nonneg, mul_nonpos, nonneg_of_mul, factor, zero_mul, either_order}
+use Rattle.mesh_plane.proofs.Whole.{linear, square_nonneg, mul_nonneg, mul_nonpos, nonneg_of_mul, zero_mul, either_order, square_zero}
 use Rattle.mesh_plane.proofs.Ring.{ring, var, neg, ◌⊕◌, ◌⊖◌, ◌⊗◌}
 use Rattle.mesh_plane.proofs.PointExprs.{point_var, coordinates, turned}
 use Rattle.mesh_cuts.specs.Split.{IsBetween, IsInside, IsCrossing, crossing_at, rounded_quotient, Meets, at_start_of_second, at_end_of_second, at_start_of_first, at_end_of_first, at_crossing}
@@ -52,10 +52,6 @@ share_between a z b d s h l m e =
     }
 
 -- ---- heights of points inside a segment
-
-square_zero : (a : ℤ) → (a *ℤ a) ≤ℤ pos 0 → a ≡ pos 0
-square_zero a h =
-    ⊎_elim (λ (e : a ≡ pos 0). e) (λ (e : a ≡ pos 0). e) (factor a a (omega (arith, linear, h, square_nonneg a)))
 
 same_between : (a z b : ℤ) → b -ℤ a ≡ pos 0 → IsBetween a z b → z ≡ a
 same_between a z b e h = let k = h.up (omega (arith, linear, e)) in omega (arith, linear, e, k.0, k.1)

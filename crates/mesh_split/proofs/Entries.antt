@@ -55,6 +55,9 @@ one_forward e f h k t =
 
 -- ---- the entry of a key
 
+pub some_none : {m : ℤ} → Some m ≡ None → ⊥
+some_none h = cc
+
 abbrev found : Edge → List Counted → Option ℤ
 found k es = lookup (edge_eq k) es
 
@@ -115,9 +118,6 @@ absent k (e ∷ es) f all h =
     (cases_Bool (same_ends k e.0)) in
     omega (arith, linear, ap bit other, absent k es f (All-tail IsForward e.0 (keys_of es) all) (ap (λ (b : Bool). cond b (Some e.1) (found k es)) (sym n) ∙ h)))
     (cases_Bool (edge_eq k e.0))
-  where
-    some_none : {m : ℤ} → Some m ≡ None → ⊥
-    some_none h = cc
 
 -- ---- an insert
 
@@ -277,9 +277,6 @@ first_found k ks (e ∷ es) h n =
     let same : e.0 ≡ k = cc in
     let equal : edge_eq k e.0 ≡ true = ap (edge_eq k) same ∙ equal_self k in
     some_none (sym (ap (λ (b : Bool). cond b (Some e.1) (found k es)) equal) ∙ n)
-  where
-    some_none : {m : ℤ} → Some m ≡ None → ⊥
-    some_none h = cc
 
 pub some_taken : (k : Edge) (was es left : List Counted) (o : Option Counted) → es ≡ was → (found k es ≡ None → ⊥) → IsPermutation (remove_entry (edge_eq k) es) left
     → IfSome o (λ s. edge_eq k s.0 ≡ true) → option_map (λ (s : Counted). s.1) o ≡ found k es → MatchOption o ((was ≡ []) × (left ≡ [])) (λ s. IsTaken was left s)

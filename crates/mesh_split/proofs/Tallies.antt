@@ -11,7 +11,7 @@ use Rattle.mesh_cuts.specs.Split.{same_edge}
 use Rattle.mesh_cuts.specs.Counted.{Counted, bit, times}
 use Rattle.mesh_cuts.proofs.Ends.{decides_edge}
 use Rattle.mesh_split.specs.Midway.Steps.{exactly, IsPut}
-use Rattle.mesh_split.proofs.Entries.{edge_eq, equal_self, found_stands, insert_put}
+use Rattle.mesh_split.proofs.Entries.{edge_eq, equal_self, found_stands, insert_put, some_none}
 use Rattle.mesh_split.proofs.Filing.{positive_times}
 
 -- ends that are not found do not stand
@@ -31,9 +31,6 @@ exactly_none k (e ∷ es) h =
     (cases_Bool (same_edge k e.0)) in
     omega (arith, linear, ap bit other, exactly_none k es (ap (λ (b : Bool). cond b (Some e.1) (lookup (edge_eq k) es)) (sym n) ∙ h)))
     (cases_Bool (edge_eq k e.0))
-  where
-    some_none : {m : ℤ} → Some m ≡ None → ⊥
-    some_none h = cc
 
 not_found : (k : Edge) (es : List Counted) → times k es ≡ pos 0 → (o : Option ℤ) → lookup (edge_eq k) es ≡ o → lookup (edge_eq k) es ≡ None
 not_found k es none (Some m) h = absurd (omega (arith, ints, none, positive_times k es (found_stands k m es h)))
