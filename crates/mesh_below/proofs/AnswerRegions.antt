@@ -41,6 +41,30 @@ vertices_wind all m q (c ∷ cs) h =
 
 -- ---- answers
 
+-- the edges as they are cut are split
+pub resolved_split : (edges : List Edge) (fill : ℤ → Bool) (options : Choices) (answer : List (List (List Point))) →
+    IsProper edges → IsBalanced edges → (r : IsResolution edges fill options answer) → AreSplit (after r.cuts edges)
+resolved_split edges fill options answer proper balanced r = record {
+  balanced = after_balanced r.cuts edges balanced;
+  clean = r.clean;
+  proper = after_proper r.cuts (legal_sound edges r.cuts r.legal) edges proper;
+}
+
+-- the edges of the contours have different ends
+pub resolved_proper : (edges : List Edge) (fill : ℤ → Bool) (options : Choices) (answer : List (List (List Point))) →
+    IsProper edges → IsBalanced edges → (r : IsResolution edges fill options answer) → Each ProperEnds (flat_map boundary r.contours)
+resolved_proper edges fill options answer proper balanced r =
+    each_of ProperEnds bounds (λ (e : Edge) (o : occurs e bounds ≡ true). proper_of es split.proper e (boundary_cover es bounds fill r.bounded e o))
+  where
+    es : List Edge
+    es = after r.cuts edges
+
+    bounds : List Edge
+    bounds = flat_map boundary r.contours
+
+    split : AreSplit es
+    split = resolved_split edges fill options answer proper balanced r
+
 pub regions_of : (edges : List Edge) (fill : ℤ → Bool) (options : Choices) (answer : List (List (List Point))) →
     IsProper edges → IsBalanced edges → fill (pos 0) ≡ false → IsResolution edges fill options answer → AreRegions edges fill options answer
 regions_of edges fill options answer proper balanced empty r = record {
@@ -56,17 +80,13 @@ regions_of edges fill options answer proper balanced empty r = record {
     es = after r.cuts edges
 
     split : AreSplit es
-    split = record {
-      balanced = after_balanced r.cuts edges balanced;
-      clean = r.clean;
-      proper = after_proper r.cuts (legal_sound edges r.cuts r.legal) edges proper;
-    }
+    split = resolved_split edges fill options answer proper balanced r
 
     bounds : List Edge
     bounds = flat_map boundary r.contours
 
     sound : Each ProperEnds bounds
-    sound = each_of ProperEnds bounds (λ (e : Edge) (o : occurs e bounds ≡ true). proper_of es split.proper e (boundary_cover es bounds fill r.bounded e o))
+    sound = resolved_proper edges fill options answer proper balanced r
 
     unbent : (m : ℕ) → 0 < m → (q : Point) → OutsideBent r.cuts edges m q → winding m q es ≡ winding m q edges
     unbent m some q out = after_winds r.cuts edges (pos m) q (legal_boxed edges r.cuts r.legal) (omega (arith, ints)) (proper_of edges proper) out
