@@ -10,6 +10,7 @@ use Rattle.mesh_plane.specs.Plane.{Edge}
 use Rattle.mesh_plane.proofs.Whole.{linear}
 use Rattle.mesh_cuts.specs.Counted.{Counted, bit}
 use Rattle.mesh_cuts.specs.Split.{same_edge, AreClear}
+use Rattle.mesh_cuts.proofs.Arithmetic.{below_or_last}
 use Rattle.mesh_cuts.proofs.Counts.{bit_least}
 use Rattle.mesh_cuts.proofs.Ends.{decides_edge}
 use Rattle.mesh_split.specs.declared.tree.Cut.{Cut}
@@ -45,11 +46,8 @@ kept_pushed P from left i d₀ before = record {
       (λ (l : k ≡ i).
       let here : get_or from i d₀ ≡ x = ap (λ (j : ℕ). get_or from j d₀) (sym l) ∙ same d₀ in
       subst (λ (y : Edge). StandsIn x (left ++ y ∷ [])) (sym here) (listed_last x left))
-      (below_or_last k i h);
+      (below_or_last k i (omega (arith, h)));
 }
-  where
-    below_or_last : (a b : ℕ) → a < b + 1 → (a < b) ⊎ (a ≡ b)
-    below_or_last a b h = grind arith
 
 -- one more, which has not the property
 pub kept_left_out : (P : Edge → Type 0) (from left : List Edge) (i : ℕ) (d₀ : Edge) → (P (get_or from i d₀) → ⊥) → AreKept P from left i → AreKept P from left (i + 1)
@@ -60,11 +58,8 @@ kept_left_out P from left i d₀ lacks before = record {
       (λ (l : k ≡ i).
       let here : get_or from i d₀ ≡ x = ap (λ (j : ℕ). get_or from j d₀) (sym l) ∙ same d₀ in
       absurd (lacks (subst P (sym here) p)))
-      (below_or_last k i h);
+      (below_or_last k i (omega (arith, h)));
 }
-  where
-    below_or_last : (a b : ℕ) → a < b + 1 → (a < b) ⊎ (a ≡ b)
-    below_or_last a b h = grind arith
 
 pub kept_all : (P : Edge → Type 0) (from left : List Edge) (n : ℕ) → length from ≤ n → AreKept P from left n → KeepsThose P from left
 kept_all P from left n all a x p l = a.kept l.at (omega (arith, l.within)) x l.same p

@@ -5,13 +5,14 @@ use Rattle.std.specs.List.Sorted.{IsPermutation}
 use Rattle.std.specs.Map.{lookup}
 use Rattle.std.proofs.lemmas.Bool.{both_ways, cases_Bool}
 use Rattle.std.proofs.lemmas.Int.{ints}
+use Rattle.std.proofs.lemmas.Option.{none-some}
 use Rattle.mesh_plane.specs.Plane.{Edge}
 use Rattle.mesh_plane.proofs.Whole.{linear}
 use Rattle.mesh_cuts.specs.Split.{same_edge}
 use Rattle.mesh_cuts.specs.Counted.{Counted, bit, times}
 use Rattle.mesh_cuts.proofs.Ends.{decides_edge}
 use Rattle.mesh_split.specs.Midway.Steps.{exactly, IsPut}
-use Rattle.mesh_split.proofs.Entries.{edge_eq, equal_self, found_stands, insert_put, some_none}
+use Rattle.mesh_split.proofs.Entries.{edge_eq, equal_self, found_stands, insert_put}
 use Rattle.mesh_split.proofs.Filing.{positive_times}
 
 -- ends that are not found do not stand
@@ -21,7 +22,7 @@ exactly_none k (e ∷ es) h =
     ⊎_elim
     (λ (t : edge_eq k e.0 ≡ true).
     let value : Some e.1 ≡ None = ap (λ (b : Bool). cond b (Some e.1) (lookup (edge_eq k) es)) (sym t) ∙ h in
-    absurd (some_none value))
+    absurd (none-some e.1 (sym value)))
     (λ (n : edge_eq k e.0 ≡ false).
     let other : same_edge k e.0 ≡ false =
     ⊎_elim
