@@ -32,7 +32,7 @@ boundary_ends h g [] = refl
 boundary_ends h g (x ∷ xs) = omega (arith, linear, route_ends h g x xs x)
 
 -- the steps along a route add up to the one between its ends
-route_steps : {A : Type 0} (f : A → ℤ) (a : A) (xs : List A) (z : A) → sum_of (λ (e : A × A). f e.1 -ℤ f e.0) (route a xs z) ≡ f z -ℤ f a
+pub route_steps : {A : Type 0} (f : A → ℤ) (a : A) (xs : List A) (z : A) → sum_of (λ (e : A × A). f e.1 -ℤ f e.0) (route a xs z) ≡ f z -ℤ f a
 route_steps f a [] z = omega (arith, linear)
 route_steps f a (x ∷ xs) z = omega (arith, linear, route_steps f x xs z)
 

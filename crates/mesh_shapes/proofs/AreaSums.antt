@@ -95,9 +95,10 @@ closed_end f m ps i before a b s d low term = omega (arith, linear, d.same, s.va
 pub total_below : (m i : ℕ) (z : ℤ) → unsigned_abs z ≤ m * i → m ≤ 2 ^ 63 → i < 2 ^ 64 → unsigned_abs z < 2 ^ 127
 total_below m i z h mm l = omega (arith, times_below m i mm l)
 
-pub some_points : (ps : List Point) → (length ps == 0) ≡ false → 0 < length ps
-some_points [] h = absurd (true≢false h)
-some_points (p ∷ ps) h = omega arith
+-- a list that is not empty
+pub some_elements : {A : Type 0} (xs : List A) → (length xs == 0) ≡ false → 0 < length xs
+some_elements [] h = absurd (true≢false h)
+some_elements (x ∷ xs) h = omega arith
 
 pub one_size : (z : ℤ) → IsSmall 2 z → unsigned_abs z ≤ 1
 one_size z h = omega (arith, ints, h.low, h.high)

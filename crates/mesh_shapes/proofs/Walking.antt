@@ -15,7 +15,7 @@ use Rattle.mesh_plane.specs.Winding.{sum_of, total, route, boundary, same_point,
 use Rattle.mesh_plane.proofs.Whole.{linear}
 use Rattle.mesh_plane.proofs.Sums.{sum_of_append, sum_of_flat_map}
 use Rattle.mesh_plane.proofs.ClosedLists.{route_append}
-use Rattle.mesh_plane.proofs.Balance.{growth, growth_round, growth_of_balanced, balanced_by_growth}
+use Rattle.mesh_plane.proofs.Balance.{growth, growth_round, growth_of_balanced, balanced_by_growth, route_growth}
 use Rattle.mesh_cuts.specs.Split.{same_edge}
 use Rattle.mesh_cuts.specs.Boundary.{count}
 use Rattle.mesh_cuts.specs.Counted.{bit}
@@ -192,9 +192,6 @@ unused_length (e ∷ es) (b ∷ bs) (suc k) low h = by b (unused_length es bs k 
     by false f = omega arith
 
 -- ---- balance along a walk
-route_growth : (g : Point → ℤ) (a : Point) (xs : List Point) (z : Point) → total (growth g) (route a xs z) ≡ g z -ℤ g a
-route_growth g a [] z = omega (arith, linear)
-route_growth g a (x ∷ xs) z = omega (arith, linear, route_growth g x xs z)
 
 -- one more step of a walk
 pub route_more : (g : Edge → ℤ) (a : Point) (xs : List Point) (y z : Point) → sum_of g (route a (xs ++ y ∷ []) z) ≡ sum_of g (route a xs y) +ℤ g (y, z)
