@@ -1,5 +1,5 @@
 -- Lemmas over points: what lies beside the box of a segment does not meet it.
-use Rattle.std.proofs.Common.{◌≡◌, ◌⊎◌, ⊎_elim, Bool, true, false, ◌∙◌, sym, ap, refl, arith}
+use Rattle.std.proofs.Common.{◌≡◌, ⊎_elim, Bool, true, false, ◌∙◌, sym, ap, refl, arith}
 use Rattle.std.specs.Prelude.{◌&&◌, ◌||◌, ℤ, ◌≤ℤ◌, int_lt}
 use Rattle.std.proofs.lemmas.Int.{ints}
 use Rattle.std.proofs.lemmas.Bool.{true≢false}

@@ -1,5 +1,5 @@
 -- Lemmas over points and lists: circles and arcs stay within the radius of their center.
-use Rattle.std.proofs.Common.{◌≡◌, ◌≢◌, ℕ, ◌<◌, ◌≤◌, false, List, [], ◌++◌, arith}
+use Rattle.std.proofs.Common.{◌≡◌, ◌≢◌, ℕ, ◌<◌, false, List, [], ◌++◌, arith}
 use Rattle.std.specs.Prelude.{ℤ, pos, ◌≤ℤ◌, ◌<ℤ◌, unsigned_abs, int_le, if◌then◌else◌}
 use Rattle.std.specs.List.{All}
 use Rattle.std.proofs.lemmas.Bool.{cond_both}
