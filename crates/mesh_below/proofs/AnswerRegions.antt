@@ -52,9 +52,11 @@ resolved_split edges fill options answer proper balanced r = record {
 
 -- the edges of the contours have different ends
 pub resolved_proper : (edges : List Edge) (fill : ℤ → Bool) (options : Choices) (answer : List (List (List Point))) →
-    IsProper edges → IsBalanced edges → (r : IsResolution edges fill options answer) → Each ProperEnds (flat_map boundary r.contours)
+    IsProper edges → IsBalanced edges → (r : IsResolution edges fill options answer) →
+    Each ProperEnds (flat_map boundary r.contours)
 resolved_proper edges fill options answer proper balanced r =
-    each_of ProperEnds bounds (λ (e : Edge) (o : occurs e bounds ≡ true). proper_of es split.proper e (boundary_cover es bounds fill r.bounded e o))
+    each_of ProperEnds bounds
+    (λ (e : Edge) (o : occurs e bounds ≡ true). proper_of es split.proper e (boundary_cover es bounds fill r.bounded e o))
   where
     es : List Edge
     es = after r.cuts edges

@@ -131,13 +131,15 @@ module _ (Free : Point → Type 0) where
       (merged_same ((boundary c ++ others) ++ rest) (boundary c ++ (others ++ rest))
       (λ (g : Edge → ℤ).
       omega (arith, linear, sum_of_append g (boundary c ++ others) rest, sum_of_append g (boundary c) others, sum_of_append g (boundary c) (others ++ rest), sum_of_append g others rest)) m)
-      (each_left ProperEnds (boundary c) others proper) (All-head (λ (d : List Point). All Free (left_out all d)) c cs free) in
+      (each_left ProperEnds (boundary c) others proper)
+      (All-head (λ (d : List Point). All Free (left_out all d)) c cs free) in
       let second : Merged (flat_map boundary (map (vertices all) cs) ++ (own ++ rest)) =
       contours_merged all cs (own ++ rest)
       (merged_same (own ++ (others ++ rest)) (others ++ (own ++ rest))
       (λ (g : Edge → ℤ).
       omega (arith, linear, sum_of_append g own (others ++ rest), sum_of_append g others rest, sum_of_append g others (own ++ rest), sum_of_append g own rest)) first)
-      (each_right ProperEnds (boundary c) others proper) (All-tail (λ (d : List Point). All Free (left_out all d)) c cs free) in
+      (each_right ProperEnds (boundary c) others proper)
+      (All-tail (λ (d : List Point). All Free (left_out all d)) c cs free) in
       merged_same (flat_map boundary (map (vertices all) cs) ++ (own ++ rest)) ((own ++ flat_map boundary (map (vertices all) cs)) ++ rest)
       (λ (g : Edge → ℤ).
       omega (

@@ -35,7 +35,8 @@ module _ (unit : ℕ) (style : OffsetJoin) (points : List Point) (least : 2 ^ 14
       drawn_safe unit (offset_padding style) style.offset points (outline_pieces unit style points) (added_edges old new) (adds_promised old new h) movable
 
   -- where joins of the style's kind have few edges, so has the outline
-  pub outline_few : IsTrue (has_few style.join.kind) → length (outline_edges unit style points) ≤ 4 * length (cleaned_sections points)
+  pub outline_few : IsTrue (has_few style.join.kind) →
+      length (outline_edges unit style points) ≤ 4 * length (cleaned_sections points)
   outline_few few =
       omega (
         arith,

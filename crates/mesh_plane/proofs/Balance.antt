@@ -21,7 +21,8 @@ growth g p r = g r -ℤ g p
 pub growth_odd : (g : Point → ℤ) → IsOdd (growth g)
 growth_odd g p r = omega (arith, linear)
 
-pub route_growth : (g : Point → ℤ) (a : Point) (xs : List Point) (z : Point) → total (growth g) (route a xs z) ≡ g z -ℤ g a
+pub route_growth : (g : Point → ℤ) (a : Point) (xs : List Point) (z : Point) →
+    total (growth g) (route a xs z) ≡ g z -ℤ g a
 route_growth g a xs z = route_steps g a xs z
 
 pub growth_round : (g : Point → ℤ) (xs : List Point) → total (growth g) (boundary xs) ≡ pos 0

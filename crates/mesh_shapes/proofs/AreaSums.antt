@@ -34,7 +34,8 @@ pub route_place : (f : Point → Point → ℤ) (before z : Point) (ps : List Po
 route_place f before z ps i h = ap (λ (l : List Point). total f (route before l z)) (at_place ps i h)
 
 pub route_last : (f : Point → Point → ℤ) (before z : Point) (ps : List Point) (n : ℕ) → length ps ≤ n → total f (route before (drop n ps) z) ≡ f before z
-route_last f before z ps n h = ap (λ (l : List Point). total f (route before l z)) (drop_all n ps h) ∙ omega (arith, linear)
+route_last f before z ps n h =
+    ap (λ (l : List Point). total f (route before l z)) (drop_all n ps h) ∙ omega (arith, linear)
 
 -- ---- the loop along a closed list
 -- the sum so far, before the place `i`, and what is still to come make the sum over the boundary

@@ -282,11 +282,13 @@ bits_proper : (es : List Edge) → sum_of ends_bit es ≡ pos 0 → Each ProperE
 bits_proper [] h = tt
 bits_proper (e ∷ es) h = by (same_point e.0 e.1) refl (bits_proper es)
   where
-    by : (b : Bool) → same_point e.0 e.1 ≡ b → (sum_of ends_bit es ≡ pos 0 → Each ProperEnds es) → Each ProperEnds (e ∷ es)
+    by : (b : Bool) → same_point e.0 e.1 ≡ b → (sum_of ends_bit es ≡ pos 0 → Each ProperEnds es) →
+        Each ProperEnds (e ∷ es)
     by true t f = absurd (omega (arith, ints, ap bit t, bits_least es))
     by false t f = ((λ (x : e.0 ≡ e.1). both_ways (same_point e.0 e.1) t ((decides_point e.0 e.1).1 x)), f (omega (arith, linear, ap bit t)))
 
-pub proper_rotated : (xs ys : List Point) → Each ProperEnds (boundary (xs ++ ys)) → Each ProperEnds (boundary (ys ++ xs))
+pub proper_rotated : (xs ys : List Point) → Each ProperEnds (boundary (xs ++ ys)) →
+    Each ProperEnds (boundary (ys ++ xs))
 proper_rotated xs ys h = bits_proper (boundary (ys ++ xs)) (sym (boundary_rotated ends_bit xs ys) ∙ proper_bits (boundary (xs ++ ys)) h)
 
 pub proper_all : (es : List Edge) → All (λ (e : Edge). same_point e.0 e.1 ≡ false) es → Each ProperEnds es
@@ -311,9 +313,11 @@ best_begun all p xs (suc i) hx proper best =
     let r = comes_by xs i p (omega (arith, best.within)) best.visit in
     let whole = subst (λ (l : List Point). Each ProperEnds (boundary l)) r.list_is proper in
     let turned = proper_rotated (p ∷ r.before) (p ∷ r.after) whole in
-    let least : NoneLess p (r.before ++ p ∷ r.after) = subst (λ (l : List Point). NoneLess p (drop 1 l)) r.list_is (drop_one xs hx) in
+    let least : NoneLess p (r.before ++ p ∷ r.after) =
+    subst (λ (l : List Point). NoneLess p (drop 1 l)) r.list_is (drop_one xs hx) in
     let ahead : NoneLess p r.before = each_left (λ (q : Point). point_lt q p ≡ false) r.before (p ∷ r.after) least in
-    let behind : NoneLess p (p ∷ r.after) = each_right (λ (q : Point). point_lt q p ≡ false) r.before (p ∷ r.after) least in
+    let behind : NoneLess p (p ∷ r.after) =
+    each_right (λ (q : Point). point_lt q p ≡ false) r.before (p ∷ r.after) least in
     let next : next_at all (p ∷ xs) (suc i) ≡ next_kept all p r.after p = λ j. next_kept all (best.visit j) (r.rest_is j) p in
     let places : (k : ℕ) → k < length (p ∷ xs) → point_at (p ∷ xs) k ≡ p → point_lt (next_kept all (point_at (p ∷ xs) k) (drop (k + 1) (p ∷ xs)) p) (next_kept all p r.after p) ≡ false =
     λ (k : ℕ) (l : k < length (p ∷ xs)) (e : point_at (p ∷ xs) k ≡ p). subst (λ (q : Point). point_lt (next_at all (p ∷ xs) k) q ≡ false) next (best.least k l e) in

@@ -31,7 +31,8 @@ module _ (f : Point → Point → ℤ) (straight : IsStraight f) where
   onward_sum k a n (inl e) = ap (λ (p : Point). f p a +ℤ f a n) e ∙ (omega (arith, linear, straight_none f straight a) ∙ ap (λ (p : Point). f p n) (sym e))
   onward_sum k a n (inr e) = straight k a n e
 
-  corner_sum : (k a : Point) (xs : List Point) (z : Point) → Each ProperEnds (route a xs z) → Onward k a (first_or z xs) →
+  corner_sum : (k a : Point) (xs : List Point) (z : Point) → Each ProperEnds (route a xs z) →
+      Onward k a (first_or z xs) →
       f k a +ℤ total f (route a xs z) ≡ total f (route k (turning_points a xs z) z)
   corner_sum k a [] z proper on = omega (arith, linear, onward_sum k a z on)
   corner_sum k a (x ∷ xs) z proper on =
@@ -41,7 +42,8 @@ module _ (f : Point → Point → ℤ) (straight : IsStraight f) where
           (Each ProperEnds (route x xs z) → Onward x x (first_or z xs) → f x x +ℤ total f (route x xs z) ≡ total f (route x (turning_points x xs z) z)) →
           (Each ProperEnds (route x xs z) → Onward k x (first_or z xs) → f k x +ℤ total f (route x xs z) ≡ total f (route k (turning_points x xs z) z)) →
           f k a +ℤ (f a x +ℤ total f (route x xs z)) ≡ total f (route k (cond b (x ∷ turning_points x xs z) (turning_points x xs z)) z)
-      by true h own further = omega (arith, linear, onward_sum k a x on, own proper.1 (inl refl), straight_none f straight x)
+      by true h own further =
+          omega (arith, linear, onward_sum k a x on, own proper.1 (inl refl), straight_none f straight x)
       by false h own further =
           let next : turn k x (first_or z xs) ≡ pos 0 = onward_step k a x (first_or z xs) proper.0 on (straight_turn a x (first_or z xs) h) in
           omega (arith, linear, onward_sum k a x on, further proper.1 (inr next))
