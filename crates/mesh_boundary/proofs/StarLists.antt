@@ -139,7 +139,8 @@ off_place at v p h =
     ⊎_elim (λ (t : same_point v p ≡ true). absurd (both_ways (nat_eq (at v) (at p)) h (same_test (at v) (at p) (ap at ((decides_point v p).0 t))))) (λ (f : same_point v p ≡ false). f)
     (cases_Bool (same_point v p))
 
-off_star : (at : Point → ℕ) (s : Edge) (k : Counted) → touches at (at s.0) k ≡ false → k.1 *ℤ edge_net_before s k.0 ≡ pos 0
+off_star : (at : Point → ℕ) (s : Edge) (k : Counted) → touches at (at s.0) k ≡ false →
+    k.1 *ℤ edge_net_before s k.0 ≡ pos 0
 off_star at s k h =
     let apart = or_parts (nat_eq (at s.0) (at k.0.0)) (nat_eq (at s.0) (at k.0.1)) h in
     (λ i. k.1 *ℤ (bit (off_place at s.0 k.0.0 apart.0 i && comes_before k.0 s) -ℤ bit (off_place at s.0 k.0.1 apart.1 i && comes_before (back k.0) s))) ∙ mul_zero k.1
