@@ -1,5 +1,5 @@
 -- Lemmas over points and lists: one winding inside a segment, and contours that wind once round what is filled.
-use Rattle.std.proofs.Common.{◌≡◌, ℕ, ◌<◌, Bool, true, false, List, [], ◌∷◌, ◌++◌, map, refl, sym, ◌∙◌, ap, arith}
+use Rattle.std.proofs.Common.{◌≡◌, ℕ, ◌<◌, Bool, true, false, List, [], ◌∷◌, map, refl, sym, ◌∙◌, ap, arith}
 use Rattle.std.specs.Prelude.{ℤ, pos, ◌+ℤ◌}
 use Rattle.std.specs.List.{flat_map}
 use Rattle.std.proofs.lemmas.Int.{ints}
@@ -20,35 +20,52 @@ use Rattle.mesh_cuts.specs.declared.fill.FillRule.TheVariants.{Positive, Negativ
 use Rattle.mesh_regions.proofs.BoundaryFill.{boundary_cover}
 use Rattle.mesh_cuts.proofs.KeptByCuts.{after_balanced}
 use Rattle.mesh_regions.proofs.BoundaryRegions.{after_winds}
-use Rattle.mesh_cuts.proofs.SoundCuts.{legal_sound, legal_boxed, after_proper}
-use Rattle.mesh_shapes.proofs.ContoursKept.{Proper, vertices_winding}
+use Rattle.mesh_cuts.proofs.SoundCuts.{legal_sound, legal_boxed, after_proper, ProperEnds}
+use Rattle.mesh_shapes.proofs.ContoursKept.{vertices_winding}
 use Rattle.mesh_below.proofs.Partition.{answer_winds}
-use Rattle.mesh_cuts.proofs.Each.{proper_of, each_of}
-use Rattle.mesh_cuts.proofs.Each.{Each}
+use Rattle.mesh_cuts.proofs.Each.{Each, each_left, each_right, each_of, proper_of}
 use Rattle.mesh_regions.proofs.SplitBoundary.{boundary_winds}
 
 -- ---- contours
 
-each_left : (xs ys : List Edge) → Each Proper (xs ++ ys) → Each Proper xs
-each_left [] ys h = tt
-each_left (x ∷ xs) ys h = (h.0, each_left xs ys h.1)
-
-each_right : (xs ys : List Edge) → Each Proper (xs ++ ys) → Each Proper ys
-each_right [] ys h = h
-each_right (x ∷ xs) ys h = each_right xs ys h.1
-
 -- the answered vertices of contours wind as the contours do
-vertices_wind : (all : Bool) (m : ℕ) (q : Point) (cs : List (List Point)) → Each Proper (flat_map boundary cs) →
+vertices_wind : (all : Bool) (m : ℕ) (q : Point) (cs : List (List Point)) → Each ProperEnds (flat_map boundary cs) →
     winding m q (flat_map boundary (map (vertices all) cs)) ≡ winding m q (flat_map boundary cs)
 vertices_wind all m q [] h = refl
 vertices_wind all m q (c ∷ cs) h =
-    let first = vertices_winding all c m q (each_left (boundary c) (flat_map boundary cs) h) in
-    let rest = vertices_wind all m q cs (each_right (boundary c) (flat_map boundary cs) h) in
+    let first = vertices_winding all c m q (each_left ProperEnds (boundary c) (flat_map boundary cs) h) in
+    let rest = vertices_wind all m q cs (each_right ProperEnds (boundary c) (flat_map boundary cs) h) in
     let f : Edge → ℤ = λ (e : Edge). crossing_on m q e.0 e.1 in
     sum_of_append f (boundary (vertices all c)) (flat_map boundary (map (vertices all) cs))
     ∙ ((λ i. first i +ℤ rest i) ∙ sym (sum_of_append f (boundary c) (flat_map boundary cs)))
 
 -- ---- answers
+
+-- the edges as they are cut are split
+pub resolved_split : (edges : List Edge) (fill : ℤ → Bool) (options : Choices) (answer : List (List (List Point))) →
+    IsProper edges → IsBalanced edges → (r : IsResolution edges fill options answer) → AreSplit (after r.cuts edges)
+resolved_split edges fill options answer proper balanced r = record {
+  balanced = after_balanced r.cuts edges balanced;
+  clean = r.clean;
+  proper = after_proper r.cuts (legal_sound edges r.cuts r.legal) edges proper;
+}
+
+-- the edges of the contours have different ends
+pub resolved_proper : (edges : List Edge) (fill : ℤ → Bool) (options : Choices) (answer : List (List (List Point))) →
+    IsProper edges → IsBalanced edges → (r : IsResolution edges fill options answer) →
+    Each ProperEnds (flat_map boundary r.contours)
+resolved_proper edges fill options answer proper balanced r =
+    each_of ProperEnds bounds
+    (λ (e : Edge) (o : occurs e bounds ≡ true). proper_of es split.proper e (boundary_cover es bounds fill r.bounded e o))
+  where
+    es : List Edge
+    es = after r.cuts edges
+
+    bounds : List Edge
+    bounds = flat_map boundary r.contours
+
+    split : AreSplit es
+    split = resolved_split edges fill options answer proper balanced r
 
 pub regions_of : (edges : List Edge) (fill : ℤ → Bool) (options : Choices) (answer : List (List (List Point))) →
     IsProper edges → IsBalanced edges → fill (pos 0) ≡ false → IsResolution edges fill options answer → AreRegions edges fill options answer
@@ -65,17 +82,13 @@ regions_of edges fill options answer proper balanced empty r = record {
     es = after r.cuts edges
 
     split : AreSplit es
-    split = record {
-      balanced = after_balanced r.cuts edges balanced;
-      clean = r.clean;
-      proper = after_proper r.cuts (legal_sound edges r.cuts r.legal) edges proper;
-    }
+    split = resolved_split edges fill options answer proper balanced r
 
     bounds : List Edge
     bounds = flat_map boundary r.contours
 
-    sound : Each Proper bounds
-    sound = each_of Proper bounds (λ (e : Edge) (o : occurs e bounds ≡ true). proper_of es split.proper e (boundary_cover es bounds fill r.bounded e o))
+    sound : Each ProperEnds bounds
+    sound = resolved_proper edges fill options answer proper balanced r
 
     unbent : (m : ℕ) → 0 < m → (q : Point) → OutsideBent r.cuts edges m q → winding m q es ≡ winding m q edges
     unbent m some q out = after_winds r.cuts edges (pos m) q (legal_boxed edges r.cuts r.legal) (omega (arith, ints)) (proper_of edges proper) out

@@ -1,7 +1,6 @@
 -- Lemmas over lists: contours of shapes are added one after another, those without a point left out.
 use Rattle.std.proofs.Common.{◌≡◌, ℕ, ◌+◌, ◌<◌, ◌≤◌, List, [], ◌∷◌, ◌++◌, length, take, take_all, get_or, sym, ◌∙◌, ap, append_assoc, arith}
-use Rattle.std.specs.Prelude.{Vec, nat_eq, false}
-use Rattle.std.proofs.lemmas.Bool.{true≢false}
+use Rattle.std.specs.Prelude.{Vec}
 use Rattle.std.specs.List.{flat_map}
 use Rattle.std.specs.declared.alloc.Global.{Global}
 use Rattle.std.proofs.lemmas.Grind.{flat_map-append}
@@ -39,10 +38,6 @@ adds_one old new contour points e same some = record {
   have_points = λ p.
       rw e (All-push (λ (c : Vec Point Global). 0 < length c.items) old contour p (rw same some));
 }
-
-pub some_points : (points : List Point) → nat_eq (length points) 0 ≡ false → 0 < length points
-some_points [] h = absurd (true≢false h)
-some_points (p ∷ ps) h = omega arith
 
 -- one without a point is left out
 pub adds_empty : (old : List (Vec Point Global)) (points : List Point) → length points ≡ 0 → PushesContours old old (points ∷ [])

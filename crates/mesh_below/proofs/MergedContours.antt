@@ -14,10 +14,10 @@ use Rattle.mesh_plane.proofs.Whole.{linear}
 use Rattle.mesh_cuts.specs.Counted.{bit}
 use Rattle.mesh_cuts.specs.Split.{back, is_end, same_ends, occurs}
 use Rattle.mesh_cuts.proofs.Counts.{bit_least}
-use Rattle.mesh_cuts.proofs.Each.{Each}
+use Rattle.mesh_cuts.proofs.Each.{Each, each_left, each_right}
+use Rattle.mesh_cuts.proofs.SoundCuts.{ProperEnds}
 use Rattle.mesh_cuts.proofs.Ends.{decides_ends}
 use Rattle.mesh_shapes.specs.Contours.{turning_points, straight_points, left_out, vertices}
-use Rattle.mesh_shapes.proofs.ContoursKept.{Proper}
 use Rattle.mesh_below.specs.Answers.{AreOwnBoundary}
 use Rattle.mesh_below.proofs.Merging.{Same, IsFreeOf, own_same, merged, either_of}
 use Rattle.mesh_below.proofs.Straight.{LookAlike, RunsThrough, apart_alike, straight_alike, alike_through, whole_alike}
@@ -88,7 +88,7 @@ module _ (Free : Point → Type 0) where
       few y f = let k = m.1 y f in let p = bit_least (same_point y x) in omega (arith, linear, k, p)
 
   run : (a p x : Point) (xs : List Point) (z : Point) (rest : List Edge) → Merged ((a, x) ∷ (route x xs z ++ rest)) → LookAlike (minus x a) (minus x p) →
-      Each Proper (route p (x ∷ xs) z) → All Free (straight_points p (x ∷ xs) z) → Merged (route a (turning_points p (x ∷ xs) z) z ++ rest)
+      Each ProperEnds (route p (x ∷ xs) z) → All Free (straight_points p (x ∷ xs) z) → Merged (route a (turning_points p (x ∷ xs) z) z ++ rest)
   run a p x [] z rest m alike proper free = by (turns_at p x z) refl free
     where
       by : (b : Bool) → turns_at p x z ≡ b → All Free (cond b [] (x ∷ [])) → Merged (route a (cond b (x ∷ []) []) z ++ rest)
@@ -114,13 +114,13 @@ module _ (Free : Point → Type 0) where
           let through : RunsThrough a x n = alike_through (minus x a) (minus x p) (minus n x) alike (straight_alike p x n h proper.0 proper.1.0) in
           further (merge_one a x n (route n ys z ++ rest) through (All-head Free x (straight_points x (n ∷ ys) z) f) m) (whole_alike a x n through) (All-tail Free x (straight_points x (n ∷ ys) z) f)
 
-  contour_merged : (all : Bool) (c : List Point) (rest : List Edge) → Merged (boundary c ++ rest) → Each Proper (boundary c) → All Free (left_out all c) → Merged (boundary (vertices all c) ++ rest)
+  contour_merged : (all : Bool) (c : List Point) (rest : List Edge) → Merged (boundary c ++ rest) → Each ProperEnds (boundary c) → All Free (left_out all c) → Merged (boundary (vertices all c) ++ rest)
   contour_merged all [] rest m proper free = m
   contour_merged true (p ∷ xs) rest m proper free = m
   contour_merged false (p ∷ []) rest m proper free = m
   contour_merged false (p ∷ x ∷ ys) rest m proper free = run p p x ys p rest m (apart_alike p x proper.0) proper free
 
-  pub contours_merged : (all : Bool) (cs : List (List Point)) (rest : List Edge) → Merged (flat_map boundary cs ++ rest) → Each Proper (flat_map boundary cs) →
+  pub contours_merged : (all : Bool) (cs : List (List Point)) (rest : List Edge) → Merged (flat_map boundary cs ++ rest) → Each ProperEnds (flat_map boundary cs) →
       All (λ (c : List Point). All Free (left_out all c)) cs → Merged (flat_map boundary (map (vertices all) cs) ++ rest)
   contours_merged all [] rest m proper free = m
   contours_merged all (c ∷ cs) rest m proper free =
@@ -131,13 +131,15 @@ module _ (Free : Point → Type 0) where
       (merged_same ((boundary c ++ others) ++ rest) (boundary c ++ (others ++ rest))
       (λ (g : Edge → ℤ).
       omega (arith, linear, sum_of_append g (boundary c ++ others) rest, sum_of_append g (boundary c) others, sum_of_append g (boundary c) (others ++ rest), sum_of_append g others rest)) m)
-      (each_left (boundary c) others proper) (All-head (λ (d : List Point). All Free (left_out all d)) c cs free) in
+      (each_left ProperEnds (boundary c) others proper)
+      (All-head (λ (d : List Point). All Free (left_out all d)) c cs free) in
       let second : Merged (flat_map boundary (map (vertices all) cs) ++ (own ++ rest)) =
       contours_merged all cs (own ++ rest)
       (merged_same (own ++ (others ++ rest)) (others ++ (own ++ rest))
       (λ (g : Edge → ℤ).
       omega (arith, linear, sum_of_append g own (others ++ rest), sum_of_append g others rest, sum_of_append g others (own ++ rest), sum_of_append g own rest)) first)
-      (each_right (boundary c) others proper) (All-tail (λ (d : List Point). All Free (left_out all d)) c cs free) in
+      (each_right ProperEnds (boundary c) others proper)
+      (All-tail (λ (d : List Point). All Free (left_out all d)) c cs free) in
       merged_same (flat_map boundary (map (vertices all) cs) ++ (own ++ rest)) ((own ++ flat_map boundary (map (vertices all) cs)) ++ rest)
       (λ (g : Edge → ℤ).
       omega (
@@ -148,11 +150,3 @@ module _ (Free : Point → Type 0) where
         sum_of_append g (own ++ flat_map boundary (map (vertices all) cs)) rest,
         sum_of_append g own (flat_map boundary (map (vertices all) cs)),
       )) second
-    where
-      each_left : (xs ys : List Edge) → Each Proper (xs ++ ys) → Each Proper xs
-      each_left [] ys h = tt
-      each_left (x ∷ xs) ys h = (h.0, each_left xs ys h.1)
-
-      each_right : (xs ys : List Edge) → Each Proper (xs ++ ys) → Each Proper ys
-      each_right [] ys h = h
-      each_right (x ∷ xs) ys h = each_right xs ys h.1

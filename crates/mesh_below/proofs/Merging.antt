@@ -14,11 +14,11 @@ use Rattle.mesh_cuts.specs.Boundary.{count, middle, rises, winding_beside, left_
 use Rattle.mesh_cuts.specs.Clean.{IsClean, IsOn, IsProper, refined_edge}
 use Rattle.mesh_cuts.specs.Counted.{bit, along, net}
 use Rattle.mesh_cuts.specs.FillRules.{filled}
-use Rattle.mesh_cuts.specs.Split.{back, is_end, same_edge, same_ends, occurs}
+use Rattle.mesh_cuts.specs.Split.{is_end, same_edge, same_ends, occurs}
 use Rattle.mesh_cuts.specs.declared.fill.FillRule.TheVariants.{Positive}
 use Rattle.mesh_cuts.proofs.Boxes.{on_back, turn_end, end_box}
 use Rattle.mesh_cuts.proofs.Counts.{bit_least}
-use Rattle.mesh_cuts.proofs.Ends.{along_self, decides_edge, decides_end, decides_ends, ends_along, ends_sym, not_along, not_ends}
+use Rattle.mesh_cuts.proofs.Ends.{along_self, decides_edge, decides_end, decides_ends, ends_along, ends_sym, not_along, not_ends, end_back}
 use Rattle.mesh_cuts.proofs.Keys.{leaning_either, Leans, occurs_back, occurs_head}
 use Rattle.mesh_cuts.proofs.SidesBack.{count_more, sides_back}
 use Rattle.mesh_sides.specs.Laws.{AreSplit}
@@ -88,9 +88,6 @@ edges_apart e f differ = ⊎_elim (λ (t : same_edge e f ≡ true). absurd (diff
 not_edge : (e f : Edge) → same_ends e f ≡ false → same_edge e f ≡ false
 not_edge e f h = edges_apart e f (λ (q : e ≡ f). both_ways (same_ends e f) h ((decides_ends e f).1 (inl q)))
 
-end_back : (z : Point) (e : Edge) → is_end z e ≡ true → is_end z (back e) ≡ true
-end_back z e h = (decides_end z (back e)).1 (⊎_elim (λ (x : z ≡ e.0). inr x) (λ (x : z ≡ e.1). inl x) ((decides_end z e).0 h))
-
 module _ (a b c : Point) (rest : List Edge) (through : RunsThrough a b c) (lone : IsFreeOf b rest) (own : AreOwnBoundary ((a, b) ∷ (b, c) ∷ rest)) where
   abbrev Parts : List Edge
   Parts = (a, b) ∷ (b, c) ∷ rest
@@ -142,7 +139,7 @@ module _ (a b c : Point) (rest : List Edge) (through : RunsThrough a b c) (lone 
       ⊎_elim (λ (q : e ≡ (a, c)). subst Shared (sym q) (whole_shared m some f o))
       (λ (q : e ≡ (c, a)).
       subst Shared (sym q) (λ (z : Point) (on : IsOn (refined_edge m (c, a)) z) (of : IsOn (refined_edge m f) z).
-      let s = whole_shared m some f o z (on_back (refined_edge m (c, a)) z on) of in (end_back z (refined_edge m (a, c)) s.0, s.1)))
+      let s = whole_shared m some f o z (on_back (refined_edge m (c, a)) z on) of in (end_back z (refined_edge m (a, c)) ∙ s.0, s.1)))
       ((decides_ends e (a, c)).0 same)
     where
       Shared : Edge → Type 0

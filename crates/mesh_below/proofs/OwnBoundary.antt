@@ -13,16 +13,15 @@ use Rattle.mesh_plane.proofs.Sums.{sum_of_add}
 use Rattle.mesh_cuts.specs.Clean.{IsProper}
 use Rattle.mesh_cuts.specs.Counted.{bit}
 use Rattle.mesh_cuts.specs.Split.{occurs, after}
-use Rattle.mesh_cuts.proofs.Each.{Each, each_of, proper_of}
-use Rattle.mesh_cuts.proofs.KeptByCuts.{after_balanced}
-use Rattle.mesh_cuts.proofs.SoundCuts.{legal_sound, after_proper}
+use Rattle.mesh_cuts.proofs.Each.{Each}
+use Rattle.mesh_cuts.proofs.SoundCuts.{ProperEnds}
 use Rattle.mesh_sides.specs.Laws.{AreSplit}
 use Rattle.mesh_regions.proofs.BoundaryFill.{boundary_cover}
 use Rattle.mesh_regions.proofs.SplitBoundary.{boundary_balances}
 use Rattle.mesh_shapes.specs.Contours.{left_out, vertices, StartsOnce}
 use Rattle.mesh_shapes.specs.Resolution.{Choices, IsResolution}
-use Rattle.mesh_shapes.proofs.ContoursKept.{Proper}
 use Rattle.mesh_below.specs.Answers.{AreOwnBoundary}
+use Rattle.mesh_below.proofs.AnswerRegions.{resolved_split, resolved_proper}
 use Rattle.mesh_below.proofs.Merging.{Same, own_same}
 use Rattle.mesh_below.proofs.MergedContours.{contours_merged, ends_at}
 use Rattle.mesh_below.proofs.OwnSides.{bounds_itself}
@@ -54,14 +53,10 @@ own_boundary edges ordered fill options answer proper balanced empty r least for
     bounds = flat_map boundary r.contours
 
     split : AreSplit es
-    split = record {
-      balanced = after_balanced r.cuts edges balanced;
-      clean = r.clean;
-      proper = after_proper r.cuts (legal_sound edges r.cuts r.legal) edges proper;
-    }
+    split = resolved_split edges fill options answer proper balanced r
 
-    sound : Each Proper bounds
-    sound = each_of Proper bounds (λ (e : Edge) (o : occurs e bounds ≡ true). proper_of es split.proper e (boundary_cover es bounds fill r.bounded e o))
+    sound : Each ProperEnds bounds
+    sound = resolved_proper edges fill options answer proper balanced r
 
     own : AreOwnBoundary bounds
     own = record {

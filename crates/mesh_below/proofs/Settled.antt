@@ -13,8 +13,6 @@ use Rattle.mesh_cuts.specs.FillRules.{filled}
 use Rattle.mesh_cuts.specs.Split.{occurs, after, IsLegal}
 use Rattle.mesh_cuts.specs.Splitting.{IsSplitting}
 use Rattle.mesh_cuts.specs.declared.fill.FillRule.TheVariants.{Positive}
-use Rattle.mesh_cuts.proofs.KeptByCuts.{after_balanced}
-use Rattle.mesh_cuts.proofs.SoundCuts.{legal_sound, after_proper}
 use Rattle.mesh_sides.specs.Laws.{AreSplit}
 use Rattle.mesh_regions.proofs.BoundaryFill.{boundary_cover}
 use Rattle.mesh_shapes.specs.Resolution.{Choices, Ring, AreArranged, IsResolution}
@@ -22,6 +20,7 @@ use Rattle.mesh_shapes.specs.Vectors.{RingVec, rings_of_vecs, contour_edges}
 use Rattle.mesh_shapes.proofs.Walking.{counts_same}
 use Rattle.mesh_below.specs.Answers.{AreOwnBoundary, IsSettled}
 use Rattle.mesh_below.specs.Midway.Rings.{AreRingsOf, IsWhole, Told}
+use Rattle.mesh_below.proofs.AnswerRegions.{resolved_split}
 use Rattle.mesh_below.proofs.Partition.{answer_sums}
 use Rattle.mesh_below.proofs.Resolving.{all_occurs, same_boundary, resolved}
 use Rattle.mesh_below.proofs.Whole.{whole_all}
@@ -49,11 +48,7 @@ settled edges fill options answer proper balanced empty r least same whole = rec
     own = flat_map boundary (contours_of answer)
 
     split : AreSplit es
-    split = record {
-      balanced = after_balanced r.cuts edges balanced;
-      clean = r.clean;
-      proper = after_proper r.cuts (legal_sound edges r.cuts r.legal) edges proper;
-    }
+    split = resolved_split edges fill options answer proper balanced r
 
     counts : (e : Edge) → count e own ≡ count e bounds
     counts e =

@@ -4,7 +4,7 @@ use Rattle.std.specs.Prelude.{ℤ, pos, neg_ℤ, ◌+ℤ◌, ◌-ℤ◌, ◌*ℤ
 use Rattle.std.proofs.lemmas.Int.{ints, by_lt_z}
 use Rattle.mesh_plane.specs.Plane.{Point, cross, dot, minus, turn}
 use Rattle.mesh_plane.specs.Winding.{refined}
-use Rattle.mesh_plane.proofs.Whole.{linear, square_nonneg, mul_pos, mul_pos_neg, mul_nonpos_nonneg, mul_nonpos, mul_neg, add_mul, nonneg_of_mul, nonpos_of_mul, pos_of_mul, neg_of_mul, both_le, factor, times_zero}
+use Rattle.mesh_plane.proofs.Whole.{linear, square_nonneg, mul_pos, mul_pos_neg, mul_nonpos_nonneg, mul_nonpos, mul_neg, add_mul, nonneg_of_mul, nonpos_of_mul, pos_of_mul, neg_of_mul, both_le, factor, times_zero, square_zero}
 use Rattle.mesh_plane.proofs.Ring.{ring, var, lit, ◌⊕◌, ◌⊖◌, ◌⊗◌}
 use Rattle.mesh_cuts.specs.Clean.{IsOn, refined_edge}
 use Rattle.mesh_cuts.specs.Split.{IsBetween, IsInside, is_end}
@@ -389,17 +389,14 @@ apart_alike p x differ = record {
       by_lt_z (pos 0) (v.1 *ℤ v.1) (λ (k : pos 0 <ℤ (v.1 *ℤ v.1)). omega (arith, linear, square_nonneg v.0))
       (λ (k : (v.1 *ℤ v.1) ≤ℤ pos 0).
       absurd (
-      let a = root v.0 h in
-      let b = root v.1 k in
+      let a = square_zero v.0 h in
+      let b = square_zero v.1 k in
       differ (λ i. (same_number x.0 p.0 a i, same_number x.1 p.1 b i))
       )));
 }
   where
     v : Point
     v = minus x p
-
-    root : (a : ℤ) → (a *ℤ a) ≤ℤ pos 0 → a ≡ pos 0
-    root a h = ⊎_elim (λ (e : a ≡ pos 0). e) (λ (e : a ≡ pos 0). e) (factor a a (both_le (a *ℤ a) (pos 0) h (square_nonneg a)))
 
     same_number : (a b : ℤ) → a -ℤ b ≡ pos 0 → b ≡ a
     same_number a b e = omega (arith, linear, e)

@@ -11,7 +11,7 @@ use Rattle.mesh_plane.specs.Winding.{same_point}
 use Rattle.mesh_cuts.specs.Clean.{IsProper}
 use Rattle.mesh_cuts.proofs.SoundCuts.{ProperEnds, each_proper, proper_each}
 use Rattle.mesh_cuts.proofs.Ends.{forward_proper}
-use Rattle.mesh_cuts.proofs.Each.{Each}
+use Rattle.mesh_cuts.proofs.Each.{Each, each_append}
 use Rattle.mesh_plane.proofs.Comparing.{decides_point}
 
 subject_ends : (s : SignedEdge) → IsSubject s → ProperEnds (edge_of s)
@@ -39,14 +39,10 @@ proper_none e o = absurd (false≢true o)
 pub proper_more : (es : List Edge) (i : ℕ) (d : Edge) → i < length es → same_point (get_or es i d).0 (get_or es i d).1 ≡ false → IsProper (take i es) → IsProper (take (i + 1) es)
 proper_more es i d h proper before =
     subst (λ (x : List Edge). IsProper x) (sym (take_more es i d h))
-    (each_proper (take i es ++ get_or es i d ∷ []) (each_push (take i es) (get_or es i d) (proper_each (take i es) before) ends))
+    (each_proper (take i es ++ get_or es i d ∷ []) (each_append ProperEnds (take i es) (get_or es i d ∷ []) (proper_each (take i es) before) (ends, tt)))
   where
     ends : ProperEnds (get_or es i d)
     ends e = both_ways _ proper ((decides_point (get_or es i d).0 (get_or es i d).1).1 e)
-
-    each_push : (xs : List Edge) (x : Edge) → Each ProperEnds xs → ProperEnds x → Each ProperEnds (xs ++ x ∷ [])
-    each_push [] x h k = (k, tt)
-    each_push (y ∷ xs) x h k = (h.0, each_push xs x h.1 k)
 
 pub proper_all : (es : List Edge) (i : ℕ) → length es ≤ i → IsProper (take i es) → IsProper es
 proper_all es i h proper = subst (λ (x : List Edge). IsProper x) (take_all i es h) proper

@@ -6,7 +6,9 @@ use Rattle.std.proofs.lemmas.Int.{ints}
 use Rattle.std.proofs.lemmas.List.Elements.{All-head, All-tail}
 use Rattle.mesh_plane.specs.Plane.{Point, Edge}
 use Rattle.mesh_plane.specs.Ways.{turns_at, first_or}
-use Rattle.mesh_plane.specs.Winding.{sum_of, route, boundary}
+use Rattle.mesh_plane.specs.Winding.{sum_of, boundary}
+use Rattle.mesh_plane.proofs.ClosedLists.{boundary_length}
+use Rattle.mesh_plane.proofs.Sums.{sum_of_ones}
 use Rattle.mesh_shapes.specs.Contours.{turning_points, vertices}
 use Rattle.mesh_below.specs.Midway.Rings.{IsWhole}
 
@@ -44,22 +46,10 @@ whole_all all (c ∷ cs) h =
 
 -- ---- lengths
 
-ones : (es : List Edge) → sum_of (λ (e : Edge). pos 1) es ≡ pos (length es)
-ones [] = refl
-ones (e ∷ es) = omega (arith, ints, ones es)
-
-route_length : (p : Point) (xs : List Point) (z : Point) → length (route p xs z) ≡ suc (length xs)
-route_length p [] z = refl
-route_length p (x ∷ xs) z = ap suc (route_length x xs z)
-
-closed_length : (c : List Point) → length (boundary c) ≡ length c
-closed_length [] = refl
-closed_length (p ∷ xs) = route_length p xs p
-
 -- closed lists with the same sums over their edges are equally long
 pub same_length : (c d : List Point) → ((f : Edge → ℤ) → sum_of f (boundary c) ≡ sum_of f (boundary d)) → length c ≡ length d
 same_length c d same =
-    let one = sym (ones (boundary c)) ∙ (same (λ (e : Edge). pos 1) ∙ ones (boundary d)) in
-    let first = closed_length c in
-    let second = closed_length d in
+    let one = sym (sum_of_ones (boundary c)) ∙ (same (λ (e : Edge). pos 1) ∙ sum_of_ones (boundary d)) in
+    let first = boundary_length c in
+    let second = boundary_length d in
     omega (arith, ints, one, first, second)

@@ -1,18 +1,14 @@
 -- Lemmas over points: the points beside a corner that turns back to the left do not turn back.
-use Rattle.std.proofs.Common.{◌≡◌, ℕ, ◌<◌, arith, refl}
+use Rattle.std.proofs.Common.{ℕ, ◌<◌, arith}
 use Rattle.std.specs.Prelude.{ℤ, pos, negsuc, ◌*ℤ◌, ◌≤ℤ◌}
 use Rattle.std.proofs.lemmas.Int.{ints}
-use Rattle.mesh_plane.specs.Plane.{Point, plus, cross, turn, right_quarter}
-use Rattle.mesh_plane.proofs.Whole.{linear, multiplied}
+use Rattle.mesh_plane.specs.Plane.{Point, cross, turn}
 use Rattle.mesh_grid.specs.Direction.{IsDirection, scaled_direction}
 use Rattle.mesh_grid.proofs.Scaling.{scaled_turn_kept}
 use Rattle.mesh_arc.specs.Arcs.{sense_of}
 use Rattle.mesh_arc.specs.declared.arc.ArcDirection.TheVariants.{Counterclockwise}
 use Rattle.mesh_join.specs.Joints.{contact}
-
--- vectors turned by a quarter turn alike
-quarters_turn : (v s t : Point) → turn v (plus v (right_quarter s)) (plus v (right_quarter t)) ≡ cross s t
-quarters_turn v s t = simp multiplied (omega (arith, linear))
+use Rattle.mesh_draw.proofs.Quarters.{quarters_turn}
 
 pub turns_on : (unit : ℕ) (radius : ℤ) (v n m : Point) → 0 < unit → IsDirection unit (pos 1, pos 0) n → IsDirection unit (negsuc 0, pos 0) m →
     pos 0 ≤ℤ (sense_of Counterclockwise *ℤ turn v (contact unit radius Counterclockwise v n) (contact unit radius Counterclockwise v m))

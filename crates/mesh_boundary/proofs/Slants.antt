@@ -3,6 +3,7 @@ use Rattle.std.proofs.Common.{◌≡◌, ℕ, ◌<◌, ◌≤◌, ◌^◌, ◌-�
 use Rattle.std.specs.Prelude.{ℤ, pos, negsuc, neg_ℤ, ◌+ℤ◌, ◌-ℤ◌, ◌*ℤ◌, ◌≤ℤ◌, ◌<ℤ◌, int_le, int_lt, unsigned_abs, Vec}
 use Rattle.std.specs.declared.alloc.Global.{Global}
 use Rattle.std.specs.List.{filter}
+use Rattle.std.proofs.Math.Bool.{and-true, and-false}
 use Rattle.std.proofs.lemmas.Int.{ints}
 use Rattle.mesh_plane.specs.Plane.{Point, Edge, cross, turn}
 use Rattle.mesh_plane.specs.Winding.{sum_of, total, crossing, refined, winding, IsBalanced}
@@ -24,14 +25,6 @@ use Rattle.mesh_boundary.proofs.BoundaryCounted.{counted_sum, counted_at}
 use Rattle.mesh_rows.proofs.RowLists.{off_height, row_is}
 use Rattle.mesh_boundary.proofs.RowSums.{filtered_sum}
 use Rattle.mesh_boundary.proofs.SidesCode.{size_least}
-
-and_true : (b : Bool) → (b && true) ≡ b
-and_true true = refl
-and_true false = refl
-
-and_false : (b : Bool) → (b && false) ≡ false
-and_false true = refl
-and_false false = refl
 
 above_test : (a b : ℤ) → b <ℤ a → int_le a b ≡ false
 above_test a b h = by (int_le a b) refl
@@ -138,7 +131,7 @@ beside_line d q e up (inl h) =
     )
   where
     left_none : (d q p : Point) → cross d q <ℤ cross d p → is_between d q p ≡ false
-    left_none d q p k = ap (λ (b : Bool). int_lt q.1 p.1 && b) (above_test (cross d p) (cross d q) k) ∙ and_false (int_lt q.1 p.1)
+    left_none d q p k = ap (λ (b : Bool). int_lt q.1 p.1 && b) (above_test (cross d p) (cross d q) k) ∙ and-false (int_lt q.1 p.1)
 beside_line d q e up (inr h) =
     let p = refined 2 e.0 in
     let r = refined 2 e.1 in
@@ -151,7 +144,7 @@ beside_line d q e up (inr h) =
     )
   where
     right_all : (d q p : Point) → cross d p <ℤ cross d q → is_between d q p ≡ int_lt q.1 p.1
-    right_all d q p k = ap (λ (b : Bool). int_lt q.1 p.1 && b) (at_most_test (cross d p) (cross d q) (omega (arith, ints))) ∙ and_true (int_lt q.1 p.1)
+    right_all d q p k = ap (λ (b : Bool). int_lt q.1 p.1 && b) (at_most_test (cross d p) (cross d q) (omega (arith, ints))) ∙ and-true (int_lt q.1 p.1)
 
 -- ---- levels
 

@@ -18,7 +18,8 @@ use Rattle.mesh_cuts.specs.Lists.{list_at}
 use Rattle.mesh_cuts.specs.Split.{back}
 use Rattle.mesh_cuts.proofs.PlacesAmong.{place_most}
 use Rattle.mesh_sides.specs.Laws.{AreSplit}
-use Rattle.mesh_sides.specs.Star.{comes_before, leaves_before, net_before}
+use Rattle.mesh_sides.specs.Star.{comes_before, net_before}
+use Rattle.mesh_sides.proofs.StarSums.{edge_net_before}
 use Rattle.mesh_boundary.specs.Midway.Stars.{code, place_among, ends_at, touches, segments_at, counted_before, AreShaped, AreStars, IsFiled, IsSegment, IsStar, HaveStars}
 use Rattle.mesh_boundary.proofs.BoundaryCounted.{counted_segments, counted_sum}
 use Rattle.mesh_rows.proofs.RowLists.{filter_more}
@@ -129,10 +130,6 @@ sum_at_more f ks indices i h =
 pub less_count : (s n : ℤ) → s +ℤ (n *ℤ (pos 0 -ℤ pos 1)) ≡ s -ℤ n
 less_count s n = omega (arith, linear, mul_neg n (pos 1), mul_one n)
 
--- 1 for an edge that leaves the start of `s` before `s`, -1 for one that comes in there
-abbrev step : Edge → Edge → ℤ
-step s e = bit (leaves_before s e) -ℤ bit (leaves_before s (back e))
-
 same_test : (a b : ℕ) → a ≡ b → nat_eq a b ≡ true
 same_test a b h = grind (arith, nat_tests)
 
@@ -142,7 +139,8 @@ off_place at v p h =
     ⊎_elim (λ (t : same_point v p ≡ true). absurd (both_ways (nat_eq (at v) (at p)) h (same_test (at v) (at p) (ap at ((decides_point v p).0 t))))) (λ (f : same_point v p ≡ false). f)
     (cases_Bool (same_point v p))
 
-off_star : (at : Point → ℕ) (s : Edge) (k : Counted) → touches at (at s.0) k ≡ false → k.1 *ℤ step s k.0 ≡ pos 0
+off_star : (at : Point → ℕ) (s : Edge) (k : Counted) → touches at (at s.0) k ≡ false →
+    k.1 *ℤ edge_net_before s k.0 ≡ pos 0
 off_star at s k h =
     let apart = or_parts (nat_eq (at s.0) (at k.0.0)) (nat_eq (at s.0) (at k.0.1)) h in
     (λ i. k.1 *ℤ (bit (off_place at s.0 k.0.0 apart.0 i && comes_before k.0 s) -ℤ bit (off_place at s.0 k.0.1 apart.1 i && comes_before (back k.0) s))) ∙ mul_zero k.1
@@ -157,13 +155,13 @@ have_stars es ks lists ends stars is split = record {
   stars = λ v d. subst (IsStar es v) (sym (stars.1.stars (stars.0 v) d (stars.1.below v))) (before v);
 }
   where
-    odd : (s e : Edge) → step s (back e) ≡ neg_ℤ (step s e)
+    odd : (s e : Edge) → edge_net_before s (back e) ≡ neg_ℤ (edge_net_before s e)
     odd s e = omega (arith, linear)
 
     before : (v w : Point) → counted_before (v, w) (filter (touches stars.0 (stars.0 v)) ks) ≡ net_before (v, w) es
     before v w =
-        sum_of_filter (λ (k : Counted). k.1 *ℤ step (v, w) k.0) (touches stars.0 (stars.0 v)) (off_star stars.0 (v, w)) ks
-        ∙ counted_sum (step (v, w)) (odd (v, w)) es ks split.proper is
+        sum_of_filter (λ (k : Counted). k.1 *ℤ edge_net_before (v, w) k.0) (touches stars.0 (stars.0 v)) (off_star stars.0 (v, w)) ks
+        ∙ counted_sum (edge_net_before (v, w)) (odd (v, w)) es ks split.proper is
 
 -- a segment that counts split edges stands among them, with its net count
 pub segment_at : (es : List Edge) (ks : List Counted) (i : ℕ) (d : Counted) → IsCountOf es ks → AreSplit es → i < length ks → IsSegment es (get_or ks i d)

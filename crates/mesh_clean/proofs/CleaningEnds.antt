@@ -3,8 +3,9 @@ use Rattle.std.proofs.Common.{◌-◌, Bool, true, false, cond, List, [], ◌∷
 use Rattle.std.specs.List.{All}
 use Rattle.std.proofs.lemmas.List.Elements.{All-append, All-nil, All-cons, All-head, All-tail, All-take, All-drop}
 use Rattle.mesh_plane.specs.Plane.{Point, Edge}
-use Rattle.mesh_plane.specs.Winding.{route, boundary, same_point}
+use Rattle.mesh_plane.specs.Winding.{same_point}
 use Rattle.mesh_plane.specs.Ways.{turns_at}
+use Rattle.mesh_plane.proofs.ClosedLists.{boundary_all}
 use Rattle.mesh_clean.specs.Cleaned.{changes_from, without_repeats, without_end, without_repeated_end}
 use Rattle.mesh_clean.specs.Cleaned.{kept_between, kept_inside, kept_round, last_first}
 use Rattle.mesh_clean.specs.Cleaned.{begun, cleaned_points, cleaned_sections}
@@ -59,17 +60,7 @@ cleaned_points-all P points h =
     all_begun P (kept_inside (without_repeats points)) (kept_round (without_repeated_end (without_repeats points)))
     (all_kept_round P (without_repeated_end (without_repeats points)) (all_without_repeated_end P (without_repeats points) (all_without_repeats P points h)))
 
-all_route : (P : Point → Type 0) (a : Point) (xs : List Point) (z : Point) → P a → All P xs → P z → All (λ (e : Edge). P e.0 × P e.1) (route a xs z)
-all_route P a [] z ha h hz = All-cons (λ (e : Edge). P e.0 × P e.1) (a, z) [] (ha, hz) (All-nil (λ (e : Edge). P e.0 × P e.1))
-all_route P a (x ∷ xs) z ha h hz =
-    let hx = All-head P x xs h in
-    All-cons (λ (e : Edge). P e.0 × P e.1) (a, x) (route x xs z) (ha, hx) (all_route P x xs z hx (All-tail P x xs h) hz)
-
-all_boundary : (P : Point → Type 0) (xs : List Point) → All P xs → All (λ (e : Edge). P e.0 × P e.1) (boundary xs)
-all_boundary P [] h = All-nil (λ (e : Edge). P e.0 × P e.1)
-all_boundary P (x ∷ xs) h = let hx = All-head P x xs h in all_route P x xs x hx (All-tail P x xs h) hx
-
 -- what holds of all points of a contour holds of the ends of its sections
 pub cleaned_sections-ends : (P : Point → Type 0) (points : List Point) → All P points → All (λ (e : Edge). P e.0 × P e.1) (cleaned_sections points)
 unfolding cleaned_sections
-cleaned_sections-ends P points h = all_boundary P (cleaned_points points) (cleaned_points-all P points h)
+cleaned_sections-ends P points h = boundary_all P (cleaned_points points) (cleaned_points-all P points h)

@@ -8,8 +8,8 @@ use Rattle.mesh_plane.proofs.Whole.{linear}
 use Rattle.mesh_plane.specs.Ways.{turns_at}
 use Rattle.mesh_clean.specs.Cleaned.{cleaned_sections}
 use Rattle.mesh_plane.proofs.Comparing.{decides_point}
+use Rattle.mesh_plane.proofs.Crossings.{straight_none}
 use Rattle.mesh_plane.proofs.Ways.{straight_turn}
-use Rattle.mesh_clean.proofs.CleaningVectors.{turns_at-from_self}
 use Rattle.mesh_clean.proofs.CleaningPass.{passed, passed-kept, passed-on}
 use Rattle.mesh_clean.proofs.CleaningStart.{started, started-kept, started-on, started-cleaned, cleaned_sections-same}
 
@@ -23,9 +23,6 @@ edges_from-route p [] z = refl
 edges_from-route p (x ∷ xs) z = ap (λ (es : List Edge). (p, x) ∷ es) (edges_from-route x xs z)
 
 module _ (f : Point → Point → ℤ) (straight : (p r s : Point) → turn p r s ≡ pos 0 → f p r +ℤ f r s ≡ f p s) where
-  flat-self : (p : Point) → f p p ≡ pos 0
-  flat-self p = omega (arith, linear, straight p p p (straight_turn p p p (turns_at-from_self p p)))
-
   edges_from-append : (p : Point) (zs : List Point) (q r : Point) → total f (edges_from p (zs ++ q ∷ r ∷ [])) ≡ total f (edges_from p (zs ++ q ∷ [])) +ℤ f q r
   edges_from-append p [] q r = omega (arith, linear)
   edges_from-append p (z ∷ zs) q r = omega (arith, linear, edges_from-append z zs q r)
@@ -33,7 +30,7 @@ module _ (f : Point → Point → ℤ) (straight : (p r s : Point) → turn p r 
   pub passed-total : (a p : Point) (zs : List Point) → total f (passed a p zs) ≡ f a p +ℤ total f (edges_from p zs)
   passed-total a p [] = elim (cases_Bool (same_point a p)) [
     | inl e ↦
-        let none : f a p ≡ pos 0 = ap (f a) (sym ((decides_point a p).0 e)) ∙ flat-self a in
+        let none : f a p ≡ pos 0 = ap (f a) (sym ((decides_point a p).0 e)) ∙ straight_none f straight a in
         let empty : total f (passed a p []) ≡ pos 0 = ap (total f) (cond-true (same_point a p) [] ((a, p) ∷ []) e) in
         omega (arith, linear, none, empty)
     | inr e ↦
@@ -50,7 +47,7 @@ module _ (f : Point → Point → ℤ) (straight : (p r s : Point) → turn p r 
   ]
 
   pub started-total : (q p : Point) (zs : List Point) → total f (started q p zs) ≡ f q p +ℤ total f (edges_from p (zs ++ q ∷ []))
-  started-total q p [] = omega (arith, linear, passed-total q p (q ∷ q ∷ []), flat-self q)
+  started-total q p [] = omega (arith, linear, passed-total q p (q ∷ q ∷ []), straight_none f straight q)
   started-total q p (z ∷ zs) = elim (cases_Bool (turns_at q p z)) [
     | inl e ↦
         let kept : total f (started q p (z ∷ zs)) ≡ total f (passed p z (zs ++ q ∷ p ∷ [])) = ap (total f) (started-kept q p z zs e) in
@@ -62,7 +59,7 @@ module _ (f : Point → Point → ℤ) (straight : (p r s : Point) → turn p r 
 
   cleaned-edges_from : (q : Point) (zs : List Point) → total f (cleaned_sections (q ∷ zs)) ≡ total f (edges_from q (zs ++ q ∷ []))
   unfolding cleaned_sections
-  cleaned-edges_from q [] = omega (arith, linear, flat-self q)
+  cleaned-edges_from q [] = omega (arith, linear, straight_none f straight q)
   cleaned-edges_from q (z ∷ zs) = elim (cases_Bool (same_point q z)) [
     | inl e ↦ repeated e (cleaned-edges_from q zs)
     | inr e ↦ ap (total f) (sym (started-cleaned q z zs e)) ∙ started-total q z zs
@@ -73,7 +70,7 @@ module _ (f : Point → Point → ℤ) (straight : (p r s : Point) → turn p r 
           let same : q ≡ z = (decides_point q z).0 e in
           let less : total f (cleaned_sections (q ∷ z ∷ zs)) ≡ total f (cleaned_sections (q ∷ zs)) = ap (total f) (cleaned_sections-same q z zs e) in
           let way : total f (edges_from q (zs ++ q ∷ [])) ≡ total f (edges_from z (zs ++ q ∷ [])) = ap (λ x. total f (edges_from x (zs ++ q ∷ []))) same in
-          let none : f q z ≡ pos 0 = ap (f q) (sym same) ∙ flat-self q in
+          let none : f q z ≡ pos 0 = ap (f q) (sym same) ∙ straight_none f straight q in
           omega (arith, linear, less, ih, way, none)
 
   -- the sum over the cleaned contour is that over the contour as it was

@@ -1,5 +1,5 @@
 -- Lemmas over points and lists: no two neighbouring sections of a cleaned contour run on in one direction.
-use Rattle.std.proofs.Common.{◌≡◌, ◌≢◌, ◌≤◌, ◌⊎◌, inl, inr, refl, sym, ◌∙◌, ap, subst, arith, true, false, List, [], ◌∷◌, ◌++◌, length}
+use Rattle.std.proofs.Common.{◌≡◌, ◌≢◌, ◌⊎◌, inl, inr, refl, sym, ◌∙◌, ap, subst, arith, true, false, List, [], ◌∷◌, ◌++◌}
 use Rattle.std.specs.Prelude.{pos, ◌<ℤ◌, neg_ℤ}
 use Rattle.std.specs.List.{All}
 use Rattle.std.proofs.lemmas.Bool.{true≢false, cases_Bool}
@@ -11,6 +11,7 @@ use Rattle.mesh_plane.proofs.Ring.{ring, var, neg, ◌⊖◌, cross_of, dot_of}
 use Rattle.mesh_plane.specs.Ways.{turns_at, last_of}
 use Rattle.mesh_clean.specs.Cleaned.{changes_from, kept_between, without_end, cleaned_sections, RunsOn, IsCleanContour}
 use Rattle.mesh_plane.proofs.Comparing.{points_swap}
+use Rattle.mesh_plane.proofs.ClosedLists.{route_length}
 use Rattle.mesh_clean.proofs.CleaningVectors.{SameWay, SameWay-straight, SameWay-ahead, SameWay-self, SameWay-apart, judged, judged_ahead, turns_at-from_self, turns_at-to_self, turns_at-back, turns_at-straight}
 use Rattle.mesh_clean.proofs.CleaningPass.{changes_from-same, changes_from-apart, kept_between-kept, kept_between-passed}
 use Rattle.mesh_clean.proofs.CleaningLoop.{round_to}
@@ -107,10 +108,6 @@ All-firsts Q e z [] h = All-cons Q e [] (All-head (λ (c : Edge × Edge). Q c.0)
 All-firsts Q e z (x ∷ xs) h =
     All-cons Q e (x ∷ xs) (All-head (λ (c : Edge × Edge). Q c.0) (e, x) (route x xs z) h) (All-firsts Q x z xs (All-tail (λ (c : Edge × Edge). Q c.0) (e, x) (route x xs z) h))
 
-length-route : (p : Point) (ws : List Point) (z : Point) → 1 ≤ length (route p ws z)
-length-route p [] z = omega arith
-length-route p (w ∷ ws) z = omega (arith, length-route w ws z)
-
 -- the way by `p` does not go on to `z` in the direction from `a` to `p`
 not_on : (a p z : Point) → turns_at a p z ≡ true → cross (minus p a) (minus z p) ≡ pos 0 → pos 0 <ℤ dot (minus p a) (minus z p) → ⊥
 not_on a p z k flat ahead =
@@ -138,7 +135,7 @@ closed_clean : (k n : Point) (ns : List Point) → Turning k n ns k → turns_at
 closed_clean k n ns t e =
     let all : All MeetsAndTurns (boundary (boundary (k ∷ n ∷ ns))) = corners k n k n ns t e in
     record {
-      many = omega (arith, length-route n ns k);
+      many = omega (arith, route_length n ns k);
       proper =
           All-firsts (λ (e : Edge). e.0 ≢ e.1) (k, n) (k, n) (route n ns k) (All-weaker MeetsAndTurns (λ (c : Edge × Edge). c.0.0 ≢ c.0.1) MeetsAndTurns-proper (boundary (boundary (k ∷ n ∷ ns))) all);
       closed = All-weaker MeetsAndTurns (λ (c : Edge × Edge). c.0.1 ≡ c.1.0) (λ c h. h.meets) (boundary (boundary (k ∷ n ∷ ns))) all;

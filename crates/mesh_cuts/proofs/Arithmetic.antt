@@ -1,5 +1,5 @@
 -- Lemmas over whole numbers: sums and products that fit 128 bits, and what is kept of them there.
-use Rattle.std.proofs.Common.{◌≡◌, ℕ, ◌+◌, ◌*◌, ◌/◌, ◌^◌, ◌<◌, ◌≤◌, true, false, sym, ◌∙◌, ap, refl, arith, zero, suc, lit≤, eqb}
+use Rattle.std.proofs.Common.{◌≡◌, ℕ, ◌+◌, ◌*◌, ◌/◌, ◌^◌, ◌<◌, ◌≤◌, ◌⊎◌, true, false, sym, ◌∙◌, ap, refl, arith, zero, suc, lit≤, eqb}
 use Rattle.std.specs.Int.{int_min, int_max}
 use Rattle.std.specs.Prelude.{Bool, IsTrue, ◌↔◌, ℤ, pos, negsuc, ◌+ℤ◌, ◌-ℤ◌, ◌*ℤ◌, neg_ℤ, ◌≤ℤ◌, ◌<ℤ◌, unsigned_abs}
 use Rattle.std.proofs.lemmas.Int.{ints, clamps, to_z-of_z, to_z_pos, unsigned_abs-mul, by_lt_z}
@@ -14,6 +14,10 @@ use Rattle.mesh_plane.specs.Bounds.{IsSmall}
 use Rattle.mesh_plane.proofs.Sizes.{small_size}
 use Rattle.mesh_plane.proofs.Whole.{linear}
 use Rattle.mesh_cuts.specs.Split.{rounded_quotient, IsBetween}
+
+-- a number that is at most another is below it or the same
+pub below_or_last : (a b : ℕ) → a ≤ b → (a < b) ⊎ (a ≡ b)
+below_or_last a b h = grind arith
 
 pub small_fits : (h : ℕ) (z : ℤ) → h ≤ 2 ^ 127 → IsSmall h z → SFits w128 z
 small_fits h z m s = omega (arith, ints, s.low, s.high)

@@ -27,6 +27,11 @@ pub decides_end : (c : Point) (e : Edge) → Decides (is_end c e) ((c ≡ e.0) �
 unfolding is_end
 decides_end c e = Decides-or _ _ (decides_point c e.0) (decides_point c e.1)
 
+pub end_back : (c : Point) (e : Edge) → is_end c (back e) ≡ is_end c e
+end_back c e =
+    same_from_decides _ _ (decides_end c (back e))
+    (Decides-like _ (⊎_elim (λ (h : c ≡ e.0). inr h) (λ (h : c ≡ e.1). inl h)) (⊎_elim (λ (h : c ≡ e.1). inr h) (λ (h : c ≡ e.0). inl h)) (decides_end c e))
+
 pub ends_self : (e : Edge) → same_ends e e ≡ true
 ends_self e = (decides_ends e e).1 (inl refl)
 

@@ -8,6 +8,7 @@ pub mod Ends
 pub mod KeptByCuts
 pub mod Keys
 pub mod Meeting
+pub mod Options
 pub mod PlacesAmong
 pub mod SafeCuts
 pub mod SidesBack

@@ -10,6 +10,7 @@ use Rattle.std.proofs.lemmas.Int.{ints}
 use Rattle.mesh_plane.proofs.Comparing.{at_most_test, test_at_most, test_above}
 use Rattle.mesh_cuts.specs.declared.places.Mark.{Mark}
 use Rattle.mesh_cuts.specs.Marks.{place, AreRising, IsPutTo}
+use Rattle.mesh_cuts.proofs.Arithmetic.{below_or_last}
 
 rise : (a b : Bool) (m x y : ℤ) (p q : ℕ) → x ≤ℤ y → int_le m x ≡ a → int_le m y ≡ b → p ≤ q → cond a 1 0 + p ≤ cond b 1 0 + q
 rise true true m x y p q h u v l = omega arith
@@ -78,9 +79,6 @@ rising_more ms m r last = record {
       (below_or_last i (length ms) (omega arith)))
       (below_or_last j (length ms) len);
 }
-  where
-    below_or_last : (a b : ℕ) → a ≤ b → (a < b) ⊎ (a ≡ b)
-    below_or_last a b h = grind arith
 
 -- ---- lists by number
 

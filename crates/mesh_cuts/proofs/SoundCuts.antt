@@ -1,5 +1,5 @@
 -- Lemmas over points and lists: the cuts of legal splits lie in the boxes of what they cut, and leave no edge without length.
-use Rattle.std.proofs.Common.{◌≡◌, ◌⊎◌, inl, inr, ⊎_elim, Bool, true, false, cond, List, [], ◌∷◌, ◌++◌, refl, sym, ◌∙◌, ap, subst}
+use Rattle.std.proofs.Common.{◌≡◌, ◌⊎◌, inl, inr, ⊎_elim, Bool, true, false, cond, List, [], ◌∷◌, refl, sym, ◌∙◌, ap, subst}
 use Rattle.std.proofs.lemmas.Bool.{or_cases, both_ways, false≢true}
 use Rattle.mesh_plane.specs.Plane.{Point, Edge}
 use Rattle.mesh_plane.specs.Winding.{same_point}
@@ -7,8 +7,7 @@ use Rattle.mesh_cuts.specs.Clean.{IsProper}
 use Rattle.mesh_cuts.specs.Split.{back, same_ends, occurs, is_end, IsInBox, Cut, cut_edge, cut_edges, after, add_cut, IsLegal, no_cut, split}
 use Rattle.mesh_cuts.proofs.Ends.{decides_ends, decides_end}
 use Rattle.mesh_cuts.proofs.Boxes.{meets_box}
-use Rattle.mesh_cuts.proofs.Each.{Each, each_more}
-use Rattle.mesh_cuts.proofs.Each.{proper_of, each_of}
+use Rattle.mesh_cuts.proofs.Each.{Each, each_more, each_append, proper_of, each_of}
 use Rattle.mesh_cuts.proofs.KeptByCuts.{Boxed}
 use Rattle.mesh_plane.proofs.Comparing.{decides_point}
 
@@ -37,12 +36,10 @@ pub legal_boxed : (es : List Edge) (ks : List Cut) → IsLegal es ks → Boxed k
 legal_boxed es ks legal = each_more IsSound (λ (k : Cut). IsInBox k.ends k.at) (λ (k : Cut) (h : IsSound k). h.boxed) ks (legal_sound es ks legal)
 
 -- ---- no edge without length
+
+-- the two ends of an edge differ
 abbrev pub ProperEnds : Edge → Type 0
 ProperEnds e = e.0 ≡ e.1 → ⊥
-
-each_append : (P : Edge → Type 0) (xs ys : List Edge) → Each P xs → Each P ys → Each P (xs ++ ys)
-each_append P [] ys h k = k
-each_append P (x ∷ xs) ys h k = (h.0, each_append P xs ys h.1 k)
 
 not_an_end : (k : Cut) (e : Edge) → IsSound k → same_ends e k.ends ≡ true → ((k.at ≡ e.0) ⊎ (k.at ≡ e.1)) → ⊥
 not_an_end k e h t ends =

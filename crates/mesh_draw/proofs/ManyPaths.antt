@@ -16,6 +16,7 @@ use Rattle.mesh_cuts.specs.Clean.{IsProper}
 use Rattle.mesh_cuts.specs.FillRules.{filled}
 use Rattle.mesh_cuts.specs.Reach.{AreEdgesSafe}
 use Rattle.mesh_cuts.specs.declared.fill.FillRule.{FillRule}
+use Rattle.mesh_cuts.proofs.SafeCuts.{IsSafeEdge}
 use Rattle.mesh_cuts.proofs.SoundCuts.{ProperEnds}
 use Rattle.mesh_shapes.specs.Resolution.{Choices, IsResolution}
 use Rattle.mesh_below.specs.Asked.{AreResolvable}
@@ -25,7 +26,7 @@ use Rattle.mesh_draw.specs.Adding.{Keeps, added, added_edges}
 use Rattle.mesh_draw.specs.Midway.{AreBuilt}
 use Rattle.mesh_draw.specs.Staying.{IsSafeResolving}
 use Rattle.mesh_draw.proofs.ProperEdges.{all_proper, proper_all, proper_permutation}
-use Rattle.mesh_draw.proofs.Staying.{IsSafeEdge, safe_resolving}
+use Rattle.mesh_draw.proofs.Staying.{safe_resolving}
 
 -- `draw` gives the edges of each path
 module _ {P : Type 0} (draw : P → List Edge) where

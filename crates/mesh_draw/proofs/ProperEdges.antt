@@ -4,7 +4,7 @@ use Rattle.std.specs.Prelude.{ℤ, pos, false, not}
 use Rattle.std.specs.List.{All, flat_map}
 use Rattle.std.specs.List.Sorted.{IsPermutation}
 use Rattle.std.proofs.lemmas.Bool.{not-false}
-use Rattle.std.proofs.lemmas.List.Elements.{All-nil, All-cons, All-head, All-tail, filter-append}
+use Rattle.std.proofs.lemmas.List.Elements.{All-head, All-tail, filter-append, All-from_recursion, recursion_from_All}
 use Rattle.std.proofs.lemmas.List.Sorted.{All-permutation}
 use Rattle.std.proofs.lemmas.List.Sums.{length-filter, count_by-le-length}
 use Rattle.mesh_plane.specs.Plane.{Point, Edge}
@@ -16,7 +16,6 @@ use Rattle.mesh_num.specs.Segments.{proper_edges, segments_of}
 use Rattle.mesh_num.proofs.SegmentLists.{edges_of_segments}
 use Rattle.mesh_num.proofs.Subjects.{segments_of_subjects}
 use Rattle.mesh_cuts.specs.Clean.{IsProper}
-use Rattle.mesh_cuts.proofs.Each.{Each}
 use Rattle.mesh_cuts.proofs.SoundCuts.{ProperEnds, proper_each, each_proper}
 use Rattle.mesh_below.proofs.Resolving.{all_occurs}
 use Rattle.mesh_below.proofs.Subjects.{subjects_proper}
@@ -55,19 +54,11 @@ proper_length es =
 pub proper_kept : (es : List Edge) → IsProper (proper_edges es)
 proper_kept es = rw (edges_of_segments es) at (subjects_proper (segments_of es) (segments_of_subjects es))
 
-each_of_all : (P : Edge → Type 0) (es : List Edge) → All P es → Each P es
-each_of_all P [] h = tt
-each_of_all P (e ∷ es) h = (All-head P e es h, each_of_all P es (All-tail P e es h))
-
-all_of_each : (P : Edge → Type 0) (es : List Edge) → Each P es → All P es
-all_of_each P [] h = All-nil P
-all_of_each P (e ∷ es) h = All-cons P e es h.0 (all_of_each P es h.1)
-
 pub all_proper : (es : List Edge) → IsProper es → All ProperEnds es
-all_proper es h = all_of_each ProperEnds es (proper_each es h)
+all_proper es h = All-from_recursion ProperEnds es (proper_each es h)
 
 pub proper_all : (es : List Edge) → All ProperEnds es → IsProper es
-proper_all es h = each_proper es (each_of_all ProperEnds es h)
+proper_all es h = each_proper es (recursion_from_All ProperEnds es h)
 
 -- and so are they in another order
 pub proper_permutation : (es gs : List Edge) → IsPermutation es gs → IsProper es → IsProper gs

@@ -1,13 +1,9 @@
 -- Lemmas over points and lists: what is resolved stays in the safe range.
 use Rattle.std.proofs.Common.{ℕ, List}
-use Rattle.mesh_plane.specs.Bounds.{IsSafe}
 use Rattle.mesh_plane.specs.Plane.{Edge}
 use Rattle.mesh_cuts.specs.Reach.{AreEdgesSafe}
 use Rattle.mesh_below.proofs.AnswerPoints.{resolution_safe}
 use Rattle.mesh_draw.specs.Staying.{IsSafeResolving}
-
-abbrev pub IsSafeEdge : ℕ → Edge → Type 0
-IsSafeEdge unit e = IsSafe unit e.0 × IsSafe unit e.1
 
 -- each resolving of safe edges is safe
 pub safe_resolving : (unit : ℕ) (edges : List Edge) → AreEdgesSafe unit edges → IsSafeResolving unit edges

@@ -1,5 +1,5 @@
 -- Lemmas over points: directions times a radius keep signs, turns and opposites, and stay within the radius.
-use Rattle.std.proofs.Common.{◌≡◌, ℕ, ◌+◌, ◌*◌, ◌-◌, ◌<◌, ◌≤◌, refl, sym, ◌∙◌, ap, subst, arith, zero, suc}
+use Rattle.std.proofs.Common.{◌≡◌, ℕ, ◌+◌, ◌*◌, ◌-◌, ◌<◌, ◌≤◌, sym, ◌∙◌, ap, subst, arith}
 use Rattle.std.specs.Prelude.{ℤ, pos, ◌*ℤ◌, ◌≤ℤ◌, neg_ℤ, unsigned_abs}
 use Rattle.std.proofs.Math.Nat.{mul-le-mul_left, mul-le-mul_right}
 use Rattle.std.proofs.lemmas.Nat.{mul-lt}
@@ -12,7 +12,7 @@ use Rattle.mesh_grid.specs.Direction.{IsDirection, IsShort, IsFresh, KeepsScaled
 use Rattle.mesh_plane.specs.Rounding.{rounded}
 use Rattle.mesh_plane.proofs.Whole.{linear, mul_neg, neg_mul}
 use Rattle.mesh_plane.proofs.Identities.{cross_opposites}
-use Rattle.mesh_plane.proofs.Sizes.{size_zero, le_of_squares}
+use Rattle.mesh_plane.proofs.Sizes.{size_zero, le_of_squares, square_none}
 use Rattle.mesh_plane.proofs.Signs.{sign_self, sign_through, sign_square, sign_times}
 use Rattle.mesh_plane.proofs.Rounding.{rounded_sign, rounded_neg, rounded_grows, rounded_within, rounded_zero}
 use Rattle.mesh_grid.proofs.Turns.{Keeps, turn_kept_by, parallel_kept_by}
@@ -122,15 +122,11 @@ scaled_direction_length unit r n h l f =
     ⊎_elim
     (λ a. a)
     (λ a.
-    let x : 4 * (unsigned_abs n.0 * unsigned_abs n.0) < unit * unit = small_part unit r n.0 (omega arith) l (root (unsigned_abs (scaled unit r n.0)) (omega arith)) in
-    let y : 4 * (unsigned_abs n.1 * unsigned_abs n.1) < unit * unit = small_part unit r n.1 (omega arith) l (root (unsigned_abs (scaled unit r n.1)) (omega arith)) in
+    let x : 4 * (unsigned_abs n.0 * unsigned_abs n.0) < unit * unit = small_part unit r n.0 (omega arith) l (square_none (unsigned_abs (scaled unit r n.0)) (omega arith)) in
+    let y : 4 * (unsigned_abs n.1 * unsigned_abs n.1) < unit * unit = small_part unit r n.1 (omega arith) l (square_none (unsigned_abs (scaled unit r n.1)) (omega arith)) in
     absurd (omega (arith, long (unit - 7) unit (omega arith))))
     (cases_lt 0 (length_sq (scaled_direction unit r n)))
   where
-    root : (k : ℕ) → k * k ≤ 0 → k ≡ 0
-    root zero h = refl
-    root (suc k) h = absurd (omega arith)
-
     long : (t u : ℕ) → u ≡ t + 7 → 2 * (u * u) < 4 * ((u - 2) * (u - 2))
     long t u e =
         let a : u - 2 ≡ t + 5 = omega arith in

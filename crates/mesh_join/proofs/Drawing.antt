@@ -1,5 +1,5 @@
 -- Lemmas over lists: vectors that are appended to twice, and edges that are drawn one by one.
-use Rattle.std.proofs.Common.{◌≡◌, ℕ, ◌+◌, ◌≤◌, List, [], ◌∷◌, ◌++◌, map, length, take, drop, refl, sym, ◌∙◌, ap, arith}
+use Rattle.std.proofs.Common.{◌≡◌, ℕ, ◌≤◌, List, [], ◌∷◌, ◌++◌, map, length, take, drop, refl, sym, ◌∙◌, ap, arith}
 use Rattle.std.proofs.Common.{append_assoc, append-nil}
 use Rattle.std.proofs.Math.Seq.{take-append_seam}
 use Rattle.std.proofs.lemmas.List.{take-append-drop}
@@ -7,11 +7,6 @@ use Rattle.mesh_plane.specs.Plane.{Point, Edge}
 use Rattle.mesh_plane.specs.Winding.{route}
 use Rattle.mesh_num.specs.Segments.{SignedEdge, segments_of}
 use Rattle.mesh_num.proofs.SegmentLists.{segments_of-append}
-
--- a route has an edge for each point between its ends, and one more
-pub route_length : {A : Type 0} (a : A) (xs : List A) (z : A) → length (route a xs z) ≡ length xs + 1
-route_length a [] z = omega arith
-route_length a (x ∷ xs) z = omega (arith, route_length x xs z)
 
 -- ---- what stands after two steps
 

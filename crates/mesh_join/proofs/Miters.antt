@@ -12,13 +12,13 @@ use Rattle.mesh_plane.specs.Plane.{Point, Edge, turn}
 use Rattle.mesh_plane.specs.Winding.{route, same_point}
 use Rattle.mesh_plane.proofs.Rounding.{rounded_at_least, rounded_at_most}
 use Rattle.mesh_plane.proofs.Whole.{mul_le_mul_left}
+use Rattle.mesh_plane.proofs.ClosedLists.{route_length}
 use Rattle.mesh_plane.specs.Bounds.{IsSafe, IsWithin}
 use Rattle.mesh_plane.proofs.Comparing.{test_at_most}
 use Rattle.mesh_grid.specs.Quotient.{rounded_product}
 use Rattle.mesh_sine.proofs.Lengths.{sine_at_most}
 use Rattle.mesh_sine.proofs.Small.{sine_not_small}
 use Rattle.mesh_join.proofs.Bevels.{nothing_between}
-use Rattle.mesh_join.proofs.Drawing.{route_length}
 use Rattle.mesh_grid.specs.Rectangle.{IsSafeWidened}
 use Rattle.mesh_num.specs.Segments.{segments_of}
 use Rattle.mesh_join.proofs.Joints.{within_safe}

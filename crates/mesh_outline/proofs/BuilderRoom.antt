@@ -1,23 +1,17 @@
 -- Lemmas over points and lists: where there is room for the whole outline, there is room for each step of the builder's walk.
-use Rattle.std.proofs.Common.{◌≡◌, ℕ, ◌+◌, ◌*◌, ◌≤◌, ◌^◌, List, ◌∷◌, [], ◌++◌, true, length, map, length-append, arith, ap}
+use Rattle.std.proofs.Common.{◌≡◌, ℕ, ◌+◌, ◌*◌, ◌≤◌, ◌^◌, List, ◌∷◌, [], ◌++◌, length, length-append, arith, ap}
 use Rattle.std.specs.Prelude.{IsTrue}
 use Rattle.std.proofs.lemmas.List.{length-map}
-use Rattle.std.proofs.lemmas.List.Elements.{All-weaker}
 use Rattle.std.proofs.lemmas.List.Sorted.{length_permutation}
-use Rattle.mesh_plane.specs.Winding.{boundary}
 use Rattle.mesh_plane.specs.Plane.{Point, Edge}
 use Rattle.mesh_num.specs.Segments.{SignedEdge, edge_of, edges_of}
-use Rattle.mesh_join.proofs.JoinLaws.{KeepsJoint}
 use Rattle.mesh_join.specs.Cleaned.{cleaned_sections}
 use Rattle.mesh_join.specs.Joins.{has_few}
 use Rattle.mesh_join.specs.Styles.{OffsetJoin}
-use Rattle.mesh_outline.specs.Outline.{Section, SectionPair, outer_edges, parts, joint_at}
-use Rattle.mesh_outline.specs.Outline.{joined, section_of, closed_outline, outline_edges}
+use Rattle.mesh_outline.specs.Outline.{Section, section_of, closed_outline, outline_edges}
 use Rattle.mesh_outline.specs.Midway.{corner_segments, top_segments}
-use Rattle.mesh_outline.proofs.Corners.{corners_keep}
-use Rattle.mesh_outline.proofs.OutlineWalk.{drawn_length}
-use Rattle.mesh_outline.proofs.Promised.{cleaned_ring}
 use Rattle.mesh_outline.proofs.BuilderWalk.{step_segments, to_come, walk_segments, walk_permutes}
+use Rattle.mesh_outline.proofs.BuilderTheorems.{outline_few}
 
 -- the walk adds as many segments as the outline has edges
 walk_length : (unit : ℕ) (style : OffsetJoin) (e : Edge) (es : List Edge) →
@@ -67,16 +61,4 @@ room_last unit style contour e es left p first old now cap grown c l todo more r
 -- where joins have few edges, four for each section are room enough
 pub room_of_four : (unit : ℕ) (style : OffsetJoin) (points : List Point) (n cap : ℕ) → 2 ^ 14 ≤ unit → IsTrue (has_few style.join.kind) →
     n + 4 * length (cleaned_sections points) ≤ cap → n + length (outline_edges unit style points) ≤ cap
-room_of_four unit style points n cap least few room =
-    omega (
-      arith,
-      room,
-      drawn_length (parts style.offset) (joined unit style) sections
-          (All-weaker (λ (c : SectionPair). parts style.offset c ≡ true → KeepsJoint unit style.join (joint_at style.offset c))
-          (λ (c : SectionPair). parts style.offset c ≡ true → length (outer_edges (joined unit style) c) ≤ 3) (λ c keeps parted. (keeps parted).few few) (boundary sections)
-          (corners_keep unit style least (cleaned_sections points) (cleaned_ring points))),
-      length-map (cleaned_sections points) (section_of unit style.offset),
-    )
-  where
-    sections : List Section
-    sections = map (section_of unit style.offset) (cleaned_sections points)
+room_of_four unit style points n cap least few room = omega (arith, room, outline_few unit style points least few)

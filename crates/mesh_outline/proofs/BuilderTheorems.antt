@@ -36,12 +36,11 @@ module _ (unit : ℕ) (style : OffsetJoin) (points : List Point) (least : 2 ^ 14
       drawn_safe unit (offset_padding style) style.offset points (outline_pieces unit style points) (added_edges old new) (adds_promised old new h) movable
 
   -- where joins of the style's kind have few edges, so has the outline
-  pub adds_few : IsTrue (has_few style.join.kind) → (old new : List SignedEdge) → Adds old new (outline_edges unit style points) →
-      length (added old new) ≤ 4 * length (cleaned_sections points)
-  adds_few few old new h =
+  pub outline_few : IsTrue (has_few style.join.kind) →
+      length (outline_edges unit style points) ≤ 4 * length (cleaned_sections points)
+  outline_few few =
       omega (
         arith,
-        added_length old new (outline_edges unit style points) h,
         drawn_length (parts style.offset) (joined unit style) sections
             (All-weaker (λ (c : SectionPair). parts style.offset c ≡ true → KeepsJoint unit style.join (joint_at style.offset c))
             (λ (c : SectionPair). parts style.offset c ≡ true → length (outer_edges (joined unit style) c) ≤ 3) (λ c keeps parted. (keeps parted).few few) (boundary sections)
@@ -51,3 +50,7 @@ module _ (unit : ℕ) (style : OffsetJoin) (points : List Point) (least : 2 ^ 14
     where
       sections : List Section
       sections = map (section_of unit style.offset) (cleaned_sections points)
+
+  pub adds_few : IsTrue (has_few style.join.kind) → (old new : List SignedEdge) → Adds old new (outline_edges unit style points) →
+      length (added old new) ≤ 4 * length (cleaned_sections points)
+  adds_few few old new h = omega (arith, added_length old new (outline_edges unit style points) h, outline_few few)

@@ -6,12 +6,11 @@ use Rattle.std.specs.List.Sorted.{IsPermutation}
 use Rattle.std.proofs.lemmas.List.Elements.{All-head, All-tail}
 use Rattle.mesh_plane.specs.Plane.{Point, Edge}
 use Rattle.mesh_plane.specs.Winding.{boundary}
-use Rattle.mesh_plane.proofs.ClosedLists.{woven, woven_round}
+use Rattle.mesh_plane.proofs.ClosedLists.{woven, woven_round, boundary_length}
 use Rattle.mesh_num.specs.Segments.{proper_edges}
 use Rattle.mesh_draw.proofs.ProperEdges.{proper_append, proper_flat_map, proper_length}
 use Rattle.mesh_outline.specs.Outline.{Section, SectionPair, top_edge, inner_edges}
 use Rattle.mesh_outline.specs.Outline.{outer_edges, corner_edges, drawn_edges}
-use Rattle.mesh_join.proofs.Drawing.{route_length}
 
 -- what one section and what one corner draw
 abbrev pub drawn_top : Section → List Edge
@@ -41,10 +40,6 @@ drawn_by_walk is_outer join step mixed first rest =
     rw (drawn_by_parts is_outer join (first ∷ rest)) (woven_round drawn_top (drawn_corner is_outer join) step mixed first rest)
 
 -- how many edges
-corners_length : (xs : List Section) → length (boundary xs) ≡ length xs
-corners_length [] = refl
-corners_length (x ∷ xs) = omega (arith, route_length x xs x)
-
 corner_length : (is_outer : SectionPair → Bool) (join : SectionPair → List Point) (c : SectionPair) → (is_outer c ≡ true → length (outer_edges join c) ≤ 3) → length (corner_edges is_outer join c) ≤ 3
 corner_length is_outer join c few = by (is_outer c) refl
   where
@@ -57,7 +52,7 @@ pub drawn_length : (is_outer : SectionPair → Bool) (join : SectionPair → Lis
     All (λ (c : SectionPair). is_outer c ≡ true → length (outer_edges join c) ≤ 3) (boundary sections) → length (drawn_edges is_outer join sections) ≤ 4 * length sections
 drawn_length is_outer join sections few =
     rw (drawn_by_parts is_outer join sections)
-    (omega (arith, length-append (flat_map drawn_top sections) (flat_map (drawn_corner is_outer join) (boundary sections)), tops sections, all_corners (boundary sections) few, corners_length sections))
+    (omega (arith, length-append (flat_map drawn_top sections) (flat_map (drawn_corner is_outer join) (boundary sections)), tops sections, all_corners (boundary sections) few, boundary_length sections))
   where
     IsFew : SectionPair → Type 0
     IsFew c = is_outer c ≡ true → length (outer_edges join c) ≤ 3

@@ -101,12 +101,12 @@ drawn_all P is_outer join sections each joins =
     (All-append (HoldsOfEnds P) (map top_edge sections) (flat_map (corner_edges is_outer join) (boundary sections))
     (All-map (HoldsOfEnds P) top_edge sections (All-weaker (HoldsOf P) (λ (s : Section). P s.a_top × P s.b_top) (λ s h. (h.2, h.3)) sections each))
     (all_flat_map (HoldsOfEnds P) (corner_edges is_outer join) (boundary sections)
-    (All-weaker (λ (c : SectionPair). (HoldsOf P c.0 × HoldsOf P c.1) × Joined c) (λ (c : SectionPair). All (HoldsOfEnds P) (corner_edges is_outer join c))
+    (All-weaker (λ (c : SectionPair). (HoldsOf P c.0 × HoldsOf P c.1) × HoldsOfJoin c) (λ (c : SectionPair). All (HoldsOfEnds P) (corner_edges is_outer join c))
     (λ c h. corner_all P is_outer join c h.0.0 h.0.1 h.1) (boundary sections)
-    (all_both (λ (c : SectionPair). HoldsOf P c.0 × HoldsOf P c.1) Joined (boundary sections) (boundary_all (HoldsOf P) sections each) joins))))
+    (all_both (λ (c : SectionPair). HoldsOf P c.0 × HoldsOf P c.1) HoldsOfJoin (boundary sections) (boundary_all (HoldsOf P) sections each) joins))))
   where
-    Joined : SectionPair → Type 0
-    Joined c = is_outer c ≡ true → All P (between c.0.b_top (join c) c.1.a_top)
+    HoldsOfJoin : SectionPair → Type 0
+    HoldsOfJoin c = is_outer c ≡ true → All P (between c.0.b_top (join c) c.1.a_top)
 
 -- ---- outlines
 
@@ -150,20 +150,20 @@ module _ (unit : ℕ) (style : OffsetJoin) (vertices : List Point) (contour : Li
       (All-weaker (λ (c : Edge × Edge). (Contains vertices c.0.0 × Contains vertices c.0.1) × (Contains vertices c.1.0 × Contains vertices c.1.1)) (λ (c : Edge × Edge). Contains vertices c.0.1)
       (λ c h. h.0.1) (boundary contour) (boundary_all (λ (e : Edge). Contains vertices e.0 × Contains vertices e.1) contour listed))
 
-  abbrev Joined : SectionPair → Type 0
-  Joined c = parts style.offset c ≡ true → All Near (between c.0.b_top (joined unit style c) c.1.a_top)
+  abbrev IsJoinNear : SectionPair → Type 0
+  IsJoinNear c = parts style.offset c ≡ true → All Near (between c.0.b_top (joined unit style c) c.1.a_top)
 
   abbrev Keeps : SectionPair → Type 0
   Keeps c = parts style.offset c ≡ true → KeepsJoint unit style.join (joint_at style.offset c)
 
-  join_near : (c : SectionPair) → Keeps c → Contains vertices c.0.b → Joined c
+  join_near : (c : SectionPair) → Keeps c → Contains vertices c.0.b → IsJoinNear c
   join_near c keeps here parted =
       All-weaker (IsWithinPadding (offset_padding style) c.0.b) Near (λ p w. record { vertex = c.0.b; listed = here; within = w }) (between c.0.b_top (joined unit style c) c.1.a_top)
       (rw ((join_keeps unit style.join least).sized style.offset) at (keeps parted).near)
 
-  joins_near : All Joined (boundary sections)
+  joins_near : All IsJoinNear (boundary sections)
   joins_near =
-      All-weaker (λ (c : SectionPair). Keeps c × Contains vertices c.0.b) Joined (λ c h. join_near c h.0 h.1) (boundary sections)
+      All-weaker (λ (c : SectionPair). Keeps c × Contains vertices c.0.b) IsJoinNear (λ c h. join_near c h.0 h.1) (boundary sections)
       (all_both Keeps (λ (c : SectionPair). Contains vertices c.0.b) (boundary sections) (corners_keep unit style least contour ring) corners_listed)
 
   -- ends of the edges of an outline are away from a vertex by at most the padding in each coordinate

@@ -10,6 +10,7 @@ use Rattle.mesh_num.specs.Segments.{proper_edges}
 use Rattle.mesh_plane.specs.Winding.{same_point}
 use Rattle.mesh_clean.specs.Cleaned.{cleaned_sections}
 use Rattle.mesh_cuts.specs.Reach.{AreEdgesSafe}
+use Rattle.mesh_cuts.proofs.SafeCuts.{IsSafeEdge}
 use Rattle.mesh_below.proofs.AnswerPoints.{resolution_safe}
 use Rattle.mesh_grid.specs.Rectangle.{IsSafeWidened}
 use Rattle.mesh_shapes.specs.Contours.{double_area}
@@ -26,7 +27,7 @@ use Rattle.mesh_outline.proofs.Promised.{cleaned_ring, cleaned_listed}
 use Rattle.mesh_outline.proofs.Padding.{outer_accepted, inner_accepted, path_movable, outline_safe}
 use Rattle.mesh_below.proofs.AnswerPoints.{answer_edges_safe}
 use Rattle.mesh_draw.proofs.Resolving.{in_sense_safe}
-use Rattle.mesh_draw.proofs.Staying.{IsSafeEdge, safe_resolving}
+use Rattle.mesh_draw.proofs.Staying.{safe_resolving}
 
 -- the edges of an outline are safe, in whatever order
 built_safe : (unit : ℕ) (style : OffsetJoin) (contour : List Point) → 2 ^ 14 ≤ unit → All (IsMovable unit style) contour → (built : List Edge) → IsPermutation built (outline_edges unit style contour) →

@@ -8,10 +8,10 @@ use Rattle.std.proofs.lemmas.List.Sums.{sum_by-cons, sum_by-append}
 use Rattle.std.proofs.lemmas.List.Sorted.{sum_by-IsPermutation}
 use Rattle.std.proofs.lemmas.Int.{ints}
 use Rattle.mesh_plane.specs.Plane.{Point, Edge}
-use Rattle.mesh_plane.specs.Winding.{sum_of, total, boundary, pieces_total, same_point, IsBalanced, IsOdd}
+use Rattle.mesh_plane.specs.Winding.{sum_of, total, route, boundary, pieces_total, same_point, IsBalanced, IsOdd}
 use Rattle.mesh_plane.proofs.Whole.{linear}
 use Rattle.mesh_plane.proofs.Sums.{sum_of_same, sum_of_equal, sum_of_none, sum_of_map}
-use Rattle.mesh_plane.proofs.ClosedLists.{boundary_ends}
+use Rattle.mesh_plane.proofs.ClosedLists.{boundary_ends, route_steps, boundary_steps}
 use Rattle.mesh_plane.proofs.Comparing.{decides_point}
 
 -- how much `g` grows along an edge
@@ -21,10 +21,12 @@ growth g p r = g r -ℤ g p
 pub growth_odd : (g : Point → ℤ) → IsOdd (growth g)
 growth_odd g p r = omega (arith, linear)
 
+pub route_growth : (g : Point → ℤ) (a : Point) (xs : List Point) (z : Point) →
+    total (growth g) (route a xs z) ≡ g z -ℤ g a
+route_growth g a xs z = route_steps g a xs z
+
 pub growth_round : (g : Point → ℤ) (xs : List Point) → total (growth g) (boundary xs) ≡ pos 0
-growth_round g xs =
-    sum_of_same (λ (e : Edge). g e.1 -ℤ g e.0) (λ (e : Edge). neg_ℤ (g e.0) +ℤ g e.1) (λ e. omega (arith, linear)) (boundary xs)
-    ∙ (boundary_ends (λ p. neg_ℤ (g p)) g xs ∙ sum_of_none (λ p. g p +ℤ neg_ℤ (g p)) (λ p. omega (arith, linear)) xs)
+growth_round g xs = boundary_steps g xs
 
 pub growth_of_pieces : (g : Point → ℤ) (pieces : List (List Point)) → pieces_total (growth g) pieces ≡ pos 0
 growth_of_pieces g pieces = sum_of_none (λ (piece : List Point). total (growth g) (boundary piece)) (λ piece. growth_round g piece) pieces
@@ -46,16 +48,21 @@ pub marks_counted : {A : Type 0} (t : A → Bool) (xs : List A) → sum_of (λ x
 marks_counted t [] = refl
 marks_counted t (x ∷ xs) = omega (arith, ints, marks_counted t xs, marked_is (t x), sum_by-cons (λ x. cond (t x) 1 0) x xs)
 
-pub balanced_by_growth : (es : List Edge) → ((g : Point → ℤ) → total (growth g) es ≡ pos 0) → IsBalanced es
-balanced_by_growth es h p =
+-- a list is balanced where the mark of each point does not grow along it
+pub balanced_at_points : (es : List Edge) →
+    ((p : Point) → total (growth (λ (x : Point). cond (same_point p x) (pos 1) (pos 0))) es ≡ pos 0) → IsBalanced es
+balanced_at_points es h p =
     omega (
       arith,
       ints,
-      growth_parts (marked p) es,
-      h (marked p),
+      growth_parts (λ (x : Point). cond (same_point p x) (pos 1) (pos 0)) es,
+      h p,
       marks_counted (λ (e : Edge). same_point p e.0) es,
       marks_counted (λ (e : Edge). same_point p e.1) es,
     )
+
+pub balanced_by_growth : (es : List Edge) → ((g : Point → ℤ) → total (growth g) es ≡ pos 0) → IsBalanced es
+balanced_by_growth es h = balanced_at_points es (λ p. h (λ (x : Point). cond (same_point p x) (pos 1) (pos 0)))
 
 pub boundary_balanced : (xs : List Point) → IsBalanced (boundary xs)
 boundary_balanced xs = balanced_by_growth (boundary xs) (λ g. growth_round g xs)

@@ -1,5 +1,5 @@
 -- Lemmas over points and lists: the neighbouring pairs of a list, and of a closed one.
-use Rattle.std.proofs.Common.{◌≡◌, List, [], ◌∷◌, ◌++◌, refl, sym, ap, arith, append_assoc, append-nil}
+use Rattle.std.proofs.Common.{◌≡◌, ◌+◌, List, [], ◌∷◌, ◌++◌, length, refl, sym, ap, arith, append_assoc, append-nil}
 use Rattle.std.specs.Prelude.{ℤ, pos, ◌+ℤ◌, ◌-ℤ◌, map}
 use Rattle.std.specs.List.{All, flat_map}
 use Rattle.std.proofs.lemmas.List.Elements.{All-nil, All-cons, All-head, All-tail, All-append}
@@ -8,6 +8,16 @@ use Rattle.std.proofs.lemmas.List.Sorted.{IsPermutation-refl, IsPermutation-tran
 use Rattle.mesh_plane.specs.Winding.{sum_of, route, boundary}
 use Rattle.mesh_plane.proofs.Whole.{linear}
 use Rattle.mesh_plane.proofs.Sums.{sum_of_append}
+
+-- a route has a pair for each one between its ends, and one more
+pub route_length : {A : Type 0} (a : A) (xs : List A) (z : A) → length (route a xs z) ≡ length xs + 1
+route_length a [] z = omega arith
+route_length a (x ∷ xs) z = omega (arith, route_length x xs z)
+
+-- and a closed list one for each
+pub boundary_length : {A : Type 0} (xs : List A) → length (boundary xs) ≡ length xs
+boundary_length [] = refl
+boundary_length (x ∷ xs) = omega (arith, route_length x xs x)
 
 -- each inner one of a route is once the end of a pair and once the start of one
 pub route_ends : {A : Type 0} (h g : A → ℤ) (a : A) (xs : List A) (z : A) →
@@ -22,7 +32,7 @@ boundary_ends h g [] = refl
 boundary_ends h g (x ∷ xs) = omega (arith, linear, route_ends h g x xs x)
 
 -- the steps along a route add up to the one between its ends
-route_steps : {A : Type 0} (f : A → ℤ) (a : A) (xs : List A) (z : A) → sum_of (λ (e : A × A). f e.1 -ℤ f e.0) (route a xs z) ≡ f z -ℤ f a
+pub route_steps : {A : Type 0} (f : A → ℤ) (a : A) (xs : List A) (z : A) → sum_of (λ (e : A × A). f e.1 -ℤ f e.0) (route a xs z) ≡ f z -ℤ f a
 route_steps f a [] z = omega (arith, linear)
 route_steps f a (x ∷ xs) z = omega (arith, linear, route_steps f x xs z)
 
@@ -74,6 +84,12 @@ pub all_flat_map : {A B : Type 0} (P : B → Type 0) (g : A → List B) (xs : Li
 all_flat_map P g [] h = All-nil P
 all_flat_map P g (x ∷ xs) h =
     All-append P (g x) (flat_map g xs) (All-head (λ y. All P (g y)) x xs h) (all_flat_map P g xs (All-tail (λ y. All P (g y)) x xs h))
+
+-- what holds of what a function gives
+pub all_mapped : {A B : Type 0} (P : B → Type 0) (g : A → B) (xs : List A) → All P (map g xs) → All (λ x. P (g x)) xs
+all_mapped P g [] h = All-nil (λ x. P (g x))
+all_mapped P g (x ∷ xs) h =
+    All-cons (λ x. P (g x)) x xs (All-head P (g x) (map g xs) h) (all_mapped P g xs (All-tail P (g x) (map g xs) h))
 
 -- a closed list begun elsewhere has the same sum
 pub boundary_rotated : {A : Type 0} (f : A × A → ℤ) (xs ys : List A) →

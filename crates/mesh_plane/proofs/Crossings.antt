@@ -4,7 +4,7 @@ use Rattle.std.specs.Prelude.{ℤ, pos, negsuc, ◌+ℤ◌, ◌*ℤ◌, ◌≤�
 use lib.Signed.{◌<ℤ◌}
 use Rattle.std.proofs.lemmas.Int.{ints}
 use Rattle.mesh_plane.specs.Plane.{Point, turn}
-use Rattle.mesh_plane.specs.Winding.{crossing_of, crossing, refined, crossing_on}
+use Rattle.mesh_plane.specs.Winding.{IsStraight, crossing_of, crossing, refined, crossing_on}
 use Rattle.mesh_plane.proofs.Whole.{linear, multiplied, mul_nonneg}
 
 -- turns
@@ -16,6 +16,10 @@ turn_cycle p r s = simp multiplied (omega (arith, linear))
 
 pub turn_swap : (p r s : Point) → turn p s r ≡ neg_ℤ (turn p r s)
 turn_swap p r s = simp multiplied (omega (arith, linear))
+
+-- what adds up along lines is 0 from a point to itself
+pub straight_none : (f : Point → Point → ℤ) → IsStraight f → (p : Point) → f p p ≡ pos 0
+straight_none f straight p = omega (arith, linear, straight p p p (omega (arith, linear, turn_swap p p p)))
 
 -- the crossing over bare numbers: the heights of both ends, the height of the point and its turn
 pub crossing_of_flip : (a b h t s : ℤ) → s ≡ neg_ℤ t → crossing_of a b h t +ℤ crossing_of b a h s ≡ pos 0

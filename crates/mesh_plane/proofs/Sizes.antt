@@ -1,5 +1,5 @@
 -- Lemmas over whole numbers: sizes, squares and quotients of natural numbers.
-use Rattle.std.proofs.Common.{◌≡◌, ℕ, ◌+◌, ◌*◌, ◌-◌, ◌/◌, ◌<◌, ◌≤◌, zero, suc, refl, arith}
+use Rattle.std.proofs.Common.{◌≡◌, ℕ, ◌+◌, ◌*◌, ◌-◌, ◌/◌, ◌<◌, ◌≤◌, ◌⊎◌, inl, inr, zero, suc, refl, arith}
 use Rattle.std.specs.Prelude.{◌≢◌, ℤ, pos, negsuc, ◌+ℤ◌, ◌-ℤ◌, ◌*ℤ◌, neg_ℤ, unsigned_abs}
 use Rattle.std.proofs.Math.Nat.{mul-le-mul, div-mul-le_self}
 use Rattle.std.proofs.lemmas.Nat.{mul-lt, le-div}
@@ -7,7 +7,7 @@ use Rattle.std.proofs.lemmas.Bool.{cases_lt}
 use Rattle.std.proofs.lemmas.Int.{ints, unsigned_abs-mul}
 use mathlib.Core.Logic.{⊎_elim}
 use Rattle.mesh_plane.specs.Bounds.{IsWithin, IsSmall}
-use Rattle.mesh_plane.specs.Plane.{Point, dot, opposite, length_sq}
+use Rattle.mesh_plane.specs.Plane.{Point, minus, dot, opposite, length_sq}
 use Rattle.mesh_plane.proofs.Whole.{linear}
 
 pub le_of_squares : (j k : ℕ) → j * j ≤ k * k → j ≤ k
@@ -16,6 +16,10 @@ le_of_squares j k h = ⊎_elim (λ l. absurd (omega (arith, mul-lt k k j j l l))
 pub lt_of_squares : (j k : ℕ) → j * j < k * k → j < k
 lt_of_squares j k h =
     ⊎_elim (λ l. l) (λ l. let m : k * k ≤ j * j = mul-le-mul l l in absurd (omega arith)) (cases_lt j k)
+
+pub square_none : (n : ℕ) → n * n ≤ 0 → n ≡ 0
+square_none zero h = refl
+square_none (suc n) h = absurd (omega arith)
 
 pub two_products : (k l : ℕ) → 2 * (k * l) ≤ k * k + l * l
 two_products k l = ⊎_elim (λ h. from k (l - k) l (omega arith)) (λ h. let p : 2 * (l * k) ≤ l * l + k * k = from l (k - l) k (omega arith) in omega arith) (cases_lt k l)
@@ -62,6 +66,19 @@ product_size a b m n h k = omega (arith, unsigned_abs-mul a b, mul-le-mul h k)
 
 pub dot_self : (v : Point) → dot v v ≡ pos (length_sq v)
 dot_self v = omega (arith, linear, size_square v.0, size_square v.1)
+
+-- different points are some length apart
+pub apart_some : (p c : Point) → p ≢ c → 0 < length_sq (minus p c)
+apart_some p c apart = by (cases_lt 0 (length_sq (minus p c)))
+  where
+    by : (0 < length_sq (minus p c)) ⊎ (length_sq (minus p c) ≤ 0) → 0 < length_sq (minus p c)
+    by (inl h) = h
+    by (inr h) =
+        let x : p.0 -ℤ c.0 ≡ pos 0 = size_zero (p.0 -ℤ c.0) (square_none (unsigned_abs (p.0 -ℤ c.0)) (omega arith)) in
+        let y : p.1 -ℤ c.1 ≡ pos 0 = size_zero (p.1 -ℤ c.1) (square_none (unsigned_abs (p.1 -ℤ c.1)) (omega arith)) in
+        let ex : p.0 ≡ c.0 = omega (arith, ints) in
+        let ey : p.1 ≡ c.1 = omega (arith, ints) in
+        absurd (apart (λ i. (ex i, ey i)))
 
 pub length_opposite : (v : Point) → length_sq (opposite v) ≡ length_sq v
 length_opposite v = rw (size_neg v.0, size_neg v.1) refl

@@ -1,5 +1,5 @@
 -- Lemmas over points and lists: sums over a list, of any function, and their regrouping.
-use Rattle.std.proofs.Common.{◌≡◌, List, [], ◌∷◌, ◌++◌, refl, ◌∙◌, arith}
+use Rattle.std.proofs.Common.{◌≡◌, List, [], ◌∷◌, ◌++◌, length, refl, ◌∙◌, arith}
 use Rattle.std.specs.Prelude.{Bool, true, false, cond, ℤ, pos, ◌+ℤ◌, map, ◌≤ℤ◌}
 use Rattle.std.specs.List.{All, filter, flat_map, sum_by}
 use Rattle.std.specs.List.Sorted.{IsPermutation}
@@ -36,6 +36,10 @@ sum_of_same f g e (x ∷ xs) = omega (arith, linear, e x, sum_of_same f g e xs)
 pub sum_of_none : {A : Type 0} (f : A → ℤ) → ((x : A) → f x ≡ pos 0) → (xs : List A) → sum_of f xs ≡ pos 0
 sum_of_none f e [] = refl
 sum_of_none f e (x ∷ xs) = omega (arith, linear, e x, sum_of_none f e xs)
+
+pub sum_of_ones : {A : Type 0} (xs : List A) → sum_of (λ x. pos 1) xs ≡ pos (length xs)
+sum_of_ones [] = refl
+sum_of_ones (x ∷ xs) = omega (arith, ints, sum_of_ones xs)
 
 pub sum_of_equal : {A : Type 0} (f g : A → ℤ) (xs : List A) → All (λ x. f x ≡ g x) xs → sum_of f xs ≡ sum_of g xs
 sum_of_equal f g [] h = refl

@@ -1,6 +1,6 @@
 -- Lemmas over points: what it tells that a way does not turn.
 use Rattle.std.proofs.Common.{◌≡◌, false, not, [], ◌∷◌, refl, ◌∙◌, ap}
-use Rattle.std.specs.Prelude.{ℤ, pos, neg_ℤ, ◌≤ℤ◌, int_lt}
+use Rattle.std.specs.Prelude.{pos, neg_ℤ, ◌≤ℤ◌, int_lt}
 use Rattle.std.specs.Ordering.{int_eq}
 use Rattle.std.proofs.lemmas.Bool.{or_parts, not-false}
 use Rattle.std.proofs.lemmas.Bool.Decides.{Decides-int_eq}

@@ -9,6 +9,10 @@ use borrow.Author.Differences.{up, down, sum_is_lem, neg_is, product_is, same_ou
 -- linear facts on whole numbers, each product one unknown
 pub ruleset linear = (same_out, same_in, lt_out, le_out, below_in, at_most_in, sum_is_lem, neg_is)
 
+-- two numbers stand in the one order or in the other
+pub either_order : (a b : ℤ) → (a ≤ℤ b) ⊎ (b ≤ℤ a)
+either_order a b = grind (arith, ints)
+
 -- ---- products of sums, of opposites and of products
 
 pub mul_add : (a b c : ℤ) → a *ℤ (b +ℤ c) ≡ (a *ℤ b) +ℤ (a *ℤ c)
@@ -138,6 +142,13 @@ factor a b e =
     (λ l. absurd (omega (arith, linear, mul_pos a b p l)))
     (λ l. inr (omega (arith, linear)))))
     (λ p. inl (omega (arith, linear))))
+
+pub square_zero : (a : ℤ) → (a *ℤ a) ≤ℤ pos 0 → a ≡ pos 0
+square_zero a h = by (factor a a (omega (arith, linear, h, square_nonneg a)))
+  where
+    by : (a ≡ pos 0) ⊎ (a ≡ pos 0) → a ≡ pos 0
+    by (inl e) = e
+    by (inr e) = e
 
 -- ---- a factor that is not negative keeps the order, and one above 0 can be cancelled
 

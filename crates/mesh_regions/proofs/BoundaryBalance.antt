@@ -1,15 +1,14 @@
 -- Lemmas over points and lists: the boundary leaves each point as often as it enters it.
-use Rattle.std.proofs.Common.{◌≡◌, ℕ, ◌+◌, ◌⊎◌, inl, inr, ⊎_elim, Bool, true, false, cond, ◌&&◌, List, [], ◌∷◌, refl, sym, ◌∙◌, ap, subst, arith}
-use Rattle.std.specs.Prelude.{ℤ, pos, neg_ℤ, ◌+ℤ◌, ◌-ℤ◌, ◌*ℤ◌, ◌≤ℤ◌, ◌<ℤ◌, int_lt, int_le, count_by}
+use Rattle.std.proofs.Common.{◌≡◌, ◌⊎◌, inl, inr, ⊎_elim, Bool, true, false, cond, ◌&&◌, List, [], ◌∷◌, refl, sym, ◌∙◌, ap, subst, arith}
+use Rattle.std.specs.Prelude.{ℤ, pos, neg_ℤ, ◌+ℤ◌, ◌-ℤ◌, ◌*ℤ◌, ◌≤ℤ◌, ◌<ℤ◌, int_lt, int_le}
 use Rattle.std.proofs.lemmas.Int.{ints, by_lt_z}
 use Rattle.std.proofs.lemmas.Bool.{cases_Bool, or_right, both_ways}
-use Rattle.std.proofs.lemmas.List.Sums.{sum_by-cons}
 use Rattle.mesh_plane.specs.Plane.{Point, Edge, turn}
 use Rattle.mesh_plane.specs.Winding.{sum_of, crossing_of, crossing, total, IsBalanced, same_point}
 use Rattle.mesh_plane.proofs.Whole.{linear, times_zero, mul_one, both_le}
 use Rattle.mesh_plane.proofs.Ring.{ring, var, lit, ◌⊕◌, ◌⊖◌, ◌⊗◌}
 use Rattle.mesh_plane.proofs.Crossings.{crossing_low, crossing_high}
-use Rattle.mesh_plane.proofs.Balance.{growth, growth_of_balanced}
+use Rattle.mesh_plane.proofs.Balance.{growth, growth_of_balanced, balanced_at_points}
 use Rattle.mesh_cuts.specs.Clean.{IsOn, IsClean, IsProper}
 use Rattle.mesh_cuts.specs.Split.{back, same_ends, occurs, IsBetween}
 use Rattle.mesh_cuts.specs.Counted.{bit, net}
@@ -459,23 +458,6 @@ one_growth : (p : Point) (es : List Edge) →
     ≡ total (growth (λ (v : Point). cond (same_point p v) (pos 1) (pos 0))) es
 one_growth p [] = refl
 one_growth p (e ∷ es) = omega (arith, linear, one_point p e.0, one_point p e.1, one_growth p es)
-
--- a list is balanced where each point's growth is none
-balanced_at_points : (es : List Edge) → ((p : Point) → total (growth (λ (v : Point). cond (same_point p v) (pos 1) (pos 0))) es ≡ pos 0) → IsBalanced es
-balanced_at_points es h p =
-    omega (arith, ints, h p, parts p es, counted (λ (e : Edge). same_point p e.0) es, counted (λ (e : Edge). same_point p e.1) es)
-  where
-    parts : (p : Point) (es : List Edge) → total (growth (λ (v : Point). cond (same_point p v) (pos 1) (pos 0))) es +ℤ sum_of (λ (e : Edge). bit (same_point p e.0)) es ≡ sum_of (λ (e : Edge). bit (same_point p e.1)) es
-    parts p [] = refl
-    parts p (e ∷ es) = omega (arith, linear, parts p es)
-
-    counted : (t : Edge → Bool) (es : List Edge) → sum_of (λ (e : Edge). bit (t e)) es ≡ pos (count_by t es)
-    counted t [] = refl
-    counted t (e ∷ es) = one (t e) (count_by t es) (count_by t (e ∷ es)) (sum_of (λ (d : Edge). bit (t d)) es) (sum_by-cons (λ (x : Edge). cond (t x) 1 0) e es) (counted t es)
-      where
-        one : (b : Bool) (n m : ℕ) (z : ℤ) → m ≡ cond b 1 0 + n → z ≡ pos n → bit b +ℤ z ≡ pos m
-        one true n m z f g = omega (arith, ints)
-        one false n m z f g = omega (arith, ints)
 
 -- the boundary is balanced
 pub boundary_is_balanced : (es rs bs : List Edge) (fill : ℤ → Bool) → Setting es rs → IsBoundary es fill bs → fill (pos 0) ≡ false → IsBalanced bs

@@ -1,9 +1,10 @@
 -- Lemmas over whole numbers and lists: sums along a closed list of points, as 128 bits hold them.
-use Rattle.std.proofs.Common.{◌≡◌, ℕ, ◌+◌, ◌*◌, ◌^◌, ◌<◌, ◌≤◌, zero, suc, List, [], ◌∷◌, length, drop, ◌-◌, false, refl, sym, ◌∙◌, ap, subst, arith}
+use Rattle.std.proofs.Common.{◌≡◌, ℕ, ◌+◌, ◌*◌, ◌^◌, ◌<◌, ◌≤◌, List, [], ◌∷◌, length, drop, ◌-◌, false, refl, sym, ◌∙◌, ap, subst, arith}
 use Rattle.std.specs.Prelude.{ℤ, pos, ◌+ℤ◌, unsigned_abs, ◌==◌}
 use Rattle.std.proofs.lemmas.Int.{ints, to_z-of_z}
 use Rattle.std.proofs.Math.Nat.{mul-le-mul}
 use Rattle.std.proofs.lemmas.Bool.{true≢false}
+use Rattle.std.proofs.lemmas.List.{drop_all}
 use mir.Syntax.{w32, w128}
 use mir.Val.{SFits, to_z, of_z}
 use Rattle.mesh_plane.specs.Bounds.{IsSmall}
@@ -33,13 +34,8 @@ pub route_place : (f : Point → Point → ℤ) (before z : Point) (ps : List Po
 route_place f before z ps i h = ap (λ (l : List Point). total f (route before l z)) (at_place ps i h)
 
 pub route_last : (f : Point → Point → ℤ) (before z : Point) (ps : List Point) (n : ℕ) → length ps ≤ n → total f (route before (drop n ps) z) ≡ f before z
-route_last f before z ps n h = ap (λ (l : List Point). total f (route before l z)) (none ps n h) ∙ omega (arith, linear)
-  where
-    none : (l : List Point) (n : ℕ) → length l ≤ n → drop n l ≡ []
-    none [] zero h = refl
-    none [] (suc n) h = refl
-    none (x ∷ l) zero h = absurd (omega arith)
-    none (x ∷ l) (suc n) h = none l n (omega arith)
+route_last f before z ps n h =
+    ap (λ (l : List Point). total f (route before l z)) (drop_all n ps h) ∙ omega (arith, linear)
 
 -- ---- the loop along a closed list
 -- the sum so far, before the place `i`, and what is still to come make the sum over the boundary
@@ -100,9 +96,10 @@ closed_end f m ps i before a b s d low term = omega (arith, linear, d.same, s.va
 pub total_below : (m i : ℕ) (z : ℤ) → unsigned_abs z ≤ m * i → m ≤ 2 ^ 63 → i < 2 ^ 64 → unsigned_abs z < 2 ^ 127
 total_below m i z h mm l = omega (arith, times_below m i mm l)
 
-pub some_points : (ps : List Point) → (length ps == 0) ≡ false → 0 < length ps
-some_points [] h = absurd (true≢false h)
-some_points (p ∷ ps) h = omega arith
+-- a list that is not empty
+pub some_elements : {A : Type 0} (xs : List A) → (length xs == 0) ≡ false → 0 < length xs
+some_elements [] h = absurd (true≢false h)
+some_elements (x ∷ xs) h = omega arith
 
 pub one_size : (z : ℤ) → IsSmall 2 z → unsigned_abs z ≤ 1
 one_size z h = omega (arith, ints, h.low, h.high)

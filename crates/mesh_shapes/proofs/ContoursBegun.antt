@@ -19,8 +19,8 @@ use Rattle.mesh_plane.specs.Ways.{turns_at, first_or, last_of}
 use Rattle.mesh_shapes.specs.Contours.{turning_points, kept, vertices, edge_lt, FirstIsLeast, IsBegun, side_point, left_out, StartsOnce, IsRingOf, IsRingAmong}
 use Rattle.mesh_cuts.specs.Counted.{bit}
 use Rattle.mesh_shapes.specs.Midway.Progress.{point_at, next_at, next_kept, IsBestVisit, IsLeastBefore}
-use Rattle.mesh_cuts.proofs.Each.{Each, each_more}
-use Rattle.mesh_shapes.proofs.ContoursKept.{Proper}
+use Rattle.mesh_cuts.proofs.Each.{Each, each_more, each_append, each_left, each_right}
+use Rattle.mesh_cuts.proofs.SoundCuts.{ProperEnds}
 use Rattle.mesh_shapes.proofs.Walking.{Before, before_of, of_before, not_before, three_ways, lt_self, from_after, before_trans, before_not_self}
 use Rattle.mesh_plane.proofs.Comparing.{decides_point, less_test}
 
@@ -119,31 +119,31 @@ last_less p a [] ha h = ha
 last_less p a (x ∷ xs) ha h = last_less p x xs h.0 h.1
 
 -- an edge into the point, and one out of it, where the way `a`, `xs`, `p`, `ys`, `z` is proper
-proper_last : (a : Point) (xs : List Point) (p : Point) (ys : List Point) (z : Point) → Each Proper (route a (xs ++ p ∷ ys) z) → last_of a xs ≡ p → ⊥
+proper_last : (a : Point) (xs : List Point) (p : Point) (ys : List Point) (z : Point) → Each ProperEnds (route a (xs ++ p ∷ ys) z) → last_of a xs ≡ p → ⊥
 proper_last a [] p ys z h = h.0
 proper_last a (x ∷ xs) p ys z h = proper_last x xs p ys z h.1
 
-proper_first : (a : Point) (xs : List Point) (p : Point) (ys : List Point) (z : Point) → Each Proper (route a (xs ++ p ∷ ys) z) → p ≡ first_or z ys → ⊥
+proper_first : (a : Point) (xs : List Point) (p : Point) (ys : List Point) (z : Point) → Each ProperEnds (route a (xs ++ p ∷ ys) z) → p ≡ first_or z ys → ⊥
 proper_first a [] p [] z h = h.1.0
 proper_first a [] p (y ∷ ys) z h = h.1.0
 proper_first a (x ∷ xs) p ys z h = proper_first x xs p ys z h.1
 
 -- a contour turns at the least point within it
-inner_corner : (p a : Point) (xs ys : List Point) → point_lt a p ≡ false → NoneLess p xs → NoneLess p ys → Each Proper (route a (xs ++ p ∷ ys) p) →
+inner_corner : (p a : Point) (xs ys : List Point) → point_lt a p ≡ false → NoneLess p xs → NoneLess p ys → Each ProperEnds (route a (xs ++ p ∷ ys) p) →
     turns_at (last_of a xs) p (first_or p ys) ≡ true
 inner_corner p a xs ys ha hx hy proper =
     least_corner (last_of a xs) p (first_or p ys) (last_less p a xs ha hx) (first_less p ys hy) (proper_last a xs p ys p proper)
     (λ (e : first_or p ys ≡ p). proper_first a xs p ys p proper (sym e))
 
 -- visits before and after a visit in between
-pub visits_split : (all : Bool) (p m a : Point) (xs ys : List Point) → point_lt a p ≡ false → NoneLess p xs → NoneLess p ys → Each Proper (route a (xs ++ p ∷ ys) p) →
+pub visits_split : (all : Bool) (p m a : Point) (xs ys : List Point) → point_lt a p ≡ false → NoneLess p xs → NoneLess p ys → Each ProperEnds (route a (xs ++ p ∷ ys) p) →
     VisitsLeast all p m (xs ++ p ∷ ys) → VisitsLeast all p m xs × VisitsLeast all p m (p ∷ ys)
 visits_split all p m a [] ys ha hx hy proper v = (tt, v)
 visits_split all p m a (x ∷ xs) ys ha hx hy proper v =
     let rest = visits_split all p m x xs ys hx.0 hx.1 hy proper.1 v.1 in
     (((λ (e : x ≡ p). subst (λ (q : Point). point_lt q m ≡ false) (next_same all p x xs ys (inner_corner p x xs ys hx.0 hx.1 hy proper.1)) (v.0 e)), rest.0), rest.1)
 
-pub visits_join : (all : Bool) (p m a : Point) (xs ys : List Point) → point_lt a p ≡ false → NoneLess p xs → NoneLess p ys → Each Proper (route a (xs ++ p ∷ ys) p) →
+pub visits_join : (all : Bool) (p m a : Point) (xs ys : List Point) → point_lt a p ≡ false → NoneLess p xs → NoneLess p ys → Each ProperEnds (route a (xs ++ p ∷ ys) p) →
     VisitsLeast all p m xs → VisitsLeast all p m (p ∷ ys) → VisitsLeast all p m (xs ++ p ∷ ys)
 visits_join all p m a [] ys ha hx hy proper v w = w
 visits_join all p m a (x ∷ xs) ys ha hx hy proper v w = (
@@ -193,7 +193,7 @@ begun_of all p xs hx v = record {
 }
 
 -- turned to a visit of the least point
-pub begun_turned : (all : Bool) (p : Point) (xs ys : List Point) → NoneLess p xs → NoneLess p ys → Each Proper (route p (xs ++ p ∷ ys) p) → Each Proper (route p (ys ++ p ∷ xs) p) →
+pub begun_turned : (all : Bool) (p : Point) (xs ys : List Point) → NoneLess p xs → NoneLess p ys → Each ProperEnds (route p (xs ++ p ∷ ys) p) → Each ProperEnds (route p (ys ++ p ∷ xs) p) →
     VisitsLeast all p (next_kept all p ys p) (p ∷ (xs ++ p ∷ ys)) → IsBegun all (p ∷ (ys ++ p ∷ xs))
 begun_turned all p xs ys hx hy proper turned v =
     let m : Point = next_kept all p ys p in
@@ -202,18 +202,11 @@ begun_turned all p xs ys hx hy proper turned v =
     let same : next_kept all p (ys ++ p ∷ xs) p ≡ m = next_same all p p ys xs corner in
     let own : p ≡ p → point_lt (next_kept all p xs p) m ≡ false =
     λ (e : p ≡ p). subst (λ (q : Point). point_lt q m ≡ false) (next_same all p p xs ys (inner_corner p p xs ys (lt_self p) hx hy proper)) (v.0 e) in
-    begun_of all p (ys ++ p ∷ xs) (each_append_points hy hx)
+    begun_of all p (ys ++ p ∷ xs) (each_append (λ (q : Point). point_lt q p ≡ false) ys (p ∷ xs) hy (lt_self p, hx))
     (subst (λ (q : Point). VisitsLeast all p q (p ∷ (ys ++ p ∷ xs))) (sym same) (
       (λ (e : p ≡ p). subst (λ (q : Point). point_lt q m ≡ false) (sym same) (lt_self m)),
       visits_join all p m p ys xs (lt_self p) hy hx turned parts.1.1 (own, parts.0),
     ))
-  where
-    each_append_points : NoneLess p ys → NoneLess p xs → NoneLess p (ys ++ p ∷ xs)
-    each_append_points h k = join ys h
-      where
-        join : (zs : List Point) → NoneLess p zs → NoneLess p (zs ++ p ∷ xs)
-        join [] g = (lt_self p, k)
-        join (z ∷ zs) g = (g.0, join zs g.1)
 
 -- ---- from places to lists
 each_places : (P : Point → Type 0) (ps : List Point) → ((k : ℕ) → k < length ps → P (point_at ps k)) → Each P ps
@@ -231,14 +224,6 @@ each_take P zero [] h = tt
 each_take P zero (p ∷ ps) h = tt
 each_take P (suc n) [] h = tt
 each_take P (suc n) (p ∷ ps) h = (h.0, each_take P n ps h.1)
-
-each_join : {A : Type 0} (P : A → Type 0) (xs ys : List A) → Each P xs → Each P ys → Each P (xs ++ ys)
-each_join P [] ys h k = k
-each_join P (x ∷ xs) ys h k = (h.0, each_join P xs ys h.1 k)
-
-each_parts : {A : Type 0} (P : A → Type 0) (xs ys : List A) → Each P (xs ++ ys) → Each P xs × Each P ys
-each_parts P [] ys h = (tt, h)
-each_parts P (x ∷ xs) ys h = let r = each_parts P xs ys h.1 in ((h.0, r.0), r.1)
 
 -- the visits of a list, by their places
 drop_zero : (l : List Point) → drop 0 l ≡ l
@@ -280,7 +265,7 @@ comes_by xs i p l e =
 abbrev ends_bit : Edge → ℤ
 ends_bit e = bit (same_point e.0 e.1)
 
-proper_bits : (es : List Edge) → Each Proper es → sum_of ends_bit es ≡ pos 0
+proper_bits : (es : List Edge) → Each ProperEnds es → sum_of ends_bit es ≡ pos 0
 proper_bits [] h = refl
 proper_bits (e ∷ es) h =
     omega (arith, linear, ap bit (⊎_elim (λ (t : same_point e.0 e.1 ≡ true). absurd (h.0 ((decides_point e.0 e.1).0 t))) (λ (f : same_point e.0 e.1 ≡ false). f) (cases_Bool (same_point e.0 e.1))), proper_bits es h.1)
@@ -293,18 +278,20 @@ bits_least (e ∷ es) = by (same_point e.0 e.1) (bits_least es)
     by true h = omega (arith, ints)
     by false h = omega (arith, ints)
 
-bits_proper : (es : List Edge) → sum_of ends_bit es ≡ pos 0 → Each Proper es
+bits_proper : (es : List Edge) → sum_of ends_bit es ≡ pos 0 → Each ProperEnds es
 bits_proper [] h = tt
 bits_proper (e ∷ es) h = by (same_point e.0 e.1) refl (bits_proper es)
   where
-    by : (b : Bool) → same_point e.0 e.1 ≡ b → (sum_of ends_bit es ≡ pos 0 → Each Proper es) → Each Proper (e ∷ es)
+    by : (b : Bool) → same_point e.0 e.1 ≡ b → (sum_of ends_bit es ≡ pos 0 → Each ProperEnds es) →
+        Each ProperEnds (e ∷ es)
     by true t f = absurd (omega (arith, ints, ap bit t, bits_least es))
     by false t f = ((λ (x : e.0 ≡ e.1). both_ways (same_point e.0 e.1) t ((decides_point e.0 e.1).1 x)), f (omega (arith, linear, ap bit t)))
 
-pub proper_rotated : (xs ys : List Point) → Each Proper (boundary (xs ++ ys)) → Each Proper (boundary (ys ++ xs))
+pub proper_rotated : (xs ys : List Point) → Each ProperEnds (boundary (xs ++ ys)) →
+    Each ProperEnds (boundary (ys ++ xs))
 proper_rotated xs ys h = bits_proper (boundary (ys ++ xs)) (sym (boundary_rotated ends_bit xs ys) ∙ proper_bits (boundary (xs ++ ys)) h)
 
-pub proper_all : (es : List Edge) → All (λ (e : Edge). same_point e.0 e.1 ≡ false) es → Each Proper es
+pub proper_all : (es : List Edge) → All (λ (e : Edge). same_point e.0 e.1 ≡ false) es → Each ProperEnds es
 proper_all [] h = tt
 proper_all (e ∷ es) h = (
   (λ (x : e.0 ≡ e.1). both_ways (same_point e.0 e.1) (All-head (λ (e : Edge). same_point e.0 e.1 ≡ false) e es h) ((decides_point e.0 e.1).1 x)),
@@ -313,7 +300,7 @@ proper_all (e ∷ es) h = (
 
 -- ---- a contour turned to its start
 -- a contour that begins at its least point, turned to the best of the visits of it
-pub best_begun : (all : Bool) (p : Point) (xs : List Point) (i : ℕ) → NoneLess p xs → Each Proper (boundary (p ∷ xs)) → IsBestVisit all (p ∷ xs) (length (p ∷ xs)) i →
+pub best_begun : (all : Bool) (p : Point) (xs : List Point) (i : ℕ) → NoneLess p xs → Each ProperEnds (boundary (p ∷ xs)) → IsBestVisit all (p ∷ xs) (length (p ∷ xs)) i →
     IsBegun all (drop i (p ∷ xs) ++ take i (p ∷ xs))
 best_begun all p xs zero hx proper best =
     subst (IsBegun all) (sym (append-nil (p ∷ xs)))
@@ -324,14 +311,18 @@ best_begun all p xs zero hx proper best =
     first = ap (λ (l : List Point). next_kept all p l p) (drop_zero xs)
 best_begun all p xs (suc i) hx proper best =
     let r = comes_by xs i p (omega (arith, best.within)) best.visit in
-    let whole = subst (λ (l : List Point). Each Proper (boundary l)) r.list_is proper in
+    let whole = subst (λ (l : List Point). Each ProperEnds (boundary l)) r.list_is proper in
     let turned = proper_rotated (p ∷ r.before) (p ∷ r.after) whole in
-    let least = each_parts (λ (q : Point). point_lt q p ≡ false) r.before (p ∷ r.after) (subst (λ (l : List Point). NoneLess p (drop 1 l)) r.list_is (drop_one xs hx)) in
+    let least : NoneLess p (r.before ++ p ∷ r.after) =
+    subst (λ (l : List Point). NoneLess p (drop 1 l)) r.list_is (drop_one xs hx) in
+    let ahead : NoneLess p r.before = each_left (λ (q : Point). point_lt q p ≡ false) r.before (p ∷ r.after) least in
+    let behind : NoneLess p (p ∷ r.after) =
+    each_right (λ (q : Point). point_lt q p ≡ false) r.before (p ∷ r.after) least in
     let next : next_at all (p ∷ xs) (suc i) ≡ next_kept all p r.after p = λ j. next_kept all (best.visit j) (r.rest_is j) p in
     let places : (k : ℕ) → k < length (p ∷ xs) → point_at (p ∷ xs) k ≡ p → point_lt (next_kept all (point_at (p ∷ xs) k) (drop (k + 1) (p ∷ xs)) p) (next_kept all p r.after p) ≡ false =
     λ (k : ℕ) (l : k < length (p ∷ xs)) (e : point_at (p ∷ xs) k ≡ p). subst (λ (q : Point). point_lt (next_at all (p ∷ xs) k) q ≡ false) next (best.least k l e) in
     subst (IsBegun all) (sym r.turned_is)
-    (begun_turned all p r.before r.after least.0 least.1.1 whole turned
+    (begun_turned all p r.before r.after ahead behind.1 whole turned
     (subst (λ (l : List Point). VisitsLeast all p (next_kept all p r.after p) l) r.list_is (visits_places all p (next_kept all p r.after p) (p ∷ xs) places)))
   where
     drop_one : (l : List Point) → NoneLess p l → NoneLess p (drop 1 (p ∷ l))
@@ -348,9 +339,9 @@ ring_made all given c₀ c₁ vs side j i proper least first best second v s = r
   begun =
       subst (IsBegun all) (sym second)
       (begin_at c₀ (point_at given j) (take j given) (first ∙ λ k. at k ++ take j given) best
-      (subst (λ (l : List Point). Each Proper (boundary l)) (sym first)
-      (proper_rotated (take j given) (drop j given) (subst (λ (l : List Point). Each Proper (boundary l)) (sym (take-append-drop j given)) (proper_all (boundary given) proper))))
-      (each_join (λ (q : Point). point_lt q (point_at given j) ≡ false) (drop (suc j) given) (take j given)
+      (subst (λ (l : List Point). Each ProperEnds (boundary l)) (sym first)
+      (proper_rotated (take j given) (drop j given) (subst (λ (l : List Point). Each ProperEnds (boundary l)) (sym (take-append-drop j given)) (proper_all (boundary given) proper))))
+      (each_append (λ (q : Point). point_lt q (point_at given j) ≡ false) (drop (suc j) given) (take j given)
       (each_drop (λ (q : Point). point_lt q (point_at given j) ≡ false) (suc j) given none_less) (each_take (λ (q : Point). point_lt q (point_at given j) ≡ false) j given none_less)));
   vertices_are = v;
   side_is = s;
@@ -367,11 +358,11 @@ ring_made all given c₀ c₁ vs side j i proper least first best second v s = r
     none_less : NoneLess (point_at given j) given
     none_less = each_places (λ (q : Point). point_lt q (point_at given j) ≡ false) given least.none_less
 
-    begin_at : (c : List Point) (p : Point) (t : List Point) → c ≡ (p ∷ drop (suc j) given) ++ t → IsBestVisit all c (length c) i → Each Proper (boundary c) → NoneLess p (drop (suc j) given ++ t) →
+    begin_at : (c : List Point) (p : Point) (t : List Point) → c ≡ (p ∷ drop (suc j) given) ++ t → IsBestVisit all c (length c) i → Each ProperEnds (boundary c) → NoneLess p (drop (suc j) given ++ t) →
         IsBegun all (drop i c ++ take i c)
     begin_at c p t e b h n =
         subst (λ (l : List Point). IsBegun all (drop i l ++ take i l)) (sym e)
-        (best_begun all p (drop (suc j) given ++ t) i n (subst (λ (l : List Point). Each Proper (boundary l)) e h) (subst (λ (l : List Point). IsBestVisit all l (length l) i) e b))
+        (best_begun all p (drop (suc j) given ++ t) i n (subst (λ (l : List Point). Each ProperEnds (boundary l)) e h) (subst (λ (l : List Point). IsBestVisit all l (length l) i) e b))
 
 -- and what edges start at the points that it leaves out
 pub ring_among : (all lone : Bool) (edges : List Edge) (given c₀ c₁ vs : List Point) (side : Point) (j i : ℕ) → (proper : All (λ (e : Edge). same_point e.0 e.1 ≡ false) (boundary given)) →

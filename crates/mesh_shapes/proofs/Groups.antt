@@ -9,7 +9,7 @@ use Rattle.std.specs.List.Sorted.{IsSorted, IsSortedBy}
 use Rattle.std.proofs.lemmas.Int.{ints, by_lt_z}
 use Rattle.std.proofs.lemmas.Bool.{cases_Bool, both_ways, and_parts, or_from, eqb-true, eq-eqb, or_right}
 use Rattle.std.proofs.lemmas.Bool.Decides.{Decides-int_eq}
-use Rattle.std.proofs.Math.Bool.{and-not_self}
+use Rattle.std.proofs.Math.Bool.{and-not_self, and-false}
 use Rattle.std.proofs.lemmas.List.{get_or-map, length-map}
 use Rattle.mesh_plane.specs.Plane.{Point}
 use Rattle.mesh_plane.specs.Order.{point_lt}
@@ -51,14 +51,10 @@ before_not rs j k h =
 later_not : (rs : List Ring) (j k : ℕ) → area rs k ≤ℤ area rs j → k ≤ j → is_before (ring_at rs j) (ring_at rs k) ≡ false
 later_not rs j k h l =
     or_from (int_lt (area rs j) (area rs k)) (int_eq (area rs j) (area rs k) && int_lt (pos j) (pos k)) (not_less_test (area rs j) (area rs k) h)
-    (ap (λ (b : Bool). int_eq (area rs j) (area rs k) && b) (places j k l) ∙ and_false (int_eq (area rs j) (area rs k)))
+    (ap (λ (b : Bool). int_eq (area rs j) (area rs k) && b) (places j k l) ∙ and-false (int_eq (area rs j) (area rs k)))
   where
     places : (j k : ℕ) → k ≤ j → int_lt (pos j) (pos k) ≡ false
     places j k l = not_less_test (pos j) (pos k) (omega (arith, ints))
-
-    and_false : (b : Bool) → (b && false) ≡ false
-    and_false true = refl
-    and_false false = refl
 
 -- what is not before another has no less area
 not_before_area : (rs : List Ring) (j k : ℕ) → is_before (ring_at rs j) (ring_at rs k) ≡ false → area rs k ≤ℤ area rs j

@@ -1,9 +1,9 @@
 -- Lemmas over points and lists: a search along the row of a point for the ring that holds it.
 use Rattle.std.proofs.Common.{zero, suc, ◌≡◌, ◌⊎◌, inl, inr, ℕ, ◌+◌, ◌<◌, ◌≤◌, true, false, not, List, [], ◌∷◌, length, drop, get_or, refl, sym, ◌∙◌, ap, subst, arith}
-use Rattle.std.specs.Prelude.{ℤ, pos, ◌+ℤ◌, ◌==◌, Option, Some, None}
+use Rattle.std.specs.Prelude.{ℤ, pos, ◌+ℤ◌, Option, Some, None}
 use Rattle.std.specs.Ordering.{int_eq}
 use Rattle.std.proofs.Math.Seq.{drop-cons}
-use Rattle.std.proofs.lemmas.Bool.{both_ways, true≢false, cases_lt}
+use Rattle.std.proofs.lemmas.Bool.{both_ways, cases_lt}
 use Rattle.mesh_plane.specs.Plane.{Point}
 use Rattle.mesh_plane.specs.Winding.{crossing_on}
 use Rattle.mesh_plane.proofs.Whole.{linear}
@@ -96,10 +96,6 @@ search_end rs q row s best low row_of better known =
     (λ (k : ℕ) (a : s.place + 1 ≤ k) (b : k < length rs). (row_of k b ∙ ap (λ (z : ℤ). not (int_eq z (pos 0))) (sym (known.later k (omega arith)))))
 
 -- ---- the loop along a row
-
-pub some_edges : (row : List PlacedEdge) → (length row == 0) ≡ false → 0 < length row
-some_edges [] h = absurd (true≢false h)
-some_edges (e ∷ row) h = omega arith
 
 -- places rise from the first one
 pub rise_first : (low end : ℕ) (row : List PlacedEdge) (d : PlacedEdge) → 0 < length row → Rise low end row → ((get_or row 0 d).1 < end) × Rise (get_or row 0 d).1 end row

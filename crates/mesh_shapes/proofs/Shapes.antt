@@ -6,7 +6,7 @@ use Rattle.std.proofs.Math.Seq.{drop-cons}
 use Rattle.std.proofs.lemmas.List.Elements.{All-nil, All-push}
 use Rattle.std.specs.declared.alloc.Global.{Global}
 use Rattle.std.proofs.lemmas.Bool.{both_ways, eqb-true, eq-eqb}
-use Rattle.std.proofs.lemmas.List.{append-nil, map-append, length-append, length-map}
+use Rattle.std.proofs.lemmas.List.{append-nil, map-append, length-append, length-map, drop_all}
 use Rattle.mesh_plane.specs.Plane.{Point}
 use Rattle.mesh_shapes.specs.Midway.Progress.{NoneRound, IsHolder}
 use Rattle.mesh_shapes.specs.Resolution.{Ring, Placed, is_head, shape_of, rings_by_shape, answered}
@@ -81,13 +81,7 @@ place_next rs i low =
     ∙ (let e : suc i ≡ i + 1 = omega arith in ap (λ (n : ℕ). ring_at rs i ∷ enumerate_from (i + 1) (drop n rs)) e)
 
 pub places_none : (rs : List Ring) (n : ℕ) → length rs ≤ n → enumerate_from n (drop n rs) ≡ []
-places_none rs n h = ap (λ (l : List Ring). enumerate_from n l) (past rs n h)
-  where
-    past : (l : List Ring) (n : ℕ) → length l ≤ n → drop n l ≡ []
-    past [] zero h = refl
-    past [] (suc n) h = refl
-    past (x ∷ l) zero h = absurd (omega arith)
-    past (x ∷ l) (suc n) h = past l n (omega arith)
+places_none rs n h = ap (λ (l : List Ring). enumerate_from n l) (drop_all n rs h)
 
 pub places_all : (rs : List Ring) → enumerate_from 0 (drop 0 rs) ≡ placed rs
 places_all [] = refl

@@ -15,7 +15,7 @@ use Rattle.mesh_plane.specs.Winding.{sum_of, total, route, boundary, same_point,
 use Rattle.mesh_plane.proofs.Whole.{linear}
 use Rattle.mesh_plane.proofs.Sums.{sum_of_append, sum_of_flat_map}
 use Rattle.mesh_plane.proofs.ClosedLists.{route_append}
-use Rattle.mesh_plane.proofs.Balance.{growth, growth_round, growth_of_balanced, balanced_by_growth}
+use Rattle.mesh_plane.proofs.Balance.{growth, growth_round, growth_of_balanced, balanced_by_growth, route_growth}
 use Rattle.mesh_cuts.specs.Split.{same_edge}
 use Rattle.mesh_cuts.specs.Boundary.{count}
 use Rattle.mesh_cuts.specs.Counted.{bit}
@@ -192,9 +192,6 @@ unused_length (e ∷ es) (b ∷ bs) (suc k) low h = by b (unused_length es bs k 
     by false f = omega arith
 
 -- ---- balance along a walk
-route_growth : (g : Point → ℤ) (a : Point) (xs : List Point) (z : Point) → total (growth g) (route a xs z) ≡ g z -ℤ g a
-route_growth g a [] z = omega (arith, linear)
-route_growth g a (x ∷ xs) z = omega (arith, linear, route_growth g x xs z)
 
 -- one more step of a walk
 pub route_more : (g : Edge → ℤ) (a : Point) (xs : List Point) (y z : Point) → sum_of g (route a (xs ++ y ∷ []) z) ≡ sum_of g (route a xs y) +ℤ g (y, z)
@@ -284,10 +281,6 @@ next_step es used first at best (Some b) k low starts was (inl h) =
     record { within = subst (λ (i : ℕ). i < length es) (sym h.0) low; starts = λ (d : Edge). ap (λ (i : ℕ). (get_or es i d).0) h.0 ∙ starts d; open' = subst (IsOpen used first) (sym h.0) h.1 }
 next_step es used first at best (Some b) k low starts was (inr h) =
     subst (λ (o : Option ℕ). MatchOption o ((j : ℕ) → j < k → IsNext es used first at j → ⊥) (IsNext es used first at)) h was
-
-pub match_none : {P R : Type 0} (Q : ℕ → Type 0) (o : Option ℕ) → (P → R) → MatchOption o P Q → MatchOption o R Q
-match_none Q None f h = f h
-match_none Q (Some b) f h = h
 
 -- ---- a walk under way
 -- from the edge `first` the walk has come to `at`: its points so far, and the marks before it and now

@@ -5,7 +5,7 @@ use Rattle.std.proofs.Common.{◌≡◌, [], ◌∷◌, refl, ◌∙◌, ap, ari
 use Rattle.mesh_plane.proofs.Ring.{ring, var, ◌⊖◌, ◌⊗◌, lit, ◌⊕◌}
 use Rattle.mesh_plane.proofs.PointExprs.{point_var, coordinates, turned, scaled_point_expr}
 use Rattle.mesh_plane.proofs.Grids.{scale, part, winds}
-use Rattle.mesh_plane.proofs.Whole.{linear, mul_zero, mul_nonneg, mul_nonpos, mul_le_mul_left, mul_pos, square_nonneg, square_pos, mul_cancel}
+use Rattle.mesh_plane.proofs.Whole.{linear, mul_zero, mul_nonneg, mul_nonpos, mul_le_mul_left, mul_pos, square_nonneg, mul_cancel, square_zero}
 use Rattle.std.proofs.lemmas.Int.{by_lt_z, ints}
 use Rattle.mesh_cuts.specs.Split.{IsBetween, occurs, IsInside, is_end}
 use Rattle.std.proofs.lemmas.Bool.{both_ways}
@@ -100,16 +100,9 @@ square_some p r differ =
     let y : pos 0 ≤ℤ ((r.1 -ℤ p.1) *ℤ (r.1 -ℤ p.1)) = square_nonneg (r.1 -ℤ p.1) in
     by_lt_z (pos 0) (square p r) (λ (h : pos 0 <ℤ square p r). h)
     (λ (h : square p r ≤ℤ pos 0).
-    absurd (differ (let e = zero_of (r.0 -ℤ p.0) (omega (arith, linear)) in let f = zero_of (r.1 -ℤ p.1) (omega (arith, linear)) in
+    absurd (differ (let e = square_zero (r.0 -ℤ p.0) (omega (arith, linear)) in let f = square_zero (r.1 -ℤ p.1) (omega (arith, linear)) in
     λ i. (same p.0 r.0 e i, same p.1 r.1 f i))))
   where
-    zero_of : (d : ℤ) → (d *ℤ d) ≤ℤ pos 0 → d ≡ pos 0
-    zero_of d h =
-        by_lt_z (pos 0) d (λ (k : pos 0 <ℤ d). absurd (let l = mul_pos d d k k in omega (arith, linear)))
-        (λ (k : d ≤ℤ pos 0).
-        by_lt_z d (pos 0) (λ (l : d <ℤ pos 0). absurd (let n = square_pos d (λ (e : d ≡ pos 0). omega (arith, ints)) in omega (arith, linear)))
-        (λ (l : pos 0 ≤ℤ d). omega (arith, ints)))
-
     same : (a b : ℤ) → b -ℤ a ≡ pos 0 → a ≡ b
     same a b e = omega (arith, ints)
 

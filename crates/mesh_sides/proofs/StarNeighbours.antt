@@ -13,7 +13,7 @@ use Rattle.mesh_cuts.proofs.Keys.{occurs_ends, occurs_head}
 use Rattle.mesh_sides.specs.Laws.{AreSplit}
 use Rattle.mesh_sides.specs.Star.{comes_before, AreCounterclockwise, AreNeighbours}
 use Rattle.mesh_sides.proofs.Directions.{before, not_before, two_before, ordered_turning}
-use Rattle.mesh_sides.proofs.StarSums.{star_order}
+use Rattle.mesh_sides.proofs.StarSums.{star_order, IsAmong}
 
 -- of segments at a vertex, one that comes before a second that comes before a third comes before the third
 chained : (es : List Edge) → AreSplit es → (v x y z : Point) → occurs (v, x) es ≡ true → occurs (v, y) es ≡ true → occurs (v, z) es ≡ true
@@ -152,10 +152,6 @@ turned_twice a b c (inl h) = inr (inr h)
 turned_twice a b c (inr (inl h)) = inl h
 turned_twice a b c (inr (inr h)) = inr (inl h)
 
--- the segment to `w`, that to `z`, or one that comes after `z` and before `w`
-abbrev IsOther : Point → Point → Point → Point → Type 0
-IsOther v w z x = (◌≡◌ {A = Edge} (v, x) (v, w) ⊎ ◌≡◌ {A = Edge} (v, x) (v, z)) ⊎ AreCounterclockwise (v, z) (v, x) (v, w)
-
 same_or : (v x y : Point) → ◌≡◌ {A = Edge} (v, x) (v, y) ⊎ (same_edge (v, x) (v, y) ≡ false)
 same_or v x y =
     ⊎_elim (λ (t : same_edge (v, x) (v, y) ≡ true). inl ((decides_edge (v, x) (v, y)).0 t)) (λ (f : same_edge (v, x) (v, y) ≡ false). inr f)
@@ -176,7 +172,7 @@ by_others es v w z hw hz turning = record {
   };
 }
   where
-    one : (x : Point) → occurs (v, x) es ≡ true → IsOther v w z x
+    one : (x : Point) → occurs (v, x) es ≡ true → IsAmong v w z x
     one x hx =
         ⊎_elim (λ (p : ◌≡◌ {A = Edge} (v, x) (v, w)). inl (inl p))
         (λ (p : same_edge (v, x) (v, w) ≡ false).

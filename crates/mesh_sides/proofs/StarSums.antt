@@ -100,8 +100,8 @@ star_none v f es odd leaving others = none es (each_of (λ (e : Edge). f e ≡ p
 -- ---- what is summed
 
 -- 1 for an edge that leaves the start of `s` before `s`, -1 for one that comes in there
-abbrev step : Edge → Edge → ℤ
-step s e = bit (leaves_before s e) -ℤ bit (leaves_before s (back e))
+abbrev pub edge_net_before : Edge → Edge → ℤ
+edge_net_before s e = bit (leaves_before s e) -ℤ bit (leaves_before s (back e))
 
 -- -c for an edge that leaves a vertex, c for one that comes in
 abbrev comes_in : ℤ → Point → Edge → ℤ
@@ -111,15 +111,15 @@ apart_ends : (v : Point) (e : Edge) → is_end v e ≡ false → (same_point v e
 unfolding is_end
 apart_ends v e h = or_parts (same_point v e.0) (same_point v e.1) h
 
-step_leaving : (v w x : Point) → (v ≡ x → ⊥) → step (v, w) (v, x) ≡ before v x w
-step_leaving v w x differ =
+edge_net_leaving : (v w x : Point) → (v ≡ x → ⊥) → edge_net_before (v, w) (v, x) ≡ before v x w
+edge_net_leaving v w x differ =
     (λ i. bit (point_self v i && comes_before (v, x) (v, w)) -ℤ bit (points_apart v x differ i && comes_before (x, v) (v, w))) ∙ less_none (before v x w)
   where
     less_none : (a : ℤ) → a -ℤ pos 0 ≡ a
     less_none a = omega (arith, linear)
 
-step_none : (s e : Edge) → is_end s.0 e ≡ false → step s e ≡ pos 0
-step_none s e h =
+edge_net_none : (s e : Edge) → is_end s.0 e ≡ false → edge_net_before s e ≡ pos 0
+edge_net_none s e h =
     let a = apart_ends s.0 e h in
     λ i. bit (a.0 i && comes_before e s) -ℤ bit (a.1 i && comes_before (back e) s)
 
@@ -154,7 +154,7 @@ rising_side es split v w h up rising =
     omega (arith, linear, gains_are (scale (pos 2) v) (plus v w) es split.balanced, parts es, star_none v f es odd leaving others)
   where
     f : Edge → ℤ
-    f e = gain (scale (pos 2) v) (plus v w) e -ℤ step (v, w) e
+    f e = gain (scale (pos 2) v) (plus v w) e -ℤ edge_net_before (v, w) e
 
     parts : (xs : List Edge) → sum_of f xs ≡ sum_of (gain (scale (pos 2) v) (plus v w)) xs -ℤ net_before (v, w) xs
     parts [] = refl
@@ -166,7 +166,7 @@ rising_side es split v w h up rising =
     leaving : (x : Point) → occurs (v, x) es ≡ true → f (v, x) ≡ pos 0
     leaving x k =
         let nx = proper_of es split.proper (v, x) k in
-        omega (arith, linear, gain_rising v w x up rising (slope v x nx), step_leaving v w x nx)
+        omega (arith, linear, gain_rising v w x up rising (slope v x nx), edge_net_leaving v w x nx)
 
     others : (e : Edge) → occurs e es ≡ true → is_end v e ≡ false → f e ≡ pos 0
     others e k off =
@@ -175,7 +175,7 @@ rising_side es split v w h up rising =
           linear,
           gain_none (scale (pos 2) v) (plus v w) e (omega (arith, ints))
               (end_parted v w e.0 e.1 (start_off es split.clean (v, w) e h k off) (clear_pair es split.clean split.proper (v, w) e h k)),
-          step_none (v, w) e off,
+          edge_net_none (v, w) e off,
         )
 
 sinking_side : (es : List Edge) → AreSplit es → (v w : Point) → occurs (v, w) es ≡ true → w.1 ≤ℤ v.1
@@ -192,7 +192,7 @@ sinking_side es split v w h down gains =
     )
   where
     f : Edge → ℤ
-    f e = ((gain (plus v w) (scale (pos 2) v) e +ℤ along (v, w) e) +ℤ step (v, w) e) +ℤ comes_in (pos 1) v e
+    f e = ((gain (plus v w) (scale (pos 2) v) e +ℤ along (v, w) e) +ℤ edge_net_before (v, w) e) +ℤ comes_in (pos 1) v e
 
     parts : (xs : List Edge) → sum_of f xs
         ≡ ((sum_of (gain (plus v w) (scale (pos 2) v)) xs +ℤ net (v, w) xs) +ℤ net_before (v, w) xs) +ℤ total (growth (λ (p : Point). pos 1 *ℤ bit (same_point v p))) xs
@@ -210,7 +210,7 @@ sinking_side es split v w h down gains =
           linear,
           gains x (slope v x nx),
           along_leaving v w x nx,
-          step_leaving v w x nx,
+          edge_net_leaving v w x nx,
           comes_in_leaving (pos 1) v x nx,
           star_order es split v w x h k,
         )
@@ -224,7 +224,7 @@ sinking_side es split v w h down gains =
           linear,
           gain_none (plus v w) (scale (pos 2) v) e (omega (arith, ints)) (parted_back (scale (pos 2) v) (plus v w) (scale (pos 2) e.0) (scale (pos 2) e.1) parted),
           along_none (v, w) e off,
-          step_none (v, w) e off,
+          edge_net_none (v, w) e off,
           comes_in_none (pos 1) v e off,
         )
 
@@ -255,7 +255,7 @@ abbrev between_at : Point → Point → Point → Point → ℤ
 between_at v w z x = (before v x w +ℤ bit (same_edge (v, w) (v, x))) -ℤ before v x z
 
 -- the segment to `w`, that to `z`, or one that comes after `z` and before `w`
-abbrev IsAmong : Point → Point → Point → Point → Type 0
+abbrev pub IsAmong : Point → Point → Point → Point → Type 0
 IsAmong v w z x = (◌≡◌ {A = Edge} (v, x) (v, w) ⊎ ◌≡◌ {A = Edge} (v, x) (v, z)) ⊎ AreCounterclockwise (v, z) (v, x) (v, w)
 
 -- is the same for all
@@ -316,7 +316,7 @@ facing_from es split v w z n =
     c = before v z w +ℤ bit (same_edge (v, w) (v, z))
 
     f : Edge → ℤ
-    f e = ((step (v, w) e +ℤ along (v, w) e) -ℤ step (v, z) e) +ℤ comes_in c v e
+    f e = ((edge_net_before (v, w) e +ℤ along (v, w) e) -ℤ edge_net_before (v, z) e) +ℤ comes_in c v e
 
     left_is : (b : Bool) → cond b (winding_beside es (v, w) +ℤ net (v, w) es) (winding_beside es (v, w))
         ≡ cond b (winding_beside es (v, w)) (winding_beside es (v, w) -ℤ net (v, w) es) +ℤ net (v, w) es
@@ -337,15 +337,15 @@ facing_from es split v w z n =
         omega (
           arith,
           linear,
-          step_leaving v w x nx,
-          step_leaving v z x nx,
+          edge_net_leaving v w x nx,
+          edge_net_leaving v z x nx,
           along_leaving v w x nx,
           comes_in_leaving c v x nx,
           star_between es split v w z x n.first n.second k (n.others (v, x) k refl),
         )
 
     others : (e : Edge) → occurs e es ≡ true → is_end v e ≡ false → f e ≡ pos 0
-    others e k off = omega (arith, linear, step_none (v, w) e off, step_none (v, z) e off, along_none (v, w) e off, comes_in_none c v e off)
+    others e k off = omega (arith, linear, edge_net_none (v, w) e off, edge_net_none (v, z) e off, along_none (v, w) e off, comes_in_none c v e off)
 
 -- the sides of neighbours that face each other have one winding
 pub facing_sides : (es : List Edge) → AreSplit es → (s t : Edge) → AreNeighbours es s t → left_winding es s ≡ right_winding es t

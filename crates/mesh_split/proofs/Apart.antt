@@ -1,23 +1,21 @@
 -- Lemmas over points: what lies beside the box of a segment does not meet it.
-use Rattle.std.proofs.Common.{◌≡◌, ◌⊎◌, ⊎_elim, Bool, true, false, ◌∙◌, sym, ap, refl, arith}
+use Rattle.std.proofs.Common.{◌≡◌, ⊎_elim, Bool, true, false, ◌∙◌, sym, ap, refl, arith}
 use Rattle.std.specs.Prelude.{◌&&◌, ◌||◌, ℤ, ◌≤ℤ◌, int_lt}
 use Rattle.std.proofs.lemmas.Int.{ints}
 use Rattle.std.proofs.lemmas.Bool.{true≢false}
 use Rattle.mesh_plane.specs.Plane.{Point, Edge}
+use Rattle.mesh_plane.proofs.Whole.{either_order}
 use Rattle.mesh_cuts.specs.Split.{IsBetween, AreClear, Meets}
 use Rattle.mesh_cuts.proofs.Boxes.{meets_box}
 use Rattle.mesh_split.specs.Midway.BoundingBoxes.{are_beyond, is_beside, AreBounds}
 
-either : (a b : ℤ) → (a ≤ℤ b) ⊎ (b ≤ℤ a)
-either a b = grind (arith, ints)
-
 least_of : (l a z b : ℤ) → l ≤ℤ a → l ≤ℤ b → IsBetween a z b → l ≤ℤ z
 least_of l a z b h k r =
-    ⊎_elim (λ (o : a ≤ℤ b). omega (arith, ints, h, (r.up o).0)) (λ (o : b ≤ℤ a). omega (arith, ints, k, (r.down o).0)) (either a b)
+    ⊎_elim (λ (o : a ≤ℤ b). omega (arith, ints, h, (r.up o).0)) (λ (o : b ≤ℤ a). omega (arith, ints, k, (r.down o).0)) (either_order a b)
 
 most_of : (m a z b : ℤ) → a ≤ℤ m → b ≤ℤ m → IsBetween a z b → z ≤ℤ m
 most_of m a z b h k r =
-    ⊎_elim (λ (o : a ≤ℤ b). omega (arith, ints, k, (r.up o).1)) (λ (o : b ≤ℤ a). omega (arith, ints, h, (r.down o).1)) (either a b)
+    ⊎_elim (λ (o : a ≤ℤ b). omega (arith, ints, k, (r.up o).1)) (λ (o : b ≤ℤ a). omega (arith, ints, h, (r.down o).1)) (either_order a b)
 
 -- what is around a number of a range is not beyond it
 not_beyond : (l m a z b : ℤ) → l ≤ℤ z → z ≤ℤ m → IsBetween a z b → are_beyond l m a b ≡ false
@@ -25,7 +23,7 @@ not_beyond l m a z b h k r =
     ⊎_elim
     (λ (o : a ≤ℤ b). ordered l m a z b h k (r.up o).0 (r.up o).1)
     (λ (o : b ≤ℤ a). swapped (int_lt a l) (int_lt b l) (int_lt m a) (int_lt m b) (ordered l m b z a h k (r.down o).0 (r.down o).1))
-    (either a b)
+    (either_order a b)
   where
     ordered : (l m a z b : ℤ) → l ≤ℤ z → z ≤ℤ m → a ≤ℤ z → z ≤ℤ b → are_beyond l m a b ≡ false
     ordered l m a z b h k i j = grind (arith, ints)

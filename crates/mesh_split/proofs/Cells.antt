@@ -3,7 +3,7 @@ use Rattle.std.proofs.Common.{◌≡◌, ℕ, ◌⊎◌, ⊎_elim, Bool, true, f
 use Rattle.std.specs.Prelude.{ℤ, pos, ◌+ℤ◌, ◌-ℤ◌, ◌*ℤ◌, ◌≤ℤ◌, ◌<ℤ◌, neg_ℤ, ◌||◌, not, int_lt}
 use Rattle.std.proofs.lemmas.Int.{ints}
 use Rattle.mesh_plane.specs.Plane.{Point, Edge, turn}
-use Rattle.mesh_plane.proofs.Whole.{linear, square_nonneg, mul_nonneg, mul_nonpos, nonneg_of_mul, factor, zero_mul}
+use Rattle.mesh_plane.proofs.Whole.{linear, square_nonneg, mul_nonneg, mul_nonpos, nonneg_of_mul, zero_mul, either_order, square_zero}
 use Rattle.mesh_plane.proofs.Ring.{ring, var, neg, ◌⊕◌, ◌⊖◌, ◌⊗◌}
 use Rattle.mesh_plane.proofs.PointExprs.{point_var, coordinates, turned}
 use Rattle.mesh_cuts.specs.Split.{IsBetween, IsInside, IsCrossing, crossing_at, rounded_quotient, Meets, at_start_of_second, at_end_of_second, at_start_of_first, at_end_of_first, at_crossing}
@@ -12,9 +12,6 @@ use Rattle.mesh_split.specs.declared.tree.Cut.{Cut}
 use Rattle.mesh_split.specs.Midway.Cells.{Cell, IsAt, height}
 
 -- ---- shares of a range
-
-either : (a b : ℤ) → (a ≤ℤ b) ⊎ (b ≤ℤ a)
-either a b = grind (arith, ints)
 
 products_between : (a z b : ℤ) → IsBetween a z b → (pos 0 ≤ℤ ((b -ℤ a) *ℤ (z -ℤ a))) × (pos 0 ≤ℤ ((b -ℤ a) *ℤ (b -ℤ z)))
 products_between a z b h =
@@ -25,7 +22,7 @@ products_between a z b h =
     (λ (l : b ≤ℤ a).
     let k = h.down l in
     (mul_nonpos (b -ℤ a) (z -ℤ a) (omega (arith, linear, l)) (omega (arith, linear, k.1)), mul_nonpos (b -ℤ a) (b -ℤ z) (omega (arith, linear, l)) (omega (arith, linear, k.0))))
-    (either a b)
+    (either_order a b)
 
 rest : (a z b d s : ℤ) → d *ℤ (z -ℤ a) ≡ s *ℤ (b -ℤ a) → d *ℤ (b -ℤ z) ≡ (d -ℤ s) *ℤ (b -ℤ a)
 rest a z b d s e =
@@ -55,10 +52,6 @@ share_between a z b d s h l m e =
     }
 
 -- ---- heights of points inside a segment
-
-square_zero : (a : ℤ) → (a *ℤ a) ≤ℤ pos 0 → a ≡ pos 0
-square_zero a h =
-    ⊎_elim (λ (e : a ≡ pos 0). e) (λ (e : a ≡ pos 0). e) (factor a a (omega (arith, linear, h, square_nonneg a)))
 
 same_between : (a z b : ℤ) → b -ℤ a ≡ pos 0 → IsBetween a z b → z ≡ a
 same_between a z b e h = let k = h.up (omega (arith, linear, e)) in omega (arith, linear, e, k.0, k.1)
@@ -160,7 +153,7 @@ in_range a z b at h =
     ⊎_elim
     (λ (l : a ≤ℤ b). ordered a z b at (h.up l).0 (h.up l).1)
     (λ (l : b ≤ℤ a). swapped (int_lt a at) (int_lt b at) (int_lt z at) (ordered b z a at (h.down l).0 (h.down l).1))
-    (either a b)
+    (either_order a b)
   where
     ordered : (a z b at : ℤ) → a ≤ℤ z → z ≤ℤ b → cond (int_lt z at) (int_lt a at || int_lt b at) (not (int_lt a at) || not (int_lt b at)) ≡ true
     ordered a z b at h k = grind (arith, ints)

@@ -8,6 +8,7 @@ use Rattle.std.specs.Map.{lookup, keys_of, remove_entry, set_value}
 use Rattle.std.specs.Option.{option_map, option_copied}
 use Rattle.std.proofs.lemmas.Bool.{both_ways, cases_Bool}
 use Rattle.std.proofs.lemmas.Int.{ints}
+use Rattle.std.proofs.lemmas.Option.{none-some}
 use Rattle.std.proofs.lemmas.List.Elements.{All-cons, All-head, All-tail}
 use Rattle.std.proofs.lemmas.Map.Views.{All-map-remove_entry, All-map-IsPermutation}
 use mir.Syntax.{w128}
@@ -68,10 +69,7 @@ size_least (k ∷ ks) = omega (arith, ints, size_least ks)
 -- a fact that holds of lists whose first entry has the key, and of longer lists
 by_found : (P : List Counted → Type 0) (k : Edge) (m : ℤ) → ((es : List Counted) → P ((k, m) ∷ es)) → ((e : Counted) (es : List Counted) → P es → P (e ∷ es))
     → (es : List Counted) → found k es ≡ Some m → P es
-by_found P k m here there [] h = absurd (none_some h)
-  where
-    none_some : {m : ℤ} → None ≡ Some m → ⊥
-    none_some h = cc
+by_found P k m here there [] h = absurd (none-some m h)
 by_found P k m here there (e ∷ es) h =
     ⊎_elim
     (λ (t : edge_eq k e.0 ≡ true).
@@ -103,7 +101,7 @@ absent k (e ∷ es) f all h =
     ⊎_elim
     (λ (t : edge_eq k e.0 ≡ true).
     let value : Some e.1 ≡ None = ap (λ (b : Bool). cond b (Some e.1) (found k es)) (sym t) ∙ h in
-    absurd (some_none value))
+    absurd (none-some e.1 (sym value)))
     (λ (n : edge_eq k e.0 ≡ false).
     let other : same_ends k e.0 ≡ false =
     ⊎_elim
@@ -114,9 +112,6 @@ absent k (e ∷ es) f all h =
     (cases_Bool (same_ends k e.0)) in
     omega (arith, linear, ap bit other, absent k es f (All-tail IsForward e.0 (keys_of es) all) (ap (λ (b : Bool). cond b (Some e.1) (found k es)) (sym n) ∙ h)))
     (cases_Bool (edge_eq k e.0))
-  where
-    some_none : {m : ℤ} → Some m ≡ None → ⊥
-    some_none h = cc
 
 -- ---- an insert
 
@@ -139,10 +134,7 @@ forward_put k es left f all p = All-map-IsPermutation (λ (e : Counted). e.0) Is
 
 value_set : (q : Edge) (m v : ℤ) (es : List Counted) (g : Counted → ℤ) → found q es ≡ Some m
     → sum_of g (set_value (edge_eq q) es v) +ℤ g (q, m) ≡ sum_of g es +ℤ g (q, v)
-value_set q m v [] g h = absurd (none_some h)
-  where
-    none_some : {m : ℤ} → None ≡ Some m → ⊥
-    none_some h = cc
+value_set q m v [] g h = absurd (none-some m h)
 value_set q m v (e ∷ es) g h =
     ⊎_elim
     (λ (t : edge_eq q e.0 ≡ true).
@@ -210,10 +202,7 @@ count_kept ks k room =
 -- ---- an entry taken out
 
 entry_taken : (k : Edge) (m : ℤ) (es : List Counted) → found k es ≡ Some m → IsTaken es (remove_entry (edge_eq k) es) (k, m)
-entry_taken k m [] h g = absurd (none_some h)
-  where
-    none_some : {m : ℤ} → None ≡ Some m → ⊥
-    none_some h = cc
+entry_taken k m [] h g = absurd (none-some m h)
 entry_taken k m (e ∷ es) h g =
     ⊎_elim
     (λ (t : edge_eq k e.0 ≡ true).
@@ -275,10 +264,7 @@ first_found k ks [] h n = none_of h
 first_found k ks (e ∷ es) h n =
     let same : e.0 ≡ k = cc in
     let equal : edge_eq k e.0 ≡ true = ap (edge_eq k) same ∙ equal_self k in
-    some_none (sym (ap (λ (b : Bool). cond b (Some e.1) (found k es)) equal) ∙ n)
-  where
-    some_none : {m : ℤ} → Some m ≡ None → ⊥
-    some_none h = cc
+    none-some e.1 (sym (sym (ap (λ (b : Bool). cond b (Some e.1) (found k es)) equal) ∙ n))
 
 pub some_taken : (k : Edge) (was es left : List Counted) (o : Option Counted) → es ≡ was → (found k es ≡ None → ⊥) → IsPermutation (remove_entry (edge_eq k) es) left
     → IfSome o (λ s. edge_eq k s.0 ≡ true) → option_map (λ (s : Counted). s.1) o ≡ found k es → MatchOption o ((was ≡ []) × (left ≡ [])) (λ s. IsTaken was left s)

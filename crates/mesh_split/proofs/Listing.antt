@@ -1,6 +1,6 @@
 -- Lemmas over segments that parts of the plane list.
-use Rattle.std.proofs.Common.{◌≡◌, ◌⊎◌, ⊎_elim, Bool, true, false, cond, filter, ℕ, zero, suc, ◌+◌, ◌<◌, ◌≤◌, sym, ◌∙◌, ap, subst, refl, arith, List, [], ◌∷◌, ◌++◌, length, length-append, get_or, below_more}
-use Rattle.std.specs.Prelude.{ℤ, pos, ◌<ℤ◌, Option, Some, None, MatchOption}
+use Rattle.std.proofs.Common.{◌≡◌, ⊎_elim, Bool, true, false, cond, filter, ℕ, zero, suc, ◌+◌, ◌<◌, ◌≤◌, sym, ◌∙◌, ap, subst, refl, arith, List, [], ◌∷◌, ◌++◌, length, length-append, get_or, below_more}
+use Rattle.std.specs.Prelude.{ℤ, pos, ◌<ℤ◌}
 use Rattle.std.proofs.Math.ListN.{get_or-append}
 use Rattle.std.proofs.Math.Seq.{get_or-append_seam}
 use Rattle.std.proofs.lemmas.List.{get_or_default}
@@ -10,6 +10,7 @@ use Rattle.mesh_plane.specs.Plane.{Edge}
 use Rattle.mesh_plane.proofs.Whole.{linear}
 use Rattle.mesh_cuts.specs.Counted.{Counted, bit}
 use Rattle.mesh_cuts.specs.Split.{same_edge, AreClear}
+use Rattle.mesh_cuts.proofs.Arithmetic.{below_or_last}
 use Rattle.mesh_cuts.proofs.Counts.{bit_least}
 use Rattle.mesh_cuts.proofs.Ends.{decides_edge}
 use Rattle.mesh_split.specs.declared.tree.Cut.{Cut}
@@ -45,11 +46,8 @@ kept_pushed P from left i d₀ before = record {
       (λ (l : k ≡ i).
       let here : get_or from i d₀ ≡ x = ap (λ (j : ℕ). get_or from j d₀) (sym l) ∙ same d₀ in
       subst (λ (y : Edge). StandsIn x (left ++ y ∷ [])) (sym here) (listed_last x left))
-      (below_or_last k i h);
+      (below_or_last k i (omega (arith, h)));
 }
-  where
-    below_or_last : (a b : ℕ) → a < b + 1 → (a < b) ⊎ (a ≡ b)
-    below_or_last a b h = grind arith
 
 -- one more, which has not the property
 pub kept_left_out : (P : Edge → Type 0) (from left : List Edge) (i : ℕ) (d₀ : Edge) → (P (get_or from i d₀) → ⊥) → AreKept P from left i → AreKept P from left (i + 1)
@@ -60,11 +58,8 @@ kept_left_out P from left i d₀ lacks before = record {
       (λ (l : k ≡ i).
       let here : get_or from i d₀ ≡ x = ap (λ (j : ℕ). get_or from j d₀) (sym l) ∙ same d₀ in
       absurd (lacks (subst P (sym here) p)))
-      (below_or_last k i h);
+      (below_or_last k i (omega (arith, h)));
 }
-  where
-    below_or_last : (a b : ℕ) → a < b + 1 → (a < b) ⊎ (a ≡ b)
-    below_or_last a b h = grind arith
 
 pub kept_all : (P : Edge → Type 0) (from left : List Edge) (n : ℕ) → length from ≤ n → AreKept P from left n → KeepsThose P from left
 kept_all P from left n all a x p l = a.kept l.at (omega (arith, l.within)) x l.same p
@@ -116,11 +111,6 @@ fork_lists cut low high e l h c reach = at_place (λ (b : Bool). StandsIn e (con
 pub fork_is_clear : (cut : Cut) (low high : Cell → List Edge) (s : Edge) (live : List Counted) → (reaches cut s true ≡ true → (c : Cell) → IsAt s c → IsCellClear s (low c) live)
     → (reaches cut s false ≡ true → (c : Cell) → IsAt s c → IsCellClear s (high c) live) → (c : Cell) → IsAt s c → IsCellClear s (cond (c cut) (low c) (high c)) live
 fork_is_clear cut low high s live l h c reach = at_place (λ (b : Bool). IsCellClear s (cond b (low c) (high c)) live) cut s c reach (λ t. l t c reach) (λ t. h t c reach)
-
--- an answer of nothing that says more
-pub nothing_more : {A : Type 0} (o : Option A) (P Q : Type 0) (R : A → Type 0) → (P → Q) → MatchOption o P R → MatchOption o Q R
-nothing_more None P Q R f h = f h
-nothing_more (Some x) P Q R f h = h
 
 -- ---- what lives, and where it is listed
 

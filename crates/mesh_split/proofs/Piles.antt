@@ -1,10 +1,10 @@
 -- Lemmas over lists: segments that wait and live, as they are made live, split, and made to wait again.
-use Rattle.std.proofs.Common.{◌≡◌, ⊎_elim, ◌<◌, true, false, sym, ◌∙◌, ap, subst, refl, arith, List, [], ◌∷◌, length}
+use Rattle.std.proofs.Common.{◌≡◌, ⊎_elim, ◌<◌, true, false, sym, ◌∙◌, ap, subst, arith, List, [], length}
 use Rattle.std.specs.Prelude.{pos, ◌<ℤ◌}
 use Rattle.std.proofs.lemmas.Bool.{cases_Bool}
 use Rattle.std.proofs.lemmas.Int.{ints}
 use Rattle.mesh_plane.specs.Plane.{Point, Edge}
-use Rattle.mesh_plane.specs.Winding.{sum_of}
+use Rattle.mesh_plane.proofs.Sums.{sum_of_ones}
 use Rattle.mesh_plane.proofs.Whole.{linear}
 use Rattle.mesh_cuts.specs.Counted.{Counted, bit, times}
 use Rattle.mesh_cuts.specs.Split.{same_edge, same_ends, occurs, after, Meets}
@@ -89,9 +89,5 @@ other_lives live live' k e f c taken same m h =
 
 -- ---- fewer wait
 
-amount : (ks : List Counted) → sum_of (λ (k : Counted). pos 1) ks ≡ pos (length ks)
-amount [] = refl
-amount (k ∷ ks) = omega (arith, ints, amount ks)
-
 pub fewer_wait : (old todo : List Counted) (k : Counted) → IsTaken old todo k → length todo < length old
-fewer_wait old todo k e = omega (arith, ints, e (λ (j : Counted). pos 1), amount old, amount todo)
+fewer_wait old todo k e = omega (arith, ints, e (λ (j : Counted). pos 1), sum_of_ones old, sum_of_ones todo)

@@ -132,6 +132,10 @@ settles_kept todo live live' k proper clear put = record {
     less : (n : ℕ) → 1 ≤ n → pos (4 * n - 3) <ℤ pos (4 * n - 2)
     less n h = omega (arith, ints)
 
+-- a segment that lives has no more work than one that waits
+live_no_more : (n : ℕ) → pos (4 * n - 3) ≤ℤ pos (4 * n - 2)
+live_no_more n = omega (arith, ints)
+
 -- the meeting point is an end of the live one: the segment in hand is cut
 pub settles_first : (todo live todo' live' : List Counted) (k : Counted) (t : Edge) (c : Point) → IsMeeting todo live k t c → is_end c t ≡ true
     → PutsPieces todo live todo' live' k c → Settles todo live todo' live' k
@@ -146,13 +150,10 @@ settles_first todo live todo' live' k t c m end p =
       };
       clear = fewer_clear live live' (λ q. omega (arith, linear, p.first.live_ends q, p.second.live_ends q));
       work_falls =
-          let f : pos (4 * extent k.0 - 3) ≤ℤ waiting_work k = less (extent k.0) in
+          let f : pos (4 * extent k.0 - 3) ≤ℤ waiting_work k = live_no_more (extent k.0) in
           omega (arith, linear, p.first.work_grows, p.second.work_grows, work_pieces k.0 c inner box);
       weight_stays = omega (arith, linear, p.first.weight_grows, p.second.weight_grows, weight_pieces k c inner box);
     }
-  where
-    less : (n : ℕ) → pos (4 * n - 3) ≤ℤ pos (4 * n - 2)
-    less n = omega (arith, ints)
 
 -- the segment in hand and the one that was taken have different ends
 apart_ends : (es : List Edge) (todo live live' : List Counted) (k j : Counted) → IsHeld es todo live k → IsTaken live live' j → same_ends k.0 j.0 ≡ false
@@ -209,10 +210,7 @@ settles_both todo live live1 todo2 live2 todo' live' k j t c m outer inner other
           };
       clear = fewer_clear live live' (λ q. omega (arith, linear, p.first.live_ends q, p.second.live_ends q, first.first.live_ends q, first.second.live_ends q, taken_fewer live live1 j taken q));
       work_falls =
-          let f : pos (4 * extent k.0 - 3) ≤ℤ waiting_work k = less (extent k.0) in
+          let f : pos (4 * extent k.0 - 3) ≤ℤ waiting_work k = live_no_more (extent k.0) in
           omega (arith, linear, taken live_work, first.first.work_grows, first.second.work_grows, p.first.work_grows, p.second.work_grows, work_pieces k.0 c outer boxes.0, work_pieces j.0 c inside box);
       weight_stays = omega (arith, linear, taken weight, first.first.weight_grows, first.second.weight_grows, p.first.weight_grows, p.second.weight_grows, weight_pieces k c outer boxes.0, weight_pieces j c inside box);
     }
-  where
-    less : (n : ℕ) → pos (4 * n - 3) ≤ℤ pos (4 * n - 2)
-    less n = omega (arith, ints)

@@ -12,7 +12,7 @@ use Rattle.mesh_plane.proofs.Ring.{ring, var, neg, ◌⊕◌, ◌⊖◌, ◌⊗�
 use Rattle.mesh_cuts.specs.Clean.{IsOn, refined_edge}
 use Rattle.mesh_cuts.specs.Split.{back, same_ends, is_end, IsBetween, IsInside, AreOpposite, IsCrossing}
 use Rattle.mesh_cuts.proofs.Boxes.{turns_differ}
-use Rattle.mesh_cuts.proofs.Ends.{decides_end, decides_ends, ends_turned, ends_sym}
+use Rattle.mesh_cuts.proofs.Ends.{decides_end, decides_ends, ends_turned, ends_sym, end_back}
 use Rattle.mesh_plane.proofs.PointExprs.{point_var, coordinates, turned, scaled_point_expr}
 use Rattle.mesh_plane.proofs.Comparing.{decides_point}
 use Rattle.mesh_plane.proofs.LineTurns.{along_x, along_y}
@@ -80,11 +80,6 @@ turn_exchanged p r q =
     (((var 3 ⊖ var 1) ⊗ (var 4 ⊖ var 0)) ⊖ ((var 2 ⊖ var 0) ⊗ (var 5 ⊖ var 1)))
     (neg (turned (point_var 0) (point_var 1) (point_var 2)))
     refl
-
-end_back : (c : Point) (e : Edge) → is_end c (back e) ≡ is_end c e
-end_back c e =
-    same_from_decides _ _ (decides_end c (back e))
-    (Decides-like _ (⊎_elim (λ (h : c ≡ e.0). inr h) (λ (h : c ≡ e.1). inl h)) (⊎_elim (λ (h : c ≡ e.1). inr h) (λ (h : c ≡ e.0). inl h)) (decides_end c e))
 
 end_flip : (c : Point) (e : Edge) → is_end (flip c) (flip_edge e) ≡ is_end c e
 end_flip c e =

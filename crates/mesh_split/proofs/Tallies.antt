@@ -5,6 +5,7 @@ use Rattle.std.specs.List.Sorted.{IsPermutation}
 use Rattle.std.specs.Map.{lookup}
 use Rattle.std.proofs.lemmas.Bool.{both_ways, cases_Bool}
 use Rattle.std.proofs.lemmas.Int.{ints}
+use Rattle.std.proofs.lemmas.Option.{none-some}
 use Rattle.mesh_plane.specs.Plane.{Edge}
 use Rattle.mesh_plane.proofs.Whole.{linear}
 use Rattle.mesh_cuts.specs.Split.{same_edge}
@@ -21,7 +22,7 @@ exactly_none k (e ∷ es) h =
     ⊎_elim
     (λ (t : edge_eq k e.0 ≡ true).
     let value : Some e.1 ≡ None = ap (λ (b : Bool). cond b (Some e.1) (lookup (edge_eq k) es)) (sym t) ∙ h in
-    absurd (some_none value))
+    absurd (none-some e.1 (sym value)))
     (λ (n : edge_eq k e.0 ≡ false).
     let other : same_edge k e.0 ≡ false =
     ⊎_elim
@@ -31,9 +32,6 @@ exactly_none k (e ∷ es) h =
     (cases_Bool (same_edge k e.0)) in
     omega (arith, linear, ap bit other, exactly_none k es (ap (λ (b : Bool). cond b (Some e.1) (lookup (edge_eq k) es)) (sym n) ∙ h)))
     (cases_Bool (edge_eq k e.0))
-  where
-    some_none : {m : ℤ} → Some m ≡ None → ⊥
-    some_none h = cc
 
 not_found : (k : Edge) (es : List Counted) → times k es ≡ pos 0 → (o : Option ℤ) → lookup (edge_eq k) es ≡ o → lookup (edge_eq k) es ≡ None
 not_found k es none (Some m) h = absurd (omega (arith, ints, none, positive_times k es (found_stands k m es h)))

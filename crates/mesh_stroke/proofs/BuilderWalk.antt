@@ -28,7 +28,7 @@ use Rattle.mesh_stroke.specs.Paths.{neighbours, path_edges}
 use Rattle.mesh_stroke.specs.Styles.{StrokeStyle, stroke_padding}
 use Rattle.mesh_stroke.specs.Strokes.{EdgePair, side_edges, corner_edges, both_caps, drawn_edges}
 use Rattle.mesh_stroke.specs.Midway.{Section, section_of, own_edge, IsMade, IsCorner, AreEnds}
-use Rattle.mesh_stroke.proofs.Chains.{neighbours_all, path_chain}
+use Rattle.mesh_stroke.proofs.Chains.{neighbours_all, path_chain, Joined}
 use Rattle.mesh_stroke.proofs.Reach.{join_covered, start_covered, end_covered, radius_covered, cap_padding_least}
 
 route_split : {A : Type 0} (x : A) (xs : List A) (z : A) → route x xs z ≡ pairs (x ∷ xs) ++ (last_of x xs, z) ∷ []
@@ -150,9 +150,6 @@ pub record IsFit (unit : ℕ) (style : StrokeStyle) (e : Edge) : Type 0 where
 abbrev pub Continues : ℕ → StrokeStyle → Bool → Edge → List Edge → Edge → Type 0
 Continues unit style closed p [] first = IsTrue closed → p.1 ≡ first.0
 Continues unit style closed p (e ∷ es) first = IsFit unit style e × (p.1 ≡ e.0) × Continues unit style closed e es first
-
-abbrev Joined : EdgePair → Type 0
-Joined c = c.0.1 ≡ c.1.0
 
 continues_round : (unit : ℕ) (style : StrokeStyle) (p : Edge) (es : List Edge) (first : Edge) → All (IsFit unit style) es → All Joined (route p es first) →
     Continues unit style true p es first

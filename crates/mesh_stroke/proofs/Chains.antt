@@ -11,6 +11,7 @@ use Rattle.mesh_plane.proofs.ClosedLists.{boundary_ends, boundary_all}
 use Rattle.mesh_plane.proofs.Comparing.{decides_point}
 use Rattle.mesh_plane.specs.Ways.{last_of}
 use Rattle.mesh_num.specs.Segments.{proper_edges}
+use Rattle.mesh_cuts.specs.Splitting.{Leads}
 use Rattle.mesh_draw.specs.Walks.{pairs}
 use Rattle.mesh_draw.proofs.Walks.{pairs_all}
 use Rattle.mesh_stroke.specs.Paths.{neighbours, path_edges}
@@ -21,39 +22,35 @@ pub record IsChain (closed : Bool) (es : List Edge) : Type 0 where
   pub proper : All (λ (e : Edge). e.0 ≢ e.1) es
   pub joined : All (λ (c : EdgePair). c.0.1 ≡ c.1.0) (neighbours closed es)
 
--- the edges run from `a` to `z`
-abbrev Runs : Point → List Edge → Point → Type 0
-Runs a [] z = a ≡ z
-Runs a (e ∷ es) z = (a ≡ e.0) × Runs e.1 es z
-
-abbrev Joined : EdgePair → Type 0
+-- the second of two edges starts where the first ends
+abbrev pub Joined : EdgePair → Type 0
 Joined c = c.0.1 ≡ c.1.0
 
-pairs_joined : (a : Point) (es : List Edge) (z : Point) → Runs a es z → All Joined (pairs es)
+pairs_joined : (a : Point) (es : List Edge) (z : Point) → Leads a es z → All Joined (pairs es)
 pairs_joined a [] z h = All-nil Joined
 pairs_joined a (e ∷ []) z h = All-nil Joined
 pairs_joined a (e ∷ f ∷ es) z h = All-cons Joined (e, f) (pairs (f ∷ es)) h.1.0 (pairs_joined e.1 (f ∷ es) z h.1)
 
-route_joined : (e : Edge) (es : List Edge) (first : Edge) → Runs e.1 es first.0 → All Joined (route e es first)
+route_joined : (e : Edge) (es : List Edge) (first : Edge) → Leads e.1 es first.0 → All Joined (route e es first)
 route_joined e [] first h = All-cons Joined (e, first) [] h (All-nil Joined)
 route_joined e (f ∷ es) first h = All-cons Joined (e, f) (route f es first) h.0 (route_joined f es first h.1)
 
-boundary_joined : (a : Point) (es : List Edge) → Runs a es a → All Joined (boundary es)
+boundary_joined : (a : Point) (es : List Edge) → Leads a es a → All Joined (boundary es)
 boundary_joined a [] h = All-nil Joined
-boundary_joined a (e ∷ es) h = route_joined e es e (subst (λ (z : Point). Runs e.1 es z) h.0 h.1)
+boundary_joined a (e ∷ es) h = route_joined e es e (subst (λ (z : Point). Leads e.1 es z) h.0 h.1)
 
 -- without the edges whose ends are one point they still do
-step_runs : (x y z : Point) (es : List Edge) → Runs y es z → (b : Bool) → same_point x y ≡ b → Runs x (cond (not b) ((x, y) ∷ es) es) z
-step_runs x y z es h true e = subst (λ (p : Point). Runs p es z) (sym ((decides_point x y).0 e)) h
-step_runs x y z es h false e = (refl, h)
+step_leads : (x y z : Point) (es : List Edge) → Leads y es z → (b : Bool) → same_point x y ≡ b → Leads x (cond (not b) ((x, y) ∷ es) es) z
+step_leads x y z es h true e = subst (λ (p : Point). Leads p es z) (sym ((decides_point x y).0 e)) h
+step_leads x y z es h false e = (refl, h)
 
-route_runs : (x : Point) (xs : List Point) (z : Point) → Runs x (proper_edges (route x xs z)) z
-route_runs x [] z = step_runs x z z [] refl (same_point x z) refl
-route_runs x (y ∷ ys) z = step_runs x y z (proper_edges (route y ys z)) (route_runs y ys z) (same_point x y) refl
+route_leads : (x : Point) (xs : List Point) (z : Point) → Leads x (proper_edges (route x xs z)) z
+route_leads x [] z = step_leads x z z [] refl (same_point x z) refl
+route_leads x (y ∷ ys) z = step_leads x y z (proper_edges (route y ys z)) (route_leads y ys z) (same_point x y) refl
 
-pairs_runs : (x : Point) (xs : List Point) → Runs x (proper_edges (pairs (x ∷ xs))) (last_of x xs)
-pairs_runs x [] = refl
-pairs_runs x (y ∷ ys) = step_runs x y (last_of y ys) (proper_edges (pairs (y ∷ ys))) (pairs_runs y ys) (same_point x y) refl
+pairs_leads : (x : Point) (xs : List Point) → Leads x (proper_edges (pairs (x ∷ xs))) (last_of x xs)
+pairs_leads x [] = refl
+pairs_leads x (y ∷ ys) = step_leads x y (last_of y ys) (proper_edges (pairs (y ∷ ys))) (pairs_leads y ys) (same_point x y) refl
 
 proper_apart : (es : List Edge) → All (λ (e : Edge). e.0 ≢ e.1) (proper_edges es)
 proper_apart [] = All-nil (λ (e : Edge). e.0 ≢ e.1)
@@ -71,11 +68,11 @@ path_chain true [] = record { proper = All-nil (λ (e : Edge). e.0 ≢ e.1); joi
 path_chain false [] = record { proper = All-nil (λ (e : Edge). e.0 ≢ e.1); joined = All-nil Joined }
 path_chain true (x ∷ xs) = record {
   proper = proper_apart (route x xs x);
-  joined = boundary_joined x (proper_edges (route x xs x)) (route_runs x xs x);
+  joined = boundary_joined x (proper_edges (route x xs x)) (route_leads x xs x);
 }
 path_chain false (x ∷ xs) = record {
   proper = proper_apart (pairs (x ∷ xs));
-  joined = pairs_joined x (proper_edges (pairs (x ∷ xs))) (last_of x xs) (pairs_runs x xs);
+  joined = pairs_joined x (proper_edges (pairs (x ∷ xs))) (last_of x xs) (pairs_leads x xs);
 }
 
 -- round a closed one too

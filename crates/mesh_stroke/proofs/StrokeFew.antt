@@ -8,11 +8,11 @@ use Rattle.std.proofs.lemmas.Int.{ints}
 use Rattle.std.proofs.lemmas.List.Elements.{All-head, All-tail, All-weaker}
 use Rattle.mesh_plane.specs.Plane.{Point, Edge}
 use Rattle.mesh_plane.specs.Ways.{last_of}
+use Rattle.mesh_plane.proofs.ClosedLists.{route_length}
 use Rattle.mesh_num.specs.Segments.{SignedEdge}
 use Rattle.mesh_grid.proofs.Parts.{direction_fresh}
 use Rattle.mesh_cuts.specs.Split.{back}
 use Rattle.mesh_join.specs.Joins.{HasFew}
-use Rattle.mesh_join.proofs.Drawing.{route_length}
 use Rattle.mesh_cap.specs.Caps.{CapKind, draws_directly, has_few_edges}
 use Rattle.mesh_cap.specs.Ends.{half_turn, IsEnd}
 use Rattle.mesh_cap.proofs.Caps.{cap_keeps}

@@ -1,15 +1,14 @@
 -- Lemmas over points and lists: circles and arcs stay within the radius of their center.
-use Rattle.std.proofs.Common.{◌≡◌, ◌≢◌, ℕ, ◌*◌, ◌<◌, ◌≤◌, ◌⊎◌, inl, inr, zero, suc, false, List, [], ◌++◌, refl}
-use Rattle.std.proofs.Common.{arith}
-use Rattle.std.specs.Prelude.{ℤ, pos, ◌-ℤ◌, ◌≤ℤ◌, ◌<ℤ◌, unsigned_abs, int_le, if◌then◌else◌}
+use Rattle.std.proofs.Common.{◌≡◌, ◌≢◌, ℕ, ◌<◌, false, List, [], ◌++◌, arith}
+use Rattle.std.specs.Prelude.{ℤ, pos, ◌≤ℤ◌, ◌<ℤ◌, unsigned_abs, int_le, if◌then◌else◌}
 use Rattle.std.specs.List.{All}
-use Rattle.std.proofs.lemmas.Bool.{cond_both, cases_lt}
+use Rattle.std.proofs.lemmas.Bool.{cond_both}
 use Rattle.std.proofs.lemmas.Int.{ints}
 use Rattle.std.proofs.lemmas.List.Elements.{All-nil, All-append, All-map, All-weaker}
-use Rattle.mesh_plane.specs.Plane.{Point, Edge, minus, length_sq}
+use Rattle.mesh_plane.specs.Plane.{Point, Edge, minus}
 use Rattle.mesh_plane.specs.Winding.{route}
 use Rattle.mesh_plane.proofs.ClosedLists.{route_all}
-use Rattle.mesh_plane.proofs.Sizes.{size_zero}
+use Rattle.mesh_plane.proofs.Sizes.{apart_some}
 use Rattle.mesh_grid.specs.Direction.{IsShort, scaled_direction}
 use Rattle.mesh_grid.proofs.Directed.{direction_of_is}
 use Rattle.mesh_grid.proofs.Parts.{direction_short}
@@ -25,23 +24,6 @@ use Rattle.mesh_sweep.specs.Sweeps.{distance, bearing, point_round, polyline_poi
 use Rattle.mesh_sweep.specs.Sweeps.{circle_edges, east_of, west_of, sweep_of, is_empty, is_central, is_whole, arc_edges}
 use Rattle.mesh_sweep.specs.Sweeps.{IsReached}
 use Rattle.mesh_sweep.proofs.Swept.{ends_apart, east_apart, west_apart}
-
--- different points are some length apart
-pub apart_some : (p c : Point) → p ≢ c → 0 < length_sq (minus p c)
-apart_some p c apart = by (cases_lt 0 (length_sq (minus p c)))
-  where
-    none : (n : ℕ) → n * n ≤ 0 → n ≡ 0
-    none zero h = refl
-    none (suc n) h = absurd (omega arith)
-
-    by : (0 < length_sq (minus p c)) ⊎ (length_sq (minus p c) ≤ 0) → 0 < length_sq (minus p c)
-    by (inl h) = h
-    by (inr h) =
-        let x : p.0 -ℤ c.0 ≡ pos 0 = size_zero (p.0 -ℤ c.0) (none (unsigned_abs (p.0 -ℤ c.0)) (omega arith)) in
-        let y : p.1 -ℤ c.1 ≡ pos 0 = size_zero (p.1 -ℤ c.1) (none (unsigned_abs (p.1 -ℤ c.1)) (omega arith)) in
-        let ex : p.0 ≡ c.0 = omega (arith, ints) in
-        let ey : p.1 ≡ c.1 = omega (arith, ints) in
-        absurd (apart (λ i. (ex i, ey i)))
 
 -- ---- polylines
 

@@ -6,8 +6,9 @@ use Rattle.std.specs.List.{All}
 use Rattle.std.proofs.lemmas.Bool.{ltb-true, lt-ltb}
 use Rattle.std.proofs.lemmas.Int.{ints, clamps}
 use Rattle.std.proofs.lemmas.List.{take_more}
-use Rattle.std.proofs.lemmas.List.Elements.{All-nil, All-cons, All-head, All-tail, All-map, All-weaker}
+use Rattle.std.proofs.lemmas.List.Elements.{All-nil, All-cons, All-map, All-weaker}
 use Rattle.mesh_plane.specs.Plane.{Point, Edge}
+use Rattle.mesh_plane.proofs.ClosedLists.{all_mapped}
 use Rattle.mesh_grid.specs.Rectangle.{IsBounds, IsSafeRectangle, IsSafeWidened}
 use Rattle.mesh_join.specs.VariableStyles.{Vertex}
 use Rattle.mesh_draw.specs.Padding.{ArePathsSafe, widened}
@@ -113,16 +114,11 @@ each_strokable unit paths safe k d h =
     (λ v s. safe_within_less unit (padding_of paths) (greatest_radius (get_or paths k d)) v.point (greatest_least (get_or paths k d)) (covered paths k d h) s)
     (get_or paths k d) (safe k d h)
 
--- vertices are safe where their points are
-all_mapped : {X Y : Type 0} (P : Y → Type 0) (f : X → Y) (xs : List X) → All P (map f xs) → All (λ (x : X). P (f x)) xs
-all_mapped P f [] h = All-nil (λ x. P (f x))
-all_mapped P f (x ∷ xs) h =
-    All-cons (λ x. P (f x)) x xs (All-head P (f x) (map f xs) h) (all_mapped P f xs (All-tail P (f x) (map f xs) h))
-
 -- a vertex stays safe where its point does
 abbrev IsSafeVertex : ℕ → ℤ → Vertex → Type 0
 IsSafeVertex unit padding v = IsSafeWidened unit padding v.point
 
+-- vertices are safe where their points are
 strokable_by_points : (unit : ℕ) (padding : ℤ) (paths : List (List Vertex))
     → All (λ (path : List Vertex). AreStrokable unit padding path) paths ↔ ArePathsSafe unit padding (map vertex_points paths)
 strokable_by_points unit padding paths = (

@@ -1,5 +1,5 @@
 -- Lemmas over points and lists: how far a stroke of changing width reaches from its path.
-use Rattle.std.proofs.Common.{◌≡◌, ℕ, ◌+◌, ◌*◌, ◌<◌, ◌≤◌, ◌^◌, List, [], ◌∷◌, ◌++◌, Bool, true, false, not, map, refl}
+use Rattle.std.proofs.Common.{◌≡◌, ℕ, ◌+◌, ◌*◌, ◌<◌, ◌≤◌, ◌^◌, List, [], ◌∷◌, ◌++◌, Bool, true, false, not, refl}
 use Rattle.std.proofs.Common.{sym, subst, arith}
 use Rattle.std.specs.Prelude.{ℤ, pos, negsuc, ◌≤ℤ◌, unsigned_abs, ◌||◌, ◌&&◌, int_le, if◌then◌else◌, Option, Some, None}
 use Rattle.std.specs.Int.{int_max}
@@ -12,7 +12,7 @@ use Rattle.std.proofs.lemmas.List.Elements.{All-weaker, All-contains_itself}
 use Rattle.std.proofs.lemmas.Nat.{mul-lt}
 use Rattle.mesh_plane.specs.Plane.{Point, Edge, minus, length_sq}
 use Rattle.mesh_plane.specs.Winding.{route, same_point}
-use Rattle.mesh_plane.proofs.ClosedLists.{all_both, all_flat_map}
+use Rattle.mesh_plane.proofs.ClosedLists.{all_both, all_flat_map, all_mapped}
 use Rattle.mesh_plane.proofs.Comparing.{decides_point}
 use Rattle.mesh_plane.specs.Ways.{last_of}
 use Rattle.mesh_arc.specs.declared.arc.ArcOptions.{ArcOptions}
@@ -388,12 +388,6 @@ greatest_covers (v ∷ vs) =
     let more : rest ≤ℤ greatest = max_second (radius_of v.width) rest in
     All-cons (AtMost greatest) v vs (max_first (radius_of v.width) rest)
     (All-weaker (AtMost rest) (AtMost greatest) (λ w h. omega (arith, ints, h, more)) vs (greatest_covers vs))
-
--- what holds of what a function gives
-all_mapped : {A B : Type 0} (P : B → Type 0) (g : A → B) (xs : List A) → All P (map g xs) → All (λ x. P (g x)) xs
-all_mapped P g [] h = All-nil (λ x. P (g x))
-all_mapped P g (x ∷ xs) h =
-    All-cons (λ x. P (g x)) x xs (All-head P (g x) (map g xs) h) (all_mapped P g xs (All-tail P (g x) (map g xs) h))
 
 circles_on_path : (vertices : List Vertex) →
     All (IsOnPath (greatest_radius vertices) (vertex_points vertices)) (circles_of vertices)

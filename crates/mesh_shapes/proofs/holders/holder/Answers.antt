@@ -5,15 +5,15 @@ use Rattle.std.proofs.lemmas.List.{length-map}
 use Rattle.mesh_shapes.specs.Contours.{double_area}
 use Rattle.mesh_shapes.specs.Resolution.{Ring}
 use Rattle.mesh_shapes.specs.Midway.Holders.{PlacedEdge, Rise, IsSearch}
-use Rattle.mesh_shapes.proofs.AreaSums.{fits_long}
-use Rattle.mesh_shapes.proofs.HolderSearch.{search_none, search_end, some_edges, rise_first, next_edge, past_edges}
+use Rattle.mesh_shapes.proofs.AreaSums.{fits_long, some_elements}
+use Rattle.mesh_shapes.proofs.HolderSearch.{search_none, search_end, rise_first, next_edge, past_edges}
 use Rattle.mesh_shapes.proofs.holders.holder.Goals as goal
 
 pub loop-e-init : goal.loop-e-init
 loop-e-init c =
     let row = c.args.row.now in
     let end = length c.args.areas.now in
-    let first = rise_first 0 end row (((pos 0, pos 0), (pos 0, pos 0)), 0) (some_edges row (sym c.is_empty.ensures ∙ c.if-is_empty.false)) c.requires in
+    let first = rise_first 0 end row (((pos 0, pos 0), (pos 0, pos 0)), 0) (some_elements row (sym c.is_empty.ensures ∙ c.if-is_empty.false)) c.requires in
     record {
       search = λ rs known row_of.
           (let same = ap length known in

@@ -2,8 +2,9 @@ use Rattle.std.proofs.Common.{◌∙◌, ap, sym, get_or}
 use Rattle.std.specs.Prelude.{pos}
 use Rattle.std.proofs.lemmas.List.{get_or_default}
 use Rattle.mesh_plane.specs.Plane.{Edge}
+use Rattle.mesh_cuts.proofs.Options.{match_none}
 use Rattle.mesh_shapes.specs.Midway.Unused.{IsNext}
-use Rattle.mesh_shapes.proofs.Walking.{none_before, none_after, next_step, match_none}
+use Rattle.mesh_shapes.proofs.Walking.{none_before, none_after, next_step}
 use Rattle.mesh_shapes.proofs.walk.next_edge.Goals as goal
 use Rattle.mesh_plane.proofs.Comparing.{decides_point}
 
@@ -15,7 +16,7 @@ pub returns-then-not-same_point : goal.returns-then-not-same_point
 returns-then-not-same_point c =
     let es = c.args.edges.now in
     let k = c.loop-k.k in
-    match_none (IsNext es c.args.used.now c.args.first c.args.at) c.loop-k.best
+    match_none c.loop-k.best (IsNext es c.args.used.now c.args.first c.args.at)
     (none_after es c.args.used.now c.args.first c.args.at ((pos 0, pos 0), (pos 0, pos 0)) k c.requires.ordered c.loop-k-test.true
     (λ (d : Edge). c.first_from-k.ensures.after k d c.loop-k.auto.k c.loop-k-test.true) (sym c.same_point.ensures ∙ c.if-not-same_point.true))
     c.loop-k.invariant

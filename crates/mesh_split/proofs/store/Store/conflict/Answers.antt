@@ -1,13 +1,14 @@
 use Rattle.std.proofs.Common.{subst, List}
 use Rattle.std.specs.Prelude.{MatchOption}
 use Rattle.mesh_cuts.specs.Counted.{Counted}
+use Rattle.mesh_cuts.proofs.Options.{match_none}
 use Rattle.mesh_split.specs.Midway.Cells.{listed_at, MeetsLive}
 use Rattle.mesh_split.specs.Midway.Steps.{IsClearOf}
-use Rattle.mesh_split.proofs.Listing.{nothing_more, clear_of_parts}
+use Rattle.mesh_split.proofs.Listing.{clear_of_parts}
 use Rattle.mesh_split.proofs.store.Store.conflict.Goals as goal
 
 pub returns : goal.returns
 returns c =
     subst (λ (ks : List Counted). MatchOption c.find.result (IsClearOf c.args.s ks) (λ m. MeetsLive c.args.s ks m)) c.self.view_is
-    (nothing_more c.find.result _ _ (λ m. MeetsLive c.args.s c.self.inside.live m)
+    (match_none c.find.result (λ m. MeetsLive c.args.s c.self.inside.live m)
     (λ parts. clear_of_parts c.args.s (listed_at c.self.inside.plane) c.self.inside.live parts c.self.invariant) c.find.ensures)

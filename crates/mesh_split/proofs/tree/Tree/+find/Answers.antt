@@ -1,8 +1,9 @@
 use Rattle.std.proofs.Common.{◌≡◌, true, ◌∙◌, subst, sym}
 use Rattle.std.proofs.lemmas.Bool.{true≢false}
+use Rattle.mesh_cuts.proofs.Options.{match_none}
 use Rattle.mesh_split.specs.declared.tree.Tree.{Tree}
 use Rattle.mesh_split.specs.Midway.Cells.{Cell, IsAt, reaches, listed_at, IsCellClear, MeetsLive}
-use Rattle.mesh_split.proofs.Listing.{fork_is_clear, nothing_more}
+use Rattle.mesh_split.proofs.Listing.{fork_is_clear}
 use Rattle.mesh_split.proofs.tree.Tree.+find.Goals as goal
 use Rattle.mesh_split.proofs.tree.Tree.+find.Goals.{then-below+in_default, else-below}
 
@@ -13,7 +14,7 @@ returns-then-beyond t c =
       | then-below+in_default w ↦ λ e. rw w.deref-then-below.ensures at w.in_default.ensures
       | else-below w ↦ λ e. absurd (true≢false (sym e ∙ sym c.reaches-below.ensures ∙ w.if-below.false))
     ] in
-    nothing_more c.find-then-beyond.result _ _ (λ m. MeetsLive c.args.s c.args.live.now m)
+    match_none c.find-then-beyond.result (λ m. MeetsLive c.args.s c.args.live.now m)
     (λ high.
     subst (λ (z : Tree). (p : Cell) → IsAt c.args.s p → IsCellClear c.args.s (listed_at z p) c.args.live.now) (sym c.in-Fork.is)
     (fork_is_clear c.in-Fork.cut (listed_at c.in-Fork.low.value) (listed_at c.in-Fork.high.value) c.args.s c.args.live.now low (λ e. high)))
