@@ -1,9 +1,9 @@
 //! Tests of what the overlay asks of segments, for callers that have them from elsewhere.
 
-ghost use Rattle.std.specs.Prelude.{◌≡◌, ◌↔◌, ℕ, List, ℤ, map, IsTrue, IfOk};
+ghost use Rattle.std.specs.Prelude.{◌≡◌, ◌↔◌, map, IsTrue, IfOk};
 ghost use Rattle.std.specs.List.{All};
 ghost use Rattle.mesh_plane.specs.Bounds.{IsSafe};
-ghost use Rattle.mesh_plane.specs.Plane.{Point, Edge};
+ghost use Rattle.mesh_plane.specs.Plane.{Edge};
 ghost use Rattle.mesh_num.specs.Segments.{IsSubject};
 ghost use Rattle.mesh_plane.specs.Winding.{IsBalanced};
 ghost use Rattle.mesh_below.specs.Asked.{AreResolvable};

@@ -1,6 +1,6 @@
 //! The directed edges that segments stand for, on the grid of the splitting.
 
-ghost use Rattle.std.specs.Prelude.{◌≡◌, ◌↔◌, List, ℤ, IfOk, IsTrue};
+ghost use Rattle.std.specs.Prelude.{◌≡◌, ◌↔◌, IfOk, IsTrue};
 ghost use Rattle.std.specs.List.{All};
 ghost use Rattle.mesh_num.specs.Segments.{IsSubject, edge_of, edges_of};
 ghost use Rattle.mesh_cuts.specs.Clean.{IsProper};

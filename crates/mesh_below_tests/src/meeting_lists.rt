@@ -1,7 +1,7 @@
 //! Random lists of edges with few meetings, with many, with repeats, and with none, against a plain check of what split
 //! segments are.
 
-ghost use Rattle.std.specs.Prelude.{◌<◌, ◌^◌};
+ghost use Rattle.std.specs.Prelude.{◌<◌};
 
 use crate::random_splits::{expect_split, push_closed};
 use crate::splits::split_sorted;

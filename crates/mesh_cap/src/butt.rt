@@ -1,6 +1,6 @@
 //! Butt caps.
 
-ghost use Rattle.std.specs.Prelude.{◌≡◌, ◌≤◌, [], length, take, vec_capacity, IsOk, OnOk};
+ghost use Rattle.std.specs.Prelude.{◌≡◌, ◌≤◌, length, take, vec_capacity, IsOk, OnOk};
 ghost use Rattle.mesh_plane.specs.Winding.{route};
 ghost use Rattle.mesh_join.specs.Appending.{Appends, HasRoomForEdges};
 ghost use Rattle.mesh_cap.specs.ButtCaps.{butt_padding, butt_points};

@@ -1,6 +1,6 @@
 //! Exact geometry on the grid that is twice as fine, on which the midpoints of segments stand.
 
-ghost use Rattle.std.specs.Prelude.{◌≡◌, ℕ, ◌^◌, ◌&&◌, true, ℤ, pos, ◌+ℤ◌, ◌-ℤ◌, ◌*ℤ◌, int_le, int_lt};
+ghost use Rattle.std.specs.Prelude.{◌≡◌, ◌^◌, ◌&&◌, true, ℤ, pos, ◌+ℤ◌, ◌-ℤ◌, ◌*ℤ◌, int_le, int_lt};
 ghost use Rattle.mesh_plane.specs.Bounds.{IsSmall, IsSafe};
 ghost use Rattle.mesh_plane.specs.Plane.{minus, cross, turn};
 ghost use Rattle.mesh_plane.specs.Winding.{crossing, refined};

@@ -1,8 +1,8 @@
 //! Places among marks on an axis, and lists by such places. Whatever the marks are, a greater number has no lesser
 //! place.
 
-ghost use Rattle.std.specs.Prelude.{◌≡◌, ℕ, ◌+◌, ◌-◌, ◌<◌, ◌≤◌, ◌≤ℤ◌, true, List, [], ◌∷◌, ◌++◌, length};
-ghost use Rattle.std.specs.Prelude.{slice_index_or, int_le, vec_len, IfOk, OnOk, OnErr, Vec};
+ghost use Rattle.std.specs.Prelude.{◌≡◌, ℕ, ◌+◌, ◌-◌, ◌<◌, ◌≤◌, ◌≤ℤ◌, true, [], ◌∷◌, ◌++◌, length};
+ghost use Rattle.std.specs.Prelude.{slice_index_or, int_le, IfOk, OnOk, OnErr, Vec};
 ghost use Rattle.std.specs.declared.alloc.Global.{Global};
 ghost use Rattle.mesh_cuts.specs.Lists.{list_at, OthersStay};
 ghost use Rattle.mesh_cuts.specs.Marks.{place, AreRising, IsPutTo};

@@ -3,7 +3,7 @@
 ghost use Rattle.std.specs.Prelude.{◌≡◌, ◌≢◌, [], ◌∷◌, ◌^◌, ◌≤◌, length, take, vec_capacity, IsOk, OnOk, OnErr};
 ghost use Rattle.std.specs.Prelude.{pos, ◌*ℤ◌, unsigned_abs, int_lt};
 ghost use Rattle.mesh_plane.specs.Bounds.{IsWithin};
-ghost use Rattle.mesh_plane.specs.Plane.{minus, cross as cross_of, dot as dot_of};
+ghost use Rattle.mesh_plane.specs.Plane.{minus, cross as cross_of};
 ghost use Rattle.mesh_grid.specs.Direction.{scaled_direction};
 ghost use Rattle.mesh_grid.specs.Quotient.{rounded_product as product_over};
 ghost use Rattle.mesh_grid.specs.Rectangle.{IsSafeWidened};

@@ -190,11 +190,3 @@ pos_of_mul c a h k = by_lt_z (pos 0) a (λ l. l) (λ l. absurd (omega (arith, li
 
 pub neg_of_mul : (c a : ℤ) → pos 0 ≤ℤ c → (c *ℤ a) <ℤ pos 0 → a <ℤ pos 0
 neg_of_mul c a h k = by_lt_z a (pos 0) (λ l. l) (λ l. absurd (omega (arith, linear, mul_nonneg c a h l)))
-
--- ---- squares
-
-pub square_pos : (a : ℤ) → (a ≡ pos 0 → ⊥) → pos 0 <ℤ (a *ℤ a)
-square_pos a n =
-    by_lt_z a (pos 0)
-    (λ h. mul_both_neg a a h h)
-    (λ h. by_lt_z (pos 0) a (λ p. mul_pos a a p p) (λ p. absurd (n (omega (arith, linear)))))

@@ -1,6 +1,6 @@
 //! Coordinates and areas out of numbers of 128 bits.
 
-ghost use Rattle.std.specs.Prelude.{◌≡◌, ◌*◌, ◌^◌, ◌≤◌, ℕ, pos, option_map};
+ghost use Rattle.std.specs.Prelude.{◌≡◌, ◌*◌, ◌^◌, ◌≤◌, pos, option_map};
 ghost use Rattle.mesh_request.specs.Reading.{where_fits, where_area_fits};
 
 use mesh_num::num::convert::widen;

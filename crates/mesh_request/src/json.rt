@@ -1,7 +1,6 @@
 //! Values of JSON, and what is looked up in them.
 
 ghost use Rattle.std.specs.Prelude.{◌≡◌, Some, IfOk, IfErr, MatchOption, IsUtf8, false, true, option_map};
-ghost use Rattle.std.specs.Prelude.{option_and_then};
 ghost use Rattle.serde_json.specs.Find.{get, as_str};
 ghost use Rattle.serde_json.specs.Read.{read};
 ghost use Rattle.serde_json.specs.View.{view, items_view, members_view};

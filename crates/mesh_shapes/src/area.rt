@@ -1,7 +1,6 @@
 //! Areas of closed lists of points.
 
-ghost use Rattle.std.specs.Prelude.{◌≡◌, ℕ, ◌^◌, ◌<◌, ◌≤◌, ℤ, ◌*ℤ◌, unsigned_abs};
-ghost use Rattle.mesh_plane.specs.Bounds.{IsSafe};
+ghost use Rattle.std.specs.Prelude.{◌≡◌, ◌^◌, ◌<◌, ◌≤◌, ℤ, ◌*ℤ◌, unsigned_abs};
 ghost use Rattle.mesh_plane.specs.Plane.{cross};
 ghost use Rattle.mesh_shapes.specs.Contours.{double_area};
 

@@ -1,23 +1,19 @@
 //! Shapes of rings: order and grouping.
 
-ghost use Rattle.std.specs.Prelude.{◌≡◌, ◌≢◌, ◌⊎◌, ℕ, ◌+◌, ◌*◌, ◌^◌, ◌<◌, ◌≤◌, Bool, true, false, not, ◌&&◌, cond};
-ghost use Rattle.std.specs.Prelude.{List, [], ◌∷◌, ◌++◌, map, length, take, drop, reverse, slice_index_or, nat_le};
-ghost use Rattle.std.specs.Prelude.{nat_eq};
-ghost use Rattle.std.specs.Prelude.{unsigned_abs, int_lt, pos, IfOk, OnOk, MatchOption, Vec};
+ghost use Rattle.std.specs.Prelude.{◌≡◌, ◌≢◌, ℕ, ◌+◌, ◌*◌, ◌<◌, true, false, cond};
+ghost use Rattle.std.specs.Prelude.{[], ◌∷◌, ◌++◌, length, reverse, slice_index_or};
+ghost use Rattle.std.specs.Prelude.{unsigned_abs, int_lt, pos, IfOk, OnOk, Vec};
 ghost use Rattle.std.specs.declared.alloc.Global.{Global};
-ghost use Rattle.std.specs.Option.{ForSome};
-ghost use Rattle.std.specs.List.{All, AllPairs, filter, enumerate_from};
+ghost use Rattle.std.specs.List.{All, AllPairs};
 ghost use Rattle.std.specs.List.Sorted.{IsSortedBy, IsPermutation};
-ghost use Rattle.mesh_plane.specs.Bounds.{IsSafe};
-ghost use Rattle.mesh_plane.specs.Plane.{Point};
 ghost use Rattle.mesh_shapes.specs.Contours.{reversed, double_area};
 ghost use Rattle.mesh_shapes.specs.Vectors.{ring_of_vec, rings_of_vecs, shape_points, shapes_points};
-ghost use Rattle.mesh_shapes.specs.Midway.Grouping.{ring_at, areas_of, IsHome, AreHomes, AreWithin};
+ghost use Rattle.mesh_shapes.specs.Midway.Grouping.{areas_of, IsHome, AreHomes, AreWithin};
 ghost use Rattle.mesh_shapes.specs.Midway.Grouping.{HaveMembers, IsPutHome, contour_at, contours_at, all_shapes};
 ghost use Rattle.mesh_shapes.specs.Midway.Grouping.{Stays, OtherRingsStay, AreApart, HaveApart, homed};
 ghost use Rattle.mesh_shapes.specs.Midway.Holders.{placed_edges};
 ghost use Rattle.mesh_rows.specs.Rows.{AreRows};
-ghost use Rattle.mesh_shapes.specs.Resolution.{is_large, points_lt, is_head, shape_of, rings_by_shape};
+ghost use Rattle.mesh_shapes.specs.Resolution.{is_large, points_lt};
 ghost use Rattle.mesh_shapes.specs.Resolution.{AreArranged};
 
 use crate::area::double_area;

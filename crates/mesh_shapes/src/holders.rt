@@ -1,7 +1,7 @@
 //! The ring that holds a point. The edges of rings stand ring after ring, and so they do in the row of the point: one
 //! pass over it tells how often each ring winds round the point.
 
-ghost use Rattle.std.specs.Prelude.{◌≡◌, ℕ, ◌+◌, ◌^◌, ◌<◌, ◌≤◌, true, not, List, ◌∷◌, ◌++◌, length, pos, unsigned_abs};
+ghost use Rattle.std.specs.Prelude.{◌≡◌, ◌+◌, ◌^◌, ◌<◌, ◌≤◌, true, not, List, ◌∷◌, ◌++◌, length, pos, unsigned_abs};
 ghost use Rattle.std.specs.Prelude.{IfOk, OnOk, MatchOption};
 ghost use Rattle.std.specs.Option.{ForSome};
 ghost use Rattle.std.specs.Ordering.{int_eq};

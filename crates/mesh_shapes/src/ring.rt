@@ -1,13 +1,13 @@
 //! What is answered of a contour: its vertices from its start on, and its side point.
 
-ghost use Rattle.std.specs.Prelude.{◌≡◌, ◌≢◌, ℕ, ◌+◌, ◌^◌, ◌<◌, ◌≤◌, ◌||◌, Bool, true, false, List, [], ◌∷◌, ◌++◌, ℤ};
+ghost use Rattle.std.specs.Prelude.{◌≡◌, ◌+◌, ◌^◌, ◌<◌, ◌||◌, true, false, ◌++◌};
 ghost use Rattle.std.specs.Prelude.{length};
-ghost use Rattle.std.specs.Prelude.{take, drop, IfOk, OnOk};
+ghost use Rattle.std.specs.Prelude.{drop, IfOk, OnOk};
 ghost use Rattle.std.specs.List.{All};
 ghost use Rattle.mesh_plane.specs.Bounds.{IsSmall, IsSafe};
-ghost use Rattle.mesh_plane.specs.Plane.{Point, Edge, dot, cross};
+ghost use Rattle.mesh_plane.specs.Plane.{Edge, dot, cross};
 ghost use Rattle.mesh_plane.specs.Winding.{boundary, same_point};
-ghost use Rattle.mesh_plane.specs.Ways.{turns_at, first_or};
+ghost use Rattle.mesh_plane.specs.Ways.{turns_at};
 ghost use Rattle.mesh_shapes.specs.Contours.{kept, left_out, omitted, vertices, side_point, StartsOnce, IsRingAmong};
 ghost use Rattle.mesh_shapes.specs.Vectors.{StartsInOrder};
 ghost use Rattle.mesh_shapes.specs.Midway.Progress.{point_at, next_at, IsBestVisit, IsLeastBefore, point_after};

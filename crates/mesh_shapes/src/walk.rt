@@ -1,11 +1,10 @@
 //! The walk along a boundary: its edges become closed contours.
 
-ghost use Rattle.std.specs.Prelude.{◌≡◌, ◌⊎◌, ℕ, ◌+◌, ◌<◌, ◌≤◌, ◌↔◌, IsTrue, Bool, true, false, List, [], ◌∷◌, ◌++◌, ℤ};
+ghost use Rattle.std.specs.Prelude.{◌≡◌, ◌⊎◌, ℕ, ◌+◌, ◌<◌, ◌≤◌, ◌↔◌, IsTrue, true, false, ℤ};
 ghost use Rattle.std.specs.Prelude.{◌+ℤ◌, length, slice_index_or, MatchOption, IfOk, OnOk};
 ghost use Rattle.mesh_plane.specs.Order.{point_lt};
-ghost use Rattle.mesh_plane.specs.Plane.{Point, Edge};
+ghost use Rattle.mesh_plane.specs.Plane.{Edge};
 ghost use Rattle.mesh_plane.specs.Winding.{sum_of, boundary, IsBalanced};
-ghost use Rattle.mesh_cuts.specs.Boundary.{count};
 ghost use Rattle.mesh_shapes.specs.Contours.{StartsOnce};
 ghost use Rattle.mesh_shapes.specs.Vectors.{HavePoints, StartsInOrder, contour_edges};
 ghost use Rattle.mesh_shapes.specs.Midway.Unused.{unused, IsOpen, IsNext, TakesContours};

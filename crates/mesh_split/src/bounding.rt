@@ -1,6 +1,6 @@
 //! The box of a segment, by which those are left out at once that have no point in common with it.
 
-ghost use Rattle.std.specs.Prelude.{◌≡◌, ◌≤ℤ◌};
+ghost use Rattle.std.specs.Prelude.{◌≡◌};
 ghost use Rattle.mesh_split.specs.Midway.BoundingBoxes.{are_beyond, is_beside, AreBounds};
 
 use mesh_cuts::grid::{GridEdge, GridPoint};

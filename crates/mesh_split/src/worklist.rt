@@ -1,6 +1,6 @@
 //! The segments that are still to be tested against the live ones.
 
-ghost use Rattle.std.specs.Prelude.{◌≡◌, ◌⊎◌, List, [], ◌∷◌, ℤ, MatchOption, IfSome, OnOk};
+ghost use Rattle.std.specs.Prelude.{◌≡◌, ◌⊎◌, List, [], ℤ, MatchOption, IfSome, OnOk};
 ghost use Rattle.std.specs.List.{All};
 ghost use Rattle.std.specs.Map.{keys_of};
 ghost use Rattle.mesh_split.specs.Midway.Steps.{HaveRoom, IsForward, IsTaken, IsRaised, IsNew};

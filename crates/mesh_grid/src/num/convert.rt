@@ -1,6 +1,6 @@
 //! Steps between coordinate types and 128 bits, each with an exact clause.
 
-ghost use Rattle.std.specs.Prelude.{◌≡◌, ℕ, ◌*◌, ◌^◌, ◌≤◌, ◌↔◌, IsTrue, pos, unsigned_abs, ◌<ℤ◌};
+ghost use Rattle.std.specs.Prelude.{◌≡◌, ◌*◌, ◌^◌, ◌≤◌, ◌↔◌, IsTrue, pos, unsigned_abs, ◌<ℤ◌};
 ghost use Rattle.std.specs.Int.{int_min, int_max};
 ghost use Rattle.mesh_plane.specs.Bounds.{IsWithin};
 

@@ -1,6 +1,6 @@
 //! Exact sums of products in 128 bits, apart from any coordinate type.
 
-ghost use Rattle.std.specs.Prelude.{◌≡◌, ℕ, ◌*◌, ◌^◌, ◌<◌, ℤ, unsigned_abs};
+ghost use Rattle.std.specs.Prelude.{◌≡◌, ◌*◌, ◌^◌, ◌<◌, unsigned_abs};
 ghost use Rattle.mesh_plane.specs.Plane.{length_sq};
 
 /// `x * x + y * y`.

@@ -1,6 +1,6 @@
 //! Points of the grid and vectors between them.
 
-ghost use Rattle.std.specs.Prelude.{◌≡◌, ℕ, ◌+◌, ◌*◌, ℤ, ◌-ℤ◌};
+ghost use Rattle.std.specs.Prelude.{◌≡◌, ◌+◌, ◌*◌, ℤ};
 ghost use Rattle.mesh_plane.specs.Plane.{plus, minus, cross, dot, length_sq, right_quarter};
 ghost use Rattle.mesh_plane.specs.Bounds.{IsSafe};
 ghost use Rattle.mesh_plane.specs.Winding.{same_point};

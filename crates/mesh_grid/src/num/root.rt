@@ -1,6 +1,6 @@
 //! Whole roots in 128 bits, apart from any coordinate type.
 
-ghost use Rattle.std.specs.Prelude.{ℕ, ◌≡◌, ◌+◌, ◌*◌, ◌^◌, ◌<◌, ◌≤◌};
+ghost use Rattle.std.specs.Prelude.{◌≡◌, ◌+◌, ◌*◌, ◌^◌, ◌<◌, ◌≤◌};
 ghost use Rattle.mesh_grid.specs.Roots.{raised_root};
 
 /// The greatest number whose square is at most `number`, by Newton's steps: each comes nearer to the root, and none

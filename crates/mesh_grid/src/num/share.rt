@@ -1,6 +1,6 @@
 //! Directions of vectors and their multiples, in 128 bits and apart from any coordinate type.
 
-ghost use Rattle.std.specs.Prelude.{◌≡◌, ℕ, ◌+◌, ◌*◌, ◌^◌, ◌<◌, ◌≤◌, ℤ, unsigned_abs, MatchOption, IfSome};
+ghost use Rattle.std.specs.Prelude.{◌≡◌, ℕ, ◌+◌, ◌*◌, ◌^◌, ◌<◌, ◌≤◌, unsigned_abs, MatchOption, IfSome};
 ghost use Rattle.mesh_plane.specs.Plane.{length_sq};
 ghost use Rattle.mesh_plane.specs.Rounding.{rounded};
 ghost use Rattle.mesh_grid.specs.Direction.{IsShare, IsPart, IsDirection, IsShort, scaled};

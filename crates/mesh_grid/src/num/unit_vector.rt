@@ -1,6 +1,6 @@
 //! Directions: vectors brought to the length `UNIT`.
 
-ghost use Rattle.std.specs.Prelude.{◌≡◌, ℕ, ◌*◌, ◌≤◌, ◌↔◌, ℤ, pos, unsigned_abs, IsTrue, IsNone, IfSome, MatchOption};
+ghost use Rattle.std.specs.Prelude.{◌≡◌, ◌*◌, ◌≤◌, ◌↔◌, ℤ, pos, unsigned_abs, IsTrue, IsNone, IfSome, MatchOption};
 ghost use Rattle.mesh_plane.specs.Bounds.{IsSafe};
 ghost use Rattle.mesh_plane.specs.Plane.{length_sq};
 ghost use Rattle.mesh_grid.specs.Direction.{IsDirection, IsFresh, IsShort, KeepsOpposites, SameWay, KeepsTurns};

@@ -1,6 +1,6 @@
 //! Contours in one list of points.
 
-ghost use Rattle.std.specs.Prelude.{◌≡◌, ℤ, List, [], ◌∷◌, ◌++◌, OnOk, OnErr, IfOk};
+ghost use Rattle.std.specs.Prelude.{◌≡◌, [], ◌∷◌, OnOk, OnErr, IfOk};
 ghost use Rattle.mesh_num.specs.FlatContours.{HoldsContours, AddsContours};
 ghost use Rattle.mesh_num.specs.Paths.{paths_of, shapes_of, contours_of};
 
