@@ -78,15 +78,24 @@ fn options_of(number: u32) -> IntOverlayOptions<u64> {
     options
 }
 
-/// Where edges are told to be their own boundary they are, and are arranged to what they are resolved to.
+/// Where edges are told to be their own boundary they are, and are arranged to what they are resolved to, whatever the
+/// fill rule and the options of the overlay that answered them.
 #[test]
 fn own_boundaries_are_arranged(rt: HostRuntime) -> Result<(), Fail> {
     let mut random = Random::new(6);
     let mut arranged_lists = 0u32;
-    for number in 0u32..300 {
-        let overlay = scattered_overlay(rt.alloc(), &mut random, number)?;
+    for number in 0u32..400 {
+        let mut overlay = scattered_overlay(rt.alloc(), &mut random, number)?;
         expect_resolvable(&overlay)?;
-        let answer = overlay.overlay_answer(OverlayRule::Subject, FillRule::Positive)?;
+        if number % 4 == 0 {
+            overlay.options = options_of(number / 4);
+        }
+        let fill = if number % 7 < 2 {
+            FillRule::Negative
+        } else {
+            FillRule::Positive
+        };
+        let answer = overlay.overlay_answer(OverlayRule::Subject, fill)?;
         if answer.is_own_boundary {
             expect_own_boundary(&edges_of_shapes(rt.alloc(), &answer.shapes)?)?;
             let mut overlay = again(rt.alloc(), &answer.shapes)?;
