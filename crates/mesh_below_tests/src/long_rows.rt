@@ -145,3 +145,22 @@ fn stars(rt: HostRuntime) -> Result<(), Fail> {
     let filled = expect_counted(&overlay, &mut random)?;
     expect_that(filled > 20, &filled)
 }
+
+/// So many strips that only some of their edges are looked at to choose how they are listed.
+#[test]
+fn many_strips_are_answered(rt: HostRuntime) -> Result<(), Fail> {
+    let mut overlay = overlay_of(rt.alloc(), &[])?;
+    for number in 0..5000 {
+        let corner = (20i32.wrapping_mul(number), number % 7);
+        push_strip(&mut overlay, corner, (7000, 50000), (-8, 1), false)?;
+    }
+    let shapes = answered_shapes(&overlay, FillRule::Positive)?;
+    expect_equal(&shapes.len(), &5000, &"shapes")?;
+    for shape in &shapes {
+        expect_equal(&shape.len(), &1, &"contours")?;
+        for contour in shape {
+            expect_equal(&contour.len(), &4, &"points")?;
+        }
+    }
+    Ok(())
+}
