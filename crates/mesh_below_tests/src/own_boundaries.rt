@@ -86,10 +86,10 @@ fn own_boundaries_are_arranged(rt: HostRuntime) -> Result<(), Fail> {
     let mut arranged_lists = 0u32;
     for number in 0u32..400 {
         let mut overlay = scattered_overlay(rt.alloc(), &mut random, number)?;
-        expect_resolvable(&overlay)?;
         if number % 4 == 0 {
             overlay.options = options_of(number / 4);
         }
+        expect_resolvable(&overlay)?;
         let fill = if number % 7 < 2 {
             FillRule::Negative
         } else {
