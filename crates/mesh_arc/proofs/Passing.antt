@@ -14,12 +14,12 @@ use Rattle.mesh_arc.specs.declared.arc.ArcDirection.{ArcDirection}
 use Rattle.mesh_arc.specs.declared.arc.ArcDirection.TheVariants.{Clockwise, Counterclockwise}
 
 -- `w` lies ahead of `v` by at most the angle with the sine and cosine of the bound
-pub record IsNear (sense : ArcDirection) (bound v w : Point) : Type 0 where
+pub record IsWithinBound (sense : ArcDirection) (bound v w : Point) : Type 0 where
   pub onward : pos 0 ≤ℤ ahead sense v w
   pub same_way : pos 0 <ℤ dot v w
   pub small : (ahead sense v w *ℤ bound.1) ≤ℤ (dot v w *ℤ bound.0)
 
-pub within_from : (sense : ArcDirection) (bound v w : Point) → IsNear sense bound v w → is_within sense bound v w ≡ true
+pub within_from : (sense : ArcDirection) (bound v w : Point) → IsWithinBound sense bound v w → is_within sense bound v w ≡ true
 within_from sense bound v w h =
     let a = ahead sense v w in
     let d = dot v w in
@@ -27,7 +27,7 @@ within_from sense bound v w h =
     (at_most_test (pos 0) a h.onward)
     (and_from (int_lt (pos 0) d) (int_le (a *ℤ bound.1) (d *ℤ bound.0)) (less_test (pos 0) d h.same_way) (at_most_test (a *ℤ bound.1) (d *ℤ bound.0) h.small))
 
-pub within_parts : (sense : ArcDirection) (bound v w : Point) → is_within sense bound v w ≡ true → IsNear sense bound v w
+pub within_parts : (sense : ArcDirection) (bound v w : Point) → is_within sense bound v w ≡ true → IsWithinBound sense bound v w
 within_parts sense bound v w h =
     let a = ahead sense v w in
     let d = dot v w in
@@ -35,11 +35,11 @@ within_parts sense bound v w h =
     let q = and_parts (int_lt (pos 0) d) (int_le (a *ℤ bound.1) (d *ℤ bound.0)) p.1 in
     record { onward = test_at_most (pos 0) a p.0; same_way = test_less (pos 0) d q.0; small = test_at_most (a *ℤ bound.1) (d *ℤ bound.0) q.1 }
 
-pub good_from : (sense : ArcDirection) (bound v w : Point) → IsNear sense bound v w → pos 0 <ℤ ahead sense v w → is_good sense bound v w ≡ true
+pub good_from : (sense : ArcDirection) (bound v w : Point) → IsWithinBound sense bound v w → pos 0 <ℤ ahead sense v w → is_good sense bound v w ≡ true
 good_from sense bound v w h l =
     and_from (is_within sense bound v w) (int_lt (pos 0) (ahead sense v w)) (within_from sense bound v w h) (less_test (pos 0) (ahead sense v w) l)
 
-pub good_parts : (sense : ArcDirection) (bound v w : Point) → is_good sense bound v w ≡ true → IsNear sense bound v w × (pos 0 <ℤ ahead sense v w)
+pub good_parts : (sense : ArcDirection) (bound v w : Point) → is_good sense bound v w ≡ true → IsWithinBound sense bound v w × (pos 0 <ℤ ahead sense v w)
 good_parts sense bound v w h =
     let p = and_parts (is_within sense bound v w) (int_lt (pos 0) (ahead sense v w)) h in
     (within_parts sense bound v w p.0, test_less (pos 0) (ahead sense v w) p.1)

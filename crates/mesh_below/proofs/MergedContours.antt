@@ -24,10 +24,10 @@ use Rattle.mesh_below.proofs.Straight.{LookAlike, RunsThrough, apart_alike, stra
 
 -- ---- how many ends of edges are at a point
 
-abbrev pub ends_at : Point → List Edge → ℤ
-ends_at x es = sum_of (λ (e : Edge). bit (same_point x e.0) +ℤ bit (same_point x e.1)) es
+abbrev pub end_count : Point → List Edge → ℤ
+end_count x es = sum_of (λ (e : Edge). bit (same_point x e.0) +ℤ bit (same_point x e.1)) es
 
-ends_least : (x : Point) (es : List Edge) → pos 0 ≤ℤ ends_at x es
+ends_least : (x : Point) (es : List Edge) → pos 0 ≤ℤ end_count x es
 ends_least x es =
     sum_least (λ (e : Edge). bit (same_point x e.0) +ℤ bit (same_point x e.1))
     (λ (e : Edge). let a = bit_least (same_point x e.0) in let b = bit_least (same_point x e.1) in omega (arith, linear, a, b)) es
@@ -41,7 +41,7 @@ unfolding is_end
 no_end x g p q = λ i. p i || q i
 
 -- where there is none, the list is free of the point
-lone_of : (x : Point) (es : List Edge) → ends_at x es ≤ℤ pos 0 → IsFreeOf x es
+lone_of : (x : Point) (es : List Edge) → end_count x es ≤ℤ pos 0 → IsFreeOf x es
 lone_of x [] h f o = absurd (false≢true o)
 lone_of x (e ∷ es) h f o =
     ⊎_elim
@@ -62,7 +62,7 @@ lone_of x (e ∷ es) h f o =
 module _ (Free : Point → Type 0) where
   -- at each free point there are at most two ends
   abbrev pub FewEnds : List Edge → Type 0
-  FewEnds es = (x : Point) → Free x → ends_at x es ≤ℤ pos 2
+  FewEnds es = (x : Point) → Free x → end_count x es ≤ℤ pos 2
 
   abbrev pub Merged : List Edge → Type 0
   Merged es = AreOwnBoundary es × FewEnds es

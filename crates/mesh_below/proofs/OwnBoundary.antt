@@ -23,12 +23,12 @@ use Rattle.mesh_shapes.specs.Resolution.{Choices, IsResolution}
 use Rattle.mesh_below.specs.Answers.{AreOwnBoundary}
 use Rattle.mesh_below.proofs.AnswerRegions.{resolved_split, resolved_proper}
 use Rattle.mesh_below.proofs.Merging.{Same, own_same}
-use Rattle.mesh_below.proofs.MergedContours.{contours_merged, ends_at}
+use Rattle.mesh_below.proofs.MergedContours.{contours_merged, end_count}
 use Rattle.mesh_below.proofs.OwnSides.{bounds_itself}
 use Rattle.mesh_below.proofs.Partition.{answer_sums}
 
 -- balanced edges have two ends at most where one edge at most starts
-few_ends : (es ordered : List Edge) → IsBalanced es → Same es ordered → (p : Point) → StartsOnce ordered p → ends_at p es ≤ℤ pos 2
+few_ends : (es ordered : List Edge) → IsBalanced es → Same es ordered → (p : Point) → StartsOnce ordered p → end_count p es ≤ℤ pos 2
 few_ends es ordered balanced same p once =
     let starts = marks_counted (λ (e : Edge). same_point p e.0) es in
     let ends = marks_counted (λ (e : Edge). same_point p e.1) es in
@@ -69,7 +69,7 @@ own_boundary edges ordered fill options answer proper balanced empty r least for
       bounded = bounds_itself es bounds fill split empty r.bounded;
     }
 
-    begun : AreOwnBoundary (bounds ++ []) × ((p : Point) → StartsOnce ordered p → ends_at p (bounds ++ []) ≤ℤ pos 2)
+    begun : AreOwnBoundary (bounds ++ []) × ((p : Point) → StartsOnce ordered p → end_count p (bounds ++ []) ≤ℤ pos 2)
     begun = (
       own_same bounds (bounds ++ []) (λ (f : Edge → ℤ). sym (ap (sum_of f) (append-nil bounds))) own,
       λ (p : Point) (free : StartsOnce ordered p).

@@ -44,5 +44,5 @@ proper_more es i d h proper before =
     ends : ProperEnds (get_or es i d)
     ends e = both_ways _ proper ((decides_point (get_or es i d).0 (get_or es i d).1).1 e)
 
-pub proper_all : (es : List Edge) (i : ℕ) → length es ≤ i → IsProper (take i es) → IsProper es
-proper_all es i h proper = subst (λ (x : List Edge). IsProper x) (take_all i es h) proper
+pub proper_whole : (es : List Edge) (i : ℕ) → length es ≤ i → IsProper (take i es) → IsProper es
+proper_whole es i h proper = subst (λ (x : List Edge). IsProper x) (take_all i es h) proper

@@ -50,8 +50,8 @@ const UNLUCKY: &[Corners] = &[
     ],
 ];
 
-/// Contours that took thousands of splits in every order that was tried, the second one tens of thousands along one
-/// line.
+/// Contours that took thousands of splits in every order that was tried: some 7,100, 100,000 and 611,000. Those of the
+/// last two go on along one line.
 const LONG: &[Corners] = &[
     &[
         (42, -2554),
@@ -67,6 +67,14 @@ const LONG: &[Corners] = &[
         (-39270, 33461),
         (-15692, 14092),
         (-39270, 33460),
+    ],
+    &[
+        (-514339, 278681),
+        (648638, 493878),
+        (-514338, 278681),
+        (-69009, 498496),
+        (1966, 211288),
+        (-69010, 498496),
     ],
 ];
 

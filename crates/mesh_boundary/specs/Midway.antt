@@ -1,4 +1,4 @@
--- States of the program's loops, which private contracts alone read.
+-- States of loops, and what the ways to find sides have, which private contracts alone read.
 pub mod CountedSides
 pub mod Flood
 pub mod Slants

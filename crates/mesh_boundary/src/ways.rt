@@ -23,7 +23,9 @@ use std::alloc::{AllocError, Global};
 /// For so few segments rows serve, however long they are.
 const FEW: usize = 64;
 
-/// The greatest number of segments that reach a height, on average, for which rows serve.
+/// The greatest number of segments that reach a height, on average, for which rows serve. Rows to the east are held to
+/// it with what a sample counts twice: so of more than some 10,000 segments they are never taken for being short, and
+/// the flood, which is mostly quicker there, is.
 const SHORT: usize = 12;
 
 /// A way to find the sides of segments.

@@ -45,20 +45,20 @@ raised_root_most n unit h some =
 
 -- ---- the points are near
 
-abbrev IsNear : ℕ → Point → Point → ℕ → Point → Type 0
-IsNear unit v n most p = IsWithinPadding (pos most) v (plus v (turned_along unit n p))
+abbrev IsTurnedNear : ℕ → Point → Point → ℕ → Point → Type 0
+IsTurnedNear unit v n most p = IsWithinPadding (pos most) v (plus v (turned_along unit n p))
 
 pub points_near : (unit : ℕ) (v n : Point) (most : ℕ) (points : List Point) → 0 < unit → IsShort unit n
-    → greatest_length points ≤ most → All (IsNear unit v n most) points
+    → greatest_length points ≤ most → All (IsTurnedNear unit v n most) points
 unfolding greatest_length
-points_near unit v n most [] some short h = All-nil (IsNear unit v n most)
+points_near unit v n most [] some short h = All-nil (IsTurnedNear unit v n most)
 points_near unit v n most (p ∷ points) some short h =
     let r = raised_root (length_sq p) in
     let w : (unsigned_abs (turned_along unit n p).0 ≤ r) × (unsigned_abs (turned_along unit n p).1 ≤ r) =
     turned_along_within unit n p some short r (raised_root_reaches (length_sq p)) in
     let a : r ≤ most = omega arith in
     let b : greatest_length points ≤ most = omega arith in
-    All-cons (IsNear unit v n most) p points
+    All-cons (IsTurnedNear unit v n most) p points
     (moved_within (pos most) v (turned_along unit n p) (omega (arith, ints, w.0, a)) (omega (arith, ints, w.1, a)))
     (points_near unit v n most points some short b)
 
@@ -68,7 +68,7 @@ pub point_safe : (unit : ℕ) (points : List Point) (j : Joint) (i : ℕ) (p : P
     → i < length points → p ≡ get_or points i p → IsSafe unit (custom_point unit j p)
 point_safe unit points j i p some short h lt e =
     within_safe unit (custom_padding points) j.center _ h.safe
-    (subst (IsNear unit j.center j.incoming (greatest_length points)) (sym e)
+    (subst (IsTurnedNear unit j.center j.incoming (greatest_length points)) (sym e)
     (points_near unit j.center j.incoming (greatest_length points) points some short (omega arith) i p lt))
 
 -- ---- the greatest length, point by point

@@ -180,8 +180,8 @@ tail [] = []
 tail (x ∷ xs) = xs
 
 -- the list on to `q` and `k` ends there
-pub ends_at : (q p k : Point) (zs : List Point) → same_point q p ≡ false → same_point q k ≡ false → last_of p (changes_from p (zs ++ q ∷ k ∷ [])) ≡ k
-ends_at q p k zs n m = ap (last_of p) (round_to q p k zs n m) ∙ last_of-append p (without_end q (changes_from p zs)) q k
+pub end_after_lap : (q p k : Point) (zs : List Point) → same_point q p ≡ false → same_point q k ≡ false → last_of p (changes_from p (zs ++ q ∷ k ∷ [])) ≡ k
+end_after_lap q p k zs n m = ap (last_of p) (round_to q p k zs n m) ∙ last_of-append p (without_end q (changes_from p zs)) q k
 
 pub started-found : (q p k : Point) (zs : List Point) → (n : same_point q p ≡ false) → (t : Found q p k q p zs) → started q p zs ≡ boundary (k ∷ t.rest)
 started-found q p k zs n t =
@@ -189,7 +189,7 @@ started-found q p k zs n t =
     t.edges
     ∙ passed-own q q p (zs ++ q ∷ k ∷ []) (SameWay-self q p n)
     ∙ ap (λ ws. route q ws (last_of p (changes_from p (zs ++ q ∷ k ∷ [])))) t.kept
-    ∙ ap (λ l. route q (k ∷ t.rest) l) (ends_at q p k zs n t.apart)
+    ∙ ap (λ l. route q (k ∷ t.rest) l) (end_after_lap q p k zs n t.apart)
     )
 
 -- the points that are kept on the way round `q`, `p`, `zs`

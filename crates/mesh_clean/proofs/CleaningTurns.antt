@@ -15,7 +15,7 @@ use Rattle.mesh_plane.proofs.ClosedLists.{route_length}
 use Rattle.mesh_clean.proofs.CleaningVectors.{SameWay, SameWay-straight, SameWay-ahead, SameWay-self, SameWay-apart, judged, judged_ahead, turns_at-from_self, turns_at-to_self, turns_at-back, turns_at-straight}
 use Rattle.mesh_clean.proofs.CleaningPass.{changes_from-same, changes_from-apart, kept_between-kept, kept_between-passed}
 use Rattle.mesh_clean.proofs.CleaningLoop.{round_to}
-use Rattle.mesh_clean.proofs.CleaningStart.{started, Turned, Found, none_inside, first_inside, ends_at, started-found, started-cleaned}
+use Rattle.mesh_clean.proofs.CleaningStart.{started, Turned, Found, none_inside, first_inside, end_after_lap, started-found, started-cleaned}
 
 -- ---- turns along an open list
 
@@ -163,7 +163,7 @@ started-clean q p zs n = cases (kept_between q p (changes_from p zs)) refl
         found t =
             let all : List Point = changes_from p (zs ++ q ∷ k ∷ []) in
             let apart : Apart p all = changes_from-Apart p (zs ++ q ∷ k ∷ []) in
-            let end : last_of p all ≡ k = ends_at q p k zs n t.apart in
+            let end : last_of p all ≡ k = end_after_lap q p k zs n t.apart in
             let turning : Turning q k t.rest k = subst (Turning q k t.rest) end (Turning-from q q p k all t.rest apart same t.kept) in
             let before : before_last q p all ≡ q = ap (before_last q p) (round_to q p k zs n t.apart) ∙ before_last-append q p (without_end q (changes_from p zs)) q k in
             let seen : SameWay (last_of q (kept_between q p all)) (before_last q p all) (last_of p all) = last_kept q q p all apart same in

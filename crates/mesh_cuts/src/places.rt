@@ -9,20 +9,11 @@ ghost use Rattle.mesh_cuts.specs.Marks.{place, AreRising, IsPutTo};
 
 use std::alloc::{AllocError, Global};
 
-/// How many elements stand side by side in a sample.
-const BLOCK: usize = 64;
-
 /// A coordinate at which one part of an axis ends and the next begins.
 #[derive(Debug, Copy, Clone)]
 pub struct Mark {
     /// The coordinate, on whatever grid.
     pub at: i64,
-}
-
-/// Whether the element at a place is in a sample of one in so many. The sample has blocks of elements side by side,
-/// since contours often go on in the same few steps, of which a sample of single elements could miss some.
-pub fn is_sampled(i: usize, step: usize) -> bool {
-    i / BLOCK % step.max(1) == 0
 }
 
 fn is_at_most(m: Mark, q: Mark) -> bool

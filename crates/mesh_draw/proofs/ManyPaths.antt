@@ -25,7 +25,7 @@ use Rattle.mesh_below.proofs.AnswerRegions.{regions_made, filled_none}
 use Rattle.mesh_draw.specs.Adding.{Keeps, added, added_edges}
 use Rattle.mesh_draw.specs.Midway.{AreBuilt}
 use Rattle.mesh_draw.specs.Staying.{IsSafeResolving}
-use Rattle.mesh_draw.proofs.ProperEdges.{all_proper, proper_all, proper_permutation}
+use Rattle.mesh_draw.proofs.ProperEdges.{all_proper, proper_if_all, proper_permutation}
 use Rattle.mesh_draw.proofs.Staying.{safe_resolving}
 
 -- `draw` gives the edges of each path
@@ -100,7 +100,7 @@ module _ {P : Type 0} (draw : P → List Edge) where
         let each : All ProperEnds (flat_map draw paths) =
         all_flat_map ProperEnds draw paths
         (λ k d h. all_proper (draw (get_or paths k d)) (proper (get_or paths k d))) in (
-          proper_permutation (flat_map draw paths) built back (proper_all (flat_map draw paths) each),
+          proper_permutation (flat_map draw paths) built back (proper_if_all (flat_map draw paths) each),
           balanced_permutation (flat_map draw paths) built back
               (all_balanced paths (λ k d h. balanced (get_or paths k d))),
         )

@@ -57,12 +57,12 @@ proper_kept es = rw (edges_of_segments es) at (subjects_proper (segments_of es) 
 pub all_proper : (es : List Edge) → IsProper es → All ProperEnds es
 all_proper es h = All-from_recursion ProperEnds es (proper_each es h)
 
-pub proper_all : (es : List Edge) → All ProperEnds es → IsProper es
-proper_all es h = each_proper es (recursion_from_All ProperEnds es h)
+pub proper_if_all : (es : List Edge) → All ProperEnds es → IsProper es
+proper_if_all es h = each_proper es (recursion_from_All ProperEnds es h)
 
 -- and so are they in another order
 pub proper_permutation : (es gs : List Edge) → IsPermutation es gs → IsProper es → IsProper gs
-proper_permutation es gs same h = proper_all gs (All-permutation ProperEnds es gs same (all_proper es h))
+proper_permutation es gs same h = proper_if_all gs (All-permutation ProperEnds es gs same (all_proper es h))
 
 -- where all are such, all are kept
 kept_all : (es : List Edge) → All (λ (e : Edge). same_point e.0 e.1 ≡ false) es → proper_edges es ≡ es

@@ -15,7 +15,7 @@ use Rattle.mesh_plane.proofs.Identities.{cross_opposites}
 use Rattle.mesh_plane.proofs.Sizes.{size_zero, le_of_squares, square_none}
 use Rattle.mesh_plane.proofs.Signs.{sign_self, sign_through, sign_square, sign_times}
 use Rattle.mesh_plane.proofs.Rounding.{rounded_sign, rounded_neg, rounded_grows, rounded_within, rounded_zero}
-use Rattle.mesh_grid.proofs.Turns.{Keeps, turn_kept_by, parallel_kept_by}
+use Rattle.mesh_grid.proofs.Turns.{KeepsProducts, turn_kept_by, parallel_kept_by}
 
 -- ---- one component
 
@@ -28,7 +28,7 @@ scaled_grows unit r k j h l =
     let b : unsigned_abs (k *ℤ r) ≤ unsigned_abs (j *ℤ r) = omega (arith, unsigned_abs-mul k r, unsigned_abs-mul j r) in
     rounded_grows (k *ℤ r) (j *ℤ r) unit h b
 
-keeps_scaled : (unit : ℕ) (r : ℤ) → 0 < unit → pos 0 ≤ℤ r → Keeps (scaled unit r)
+keeps_scaled : (unit : ℕ) (r : ℤ) → 0 < unit → pos 0 ≤ℤ r → KeepsProducts (scaled unit r)
 keeps_scaled unit r h l = record { signs = λ x. scaled_sign unit r h l (sign_self x); grows = λ x y. scaled_grows unit r x y h }
 
 pub scaled_opposite_radius : (unit : ℕ) (r k : ℤ) → 0 < unit → scaled unit (neg_ℤ r) k ≡ neg_ℤ (scaled unit r k)

@@ -14,16 +14,16 @@ use Rattle.mesh_plane.proofs.Signs.{sign_self, sign_through, sign_product, order
 use Rattle.mesh_grid.proofs.Parts.{part_grows, has_length, direction_opposite}
 
 -- a map of components that keeps signs and the order of sizes
-pub record Keeps (f : ℤ → ℤ) : Type 0 where
+pub record KeepsProducts (f : ℤ → ℤ) : Type 0 where
   pub signs : (x : ℤ) → HasSignOf x (f x)
   pub grows : (x y : ℤ) → unsigned_abs x ≤ unsigned_abs y → unsigned_abs (f x) ≤ unsigned_abs (f y)
 
-pub keeps_self : Keeps (λ (x : ℤ). x)
+pub keeps_self : KeepsProducts (λ (x : ℤ). x)
 keeps_self = record { signs = sign_self; grows = λ x y h. h }
 
 -- components a, b of one vector and c, d of another: where |bc| is at most |ad|, the same holds of the directions,
 -- and of what `f` makes of them
-products_kept : {unit l m : ℕ} {a b c d p q r s : ℤ} → (f : ℤ → ℤ) → Keeps f → 0 < l → 0 < m
+products_kept : {unit l m : ℕ} {a b c d p q r s : ℤ} → (f : ℤ → ℤ) → KeepsProducts f → 0 < l → 0 < m
     → l ≡ unsigned_abs a * unsigned_abs a + unsigned_abs b * unsigned_abs b
     → m ≡ unsigned_abs c * unsigned_abs c + unsigned_abs d * unsigned_abs d
     → IsPart unit l a p → IsPart unit l b q → IsPart unit m c r → IsPart unit m d s
@@ -42,7 +42,7 @@ products_kept {unit} {l} {m} {a} {b} {c} {d} {p} {q} {r} {s} f k i j e g ha hb h
     turned l m a b c d e g h = let o : b * c * (b * c) ≤ a * d * (a * d) = mul-le-mul h h in rw (e, g) (omega arith)
 
 -- a turn to the left, by at most half a turn, stays one
-pub turn_kept_by : {unit : ℕ} {v n w m : Point} → (f : ℤ → ℤ) → Keeps f → IsDirection unit v n → IsDirection unit w m
+pub turn_kept_by : {unit : ℕ} {v n w m : Point} → (f : ℤ → ℤ) → KeepsProducts f → IsDirection unit v n → IsDirection unit w m
     → pos 0 ≤ℤ cross v w → pos 0 ≤ℤ cross (f n.0, f n.1) (f m.0, f m.1)
 turn_kept_by {unit} {v} {n} {w} {m} f k p q h =
     let a : HasSignOf v.0 (f n.0) = sign_through p.x.sign (k.signs n.0) in
@@ -60,7 +60,7 @@ turn_kept_by {unit} {v} {n} {w} {m} f k p q h =
     omega (arith, linear)
 
 -- two vectors on one line have directions on one line
-pub parallel_kept_by : {unit : ℕ} {v n w m : Point} → (f : ℤ → ℤ) → Keeps f → IsDirection unit v n → IsDirection unit w m
+pub parallel_kept_by : {unit : ℕ} {v n w m : Point} → (f : ℤ → ℤ) → KeepsProducts f → IsDirection unit v n → IsDirection unit w m
     → cross v w ≡ pos 0 → cross (f n.0, f n.1) (f m.0, f m.1) ≡ pos 0
 parallel_kept_by {unit} {v} {n} {w} {m} f k p q e =
     let a : pos 0 ≤ℤ cross (f n.0, f n.1) (f m.0, f m.1) = turn_kept_by f k p q (omega (arith, linear)) in

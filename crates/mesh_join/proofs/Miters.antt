@@ -101,12 +101,12 @@ sized angle radius = reach_sized (half_sharpest angle).0 radius
 -- ---- what points that can be used keep
 
 -- the edges through the points never turn back, the points are near, and there are few
-record Keeps (padding : ℤ) (j : Joint) (points : List Point) : Type 0 where
+record KeepsWithin (padding : ℤ) (j : Joint) (points : List Point) : Type 0 where
   ahead : NeverTurnsBack j.sense j.center (through j.first points j.last)
   near : All (IsWithinPadding padding j.center) (between j.first points j.last)
   few : length (through j.first points j.last) ≤ 3
 
-nothing_keeps : (unit : ℕ) (padding : ℤ) (j : Joint) (points : List Point) → IsTurn unit j → between j.first points j.last ≡ [] → Keeps padding j points
+nothing_keeps : (unit : ℕ) (padding : ℤ) (j : Joint) (points : List Point) → IsTurn unit j → between j.first points j.last ≡ [] → KeepsWithin padding j points
 nothing_keeps unit padding j points h e = record {
   ahead = rw e (All-cons Ahead (j.first, j.last) [] h.no_turn_back (All-nil Ahead));
   near = rw e (All-nil (IsWithinPadding padding j.center));
@@ -133,11 +133,11 @@ means_near padding v p h =
     let t = and_parts (int_le (v.1 -ℤ padding) p.1) (int_le p.1 (v.1 +ℤ padding)) x.1 in
     record { west = test_at_most _ _ w.0; south = test_at_most _ _ t.0; east = test_at_most _ _ w.1; north = test_at_most _ _ t.1 }
 
-tested_keep : (unit : ℕ) (padding : ℤ) (j : Joint) (points : List Point) → IsTurn unit j → length points ≤ 2 → are_usable padding j points ≡ true → Keeps padding j points
+tested_keep : (unit : ℕ) (padding : ℤ) (j : Joint) (points : List Point) → IsTurn unit j → length points ≤ 2 → are_usable padding j points ≡ true → KeepsWithin padding j points
 unfolding are_usable
 tested_keep unit padding j points h few u = by (same_point j.first j.last) refl
   where
-    by : (t : Bool) → same_point j.first j.last ≡ t → Keeps padding j points
+    by : (t : Bool) → same_point j.first j.last ≡ t → KeepsWithin padding j points
     by true e = nothing_keeps unit padding j points h (ap (λ (t : Bool). cond t [] points) e)
     by false e =
         let n : between j.first points j.last ≡ points = ap (λ (t : Bool). cond t [] points) e in
@@ -211,10 +211,10 @@ none_if false p e = refl
 pub tested_safe : (unit : ℕ) (padding to : ℤ) (v w p : Point) (b : Bool) → IsSafeWidened unit padding v → b ≡ is_near to w p → to ≡ padding → w ≡ v → b ≡ true → IsSafe unit p
 tested_safe unit padding to v w p b s t e f passed = within_safe unit padding v p s (means_near padding v p (rw (e, f) at (sym t ∙ passed)))
 
-usable_keeps : (unit : ℕ) (padding : ℤ) (j : Joint) (points : List Point) → IsTurn unit j → length points ≤ 2 → Keeps padding j (usable padding j points)
+usable_keeps : (unit : ℕ) (padding : ℤ) (j : Joint) (points : List Point) → IsTurn unit j → length points ≤ 2 → KeepsWithin padding j (usable padding j points)
 usable_keeps unit padding j points h few = by (are_usable padding j points) refl
   where
-    by : (t : Bool) → are_usable padding j points ≡ t → Keeps padding j (cond t points [])
+    by : (t : Bool) → are_usable padding j points ≡ t → KeepsWithin padding j (cond t points [])
     by true u = tested_keep unit padding j points h few u
     by false u = nothing_keeps unit padding j [] h (nothing_between j.first j.last)
 
@@ -232,11 +232,11 @@ miter_keeps_joint : (unit angle min_turn : ℕ) (j : Joint) → IsTurn unit j �
 unfolding miter_points
 miter_keeps_joint unit angle min_turn j h = record { never_turns_back = k.ahead; near = k.near; few = λ _. k.few }
   where
-    by : (t : Bool) → Keeps (miter_padding angle j.radius) j (cond t [] (usable (miter_padding angle j.radius) j (miter_tip angle unit j)))
+    by : (t : Bool) → KeepsWithin (miter_padding angle j.radius) j (cond t [] (usable (miter_padding angle j.radius) j (miter_tip angle unit j)))
     by true = nothing_keeps unit (miter_padding angle j.radius) j [] h (nothing_between j.first j.last)
     by false = usable_keeps unit (miter_padding angle j.radius) j (miter_tip angle unit j) h (few_at_tip angle unit j)
 
-    k : Keeps (miter_padding angle j.radius) j (miter_points angle min_turn unit j)
+    k : KeepsWithin (miter_padding angle j.radius) j (miter_points angle min_turn unit j)
     k = by (is_slight min_turn j)
 
 -- what holds of miters

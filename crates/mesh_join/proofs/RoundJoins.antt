@@ -136,9 +136,9 @@ contact_length unit r Clockwise v n =
     let y : ((v.1 -ℤ neg_ℤ s.0) -ℤ v.1) ≡ s.0 = omega (arith, ints) in
     rw (x, y, size_neg s.1) (omega arith)
 
-pub points_apart : (unit : ℕ) (j : Joint) → 2 ^ 14 ≤ unit → IsTurn unit j → same_point j.first j.last ≡ false
+pub join_ends_apart : (unit : ℕ) (j : Joint) → 2 ^ 14 ≤ unit → IsTurn unit j → same_point j.first j.last ≡ false
     → (0 < length_sq (minus j.first j.center)) × (0 < length_sq (minus j.last j.center))
-points_apart unit j least h apart = (rw h.first (away j.incoming h.fresh_incoming), rw h.last (away j.outgoing h.fresh_outgoing))
+join_ends_apart unit j least h apart = (rw h.first (away j.incoming h.fresh_incoming), rw h.last (away j.outgoing h.fresh_outgoing))
   where
     away : (n : Point) → IsFresh unit n → 0 < length_sq (minus (contact unit j.radius j.sense j.center n) j.center)
     away n f =
@@ -165,7 +165,7 @@ unfolding round_points joint_arc
 points_near unit options j least h apart =
     let Near : Point → Type 0 = IsWithinPadding (round_padding j.radius) j.center in
     let from : Point = direction_of unit (minus j.first j.center) in
-    let short : IsShort unit from = direction_short (direction_of_is unit (minus j.first j.center) (points_apart unit j least h apart).0) in
+    let short : IsShort unit from = direction_short (direction_of_is unit (minus j.first j.center) (join_ends_apart unit j least h apart).0) in
     used_all Near j j.first (map (arc_point unit j) (joint_arc options unit j))
     (map_all (IsShort unit) Near (arc_point unit j) (λ d s. arc_point_within unit j d (omega arith) s) (joint_arc options unit j)
     (arc_short unit (clamped options) j.sense from (direction_of unit (minus j.last j.center)) short))
@@ -224,14 +224,14 @@ pub first_apart : (unit : ℕ) (j : Joint) → 2 ^ 14 ≤ unit → IsTurn unit j
     → same_point j.first j.last ≡ false → IsApart unit j.center j.first
 first_apart unit j least h short safe apart = record {
   safe = rw h.first (near_difference unit (round_padding j.radius) j.center _ safe (contact_within unit (round_padding j.radius) j.radius j.sense j.center j.incoming (omega arith) short (omega (arith, ints))));
-  differ = differ_by_length j.first j.center (points_apart unit j least h apart).0;
+  differ = differ_by_length j.first j.center (join_ends_apart unit j least h apart).0;
 }
 
 pub last_apart : (unit : ℕ) (j : Joint) → 2 ^ 14 ≤ unit → IsTurn unit j → IsShort unit j.outgoing → IsSafeWidened unit (round_padding j.radius) j.center
     → same_point j.first j.last ≡ false → IsApart unit j.center j.last
 last_apart unit j least h short safe apart = record {
   safe = rw h.last (near_difference unit (round_padding j.radius) j.center _ safe (contact_within unit (round_padding j.radius) j.radius j.sense j.center j.outgoing (omega arith) short (omega (arith, ints))));
-  differ = differ_by_length j.last j.center (points_apart unit j least h apart).1;
+  differ = differ_by_length j.last j.center (join_ends_apart unit j least h apart).1;
 }
 
 -- ---- what one direction more gives

@@ -153,18 +153,18 @@ module _ (unit : ℕ) (style : OffsetJoin) (vertices : List Point) (contour : Li
   abbrev IsJoinNear : SectionPair → Type 0
   IsJoinNear c = parts style.offset c ≡ true → All Near (between c.0.b_top (joined unit style c) c.1.a_top)
 
-  abbrev Keeps : SectionPair → Type 0
-  Keeps c = parts style.offset c ≡ true → KeepsJoint unit style.join (joint_at style.offset c)
+  abbrev CornerKeeps : SectionPair → Type 0
+  CornerKeeps c = parts style.offset c ≡ true → KeepsJoint unit style.join (joint_at style.offset c)
 
-  join_near : (c : SectionPair) → Keeps c → Contains vertices c.0.b → IsJoinNear c
+  join_near : (c : SectionPair) → CornerKeeps c → Contains vertices c.0.b → IsJoinNear c
   join_near c keeps here parted =
       All-weaker (IsWithinPadding (offset_padding style) c.0.b) Near (λ p w. record { vertex = c.0.b; listed = here; within = w }) (between c.0.b_top (joined unit style c) c.1.a_top)
       (rw ((join_keeps unit style.join least).sized style.offset) at (keeps parted).near)
 
   joins_near : All IsJoinNear (boundary sections)
   joins_near =
-      All-weaker (λ (c : SectionPair). Keeps c × Contains vertices c.0.b) IsJoinNear (λ c h. join_near c h.0 h.1) (boundary sections)
-      (all_both Keeps (λ (c : SectionPair). Contains vertices c.0.b) (boundary sections) (corners_keep unit style least contour ring) corners_listed)
+      All-weaker (λ (c : SectionPair). CornerKeeps c × Contains vertices c.0.b) IsJoinNear (λ c h. join_near c h.0 h.1) (boundary sections)
+      (all_both CornerKeeps (λ (c : SectionPair). Contains vertices c.0.b) (boundary sections) (corners_keep unit style least contour ring) corners_listed)
 
   -- ends of the edges of an outline are away from a vertex by at most the padding in each coordinate
   pub outline_near : All (λ (e : Edge). IsNear (offset_padding style) vertices e.0 × IsNear (offset_padding style) vertices e.1) (closed_outline unit style contour)

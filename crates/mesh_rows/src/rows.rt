@@ -10,7 +10,7 @@ ghost use Rattle.mesh_rows.specs.Rows.{first_row, last_row, AreRows};
 
 use mesh_cuts::fine::{FinePoint, doubled};
 use mesh_cuts::grid::{GridEdge, GridPoint};
-use mesh_cuts::places::{Mark, empty_lists, in_order, is_sampled, place, put_to, thinned};
+use mesh_cuts::places::{Mark, empty_lists, in_order, place, put_to, thinned};
 use std::alloc::{AllocError, Global};
 
 /// From how many edges on they are listed in more than one row.
@@ -22,7 +22,7 @@ const ENDS: usize = 16384;
 /// About how many edges are measured to choose the number of rows.
 const MEASURED: usize = 2048;
 
-/// About how many edges are in a sample, at most.
+/// About how many edges are in a small sample.
 const SAMPLED: usize = 512;
 
 /// Lists of edges, one for each row between marks at heights on the fine grid. An edge may stand in several of them.
@@ -43,37 +43,46 @@ fn height(p: GridPoint) -> Mark
     }
 }
 
-/// The heights at which some of the edges start. Where edges close up, they tell of ends too.
-fn heights<T: Copy>(alloc: Global, edges: &[(GridEdge, T)]) -> Result<Vec<Mark>, AllocError>
-    ensures { IfOk result (λ v. AreRising v.items) }
-{
-    let step = edges.len() / ENDS + 1;
-    let mut heights = Vec::new(alloc);
-    for (i, e) in edges.iter().enumerate() {
-        if is_sampled(i, step) {
-            heights.push(height(e.0.0).at)?;
-        }
-    }
-    in_order(alloc, heights)
-}
-
-/// The step in which to go through so many edges, to meet a sample of them. It has no divisor 2 or 3, since contours
-/// often go on in the same two, three, four or eight edges.
-pub fn sample_step(count: usize) -> usize
+/// The step in which to go through so many edges, to meet about so many of them, at least two. It has no divisor 2 or
+/// 3: contours often go on in the same two, three, four or eight edges, and a sample is to have each kind of them.
+/// Blocks of edges side by side would have them too, but marks must lie close everywhere.
+fn step_for(count: usize, wanted: usize) -> usize
     ensures { 0 < result }
 {
-    let step = count / SAMPLED;
+    let step = count / wanted.max(2);
     if step < 2 {
         return 1;
     }
     step / 6 * 6 + 5
 }
 
+/// The step in which to go through so many edges, to meet a small sample of them: each of up to some 1,000, and of more
+/// at least 200.
+pub fn sample_step(count: usize) -> usize
+    ensures { 0 < result }
+{
+    step_for(count, SAMPLED)
+}
+
+/// The heights at which some of the edges start. Where edges close up, they tell of ends too.
+fn heights<T: Copy>(alloc: Global, edges: &[(GridEdge, T)]) -> Result<Vec<Mark>, AllocError>
+    ensures { IfOk result (λ v. AreRising v.items) }
+{
+    let step = step_for(edges.len(), ENDS);
+    let mut heights = Vec::new(alloc);
+    for (i, e) in edges.iter().enumerate() {
+        if i % step == 0 {
+            heights.push(height(e.0.0).at)?;
+        }
+    }
+    in_order(alloc, heights)
+}
+
 /// About how many edges reach the height at which one of them starts, on average.
 #[derive(Copy, Clone)]
 pub struct Reached {
-    /// An edge that runs down is among those that reach its own start. So of many edges this is much, however few reach
-    /// a height.
+    /// An edge of the sample that runs down is among those that reach its own start, and stands for as many as the
+    /// sample passes over. So of more than some 10,000 edges this is more than a dozen, however few reach a height.
     pub all: usize,
     /// How many but the edge that starts there.
     pub others: usize,
@@ -115,11 +124,11 @@ pub fn mean_reached<T: Copy>(
 fn rows_wanted<T: Copy>(edges: &[(GridEdge, T)], heights: &[Mark]) -> usize
     requires { AreRising heights.now }
 {
-    let step = edges.len() / MEASURED + 1;
+    let step = step_for(edges.len(), MEASURED);
     let mut measured: usize = 0;
     let mut reached: usize = 1;
     for (i, e) in edges.iter().enumerate() {
-        if is_sampled(i, step) {
+        if i % step == 0 {
             let a = place(heights, height(e.0.0));
             let b = place(heights, height(e.0.1));
             measured = measured.saturating_add(3);

@@ -291,11 +291,11 @@ pub proper_rotated : (xs ys : List Point) → Each ProperEnds (boundary (xs ++ y
     Each ProperEnds (boundary (ys ++ xs))
 proper_rotated xs ys h = bits_proper (boundary (ys ++ xs)) (sym (boundary_rotated ends_bit xs ys) ∙ proper_bits (boundary (xs ++ ys)) h)
 
-pub proper_all : (es : List Edge) → All (λ (e : Edge). same_point e.0 e.1 ≡ false) es → Each ProperEnds es
-proper_all [] h = tt
-proper_all (e ∷ es) h = (
+pub ends_if_all : (es : List Edge) → All (λ (e : Edge). same_point e.0 e.1 ≡ false) es → Each ProperEnds es
+ends_if_all [] h = tt
+ends_if_all (e ∷ es) h = (
   (λ (x : e.0 ≡ e.1). both_ways (same_point e.0 e.1) (All-head (λ (e : Edge). same_point e.0 e.1 ≡ false) e es h) ((decides_point e.0 e.1).1 x)),
-  proper_all es (All-tail (λ (e : Edge). same_point e.0 e.1 ≡ false) e es h),
+  ends_if_all es (All-tail (λ (e : Edge). same_point e.0 e.1 ≡ false) e es h),
 )
 
 -- ---- a contour turned to its start
@@ -340,7 +340,7 @@ ring_made all given c₀ c₁ vs side j i proper least first best second v s = r
       subst (IsBegun all) (sym second)
       (begin_at c₀ (point_at given j) (take j given) (first ∙ λ k. at k ++ take j given) best
       (subst (λ (l : List Point). Each ProperEnds (boundary l)) (sym first)
-      (proper_rotated (take j given) (drop j given) (subst (λ (l : List Point). Each ProperEnds (boundary l)) (sym (take-append-drop j given)) (proper_all (boundary given) proper))))
+      (proper_rotated (take j given) (drop j given) (subst (λ (l : List Point). Each ProperEnds (boundary l)) (sym (take-append-drop j given)) (ends_if_all (boundary given) proper))))
       (each_append (λ (q : Point). point_lt q (point_at given j) ≡ false) (drop (suc j) given) (take j given)
       (each_drop (λ (q : Point). point_lt q (point_at given j) ≡ false) (suc j) given none_less) (each_take (λ (q : Point). point_lt q (point_at given j) ≡ false) j given none_less)));
   vertices_are = v;

@@ -14,10 +14,10 @@ use Rattle.mesh_split.specs.Midway.Steps.{exactly, AllClear}
 use Rattle.mesh_cuts.specs.Split.{AreClear}
 use Rattle.mesh_cuts.proofs.Ends.{decides_edge, decides_end, decides_ends}
 use Rattle.mesh_split.proofs.Entries.{exactly_least}
-use Rattle.mesh_split.proofs.Sharing.{IsApart, apart_swap, apart_back, inside_both}
+use Rattle.mesh_split.proofs.Sharing.{ShareNoInside, apart_swap, apart_back, inside_both}
 use Rattle.mesh_cuts.proofs.Counts.{bit_least}
 
-pub apart_of : (e f : Edge) → AreClear e f → IsApart e f
+pub apart_of : (e f : Edge) → AreClear e f → ShareNoInside e f
 apart_of e f h = record {
   first_start = λ i. h e.0 (at_start_of_first i);
   first_end = λ i. h e.1 (at_end_of_first i);
@@ -64,7 +64,7 @@ inside_coarse m e c some on inner = record {
 }
 
 -- an end of the second edge that lies on the first is an end of the first too
-end_of_both : (m : ℕ) (e f : Edge) (z : Point) → 0 < m → IsApart e f → IsOn (refined_edge m e) z → is_end z (refined_edge m f) ≡ true → is_end z (refined_edge m e) ≡ true
+end_of_both : (m : ℕ) (e f : Edge) (z : Point) → 0 < m → ShareNoInside e f → IsOn (refined_edge m e) z → is_end z (refined_edge m f) ≡ true → is_end z (refined_edge m e) ≡ true
 end_of_both m e f z some apart on end =
     ⊎_elim
     (λ (t : is_end z (refined_edge m e) ≡ true). t)
@@ -77,7 +77,7 @@ end_of_both m e f z some apart on end =
     ((decides_end z (refined_edge m f)).0 end))
     (cases_Bool (is_end z (refined_edge m e)))
 
-pub share_of_apart : (m : ℕ) (e f : Edge) → 0 < m → same_point e.0 e.1 ≡ false → same_point f.0 f.1 ≡ false → IsApart e f → same_ends e f ≡ false → ShareEnds m e f
+pub share_of_apart : (m : ℕ) (e f : Edge) → 0 < m → same_point e.0 e.1 ≡ false → same_point f.0 f.1 ≡ false → ShareNoInside e f → same_ends e f ≡ false → ShareEnds m e f
 share_of_apart m e f some proper also apart other = record {
   shared = λ z on_e on_f.
       ⊎_elim
@@ -117,7 +117,7 @@ one_way e (k ∷ ks) h =
 stands : (es : List Edge) (ks : List Counted) (e : Edge) → IsCountOf es ks → occurs e es ≡ true → pos 0 <ℤ times e ks
 stands es ks e h t = omega (arith, ints, h.once e, ap bit t)
 
-all_apart : (es : List Edge) (ks : List Counted) (e f : Edge) → IsCountOf es ks → AllClear ks → occurs e es ≡ true → occurs f es ≡ true → IsApart e f
+all_apart : (es : List Edge) (ks : List Counted) (e f : Edge) → IsCountOf es ks → AllClear ks → occurs e es ≡ true → occurs f es ≡ true → ShareNoInside e f
 all_apart es ks e f h clear s t =
     ⊎_elim
     (λ (p : pos 0 <ℤ exactly e ks).

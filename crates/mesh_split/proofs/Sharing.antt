@@ -19,7 +19,7 @@ use Rattle.mesh_plane.proofs.LineTurns.{along_x, along_y}
 use Rattle.mesh_cuts.proofs.Boxes.{between_back, on_back}
 
 -- two edges without a point inside one of them that is the other's end, and without a crossing
-pub record IsApart (e f : Edge) : Type 0 where
+pub record ShareNoInside (e f : Edge) : Type 0 where
   pub first_start : IsInside f e.0 → ⊥
   pub first_end : IsInside f e.1 → ⊥
   pub second_start : IsInside e f.0 → ⊥
@@ -116,7 +116,7 @@ crossing_flip e f h = record {
   first_parted = opposite_neg (turn f.0 f.1 e.0) (turn f.0 f.1 e.1) _ _ (turn_exchanged f.0 f.1 e.0) (turn_exchanged f.0 f.1 e.1) h.first_parted;
 }
 
-pub apart_swap : (e f : Edge) → IsApart e f → IsApart f e
+pub apart_swap : (e f : Edge) → ShareNoInside e f → ShareNoInside f e
 apart_swap e f h = record {
   first_start = h.second_start;
   first_end = h.second_end;
@@ -125,7 +125,7 @@ apart_swap e f h = record {
   crossing = λ c. h.crossing (record { second_parted = c.first_parted; first_parted = c.second_parted });
 }
 
-pub apart_back : (e f : Edge) → IsApart e f → IsApart (back e) f
+pub apart_back : (e f : Edge) → ShareNoInside e f → ShareNoInside (back e) f
 apart_back e f h = record {
   first_start = h.first_end;
   first_end = h.first_start;
@@ -134,7 +134,7 @@ apart_back e f h = record {
   crossing = λ c. h.crossing (is_crossing_back e f c);
 }
 
-apart_flip : (e f : Edge) → IsApart e f → IsApart (flip_edge e) (flip_edge f)
+apart_flip : (e f : Edge) → ShareNoInside e f → ShareNoInside (flip_edge e) (flip_edge f)
 apart_flip e f h = record {
   first_start = λ i. h.first_start (inside_flip f e.0 i);
   first_end = λ i. h.first_end (inside_flip f e.1 i);
@@ -353,7 +353,7 @@ line_flip e f h = record {
 }
 
 -- two edges to the east on one line, apart, with columns in common: the same edge
-overlap : (e f : Edge) → e.0.0 <ℤ e.1.0 → f.0.0 <ℤ f.1.0 → OnOneLine e f → IsApart e f → e.0.0 <ℤ f.1.0 → f.0.0 <ℤ e.1.0 → e ≡ f
+overlap : (e f : Edge) → e.0.0 <ℤ e.1.0 → f.0.0 <ℤ f.1.0 → OnOneLine e f → ShareNoInside e f → e.0.0 <ℤ f.1.0 → f.0.0 <ℤ e.1.0 → e ≡ f
 overlap e f east also line apart l r =
     let a : f.0.0 ≤ℤ e.0.0 =
     by_lt_z e.0.0 f.0.0
@@ -402,9 +402,9 @@ below_of_scaled m a b z some l r =
 -- what two edges on one line have in common, with a point inside both: the ends
 abbrev HasSameEnds : ℕ → Edge → Point → Edge → Type 0
 HasSameEnds m f z e =
-    OnOneLine e f → IsApart e f → IsOn (refined_edge m e) z → is_end z (refined_edge m e) ≡ false → IsOn (refined_edge m f) z → is_end z (refined_edge m f) ≡ false → same_ends e f ≡ true
+    OnOneLine e f → ShareNoInside e f → IsOn (refined_edge m e) z → is_end z (refined_edge m e) ≡ false → IsOn (refined_edge m f) z → is_end z (refined_edge m f) ≡ false → same_ends e f ≡ true
 
-both_east : (m : ℕ) (f : Edge) (z : Point) → 0 < m → (e : Edge) → e.0.0 <ℤ e.1.0 → f.0.0 <ℤ f.1.0 → OnOneLine e f → IsApart e f
+both_east : (m : ℕ) (f : Edge) (z : Point) → 0 < m → (e : Edge) → e.0.0 <ℤ e.1.0 → f.0.0 <ℤ f.1.0 → OnOneLine e f → ShareNoInside e f
     → IsOn (refined_edge m e) z → is_end z (refined_edge m e) ≡ false → IsOn (refined_edge m f) z → is_end z (refined_edge m f) ≡ false → e ≡ f
 both_east m f z some e east also line apart on_e inner_e on_f inner_f =
     let k : pos 0 <ℤ pos m = omega (arith, ints) in
@@ -446,7 +446,7 @@ on_one_line m f z some proper e also =
         (cases_Bool (same_point (flip f.0) (flip f.1)))
 
 -- a point inside both of two edges that are apart: they have the same ends
-pub inside_both : (m : ℕ) (e f : Edge) (z : Point) → 0 < m → same_point e.0 e.1 ≡ false → same_point f.0 f.1 ≡ false → IsApart e f
+pub inside_both : (m : ℕ) (e f : Edge) (z : Point) → 0 < m → same_point e.0 e.1 ≡ false → same_point f.0 f.1 ≡ false → ShareNoInside e f
     → IsOn (refined_edge m e) z → is_end z (refined_edge m e) ≡ false → IsOn (refined_edge m f) z → is_end z (refined_edge m f) ≡ false → same_ends e f ≡ true
 inside_both m e f z some proper also apart on_e inner_e on_f inner_f =
     ⊎_elim

@@ -23,8 +23,9 @@ use std::alloc::{AllocError, Global};
 const FEW: usize = 48;
 
 /// No part of the plane lies under more cuts. Where a full one would, as where a run of splits goes on along a line,
-/// and lists as many as a power of two, all cuts are chosen anew.
-pub const DEPTH: usize = 1024;
+/// and lists as many as a power of two, all cuts are chosen anew. Cuts that halve what is listed need some twenty for a
+/// million segments, so this many are of a run.
+pub const DEPTH: usize = 128;
 
 /// About how many segments a cut is chosen from.
 const SAMPLED: usize = 16;

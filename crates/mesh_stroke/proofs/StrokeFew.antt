@@ -115,12 +115,12 @@ module _ (unit : ℕ) (least : 2 ^ 14 ≤ unit) (style : StrokeStyle) (few : Has
             (All-weaker IsMet (λ (c : EdgePair). length (corner_edges unit style.radius style.join c) ≤ 5)
             (corner_length sign) (neighbours closed (e ∷ es)) (corners_met closed (e ∷ es) chain)),
         neighbours_length closed e es,
-        caps_length sign closed short e (last_of e es) (All-head IsApart e es chain.proper)
-            (last_all IsApart e es chain.proper),
+        caps_length sign closed short e (last_of e es) (All-head HasTwoEnds e es chain.proper)
+            (last_all HasTwoEnds e es chain.proper),
       )
     where
-      IsApart : Edge → Type 0
-      IsApart g = g.0 ≢ g.1
+      HasTwoEnds : Edge → Type 0
+      HasTwoEnds g = g.0 ≢ g.1
 
       sides : List Edge
       sides = flat_map (side_edges unit style.radius) (e ∷ es)

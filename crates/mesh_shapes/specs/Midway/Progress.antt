@@ -1,12 +1,12 @@
 -- What holds midway through a search for a contour's start or a ring's holder.
 use Rattle.std.specs.Prelude.{ℕ, ◌≡◌, ◌+◌, ◌<◌, Bool, true, false, List, length, drop, slice_index_or, pos}
+use Rattle.std.specs.Prelude.{Option, MatchOption}
 use Rattle.mesh_plane.specs.Plane.{Point}
 use Rattle.mesh_plane.specs.Order.{point_lt}
-use Rattle.mesh_shapes.specs.Midway.Grouping.{ring_at, is_round_at}
-use Rattle.mesh_shapes.specs.Resolution.{Ring, is_before}
-use Rattle.std.specs.Prelude.{Option, MatchOption}
 use Rattle.mesh_plane.specs.Ways.{first_or}
 use Rattle.mesh_shapes.specs.Contours.{kept, omitted}
+use Rattle.mesh_shapes.specs.Midway.Grouping.{ring_at, is_round_at}
+use Rattle.mesh_shapes.specs.Resolution.{Ring, is_before}
 
 -- the point at a place of a list
 abbrev pub point_at : List Point → ℕ → Point

@@ -1,7 +1,7 @@
 use Rattle.std.proofs.Common.{sym, ◌∙◌, true}
 use Rattle.std.proofs.lemmas.Bool.{both_ways, false≢true}
 use Rattle.mesh_cuts.proofs.Each.{proper_at}
-use Rattle.mesh_below.proofs.Subjects.{proper_none, proper_more, proper_all}
+use Rattle.mesh_below.proofs.Subjects.{proper_none, proper_more, proper_whole}
 use Rattle.mesh_below.proofs.given.are_proper.Goals as goal
 
 pub returns-then-same_point : goal.returns-then-same_point
@@ -17,4 +17,4 @@ pub loop-e-preserved : goal.loop-e-preserved
 loop-e-preserved c = proper_more c.args.edges.now c.loop-e.e-index _ c.loop-e-test.true (sym c.same_point.ensures ∙ c.if-same_point.false) c.loop-e.invariant
 
 pub returns : goal.returns
-returns c = ((λ _. proper_all c.args.edges.now c.loop-e.e-index c.loop-e-test.false c.loop-e.invariant), (λ _. λ i. true))
+returns c = ((λ _. proper_whole c.args.edges.now c.loop-e.e-index c.loop-e-test.false c.loop-e.invariant), (λ _. λ i. true))
