@@ -128,7 +128,8 @@ impl<I: IntNumber> IntegerArc<I> {
         &self.directions
     }
 
-    /// Builds the arc as `build` does, and keeps its directions.
+    /// Builds the arc as `build` does, and keeps its directions. It fails only where memory is refused: then none is
+    /// kept, and the builder has its options and its room still.
     pub fn rebuild(
         &mut self,
         from: UnitIntVector<I>,

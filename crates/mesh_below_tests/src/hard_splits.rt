@@ -50,8 +50,8 @@ const UNLUCKY: &[Corners] = &[
     ],
 ];
 
-/// Contours that took thousands of splits in every order that was tried: some 7,100, 100,000 and 611,000. Those of the
-/// last two go on along one line.
+/// Contours that took thousands of splits in every order that was tried. With dropped attempts some 7,100, 100,000 and
+/// 611,000 are made here; those of the last two go on along one line.
 const LONG: &[Corners] = &[
     &[
         (42, -2554),

@@ -71,7 +71,8 @@ fn boundary_by(
     Ok(edges)
 }
 
-/// The segments whose two sides differ in fill, each once, with the filled side on its left.
+/// The segments whose two sides differ in fill, each once, with the filled side on its left. The segments have their
+/// net counts, and share only ends with each other. It fails only where memory is refused.
 pub fn find_boundary(
     alloc: Global,
     segments: &[CountedSegment],

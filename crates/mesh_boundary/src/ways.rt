@@ -24,8 +24,8 @@ use std::alloc::{AllocError, Global};
 const FEW: usize = 64;
 
 /// The greatest number of segments that reach a height, on average, for which rows serve. Rows to the east are held to
-/// it with what a sample counts twice: so of more than some 10,000 segments they are never taken for being short, and
-/// the flood, which is mostly quicker there, is.
+/// it with what `Reached` says of all: so of more than some 10,000 segments, many of which run down, they are not taken
+/// for being short, and the flood, which mostly is quicker there, is.
 const SHORT: usize = 12;
 
 /// A way to find the sides of segments.

@@ -31,7 +31,7 @@ pub fn minus(p: GridPoint, q: GridPoint) -> Vector
     (difference(p.0, q.0), difference(p.1, q.1))
 }
 
-/// The product of two coordinates of ways, without a wrap.
+/// The product of two coordinates of ways, each of at most 2^32 grid units, without a wrap.
 pub fn product(a: i128, b: i128) -> i128
     requires a_small { IsSmall (2 ^ 32) a }
     requires b_small { IsSmall (2 ^ 32) b }
@@ -41,7 +41,7 @@ pub fn product(a: i128, b: i128) -> i128
     a * b
 }
 
-/// Above 0 where `w` points to the left of `v`, 0 where they are parallel.
+/// Above 0 where `w` points to the left of `v`, 0 where they are parallel. No component is above 2^32 grid units.
 pub fn cross(v: Vector, w: Vector) -> i128
     requires v_small { IsSafe (2 ^ 32) v }
     requires w_small { IsSafe (2 ^ 32) w }

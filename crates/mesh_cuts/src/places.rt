@@ -59,7 +59,7 @@ fn push_rising(marks: &mut Vec<Mark>, m: Mark) -> Result<(), AllocError>
     Ok(())
 }
 
-/// Marks at coordinates, in order.
+/// Marks at coordinates, in order. It fails only where memory is refused.
 pub fn in_order(alloc: Global, mut coordinates: Vec<i64>) -> Result<Vec<Mark>, AllocError>
     ensures { IfOk result (λ v. AreRising v.items) }
 {
@@ -71,7 +71,7 @@ pub fn in_order(alloc: Global, mut coordinates: Vec<i64>) -> Result<Vec<Mark>, A
     Ok(marks)
 }
 
-/// At most so many of the marks, evenly taken.
+/// At most so many of the marks, evenly taken. It fails only where memory is refused.
 pub fn thinned(alloc: Global, marks: &[Mark], most: usize) -> Result<Vec<Mark>, AllocError>
     ensures rising { IfOk result (λ v. AreRising v.items) }
     ensures most { IfOk result (λ v. length v.items ≤ most) }
@@ -86,7 +86,7 @@ pub fn thinned(alloc: Global, marks: &[Mark], most: usize) -> Result<Vec<Mark>, 
     Ok(left)
 }
 
-/// So many lists without an element.
+/// So many lists without an element. It fails only where memory is refused.
 pub fn empty_lists<T: Drop>(alloc: Global, count: usize) -> Result<Vec<Vec<T>>, AllocError>
     ensures len { IfOk result (λ v. length v.items ≡ count) }
     ensures empty { IfOk result (λ v. (i : ℕ) (d : Vec T Global) → i < count → list_at v.items i d ≡ []) }

@@ -1,4 +1,4 @@
-//! Edges through points. What a vector held stays, also after a refusal.
+//! Edges through points. What a vector held stays, also after a refusal. Where it has room no call fails.
 
 ghost use Rattle.std.specs.Prelude.{◌≡◌, [], ◌∷◌, ◌≤◌, length, take, vec_capacity, IsOk, OnOk};
 ghost use Rattle.mesh_plane.specs.Winding.{route};
@@ -8,7 +8,8 @@ use mesh_num::num::{IntNumber, IntPoint};
 use mesh_num::shape::segment::{Segment, SubjectSegments};
 use std::alloc::AllocError;
 
-/// Adds the edge from `a` to `b`.
+/// Adds the edge from `a` to `b`, nothing where both are one point. It fails only where memory is refused: then the
+/// vector still begins with what it held.
 pub fn push_straight<I: IntNumber>(
     a: IntPoint<I>,
     b: IntPoint<I>,
@@ -22,7 +23,8 @@ pub fn push_straight<I: IntNumber>(
     segments.push_non_degenerate(a, b)
 }
 
-/// Adds the edges from `a` through `p` to `b`.
+/// Adds the edges from `a` through `p` to `b`. It fails only where memory is refused: then the vector still begins with
+/// what it held, and may have the first edge.
 pub fn push_through<I: IntNumber>(
     a: IntPoint<I>,
     p: IntPoint<I>,
@@ -38,7 +40,8 @@ pub fn push_through<I: IntNumber>(
     push_straight(p, b, segments)
 }
 
-/// Adds the edges from `a` through `p` and `q` to `b`.
+/// Adds the edges from `a` through `p` and `q` to `b`. It fails only where memory is refused: then the vector still
+/// begins with what it held, and may have the first edges.
 pub fn push_through_both<I: IntNumber>(
     a: IntPoint<I>,
     p: IntPoint<I>,

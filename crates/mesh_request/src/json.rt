@@ -13,7 +13,8 @@ use mesh_num::num::IntNumber;
 use serde_json::{Map, Value};
 use std::alloc::Global;
 
-/// The value that the bytes are. A number that is no whole number of 64 bits, wherever it stands, makes it unreadable.
+/// The value that the bytes are. `Unreadable`: they are no JSON in UTF-8, or have a number that is no whole number of
+/// 64 bits, wherever it stands. `Refused` with `OutOfMemory`: memory was refused. There is no other failure.
 pub fn parse(alloc: Global, bytes: &[u8]) -> Result<Value, Failure>
     ensures ok { IfOk result (λ v. IsUtf8 bytes.now
         × (read bytes.now ≡ Some (view v))

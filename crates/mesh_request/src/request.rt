@@ -56,7 +56,8 @@ impl<I: OverlayInt> Model for Request<I> {
     } };
 }
 
-/// The request that a value is, where it is one that is served.
+/// The request that a value is. `Unreadable`: it is none that is served. `Refused` with `OutOfMemory`: memory was
+/// refused. There is no other failure.
 pub fn read_request<I: OverlayInt>(alloc: Global, value: &Value) -> Result<Request<I>, Failure>
     ensures { MatchResult result (λ r. request_as I.unit (view value.now) ≡ Some r)
         (λ e. IsOfReading e × (e ≡ Failure.Unreadable → request_as I.unit (view value.now) ≡ None)) }

@@ -25,6 +25,9 @@ const MEASURED: usize = 2048;
 /// About how many edges are in a small sample.
 const SAMPLED: usize = 512;
 
+/// 2^64 over the golden ratio, whose multiples are spread evenly, and far from each other where they follow each other.
+const SCATTERING: usize = 0x9E37_79B9_7F4A_7C15;
+
 /// Lists of edges, one for each row between marks at heights on the fine grid. An edge may stand in several of them.
 #[derive(Drop)]
 pub struct Rows<T> {
@@ -43,37 +46,50 @@ fn height(p: GridPoint) -> Mark
     }
 }
 
-/// The step in which to go through so many edges, to meet about so many of them, at least two. It has no divisor 2 or
-/// 3: contours often go on in the same two, three, four or eight edges, and a sample is to have each kind of them.
-/// Blocks of edges side by side would have them too, but marks must lie close everywhere.
-fn step_for(count: usize, wanted: usize) -> usize
+/// The step in which to go through so many edges, to meet some hundred of them, or all where they are few. It has no
+/// divisor 2 or 3, since contours often go on in the same two, three, four or eight edges.
+pub fn sample_step(count: usize) -> usize
     ensures { 0 < result }
 {
-    let step = count / wanted.max(2);
+    let step = count / SAMPLED;
     if step < 2 {
         return 1;
     }
     step / 6 * 6 + 5
 }
 
-/// The step in which to go through so many edges, to meet a small sample of them: each of up to some 1,000, and of more
-/// at least 200.
-pub fn sample_step(count: usize) -> usize
-    ensures { 0 < result }
+/// A number below the bound that looks random, and is the same for the same turn.
+fn scattered(turn: usize, bound: usize) -> usize
+    requires { 0 < bound }
 {
-    step_for(count, SAMPLED)
+    (turn.wrapping_mul(SCATTERING) >> 32) % bound
 }
 
-/// The heights at which some of the edges start. Where edges close up, they tell of ends too.
+/// About so many of the elements: of the first few any one, of the next few another one, and so on. Contours often go on
+/// in the same few edges, and a sample is to have each kind of them, in whatever number they go on. Blocks of edges side
+/// by side would have them too, but marks must lie close everywhere.
+fn sample<T: Copy>(alloc: Global, elements: &[T], wanted: usize) -> Result<Vec<T>, AllocError> {
+    let step = (elements.len() / wanted.max(1)).max(1);
+    let turns = (elements.len() / step).saturating_add(1);
+    let mut found = Vec::with_capacity(alloc, turns)?;
+    for turn in 0..turns {
+        let place = turn
+            .saturating_mul(step)
+            .saturating_add(scattered(turn, step));
+        if let Some(e) = elements.get(place) {
+            found.push(*e)?;
+        }
+    }
+    Ok(found)
+}
+
+/// The heights at which edges start, in order. Where edges close up, they tell of ends too.
 fn heights<T: Copy>(alloc: Global, edges: &[(GridEdge, T)]) -> Result<Vec<Mark>, AllocError>
     ensures { IfOk result (λ v. AreRising v.items) }
 {
-    let step = step_for(edges.len(), ENDS);
-    let mut heights = Vec::new(alloc);
-    for (i, e) in edges.iter().enumerate() {
-        if i % step == 0 {
-            heights.push(height(e.0.0).at)?;
-        }
+    let mut heights = Vec::with_capacity(alloc, edges.len())?;
+    for e in edges {
+        heights.push(height(e.0.0).at)?;
     }
     in_order(alloc, heights)
 }
@@ -82,7 +98,8 @@ fn heights<T: Copy>(alloc: Global, edges: &[(GridEdge, T)]) -> Result<Vec<Mark>,
 #[derive(Copy, Clone)]
 pub struct Reached {
     /// An edge of the sample that runs down is among those that reach its own start, and stands for as many as the
-    /// sample passes over. So of more than some 10,000 edges this is more than a dozen, however few reach a height.
+    /// sample passes over. So where many run down, of more than some 10,000 edges this is more than a dozen, however
+    /// few reach a height.
     pub all: usize,
     /// How many but the edge that starts there.
     pub others: usize,
@@ -93,50 +110,42 @@ pub fn mean_reached<T: Copy>(
     alloc: Global,
     edges: &[(GridEdge, T)],
 ) -> Result<Reached, AllocError> {
-    let step = sample_step(edges.len());
-    let mut heights = Vec::with_capacity(alloc, edges.len() / step + 1)?;
-    for (i, e) in edges.iter().enumerate() {
-        if i % step == 0 {
-            heights.push(height(e.0.0).at)?;
-        }
-    }
-    let marks = in_order(alloc, heights)?;
+    let some = sample(alloc, edges, SAMPLED)?;
+    let marks = heights(alloc, &some)?;
     let mut all: usize = 0;
     let mut others: usize = 0;
-    for (i, e) in edges.iter().enumerate() {
-        if i % step == 0 {
-            let a = place(&marks, height(e.0.0));
-            let b = place(&marks, height(e.0.1));
-            let up = b.saturating_sub(a);
-            let down = a.saturating_sub(b);
-            all = all.saturating_add(up.max(down));
-            others = others.saturating_add(up.max(down.saturating_sub(1)));
-        }
+    for e in &some {
+        let a = place(&marks, height(e.0.0));
+        let b = place(&marks, height(e.0.1));
+        let up = b.saturating_sub(a);
+        let down = a.saturating_sub(b);
+        all = all.saturating_add(up.max(down));
+        others = others.saturating_add(up.max(down.saturating_sub(1)));
     }
-    let count = marks.len().max(1);
+    let count = some.len().max(1);
     Ok(Reached {
-        all: all.saturating_mul(step) / count,
-        others: others.saturating_mul(step) / count,
+        all: all.saturating_mul(edges.len()) / count / count,
+        others: others.saturating_mul(edges.len()) / count / count,
     })
 }
 
 /// How many rows serve best: an edge shall reach about four on average.
-fn rows_wanted<T: Copy>(edges: &[(GridEdge, T)], heights: &[Mark]) -> usize
+fn rows_wanted<T: Copy>(
+    alloc: Global,
+    edges: &[(GridEdge, T)],
+    heights: &[Mark],
+) -> Result<usize, AllocError>
     requires { AreRising heights.now }
 {
-    let step = step_for(edges.len(), MEASURED);
-    let mut measured: usize = 0;
+    let some = sample(alloc, edges, MEASURED)?;
     let mut reached: usize = 1;
-    for (i, e) in edges.iter().enumerate() {
-        if i % step == 0 {
-            let a = place(heights, height(e.0.0));
-            let b = place(heights, height(e.0.1));
-            measured = measured.saturating_add(3);
-            reached = reached.saturating_add(a.abs_diff(b));
-        }
+    for e in &some {
+        let a = place(heights, height(e.0.0));
+        let b = place(heights, height(e.0.1));
+        reached = reached.saturating_add(a.abs_diff(b));
     }
-    let wanted = measured.saturating_mul(heights.len()) / reached.max(1);
-    wanted.min(edges.len() / 2)
+    let wanted = some.len().saturating_mul(3).saturating_mul(heights.len()) / reached.max(1);
+    Ok(wanted.min(edges.len() / 2))
 }
 
 /// Marks by which to list edges.
@@ -146,8 +155,8 @@ fn marks<T: Copy>(alloc: Global, edges: &[(GridEdge, T)]) -> Result<Vec<Mark>, A
     if edges.len() < FEWEST {
         return in_order(alloc, Vec::new(alloc));
     }
-    let heights = heights(alloc, edges)?;
-    let wanted = rows_wanted(edges, &heights);
+    let heights = heights(alloc, &sample(alloc, edges, ENDS)?)?;
+    let wanted = rows_wanted(alloc, edges, &heights)?;
     thinned(alloc, &heights, wanted)
 }
 
@@ -168,7 +177,7 @@ fn file<T: Copy>(
 }
 
 impl<T: Copy> Rows<T> {
-    /// The rows of edges.
+    /// The rows of edges, each edge in all that it reaches. It fails only where memory is refused.
     pub fn new(alloc: Global, edges: &[(GridEdge, T)]) -> Result<Rows<T>, AllocError>
         ensures { IfOk result (λ r. AreRows r.marks.items r.lists.items edges.now) }
     {
@@ -180,7 +189,8 @@ impl<T: Copy> Rows<T> {
         Ok(Rows { marks, lists })
     }
 
-    /// The edges of the row of a point, among them all that cross the ray from it to the east.
+    /// The edges of the row of a point, among them all that cross the ray from it to the east, where these are rows of
+    /// edges as `new` lists them.
     pub fn row(&self, q: FinePoint) -> &[(GridEdge, T)]
         requires rising { AreRising self.now.marks.items }
         requires len { length self.now.lists.items ≡ length self.now.marks.items + 1 }

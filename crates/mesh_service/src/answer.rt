@@ -16,7 +16,7 @@ use mesh_num::shape::buffer::IntShapes;
 use serde_json::{Value, json};
 use std::alloc::{AllocError, Global};
 
-/// The line that lists the edges of each path.
+/// The line that lists the edges of each path. It fails only where memory is refused.
 pub fn edges_line<I: OverlayInt>(
     alloc: Global,
     paths: &[Vec<DirectedEdge<I>>],
@@ -34,7 +34,7 @@ fn edges_answer(alloc: Global, list: Value) -> Result<Value, AllocError>
     json!(in alloc; { "edges": list })
 }
 
-/// The line that lists shapes.
+/// The line that lists shapes. It fails only where memory is refused.
 pub fn shapes_line<I: OverlayInt>(
     alloc: Global,
     shapes: &IntShapes<I>,

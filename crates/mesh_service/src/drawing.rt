@@ -16,7 +16,9 @@ use mesh_num::shape::buffer::IntShapes;
 use mesh_request::drawing::Drawing;
 use std::alloc::Global;
 
-/// The edges of what is drawn of each path, in their order. Nothing is built unless all paths may be drawn.
+/// The edges of what is drawn of each path, sorted by their starts and then by their ends. `CoordinateOutOfRange`: some
+/// path may not be drawn, since what is drawn would pass the safe range; then nothing is built. `OutOfMemory`: memory
+/// was refused.
 pub fn edges<I: OverlayInt>(
     alloc: Global,
     drawing: &Drawing<I>,
@@ -34,7 +36,8 @@ pub fn edges<I: OverlayInt>(
     }
 }
 
-/// The shapes of what is drawn of all paths together.
+/// The shapes of what is drawn of all paths together. `CoordinateOutOfRange`: some path may not be drawn, since what is
+/// drawn would pass the safe range; then nothing is built. `OutOfMemory`: memory was refused.
 pub fn shapes<I: OverlayInt>(
     alloc: Global,
     drawing: &Drawing<I>,

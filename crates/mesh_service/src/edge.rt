@@ -57,7 +57,8 @@ impl<I: OverlayInt> From<Segment<I>> for DirectedEdge<I> {
     }
 }
 
-/// The edges that segments stand for, in their order.
+/// The edges that segments stand for, sorted by their starts and then by their ends. It fails only where memory is
+/// refused.
 pub fn sorted_edges<I: OverlayInt>(
     alloc: Global,
     segments: &[Segment<I>],

@@ -121,6 +121,8 @@ fn read_and_answer<R: Read>(alloc: Global, reader: &mut R) -> (Result<String, Fa
 }
 
 /// The line that answers a request. It is made as a whole, so that nothing is printed before memory is refused.
+/// `Unreadable`: the bytes are no request that is served. `Refused` with `CoordinateOutOfRange`: what is to be drawn
+/// does not stay in the safe range; with `OutOfMemory`: memory was refused.
 pub fn respond(alloc: Global, request: &[u8]) -> Result<String, Failure>
     ensures answered { IfOk result (λ line. IsAnswer request.now (string_bytes line)) }
     ensures refused { result ≡ Err (Failure.Refused IntOutlineError.CoordinateOutOfRange) → IsRefused request.now }

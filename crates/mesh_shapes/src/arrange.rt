@@ -256,7 +256,8 @@ fn in_order(mut rings: Vec<Ring>) -> Vec<Ring>
     rings
 }
 
-/// The rings as shapes, in order.
+/// The rings as shapes, each an outer boundary with its holes, in order. Outer boundaries run counterclockwise and
+/// holes clockwise; with `clockwise` it is the other way round. It fails only where memory is refused.
 pub fn shapes(
     alloc: Global,
     rings: Vec<Ring>,

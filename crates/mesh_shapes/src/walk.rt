@@ -224,8 +224,8 @@ fn contours_of(
     Ok(contours)
 }
 
-/// Closed contours that together have the edges, which stand in the order of their starts, each once. None is without a
-/// point.
+/// Closed contours that together have the edges, each once. These stand in the order of their starts, and at each point
+/// as many start as end. No contour is without a point. It fails only where memory is refused.
 pub fn contours(alloc: Global, ordered: &[GridEdge]) -> Result<Vec<Vec<GridPoint>>, AllocError>
     requires ordered { StartsInOrder ordered.now }
     requires balanced { IsBalanced ordered.now }

@@ -5,7 +5,7 @@ ghost use Rattle.mesh_sine.specs.Sine.{one, sum_pair, low_pair, in_quarter, sin_
 
 use crate::table::pair_of_bit;
 
-/// The sine and the cosine, times 2^30, of an angle of so many bits.
+/// The sine and the cosine, times 2^30, of an angle of so many bits, of which a full turn has 2^32.
 pub fn sin_cos(bits: u32) -> (i32, i32)
     ensures value { result ≡ sin_cos bits }
     ensures bounded { IsWithinOne result }

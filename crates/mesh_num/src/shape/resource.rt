@@ -15,7 +15,7 @@ pub trait IntShapeResource<I: IntNumber> {
     fn path_count(&self) -> usize
         ensures { result ≡ length (paths self.now) };
 
-    /// The points of one path.
+    /// The points of one path, in their order. The index counts from 0 and is below `path_count`.
     fn path_at(&self, index: usize) -> &[IntPoint<I>]
         requires { index < length (paths self.now) }
         ensures { result.now ≡ get_or (paths self.now) index [] };
