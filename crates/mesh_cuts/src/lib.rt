@@ -10,3 +10,4 @@ pub mod fill;
 pub mod fine;
 pub mod grid;
 pub mod places;
+pub mod samples;

@@ -11,6 +11,7 @@ ghost use Rattle.mesh_rows.specs.Rows.{first_row, last_row, AreRows};
 use mesh_cuts::fine::{FinePoint, doubled};
 use mesh_cuts::grid::{GridEdge, GridPoint};
 use mesh_cuts::places::{Mark, empty_lists, in_order, place, put_to, thinned};
+use mesh_cuts::samples::sample;
 use std::alloc::{AllocError, Global};
 
 /// From how many edges on they are listed in more than one row.
@@ -24,9 +25,6 @@ const MEASURED: usize = 2048;
 
 /// About how many edges are in a small sample.
 const SAMPLED: usize = 512;
-
-/// 2^64 over the golden ratio, whose multiples are spread evenly, and far from each other where they follow each other.
-const SCATTERING: usize = 0x9E37_79B9_7F4A_7C15;
 
 /// Lists of edges, one for each row between marks at heights on the fine grid. An edge may stand in several of them.
 #[derive(Drop)]
@@ -56,31 +54,6 @@ pub fn sample_step(count: usize) -> usize
         return 1;
     }
     step / 6 * 6 + 5
-}
-
-/// A number below the bound that looks random, and is the same for the same turn.
-fn scattered(turn: usize, bound: usize) -> usize
-    requires { 0 < bound }
-{
-    (turn.wrapping_mul(SCATTERING) >> 32) % bound
-}
-
-/// About so many of the elements: of the first few any one, of the next few another one, and so on. Contours often go on
-/// in the same few edges, and a sample is to have each kind of them, in whatever number they go on. Blocks of edges side
-/// by side would have them too, but marks must lie close everywhere.
-fn sample<T: Copy>(alloc: Global, elements: &[T], wanted: usize) -> Result<Vec<T>, AllocError> {
-    let step = (elements.len() / wanted.max(1)).max(1);
-    let turns = (elements.len() / step).saturating_add(1);
-    let mut found = Vec::with_capacity(alloc, turns)?;
-    for turn in 0..turns {
-        let place = turn
-            .saturating_mul(step)
-            .saturating_add(scattered(turn, step));
-        if let Some(e) = elements.get(place) {
-            found.push(*e)?;
-        }
-    }
-    Ok(found)
 }
 
 /// The heights at which edges start, in order. Where edges close up, they tell of ends too.

@@ -17,6 +17,7 @@ use crate::hints::{Hints, Meeting};
 use crate::tally::Tally;
 use mesh_cuts::exact::{meeting, same_edge};
 use mesh_cuts::grid::{GridEdge, GridPoint};
+use mesh_cuts::samples::sample;
 use std::alloc::{AllocError, Global};
 
 /// Up to so many segments a part lists before it is parted.
@@ -144,19 +145,6 @@ fn on_side(
     Ok(left)
 }
 
-/// Some of the edges, from which a cut is chosen.
-fn sample(alloc: Global, edges: &[GridEdge]) -> Result<Vec<GridEdge>, AllocError> {
-    // (an odd step, since contours often go on in the same two, four or eight steps)
-    let step = edges.len() / SAMPLED / 2 * 2 + 1;
-    let mut found = Vec::with_capacity(alloc, edges.len() / step + 1)?;
-    for (i, e) in edges.iter().enumerate() {
-        if i % step == 0 {
-            found.push(*e)?;
-        }
-    }
-    Ok(found)
-}
-
 /// The cut across this vector in the middle of the ends of these edges.
 fn middle(alloc: Global, edges: &[GridEdge], across: Across) -> Result<Option<Cut>, AllocError> {
     let mut ends = Vec::with_capacity(alloc, edges.len().saturating_mul(2))?;
@@ -221,19 +209,10 @@ fn left_of(e: GridEdge) -> (i64, i64) {
     (e.0.1 as i64 - e.1.1 as i64, e.1.0 as i64 - e.0.0 as i64)
 }
 
-/// The vector across the longest of these edges, by the sum of both components, halved until it fits.
-fn across_longest(edges: &[GridEdge]) -> Across {
-    let mut longest = (0, 0);
-    let mut most: u64 = 0;
-    for e in edges {
-        let (x, y) = left_of(*e);
-        let size = x.unsigned_abs().saturating_add(y.unsigned_abs());
-        if size > most {
-            most = size;
-            longest = (x, y);
-        }
-    }
-    halved(longest)
+/// How long an edge is: the sum of both components.
+fn length_of(e: GridEdge) -> u64 {
+    let (x, y) = left_of(e);
+    x.unsigned_abs().saturating_add(y.unsigned_abs())
 }
 
 /// A vector, halved until it fits.
@@ -249,26 +228,36 @@ fn halved(v: (i64, i64)) -> Across {
     (0, 0)
 }
 
-/// The vector across the edge at a place of a list.
-fn across_at(edges: &[GridEdge], place: usize) -> Across {
-    match edges.get(place) {
-        Some(e) => halved(left_of(*e)),
-        None => (0, 0),
+/// The vector across the edge at a place among those that are at least so long, halved until it fits.
+fn across_at(edges: &[GridEdge], least: u64, place: usize) -> Across {
+    let mut before: usize = 0;
+    for e in edges {
+        if length_of(*e) >= least {
+            if before == place {
+                return halved(left_of(*e));
+            }
+            before = before.saturating_add(1);
+        }
     }
+    (0, 0)
 }
 
-/// Vectors across which a cut is tried: along the axes, across the longest edge, and across three others, since of
-/// edges that spread like a fan one in the middle serves, and a list often has them in their order round.
+/// Vectors across which a cut is tried: along the axes, across the longest edge, and across three others that are half
+/// as long at least, since of edges that spread like a fan one in the middle serves, and a list often has them in their
+/// order round.
 fn candidates(edges: &[GridEdge]) -> [Across; 6] {
     let [first, second] = axes(edges);
-    let half = edges.len() / 2;
+    let longest = edges.iter().fold(0, |most: u64, e| most.max(length_of(*e)));
+    let least = longest / 2;
+    let long = edges.iter().filter(|e| length_of(**e) >= least).count();
+    let half = long / 2;
     [
         first,
         second,
-        across_longest(edges),
-        across_at(edges, half),
-        across_at(edges, half / 2),
-        across_at(edges, half + half / 2),
+        across_at(edges, longest, 0),
+        across_at(edges, least, half),
+        across_at(edges, least, half / 2),
+        across_at(edges, least, half + half / 2),
     ]
 }
 
@@ -293,7 +282,7 @@ fn work(edges: &[GridEdge], cut: Cut) -> usize {
 /// fifths of what there was: so what reaches both sides is listed not much more often. Where one leaves three fifths,
 /// no other is tried.
 fn best_cut(alloc: Global, edges: &[GridEdge]) -> Result<Option<Cut>, AllocError> {
-    let some = sample(alloc, edges)?;
+    let some = sample(alloc, edges, SAMPLED)?;
     let whole = some.len().saturating_mul(some.len());
     let mut best = None;
     let mut least = whole / 5 * 4;
