@@ -14,9 +14,9 @@ fn scattered(turn: usize, bound: usize) -> usize
     (turn.wrapping_mul(SCATTERING) >> 32) % bound
 }
 
-/// About so many of the elements: of the first few any one, of the next few another one, and so on. Contours often go on
-/// in the same few edges, and a sample is to have each kind of them, in whatever number they go on. It fails only where
-/// memory is refused.
+/// About so many of the elements: of the first few any one, of the next few another one, and so on. Contours often go
+/// on in the same few edges, and a sample is to have each kind of them, in whatever number they go on. It fails only
+/// where memory is refused.
 pub fn sample<T: Copy>(alloc: Global, elements: &[T], wanted: usize) -> Result<Vec<T>, AllocError> {
     let step = (elements.len() / wanted.max(1)).max(1);
     let turns = (elements.len() / step).saturating_add(1);
