@@ -67,6 +67,18 @@ fn heights<T: Copy>(alloc: Global, edges: &[(GridEdge, T)]) -> Result<Vec<Mark>,
     in_order(alloc, heights)
 }
 
+/// How many of the marks lie at heights that an edge reaches.
+fn marks_reached(marks: &[Mark], e: GridEdge) -> usize
+    requires { AreRising marks.now }
+{
+    let a = height(e.0).at;
+    let b = height(e.1).at;
+    let below = Mark {
+        at: a.min(b).saturating_sub(1),
+    };
+    place(marks, Mark { at: a.max(b) }).saturating_sub(place(marks, below))
+}
+
 /// About how many edges reach the height at which one of them starts, on average.
 #[derive(Copy, Clone)]
 pub struct Reached {
@@ -74,7 +86,7 @@ pub struct Reached {
     /// sample passes over. So where many run down, of more than some 10,000 edges this is more than a dozen, however
     /// few reach a height.
     pub all: usize,
-    /// How many but the edge that starts there.
+    /// How many but the edge that starts there. Edges that lie at one height reach each other's starts.
     pub others: usize,
 }
 
@@ -85,16 +97,15 @@ pub fn mean_reached<T: Copy>(
 ) -> Result<Reached, AllocError> {
     let some = sample(alloc, edges, SAMPLED)?;
     let marks = heights(alloc, &some)?;
-    let mut all: usize = 0;
+    let mut downwards: usize = 0;
     let mut others: usize = 0;
     for e in &some {
-        let a = place(&marks, height(e.0.0));
-        let b = place(&marks, height(e.0.1));
-        let up = b.saturating_sub(a);
-        let down = a.saturating_sub(b);
-        all = all.saturating_add(up.max(down));
-        others = others.saturating_add(up.max(down.saturating_sub(1)));
+        if e.0.1.1 < e.0.0.1 {
+            downwards = downwards.saturating_add(1);
+        }
+        others = others.saturating_add(marks_reached(&marks, e.0).saturating_sub(1));
     }
+    let all = others.saturating_add(downwards);
     let count = some.len().max(1);
     Ok(Reached {
         all: all.saturating_mul(edges.len()) / count / count,
