@@ -164,3 +164,23 @@ fn many_strips_are_answered(rt: HostRuntime) -> Result<(), Fail> {
     }
     Ok(())
 }
+
+/// So many edges at one height that sums over all that reach it would not end in a test's time.
+#[test]
+fn a_long_chain_at_one_height_is_answered(rt: HostRuntime) -> Result<(), Fail> {
+    let mut corners = Vec::new(rt.alloc());
+    for x in 0..=200_000 {
+        corners.push((x, 0))?;
+    }
+    corners.push((200_000, 7))?;
+    corners.push((0, 7))?;
+    let shapes = answered_shapes(&overlay_of(rt.alloc(), &[&corners])?, FillRule::Positive)?;
+    expect_equal(&shapes.len(), &1, &"shapes")?;
+    for shape in &shapes {
+        expect_equal(&shape.len(), &1, &"contours")?;
+        for contour in shape {
+            expect_equal(&contour.len(), &4, &"points")?;
+        }
+    }
+    Ok(())
+}

@@ -77,7 +77,8 @@ AddsAnswer unit way fill contour old new =
 
 -- the vector `new` holds what `old` held, and then the segments of what a contour gives, closed and safe
 abbrev pub AddsGiven : ℕ → OutlineStyle → List Point → List SignedEdge → List SignedEdge → Type 0
-AddsGiven unit style contour old new = (edges : List Edge) × Gives unit style contour edges × AddsClosed unit old new edges
+AddsGiven unit style contour old new =
+    (edges : List Edge) × Gives unit style contour edges × AddsClosed unit old new edges
 
 -- the segments are those of what contours give, closed and safe
 abbrev pub AreGiven : ℕ → OutlineStyle → List (List Point) → List SignedEdge → Type 0

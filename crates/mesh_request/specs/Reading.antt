@@ -53,7 +53,8 @@ point_of unit d = option_and_then (pair_of unit) (as_array d)
 -- the points that values are
 abbrev pub point_list_of : ℕ → Items → Option (List Point)
 point_list_of unit no_items = Some []
-point_list_of unit (item d ds) = option_and_then (λ p. option_map (λ ps. p ∷ ps) (point_list_of unit ds)) (point_of unit d)
+point_list_of unit (item d ds) =
+    option_and_then (λ p. option_map (λ ps. p ∷ ps) (point_list_of unit ds)) (point_of unit d)
 
 -- the path that a value is: a list of points
 abbrev pub path_of : ℕ → Data → Option (List Point)
@@ -119,7 +120,8 @@ has_key key d = is_some (get key d)
 
 -- the whole number of 32 bits without sign that a value is
 abbrev pub small_number_of : Data → Option ℕ
-small_number_of d = option_and_then (λ n. if nat_lt n (2 ^ 32) then Some n else None) (option_and_then as_u64 (as_number d))
+small_number_of d =
+    option_and_then (λ n. if nat_lt n (2 ^ 32) then Some n else None) (option_and_then as_u64 (as_number d))
 
 -- the angle of as many bits as a value says
 abbrev pub angle_of : Data → Option ℕ
@@ -260,7 +262,10 @@ choices_with said = record { least_area = said.0; clockwise = said.1.0; all_vert
 
 -- the choices that an object gives
 abbrev pub choices_in : ℕ → Data → Option Choices
-choices_in unit d = option_map choices_with (both (area_of unit (get (codes "min_area") d)) (both (flag_of (get (codes "clockwise") d)) (flag_of (get (codes "collinear") d))))
+choices_in unit d =
+    option_map choices_with
+        (both (area_of unit (get (codes "min_area") d))
+            (both (flag_of (get (codes "clockwise") d)) (flag_of (get (codes "collinear") d))))
 
 -- the choices that options give: the default ones where there are none; what is no object gives none
 abbrev pub choices_given : ℕ → Option Data → Option Choices
@@ -269,7 +274,10 @@ choices_given unit (Some d) = if is_some (as_object d) then choices_in unit d el
 
 -- what a request asks; options are looked at for shapes alone
 abbrev pub asked_in : ℕ → Data → Option Asked
-asked_in unit d = if says (codes "out") (codes "edges") d then Some for_edges else (if says (codes "out") (codes "shapes") d then option_map for_shapes (choices_given unit (get (codes "options") d)) else None)
+asked_in unit d =
+    if says (codes "out") (codes "edges") d then Some for_edges
+    else (if says (codes "out") (codes "shapes") d
+        then option_map for_shapes (choices_given unit (get (codes "options") d)) else None)
 
 -- a style and paths, as an outline
 abbrev pub outline_with : OutlineStyle × List (List Point) → Drawn
@@ -319,7 +327,9 @@ request_as unit d = option_map (request_with unit) (both (drawn_in unit d) (aske
 
 -- the unit of the type that a request names
 abbrev pub unit_of : Data → Option ℕ
-unit_of d = if says (codes "int") (codes "i16") d then Some (2 ^ 14) else (if says (codes "int") (codes "i32") d then Some (2 ^ 30) else None)
+unit_of d =
+    if says (codes "int") (codes "i16") d then Some (2 ^ 14)
+    else (if says (codes "int") (codes "i32") d then Some (2 ^ 30) else None)
 
 -- the request that is served
 abbrev pub request_of : Data → Option Request

@@ -5,10 +5,11 @@ use Rattle.std.proofs.lemmas.Bool.{false≢true}
 use Rattle.std.proofs.lemmas.Option.{none-some}
 use Rattle.std.specs.Io.KnownBytes.{Appends, IsAtEnd}
 use Rattle.mesh_draw.specs.declared.error.IntOutlineError.TheVariants.{CoordinateOutOfRange, OutOfMemory}
-use Rattle.mesh_request.specs.Failures.{failure_line, told_line}
+use Rattle.mesh_request.specs.Failures.{failure_line}
 use Rattle.mesh_request.specs.Reading.{IsOfReading}
 use Rattle.mesh_request.specs.Requests.{Request}
 use Rattle.mesh_service.specs.Served.{IsAccepted}
+use Rattle.mesh_service.specs.Midway.{told_line}
 use Rattle.mesh_service.specs.Serving.{IsAnswer, IsRefused, IsReply, TellsRefusal, MetRefusal, HoldsNoRequest, request_in}
 use Rattle.mesh_request.specs.declared.failure.Failure.{Failure}
 use Rattle.mesh_request.specs.declared.failure.Failure.TheVariants.{Unreadable, Refused}

@@ -52,7 +52,8 @@ TellsRefusal (Err (Refused error)) = Unit {0}
 -- line of a refusal, where they may not be answered; that of a want of memory; and that of what is unreadable
 pub data IsReply (left : Option (List ℕ)) : List ℕ → Type 0 where
   answer : {request line : List ℕ} → IfSome left (λ bytes. request ≡ bytes) → IsAnswer request line → IsReply left line
-  refusal : {request : List ℕ} → IfSome left (λ bytes. request ≡ bytes) → IsRefused request → IsReply left (failure_line (Refused CoordinateOutOfRange))
+  refusal : {request : List ℕ} → IfSome left (λ bytes. request ≡ bytes) → IsRefused request
+    → IsReply left (failure_line (Refused CoordinateOutOfRange))
   no_memory : IsReply left (failure_line (Refused OutOfMemory))
   unreadable : IsReply left (failure_line Unreadable)
 

@@ -7,7 +7,7 @@ use std::io::{Error, ErrorKind, Read, Write};
 use std::test::Fail;
 
 const REQUEST: &[u8] =
-    b"{\"op\":\"outline\",\"int\":\"i32\",\"out\":\"edges\",\"paths\":[[[0,0],[8,0],[8,8],[0,8]]],\"style\":{\"outer\":0,\"inner\":0}}";
+    br#"{"op":"outline","int":"i32","out":"edges","paths":[[[0,0],[8,0],[8,8],[0,8]]],"style":{"outer":0,"inner":0}}"#;
 
 const ANSWER: &[u8] = b"{\"edges\":[[[[0,0],[8,0]],[[0,8],[0,0]],[[8,0],[8,8]],[[8,8],[0,8]]]]}\n";
 

@@ -6,7 +6,8 @@ use Rattle.mesh_arc.specs.declared.arc.ArcOptions.{ArcOptions}
 use Rattle.mesh_sweep.specs.Sweeps.{circle_edges}
 use Rattle.mesh_tangent.specs.Sections.{Circle, Section, section_of, IsSafeCircle, HasContacts, IsSafeSection}
 use Rattle.mesh_variable_stroke.specs.Chains.{Step, is_break, is_cover, end_before, end_after}
-use Rattle.mesh_variable_stroke.specs.VariableStrokes.{SectionPair, are_butt, side_edges, start_edges, end_edges, joint_edges}
+use Rattle.mesh_variable_stroke.specs.VariableStrokes.{SectionPair, are_butt, side_edges, start_edges, end_edges}
+use Rattle.mesh_variable_stroke.specs.VariableStrokes.{joint_edges}
 use Rattle.mesh_variable_stroke.specs.declared.chain_end.ChainEnd.{ChainEnd}
 use Rattle.mesh_variable_stroke.specs.declared.chain_end.ChainEnd.TheVariants.{Butt, Round}
 
