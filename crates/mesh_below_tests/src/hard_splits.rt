@@ -154,8 +154,8 @@ fn is_near_edge(p: Point, e: Edge) -> bool {
     beside.wrapping_mul(beside) <= squared_length.wrapping_mul(4)
 }
 
-/// Whether a point is that near to one of these edges.
-fn is_near_some(p: Point, edges: &[Edge]) -> bool {
+/// Whether a point is at most two units away from one of these edges.
+pub fn is_near_some(p: Point, edges: &[Edge]) -> bool {
     for e in edges {
         if is_near_edge(p, *e) {
             return true;

@@ -12,6 +12,8 @@ mod hard_splits;
 #[cfg(test)]
 mod long_rows;
 #[cfg(test)]
+mod many_edges;
+#[cfg(test)]
 mod meeting_lists;
 #[cfg(test)]
 mod own_boundaries;

@@ -14,7 +14,8 @@ use mesh_toolbox::random::{Random, scattered, slanted};
 use std::alloc::{AllocError, Global};
 use std::test::Fail;
 
-fn is_filled(fill: FillRule, winding: i128) -> bool {
+/// Whether a winding is filled.
+pub fn is_filled(fill: FillRule, winding: i128) -> bool {
     match fill {
         FillRule::Positive => winding > 0,
         FillRule::Negative => winding < 0,
