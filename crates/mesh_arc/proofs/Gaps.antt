@@ -8,18 +8,19 @@ use Rattle.mesh_plane.specs.Plane.{Point, Edge, length_sq}
 use Rattle.mesh_grid.specs.Rotation.{rotated}
 use Rattle.mesh_arc.specs.Arcs.{step_of, bound_of, is_within, is_good, is_passed, turned_times, turned_list, least, ends_after, most_directions, stepped, arc}
 use Rattle.mesh_plane.specs.Ways.{last_of}
-use Rattle.mesh_arc.specs.Gaps.{gaps, HasNearGaps, ReachesEnd}
+use Rattle.mesh_plane.specs.Winding.{pairs_from}
+use Rattle.mesh_arc.specs.Gaps.{HasNearGaps, ReachesEnd}
 use Rattle.mesh_arc.specs.declared.arc.ArcDirection.{ArcDirection}
 use Rattle.mesh_arc.specs.declared.arc.ArcOptions.{ArcOptions}
 use Rattle.mesh_arc.proofs.Passing.{good_within, passing}
 use Rattle.mesh_arc.proofs.Turning.{least_before, least_bounded, least_passes, turned_first, turned_count}
 
 -- a gap of two neighbours is one of the steps
-near_gaps : (P : Edge → Type 0) (step from : Point) (n : ℕ) → ((k : ℕ) → k < n → P (turned_times step from k, turned_times step from (suc k))) → All P (gaps from (turned_list step from n))
-unfolding turned_times turned_list gaps
+near_gaps : (P : Edge → Type 0) (step from : Point) (n : ℕ) → ((k : ℕ) → k < n → P (turned_times step from k, turned_times step from (suc k))) → All P (pairs_from from (turned_list step from n))
+unfolding turned_times turned_list
 near_gaps P step from zero h = All-nil P
 near_gaps P step from (suc n) h =
-    All-cons P (from, rotated step from) (gaps (rotated step from) (turned_list step (rotated step from) n)) (h zero (omega arith))
+    All-cons P (from, rotated step from) (pairs_from (rotated step from) (turned_list step (rotated step from) n)) (h zero (omega arith))
     (near_gaps P step (rotated step from) n
     (λ k l.
     let m : suc k < suc n = omega arith in
@@ -56,12 +57,12 @@ passed_after sense bound step from end n e fewer good =
 
 -- ---- the directions of an arc
 
-stepped_gaps : (sense : ArcDirection) (bound step from end : Point) → All (λ (e : Edge). is_within sense bound e.0 e.1 ≡ true) (gaps from (stepped sense bound step from end))
-unfolding stepped gaps
+stepped_gaps : (sense : ArcDirection) (bound step from end : Point) → All (λ (e : Edge). is_within sense bound e.0 e.1 ≡ true) (pairs_from from (stepped sense bound step from end))
+unfolding stepped
 stepped_gaps sense bound step from end = by (is_within sense bound from end)
   where
     by : (b : Bool) → All (λ (e : Edge). is_within sense bound e.0 e.1 ≡ true)
-        (gaps from (if b then [] else turned_list step from (least (ends_after sense bound step from end) most_directions)))
+        (pairs_from from (if b then [] else turned_list step from (least (ends_after sense bound step from end) most_directions)))
     by true = All-nil (λ (e : Edge). is_within sense bound e.0 e.1 ≡ true)
     by false =
         near_gaps (λ (e : Edge). is_within sense bound e.0 e.1 ≡ true) step from (least (ends_after sense bound step from end) most_directions)

@@ -49,7 +49,8 @@ bound_of options = sin_cos options.max_step
 -- whether `w` lies ahead of `v` by at most the angle, of less than a quarter turn, with this sine and cosine
 abbrev pub is_within : ArcDirection → Point → Point → Point → Bool
 is_within sense bound v w =
-    int_le (pos 0) (ahead sense v w) && (int_lt (pos 0) (dot v w) && int_le (ahead sense v w *ℤ bound.1) (dot v w *ℤ bound.0))
+    int_le (pos 0) (ahead sense v w)
+    && (int_lt (pos 0) (dot v w) && int_le (ahead sense v w *ℤ bound.1) (dot v w *ℤ bound.0))
 
 -- whether a step leads ahead, by at most the bound
 abbrev pub is_good : ArcDirection → Point → Point → Point → Bool

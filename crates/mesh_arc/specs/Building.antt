@@ -19,7 +19,8 @@ building_with options buffer = record { options = options; directions = buffer.i
 -- what stands after an arc was asked for: the options are the same and no memory was given back; the directions are
 -- those of the arc, and none after a refusal; there is memory for them, so an arc of no more directions can be asked
 -- for again
-pub record IsBuilt (unit : ℕ) (old new : Building) (sense : ArcDirection) (from end : Point) {A E : Type 0} (answer : Result A E) : Type 0 where
+pub record IsBuilt (unit : ℕ) (old new : Building) (sense : ArcDirection) (from end : Point) {A E : Type 0}
+    (answer : Result A E) : Type 0 where
   pub options : new.options ≡ old.options
   pub room : old.room ≤ new.room
   pub directions : OnOk answer (new.directions ≡ arc unit old.options sense from end)

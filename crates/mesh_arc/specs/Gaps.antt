@@ -1,21 +1,18 @@
 -- Gaps of arcs: how far neighbouring directions lie apart.
-use Rattle.std.specs.Prelude.{ℕ, suc, ◌≢◌, ◌<◌, ◌^◌, IsTrue, List, [], ◌∷◌, length}
+use Rattle.std.specs.Prelude.{ℕ, suc, ◌≢◌, ◌<◌, ◌^◌, IsTrue, List, length}
 use Rattle.std.specs.List.{All}
 use Rattle.mesh_plane.specs.Plane.{Point, Edge}
 use Rattle.mesh_plane.specs.Ways.{last_of}
+use Rattle.mesh_plane.specs.Winding.{pairs_from}
 use Rattle.mesh_grid.specs.Rotation.{rotated}
 use Rattle.mesh_arc.specs.Arcs.{step_of, bound_of, is_within, is_good, turned_times, most_directions}
 use Rattle.mesh_arc.specs.declared.arc.ArcDirection.{ArcDirection}
 use Rattle.mesh_arc.specs.declared.arc.ArcOptions.{ArcOptions}
 
--- the neighbours among `from` and the directions after it
-unfoldable pub gaps : Point → List Point → List Edge
-gaps from [] = []
-gaps from (d ∷ ds) = (from, d) ∷ gaps d ds
-
--- each gap is within a step
+-- each gap, between neighbours among `from` and the directions after it, is within a step
 abbrev pub HasNearGaps : ArcOptions → ArcDirection → Point → List Point → Type 0
-HasNearGaps options sense from ds = All (λ (e : Edge). IsTrue (is_within sense (bound_of options) e.0 e.1)) (gaps from ds)
+HasNearGaps options sense from ds =
+    All (λ (e : Edge). IsTrue (is_within sense (bound_of options) e.0 e.1)) (pairs_from from ds)
 
 -- from the last direction one more step is good
 abbrev pub CanGoOn : ℕ → ArcOptions → ArcDirection → Point → List Point → Type 0
@@ -26,7 +23,8 @@ CanGoOn unit options sense from ds =
 -- or no good step follows
 abbrev pub ReachesEnd : ℕ → ArcOptions → ArcDirection → Point → Point → List Point → Type 0
 ReachesEnd unit options sense from end ds =
-    length ds ≢ most_directions → CanGoOn unit options sense from ds → IsTrue (is_within sense (bound_of options) (last_of from ds) end)
+    length ds ≢ most_directions → CanGoOn unit options sense from ds
+    → IsTrue (is_within sense (bound_of options) (last_of from ds) end)
 
 -- no step from `from` on fails, up to the most directions
 abbrev pub NoStepFails : ℕ → ArcOptions → ArcDirection → Point → Type 0

@@ -42,7 +42,8 @@ directions_by s from end = stepped s.sense s.bound s.step from end
 
 -- the list after `k` steps that were all good, none past the end; `room` is what there was memory for at first,
 -- `capacity` now
-pub record HasTurned (s : Steps) (from end : Point) (room k : ℕ) (current : Point) (ds : List Point) (capacity : ℕ) : Type 0 where
+pub record HasTurned (s : Steps) (from end : Point) (room k : ℕ) (current : Point) (ds : List Point)
+    (capacity : ℕ) : Type 0 where
   pub count : k ≤ most_directions
   pub current_is : current ≡ turned_times s.step from k
   pub directions : ds ≡ turned_list s.step from k

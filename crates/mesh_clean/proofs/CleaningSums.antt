@@ -3,7 +3,7 @@ use Rattle.std.proofs.Common.{◌≡◌, inl, inr, refl, sym, ◌∙◌, ap, ari
 use Rattle.std.specs.Prelude.{ℤ, pos, ◌+ℤ◌}
 use Rattle.std.proofs.lemmas.Bool.{cases_Bool, cond-true, cond-false}
 use Rattle.mesh_plane.specs.Plane.{Point, Edge, turn}
-use Rattle.mesh_plane.specs.Winding.{route, boundary, same_point, total}
+use Rattle.mesh_plane.specs.Winding.{pairs_from, route, boundary, same_point, total}
 use Rattle.mesh_plane.proofs.Whole.{linear}
 use Rattle.mesh_plane.specs.Ways.{turns_at}
 use Rattle.mesh_clean.specs.Cleaned.{cleaned_sections}
@@ -13,21 +13,16 @@ use Rattle.mesh_plane.proofs.Ways.{straight_turn}
 use Rattle.mesh_clean.proofs.CleaningPass.{passed, passed-kept, passed-on}
 use Rattle.mesh_clean.proofs.CleaningStart.{started, started-kept, started-on, started-cleaned, cleaned_sections-same}
 
--- the edges from `p` along the points
-abbrev pub edges_from : Point → List Point → List Edge
-edges_from p [] = []
-edges_from p (z ∷ zs) = (p, z) ∷ edges_from z zs
-
-pub edges_from-route : (p : Point) (zs : List Point) (z : Point) → edges_from p (zs ++ z ∷ []) ≡ route p zs z
-edges_from-route p [] z = refl
-edges_from-route p (x ∷ xs) z = ap (λ (es : List Edge). (p, x) ∷ es) (edges_from-route x xs z)
+pub pairs_from-route : (p : Point) (zs : List Point) (z : Point) → pairs_from p (zs ++ z ∷ []) ≡ route p zs z
+pairs_from-route p [] z = refl
+pairs_from-route p (x ∷ xs) z = ap (λ (es : List Edge). (p, x) ∷ es) (pairs_from-route x xs z)
 
 module _ (f : Point → Point → ℤ) (straight : (p r s : Point) → turn p r s ≡ pos 0 → f p r +ℤ f r s ≡ f p s) where
-  edges_from-append : (p : Point) (zs : List Point) (q r : Point) → total f (edges_from p (zs ++ q ∷ r ∷ [])) ≡ total f (edges_from p (zs ++ q ∷ [])) +ℤ f q r
-  edges_from-append p [] q r = omega (arith, linear)
-  edges_from-append p (z ∷ zs) q r = omega (arith, linear, edges_from-append z zs q r)
+  pairs_from-append : (p : Point) (zs : List Point) (q r : Point) → total f (pairs_from p (zs ++ q ∷ r ∷ [])) ≡ total f (pairs_from p (zs ++ q ∷ [])) +ℤ f q r
+  pairs_from-append p [] q r = omega (arith, linear)
+  pairs_from-append p (z ∷ zs) q r = omega (arith, linear, pairs_from-append z zs q r)
 
-  pub passed-total : (a p : Point) (zs : List Point) → total f (passed a p zs) ≡ f a p +ℤ total f (edges_from p zs)
+  pub passed-total : (a p : Point) (zs : List Point) → total f (passed a p zs) ≡ f a p +ℤ total f (pairs_from p zs)
   passed-total a p [] = elim (cases_Bool (same_point a p)) [
     | inl e ↦
         let none : f a p ≡ pos 0 = ap (f a) (sym ((decides_point a p).0 e)) ∙ straight_none f straight a in
@@ -46,30 +41,30 @@ module _ (f : Point → Point → ℤ) (straight : (p r s : Point) → turn p r 
         omega (arith, linear, on, passed-total a z zs, straight a p z (straight_turn a p z e))
   ]
 
-  pub started-total : (q p : Point) (zs : List Point) → total f (started q p zs) ≡ f q p +ℤ total f (edges_from p (zs ++ q ∷ []))
+  pub started-total : (q p : Point) (zs : List Point) → total f (started q p zs) ≡ f q p +ℤ total f (pairs_from p (zs ++ q ∷ []))
   started-total q p [] = omega (arith, linear, passed-total q p (q ∷ q ∷ []), straight_none f straight q)
   started-total q p (z ∷ zs) = elim (cases_Bool (turns_at q p z)) [
     | inl e ↦
         let kept : total f (started q p (z ∷ zs)) ≡ total f (passed p z (zs ++ q ∷ p ∷ [])) = ap (total f) (started-kept q p z zs e) in
-        omega (arith, linear, kept, passed-total p z (zs ++ q ∷ p ∷ []), edges_from-append z zs q p)
+        omega (arith, linear, kept, passed-total p z (zs ++ q ∷ p ∷ []), pairs_from-append z zs q p)
     | inr e ↦
         let on : total f (started q p (z ∷ zs)) ≡ total f (started q z zs) = ap (total f) (started-on q p z zs e) in
         omega (arith, linear, on, started-total q z zs, straight q p z (straight_turn q p z e))
   ]
 
-  cleaned-edges_from : (q : Point) (zs : List Point) → total f (cleaned_sections (q ∷ zs)) ≡ total f (edges_from q (zs ++ q ∷ []))
+  cleaned-pairs_from : (q : Point) (zs : List Point) → total f (cleaned_sections (q ∷ zs)) ≡ total f (pairs_from q (zs ++ q ∷ []))
   unfolding cleaned_sections
-  cleaned-edges_from q [] = omega (arith, linear, straight_none f straight q)
-  cleaned-edges_from q (z ∷ zs) = elim (cases_Bool (same_point q z)) [
-    | inl e ↦ repeated e (cleaned-edges_from q zs)
+  cleaned-pairs_from q [] = omega (arith, linear, straight_none f straight q)
+  cleaned-pairs_from q (z ∷ zs) = elim (cases_Bool (same_point q z)) [
+    | inl e ↦ repeated e (cleaned-pairs_from q zs)
     | inr e ↦ ap (total f) (sym (started-cleaned q z zs e)) ∙ started-total q z zs
   ]
     where
-      repeated : same_point q z ≡ true → total f (cleaned_sections (q ∷ zs)) ≡ total f (edges_from q (zs ++ q ∷ [])) → total f (cleaned_sections (q ∷ z ∷ zs)) ≡ f q z +ℤ total f (edges_from z (zs ++ q ∷ []))
+      repeated : same_point q z ≡ true → total f (cleaned_sections (q ∷ zs)) ≡ total f (pairs_from q (zs ++ q ∷ [])) → total f (cleaned_sections (q ∷ z ∷ zs)) ≡ f q z +ℤ total f (pairs_from z (zs ++ q ∷ []))
       repeated e ih =
           let same : q ≡ z = (decides_point q z).0 e in
           let less : total f (cleaned_sections (q ∷ z ∷ zs)) ≡ total f (cleaned_sections (q ∷ zs)) = ap (total f) (cleaned_sections-same q z zs e) in
-          let way : total f (edges_from q (zs ++ q ∷ [])) ≡ total f (edges_from z (zs ++ q ∷ [])) = ap (λ x. total f (edges_from x (zs ++ q ∷ []))) same in
+          let way : total f (pairs_from q (zs ++ q ∷ [])) ≡ total f (pairs_from z (zs ++ q ∷ [])) = ap (λ x. total f (pairs_from x (zs ++ q ∷ []))) same in
           let none : f q z ≡ pos 0 = ap (f q) (sym same) ∙ straight_none f straight q in
           omega (arith, linear, less, ih, way, none)
 
@@ -77,4 +72,4 @@ module _ (f : Point → Point → ℤ) (straight : (p r s : Point) → turn p r 
   pub cleaned-total : (points : List Point) → total f (cleaned_sections points) ≡ total f (boundary points)
   unfolding cleaned_sections
   cleaned-total [] = refl
-  cleaned-total (q ∷ zs) = cleaned-edges_from q zs ∙ ap (total f) (edges_from-route q zs q)
+  cleaned-total (q ∷ zs) = cleaned-pairs_from q zs ∙ ap (total f) (pairs_from-route q zs q)

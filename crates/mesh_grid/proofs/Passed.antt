@@ -6,13 +6,10 @@ use Rattle.std.proofs.lemmas.Int.{ints, to_z-of_z, to_z_pos, fits_signed_from_ab
 use mir.Syntax.{w32, w128}
 use mir.Val.{SFits, to_z, of_z}
 use Rattle.mesh_plane.specs.Plane.{Point}
-use Rattle.mesh_plane.proofs.Sizes.{le_of_squares, sum_size, difference_size}
+use Rattle.mesh_plane.proofs.Sizes.{le_of_squares, sum_size, difference_size, size_kept}
 use Rattle.mesh_sine.specs.Sine.{IsWithinOne}
 use Rattle.mesh_grid.specs.Direction.{IsShort}
 use Rattle.mesh_grid.proofs.Scaling.{short_bounded}
-
-passed : (z : ℤ) → unsigned_abs z ≤ 2 ^ 126 → to_z w128 (of_z w128 z) ≡ z
-passed z h = to_z-of_z w128 z (fits_signed_from_abs w128 z (omega arith))
 
 -- ---- sines and directions
 
@@ -26,14 +23,14 @@ widened_fits z h = rw (to_z-of_z w32 z (fits_signed_from_abs w32 z (omega arith)
 
 pub widened_is : (z : ℤ) → unsigned_abs z ≤ 2 ^ 30 → to_z w128 (of_z w128 (to_z w32 (of_z w32 z))) ≡ z
 widened_is z h =
-    ap (λ (y : ℤ). to_z w128 (of_z w128 y)) (to_z-of_z w32 z (fits_signed_from_abs w32 z (omega arith))) ∙ passed z (omega arith)
+    ap (λ (y : ℤ). to_z w128 (of_z w128 y)) (to_z-of_z w32 z (fits_signed_from_abs w32 z (omega arith))) ∙ size_kept z (omega arith)
 
 -- a direction
 pub short_passed : (unit : ℕ) (n : Point) → unit ≤ 2 ^ 30 → IsShort unit n → (to_z w128 (of_z w128 n.0), to_z w128 (of_z w128 n.1)) ≡ n
 short_passed unit n l h =
     let b : (unsigned_abs n.0 ≤ unit) × (unsigned_abs n.1 ≤ unit) = short_bounded unit n h in
-    let x = passed n.0 (omega arith) in
-    let y = passed n.1 (omega arith) in
+    let x = size_kept n.0 (omega arith) in
+    let y = size_kept n.1 (omega arith) in
     λ i. (x i, y i)
 
 -- ---- products of a sine and a component, and their sums
@@ -41,31 +38,31 @@ short_passed unit n l h =
 pub passed_product : (a b : ℤ) → unsigned_abs a ≤ 2 ^ 30 → unsigned_abs b ≤ 2 ^ 31
     → to_z w128 (of_z w128 a) *ℤ to_z w128 (of_z w128 b) ≡ a *ℤ b
 passed_product a b h l =
-    let x = passed a (omega arith) in
-    let y = passed b (omega arith) in
+    let x = size_kept a (omega arith) in
+    let y = size_kept b (omega arith) in
     λ i. x i *ℤ y i
 
 pub difference_fits : (a b : ℤ) → unsigned_abs a ≤ 2 ^ 61 → unsigned_abs b ≤ 2 ^ 61 → SFits w128 (to_z w128 (of_z w128 a) -ℤ to_z w128 (of_z w128 b))
 difference_fits a b h l =
     let s : unsigned_abs (a -ℤ b) ≤ 2 ^ 62 = difference_size a b (2 ^ 61) (2 ^ 61) h l in
-    rw (passed a (omega arith), passed b (omega arith)) (fits_signed_from_abs w128 (a -ℤ b) (omega arith))
+    rw (size_kept a (omega arith), size_kept b (omega arith)) (fits_signed_from_abs w128 (a -ℤ b) (omega arith))
 
 pub sum_fits : (a b : ℤ) → unsigned_abs a ≤ 2 ^ 61 → unsigned_abs b ≤ 2 ^ 61 → SFits w128 (to_z w128 (of_z w128 a) +ℤ to_z w128 (of_z w128 b))
 sum_fits a b h l =
     let s : unsigned_abs (a +ℤ b) ≤ 2 ^ 62 = sum_size a b (2 ^ 61) (2 ^ 61) h l in
-    rw (passed a (omega arith), passed b (omega arith)) (fits_signed_from_abs w128 (a +ℤ b) (omega arith))
+    rw (size_kept a (omega arith), size_kept b (omega arith)) (fits_signed_from_abs w128 (a +ℤ b) (omega arith))
 
 pub passed_difference : (a b : ℤ) → unsigned_abs a ≤ 2 ^ 61 → unsigned_abs b ≤ 2 ^ 61
     → to_z w128 (of_z w128 (to_z w128 (of_z w128 a) -ℤ to_z w128 (of_z w128 b))) ≡ a -ℤ b
 passed_difference a b h l =
     let s : unsigned_abs (a -ℤ b) ≤ 2 ^ 62 = difference_size a b (2 ^ 61) (2 ^ 61) h l in
-    rw (passed a (omega arith), passed b (omega arith)) (passed (a -ℤ b) (omega arith))
+    rw (size_kept a (omega arith), size_kept b (omega arith)) (size_kept (a -ℤ b) (omega arith))
 
 pub passed_sum : (a b : ℤ) → unsigned_abs a ≤ 2 ^ 61 → unsigned_abs b ≤ 2 ^ 61
     → to_z w128 (of_z w128 (to_z w128 (of_z w128 a) +ℤ to_z w128 (of_z w128 b))) ≡ a +ℤ b
 passed_sum a b h l =
     let s : unsigned_abs (a +ℤ b) ≤ 2 ^ 62 = sum_size a b (2 ^ 61) (2 ^ 61) h l in
-    rw (passed a (omega arith), passed b (omega arith)) (passed (a +ℤ b) (omega arith))
+    rw (size_kept a (omega arith), size_kept b (omega arith)) (size_kept (a +ℤ b) (omega arith))
 
 -- ---- opposites
 
@@ -83,14 +80,14 @@ opposite_size z h = omega (arith, ints)
 pub opposite_fits : (z : ℤ) → unsigned_abs z ≤ 2 ^ 126 → SFits w128 (pos 0 -ℤ to_z w128 (of_z w128 z))
 opposite_fits z h =
     let s : unsigned_abs (neg_ℤ z) ≤ 2 ^ 126 = opposite_size z h in
-    rw (passed z h, zero_less z) (fits_signed_from_abs w128 (neg_ℤ z) (omega arith))
+    rw (size_kept z (omega arith), zero_less z) (fits_signed_from_abs w128 (neg_ℤ z) (omega arith))
 
 pub passed_opposite : (z : ℤ) → unsigned_abs z ≤ 2 ^ 126 → to_z w128 (of_z w128 (pos 0 -ℤ to_z w128 (of_z w128 z))) ≡ neg_ℤ z
-passed_opposite z h = rw (passed z h, zero_less z) (passed (neg_ℤ z) (opposite_size z h))
+passed_opposite z h = rw (size_kept z (omega arith), zero_less z) (size_kept (neg_ℤ z) (omega (arith, opposite_size z h)))
 
 -- the opposite of a number without a sign
 pub negated_fits : (k : ℕ) → k ≤ 2 ^ 126 → SFits w128 (pos 0 -ℤ to_z w128 k)
 negated_fits k h = rw (to_z_pos w128 k (omega arith), zero_less (pos k)) (fits_signed_from_abs w128 (neg_ℤ (pos k)) (omega (arith, opposite_size (pos k) h)))
 
 pub passed_negated : (k : ℕ) → k ≤ 2 ^ 126 → to_z w128 (of_z w128 (pos 0 -ℤ to_z w128 k)) ≡ neg_ℤ (pos k)
-passed_negated k h = rw (to_z_pos w128 k (omega arith), zero_less (pos k)) (passed (neg_ℤ (pos k)) (opposite_size (pos k) h))
+passed_negated k h = rw (to_z_pos w128 k (omega arith), zero_less (pos k)) (size_kept (neg_ℤ (pos k)) (omega (arith, opposite_size (pos k) h)))

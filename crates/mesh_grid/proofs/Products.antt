@@ -17,29 +17,29 @@ pub within_of_size : (h : ℕ) (z : ℤ) → unsigned_abs z < h → IsWithin h z
 within_of_size h z s = record { low = omega (arith, ints); high = omega (arith, ints) }
 
 -- the product of two differences of coordinates stays below half of what the wide type holds
-pub product_size : (u : ℕ) (a b : ℤ) → IsSmall (2 * u) a → IsSmall (2 * u) b → unsigned_abs (a *ℤ b) < 4 * u * u
-product_size u a b s t =
+pub small_product_size : (u : ℕ) (a b : ℤ) → IsSmall (2 * u) a → IsSmall (2 * u) b → unsigned_abs (a *ℤ b) < 4 * u * u
+small_product_size u a b s t =
     let x : unsigned_abs a < 2 * u = small_size (2 * u) a s in
     let y : unsigned_abs b < 2 * u = small_size (2 * u) b t in
     omega (arith, unsigned_abs-mul a b, mul-lt (unsigned_abs a) (unsigned_abs b) (2 * u) (2 * u) x y)
 
 pub product_within : (h u : ℕ) (a b : ℤ) → h ≡ 8 * u * u → IsSmall (2 * u) a → IsSmall (2 * u) b → IsWithin h (a *ℤ b)
 product_within h u a b e s t =
-    let x : unsigned_abs (a *ℤ b) < 4 * u * u = product_size u a b s t in
+    let x : unsigned_abs (a *ℤ b) < 4 * u * u = small_product_size u a b s t in
     within_of_size h (a *ℤ b) (omega arith)
 
 pub difference_within : (h u : ℕ) (a b c d p q : ℤ) → h ≡ 8 * u * u → p ≡ a *ℤ b → q ≡ c *ℤ d →
     IsSmall (2 * u) a → IsSmall (2 * u) b → IsSmall (2 * u) c → IsSmall (2 * u) d → IsWithin h (p -ℤ q)
 difference_within h u a b c d p q e f g s t v w =
-    let x : unsigned_abs p < 4 * u * u = rw f (product_size u a b s t) in
-    let y : unsigned_abs q < 4 * u * u = rw g (product_size u c d v w) in
+    let x : unsigned_abs p < 4 * u * u = rw f (small_product_size u a b s t) in
+    let y : unsigned_abs q < 4 * u * u = rw g (small_product_size u c d v w) in
     within_of_size h (p -ℤ q) (omega (arith, ints))
 
 pub sum_within : (h u : ℕ) (a b c d p q : ℤ) → h ≡ 8 * u * u → p ≡ a *ℤ b → q ≡ c *ℤ d →
     IsSmall (2 * u) a → IsSmall (2 * u) b → IsSmall (2 * u) c → IsSmall (2 * u) d → IsWithin h (p +ℤ q)
 sum_within h u a b c d p q e f g s t v w =
-    let x : unsigned_abs p < 4 * u * u = rw f (product_size u a b s t) in
-    let y : unsigned_abs q < 4 * u * u = rw g (product_size u c d v w) in
+    let x : unsigned_abs p < 4 * u * u = rw f (small_product_size u a b s t) in
+    let y : unsigned_abs q < 4 * u * u = rw g (small_product_size u c d v w) in
     within_of_size h (p +ℤ q) (omega (arith, ints))
 
 pub square_sum_below : (u : ℕ) (v : Point) → IsSafe (2 * u) v → length_sq v < 8 * u * u

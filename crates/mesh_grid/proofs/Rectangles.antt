@@ -7,7 +7,8 @@ use Rattle.std.proofs.lemmas.Int.{ints, clamps}
 use Rattle.std.proofs.lemmas.List.Elements.{All-push, All-weaker, All-nil, Contains-append_left, Contains-push}
 use Rattle.std.proofs.lemmas.List.{map-append}
 use Rattle.mesh_plane.specs.Plane.{Point, Edge}
-use Rattle.mesh_grid.specs.Rectangle.{IsInRectangle, IsBounds, extended, grown}
+use Rattle.mesh_grid.specs.Midway.{extended, grown}
+use Rattle.mesh_grid.specs.Rectangle.{IsInRectangle, IsBounds}
 
 either_is : (P : ℤ → Type 0) (b : Bool) (x y : ℤ) → P x → P y → P (cond b x y)
 either_is P true x y p q = p

@@ -51,4 +51,5 @@ KeepsTurns unit v n = (w m : Point) → IsDirection unit w m → pos 0 ≤ℤ cr
 -- a turn to the left stays one between directions times one radius; `s` is the direction `n` times the radius
 abbrev pub KeepsScaledTurns : ℕ → ℤ → Point → Point → Type 0
 KeepsScaledTurns unit radius n s =
-    (v w m : Point) → IsDirection unit v n → IsDirection unit w m → pos 0 ≤ℤ cross v w → pos 0 ≤ℤ cross s (scaled_direction unit radius m)
+    (v w m : Point) → IsDirection unit v n → IsDirection unit w m → pos 0 ≤ℤ cross v w
+    → pos 0 ≤ℤ cross s (scaled_direction unit radius m)

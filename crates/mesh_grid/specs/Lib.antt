@@ -1,6 +1,7 @@
 pub mod Directed
 pub mod Direction
 pub mod Laws
+pub mod Midway
 pub mod Quotient
 pub mod Rectangle
 pub mod Roots

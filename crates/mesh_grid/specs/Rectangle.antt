@@ -1,7 +1,6 @@
 -- Bounds of points, given by their least and greatest corner, and the safe range of bounds widened by a padding.
-use Rattle.std.specs.Prelude.{ℕ, List, map, Option, Some, None, ℤ, ◌≤ℤ◌}
+use Rattle.std.specs.Prelude.{ℕ, List, map, ℤ, ◌≤ℤ◌}
 use Rattle.std.specs.List.{All, Contains}
-use Rattle.std.specs.Int.{int_min, int_max}
 use Rattle.mesh_plane.specs.Bounds.{IsSafe}
 use Rattle.mesh_plane.specs.Plane.{Point, Edge, plus, minus}
 
@@ -19,15 +18,6 @@ pub record IsBounds (bounds : Edge) (points : List Point) : Type 0 where
   pub south : Contains (map (λ p. p.1) points) bounds.0.1
   pub east : Contains (map (λ p. p.0) points) bounds.1.0
   pub north : Contains (map (λ p. p.1) points) bounds.1.1
-
--- the rectangle that reaches out to one more point
-abbrev pub extended : Edge → Point → Edge
-extended bounds p = ((int_min bounds.0.0 p.0, int_min bounds.0.1 p.1), (int_max bounds.1.0 p.0, int_max bounds.1.1 p.1))
-
--- the bounds so far with one more point
-abbrev pub grown : Option Edge → Point → Edge
-grown None p = (p, p)
-grown (Some bounds) p = extended bounds p
 
 -- the least and the greatest corner are safe, so each side is
 abbrev pub IsSafeRectangle : ℕ → Edge → Type 0

@@ -45,7 +45,9 @@ is_angle_below sine v w = int_lt (sine.1 *ℤ pos (unsigned_abs (cross v w))) (s
 
 -- whether the corner is bevelled at once: its directions are parallel, or it turns by less than the least turn
 unfoldable pub is_slight : ℕ → Joint → Bool
-is_slight min_turn j = int_eq (cross j.incoming j.outgoing) (pos 0) || is_angle_below (sin_cos (slightest min_turn)) j.incoming j.outgoing
+is_slight min_turn j =
+    int_eq (cross j.incoming j.outgoing) (pos 0)
+    || is_angle_below (sin_cos (slightest min_turn)) j.incoming j.outgoing
 
 -- whether the angle between the corner's sections is below the sharpest that has a peak
 unfoldable pub is_sharp : ℕ → Joint → Bool
@@ -80,11 +82,13 @@ miter_tip angle unit j = if is_sharp angle j then clip_points angle unit j else 
 -- whether a point is away from the corner by at most the padding in each coordinate
 abbrev pub is_near : ℤ → Point → Point → Bool
 is_near padding v p =
-    (int_le (v.0 -ℤ padding) p.0 && int_le p.0 (v.0 +ℤ padding)) && (int_le (v.1 -ℤ padding) p.1 && int_le p.1 (v.1 +ℤ padding))
+    (int_le (v.0 -ℤ padding) p.0 && int_le p.0 (v.0 +ℤ padding))
+    && (int_le (v.1 -ℤ padding) p.1 && int_le p.1 (v.1 +ℤ padding))
 
 -- whether the points can be used: each is near the corner, and no edge through them turns back round it
 unfoldable pub are_usable : ℤ → Joint → List Point → Bool
-are_usable padding j points = list_all (is_near padding j.center) points && list_all (runs_ahead j) (route j.first points j.last)
+are_usable padding j points =
+    list_all (is_near padding j.center) points && list_all (runs_ahead j) (route j.first points j.last)
 
 -- the points, if they can be used
 abbrev pub usable : ℤ → Joint → List Point → List Point

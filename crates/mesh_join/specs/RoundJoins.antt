@@ -15,7 +15,8 @@ pub record RoundStyle : Type 0 where
 -- the directions of the arc from the first point round the corner to the last
 unfoldable pub joint_arc : ArcOptions → ℕ → Joint → List Point
 joint_arc options unit j =
-    arc unit (clamped options) j.sense (direction_of unit (minus j.first j.center)) (direction_of unit (minus j.last j.center))
+    arc unit (clamped options) j.sense (direction_of unit (minus j.first j.center))
+    (direction_of unit (minus j.last j.center))
 
 -- the point round the corner in a direction
 abbrev pub arc_point : ℕ → Joint → Point → Point

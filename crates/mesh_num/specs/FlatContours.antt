@@ -4,7 +4,6 @@ use Rattle.std.specs.List.{flat_map}
 use Rattle.std.specs.declared.ops.Range.{Range}
 use Rattle.mesh_num.specs.declared.shape.buffer.FlatContoursBuffer.{FlatContoursBuffer}
 use Rattle.mesh_plane.specs.Plane.{Point}
-use Rattle.std.specs.Prelude.{◌++◌}
 
 -- so many places from `start` on
 abbrev pub range_of : ℕ → ℕ → Range ℕ
@@ -16,10 +15,7 @@ ranges_from start [] = []
 ranges_from start (c ∷ cs) = range_of start (length c) ∷ ranges_from (start + length c) cs
 
 -- the buffer's points are these contours' points, end to end, and its ranges are theirs, in order
-pub record HoldsContours {I W U : Type 0} (buffer : FlatContoursBuffer I W U) (contours : List (List Point)) : Type 0 where
+pub record HoldsContours {I W U : Type 0} (buffer : FlatContoursBuffer I W U) (contours : List (List Point))
+    : Type 0 where
   pub points : buffer.points.items ≡ flat_map (λ c. c) contours
   pub ranges : buffer.ranges.items ≡ ranges_from 0 contours
-
--- whatever contours a buffer held before, it holds them and then more
-abbrev pub AddsContours : {I W U : Type 0} → FlatContoursBuffer I W U → FlatContoursBuffer I W U → List (List Point) → Type 0
-AddsContours old new more = (contours : List (List Point)) → HoldsContours old contours → HoldsContours new (contours ++ more)

@@ -1,4 +1,5 @@
 pub mod FlatContours
+pub mod Midway
 pub mod Paths
 pub mod Segments
 pub use Rattle.mesh_grid.specs.Directed

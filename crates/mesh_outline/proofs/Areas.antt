@@ -1,7 +1,7 @@
 -- Lemmas over whole numbers: what 128 bits keep of products of coordinates and of their sums, and areas of paths.
 use Rattle.std.proofs.Common.{◌≡◌, ℕ, suc, ◌+◌, ◌*◌, ◌^◌, ◌<◌, ◌≤◌, List, [], ◌∷◌, length, drop, take, get_or, ◌∙◌, sym, ap, subst, add-one, take_all, arith}
 use Rattle.std.specs.Prelude.{ℤ, pos, ◌+ℤ◌, ◌-ℤ◌, ◌*ℤ◌, unsigned_abs}
-use Rattle.std.proofs.lemmas.Int.{ints, to_z-of_z, unsigned_abs-mul}
+use Rattle.std.proofs.lemmas.Int.{ints, unsigned_abs-mul}
 use Rattle.std.proofs.Math.Nat.{mul-le-mul}
 use Rattle.std.proofs.Math.Seq.{drop-cons}
 use Rattle.std.proofs.lemmas.List.{drop_all}
@@ -12,15 +12,12 @@ use Rattle.mesh_plane.specs.Plane.{Point, cross}
 use Rattle.mesh_plane.specs.Winding.{total, route}
 use Rattle.std.proofs.lemmas.List.Elements.{All-more}
 use Rattle.mesh_plane.proofs.Whole.{linear}
-use Rattle.mesh_plane.proofs.Sizes.{within_size, sum_size, difference_size}
+use Rattle.mesh_plane.proofs.Sizes.{within_size, sum_size, difference_size, size_kept}
 use Rattle.mesh_shapes.specs.Contours.{double_area}
 use Rattle.mesh_outline.specs.Resolved.{DoAreasFit}
 
 pub size_fits : (z : ℤ) → unsigned_abs z < 2 ^ 127 → SFits w128 z
 size_fits z h = omega (arith, ints)
-
-pub size_kept : (z : ℤ) → unsigned_abs z < 2 ^ 127 → to_z w128 (of_z w128 z) ≡ z
-size_kept z h = to_z-of_z w128 z (size_fits z h)
 
 pub product_size : (a b : ℤ) → IsWithin (2 ^ 31) a → IsWithin (2 ^ 31) b → unsigned_abs (a *ℤ b) ≤ 2 ^ 62
 product_size a b v w =

@@ -1,11 +1,13 @@
 -- Lemmas over whole numbers: sizes, squares and quotients of natural numbers.
-use Rattle.std.proofs.Common.{◌≡◌, ℕ, ◌+◌, ◌*◌, ◌-◌, ◌/◌, ◌<◌, ◌≤◌, ◌⊎◌, inl, inr, zero, suc, refl, arith}
+use Rattle.std.proofs.Common.{◌≡◌, ℕ, ◌+◌, ◌*◌, ◌-◌, ◌/◌, ◌^◌, ◌<◌, ◌≤◌, ◌⊎◌, inl, inr, zero, suc, refl, arith}
 use Rattle.std.specs.Prelude.{◌≢◌, ℤ, pos, negsuc, ◌+ℤ◌, ◌-ℤ◌, ◌*ℤ◌, neg_ℤ, unsigned_abs}
 use Rattle.std.proofs.Math.Nat.{mul-le-mul, div-mul-le_self}
 use Rattle.std.proofs.lemmas.Nat.{mul-lt, le-div}
 use Rattle.std.proofs.lemmas.Bool.{cases_lt}
-use Rattle.std.proofs.lemmas.Int.{ints, unsigned_abs-mul}
+use Rattle.std.proofs.lemmas.Int.{ints, unsigned_abs-mul, to_z-of_z, fits_signed_from_abs}
 use mathlib.Core.Logic.{⊎_elim}
+use mir.Syntax.{w128}
+use mir.Val.{to_z, of_z}
 use Rattle.mesh_plane.specs.Bounds.{IsWithin, IsSmall}
 use Rattle.mesh_plane.specs.Plane.{Point, minus, dot, opposite, length_sq}
 use Rattle.mesh_plane.proofs.Whole.{linear}
@@ -61,6 +63,10 @@ difference_size a b m n h k = omega (arith, ints)
 
 pub product_size : (a b : ℤ) (m n : ℕ) → unsigned_abs a ≤ m → unsigned_abs b ≤ n → unsigned_abs (a *ℤ b) ≤ m * n
 product_size a b m n h k = omega (arith, unsigned_abs-mul a b, mul-le-mul h k)
+
+-- a number of at most 127 bits, without its sign, is the same after it was passed on in 128 bits
+pub size_kept : (z : ℤ) → unsigned_abs z < 2 ^ 127 → to_z w128 (of_z w128 z) ≡ z
+size_kept z h = to_z-of_z w128 z (fits_signed_from_abs w128 z h)
 
 -- ---- the squared length of a vector
 

@@ -16,7 +16,8 @@ CrossingsAddAlongLines = (m : ℕ) (q : Point) → IsStraight (crossing_on m q)
 
 -- a triangle with its corners on one line winds round no point
 abbrev pub FlatTrianglesDoNotWind : Type 0
-FlatTrianglesDoNotWind = (m : ℕ) (q p r s : Point) → turn p r s ≡ pos 0 → winding m q (boundary (p ∷ r ∷ s ∷ [])) ≡ pos 0
+FlatTrianglesDoNotWind =
+    (m : ℕ) (q p r s : Point) → turn p r s ≡ pos 0 → winding m q (boundary (p ∷ r ∷ s ∷ [])) ≡ pos 0
 
 -- a triangle that does not turn right winds once round a point or not at all
 abbrev pub TrianglesWindOnce : Type 0
@@ -25,7 +26,8 @@ TrianglesWindOnce = (m : ℕ) (q p r s : Point) → pos 0 ≤ℤ turn p r s → 
 -- so does a parallelogram, given by its corners in order
 abbrev pub ParallelogramsWindOnce : Type 0
 ParallelogramsWindOnce =
-    (m : ℕ) (q a b c d : Point) → plus a c ≡ plus b d → pos 0 ≤ℤ turn a b d → IsBit (winding m q (boundary (a ∷ b ∷ c ∷ d ∷ [])))
+    (m : ℕ) (q a b c d : Point) → plus a c ≡ plus b d → pos 0 ≤ℤ turn a b d
+    → IsBit (winding m q (boundary (a ∷ b ∷ c ∷ d ∷ [])))
 
 -- the edges of a closed list of points start where they end
 abbrev pub ClosedListsBalance : Type 0
@@ -33,7 +35,8 @@ ClosedListsBalance = (points : List Point) → IsBalanced (boundary points)
 
 -- the steps of any measure round a closed list cancel
 abbrev pub ClosedListsTelescope : Type 0
-ClosedListsTelescope = (f : Point → ℤ) (points : List Point) → sum_of (λ (e : Edge). f e.1 -ℤ f e.0) (boundary points) ≡ pos 0
+ClosedListsTelescope =
+    (f : Point → ℤ) (points : List Point) → sum_of (λ (e : Edge). f e.1 -ℤ f e.0) (boundary points) ≡ pos 0
 
 -- the square of a length is the vector's product with itself
 abbrev pub LengthsAreProducts : Type 0

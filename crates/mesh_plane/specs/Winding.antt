@@ -38,6 +38,11 @@ crossing_on m q p r = crossing q (refined m p) (refined m r)
 abbrev pub winding : ℕ → Point → List Edge → ℤ
 winding m q es = total (crossing_on m q) es
 
+-- the neighbouring pairs of the list that starts at `a` and goes on with the others
+abbrev pub pairs_from : {A : Type 0} → A → List A → List (A × A)
+pairs_from a [] = []
+pairs_from a (x ∷ xs) = (a, x) ∷ pairs_from x xs
+
 -- the neighbouring pairs of the list that starts at `a`, goes through the middle ones and ends at `z`
 abbrev pub route : {A : Type 0} → A → List A → A → List (A × A)
 route a [] z = (a, z) ∷ []
@@ -67,7 +72,8 @@ same_point p q = int_eq p.0 q.0 && int_eq p.1 q.1
 
 -- each point is the start of as many edges as it is the end
 abbrev pub IsBalanced : List Edge → Type 0
-IsBalanced es = (p : Point) → count_by (λ (e : Edge). same_point p e.0) es ≡ count_by (λ (e : Edge). same_point p e.1) es
+IsBalanced es =
+    (p : Point) → count_by (λ (e : Edge). same_point p e.0) es ≡ count_by (λ (e : Edge). same_point p e.1) es
 
 -- 0 or 1
 abbrev pub IsBit : ℤ → Type 0

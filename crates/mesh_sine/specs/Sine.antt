@@ -26,7 +26,10 @@ half_cosine c = root (one * (one + c) / 2)
 
 -- the pair of half the angle with this pair: the sine is at most what the cosine leaves
 unfoldable pub half_pair : ℕ × ℕ → ℕ × ℕ
-half_pair a = (half_cosine a.0, min (a.1 * one / (2 * half_cosine a.0)) (root (one * one - half_cosine a.0 * half_cosine a.0)))
+half_pair a = (
+  half_cosine a.0,
+  min (a.1 * one / (2 * half_cosine a.0)) (root (one * one - half_cosine a.0 * half_cosine a.0)),
+)
 
 -- the pair of a quarter turn halved `k` times, that is of 2 ^ (30 - k) bits
 unfoldable pub halved : ℕ → ℕ × ℕ
@@ -55,4 +58,5 @@ low_pair low = with_bits low 30 (one, 0)
 
 -- the sine and the cosine of an angle, times 2 ^ 30
 abbrev pub sin_cos : ℕ → Point
-sin_cos bits = in_quarter (bits / 2 ^ 30) ((low_pair (bits % 2 ^ 30)).0 / 2 ^ 30) ((low_pair (bits % 2 ^ 30)).1 / 2 ^ 30)
+sin_cos bits =
+    in_quarter (bits / 2 ^ 30) ((low_pair (bits % 2 ^ 30)).0 / 2 ^ 30) ((low_pair (bits % 2 ^ 30)).1 / 2 ^ 30)

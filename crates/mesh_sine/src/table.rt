@@ -1,8 +1,8 @@
 //! Cosines and sines of a quarter turn halved again and again.
 
 ghost use Rattle.std.specs.Prelude.{◌≡◌, ◌+◌, ◌-◌, ◌<◌, length, IsTrue};
+ghost use Rattle.mesh_sine.specs.Midway.{are_halves};
 ghost use Rattle.mesh_sine.specs.Sine.{one, halved};
-ghost use Rattle.mesh_sine.specs.Table.{are_halves};
 
 // Cosine and sine, times 2^60, of a quarter turn halved once, twice, up to 30 times.
 const HALVED: [(u64, u64); 30] = [

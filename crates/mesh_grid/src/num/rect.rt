@@ -3,7 +3,8 @@
 ghost use Rattle.std.specs.Prelude.{◌≡◌, ◌↔◌, ℤ, List, [], map, IsTrue, MatchOption};
 ghost use Rattle.std.specs.Iterator.{Drains, IsFinite};
 ghost use Rattle.mesh_plane.specs.Bounds.{IsSmall};
-ghost use Rattle.mesh_grid.specs.Rectangle.{IsBounds, IsSafeRectangle, extended, grown};
+ghost use Rattle.mesh_grid.specs.Midway.{extended, grown};
+ghost use Rattle.mesh_grid.specs.Rectangle.{IsBounds, IsSafeRectangle};
 
 use crate::num::convert::{greater, lesser, unit, widen};
 use crate::num::number::IntNumber;

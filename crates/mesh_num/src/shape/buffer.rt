@@ -1,7 +1,8 @@
 //! Contours in one list of points.
 
 ghost use Rattle.std.specs.Prelude.{◌≡◌, [], ◌∷◌, OnOk, OnErr, IfOk};
-ghost use Rattle.mesh_num.specs.FlatContours.{HoldsContours, AddsContours};
+ghost use Rattle.mesh_num.specs.FlatContours.{HoldsContours};
+ghost use Rattle.mesh_num.specs.Midway.{AddsContours};
 ghost use Rattle.mesh_num.specs.Paths.{paths_of, shapes_of, contours_of};
 
 use mesh_grid::num::number::IntNumber;

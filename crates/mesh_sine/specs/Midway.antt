@@ -1,4 +1,5 @@
--- A list of pairs that holds a quarter turn's halves, tested by squares and quotients.
+-- A list of pairs that holds a quarter turn's halves, tested by squares and quotients: only private contracts read
+-- this.
 use Rattle.std.specs.Prelude.{ℕ, List, [], ◌∷◌, ◌+◌, ◌-◌, ◌*◌, ◌/◌, Bool, true, leb, ltb, eqb, ◌&&◌}
 use Rattle.mesh_sine.specs.Sine.{one}
 
