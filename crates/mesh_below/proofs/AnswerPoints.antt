@@ -84,10 +84,10 @@ module _ (P : Point → Type 0) where
   answered_points true r h = reversed_points r.0 h
   answered_points false r h = h
 
-  shape_points : (cw : Bool) (rs : List Ring) → All OfRing rs → All (All P) (map (answered cw) rs)
-  shape_points cw [] h = All-nil (All P)
-  shape_points cw (r ∷ rs) h =
-      All-cons (All P) (answered cw r) (map (answered cw) rs) (answered_points cw r (All-head OfRing r rs h)) (shape_points cw rs (All-tail OfRing r rs h))
+  answered_all : (cw : Bool) (rs : List Ring) → All OfRing rs → All (All P) (map (answered cw) rs)
+  answered_all cw [] h = All-nil (All P)
+  answered_all cw (r ∷ rs) h =
+      All-cons (All P) (answered cw r) (map (answered cw) rs) (answered_points cw r (All-head OfRing r rs h)) (answered_all cw rs (All-tail OfRing r rs h))
 
   of_placed : (hs : List Placed) → All OfPlaced hs → All OfRing (map (λ (r : Placed). r.1) hs)
   of_placed [] h = All-nil OfRing
@@ -102,7 +102,7 @@ module _ (P : Point → Type 0) where
   some_shapes cw rs [] all h = All-nil (All (All P))
   some_shapes cw rs (k ∷ hs) all h =
       All-cons (All (All P)) (map (answered cw) (shape_of rs k)) (map (map (answered cw)) (map (shape_of rs) hs))
-      (shape_points cw (shape_of rs k) (one_shape rs k all (All-head OfPlaced k hs h)))
+      (answered_all cw (shape_of rs k) (one_shape rs k all (All-head OfPlaced k hs h)))
       (some_shapes cw rs hs all (All-tail OfPlaced k hs h))
 
   arranged_points : (cw : Bool) (rs : List Ring) (answer : List (List (List Point))) → AreArranged cw rs answer → All OfRing rs → All (All (All P)) answer

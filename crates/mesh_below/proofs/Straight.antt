@@ -5,6 +5,7 @@ use Rattle.std.proofs.lemmas.Int.{ints, by_lt_z}
 use Rattle.mesh_plane.specs.Plane.{Point, cross, dot, minus, turn}
 use Rattle.mesh_plane.specs.Winding.{refined}
 use Rattle.mesh_plane.proofs.Whole.{linear, square_nonneg, mul_pos, mul_pos_neg, mul_nonpos_nonneg, mul_nonpos, mul_neg, add_mul, nonneg_of_mul, nonpos_of_mul, pos_of_mul, neg_of_mul, both_le, factor, times_zero, square_zero}
+use Rattle.mesh_plane.proofs.Identities.{lagrange}
 use Rattle.mesh_plane.proofs.Ring.{ring, var, lit, ◌⊕◌, ◌⊖◌, ◌⊗◌}
 use Rattle.mesh_cuts.specs.Clean.{IsOn, refined_edge}
 use Rattle.mesh_cuts.specs.Split.{IsBetween, IsInside, is_end}
@@ -38,13 +39,6 @@ second_share v w =
     (((var 0 ⊗ var 0) ⊕ (var 1 ⊗ var 1)) ⊗ var 3)
     ((((var 0 ⊗ var 2) ⊕ (var 1 ⊗ var 3)) ⊗ var 1) ⊕ (((var 0 ⊗ var 3) ⊖ (var 1 ⊗ var 2)) ⊗ var 0)) refl
 
-both_sizes : (v w : Point) → dot v v *ℤ dot w w ≡ (dot v w *ℤ dot v w) +ℤ (cross v w *ℤ cross v w)
-both_sizes v w =
-    ring (v.0 ∷ v.1 ∷ w.0 ∷ w.1 ∷ [])
-    (((var 0 ⊗ var 0) ⊕ (var 1 ⊗ var 1)) ⊗ ((var 2 ⊗ var 2) ⊕ (var 3 ⊗ var 3)))
-    ((((var 0 ⊗ var 2) ⊕ (var 1 ⊗ var 3)) ⊗ ((var 0 ⊗ var 2) ⊕ (var 1 ⊗ var 3)))
-    ⊕ (((var 0 ⊗ var 3) ⊖ (var 1 ⊗ var 2)) ⊗ ((var 0 ⊗ var 3) ⊖ (var 1 ⊗ var 2)))) refl
-
 -- a vector that looks as another does has a length
 has_length : (v w : Point) → LookAlike v w → pos 0 <ℤ dot v v
 has_length v w l =
@@ -52,7 +46,7 @@ has_length v w l =
     (λ (h : dot v v ≤ℤ pos 0).
     absurd (
     let none = mul_nonpos_nonneg (dot v v) (dot w w) h (omega (arith, linear, square_nonneg w.0, square_nonneg w.1)) in
-    omega (arith, linear, none, both_sizes v w, mul_pos (dot v w) (dot v w) l.ahead l.ahead, square_nonneg (cross v w))
+    omega (arith, linear, none, lagrange v w, mul_pos (dot v w) (dot v w) l.ahead l.ahead, square_nonneg (cross v w))
     ))
 
 -- numbers with one sign
@@ -441,7 +435,7 @@ straight_alike p x n h differ further = record { flat = flat; ahead = ahead }
         let none : dot v w ≡ pos 0 = omega (arith, linear, dotted, e, k) in
         let first = times_zero (dot v w) (dot v w) none in
         let second = times_zero (cross v w) (cross v w) flat in
-        omega (arith, linear, both_sizes v w, first, second, sizes)
+        omega (arith, linear, lagrange v w, first, second, sizes)
         ))
 
 -- one after another

@@ -1,5 +1,5 @@
--- What the overlay answers.
-use Rattle.std.specs.Prelude.{ℕ, ◌≡◌, Bool, true, List, ℤ}
+-- What may be known of an answer.
+use Rattle.std.specs.Prelude.{List}
 use Rattle.std.specs.List.{flat_map}
 use Rattle.mesh_num.specs.Paths.{contours_of}
 use Rattle.mesh_plane.specs.Plane.{Point, Edge}
@@ -7,11 +7,9 @@ use Rattle.mesh_plane.specs.Winding.{boundary}
 use Rattle.mesh_cuts.specs.Boundary.{IsBoundary}
 use Rattle.mesh_cuts.specs.Clean.{IsProper}
 use Rattle.mesh_cuts.specs.FillRules.{filled}
-use Rattle.mesh_cuts.specs.Reach.{ArePointsSafe}
 use Rattle.mesh_cuts.specs.declared.fill.FillRule.TheVariants.{Positive}
 use Rattle.mesh_sides.specs.Laws.{AreSplit}
 use Rattle.mesh_shapes.specs.Resolution.{Choices, IsResolution}
-use Rattle.mesh_below.specs.Laws.{AreRegions}
 
 -- an answer is settled where it is a resolution of its own edges too, by the fill rule `Positive` and with the same
 -- options, and none of them ends where it starts
@@ -24,13 +22,3 @@ pub record IsSettled (options : Choices) (answer : List (List (List Point))) : T
 pub record AreOwnBoundary (es : List Edge) : Type 0 where
   pub split : AreSplit es
   pub bounded : IsBoundary es (filled Positive) es
-
--- an answer is a resolution of the edges, made of regions of what is filled, in the safe range; where `settled` is
--- true, it is settled, and where `own` is true, its edges are their own boundary
-pub record IsOverlayAnswer (unit : ℕ) (edges : List Edge) (fill : ℤ → Bool) (options : Choices)
-    (answer : List (List (List Point))) (settled own : Bool) : Type 0 where
-  pub resolution : IsResolution edges fill options answer
-  pub regions : AreRegions edges fill options answer
-  pub safe : ArePointsSafe unit answer
-  pub is_settled : settled ≡ true → IsSettled options answer
-  pub own_boundary : own ≡ true → AreOwnBoundary (flat_map boundary (contours_of answer))

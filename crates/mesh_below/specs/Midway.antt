@@ -1,2 +1,3 @@
--- States of the program's loops, which private contracts alone read.
+-- States of the program's loops, and what the overlay answers in one fact, which private contracts alone read.
+pub mod OverlayAnswers
 pub mod Rings

@@ -16,7 +16,8 @@ ghost use Rattle.mesh_boundary.specs.Midway.Slants.{IsSlant, listed_winding, lis
 use mesh_cuts::exact::{Vector, cross, minus};
 use mesh_cuts::fine::{FinePoint, crossing, doubled, middle};
 use mesh_cuts::grid::{CountedSegment, GridEdge, GridPoint};
-use mesh_rows::rows::{Rows, mean_reached, sample_step};
+use mesh_cuts::samples::sample;
+use mesh_rows::rows::{Rows, SAMPLED, mean_reached};
 use std::alloc::{AllocError, Global};
 use std::marker::Model;
 
@@ -209,26 +210,23 @@ impl SlantedRows {
 }
 
 /// The longest of some of the segments.
-fn longest(segments: &[CountedSegment]) -> Option<GridEdge> {
-    let step = sample_step(segments.len());
+fn longest(alloc: Global, segments: &[CountedSegment]) -> Result<Option<GridEdge>, AllocError> {
     let mut found: Option<GridEdge> = None;
     let mut length: u128 = 0;
-    for (i, s) in segments.iter().enumerate() {
-        if i % step == 0 {
-            let v = minus(s.0.1, s.0.0);
-            let here = v.0.unsigned_abs().saturating_add(v.1.unsigned_abs());
-            if here > length {
-                length = here;
-                found = Some(s.0);
-            }
+    for s in &sample(alloc, segments, SAMPLED)? {
+        let v = minus(s.0.1, s.0.0);
+        let here = v.0.unsigned_abs().saturating_add(v.1.unsigned_abs());
+        if here > length {
+            length = here;
+            found = Some(s.0);
         }
     }
-    found
+    Ok(found)
 }
 
-/// The direction of the longest of some of the segments, and levels in which all of them lie.
-fn slant_of(segments: &[CountedSegment]) -> Option<Slant> {
-    let (start, end) = longest(segments)?;
+/// The direction along an edge, and levels in which all segments lie.
+fn slant_along(segments: &[CountedSegment], e: GridEdge) -> Option<Slant> {
+    let (start, end) = e;
     let direction = if end.1 < start.1 {
         minus(start, end)
     } else {
@@ -255,7 +253,10 @@ pub fn slanted_rows(
 ) -> Result<Option<SlantedRows>, AllocError>
     ensures { IfOk result (λ o. IfSome o (λ r. AreSlantedRows r.slant r.rows segments.now)) }
 {
-    let Some(slant) = slant_of(segments) else {
+    let Some(long) = longest(alloc, segments)? else {
+        return Ok(None);
+    };
+    let Some(slant) = slant_along(segments, long) else {
         return Ok(None);
     };
     let listed = slant.leveled_all(alloc, segments)?;

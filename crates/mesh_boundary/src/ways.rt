@@ -17,7 +17,8 @@ use crate::stars::{Stars, rises};
 use crate::winding::winding;
 use mesh_cuts::fine::middle;
 use mesh_cuts::grid::CountedSegment;
-use mesh_rows::rows::{Rows, mean_reached, sample_step};
+use mesh_cuts::samples::sample;
+use mesh_rows::rows::{Rows, SAMPLED, mean_reached};
 use std::alloc::{AllocError, Global};
 
 /// For so few segments rows serve, however long they are.
@@ -60,19 +61,15 @@ fn sides_of(segments: &[CountedSegment], s: CountedSegment) -> Sides
 }
 
 /// How many segments the stars have at which some of the segments start, on average.
-fn mean_star(segments: &[CountedSegment], stars: &Stars) -> usize
-    requires stars { AreStars stars.now.lists.items stars.now.ends.items segments.now }
-{
-    let step = sample_step(segments.len());
-    let mut count: usize = 0;
+fn mean_star(alloc: Global, stars: &Stars) -> Result<usize, AllocError> {
+    let some = sample(alloc, &stars.ends, SAMPLED)?;
     let mut sum: usize = 0;
-    for i in 0..segments.len() {
-        if i % step == 0 {
-            count = count.saturating_add(1);
-            sum = sum.saturating_add(stars.star(stars.ends[i].0).len());
+    for ends in &some {
+        if let Some(star) = stars.lists.get(ends.0) {
+            sum = sum.saturating_add(star.len());
         }
     }
-    sum / count.max(1)
+    Ok(sum / some.len().max(1))
 }
 
 /// The sides of the segment at a place, by a sum over a row.
@@ -142,7 +139,7 @@ impl Way {
             }
         }
         let stars = Stars::new(alloc, segments)?;
-        if mean_star(segments, &stars) > reached.all {
+        if mean_star(alloc, &stars)? > reached.all {
             return Ok(Way::East(Rows::new(alloc, segments)?));
         }
         Way::by_ends(alloc, segments, stars)

@@ -16,5 +16,7 @@ pub record AreRising (ms : List Mark) : Type 0 where
 -- an element was added at the end of each list from `first` on and below `end`, and of no other
 pub record IsPutTo {A : Type 0} (old new : List (Vec A Global)) (first end : ℕ) (x : A) : Type 0 where
   pub len : length new ≡ length old
-  pub inside : (i : ℕ) (d : Vec A Global) → first ≤ i → i < end → i < length old → (slice_index_or new i d).items ≡ (slice_index_or old i d).items ++ x ∷ []
-  pub outside : (i : ℕ) (d : Vec A Global) → (i < first) ⊎ (end ≤ i) → (slice_index_or new i d).items ≡ (slice_index_or old i d).items
+  pub inside : (i : ℕ) (d : Vec A Global) → first ≤ i → i < end → i < length old
+      → (slice_index_or new i d).items ≡ (slice_index_or old i d).items ++ x ∷ []
+  pub outside : (i : ℕ) (d : Vec A Global) → (i < first) ⊎ (end ≤ i)
+      → (slice_index_or new i d).items ≡ (slice_index_or old i d).items

@@ -1,6 +1,6 @@
 -- Lemmas over points and lists: edges listed by the rows that they reach.
-use Rattle.std.proofs.Common.{◌≡◌, ℕ, ◌+◌, ◌<◌, ◌≤◌, ◌⊎◌, inl, inr, Bool, true, false, cond, ◌&&◌, List, [], ◌∷◌, ◌++◌, length, take, get_or, add-one, refl, sym, ◌∙◌, ap, arith}
-use Rattle.std.specs.Prelude.{ℤ, pos, negsuc, ◌*ℤ◌, ◌<ℤ◌, int_le, int_lt, nat_le, Vec}
+use Rattle.std.proofs.Common.{◌≡◌, ℕ, ◌+◌, ◌<◌, ◌≤◌, ◌⊎◌, inl, inr, Bool, true, false, cond, ◌&&◌, List, [], ◌∷◌, ◌++◌, length, take, get_or, add-one, sym, ◌∙◌, ap, arith}
+use Rattle.std.specs.Prelude.{ℤ, pos, ◌*ℤ◌, ◌<ℤ◌, nat_le, Vec}
 use Rattle.std.specs.declared.alloc.Global.{Global}
 use Rattle.std.specs.List.{filter}
 use Rattle.std.proofs.lemmas.Bool.Decides.{nat_tests}
@@ -9,26 +9,13 @@ use Rattle.std.proofs.lemmas.List.{append-nil}
 use Rattle.std.proofs.lemmas.List.Elements.{filter-append}
 use Rattle.std.proofs.Math.Seq.{take-suc}
 use Rattle.mesh_plane.specs.Plane.{Point, Edge, turn}
-use Rattle.mesh_plane.specs.Winding.{sum_of, crossing_of, crossing_on, refined}
-use Rattle.mesh_plane.proofs.Comparing.{not_less_test}
+use Rattle.mesh_plane.specs.Winding.{sum_of, crossing_on, refined}
 use Rattle.mesh_plane.proofs.Sums.{sum_of_filter}
-use Rattle.mesh_plane.proofs.Crossings.{crossing_high}
+use Rattle.mesh_plane.proofs.Crossings.{crossing_high, crossing_low}
 use Rattle.mesh_cuts.specs.declared.places.Mark.{Mark}
 use Rattle.mesh_cuts.specs.Marks.{place, AreRising, IsPutTo}
 use Rattle.mesh_cuts.proofs.PlacesAmong.{place_most, lesser_place}
 use Rattle.mesh_rows.specs.Rows.{first_row, last_row, reaches_row, AreRows}
-
-below_none : (a b h t : ℤ) → a <ℤ h → b <ℤ h → crossing_of a b h t ≡ pos 0
-below_none a b h t p q = by (int_le a h) (int_le b h) (int_lt h b) (int_lt h a) (not_less_test h b (omega (arith, ints))) (not_less_test h a (omega (arith, ints)))
-  where
-    by : (u v w x : Bool) → w ≡ false → x ≡ false → cond (u && w) (cond (int_lt (pos 0) t) (pos 1) (pos 0)) (cond (v && x) (cond (int_lt t (pos 0)) (negsuc 0) (pos 0)) (pos 0)) ≡ pos 0
-    by u v w x p q = rw (p, q) (both u v)
-      where
-        both : (u v : Bool) → cond (u && false) (cond (int_lt (pos 0) t) (pos 1) (pos 0)) (cond (v && false) (cond (int_lt t (pos 0)) (negsuc 0) (pos 0)) (pos 0)) ≡ pos 0
-        both true true = refl
-        both true false = refl
-        both false true = refl
-        both false false = refl
 
 -- ---- which rows an edge reaches
 
@@ -58,7 +45,9 @@ off_row ms q e h = by (off_height ms q.1 e h)
   where
     by : ((q.1 <ℤ (pos 2 *ℤ e.0.0.1)) × (q.1 <ℤ (pos 2 *ℤ e.0.1.1))) ⊎ (((pos 2 *ℤ e.0.0.1) <ℤ q.1) × ((pos 2 *ℤ e.0.1.1) <ℤ q.1)) → crossing_on 2 q e.0.0 e.0.1 ≡ pos 0
     by (inl k) = crossing_high (pos 2 *ℤ e.0.0.1) (pos 2 *ℤ e.0.1.1) q.1 (turn (refined 2 e.0.0) (refined 2 e.0.1) q) k.0 k.1
-    by (inr k) = below_none (pos 2 *ℤ e.0.0.1) (pos 2 *ℤ e.0.1.1) q.1 (turn (refined 2 e.0.0) (refined 2 e.0.1) q) k.0 k.1
+    by (inr k) =
+        crossing_low (pos 2 *ℤ e.0.0.1) (pos 2 *ℤ e.0.1.1) q.1 (turn (refined 2 e.0.0) (refined 2 e.0.1) q)
+        (omega (arith, ints, k.0)) (omega (arith, ints, k.1))
 
 -- ---- listing
 

@@ -24,7 +24,7 @@ const ENDS: usize = 16384;
 const MEASURED: usize = 2048;
 
 /// About how many edges are in a small sample.
-const SAMPLED: usize = 512;
+pub const SAMPLED: usize = 512;
 
 /// Lists of edges, one for each row between marks at heights on the fine grid. An edge may stand in several of them.
 #[derive(Drop)]
@@ -42,18 +42,6 @@ fn height(p: GridPoint) -> Mark
     Mark {
         at: doubled(p).height(),
     }
-}
-
-/// The step in which to go through so many edges, to meet some hundred of them, or all where they are few. It has no
-/// divisor 2 or 3, since contours often go on in the same two, three, four or eight edges.
-pub fn sample_step(count: usize) -> usize
-    ensures { 0 < result }
-{
-    let step = count / SAMPLED;
-    if step < 2 {
-        return 1;
-    }
-    step / 6 * 6 + 5
 }
 
 /// The heights at which edges start, in order. Where edges close up, they tell of ends too.

@@ -19,7 +19,7 @@ ring_of_vec r = (r.0.items, r.1)
 abbrev pub rings_of_vecs : List RingVec → List Ring
 rings_of_vecs rs = map ring_of_vec rs
 
--- the contours of a shape, and of shapes, as lists of points
+-- the points of the contours of a shape
 abbrev pub shape_points : List (Vec Point Global) → List (List Point)
 shape_points shape = map (λ (c : Vec Point Global). c.items) shape
 

@@ -28,9 +28,12 @@ SidesFollowFromEnds =
 
 -- round its start each segment has a neighbour, the next segment counterclockwise
 abbrev pub SegmentsHaveNeighbours : Type 0
-SegmentsHaveNeighbours = (es : List Edge) → AreSplit es → (s : Edge) → occurs s es ≡ true → (t : Edge) × AreNeighbours es s t
+SegmentsHaveNeighbours =
+    (es : List Edge) → AreSplit es → (s : Edge) → occurs s es ≡ true → (t : Edge) × AreNeighbours es s t
 
 -- where two segments at a vertex neighbour in angle, the sides that face each other have one winding: the left of the
 -- first and the right of the second, counterclockwise
 abbrev pub FacingSidesAgree : Type 0
-FacingSidesAgree = (es : List Edge) → AreSplit es → (s t : Edge) → AreNeighbours es s t → left_winding es s ≡ right_winding es t
+FacingSidesAgree =
+    (es : List Edge) → AreSplit es → (s t : Edge) → AreNeighbours es s t
+    → left_winding es s ≡ right_winding es t

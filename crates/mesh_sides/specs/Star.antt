@@ -30,7 +30,8 @@ IsToLeft e f = pos 0 <ℤ turn e.0 e.1 f.1
 -- three edges that leave one point follow each other counterclockwise: of the turns from the first to the second, on to
 -- the third and back to the first, two at least are to the left
 abbrev pub AreCounterclockwise : Edge → Edge → Edge → Type 0
-AreCounterclockwise e f g = (IsToLeft e f × IsToLeft f g) ⊎ ((IsToLeft f g × IsToLeft g e) ⊎ (IsToLeft g e × IsToLeft e f))
+AreCounterclockwise e f g =
+    (IsToLeft e f × IsToLeft f g) ⊎ ((IsToLeft f g × IsToLeft g e) ⊎ (IsToLeft g e × IsToLeft e f))
 
 -- two segments leave one point and no other leaves it between them, counterclockwise from the first to the second:
 -- each other one comes after the second and before the first again; where there is no other, the two may be one

@@ -230,16 +230,10 @@ fn halved(v: (i64, i64)) -> Across {
 
 /// The vector across the edge at a place among those that are at least so long, halved until it fits.
 fn across_at(edges: &[GridEdge], least: u64, place: usize) -> Across {
-    let mut before: usize = 0;
-    for e in edges {
-        if length_of(*e) >= least {
-            if before == place {
-                return halved(left_of(*e));
-            }
-            before = before.saturating_add(1);
-        }
+    match edges.iter().filter(|e| length_of(**e) >= least).nth(place) {
+        Some(e) => halved(left_of(*e)),
+        None => (0, 0),
     }
-    (0, 0)
 }
 
 /// Vectors across which a cut is tried: along the axes, across the longest edge, and across three others that are half

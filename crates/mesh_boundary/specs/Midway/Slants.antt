@@ -1,6 +1,6 @@
 -- Rows along a slanted direction. Points are those of the grid 2, but for the ends of segments.
-use Rattle.std.specs.Prelude.{ℕ, ◌<◌, ◌<ℤ◌, ◌/◌, ◌-◌, ◌^◌, min, Bool, cond, ◌&&◌, ℤ, pos, ◌+ℤ◌, ◌-ℤ◌, ◌*ℤ◌, int_le, int_lt, unsigned_abs}
-use Rattle.std.specs.Prelude.{List, map}
+use Rattle.std.specs.Prelude.{ℕ, ◌<◌, ◌<ℤ◌, ◌/◌, ◌-◌, ◌^◌, min, Bool, cond, ◌&&◌, ℤ, pos, ◌+ℤ◌, ◌-ℤ◌, ◌*ℤ◌}
+use Rattle.std.specs.Prelude.{int_le, int_lt, unsigned_abs, List, map}
 use Rattle.mesh_plane.specs.Bounds.{IsSmall, IsSafe}
 use Rattle.mesh_plane.specs.Plane.{Point, Edge, cross}
 use Rattle.mesh_plane.specs.Winding.{sum_of, crossing_on, refined}

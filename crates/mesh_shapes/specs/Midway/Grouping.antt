@@ -63,7 +63,8 @@ all_shapes clockwise rs = map (map (answered clockwise)) (rings_by_shape (placed
 
 -- the contours of the shape that the ring at `h` heads, where these are the places of its other rings
 abbrev pub contours_at : List Ring → Bool → ℕ → List ℕ → List (List Point)
-contours_at rs clockwise h places = answered clockwise (ring_at rs h).1 ∷ map (λ (i : ℕ). answered clockwise (ring_at rs i).1) places
+contours_at rs clockwise h places =
+    answered clockwise (ring_at rs h).1 ∷ map (λ (i : ℕ). answered clockwise (ring_at rs i).1) places
 
 -- the places of the rings that head no shape and stand with the ring at `h`
 pub record AreMembers (rs : List Ring) (h : ℕ) (places : List ℕ) : Type 0 where
@@ -79,7 +80,8 @@ HaveMembers rings members =
 -- the place `i` was added to the list of its home, unless that is itself
 pub record IsPutHome (old new : List (Vec ℕ Global)) (i home : ℕ) : Type 0 where
   pub len : length new ≡ length old
-  pub put : (h : ℕ) (d : Vec ℕ Global) → h < length old → (slice_index_or new h d).items ≡ (slice_index_or old h d).items ++ cond (nat_eq home h && not (nat_eq i h)) (i ∷ []) []
+  pub put : (h : ℕ) (d : Vec ℕ Global) → h < length old
+      → (slice_index_or new h d).items ≡ (slice_index_or old h d).items ++ cond (nat_eq home h && not (nat_eq i h)) (i ∷ []) []
 
 -- ---- the points of rings move to shapes
 
@@ -98,8 +100,10 @@ pub record AreApart (homes : List ℕ) (h : ℕ) (places : List ℕ) : Type 0 wh
 
 -- for each ring there are places apart from one another, whose home it is
 abbrev pub HaveApart : List ℕ → List (Vec ℕ Global) → Type 0
-HaveApart homes members = (h : ℕ) (d : Vec ℕ Global) → h < length members → AreApart homes h (slice_index_or members h d).items
+HaveApart homes members =
+    (h : ℕ) (d : Vec ℕ Global) → h < length members → AreApart homes h (slice_index_or members h d).items
 
 -- the contours of the ring at `h` and of those at other places, where that ring is its own home
 abbrev pub homed : Bool → List Ring → List ℕ → ℕ → List ℕ → List (List (List Point))
-homed clockwise rs homes h places = cond (nat_eq (slice_index_or homes h 0) h) (contours_at rs clockwise h places ∷ []) []
+homed clockwise rs homes h places =
+    cond (nat_eq (slice_index_or homes h 0) h) (contours_at rs clockwise h places ∷ []) []

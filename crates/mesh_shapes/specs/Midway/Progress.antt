@@ -24,7 +24,8 @@ next_at all ps i = next_kept all (point_at ps i) (drop (i + 1) ps) (point_at ps 
 pub record IsBestVisit (all : Bool) (ps : List Point) (n best : ℕ) : Type 0 where
   pub within : best < length ps
   pub visit : point_at ps best ≡ point_at ps 0
-  pub least : (k : ℕ) → k < n → point_at ps k ≡ point_at ps 0 → point_lt (next_at all ps k) (next_at all ps best) ≡ false
+  pub least : (k : ℕ) → k < n → point_at ps k ≡ point_at ps 0
+      → point_lt (next_at all ps k) (next_at all ps best) ≡ false
 
 -- of the points before the place `n` none is less than that at `least`
 pub record IsLeastBefore (ps : List Point) (n least : ℕ) : Type 0 where

@@ -18,7 +18,8 @@ is_below cut c = int_lt (height cut.across c) cut.at
 
 -- whether an end of an edge lies on a side of a cut
 abbrev pub reaches : Cut → Edge → Bool → Bool
-reaches cut e below = cond below (is_below cut e.0 || is_below cut e.1) (not (is_below cut e.0) || not (is_below cut e.1))
+reaches cut e below =
+    cond below (is_below cut e.0 || is_below cut e.1) (not (is_below cut e.0) || not (is_below cut e.1))
 
 -- a cell of the plane, known by whether it lies below each cut
 abbrev pub Cell : Type 0

@@ -90,8 +90,10 @@ at_least_once b z = cond b (cond (int_lt (pos 0) z) z (pos 1)) z
 
 -- a segment was put in, or its count was added to the waiting or the live segment with its ends
 pub record Puts (todo live todo' live' : List Counted) (k : Counted) : Type 0 where
-  pub counts : (q : Edge) → counted_net q todo' +ℤ counted_net q live' ≡ (counted_net q todo +ℤ counted_net q live) +ℤ (k.1 *ℤ along q k.0)
-  pub once : (q : Edge) → times q todo' +ℤ times q live' ≡ at_least_once (same_ends q k.0) (times q todo +ℤ times q live)
+  pub counts : (q : Edge) → counted_net q todo' +ℤ counted_net q live'
+      ≡ (counted_net q todo +ℤ counted_net q live) +ℤ (k.1 *ℤ along q k.0)
+  pub once : (q : Edge) → times q todo' +ℤ times q live'
+      ≡ at_least_once (same_ends q k.0) (times q todo +ℤ times q live)
   pub work_grows : work todo' live' ≤ℤ (work todo live +ℤ waiting_work k)
   pub weight_grows : total_weight todo' live' ≤ℤ (total_weight todo live +ℤ weight k)
   pub live_ends : (q : Edge) → exactly q live' ≡ exactly q live
@@ -117,7 +119,8 @@ pub record IsReachedBySplits (given : List Edge) (todo live held : List Counted)
 -- a segment in hand was made live or split: the state stays one that legal splits lead to, live segments stay
 -- clear of each other, and less work is left
 pub record Settles (todo live todo' live' : List Counted) (k : Counted) : Type 0 where
-  pub reached : (given : List Edge) → IsReachedBySplits given todo live (k ∷ []) → IsReachedBySplits given todo' live' []
+  pub reached : (given : List Edge) → IsReachedBySplits given todo live (k ∷ [])
+      → IsReachedBySplits given todo' live' []
   pub clear : AllClear live → AllClear live'
   pub work_falls : work todo' live' <ℤ (work todo live +ℤ waiting_work k)
   pub weight_stays : total_weight todo' live' ≤ℤ (total_weight todo live +ℤ weight k)
