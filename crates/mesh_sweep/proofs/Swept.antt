@@ -7,9 +7,7 @@ use Rattle.mesh_plane.specs.Bounds.{IsSafe}
 use Rattle.mesh_plane.specs.Plane.{Point, minus, length_sq}
 use Rattle.mesh_plane.specs.Winding.{same_point}
 use Rattle.mesh_plane.proofs.Comparing.{decides_point}
-use Rattle.mesh_plane.proofs.Sizes.{lt_of_squares}
-use Rattle.mesh_sine.specs.Sine.{root}
-use Rattle.mesh_sine.proofs.Roots.{root_is, root_by}
+use Rattle.mesh_sine.proofs.Roots.{root_by}
 use Rattle.mesh_grid.specs.Rectangle.{IsSafeWidened}
 use Rattle.mesh_grid.proofs.Moving.{safe_difference, stays_safe}
 use Rattle.mesh_arc.specs.Arcs.{arc, clamped}
@@ -26,15 +24,6 @@ pub distance_by : (p q : Point) (r : ℕ) → r * r ≤ length_sq (minus q p) �
     → distance p q ≡ r
 unfolding distance
 distance_by p q r h l = root_by (length_sq (minus q p)) r h l
-
--- the cut distance of a point that is less far away than the next whole number
-pub distance_most : (p q : Point) (r : ℕ) → length_sq (minus q p) < (r + 1) * (r + 1) → distance p q ≤ r
-unfolding distance
-distance_most p q r h =
-    let d = root_is (length_sq (minus q p)) in
-    let l : root (length_sq (minus q p)) < r + 1 =
-    lt_of_squares (root (length_sq (minus q p))) (r + 1) (omega (arith, d.within, h)) in
-    omega arith
 
 -- ---- what is safe
 

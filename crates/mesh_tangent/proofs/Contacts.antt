@@ -12,7 +12,6 @@ use Rattle.mesh_plane.proofs.Whole.{linear, multiplied}
 use Rattle.mesh_plane.proofs.Rounding.{rounded_within, rounded_not_above}
 use Rattle.mesh_sine.specs.Sine.{root}
 use Rattle.mesh_sine.proofs.Roots.{root_is}
-use Rattle.mesh_tangent.specs.Midway.Normals.{IsBounded}
 use Rattle.mesh_tangent.specs.Tangents.{lift, tangent_length, left_normal, right_normal, normal_length, at_radius}
 use Rattle.mesh_tangent.specs.Tangents.{IsWithinRadius}
 
@@ -108,7 +107,7 @@ right_normal_most unit v delta h =
 
 -- a normal that is no longer than `length`, made as long as a radius
 module _ (length : ℕ) (some : 0 < length) (r : ℕ) (n : Point) (most : length_sq n ≤ length * length) where
-  pub offset_x_most : unsigned_abs (at_radius length (pos r) n).0 ≤ r
+  offset_x_most : unsigned_abs (at_radius length (pos r) n).0 ≤ r
   offset_x_most =
       rounded_within (pos r *ℤ n.0) length r some
       (omega (
@@ -118,7 +117,7 @@ module _ (length : ℕ) (some : 0 < length) (r : ℕ) (n : Point) (most : length
             (le_of_squares (unsigned_abs n.0) length (omega (arith, most))),
       ))
 
-  pub offset_y_most : unsigned_abs (at_radius length (pos r) n).1 ≤ r
+  offset_y_most : unsigned_abs (at_radius length (pos r) n).1 ≤ r
   offset_y_most =
       rounded_within (pos r *ℤ n.1) length r some
       (omega (
@@ -129,7 +128,7 @@ module _ (length : ℕ) (some : 0 < length) (r : ℕ) (n : Point) (most : length
       ))
 
   -- so the distance from the center, cut to a whole number, is at most the radius
-  pub offset_within : length_sq (at_radius length (pos r) n) < (r + 1) * (r + 1)
+  offset_within : length_sq (at_radius length (pos r) n) < (r + 1) * (r + 1)
   offset_within =
       within_circle r _ _ (unsigned_abs n.0) (unsigned_abs n.1) length some most
       (omega (arith, rounded_not_above (pos r *ℤ n.0) length, unsigned_abs-mul (pos r) n.0))
@@ -137,16 +136,16 @@ module _ (length : ℕ) (some : 0 < length) (r : ℕ) (n : Point) (most : length
       offset_x_most offset_y_most
 
 -- so a normal as long as a radius lies by the circle
-pub at_radius_within : (length : ℕ) (r : ℤ) (n : Point) → pos 0 ≤ℤ r → IsBounded length n →
+pub at_radius_within : (length : ℕ) (r : ℤ) (n : Point) → pos 0 ≤ℤ r → 0 < length → length_sq n ≤ length * length →
     IsWithinRadius r (at_radius length r n)
-at_radius_within length (pos r) n h b =
-    let l : length_sq (at_radius length (pos r) n) < (r + 1) * (r + 1) = offset_within length b.some r n b.short in
+at_radius_within length (pos r) n sign some most =
+    let l : length_sq (at_radius length (pos r) n) < (r + 1) * (r + 1) = offset_within length some r n most in
     let k = (root_is (length_sq (at_radius length (pos r) n))).within in
     let s : root (length_sq (at_radius length (pos r) n)) < r + 1 = lt_of_squares _ (r + 1) (omega (arith, l, k)) in
     record {
-      x = offset_x_most length b.some r n b.short;
-      y = offset_y_most length b.some r n b.short;
+      x = offset_x_most length some r n most;
+      y = offset_y_most length some r n most;
       length = omega
           (arith, s);
     }
-at_radius_within length (negsuc r) n h b = absurd (omega (arith, ints))
+at_radius_within length (negsuc r) n sign some most = absurd (omega (arith, ints))

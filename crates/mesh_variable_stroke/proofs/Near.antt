@@ -1,7 +1,7 @@
 -- Lemmas over points and lists: how far a stroke of changing width reaches from its path.
-use Rattle.std.proofs.Common.{◌≡◌, ℕ, ◌+◌, ◌*◌, ◌<◌, ◌≤◌, ◌^◌, List, [], ◌∷◌, ◌++◌, Bool, true, false, not, refl}
+use Rattle.std.proofs.Common.{◌≡◌, ℕ, ◌*◌, ◌<◌, ◌≤◌, ◌^◌, List, [], ◌∷◌, ◌++◌, Bool, true, false, not, refl}
 use Rattle.std.proofs.Common.{sym, subst, arith}
-use Rattle.std.specs.Prelude.{ℤ, pos, negsuc, ◌≤ℤ◌, unsigned_abs, ◌||◌, ◌&&◌, int_le, if◌then◌else◌, Option, Some, None}
+use Rattle.std.specs.Prelude.{ℤ, pos, ◌≤ℤ◌, unsigned_abs, ◌||◌, ◌&&◌, int_le, if◌then◌else◌, Option, Some, None}
 use Rattle.std.specs.Int.{int_max}
 use Rattle.std.specs.List.{All, Contains, flat_map}
 use Rattle.std.specs.Option.{option_to_list}
@@ -25,16 +25,13 @@ use Rattle.mesh_draw.proofs.Walks.{pairs_all, last_all}
 use Rattle.mesh_tangent.specs.Sections.{Circle, Section, IsContact, HasContacts, is_nested, has_no_section}
 use Rattle.mesh_tangent.specs.Sections.{radius_difference, left_contact, right_contact, with_contacts, section_of}
 use Rattle.mesh_tangent.specs.Tangents.{lift, left_normal, right_normal, normal_length, left_offset, right_offset}
-use Rattle.mesh_tangent.specs.Tangents.{at_radius, IsWithinRadius}
 use Rattle.mesh_tangent.proofs.Circles.{contact_made}
-use Rattle.mesh_tangent.proofs.Contacts.{left_normal_most, right_normal_most, offset_x_most, offset_y_most}
-use Rattle.mesh_tangent.proofs.Contacts.{offset_within}
+use Rattle.mesh_tangent.proofs.Contacts.{left_normal_most, right_normal_most, at_radius_within}
 use Rattle.mesh_tangent.proofs.Lifts.{lift_some}
 use Rattle.mesh_sweep.specs.declared.sweep.Sweep.{Sweep}
 use Rattle.mesh_sweep.specs.declared.sweep.Sweep.TheVariants.{Minor, Major}
 use Rattle.mesh_sweep.specs.Sweeps.{distance, arc_edges, circle_edges}
 use Rattle.mesh_sweep.proofs.Nearness.{circle_within, arc_within}
-use Rattle.mesh_sweep.proofs.Swept.{distance_most}
 use Rattle.mesh_variable_stroke.specs.Chains.{circle_of, circles_of, Step, steps_from, is_break, is_cover}
 use Rattle.mesh_variable_stroke.specs.Chains.{end_after, Chain, Rest, broken, covered, continued, rest_of}
 use Rattle.mesh_variable_stroke.specs.Chains.{chains_of}
@@ -49,30 +46,6 @@ use Rattle.mesh_variable_stroke.specs.VariableStrokes.{variable_stroke_edges}
 use Rattle.mesh_variable_stroke.proofs.Safe.{radius_least}
 
 -- ---- the points of sections
-
--- the vector from the origin to a point is the point
-from_origin : (v : Point) → minus v (pos 0, pos 0) ≡ v
-from_origin v =
-    let x : (minus v (pos 0, pos 0)).0 ≡ v.0 = omega (arith, ints) in
-    let y : (minus v (pos 0, pos 0)).1 ≡ v.1 = omega (arith, ints) in
-    λ i. (x i, y i)
-
--- a normal that is no longer than `length`, made as long as a radius, lies by the circle
-at_radius_by : (length : ℕ) (r : ℤ) (n : Point) → pos 0 ≤ℤ r → 0 < length → length_sq n ≤ length * length →
-    IsWithinRadius r (at_radius length r n)
-unfolding distance
-at_radius_by length (pos r) n sign some short =
-    let v : Point = at_radius length (pos r) n in
-    let same : v ≡ minus v (pos 0, pos 0) = sym (from_origin v) in
-    let below : length_sq (minus v (pos 0, pos 0)) < (r + 1) * (r + 1) =
-    subst (λ (w : Point). length_sq w < (r + 1) * (r + 1)) same (offset_within length some r n short) in
-    let moved : IsWithinRadius (pos r) (minus v (pos 0, pos 0)) = record {
-      x = subst (λ (w : Point). unsigned_abs w.0 ≤ r) same (offset_x_most length some r n short);
-      y = subst (λ (w : Point). unsigned_abs w.1 ≤ r) same (offset_y_most length some r n short);
-      length = distance_most (pos 0, pos 0) v r below;
-    } in
-    subst (IsWithinRadius (pos r)) (from_origin v) moved
-at_radius_by length (negsuc r) n sign some short = absurd (omega (arith, ints))
 
 module _ (unit : ℕ) (a b : Circle) (apart : is_nested a b ≡ false) where
   abbrev between : Point
@@ -93,14 +66,14 @@ module _ (unit : ℕ) (a b : Circle) (apart : is_nested a b ≡ false) where
   unfolding left_contact
   left_by c sign =
       contact_made c (left_contact unit a b c) (left_offset unit between delta c.radius) refl
-      (at_radius_by (normal_length unit between) c.radius (left_normal unit between delta) sign normal_some
+      (at_radius_within (normal_length unit between) c.radius (left_normal unit between delta) sign normal_some
       (left_normal_most unit between delta (omega (arith, far))))
 
   right_by : (c : Circle) → pos 0 ≤ℤ c.radius → IsContact c (right_contact unit a b c)
   unfolding right_contact
   right_by c sign =
       contact_made c (right_contact unit a b c) (right_offset unit between delta c.radius) refl
-      (at_radius_by (normal_length unit between) c.radius (right_normal unit between delta) sign normal_some
+      (at_radius_within (normal_length unit between) c.radius (right_normal unit between delta) sign normal_some
       (right_normal_most unit between delta (omega (arith, far))))
 
   contacts_by : pos 0 ≤ℤ a.radius → pos 0 ≤ℤ b.radius → HasContacts (with_contacts unit a b)

@@ -36,5 +36,6 @@ returns-clause-within c =
     let f : c.rounded_product-2.result ≡ (at_radius c.args.length c.args.radius c.args.normal).1 =
     simp (r, l, to_z-of_z w128 c.args.normal.1 y) at c.rounded_product-2.ensures in
     let b : IsWithinRadius c.args.radius (at_radius c.args.length c.args.radius c.args.normal) =
-    at_radius_within c.args.length c.args.radius c.args.normal c.requires.radius c.requires.bounded in
+    at_radius_within c.args.length c.args.radius c.args.normal c.requires.radius c.requires.bounded.some
+    c.requires.bounded.short in
     rw (to_z-of_z w128 c.rounded_product.result p, to_z-of_z w128 c.rounded_product-2.result q, e, f) b
