@@ -81,7 +81,8 @@ HaveMembers rings members =
 pub record IsPutHome (old new : List (Vec ℕ Global)) (i home : ℕ) : Type 0 where
   pub len : length new ≡ length old
   pub put : (h : ℕ) (d : Vec ℕ Global) → h < length old
-      → (slice_index_or new h d).items ≡ (slice_index_or old h d).items ++ cond (nat_eq home h && not (nat_eq i h)) (i ∷ []) []
+      → (slice_index_or new h d).items ≡ (slice_index_or old h d).items
+      ++ cond (nat_eq home h && not (nat_eq i h)) (i ∷ []) []
 
 -- ---- the points of rings move to shapes
 

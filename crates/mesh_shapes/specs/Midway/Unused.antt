@@ -26,7 +26,8 @@ pub record IsNext (es : List Edge) (used : List Bool) (first : ℕ) (at : Point)
 pub record TakesContours (es : List Edge) (was now : List Bool)
     (old new : List (Vec Point Global)) (first : ℕ) : Type 0 where
   pub same : (g : Edge → ℤ)
-      → sum_of g (contour_edges old) +ℤ sum_of g (unused es was) ≡ sum_of g (contour_edges new) +ℤ sum_of g (unused es now)
+      → sum_of g (contour_edges old) +ℤ sum_of g (unused es was)
+      ≡ sum_of g (contour_edges new) +ℤ sum_of g (unused es now)
   pub balanced : IsBalanced (unused es now)
   pub kept : (k : ℕ) → slice_index_or was k true ≡ true → slice_index_or now k true ≡ true
   pub marked : slice_index_or now first true ≡ true
