@@ -1,12 +1,11 @@
 -- Lemmas over whole numbers: numbers that are passed on as bits, at sizes that fit.
-use Rattle.std.proofs.Common.{◌≡◌, ℕ, ◌*◌, ◌^◌, ◌≤◌, ◌∙◌, ap, arith}
+use Rattle.std.proofs.Common.{◌≡◌, ℕ, ◌^◌, ◌≤◌, ◌∙◌, ap, arith}
 use Rattle.std.specs.Prelude.{ℤ, pos, neg_ℤ, ◌+ℤ◌, ◌-ℤ◌, ◌*ℤ◌, unsigned_abs}
-use Rattle.std.proofs.Math.Nat.{mul-le-mul}
-use Rattle.std.proofs.lemmas.Int.{ints, to_z-of_z, to_z_pos, fits_signed_from_abs, unsigned_abs-mul}
+use Rattle.std.proofs.lemmas.Int.{ints, to_z-of_z, to_z_pos, fits_signed_from_abs}
 use mir.Syntax.{w32, w128}
 use mir.Val.{SFits, to_z, of_z}
 use Rattle.mesh_plane.specs.Plane.{Point}
-use Rattle.mesh_plane.proofs.Sizes.{le_of_squares, sum_size, difference_size, size_kept}
+use Rattle.mesh_plane.proofs.Sizes.{le_of_squares, sum_size, difference_size, product_size, size_kept}
 use Rattle.mesh_sine.specs.Sine.{IsWithinOne}
 use Rattle.mesh_grid.specs.Direction.{IsShort}
 use Rattle.mesh_grid.proofs.Scaling.{short_bounded}
@@ -68,8 +67,7 @@ passed_sum a b h l =
 
 pub product_small : (a b : ℤ) → unsigned_abs a ≤ 2 ^ 63 → unsigned_abs b ≤ 2 ^ 63 → unsigned_abs (a *ℤ b) ≤ 2 ^ 126
 product_small a b h l =
-    let p : unsigned_abs a * unsigned_abs b ≤ 2 ^ 63 * 2 ^ 63 = mul-le-mul h l in
-    omega (arith, unsigned_abs-mul a b)
+    product_size a b (2 ^ 63) (2 ^ 63) h l
 
 zero_less : (z : ℤ) → (pos 0 -ℤ z) ≡ neg_ℤ z
 zero_less z = omega (arith, ints)

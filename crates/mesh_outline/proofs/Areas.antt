@@ -1,8 +1,7 @@
 -- Lemmas over whole numbers: what 128 bits keep of products of coordinates and of their sums, and areas of paths.
 use Rattle.std.proofs.Common.{◌≡◌, ℕ, suc, ◌+◌, ◌*◌, ◌^◌, ◌<◌, ◌≤◌, List, [], ◌∷◌, length, drop, take, get_or, ◌∙◌, sym, ap, subst, add-one, take_all, arith}
 use Rattle.std.specs.Prelude.{ℤ, pos, ◌+ℤ◌, ◌-ℤ◌, ◌*ℤ◌, unsigned_abs}
-use Rattle.std.proofs.lemmas.Int.{ints, unsigned_abs-mul}
-use Rattle.std.proofs.Math.Nat.{mul-le-mul}
+use Rattle.std.proofs.lemmas.Int.{fits_signed_from_abs}
 use Rattle.std.proofs.Math.Seq.{drop-cons}
 use Rattle.std.proofs.lemmas.List.{drop_all}
 use mir.Syntax.{w128}
@@ -12,37 +11,33 @@ use Rattle.mesh_plane.specs.Plane.{Point, cross}
 use Rattle.mesh_plane.specs.Winding.{total, route}
 use Rattle.std.proofs.lemmas.List.Elements.{All-more}
 use Rattle.mesh_plane.proofs.Whole.{linear}
-use Rattle.mesh_plane.proofs.Sizes.{within_size, sum_size, difference_size, size_kept}
+use Rattle.mesh_plane.proofs.Sizes.{within_size, sum_size, difference_size, product_size, size_kept}
 use Rattle.mesh_shapes.specs.Contours.{double_area}
 use Rattle.mesh_outline.specs.Resolved.{DoAreasFit}
 
-pub size_fits : (z : ℤ) → unsigned_abs z < 2 ^ 127 → SFits w128 z
-size_fits z h = omega (arith, ints)
-
-pub product_size : (a b : ℤ) → IsWithin (2 ^ 31) a → IsWithin (2 ^ 31) b → unsigned_abs (a *ℤ b) ≤ 2 ^ 62
-product_size a b v w =
-    let p : unsigned_abs a * unsigned_abs b ≤ 2 ^ 31 * 2 ^ 31 = mul-le-mul (within_size (2 ^ 31) a v) (within_size (2 ^ 31) b w) in
-    rw (unsigned_abs-mul a b) p
+coordinates_product : (a b : ℤ) → IsWithin (2 ^ 31) a → IsWithin (2 ^ 31) b → unsigned_abs (a *ℤ b) ≤ 2 ^ 62
+coordinates_product a b v w =
+    product_size a b (2 ^ 31) (2 ^ 31) (within_size (2 ^ 31) a v) (within_size (2 ^ 31) b w)
 
 pub product_kept : (a b : ℤ) → IsWithin (2 ^ 31) a → IsWithin (2 ^ 31) b →
     to_z w128 (of_z w128 (to_z w128 (of_z w128 a) *ℤ to_z w128 (of_z w128 b))) ≡ a *ℤ b
 product_kept a b v w =
     let s : unsigned_abs a ≤ 2 ^ 31 = within_size (2 ^ 31) a v in
     let t : unsigned_abs b ≤ 2 ^ 31 = within_size (2 ^ 31) b w in
-    let p : unsigned_abs (a *ℤ b) ≤ 2 ^ 62 = product_size a b v w in
+    let p : unsigned_abs (a *ℤ b) ≤ 2 ^ 62 = coordinates_product a b v w in
     rw (size_kept a (omega arith), size_kept b (omega arith)) (size_kept (a *ℤ b) (omega arith))
 
 -- the size of a difference of two products of coordinates, and what 128 bits keep of it
 pub cross_size : (a b x y : ℤ) → IsWithin (2 ^ 31) a → IsWithin (2 ^ 31) b → IsWithin (2 ^ 31) x → IsWithin (2 ^ 31) y →
     unsigned_abs ((a *ℤ b) -ℤ (x *ℤ y)) ≤ 2 ^ 63
 cross_size a b x y q r s t =
-    difference_size (a *ℤ b) (x *ℤ y) (2 ^ 62) (2 ^ 62) (product_size a b q r) (product_size x y s t)
+    difference_size (a *ℤ b) (x *ℤ y) (2 ^ 62) (2 ^ 62) (coordinates_product a b q r) (coordinates_product x y s t)
 
 pub cross_fits : (a b x y : ℤ) → IsWithin (2 ^ 31) a → IsWithin (2 ^ 31) b → IsWithin (2 ^ 31) x → IsWithin (2 ^ 31) y →
     SFits w128 ((a *ℤ b) -ℤ (x *ℤ y))
 cross_fits a b x y q r s t =
     let p : unsigned_abs ((a *ℤ b) -ℤ (x *ℤ y)) ≤ 2 ^ 63 = cross_size a b x y q r s t in
-    size_fits ((a *ℤ b) -ℤ (x *ℤ y)) (omega arith)
+    fits_signed_from_abs w128 ((a *ℤ b) -ℤ (x *ℤ y)) (omega arith)
 
 -- a sum that 128 bits keep
 pub sum_kept : (x y : ℤ) (m n : ℕ) → unsigned_abs x ≤ m → unsigned_abs y ≤ n → m + n < 2 ^ 127 →
