@@ -11,8 +11,7 @@ use mesh_below::grid::{CountedSegment, GridEdge};
 use mesh_below::splitter::split_edges_counted;
 use mesh_toolbox::compared::{expect_equal, expect_that};
 use mesh_toolbox::edges::edges_of_shapes;
-use mesh_toolbox::plain::{Edge, Point, cross, dot, minus, winding};
-use mesh_toolbox::random::Random;
+use mesh_toolbox::plain::{Edge, Point, cross, dot, minus};
 use std::alloc::Global;
 use std::test::Fail;
 
@@ -223,24 +222,33 @@ fn unlucky_orders_are_left(rt: HostRuntime) -> Result<(), Fail> {
     expect_that(splits <= 1000, &splits)
 }
 
-/// Long runs of splits end, and what comes of them is answered, though most of it lies at one height: shapes that fill
-/// no point twice.
 #[test]
 fn long_runs_end(rt: HostRuntime) -> Result<(), Fail> {
-    let mut random = Random::new(611);
+    for corners in LONG {
+        split_contour(rt.alloc(), corners)?;
+    }
+    Ok(())
+}
+
+/// Twice the area within edges.
+fn doubled_area(edges: &[Edge]) -> i128 {
+    let mut sum = 0i128;
+    for (start, end) in edges {
+        sum = sum.wrapping_add(cross(*start, *end));
+    }
+    sum
+}
+
+/// What comes of long runs is answered in a test's time too, though most of it may lie at one height. Its contours run
+/// counterclockwise round what is filled.
+#[test]
+fn long_runs_are_answered(rt: HostRuntime) -> Result<(), Fail> {
     for corners in LONG {
         let overlay = overlay_of(rt.alloc(), &[*corners])?;
         let shapes = answered_shapes(&overlay, FillRule::Negative)?;
-        let answer = edges_of_shapes(rt.alloc(), &shapes)?;
-        for _ in 0..100 {
-            let (x, y) = random.point(1_000_000);
-            let q = (
-                i128::from(x).wrapping_mul(2).wrapping_sub(999_999),
-                i128::from(y).wrapping_mul(2).wrapping_sub(999_999),
-            );
-            let turns = winding(2, q, &answer);
-            expect_that(turns == 0 || turns == 1, &q)?;
-        }
+        let area = doubled_area(&edges_of_shapes(rt.alloc(), &shapes)?);
+        expect_that(area >= 0, &area)?;
+        expect_equal(&shapes.is_empty(), &(area == 0), &corners)?;
     }
     Ok(())
 }

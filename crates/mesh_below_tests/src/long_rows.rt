@@ -146,6 +146,19 @@ fn stars(rt: HostRuntime) -> Result<(), Fail> {
     expect_that(filled > 20, &filled)
 }
 
+/// The overlay answers so many shapes, each of one contour of four points.
+fn expect_four_corners(overlay: &Overlay<i32>, count: usize) -> Result<(), Fail> {
+    let shapes = answered_shapes(overlay, FillRule::Positive)?;
+    expect_equal(&shapes.len(), &count, &"shapes")?;
+    for shape in &shapes {
+        expect_equal(&shape.len(), &1, &"contours")?;
+        for contour in shape {
+            expect_equal(&contour.len(), &4, &"points")?;
+        }
+    }
+    Ok(())
+}
+
 /// So many strips that only some of their edges are looked at to choose how they are listed.
 #[test]
 fn many_strips_are_answered(rt: HostRuntime) -> Result<(), Fail> {
@@ -154,15 +167,7 @@ fn many_strips_are_answered(rt: HostRuntime) -> Result<(), Fail> {
         let corner = (20i32.wrapping_mul(number), number % 7);
         push_strip(&mut overlay, corner, (7000, 50000), (-8, 1), false)?;
     }
-    let shapes = answered_shapes(&overlay, FillRule::Positive)?;
-    expect_equal(&shapes.len(), &5000, &"shapes")?;
-    for shape in &shapes {
-        expect_equal(&shape.len(), &1, &"contours")?;
-        for contour in shape {
-            expect_equal(&contour.len(), &4, &"points")?;
-        }
-    }
-    Ok(())
+    expect_four_corners(&overlay, 5000)
 }
 
 /// So many edges at one height that sums over all that reach it would not end in a test's time.
@@ -174,13 +179,5 @@ fn a_long_chain_at_one_height_is_answered(rt: HostRuntime) -> Result<(), Fail> {
     }
     corners.push((200_000, 7))?;
     corners.push((0, 7))?;
-    let shapes = answered_shapes(&overlay_of(rt.alloc(), &[&corners])?, FillRule::Positive)?;
-    expect_equal(&shapes.len(), &1, &"shapes")?;
-    for shape in &shapes {
-        expect_equal(&shape.len(), &1, &"contours")?;
-        for contour in shape {
-            expect_equal(&contour.len(), &4, &"points")?;
-        }
-    }
-    Ok(())
+    expect_four_corners(&overlay_of(rt.alloc(), &[&corners])?, 1)
 }

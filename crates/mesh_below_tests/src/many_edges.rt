@@ -1,5 +1,5 @@
-//! Some thousands of edges, of which most parts of the engine see but a sample, against a plain count of how often they
-//! wind round points away from them.
+//! Some thousands of edges, so many that only some of them are looked at to choose how they are listed, against a plain
+//! count of how often they wind round points away from them.
 
 use crate::answers::{answered_shapes, overlay_of};
 use crate::hard_splits::is_near_some;
@@ -36,7 +36,8 @@ fn contours(
 }
 
 /// At random points that are more than two units away from each edge, the answer winds once where the edges' winding is
-/// filled, and else not at all. Answers at how many of them it is filled.
+/// filled, and else not at all. Answers at how many of them it is filled. (That no split of these drags an edge over
+/// such a point is measured, not promised.)
 fn expect_filled(overlay: &Overlay<i32>, fill: FillRule, random: &mut Random) -> Result<u32, Fail> {
     let alloc = *overlay.segments.allocator();
     let edges = edges_of_segments(alloc, &overlay.segments)?;

@@ -1,7 +1,7 @@
 //! Edges listed by the rows that they reach, so that the winding round a point is a sum over one row in place of all.
 //! Beside each edge stands what a search wants of it, as its count.
 
-ghost use Rattle.std.specs.Prelude.{◌≡◌, ◌+◌, ◌<◌, ◌*ℤ◌, pos, length, IfOk, OnOk, Vec};
+ghost use Rattle.std.specs.Prelude.{◌≡◌, ◌+◌, ◌*ℤ◌, pos, length, IfOk, OnOk, Vec};
 ghost use Rattle.std.specs.declared.alloc.Global.{Global};
 ghost use Rattle.mesh_plane.specs.Plane.{Edge};
 ghost use Rattle.mesh_cuts.specs.Lists.{list_at};
@@ -55,26 +55,24 @@ fn heights<T: Copy>(alloc: Global, edges: &[(GridEdge, T)]) -> Result<Vec<Mark>,
     in_order(alloc, heights)
 }
 
-/// How many of the marks lie at heights that an edge reaches.
-fn marks_reached(marks: &[Mark], e: GridEdge) -> usize
+/// How many of the marks lie at a height.
+fn marks_at(marks: &[Mark], height: Mark) -> usize
     requires { AreRising marks.now }
 {
-    let a = height(e.0).at;
-    let b = height(e.1).at;
     let below = Mark {
-        at: a.min(b).saturating_sub(1),
+        at: height.at.saturating_sub(1),
     };
-    place(marks, Mark { at: a.max(b) }).saturating_sub(place(marks, below))
+    place(marks, height).saturating_sub(place(marks, below))
 }
 
 /// About how many edges reach the height at which one of them starts, on average.
 #[derive(Copy, Clone)]
 pub struct Reached {
-    /// An edge of the sample that runs down is among those that reach its own start, and stands for as many as the
-    /// sample passes over. So where many run down, of more than some 10,000 edges this is more than a dozen, however
-    /// few reach a height.
+    /// Edges that lie at one height reach each other's starts. An edge of the sample that runs down is counted with
+    /// itself, and stands for as many as the sample passes over. So where many run down, of more than some 10,000 edges
+    /// this is more than a dozen, however few reach a height.
     pub all: usize,
-    /// How many but the edge that starts there. Edges that lie at one height reach each other's starts.
+    /// How many but the edge that starts there, and but those that lie at that height.
     pub others: usize,
 }
 
@@ -85,15 +83,21 @@ pub fn mean_reached<T: Copy>(
 ) -> Result<Reached, AllocError> {
     let some = sample(alloc, edges, SAMPLED)?;
     let marks = heights(alloc, &some)?;
-    let mut downwards: usize = 0;
+    let mut all: usize = 0;
     let mut others: usize = 0;
     for e in &some {
-        if e.0.1.1 < e.0.0.1 {
-            downwards = downwards.saturating_add(1);
-        }
-        others = others.saturating_add(marks_reached(&marks, e.0).saturating_sub(1));
+        let a = place(&marks, height(e.0.0));
+        let b = place(&marks, height(e.0.1));
+        let up = b.saturating_sub(a);
+        let down = a.saturating_sub(b);
+        let beside = if e.0.0.1 == e.0.1.1 {
+            marks_at(&marks, height(e.0.0)).saturating_sub(1)
+        } else {
+            0
+        };
+        all = all.saturating_add(up.max(down).max(beside));
+        others = others.saturating_add(up.max(down.saturating_sub(1)));
     }
-    let all = others.saturating_add(downwards);
     let count = some.len().max(1);
     Ok(Reached {
         all: all.saturating_mul(edges.len()) / count / count,
