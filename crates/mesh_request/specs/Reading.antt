@@ -264,8 +264,8 @@ choices_with said = record { least_area = said.0; clockwise = said.1.0; all_vert
 abbrev pub choices_in : ℕ → Data → Option Choices
 choices_in unit d =
     option_map choices_with
-        (both (area_of unit (get (codes "min_area") d))
-            (both (flag_of (get (codes "clockwise") d)) (flag_of (get (codes "collinear") d))))
+    (both (area_of unit (get (codes "min_area") d))
+    (both (flag_of (get (codes "clockwise") d)) (flag_of (get (codes "collinear") d))))
 
 -- the choices that options give: the default ones where there are none; what is no object gives none
 abbrev pub choices_given : ℕ → Option Data → Option Choices
@@ -277,7 +277,7 @@ abbrev pub asked_in : ℕ → Data → Option Asked
 asked_in unit d =
     if says (codes "out") (codes "edges") d then Some for_edges
     else (if says (codes "out") (codes "shapes") d
-        then option_map for_shapes (choices_given unit (get (codes "options") d)) else None)
+    then option_map for_shapes (choices_given unit (get (codes "options") d)) else None)
 
 -- a style and paths, as an outline
 abbrev pub outline_with : OutlineStyle × List (List Point) → Drawn

@@ -53,7 +53,7 @@ TellsRefusal (Err (Refused error)) = Unit {0}
 pub data IsReply (left : Option (List ℕ)) : List ℕ → Type 0 where
   answer : {request line : List ℕ} → IfSome left (λ bytes. request ≡ bytes) → IsAnswer request line → IsReply left line
   refusal : {request : List ℕ} → IfSome left (λ bytes. request ≡ bytes) → IsRefused request
-    → IsReply left (failure_line (Refused CoordinateOutOfRange))
+      → IsReply left (failure_line (Refused CoordinateOutOfRange))
   no_memory : IsReply left (failure_line (Refused OutOfMemory))
   unreadable : IsReply left (failure_line Unreadable)
 
