@@ -167,10 +167,8 @@ impl<I: IntNumber> IntegerArc<I> {
         ensures room { length (arc I.unit self.old.options direction from to) ≤ self.old.room → IsOk result }
         // Once the directions are no longer used, the builder is as after `rebuild`.
         ensures* after { sem 𝓛 (EndsWith
-            (the_row I.row I.Wide.row I.WideUInt.row I.IntNumber.own I.Debug I.Ord.own I.PartialEq I.PartialOrd.own
-            I.Hash.own I.Wide.WideNumber.own I.Wide.Debug I.Wide.Ord.own I.Wide.PartialEq I.Wide.PartialOrd.own
-            I.Wide.Hash.own I.Wide.Add I.Wide.Sub I.Wide.Mul I.WideUInt.WideUnsigned.own I.WideUInt.Debug
-            I.WideUInt.Ord.own I.WideUInt.PartialEq I.WideUInt.PartialOrd.own I.WideUInt.Hash.own)
+            (the_row I.row I.Wide.row I.WideUInt.row I.IntNumber.own I.Ord.own I.PartialEq I.PartialOrd.own
+            I.Wide.WideNumber.own I.Wide.Add I.Wide.Sub I.Wide.Mul I.WideUInt.WideUnsigned.own)
             self.entry (λ n. IsBuilt I.unit self.old n direction from to result)) }
     {
         self.rebuild(from, to, direction)?;

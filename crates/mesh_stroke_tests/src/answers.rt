@@ -8,10 +8,11 @@ use mesh_num::shape::buffer::FlatContoursBuffer;
 use mesh_num::shape::resource::IntShapeResource;
 use mesh_toolbox::compared::{expect_answers, filled};
 use std::alloc::Global;
+use std::fmt::Debug;
 use std::test::Fail;
 
 /// With these options the source answers these shapes, at each call, and puts their contours in place of a buffer's.
-pub fn expect_custom<I: OverlayInt, S: IntShapeResource<I>>(
+pub fn expect_custom<I: OverlayInt + Debug, S: IntShapeResource<I>>(
     alloc: Global,
     source: &S,
     style: &IntStrokeStyle<I>,
@@ -41,7 +42,7 @@ pub fn expect_custom<I: OverlayInt, S: IntShapeResource<I>>(
 }
 
 /// The same, for one call of each kind.
-fn expect_once<I: OverlayInt, S: IntShapeResource<I>>(
+fn expect_once<I: OverlayInt + Debug, S: IntShapeResource<I>>(
     alloc: Global,
     source: &S,
     style: &IntStrokeStyle<I>,
@@ -57,7 +58,7 @@ fn expect_once<I: OverlayInt, S: IntShapeResource<I>>(
 }
 
 /// The same with the default options, by the calls that name none too.
-pub fn expect<I: OverlayInt, S: IntShapeResource<I>>(
+pub fn expect<I: OverlayInt + Debug, S: IntShapeResource<I>>(
     alloc: Global,
     source: &S,
     style: &IntStrokeStyle<I>,

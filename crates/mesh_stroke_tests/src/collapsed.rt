@@ -15,6 +15,7 @@ use mesh_toolbox::compared::{expect_equal, expect_that};
 use mesh_toolbox::edges::edges_of_segments;
 use mesh_toolbox::plain::is_balanced;
 use std::alloc::{AllocError, Global};
+use std::fmt::Debug;
 use std::rc::RcSlice;
 use std::test::Fail;
 
@@ -64,7 +65,7 @@ fn style<I: OverlayInt + From<i16>>(
 
 /// The builder of the style adds proper segments alone, which close up, and some if and only if the
 /// stroke is drawn. The form is whether the path is closed, and whether it is drawn.
-fn expect_proper<I: OverlayInt + From<i16>>(
+fn expect_proper<I: OverlayInt + From<i16> + Debug>(
     alloc: Global,
     builder: &mut StrokeBuilder<'_, I>,
     style: &IntStrokeStyle<I>,
@@ -82,7 +83,7 @@ fn expect_proper<I: OverlayInt + From<i16>>(
 }
 
 /// The segments are proper and close up, and there are some if and only if a stroke is drawn.
-fn expect_proper_segments<I: OverlayInt>(
+fn expect_proper_segments<I: OverlayInt + Debug>(
     alloc: Global,
     segments: &[Segment<I>],
     is_drawn: bool,
@@ -108,7 +109,7 @@ const FORMS: [(bool, (i16, i16)); 6] = [
 ];
 
 /// One builder of the style, for paths that turn, turn back and run nearly straight on, open and closed.
-fn expect_all_proper<I: OverlayInt + From<i16>>(
+fn expect_all_proper<I: OverlayInt + From<i16> + Debug>(
     alloc: Global,
     style: &IntStrokeStyle<I>,
     is_drawn: bool,
@@ -121,7 +122,7 @@ fn expect_all_proper<I: OverlayInt + From<i16>>(
 }
 
 /// All caps and joins with this width; half of it, rounded up, is the radius.
-fn expect_width<I: OverlayInt + From<i16>>(
+fn expect_width<I: OverlayInt + From<i16> + Debug>(
     alloc: Global,
     width: i16,
     radius: i16,

@@ -205,7 +205,8 @@ fn expect_reach<I: OverlayInt + From<i16>>(
     reach: I::Wide,
 ) -> Result<(), Fail> {
     let style = row.style::<I>(alloc)?;
-    expect_equal(&padding(&style), &reach, &row)
+    let found = I::wide_to_i128(padding(&style));
+    expect_equal(&found, &I::wide_to_i128(reach), &row)
 }
 
 /// A point, a width, a custom point at both ends, how far the stroke reaches, and whether it may be drawn.

@@ -16,7 +16,7 @@ use mesh_grid::num::{IntNumber, IntVector};
 
 /// The vectors from the centers of two circles `a` and `b` to the points at which their outer tangents touch them, on
 /// the left and on the right of the line from `a` to `b`, in grid units.
-#[derive(Debug, Drop)]
+#[derive(Drop)]
 pub struct TangentOffsets<I: IntNumber> {
     /// From the center of `a` to its left.
     pub a_left: IntVector<I>,

@@ -9,10 +9,11 @@ use mesh_num::shape::buffer::FlatContoursBuffer;
 use mesh_num::shape::resource::IntShapeResource;
 use mesh_toolbox::compared::{expect_answers, filled, is_filled};
 use std::alloc::Global;
+use std::fmt::Debug;
 use std::test::Fail;
 
 /// With these options the source answers these shapes, at each call, and puts their contours in place of a buffer's.
-pub fn expect_custom<I: OverlayInt, S: IntShapeResource<I>>(
+pub fn expect_custom<I: OverlayInt + Debug, S: IntShapeResource<I>>(
     alloc: Global,
     source: &S,
     style: &IntOutlineStyle<I>,
@@ -25,7 +26,7 @@ pub fn expect_custom<I: OverlayInt, S: IntShapeResource<I>>(
 }
 
 /// The same, for one call of each kind.
-fn expect_once<I: OverlayInt, S: IntShapeResource<I>>(
+fn expect_once<I: OverlayInt + Debug, S: IntShapeResource<I>>(
     alloc: Global,
     source: &S,
     style: &IntOutlineStyle<I>,
@@ -40,7 +41,7 @@ fn expect_once<I: OverlayInt, S: IntShapeResource<I>>(
 }
 
 /// The same with the default options, by the calls that name none too.
-pub fn expect<I: OverlayInt, S: IntShapeResource<I>>(
+pub fn expect<I: OverlayInt + Debug, S: IntShapeResource<I>>(
     alloc: Global,
     source: &S,
     style: &IntOutlineStyle<I>,
@@ -55,7 +56,7 @@ pub fn expect<I: OverlayInt, S: IntShapeResource<I>>(
 }
 
 /// Fails where the answer is no refusal of the range, or the buffer has changed.
-fn expect_refusal<I: OverlayInt>(
+fn expect_refusal<I: OverlayInt + Debug>(
     answer: Option<IntOutlineError>,
     buffer: &FlatContoursBuffer<I>,
 ) -> Result<(), Fail> {
@@ -66,7 +67,7 @@ fn expect_refusal<I: OverlayInt>(
 }
 
 /// All four calls refuse the areas of the source, though its points are accepted, and the buffer is unchanged.
-pub fn expect_refused<I: OverlayInt, S: IntShapeResource<I>>(
+pub fn expect_refused<I: OverlayInt + Debug, S: IntShapeResource<I>>(
     alloc: Global,
     source: &S,
     style: &IntOutlineStyle<I>,

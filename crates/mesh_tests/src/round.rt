@@ -12,6 +12,7 @@ use mesh_toolbox::lists::path;
 use mesh_toolbox::plain::{Point, closed, net_count};
 use mesh_toolbox::random::{Random, small_contour};
 use std::alloc::Global;
+use std::fmt::Debug;
 use std::test::Fail;
 
 const DEFAULT: Fineness = (536_870_912, 5);
@@ -272,7 +273,7 @@ const LOOPS_OF_I16: &[Loop<i16>] = &[
 ];
 
 /// The outline of the contour is the loop of these points.
-fn expect_loop<I: OverlayInt>(
+fn expect_loop<I: OverlayInt + Debug>(
     alloc: Global,
     contour: &[(I, I)],
     style: IntOutlineStyle<I>,

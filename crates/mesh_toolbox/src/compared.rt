@@ -192,7 +192,7 @@ pub fn is_filled<I: IntNumber>(buffer: &FlatContoursBuffer<I>) -> bool {
 }
 
 /// Fails where the shapes are not these, or the buffer has not their contours.
-pub fn expect_answers<I: IntNumber>(
+pub fn expect_answers<I: IntNumber + Debug>(
     shapes: &IntShapes<I>,
     buffer: &FlatContoursBuffer<I>,
     wanted: &[&[&[(I, I)]]],

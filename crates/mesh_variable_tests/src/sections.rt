@@ -18,6 +18,7 @@ use mesh_toolbox::edges::plain_point;
 use mesh_toolbox::plain::{Point, minus};
 use mesh_toolbox::rows::{broken, fields, is_for, points};
 use std::alloc::{AllocError, Global};
+use std::fmt::Debug;
 use std::process::Abort;
 use std::test::Fail;
 
@@ -50,7 +51,7 @@ fn contacts<I: OverlayInt>(
 }
 
 /// The tangent offsets of two circles lead to the contacts of their section, and no coordinate passes its radius.
-fn expect_offsets<I: OverlayInt>(
+fn expect_offsets<I: OverlayInt + Debug>(
     rt: &impl Abort,
     a: Circle<I>,
     b: Circle<I>,
@@ -68,7 +69,7 @@ fn expect_offsets<I: OverlayInt>(
 }
 
 /// The offset leads from the center to the contact, and no coordinate passes the radius.
-fn expect_offset<I: OverlayInt>(
+fn expect_offset<I: OverlayInt + Debug>(
     circle: Circle<I>,
     contact: IntPoint<I>,
     offset: &IntVector<I>,
@@ -78,12 +79,16 @@ fn expect_offset<I: OverlayInt>(
     expect_equal(&found, &(x, y), &circle)?;
     let radius = widen(circle.radius);
     let is_within = x.wrapping_abs() <= radius && y.wrapping_abs() <= radius;
-    expect_that(is_within, &(offset, circle))
+    expect_that(is_within, &(x, y, circle))
 }
 
 /// Both vertices of the row have the section that it stores, which covers the circles that it names, and not the others
 /// there, where the row is meant for this width.
-fn expect_section<I: OverlayInt>(rt: &impl Abort, alloc: Global, row: &str) -> Result<(), Fail> {
+fn expect_section<I: OverlayInt + Debug>(
+    rt: &impl Abort,
+    alloc: Global,
+    row: &str,
+) -> Result<(), Fail> {
     let fields = fields(alloc, row)?;
     let [width, circles, wanted, covered, others] = fields.as_slice() else {
         return Err(broken(row));

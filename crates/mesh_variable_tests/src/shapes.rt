@@ -11,6 +11,7 @@ use mesh_request::coordinate::narrowed_area;
 use mesh_toolbox::compared::{expect_answers, expect_equal, filled};
 use mesh_toolbox::rows::{broken, fields, is_for, numbers};
 use std::alloc::{AllocError, Global};
+use std::fmt::Debug;
 use std::test::Fail;
 
 /// The options of a field: the least area, whether contours are clockwise, and whether they keep points on a line.
@@ -35,7 +36,7 @@ fn options<I: OverlayInt>(
 }
 
 /// With these options the source answers these shapes, at each call, and puts their contours in place of a buffer's.
-fn expect_custom<I: OverlayInt, S: IntVariableStrokeSource<I>>(
+fn expect_custom<I: OverlayInt + Debug, S: IntVariableStrokeSource<I>>(
     alloc: Global,
     source: &S,
     style: &IntVariableStrokeStyle,
@@ -53,7 +54,7 @@ fn expect_custom<I: OverlayInt, S: IntVariableStrokeSource<I>>(
 }
 
 /// The same with the default options, by the calls that name none too.
-fn expect<I: OverlayInt, S: IntVariableStrokeSource<I>>(
+fn expect<I: OverlayInt + Debug, S: IntVariableStrokeSource<I>>(
     alloc: Global,
     source: &S,
     style: &IntVariableStrokeStyle,
@@ -68,7 +69,7 @@ fn expect<I: OverlayInt, S: IntVariableStrokeSource<I>>(
 }
 
 /// The paths of the row are stroked as it says, where it is meant for this width.
-fn expect_row<I: OverlayInt>(alloc: Global, row: &str) -> Result<(), Fail> {
+fn expect_row<I: OverlayInt + Debug>(alloc: Global, row: &str) -> Result<(), Fail> {
     let fields = fields(alloc, row)?;
     let [width, arc, lists, choices, wanted] = fields.as_slice() else {
         return Err(broken(row));

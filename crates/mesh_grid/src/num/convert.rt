@@ -44,7 +44,7 @@ pub fn is_less<I: IntNumber>(first: I, second: I) -> bool
 pub fn is_wide_less<I: IntNumber>(left: I::Wide, right: I::Wide) -> bool
     ensures { IsTrue result ↔ I.Wide.value left <ℤ I.Wide.value right }
 {
-    left < right
+    left.to_i128() < right.to_i128()
 }
 
 /// The lesser of two coordinates.

@@ -6,17 +6,12 @@ ghost use Rattle.std.proofs.Common.{lit≤};
 ghost use Rattle.mesh_plane.specs.Bounds.{IsWithin};
 ghost use Rattle.mesh_grid.specs.Widths.{IsUnit, small_unit, large_unit, within_fits_w32, within_fits_w64};
 
-use std::fmt::Debug;
-use std::hash::Hash;
 use std::ops::{Add, Mul, Sub};
 
 /// A signed type that holds sums and differences of two products of coordinate differences.
 /// Contracts see a number as the whole number `value`.
 pub trait WideNumber: Copy
-    + Debug
     + Drop
-    + Ord
-    + Hash
     + Add<Self, Output = Self>
     + Sub<Self, Output = Self>
     + Mul<Self, Output = Self> {
@@ -49,12 +44,10 @@ pub trait WideNumber: Copy
     ghost can_mul_law: { (a b : Self) → IsWithin half (value a *ℤ value b) → Self.can_mul a b };
 
     ghost mul_law: { (a b r : Self) → Self.mul_gives a b r → value r ≡ (value a *ℤ value b) };
-
-    ghost cmp_law: { (a b : Self) → Self.cmp a b ≡ int_cmp (value a) (value b) };
 }
 
 /// An unsigned type that holds the sum of two squares of coordinate differences.
-pub trait WideUnsigned: Copy + Debug + Drop + Ord + Hash {
+pub trait WideUnsigned: Copy + Drop {
     ghost value: { Self → ℕ };
 
     ghost limit: { ℕ };
@@ -76,7 +69,7 @@ pub trait WideUnsigned: Copy + Debug + Drop + Ord + Hash {
 
 /// A signed coordinate type, in grid units. `UNIT` is the length of a direction and the bound of the safe range:
 /// a coordinate `c` is safe where `-UNIT < c < UNIT`.
-pub trait IntNumber: Copy + Debug + Drop + Ord + Hash {
+pub trait IntNumber: Copy + Drop + Ord {
     /// Holds two products of coordinate differences, added or subtracted.
     type Wide: WideNumber;
     /// Holds the squared length of a difference of two points.
@@ -200,8 +193,6 @@ impl WideNumber for i32 {
     ghost can_mul_law = { λ a b h. within_fits_w32 (a *ℤ b) h };
 
     ghost mul_law = { λ a b r h. h };
-
-    ghost cmp_law = { λ a b. refl };
 }
 
 impl WideNumber for i64 {
@@ -232,8 +223,6 @@ impl WideNumber for i64 {
     ghost can_mul_law = { λ a b h. within_fits_w64 (a *ℤ b) h };
 
     ghost mul_law = { λ a b r h. h };
-
-    ghost cmp_law = { λ a b. refl };
 }
 
 impl WideUnsigned for u32 {
