@@ -1,7 +1,7 @@
 //! The contacts of tangents, and the circles that sections cover.
 
 ghost use Rattle.std.specs.Prelude.{IfOk};
-ghost use Rattle.mesh_tangent.specs.Sections.{IsSafeCircle};
+ghost use Rattle.mesh_tangent.specs.Sections.{IsSafeCircle, IsSafeSection};
 
 use crate::tables::sections::SECTIONS;
 use crate::values::vertices;
@@ -82,6 +82,37 @@ fn expect_offset<I: OverlayInt + Debug>(
     expect_that(is_within, &(x, y, circle))
 }
 
+/// The section covers all circles round these vertices, or none of them.
+fn expect_covered<I: OverlayInt + Debug>(
+    alloc: Global,
+    section: &Section<I>,
+    list: &str,
+    wanted: bool,
+) -> Result<(), Fail>
+    requires { IsSafeSection I.unit section.now }
+{
+    for vertex in &vertices::<I>(alloc, list)? {
+        let is_covered = section.covers_circle(circle(alloc, *vertex)?);
+        expect_equal(&is_covered, &wanted, vertex)?;
+    }
+    Ok(())
+}
+
+/// Both vertices of a row.
+fn ends<I: OverlayInt>(
+    alloc: Global,
+    circles: &str,
+    row: &str,
+) -> Result<(Circle<I>, Circle<I>), Fail>
+    ensures { IfOk result (λ ends. IsSafeCircle I.unit ends.0 × IsSafeCircle I.unit ends.1) }
+{
+    let list = vertices::<I>(alloc, circles)?;
+    let [a, b] = list.as_slice() else {
+        return Err(broken(row));
+    };
+    Ok((circle(alloc, *a)?, circle(alloc, *b)?))
+}
+
 /// Both vertices of the row have the section that it stores, which covers the circles that it names, and not the others
 /// there, where the row is meant for this width.
 fn expect_section<I: OverlayInt + Debug>(
@@ -96,25 +127,15 @@ fn expect_section<I: OverlayInt + Debug>(
     if !is_for::<I>(width) {
         return Ok(());
     }
-    let ends = vertices::<I>(alloc, circles)?;
-    let [a, b] = ends.as_slice() else {
-        return Err(broken(row));
-    };
-    let (a, b) = (circle(alloc, *a)?, circle(alloc, *b)?);
+    let (a, b) = ends::<I>(alloc, circles, row)?;
     let section = Section::new(a, b);
     expect_equal(&contacts(alloc, &section)?, &points(alloc, wanted)?, &row)?;
-    if let Some(section) = section {
-        expect_offsets(rt, a, b, &section)?;
-        for vertex in &vertices(alloc, covered)? {
-            let is_covered = section.covers_circle(circle(alloc, *vertex)?);
-            expect_that(is_covered, &(vertex, row))?;
-        }
-        for vertex in &vertices(alloc, others)? {
-            let is_covered = section.covers_circle(circle(alloc, *vertex)?);
-            expect_that(!is_covered, &(vertex, row))?;
-        }
-    }
-    Ok(())
+    let Some(section) = section else {
+        return Ok(());
+    };
+    expect_offsets(rt, a, b, &section)?;
+    expect_covered(alloc, &section, covered, true)?;
+    expect_covered(alloc, &section, others, false)
 }
 
 #[test]
