@@ -98,7 +98,7 @@ fn expect_covered<I: OverlayInt + Debug>(
     Ok(())
 }
 
-/// Both vertices of a row.
+/// The circles round both vertices of a row.
 fn ends<I: OverlayInt>(
     alloc: Global,
     circles: &str,
