@@ -8,7 +8,7 @@ ghost use Rattle.mesh_draw.specs.Padding.{widened, ArePathsSafe};
 
 use crate::error::IntOutlineError;
 use mesh_num::num::convert::is_wide_less;
-use mesh_num::num::{IntNumber, IntPoint, IntRect};
+use mesh_num::num::{IntNumber, IntPoint, IntRect, WideNumber};
 use mesh_num::shape::resource::IntShapeResource;
 
 /// `Ok` where each point of the source stays in the safe range where it moves by at most the padding, in grid units,
@@ -52,12 +52,12 @@ fn is_safe_widened<I: IntNumber>(bounds: IntRect<I>, padding: I::Wide) -> bool
         return false;
     }
     let low = are_safe::<I>(
-        bounds.min_x.to_wide() - padding,
-        bounds.min_y.to_wide() - padding,
+        bounds.min_x.to_wide().minus(padding),
+        bounds.min_y.to_wide().minus(padding),
     );
     let high = are_safe::<I>(
-        bounds.max_x.to_wide() + padding,
-        bounds.max_y.to_wide() + padding,
+        bounds.max_x.to_wide().plus(padding),
+        bounds.max_y.to_wide().plus(padding),
     );
     low && high
 }
@@ -73,7 +73,7 @@ fn are_safe<I: IntNumber>(x: I::Wide, y: I::Wide) -> bool
 fn is_safe<I: IntNumber>(coordinate: I::Wide) -> bool
     ensures { IsTrue result ↔ IsSmall I.unit (I.Wide.value coordinate) }
 {
-    let least = I::ZERO.to_wide() - unit::<I>();
+    let least = I::ZERO.to_wide().minus(unit::<I>());
     is_wide_less::<I>(least, coordinate) && is_wide_less::<I>(coordinate, unit::<I>())
 }
 

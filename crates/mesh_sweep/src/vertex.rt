@@ -12,7 +12,7 @@ ghost use Rattle.mesh_sweep.specs.Sweeps.{point_round as point_round_of};
 ghost use Rattle.mesh_sweep.specs.Sweeps.{east_of as east_point, west_of as west_point};
 
 use mesh_num::num::convert::narrow;
-use mesh_num::num::{IntNumber, IntPoint, IntVector, UnitIntVector};
+use mesh_num::num::{IntNumber, IntPoint, IntVector, UnitIntVector, WideNumber};
 
 /// The point away from a vertex by the radius in a direction.
 pub(crate) fn point_round<I: IntNumber>(
@@ -31,7 +31,7 @@ pub(crate) fn east_of<I: IntNumber>(center: IntPoint<I>, radius: I) -> IntPoint<
     requires { IsSafe I.unit (east_point center (I.value radius)) }
     ensures { result ≡ east_point center (I.value radius) }
 {
-    let x = center.x.to_wide() + radius.to_wide();
+    let x = center.x.to_wide().plus(radius.to_wide());
     IntPoint::new(I::from_wide(x), center.y)
 }
 
@@ -40,7 +40,7 @@ pub(crate) fn west_of<I: IntNumber>(center: IntPoint<I>, radius: I) -> IntPoint<
     requires { IsSafe I.unit (west_point center (I.value radius)) }
     ensures { result ≡ west_point center (I.value radius) }
 {
-    let x = center.x.to_wide() - radius.to_wide();
+    let x = center.x.to_wide().minus(radius.to_wide());
     IntPoint::new(I::from_wide(x), center.y)
 }
 

@@ -6,15 +6,9 @@ ghost use Rattle.std.proofs.Common.{lit≤};
 ghost use Rattle.mesh_plane.specs.Bounds.{IsWithin};
 ghost use Rattle.mesh_grid.specs.Widths.{IsUnit, small_unit, large_unit, within_fits_w32, within_fits_w64};
 
-use std::ops::{Add, Mul, Sub};
-
 /// A signed type that holds sums and differences of two products of coordinate differences.
 /// Contracts see a number as the whole number `value`.
-pub trait WideNumber: Copy
-    + Drop
-    + Add<Self, Output = Self>
-    + Sub<Self, Output = Self>
-    + Mul<Self, Output = Self> {
+pub trait WideNumber: Copy + Drop {
     ghost value: { Self → ℤ };
 
     ghost of_value: { ℤ → Self };
@@ -33,17 +27,31 @@ pub trait WideNumber: Copy
         requires { IsWithin half number }
         ensures { value result ≡ number };
 
-    ghost can_add_law: { (a b : Self) → IsWithin half (value a +ℤ value b) → Self.can_add a b };
+    ghost most_law: { half ≤ 2 ^ 63 };
 
-    ghost add_law: { (a b r : Self) → Self.add_gives a b r → value r ≡ (value a +ℤ value b) };
+    /// The sum, which this type has to hold.
+    final fn plus(self, other: Self) -> Self
+        requires { IsWithin half (value self +ℤ value other) }
+        ensures { value result ≡ (value self +ℤ value other) }
+    {
+        Self::from_i128(self.to_i128() + other.to_i128())
+    }
 
-    ghost can_sub_law: { (a b : Self) → IsWithin half (value a -ℤ value b) → Self.can_sub a b };
+    /// The difference, which this type has to hold.
+    final fn minus(self, other: Self) -> Self
+        requires { IsWithin half (value self -ℤ value other) }
+        ensures { value result ≡ (value self -ℤ value other) }
+    {
+        Self::from_i128(self.to_i128() - other.to_i128())
+    }
 
-    ghost sub_law: { (a b r : Self) → Self.sub_gives a b r → value r ≡ (value a -ℤ value b) };
-
-    ghost can_mul_law: { (a b : Self) → IsWithin half (value a *ℤ value b) → Self.can_mul a b };
-
-    ghost mul_law: { (a b r : Self) → Self.mul_gives a b r → value r ≡ (value a *ℤ value b) };
+    /// The product, which this type has to hold.
+    final fn times(self, other: Self) -> Self
+        requires { IsWithin half (value self *ℤ value other) }
+        ensures { value result ≡ (value self *ℤ value other) }
+    {
+        Self::from_i128(self.to_i128() * other.to_i128())
+    }
 }
 
 /// An unsigned type that holds the sum of two squares of coordinate differences.
@@ -182,17 +190,7 @@ impl WideNumber for i32 {
         number as i32
     }
 
-    ghost can_add_law = { λ a b h. within_fits_w32 (a +ℤ b) h };
-
-    ghost add_law = { λ a b r h. h };
-
-    ghost can_sub_law = { λ a b h. within_fits_w32 (a -ℤ b) h };
-
-    ghost sub_law = { λ a b r h. h };
-
-    ghost can_mul_law = { λ a b h. within_fits_w32 (a *ℤ b) h };
-
-    ghost mul_law = { λ a b r h. h };
+    ghost most_law = { lit≤ tt };
 }
 
 impl WideNumber for i64 {
@@ -212,17 +210,7 @@ impl WideNumber for i64 {
         number as i64
     }
 
-    ghost can_add_law = { λ a b h. within_fits_w64 (a +ℤ b) h };
-
-    ghost add_law = { λ a b r h. h };
-
-    ghost can_sub_law = { λ a b h. within_fits_w64 (a -ℤ b) h };
-
-    ghost sub_law = { λ a b r h. h };
-
-    ghost can_mul_law = { λ a b h. within_fits_w64 (a *ℤ b) h };
-
-    ghost mul_law = { λ a b r h. h };
+    ghost most_law = { lit≤ tt };
 }
 
 impl WideUnsigned for u32 {

@@ -55,8 +55,8 @@ impl<I: IntNumber> IntPoint<I> {
         requires { IsSafe I.unit (plus self vector.now) }
         ensures { result ≡ plus self vector.now }
     {
-        let x = self.x.to_wide() + vector.x;
-        let y = self.y.to_wide() + vector.y;
+        let x = self.x.to_wide().plus(vector.x);
+        let y = self.y.to_wide().plus(vector.y);
         IntPoint::new(I::from_wide(x), I::from_wide(y))
     }
 
@@ -65,8 +65,8 @@ impl<I: IntNumber> IntPoint<I> {
         requires { IsSafe I.unit (plus self (right_quarter vector.now)) }
         ensures { result ≡ plus self (right_quarter vector.now) }
     {
-        let x = self.x.to_wide() + vector.y;
-        let y = self.y.to_wide() - vector.x;
+        let x = self.x.to_wide().plus(vector.y);
+        let y = self.y.to_wide().minus(vector.x);
         IntPoint::new(I::from_wide(x), I::from_wide(y))
     }
 }
@@ -88,8 +88,8 @@ impl<I: IntNumber> Sub<IntPoint<I>> for IntPoint<I> {
 
     fn sub(self, other: IntPoint<I>) -> IntVector<I> {
         IntVector {
-            x: self.x.to_wide() - other.x.to_wide(),
-            y: self.y.to_wide() - other.y.to_wide(),
+            x: self.x.to_wide().minus(other.x.to_wide()),
+            y: self.y.to_wide().minus(other.y.to_wide()),
         }
     }
 }
@@ -142,7 +142,7 @@ impl<I: IntNumber> IntVector<I> {
         requires other { IsSafe (2 * I.unit) other.now }
         ensures { I.Wide.value result ≡ cross self.now other.now }
     {
-        self.x * other.y - self.y * other.x
+        self.x.times(other.y).minus(self.y.times(other.x))
     }
 
     /// `x * other.x + y * other.y`. Components are below `2 * UNIT` in size.
@@ -151,7 +151,7 @@ impl<I: IntNumber> IntVector<I> {
         requires other { IsSafe (2 * I.unit) other.now }
         ensures { I.Wide.value result ≡ dot self.now other.now }
     {
-        self.x * other.x + self.y * other.y
+        self.x.times(other.x).plus(self.y.times(other.y))
     }
 
     /// The square of the length. Components are below `2 * UNIT` in size.

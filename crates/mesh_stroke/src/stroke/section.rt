@@ -8,7 +8,7 @@ ghost use Rattle.mesh_join.specs.Appending.{Appends, HasRoomForEdges};
 ghost use Rattle.mesh_stroke.specs.Midway.{own_edge, section_of, IsMade};
 ghost use Rattle.mesh_stroke.specs.Strokes.{side_edges};
 
-use mesh_num::num::{IntNumber, IntPoint, IntVector, UnitIntVector};
+use mesh_num::num::{IntNumber, IntPoint, IntVector, UnitIntVector, WideNumber};
 use mesh_num::shape::segment::{Segment, SubjectSegments};
 use std::alloc::AllocError;
 use std::marker::Model;
@@ -101,7 +101,7 @@ fn left_of<I: IntNumber>(point: IntPoint<I>, scaled: &IntVector<I>) -> IntPoint<
     requires { IsSafe I.unit (minus point (right_quarter scaled.now)) }
     ensures { result ≡ minus point (right_quarter scaled.now) }
 {
-    let x = point.x.to_wide() - scaled.y;
-    let y = point.y.to_wide() + scaled.x;
+    let x = point.x.to_wide().minus(scaled.y);
+    let y = point.y.to_wide().plus(scaled.x);
     IntPoint::new(I::from_wide(x), I::from_wide(y))
 }

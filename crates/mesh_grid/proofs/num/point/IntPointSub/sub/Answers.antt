@@ -5,20 +5,18 @@ use Rattle.mesh_plane.specs.Plane.{minus}
 use Rattle.mesh_grid.proofs.Products.{coordinates_differ}
 use Rattle.mesh_grid.proofs.num.point.IntPointSub.sub.Goals as goal
 
-pub sub-requires : goal.sub-requires
-sub-requires g c =
-    g.met.I.Wide.WideNumber.can_sub_law _ _
+pub minus-requires : goal.minus-requires
+minus-requires g c =
     (coordinates_differ _ g.I.IntNumber.unit _ _ _ _ g.met.I.IntNumber.half_law g.met.I.IntNumber.least_law
     c.to_wide.ensures.value c.to_wide-2.ensures.value c.to_wide.ensures.range c.to_wide-2.ensures.range)
 
-pub sub-requires-2 : goal.sub-requires-2
-sub-requires-2 g c =
-    g.met.I.Wide.WideNumber.can_sub_law _ _
+pub minus-requires-2 : goal.minus-requires-2
+minus-requires-2 g c =
     (coordinates_differ _ g.I.IntNumber.unit _ _ _ _ g.met.I.IntNumber.half_law g.met.I.IntNumber.least_law
     c.to_wide-3.ensures.value c.to_wide-4.ensures.value c.to_wide-3.ensures.range c.to_wide-4.ensures.range)
 
 pub returns : goal.returns
 returns g c =
-    let x = g.met.I.Wide.WideNumber.sub_law _ _ _ c.sub.ensures ∙ (λ i. c.to_wide.ensures.value i -ℤ c.to_wide-2.ensures.value i) in
-    let y = g.met.I.Wide.WideNumber.sub_law _ _ _ c.sub-2.ensures ∙ (λ i. c.to_wide-3.ensures.value i -ℤ c.to_wide-4.ensures.value i) in
+    let x = c.minus.ensures ∙ (λ i. c.to_wide.ensures.value i -ℤ c.to_wide-2.ensures.value i) in
+    let y = c.minus-2.ensures ∙ (λ i. c.to_wide-3.ensures.value i -ℤ c.to_wide-4.ensures.value i) in
     (λ i. (x i, y i)) ∙ (λ i. minus (c.self.view_is i) (c.other.view_is i))

@@ -5,28 +5,28 @@ use Rattle.mesh_plane.specs.Plane.{dot}
 use Rattle.mesh_grid.proofs.Products.{product_within, sum_within}
 use Rattle.mesh_grid.proofs.num.point.IntVector.dot_product.Goals as goal
 
-pub mul-requires : goal.mul-requires
-mul-requires g c =
+pub times-requires : goal.times-requires
+times-requires g c =
     let s = rw (← c.self.view_is) at c.requires.own in
     let o = rw (← c.other.view_is) at c.requires.other in
-    g.met.I.Wide.WideNumber.can_mul_law _ _ (product_within _ g.I.IntNumber.unit _ _ g.met.I.IntNumber.half_law s.x o.x)
+    (product_within _ g.I.IntNumber.unit _ _ g.met.I.IntNumber.half_law s.x o.x)
 
-pub mul-requires-2 : goal.mul-requires-2
-mul-requires-2 g c =
+pub times-requires-2 : goal.times-requires-2
+times-requires-2 g c =
     let s = rw (← c.self.view_is) at c.requires.own in
     let o = rw (← c.other.view_is) at c.requires.other in
-    g.met.I.Wide.WideNumber.can_mul_law _ _ (product_within _ g.I.IntNumber.unit _ _ g.met.I.IntNumber.half_law s.y o.y)
+    (product_within _ g.I.IntNumber.unit _ _ g.met.I.IntNumber.half_law s.y o.y)
 
-pub add-requires : goal.add-requires
-add-requires g c =
+pub plus-requires : goal.plus-requires
+plus-requires g c =
     let s = rw (← c.self.view_is) at c.requires.own in
     let o = rw (← c.other.view_is) at c.requires.other in
-    let p = g.met.I.Wide.WideNumber.mul_law _ _ _ c.mul.ensures in
-    let q = g.met.I.Wide.WideNumber.mul_law _ _ _ c.mul-2.ensures in
-    g.met.I.Wide.WideNumber.can_add_law _ _ (sum_within _ g.I.IntNumber.unit _ _ _ _ _ _ g.met.I.IntNumber.half_law p q s.x o.x s.y o.y)
+    let p = c.times.ensures in
+    let q = c.times-2.ensures in
+    (sum_within _ g.I.IntNumber.unit _ _ _ _ _ _ g.met.I.IntNumber.half_law p q s.x o.x s.y o.y)
 
 pub returns : goal.returns
 returns g c =
-    let p = g.met.I.Wide.WideNumber.mul_law _ _ _ c.mul.ensures in
-    let q = g.met.I.Wide.WideNumber.mul_law _ _ _ c.mul-2.ensures in
-    g.met.I.Wide.WideNumber.add_law _ _ _ c.add.ensures ∙ (λ i. p i +ℤ q i) ∙ (λ i. dot (c.self.view_is i) (c.other.view_is i))
+    let p = c.times.ensures in
+    let q = c.times-2.ensures in
+    c.plus.ensures ∙ (λ i. p i +ℤ q i) ∙ (λ i. dot (c.self.view_is i) (c.other.view_is i))
