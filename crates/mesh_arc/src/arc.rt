@@ -168,7 +168,7 @@ impl<I: IntNumber> IntegerArc<I> {
         // Once the directions are no longer used, the builder is as after `rebuild`.
         ensures* after { sem 𝓛 (EndsWith
             (the_row I.row I.Wide.row I.WideUInt.row I.IntNumber.own I.Ord.own I.PartialEq I.PartialOrd.own
-            I.Wide.WideNumber.own I.Wide.Add I.Wide.Sub I.Wide.Mul I.WideUInt.WideUnsigned.own)
+            I.Wide.WideNumber.own I.WideUInt.WideUnsigned.own)
             self.entry (λ n. IsBuilt I.unit self.old n direction from to result)) }
     {
         self.rebuild(from, to, direction)?;
