@@ -7,7 +7,7 @@ use Rattle.mesh_plane.specs.Bounds.{IsSmall}
 use Rattle.mesh_plane.specs.Plane.{Point, cross}
 use Rattle.mesh_plane.specs.Winding.{refined}
 use Rattle.mesh_plane.proofs.Whole.{linear, multiplied}
-use Rattle.mesh_cuts.proofs.Arithmetic.{small_kept}
+use Rattle.mesh_cuts.proofs.Arithmetic.{small_fits, small_kept}
 use Rattle.mesh_boundary.proofs.slanted.fine_across.Goals as goal
 
 twice_small : (z : ℤ) → IsSmall (2 ^ 65) z → IsSmall (2 ^ 66) (pos 2 *ℤ z)
@@ -19,6 +19,11 @@ cross_twice d p = simp multiplied (omega (arith, linear))
 twice_kept : (z : ℤ) → IsSmall (2 ^ 65) z → to_z w128 (of_z w128 (pos 2 *ℤ to_z w128 (of_z w128 z))) ≡ pos 2 *ℤ z
 twice_kept z s =
     ap (λ (y : ℤ). to_z w128 (of_z w128 (pos 2 *ℤ y))) (small_kept (2 ^ 65) z (lit≤ tt) s) ∙ small_kept (2 ^ 66) (pos 2 *ℤ z) (lit≤ tt) (twice_small z s)
+
+pub overflow_mul-result : goal.overflow_mul-result
+overflow_mul-result c =
+    let z = c.across.result in
+    rw (small_kept (2 ^ 65) z (lit≤ tt) c.across.ensures.size) (small_fits (2 ^ 66) (pos 2 *ℤ z) (lit≤ tt) (twice_small z c.across.ensures.size))
 
 pub returns-clause-value : goal.returns-clause-value
 returns-clause-value c =

@@ -1,8 +1,9 @@
-use Rattle.std.proofs.Common.{subst, sym}
+use Rattle.std.proofs.Common.{◌^◌, lit≤, ◌∙◌, ap, subst, sym}
 use Rattle.std.specs.Prelude.{ℤ}
 use Rattle.std.proofs.lemmas.Bool.{both_ways}
 use Rattle.mesh_plane.specs.Plane.{Point}
 use Rattle.mesh_cuts.specs.Split.{AreOpposite, Meets, at_start_of_second, at_end_of_second, at_start_of_first, at_end_of_first, at_crossing}
+use Rattle.mesh_cuts.proofs.Arithmetic.{small_kept}
 use Rattle.mesh_cuts.proofs.Boxes.{meets_box}
 use Rattle.mesh_cuts.proofs.Meeting.{AreAlike, clear_of_tests, clear_of_sides}
 use Rattle.mesh_cuts.proofs.exact.meeting.Goals as goal
@@ -13,6 +14,22 @@ returns-then-are_boxes_apart c = λ p m. c.are_boxes_apart.ensures c.if-are_boxe
 pub returns-then-are_alike : goal.returns-then-are_alike
 returns-then-are_alike c =
     clear_of_sides c.args.e c.args.f (subst (λ (s : ℤ × ℤ). AreAlike s.0 s.1) c.sides_of-second.ensures.value (c.are_alike.ensures c.if-are_alike.true))
+
+pub is_inside-requires : goal.is_inside-requires
+is_inside-requires c =
+    small_kept (2 ^ 65) c.sides_of-second.result.0 (lit≤ tt) c.sides_of-second.ensures.size.x ∙ ap (λ (s : ℤ × ℤ). s.0) c.sides_of-second.ensures.value
+
+pub is_inside-requires-2 : goal.is_inside-requires-2
+is_inside-requires-2 c =
+    small_kept (2 ^ 65) c.sides_of-second.result.1 (lit≤ tt) c.sides_of-second.ensures.size.y ∙ ap (λ (s : ℤ × ℤ). s.1) c.sides_of-second.ensures.value
+
+pub is_inside-requires-3 : goal.is_inside-requires-3
+is_inside-requires-3 c =
+    small_kept (2 ^ 65) c.sides_of-first.result.0 (lit≤ tt) c.sides_of-first.ensures.size.x ∙ ap (λ (s : ℤ × ℤ). s.0) c.sides_of-first.ensures.value
+
+pub is_inside-requires-4 : goal.is_inside-requires-4
+is_inside-requires-4 c =
+    small_kept (2 ^ 65) c.sides_of-first.result.1 (lit≤ tt) c.sides_of-first.ensures.size.y ∙ ap (λ (s : ℤ × ℤ). s.1) c.sides_of-first.ensures.value
 
 pub returns-then-is_inside : goal.returns-then-is_inside
 returns-then-is_inside c = at_start_of_second (c.is_inside.ensures.0 c.if-is_inside.true)

@@ -12,6 +12,14 @@ sum_fits a b s t = omega (arith, ints, s.low, s.high, t.low, t.high)
 small_fits : (a : ℤ) → IsSmall (2 ^ 48) a → SFits w64 a
 small_fits a s = omega (arith, ints, s.low, s.high)
 
+pub overflow_add-result : goal.overflow_add-result
+overflow_add-result c =
+    let a = c.term.result in
+    let b = c.term-2.result in
+    let s = c.term.ensures.size in
+    let t = c.term-2.ensures.size in
+    rw (to_z-of_z w64 a (small_fits a s), to_z-of_z w64 b (small_fits b t)) (sum_fits a b s t)
+
 pub returns : goal.returns
 returns c =
     let x : SFits w16 c.args.across.0 = search rules in

@@ -13,3 +13,6 @@ returns-clause-regions g c =
     on_ok_weaker c.replace_with.result
     (λ holds. (shapes_of c.in_ok-shapes.shapes.items, c.in_ok-shapes.ensures.regions, holds))
     c.replace_with.ensures.ok
+
+pub returns-clause-err : goal.returns-clause-err
+returns-clause-err g c = c.replace_with.ensures.err

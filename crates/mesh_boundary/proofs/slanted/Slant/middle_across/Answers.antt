@@ -7,7 +7,7 @@ use Rattle.mesh_plane.specs.Bounds.{IsSmall}
 use Rattle.mesh_plane.specs.Plane.{Point, Edge, cross}
 use Rattle.mesh_plane.proofs.Whole.{linear, multiplied}
 use Rattle.mesh_cuts.specs.Boundary.{middle}
-use Rattle.mesh_cuts.proofs.Arithmetic.{small_kept}
+use Rattle.mesh_cuts.proofs.Arithmetic.{small_fits, small_kept}
 use Rattle.mesh_boundary.specs.Midway.Slants.{IsSlant}
 use Rattle.mesh_boundary.proofs.slanted.Slant.middle_across.Goals as goal
 
@@ -20,6 +20,13 @@ cross_middle d e = simp multiplied (omega (arith, linear))
 sum_kept : (y z : ℤ) → IsSmall (2 ^ 65) y → IsSmall (2 ^ 65) z → to_z w128 (of_z w128 (to_z w128 (of_z w128 y) +ℤ to_z w128 (of_z w128 z))) ≡ y +ℤ z
 sum_kept y z s t =
     (λ i. to_z w128 (of_z w128 (small_kept (2 ^ 65) y (lit≤ tt) s i +ℤ small_kept (2 ^ 65) z (lit≤ tt) t i))) ∙ small_kept (2 ^ 66) (y +ℤ z) (lit≤ tt) (sum_small y z s t)
+
+pub overflow_add-result : goal.overflow_add-result
+overflow_add-result c =
+    let y = c.across.result in
+    let z = c.across-2.result in
+    rw (small_kept (2 ^ 65) y (lit≤ tt) c.across.ensures.size, small_kept (2 ^ 65) z (lit≤ tt) c.across-2.ensures.size)
+    (small_fits (2 ^ 66) (y +ℤ z) (lit≤ tt) (sum_small y z c.across.ensures.size c.across-2.ensures.size))
 
 pub returns-clause-value : goal.returns-clause-value
 returns-clause-value c =
