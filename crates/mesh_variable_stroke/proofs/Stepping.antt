@@ -1,15 +1,15 @@
 -- Lemmas over paths: each kind of step of a walk, and that a walk stays good.
 use Rattle.std.proofs.Common.{◌≡◌, ℕ, List, ◌++◌, sym, subst, ◌∙◌, ap}
 use Rattle.std.specs.Prelude.{Bool, true, false, cond, Option, Some, None, IfSome, int_lt}
-use Rattle.mesh_plane.specs.Plane.{Point}
+use Rattle.mesh_plane.specs.Plane.{Point, Edge}
 use Rattle.mesh_num.specs.Segments.{SignedEdge, segments_of}
 use Rattle.mesh_arc.specs.declared.arc.ArcOptions.{ArcOptions}
 use Rattle.mesh_sweep.specs.declared.sweep.Sweep.{Sweep}
 use Rattle.mesh_sweep.specs.Sweeps.{arc_edges, circle_edges}
-use Rattle.mesh_tangent.specs.Sections.{Circle, Section, section_of, with_contacts, has_no_section, IsSafeCircle, HasContacts, IsSafeSection}
-use Rattle.mesh_variable_stroke.specs.Midway.{Open, Walk, opened, gone_on, step_edges, finish_edges}
+use Rattle.mesh_tangent.specs.Sections.{Circle, Section, section_of, is_nested, with_contacts, has_no_section, IsSafeCircle, HasContacts, IsSafeSection}
+use Rattle.mesh_variable_stroke.specs.Midway.{Open, Walk, opened, gone_on, step_edges, finish_edges, step_to, walked_edges}
 use Rattle.mesh_variable_stroke.specs.Midway.{IsGoodOpen, IsGoodSection, IsGoodWalk, last_with}
-use Rattle.mesh_variable_stroke.specs.Chains.{end_after, is_smaller}
+use Rattle.mesh_variable_stroke.specs.Chains.{Step, is_break, is_cover, end_after, is_smaller, is_covered_by}
 use Rattle.mesh_variable_stroke.specs.VariableStrokes.{SectionPair, is_apart, are_butt, sweep_at, start_edges, end_edges, left_edges, right_edges, joint_edges}
 use Rattle.mesh_variable_stroke.specs.declared.chain_end.ChainEnd.{ChainEnd}
 use Rattle.mesh_variable_stroke.specs.declared.chain_end.ChainEnd.TheVariants.{Butt, Round}
@@ -102,6 +102,22 @@ plain_good unit w v c o b end e h is safe good = record {
   before = good;
   at = safe;
 }
+
+-- what a walk adds at a cover
+abbrev again_edges : ℕ → ArcOptions → Walk → Circle → Option Section → List Edge
+again_edges unit options w at o = finish_edges unit options w.chain Round ++ step_edges unit options (opened at Butt) o
+
+cover_edges : (unit : ℕ) (options : ArcOptions) (w : Walk) (s : Step) → is_break s ≡ false → is_cover s ≡ true →
+    again_edges unit options w s.a s.section ≡ walked_edges unit options w s
+cover_edges unit options w s apart covers = rw (apart, covers)
+
+pub covered_edges : (unit : ℕ) (options : ArcOptions) (w v : Walk) (b : Circle) (o : Option Section) → v ≡ w → o ≡ section_of unit v.at b →
+    is_nested v.at b ≡ false → is_covered_by v.before b ≡ true →
+    again_edges unit options v v.at o ≡ walked_edges unit options w (step_to unit w b)
+covered_edges unit options w v b o e is apart covers =
+    subst (λ (k : Walk). again_edges unit options v v.at o ≡ walked_edges unit options k (step_to unit k b)) e
+    (subst (λ (p : Option Section). again_edges unit options v v.at o ≡ walked_edges unit options v (record { before = v.before; section = p; a = v.at; b = b })) is
+    (cover_edges unit options v (record { before = v.before; section = o; a = v.at; b = b }) apart covers))
 
 -- ---- ends of chains; `v` is how the code sees the section `s` or the chain `c`
 
