@@ -1,6 +1,6 @@
 -- Lemmas over points: what the steps of joins need to know of a corner.
-use Rattle.std.proofs.Common.{◌≡◌, ℕ, ◌*◌, ◌<◌, ◌≤◌, ap, sym, arith}
-use Rattle.std.specs.Prelude.{ℤ, pos, negsuc, ◌*ℤ◌, ◌≤ℤ◌, int_le, unsigned_abs}
+use Rattle.std.proofs.Common.{◌≡◌, Bool, true, ◌∙◌, ℕ, ◌*◌, ◌<◌, ◌≤◌, ap, sym, arith}
+use Rattle.std.specs.Prelude.{ℤ, pos, negsuc, ◌*ℤ◌, ◌≤ℤ◌, ◌&&◌, int_le, unsigned_abs}
 use Rattle.std.proofs.lemmas.Int.{ints}
 use Rattle.mesh_plane.specs.Bounds.{IsSafe}
 use Rattle.mesh_plane.specs.Plane.{Point, plus, minus, right_quarter}
@@ -62,3 +62,7 @@ near_difference unit padding v p s w = record {
   x = record { low = omega (arith, ints, s.0.x.low, s.1.x.high, w.west); high = omega (arith, ints, s.0.x.low, s.1.x.high, w.east) };
   y = record { low = omega (arith, ints, s.0.y.low, s.1.y.high, w.south); high = omega (arith, ints, s.0.y.low, s.1.y.high, w.north) };
 }
+
+-- the second of two tests counts where the first holds
+pub both_ahead : (first second a b : Bool) → first ≡ a → first ≡ true → second ≡ b → second ≡ (a && b)
+both_ahead first second a b e h k = k ∙ ap (λ (x : Bool). x && b) (sym h ∙ e)

@@ -1,6 +1,9 @@
 -- Lemmas over lists: what is drawn in each case of circles and arcs.
-use Rattle.std.proofs.Common.{◌≡◌, ℕ, Bool, true, false, List, [], ◌++◌, ◌∙◌, ap, arith, to_z, of_z}
-use Rattle.std.specs.Prelude.{ℤ, pos, ◌≤ℤ◌, ◌<ℤ◌, int_le, FitsSigned, if◌then◌else◌}
+use Rattle.std.proofs.Common.{◌≡◌, ℕ, Bool, true, false, List, [], ◌++◌, ◌∙◌, ap, sym, subst, arith, to_z, of_z}
+use Rattle.std.specs.Bool.{IsTrue}
+use Rattle.std.specs.Bool.{IsTrue}
+use Rattle.std.specs.Prelude.{ℤ, pos, ◌≤ℤ◌, ◌<ℤ◌, int_le, FitsSigned, ◌||◌, if◌then◌else◌}
+use Rattle.std.proofs.lemmas.Bool.{false≢true}
 use Rattle.std.proofs.lemmas.Int.{ints, to_z-of_z}
 use mir.Syntax.{w128}
 use Rattle.mesh_plane.specs.Plane.{Point, Edge}
@@ -8,7 +11,7 @@ use Rattle.mesh_plane.specs.Winding.{route}
 use Rattle.mesh_arc.specs.declared.arc.ArcOptions.{ArcOptions}
 use Rattle.mesh_sweep.specs.declared.sweep.Sweep.{Sweep}
 use Rattle.mesh_sweep.specs.Sweeps.{distance, polyline_edges, half_circles, circle_edges, sweep_of, is_empty}
-use Rattle.mesh_sweep.specs.Sweeps.{is_central, is_whole, arc_edges}
+use Rattle.mesh_sweep.specs.Sweeps.{is_central, is_whole, arc_edges, is_direct}
 
 -- ---- circles
 
@@ -83,3 +86,10 @@ module _ (unit : ℕ) (options : ArcOptions) (c x y : Point) (aligned : Sweep) w
   pub arc_polyline : empty ≡ false → is_central c x y ≡ false → whole ≡ false
       → arc_edges unit options c x y aligned ≡ polyline
   arc_polyline h k l = arc_more h k ∙ ap (λ (b : Bool). if b then circle else polyline) l
+
+  -- an arc that the code takes neither for empty nor for central takes memory
+  pub arc_long : (s : Sweep) (nothing central : Bool) → s ≡ sweep_of c x y aligned → nothing ≡ is_empty s x y
+      → nothing ≡ false → central ≡ is_central c x y → central ≡ false → IsTrue (is_direct c x y aligned) → ⊥
+  arc_long s nothing central e f h g k direct =
+      let some : empty ≡ false = (ap (λ (t : Sweep). is_empty t x y) (sym e) ∙ sym f) ∙ h in
+      absurd (false≢true (subst IsTrue (ap (λ (b : Bool). b || is_central c x y) some ∙ (sym g ∙ k)) direct))

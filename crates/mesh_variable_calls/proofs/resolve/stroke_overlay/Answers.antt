@@ -1,5 +1,5 @@
 -- What the segments hold, that they can be resolved, and that this stays safe.
-use Rattle.std.proofs.Common.{ap}
+use Rattle.std.proofs.Common.{ap, refl}
 use Rattle.mesh_variable_calls.proofs.Resolving.{resolvable, stays_safe}
 use Rattle.mesh_variable_calls.proofs.resolve.stroke_overlay.Goals as goal
 
@@ -7,6 +7,9 @@ pub returns-clause-resolvable : goal.returns-clause-resolvable
 returns-clause-resolvable g c =
     resolvable g.I.IntNumber.unit c.args.style.arc (g.S.IntVariableStrokeSource.paths c.args.source.now)
     g.met.I.IntNumber.least_law c.requires _ _ (ap (λ v. v.items) c.with_segments-overlay.ensures.segments) c.in_ok-stroke_segments.ensures
+
+pub returns-clause-options : goal.returns-clause-options
+returns-clause-options g c = refl
 
 pub returns-in_err-stroke_segments-clause-stays_safe : goal.returns-in_err-stroke_segments-clause-stays_safe
 returns-in_err-stroke_segments-clause-stays_safe g c =

@@ -1,5 +1,5 @@
 -- One path after another.
-use Rattle.std.proofs.Common.{[], arith, ◌∙◌}
+use Rattle.std.proofs.Common.{[], arith, ◌∙◌, take_all}
 use Rattle.mesh_draw.proofs.ManyPaths.{built_none, built_more}
 use Rattle.mesh_variable_stroke.specs.VariableStrokes.{variable_stroke_edges}
 use Rattle.mesh_variable_calls.proofs.Reach.{each_strokable}
@@ -24,3 +24,8 @@ loop-index-preserved g c =
           c.loop-index.index [] c.loop-index.segments.items c.build.new.segments.items (omega arith) c.loop-index.invariant.built c.in_ok-build.ensures.kept edges c.in_ok-build.ensures.form;
       same = c.build.ensures.same ∙ c.loop-index.invariant.same;
     }
+
+pub returns : goal.returns
+returns g c =
+    rw (take_all c.loop-index.index (g.S.IntVariableStrokeSource.paths c.args.source.now) (omega arith))
+    at c.loop-index.invariant.built

@@ -8,7 +8,7 @@ use Rattle.mesh_plane.specs.Winding.{route}
 use Rattle.mesh_num.specs.Segments.{segments_of}
 use Rattle.mesh_sweep.specs.declared.sweep.Sweep.{Sweep}
 use Rattle.mesh_sweep.specs.Sweeps.{distance, sweep_of, is_empty, is_whole, circle_edges, polyline_edges}
-use Rattle.mesh_sweep.proofs.Cases.{arc_empty, arc_central, arc_whole, arc_polyline}
+use Rattle.mesh_sweep.proofs.Cases.{arc_empty, arc_central, arc_whole, arc_polyline, arc_long}
 use Rattle.mesh_join.proofs.Drawing.{appends_both}
 use Rattle.mesh_sweep.proofs.Swept.{swept_from, swept_to, from_seen, to_seen, reach_small}
 use Rattle.mesh_sweep.proofs.sweeper.Sweeper.push_arc.Goals as goal
@@ -123,3 +123,18 @@ returns-else-is_whole-clause-ok g c =
     (sym (arc_polyline unit c.args.self.now c.args.center c.args.from c.args.to c.args.aligned e
     (sym c.is_central.ensures ∙ c.if-is_central.false) w)))
     c.push_polyline.ensures.ok
+
+pub returns-else-is_whole-clause-room : goal.returns-else-is_whole-clause-room
+returns-else-is_whole-clause-room g c direct room =
+    absurd (arc_long g.I.IntNumber.unit c.args.self.now c.args.center c.args.from c.args.to c.args.aligned _ _ _
+    c.sweep_of-sweep.ensures c.is_empty.ensures c.if-is_empty.false c.is_central.ensures c.if-is_central.false direct)
+
+pub returns-in_ok-push_circle-clause-room : goal.returns-in_ok-push_circle-clause-room
+returns-in_ok-push_circle-clause-room g c direct room =
+    absurd (arc_long g.I.IntNumber.unit c.args.self.now c.args.center c.args.from c.args.to c.args.aligned _ _ _
+    c.sweep_of-sweep.ensures c.is_empty.ensures c.if-is_empty.false c.is_central.ensures c.if-is_central.false direct)
+
+pub returns-in_err-push_circle-clause-room : goal.returns-in_err-push_circle-clause-room
+returns-in_err-push_circle-clause-room g c direct room =
+    absurd (arc_long g.I.IntNumber.unit c.args.self.now c.args.center c.args.from c.args.to c.args.aligned _ _ _
+    c.sweep_of-sweep.ensures c.is_empty.ensures c.if-is_empty.false c.is_central.ensures c.if-is_central.false direct)

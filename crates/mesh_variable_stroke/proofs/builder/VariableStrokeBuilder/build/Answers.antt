@@ -1,5 +1,5 @@
 -- What holds of the edges that the walk added.
-use Rattle.std.proofs.Common.{List, sym, subst}
+use Rattle.std.proofs.Common.{List, sym, subst, ◌∙◌}
 use Rattle.std.specs.List.{All}
 use Rattle.mesh_num.specs.Segments.{SignedEdge, IsSubject}
 use Rattle.mesh_arc.specs.declared.arc.ArcOptions.{ArcOptions}
@@ -47,3 +47,7 @@ returns-clause-safe g c =
 pub returns-clause-sum : goal.returns-clause-sum
 returns-clause-sum g c =
     (adds_stroked g.I.IntNumber.unit g.met.I.IntNumber.least_law c.args.self.now c.args.path.now _ _ c.requires (adds g c)).sum
+
+pub returns-in-Err-clause-refused : goal.returns-in-Err-clause-refused
+returns-in-Err-clause-refused g c =
+    (rw (c.len-length.ensures, c.args.segments.now.ok.0) at c.truncate.ensures.items) ∙ c.draw.ensures.kept

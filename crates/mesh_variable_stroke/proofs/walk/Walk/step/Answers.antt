@@ -1,6 +1,6 @@
 -- The walk stays good.
-use Rattle.std.proofs.Common.{◌≡◌, true, false}
-use Rattle.mesh_variable_stroke.proofs.Stepping.{section_seen, broken_good, covered_good, plain_good}
+use Rattle.std.proofs.Common.{◌≡◌, true, false, sym, ◌∙◌}
+use Rattle.mesh_variable_stroke.proofs.Stepping.{section_seen, covered_edges, broken_good, covered_good, plain_good}
 use Rattle.mesh_variable_stroke.proofs.Thin.{thin_chain_seen, none_seen}
 use Rattle.mesh_draw.proofs.Adding.{on_ok_then}
 use Rattle.mesh_variable_stroke.proofs.walk.Walk.step.Goals as goal
@@ -15,6 +15,12 @@ pub start_again-requires-clause-section : goal.start_again-requires-clause-secti
 start_again-requires-clause-section g c =
     section_seen g.I.IntNumber.unit c.args.self.now _ c.args.next c.new-section.result c.self.view_is c.requires.walk
     c.requires.next c.new-section.ensures.value c.new-section.ensures.contacts c.new-section.ensures.safe
+
+pub returns-then-covered-clause-ok : goal.returns-then-covered-clause-ok
+returns-then-covered-clause-ok g c =
+    rw (covered_edges g.I.IntNumber.unit c.args.sweeper.now c.args.self.now _ c.args.next c.new-section.result c.self.view_is
+    c.new-section.ensures.value (sym c.is_nested_with.ensures ∙ c.if-is_nested_with.false)
+    (sym c.is_covered_by-covered.ensures ∙ c.if-covered.true)) at c.in_ok-self-inside-2.ensures.ok
 
 pub returns-then-covered-clause-good : goal.returns-then-covered-clause-good
 returns-then-covered-clause-good g c =
