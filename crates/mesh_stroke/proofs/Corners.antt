@@ -1,5 +1,5 @@
 -- Lemmas over points: the joins at the corners of a path are asked for as joins ask.
-use Rattle.std.proofs.Common.{◌≡◌, ◌≢◌, ℕ, ◌≤◌, ◌^◌, List, ◌++◌, refl, sym, subst, ◌∙◌, ap, arith}
+use Rattle.std.proofs.Common.{◌≡◌, ◌≢◌, ℕ, ◌+◌, ◌≤◌, ◌^◌, List, ◌++◌, length, refl, sym, subst, ◌∙◌, ap, append_assoc, length-append, arith}
 use Rattle.std.specs.Prelude.{ℤ, pos, ◌*ℤ◌, ◌≤ℤ◌, ◌<ℤ◌, ◌↔◌, IsTrue, Bool, true, false, cond, int_lt}
 use Rattle.std.specs.List.{All}
 use Rattle.std.proofs.lemmas.Int.{ints, by_lt_z}
@@ -14,16 +14,16 @@ use Rattle.mesh_grid.proofs.Scaling.{scaled_turn_kept}
 use Rattle.mesh_cuts.specs.Split.{back}
 use Rattle.mesh_arc.specs.Arcs.{sense_of}
 use Rattle.mesh_arc.specs.declared.arc.ArcDirection.TheVariants.{Counterclockwise}
-use Rattle.mesh_join.specs.Joins.{IsJoint}
-use Rattle.mesh_join.specs.Joints.{joint, IsTurn, contact}
+use Rattle.mesh_join.specs.Joins.{IsJoint, join_edges}
+use Rattle.mesh_join.specs.Joints.{Joint, joint, IsTurn, contact}
 use Rattle.mesh_join.specs.Styles.{JoinStyle}
 use Rattle.mesh_join.proofs.JoinLaws.{KeepsJoint}
 use Rattle.mesh_join.proofs.Joins.{join_keeps}
 use Rattle.mesh_draw.proofs.Quarters.{quarters_turn}
 use Rattle.mesh_stroke.specs.Paths.{neighbours}
-use Rattle.mesh_num.specs.Segments.{SignedEdge, segments_of}
+use Rattle.mesh_num.specs.Segments.{SignedEdge, segment_between, segments_of}
 use Rattle.mesh_stroke.specs.Midway.{Section, section_of, own_edge, IsCorner}
-use Rattle.mesh_stroke.specs.Strokes.{EdgePair, heading, facing, joint_right, inner_edges, outer_edges, corner_edges}
+use Rattle.mesh_stroke.specs.Strokes.{EdgePair, heading, left_of, facing, joint_right, inner_edges, outer_edges, corner_edges}
 use Rattle.mesh_stroke.proofs.Chains.{IsChain, neighbours_all}
 use Rattle.mesh_stroke.proofs.Sides.{heading_is}
 
@@ -134,16 +134,94 @@ turned_there p n h = rw (other_way_turns (p, n)) (omega (arith, ints, cross_flip
 pub not_below : (b : Bool) (x : ℤ) → (IsTrue b ↔ x <ℤ pos 0) → b ≡ false → pos 0 ≤ℤ x
 not_below b x h e = by_lt_z x (pos 0) (λ l. let k : true ≡ false = sym (h.1 l) ∙ e in cc) (λ l. l)
 
--- the corner that the code hands to a join is as it asks
+-- the joint that the code hands to a join is that of the corner
+joint_is : (unit : ℕ) (radius : ℤ) (join : JoinStyle) (p n : Section) → IsCorner unit radius join (p, n) →
+    joint p.b p.b_right n.a_right p.direction n.direction radius Counterclockwise ≡ joint_right unit radius (own_edge p, own_edge n)
+joint_is unit radius join p n h = λ i. joint p.b (h.previous.made i).b_right (h.next.made i).a_right (h.previous.made i).direction (h.next.made i).direction radius Counterclockwise
+
+-- and it is as a join asks
 pub joint_met : (unit : ℕ) (least : 2 ^ 14 ≤ unit) (radius : ℤ) (join : JoinStyle) (p n : Section) → IsCorner unit radius join (p, n) →
     pos 0 ≤ℤ left_turn (own_edge p, own_edge n) → IsJoint unit join (joint p.b p.b_right n.a_right p.direction n.direction radius Counterclockwise)
-joint_met unit least radius join p n h left = record { turn = subst (IsTurn unit) (sym same) turn; safe = h.movable }
+joint_met unit least radius join p n h left = record { turn = subst (IsTurn unit) (sym (joint_is unit radius join p n h)) turn; safe = h.movable }
   where
-    same : joint p.b p.b_right n.a_right p.direction n.direction radius Counterclockwise ≡ joint_right unit radius (own_edge p, own_edge n)
-    same = λ i. joint p.b (h.previous.made i).b_right (h.next.made i).a_right (h.previous.made i).direction (h.next.made i).direction radius Counterclockwise
-
     turn : IsTurn unit (joint_right unit radius (own_edge p, own_edge n))
     turn = turn_right unit least radius h.sign (own_edge p, own_edge n) (record { first = h.previous.differ; second = h.next.differ; met = h.met }) left
+
+-- what the code adds at a corner as it is faced: two edges through the vertex, and the join
+module _ (unit : ℕ) (radius : ℤ) (join : JoinStyle) (p n : Section) (h : IsCorner unit radius join (p, n)) where
+  abbrev edges : List Edge
+  edges = inner_edges unit radius (own_edge p, own_edge n) ++ outer_edges unit radius join (own_edge p, own_edge n)
+
+  abbrev joined : List Edge
+  joined = join_edges unit join (joint p.b p.b_right n.a_right p.direction n.direction radius Counterclockwise)
+
+  abbrev begun : List SignedEdge
+  begun = segment_between (left_of unit radius (own_edge n) n.a) n.a
+
+  abbrev ended : List SignedEdge
+  ended = segment_between p.b (left_of unit radius (own_edge p) p.b)
+
+  begun_is : segment_between n.a_left n.a ≡ begun
+  begun_is = λ i. segment_between (h.next.made i).a_left n.a
+
+  ended_is : segment_between p.b p.b_left ≡ ended
+  ended_is = λ i. segment_between p.b (h.previous.made i).b_left
+
+  joined_is : segments_of joined ≡ segments_of (outer_edges unit radius join (own_edge p, own_edge n))
+  joined_is = ap (λ (j : Joint). segments_of (join_edges unit join j)) (joint_is unit radius join p n h)
+
+  pub faced_added : (old one two new : List SignedEdge) → one ≡ old ++ segment_between n.a_left n.a →
+      two ≡ one ++ segment_between p.b p.b_left → new ≡ two ++ segments_of joined → new ≡ old ++ segments_of edges
+  faced_added old one two new a b c =
+      let outer : List SignedEdge = segments_of (outer_edges unit radius join (own_edge p, own_edge n)) in
+      c
+      ∙ (λ i. (b ∙ (λ j. (a ∙ (λ k. old ++ begun_is k)) j ++ ended_is j)) i ++ joined_is i)
+      ∙ append_assoc (old ++ begun) ended outer
+      ∙ append_assoc old begun (ended ++ outer)
+
+  -- each of them fits where all do
+  pub room_begun : (count capacity : ℕ) → count + length (segments_of edges) ≤ capacity
+      → count + length (segment_between n.a_left n.a) ≤ capacity
+  room_begun count capacity fits =
+      let outer : List SignedEdge = segments_of (outer_edges unit radius join (own_edge p, own_edge n)) in
+      omega (arith, fits, ap length begun_is, length-append begun (ended ++ outer))
+
+  pub room_ended : (old one : List SignedEdge) (capacity grown : ℕ) → one ≡ old ++ segment_between n.a_left n.a
+      → capacity ≤ grown → length old + length (segments_of edges) ≤ capacity
+      → length one + length (segment_between p.b p.b_left) ≤ grown
+  room_ended old one capacity grown a more fits =
+      let outer : List SignedEdge = segments_of (outer_edges unit radius join (own_edge p, own_edge n)) in
+      omega (
+        arith,
+        fits,
+        more,
+        ap length a,
+        length-append old (segment_between n.a_left n.a),
+        ap length begun_is,
+        ap length ended_is,
+        length-append begun (ended ++ outer),
+        length-append ended outer,
+      )
+
+  pub room_joined : (old one two : List SignedEdge) (capacity grown : ℕ) → one ≡ old ++ segment_between n.a_left n.a
+      → two ≡ one ++ segment_between p.b p.b_left → capacity ≤ grown
+      → length old + length (segments_of edges) ≤ capacity → length two + length (segments_of joined) ≤ grown
+  room_joined old one two capacity grown a b more fits =
+      let outer : List SignedEdge = segments_of (outer_edges unit radius join (own_edge p, own_edge n)) in
+      omega (
+        arith,
+        fits,
+        more,
+        ap length a,
+        ap length b,
+        length-append old (segment_between n.a_left n.a),
+        length-append one (segment_between p.b p.b_left),
+        ap length begun_is,
+        ap length ended_is,
+        ap length joined_is,
+        length-append begun (ended ++ outer),
+        length-append ended outer,
+      )
 
 -- the sections that the code makes of a corner that turns to the right are those of the corner as it is faced
 pub faced_sections : (unit : ℕ) (radius : ℤ) (p n before after : Section) → left_turn (own_edge p, own_edge n) <ℤ pos 0

@@ -16,3 +16,13 @@ moved-requires-2 g c =
     let least = g.met.I.IntNumber.least_law in
     rw (c.scale-outward.ensures.value)
     (square_points_safe g.I.IntNumber.unit _ (omega (arith, least)) c.end.invariant.incoming_short h).1
+
+pub returns-clause-ok : goal.returns-clause-ok
+returns-clause-ok g c =
+    rw (← c.end.view_is)
+    (rw (c.moved.ensures, c.moved-2.ensures, c.scale-outward.ensures.value) at c.push_through_both.ensures.ok)
+
+pub returns-clause-room : goal.returns-clause-room
+returns-clause-room g c =
+    rw (← c.end.view_is)
+    (rw (c.moved.ensures, c.moved-2.ensures, c.scale-outward.ensures.value) at c.push_through_both.ensures.room)

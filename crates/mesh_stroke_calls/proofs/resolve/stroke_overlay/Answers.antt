@@ -1,8 +1,11 @@
 -- What the segments hold, that they can be resolved, and that this stays safe.
-use Rattle.std.proofs.Common.{ap}
+use Rattle.std.proofs.Common.{refl, ap}
 use Rattle.mesh_stroke.specs.Styles.{stroke_style_of}
 use Rattle.mesh_stroke_calls.proofs.Resolving.{resolvable, stays_safe}
 use Rattle.mesh_stroke_calls.proofs.resolve.stroke_overlay.Goals as goal
+
+pub returns-clause-options : goal.returns-clause-options
+returns-clause-options g c = refl
 
 pub returns-clause-resolvable : goal.returns-clause-resolvable
 returns-clause-resolvable g c =

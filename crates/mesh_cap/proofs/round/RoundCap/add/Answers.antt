@@ -9,3 +9,6 @@ add-requires g c =
     let least = g.met.I.IntNumber.least_law in
     round_end_is_joint g.I.IntNumber.unit c.args.self.now c.self.inside.options c.self.inside.join _
     (omega (arith, least)) c.self.invariant h
+
+pub returns-clause-ok : goal.returns-clause-ok
+returns-clause-ok g c = rw (← c.end.view_is, ← c.self.view_is) (rw c.self.invariant at c.add.ensures.ok)

@@ -1,5 +1,5 @@
 -- What holds of the edges that the walk added.
-use Rattle.std.proofs.Common.{◌+◌, ◌≤◌, List, length, sym, subst, arith}
+use Rattle.std.proofs.Common.{◌≡◌, ℕ, ◌+◌, ◌≤◌, List, length, take, sym, subst, ap, ◌∙◌, arith}
 use Rattle.std.specs.Prelude.{vec_capacity}
 use Rattle.std.specs.List.{All}
 use Rattle.mesh_num.specs.Segments.{SignedEdge, IsSubject}
@@ -19,6 +19,13 @@ use Rattle.mesh_stroke.proofs.stroke.builder.StrokeBuilder.build.Goals as goal
 abbrev adds : (g : given.Over) (c : goal.In_default g) → Adds c.args.segments.now.items c.draw.new.segments.items (stroke_edges g.I.IntNumber.unit c.args.self.now c.args.closed c.args.path.now)
 adds g c =
     subst (λ (style : StrokeStyle). Adds c.args.segments.now.items c.draw.new.segments.items (stroke_edges g.I.IntNumber.unit style c.args.closed c.args.path.now)) c.self.view_is c.in_default.ensures.ok
+
+-- after a refusal what was added is cut off
+pub returns-in-Err-clause-refused : goal.returns-in-Err-clause-refused
+returns-in-Err-clause-refused g c =
+    let kept : take (length c.args.segments.now.items) c.draw.new.segments.items ≡ c.args.segments.now.items = c.in-Err.ensures.kept in
+    let n : c.len-length.result ≡ length c.args.segments.now.items = c.len-length.ensures ∙ c.args.segments.now.ok.0 in
+    c.truncate.ensures.items ∙ ap (λ (k : ℕ). take k c.draw.new.segments.items) n ∙ kept
 
 pub returns-clause-form : goal.returns-clause-form
 returns-clause-form g c =
