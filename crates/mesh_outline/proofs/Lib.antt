@@ -8,3 +8,4 @@ pub mod OutlineWalk
 pub mod Padding
 pub mod Promised
 pub mod Sections
+pub mod Steps
