@@ -46,14 +46,19 @@ sum_kept x y m n h k l =
     let p : unsigned_abs (x +ℤ y) ≤ m + n = sum_size x y m n h k in
     rw (size_kept y (omega arith)) (size_kept (x +ℤ y) (omega arith))
 
+-- what is left of a list, with its next element told apart
+pub rest_from : (rest : List Point) (i : ℕ) (point : Point) → i < length rest → point ≡ get_or rest i point → drop i rest ≡ point ∷ drop (i + 1) rest
+rest_from rest i point l f =
+    drop-cons rest i point l ∙ ap (λ (p : Point). p ∷ drop (suc i) rest) (sym f)
+    ∙ ap (λ (n : ℕ). point ∷ drop n rest) (sym (add-one i))
+
 -- an edge goes over from what is left to what is done
 pub area_step : (first previous point : Point) (rest : List Point) (i : ℕ) (s a x : ℤ) → i < length rest →
     s ≡ a +ℤ total cross (route previous (drop i rest) first) → point ≡ get_or rest i point → x ≡ cross previous point →
     s ≡ (a +ℤ x) +ℤ total cross (route point (drop (i + 1) rest) first)
 area_step first previous point rest i s a x l e f g =
-    let k : drop (suc i) rest ≡ drop (i + 1) rest = ap (λ (n : ℕ). drop n rest) (sym (add-one i)) in
-    let d : drop i rest ≡ point ∷ drop (i + 1) rest = drop-cons rest i point l ∙ ap (λ (p : Point). p ∷ drop (suc i) rest) (sym f) ∙ ap (λ (ps : List Point). point ∷ ps) k in
-    let h : s ≡ a +ℤ (cross previous point +ℤ total cross (route point (drop (i + 1) rest) first)) = e ∙ ap (λ (ps : List Point). a +ℤ total cross (route previous ps first)) d in
+    let h : s ≡ a +ℤ (cross previous point +ℤ total cross (route point (drop (i + 1) rest) first)) =
+    e ∙ ap (λ (ps : List Point). a +ℤ total cross (route previous ps first)) (rest_from rest i point l f) in
     omega (arith, linear, h, g)
 
 -- the last edge closes the contour
