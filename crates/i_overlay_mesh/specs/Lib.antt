@@ -2,10 +2,11 @@ pub use Rattle.mesh_draw.specs.Adding
 pub use Rattle.mesh_draw.specs.Drawing
 pub use Rattle.mesh_draw.specs.Padding
 pub use Rattle.mesh_outline.specs.Building
-pub use Rattle.mesh_outline.specs.Laws
+pub use Rattle.mesh_outline.specs.Drawn
 pub use Rattle.mesh_outline.specs.Outline
-pub use Rattle.mesh_outline.specs.Resolved
-pub use Rattle.mesh_outline.specs.Staying
+pub use Rattle.mesh_outline_calls.specs.Laws
+pub use Rattle.mesh_outline_calls.specs.Resolved
+pub use Rattle.mesh_outline_calls.specs.Staying
 pub use Rattle.mesh_join.specs.Joins
 pub use Rattle.mesh_join.specs.Joints
 pub use Rattle.mesh_join.specs.Styles

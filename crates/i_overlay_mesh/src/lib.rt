@@ -4,8 +4,8 @@
 
 pub use mesh_draw::error;
 pub use mesh_draw::error::{IntOutlineError, IntStrokeError, IntVariableStrokeError};
-pub use mesh_outline::outline;
 
 pub mod laws;
+pub mod outline;
 pub mod stroke;
 pub mod variable_stroke;

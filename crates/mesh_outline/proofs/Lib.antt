@@ -1,16 +1,11 @@
-pub mod Adding
-pub mod Areas
 pub mod BuilderRoom
 pub mod BuilderTheorems
 pub mod BuilderWalk
-pub mod ContourKinds
 pub mod Corners
-pub mod Final
 pub mod OutlineCount
 pub mod OutlineSum
 pub mod OutlineWalk
 pub mod Padding
 pub mod Promised
-pub mod Resolving
 pub mod Sections
-pub mod Staying
+pub mod Steps

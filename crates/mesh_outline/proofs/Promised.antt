@@ -1,5 +1,5 @@
 -- Lemmas over points and lists: what the edges of each contour's outline are promised.
-use Rattle.std.proofs.Common.{◌≡◌, ℕ, ◌≤◌, ◌^◌, Bool, true, false, cond, List, [], ◌∷◌, get_or, map, refl, sym, ◌∙◌, ap}
+use Rattle.std.proofs.Common.{◌≡◌, ℕ, ◌≤◌, ◌^◌, Bool, true, false, cond, List, [], ◌∷◌, map, refl, sym, ◌∙◌, ap}
 use Rattle.std.specs.Prelude.{ℤ, pos, ◌+ℤ◌, count_by}
 use Rattle.std.specs.Ordering.{int_eq}
 use Rattle.std.specs.List.{All, Contains}
@@ -10,15 +10,14 @@ use Rattle.mesh_plane.proofs.Crossings.{crossing_on_odd}
 use Rattle.mesh_clean.proofs.CleaningEnds.{cleaned_sections-ends}
 use Rattle.mesh_clean.proofs.CleaningSteps.{cleaned-none, cleaned-clean, cleaned-winding}
 use Rattle.mesh_clean.specs.Cleaned.{cleaned_sections, IsCleanContour}
-use Rattle.mesh_join.specs.Styles.{OffsetJoin, OutlineStyle, outer, inner}
+use Rattle.mesh_join.specs.Styles.{OffsetJoin}
 use Rattle.mesh_draw.specs.Drawing.{NeverTurnedRound}
-use Rattle.mesh_outline.specs.Kinds.{contour_kind}
 use Rattle.mesh_outline.specs.Outline.{parts, joined, section_of, drawn_pieces, outline_pieces}
 use Rattle.mesh_draw.specs.Drawing.{sided}
-use Rattle.mesh_outline.specs.Resolved.{HasPromisedEdges, HavePromisedEdges}
+use Rattle.mesh_outline.specs.Drawn.{HasPromisedEdges}
 use Rattle.mesh_outline.proofs.Corners.{IsClosedProper}
 use Rattle.mesh_outline.proofs.OutlineCount.{outline_total, outline_balanced, outline_winding, pieces_wind}
-use Rattle.mesh_outline.proofs.Padding.{outline_near, way_of}
+use Rattle.mesh_outline.proofs.Padding.{outline_near}
 
 -- the cleaned contour is a ring of edges with different ends
 pub cleaned_ring : (points : List Point) → IsClosedProper (cleaned_sections points)
@@ -63,9 +62,3 @@ has_promised_edges unit style points least =
           outline_winding unit style (cleaned_sections points) least ring m q
           ∙ ap (λ (x : ℤ). x +ℤ sided style.offset (pos (count_by (holds m q) (outline_pieces unit style points)))) (cleaned-winding m q points);
     }
-
--- and of all
-pub have_promised_edges : (unit : ℕ) (style : OutlineStyle) (contours : List (List Point)) → 2 ^ 14 ≤ unit → HavePromisedEdges unit style contours
-have_promised_edges unit style contours least k d h =
-    let contour : List Point = get_or contours k d in
-    way_of style (contour_kind contour) (λ (way : OffsetJoin). HasPromisedEdges unit way contour) (has_promised_edges unit (outer style) contour least) (has_promised_edges unit (inner style) contour least)

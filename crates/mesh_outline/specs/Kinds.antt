@@ -1,10 +1,6 @@
--- What closed contours are, by the sign of their double area, and how each kind moves and is filled.
-use Rattle.std.specs.Prelude.{List, cond, ℤ, pos, int_lt, Option, Some, None}
-use Rattle.mesh_plane.specs.Plane.{Point}
-use Rattle.mesh_cuts.specs.declared.fill.FillRule.{FillRule}
-use Rattle.mesh_cuts.specs.declared.fill.FillRule.TheVariants.{Positive, Negative}
+-- What closed contours are, by the sign of their double area, and how each kind moves.
+use Rattle.std.specs.Prelude.{cond, ℤ, pos, int_lt, Option, Some, None}
 use Rattle.mesh_join.specs.Styles.{OffsetJoin, OutlineStyle, outer, inner}
-use Rattle.mesh_shapes.specs.Contours.{double_area}
 use Rattle.mesh_outline.specs.declared.outline.kind.ContourKind.{ContourKind}
 use Rattle.mesh_outline.specs.declared.outline.kind.ContourKind.TheVariants.{Outer, Hole, Ignored}
 
@@ -13,18 +9,8 @@ use Rattle.mesh_outline.specs.declared.outline.kind.ContourKind.TheVariants.{Out
 abbrev pub kind_for : ℤ → ContourKind
 kind_for area = cond (int_lt (pos 0) area) Outer (cond (int_lt area (pos 0)) Hole Ignored)
 
--- the kind of the closed contour through these points
-abbrev pub contour_kind : List Point → ContourKind
-contour_kind contour = kind_for (double_area contour)
-
 -- how a contour of this kind moves: outer boundaries and holes by their own offset, others not at all
 abbrev pub way_for : OutlineStyle → ContourKind → Option OffsetJoin
 way_for style Outer = Some (outer style)
 way_for style Hole = Some (inner style)
 way_for style Ignored = None
-
--- the sense in which it is filled: a hole in the negative one
-abbrev pub kind_fill : ContourKind → FillRule
-kind_fill Outer = Positive
-kind_fill Hole = Negative
-kind_fill Ignored = Positive

@@ -5,9 +5,7 @@ pub use Rattle.mesh_draw.specs.Adding
 pub use Rattle.mesh_draw.specs.Drawing
 pub use Rattle.mesh_draw.specs.Padding
 pub mod Building
+pub mod Drawn
 pub mod Kinds
-pub mod Laws
 pub mod Midway
 pub mod Outline
-pub mod Resolved
-pub mod Staying

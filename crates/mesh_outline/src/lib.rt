@@ -1,7 +1,7 @@
-//! Outlines of contours over whole numbers.
+//! Outlines of single contours over whole numbers.
 //!
-//! Read `specs/Outline.antt` first: the edges of a contour's outline and the pieces between it and the contour; then
-//! `specs/Resolved.antt`: the outline of many contours.
+//! Read `specs/Outline.antt` first: the edges of a contour's outline and the pieces between it and the contour.
+//! `mesh_outline_calls` has the calls on sources of contours.
 #![tactic(auto)]
 
 pub mod laws;

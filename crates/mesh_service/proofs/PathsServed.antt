@@ -13,11 +13,12 @@ use Rattle.mesh_num.specs.Paths.{paths_of}
 use Rattle.mesh_plane.specs.Plane.{Point, Edge}
 use Rattle.mesh_shapes.specs.Contours.{double_area}
 use Rattle.mesh_shapes.specs.Resolution.{Choices}
-use Rattle.mesh_outline.specs.Kinds.{contour_kind, way_for}
+use Rattle.mesh_outline.specs.Kinds.{way_for}
+use Rattle.mesh_outline_calls.specs.Kinds.{contour_kind}
 use Rattle.mesh_outline.specs.declared.outline.kind.ContourKind.{ContourKind}
 use Rattle.mesh_outline.specs.Outline.{outline_edges}
 use Rattle.mesh_join.specs.Styles.{OffsetJoin, OutlineStyle}
-use Rattle.mesh_outline.specs.Resolved.{DoAreasFit}
+use Rattle.mesh_outline_calls.specs.Resolved.{DoAreasFit}
 use Rattle.mesh_draw.specs.declared.error.IntOutlineError.{IntOutlineError}
 use Rattle.mesh_draw.specs.declared.error.IntOutlineError.TheVariants.{CoordinateOutOfRange, OutOfMemory}
 use Rattle.mesh_request.specs.declared.failure.Failure.TheVariants.{Refused}

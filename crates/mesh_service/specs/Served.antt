@@ -12,7 +12,7 @@ use Rattle.mesh_join.specs.VariableStyles.{Vertex}
 use Rattle.mesh_outline.specs.Building.{style_for}
 use Rattle.mesh_outline.specs.Outline.{outline_edges}
 use Rattle.mesh_draw.specs.Padding.{ArePathsSafe}
-use Rattle.mesh_outline.specs.Resolved.{DoAreasFit, IsOutline}
+use Rattle.mesh_outline_calls.specs.Resolved.{DoAreasFit, IsOutline}
 use Rattle.mesh_stroke.specs.Strokes.{stroke_edges}
 use Rattle.mesh_stroke.specs.Styles.{StrokeStyle, stroke_padding}
 use Rattle.mesh_stroke_calls.specs.Resolved.{IsStroke}

@@ -10,8 +10,8 @@ ghost use Rattle.mesh_below.specs.Options.{choices_of};
 ghost use Rattle.mesh_join.specs.Joins.{outline_padding};
 ghost use Rattle.mesh_join.specs.Styles.{style_of};
 ghost use Rattle.mesh_draw.specs.Padding.{ArePathsSafe};
-ghost use Rattle.mesh_outline.specs.Kinds.{contour_kind};
-ghost use Rattle.mesh_outline.specs.Resolved.{IsOutline};
+ghost use Rattle.mesh_outline_calls.specs.Kinds.{contour_kind};
+ghost use Rattle.mesh_outline_calls.specs.Resolved.{IsOutline};
 ghost use Rattle.mesh_service.specs.Lines.{by_values};
 ghost use Rattle.mesh_service.specs.Served.{AreListed, MayBeOutlined, served_edges};
 

@@ -2,9 +2,9 @@
 use Rattle.std.proofs.Common.{[], ap, sym, ◌∙◌}
 use Rattle.std.proofs.lemmas.List.Sorted.{IsPermutation-sym, IsPermutation-trans}
 use Rattle.mesh_num.specs.Paths.{paths_of}
-use Rattle.mesh_outline.specs.Kinds.{contour_kind}
+use Rattle.mesh_outline_calls.specs.Kinds.{contour_kind}
 use Rattle.mesh_outline.specs.declared.outline.kind.ContourKind.TheVariants.{Outer}
-use Rattle.mesh_outline.proofs.ContourKinds.{kind_at}
+use Rattle.mesh_outline_calls.proofs.ContourKinds.{kind_at}
 use Rattle.mesh_service.proofs.PathsServed.{path_count, path_here, one_listed}
 use Rattle.mesh_service.proofs.outline.edge_lists.Goals as goal
 

@@ -3,7 +3,7 @@ use Rattle.std.proofs.Common.{Ok, refl}
 use Rattle.std.proofs.lemmas.Bool.{false≢true}
 use Rattle.mesh_num.specs.Paths.{paths_of}
 use Rattle.mesh_join.specs.Styles.{style_of}
-use Rattle.mesh_outline.specs.Resolved.{DoAreasFit}
+use Rattle.mesh_outline_calls.specs.Resolved.{DoAreasFit}
 use Rattle.mesh_service.specs.Served.{MayBeOutlined}
 use Rattle.mesh_service.proofs.PathsServed.{fit_half, half_fit, err_told, refusal_handed, not_refused, memory_other, answer_other}
 use Rattle.mesh_service.proofs.outline.edges.Goals as goal

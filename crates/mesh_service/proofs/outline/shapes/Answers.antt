@@ -3,7 +3,7 @@ use Rattle.std.proofs.Common.{refl}
 use Rattle.std.proofs.lemmas.Bool.{false≢true}
 use Rattle.mesh_num.specs.Paths.{paths_of}
 use Rattle.mesh_join.specs.Styles.{style_of}
-use Rattle.mesh_outline.specs.Resolved.{DoAreasFit}
+use Rattle.mesh_outline_calls.specs.Resolved.{DoAreasFit}
 use Rattle.mesh_draw.specs.declared.error.IntOutlineError.TheVariants.{CoordinateOutOfRange}
 use Rattle.mesh_service.specs.Served.{MayBeOutlined}
 use Rattle.mesh_service.proofs.PathsServed.{areas_fit, fit_half, half_fit, answered_only, err_told}

@@ -1,1 +1,0 @@
--- One edge after another.

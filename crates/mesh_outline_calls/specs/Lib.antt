@@ -1,0 +1,10 @@
+pub use Rattle.mesh_join.specs.Joins
+pub use Rattle.mesh_join.specs.Styles
+pub use Rattle.mesh_draw.specs.Padding
+pub use Rattle.mesh_outline.specs.Drawn
+pub use Rattle.mesh_outline.specs.Outline
+pub mod Kinds
+pub mod Laws
+pub mod Midway
+pub mod Resolved
+pub mod Staying
