@@ -1,19 +1,15 @@
 -- Lemmas over options: what is read of several parts where each of them is there.
-use Rattle.std.proofs.Common.{◌≡◌, ◌∙◌, ℕ, List, [], ◌∷◌, Bool, Option, Some, None, option_map, option_and_then, length, get_or, refl, sym, ap, arith}
+use Rattle.std.proofs.Common.{◌≡◌, ◌∙◌, ℕ, List, [], ◌∷◌, Bool, Option, Some, option_map, option_and_then, length, get_or, sym, ap, arith}
 use Rattle.std.specs.Prelude.{ℤ, codes}
 use Rattle.serde_json.specs.Data.{Data, Items}
-use Rattle.serde_json.specs.Find.{get, as_array}
+use Rattle.serde_json.specs.Find.{get}
 use Rattle.serde_json.specs.View.{view, items_view}
 use Rattle.serde_json.specs.declared.value.Value.{Value}
 use Rattle.mesh_plane.specs.Plane.{Point}
-use Rattle.mesh_arc.specs.declared.arc.ArcOptions.{ArcOptions}
 use Rattle.mesh_cap.specs.Caps.{CapKind}
 use Rattle.mesh_join.specs.Styles.{JoinStyle}
-use Rattle.mesh_shapes.specs.Resolution.{Choices}
 use Rattle.mesh_stroke.specs.Styles.{StrokeStyle}
-use Rattle.mesh_request.proofs.JsonLists.{no_pair, no_triple, no_options}
-use Rattle.mesh_request.specs.Reading.{both, pair_of, point_of, triple_of, vertex_of, vertex_with, options_in, arc_options_of, coordinate_of, area_of, flag_of, choices_in, choices_with, cap_of, uncapped_in, stroke_style_in, stroke_style_with, stroke_of, stroke_with, paths_in}
-use Rattle.mesh_request.specs.Requests.{Drawn}
+use Rattle.mesh_request.specs.Reading.{both, pair_of, triple_of, vertex_with, coordinate_of, area_of, flag_of, choices_in, choices_with, cap_of, uncapped_in, stroke_style_in, stroke_style_with, stroke_of, stroke_with, paths_in}
 
 both_some : {A B : Type 0} (a : Option A) (b : Option B) (x : A) (y : B) → a ≡ Some x → b ≡ Some y → both a b ≡ Some (x, y)
 both_some {A} {B} a b x y e f = ap (λ (o : Option A). both o b) e ∙ ap (λ (o : Option B). both (Some x) o) f

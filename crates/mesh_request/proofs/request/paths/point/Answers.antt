@@ -21,6 +21,8 @@ returns g c =
     let numbers = c.in_ok-numbers.numbers.now.items in
     let found = as_array (view c.args.value.now) in
     let two : length numbers ≡ 2 = omega (arith, c.in_ok-numbers.numbers.now.ok.0, c.len.ensures, c.if-len-ne2.false) in
+    let x = g.I.IntNumber.value c.in_ok-x.x in
+    let y = g.I.IntNumber.value c.in_ok-y.y in
     rw c.new.ensures
     (of_list (pair_of unit) found (items_view numbers) _ c.in_ok-numbers.ensures
-    (pair_said unit numbers _ _ _ _ two c.index.ensures c.index-2.ensures c.in_ok-x.ensures c.in_ok-y.ensures))
+    (pair_said unit numbers _ _ x y two c.index.ensures c.index-2.ensures c.in_ok-x.ensures c.in_ok-y.ensures))

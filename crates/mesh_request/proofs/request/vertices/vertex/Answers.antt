@@ -21,6 +21,9 @@ returns g c =
     let numbers = c.in_ok-numbers.numbers.now.items in
     let found = as_array (view c.args.value.now) in
     let three : length numbers ≡ 3 = omega (arith, c.in_ok-numbers.numbers.now.ok.0, c.len.ensures, c.if-len-ne3.false) in
+    let x = g.I.IntNumber.value c.in_ok-x.x in
+    let y = g.I.IntNumber.value c.in_ok-y.y in
+    let width = g.I.IntNumber.value c.in_ok-width.width in
     rw (c.new-2.ensures, c.new.ensures)
     (of_list (triple_of unit) found (items_view numbers) _ c.in_ok-numbers.ensures
-    (triple_said unit numbers _ _ _ _ _ _ three c.index.ensures c.index-2.ensures c.index-3.ensures c.in_ok-x.ensures c.in_ok-y.ensures c.in_ok-width.ensures))
+    (triple_said unit numbers _ _ _ x y width three c.index.ensures c.index-2.ensures c.index-3.ensures c.in_ok-x.ensures c.in_ok-y.ensures c.in_ok-width.ensures))
