@@ -1,2 +1,2 @@
-pub mod PathsServed
 pub mod Replies
+pub mod Requested
