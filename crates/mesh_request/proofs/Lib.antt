@@ -1,3 +1,4 @@
 pub mod JsonLists
 pub mod JsonMembers
+pub mod Parts
 pub mod Ranges

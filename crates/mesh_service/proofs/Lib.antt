@@ -1,3 +1,2 @@
-pub mod JsonLists
-pub mod PathsServed
 pub mod Replies
+pub mod Requested

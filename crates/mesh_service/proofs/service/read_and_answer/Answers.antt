@@ -2,6 +2,7 @@
 use Rattle.std.proofs.lemmas.Result.{IfOk-weaker}
 use Rattle.mesh_service.specs.Serving.{IsReply}
 use Rattle.mesh_service.proofs.Replies.{reading_told, responded, none_left}
+use mathlib.Core.Logic.{inl, inr}
 use Rattle.mesh_service.proofs.service.read_and_answer.Goals as goal
 
 pub returns-in-Ok-clause-answered : goal.returns-in-Ok-clause-answered
@@ -24,3 +25,9 @@ returns-in-Err-Unreadable-clause-reply g c = IsReply.unreadable
 
 pub returns-in-Err-clause-reply : goal.returns-in-Err-clause-reply
 returns-in-Err-clause-reply g c = reading_told (g.R.Read.remaining c.args.reader.now) c.in-Err.refused c.in-Err.ensures.err
+
+pub returns-in-Err-Unreadable-clause-unreadable : goal.returns-in-Err-Unreadable-clause-unreadable
+returns-in-Err-Unreadable-clause-unreadable g c ended = absurd (cc)
+
+pub returns-in-Err-Unreadable-clause-read : goal.returns-in-Err-Unreadable-clause-read
+returns-in-Err-Unreadable-clause-read g c ended = absurd (elim ended as (λ _. ⊥) [ inl e ↦ cc | inr e ↦ cc ])

@@ -3,7 +3,7 @@ use Rattle.std.proofs.Common.{sym, ap}
 use Rattle.mesh_num.specs.Paths.{paths_of, shapes_of}
 use Rattle.mesh_below.specs.Options.{choices_of}
 use Rattle.mesh_request.specs.Requests.{asked_of}
-use Rattle.mesh_service.proofs.PathsServed.{edges_answer, shapes_answer}
+use Rattle.mesh_service.proofs.Requested.{edges_answer, shapes_answer}
 use Rattle.mesh_service.proofs.service.request_line.Goals as goal
 
 pub returns-in_ok-edges_line-in-Edges-clause-answered : goal.returns-in_ok-edges_line-in-Edges-clause-answered

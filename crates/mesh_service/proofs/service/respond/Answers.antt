@@ -2,7 +2,7 @@
 use Rattle.std.proofs.Common.{sym, subst, rules}
 use Rattle.std.proofs.lemmas.Result.{IfOk-weaker}
 use Rattle.mesh_request.specs.Reading.{IsOfReading}
-use Rattle.mesh_service.proofs.PathsServed.{is_requested}
+use Rattle.mesh_service.proofs.Requested.{is_requested}
 use Rattle.mesh_service.proofs.Replies.{refusal_told, refusal_read}
 use Rattle.mesh_service.proofs.service.respond.Goals as goal
 

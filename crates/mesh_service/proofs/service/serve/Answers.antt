@@ -11,3 +11,6 @@ pub returns-clause-refused : goal.returns-clause-refused
 returns-clause-refused g c refused =
     refusal_met (g.R.Read.remaining c.args.reader.now) (g.R.Read.remaining c.read_and_answer-answer.new.reader) _ _ c.read_and_answer-answer.result.0
     c.read_and_answer-answer.ensures.refused c.in-Ok.ensures.whole (c.read_and_answer-answer.ensures.ends_refused refused)
+
+pub returns-in-Err-clause-refused : goal.returns-in-Err-clause-refused
+returns-in-Err-clause-refused g c refused = absurd (cc)

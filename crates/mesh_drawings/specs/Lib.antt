@@ -1,0 +1,2 @@
+pub mod Drawings
+pub use Rattle.mesh_answer.specs.Lines

@@ -1,0 +1,35 @@
+-- Lemmas over requests: what is requested, and what answers it.
+use Rattle.std.proofs.Common.{◌≡◌, ℕ, List, Option, Some, option_and_then, false, sym, ap, subst, ◌∙◌}
+use Rattle.std.specs.Prelude.{ℤ}
+use Rattle.std.specs.declared.cmp.Ordering.{Ordering}
+use Rattle.mesh_plane.specs.Plane.{Point, Edge}
+use Rattle.mesh_shapes.specs.Resolution.{Choices}
+use Rattle.serde_json.specs.Data.{Data}
+use Rattle.serde_json.specs.Read.{read}
+use Rattle.serde_json.specs.Written.{has_float}
+use Rattle.mesh_answer.specs.Lines.{edges_text, shapes_text}
+use Rattle.mesh_request.specs.Reading.{request_of}
+use Rattle.mesh_request.specs.Requests.{Asked, Request}
+use Rattle.mesh_service.specs.Served.{AreEdgesOf, AreShapesOf, IsAccepted, Lists, Answers}
+use Rattle.mesh_service.specs.Serving.{exact_request, request_in}
+
+pub is_requested : (text : List ℕ) (d : Data) (request : Request) → read text ≡ Some d → has_float d ≡ false → request_of d ≡ Some request → request_in text ≡ Some request
+is_requested text d request r f q =
+    let exact : exact_request d ≡ Some request = rw f q in
+    ap (λ (o : Option Data). option_and_then exact_request o) r ∙ exact
+
+pub edges_answer : (order : ℤ → ℤ → Ordering) (request : Request) (line : List ℕ) (lists : List (List Edge)) → request.asked ≡ Asked.for_edges → IsAccepted request →
+    AreEdgesOf order request.unit request.drawn lists → line ≡ edges_text lists → Answers order request line
+edges_answer order request line lists e accepted each written =
+    record {
+      accepted = accepted;
+      listed = subst (λ (asked : Asked). Lists order request line asked) (sym e) (record { lists = lists; each = each; written = written });
+    }
+
+pub shapes_answer : (order : ℤ → ℤ → Ordering) (request : Request) (line : List ℕ) (choices : Choices) (shapes : List (List (List Point))) → request.asked ≡ Asked.for_shapes choices →
+    IsAccepted request → AreShapesOf request.unit choices request.drawn shapes → line ≡ shapes_text shapes → Answers order request line
+shapes_answer order request line choices shapes e accepted drawn written =
+    record {
+      accepted = accepted;
+      listed = subst (λ (asked : Asked). Lists order request line asked) (sym e) (record { shapes = shapes; drawn = drawn; written = written });
+    }
