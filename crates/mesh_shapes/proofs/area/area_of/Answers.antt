@@ -7,14 +7,6 @@ use Rattle.mesh_plane.proofs.Sizes.{difference_size}
 use Rattle.mesh_shapes.proofs.AreaSums.{fits_long}
 use Rattle.mesh_shapes.proofs.area.area_of.Goals as goal
 
-pub overflow_sub-result : goal.overflow_sub-result
-overflow_sub-result c =
-    let x = c.long.result in
-    let y = c.long-2.result in
-    let size = difference_size x y (2 ^ 62) (2 ^ 62) c.long.ensures.size c.long-2.ensures.size in
-    simp ((fits_long x (2 ^ 62) c.long.ensures.size (lit< tt)).kept, (fits_long y (2 ^ 62) c.long-2.ensures.size (lit< tt)).kept)
-    (fits_long (x -ℤ y) (2 ^ 62 + 2 ^ 62) size (lit< tt)).fits
-
 pub returns-clause-value : goal.returns-clause-value
 returns-clause-value c =
     let x = c.long.result in
