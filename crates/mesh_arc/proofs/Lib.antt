@@ -1,3 +1,4 @@
+pub mod Ahead
 pub mod Answering
 pub mod Filling
 pub mod Gaps

@@ -1,5 +1,5 @@
 -- Lemmas over points: what the steps of joins need to know of a corner.
-use Rattle.std.proofs.Common.{◌≡◌, Bool, true, ◌∙◌, ℕ, ◌*◌, ◌<◌, ◌≤◌, ap, sym, arith}
+use Rattle.std.proofs.Common.{◌≡◌, Bool, true, false, ◌∙◌, ℕ, ◌*◌, ◌<◌, ◌≤◌, ap, sym, arith}
 use Rattle.std.specs.Prelude.{ℤ, pos, negsuc, ◌*ℤ◌, ◌≤ℤ◌, ◌&&◌, int_le, unsigned_abs}
 use Rattle.std.proofs.lemmas.Int.{ints}
 use Rattle.mesh_plane.specs.Bounds.{IsSafe}
@@ -66,3 +66,6 @@ near_difference unit padding v p s w = record {
 -- the second of two tests counts where the first holds
 pub both_ahead : (first second a b : Bool) → first ≡ a → first ≡ true → second ≡ b → second ≡ (a && b)
 both_ahead first second a b e h k = k ∙ ap (λ (x : Bool). x && b) (sym h ∙ e)
+
+pub none_ahead : (first a b : Bool) → first ≡ a → first ≡ false → first ≡ (a && b)
+none_ahead first a b e h = h ∙ ap (λ (x : Bool). x && b) (sym h ∙ e)

@@ -6,11 +6,14 @@ use Rattle.mesh_num.specs.Segments.{SignedEdge, segments_of}
 use Rattle.mesh_arc.specs.declared.arc.ArcOptions.{ArcOptions}
 use Rattle.mesh_sweep.specs.declared.sweep.Sweep.{Sweep}
 use Rattle.mesh_sweep.specs.Sweeps.{arc_edges, circle_edges}
-use Rattle.mesh_tangent.specs.Sections.{Circle, Section, section_of, is_nested, with_contacts, has_no_section, IsSafeCircle, HasContacts, IsSafeSection}
-use Rattle.mesh_variable_stroke.specs.Midway.{Open, Walk, opened, gone_on, step_edges, finish_edges, step_to, walked_edges}
+use Rattle.mesh_tangent.specs.Sections.{Circle, Section, section_of, is_nested, with_contacts, has_no_section}
+use Rattle.mesh_tangent.specs.Sections.{IsSafeCircle, HasContacts, IsSafeSection}
+use Rattle.mesh_variable_stroke.specs.Midway.{Open, Walk, opened, gone_on, step_edges, finish_edges, step_to}
+use Rattle.mesh_variable_stroke.specs.Midway.{walked_edges}
 use Rattle.mesh_variable_stroke.specs.Midway.{IsGoodOpen, IsGoodSection, IsGoodWalk, last_with}
 use Rattle.mesh_variable_stroke.specs.Chains.{Step, is_break, is_cover, end_after, is_smaller, is_covered_by}
-use Rattle.mesh_variable_stroke.specs.VariableStrokes.{SectionPair, is_apart, are_butt, sweep_at, start_edges, end_edges, left_edges, right_edges, joint_edges}
+use Rattle.mesh_variable_stroke.specs.VariableStrokes.{SectionPair, is_apart, are_butt, sweep_at, start_edges}
+use Rattle.mesh_variable_stroke.specs.VariableStrokes.{end_edges, left_edges, right_edges, joint_edges}
 use Rattle.mesh_variable_stroke.specs.declared.chain_end.ChainEnd.{ChainEnd}
 use Rattle.mesh_variable_stroke.specs.declared.chain_end.ChainEnd.TheVariants.{Butt, Round}
 use Rattle.mesh_join.proofs.Drawing.{appends_both}
@@ -107,40 +110,46 @@ plain_good unit w v c o b end e h is safe good = record {
 abbrev again_edges : ℕ → ArcOptions → Walk → Circle → Option Section → List Edge
 again_edges unit options w at o = finish_edges unit options w.chain Round ++ step_edges unit options (opened at Butt) o
 
+abbrev step_with : Walk → Circle → Option Section → Step
+step_with w b o = record { before = w.before; section = o; a = w.at; b = b }
+
 cover_edges : (unit : ℕ) (options : ArcOptions) (w : Walk) (s : Step) → is_break s ≡ false → is_cover s ≡ true →
     again_edges unit options w s.a s.section ≡ walked_edges unit options w s
 cover_edges unit options w s apart covers = rw (apart, covers)
 
-pub covered_edges : (unit : ℕ) (options : ArcOptions) (w v : Walk) (b : Circle) (o : Option Section) → v ≡ w → o ≡ section_of unit v.at b →
-    is_nested v.at b ≡ false → is_covered_by v.before b ≡ true →
+pub covered_edges : (unit : ℕ) (options : ArcOptions) (w v : Walk) (b : Circle) (o : Option Section) → v ≡ w →
+    o ≡ section_of unit v.at b → is_nested v.at b ≡ false → is_covered_by v.before b ≡ true →
     again_edges unit options v v.at o ≡ walked_edges unit options w (step_to unit w b)
 covered_edges unit options w v b o e is apart covers =
     subst (λ (k : Walk). again_edges unit options v v.at o ≡ walked_edges unit options k (step_to unit k b)) e
-    (subst (λ (p : Option Section). again_edges unit options v v.at o ≡ walked_edges unit options v (record { before = v.before; section = p; a = v.at; b = b })) is
-    (cover_edges unit options v (record { before = v.before; section = o; a = v.at; b = b }) apart covers))
+    (subst (λ (p : Option Section). again_edges unit options v v.at o ≡ walked_edges unit options v (step_with v b p))
+    is
+    (cover_edges unit options v (step_with v b o) apart covers))
 
 -- ---- ends of chains; `v` is how the code sees the section `s` or the chain `c`
 
-pub start_turned : (unit : ℕ) (options : ArcOptions) (s v : Section) (center : Point) (turn : Sweep) (end : ChainEnd) → v ≡ s →
-    center ≡ s.a.center → turn ≡ sweep_at v.a v.b → end ≡ Round →
+pub start_turned : (unit : ℕ) (options : ArcOptions) (s v : Section) (center : Point) (turn : Sweep) (end : ChainEnd) →
+    v ≡ s → center ≡ s.a.center → turn ≡ sweep_at v.a v.b → end ≡ Round →
     arc_edges unit options center v.a_left v.a_right turn ≡ start_edges unit options end s
 start_turned unit options s v center turn end e at turns round = rw (e, at, turns, e, round)
 
-pub end_turned : (unit : ℕ) (options : ArcOptions) (s v : Section) (center : Point) (turn : Sweep) (end : ChainEnd) → v ≡ s →
-    center ≡ s.b.center → turn ≡ sweep_at v.b v.a → end ≡ Round →
+pub end_turned : (unit : ℕ) (options : ArcOptions) (s v : Section) (center : Point) (turn : Sweep) (end : ChainEnd) →
+    v ≡ s → center ≡ s.b.center → turn ≡ sweep_at v.b v.a → end ≡ Round →
     arc_edges unit options center v.b_right v.b_left turn ≡ end_edges unit options end s
 end_turned unit options s v center turn end e at turns round = rw (e, at, turns, e, round)
 
-pub bare_finish : (unit : ℕ) (options : ArcOptions) (c v : Open) (end : ChainEnd) → v ≡ c → v.last ≡ None → v.has_step ≡ false →
-    are_butt v.start_end end ≡ false → circle_edges unit options v.start.center v.start.radius ≡ finish_edges unit options c end
+pub bare_finish : (unit : ℕ) (options : ArcOptions) (c v : Open) (end : ChainEnd) → v ≡ c → v.last ≡ None →
+    v.has_step ≡ false → are_butt v.start_end end ≡ false →
+    circle_edges unit options v.start.center v.start.radius ≡ finish_edges unit options c end
 bare_finish unit options c v end e bare fresh drawn =
     subst (λ (k : Open). circle_edges unit options v.start.center v.start.radius ≡ finish_edges unit options k end) e
     (rw (bare, fresh, drawn))
 
 -- the greater circle of a break is drawn; `v` and `w` are how the code sees both circles
-pub started_round : (a b v w : Circle) → v ≡ a → w ≡ b → int_lt v.radius w.radius ≡ true → opened b Round ≡ opened b (end_after a b)
+pub started_round : (a b v w : Circle) → v ≡ a → w ≡ b → int_lt v.radius w.radius ≡ true →
+    opened b Round ≡ opened b (end_after a b)
 started_round a b v w e f less = rw (← e, ← f, less)
 
-pub smaller_or : (less : Bool) (c d : Circle) (s v : Section) → d ≡ c → v ≡ s → int_lt d.radius v.a.radius ≡ false → less ≡ int_lt d.radius v.b.radius →
-    less ≡ is_smaller c s
+pub smaller_or : (less : Bool) (c d : Circle) (s v : Section) → d ≡ c → v ≡ s →
+    int_lt d.radius v.a.radius ≡ false → less ≡ int_lt d.radius v.b.radius → less ≡ is_smaller c s
 smaller_or less c d s v e f not_a b = rw (← e, ← f, not_a) b

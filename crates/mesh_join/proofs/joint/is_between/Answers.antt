@@ -18,5 +18,6 @@ pub returns-else-center-padding : goal.returns-else-center-padding
 returns-else-center-padding c =
     let x = to_z-of_z w128 c.args.coordinate c.ranges.coordinate in
     let l = close_difference c.args.center c.args.padding c.requires.center c.requires.padding in
-    let t : int_le (c.args.center -ℤ c.args.padding) c.args.coordinate ≡ false = rw (l, x) at c.if-center-padding.false in
+    let t : int_le (c.args.center -ℤ c.args.padding) c.args.coordinate ≡ false =
+    rw (l, x) at c.if-center-padding.false in
     rw (l, x, t) refl

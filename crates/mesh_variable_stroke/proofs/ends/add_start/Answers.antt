@@ -9,5 +9,5 @@ add_arc-requires g c =
 
 pub returns-in-Round-clause-ok : goal.returns-in-Round-clause-ok
 returns-in-Round-clause-ok g c =
-    rw (start_turned g.I.IntNumber.unit c.args.sweeper.now _ _ _ _ _ c.first.view_is c.start_center.ensures c.sweep_at.ensures
-    c.in-Round.is) at c.add_arc.ensures.ok
+    rw (start_turned g.I.IntNumber.unit c.args.sweeper.now _ _ _ _ _ c.first.view_is c.start_center.ensures
+    c.sweep_at.ensures c.in-Round.is) at c.add_arc.ensures.ok

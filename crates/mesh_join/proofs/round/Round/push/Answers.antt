@@ -28,8 +28,12 @@ pub returns-clause-ok : goal.returns-clause-ok
 returns-clause-ok g c =
     let b = c.in_ok-rebuild.ensures.built in
     let o = c.self.invariant in
-    let f : c.direction-from.result ≡ direction_of g.I.IntNumber.unit (minus c.args.joint.now.first c.args.joint.now.center) = rw (← c.joint.view_is) c.direction-from.ensures.value in
-    let t : c.direction-to.result ≡ direction_of g.I.IntNumber.unit (minus c.args.joint.now.last c.args.joint.now.center) = rw (← c.joint.view_is) c.direction-to.ensures.value in
+    let f : c.direction-from.result
+    ≡ direction_of g.I.IntNumber.unit (minus c.args.joint.now.first c.args.joint.now.center) =
+    rw (← c.joint.view_is) c.direction-from.ensures.value in
+    let t : c.direction-to.result
+    ≡ direction_of g.I.IntNumber.unit (minus c.args.joint.now.last c.args.joint.now.center) =
+    rw (← c.joint.view_is) c.direction-to.ensures.value in
     let ds : c.directions.result.now ≡ arc g.I.IntNumber.unit c.self.inside.arc.options c.args.joint.now.sense c.direction-from.result c.direction-to.result = search rules in
     let p : used c.args.joint.now c.args.joint.now.first (map (arc_point g.I.IntNumber.unit c.args.joint.now) c.directions.result.now) ≡ round_points c.args.self.now.options g.I.IntNumber.unit c.args.joint.now =
     ap (λ (l : List Point). used c.args.joint.now c.args.joint.now.first (map (arc_point g.I.IntNumber.unit c.args.joint.now) l)) ds

@@ -18,8 +18,8 @@ start_again-requires-clause-section g c =
 
 pub returns-then-covered-clause-ok : goal.returns-then-covered-clause-ok
 returns-then-covered-clause-ok g c =
-    rw (covered_edges g.I.IntNumber.unit c.args.sweeper.now c.args.self.now _ c.args.next c.new-section.result c.self.view_is
-    c.new-section.ensures.value (sym c.is_nested_with.ensures ∙ c.if-is_nested_with.false)
+    rw (covered_edges g.I.IntNumber.unit c.args.sweeper.now c.args.self.now _ c.args.next c.new-section.result
+    c.self.view_is c.new-section.ensures.value (sym c.is_nested_with.ensures ∙ c.if-is_nested_with.false)
     (sym c.is_covered_by-covered.ensures ∙ c.if-covered.true)) at c.in_ok-self-inside-2.ensures.ok
 
 pub returns-then-covered-clause-good : goal.returns-then-covered-clause-good
