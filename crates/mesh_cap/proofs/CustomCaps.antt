@@ -1,5 +1,5 @@
 -- Lemmas over points: what the theory of strokes needs of custom caps, and what the code knows of their points.
-use Rattle.std.proofs.Common.{◌≡◌, ◌≢◌, ℕ, suc, ◌+◌, ◌*◌, ◌<◌, ◌≤◌, List, [], ◌∷◌, ◌++◌, length, get_or, take}
+use Rattle.std.proofs.Common.{◌≡◌, ℕ, suc, ◌+◌, ◌*◌, ◌<◌, ◌≤◌, List, [], ◌∷◌, ◌++◌, length, get_or, take}
 use Rattle.std.proofs.Common.{drop, refl, sym, ap, subst, ◌∙◌, arith, length-append, drop-cons}
 use Rattle.std.specs.Prelude.{ℤ, pos, unsigned_abs, max, nat_eq}
 use Rattle.std.specs.List.{All}

@@ -1,6 +1,5 @@
 -- The coordinate is above the least one and below the bound.
-use Rattle.std.proofs.Common.{◌≡◌, arith}
-use Rattle.std.specs.Prelude.{pos, ◌-ℤ◌}
+use Rattle.std.proofs.Common.{arith}
 use Rattle.std.proofs.lemmas.Int.{ints}
 use Rattle.mesh_draw.proofs.bounds.is_safe.Goals as goal
 

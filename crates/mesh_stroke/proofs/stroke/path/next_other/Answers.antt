@@ -1,5 +1,5 @@
 -- Points that are the last one again are passed over.
-use Rattle.std.proofs.Common.{◌≡◌, true, ◌∷◌, sym, ◌∙◌}
+use Rattle.std.proofs.Common.{◌≡◌, true, ◌∷◌, sym, ◌∙◌, rules}
 use Rattle.std.specs.Prelude.{not}
 use Rattle.mesh_plane.specs.Winding.{same_point}
 use Rattle.mesh_num.specs.Segments.{proper_edges}
@@ -14,6 +14,6 @@ loop-point-preserved g c =
 
 pub returns-then-differ : goal.returns-then-differ
 returns-then-differ g c =
-    let other : not (same_point c.args.from c.in-Some.point) ≡ true = cc in
+    let other : not (same_point c.args.from c.in-Some.point) ≡ true = search rules in
     comes_to (proper_edges (pairs (c.args.from ∷ c.args.points.now))) c.args.from c.in-Some.point c.loop-point.points c.next.new.self c.in-Some.ensures
     other c.loop-point.invariant
