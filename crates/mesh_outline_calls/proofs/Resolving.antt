@@ -1,10 +1,11 @@
 -- Lemmas over points and lists: what comes of one contour, and what is resolved at last.
 use Rattle.std.proofs.Common.{◌≡◌, ℕ, Bool, true, List, [], ◌∷◌, ◌++◌, map, length, get_or, ap, sym, ◌∙◌, arith}
 use Rattle.std.specs.Prelude.{Some, None}
+use Rattle.std.specs.List.{All}
 use Rattle.std.specs.List.Sorted.{IsPermutation}
 use Rattle.std.proofs.lemmas.List.{append-nil}
 use Rattle.mesh_plane.specs.Plane.{Point}
-use Rattle.mesh_num.specs.Segments.{SignedEdge, edges_of, segments_of}
+use Rattle.mesh_num.specs.Segments.{SignedEdge, IsSubject, edges_of, segments_of}
 use Rattle.mesh_shapes.specs.Contours.{double_area}
 use Rattle.mesh_cuts.specs.FillRules.{filled}
 use Rattle.mesh_cuts.specs.Reach.{ArePointsSafe}
@@ -24,11 +25,15 @@ use Rattle.mesh_outline_calls.specs.Kinds.{contour_kind, kind_fill}
 use Rattle.mesh_outline.specs.declared.outline.kind.ContourKind.{ContourKind}
 use Rattle.mesh_outline.specs.declared.outline.kind.ContourKind.TheVariants.{Outer}
 use Rattle.mesh_outline.specs.Outline.{outline_edges}
-use Rattle.mesh_draw.specs.Adding.{in_sense, added_edges, answer_edges}
+use Rattle.mesh_draw.specs.Adding.{in_sense, added, added_edges, answer_edges}
 use Rattle.mesh_outline_calls.specs.Midway.{AddsAnswer, AddsGiven, AreGiven, ComesAlone, IsResolvedTwice}
 use Rattle.mesh_outline_calls.specs.Resolved.{fill_for, IsAnswerAlone, Gives, IsOutline}
 
 -- ---- one contour's answer
+
+-- what the builder put into an empty vector has the form that the overlay asks
+pub built_subject : (old built ss : List SignedEdge) → old ≡ [] → ss ≡ built → All IsSubject (added old built) → All IsSubject ss
+built_subject old built ss e f h = rw f (rw e at h)
 
 pub is_alone : (unit : ℕ) (style : OffsetJoin) (fill : FillRule) (path : List Point) (old built ss : List SignedEdge) (choices : Choices) (answer : List (List (List Point))) →
     old ≡ [] → ss ≡ built → choices ≡ plain → IsPermutation (added_edges old built) (outline_edges unit style path) →

@@ -1,5 +1,5 @@
--- Laws of outlines of many contours. The function of the same name in the module `laws` carries each. Coordinates are of
--- a type with `unit`.
+-- Laws of outlines of many contours. The function of the same name in the module `laws` carries each. Coordinates are
+-- of a type with `unit`.
 use Rattle.std.specs.Prelude.{ℕ, ◌≤◌, ◌≡◌, ◌^◌, List}
 use Rattle.mesh_plane.specs.Plane.{Point, Edge}
 use Rattle.mesh_plane.specs.Winding.{IsBalanced}

@@ -2,8 +2,14 @@
 use Rattle.std.proofs.Common.{ap}
 use Rattle.mesh_num.specs.Paths.{shapes_of}
 use Rattle.mesh_draw.proofs.Resolving.{built_balanced, built_safe}
-use Rattle.mesh_outline_calls.proofs.Resolving.{comes_alone}
+use Rattle.mesh_outline_calls.proofs.Resolving.{built_subject, comes_alone}
 use Rattle.mesh_outline_calls.proofs.resolve.resolved_alone.Goals as goal
+
+pub build-requires : goal.build-requires
+build-requires g c = c.requires
+
+pub overlay_answer-requires-clause-subject : goal.overlay_answer-requires-clause-subject
+overlay_answer-requires-clause-subject g c = built_subject _ _ _ c.new-built.ensures.items (ap (λ v. v.items) c.with_segments.ensures.segments) c.in_ok-build.ensures.form
 
 pub overlay_answer-requires-clause-balanced : goal.overlay_answer-requires-clause-balanced
 overlay_answer-requires-clause-balanced g c = built_balanced _ _ _ c.new-built.ensures.items (ap (λ v. v.items) c.with_segments.ensures.segments) c.in_ok-build.ensures.balanced
