@@ -4,11 +4,15 @@ use Rattle.std.specs.Prelude.{string_bytes}
 use Rattle.std.proofs.lemmas.Bool.{false≢true}
 use Rattle.std.proofs.lemmas.Option.{none-some}
 use Rattle.std.specs.Io.KnownBytes.{Appends, IsAtEnd}
+use mathlib.Core.Logic.{◌⊎◌, inl, inr}
 use Rattle.mesh_draw.specs.declared.error.IntOutlineError.TheVariants.{CoordinateOutOfRange, OutOfMemory}
 use Rattle.mesh_request.specs.Failures.{failure_line}
 use Rattle.mesh_request.specs.Reading.{IsOfReading}
 use Rattle.mesh_request.specs.Requests.{Request}
 use Rattle.mesh_service.specs.Served.{IsAccepted}
+use Rattle.mesh_service.specs.declared.service.Status.{Status}
+use Rattle.mesh_service.specs.declared.service.Status.TheVariants.{Unwritten, Unread}
+use Rattle.mesh_service.specs.declared.service.Status.TheVariants.{Refused as RefusedStatus, Unreadable as UnreadableStatus}
 use Rattle.mesh_service.specs.Midway.{told_line}
 use Rattle.mesh_service.specs.Serving.{IsAnswer, IsRefused, IsReply, TellsRefusal, MetRefusal, HoldsNoRequest, request_in}
 use Rattle.mesh_request.specs.declared.failure.Failure.{Failure}
@@ -67,3 +71,10 @@ pub refusal_read : (text : List ℕ) (told : Result (String Global) Failure) (fa
     (told ≡ Err Unreadable → HoldsNoRequest text) → IsRefused text → TellsRefusal told
 refusal_read text (Ok line) failure same unreadable kept = absurd same
 refusal_read text (Err e) failure same unreadable kept = refusal_told text (Err e) tt unreadable kept
+
+-- no run ends both as a refusal or a failed write, and as what is unreadable or a failed read
+pub not_both : (s : Status) → (s ≡ RefusedStatus) ⊎ (s ≡ Unwritten) → (s ≡ UnreadableStatus) ⊎ (s ≡ Unread) → ⊥
+not_both s (inl e) (inl f) = cc
+not_both s (inl e) (inr f) = cc
+not_both s (inr e) (inl f) = cc
+not_both s (inr e) (inr f) = cc

@@ -12,11 +12,11 @@ ghost use Rattle.mesh_service.specs.Served.{IsAccepted, Answers};
 ghost use Rattle.mesh_service.specs.Serving.{IsAnswer, IsRefused, IsReply, HoldsNoRequest};
 ghost use Rattle.mesh_service.specs.Serving.{AppendsBeginning, TellsRefusal, MetRefusal};
 
-use mesh_answer::answer::{edges_line, shapes_line};
 use crate::drawing;
 use crate::input::read_to_end;
 use crate::output::write_line;
 use i_overlay_mesh::IntOutlineError;
+use mesh_answer::answer::{edges_line, shapes_line};
 use mesh_num::num::OverlayInt;
 use mesh_request::failure::Failure;
 use mesh_request::json::{parse, says};
