@@ -9,4 +9,5 @@ pub returns-in-Clockwise-clause-value : goal.returns-in-Clockwise-clause-value
 returns-in-Clockwise-clause-value g c =
     rw (to_z-of_z w128 c.cross-cross.result (record { sfits = c.cross-cross.type_inv }))
     (to_z-of_z w128 _ (omega (arith, ints, c.cross-cross.ensures.size))
-    ∙ ahead_clockwise c.args.sense c.args.v c.args.w c.cross-cross.result c.in-Clockwise.is c.cross-cross.ensures.value)
+    ∙ ahead_clockwise c.args.sense c.args.v c.args.w c.cross-cross.result c.in-Clockwise.is
+    c.cross-cross.ensures.value)
