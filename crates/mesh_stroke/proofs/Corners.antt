@@ -1,5 +1,6 @@
 -- Lemmas over points: the joins at the corners of a path are asked for as joins ask.
-use Rattle.std.proofs.Common.{◌≡◌, ◌≢◌, ℕ, ◌+◌, ◌≤◌, ◌^◌, List, ◌++◌, length, refl, sym, subst, ◌∙◌, ap, append_assoc, length-append, arith}
+use Rattle.std.proofs.Common.{◌≡◌, ◌≢◌, ℕ, ◌+◌, ◌≤◌, ◌^◌, List, ◌++◌, length, refl, sym, subst, ◌∙◌, ap, arith}
+use Rattle.std.proofs.Common.{append_assoc, length-append}
 use Rattle.std.specs.Prelude.{ℤ, pos, ◌*ℤ◌, ◌≤ℤ◌, ◌<ℤ◌, ◌↔◌, IsTrue, Bool, true, false, cond, int_lt}
 use Rattle.std.specs.List.{All}
 use Rattle.std.proofs.lemmas.Int.{ints, by_lt_z}
@@ -23,7 +24,8 @@ use Rattle.mesh_draw.proofs.Quarters.{quarters_turn}
 use Rattle.mesh_stroke.specs.Paths.{neighbours}
 use Rattle.mesh_num.specs.Segments.{SignedEdge, segment_between, segments_of}
 use Rattle.mesh_stroke.specs.Midway.{Section, section_of, own_edge, IsCorner}
-use Rattle.mesh_stroke.specs.Strokes.{EdgePair, heading, left_of, facing, joint_right, inner_edges, outer_edges, corner_edges}
+use Rattle.mesh_stroke.specs.Strokes.{left_of}
+use Rattle.mesh_stroke.specs.Strokes.{EdgePair, heading, facing, joint_right, inner_edges, outer_edges, corner_edges}
 use Rattle.mesh_stroke.proofs.Chains.{IsChain, neighbours_all}
 use Rattle.mesh_stroke.proofs.Sides.{heading_is}
 
@@ -136,13 +138,17 @@ not_below b x h e = by_lt_z x (pos 0) (λ l. let k : true ≡ false = sym (h.1 l
 
 -- the joint that the code hands to a join is that of the corner
 joint_is : (unit : ℕ) (radius : ℤ) (join : JoinStyle) (p n : Section) → IsCorner unit radius join (p, n) →
-    joint p.b p.b_right n.a_right p.direction n.direction radius Counterclockwise ≡ joint_right unit radius (own_edge p, own_edge n)
-joint_is unit radius join p n h = λ i. joint p.b (h.previous.made i).b_right (h.next.made i).a_right (h.previous.made i).direction (h.next.made i).direction radius Counterclockwise
+    joint p.b p.b_right n.a_right p.direction n.direction radius Counterclockwise
+    ≡ joint_right unit radius (own_edge p, own_edge n)
+joint_is unit radius join p n h = λ i.
+    joint p.b (h.previous.made i).b_right (h.next.made i).a_right (h.previous.made i).direction
+    (h.next.made i).direction radius Counterclockwise
 
 -- and it is as a join asks
 pub joint_met : (unit : ℕ) (least : 2 ^ 14 ≤ unit) (radius : ℤ) (join : JoinStyle) (p n : Section) → IsCorner unit radius join (p, n) →
     pos 0 ≤ℤ left_turn (own_edge p, own_edge n) → IsJoint unit join (joint p.b p.b_right n.a_right p.direction n.direction radius Counterclockwise)
-joint_met unit least radius join p n h left = record { turn = subst (IsTurn unit) (sym (joint_is unit radius join p n h)) turn; safe = h.movable }
+joint_met unit least radius join p n h left =
+    record { turn = subst (IsTurn unit) (sym (joint_is unit radius join p n h)) turn; safe = h.movable }
   where
     turn : IsTurn unit (joint_right unit radius (own_edge p, own_edge n))
     turn = turn_right unit least radius h.sign (own_edge p, own_edge n) (record { first = h.previous.differ; second = h.next.differ; met = h.met }) left

@@ -30,8 +30,9 @@ passed_over all from p points rest e same h =
     b ∙ ap (λ (x : Point). proper_edges (pairs (x ∷ rest))) (sym k)
 
 -- and one that is another is the end of the next edge
-pub comes_to : (all : List Edge) (from p : Point) (points rest : List Point) → points ≡ p ∷ rest → not (same_point from p) ≡ true →
-    all ≡ proper_edges (pairs (from ∷ points)) → all ≡ (from, p) ∷ proper_edges (pairs (p ∷ rest))
+pub comes_to : (all : List Edge) (from p : Point) (points rest : List Point) → points ≡ p ∷ rest →
+    not (same_point from p) ≡ true → all ≡ proper_edges (pairs (from ∷ points)) → all ≡ (from, p) ∷ proper_edges (pairs (p ∷ rest))
 comes_to all from p points rest e other h =
-    let a : all ≡ cond (not (same_point from p)) ((from, p) ∷ proper_edges (pairs (p ∷ rest))) (proper_edges (pairs (p ∷ rest))) = rw e at h in
+    let next : List Edge = proper_edges (pairs (p ∷ rest)) in
+    let a : all ≡ cond (not (same_point from p)) ((from, p) ∷ next) next = rw e at h in
     rw other at a

@@ -15,5 +15,5 @@ loop-point-preserved g c =
 pub returns-then-differ : goal.returns-then-differ
 returns-then-differ g c =
     let other : not (same_point c.args.from c.in-Some.point) ≡ true = search rules in
-    comes_to (proper_edges (pairs (c.args.from ∷ c.args.points.now))) c.args.from c.in-Some.point c.loop-point.points c.next.new.self c.in-Some.ensures
-    other c.loop-point.invariant
+    comes_to (proper_edges (pairs (c.args.from ∷ c.args.points.now))) c.args.from c.in-Some.point c.loop-point.points
+    c.next.new.self c.in-Some.ensures other c.loop-point.invariant

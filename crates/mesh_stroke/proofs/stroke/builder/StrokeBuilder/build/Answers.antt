@@ -23,7 +23,8 @@ adds g c =
 -- after a refusal what was added is cut off
 pub returns-in-Err-clause-refused : goal.returns-in-Err-clause-refused
 returns-in-Err-clause-refused g c =
-    let kept : take (length c.args.segments.now.items) c.draw.new.segments.items ≡ c.args.segments.now.items = c.in-Err.ensures.kept in
+    let kept : take (length c.args.segments.now.items) c.draw.new.segments.items ≡ c.args.segments.now.items =
+    c.in-Err.ensures.kept in
     let n : c.len-length.result ≡ length c.args.segments.now.items = c.len-length.ensures ∙ c.args.segments.now.ok.0 in
     c.truncate.ensures.items ∙ ap (λ (k : ℕ). take k c.draw.new.segments.items) n ∙ kept
 
