@@ -8,5 +8,5 @@ returns-then-is_wide_less g c =
     let high = rw c.unit-then-is_wide_less.ensures at c.is_wide_less-then-is_wide_less.ensures in
     let above = c.is_wide_less.ensures.0 c.if-is_wide_less.true in
     let least = rw (c.to_wide.ensures.value, c.ZERO.ensures, g.met.I.IntNumber.value_zero, c.unit.ensures)
-    at (g.met.I.Wide.WideNumber.sub_law _ _ _ c.sub-least.ensures) in
+    at c.minus-least.ensures in
     (λ less. record { low = omega (arith, ints, least, above); high = high.0 less }, λ small. high.1 small.high)
