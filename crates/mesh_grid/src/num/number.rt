@@ -4,7 +4,7 @@ ghost use Rattle.std.specs.Prelude.{◌≡◌, ℕ, ◌+◌, ◌-◌, ◌*◌, �
 ghost use Rattle.std.specs.Ordering.{int_cmp};
 ghost use Rattle.std.proofs.Common.{lit≤};
 ghost use Rattle.mesh_plane.specs.Bounds.{IsWithin};
-ghost use Rattle.mesh_grid.specs.Widths.{IsUnit, small_unit, large_unit, within_fits_w32, within_fits_w64};
+ghost use Rattle.mesh_grid.specs.Widths.{IsUnit, small_unit, large_unit};
 
 /// A signed type that holds sums and differences of two products of coordinate differences.
 /// Contracts see a number as the whole number `value`.
