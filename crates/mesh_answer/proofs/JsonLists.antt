@@ -1,9 +1,13 @@
--- Lemmas over lists: values of JSON in lists and in objects.
-use Rattle.std.proofs.Common.{◌≡◌, List, [], ◌∷◌, false, refl}
-use Rattle.std.specs.Prelude.{ℤ, pos, negsuc}
-use Rattle.serde_json.specs.Data.{Data}
+-- Lemmas over lists: values of JSON in lists and in objects, and lists that vectors hold.
+use Rattle.std.proofs.Common.{◌≡◌, List, [], ◌∷◌, false, refl, ap}
+use Rattle.std.specs.Prelude.{ℤ, pos, negsuc, map}
+use Rattle.std.specs.declared.alloc.Global.{Global}
+use Rattle.std.specs.declared.vec.Vec.{Vec}
+use Rattle.serde_json.specs.Data.{Data, array}
 use Rattle.serde_json.specs.Find.{is_float, of_integer}
+use Rattle.serde_json.specs.View.{items_of}
 use Rattle.serde_json.specs.Written.{has_float}
+use Rattle.mesh_num.specs.Paths.{paths_of, shapes_of}
 use Rattle.mesh_plane.specs.Plane.{Point, Edge}
 use Rattle.mesh_answer.specs.Lines.{point_data, edge_data, list_data, edges_data, shapes_data}
 
@@ -28,3 +32,15 @@ edges_no_float lists = rw (list_no_float (list_data edge_data) (list_no_float ed
 pub shapes_no_float : (shapes : List (List (List Point))) → has_float (shapes_data shapes) ≡ false
 shapes_no_float shapes =
     rw (list_no_float (list_data (list_data point_data)) (list_no_float (list_data point_data) (list_no_float point_data point_no_float)) shapes) refl
+
+items_same : {A B : Type 0} (f : A → Data) (g : B → Data) (h : A → B) → ((a : A) → f a ≡ g (h a)) → (xs : List A) → items_of (map f xs) ≡ items_of (map g (map h xs))
+items_same f g h same [] = refl
+items_same f g h same (x ∷ xs) = rw (same x, items_same f g h same xs) refl
+
+-- a list of vectors is the list of the lists that they hold
+pub vectors_listed : {A : Type 0} (value : A → Data) (xs : List (Vec A Global)) → list_data (λ (v : Vec A Global). list_data value v.items) xs ≡ list_data (list_data value) (paths_of xs)
+vectors_listed value xs = ap array (items_same (λ v. list_data value v.items) (list_data value) (λ v. v.items) (λ v. refl) xs)
+
+pub shapes_listed : {A : Type 0} (value : A → Data) (xs : List (Vec (Vec A Global) Global)) → list_data (λ (s : Vec (Vec A Global) Global). list_data (λ (v : Vec A Global). list_data value v.items) s.items) xs ≡ list_data (list_data (list_data value)) (shapes_of xs)
+shapes_listed value xs =
+    ap array (items_same (λ s. list_data (λ v. list_data value v.items) s.items) (list_data (list_data value)) (λ s. paths_of s.items) (λ s. vectors_listed value s.items) xs)

@@ -1,7 +1,7 @@
 //! Answers, written as JSON.
 
 ghost use Rattle.std.specs.Prelude.{◌≡◌, IfOk, string_bytes, codes, false};
-ghost use Rattle.serde_json.specs.Data.{number as number_value};
+ghost use Rattle.serde_json.specs.Data.{Data, number as number_value, array, item, no_items};
 ghost use Rattle.serde_json.specs.Find.{of_integer};
 ghost use Rattle.serde_json.specs.View.{view};
 ghost use Rattle.serde_json.specs.Written.{has_float};
@@ -23,7 +23,7 @@ pub fn edges_line<I: OverlayInt>(
 ) -> Result<String, AllocError>
     ensures { IfOk result (λ s. string_bytes s ≡ edges_text (paths_of paths.now)) }
 {
-    let list = path_list(alloc, paths)?;
+    let list = list_value(alloc, paths)?;
     let answer = edges_answer(alloc, list)?;
     line_of(alloc, &answer)
 }
@@ -41,7 +41,7 @@ pub fn shapes_line<I: OverlayInt>(
 ) -> Result<String, AllocError>
     ensures { IfOk result (λ s. string_bytes s ≡ shapes_text (shapes_of shapes.now.items)) }
 {
-    let list = shape_list(alloc, shapes)?;
+    let list = list_value(alloc, shapes)?;
     let answer = shapes_answer(alloc, list)?;
     line_of(alloc, &answer)
 }
@@ -61,77 +61,59 @@ fn line_of(alloc: Global, answer: &Value) -> Result<String, AllocError>
     Ok(line)
 }
 
-fn path_list<I: OverlayInt>(
-    alloc: Global,
-    paths: &[Vec<DirectedEdge<I>>],
-) -> Result<Value, AllocError>
-    ensures { IfOk result (λ v. view v ≡ list_data (list_data edge_data) (paths_of paths.now)) }
+/// The list of what each item is written as.
+fn list_value<T: Written>(alloc: Global, items: &[T]) -> Result<Value, AllocError>
+    ensures { IfOk result (λ v. view v ≡ list_data T.written items.now) }
 {
-    let mut list = Vec::with_capacity(alloc, paths.len())?;
-    for edges in paths {
-        list.push(edge_list(alloc, edges)?)?;
+    let mut list = Vec::with_capacity(alloc, items.len())?;
+    for item in items {
+        list.push(item.to_value(alloc)?)?;
     }
     Ok(Value::Array(list))
 }
 
-fn edge_list<I: OverlayInt>(alloc: Global, edges: &[DirectedEdge<I>]) -> Result<Value, AllocError>
-    ensures { IfOk result (λ v. view v ≡ list_data edge_data edges.now) }
-{
-    let mut list = Vec::with_capacity(alloc, edges.len())?;
-    for edge in edges {
-        list.push(edge_value(alloc, *edge)?)?;
+/// What is written as a value of JSON.
+trait Written {
+    ghost written: { Self → Data };
+
+    fn to_value(&self, alloc: Global) -> Result<Value, AllocError>
+        ensures { IfOk result (λ v. view v ≡ written self.now) };
+}
+
+/// A list, by its items.
+impl<T: Written> Written for Vec<T> {
+    ghost written = { λ v. list_data T.written v.items };
+
+    fn to_value(&self, alloc: Global) -> Result<Value, AllocError> {
+        list_value(alloc, self)
     }
-    Ok(Value::Array(list))
 }
 
-fn shape_list<I: OverlayInt>(
-    alloc: Global,
-    shapes: &[Vec<Vec<IntPoint<I>>>],
-) -> Result<Value, AllocError>
-    ensures { IfOk result (λ v. view v ≡ list_data (list_data (list_data point_data)) (shapes_of shapes.now)) }
-{
-    let mut list = Vec::with_capacity(alloc, shapes.len())?;
-    for shape in shapes {
-        list.push(contour_list(alloc, shape)?)?;
+/// An edge, by its ends.
+impl<I: OverlayInt> Written for DirectedEdge<I> {
+    ghost written = { λ e. edge_data e };
+
+    fn to_value(&self, alloc: Global) -> Result<Value, AllocError> {
+        let start = self.start.to_value(alloc)?;
+        let end = self.end.to_value(alloc)?;
+        pair(alloc, start, end)
     }
-    Ok(Value::Array(list))
 }
 
-fn contour_list<I: OverlayInt>(
-    alloc: Global,
-    contours: &[Vec<IntPoint<I>>],
-) -> Result<Value, AllocError>
-    ensures { IfOk result (λ v. view v ≡ list_data (list_data point_data) (paths_of contours.now)) }
-{
-    let mut list = Vec::with_capacity(alloc, contours.len())?;
-    for contour in contours {
-        list.push(point_list(alloc, contour)?)?;
+/// A point, by its coordinates.
+impl<I: OverlayInt> Written for IntPoint<I> {
+    ghost written = { λ p. point_data p };
+
+    fn to_value(&self, alloc: Global) -> Result<Value, AllocError> {
+        pair(alloc, number(self.x), number(self.y))
     }
-    Ok(Value::Array(list))
 }
 
-fn point_list<I: OverlayInt>(alloc: Global, points: &[IntPoint<I>]) -> Result<Value, AllocError>
-    ensures { IfOk result (λ v. view v ≡ list_data point_data points.now) }
+/// A list of two values.
+fn pair(alloc: Global, first: Value, second: Value) -> Result<Value, AllocError>
+    ensures { IfOk result (λ v. view v ≡ array (item (view first) (item (view second) no_items))) }
 {
-    let mut list = Vec::with_capacity(alloc, points.len())?;
-    for point in points {
-        list.push(point_value(alloc, *point)?)?;
-    }
-    Ok(Value::Array(list))
-}
-
-fn edge_value<I: OverlayInt>(alloc: Global, edge: DirectedEdge<I>) -> Result<Value, AllocError>
-    ensures { IfOk result (λ v. view v ≡ edge_data edge) }
-{
-    let start = point_value(alloc, edge.start)?;
-    let end = point_value(alloc, edge.end)?;
-    json!(in alloc; [start, end])
-}
-
-fn point_value<I: OverlayInt>(alloc: Global, point: IntPoint<I>) -> Result<Value, AllocError>
-    ensures { IfOk result (λ v. view v ≡ point_data point) }
-{
-    json!(in alloc; [number(point.x), number(point.y)])
+    json!(in alloc; [first, second])
 }
 
 /// A coordinate as a value.

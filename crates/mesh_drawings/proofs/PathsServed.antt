@@ -1,7 +1,7 @@
 -- Lemmas over points and lists: paths, their areas, refusals, and the edges that are served.
 use Rattle.std.proofs.Common.{◌≡◌, ℕ, ◌<◌, ◌+◌, ◌*◌, Bool, List, [], ◌∷◌, ◌++◌, get_or, take, length, Option, Some, None, true, false, refl, sym, ap, subst, ◌∙◌, arith}
 use Rattle.std.proofs.lemmas.Bool.{true≢false}
-use Rattle.std.specs.Prelude.{Result, Ok, Err, IfErr, IsErrAnd, is_ok, OnOk, OnErr, ℤ, pos, ◌≤ℤ◌, ◌<ℤ◌, neg_ℤ, int_lt}
+use Rattle.std.specs.Prelude.{Result, Ok, Err, IfOk, IfErr, IsErrAnd, is_ok, OnOk, OnErr, ℤ, pos, ◌≤ℤ◌, ◌<ℤ◌, neg_ℤ, int_lt}
 use Rattle.std.specs.List.{AllZip}
 use Rattle.std.specs.declared.vec.Vec.{Vec}
 use Rattle.std.specs.declared.alloc.Global.{Global}
@@ -39,6 +39,11 @@ one_listed {X} {Y} R paths i path lists new list h e f before here =
     take_more (paths_of paths) i [] l ∙ ap (λ (p : List X). take i (paths_of paths) ++ p ∷ []) (path_here paths i path h e) in
     let n : paths_of new ≡ paths_of lists ++ list.items ∷ [] = ap (λ (ls : List (Vec Y Global)). paths_of ls) f ∙ map-append (λ (v : Vec Y Global). v.items) lists (list ∷ []) in
     rw (t, n) (all_zipped_more R (take i (paths_of paths)) (paths_of lists) path.items list.items before here)
+
+-- what two clauses say of an answer
+pub answer_meets : {A E : Type 0} (r : Result A E) (P Q R : A → Type 0) → ((x : A) → P x → Q x → R x) → IfOk r P → IfOk r Q → IfOk r R
+answer_meets (Ok x) P Q R both p q = both x p q
+answer_meets (Err e) P Q R both p q = tt
 
 -- ---- areas
 

@@ -1,2 +1,1 @@
 pub mod Drawings
-pub use Rattle.mesh_answer.specs.Lines

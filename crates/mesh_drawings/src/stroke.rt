@@ -1,14 +1,16 @@
 //! Strokes that are asked for, and what the library answers.
 
 ghost use Rattle.std.specs.Prelude.{◌≡◌, ◌↔◌, OnOk, IfOk};
+ghost use Rattle.std.specs.List.{All};
 ghost use Rattle.mesh_num.specs.Paths.{paths_of, shapes_of};
 ghost use Rattle.mesh_below.specs.Options.{choices_of};
 ghost use Rattle.mesh_draw.specs.Padding.{ArePathsSafe};
+ghost use Rattle.mesh_stroke.specs.Building.{IsStrokable};
 ghost use Rattle.mesh_stroke.specs.Strokes.{stroke_edges};
 ghost use Rattle.mesh_stroke.specs.Styles.{stroke_padding, stroke_style_of};
 ghost use Rattle.mesh_stroke_calls.specs.Resolved.{IsStroke};
 ghost use Rattle.mesh_answer.specs.Lines.{by_values};
-ghost use Rattle.mesh_drawings.specs.Drawings.{AreListed, MayBeStroked};
+ghost use Rattle.mesh_drawings.specs.Drawings.{AreListed, IsListed, MayBeStroked};
 
 use i_overlay_mesh::IntOutlineError;
 use i_overlay_mesh::stroke::builder::StrokeBuilder;
@@ -35,7 +37,8 @@ pub fn edges<I: OverlayInt>(
         ↔ ¬ MayBeStroked I.unit (stroke_style_of I.value stroke.now.style) (paths_of stroke.now.paths.items) }
 {
     stroke.paths.validate_stroke(&stroke.style)?;
-    Ok(edge_lists(alloc, &stroke.paths, &stroke.style, stroke.closed)?)
+    let mut builder = StrokeBuilder::new(alloc, &stroke.style);
+    Ok(edge_lists(alloc, &stroke.paths, stroke.closed, &mut builder)?)
 }
 
 /// The shapes of the paths' stroke.
@@ -58,24 +61,37 @@ pub fn shapes<I: OverlayInt>(
         .stroke_custom(alloc, &stroke.style, stroke.closed, options)
 }
 
-/// The edges of the stroke of each path, in their order.
+/// The edges of the stroke of each path, in their order, by the builder of its style.
 fn edge_lists<I: OverlayInt>(
     alloc: Global,
     paths: &[Vec<IntPoint<I>>],
-    style: &IntStrokeStyle<I>,
     closed: bool,
+    builder: &mut StrokeBuilder<'_, I>,
 ) -> Result<Vec<Vec<DirectedEdge<I>>>, AllocError>
-    requires { ArePathsSafe I.unit (stroke_padding (stroke_style_of I.value style.now)) (paths_of paths.now) }
+    requires { ArePathsSafe I.unit (stroke_padding builder.old) (paths_of paths.now) }
     ensures { IfOk result (λ lists. AreListed (by_values I.cmp I.of_value)
-        (stroke_edges I.unit (stroke_style_of I.value style.now) closed)
-        (paths_of paths.now) (paths_of lists.items)) }
+        (stroke_edges I.unit builder.old closed) (paths_of paths.now) (paths_of lists.items)) }
 {
-    let mut builder = StrokeBuilder::new(alloc, style);
     let mut lists = Vec::with_capacity(alloc, paths.len())?;
     for path in paths {
-        let mut segments = Vec::new(alloc);
-        builder.build(path, closed, &mut segments)?;
-        lists.push(sorted_edges(alloc, &segments)?)?;
+        lists.push(edge_list(alloc, path, closed, builder)?)?;
     }
     Ok(lists)
+}
+
+/// The edges of the stroke of a path, in their order. The builder stays as it is.
+fn edge_list<I: OverlayInt>(
+    alloc: Global,
+    path: &[IntPoint<I>],
+    closed: bool,
+    builder: &mut StrokeBuilder<'_, I>,
+) -> Result<Vec<DirectedEdge<I>>, AllocError>
+    requires { All (IsStrokable I.unit builder.old) path.now }
+    ensures listed { IfOk result (λ edges. IsListed (by_values I.cmp I.of_value)
+        (stroke_edges I.unit builder.old closed) path.now edges.items) }
+    ensures same { builder.new ≡ builder.old }
+{
+    let mut segments = Vec::new(alloc);
+    builder.build(path, closed, &mut segments)?;
+    sorted_edges(alloc, &segments)
 }

@@ -3,11 +3,12 @@
 ghost use Rattle.std.specs.Prelude.{◌≡◌, ◌↔◌, OnOk, IfOk};
 ghost use Rattle.mesh_num.specs.Paths.{paths_of, shapes_of};
 ghost use Rattle.mesh_below.specs.Options.{choices_of};
+ghost use Rattle.mesh_variable_stroke.specs.Drawn.{greatest_radius, AreStrokable};
 ghost use Rattle.mesh_variable_stroke.specs.VariableStrokes.{variable_stroke_edges};
 ghost use Rattle.mesh_variable_calls.specs.Resolved.{IsVariableStroke};
 ghost use Rattle.mesh_variable_calls.specs.Strokable.{ArePathsStrokable};
 ghost use Rattle.mesh_answer.specs.Lines.{by_values};
-ghost use Rattle.mesh_drawings.specs.Drawings.{AreListed, MayBeVariablyStroked};
+ghost use Rattle.mesh_drawings.specs.Drawings.{AreListed, IsListed, MayBeVariablyStroked};
 
 use i_overlay_mesh::IntOutlineError;
 use i_overlay_mesh::variable_stroke::builder::VariableStrokeBuilder;
@@ -33,7 +34,8 @@ pub fn edges<I: OverlayInt>(
         ↔ ¬ MayBeVariablyStroked I.unit (paths_of stroke.now.paths.items) }
 {
     stroke.paths.validate_variable_stroke()?;
-    Ok(edge_lists(alloc, &stroke.paths, stroke.style)?)
+    let mut builder = VariableStrokeBuilder::new(alloc, stroke.style);
+    Ok(edge_lists(alloc, &stroke.paths, &mut builder)?)
 }
 
 /// The shapes of the paths' stroke.
@@ -54,22 +56,35 @@ pub fn shapes<I: OverlayInt>(
         .variable_stroke_custom(alloc, stroke.style, options)
 }
 
-/// The edges of the stroke of each path, in their order.
+/// The edges of the stroke of each path, in their order, by the builder of its style.
 fn edge_lists<I: OverlayInt>(
     alloc: Global,
     paths: &[Vec<IntStrokeVertex<I>>],
-    style: IntVariableStrokeStyle,
+    builder: &mut VariableStrokeBuilder<I>,
 ) -> Result<Vec<Vec<DirectedEdge<I>>>, AllocError>
     requires { ArePathsStrokable I.unit (paths_of paths.now) }
     ensures { IfOk result (λ lists. AreListed (by_values I.cmp I.of_value)
-        (variable_stroke_edges I.unit style.arc) (paths_of paths.now) (paths_of lists.items)) }
+        (variable_stroke_edges I.unit builder.old) (paths_of paths.now) (paths_of lists.items)) }
 {
-    let mut builder = VariableStrokeBuilder::new(alloc, style);
     let mut lists = Vec::with_capacity(alloc, paths.len())?;
     for path in paths {
-        let mut segments = Vec::new(alloc);
-        builder.build(path, &mut segments)?;
-        lists.push(sorted_edges(alloc, &segments)?)?;
+        lists.push(edge_list(alloc, path, builder)?)?;
     }
     Ok(lists)
+}
+
+/// The edges of the stroke of a path, in their order. The builder stays as it is.
+fn edge_list<I: OverlayInt>(
+    alloc: Global,
+    path: &[IntStrokeVertex<I>],
+    builder: &mut VariableStrokeBuilder<I>,
+) -> Result<Vec<DirectedEdge<I>>, AllocError>
+    requires { AreStrokable I.unit (greatest_radius path.now) path.now }
+    ensures listed { IfOk result (λ edges. IsListed (by_values I.cmp I.of_value)
+        (variable_stroke_edges I.unit builder.old) path.now edges.items) }
+    ensures same { builder.new ≡ builder.old }
+{
+    let mut segments = Vec::new(alloc);
+    builder.build(path, &mut segments)?;
+    sorted_edges(alloc, &segments)
 }

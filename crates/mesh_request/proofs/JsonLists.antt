@@ -3,12 +3,12 @@ use Rattle.std.proofs.Common.{◌≡◌, ℕ, ◌<◌, ◌+◌, List, [], ◌∷
 use Rattle.std.specs.Map.{values_of}
 use Rattle.std.specs.declared.vec.Vec.{Vec}
 use Rattle.std.proofs.lemmas.List.{at_drop_more, map-append}
+use Rattle.serde_json.specs.Data.{Data, Items, item}
 use Rattle.serde_json.specs.View.{view, items_view, members_view}
 use Rattle.serde_json.specs.Written.{has_float, items_have_float, members_have_float}
 use Rattle.serde_json.specs.declared.value.Value.{Value}
 use Rattle.mesh_num.specs.Paths.{paths_of}
-use Rattle.mesh_join.specs.VariableStyles.{Vertex}
-use Rattle.mesh_request.specs.Reading.{pair_of, triple_of, options_in, vertex_path_of, vertex_path_list_of}
+use Rattle.mesh_request.specs.Reading.{pair_of, triple_of, options_in}
 
 pub members_float : (ms : List (String Global × Value)) → members_have_float (members_view ms) ≡ items_have_float (items_view (values_of ms))
 members_float [] = refl
@@ -36,7 +36,7 @@ no_options (x ∷ []) h = refl
 no_options (x ∷ y ∷ []) h = absurd (h (omega arith))
 no_options (x ∷ y ∷ z ∷ vs) h = refl
 
--- ---- paths of vertices, read one after another
+-- ---- lists, read one item after another
 
 -- what is read next stands after what was read before
 read_after : {X : Type 0} (xs : List X) (x : X) (rest : Option (List X)) →
@@ -44,16 +44,22 @@ read_after : {X : Type 0} (xs : List X) (x : X) (rest : Option (List X)) →
 read_after xs x None = refl
 read_after xs x (Some ys) = ap Some (sym (append_assoc xs (x ∷ []) ys))
 
-pub one_path_more : (unit : ℕ) (items : List Value) (i : ℕ) (item : Value) (all : Option (List (List Vertex))) (paths new : List (Vec Vertex Global)) (path : Vec Vertex Global) →
-    i < length items → item ≡ get_or items i item → vertex_path_of unit (view item) ≡ Some path.items → new ≡ paths ++ path ∷ [] →
-    all ≡ option_map (λ (ps : List (List Vertex)). paths_of paths ++ ps) (vertex_path_list_of unit (items_view (drop i items))) →
-    all ≡ option_map (λ (ps : List (List Vertex)). paths_of new ++ ps) (vertex_path_list_of unit (items_view (drop (i + 1) items)))
-one_path_more unit items i item all paths new path h e read pushed before =
-    let rest : Option (List (List Vertex)) = vertex_path_list_of unit (items_view (drop (i + 1) items)) in
-    let one : vertex_path_of unit (view (get_or items i item)) ≡ Some path.items = ap (λ (v : Value). vertex_path_of unit (view v)) (sym e) ∙ read in
-    let here : vertex_path_list_of unit (items_view (drop i items)) ≡ option_map (λ (ps : List (List Vertex)). path.items ∷ ps) rest =
-    at_drop_more (λ (ds : List Value). vertex_path_list_of unit (items_view ds)) items i item h
-    ∙ ap (option_and_then (λ (p : List Vertex). option_map (λ (ps : List (List Vertex)). p ∷ ps) rest)) one in
-    let held : paths_of new ≡ paths_of paths ++ path.items ∷ [] = ap (λ (vs : List (Vec Vertex Global)). paths_of vs) pushed ∙ map-append (λ (v : Vec Vertex Global). v.items) paths (path ∷ []) in
-    before ∙ ap (option_map (λ (ps : List (List Vertex)). paths_of paths ++ ps)) here ∙ read_after (paths_of paths) path.items rest
-    ∙ ap (λ (xs : List (List Vertex)). option_map (λ (ps : List (List Vertex)). xs ++ ps) rest) (sym held)
+-- whether a list is read by reading each of its items
+abbrev pub IsReadBy : {X : Type 0} → (Data → Option X) → (Items → Option (List X)) → Type 0
+IsReadBy {X} one all = (d : Data) (ds : Items) → all (item d ds) ≡ option_and_then (λ (x : X). option_map (λ (xs : List X). x ∷ xs) (all ds)) (one d)
+
+pub one_more : {X : Type 0} (one : Data → Option X) (each : Items → Option (List X)) → IsReadBy one each → (items : List Value) (i : ℕ) (value : Value) (all : Option (List X)) (before after : List X) (x : X) →
+    i < length items → value ≡ get_or items i value → one (view value) ≡ Some x → after ≡ before ++ x ∷ [] →
+    all ≡ option_map (λ (xs : List X). before ++ xs) (each (items_view (drop i items))) →
+    all ≡ option_map (λ (xs : List X). after ++ xs) (each (items_view (drop (i + 1) items)))
+one_more {X} one each by items i value all before after x h e read pushed so_far =
+    let rest = each (items_view (drop (i + 1) items)) in
+    let here : each (items_view (drop i items)) ≡ option_map (λ (xs : List X). x ∷ xs) rest =
+    at_drop_more (λ (ds : List Value). each (items_view ds)) items i value h
+    ∙ by (view (get_or items i value)) (items_view (drop (i + 1) items))
+    ∙ ap (option_and_then (λ (y : X). option_map (λ (xs : List X). y ∷ xs) rest)) (ap (λ (v : Value). one (view v)) (sym e) ∙ read) in
+    so_far ∙ ap (option_map (λ (xs : List X). before ++ xs)) here ∙ read_after before x rest ∙ ap (λ (ys : List X). option_map (λ (xs : List X). ys ++ xs) rest) (sym pushed)
+
+-- one path more
+pub path_pushed : {X : Type 0} (paths new : List (Vec X Global)) (path : Vec X Global) → new ≡ paths ++ path ∷ [] → paths_of new ≡ paths_of paths ++ path.items ∷ []
+path_pushed paths new path pushed = ap paths_of pushed ∙ map-append (λ v. v.items) paths (path ∷ [])

@@ -1,10 +1,9 @@
 -- Lemmas over lines: what is answered or told is a reply.
-use Rattle.std.proofs.Common.{◌≡◌, ◌∙◌, ℕ, List, String, Global, Option, None, Some, Result, Ok, Err, IfSome, IfOk, IsOk, IsErrAnd, refl, sym, subst}
+use Rattle.std.proofs.Common.{◌≡◌, ◌∙◌, ◌⊎◌, inl, inr, ℕ, List, String, Global, Option, None, Some, Result, Ok, Err, IfSome, IfOk, IsOk, IsErrAnd, refl, sym, subst}
 use Rattle.std.specs.Prelude.{string_bytes}
 use Rattle.std.proofs.lemmas.Bool.{false≢true}
 use Rattle.std.proofs.lemmas.Option.{none-some}
 use Rattle.std.specs.Io.KnownBytes.{Appends, IsAtEnd}
-use mathlib.Core.Logic.{◌⊎◌, inl, inr}
 use Rattle.mesh_draw.specs.declared.error.IntOutlineError.TheVariants.{CoordinateOutOfRange, OutOfMemory}
 use Rattle.mesh_request.specs.Failures.{failure_line}
 use Rattle.mesh_request.specs.Reading.{IsOfReading}

@@ -8,7 +8,7 @@ use Rattle.mesh_drawings.proofs.PathsServed.{err_told, not_refused, memory_other
 use Rattle.mesh_drawings.proofs.stroke.edges.Goals as goal
 
 pub edge_lists-requires : goal.edge_lists-requires
-edge_lists-requires g c = rw c.deref.ensures.value (c.in_ok-validate_stroke.ensures.safe.0 refl)
+edge_lists-requires g c = rw (c.deref.ensures.value, c.new-builder.ensures) (c.in_ok-validate_stroke.ensures.safe.0 refl)
 
 pub returns-in_err-validate_stroke-clause-refused : goal.returns-in_err-validate_stroke-clause-refused
 returns-in_err-validate_stroke-clause-refused g c = (
@@ -30,4 +30,4 @@ pub returns-clause-refused : goal.returns-clause-refused
 returns-clause-refused g c = not_refused (Ok c.in_ok-edge_lists.field-0) _ (returns-clause-accepted g c) (answer_other c.in_ok-edge_lists.field-0)
 
 pub returns-clause-edges : goal.returns-clause-edges
-returns-clause-edges g c = rw c.deref.ensures.value at c.in_ok-edge_lists.ensures
+returns-clause-edges g c = rw (c.deref.ensures.value, c.new-builder.ensures) at c.in_ok-edge_lists.ensures

@@ -29,4 +29,4 @@ pub returns-clause-refused : goal.returns-clause-refused
 returns-clause-refused g c = not_refused (Ok c.in_ok-edge_lists.field-0) _ (returns-clause-accepted g c) (answer_other c.in_ok-edge_lists.field-0)
 
 pub returns-clause-edges : goal.returns-clause-edges
-returns-clause-edges g c = rw c.deref.ensures.value at c.in_ok-edge_lists.ensures
+returns-clause-edges g c = rw (c.deref.ensures.value, c.new-builder.ensures) at c.in_ok-edge_lists.ensures

@@ -1,8 +1,8 @@
 -- What was read is answered, or the failure to read it is told.
+use Rattle.std.proofs.Common.{inl, inr}
 use Rattle.std.proofs.lemmas.Result.{IfOk-weaker}
 use Rattle.mesh_service.specs.Serving.{IsReply}
 use Rattle.mesh_service.proofs.Replies.{reading_told, responded, none_left}
-use mathlib.Core.Logic.{inl, inr}
 use Rattle.mesh_service.proofs.service.read_and_answer.Goals as goal
 
 pub returns-in-Ok-clause-answered : goal.returns-in-Ok-clause-answered
