@@ -122,3 +122,59 @@ fn failing_flush(rt: HostRuntime) -> Result<(), Fail> {
     let status = serve(rt.alloc(), &mut reader, &mut FailingFlush);
     expect_equal(&status, &Status::Unwritten, &"a flush")
 }
+
+/// However many reads a request takes, all of it is read.
+#[test]
+fn slow_reader(rt: HostRuntime) -> Result<(), Fail> {
+    let mut text = vec![in rt.alloc(); 32u8; 70_000]?;
+    text.extend_from_slice(REQUEST)?;
+    let mut reader = FailingReader {
+        left: text.as_slice(),
+        interrupted: false,
+        end: None,
+    };
+    let mut writer = Vec::new(rt.alloc());
+    let status = serve(rt.alloc(), &mut reader, &mut writer);
+    expect_equal(&status, &Status::Answered, &"70,000 blanks, byte by byte")?;
+    expect_equal(&writer.as_slice(), &ANSWER, &"70,000 blanks, byte by byte")
+}
+
+/// Takes the bytes that are wanted one by one, with an interruption before each, and no other byte.
+#[derive(Drop)]
+struct SlowWriter<'a> {
+    wanted: &'a [u8],
+    interrupted: bool,
+}
+
+impl Write for SlowWriter<'_> {
+    fn write(&mut self, buf: &[u8]) -> io::Result<usize> {
+        self.interrupted = !self.interrupted;
+        if self.interrupted {
+            return Err(Error::from(ErrorKind::Interrupted));
+        }
+        match (buf.first(), self.wanted.split_first()) {
+            (Some(byte), Some((next, left))) if byte == next => {
+                self.wanted = left;
+                Ok(1)
+            }
+            _ => Ok(0),
+        }
+    }
+
+    fn flush(&mut self) -> io::Result<()> {
+        Ok(())
+    }
+}
+
+/// However many writes a line takes, and however often they are interrupted, all of it is written.
+#[test]
+fn slow_writer(rt: HostRuntime) -> Result<(), Fail> {
+    let mut reader = REQUEST;
+    let mut writer = SlowWriter {
+        wanted: ANSWER,
+        interrupted: false,
+    };
+    let status = serve(rt.alloc(), &mut reader, &mut writer);
+    expect_equal(&status, &Status::Answered, &"a line, byte by byte")?;
+    expect_equal(&writer.wanted.len(), &0, &"bytes that are not written")
+}
