@@ -41,6 +41,7 @@ items_same f g h same (x ∷ xs) = rw (same x, items_same f g h same xs) refl
 pub vectors_listed : {A : Type 0} (value : A → Data) (xs : List (Vec A Global)) → list_data (λ (v : Vec A Global). list_data value v.items) xs ≡ list_data (list_data value) (paths_of xs)
 vectors_listed value xs = ap array (items_same (λ v. list_data value v.items) (list_data value) (λ v. v.items) (λ v. refl) xs)
 
+-- and so is a list of vectors of vectors
 pub shapes_listed : {A : Type 0} (value : A → Data) (xs : List (Vec (Vec A Global) Global)) → list_data (λ (s : Vec (Vec A Global) Global). list_data (λ (v : Vec A Global). list_data value v.items) s.items) xs ≡ list_data (list_data (list_data value)) (shapes_of xs)
 shapes_listed value xs =
     ap array (items_same (λ s. list_data (λ v. list_data value v.items) s.items) (list_data (list_data value)) (λ s. paths_of s.items) (λ s. vectors_listed value s.items) xs)

@@ -61,7 +61,7 @@ pub fn shapes<I: OverlayInt>(
         .stroke_custom(alloc, &stroke.style, stroke.closed, options)
 }
 
-/// The edges of the stroke of each path, in their order, by the builder of its style.
+/// The edges of the stroke of each path, in their order, by this builder.
 fn edge_lists<I: OverlayInt>(
     alloc: Global,
     paths: &[Vec<IntPoint<I>>],

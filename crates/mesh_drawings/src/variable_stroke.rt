@@ -56,7 +56,7 @@ pub fn shapes<I: OverlayInt>(
         .variable_stroke_custom(alloc, stroke.style, options)
 }
 
-/// The edges of the stroke of each path, in their order, by the builder of its style.
+/// The edges of the stroke of each path, in their order, by this builder.
 fn edge_lists<I: OverlayInt>(
     alloc: Global,
     paths: &[Vec<IntStrokeVertex<I>>],

@@ -1,4 +1,4 @@
-//! Readers and writers that fail, or are interrupted.
+//! Readers and writers that fail, are interrupted, or take byte by byte.
 
 use mesh_service::service::{Status, serve};
 use mesh_toolbox::compared::expect_equal;
@@ -123,10 +123,10 @@ fn failing_flush(rt: HostRuntime) -> Result<(), Fail> {
     expect_equal(&status, &Status::Unwritten, &"a flush")
 }
 
-/// However many reads a request takes, all of it is read.
+/// A request that takes 70,000 reads and more, with an interruption before each, is read whole.
 #[test]
 fn slow_reader(rt: HostRuntime) -> Result<(), Fail> {
-    let mut text = vec![in rt.alloc(); 32u8; 70_000]?;
+    let mut text = vec![in rt.alloc(); b' '; 70_000]?;
     text.extend_from_slice(REQUEST)?;
     let mut reader = FailingReader {
         left: text.as_slice(),
@@ -166,7 +166,7 @@ impl Write for SlowWriter<'_> {
     }
 }
 
-/// However many writes a line takes, and however often they are interrupted, all of it is written.
+/// A line is written whole, byte by byte, with an interruption before each.
 #[test]
 fn slow_writer(rt: HostRuntime) -> Result<(), Fail> {
     let mut reader = REQUEST;

@@ -166,9 +166,9 @@ fn nesting(rt: HostRuntime) -> Result<(), Fail> {
 /// A request is read to its end, however long it is.
 #[test]
 fn long_request(rt: HostRuntime) -> Result<(), Fail> {
-    let mut text = vec![in rt.alloc(); 32u8; 200_000]?;
+    let mut text = vec![in rt.alloc(); b' '; 200_000]?;
     text.extend_from_slice(POINT.as_bytes())?;
-    text.push(125)?;
+    text.push(b'}')?;
     expect(rt.alloc(), &text, Status::Answered, NO_EDGES)
 }
 

@@ -1,4 +1,4 @@
--- What the value says is what is said of it.
+-- A value that is there is read as a bool, or as none.
 use Rattle.std.proofs.Common.{option_map, ap, sym, ◌∙◌}
 use Rattle.serde_json.specs.View.{view}
 use Rattle.mesh_request.specs.Reading.{flag_of}
