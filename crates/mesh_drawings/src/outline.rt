@@ -13,7 +13,7 @@ ghost use Rattle.mesh_draw.specs.Padding.{ArePathsSafe};
 ghost use Rattle.mesh_outline_calls.specs.Kinds.{contour_kind};
 ghost use Rattle.mesh_outline_calls.specs.Resolved.{IsOutline};
 ghost use Rattle.mesh_answer.specs.Lines.{by_values};
-ghost use Rattle.mesh_drawings.specs.Drawings.{AreListed, MayBeOutlined, served_edges};
+ghost use Rattle.mesh_drawings.specs.Drawings.{AreListed, IsListed, MayBeOutlined, served_edges};
 
 use i_overlay_mesh::IntOutlineError;
 use i_overlay_mesh::outline::builder::OutlineBuilder;
@@ -77,10 +77,25 @@ fn edge_lists<I: OverlayInt>(
 {
     let mut lists = Vec::with_capacity(alloc, paths.len())?;
     for (index, path) in paths.iter().enumerate() {
-        let segments = path_segments(alloc, path, kinds[index], style)?;
-        lists.push(sorted_edges(alloc, &segments)?)?;
+        lists.push(edge_list(alloc, path, kinds[index], style)?)?;
     }
     Ok(lists)
+}
+
+/// The edges of the outline of a path of this kind, in their order.
+fn edge_list<I: OverlayInt>(
+    alloc: Global,
+    path: &[IntPoint<I>],
+    kind: ContourKind,
+    style: &IntOutlineStyle<I>,
+) -> Result<Vec<DirectedEdge<I>>, AllocError>
+    requires safe { All (IsSafeWidened I.unit (outline_padding (style_of I.value style.now))) path.now }
+    requires kind { kind ≡ contour_kind path.now }
+    ensures { IfOk result (λ edges. IsListed (by_values I.cmp I.of_value)
+        (served_edges I.unit (style_of I.value style.now)) path.now edges.items) }
+{
+    let segments = path_segments(alloc, path, kind, style)?;
+    sorted_edges(alloc, &segments)
 }
 
 /// The segments of the outline of a path of this kind, none where it is ignored.

@@ -1,6 +1,5 @@
--- Path by path; sorting keeps the edges.
+-- Path by path.
 use Rattle.std.proofs.Common.{[], ap, sym, ◌∙◌}
-use Rattle.std.proofs.lemmas.List.Sorted.{IsPermutation-sym, IsPermutation-trans}
 use Rattle.mesh_num.specs.Paths.{paths_of}
 use Rattle.mesh_outline_calls.specs.Kinds.{contour_kind}
 use Rattle.mesh_outline.specs.declared.outline.kind.ContourKind.TheVariants.{Outer}
@@ -8,16 +7,16 @@ use Rattle.mesh_outline_calls.proofs.ContourKinds.{kind_at}
 use Rattle.mesh_drawings.proofs.PathsServed.{path_count, path_here, one_listed}
 use Rattle.mesh_drawings.proofs.outline.edge_lists.Goals as goal
 
-pub path_segments-requires-clause-safe : goal.path_segments-requires-clause-safe
-path_segments-requires-clause-safe g c k d h =
+pub edge_list-requires-clause-safe : goal.edge_list-requires-clause-safe
+edge_list-requires-clause-safe g c k d h =
     let paths = c.args.paths.now in
     let i = c.loop-index.index in
     let here = path_here paths i c.index-paths-index.result c.loop-index-test.true c.index-paths-index.is in
     let safe = rw here at (c.requires.safe i [] (rw (path_count paths) c.loop-index-test.true)) in
     (rw (← c.deref.ensures.value) at safe) k d h
 
-pub path_segments-requires-clause-kind : goal.path_segments-requires-clause-kind
-path_segments-requires-clause-kind g c =
+pub edge_list-requires-clause-kind : goal.edge_list-requires-clause-kind
+edge_list-requires-clause-kind g c =
     let paths = c.args.paths.now in
     let i = c.loop-index.index in
     let here = path_here paths i c.index-paths-index.result c.loop-index-test.true c.index-paths-index.is in
@@ -26,10 +25,5 @@ path_segments-requires-clause-kind g c =
 
 pub loop-index-preserved : goal.loop-index-preserved
 loop-index-preserved g c =
-    one_listed _ c.args.paths.now c.loop-index.index c.index-paths-index.result c.loop-index.lists.items _ _ c.loop-index-test.true c.index-paths-index.is c.in_ok-push.ensures.items c.loop-index.invariant
-    (record {
-      same =
-          let sorted = c.in_ok-sorted_edges.ensures.edges in
-          IsPermutation-trans _ _ _ (IsPermutation-sym _ _ (rw c.deref.ensures.value at c.in_ok-segments.ensures)) (rw c.deref-in-loop-index.ensures.value at sorted);
-      sorted = c.in_ok-sorted_edges.ensures.sorted;
-    })
+    let listed = rw c.deref.ensures.value at c.in_ok-edge_list.ensures in
+    one_listed _ c.args.paths.now c.loop-index.index c.index-paths-index.result c.loop-index.lists.items _ _ c.loop-index-test.true c.index-paths-index.is c.in_ok-push.ensures.items c.loop-index.invariant listed
