@@ -28,6 +28,8 @@ class Array(list):
 
 def text(value):
     """A value as Rust writes it."""
+    if isinstance(value, str):
+        return f'"{value}"'
     if isinstance(value, bool):
         return str(value).lower()
     if isinstance(value, int):
@@ -138,9 +140,14 @@ def outlines_of(defs, inputs, count, most, offsets):
             yield contour, offset, *found
 
 
+def listed(lists):
+    """Lists of points, as the tests read them: with commas between the points, and semicolons between the lists."""
+    return "; ".join(", ".join(f"{x} {y}" for x, y in points) for points in lists)
+
+
 def pieces(defs, inputs):
     for contour, offset, _, found in outlines_of(defs, inputs, 25, 5, [-7, -4, -1, 1, 3, 5, 8]):
-        yield contour, offset, found
+        yield contour, offset, listed(found)
 
 
 def outlines(defs, inputs):
@@ -169,8 +176,8 @@ TABLES = [
      "/// pieces hold each, and how often the edges wind round it.",
      "(&'static [Spot], i8, usize, usize, [(i8, Spot, i8, i8); 3])"),
     (pieces, "The pieces of outlines themselves",
-     "A contour, an offset, and the pieces between the contour and its bevelled outline.",
-     "(&'static [Spot], i8, &'static [&'static [Spot]])"),
+     "A contour, an offset, and the pieces between the contour and its bevelled outline, with semicolons between.",
+     "(&'static [Spot], i8, &'static str)"),
     (windings, "Windings",
      "A contour, and grids, points of them and how often the contour winds round each.",
      "(&'static [Spot], [(i8, Spot, i8); 3])"),

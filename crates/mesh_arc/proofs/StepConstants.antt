@@ -1,9 +1,8 @@
 -- Lemmas over numbers: the sines and cosines of the default steps, computed by a list of halves, and their signs.
-use Rattle.std.proofs.Common.{◌≡◌, ℕ, ◌+◌, ◌-◌, ◌/◌, ◌%◌, ◌^◌, ◌<◌, ◌≤◌, List, [], ◌∷◌, refl, sym, ◌∙◌, ap, arith, zero, suc}
+use Rattle.std.proofs.Common.{◌≡◌, ℕ, ◌+◌, ◌-◌, ◌/◌, ◌%◌, ◌^◌, ◌<◌, ◌≤◌, List, [], ◌∷◌, refl, sym, ◌∙◌, ap, arith, zero, suc, ⊎_elim}
 use Rattle.std.specs.Prelude.{pos, ◌≤ℤ◌, get_or, nat_eq, if◌then◌else◌}
 use Rattle.std.proofs.lemmas.Bool.{cases_eq, cond-true, cond-false, eq-eqb, ne_eqb}
 use Rattle.std.proofs.lemmas.Int.{ints}
-use mathlib.Core.Logic.{⊎_elim}
 use Rattle.mesh_plane.specs.Plane.{Point}
 use Rattle.mesh_sine.specs.Sine.{one, halved, sum_pair, with_bits, sin_cos}
 use Rattle.mesh_sine.proofs.Halves.{listed}

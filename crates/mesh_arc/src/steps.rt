@@ -18,7 +18,7 @@ use std::marker::Model;
 const MOST_DIRECTIONS: u32 = 1536;
 
 /// The steps of an arc: the rotation of each, the sine and cosine, times 2^30, of the greatest gap, and the sense.
-#[derive(Debug, Drop)]
+#[derive(Drop)]
 pub(crate) struct Steps<I: IntNumber> {
     rotation: Rotation<I>,
     bound: (i32, i32),

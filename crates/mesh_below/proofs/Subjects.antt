@@ -1,9 +1,9 @@
 -- Lemmas over points and lists: the edges of segments, none of which ends where it starts.
-use Rattle.std.proofs.Common.{◌≡◌, ℕ, ◌+◌, ◌<◌, ◌≤◌, Bool, true, false, cond, List, [], ◌∷◌, ◌++◌, length, take, get_or, sym, subst, ap, ◌∙◌}
+use Rattle.std.proofs.Common.{◌≡◌, ℕ, ◌+◌, ◌<◌, ◌≤◌, Bool, true, false, cond, List, [], ◌∷◌, ◌++◌, length, take, get_or, sym, subst, ap}
 use Rattle.std.specs.Prelude.{pos, int_lt}
 use Rattle.std.specs.List.{All}
 use Rattle.std.proofs.lemmas.Bool.{both_ways, false≢true}
-use Rattle.std.proofs.lemmas.List.{take_more, take_all, map_more}
+use Rattle.std.proofs.lemmas.List.{take_more, take_all}
 use Rattle.std.proofs.lemmas.List.Elements.{All-head, All-tail}
 use Rattle.mesh_plane.specs.Plane.{Edge}
 use Rattle.mesh_num.specs.Segments.{SignedEdge, IsSubject, edge_of, edges_of}
@@ -32,12 +32,6 @@ pub subjects_proper : (ss : List SignedEdge) → All IsSubject ss → IsProper (
 subjects_proper ss h = each_proper (edges_of ss) (subjects_each ss h)
 
 -- ---- edges gone through one by one
-
--- the edge of one segment more
-pub edges_more : (ss : List SignedEdge) (i : ℕ) (s : SignedEdge) (e : Edge) (es more : List Edge) → i < length ss → s ≡ get_or ss i s → es ≡ edges_of (take i ss)
-    → e ≡ edge_of s → more ≡ es ++ e ∷ [] → more ≡ edges_of (take (i + 1) ss)
-edges_more ss i s e es more h is before edge pushed =
-    pushed ∙ (λ j. before j ++ (edge ∙ ap edge_of is) j ∷ []) ∙ sym (map_more edge_of ss i s h)
 
 pub proper_none : IsProper []
 proper_none e o = absurd (false≢true o)

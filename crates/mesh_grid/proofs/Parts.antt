@@ -1,11 +1,10 @@
 -- Lemmas over points: each vector other than 0 has one direction, which is odd, short and fresh.
-use Rattle.std.proofs.Common.{◌≡◌, ℕ, ◌+◌, ◌*◌, ◌-◌, ◌<◌, ◌≤◌, refl, sym, subst, arith, zero, suc}
+use Rattle.std.proofs.Common.{◌≡◌, ℕ, ◌+◌, ◌*◌, ◌-◌, ◌<◌, ◌≤◌, refl, sym, subst, arith, zero, suc, ⊎_elim}
 use Rattle.std.specs.Prelude.{true, false, ℤ, pos, negsuc, neg_ℤ, unsigned_abs}
 use Rattle.std.specs.Int.Signed.{lt_z}
 use Rattle.std.proofs.Math.Nat.{mul-le-mul, mul-le-mul_left, mul-le-mul_right, le_of_mul-le-mul_right, lt_of_mul-lt-mul_right}
 use Rattle.std.proofs.lemmas.Bool.{cases_lt, ltb-true, true≢false}
 use Rattle.std.proofs.lemmas.Int.{ints}
-use mathlib.Core.Logic.{⊎_elim}
 use Rattle.mesh_plane.specs.Plane.{Point, opposite, length_sq}
 use Rattle.mesh_grid.specs.Direction.{IsShare, IsPart, IsDirection, IsShort, IsFresh, KeepsOpposites}
 use Rattle.mesh_plane.proofs.Sizes.{size_neg, length_opposite, lt_of_squares, two_products}

@@ -1,11 +1,10 @@
 -- Lemmas over points: directions times a radius keep signs, turns and opposites, and stay within the radius.
-use Rattle.std.proofs.Common.{◌≡◌, ℕ, ◌+◌, ◌*◌, ◌-◌, ◌<◌, ◌≤◌, sym, ◌∙◌, ap, subst, arith}
+use Rattle.std.proofs.Common.{◌≡◌, ℕ, ◌+◌, ◌*◌, ◌-◌, ◌<◌, ◌≤◌, sym, ◌∙◌, ap, subst, arith, ⊎_elim}
 use Rattle.std.specs.Prelude.{ℤ, pos, ◌*ℤ◌, ◌≤ℤ◌, neg_ℤ, unsigned_abs}
 use Rattle.std.proofs.Math.Nat.{mul-le-mul_left, mul-le-mul_right}
 use Rattle.std.proofs.lemmas.Nat.{mul-lt}
 use Rattle.std.proofs.lemmas.Int.{unsigned_abs-mul, by_lt_z}
 use Rattle.std.proofs.lemmas.Bool.{cases_lt}
-use mathlib.Core.Logic.{⊎_elim}
 use Rattle.mesh_plane.specs.Plane.{Point, opposite, cross, dot, length_sq}
 use Rattle.mesh_plane.specs.Signs.{HasSignOf}
 use Rattle.mesh_grid.specs.Direction.{IsDirection, IsShort, IsFresh, KeepsScaledTurns, scaled, scaled_direction}

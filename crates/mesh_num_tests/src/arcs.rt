@@ -3,8 +3,9 @@
 ghost use Rattle.std.specs.Prelude.{◌^◌};
 ghost use Rattle.mesh_grid.specs.Direction.{IsFresh};
 
+use crate::directions::{direction_of_i16, direction_of_i32};
 use mesh_join::arc::{ArcBuilder, ArcDirection, ArcOptions};
-use mesh_num::num::{Angle, IntNumber, IntVector, UnitIntVector};
+use mesh_num::num::{Angle, IntNumber, UnitIntVector};
 use mesh_toolbox::compared::{expect_equal, expect_that};
 use mesh_toolbox::edges::wide;
 use mesh_toolbox::plain::{Point, cross, dot};
@@ -25,26 +26,19 @@ fn options(bits: u32, rotation_precision: u32) -> ArcOptions {
     }
 }
 
-/// The direction of a vector with components of at most 32,767 in size, not both 0.
+/// The direction of a vector that is not 0.
 fn of_i16(rt: &impl Abort, vector: (i32, i32)) -> UnitIntVector<i16>
     ensures { IsFresh (2 ^ 14) result }
 {
-    let (x, y) = vector;
-    assert!(rt; -32768 < x && x < 32768);
-    assert!(rt; -32768 < y && y < 32768);
-    let direction = IntVector::<i16>::new(x, y).fast_normalize();
-    direction.expect(rt, "a direction")
+    direction_of_i16(rt, vector.0, vector.1).expect(rt, "a direction")
 }
 
-/// The direction of a vector with components of at most 32,767 in size, not both 0.
+/// The direction of a vector that is not 0.
 fn of_i32(rt: &impl Abort, vector: (i32, i32)) -> UnitIntVector<i32>
     ensures { IsFresh (2 ^ 30) result }
 {
-    let (x, y) = vector;
-    assert!(rt; -32768 < x && x < 32768);
-    assert!(rt; -32768 < y && y < 32768);
-    let direction = IntVector::<i32>::new(i64::from(x), i64::from(y)).fast_normalize();
-    direction.expect(rt, "a direction")
+    let (x, y) = (i64::from(vector.0), i64::from(vector.1));
+    direction_of_i32(rt, x, y).expect(rt, "a direction")
 }
 
 /// A direction as a vector.
@@ -179,13 +173,26 @@ const ARCS_OF_I32: &[Arc] = &[
     ),
 ];
 
+/// The arc from one direction to the other is as the row says.
+fn expect_arc<I: IntNumber>(
+    arcs: &mut ArcBuilder<I>,
+    from: UnitIntVector<I>,
+    to: UnitIntVector<I>,
+    row: &Arc,
+) -> Result<(), Fail>
+    requires from { IsFresh I.unit from }
+    requires to { IsFresh I.unit to }
+{
+    let (_, first, end, sense, count, last) = *row;
+    let arc = arcs.build(from, to, sense)?;
+    expect_equal(&told(arc), &(count, last), &(first, end))
+}
+
 #[test]
 fn arcs_of_i16(rt: HostRuntime) -> Result<(), Fail> {
     for row in ARCS_OF_I16 {
-        let ((bits, precision), from, to, sense, count, last) = *row;
-        let mut arcs = ArcBuilder::<i16>::new(rt.alloc(), options(bits, precision));
-        let arc = arcs.build(of_i16(&rt, from), of_i16(&rt, to), sense)?;
-        expect_equal(&told(arc), &(count, last), &(from, to))?;
+        let mut arcs = ArcBuilder::new(rt.alloc(), options(row.0.0, row.0.1));
+        expect_arc(&mut arcs, of_i16(&rt, row.1), of_i16(&rt, row.2), row)?;
     }
     Ok(())
 }
@@ -193,10 +200,8 @@ fn arcs_of_i16(rt: HostRuntime) -> Result<(), Fail> {
 #[test]
 fn arcs_of_i32(rt: HostRuntime) -> Result<(), Fail> {
     for row in ARCS_OF_I32 {
-        let ((bits, precision), from, to, sense, count, last) = *row;
-        let mut arcs = ArcBuilder::<i32>::new(rt.alloc(), options(bits, precision));
-        let arc = arcs.build(of_i32(&rt, from), of_i32(&rt, to), sense)?;
-        expect_equal(&told(arc), &(count, last), &(from, to))?;
+        let mut arcs = ArcBuilder::new(rt.alloc(), options(row.0.0, row.0.1));
+        expect_arc(&mut arcs, of_i32(&rt, row.1), of_i32(&rt, row.2), row)?;
     }
     Ok(())
 }
@@ -239,23 +244,50 @@ fn clamped_options(rt: HostRuntime) -> Result<(), Fail> {
     Ok(())
 }
 
+/// The builder builds this arc, and has its directions then.
+fn expect_built<I: IntNumber>(
+    arcs: &mut ArcBuilder<I>,
+    from: UnitIntVector<I>,
+    to: UnitIntVector<I>,
+    sense: ArcDirection,
+    wanted: &[UnitIntVector<I>],
+) -> Result<(), Fail>
+    requires from { IsFresh I.unit from }
+    requires to { IsFresh I.unit to }
+{
+    expect_alike(arcs.build(from, to, sense)?, wanted)?;
+    expect_alike(arcs.directions(), wanted)
+}
+
+/// A builder that built before builds the arc as a new one does, and then once more.
+fn expect_built_again<I: IntNumber>(
+    kept: &mut ArcBuilder<I>,
+    fresh: &mut ArcBuilder<I>,
+    from: UnitIntVector<I>,
+    to: UnitIntVector<I>,
+    sense: ArcDirection,
+) -> Result<(), Fail>
+    requires from { IsFresh I.unit from }
+    requires to { IsFresh I.unit to }
+{
+    let wanted = fresh.build(from, to, sense)?;
+    expect_built(kept, from, to, sense, wanted)?;
+    expect_built(kept, from, to, sense, wanted)
+}
+
 /// A value builds each arc as a new one does, whatever it built before.
 #[test]
 fn built_again(rt: HostRuntime) -> Result<(), Fail> {
-    let fine = options(12_309_758, 32);
-    let mut kept = ArcBuilder::<i32>::new(rt.alloc(), fine);
+    let mut kept = ArcBuilder::<i32>::new(rt.alloc(), options(12_309_758, 32));
     for row in ARCS_OF_I32 {
-        let (_, from, to, sense, _, _) = *row;
-        let (from, to) = (of_i32(&rt, from), of_i32(&rt, to));
-        let mut fresh = ArcBuilder::<i32>::new(rt.alloc(), fine);
-        let wanted = fresh.build(from, to, sense)?;
-        expect_alike(kept.build(from, to, sense)?, wanted)?;
-        expect_alike(kept.directions(), wanted)?;
-        expect_alike(kept.build(from, to, sense)?, wanted)?;
+        let mut fresh = ArcBuilder::<i32>::new(rt.alloc(), options(12_309_758, 32));
+        let (from, to) = (of_i32(&rt, row.1), of_i32(&rt, row.2));
+        expect_built_again(&mut kept, &mut fresh, from, to, row.3)?;
     }
     Ok(())
 }
 
+/// Both arcs have the same directions.
 fn expect_alike<I: IntNumber>(
     found: &[UnitIntVector<I>],
     wanted: &[UnitIntVector<I>],
@@ -293,10 +325,10 @@ fn built_twice<I: IntNumber>(
 #[test]
 fn built_twice_of_i16(rt: HostRuntime) -> Result<(), Fail> {
     for row in ARCS_OF_I16 {
-        let ((bits, precision), from, to, sense, count, _) = *row;
-        let mut arcs = ArcBuilder::<i16>::new(rt.alloc(), options(bits, precision));
-        let found = built_twice(&mut arcs, of_i16(&rt, from), of_i16(&rt, to), sense)?;
-        expect_equal(&found, &count, &(from, to))?;
+        let mut arcs = ArcBuilder::new(rt.alloc(), options(row.0.0, row.0.1));
+        let (from, to) = (of_i16(&rt, row.1), of_i16(&rt, row.2));
+        let found = built_twice(&mut arcs, from, to, row.3)?;
+        expect_equal(&found, &row.4, &(row.1, row.2))?;
     }
     Ok(())
 }
@@ -304,10 +336,10 @@ fn built_twice_of_i16(rt: HostRuntime) -> Result<(), Fail> {
 #[test]
 fn built_twice_of_i32(rt: HostRuntime) -> Result<(), Fail> {
     for row in ARCS_OF_I32 {
-        let ((bits, precision), from, to, sense, count, _) = *row;
-        let mut arcs = ArcBuilder::<i32>::new(rt.alloc(), options(bits, precision));
-        let found = built_twice(&mut arcs, of_i32(&rt, from), of_i32(&rt, to), sense)?;
-        expect_equal(&found, &count, &(from, to))?;
+        let mut arcs = ArcBuilder::new(rt.alloc(), options(row.0.0, row.0.1));
+        let (from, to) = (of_i32(&rt, row.1), of_i32(&rt, row.2));
+        let found = built_twice(&mut arcs, from, to, row.3)?;
+        expect_equal(&found, &row.4, &(row.1, row.2))?;
     }
     Ok(())
 }
@@ -323,14 +355,16 @@ fn is_within(sense: ArcDirection, (sine, cosine): (i32, i32), v: Point, w: Point
     0 <= ahead && 0 < onward && flat
 }
 
-/// Each gap of the arc, and the one to its end, is within a step. None of the tests' arcs breaks off.
+/// The bits of the finest step.
+const FINEST: u32 = 4_194_304;
+
+/// Each gap of the arc, and the one to its end, is within the finest step. None of the tests' arcs breaks off.
 fn expect_gaps<I: IntNumber>(
-    options: ArcOptions,
     sense: ArcDirection,
     (from, to): (UnitIntVector<I>, UnitIntVector<I>),
     arc: &[UnitIntVector<I>],
 ) -> Result<(), Fail> {
-    let bound = options.max_step.sin_cos();
+    let bound = Angle::from_bits(FINEST).sin_cos();
     let mut last = plain(from);
     for direction in arc {
         let next = plain(*direction);
@@ -349,23 +383,44 @@ fn vector(random: &mut Random) -> (i32, i32) {
     (x.wrapping_sub(100), y.wrapping_mul(2).wrapping_sub(199))
 }
 
+/// The gaps of both arcs between two directions are within the finest step.
+fn expect_both_gaps<I: IntNumber>(
+    arcs: &mut ArcBuilder<I>,
+    from: UnitIntVector<I>,
+    to: UnitIntVector<I>,
+) -> Result<(), Fail>
+    requires from { IsFresh I.unit from }
+    requires to { IsFresh I.unit to }
+{
+    for sense in [LEFT, RIGHT] {
+        expect_gaps(sense, (from, to), arcs.build(from, to, sense)?)?;
+    }
+    Ok(())
+}
+
+/// The gaps of arcs between 25 pairs of directions, which one value for each width builds.
+fn expect_fine_gaps(
+    rt: &impl Abort,
+    random: &mut Random,
+    small: &mut ArcBuilder<i16>,
+    large: &mut ArcBuilder<i32>,
+) -> Result<(), Fail> {
+    for _ in 0..25 {
+        let (from, to) = (vector(random), vector(random));
+        expect_both_gaps(small, of_i16(rt, from), of_i16(rt, to))?;
+        expect_both_gaps(large, of_i32(rt, from), of_i32(rt, to))?;
+    }
+    Ok(())
+}
+
 /// The finest steps, with the least precision and the greatest, between 50 pairs of directions.
 #[test]
 fn fine_gaps(rt: HostRuntime) -> Result<(), Fail> {
     let mut random = Random::new(1);
     for precision in [4, 32] {
-        let fine = options(4_194_304, precision);
-        let mut small = ArcBuilder::<i16>::new(rt.alloc(), fine);
-        let mut large = ArcBuilder::<i32>::new(rt.alloc(), fine);
-        for _ in 0..25 {
-            let (from, to) = (vector(&mut random), vector(&mut random));
-            for sense in [LEFT, RIGHT] {
-                let ends = (of_i16(&rt, from), of_i16(&rt, to));
-                expect_gaps(fine, sense, ends, small.build(ends.0, ends.1, sense)?)?;
-                let ends = (of_i32(&rt, from), of_i32(&rt, to));
-                expect_gaps(fine, sense, ends, large.build(ends.0, ends.1, sense)?)?;
-            }
-        }
+        let mut small = ArcBuilder::<i16>::new(rt.alloc(), options(FINEST, precision));
+        let mut large = ArcBuilder::<i32>::new(rt.alloc(), options(FINEST, precision));
+        expect_fine_gaps(&rt, &mut random, &mut small, &mut large)?;
     }
     Ok(())
 }

@@ -1,18 +1,30 @@
 //! Directions of vectors and their multiples, from outside the program.
 
-use mesh_num::num::{IntVector, UnitIntVector};
-use mesh_toolbox::compared::{expect_equal, expect_that};
+ghost use Rattle.std.specs.Prelude.{◌^◌, IfSome};
+ghost use Rattle.mesh_grid.specs.Direction.{IsFresh};
+
+use mesh_num::num::{IntNumber, IntVector, UnitIntVector};
+use mesh_toolbox::compared::expect_equal;
+use mesh_toolbox::directions::direction;
+use mesh_toolbox::edges::wide;
+use mesh_toolbox::plain::Point;
 use mesh_toolbox::random::Random;
 use std::process::Abort;
 use std::test::Fail;
 
-fn direction_of_i16(rt: &impl Abort, x: i32, y: i32) -> Option<UnitIntVector<i16>> {
+/// The direction of a vector with components of at most 32,767 in size, none where both are 0.
+pub fn direction_of_i16(rt: &impl Abort, x: i32, y: i32) -> Option<UnitIntVector<i16>>
+    ensures { IfSome result (IsFresh (2 ^ 14)) }
+{
     assert!(rt; -32768 < x && x < 32768);
     assert!(rt; -32768 < y && y < 32768);
     IntVector::<i16>::new(x, y).fast_normalize()
 }
 
-fn direction_of_i32(rt: &impl Abort, x: i64, y: i64) -> Option<UnitIntVector<i32>> {
+/// The direction of a vector with components of at most 2,147,483,647 in size, none where both are 0.
+pub fn direction_of_i32(rt: &impl Abort, x: i64, y: i64) -> Option<UnitIntVector<i32>>
+    ensures { IfSome result (IsFresh (2 ^ 30)) }
+{
     assert!(rt; -2147483648 < x && x < 2147483648);
     assert!(rt; -2147483648 < y && y < 2147483648);
     IntVector::<i32>::new(x, y).fast_normalize()
@@ -115,71 +127,29 @@ fn directions_of_i32(rt: HostRuntime) -> Result<(), Fail> {
     expect_equal(&UnitIntVector::<i32>::DENOMINATOR, &1073741824, &"the unit")
 }
 
-// The size of a direction's component for a component of this size, in a vector with this squared length, searched bit
-// by bit as the definition says. Nothing wraps: no product passes 2^125.
-fn searched_size(unit: u128, square: u128, size: u128) -> u128 {
-    let target = unit
-        .wrapping_mul(unit)
-        .wrapping_mul(size.wrapping_mul(size));
-    let mut found: u128 = 0;
-    for bit in (0..31u32).rev() {
-        let next = found | (1 << bit);
-        if next.wrapping_mul(next).wrapping_mul(square) <= target {
-            found = next;
-        }
-    }
-    found
+/// The direction that was found of a vector is the one that its definition has.
+fn expect_searched<I: IntNumber>(
+    found: Option<UnitIntVector<I>>,
+    unit: i128,
+    vector: Point,
+) -> Result<(), Fail> {
+    let Some(found) = found else {
+        return Err(Fail::new("no direction"));
+    };
+    let found = (wide(found.x()), wide(found.y()));
+    expect_equal(&found, &direction(unit, vector), &vector)
 }
 
-// The sizes of both components, searched.
-fn searched_sizes(unit: u128, x: i64, y: i64) -> (u128, u128) {
-    let width = u128::from(x.unsigned_abs());
-    let height = u128::from(y.unsigned_abs());
-    let square = width
-        .wrapping_mul(width)
-        .wrapping_add(height.wrapping_mul(height));
-    (
-        searched_size(unit, square, width),
-        searched_size(unit, square, height),
-    )
-}
-
-// Whether a number other than 0 has the sign of this component.
-fn has_sign_of(component: i64, found: i64) -> bool {
-    found == 0 || (component < 0) == (found < 0)
-}
-
-// Compares a direction for `i16` with the search.
+/// Compares a direction for `i16` with the search.
 fn compare_with_search_i16(rt: &impl Abort, x: i32, y: i32) -> Result<(), Fail> {
-    let Some(direction) = direction_of_i16(rt, x, y) else {
-        return Err(Fail::new("no direction"));
-    };
-    let (x, y) = (i64::from(x), i64::from(y));
-    let found_x = i64::from(direction.x());
-    let found_y = i64::from(direction.y());
-    let found = (
-        u128::from(found_x.unsigned_abs()),
-        u128::from(found_y.unsigned_abs()),
-    );
-    expect_equal(&found, &searched_sizes(16384, x, y), &(x, y))?;
-    let are_signs = has_sign_of(x, found_x) && has_sign_of(y, found_y);
-    expect_that(are_signs, &(x, y))
+    let vector = (i128::from(x), i128::from(y));
+    expect_searched(direction_of_i16(rt, x, y), 16384, vector)
 }
 
-// Compares a direction for `i32` with the search.
+/// Compares a direction for `i32` with the search.
 fn compare_with_search_i32(rt: &impl Abort, x: i64, y: i64) -> Result<(), Fail> {
-    let Some(direction) = direction_of_i32(rt, x, y) else {
-        return Err(Fail::new("no direction"));
-    };
-    let found_x = i64::from(direction.x());
-    let found_y = i64::from(direction.y());
-    let found = (
-        u128::from(found_x.unsigned_abs()),
-        u128::from(found_y.unsigned_abs()),
-    );
-    expect_equal(&found, &searched_sizes(1073741824, x, y), &(x, y))?;
-    let are_signs = has_sign_of(x, found_x) && has_sign_of(y, found_y);
-    expect_that(are_signs, &(x, y))
+    let vector = (i128::from(x), i128::from(y));
+    expect_searched(direction_of_i32(rt, x, y), 1073741824, vector)
 }
 
 #[test]

@@ -4,6 +4,8 @@ use mesh_num::num::IntPoint;
 use mesh_num::shape::{FlatContoursBuffer, PathSlice};
 use mesh_toolbox::compared::{gives, holds};
 use mesh_toolbox::lists::{path, paths, shapes};
+use std::alloc::Global;
+use std::process::Abort;
 use std::test::Fail;
 
 const TRIANGLE: &[(i32, i32)] = &[(0, 0), (7, -1), (2, 9)];
@@ -19,29 +21,26 @@ const PAIR_ALONE: &[&[&[(i32, i32)]]] = &[&[PAIR]];
 
 #[test]
 fn sources_of_one_path(rt: HostRuntime) -> Result<(), Fail> {
-    let points = path(rt.alloc(), TRIANGLE)?;
     let array = [
         IntPoint::new(0, 0),
         IntPoint::new(7, -1),
         IntPoint::new(2, 9),
     ];
-    assert!(rt; gives(&points, &[TRIANGLE]));
     assert!(rt; gives(&array, &[TRIANGLE]));
+    assert!(rt; gives(&path::<i32>(rt.alloc(), &[])?, &[&[]]));
+    let points = path(rt.alloc(), TRIANGLE)?;
+    assert!(rt; gives(&points, &[TRIANGLE]));
     assert!(rt; gives(&PathSlice::new(points.as_slice()), &[TRIANGLE]));
-    let none = path::<i32>(rt.alloc(), &[])?;
-    assert!(rt; gives(&none, &[&[]]));
     Ok(())
 }
 
 #[test]
 fn sources_of_many_paths(rt: HostRuntime) -> Result<(), Fail> {
+    assert!(rt; gives(&shapes(rt.alloc(), SHAPES)?, ALL));
+    assert!(rt; gives(&paths::<i32>(rt.alloc(), &[])?, &[]));
     let lists = paths(rt.alloc(), ALL)?;
     assert!(rt; gives(&lists, ALL));
     assert!(rt; gives(&PathSlice::new(lists.as_slice()), ALL));
-    let grouped = shapes(rt.alloc(), SHAPES)?;
-    assert!(rt; gives(&grouped, ALL));
-    let none = paths::<i32>(rt.alloc(), &[])?;
-    assert!(rt; gives(&none, &[]));
     Ok(())
 }
 
@@ -56,25 +55,29 @@ fn sources_of_an_array_of_paths(rt: HostRuntime) -> Result<(), Fail> {
     Ok(())
 }
 
-/// A refusal, which comes only in a run that is made to refuse memory, leaves the buffer as it was.
+/// The contours of the second shapes take the place of those of the first, which the buffer holds. A refusal, which
+/// comes only in a run that is made to refuse memory, leaves the buffer as it was.
+fn expect_replaced(
+    rt: &impl Abort,
+    alloc: Global,
+    buffer: &mut FlatContoursBuffer<i32>,
+    before: &[&[&[(i32, i32)]]],
+    after: &[&[&[(i32, i32)]]],
+) -> Result<(), Fail> {
+    assert!(rt; holds(buffer, before));
+    let answer = buffer.replace_with(&shapes(alloc, after)?);
+    if let Err(refused) = answer {
+        assert!(rt; holds(buffer, before));
+        return Err(refused.into());
+    }
+    assert!(rt; holds(buffer, after));
+    Ok(())
+}
+
 #[test]
 fn buffers_are_replaced_whole(rt: HostRuntime) -> Result<(), Fail> {
-    let pair = shapes(rt.alloc(), PAIR_ALONE)?;
-    let all = shapes(rt.alloc(), SHAPES)?;
     let mut buffer = FlatContoursBuffer::new(rt.alloc());
-    assert!(rt; holds(&buffer, &[]));
-    if let Err(refused) = buffer.replace_with(&all) {
-        assert!(rt; holds(&buffer, &[]));
-        return Err(refused.into());
-    }
-    assert!(rt; holds(&buffer, SHAPES));
-    if let Err(refused) = buffer.replace_with(&pair) {
-        assert!(rt; holds(&buffer, SHAPES));
-        return Err(refused.into());
-    }
-    assert!(rt; holds(&buffer, PAIR_ALONE));
-    let none = shapes::<i32>(rt.alloc(), &[])?;
-    buffer.replace_with(&none)?;
-    assert!(rt; holds(&buffer, &[]));
-    Ok(())
+    expect_replaced(&rt, rt.alloc(), &mut buffer, &[], SHAPES)?;
+    expect_replaced(&rt, rt.alloc(), &mut buffer, SHAPES, PAIR_ALONE)?;
+    expect_replaced(&rt, rt.alloc(), &mut buffer, PAIR_ALONE, &[])
 }

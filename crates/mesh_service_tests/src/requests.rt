@@ -29,109 +29,98 @@ const NO_EDGES: &str = r#"{"edges":[[]]}"#;
 
 /// The run ends so, and writes just this line, each time.
 fn expect(alloc: Global, request: &[u8], status: Status, line: &str) -> Result<(), Fail> {
-    let mut wanted = String::from_str(alloc, line)?;
-    wanted.push('\n')?;
     for _ in 0..2 {
-        let mut reader = request;
-        let mut writer = Vec::new(alloc);
-        let got = serve(alloc, &mut reader, &mut writer);
-        let Ok(written) = String::from_utf8(writer) else {
-            return Err(Fail::new("not UTF-8"));
-        };
-        expect_equal(&written.as_str(), &wanted.as_str(), &"a line")?;
-        expect_equal(&got, &status, &line)?;
+        expect_once(alloc, request, status, line)?;
+    }
+    Ok(())
+}
+
+/// A run on this request ends so, and writes just this line.
+fn expect_once(alloc: Global, request: &[u8], status: Status, line: &str) -> Result<(), Fail> {
+    let mut reader = request;
+    let mut writer = Vec::new(alloc);
+    let got = serve(alloc, &mut reader, &mut writer);
+    expect_equal(&got, &status, &line)?;
+    expect_written(&writer, line)
+}
+
+/// Just this line was written, with its end.
+fn expect_written(written: &[u8], line: &str) -> Result<(), Fail> {
+    let Some(text) = written.strip_suffix(b"\n") else {
+        return Err(Fail::new("a line that doesn't end"));
+    };
+    let Ok(text) = str::from_utf8(text) else {
+        return Err(Fail::new("not UTF-8"));
+    };
+    expect_equal(&text, &line, &"a line")
+}
+
+/// Each request of the table is answered, by the line beside it.
+fn expect_answered(alloc: Global, table: &[(&str, &str)]) -> Result<(), Fail> {
+    for (request, line) in table {
+        expect(alloc, request.as_bytes(), Status::Answered, line)?;
+    }
+    Ok(())
+}
+
+/// The run on each text of the table ends so, and writes just this line.
+fn expect_failures(alloc: Global, table: &[&str], status: Status, line: &str) -> Result<(), Fail> {
+    for request in table {
+        expect(alloc, request.as_bytes(), status, line)?;
     }
     Ok(())
 }
 
 #[test]
 fn answered(rt: HostRuntime) -> Result<(), Fail> {
-    for table in [EDGES, MITERS, ROUND, SHAPES] {
-        for (request, line) in table {
-            expect(rt.alloc(), request.as_bytes(), Status::Answered, line)?;
-        }
-    }
-    Ok(())
+    expect_answered(rt.alloc(), EDGES)?;
+    expect_answered(rt.alloc(), MITERS)?;
+    expect_answered(rt.alloc(), ROUND)?;
+    expect_answered(rt.alloc(), SHAPES)
 }
 
 #[test]
 fn not_answered(rt: HostRuntime) -> Result<(), Fail> {
-    for (table, status, line) in [
-        (REFUSED, Status::Refused, OUT_OF_RANGE),
-        (ROUND_REFUSED, Status::Refused, OUT_OF_RANGE),
-        (UNREADABLE, Status::Unreadable, NOT_SERVED),
-        (ROUND_UNREADABLE, Status::Unreadable, NOT_SERVED),
-    ] {
-        for request in table {
-            expect(rt.alloc(), request.as_bytes(), status, line)?;
-        }
-    }
-    expect(
-        rt.alloc(),
-        b"{\"a\":\"\xff\"}",
-        Status::Unreadable,
-        NOT_SERVED,
-    )
+    let alloc = rt.alloc();
+    expect_failures(alloc, REFUSED, Status::Refused, OUT_OF_RANGE)?;
+    expect_failures(alloc, ROUND_REFUSED, Status::Refused, OUT_OF_RANGE)?;
+    expect_failures(alloc, UNREADABLE, Status::Unreadable, NOT_SERVED)?;
+    expect_failures(alloc, ROUND_UNREADABLE, Status::Unreadable, NOT_SERVED)?;
+    expect(alloc, b"{\"a\":\"\xff\"}", Status::Unreadable, NOT_SERVED)
 }
 
 #[test]
 fn strokes_answered(rt: HostRuntime) -> Result<(), Fail> {
-    for table in [STROKES, STROKE_CORNERS] {
-        for (request, line) in table {
-            expect(rt.alloc(), request.as_bytes(), Status::Answered, line)?;
-        }
-    }
-    Ok(())
+    expect_answered(rt.alloc(), STROKES)?;
+    expect_answered(rt.alloc(), STROKE_CORNERS)
 }
 
 #[test]
 fn stroke_shapes_answered(rt: HostRuntime) -> Result<(), Fail> {
-    for table in [STROKE_SHAPES, STROKE_EXAMPLES] {
-        for (request, line) in table {
-            expect(rt.alloc(), request.as_bytes(), Status::Answered, line)?;
-        }
-    }
-    Ok(())
+    expect_answered(rt.alloc(), STROKE_SHAPES)?;
+    expect_answered(rt.alloc(), STROKE_EXAMPLES)
 }
 
 #[test]
 fn strokes_not_answered(rt: HostRuntime) -> Result<(), Fail> {
-    for (table, status, line) in [
-        (STROKES_REFUSED, Status::Refused, OUT_OF_RANGE),
-        (STROKES_UNREADABLE, Status::Unreadable, NOT_SERVED),
-    ] {
-        for request in table {
-            expect(rt.alloc(), request.as_bytes(), status, line)?;
-        }
-    }
-    Ok(())
+    let alloc = rt.alloc();
+    expect_failures(alloc, STROKES_REFUSED, Status::Refused, OUT_OF_RANGE)?;
+    expect_failures(alloc, STROKES_UNREADABLE, Status::Unreadable, NOT_SERVED)
 }
 
 #[test]
 fn variable_strokes_answered(rt: HostRuntime) -> Result<(), Fail> {
-    for table in [
-        VARIABLE_STROKES,
-        VARIABLE_STROKE_SHAPES,
-        VARIABLE_STROKE_EXAMPLES,
-    ] {
-        for (request, line) in table {
-            expect(rt.alloc(), request.as_bytes(), Status::Answered, line)?;
-        }
-    }
-    Ok(())
+    expect_answered(rt.alloc(), VARIABLE_STROKES)?;
+    expect_answered(rt.alloc(), VARIABLE_STROKE_SHAPES)?;
+    expect_answered(rt.alloc(), VARIABLE_STROKE_EXAMPLES)
 }
 
 #[test]
 fn variable_strokes_not_answered(rt: HostRuntime) -> Result<(), Fail> {
-    for (table, status, line) in [
-        (VARIABLE_STROKES_REFUSED, Status::Refused, OUT_OF_RANGE),
-        (VARIABLE_STROKES_UNREADABLE, Status::Unreadable, NOT_SERVED),
-    ] {
-        for request in table {
-            expect(rt.alloc(), request.as_bytes(), status, line)?;
-        }
-    }
-    Ok(())
+    let (alloc, refused) = (rt.alloc(), VARIABLE_STROKES_REFUSED);
+    expect_failures(alloc, refused, Status::Refused, OUT_OF_RANGE)?;
+    let unreadable = VARIABLE_STROKES_UNREADABLE;
+    expect_failures(alloc, unreadable, Status::Unreadable, NOT_SERVED)
 }
 
 const POINT: &str =

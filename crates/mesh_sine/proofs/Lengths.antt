@@ -1,10 +1,9 @@
 -- Lemmas over pairs: halves, sums and the end of the fold are at most `one` long.
-use Rattle.std.proofs.Common.{◌≡◌, ℕ, ◌+◌, ◌*◌, ◌-◌, ◌/◌, ◌%◌, ◌^◌, ◌<◌, ◌≤◌, refl, sym, ap, subst, arith, zero, suc, lit<}
+use Rattle.std.proofs.Common.{◌≡◌, ℕ, ◌+◌, ◌*◌, ◌-◌, ◌/◌, ◌%◌, ◌^◌, ◌<◌, ◌≤◌, refl, sym, ap, subst, arith, zero, suc, lit<, ⊎_elim}
 use Rattle.std.specs.Prelude.{min, nat_eq, pos, ◌≤ℤ◌}
 use Rattle.std.proofs.Math.Nat.{mul-le-mul, div-mul-le_self, le_of_mul-le-mul_right}
 use Rattle.std.proofs.lemmas.Bool.{cases_lt, cases_eq, cond-true, cond-false, eq-eqb, ne_eqb}
 use Rattle.std.proofs.lemmas.Int.{ints}
-use mathlib.Core.Logic.{⊎_elim}
 use Rattle.mesh_plane.proofs.Sizes.{le_of_squares, two_products}
 use Rattle.mesh_sine.specs.Sine.{one, root, half_cosine, half_pair, halved, sum_pair, with_bits, low_pair, sin_cos}
 use Rattle.mesh_sine.proofs.Roots.{root_is}

@@ -1,10 +1,9 @@
 -- Lemmas over pairs: below a quarter turn, an angle of at least 2 ^ 24 bits has a sine of at least 2 ^ 24.
-use Rattle.std.proofs.Common.{◌≡◌, ℕ, ◌+◌, ◌*◌, ◌-◌, ◌/◌, ◌%◌, ◌^◌, ◌<◌, ◌≤◌, List, [], ◌∷◌, refl, sym, ◌∙◌, ap, subst, arith, zero, suc, lit<, lit≤, pow_pos}
+use Rattle.std.proofs.Common.{◌≡◌, ℕ, ◌+◌, ◌*◌, ◌-◌, ◌/◌, ◌%◌, ◌^◌, ◌<◌, ◌≤◌, List, [], ◌∷◌, refl, sym, ◌∙◌, ap, subst, arith, zero, suc, lit<, lit≤, pow_pos, ⊎_elim}
 use Rattle.std.specs.Prelude.{pos, ◌≤ℤ◌, get_or}
 use Rattle.std.proofs.Math.Nat.{div-mul-le_self, mul-le-mul_right, lt-div-mul-add, lt_of_mul-lt-mul_right, pow-le-pow_right}
 use Rattle.std.proofs.lemmas.Bool.{cases_lt, cases_eq}
 use Rattle.std.proofs.lemmas.Int.{ints}
-use mathlib.Core.Logic.{⊎_elim}
 use Rattle.mesh_plane.proofs.Sizes.{lt_of_squares}
 use Rattle.mesh_sine.specs.Sine.{one, root, half_cosine, half_pair, halved, sum_pair, with_bits, low_pair, sin_cos}
 use Rattle.mesh_sine.proofs.Roots.{root_is}

@@ -15,7 +15,7 @@ use mesh_cuts::grid::GridEdge;
 use std::alloc::{AllocError, Global};
 
 /// How an attempt chooses the next split.
-#[derive(Debug, Copy, Clone)]
+#[derive(Copy, Clone)]
 enum Kind {
     /// The best of the known meetings. Those that rounding brings are sought where no other is left.
     Sweeping(Order),

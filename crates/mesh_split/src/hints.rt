@@ -17,7 +17,7 @@ const LONG: u128 = 1000;
 const NEAR: u128 = 2;
 
 /// Which of several crossings is split first.
-#[derive(Debug, Copy, Clone)]
+#[derive(Copy, Clone)]
 pub enum Order {
     /// That of the largest angle.
     Angle,
@@ -26,7 +26,7 @@ pub enum Order {
 }
 
 /// Two segments that met when the latter was noted. The greatest hint is taken first.
-#[derive(Debug, Copy, Clone, PartialEq, Eq, PartialOrd, Ord)]
+#[derive(Copy, Clone, PartialEq, Eq, PartialOrd, Ord)]
 struct Hint {
     rank: u8,
     angle: u128,

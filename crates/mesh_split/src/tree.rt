@@ -35,7 +35,7 @@ const SAMPLED: usize = 16;
 type Across = (i16, i16);
 
 /// A line, which parts the plane.
-#[derive(Debug, Copy, Clone)]
+#[derive(Copy, Clone)]
 pub struct Cut {
     /// A vector across it.
     across: Across,
@@ -161,7 +161,7 @@ fn middle(alloc: Global, edges: &[GridEdge], across: Across) -> Result<Option<Cu
 }
 
 /// How far apart the least and the greatest of these numbers are.
-#[derive(Debug, Copy, Clone)]
+#[derive(Copy, Clone)]
 struct Extent {
     least: i32,
     greatest: i32,

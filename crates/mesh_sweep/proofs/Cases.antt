@@ -1,7 +1,6 @@
 -- Lemmas over lists: what is drawn in each case of circles and arcs.
 use Rattle.std.proofs.Common.{◌≡◌, ℕ, Bool, true, false, List, [], ◌++◌, ◌∙◌, ap, sym, subst, arith, to_z, of_z}
 use Rattle.std.specs.Bool.{IsTrue}
-use Rattle.std.specs.Bool.{IsTrue}
 use Rattle.std.specs.Prelude.{ℤ, pos, ◌≤ℤ◌, ◌<ℤ◌, int_le, FitsSigned, ◌||◌, if◌then◌else◌}
 use Rattle.std.proofs.lemmas.Bool.{false≢true}
 use Rattle.std.proofs.lemmas.Int.{ints, to_z-of_z}

@@ -4,27 +4,35 @@ use i_overlay_mesh::IntOutlineError;
 use mesh_join::join::Join;
 use mesh_join::style::{DEFAULT_MITER_MIN_TURN, IntLineJoin, IntOutlineStyle, MathMode};
 use mesh_num::num::{Angle, IntNumber};
-use mesh_toolbox::compared::expect_equal;
-use std::alloc::AllocError;
+use mesh_toolbox::compared::{expect_equal, expect_that};
+use std::alloc::{AllocError, Global};
 use std::test::Fail;
 
+/// The style has these offsets, and this least turn of its miters.
+fn expect_style(
+    style: &IntOutlineStyle<i16>,
+    offsets: (i16, i16),
+    least_turn: u32,
+) -> Result<(), Fail> {
+    let found = (style.outer_offset, style.inner_offset);
+    expect_equal(&found, &offsets, &"the offsets")?;
+    let bits = style.miter_min_turn.bits();
+    expect_equal(&bits, &least_turn, &"the least turn")
+}
+
 #[test]
-fn setters_of_a_style(rt: HostRuntime) -> Result<(), Fail> {
+fn setters_of_a_style(_rt: HostRuntime) -> Result<(), Fail> {
     let style = IntOutlineStyle::new(7)
         .outer_offset(-3)
         .line_join(IntLineJoin::Bevel);
-    assert!(rt; style.outer_offset == -3 && style.inner_offset == 7);
+    expect_style(&style, (-3, 7), DEFAULT_MITER_MIN_TURN)?;
     let style = style.offset(5).math(MathMode::Integer);
-    assert!(rt; style.outer_offset == 5 && style.inner_offset == 5);
+    expect_style(&style, (5, 5), DEFAULT_MITER_MIN_TURN)?;
     let style = style.inner_offset(i16::MIN);
-    assert!(rt; style.outer_offset == 5 && style.inner_offset == i16::MIN);
-    assert!(rt; style.join == IntLineJoin::default());
-    let bits = style.miter_min_turn.bits();
-    expect_equal(&bits, &DEFAULT_MITER_MIN_TURN, &"the least turn")?;
+    expect_style(&style, (5, i16::MIN), DEFAULT_MITER_MIN_TURN)?;
+    expect_that(style.join == IntLineJoin::default(), &"the join")?;
     let style = style.miter_min_turn(Angle::from_bits(u32::MAX));
-    expect_equal(&style.miter_min_turn.bits(), &u32::MAX, &"the least turn")?;
-    assert!(rt; style.outer_offset == 5 && style.inner_offset == i16::MIN);
-    Ok(())
+    expect_style(&style, (5, i16::MIN), u32::MAX)
 }
 
 #[test]
@@ -66,21 +74,18 @@ fn padding_of_a_miter(_rt: HostRuntime) -> Result<(), Fail> {
     expect_equal(&most, &49_232_321_886, &"the farthest")
 }
 
+/// An error has this text.
+fn expect_text(alloc: Global, error: IntOutlineError, wanted: &str) -> Result<(), Fail> {
+    let text = format!(in alloc; "{error}")?;
+    expect_equal(&text.as_str(), &wanted, &error)
+}
+
 #[test]
 fn texts_of_errors(rt: HostRuntime) -> Result<(), Fail> {
     let range = IntOutlineError::CoordinateOutOfRange;
-    let text = format!(in rt.alloc(); "{range}")?;
-    expect_equal(
-        &text.as_str(),
-        &"mesh coordinate exceeds the integer engine range",
-        &"the range",
-    )?;
+    let text = "mesh coordinate exceeds the integer engine range";
+    expect_text(rt.alloc(), range, text)?;
     let memory = IntOutlineError::from(AllocError);
-    let text = format!(in rt.alloc(); "{memory}")?;
-    expect_equal(
-        &text.as_str(),
-        &"mesh construction ran out of memory",
-        &"memory",
-    )?;
+    expect_text(rt.alloc(), memory, "mesh construction ran out of memory")?;
     expect_equal(&memory, &IntOutlineError::OutOfMemory, &"memory")
 }

@@ -1,6 +1,6 @@
 //! Mitered outlines: worked ones, and how they wind near the vertices of many contours.
 
-use crate::outlines::{Outline, small_joined};
+use crate::outlines::{Outline, expect_small_counts, small_joined};
 use mesh_toolbox::compared::{are_same_edges, expect_that};
 use mesh_toolbox::joins::JoinKind;
 use mesh_toolbox::plain::{Point, closed};
@@ -326,10 +326,10 @@ fn small_loops(rt: HostRuntime) -> Result<(), Fail> {
     for row in SMALL {
         let (contour, offset, bits, points) = *row;
         let join = JoinKind::Miter(bits, 0);
-        let outline = small_joined::<i16>(rt.alloc(), contour, offset, join)?;
-        expect_loop(rt.alloc(), outline, points, row)?;
-        let outline = small_joined::<i32>(rt.alloc(), contour, offset, join)?;
-        expect_loop(rt.alloc(), outline, points, row)?;
+        let small = small_joined::<i16>(rt.alloc(), contour, offset, join)?;
+        expect_loop(rt.alloc(), small, points, row)?;
+        let large = small_joined::<i32>(rt.alloc(), contour, offset, join)?;
+        expect_loop(rt.alloc(), large, points, row)?;
     }
     Ok(())
 }
@@ -361,9 +361,7 @@ fn expect_counts(alloc: Global, seed: u64) -> Result<(), Fail> {
         let contour = small_contour(alloc, &mut random)?;
         let size = random.small();
         for offset in [size, size.wrapping_neg()] {
-            let case = (contour.as_slice(), offset, join);
-            small_joined::<i16>(alloc, &contour, offset, join)?.expect_count(&case)?;
-            small_joined::<i32>(alloc, &contour, offset, join)?.expect_count(&case)?;
+            expect_small_counts(alloc, &contour, offset, join)?;
         }
     }
     Ok(())

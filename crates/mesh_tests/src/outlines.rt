@@ -213,6 +213,18 @@ fn winding_near_a_square(rt: HostRuntime) -> Result<(), Fail> {
     Ok(())
 }
 
+/// The outlines of a small contour, at both widths of numbers, wind as they have to.
+pub fn expect_small_counts(
+    alloc: Global,
+    contour: &[(i8, i8)],
+    offset: i8,
+    join: JoinKind,
+) -> Result<(), Fail> {
+    let case = (contour, offset, join);
+    small_joined::<i16>(alloc, contour, offset, join)?.expect_count(&case)?;
+    small_joined::<i32>(alloc, contour, offset, join)?.expect_count(&case)
+}
+
 #[test]
 fn winding_near_small_contours(rt: HostRuntime) -> Result<(), Fail> {
     let alloc = rt.alloc();
@@ -221,9 +233,7 @@ fn winding_near_small_contours(rt: HostRuntime) -> Result<(), Fail> {
         let contour = small_contour(alloc, &mut random)?;
         let size = random.small();
         for offset in [size, size.wrapping_neg(), 0] {
-            let case = (contour.as_slice(), offset);
-            small_outline::<i16>(alloc, &contour, offset)?.expect_count(&case)?;
-            small_outline::<i32>(alloc, &contour, offset)?.expect_count(&case)?;
+            expect_small_counts(alloc, &contour, offset, JoinKind::Bevel)?;
         }
     }
     Ok(())

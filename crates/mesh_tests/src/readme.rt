@@ -21,20 +21,26 @@ pub fn grown(
 #[cfg(test)]
 mod tests {
     use super::*;
+    use mesh_toolbox::compared::{expect_equal, expect_that};
+    use mesh_toolbox::lists::path;
     use std::test::Fail;
+
+    /// One shape without a hole, with eight vertices, since each corner is bevelled, from (-3, 0) on.
+    fn expect_octagon(shapes: &[Vec<Vec<IntPoint<i32>>>]) -> Result<(), Fail> {
+        let [shape] = shapes else {
+            return Err(Fail::new(format_args!("no shape, or several")));
+        };
+        let [contour] = shape.as_slice() else {
+            return Err(Fail::new(format_args!("no contour, or a hole")));
+        };
+        expect_equal(&contour.len(), &8, &"the vertices")?;
+        expect_that(contour.first() == Some(&IntPoint::new(-3, 0)), contour)
+    }
 
     #[test]
     fn a_square_grows(rt: HostRuntime) -> Result<(), Fail> {
-        let mut square = Vec::new(rt.alloc());
-        for (x, y) in [(0, 0), (9, 0), (9, 9), (0, 9)] {
-            square.push(IntPoint::new(x, y))?;
-        }
+        let square = path(rt.alloc(), &[(0, 0), (9, 0), (9, 9), (0, 9)])?;
         let shapes = grown(rt.alloc(), &square, 3)?;
-        // One shape without a hole, with eight vertices: each corner is bevelled.
-        assert_eq!(rt; shapes.len(), 1);
-        assert_eq!(rt; shapes[0].len(), 1);
-        assert_eq!(rt; shapes[0][0].len(), 8);
-        assert_eq!(rt; shapes[0][0][0], IntPoint::new(-3, 0));
-        Ok(())
+        expect_octagon(&shapes)
     }
 }

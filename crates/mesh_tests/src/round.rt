@@ -11,7 +11,7 @@ use mesh_toolbox::joins::{Corner, JoinKind};
 use mesh_toolbox::lists::path;
 use mesh_toolbox::plain::{Point, closed, net_count};
 use mesh_toolbox::random::{Random, small_contour};
-use std::alloc::Global;
+use std::alloc::{AllocError, Global};
 use std::fmt::Debug;
 use std::test::Fail;
 
@@ -333,17 +333,19 @@ fn a_point_that_falls_behind(rt: HostRuntime) -> Result<(), Fail> {
     Ok(())
 }
 
+/// Whether a point may be moved in a style.
+fn accepts(alloc: Global, style: &IntOutlineStyle<i16>, x: i16) -> Result<bool, AllocError> {
+    Ok(path(alloc, &[(x, 0)])?.validate_outline(style).is_ok())
+}
+
 /// A round join reaches as far as its radius, so an outline is refused where its contour is no farther from the end.
 #[test]
 fn paddings(rt: HostRuntime) -> Result<(), Fail> {
     let style = round::<i16>(1024, DEFAULT);
-    assert_eq!(rt; Join::<i16>::padding(style.join, 1024), 1024);
-    assert_eq!(rt; Join::<i16>::padding(style.join, -1024), 1024);
-    let near = path(rt.alloc(), &[(15_359i16, 0)])?;
-    assert!(rt; near.validate_outline(&style).is_ok());
-    let far = path(rt.alloc(), &[(15_360i16, 0)])?;
-    assert!(rt; far.validate_outline(&style).is_err());
-    Ok(())
+    expect_equal(&Join::<i16>::padding(style.join, 1024), &1024, &"outwards")?;
+    expect_equal(&Join::<i16>::padding(style.join, -1024), &1024, &"inwards")?;
+    expect_that(accepts(rt.alloc(), &style, 15_359)?, &"near")?;
+    expect_that(!accepts(rt.alloc(), &style, 15_360)?, &"far")
 }
 
 /// Near each vertex of a contour, up to where its joins reach, the round outline winds as it has to.

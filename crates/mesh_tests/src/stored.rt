@@ -8,10 +8,12 @@ use crate::tables::net_counts::NET_COUNTS;
 use crate::tables::outlines::{OUTLINES, OutlineRow};
 use crate::tables::pieces::{PIECES, PieceRow};
 use crate::tables::windings::WINDINGS;
+use mesh_num::num::OverlayInt;
 use mesh_toolbox::compared::{are_same_edges, expect_equal, expect_that};
 use mesh_toolbox::plain::{
     Edge, Point, closed, crossing, fan, holds, is_balanced, net_count, winding,
 };
+use mesh_toolbox::rows::points;
 use std::alloc::{AllocError, Global};
 use std::test::Fail;
 
@@ -119,11 +121,11 @@ fn fans(rt: HostRuntime) -> Result<(), Fail> {
     Ok(())
 }
 
-/// All edges round pieces.
-fn edges_round(alloc: Global, pieces: &[&[Spot]]) -> Result<Vec<Edge>, AllocError> {
+/// All edges round the pieces of a row.
+fn edges_round(alloc: Global, pieces: &str) -> Result<Vec<Edge>, Fail> {
     let mut edges = Vec::new(alloc);
-    for piece in pieces {
-        for edge in &closed(alloc, &wide_points(alloc, piece)?)? {
+    for piece in pieces.split(';') {
+        for edge in &closed(alloc, &points(alloc, piece)?)? {
             edges.push(*edge)?;
         }
     }
@@ -141,7 +143,9 @@ fn edges_of(alloc: Global, boundaries: &[Vec<Edge>]) -> Result<Vec<Edge>, AllocE
     Ok(edges)
 }
 
-fn expect_pieces(alloc: Global, outline: &Outline, row: &PieceRow) -> Result<(), Fail> {
+/// Between the contour of a row and its outline lie the row's pieces.
+fn expect_pieces<I: OverlayInt + From<i8>>(alloc: Global, row: &PieceRow) -> Result<(), Fail> {
+    let outline = small_outline::<I>(alloc, row.0, row.1)?;
     let found = edges_of(alloc, &outline.between.boundaries)?;
     let wanted = edges_round(alloc, row.2)?;
     let are_same = are_same_edges(found, wanted)?;
@@ -151,10 +155,8 @@ fn expect_pieces(alloc: Global, outline: &Outline, row: &PieceRow) -> Result<(),
 #[test]
 fn pieces(rt: HostRuntime) -> Result<(), Fail> {
     for row in PIECES {
-        let small = small_outline::<i16>(rt.alloc(), row.0, row.1)?;
-        expect_pieces(rt.alloc(), &small, row)?;
-        let large = small_outline::<i32>(rt.alloc(), row.0, row.1)?;
-        expect_pieces(rt.alloc(), &large, row)?;
+        expect_pieces::<i16>(rt.alloc(), row)?;
+        expect_pieces::<i32>(rt.alloc(), row)?;
     }
     Ok(())
 }

@@ -1,5 +1,6 @@
 //! The edges of strokes, as the builder adds them.
 
+use crate::values::{style, vertices};
 use i_overlay_mesh::variable_stroke::builder::VariableStrokeBuilder;
 use i_overlay_mesh::variable_stroke::offset::IntVariableStrokeOffset;
 use mesh_join::style::{IntStrokeVertex, IntVariableStrokeStyle};
@@ -22,13 +23,10 @@ fn add_stroke<I: OverlayInt>(
     Ok(())
 }
 
-/// The edges of the stroke of a path.
-pub fn drawn<I: OverlayInt>(
-    alloc: Global,
-    path: &Vec<IntStrokeVertex<I>>,
-    style: IntVariableStrokeStyle,
-) -> Result<Vec<Edge>, Fail> {
+/// The edges of the stroke of a path, which one field lists, with the arcs of another.
+pub fn drawn<I: OverlayInt>(alloc: Global, path: &str, arc: &str) -> Result<Vec<Edge>, Fail> {
+    let path = vertices::<I>(alloc, path)?;
     let mut segments = Vec::new(alloc);
-    add_stroke(alloc, path, style, &mut segments)?;
+    add_stroke(alloc, &path, style(alloc, arc)?, &mut segments)?;
     Ok(edges_of_segments(alloc, &segments)?)
 }

@@ -2,7 +2,6 @@
 
 use crate::drawn::drawn;
 use crate::tables::edges::EDGES;
-use crate::values::{style, vertices};
 use mesh_num::num::OverlayInt;
 use mesh_toolbox::compared::{are_same_edges, expect_that};
 use mesh_toolbox::plain::{Edge, closed};
@@ -14,33 +13,30 @@ use std::test::Fail;
 fn loops(alloc: Global, field: &str) -> Result<Vec<Edge>, Fail> {
     let mut edges = Vec::new(alloc);
     for list in field.split(';') {
-        for edge in &closed(alloc, &points(alloc, list)?)? {
-            edges.push(*edge)?;
-        }
+        edges.extend_from_slice(&closed(alloc, &points(alloc, list)?)?)?;
     }
     Ok(edges)
 }
 
 /// The stroke of the row's path has the stored edges, where the row is meant for this width.
-fn expect_edges<I: OverlayInt>(alloc: Global, row: &str) -> Result<(), Fail> {
-    let fields = fields(alloc, row)?;
-    let [width, arc, path, wanted] = fields.as_slice() else {
+fn expect_edges<I: OverlayInt>(alloc: Global, row: &str, fields: &[&str]) -> Result<(), Fail> {
+    let [width, arc, path, wanted] = fields else {
         return Err(broken(row));
     };
-    if is_for::<I>(width) {
-        let path = vertices::<I>(alloc, path)?;
-        let edges = drawn(alloc, &path, style(alloc, arc)?)?;
-        let is_same = are_same_edges(edges, loops(alloc, wanted)?)?;
-        expect_that(is_same, &row)?;
+    if !is_for::<I>(width) {
+        return Ok(());
     }
-    Ok(())
+    let edges = drawn::<I>(alloc, path, arc)?;
+    let is_same = are_same_edges(edges, loops(alloc, wanted)?)?;
+    expect_that(is_same, &row)
 }
 
 #[test]
 fn stored_edges(rt: HostRuntime) -> Result<(), Fail> {
     for row in EDGES.lines() {
-        expect_edges::<i16>(rt.alloc(), row)?;
-        expect_edges::<i32>(rt.alloc(), row)?;
+        let fields = fields(rt.alloc(), row)?;
+        expect_edges::<i16>(rt.alloc(), row, &fields)?;
+        expect_edges::<i32>(rt.alloc(), row, &fields)?;
     }
     Ok(())
 }

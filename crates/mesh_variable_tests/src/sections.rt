@@ -11,13 +11,13 @@ use mesh_join::style::IntStrokeVertex;
 use mesh_num::num::convert::widen;
 use mesh_num::num::{IntPoint, IntVector, OverlayInt, WideNumber};
 use mesh_tangent::circle::Circle;
-use mesh_tangent::offsets::tangent_offsets;
+use mesh_tangent::offsets::{TangentOffsets, tangent_offsets};
 use mesh_tangent::section::Section;
 use mesh_toolbox::compared::{expect_equal, expect_that};
 use mesh_toolbox::edges::plain_point;
 use mesh_toolbox::plain::{Point, minus};
 use mesh_toolbox::rows::{broken, fields, is_for, points};
-use std::alloc::{AllocError, Global};
+use std::alloc::Global;
 use std::fmt::Debug;
 use std::process::Abort;
 use std::test::Fail;
@@ -35,19 +35,28 @@ fn circle<I: OverlayInt>(alloc: Global, vertex: IntStrokeVertex<I>) -> Result<Ci
     })
 }
 
-/// The contacts of a section, none where there is none.
-fn contacts<I: OverlayInt>(
+/// The contacts of a section.
+fn contacts<I: OverlayInt>(section: &Section<I>) -> [Point; 4] {
+    [
+        plain_point(section.a_left),
+        plain_point(section.a_right),
+        plain_point(section.b_left),
+        plain_point(section.b_right),
+    ]
+}
+
+/// The section has the contacts of the list, which has none where there is no section.
+fn expect_contacts<I: OverlayInt>(
     alloc: Global,
     section: &Option<Section<I>>,
-) -> Result<Vec<Point>, AllocError> {
-    let mut contacts = Vec::new(alloc);
-    if let Some(section) = section {
-        contacts.push(plain_point(section.a_left))?;
-        contacts.push(plain_point(section.a_right))?;
-        contacts.push(plain_point(section.b_left))?;
-        contacts.push(plain_point(section.b_right))?;
+    list: &str,
+    row: &str,
+) -> Result<(), Fail> {
+    let wanted = points(alloc, list)?;
+    match section {
+        Some(section) => expect_equal(&contacts(section).as_slice(), &wanted.as_slice(), &row),
+        None => expect_that(wanted.is_empty(), &row),
     }
-    Ok(contacts)
 }
 
 /// The tangent offsets of two circles lead to the contacts of their section, and no coordinate passes its radius.
@@ -62,6 +71,16 @@ fn expect_offsets<I: OverlayInt + Debug>(
 {
     assert!(rt; !a.is_nested_with(b));
     let offsets = tangent_offsets(&(b.center - a.center), a.radius, b.radius);
+    expect_led(a, b, section, &offsets)
+}
+
+/// The offsets lead to the contacts of the section of two circles.
+fn expect_led<I: OverlayInt + Debug>(
+    a: Circle<I>,
+    b: Circle<I>,
+    section: &Section<I>,
+    offsets: &TangentOffsets<I>,
+) -> Result<(), Fail> {
     expect_offset(a, section.a_left, &offsets.a_left)?;
     expect_offset(a, section.a_right, &offsets.a_right)?;
     expect_offset(b, section.b_left, &offsets.b_left)?;
@@ -98,19 +117,34 @@ fn expect_covered<I: OverlayInt + Debug>(
     Ok(())
 }
 
-/// The circles round both vertices of a row.
-fn ends<I: OverlayInt>(
-    alloc: Global,
-    circles: &str,
-    row: &str,
-) -> Result<(Circle<I>, Circle<I>), Fail>
+/// The circles round both vertices of a list.
+fn ends<I: OverlayInt>(alloc: Global, list: &str) -> Result<(Circle<I>, Circle<I>), Fail>
     ensures { IfOk result (λ ends. IsSafeCircle I.unit ends.0 × IsSafeCircle I.unit ends.1) }
 {
-    let list = vertices::<I>(alloc, circles)?;
-    let [a, b] = list.as_slice() else {
-        return Err(broken(row));
-    };
-    Ok((circle(alloc, *a)?, circle(alloc, *b)?))
+    match vertices::<I>(alloc, list)?.as_slice() {
+        [a, b] => Ok((circle(alloc, *a)?, circle(alloc, *b)?)),
+        _ => Err(broken(list)),
+    }
+}
+
+/// The tangent offsets of two circles lead to the contacts of their section, which covers the circles of the first
+/// list, and not those of the second.
+fn expect_covering<I: OverlayInt + Debug>(
+    rt: &impl Abort,
+    alloc: Global,
+    a: Circle<I>,
+    b: Circle<I>,
+    section: &Section<I>,
+    covered: &str,
+    others: &str,
+) -> Result<(), Fail>
+    requires a { IsSafeCircle I.unit a }
+    requires b { IsSafeCircle I.unit b }
+    requires section { IsSafeSection I.unit section.now }
+{
+    expect_offsets(rt, a, b, section)?;
+    expect_covered(alloc, section, covered, true)?;
+    expect_covered(alloc, section, others, false)
 }
 
 /// Both vertices of the row have the section that it stores, which covers the circles that it names, and not the others
@@ -119,30 +153,29 @@ fn expect_section<I: OverlayInt + Debug>(
     rt: &impl Abort,
     alloc: Global,
     row: &str,
+    fields: &[&str],
 ) -> Result<(), Fail> {
-    let fields = fields(alloc, row)?;
-    let [width, circles, wanted, covered, others] = fields.as_slice() else {
+    let [width, circles, wanted, covered, others] = fields else {
         return Err(broken(row));
     };
     if !is_for::<I>(width) {
         return Ok(());
     }
-    let (a, b) = ends::<I>(alloc, circles, row)?;
+    let (a, b) = ends::<I>(alloc, circles)?;
     let section = Section::new(a, b);
-    expect_equal(&contacts(alloc, &section)?, &points(alloc, wanted)?, &row)?;
-    let Some(section) = section else {
-        return Ok(());
-    };
-    expect_offsets(rt, a, b, &section)?;
-    expect_covered(alloc, &section, covered, true)?;
-    expect_covered(alloc, &section, others, false)
+    expect_contacts(alloc, &section, wanted, row)?;
+    match &section {
+        Some(section) => expect_covering(rt, alloc, a, b, section, covered, others),
+        None => Ok(()),
+    }
 }
 
 #[test]
 fn stored_sections(rt: HostRuntime) -> Result<(), Fail> {
     for row in SECTIONS.lines() {
-        expect_section::<i16>(&rt, rt.alloc(), row)?;
-        expect_section::<i32>(&rt, rt.alloc(), row)?;
+        let fields = fields(rt.alloc(), row)?;
+        expect_section::<i16>(&rt, rt.alloc(), row, &fields)?;
+        expect_section::<i32>(&rt, rt.alloc(), row, &fields)?;
     }
     Ok(())
 }

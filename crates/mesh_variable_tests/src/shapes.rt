@@ -2,11 +2,13 @@
 
 use crate::tables::shapes::SHAPES;
 use crate::values::{Contour, paths, shapes, style};
+use i_overlay_mesh::IntVariableStrokeError;
 use i_overlay_mesh::variable_stroke::offset::IntVariableStrokeOffset;
 use i_overlay_mesh::variable_stroke::resource::IntVariableStrokeSource;
 use mesh_below::below::{ContourDirection, IntOverlayOptions};
 use mesh_join::style::{IntStrokeVertex, IntVariableStrokeStyle, MathMode};
 use mesh_num::num::OverlayInt;
+use mesh_num::shape::buffer::{FlatContoursBuffer, IntShapes};
 use mesh_request::coordinate::narrowed_area;
 use mesh_toolbox::compared::{expect_answers, expect_equal, filled};
 use mesh_toolbox::rows::{broken, fields, is_for, numbers};
@@ -35,6 +37,33 @@ fn options<I: OverlayInt>(
     Ok(options)
 }
 
+/// The shapes that the source answers with these options. Their contours take the place of the buffer's.
+fn answered<I: OverlayInt, S: IntVariableStrokeSource<I>>(
+    alloc: Global,
+    source: &S,
+    style: &IntVariableStrokeStyle,
+    options: IntOverlayOptions<I::WideUInt>,
+    buffer: &mut FlatContoursBuffer<I>,
+) -> Result<IntShapes<I>, IntVariableStrokeError> {
+    source.validate_variable_stroke()?;
+    let shapes = source.variable_stroke_custom(alloc, *style, options)?;
+    source.variable_stroke_custom_into(alloc, *style, options, buffer)?;
+    Ok(shapes)
+}
+
+/// The same with the default options, by the calls that name none.
+fn answered_by_default<I: OverlayInt, S: IntVariableStrokeSource<I>>(
+    alloc: Global,
+    source: &S,
+    style: &IntVariableStrokeStyle,
+    buffer: &mut FlatContoursBuffer<I>,
+) -> Result<IntShapes<I>, IntVariableStrokeError> {
+    source.validate_variable_stroke()?;
+    let shapes = source.variable_stroke(alloc, *style)?;
+    source.variable_stroke_into(alloc, *style, buffer)?;
+    Ok(shapes)
+}
+
 /// With these options the source answers these shapes, at each call, and puts their contours in place of a buffer's.
 fn expect_custom<I: OverlayInt + Debug, S: IntVariableStrokeSource<I>>(
     alloc: Global,
@@ -43,49 +72,78 @@ fn expect_custom<I: OverlayInt + Debug, S: IntVariableStrokeSource<I>>(
     options: IntOverlayOptions<I::WideUInt>,
     wanted: &[&[&[(I, I)]]],
 ) -> Result<(), Fail> {
-    source.validate_variable_stroke()?;
     let mut buffer = filled(alloc)?;
     for _ in 0..2 {
-        let shapes = source.variable_stroke_custom(alloc, *style, options)?;
-        source.variable_stroke_custom_into(alloc, *style, options, &mut buffer)?;
+        let shapes = answered(alloc, source, style, options, &mut buffer)?;
         expect_answers(&shapes, &buffer, wanted)?;
     }
     Ok(())
 }
 
-/// The same with the default options, by the calls that name none too.
+/// By the calls that name no options the source answers these shapes, and puts their contours in place of a buffer's.
+fn expect_default<I: OverlayInt + Debug, S: IntVariableStrokeSource<I>>(
+    alloc: Global,
+    source: &S,
+    style: &IntVariableStrokeStyle,
+    wanted: &[&[&[(I, I)]]],
+) -> Result<(), Fail> {
+    let mut buffer = filled(alloc)?;
+    let shapes = answered_by_default(alloc, source, style, &mut buffer)?;
+    expect_answers(&shapes, &buffer, wanted)
+}
+
+/// With the default options the source answers these shapes, whether or not a call names the options.
 fn expect<I: OverlayInt + Debug, S: IntVariableStrokeSource<I>>(
     alloc: Global,
     source: &S,
     style: &IntVariableStrokeStyle,
     wanted: &[&[&[(I, I)]]],
 ) -> Result<(), Fail> {
-    source.validate_variable_stroke()?;
-    let mut buffer = filled(alloc)?;
-    let shapes = source.variable_stroke(alloc, *style)?;
-    source.variable_stroke_into(alloc, *style, &mut buffer)?;
-    expect_answers(&shapes, &buffer, wanted)?;
+    expect_default(alloc, source, style, wanted)?;
     expect_custom(alloc, source, style, IntOverlayOptions::new(), wanted)
 }
 
+/// The paths are stroked to these shapes with the options of a field, and by default where it has the default ones.
+fn expect_choices<I: OverlayInt + Debug>(
+    alloc: Global,
+    paths: &Vec<Vec<IntStrokeVertex<I>>>,
+    style: &IntVariableStrokeStyle,
+    choices: &str,
+    wanted: &[&[&[(I, I)]]],
+) -> Result<(), Fail> {
+    if choices == "0 0 0" {
+        expect(alloc, paths, style, wanted)?;
+    }
+    expect_custom(alloc, paths, style, options::<I>(alloc, choices)?, wanted)
+}
+
+/// The same of shapes as lists.
+fn expect_shapes<I: OverlayInt + Debug>(
+    alloc: Global,
+    paths: &Vec<Vec<IntStrokeVertex<I>>>,
+    style: &IntVariableStrokeStyle,
+    choices: &str,
+    wanted: &[Vec<Contour<I>>],
+) -> Result<(), Fail> {
+    let contours = contours(alloc, wanted)?;
+    expect_choices(alloc, paths, style, choices, &slices(alloc, &contours)?)
+}
+
 /// The paths of the row are stroked as it says, where it is meant for this width.
-fn expect_row<I: OverlayInt + Debug>(alloc: Global, row: &str) -> Result<(), Fail> {
-    let fields = fields(alloc, row)?;
-    let [width, arc, lists, choices, wanted] = fields.as_slice() else {
+fn expect_row<I: OverlayInt + Debug>(
+    alloc: Global,
+    row: &str,
+    fields: &[&str],
+) -> Result<(), Fail> {
+    let [width, arc, lists, choices, wanted] = fields else {
         return Err(broken(row));
     };
     if !is_for::<I>(width) {
         return Ok(());
     }
-    let (paths, style) = (paths::<I>(alloc, lists)?, style(alloc, arc)?);
-    let wanted = shapes::<I>(alloc, wanted)?;
-    let contours = contours(alloc, &wanted)?;
-    let wanted = slices(alloc, &contours)?;
-    if *choices == "0 0 0" {
-        expect(alloc, &paths, &style, &wanted)?;
-    }
-    let options = options::<I>(alloc, choices)?;
-    expect_custom(alloc, &paths, &style, options, &wanted)
+    let style = style(alloc, arc)?;
+    let paths = paths::<I>(alloc, lists)?;
+    expect_shapes(alloc, &paths, &style, choices, &shapes::<I>(alloc, wanted)?)
 }
 
 /// The contours of each shape.
@@ -112,8 +170,9 @@ fn slices<T>(alloc: Global, lists: &[Vec<T>]) -> Result<Vec<&[T]>, AllocError> {
 #[test]
 fn stored_shapes(rt: HostRuntime) -> Result<(), Fail> {
     for row in SHAPES.lines() {
-        expect_row::<i16>(rt.alloc(), row)?;
-        expect_row::<i32>(rt.alloc(), row)?;
+        let fields = fields(rt.alloc(), row)?;
+        expect_row::<i16>(rt.alloc(), row, &fields)?;
+        expect_row::<i32>(rt.alloc(), row, &fields)?;
     }
     Ok(())
 }

@@ -8,6 +8,7 @@ use i_overlay_mesh::variable_stroke::resource_iter::{
 use mesh_join::style::IntStrokeVertex;
 use mesh_num::shape::PathSlice;
 use mesh_toolbox::compared::{expect_equal, expect_that};
+use mesh_toolbox::rows::broken;
 use std::alloc::Global;
 use std::fmt::Write;
 use std::test::Fail;
@@ -51,23 +52,36 @@ fn expect_given<S: IntVariableStrokeSource<i32>>(
     expect_equal(&given(alloc, source)?.as_str(), &wanted, &"a source")
 }
 
+/// A list of these vertices, an array of them and a slice are sources of one path.
+fn expect_one(alloc: Global, path: &Vec<IntStrokeVertex<i32>>) -> Result<(), Fail> {
+    let [a, b, c] = path.as_slice() else {
+        return Err(broken(PATH));
+    };
+    expect_given(alloc, path, ONE)?;
+    expect_given(alloc, &[*a, *b, *c], ONE)?;
+    expect_given(alloc, &PathSlice::new(path.as_slice()), ONE)
+}
+
+/// A list of these paths and a slice of it are sources of each.
+fn expect_each(alloc: Global, paths: &Vec<Vec<IntStrokeVertex<i32>>>) -> Result<(), Fail> {
+    expect_given(alloc, paths, ALL)?;
+    expect_given(alloc, &PathSlice::new(paths.as_slice()), ALL)
+}
+
+/// The paths as an array.
+fn array(alloc: Global) -> Result<[Vec<IntStrokeVertex<i32>>; 3], Fail> {
+    Ok([
+        vertices(alloc, PATH)?,
+        Vec::new(alloc),
+        vertices(alloc, "6 7 8")?,
+    ])
+}
+
 #[test]
 fn sources(rt: HostRuntime) -> Result<(), Fail> {
-    let one = vertices::<i32>(rt.alloc(), PATH)?;
-    let all = paths::<i32>(rt.alloc(), PATHS)?;
-    assert_eq!(rt; one.len(), 3);
-    let array = [one[0], one[1], one[2]];
-    expect_given(rt.alloc(), &one, ONE)?;
-    expect_given(rt.alloc(), &array, ONE)?;
-    expect_given(rt.alloc(), &PathSlice::new(one.as_slice()), ONE)?;
-    expect_given(rt.alloc(), &all, ALL)?;
-    expect_given(rt.alloc(), &PathSlice::new(all.as_slice()), ALL)?;
-    let lists = [
-        one,
-        Vec::new(rt.alloc()),
-        vertices::<i32>(rt.alloc(), "6 7 8")?,
-    ];
-    expect_given(rt.alloc(), &lists, ALL)?;
+    expect_one(rt.alloc(), &vertices(rt.alloc(), PATH)?)?;
+    expect_each(rt.alloc(), &paths(rt.alloc(), PATHS)?)?;
+    expect_given(rt.alloc(), &array(rt.alloc())?, ALL)?;
     let none: [IntStrokeVertex<i32>; 0] = [];
     expect_given(rt.alloc(), &none, "[ ]")
 }
@@ -86,30 +100,48 @@ fn push_single(text: &mut String, path: &[IntStrokeVertex<i32>]) -> Result<(), F
     expect_equal(&count, &1, &path)
 }
 
-/// What both iterators give, and how many paths they tell.
-#[test]
-fn iterators(rt: HostRuntime) -> Result<(), Fail> {
-    let all = paths::<i32>(rt.alloc(), PATHS)?;
-    let mut text = String::new(rt.alloc());
-    for path in &all {
+/// What the iterators over each of the paths give.
+fn one_by_one(alloc: Global, paths: &[Vec<IntStrokeVertex<i32>>]) -> Result<String, Fail> {
+    let mut text = String::new(alloc);
+    for path in paths {
         push_single(&mut text, path)?;
     }
-    expect_equal(&text.as_str(), &ALL, &"one by one")?;
-    text.clear();
-    for path in ShapeResourceIterator::with_slice(&all) {
+    Ok(text)
+}
+
+/// What the iterator over all paths gives.
+fn in_turn(alloc: Global, paths: &[Vec<IntStrokeVertex<i32>>]) -> Result<String, Fail> {
+    let mut text = String::new(alloc);
+    for path in ShapeResourceIterator::with_slice(paths) {
         push_path(&mut text, path)?;
     }
-    expect_equal(&text.as_str(), &ALL, &"all")?;
-    let mut several = ShapeResourceIterator::with_slice(&all);
+    Ok(text)
+}
+
+/// The iterator over the three paths tells at each step how many are left.
+fn expect_told(paths: &[Vec<IntStrokeVertex<i32>>]) -> Result<(), Fail> {
+    let mut several = ShapeResourceIterator::with_slice(paths);
     for left in [3, 2, 1] {
         let told = (several.len(), several.size_hint());
         expect_equal(&told, &(left, (left, Some(left))), &left)?;
         expect_that(several.next().is_some(), &left)?;
     }
-    expect_that(several.next().is_none() && several.len() == 0, &"the end")?;
-    let count = ShapeResourceIterator::with_slice(&all).count();
-    expect_equal(&count, &3, &"all")?;
-    let nothing: &[Vec<IntStrokeVertex<i32>>] = &[];
-    let count = ShapeResourceIterator::with_slice(nothing).count();
-    expect_equal(&count, &0, &"nothing")
+    expect_that(several.next().is_none() && several.len() == 0, &"the end")
+}
+
+/// The iterator over these paths counts so many.
+fn expect_count(paths: &[Vec<IntStrokeVertex<i32>>], wanted: usize) -> Result<(), Fail> {
+    let count = ShapeResourceIterator::with_slice(paths).count();
+    expect_equal(&count, &wanted, &"the paths counted")
+}
+
+/// What both iterators give, and how many paths they tell.
+#[test]
+fn iterators(rt: HostRuntime) -> Result<(), Fail> {
+    let all = paths(rt.alloc(), PATHS)?;
+    expect_equal(&one_by_one(rt.alloc(), &all)?.as_str(), &ALL, &"one by one")?;
+    expect_equal(&in_turn(rt.alloc(), &all)?.as_str(), &ALL, &"in turn")?;
+    expect_told(&all)?;
+    expect_count(&all, 3)?;
+    expect_count(&[], 0)
 }

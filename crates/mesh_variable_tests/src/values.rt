@@ -4,7 +4,8 @@ use mesh_join::arc::ArcOptions;
 use mesh_join::style::{IntStrokeVertex, IntVariableStrokeStyle};
 use mesh_num::num::{Angle, IntPoint, OverlayInt};
 use mesh_request::coordinate::narrowed;
-use mesh_toolbox::rows::{broken, numbers, points, triples};
+use mesh_toolbox::plain::Point;
+use mesh_toolbox::rows::{Triple, broken, numbers, points, triples};
 use std::alloc::Global;
 use std::test::Fail;
 
@@ -16,12 +17,22 @@ fn number<I: OverlayInt>(number: i128) -> Result<I, Fail> {
     }
 }
 
+/// The coordinates of a point.
+fn spot<I: OverlayInt>((x, y): Point) -> Result<(I, I), Fail> {
+    Ok((number(x)?, number(y)?))
+}
+
+/// The vertex of three numbers.
+fn vertex<I: OverlayInt>((x, y, width): Triple) -> Result<IntStrokeVertex<I>, Fail> {
+    let (x, y) = spot((x, y))?;
+    Ok(IntStrokeVertex::new(IntPoint::new(x, y), number(width)?))
+}
+
 /// The vertices of a list.
 pub fn vertices<I: OverlayInt>(alloc: Global, list: &str) -> Result<Vec<IntStrokeVertex<I>>, Fail> {
     let mut vertices = Vec::new(alloc);
-    for (x, y, width) in &triples(alloc, list)? {
-        let point = IntPoint::new(number(*x)?, number(*y)?);
-        vertices.push(IntStrokeVertex::new(point, number(*width)?))?;
+    for triple in &triples(alloc, list)? {
+        vertices.push(vertex(*triple)?)?;
     }
     Ok(vertices)
 }
@@ -56,10 +67,19 @@ pub type Contour<I> = Vec<(I, I)>;
 /// The contour of a list.
 fn contour<I: OverlayInt>(alloc: Global, list: &str) -> Result<Contour<I>, Fail> {
     let mut contour = Vec::new(alloc);
-    for (x, y) in &points(alloc, list)? {
-        contour.push((number(*x)?, number(*y)?))?;
+    for point in &points(alloc, list)? {
+        contour.push(spot(*point)?)?;
     }
     Ok(contour)
+}
+
+/// The contours of a shape's lists.
+fn shape<I: OverlayInt>(alloc: Global, lists: &str) -> Result<Vec<Contour<I>>, Fail> {
+    let mut shape = Vec::new(alloc);
+    for list in lists.split(';') {
+        shape.push(contour(alloc, list)?)?;
+    }
+    Ok(shape)
 }
 
 /// The shapes of a field, between which it has slashes. An empty one has none.
@@ -69,11 +89,7 @@ pub fn shapes<I: OverlayInt>(alloc: Global, field: &str) -> Result<Vec<Vec<Conto
         return Ok(shapes);
     }
     for lists in field.split('/') {
-        let mut shape = Vec::new(alloc);
-        for list in lists.split(';') {
-            shape.push(contour(alloc, list)?)?;
-        }
-        shapes.push(shape)?;
+        shapes.push(shape(alloc, lists)?)?;
     }
     Ok(shapes)
 }

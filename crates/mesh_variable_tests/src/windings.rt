@@ -2,38 +2,41 @@
 
 use crate::drawn::drawn;
 use crate::tables::windings::WINDINGS;
-use crate::values::{style, vertices};
 use mesh_num::num::OverlayInt;
 use mesh_toolbox::compared::{expect_equal, expect_that};
-use mesh_toolbox::plain::{is_balanced, winding};
+use mesh_toolbox::plain::{Edge, is_balanced, winding};
 use mesh_toolbox::rows::{broken, fields, is_for, triples};
 use std::alloc::Global;
 use std::test::Fail;
 
-/// The edges of the row's path close up, and wind round the stored points of the grid 2 as its pieces together, where
-/// the row is meant for this width.
-fn expect_windings<I: OverlayInt>(alloc: Global, row: &str) -> Result<(), Fail> {
-    let fields = fields(alloc, row)?;
-    let [width, arc, path, counts] = fields.as_slice() else {
-        return Err(broken(row));
-    };
-    if is_for::<I>(width) {
-        let path = vertices::<I>(alloc, path)?;
-        let edges = drawn(alloc, &path, style(alloc, arc)?)?;
-        expect_that(is_balanced(&edges), &row)?;
-        for triple in &triples(alloc, counts)? {
-            let (x, y, count) = *triple;
-            expect_equal(&winding(2, (x, y), &edges), &count, &(triple, row))?;
-        }
+/// The edges close up, and wind round the points of the grid 2 as a list of triples says.
+fn expect_counts(alloc: Global, edges: &[Edge], list: &str, row: &str) -> Result<(), Fail> {
+    expect_that(is_balanced(edges), &row)?;
+    for triple in &triples(alloc, list)? {
+        let (x, y, count) = *triple;
+        expect_equal(&winding(2, (x, y), edges), &count, &(triple, row))?;
     }
     Ok(())
+}
+
+/// The edges of the row's path close up, and wind round the stored points of the grid 2 as its pieces together, where
+/// the row is meant for this width.
+fn expect_windings<I: OverlayInt>(alloc: Global, row: &str, fields: &[&str]) -> Result<(), Fail> {
+    let [width, arc, path, counts] = fields else {
+        return Err(broken(row));
+    };
+    if !is_for::<I>(width) {
+        return Ok(());
+    }
+    expect_counts(alloc, &drawn::<I>(alloc, path, arc)?, counts, row)
 }
 
 #[test]
 fn stored_windings(rt: HostRuntime) -> Result<(), Fail> {
     for row in WINDINGS.lines() {
-        expect_windings::<i16>(rt.alloc(), row)?;
-        expect_windings::<i32>(rt.alloc(), row)?;
+        let fields = fields(rt.alloc(), row)?;
+        expect_windings::<i16>(rt.alloc(), row, &fields)?;
+        expect_windings::<i32>(rt.alloc(), row, &fields)?;
     }
     Ok(())
 }

@@ -9,14 +9,14 @@ plus-requires g c =
     let least : 2 ^ 14 ≤ g.I.IntNumber.unit = g.met.I.IntNumber.least_law in
     let below = c.is_wide_less.ensures.0 c.if-not-is_wide_less.false in
     let most : g.I.Wide.WideNumber.value c.args.padding <ℤ pos g.I.IntNumber.unit = rw c.unit.ensures at below in
-    (rw c.to_wide-3.ensures.value (side_fits _ g.I.IntNumber.unit _ _ g.met.I.IntNumber.half_law (omega arith) c.to_wide-3.ensures.range c.requires.padding most).1)
+    rw c.to_wide-3.ensures.value (side_fits _ g.I.IntNumber.unit _ _ g.met.I.IntNumber.half_law (omega arith) c.to_wide-3.ensures.range c.requires.padding most).1
 
 pub plus-requires-2 : goal.plus-requires-2
 plus-requires-2 g c =
     let least : 2 ^ 14 ≤ g.I.IntNumber.unit = g.met.I.IntNumber.least_law in
     let below = c.is_wide_less.ensures.0 c.if-not-is_wide_less.false in
     let most : g.I.Wide.WideNumber.value c.args.padding <ℤ pos g.I.IntNumber.unit = rw c.unit.ensures at below in
-    (rw c.to_wide-4.ensures.value (side_fits _ g.I.IntNumber.unit _ _ g.met.I.IntNumber.half_law (omega arith) c.to_wide-4.ensures.range c.requires.padding most).1)
+    rw c.to_wide-4.ensures.value (side_fits _ g.I.IntNumber.unit _ _ g.met.I.IntNumber.half_law (omega arith) c.to_wide-4.ensures.range c.requires.padding most).1
 
 pub returns-then-low : goal.returns-then-low
 returns-then-low g c =

@@ -1,11 +1,12 @@
 -- The area of each path so far fits, and at the end that of each path.
-use Rattle.std.proofs.Common.{[], ◌∙◌, ap, not, sym, arith, rules, refl}
+use Rattle.std.proofs.Common.{[], ◌∷◌, ◌++◌, ◌∙◌, ap, not, sym, arith, rules, refl}
 use Rattle.std.proofs.lemmas.Bool.{false≢true}
 use Rattle.std.proofs.lemmas.Int.{to_z-of_z}
+use Rattle.std.proofs.lemmas.List.{map_more}
 use mir.Syntax.{w128}
 use Rattle.mesh_outline.specs.Kinds.{kind_for}
 use Rattle.mesh_outline_calls.proofs.Areas.{areas_fit_more, all_areas_fit}
-use Rattle.mesh_outline_calls.proofs.ContourKinds.{kinds_more}
+use Rattle.mesh_outline_calls.specs.Kinds.{contour_kind}
 use Rattle.mesh_outline_calls.proofs.kind.contour_kinds.Goals as goal
 use Rattle.mesh_outline_calls.proofs.kind.contour_kinds.Goals.{then-refused, else-refused}
 
@@ -20,7 +21,8 @@ loop-index-preserved g c =
         | else-refused w ↦
             let ok = w.is_err-refused-else-refused.ensures.negation ∙ ap not (sym w.refused-is ∙ some) in
             let items = rw ok at w.push.ensures.items in
-            rw w.kinds-is (kinds_more paths c.loop-index.index _ _ w.of_area.result (omega arith) (c.loop-index.invariant.kinds w.if-refused.false) (w.of_area.ensures ∙ ap kind_for area) items)
+            rw w.kinds-is (items ∙ (λ j. c.loop-index.invariant.kinds w.if-refused.false j ++ (w.of_area.ensures ∙ ap kind_for area) j ∷ [])
+            ∙ sym (map_more contour_kind paths c.loop-index.index [] (omega arith)))
       ];
     }
 

@@ -1,5 +1,5 @@
 -- A chain with no section and no step is the circle of its vertex.
-use Rattle.std.proofs.Common.{◌≡◌, ◌∙◌, sym}
+use Rattle.std.proofs.Common.{◌∙◌, sym}
 use Rattle.mesh_variable_stroke.proofs.Stepping.{bare_finish}
 use Rattle.mesh_variable_stroke.proofs.chain.Chain.finish.Goals as goal
 

@@ -7,13 +7,13 @@ use Rattle.mesh_grid.proofs.num.point.IntPointSub.sub.Goals as goal
 
 pub minus-requires : goal.minus-requires
 minus-requires g c =
-    (coordinates_differ _ g.I.IntNumber.unit _ _ _ _ g.met.I.IntNumber.half_law g.met.I.IntNumber.least_law
-    c.to_wide.ensures.value c.to_wide-2.ensures.value c.to_wide.ensures.range c.to_wide-2.ensures.range)
+    coordinates_differ _ g.I.IntNumber.unit _ _ _ _ g.met.I.IntNumber.half_law g.met.I.IntNumber.least_law
+    c.to_wide.ensures.value c.to_wide-2.ensures.value c.to_wide.ensures.range c.to_wide-2.ensures.range
 
 pub minus-requires-2 : goal.minus-requires-2
 minus-requires-2 g c =
-    (coordinates_differ _ g.I.IntNumber.unit _ _ _ _ g.met.I.IntNumber.half_law g.met.I.IntNumber.least_law
-    c.to_wide-3.ensures.value c.to_wide-4.ensures.value c.to_wide-3.ensures.range c.to_wide-4.ensures.range)
+    coordinates_differ _ g.I.IntNumber.unit _ _ _ _ g.met.I.IntNumber.half_law g.met.I.IntNumber.least_law
+    c.to_wide-3.ensures.value c.to_wide-4.ensures.value c.to_wide-3.ensures.range c.to_wide-4.ensures.range
 
 pub returns : goal.returns
 returns g c =
