@@ -37,7 +37,7 @@ pub type StrokeRow = (
     &'static [(i16, i16)],
     bool,
     StyleParts,
-    &'static str,
+    &'static [&'static [Point]],
     [(i128, Point, i128); 3],
 );
 """
@@ -138,12 +138,6 @@ def loops(edges):
     return found
 
 
-def loops_text(edges):
-    """Closed lists of points that have these edges, as the tests read them."""
-    lists = (", ".join(f"{x} {y}" for x, y in points) for points in loops(edges))
-    return f'"{"; ".join(lists)}"'
-
-
 def row(defs, inputs, path, closed, style, edges, pieces):
     """A row of a table."""
     parts = (style["width"], join_text(style["join"], style["min_turn"]), cap_text(style["start"]),
@@ -155,7 +149,7 @@ def row(defs, inputs, path, closed, style, edges, pieces):
         told = [(m, q, sum(defs.winding(defs.loop(piece), q, m) for piece in pieces)) for m, q in queries]
         answers.append(next((answer for answer in told if answer[2] >= least), told[0]))
         assert all(answer == defs.winding(edges, q, m) for m, q, answer in told)
-    return path, closed, parts, loops_text(edges), answers
+    return path, closed, parts, loops(edges), answers
 
 
 def rows(defs, table, count, width):

@@ -8,9 +8,7 @@ use mesh_below::checks::are_resolvable;
 use mesh_num::num::{IntNumber, IntPoint};
 use mesh_num::shape::buffer::{FlatContoursBuffer, IntShapes};
 use mesh_toolbox::compared::expect_answers;
-use mesh_toolbox::edges::edges_of_shapes;
-use mesh_toolbox::lists::{path, push_contour, segments};
-use mesh_toolbox::plain::Edge;
+use mesh_toolbox::lists::segments;
 use std::alloc::{AllocError, Global};
 use std::test::Fail;
 
@@ -23,12 +21,6 @@ pub type Shapes = &'static [&'static [Row]];
 /// An overlay of the edges of closed lists of points.
 pub fn overlay_of(alloc: Global, contours: &[&[(i32, i32)]]) -> Result<Overlay<i32>, AllocError> {
     Ok(Overlay::with_segments(segments(alloc, contours)?))
-}
-
-/// Adds the edges of a closed list of points.
-pub fn push_spots(overlay: &mut Overlay<i32>, spots: &[(i32, i32)]) -> Result<(), AllocError> {
-    let alloc = *overlay.segments.allocator();
-    push_contour(&mut overlay.segments, &path(alloc, spots)?)
 }
 
 /// Fails where the overlay's segments are not such as it asks.
@@ -48,28 +40,17 @@ pub fn answered_shapes(overlay: &Overlay<i32>, fill: FillRule) -> Result<IntShap
     Ok(overlay.overlay(OverlayRule::Subject, fill)?)
 }
 
-/// The edges of the shapes that the overlay answers.
-pub fn answered_edges(overlay: &Overlay<i32>, fill: FillRule) -> Result<Vec<Edge>, Fail> {
-    let shapes = answered_shapes(overlay, fill)?;
-    Ok(edges_of_shapes(*overlay.segments.allocator(), &shapes)?)
-}
-
-/// A buffer of one point, and of no contour.
-pub fn with_one_point(alloc: Global) -> Result<FlatContoursBuffer<i32>, AllocError> {
-    let mut buffer = FlatContoursBuffer::new(alloc);
-    buffer.points.push(IntPoint::new(7, 7))?;
-    Ok(buffer)
-}
-
 /// The overlay answers these shapes, and puts their contours in place of a buffer's.
 pub fn expect(
     overlay: &Overlay<i32>,
     fill: FillRule,
     wanted: &[&[&[(i32, i32)]]],
 ) -> Result<(), Fail> {
+    let alloc = *overlay.segments.allocator();
     expect_resolvable(overlay)?;
     let shapes = overlay.overlay(OverlayRule::Subject, fill)?;
-    let mut buffer = with_one_point(*overlay.segments.allocator())?;
+    let mut buffer = FlatContoursBuffer::new(alloc);
+    buffer.points.push(IntPoint::new(7, 7))?;
     overlay.overlay_into(OverlayRule::Subject, fill, &mut buffer)?;
     expect_answers(&shapes, &buffer, wanted)
 }

@@ -1,11 +1,11 @@
 //! The calls one by one: defaults, segments added in parts, the other width, what stays, and what is no list to
 //! resolve.
 
-use crate::answers::{Row, expect, expect_resolvable, overlay_of, with_one_point};
+use crate::answers::{Row, expect, expect_resolvable, overlay_of};
 use mesh_below::below::{ContourDirection, FillRule, IntOverlayOptions, Overlay, OverlayRule};
 use mesh_below::checks::are_resolvable;
 use mesh_num::num::IntPoint;
-use mesh_num::shape::buffer::{FlatContoursBuffer, IntShapes};
+use mesh_num::shape::buffer::FlatContoursBuffer;
 use mesh_num::shape::segment::{Segment, SubjectSegments, XSegment};
 use mesh_toolbox::compared::{
     are_same_segments, are_shapes, expect_equal, expect_that, holds, is_contour,
@@ -13,7 +13,6 @@ use mesh_toolbox::compared::{
 use mesh_toolbox::lists::segments;
 use mesh_toolbox::outer;
 use std::alloc::{AllocError, Global};
-use std::process::Abort;
 use std::test::Fail;
 
 const SQUARE: Row = outer!(0, 0, 4, 4);
@@ -61,86 +60,49 @@ fn what_is_the_default(_rt: HostRuntime) -> Result<(), Fail> {
     expect_that(!options.is_default(), &"straight-through vertices")
 }
 
-/// Adds the edges of a contour to an overlay.
-fn add(overlay: &mut Overlay<i32>, contour: Row) -> Result<(), AllocError> {
-    let more = overlay_of(*overlay.segments.allocator(), &[contour])?;
-    overlay.add_segments(&more.segments)
-}
-
-/// With this least area, the overlay answers these shapes.
-fn expect_from(overlay: &mut Overlay<i32>, least: u64, wanted: &[&[Row]]) -> Result<(), Fail> {
-    overlay.options.min_output_area = least;
-    expect(overlay, FillRule::Positive, wanted)
-}
-
 #[test]
 fn segments_in_two_parts(rt: HostRuntime) -> Result<(), Fail> {
     let mut overlay = overlay_of(rt.alloc(), &[SQUARE])?;
-    expect_from(&mut overlay, 28, &[])?;
-    add(&mut overlay, OTHER)?;
+    overlay.options.min_output_area = 28;
+    expect(&overlay, FillRule::Positive, &[])?;
+    let more = overlay_of(rt.alloc(), &[OTHER])?;
+    overlay.add_segments(&more.segments)?;
     expect_equal(&overlay.segments.len(), &8, &"two squares")?;
-    expect_from(&mut overlay, 28, &[&[BOTH]])?;
-    expect_from(&mut overlay, 29, &[])
+    expect(&overlay, FillRule::Positive, &[&[BOTH]])?;
+    overlay.options.min_output_area = 29;
+    expect(&overlay, FillRule::Positive, &[])
 }
 
-/// Contours of 16 bits.
-type Short = &'static [&'static [(i16, i16)]];
-
-/// A square that reaches the ends of the safe range of `i16`.
-const FARTHEST: Short = &[outer!(-16383, -16383, 16383, 16383)];
-
-/// The same moved past it.
-const PAST: Short = &[outer!(-16383, -16383, 16384, 16383)];
-
-/// Whether the edges of contours make a list to resolve.
-fn are_to_resolve(alloc: Global, contours: Short) -> Result<bool, AllocError> {
-    are_resolvable(alloc, &segments(alloc, contours)?)
-}
-
-/// What the edges of contours fill.
-fn short_shapes(alloc: Global, contours: Short) -> Result<IntShapes<i16>, Fail> {
-    let overlay = Overlay::with_segments(segments(alloc, contours)?);
-    expect_resolvable(&overlay)?;
-    Ok(overlay.overlay(OverlayRule::Subject, FillRule::Positive)?)
-}
-
-/// The farthest square is answered as it is, and the one past it is no list to resolve.
+/// A square that reaches the ends of the safe range of `i16`, and the same moved past it.
 #[test]
 fn numbers_of_16_bits(rt: HostRuntime) -> Result<(), Fail> {
-    assert!(rt; !are_to_resolve(rt.alloc(), PAST)?);
-    let shapes = short_shapes(rt.alloc(), FARTHEST)?;
-    expect_that(are_shapes(&shapes, &[FARTHEST]), &shapes)
+    let past = segments::<i16>(rt.alloc(), &[outer!(-16383, -16383, 16384, 16383)])?;
+    assert!(rt; !are_resolvable(rt.alloc(), &past)?);
+    let square: &[&[(i16, i16)]] = &[outer!(-16383, -16383, 16383, 16383)];
+    let overlay = Overlay::with_segments(segments(rt.alloc(), square)?);
+    expect_resolvable(&overlay)?;
+    let shapes = overlay.overlay(OverlayRule::Subject, FillRule::Positive)?;
+    expect_that(are_shapes(&shapes, &[square]), &shapes)
 }
 
-/// Puts an answer into the buffer, and tells whether memory was refused. The overlay stays as it was.
-fn answer_into(
-    rt: &impl Abort,
-    overlay: &Overlay<i32>,
-    buffer: &mut FlatContoursBuffer<i32>,
-) -> Result<Result<(), AllocError>, Fail> {
-    let before = overlay.segments.clone()?;
-    expect_resolvable(overlay)?;
-    let done = overlay.overlay_into(OverlayRule::Subject, FillRule::Positive, buffer);
-    assert!(*rt; are_same_segments(&overlay.segments, &before));
-    Ok(done)
-}
-
-/// Whether the buffer has the answer, or what it had where memory was refused.
-fn is_right(buffer: &FlatContoursBuffer<i32>, was_refused: bool) -> bool {
-    if was_refused {
-        return is_contour(&buffer.points, &[(7, 7)]) && buffer.ranges.is_empty();
-    }
-    holds(buffer, &[&[BOTH]])
-}
-
-/// A refusal comes only in a run that is made to refuse memory.
+/// The overlay stays as it was. The buffer has the answer, or what it had: a refusal comes only in a run that is made
+/// to refuse memory.
 #[test]
 fn answers_leave_the_overlay_as_it_was(rt: HostRuntime) -> Result<(), Fail> {
     let overlay = overlay_of(rt.alloc(), &[SQUARE, OTHER])?;
-    let mut buffer = with_one_point(rt.alloc())?;
-    let done = answer_into(&rt, &overlay, &mut buffer)?;
-    assert!(rt; is_right(&buffer, done.is_err()));
-    Ok(done?)
+    let before = overlay.segments.clone()?;
+    expect_resolvable(&overlay)?;
+    let mut buffer = FlatContoursBuffer::new(rt.alloc());
+    buffer.points.push(IntPoint::new(7, 7))?;
+    let done = overlay.overlay_into(OverlayRule::Subject, FillRule::Positive, &mut buffer);
+    assert!(rt; are_same_segments(&overlay.segments, &before));
+    if let Err(refused) = done {
+        assert!(rt; is_contour(&buffer.points, &[(7, 7)]));
+        assert!(rt; buffer.ranges.is_empty());
+        return Err(refused.into());
+    }
+    assert!(rt; holds(&buffer, &[&[BOTH]]));
+    Ok(())
 }
 
 /// The ends of a segment, its count, and whether it makes a list to resolve with the other sides of a square.

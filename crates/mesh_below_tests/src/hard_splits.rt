@@ -4,7 +4,7 @@ ghost use Rattle.std.specs.Prelude.{◌<◌};
 
 use crate::answers::{answered_shapes, overlay_of};
 use crate::counted::{plain, plain_edges};
-use crate::random_splits::closed_edges;
+use crate::random_splits::push_closed;
 use mesh_below::below::FillRule;
 use mesh_below::given::are_proper;
 use mesh_below::grid::{CountedSegment, GridEdge};
@@ -196,7 +196,8 @@ struct Split {
 
 /// Splits the edges of a contour until none meets another.
 fn split_contour(alloc: Global, corners: &[(i32, i32)]) -> Result<Split, Fail> {
-    let edges = closed_edges(alloc, corners)?;
+    let mut edges: Vec<GridEdge> = Vec::new(alloc);
+    push_closed(&mut edges, corners)?;
     if !are_proper(&edges) {
         return Err(Fail::new(format_args!("{corners:?}")));
     }
@@ -256,7 +257,8 @@ fn long_runs_are_answered(rt: HostRuntime) -> Result<(), Fail> {
 fn splits_stay_near_the_edges(rt: HostRuntime) -> Result<(), Fail> {
     for corners in DRAGGED {
         let made = split_contour(rt.alloc(), corners)?;
-        expect_near(&made.segments, &plain_edges(rt.alloc(), &made.edges)?)?;
+        let edges = plain_edges(rt.alloc(), &made.edges)?;
+        expect_near(&made.segments, &edges)?;
     }
     Ok(())
 }

@@ -1,10 +1,11 @@
 //! Drawings in which most edges reach most heights, against a plain count of how often edges wind round points.
 
-use crate::answers::{answered_edges, answered_shapes, overlay_of, push_spots};
+use crate::answers::{answered_shapes, overlay_of};
 use mesh_below::below::{FillRule, Overlay};
 use mesh_toolbox::compared::{expect_equal, expect_that};
-use mesh_toolbox::edges::edges_of_segments;
-use mesh_toolbox::plain::{Edge, winding};
+use mesh_toolbox::edges::{edges_of_segments, edges_of_shapes};
+use mesh_toolbox::lists::{path, push_contour};
+use mesh_toolbox::plain::winding;
 use mesh_toolbox::random::Random;
 use std::alloc::{AllocError, Global};
 use std::test::Fail;
@@ -20,9 +21,13 @@ fn times(k: i32, v: Spot) -> Spot {
     (k.wrapping_mul(v.0), k.wrapping_mul(v.1))
 }
 
-/// At 200 random points, whose coordinates are halves from -400 to 400, the answer winds once where the edges wind more
-/// often counterclockwise than clockwise, and else not at all. Answers at how many of them it does.
-fn expect_wound(edges: &[Edge], answer: &[Edge], random: &mut Random) -> Result<u32, Fail> {
+/// At 200 random points, whose coordinates are halves from -400 to 400, the filled shapes wind once where the drawing's
+/// edges wind more often counterclockwise than clockwise, and else not at all. Answers at how many of them they do.
+fn expect_counted(overlay: &Overlay<i32>, random: &mut Random) -> Result<u32, Fail> {
+    let alloc = *overlay.segments.allocator();
+    let edges = edges_of_segments(alloc, &overlay.segments)?;
+    let shapes = answered_shapes(overlay, FillRule::Positive)?;
+    let answer = edges_of_shapes(alloc, &shapes)?;
     let mut filled = 0u32;
     for _ in 0..200 {
         let (x, y) = random.point(1601);
@@ -30,18 +35,11 @@ fn expect_wound(edges: &[Edge], answer: &[Edge], random: &mut Random) -> Result<
             i128::from(x).wrapping_sub(800),
             i128::from(y).wrapping_sub(800),
         );
-        let want = i128::from(winding(2, q, edges) > 0);
-        expect_equal(&winding(2, q, answer), &want, &q)?;
+        let want = i128::from(winding(2, q, &edges) > 0);
+        expect_equal(&winding(2, q, &answer), &want, &q)?;
         filled = filled.wrapping_add(if want == 1 { 1 } else { 0 });
     }
     Ok(filled)
-}
-
-/// The filled shapes wind so by the drawing's edges. Answers at how many of the points they do.
-fn expect_counted(overlay: &Overlay<i32>, random: &mut Random) -> Result<u32, Fail> {
-    let edges = edges_of_segments(*overlay.segments.allocator(), &overlay.segments)?;
-    let answer = answered_edges(overlay, FillRule::Positive)?;
-    expect_wound(&edges, &answer, random)
 }
 
 /// A parallelogram from a corner of it along both vectors, or the same the other way round.
@@ -52,6 +50,7 @@ fn push_strip(
     wide: Spot,
     backwards: bool,
 ) -> Result<(), AllocError> {
+    let alloc = *overlay.segments.allocator();
     let mut spots = [
         corner,
         plus(corner, along),
@@ -61,14 +60,12 @@ fn push_strip(
     if backwards {
         spots.reverse();
     }
-    push_spots(overlay, &spots)
+    push_contour(&mut overlay.segments, &path(alloc, &spots)?)
 }
 
-/// A ground with strips: a corner of the ground, the side of it that its strips run along, and how wide a strip is, as a
+/// Grounds with strips: a corner of the ground, the side of it that its strips run along, and how wide a strip is, as a
 /// vector to the left of that side. The ground is 123 such widths wide, and neighbouring strips are one apart.
-type Ground = (Spot, Spot, Spot);
-
-const STRIPS: &[Ground] = &[
+const STRIPS: &[(Spot, Spot, Spot)] = &[
     ((-400, -350), (700, 300), (-2, 6)),
     ((300, -400), (-500, 600), (-6, -4)),
     ((100, 380), (10, -750), (6, 2)),
@@ -76,29 +73,22 @@ const STRIPS: &[Ground] = &[
 ];
 
 /// Long strips side by side on a ground: of three one is a hole, one is filled twice, and one is not there.
-fn push_ground(overlay: &mut Overlay<i32>, ground: Ground) -> Result<(), AllocError> {
-    let (corner, along, step) = ground;
-    push_strip(overlay, corner, along, times(123, step), false)?;
-    for number in 1..61 {
-        if number % 3 > 0 {
-            let beside = plus(corner, times(2i32.wrapping_mul(number), step));
-            let inner = plus(beside, (along.0 / 100, along.1 / 100));
-            let short = (along.0 / 20 * 19, along.1 / 20 * 19);
-            push_strip(overlay, inner, short, step, number % 3 == 1)?;
-        }
-    }
-    Ok(())
-}
-
-/// Grounds with strips in four directions.
 #[test]
 fn strips_aslope(rt: HostRuntime) -> Result<(), Fail> {
     let mut random = Random::new(7);
-    for ground in STRIPS {
+    for (corner, along, step) in STRIPS {
         let mut overlay = overlay_of(rt.alloc(), &[])?;
-        push_ground(&mut overlay, *ground)?;
+        push_strip(&mut overlay, *corner, *along, times(123, *step), false)?;
+        for number in 1..61 {
+            if number % 3 > 0 {
+                let beside = plus(*corner, times(2i32.wrapping_mul(number), *step));
+                let inner = plus(beside, (along.0 / 100, along.1 / 100));
+                let short = (along.0 / 20 * 19, along.1 / 20 * 19);
+                push_strip(&mut overlay, inner, short, *step, number % 3 == 1)?;
+            }
+        }
         let filled = expect_counted(&overlay, &mut random)?;
-        expect_that(filled > 20, &(ground, filled))?;
+        expect_that(filled > 20, &(corner, filled))?;
     }
     Ok(())
 }
@@ -128,29 +118,10 @@ fn rays_all_round(rt: HostRuntime) -> Result<(), Fail> {
             round(390, first.wrapping_add(1), 60),
             round(60, first.wrapping_add(1), 60),
         ];
-        push_spots(&mut overlay, &spots)?;
+        push_contour(&mut overlay.segments, &path(rt.alloc(), &spots)?)?;
     }
     let filled = expect_counted(&overlay, &mut random)?;
     expect_that(filled > 5, &filled)
-}
-
-/// A star whose corners lie on the squares of these two half sides in turn, or the same the other way round.
-fn push_star(
-    overlay: &mut Overlay<i32>,
-    halves: (i32, i32),
-    backwards: bool,
-) -> Result<(), AllocError> {
-    let mut spots = Vec::new(*overlay.segments.allocator());
-    for number in 0..120 {
-        let half = if number % 2 == 0 { halves.0 } else { halves.1 };
-        let place = if backwards {
-            119i32.wrapping_sub(number)
-        } else {
-            number
-        };
-        spots.push(round(half, place, 30))?;
-    }
-    push_spots(overlay, &spots)
 }
 
 /// One contour in and out all round, with a star of the other sense inside.
@@ -158,8 +129,19 @@ fn push_star(
 fn stars(rt: HostRuntime) -> Result<(), Fail> {
     let mut random = Random::new(9);
     let mut overlay = overlay_of(rt.alloc(), &[])?;
-    push_star(&mut overlay, (390, 150), false)?;
-    push_star(&mut overlay, (40, 10), true)?;
+    let mut outer = Vec::new(rt.alloc());
+    let mut inner = Vec::new(rt.alloc());
+    for number in 0..120 {
+        let (far, near) = if number % 2 == 0 {
+            (390, 40)
+        } else {
+            (150, 10)
+        };
+        outer.push(round(far, number, 30))?;
+        inner.push(round(near, 119i32.wrapping_sub(number), 30))?;
+    }
+    push_contour(&mut overlay.segments, &path(rt.alloc(), &outer)?)?;
+    push_contour(&mut overlay.segments, &path(rt.alloc(), &inner)?)?;
     let filled = expect_counted(&overlay, &mut random)?;
     expect_that(filled > 20, &filled)
 }

@@ -1,34 +1,20 @@
 //! Some thousands of edges, so many that only some of them are looked at to choose how they are listed, against a plain
 //! count of how often they wind round points away from them.
 
-use crate::answers::{answered_edges, overlay_of, push_spots};
+use crate::answers::{answered_shapes, overlay_of};
 use crate::hard_splits::is_near_some;
 use crate::random_answers::is_filled;
 use mesh_below::below::{FillRule, Overlay};
 use mesh_toolbox::compared::{expect_equal, expect_that};
-use mesh_toolbox::edges::edges_of_segments;
-use mesh_toolbox::plain::{Edge, winding};
+use mesh_toolbox::edges::{edges_of_segments, edges_of_shapes};
+use mesh_toolbox::lists::{path, push_contour};
+use mesh_toolbox::plain::winding;
 use mesh_toolbox::random::{Random, scattered};
 use std::alloc::{AllocError, Global};
 use std::test::Fail;
 
 /// How long and how wide the drawing is, in grid units.
 const SIDE: u32 = 400_000;
-
-/// Adds a contour of five points, in a square somewhere in the drawing.
-fn push_somewhere(
-    overlay: &mut Overlay<i32>,
-    random: &mut Random,
-    square: u32,
-) -> Result<(), AllocError> {
-    let corner = random.point(SIDE);
-    let alloc = *overlay.segments.allocator();
-    let mut spots = scattered(alloc, random, 5, square.clamp(1, SIDE))?;
-    for spot in &mut spots {
-        *spot = (spot.0.wrapping_add(corner.0), spot.1.wrapping_add(corner.1));
-    }
-    push_spots(overlay, &spots)
-}
 
 /// Contours of five points each, of which each lies in a square somewhere in the drawing.
 fn contours(
@@ -39,7 +25,12 @@ fn contours(
 ) -> Result<Overlay<i32>, AllocError> {
     let mut overlay = overlay_of(alloc, &[])?;
     for _ in 0..count {
-        push_somewhere(&mut overlay, random, square)?;
+        let corner = random.point(SIDE);
+        let mut spots = scattered(alloc, random, 5, square.clamp(1, SIDE))?;
+        for spot in &mut spots {
+            *spot = (spot.0.wrapping_add(corner.0), spot.1.wrapping_add(corner.1));
+        }
+        push_contour(&mut overlay.segments, &path(alloc, &spots)?)?;
     }
     Ok(overlay)
 }
@@ -47,30 +38,21 @@ fn contours(
 /// At random points that are more than two units away from each edge, the answer winds once where the edges' winding is
 /// filled, and else not at all. Answers at how many of them it is filled. (That no split of these drags an edge over
 /// such a point is measured, not promised.)
-fn expect_wound(
-    edges: &[Edge],
-    fill: FillRule,
-    answer: &[Edge],
-    random: &mut Random,
-) -> Result<u32, Fail> {
+fn expect_filled(overlay: &Overlay<i32>, fill: FillRule, random: &mut Random) -> Result<u32, Fail> {
+    let alloc = *overlay.segments.allocator();
+    let edges = edges_of_segments(alloc, &overlay.segments)?;
+    let answer = edges_of_shapes(alloc, &answered_shapes(overlay, fill)?)?;
     let mut filled = 0u32;
     for _ in 0..300 {
         let (x, y) = random.point(SIDE);
         let q = (i128::from(x), i128::from(y));
-        if !is_near_some(q, edges) {
-            let want = i128::from(is_filled(fill, winding(1, q, edges)));
-            expect_equal(&winding(1, q, answer), &want, &q)?;
+        if !is_near_some(q, &edges) {
+            let want = i128::from(is_filled(fill, winding(1, q, &edges)));
+            expect_equal(&winding(1, q, &answer), &want, &q)?;
             filled = filled.wrapping_add(if want == 1 { 1 } else { 0 });
         }
     }
     Ok(filled)
-}
-
-/// The overlay's answer winds so by its segments. Answers at how many of the points it does.
-fn expect_filled(overlay: &Overlay<i32>, fill: FillRule, random: &mut Random) -> Result<u32, Fail> {
-    let edges = edges_of_segments(*overlay.segments.allocator(), &overlay.segments)?;
-    let answer = answered_edges(overlay, fill)?;
-    expect_wound(&edges, fill, &answer, random)
 }
 
 /// Many small contours, and fewer that cross many others.

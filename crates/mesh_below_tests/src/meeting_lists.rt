@@ -3,7 +3,7 @@
 
 ghost use Rattle.std.specs.Prelude.{◌<◌};
 
-use crate::random_splits::{closed_edges, expect_split};
+use crate::random_splits::{expect_split, push_closed};
 use crate::splits::split_sorted;
 use mesh_below::grid::GridEdge;
 use mesh_toolbox::compared::expect_equal;
@@ -34,12 +34,16 @@ fn twins(alloc: Global, random: &mut Random) -> Result<Vec<GridEdge>, AllocError
         random.point(SIZE),
         random.point(SIZE),
     ];
-    closed_edges(alloc, &spots)
+    let mut edges = Vec::new(alloc);
+    push_closed(&mut edges, &spots)?;
+    Ok(edges)
 }
 
 /// Edges of which most cross many others.
 fn crowded(alloc: Global, random: &mut Random, count: u32) -> Result<Vec<GridEdge>, AllocError> {
-    closed_edges(alloc, &scattered(alloc, random, count, SIZE)?)
+    let mut edges = Vec::new(alloc);
+    push_closed(&mut edges, &scattered(alloc, random, count, SIZE)?)?;
+    Ok(edges)
 }
 
 /// Edges each of which stands up to three times, some the other way about.

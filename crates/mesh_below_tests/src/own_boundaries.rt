@@ -3,9 +3,7 @@
 use crate::answers::{Row, answered_shapes, expect_resolvable, overlay_of};
 use crate::counted::meet;
 use crate::random_answers::{again, expect_region, scattered_overlay};
-use mesh_below::below::{
-    ContourDirection, FillRule, IntOverlayOptions, Overlay, OverlayRule, arranged,
-};
+use mesh_below::below::{ContourDirection, FillRule, IntOverlayOptions, OverlayRule, arranged};
 use mesh_num::shape::buffer::IntShapes;
 use mesh_toolbox::compared::{expect_equal, expect_that};
 use mesh_toolbox::edges::edges_of_shapes;
@@ -80,38 +78,6 @@ fn options_of(number: u32) -> IntOverlayOptions<u64> {
     options
 }
 
-/// What the edges of these shapes are resolved to, by the options of this number.
-fn resolved_again(shapes: &IntShapes<i32>, number: u32) -> Result<IntShapes<i32>, Fail> {
-    let mut overlay = again(*shapes.allocator(), shapes)?;
-    overlay.options = options_of(number);
-    answered_shapes(&overlay, FillRule::Positive)
-}
-
-/// The edges of the shapes are their own boundary, and are arranged to what they are resolved to, by the options of
-/// this number.
-fn expect_arranged(
-    shapes: &IntShapes<i32>,
-    arranged: &IntShapes<i32>,
-    number: u32,
-) -> Result<(), Fail> {
-    let alloc = *shapes.allocator();
-    expect_own_boundary(&edges_of_shapes(alloc, shapes)?)?;
-    let wanted = sorted(alloc, &resolved_again(shapes, number)?)?;
-    expect_equal(&sorted(alloc, arranged)?, &wanted, &number)
-}
-
-/// Where edges are told to be their own boundary they are arranged as they ought to be. Answers whether they are.
-fn is_arranged(overlay: &Overlay<i32>, fill: FillRule, number: u32) -> Result<bool, Fail> {
-    expect_resolvable(overlay)?;
-    let answer = overlay.overlay_answer(OverlayRule::Subject, fill)?;
-    if answer.is_own_boundary {
-        let alloc = *overlay.segments.allocator();
-        let found = arranged(alloc, &answer.shapes, options_of(number))?;
-        expect_arranged(&answer.shapes, &found, number)?;
-    }
-    Ok(answer.is_own_boundary)
-}
-
 /// Where edges are told to be their own boundary they are, and are arranged to what they are resolved to, whatever the
 /// fill rule and the options of the overlay that answered them.
 #[test]
@@ -123,13 +89,22 @@ fn own_boundaries_are_arranged(rt: HostRuntime) -> Result<(), Fail> {
         if number % 4 == 0 {
             overlay.options = options_of(number / 4);
         }
+        expect_resolvable(&overlay)?;
         let fill = if number % 7 < 2 {
             FillRule::Negative
         } else {
             FillRule::Positive
         };
-        let is_arranged = is_arranged(&overlay, fill, number)?;
-        arranged_lists = arranged_lists.wrapping_add(if is_arranged { 1 } else { 0 });
+        let answer = overlay.overlay_answer(OverlayRule::Subject, fill)?;
+        if answer.is_own_boundary {
+            expect_own_boundary(&edges_of_shapes(rt.alloc(), &answer.shapes)?)?;
+            let mut overlay = again(rt.alloc(), &answer.shapes)?;
+            overlay.options = options_of(number);
+            let wanted = sorted(rt.alloc(), &answered_shapes(&overlay, FillRule::Positive)?)?;
+            let found = arranged(rt.alloc(), &answer.shapes, options_of(number))?;
+            expect_equal(&sorted(rt.alloc(), &found)?, &wanted, &number)?;
+            arranged_lists = arranged_lists.wrapping_add(1);
+        }
     }
     expect_that(arranged_lists > 100, &arranged_lists)
 }

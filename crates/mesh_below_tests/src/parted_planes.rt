@@ -2,7 +2,7 @@
 
 ghost use Rattle.std.specs.Prelude.{◌<◌, ◌^◌};
 
-use crate::random_splits::{closed_edges, expect_split, push_closed};
+use crate::random_splits::{expect_split, push_closed};
 use mesh_below::grid::GridEdge;
 use mesh_toolbox::random::{Random, scattered};
 use std::alloc::{AllocError, Global};
@@ -16,7 +16,9 @@ fn crowd(alloc: Global, random: &mut Random, size: u32) -> Result<Vec<GridEdge>,
     requires least { 0 < size }
     requires most { size < 2 ^ 31 }
 {
-    closed_edges(alloc, &scattered(alloc, random, COUNT, size)?)
+    let mut edges = Vec::new(alloc);
+    push_closed(&mut edges, &scattered(alloc, random, COUNT, size)?)?;
+    Ok(edges)
 }
 
 #[test]
@@ -29,21 +31,17 @@ fn crowds(rt: HostRuntime) -> Result<(), Fail> {
     Ok(())
 }
 
-/// Edges of one closed list whose points have one `x`, or one `y`.
-fn line(alloc: Global, random: &mut Random, is_column: bool) -> Result<Vec<GridEdge>, AllocError> {
-    let mut spots = scattered(alloc, random, COUNT, 14)?;
-    for spot in &mut spots {
-        *spot = if is_column { (5, spot.1) } else { (spot.0, 5) };
-    }
-    closed_edges(alloc, &spots)
-}
-
-/// The plane is parted along one axis alone.
+/// All points have one `x`, or one `y`, so the plane is parted along one axis alone.
 #[test]
 fn one_column_and_one_row(rt: HostRuntime) -> Result<(), Fail> {
     let mut random = Random::new(32);
     for round in 0u32..12 {
-        let edges = line(rt.alloc(), &mut random, round % 2 == 0)?;
+        let mut spots = Vec::new(rt.alloc());
+        for (x, y) in &scattered(rt.alloc(), &mut random, COUNT, 14)? {
+            spots.push(if round % 2 == 0 { (5, *y) } else { (*x, 5) })?;
+        }
+        let mut edges = Vec::new(rt.alloc());
+        push_closed(&mut edges, &spots)?;
         expect_split(rt.alloc(), &edges, false)?;
     }
     Ok(())
@@ -90,24 +88,20 @@ fn strips_side_by_side(rt: HostRuntime) -> Result<(), Fail> {
     Ok(())
 }
 
-/// Long edges that cross each other in the middle, in all directions.
-fn spikes(alloc: Global, random: &mut Random) -> Result<Vec<GridEdge>, AllocError> {
-    let mut spots = Vec::new(alloc);
-    for _ in 0..30 {
-        let (x, y) = random.point(3);
-        spots.push((x.wrapping_add(6), y.wrapping_add(6)))?;
-        let (x, y) = random.point(60);
-        spots.push((x.wrapping_sub(22), y.wrapping_sub(22)))?;
-    }
-    closed_edges(alloc, &spots)
-}
-
-/// The plane is parted along many of the spikes.
+/// Long edges that cross each other in the middle, in all directions, so the plane is parted along many of them.
 #[test]
 fn spikes_all_round(rt: HostRuntime) -> Result<(), Fail> {
     let mut random = Random::new(35);
     for _ in 0..4 {
-        let edges = spikes(rt.alloc(), &mut random)?;
+        let mut spots = Vec::new(rt.alloc());
+        for _ in 0..30 {
+            let (x, y) = random.point(3);
+            spots.push((x.wrapping_add(6), y.wrapping_add(6)))?;
+            let (x, y) = random.point(60);
+            spots.push((x.wrapping_sub(22), y.wrapping_sub(22)))?;
+        }
+        let mut edges = Vec::new(rt.alloc());
+        push_closed(&mut edges, &spots)?;
         expect_split(rt.alloc(), &edges, true)?;
     }
     Ok(())

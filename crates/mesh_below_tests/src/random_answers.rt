@@ -1,14 +1,14 @@
 //! Random closed lists, against a plain count of how often edges wind round points of the grid 2.
 
-use crate::answers::{answered_edges, answered_shapes, expect_resolvable, overlay_of, push_spots};
+use crate::answers::{answered_shapes, expect_resolvable, overlay_of};
 use crate::counted::{bent, counted, is_near};
 use crate::splits::split_sorted;
-use mesh_below::below::{ContourDirection, FillRule, Overlay, OverlayAnswer, OverlayRule};
+use mesh_below::below::{ContourDirection, FillRule, Overlay, OverlayRule};
 use mesh_below::given::grid_edge;
 use mesh_num::shape::buffer::IntShapes;
 use mesh_toolbox::compared::{expect_equal, expect_that};
 use mesh_toolbox::edges::{edges_of_segments, edges_of_shapes};
-use mesh_toolbox::lists::push_contour;
+use mesh_toolbox::lists::{path, push_contour};
 use mesh_toolbox::plain::{Edge, winding};
 use mesh_toolbox::random::{Random, scattered, slanted};
 use std::alloc::{AllocError, Global};
@@ -50,10 +50,11 @@ pub fn expect_region(
 /// By either rule the answer winds as the fill says, but for the boxes of bent edges. Answers at how many points it is
 /// filled.
 fn expect_regions(overlay: &Overlay<i32>, bent: &[Edge], once: i128) -> Result<u32, Fail> {
+    let alloc = *overlay.segments.allocator();
     let mut filled = 0u32;
-    let edges = edges_of_segments(*overlay.segments.allocator(), &overlay.segments)?;
+    let edges = edges_of_segments(alloc, &overlay.segments)?;
     for fill in [FillRule::Positive, FillRule::Negative] {
-        let answer = answered_edges(overlay, fill)?;
+        let answer = edges_of_shapes(alloc, &answered_shapes(overlay, fill)?)?;
         let here = expect_region(&edges, bent, fill, &answer, once)?;
         filled = filled.wrapping_add(here);
     }
@@ -68,7 +69,8 @@ fn slanted_overlay(
 ) -> Result<Overlay<i32>, AllocError> {
     let mut overlay = overlay_of(alloc, &[])?;
     for _ in 0..number % 3 + 1 {
-        push_spots(&mut overlay, &slanted(alloc, random, number % 5 + 2)?)?;
+        let spots = slanted(alloc, random, number % 5 + 2)?;
+        push_contour(&mut overlay.segments, &path(alloc, &spots)?)?;
     }
     Ok(overlay)
 }
@@ -81,7 +83,8 @@ pub fn scattered_overlay(
 ) -> Result<Overlay<i32>, AllocError> {
     let mut overlay = overlay_of(alloc, &[])?;
     for _ in 0..number % 3 + 1 {
-        push_spots(&mut overlay, &scattered(alloc, random, number % 5 + 3, 17)?)?;
+        let spots = scattered(alloc, random, number % 5 + 3, 17)?;
+        push_contour(&mut overlay.segments, &path(alloc, &spots)?)?;
     }
     Ok(overlay)
 }
@@ -139,43 +142,26 @@ pub fn again(alloc: Global, shapes: &IntShapes<i32>) -> Result<Overlay<i32>, All
     Ok(overlay)
 }
 
-/// The second answer is filled where the first one is, and where that is settled it has the same edges.
-fn expect_answered_again(
-    first: &OverlayAnswer<i32>,
-    second: &IntShapes<i32>,
-    number: u32,
-) -> Result<(), Fail> {
-    let alloc = *second.allocator();
-    let mut edges = edges_of_shapes(alloc, &first.shapes)?;
-    let mut answer = edges_of_shapes(alloc, second)?;
-    expect_region(&edges, &[], FillRule::Positive, &answer, 1)?;
-    if first.is_settled {
-        edges.sort_unstable();
-        answer.sort_unstable();
-        expect_equal(&edges, &answer, &number)?;
-    }
-    Ok(())
-}
-
-/// Hands an answer in again, and answers whether it is settled.
-fn is_settled(overlay: &Overlay<i32>, number: u32) -> Result<bool, Fail> {
-    expect_resolvable(overlay)?;
-    let first = overlay.overlay_answer(OverlayRule::Subject, FillRule::Positive)?;
-    let overlay = again(*overlay.segments.allocator(), &first.shapes)?;
-    let second = answered_shapes(&overlay, FillRule::Positive)?;
-    expect_answered_again(&first, &second, number)?;
-    Ok(first.is_settled)
-}
-
-/// Answers are answered when they are handed in again, and many are settled.
+/// Where the first answer is settled, the second has its edges.
 #[test]
 fn answers_handed_in_again_are_answered(rt: HostRuntime) -> Result<(), Fail> {
     let mut random = Random::new(4);
     let mut settled = 0u32;
     for number in 0u32..300 {
         let overlay = scattered_overlay(rt.alloc(), &mut random, number)?;
-        let is_settled = is_settled(&overlay, number)?;
-        settled = settled.wrapping_add(if is_settled { 1 } else { 0 });
+        expect_resolvable(&overlay)?;
+        let first = overlay.overlay_answer(OverlayRule::Subject, FillRule::Positive)?;
+        let mut edges = edges_of_shapes(rt.alloc(), &first.shapes)?;
+        let overlay = again(rt.alloc(), &first.shapes)?;
+        let second = answered_shapes(&overlay, FillRule::Positive)?;
+        let mut answer = edges_of_shapes(rt.alloc(), &second)?;
+        expect_region(&edges, &[], FillRule::Positive, &answer, 1)?;
+        if first.is_settled {
+            edges.sort_unstable();
+            answer.sort_unstable();
+            expect_equal(&edges, &answer, &number)?;
+            settled = settled.wrapping_add(1);
+        }
     }
     expect_that(settled > 100, &settled)
 }

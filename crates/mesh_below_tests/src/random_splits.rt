@@ -29,13 +29,6 @@ pub fn push_closed(edges: &mut Vec<GridEdge>, spots: &[(i32, i32)]) -> Result<()
     Ok(())
 }
 
-/// The edges of a closed list of points, but for those that end where they start.
-pub fn closed_edges(alloc: Global, spots: &[(i32, i32)]) -> Result<Vec<GridEdge>, AllocError> {
-    let mut edges = Vec::new(alloc);
-    push_closed(&mut edges, spots)?;
-    Ok(edges)
-}
-
 /// Edges that close up: one to four contours of three to six points in a square of `size`.
 fn contours(alloc: Global, random: &mut Random, size: u32) -> Result<Vec<GridEdge>, AllocError>
     requires least { 0 < size }
@@ -104,28 +97,19 @@ fn expect_same_winding(
     Ok(wound)
 }
 
-/// The segments count and wind as the edges do, but for the boxes of bent edges. Answers at how many points they wind.
-fn expect_same_counts(
-    alloc: Global,
-    edges: &[Edge],
-    segments: &[Counted],
-    bent: &[Edge],
-) -> Result<u32, Fail> {
-    let given = once_each(alloc, edges)?;
-    expect_same_excess(&given, segments)?;
-    expect_same_winding(&given, segments, bent)
-}
-
 /// All that split segments are, whether or not edges may be bent. Answers at how many points they wind.
 pub fn expect_split(alloc: Global, edges: &[GridEdge], may_bend: bool) -> Result<u32, Fail> {
     let segments = counted(alloc, &split_sorted(alloc, edges)?)?;
     let edges = plain_edges(alloc, edges)?;
+    let given = once_each(alloc, &edges)?;
+    let bent = if may_bend {
+        bent(alloc, &edges, &segments)?
+    } else {
+        Vec::new(alloc)
+    };
     expect_clean(&edges, &segments)?;
-    if !may_bend {
-        return expect_same_counts(alloc, &edges, &segments, &[]);
-    }
-    let bent = bent(alloc, &edges, &segments)?;
-    expect_same_counts(alloc, &edges, &segments, &bent)
+    expect_same_excess(&given, &segments)?;
+    expect_same_winding(&given, &segments, &bent)
 }
 
 #[test]

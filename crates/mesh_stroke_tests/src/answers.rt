@@ -52,8 +52,8 @@ fn expect_once<I: OverlayInt + Debug, S: IntShapeResource<I>>(
     buffer: &mut FlatContoursBuffer<I>,
 ) -> Result<(), Fail> {
     source.validate_stroke(style)?;
-    source.stroke_custom_into(alloc, style, is_closed, options, buffer)?;
     let shapes = source.stroke_custom(alloc, style, is_closed, options)?;
+    source.stroke_custom_into(alloc, style, is_closed, options, buffer)?;
     expect_answers(&shapes, buffer, wanted)
 }
 
@@ -65,8 +65,11 @@ pub fn expect<I: OverlayInt + Debug, S: IntShapeResource<I>>(
     is_closed: bool,
     wanted: &[&[&[(I, I)]]],
 ) -> Result<(), Fail> {
+    source.validate_stroke(style)?;
     let mut buffer = filled(alloc)?;
-    expect_by_default(alloc, source, style, is_closed, wanted, &mut buffer)?;
+    let shapes = source.stroke(alloc, style, is_closed)?;
+    source.stroke_into(alloc, style, is_closed, &mut buffer)?;
+    expect_answers(&shapes, &buffer, wanted)?;
     expect_custom(
         alloc,
         source,
@@ -75,19 +78,4 @@ pub fn expect<I: OverlayInt + Debug, S: IntShapeResource<I>>(
         IntOverlayOptions::new(),
         wanted,
     )
-}
-
-/// The same by the calls that name no options.
-fn expect_by_default<I: OverlayInt + Debug, S: IntShapeResource<I>>(
-    alloc: Global,
-    source: &S,
-    style: &IntStrokeStyle<I>,
-    is_closed: bool,
-    wanted: &[&[&[(I, I)]]],
-    buffer: &mut FlatContoursBuffer<I>,
-) -> Result<(), Fail> {
-    source.validate_stroke(style)?;
-    source.stroke_into(alloc, style, is_closed, buffer)?;
-    let shapes = source.stroke(alloc, style, is_closed)?;
-    expect_answers(&shapes, buffer, wanted)
 }

@@ -6,7 +6,7 @@ use mesh_num::num::Angle;
 
 /// Whether the style has this width, joins, slightest turn, and butt caps at these ends.
 fn is_style(
-    style: IntStrokeStyle<i16>,
+    style: &IntStrokeStyle<i16>,
     width: i16,
     join: IntLineJoin,
     turn: u32,
@@ -30,22 +30,22 @@ fn round() -> IntLineJoin {
 fn setters_of_a_style(rt: HostRuntime) {
     let turn = DEFAULT_MITER_MIN_TURN;
     let plain = IntStrokeStyle::new(7);
-    assert!(rt; is_style(plain, 7, IntLineJoin::Bevel, turn, (true, true)));
+    assert!(rt; is_style(&plain, 7, IntLineJoin::Bevel, turn, (true, true)));
     let square = IntStrokeStyle::new(7).start_cap(IntLineCap::Square);
-    assert!(rt; is_style(square, 7, IntLineJoin::Bevel, turn, (false, true)));
+    assert!(rt; is_style(&square, 7, IntLineJoin::Bevel, turn, (false, true)));
     let other = IntStrokeStyle::new(7)
         .start_cap(IntLineCap::Square)
         .end_cap(IntLineCap::Square)
         .start_cap(IntLineCap::Butt);
-    assert!(rt; is_style(other, 7, IntLineJoin::Bevel, turn, (true, false)));
+    assert!(rt; is_style(&other, 7, IntLineJoin::Bevel, turn, (true, false)));
     let joined = IntStrokeStyle::new(7)
         .end_cap(IntLineCap::Square)
         .line_join(round())
         .width(i16::MIN);
-    assert!(rt; is_style(joined, i16::MIN, round(), turn, (true, false)));
+    assert!(rt; is_style(&joined, i16::MIN, round(), turn, (true, false)));
     let turned = IntStrokeStyle::new(7)
         .end_cap(IntLineCap::Square)
         .miter_min_turn(Angle::from_bits(u32::MAX))
         .math(MathMode::Integer);
-    assert!(rt; is_style(turned, 7, IntLineJoin::Bevel, u32::MAX, (true, false)));
+    assert!(rt; is_style(&turned, 7, IntLineJoin::Bevel, u32::MAX, (true, false)));
 }

@@ -4,29 +4,37 @@
 ghost use Rattle.std.specs.Prelude.{◌≡◌};
 ghost use Rattle.mesh_stroke.specs.Styles.{stroke_style_of};
 
-use crate::styles::{CapRow, widened};
+use crate::styles::widened;
 use i_overlay_mesh::stroke::builder::StrokeBuilder;
 use i_overlay_mesh::stroke::offset::IntStrokeOffset;
 use mesh_join::arc::ArcOptions;
-use mesh_join::style::{IntLineJoin, IntStrokeStyle};
-use mesh_num::num::{Angle, IntPoint, OverlayInt};
+use mesh_join::style::{IntLineCap, IntLineJoin, IntStrokeStyle};
+use mesh_num::num::{Angle, OverlayInt};
 use mesh_num::shape::segment::Segment;
 use mesh_toolbox::compared::{expect_equal, expect_that};
 use mesh_toolbox::edges::edges_of_segments;
 use mesh_toolbox::plain::is_balanced;
 use std::alloc::{AllocError, Global};
 use std::fmt::Debug;
+use std::rc::RcSlice;
 use std::test::Fail;
 
-/// The caps of the test: stock ones, and a custom one of these points.
-fn caps(head: &'static [(i16, i16)]) -> [CapRow; 4] {
-    let arc = ArcOptions::default();
-    [
-        CapRow::Butt,
-        CapRow::Square,
-        CapRow::Round(arc.max_step.bits(), arc.rotation_precision),
-        CapRow::Custom(head),
-    ]
+/// The caps of the test by their number: stock ones, and an arrow's head that begins with a repeated point.
+fn cap<I: OverlayInt + From<i16>>(
+    alloc: Global,
+    number: u8,
+    radius: i16,
+) -> Result<IntLineCap<I>, AllocError> {
+    Ok(match number {
+        0 => IntLineCap::Butt,
+        1 => IntLineCap::Square,
+        2 => IntLineCap::Round(ArcOptions::default()),
+        _ => {
+            let low = radius.wrapping_neg();
+            let points = widened(alloc, &[(0, low), (0, low), (radius, 0), (0, radius)])?;
+            IntLineCap::Custom(RcSlice::from_vec(points)?)
+        }
+    })
 }
 
 /// The joins of the test by their number.
@@ -39,19 +47,18 @@ fn join(number: u8) -> IntLineJoin {
     }
 }
 
-/// The style of this width with the cap at both ends, and with the joins of this number.
+/// The style of this width with the cap and the join of these numbers.
 fn style<I: OverlayInt + From<i16>>(
     alloc: Global,
     width: i16,
-    cap: CapRow,
+    radius: i16,
+    number: u8,
     kind: u8,
 ) -> Result<IntStrokeStyle<I>, AllocError> {
-    let start = cap.cap(alloc)?;
-    let end = cap.cap(alloc)?;
     Ok(
         IntStrokeStyle::new(I::from(width))
-            .start_cap(start)
-            .end_cap(end)
+            .start_cap(cap(alloc, number, radius)?)
+            .end_cap(cap(alloc, number, radius)?)
             .line_join(join(kind)),
     )
 }
@@ -63,14 +70,15 @@ fn expect_proper<I: OverlayInt + From<i16> + Debug>(
     builder: &mut StrokeBuilder<'_, I>,
     style: &IntStrokeStyle<I>,
     form: (bool, bool),
-    points: &Vec<IntPoint<I>>,
+    end: (i16, i16),
 ) -> Result<(), Fail>
     requires { builder.old ≡ stroke_style_of I.value style.now }
     ensures { builder.new ≡ builder.old }
 {
+    let points = widened(alloc, &[(0, 0), (0, 0), (10, 0), end])?;
     points.validate_stroke(style)?;
     let mut segments = Vec::new(alloc);
-    builder.build(points, form.0, &mut segments)?;
+    builder.build(&points, form.0, &mut segments)?;
     expect_proper_segments(alloc, &segments, form.1, style)
 }
 
@@ -100,62 +108,42 @@ const FORMS: [(bool, (i16, i16)); 6] = [
     (true, (20, 1)),
 ];
 
-/// The builder adds proper segments for paths that turn, turn back and run nearly straight on, open and closed.
-fn expect_forms<I: OverlayInt + From<i16> + Debug>(
+/// One builder of the style, for paths that turn, turn back and run nearly straight on, open and closed.
+fn expect_all_proper<I: OverlayInt + From<i16> + Debug>(
     alloc: Global,
-    builder: &mut StrokeBuilder<'_, I>,
     style: &IntStrokeStyle<I>,
     is_drawn: bool,
-) -> Result<(), Fail>
-    requires { builder.old ≡ stroke_style_of I.value style.now }
-{
+) -> Result<(), Fail> {
+    let mut builder = StrokeBuilder::new(alloc, style);
     for (is_closed, end) in &FORMS {
-        let points = widened(alloc, &[(0, 0), (0, 0), (10, 0), *end])?;
-        expect_proper(alloc, builder, style, (*is_closed, is_drawn), &points)?;
+        expect_proper(alloc, &mut builder, style, (*is_closed, is_drawn), *end)?;
     }
     Ok(())
 }
 
-/// One builder of the style, for all paths.
-fn expect_style<I: OverlayInt + From<i16> + Debug>(
-    alloc: Global,
-    width: i16,
-    cap: CapRow,
-    kind: u8,
-) -> Result<(), Fail> {
-    let style = style::<I>(alloc, width, cap, kind)?;
-    let mut builder = StrokeBuilder::new(alloc, &style);
-    expect_forms(alloc, &mut builder, &style, width > 2)
-}
-
-/// All caps and joins with this width, the custom cap with these points.
+/// All caps and joins with this width; half of it, rounded up, is the radius.
 fn expect_width<I: OverlayInt + From<i16> + Debug>(
     alloc: Global,
     width: i16,
-    head: &'static [(i16, i16)],
+    radius: i16,
 ) -> Result<(), Fail> {
-    for cap in &caps(head) {
+    for number in 0..4u8 {
         for kind in 0..4u8 {
-            expect_style::<I>(alloc, width, *cap, kind)?;
+            let style = style(alloc, width, radius, number, kind)?;
+            expect_all_proper::<I>(alloc, &style, width > 2)?;
         }
     }
     Ok(())
 }
 
-/// Widths, and arrows' heads as wide that begin with a repeated point.
-const WIDTHS: [(i16, &[(i16, i16)]); 5] = [
-    (0, &[(0, 0), (0, 0), (0, 0), (0, 0)]),
-    (1, &[(0, -1), (0, -1), (1, 0), (0, 1)]),
-    (2, &[(0, -1), (0, -1), (1, 0), (0, 1)]),
-    (4, &[(0, -2), (0, -2), (2, 0), (0, 2)]),
-    (1024, &[(0, -512), (0, -512), (512, 0), (0, 512)]),
-];
+/// Widths and their radii.
+const WIDTHS: [(i16, i16); 5] = [(0, 0), (1, 1), (2, 1), (4, 2), (1024, 512)];
 
 #[test]
 fn joins_and_caps_skip_collapsed_edges(rt: HostRuntime) -> Result<(), Fail> {
-    for (width, head) in &WIDTHS {
-        expect_width::<i16>(rt.alloc(), *width, head)?;
-        expect_width::<i32>(rt.alloc(), *width, head)?;
+    for (width, radius) in &WIDTHS {
+        expect_width::<i16>(rt.alloc(), *width, *radius)?;
+        expect_width::<i32>(rt.alloc(), *width, *radius)?;
     }
     Ok(())
 }

@@ -3,7 +3,6 @@
 
 use crate::styles::{CapRow, StyleRow};
 use mesh_toolbox::directions::{direction, part, turned};
-use mesh_toolbox::edges::{plain_points, wide};
 use mesh_toolbox::joins::{Corner, JoinKind};
 use mesh_toolbox::plain::{Edge, Point, closed, cross, fan, holds, minus, plus, winding};
 use std::alloc::{AllocError, Global};
@@ -98,7 +97,12 @@ impl Pen {
         kind: CapRow,
         section: Edge,
     ) -> Result<Vec<[Point; 3]>, AllocError> {
-        fan(alloc, section.1, &self.cap_list(alloc, kind, section)?)
+        let (end, left) = (section.1, self.leftwards(section));
+        fan(
+            alloc,
+            end,
+            &self.cap_list(alloc, kind, section, (minus(end, left), plus(end, left)))?,
+        )
     }
 
     /// The points that a cap at the end of a section runs through, with those beside the end.
@@ -107,52 +111,37 @@ impl Pen {
         alloc: Global,
         kind: CapRow,
         section: Edge,
+        (right, left): Edge,
     ) -> Result<Vec<Point>, AllocError> {
-        let half_turn = self.half_turn(section);
+        let (end, outward) = (section.1, self.heading(section));
+        let mut list = Vec::new(alloc);
         if let CapRow::Round(bits, precision) = kind {
+            let half_turn = Corner {
+                unit: self.unit,
+                center: end,
+                from: right,
+                to: left,
+                incoming: outward,
+                outgoing: self.heading(back(section)),
+                radius: self.radius,
+                sense: 1,
+            };
             return half_turn.join_list(alloc, JoinKind::Round(bits, precision));
         }
-        let mut list = Vec::new(alloc);
-        list.push(half_turn.from)?;
-        self.push_between(&mut list, kind, half_turn)?;
-        list.push(half_turn.to)?;
-        Ok(list)
-    }
-
-    /// The corner round the end of a section, from its right to its left.
-    fn half_turn(self, section: Edge) -> Corner {
-        let (end, left) = (section.1, self.leftwards(section));
-        Corner {
-            unit: self.unit,
-            center: end,
-            from: minus(end, left),
-            to: plus(end, left),
-            incoming: self.heading(section),
-            outgoing: self.heading(back(section)),
-            radius: self.radius,
-            sense: 1,
-        }
-    }
-
-    /// Adds the points of a square or custom cap that lie between those beside the end.
-    fn push_between(
-        self,
-        list: &mut Vec<Point>,
-        kind: CapRow,
-        half_turn: Corner,
-    ) -> Result<(), AllocError> {
+        list.push(right)?;
         if let CapRow::Square = kind {
-            let onward = part(half_turn.incoming, self.radius, self.unit);
-            list.push(plus(half_turn.from, onward))?;
-            list.push(plus(half_turn.to, onward))?;
+            let onward = part(outward, self.radius, self.unit);
+            list.push(plus(right, onward))?;
+            list.push(plus(left, onward))?;
         }
         if let CapRow::Custom(points) = kind {
             for (x, y) in points {
-                let point = turned(self.unit, half_turn.incoming, (wide(*x), wide(*y)));
-                list.push(plus(half_turn.center, point))?;
+                let point = (i128::from(*x), i128::from(*y));
+                list.push(plus(end, turned(self.unit, outward, point)))?;
             }
         }
-        Ok(())
+        list.push(left)?;
+        Ok(list)
     }
 }
 
@@ -161,11 +150,10 @@ impl Pieces {
     pub fn of_stroke(
         alloc: Global,
         unit: i128,
-        path: &[(i16, i16)],
+        points: &[Point],
         is_closed: bool,
         style: StyleRow,
     ) -> Result<Pieces, AllocError> {
-        let sections = sections(alloc, &plain_points(alloc, path)?, is_closed)?;
         let pen = Pen {
             unit,
             radius: radius(style.width),
@@ -174,6 +162,7 @@ impl Pieces {
         let mut pieces = Pieces {
             boundaries: Vec::new(alloc),
         };
+        let sections = sections(alloc, points, is_closed)?;
         if pen.radius > 1 {
             pieces.push_sections(alloc, pen, &sections)?;
             pieces.push_corners(alloc, pen, &sections, is_closed)?;
@@ -184,8 +173,8 @@ impl Pieces {
         Ok(pieces)
     }
 
-    fn push(&mut self, alloc: Global, triangles: Vec<[Point; 3]>) -> Result<(), AllocError> {
-        for triangle in &triangles {
+    fn push(&mut self, alloc: Global, triangles: &[[Point; 3]]) -> Result<(), AllocError> {
+        for triangle in triangles {
             self.boundaries.push(closed(alloc, triangle)?)?;
         }
         Ok(())
@@ -209,7 +198,7 @@ impl Pieces {
         let mut before = if is_closed { all.last().copied() } else { None };
         for section in all {
             if let Some(previous) = before {
-                self.push(alloc, pen.join(alloc, previous, *section)?)?;
+                self.push(alloc, &pen.join(alloc, previous, *section)?)?;
             }
             before = Some(*section);
         }
@@ -224,8 +213,8 @@ impl Pieces {
         style: StyleRow,
     ) -> Result<(), AllocError> {
         if let (Some(first), Some(last)) = (all.first(), all.last()) {
-            self.push(alloc, pen.cap(alloc, style.start, back(*first))?)?;
-            self.push(alloc, pen.cap(alloc, style.end, *last)?)?;
+            self.push(alloc, &pen.cap(alloc, style.start, back(*first))?)?;
+            self.push(alloc, &pen.cap(alloc, style.end, *last)?)?;
         }
         Ok(())
     }

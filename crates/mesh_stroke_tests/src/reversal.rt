@@ -1,6 +1,6 @@
 //! Paths read backwards with their caps exchanged: the stroke's edges are the same, but for pairs that cancel.
 
-use crate::drawn::{drawn, drawn_backwards};
+use crate::drawn::drawn;
 use crate::styles::{CapRow, StyleRow};
 use mesh_num::num::OverlayInt;
 use mesh_toolbox::compared::{expect_that, have_same_counts};
@@ -45,8 +45,10 @@ fn expect_same_backwards<I: OverlayInt + From<i16>>(
     is_closed: bool,
     style: StyleRow,
 ) -> Result<(), Fail> {
+    let mut back = Vec::from_slice(alloc, path)?;
+    back.reverse();
     let edges = drawn::<I>(alloc, path, is_closed, style)?;
-    let other = drawn_backwards::<I>(alloc, path, is_closed, style)?;
+    let other = drawn::<I>(alloc, &back, is_closed, style.exchanged())?;
     expect_that(have_same_counts(&edges, &other), &(path, is_closed, style))
 }
 

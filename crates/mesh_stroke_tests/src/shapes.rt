@@ -7,8 +7,6 @@ use mesh_below::below::{ContourDirection, IntOverlayOptions};
 use mesh_join::style::IntStrokeStyle;
 use mesh_num::num::{IntPoint, OverlayInt};
 use mesh_num::shape::path_slice::PathSlice;
-use mesh_num::shape::resource::IntShapeResource;
-use mesh_num::shape::segment::Segment;
 use mesh_toolbox::compared::expect_equal;
 use mesh_toolbox::edges::edges_of_segments;
 use mesh_toolbox::joins::JoinKind;
@@ -301,24 +299,19 @@ const SPIKES: &[Case] = &[
     ),
 ];
 
-/// The case is answered so.
-fn expect_case(alloc: Global, case: &Case) -> Result<(), Fail> {
-    let (given, is_closed, width, join, (start, end), wanted) = *case;
-    let row = StyleRow {
-        width,
-        join,
-        start,
-        end,
-    };
-    let source = paths(alloc, given)?;
-    let style = row.style::<i32>(alloc)?;
-    expect(alloc, &source, &style, is_closed, wanted)
-}
-
 /// Each of the cases is answered so.
 fn expect_cases(alloc: Global, cases: &[Case]) -> Result<(), Fail> {
     for case in cases {
-        expect_case(alloc, case)?;
+        let (given, is_closed, width, join, (start, end), wanted) = *case;
+        let row = StyleRow {
+            width,
+            join,
+            start,
+            end,
+        };
+        let source = paths(alloc, given)?;
+        let style = row.style::<i32>(alloc)?;
+        expect(alloc, &source, &style, is_closed, wanted)?;
     }
     Ok(())
 }
@@ -336,9 +329,7 @@ const TWO: &[Path] = &[&[(0, 0), (4, 0)], &[(20, 0), (25, 0), (30, 0)]];
 
 /// The least area, whether outer contours run clockwise and vertices stay that contours run straight through, and the
 /// stroke of the two lines.
-type Options = (u64, bool, &'static [&'static [Path]]);
-
-const OPTIONS: &[Options] = &[
+const OPTIONS: &[(u64, bool, &[&[Path]])] = &[
     (
         0,
         false,
@@ -358,98 +349,58 @@ const OPTIONS: &[Options] = &[
     (41, true, &[]),
 ];
 
-/// With these options the two lines have this stroke.
-fn expect_options(alloc: Global, row: &Options) -> Result<(), Fail> {
-    let (area, other, wanted) = *row;
-    let mut options = IntOverlayOptions::new();
-    options.min_output_area = area;
-    options.preserve_output_collinear = other;
-    if other {
-        options.output_direction = ContourDirection::Clockwise;
-    }
-    let source = paths(alloc, TWO)?;
-    let style = IntStrokeStyle::new(4);
-    expect_custom(alloc, &source, &style, false, options, wanted)
-}
-
 #[test]
 fn options_are_handed_on(rt: HostRuntime) -> Result<(), Fail> {
-    for row in OPTIONS {
-        expect_options(rt.alloc(), row)?;
+    let source = paths(rt.alloc(), TWO)?;
+    let style = IntStrokeStyle::new(4);
+    for case in OPTIONS {
+        let (area, other, wanted) = *case;
+        let mut options = IntOverlayOptions::new();
+        options.min_output_area = area;
+        options.preserve_output_collinear = other;
+        if other {
+            options.output_direction = ContourDirection::Clockwise;
+        }
+        expect_custom(rt.alloc(), &source, &style, false, options, wanted)?;
     }
     Ok(())
 }
 
-const SMALL_LINE: &[(i16, i16)] = &[(0, 0), (8192, 0)];
-
 const SMALL_WIDE_LINE: &[(i16, i16)] = outer!(0, -1024, 8192, 1024);
-
-/// The source has the stroke of the line, at the smaller width.
-fn expect_line<S: IntShapeResource<i16>>(alloc: Global, source: &S) -> Result<(), Fail> {
-    let style = IntStrokeStyle::<i16>::new(2048);
-    expect(alloc, source, &style, false, &[&[SMALL_WIDE_LINE]])
-}
-
-/// The line as a path, as a slice and as an array.
-fn expect_line_alone(alloc: Global, line: &Vec<IntPoint<i16>>) -> Result<(), Fail> {
-    expect_line(alloc, line)?;
-    expect_line(alloc, &PathSlice::new(line.as_slice()))?;
-    expect_line(alloc, &[IntPoint::new(0, 0), IntPoint::new(8192, 0)])
-}
-
-/// The line in two of three shapes.
-fn expect_line_in_shapes(alloc: Global) -> Result<(), Fail> {
-    let grouped = shapes(alloc, &[&[SMALL_LINE], &[], &[SMALL_LINE]])?;
-    expect_line(alloc, &grouped)
-}
-
-/// The line as both paths of an array.
-fn expect_line_twice(alloc: Global) -> Result<(), Fail> {
-    let two = [path(alloc, SMALL_LINE)?, path(alloc, SMALL_LINE)?];
-    expect_line(alloc, &two)
-}
 
 /// Sources of every type with the line, at the smaller width.
 #[test]
 fn sources(rt: HostRuntime) -> Result<(), Fail> {
-    expect_line_alone(rt.alloc(), &path(rt.alloc(), SMALL_LINE)?)?;
-    expect_line_in_shapes(rt.alloc())?;
-    expect_line_twice(rt.alloc())
-}
-
-/// So often the edges wind round a point in the middle of the path.
-fn expect_winding<I: OverlayInt>(
-    alloc: Global,
-    segments: &[Segment<I>],
-    count: u8,
-) -> Result<(), Fail> {
-    let edges = edges_of_segments(alloc, segments)?;
-    expect_equal(
-        &winding(1, (50, 0), &edges),
-        &i128::from(count),
-        &"in a path",
-    )
-}
-
-/// Each time that the path is drawn, the edges wind once more.
-fn expect_more<I: OverlayInt>(
-    alloc: Global,
-    path: &Vec<IntPoint<I>>,
-    style: &IntStrokeStyle<I>,
-) -> Result<(), Fail> {
-    let mut segments = Vec::new(alloc);
-    for count in 1..3u8 {
-        add_stroke(alloc, path, false, style, &mut segments)?;
-        expect_winding(alloc, &segments, count)?;
-    }
-    Ok(())
+    let style = IntStrokeStyle::<i16>::new(2048);
+    let line: &[(i16, i16)] = &[(0, 0), (8192, 0)];
+    let wanted: &[&[&[(i16, i16)]]] = &[&[SMALL_WIDE_LINE]];
+    let points = path(rt.alloc(), line)?;
+    expect(rt.alloc(), &points, &style, false, wanted)?;
+    let slice = PathSlice::new(points.as_slice());
+    expect(rt.alloc(), &slice, &style, false, wanted)?;
+    let array = [IntPoint::new(0, 0), IntPoint::new(8192, 0)];
+    expect(rt.alloc(), &array, &style, false, wanted)?;
+    let grouped = shapes(rt.alloc(), &[&[line], &[], &[line]])?;
+    expect(rt.alloc(), &grouped, &style, false, wanted)?;
+    let two = [path(rt.alloc(), line)?, path(rt.alloc(), line)?];
+    expect(rt.alloc(), &two, &style, false, wanted)
 }
 
 /// The edges of a path that is drawn twice wind twice as often.
 fn expect_twice<I: OverlayInt + From<i16>>(alloc: Global) -> Result<(), Fail> {
-    let points = widened::<I>(alloc, &[(0, 0), (100, 0)])?;
+    let points = widened(alloc, &[(0, 0), (100, 0)])?;
     let style = IntStrokeStyle::new(I::from(20));
-    expect_more(alloc, &points, &style)
+    let mut segments = Vec::new(alloc);
+    for count in 1..3u8 {
+        add_stroke(alloc, &points, false, &style, &mut segments)?;
+        let edges = edges_of_segments(alloc, &segments)?;
+        expect_equal(
+            &winding(1, (50, 0), &edges),
+            &i128::from(count),
+            &"in a path",
+        )?;
+    }
+    Ok(())
 }
 
 #[test]

@@ -1,6 +1,6 @@
 //! The builder and the plain program of pieces give the stored strokes.
 
-use crate::drawn::{drawn, expect_loops};
+use crate::drawn::{drawn, loops};
 use crate::pieces::Pieces;
 use crate::styles::StyleRow;
 use crate::tables::large_strokes::LARGE_STROKES;
@@ -8,8 +8,8 @@ use crate::tables::small_strokes::SMALL_STROKES;
 use crate::tables::strokes::STROKES;
 use crate::tables::{StrokeRow, StyleParts};
 use mesh_num::num::OverlayInt;
-use mesh_toolbox::compared::expect_equal;
-use mesh_toolbox::edges::wide;
+use mesh_toolbox::compared::{are_same_edges, expect_equal, expect_that};
+use mesh_toolbox::edges::{plain_points, wide};
 use std::alloc::Global;
 use std::test::Fail;
 
@@ -24,16 +24,13 @@ fn style((width, join, start, end): StyleParts) -> StyleRow {
 
 /// At the width `I` the builder adds the stored edges, and the plain program makes pieces that wind as stored.
 fn expect_stored<I: OverlayInt + From<i16>>(alloc: Global, row: &StrokeRow) -> Result<(), Fail> {
-    let (path, is_closed, parts, wanted, _) = *row;
-    let edges = drawn::<I>(alloc, path, is_closed, style(parts))?;
-    expect_loops(alloc, edges, wanted, row)?;
-    expect_windings(alloc, wide(I::UNIT), row)
-}
-
-/// In this unit the plain program makes pieces that wind as stored.
-fn expect_windings(alloc: Global, unit: i128, row: &StrokeRow) -> Result<(), Fail> {
-    let (path, is_closed, parts, _, spots) = *row;
-    let pieces = Pieces::of_stroke(alloc, unit, path, is_closed, style(parts))?;
+    let (path, is_closed, parts, wanted, spots) = *row;
+    let style = style(parts);
+    let edges = drawn::<I>(alloc, path, is_closed, style)?;
+    let is_same = are_same_edges(edges, loops(alloc, wanted)?)?;
+    expect_that(is_same, row)?;
+    let points = plain_points(alloc, path)?;
+    let pieces = Pieces::of_stroke(alloc, wide(I::UNIT), &points, is_closed, style)?;
     for (m, q, want) in &spots {
         expect_equal(&pieces.sum(*m, *q), want, &(q, m, row))?;
     }

@@ -69,14 +69,12 @@ impl StyleRow {
         alloc: Global,
     ) -> Result<IntStrokeStyle<I>, AllocError> {
         let (join, min_turn) = join_of(self.join);
-        let start = self.start.cap(alloc)?;
-        let end = self.end.cap(alloc)?;
         Ok(
             IntStrokeStyle::new(I::from(self.width))
                 .line_join(join)
                 .miter_min_turn(Angle::from_bits(min_turn))
-                .start_cap(start)
-                .end_cap(end),
+                .start_cap(self.start.cap(alloc)?)
+                .end_cap(self.end.cap(alloc)?),
         )
     }
 

@@ -19,6 +19,6 @@ pub type StrokeRow = (
     &'static [(i16, i16)],
     bool,
     StyleParts,
-    &'static str,
+    &'static [&'static [Point]],
     [(i128, Point, i128); 3],
 );

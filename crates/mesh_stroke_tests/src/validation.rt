@@ -4,13 +4,13 @@ use crate::styles::{CapRow, Caps, StyleRow};
 use i_overlay_mesh::IntOutlineError;
 use i_overlay_mesh::stroke::offset::IntStrokeOffset;
 use i_overlay_mesh::stroke::radius::{padding, stroke_radius};
-use mesh_join::style::{IntLineCap, IntStrokeStyle};
-use mesh_num::num::{IntPoint, OverlayInt};
+use mesh_join::arc::ArcOptions;
+use mesh_join::style::{IntLineCap, IntLineJoin, IntStrokeStyle};
+use mesh_num::num::{Angle, OverlayInt};
 use mesh_toolbox::compared::expect_equal;
 use mesh_toolbox::joins::JoinKind;
 use mesh_toolbox::lists::path;
 use std::alloc::{AllocError, Global};
-use std::fmt::Debug;
 use std::rc::RcSlice;
 use std::test::Fail;
 
@@ -178,48 +178,35 @@ const ROWS: &[Row] = &[
     ),
 ];
 
-/// The style reaches so far, which the type does not bound.
-fn expect_reach<I: OverlayInt>(
-    style: &IntStrokeStyle<I>,
-    reach: I::Wide,
-    case: &impl Debug,
-) -> Result<(), Fail> {
-    let found = I::wide_to_i128(padding(style));
-    expect_equal(&found, &I::wide_to_i128(reach), case)
-}
-
-/// The style reaches so far, and may stroke the path or not.
-fn expect_answers<I: OverlayInt>(
-    path: &Vec<IntPoint<I>>,
-    style: &IntStrokeStyle<I>,
-    reach: I::Wide,
-    want: Result<(), IntOutlineError>,
-    case: &impl Debug,
-) -> Result<(), Fail> {
-    expect_reach(style, reach, case)?;
-    expect_equal(&path.validate_stroke(style), &want, case)
-}
-
-/// The row is answered so, and its style reaches so far at the larger width too.
-fn expect_row(alloc: Global, row: &Row) -> Result<(), Fail> {
-    let (points, width, join, (start, end), reach, want) = *row;
-    let style = StyleRow {
-        width,
-        join,
-        start,
-        end,
-    };
-    expect_reach(&style.style::<i32>(alloc)?, i64::from(reach), row)?;
-    let points = path(alloc, points)?;
-    expect_answers(&points, &style.style::<i16>(alloc)?, reach, want, row)
-}
-
+/// Each row is answered so, and its style reaches so far, which the types do not bound.
 #[test]
 fn small_paths(rt: HostRuntime) -> Result<(), Fail> {
     for row in ROWS {
-        expect_row(rt.alloc(), row)?;
+        let (points, width, join, (start, end), reach, want) = *row;
+        let style = StyleRow {
+            width,
+            join,
+            start,
+            end,
+        };
+        expect_reach::<i32>(rt.alloc(), style, i64::from(reach))?;
+        expect_reach::<i16>(rt.alloc(), style, reach)?;
+        let points = path(rt.alloc(), points)?;
+        let found = points.validate_stroke(&style.style(rt.alloc())?);
+        expect_equal(&found, &want, row)?;
     }
     Ok(())
+}
+
+/// The style of the row reaches so far.
+fn expect_reach<I: OverlayInt + From<i16>>(
+    alloc: Global,
+    row: StyleRow,
+    reach: I::Wide,
+) -> Result<(), Fail> {
+    let style = row.style::<I>(alloc)?;
+    let found = I::wide_to_i128(padding(&style));
+    expect_equal(&found, &I::wide_to_i128(reach), &row)
 }
 
 /// A point, a width, a custom point at both ends, how far the stroke reaches, and whether it may be drawn.
@@ -260,18 +247,14 @@ fn pointed(
     )
 }
 
-/// The row is answered so.
-fn expect_large_row(alloc: Global, row: &LargeRow) -> Result<(), Fail> {
-    let (point, width, custom, reach, want) = *row;
-    let points = path(alloc, &[point])?;
-    let style = pointed(alloc, width, custom)?;
-    expect_answers(&points, &style, reach, want, row)
-}
-
 #[test]
 fn large_paths(rt: HostRuntime) -> Result<(), Fail> {
     for row in LARGE_ROWS {
-        expect_large_row(rt.alloc(), row)?;
+        let (point, width, custom, reach, want) = *row;
+        let style = pointed(rt.alloc(), width, custom)?;
+        expect_equal(&padding(&style), &reach, row)?;
+        let points = path(rt.alloc(), &[point])?;
+        expect_equal(&points.validate_stroke(&style), &want, row)?;
     }
     Ok(())
 }

@@ -5,7 +5,7 @@ use crate::pieces::Pieces;
 use crate::styles::{CapRow, StyleRow};
 use mesh_num::num::OverlayInt;
 use mesh_toolbox::compared::{expect_equal, expect_that};
-use mesh_toolbox::edges::wide;
+use mesh_toolbox::edges::{plain_points, wide};
 use mesh_toolbox::joins::JoinKind;
 use mesh_toolbox::plain::{Edge, Point, is_balanced, plus, refined, winding};
 use mesh_toolbox::random::{Random, small_path};
@@ -26,27 +26,11 @@ impl Stroke {
         is_closed: bool,
         style: StyleRow,
     ) -> Result<Stroke, Fail> {
+        let points = plain_points(alloc, path)?;
         Ok(Stroke {
             edges: drawn::<I>(alloc, path, is_closed, style)?,
-            pieces: Pieces::of_stroke(alloc, wide(I::UNIT), path, is_closed, style)?,
+            pieces: Pieces::of_stroke(alloc, wide(I::UNIT), &points, is_closed, style)?,
         })
-    }
-
-    /// The edges close up, and up to a distance of 2 from each vertex, in each coordinate, they wind as the pieces
-    /// together; where no cap is a custom one that is by their number.
-    fn expect_near_vertices(
-        &self,
-        path: &[(i16, i16)],
-        is_closed: bool,
-        style: StyleRow,
-    ) -> Result<(), Fail> {
-        expect_that(is_balanced(&self.edges), &(path, is_closed, style))?;
-        let is_counted = is_closed || (is_stock(style.start) && is_stock(style.end));
-        for (x, y) in path {
-            let vertex = (wide(*x), wide(*y));
-            self.expect_near(refined(2, vertex), 4, is_counted)?;
-        }
-        Ok(())
     }
 
     /// Up to this distance from a point of the grid 2 the edges wind as the pieces together, or as often as they count.
@@ -77,7 +61,8 @@ impl Stroke {
     }
 }
 
-/// The edges of the stroke close up, and wind near the vertices as its pieces.
+/// The edges close up, and up to a distance of 2 from each vertex, in each coordinate, they wind as the pieces
+/// together; where no cap is a custom one that is by their number.
 fn expect_near<I: OverlayInt + From<i16>>(
     alloc: Global,
     path: &[(i16, i16)],
@@ -85,7 +70,12 @@ fn expect_near<I: OverlayInt + From<i16>>(
     style: StyleRow,
 ) -> Result<(), Fail> {
     let stroke = Stroke::new::<I>(alloc, path, is_closed, style)?;
-    stroke.expect_near_vertices(path, is_closed, style)
+    expect_that(is_balanced(&stroke.edges), &(path, is_closed, style))?;
+    let is_counted = is_closed || (is_stock(style.start) && is_stock(style.end));
+    for vertex in &plain_points(alloc, path)? {
+        stroke.expect_near(refined(2, *vertex), 4, is_counted)?;
+    }
+    Ok(())
 }
 
 fn is_stock(cap: CapRow) -> bool {

@@ -1,9 +1,11 @@
 //! Worked strokes, from outside the program: their edges.
 
-use crate::drawn::{drawn, drawn_backwards, expect_loops};
+use crate::drawn::{drawn, loops};
 use crate::styles::{CapRow, Caps, StyleRow};
 use mesh_num::num::OverlayInt;
+use mesh_toolbox::compared::{are_same_edges, expect_that};
 use mesh_toolbox::joins::JoinKind;
+use mesh_toolbox::plain::{Edge, Point};
 use std::alloc::Global;
 use std::test::Fail;
 
@@ -31,7 +33,7 @@ type Row = (
     i16,
     JoinKind,
     Caps,
-    &'static str,
+    &'static [&'static [Point]],
 );
 
 const BUTTS: Caps = (CapRow::Butt, CapRow::Butt);
@@ -45,7 +47,7 @@ const LINES: &[Row] = &[
         2048,
         JoinKind::Bevel,
         BUTTS,
-        "0 -1024, 8192 -1024, 8192 1024, 0 1024",
+        &[&[(0, -1024), (8192, -1024), (8192, 1024), (0, 1024)]],
     ),
     (
         LINE,
@@ -53,25 +55,34 @@ const LINES: &[Row] = &[
         2048,
         JoinKind::Bevel,
         SQUARES,
-        "0 -1024, 8192 -1024, 9216 -1024, 9216 1024, 8192 1024, 0 1024, -1024 1024, -1024 -1024",
+        &[&[
+            (0, -1024),
+            (8192, -1024),
+            (9216, -1024),
+            (9216, 1024),
+            (8192, 1024),
+            (0, 1024),
+            (-1024, 1024),
+            (-1024, -1024),
+        ]],
     ),
-    (SHORT_LINE, false, -5, JoinKind::Bevel, SQUARES, ""),
-    (SHORT_LINE, false, 0, JoinKind::Bevel, BUTTS, ""),
-    (SHORT_LINE, false, 1, JoinKind::Bevel, BUTTS, ""),
-    (SHORT_LINE, false, 2, JoinKind::Bevel, BUTTS, ""),
-    (SHORT_LINE, true, 2, ROUND, BUTTS, ""),
+    (SHORT_LINE, false, -5, JoinKind::Bevel, SQUARES, &[]),
+    (SHORT_LINE, false, 0, JoinKind::Bevel, BUTTS, &[]),
+    (SHORT_LINE, false, 1, JoinKind::Bevel, BUTTS, &[]),
+    (SHORT_LINE, false, 2, JoinKind::Bevel, BUTTS, &[]),
+    (SHORT_LINE, true, 2, ROUND, BUTTS, &[]),
     (
         SHORT_LINE,
         false,
         3,
         JoinKind::Bevel,
         BUTTS,
-        "0 -2, 10 -2, 10 2, 0 2",
+        &[&[(0, -2), (10, -2), (10, 2), (0, 2)]],
     ),
-    (&[(7, 7), (7, 7), (7, 7)], false, 8, ROUND, SQUARES, ""),
-    (&[(7, 7), (7, 7), (7, 7)], true, 8, ROUND, SQUARES, ""),
-    (&[(7, 7)], true, 8, ROUND, SQUARES, ""),
-    (&[], false, 8, ROUND, SQUARES, ""),
+    (&[(7, 7), (7, 7), (7, 7)], false, 8, ROUND, SQUARES, &[]),
+    (&[(7, 7), (7, 7), (7, 7)], true, 8, ROUND, SQUARES, &[]),
+    (&[(7, 7)], true, 8, ROUND, SQUARES, &[]),
+    (&[], false, 8, ROUND, SQUARES, &[]),
 ];
 
 /// A path that turns back, open and closed.
@@ -82,7 +93,18 @@ const SPIKES: &[Row] = &[
         4,
         ROUND,
         BUTTS,
-        "0 -2, 10 -2, 10 0, 10 2, 0 2; 0 -2, 10 -2, 11 -1, 12 0, 12 1, 10 2, 0 2",
+        &[
+            &[(0, -2), (10, -2), (10, 0), (10, 2), (0, 2)],
+            &[
+                (0, -2),
+                (10, -2),
+                (11, -1),
+                (12, 0),
+                (12, 1),
+                (10, 2),
+                (0, 2),
+            ],
+        ],
     ),
     (
         SPIKE,
@@ -90,7 +112,21 @@ const SPIKES: &[Row] = &[
         4,
         ROUND,
         BUTTS,
-        "0 -2, 10 -2, 10 0, 10 2, 0 2, 0 0; 0 -2, 10 -2, 11 -1, 12 0, 12 1, 10 2, 0 2, -1 1, -2 0, -2 -1",
+        &[
+            &[(0, -2), (10, -2), (10, 0), (10, 2), (0, 2), (0, 0)],
+            &[
+                (0, -2),
+                (10, -2),
+                (11, -1),
+                (12, 0),
+                (12, 1),
+                (10, 2),
+                (0, 2),
+                (-1, 1),
+                (-2, 0),
+                (-2, -1),
+            ],
+        ],
     ),
 ];
 
@@ -101,7 +137,13 @@ const CUSTOM: &[Row] = &[
         2048,
         JoinKind::Bevel,
         (CapRow::Butt, TIP),
-        "0 -1024, 8192 -1024, 9216 0, 8192 1024, 0 1024",
+        &[&[
+            (0, -1024),
+            (8192, -1024),
+            (9216, 0),
+            (8192, 1024),
+            (0, 1024),
+        ]],
     ),
     (
         LINE,
@@ -109,7 +151,14 @@ const CUSTOM: &[Row] = &[
         2048,
         JoinKind::Bevel,
         (TIP, TIP),
-        "0 -1024, 8192 -1024, 9216 0, 8192 1024, 0 1024, -1024 0",
+        &[&[
+            (0, -1024),
+            (8192, -1024),
+            (9216, 0),
+            (8192, 1024),
+            (0, 1024),
+            (-1024, 0),
+        ]],
     ),
     (
         LINE,
@@ -117,7 +166,7 @@ const CUSTOM: &[Row] = &[
         2048,
         JoinKind::Bevel,
         (CapRow::Butt, EMPTY),
-        "0 -1024, 8192 -1024, 8192 1024, 0 1024",
+        &[&[(0, -1024), (8192, -1024), (8192, 1024), (0, 1024)]],
     ),
     (
         LINE,
@@ -125,7 +174,13 @@ const CUSTOM: &[Row] = &[
         2048,
         JoinKind::Bevel,
         (CapRow::Butt, NOTCH),
-        "0 -1024, 8192 -1024, 4096 0, 8192 1024, 0 1024",
+        &[&[
+            (0, -1024),
+            (8192, -1024),
+            (4096, 0),
+            (8192, 1024),
+            (0, 1024),
+        ]],
     ),
     (
         LINE,
@@ -133,7 +188,10 @@ const CUSTOM: &[Row] = &[
         2048,
         JoinKind::Bevel,
         (CapRow::Butt, TURNED),
-        "0 -1024, 8192 -1024, 8192 1024, 0 1024; 8192 -1024, 8192 1024",
+        &[
+            &[(0, -1024), (8192, -1024), (8192, 1024), (0, 1024)],
+            &[(8192, -1024), (8192, 1024)],
+        ],
     ),
 ];
 
@@ -147,10 +205,23 @@ fn expect_edges<I: OverlayInt + From<i16>>(alloc: Global, row: &Row) -> Result<(
         start,
         end,
     };
-    let edges = drawn::<I>(alloc, path, is_closed, style)?;
-    expect_loops(alloc, edges, wanted, &(row, "read forwards"))?;
-    let edges = drawn_backwards::<I>(alloc, path, is_closed, style)?;
-    expect_loops(alloc, edges, wanted, &(row, "read backwards"))
+    let found = drawn::<I>(alloc, path, is_closed, style)?;
+    expect_loops(alloc, found, wanted, &(row, "read forwards"))?;
+    let mut back = Vec::from_slice(alloc, path)?;
+    back.reverse();
+    let found = drawn::<I>(alloc, &back, is_closed, style.exchanged())?;
+    expect_loops(alloc, found, wanted, &(row, "read backwards"))
+}
+
+/// The edges are those of the loops.
+fn expect_loops(
+    alloc: Global,
+    found: Vec<Edge>,
+    wanted: &[&[Point]],
+    case: &(&Row, &str),
+) -> Result<(), Fail> {
+    let is_same = are_same_edges(found, loops(alloc, wanted)?)?;
+    expect_that(is_same, case)
 }
 
 /// Each row, at both widths.

@@ -2,5 +2,5 @@
 use Rattle.std.proofs.Common.{[], lit<, refl}
 use Rattle.mesh_stroke_tests.proofs.drawn.add_stroke.Goals as goal
 
-pub build-built-requires : goal.build-built-requires
-build-built-requires g c = rw (c.deref.ensures.value, c.new.ensures) (c.in_ok-validate_stroke.ensures.safe.0 refl 0 [] (lit< tt))
+pub build-requires : goal.build-requires
+build-requires g c = rw (c.deref.ensures.value, c.new.ensures) (c.in_ok-validate_stroke.ensures.safe.0 refl 0 [] (lit< tt))
