@@ -2,6 +2,7 @@
 
 use mesh_service::service::{Status, serve};
 use mesh_toolbox::compared::expect_equal;
+use std::alloc::Global;
 use std::io;
 use std::io::{Error, ErrorKind, Read, Write};
 use std::test::Fail;
@@ -139,7 +140,7 @@ fn slow_reader(rt: HostRuntime) -> Result<(), Fail> {
     expect_equal(&writer.as_slice(), &ANSWER, &"70,000 blanks, byte by byte")
 }
 
-/// Takes the bytes that are wanted one by one, with an interruption before each, and no other byte.
+/// Takes the bytes that are wanted one by one, with an interruption before each, and no other byte, which is no failure.
 #[derive(Drop)]
 struct SlowWriter<'a> {
     wanted: &'a [u8],
@@ -176,5 +177,59 @@ fn slow_writer(rt: HostRuntime) -> Result<(), Fail> {
     };
     let status = serve(rt.alloc(), &mut reader, &mut writer);
     expect_equal(&status, &Status::Answered, &"a line, byte by byte")?;
+    expect_equal(&writer.wanted.len(), &0, &"bytes that are not written")
+}
+
+/// Where a writer takes no byte more, and does not fail either, the run ends unwritten.
+#[test]
+fn full_writer(rt: HostRuntime) -> Result<(), Fail> {
+    for wanted in [b"" as &[u8], b"{", b"{\"edges\":[[[[0,0],[8,0]],"] {
+        let mut reader = REQUEST;
+        let mut writer = SlowWriter {
+            wanted,
+            interrupted: false,
+        };
+        let status = serve(rt.alloc(), &mut reader, &mut writer);
+        expect_equal(&status, &Status::Unwritten, &wanted)?;
+        expect_equal(&writer.wanted.len(), &0, &wanted)?;
+    }
+    Ok(())
+}
+
+/// The item 1,500 times, with commas between, and what is before and after.
+fn repeated(alloc: Global, before: &[u8], item: &[u8], after: &[u8]) -> Result<Vec<u8>, Fail> {
+    let mut text = Vec::new(alloc);
+    text.extend_from_slice(before)?;
+    text.extend_from_slice(item)?;
+    for _ in 1..1_500 {
+        text.push(b',')?;
+        text.extend_from_slice(item)?;
+    }
+    text.extend_from_slice(after)?;
+    Ok(text)
+}
+
+/// A line that takes 85,000 writes and more is written whole.
+#[test]
+fn slow_writer_of_a_long_line(rt: HostRuntime) -> Result<(), Fail> {
+    let request = repeated(
+        rt.alloc(),
+        br#"{"op":"outline","int":"i32","out":"edges","paths":["#,
+        b"[[0,0],[8,0],[8,8],[0,8]]",
+        br#"],"style":{"outer":0,"inner":0}}"#,
+    )?;
+    let answer = repeated(
+        rt.alloc(),
+        b"{\"edges\":[",
+        b"[[[0,0],[8,0]],[[0,8],[0,0]],[[8,0],[8,8]],[[8,8],[0,8]]]",
+        b"]}\n",
+    )?;
+    let mut reader = request.as_slice();
+    let mut writer = SlowWriter {
+        wanted: answer.as_slice(),
+        interrupted: false,
+    };
+    let status = serve(rt.alloc(), &mut reader, &mut writer);
+    expect_equal(&status, &Status::Answered, &"1,500 squares, byte by byte")?;
     expect_equal(&writer.wanted.len(), &0, &"bytes that are not written")
 }
