@@ -140,7 +140,8 @@ fn slow_reader(rt: HostRuntime) -> Result<(), Fail> {
     expect_equal(&writer.as_slice(), &ANSWER, &"70,000 blanks, byte by byte")
 }
 
-/// Takes the bytes that are wanted one by one, with an interruption before each, and no other byte, which is no failure.
+/// Takes the bytes that are wanted one by one, with an interruption before each.
+/// It takes no other byte, and does not fail there.
 #[derive(Drop)]
 struct SlowWriter<'a> {
     wanted: &'a [u8],
