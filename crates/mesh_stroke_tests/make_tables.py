@@ -21,8 +21,8 @@ HEAD = f"""\
 //! script wrote these files: change it, and not them.
 
 use crate::styles::CapRow;
-use mesh_toolbox::joins::JoinKind;
-use mesh_toolbox::plain::Point;
+use mesh_test_support::joins::JoinKind;
+use mesh_test_support::plain::Point;
 
 pub mod large_strokes;
 pub mod small_strokes;
@@ -176,7 +176,7 @@ def table_text(defs, table, count, width, title):
     """A table's file."""
     lines = "".join(f"    {text(item)},\n" for item in rows(defs, table, count, width))
     return (f"//! {title}, as `make_tables.py` wrote them.\n\nuse super::StrokeRow;\nuse crate::styles::CapRow;\n"
-            f"use mesh_toolbox::joins::JoinKind;\n\n"
+            f"use mesh_test_support::joins::JoinKind;\n\n"
             f"pub const {table.upper()}: &[StrokeRow] = &[\n{lines}];\n")
 
 

@@ -1,11 +1,12 @@
 //! Laws of outlines and strokes. Each function does nothing: its clause is the law.
 
-pub use mesh_outline::laws::outlines_are_drawn;
-pub use mesh_outline_calls::laws::{
-    answers_alone_are_regions, final_edges_are_balanced, outlines_are_regions, outlines_stay_safe,
+pub use mesh_outline::laws::{
+    answers_alone_are_regions, final_edges_are_balanced, outlines_are_drawn, outlines_are_regions,
+    outlines_stay_safe,
 };
-pub use mesh_stroke::laws::strokes_can_be_reversed;
-pub use mesh_stroke_calls::laws::{stroke_edges_are_balanced, strokes_are_regions};
-pub use mesh_variable_calls::laws::{
+pub use mesh_stroke::laws::{
+    stroke_edges_are_balanced, strokes_are_regions, strokes_can_be_reversed,
+};
+pub use mesh_variable_stroke::laws::{
     variable_stroke_edges_are_balanced, variable_strokes_are_regions,
 };

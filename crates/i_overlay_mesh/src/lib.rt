@@ -1,11 +1,35 @@
 //! Offset operations over whole numbers: outlines of contours, strokes of paths, of one width or of a width that
 //! changes from vertex to vertex, and why a call refuses.
+//!
+//! This is the one door: all that a caller of offsets needs stands here, whichever crate makes it. The calls are the
+//! methods of `IntOutlineOffset`, `IntStrokeOffset` and `IntVariableStrokeOffset` on sources of paths. `CALLING.md` has
+//! them on one page.
 #![tactic(auto)]
-
-pub use mesh_draw::error;
-pub use mesh_draw::error::{IntOutlineError, IntStrokeError, IntVariableStrokeError};
 
 pub mod laws;
 pub mod outline;
 pub mod stroke;
 pub mod variable_stroke;
+
+pub use mesh_below::below::{ContourDirection, IntOverlayOptions, Overlay, OverlayRule};
+pub use mesh_below::fill::FillRule;
+pub use mesh_join::arc::ArcOptions;
+pub use mesh_join::style::{
+    IntLineCap, IntLineJoin, IntOutlineStyle, IntStrokeStyle, IntStrokeVertex,
+    IntVariableStrokeStyle, MathMode,
+};
+pub use mesh_num::num::{Angle, IntNumber, IntPoint, IntRect, IntVector, OverlayInt};
+pub use mesh_num::shape::{
+    DirectedEdge, FlatContoursBuffer, IntShapeResource, IntShapes, PathSlice, Segment,
+    SubjectSegments,
+};
+pub use mesh_offset::error;
+pub use mesh_offset::error::{IntOutlineError, IntStrokeError, IntVariableStrokeError};
+pub use outline::builder::OutlineBuilder;
+pub use outline::kind::ContourKind;
+pub use outline::offset::IntOutlineOffset;
+pub use stroke::builder::StrokeBuilder;
+pub use stroke::offset::IntStrokeOffset;
+pub use variable_stroke::builder::VariableStrokeBuilder;
+pub use variable_stroke::offset::IntVariableStrokeOffset;
+pub use variable_stroke::resource::IntVariableStrokeSource;

@@ -1,4 +1,3 @@
 //! Outlines of contours: the builder of one contour's edges, the calls on sources of contours, their areas and kinds.
 
-pub use mesh_outline::outline::builder;
-pub use mesh_outline_calls::{area, kind, offset};
+pub use mesh_outline::{area, builder, kind, offset};

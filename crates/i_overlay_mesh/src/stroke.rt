@@ -1,4 +1,3 @@
 //! Strokes of paths: the builder of one path's edges, the calls on sources of paths, and how far strokes reach.
 
-pub use mesh_stroke::stroke::{builder, radius};
-pub use mesh_stroke_calls::offset;
+pub use mesh_stroke::{builder, offset, radius};

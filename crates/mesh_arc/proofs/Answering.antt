@@ -4,8 +4,8 @@ use Rattle.std.specs.Prelude.{Result, Ok, Err, IsErr, OnOk, OnErr, IfOk}
 use Rattle.std.proofs.lemmas.Bool.{true≢false}
 use Rattle.mesh_plane.specs.Plane.{Point}
 use Rattle.mesh_arc.specs.Building.{Building, IsBuilt}
-use Rattle.mesh_grid.specs.Direction.{IsShort, IsFresh}
-use Rattle.mesh_grid.specs.Widths.{IsUnit}
+use Rattle.mesh_num.specs.Direction.{IsShort, IsFresh}
+use Rattle.mesh_num.specs.Widths.{IsUnit}
 use Rattle.mesh_arc.specs.Gaps.{NoStepFails, default_options}
 use Rattle.mesh_arc.proofs.FineSteps.{default_steps}
 use Rattle.mesh_arc.specs.declared.arc.ArcDirection.{ArcDirection}

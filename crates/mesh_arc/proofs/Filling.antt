@@ -3,11 +3,11 @@ use Rattle.std.proofs.Common.{◌≡◌, ℕ, ◌+◌, ◌<◌, ◌≤◌, true,
 use Rattle.std.specs.Prelude.{not, ◌||◌}
 use Rattle.std.proofs.lemmas.Bool.{cases_lt, true≢false}
 use Rattle.mesh_plane.specs.Plane.{Point}
-use Rattle.mesh_grid.specs.Rotation.{rotated}
+use Rattle.mesh_num.specs.Rotation.{rotated}
 use Rattle.mesh_arc.specs.Arcs.{least, turned_times, turned_list, is_within, is_good, is_passed, most_directions, step_of, bound_of, stepped, arc}
 use Rattle.mesh_arc.specs.declared.arc.ArcDirection.{ArcDirection}
 use Rattle.mesh_arc.specs.declared.arc.ArcOptions.{ArcOptions}
-use Rattle.mesh_arc.specs.Midway.{Steps, ends, HasTurned}
+use Rattle.mesh_arc.specs.Private.Steps.{Steps, ends, HasTurned}
 use Rattle.mesh_arc.proofs.Turning.{least_is, least_passes, turned_more, turned_count}
 
 -- no direction yet

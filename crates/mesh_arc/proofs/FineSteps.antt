@@ -8,9 +8,9 @@ use Rattle.mesh_plane.specs.Plane.{Point, cross, dot, length_sq}
 use Rattle.mesh_plane.proofs.Ring.{ring, var, lit, ◌⊕◌, ◌⊖◌, ◌⊗◌, cross_of, dot_of}
 use Rattle.mesh_plane.proofs.Sizes.{le_of_squares, lt_of_squares, two_products, dot_self}
 use Rattle.mesh_plane.proofs.Whole.{linear, neg_mul, mul_le_mul_right}
-use Rattle.mesh_grid.specs.Rotation.{cut, rotated, turned_round}
-use Rattle.mesh_grid.specs.Direction.{IsShort, IsFresh}
-use Rattle.mesh_grid.proofs.Rotations.{cut_size, whole_length, rotated_length, turned_round_length}
+use Rattle.mesh_num.specs.Rotation.{cut, rotated, turned_round}
+use Rattle.mesh_num.specs.Direction.{IsShort, IsFresh}
+use Rattle.mesh_num.proofs.Rotations.{cut_size, whole_length, rotated_length, turned_round_length}
 use Rattle.mesh_sine.specs.Sine.{sin_cos, IsWithinOne}
 use Rattle.mesh_arc.specs.Arcs.{ahead, step_bits, step_of, is_good, turned_times}
 use Rattle.mesh_arc.specs.Gaps.{NoStepFails, default_options}

@@ -1,10 +1,10 @@
 pub mod Ahead
 pub mod Answering
 pub mod Filling
+pub mod FineSteps
 pub mod Gaps
 pub mod Passing
+pub mod Short
 pub mod Sizes
 pub mod StepConstants
-pub mod FineSteps
 pub mod Turning
-pub mod Short

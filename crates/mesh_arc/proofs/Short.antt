@@ -7,9 +7,9 @@ use Rattle.mesh_plane.specs.Plane.{Point}
 use Rattle.mesh_plane.proofs.Sizes.{size_neg}
 use Rattle.mesh_sine.specs.Sine.{one, low_pair, in_quarter, sin_cos, IsWithinOne}
 use Rattle.mesh_sine.proofs.Lengths.{IsPair, cut_length, with_bits_is_pair}
-use Rattle.mesh_grid.specs.Direction.{IsShort}
-use Rattle.mesh_grid.specs.Rotation.{rotated}
-use Rattle.mesh_grid.proofs.Rotations.{rotated_length, turned_round_length}
+use Rattle.mesh_num.specs.Direction.{IsShort}
+use Rattle.mesh_num.specs.Rotation.{rotated}
+use Rattle.mesh_num.proofs.Rotations.{rotated_length, turned_round_length}
 use Rattle.mesh_arc.specs.Arcs.{least, turned_list, is_within, ends_after, most_directions, step_bits, step_of, bound_of, stepped, arc}
 use Rattle.mesh_arc.specs.declared.arc.ArcDirection.{ArcDirection}
 use Rattle.mesh_arc.specs.declared.arc.ArcDirection.TheVariants.{Clockwise, Counterclockwise}

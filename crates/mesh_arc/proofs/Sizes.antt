@@ -5,8 +5,8 @@ use Rattle.std.proofs.Math.Nat.{mul-le-mul}
 use Rattle.std.proofs.lemmas.Int.{ints}
 use Rattle.mesh_plane.specs.Bounds.{IsSafe, IsWithin}
 use Rattle.mesh_plane.specs.Plane.{Point}
-use Rattle.mesh_grid.specs.Direction.{IsShort}
-use Rattle.mesh_grid.proofs.Scaling.{short_bounded}
+use Rattle.mesh_num.specs.Direction.{IsShort}
+use Rattle.mesh_num.proofs.Scaling.{short_bounded}
 
 -- a direction's components are below twice the unit
 pub short_safe : (unit : ℕ) (n : Point) → 2 ^ 14 ≤ unit → IsShort unit n → IsSafe (2 * unit) n

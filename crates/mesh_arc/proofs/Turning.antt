@@ -1,7 +1,7 @@
 -- Lemmas over lists: the least number that passes a test, and the list of a direction turned again and again.
 use Rattle.std.proofs.Common.{◌≡◌, ℕ, ◌<◌, ◌≤◌, Bool, true, false, refl, ◌∙◌, ap, arith, zero, suc, List, [], ◌∷◌, ◌++◌, length, ◌⊎◌, inl, inr, ⊎_elim}
 use Rattle.mesh_plane.specs.Plane.{Point}
-use Rattle.mesh_grid.specs.Rotation.{rotated}
+use Rattle.mesh_num.specs.Rotation.{rotated}
 use Rattle.mesh_arc.specs.Arcs.{least, turned_times, turned_list}
 
 -- ---- the least number that passes a test

@@ -3,7 +3,7 @@ use Rattle.std.specs.Prelude.{ℕ, zero, suc, ◌+◌, ◌-◌, ◌*◌, ◌/◌
 use Rattle.std.specs.Prelude.{List, [], ◌∷◌, ℤ, pos, negsuc, ◌*ℤ◌, int_le, int_lt}
 use Rattle.mesh_plane.specs.Plane.{Point, cross, dot}
 use Rattle.mesh_sine.specs.Sine.{sin_cos}
-use Rattle.mesh_grid.specs.Rotation.{rotated, turned_round}
+use Rattle.mesh_num.specs.Rotation.{rotated, turned_round}
 use Rattle.mesh_arc.specs.declared.arc.ArcDirection.{ArcDirection}
 use Rattle.mesh_arc.specs.declared.arc.ArcDirection.TheVariants.{Clockwise, Counterclockwise}
 use Rattle.mesh_arc.specs.declared.arc.ArcOptions.{ArcOptions}

@@ -2,4 +2,4 @@ pub mod Arcs
 pub mod Building
 pub mod Gaps
 pub mod Lent
-pub mod Midway
+pub mod Private

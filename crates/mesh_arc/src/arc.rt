@@ -2,16 +2,16 @@
 
 ghost use Rattle.std.specs.Prelude.{◌≡◌, ◌^◌, ◌≤◌, length, [], IsOk, IfOk};
 ghost use Rattle.std.specs.Borrow.{sem};
-ghost use Rattle.mesh_grid.specs.Direction.{IsFresh};
+ghost use Rattle.mesh_num.specs.Direction.{IsFresh};
 ghost use Rattle.mesh_arc.specs.Arcs.{clamped as clamped_of, step_bits, arc};
 ghost use Rattle.mesh_arc.specs.Building.{IsBuilt};
 ghost use Rattle.mesh_arc.specs.Gaps.{HasNearGaps, ReachesEnd, NoStepFails, default_options};
 ghost use Rattle.mesh_arc.specs.Lent.{EndsWith};
-ghost use Rattle.mesh_arc.specs.Midway.{steps_of};
+ghost use Rattle.mesh_arc.specs.Private.Steps.{steps_of};
 
 use crate::steps::Steps;
-use mesh_grid::num::convert::widen;
-use mesh_grid::num::{Angle, IntNumber, Rotation, UnitIntVector};
+use mesh_num::num::convert::widen;
+use mesh_num::num::{Angle, IntNumber, Rotation, UnitIntVector};
 use std::alloc::{AllocError, Global};
 use std::marker::Model;
 
@@ -82,7 +82,7 @@ pub type ArcBuilder<I> = IntegerArc<I>;
 
 impl<I: IntNumber> Model for IntegerArc<I> {
     ghost use Rattle.mesh_arc.specs.Building.{Building, building_with};
-    ghost use Rattle.mesh_arc.specs.Midway.{IsPrepared};
+    ghost use Rattle.mesh_arc.specs.Private.Steps.{IsPrepared};
 
     ghost Value = { Building };
 

@@ -7,10 +7,10 @@ ghost use Rattle.mesh_plane.specs.Plane.{cross as cross_of, dot as dot_of};
 ghost use Rattle.mesh_sine.specs.Sine.{IsWithinOne};
 ghost use Rattle.mesh_arc.specs.Arcs.{ahead as ahead_of, is_within as is_within_of, is_good as is_good_of};
 ghost use Rattle.mesh_arc.specs.Arcs.{is_passed as is_passed_of, turned_list};
-ghost use Rattle.mesh_arc.specs.Midway.{step_count, ends_before, directions_by};
+ghost use Rattle.mesh_arc.specs.Private.Steps.{step_count, ends_before, directions_by};
 
 use crate::arc::ArcDirection;
-use mesh_grid::num::{IntNumber, IntVector, Rotation, UnitIntVector};
+use mesh_num::num::{IntNumber, IntVector, Rotation, UnitIntVector};
 use std::alloc::AllocError;
 use std::marker::Model;
 
@@ -27,7 +27,7 @@ pub(crate) struct Steps<I: IntNumber> {
 
 impl<I: IntNumber> Model for Steps<I> {
     ghost use Rattle.mesh_sine.specs.Sine.{IsWithinOne};
-    ghost use Rattle.mesh_arc.specs.Midway.{Steps};
+    ghost use Rattle.mesh_arc.specs.Private.Steps.{Steps};
 
     ghost Value = { Steps };
 

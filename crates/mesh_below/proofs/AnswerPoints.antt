@@ -9,15 +9,15 @@ use Rattle.mesh_num.specs.Paths.{contours_of}
 use Rattle.mesh_plane.specs.Bounds.{IsSafe}
 use Rattle.mesh_plane.specs.Plane.{Point, Edge}
 use Rattle.mesh_plane.specs.Winding.{route, boundary}
-use Rattle.mesh_cuts.specs.Boundary.{IsBoundary}
+use Rattle.mesh_lattice.specs.Boundary.{IsBoundary}
 use Rattle.mesh_plane.specs.Ways.{turns_at, first_or}
 use Rattle.mesh_shapes.specs.Contours.{turning_points, vertices, reversed}
-use Rattle.mesh_cuts.specs.Reach.{AreEdgesSafe, ArePointsSafe}
+use Rattle.mesh_lattice.specs.Reach.{AreEdgesSafe, ArePointsSafe}
 use Rattle.mesh_shapes.specs.Resolution.{Choices, Ring, Placed, ring_of, is_large, is_head, stands_with, shape_of, answered, AreArranged, IsResolution}
-use Rattle.mesh_cuts.specs.Split.{occurs, after}
+use Rattle.mesh_lattice.specs.Split.{occurs, after}
 use Rattle.mesh_regions.proofs.BoundaryFill.{boundary_cover}
 use Rattle.mesh_below.proofs.Resolving.{all_occurs}
-use Rattle.mesh_cuts.proofs.SafeCuts.{IsSafeEdge, occurs_safe, split_safe}
+use Rattle.mesh_lattice.proofs.SafeCuts.{IsSafeEdge, occurs_safe, split_safe}
 use Rattle.mesh_plane.proofs.ClosedLists.{all_flat_map, all_left, all_right, boundary_all}
 
 -- ---- split segments

@@ -6,24 +6,24 @@ use Rattle.std.proofs.lemmas.Int.{ints}
 use Rattle.mesh_plane.specs.Plane.{Point, Edge}
 use Rattle.mesh_plane.specs.Winding.{boundary, crossing_on, winding, IsBalanced}
 use Rattle.mesh_plane.proofs.Sums.{sum_of_append}
-use Rattle.mesh_cuts.specs.Clean.{IsProper}
+use Rattle.mesh_lattice.specs.Clean.{IsProper}
 use Rattle.mesh_shapes.specs.Contours.{vertices}
-use Rattle.mesh_cuts.specs.FillRules.{filled}
-use Rattle.mesh_regions.specs.Laws.{once}
-use Rattle.mesh_sides.specs.Laws.{AreSplit}
+use Rattle.mesh_lattice.specs.FillRules.{filled}
+use Rattle.mesh_regions.specs.BoundaryLaws.{once}
+use Rattle.mesh_regions.specs.SideLaws.{AreSplit}
 use Rattle.mesh_below.specs.Laws.{AreRegions}
 use Rattle.mesh_regions.specs.Regions.{OutsideBent}
 use Rattle.mesh_shapes.specs.Resolution.{Choices, IsResolution}
-use Rattle.mesh_cuts.specs.Split.{occurs, after}
-use Rattle.mesh_cuts.specs.declared.fill.FillRule.{FillRule}
-use Rattle.mesh_cuts.specs.declared.fill.FillRule.TheVariants.{Positive, Negative}
+use Rattle.mesh_lattice.specs.Split.{occurs, after}
+use Rattle.mesh_lattice.specs.declared.fill.FillRule.{FillRule}
+use Rattle.mesh_lattice.specs.declared.fill.FillRule.TheVariants.{Positive, Negative}
 use Rattle.mesh_regions.proofs.BoundaryFill.{boundary_cover}
-use Rattle.mesh_cuts.proofs.KeptByCuts.{after_balanced}
+use Rattle.mesh_lattice.proofs.KeptByCuts.{after_balanced}
 use Rattle.mesh_regions.proofs.BoundaryRegions.{after_winds}
-use Rattle.mesh_cuts.proofs.SoundCuts.{legal_sound, legal_boxed, after_proper, ProperEnds}
+use Rattle.mesh_lattice.proofs.SoundCuts.{legal_sound, legal_boxed, after_proper, ProperEnds}
 use Rattle.mesh_shapes.proofs.ContoursKept.{vertices_winding}
 use Rattle.mesh_below.proofs.Partition.{answer_winds}
-use Rattle.mesh_cuts.proofs.Each.{Each, each_left, each_right, each_of, proper_of}
+use Rattle.mesh_lattice.proofs.Each.{Each, each_left, each_right, each_of, proper_of}
 use Rattle.mesh_regions.proofs.SplitBoundary.{boundary_winds}
 
 -- ---- contours

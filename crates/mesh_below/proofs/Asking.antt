@@ -11,9 +11,9 @@ use Rattle.mesh_plane.specs.Order.{point_lt}
 use Rattle.mesh_plane.proofs.Balance.{growth_parts, growth_of_balanced, balanced_by_growth}
 use Rattle.mesh_plane.proofs.Sums.{sum_of_map}
 use Rattle.mesh_plane.proofs.Whole.{linear}
-use Rattle.mesh_cuts.specs.Counted.{bit}
-use Rattle.mesh_cuts.proofs.Counts.{bit_least}
-use Rattle.mesh_cuts.specs.Split.{back}
+use Rattle.mesh_lattice.specs.Counted.{bit}
+use Rattle.mesh_lattice.proofs.Counts.{bit_least}
+use Rattle.mesh_lattice.specs.Split.{back}
 use Rattle.mesh_shapes.specs.Vectors.{StartsInOrder}
 use Rattle.mesh_plane.proofs.Sums.{sum_least}
 use Rattle.mesh_shapes.proofs.Walking.{Before, of_before, three_ways}

@@ -11,7 +11,7 @@ use Rattle.mesh_num.proofs.Paths.{contours_more}
 use Rattle.mesh_plane.specs.Plane.{Point, Edge}
 use Rattle.mesh_plane.specs.Winding.{boundary}
 use Rattle.mesh_shapes.specs.Vectors.{contour_edges}
-use Rattle.mesh_below.specs.Midway.Rings.{PushesContours}
+use Rattle.mesh_below.specs.Private.Rings.{PushesContours}
 
 pub adds_none : (old : List (Vec Point Global)) → PushesContours old old []
 adds_none old = record { edges = sym (append-nil (contour_edges old)); have_points = λ h. h }

@@ -11,12 +11,12 @@ use Rattle.mesh_plane.specs.Winding.{sum_of, route, boundary, same_point}
 use Rattle.mesh_plane.proofs.Comparing.{point_self}
 use Rattle.mesh_plane.proofs.Sums.{sum_of_append, sum_least}
 use Rattle.mesh_plane.proofs.Whole.{linear}
-use Rattle.mesh_cuts.specs.Counted.{bit}
-use Rattle.mesh_cuts.specs.Split.{back, is_end, same_ends, occurs}
-use Rattle.mesh_cuts.proofs.Counts.{bit_least}
-use Rattle.mesh_cuts.proofs.Each.{Each, each_left, each_right}
-use Rattle.mesh_cuts.proofs.SoundCuts.{ProperEnds}
-use Rattle.mesh_cuts.proofs.Ends.{decides_ends}
+use Rattle.mesh_lattice.specs.Counted.{bit}
+use Rattle.mesh_lattice.specs.Split.{back, is_end, same_ends, occurs}
+use Rattle.mesh_lattice.proofs.Counts.{bit_least}
+use Rattle.mesh_lattice.proofs.Each.{Each, each_left, each_right}
+use Rattle.mesh_lattice.proofs.SoundCuts.{ProperEnds}
+use Rattle.mesh_lattice.proofs.Ends.{decides_ends}
 use Rattle.mesh_shapes.specs.Contours.{turning_points, straight_points, left_out, vertices}
 use Rattle.mesh_below.specs.Answers.{AreOwnBoundary}
 use Rattle.mesh_below.proofs.Merging.{Same, IsFreeOf, own_same, merged, either_of}

@@ -10,19 +10,19 @@ use Rattle.mesh_plane.proofs.Comparing.{less_test, points_apart, points_swap}
 use Rattle.mesh_plane.proofs.Sums.{sum_least}
 use Rattle.mesh_plane.proofs.Triangles.{crossing_on_straight}
 use Rattle.mesh_plane.proofs.Whole.{linear, mul_cancel}
-use Rattle.mesh_cuts.specs.Boundary.{count, middle, rises, winding_beside, left_winding, right_winding}
-use Rattle.mesh_cuts.specs.Clean.{IsClean, IsOn, IsProper, refined_edge}
-use Rattle.mesh_cuts.specs.Counted.{bit, along, net}
-use Rattle.mesh_cuts.specs.FillRules.{filled}
-use Rattle.mesh_cuts.specs.Split.{is_end, same_edge, same_ends, occurs}
-use Rattle.mesh_cuts.specs.declared.fill.FillRule.TheVariants.{Positive}
-use Rattle.mesh_cuts.proofs.Boxes.{on_back, turn_end, end_box}
-use Rattle.mesh_cuts.proofs.Counts.{bit_least}
-use Rattle.mesh_cuts.proofs.Ends.{along_self, decides_edge, decides_end, decides_ends, ends_along, ends_sym, not_along, not_ends, end_back}
-use Rattle.mesh_cuts.proofs.Keys.{leaning_either, Leans, occurs_back, occurs_head}
-use Rattle.mesh_cuts.proofs.SidesBack.{count_more, sides_back}
-use Rattle.mesh_sides.specs.Laws.{AreSplit}
-use Rattle.mesh_sides.proofs.Inside.{inside_winding}
+use Rattle.mesh_lattice.specs.Boundary.{count, middle, rises, winding_beside, left_winding, right_winding}
+use Rattle.mesh_lattice.specs.Clean.{IsClean, IsOn, IsProper, refined_edge}
+use Rattle.mesh_lattice.specs.Counted.{bit, along, net}
+use Rattle.mesh_lattice.specs.FillRules.{filled}
+use Rattle.mesh_lattice.specs.Split.{is_end, same_edge, same_ends, occurs}
+use Rattle.mesh_lattice.specs.declared.fill.FillRule.TheVariants.{Positive}
+use Rattle.mesh_lattice.proofs.Boxes.{on_back, turn_end, end_box}
+use Rattle.mesh_lattice.proofs.Counts.{bit_least}
+use Rattle.mesh_lattice.proofs.Ends.{along_self, decides_edge, decides_end, decides_ends, ends_along, ends_sym, not_along, not_ends, end_back}
+use Rattle.mesh_lattice.proofs.Keys.{leaning_either, Leans, occurs_back, occurs_head}
+use Rattle.mesh_lattice.proofs.SidesBack.{count_more, sides_back}
+use Rattle.mesh_regions.specs.SideLaws.{AreSplit}
+use Rattle.mesh_regions.proofs.Inside.{inside_winding}
 use Rattle.mesh_regions.proofs.BoundaryFill.{net_counts}
 use Rattle.mesh_shapes.proofs.Walking.{counts_same}
 use Rattle.mesh_below.specs.Answers.{AreOwnBoundary}

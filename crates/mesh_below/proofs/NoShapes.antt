@@ -9,13 +9,13 @@ use Rattle.std.proofs.lemmas.List.Elements.{All-head}
 use Rattle.std.proofs.lemmas.List.Sorted.{length_permutation}
 use Rattle.mesh_plane.specs.Plane.{Point, Edge}
 use Rattle.mesh_plane.specs.Winding.{route, boundary}
-use Rattle.mesh_cuts.specs.Boundary.{IsBoundary}
+use Rattle.mesh_lattice.specs.Boundary.{IsBoundary}
 use Rattle.mesh_shapes.specs.Contours.{IsBegun}
 use Rattle.mesh_shapes.specs.Resolution.{Choices, Ring, ring_of, is_large, answered, rings_by_shape, AreArranged, IsResolution}
-use Rattle.mesh_cuts.specs.Split.{same_ends, occurs}
+use Rattle.mesh_lattice.specs.Split.{same_ends, occurs}
 use Rattle.mesh_regions.proofs.BoundaryFill.{boundary_cover}
-use Rattle.mesh_cuts.proofs.Ends.{ends_self}
-use Rattle.mesh_cuts.proofs.KeptByCuts.{after_none}
+use Rattle.mesh_lattice.proofs.Ends.{ends_self}
+use Rattle.mesh_lattice.proofs.KeptByCuts.{after_none}
 
 boundary_none : (bs : List Edge) (fill : ℤ → Bool) → IsBoundary [] fill bs → bs ≡ []
 boundary_none [] fill is = refl

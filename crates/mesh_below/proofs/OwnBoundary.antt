@@ -10,12 +10,12 @@ use Rattle.mesh_plane.specs.Plane.{Point, Edge}
 use Rattle.mesh_plane.specs.Winding.{sum_of, boundary, same_point, IsBalanced}
 use Rattle.mesh_plane.proofs.Balance.{marks_counted}
 use Rattle.mesh_plane.proofs.Sums.{sum_of_add}
-use Rattle.mesh_cuts.specs.Clean.{IsProper}
-use Rattle.mesh_cuts.specs.Counted.{bit}
-use Rattle.mesh_cuts.specs.Split.{occurs, after}
-use Rattle.mesh_cuts.proofs.Each.{Each}
-use Rattle.mesh_cuts.proofs.SoundCuts.{ProperEnds}
-use Rattle.mesh_sides.specs.Laws.{AreSplit}
+use Rattle.mesh_lattice.specs.Clean.{IsProper}
+use Rattle.mesh_lattice.specs.Counted.{bit}
+use Rattle.mesh_lattice.specs.Split.{occurs, after}
+use Rattle.mesh_lattice.proofs.Each.{Each}
+use Rattle.mesh_lattice.proofs.SoundCuts.{ProperEnds}
+use Rattle.mesh_regions.specs.SideLaws.{AreSplit}
 use Rattle.mesh_regions.proofs.BoundaryFill.{boundary_cover}
 use Rattle.mesh_regions.proofs.SplitBoundary.{boundary_balances}
 use Rattle.mesh_shapes.specs.Contours.{left_out, vertices, StartsOnce}

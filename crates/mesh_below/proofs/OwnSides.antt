@@ -7,15 +7,15 @@ use Rattle.mesh_plane.specs.Plane.{Edge}
 use Rattle.mesh_plane.specs.Winding.{same_point}
 use Rattle.mesh_plane.proofs.Comparing.{decides_point}
 use Rattle.mesh_plane.proofs.Whole.{linear}
-use Rattle.mesh_cuts.specs.Boundary.{count, middle, winding_beside, left_winding, right_winding, rises, IsBoundary}
-use Rattle.mesh_cuts.specs.Clean.{IsProper}
-use Rattle.mesh_cuts.specs.Counted.{bit, net}
-use Rattle.mesh_cuts.specs.FillRules.{filled}
-use Rattle.mesh_cuts.specs.Split.{back, same_edge, same_ends, occurs}
-use Rattle.mesh_cuts.specs.declared.fill.FillRule.TheVariants.{Positive}
-use Rattle.mesh_cuts.proofs.Keys.{Leans, leaning_either, net_back, occurs_back}
-use Rattle.mesh_cuts.proofs.SidesBack.{count_more, sides_back}
-use Rattle.mesh_sides.specs.Laws.{AreSplit}
+use Rattle.mesh_lattice.specs.Boundary.{count, middle, winding_beside, left_winding, right_winding, rises, IsBoundary}
+use Rattle.mesh_lattice.specs.Clean.{IsProper}
+use Rattle.mesh_lattice.specs.Counted.{bit, net}
+use Rattle.mesh_lattice.specs.FillRules.{filled}
+use Rattle.mesh_lattice.specs.Split.{back, same_edge, same_ends, occurs}
+use Rattle.mesh_lattice.specs.declared.fill.FillRule.TheVariants.{Positive}
+use Rattle.mesh_lattice.proofs.Keys.{Leans, leaning_either, net_back, occurs_back}
+use Rattle.mesh_lattice.proofs.SidesBack.{count_more, sides_back}
+use Rattle.mesh_regions.specs.SideLaws.{AreSplit}
 use Rattle.mesh_regions.proofs.BoundaryFill.{boundary_cover, boundary_net}
 use Rattle.mesh_regions.proofs.SplitBoundary.{boundary_winds}
 

@@ -12,8 +12,8 @@ use Rattle.mesh_plane.specs.Winding.{sum_of, boundary, crossing_on, winding, hol
 use Rattle.mesh_plane.proofs.Sums.{sum_of_map, sum_of_flat_map, sum_of_add, sum_of_same, sum_of_equal, sum_of_zero, sum_of_permutation}
 use Rattle.mesh_plane.proofs.Whole.{linear}
 use Rattle.mesh_shapes.specs.Contours.{vertices, double_area}
-use Rattle.mesh_shapes.specs.Midway.Grouping.{ring_at, placed, is_round_at, IsHome}
-use Rattle.mesh_shapes.specs.Midway.Progress.{NoneRound, IsHolder}
+use Rattle.mesh_shapes.specs.Private.Grouping.{ring_at, placed, is_round_at, IsHome}
+use Rattle.mesh_shapes.specs.Private.Progress.{NoneRound, IsHolder}
 use Rattle.mesh_shapes.specs.Resolution.{Choices, IsResolution, Ring, Placed, ring_of, is_large, is_positive, is_head, is_round, stands_with, shape_of, rings_by_shape, answered}
 use Rattle.mesh_shapes.proofs.Groups.{area, holder_none, holder_kept, holder_no_less, holder_first, holder_less, home_positive, home_alone, home_held, member_test, head_test}
 

@@ -12,19 +12,19 @@ use Rattle.mesh_plane.specs.Plane.{Point, Edge}
 use Rattle.mesh_plane.specs.Winding.{IsBalanced, sum_of, boundary, same_point}
 use Rattle.mesh_regions.proofs.BoundaryBalance.{boundary_is_balanced}
 use Rattle.mesh_regions.proofs.BoundaryFill.{boundary_cover}
-use Rattle.mesh_cuts.proofs.Keys.{keys, keys_are}
-use Rattle.mesh_cuts.proofs.Ends.{ends_self}
+use Rattle.mesh_lattice.proofs.Keys.{keys, keys_are}
+use Rattle.mesh_lattice.proofs.Ends.{ends_self}
 use Rattle.mesh_shapes.proofs.Walking.{counts_same}
-use Rattle.mesh_cuts.specs.Boundary.{count, IsBoundary}
-use Rattle.mesh_cuts.specs.Clean.{IsProper}
+use Rattle.mesh_lattice.specs.Boundary.{count, IsBoundary}
+use Rattle.mesh_lattice.specs.Clean.{IsProper}
 use Rattle.mesh_shapes.specs.Contours.{IsBegun, IsRingAmong, IsRingOf, StartsOnce, left_out}
-use Rattle.mesh_cuts.specs.Counted.{Counted}
+use Rattle.mesh_lattice.specs.Counted.{Counted}
 use Rattle.mesh_shapes.specs.Vectors.{RingVec, ring_of_vec, rings_of_vecs}
-use Rattle.mesh_below.specs.Midway.Rings.{AreRingsOf, IsWhole, PushesRing, Told}
+use Rattle.mesh_below.specs.Private.Rings.{AreRingsOf, IsWhole, PushesRing, Told}
 use Rattle.mesh_shapes.specs.Resolution.{Choices, Ring, ring_of, is_large, AreArranged, IsResolution}
-use Rattle.mesh_cuts.specs.Split.{occurs, after, same_ends}
-use Rattle.mesh_cuts.specs.Splitting.{IsSplitting}
-use Rattle.mesh_sides.specs.Laws.{AreSplit}
+use Rattle.mesh_lattice.specs.Split.{occurs, after, same_ends}
+use Rattle.mesh_lattice.specs.Splitting.{IsSplitting}
+use Rattle.mesh_regions.specs.SideLaws.{AreSplit}
 use Rattle.mesh_shapes.specs.Vectors.{contour_edges}
 use Rattle.mesh_plane.proofs.ClosedLists.{all_left, all_right}
 use Rattle.mesh_below.proofs.Whole.{whole_vertices, same_length}

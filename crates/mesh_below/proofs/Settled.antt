@@ -6,20 +6,20 @@ use Rattle.std.specs.List.{All, flat_map}
 use Rattle.mesh_num.specs.Paths.{contours_of}
 use Rattle.mesh_plane.specs.Plane.{Point, Edge}
 use Rattle.mesh_plane.specs.Winding.{sum_of, boundary, IsBalanced, same_point}
-use Rattle.mesh_cuts.specs.Boundary.{count, IsBoundary}
-use Rattle.mesh_cuts.specs.Clean.{IsProper}
-use Rattle.mesh_cuts.specs.Counted.{Counted}
-use Rattle.mesh_cuts.specs.FillRules.{filled}
-use Rattle.mesh_cuts.specs.Split.{occurs, after, IsLegal}
-use Rattle.mesh_cuts.specs.Splitting.{IsSplitting}
-use Rattle.mesh_cuts.specs.declared.fill.FillRule.TheVariants.{Positive}
-use Rattle.mesh_sides.specs.Laws.{AreSplit}
+use Rattle.mesh_lattice.specs.Boundary.{count, IsBoundary}
+use Rattle.mesh_lattice.specs.Clean.{IsProper}
+use Rattle.mesh_lattice.specs.Counted.{Counted}
+use Rattle.mesh_lattice.specs.FillRules.{filled}
+use Rattle.mesh_lattice.specs.Split.{occurs, after, IsLegal}
+use Rattle.mesh_lattice.specs.Splitting.{IsSplitting}
+use Rattle.mesh_lattice.specs.declared.fill.FillRule.TheVariants.{Positive}
+use Rattle.mesh_regions.specs.SideLaws.{AreSplit}
 use Rattle.mesh_regions.proofs.BoundaryFill.{boundary_cover}
 use Rattle.mesh_shapes.specs.Resolution.{Choices, Ring, AreArranged, IsResolution}
 use Rattle.mesh_shapes.specs.Vectors.{RingVec, rings_of_vecs, contour_edges}
 use Rattle.mesh_shapes.proofs.Walking.{counts_same}
 use Rattle.mesh_below.specs.Answers.{AreOwnBoundary, IsSettled}
-use Rattle.mesh_below.specs.Midway.Rings.{AreRingsOf, IsWhole, Told}
+use Rattle.mesh_below.specs.Private.Rings.{AreRingsOf, IsWhole, Told}
 use Rattle.mesh_below.proofs.AnswerRegions.{resolved_split}
 use Rattle.mesh_below.proofs.Partition.{answer_sums}
 use Rattle.mesh_below.proofs.Resolving.{all_occurs, same_boundary, resolved}

@@ -7,11 +7,11 @@ use Rattle.mesh_plane.specs.Winding.{refined}
 use Rattle.mesh_plane.proofs.Whole.{linear, square_nonneg, mul_pos, mul_pos_neg, mul_nonpos_nonneg, mul_nonpos, mul_neg, add_mul, nonneg_of_mul, nonpos_of_mul, pos_of_mul, neg_of_mul, both_le, factor, times_zero, square_zero}
 use Rattle.mesh_plane.proofs.Identities.{lagrange}
 use Rattle.mesh_plane.proofs.Ring.{ring, var, lit, ◌⊕◌, ◌⊖◌, ◌⊗◌}
-use Rattle.mesh_cuts.specs.Clean.{IsOn, refined_edge}
-use Rattle.mesh_cuts.specs.Split.{IsBetween, IsInside, is_end}
-use Rattle.mesh_cuts.specs.Boundary.{middle, rises}
-use Rattle.mesh_cuts.proofs.Ends.{decides_end}
-use Rattle.mesh_cuts.proofs.SidesBack.{rises_up, rises_flat}
+use Rattle.mesh_lattice.specs.Clean.{IsOn, refined_edge}
+use Rattle.mesh_lattice.specs.Split.{IsBetween, IsInside, is_end}
+use Rattle.mesh_lattice.specs.Boundary.{middle, rises}
+use Rattle.mesh_lattice.proofs.Ends.{decides_end}
+use Rattle.mesh_lattice.proofs.SidesBack.{rises_up, rises_flat}
 use Rattle.mesh_plane.proofs.Crossings.{turn_swap}
 use Rattle.mesh_plane.proofs.Ways.{straight_parts}
 use Rattle.mesh_plane.specs.Ways.{turns_at}

@@ -10,7 +10,7 @@ use Rattle.mesh_plane.specs.Winding.{sum_of, boundary}
 use Rattle.mesh_plane.proofs.ClosedLists.{boundary_length}
 use Rattle.mesh_plane.proofs.Sums.{sum_of_ones}
 use Rattle.mesh_shapes.specs.Contours.{turning_points, vertices}
-use Rattle.mesh_below.specs.Midway.Rings.{IsWhole}
+use Rattle.mesh_below.specs.Private.Rings.{IsWhole}
 
 -- ---- vertices
 

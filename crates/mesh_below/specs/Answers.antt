@@ -4,11 +4,11 @@ use Rattle.std.specs.List.{flat_map}
 use Rattle.mesh_num.specs.Paths.{contours_of}
 use Rattle.mesh_plane.specs.Plane.{Point, Edge}
 use Rattle.mesh_plane.specs.Winding.{boundary}
-use Rattle.mesh_cuts.specs.Boundary.{IsBoundary}
-use Rattle.mesh_cuts.specs.Clean.{IsProper}
-use Rattle.mesh_cuts.specs.FillRules.{filled}
-use Rattle.mesh_cuts.specs.declared.fill.FillRule.TheVariants.{Positive}
-use Rattle.mesh_sides.specs.Laws.{AreSplit}
+use Rattle.mesh_lattice.specs.Boundary.{IsBoundary}
+use Rattle.mesh_lattice.specs.Clean.{IsProper}
+use Rattle.mesh_lattice.specs.FillRules.{filled}
+use Rattle.mesh_lattice.specs.declared.fill.FillRule.TheVariants.{Positive}
+use Rattle.mesh_regions.specs.SideLaws.{AreSplit}
 use Rattle.mesh_shapes.specs.Resolution.{Choices, IsResolution}
 
 -- an answer is settled where it is a resolution of its own edges too, by the fill rule `Positive` and with the same

@@ -4,13 +4,13 @@ use Rattle.std.specs.List.{flat_map}
 use Rattle.mesh_num.specs.Paths.{contours_of}
 use Rattle.mesh_plane.specs.Plane.{Point, Edge}
 use Rattle.mesh_plane.specs.Winding.{boundary, winding, IsBalanced}
-use Rattle.mesh_cuts.specs.Clean.{IsProper}
+use Rattle.mesh_lattice.specs.Clean.{IsProper}
 use Rattle.mesh_shapes.specs.Contours.{vertices}
-use Rattle.mesh_cuts.specs.Reach.{AreEdgesSafe, ArePointsSafe}
+use Rattle.mesh_lattice.specs.Reach.{AreEdgesSafe, ArePointsSafe}
 use Rattle.mesh_regions.specs.Regions.{OutsideBent}
 use Rattle.mesh_shapes.specs.Resolution.{Choices, IsResolution}
-use Rattle.mesh_cuts.specs.Split.{after}
-use Rattle.mesh_regions.specs.Laws.{once}
+use Rattle.mesh_lattice.specs.Split.{after}
+use Rattle.mesh_regions.specs.BoundaryLaws.{once}
 
 -- the contours of a resolution, with the vertices that are answered and before small ones are left out, wind once round
 -- each point where the split segments' winding is filled, and round no other; where no bent edge's box holds the point,

@@ -4,11 +4,11 @@ ghost use Rattle.std.specs.Prelude.{◌≡◌, [], ◌∷◌, IfOk, OnOk};
 ghost use Rattle.std.specs.List.{All};
 ghost use Rattle.mesh_plane.specs.Bounds.{IsSafe};
 ghost use Rattle.mesh_num.specs.Paths.{contours_of, paths_of, shapes_of};
-ghost use Rattle.mesh_below.specs.Midway.Rings.{PushesContours};
-ghost use Rattle.mesh_cuts.specs.Reach.{ArePointsSafe};
+ghost use Rattle.mesh_below.specs.Private.Rings.{PushesContours};
+ghost use Rattle.mesh_lattice.specs.Reach.{ArePointsSafe};
 
 use crate::given::grid_point;
-use mesh_cuts::grid::GridPoint;
+use mesh_lattice::grid::GridPoint;
 use mesh_num::num::convert::narrow;
 use mesh_num::num::{IntNumber, IntPoint};
 use mesh_num::shape::buffer::IntShapes;

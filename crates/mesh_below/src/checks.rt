@@ -7,12 +7,12 @@ ghost use Rattle.mesh_plane.specs.Plane.{Edge};
 ghost use Rattle.mesh_num.specs.Segments.{IsSubject};
 ghost use Rattle.mesh_plane.specs.Winding.{IsBalanced};
 ghost use Rattle.mesh_below.specs.Asked.{AreResolvable};
-ghost use Rattle.mesh_cuts.specs.Reach.{AreEdgesSafe};
-ghost use Rattle.mesh_cuts.specs.Split.{back};
+ghost use Rattle.mesh_lattice.specs.Reach.{AreEdgesSafe};
+ghost use Rattle.mesh_lattice.specs.Split.{back};
 
 use crate::given::{coordinate, grid_edges, grid_point};
-use mesh_cuts::exact::{is_before, same_point};
-use mesh_cuts::grid::{GridEdge, GridPoint};
+use mesh_lattice::exact::{is_before, same_point};
+use mesh_lattice::grid::{GridEdge, GridPoint};
 use mesh_num::num::IntNumber;
 use mesh_num::shape::segment::Segment;
 use mesh_shapes::walk::in_order;

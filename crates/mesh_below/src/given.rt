@@ -3,10 +3,10 @@
 ghost use Rattle.std.specs.Prelude.{◌≡◌, ◌↔◌, IfOk, IsTrue};
 ghost use Rattle.std.specs.List.{All};
 ghost use Rattle.mesh_num.specs.Segments.{IsSubject, edge_of, edges_of};
-ghost use Rattle.mesh_cuts.specs.Clean.{IsProper};
+ghost use Rattle.mesh_lattice.specs.Clean.{IsProper};
 
-use mesh_cuts::exact::same_point;
-use mesh_cuts::grid::{GridEdge, GridPoint};
+use mesh_lattice::exact::same_point;
+use mesh_lattice::grid::{GridEdge, GridPoint};
 use mesh_num::num::{IntNumber, IntPoint};
 use mesh_num::shape::segment::Segment;
 use std::alloc::{AllocError, Global};
@@ -29,9 +29,8 @@ pub fn grid_point<I: IntNumber>(p: IntPoint<I>) -> GridPoint
 pub fn grid_edge<I: IntNumber>(s: Segment<I>) -> GridEdge
     ensures { result ≡ edge_of s }
 {
-    let a = grid_point(s.x_segment.a);
-    let b = grid_point(s.x_segment.b);
-    if s.count > 0 { (a, b) } else { (b, a) }
+    let edge = s.edge();
+    (grid_point(edge.start), grid_point(edge.end))
 }
 
 /// The edges that segments stand for, in their order. Segments are as `Segment::subject` gives them.

@@ -2,9 +2,9 @@
 
 ghost use Rattle.mesh_below.specs.Laws.{AnswersAreRegions, NothingHasNoShapes, AnswersAreSafe};
 
-pub use mesh_regions::laws::{boundaries_are_balanced, boundaries_wind_once};
-pub use mesh_sides::laws::{
-    facing_sides_agree, segments_have_neighbours, sides_are_constant, sides_follow_from_ends,
+pub use mesh_regions::laws::{
+    boundaries_are_balanced, boundaries_wind_once, facing_sides_agree, segments_have_neighbours,
+    sides_are_constant, sides_follow_from_ends,
 };
 pub use mesh_split::laws::legal_splits_keep_edges;
 

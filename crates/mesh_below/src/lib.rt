@@ -2,7 +2,7 @@
 //!
 //! Read `Resolution` of `mesh_shapes/specs` first. It has the one relation, 'this answer is a resolution of these
 //! edges by this fill and these options', that the calls of `below` promise; its words are in `Split`, `Clean` and
-//! `Boundary` of `mesh_cuts/specs` and in `Contours` beside it. What follows from it, as that answers are regions, is
+//! `Boundary` of `mesh_lattice/specs` and in `Contours` beside it. What follows from it, as that answers are regions, is
 //! in `specs/Laws.antt` and the module `laws`.
 //!
 //! The way from segments to shapes: `given` makes edges of them, `mesh_split` splits these until they share only ends,
@@ -17,5 +17,5 @@ pub mod given;
 pub mod laws;
 mod resolve;
 
-pub use mesh_cuts::{fill, grid};
+pub use mesh_lattice::{fill, grid};
 pub use mesh_split::splitter;

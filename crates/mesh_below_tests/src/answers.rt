@@ -7,8 +7,8 @@ use mesh_below::below::{FillRule, Overlay, OverlayRule};
 use mesh_below::checks::are_resolvable;
 use mesh_num::num::{IntNumber, IntPoint};
 use mesh_num::shape::buffer::{FlatContoursBuffer, IntShapes};
-use mesh_toolbox::compared::expect_answers;
-use mesh_toolbox::lists::segments;
+use mesh_test_support::compared::expect_answers;
+use mesh_test_support::lists::segments;
 use std::alloc::{AllocError, Global};
 use std::test::Fail;
 

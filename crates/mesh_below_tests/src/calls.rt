@@ -7,11 +7,11 @@ use mesh_below::checks::are_resolvable;
 use mesh_num::num::IntPoint;
 use mesh_num::shape::buffer::FlatContoursBuffer;
 use mesh_num::shape::segment::{Segment, SubjectSegments, XSegment};
-use mesh_toolbox::compared::{
+use mesh_test_support::compared::{
     are_same_segments, are_shapes, expect_equal, expect_that, holds, is_contour,
 };
-use mesh_toolbox::lists::segments;
-use mesh_toolbox::outer;
+use mesh_test_support::lists::segments;
+use mesh_test_support::outer;
 use std::alloc::{AllocError, Global};
 use std::test::Fail;
 

@@ -2,7 +2,7 @@
 //! whether two of them meet, and which edges may have been bent.
 
 use mesh_below::grid::{CountedSegment, GridEdge};
-use mesh_toolbox::plain::{Edge, Point, cross, crossing, minus, refined};
+use mesh_test_support::plain::{Edge, Point, cross, crossing, minus, refined};
 use std::alloc::{AllocError, Global};
 
 /// An edge, and how often it counts.

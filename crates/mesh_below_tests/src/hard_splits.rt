@@ -9,9 +9,9 @@ use mesh_below::below::FillRule;
 use mesh_below::given::are_proper;
 use mesh_below::grid::{CountedSegment, GridEdge};
 use mesh_below::splitter::split_edges_counted;
-use mesh_toolbox::compared::{expect_equal, expect_that};
-use mesh_toolbox::edges::edges_of_shapes;
-use mesh_toolbox::plain::{Edge, Point, cross, dot, minus};
+use mesh_test_support::compared::{expect_equal, expect_that};
+use mesh_test_support::edges::edges_of_shapes;
+use mesh_test_support::plain::{Edge, Point, cross, dot, minus};
 use std::alloc::Global;
 use std::test::Fail;
 

@@ -2,11 +2,11 @@
 
 use crate::answers::{answered_shapes, overlay_of};
 use mesh_below::below::{FillRule, Overlay};
-use mesh_toolbox::compared::{expect_equal, expect_that};
-use mesh_toolbox::edges::{edges_of_segments, edges_of_shapes};
-use mesh_toolbox::lists::{path, push_contour};
-use mesh_toolbox::plain::winding;
-use mesh_toolbox::random::Random;
+use mesh_test_support::compared::{expect_equal, expect_that};
+use mesh_test_support::edges::{edges_of_segments, edges_of_shapes};
+use mesh_test_support::lists::{path, push_contour};
+use mesh_test_support::plain::winding;
+use mesh_test_support::random::Random;
 use std::alloc::{AllocError, Global};
 use std::test::Fail;
 

@@ -5,11 +5,11 @@ use crate::answers::{answered_shapes, overlay_of};
 use crate::hard_splits::is_near_some;
 use crate::random_answers::is_filled;
 use mesh_below::below::{FillRule, Overlay};
-use mesh_toolbox::compared::{expect_equal, expect_that};
-use mesh_toolbox::edges::{edges_of_segments, edges_of_shapes};
-use mesh_toolbox::lists::{path, push_contour};
-use mesh_toolbox::plain::winding;
-use mesh_toolbox::random::{Random, scattered};
+use mesh_test_support::compared::{expect_equal, expect_that};
+use mesh_test_support::edges::{edges_of_segments, edges_of_shapes};
+use mesh_test_support::lists::{path, push_contour};
+use mesh_test_support::plain::winding;
+use mesh_test_support::random::{Random, scattered};
 use std::alloc::{AllocError, Global};
 use std::test::Fail;
 

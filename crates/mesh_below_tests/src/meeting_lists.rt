@@ -6,8 +6,8 @@ ghost use Rattle.std.specs.Prelude.{◌<◌};
 use crate::random_splits::{expect_split, push_closed};
 use crate::splits::split_sorted;
 use mesh_below::grid::GridEdge;
-use mesh_toolbox::compared::expect_equal;
-use mesh_toolbox::random::{Random, scattered};
+use mesh_test_support::compared::expect_equal;
+use mesh_test_support::random::{Random, scattered};
 use std::alloc::{AllocError, Global};
 use std::test::Fail;
 

@@ -5,11 +5,11 @@ use crate::counted::meet;
 use crate::random_answers::{again, expect_region, scattered_overlay};
 use mesh_below::below::{ContourDirection, FillRule, IntOverlayOptions, OverlayRule, arranged};
 use mesh_num::shape::buffer::IntShapes;
-use mesh_toolbox::compared::{expect_equal, expect_that};
-use mesh_toolbox::edges::edges_of_shapes;
-use mesh_toolbox::outer;
-use mesh_toolbox::plain::Edge;
-use mesh_toolbox::random::Random;
+use mesh_test_support::compared::{expect_equal, expect_that};
+use mesh_test_support::edges::edges_of_shapes;
+use mesh_test_support::outer;
+use mesh_test_support::plain::Edge;
+use mesh_test_support::random::Random;
 use std::alloc::{AllocError, Global};
 use std::test::Fail;
 

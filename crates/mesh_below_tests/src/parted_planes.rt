@@ -4,7 +4,7 @@ ghost use Rattle.std.specs.Prelude.{◌<◌, ◌^◌};
 
 use crate::random_splits::{expect_split, push_closed};
 use mesh_below::grid::GridEdge;
-use mesh_toolbox::random::{Random, scattered};
+use mesh_test_support::random::{Random, scattered};
 use std::alloc::{AllocError, Global};
 use std::test::Fail;
 

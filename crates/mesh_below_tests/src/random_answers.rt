@@ -6,11 +6,11 @@ use crate::splits::split_sorted;
 use mesh_below::below::{ContourDirection, FillRule, Overlay, OverlayRule};
 use mesh_below::given::grid_edge;
 use mesh_num::shape::buffer::IntShapes;
-use mesh_toolbox::compared::{expect_equal, expect_that};
-use mesh_toolbox::edges::{edges_of_segments, edges_of_shapes};
-use mesh_toolbox::lists::{path, push_contour};
-use mesh_toolbox::plain::{Edge, winding};
-use mesh_toolbox::random::{Random, scattered, slanted};
+use mesh_test_support::compared::{expect_equal, expect_that};
+use mesh_test_support::edges::{edges_of_segments, edges_of_shapes};
+use mesh_test_support::lists::{path, push_contour};
+use mesh_test_support::plain::{Edge, winding};
+use mesh_test_support::random::{Random, scattered, slanted};
 use std::alloc::{AllocError, Global};
 use std::test::Fail;
 

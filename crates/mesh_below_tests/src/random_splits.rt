@@ -8,9 +8,9 @@ use crate::counted::{
 };
 use crate::splits::split_sorted;
 use mesh_below::grid::GridEdge;
-use mesh_toolbox::compared::{expect_equal, expect_that};
-use mesh_toolbox::plain::Edge;
-use mesh_toolbox::random::{Random, scattered, slanted_edges};
+use mesh_test_support::compared::{expect_equal, expect_that};
+use mesh_test_support::plain::Edge;
+use mesh_test_support::random::{Random, scattered, slanted_edges};
 use std::alloc::{AllocError, Global};
 use std::test::Fail;
 

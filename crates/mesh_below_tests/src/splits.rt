@@ -3,7 +3,7 @@
 use mesh_below::given::are_proper;
 use mesh_below::grid::{CountedSegment, GridEdge};
 use mesh_below::splitter::split_edges;
-use mesh_toolbox::compared::expect_equal;
+use mesh_test_support::compared::expect_equal;
 use std::alloc::{AllocError, Global};
 use std::test::Fail;
 

@@ -2,7 +2,7 @@
 
 use crate::answers::{Row, Shapes, expect, overlay_of};
 use mesh_below::below::{ContourDirection, FillRule};
-use mesh_toolbox::{inner, outer};
+use mesh_test_support::{inner, outer};
 use std::test::Fail;
 
 /// Contours, and the answers by the positive and by the negative rule.

@@ -2,7 +2,7 @@
 
 use crate::BenchError;
 use mesh_num::num::IntVector;
-use mesh_toolbox::random::Random;
+use mesh_test_support::random::Random;
 
 /// Finds the directions of so many vectors whose components have at most so many bits, of which there are from 1 to 31,
 /// and adds up their components.

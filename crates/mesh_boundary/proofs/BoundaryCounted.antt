@@ -9,19 +9,19 @@ use Rattle.std.proofs.lemmas.List.Sums.{sum_by-append}
 use Rattle.mesh_plane.specs.Plane.{Point, Edge}
 use Rattle.mesh_plane.specs.Winding.{sum_of, same_point, crossing_on, winding}
 use Rattle.mesh_plane.proofs.Whole.{linear, add_mul, mul_add, mul_assoc, mul_zero, mul_one}
-use Rattle.mesh_cuts.specs.Clean.{IsProper}
-use Rattle.mesh_cuts.specs.Split.{back, same_edge, same_ends, occurs}
-use Rattle.mesh_cuts.specs.Counted.{Counted, bit, along, net, counted_net, times, IsCountOf}
-use Rattle.mesh_cuts.specs.Boundary.{count, IsBoundary, middle, rises, winding_beside, left_winding, right_winding}
-use Rattle.mesh_boundary.specs.Midway.CountedSides.{counted_winding, sides_by, sides_of, is_parted, boundary_edge}
-use Rattle.mesh_boundary.specs.Midway.Stars.{IsSegment}
-use Rattle.mesh_cuts.proofs.Ends.{decides_edge, decides_ends, ends_self, along_self, not_along}
-use Rattle.mesh_cuts.proofs.Counts.{times_least, absent_net, bit_most}
-use Rattle.mesh_cuts.proofs.Each.{Each, each_more}
-use Rattle.mesh_cuts.proofs.Each.{proper_of}
-use Rattle.mesh_cuts.proofs.Keys.{Leans, Distinct, keys, keys_are, grouped, pick, leaning_either, no_sum}
-use Rattle.mesh_cuts.proofs.SidesBack.{count_more, sides_back}
-use Rattle.mesh_cuts.proofs.SidesBack.{crossing_back}
+use Rattle.mesh_lattice.specs.Clean.{IsProper}
+use Rattle.mesh_lattice.specs.Split.{back, same_edge, same_ends, occurs}
+use Rattle.mesh_lattice.specs.Counted.{Counted, bit, along, net, counted_net, times, IsCountOf}
+use Rattle.mesh_lattice.specs.Boundary.{count, IsBoundary, middle, rises, winding_beside, left_winding, right_winding}
+use Rattle.mesh_boundary.specs.Private.CountedSides.{counted_winding, sides_by, sides_of, is_parted, boundary_edge}
+use Rattle.mesh_boundary.specs.Private.Stars.{IsSegment}
+use Rattle.mesh_lattice.proofs.Ends.{decides_edge, decides_ends, ends_self, along_self, not_along}
+use Rattle.mesh_lattice.proofs.Counts.{times_least, absent_net, bit_most}
+use Rattle.mesh_lattice.proofs.Each.{Each, each_more}
+use Rattle.mesh_lattice.proofs.Each.{proper_of}
+use Rattle.mesh_lattice.proofs.Keys.{Leans, Distinct, keys, keys_are, grouped, pick, leaning_either, no_sum}
+use Rattle.mesh_lattice.proofs.SidesBack.{count_more, sides_back}
+use Rattle.mesh_lattice.proofs.SidesBack.{crossing_back}
 
 -- ---- how often a segment stands, and its count
 times_grow : (q : Edge) (k : Counted) (ks : List Counted) → times q ks ≤ℤ times q (k ∷ ks)

@@ -3,16 +3,16 @@ use Rattle.std.proofs.Common.{◌≡◌, Bool, true, false, cond, Option, None, 
 use Rattle.std.specs.Prelude.{ℤ, neg_ℤ, ◌+ℤ◌, ◌-ℤ◌, IfSome, SomeIff}
 use Rattle.mesh_plane.specs.Plane.{Edge}
 use Rattle.mesh_plane.proofs.Whole.{linear}
-use Rattle.mesh_cuts.specs.Boundary.{rises, winding_beside, left_winding, right_winding}
-use Rattle.mesh_cuts.specs.Counted.{Counted, net}
-use Rattle.mesh_cuts.specs.Split.{back, occurs}
-use Rattle.mesh_cuts.proofs.Each.{proper_of}
-use Rattle.mesh_cuts.proofs.Keys.{occurs_back, net_back}
-use Rattle.mesh_sides.specs.Laws.{AreSplit}
-use Rattle.mesh_sides.specs.Star.{net_before}
-use Rattle.mesh_sides.proofs.StarSums.{ends_follow}
-use Rattle.mesh_boundary.specs.Midway.Flood.{IsLevel}
-use Rattle.mesh_boundary.specs.Midway.Stars.{IsSegment}
+use Rattle.mesh_lattice.specs.Boundary.{rises, winding_beside, left_winding, right_winding}
+use Rattle.mesh_lattice.specs.Counted.{Counted, net}
+use Rattle.mesh_lattice.specs.Split.{back, occurs}
+use Rattle.mesh_lattice.proofs.Each.{proper_of}
+use Rattle.mesh_lattice.proofs.Keys.{occurs_back, net_back}
+use Rattle.mesh_regions.specs.SideLaws.{AreSplit}
+use Rattle.mesh_regions.specs.Star.{net_before}
+use Rattle.mesh_regions.proofs.StarSums.{ends_follow}
+use Rattle.mesh_boundary.specs.Private.Flood.{IsLevel}
+use Rattle.mesh_boundary.specs.Private.Stars.{IsSegment}
 use Rattle.mesh_boundary.proofs.BoundaryCounted.{sides_turned}
 
 -- ---- what may be

@@ -7,12 +7,12 @@ use Rattle.std.proofs.lemmas.Int.{ints}
 use Rattle.mesh_plane.specs.Plane.{Point}
 use Rattle.mesh_plane.specs.Winding.{sum_of, crossing_on}
 use Rattle.mesh_plane.proofs.Whole.{linear, mul_zero}
-use Rattle.mesh_cuts.specs.declared.places.Mark.{Mark}
-use Rattle.mesh_cuts.specs.Counted.{Counted, size}
-use Rattle.mesh_cuts.specs.Marks.{place}
-use Rattle.mesh_rows.specs.Rows.{reaches_row, AreRows}
-use Rattle.mesh_rows.proofs.RowLists.{row_is, row_total}
-use Rattle.mesh_boundary.specs.Midway.CountedSides.{counted_winding}
+use Rattle.mesh_lattice.specs.declared.places.Mark.{Mark}
+use Rattle.mesh_lattice.specs.Counted.{Counted, size}
+use Rattle.mesh_lattice.specs.Marks.{place}
+use Rattle.mesh_lattice.specs.Rows.{reaches_row, AreRows}
+use Rattle.mesh_lattice.proofs.RowLists.{row_is, row_total}
+use Rattle.mesh_boundary.specs.Private.CountedSides.{counted_winding}
 use Rattle.mesh_boundary.proofs.SidesCode.{size_least}
 
 -- a sum over some of a list is at most that over all

@@ -7,8 +7,8 @@ use mir.Val.{SFits, to_z, of_z}
 use Rattle.mesh_plane.specs.Bounds.{IsSmall}
 use Rattle.mesh_plane.specs.Winding.{sum_of}
 use Rattle.mesh_plane.proofs.Whole.{mul_zero, mul_one, mul_neg}
-use Rattle.mesh_cuts.specs.Counted.{Counted}
-use Rattle.mesh_cuts.specs.Counted.{size}
+use Rattle.mesh_lattice.specs.Counted.{Counted}
+use Rattle.mesh_lattice.specs.Counted.{size}
 
 pub times_up : (n d : ℤ) → IsSmall 2 d → pos 0 <ℤ d → n ≡ n *ℤ d
 times_up n d s h =

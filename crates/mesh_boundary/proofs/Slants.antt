@@ -12,17 +12,17 @@ use Rattle.mesh_plane.proofs.Crossings.{crossing_low, crossing_high, crossing_up
 use Rattle.mesh_plane.proofs.Comparing.{at_most_test, test_less, test_not_less, test_at_most, test_above}
 use Rattle.mesh_plane.proofs.Balance.{growth, growth_of_balanced}
 use Rattle.mesh_plane.proofs.Sizes.{div_monotone}
-use Rattle.mesh_cuts.specs.declared.places.Mark.{Mark}
-use Rattle.mesh_cuts.specs.Counted.{Counted, bit, size, IsCountOf}
-use Rattle.mesh_cuts.specs.Marks.{place}
-use Rattle.mesh_cuts.specs.Clean.{IsProper}
-use Rattle.mesh_cuts.specs.Split.{back}
-use Rattle.mesh_cuts.proofs.SidesBack.{crossing_back}
-use Rattle.mesh_boundary.specs.Midway.CountedSides.{counted_winding}
-use Rattle.mesh_rows.specs.Rows.{reaches_row, AreRows}
-use Rattle.mesh_boundary.specs.Midway.Slants.{is_between, slanted_crossing, slanted_winding, level_of, leveled}
+use Rattle.mesh_lattice.specs.declared.places.Mark.{Mark}
+use Rattle.mesh_lattice.specs.Counted.{Counted, bit, size, IsCountOf}
+use Rattle.mesh_lattice.specs.Marks.{place}
+use Rattle.mesh_lattice.specs.Clean.{IsProper}
+use Rattle.mesh_lattice.specs.Split.{back}
+use Rattle.mesh_lattice.proofs.SidesBack.{crossing_back}
+use Rattle.mesh_boundary.specs.Private.CountedSides.{counted_winding}
+use Rattle.mesh_lattice.specs.Rows.{reaches_row, AreRows}
+use Rattle.mesh_boundary.specs.Private.Slants.{is_between, slanted_crossing, slanted_winding, level_of, leveled}
 use Rattle.mesh_boundary.proofs.BoundaryCounted.{counted_sum, counted_at}
-use Rattle.mesh_rows.proofs.RowLists.{off_height, row_is}
+use Rattle.mesh_lattice.proofs.RowLists.{off_height, row_is}
 use Rattle.mesh_boundary.proofs.RowSums.{filtered_sum}
 use Rattle.mesh_boundary.proofs.SidesCode.{size_least}
 

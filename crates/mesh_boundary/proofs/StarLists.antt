@@ -12,17 +12,17 @@ use Rattle.mesh_plane.specs.Winding.{sum_of, same_point}
 use Rattle.mesh_plane.proofs.Comparing.{decides_point}
 use Rattle.mesh_plane.proofs.Sums.{sum_of_filter, sum_of_map}
 use Rattle.mesh_plane.proofs.Whole.{linear, mul_zero, mul_one, mul_neg}
-use Rattle.mesh_cuts.specs.declared.places.Mark.{Mark}
-use Rattle.mesh_cuts.specs.Counted.{Counted, bit, IsCountOf}
-use Rattle.mesh_cuts.specs.Lists.{list_at}
-use Rattle.mesh_cuts.specs.Split.{back}
-use Rattle.mesh_cuts.proofs.PlacesAmong.{place_most}
-use Rattle.mesh_sides.specs.Laws.{AreSplit}
-use Rattle.mesh_sides.specs.Star.{comes_before, net_before}
-use Rattle.mesh_sides.proofs.StarSums.{edge_net_before}
-use Rattle.mesh_boundary.specs.Midway.Stars.{code, place_among, ends_at, touches, segments_at, counted_before, AreShaped, AreStars, IsFiled, IsSegment, IsStar, HaveStars}
+use Rattle.mesh_lattice.specs.declared.places.Mark.{Mark}
+use Rattle.mesh_lattice.specs.Counted.{Counted, bit, IsCountOf}
+use Rattle.mesh_lattice.specs.Lists.{list_at}
+use Rattle.mesh_lattice.specs.Split.{back}
+use Rattle.mesh_lattice.proofs.PlacesAmong.{place_most}
+use Rattle.mesh_regions.specs.SideLaws.{AreSplit}
+use Rattle.mesh_regions.specs.Star.{comes_before, net_before}
+use Rattle.mesh_regions.proofs.StarSums.{edge_net_before}
+use Rattle.mesh_boundary.specs.Private.Stars.{code, place_among, ends_at, touches, segments_at, counted_before, AreShaped, AreStars, IsFiled, IsSegment, IsStar, HaveStars}
 use Rattle.mesh_boundary.proofs.BoundaryCounted.{counted_segments, counted_sum}
-use Rattle.mesh_rows.proofs.RowLists.{filter_more}
+use Rattle.mesh_lattice.proofs.RowLists.{filter_more}
 use Rattle.mesh_boundary.proofs.SidesCode.{sum_more}
 
 -- ---- listing

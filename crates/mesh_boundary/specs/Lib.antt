@@ -1,1 +1,1 @@
-pub mod Midway
+pub mod Private

@@ -5,18 +5,18 @@ ghost use Rattle.std.specs.Prelude.{◌≡◌, ℕ, ◌<◌, true, List, length,
 ghost use Rattle.std.specs.List.{All};
 ghost use Rattle.mesh_plane.specs.Plane.{Point, Edge};
 ghost use Rattle.mesh_plane.specs.Winding.{sum_of};
-ghost use Rattle.mesh_cuts.specs.Boundary.{right_winding};
-ghost use Rattle.mesh_cuts.specs.Counted.{Counted, size, IsRoomy};
-ghost use Rattle.mesh_cuts.specs.Split.{back, occurs};
-ghost use Rattle.mesh_sides.specs.Laws.{AreSplit};
-ghost use Rattle.mesh_boundary.specs.Midway.Flood.{OfSplitEdges, IsLevel, AreKnown, windings_beside};
-ghost use Rattle.mesh_boundary.specs.Midway.Stars.{ends_at, segments_at, AreStars, AreShaped, HaveStars, IsSegment};
-ghost use Rattle.mesh_boundary.specs.Midway.Stars.{IsStar};
+ghost use Rattle.mesh_lattice.specs.Boundary.{right_winding};
+ghost use Rattle.mesh_lattice.specs.Counted.{Counted, size, IsRoomy};
+ghost use Rattle.mesh_lattice.specs.Split.{back, occurs};
+ghost use Rattle.mesh_regions.specs.SideLaws.{AreSplit};
+ghost use Rattle.mesh_boundary.specs.Private.Flood.{OfSplitEdges, IsLevel, AreKnown, windings_beside};
+ghost use Rattle.mesh_boundary.specs.Private.Stars.{ends_at, segments_at, AreStars, AreShaped, HaveStars, IsSegment};
+ghost use Rattle.mesh_boundary.specs.Private.Stars.{IsStar};
 
 use crate::stars::{Ends, Stars, back, before};
 use crate::sums::Sums;
-use mesh_cuts::exact::same_point;
-use mesh_cuts::grid::{CountedSegment, GridEdge, GridPoint};
+use mesh_lattice::exact::same_point;
+use mesh_lattice::grid::{CountedSegment, GridEdge, GridPoint};
 use std::alloc::{AllocError, Global};
 
 /// A point and the winding at it. A greater one is not noted: then a sum over all segments tells the sides.

@@ -3,33 +3,24 @@
 ghost use Rattle.std.specs.Prelude.{◌≡◌, List, ◌++◌, OnOk, IfOk};
 ghost use Rattle.mesh_plane.specs.Plane.{Edge};
 ghost use Rattle.mesh_plane.specs.Winding.{sum_of};
-ghost use Rattle.mesh_cuts.specs.Boundary.{IsBoundary};
-ghost use Rattle.mesh_cuts.specs.Counted.{size, IsCountOf, IsRoomy};
-ghost use Rattle.mesh_cuts.specs.FillRules.{filled};
-ghost use Rattle.mesh_sides.specs.Laws.{AreSplit};
-ghost use Rattle.mesh_boundary.specs.Midway.CountedSides.{is_parted, boundary_edge};
-ghost use Rattle.mesh_boundary.specs.Midway.Ways.{Serves};
+ghost use Rattle.mesh_lattice.specs.Boundary.{IsBoundary};
+ghost use Rattle.mesh_lattice.specs.Counted.{size, IsCountOf, IsRoomy};
+ghost use Rattle.mesh_lattice.specs.FillRules.{filled};
+ghost use Rattle.mesh_regions.specs.SideLaws.{AreSplit};
+ghost use Rattle.mesh_boundary.specs.Private.CountedSides.{is_parted, boundary_edge};
+ghost use Rattle.mesh_boundary.specs.Private.Ways.{Serves};
 
 use crate::flood::Sides;
 use crate::ways::Way;
-use mesh_cuts::fill::FillRule;
-use mesh_cuts::grid::{CountedSegment, GridEdge};
+use mesh_lattice::fill::FillRule;
+use mesh_lattice::grid::{CountedSegment, GridEdge};
 use std::alloc::{AllocError, Global};
-
-fn is_filled(fill: FillRule, winding: i128) -> bool
-    ensures { result ≡ filled fill winding }
-{
-    match fill {
-        FillRule::Positive => winding > 0,
-        FillRule::Negative => winding < 0,
-    }
-}
 
 /// Whether the first side is filled and the second is not.
 fn is_parted(fill: FillRule, sides: Sides) -> bool
     ensures { result ≡ is_parted (filled fill) sides }
 {
-    is_filled(fill, sides.0) && !is_filled(fill, sides.1)
+    fill.is_filled(sides.0) && !fill.is_filled(sides.1)
 }
 
 /// Adds the edge of the boundary on a segment, if there is one.

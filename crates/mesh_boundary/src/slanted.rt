@@ -6,18 +6,18 @@ ghost use Rattle.std.specs.declared.alloc.Global.{Global};
 ghost use Rattle.mesh_plane.specs.Bounds.{IsSmall, IsSafe};
 ghost use Rattle.mesh_plane.specs.Plane.{Edge, cross};
 ghost use Rattle.mesh_plane.specs.Winding.{refined};
-ghost use Rattle.mesh_cuts.specs.Boundary.{middle};
-ghost use Rattle.mesh_cuts.specs.Counted.{Counted, bit, size, IsRoomy};
-ghost use Rattle.mesh_cuts.specs.Lists.{list_at};
-ghost use Rattle.mesh_cuts.specs.Marks.{place, AreRising};
-ghost use Rattle.mesh_boundary.specs.Midway.Slants.{is_between, slanted_crossing, level_of, leveled_by, AreSlantedRows};
-ghost use Rattle.mesh_boundary.specs.Midway.Slants.{IsSlant, listed_winding, listed_size};
+ghost use Rattle.mesh_lattice.specs.Boundary.{middle};
+ghost use Rattle.mesh_lattice.specs.Counted.{Counted, bit, size, IsRoomy};
+ghost use Rattle.mesh_lattice.specs.Lists.{list_at};
+ghost use Rattle.mesh_lattice.specs.Marks.{place, AreRising};
+ghost use Rattle.mesh_boundary.specs.Private.Slants.{is_between, slanted_crossing, level_of, leveled_by, AreSlantedRows};
+ghost use Rattle.mesh_boundary.specs.Private.Slants.{IsSlant, listed_winding, listed_size};
 
-use mesh_cuts::exact::{Vector, cross, minus};
-use mesh_cuts::fine::{FinePoint, crossing, doubled, middle};
-use mesh_cuts::grid::{CountedSegment, GridEdge, GridPoint};
-use mesh_cuts::samples::sample;
-use mesh_rows::rows::{Rows, SAMPLED, mean_reached};
+use mesh_lattice::exact::{Vector, cross, minus};
+use mesh_lattice::fine::{FinePoint, crossing, doubled, middle};
+use mesh_lattice::grid::{CountedSegment, GridEdge, GridPoint};
+use mesh_lattice::rows::{Rows, SAMPLED, mean_reached};
+use mesh_lattice::samples::sample;
 use std::alloc::{AllocError, Global};
 use std::marker::Model;
 
@@ -41,7 +41,7 @@ pub struct Slant {
 
 impl Model for Slant {
     ghost use Rattle.std.specs.Prelude.{ℕ, ℤ};
-    ghost use Rattle.mesh_boundary.specs.Midway.Slants.{IsSlant};
+    ghost use Rattle.mesh_boundary.specs.Private.Slants.{IsSlant};
 
     ghost Value = { (ℤ × ℤ) × (ℤ × ℕ) };
 

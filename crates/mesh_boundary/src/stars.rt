@@ -3,17 +3,17 @@
 ghost use Rattle.std.specs.Prelude.{◌≡◌, ℕ, ◌<◌, ◌≤◌, ◌+ℤ◌, ◌-ℤ◌, ◌*ℤ◌, List, length, IfOk, IfSome, OnOk};
 ghost use Rattle.std.specs.List.{All};
 ghost use Rattle.mesh_plane.specs.Plane.{Point, Edge};
-ghost use Rattle.mesh_cuts.specs.Boundary.{rises};
-ghost use Rattle.mesh_cuts.specs.Counted.{Counted, bit};
-ghost use Rattle.mesh_cuts.specs.Marks.{AreRising};
-ghost use Rattle.mesh_cuts.specs.Split.{back};
-ghost use Rattle.mesh_sides.specs.Star.{comes_before, leaves_before};
-ghost use Rattle.mesh_boundary.specs.Midway.Stars.{code, place_among, ends_at, segments_at, counted_before};
-ghost use Rattle.mesh_boundary.specs.Midway.Stars.{AreShaped, AreStars, IsFiled, HaveStars, IsStar};
+ghost use Rattle.mesh_lattice.specs.Boundary.{rises};
+ghost use Rattle.mesh_lattice.specs.Counted.{Counted, bit};
+ghost use Rattle.mesh_lattice.specs.Marks.{AreRising};
+ghost use Rattle.mesh_lattice.specs.Split.{back};
+ghost use Rattle.mesh_regions.specs.Star.{comes_before, leaves_before};
+ghost use Rattle.mesh_boundary.specs.Private.Stars.{code, place_among, ends_at, segments_at, counted_before};
+ghost use Rattle.mesh_boundary.specs.Private.Stars.{AreShaped, AreStars, IsFiled, HaveStars, IsStar};
 
-use mesh_cuts::exact::{same_point, turn};
-use mesh_cuts::grid::{CountedSegment, GridEdge, GridPoint};
-use mesh_cuts::places::{Mark, empty_lists, in_order, place, push_to};
+use mesh_lattice::exact::{same_point, turn};
+use mesh_lattice::grid::{CountedSegment, GridEdge, GridPoint};
+use mesh_lattice::places::{Mark, empty_lists, in_order, place, push_to};
 use std::alloc::{AllocError, Global};
 
 /// The places of an edge's ends.
@@ -101,7 +101,7 @@ impl Stars {
 }
 
 /// Upwards, or level and to the west.
-#[tactic(auto, unfolding(mesh_cuts::specs::Boundary::rises))]
+#[tactic(auto, unfolding(mesh_lattice::specs::Boundary::rises))]
 pub fn rises(e: GridEdge) -> bool
     ensures { result ≡ rises e }
 {

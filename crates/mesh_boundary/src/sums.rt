@@ -2,14 +2,14 @@
 
 ghost use Rattle.std.specs.Prelude.{◌≡◌, List, IfOk};
 ghost use Rattle.mesh_plane.specs.Winding.{sum_of, refined};
-ghost use Rattle.mesh_cuts.specs.Counted.{Counted, size, IsRoomy};
-ghost use Rattle.mesh_boundary.specs.Midway.CountedSides.{counted_winding};
-ghost use Rattle.mesh_boundary.specs.Midway.Sums.{MayHaveRows};
+ghost use Rattle.mesh_lattice.specs.Counted.{Counted, size, IsRoomy};
+ghost use Rattle.mesh_boundary.specs.Private.CountedSides.{counted_winding};
+ghost use Rattle.mesh_boundary.specs.Private.Sums.{MayHaveRows};
 
 use crate::winding::winding;
-use mesh_cuts::fine::doubled;
-use mesh_cuts::grid::{CountedSegment, GridPoint};
-use mesh_rows::rows::Rows;
+use mesh_lattice::fine::doubled;
+use mesh_lattice::grid::{CountedSegment, GridPoint};
+use mesh_lattice::rows::Rows;
 use std::alloc::{AllocError, Global};
 
 /// For so many points all segments are gone through, which is quicker than to list them.

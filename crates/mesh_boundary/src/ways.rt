@@ -3,22 +3,22 @@
 ghost use Rattle.std.specs.Prelude.{◌≡◌, ◌^◌, ◌<◌, length, slice_index_or, IfOk};
 ghost use Rattle.mesh_plane.specs.Bounds.{IsSmall};
 ghost use Rattle.mesh_plane.specs.Winding.{sum_of};
-ghost use Rattle.mesh_cuts.specs.Counted.{Counted, size, IsRoomy};
-ghost use Rattle.mesh_rows.specs.Rows.{AreRows};
-ghost use Rattle.mesh_boundary.specs.Midway.CountedSides.{sides_by, sides_of};
-ghost use Rattle.mesh_boundary.specs.Midway.Flood.{OfSplitEdges, AreKnown};
-ghost use Rattle.mesh_boundary.specs.Midway.Slants.{AreSlantedRows};
-ghost use Rattle.mesh_boundary.specs.Midway.Stars.{AreStars};
-ghost use Rattle.mesh_boundary.specs.Midway.Ways.{Serves};
+ghost use Rattle.mesh_lattice.specs.Counted.{Counted, size, IsRoomy};
+ghost use Rattle.mesh_lattice.specs.Rows.{AreRows};
+ghost use Rattle.mesh_boundary.specs.Private.CountedSides.{sides_by, sides_of};
+ghost use Rattle.mesh_boundary.specs.Private.Flood.{OfSplitEdges, AreKnown};
+ghost use Rattle.mesh_boundary.specs.Private.Slants.{AreSlantedRows};
+ghost use Rattle.mesh_boundary.specs.Private.Stars.{AreStars};
+ghost use Rattle.mesh_boundary.specs.Private.Ways.{Serves};
 
 use crate::flood::{Flood, Sides};
 use crate::slanted::{SlantedRows, slanted_rows};
 use crate::stars::{Stars, rises};
 use crate::winding::winding;
-use mesh_cuts::fine::middle;
-use mesh_cuts::grid::CountedSegment;
-use mesh_cuts::samples::sample;
-use mesh_rows::rows::{Rows, SAMPLED, mean_reached};
+use mesh_lattice::fine::middle;
+use mesh_lattice::grid::CountedSegment;
+use mesh_lattice::rows::{Rows, SAMPLED, mean_reached};
+use mesh_lattice::samples::sample;
 use std::alloc::{AllocError, Global};
 
 /// For so few segments rows serve, however long they are.

@@ -3,11 +3,11 @@
 ghost use Rattle.std.specs.Prelude.{◌≡◌, ◌^◌, pos, ◌≤ℤ◌, ◌*ℤ◌, unsigned_abs};
 ghost use Rattle.mesh_plane.specs.Bounds.{IsSmall};
 ghost use Rattle.mesh_plane.specs.Winding.{sum_of, crossing_on};
-ghost use Rattle.mesh_cuts.specs.Counted.{size, IsRoomy};
-ghost use Rattle.mesh_boundary.specs.Midway.CountedSides.{counted_winding};
+ghost use Rattle.mesh_lattice.specs.Counted.{size, IsRoomy};
+ghost use Rattle.mesh_boundary.specs.Private.CountedSides.{counted_winding};
 
-use mesh_cuts::fine::{FinePoint, crossing, doubled};
-use mesh_cuts::grid::CountedSegment;
+use mesh_lattice::fine::{FinePoint, crossing, doubled};
+use mesh_lattice::grid::CountedSegment;
 
 /// A segment's crossing at a point, as often as it counts.
 fn counted_crossing(q: FinePoint, s: CountedSegment) -> i128

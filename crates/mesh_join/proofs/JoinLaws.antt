@@ -1,7 +1,7 @@
 -- What the theory of outlines needs of joins. Each kind of join has it; no more is known of a kind above here.
 use Rattle.std.specs.Prelude.{ℕ, ◌≡◌, ◌≤◌, IsTrue, length, ℤ, pos, ◌≤ℤ◌, unsigned_abs}
 use Rattle.std.specs.List.{All}
-use Rattle.mesh_grid.specs.Direction.{IsShort}
+use Rattle.mesh_num.specs.Direction.{IsShort}
 use Rattle.mesh_join.specs.Joins.{join_points, join_edges, join_padding, has_few, between}
 use Rattle.mesh_join.specs.Joints.{Joint, IsTurn, NeverTurnsBack, IsWithinPadding}
 use Rattle.mesh_join.specs.Styles.{JoinStyle}

@@ -3,7 +3,7 @@ use Rattle.std.proofs.Common.{ℕ, ◌≤◌, ◌^◌, arith, subst, sym}
 use Rattle.std.specs.Prelude.{ℤ, pos, ◌≤ℤ◌, unsigned_abs}
 use Rattle.mesh_plane.specs.Plane.{Point}
 use Rattle.mesh_plane.proofs.ClosedLists.{route_all}
-use Rattle.mesh_grid.specs.Direction.{IsShort}
+use Rattle.mesh_num.specs.Direction.{IsShort}
 use Rattle.mesh_join.proofs.Bevels.{bevel_keeps}
 use Rattle.mesh_join.proofs.Joints.{contact_within}
 use Rattle.mesh_join.proofs.JoinLaws.{KeepsJoints}

@@ -5,9 +5,9 @@ use Rattle.std.proofs.lemmas.Int.{ints}
 use Rattle.mesh_plane.specs.Bounds.{IsSafe}
 use Rattle.mesh_plane.specs.Plane.{Point, plus, minus, right_quarter}
 use Rattle.mesh_plane.proofs.Whole.{one_mul}
-use Rattle.mesh_grid.specs.Rectangle.{IsSafeWidened}
-use Rattle.mesh_grid.specs.Direction.{IsShort, scaled_direction}
-use Rattle.mesh_grid.proofs.Scaling.{scaled_direction_bounded}
+use Rattle.mesh_num.specs.Rectangle.{IsSafeWidened}
+use Rattle.mesh_num.specs.Direction.{IsShort, scaled_direction}
+use Rattle.mesh_num.proofs.Scaling.{scaled_direction_bounded}
 use Rattle.mesh_arc.specs.declared.arc.ArcDirection.{ArcDirection}
 use Rattle.mesh_arc.specs.declared.arc.ArcDirection.TheVariants.{Clockwise, Counterclockwise}
 use Rattle.mesh_join.specs.Joints.{IsWithinPadding, contact}

@@ -15,18 +15,18 @@ use Rattle.mesh_plane.proofs.Whole.{mul_le_mul_left}
 use Rattle.mesh_plane.proofs.ClosedLists.{route_length}
 use Rattle.mesh_plane.specs.Bounds.{IsSafe, IsWithin}
 use Rattle.mesh_plane.proofs.Comparing.{test_at_most}
-use Rattle.mesh_grid.specs.Quotient.{rounded_product}
+use Rattle.mesh_num.specs.Quotient.{rounded_product}
 use Rattle.mesh_sine.proofs.Lengths.{sine_at_most}
 use Rattle.mesh_sine.proofs.Small.{sine_not_small}
 use Rattle.mesh_join.proofs.Bevels.{nothing_between}
-use Rattle.mesh_grid.specs.Rectangle.{IsSafeWidened}
+use Rattle.mesh_num.specs.Rectangle.{IsSafeWidened}
 use Rattle.mesh_num.specs.Segments.{segments_of}
 use Rattle.mesh_join.proofs.Joints.{within_safe}
 use Rattle.mesh_join.proofs.JoinLaws.{KeepsJoint, KeepsJoints}
 use Rattle.mesh_join.specs.Joins.{between, through}
 use Rattle.mesh_arc.specs.Arcs.{sense_of}
 use Rattle.mesh_join.specs.Joints.{Joint, IsTurn, IsWithinPadding, NeverTurnsBack, runs_ahead}
-use Rattle.mesh_join.specs.Midway.Miters.{IsHalfSine}
+use Rattle.mesh_join.specs.Private.Miters.{IsHalfSine}
 use Rattle.mesh_join.specs.Miters.{sharpest, half_sharpest, reach, miter_padding, is_slight, is_near, are_usable, usable, miter_tip, miter_points, is_sharp, clip_points, peak}
 use Rattle.mesh_join.specs.Styles.{JoinStyle}
 use Rattle.mesh_join.specs.declared.style.IntLineJoin.TheVariants.{Miter}

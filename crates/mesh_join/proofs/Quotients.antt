@@ -9,8 +9,8 @@ use Rattle.mesh_plane.specs.Rounding.{rounded}
 use Rattle.mesh_plane.proofs.Rounding.{rounded_within}
 use Rattle.mesh_plane.proofs.Sizes.{size_neg, product_size}
 use Rattle.mesh_plane.specs.Plane.{Point, cross, dot}
-use Rattle.mesh_grid.specs.Quotient.{rounded_product}
-use Rattle.mesh_join.specs.Midway.Miters.{IsNarrow}
+use Rattle.mesh_num.specs.Quotient.{rounded_product}
+use Rattle.mesh_join.specs.Private.Miters.{IsNarrow}
 
 -- rounding makes no size greater
 rounded_small : (a : ℤ) (d : ℕ) → 0 < d → unsigned_abs (rounded a d) ≤ unsigned_abs a

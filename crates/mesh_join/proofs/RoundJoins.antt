@@ -10,12 +10,12 @@ use Rattle.mesh_plane.proofs.Rounding.{rounded_within}
 use Rattle.mesh_plane.proofs.Sizes.{size_neg, size_zero}
 use Rattle.mesh_plane.specs.Plane.{Point, Edge, plus, minus, right_quarter, turn, length_sq}
 use Rattle.mesh_plane.specs.Winding.{route, same_point}
-use Rattle.mesh_grid.specs.Direction.{IsShort, IsFresh, scaled, scaled_direction}
-use Rattle.mesh_grid.specs.Directed.{direction_of}
-use Rattle.mesh_grid.specs.Rectangle.{IsSafeWidened}
-use Rattle.mesh_grid.proofs.Directed.{direction_of_is}
-use Rattle.mesh_grid.proofs.Parts.{direction_short}
-use Rattle.mesh_grid.proofs.Scaling.{scaled_direction_bounded, scaled_direction_length}
+use Rattle.mesh_num.specs.Direction.{IsShort, IsFresh, scaled, scaled_direction}
+use Rattle.mesh_num.specs.Directed.{direction_of}
+use Rattle.mesh_num.specs.Rectangle.{IsSafeWidened}
+use Rattle.mesh_num.proofs.Directed.{direction_of_is}
+use Rattle.mesh_num.proofs.Parts.{direction_short}
+use Rattle.mesh_num.proofs.Scaling.{scaled_direction_bounded, scaled_direction_length}
 use Rattle.mesh_arc.specs.Arcs.{arc, clamped, sense_of}
 use Rattle.mesh_arc.specs.declared.arc.ArcOptions.{ArcOptions}
 use Rattle.mesh_arc.specs.declared.arc.ArcDirection.{ArcDirection}
@@ -26,7 +26,7 @@ use Rattle.mesh_join.specs.Joins.{between}
 use Rattle.mesh_join.specs.Joints.{Joint, IsTurn, IsWithinPadding, contact, runs_ahead}
 use Rattle.mesh_join.specs.RoundJoins.{joint_arc, arc_point, used, round_points, round_padding}
 use Rattle.mesh_join.proofs.Joints.{contact_within, near_difference}
-use Rattle.mesh_join.specs.Midway.RoundJoins.{IsApart, used_past}
+use Rattle.mesh_join.specs.Private.RoundJoins.{IsApart, used_past}
 use Rattle.mesh_join.specs.Styles.{JoinStyle}
 use Rattle.mesh_join.specs.declared.style.IntLineJoin.TheVariants.{Round}
 

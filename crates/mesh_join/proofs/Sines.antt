@@ -11,7 +11,7 @@ use Rattle.mesh_plane.proofs.Identities.{cross_opposite, dot_opposite}
 use Rattle.mesh_plane.proofs.Sizes.{le_of_squares, size_neg}
 use Rattle.mesh_sine.specs.Sine.{sin_cos, IsWithinOne}
 use Rattle.mesh_join.specs.Joints.{Joint}
-use Rattle.mesh_join.specs.Midway.Miters.{IsHalfSine}
+use Rattle.mesh_join.specs.Private.Miters.{IsHalfSine}
 use Rattle.mesh_join.specs.Miters.{slightest, sharpest, half_sharpest, is_angle_below, is_slight, is_sharp}
 use Rattle.mesh_join.proofs.Miters.{half_sine}
 

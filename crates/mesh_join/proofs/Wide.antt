@@ -7,9 +7,9 @@ use mir.Val.{SFits, to_z, of_z}
 use Rattle.mesh_plane.specs.Bounds.{IsWithin, IsSmall}
 use Rattle.mesh_plane.specs.Plane.{Point, plus, minus, cross, dot}
 use Rattle.mesh_plane.proofs.Sizes.{le_of_squares, product_size, size_positive, within_size}
-use Rattle.mesh_grid.specs.Direction.{IsShort}
-use Rattle.mesh_grid.specs.Quotient.{rounded_product}
-use Rattle.mesh_join.specs.Midway.Miters.{IsNarrow}
+use Rattle.mesh_num.specs.Direction.{IsShort}
+use Rattle.mesh_num.specs.Quotient.{rounded_product}
+use Rattle.mesh_join.specs.Private.Miters.{IsNarrow}
 use Rattle.mesh_join.proofs.Quotients.{product_small, product_read, cross_small, dot_small}
 
 abbrev pub read : ℤ → ℤ

@@ -2,7 +2,7 @@
 use Rattle.std.specs.Prelude.{ℕ, Bool, true, false, IsTrue, cond, List, [], ℤ}
 use Rattle.std.specs.Int.{int_max}
 use Rattle.mesh_plane.specs.Plane.{Point, Edge}
-use Rattle.mesh_grid.specs.Rectangle.{IsSafeWidened}
+use Rattle.mesh_num.specs.Rectangle.{IsSafeWidened}
 use Rattle.mesh_plane.specs.Winding.{route, same_point}
 use Rattle.mesh_join.specs.Bevels.{bevel_points, bevel_padding}
 use Rattle.mesh_join.specs.Joints.{Joint, IsTurn}

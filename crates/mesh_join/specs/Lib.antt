@@ -1,14 +1,14 @@
-pub use Rattle.mesh_clean.specs.Cleaned
-pub use Rattle.mesh_clean.specs.Laws
 pub mod Appending
 pub mod Bevels
+pub mod Cleaned
 pub mod Joins
 pub mod Joints
+pub mod Laws
 pub mod Methods
 pub mod Miters
+pub mod Private
 pub mod RoundJoins
 pub mod Styles
 pub mod VariableStyles
-pub mod Midway
 pub use Rattle.mesh_arc.specs.Arcs
 pub use Rattle.mesh_arc.specs.Gaps

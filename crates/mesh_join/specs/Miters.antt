@@ -6,8 +6,8 @@ use Rattle.std.specs.List.{list_all}
 use Rattle.std.specs.Ordering.{int_eq}
 use Rattle.mesh_plane.specs.Plane.{Point, plus, minus, opposite, cross, dot}
 use Rattle.mesh_plane.specs.Winding.{route}
-use Rattle.mesh_grid.specs.Direction.{scaled_direction}
-use Rattle.mesh_grid.specs.Quotient.{rounded_product}
+use Rattle.mesh_num.specs.Direction.{scaled_direction}
+use Rattle.mesh_num.specs.Quotient.{rounded_product}
 use Rattle.mesh_join.specs.Joints.{Joint, runs_ahead}
 use Rattle.mesh_sine.specs.Sine.{sin_cos}
 

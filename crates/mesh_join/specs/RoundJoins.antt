@@ -1,8 +1,8 @@
 -- Round joins: an outer corner runs along an arc round it. Points of the arc that rounding puts behind are left out.
 use Rattle.std.specs.Prelude.{ℕ, ◌&&◌, List, [], ◌∷◌, map, ℤ, pos, unsigned_abs, if◌then◌else◌}
 use Rattle.mesh_plane.specs.Plane.{Point, plus, minus}
-use Rattle.mesh_grid.specs.Directed.{direction_of}
-use Rattle.mesh_grid.specs.Direction.{scaled_direction}
+use Rattle.mesh_num.specs.Directed.{direction_of}
+use Rattle.mesh_num.specs.Direction.{scaled_direction}
 use Rattle.mesh_arc.specs.Arcs.{arc, clamped}
 use Rattle.mesh_arc.specs.declared.arc.ArcOptions.{ArcOptions}
 use Rattle.mesh_join.specs.Joints.{Joint, runs_ahead}

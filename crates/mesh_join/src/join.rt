@@ -5,7 +5,7 @@ ghost use Rattle.mesh_num.specs.Segments.{edges_of, proper_edges};
 ghost use Rattle.mesh_join.specs.Appending.{Appends, HasRoomForEdges};
 ghost use Rattle.mesh_join.specs.Joints.{joint, NeverTurnsBack, StaysWithin};
 ghost use Rattle.mesh_join.specs.Joins.{join_edges, join_padding, HasFew, IsJoint};
-ghost use Rattle.mesh_join.specs.Midway.Joins.{HasRoomForJoin};
+ghost use Rattle.mesh_join.specs.Private.Joins.{HasRoomForJoin};
 
 use crate::bevel;
 use crate::joint::{Joint, coordinates, is_one_point};

@@ -4,9 +4,9 @@ ghost use Rattle.std.specs.Prelude.{◌≡◌, [], ◌∷◌, ◌^◌, ◌≤◌
 ghost use Rattle.std.specs.Prelude.{◌+ℤ◌, ◌-ℤ◌, unsigned_abs, int_le};
 ghost use Rattle.mesh_plane.specs.Plane.{plus, minus, cross as cross_of, dot as dot_of, turn as turn_of};
 ghost use Rattle.mesh_plane.specs.Winding.{same_point};
-ghost use Rattle.mesh_grid.specs.Rectangle.{IsSafeWidened};
+ghost use Rattle.mesh_num.specs.Rectangle.{IsSafeWidened};
 ghost use Rattle.mesh_join.specs.Joints.{runs_ahead};
-ghost use Rattle.mesh_join.specs.Midway.Miters.{IsNarrow, IsPointPair, IsSummand, IsVectorPair};
+ghost use Rattle.mesh_join.specs.Private.Miters.{IsNarrow, IsPointPair, IsSummand, IsVectorPair};
 ghost use Rattle.mesh_join.specs.Miters.{is_near as is_near_to, are_usable};
 
 use mesh_arc::arc::ArcDirection;
@@ -32,7 +32,7 @@ pub(crate) struct Joint<I: IntNumber> {
 
 impl<I: IntNumber> Model for Joint<I> {
     ghost use Rattle.mesh_join.specs.Joints.{Joint, joint};
-    ghost use Rattle.mesh_join.specs.Midway.RoundJoins.{HaveLength};
+    ghost use Rattle.mesh_join.specs.Private.RoundJoins.{HaveLength};
 
     ghost Value = { Joint };
 

@@ -1,4 +1,4 @@
-//! Styles and joins of integer polygon offsetting. `mesh_clean` has the cleaned contour, whose corners are joined.
+//! Styles, joins and cleaned contours (`uniq_iter`), whose corners are joined.
 //!
 //! A kind of join is a variant of `IntLineJoin`, a module as `bevel` and `miter`, a file of definitions, and lemmas
 //! that end in the record `KeepsJoints`, which is all that outlines know of a kind. `specs/Joins.antt`,
@@ -8,10 +8,11 @@
 mod bevel;
 pub mod join;
 mod joint;
+pub mod laws;
 mod miter;
 mod round;
 pub mod route;
 pub mod style;
+pub mod uniq_iter;
 
 pub use mesh_arc::arc;
-pub use mesh_clean::{laws, uniq_iter};

@@ -4,15 +4,15 @@ ghost use Rattle.std.specs.Prelude.{◌≡◌, ◌≢◌, [], ◌∷◌, ◌^◌
 ghost use Rattle.std.specs.Prelude.{pos, ◌*ℤ◌, unsigned_abs, int_lt};
 ghost use Rattle.mesh_plane.specs.Bounds.{IsWithin};
 ghost use Rattle.mesh_plane.specs.Plane.{minus, cross as cross_of};
-ghost use Rattle.mesh_grid.specs.Direction.{scaled_direction};
-ghost use Rattle.mesh_grid.specs.Quotient.{rounded_product as product_over};
-ghost use Rattle.mesh_grid.specs.Rectangle.{IsSafeWidened};
+ghost use Rattle.mesh_num.specs.Direction.{scaled_direction};
+ghost use Rattle.mesh_num.specs.Quotient.{rounded_product as product_over};
+ghost use Rattle.mesh_num.specs.Rectangle.{IsSafeWidened};
 ghost use Rattle.mesh_sine.specs.Sine.{IsWithinOne};
 ghost use Rattle.mesh_join.specs.Appending.{Appends, HasRoomForEdges};
 ghost use Rattle.mesh_join.specs.Joins.{IsJoint};
 ghost use Rattle.mesh_join.specs.Methods.{style_of_miter};
-ghost use Rattle.mesh_join.specs.Midway.Miters.{IsHalfSine, IsNarrow, IsPointPair, IsSummand};
-ghost use Rattle.mesh_join.specs.Midway.Miters.{usable_edges, miter_edges, turn_products};
+ghost use Rattle.mesh_join.specs.Private.Miters.{IsHalfSine, IsNarrow, IsPointPair, IsSummand};
+ghost use Rattle.mesh_join.specs.Private.Miters.{usable_edges, miter_edges, turn_products};
 ghost use Rattle.mesh_join.specs.Miters.{sharpest as sharpest_of, slightest as slightest_of, half_sharpest as half_of};
 ghost use Rattle.mesh_join.specs.Miters.{reach as reach_of, miter_padding, is_slight as is_slight_at};
 ghost use Rattle.mesh_join.specs.Miters.{is_sharp as is_sharp_at, clip_points as clip_points_of, peak as peak_of};
@@ -46,7 +46,7 @@ pub(crate) struct Miter {
 }
 
 impl Model for Miter {
-    ghost use Rattle.mesh_join.specs.Midway.Miters.{HasSines};
+    ghost use Rattle.mesh_join.specs.Private.Miters.{HasSines};
     ghost use Rattle.mesh_join.specs.Miters.{MiterStyle};
 
     ghost Value = { MiterStyle };

@@ -3,13 +3,13 @@
 ghost use Rattle.std.specs.Prelude.{◌≡◌, ◌≤◌, false, length, take, vec_capacity, OnOk, OnErr};
 ghost use Rattle.mesh_plane.specs.Plane.{minus};
 ghost use Rattle.mesh_plane.specs.Winding.{route, same_point};
-ghost use Rattle.mesh_grid.specs.Direction.{IsFresh};
-ghost use Rattle.mesh_grid.specs.Directed.{direction_of};
-ghost use Rattle.mesh_grid.specs.Rectangle.{IsSafeWidened};
+ghost use Rattle.mesh_num.specs.Direction.{IsFresh};
+ghost use Rattle.mesh_num.specs.Directed.{direction_of};
+ghost use Rattle.mesh_num.specs.Rectangle.{IsSafeWidened};
 ghost use Rattle.mesh_join.specs.Appending.{Appends};
 ghost use Rattle.mesh_join.specs.Joins.{IsJoint};
 ghost use Rattle.mesh_join.specs.Methods.{style_of_round};
-ghost use Rattle.mesh_join.specs.Midway.RoundJoins.{round_edges, IsApart};
+ghost use Rattle.mesh_join.specs.Private.RoundJoins.{round_edges, IsApart};
 ghost use Rattle.mesh_join.specs.RoundJoins.{round_padding, arc_point as arc_point_of, used_points};
 
 use crate::joint::Joint;

@@ -1,13 +1,14 @@
 -- Lemmas over points and lists: one contour or one shape more in a buffer.
-use Rattle.std.proofs.Common.{◌≡◌, ℕ, ◌+◌, ◌<◌, ◌≤◌, List, [], ◌∷◌, ◌++◌, length, take, get_or, sym, ap, ◌∙◌, zero-add, arith}
-use Rattle.std.specs.List.{flat_map}
+use Rattle.std.proofs.Common.{◌≡◌, ℕ, ◌+◌, ◌-◌, ◌<◌, ◌≤◌, List, [], ◌∷◌, ◌++◌, map, length, take, drop, get_or, refl, sym, ap, ◌∙◌, zero-add, arith}
+use Rattle.std.specs.List.{flat_map, slice_range}
+use Rattle.std.proofs.Math.Seq.{drop-append_seam, take-append_seam}
 use Rattle.std.specs.declared.vec.Vec.{Vec}
 use Rattle.std.specs.declared.ops.Range.{Range}
 use Rattle.std.specs.declared.alloc.Global.{Global}
 use Rattle.std.proofs.lemmas.List.{map_more, append-nil, append_assoc, take_all, length-append}
 use Rattle.std.proofs.lemmas.List.Concat.{flat_map-append}
 use Rattle.mesh_num.specs.declared.shape.buffer.FlatContoursBuffer.{FlatContoursBuffer}
-use Rattle.mesh_num.specs.FlatContours.{range_of, ranges_from, HoldsContours}
+use Rattle.mesh_num.specs.FlatContours.{range_of, ranges_from, points_at, HoldsContours}
 use Rattle.mesh_num.specs.Paths.{paths_of, shapes_of, contours_of}
 use Rattle.mesh_plane.specs.Plane.{Point}
 use Rattle.mesh_num.proofs.Paths.{contours_more}
@@ -84,3 +85,26 @@ pub shapes_all :
     {I W U : Type 0} (new : FlatContoursBuffer I W U) (shapes : List (Vec (Vec Point Global) Global)) (i : ℕ) → length shapes ≤ i →
     HoldsContours new (contours_of (shapes_of (take i shapes))) → HoldsContours new (contours_of (shapes_of shapes))
 shapes_all {I} {W} {U} new shapes i past holds = rw (take_all i shapes past) at holds
+
+-- a contour's points stand at the places of its range
+found_one :
+    (before c after points : List Point) → points ≡ before ++ (c ++ after) →
+    points_at points (range_of (length before) (length c)) ≡ c
+found_one before c after points e =
+    let size : length before + length c - length before ≡ length c = omega arith in
+    ap (λ p. take (length before + length c - length before) (drop (length before) p)) e
+    ∙ ap (λ p. take (length before + length c - length before) p) (drop-append_seam before (c ++ after))
+    ∙ ap (λ n. take n (c ++ after)) size
+    ∙ take-append_seam c after
+
+-- so do those of all contours, from some points on
+pub found_from :
+    (before : List Point) (cs : List (List Point)) (points : List Point) → points ≡ before ++ flat_map (λ p. p) cs →
+    map (points_at points) (ranges_from (length before) cs) ≡ cs
+found_from before [] points e = refl
+found_from before (c ∷ cs) points e =
+    let rest : List Point = flat_map (λ p. p) cs in
+    let further : points ≡ (before ++ c) ++ rest = e ∙ sym (append_assoc before c rest) in
+    ap (λ p. p ∷ map (points_at points) (ranges_from (length before + length c) cs)) (found_one before c rest points e)
+    ∙ ap (λ n. c ∷ map (points_at points) (ranges_from n cs)) (sym (length-append before c))
+    ∙ ap (λ r. c ∷ r) (found_from (before ++ c) cs points further)

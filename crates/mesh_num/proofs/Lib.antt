@@ -1,4 +1,16 @@
+pub mod Directed
 pub mod FlatContours
+pub mod Moving
+pub mod Normalized
+pub mod Orders
+pub mod Parts
+pub mod Passed
 pub mod Paths
+pub mod Products
+pub mod Rectangles
+pub mod Roots
+pub mod Rotations
+pub mod Scaling
 pub mod SegmentLists
 pub mod Subjects
+pub mod Turns

@@ -1,5 +1,5 @@
 -- Contours in one list of points, each with the range of its points.
-use Rattle.std.specs.Prelude.{ℕ, ◌≡◌, ◌+◌, List, [], ◌∷◌, length}
+use Rattle.std.specs.Prelude.{ℕ, ◌≡◌, ◌+◌, List, [], ◌∷◌, length, map, slice_range}
 use Rattle.std.specs.List.{flat_map}
 use Rattle.std.specs.declared.ops.Range.{Range}
 use Rattle.mesh_num.specs.declared.shape.buffer.FlatContoursBuffer.{FlatContoursBuffer}
@@ -19,3 +19,11 @@ pub record HoldsContours {I W U : Type 0} (buffer : FlatContoursBuffer I W U) (c
     : Type 0 where
   pub points : buffer.points.items ≡ flat_map (λ c. c) contours
   pub ranges : buffer.ranges.items ≡ ranges_from 0 contours
+
+-- the points at the places of a range, as far as there are any
+abbrev pub points_at : List Point → Range ℕ → List Point
+points_at points range = slice_range points range.start range.end
+
+-- the contours that a buffer stands for, whatever its points and ranges are: the points of each range
+abbrev pub flat_contours : {I W U : Type 0} → FlatContoursBuffer I W U → List (List Point)
+flat_contours buffer = map (points_at buffer.points.items) buffer.ranges.items

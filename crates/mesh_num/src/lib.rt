@@ -1,7 +1,7 @@
-//! Paths as sources of points, buffers of contours and signed segments; and, from `mesh_grid`, the numbers and points
-//! that they are made of.
+//! Numbers, points, directions, rotations, angles and rectangles; paths as sources of points, buffers of contours and
+//! signed segments.
 #![tactic(auto)]
 
+pub mod laws;
+pub mod num;
 pub mod shape;
-
-pub use mesh_grid::{laws, num};

@@ -1,15 +1,15 @@
 //! Arcs of directions: worked ones, and fine ones whose gaps are measured.
 
 ghost use Rattle.std.specs.Prelude.{◌^◌};
-ghost use Rattle.mesh_grid.specs.Direction.{IsFresh};
+ghost use Rattle.mesh_num.specs.Direction.{IsFresh};
 
 use crate::directions::{direction_of_i16, direction_of_i32};
 use mesh_join::arc::{ArcBuilder, ArcDirection, ArcOptions};
 use mesh_num::num::{Angle, IntNumber, UnitIntVector};
-use mesh_toolbox::compared::{expect_equal, expect_that};
-use mesh_toolbox::edges::wide;
-use mesh_toolbox::plain::{Point, cross, dot};
-use mesh_toolbox::random::Random;
+use mesh_test_support::compared::{expect_equal, expect_that};
+use mesh_test_support::edges::wide;
+use mesh_test_support::plain::{Point, cross, dot};
+use mesh_test_support::random::Random;
 use std::alloc::AllocError;
 use std::process::Abort;
 use std::test::Fail;

@@ -6,7 +6,7 @@ ghost use Rattle.mesh_plane.specs.Bounds.{IsSafe};
 
 use mesh_join::uniq_iter::{UniqueSegment, UniqueSegmentsIter};
 use mesh_num::num::IntPoint;
-use mesh_toolbox::compared::{expect_equal, expect_that};
+use mesh_test_support::compared::{expect_equal, expect_that};
 use std::alloc::{AllocError, Global};
 use std::test::Fail;
 

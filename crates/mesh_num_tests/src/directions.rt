@@ -1,14 +1,14 @@
 //! Directions of vectors and their multiples, from outside the program.
 
 ghost use Rattle.std.specs.Prelude.{◌^◌, IfSome};
-ghost use Rattle.mesh_grid.specs.Direction.{IsFresh};
+ghost use Rattle.mesh_num.specs.Direction.{IsFresh};
 
 use mesh_num::num::{IntNumber, IntVector, UnitIntVector};
-use mesh_toolbox::compared::expect_equal;
-use mesh_toolbox::directions::direction;
-use mesh_toolbox::edges::wide;
-use mesh_toolbox::plain::Point;
-use mesh_toolbox::random::Random;
+use mesh_test_support::compared::expect_equal;
+use mesh_test_support::directions::direction;
+use mesh_test_support::edges::wide;
+use mesh_test_support::plain::Point;
+use mesh_test_support::random::Random;
 use std::process::Abort;
 use std::test::Fail;
 

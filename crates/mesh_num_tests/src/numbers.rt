@@ -4,7 +4,7 @@ use crate::pairs::expect_pairs;
 use mesh_num::num::convert::{is_less, is_wide_less, wide_size};
 use mesh_num::num::quotient::mul_div;
 use mesh_num::num::{Angle, IntNumber, WideUnsigned};
-use mesh_toolbox::compared::expect_equal;
+use mesh_test_support::compared::expect_equal;
 use std::test::Fail;
 
 #[test]

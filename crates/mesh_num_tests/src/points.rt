@@ -2,8 +2,8 @@
 
 use crate::pairs::expect_pairs;
 use mesh_num::num::{IntPoint, IntRect, IntVector};
-use mesh_toolbox::compared::{expect_equal, expect_that};
-use mesh_toolbox::lists::path;
+use mesh_test_support::compared::{expect_equal, expect_that};
+use mesh_test_support::lists::path;
 use std::test::Fail;
 
 #[test]

@@ -2,7 +2,7 @@
 
 use mesh_num::num::IntPoint;
 use mesh_num::shape::segment::{Segment, SubjectSegments};
-use mesh_toolbox::compared::expect_equal;
+use mesh_test_support::compared::expect_equal;
 use std::test::Fail;
 
 #[test]

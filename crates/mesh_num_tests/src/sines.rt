@@ -15,7 +15,7 @@ use crate::sines::near_eighths::NEAR_EIGHTHS;
 use crate::sines::second_quarter::SECOND_QUARTER;
 use crate::sines::third_quarter::THIRD_QUARTER;
 use mesh_num::num::Angle;
-use mesh_toolbox::compared::expect_equal;
+use mesh_test_support::compared::expect_equal;
 use std::test::Fail;
 
 /// The bits of an angle, its sine and its cosine.

@@ -2,8 +2,8 @@
 
 use mesh_num::num::IntPoint;
 use mesh_num::shape::{FlatContoursBuffer, PathSlice};
-use mesh_toolbox::compared::{gives, holds};
-use mesh_toolbox::lists::{path, paths, shapes};
+use mesh_test_support::compared::{gives, holds};
+use mesh_test_support::lists::{path, paths, shapes};
 use std::alloc::Global;
 use std::process::Abort;
 use std::test::Fail;

@@ -9,7 +9,7 @@ use Rattle.mesh_join.specs.Cleaned.{cleaned_sections}
 use Rattle.mesh_join.specs.Joins.{has_few}
 use Rattle.mesh_join.specs.Styles.{OffsetJoin}
 use Rattle.mesh_outline.specs.Outline.{Section, section_of, closed_outline, outline_edges}
-use Rattle.mesh_outline.specs.Midway.{corner_segments, top_segments}
+use Rattle.mesh_outline.specs.Private.Sections.{corner_segments, top_segments}
 use Rattle.mesh_outline.proofs.BuilderWalk.{step_segments, to_come, walk_segments, walk_permutes}
 use Rattle.mesh_outline.proofs.BuilderTheorems.{outline_few}
 

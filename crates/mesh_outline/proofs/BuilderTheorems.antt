@@ -9,13 +9,13 @@ use Rattle.mesh_plane.specs.Plane.{Edge, Point}
 use Rattle.mesh_plane.specs.Winding.{boundary}
 use Rattle.mesh_num.specs.Segments.{SignedEdge}
 use Rattle.mesh_join.proofs.JoinLaws.{KeepsJoint}
-use Rattle.mesh_clean.specs.Cleaned.{cleaned_sections}
+use Rattle.mesh_join.specs.Cleaned.{cleaned_sections}
 use Rattle.mesh_join.specs.Joins.{offset_padding, has_few}
 use Rattle.mesh_join.specs.Styles.{OffsetJoin}
-use Rattle.mesh_draw.specs.Adding.{added, added_edges}
-use Rattle.mesh_draw.specs.Midway.{Adds}
-use Rattle.mesh_draw.specs.Drawing.{AreDrawn}
-use Rattle.mesh_draw.proofs.Drawn.{adds_drawn, drawn_safe, added_length}
+use Rattle.mesh_offset.specs.Adding.{added, added_edges}
+use Rattle.mesh_offset.specs.Private.Built.{Adds}
+use Rattle.mesh_offset.specs.Drawing.{AreDrawn}
+use Rattle.mesh_offset.proofs.Drawn.{adds_drawn, drawn_safe, added_length}
 use Rattle.mesh_outline.specs.Building.{IsMovable}
 use Rattle.mesh_outline.specs.Outline.{Section, SectionPair, outer_edges, parts, joint_at}
 use Rattle.mesh_outline.specs.Outline.{joined, section_of, outline_edges, outline_pieces}

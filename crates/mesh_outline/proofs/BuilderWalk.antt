@@ -9,14 +9,14 @@ use Rattle.mesh_plane.specs.Winding.{route}
 use Rattle.mesh_num.specs.Segments.{SignedEdge, edges_of, IsSubject}
 use Rattle.mesh_plane.proofs.ClosedLists.{woven}
 use Rattle.mesh_num.proofs.Subjects.{segments_of_subjects, segment_between_subject}
-use Rattle.mesh_clean.specs.Cleaned.{cleaned_sections, IsCleanContour}
-use Rattle.mesh_clean.proofs.CleaningEnds.{cleaned_sections-ends}
+use Rattle.mesh_join.specs.Cleaned.{cleaned_sections, IsCleanContour}
+use Rattle.mesh_join.proofs.CleaningEnds.{cleaned_sections-ends}
 use Rattle.mesh_num.proofs.SegmentLists.{edges_of_segments, edges_of-append}
 use Rattle.mesh_outline.specs.Outline.{Section, SectionPair, top_edge, section_of, corner_edges}
 use Rattle.mesh_outline.specs.Outline.{parts, joined, closed_outline, drawn_edges}
 use Rattle.mesh_outline.specs.Building.{IsMovable}
-use Rattle.mesh_outline.specs.Midway.{IsMoved, IsCorner, corner_segments, top_segments}
-use Rattle.mesh_draw.specs.Midway.{Adds}
+use Rattle.mesh_outline.specs.Private.Sections.{IsMoved, IsCorner, corner_segments, top_segments}
+use Rattle.mesh_offset.specs.Private.Built.{Adds}
 use Rattle.mesh_join.specs.Styles.{OffsetJoin}
 use Rattle.mesh_outline.proofs.Padding.{movable_within}
 use Rattle.mesh_outline.proofs.OutlineWalk.{drawn_top, drawn_corner, drawn_by_walk}

@@ -7,17 +7,17 @@ use Rattle.std.proofs.Math.Bool.{beq}
 use Rattle.std.proofs.lemmas.Int.{ints}
 use Rattle.std.proofs.lemmas.List.Elements.{All-map, All-weaker}
 use Rattle.mesh_plane.proofs.Identities.{cross_flip}
-use Rattle.mesh_draw.proofs.Apart.{apart_long}
-use Rattle.mesh_draw.proofs.Quarters.{quarters_turn}
+use Rattle.mesh_offset.proofs.Apart.{apart_long}
+use Rattle.mesh_offset.proofs.Quarters.{quarters_turn}
 use Rattle.mesh_plane.specs.Plane.{Point, Edge, plus, minus, opposite, cross, dot, turn, right_quarter}
-use Rattle.mesh_grid.specs.Direction.{IsFresh, IsShort, scaled_direction}
-use Rattle.mesh_grid.specs.Directed.{direction_of}
+use Rattle.mesh_num.specs.Direction.{IsFresh, IsShort, scaled_direction}
+use Rattle.mesh_num.specs.Directed.{direction_of}
 use Rattle.mesh_plane.specs.Winding.{boundary}
 use Rattle.mesh_plane.proofs.Whole.{linear}
 use Rattle.mesh_plane.proofs.ClosedLists.{boundary_map, boundary_all, all_both}
-use Rattle.mesh_grid.proofs.Parts.{direction_fresh, direction_short}
-use Rattle.mesh_grid.proofs.Scaling.{scaled_direction_opposite_radius, scaled_turn_kept, scaled_parallel_kept}
-use Rattle.mesh_grid.proofs.Directed.{direction_of_is}
+use Rattle.mesh_num.proofs.Parts.{direction_fresh, direction_short}
+use Rattle.mesh_num.proofs.Scaling.{scaled_direction_opposite_radius, scaled_turn_kept, scaled_parallel_kept}
+use Rattle.mesh_num.proofs.Directed.{direction_of_is}
 use Rattle.mesh_join.proofs.JoinLaws.{KeepsJoint, KeepsJoints}
 use Rattle.mesh_join.proofs.Joins.{join_keeps}
 use Rattle.mesh_arc.specs.declared.arc.ArcDirection.TheVariants.{Clockwise, Counterclockwise}
@@ -26,8 +26,8 @@ use Rattle.mesh_arc.specs.Arcs.{sense_of}
 use Rattle.mesh_join.specs.Joints.{IsTurn, contact}
 use Rattle.mesh_join.specs.Styles.{OffsetJoin}
 use Rattle.mesh_outline.specs.Outline.{Section, SectionPair, own_edge, sideways, section_of, parts, sense_for, joint_at}
-use Rattle.mesh_draw.specs.Drawing.{sided}
-use Rattle.mesh_outline.specs.Midway.{IsCorner}
+use Rattle.mesh_offset.specs.Drawing.{sided}
+use Rattle.mesh_outline.specs.Private.Sections.{IsCorner}
 
 -- on each side
 pub negative : (offset : ℤ) → int_lt offset (pos 0) ≡ true → offset <ℤ pos 0

@@ -9,16 +9,16 @@ use Rattle.std.proofs.lemmas.Int.{ints}
 use lib.IntN.{*ℤ-zero}
 use lib.Signed.{◌<ℤ◌}
 use Rattle.mesh_plane.specs.Plane.{Point, Edge, plus, minus, dot, turn, right_quarter}
-use Rattle.mesh_grid.specs.Direction.{scaled, scaled_direction}
-use Rattle.mesh_grid.specs.Directed.{direction_of}
+use Rattle.mesh_num.specs.Direction.{scaled, scaled_direction}
+use Rattle.mesh_num.specs.Directed.{direction_of}
 use Rattle.mesh_plane.specs.Winding.{total, boundary, fan, pieces_total, crossing_on, winding, holds, IsBit, IsOdd, IsBalanced}
 use Rattle.mesh_plane.proofs.Whole.{linear, multiplied, zero_mul}
 use Rattle.mesh_plane.proofs.Rounding.{rounded_multiple}
 use Rattle.mesh_plane.specs.Rounding.{rounded}
 use Rattle.mesh_plane.proofs.Crossings.{crossing_on_odd}
 use Rattle.mesh_plane.proofs.Balance.{growth, growth_odd, balanced_by_pieces, closed_balanced}
-use Rattle.mesh_grid.proofs.Directed.{direction_of_is}
-use Rattle.mesh_grid.proofs.Scaling.{dot_scaled_nonneg, dot_scaled_nonpos}
+use Rattle.mesh_num.proofs.Directed.{direction_of_is}
+use Rattle.mesh_num.proofs.Scaling.{dot_scaled_nonneg, dot_scaled_nonpos}
 use Rattle.mesh_plane.proofs.ClosedLists.{all_flat_map}
 use Rattle.mesh_plane.proofs.Triangles.{parallelogram_winds, parallelogram_winds_back}
 use Rattle.mesh_plane.proofs.Pieces.{fan_winds, fan_winds_back, pieces_counted, opposite_pieces_counted}
@@ -31,8 +31,8 @@ use Rattle.mesh_join.specs.Styles.{OffsetJoin}
 use Rattle.mesh_outline.specs.Outline.{SectionPair, own_edge, strip, outer_edges, corner_pieces}
 use Rattle.mesh_outline.specs.Outline.{drawn_pieces, sideways, section_of, parts, sense_for}
 use Rattle.mesh_outline.specs.Outline.{joint_at, joined, closed_outline, closed_pieces}
-use Rattle.mesh_draw.specs.Drawing.{sided}
-use Rattle.mesh_draw.proofs.Apart.{apart_long}
+use Rattle.mesh_offset.specs.Drawing.{sided}
+use Rattle.mesh_offset.proofs.Apart.{apart_long}
 use Rattle.mesh_outline.proofs.Corners.{IsClosedProper, negative, not_negative, corners, corners_keep}
 use Rattle.mesh_outline.proofs.OutlineSum.{IsClosed, Stays, drawn_total, still_total}
 

@@ -11,7 +11,7 @@ use Rattle.mesh_plane.proofs.ClosedLists.{boundary_ends, boundary_all, all_both}
 use Rattle.mesh_plane.proofs.Pieces.{fan_total}
 use Rattle.mesh_plane.proofs.Comparing.{decides_point}
 use Rattle.mesh_join.specs.Joins.{between, through}
-use Rattle.mesh_draw.proofs.ProperEdges.{proper_edges_total}
+use Rattle.mesh_offset.proofs.ProperEdges.{proper_edges_total}
 use Rattle.mesh_outline.specs.Outline.{Section, SectionPair, own_edge, top_edge, strip, inner_edges}
 use Rattle.mesh_outline.specs.Outline.{outer_edges, corner_edges, corner_pieces, drawn_edges, drawn_pieces}
 

@@ -8,7 +8,7 @@ use Rattle.mesh_plane.specs.Plane.{Point, Edge}
 use Rattle.mesh_plane.specs.Winding.{boundary}
 use Rattle.mesh_plane.proofs.ClosedLists.{woven, woven_round, boundary_length}
 use Rattle.mesh_num.specs.Segments.{proper_edges}
-use Rattle.mesh_draw.proofs.ProperEdges.{proper_append, proper_flat_map, proper_length}
+use Rattle.mesh_offset.proofs.ProperEdges.{proper_append, proper_flat_map, proper_length}
 use Rattle.mesh_outline.specs.Outline.{Section, SectionPair, top_edge, inner_edges}
 use Rattle.mesh_outline.specs.Outline.{outer_edges, corner_edges, drawn_edges}
 

@@ -6,14 +6,14 @@ use Rattle.std.proofs.lemmas.Int.{ints, clamps}
 use Rattle.std.proofs.lemmas.List.Elements.{All-nil, All-cons, All-map, All-append, All-filter, All-weaker}
 use Rattle.mesh_plane.specs.Bounds.{IsSafe}
 use Rattle.mesh_plane.specs.Plane.{Point, Edge, minus}
-use Rattle.mesh_grid.specs.Direction.{IsDirection, scaled_direction}
-use Rattle.mesh_grid.specs.Directed.{direction_of}
-use Rattle.mesh_grid.specs.Rectangle.{IsSafeWidened}
+use Rattle.mesh_num.specs.Direction.{IsDirection, scaled_direction}
+use Rattle.mesh_num.specs.Directed.{direction_of}
+use Rattle.mesh_num.specs.Rectangle.{IsSafeWidened}
 use Rattle.mesh_plane.specs.Winding.{boundary, same_point}
 use Rattle.mesh_plane.proofs.ClosedLists.{boundary_all, all_both, all_flat_map, route_all}
-use Rattle.mesh_grid.proofs.Directed.{direction_of_is}
-use Rattle.mesh_grid.proofs.Parts.{direction_short}
-use Rattle.mesh_grid.proofs.Scaling.{scaled_direction_bounded}
+use Rattle.mesh_num.proofs.Directed.{direction_of_is}
+use Rattle.mesh_num.proofs.Parts.{direction_short}
+use Rattle.mesh_num.proofs.Scaling.{scaled_direction_bounded}
 use Rattle.mesh_join.proofs.JoinLaws.{KeepsJoint}
 use Rattle.mesh_join.proofs.Joins.{join_keeps, padding_covers}
 use Rattle.mesh_join.specs.Joins.{between, offset_padding, outline_padding}
@@ -21,14 +21,14 @@ use Rattle.mesh_join.specs.Joints.{IsWithinPadding}
 use Rattle.mesh_join.specs.Styles.{OffsetJoin, OutlineStyle, outer, inner}
 use Rattle.mesh_outline.specs.Building.{IsMovable}
 use Rattle.mesh_outline.specs.Kinds.{way_for}
-use Rattle.mesh_outline.specs.declared.outline.kind.ContourKind.{ContourKind}
-use Rattle.mesh_outline.specs.declared.outline.kind.ContourKind.TheVariants.{Outer, Hole, Ignored}
+use Rattle.mesh_outline.specs.declared.kind.ContourKind.{ContourKind}
+use Rattle.mesh_outline.specs.declared.kind.ContourKind.TheVariants.{Outer, Hole, Ignored}
 use Rattle.mesh_outline.specs.Outline.{Section, SectionPair, top_edge, section_of, inner_edges, outer_edges}
 use Rattle.mesh_outline.specs.Outline.{corner_edges, drawn_edges, parts, joint_at, joined, closed_outline}
-use Rattle.mesh_draw.specs.Padding.{ArePathsSafe, IsNear}
-use Rattle.mesh_draw.proofs.Apart.{apart_long}
+use Rattle.mesh_offset.specs.Padding.{ArePathsSafe, IsNear}
+use Rattle.mesh_offset.proofs.Apart.{apart_long}
 use Rattle.mesh_outline.proofs.Corners.{IsClosedProper, corners, corners_keep}
-use Rattle.mesh_draw.proofs.Padding.{beside_near, ends_safe, paths_safe_less, safe_within_less, vertex_near}
+use Rattle.mesh_offset.proofs.Padding.{beside_near, ends_safe, paths_safe_less, safe_within_less, vertex_near}
 
 -- ---- paddings
 

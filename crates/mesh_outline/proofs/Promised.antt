@@ -7,13 +7,13 @@ use Rattle.std.proofs.lemmas.List.Elements.{All-nil, All-contains_itself}
 use Rattle.mesh_plane.specs.Plane.{Point, Edge}
 use Rattle.mesh_plane.specs.Winding.{boundary, winding, crossing_on, pieces_total, holds, IsBit}
 use Rattle.mesh_plane.proofs.Crossings.{crossing_on_odd}
-use Rattle.mesh_clean.proofs.CleaningEnds.{cleaned_sections-ends}
-use Rattle.mesh_clean.proofs.CleaningSteps.{cleaned-none, cleaned-clean, cleaned-winding}
-use Rattle.mesh_clean.specs.Cleaned.{cleaned_sections, IsCleanContour}
+use Rattle.mesh_join.proofs.CleaningEnds.{cleaned_sections-ends}
+use Rattle.mesh_join.proofs.CleaningSteps.{cleaned-none, cleaned-clean, cleaned-winding}
+use Rattle.mesh_join.specs.Cleaned.{cleaned_sections, IsCleanContour}
 use Rattle.mesh_join.specs.Styles.{OffsetJoin}
-use Rattle.mesh_draw.specs.Drawing.{NeverTurnedRound}
+use Rattle.mesh_offset.specs.Drawing.{NeverTurnedRound}
 use Rattle.mesh_outline.specs.Outline.{parts, joined, section_of, drawn_pieces, outline_pieces}
-use Rattle.mesh_draw.specs.Drawing.{sided}
+use Rattle.mesh_offset.specs.Drawing.{sided}
 use Rattle.mesh_outline.specs.Drawn.{HasPromisedEdges}
 use Rattle.mesh_outline.proofs.Corners.{IsClosedProper}
 use Rattle.mesh_outline.proofs.OutlineCount.{outline_total, outline_balanced, outline_winding, pieces_wind}

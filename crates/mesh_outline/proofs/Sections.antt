@@ -2,9 +2,9 @@
 use Rattle.std.proofs.Common.{◌≡◌, ℕ, ◌∙◌, ap}
 use Rattle.std.specs.Prelude.{ℤ}
 use Rattle.mesh_plane.specs.Plane.{Point, plus, minus, right_quarter}
-use Rattle.mesh_grid.specs.Direction.{IsDirection, scaled_direction}
-use Rattle.mesh_grid.specs.Directed.{direction_of}
-use Rattle.mesh_grid.proofs.Directed.{is_direction_of}
+use Rattle.mesh_num.specs.Direction.{IsDirection, scaled_direction}
+use Rattle.mesh_num.specs.Directed.{direction_of}
+use Rattle.mesh_num.proofs.Directed.{is_direction_of}
 use Rattle.mesh_outline.specs.Outline.{Section, section_of}
 
 -- what the code puts together is the section of its definition

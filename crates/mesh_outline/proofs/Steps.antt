@@ -3,7 +3,7 @@ use Rattle.std.proofs.Common.{◌≡◌, ℕ, ◌+◌, ◌≤◌, Bool, true, fa
 use Rattle.mesh_num.specs.Segments.{SignedEdge, segments_of, segment_between}
 use Rattle.mesh_join.specs.Joins.{join_edges}
 use Rattle.mesh_join.specs.Styles.{OffsetJoin}
-use Rattle.mesh_outline.specs.Midway.{corner_segments, top_segments}
+use Rattle.mesh_outline.specs.Private.Sections.{corner_segments, top_segments}
 use Rattle.mesh_outline.specs.Outline.{Section, SectionPair, inner_edges, outer_edges, parts, joined, joint_at}
 
 -- ---- corners

@@ -1,7 +1,7 @@
 -- What the outline's builder asks.
 use Rattle.std.specs.Prelude.{ℕ, ℤ, Option}
 use Rattle.mesh_plane.specs.Plane.{Point}
-use Rattle.mesh_grid.specs.Rectangle.{IsSafeWidened}
+use Rattle.mesh_num.specs.Rectangle.{IsSafeWidened}
 use Rattle.mesh_join.specs.Joins.{offset_padding}
 use Rattle.mesh_join.specs.Styles.{OffsetJoin, OutlineStyle}
 use Rattle.mesh_outline.specs.Kinds.{kind_for, way_for}

@@ -3,7 +3,7 @@ use Rattle.std.specs.Prelude.{ℕ, ◌≤◌, ◌^◌, List}
 use Rattle.mesh_plane.specs.Plane.{Point}
 use Rattle.mesh_join.specs.Joins.{offset_padding}
 use Rattle.mesh_join.specs.Styles.{OffsetJoin}
-use Rattle.mesh_draw.specs.Drawing.{AreDrawn}
+use Rattle.mesh_offset.specs.Drawing.{AreDrawn}
 use Rattle.mesh_outline.specs.Outline.{outline_edges, outline_pieces}
 
 -- what the edges of the contour's outline are promised

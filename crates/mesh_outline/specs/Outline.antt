@@ -4,11 +4,11 @@ use Rattle.std.specs.Ordering.{int_eq}
 use Rattle.std.specs.List.{flat_map}
 use Rattle.std.proofs.Math.Bool.{beq}
 use Rattle.mesh_plane.specs.Plane.{Point, Edge, plus, minus, cross, dot, right_quarter}
-use Rattle.mesh_grid.specs.Direction.{scaled_direction}
-use Rattle.mesh_grid.specs.Directed.{direction_of}
+use Rattle.mesh_num.specs.Direction.{scaled_direction}
+use Rattle.mesh_num.specs.Directed.{direction_of}
 use Rattle.mesh_num.specs.Segments.{proper_edges}
 use Rattle.mesh_plane.specs.Winding.{boundary, fan}
-use Rattle.mesh_clean.specs.Cleaned.{cleaned_sections}
+use Rattle.mesh_join.specs.Cleaned.{cleaned_sections}
 use Rattle.mesh_join.specs.Joins.{join_points, through}
 use Rattle.mesh_join.specs.Joints.{Joint, joint}
 use Rattle.mesh_join.specs.Styles.{OffsetJoin}

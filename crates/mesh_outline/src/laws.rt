@@ -1,8 +1,31 @@
-//! Laws of outlines of single contours. Each function does nothing: its clause is the law.
+//! Laws of outlines, of single contours and of many. Each function does nothing: its clause is the law.
 
 ghost use Rattle.mesh_outline.specs.Drawn.{OutlinesAreDrawn};
+ghost use Rattle.mesh_outline.specs.Laws.{OutlinesStaySafe, FinalEdgesAreBalanced};
+ghost use Rattle.mesh_outline.specs.Laws.{OutlinesAreRegions, AnswersAloneAreRegions};
 
 /// The edges of each contour's outline are balanced, near its vertices, and wind as the count of its pieces says.
 pub fn outlines_are_drawn()
     ensures { OutlinesAreDrawn }
+{}
+
+/// All edges, split segments and answers of an outline are safe where its contours stay safe.
+pub fn outlines_stay_safe()
+    ensures { OutlinesStaySafe }
+{}
+
+/// The edges of which an outline is the resolution are balanced, and none ends where it starts.
+pub fn final_edges_are_balanced()
+    ensures { FinalEdgesAreBalanced }
+{}
+
+/// An outline is made of regions: the contours of its last resolving wind once round each point that the split edges
+/// fill, and round no other; outside the boxes of edges that rounding bent, so do they of the edges as given.
+pub fn outlines_are_regions()
+    ensures { OutlinesAreRegions }
+{}
+
+/// What comes of one contour alone is made of regions, in the same sense, of the edges of its outline.
+pub fn answers_alone_are_regions()
+    ensures { AnswersAloneAreRegions }
 {}

@@ -1,8 +1,18 @@
-//! Outlines of single contours over whole numbers.
+//! Outlines of contours over whole numbers: the edges of one contour's outline, and the calls on sources of contours.
 //!
-//! Read `specs/Outline.antt` first: the edges of a contour's outline and the pieces between it and the contour.
-//! `mesh_outline_calls` has the calls on sources of contours.
+//! Read `specs/Outline.antt` first, the edges of a contour's outline and the pieces between it and the contour; then
+//! `specs/Resolved.antt`, the outline of many contours. A section is a cleaned edge moved sideways (`section`), a corner
+//! joins two of them (`builder_join`), the builder goes round a contour (`builder`), and the calls (`offset`) resolve
+//! what comes of all contours (`resolve`, `shapes`).
 #![tactic(auto)]
 
+pub mod area;
+mod bounds;
+pub mod builder;
+mod builder_join;
+pub mod kind;
 pub mod laws;
-pub mod outline;
+pub mod offset;
+mod resolve;
+mod section;
+mod shapes;

@@ -9,19 +9,19 @@ use Rattle.mesh_plane.proofs.Whole.{linear, times_zero, mul_one, both_le}
 use Rattle.mesh_plane.proofs.Ring.{ring, var, lit, ◌⊕◌, ◌⊖◌, ◌⊗◌}
 use Rattle.mesh_plane.proofs.Crossings.{crossing_low, crossing_high}
 use Rattle.mesh_plane.proofs.Balance.{growth, growth_of_balanced, balanced_at_points}
-use Rattle.mesh_cuts.specs.Clean.{IsOn, IsClean, IsProper}
-use Rattle.mesh_cuts.specs.Split.{back, same_ends, occurs, IsBetween}
-use Rattle.mesh_cuts.specs.Counted.{bit, net}
-use Rattle.mesh_cuts.specs.Boundary.{winding_beside, left_winding, right_winding, IsBoundary}
+use Rattle.mesh_lattice.specs.Clean.{IsOn, IsClean, IsProper}
+use Rattle.mesh_lattice.specs.Split.{back, same_ends, occurs, IsBetween}
+use Rattle.mesh_lattice.specs.Counted.{bit, net}
+use Rattle.mesh_lattice.specs.Boundary.{winding_beside, left_winding, right_winding, IsBoundary}
 use Rattle.mesh_plane.proofs.PointExprs.{point_var, coordinates, turned}
 use Rattle.mesh_plane.proofs.Grids.{scale, part, winds}
-use Rattle.mesh_cuts.proofs.Each.{Each}
-use Rattle.mesh_sides.proofs.SidesClear.{Meeting, meeting_of}
-use Rattle.mesh_cuts.proofs.Keys.{Leans, Distinct, grouped, occurs_head, occurs_ends, less_apart}
-use Rattle.mesh_sides.proofs.FinerGrids.{below_of, crossing_below, level_none, level_below_none, winds_finer}
-use Rattle.mesh_sides.proofs.LineWindings.{Setting, inside_beside, above_place}
-use Rattle.mesh_cuts.proofs.SidesBack.{crossing_back}
-use Rattle.mesh_cuts.proofs.SidesBack.{rises_flat}
+use Rattle.mesh_lattice.proofs.Each.{Each}
+use Rattle.mesh_regions.proofs.SidesClear.{Meeting, meeting_of}
+use Rattle.mesh_lattice.proofs.Keys.{Leans, Distinct, grouped, occurs_head, occurs_ends, less_apart}
+use Rattle.mesh_regions.proofs.FinerGrids.{below_of, crossing_below, level_none, level_below_none, winds_finer}
+use Rattle.mesh_regions.proofs.LineWindings.{Setting, inside_beside, above_place}
+use Rattle.mesh_lattice.proofs.SidesBack.{crossing_back}
+use Rattle.mesh_lattice.proofs.SidesBack.{rises_flat}
 use Rattle.mesh_regions.proofs.BoundaryFill.{boundary_net, boundary_cover, crossing_below_back, fill_is, fill_is_below}
 use Rattle.mesh_plane.proofs.Comparing.{decides_point, less_test, not_less_test}
 

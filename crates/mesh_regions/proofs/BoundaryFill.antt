@@ -7,17 +7,17 @@ use Rattle.mesh_plane.specs.Plane.{Point, Edge, turn}
 use Rattle.mesh_plane.specs.Winding.{sum_of, crossing}
 use Rattle.mesh_plane.proofs.Whole.{linear}
 use Rattle.mesh_plane.proofs.Crossings.{turn_flip}
-use Rattle.mesh_cuts.specs.Split.{back, same_edge, same_ends, occurs}
-use Rattle.mesh_cuts.specs.Counted.{bit, along, net}
-use Rattle.mesh_cuts.specs.Boundary.{count, winding_beside, left_winding, right_winding, IsBoundary}
+use Rattle.mesh_lattice.specs.Split.{back, same_edge, same_ends, occurs}
+use Rattle.mesh_lattice.specs.Counted.{bit, along, net}
+use Rattle.mesh_lattice.specs.Boundary.{count, winding_beside, left_winding, right_winding, IsBoundary}
 use Rattle.mesh_plane.proofs.Grids.{scale, winds}
-use Rattle.mesh_cuts.proofs.Each.{Each}
-use Rattle.mesh_cuts.proofs.Keys.{Leans, grouped, occurs_head, occurs_back, edge_back}
-use Rattle.mesh_sides.proofs.FinerGrids.{below_of, crossing_below}
-use Rattle.mesh_sides.proofs.FinerPoints.{Fine, fine_up, fine_down}
-use Rattle.mesh_sides.proofs.LineWindings.{Setting, filled}
-use Rattle.mesh_cuts.proofs.SidesBack.{crossing_back}
-use Rattle.mesh_cuts.proofs.SidesBack.{count_more, rises_up, sides_back}
+use Rattle.mesh_lattice.proofs.Each.{Each}
+use Rattle.mesh_lattice.proofs.Keys.{Leans, grouped, occurs_head, occurs_back, edge_back}
+use Rattle.mesh_regions.proofs.FinerGrids.{below_of, crossing_below}
+use Rattle.mesh_regions.proofs.FinerPoints.{Fine, fine_up, fine_down}
+use Rattle.mesh_regions.proofs.LineWindings.{Setting, filled}
+use Rattle.mesh_lattice.proofs.SidesBack.{crossing_back}
+use Rattle.mesh_lattice.proofs.SidesBack.{count_more, rises_up, sides_back}
 
 -- ---- counts
 

@@ -12,15 +12,15 @@ use Rattle.mesh_plane.proofs.Whole.{linear, mul_pos, mul_nonneg, mul_pos_neg, mu
 use Rattle.mesh_plane.proofs.Ring.{ring, var, lit, ◌⊖◌, ◌⊗◌}
 use Rattle.mesh_plane.proofs.Crossings.{crossing_low, crossing_high, turn_flip}
 use Rattle.mesh_plane.proofs.Sums.{total_append}
-use Rattle.mesh_cuts.specs.Split.{same_ends, occurs, IsInBox, IsBetween, Cut, cut_edges, after, path}
+use Rattle.mesh_lattice.specs.Split.{same_ends, occurs, IsInBox, IsBetween, Cut, cut_edges, after, path}
 use Rattle.mesh_regions.specs.Regions.{is_bent}
 use Rattle.mesh_plane.proofs.PointExprs.{point_var, coordinates, turned, scaled_point_expr}
-use Rattle.mesh_sides.proofs.SidesPotential.{above, crosses_west, crosses_east}
+use Rattle.mesh_regions.proofs.SidesPotential.{above, crosses_west, crosses_east}
 use Rattle.mesh_plane.proofs.Grids.{scale, winds}
-use Rattle.mesh_cuts.proofs.Keys.{occurs_head}
-use Rattle.mesh_cuts.proofs.KeptByCuts.{Boxed, after_append, box_trans, cut_box, after_none}
-use Rattle.mesh_cuts.proofs.Boxes.{turn_start, turn_end, start_box, end_box}
-use Rattle.mesh_cuts.proofs.Beside.{turn_between}
+use Rattle.mesh_lattice.proofs.Keys.{occurs_head}
+use Rattle.mesh_lattice.proofs.KeptByCuts.{Boxed, after_append, box_trans, cut_box, after_none}
+use Rattle.mesh_lattice.proofs.Boxes.{turn_start, turn_end, start_box, end_box}
+use Rattle.mesh_lattice.proofs.Beside.{turn_between}
 use Rattle.std.proofs.lemmas.Bool.{not-false}
 
 -- the crossings of edges between points with `P` are differences of a number of the point

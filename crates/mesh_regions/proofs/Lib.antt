@@ -1,4 +1,17 @@
 pub mod BoundaryBalance
 pub mod BoundaryFill
 pub mod BoundaryRegions
+pub mod Directions
+pub mod EndsGains
+pub mod EndsParted
+pub mod FinerGrids
+pub mod FinerPoints
+pub mod Inside
+pub mod Line
+pub mod LineWindings
+pub mod SidesClear
+pub mod SidesConstant
+pub mod SidesPotential
 pub mod SplitBoundary
+pub mod StarNeighbours
+pub mod StarSums

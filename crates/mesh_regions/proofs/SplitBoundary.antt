@@ -4,11 +4,11 @@ use Rattle.std.proofs.Common.{◌≡◌, ℕ, ◌<◌, List, Bool, false, arith}
 use Rattle.std.proofs.lemmas.Int.{ints}
 use Rattle.mesh_plane.specs.Plane.{Point, Edge}
 use Rattle.mesh_plane.specs.Winding.{winding, IsBalanced}
-use Rattle.mesh_cuts.specs.Boundary.{IsBoundary}
-use Rattle.mesh_cuts.proofs.Keys.{keys, keys_are}
-use Rattle.mesh_sides.specs.Laws.{AreSplit}
-use Rattle.mesh_sides.proofs.LineWindings.{Setting}
-use Rattle.mesh_regions.specs.Laws.{once}
+use Rattle.mesh_lattice.specs.Boundary.{IsBoundary}
+use Rattle.mesh_lattice.proofs.Keys.{keys, keys_are}
+use Rattle.mesh_regions.specs.SideLaws.{AreSplit}
+use Rattle.mesh_regions.proofs.LineWindings.{Setting}
+use Rattle.mesh_regions.specs.BoundaryLaws.{once}
 use Rattle.mesh_regions.proofs.BoundaryFill.{fill_is}
 use Rattle.mesh_regions.proofs.BoundaryBalance.{boundary_is_balanced}
 

@@ -1,2 +1,4 @@
-pub mod Laws
+pub mod BoundaryLaws
 pub mod Regions
+pub mod SideLaws
+pub mod Star

@@ -3,8 +3,8 @@ use Rattle.std.specs.Prelude.{ℕ, ◌≡◌, Bool, true, not, List, pos}
 use Rattle.std.specs.Ordering.{int_eq}
 use Rattle.std.specs.List.{list_any}
 use Rattle.mesh_plane.specs.Plane.{Point, Edge, turn}
-use Rattle.mesh_cuts.specs.Clean.{refined_edge}
-use Rattle.mesh_cuts.specs.Split.{occurs, IsInBox, Cut, path}
+use Rattle.mesh_lattice.specs.Clean.{refined_edge}
+use Rattle.mesh_lattice.specs.Split.{occurs, IsInBox, Cut, path}
 
 -- an edge is bent where a point of the path that it has become does not lie on it
 abbrev pub is_bent : List Cut → Edge → Bool

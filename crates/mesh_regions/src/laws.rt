@@ -1,6 +1,29 @@
-//! Laws of the boundary of split segments. Each function does nothing: its clause is the law.
+//! Laws of split segments, of their sides and of their boundary. Each function does nothing: its clause is the law.
 
-ghost use Rattle.mesh_regions.specs.Laws.{BoundariesWindOnce, BoundariesAreBalanced};
+ghost use Rattle.mesh_regions.specs.BoundaryLaws.{BoundariesWindOnce, BoundariesAreBalanced};
+ghost use Rattle.mesh_regions.specs.SideLaws.{SidesAreConstant, SidesFollowFromEnds, SegmentsHaveNeighbours};
+ghost use Rattle.mesh_regions.specs.SideLaws.{FacingSidesAgree};
+
+/// A side of a split segment has one winding, at all its inner points on every grid.
+pub fn sides_are_constant()
+    ensures { SidesAreConstant }
+{}
+
+/// The winding on a segment's right is that at its start and the net count of the edges that leave the start before it,
+/// counterclockwise from the east. So the windings beside all segments at a vertex follow from the one at it.
+pub fn sides_follow_from_ends()
+    ensures { SidesFollowFromEnds }
+{}
+
+/// Round its start each segment has a neighbour, the next segment counterclockwise.
+pub fn segments_have_neighbours()
+    ensures { SegmentsHaveNeighbours }
+{}
+
+/// Where two segments at a vertex neighbour in angle, the sides that face each other have one winding.
+pub fn facing_sides_agree()
+    ensures { FacingSidesAgree }
+{}
 
 /// The boundary winds once round the points where the winding is filled, and round no other.
 pub fn boundaries_wind_once()

@@ -6,7 +6,7 @@ use Rattle.serde_json.specs.Find.{get}
 use Rattle.serde_json.specs.View.{view, items_view}
 use Rattle.serde_json.specs.declared.value.Value.{Value}
 use Rattle.mesh_plane.specs.Plane.{Point}
-use Rattle.mesh_cap.specs.Caps.{CapKind}
+use Rattle.mesh_stroke.specs.Caps.{CapKind}
 use Rattle.mesh_join.specs.Styles.{JoinStyle}
 use Rattle.mesh_stroke.specs.Styles.{StrokeStyle}
 use Rattle.mesh_request.specs.Reading.{both, pair_of, triple_of, vertex_with, coordinate_of, area_of, flag_of, choices_in, choices_with, cap_of, uncapped_in, stroke_style_in, stroke_style_with, stroke_of, stroke_with, paths_in}

@@ -1,4 +1,4 @@
 pub mod Failures
-pub mod Midway
+pub mod Private
 pub mod Reading
 pub mod Requests

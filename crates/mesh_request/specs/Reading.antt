@@ -9,14 +9,14 @@ use Rattle.serde_json.specs.Find.{get, as_number, as_i64, as_u64, as_bool, as_st
 use Rattle.mesh_plane.specs.Plane.{Point}
 use Rattle.mesh_below.specs.Options.{plain}
 use Rattle.mesh_shapes.specs.Resolution.{Choices}
-use Rattle.mesh_draw.specs.declared.error.IntOutlineError.TheVariants.{CoordinateOutOfRange, OutOfMemory}
+use Rattle.mesh_offset.specs.declared.error.IntOutlineError.TheVariants.{CoordinateOutOfRange, OutOfMemory}
 use Rattle.mesh_arc.specs.declared.arc.ArcOptions.{ArcOptions}
 use Rattle.mesh_join.specs.Styles.{JoinStyle, OutlineStyle}
 use Rattle.mesh_join.specs.VariableStyles.{Vertex, default_variable_style}
 use Rattle.mesh_join.specs.declared.style.IntLineJoin.{IntLineJoin}
 use Rattle.mesh_join.specs.declared.style.IntLineJoin.TheVariants.{Bevel, Miter, Round}
-use Rattle.mesh_cap.specs.Caps.{CapKind}
-use Rattle.mesh_draw.specs.Radii.{radius_of}
+use Rattle.mesh_stroke.specs.Caps.{CapKind}
+use Rattle.mesh_offset.specs.Radii.{radius_of}
 use Rattle.mesh_stroke.specs.Styles.{StrokeStyle}
 use Rattle.mesh_request.specs.Requests.{Drawn, as_outline, as_stroke, as_variable_stroke, Asked, for_edges, for_shapes}
 use Rattle.mesh_request.specs.Requests.{Request}

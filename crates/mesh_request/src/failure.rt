@@ -3,7 +3,7 @@
 ghost use Rattle.std.specs.Prelude.{◌≡◌};
 ghost use Rattle.mesh_request.specs.Failures.{failure_line};
 
-use mesh_draw::error::IntOutlineError;
+use mesh_offset::error::IntOutlineError;
 use std::alloc::{AllocError, AllocFailed};
 
 /// Why a request has no answer.
@@ -46,7 +46,7 @@ impl From<IntOutlineError> for Failure {
 impl From<AllocError> for Failure {
     ghost use Rattle.std.specs.Prelude.{◌≡◌};
     ghost use Rattle.mesh_request.specs.declared.failure.Failure.TheVariants.{Refused};
-    ghost use Rattle.mesh_draw.specs.declared.error.IntOutlineError.TheVariants.{OutOfMemory};
+    ghost use Rattle.mesh_offset.specs.declared.error.IntOutlineError.TheVariants.{OutOfMemory};
 
     ghost from_gives = { λ _ failure. failure ≡ Refused OutOfMemory };
 
@@ -58,7 +58,7 @@ impl From<AllocError> for Failure {
 impl<T: Drop> From<AllocFailed<T>> for Failure {
     ghost use Rattle.std.specs.Prelude.{◌≡◌};
     ghost use Rattle.mesh_request.specs.declared.failure.Failure.TheVariants.{Refused};
-    ghost use Rattle.mesh_draw.specs.declared.error.IntOutlineError.TheVariants.{OutOfMemory};
+    ghost use Rattle.mesh_offset.specs.declared.error.IntOutlineError.TheVariants.{OutOfMemory};
 
     ghost from_gives = { λ _ failure. failure ≡ Refused OutOfMemory };
 
@@ -72,7 +72,7 @@ impl From<serde_json::Error> for Failure {
     ghost use Rattle.std.specs.Prelude.{◌≡◌};
     ghost use Rattle.serde_json.specs.Errors.{IsMemory};
     ghost use Rattle.mesh_request.specs.declared.failure.Failure.TheVariants.{Refused, Unreadable};
-    ghost use Rattle.mesh_draw.specs.declared.error.IntOutlineError.TheVariants.{OutOfMemory};
+    ghost use Rattle.mesh_offset.specs.declared.error.IntOutlineError.TheVariants.{OutOfMemory};
 
     ghost from_gives = { λ error failure. (IsMemory error → failure ≡ Refused OutOfMemory)
         × (¬ IsMemory error → failure ≡ Unreadable) };

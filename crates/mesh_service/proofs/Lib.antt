@@ -1,2 +1,4 @@
+pub mod JsonLists
+pub mod PathsServed
 pub mod Replies
 pub mod Requested

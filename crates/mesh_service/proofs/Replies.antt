@@ -4,7 +4,7 @@ use Rattle.std.specs.Prelude.{string_bytes}
 use Rattle.std.proofs.lemmas.Bool.{false≢true}
 use Rattle.std.proofs.lemmas.Option.{none-some}
 use Rattle.std.specs.Io.KnownBytes.{Appends, IsAtEnd}
-use Rattle.mesh_draw.specs.declared.error.IntOutlineError.TheVariants.{CoordinateOutOfRange, OutOfMemory}
+use Rattle.mesh_offset.specs.declared.error.IntOutlineError.TheVariants.{CoordinateOutOfRange, OutOfMemory}
 use Rattle.mesh_request.specs.Failures.{failure_line}
 use Rattle.mesh_request.specs.Reading.{IsOfReading}
 use Rattle.mesh_request.specs.Requests.{Request}
@@ -12,7 +12,7 @@ use Rattle.mesh_service.specs.Served.{IsAccepted}
 use Rattle.mesh_service.specs.declared.service.Status.{Status}
 use Rattle.mesh_service.specs.declared.service.Status.TheVariants.{Unwritten, Unread}
 use Rattle.mesh_service.specs.declared.service.Status.TheVariants.{Refused as RefusedStatus, Unreadable as UnreadableStatus}
-use Rattle.mesh_service.specs.Midway.{told_line}
+use Rattle.mesh_service.specs.Private.Told.{told_line}
 use Rattle.mesh_service.specs.Serving.{IsAnswer, IsRefused, IsReply, TellsRefusal, MetRefusal, HoldsNoRequest, request_in}
 use Rattle.mesh_request.specs.declared.failure.Failure.{Failure}
 use Rattle.mesh_request.specs.declared.failure.Failure.TheVariants.{Unreadable, Refused}

@@ -7,7 +7,7 @@ use Rattle.mesh_shapes.specs.Resolution.{Choices}
 use Rattle.serde_json.specs.Data.{Data}
 use Rattle.serde_json.specs.Read.{read}
 use Rattle.serde_json.specs.Written.{has_float}
-use Rattle.mesh_answer.specs.Lines.{edges_text, shapes_text}
+use Rattle.mesh_service.specs.Lines.{edges_text, shapes_text}
 use Rattle.mesh_request.specs.Reading.{request_of}
 use Rattle.mesh_request.specs.Requests.{Asked, Request}
 use Rattle.mesh_service.specs.Served.{AreEdgesOf, AreShapesOf, IsAccepted, Lists, Answers}

@@ -3,13 +3,13 @@ use Rattle.std.specs.Prelude.{ℕ, ◌≡◌, List, ℤ}
 use Rattle.std.specs.declared.cmp.Ordering.{Ordering}
 use Rattle.mesh_plane.specs.Plane.{Point, Edge}
 use Rattle.mesh_shapes.specs.Resolution.{Choices}
-use Rattle.mesh_outline_calls.specs.Resolved.{IsOutline}
+use Rattle.mesh_outline.specs.Resolved.{IsOutline}
 use Rattle.mesh_stroke.specs.Strokes.{stroke_edges}
-use Rattle.mesh_stroke_calls.specs.Resolved.{IsStroke}
+use Rattle.mesh_stroke.specs.Resolved.{IsStroke}
 use Rattle.mesh_variable_stroke.specs.VariableStrokes.{variable_stroke_edges}
-use Rattle.mesh_variable_calls.specs.Resolved.{IsVariableStroke}
-use Rattle.mesh_answer.specs.Lines.{edges_text, shapes_text}
-use Rattle.mesh_drawings.specs.Drawings.{MayBeOutlined, MayBeStroked, MayBeVariablyStroked, AreListed, served_edges}
+use Rattle.mesh_variable_stroke.specs.Resolved.{IsVariableStroke}
+use Rattle.mesh_service.specs.Lines.{edges_text, shapes_text}
+use Rattle.mesh_service.specs.Drawings.{MayBeOutlined, MayBeStroked, MayBeVariablyStroked, AreListed, served_edges}
 use Rattle.mesh_request.specs.Requests.{Drawn, as_outline, as_stroke, as_variable_stroke, Asked, Request}
 
 -- what is asked for may be drawn

@@ -3,16 +3,16 @@
 ghost use Rattle.std.specs.Prelude.{◌≡◌, ◌↔◌, OnOk, IfOk};
 ghost use Rattle.mesh_num.specs.Paths.{paths_of, shapes_of};
 ghost use Rattle.mesh_below.specs.Options.{choices_of};
-ghost use Rattle.mesh_answer.specs.Lines.{by_values};
+ghost use Rattle.mesh_service.specs.Lines.{by_values};
 ghost use Rattle.mesh_request.specs.Requests.{drawn_of};
 ghost use Rattle.mesh_service.specs.Served.{AreEdgesOf, AreShapesOf, MayBeDrawn};
 
+use crate::{outline, stroke, variable_stroke};
 use i_overlay_mesh::IntOutlineError;
-use mesh_answer::edge::DirectedEdge;
 use mesh_below::below::IntOverlayOptions;
-use mesh_drawings::{outline, stroke, variable_stroke};
 use mesh_num::num::OverlayInt;
 use mesh_num::shape::buffer::IntShapes;
+use mesh_num::shape::edge::DirectedEdge;
 use mesh_request::drawing::Drawing;
 use std::alloc::Global;
 

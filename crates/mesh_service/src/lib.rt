@@ -1,11 +1,17 @@
 //! Serves requests for polygon offsetting: reads one as JSON and writes one line of answer.
+//!
+//! A request is read (`input`), drawn as the library answers it (`drawing`, by `outline`, `stroke` and
+//! `variable_stroke`), put into a line (`answer`, `edge`) and written (`output`); `service` does all of it.
 #![tactic(auto)]
 
-pub use mesh_answer::{answer, edge};
-pub use mesh_drawings::{outline, stroke, variable_stroke};
-pub use mesh_request::{failure, request};
-
+pub mod answer;
 pub mod drawing;
+pub mod edge;
 pub mod input;
+pub mod outline;
 pub mod output;
 pub mod service;
+pub mod stroke;
+pub mod variable_stroke;
+
+pub use mesh_request::{failure, request};

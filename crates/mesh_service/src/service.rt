@@ -4,19 +4,19 @@ ghost use Rattle.std.specs.Prelude.{◌≡◌, ◌↔◌, ◌⊎◌, None, List,
 ghost use Rattle.std.specs.Io.KnownBytes.{Appends, IsAtEnd};
 ghost use Rattle.std.specs.Ordering.{int_cmp};
 ghost use Rattle.serde_json.specs.View.{view};
-ghost use Rattle.mesh_answer.specs.Lines.{by_values};
+ghost use Rattle.mesh_service.specs.Lines.{by_values};
 ghost use Rattle.mesh_request.specs.Failures.{failure_line};
 ghost use Rattle.mesh_request.specs.Reading.{request_as, request_of};
-ghost use Rattle.mesh_service.specs.Midway.{AnswersAsked, MayNotBeAnswered, told_line};
+ghost use Rattle.mesh_service.specs.Private.Told.{AnswersAsked, MayNotBeAnswered, told_line};
 ghost use Rattle.mesh_service.specs.Served.{IsAccepted, Answers};
 ghost use Rattle.mesh_service.specs.Serving.{IsAnswer, IsRefused, IsReply, HoldsNoRequest};
 ghost use Rattle.mesh_service.specs.Serving.{AppendsBeginning, TellsRefusal, MetRefusal};
 
+use crate::answer::{edges_line, shapes_line};
 use crate::drawing;
 use crate::input::read_to_end;
 use crate::output::write_line;
 use i_overlay_mesh::IntOutlineError;
-use mesh_answer::answer::{edges_line, shapes_line};
 use mesh_num::num::OverlayInt;
 use mesh_request::failure::Failure;
 use mesh_request::json::{parse, says};

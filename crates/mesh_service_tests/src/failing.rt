@@ -1,7 +1,7 @@
 //! Readers and writers that fail, are interrupted, or take byte by byte.
 
 use mesh_service::service::{Status, serve};
-use mesh_toolbox::compared::expect_equal;
+use mesh_test_support::compared::expect_equal;
 use std::alloc::Global;
 use std::io;
 use std::io::{Error, ErrorKind, Read, Write};

@@ -17,7 +17,7 @@ use crate::tables::variable_strokes::VARIABLE_STROKES;
 use i_overlay_mesh::IntOutlineError;
 use mesh_service::failure::Failure;
 use mesh_service::service::{Status, serve};
-use mesh_toolbox::compared::expect_equal;
+use mesh_test_support::compared::expect_equal;
 use std::alloc::Global;
 use std::test::Fail;
 

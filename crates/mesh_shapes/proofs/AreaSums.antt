@@ -12,7 +12,7 @@ use Rattle.mesh_plane.specs.Plane.{Point}
 use Rattle.mesh_plane.specs.Winding.{total, route, boundary}
 use Rattle.mesh_plane.proofs.Sizes.{sum_size}
 use Rattle.mesh_plane.proofs.Whole.{linear}
-use Rattle.mesh_shapes.specs.Midway.Progress.{point_at}
+use Rattle.mesh_shapes.specs.Private.Progress.{point_at}
 use Rattle.mesh_shapes.proofs.ContoursBegun.{at_place}
 
 -- a number below 2 ^ 127 in size

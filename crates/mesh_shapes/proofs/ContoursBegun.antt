@@ -17,10 +17,10 @@ use Rattle.mesh_plane.proofs.Ring.{ring, var, ◌⊕◌, ◌⊖◌, ◌⊗◌}
 use Rattle.mesh_plane.proofs.ClosedLists.{boundary_rotated}
 use Rattle.mesh_plane.specs.Ways.{turns_at, first_or, last_of}
 use Rattle.mesh_shapes.specs.Contours.{turning_points, kept, vertices, edge_lt, FirstIsLeast, IsBegun, side_point, left_out, StartsOnce, IsRingOf, IsRingAmong}
-use Rattle.mesh_cuts.specs.Counted.{bit}
-use Rattle.mesh_shapes.specs.Midway.Progress.{point_at, next_at, next_kept, IsBestVisit, IsLeastBefore}
-use Rattle.mesh_cuts.proofs.Each.{Each, each_more, each_append, each_left, each_right}
-use Rattle.mesh_cuts.proofs.SoundCuts.{ProperEnds}
+use Rattle.mesh_lattice.specs.Counted.{bit}
+use Rattle.mesh_shapes.specs.Private.Progress.{point_at, next_at, next_kept, IsBestVisit, IsLeastBefore}
+use Rattle.mesh_lattice.proofs.Each.{Each, each_more, each_append, each_left, each_right}
+use Rattle.mesh_lattice.proofs.SoundCuts.{ProperEnds}
 use Rattle.mesh_shapes.proofs.Walking.{Before, before_of, of_before, not_before, three_ways, lt_self, from_after, before_trans, before_not_self}
 use Rattle.mesh_plane.proofs.Comparing.{decides_point, less_test}
 

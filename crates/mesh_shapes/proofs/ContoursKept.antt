@@ -9,8 +9,8 @@ use Rattle.mesh_plane.proofs.Crossings.{turn_swap, turn_cycle, straight_none}
 use Rattle.mesh_plane.proofs.Triangles.{crossing_on_straight}
 use Rattle.mesh_plane.specs.Ways.{turns_at, first_or}
 use Rattle.mesh_shapes.specs.Contours.{turning_points, vertices}
-use Rattle.mesh_cuts.proofs.Each.{Each}
-use Rattle.mesh_cuts.proofs.SoundCuts.{ProperEnds}
+use Rattle.mesh_lattice.proofs.Each.{Each}
+use Rattle.mesh_lattice.proofs.SoundCuts.{ProperEnds}
 use Rattle.mesh_plane.proofs.LineTurns.{line_turn}
 
 -- `k` is `a`, or on a line with `a` and the next point

@@ -15,10 +15,10 @@ use Rattle.mesh_plane.specs.Plane.{Point}
 use Rattle.mesh_plane.specs.Order.{point_lt}
 use Rattle.mesh_plane.specs.Winding.{holds}
 use Rattle.mesh_shapes.specs.Contours.{double_area}
-use Rattle.mesh_shapes.specs.Midway.Progress.{NoneRound, IsHolder}
+use Rattle.mesh_shapes.specs.Private.Progress.{NoneRound, IsHolder}
 use Rattle.mesh_shapes.specs.Resolution.{Ring, Placed, points_lt, is_positive, is_round, is_before, is_head, stands_with}
 use Rattle.mesh_shapes.specs.Vectors.{RingVec, ring_of_vec, rings_of_vecs}
-use Rattle.mesh_shapes.specs.Midway.Grouping.{ring_at, placed, areas_of, is_round_at, IsHome, heads, stands}
+use Rattle.mesh_shapes.specs.Private.Grouping.{ring_at, placed, areas_of, is_round_at, IsHome, heads, stands}
 use Rattle.mesh_plane.proofs.Comparing.{less_test, not_less_test, test_less, test_not_less, point_cmp, cmp_lt, then_lt, then_eq, first_not_less}
 use Rattle.mesh_plane.proofs.Whole.{both_le}
 

@@ -8,15 +8,15 @@ use Rattle.mesh_plane.specs.Plane.{Point, Edge}
 use Rattle.mesh_plane.specs.Winding.{crossing_on, winding, boundary}
 use Rattle.mesh_plane.proofs.Whole.{linear}
 use Rattle.mesh_plane.proofs.Sums.{sum_of_append}
-use Rattle.mesh_cuts.specs.declared.places.Mark.{Mark}
-use Rattle.mesh_cuts.specs.Marks.{place}
+use Rattle.mesh_lattice.specs.declared.places.Mark.{Mark}
+use Rattle.mesh_lattice.specs.Marks.{place}
 use Rattle.mesh_shapes.specs.Resolution.{Ring, is_positive}
-use Rattle.mesh_shapes.specs.Midway.Grouping.{ring_at, areas_of}
-use Rattle.mesh_shapes.specs.Midway.Holders.{PlacedEdge, with_place, ring_edges, placed_edges, Rise, winding_of, IsRowOf}
-use Rattle.mesh_rows.specs.Rows.{reaches_row}
+use Rattle.mesh_shapes.specs.Private.Grouping.{ring_at, areas_of}
+use Rattle.mesh_shapes.specs.Private.Holders.{PlacedEdge, with_place, ring_edges, placed_edges, Rise, winding_of, IsRowOf}
+use Rattle.mesh_lattice.specs.Rows.{reaches_row}
 use Rattle.mesh_shapes.specs.Vectors.{RingVec, rings_of_vecs}
 use Rattle.mesh_shapes.proofs.Groups.{view_at, positive_at}
-use Rattle.mesh_rows.proofs.RowLists.{row_total}
+use Rattle.mesh_lattice.proofs.RowLists.{row_total}
 
 pub apart_places : (a b : ℕ) → (a ≡ b → ⊥) → nat_eq a b ≡ false
 apart_places a b n = ⊎_elim (λ (t : nat_eq a b ≡ true). absurd (n (eqb-true a b t))) (λ (f : nat_eq a b ≡ false). f) (cases_Bool (nat_eq a b))

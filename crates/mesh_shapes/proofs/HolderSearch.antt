@@ -9,9 +9,9 @@ use Rattle.mesh_plane.specs.Winding.{crossing_on}
 use Rattle.mesh_plane.proofs.Whole.{linear}
 use Rattle.mesh_shapes.specs.declared.holders.Search.{Search}
 use Rattle.mesh_shapes.specs.Resolution.{Ring, is_before}
-use Rattle.mesh_shapes.specs.Midway.Grouping.{ring_at, is_round_at}
-use Rattle.mesh_shapes.specs.Midway.Holders.{PlacedEdge, Rise, winding_of, IsRowOf, IsSearch}
-use Rattle.mesh_shapes.specs.Midway.Progress.{IsFound}
+use Rattle.mesh_shapes.specs.Private.Grouping.{ring_at, is_round_at}
+use Rattle.mesh_shapes.specs.Private.Holders.{PlacedEdge, Rise, winding_of, IsRowOf, IsSearch}
+use Rattle.mesh_shapes.specs.Private.Progress.{IsFound}
 use Rattle.mesh_shapes.proofs.HolderRows.{gives_none, gives_own, none_below}
 
 -- ---- the holder among more rings

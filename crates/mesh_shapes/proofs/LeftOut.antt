@@ -13,7 +13,7 @@ use Rattle.mesh_plane.specs.Winding.{sum_of, same_point}
 use Rattle.mesh_plane.proofs.Balance.{marks_counted}
 use Rattle.mesh_plane.proofs.Comparing.{decides_point}
 use Rattle.mesh_shapes.specs.Contours.{StartsOnce, left_out, omitted, straight_points}
-use Rattle.mesh_shapes.specs.Midway.Progress.{point_at, point_after, omitted_after}
+use Rattle.mesh_shapes.specs.Private.Progress.{point_at, point_after, omitted_after}
 use Rattle.mesh_shapes.specs.Vectors.{StartsInOrder}
 use Rattle.mesh_shapes.proofs.ContoursBegun.{at_place}
 use Rattle.mesh_shapes.proofs.Walking.{lt_self, neither_before}

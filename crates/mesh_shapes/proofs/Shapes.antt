@@ -8,10 +8,10 @@ use Rattle.std.specs.declared.alloc.Global.{Global}
 use Rattle.std.proofs.lemmas.Bool.{both_ways, eqb-true, eq-eqb}
 use Rattle.std.proofs.lemmas.List.{append-nil, map-append, length-append, length-map, drop_all}
 use Rattle.mesh_plane.specs.Plane.{Point}
-use Rattle.mesh_shapes.specs.Midway.Progress.{NoneRound, IsHolder}
+use Rattle.mesh_shapes.specs.Private.Progress.{NoneRound, IsHolder}
 use Rattle.mesh_shapes.specs.Resolution.{Ring, Placed, is_head, shape_of, rings_by_shape, answered}
 use Rattle.mesh_shapes.specs.Vectors.{RingVec, ring_of_vec, rings_of_vecs, shape_points}
-use Rattle.mesh_shapes.specs.Midway.Grouping.{ring_at, placed, areas_of, IsHome, contours_at, AreMembers, IsPutHome}
+use Rattle.mesh_shapes.specs.Private.Grouping.{ring_at, placed, areas_of, IsHome, contours_at, AreMembers, IsPutHome}
 use Rattle.mesh_shapes.proofs.Groups.{view_at, positive_at, home_alone, home_held, is_member, member_test}
 
 -- ---- one more element of a filtered list

@@ -16,13 +16,13 @@ use Rattle.mesh_plane.proofs.Whole.{linear}
 use Rattle.mesh_plane.proofs.Sums.{sum_of_append, sum_of_flat_map}
 use Rattle.mesh_plane.proofs.ClosedLists.{route_append}
 use Rattle.mesh_plane.proofs.Balance.{growth, growth_round, growth_of_balanced, balanced_by_growth, route_growth}
-use Rattle.mesh_cuts.specs.Split.{same_edge}
-use Rattle.mesh_cuts.specs.Boundary.{count}
-use Rattle.mesh_cuts.specs.Counted.{bit}
-use Rattle.mesh_shapes.specs.Midway.Unused.{unused, IsOpen, IsNext, TakesContours}
+use Rattle.mesh_lattice.specs.Split.{same_edge}
+use Rattle.mesh_lattice.specs.Boundary.{count}
+use Rattle.mesh_lattice.specs.Counted.{bit}
+use Rattle.mesh_shapes.specs.Private.Unused.{unused, IsOpen, IsNext, TakesContours}
 use Rattle.mesh_shapes.specs.Vectors.{StartsInOrder, HavePoints, contour_edges}
-use Rattle.mesh_cuts.proofs.Counts.{bit_least}
-use Rattle.mesh_cuts.proofs.SidesBack.{count_more}
+use Rattle.mesh_lattice.proofs.Counts.{bit_least}
+use Rattle.mesh_lattice.proofs.SidesBack.{count_more}
 use Rattle.mesh_plane.proofs.Comparing.{decides_point}
 use Rattle.mesh_plane.proofs.Comparing.{less_test, not_less_test, test_less, edge_cmp, cmp_lt, then_lt, first_not_less}
 use Rattle.std.specs.List.Sorted.{IsPartitionedBy}

@@ -1,4 +1,4 @@
 pub mod Contours
-pub mod Midway
+pub mod Private
 pub mod Resolution
 pub mod Vectors

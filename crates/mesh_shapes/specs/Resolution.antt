@@ -7,9 +7,9 @@ use Rattle.std.specs.List.Sorted.{IsSortedBy, IsPermutation}
 use Rattle.mesh_plane.specs.Plane.{Point, Edge}
 use Rattle.mesh_plane.specs.Order.{point_lt}
 use Rattle.mesh_plane.specs.Winding.{boundary, same_point, holds}
-use Rattle.mesh_cuts.specs.Clean.{IsClean}
-use Rattle.mesh_cuts.specs.Split.{Cut, after, IsLegal}
-use Rattle.mesh_cuts.specs.Boundary.{IsBoundary}
+use Rattle.mesh_lattice.specs.Clean.{IsClean}
+use Rattle.mesh_lattice.specs.Split.{Cut, after, IsLegal}
+use Rattle.mesh_lattice.specs.Boundary.{IsBoundary}
 use Rattle.mesh_shapes.specs.Contours.{vertices, IsBegun, double_area, side_point, reversed}
 
 -- the options of an answer: the least area, whether straight-through vertices stay, whether contours run clockwise

@@ -4,7 +4,7 @@ ghost use Rattle.std.specs.Prelude.{◌≡◌, ◌^◌, ◌<◌, ◌≤◌, ℤ,
 ghost use Rattle.mesh_plane.specs.Plane.{cross};
 ghost use Rattle.mesh_shapes.specs.Contours.{double_area};
 
-use mesh_cuts::grid::GridPoint;
+use mesh_lattice::grid::GridPoint;
 
 fn long(a: i32, b: i32) -> i128
     ensures value { result ≡ a *ℤ b }

@@ -8,20 +8,20 @@ ghost use Rattle.std.specs.List.{All, AllPairs};
 ghost use Rattle.std.specs.List.Sorted.{IsSortedBy, IsPermutation};
 ghost use Rattle.mesh_shapes.specs.Contours.{reversed, double_area};
 ghost use Rattle.mesh_shapes.specs.Vectors.{ring_of_vec, rings_of_vecs, shape_points, shapes_points};
-ghost use Rattle.mesh_shapes.specs.Midway.Grouping.{areas_of, IsHome, AreHomes, AreWithin};
-ghost use Rattle.mesh_shapes.specs.Midway.Grouping.{HaveMembers, IsPutHome, contour_at, contours_at, all_shapes};
-ghost use Rattle.mesh_shapes.specs.Midway.Grouping.{Stays, OtherRingsStay, AreApart, HaveApart, homed};
-ghost use Rattle.mesh_shapes.specs.Midway.Holders.{placed_edges};
-ghost use Rattle.mesh_rows.specs.Rows.{AreRows};
+ghost use Rattle.mesh_shapes.specs.Private.Grouping.{areas_of, IsHome, AreHomes, AreWithin};
+ghost use Rattle.mesh_shapes.specs.Private.Grouping.{HaveMembers, IsPutHome, contour_at, contours_at, all_shapes};
+ghost use Rattle.mesh_shapes.specs.Private.Grouping.{Stays, OtherRingsStay, AreApart, HaveApart, homed};
+ghost use Rattle.mesh_shapes.specs.Private.Holders.{placed_edges};
+ghost use Rattle.mesh_lattice.specs.Rows.{AreRows};
 ghost use Rattle.mesh_shapes.specs.Resolution.{is_large, points_lt};
 ghost use Rattle.mesh_shapes.specs.Resolution.{AreArranged};
 
 use crate::area::double_area;
 use crate::holders::{PlacedEdge, holder, ring_edges};
 use crate::ring::Ring;
-use mesh_cuts::grid::GridPoint;
-use mesh_cuts::places::{empty_lists, push_to};
-use mesh_rows::rows::Rows;
+use mesh_lattice::grid::GridPoint;
+use mesh_lattice::places::{empty_lists, push_to};
+use mesh_lattice::rows::Rows;
 use std::alloc::{AllocError, Global};
 use std::mem::replace;
 

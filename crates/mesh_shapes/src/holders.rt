@@ -7,16 +7,16 @@ ghost use Rattle.std.specs.Option.{ForSome};
 ghost use Rattle.std.specs.Ordering.{int_eq};
 ghost use Rattle.mesh_plane.specs.Plane.{Point};
 ghost use Rattle.mesh_plane.specs.Winding.{boundary};
-ghost use Rattle.mesh_shapes.specs.Midway.Grouping.{ring_at, areas_of, is_round_at, is_less_at};
-ghost use Rattle.mesh_shapes.specs.Midway.Holders.{PlacedEdge, with_place, ring_edges, placed_edges, Rise, IsRowOf};
-ghost use Rattle.mesh_shapes.specs.Midway.Holders.{IsSearch};
-ghost use Rattle.mesh_shapes.specs.Midway.Progress.{IsFound};
+ghost use Rattle.mesh_shapes.specs.Private.Grouping.{ring_at, areas_of, is_round_at, is_less_at};
+ghost use Rattle.mesh_shapes.specs.Private.Holders.{PlacedEdge, with_place, ring_edges, placed_edges, Rise, IsRowOf};
+ghost use Rattle.mesh_shapes.specs.Private.Holders.{IsSearch};
+ghost use Rattle.mesh_shapes.specs.Private.Progress.{IsFound};
 ghost use Rattle.mesh_shapes.specs.Resolution.{Ring};
 ghost use Rattle.mesh_shapes.specs.Vectors.{rings_of_vecs};
 
 use crate::ring::Ring;
-use mesh_cuts::fine::{FinePoint, crossing, doubled};
-use mesh_cuts::grid::{GridEdge, GridPoint};
+use mesh_lattice::fine::{FinePoint, crossing, doubled};
+use mesh_lattice::grid::{GridEdge, GridPoint};
 use std::alloc::{AllocError, Global};
 
 /// An edge of a ring, and the place of the ring.

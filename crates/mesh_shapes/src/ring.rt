@@ -10,13 +10,13 @@ ghost use Rattle.mesh_plane.specs.Winding.{boundary, same_point};
 ghost use Rattle.mesh_plane.specs.Ways.{turns_at};
 ghost use Rattle.mesh_shapes.specs.Contours.{kept, left_out, omitted, vertices, side_point, StartsOnce, IsRingAmong};
 ghost use Rattle.mesh_shapes.specs.Vectors.{StartsInOrder};
-ghost use Rattle.mesh_shapes.specs.Midway.Progress.{point_at, next_at, IsBestVisit, IsLeastBefore, point_after};
-ghost use Rattle.mesh_shapes.specs.Midway.Progress.{kept_after, omitted_after};
+ghost use Rattle.mesh_shapes.specs.Private.Progress.{point_at, next_at, IsBestVisit, IsLeastBefore, point_after};
+ghost use Rattle.mesh_shapes.specs.Private.Progress.{kept_after, omitted_after};
 
 use crate::walk::starts_once;
-use mesh_cuts::exact::{cross, is_before, minus, product, same_point};
-use mesh_cuts::fine::{FinePoint, middle};
-use mesh_cuts::grid::{GridEdge, GridPoint};
+use mesh_lattice::exact::{cross, is_before, minus, product, same_point};
+use mesh_lattice::fine::{FinePoint, middle};
+use mesh_lattice::grid::{GridEdge, GridPoint};
 use std::alloc::{AllocError, Global};
 
 /// The vertices of a contour, and the midpoint of its first edge on the grid that is twice as fine.

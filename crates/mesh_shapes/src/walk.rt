@@ -7,10 +7,10 @@ ghost use Rattle.mesh_plane.specs.Plane.{Edge};
 ghost use Rattle.mesh_plane.specs.Winding.{sum_of, boundary, IsBalanced};
 ghost use Rattle.mesh_shapes.specs.Contours.{StartsOnce};
 ghost use Rattle.mesh_shapes.specs.Vectors.{HavePoints, StartsInOrder, contour_edges};
-ghost use Rattle.mesh_shapes.specs.Midway.Unused.{unused, IsOpen, IsNext, TakesContours};
+ghost use Rattle.mesh_shapes.specs.Private.Unused.{unused, IsOpen, IsNext, TakesContours};
 
-use mesh_cuts::exact::{cross, is_before, minus, same_point};
-use mesh_cuts::grid::{GridEdge, GridPoint};
+use mesh_lattice::exact::{cross, is_before, minus, same_point};
+use mesh_lattice::grid::{GridEdge, GridPoint};
 use std::alloc::{AllocError, Global};
 
 /// A vector between two points.

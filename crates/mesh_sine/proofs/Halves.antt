@@ -4,7 +4,7 @@ use Rattle.std.specs.Prelude.{min, true, leb, ltb, eqb, ◌&&◌, get_or}
 use Rattle.std.proofs.lemmas.Bool.{and_parts, leb-true, ltb-true, eqb-true}
 use Rattle.mesh_plane.proofs.Sizes.{lt_of_squares}
 use Rattle.mesh_sine.specs.Sine.{one, root, half_cosine, half_pair, halved}
-use Rattle.mesh_sine.specs.Midway.{is_half_cosine, is_half_sine, are_halves}
+use Rattle.mesh_sine.specs.Private.Halves.{is_half_cosine, is_half_sine, are_halves}
 use Rattle.mesh_sine.proofs.Roots.{root_is, root_by}
 
 -- a number whose square is at most another is at most its root

@@ -1,3 +1,3 @@
 pub mod Laws
-pub mod Midway
+pub mod Private
 pub mod Sine

@@ -1,7 +1,7 @@
 //! Cosines and sines of a quarter turn halved again and again.
 
 ghost use Rattle.std.specs.Prelude.{◌≡◌, ◌+◌, ◌-◌, ◌<◌, length, IsTrue};
-ghost use Rattle.mesh_sine.specs.Midway.{are_halves};
+ghost use Rattle.mesh_sine.specs.Private.Halves.{are_halves};
 ghost use Rattle.mesh_sine.specs.Sine.{one, halved};
 
 // Cosine and sine, times 2^60, of a quarter turn halved once, twice, up to 30 times.

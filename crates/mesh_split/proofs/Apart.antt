@@ -5,9 +5,9 @@ use Rattle.std.proofs.lemmas.Int.{ints}
 use Rattle.std.proofs.lemmas.Bool.{true≢false}
 use Rattle.mesh_plane.specs.Plane.{Point, Edge}
 use Rattle.mesh_plane.proofs.Whole.{either_order}
-use Rattle.mesh_cuts.specs.Split.{IsBetween, AreClear, Meets}
-use Rattle.mesh_cuts.proofs.Boxes.{meets_box}
-use Rattle.mesh_split.specs.Midway.BoundingBoxes.{are_beyond, is_beside, AreBounds}
+use Rattle.mesh_lattice.specs.Split.{IsBetween, AreClear, Meets}
+use Rattle.mesh_lattice.proofs.Boxes.{meets_box}
+use Rattle.mesh_split.specs.Private.BoundingBoxes.{are_beyond, is_beside, AreBounds}
 
 least_of : (l a z b : ℤ) → l ≤ℤ a → l ≤ℤ b → IsBetween a z b → l ≤ℤ z
 least_of l a z b h k r =

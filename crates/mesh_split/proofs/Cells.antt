@@ -6,10 +6,10 @@ use Rattle.mesh_plane.specs.Plane.{Point, Edge, turn}
 use Rattle.mesh_plane.proofs.Whole.{linear, square_nonneg, mul_nonneg, mul_nonpos, nonneg_of_mul, zero_mul, either_order, square_zero}
 use Rattle.mesh_plane.proofs.Ring.{ring, var, neg, ◌⊕◌, ◌⊖◌, ◌⊗◌}
 use Rattle.mesh_plane.proofs.PointExprs.{point_var, coordinates, turned}
-use Rattle.mesh_cuts.specs.Split.{IsBetween, IsInside, IsCrossing, crossing_at, rounded_quotient, Meets, at_start_of_second, at_end_of_second, at_start_of_first, at_end_of_first, at_crossing}
-use Rattle.mesh_cuts.proofs.Boxes.{between_start, between_end, crossing_between, quotient_flip, turns_differ, parted}
+use Rattle.mesh_lattice.specs.Split.{IsBetween, IsInside, IsCrossing, crossing_at, rounded_quotient, Meets, at_start_of_second, at_end_of_second, at_start_of_first, at_end_of_first, at_crossing}
+use Rattle.mesh_lattice.proofs.Boxes.{between_start, between_end, crossing_between, quotient_flip, turns_differ, parted}
 use Rattle.mesh_split.specs.declared.tree.Cut.{Cut}
-use Rattle.mesh_split.specs.Midway.Cells.{Cell, IsAt, height}
+use Rattle.mesh_split.specs.Private.Cells.{Cell, IsAt, height}
 
 -- ---- shares of a range
 

@@ -7,15 +7,15 @@ use Rattle.mesh_plane.specs.Plane.{Point, Edge, turn}
 use Rattle.mesh_plane.specs.Winding.{same_point, refined}
 use Rattle.mesh_plane.proofs.Crossings.{turn_refined}
 use Rattle.mesh_plane.proofs.Whole.{linear, factor, le_of_mul_le_mul, mul_le_mul_left}
-use Rattle.mesh_cuts.specs.Clean.{IsOn, refined_edge, ShareEnds, IsClean, IsProper}
-use Rattle.mesh_cuts.specs.Counted.{Counted, IsCountOf, bit, times}
-use Rattle.mesh_cuts.specs.Split.{back, same_edge, same_ends, occurs, is_end, IsBetween, IsInside, at_start_of_second, at_end_of_second, at_start_of_first, at_end_of_first, at_crossing}
-use Rattle.mesh_split.specs.Midway.Steps.{exactly, AllClear}
-use Rattle.mesh_cuts.specs.Split.{AreClear}
-use Rattle.mesh_cuts.proofs.Ends.{decides_edge, decides_end, decides_ends}
+use Rattle.mesh_lattice.specs.Clean.{IsOn, refined_edge, ShareEnds, IsClean, IsProper}
+use Rattle.mesh_lattice.specs.Counted.{Counted, IsCountOf, bit, times}
+use Rattle.mesh_lattice.specs.Split.{back, same_edge, same_ends, occurs, is_end, IsBetween, IsInside, at_start_of_second, at_end_of_second, at_start_of_first, at_end_of_first, at_crossing}
+use Rattle.mesh_split.specs.Private.Steps.{exactly, AllClear}
+use Rattle.mesh_lattice.specs.Split.{AreClear}
+use Rattle.mesh_lattice.proofs.Ends.{decides_edge, decides_end, decides_ends}
 use Rattle.mesh_split.proofs.Entries.{exactly_least}
 use Rattle.mesh_split.proofs.Sharing.{ShareNoInside, apart_swap, apart_back, inside_both}
-use Rattle.mesh_cuts.proofs.Counts.{bit_least}
+use Rattle.mesh_lattice.proofs.Counts.{bit_least}
 
 pub apart_of : (e f : Edge) → AreClear e f → ShareNoInside e f
 apart_of e f h = record {

@@ -19,13 +19,13 @@ use Rattle.mesh_plane.specs.Plane.{Edge}
 use Rattle.mesh_plane.specs.Winding.{sum_of, same_point}
 use Rattle.mesh_plane.proofs.Sums.{sum_of_permutation}
 use Rattle.mesh_plane.proofs.Whole.{linear}
-use Rattle.mesh_cuts.specs.Split.{back, same_edge, same_ends}
-use Rattle.mesh_cuts.specs.Counted.{Counted, bit, times}
-use Rattle.mesh_split.specs.Midway.Steps.{exactly, IsForward, IsTaken, IsRaised, IsNew, HaveRoom}
-use Rattle.mesh_cuts.specs.Counted.{size}
-use Rattle.mesh_cuts.proofs.Ends.{decides_edge, decides_ends}
-use Rattle.mesh_cuts.proofs.Arithmetic.{small_kept, small_fits}
-use Rattle.mesh_cuts.proofs.Counts.{bit_least}
+use Rattle.mesh_lattice.specs.Split.{back, same_edge, same_ends}
+use Rattle.mesh_lattice.specs.Counted.{Counted, bit, times}
+use Rattle.mesh_split.specs.Private.Steps.{exactly, IsForward, IsTaken, IsRaised, IsNew, HaveRoom}
+use Rattle.mesh_lattice.specs.Counted.{size}
+use Rattle.mesh_lattice.proofs.Ends.{decides_edge, decides_ends}
+use Rattle.mesh_lattice.proofs.Arithmetic.{small_kept, small_fits}
+use Rattle.mesh_lattice.proofs.Counts.{bit_least}
 
 -- how the map compares its keys
 abbrev pub edge_eq : Edge → Edge → Bool

@@ -3,9 +3,9 @@ use Rattle.std.proofs.Common.{◌≡◌, ◌+◌, arith, ℕ, ◌≤◌, false, 
 use Rattle.std.specs.Prelude.{ℤ, ◌-ℤ◌, ◌≤ℤ◌, ◌<ℤ◌, unsigned_abs}
 use Rattle.std.proofs.lemmas.Int.{ints, by_lt_z}
 use Rattle.mesh_plane.proofs.Whole.{linear}
-use Rattle.mesh_cuts.specs.Split.{IsBetween, IsInBox}
+use Rattle.mesh_lattice.specs.Split.{IsBetween, IsInBox}
 use Rattle.mesh_plane.specs.Plane.{Point, Edge}
-use Rattle.mesh_split.specs.Midway.Steps.{extent}
+use Rattle.mesh_split.specs.Private.Steps.{extent}
 use Rattle.std.proofs.lemmas.Bool.{both_ways}
 use Rattle.mesh_plane.specs.Winding.{same_point}
 use Rattle.mesh_plane.proofs.Comparing.{decides_point}

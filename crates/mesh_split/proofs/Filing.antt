@@ -9,18 +9,18 @@ use mir.Val.{to_z, of_z}
 use Rattle.mesh_plane.specs.Plane.{Point, Edge}
 use Rattle.mesh_plane.specs.Winding.{same_point}
 use Rattle.mesh_plane.proofs.Whole.{linear, add_mul, neg_mul_neg}
-use Rattle.mesh_cuts.specs.Split.{back, same_edge, same_ends, is_end, IsInBox}
-use Rattle.mesh_cuts.specs.Counted.{Counted, bit, along, times}
-use Rattle.mesh_split.specs.Midway.Steps.{exactly, IsRaised, IsNew, IsKept, IsTaken, Puts, PutsPieces, at_least_once, extent, weight, waiting_work, live_work, total_weight, HaveRoom}
-use Rattle.mesh_cuts.proofs.Ends.{decides_end, ends_turned, along_turned}
+use Rattle.mesh_lattice.specs.Split.{back, same_edge, same_ends, is_end, IsInBox}
+use Rattle.mesh_lattice.specs.Counted.{Counted, bit, along, times}
+use Rattle.mesh_split.specs.Private.Steps.{exactly, IsRaised, IsNew, IsKept, IsTaken, Puts, PutsPieces, at_least_once, extent, weight, waiting_work, live_work, total_weight, HaveRoom}
+use Rattle.mesh_lattice.proofs.Ends.{decides_end, ends_turned, along_turned}
 use Rattle.mesh_split.proofs.Extents.{extent_split, extent_least}
-use Rattle.mesh_cuts.proofs.Counts.{bit_least, times_least}
+use Rattle.mesh_lattice.proofs.Counts.{bit_least, times_least}
 use Rattle.mesh_split.proofs.Stages.{times_along}
 use Rattle.mesh_split.proofs.Entries.{count_kept}
 use Rattle.mesh_plane.proofs.Comparing.{decides_point}
 use Rattle.mesh_split.proofs.Room.{size_weight, sizes_weights, weights_least}
 use Rattle.mesh_plane.proofs.Sizes.{size_neg}
-use Rattle.mesh_cuts.specs.Counted.{IsRoomy}
+use Rattle.mesh_lattice.specs.Counted.{IsRoomy}
 
 -- ---- counts
 

@@ -1,10 +1,10 @@
 -- Lemmas over points and lists: what legal splits keep.
 use Rattle.std.proofs.Common.{List}
 use Rattle.mesh_plane.specs.Plane.{Edge}
-use Rattle.mesh_cuts.specs.Split.{Cut, IsLegal}
-use Rattle.mesh_cuts.proofs.KeptByCuts.{after_balanced}
-use Rattle.mesh_cuts.proofs.SafeCuts.{split_safe}
-use Rattle.mesh_cuts.proofs.SoundCuts.{legal_sound, after_proper}
+use Rattle.mesh_lattice.specs.Split.{Cut, IsLegal}
+use Rattle.mesh_lattice.proofs.KeptByCuts.{after_balanced}
+use Rattle.mesh_lattice.proofs.SafeCuts.{split_safe}
+use Rattle.mesh_lattice.proofs.SoundCuts.{legal_sound, after_proper}
 use Rattle.mesh_split.specs.Laws.{KeepsEdges}
 use Rattle.mesh_split.proofs.Paths.{path_of_edge, comes_from}
 

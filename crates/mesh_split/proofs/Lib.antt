@@ -1,4 +1,5 @@
 pub mod Apart
+pub mod Cells
 pub mod Clean
 pub mod Entries
 pub mod Extents
@@ -7,7 +8,6 @@ pub mod Kept
 pub mod Listing
 pub mod Paths
 pub mod Piles
-pub mod Cells
 pub mod Room
 pub mod Settling
 pub mod Sharing

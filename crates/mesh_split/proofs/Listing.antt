@@ -8,15 +8,15 @@ use Rattle.std.proofs.lemmas.Bool.{both_ways}
 use Rattle.std.specs.Map.{keys_of}
 use Rattle.mesh_plane.specs.Plane.{Edge}
 use Rattle.mesh_plane.proofs.Whole.{linear}
-use Rattle.mesh_cuts.specs.Counted.{Counted, bit}
-use Rattle.mesh_cuts.specs.Split.{same_edge, AreClear}
-use Rattle.mesh_cuts.proofs.Arithmetic.{below_or_last}
-use Rattle.mesh_cuts.proofs.Counts.{bit_least}
-use Rattle.mesh_cuts.proofs.Ends.{decides_edge}
+use Rattle.mesh_lattice.specs.Counted.{Counted, bit}
+use Rattle.mesh_lattice.specs.Split.{same_edge, AreClear}
+use Rattle.mesh_lattice.proofs.Arithmetic.{below_or_last}
+use Rattle.mesh_lattice.proofs.Counts.{bit_least}
+use Rattle.mesh_lattice.proofs.Ends.{decides_edge}
 use Rattle.mesh_split.specs.declared.tree.Cut.{Cut}
-use Rattle.mesh_split.specs.Midway.Cells.{Cell, IsAt, reaches, StandsIn, KeepsThose, HasListed, KeepsListed, KeepsOthers, LiveAreListed, IsCellClear}
+use Rattle.mesh_split.specs.Private.Cells.{Cell, IsAt, reaches, StandsIn, KeepsThose, HasListed, KeepsListed, KeepsOthers, LiveAreListed, IsCellClear}
 use Rattle.mesh_split.proofs.Cells.{cell_met}
-use Rattle.mesh_split.specs.Midway.Steps.{exactly, IsPut, IsTaken, IsClearOf, AddsIf}
+use Rattle.mesh_split.specs.Private.Steps.{exactly, IsPut, IsTaken, IsClearOf, AddsIf}
 
 -- ---- lists that grow
 

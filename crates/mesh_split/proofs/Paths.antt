@@ -5,21 +5,21 @@ use Rattle.std.proofs.lemmas.Bool.{cases_Bool, false≢true, or_cases, or_right}
 use Rattle.std.proofs.lemmas.List.Elements.{All-cons, All-head, All-tail}
 use Rattle.mesh_plane.specs.Plane.{Point, Edge}
 use Rattle.mesh_plane.proofs.Whole.{linear}
-use Rattle.mesh_cuts.specs.Clean.{IsProper}
-use Rattle.mesh_cuts.specs.Counted.{Counted, IsCountOf}
-use Rattle.mesh_cuts.specs.Split.{back, same_ends, occurs, IsInBox, Cut, cut_edges, after, path}
-use Rattle.mesh_cuts.specs.Splitting.{Leads, IsOnward, IsPathOf, ComesFrom, IsSplitting}
-use Rattle.mesh_split.specs.Midway.Steps.{AllClear, IsReachedBySplits}
-use Rattle.mesh_cuts.proofs.SafeCuts.{split_safe}
-use Rattle.mesh_cuts.proofs.Keys.{occurs_head}
-use Rattle.mesh_cuts.proofs.KeptByCuts.{box_trans, after_append, after_balanced}
-use Rattle.mesh_cuts.proofs.SoundCuts.{IsSound, legal_sound, after_proper}
-use Rattle.mesh_cuts.proofs.Boxes.{start_box, end_box}
+use Rattle.mesh_lattice.specs.Clean.{IsProper}
+use Rattle.mesh_lattice.specs.Counted.{Counted, IsCountOf}
+use Rattle.mesh_lattice.specs.Split.{back, same_ends, occurs, IsInBox, Cut, cut_edges, after, path}
+use Rattle.mesh_lattice.specs.Splitting.{Leads, IsOnward, IsPathOf, ComesFrom, IsSplitting}
+use Rattle.mesh_split.specs.Private.Steps.{AllClear, IsReachedBySplits}
+use Rattle.mesh_lattice.proofs.SafeCuts.{split_safe}
+use Rattle.mesh_lattice.proofs.Keys.{occurs_head}
+use Rattle.mesh_lattice.proofs.KeptByCuts.{box_trans, after_append, after_balanced}
+use Rattle.mesh_lattice.proofs.SoundCuts.{IsSound, legal_sound, after_proper}
+use Rattle.mesh_lattice.proofs.Boxes.{start_box, end_box}
 use Rattle.mesh_split.proofs.Clean.{clean_of_clear}
-use Rattle.mesh_cuts.proofs.Cuts.{occurs_append}
-use Rattle.mesh_cuts.proofs.Ends.{decides_ends}
-use Rattle.mesh_cuts.proofs.KeptByCuts.{after_none}
-use Rattle.mesh_cuts.proofs.Each.{Each}
+use Rattle.mesh_lattice.proofs.Cuts.{occurs_append}
+use Rattle.mesh_lattice.proofs.Ends.{decides_ends}
+use Rattle.mesh_lattice.proofs.KeptByCuts.{after_none}
+use Rattle.mesh_lattice.proofs.Each.{Each}
 
 -- a cut's point lies in the box of each edge that it cuts
 box_of_cut : (k : Cut) (f : Edge) → IsSound k → same_ends f k.ends ≡ true → IsInBox f k.at

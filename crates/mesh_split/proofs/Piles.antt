@@ -6,11 +6,11 @@ use Rattle.std.proofs.lemmas.Int.{ints}
 use Rattle.mesh_plane.specs.Plane.{Point, Edge}
 use Rattle.mesh_plane.proofs.Sums.{sum_of_ones}
 use Rattle.mesh_plane.proofs.Whole.{linear}
-use Rattle.mesh_cuts.specs.Counted.{Counted, bit, times}
-use Rattle.mesh_cuts.specs.Split.{same_edge, same_ends, occurs, after, Meets}
-use Rattle.mesh_cuts.proofs.Counts.{times_least, bit_most}
-use Rattle.mesh_cuts.proofs.Ends.{decides_edge, ends_self}
-use Rattle.mesh_split.specs.Midway.Steps.{exactly, IsTaken, IsPut, IsPile, StandOnce, Settles, weight}
+use Rattle.mesh_lattice.specs.Counted.{Counted, bit, times}
+use Rattle.mesh_lattice.specs.Split.{same_edge, same_ends, occurs, after, Meets}
+use Rattle.mesh_lattice.proofs.Counts.{times_least, bit_most}
+use Rattle.mesh_lattice.proofs.Ends.{decides_edge, ends_self}
+use Rattle.mesh_split.specs.Private.Steps.{exactly, IsTaken, IsPut, IsPile, StandOnce, Settles, weight}
 use Rattle.mesh_split.proofs.Settling.{clear_self}
 use Rattle.mesh_split.proofs.Stages.{pop_count, take_count, keep_count}
 use Rattle.mesh_split.proofs.Starting.{settled_reached, settled_weight}

@@ -2,13 +2,13 @@
 use Rattle.std.proofs.Common.{ℕ, ◌≤◌, max, ◌*◌, arith, List, [], ◌∷◌, ◌^◌}
 use Rattle.std.specs.Prelude.{pos, ◌≤ℤ◌, unsigned_abs}
 use Rattle.std.proofs.lemmas.Int.{ints}
-use Rattle.mesh_cuts.specs.Counted.{Counted}
+use Rattle.mesh_lattice.specs.Counted.{Counted}
 use Rattle.std.proofs.Math.Nat.{mul-le-mul_left}
-use Rattle.mesh_cuts.specs.Counted.{size}
-use Rattle.mesh_split.specs.Midway.Steps.{weight, extent, total_weight}
+use Rattle.mesh_lattice.specs.Counted.{size}
+use Rattle.mesh_split.specs.Private.Steps.{weight, extent, total_weight}
 use Rattle.mesh_plane.specs.Winding.{sum_of}
 use Rattle.mesh_plane.proofs.Sums.{sum_least}
-use Rattle.mesh_cuts.specs.Counted.{IsRoomy}
+use Rattle.mesh_lattice.specs.Counted.{IsRoomy}
 
 -- the counts of live segments add up to no more than their weights
 pub size_weight : (k : Counted) → size k ≤ℤ weight k

@@ -6,15 +6,15 @@ use Rattle.std.proofs.lemmas.Int.{ints}
 use Rattle.mesh_plane.specs.Plane.{Point, Edge, turn}
 use Rattle.mesh_plane.specs.Winding.{same_point}
 use Rattle.mesh_plane.proofs.Whole.{linear}
-use Rattle.mesh_cuts.specs.Split.{same_edge, same_ends, occurs, is_end, IsInBox, IsCrossing, Meets, at_start_of_second, at_end_of_second, at_start_of_first, at_end_of_first, at_crossing, Cut, cut_edges, after, add_cut, IsLegal, split}
-use Rattle.mesh_cuts.specs.Counted.{Counted, bit, times}
-use Rattle.mesh_split.specs.Midway.Steps.{exactly, IsPut, IsTaken, Puts, PutsPieces, IsClearOf, AllClear, AreCountOf, IsReachedBySplits, Settles, extent, weight, waiting_work, live_work}
-use Rattle.mesh_cuts.specs.Split.{AreClear}
-use Rattle.mesh_cuts.proofs.Ends.{decides_edge, decides_end, ends_sym, not_ends}
-use Rattle.mesh_cuts.proofs.Boxes.{meets_box, meets_once, crossing_swapped, turn_start}
+use Rattle.mesh_lattice.specs.Split.{same_edge, same_ends, occurs, is_end, IsInBox, IsCrossing, Meets, at_start_of_second, at_end_of_second, at_start_of_first, at_end_of_first, at_crossing, Cut, cut_edges, after, add_cut, IsLegal, split}
+use Rattle.mesh_lattice.specs.Counted.{Counted, bit, times}
+use Rattle.mesh_split.specs.Private.Steps.{exactly, IsPut, IsTaken, Puts, PutsPieces, IsClearOf, AllClear, AreCountOf, IsReachedBySplits, Settles, extent, weight, waiting_work, live_work}
+use Rattle.mesh_lattice.specs.Split.{AreClear}
+use Rattle.mesh_lattice.proofs.Ends.{decides_edge, decides_end, ends_sym, not_ends}
+use Rattle.mesh_lattice.proofs.Boxes.{meets_box, meets_once, crossing_swapped, turn_start}
 use Rattle.mesh_split.proofs.Extents.{extent_least}
 use Rattle.mesh_split.proofs.Stages.{IsHeld, held_is, bit_true, take_count, swap_count, keep_count, put_count, cut_count}
-use Rattle.mesh_cuts.proofs.Counts.{bit_least, times_least, bit_none}
+use Rattle.mesh_lattice.proofs.Counts.{bit_least, times_least, bit_none}
 use Rattle.mesh_split.proofs.Filing.{positive_times, weight_pieces, work_pieces}
 
 -- ---- segments that stay clear of each other

@@ -9,14 +9,14 @@ use Rattle.mesh_plane.specs.Winding.{same_point, refined}
 use Rattle.mesh_plane.proofs.Whole.{linear, mul_neg, mul_nonneg, mul_nonpos_nonneg, mul_pos, mul_pos_neg, nonneg_of_mul, nonpos_of_mul, mul_lt_mul_left, pos_of_mul, neg_of_mul, factor, lt_of_mul_lt_mul, times_zero}
 use Rattle.mesh_plane.proofs.Crossings.{turn_flip}
 use Rattle.mesh_plane.proofs.Ring.{ring, var, neg, ◌⊕◌, ◌⊖◌, ◌⊗◌}
-use Rattle.mesh_cuts.specs.Clean.{IsOn, refined_edge}
-use Rattle.mesh_cuts.specs.Split.{back, same_ends, is_end, IsBetween, IsInside, AreOpposite, IsCrossing}
-use Rattle.mesh_cuts.proofs.Boxes.{turns_differ}
-use Rattle.mesh_cuts.proofs.Ends.{decides_end, decides_ends, ends_turned, ends_sym, end_back}
+use Rattle.mesh_lattice.specs.Clean.{IsOn, refined_edge}
+use Rattle.mesh_lattice.specs.Split.{back, same_ends, is_end, IsBetween, IsInside, AreOpposite, IsCrossing}
+use Rattle.mesh_lattice.proofs.Boxes.{turns_differ}
+use Rattle.mesh_lattice.proofs.Ends.{decides_end, decides_ends, ends_turned, ends_sym, end_back}
 use Rattle.mesh_plane.proofs.PointExprs.{point_var, coordinates, turned, scaled_point_expr}
 use Rattle.mesh_plane.proofs.Comparing.{decides_point}
 use Rattle.mesh_plane.proofs.LineTurns.{along_x, along_y}
-use Rattle.mesh_cuts.proofs.Boxes.{between_back, on_back}
+use Rattle.mesh_lattice.proofs.Boxes.{between_back, on_back}
 
 -- two edges without a point inside one of them that is the other's end, and without a crossing
 pub record ShareNoInside (e f : Edge) : Type 0 where

@@ -5,12 +5,12 @@ use Rattle.std.proofs.lemmas.Int.{ints}
 use Rattle.mesh_plane.specs.Plane.{Point, Edge}
 use Rattle.mesh_plane.specs.Winding.{same_point}
 use Rattle.mesh_plane.proofs.Whole.{linear, mul_add, mul_sub}
-use Rattle.mesh_cuts.specs.Split.{same_ends, occurs, cut_edges}
-use Rattle.mesh_cuts.specs.Counted.{Counted, bit, along, net, times}
-use Rattle.mesh_split.specs.Midway.Steps.{IsTaken, IsPut, Puts, PutsPieces, AreCountOf, at_least_once}
-use Rattle.mesh_cuts.proofs.Ends.{ends_self, ends_sym, ends_along, along_self}
-use Rattle.mesh_cuts.proofs.Cuts.{net_cut, occurs_cut, change}
-use Rattle.mesh_cuts.proofs.Counts.{absent_net, bit_least, times_least, bit_most}
+use Rattle.mesh_lattice.specs.Split.{same_ends, occurs, cut_edges}
+use Rattle.mesh_lattice.specs.Counted.{Counted, bit, along, net, times}
+use Rattle.mesh_split.specs.Private.Steps.{IsTaken, IsPut, Puts, PutsPieces, AreCountOf, at_least_once}
+use Rattle.mesh_lattice.proofs.Ends.{ends_self, ends_sym, ends_along, along_self}
+use Rattle.mesh_lattice.proofs.Cuts.{net_cut, occurs_cut, change}
+use Rattle.mesh_lattice.proofs.Counts.{absent_net, bit_least, times_least, bit_most}
 
 -- the same ends stand the same number of times
 pub times_along : (q s : Edge) (ks : List Counted) → same_ends q s ≡ true → times q ks ≡ times s ks

@@ -9,15 +9,15 @@ use Rattle.mesh_plane.specs.Plane.{Edge}
 use Rattle.mesh_plane.specs.Winding.{sum_of}
 use Rattle.mesh_plane.proofs.Sums.{sum_of_append}
 use Rattle.mesh_plane.proofs.Whole.{linear}
-use Rattle.mesh_cuts.specs.Split.{same_ends, occurs, after, no_cut}
-use Rattle.mesh_cuts.specs.Counted.{Counted, bit, along, times}
-use Rattle.mesh_split.specs.Midway.Steps.{IsTaken, Puts, AllClear, AreCountOf, IsReachedBySplits, Settles, at_least_once, extent, weight, waiting_work, live_work, work, total_weight}
-use Rattle.mesh_cuts.proofs.Ends.{ends_self}
-use Rattle.mesh_cuts.proofs.Counts.{times_least, bit_most}
-use Rattle.mesh_cuts.proofs.Cuts.{occurs_append}
+use Rattle.mesh_lattice.specs.Split.{same_ends, occurs, after, no_cut}
+use Rattle.mesh_lattice.specs.Counted.{Counted, bit, along, times}
+use Rattle.mesh_split.specs.Private.Steps.{IsTaken, Puts, AllClear, AreCountOf, IsReachedBySplits, Settles, at_least_once, extent, weight, waiting_work, live_work, work, total_weight}
+use Rattle.mesh_lattice.proofs.Ends.{ends_self}
+use Rattle.mesh_lattice.proofs.Counts.{times_least, bit_most}
+use Rattle.mesh_lattice.proofs.Cuts.{occurs_append}
 use Rattle.mesh_split.proofs.Stages.{pop_count}
 use Rattle.mesh_split.proofs.Settling.{fewer_clear}
-use Rattle.mesh_cuts.specs.Counted.{IsRoomy}
+use Rattle.mesh_lattice.specs.Counted.{IsRoomy}
 
 once_given : (b o : Bool) (z : ℤ) → z +ℤ pos 0 ≡ bit o → at_least_once b z +ℤ pos 0 ≡ bit (o || (b || false))
 once_given true true z h = ap (λ (x : ℤ). cond (int_lt (pos 0) x) x (pos 1) +ℤ pos 0) (one z h)

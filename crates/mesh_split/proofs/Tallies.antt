@@ -8,10 +8,10 @@ use Rattle.std.proofs.lemmas.Int.{ints}
 use Rattle.std.proofs.lemmas.Option.{none-some}
 use Rattle.mesh_plane.specs.Plane.{Edge}
 use Rattle.mesh_plane.proofs.Whole.{linear}
-use Rattle.mesh_cuts.specs.Split.{same_edge}
-use Rattle.mesh_cuts.specs.Counted.{Counted, bit, times}
-use Rattle.mesh_cuts.proofs.Ends.{decides_edge}
-use Rattle.mesh_split.specs.Midway.Steps.{exactly, IsPut}
+use Rattle.mesh_lattice.specs.Split.{same_edge}
+use Rattle.mesh_lattice.specs.Counted.{Counted, bit, times}
+use Rattle.mesh_lattice.proofs.Ends.{decides_edge}
+use Rattle.mesh_split.specs.Private.Steps.{exactly, IsPut}
 use Rattle.mesh_split.proofs.Entries.{edge_eq, equal_self, found_stands, insert_put}
 use Rattle.mesh_split.proofs.Filing.{positive_times}
 

@@ -2,10 +2,10 @@
 use Rattle.std.specs.Prelude.{ℕ, ◌≡◌, true, List}
 use Rattle.mesh_plane.specs.Plane.{Edge}
 use Rattle.mesh_plane.specs.Winding.{IsBalanced}
-use Rattle.mesh_cuts.specs.Clean.{IsProper}
-use Rattle.mesh_cuts.specs.Reach.{AreEdgesSafe}
-use Rattle.mesh_cuts.specs.Split.{occurs, Cut, after, path, IsLegal}
-use Rattle.mesh_cuts.specs.Splitting.{IsPathOf, ComesFrom}
+use Rattle.mesh_lattice.specs.Clean.{IsProper}
+use Rattle.mesh_lattice.specs.Reach.{AreEdgesSafe}
+use Rattle.mesh_lattice.specs.Split.{occurs, Cut, after, path, IsLegal}
+use Rattle.mesh_lattice.specs.Splitting.{IsPathOf, ComesFrom}
 
 -- each edge has become a path in its own box that never goes back in x nor in y, each split segment is part of such a
 -- path of a given edge, and what holds of the given edges holds of the split segments: they differ in their ends, are

@@ -1,9 +1,9 @@
 //! The box of a segment, by which those are left out at once that have no point in common with it.
 
 ghost use Rattle.std.specs.Prelude.{◌≡◌};
-ghost use Rattle.mesh_split.specs.Midway.BoundingBoxes.{are_beyond, is_beside, AreBounds};
+ghost use Rattle.mesh_split.specs.Private.BoundingBoxes.{are_beyond, is_beside, AreBounds};
 
-use mesh_cuts::grid::{GridEdge, GridPoint};
+use mesh_lattice::grid::{GridEdge, GridPoint};
 
 /// The least coordinates of a segment's ends, and the greatest.
 pub type BoundingBox = (GridPoint, GridPoint);

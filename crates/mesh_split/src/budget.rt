@@ -4,8 +4,8 @@
 //! makes its own meetings, goes on along a line, and drags points with it.
 
 use crate::bounding::{bounding_box, is_beside};
-use mesh_cuts::exact::meeting;
-use mesh_cuts::grid::{GridEdge, GridPoint};
+use mesh_lattice::exact::meeting;
+use mesh_lattice::grid::{GridEdge, GridPoint};
 use std::alloc::{AllocError, Global};
 
 /// Up to so many edges are few: then their meetings are counted pair by pair where an attempt needs it, and short runs

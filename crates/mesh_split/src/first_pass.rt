@@ -2,16 +2,16 @@
 //! each other; what is left to split is found by the second pass, whatever was split here.
 
 ghost use Rattle.std.specs.Prelude.{◌≡◌, [], pos, ◌<ℤ◌, IfOk, IfSome, OnOk};
-ghost use Rattle.mesh_cuts.specs.Clean.{IsProper};
-ghost use Rattle.mesh_cuts.specs.Split.{Meets};
-ghost use Rattle.mesh_split.specs.Midway.Steps.{AllClear, IsPile, KeepsPile, StandOnce, exactly};
+ghost use Rattle.mesh_lattice.specs.Clean.{IsProper};
+ghost use Rattle.mesh_lattice.specs.Split.{Meets};
+ghost use Rattle.mesh_split.specs.Private.Steps.{AllClear, IsPile, KeepsPile, StandOnce, exactly};
 
 use crate::budget::{Budget, of_heap};
 use crate::hints::{Hints, Meeting, Order};
 use crate::steps::Splitter;
 use crate::store::Store;
-use mesh_cuts::exact::meeting;
-use mesh_cuts::grid::GridEdge;
+use mesh_lattice::exact::meeting;
+use mesh_lattice::grid::GridEdge;
 use std::alloc::{AllocError, Global};
 
 /// How an attempt chooses the next split.

@@ -2,8 +2,8 @@
 //! them. A hint is tested again when it is taken, so neither what it says nor the order decides whether a split is
 //! legal.
 
-use mesh_cuts::exact::{cross, do_cross, is_before, is_end, meeting, minus};
-use mesh_cuts::grid::{GridEdge, GridPoint};
+use mesh_lattice::exact::{cross, do_cross, is_before, is_end, meeting, minus};
+use mesh_lattice::grid::{GridEdge, GridPoint};
 use std::alloc::{AllocError, Global};
 use std::collections::{BTreeMap, BinaryHeap};
 

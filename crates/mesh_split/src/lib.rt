@@ -1,11 +1,11 @@
 //! The splitting: directed edges are cut, one legal split at a time, until any two segments share only common ends.
 //!
-//! `splitter` has the public call, which is the second pass; its contract is in `mesh_cuts/specs/Splitting.antt`.
+//! `splitter` has the public call, which is the second pass; its contract is in `mesh_lattice/specs/Splitting.antt`.
 //! `first_pass` splits before it, in a better order where the usual one takes too many: `budget` says how many these
 //! are, and `hints` have that order.
 //! `steps` are the steps of both: `worklist` and `store` have the segments that wait and those that live, `tree` the
 //! parts of the plane by which the latter are sought, `bounding` the boxes by which most of those found there are left
-//! out. `specs/Midway` has the states of its loops, which private contracts alone read.
+//! out. `specs/Private` has the states of its loops, which private contracts alone read.
 #![tactic(auto)]
 
 mod bounding;

@@ -3,12 +3,12 @@
 
 ghost use Rattle.std.specs.Prelude.{IfOk};
 ghost use Rattle.mesh_plane.specs.Winding.{sum_of};
-ghost use Rattle.mesh_cuts.specs.Clean.{IsProper};
-ghost use Rattle.mesh_cuts.specs.Counted.{size, IsRoomy};
-ghost use Rattle.mesh_cuts.specs.Splitting.{IsSplitting};
+ghost use Rattle.mesh_lattice.specs.Clean.{IsProper};
+ghost use Rattle.mesh_lattice.specs.Counted.{size, IsRoomy};
+ghost use Rattle.mesh_lattice.specs.Splitting.{IsSplitting};
 
 use crate::first_pass::first_pass;
-use mesh_cuts::grid::{CountedSegment, GridEdge};
+use mesh_lattice::grid::{CountedSegment, GridEdge};
 use std::alloc::{AllocError, Global};
 
 /// Splits directed edges, none of which ends where it starts, until any two segments share only common ends:

@@ -2,17 +2,17 @@
 
 ghost use Rattle.std.specs.Prelude.{◌≡◌, ◌^◌, [], ℤ, pos, ◌+ℤ◌, ◌≤ℤ◌, ◌<ℤ◌, neg_ℤ, false, OnOk, IfOk};
 ghost use Rattle.mesh_plane.specs.Winding.{same_point};
-ghost use Rattle.mesh_cuts.specs.Clean.{IsProper};
-ghost use Rattle.mesh_cuts.specs.Split.{is_end, IsInBox, Meets};
-ghost use Rattle.mesh_split.specs.Midway.Steps.{AllClear, Puts, PutsPieces, Settles, IsPile, KeepsPile, exactly};
-ghost use Rattle.mesh_split.specs.Midway.Steps.{IsForward, weight, total_weight};
-ghost use Rattle.mesh_cuts.specs.Counted.{times, IsRoomy};
+ghost use Rattle.mesh_lattice.specs.Clean.{IsProper};
+ghost use Rattle.mesh_lattice.specs.Split.{is_end, IsInBox, Meets};
+ghost use Rattle.mesh_split.specs.Private.Steps.{AllClear, Puts, PutsPieces, Settles, IsPile, KeepsPile, exactly};
+ghost use Rattle.mesh_split.specs.Private.Steps.{IsForward, weight, total_weight};
+ghost use Rattle.mesh_lattice.specs.Counted.{times, IsRoomy};
 
 use crate::hints::Meeting;
 use crate::store::Store;
 use crate::worklist::Worklist;
-use mesh_cuts::exact::{is_before, is_end};
-use mesh_cuts::grid::{CountedSegment, GridEdge, GridPoint};
+use mesh_lattice::exact::{is_before, is_end};
+use mesh_lattice::grid::{CountedSegment, GridEdge, GridPoint};
 use std::alloc::{AllocError, Global};
 
 /// The segments that wait to be tested, and the live ones. In the second pass these are clear of each other.

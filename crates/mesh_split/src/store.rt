@@ -2,15 +2,15 @@
 //! meet are sought in the parts of the plane that it reaches.
 
 ghost use Rattle.std.specs.Prelude.{◌≡◌, true, List, [], ℤ, pos, ◌<ℤ◌, MatchOption, IfOk, OnOk};
-ghost use Rattle.mesh_cuts.specs.Counted.{times};
-ghost use Rattle.mesh_split.specs.Midway.Cells.{MeetsLive};
-ghost use Rattle.mesh_split.specs.Midway.Steps.{HaveRoom, IsForward, IsPut, IsTaken, IsClearOf, AddsIf, exactly};
+ghost use Rattle.mesh_lattice.specs.Counted.{times};
+ghost use Rattle.mesh_split.specs.Private.Cells.{MeetsLive};
+ghost use Rattle.mesh_split.specs.Private.Steps.{HaveRoom, IsForward, IsPut, IsTaken, IsClearOf, AddsIf, exactly};
 
 use crate::hints::{Hints, Meeting};
 use crate::tally::Tally;
 use crate::tree::{DEPTH, Tree};
 use crate::worklist::Worklist;
-use mesh_cuts::grid::{CountedSegment, GridEdge};
+use mesh_lattice::grid::{CountedSegment, GridEdge};
 use std::alloc::{AllocError, Global};
 use std::marker::Model;
 
@@ -27,7 +27,7 @@ impl Model for Store {
 
     ghost Value = { List (((ℤ × ℤ) × (ℤ × ℤ)) × ℤ) };
 
-    ghost use Rattle.mesh_split.specs.Midway.Cells.{LiveAreListed, listed_at};
+    ghost use Rattle.mesh_split.specs.Private.Cells.{LiveAreListed, listed_at};
 
     ghost view = { λ s. s.live };
 

@@ -3,11 +3,11 @@
 ghost use Rattle.std.specs.Prelude.{◌≡◌, true, false, List, [], ℤ, pos, ◌<ℤ◌, IfOk, OnOk, OnErr};
 ghost use Rattle.std.specs.List.{All};
 ghost use Rattle.std.specs.Map.{keys_of};
-ghost use Rattle.mesh_cuts.specs.Counted.{times};
-ghost use Rattle.mesh_split.specs.Midway.Steps.{HaveRoom, IsForward, IsPut, IsTaken, AddsIf, exactly};
+ghost use Rattle.mesh_lattice.specs.Counted.{times};
+ghost use Rattle.mesh_split.specs.Private.Steps.{HaveRoom, IsForward, IsPut, IsTaken, AddsIf, exactly};
 
 use crate::worklist::Worklist;
-use mesh_cuts::grid::{CountedSegment, GridEdge};
+use mesh_lattice::grid::{CountedSegment, GridEdge};
 use std::alloc::{AllocError, Global};
 use std::collections::HashMap;
 use std::marker::Model;

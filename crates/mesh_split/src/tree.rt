@@ -6,18 +6,18 @@ ghost use Rattle.std.specs.Prelude.{◌≡◌, ◌^◌, ◌<◌, true, false, no
 ghost use Rattle.std.specs.Prelude.{IfOk, OnOk};
 ghost use Rattle.mesh_plane.specs.Bounds.{IsSmall};
 ghost use Rattle.mesh_plane.specs.Plane.{Edge};
-ghost use Rattle.mesh_cuts.specs.Split.{AreClear, same_edge};
-ghost use Rattle.mesh_split.specs.Midway.Cells.{Cell, IsAt, height, is_below, reaches, listed_at, StandsIn, HasListed};
-ghost use Rattle.mesh_split.specs.Midway.Cells.{KeepsThose, KeepsListed, KeepsOthers, IsCellClear, MeetsLive};
-ghost use Rattle.mesh_split.specs.Midway.BoundingBoxes.{AreBounds};
-ghost use Rattle.mesh_split.specs.Midway.Steps.{exactly};
+ghost use Rattle.mesh_lattice.specs.Split.{AreClear, same_edge};
+ghost use Rattle.mesh_split.specs.Private.Cells.{Cell, IsAt, height, is_below, reaches, listed_at, StandsIn, HasListed};
+ghost use Rattle.mesh_split.specs.Private.Cells.{KeepsThose, KeepsListed, KeepsOthers, IsCellClear, MeetsLive};
+ghost use Rattle.mesh_split.specs.Private.BoundingBoxes.{AreBounds};
+ghost use Rattle.mesh_split.specs.Private.Steps.{exactly};
 
 use crate::bounding::{BoundingBox, bounding_box, is_beside};
 use crate::hints::{Hints, Meeting};
 use crate::tally::Tally;
-use mesh_cuts::exact::{meeting, same_edge};
-use mesh_cuts::grid::{GridEdge, GridPoint};
-use mesh_cuts::samples::sample;
+use mesh_lattice::exact::{meeting, same_edge};
+use mesh_lattice::grid::{GridEdge, GridPoint};
+use mesh_lattice::samples::sample;
 use std::alloc::{AllocError, Global};
 
 /// Up to so many segments a part lists before it is parted.

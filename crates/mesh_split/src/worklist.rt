@@ -3,9 +3,9 @@
 ghost use Rattle.std.specs.Prelude.{◌≡◌, ◌⊎◌, List, [], ℤ, MatchOption, IfSome, OnOk};
 ghost use Rattle.std.specs.List.{All};
 ghost use Rattle.std.specs.Map.{keys_of};
-ghost use Rattle.mesh_split.specs.Midway.Steps.{HaveRoom, IsForward, IsTaken, IsRaised, IsNew};
+ghost use Rattle.mesh_split.specs.Private.Steps.{HaveRoom, IsForward, IsTaken, IsRaised, IsNew};
 
-use mesh_cuts::grid::{CountedSegment, GridEdge};
+use mesh_lattice::grid::{CountedSegment, GridEdge};
 use std::alloc::{AllocError, Global};
 use std::collections::HashMap;
 use std::marker::Model;

@@ -10,9 +10,9 @@ use Rattle.mesh_plane.proofs.Sums.{sum_of_append}
 use Rattle.mesh_plane.proofs.Whole.{linear}
 use Rattle.mesh_plane.specs.Ways.{last_of}
 use Rattle.mesh_num.specs.Segments.{proper_edges}
-use Rattle.mesh_cuts.specs.Split.{back}
-use Rattle.mesh_draw.specs.Walks.{pairs}
-use Rattle.mesh_draw.proofs.ProperEdges.{proper_append}
+use Rattle.mesh_lattice.specs.Split.{back}
+use Rattle.mesh_offset.specs.Walks.{pairs}
+use Rattle.mesh_offset.proofs.ProperEdges.{proper_append}
 use Rattle.mesh_stroke.specs.Paths.{neighbours}
 
 -- a pair read backwards, each of both turned by `k`

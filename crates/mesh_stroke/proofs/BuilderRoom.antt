@@ -7,9 +7,9 @@ use Rattle.std.proofs.lemmas.List.{length-map}
 use Rattle.std.proofs.lemmas.List.Sorted.{length_permutation}
 use Rattle.mesh_plane.specs.Plane.{Edge}
 use Rattle.mesh_num.specs.Segments.{SignedEdge, edge_of, edges_of, segments_of}
-use Rattle.mesh_cap.specs.Caps.{draws_directly, DrawsDirectly}
+use Rattle.mesh_stroke.specs.Caps.{draws_directly, DrawsDirectly}
 use Rattle.mesh_stroke.specs.Building.{HasDirectCaps}
-use Rattle.mesh_stroke.specs.Midway.{Section, section_of, own_edge}
+use Rattle.mesh_stroke.specs.Private.Sections.{Section, section_of, own_edge}
 use Rattle.mesh_stroke.specs.Strokes.{side_edges, corner_edges, both_caps, drawn_edges}
 use Rattle.mesh_stroke.specs.Styles.{StrokeStyle}
 use Rattle.mesh_stroke.proofs.Fitting.{first_edges_fit}

@@ -14,20 +14,20 @@ use Rattle.mesh_plane.specs.Ways.{last_of}
 use Rattle.mesh_num.specs.Segments.{SignedEdge, segments_of, edges_of, proper_edges, IsSubject}
 use Rattle.mesh_num.proofs.Subjects.{segments_of_subjects}
 use Rattle.mesh_num.proofs.SegmentLists.{edges_of_segments, segments_of-append}
-use Rattle.mesh_grid.specs.Rectangle.{IsSafeWidened}
+use Rattle.mesh_num.specs.Rectangle.{IsSafeWidened}
 use Rattle.mesh_join.specs.Joins.{join_padding}
 use Rattle.mesh_join.proofs.Joins.{padding_covers}
-use Rattle.mesh_cap.specs.Caps.{cap_padding}
-use Rattle.mesh_draw.proofs.Padding.{safe_within_less}
-use Rattle.mesh_draw.proofs.ProperEdges.{proper_append, proper_flat_map}
-use Rattle.mesh_draw.specs.Midway.{Adds}
+use Rattle.mesh_stroke.specs.Caps.{cap_padding}
+use Rattle.mesh_offset.proofs.Padding.{safe_within_less}
+use Rattle.mesh_offset.proofs.ProperEdges.{proper_append, proper_flat_map}
+use Rattle.mesh_offset.specs.Private.Built.{Adds}
 use Rattle.mesh_stroke.specs.Building.{IsStrokable}
-use Rattle.mesh_draw.specs.Walks.{pairs}
-use Rattle.mesh_draw.proofs.Walks.{woven_through}
+use Rattle.mesh_offset.specs.Walks.{pairs}
+use Rattle.mesh_offset.proofs.Walks.{woven_through}
 use Rattle.mesh_stroke.specs.Paths.{neighbours, path_edges}
 use Rattle.mesh_stroke.specs.Styles.{StrokeStyle, stroke_padding}
 use Rattle.mesh_stroke.specs.Strokes.{EdgePair, side_edges, corner_edges, both_caps, drawn_edges}
-use Rattle.mesh_stroke.specs.Midway.{Section, section_of, own_edge, IsMade, IsCorner, AreEnds}
+use Rattle.mesh_stroke.specs.Private.Sections.{Section, section_of, own_edge, IsMade, IsCorner, AreEnds}
 use Rattle.mesh_stroke.proofs.Chains.{neighbours_all, path_chain, Joined}
 use Rattle.mesh_stroke.proofs.Reach.{join_covered, start_covered, end_covered, radius_covered, cap_padding_least}
 

@@ -11,9 +11,9 @@ use Rattle.mesh_plane.proofs.ClosedLists.{boundary_ends, boundary_all}
 use Rattle.mesh_plane.proofs.Comparing.{decides_point}
 use Rattle.mesh_plane.specs.Ways.{last_of}
 use Rattle.mesh_num.specs.Segments.{proper_edges}
-use Rattle.mesh_cuts.specs.Splitting.{Leads}
-use Rattle.mesh_draw.specs.Walks.{pairs}
-use Rattle.mesh_draw.proofs.Walks.{pairs_all}
+use Rattle.mesh_lattice.specs.Splitting.{Leads}
+use Rattle.mesh_offset.specs.Walks.{pairs}
+use Rattle.mesh_offset.proofs.Walks.{pairs_all}
 use Rattle.mesh_stroke.specs.Paths.{neighbours, path_edges}
 use Rattle.mesh_stroke.specs.Strokes.{EdgePair}
 

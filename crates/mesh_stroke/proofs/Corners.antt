@@ -9,10 +9,10 @@ use Rattle.mesh_plane.specs.Plane.{Point, Edge, plus, minus, cross, turn, right_
 use Rattle.mesh_plane.proofs.Identities.{cross_flip}
 use Rattle.mesh_plane.proofs.ClosedLists.{all_both}
 use Rattle.mesh_plane.proofs.Whole.{linear, multiplied}
-use Rattle.mesh_grid.specs.Direction.{IsShort, scaled_direction}
-use Rattle.mesh_grid.proofs.Parts.{direction_fresh, direction_short}
-use Rattle.mesh_grid.proofs.Scaling.{scaled_turn_kept}
-use Rattle.mesh_cuts.specs.Split.{back}
+use Rattle.mesh_num.specs.Direction.{IsShort, scaled_direction}
+use Rattle.mesh_num.proofs.Parts.{direction_fresh, direction_short}
+use Rattle.mesh_num.proofs.Scaling.{scaled_turn_kept}
+use Rattle.mesh_lattice.specs.Split.{back}
 use Rattle.mesh_arc.specs.Arcs.{sense_of}
 use Rattle.mesh_arc.specs.declared.arc.ArcDirection.TheVariants.{Counterclockwise}
 use Rattle.mesh_join.specs.Joins.{IsJoint, join_edges}
@@ -20,10 +20,10 @@ use Rattle.mesh_join.specs.Joints.{Joint, joint, IsTurn, contact}
 use Rattle.mesh_join.specs.Styles.{JoinStyle}
 use Rattle.mesh_join.proofs.JoinLaws.{KeepsJoint}
 use Rattle.mesh_join.proofs.Joins.{join_keeps}
-use Rattle.mesh_draw.proofs.Quarters.{quarters_turn}
+use Rattle.mesh_offset.proofs.Quarters.{quarters_turn}
 use Rattle.mesh_stroke.specs.Paths.{neighbours}
 use Rattle.mesh_num.specs.Segments.{SignedEdge, segment_between, segments_of}
-use Rattle.mesh_stroke.specs.Midway.{Section, section_of, own_edge, IsCorner}
+use Rattle.mesh_stroke.specs.Private.Sections.{Section, section_of, own_edge, IsCorner}
 use Rattle.mesh_stroke.specs.Strokes.{left_of}
 use Rattle.mesh_stroke.specs.Strokes.{EdgePair, heading, facing, joint_right, inner_edges, outer_edges, corner_edges}
 use Rattle.mesh_stroke.proofs.Chains.{IsChain, neighbours_all}

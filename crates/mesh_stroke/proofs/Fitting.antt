@@ -4,11 +4,11 @@ use Rattle.std.specs.Prelude.{false, ℤ, pos, ◌≤ℤ◌, ◌<ℤ◌}
 use Rattle.mesh_plane.specs.Plane.{Edge}
 use Rattle.mesh_num.specs.Segments.{SignedEdge, segments_of}
 use Rattle.mesh_num.proofs.SegmentLists.{segments_of-append}
-use Rattle.mesh_cuts.specs.Split.{back}
+use Rattle.mesh_lattice.specs.Split.{back}
 use Rattle.mesh_join.specs.Styles.{JoinStyle}
-use Rattle.mesh_cap.specs.Caps.{CapKind, cap_edges}
-use Rattle.mesh_cap.specs.Ends.{half_turn}
-use Rattle.mesh_stroke.specs.Midway.{Section, section_of, own_edge}
+use Rattle.mesh_stroke.specs.Caps.{CapKind, cap_edges}
+use Rattle.mesh_stroke.specs.Ends.{half_turn}
+use Rattle.mesh_stroke.specs.Private.Sections.{Section, section_of, own_edge}
 use Rattle.mesh_stroke.specs.Strokes.{EdgePair, heading, inner_edges, outer_edges, corner_edges, cap_at, both_caps}
 use Rattle.mesh_stroke.proofs.Corners.{left_turn, faced_here, faced_sections}
 

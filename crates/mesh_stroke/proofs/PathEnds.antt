@@ -2,18 +2,18 @@
 use Rattle.std.proofs.Common.{◌≡◌, ◌≢◌, ℕ, ◌≤◌, ◌^◌, List, ◌++◌, refl, sym, subst, ◌∙◌, ap, append_assoc, arith}
 use Rattle.std.specs.Prelude.{ℤ, pos, ◌≤ℤ◌, false}
 use Rattle.mesh_plane.specs.Plane.{Edge, opposite}
-use Rattle.mesh_grid.specs.Rectangle.{IsSafeWidened}
+use Rattle.mesh_num.specs.Rectangle.{IsSafeWidened}
 use Rattle.mesh_num.specs.Segments.{SignedEdge, segments_of}
-use Rattle.mesh_grid.specs.Direction.{IsShort}
-use Rattle.mesh_grid.proofs.Parts.{direction_fresh, direction_short}
-use Rattle.mesh_join.specs.Midway.RoundJoins.{HaveLength}
+use Rattle.mesh_num.specs.Direction.{IsShort}
+use Rattle.mesh_num.proofs.Parts.{direction_fresh, direction_short}
+use Rattle.mesh_join.specs.Private.RoundJoins.{HaveLength}
 use Rattle.mesh_num.proofs.SegmentLists.{segments_of-append}
-use Rattle.mesh_cuts.specs.Split.{back}
+use Rattle.mesh_lattice.specs.Split.{back}
 use Rattle.mesh_arc.specs.declared.arc.ArcDirection.TheVariants.{Counterclockwise}
 use Rattle.mesh_join.specs.Joints.{joint}
-use Rattle.mesh_cap.specs.Caps.{CapKind, cap_edges, cap_padding, IsCapped}
-use Rattle.mesh_cap.specs.Ends.{half_turn}
-use Rattle.mesh_stroke.specs.Midway.{Section, section_of, own_edge, IsMade, IsFacing}
+use Rattle.mesh_stroke.specs.Caps.{CapKind, cap_edges, cap_padding, IsCapped}
+use Rattle.mesh_stroke.specs.Ends.{half_turn}
+use Rattle.mesh_stroke.specs.Private.Sections.{Section, section_of, own_edge, IsMade, IsFacing}
 use Rattle.mesh_stroke.specs.Strokes.{heading, cap_at, both_caps}
 use Rattle.mesh_stroke.proofs.Corners.{apart_back}
 use Rattle.mesh_stroke.proofs.Sides.{heading_is, heading_back}

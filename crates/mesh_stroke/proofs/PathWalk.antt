@@ -7,7 +7,7 @@ use Rattle.mesh_plane.specs.Plane.{Point, Edge}
 use Rattle.mesh_plane.specs.Winding.{route, same_point}
 use Rattle.mesh_plane.proofs.Comparing.{decides_point}
 use Rattle.mesh_num.specs.Segments.{proper_edges}
-use Rattle.mesh_draw.specs.Walks.{pairs}
+use Rattle.mesh_offset.specs.Walks.{pairs}
 use Rattle.mesh_stroke.specs.Paths.{path_edges}
 
 route_pairs : (x : Point) (xs : List Point) (z : Point) → pairs (x ∷ (xs ++ z ∷ [])) ≡ route x xs z

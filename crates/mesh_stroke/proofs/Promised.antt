@@ -17,13 +17,13 @@ use Rattle.mesh_plane.proofs.Pieces.{pieces_counted}
 use Rattle.mesh_plane.proofs.Triangles.{crossing_on_straight}
 use Rattle.mesh_plane.proofs.Whole.{linear}
 use Rattle.mesh_num.specs.Segments.{SignedEdge, IsSubject}
-use Rattle.mesh_cuts.specs.Clean.{IsProper}
-use Rattle.mesh_draw.specs.Adding.{added_edges}
-use Rattle.mesh_draw.specs.Midway.{Adds}
-use Rattle.mesh_draw.specs.Padding.{IsNear}
-use Rattle.mesh_draw.proofs.Adding.{adds_edges}
-use Rattle.mesh_draw.proofs.Padding.{ends_safe}
-use Rattle.mesh_draw.proofs.ProperEdges.{proper_kept}
+use Rattle.mesh_lattice.specs.Clean.{IsProper}
+use Rattle.mesh_offset.specs.Adding.{added_edges}
+use Rattle.mesh_offset.specs.Private.Built.{Adds}
+use Rattle.mesh_offset.specs.Padding.{IsNear}
+use Rattle.mesh_offset.proofs.Adding.{adds_edges}
+use Rattle.mesh_offset.proofs.Padding.{ends_safe}
+use Rattle.mesh_offset.proofs.ProperEdges.{proper_kept}
 use Rattle.mesh_stroke.specs.Building.{IsStrokable}
 use Rattle.mesh_stroke.specs.Drawn.{HasStockCaps, AreStroked}
 use Rattle.mesh_stroke.specs.Paths.{neighbours, path_edges}

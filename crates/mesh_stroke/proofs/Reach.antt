@@ -8,25 +8,25 @@ use Rattle.mesh_plane.specs.Plane.{Point, Edge}
 use Rattle.mesh_plane.specs.Winding.{same_point}
 use Rattle.mesh_plane.proofs.ClosedLists.{all_both, all_flat_map, route_all}
 use Rattle.mesh_plane.specs.Ways.{last_of}
-use Rattle.mesh_grid.proofs.Parts.{direction_fresh}
-use Rattle.mesh_cuts.specs.Split.{back}
+use Rattle.mesh_num.proofs.Parts.{direction_fresh}
+use Rattle.mesh_lattice.specs.Split.{back}
 use Rattle.mesh_arc.specs.declared.arc.ArcDirection.{ArcDirection}
 use Rattle.mesh_arc.specs.declared.arc.ArcDirection.TheVariants.{Clockwise, Counterclockwise}
 use Rattle.mesh_join.specs.Joins.{between, join_points, join_padding}
 use Rattle.mesh_join.specs.Joints.{contact, IsWithinPadding}
 use Rattle.mesh_join.proofs.Joins.{padding_covers}
 use Rattle.mesh_join.proofs.Joints.{contact_within}
-use Rattle.mesh_cap.specs.Caps.{CapKind, cap_points, cap_padding}
-use Rattle.mesh_cap.specs.Ends.{half_turn, IsEnd}
-use Rattle.mesh_cap.proofs.CapLaws.{KeepsEnd}
-use Rattle.mesh_cap.proofs.Caps.{cap_keeps}
-use Rattle.mesh_draw.specs.Padding.{IsNear}
-use Rattle.mesh_draw.proofs.Padding.{vertex_near}
+use Rattle.mesh_stroke.specs.Caps.{CapKind, cap_points, cap_padding}
+use Rattle.mesh_stroke.specs.Ends.{half_turn, IsEnd}
+use Rattle.mesh_stroke.proofs.CapLaws.{KeepsEnd}
+use Rattle.mesh_stroke.proofs.CapKinds.{cap_keeps}
+use Rattle.mesh_offset.specs.Padding.{IsNear}
+use Rattle.mesh_offset.proofs.Padding.{vertex_near}
 use Rattle.mesh_stroke.specs.Paths.{neighbours, path_edges}
 use Rattle.mesh_stroke.specs.Styles.{StrokeStyle, stroke_padding}
 use Rattle.mesh_stroke.specs.Strokes.{EdgePair, heading, right_of, left_of, side_edges, joint_right}
 use Rattle.mesh_stroke.specs.Strokes.{outer_edges, inner_edges, corner_edges, cap_at, both_caps, drawn_edges}
-use Rattle.mesh_draw.proofs.Walks.{last_all}
+use Rattle.mesh_offset.proofs.Walks.{last_all}
 use Rattle.mesh_stroke.proofs.Chains.{IsChain, neighbours_all}
 use Rattle.mesh_stroke.proofs.Corners.{IsMet, corners_met, left_turn, other_way, other_way_met, facing_is, corner_keeps, heading_short, apart_back}
 use Rattle.mesh_stroke.proofs.Sides.{heading_is}

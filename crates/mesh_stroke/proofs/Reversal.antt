@@ -16,19 +16,19 @@ use Rattle.mesh_plane.proofs.Sums.{sum_of_equal, sum_of_append, total_append, to
 use Rattle.mesh_plane.proofs.Whole.{linear, mul_pos}
 use Rattle.mesh_plane.specs.Ways.{last_of}
 use Rattle.mesh_num.specs.Segments.{SignedEdge, proper_edges}
-use Rattle.mesh_draw.specs.Adding.{added_edges}
-use Rattle.mesh_draw.specs.Midway.{Adds}
-use Rattle.mesh_draw.proofs.Adding.{adds_edges}
-use Rattle.mesh_grid.proofs.Turns.{same_kept, opposite_kept}
-use Rattle.mesh_cuts.specs.Split.{back, same_edge}
-use Rattle.mesh_draw.proofs.Apart.{apart_long}
-use Rattle.mesh_draw.proofs.ProperEdges.{proper_append, proper_edges_total}
+use Rattle.mesh_offset.specs.Adding.{added_edges}
+use Rattle.mesh_offset.specs.Private.Built.{Adds}
+use Rattle.mesh_offset.proofs.Adding.{adds_edges}
+use Rattle.mesh_num.proofs.Turns.{same_kept, opposite_kept}
+use Rattle.mesh_lattice.specs.Split.{back, same_edge}
+use Rattle.mesh_offset.proofs.Apart.{apart_long}
+use Rattle.mesh_offset.proofs.ProperEdges.{proper_append, proper_edges_total}
 use Rattle.mesh_arc.specs.declared.arc.ArcDirection.TheVariants.{Clockwise, Counterclockwise}
-use Rattle.mesh_cap.specs.Caps.{CapKind}
+use Rattle.mesh_stroke.specs.Caps.{CapKind}
 use Rattle.mesh_join.specs.Joins.{through, join_points, join_edges}
 use Rattle.mesh_join.specs.Joints.{joint, contact}
 use Rattle.mesh_join.specs.Styles.{JoinStyle}
-use Rattle.mesh_draw.specs.Walks.{pairs}
+use Rattle.mesh_offset.specs.Walks.{pairs}
 use Rattle.mesh_stroke.specs.Paths.{neighbours, path_edges}
 use Rattle.mesh_stroke.specs.Reversal.{net_count, CountAlike, with_caps_exchanged, reversed_edges, StrokesCanBeReversed}
 use Rattle.mesh_stroke.specs.Styles.{StrokeStyle}

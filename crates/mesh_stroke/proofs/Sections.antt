@@ -4,11 +4,11 @@ use Rattle.std.specs.Prelude.{ℤ, pos, unsigned_abs}
 use Rattle.std.proofs.lemmas.Int.{ints}
 use Rattle.mesh_plane.specs.Bounds.{IsSafe}
 use Rattle.mesh_plane.specs.Plane.{Point, plus, minus, right_quarter}
-use Rattle.mesh_grid.specs.Direction.{IsDirection, scaled_direction}
-use Rattle.mesh_grid.specs.Directed.{direction_of}
-use Rattle.mesh_grid.specs.Rectangle.{IsSafeWidened}
-use Rattle.mesh_grid.proofs.Directed.{is_direction_of}
-use Rattle.mesh_stroke.specs.Midway.{Section, section_of}
+use Rattle.mesh_num.specs.Direction.{IsDirection, scaled_direction}
+use Rattle.mesh_num.specs.Directed.{direction_of}
+use Rattle.mesh_num.specs.Rectangle.{IsSafeWidened}
+use Rattle.mesh_num.proofs.Directed.{is_direction_of}
+use Rattle.mesh_stroke.specs.Private.Sections.{Section, section_of}
 
 -- a point on the left is safe where a point moved by the padding is
 pub left_safe : (unit n : ℕ) (a s : Point) → IsSafeWidened unit (pos n) a → unsigned_abs s.0 ≤ n → unsigned_abs s.1 ≤ n → IsSafe unit (minus a (right_quarter s))

@@ -3,13 +3,13 @@ use Rattle.std.proofs.Common.{◌≡◌, ◌≢◌, ℕ, ◌<◌, sym, ◌∙◌
 use Rattle.std.specs.Prelude.{ℤ, pos, neg_ℤ, ◌+ℤ◌, ◌-ℤ◌}
 use Rattle.mesh_plane.specs.Plane.{Point, Edge, plus, minus, opposite, turn, right_quarter}
 use Rattle.mesh_plane.proofs.Whole.{linear, multiplied}
-use Rattle.mesh_grid.specs.Direction.{scaled_direction, IsDirection}
-use Rattle.mesh_grid.specs.Directed.{direction_of}
-use Rattle.mesh_grid.proofs.Directed.{direction_of_is, is_direction_of}
-use Rattle.mesh_grid.proofs.Parts.{direction_opposite}
-use Rattle.mesh_grid.proofs.Scaling.{scaled_direction_opposite}
-use Rattle.mesh_cuts.specs.Split.{back}
-use Rattle.mesh_draw.proofs.Apart.{apart_long}
+use Rattle.mesh_num.specs.Direction.{scaled_direction, IsDirection}
+use Rattle.mesh_num.specs.Directed.{direction_of}
+use Rattle.mesh_num.proofs.Directed.{direction_of_is, is_direction_of}
+use Rattle.mesh_num.proofs.Parts.{direction_opposite}
+use Rattle.mesh_num.proofs.Scaling.{scaled_direction_opposite}
+use Rattle.mesh_lattice.specs.Split.{back}
+use Rattle.mesh_offset.proofs.Apart.{apart_long}
 use Rattle.mesh_stroke.specs.Strokes.{heading, right_of, left_of}
 
 -- an edge with different ends has a direction

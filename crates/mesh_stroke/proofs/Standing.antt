@@ -4,9 +4,9 @@ use Rattle.std.specs.Prelude.{Bool, true, false, ℤ, pos, ◌≤ℤ◌}
 use Rattle.std.specs.List.{All}
 use Rattle.mesh_plane.specs.Plane.{Point, Edge}
 use Rattle.mesh_num.specs.Segments.{SignedEdge, segments_of}
-use Rattle.mesh_draw.specs.Midway.{Adds}
+use Rattle.mesh_offset.specs.Private.Built.{Adds}
 use Rattle.mesh_stroke.specs.Building.{IsStrokable}
-use Rattle.mesh_stroke.specs.Midway.{Section, section_of, own_edge, IsCorner, AreEnds}
+use Rattle.mesh_stroke.specs.Private.Sections.{Section, section_of, own_edge, IsCorner, AreEnds}
 use Rattle.mesh_stroke.specs.Paths.{path_edges}
 use Rattle.mesh_stroke.specs.Styles.{StrokeStyle}
 use Rattle.mesh_stroke.specs.Strokes.{side_edges, corner_edges, both_caps, drawn_edges}

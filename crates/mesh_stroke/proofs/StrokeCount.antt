@@ -12,23 +12,23 @@ use Rattle.mesh_plane.proofs.ClosedLists.{all_flat_map}
 use Rattle.mesh_plane.proofs.Triangles.{parallelogram_winds}
 use Rattle.mesh_plane.proofs.Pieces.{fan_winds}
 use Rattle.mesh_plane.specs.Ways.{last_of}
-use Rattle.mesh_grid.specs.Direction.{scaled_direction}
-use Rattle.mesh_grid.proofs.Parts.{direction_fresh}
-use Rattle.mesh_grid.proofs.Scaling.{dot_scaled_nonneg}
-use Rattle.mesh_cuts.specs.Split.{back}
+use Rattle.mesh_num.specs.Direction.{scaled_direction}
+use Rattle.mesh_num.proofs.Parts.{direction_fresh}
+use Rattle.mesh_num.proofs.Scaling.{dot_scaled_nonneg}
+use Rattle.mesh_lattice.specs.Split.{back}
 use Rattle.mesh_arc.specs.Arcs.{sense_of}
 use Rattle.mesh_arc.specs.declared.arc.ArcDirection.TheVariants.{Counterclockwise}
 use Rattle.mesh_join.specs.Joints.{NeverTurnsBack}
 use Rattle.mesh_join.specs.Styles.{JoinStyle}
-use Rattle.mesh_cap.specs.Caps.{CapKind, is_stock}
-use Rattle.mesh_cap.specs.Ends.{half_turn, IsEnd}
-use Rattle.mesh_cap.proofs.CapLaws.{KeepsEnd}
-use Rattle.mesh_cap.proofs.Caps.{cap_keeps}
+use Rattle.mesh_stroke.specs.Caps.{CapKind, is_stock}
+use Rattle.mesh_stroke.specs.Ends.{half_turn, IsEnd}
+use Rattle.mesh_stroke.proofs.CapLaws.{KeepsEnd}
+use Rattle.mesh_stroke.proofs.CapKinds.{cap_keeps}
 use Rattle.mesh_stroke.specs.Paths.{neighbours}
 use Rattle.mesh_stroke.specs.Styles.{StrokeStyle}
 use Rattle.mesh_stroke.specs.Strokes.{EdgePair, heading, section_piece, facing, outer_edges}
 use Rattle.mesh_stroke.specs.Strokes.{corner_pieces, cap_at, cap_pieces, both_cap_pieces, drawn_pieces}
-use Rattle.mesh_draw.proofs.Walks.{last_all}
+use Rattle.mesh_offset.proofs.Walks.{last_all}
 use Rattle.mesh_stroke.proofs.Chains.{IsChain}
 use Rattle.mesh_stroke.proofs.Corners.{IsMet, corners_met, facing_keeps, heading_short, apart_back}
 use Rattle.mesh_stroke.proofs.Sides.{heading_is}

@@ -10,23 +10,23 @@ use Rattle.mesh_plane.specs.Plane.{Point, Edge}
 use Rattle.mesh_plane.specs.Ways.{last_of}
 use Rattle.mesh_plane.proofs.ClosedLists.{route_length}
 use Rattle.mesh_num.specs.Segments.{SignedEdge}
-use Rattle.mesh_grid.proofs.Parts.{direction_fresh}
-use Rattle.mesh_cuts.specs.Split.{back}
+use Rattle.mesh_num.proofs.Parts.{direction_fresh}
+use Rattle.mesh_lattice.specs.Split.{back}
 use Rattle.mesh_join.specs.Joins.{HasFew}
-use Rattle.mesh_cap.specs.Caps.{CapKind, draws_directly, has_few_edges}
-use Rattle.mesh_cap.specs.Ends.{half_turn, IsEnd}
-use Rattle.mesh_cap.proofs.Caps.{cap_keeps}
-use Rattle.mesh_draw.specs.Adding.{added}
-use Rattle.mesh_draw.specs.Midway.{Adds}
-use Rattle.mesh_draw.proofs.Drawn.{added_length}
+use Rattle.mesh_stroke.specs.Caps.{CapKind, draws_directly, has_few_edges}
+use Rattle.mesh_stroke.specs.Ends.{half_turn, IsEnd}
+use Rattle.mesh_stroke.proofs.CapKinds.{cap_keeps}
+use Rattle.mesh_offset.specs.Adding.{added}
+use Rattle.mesh_offset.specs.Private.Built.{Adds}
+use Rattle.mesh_offset.proofs.Drawn.{added_length}
 use Rattle.mesh_stroke.specs.Building.{HasDirectCaps, HasFewCapEdges}
-use Rattle.mesh_draw.specs.Walks.{pairs}
+use Rattle.mesh_offset.specs.Walks.{pairs}
 use Rattle.mesh_stroke.specs.Paths.{neighbours, path_edges}
 use Rattle.mesh_stroke.specs.Styles.{StrokeStyle}
 use Rattle.mesh_stroke.specs.Strokes.{EdgePair, heading, facing, side_edges, inner_edges, outer_edges, corner_edges}
 use Rattle.mesh_stroke.specs.Strokes.{cap_at, both_caps, drawn_edges, stroke_edges}
-use Rattle.mesh_draw.proofs.ProperEdges.{proper_length}
-use Rattle.mesh_draw.proofs.Walks.{last_all}
+use Rattle.mesh_offset.proofs.ProperEdges.{proper_length}
+use Rattle.mesh_offset.proofs.Walks.{last_all}
 use Rattle.mesh_stroke.proofs.Chains.{IsChain, path_chain}
 use Rattle.mesh_stroke.proofs.Corners.{IsMet, corners_met, facing_keeps, heading_short, apart_back}
 use Rattle.mesh_stroke.proofs.Sides.{heading_is}

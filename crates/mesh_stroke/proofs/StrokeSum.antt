@@ -11,18 +11,18 @@ use Rattle.mesh_plane.proofs.ClosedLists.{all_both}
 use Rattle.mesh_num.specs.Segments.{proper_edges}
 use Rattle.mesh_plane.proofs.Pieces.{fan_total}
 use Rattle.mesh_plane.specs.Ways.{last_of}
-use Rattle.mesh_cuts.specs.Split.{back}
+use Rattle.mesh_lattice.specs.Split.{back}
 use Rattle.mesh_join.specs.Joins.{between, join_points}
 use Rattle.mesh_join.specs.Styles.{JoinStyle}
-use Rattle.mesh_cap.specs.Caps.{CapKind, cap_points}
-use Rattle.mesh_cap.specs.Ends.{half_turn}
-use Rattle.mesh_draw.proofs.ProperEdges.{proper_edges_total}
+use Rattle.mesh_stroke.specs.Caps.{CapKind, cap_points}
+use Rattle.mesh_stroke.specs.Ends.{half_turn}
+use Rattle.mesh_offset.proofs.ProperEdges.{proper_edges_total}
 use Rattle.mesh_stroke.specs.Paths.{neighbours}
 use Rattle.mesh_stroke.specs.Styles.{StrokeStyle}
 use Rattle.mesh_stroke.specs.Strokes.{EdgePair, heading, right_of, left_of, side_edges, section_piece}
 use Rattle.mesh_stroke.specs.Strokes.{joint_right, outer_edges, inner_edges, corner_edges, corner_pieces, cap_at}
 use Rattle.mesh_stroke.specs.Strokes.{cap_pieces, both_caps, both_cap_pieces, drawn_edges, drawn_pieces}
-use Rattle.mesh_draw.proofs.Walks.{pairs_ends}
+use Rattle.mesh_offset.proofs.Walks.{pairs_ends}
 use Rattle.mesh_stroke.proofs.Chains.{IsChain, boundary_parts, neighbours_all}
 use Rattle.mesh_stroke.proofs.Sides.{right_back, left_back, sides_straight}
 

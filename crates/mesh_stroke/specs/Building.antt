@@ -1,9 +1,9 @@
 -- What the stroke's builder asks.
 use Rattle.std.specs.Prelude.{ℕ, Bool, ◌&&◌, ◌||◌, IsTrue, ℤ}
 use Rattle.mesh_plane.specs.Plane.{Point}
-use Rattle.mesh_grid.specs.Rectangle.{IsSafeWidened}
+use Rattle.mesh_num.specs.Rectangle.{IsSafeWidened}
 use Rattle.mesh_join.specs.Styles.{JoinStyle}
-use Rattle.mesh_cap.specs.Caps.{CapKind, draws_directly, has_few_edges}
+use Rattle.mesh_stroke.specs.Caps.{CapKind, draws_directly, has_few_edges}
 use Rattle.mesh_stroke.specs.Styles.{StrokeStyle, stroke_padding}
 
 -- a point that stays safe where it moves by at most the padding of the stroke

@@ -3,10 +3,10 @@ use Rattle.std.specs.Prelude.{ℕ, ◌≡◌, Bool, ◌&&◌, ◌||◌, IsTrue, 
 use Rattle.std.specs.List.{All}
 use Rattle.mesh_plane.specs.Plane.{Point, Edge}
 use Rattle.mesh_plane.specs.Winding.{IsBalanced, IsBit, boundary, winding, holds}
-use Rattle.mesh_cuts.specs.Reach.{AreEdgesSafe}
-use Rattle.mesh_draw.specs.Padding.{AreEndsNear}
-use Rattle.mesh_draw.specs.Pieces.{WindAsPieces}
-use Rattle.mesh_cap.specs.Caps.{is_stock}
+use Rattle.mesh_lattice.specs.Reach.{AreEdgesSafe}
+use Rattle.mesh_offset.specs.Padding.{AreEndsNear}
+use Rattle.mesh_offset.specs.Pieces.{WindAsPieces}
+use Rattle.mesh_stroke.specs.Caps.{is_stock}
 use Rattle.mesh_stroke.specs.Strokes.{stroke_pieces}
 use Rattle.mesh_stroke.specs.Styles.{StrokeStyle, stroke_padding}
 

@@ -3,7 +3,7 @@ use Rattle.std.specs.Prelude.{Bool, true, false, List}
 use Rattle.mesh_plane.specs.Plane.{Point, Edge}
 use Rattle.mesh_plane.specs.Winding.{boundary}
 use Rattle.mesh_num.specs.Segments.{proper_edges}
-use Rattle.mesh_draw.specs.Walks.{pairs}
+use Rattle.mesh_offset.specs.Walks.{pairs}
 
 -- the neighbouring pairs of a list that is open or closed: last to first too where it is closed
 abbrev pub neighbours : {A : Type 0} → Bool → List A → List (A × A)

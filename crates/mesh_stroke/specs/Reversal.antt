@@ -2,7 +2,7 @@
 use Rattle.std.specs.Prelude.{ℕ, ◌≤◌, ◌^◌, ◌≡◌, Bool, List, reverse, ℤ, pos, ◌-ℤ◌, count_by}
 use Rattle.mesh_plane.specs.Plane.{Point, Edge}
 use Rattle.mesh_plane.specs.Winding.{winding}
-use Rattle.mesh_cuts.specs.Split.{back, same_edge}
+use Rattle.mesh_lattice.specs.Split.{back, same_edge}
 use Rattle.mesh_stroke.specs.Strokes.{stroke_edges}
 use Rattle.mesh_stroke.specs.Styles.{StrokeStyle}
 

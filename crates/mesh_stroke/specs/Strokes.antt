@@ -4,15 +4,15 @@ use Rattle.std.specs.List.{flat_map}
 use Rattle.mesh_plane.specs.Plane.{Point, Edge, minus, cross}
 use Rattle.mesh_plane.specs.Winding.{fan}
 use Rattle.mesh_plane.specs.Ways.{last_of}
-use Rattle.mesh_grid.specs.Directed.{direction_of}
+use Rattle.mesh_num.specs.Directed.{direction_of}
 use Rattle.mesh_num.specs.Segments.{proper_edges}
-use Rattle.mesh_cuts.specs.Split.{back}
+use Rattle.mesh_lattice.specs.Split.{back}
 use Rattle.mesh_join.specs.Joins.{join_edges}
 use Rattle.mesh_join.specs.Joints.{Joint, joint, contact}
 use Rattle.mesh_join.specs.Styles.{JoinStyle}
 use Rattle.mesh_arc.specs.declared.arc.ArcDirection.TheVariants.{Clockwise, Counterclockwise}
-use Rattle.mesh_cap.specs.Caps.{CapKind, cap_edges}
-use Rattle.mesh_cap.specs.Ends.{half_turn}
+use Rattle.mesh_stroke.specs.Caps.{CapKind, cap_edges}
+use Rattle.mesh_stroke.specs.Ends.{half_turn}
 use Rattle.mesh_stroke.specs.Paths.{neighbours, path_edges}
 use Rattle.mesh_stroke.specs.Styles.{StrokeStyle}
 

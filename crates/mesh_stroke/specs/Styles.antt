@@ -4,9 +4,9 @@ use Rattle.std.specs.Int.{int_max}
 use Rattle.mesh_join.specs.Joins.{join_padding}
 use Rattle.mesh_join.specs.Styles.{JoinStyle}
 use Rattle.mesh_join.specs.declared.style.IntStrokeStyle.{IntStrokeStyle}
-use Rattle.mesh_cap.specs.Caps.{CapKind, cap_padding}
-use Rattle.mesh_cap.specs.Kinds.{kind_of}
-use Rattle.mesh_draw.specs.Radii.{radius_of}
+use Rattle.mesh_stroke.specs.Caps.{CapKind, cap_padding}
+use Rattle.mesh_stroke.specs.Kinds.{kind_of}
+use Rattle.mesh_offset.specs.Radii.{radius_of}
 
 -- half of the width, rounded up, the joins, and the caps of open paths
 pub record StrokeStyle : Type 0 where

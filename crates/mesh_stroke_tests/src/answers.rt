@@ -6,7 +6,7 @@ use mesh_join::style::IntStrokeStyle;
 use mesh_num::num::OverlayInt;
 use mesh_num::shape::buffer::FlatContoursBuffer;
 use mesh_num::shape::resource::IntShapeResource;
-use mesh_toolbox::compared::{expect_answers, filled};
+use mesh_test_support::compared::{expect_answers, filled};
 use std::alloc::Global;
 use std::fmt::Debug;
 use std::test::Fail;

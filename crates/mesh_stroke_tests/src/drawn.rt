@@ -6,8 +6,8 @@ use i_overlay_mesh::stroke::offset::IntStrokeOffset;
 use mesh_join::style::IntStrokeStyle;
 use mesh_num::num::{IntPoint, OverlayInt};
 use mesh_num::shape::segment::Segment;
-use mesh_toolbox::edges::edges_of_segments;
-use mesh_toolbox::plain::{Edge, Point, closed};
+use mesh_test_support::edges::edges_of_segments;
+use mesh_test_support::plain::{Edge, Point, closed};
 use std::alloc::{AllocError, Global};
 use std::test::Fail;
 

@@ -2,9 +2,9 @@
 //! joins and caps are defined to run through.
 
 use crate::styles::{CapRow, StyleRow};
-use mesh_toolbox::directions::{direction, part, turned};
-use mesh_toolbox::joins::{Corner, JoinKind};
-use mesh_toolbox::plain::{Edge, Point, closed, cross, fan, holds, minus, plus, winding};
+use mesh_test_support::directions::{direction, part, turned};
+use mesh_test_support::joins::{Corner, JoinKind};
+use mesh_test_support::plain::{Edge, Point, closed, cross, fan, holds, minus, plus, winding};
 use std::alloc::{AllocError, Global};
 
 /// The pieces of a stroke, each as the edges round it.

@@ -3,9 +3,9 @@
 use crate::drawn::drawn;
 use crate::styles::{CapRow, StyleRow};
 use mesh_num::num::OverlayInt;
-use mesh_toolbox::compared::{expect_that, have_same_counts};
-use mesh_toolbox::joins::JoinKind;
-use mesh_toolbox::random::{Random, small_path};
+use mesh_test_support::compared::{expect_that, have_same_counts};
+use mesh_test_support::joins::JoinKind;
+use mesh_test_support::random::{Random, small_path};
 use std::alloc::Global;
 use std::test::Fail;
 

@@ -7,12 +7,12 @@ use mesh_below::below::{ContourDirection, IntOverlayOptions};
 use mesh_join::style::IntStrokeStyle;
 use mesh_num::num::{IntPoint, OverlayInt};
 use mesh_num::shape::path_slice::PathSlice;
-use mesh_toolbox::compared::expect_equal;
-use mesh_toolbox::edges::edges_of_segments;
-use mesh_toolbox::joins::JoinKind;
-use mesh_toolbox::lists::{path, paths, shapes};
-use mesh_toolbox::plain::winding;
-use mesh_toolbox::{inner, outer};
+use mesh_test_support::compared::expect_equal;
+use mesh_test_support::edges::edges_of_segments;
+use mesh_test_support::joins::JoinKind;
+use mesh_test_support::lists::{path, paths, shapes};
+use mesh_test_support::plain::winding;
+use mesh_test_support::{inner, outer};
 use std::alloc::Global;
 use std::test::Fail;
 

@@ -8,8 +8,8 @@ use crate::tables::small_strokes::SMALL_STROKES;
 use crate::tables::strokes::STROKES;
 use crate::tables::{StrokeRow, StyleParts};
 use mesh_num::num::OverlayInt;
-use mesh_toolbox::compared::{are_same_edges, expect_equal, expect_that};
-use mesh_toolbox::edges::{plain_points, wide};
+use mesh_test_support::compared::{are_same_edges, expect_equal, expect_that};
+use mesh_test_support::edges::{plain_points, wide};
 use std::alloc::Global;
 use std::test::Fail;
 

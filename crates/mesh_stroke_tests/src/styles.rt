@@ -3,7 +3,7 @@
 use mesh_join::arc::ArcOptions;
 use mesh_join::style::{IntLineCap, IntLineJoin, IntStrokeStyle};
 use mesh_num::num::{Angle, IntPoint, OverlayInt};
-use mesh_toolbox::joins::JoinKind;
+use mesh_test_support::joins::JoinKind;
 use std::alloc::{AllocError, Global};
 use std::rc::RcSlice;
 

@@ -3,8 +3,8 @@
 //! script wrote these files: change it, and not them.
 
 use crate::styles::CapRow;
-use mesh_toolbox::joins::JoinKind;
-use mesh_toolbox::plain::Point;
+use mesh_test_support::joins::JoinKind;
+use mesh_test_support::plain::Point;
 
 pub mod large_strokes;
 pub mod small_strokes;

@@ -4,11 +4,11 @@ use crate::drawn::drawn;
 use crate::pieces::Pieces;
 use crate::styles::{CapRow, StyleRow};
 use mesh_num::num::OverlayInt;
-use mesh_toolbox::compared::{expect_equal, expect_that};
-use mesh_toolbox::edges::{plain_points, wide};
-use mesh_toolbox::joins::JoinKind;
-use mesh_toolbox::plain::{Edge, Point, is_balanced, plus, refined, winding};
-use mesh_toolbox::random::{Random, small_path};
+use mesh_test_support::compared::{expect_equal, expect_that};
+use mesh_test_support::edges::{plain_points, wide};
+use mesh_test_support::joins::JoinKind;
+use mesh_test_support::plain::{Edge, Point, is_balanced, plus, refined, winding};
+use mesh_test_support::random::{Random, small_path};
 use std::alloc::Global;
 use std::test::Fail;
 

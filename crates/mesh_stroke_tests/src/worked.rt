@@ -3,9 +3,9 @@
 use crate::drawn::{drawn, loops};
 use crate::styles::{CapRow, Caps, StyleRow};
 use mesh_num::num::OverlayInt;
-use mesh_toolbox::compared::{are_same_edges, expect_that};
-use mesh_toolbox::joins::JoinKind;
-use mesh_toolbox::plain::{Edge, Point};
+use mesh_test_support::compared::{are_same_edges, expect_that};
+use mesh_test_support::joins::JoinKind;
+use mesh_test_support::plain::{Edge, Point};
 use std::alloc::Global;
 use std::test::Fail;
 

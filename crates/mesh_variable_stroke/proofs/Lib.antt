@@ -1,6 +1,8 @@
 pub mod Near
 pub mod Orders
 pub mod Promised
+pub mod Reach
+pub mod Resolving
 pub mod Safe
 pub mod Stepping
 pub mod Sums

@@ -18,20 +18,20 @@ use Rattle.mesh_plane.specs.Ways.{last_of}
 use Rattle.mesh_arc.specs.declared.arc.ArcOptions.{ArcOptions}
 use Rattle.mesh_join.specs.Joints.{IsWithinPadding, StaysWithin}
 use Rattle.mesh_join.specs.VariableStyles.{Vertex}
-use Rattle.mesh_draw.specs.Padding.{IsNear}
-use Rattle.mesh_draw.specs.Radii.{radius_of}
-use Rattle.mesh_draw.specs.Walks.{pairs}
-use Rattle.mesh_draw.proofs.Walks.{pairs_all, last_all}
-use Rattle.mesh_tangent.specs.Sections.{Circle, Section, IsContact, HasContacts, is_nested, has_no_section}
-use Rattle.mesh_tangent.specs.Sections.{radius_difference, left_contact, right_contact, with_contacts, section_of}
-use Rattle.mesh_tangent.specs.Tangents.{lift, left_normal, right_normal, normal_length, left_offset, right_offset}
-use Rattle.mesh_tangent.proofs.Circles.{contact_made}
-use Rattle.mesh_tangent.proofs.Contacts.{left_normal_most, right_normal_most, at_radius_within}
-use Rattle.mesh_tangent.proofs.Lifts.{lift_some}
-use Rattle.mesh_sweep.specs.declared.sweep.Sweep.{Sweep}
-use Rattle.mesh_sweep.specs.declared.sweep.Sweep.TheVariants.{Minor, Major}
-use Rattle.mesh_sweep.specs.Sweeps.{distance, arc_edges, circle_edges}
-use Rattle.mesh_sweep.proofs.Nearness.{circle_within, arc_within}
+use Rattle.mesh_offset.specs.Padding.{IsNear}
+use Rattle.mesh_offset.specs.Radii.{radius_of}
+use Rattle.mesh_offset.specs.Walks.{pairs}
+use Rattle.mesh_offset.proofs.Walks.{pairs_all, last_all}
+use Rattle.mesh_circle.specs.Sections.{Circle, Section, IsContact, HasContacts, is_nested, has_no_section}
+use Rattle.mesh_circle.specs.Sections.{radius_difference, left_contact, right_contact, with_contacts, section_of}
+use Rattle.mesh_circle.specs.Tangents.{lift, left_normal, right_normal, normal_length, left_offset, right_offset}
+use Rattle.mesh_circle.proofs.Circles.{contact_made}
+use Rattle.mesh_circle.proofs.Contacts.{left_normal_most, right_normal_most, at_radius_within}
+use Rattle.mesh_circle.proofs.Lifts.{lift_some}
+use Rattle.mesh_circle.specs.declared.sweep.Sweep.{Sweep}
+use Rattle.mesh_circle.specs.declared.sweep.Sweep.TheVariants.{Minor, Major}
+use Rattle.mesh_circle.specs.Sweeps.{distance, arc_edges, circle_edges}
+use Rattle.mesh_circle.proofs.Nearness.{circle_within, arc_within}
 use Rattle.mesh_variable_stroke.specs.Chains.{circle_of, circles_of, Step, steps_from, is_break, is_cover}
 use Rattle.mesh_variable_stroke.specs.Chains.{end_after, Chain, Rest, broken, covered, continued, rest_of}
 use Rattle.mesh_variable_stroke.specs.Chains.{chains_of}

@@ -9,11 +9,11 @@ use Rattle.mesh_plane.specs.Plane.{Edge}
 use Rattle.mesh_plane.proofs.ClosedLists.{woven, regrouped}
 use Rattle.mesh_plane.specs.Ways.{last_of}
 use Rattle.mesh_num.specs.Segments.{proper_edges}
-use Rattle.mesh_draw.specs.Walks.{pairs}
-use Rattle.mesh_draw.proofs.ProperEdges.{proper_append, proper_flat_map}
-use Rattle.mesh_draw.proofs.Walks.{woven_through}
-use Rattle.mesh_tangent.specs.Sections.{Circle, Section}
-use Rattle.mesh_variable_stroke.specs.Midway.{last_with}
+use Rattle.mesh_offset.specs.Walks.{pairs}
+use Rattle.mesh_offset.proofs.ProperEdges.{proper_append, proper_flat_map}
+use Rattle.mesh_offset.proofs.Walks.{woven_through}
+use Rattle.mesh_circle.specs.Sections.{Circle, Section}
+use Rattle.mesh_variable_stroke.specs.Private.Walks.{last_with}
 use Rattle.mesh_variable_stroke.specs.VariableStrokes.{SectionPair, are_butt}
 use Rattle.mesh_variable_stroke.specs.declared.chain_end.ChainEnd.{ChainEnd}
 

@@ -11,17 +11,17 @@ use Rattle.mesh_plane.specs.Bounds.{IsSafe}
 use Rattle.mesh_plane.proofs.Sums.{total_permutation}
 use Rattle.mesh_plane.proofs.Balance.{balanced_permutation, growth, growth_odd, growth_of_pieces, balanced_by_growth}
 use Rattle.mesh_plane.proofs.Crossings.{crossing_on_odd}
-use Rattle.mesh_grid.specs.Rectangle.{IsSafeWidened}
+use Rattle.mesh_num.specs.Rectangle.{IsSafeWidened}
 use Rattle.mesh_num.specs.Segments.{SignedEdge}
-use Rattle.mesh_cuts.specs.Clean.{IsProper}
+use Rattle.mesh_lattice.specs.Clean.{IsProper}
 use Rattle.mesh_arc.specs.declared.arc.ArcOptions.{ArcOptions}
 use Rattle.mesh_join.specs.VariableStyles.{Vertex}
-use Rattle.mesh_draw.specs.Adding.{added_edges}
-use Rattle.mesh_draw.specs.Midway.{Adds}
-use Rattle.mesh_draw.specs.Padding.{IsNear}
-use Rattle.mesh_draw.proofs.Adding.{adds_edges}
-use Rattle.mesh_draw.proofs.Padding.{ends_safe}
-use Rattle.mesh_draw.proofs.ProperEdges.{proper_kept}
+use Rattle.mesh_offset.specs.Adding.{added_edges}
+use Rattle.mesh_offset.specs.Private.Built.{Adds}
+use Rattle.mesh_offset.specs.Padding.{IsNear}
+use Rattle.mesh_offset.proofs.Adding.{adds_edges}
+use Rattle.mesh_offset.proofs.Padding.{ends_safe}
+use Rattle.mesh_offset.proofs.ProperEdges.{proper_kept}
 use Rattle.mesh_variable_stroke.specs.Chains.{circles_of, chains_of}
 use Rattle.mesh_variable_stroke.specs.Drawn.{vertex_points, greatest_radius, AreStrokable, AreVariablyStroked}
 use Rattle.mesh_variable_stroke.specs.VariableStrokes.{chain_edges, variable_stroke_edges, variable_stroke_pieces}

@@ -10,13 +10,13 @@ use Rattle.mesh_plane.specs.Bounds.{IsSafe}
 use Rattle.mesh_plane.specs.Plane.{Point}
 use Rattle.mesh_plane.specs.Winding.{same_point}
 use Rattle.mesh_plane.proofs.Comparing.{decides_point}
-use Rattle.mesh_grid.specs.Rectangle.{IsSafeWidened}
+use Rattle.mesh_num.specs.Rectangle.{IsSafeWidened}
 use Rattle.mesh_join.specs.VariableStyles.{Vertex}
-use Rattle.mesh_draw.specs.Radii.{radius_of}
-use Rattle.mesh_draw.proofs.Padding.{safe_within_less}
-use Rattle.mesh_sweep.specs.Sweeps.{distance, IsSwept}
-use Rattle.mesh_tangent.specs.Sections.{Circle, Section, IsSafeCircle, IsContact}
-use Rattle.mesh_variable_stroke.specs.Midway.{IsGoodSection, IsGoodJoint}
+use Rattle.mesh_offset.specs.Radii.{radius_of}
+use Rattle.mesh_offset.proofs.Padding.{safe_within_less}
+use Rattle.mesh_circle.specs.Sweeps.{distance, IsSwept}
+use Rattle.mesh_circle.specs.Sections.{Circle, Section, IsSafeCircle, IsContact}
+use Rattle.mesh_variable_stroke.specs.Private.Walks.{IsGoodSection, IsGoodJoint}
 use Rattle.mesh_variable_stroke.specs.Chains.{circle_of}
 use Rattle.mesh_variable_stroke.specs.Drawn.{greatest_radius, AreStrokable}
 use Rattle.mesh_variable_stroke.specs.VariableStrokes.{SectionPair, is_apart}

@@ -4,13 +4,13 @@ use Rattle.std.specs.Prelude.{Bool, true, false, cond, Option, Some, None, IfSom
 use Rattle.mesh_plane.specs.Plane.{Point, Edge}
 use Rattle.mesh_num.specs.Segments.{SignedEdge, segments_of}
 use Rattle.mesh_arc.specs.declared.arc.ArcOptions.{ArcOptions}
-use Rattle.mesh_sweep.specs.declared.sweep.Sweep.{Sweep}
-use Rattle.mesh_sweep.specs.Sweeps.{arc_edges, circle_edges}
-use Rattle.mesh_tangent.specs.Sections.{Circle, Section, section_of, is_nested, with_contacts, has_no_section}
-use Rattle.mesh_tangent.specs.Sections.{IsSafeCircle, HasContacts, IsSafeSection}
-use Rattle.mesh_variable_stroke.specs.Midway.{Open, Walk, opened, gone_on, step_edges, finish_edges, step_to}
-use Rattle.mesh_variable_stroke.specs.Midway.{walked_edges}
-use Rattle.mesh_variable_stroke.specs.Midway.{IsGoodOpen, IsGoodSection, IsGoodWalk, last_with}
+use Rattle.mesh_circle.specs.declared.sweep.Sweep.{Sweep}
+use Rattle.mesh_circle.specs.Sweeps.{arc_edges, circle_edges}
+use Rattle.mesh_circle.specs.Sections.{Circle, Section, section_of, is_nested, with_contacts, has_no_section}
+use Rattle.mesh_circle.specs.Sections.{IsSafeCircle, HasContacts, IsSafeSection}
+use Rattle.mesh_variable_stroke.specs.Private.Walks.{Open, Walk, opened, gone_on, step_edges, finish_edges, step_to}
+use Rattle.mesh_variable_stroke.specs.Private.Walks.{walked_edges}
+use Rattle.mesh_variable_stroke.specs.Private.Walks.{IsGoodOpen, IsGoodSection, IsGoodWalk, last_with}
 use Rattle.mesh_variable_stroke.specs.Chains.{Step, is_break, is_cover, end_after, is_smaller, is_covered_by}
 use Rattle.mesh_variable_stroke.specs.VariableStrokes.{SectionPair, is_apart, are_butt, sweep_at, start_edges}
 use Rattle.mesh_variable_stroke.specs.VariableStrokes.{end_edges, left_edges, right_edges, joint_edges}

@@ -10,13 +10,13 @@ use Rattle.mesh_plane.proofs.Sums.{pieces_total_flat_map}
 use Rattle.mesh_plane.specs.Ways.{last_of}
 use Rattle.mesh_arc.specs.declared.arc.ArcOptions.{ArcOptions}
 use Rattle.mesh_join.specs.VariableStyles.{Vertex}
-use Rattle.mesh_draw.proofs.ProperEdges.{proper_edges_total}
-use Rattle.mesh_draw.specs.Walks.{pairs}
-use Rattle.mesh_tangent.specs.Sections.{Section}
-use Rattle.mesh_sweep.specs.declared.sweep.Sweep.{Sweep}
-use Rattle.mesh_sweep.specs.declared.sweep.Sweep.TheVariants.{Minor, Major}
-use Rattle.mesh_sweep.specs.Sweeps.{arc_edges, arc_pieces, circle_edges, circle_pieces}
-use Rattle.mesh_sweep.proofs.Sums.{arc_total, circle_total}
+use Rattle.mesh_offset.proofs.ProperEdges.{proper_edges_total}
+use Rattle.mesh_offset.specs.Walks.{pairs}
+use Rattle.mesh_circle.specs.Sections.{Section}
+use Rattle.mesh_circle.specs.declared.sweep.Sweep.{Sweep}
+use Rattle.mesh_circle.specs.declared.sweep.Sweep.TheVariants.{Minor, Major}
+use Rattle.mesh_circle.specs.Sweeps.{arc_edges, arc_pieces, circle_edges, circle_pieces}
+use Rattle.mesh_circle.proofs.Sums.{arc_total, circle_total}
 use Rattle.mesh_variable_stroke.specs.Chains.{circles_of, chains_of, Chain, Step}
 use Rattle.mesh_variable_stroke.specs.declared.chain_end.ChainEnd.{ChainEnd}
 use Rattle.mesh_variable_stroke.specs.declared.chain_end.ChainEnd.TheVariants.{Butt, Round}

@@ -13,16 +13,16 @@ use Rattle.mesh_plane.specs.Winding.{same_point}
 use Rattle.mesh_num.specs.Segments.{SignedEdge, segments_of, edges_of, edge_of}
 use Rattle.mesh_arc.specs.declared.arc.ArcOptions.{ArcOptions}
 use Rattle.mesh_join.specs.VariableStyles.{Vertex}
-use Rattle.mesh_draw.specs.Midway.{Adds}
-use Rattle.mesh_draw.specs.Radii.{radius_of}
-use Rattle.mesh_draw.proofs.Drawn.{added_length}
-use Rattle.mesh_sweep.specs.Sweeps.{circle_edges}
-use Rattle.mesh_sweep.proofs.Cases.{no_circle}
-use Rattle.mesh_tangent.specs.Sections.{Circle, Section, section_of, with_contacts, is_nested}
+use Rattle.mesh_offset.specs.Private.Built.{Adds}
+use Rattle.mesh_offset.specs.Radii.{radius_of}
+use Rattle.mesh_offset.proofs.Drawn.{added_length}
+use Rattle.mesh_circle.specs.Sweeps.{circle_edges}
+use Rattle.mesh_circle.proofs.Cases.{no_circle}
+use Rattle.mesh_circle.specs.Sections.{Circle, Section, section_of, with_contacts, is_nested}
 use Rattle.mesh_variable_stroke.specs.Chains.{Step, is_break, is_cover, end_before, circle_of}
 use Rattle.mesh_variable_stroke.specs.Drawn.{greatest_radius}
-use Rattle.mesh_variable_stroke.specs.Midway.{Open, Walk, opened, last_with, walk_from, step_to, walked, walked_edges}
-use Rattle.mesh_variable_stroke.specs.Midway.{step_edges, closing_edges, finish_edges, IsThinOpen, IsThinWalk}
+use Rattle.mesh_variable_stroke.specs.Private.Walks.{Open, Walk, opened, last_with, walk_from, step_to, walked, walked_edges}
+use Rattle.mesh_variable_stroke.specs.Private.Walks.{step_edges, closing_edges, finish_edges, IsThinOpen, IsThinWalk}
 use Rattle.mesh_variable_stroke.specs.VariableStrokes.{are_butt, variable_stroke_edges}
 use Rattle.mesh_variable_stroke.specs.declared.chain_end.ChainEnd.{ChainEnd}
 use Rattle.mesh_variable_stroke.specs.declared.chain_end.ChainEnd.TheVariants.{Butt, Round}

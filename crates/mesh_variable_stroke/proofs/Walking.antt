@@ -12,12 +12,12 @@ use Rattle.mesh_num.proofs.Subjects.{segments_of_subjects}
 use Rattle.mesh_num.proofs.SegmentLists.{edges_of_segments, segments_of-append}
 use Rattle.mesh_arc.specs.declared.arc.ArcOptions.{ArcOptions}
 use Rattle.mesh_join.specs.VariableStyles.{Vertex}
-use Rattle.mesh_draw.specs.Midway.{Adds}
-use Rattle.mesh_draw.proofs.Adding.{keeps_through}
-use Rattle.mesh_sweep.specs.Sweeps.{circle_edges}
-use Rattle.mesh_tangent.specs.Sections.{Circle, Section, IsSafeCircle}
-use Rattle.mesh_variable_stroke.specs.Midway.{Open, Walk, opened, gone_on, step_edges, finish_edges, walk_from, step_to, walked, walked_edges}
-use Rattle.mesh_variable_stroke.specs.Midway.{IsGoodWalk}
+use Rattle.mesh_offset.specs.Private.Built.{Adds}
+use Rattle.mesh_offset.proofs.Adding.{keeps_through}
+use Rattle.mesh_circle.specs.Sweeps.{circle_edges}
+use Rattle.mesh_circle.specs.Sections.{Circle, Section, IsSafeCircle}
+use Rattle.mesh_variable_stroke.specs.Private.Walks.{Open, Walk, opened, gone_on, step_edges, finish_edges, walk_from, step_to, walked, walked_edges}
+use Rattle.mesh_variable_stroke.specs.Private.Walks.{IsGoodWalk}
 use Rattle.mesh_variable_stroke.specs.Drawn.{greatest_radius, AreStrokable}
 use Rattle.mesh_variable_stroke.specs.Chains.{Chain, Step, rest_of, is_break, is_cover, end_before, end_after, chains_of, circle_of, circles_of, steps_from}
 use Rattle.mesh_variable_stroke.specs.VariableStrokes.{side_edges, start_edges, end_edges, joint_edges, sections_of, edges_with, chain_edges, variable_stroke_edges}

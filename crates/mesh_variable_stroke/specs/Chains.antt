@@ -2,8 +2,8 @@
 use Rattle.std.specs.Prelude.{ℕ, Bool, false, ◌&&◌, ◌||◌, if◌then◌else◌, List, [], ◌∷◌, map, Option, Some, None}
 use Rattle.std.specs.Prelude.{int_lt}
 use Rattle.mesh_join.specs.VariableStyles.{Vertex}
-use Rattle.mesh_draw.specs.Radii.{radius_of}
-use Rattle.mesh_tangent.specs.Sections.{Circle, Section, section_of, is_nested, covers_circle}
+use Rattle.mesh_offset.specs.Radii.{radius_of}
+use Rattle.mesh_circle.specs.Sections.{Circle, Section, section_of, is_nested, covers_circle}
 use Rattle.mesh_variable_stroke.specs.declared.chain_end.ChainEnd.{ChainEnd}
 use Rattle.mesh_variable_stroke.specs.declared.chain_end.ChainEnd.TheVariants.{Butt, Round}
 

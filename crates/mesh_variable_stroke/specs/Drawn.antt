@@ -4,13 +4,13 @@ use Rattle.std.specs.Int.{int_max}
 use Rattle.std.specs.List.{All}
 use Rattle.mesh_plane.specs.Plane.{Point, Edge}
 use Rattle.mesh_plane.specs.Winding.{IsBalanced}
-use Rattle.mesh_cuts.specs.Reach.{AreEdgesSafe}
-use Rattle.mesh_grid.specs.Rectangle.{IsSafeWidened}
+use Rattle.mesh_lattice.specs.Reach.{AreEdgesSafe}
+use Rattle.mesh_num.specs.Rectangle.{IsSafeWidened}
 use Rattle.mesh_arc.specs.declared.arc.ArcOptions.{ArcOptions}
 use Rattle.mesh_join.specs.VariableStyles.{Vertex}
-use Rattle.mesh_draw.specs.Padding.{AreEndsNear}
-use Rattle.mesh_draw.specs.Pieces.{WindAsPieces}
-use Rattle.mesh_draw.specs.Radii.{radius_of}
+use Rattle.mesh_offset.specs.Padding.{AreEndsNear}
+use Rattle.mesh_offset.specs.Pieces.{WindAsPieces}
+use Rattle.mesh_offset.specs.Radii.{radius_of}
 use Rattle.mesh_variable_stroke.specs.VariableStrokes.{variable_stroke_pieces}
 
 -- the points of vertices

@@ -1,4 +1,9 @@
 pub mod Chains
 pub mod Drawn
-pub mod Midway
+pub mod Laws
+pub mod PathsLeft
+pub mod Private
+pub mod Resolved
+pub mod Staying
+pub mod Strokable
 pub mod VariableStrokes

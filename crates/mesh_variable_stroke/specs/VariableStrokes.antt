@@ -8,11 +8,11 @@ use Rattle.mesh_plane.specs.Ways.{last_of}
 use Rattle.mesh_num.specs.Segments.{proper_edges}
 use Rattle.mesh_arc.specs.declared.arc.ArcOptions.{ArcOptions}
 use Rattle.mesh_join.specs.VariableStyles.{Vertex}
-use Rattle.mesh_draw.specs.Walks.{pairs}
-use Rattle.mesh_tangent.specs.Sections.{Circle, Section}
-use Rattle.mesh_sweep.specs.declared.sweep.Sweep.{Sweep}
-use Rattle.mesh_sweep.specs.declared.sweep.Sweep.TheVariants.{Minor, Major}
-use Rattle.mesh_sweep.specs.Sweeps.{arc_edges, arc_pieces, circle_edges, circle_pieces}
+use Rattle.mesh_offset.specs.Walks.{pairs}
+use Rattle.mesh_circle.specs.Sections.{Circle, Section}
+use Rattle.mesh_circle.specs.declared.sweep.Sweep.{Sweep}
+use Rattle.mesh_circle.specs.declared.sweep.Sweep.TheVariants.{Minor, Major}
+use Rattle.mesh_circle.specs.Sweeps.{arc_edges, arc_pieces, circle_edges, circle_pieces}
 use Rattle.mesh_variable_stroke.specs.Chains.{circles_of, chains_of, Chain, Step}
 use Rattle.mesh_variable_stroke.specs.declared.chain_end.ChainEnd.{ChainEnd}
 use Rattle.mesh_variable_stroke.specs.declared.chain_end.ChainEnd.TheVariants.{Butt, Round}

@@ -5,20 +5,20 @@ ghost use Rattle.std.specs.List.{All};
 ghost use Rattle.std.specs.List.Sorted.{IsPermutation};
 ghost use Rattle.mesh_plane.specs.Winding.{IsBalanced};
 ghost use Rattle.mesh_num.specs.Segments.{IsSubject};
-ghost use Rattle.mesh_cuts.specs.Reach.{AreEdgesSafe};
-ghost use Rattle.mesh_draw.specs.Adding.{added, added_edges, Keeps};
-ghost use Rattle.mesh_draw.specs.Midway.{Adds};
-ghost use Rattle.mesh_draw.specs.Padding.{AreEndsNear};
-ghost use Rattle.mesh_draw.specs.Pieces.{WindAsPieces};
+ghost use Rattle.mesh_lattice.specs.Reach.{AreEdgesSafe};
+ghost use Rattle.mesh_offset.specs.Adding.{added, added_edges, Keeps};
+ghost use Rattle.mesh_offset.specs.Private.Built.{Adds};
+ghost use Rattle.mesh_offset.specs.Padding.{AreEndsNear};
+ghost use Rattle.mesh_offset.specs.Pieces.{WindAsPieces};
 ghost use Rattle.mesh_variable_stroke.specs.Drawn.{vertex_points, greatest_radius, AreStrokable};
 ghost use Rattle.mesh_variable_stroke.specs.VariableStrokes.{variable_stroke_edges, variable_stroke_pieces};
 
 use crate::vertex::circle_of;
 use crate::walk::Walk;
+use mesh_circle::sweeper::Sweeper;
 use mesh_join::style::{IntStrokeVertex, IntVariableStrokeStyle};
 use mesh_num::num::IntNumber;
 use mesh_num::shape::segment::Segment;
-use mesh_sweep::sweeper::Sweeper;
 use std::alloc::{AllocError, Global};
 use std::marker::Model;
 

@@ -2,18 +2,18 @@
 
 ghost use Rattle.std.specs.Prelude.{◌≡◌, ◌≤◌, length, take, vec_capacity, IsOk, OnOk, IfSome, None};
 ghost use Rattle.mesh_join.specs.Appending.{Appends};
-ghost use Rattle.mesh_variable_stroke.specs.Midway.{IsGoodOpen, IsGoodSection, IsThinOpen, opened, gone_on};
-ghost use Rattle.mesh_variable_stroke.specs.Midway.{attaching_edges, finish_edges, step_edges};
+ghost use Rattle.mesh_variable_stroke.specs.Private.Walks.{IsGoodOpen, IsGoodSection, IsThinOpen, opened, gone_on};
+ghost use Rattle.mesh_variable_stroke.specs.Private.Walks.{attaching_edges, finish_edges, step_edges};
 
 use crate::chain_end::{ChainEnd, are_butt};
 use crate::ends::{add_end, add_start};
 use crate::joint::add_joint;
+use mesh_circle::circle::Circle;
+use mesh_circle::section::Section;
+use mesh_circle::sweeper::Sweeper;
 use mesh_join::route::push_straight;
 use mesh_num::num::IntNumber;
 use mesh_num::shape::segment::Segment;
-use mesh_sweep::sweeper::Sweeper;
-use mesh_tangent::circle::Circle;
-use mesh_tangent::section::Section;
 use std::alloc::AllocError;
 use std::marker::Model;
 
@@ -27,7 +27,7 @@ pub(crate) struct Chain<I: IntNumber> {
 }
 
 impl<I: IntNumber> Model for Chain<I> {
-    ghost use Rattle.mesh_variable_stroke.specs.Midway.{Open};
+    ghost use Rattle.mesh_variable_stroke.specs.Private.Walks.{Open};
 
     ghost Value = { Open };
 

@@ -2,18 +2,18 @@
 
 ghost use Rattle.std.specs.Prelude.{◌≡◌, ◌≤◌, length, take, vec_capacity, OnOk};
 ghost use Rattle.mesh_join.specs.Appending.{Appends};
-ghost use Rattle.mesh_variable_stroke.specs.Midway.{IsGoodSection};
+ghost use Rattle.mesh_variable_stroke.specs.Private.Walks.{IsGoodSection};
 ghost use Rattle.mesh_variable_stroke.specs.VariableStrokes.{start_edges, end_edges, sweep_at as sweep_at_circle};
 
 use crate::chain_end::ChainEnd;
+use mesh_circle::circle::Circle;
+use mesh_circle::section::Section;
+use mesh_circle::sweep::Sweep;
+use mesh_circle::sweeper::Sweeper;
 use mesh_join::route::push_straight;
 use mesh_num::num::convert::is_less;
 use mesh_num::num::{IntNumber, IntPoint};
 use mesh_num::shape::segment::Segment;
-use mesh_sweep::sweep::Sweep;
-use mesh_sweep::sweeper::Sweeper;
-use mesh_tangent::circle::Circle;
-use mesh_tangent::section::Section;
 use std::alloc::AllocError;
 
 /// Adds the end of a chain at the start of its first section.

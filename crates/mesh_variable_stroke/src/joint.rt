@@ -4,7 +4,7 @@ ghost use Rattle.std.specs.Prelude.{◌≡◌, ◌≤◌, length, take, vec_capa
 ghost use Rattle.mesh_plane.specs.Bounds.{IsSafe};
 ghost use Rattle.mesh_plane.specs.Plane.{minus, cross};
 ghost use Rattle.mesh_join.specs.Appending.{Appends};
-ghost use Rattle.mesh_variable_stroke.specs.Midway.{IsGoodJoint};
+ghost use Rattle.mesh_variable_stroke.specs.Private.Walks.{IsGoodJoint};
 ghost use Rattle.mesh_variable_stroke.specs.VariableStrokes.{joint_edges, left_edges, right_edges};
 ghost use Rattle.mesh_variable_stroke.specs.VariableStrokes.{is_apart as are_apart};
 ghost use Rattle.mesh_variable_stroke.specs.VariableStrokes.{has_left_arc as is_left_arc};
@@ -14,13 +14,13 @@ ghost use Rattle.mesh_variable_stroke.specs.VariableStrokes.{middle_turn as midd
 
 use crate::chain_end::ChainEnd;
 use crate::ends::{add_end, add_start, end_center, start_center};
-use mesh_grid::num::point::is_one_point;
+use mesh_circle::section::Section;
+use mesh_circle::sweep::Sweep;
+use mesh_circle::sweeper::Sweeper;
 use mesh_join::route::push_straight;
+use mesh_num::num::point::is_one_point;
 use mesh_num::num::{IntNumber, IntPoint};
 use mesh_num::shape::segment::Segment;
-use mesh_sweep::sweep::Sweep;
-use mesh_sweep::sweeper::Sweeper;
-use mesh_tangent::section::Section;
 use std::alloc::AllocError;
 
 /// Adds what is drawn between two neighbouring sections: where they do not meet, both end straight.

@@ -3,22 +3,22 @@
 ghost use Rattle.std.specs.Prelude.{◌≡◌, ◌≤◌, ◌++◌, length, take, vec_capacity, IsOk, OnOk, IfOk, IfSome};
 ghost use Rattle.std.specs.Prelude.{None, pos, ◌≤ℤ◌};
 ghost use Rattle.mesh_join.specs.Appending.{Appends};
-ghost use Rattle.mesh_tangent.specs.Sections.{IsSafeCircle};
+ghost use Rattle.mesh_circle.specs.Sections.{IsSafeCircle};
 ghost use Rattle.mesh_variable_stroke.specs.Chains.{is_covered_by as is_covered_in, is_smaller as is_smaller_than};
 ghost use Rattle.mesh_variable_stroke.specs.Chains.{end_before, end_after};
-ghost use Rattle.mesh_variable_stroke.specs.Midway.{IsGoodOpen, IsGoodSection, IsGoodWalk, opened, gone_on, step_edges};
-ghost use Rattle.mesh_variable_stroke.specs.Midway.{walk_from, step_to, walked, walked_edges, finish_edges};
-ghost use Rattle.mesh_variable_stroke.specs.Midway.{IsThinOpen, IsThinWalk};
+ghost use Rattle.mesh_variable_stroke.specs.Private.Walks.{IsGoodOpen, IsGoodSection, IsGoodWalk, opened, gone_on, step_edges};
+ghost use Rattle.mesh_variable_stroke.specs.Private.Walks.{walk_from, step_to, walked, walked_edges, finish_edges};
+ghost use Rattle.mesh_variable_stroke.specs.Private.Walks.{IsThinOpen, IsThinWalk};
 ghost use Rattle.mesh_variable_stroke.specs.declared.chain_end.ChainEnd.TheVariants.{Butt, Round};
 
 use crate::chain::Chain;
 use crate::chain_end::ChainEnd;
+use mesh_circle::circle::Circle;
+use mesh_circle::section::Section;
+use mesh_circle::sweeper::Sweeper;
 use mesh_num::num::IntNumber;
 use mesh_num::num::convert::is_less;
 use mesh_num::shape::segment::Segment;
-use mesh_sweep::sweeper::Sweeper;
-use mesh_tangent::circle::Circle;
-use mesh_tangent::section::Section;
 use std::alloc::AllocError;
 use std::marker::Model;
 
@@ -33,7 +33,7 @@ pub(crate) struct Walk<I: IntNumber> {
 }
 
 impl<I: IntNumber> Model for Walk<I> {
-    ghost use Rattle.mesh_variable_stroke.specs.Midway.{Walk as PlaneWalk};
+    ghost use Rattle.mesh_variable_stroke.specs.Private.Walks.{Walk as PlaneWalk};
 
     ghost Value = { PlaneWalk };
 

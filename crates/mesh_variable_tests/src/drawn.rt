@@ -6,8 +6,8 @@ use i_overlay_mesh::variable_stroke::offset::IntVariableStrokeOffset;
 use mesh_join::style::{IntStrokeVertex, IntVariableStrokeStyle};
 use mesh_num::num::OverlayInt;
 use mesh_num::shape::segment::Segment;
-use mesh_toolbox::edges::edges_of_segments;
-use mesh_toolbox::plain::Edge;
+use mesh_test_support::edges::edges_of_segments;
+use mesh_test_support::plain::Edge;
 use std::alloc::Global;
 use std::test::Fail;
 

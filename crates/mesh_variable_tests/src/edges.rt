@@ -3,9 +3,9 @@
 use crate::drawn::drawn;
 use crate::tables::edges::EDGES;
 use mesh_num::num::OverlayInt;
-use mesh_toolbox::compared::{are_same_edges, expect_that};
-use mesh_toolbox::plain::{Edge, closed};
-use mesh_toolbox::rows::{broken, fields, is_for, points};
+use mesh_test_support::compared::{are_same_edges, expect_that};
+use mesh_test_support::plain::{Edge, closed};
+use mesh_test_support::rows::{broken, fields, is_for, points};
 use std::alloc::Global;
 use std::test::Fail;
 

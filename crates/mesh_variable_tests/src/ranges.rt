@@ -5,8 +5,8 @@ use crate::values::paths;
 use i_overlay_mesh::IntOutlineError;
 use i_overlay_mesh::variable_stroke::offset::IntVariableStrokeOffset;
 use mesh_num::num::OverlayInt;
-use mesh_toolbox::compared::expect_equal;
-use mesh_toolbox::rows::{broken, fields, is_for};
+use mesh_test_support::compared::expect_equal;
+use mesh_test_support::rows::{broken, fields, is_for};
 use std::alloc::Global;
 use std::test::Fail;
 

@@ -1,22 +1,22 @@
 //! The contacts of tangents, and the circles that sections cover.
 
 ghost use Rattle.std.specs.Prelude.{IfOk};
-ghost use Rattle.mesh_tangent.specs.Sections.{IsSafeCircle, IsSafeSection};
+ghost use Rattle.mesh_circle.specs.Sections.{IsSafeCircle, IsSafeSection};
 
 use crate::tables::sections::SECTIONS;
 use crate::values::vertices;
 use i_overlay_mesh::stroke::radius::stroke_radius;
 use i_overlay_mesh::variable_stroke::offset::IntVariableStrokeOffset;
+use mesh_circle::circle::Circle;
+use mesh_circle::offsets::{TangentOffsets, tangent_offsets};
+use mesh_circle::section::Section;
 use mesh_join::style::IntStrokeVertex;
 use mesh_num::num::convert::widen;
 use mesh_num::num::{IntPoint, IntVector, OverlayInt, WideNumber};
-use mesh_tangent::circle::Circle;
-use mesh_tangent::offsets::{TangentOffsets, tangent_offsets};
-use mesh_tangent::section::Section;
-use mesh_toolbox::compared::{expect_equal, expect_that};
-use mesh_toolbox::edges::plain_point;
-use mesh_toolbox::plain::{Point, minus};
-use mesh_toolbox::rows::{broken, fields, is_for, points};
+use mesh_test_support::compared::{expect_equal, expect_that};
+use mesh_test_support::edges::plain_point;
+use mesh_test_support::plain::{Point, minus};
+use mesh_test_support::rows::{broken, fields, is_for, points};
 use std::alloc::Global;
 use std::fmt::Debug;
 use std::process::Abort;

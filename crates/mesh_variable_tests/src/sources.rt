@@ -7,8 +7,8 @@ use i_overlay_mesh::variable_stroke::resource_iter::{
 };
 use mesh_join::style::IntStrokeVertex;
 use mesh_num::shape::PathSlice;
-use mesh_toolbox::compared::{expect_equal, expect_that};
-use mesh_toolbox::rows::broken;
+use mesh_test_support::compared::{expect_equal, expect_that};
+use mesh_test_support::rows::broken;
 use std::alloc::Global;
 use std::fmt::Write;
 use std::test::Fail;

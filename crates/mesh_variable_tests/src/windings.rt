@@ -3,9 +3,9 @@
 use crate::drawn::drawn;
 use crate::tables::windings::WINDINGS;
 use mesh_num::num::OverlayInt;
-use mesh_toolbox::compared::{expect_equal, expect_that};
-use mesh_toolbox::plain::{Edge, is_balanced, winding};
-use mesh_toolbox::rows::{broken, fields, is_for, triples};
+use mesh_test_support::compared::{expect_equal, expect_that};
+use mesh_test_support::plain::{Edge, is_balanced, winding};
+use mesh_test_support::rows::{broken, fields, is_for, triples};
 use std::alloc::Global;
 use std::test::Fail;
 

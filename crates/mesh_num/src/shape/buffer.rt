@@ -2,11 +2,11 @@
 
 ghost use Rattle.std.specs.Prelude.{◌≡◌, [], ◌∷◌, OnOk, OnErr, IfOk};
 ghost use Rattle.mesh_num.specs.FlatContours.{HoldsContours};
-ghost use Rattle.mesh_num.specs.Midway.{AddsContours};
+ghost use Rattle.mesh_num.specs.Private.AddingContours.{AddsContours};
 ghost use Rattle.mesh_num.specs.Paths.{paths_of, shapes_of, contours_of};
 
-use mesh_grid::num::number::IntNumber;
-use mesh_grid::num::point::IntPoint;
+use crate::num::number::IntNumber;
+use crate::num::point::IntPoint;
 use std::alloc::{AllocError, Global};
 use std::ops::Range;
 

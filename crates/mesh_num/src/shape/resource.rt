@@ -1,11 +1,13 @@
 //! Sources of paths.
 
 ghost use Rattle.std.specs.Prelude.{◌≡◌, ◌<◌, ℤ, List, [], ◌∷◌, length, get_or};
+ghost use Rattle.mesh_num.specs.FlatContours.{flat_contours};
 ghost use Rattle.mesh_num.specs.Paths.{paths_of, shapes_of, contours_of, counted};
 
+use crate::num::number::IntNumber;
+use crate::num::point::IntPoint;
+use crate::shape::buffer::FlatContoursBuffer;
 use crate::shape::path_slice::PathSlice;
-use mesh_grid::num::number::IntNumber;
-use mesh_grid::num::point::IntPoint;
 
 /// A source of paths of points. Contracts see the list of its paths, each the list of its points.
 pub trait IntShapeResource<I: IntNumber> {
@@ -120,5 +122,22 @@ impl<I: IntNumber> IntShapeResource<I> for Vec<Vec<Vec<IntPoint<I>>>> {
             left -= shape.len();
         }
         &[]
+    }
+}
+
+/// The contours of the buffer, in order, so that an answer can be handed in again. Of a range that reaches past the
+/// points, those that are there count.
+impl<I: IntNumber> IntShapeResource<I> for FlatContoursBuffer<I> {
+    ghost paths = { λ b. flat_contours b };
+
+    fn path_count(&self) -> usize {
+        self.ranges.len()
+    }
+
+    fn path_at(&self, index: usize) -> &[IntPoint<I>] {
+        let range = &self.ranges[index];
+        let end = range.end.min(self.points.len());
+        let start = range.start.min(end);
+        &self.points[start..end]
     }
 }

@@ -5,9 +5,10 @@ ghost use Rattle.mesh_num.specs.Segments.{edge_of, subject_of, segment_between, 
 ghost use Rattle.mesh_plane.specs.Order.{point_lt};
 ghost use Rattle.mesh_plane.specs.Plane.{Point};
 
-use mesh_grid::num::convert::is_less;
-use mesh_grid::num::number::IntNumber;
-use mesh_grid::num::point::{IntPoint, is_one_point};
+use crate::num::convert::is_less;
+use crate::num::number::IntNumber;
+use crate::num::point::{IntPoint, is_one_point};
+use crate::shape::edge::DirectedEdge;
 use std::alloc::AllocError;
 use std::marker::Model;
 
@@ -88,6 +89,24 @@ impl<I: IntNumber> Segment<I> {
             Segment {
                 x_segment: XSegment { a: p1, b: p0 },
                 count: -1,
+            }
+        }
+    }
+
+    /// The edge that the segment stands for: from its smaller end where its count is above 0, else back.
+    pub fn edge(self) -> DirectedEdge<I>
+        ensures { result ≡ edge_of self }
+    {
+        let ends = self.x_segment;
+        if self.count > 0 {
+            DirectedEdge {
+                start: ends.a,
+                end: ends.b,
+            }
+        } else {
+            DirectedEdge {
+                start: ends.b,
+                end: ends.a,
             }
         }
     }

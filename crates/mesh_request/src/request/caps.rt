@@ -2,7 +2,7 @@
 
 ghost use Rattle.std.specs.Prelude.{◌≡◌, Some, None, MatchResult, option_map};
 ghost use Rattle.serde_json.specs.View.{view};
-ghost use Rattle.mesh_cap.specs.Kinds.{kind_of};
+ghost use Rattle.mesh_stroke.specs.Kinds.{kind_of};
 ghost use Rattle.mesh_request.specs.Reading.{cap_of, custom_cap_of, IsOfReading};
 
 use crate::failure::Failure;

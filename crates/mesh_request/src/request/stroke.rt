@@ -4,7 +4,7 @@ ghost use Rattle.std.specs.Prelude.{◌≡◌, Some, None, MatchResult, option_m
 ghost use Rattle.serde_json.specs.View.{view};
 ghost use Rattle.mesh_stroke.specs.Styles.{stroke_style_of};
 ghost use Rattle.mesh_request.specs.Reading.{stroke_of, stroke_style_in, uncapped_in, IsOfReading};
-ghost use Rattle.mesh_request.specs.Midway.{uncapped_of};
+ghost use Rattle.mesh_request.specs.Private.Uncapped.{uncapped_of};
 ghost use Rattle.mesh_request.specs.Requests.{drawn_stroke};
 
 use crate::drawing::Stroke;

@@ -2,7 +2,7 @@
 
 use super::StrokeRow;
 use crate::styles::CapRow;
-use mesh_toolbox::joins::JoinKind;
+use mesh_test_support::joins::JoinKind;
 
 pub const SMALL_STROKES: &[StrokeRow] = &[
     (

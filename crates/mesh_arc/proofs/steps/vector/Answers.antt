@@ -1,6 +1,6 @@
 -- A direction's components are at most the unit.
 use Rattle.std.proofs.Common.{◌∙◌, rules}
-use Rattle.mesh_grid.specs.Direction.{IsShort}
+use Rattle.mesh_num.specs.Direction.{IsShort}
 use Rattle.mesh_arc.proofs.Sizes.{short_safe}
 use Rattle.mesh_arc.proofs.steps.vector.Goals as goal
 

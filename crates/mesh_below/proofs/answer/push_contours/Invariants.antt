@@ -1,6 +1,6 @@
 use Rattle.std.proofs.Common.{take}
 use Rattle.mesh_num.specs.Paths.{paths_of}
-use Rattle.mesh_below.specs.Midway.Rings.{PushesContours}
+use Rattle.mesh_below.specs.Private.Rings.{PushesContours}
 use Rattle.mesh_below.proofs.answer.push_contours.Given as goal
 
 abbrev pub invariant-loop-contour : goal.invariant-loop-contour

@@ -5,9 +5,9 @@ use Rattle.std.specs.declared.alloc.Global.{Global}
 use Rattle.mesh_num.specs.Paths.{contours_of, shapes_of}
 use Rattle.mesh_plane.specs.Plane.{Point}
 use Rattle.mesh_plane.specs.Winding.{boundary}
-use Rattle.mesh_cuts.specs.FillRules.{filled}
-use Rattle.mesh_cuts.specs.Reach.{ArePointsSafe}
-use Rattle.mesh_cuts.specs.declared.fill.FillRule.TheVariants.{Positive}
+use Rattle.mesh_lattice.specs.FillRules.{filled}
+use Rattle.mesh_lattice.specs.Reach.{ArePointsSafe}
+use Rattle.mesh_lattice.specs.declared.fill.FillRule.TheVariants.{Positive}
 use Rattle.mesh_shapes.specs.Resolution.{Choices}
 use Rattle.mesh_shapes.specs.Vectors.{contour_edges}
 use Rattle.mesh_below.specs.Answers.{AreOwnBoundary}

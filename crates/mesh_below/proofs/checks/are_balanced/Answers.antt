@@ -2,7 +2,7 @@ use Rattle.std.proofs.Common.{◌≡◌, List, map, sym, ◌∙◌, ap}
 use Rattle.std.specs.Prelude.{ℤ}
 use Rattle.mesh_plane.specs.Plane.{Edge}
 use Rattle.mesh_plane.specs.Winding.{IsBalanced, sum_of}
-use Rattle.mesh_cuts.specs.Split.{back}
+use Rattle.mesh_lattice.specs.Split.{back}
 use Rattle.mesh_below.proofs.Asking.{start, alike_balanced, balanced_alike}
 use Rattle.mesh_below.proofs.checks.are_balanced.Goals as goal
 

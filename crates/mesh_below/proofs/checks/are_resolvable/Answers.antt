@@ -5,7 +5,7 @@ use Rattle.mesh_plane.specs.Plane.{Edge}
 use Rattle.mesh_num.specs.Segments.{edges_of}
 use Rattle.mesh_plane.specs.Winding.{IsBalanced}
 use Rattle.mesh_below.specs.Asked.{AreResolvable}
-use Rattle.mesh_cuts.specs.Reach.{AreEdgesSafe}
+use Rattle.mesh_lattice.specs.Reach.{AreEdgesSafe}
 use Rattle.mesh_below.proofs.checks.are_resolvable.Goals as goal
 
 pub returns-then-not-are_safe : goal.returns-then-not-are_safe

@@ -1,5 +1,5 @@
 use Rattle.std.proofs.Common.{take}
-use Rattle.mesh_cuts.specs.Reach.{AreEdgesSafe}
+use Rattle.mesh_lattice.specs.Reach.{AreEdgesSafe}
 use Rattle.mesh_below.proofs.checks.are_safe.Given as goal
 
 abbrev pub invariant-loop-e : goal.invariant-loop-e

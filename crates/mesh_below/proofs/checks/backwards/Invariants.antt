@@ -1,5 +1,5 @@
 use Rattle.std.proofs.Common.{◌≡◌, map, take}
-use Rattle.mesh_cuts.specs.Split.{back}
+use Rattle.mesh_lattice.specs.Split.{back}
 use Rattle.mesh_below.proofs.checks.backwards.Given as goal
 
 abbrev pub invariant-loop-e : goal.invariant-loop-e

@@ -1,6 +1,6 @@
 use Rattle.std.proofs.Common.{sym, ◌∙◌, true}
 use Rattle.std.proofs.lemmas.Bool.{both_ways, false≢true}
-use Rattle.mesh_cuts.proofs.Each.{proper_at}
+use Rattle.mesh_lattice.proofs.Each.{proper_at}
 use Rattle.mesh_below.proofs.Subjects.{proper_none, proper_more, proper_whole}
 use Rattle.mesh_below.proofs.given.are_proper.Goals as goal
 

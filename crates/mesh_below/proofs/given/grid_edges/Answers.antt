@@ -2,7 +2,7 @@ use Rattle.std.proofs.Common.{subst, sym, ap, ◌∙◌, List, [], ◌∷◌, �
 use Rattle.std.proofs.lemmas.List.{map_more, take_all}
 use Rattle.mesh_plane.specs.Plane.{Edge}
 use Rattle.mesh_num.specs.Segments.{SignedEdge, edge_of, edges_of}
-use Rattle.mesh_cuts.specs.Clean.{IsProper}
+use Rattle.mesh_lattice.specs.Clean.{IsProper}
 use Rattle.mesh_below.proofs.Subjects.{subjects_proper}
 use Rattle.mesh_below.proofs.given.grid_edges.Goals as goal
 

@@ -5,11 +5,11 @@ use Rattle.mesh_below.proofs.AnswerRegions.{filled_none}
 use Rattle.mesh_below.proofs.Resolving.{parts_split, parted_balanced, boundary_proper, same_boundary, resolved}
 use Rattle.mesh_below.proofs.Settled.{resolved_settled, resolved_bounds}
 use Rattle.mesh_below.proofs.resolve.resolve.Goals as goal
-use Rattle.mesh_cuts.specs.Boundary.{IsBoundary}
-use Rattle.mesh_cuts.specs.Counted.{Counted, IsCountOf}
-use Rattle.mesh_cuts.specs.FillRules.{filled}
+use Rattle.mesh_lattice.specs.Boundary.{IsBoundary}
+use Rattle.mesh_lattice.specs.Counted.{Counted, IsCountOf}
+use Rattle.mesh_lattice.specs.FillRules.{filled}
 use Rattle.mesh_shapes.specs.Resolution.{Choices}
-use Rattle.mesh_cuts.specs.Split.{after}
+use Rattle.mesh_lattice.specs.Split.{after}
 use Rattle.mesh_shapes.specs.Vectors.{contour_edges}
 use Rattle.mesh_shapes.proofs.Walking.{counts_same, same_balanced}
 

@@ -3,12 +3,12 @@ use Rattle.std.specs.Prelude.{ℤ, ◌+ℤ◌, ◌-ℤ◌}
 use mir.Syntax.{w128}
 use mir.Val.{to_z, of_z}
 use Rattle.mesh_plane.specs.Plane.{Edge}
-use Rattle.mesh_cuts.specs.Boundary.{left_winding, right_winding}
-use Rattle.mesh_cuts.specs.Counted.{Counted}
-use Rattle.mesh_cuts.specs.Split.{back}
-use Rattle.mesh_sides.specs.Star.{net_before}
-use Rattle.mesh_boundary.specs.Midway.Flood.{IsLevel}
-use Rattle.mesh_boundary.specs.Midway.Stars.{segments_at, counted_before}
+use Rattle.mesh_lattice.specs.Boundary.{left_winding, right_winding}
+use Rattle.mesh_lattice.specs.Counted.{Counted}
+use Rattle.mesh_lattice.specs.Split.{back}
+use Rattle.mesh_regions.specs.Star.{net_before}
+use Rattle.mesh_boundary.specs.Private.Flood.{IsLevel}
+use Rattle.mesh_boundary.specs.Private.Stars.{segments_at, counted_before}
 use Rattle.mesh_boundary.proofs.Levels.{checked, left_from, end_from}
 use Rattle.mesh_boundary.proofs.flood.across.Goals as goal
 

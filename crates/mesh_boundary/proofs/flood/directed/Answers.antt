@@ -1,5 +1,5 @@
 use Rattle.std.proofs.Common.{sym, subst}
-use Rattle.mesh_boundary.specs.Midway.Stars.{IsSegment}
+use Rattle.mesh_boundary.specs.Private.Stars.{IsSegment}
 use Rattle.mesh_boundary.proofs.Levels.{segment_back}
 use Rattle.mesh_boundary.proofs.flood.directed.Goals as goal
 

@@ -2,8 +2,8 @@ use Rattle.std.proofs.Common.{rules, ◌≡◌, ◌∙◌}
 use Rattle.std.specs.Prelude.{ℤ, ◌+ℤ◌}
 use mir.Syntax.{w128}
 use mir.Val.{to_z, of_z}
-use Rattle.mesh_cuts.specs.Boundary.{right_winding}
-use Rattle.mesh_sides.specs.Star.{net_before}
+use Rattle.mesh_lattice.specs.Boundary.{right_winding}
+use Rattle.mesh_regions.specs.Star.{net_before}
 use Rattle.mesh_boundary.proofs.Levels.{checked, right_from}
 use Rattle.mesh_boundary.proofs.flood.right_of.Goals as goal
 

@@ -2,9 +2,9 @@ use Rattle.std.proofs.Common.{◌≡◌, ◌∙◌, ap, sym, subst, arith, take,
 use Rattle.std.specs.Prelude.{pos}
 use Rattle.std.specs.List.{flat_map}
 use Rattle.mesh_plane.specs.Plane.{Edge}
-use Rattle.mesh_cuts.specs.Boundary.{IsBoundary}
-use Rattle.mesh_cuts.specs.Counted.{Counted}
-use Rattle.mesh_cuts.specs.FillRules.{filled}
+use Rattle.mesh_lattice.specs.Boundary.{IsBoundary}
+use Rattle.mesh_lattice.specs.Counted.{Counted}
+use Rattle.mesh_lattice.specs.FillRules.{filled}
 use Rattle.mesh_boundary.proofs.BoundaryCounted.{emitted, emitted_more, counted_boundary}
 use Rattle.mesh_boundary.proofs.sides.boundary_by.Goals as goal
 

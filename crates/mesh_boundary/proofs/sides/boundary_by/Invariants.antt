@@ -1,9 +1,9 @@
 use Rattle.std.proofs.Common.{◌≡◌, take, List}
 use Rattle.std.specs.List.{flat_map}
 use Rattle.mesh_plane.specs.Plane.{Edge}
-use Rattle.mesh_cuts.specs.Counted.{IsCountOf}
-use Rattle.mesh_cuts.specs.FillRules.{filled}
-use Rattle.mesh_sides.specs.Laws.{AreSplit}
+use Rattle.mesh_lattice.specs.Counted.{IsCountOf}
+use Rattle.mesh_lattice.specs.FillRules.{filled}
+use Rattle.mesh_regions.specs.SideLaws.{AreSplit}
 use Rattle.mesh_boundary.proofs.BoundaryCounted.{emitted}
 use Rattle.mesh_boundary.proofs.sides.boundary_by.Given as goal
 

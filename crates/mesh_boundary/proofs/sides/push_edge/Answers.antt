@@ -4,9 +4,9 @@ use Rattle.std.specs.Prelude.{ℤ}
 use mir.Syntax.{w128}
 use mir.Val.{to_z, of_z}
 use Rattle.mesh_plane.specs.Plane.{Edge}
-use Rattle.mesh_cuts.specs.FillRules.{filled}
-use Rattle.mesh_cuts.specs.Split.{back}
-use Rattle.mesh_boundary.specs.Midway.CountedSides.{is_parted, boundary_edge}
+use Rattle.mesh_lattice.specs.FillRules.{filled}
+use Rattle.mesh_lattice.specs.Split.{back}
+use Rattle.mesh_boundary.specs.Private.CountedSides.{is_parted, boundary_edge}
 use Rattle.mesh_boundary.proofs.sides.push_edge.Goals as goal
 
 -- the edge of a segment, by its two tests

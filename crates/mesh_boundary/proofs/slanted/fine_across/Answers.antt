@@ -7,7 +7,7 @@ use Rattle.mesh_plane.specs.Bounds.{IsSmall}
 use Rattle.mesh_plane.specs.Plane.{Point, cross}
 use Rattle.mesh_plane.specs.Winding.{refined}
 use Rattle.mesh_plane.proofs.Whole.{linear, multiplied}
-use Rattle.mesh_cuts.proofs.Arithmetic.{small_fits, small_kept}
+use Rattle.mesh_lattice.proofs.Arithmetic.{small_fits, small_kept}
 use Rattle.mesh_boundary.proofs.slanted.fine_across.Goals as goal
 
 twice_small : (z : ℤ) → IsSmall (2 ^ 65) z → IsSmall (2 ^ 66) (pos 2 *ℤ z)

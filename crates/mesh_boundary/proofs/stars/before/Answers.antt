@@ -2,9 +2,9 @@ use Rattle.std.proofs.Common.{rules, ◌≡◌, ◌∙◌, ap, sym, get_or}
 use Rattle.std.specs.Prelude.{pos, ◌+ℤ◌, ◌-ℤ◌, ◌*ℤ◌}
 use mir.Syntax.{w128}
 use mir.Val.{to_z, of_z}
-use Rattle.mesh_cuts.specs.Counted.{Counted, bit}
-use Rattle.mesh_cuts.specs.Split.{back}
-use Rattle.mesh_sides.specs.Star.{leaves_before}
+use Rattle.mesh_lattice.specs.Counted.{Counted, bit}
+use Rattle.mesh_lattice.specs.Split.{back}
+use Rattle.mesh_regions.specs.Star.{leaves_before}
 use Rattle.mesh_boundary.proofs.StarLists.{sum_at_more}
 use Rattle.mesh_boundary.proofs.stars.before.Goals as goal
 

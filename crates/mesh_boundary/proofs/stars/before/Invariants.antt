@@ -1,5 +1,5 @@
 use Rattle.std.proofs.Common.{◌≡◌, take}
-use Rattle.mesh_boundary.specs.Midway.Stars.{counted_before, segments_at}
+use Rattle.mesh_boundary.specs.Private.Stars.{counted_before, segments_at}
 use Rattle.mesh_boundary.proofs.stars.before.Given as goal
 
 abbrev pub invariant-loop-k : goal.invariant-loop-k

@@ -2,10 +2,10 @@ use Rattle.std.proofs.Common.{◌∙◌, sym, ap, arith, get_or, take}
 use Rattle.std.proofs.lemmas.Int.{ints}
 use Rattle.std.specs.Prelude.{pos}
 use Rattle.std.proofs.lemmas.List.{get_or_default}
-use Rattle.mesh_cuts.specs.Counted.{Counted, size}
+use Rattle.mesh_lattice.specs.Counted.{Counted, size}
 use Rattle.mesh_plane.proofs.Sums.{sum_least}
 use Rattle.mesh_boundary.proofs.SidesCode.{size_least, next_part}
-use Rattle.mesh_boundary.specs.Midway.CountedSides.{sides_of}
+use Rattle.mesh_boundary.specs.Private.CountedSides.{sides_of}
 use Rattle.mesh_boundary.proofs.BoundaryCounted.{sided}
 use Rattle.mesh_boundary.proofs.StarLists.{have_stars, segment_at, shaped}
 use Rattle.mesh_boundary.proofs.ways.known_sides.Goals as goal

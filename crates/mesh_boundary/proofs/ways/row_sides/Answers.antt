@@ -3,9 +3,9 @@ use Rattle.std.specs.Prelude.{ℤ, pos}
 use Rattle.std.proofs.lemmas.Int.{ints}
 use Rattle.std.proofs.lemmas.List.{get_or_default}
 use Rattle.mesh_plane.proofs.Sums.{sum_least}
-use Rattle.mesh_cuts.specs.Boundary.{middle}
-use Rattle.mesh_cuts.specs.Counted.{Counted, size}
-use Rattle.mesh_boundary.specs.Midway.CountedSides.{counted_winding, sides_by, sides_of}
+use Rattle.mesh_lattice.specs.Boundary.{middle}
+use Rattle.mesh_lattice.specs.Counted.{Counted, size}
+use Rattle.mesh_boundary.specs.Private.CountedSides.{counted_winding, sides_by, sides_of}
 use Rattle.mesh_boundary.proofs.RowSums.{row_sum, row_size}
 use Rattle.mesh_boundary.proofs.SidesCode.{size_least, next_part}
 use Rattle.mesh_boundary.proofs.ways.row_sides.Goals as goal

@@ -4,8 +4,8 @@ use Rattle.std.proofs.lemmas.Int.{ints}
 use mir.Syntax.{w128}
 use mir.Val.{to_z, of_z}
 use Rattle.mesh_plane.specs.Bounds.{IsSmall}
-use Rattle.mesh_cuts.specs.Counted.{IsRoomy}
-use Rattle.mesh_cuts.proofs.Arithmetic.{small_fits, small_kept}
+use Rattle.mesh_lattice.specs.Counted.{IsRoomy}
+use Rattle.mesh_lattice.proofs.Arithmetic.{small_fits, small_kept}
 use Rattle.mesh_boundary.proofs.SidesCode.{count_small}
 use Rattle.mesh_boundary.proofs.ways.sides_by.Goals as goal
 

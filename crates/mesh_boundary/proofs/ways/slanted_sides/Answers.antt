@@ -6,11 +6,11 @@ use mir.Syntax.{w128}
 use mir.Val.{to_z, of_z}
 use Rattle.mesh_plane.specs.Plane.{Point, cross}
 use Rattle.mesh_plane.proofs.Sums.{sum_least}
-use Rattle.mesh_cuts.specs.Boundary.{middle}
-use Rattle.mesh_cuts.specs.Counted.{Counted, size}
-use Rattle.mesh_cuts.specs.Marks.{place}
-use Rattle.mesh_boundary.specs.Midway.CountedSides.{counted_winding, sides_by, sides_of}
-use Rattle.mesh_boundary.specs.Midway.Slants.{level_of, listed_winding}
+use Rattle.mesh_lattice.specs.Boundary.{middle}
+use Rattle.mesh_lattice.specs.Counted.{Counted, size}
+use Rattle.mesh_lattice.specs.Marks.{place}
+use Rattle.mesh_boundary.specs.Private.CountedSides.{counted_winding, sides_by, sides_of}
+use Rattle.mesh_boundary.specs.Private.Slants.{level_of, listed_winding}
 use Rattle.mesh_boundary.proofs.SidesCode.{size_least, next_part}
 use Rattle.mesh_boundary.proofs.Slants.{slanted_row, slanted_size, slanted_counts}
 use Rattle.mesh_boundary.proofs.ways.slanted_sides.Goals as goal

@@ -3,7 +3,7 @@ use Rattle.std.specs.Prelude.{ℤ, pos, neg_ℤ, ◌-ℤ◌, ◌*ℤ◌, ◌≤�
 use Rattle.std.proofs.lemmas.Int.{ints}
 use Rattle.mesh_plane.specs.Bounds.{IsSmall}
 use Rattle.mesh_plane.specs.Winding.{crossing}
-use Rattle.mesh_cuts.proofs.Arithmetic.{small_kept}
+use Rattle.mesh_lattice.proofs.Arithmetic.{small_kept}
 use Rattle.mesh_boundary.proofs.SidesCode.{times_up, times_down, times_none, count_small}
 use Rattle.mesh_boundary.proofs.winding.counted_crossing.Goals as goal
 

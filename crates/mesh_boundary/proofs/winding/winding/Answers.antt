@@ -4,8 +4,8 @@ use Rattle.std.proofs.lemmas.Int.{ints, to_z-of_z}
 use mir.Syntax.{w128}
 use mir.Val.{SFits, to_z, of_z}
 use Rattle.mesh_plane.specs.Winding.{sum_of, crossing_on}
-use Rattle.mesh_cuts.specs.Counted.{Counted}
-use Rattle.mesh_cuts.specs.Counted.{size}
+use Rattle.mesh_lattice.specs.Counted.{Counted}
+use Rattle.mesh_lattice.specs.Counted.{size}
 use Rattle.mesh_boundary.proofs.SidesCode.{size_least, next_part, sum_more, adds_of}
 use Rattle.mesh_plane.proofs.Sums.{sum_least}
 use Rattle.mesh_boundary.proofs.winding.winding.Goals as goal

@@ -4,7 +4,7 @@ use Rattle.std.specs.Prelude.{ℤ, unsigned_abs}
 use Rattle.std.proofs.lemmas.Int.{ints}
 use mir.Syntax.{w128}
 use mir.Val.{to_z, of_z}
-use Rattle.mesh_grid.specs.Quotient.{rounded_product}
+use Rattle.mesh_num.specs.Quotient.{rounded_product}
 use Rattle.mesh_join.proofs.Quotients.{product_small}
 use Rattle.mesh_join.proofs.miter.clip_reach.Goals as goal
 

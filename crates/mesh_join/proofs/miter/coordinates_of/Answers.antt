@@ -1,6 +1,6 @@
 -- The components of a direction, widened.
 use Rattle.std.proofs.Common.{◌∙◌, ◌^◌, subst, sym, rules}
-use Rattle.mesh_join.specs.Midway.Miters.{IsNarrow}
+use Rattle.mesh_join.specs.Private.Miters.{IsNarrow}
 use Rattle.mesh_join.proofs.Wide.{pair_read, short_narrow}
 use Rattle.mesh_join.proofs.miter.coordinates_of.Goals as goal
 

@@ -4,7 +4,7 @@ use Rattle.std.specs.Prelude.{ℤ}
 use Rattle.std.proofs.lemmas.Int.{to_z-of_z, ints}
 use mir.Syntax.{w32, w128}
 use Rattle.mesh_plane.specs.Plane.{Point}
-use Rattle.mesh_join.specs.Midway.Miters.{IsHalfSine}
+use Rattle.mesh_join.specs.Private.Miters.{IsHalfSine}
 use Rattle.mesh_join.specs.Miters.{miter_padding, reach}
 use Rattle.mesh_join.proofs.Miters.{half_sine}
 use Rattle.mesh_join.proofs.miter.padding.Goals as goal

@@ -3,7 +3,7 @@ use Rattle.std.proofs.Common.{◌^◌, arith, rules}
 use Rattle.std.proofs.lemmas.Int.{to_z-of_z, ints}
 use mir.Syntax.{w128}
 use Rattle.mesh_plane.specs.Plane.{minus}
-use Rattle.mesh_join.specs.Midway.Miters.{IsNarrow}
+use Rattle.mesh_join.specs.Private.Miters.{IsNarrow}
 use Rattle.mesh_join.proofs.Quotients.{cross_small}
 use Rattle.mesh_join.proofs.miter.peak_share.Goals as goal
 

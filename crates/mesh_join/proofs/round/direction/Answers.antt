@@ -1,6 +1,6 @@
 -- A vector's direction is the one that the definition gives.
 use Rattle.mesh_plane.specs.Plane.{minus}
-use Rattle.mesh_grid.proofs.Directed.{is_direction_of}
+use Rattle.mesh_num.proofs.Directed.{is_direction_of}
 use Rattle.mesh_join.proofs.round.direction.Goals as goal
 
 pub returns-clause-value : goal.returns-clause-value

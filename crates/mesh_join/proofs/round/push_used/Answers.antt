@@ -5,7 +5,7 @@ use Rattle.std.proofs.lemmas.Result.{on_ok_weaker}
 use Rattle.mesh_plane.specs.Plane.{Point}
 use Rattle.mesh_plane.specs.Winding.{route}
 use Rattle.mesh_num.specs.Segments.{segments_of}
-use Rattle.mesh_join.specs.Midway.RoundJoins.{used_past}
+use Rattle.mesh_join.specs.Private.RoundJoins.{used_past}
 use Rattle.mesh_join.specs.RoundJoins.{arc_point, used}
 use Rattle.mesh_join.proofs.Drawing.{IsDrawn, drawing_starts, drawing_takes, drawing_skips, drawing_ends, still_kept}
 use Rattle.mesh_join.proofs.RoundJoins.{past_none, past_takes, past_skips}

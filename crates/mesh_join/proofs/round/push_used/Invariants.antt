@@ -1,5 +1,5 @@
 use Rattle.std.proofs.Common.{take, vec_capacity}
-use Rattle.mesh_join.specs.Midway.RoundJoins.{used_past}
+use Rattle.mesh_join.specs.Private.RoundJoins.{used_past}
 use Rattle.mesh_join.proofs.Drawing.{IsDrawn}
 use Rattle.mesh_join.proofs.round.push_used.Given as goal
 

@@ -1,6 +1,6 @@
 use Rattle.std.proofs.Common.{◌≡◌, ◌++◌, drop}
 use Rattle.mesh_shapes.specs.Vectors.{rings_of_vecs}
-use Rattle.mesh_shapes.specs.Midway.Grouping.{areas_of}
+use Rattle.mesh_shapes.specs.Private.Grouping.{areas_of}
 use Rattle.mesh_shapes.proofs.arrange.areas.Given as goal
 
 abbrev pub invariant-loop-r : goal.invariant-loop-r

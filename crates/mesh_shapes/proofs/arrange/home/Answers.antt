@@ -2,11 +2,11 @@ use Rattle.std.proofs.Common.{rules, ◌≡◌, ℕ, false, length, ap, subst, a
 use Rattle.std.specs.Prelude.{pos, int_lt}
 use Rattle.std.proofs.lemmas.List.{length-map}
 use Rattle.mesh_shapes.specs.Contours.{double_area}
-use Rattle.mesh_shapes.specs.Midway.Holders.{Rise, placed_edges}
+use Rattle.mesh_shapes.specs.Private.Holders.{Rise, placed_edges}
 use Rattle.mesh_shapes.specs.Resolution.{Ring}
 use Rattle.mesh_shapes.specs.Vectors.{ring_of_vec, rings_of_vecs}
 use Rattle.mesh_shapes.proofs.HolderRows.{row_rises, row_tells}
-use Rattle.mesh_rows.proofs.RowLists.{row_is}
+use Rattle.mesh_lattice.proofs.RowLists.{row_is}
 use Rattle.mesh_shapes.proofs.Shapes.{home_none, home_some}
 use Rattle.mesh_shapes.proofs.arrange.home.Goals as goal
 

@@ -1,12 +1,12 @@
 use Rattle.std.proofs.Common.{◌≡◌, ℕ, ◌<◌, false, List, length, get_or, sym, ◌∙◌, ap, subst, arith}
 use Rattle.std.specs.Prelude.{ℤ, pos, int_lt}
 use Rattle.std.proofs.lemmas.List.{length-map}
-use Rattle.mesh_rows.specs.Rows.{AreRows}
+use Rattle.mesh_lattice.specs.Rows.{AreRows}
 use Rattle.mesh_shapes.specs.Contours.{double_area}
 use Rattle.mesh_shapes.specs.Resolution.{Ring}
 use Rattle.mesh_shapes.specs.Vectors.{ring_of_vec, rings_of_vecs}
-use Rattle.mesh_shapes.specs.Midway.Grouping.{areas_of, IsHome}
-use Rattle.mesh_shapes.specs.Midway.Holders.{PlacedEdge}
+use Rattle.mesh_shapes.specs.Private.Grouping.{areas_of, IsHome}
+use Rattle.mesh_shapes.specs.Private.Holders.{PlacedEdge}
 use Rattle.mesh_shapes.proofs.Shapes.{known_more}
 use Rattle.mesh_shapes.proofs.arrange.homes.Goals as goal
 

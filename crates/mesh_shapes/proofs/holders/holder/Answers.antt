@@ -4,7 +4,7 @@ use Rattle.std.specs.Ordering.{int_eq}
 use Rattle.std.proofs.lemmas.List.{length-map}
 use Rattle.mesh_shapes.specs.Contours.{double_area}
 use Rattle.mesh_shapes.specs.Resolution.{Ring}
-use Rattle.mesh_shapes.specs.Midway.Holders.{PlacedEdge, Rise, IsSearch}
+use Rattle.mesh_shapes.specs.Private.Holders.{PlacedEdge, Rise, IsSearch}
 use Rattle.mesh_shapes.proofs.AreaSums.{fits_long, some_elements}
 use Rattle.mesh_shapes.proofs.HolderSearch.{search_none, search_end, rise_first, next_edge, past_edges}
 use Rattle.mesh_shapes.proofs.holders.holder.Goals as goal

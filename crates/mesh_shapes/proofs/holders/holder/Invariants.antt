@@ -2,8 +2,8 @@ use Rattle.std.proofs.Common.{◌≡◌, ◌<◌, ◌≤◌, List, drop, length}
 use Rattle.std.specs.Prelude.{unsigned_abs}
 use Rattle.std.specs.Option.{ForSome}
 use Rattle.mesh_shapes.specs.Resolution.{Ring}
-use Rattle.mesh_shapes.specs.Midway.Grouping.{areas_of}
-use Rattle.mesh_shapes.specs.Midway.Holders.{Rise, IsRowOf, IsSearch}
+use Rattle.mesh_shapes.specs.Private.Grouping.{areas_of}
+use Rattle.mesh_shapes.specs.Private.Holders.{Rise, IsRowOf, IsSearch}
 use Rattle.mesh_shapes.proofs.holders.holder.Given as goal
 
 abbrev pub invariant-loop-e : goal.invariant-loop-e

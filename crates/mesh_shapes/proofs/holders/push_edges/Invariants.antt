@@ -1,7 +1,7 @@
 use Rattle.std.proofs.Common.{◌≡◌, ◌++◌, drop}
 use Rattle.mesh_plane.specs.Winding.{boundary, route}
-use Rattle.mesh_shapes.specs.Midway.Holders.{with_place}
-use Rattle.mesh_shapes.specs.Midway.Progress.{point_at}
+use Rattle.mesh_shapes.specs.Private.Holders.{with_place}
+use Rattle.mesh_shapes.specs.Private.Progress.{point_at}
 use Rattle.mesh_shapes.proofs.holders.push_edges.Given as goal
 
 abbrev pub invariant-loop-i : goal.invariant-loop-i

@@ -4,7 +4,7 @@ use Rattle.std.proofs.lemmas.List.{length-map}
 use Rattle.mesh_plane.specs.Plane.{Point}
 use Rattle.mesh_plane.specs.Winding.{boundary}
 use Rattle.mesh_shapes.specs.Vectors.{ring_of_vec}
-use Rattle.mesh_shapes.specs.Midway.Holders.{PlacedEdge, with_place}
+use Rattle.mesh_shapes.specs.Private.Holders.{PlacedEdge, with_place}
 use Rattle.mesh_shapes.proofs.HolderRows.{ring_added}
 use Rattle.mesh_shapes.proofs.holders.push_ring.Goals as goal
 

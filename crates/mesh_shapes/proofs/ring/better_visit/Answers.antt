@@ -2,7 +2,7 @@ use Rattle.std.proofs.Common.{◌≡◌, ◌∙◌, sym}
 use Rattle.std.proofs.lemmas.Bool.{both_ways}
 use Rattle.mesh_plane.specs.Order.{point_lt}
 use Rattle.mesh_plane.specs.Winding.{same_point}
-use Rattle.mesh_shapes.specs.Midway.Progress.{point_at}
+use Rattle.mesh_shapes.specs.Private.Progress.{point_at}
 use Rattle.mesh_shapes.proofs.ContoursBegun.{visit_same, visit_better}
 use Rattle.mesh_shapes.proofs.ring.better_visit.Goals as goal
 use Rattle.mesh_plane.proofs.Comparing.{decides_point}

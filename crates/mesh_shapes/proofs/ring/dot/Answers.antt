@@ -1,7 +1,7 @@
 use Rattle.std.proofs.Common.{lit≤, ◌^◌}
 use Rattle.std.specs.Prelude.{◌+ℤ◌}
 use Rattle.mesh_plane.specs.Bounds.{IsSmall}
-use Rattle.mesh_cuts.proofs.Arithmetic.{small_kept, small_sum, small_fits}
+use Rattle.mesh_lattice.proofs.Arithmetic.{small_kept, small_sum, small_fits}
 use Rattle.mesh_shapes.proofs.ring.dot.Goals as goal
 
 pub overflow_add-result : goal.overflow_add-result

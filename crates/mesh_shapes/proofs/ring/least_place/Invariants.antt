@@ -1,4 +1,4 @@
-use Rattle.mesh_shapes.specs.Midway.Progress.{IsLeastBefore}
+use Rattle.mesh_shapes.specs.Private.Progress.{IsLeastBefore}
 use Rattle.mesh_shapes.proofs.ring.least_place.Given as goal
 
 abbrev pub invariant-loop-i : goal.invariant-loop-i

@@ -1,7 +1,7 @@
 use Rattle.std.proofs.Common.{drop}
 use Rattle.std.specs.List.{All}
 use Rattle.mesh_shapes.specs.Contours.{StartsOnce, omitted, left_out}
-use Rattle.mesh_shapes.specs.Midway.Progress.{point_at}
+use Rattle.mesh_shapes.specs.Private.Progress.{point_at}
 use Rattle.mesh_shapes.proofs.ring.leaves_lone_points.Given as goal
 
 abbrev pub invariant-loop-i : goal.invariant-loop-i

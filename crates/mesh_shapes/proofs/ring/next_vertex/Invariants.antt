@@ -1,5 +1,5 @@
 use Rattle.std.proofs.Common.{◌≡◌, drop}
-use Rattle.mesh_shapes.specs.Midway.Progress.{point_at, next_at, next_kept}
+use Rattle.mesh_shapes.specs.Private.Progress.{point_at, next_at, next_kept}
 use Rattle.mesh_shapes.proofs.ring.next_vertex.Given as goal
 
 abbrev pub invariant-loop-i : goal.invariant-loop-i

@@ -2,7 +2,7 @@ use Rattle.std.proofs.Common.{◌∙◌, ap, subst, List, length}
 use Rattle.std.specs.List.{All}
 use Rattle.mesh_plane.specs.Plane.{Point}
 use Rattle.mesh_shapes.specs.Contours.{vertices, side_point, left_out, StartsOnce}
-use Rattle.mesh_shapes.specs.Midway.Progress.{IsLeastBefore, IsBestVisit}
+use Rattle.mesh_shapes.specs.Private.Progress.{IsLeastBefore, IsBestVisit}
 use Rattle.mesh_shapes.proofs.ContoursBegun.{ring_among}
 use Rattle.mesh_shapes.proofs.ring.ring_of.Goals as goal
 

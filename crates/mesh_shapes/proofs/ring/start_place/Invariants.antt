@@ -1,4 +1,4 @@
-use Rattle.mesh_shapes.specs.Midway.Progress.{IsBestVisit}
+use Rattle.mesh_shapes.specs.Private.Progress.{IsBestVisit}
 use Rattle.mesh_shapes.proofs.ring.start_place.Given as goal
 
 abbrev pub invariant-loop-i : goal.invariant-loop-i

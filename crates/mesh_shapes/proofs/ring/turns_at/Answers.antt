@@ -1,7 +1,7 @@
 use Rattle.std.proofs.Common.{lit≤, ◌≡◌, ◌^◌, ◌∙◌, sym, ap, eqb-true, eq-eqb}
 use Rattle.std.specs.Prelude.{ℤ, pos, int_lt}
 use Rattle.mesh_plane.specs.Plane.{minus, cross, dot}
-use Rattle.mesh_cuts.proofs.Arithmetic.{zero_bits, small_fits, small_kept}
+use Rattle.mesh_lattice.proofs.Arithmetic.{zero_bits, small_fits, small_kept}
 use Rattle.mesh_shapes.proofs.ContoursBegun.{corner_yes, corner_flat}
 use mir.Val.{of_z}
 use mir.Syntax.{w128}

@@ -1,6 +1,6 @@
 use Rattle.std.proofs.Common.{◌≡◌, ◌++◌, drop}
 use Rattle.mesh_shapes.specs.Contours.{kept, vertices}
-use Rattle.mesh_shapes.specs.Midway.Progress.{point_at}
+use Rattle.mesh_shapes.specs.Private.Progress.{point_at}
 use Rattle.mesh_shapes.proofs.ring.vertices.Given as goal
 
 abbrev pub invariant-loop-i : goal.invariant-loop-i

@@ -2,7 +2,7 @@ use Rattle.std.proofs.Common.{◌≡◌, ◌∙◌, ap, sym, subst, Bool, replic
 use Rattle.std.specs.Prelude.{ℤ}
 use Rattle.mesh_plane.specs.Plane.{Edge}
 use Rattle.mesh_plane.specs.Winding.{sum_of, IsBalanced}
-use Rattle.mesh_shapes.specs.Midway.Unused.{unused}
+use Rattle.mesh_shapes.specs.Private.Unused.{unused}
 use Rattle.mesh_shapes.proofs.Walking.{unused_all}
 use Rattle.mesh_shapes.proofs.walk.contours.Goals as goal
 

@@ -2,8 +2,8 @@ use Rattle.std.proofs.Common.{◌∙◌, ap, sym, get_or}
 use Rattle.std.specs.Prelude.{pos}
 use Rattle.std.proofs.lemmas.List.{get_or_default}
 use Rattle.mesh_plane.specs.Plane.{Edge}
-use Rattle.mesh_cuts.proofs.Options.{match_none}
-use Rattle.mesh_shapes.specs.Midway.Unused.{IsNext}
+use Rattle.mesh_lattice.proofs.Options.{match_none}
+use Rattle.mesh_shapes.specs.Private.Unused.{IsNext}
 use Rattle.mesh_shapes.proofs.Walking.{none_before, none_after, next_step}
 use Rattle.mesh_shapes.proofs.walk.next_edge.Goals as goal
 use Rattle.mesh_plane.proofs.Comparing.{decides_point}

@@ -1,6 +1,6 @@
 use Rattle.std.proofs.Common.{ℕ, ◌<◌}
 use Rattle.std.specs.Prelude.{MatchOption}
-use Rattle.mesh_shapes.specs.Midway.Unused.{IsNext}
+use Rattle.mesh_shapes.specs.Private.Unused.{IsNext}
 use Rattle.mesh_shapes.proofs.walk.next_edge.Given as goal
 
 abbrev pub invariant-loop-k : goal.invariant-loop-k

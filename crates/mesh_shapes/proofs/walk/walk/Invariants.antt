@@ -1,5 +1,5 @@
 use Rattle.std.proofs.Common.{length}
-use Rattle.mesh_shapes.specs.Midway.Unused.{unused}
+use Rattle.mesh_shapes.specs.Private.Unused.{unused}
 use Rattle.mesh_shapes.proofs.Walking.{IsWalk}
 use Rattle.mesh_shapes.proofs.walk.walk.Given as goal
 

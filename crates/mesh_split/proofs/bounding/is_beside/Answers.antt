@@ -3,7 +3,7 @@ use Rattle.std.specs.Prelude.{◌||◌}
 use Rattle.std.proofs.lemmas.Int.{to_z-of_z}
 use mir.Syntax.{w32}
 use mir.Val.{SFits}
-use Rattle.mesh_split.specs.Midway.BoundingBoxes.{are_beyond}
+use Rattle.mesh_split.specs.Private.BoundingBoxes.{are_beyond}
 use Rattle.mesh_split.proofs.bounding.is_beside.Goals as goal
 
 pub returns-else-are_beyond : goal.returns-else-are_beyond

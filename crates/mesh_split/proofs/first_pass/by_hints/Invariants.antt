@@ -1,5 +1,5 @@
 use Rattle.std.proofs.Common.{◌≡◌, []}
-use Rattle.mesh_split.specs.Midway.Steps.{IsPile}
+use Rattle.mesh_split.specs.Private.Steps.{IsPile}
 use Rattle.mesh_split.proofs.first_pass.by_hints.Given as goal
 
 abbrev pub invariant-loop-split : goal.invariant-loop-split

@@ -1,4 +1,4 @@
-use Rattle.mesh_split.specs.Midway.Steps.{IsPile, AllClear}
+use Rattle.mesh_split.specs.Private.Steps.{IsPile, AllClear}
 use Rattle.mesh_split.proofs.first_pass.in_hand.Given as goal
 
 abbrev pub invariant-loop-step : goal.invariant-loop-step

@@ -1,6 +1,6 @@
 use Rattle.std.proofs.Common.{◌∙◌, sym, subst, List}
-use Rattle.mesh_cuts.specs.Counted.{Counted}
-use Rattle.mesh_split.specs.Midway.Steps.{IsPile}
+use Rattle.mesh_lattice.specs.Counted.{Counted}
+use Rattle.mesh_split.specs.Private.Steps.{IsPile}
 use Rattle.mesh_split.proofs.Piles.{once_absent, once_moved, pile_moved, fewer_wait}
 use Rattle.mesh_split.proofs.first_pass.make_live.Goals as goal
 

@@ -1,5 +1,5 @@
 use Rattle.std.proofs.Common.{length}
-use Rattle.mesh_split.specs.Midway.Steps.{KeepsPile, StandOnce}
+use Rattle.mesh_split.specs.Private.Steps.{KeepsPile, StandOnce}
 use Rattle.mesh_split.proofs.first_pass.make_live.Given as goal
 
 abbrev pub invariant-loop-s : goal.invariant-loop-s

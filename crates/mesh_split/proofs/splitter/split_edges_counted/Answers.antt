@@ -1,7 +1,7 @@
 use Rattle.std.proofs.Common.{subst, sym, List}
 use Rattle.mesh_plane.specs.Winding.{sum_of}
-use Rattle.mesh_cuts.specs.Counted.{Counted, size, IsRoomy}
-use Rattle.mesh_cuts.specs.Splitting.{IsSplitting}
+use Rattle.mesh_lattice.specs.Counted.{Counted, size, IsRoomy}
+use Rattle.mesh_lattice.specs.Splitting.{IsSplitting}
 use Rattle.mesh_split.proofs.Paths.{splitting_of}
 use Rattle.mesh_split.proofs.Piles.{pile_settled}
 use Rattle.mesh_split.proofs.Starting.{settled_less, popped_room, popped_absent, end_reached}

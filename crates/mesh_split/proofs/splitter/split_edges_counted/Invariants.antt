@@ -1,5 +1,5 @@
 use Rattle.std.specs.Prelude.{unsigned_abs}
-use Rattle.mesh_split.specs.Midway.Steps.{IsPile, AllClear, work}
+use Rattle.mesh_split.specs.Private.Steps.{IsPile, AllClear, work}
 use Rattle.mesh_split.proofs.splitter.split_edges_counted.Given as goal
 
 abbrev pub invariant-loop-s : goal.invariant-loop-s

@@ -1,8 +1,8 @@
 use Rattle.std.proofs.Common.{ℕ, ◌<◌, get_or}
 use Rattle.std.specs.Prelude.{pos, ◌<ℤ◌}
 use Rattle.mesh_plane.specs.Plane.{Edge}
-use Rattle.mesh_cuts.specs.Split.{AreClear}
-use Rattle.mesh_split.specs.Midway.Steps.{exactly}
+use Rattle.mesh_lattice.specs.Split.{AreClear}
+use Rattle.mesh_split.specs.Private.Steps.{exactly}
 use Rattle.mesh_split.proofs.tree.in_part.Given as goal
 
 abbrev pub invariant-loop-e : goal.invariant-loop-e

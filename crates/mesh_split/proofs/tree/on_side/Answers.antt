@@ -1,7 +1,7 @@
 use Rattle.std.proofs.Common.{◌≡◌, true, ◌∙◌, sym}
 use Rattle.std.proofs.lemmas.Bool.{true≢false}
 use Rattle.mesh_plane.specs.Plane.{Edge}
-use Rattle.mesh_split.specs.Midway.Cells.{reaches}
+use Rattle.mesh_split.specs.Private.Cells.{reaches}
 use Rattle.mesh_split.proofs.Listing.{kept_none, kept_pushed, kept_left_out, kept_all}
 use Rattle.mesh_split.proofs.tree.on_side.Goals as goal
 use Rattle.mesh_split.proofs.tree.on_side.Goals.{then-reaches+in_ok-push, else-reaches}

@@ -1,6 +1,6 @@
 use Rattle.std.specs.Prelude.{◌≡◌, true}
 use Rattle.mesh_plane.specs.Plane.{Edge}
-use Rattle.mesh_split.specs.Midway.Cells.{reaches}
+use Rattle.mesh_split.specs.Private.Cells.{reaches}
 use Rattle.mesh_split.proofs.Listing.{AreKept}
 use Rattle.mesh_split.proofs.tree.on_side.Given as goal
 

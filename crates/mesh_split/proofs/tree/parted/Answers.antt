@@ -1,5 +1,5 @@
 use Rattle.std.proofs.Common.{Bool, cond}
-use Rattle.mesh_split.specs.Midway.Cells.{listed_at, StandsIn}
+use Rattle.mesh_split.specs.Private.Cells.{listed_at, StandsIn}
 use Rattle.mesh_split.proofs.Listing.{at_place}
 use Rattle.mesh_split.proofs.tree.parted.Goals as goal
 

@@ -1,7 +1,7 @@
 use Rattle.std.proofs.Common.{◌≡◌, false, not, ap, rules}
 use Rattle.std.proofs.lemmas.Fn.{filter_same}
 use Rattle.mesh_plane.specs.Plane.{Edge}
-use Rattle.mesh_cuts.specs.Split.{same_edge}
+use Rattle.mesh_lattice.specs.Split.{same_edge}
 use Rattle.mesh_split.proofs.Listing.{filtered_keeps}
 use Rattle.mesh_split.proofs.tree.take_out.Goals as goal
 

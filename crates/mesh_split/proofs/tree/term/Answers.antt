@@ -4,7 +4,7 @@ use Rattle.std.proofs.lemmas.Int.{to_z-of_z, ints}
 use mir.Syntax.{w16}
 use mir.Val.{SFits, to_z, of_z}
 use Rattle.mesh_plane.specs.Bounds.{IsSmall}
-use Rattle.mesh_cuts.proofs.Arithmetic.{small_product}
+use Rattle.mesh_lattice.proofs.Arithmetic.{small_product}
 use Rattle.mesh_split.proofs.tree.term.Goals as goal
 
 small_term : (a b : ℤ) → SFits w16 a → SFits w32 b → IsSmall (2 ^ 48) (a *ℤ b)

@@ -2,7 +2,7 @@
 use Rattle.std.proofs.Common.{◌≡◌, true, false, ℕ, ◌<◌, slice_index_or, ◌+◌, ◌∷◌, List, drop, length, sym, ◌∙◌, ap, arith}
 use Rattle.std.proofs.lemmas.List.{drop_more, drop_all, nil_from_length}
 use Rattle.mesh_join.specs.VariableStyles.{Vertex}
-use Rattle.mesh_draw.proofs.Adding.{on_ok_then}
+use Rattle.mesh_offset.proofs.Adding.{on_ok_then}
 use Rattle.mesh_variable_stroke.proofs.Thin.{thin_starts, thin_next, thin_steps}
 use Rattle.mesh_variable_stroke.proofs.Walking.{none_adds, walk_starts, next_safe, walk_steps, walk_ends, kept_through}
 use Rattle.mesh_variable_stroke.proofs.builder.draw.Goals as goal

@@ -1,6 +1,6 @@
 -- Both sides, or both ends, one after the other.
 use Rattle.std.proofs.Common.{◌∙◌, sym}
-use Rattle.mesh_draw.proofs.Adding.{on_ok_then}
+use Rattle.mesh_offset.proofs.Adding.{on_ok_then}
 use Rattle.mesh_variable_stroke.proofs.Stepping.{apart_added, met_added}
 use Rattle.mesh_variable_stroke.proofs.joint.add_joint.Goals as goal
 

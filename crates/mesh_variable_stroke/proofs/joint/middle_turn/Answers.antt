@@ -1,7 +1,7 @@
 -- The vertices of sections are safe.
 use Rattle.std.proofs.Common.{subst, sym}
 use Rattle.mesh_plane.specs.Bounds.{IsSafe}
-use Rattle.mesh_tangent.proofs.Circles.{center_safe}
+use Rattle.mesh_circle.proofs.Circles.{center_safe}
 use Rattle.mesh_variable_stroke.proofs.joint.middle_turn.Goals as goal
 
 pub turn_between-requires-clause-a : goal.turn_between-requires-clause-a

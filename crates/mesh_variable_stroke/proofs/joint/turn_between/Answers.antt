@@ -2,7 +2,7 @@
 use Rattle.std.proofs.Common.{◌*◌, subst, sym}
 use Rattle.mesh_plane.specs.Bounds.{IsSafe}
 use Rattle.mesh_variable_stroke.proofs.joint.turn_between.Goals as goal
-use Rattle.mesh_grid.proofs.Moving.{safe_difference}
+use Rattle.mesh_num.proofs.Moving.{safe_difference}
 
 pub cross_product-requires-clause-own : goal.cross_product-requires-clause-own
 cross_product-requires-clause-own g c =

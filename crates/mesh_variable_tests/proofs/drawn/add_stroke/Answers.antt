@@ -1,6 +1,6 @@
 -- A path that was validated may be built.
 use Rattle.std.proofs.Common.{refl, [], ◌∷◌, lit<}
-use Rattle.mesh_variable_calls.proofs.Reach.{each_strokable}
+use Rattle.mesh_variable_stroke.proofs.Reach.{each_strokable}
 use Rattle.mesh_variable_tests.proofs.drawn.add_stroke.Goals as goal
 
 pub build-requires : goal.build-requires

@@ -1,12 +1,12 @@
 -- The circle round a vertex that was validated is safe.
 use Rattle.std.proofs.Common.{◌≡◌, ◌∙◌, ◌++◌, ℕ, List, ap, subst, refl, [], ◌∷◌, lit<}
 use Rattle.std.specs.Prelude.{ℤ}
-use Rattle.mesh_grid.specs.Rectangle.{IsSafeWidened}
+use Rattle.mesh_num.specs.Rectangle.{IsSafeWidened}
 use Rattle.mesh_join.specs.VariableStyles.{Vertex}
-use Rattle.mesh_draw.specs.Radii.{radius_of}
+use Rattle.mesh_offset.specs.Radii.{radius_of}
 use Rattle.mesh_variable_stroke.specs.Drawn.{greatest_radius, AreStrokable}
 use Rattle.mesh_variable_stroke.proofs.Safe.{path_safe}
-use Rattle.mesh_variable_calls.proofs.Reach.{each_strokable}
+use Rattle.mesh_variable_stroke.proofs.Reach.{each_strokable}
 use Rattle.mesh_variable_tests.proofs.sections.circle.Goals as goal
 
 -- the vertex as the code reads it

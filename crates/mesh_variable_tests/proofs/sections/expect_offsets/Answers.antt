@@ -1,5 +1,5 @@
 -- The vector between the centers of two safe circles is safe on twice the range.
-use Rattle.mesh_tangent.proofs.Circles.{centers_apart, vector_made}
+use Rattle.mesh_circle.proofs.Circles.{centers_apart, vector_made}
 use Rattle.mesh_variable_tests.proofs.sections.expect_offsets.Goals as goal
 
 pub tangent_offsets-offsets-requires-clause-apart : goal.tangent_offsets-offsets-requires-clause-apart

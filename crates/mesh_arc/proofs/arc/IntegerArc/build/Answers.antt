@@ -2,7 +2,7 @@
 use Rattle.std.proofs.Common.{◌≡◌, ◌<◌, ◌^◌, refl, sym, ◌∙◌, rules, subst, ap, List, arith}
 use Rattle.std.specs.Prelude.{IsErr, pos, ◌≤ℤ◌}
 use Rattle.mesh_plane.specs.Plane.{Point}
-use Rattle.mesh_grid.specs.Direction.{IsShort}
+use Rattle.mesh_num.specs.Direction.{IsShort}
 use Rattle.mesh_arc.specs.Arcs.{bound_of, arc}
 use Rattle.mesh_arc.specs.Building.{Building}
 use Rattle.mesh_arc.specs.declared.arc.ArcOptions.{ArcOptions}

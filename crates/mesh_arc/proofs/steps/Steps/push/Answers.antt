@@ -1,8 +1,8 @@
 -- One direction more, or the end.
 use Rattle.std.proofs.Common.{◌≡◌, ◌<◌, true, false, sym, ◌∙◌, rules, arith, inl, inr}
-use Rattle.mesh_grid.specs.Rotation.{rotated}
+use Rattle.mesh_num.specs.Rotation.{rotated}
 use Rattle.mesh_arc.specs.Arcs.{most_directions}
-use Rattle.mesh_arc.specs.Midway.{ends}
+use Rattle.mesh_arc.specs.Private.Steps.{ends}
 use Rattle.mesh_arc.proofs.Filling.{turning_starts, ends_is, turning_goes, turning_ends, more_come, turned_so_far}
 use Rattle.mesh_arc.proofs.steps.Steps.push.Goals as goal
 

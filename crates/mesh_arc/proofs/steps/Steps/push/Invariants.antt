@@ -1,5 +1,5 @@
 use Rattle.std.proofs.Common.{vec_capacity}
-use Rattle.mesh_arc.specs.Midway.{HasTurned}
+use Rattle.mesh_arc.specs.Private.Steps.{HasTurned}
 use Rattle.mesh_arc.proofs.steps.Steps.push.Given as goal
 
 abbrev pub invariant-loop : goal.invariant-loop

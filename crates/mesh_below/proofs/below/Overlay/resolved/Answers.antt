@@ -6,11 +6,11 @@ use Rattle.std.specs.List.{flat_map}
 use Rattle.mesh_plane.specs.Plane.{Point, Edge}
 use Rattle.mesh_num.specs.Segments.{SignedEdge, edges_of}
 use Rattle.mesh_plane.specs.Winding.{IsBalanced, boundary}
-use Rattle.mesh_cuts.specs.Clean.{IsProper}
-use Rattle.mesh_cuts.specs.FillRules.{filled}
+use Rattle.mesh_lattice.specs.Clean.{IsProper}
+use Rattle.mesh_lattice.specs.FillRules.{filled}
 use Rattle.mesh_below.specs.Answers.{AreOwnBoundary, IsSettled}
 use Rattle.mesh_below.specs.Options.{choices_of}
-use Rattle.mesh_cuts.specs.Reach.{ArePointsSafe}
+use Rattle.mesh_lattice.specs.Reach.{ArePointsSafe}
 use Rattle.mesh_shapes.specs.Resolution.{Choices}
 use Rattle.mesh_below.proofs.AnswerRegions.{regions_of, filled_none}
 use Rattle.mesh_below.proofs.AnswerPoints.{answer_safe, same_resolution}

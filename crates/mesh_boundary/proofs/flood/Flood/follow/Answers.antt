@@ -3,9 +3,9 @@ use Rattle.std.specs.Prelude.{ℤ, pos}
 use mir.Syntax.{w64, w128}
 use mir.Val.{to_z, of_z}
 use Rattle.mesh_plane.specs.Plane.{Point}
-use Rattle.mesh_cuts.specs.Counted.{Counted}
-use Rattle.mesh_boundary.specs.Midway.Flood.{IsLevel}
-use Rattle.mesh_boundary.specs.Midway.Stars.{ends_at, IsSegment}
+use Rattle.mesh_lattice.specs.Counted.{Counted}
+use Rattle.mesh_boundary.specs.Private.Flood.{IsLevel}
+use Rattle.mesh_boundary.specs.Private.Stars.{ends_at, IsSegment}
 use Rattle.mesh_boundary.proofs.StarLists.{ends_of_one}
 use Rattle.mesh_boundary.proofs.flood.Flood.follow.Goals as goal
 

@@ -2,7 +2,7 @@ use Rattle.std.proofs.Common.{rules, ◌≡◌, sym, ◌∙◌, subst}
 use Rattle.std.specs.Prelude.{ℤ}
 use mir.Syntax.{w64, w128}
 use mir.Val.{to_z, of_z}
-use Rattle.mesh_boundary.specs.Midway.Flood.{IsLevel}
+use Rattle.mesh_boundary.specs.Private.Flood.{IsLevel}
 use Rattle.mesh_boundary.proofs.flood.Flood.note.Goals as goal
 
 pub returns : goal.returns

@@ -1,7 +1,7 @@
 use Rattle.std.proofs.Common.{List}
 use Rattle.mesh_plane.specs.Plane.{Edge}
-use Rattle.mesh_boundary.specs.Midway.Flood.{AreKnown}
-use Rattle.mesh_boundary.specs.Midway.Stars.{HaveStars}
+use Rattle.mesh_boundary.specs.Private.Flood.{AreKnown}
+use Rattle.mesh_boundary.specs.Private.Stars.{HaveStars}
 use Rattle.mesh_boundary.proofs.flood.Flood.pour.Given as goal
 
 abbrev pub invariant-loop-step : goal.invariant-loop-step

@@ -3,10 +3,10 @@ use Rattle.std.specs.Prelude.{ℤ, ◌+ℤ◌, pos}
 use Rattle.std.proofs.lemmas.List.{get_or_default}
 use mir.Syntax.{w128}
 use mir.Val.{to_z, of_z}
-use Rattle.mesh_cuts.specs.Boundary.{left_winding, right_winding}
-use Rattle.mesh_cuts.specs.Counted.{Counted}
-use Rattle.mesh_boundary.specs.Midway.Flood.{IsLevel, AreKnown}
-use Rattle.mesh_boundary.specs.Midway.Stars.{IsSegment}
+use Rattle.mesh_lattice.specs.Boundary.{left_winding, right_winding}
+use Rattle.mesh_lattice.specs.Counted.{Counted}
+use Rattle.mesh_boundary.specs.Private.Flood.{IsLevel, AreKnown}
+use Rattle.mesh_boundary.specs.Private.Stars.{IsSegment}
 use Rattle.mesh_boundary.proofs.Levels.{left_from}
 use Rattle.mesh_boundary.proofs.StarLists.{ends_of_one}
 use Rattle.mesh_boundary.proofs.flood.Flood.sides.Goals as goal

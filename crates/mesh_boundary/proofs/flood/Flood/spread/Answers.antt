@@ -1,5 +1,5 @@
 use Rattle.std.proofs.Common.{length, sym, subst}
-use Rattle.mesh_boundary.specs.Midway.Flood.{AreKnown}
+use Rattle.mesh_boundary.specs.Private.Flood.{AreKnown}
 use Rattle.mesh_boundary.proofs.flood.Flood.spread.Goals as goal
 
 pub follow-requires-clause-in_range : goal.follow-requires-clause-in_range

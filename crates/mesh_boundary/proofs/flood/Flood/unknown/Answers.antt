@@ -2,7 +2,7 @@ use Rattle.std.proofs.Common.{Option, None, [], ◌∷◌, sym, subst}
 use Rattle.std.specs.Prelude.{ℤ, IfSome}
 use Rattle.std.proofs.lemmas.List.Elements.{All-append, All-cons, All-nil}
 use Rattle.mesh_plane.specs.Plane.{Point}
-use Rattle.mesh_boundary.specs.Midway.Flood.{IsLevel, AreKnown}
+use Rattle.mesh_boundary.specs.Private.Flood.{IsLevel, AreKnown}
 use Rattle.mesh_boundary.proofs.flood.Flood.unknown.Goals as goal
 
 pub loop-made-preserved : goal.loop-made-preserved

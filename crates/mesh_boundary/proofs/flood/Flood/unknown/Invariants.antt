@@ -1,6 +1,6 @@
 use Rattle.std.proofs.Common.{List}
 use Rattle.mesh_plane.specs.Plane.{Edge}
-use Rattle.mesh_boundary.specs.Midway.Flood.{AreKnown}
+use Rattle.mesh_boundary.specs.Private.Flood.{AreKnown}
 use Rattle.mesh_boundary.proofs.flood.Flood.unknown.Given as goal
 
 abbrev pub invariant-loop-made : goal.invariant-loop-made

@@ -5,7 +5,7 @@ use mir.Val.{to_z, of_z}
 use Rattle.std.proofs.lemmas.Int.{ints, unsigned_abs-mul}
 use Rattle.std.proofs.Math.Nat.{mul-le-mul_left}
 use Rattle.mesh_plane.specs.Bounds.{IsSmall}
-use Rattle.mesh_cuts.proofs.Arithmetic.{small_kept, small_fits, small_of_size}
+use Rattle.mesh_lattice.proofs.Arithmetic.{small_kept, small_fits, small_of_size}
 use Rattle.mesh_boundary.proofs.SidesCode.{count_small}
 use Rattle.mesh_boundary.proofs.slanted.Slant.counted_crossing.Goals as goal
 

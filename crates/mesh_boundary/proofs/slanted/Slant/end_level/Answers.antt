@@ -5,8 +5,8 @@ use mir.Syntax.{w32}
 use Rattle.mesh_plane.specs.Bounds.{IsSmall}
 use Rattle.mesh_plane.specs.Plane.{Point, cross}
 use Rattle.mesh_plane.specs.Winding.{refined}
-use Rattle.mesh_cuts.proofs.Arithmetic.{small_kept}
-use Rattle.mesh_boundary.specs.Midway.Slants.{level_of}
+use Rattle.mesh_lattice.proofs.Arithmetic.{small_kept}
+use Rattle.mesh_boundary.specs.Private.Slants.{level_of}
 use Rattle.mesh_boundary.proofs.slanted.Slant.end_level.Goals as goal
 
 twice_small : (z : ℤ) → IsSmall (2 ^ 66) z → IsSmall (2 ^ 67) z

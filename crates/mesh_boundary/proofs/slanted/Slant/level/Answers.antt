@@ -4,8 +4,8 @@ use Rattle.std.proofs.lemmas.Int.{ints, to_z_pos}
 use mir.Syntax.{w32}
 use mir.Val.{to_z}
 use Rattle.mesh_plane.specs.Bounds.{IsSmall}
-use Rattle.mesh_cuts.proofs.Arithmetic.{small_kept}
-use Rattle.mesh_boundary.specs.Midway.Slants.{level_of}
+use Rattle.mesh_lattice.proofs.Arithmetic.{small_kept}
+use Rattle.mesh_boundary.specs.Private.Slants.{level_of}
 use Rattle.mesh_boundary.proofs.slanted.Slant.level.Goals as goal
 
 gap_small : (z b : ℤ) → IsSmall (2 ^ 67) z → IsSmall (2 ^ 68) b → IsSmall (2 ^ 69) (z -ℤ b)

@@ -1,6 +1,6 @@
 use Rattle.std.proofs.Common.{[], ◌∷◌, ◌++◌, sym, ◌∙◌}
 use Rattle.std.proofs.lemmas.List.{map_more}
-use Rattle.mesh_boundary.specs.Midway.Slants.{leveled_by}
+use Rattle.mesh_boundary.specs.Private.Slants.{leveled_by}
 use Rattle.mesh_boundary.proofs.slanted.Slant.leveled_all.Goals as goal
 
 pub loop-s-preserved : goal.loop-s-preserved

@@ -1,5 +1,5 @@
 use Rattle.std.proofs.Common.{◌≡◌, take, map}
-use Rattle.mesh_boundary.specs.Midway.Slants.{leveled_by}
+use Rattle.mesh_boundary.specs.Private.Slants.{leveled_by}
 use Rattle.mesh_boundary.proofs.slanted.Slant.leveled_all.Given as goal
 
 abbrev pub invariant-loop-s : goal.invariant-loop-s

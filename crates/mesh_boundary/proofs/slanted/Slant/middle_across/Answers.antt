@@ -6,9 +6,9 @@ use Rattle.std.proofs.lemmas.Int.{ints}
 use Rattle.mesh_plane.specs.Bounds.{IsSmall}
 use Rattle.mesh_plane.specs.Plane.{Point, Edge, cross}
 use Rattle.mesh_plane.proofs.Whole.{linear, multiplied}
-use Rattle.mesh_cuts.specs.Boundary.{middle}
-use Rattle.mesh_cuts.proofs.Arithmetic.{small_fits, small_kept}
-use Rattle.mesh_boundary.specs.Midway.Slants.{IsSlant}
+use Rattle.mesh_lattice.specs.Boundary.{middle}
+use Rattle.mesh_lattice.proofs.Arithmetic.{small_fits, small_kept}
+use Rattle.mesh_boundary.specs.Private.Slants.{IsSlant}
 use Rattle.mesh_boundary.proofs.slanted.Slant.middle_across.Goals as goal
 
 sum_small : (y z : ℤ) → IsSmall (2 ^ 65) y → IsSmall (2 ^ 65) z → IsSmall (2 ^ 66) (y +ℤ z)

@@ -5,8 +5,8 @@ use mir.Val.{to_z, of_z}
 use Rattle.std.proofs.lemmas.Int.{ints}
 use Rattle.mesh_plane.specs.Bounds.{IsSmall}
 use Rattle.mesh_plane.specs.Winding.{crossing}
-use Rattle.mesh_cuts.specs.Counted.{bit}
-use Rattle.mesh_cuts.proofs.Arithmetic.{small_kept, small_fits}
+use Rattle.mesh_lattice.specs.Counted.{bit}
+use Rattle.mesh_lattice.proofs.Arithmetic.{small_kept, small_fits}
 use Rattle.mesh_boundary.proofs.slanted.Slant.slanted_crossing.Goals as goal
 
 gap_small : (y z : ℤ) → IsSmall 2 y → IsSmall 2 z → IsSmall 3 (y -ℤ z)

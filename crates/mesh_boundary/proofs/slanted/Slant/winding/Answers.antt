@@ -5,9 +5,9 @@ use mir.Syntax.{w128}
 use mir.Val.{SFits, to_z, of_z}
 use Rattle.mesh_plane.specs.Plane.{Edge}
 use Rattle.mesh_plane.proofs.Sums.{sum_least}
-use Rattle.mesh_cuts.specs.Counted.{Counted, size}
-use Rattle.mesh_cuts.proofs.Arithmetic.{small_of_size}
-use Rattle.mesh_boundary.specs.Midway.Slants.{slanted_crossing, listed_size}
+use Rattle.mesh_lattice.specs.Counted.{Counted, size}
+use Rattle.mesh_lattice.proofs.Arithmetic.{small_of_size}
+use Rattle.mesh_boundary.specs.Private.Slants.{slanted_crossing, listed_size}
 use Rattle.mesh_boundary.proofs.SidesCode.{size_least, next_part, sum_part, sum_more, adds_of}
 use Rattle.mesh_boundary.proofs.slanted.Slant.winding.Goals as goal
 

@@ -1,6 +1,6 @@
 use Rattle.std.proofs.Common.{◌≡◌, take}
 use Rattle.std.specs.Prelude.{pos, ◌≤ℤ◌, ◌*ℤ◌, unsigned_abs}
-use Rattle.mesh_boundary.specs.Midway.Slants.{listed_winding, listed_size}
+use Rattle.mesh_boundary.specs.Private.Slants.{listed_winding, listed_size}
 use Rattle.mesh_boundary.proofs.slanted.Slant.winding.Given as goal
 
 abbrev pub invariant-loop-e : goal.invariant-loop-e

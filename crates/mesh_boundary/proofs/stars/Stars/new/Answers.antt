@@ -1,6 +1,6 @@
 use Rattle.std.proofs.Common.{◌≡◌, ℕ, ◌+◌, List, [], ◌∷◌, ◌++◌, get_or, sym, subst, arith}
 use Rattle.std.specs.Prelude.{pos}
-use Rattle.mesh_boundary.specs.Midway.Stars.{place_among, ends_at, IsFiled}
+use Rattle.mesh_boundary.specs.Private.Stars.{place_among, ends_at, IsFiled}
 use Rattle.mesh_boundary.proofs.StarLists.{AreListed, listed_none, listed_more, listed_all}
 use Rattle.mesh_boundary.proofs.stars.Stars.new.Goals as goal
 

@@ -2,8 +2,8 @@ use Rattle.std.proofs.Common.{ℕ, ◌<◌, List, sym, ◌∙◌, ap, subst}
 use Rattle.std.specs.Prelude.{Vec}
 use Rattle.std.specs.declared.alloc.Global.{Global}
 use Rattle.std.specs.List.{All}
-use Rattle.mesh_cuts.specs.Lists.{list_at}
-use Rattle.mesh_boundary.specs.Midway.Stars.{IsStar, segments_at}
+use Rattle.mesh_lattice.specs.Lists.{list_at}
+use Rattle.mesh_boundary.specs.Private.Stars.{IsStar, segments_at}
 use Rattle.mesh_boundary.proofs.stars.Stars.star.Goals as goal
 
 pub returns-clause-within : goal.returns-clause-within

@@ -4,10 +4,10 @@ use Rattle.std.proofs.lemmas.Int.{ints}
 use mir.Syntax.{w128}
 use mir.Val.{to_z, of_z}
 use Rattle.mesh_plane.specs.Plane.{Point}
-use Rattle.mesh_rows.specs.declared.rows.Rows.{Rows}
-use Rattle.mesh_boundary.specs.Midway.CountedSides.{counted_winding}
-use Rattle.mesh_rows.specs.Rows.{AreRows}
-use Rattle.mesh_boundary.specs.Midway.Sums.{MayHaveRows}
+use Rattle.mesh_lattice.specs.declared.rows.Rows.{Rows}
+use Rattle.mesh_boundary.specs.Private.CountedSides.{counted_winding}
+use Rattle.mesh_lattice.specs.Rows.{AreRows}
+use Rattle.mesh_boundary.specs.Private.Sums.{MayHaveRows}
 use Rattle.mesh_boundary.proofs.RowSums.{row_sum, row_size}
 use Rattle.mesh_boundary.proofs.sums.Sums.winding.Goals as goal
 

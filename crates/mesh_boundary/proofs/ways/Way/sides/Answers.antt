@@ -1,6 +1,6 @@
 use Rattle.std.proofs.Common.{subst}
 use Rattle.mesh_boundary.specs.declared.ways.Way.{Way}
-use Rattle.mesh_boundary.specs.Midway.Ways.{Serves}
+use Rattle.mesh_boundary.specs.Private.Ways.{Serves}
 use Rattle.mesh_boundary.proofs.ways.Way.sides.Goals as goal
 
 pub row_sides-requires-clause-rows : goal.row_sides-requires-clause-rows

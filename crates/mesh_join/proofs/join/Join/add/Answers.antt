@@ -2,7 +2,7 @@
 use Rattle.std.proofs.Common.{◌∙◌, ◌++◌, ap, subst, List}
 use Rattle.std.proofs.lemmas.Result.{on_ok_weaker}
 use Rattle.mesh_plane.specs.Plane.{Edge}
-use Rattle.mesh_grid.specs.Direction.{IsShort}
+use Rattle.mesh_num.specs.Direction.{IsShort}
 use Rattle.mesh_num.specs.Segments.{edges_of, segments_of}
 use Rattle.mesh_num.proofs.SegmentLists.{edges_of_segments, edges_of-append}
 use Rattle.mesh_join.specs.Joins.{join_edges}

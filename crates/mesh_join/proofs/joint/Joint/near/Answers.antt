@@ -1,7 +1,7 @@
 -- A point near the corner is safe, so it fits its type.
 use Rattle.std.proofs.lemmas.Int.{to_z-of_z}
 use mir.Syntax.{w128}
-use Rattle.mesh_grid.proofs.Moving.{safe_fits}
+use Rattle.mesh_num.proofs.Moving.{safe_fits}
 use Rattle.mesh_join.proofs.Miters.{tested_safe}
 use Rattle.mesh_join.proofs.Wide.{safe_read}
 use Rattle.mesh_join.proofs.joint.Joint.near.Goals as goal

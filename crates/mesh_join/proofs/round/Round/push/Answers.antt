@@ -3,7 +3,7 @@ use Rattle.std.proofs.Common.{◌≡◌, ◌++◌, ◌∙◌, ap, rules, List, m
 use Rattle.std.proofs.lemmas.Result.{on_ok_weaker}
 use Rattle.mesh_plane.specs.Plane.{Point, minus}
 use Rattle.mesh_plane.specs.Winding.{route}
-use Rattle.mesh_grid.specs.Directed.{direction_of}
+use Rattle.mesh_num.specs.Directed.{direction_of}
 use Rattle.mesh_num.specs.Segments.{segments_of}
 use Rattle.mesh_arc.specs.Arcs.{arc}
 use Rattle.mesh_join.specs.RoundJoins.{arc_point, used, round_points}

@@ -1,4 +1,4 @@
-use Rattle.mesh_cuts.proofs.Ends.{forward_proper}
+use Rattle.mesh_lattice.proofs.Ends.{forward_proper}
 use Rattle.mesh_split.proofs.Settling.{settles_kept}
 use Rattle.mesh_split.proofs.steps.Splitter.settle.Goals as goal
 

@@ -1,11 +1,11 @@
 use Rattle.std.proofs.Common.{sym, ◌∙◌, subst}
 use Rattle.mesh_plane.specs.Plane.{Edge}
-use Rattle.mesh_cuts.specs.Split.{IsInBox}
-use Rattle.mesh_cuts.proofs.Boxes.{meets_box, meets_once}
-use Rattle.mesh_cuts.proofs.Ends.{forward_proper}
+use Rattle.mesh_lattice.specs.Split.{IsInBox}
+use Rattle.mesh_lattice.proofs.Boxes.{meets_box, meets_once}
+use Rattle.mesh_lattice.proofs.Ends.{forward_proper}
 use Rattle.mesh_split.proofs.Filing.{room_taken, room_other, room_pieces}
 use Rattle.mesh_split.proofs.Settling.{settles_first, settles_second, settles_both}
-use Rattle.mesh_split.specs.Midway.Steps.{IsForward}
+use Rattle.mesh_split.specs.Private.Steps.{IsForward}
 use Rattle.mesh_split.proofs.steps.Splitter.split.Goals as goal
 
 pub cut-requires-clause-inner : goal.cut-requires-clause-inner

@@ -1,9 +1,9 @@
 use Rattle.std.proofs.Common.{arith, sym, subst}
 use Rattle.mesh_plane.specs.Plane.{Edge}
 use Rattle.mesh_plane.proofs.Whole.{linear}
-use Rattle.mesh_cuts.proofs.Ends.{forward_proper}
-use Rattle.mesh_cuts.specs.Split.{Meets}
-use Rattle.mesh_split.specs.Midway.Steps.{IsForward, weight}
+use Rattle.mesh_lattice.proofs.Ends.{forward_proper}
+use Rattle.mesh_lattice.specs.Split.{Meets}
+use Rattle.mesh_split.specs.Private.Steps.{IsForward, weight}
 use Rattle.mesh_split.proofs.Piles.{pile_split, other_lives}
 use Rattle.mesh_split.proofs.steps.Splitter.split_live.Goals as goal
 

@@ -1,9 +1,9 @@
 use Rattle.std.proofs.Common.{subst, List}
 use Rattle.std.specs.Prelude.{MatchOption}
-use Rattle.mesh_cuts.specs.Counted.{Counted}
-use Rattle.mesh_cuts.proofs.Options.{match_none}
-use Rattle.mesh_split.specs.Midway.Cells.{listed_at, MeetsLive}
-use Rattle.mesh_split.specs.Midway.Steps.{IsClearOf}
+use Rattle.mesh_lattice.specs.Counted.{Counted}
+use Rattle.mesh_lattice.proofs.Options.{match_none}
+use Rattle.mesh_split.specs.Private.Cells.{listed_at, MeetsLive}
+use Rattle.mesh_split.specs.Private.Steps.{IsClearOf}
 use Rattle.mesh_split.proofs.Listing.{clear_of_parts}
 use Rattle.mesh_split.proofs.store.Store.conflict.Goals as goal
 

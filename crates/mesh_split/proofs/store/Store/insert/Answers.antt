@@ -1,6 +1,6 @@
 use Rattle.std.proofs.Common.{List, subst, sym}
-use Rattle.mesh_cuts.specs.Counted.{Counted}
-use Rattle.mesh_split.specs.Midway.Cells.{listed_at, LiveAreListed}
+use Rattle.mesh_lattice.specs.Counted.{Counted}
+use Rattle.mesh_split.specs.Private.Cells.{listed_at, LiveAreListed}
 use Rattle.mesh_split.proofs.Listing.{listed_kept, listed_put}
 use Rattle.mesh_split.proofs.store.Store.insert.Goals as goal
 

@@ -1,6 +1,6 @@
 use Rattle.std.proofs.Common.{refl, subst, sym, List}
 use Rattle.mesh_plane.specs.Plane.{Edge}
-use Rattle.mesh_split.specs.Midway.Cells.{StandsIn}
+use Rattle.mesh_split.specs.Private.Cells.{StandsIn}
 use Rattle.mesh_split.proofs.Listing.{stands_listed}
 use Rattle.mesh_split.proofs.store.Store.part_anew.Goals as goal
 

@@ -1,4 +1,4 @@
-use Rattle.mesh_split.specs.Midway.Cells.{listed_at}
+use Rattle.mesh_split.specs.Private.Cells.{listed_at}
 use Rattle.mesh_split.proofs.Listing.{listed_taken, listed_without}
 use Rattle.mesh_split.proofs.store.Store.remove.Goals as goal
 

@@ -1,8 +1,8 @@
 use Rattle.std.proofs.Common.{◌≡◌, sym, ◌∙◌, ap, subst, refl, List, Some, None}
 use Rattle.std.specs.Prelude.{ℤ}
 use Rattle.std.specs.Map.{lookup}
-use Rattle.mesh_cuts.specs.Counted.{Counted, times}
-use Rattle.mesh_split.specs.Midway.Steps.{IsRaised, HaveRoom}
+use Rattle.mesh_lattice.specs.Counted.{Counted, times}
+use Rattle.mesh_split.specs.Private.Steps.{IsRaised, HaveRoom}
 use Rattle.mesh_split.proofs.Entries.{edge_eq, absent, found_size, has_room, inserted_raised, set_where_found, forward_set}
 use Rattle.mesh_split.proofs.tally.Tally.add.Goals as goal
 

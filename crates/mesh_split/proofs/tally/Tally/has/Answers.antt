@@ -1,7 +1,7 @@
 use Rattle.std.proofs.Common.{◌≡◌, subst, sym, List}
 use Rattle.std.specs.Prelude.{pos, ◌<ℤ◌}
-use Rattle.mesh_cuts.specs.Counted.{Counted}
-use Rattle.mesh_split.specs.Midway.Steps.{exactly}
+use Rattle.mesh_lattice.specs.Counted.{Counted}
+use Rattle.mesh_split.specs.Private.Steps.{exactly}
 use Rattle.mesh_split.proofs.Entries.{found_stands}
 use Rattle.mesh_split.proofs.Tallies.{exactly_none}
 use Rattle.mesh_split.proofs.tally.Tally.has.Goals as goal

@@ -1,8 +1,8 @@
 use Rattle.std.proofs.Common.{subst, sym, List, arith}
 use Rattle.std.specs.Prelude.{pos, ◌<ℤ◌}
 use Rattle.std.proofs.lemmas.Int.{ints}
-use Rattle.mesh_cuts.specs.Counted.{Counted}
-use Rattle.mesh_split.specs.Midway.Steps.{IsForward, exactly}
+use Rattle.mesh_lattice.specs.Counted.{Counted}
+use Rattle.mesh_split.specs.Private.Steps.{IsForward, exactly}
 use Rattle.mesh_split.proofs.Entries.{edge_equal, removed_left, removed_taken, removed_forward}
 use Rattle.mesh_split.proofs.Tallies.{exactly_none}
 use Rattle.mesh_split.proofs.tally.Tally.remove.Goals as goal

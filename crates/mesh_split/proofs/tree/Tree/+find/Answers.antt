@@ -1,8 +1,8 @@
 use Rattle.std.proofs.Common.{◌≡◌, true, ◌∙◌, subst, sym}
 use Rattle.std.proofs.lemmas.Bool.{true≢false}
-use Rattle.mesh_cuts.proofs.Options.{match_none}
+use Rattle.mesh_lattice.proofs.Options.{match_none}
 use Rattle.mesh_split.specs.declared.tree.Tree.{Tree}
-use Rattle.mesh_split.specs.Midway.Cells.{Cell, IsAt, reaches, listed_at, IsCellClear, MeetsLive}
+use Rattle.mesh_split.specs.Private.Cells.{Cell, IsAt, reaches, listed_at, IsCellClear, MeetsLive}
 use Rattle.mesh_split.proofs.Listing.{fork_is_clear}
 use Rattle.mesh_split.proofs.tree.Tree.+find.Goals as goal
 use Rattle.mesh_split.proofs.tree.Tree.+find.Goals.{then-below+in_default, else-below}

@@ -1,7 +1,7 @@
 use Rattle.std.proofs.Common.{◌≡◌, true, ◌∙◌, subst, sym}
 use Rattle.std.proofs.lemmas.Bool.{true≢false}
 use Rattle.mesh_split.specs.declared.tree.Tree.{Tree}
-use Rattle.mesh_split.specs.Midway.Cells.{reaches, listed_at, StandsIn, HasListed, KeepsListed}
+use Rattle.mesh_split.specs.Private.Cells.{reaches, listed_at, StandsIn, HasListed, KeepsListed}
 use Rattle.mesh_split.proofs.Listing.{listed_more, kept_same, fork_keeps, fork_lists}
 use Rattle.mesh_split.proofs.tree.Tree.+put.Goals as goal
 use Rattle.mesh_split.proofs.tree.Tree.+put.Goals.{then-below+in_ok-crowded-in-Fork, else-below}

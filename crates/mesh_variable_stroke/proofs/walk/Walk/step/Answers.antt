@@ -2,7 +2,7 @@
 use Rattle.std.proofs.Common.{◌≡◌, true, false, sym, ◌∙◌}
 use Rattle.mesh_variable_stroke.proofs.Stepping.{section_seen, covered_edges, broken_good, covered_good, plain_good}
 use Rattle.mesh_variable_stroke.proofs.Thin.{thin_chain_seen, none_seen}
-use Rattle.mesh_draw.proofs.Adding.{on_ok_then}
+use Rattle.mesh_offset.proofs.Adding.{on_ok_then}
 use Rattle.mesh_variable_stroke.proofs.walk.Walk.step.Goals as goal
 
 pub returns-then-is_nested_with-clause-good : goal.returns-then-is_nested_with-clause-good

@@ -1,0 +1,9 @@
+pub mod Cases
+pub mod Circles
+pub mod Contacts
+pub mod Covers
+pub mod Directions
+pub mod Lifts
+pub mod Nearness
+pub mod Sums
+pub mod Swept

@@ -1,0 +1,4 @@
+pub mod Private
+pub mod Sections
+pub mod Sweeps
+pub mod Tangents

@@ -1,6 +1,0 @@
--- A cleaned contour is clean.
-use Rattle.mesh_clean.proofs.CleaningSteps.{cleaned-clean}
-use Rattle.mesh_clean.proofs.laws.cleaned_contours_are_clean.Goals as goal
-
-pub returns : goal.returns
-returns c points differ = cleaned-clean points differ

@@ -1,2 +1,0 @@
-pub mod Cleaned
-pub mod Laws

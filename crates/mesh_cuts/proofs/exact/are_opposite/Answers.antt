@@ -1,5 +1,0 @@
-use Rattle.std.proofs.Common.{rules}
-use Rattle.mesh_cuts.proofs.exact.are_opposite.Goals as goal
-
-pub returns-then-s-lt0 : goal.returns-then-s-lt0
-returns-then-s-lt0 c = search rules

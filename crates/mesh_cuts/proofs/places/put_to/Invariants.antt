@@ -1,5 +1,0 @@
-use Rattle.mesh_cuts.specs.Marks.{IsPutTo}
-use Rattle.mesh_cuts.proofs.places.put_to.Given as goal
-
-abbrev pub invariant-loop-i : goal.invariant-loop-i
-invariant-loop-i g l = IsPutTo l.initial.lists.items l.lists.items l.first l.i l.x

@@ -1,9 +1,0 @@
-pub mod Boundary
-pub mod Clean
-pub mod Counted
-pub mod FillRules
-pub mod Lists
-pub mod Marks
-pub mod Reach
-pub mod Split
-pub mod Splitting

@@ -1,5 +1,0 @@
-//! Numbers, points, directions, rotations, angles and rectangles of integer polygon offsetting.
-#![tactic(auto)]
-
-pub mod laws;
-pub mod num;

@@ -1,3 +1,0 @@
-pub mod Joins
-pub mod Miters
-pub mod RoundJoins

@@ -1,0 +1,16 @@
+pub mod Arithmetic
+pub mod Beside
+pub mod Boxes
+pub mod Counts
+pub mod Cuts
+pub mod Each
+pub mod Ends
+pub mod KeptByCuts
+pub mod Keys
+pub mod Meeting
+pub mod Options
+pub mod PlacesAmong
+pub mod RowLists
+pub mod SafeCuts
+pub mod SidesBack
+pub mod SoundCuts

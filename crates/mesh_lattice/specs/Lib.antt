@@ -1,0 +1,10 @@
+pub mod Boundary
+pub mod Clean
+pub mod Counted
+pub mod FillRules
+pub mod Lists
+pub mod Marks
+pub mod Reach
+pub mod Rows
+pub mod Split
+pub mod Splitting

@@ -1,0 +1,21 @@
+//! Laws of the definitions that contracts cite. Each function does nothing: its clause is the law.
+
+ghost use Rattle.mesh_num.specs.Laws.{DirectionsAreUnique, FlatContoursAreFound};
+
+pub use mesh_plane::laws::{
+    closed_lists_balance, closed_lists_telescope, crossings_add_along_lines, crossings_are_odd,
+    flat_triangles_do_not_wind, lengths_are_products, parallelograms_wind_once,
+    rounded_is_monotone, rounded_is_nearest, rounded_is_odd, triangles_wind_once,
+};
+pub use mesh_sine::laws::sines_are_not_small;
+
+/// A vector other than 0 has one direction.
+pub fn directions_are_unique()
+    ensures { DirectionsAreUnique }
+{}
+
+/// Contours whose points stand end to end are found again by their ranges: a buffer that holds contours is the source
+/// of just these.
+pub fn flat_contours_are_found()
+    ensures { FlatContoursAreFound }
+{}

@@ -1,0 +1,37 @@
+-- The contours of the shapes are put into the buffer.
+use Rattle.std.proofs.Common.{Result, Ok, Err, refl}
+use Rattle.std.specs.Prelude.{OnErr}
+use Rattle.mesh_num.specs.Paths.{shapes_of}
+use Rattle.mesh_outline.proofs.offset.IntOutlineOffset.outline_custom_into.Goals as goal
+
+-- what holds holds after an error
+on_err : {A E : Type 0} (r : Result A E) {P : Type 0} → P → OnErr r P
+on_err (Ok x) h = tt
+on_err (Err e) h = h
+
+pub returns-clause-outline : goal.returns-clause-outline
+returns-clause-outline g c = (shapes_of c.in_ok-shapes.shapes.items, c.in_ok-shapes.ensures.outline, c.in_ok-shapes.ensures.safe, c.in_ok-replace_with.ensures.ok)
+
+pub returns-clause-built : goal.returns-clause-built
+returns-clause-built g c = c.outline_shapes.ensures.built
+
+pub returns-clause-stays_safe : goal.returns-clause-stays_safe
+returns-clause-stays_safe g c = c.outline_shapes.ensures.stays_safe
+
+pub returns-in_err-shapes-clause-err : goal.returns-in_err-shapes-clause-err
+returns-in_err-shapes-clause-err g c = on_err c.from_residual.result refl
+
+pub returns-in_err-shapes-clause-built : goal.returns-in_err-shapes-clause-built
+returns-in_err-shapes-clause-built g c = c.outline_shapes.ensures.built
+
+pub returns-in_err-shapes-clause-stays_safe : goal.returns-in_err-shapes-clause-stays_safe
+returns-in_err-shapes-clause-stays_safe g c = c.outline_shapes.ensures.stays_safe
+
+pub returns-in_err-replace_with-clause-err : goal.returns-in_err-replace_with-clause-err
+returns-in_err-replace_with-clause-err g c = on_err c.from_residual-in_err-replace_with.result c.in_err-replace_with.ensures.err
+
+pub returns-in_err-replace_with-clause-built : goal.returns-in_err-replace_with-clause-built
+returns-in_err-replace_with-clause-built g c = c.outline_shapes.ensures.built
+
+pub returns-in_err-replace_with-clause-stays_safe : goal.returns-in_err-replace_with-clause-stays_safe
+returns-in_err-replace_with-clause-stays_safe g c = c.outline_shapes.ensures.stays_safe

@@ -1,0 +1,12 @@
+use Rattle.std.proofs.Common.{◌≡◌, ◌++◌, take}
+use Rattle.std.specs.List.{flat_map}
+use Rattle.mesh_num.specs.Paths.{paths_of}
+use Rattle.mesh_num.specs.Segments.{segments_of}
+use Rattle.mesh_plane.specs.Winding.{boundary}
+use Rattle.mesh_offset.specs.Adding.{in_sense}
+use Rattle.mesh_outline.proofs.resolve.add_shape.Given as goal
+
+-- the edges of the contours so far
+abbrev pub invariant-loop-contour : goal.invariant-loop-contour
+invariant-loop-contour g l =
+    l.segments.items ≡ l.initial.segments.items ++ segments_of (in_sense l.fill (flat_map boundary (paths_of (take l.contour-index l.shape.items))))

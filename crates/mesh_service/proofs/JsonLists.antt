@@ -1,0 +1,47 @@
+-- Lemmas over lists: values of JSON in lists and in objects, and lists that vectors hold.
+use Rattle.std.proofs.Common.{◌≡◌, List, [], ◌∷◌, false, refl, ap}
+use Rattle.std.specs.Prelude.{ℤ, pos, negsuc, map}
+use Rattle.std.specs.declared.alloc.Global.{Global}
+use Rattle.std.specs.declared.vec.Vec.{Vec}
+use Rattle.serde_json.specs.Data.{Data, array}
+use Rattle.serde_json.specs.Find.{is_float, of_integer}
+use Rattle.serde_json.specs.View.{items_of}
+use Rattle.serde_json.specs.Written.{has_float}
+use Rattle.mesh_num.specs.Paths.{paths_of, shapes_of}
+use Rattle.mesh_plane.specs.Plane.{Point, Edge}
+use Rattle.mesh_service.specs.Lines.{point_data, edge_data, list_data, edges_data, shapes_data}
+
+whole_no_float : (z : ℤ) → is_float (of_integer z) ≡ false
+whole_no_float (pos n) = refl
+whole_no_float (negsuc n) = refl
+
+point_no_float : (p : Point) → has_float (point_data p) ≡ false
+point_no_float p = rw (whole_no_float p.0, whole_no_float p.1) refl
+
+edge_no_float : (e : Edge) → has_float (edge_data e) ≡ false
+edge_no_float e = rw (point_no_float e.0, point_no_float e.1) refl
+
+-- a list has no float where none of its values has one
+list_no_float : {A : Type 0} (value : A → Data) → ((a : A) → has_float (value a) ≡ false) → (xs : List A) → has_float (list_data value xs) ≡ false
+list_no_float value none [] = refl
+list_no_float value none (x ∷ xs) = rw (none x) (list_no_float value none xs)
+
+pub edges_no_float : (lists : List (List Edge)) → has_float (edges_data lists) ≡ false
+edges_no_float lists = rw (list_no_float (list_data edge_data) (list_no_float edge_data edge_no_float) lists) refl
+
+pub shapes_no_float : (shapes : List (List (List Point))) → has_float (shapes_data shapes) ≡ false
+shapes_no_float shapes =
+    rw (list_no_float (list_data (list_data point_data)) (list_no_float (list_data point_data) (list_no_float point_data point_no_float)) shapes) refl
+
+items_same : {A B : Type 0} (f : A → Data) (g : B → Data) (h : A → B) → ((a : A) → f a ≡ g (h a)) → (xs : List A) → items_of (map f xs) ≡ items_of (map g (map h xs))
+items_same f g h same [] = refl
+items_same f g h same (x ∷ xs) = rw (same x, items_same f g h same xs) refl
+
+-- a list of vectors is the list of the lists that they hold
+pub vectors_listed : {A : Type 0} (value : A → Data) (xs : List (Vec A Global)) → list_data (λ (v : Vec A Global). list_data value v.items) xs ≡ list_data (list_data value) (paths_of xs)
+vectors_listed value xs = ap array (items_same (λ v. list_data value v.items) (list_data value) (λ v. v.items) (λ v. refl) xs)
+
+-- and so is a list of vectors of vectors
+pub shapes_listed : {A : Type 0} (value : A → Data) (xs : List (Vec (Vec A Global) Global)) → list_data (λ (s : Vec (Vec A Global) Global). list_data (λ (v : Vec A Global). list_data value v.items) s.items) xs ≡ list_data (list_data (list_data value)) (shapes_of xs)
+shapes_listed value xs =
+    ap array (items_same (λ s. list_data (λ v. list_data value v.items) s.items) (list_data (list_data value)) (λ s. paths_of s.items) (λ s. vectors_listed value s.items) xs)

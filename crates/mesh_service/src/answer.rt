@@ -1,0 +1,124 @@
+//! Answers, written as JSON.
+
+ghost use Rattle.std.specs.Prelude.{◌≡◌, IfOk, string_bytes, codes, false};
+ghost use Rattle.serde_json.specs.Data.{Data, number as number_value, array, item, no_items};
+ghost use Rattle.serde_json.specs.Find.{of_integer};
+ghost use Rattle.serde_json.specs.View.{view};
+ghost use Rattle.serde_json.specs.Written.{has_float};
+ghost use Rattle.mesh_num.specs.Paths.{paths_of, shapes_of};
+ghost use Rattle.mesh_service.specs.Lines.{point_data, edge_data, list_data, only_member, line_text, edges_text};
+ghost use Rattle.mesh_service.specs.Lines.{shapes_text};
+
+use mesh_num::num::convert::widen;
+use mesh_num::num::{IntNumber, IntPoint, OverlayInt};
+use mesh_num::shape::buffer::IntShapes;
+use mesh_num::shape::edge::DirectedEdge;
+use serde_json::{Value, json};
+use std::alloc::{AllocError, Global};
+
+/// The line that lists the edges of each path. It fails only where memory is refused.
+pub fn edges_line<I: OverlayInt>(
+    alloc: Global,
+    paths: &[Vec<DirectedEdge<I>>],
+) -> Result<String, AllocError>
+    ensures { IfOk result (λ s. string_bytes s ≡ edges_text (paths_of paths.now)) }
+{
+    let list = list_value(alloc, paths)?;
+    let answer = edges_answer(alloc, list)?;
+    line_of(alloc, &answer)
+}
+
+fn edges_answer(alloc: Global, list: Value) -> Result<Value, AllocError>
+    ensures { IfOk result (λ v. view v ≡ only_member (codes "edges") (view list)) }
+{
+    json!(in alloc; { "edges": list })
+}
+
+/// The line that lists shapes. It fails only where memory is refused.
+pub fn shapes_line<I: OverlayInt>(
+    alloc: Global,
+    shapes: &IntShapes<I>,
+) -> Result<String, AllocError>
+    ensures { IfOk result (λ s. string_bytes s ≡ shapes_text (shapes_of shapes.now.items)) }
+{
+    let list = list_value(alloc, shapes)?;
+    let answer = shapes_answer(alloc, list)?;
+    line_of(alloc, &answer)
+}
+
+fn shapes_answer(alloc: Global, list: Value) -> Result<Value, AllocError>
+    ensures { IfOk result (λ v. view v ≡ only_member (codes "shapes") (view list)) }
+{
+    json!(in alloc; { "shapes": list })
+}
+
+fn line_of(alloc: Global, answer: &Value) -> Result<String, AllocError>
+    requires { has_float (view answer.now) ≡ false }
+    ensures { IfOk result (λ s. string_bytes s ≡ line_text (view answer.now)) }
+{
+    let mut line = answer.to_string(alloc)?;
+    line.push('\n')?;
+    Ok(line)
+}
+
+/// The list of what each item is written as.
+fn list_value<T: Written>(alloc: Global, items: &[T]) -> Result<Value, AllocError>
+    ensures { IfOk result (λ v. view v ≡ list_data T.written items.now) }
+{
+    let mut list = Vec::with_capacity(alloc, items.len())?;
+    for item in items {
+        list.push(item.to_value(alloc)?)?;
+    }
+    Ok(Value::Array(list))
+}
+
+/// What is written as a value of JSON.
+trait Written {
+    ghost written: { Self → Data };
+
+    fn to_value(&self, alloc: Global) -> Result<Value, AllocError>
+        ensures { IfOk result (λ v. view v ≡ written self.now) };
+}
+
+/// A list, by its items.
+impl<T: Written> Written for Vec<T> {
+    ghost written = { λ v. list_data T.written v.items };
+
+    fn to_value(&self, alloc: Global) -> Result<Value, AllocError> {
+        list_value(alloc, self)
+    }
+}
+
+/// An edge, by its ends.
+impl<I: OverlayInt> Written for DirectedEdge<I> {
+    ghost written = { λ e. edge_data e };
+
+    fn to_value(&self, alloc: Global) -> Result<Value, AllocError> {
+        let start = self.start.to_value(alloc)?;
+        let end = self.end.to_value(alloc)?;
+        pair(alloc, start, end)
+    }
+}
+
+/// A point, by its coordinates.
+impl<I: OverlayInt> Written for IntPoint<I> {
+    ghost written = { λ p. point_data p };
+
+    fn to_value(&self, alloc: Global) -> Result<Value, AllocError> {
+        pair(alloc, number(self.x), number(self.y))
+    }
+}
+
+/// A list of two values.
+fn pair(alloc: Global, first: Value, second: Value) -> Result<Value, AllocError>
+    ensures { IfOk result (λ v. view v ≡ array (item (view first) (item (view second) no_items))) }
+{
+    json!(in alloc; [first, second])
+}
+
+/// A coordinate as a value.
+fn number<I: IntNumber>(coordinate: I) -> Value
+    ensures { view result ≡ number_value (of_integer (I.value coordinate)) }
+{
+    Value::from(widen(coordinate) as i64)
+}

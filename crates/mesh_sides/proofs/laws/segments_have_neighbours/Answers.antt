@@ -1,6 +1,0 @@
--- The next segment round a vertex.
-use Rattle.mesh_sides.proofs.StarNeighbours.{has_neighbour}
-use Rattle.mesh_sides.proofs.laws.segments_have_neighbours.Goals as goal
-
-pub returns : goal.returns
-returns c es split s stands = let n = has_neighbour es split s stands in (n.at, n.neighbours)

@@ -1,0 +1,5 @@
+-- After an error the buffer is as it was.
+use Rattle.mesh_stroke.proofs.offset.IntStrokeOffset.stroke_into.Goals as goal
+
+pub returns-clause-err : goal.returns-clause-err
+returns-clause-err g c = c.stroke_custom_into.ensures.err

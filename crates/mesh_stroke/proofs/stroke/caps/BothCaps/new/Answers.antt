@@ -1,5 +1,0 @@
--- Each cap is that of its end.
-use Rattle.mesh_stroke.proofs.stroke.caps.BothCaps.new.Goals as goal
-
-pub returns : goal.returns
-returns g c = λ i. (c.new.ensures i, c.new-2.ensures i)

@@ -1,0 +1,89 @@
+//! The caps of both ends of an open path.
+
+ghost use Rattle.std.specs.Prelude.{◌≡◌, ◌≤◌, false, length, take, vec_capacity, IsOk, OnOk};
+ghost use Rattle.mesh_join.specs.Appending.{Appends, HasRoomForEdges};
+ghost use Rattle.mesh_stroke.specs.Caps.{DrawsDirectly};
+ghost use Rattle.mesh_stroke.specs.Ends.{half_turn};
+ghost use Rattle.mesh_stroke.specs.Kinds.{kind_of};
+ghost use Rattle.mesh_stroke.specs.Private.Sections.{own_edge, AreEnds, IsFacing};
+ghost use Rattle.mesh_stroke.specs.Strokes.{both_caps, heading};
+
+use crate::cap::Cap;
+use crate::end::PathEnd;
+use crate::section::StrokeSection;
+use mesh_join::style::IntStrokeStyle;
+use mesh_num::num::IntNumber;
+use mesh_num::shape::segment::Segment;
+use std::alloc::{AllocError, Global};
+use std::marker::Model;
+
+/// The caps at the start and at the end of an open path. Contracts see both kinds.
+#[derive(Drop)]
+pub(crate) struct BothCaps<'a, I: IntNumber> {
+    start: Cap<'a, I>,
+    end: Cap<'a, I>,
+}
+
+impl<'a, I: IntNumber> Model for BothCaps<'a, I> {
+    ghost use Rattle.mesh_stroke.specs.Caps.{CapKind};
+
+    ghost Value = { CapKind × CapKind };
+
+    ghost view = { λ c. (c.start, c.end) };
+}
+
+impl<'a, I: IntNumber> BothCaps<'a, I> {
+    /// The caps of a style. It takes no memory.
+    pub(crate) fn new(alloc: Global, style: &'a IntStrokeStyle<I>) -> Self
+        ensures { result ≡ (kind_of style.now.start_cap, kind_of style.now.end_cap) }
+    {
+        BothCaps {
+            start: Cap::new(alloc, &style.start_cap),
+            end: Cap::new(alloc, &style.end_cap),
+        }
+    }
+
+    /// Adds the caps of an open path with these first and last sections. Where there is room for their edges it
+    /// succeeds, but for a round cap. After a refusal the vector still begins with what it held.
+    pub(crate) fn add(
+        &mut self,
+        first: &StrokeSection<I>,
+        last: &StrokeSection<I>,
+        radius: I,
+        segments: &mut Vec<Segment<I>>,
+    ) -> Result<(), AllocError>
+        requires { AreEnds I.unit (I.value radius) self.old.0 self.old.1 first.now last.now }
+        ensures ok { OnOk result (Appends segments.old segments.new
+            (both_caps I.unit (I.value radius) self.old.0 self.old.1 false (own_edge first.now) (own_edge last.now))) }
+        ensures kept { take (length segments.old.items) segments.new.items ≡ segments.old.items }
+        ensures room { DrawsDirectly self.old.0 → DrawsDirectly self.old.1 → HasRoomForEdges segments.old
+            (both_caps I.unit (I.value radius) self.old.0 self.old.1 false (own_edge first.now) (own_edge last.now))
+            → IsOk result }
+        ensures capacity { vec_capacity segments.old ≤ vec_capacity segments.new }
+        ensures same { self.new ≡ self.old }
+    {
+        let before = StrokeSection::new(first.b, first.a, radius);
+        let after = StrokeSection::new(last.b, last.a, radius);
+        self.start.add(&end_of(&before, first, radius), segments)?;
+        self.end.add(&end_of(last, &after, radius), segments)
+    }
+}
+
+/// The end of a section; `back` is the section read backwards.
+fn end_of<I: IntNumber>(
+    section: &StrokeSection<I>,
+    back: &StrokeSection<I>,
+    radius: I,
+) -> PathEnd<I>
+    requires { IsFacing I.unit (I.value radius) section.now back.now }
+    ensures { result ≡ half_turn I.unit (I.value radius) section.now.b (heading I.unit (own_edge section.now)) }
+{
+    PathEnd {
+        center: section.b,
+        right: section.b_right,
+        left: section.b_left,
+        outward: section.direction,
+        inward: back.direction,
+        radius,
+    }
+}

@@ -1,0 +1,131 @@
+//! Stroke calls on sources of paths.
+
+ghost use Rattle.std.specs.Prelude.{◌≡◌, ◌↔◌, IsOk, IfOk, OnOk, OnErr, List, []};
+ghost use Rattle.mesh_num.specs.FlatContours.{HoldsContours};
+ghost use Rattle.mesh_num.specs.Paths.{contours_of, shapes_of};
+ghost use Rattle.mesh_num.specs.Rectangle.{IsBounds, IsSafeRectangle};
+ghost use Rattle.mesh_plane.specs.Plane.{Point, Edge};
+ghost use Rattle.mesh_lattice.specs.Reach.{ArePointsSafe};
+ghost use Rattle.mesh_below.specs.Options.{choices_of, plain};
+ghost use Rattle.mesh_offset.specs.Padding.{ArePathsSafe, all_points, widened};
+ghost use Rattle.mesh_stroke.specs.Styles.{stroke_padding, stroke_style_of};
+ghost use Rattle.mesh_stroke.specs.Resolved.{IsStroke, HavePromisedEdges};
+ghost use Rattle.mesh_stroke.specs.Staying.{StaysSafe};
+
+use crate::radius::padding;
+use crate::resolve::stroke_overlay;
+use mesh_below::below::{FillRule, IntOverlayOptions, OverlayRule};
+use mesh_join::style::IntStrokeStyle;
+use mesh_num::num::OverlayInt;
+use mesh_num::shape::buffer::{FlatContoursBuffer, IntShapes};
+use mesh_num::shape::resource::IntShapeResource;
+use mesh_offset::bounds::validate_bounds;
+use mesh_offset::error::{IntOutlineError, IntStrokeError};
+use std::alloc::Global;
+
+/// Stroke calls on each source of paths.
+pub trait IntStrokeOffset<I: OverlayInt>: IntShapeResource<I> {
+    /// Whether the source may be stroked in this style: `Ok` exactly where there is no point, or the bounds of all
+    /// points, moved outwards by the style's padding on each side, are in the safe range, for every value of the
+    /// type and every custom cap; the padding counts the caps, whether the paths are closed or not. The only error is
+    /// `CoordinateOutOfRange`. It takes no memory.
+    fn validate_stroke(&self, style: &IntStrokeStyle<I>) -> Result<(), IntStrokeError>
+        ensures safe { IsOk result
+            ↔ ArePathsSafe I.unit (stroke_padding (stroke_style_of I.value style.now)) (Self.paths self.now) }
+        ensures bounds { (bounds : Edge) → IsBounds bounds (all_points (Self.paths self.now))
+            → IsOk result ↔ IsSafeRectangle I.unit
+            (widened (stroke_padding (stroke_style_of I.value style.now)) bounds) }
+        ensures no_point { all_points (Self.paths self.now) ≡ [] → IsOk result }
+        ensures error { OnErr result (result ≡ Err IntOutlineError.CoordinateOutOfRange) };
+
+    /// The stroke of the source's paths, with the default options. See `stroke_custom`.
+    final fn stroke(
+        &self,
+        alloc: Global,
+        style: &IntStrokeStyle<I>,
+        closed: bool,
+    ) -> Result<IntShapes<I>, IntStrokeError>
+        requires { ArePathsSafe I.unit (stroke_padding (stroke_style_of I.value style.now)) (Self.paths self.now) }
+        ensures stroke { IfOk result (λ shapes. IsStroke I.unit (stroke_style_of I.value style.now) closed plain
+            (Self.paths self.now) (shapes_of shapes.items)) }
+        ensures safe { IfOk result (λ shapes. ArePointsSafe I.unit (shapes_of shapes.items)) }
+        ensures error { OnErr result (result ≡ Err IntOutlineError.OutOfMemory) }
+        ensures built { HavePromisedEdges I.unit (stroke_style_of I.value style.now) closed (Self.paths self.now) }
+        ensures stays_safe { StaysSafe I.unit (stroke_style_of I.value style.now) closed (Self.paths self.now) }
+    {
+        self.stroke_custom(alloc, style, closed, IntOverlayOptions::new())
+    }
+
+    /// `stroke`, into a buffer. See `stroke_custom_into`.
+    final fn stroke_into(
+        &self,
+        alloc: Global,
+        style: &IntStrokeStyle<I>,
+        closed: bool,
+        buffer: &mut FlatContoursBuffer<I>,
+    ) -> Result<(), IntStrokeError>
+        requires { ArePathsSafe I.unit (stroke_padding (stroke_style_of I.value style.now)) (Self.paths self.now) }
+        ensures stroke { OnOk result ((answer : List (List (List Point)))
+            × IsStroke I.unit (stroke_style_of I.value style.now) closed plain (Self.paths self.now) answer
+            × ArePointsSafe I.unit answer × HoldsContours buffer.new (contours_of answer)) }
+        ensures error { OnErr result (result ≡ Err IntOutlineError.OutOfMemory) }
+        ensures err { OnErr result (buffer.new ≡ buffer.old) }
+        ensures built { HavePromisedEdges I.unit (stroke_style_of I.value style.now) closed (Self.paths self.now) }
+        ensures stays_safe { StaysSafe I.unit (stroke_style_of I.value style.now) closed (Self.paths self.now) }
+    {
+        self.stroke_custom_into(alloc, style, closed, IntOverlayOptions::new(), buffer)
+    }
+
+    /// The stroke of the source's paths, all closed or all open, as shapes. Each point has to stay in the safe range
+    /// where it moves by the style's padding, which `validate_stroke` tests. The edges of all paths' strokes are
+    /// resolved together with these options. The only error is `OutOfMemory`, where a growth was refused.
+    final fn stroke_custom(
+        &self,
+        alloc: Global,
+        style: &IntStrokeStyle<I>,
+        closed: bool,
+        options: IntOverlayOptions<I::WideUInt>,
+    ) -> Result<IntShapes<I>, IntStrokeError>
+        requires { ArePathsSafe I.unit (stroke_padding (stroke_style_of I.value style.now)) (Self.paths self.now) }
+        ensures stroke { IfOk result (λ shapes. IsStroke I.unit (stroke_style_of I.value style.now) closed
+            (choices_of I.WideUInt.value options) (Self.paths self.now) (shapes_of shapes.items)) }
+        ensures safe { IfOk result (λ shapes. ArePointsSafe I.unit (shapes_of shapes.items)) }
+        ensures error { OnErr result (result ≡ Err IntOutlineError.OutOfMemory) }
+        ensures built { HavePromisedEdges I.unit (stroke_style_of I.value style.now) closed (Self.paths self.now) }
+        ensures stays_safe { StaysSafe I.unit (stroke_style_of I.value style.now) closed (Self.paths self.now) }
+    {
+        let drawn = stroke_overlay(self, alloc, style, closed, options)?;
+        Ok(drawn.overlay(OverlayRule::Subject, FillRule::Positive)?)
+    }
+
+    /// `stroke_custom`, into a buffer: the contours of its shapes in their order, end to end, in place of the buffer's
+    /// own, where there are none too. After an error the buffer is unchanged.
+    final fn stroke_custom_into(
+        &self,
+        alloc: Global,
+        style: &IntStrokeStyle<I>,
+        closed: bool,
+        options: IntOverlayOptions<I::WideUInt>,
+        buffer: &mut FlatContoursBuffer<I>,
+    ) -> Result<(), IntStrokeError>
+        requires { ArePathsSafe I.unit (stroke_padding (stroke_style_of I.value style.now)) (Self.paths self.now) }
+        ensures stroke { OnOk result ((answer : List (List (List Point)))
+            × IsStroke I.unit (stroke_style_of I.value style.now) closed (choices_of I.WideUInt.value options)
+            (Self.paths self.now) answer
+            × ArePointsSafe I.unit answer × HoldsContours buffer.new (contours_of answer)) }
+        ensures error { OnErr result (result ≡ Err IntOutlineError.OutOfMemory) }
+        ensures err { OnErr result (buffer.new ≡ buffer.old) }
+        ensures built { HavePromisedEdges I.unit (stroke_style_of I.value style.now) closed (Self.paths self.now) }
+        ensures stays_safe { StaysSafe I.unit (stroke_style_of I.value style.now) closed (Self.paths self.now) }
+    {
+        let drawn = stroke_overlay(self, alloc, style, closed, options)?;
+        drawn.overlay_into(OverlayRule::Subject, FillRule::Positive, buffer)?;
+        Ok(())
+    }
+}
+
+impl<I: OverlayInt, S: IntShapeResource<I>> IntStrokeOffset<I> for S {
+    fn validate_stroke(&self, style: &IntStrokeStyle<I>) -> Result<(), IntStrokeError> {
+        validate_bounds(self, padding(style))
+    }
+}

@@ -1,0 +1,38 @@
+//! How far strokes reach, and half of their width.
+
+ghost use Rattle.std.specs.Prelude.{◌≡◌, pos, ◌≤ℤ◌};
+ghost use Rattle.std.specs.Int.{int_max};
+ghost use Rattle.mesh_stroke.specs.Styles.{stroke_padding, stroke_style_of};
+
+use crate::cap::Cap;
+use mesh_join::join::Join;
+use mesh_join::style::IntStrokeStyle;
+use mesh_num::num::IntNumber;
+use mesh_num::num::convert::is_wide_less;
+pub use mesh_offset::radius::stroke_radius;
+
+/// How far a stroke of this style reaches from its path in each coordinate, in grid units: the greatest padding of its
+/// joins and its caps. Each style is accepted.
+pub fn padding<I: IntNumber>(style: &IntStrokeStyle<I>) -> I::Wide
+    ensures value { I.Wide.value result ≡ stroke_padding (stroke_style_of I.value style.now) }
+    ensures least { pos 0 ≤ℤ I.Wide.value result }
+{
+    let radius = stroke_radius(style.width);
+    let start = Cap::padding(&style.start_cap, radius);
+    let end = Cap::padding(&style.end_cap, radius);
+    greater::<I>(
+        Join::<I>::padding(style.join, radius),
+        greater::<I>(start, end),
+    )
+}
+
+/// The greater of two wide numbers.
+fn greater<I: IntNumber>(left: I::Wide, right: I::Wide) -> I::Wide
+    ensures { I.Wide.value result ≡ int_max (I.Wide.value left) (I.Wide.value right) }
+{
+    if is_wide_less::<I>(left, right) {
+        right
+    } else {
+        left
+    }
+}

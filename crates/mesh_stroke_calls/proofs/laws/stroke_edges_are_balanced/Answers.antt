@@ -1,6 +1,0 @@
--- The edges of strokes can be resolved.
-use Rattle.mesh_stroke_calls.proofs.Resolving.{stroke_closed}
-use Rattle.mesh_stroke_calls.proofs.laws.stroke_edges_are_balanced.Goals as goal
-
-pub returns : goal.returns
-returns c unit least style closed paths built same = stroke_closed unit least style closed paths built same

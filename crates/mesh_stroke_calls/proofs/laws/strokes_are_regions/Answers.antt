@@ -1,7 +1,0 @@
--- The winding of a stroke's contours.
-use Rattle.mesh_stroke_calls.proofs.Resolving.{stroke_regions}
-use Rattle.mesh_stroke_calls.proofs.laws.strokes_are_regions.Goals as goal
-
-pub returns : goal.returns
-returns c unit least style closed choices paths answer stroke =
-    stroke_regions unit least style closed choices paths answer stroke

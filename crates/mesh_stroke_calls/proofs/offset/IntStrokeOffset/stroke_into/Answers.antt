@@ -1,5 +1,0 @@
--- After an error the buffer is as it was.
-use Rattle.mesh_stroke_calls.proofs.offset.IntStrokeOffset.stroke_into.Goals as goal
-
-pub returns-clause-err : goal.returns-clause-err
-returns-clause-err g c = c.stroke_custom_into.ensures.err

@@ -1,4 +1,0 @@
-pub mod Cases
-pub mod Nearness
-pub mod Sums
-pub mod Swept

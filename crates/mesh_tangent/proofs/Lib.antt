@@ -1,5 +1,0 @@
-pub mod Circles
-pub mod Contacts
-pub mod Covers
-pub mod Directions
-pub mod Lifts

@@ -1,3 +1,0 @@
-pub mod Midway
-pub mod Sections
-pub mod Tangents

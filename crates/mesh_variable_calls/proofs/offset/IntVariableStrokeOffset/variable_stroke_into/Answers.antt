@@ -1,5 +1,0 @@
--- After an error the buffer is as it was handed on.
-use Rattle.mesh_variable_calls.proofs.offset.IntVariableStrokeOffset.variable_stroke_into.Goals as goal
-
-pub returns-clause-err : goal.returns-clause-err
-returns-clause-err g c = c.variable_stroke_custom_into.ensures.err

@@ -1,0 +1,5 @@
+-- After an error the buffer is as it was handed on.
+use Rattle.mesh_variable_stroke.proofs.offset.IntVariableStrokeOffset.variable_stroke_into.Goals as goal
+
+pub returns-clause-err : goal.returns-clause-err
+returns-clause-err g c = c.variable_stroke_custom_into.ensures.err

@@ -1,0 +1,124 @@
+//! Stroke calls on sources of paths whose width changes from vertex to vertex.
+
+ghost use Rattle.std.specs.Prelude.{◌≡◌, ◌↔◌, IsOk, IfOk, OnOk, OnErr, List, []};
+ghost use Rattle.mesh_num.specs.FlatContours.{HoldsContours};
+ghost use Rattle.mesh_num.specs.Paths.{contours_of, shapes_of};
+ghost use Rattle.mesh_num.specs.Rectangle.{IsBounds, IsSafeRectangle};
+ghost use Rattle.mesh_plane.specs.Plane.{Point, Edge};
+ghost use Rattle.mesh_lattice.specs.Reach.{ArePointsSafe};
+ghost use Rattle.mesh_below.specs.Options.{choices_of, plain};
+ghost use Rattle.mesh_offset.specs.Padding.{widened};
+ghost use Rattle.mesh_variable_stroke.specs.Resolved.{IsVariableStroke, HavePromisedEdges};
+ghost use Rattle.mesh_variable_stroke.specs.Staying.{StaysSafe};
+ghost use Rattle.mesh_variable_stroke.specs.Strokable.{ArePathsStrokable, all_vertex_points, padding_of};
+
+use crate::bounds::validate_vertices;
+use crate::resolve::stroke_overlay;
+use crate::resource::IntVariableStrokeSource;
+use mesh_below::below::{FillRule, IntOverlayOptions, OverlayRule};
+use mesh_join::style::IntVariableStrokeStyle;
+use mesh_num::num::OverlayInt;
+use mesh_num::shape::buffer::{FlatContoursBuffer, IntShapes};
+use mesh_offset::error::{IntOutlineError, IntVariableStrokeError};
+use std::alloc::Global;
+
+/// Stroke calls on each source of paths whose width changes from vertex to vertex. A vertex's radius is half of its
+/// width, rounded up; a width below 0 counts as 0.
+pub trait IntVariableStrokeOffset<I: OverlayInt>: IntVariableStrokeSource<I> {
+    /// Whether the source may be stroked: `Ok` exactly where there is no vertex, or the bounds of all points, moved
+    /// outwards by the greatest radius of all vertices on each side, are in the safe range, for every value of the
+    /// type. The only error is `CoordinateOutOfRange`. It takes no memory.
+    fn validate_variable_stroke(&self) -> Result<(), IntVariableStrokeError>
+        ensures safe { IsOk result ↔ ArePathsStrokable I.unit (Self.paths self.now) }
+        ensures bounds { (bounds : Edge) → IsBounds bounds (all_vertex_points (Self.paths self.now))
+            → IsOk result ↔ IsSafeRectangle I.unit (widened (padding_of (Self.paths self.now)) bounds) }
+        ensures no_point { all_vertex_points (Self.paths self.now) ≡ [] → IsOk result }
+        ensures error { OnErr result (result ≡ Err IntOutlineError.CoordinateOutOfRange) };
+
+    /// The stroke of the source's paths, with the default options. See `variable_stroke_custom`.
+    final fn variable_stroke(
+        &self,
+        alloc: Global,
+        style: IntVariableStrokeStyle,
+    ) -> Result<IntShapes<I>, IntVariableStrokeError>
+        requires { ArePathsStrokable I.unit (Self.paths self.now) }
+        ensures stroke { IfOk result (λ shapes. IsVariableStroke I.unit style.arc plain (Self.paths self.now)
+            (shapes_of shapes.items)) }
+        ensures safe { IfOk result (λ shapes. ArePointsSafe I.unit (shapes_of shapes.items)) }
+        ensures error { OnErr result (result ≡ Err IntOutlineError.OutOfMemory) }
+        ensures built { HavePromisedEdges I.unit style.arc (Self.paths self.now) }
+        ensures stays_safe { StaysSafe I.unit style.arc (Self.paths self.now) }
+    {
+        self.variable_stroke_custom(alloc, style, IntOverlayOptions::new())
+    }
+
+    /// `variable_stroke`, into a buffer. See `variable_stroke_custom_into`.
+    final fn variable_stroke_into(
+        &self,
+        alloc: Global,
+        style: IntVariableStrokeStyle,
+        buffer: &mut FlatContoursBuffer<I>,
+    ) -> Result<(), IntVariableStrokeError>
+        requires { ArePathsStrokable I.unit (Self.paths self.now) }
+        ensures stroke { OnOk result ((answer : List (List (List Point)))
+            × IsVariableStroke I.unit style.arc plain (Self.paths self.now) answer
+            × ArePointsSafe I.unit answer × HoldsContours buffer.new (contours_of answer)) }
+        ensures error { OnErr result (result ≡ Err IntOutlineError.OutOfMemory) }
+        ensures err { OnErr result (buffer.new ≡ buffer.old) }
+        ensures built { HavePromisedEdges I.unit style.arc (Self.paths self.now) }
+        ensures stays_safe { StaysSafe I.unit style.arc (Self.paths self.now) }
+    {
+        self.variable_stroke_custom_into(alloc, style, IntOverlayOptions::new(), buffer)
+    }
+
+    /// The stroke of the source's paths as shapes; each path is open. Each vertex has to stay in the safe range where
+    /// its point moves by the greatest radius of all vertices, which `validate_variable_stroke` tests. The edges of all
+    /// paths' strokes are resolved together with these options. The only error is `OutOfMemory`, where a growth was
+    /// refused.
+    final fn variable_stroke_custom(
+        &self,
+        alloc: Global,
+        style: IntVariableStrokeStyle,
+        options: IntOverlayOptions<I::WideUInt>,
+    ) -> Result<IntShapes<I>, IntVariableStrokeError>
+        requires { ArePathsStrokable I.unit (Self.paths self.now) }
+        ensures stroke { IfOk result (λ shapes. IsVariableStroke I.unit style.arc (choices_of I.WideUInt.value options)
+            (Self.paths self.now) (shapes_of shapes.items)) }
+        ensures safe { IfOk result (λ shapes. ArePointsSafe I.unit (shapes_of shapes.items)) }
+        ensures error { OnErr result (result ≡ Err IntOutlineError.OutOfMemory) }
+        ensures built { HavePromisedEdges I.unit style.arc (Self.paths self.now) }
+        ensures stays_safe { StaysSafe I.unit style.arc (Self.paths self.now) }
+    {
+        let drawn = stroke_overlay(self, alloc, style, options)?;
+        Ok(drawn.overlay(OverlayRule::Subject, FillRule::Positive)?)
+    }
+
+    /// `variable_stroke_custom`, into a buffer: the contours of its shapes in their order, end to end, in place of the
+    /// buffer's own, where there are none too. After an error the buffer is unchanged.
+    final fn variable_stroke_custom_into(
+        &self,
+        alloc: Global,
+        style: IntVariableStrokeStyle,
+        options: IntOverlayOptions<I::WideUInt>,
+        buffer: &mut FlatContoursBuffer<I>,
+    ) -> Result<(), IntVariableStrokeError>
+        requires { ArePathsStrokable I.unit (Self.paths self.now) }
+        ensures stroke { OnOk result ((answer : List (List (List Point)))
+            × IsVariableStroke I.unit style.arc (choices_of I.WideUInt.value options) (Self.paths self.now) answer
+            × ArePointsSafe I.unit answer × HoldsContours buffer.new (contours_of answer)) }
+        ensures error { OnErr result (result ≡ Err IntOutlineError.OutOfMemory) }
+        ensures err { OnErr result (buffer.new ≡ buffer.old) }
+        ensures built { HavePromisedEdges I.unit style.arc (Self.paths self.now) }
+        ensures stays_safe { StaysSafe I.unit style.arc (Self.paths self.now) }
+    {
+        let drawn = stroke_overlay(self, alloc, style, options)?;
+        drawn.overlay_into(OverlayRule::Subject, FillRule::Positive, buffer)?;
+        Ok(())
+    }
+}
+
+impl<I: OverlayInt, S: IntVariableStrokeSource<I>> IntVariableStrokeOffset<I> for S {
+    fn validate_variable_stroke(&self) -> Result<(), IntVariableStrokeError> {
+        validate_vertices(self)
+    }
+}
