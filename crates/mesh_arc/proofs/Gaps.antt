@@ -7,7 +7,7 @@ use Rattle.std.proofs.lemmas.Bool.{or_parts, both_ways, not-false, not_from_true
 use Rattle.mesh_plane.specs.Plane.{Point, Edge, length_sq}
 use Rattle.mesh_num.specs.Rotation.{rotated}
 use Rattle.mesh_arc.specs.Arcs.{step_of, bound_of, is_within, is_good, is_passed, turned_times, turned_list, least, ends_after, most_directions, stepped, arc}
-use Rattle.mesh_plane.specs.Ways.{last_of}
+use Rattle.mesh_plane.specs.Turning.{last_of}
 use Rattle.mesh_plane.specs.Winding.{pairs_from}
 use Rattle.mesh_arc.specs.Gaps.{HasNearGaps, ReachesEnd}
 use Rattle.mesh_arc.specs.declared.arc.ArcDirection.{ArcDirection}

@@ -10,14 +10,14 @@ use Rattle.mesh_plane.specs.Bounds.{IsSafe}
 use Rattle.mesh_plane.specs.Plane.{Point, Edge}
 use Rattle.mesh_plane.specs.Winding.{route, boundary}
 use Rattle.mesh_lattice.specs.Boundary.{IsBoundary}
-use Rattle.mesh_plane.specs.Ways.{turns_at, first_or}
+use Rattle.mesh_plane.specs.Turning.{turns_at, first_or}
 use Rattle.mesh_shapes.specs.Contours.{turning_points, vertices, reversed}
 use Rattle.mesh_lattice.specs.Reach.{AreEdgesSafe, ArePointsSafe}
 use Rattle.mesh_shapes.specs.Resolution.{Choices, Ring, Placed, ring_of, is_large, is_head, stands_with, shape_of, answered, AreArranged, IsResolution}
 use Rattle.mesh_lattice.specs.Split.{occurs, after}
 use Rattle.mesh_regions.proofs.BoundaryFill.{boundary_cover}
 use Rattle.mesh_below.proofs.Resolving.{all_occurs}
-use Rattle.mesh_lattice.proofs.SafeCuts.{IsSafeEdge, occurs_safe, split_safe}
+use Rattle.mesh_lattice.proofs.SafeSplits.{IsSafeEdge, occurs_safe, split_safe}
 use Rattle.mesh_plane.proofs.ClosedLists.{all_flat_map, all_left, all_right, boundary_all}
 
 -- ---- split segments
@@ -127,10 +127,10 @@ starts_safe unit (e ∷ es) h =
 
 -- a resolution of safe edges has safe split segments and safe points
 pub resolution_safe : (unit : ℕ) (edges : List Edge) (fill : ℤ → Bool) (options : Choices) (answer : List (List (List Point))) → (r : IsResolution edges fill options answer) →
-    AreEdgesSafe unit edges → AreEdgesSafe unit (after r.cuts edges) × ArePointsSafe unit answer
+    AreEdgesSafe unit edges → AreEdgesSafe unit (after r.splits edges) × ArePointsSafe unit answer
 resolution_safe unit edges fill options answer r h =
-    let split : AreEdgesSafe unit (after r.cuts edges) = split_safe unit edges r.cuts r.legal h in
-    let bounds : AreEdgesSafe unit (flat_map boundary r.contours) = boundary_safe unit (after r.cuts edges) (flat_map boundary r.contours) fill r.bounded split in
+    let split : AreEdgesSafe unit (after r.splits edges) = split_safe unit edges r.splits r.legal h in
+    let bounds : AreEdgesSafe unit (flat_map boundary r.contours) = boundary_safe unit (after r.splits edges) (flat_map boundary r.contours) fill r.bounded split in
     (split, answer_points (IsSafe unit) edges fill options answer r (starts_safe unit (flat_map boundary r.contours) bounds))
 
 pub answer_safe : (unit : ℕ) (edges given : List Edge) (fill : ℤ → Bool) (options : Choices) (answer : List (List (List Point))) → edges ≡ given → AreEdgesSafe unit given →

@@ -18,9 +18,9 @@ use Rattle.mesh_lattice.specs.Split.{occurs, after}
 use Rattle.mesh_lattice.specs.declared.fill.FillRule.{FillRule}
 use Rattle.mesh_lattice.specs.declared.fill.FillRule.TheVariants.{Positive, Negative}
 use Rattle.mesh_regions.proofs.BoundaryFill.{boundary_cover}
-use Rattle.mesh_lattice.proofs.KeptByCuts.{after_balanced}
+use Rattle.mesh_lattice.proofs.KeptBySplits.{after_balanced}
 use Rattle.mesh_regions.proofs.BoundaryRegions.{after_winds}
-use Rattle.mesh_lattice.proofs.SoundCuts.{legal_sound, legal_boxed, after_proper, ProperEnds}
+use Rattle.mesh_lattice.proofs.SoundSplits.{legal_sound, legal_boxed, after_proper, ProperEnds}
 use Rattle.mesh_shapes.proofs.ContoursKept.{vertices_winding}
 use Rattle.mesh_below.proofs.Partition.{answer_winds}
 use Rattle.mesh_lattice.proofs.Each.{Each, each_left, each_right, each_of, proper_of}
@@ -43,11 +43,11 @@ vertices_wind all m q (c ∷ cs) h =
 
 -- the edges as they are cut are split
 pub resolved_split : (edges : List Edge) (fill : ℤ → Bool) (options : Choices) (answer : List (List (List Point))) →
-    IsProper edges → IsBalanced edges → (r : IsResolution edges fill options answer) → AreSplit (after r.cuts edges)
+    IsProper edges → IsBalanced edges → (r : IsResolution edges fill options answer) → AreSplit (after r.splits edges)
 resolved_split edges fill options answer proper balanced r = record {
-  balanced = after_balanced r.cuts edges balanced;
+  balanced = after_balanced r.splits edges balanced;
   clean = r.clean;
-  proper = after_proper r.cuts (legal_sound edges r.cuts r.legal) edges proper;
+  proper = after_proper r.splits (legal_sound edges r.splits r.legal) edges proper;
 }
 
 -- the edges of the contours have different ends
@@ -59,7 +59,7 @@ resolved_proper edges fill options answer proper balanced r =
     (λ (e : Edge) (o : occurs e bounds ≡ true). proper_of es split.proper e (boundary_cover es bounds fill r.bounded e o))
   where
     es : List Edge
-    es = after r.cuts edges
+    es = after r.splits edges
 
     bounds : List Edge
     bounds = flat_map boundary r.contours
@@ -72,14 +72,14 @@ pub regions_of : (edges : List Edge) (fill : ℤ → Bool) (options : Choices) (
 regions_of edges fill options answer proper balanced empty r = record {
   resolution = r;
   split = by_split;
-  given = λ (m : ℕ) (some : 0 < m) (q : Point) (out : OutsideBent r.cuts edges m q).
+  given = λ (m : ℕ) (some : 0 < m) (q : Point) (out : OutsideBent r.splits edges m q).
       by_split m some q ∙ ap (once fill) (unbent m some q out);
   unbent = unbent;
   answered = answer_winds edges fill options answer r;
 }
   where
     es : List Edge
-    es = after r.cuts edges
+    es = after r.splits edges
 
     split : AreSplit es
     split = resolved_split edges fill options answer proper balanced r
@@ -90,8 +90,8 @@ regions_of edges fill options answer proper balanced empty r = record {
     sound : Each ProperEnds bounds
     sound = resolved_proper edges fill options answer proper balanced r
 
-    unbent : (m : ℕ) → 0 < m → (q : Point) → OutsideBent r.cuts edges m q → winding m q es ≡ winding m q edges
-    unbent m some q out = after_winds r.cuts edges (pos m) q (legal_boxed edges r.cuts r.legal) (omega (arith, ints)) (proper_of edges proper) out
+    unbent : (m : ℕ) → 0 < m → (q : Point) → OutsideBent r.splits edges m q → winding m q es ≡ winding m q edges
+    unbent m some q out = after_winds r.splits edges (pos m) q (legal_boxed edges r.splits r.legal) (omega (arith, ints)) (proper_of edges proper) out
 
     by_split : (m : ℕ) → 0 < m → (q : Point) → winding m q (flat_map boundary (map (vertices options.all_vertices) r.contours)) ≡ once fill (winding m q es)
     by_split m some q = vertices_wind options.all_vertices m q r.contours sound ∙ boundary_winds es bounds fill split empty r.bounded m some q

@@ -16,7 +16,7 @@ use Rattle.mesh_lattice.proofs.Counts.{bit_least}
 use Rattle.mesh_lattice.specs.Split.{back}
 use Rattle.mesh_shapes.specs.Vectors.{StartsInOrder}
 use Rattle.mesh_plane.proofs.Sums.{sum_least}
-use Rattle.mesh_shapes.proofs.Walking.{Before, of_before, three_ways}
+use Rattle.mesh_shapes.proofs.Tracing.{Before, of_before, three_ways}
 use Rattle.mesh_plane.proofs.Comparing.{decides_point}
 
 -- ---- elements tested one by one

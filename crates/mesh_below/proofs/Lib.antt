@@ -1,7 +1,7 @@
 pub mod AnswerPoints
 pub mod AnswerRegions
 pub mod Asking
-pub mod GridContours
+pub mod LatticeContours
 pub mod MergedContours
 pub mod Merging
 pub mod NoShapes

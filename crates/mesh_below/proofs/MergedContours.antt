@@ -6,7 +6,7 @@ use Rattle.std.specs.List.{All, flat_map}
 use Rattle.std.proofs.lemmas.Bool.{false≢true}
 use Rattle.std.proofs.lemmas.List.Elements.{All-head, All-tail}
 use Rattle.mesh_plane.specs.Plane.{Point, Edge, minus}
-use Rattle.mesh_plane.specs.Ways.{turns_at}
+use Rattle.mesh_plane.specs.Turning.{turns_at}
 use Rattle.mesh_plane.specs.Winding.{sum_of, route, boundary, same_point}
 use Rattle.mesh_plane.proofs.Comparing.{point_self}
 use Rattle.mesh_plane.proofs.Sums.{sum_of_append, sum_least}
@@ -15,7 +15,7 @@ use Rattle.mesh_lattice.specs.Counted.{bit}
 use Rattle.mesh_lattice.specs.Split.{back, is_end, same_ends, occurs}
 use Rattle.mesh_lattice.proofs.Counts.{bit_least}
 use Rattle.mesh_lattice.proofs.Each.{Each, each_left, each_right}
-use Rattle.mesh_lattice.proofs.SoundCuts.{ProperEnds}
+use Rattle.mesh_lattice.proofs.SoundSplits.{ProperEnds}
 use Rattle.mesh_lattice.proofs.Ends.{decides_ends}
 use Rattle.mesh_shapes.specs.Contours.{turning_points, straight_points, left_out, vertices}
 use Rattle.mesh_below.specs.Answers.{AreOwnBoundary}

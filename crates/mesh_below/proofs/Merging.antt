@@ -24,7 +24,7 @@ use Rattle.mesh_lattice.proofs.SidesBack.{count_more, sides_back}
 use Rattle.mesh_regions.specs.SideLaws.{AreSplit}
 use Rattle.mesh_regions.proofs.Inside.{inside_winding}
 use Rattle.mesh_regions.proofs.BoundaryFill.{net_counts}
-use Rattle.mesh_shapes.proofs.Walking.{counts_same}
+use Rattle.mesh_shapes.proofs.Tracing.{counts_same}
 use Rattle.mesh_below.specs.Answers.{AreOwnBoundary}
 use Rattle.mesh_below.proofs.OwnSides.{edge_net, none_counted}
 use Rattle.mesh_below.proofs.Straight.{RunsThrough, runs_refined, on_parts, middle_on, whole_apart, straight_on, part_inside, rise_alike}

@@ -15,7 +15,7 @@ use Rattle.mesh_shapes.specs.Resolution.{Choices, Ring, ring_of, is_large, answe
 use Rattle.mesh_lattice.specs.Split.{same_ends, occurs}
 use Rattle.mesh_regions.proofs.BoundaryFill.{boundary_cover}
 use Rattle.mesh_lattice.proofs.Ends.{ends_self}
-use Rattle.mesh_lattice.proofs.KeptByCuts.{after_none}
+use Rattle.mesh_lattice.proofs.KeptBySplits.{after_none}
 
 boundary_none : (bs : List Edge) (fill : ℤ → Bool) → IsBoundary [] fill bs → bs ≡ []
 boundary_none [] fill is = refl
@@ -40,7 +40,7 @@ arranged_none clockwise rings answer none a =
 pub no_shapes : (fill : ℤ → Bool) (options : Choices) (answer : List (List (List Point))) → IsResolution [] fill options answer → answer ≡ []
 no_shapes fill options answer r =
     let bounds : flat_map boundary r.contours ≡ [] =
-    boundary_none (flat_map boundary r.contours) fill (subst (λ (es : List Edge). IsBoundary es fill (flat_map boundary r.contours)) (after_none r.cuts) r.bounded) in
+    boundary_none (flat_map boundary r.contours) fill (subst (λ (es : List Edge). IsBoundary es fill (flat_map boundary r.contours)) (after_none r.splits) r.bounded) in
     let none : r.contours ≡ [] = contours_none options.all_vertices r.contours r.begun bounds in
     arranged_none options.clockwise (filter (is_large options.least_area) (map (ring_of options.all_vertices) r.contours)) answer
     (ap (λ (cs : List (List Point)). filter (is_large options.least_area) (map (ring_of options.all_vertices) cs)) none) r.arranged

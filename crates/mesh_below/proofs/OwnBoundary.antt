@@ -14,7 +14,7 @@ use Rattle.mesh_lattice.specs.Clean.{IsProper}
 use Rattle.mesh_lattice.specs.Counted.{bit}
 use Rattle.mesh_lattice.specs.Split.{occurs, after}
 use Rattle.mesh_lattice.proofs.Each.{Each}
-use Rattle.mesh_lattice.proofs.SoundCuts.{ProperEnds}
+use Rattle.mesh_lattice.proofs.SoundSplits.{ProperEnds}
 use Rattle.mesh_regions.specs.SideLaws.{AreSplit}
 use Rattle.mesh_regions.proofs.BoundaryFill.{boundary_cover}
 use Rattle.mesh_regions.proofs.SplitBoundary.{boundary_balances}
@@ -47,7 +47,7 @@ own_boundary edges ordered fill options answer proper balanced empty r least for
     (contours_merged (StartsOnce ordered) options.all_vertices r.contours [] begun sound once).0
   where
     es : List Edge
-    es = after r.cuts edges
+    es = after r.splits edges
 
     bounds : List Edge
     bounds = flat_map boundary r.contours

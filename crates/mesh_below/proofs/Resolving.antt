@@ -14,7 +14,7 @@ use Rattle.mesh_regions.proofs.BoundaryBalance.{boundary_is_balanced}
 use Rattle.mesh_regions.proofs.BoundaryFill.{boundary_cover}
 use Rattle.mesh_lattice.proofs.Keys.{keys, keys_are}
 use Rattle.mesh_lattice.proofs.Ends.{ends_self}
-use Rattle.mesh_shapes.proofs.Walking.{counts_same}
+use Rattle.mesh_shapes.proofs.Tracing.{counts_same}
 use Rattle.mesh_lattice.specs.Boundary.{count, IsBoundary}
 use Rattle.mesh_lattice.specs.Clean.{IsProper}
 use Rattle.mesh_shapes.specs.Contours.{IsBegun, IsRingAmong, IsRingOf, StartsOnce, left_out}
@@ -119,14 +119,14 @@ all_occurs P (e ∷ es) h =
 
 -- ---- the whole way
 -- balanced edges are split edges after a splitting
-pub parts_split : (edges : List Edge) (segments : List Counted) → IsBalanced edges → (s : IsSplitting edges segments) → AreSplit (after s.cuts edges)
+pub parts_split : (edges : List Edge) (segments : List Counted) → IsBalanced edges → (s : IsSplitting edges segments) → AreSplit (after s.splits edges)
 parts_split edges segments balanced s = record { balanced = s.balanced balanced; clean = s.clean; proper = s.proper }
 
 pub parted_balanced : (edges : List Edge) (segments : List Counted) (fill : ℤ → Bool) (parted : List Edge) → fill (pos 0) ≡ false → IsBalanced edges → (s : IsSplitting edges segments) →
-    IsBoundary (after s.cuts edges) fill parted → IsBalanced parted
+    IsBoundary (after s.splits edges) fill parted → IsBalanced parted
 parted_balanced edges segments fill parted empty balanced s is =
-    boundary_is_balanced (after s.cuts edges) (keys (after s.cuts edges)) parted fill
-    (record { balanced = s.balanced balanced; clean = s.clean; proper = s.proper; keys = keys_are (after s.cuts edges) s.proper })
+    boundary_is_balanced (after s.splits edges) (keys (after s.splits edges)) parted fill
+    (record { balanced = s.balanced balanced; clean = s.clean; proper = s.proper; keys = keys_are (after s.splits edges) s.proper })
     is empty
 
 -- lists with the same counts bound the same
@@ -137,14 +137,14 @@ pub boundary_proper : (es bs : List Edge) (fill : ℤ → Bool) → IsProper es 
 boundary_proper es bs fill proper is = all_occurs (λ (e : Edge). same_point e.0 e.1 ≡ false) bs (λ (e : Edge) (o : occurs e bs ≡ true). proper e (boundary_cover es bs fill is e o))
 
 unfoldable pub resolved : (edges : List Edge) (segments : List Counted) (fill : ℤ → Bool) (choices : Choices) (ordered : List Edge) (closed : List (Vec Point Global)) (rings : List RingVec) (told : Told) (answer : List (List (List Point))) →
-    (s : IsSplitting edges segments) → IsBoundary (after s.cuts edges) fill (contour_edges closed) → AreRingsOf choices.all_vertices choices.least_area ordered closed rings told →
+    (s : IsSplitting edges segments) → IsBoundary (after s.splits edges) fill (contour_edges closed) → AreRingsOf choices.all_vertices choices.least_area ordered closed rings told →
     AreArranged choices.clockwise (rings_of_vecs rings) answer → IsResolution edges fill choices answer
 resolved edges segments fill choices ordered closed rings told answer s is k a = record {
-  cuts = s.cuts;
+  splits = s.splits;
   legal = s.legal;
   clean = s.clean;
   contours = k.contours;
-  bounded = same_boundary (after s.cuts edges) fill (contour_edges closed) (flat_map boundary k.contours) (λ (e : Edge). counts_same e (flat_map boundary k.contours) (contour_edges closed) k.same) is;
+  bounded = same_boundary (after s.splits edges) fill (contour_edges closed) (flat_map boundary k.contours) (λ (e : Edge). counts_same e (flat_map boundary k.contours) (contour_edges closed) k.same) is;
   begun = k.begun;
   arranged = subst (λ (rs : List Ring). AreArranged choices.clockwise rs answer) k.rings_are a;
 }

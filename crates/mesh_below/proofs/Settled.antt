@@ -17,7 +17,7 @@ use Rattle.mesh_regions.specs.SideLaws.{AreSplit}
 use Rattle.mesh_regions.proofs.BoundaryFill.{boundary_cover}
 use Rattle.mesh_shapes.specs.Resolution.{Choices, Ring, AreArranged, IsResolution}
 use Rattle.mesh_shapes.specs.Vectors.{RingVec, rings_of_vecs, contour_edges}
-use Rattle.mesh_shapes.proofs.Walking.{counts_same}
+use Rattle.mesh_shapes.proofs.Tracing.{counts_same}
 use Rattle.mesh_below.specs.Answers.{AreOwnBoundary, IsSettled}
 use Rattle.mesh_below.specs.Private.Rings.{AreRingsOf, IsWhole, Told}
 use Rattle.mesh_below.proofs.AnswerRegions.{resolved_split}
@@ -39,7 +39,7 @@ settled edges fill options answer proper balanced empty r least same whole = rec
 }
   where
     es : List Edge
-    es = after r.cuts edges
+    es = after r.splits edges
 
     bounds : List Edge
     bounds = flat_map boundary r.contours
@@ -60,7 +60,7 @@ settled edges fill options answer proper balanced empty r least same whole = rec
 
     again : IsResolution own (filled Positive) options answer
     again = record {
-      cuts = [];
+      splits = [];
       legal = IsLegal.no_cut;
       clean = λ (e f : Edge) (o : occurs e own ≡ true) (p : occurs f own ≡ true). r.clean e f (boundary_cover es own fill bounded e o) (boundary_cover es own fill bounded f p);
       contours = r.contours;
@@ -72,7 +72,7 @@ settled edges fill options answer proper balanced empty r least same whole = rec
 -- what the whole way from edges to shapes answers
 module _ (edges : List Edge) (segments : List Counted) (fill : ℤ → Bool) (choices : Choices) (ordered : List Edge) (closed : List (Vec Point Global)) (rings : List RingVec) (told : Told)
     (answer : List (List (List Point))) (proper : IsProper edges) (balanced : IsBalanced edges) (empty : fill (pos 0) ≡ false) (s : IsSplitting edges segments)
-    (is : IsBoundary (after s.cuts edges) fill (contour_edges closed)) (k : AreRingsOf choices.all_vertices choices.least_area ordered closed rings told)
+    (is : IsBoundary (after s.splits edges) fill (contour_edges closed)) (k : AreRingsOf choices.all_vertices choices.least_area ordered closed rings told)
     (a : AreArranged choices.clockwise (rings_of_vecs rings) answer) where
   pub resolved_settled : told.0 ≡ true → choices.least_area ≡ 0 → choices.clockwise ≡ false → IsSettled choices answer
   unfolding resolved
@@ -95,7 +95,7 @@ pub arranged_again : (choices : Choices) (ordered : List Edge) (closed : List (V
     AreOwnBoundary (contour_edges closed) → AreRingsOf choices.all_vertices choices.least_area ordered closed rings told → AreArranged choices.clockwise (rings_of_vecs rings) answer →
     IsResolution (contour_edges closed) (filled Positive) choices answer
 arranged_again choices ordered closed rings told answer own k a = record {
-  cuts = [];
+  splits = [];
   legal = IsLegal.no_cut;
   clean = own.split.clean;
   contours = k.contours;

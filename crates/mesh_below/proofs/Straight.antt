@@ -13,8 +13,8 @@ use Rattle.mesh_lattice.specs.Boundary.{middle, rises}
 use Rattle.mesh_lattice.proofs.Ends.{decides_end}
 use Rattle.mesh_lattice.proofs.SidesBack.{rises_up, rises_flat}
 use Rattle.mesh_plane.proofs.Crossings.{turn_swap}
-use Rattle.mesh_plane.proofs.Ways.{straight_parts}
-use Rattle.mesh_plane.specs.Ways.{turns_at}
+use Rattle.mesh_plane.proofs.Turning.{straight_parts}
+use Rattle.mesh_plane.specs.Turning.{turns_at}
 use Rattle.std.proofs.lemmas.Bool.{cases_Bool}
 
 -- two vectors look the same way

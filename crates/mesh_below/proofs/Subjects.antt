@@ -9,7 +9,7 @@ use Rattle.mesh_plane.specs.Plane.{Edge}
 use Rattle.mesh_num.specs.Segments.{SignedEdge, IsSubject, edge_of, edges_of}
 use Rattle.mesh_plane.specs.Winding.{same_point}
 use Rattle.mesh_lattice.specs.Clean.{IsProper}
-use Rattle.mesh_lattice.proofs.SoundCuts.{ProperEnds, each_proper, proper_each}
+use Rattle.mesh_lattice.proofs.SoundSplits.{ProperEnds, each_proper, proper_each}
 use Rattle.mesh_lattice.proofs.Ends.{forward_proper}
 use Rattle.mesh_lattice.proofs.Each.{Each, each_append}
 use Rattle.mesh_plane.proofs.Comparing.{decides_point}

@@ -5,7 +5,7 @@ use Rattle.std.specs.List.{All}
 use Rattle.std.proofs.lemmas.Int.{ints}
 use Rattle.std.proofs.lemmas.List.Elements.{All-head, All-tail}
 use Rattle.mesh_plane.specs.Plane.{Point, Edge}
-use Rattle.mesh_plane.specs.Ways.{turns_at, first_or}
+use Rattle.mesh_plane.specs.Turning.{turns_at, first_or}
 use Rattle.mesh_plane.specs.Winding.{sum_of, boundary}
 use Rattle.mesh_plane.proofs.ClosedLists.{boundary_length}
 use Rattle.mesh_plane.proofs.Sums.{sum_of_ones}

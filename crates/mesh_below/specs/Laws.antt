@@ -21,12 +21,12 @@ pub record AreRegions (edges : List Edge) (fill : ℤ → Bool) (options : Choic
   pub resolution : IsResolution edges fill options answer
   pub split : (m : ℕ) → 0 < m → (q : Point) →
       winding m q (flat_map boundary (map (vertices options.all_vertices) resolution.contours))
-      ≡ once fill (winding m q (after resolution.cuts edges))
-  pub given : (m : ℕ) → 0 < m → (q : Point) → OutsideBent resolution.cuts edges m q →
+      ≡ once fill (winding m q (after resolution.splits edges))
+  pub given : (m : ℕ) → 0 < m → (q : Point) → OutsideBent resolution.splits edges m q →
       winding m q (flat_map boundary (map (vertices options.all_vertices) resolution.contours))
       ≡ once fill (winding m q edges)
-  pub unbent : (m : ℕ) → 0 < m → (q : Point) → OutsideBent resolution.cuts edges m q →
-      winding m q (after resolution.cuts edges) ≡ winding m q edges
+  pub unbent : (m : ℕ) → 0 < m → (q : Point) → OutsideBent resolution.splits edges m q →
+      winding m q (after resolution.splits edges) ≡ winding m q edges
   pub answered : options.least_area ≡ 0 → options.clockwise ≡ false → (m : ℕ) (q : Point) →
       winding m q (flat_map boundary (contours_of answer))
       ≡ winding m q (flat_map boundary (map (vertices options.all_vertices) resolution.contours))
@@ -50,4 +50,4 @@ abbrev pub AnswersAreSafe : Type 0
 AnswersAreSafe =
     (unit : ℕ) (edges : List Edge) (fill : ℤ → Bool) (options : Choices) (answer : List (List (List Point)))
     → AreEdgesSafe unit edges → (r : IsResolution edges fill options answer)
-    → AreEdgesSafe unit (after r.cuts edges) × ArePointsSafe unit answer
+    → AreEdgesSafe unit (after r.splits edges) × ArePointsSafe unit answer

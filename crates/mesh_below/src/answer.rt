@@ -7,15 +7,15 @@ ghost use Rattle.mesh_num.specs.Paths.{contours_of, paths_of, shapes_of};
 ghost use Rattle.mesh_below.specs.Private.Rings.{PushesContours};
 ghost use Rattle.mesh_lattice.specs.Reach.{ArePointsSafe};
 
-use crate::given::grid_point;
-use mesh_lattice::grid::GridPoint;
+use crate::given::lattice_point;
+use mesh_lattice::lattice::LatticePoint;
 use mesh_num::num::convert::narrow;
 use mesh_num::num::{IntNumber, IntPoint};
 use mesh_num::shape::buffer::IntShapes;
 use std::alloc::{AllocError, Global};
 
 /// A point in the safe range with coordinates of the caller's width.
-fn int_point<I: IntNumber>(p: GridPoint) -> IntPoint<I>
+fn int_point<I: IntNumber>(p: LatticePoint) -> IntPoint<I>
     requires { IsSafe I.unit p }
     ensures { result ≡ p }
 {
@@ -25,7 +25,7 @@ fn int_point<I: IntNumber>(p: GridPoint) -> IntPoint<I>
 /// A contour of such points.
 fn int_contour<I: IntNumber>(
     alloc: Global,
-    contour: &[GridPoint],
+    contour: &[LatticePoint],
 ) -> Result<Vec<IntPoint<I>>, AllocError>
     requires { All (IsSafe I.unit) contour.now }
     ensures { IfOk result (λ v. v.items ≡ contour.now) }
@@ -40,7 +40,7 @@ fn int_contour<I: IntNumber>(
 /// A shape of such contours.
 fn int_shape<I: IntNumber>(
     alloc: Global,
-    shape: &[Vec<GridPoint>],
+    shape: &[Vec<LatticePoint>],
 ) -> Result<Vec<Vec<IntPoint<I>>>, AllocError>
     requires { All (λ c. All (IsSafe I.unit) c) (paths_of shape.now) }
     ensures { IfOk result (λ v. paths_of v.items ≡ paths_of shape.now) }
@@ -55,7 +55,7 @@ fn int_shape<I: IntNumber>(
 /// Shapes of points in the safe range, with coordinates of the caller's width.
 pub fn int_shapes<I: IntNumber>(
     alloc: Global,
-    shapes: &[Vec<Vec<GridPoint>>],
+    shapes: &[Vec<Vec<LatticePoint>>],
 ) -> Result<IntShapes<I>, AllocError>
     requires { ArePointsSafe I.unit (shapes_of shapes.now) }
     ensures { IfOk result (λ v. shapes_of v.items ≡ shapes_of shapes.now) }
@@ -68,15 +68,15 @@ pub fn int_shapes<I: IntNumber>(
 }
 
 /// A contour as points of the grid.
-fn grid_contour<I: IntNumber>(
+fn lattice_contour<I: IntNumber>(
     alloc: Global,
     contour: &[IntPoint<I>],
-) -> Result<Vec<GridPoint>, AllocError>
+) -> Result<Vec<LatticePoint>, AllocError>
     ensures { IfOk result (λ v. v.items ≡ contour.now) }
 {
     let mut points = Vec::with_capacity(alloc, contour.len())?;
     for p in contour {
-        points.push(grid_point(*p))?;
+        points.push(lattice_point(*p))?;
     }
     Ok(points)
 }
@@ -84,7 +84,7 @@ fn grid_contour<I: IntNumber>(
 /// Adds a contour, if it has a point.
 fn push_contour<I: IntNumber>(
     alloc: Global,
-    contours: &mut Vec<Vec<GridPoint>>,
+    contours: &mut Vec<Vec<LatticePoint>>,
     contour: &[IntPoint<I>],
 ) -> Result<(), AllocError>
     ensures { OnOk result (PushesContours contours.old.items contours.new.items (contour.now ∷ [])) }
@@ -92,14 +92,14 @@ fn push_contour<I: IntNumber>(
     if contour.is_empty() {
         return Ok(());
     }
-    contours.push(grid_contour(alloc, contour)?)?;
+    contours.push(lattice_contour(alloc, contour)?)?;
     Ok(())
 }
 
 /// Adds the contours of a shape that have a point.
 fn push_contours<I: IntNumber>(
     alloc: Global,
-    contours: &mut Vec<Vec<GridPoint>>,
+    contours: &mut Vec<Vec<LatticePoint>>,
     shape: &[Vec<IntPoint<I>>],
 ) -> Result<(), AllocError>
     ensures { OnOk result (PushesContours contours.old.items contours.new.items (paths_of shape.now)) }
@@ -111,10 +111,10 @@ fn push_contours<I: IntNumber>(
 }
 
 /// The contours of shapes that have a point.
-pub fn grid_contours<I: IntNumber>(
+pub fn lattice_contours<I: IntNumber>(
     alloc: Global,
     shapes: &[Vec<Vec<IntPoint<I>>>],
-) -> Result<Vec<Vec<GridPoint>>, AllocError>
+) -> Result<Vec<Vec<LatticePoint>>, AllocError>
     ensures { IfOk result (λ v. PushesContours [] v.items (contours_of (shapes_of shapes.now))) }
 {
     let mut contours = Vec::new(alloc);

@@ -18,8 +18,8 @@ ghost use Rattle.mesh_below.specs.Options.{choices_of, plain};
 ghost use Rattle.mesh_lattice.specs.Reach.{AreEdgesSafe, ArePointsSafe};
 ghost use Rattle.mesh_shapes.specs.Resolution.{IsResolution};
 
-use crate::answer::{grid_contours, int_shapes};
-use crate::given::grid_edges;
+use crate::answer::{int_shapes, lattice_contours};
+use crate::given::lattice_edges;
 use crate::resolve::{Choices, arranged_contours, resolve};
 pub use mesh_lattice::fill::FillRule;
 use mesh_num::num::{IntNumber, WideUnsigned};
@@ -225,7 +225,7 @@ impl<I: IntNumber> Overlay<I> {
             answer.is_settled answer.is_own_boundary) }
     {
         let alloc = *self.segments.allocator();
-        let edges = grid_edges(alloc, &self.segments)?;
+        let edges = lattice_edges(alloc, &self.segments)?;
         let answer = resolve(alloc, &edges, fill, self.choices())?;
         Ok(OverlayAnswer {
             shapes: int_shapes(alloc, &answer.shapes)?,
@@ -281,7 +281,7 @@ pub fn arranged<I: IntNumber>(
         (choices_of I.WideUInt.value options) (shapes_of answer.items)) }
     ensures safe { IfOk result (λ answer. ArePointsSafe I.unit (shapes_of answer.items)) }
 {
-    let contours = grid_contours(alloc, shapes)?;
+    let contours = lattice_contours(alloc, shapes)?;
     let answer = arranged_contours(alloc, contours, choices_for::<I>(options))?;
     Ok(int_shapes(alloc, &answer)?)
 }

@@ -10,12 +10,12 @@ ghost use Rattle.mesh_below.specs.Asked.{AreResolvable};
 ghost use Rattle.mesh_lattice.specs.Reach.{AreEdgesSafe};
 ghost use Rattle.mesh_lattice.specs.Split.{back};
 
-use crate::given::{coordinate, grid_edges, grid_point};
+use crate::given::{coordinate, lattice_edges, lattice_point};
 use mesh_lattice::exact::{is_before, same_point};
-use mesh_lattice::grid::{GridEdge, GridPoint};
+use mesh_lattice::lattice::{LatticeEdge, LatticePoint};
 use mesh_num::num::IntNumber;
 use mesh_num::shape::segment::Segment;
-use mesh_shapes::walk::in_order;
+use mesh_shapes::trace::edges_by_start;
 use std::alloc::{AllocError, Global};
 
 /// Whether a segment is as `Segment::subject` gives it.
@@ -23,8 +23,8 @@ fn is_subject<I: IntNumber>(s: Segment<I>) -> bool
     ensures { IsTrue result ↔ IsSubject s }
 {
     let count = s.count;
-    let a = grid_point(s.x_segment.a);
-    let b = grid_point(s.x_segment.b);
+    let a = lattice_point(s.x_segment.a);
+    let b = lattice_point(s.x_segment.b);
     is_before(a, b) && (count == 1 || count == -1)
 }
 
@@ -47,13 +47,13 @@ fn unit<I: IntNumber>() -> u32
 }
 
 /// Whether both coordinates are below `unit` in size.
-fn is_safe(unit: u32, p: GridPoint) -> bool
+fn is_safe(unit: u32, p: LatticePoint) -> bool
     ensures { IsTrue result ↔ IsSafe unit p }
 {
     p.0.unsigned_abs() < unit && p.1.unsigned_abs() < unit
 }
 
-fn are_safe(unit: u32, edges: &[GridEdge]) -> bool
+fn are_safe(unit: u32, edges: &[LatticeEdge]) -> bool
     ensures { IsTrue result ↔ AreEdgesSafe unit edges.now }
 {
     for e in edges {
@@ -68,7 +68,7 @@ fn are_safe(unit: u32, edges: &[GridEdge]) -> bool
 }
 
 /// The edges the other way about.
-fn backwards(alloc: Global, edges: &[GridEdge]) -> Result<Vec<GridEdge>, AllocError>
+fn backwards(alloc: Global, edges: &[LatticeEdge]) -> Result<Vec<LatticeEdge>, AllocError>
     ensures { IfOk result (λ v. v.items ≡ map back edges.now) }
 {
     let mut backwards = Vec::with_capacity(alloc, edges.len())?;
@@ -79,7 +79,7 @@ fn backwards(alloc: Global, edges: &[GridEdge]) -> Result<Vec<GridEdge>, AllocEr
 }
 
 /// Whether the edges at the same places start at the same points, and there are as many.
-fn start_alike(first: &[GridEdge], second: &[GridEdge]) -> bool
+fn start_alike(first: &[LatticeEdge], second: &[LatticeEdge]) -> bool
     ensures { IsTrue result ↔ map (λ (e : Edge). e.0) first.now ≡ map (λ (e : Edge). e.0) second.now }
 {
     if first.len() != second.len() {
@@ -94,11 +94,11 @@ fn start_alike(first: &[GridEdge], second: &[GridEdge]) -> bool
 }
 
 /// Whether at each point as many of the edges start as end. `Err` says that memory was refused.
-pub fn are_balanced(alloc: Global, edges: &[GridEdge]) -> Result<bool, AllocError>
+pub fn are_balanced(alloc: Global, edges: &[LatticeEdge]) -> Result<bool, AllocError>
     ensures { IfOk result (λ b. IsTrue b ↔ IsBalanced edges.now) }
 {
-    let leaving = in_order(Vec::from_slice(alloc, edges)?);
-    let entering = in_order(backwards(alloc, edges)?);
+    let leaving = edges_by_start(Vec::from_slice(alloc, edges)?);
+    let entering = edges_by_start(backwards(alloc, edges)?);
     Ok(start_alike(&leaving, &entering))
 }
 
@@ -113,7 +113,7 @@ pub fn are_resolvable<I: IntNumber>(
     if !are_subjects(segments) {
         return Ok(false);
     }
-    let edges = grid_edges(alloc, segments)?;
+    let edges = lattice_edges(alloc, segments)?;
     if !are_safe(unit::<I>(), &edges) {
         return Ok(false);
     }

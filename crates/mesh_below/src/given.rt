@@ -6,7 +6,7 @@ ghost use Rattle.mesh_num.specs.Segments.{IsSubject, edge_of, edges_of};
 ghost use Rattle.mesh_lattice.specs.Clean.{IsProper};
 
 use mesh_lattice::exact::same_point;
-use mesh_lattice::grid::{GridEdge, GridPoint};
+use mesh_lattice::lattice::{LatticeEdge, LatticePoint};
 use mesh_num::num::{IntNumber, IntPoint};
 use mesh_num::shape::segment::Segment;
 use std::alloc::{AllocError, Global};
@@ -19,39 +19,39 @@ pub(crate) fn coordinate<I: IntNumber>(number: I) -> i32
 }
 
 /// A point with coordinates of either width.
-pub fn grid_point<I: IntNumber>(p: IntPoint<I>) -> GridPoint
+pub fn lattice_point<I: IntNumber>(p: IntPoint<I>) -> LatticePoint
     ensures { result ≡ p }
 {
     (coordinate(p.x), coordinate(p.y))
 }
 
 /// The edge that a segment stands for.
-pub fn grid_edge<I: IntNumber>(s: Segment<I>) -> GridEdge
+pub fn lattice_edge<I: IntNumber>(s: Segment<I>) -> LatticeEdge
     ensures { result ≡ edge_of s }
 {
     let edge = s.edge();
-    (grid_point(edge.start), grid_point(edge.end))
+    (lattice_point(edge.start), lattice_point(edge.end))
 }
 
 /// The edges that segments stand for, in their order. Segments are as `Segment::subject` gives them.
 /// `Err` says that memory was refused.
-pub fn grid_edges<I: IntNumber>(
+pub fn lattice_edges<I: IntNumber>(
     alloc: Global,
     segments: &[Segment<I>],
-) -> Result<Vec<GridEdge>, AllocError>
+) -> Result<Vec<LatticeEdge>, AllocError>
     requires { All IsSubject segments.now }
     ensures value { IfOk result (λ v. v.items ≡ edges_of segments.now) }
     ensures proper { IfOk result (λ v. IsProper v.items) }
 {
     let mut edges = Vec::with_capacity(alloc, segments.len())?;
     for s in segments {
-        edges.push(grid_edge(*s))?;
+        edges.push(lattice_edge(*s))?;
     }
     Ok(edges)
 }
 
 /// Whether no edge ends where it starts.
-pub fn are_proper(edges: &[GridEdge]) -> bool
+pub fn are_proper(edges: &[LatticeEdge]) -> bool
     ensures { IsTrue result ↔ IsProper edges.now }
 {
     for e in edges {

@@ -17,5 +17,5 @@ pub mod given;
 pub mod laws;
 mod resolve;
 
-pub use mesh_lattice::{fill, grid};
+pub use mesh_lattice::{fill, lattice};
 pub use mesh_split::splitter;

@@ -16,10 +16,10 @@ ghost use Rattle.mesh_shapes.specs.Vectors.{HavePoints, StartsInOrder, contour_e
 
 use mesh_boundary::sides::find_boundary;
 use mesh_lattice::fill::FillRule;
-use mesh_lattice::grid::{GridEdge, GridPoint};
+use mesh_lattice::lattice::{LatticeEdge, LatticePoint};
 use mesh_shapes::arrange::{is_large, shapes};
 use mesh_shapes::ring::{Ring, ring_of};
-use mesh_shapes::walk::{contours, in_order};
+use mesh_shapes::trace::{contours, edges_by_start};
 use mesh_split::splitter::split_edges;
 use std::alloc::{AllocError, Global};
 
@@ -40,7 +40,7 @@ pub struct Choices {
 #[derive(Drop)]
 pub struct GridAnswer {
     /// The shapes.
-    pub shapes: Vec<Vec<Vec<GridPoint>>>,
+    pub shapes: Vec<Vec<Vec<LatticePoint>>>,
     /// Whether they are known to be settled.
     pub is_settled: bool,
     /// Whether the edges of their contours are known to be their own boundary.
@@ -52,9 +52,9 @@ pub struct GridAnswer {
 fn push_ring(
     alloc: Global,
     rings: &mut Vec<Ring>,
-    contour: Vec<GridPoint>,
+    contour: Vec<LatticePoint>,
     choices: Choices,
-    ordered: &[GridEdge],
+    ordered: &[LatticeEdge],
 ) -> Result<(bool, bool), AllocError>
     requires has_points { 0 < length contour.items }
     requires proper { All (λ (e : Edge). same_point e.0 e.1 ≡ false) (boundary contour.items) }
@@ -75,9 +75,9 @@ fn push_ring(
 /// The rings of contours, without the small ones, and what is told of the contours.
 fn rings_of(
     alloc: Global,
-    contours: Vec<Vec<GridPoint>>,
+    contours: Vec<Vec<LatticePoint>>,
     choices: Choices,
-    ordered: &[GridEdge],
+    ordered: &[LatticeEdge],
 ) -> Result<(Vec<Ring>, (bool, bool)), AllocError>
     requires have_points { HavePoints contours.items }
     requires proper { All (λ (e : Edge). same_point e.0 e.1 ≡ false) (contour_edges contours.items) }
@@ -109,7 +109,7 @@ fn answers_all(choices: Choices) -> bool
 /// It fails only where memory is refused.
 pub fn resolve(
     alloc: Global,
-    edges: &[GridEdge],
+    edges: &[LatticeEdge],
     fill: FillRule,
     choices: Choices,
 ) -> Result<GridAnswer, AllocError>
@@ -126,7 +126,7 @@ pub fn resolve(
 {
     let segments = split_edges(alloc, edges)?;
     let parted = find_boundary(alloc, &segments, fill)?;
-    let ordered = in_order(parted);
+    let ordered = edges_by_start(parted);
     let closed = contours(alloc, &ordered)?;
     let (rings, (are_whole, are_lone)) = rings_of(alloc, closed, choices, &ordered)?;
     let shapes = shapes(alloc, rings, choices.clockwise)?;
@@ -142,9 +142,9 @@ pub fn resolve(
 /// boundary, and so need no splitting. It fails only where memory is refused.
 pub fn arranged_contours(
     alloc: Global,
-    contours: Vec<Vec<GridPoint>>,
+    contours: Vec<Vec<LatticePoint>>,
     choices: Choices,
-) -> Result<Vec<Vec<Vec<GridPoint>>>, AllocError>
+) -> Result<Vec<Vec<Vec<LatticePoint>>>, AllocError>
     requires have_points { HavePoints contours.items }
     requires own_boundary { AreOwnBoundary (contour_edges contours.items) }
     ensures { IfOk result (λ v. IsResolution (contour_edges contours.items) (filled Positive)

@@ -1,7 +1,7 @@
 //! What split segments are, in plain words: how often they wind, how much more is counted from a point than to it,
 //! whether two of them meet, and which edges may have been bent.
 
-use mesh_below::grid::{CountedSegment, GridEdge};
+use mesh_below::lattice::{CountedSegment, LatticeEdge};
 use mesh_test_support::plain::{Edge, Point, cross, crossing, minus, refined};
 use std::alloc::{AllocError, Global};
 
@@ -9,7 +9,7 @@ use std::alloc::{AllocError, Global};
 pub type Counted = (Edge, i128);
 
 /// The edge, plainly.
-pub fn plain(e: GridEdge) -> Edge {
+pub fn plain(e: LatticeEdge) -> Edge {
     let ((a, b), (c, d)) = e;
     (
         (i128::from(a), i128::from(b)),
@@ -18,7 +18,7 @@ pub fn plain(e: GridEdge) -> Edge {
 }
 
 /// The plain edges.
-pub fn plain_edges(alloc: Global, edges: &[GridEdge]) -> Result<Vec<Edge>, AllocError> {
+pub fn plain_edges(alloc: Global, edges: &[LatticeEdge]) -> Result<Vec<Edge>, AllocError> {
     let mut found = Vec::new(alloc);
     for e in edges {
         found.push(plain(*e))?;

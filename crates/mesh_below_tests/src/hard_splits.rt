@@ -7,7 +7,7 @@ use crate::counted::{plain, plain_edges};
 use crate::random_splits::push_closed;
 use mesh_below::below::FillRule;
 use mesh_below::given::are_proper;
-use mesh_below::grid::{CountedSegment, GridEdge};
+use mesh_below::lattice::{CountedSegment, LatticeEdge};
 use mesh_below::splitter::split_edges_counted;
 use mesh_test_support::compared::{expect_equal, expect_that};
 use mesh_test_support::edges::edges_of_shapes;
@@ -189,14 +189,14 @@ fn expect_near(segments: &[CountedSegment], edges: &[Edge]) -> Result<(), Fail> 
 /// too.
 #[derive(Drop)]
 struct Split {
-    edges: Vec<GridEdge>,
+    edges: Vec<LatticeEdge>,
     segments: Vec<CountedSegment>,
     splits: usize,
 }
 
 /// Splits the edges of a contour until none meets another.
 fn split_contour(alloc: Global, corners: &[(i32, i32)]) -> Result<Split, Fail> {
-    let mut edges: Vec<GridEdge> = Vec::new(alloc);
+    let mut edges: Vec<LatticeEdge> = Vec::new(alloc);
     push_closed(&mut edges, corners)?;
     if !are_proper(&edges) {
         return Err(Fail::new(format_args!("{corners:?}")));

@@ -5,7 +5,7 @@ ghost use Rattle.std.specs.Prelude.{◌<◌};
 
 use crate::random_splits::{expect_split, push_closed};
 use crate::splits::split_sorted;
-use mesh_below::grid::GridEdge;
+use mesh_below::lattice::LatticeEdge;
 use mesh_test_support::compared::expect_equal;
 use mesh_test_support::random::{Random, scattered};
 use std::alloc::{AllocError, Global};
@@ -23,7 +23,7 @@ fn beside(random: &mut Random, spot: (i32, i32)) -> (i32, i32) {
 }
 
 /// A closed list in which two points have one beside them: some edges are nearly equal.
-fn twins(alloc: Global, random: &mut Random) -> Result<Vec<GridEdge>, AllocError> {
+fn twins(alloc: Global, random: &mut Random) -> Result<Vec<LatticeEdge>, AllocError> {
     let first = random.point(SIZE);
     let second = random.point(SIZE);
     let spots = [
@@ -40,14 +40,14 @@ fn twins(alloc: Global, random: &mut Random) -> Result<Vec<GridEdge>, AllocError
 }
 
 /// Edges of which most cross many others.
-fn crowded(alloc: Global, random: &mut Random, count: u32) -> Result<Vec<GridEdge>, AllocError> {
+fn crowded(alloc: Global, random: &mut Random, count: u32) -> Result<Vec<LatticeEdge>, AllocError> {
     let mut edges = Vec::new(alloc);
     push_closed(&mut edges, &scattered(alloc, random, count, SIZE)?)?;
     Ok(edges)
 }
 
 /// Edges each of which stands up to three times, some the other way about.
-fn repeated(alloc: Global, random: &mut Random) -> Result<Vec<GridEdge>, AllocError> {
+fn repeated(alloc: Global, random: &mut Random) -> Result<Vec<LatticeEdge>, AllocError> {
     let mut edges = Vec::new(alloc);
     for (start, end) in crowded(alloc, random, 4)? {
         for _ in 0..random.below(3) + 1 {
@@ -62,7 +62,7 @@ fn repeated(alloc: Global, random: &mut Random) -> Result<Vec<GridEdge>, AllocEr
 }
 
 /// Level edges side by side, none of which meets another one.
-fn apart(alloc: Global, random: &mut Random) -> Result<Vec<GridEdge>, AllocError> {
+fn apart(alloc: Global, random: &mut Random) -> Result<Vec<LatticeEdge>, AllocError> {
     let mut edges = Vec::new(alloc);
     for row in 0..random.below(SIZE) as i32 {
         let start = random.below(SIZE) as i32;

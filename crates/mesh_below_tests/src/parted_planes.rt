@@ -3,7 +3,7 @@
 ghost use Rattle.std.specs.Prelude.{◌<◌, ◌^◌};
 
 use crate::random_splits::{expect_split, push_closed};
-use mesh_below::grid::GridEdge;
+use mesh_below::lattice::LatticeEdge;
 use mesh_test_support::random::{Random, scattered};
 use std::alloc::{AllocError, Global};
 use std::test::Fail;
@@ -12,7 +12,7 @@ use std::test::Fail;
 const COUNT: u32 = 90;
 
 /// Edges of one closed list in a square of this size. In a small one, many of their ends are equal.
-fn crowd(alloc: Global, random: &mut Random, size: u32) -> Result<Vec<GridEdge>, AllocError>
+fn crowd(alloc: Global, random: &mut Random, size: u32) -> Result<Vec<LatticeEdge>, AllocError>
     requires least { 0 < size }
     requires most { size < 2 ^ 31 }
 {

@@ -4,7 +4,7 @@ use crate::answers::{answered_shapes, expect_resolvable, overlay_of};
 use crate::counted::{bent, counted, is_near};
 use crate::splits::split_sorted;
 use mesh_below::below::{ContourDirection, FillRule, Overlay, OverlayRule};
-use mesh_below::given::grid_edge;
+use mesh_below::given::lattice_edge;
 use mesh_num::shape::buffer::IntShapes;
 use mesh_test_support::compared::{expect_equal, expect_that};
 use mesh_test_support::edges::{edges_of_segments, edges_of_shapes};
@@ -110,7 +110,7 @@ fn bent_edges(overlay: &Overlay<i32>) -> Result<Vec<Edge>, AllocError> {
     let alloc = *overlay.segments.allocator();
     let mut given = Vec::new(alloc);
     for segment in &overlay.segments {
-        given.push(grid_edge(*segment))?;
+        given.push(lattice_edge(*segment))?;
     }
     let segments = counted(alloc, &split_sorted(alloc, &given)?)?;
     let edges = edges_of_segments(alloc, &overlay.segments)?;

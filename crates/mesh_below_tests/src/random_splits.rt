@@ -7,7 +7,7 @@ use crate::counted::{
     plain_edges,
 };
 use crate::splits::split_sorted;
-use mesh_below::grid::GridEdge;
+use mesh_below::lattice::LatticeEdge;
 use mesh_test_support::compared::{expect_equal, expect_that};
 use mesh_test_support::plain::Edge;
 use mesh_test_support::random::{Random, scattered, slanted_edges};
@@ -15,7 +15,7 @@ use std::alloc::{AllocError, Global};
 use std::test::Fail;
 
 /// Adds the edges of a closed list of points, but for those that end where they start.
-pub fn push_closed(edges: &mut Vec<GridEdge>, spots: &[(i32, i32)]) -> Result<(), AllocError> {
+pub fn push_closed(edges: &mut Vec<LatticeEdge>, spots: &[(i32, i32)]) -> Result<(), AllocError> {
     let Some(last) = spots.last() else {
         return Ok(());
     };
@@ -30,7 +30,7 @@ pub fn push_closed(edges: &mut Vec<GridEdge>, spots: &[(i32, i32)]) -> Result<()
 }
 
 /// Edges that close up: one to four contours of three to six points in a square of `size`.
-fn contours(alloc: Global, random: &mut Random, size: u32) -> Result<Vec<GridEdge>, AllocError>
+fn contours(alloc: Global, random: &mut Random, size: u32) -> Result<Vec<LatticeEdge>, AllocError>
     requires least { 0 < size }
     requires most { size < 2 ^ 31 }
 {
@@ -98,7 +98,7 @@ fn expect_same_winding(
 }
 
 /// All that split segments are, whether or not edges may be bent. Answers at how many points they wind.
-pub fn expect_split(alloc: Global, edges: &[GridEdge], may_bend: bool) -> Result<u32, Fail> {
+pub fn expect_split(alloc: Global, edges: &[LatticeEdge], may_bend: bool) -> Result<u32, Fail> {
     let segments = counted(alloc, &split_sorted(alloc, edges)?)?;
     let edges = plain_edges(alloc, edges)?;
     let given = once_each(alloc, &edges)?;

@@ -1,14 +1,17 @@
 //! Worked lists of edges, and what they are split into.
 
 use mesh_below::given::are_proper;
-use mesh_below::grid::{CountedSegment, GridEdge};
+use mesh_below::lattice::{CountedSegment, LatticeEdge};
 use mesh_below::splitter::split_edges;
 use mesh_test_support::compared::expect_equal;
 use std::alloc::{AllocError, Global};
 use std::test::Fail;
 
 /// The segments that the edges are split into, in order; none where an edge ends where it starts.
-pub fn split_sorted(alloc: Global, edges: &[GridEdge]) -> Result<Vec<CountedSegment>, AllocError> {
+pub fn split_sorted(
+    alloc: Global,
+    edges: &[LatticeEdge],
+) -> Result<Vec<CountedSegment>, AllocError> {
     if !are_proper(edges) {
         return Ok(Vec::new(alloc));
     }
@@ -18,7 +21,7 @@ pub fn split_sorted(alloc: Global, edges: &[GridEdge]) -> Result<Vec<CountedSegm
 }
 
 /// Edges, and the segments that they are split into.
-type Row = (&'static [GridEdge], &'static [CountedSegment]);
+type Row = (&'static [LatticeEdge], &'static [CountedSegment]);
 
 /// Crossings: in a whole point, and in points that are rounded, halves away from zero.
 const CROSSINGS: &[Row] = &[

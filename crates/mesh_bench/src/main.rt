@@ -18,7 +18,7 @@ use crate::requests::answer_again;
 use mesh_below::below::{FillRule, Overlay, OverlayRule};
 use mesh_below::checks::are_resolvable;
 use mesh_below::given::are_proper;
-use mesh_below::grid::GridEdge;
+use mesh_below::lattice::LatticeEdge;
 use mesh_below::splitter::split_edges;
 use mesh_num::num::IntPoint;
 use mesh_num::shape::segment::{Segment, SubjectSegments};
@@ -34,7 +34,7 @@ use thiserror::Error;
 const SIDE: u32 = 1_048_576;
 
 /// A point of the square, and one that differs from it by at most `reach` in each coordinate.
-fn edge(random: &mut Random, reach: u32) -> GridEdge
+fn edge(random: &mut Random, reach: u32) -> LatticeEdge
     requires { reach ≤ 2 ^ 21 }
 {
     let x = random.below(SIDE);
@@ -48,7 +48,7 @@ fn edge(random: &mut Random, reach: u32) -> GridEdge
 }
 
 /// Segments of a length at which about every second one is crossed.
-fn edges(alloc: Global, count: u64) -> Result<Vec<GridEdge>, AllocError> {
+fn edges(alloc: Global, count: u64) -> Result<Vec<LatticeEdge>, AllocError> {
     let mut random = Random::new(1);
     let reach = (7 * u64::from(SIDE) / (4 * (count.isqrt() + 1))) as u32;
     let mut edges = Vec::new(alloc);

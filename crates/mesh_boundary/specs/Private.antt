@@ -4,4 +4,4 @@ pub mod Flood
 pub mod Slants
 pub mod Stars
 pub mod Sums
-pub mod Ways
+pub mod SideFinders

@@ -16,11 +16,11 @@ ghost use Rattle.mesh_boundary.specs.Private.Stars.{IsStar};
 use crate::stars::{Ends, Stars, back, before};
 use crate::sums::Sums;
 use mesh_lattice::exact::same_point;
-use mesh_lattice::grid::{CountedSegment, GridEdge, GridPoint};
+use mesh_lattice::lattice::{CountedSegment, LatticeEdge, LatticePoint};
 use std::alloc::{AllocError, Global};
 
 /// A point and the winding at it. A greater one is not noted: then a sum over all segments tells the sides.
-type Level = (GridPoint, i64);
+type Level = (LatticePoint, i64);
 
 /// The windings to the left and to the right of a segment.
 pub type Sides = (i128, i128);
@@ -46,7 +46,7 @@ fn known_at(known: &[Option<Level>], i: usize) -> Option<Level>
 }
 
 /// The winding known at a place, if it is the one of the point.
-fn level_at(known: &[Option<Level>], i: usize, p: GridPoint) -> Option<i128>
+fn level_at(known: &[Option<Level>], i: usize, p: LatticePoint) -> Option<i128>
     ensures { (es : List Edge) → AreKnown es known.now → IfSome result (λ w. IsLevel es (p, w)) }
 {
     let l = known_at(known, i)?;
@@ -73,7 +73,7 @@ fn backwards(s: CountedSegment) -> Option<CountedSegment>
 }
 
 /// The segment directed away from a point, if it ends there.
-fn directed(p: GridPoint, s: CountedSegment, ends: Ends) -> Option<Placed>
+fn directed(p: LatticePoint, s: CountedSegment, ends: Ends) -> Option<Placed>
     ensures start { IfSome result (λ w. w.0.0.0 ≡ p) }
     ensures segment { (es : List Edge) → IsSegment es s → IfSome result (λ w. IsSegment es w.0) }
     ensures ends { (at : Point → ℕ) → ends ≡ ends_at at s.0 → IfSome result (λ w. w.1 ≡ ends_at at w.0.0) }
@@ -89,7 +89,12 @@ fn directed(p: GridPoint, s: CountedSegment, ends: Ends) -> Option<Placed>
 }
 
 /// The winding on the right of a segment, from that at its start, with the indices of what ends there.
-fn right_of(segments: &[CountedSegment], star: &[usize], winding: i128, e: GridEdge) -> Option<i128>
+fn right_of(
+    segments: &[CountedSegment],
+    star: &[usize],
+    winding: i128,
+    e: LatticeEdge,
+) -> Option<i128>
     requires { All (λ k. k < length segments.now) star.now }
     ensures { (es : List Edge) → AreSplit es → IsStar es e.0 (segments_at segments.now star.now) → occurs e es ≡ true
         → IsLevel es (e.0, winding) → IfSome result (λ r. r ≡ right_winding es e) }
@@ -131,7 +136,7 @@ impl Flood {
     }
 
     /// Puts down the winding at a point, which has this place, if it is not too large.
-    fn note(&mut self, i: usize, p: GridPoint, winding: i128) -> Result<(), AllocError>
+    fn note(&mut self, i: usize, p: LatticePoint, winding: i128) -> Result<(), AllocError>
         ensures { OnOk result ((es : List Edge) → IsLevel es (p, winding) → AreKnown es self.old.known.items
             → AreKnown es self.new.known.items) }
     {

@@ -1,6 +1,6 @@
 //! From split segments to the boundary of what they fill.
 //!
-//! `sides` finds the boundary, by the windings on both sides of each segment, and `ways` has the ways to find these.
+//! `sides` finds the boundary, by the windings on both sides of each segment, and `side_finder` has the finders of these.
 //! `winding` sums over the row of a point, as `mesh_lattice` lists edges by height. `flood` knows the windings at the ends
 //! of segments, and goes on from end to end by sums over stars, where `stars` lists segments by their ends. It begins
 //! with a sum of `sums`, and serves where rows are long. Where they are short along the direction of a long segment, as
@@ -8,9 +8,9 @@
 #![tactic(auto)]
 
 mod flood;
+mod side_finder;
 pub mod sides;
 mod slanted;
 mod stars;
 mod sums;
-mod ways;
 mod winding;

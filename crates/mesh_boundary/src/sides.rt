@@ -8,12 +8,12 @@ ghost use Rattle.mesh_lattice.specs.Counted.{size, IsCountOf, IsRoomy};
 ghost use Rattle.mesh_lattice.specs.FillRules.{filled};
 ghost use Rattle.mesh_regions.specs.SideLaws.{AreSplit};
 ghost use Rattle.mesh_boundary.specs.Private.CountedSides.{is_parted, boundary_edge};
-ghost use Rattle.mesh_boundary.specs.Private.Ways.{Serves};
+ghost use Rattle.mesh_boundary.specs.Private.SideFinders.{Serves};
 
 use crate::flood::Sides;
-use crate::ways::Way;
+use crate::side_finder::SideFinder;
 use mesh_lattice::fill::FillRule;
-use mesh_lattice::grid::{CountedSegment, GridEdge};
+use mesh_lattice::lattice::{CountedSegment, LatticeEdge};
 use std::alloc::{AllocError, Global};
 
 /// Whether the first side is filled and the second is not.
@@ -25,10 +25,10 @@ fn is_parted(fill: FillRule, sides: Sides) -> bool
 
 /// Adds the edge of the boundary on a segment, if there is one.
 fn push_edge(
-    edges: &mut Vec<GridEdge>,
+    edges: &mut Vec<LatticeEdge>,
     fill: FillRule,
     sides: Sides,
-    e: GridEdge,
+    e: LatticeEdge,
 ) -> Result<(), AllocError>
     ensures { OnOk result (edges.new.items ≡ edges.old.items ++ boundary_edge (filled fill) sides e) }
 {
@@ -42,21 +42,21 @@ fn push_edge(
     Ok(())
 }
 
-/// The boundary, with the sides of segments found in this way.
+/// The boundary, with the sides of segments found in this finder.
 fn boundary_by(
     alloc: Global,
     segments: &[CountedSegment],
-    way: &Way,
+    finder: &SideFinder,
     fill: FillRule,
-) -> Result<Vec<GridEdge>, AllocError>
+) -> Result<Vec<LatticeEdge>, AllocError>
     requires room { IsRoomy (sum_of size segments.now) }
-    requires serves { Serves way.now segments.now }
+    requires serves { Serves finder.now segments.now }
     ensures { IfOk result (λ v. (es : List Edge) → IsCountOf es segments.now → AreSplit es
         → IsBoundary es (filled fill) v.items) }
 {
     let mut edges = Vec::new(alloc);
     for i in 0..segments.len() {
-        let sides = way.sides(segments, i);
+        let sides = finder.sides(segments, i);
         push_edge(&mut edges, fill, sides, segments[i].0)?;
     }
     Ok(edges)
@@ -68,11 +68,11 @@ pub fn find_boundary(
     alloc: Global,
     segments: &[CountedSegment],
     fill: FillRule,
-) -> Result<Vec<GridEdge>, AllocError>
+) -> Result<Vec<LatticeEdge>, AllocError>
     requires { IsRoomy (sum_of size segments.now) }
     ensures { IfOk result (λ v. (es : List Edge) → IsCountOf es segments.now → AreSplit es
         → IsBoundary es (filled fill) v.items) }
 {
-    let way = Way::new(alloc, segments)?;
-    boundary_by(alloc, segments, &way, fill)
+    let finder = SideFinder::new(alloc, segments)?;
+    boundary_by(alloc, segments, &finder, fill)
 }

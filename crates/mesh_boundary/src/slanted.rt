@@ -15,7 +15,7 @@ ghost use Rattle.mesh_boundary.specs.Private.Slants.{IsSlant, listed_winding, li
 
 use mesh_lattice::exact::{Vector, cross, minus};
 use mesh_lattice::fine::{FinePoint, crossing, doubled, middle};
-use mesh_lattice::grid::{CountedSegment, GridEdge, GridPoint};
+use mesh_lattice::lattice::{CountedSegment, LatticeEdge, LatticePoint};
 use mesh_lattice::rows::{Rows, SAMPLED, mean_reached};
 use mesh_lattice::samples::sample;
 use std::alloc::{AllocError, Global};
@@ -28,7 +28,7 @@ const LEVELS: u128 = 1 << 30;
 const HIGHEST: u128 = (1 << 31) - 1;
 
 /// A segment, and an edge between the levels of its ends.
-type Leveled = (GridEdge, CountedSegment);
+type Leveled = (LatticeEdge, CountedSegment);
 
 /// A direction upwards, and levels across it: numbers counted in steps from a base up. Contracts see the direction, the
 /// base and the step.
@@ -53,7 +53,7 @@ impl Model for Slant {
 }
 
 /// How far to the left of the direction a point lies.
-fn across(direction: Vector, p: GridPoint) -> i128
+fn across(direction: Vector, p: LatticePoint) -> i128
     requires { IsSafe (2 ^ 32) direction }
     ensures value { result ≡ cross direction p }
     ensures size { IsSmall (2 ^ 65) result }
@@ -62,7 +62,7 @@ fn across(direction: Vector, p: GridPoint) -> i128
 }
 
 /// How far to the left of the direction a point of the fine grid lies, which is one of the grid.
-fn fine_across(direction: Vector, p: GridPoint) -> i128
+fn fine_across(direction: Vector, p: LatticePoint) -> i128
     requires { IsSafe (2 ^ 32) direction }
     ensures value { result ≡ cross direction (refined 2 p) }
     ensures size { IsSmall (2 ^ 66) result }
@@ -106,7 +106,7 @@ impl Slant {
     }
 
     /// The level of a segment's end.
-    fn end_level(self, p: GridPoint) -> i32
+    fn end_level(self, p: LatticePoint) -> i32
         ensures { result ≡ level_of self.1.0 self.1.1 (cross self.0 (refined 2 p)) }
     {
         self.level(fine_across(self.direction, p))
@@ -136,7 +136,7 @@ impl Slant {
     }
 
     /// How far to the left of the direction the midpoint of an edge lies.
-    pub fn middle_across(self, e: GridEdge) -> i128
+    pub fn middle_across(self, e: LatticeEdge) -> i128
         ensures slant { IsSlant self }
         ensures value { result ≡ cross self.0 (middle e) }
         ensures size { IsSmall (2 ^ 66) result }
@@ -146,7 +146,7 @@ impl Slant {
 
     /// Whether the point lies between the ray from `q` to the east and that along the direction; `at` says how far to
     /// the left of the direction `q` lies.
-    fn is_between(self, q: FinePoint, at: i128, p: GridPoint) -> bool
+    fn is_between(self, q: FinePoint, at: i128, p: LatticePoint) -> bool
         requires { at ≡ cross self.0 q }
         ensures { result ≡ is_between self.0 q (refined 2 p) }
     {
@@ -154,7 +154,7 @@ impl Slant {
     }
 
     /// The slanted crossing of an edge at a point.
-    fn slanted_crossing(self, q: FinePoint, at: i128, e: GridEdge) -> i128
+    fn slanted_crossing(self, q: FinePoint, at: i128, e: LatticeEdge) -> i128
         requires { at ≡ cross self.0 q }
         ensures value { result ≡ slanted_crossing self.0 q e }
         ensures size { IsSmall 4 result }
@@ -210,8 +210,8 @@ impl SlantedRows {
 }
 
 /// The longest of some of the segments.
-fn longest(alloc: Global, segments: &[CountedSegment]) -> Result<Option<GridEdge>, AllocError> {
-    let mut found: Option<GridEdge> = None;
+fn longest(alloc: Global, segments: &[CountedSegment]) -> Result<Option<LatticeEdge>, AllocError> {
+    let mut found: Option<LatticeEdge> = None;
     let mut length: u128 = 0;
     for s in &sample(alloc, segments, SAMPLED)? {
         let v = minus(s.0.1, s.0.0);
@@ -225,7 +225,7 @@ fn longest(alloc: Global, segments: &[CountedSegment]) -> Result<Option<GridEdge
 }
 
 /// The direction along an edge, and levels in which all segments lie.
-fn slant_along(segments: &[CountedSegment], e: GridEdge) -> Option<Slant> {
+fn slant_along(segments: &[CountedSegment], e: LatticeEdge) -> Option<Slant> {
     let (start, end) = e;
     let direction = if end.1 < start.1 {
         minus(start, end)

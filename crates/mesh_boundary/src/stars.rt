@@ -12,8 +12,8 @@ ghost use Rattle.mesh_boundary.specs.Private.Stars.{code, place_among, ends_at, 
 ghost use Rattle.mesh_boundary.specs.Private.Stars.{AreShaped, AreStars, IsFiled, HaveStars, IsStar};
 
 use mesh_lattice::exact::{same_point, turn};
-use mesh_lattice::grid::{CountedSegment, GridEdge, GridPoint};
-use mesh_lattice::places::{Mark, empty_lists, in_order, place, push_to};
+use mesh_lattice::lattice::{CountedSegment, LatticeEdge, LatticePoint};
+use mesh_lattice::places::{Mark, empty_lists, marks_along, place, push_to};
 use std::alloc::{AllocError, Global};
 
 /// The places of an edge's ends.
@@ -27,7 +27,7 @@ pub struct Stars {
 }
 
 /// One number for a point, which no other point has. Nothing but the lengths of lists rests on that.
-fn code(p: GridPoint) -> Mark
+fn code(p: LatticePoint) -> Mark
     ensures { result.at ≡ code p }
 {
     Mark {
@@ -46,11 +46,11 @@ fn codes(alloc: Global, segments: &[CountedSegment]) -> Result<Vec<Mark>, AllocE
     }
     codes.sort_unstable();
     codes.dedup();
-    in_order(alloc, codes)
+    marks_along(alloc, codes)
 }
 
 /// The places of an edge's ends among marks at codes.
-fn ends_at(marks: &[Mark], e: GridEdge) -> Ends
+fn ends_at(marks: &[Mark], e: LatticeEdge) -> Ends
     requires { AreRising marks.now }
     ensures value { result ≡ ends_at (place_among marks.now) e }
     ensures start { result.0 ≤ length marks.now }
@@ -102,7 +102,7 @@ impl Stars {
 
 /// Upwards, or level and to the west.
 #[tactic(auto, unfolding(mesh_lattice::specs::Boundary::rises))]
-pub fn rises(e: GridEdge) -> bool
+pub fn rises(e: LatticeEdge) -> bool
     ensures { result ≡ rises e }
 {
     if e.0.1 < e.1.1 {
@@ -112,14 +112,14 @@ pub fn rises(e: GridEdge) -> bool
 }
 
 /// The edge the other way about.
-pub fn back(e: GridEdge) -> GridEdge
+pub fn back(e: LatticeEdge) -> LatticeEdge
     ensures { result ≡ back e }
 {
     (e.1, e.0)
 }
 
 /// Of two edges that leave one point, whether the first comes before the second, counterclockwise from the east.
-fn comes_before(e: GridEdge, s: GridEdge) -> bool
+fn comes_before(e: LatticeEdge, s: LatticeEdge) -> bool
     ensures { result ≡ comes_before e s }
 {
     if rises(e) {
@@ -129,7 +129,7 @@ fn comes_before(e: GridEdge, s: GridEdge) -> bool
 }
 
 /// Whether an edge leaves the point where `s` starts, before `s`.
-fn leaves_before(s: GridEdge, e: GridEdge) -> bool
+fn leaves_before(s: LatticeEdge, e: LatticeEdge) -> bool
     ensures { result ≡ leaves_before s e }
 {
     same_point(s.0, e.0) && comes_before(e, s)
@@ -151,7 +151,7 @@ fn with_count(sum: i128, count: i128, leaves: bool, comes_in: bool) -> Option<i1
 
 /// How many edges leave the point where `e` starts before it, less how many come in there, if that can be told. The
 /// segments with the indices in `star` tell it.
-pub fn before(segments: &[CountedSegment], star: &[usize], e: GridEdge) -> Option<i128>
+pub fn before(segments: &[CountedSegment], star: &[usize], e: LatticeEdge) -> Option<i128>
     requires { All (λ k. k < length segments.now) star.now }
     ensures { IfSome result (λ n. n ≡ counted_before e (segments_at segments.now star.now)) }
 {

@@ -8,7 +8,7 @@ ghost use Rattle.mesh_boundary.specs.Private.Sums.{MayHaveRows};
 
 use crate::winding::winding;
 use mesh_lattice::fine::doubled;
-use mesh_lattice::grid::{CountedSegment, GridPoint};
+use mesh_lattice::lattice::{CountedSegment, LatticePoint};
 use mesh_lattice::rows::Rows;
 use std::alloc::{AllocError, Global};
 
@@ -38,7 +38,7 @@ impl Sums {
         &mut self,
         alloc: Global,
         segments: &[CountedSegment],
-        p: GridPoint,
+        p: LatticePoint,
     ) -> Result<i128, AllocError>
         requires room { IsRoomy (sum_of size segments.now) }
         requires rows { MayHaveRows self.old.rows segments.now }

@@ -7,7 +7,7 @@ ghost use Rattle.mesh_lattice.specs.Counted.{size, IsRoomy};
 ghost use Rattle.mesh_boundary.specs.Private.CountedSides.{counted_winding};
 
 use mesh_lattice::fine::{FinePoint, crossing, doubled};
-use mesh_lattice::grid::CountedSegment;
+use mesh_lattice::lattice::CountedSegment;
 
 /// A segment's crossing at a point, as often as it counts.
 fn counted_crossing(q: FinePoint, s: CountedSegment) -> i128

@@ -4,7 +4,7 @@ use Rattle.std.proofs.lemmas.Bool.{cases_Bool}
 use Rattle.std.proofs.lemmas.List.Elements.{All-nil, All-cons}
 use Rattle.mesh_plane.specs.Plane.{Point}
 use Rattle.mesh_plane.specs.Winding.{same_point}
-use Rattle.mesh_plane.specs.Ways.{last_of, first_or}
+use Rattle.mesh_plane.specs.Turning.{last_of, first_or}
 use Rattle.mesh_join.specs.Cleaned.{changes_from, without_repeats, without_repeated_end, kept_between, kept_inside}
 use Rattle.mesh_join.specs.Cleaned.{kept_round, last_first, begun, cleaned_points, AllEqual}
 use Rattle.mesh_join.specs.Laws.{BeginsAt}

@@ -4,7 +4,7 @@ use Rattle.std.specs.List.{All}
 use Rattle.std.proofs.lemmas.List.Elements.{All-append, All-nil, All-cons, All-head, All-tail, All-take, All-drop}
 use Rattle.mesh_plane.specs.Plane.{Point, Edge}
 use Rattle.mesh_plane.specs.Winding.{same_point}
-use Rattle.mesh_plane.specs.Ways.{turns_at}
+use Rattle.mesh_plane.specs.Turning.{turns_at}
 use Rattle.mesh_plane.proofs.ClosedLists.{boundary_all}
 use Rattle.mesh_join.specs.Cleaned.{changes_from, without_repeats, without_end, without_repeated_end}
 use Rattle.mesh_join.specs.Cleaned.{kept_between, kept_inside, kept_round, last_first}

@@ -3,7 +3,7 @@ use Rattle.std.proofs.Common.{◌≡◌, inl, inr, refl, sym, ◌∙◌, ap, tru
 use Rattle.std.proofs.lemmas.Bool.{cases_Bool, cond-true, cond-false}
 use Rattle.mesh_plane.specs.Plane.{Point}
 use Rattle.mesh_plane.specs.Winding.{same_point}
-use Rattle.mesh_plane.specs.Ways.{turns_at, last_of}
+use Rattle.mesh_plane.specs.Turning.{turns_at, last_of}
 use Rattle.mesh_join.specs.Cleaned.{changes_from, without_end, kept_between}
 use Rattle.mesh_plane.proofs.Comparing.{decides_point, points_swap}
 use Rattle.mesh_join.proofs.CleaningPass.{changes_from-same, changes_from-apart}

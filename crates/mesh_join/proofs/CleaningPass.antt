@@ -3,7 +3,7 @@ use Rattle.std.proofs.Common.{◌≡◌, ◌⊎◌, inl, inr, sym, ◌∙◌, ap
 use Rattle.std.proofs.lemmas.Bool.{cases_Bool, cond-true, cond-false}
 use Rattle.mesh_plane.specs.Plane.{Point, Edge}
 use Rattle.mesh_plane.specs.Winding.{route, same_point}
-use Rattle.mesh_plane.specs.Ways.{turns_at, last_of}
+use Rattle.mesh_plane.specs.Turning.{turns_at, last_of}
 use Rattle.mesh_join.specs.Cleaned.{changes_from, kept_between, sections_between, open_sections}
 use Rattle.mesh_plane.proofs.Comparing.{decides_point}
 use Rattle.mesh_join.proofs.CleaningVectors.{SameWay, SameWay-straight, SameWay-self, SameWay-apart, judged, turns_at-from_self, turns_at-to_self}

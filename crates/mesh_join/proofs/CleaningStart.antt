@@ -3,7 +3,7 @@ use Rattle.std.proofs.Common.{◌≡◌, ◌⊎◌, inl, inr, refl, sym, ◌∙�
 use Rattle.std.proofs.lemmas.Bool.{cases_Bool, cond-true, cond-false}
 use Rattle.mesh_plane.specs.Plane.{Point, Edge}
 use Rattle.mesh_plane.specs.Winding.{route, boundary, same_point}
-use Rattle.mesh_plane.specs.Ways.{turns_at, last_of}
+use Rattle.mesh_plane.specs.Turning.{turns_at, last_of}
 use Rattle.mesh_join.specs.Cleaned.{changes_from, without_end, without_repeated_end, kept_between, kept_inside}
 use Rattle.mesh_join.specs.Cleaned.{kept_round, last_first, begun, cleaned_sections}
 use Rattle.mesh_plane.proofs.Comparing.{decides_point, points_swap}

@@ -7,7 +7,7 @@ use Rattle.std.proofs.lemmas.List.Elements.{All-head, All-tail, All-cons, All-ni
 use Rattle.mesh_plane.specs.Plane.{Point, Edge}
 use Rattle.mesh_plane.specs.Winding.{same_point, boundary, winding, crossing_on}
 use Rattle.mesh_plane.proofs.Triangles.{crossing_on_straight}
-use Rattle.mesh_plane.specs.Ways.{turns_at}
+use Rattle.mesh_plane.specs.Turning.{turns_at}
 use Rattle.mesh_join.specs.Cleaned.{cleaned_sections, open_sections, AllEqual, IsCleanContour}
 use Rattle.mesh_plane.proofs.Comparing.{decides_point, point_self}
 use Rattle.mesh_join.proofs.CleaningPass.{passed-kept, passed-on, passed-open}

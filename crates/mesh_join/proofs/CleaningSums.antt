@@ -5,11 +5,11 @@ use Rattle.std.proofs.lemmas.Bool.{cases_Bool, cond-true, cond-false}
 use Rattle.mesh_plane.specs.Plane.{Point, Edge, turn}
 use Rattle.mesh_plane.specs.Winding.{pairs_from, route, boundary, same_point, total}
 use Rattle.mesh_plane.proofs.Whole.{linear}
-use Rattle.mesh_plane.specs.Ways.{turns_at}
+use Rattle.mesh_plane.specs.Turning.{turns_at}
 use Rattle.mesh_join.specs.Cleaned.{cleaned_sections}
 use Rattle.mesh_plane.proofs.Comparing.{decides_point}
 use Rattle.mesh_plane.proofs.Crossings.{straight_none}
-use Rattle.mesh_plane.proofs.Ways.{straight_turn}
+use Rattle.mesh_plane.proofs.Turning.{straight_turn}
 use Rattle.mesh_join.proofs.CleaningPass.{passed, passed-kept, passed-on}
 use Rattle.mesh_join.proofs.CleaningStart.{started, started-kept, started-on, started-cleaned, cleaned_sections-same}
 

@@ -8,7 +8,7 @@ use Rattle.mesh_plane.specs.Plane.{Point, Edge, minus, cross, dot}
 use Rattle.mesh_plane.specs.Winding.{route, boundary, same_point}
 use Rattle.mesh_plane.proofs.Whole.{linear}
 use Rattle.mesh_plane.proofs.Ring.{ring, var, neg, ◌⊖◌, cross_of, dot_of}
-use Rattle.mesh_plane.specs.Ways.{turns_at, last_of}
+use Rattle.mesh_plane.specs.Turning.{turns_at, last_of}
 use Rattle.mesh_join.specs.Cleaned.{changes_from, kept_between, without_end, cleaned_sections, RunsOn, IsCleanContour}
 use Rattle.mesh_plane.proofs.Comparing.{points_swap}
 use Rattle.mesh_plane.proofs.ClosedLists.{route_length}

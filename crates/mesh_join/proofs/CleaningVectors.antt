@@ -11,11 +11,11 @@ use Rattle.mesh_plane.specs.Plane.{Point, minus, cross, dot}
 use Rattle.mesh_plane.specs.Bounds.{IsSafe}
 use Rattle.mesh_plane.specs.Winding.{same_point}
 use Rattle.mesh_plane.proofs.Comparing.{point_self, points_apart, points_swap, less_test, not_less_test, test_less}
-use Rattle.mesh_plane.proofs.Ways.{straight_parts}
+use Rattle.mesh_plane.proofs.Turning.{straight_parts}
 use Rattle.mesh_plane.proofs.Whole.{linear, mul_pos, square_nonneg, mul_cancel, pos_of_mul, factor}
 use Rattle.mesh_plane.proofs.Ring.{ring, var, lit, neg, ◌⊖◌, cross_of, dot_of}
 use Rattle.mesh_plane.proofs.Identities.{lagrange, dot_through, cross_through, cross_flip, cross_self, dot_swap}
-use Rattle.mesh_plane.specs.Ways.{turns_at}
+use Rattle.mesh_plane.specs.Turning.{turns_at}
 
 -- ---- two vectors in one direction
 

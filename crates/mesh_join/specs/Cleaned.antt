@@ -2,7 +2,7 @@
 use Rattle.std.specs.Prelude.{◌≡◌, ◌≢◌, ◌-◌, ◌≤◌, cond, List, [], ◌∷◌, ◌++◌, length, take, drop, pos, ◌<ℤ◌, ⊤}
 use Rattle.std.specs.List.{All}
 use Rattle.mesh_plane.specs.Plane.{Point, Edge, minus, cross, dot}
-use Rattle.mesh_plane.specs.Ways.{turns_at, last_of}
+use Rattle.mesh_plane.specs.Turning.{turns_at, last_of}
 use Rattle.mesh_plane.specs.Winding.{route, boundary, same_point}
 
 -- the points that differ from the one before, which is `p` for the first

@@ -1,7 +1,7 @@
 -- Laws of cleaned contours. The function of the same name in the module `laws` carries each.
 use Rattle.std.specs.Prelude.{ℕ, ◌≡◌, List, [], ◌∷◌}
 use Rattle.mesh_plane.specs.Plane.{Point}
-use Rattle.mesh_plane.specs.Ways.{first_or}
+use Rattle.mesh_plane.specs.Turning.{first_or}
 use Rattle.mesh_plane.specs.Winding.{boundary, winding}
 use Rattle.mesh_join.specs.Cleaned.{AllEqual, IsCleanContour, cleaned_points}
 use Rattle.mesh_join.specs.Cleaned.{cleaned_sections, kept_inside, without_repeats}

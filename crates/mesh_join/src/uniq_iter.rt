@@ -6,7 +6,7 @@ ghost use Rattle.std.specs.Iterator.{YieldsFirstBy, item_count};
 ghost use Rattle.mesh_plane.specs.Plane.{Point};
 ghost use Rattle.mesh_plane.specs.Bounds.{IsSafe};
 ghost use Rattle.mesh_plane.specs.Winding.{boundary, winding, same_point};
-ghost use Rattle.mesh_plane.specs.Ways.{turns_at};
+ghost use Rattle.mesh_plane.specs.Turning.{turns_at};
 ghost use Rattle.mesh_join.specs.Cleaned.{cleaned_sections, open_sections, AllEqual, IsCleanContour};
 
 use mesh_num::num::convert::is_wide_less;

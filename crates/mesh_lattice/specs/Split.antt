@@ -1,4 +1,4 @@
--- Splitting: where two segments meet, and the cuts that this allows.
+-- Splitting: where two segments meet, and the splits that this allows.
 -- Edges are directed; a segment is a pair of ends, whichever way the edges between them run.
 use Rattle.std.specs.Prelude.{◌≡◌, ◌⊎◌, Bool, true, false, cond, ◌&&◌, ◌||◌, List, [], ◌∷◌, ◌++◌, ℤ, pos, negsuc, suc}
 use Rattle.std.specs.Prelude.{◌+ℤ◌, ◌-ℤ◌, ◌*ℤ◌, ◌≤ℤ◌, ◌<ℤ◌, neg_ℤ}
@@ -57,7 +57,7 @@ abbrev pub rounded_quotient : ℤ → ℤ → ℤ
 rounded_quotient n (pos d) = rounded n d
 rounded_quotient n (negsuc d) = rounded (neg_ℤ n) (suc d)
 
--- where an edge that starts `n` beside a line and ends `n - d` beside it cuts the line, as a coordinate from `a` to `b`
+-- where an edge that starts `n` beside a line and ends `n - d` beside it crosses the line, as a coordinate from `a` to `b`
 abbrev pub crossing_at : ℤ → ℤ → ℤ → ℤ → ℤ
 crossing_at a b n d = rounded_quotient ((a *ℤ d) +ℤ ((b -ℤ a) *ℤ n)) d
 
@@ -77,40 +77,40 @@ pub data Meets : Edge → Edge → Point → Type 0 where
   at_end_of_first : {e f : Edge} → IsInside f e.1 → Meets e f e.1
   at_crossing : {e f : Edge} → IsCrossing e f → Meets e f (rounded_crossing e f)
 
--- a cut: the edges with these ends, in either direction, are cut at this point
-pub record Cut : Type 0 where
+-- a split: the edges with these ends, in either direction, are split at this point
+pub record EdgeSplit : Type 0 where
   pub ends : Edge
   pub at : Point
 
--- what a cut leaves of an edge: two edges where it cuts it, else the edge
-abbrev pub cut_edge : Cut → Edge → List Edge
-cut_edge k e = cond (same_ends e k.ends) ((e.0, k.at) ∷ (k.at, e.1) ∷ []) (e ∷ [])
+-- what a cut leaves of an edge: two edges where it splits it, else the edge
+abbrev pub split_edge : EdgeSplit → Edge → List Edge
+split_edge k e = cond (same_ends e k.ends) ((e.0, k.at) ∷ (k.at, e.1) ∷ []) (e ∷ [])
 
--- the edges after one cut
-abbrev pub cut_edges : Cut → List Edge → List Edge
-cut_edges k [] = []
-cut_edges k (e ∷ es) = cut_edge k e ++ cut_edges k es
+-- the edges after one split
+abbrev pub split_by : EdgeSplit → List Edge → List Edge
+split_by k [] = []
+split_by k (e ∷ es) = split_edge k e ++ split_by k es
 
--- the edges after a list of cuts, the latest of them first
-abbrev pub after : List Cut → List Edge → List Edge
+-- the edges after a list of splits, the latest of them first
+abbrev pub after : List EdgeSplit → List Edge → List Edge
 after [] es = es
-after (k ∷ ks) es = cut_edges k (after ks es)
+after (k ∷ ks) es = split_by k (after ks es)
 
 -- the path that a given edge has become
-abbrev pub path : List Cut → Edge → List Edge
+abbrev pub path : List EdgeSplit → Edge → List Edge
 path ks e = after ks (e ∷ [])
 
--- one more cut, of an edge at a point, unless that is its end
-abbrev pub add_cut : Edge → Point → List Cut → List Cut
-add_cut e c ks = cond (is_end c e) ks ((record { ends = e; at = c }) ∷ ks)
+-- one more split, of an edge at a point, unless that is its end
+abbrev pub add_split : Edge → Point → List EdgeSplit → List EdgeSplit
+add_split e c ks = cond (is_end c e) ks ((record { ends = e; at = c }) ∷ ks)
 
--- the cuts are those of a list of legal splits, the latest first: each split takes two segments that meet
--- and cuts both where they meet
-pub data IsLegal : List Edge → List Cut → Type 0 where
+-- the splits are those of a list of legal splits, the latest first: each split takes two segments that meet
+-- and splits both where they meet
+pub data IsLegal : List Edge → List EdgeSplit → Type 0 where
   no_cut : {given : List Edge} → IsLegal given []
-  split : {given : List Edge} {ks : List Cut} {e f : Edge} {c : Point} → IsLegal given ks
+  split : {given : List Edge} {ks : List EdgeSplit} {e f : Edge} {c : Point} → IsLegal given ks
       → occurs e (after ks given) ≡ true → occurs f (after ks given) ≡ true → Meets e f c
-      → IsLegal given (add_cut f c (add_cut e c ks))
+      → IsLegal given (add_split f c (add_split e c ks))
 
 -- no point at which two segments would have to be split
 abbrev pub AreClear : Edge → Edge → Type 0

@@ -6,7 +6,7 @@ use Rattle.mesh_plane.specs.Winding.{IsBalanced}
 use Rattle.mesh_lattice.specs.Clean.{IsClean, IsProper}
 use Rattle.mesh_lattice.specs.Counted.{Counted, IsCountOf}
 use Rattle.mesh_lattice.specs.Reach.{AreEdgesSafe}
-use Rattle.mesh_lattice.specs.Split.{occurs, IsInBox, Cut, after, path, IsLegal}
+use Rattle.mesh_lattice.specs.Split.{occurs, IsInBox, EdgeSplit, after, path, IsLegal}
 
 -- edges that lead from one point to another, each from the end of the one before
 abbrev pub Leads : Point → List Edge → Point → Type 0
@@ -28,23 +28,23 @@ pub record IsPathOf (e : Edge) (es : List Edge) : Type 0 where
   pub onward : All (IsOnward e) es
 
 -- a segment comes from a given edge: it is part of the path that the edge has become, and lies in the edge's box
-pub record ComesFrom (given : List Edge) (cuts : List Cut) (segment : Edge) : Type 0 where
+pub record ComesFrom (given : List Edge) (splits : List EdgeSplit) (segment : Edge) : Type 0 where
   pub edge : Edge
   pub is_given : occurs edge given ≡ true
-  pub on_path : occurs segment (path cuts edge) ≡ true
+  pub on_path : occurs segment (path splits edge) ≡ true
   pub start_in_box : IsInBox edge segment.0
   pub end_in_box : IsInBox edge segment.1
 
 -- segments that come from given edges by legal splits, as far as these go: any two share only common ends
 pub record IsSplitting (given : List Edge) (segments : List Counted) : Type 0 where
-  pub cuts : List Cut
-  pub legal : IsLegal given cuts
-  pub count : IsCountOf (after cuts given) segments
-  pub clean : IsClean (after cuts given)
-  pub proper : IsProper (after cuts given)
-  pub paths : (e : Edge) → IsPathOf e (path cuts e)
+  pub splits : List EdgeSplit
+  pub legal : IsLegal given splits
+  pub count : IsCountOf (after splits given) segments
+  pub clean : IsClean (after splits given)
+  pub proper : IsProper (after splits given)
+  pub paths : (e : Edge) → IsPathOf e (path splits e)
   -- each split segment lies in the box of the given edge that it comes from
-  pub boxed : (segment : Edge) → occurs segment (after cuts given) ≡ true → ComesFrom given cuts segment
+  pub boxed : (segment : Edge) → occurs segment (after splits given) ≡ true → ComesFrom given splits segment
   -- so it lies in the safe range where the given edges do
-  pub safe : (unit : ℕ) → AreEdgesSafe unit given → AreEdgesSafe unit (after cuts given)
-  pub balanced : IsBalanced given → IsBalanced (after cuts given)
+  pub safe : (unit : ℕ) → AreEdgesSafe unit given → AreEdgesSafe unit (after splits given)
+  pub balanced : IsBalanced given → IsBalanced (after splits given)

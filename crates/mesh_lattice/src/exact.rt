@@ -11,7 +11,7 @@ ghost use Rattle.mesh_lattice.specs.Split.{same_edge, is_end, IsBetween, IsInBox
 ghost use Rattle.mesh_lattice.specs.Split.{rounded_quotient, crossing_at, rounded_crossing, Meets};
 ghost use Rattle.mesh_lattice.specs.Split.{AreClear};
 
-use crate::grid::{GridEdge, GridPoint};
+use crate::lattice::{LatticeEdge, LatticePoint};
 
 /// A vector between two points.
 pub type Vector = (i128, i128);
@@ -24,7 +24,7 @@ fn difference(a: i32, b: i32) -> i128
 }
 
 /// The way from `q` to `p`.
-pub fn minus(p: GridPoint, q: GridPoint) -> Vector
+pub fn minus(p: LatticePoint, q: LatticePoint) -> Vector
     ensures value { result ≡ minus p q }
     ensures size { IsSafe (2 ^ 32) result }
 {
@@ -52,7 +52,7 @@ pub fn cross(v: Vector, w: Vector) -> i128
 }
 
 /// Above 0 where `q` lies to the left of the line from `p` to `r`, 0 on the line.
-pub fn turn(p: GridPoint, r: GridPoint, q: GridPoint) -> i128
+pub fn turn(p: LatticePoint, r: LatticePoint, q: LatticePoint) -> i128
     ensures value { result ≡ turn p r q }
     ensures size { IsSmall (2 ^ 65) result }
 {
@@ -77,7 +77,7 @@ fn is_in_range(low: i32, z: i32, high: i32) -> bool
     z <= high
 }
 
-fn is_in_box(e: GridEdge, c: GridPoint) -> bool
+fn is_in_box(e: LatticeEdge, c: LatticePoint) -> bool
     ensures { IsTrue result ↔ IsInBox e c }
 {
     if !is_between(e.0.0, c.0, e.1.0) {
@@ -104,7 +104,7 @@ fn are_ranges_apart(a: i32, b: i32, p: i32, r: i32) -> bool
 }
 
 /// Whether the boxes of two edges have no point in common.
-fn are_boxes_apart(e: GridEdge, f: GridEdge) -> bool
+fn are_boxes_apart(e: LatticeEdge, f: LatticeEdge) -> bool
     ensures { IsTrue result → (c : Point) → IsInBox e c → IsInBox f c → ⊥ }
 {
     if are_ranges_apart(e.0.0, e.1.0, f.0.0, f.1.0) {
@@ -114,35 +114,35 @@ fn are_boxes_apart(e: GridEdge, f: GridEdge) -> bool
 }
 
 /// Whether two points are one.
-pub fn same_point(p: GridPoint, q: GridPoint) -> bool
+pub fn same_point(p: LatticePoint, q: LatticePoint) -> bool
     ensures { result ≡ same_point p q }
 {
     p.0 == q.0 && p.1 == q.1
 }
 
 /// Whether two edges have the same start and the same end.
-pub fn same_edge(e: GridEdge, f: GridEdge) -> bool
+pub fn same_edge(e: LatticeEdge, f: LatticeEdge) -> bool
     ensures { result ≡ same_edge e f }
 {
     same_point(e.0, f.0) && same_point(e.1, f.1)
 }
 
 /// Whether the first point comes before the second, by `x`, then `y`.
-pub fn is_before(p: GridPoint, q: GridPoint) -> bool
+pub fn is_before(p: LatticePoint, q: LatticePoint) -> bool
     ensures { result ≡ point_lt p q }
 {
     p.0 < q.0 || (p.0 == q.0 && p.1 < q.1)
 }
 
 /// Whether the point is one of the edge's ends.
-pub fn is_end(c: GridPoint, e: GridEdge) -> bool
+pub fn is_end(c: LatticePoint, e: LatticeEdge) -> bool
     ensures { result ≡ is_end c e }
 {
     same_point(c, e.0) || same_point(c, e.1)
 }
 
 /// Whether a point that lies so far beside an edge's line lies on the edge and is none of its ends.
-fn is_inside(e: GridEdge, c: GridPoint, beside: i128) -> bool
+fn is_inside(e: LatticeEdge, c: LatticePoint, beside: i128) -> bool
     requires { beside ≡ turn e.0 e.1 c }
     ensures { IsTrue result ↔ IsInside e c }
 {
@@ -161,7 +161,7 @@ fn is_inside(e: GridEdge, c: GridPoint, beside: i128) -> bool
 /// How far the two ends of an edge lie beside a line, as turns.
 type Sides = (i128, i128);
 
-fn sides_of(e: GridEdge, f: GridEdge) -> Sides
+fn sides_of(e: LatticeEdge, f: LatticeEdge) -> Sides
     ensures value { result ≡ (turn e.0 e.1 f.0, turn e.0 e.1 f.1) }
     ensures size { IsSafe (2 ^ 65) result }
 {
@@ -188,7 +188,7 @@ fn are_alike(s: Sides) -> bool
 }
 
 /// Whether the line of each edge parts the ends of the other.
-pub fn do_cross(e: GridEdge, f: GridEdge) -> bool
+pub fn do_cross(e: LatticeEdge, f: LatticeEdge) -> bool
     ensures { IsTrue result ↔ IsCrossing e f }
 {
     if !are_opposite(sides_of(e, f)) {
@@ -249,7 +249,7 @@ fn crossing_at(a: i32, b: i32, s: Sides) -> i32
 
 /// Where two edges that cross do so, each coordinate rounded to the nearest, halves away from zero. The ends of the
 /// first lie so far beside the second.
-fn rounded_crossing(e: GridEdge, f: GridEdge, s: Sides) -> GridPoint
+fn rounded_crossing(e: LatticeEdge, f: LatticeEdge, s: Sides) -> LatticePoint
     requires parted { AreOpposite s.0 s.1 }
     requires sides { s ≡ (turn f.0 f.1 e.0, turn f.0 f.1 e.1) }
     requires small { IsSafe (2 ^ 65) s }
@@ -259,7 +259,7 @@ fn rounded_crossing(e: GridEdge, f: GridEdge, s: Sides) -> GridPoint
 }
 
 /// Where two edges are to be split since they share a point inside one of them, if they do.
-pub fn meeting(e: GridEdge, f: GridEdge) -> Option<GridPoint>
+pub fn meeting(e: LatticeEdge, f: LatticeEdge) -> Option<LatticePoint>
     ensures { MatchOption result (AreClear e f) (Meets e f) }
 {
     if are_boxes_apart(e, f) {

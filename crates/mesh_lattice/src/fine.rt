@@ -6,7 +6,7 @@ ghost use Rattle.mesh_plane.specs.Plane.{minus, cross, turn};
 ghost use Rattle.mesh_plane.specs.Winding.{crossing, refined};
 ghost use Rattle.mesh_lattice.specs.Boundary.{middle};
 
-use crate::grid::{GridEdge, GridPoint};
+use crate::lattice::{LatticeEdge, LatticePoint};
 use std::marker::Model;
 
 /// A point on the fine grid. Contracts see the pair of its coordinates, each below 2^33 in size.
@@ -56,7 +56,7 @@ fn sum(a: i32, b: i32) -> i64
 }
 
 /// The point on the fine grid.
-pub fn doubled(p: GridPoint) -> FinePoint
+pub fn doubled(p: LatticePoint) -> FinePoint
     ensures { result ≡ refined 2 p }
 {
     FinePoint {
@@ -66,7 +66,7 @@ pub fn doubled(p: GridPoint) -> FinePoint
 }
 
 /// The midpoint of an edge.
-pub fn middle(e: GridEdge) -> FinePoint
+pub fn middle(e: LatticeEdge) -> FinePoint
     ensures { result ≡ middle e }
 {
     FinePoint {

@@ -9,7 +9,7 @@
 pub mod exact;
 pub mod fill;
 pub mod fine;
-pub mod grid;
+pub mod lattice;
 pub mod places;
 pub mod rows;
 pub mod samples;

@@ -60,7 +60,7 @@ fn push_rising(marks: &mut Vec<Mark>, m: Mark) -> Result<(), AllocError>
 }
 
 /// Marks at coordinates, in order. It fails only where memory is refused.
-pub fn in_order(alloc: Global, mut coordinates: Vec<i64>) -> Result<Vec<Mark>, AllocError>
+pub fn marks_along(alloc: Global, mut coordinates: Vec<i64>) -> Result<Vec<Mark>, AllocError>
     ensures { IfOk result (λ v. AreRising v.items) }
 {
     coordinates.sort_unstable();

@@ -9,8 +9,8 @@ ghost use Rattle.mesh_lattice.specs.Marks.{place, AreRising, IsPutTo};
 ghost use Rattle.mesh_lattice.specs.Rows.{first_row, last_row, AreRows};
 
 use crate::fine::{FinePoint, doubled};
-use crate::grid::{GridEdge, GridPoint};
-use crate::places::{Mark, empty_lists, in_order, place, put_to, thinned};
+use crate::lattice::{LatticeEdge, LatticePoint};
+use crate::places::{Mark, empty_lists, marks_along, place, put_to, thinned};
 use crate::samples::sample;
 use std::alloc::{AllocError, Global};
 
@@ -32,11 +32,11 @@ pub struct Rows<T> {
     /// The heights between neighbouring rows, in half grid units; none is below the one before it.
     pub marks: Vec<Mark>,
     /// The edges of each row, from the lowest to the highest: one list more than there are marks.
-    pub lists: Vec<Vec<(GridEdge, T)>>,
+    pub lists: Vec<Vec<(LatticeEdge, T)>>,
 }
 
 /// The point's height on the fine grid.
-fn height(p: GridPoint) -> Mark
+fn height(p: LatticePoint) -> Mark
     ensures { result.at ≡ pos 2 *ℤ p.1 }
 {
     Mark {
@@ -45,14 +45,14 @@ fn height(p: GridPoint) -> Mark
 }
 
 /// The heights at which edges start, in order. Where edges close up, they tell of ends too.
-fn heights<T: Copy>(alloc: Global, edges: &[(GridEdge, T)]) -> Result<Vec<Mark>, AllocError>
+fn heights<T: Copy>(alloc: Global, edges: &[(LatticeEdge, T)]) -> Result<Vec<Mark>, AllocError>
     ensures { IfOk result (λ v. AreRising v.items) }
 {
     let mut heights = Vec::with_capacity(alloc, edges.len())?;
     for e in edges {
         heights.push(height(e.0.0).at)?;
     }
-    in_order(alloc, heights)
+    marks_along(alloc, heights)
 }
 
 /// How many of the marks lie at a height.
@@ -79,7 +79,7 @@ pub struct Reached {
 /// About how many of the edges reach the height at which one of them starts, by a sample.
 pub fn mean_reached<T: Copy>(
     alloc: Global,
-    edges: &[(GridEdge, T)],
+    edges: &[(LatticeEdge, T)],
 ) -> Result<Reached, AllocError> {
     let some = sample(alloc, edges, SAMPLED)?;
     let marks = heights(alloc, &some)?;
@@ -108,7 +108,7 @@ pub fn mean_reached<T: Copy>(
 /// How many rows serve best: an edge shall reach about four on average.
 fn rows_wanted<T: Copy>(
     alloc: Global,
-    edges: &[(GridEdge, T)],
+    edges: &[(LatticeEdge, T)],
     heights: &[Mark],
 ) -> Result<usize, AllocError>
     requires { AreRising heights.now }
@@ -125,11 +125,11 @@ fn rows_wanted<T: Copy>(
 }
 
 /// Marks by which to list edges.
-fn marks<T: Copy>(alloc: Global, edges: &[(GridEdge, T)]) -> Result<Vec<Mark>, AllocError>
+fn marks<T: Copy>(alloc: Global, edges: &[(LatticeEdge, T)]) -> Result<Vec<Mark>, AllocError>
     ensures { IfOk result (λ v. AreRising v.items) }
 {
     if edges.len() < FEWEST {
-        return in_order(alloc, Vec::new(alloc));
+        return marks_along(alloc, Vec::new(alloc));
     }
     let heights = heights(alloc, &sample(alloc, edges, ENDS)?)?;
     let wanted = rows_wanted(alloc, edges, &heights)?;
@@ -139,8 +139,8 @@ fn marks<T: Copy>(alloc: Global, edges: &[(GridEdge, T)]) -> Result<Vec<Mark>, A
 /// Adds an edge to each row that it reaches.
 fn file<T: Copy>(
     marks: &[Mark],
-    lists: &mut Vec<Vec<(GridEdge, T)>>,
-    e: (GridEdge, T),
+    lists: &mut Vec<Vec<(LatticeEdge, T)>>,
+    e: (LatticeEdge, T),
 ) -> Result<(), AllocError>
     requires rising { AreRising marks.now }
     requires len { length lists.old.items ≡ length marks.now + 1 }
@@ -154,7 +154,7 @@ fn file<T: Copy>(
 
 impl<T: Copy> Rows<T> {
     /// The rows of edges, each edge in all that it reaches. It fails only where memory is refused.
-    pub fn new(alloc: Global, edges: &[(GridEdge, T)]) -> Result<Rows<T>, AllocError>
+    pub fn new(alloc: Global, edges: &[(LatticeEdge, T)]) -> Result<Rows<T>, AllocError>
         ensures { IfOk result (λ r. AreRows r.marks.items r.lists.items edges.now) }
     {
         let marks = marks(alloc, edges)?;
@@ -167,7 +167,7 @@ impl<T: Copy> Rows<T> {
 
     /// The edges of the row of a point, among them all that cross the ray from it to the east, where these are rows of
     /// edges as `new` lists them.
-    pub fn row(&self, q: FinePoint) -> &[(GridEdge, T)]
+    pub fn row(&self, q: FinePoint) -> &[(LatticeEdge, T)]
         requires rising { AreRising self.now.marks.items }
         requires len { length self.now.lists.items ≡ length self.now.marks.items + 1 }
         ensures { (d : Vec (Edge × T) Global)

@@ -16,8 +16,8 @@ use Rattle.mesh_lattice.specs.Clean.{IsProper}
 use Rattle.mesh_lattice.specs.FillRules.{filled}
 use Rattle.mesh_lattice.specs.Reach.{AreEdgesSafe}
 use Rattle.mesh_lattice.specs.declared.fill.FillRule.{FillRule}
-use Rattle.mesh_lattice.proofs.SafeCuts.{IsSafeEdge}
-use Rattle.mesh_lattice.proofs.SoundCuts.{ProperEnds}
+use Rattle.mesh_lattice.proofs.SafeSplits.{IsSafeEdge}
+use Rattle.mesh_lattice.proofs.SoundSplits.{ProperEnds}
 use Rattle.mesh_shapes.specs.Resolution.{Choices, IsResolution}
 use Rattle.mesh_below.specs.Asked.{AreResolvable}
 use Rattle.mesh_below.specs.Laws.{AreRegions}

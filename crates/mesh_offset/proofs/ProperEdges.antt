@@ -16,7 +16,7 @@ use Rattle.mesh_num.specs.Segments.{proper_edges, segments_of}
 use Rattle.mesh_num.proofs.SegmentLists.{edges_of_segments}
 use Rattle.mesh_num.proofs.Subjects.{segments_of_subjects}
 use Rattle.mesh_lattice.specs.Clean.{IsProper}
-use Rattle.mesh_lattice.proofs.SoundCuts.{ProperEnds, proper_each, each_proper}
+use Rattle.mesh_lattice.proofs.SoundSplits.{ProperEnds, proper_each, each_proper}
 use Rattle.mesh_below.proofs.Resolving.{all_occurs}
 use Rattle.mesh_below.proofs.Subjects.{subjects_proper}
 

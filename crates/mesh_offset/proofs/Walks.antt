@@ -8,7 +8,7 @@ use Rattle.std.proofs.lemmas.List.Sorted.{IsPermutation-refl, IsPermutation-tran
 use Rattle.mesh_plane.specs.Winding.{sum_of}
 use Rattle.mesh_plane.proofs.ClosedLists.{woven, regrouped}
 use Rattle.mesh_plane.proofs.Whole.{linear}
-use Rattle.mesh_plane.specs.Ways.{last_of}
+use Rattle.mesh_plane.specs.Turning.{last_of}
 use Rattle.mesh_offset.specs.Walks.{pairs}
 
 -- each inner one of an open list is once the end of a pair and once the start of one

@@ -10,4 +10,4 @@ pub record IsSafeResolving (unit : ℕ) (edges : List Edge) : Type 0 where
   pub edges_safe : AreEdgesSafe unit edges
   pub resolving_safe : (fill : ℤ → Bool) (choices : Choices) (answer : List (List (List Point)))
       (r : IsResolution edges fill choices answer)
-      → AreEdgesSafe unit (after r.cuts edges) × ArePointsSafe unit answer
+      → AreEdgesSafe unit (after r.splits edges) × ArePointsSafe unit answer

@@ -10,7 +10,7 @@ use Rattle.mesh_num.specs.Segments.{proper_edges}
 use Rattle.mesh_plane.specs.Winding.{same_point}
 use Rattle.mesh_join.specs.Cleaned.{cleaned_sections}
 use Rattle.mesh_lattice.specs.Reach.{AreEdgesSafe}
-use Rattle.mesh_lattice.proofs.SafeCuts.{IsSafeEdge}
+use Rattle.mesh_lattice.proofs.SafeSplits.{IsSafeEdge}
 use Rattle.mesh_below.proofs.AnswerPoints.{resolution_safe}
 use Rattle.mesh_num.specs.Rectangle.{IsSafeWidened}
 use Rattle.mesh_shapes.specs.Contours.{double_area}

@@ -13,5 +13,5 @@ pub mod Signs
 pub mod Sizes
 pub mod Sums
 pub mod Triangles
-pub mod Ways
+pub mod Turning
 pub mod Whole

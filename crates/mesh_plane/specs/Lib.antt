@@ -4,5 +4,5 @@ pub mod Order
 pub mod Plane
 pub mod Rounding
 pub mod Signs
-pub mod Ways
+pub mod Turning
 pub mod Winding

@@ -12,13 +12,13 @@ use Rattle.mesh_plane.proofs.Whole.{linear, mul_pos, mul_nonneg, mul_pos_neg, mu
 use Rattle.mesh_plane.proofs.Ring.{ring, var, lit, ◌⊖◌, ◌⊗◌}
 use Rattle.mesh_plane.proofs.Crossings.{crossing_low, crossing_high, turn_flip}
 use Rattle.mesh_plane.proofs.Sums.{total_append}
-use Rattle.mesh_lattice.specs.Split.{same_ends, occurs, IsInBox, IsBetween, Cut, cut_edges, after, path}
+use Rattle.mesh_lattice.specs.Split.{same_ends, occurs, IsInBox, IsBetween, EdgeSplit, split_by, after, path}
 use Rattle.mesh_regions.specs.Regions.{is_bent}
 use Rattle.mesh_plane.proofs.PointExprs.{point_var, coordinates, turned, scaled_point_expr}
 use Rattle.mesh_regions.proofs.SidesPotential.{above, crosses_west, crosses_east}
 use Rattle.mesh_plane.proofs.Grids.{scale, winds}
 use Rattle.mesh_lattice.proofs.Keys.{occurs_head}
-use Rattle.mesh_lattice.proofs.KeptByCuts.{Boxed, after_append, box_trans, cut_box, after_none}
+use Rattle.mesh_lattice.proofs.KeptBySplits.{Boxed, after_append, box_trans, cut_box, after_none}
 use Rattle.mesh_lattice.proofs.Boxes.{turn_start, turn_end, start_box, end_box}
 use Rattle.mesh_lattice.proofs.Beside.{turn_between}
 use Rattle.std.proofs.lemmas.Bool.{not-false}
@@ -239,22 +239,22 @@ pub chain_winds : (m : ℤ) (q : Point) (P : Point → Type 0) → Level m q P �
     winds m q es ≡ crossing q (scale m p) (scale m r)
 chain_winds m q P l p r es hp hr h = chain_total m q P l p r es hp h ∙ sym (l.is p r hp hr)
 
--- ---- cuts
+-- ---- splits
 
-cut_chain : (k : Cut) (e : Edge) → IsInBox k.ends k.at → (p r : Point) (es : List Edge) → IsInBox e p → Chain (IsInBox e) p es r → Chain (IsInBox e) p (cut_edges k es) r
+cut_chain : (k : EdgeSplit) (e : Edge) → IsInBox k.ends k.at → (p r : Point) (es : List Edge) → IsInBox e p → Chain (IsInBox e) p es r → Chain (IsInBox e) p (split_by k es) r
 cut_chain k e box p r [] hp h = h
 cut_chain k e box p r (f ∷ es) hp h =
     by (same_ends f k.ends) refl (cut_chain k e box f.1 r es h.1.0 h.1.1)
   where
-    by : (b : Bool) → same_ends f k.ends ≡ b → Chain (IsInBox e) f.1 (cut_edges k es) r →
-        Chain (IsInBox e) p (cond b ((f.0, k.at) ∷ (k.at, f.1) ∷ []) (f ∷ []) ++ cut_edges k es) r
+    by : (b : Bool) → same_ends f k.ends ≡ b → Chain (IsInBox e) f.1 (split_by k es) r →
+        Chain (IsInBox e) p (cond b ((f.0, k.at) ∷ (k.at, f.1) ∷ []) (f ∷ []) ++ split_by k es) r
     by true t rest =
         let start : IsInBox e f.0 = subst (λ (z : Point). IsInBox e z) h.0 hp in
         (h.0, (box_trans e f k.at start h.1.0 (cut_box k f box t), (refl, (h.1.0, rest))))
     by false t rest = (h.0, (h.1.0, rest))
 
 -- the path of an edge stays in the edge's box
-pub path_chain : (ks : List Cut) (e : Edge) → Boxed ks → Chain (IsInBox e) e.0 (path ks e) e.1
+pub path_chain : (ks : List EdgeSplit) (e : Edge) → Boxed ks → Chain (IsInBox e) e.0 (path ks e) e.1
 path_chain [] e boxed = (refl, (end_box e, refl))
 path_chain (k ∷ ks) e boxed = cut_chain k e boxed.0 e.0 e.1 (path ks e) (start_box e) (path_chain ks e boxed.1)
 
@@ -267,7 +267,7 @@ straight_chain e p r (f ∷ es) h n =
     (h.0, ((Decides-int_eq (turn e.0 e.1 f.1) (pos 0)).0 (not-false (int_eq (turn e.0 e.1 f.1) (pos 0)) parts.0), straight_chain e f.1 r es h.1.1 parts.1))
 
 -- the path of an edge has the edge's crossing where it is straight, and at points outside its box
-pub path_winds : (ks : List Cut) (e : Edge) (m : ℤ) (q : Point) → Boxed ks → pos 0 <ℤ m → (e.0 ≡ e.1 → ⊥) →
+pub path_winds : (ks : List EdgeSplit) (e : Edge) (m : ℤ) (q : Point) → Boxed ks → pos 0 <ℤ m → (e.0 ≡ e.1 → ⊥) →
     (is_bent ks e ≡ true → IsInBox (scale m e.0, scale m e.1) q → ⊥) → winds m q (path ks e) ≡ crossing q (scale m e.0) (scale m e.1)
 path_winds ks e m q boxed some differ out =
     ⊎_elim
@@ -278,15 +278,15 @@ path_winds ks e m q boxed some differ out =
     (cases_Bool (is_bent ks e))
 
 -- the segments have the winding of the given edges at every point in the box of no bent edge
-pub after_winds : (ks : List Cut) (es : List Edge) (m : ℤ) (q : Point) → Boxed ks → pos 0 <ℤ m →
+pub after_winds : (ks : List EdgeSplit) (es : List Edge) (m : ℤ) (q : Point) → Boxed ks → pos 0 <ℤ m →
     ((e : Edge) → occurs e es ≡ true → e.0 ≡ e.1 → ⊥) →
     ((e : Edge) → occurs e es ≡ true → is_bent ks e ≡ true → IsInBox (scale m e.0, scale m e.1) q → ⊥) →
     winds m q (after ks es) ≡ winds m q es
 after_winds ks [] m q boxed some differ out = nothing ks
   where
-    nothing : (ks : List Cut) → winds m q (after ks []) ≡ pos 0
+    nothing : (ks : List EdgeSplit) → winds m q (after ks []) ≡ pos 0
     nothing [] = refl
-    nothing (k ∷ ks) = ap (λ (l : List Edge). winds m q (cut_edges k l)) (after_none ks)
+    nothing (k ∷ ks) = ap (λ (l : List Edge). winds m q (split_by k l)) (after_none ks)
 after_winds ks (e ∷ es) m q boxed some differ out =
     ap (λ (l : List Edge). winds m q l) (after_append ks (e ∷ []) es)
     ∙ (total_append (λ (p r : Point). crossing q (scale m p) (scale m r)) (path ks e) (after ks es)

@@ -15,13 +15,13 @@ use Rattle.mesh_plane.specs.Winding.{sum_of, route, boundary, same_point}
 use Rattle.mesh_plane.proofs.Whole.{linear, mul_both_neg, mul_neg_pos, pos_of_mul, neg_mul, square_nonneg, mul_zero, zero_mul}
 use Rattle.mesh_plane.proofs.Ring.{ring, var, ◌⊕◌, ◌⊖◌, ◌⊗◌}
 use Rattle.mesh_plane.proofs.ClosedLists.{boundary_rotated}
-use Rattle.mesh_plane.specs.Ways.{turns_at, first_or, last_of}
+use Rattle.mesh_plane.specs.Turning.{turns_at, first_or, last_of}
 use Rattle.mesh_shapes.specs.Contours.{turning_points, kept, vertices, edge_lt, FirstIsLeast, IsBegun, side_point, left_out, StartsOnce, IsRingOf, IsRingAmong}
 use Rattle.mesh_lattice.specs.Counted.{bit}
 use Rattle.mesh_shapes.specs.Private.Progress.{point_at, next_at, next_kept, IsBestVisit, IsLeastBefore}
 use Rattle.mesh_lattice.proofs.Each.{Each, each_more, each_append, each_left, each_right}
-use Rattle.mesh_lattice.proofs.SoundCuts.{ProperEnds}
-use Rattle.mesh_shapes.proofs.Walking.{Before, before_of, of_before, not_before, three_ways, lt_self, from_after, before_trans, before_not_self}
+use Rattle.mesh_lattice.proofs.SoundSplits.{ProperEnds}
+use Rattle.mesh_shapes.proofs.Tracing.{Before, before_of, of_before, not_before, three_ways, lt_self, from_after, before_trans, before_not_self}
 use Rattle.mesh_plane.proofs.Comparing.{decides_point, less_test}
 
 -- ---- turning points

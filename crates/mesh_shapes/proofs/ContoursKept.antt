@@ -3,14 +3,14 @@ use Rattle.std.proofs.Common.{◌≡◌, ℕ, ◌⊎◌, inl, inr, Bool, true, f
 use Rattle.std.specs.Prelude.{ℤ, pos, ◌+ℤ◌}
 use Rattle.mesh_plane.specs.Plane.{Point, turn}
 use Rattle.mesh_plane.specs.Winding.{total, route, boundary, winding, IsStraight, crossing_on}
-use Rattle.mesh_plane.proofs.Ways.{straight_turn}
+use Rattle.mesh_plane.proofs.Turning.{straight_turn}
 use Rattle.mesh_plane.proofs.Whole.{linear}
 use Rattle.mesh_plane.proofs.Crossings.{turn_swap, turn_cycle, straight_none}
 use Rattle.mesh_plane.proofs.Triangles.{crossing_on_straight}
-use Rattle.mesh_plane.specs.Ways.{turns_at, first_or}
+use Rattle.mesh_plane.specs.Turning.{turns_at, first_or}
 use Rattle.mesh_shapes.specs.Contours.{turning_points, vertices}
 use Rattle.mesh_lattice.proofs.Each.{Each}
-use Rattle.mesh_lattice.proofs.SoundCuts.{ProperEnds}
+use Rattle.mesh_lattice.proofs.SoundSplits.{ProperEnds}
 use Rattle.mesh_plane.proofs.LineTurns.{line_turn}
 
 -- `k` is `a`, or on a line with `a` and the next point

@@ -8,7 +8,7 @@ use Rattle.std.proofs.lemmas.List.{get_or_default, drop_all}
 use Rattle.std.proofs.lemmas.List.Elements.{All-nil, All-cons}
 use Rattle.mesh_plane.specs.Plane.{Point, Edge}
 use Rattle.mesh_plane.specs.Order.{point_lt}
-use Rattle.mesh_plane.specs.Ways.{turns_at, first_or}
+use Rattle.mesh_plane.specs.Turning.{turns_at, first_or}
 use Rattle.mesh_plane.specs.Winding.{sum_of, same_point}
 use Rattle.mesh_plane.proofs.Balance.{marks_counted}
 use Rattle.mesh_plane.proofs.Comparing.{decides_point}
@@ -16,7 +16,7 @@ use Rattle.mesh_shapes.specs.Contours.{StartsOnce, left_out, omitted, straight_p
 use Rattle.mesh_shapes.specs.Private.Progress.{point_at, point_after, omitted_after}
 use Rattle.mesh_shapes.specs.Vectors.{StartsInOrder}
 use Rattle.mesh_shapes.proofs.ContoursBegun.{at_place}
-use Rattle.mesh_shapes.proofs.Walking.{lt_self, neither_before}
+use Rattle.mesh_shapes.proofs.Tracing.{lt_self, neither_before}
 
 -- ---- how many edges start at a point
 

@@ -7,4 +7,4 @@ pub mod HolderSearch
 pub mod LeftOut
 pub mod Shapes
 pub mod Taking
-pub mod Walking
+pub mod Tracing

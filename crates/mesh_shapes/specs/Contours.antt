@@ -3,7 +3,7 @@ use Rattle.std.specs.Prelude.{◌≡◌, ◌≤◌, Bool, true, false, cond, ◌
 use Rattle.std.specs.List.{All}
 use Rattle.mesh_plane.specs.Plane.{Point, Edge, plus, cross}
 use Rattle.mesh_plane.specs.Order.{point_lt}
-use Rattle.mesh_plane.specs.Ways.{turns_at, first_or}
+use Rattle.mesh_plane.specs.Turning.{turns_at, first_or}
 use Rattle.mesh_plane.specs.Winding.{sum_of, total, boundary, same_point}
 
 -- of the list, the points at which the way from `a` by all of them to `z` turns or turns back

@@ -8,7 +8,7 @@ use Rattle.mesh_plane.specs.Plane.{Point, Edge}
 use Rattle.mesh_plane.specs.Order.{point_lt}
 use Rattle.mesh_plane.specs.Winding.{boundary, same_point, holds}
 use Rattle.mesh_lattice.specs.Clean.{IsClean}
-use Rattle.mesh_lattice.specs.Split.{Cut, after, IsLegal}
+use Rattle.mesh_lattice.specs.Split.{EdgeSplit, after, IsLegal}
 use Rattle.mesh_lattice.specs.Boundary.{IsBoundary}
 use Rattle.mesh_shapes.specs.Contours.{vertices, IsBegun, double_area, side_point, reversed}
 
@@ -83,16 +83,16 @@ pub record AreArranged (clockwise : Bool) (rings : List Ring) (answer : List (Li
   pub shapes : answer ≡ map (map (answered clockwise)) (rings_by_shape (enumerate_from 0 sorted))
 
 -- an answer is a resolution of edges by a fill and options; no order of splitting, no structure of the program and no
--- choice of a walk is named
+-- choice of a trace is named
 pub record IsResolution (edges : List Edge) (fill : ℤ → Bool) (options : Choices) (answer : List (List (List Point)))
     : Type 0 where
   -- the edges are split by a list of legal splits, until any two segments have the same ends or share only common ends
-  pub cuts : List Cut
-  pub legal : IsLegal edges cuts
-  pub clean : IsClean (after cuts edges)
+  pub splits : List EdgeSplit
+  pub legal : IsLegal edges splits
+  pub clean : IsClean (after splits edges)
   -- the edges of closed contours are together the boundary: each segment once whose two sides differ in fill
   pub contours : List (List Point)
-  pub bounded : IsBoundary (after cuts edges) fill (flat_map boundary contours)
+  pub bounded : IsBoundary (after splits edges) fill (flat_map boundary contours)
   -- each contour begins at its least point, at the visit with the least next vertex
   pub begun : All (IsBegun options.all_vertices) contours
   -- the answer arises from the rings of the contours, the small ones left out

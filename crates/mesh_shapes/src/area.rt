@@ -4,7 +4,7 @@ ghost use Rattle.std.specs.Prelude.{◌≡◌, ◌^◌, ◌<◌, ◌≤◌, ℤ,
 ghost use Rattle.mesh_plane.specs.Plane.{cross};
 ghost use Rattle.mesh_shapes.specs.Contours.{double_area};
 
-use mesh_lattice::grid::GridPoint;
+use mesh_lattice::lattice::LatticePoint;
 
 fn long(a: i32, b: i32) -> i128
     ensures value { result ≡ a *ℤ b }
@@ -14,7 +14,7 @@ fn long(a: i32, b: i32) -> i128
 }
 
 /// Twice the area, with its sign, of the triangle of two points and the origin.
-fn area_of(p: GridPoint, q: GridPoint) -> i128
+fn area_of(p: LatticePoint, q: LatticePoint) -> i128
     ensures value { result ≡ cross p q }
     ensures size { unsigned_abs result ≤ 2 ^ 63 }
 {
@@ -22,7 +22,7 @@ fn area_of(p: GridPoint, q: GridPoint) -> i128
 }
 
 /// Twice the area that a closed list of points encloses, above 0 where it runs counterclockwise.
-pub fn double_area(points: &[GridPoint]) -> i128
+pub fn double_area(points: &[LatticePoint]) -> i128
     ensures value { result ≡ double_area points.now }
     ensures size { unsigned_abs result < 2 ^ 127 }
 {

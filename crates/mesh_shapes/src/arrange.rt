@@ -19,7 +19,7 @@ ghost use Rattle.mesh_shapes.specs.Resolution.{AreArranged};
 use crate::area::double_area;
 use crate::holders::{PlacedEdge, holder, ring_edges};
 use crate::ring::Ring;
-use mesh_lattice::grid::GridPoint;
+use mesh_lattice::lattice::LatticePoint;
 use mesh_lattice::places::{empty_lists, push_to};
 use mesh_lattice::rows::Rows;
 use std::alloc::{AllocError, Global};
@@ -110,7 +110,7 @@ fn homes(alloc: Global, rings: &[Ring]) -> Result<Vec<usize>, AllocError>
 }
 
 /// Leaves the first point where it is, and turns the others about.
-fn reverse(points: &mut [GridPoint])
+fn reverse(points: &mut [LatticePoint])
     ensures { points.new ≡ reversed points.old }
 {
     if !points.is_empty() {
@@ -119,7 +119,7 @@ fn reverse(points: &mut [GridPoint])
 }
 
 /// A ring's points as its contour, the other way about where contours are to run clockwise.
-fn answered(mut points: Vec<GridPoint>, clockwise: bool) -> Vec<GridPoint>
+fn answered(mut points: Vec<LatticePoint>, clockwise: bool) -> Vec<LatticePoint>
     ensures { result.items ≡ cond clockwise (reversed points.items) points.items }
 {
     if clockwise {
@@ -167,7 +167,7 @@ fn members(alloc: Global, rings: &[Ring], homes: &[usize]) -> Result<Vec<Vec<usi
 /// Moves the points of the ring at a place to a shape, as its contour.
 fn push_contour(
     alloc: Global,
-    shape: &mut Vec<Vec<GridPoint>>,
+    shape: &mut Vec<Vec<LatticePoint>>,
     rings: &mut [Ring],
     i: usize,
     clockwise: bool,
@@ -189,7 +189,7 @@ fn shape(
     members: &[usize],
     h: usize,
     clockwise: bool,
-) -> Result<Vec<Vec<GridPoint>>, AllocError>
+) -> Result<Vec<Vec<LatticePoint>>, AllocError>
     requires in_range { h < length rings.old }
     requires within { All (λ i. i < length rings.old) members.now }
     requires apart { AllPairs (λ i j. i ≢ j) (h ∷ members.now) }
@@ -208,7 +208,7 @@ fn shape(
 /// Adds the shape that the ring at `h` heads, if it heads one.
 fn push_shape(
     alloc: Global,
-    shapes: &mut Vec<Vec<Vec<GridPoint>>>,
+    shapes: &mut Vec<Vec<Vec<LatticePoint>>>,
     rings: &mut [Ring],
     homes: &[usize],
     members: &[usize],
@@ -235,7 +235,7 @@ fn grouped(
     alloc: Global,
     rings: &mut [Ring],
     clockwise: bool,
-) -> Result<Vec<Vec<Vec<GridPoint>>>, AllocError>
+) -> Result<Vec<Vec<Vec<LatticePoint>>>, AllocError>
     ensures { IfOk result (λ v. shapes_points v.items ≡ all_shapes clockwise (rings_of_vecs rings.old)) }
 {
     let homes = homes(alloc, rings)?;
@@ -248,7 +248,7 @@ fn grouped(
 }
 
 /// Rings in the order of their points.
-fn in_order(mut rings: Vec<Ring>) -> Vec<Ring>
+fn rings_by_points(mut rings: Vec<Ring>) -> Vec<Ring>
     ensures same { IsPermutation rings.items result.items }
     ensures ordered { IsSortedBy (λ r s. points_lt r.0 s.0) (rings_of_vecs result.items) }
 {
@@ -262,10 +262,10 @@ pub fn shapes(
     alloc: Global,
     rings: Vec<Ring>,
     clockwise: bool,
-) -> Result<Vec<Vec<Vec<GridPoint>>>, AllocError>
+) -> Result<Vec<Vec<Vec<LatticePoint>>>, AllocError>
     ensures { IfOk result (λ v. AreArranged clockwise (rings_of_vecs rings.items) (shapes_points v.items)) }
 {
-    let mut ordered = in_order(rings);
+    let mut ordered = rings_by_points(rings);
     let shapes = grouped(alloc, &mut ordered, clockwise)?;
     Ok(shapes)
 }

@@ -16,11 +16,11 @@ ghost use Rattle.mesh_shapes.specs.Vectors.{rings_of_vecs};
 
 use crate::ring::Ring;
 use mesh_lattice::fine::{FinePoint, crossing, doubled};
-use mesh_lattice::grid::{GridEdge, GridPoint};
+use mesh_lattice::lattice::{LatticeEdge, LatticePoint};
 use std::alloc::{AllocError, Global};
 
 /// An edge of a ring, and the place of the ring.
-pub type PlacedEdge = (GridEdge, usize);
+pub type PlacedEdge = (LatticeEdge, usize);
 
 /// What is known midway through the row of a point.
 #[derive(Copy, Clone)]
@@ -34,7 +34,11 @@ struct Search {
 }
 
 /// Adds the edges of a ring at a place.
-fn push_edges(edges: &mut Vec<PlacedEdge>, points: &[GridPoint], h: usize) -> Result<(), AllocError>
+fn push_edges(
+    edges: &mut Vec<PlacedEdge>,
+    points: &[LatticePoint],
+    h: usize,
+) -> Result<(), AllocError>
     ensures { OnOk result (edges.new.items ≡ edges.old.items ++ with_place h (boundary points.now)) }
 {
     if points.is_empty() {

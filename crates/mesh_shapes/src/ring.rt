@@ -7,20 +7,20 @@ ghost use Rattle.std.specs.List.{All};
 ghost use Rattle.mesh_plane.specs.Bounds.{IsSmall, IsSafe};
 ghost use Rattle.mesh_plane.specs.Plane.{Edge, dot, cross};
 ghost use Rattle.mesh_plane.specs.Winding.{boundary, same_point};
-ghost use Rattle.mesh_plane.specs.Ways.{turns_at};
+ghost use Rattle.mesh_plane.specs.Turning.{turns_at};
 ghost use Rattle.mesh_shapes.specs.Contours.{kept, left_out, omitted, vertices, side_point, StartsOnce, IsRingAmong};
 ghost use Rattle.mesh_shapes.specs.Vectors.{StartsInOrder};
 ghost use Rattle.mesh_shapes.specs.Private.Progress.{point_at, next_at, IsBestVisit, IsLeastBefore, point_after};
 ghost use Rattle.mesh_shapes.specs.Private.Progress.{kept_after, omitted_after};
 
-use crate::walk::starts_once;
+use crate::trace::starts_once;
 use mesh_lattice::exact::{cross, is_before, minus, product, same_point};
 use mesh_lattice::fine::{FinePoint, middle};
-use mesh_lattice::grid::{GridEdge, GridPoint};
+use mesh_lattice::lattice::{LatticeEdge, LatticePoint};
 use std::alloc::{AllocError, Global};
 
 /// The vertices of a contour, and the midpoint of its first edge on the grid that is twice as fine.
-pub type Ring = (Vec<GridPoint>, FinePoint);
+pub type Ring = (Vec<LatticePoint>, FinePoint);
 
 /// A vector between two points.
 type Vector = (i128, i128);
@@ -35,7 +35,7 @@ fn dot(v: Vector, w: Vector) -> i128
 }
 
 /// Whether a way from `a` by `p` to `n` turns or turns back at `p`.
-fn turns_at(a: GridPoint, p: GridPoint, n: GridPoint) -> bool
+fn turns_at(a: LatticePoint, p: LatticePoint, n: LatticePoint) -> bool
     ensures { result ≡ turns_at a p n }
 {
     let v = minus(p, a);
@@ -47,7 +47,7 @@ fn turns_at(a: GridPoint, p: GridPoint, n: GridPoint) -> bool
 }
 
 /// The place of the lesser of two points.
-fn lesser_place(contour: &[GridPoint], least: usize, i: usize) -> usize
+fn lesser_place(contour: &[LatticePoint], least: usize, i: usize) -> usize
     requires in_range { i < length contour.now }
     requires known { IsLeastBefore contour.now i least }
     ensures { IsLeastBefore contour.now (i + 1) result }
@@ -59,7 +59,7 @@ fn lesser_place(contour: &[GridPoint], least: usize, i: usize) -> usize
 }
 
 /// Where the least point stands first.
-fn least_place(contour: &[GridPoint]) -> usize
+fn least_place(contour: &[LatticePoint]) -> usize
     requires { 0 < length contour.now }
     ensures { IsLeastBefore contour.now (length contour.now) result }
 {
@@ -71,7 +71,7 @@ fn least_place(contour: &[GridPoint]) -> usize
 }
 
 /// The point that follows, the first after the last.
-fn following(contour: &[GridPoint], i: usize) -> GridPoint
+fn following(contour: &[LatticePoint], i: usize) -> LatticePoint
     requires { i < length contour.now }
     ensures { result ≡ point_after contour.now i }
 {
@@ -82,7 +82,7 @@ fn following(contour: &[GridPoint], i: usize) -> GridPoint
 }
 
 /// Whether the point at a place is answered: all are, or the way turns there.
-fn is_kept(contour: &[GridPoint], all: bool, before: GridPoint, i: usize) -> bool
+fn is_kept(contour: &[LatticePoint], all: bool, before: LatticePoint, i: usize) -> bool
     requires { i < length contour.now }
     ensures { result ≡ (all || turns_at before (point_at contour.now i) (point_after contour.now i)) }
 {
@@ -93,7 +93,7 @@ fn is_kept(contour: &[GridPoint], all: bool, before: GridPoint, i: usize) -> boo
 }
 
 /// The next vertex that is answered after the place `at`, in a contour that begins with an answered one.
-fn next_vertex(contour: &[GridPoint], all: bool, at: usize) -> GridPoint
+fn next_vertex(contour: &[LatticePoint], all: bool, at: usize) -> LatticePoint
     requires { at < length contour.now }
     ensures { result ≡ next_at all contour.now at }
 {
@@ -108,7 +108,7 @@ fn next_vertex(contour: &[GridPoint], all: bool, at: usize) -> GridPoint
 }
 
 /// The better of two visits of the first point, where the second place is one.
-fn better_visit(contour: &[GridPoint], all: bool, best: usize, i: usize) -> usize
+fn better_visit(contour: &[LatticePoint], all: bool, best: usize, i: usize) -> usize
     requires in_range { i < length contour.now }
     requires known { IsBestVisit all contour.now i best }
     ensures { IsBestVisit all contour.now (i + 1) result }
@@ -126,7 +126,7 @@ fn better_visit(contour: &[GridPoint], all: bool, best: usize, i: usize) -> usiz
 }
 
 /// Of the visits of the first point that with the least next vertex.
-fn start_place(contour: &[GridPoint], all: bool) -> usize
+fn start_place(contour: &[LatticePoint], all: bool) -> usize
     requires { 0 < length contour.now }
     ensures { IsBestVisit all contour.now (length contour.now) result }
 {
@@ -139,10 +139,10 @@ fn start_place(contour: &[GridPoint], all: bool) -> usize
 
 /// Adds the point at a place, where it is answered.
 fn push_kept(
-    points: &mut Vec<GridPoint>,
-    contour: &[GridPoint],
+    points: &mut Vec<LatticePoint>,
+    contour: &[LatticePoint],
     all: bool,
-    before: GridPoint,
+    before: LatticePoint,
     i: usize,
 ) -> Result<(), AllocError>
     requires { i < length contour.now }
@@ -157,7 +157,11 @@ fn push_kept(
 }
 
 /// The first point and the turning points, or all points.
-fn vertices(alloc: Global, contour: &[GridPoint], all: bool) -> Result<Vec<GridPoint>, AllocError>
+fn vertices(
+    alloc: Global,
+    contour: &[LatticePoint],
+    all: bool,
+) -> Result<Vec<LatticePoint>, AllocError>
     requires { 0 < length contour.now }
     ensures { IfOk result (λ v. v.items ≡ vertices all contour.now) }
 {
@@ -173,11 +177,11 @@ fn vertices(alloc: Global, contour: &[GridPoint], all: bool) -> Result<Vec<GridP
 
 /// Whether the point at a place is answered, or at most one of the edges starts at it.
 fn may_leave(
-    contour: &[GridPoint],
+    contour: &[LatticePoint],
     all: bool,
-    before: GridPoint,
+    before: LatticePoint,
     i: usize,
-    ordered: &[GridEdge],
+    ordered: &[LatticeEdge],
 ) -> bool
     requires in_range { i < length contour.now }
     requires ordered { StartsInOrder ordered.now }
@@ -188,7 +192,7 @@ fn may_leave(
 }
 
 /// Whether at most one of the edges starts at each point that the vertices leave out.
-fn leaves_lone_points(contour: &[GridPoint], all: bool, ordered: &[GridEdge]) -> bool
+fn leaves_lone_points(contour: &[LatticePoint], all: bool, ordered: &[LatticeEdge]) -> bool
     requires has_points { 0 < length contour.now }
     requires ordered { StartsInOrder ordered.now }
     ensures { result ≡ true → All (StartsOnce ordered.now) (left_out all contour.now) }
@@ -203,7 +207,7 @@ fn leaves_lone_points(contour: &[GridPoint], all: bool, ordered: &[GridEdge]) ->
     true
 }
 
-fn side_point(contour: &[GridPoint]) -> FinePoint
+fn side_point(contour: &[LatticePoint]) -> FinePoint
     requires { 0 < length contour.now }
     ensures { result ≡ side_point contour.now }
 {
@@ -214,9 +218,9 @@ fn side_point(contour: &[GridPoint]) -> FinePoint
 /// of their starts, starts at each point that it leaves out.
 pub fn ring_of(
     alloc: Global,
-    mut contour: Vec<GridPoint>,
+    mut contour: Vec<LatticePoint>,
     all: bool,
-    ordered: &[GridEdge],
+    ordered: &[LatticeEdge],
 ) -> Result<(Ring, bool), AllocError>
     requires has_points { 0 < length contour.items }
     requires proper { All (λ (e : Edge). same_point e.0 e.1 ≡ false) (boundary contour.items) }

@@ -1,20 +1,20 @@
 -- Lemmas over points and lists: what legal splits keep.
 use Rattle.std.proofs.Common.{List}
 use Rattle.mesh_plane.specs.Plane.{Edge}
-use Rattle.mesh_lattice.specs.Split.{Cut, IsLegal}
-use Rattle.mesh_lattice.proofs.KeptByCuts.{after_balanced}
-use Rattle.mesh_lattice.proofs.SafeCuts.{split_safe}
-use Rattle.mesh_lattice.proofs.SoundCuts.{legal_sound, after_proper}
+use Rattle.mesh_lattice.specs.Split.{EdgeSplit, IsLegal}
+use Rattle.mesh_lattice.proofs.KeptBySplits.{after_balanced}
+use Rattle.mesh_lattice.proofs.SafeSplits.{split_safe}
+use Rattle.mesh_lattice.proofs.SoundSplits.{legal_sound, after_proper}
 use Rattle.mesh_split.specs.Laws.{KeepsEdges}
 use Rattle.mesh_split.proofs.Paths.{path_of_edge, comes_from}
 
-pub kept_by_splits : (given : List Edge) (cuts : List Cut) → IsLegal given cuts → KeepsEdges given cuts
-kept_by_splits given cuts legal =
-    let sound = legal_sound given cuts legal in
+pub kept_by_splits : (given : List Edge) (splits : List EdgeSplit) → IsLegal given splits → KeepsEdges given splits
+kept_by_splits given splits legal =
+    let sound = legal_sound given splits legal in
     record {
-      paths = path_of_edge cuts sound;
-      boxed = comes_from cuts sound given;
-      proper = after_proper cuts sound given;
-      safe = λ unit h. split_safe unit given cuts legal h;
-      balanced = after_balanced cuts given;
+      paths = path_of_edge splits sound;
+      boxed = comes_from splits sound given;
+      proper = after_proper splits sound given;
+      safe = λ unit h. split_safe unit given splits legal h;
+      balanced = after_balanced splits given;
     }

@@ -1,4 +1,4 @@
--- Lemmas over points and lists: cuts make of each edge a path that never goes back; what a splitting is.
+-- Lemmas over points and lists: splits make of each edge a path that never goes back; what a splitting is.
 use Rattle.std.proofs.Common.{◌≡◌, ⊎_elim, Bool, true, false, cond, ◌||◌, sym, subst, ap, ◌∙◌, refl, arith, List, [], ◌∷◌, ◌++◌}
 use Rattle.std.specs.List.{All}
 use Rattle.std.proofs.lemmas.Bool.{cases_Bool, false≢true, or_cases, or_right}
@@ -7,22 +7,22 @@ use Rattle.mesh_plane.specs.Plane.{Point, Edge}
 use Rattle.mesh_plane.proofs.Whole.{linear}
 use Rattle.mesh_lattice.specs.Clean.{IsProper}
 use Rattle.mesh_lattice.specs.Counted.{Counted, IsCountOf}
-use Rattle.mesh_lattice.specs.Split.{back, same_ends, occurs, IsInBox, Cut, cut_edges, after, path}
+use Rattle.mesh_lattice.specs.Split.{back, same_ends, occurs, IsInBox, EdgeSplit, split_by, after, path}
 use Rattle.mesh_lattice.specs.Splitting.{Leads, IsOnward, IsPathOf, ComesFrom, IsSplitting}
 use Rattle.mesh_split.specs.Private.Steps.{AllClear, IsReachedBySplits}
-use Rattle.mesh_lattice.proofs.SafeCuts.{split_safe}
+use Rattle.mesh_lattice.proofs.SafeSplits.{split_safe}
 use Rattle.mesh_lattice.proofs.Keys.{occurs_head}
-use Rattle.mesh_lattice.proofs.KeptByCuts.{box_trans, after_append, after_balanced}
-use Rattle.mesh_lattice.proofs.SoundCuts.{IsSound, legal_sound, after_proper}
+use Rattle.mesh_lattice.proofs.KeptBySplits.{box_trans, after_append, after_balanced}
+use Rattle.mesh_lattice.proofs.SoundSplits.{IsSound, legal_sound, after_proper}
 use Rattle.mesh_lattice.proofs.Boxes.{start_box, end_box}
 use Rattle.mesh_split.proofs.Clean.{clean_of_clear}
-use Rattle.mesh_lattice.proofs.Cuts.{occurs_append}
+use Rattle.mesh_lattice.proofs.Splits.{occurs_append}
 use Rattle.mesh_lattice.proofs.Ends.{decides_ends}
-use Rattle.mesh_lattice.proofs.KeptByCuts.{after_none}
+use Rattle.mesh_lattice.proofs.KeptBySplits.{after_none}
 use Rattle.mesh_lattice.proofs.Each.{Each}
 
--- a cut's point lies in the box of each edge that it cuts
-box_of_cut : (k : Cut) (f : Edge) → IsSound k → same_ends f k.ends ≡ true → IsInBox f k.at
+-- a cut's point lies in the box of each edge that it splits
+box_of_cut : (k : EdgeSplit) (f : Edge) → IsSound k → same_ends f k.ends ≡ true → IsInBox f k.at
 box_of_cut k f sound t =
     ⊎_elim
     (λ (p : f ≡ k.ends). subst (λ (e : Edge). IsInBox e k.at) (sym p) sound.boxed)
@@ -34,11 +34,11 @@ box_of_cut k f sound t =
 
 -- ---- paths stay chains
 
-leads_cut : (k : Cut) (p : Point) (es : List Edge) (r : Point) → Leads p es r → Leads p (cut_edges k es) r
+leads_cut : (k : EdgeSplit) (p : Point) (es : List Edge) (r : Point) → Leads p es r → Leads p (split_by k es) r
 leads_cut k p [] r h = h
 leads_cut k p (f ∷ es) r h = by (same_ends f k.ends) (leads_cut k f.1 es r h.1)
   where
-    by : (b : Bool) → Leads f.1 (cut_edges k es) r → Leads p (cond b ((f.0, k.at) ∷ (k.at, f.1) ∷ []) (f ∷ []) ++ cut_edges k es) r
+    by : (b : Bool) → Leads f.1 (split_by k es) r → Leads p (cond b ((f.0, k.at) ∷ (k.at, f.1) ∷ []) (f ∷ []) ++ split_by k es) r
     by true rest = (h.0, (refl, rest))
     by false rest = (h.0, rest)
 
@@ -64,7 +64,7 @@ second_onward e f c h box = record {
   end_in_box = h.end_in_box;
 }
 
-onward_cut : (e : Edge) (k : Cut) → IsSound k → (es : List Edge) → All (IsOnward e) es → All (IsOnward e) (cut_edges k es)
+onward_cut : (e : Edge) (k : EdgeSplit) → IsSound k → (es : List Edge) → All (IsOnward e) es → All (IsOnward e) (split_by k es)
 onward_cut e k sound [] h = h
 onward_cut e k sound (f ∷ es) h =
     let own = All-head (IsOnward e) f es h in
@@ -72,15 +72,15 @@ onward_cut e k sound (f ∷ es) h =
     ⊎_elim
     (λ (t : same_ends f k.ends ≡ true).
     let box = box_of_cut k f sound t in
-    subst (λ (b : Bool). All (IsOnward e) (cond b ((f.0, k.at) ∷ (k.at, f.1) ∷ []) (f ∷ []) ++ cut_edges k es)) (sym t)
-    (All-cons (IsOnward e) (f.0, k.at) ((k.at, f.1) ∷ cut_edges k es) (first_onward e f k.at own box)
-    (All-cons (IsOnward e) (k.at, f.1) (cut_edges k es) (second_onward e f k.at own box) rest)))
+    subst (λ (b : Bool). All (IsOnward e) (cond b ((f.0, k.at) ∷ (k.at, f.1) ∷ []) (f ∷ []) ++ split_by k es)) (sym t)
+    (All-cons (IsOnward e) (f.0, k.at) ((k.at, f.1) ∷ split_by k es) (first_onward e f k.at own box)
+    (All-cons (IsOnward e) (k.at, f.1) (split_by k es) (second_onward e f k.at own box) rest)))
     (λ (n : same_ends f k.ends ≡ false).
-    subst (λ (b : Bool). All (IsOnward e) (cond b ((f.0, k.at) ∷ (k.at, f.1) ∷ []) (f ∷ []) ++ cut_edges k es)) (sym n)
-    (All-cons (IsOnward e) f (cut_edges k es) own rest))
+    subst (λ (b : Bool). All (IsOnward e) (cond b ((f.0, k.at) ∷ (k.at, f.1) ∷ []) (f ∷ []) ++ split_by k es)) (sym n)
+    (All-cons (IsOnward e) f (split_by k es) own rest))
     (cases_Bool (same_ends f k.ends))
 
-pub path_of_edge : (ks : List Cut) → Each IsSound ks → (e : Edge) → IsPathOf e (path ks e)
+pub path_of_edge : (ks : List EdgeSplit) → Each IsSound ks → (e : Edge) → IsPathOf e (path ks e)
 path_of_edge [] sound e = record {
   leads = (refl, refl);
   onward = All-cons (IsOnward e) e [] (record { east = λ o. o; west = λ o. o; up = λ o. o; down = λ o. o; start_in_box = start_box e; end_in_box = end_box e }) (λ i d h. absurd (omega arith));
@@ -106,7 +106,7 @@ on_path_boxed e (d ∷ es) h f o =
     own : AreInBox e d
     own = let first = All-head (IsOnward e) d es h in (first.start_in_box, first.end_in_box)
 
-pub comes_from : (ks : List Cut) → Each IsSound ks → (es : List Edge) → (f : Edge) → occurs f (after ks es) ≡ true → ComesFrom es ks f
+pub comes_from : (ks : List EdgeSplit) → Each IsSound ks → (es : List Edge) → (f : Edge) → occurs f (after ks es) ≡ true → ComesFrom es ks f
 comes_from ks sound [] f o = absurd (false≢true (subst (λ (l : List Edge). occurs f l ≡ true) (after_none ks) o))
 comes_from ks sound (e ∷ es) f o =
     ⊎_elim
@@ -133,20 +133,20 @@ comes_from ks sound (e ∷ es) f o =
 
 pub splitting_of : (given : List Edge) (ks : List Counted) → IsProper given → IsReachedBySplits given [] ks [] → AllClear ks → IsSplitting given ks
 splitting_of given ks proper r clear =
-    let sound = legal_sound given r.cuts r.legal in
-    let whole = after_proper r.cuts sound given proper in
-    let count : IsCountOf (after r.cuts given) ks = record {
+    let sound = legal_sound given r.splits r.legal in
+    let whole = after_proper r.splits sound given proper in
+    let count : IsCountOf (after r.splits given) ks = record {
       once = λ q. omega (arith, linear, r.count.once q);
       counts = λ q. omega (arith, linear, r.count.counts q);
     } in
     record {
-      cuts = r.cuts;
+      splits = r.splits;
       legal = r.legal;
       count = count;
-      clean = clean_of_clear (after r.cuts given) ks whole count clear;
+      clean = clean_of_clear (after r.splits given) ks whole count clear;
       proper = whole;
-      paths = path_of_edge r.cuts sound;
-      boxed = comes_from r.cuts sound given;
-      safe = λ unit h. split_safe unit given r.cuts r.legal h;
-      balanced = after_balanced r.cuts given;
+      paths = path_of_edge r.splits sound;
+      boxed = comes_from r.splits sound given;
+      safe = λ unit h. split_safe unit given r.splits r.legal h;
+      balanced = after_balanced r.splits given;
     }

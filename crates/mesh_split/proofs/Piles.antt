@@ -20,7 +20,7 @@ use Rattle.mesh_split.proofs.Starting.{settled_reached, settled_weight}
 pub pile_once : (given : List Edge) (todo live : List Counted) → IsPile given todo live → StandOnce todo live
 pile_once given todo live p =
     let r = p.reached in
-    record { most = λ q. omega (arith, linear, r.count.once q, bit_most (occurs q (after r.cuts given))) }
+    record { most = λ q. omega (arith, linear, r.count.once q, bit_most (occurs q (after r.splits given))) }
 
 pub once_absent : (old todo live : List Counted) (k : Counted) → IsTaken old todo k → StandOnce old live → times k.0 live ≡ pos 0
 once_absent old todo live k e h =
@@ -38,9 +38,9 @@ pub pile_moved : (old todo live live' : List Counted) (k : Counted) (given : Lis
     → IsPile given old live → IsPile given todo live'
 pile_moved old todo live live' k given e put p =
     let r = p.reached in
-    let es = after r.cuts given in
+    let es = after r.splits given in
     record {
-      reached = record { cuts = r.cuts; legal = r.legal; count = keep_count es todo live live' k [] put (pop_count es old todo live k [] e r.count) };
+      reached = record { splits = r.splits; legal = r.legal; count = keep_count es todo live live' k [] put (pop_count es old todo live k [] e r.count) };
       light = omega (arith, linear, e weight, put weight, p.light);
     }
 
@@ -58,7 +58,7 @@ pub pile_split : (todo live live1 todo' live' : List Counted) (k : Counted) (giv
 pile_split todo live live1 todo' live' k given e s p =
     let r = p.reached in
     record {
-      reached = s.reached given (record { cuts = r.cuts; legal = r.legal; count = take_count (after r.cuts given) todo live live1 k [] e r.count });
+      reached = s.reached given (record { splits = r.splits; legal = r.legal; count = take_count (after r.splits given) todo live live1 k [] e r.count });
       light = omega (arith, linear, s.weight_stays, e weight, p.light);
     }
 
@@ -72,7 +72,7 @@ pile_again given todo live todo' live' none same fresh p =
     turned q =
         let r = q.reached in
         record {
-          reached = record { cuts = r.cuts; legal = r.legal; count = record { counts = λ e. omega (arith, linear, r.count.counts e); once = λ e. omega (arith, linear, r.count.once e) } };
+          reached = record { splits = r.splits; legal = r.legal; count = record { counts = λ e. omega (arith, linear, r.count.counts e); once = λ e. omega (arith, linear, r.count.once e) } };
           light = omega (arith, linear, q.light);
         }
 

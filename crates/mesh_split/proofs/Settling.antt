@@ -6,7 +6,7 @@ use Rattle.std.proofs.lemmas.Int.{ints}
 use Rattle.mesh_plane.specs.Plane.{Point, Edge, turn}
 use Rattle.mesh_plane.specs.Winding.{same_point}
 use Rattle.mesh_plane.proofs.Whole.{linear}
-use Rattle.mesh_lattice.specs.Split.{same_edge, same_ends, occurs, is_end, IsInBox, IsCrossing, Meets, at_start_of_second, at_end_of_second, at_start_of_first, at_end_of_first, at_crossing, Cut, cut_edges, after, add_cut, IsLegal, split}
+use Rattle.mesh_lattice.specs.Split.{same_edge, same_ends, occurs, is_end, IsInBox, IsCrossing, Meets, at_start_of_second, at_end_of_second, at_start_of_first, at_end_of_first, at_crossing, EdgeSplit, split_by, after, add_split, IsLegal, split}
 use Rattle.mesh_lattice.specs.Counted.{Counted, bit, times}
 use Rattle.mesh_split.specs.Private.Steps.{exactly, IsPut, IsTaken, Puts, PutsPieces, IsClearOf, AllClear, AreCountOf, IsReachedBySplits, Settles, extent, weight, waiting_work, live_work}
 use Rattle.mesh_lattice.specs.Split.{AreClear}
@@ -79,22 +79,22 @@ keep_clear live live' k put clear h = λ e some f other.
 taken_fewer : (live live' : List Counted) (k : Counted) → IsTaken live live' k → (q : Edge) → exactly q live' ≤ℤ exactly q live
 taken_fewer live live' k t q = omega (arith, linear, t (λ (j : Counted). bit (same_edge q j.0)), bit_least (same_edge q k.0))
 
--- ---- the cuts of one split
+-- ---- the splits of one split
 
-one_cut : (e f : Edge) (c : Point) (ks : List Cut) → is_end c e ≡ false → is_end c f ≡ true → add_cut f c (add_cut e c ks) ≡ (record { ends = e; at = c }) ∷ ks
+one_cut : (e f : Edge) (c : Point) (ks : List EdgeSplit) → is_end c e ≡ false → is_end c f ≡ true → add_split f c (add_split e c ks) ≡ (record { ends = e; at = c }) ∷ ks
 one_cut e f c ks inner end =
-    ap (λ (b : Bool). cond b (add_cut e c ks) ((record { ends = f; at = c }) ∷ add_cut e c ks)) end
+    ap (λ (b : Bool). cond b (add_split e c ks) ((record { ends = f; at = c }) ∷ add_split e c ks)) end
     ∙ ap (λ (b : Bool). cond b ks ((record { ends = e; at = c }) ∷ ks)) inner
 
-other_cut : (e f : Edge) (c : Point) (ks : List Cut) → is_end c e ≡ true → is_end c f ≡ false → add_cut f c (add_cut e c ks) ≡ (record { ends = f; at = c }) ∷ ks
+other_cut : (e f : Edge) (c : Point) (ks : List EdgeSplit) → is_end c e ≡ true → is_end c f ≡ false → add_split f c (add_split e c ks) ≡ (record { ends = f; at = c }) ∷ ks
 other_cut e f c ks end inner =
-    ap (λ (b : Bool). cond b (add_cut e c ks) ((record { ends = f; at = c }) ∷ add_cut e c ks)) inner
+    ap (λ (b : Bool). cond b (add_split e c ks) ((record { ends = f; at = c }) ∷ add_split e c ks)) inner
     ∙ ap (λ (b : Bool). (record { ends = f; at = c }) ∷ cond b ks ((record { ends = e; at = c }) ∷ ks)) end
 
-both_cut : (e f : Edge) (c : Point) (ks : List Cut) → is_end c e ≡ false → is_end c f ≡ false
-    → add_cut f c (add_cut e c ks) ≡ (record { ends = f; at = c }) ∷ (record { ends = e; at = c }) ∷ ks
+both_cut : (e f : Edge) (c : Point) (ks : List EdgeSplit) → is_end c e ≡ false → is_end c f ≡ false
+    → add_split f c (add_split e c ks) ≡ (record { ends = f; at = c }) ∷ (record { ends = e; at = c }) ∷ ks
 both_cut e f c ks inner also =
-    ap (λ (b : Bool). cond b (add_cut e c ks) ((record { ends = f; at = c }) ∷ add_cut e c ks)) also
+    ap (λ (b : Bool). cond b (add_split e c ks) ((record { ends = f; at = c }) ∷ add_split e c ks)) also
     ∙ ap (λ (b : Bool). (record { ends = f; at = c }) ∷ cond b ks ((record { ends = e; at = c }) ∷ ks)) inner
 
 -- a live segment stands in the edges
@@ -110,17 +110,17 @@ pub record IsMeeting (todo live : List Counted) (k : Counted) (t : Edge) (c : Po
   pub lives : pos 0 <ℤ exactly t live
 
 legal_split : (given : List Edge) (todo live : List Counted) (k : Counted) (t : Edge) (c : Point) → IsMeeting todo live k t c → (r : IsReachedBySplits given todo live (k ∷ []))
-    → IsLegal given (add_cut t c (add_cut k.0 c r.cuts))
+    → IsLegal given (add_split t c (add_split k.0 c r.splits))
 legal_split given todo live k t c m r =
-    let h = held_is (after r.cuts given) todo live k [] m.proper r.count refl in
-    split r.legal h.stands (live_occurs (after r.cuts given) todo live (k ∷ []) t r.count m.lives) m.meets
+    let h = held_is (after r.splits given) todo live k [] m.proper r.count refl in
+    split r.legal h.stands (live_occurs (after r.splits given) todo live (k ∷ []) t r.count m.lives) m.meets
 
 -- ---- the ways to settle
 
 -- the segment in hand is clear of the live ones and becomes one
 pub settles_kept : (todo live live' : List Counted) (k : Counted) → same_point k.0.0 k.0.1 ≡ false → IsClearOf k.0 live → IsPut live live' k → Settles todo live todo live' k
 settles_kept todo live live' k proper clear put = record {
-  reached = λ given r. record { cuts = r.cuts; legal = r.legal; count = keep_count (after r.cuts given) todo live live' k [] put r.count };
+  reached = λ given r. record { splits = r.splits; legal = r.legal; count = keep_count (after r.splits given) todo live live' k [] put r.count };
   clear = keep_clear live live' k put clear;
   work_falls =
       let l : 1 ≤ extent k.0 = extent_least k.0 proper in
@@ -144,9 +144,9 @@ settles_first todo live todo' live' k t c m end p =
     let box = (meets_box m.meets).0 in
     record {
       reached = λ given r. record {
-        cuts = (record { ends = k.0; at = c }) ∷ r.cuts;
-        legal = subst (IsLegal given) (one_cut k.0 t c r.cuts inner end) (legal_split given todo live k t c m r);
-        count = cut_count (after r.cuts given) todo live todo' live' k c [] m.proper refl refl refl p r.count;
+        splits = (record { ends = k.0; at = c }) ∷ r.splits;
+        legal = subst (IsLegal given) (one_cut k.0 t c r.splits inner end) (legal_split given todo live k t c m r);
+        count = cut_count (after r.splits given) todo live todo' live' k c [] m.proper refl refl refl p r.count;
       };
       clear = fewer_clear live live' (λ q. omega (arith, linear, p.first.live_ends q, p.second.live_ends q));
       work_falls =
@@ -173,14 +173,14 @@ settles_second todo live live1 todo2 live2 todo' live' k j t c m end inner other
     let box = subst (λ (x : Edge). IsInBox x c) (sym same) (meets_box m.meets).1 in
     record {
       reached = λ given r.
-          let h = held_is (after r.cuts given) todo live k [] m.proper r.count refl in
-          let apart = apart_ends (after r.cuts given) todo live live1 k j h taken in
-          let held = swap_count (after r.cuts given) todo live1 j k [] (take_count (after r.cuts given) todo live live1 j (k ∷ []) taken r.count) in
-          let back = put_count (after r.cuts given) todo live1 todo2 live2 k (j ∷ []) m.proper (alone k.0 j apart) put held in
+          let h = held_is (after r.splits given) todo live k [] m.proper r.count refl in
+          let apart = apart_ends (after r.splits given) todo live live1 k j h taken in
+          let held = swap_count (after r.splits given) todo live1 j k [] (take_count (after r.splits given) todo live live1 j (k ∷ []) taken r.count) in
+          let back = put_count (after r.splits given) todo live1 todo2 live2 k (j ∷ []) m.proper (alone k.0 j apart) put held in
           record {
-            cuts = (record { ends = j.0; at = c }) ∷ r.cuts;
-            legal = subst (IsLegal given) (other_cut k.0 t c r.cuts end inner ∙ ap (λ (x : Edge). (record { ends = x; at = c }) ∷ r.cuts) (sym same)) (legal_split given todo live k t c m r);
-            count = cut_count (after r.cuts given) todo2 live2 todo' live' j c [] other refl refl refl p back;
+            splits = (record { ends = j.0; at = c }) ∷ r.splits;
+            legal = subst (IsLegal given) (other_cut k.0 t c r.splits end inner ∙ ap (λ (x : Edge). (record { ends = x; at = c }) ∷ r.splits) (sym same)) (legal_split given todo live k t c m r);
+            count = cut_count (after r.splits given) todo2 live2 todo' live' j c [] other refl refl refl p back;
           };
       clear = fewer_clear live live' (λ q. omega (arith, linear, p.first.live_ends q, p.second.live_ends q, put.live_ends q, taken_fewer live live1 j taken q));
       work_falls = omega (arith, linear, taken live_work, put.work_grows, p.first.work_grows, p.second.work_grows, work_pieces j.0 c inside box);
@@ -197,16 +197,16 @@ settles_both todo live live1 todo2 live2 todo' live' k j t c m outer inner other
     let box = subst (λ (x : Edge). IsInBox x c) (sym same) boxes.1 in
     record {
       reached = λ given r.
-          let h = held_is (after r.cuts given) todo live k [] m.proper r.count refl in
-          let apart = apart_ends (after r.cuts given) todo live live1 k j h taken in
-          let held = swap_count (after r.cuts given) todo live1 j k [] (take_count (after r.cuts given) todo live live1 j (k ∷ []) taken r.count) in
+          let h = held_is (after r.splits given) todo live k [] m.proper r.count refl in
+          let apart = apart_ends (after r.splits given) todo live live1 k j h taken in
+          let held = swap_count (after r.splits given) todo live1 j k [] (take_count (after r.splits given) todo live live1 j (k ∷ []) taken r.count) in
           let start : same_ends (k.0.0, c) j.0 ≡ false = ends_sym (k.0.0, c) j.0 ∙ not_ends c j.0 (k.0.0, c) inside ((decides_end c (k.0.0, c)).1 (inr refl)) in
           let rest : same_ends (c, k.0.1) j.0 ≡ false = ends_sym (c, k.0.1) j.0 ∙ not_ends c j.0 (c, k.0.1) inside ((decides_end c (c, k.0.1)).1 (inl refl)) in
-          let done = cut_count (after r.cuts given) todo live1 todo2 live2 k c (j ∷ []) m.proper (alone (k.0.0, c) j start) (alone (c, k.0.1) j rest) (alone k.0 j apart) first held in
+          let done = cut_count (after r.splits given) todo live1 todo2 live2 k c (j ∷ []) m.proper (alone (k.0.0, c) j start) (alone (c, k.0.1) j rest) (alone k.0 j apart) first held in
           record {
-            cuts = (record { ends = j.0; at = c }) ∷ (record { ends = k.0; at = c }) ∷ r.cuts;
-            legal = subst (IsLegal given) (both_cut k.0 t c r.cuts outer inner ∙ ap (λ (x : Edge). (record { ends = x; at = c }) ∷ (record { ends = k.0; at = c }) ∷ r.cuts) (sym same)) (legal_split given todo live k t c m r);
-            count = cut_count (cut_edges (record { ends = k.0; at = c }) (after r.cuts given)) todo2 live2 todo' live' j c [] other refl refl refl p done;
+            splits = (record { ends = j.0; at = c }) ∷ (record { ends = k.0; at = c }) ∷ r.splits;
+            legal = subst (IsLegal given) (both_cut k.0 t c r.splits outer inner ∙ ap (λ (x : Edge). (record { ends = x; at = c }) ∷ (record { ends = k.0; at = c }) ∷ r.splits) (sym same)) (legal_split given todo live k t c m r);
+            count = cut_count (split_by (record { ends = k.0; at = c }) (after r.splits given)) todo2 live2 todo' live' j c [] other refl refl refl p done;
           };
       clear = fewer_clear live live' (λ q. omega (arith, linear, p.first.live_ends q, p.second.live_ends q, first.first.live_ends q, first.second.live_ends q, taken_fewer live live1 j taken q));
       work_falls =

@@ -5,11 +5,11 @@ use Rattle.std.proofs.lemmas.Int.{ints}
 use Rattle.mesh_plane.specs.Plane.{Point, Edge}
 use Rattle.mesh_plane.specs.Winding.{same_point}
 use Rattle.mesh_plane.proofs.Whole.{linear, mul_add, mul_sub}
-use Rattle.mesh_lattice.specs.Split.{same_ends, occurs, cut_edges}
+use Rattle.mesh_lattice.specs.Split.{same_ends, occurs, split_by}
 use Rattle.mesh_lattice.specs.Counted.{Counted, bit, along, net, times}
 use Rattle.mesh_split.specs.Private.Steps.{IsTaken, IsPut, Puts, PutsPieces, AreCountOf, at_least_once}
 use Rattle.mesh_lattice.proofs.Ends.{ends_self, ends_sym, ends_along, along_self}
-use Rattle.mesh_lattice.proofs.Cuts.{net_cut, occurs_cut, change}
+use Rattle.mesh_lattice.proofs.Splits.{net_cut, occurs_cut, change}
 use Rattle.mesh_lattice.proofs.Counts.{absent_net, bit_least, times_least, bit_most}
 
 -- the same ends stand the same number of times
@@ -135,7 +135,7 @@ once_cut s a b o p z h l m t f g e =
 
 pub cut_count : (es : List Edge) (todo live todo' live' : List Counted) (k : Counted) (c : Point) (held : List Counted) → same_point k.0.0 k.0.1 ≡ false
     → times (k.0.0, c) held ≡ pos 0 → times (c, k.0.1) held ≡ pos 0 → times k.0 held ≡ pos 0
-    → PutsPieces todo live todo' live' k c → AreCountOf es todo live (k ∷ held) → AreCountOf (cut_edges (record { ends = k.0; at = c }) es) todo' live' held
+    → PutsPieces todo live todo' live' k c → AreCountOf es todo live (k ∷ held) → AreCountOf (split_by (record { ends = k.0; at = c }) es) todo' live' held
 cut_count es todo live todo' live' k c held proper first second alone p r =
     let h = held_is es todo live k held proper r alone in
     record {

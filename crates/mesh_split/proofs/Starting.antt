@@ -14,7 +14,7 @@ use Rattle.mesh_lattice.specs.Counted.{Counted, bit, along, times}
 use Rattle.mesh_split.specs.Private.Steps.{IsTaken, Puts, AllClear, AreCountOf, IsReachedBySplits, Settles, at_least_once, extent, weight, waiting_work, live_work, work, total_weight}
 use Rattle.mesh_lattice.proofs.Ends.{ends_self}
 use Rattle.mesh_lattice.proofs.Counts.{times_least, bit_most}
-use Rattle.mesh_lattice.proofs.Cuts.{occurs_append}
+use Rattle.mesh_lattice.proofs.Splits.{occurs_append}
 use Rattle.mesh_split.proofs.Stages.{pop_count}
 use Rattle.mesh_split.proofs.Settling.{fewer_clear}
 use Rattle.mesh_lattice.specs.Counted.{IsRoomy}
@@ -86,7 +86,7 @@ work_least todo live = omega (arith, linear, waiting todo, living live)
 pub settled_reached : (given : List Edge) (old todo live todo' live' : List Counted) (k : Counted) → IsTaken old todo k → Settles todo live todo' live' k
     → IsReachedBySplits given old live [] → IsReachedBySplits given todo' live' []
 settled_reached given old todo live todo' live' k e s r =
-    s.reached given (record { cuts = r.cuts; legal = r.legal; count = pop_count _ old todo live k [] e r.count })
+    s.reached given (record { splits = r.splits; legal = r.legal; count = pop_count _ old todo live k [] e r.count })
 
 pub settled_weight : (old todo live todo' live' : List Counted) (k : Counted) (w : ℤ) → IsTaken old todo k → Settles todo live todo' live' k
     → total_weight old live ≤ℤ w → total_weight todo' live' ≤ℤ w
@@ -108,7 +108,7 @@ popped_absent given old todo live k e r =
       ap bit (ends_self k.0),
       times_least k.0 todo,
       times_least k.0 live,
-      bit_most (occurs k.0 (after r.cuts given)),
+      bit_most (occurs k.0 (after r.splits given)),
     )
 
 pub settled_less : (old todo live todo' live' : List Counted) (k : Counted) → IsTaken old todo k → Settles todo live todo' live' k
@@ -120,7 +120,7 @@ settled_less old todo live todo' live' k e s =
     below a b h k = omega (arith, ints)
 
 pub start_reached : (given : List Edge) (n : ℕ) (todo live : List Counted) → length given ≤ n → AreCountOf (take n given) todo live [] → IsReachedBySplits given todo live []
-start_reached given n todo live h r = record { cuts = []; legal = no_cut; count = subst (λ (x : List Edge). AreCountOf x todo live []) (take_all n given h) r }
+start_reached given n todo live h r = record { splits = []; legal = no_cut; count = subst (λ (x : List Edge). AreCountOf x todo live []) (take_all n given h) r }
 
 pub end_reached : (given : List Edge) (todo live : List Counted) → todo ≡ [] → IsReachedBySplits given todo live [] → IsReachedBySplits given [] live []
 end_reached given todo live e r = subst (λ (x : List Counted). IsReachedBySplits given x live []) e r

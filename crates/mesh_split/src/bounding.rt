@@ -3,13 +3,13 @@
 ghost use Rattle.std.specs.Prelude.{◌≡◌};
 ghost use Rattle.mesh_split.specs.Private.BoundingBoxes.{are_beyond, is_beside, AreBounds};
 
-use mesh_lattice::grid::{GridEdge, GridPoint};
+use mesh_lattice::lattice::{LatticeEdge, LatticePoint};
 
 /// The least coordinates of a segment's ends, and the greatest.
-pub type BoundingBox = (GridPoint, GridPoint);
+pub type BoundingBox = (LatticePoint, LatticePoint);
 
 /// The bounds of a segment's box.
-pub fn bounding_box(s: GridEdge) -> BoundingBox
+pub fn bounding_box(s: LatticeEdge) -> BoundingBox
     ensures { AreBounds result s }
 {
     (
@@ -26,7 +26,7 @@ fn are_beyond(least: i32, most: i32, a: i32, b: i32) -> bool
 }
 
 /// Whether an edge lies beside a box.
-pub fn is_beside(bounds: BoundingBox, e: GridEdge) -> bool
+pub fn is_beside(bounds: BoundingBox, e: LatticeEdge) -> bool
     ensures { result ≡ is_beside bounds e }
 {
     are_beyond(bounds.0.0, bounds.1.0, e.0.0, e.1.0)

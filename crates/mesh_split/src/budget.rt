@@ -5,7 +5,7 @@
 
 use crate::bounding::{bounding_box, is_beside};
 use mesh_lattice::exact::meeting;
-use mesh_lattice::grid::{GridEdge, GridPoint};
+use mesh_lattice::lattice::{LatticeEdge, LatticePoint};
 use std::alloc::{AllocError, Global};
 
 /// Up to so many edges are few: then their meetings are counted pair by pair where an attempt needs it, and short runs
@@ -30,7 +30,7 @@ pub struct Budget {
 impl Budget {
     /// That of the first attempt. A long run drags points away from the edges. The heap leaves them nearer, but it
     /// costs more: so few edges are soon left to it, and many keep the usual budget.
-    pub fn of_first(edges: &[GridEdge]) -> Budget {
+    pub fn of_first(edges: &[LatticeEdge]) -> Budget {
         if edges.len() > FEW {
             return Budget::usual(edges, 1);
         }
@@ -42,7 +42,7 @@ impl Budget {
 
     /// That of an attempt which does not know the number of meetings: mostly there are no more than five for each edge,
     /// also where an offset is as long as many edges of a coast.
-    pub fn usual(edges: &[GridEdge], factor: usize) -> Budget {
+    pub fn usual(edges: &[LatticeEdge], factor: usize) -> Budget {
         let meetings = edges.len().saturating_mul(5);
         Budget {
             most: of_many(edges.len(), meetings, factor),
@@ -54,7 +54,7 @@ impl Budget {
     pub fn allows(
         &mut self,
         alloc: Global,
-        edges: &[GridEdge],
+        edges: &[LatticeEdge],
         made: usize,
     ) -> Result<bool, AllocError> {
         if made > self.most && self.counts {
@@ -69,7 +69,7 @@ impl Budget {
 
 /// On which side of the line from `p` to `r` a point lies: above 0 to the left, below 0 to the right. 0 tells nothing:
 /// what does not fit is cut off, so that a difference of products may vanish, though it never changes its sign.
-fn side(p: GridPoint, r: GridPoint, q: GridPoint) -> i64 {
+fn side(p: LatticePoint, r: LatticePoint, q: LatticePoint) -> i64 {
     let along = (r.0 as i64 - p.0 as i64, r.1 as i64 - p.1 as i64);
     let way = (q.0 as i64 - p.0 as i64, q.1 as i64 - p.1 as i64);
     along
@@ -79,7 +79,7 @@ fn side(p: GridPoint, r: GridPoint, q: GridPoint) -> i64 {
 }
 
 /// Whether two edges meet. Mostly the signs of four numbers tell it.
-fn do_meet(e: GridEdge, f: GridEdge) -> bool {
+fn do_meet(e: LatticeEdge, f: LatticeEdge) -> bool {
     let first = side(e.0, e.1, f.0)
         .signum()
         .saturating_mul(side(e.0, e.1, f.1).signum());
@@ -96,7 +96,7 @@ fn do_meet(e: GridEdge, f: GridEdge) -> bool {
 }
 
 /// How many pairs of edges meet.
-fn meetings(alloc: Global, edges: &[GridEdge]) -> Result<usize, AllocError> {
+fn meetings(alloc: Global, edges: &[LatticeEdge]) -> Result<usize, AllocError> {
     let mut boxes = Vec::with_capacity(alloc, edges.len())?;
     for e in edges {
         boxes.push((bounding_box(*e), *e))?;

@@ -11,7 +11,7 @@ use crate::hints::{Hints, Meeting, Order};
 use crate::steps::Splitter;
 use crate::store::Store;
 use mesh_lattice::exact::meeting;
-use mesh_lattice::grid::GridEdge;
+use mesh_lattice::lattice::LatticeEdge;
 use std::alloc::{AllocError, Global};
 
 /// How an attempt chooses the next split.
@@ -40,7 +40,7 @@ const ROUNDS: usize = 4;
 const GROWTH: usize = 4;
 
 /// A segment, and one that it meets.
-type Pair = (GridEdge, Meeting);
+type Pair = (LatticeEdge, Meeting);
 
 /// Makes all waiting segments live, whatever they meet, and notes what they meet, at once or later.
 fn make_live(splitter: &mut Splitter, hints: &mut Hints, at_once: bool) -> Result<(), AllocError>
@@ -99,7 +99,7 @@ fn next(live: &Store, hints: &mut Hints) -> Result<Option<Pair>, AllocError>
 /// Splits the edges by hints, unless that takes too many splits. All that it leaves waits to be tested.
 fn by_hints(
     alloc: Global,
-    edges: &[GridEdge],
+    edges: &[LatticeEdge],
     order: Order,
     is_eager: bool,
     factor: usize,
@@ -129,7 +129,7 @@ fn by_hints(
 /// Splits the edges as the second pass does, unless that takes too many splits.
 fn in_hand(
     alloc: Global,
-    edges: &[GridEdge],
+    edges: &[LatticeEdge],
     mut budget: Budget,
     splits: &mut usize,
 ) -> Result<Option<Splitter>, AllocError>
@@ -156,7 +156,7 @@ fn in_hand(
 /// An attempt of one kind, which is given up where it takes too many splits.
 fn attempt(
     alloc: Global,
-    edges: &[GridEdge],
+    edges: &[LatticeEdge],
     kind: Kind,
     factor: usize,
     splits: &mut usize,
@@ -179,7 +179,7 @@ fn attempt(
 /// The splits of all attempts are counted on.
 pub fn first_pass(
     alloc: Global,
-    edges: &[GridEdge],
+    edges: &[LatticeEdge],
     splits: &mut usize,
 ) -> Result<Splitter, AllocError>
     requires { IsProper edges.now }

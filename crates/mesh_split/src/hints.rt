@@ -3,12 +3,12 @@
 //! legal.
 
 use mesh_lattice::exact::{cross, do_cross, is_before, is_end, meeting, minus};
-use mesh_lattice::grid::{GridEdge, GridPoint};
+use mesh_lattice::lattice::{LatticeEdge, LatticePoint};
 use std::alloc::{AllocError, Global};
 use std::collections::{BTreeMap, BinaryHeap};
 
 /// The ends of a live segment that another segment meets, and where both are to be split.
-pub type Meeting = (GridEdge, GridPoint);
+pub type Meeting = (LatticeEdge, LatticePoint);
 
 /// From this length on a segment is long, in grid units.
 const LONG: u128 = 1000;
@@ -31,8 +31,8 @@ struct Hint {
     rank: u8,
     angle: u128,
     serial: usize,
-    first: GridEdge,
-    second: GridEdge,
+    first: LatticeEdge,
+    second: LatticeEdge,
 }
 
 /// The hints that were noted and not yet taken.
@@ -41,14 +41,14 @@ pub struct Hints {
     order: Order,
     heap: BinaryHeap<Hint>,
     noted: usize,
-    /// Where segments were cut, so that a hint about one can be followed to its pieces.
-    cuts: BTreeMap<GridEdge, GridPoint>,
+    /// Where segments were split, so that a hint about one can be followed to its pieces.
+    split_points: BTreeMap<LatticeEdge, LatticePoint>,
     /// Segments whose meetings were not sought yet.
-    fresh: Vec<GridEdge>,
+    fresh: Vec<LatticeEdge>,
 }
 
 /// The greater of an edge's differences in `x` and in `y`.
-fn length(e: GridEdge) -> u128 {
+fn length(e: LatticeEdge) -> u128 {
     let way = minus(e.1, e.0);
     way.0.unsigned_abs().max(way.1.unsigned_abs())
 }
@@ -58,18 +58,18 @@ fn digits(n: u128) -> u128 {
     u128::from(128u32.saturating_sub(n.leading_zeros()))
 }
 
-fn is_near(p: GridPoint, q: GridPoint) -> bool {
+fn is_near(p: LatticePoint, q: LatticePoint) -> bool {
     let way = minus(p, q);
     way.0.unsigned_abs() <= NEAR && way.1.unsigned_abs() <= NEAR
 }
 
-/// Whether a cut there leaves of a long segment a piece of few units.
-fn cuts_tip(e: GridEdge, c: GridPoint) -> bool {
+/// Whether a split there leaves of a long segment a piece of few units.
+fn cuts_tip(e: LatticeEdge, c: LatticePoint) -> bool {
     !is_end(c, e) && length(e) >= LONG && (is_near(c, e.0) || is_near(c, e.1))
 }
 
 /// Ends that lie inside the other segment are the first, then crossings, and last those that cut a tip off.
-fn rank(first: GridEdge, m: Meeting) -> u8 {
+fn rank(first: LatticeEdge, m: Meeting) -> u8 {
     if !do_cross(first, m.0) {
         return 2;
     }
@@ -81,7 +81,7 @@ fn rank(first: GridEdge, m: Meeting) -> u8 {
 }
 
 /// Greater for a greater angle between two edges.
-fn angle(order: Order, e: GridEdge, f: GridEdge) -> u128 {
+fn angle(order: Order, e: LatticeEdge, f: LatticeEdge) -> u128 {
     let sine = cross(minus(e.1, e.0), minus(f.1, f.0)).unsigned_abs();
     match order {
         Order::Angle => {
@@ -95,7 +95,7 @@ fn angle(order: Order, e: GridEdge, f: GridEdge) -> u128 {
 }
 
 /// The edge between two points, the lesser one first.
-fn between(p: GridPoint, q: GridPoint) -> GridEdge {
+fn between(p: LatticePoint, q: LatticePoint) -> LatticeEdge {
     if is_before(p, q) { (p, q) } else { (q, p) }
 }
 
@@ -106,7 +106,7 @@ impl Hints {
             order,
             heap: BinaryHeap::new(alloc),
             noted: 0,
-            cuts: BTreeMap::new(alloc),
+            split_points: BTreeMap::new(alloc),
             fresh: Vec::new(alloc),
         }
     }
@@ -117,7 +117,7 @@ impl Hints {
     }
 
     /// Notes that a segment meets another one.
-    pub fn note(&mut self, first: GridEdge, m: Meeting) -> Result<(), AllocError> {
+    pub fn note(&mut self, first: LatticeEdge, m: Meeting) -> Result<(), AllocError> {
         self.noted = self.noted.saturating_add(1);
         self.heap.push(Hint {
             rank: rank(first, m),
@@ -130,33 +130,33 @@ impl Hints {
     }
 
     /// Notes that the meetings of a segment were not sought yet.
-    pub fn note_fresh(&mut self, e: GridEdge) -> Result<(), AllocError> {
+    pub fn note_fresh(&mut self, e: LatticeEdge) -> Result<(), AllocError> {
         self.fresh.push(e)?;
         Ok(())
     }
 
     /// Notes where a segment is to be split.
-    pub fn note_cut(&mut self, e: GridEdge, c: GridPoint) -> Result<(), AllocError> {
+    pub fn note_cut(&mut self, e: LatticeEdge, c: LatticePoint) -> Result<(), AllocError> {
         if !is_end(c, e) {
-            self.cuts.insert(e, c)?;
+            self.split_points.insert(e, c)?;
         }
         Ok(())
     }
 
     /// Takes the best hint: two segments that met when it was noted.
-    pub fn pop(&mut self) -> Option<(GridEdge, GridEdge)> {
+    pub fn pop(&mut self) -> Option<(LatticeEdge, LatticeEdge)> {
         let hint = self.heap.pop()?;
         Some((hint.first, hint.second))
     }
 
     /// Takes a segment whose meetings were not sought yet.
-    pub fn pop_fresh(&mut self) -> Option<GridEdge> {
+    pub fn pop_fresh(&mut self) -> Option<LatticeEdge> {
         self.fresh.pop()
     }
 
-    /// Notes which pieces of a segment meet another one, where it was cut.
-    pub fn follow(&mut self, gone: GridEdge, other: GridEdge) -> Result<(), AllocError> {
-        let Some(c) = self.cuts.get(&gone).copied() else {
+    /// Notes which pieces of a segment meet another one, where it was split.
+    pub fn follow(&mut self, gone: LatticeEdge, other: LatticeEdge) -> Result<(), AllocError> {
+        let Some(c) = self.split_points.get(&gone).copied() else {
             return Ok(());
         };
         for piece in [between(gone.0, c), between(c, gone.1)] {

@@ -1,4 +1,4 @@
-//! The splitting: directed edges are cut, one legal split at a time, until any two segments share only common ends.
+//! The splitting: directed edges are split, one legal split at a time, until any two segments share only common ends.
 //!
 //! `splitter` has the public call, which is the second pass; its contract is in `mesh_lattice/specs/Splitting.antt`.
 //! `first_pass` splits before it, in a better order where the usual one takes too many: `budget` says how many these

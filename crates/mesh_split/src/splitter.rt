@@ -8,14 +8,14 @@ ghost use Rattle.mesh_lattice.specs.Counted.{size, IsRoomy};
 ghost use Rattle.mesh_lattice.specs.Splitting.{IsSplitting};
 
 use crate::first_pass::first_pass;
-use mesh_lattice::grid::{CountedSegment, GridEdge};
+use mesh_lattice::lattice::{CountedSegment, LatticeEdge};
 use std::alloc::{AllocError, Global};
 
 /// Splits directed edges, none of which ends where it starts, until any two segments share only common ends:
 /// the segments come from the edges by legal splits, each stands once, with its net count, also where that is 0,
 /// and each edge has become a path in its own box that never goes back in `x` nor in `y`. So segments of edges in the
 /// safe range are in it. It fails only where memory is refused.
-pub fn split_edges(alloc: Global, edges: &[GridEdge]) -> Result<Vec<CountedSegment>, AllocError>
+pub fn split_edges(alloc: Global, edges: &[LatticeEdge]) -> Result<Vec<CountedSegment>, AllocError>
     requires { IsProper edges.now }
     ensures splitting { IfOk result (λ v. IsSplitting edges.now v.items) }
     ensures room { IfOk result (λ v. IsRoomy (sum_of size v.items)) }
@@ -28,7 +28,7 @@ pub fn split_edges(alloc: Global, edges: &[GridEdge]) -> Result<Vec<CountedSegme
 /// the order of splits costs. Nothing is promised of it.
 pub fn split_edges_counted(
     alloc: Global,
-    edges: &[GridEdge],
+    edges: &[LatticeEdge],
     splits: &mut usize,
 ) -> Result<Vec<CountedSegment>, AllocError>
     requires { IsProper edges.now }

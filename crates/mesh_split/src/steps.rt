@@ -1,4 +1,4 @@
-//! The steps of the splitting: segments put in, cut, split with one that they meet, and made live.
+//! The steps of the splitting: segments put in, split alone or with one that they meet, and made live.
 
 ghost use Rattle.std.specs.Prelude.{◌≡◌, ◌^◌, [], ℤ, pos, ◌+ℤ◌, ◌≤ℤ◌, ◌<ℤ◌, neg_ℤ, false, OnOk, IfOk};
 ghost use Rattle.mesh_plane.specs.Winding.{same_point};
@@ -12,7 +12,7 @@ use crate::hints::Meeting;
 use crate::store::Store;
 use crate::worklist::Worklist;
 use mesh_lattice::exact::{is_before, is_end};
-use mesh_lattice::grid::{CountedSegment, GridEdge, GridPoint};
+use mesh_lattice::lattice::{CountedSegment, LatticeEdge, LatticePoint};
 use std::alloc::{AllocError, Global};
 
 /// The segments that wait to be tested, and the live ones. In the second pass these are clear of each other.
@@ -23,7 +23,7 @@ pub struct Splitter {
 }
 
 /// The segment of one edge.
-fn single(e: GridEdge) -> CountedSegment
+fn single(e: LatticeEdge) -> CountedSegment
     ensures value { result ≡ (e, pos 1) }
     ensures light { weight result ≤ℤ pos (2 ^ 33) }
 {
@@ -42,7 +42,7 @@ fn backwards(s: CountedSegment) -> CountedSegment
 
 impl Splitter {
     /// No segment, to split the given edges.
-    fn new(alloc: Global, edges: &[GridEdge]) -> Result<Self, AllocError>
+    fn new(alloc: Global, edges: &[LatticeEdge]) -> Result<Self, AllocError>
         ensures todo { IfOk result (λ s. s.todo ≡ []) }
         ensures live { IfOk result (λ s. s.live ≡ []) }
     {
@@ -79,8 +79,8 @@ impl Splitter {
         Ok(())
     }
 
-    /// Puts the two pieces of a segment that is cut.
-    fn cut(&mut self, s: CountedSegment, c: GridPoint) -> Result<(), AllocError>
+    /// Puts the two pieces of a segment that is split.
+    fn split_at(&mut self, s: CountedSegment, c: LatticePoint) -> Result<(), AllocError>
         requires inner { is_end c s.0 ≡ false }
         requires in_box { IsInBox s.0 c }
         requires room { IsRoomy (total_weight self.old.todo self.old.live +ℤ weight s) }
@@ -101,22 +101,22 @@ impl Splitter {
         ensures { OnOk result (Settles self.old.todo self.old.live self.new.todo self.new.live s) }
     {
         if is_end(m.1, m.0) {
-            self.cut(s, m.1)?;
+            self.split_at(s, m.1)?;
             return Ok(());
         }
         let other = self.live.remove(m.0);
         if is_end(m.1, s.0) {
             self.put(s)?;
-            self.cut(other, m.1)?;
+            self.split_at(other, m.1)?;
             return Ok(());
         }
-        self.cut(s, m.1)?;
-        self.cut(other, m.1)?;
+        self.split_at(s, m.1)?;
+        self.split_at(other, m.1)?;
         Ok(())
     }
 
     /// The given edges, all of which wait, those with the same ends as one segment.
-    pub fn of_edges(alloc: Global, edges: &[GridEdge]) -> Result<Self, AllocError>
+    pub fn of_edges(alloc: Global, edges: &[LatticeEdge]) -> Result<Self, AllocError>
         requires { IsProper edges.now }
         ensures pile { IfOk result (λ s. IsPile edges.now s.todo s.live) }
         ensures clear { IfOk result (λ s. AllClear s.live) }
@@ -129,7 +129,7 @@ impl Splitter {
     }
 
     /// Splits a live segment and another one that it meets.
-    pub fn split_live(&mut self, first: GridEdge, m: Meeting) -> Result<(), AllocError>
+    pub fn split_live(&mut self, first: LatticeEdge, m: Meeting) -> Result<(), AllocError>
         requires first_lives { pos 0 <ℤ exactly first self.old.live }
         requires second_lives { pos 0 <ℤ exactly m.0 self.old.live }
         requires meets { Meets first m.0 m.1 }

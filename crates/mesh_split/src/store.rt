@@ -10,7 +10,7 @@ use crate::hints::{Hints, Meeting};
 use crate::tally::Tally;
 use crate::tree::{DEPTH, Tree};
 use crate::worklist::Worklist;
-use mesh_lattice::grid::{CountedSegment, GridEdge};
+use mesh_lattice::lattice::{CountedSegment, LatticeEdge};
 use std::alloc::{AllocError, Global};
 use std::marker::Model;
 
@@ -36,7 +36,7 @@ impl Model for Store {
 
 impl Store {
     /// No segment, and a plane in parts that serve for the segments of some edges.
-    pub fn new(alloc: Global, edges: &[GridEdge]) -> Result<Self, AllocError>
+    pub fn new(alloc: Global, edges: &[LatticeEdge]) -> Result<Self, AllocError>
         ensures { IfOk result (λ s. s ≡ []) }
     {
         let plane = Tree::for_edges(alloc, edges, false, DEPTH)?;
@@ -48,26 +48,26 @@ impl Store {
     }
 
     /// A live segment that meets the given one, or none where all are clear of it.
-    pub fn conflict(&self, s: GridEdge) -> Option<Meeting>
+    pub fn conflict(&self, s: LatticeEdge) -> Option<Meeting>
         ensures { MatchOption result (IsClearOf s self.now) (λ m. MeetsLive s self.now m) }
     {
         self.plane.find(&self.live, s)
     }
 
     /// Whether the segment with these ends lives.
-    pub fn has(&self, ends: GridEdge) -> bool
+    pub fn has(&self, ends: LatticeEdge) -> bool
         ensures { result ≡ true → pos 0 <ℤ exactly ends self.now }
     {
         self.live.has(ends)
     }
 
     /// The ends of all live segments.
-    pub fn ends(&self, alloc: Global) -> Result<Vec<GridEdge>, AllocError> {
+    pub fn ends(&self, alloc: Global) -> Result<Vec<LatticeEdge>, AllocError> {
         self.live.ends(alloc)
     }
 
     /// Notes the live segments that a segment meets.
-    pub fn note_meetings(&self, s: GridEdge, hints: &mut Hints) -> Result<(), AllocError> {
+    pub fn note_meetings(&self, s: LatticeEdge, hints: &mut Hints) -> Result<(), AllocError> {
         let mut sides = Vec::new(self.alloc);
         self.plane.note(&self.live, s, &mut sides, hints)
     }
@@ -96,7 +96,7 @@ impl Store {
     }
 
     /// Takes the live segment with these ends out.
-    pub fn remove(&mut self, ends: GridEdge) -> CountedSegment
+    pub fn remove(&mut self, ends: LatticeEdge) -> CountedSegment
         requires { pos 0 <ℤ exactly ends self.old }
         ensures ends { result.0 ≡ ends }
         ensures taken { IsTaken self.old self.new result }

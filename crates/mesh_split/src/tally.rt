@@ -7,7 +7,7 @@ ghost use Rattle.mesh_lattice.specs.Counted.{times};
 ghost use Rattle.mesh_split.specs.Private.Steps.{HaveRoom, IsForward, IsPut, IsTaken, AddsIf, exactly};
 
 use crate::worklist::Worklist;
-use mesh_lattice::grid::{CountedSegment, GridEdge};
+use mesh_lattice::lattice::{CountedSegment, LatticeEdge};
 use std::alloc::{AllocError, Global};
 use std::collections::HashMap;
 use std::marker::Model;
@@ -15,7 +15,7 @@ use std::marker::Model;
 /// Segments by their ends, the lesser end first. Contracts see the list of them.
 #[derive(Drop)]
 pub struct Tally {
-    counts: HashMap<GridEdge, i128>,
+    counts: HashMap<LatticeEdge, i128>,
 }
 
 impl Model for Tally {
@@ -37,7 +37,7 @@ impl Tally {
     }
 
     /// Whether the segment with these ends stands.
-    pub fn has(&self, ends: GridEdge) -> bool
+    pub fn has(&self, ends: LatticeEdge) -> bool
         ensures yes { result ≡ true → pos 0 <ℤ exactly ends self.now }
         ensures no { result ≡ false → exactly ends self.now ≡ pos 0 }
     {
@@ -53,7 +53,7 @@ impl Tally {
     }
 
     /// The ends of all segments.
-    pub fn ends(&self, alloc: Global) -> Result<Vec<GridEdge>, AllocError>
+    pub fn ends(&self, alloc: Global) -> Result<Vec<LatticeEdge>, AllocError>
         ensures { IfOk result (λ v. v.items ≡ keys_of self.now) }
     {
         self.counts.keys().copied().collect(alloc)
@@ -71,7 +71,7 @@ impl Tally {
     }
 
     /// Takes the segment with these ends out.
-    pub fn remove(&mut self, ends: GridEdge) -> CountedSegment
+    pub fn remove(&mut self, ends: LatticeEdge) -> CountedSegment
         requires { pos 0 <ℤ exactly ends self.old }
         ensures ends { result.0 ≡ ends }
         ensures taken { IsTaken self.old self.new result }

@@ -16,7 +16,7 @@ use crate::bounding::{BoundingBox, bounding_box, is_beside};
 use crate::hints::{Hints, Meeting};
 use crate::tally::Tally;
 use mesh_lattice::exact::{meeting, same_edge};
-use mesh_lattice::grid::{GridEdge, GridPoint};
+use mesh_lattice::lattice::{LatticeEdge, LatticePoint};
 use mesh_lattice::samples::sample;
 use std::alloc::{AllocError, Global};
 
@@ -47,7 +47,7 @@ pub struct Cut {
 #[derive(Drop)]
 pub enum Tree {
     /// What is listed, and from how many on the part is to be parted.
-    Leaf(Vec<GridEdge>, usize),
+    Leaf(Vec<LatticeEdge>, usize),
     /// What lies below a cut, and the rest.
     Fork(Box<Tree>, Cut, Box<Tree>),
 }
@@ -61,21 +61,21 @@ fn term(component: i16, coordinate: i32) -> i64
 }
 
 /// How far a point lies along a vector, times the length of the vector.
-fn height(across: Across, p: GridPoint) -> i64
+fn height(across: Across, p: LatticePoint) -> i64
     ensures { result ≡ height across p }
 {
     term(across.0, p.0) + term(across.1, p.1)
 }
 
 /// Whether a point lies below a cut.
-fn is_below(cut: Cut, p: GridPoint) -> bool
+fn is_below(cut: Cut, p: LatticePoint) -> bool
     ensures { result ≡ is_below cut p }
 {
     height(cut.across, p) < cut.at
 }
 
 /// Whether an end of an edge lies on this side of a cut. If none does, no point of it does.
-fn reaches(cut: Cut, e: GridEdge, below: bool) -> bool
+fn reaches(cut: Cut, e: LatticeEdge, below: bool) -> bool
     ensures { result ≡ reaches cut e below }
 {
     if below {
@@ -87,7 +87,12 @@ fn reaches(cut: Cut, e: GridEdge, below: bool) -> bool
 
 /// A listed segment as one that the given segment, whose box has these bounds, meets, where it lives and does so. Most
 /// of those listed lie beside the box.
-fn live_meeting(live: &Tally, s: GridEdge, bounds: BoundingBox, e: GridEdge) -> Option<Meeting>
+fn live_meeting(
+    live: &Tally,
+    s: LatticeEdge,
+    bounds: BoundingBox,
+    e: LatticeEdge,
+) -> Option<Meeting>
     requires { AreBounds bounds s }
     ensures { MatchOption result (pos 0 <ℤ exactly e live.now → AreClear s e) (λ m. MeetsLive s live.now m) }
 {
@@ -104,7 +109,7 @@ fn live_meeting(live: &Tally, s: GridEdge, bounds: BoundingBox, e: GridEdge) -> 
 }
 
 /// A live segment among those listed that the given one meets.
-fn in_part(live: &Tally, listed: &[GridEdge], s: GridEdge) -> Option<Meeting>
+fn in_part(live: &Tally, listed: &[LatticeEdge], s: LatticeEdge) -> Option<Meeting>
     ensures { MatchOption result (IsCellClear s listed.now live.now) (λ m. MeetsLive s live.now m) }
 {
     let bounds = bounding_box(s);
@@ -117,11 +122,11 @@ fn in_part(live: &Tally, listed: &[GridEdge], s: GridEdge) -> Option<Meeting>
 }
 
 /// Takes a segment out of a list.
-fn take_out(listed: &mut Vec<GridEdge>, e: GridEdge)
+fn take_out(listed: &mut Vec<LatticeEdge>, e: LatticeEdge)
     ensures { KeepsThose (λ x. same_edge x e ≡ false) listed.old.items listed.new.items }
 {
     listed.retain(
-        |x: &GridEdge| -> bool
+        |x: &LatticeEdge| -> bool
             ensures { result ≡ not (same_edge x.now e) }
         { !same_edge(*x, e) },
     );
@@ -130,10 +135,10 @@ fn take_out(listed: &mut Vec<GridEdge>, e: GridEdge)
 /// Those that reach this side of a cut.
 fn on_side(
     alloc: Global,
-    listed: &[GridEdge],
+    listed: &[LatticeEdge],
     cut: Cut,
     below: bool,
-) -> Result<Vec<GridEdge>, AllocError>
+) -> Result<Vec<LatticeEdge>, AllocError>
     ensures { IfOk result (λ v. KeepsThose (λ x. reaches cut x below ≡ true) listed.now v.items) }
 {
     let mut left = Vec::with_capacity(alloc, listed.len())?;
@@ -146,7 +151,7 @@ fn on_side(
 }
 
 /// The cut across this vector in the middle of the ends of these edges.
-fn middle(alloc: Global, edges: &[GridEdge], across: Across) -> Result<Option<Cut>, AllocError> {
+fn middle(alloc: Global, edges: &[LatticeEdge], across: Across) -> Result<Option<Cut>, AllocError> {
     let mut ends = Vec::with_capacity(alloc, edges.len().saturating_mul(2))?;
     for e in edges {
         ends.push(height(across, e.0))?;
@@ -190,7 +195,7 @@ impl Extent {
 }
 
 /// Vectors along the axes, the first one along that in which these edges reach farther.
-fn axes(edges: &[GridEdge]) -> [Across; 2] {
+fn axes(edges: &[LatticeEdge]) -> [Across; 2] {
     let mut width = Extent::none();
     let mut height = Extent::none();
     for e in edges {
@@ -205,12 +210,12 @@ fn axes(edges: &[GridEdge]) -> [Across; 2] {
 }
 
 /// The vector from the start of an edge to its end, turned to the left by a right angle.
-fn left_of(e: GridEdge) -> (i64, i64) {
+fn left_of(e: LatticeEdge) -> (i64, i64) {
     (e.0.1 as i64 - e.1.1 as i64, e.1.0 as i64 - e.0.0 as i64)
 }
 
 /// How long an edge is: the sum of both components.
-fn length_of(e: GridEdge) -> u64 {
+fn length_of(e: LatticeEdge) -> u64 {
     let (x, y) = left_of(e);
     x.unsigned_abs().saturating_add(y.unsigned_abs())
 }
@@ -229,7 +234,7 @@ fn halved(v: (i64, i64)) -> Across {
 }
 
 /// The vector across the edge at a place among those that are at least so long, halved until it fits.
-fn across_at(edges: &[GridEdge], least: u64, place: usize) -> Across {
+fn across_at(edges: &[LatticeEdge], least: u64, place: usize) -> Across {
     match edges.iter().filter(|e| length_of(**e) >= least).nth(place) {
         Some(e) => halved(left_of(*e)),
         None => (0, 0),
@@ -239,7 +244,7 @@ fn across_at(edges: &[GridEdge], least: u64, place: usize) -> Across {
 /// Vectors across which a cut is tried: along the axes, across the longest edge, and across three others that are half
 /// as long at least, since of edges that spread like a fan one in the middle serves, and a list often has them in their
 /// order round.
-fn candidates(edges: &[GridEdge]) -> [Across; 6] {
+fn candidates(edges: &[LatticeEdge]) -> [Across; 6] {
     let [first, second] = axes(edges);
     let longest = edges.iter().fold(0, |most: u64, e| most.max(length_of(*e)));
     let least = longest / 2;
@@ -256,7 +261,7 @@ fn candidates(edges: &[GridEdge]) -> [Across; 6] {
 }
 
 /// How much there is to search on both sides of a cut, if each edge is sought on each side that it reaches.
-fn work(edges: &[GridEdge], cut: Cut) -> usize {
+fn work(edges: &[LatticeEdge], cut: Cut) -> usize {
     let mut below: usize = 0;
     let mut beyond: usize = 0;
     for e in edges {
@@ -275,7 +280,7 @@ fn work(edges: &[GridEdge], cut: Cut) -> usize {
 /// The cut in the middle, along an axis or along an edge, that leaves least to search, where that is at most four
 /// fifths of what there was: so what reaches both sides is listed not much more often. Where one leaves three fifths,
 /// no other is tried.
-fn best_cut(alloc: Global, edges: &[GridEdge]) -> Result<Option<Cut>, AllocError> {
+fn best_cut(alloc: Global, edges: &[LatticeEdge]) -> Result<Option<Cut>, AllocError> {
     let some = sample(alloc, edges, SAMPLED)?;
     let whole = some.len().saturating_mul(some.len());
     let mut best = None;
@@ -296,7 +301,7 @@ fn best_cut(alloc: Global, edges: &[GridEdge]) -> Result<Option<Cut>, AllocError
 }
 
 /// A part that lists these, parted once where that serves.
-fn parted(alloc: Global, listed: Vec<GridEdge>, full: usize) -> Result<Tree, AllocError>
+fn parted(alloc: Global, listed: Vec<LatticeEdge>, full: usize) -> Result<Tree, AllocError>
     ensures { IfOk result (λ n. (x : Edge) → StandsIn x listed.items → HasListed (listed_at n) x) }
 {
     if listed.len() <= full / 2 {
@@ -314,7 +319,7 @@ fn parted(alloc: Global, listed: Vec<GridEdge>, full: usize) -> Result<Tree, All
 }
 
 /// A part that lists these, or none.
-fn leaf_for(alloc: Global, edges: &[GridEdge], lists: bool) -> Result<Tree, AllocError>
+fn leaf_for(alloc: Global, edges: &[LatticeEdge], lists: bool) -> Result<Tree, AllocError>
     ensures { lists ≡ true → IfOk result (λ n. (x : Edge) → StandsIn x edges.now → HasListed (listed_at n) x) }
 {
     if !lists {
@@ -329,7 +334,7 @@ fn leaf_for(alloc: Global, edges: &[GridEdge], lists: bool) -> Result<Tree, Allo
 type Side = (Cut, bool);
 
 /// Whether no part that comes before the one on these sides is reached by both segments too.
-fn is_first(sides: &[Side], s: GridEdge, e: GridEdge) -> bool {
+fn is_first(sides: &[Side], s: LatticeEdge, e: LatticeEdge) -> bool {
     for (cut, below) in sides {
         if !*below && reaches(*cut, s, true) && reaches(*cut, e, true) {
             return false;
@@ -342,7 +347,7 @@ impl Tree {
     /// The plane in parts that serve for these edges, which are listed or not.
     pub fn for_edges(
         alloc: Global,
-        edges: &[GridEdge],
+        edges: &[LatticeEdge],
         lists: bool,
         depth: usize,
     ) -> Result<Tree, AllocError>
@@ -364,7 +369,7 @@ impl Tree {
     /// Lists a segment in each part that it reaches, and parts those further that list too many. Answers whether one
     /// that lies under too many cuts for that was full and listed as many as a power of two, so that new cuts would
     /// serve better. Where memory is refused, some of them may list it.
-    pub fn put(&mut self, alloc: Global, e: GridEdge, depth: usize) -> Result<bool, AllocError>
+    pub fn put(&mut self, alloc: Global, e: LatticeEdge, depth: usize) -> Result<bool, AllocError>
         ensures kept { KeepsListed (listed_at self.old) (listed_at self.new) }
         ensures listed { OnOk result (HasListed (listed_at self.new) e) }
     {
@@ -398,7 +403,7 @@ impl Tree {
     }
 
     /// Takes a segment out of each part that it reaches.
-    pub fn take(&mut self, e: GridEdge)
+    pub fn take(&mut self, e: LatticeEdge)
         ensures { KeepsOthers e (listed_at self.old) (listed_at self.new) }
     {
         match self {
@@ -417,7 +422,7 @@ impl Tree {
     }
 
     /// A live segment that is listed where the given one reaches, and that it meets.
-    pub fn find(&self, live: &Tally, s: GridEdge) -> Option<Meeting>
+    pub fn find(&self, live: &Tally, s: LatticeEdge) -> Option<Meeting>
         ensures { MatchOption result ((c : Cell) → IsAt s c → IsCellClear s (listed_at self.now c) live.now)
             (λ m. MeetsLive s live.now m) }
     {
@@ -444,7 +449,7 @@ impl Tree {
     pub fn note(
         &self,
         live: &Tally,
-        s: GridEdge,
+        s: LatticeEdge,
         sides: &mut Vec<Side>,
         hints: &mut Hints,
     ) -> Result<(), AllocError> {

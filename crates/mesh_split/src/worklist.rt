@@ -5,7 +5,7 @@ ghost use Rattle.std.specs.List.{All};
 ghost use Rattle.std.specs.Map.{keys_of};
 ghost use Rattle.mesh_split.specs.Private.Steps.{HaveRoom, IsForward, IsTaken, IsRaised, IsNew};
 
-use mesh_lattice::grid::{CountedSegment, GridEdge};
+use mesh_lattice::lattice::{CountedSegment, LatticeEdge};
 use std::alloc::{AllocError, Global};
 use std::collections::HashMap;
 use std::marker::Model;
@@ -13,9 +13,9 @@ use std::marker::Model;
 /// Segments by their ends, each once, the lesser end first. Contracts see the list of them.
 #[derive(Drop)]
 pub struct Worklist {
-    counts: HashMap<GridEdge, i128>,
+    counts: HashMap<LatticeEdge, i128>,
     /// Ends in the order in which they came. It says which segment is taken next, and nothing else.
-    latest: Vec<GridEdge>,
+    latest: Vec<LatticeEdge>,
 }
 
 impl Model for Worklist {
@@ -38,7 +38,7 @@ impl Worklist {
     }
 
     /// Segments by their ends, the lesser end first. Any of them is taken first.
-    pub fn with_counts(alloc: Global, counts: HashMap<GridEdge, i128>) -> Self
+    pub fn with_counts(alloc: Global, counts: HashMap<LatticeEdge, i128>) -> Self
         requires { All IsForward (keys_of counts.entries) }
         ensures { result ≡ counts.entries }
     {

@@ -8,7 +8,7 @@ use Rattle.mesh_plane.proofs.ClosedLists.{route_append, boundary_rotated}
 use Rattle.mesh_plane.proofs.Comparing.{points_swap}
 use Rattle.mesh_plane.proofs.Sums.{sum_of_append}
 use Rattle.mesh_plane.proofs.Whole.{linear}
-use Rattle.mesh_plane.specs.Ways.{last_of}
+use Rattle.mesh_plane.specs.Turning.{last_of}
 use Rattle.mesh_num.specs.Segments.{proper_edges}
 use Rattle.mesh_lattice.specs.Split.{back}
 use Rattle.mesh_offset.specs.Walks.{pairs}

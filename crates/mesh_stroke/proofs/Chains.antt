@@ -9,7 +9,7 @@ use Rattle.mesh_plane.proofs.Whole.{linear}
 use Rattle.mesh_plane.proofs.Sums.{sum_of_same}
 use Rattle.mesh_plane.proofs.ClosedLists.{boundary_ends, boundary_all}
 use Rattle.mesh_plane.proofs.Comparing.{decides_point}
-use Rattle.mesh_plane.specs.Ways.{last_of}
+use Rattle.mesh_plane.specs.Turning.{last_of}
 use Rattle.mesh_num.specs.Segments.{proper_edges}
 use Rattle.mesh_lattice.specs.Splitting.{Leads}
 use Rattle.mesh_offset.specs.Walks.{pairs}

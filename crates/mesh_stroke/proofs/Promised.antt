@@ -8,7 +8,7 @@ use Rattle.std.proofs.lemmas.List.Elements.{All-nil}
 use Rattle.std.proofs.lemmas.List.Sorted.{IsPermutation-refl, IsPermutation-sym, All-permutation}
 use Rattle.mesh_plane.specs.Plane.{Point, Edge}
 use Rattle.mesh_plane.specs.Winding.{IsBalanced, total, boundary, winding, crossing_on, pieces_total, IsBit, IsOdd, IsStraight}
-use Rattle.mesh_plane.specs.Ways.{last_of}
+use Rattle.mesh_plane.specs.Turning.{last_of}
 use Rattle.mesh_plane.specs.Bounds.{IsSafe}
 use Rattle.mesh_plane.proofs.Sums.{total_permutation}
 use Rattle.mesh_plane.proofs.Balance.{balanced_permutation, growth, growth_odd, growth_of_pieces, balanced_by_growth}

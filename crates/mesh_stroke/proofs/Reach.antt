@@ -7,7 +7,7 @@ use Rattle.std.proofs.lemmas.List.Elements.{All-nil, All-cons, All-head, All-app
 use Rattle.mesh_plane.specs.Plane.{Point, Edge}
 use Rattle.mesh_plane.specs.Winding.{same_point}
 use Rattle.mesh_plane.proofs.ClosedLists.{all_both, all_flat_map, route_all}
-use Rattle.mesh_plane.specs.Ways.{last_of}
+use Rattle.mesh_plane.specs.Turning.{last_of}
 use Rattle.mesh_num.proofs.Parts.{direction_fresh}
 use Rattle.mesh_lattice.specs.Split.{back}
 use Rattle.mesh_arc.specs.declared.arc.ArcDirection.{ArcDirection}

@@ -14,7 +14,7 @@ use Rattle.mesh_plane.proofs.Identities.{lagrange, cross_flip}
 use Rattle.mesh_plane.proofs.Sizes.{dot_self}
 use Rattle.mesh_plane.proofs.Sums.{sum_of_equal, sum_of_append, total_append, total_flat_map, total_permutation}
 use Rattle.mesh_plane.proofs.Whole.{linear, mul_pos}
-use Rattle.mesh_plane.specs.Ways.{last_of}
+use Rattle.mesh_plane.specs.Turning.{last_of}
 use Rattle.mesh_num.specs.Segments.{SignedEdge, proper_edges}
 use Rattle.mesh_offset.specs.Adding.{added_edges}
 use Rattle.mesh_offset.specs.Private.Built.{Adds}

@@ -11,7 +11,7 @@ use Rattle.mesh_plane.proofs.Whole.{linear, multiplied}
 use Rattle.mesh_plane.proofs.ClosedLists.{all_flat_map}
 use Rattle.mesh_plane.proofs.Triangles.{parallelogram_winds}
 use Rattle.mesh_plane.proofs.Pieces.{fan_winds}
-use Rattle.mesh_plane.specs.Ways.{last_of}
+use Rattle.mesh_plane.specs.Turning.{last_of}
 use Rattle.mesh_num.specs.Direction.{scaled_direction}
 use Rattle.mesh_num.proofs.Parts.{direction_fresh}
 use Rattle.mesh_num.proofs.Scaling.{dot_scaled_nonneg}

@@ -10,7 +10,7 @@ use Rattle.mesh_plane.proofs.Sums.{sum_of_add, sum_of_none, sum_of_equal, total_
 use Rattle.mesh_plane.proofs.ClosedLists.{all_both}
 use Rattle.mesh_num.specs.Segments.{proper_edges}
 use Rattle.mesh_plane.proofs.Pieces.{fan_total}
-use Rattle.mesh_plane.specs.Ways.{last_of}
+use Rattle.mesh_plane.specs.Turning.{last_of}
 use Rattle.mesh_lattice.specs.Split.{back}
 use Rattle.mesh_join.specs.Joins.{between, join_points}
 use Rattle.mesh_join.specs.Styles.{JoinStyle}

@@ -3,7 +3,7 @@ use Rattle.std.specs.Prelude.{ℕ, Bool, true, false, if◌then◌else◌, List,
 use Rattle.std.specs.List.{flat_map}
 use Rattle.mesh_plane.specs.Plane.{Point, Edge, minus, cross}
 use Rattle.mesh_plane.specs.Winding.{fan}
-use Rattle.mesh_plane.specs.Ways.{last_of}
+use Rattle.mesh_plane.specs.Turning.{last_of}
 use Rattle.mesh_num.specs.Directed.{direction_of}
 use Rattle.mesh_num.specs.Segments.{proper_edges}
 use Rattle.mesh_lattice.specs.Split.{back}

@@ -14,7 +14,7 @@ use Rattle.mesh_plane.specs.Plane.{Point, Edge, minus, length_sq}
 use Rattle.mesh_plane.specs.Winding.{route, same_point}
 use Rattle.mesh_plane.proofs.ClosedLists.{all_both, all_flat_map, all_mapped}
 use Rattle.mesh_plane.proofs.Comparing.{decides_point}
-use Rattle.mesh_plane.specs.Ways.{last_of}
+use Rattle.mesh_plane.specs.Turning.{last_of}
 use Rattle.mesh_arc.specs.declared.arc.ArcOptions.{ArcOptions}
 use Rattle.mesh_join.specs.Joints.{IsWithinPadding, StaysWithin}
 use Rattle.mesh_join.specs.VariableStyles.{Vertex}

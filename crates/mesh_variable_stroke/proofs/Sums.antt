@@ -7,7 +7,7 @@ use Rattle.mesh_plane.specs.Winding.{total, route, pieces_total, IsOdd}
 use Rattle.mesh_plane.proofs.Whole.{linear}
 use Rattle.mesh_plane.proofs.Sums.{sum_of_same, total_append, total_flat_map, pieces_total_append}
 use Rattle.mesh_plane.proofs.Sums.{pieces_total_flat_map}
-use Rattle.mesh_plane.specs.Ways.{last_of}
+use Rattle.mesh_plane.specs.Turning.{last_of}
 use Rattle.mesh_arc.specs.declared.arc.ArcOptions.{ArcOptions}
 use Rattle.mesh_join.specs.VariableStyles.{Vertex}
 use Rattle.mesh_offset.proofs.ProperEdges.{proper_edges_total}

@@ -1,5 +1,7 @@
 //! Directed edges.
 
+ghost use Rattle.std.specs.Prelude.{◌≡◌};
+
 use crate::num::number::IntNumber;
 use crate::num::point::IntPoint;
 use std::alloc::AllocError;

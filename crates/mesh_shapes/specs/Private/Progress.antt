@@ -3,7 +3,7 @@ use Rattle.std.specs.Prelude.{ℕ, ◌≡◌, ◌+◌, ◌<◌, Bool, true, fals
 use Rattle.std.specs.Prelude.{Option, MatchOption}
 use Rattle.mesh_plane.specs.Plane.{Point}
 use Rattle.mesh_plane.specs.Order.{point_lt}
-use Rattle.mesh_plane.specs.Ways.{first_or}
+use Rattle.mesh_plane.specs.Turning.{first_or}
 use Rattle.mesh_shapes.specs.Contours.{kept, omitted}
 use Rattle.mesh_shapes.specs.Private.Grouping.{ring_at, is_round_at}
 use Rattle.mesh_shapes.specs.Resolution.{Ring, is_before}

@@ -1,4 +1,4 @@
--- Walking along edges: which of them are still unused, and what one step may take.
+-- Tracing along edges: which of them are still unused, and what one step may take.
 use Rattle.std.specs.Prelude.{ℕ, ◌≡◌, ◌⊎◌, ◌<◌, Bool, true, false, cond, List, [], ◌∷◌, length, slice_index_or, ℤ, ◌+ℤ◌}
 use Rattle.std.specs.Prelude.{Vec}
 use Rattle.std.specs.declared.alloc.Global.{Global}
@@ -12,11 +12,11 @@ unused [] bs = []
 unused (e ∷ es) [] = e ∷ unused es []
 unused (e ∷ es) (b ∷ bs) = cond b (unused es bs) (e ∷ unused es bs)
 
--- the edge at a place is unused, or it is the walk's first
+-- the edge at a place is unused, or it is the trace's first
 abbrev pub IsOpen : List Bool → ℕ → ℕ → Type 0
 IsOpen used first k = (slice_index_or used k true ≡ false) ⊎ (k ≡ first)
 
--- an edge that starts at `at` and on which a walk may go on
+-- an edge that starts at `at` and on which a trace may go on
 pub record IsNext (es : List Edge) (used : List Bool) (first : ℕ) (at : Point) (k : ℕ) : Type 0 where
   pub within : k < length es
   pub starts : (d : Edge) → (slice_index_or es k d).0 ≡ at

@@ -5,7 +5,7 @@ use Rattle.std.specs.Prelude.{◌*ℤ◌, ◌≤ℤ◌, ◌<ℤ◌, unsigned_abs
 use Rattle.mesh_plane.specs.Order.{point_lt}
 use Rattle.mesh_plane.specs.Plane.{Point, Edge}
 use Rattle.mesh_plane.specs.Winding.{sum_of}
-use Rattle.mesh_lattice.specs.Split.{same_edge, same_ends, occurs, Cut, after, IsLegal}
+use Rattle.mesh_lattice.specs.Split.{same_edge, same_ends, occurs, EdgeSplit, after, IsLegal}
 use Rattle.mesh_lattice.specs.Counted.{Counted, bit, along, net, counted_net, times}
 use Rattle.mesh_lattice.specs.Split.{AreClear}
 use Rattle.mesh_lattice.specs.Counted.{size}
@@ -112,9 +112,9 @@ pub record AreCountOf (es : List Edge) (todo live held : List Counted) : Type 0 
 
 -- a state that legal splits of the given edges lead to
 pub record IsReachedBySplits (given : List Edge) (todo live held : List Counted) : Type 0 where
-  pub cuts : List Cut
-  pub legal : IsLegal given cuts
-  pub count : AreCountOf (after cuts given) todo live held
+  pub splits : List EdgeSplit
+  pub legal : IsLegal given splits
+  pub count : AreCountOf (after splits given) todo live held
 
 -- a segment in hand was made live or split: the state stays one that legal splits lead to, live segments stay
 -- clear of each other, and less work is left

@@ -1,7 +1,7 @@
 use Rattle.std.proofs.Common.{sym, ◌∙◌, length}
 use Rattle.std.proofs.lemmas.Bool.{eqb-true}
 use Rattle.mesh_shapes.proofs.AreaSums.{some_elements}
-use Rattle.mesh_below.proofs.GridContours.{adds_one, adds_empty}
+use Rattle.mesh_below.proofs.LatticeContours.{adds_one, adds_empty}
 use Rattle.mesh_below.proofs.answer.push_contour.Goals as goal
 
 pub returns-then-is_empty : goal.returns-then-is_empty
@@ -9,5 +9,5 @@ returns-then-is_empty g c = adds_empty c.args.contours.now.items c.args.contour.
 
 pub returns : goal.returns
 returns g c =
-    adds_one c.args.contours.now.items c.push.new.self.items _ c.args.contour.now c.in_ok-push.ensures.items c.in_ok-grid_contour.ensures
+    adds_one c.args.contours.now.items c.push.new.self.items _ c.args.contour.now c.in_ok-push.ensures.items c.in_ok-lattice_contour.ensures
     (some_elements c.args.contour.now (sym c.is_empty.ensures ∙ c.if-is_empty.false))

@@ -1,4 +1,4 @@
-use Rattle.mesh_below.proofs.GridContours.{adds_none, adds_path, adds_paths}
+use Rattle.mesh_below.proofs.LatticeContours.{adds_none, adds_path, adds_paths}
 use Rattle.mesh_below.proofs.answer.push_contours.Goals as goal
 
 pub loop-contour-init : goal.loop-contour-init

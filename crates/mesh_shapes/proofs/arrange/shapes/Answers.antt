@@ -7,9 +7,9 @@ use Rattle.mesh_shapes.proofs.arrange.shapes.Goals as goal
 
 pub returns : goal.returns
 returns c = record {
-  sorted = rings_of_vecs c.in_order-ordered.result.items;
+  sorted = rings_of_vecs c.rings_by_points-ordered.result.items;
   same =
-      IsPermutation-map ring_of_vec c.args.rings.items c.in_order-ordered.result.items c.in_order-ordered.ensures.same;
-  ordered = c.in_order-ordered.ensures.ordered;
+      IsPermutation-map ring_of_vec c.args.rings.items c.rings_by_points-ordered.result.items c.rings_by_points-ordered.ensures.same;
+  ordered = c.rings_by_points-ordered.ensures.ordered;
   shapes = c.in_ok-shapes.ensures ∙ ap (λ (l : List RingVec). map (map (answered c.args.clockwise)) (rings_by_shape (enumerate_from 0 (rings_of_vecs l)))) c.deref_mut.ensures.value;
 }

@@ -1,6 +1,6 @@
 use Rattle.std.proofs.Common.{Bool, sym, ◌∙◌, ap}
 use Rattle.std.specs.Prelude.{◌||◌}
-use Rattle.mesh_plane.specs.Ways.{turns_at}
+use Rattle.mesh_plane.specs.Turning.{turns_at}
 use Rattle.mesh_shapes.specs.Private.Progress.{point_at, point_after}
 use Rattle.mesh_shapes.proofs.ring.is_kept.Goals as goal
 

@@ -3,4 +3,4 @@ use Rattle.mesh_split.proofs.Kept.{kept_by_splits}
 use Rattle.mesh_split.proofs.laws.legal_splits_keep_edges.Goals as goal
 
 pub returns : goal.returns
-returns c given cuts legal = kept_by_splits given cuts legal
+returns c given splits legal = kept_by_splits given splits legal

@@ -1,0 +1,166 @@
+//! The ways to find the windings on both sides of each segment, and which of them serves.
+
+ghost use Rattle.std.specs.Prelude.{◌≡◌, ◌^◌, ◌<◌, length, slice_index_or, IfOk};
+ghost use Rattle.mesh_plane.specs.Bounds.{IsSmall};
+ghost use Rattle.mesh_plane.specs.Winding.{sum_of};
+ghost use Rattle.mesh_lattice.specs.Counted.{Counted, size, IsRoomy};
+ghost use Rattle.mesh_lattice.specs.Rows.{AreRows};
+ghost use Rattle.mesh_boundary.specs.Private.CountedSides.{sides_by, sides_of};
+ghost use Rattle.mesh_boundary.specs.Private.Flood.{OfSplitEdges, AreKnown};
+ghost use Rattle.mesh_boundary.specs.Private.Slants.{AreSlantedRows};
+ghost use Rattle.mesh_boundary.specs.Private.Stars.{AreStars};
+ghost use Rattle.mesh_boundary.specs.Private.SideFinders.{Serves};
+
+use crate::flood::{Flood, Sides};
+use crate::slanted::{SlantedRows, slanted_rows};
+use crate::stars::{Stars, rises};
+use crate::winding::winding;
+use mesh_lattice::fine::middle;
+use mesh_lattice::lattice::CountedSegment;
+use mesh_lattice::rows::{Rows, SAMPLED, mean_reached};
+use mesh_lattice::samples::sample;
+use std::alloc::{AllocError, Global};
+
+/// For so few segments rows serve, however long they are.
+const FEW: usize = 64;
+
+/// The greatest number of segments that reach a height, on average, for which rows serve. Rows to the east are held to
+/// it with what `Reached` says of all: so of more than some 10,000 segments, many of which run down, they are not taken
+/// for being short, and the flood, which mostly is quicker there, is.
+const SHORT: usize = 12;
+
+/// A finder to find the sides of segments.
+#[derive(Drop)]
+pub enum SideFinder {
+    /// By sums over rows to the east.
+    East(Rows<i128>),
+    /// By sums over rows along a slant.
+    Slanted(SlantedRows),
+    /// From the windings at their ends, where these are known.
+    Ends(Stars, Flood),
+}
+
+/// The windings on both sides of a segment, from that beside it.
+fn sides_by(beside: i128, s: CountedSegment) -> Sides
+    requires beside_small { IsSmall (2 ^ 122) beside }
+    requires count_small { IsRoomy (size s) }
+    ensures { result ≡ sides_by beside s }
+{
+    if rises(s.0) {
+        return (beside + s.1, beside);
+    }
+    (beside, beside - s.1)
+}
+
+fn sides_of(segments: &[CountedSegment], s: CountedSegment) -> Sides
+    requires room { IsRoomy (sum_of size segments.now) }
+    requires count_small { IsRoomy (size s) }
+    ensures { result ≡ sides_of segments.now s }
+{
+    sides_by(winding(segments, middle(s.0)), s)
+}
+
+/// How many segments the stars have at which some of the segments start, on average.
+fn mean_star(alloc: Global, stars: &Stars) -> Result<usize, AllocError> {
+    let some = sample(alloc, &stars.ends, SAMPLED)?;
+    let mut sum: usize = 0;
+    for ends in &some {
+        if let Some(star) = stars.lists.get(ends.0) {
+            sum = sum.saturating_add(star.len());
+        }
+    }
+    Ok(sum / some.len().max(1))
+}
+
+/// The sides of the segment at a place, by a sum over a row.
+fn row_sides(segments: &[CountedSegment], rows: &Rows<i128>, i: usize) -> Sides
+    requires in_range { i < length segments.now }
+    requires room { IsRoomy (sum_of size segments.now) }
+    requires rows { AreRows rows.now.marks.items rows.now.lists.items segments.now }
+    ensures { (d : Counted) → result ≡ sides_of segments.now (slice_index_or segments.now i d) }
+{
+    let s = segments[i];
+    sides_of(rows.row(middle(s.0)), s)
+}
+
+/// The sides of the segment at a place: those known of it, or else by a sum over all segments.
+fn known_sides(segments: &[CountedSegment], stars: &Stars, flood: &Flood, i: usize) -> Sides
+    requires in_range { i < length segments.now }
+    requires room { IsRoomy (sum_of size segments.now) }
+    requires stars { AreStars stars.now.lists.items stars.now.ends.items segments.now }
+    ensures { OfSplitEdges segments.now (λ es. AreKnown es flood.now.known.items
+        → (d : Counted) → result ≡ sides_of segments.now (slice_index_or segments.now i d)) }
+{
+    if let Some(sides) = flood.sides(segments, stars, i) {
+        return sides;
+    }
+    sides_of(segments, segments[i])
+}
+
+/// The sides of the segment at a place, by a sum over a row along a slant.
+fn slanted_sides(segments: &[CountedSegment], rows: &SlantedRows, i: usize) -> Sides
+    requires in_range { i < length segments.now }
+    requires room { IsRoomy (sum_of size segments.now) }
+    requires rows { AreSlantedRows rows.now.slant rows.now.rows segments.now }
+    ensures { OfSplitEdges segments.now (λ es. (d : Counted) → result ≡ sides_of segments.now
+        (slice_index_or segments.now i d)) }
+{
+    let s = segments[i];
+    let at = rows.slant.middle_across(s.0);
+    sides_by(rows.slant.winding(rows.row(at), middle(s.0), at), s)
+}
+
+impl SideFinder {
+    /// From the windings at ends.
+    fn by_ends(
+        alloc: Global,
+        segments: &[CountedSegment],
+        stars: Stars,
+    ) -> Result<SideFinder, AllocError>
+        requires room { IsRoomy (sum_of size segments.now) }
+        requires stars { AreStars stars.lists.items stars.ends.items segments.now }
+        ensures { IfOk result (λ w. Serves w segments.now) }
+    {
+        let flood = Flood::new(alloc, segments, &stars)?;
+        Ok(SideFinder::Ends(stars, flood))
+    }
+
+    /// The finder that serves for these segments.
+    pub fn new(alloc: Global, segments: &[CountedSegment]) -> Result<SideFinder, AllocError>
+        requires { IsRoomy (sum_of size segments.now) }
+        ensures { IfOk result (λ w. Serves w segments.now) }
+    {
+        if segments.len() <= FEW {
+            return Ok(SideFinder::East(Rows::new(alloc, segments)?));
+        }
+        let reached = mean_reached(alloc, segments)?;
+        if reached.all <= SHORT {
+            return Ok(SideFinder::East(Rows::new(alloc, segments)?));
+        }
+        if reached.others > SHORT {
+            if let Some(rows) = slanted_rows(alloc, segments, SHORT)? {
+                return Ok(SideFinder::Slanted(rows));
+            }
+        }
+        let stars = Stars::new(alloc, segments)?;
+        if mean_star(alloc, &stars)? > reached.all {
+            return Ok(SideFinder::East(Rows::new(alloc, segments)?));
+        }
+        SideFinder::by_ends(alloc, segments, stars)
+    }
+
+    /// The sides of the segment at a place.
+    pub fn sides(&self, segments: &[CountedSegment], i: usize) -> Sides
+        requires in_range { i < length segments.now }
+        requires room { IsRoomy (sum_of size segments.now) }
+        requires serves { Serves self.now segments.now }
+        ensures { OfSplitEdges segments.now (λ es. (d : Counted) → result ≡ sides_of segments.now
+            (slice_index_or segments.now i d)) }
+    {
+        match self {
+            SideFinder::East(rows) => row_sides(segments, rows, i),
+            SideFinder::Slanted(rows) => slanted_sides(segments, rows, i),
+            SideFinder::Ends(stars, flood) => known_sides(segments, stars, flood, i),
+        }
+    }
+}
