@@ -10,7 +10,7 @@ mod variable;
 
 pub use variable::{DEFAULT_VARIABLE_STEP, IntStrokeVertex, IntVariableStrokeStyle};
 
-/// The arithmetic of a construction. Whole numbers give the same result on every machine.
+/// The arithmetic of a construction. With whole numbers no step depends on a machine's rounding.
 #[derive(Debug, Clone, Copy, PartialEq, Eq)]
 pub enum MathMode {
     /// Whole numbers alone.

@@ -7,7 +7,7 @@ use thiserror::Error;
 #[derive(Debug, Clone, Copy, PartialEq, Eq, Error)]
 pub enum IntOutlineError {
     /// The bounds of the points, widened by the reach of the style, pass the safe range, or a contour's double area
-    /// does not fit the wide type. Nothing was built.
+    /// does not fit the wide type. The code looks at both before it builds anything.
     #[error("mesh coordinate exceeds the integer engine range")]
     CoordinateOutOfRange,
     /// A growth of memory was refused. What was handed in is as it was.

@@ -78,8 +78,8 @@ pub trait IntOutlineOffset<I: OverlayInt>: IntShapeResource<I> {
     /// the style's padding, which `validate_outline` tests. A contour of positive area moves by the outer offset, one
     /// of negative area by the inner one, one of area 0 is ignored. Each is resolved alone with the default options;
     /// what comes of outer boundaries, and of holes the other way about, is resolved together with these options.
-    /// `CoordinateOutOfRange` is answered exactly where a double area does not fit the wide type, and then nothing
-    /// was built; `OutOfMemory` where a growth was refused.
+    /// `CoordinateOutOfRange` is answered exactly where a double area does not fit the wide type, which the code looks
+    /// at before it builds anything; `OutOfMemory` where a growth was refused.
     final fn outline_custom(
         &self,
         alloc: Global,

@@ -17,8 +17,7 @@ use mesh_request::drawing::Drawing;
 use std::alloc::Global;
 
 /// The edges of what is drawn of each path, sorted by their starts and then by their ends. `CoordinateOutOfRange`: some
-/// path may not be drawn, since what is drawn would pass the safe range; then nothing is built. `OutOfMemory`: memory
-/// was refused.
+/// path may not be drawn, since what is drawn would pass the safe range. `OutOfMemory`: memory was refused.
 pub fn edges<I: OverlayInt>(
     alloc: Global,
     drawing: &Drawing<I>,
@@ -37,7 +36,7 @@ pub fn edges<I: OverlayInt>(
 }
 
 /// The shapes of what is drawn of all paths together. `CoordinateOutOfRange`: some path may not be drawn, since what is
-/// drawn would pass the safe range; then nothing is built. `OutOfMemory`: memory was refused.
+/// drawn would pass the safe range. `OutOfMemory`: memory was refused.
 pub fn shapes<I: OverlayInt>(
     alloc: Global,
     drawing: &Drawing<I>,
