@@ -12,6 +12,9 @@ fn segments_run_from_the_smaller_end() -> Result<(), Fail> {
         let there = Segment::subject(low, high);
         let back = Segment::subject(high, low).clone()?;
         let ends = back.x_segment.clone()?;
+        let (edge, reversed) = (there.edge(), back.edge().clone()?);
+        expect_equal(&(edge.start, edge.end), &(low, high), &"edge")?;
+        expect_equal(&(reversed.start, reversed.end), &(high, low), &"edge back")?;
         let there = (there.x_segment.a, there.x_segment.b, there.count);
         expect_equal(&there, &(low, high, 1), &"there")?;
         expect_equal(&(ends.a, ends.b, back.count), &(low, high, -1), &"back")?;

@@ -5,6 +5,7 @@ use mesh_num::shape::{FlatContoursBuffer, PathSlice};
 use mesh_test_support::compared::{gives, holds};
 use mesh_test_support::lists::{path, paths, shapes};
 use std::alloc::Global;
+use std::ops::Range;
 use std::process::Abort;
 use std::test::Fail;
 
@@ -80,4 +81,17 @@ fn buffers_are_replaced_whole(rt: HostRuntime) -> Result<(), Fail> {
     expect_replaced(&rt, rt.alloc(), &mut buffer, &[], SHAPES)?;
     expect_replaced(&rt, rt.alloc(), &mut buffer, SHAPES, PAIR_ALONE)?;
     expect_replaced(&rt, rt.alloc(), &mut buffer, PAIR_ALONE, &[])
+}
+
+#[test]
+fn buffers_are_sources(rt: HostRuntime) -> Result<(), Fail> {
+    let mut buffer = FlatContoursBuffer::from_shapes(rt.alloc(), &shapes(rt.alloc(), SHAPES)?)?;
+    assert!(rt; gives(&buffer, ALL));
+    // Ranges that a caller wrote may run backwards or past the points: what is there counts.
+    buffer.ranges.clear();
+    for (start, end) in [(2usize, 9usize), (3, 1), (7, 8), (0, 3)] {
+        buffer.ranges.push(Range { start, end })?;
+    }
+    assert!(rt; gives(&buffer, &[&[(2, 9), (-5, 4), (-6, 4)], &[], &[], TRIANGLE]));
+    Ok(())
 }
