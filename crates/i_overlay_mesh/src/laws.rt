@@ -8,5 +8,5 @@ pub use mesh_stroke::laws::{
     stroke_edges_are_balanced, strokes_are_regions, strokes_can_be_reversed,
 };
 pub use mesh_variable_stroke::laws::{
-    variable_stroke_edges_are_balanced, variable_strokes_are_regions,
+    steps_are_by_index, variable_stroke_edges_are_balanced, variable_strokes_are_regions,
 };

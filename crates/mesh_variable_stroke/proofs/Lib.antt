@@ -1,3 +1,4 @@
+pub mod ByIndex
 pub mod Near
 pub mod Orders
 pub mod Promised

@@ -1,3 +1,4 @@
+pub mod ByIndex
 pub mod Chains
 pub mod Drawn
 pub mod Laws

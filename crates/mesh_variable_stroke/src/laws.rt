@@ -1,5 +1,6 @@
-//! Laws of strokes of variable width of many paths. Each function does nothing: its clause is the law.
+//! Laws of strokes of variable width, of the steps of a path and of many paths. Each function does nothing: its clause is the law.
 
+ghost use Rattle.mesh_variable_stroke.specs.ByIndex.{StepsAreByIndex};
 ghost use Rattle.mesh_variable_stroke.specs.Laws.{VariableStrokeEdgesAreBalanced, VariableStrokesAreRegions};
 
 /// The edges of which a stroke of variable width is the resolution are balanced, and none ends where it starts,
@@ -13,4 +14,11 @@ pub fn variable_stroke_edges_are_balanced()
 /// the edges as built.
 pub fn variable_strokes_are_regions()
     ensures { VariableStrokesAreRegions }
+{}
+
+/// Breaks and covers, which part a path into chains, are told by their places: step `i` leads from vertex `i` to vertex
+/// `i + 1`, is a break where one of their circles holds the other, and a cover where the section of step `i - 1` holds
+/// the circle of vertex `i + 1`.
+pub fn steps_are_by_index()
+    ensures { StepsAreByIndex }
 {}
