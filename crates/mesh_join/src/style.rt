@@ -135,6 +135,18 @@ pub enum IntLineCap<I: IntNumber> {
     Custom(RcSlice<IntPoint<I>>),
 }
 
+/// Which side of its path a stroke is drawn on, seen along the path.
+#[derive(Debug, Clone, Copy, PartialEq, Eq, Default)]
+pub enum StrokeSide {
+    /// Both sides: the whole stroke.
+    #[default]
+    Both,
+    /// The left half alone, between the path and what lies to its left.
+    Left,
+    /// The right half alone. Where the path turns exactly back, its join belongs to this half.
+    Right,
+}
+
 /// How paths are stroked.
 #[derive(Debug, Clone, Drop)]
 pub struct IntStrokeStyle<I: IntNumber> {
@@ -150,10 +162,13 @@ pub struct IntStrokeStyle<I: IntNumber> {
     pub miter_min_turn: Angle,
     /// The arithmetic.
     pub math: MathMode,
+    /// The side of the path that is drawn. A half, at the ends of an open path, is cut off straight: its caps are not
+    /// looked at.
+    pub side: StrokeSide,
 }
 
 impl<I: IntNumber> IntStrokeStyle<I> {
-    /// Strokes of this width, with butt caps and bevels.
+    /// Strokes of this width on both sides of their paths, with butt caps and bevels.
     pub fn new(width: I) -> Self
         ensures { result ≡ record {
           width = width;
@@ -162,6 +177,7 @@ impl<I: IntNumber> IntStrokeStyle<I> {
           join = IntLineJoin.Bevel;
           miter_min_turn = 59652323;
           math = MathMode.Integer;
+          side = StrokeSide.Both;
         } }
     {
         IntStrokeStyle {
@@ -171,6 +187,7 @@ impl<I: IntNumber> IntStrokeStyle<I> {
             join: IntLineJoin::Bevel,
             miter_min_turn: Angle::from_bits(DEFAULT_MITER_MIN_TURN),
             math: MathMode::Integer,
+            side: StrokeSide::Both,
         }
     }
 
@@ -223,5 +240,12 @@ impl<I: IntNumber> IntStrokeStyle<I> {
         ensures { result ≡ record self { math = math } }
     {
         IntStrokeStyle { math, ..self }
+    }
+
+    /// The style with another side. It keeps its caps, which a half does not look at.
+    pub fn side(self, side: StrokeSide) -> Self
+        ensures { result ≡ record self { side = side } }
+    {
+        IntStrokeStyle { side, ..self }
     }
 }
