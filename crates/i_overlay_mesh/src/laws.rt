@@ -5,7 +5,7 @@ pub use mesh_outline::laws::{
     outlines_stay_safe,
 };
 pub use mesh_stroke::laws::{
-    stroke_edges_are_balanced, strokes_are_regions, strokes_can_be_reversed,
+    halves_make_the_whole, stroke_edges_are_balanced, strokes_are_regions, strokes_can_be_reversed,
 };
 pub use mesh_variable_stroke::laws::{
     steps_are_by_index, variable_stroke_edges_are_balanced, variable_strokes_are_regions,

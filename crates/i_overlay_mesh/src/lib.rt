@@ -16,7 +16,7 @@ pub use mesh_below::fill::FillRule;
 pub use mesh_join::arc::ArcOptions;
 pub use mesh_join::style::{
     IntLineCap, IntLineJoin, IntOutlineStyle, IntStrokeStyle, IntStrokeVertex,
-    IntVariableStrokeStyle, MathMode,
+    IntVariableStrokeStyle, MathMode, StrokeSide,
 };
 pub use mesh_num::num::{Angle, IntNumber, IntPoint, IntRect, IntVector, OverlayInt};
 pub use mesh_num::shape::{

@@ -7,10 +7,10 @@ use Rattle.std.proofs.lemmas.List.{length-map}
 use Rattle.std.proofs.lemmas.List.Sorted.{length_permutation}
 use Rattle.mesh_plane.specs.Plane.{Edge}
 use Rattle.mesh_num.specs.Segments.{SignedEdge, edge_of, edges_of, segments_of}
-use Rattle.mesh_stroke.specs.Caps.{draws_directly, DrawsDirectly}
+use Rattle.mesh_stroke.specs.Caps.{drawn_cap, draws_directly, DrawsDirectly}
 use Rattle.mesh_stroke.specs.Building.{HasDirectCaps}
 use Rattle.mesh_stroke.specs.Private.Sections.{Section, section_of, own_edge}
-use Rattle.mesh_stroke.specs.Strokes.{side_edges, corner_edges, both_caps, drawn_edges}
+use Rattle.mesh_stroke.specs.Strokes.{side_edges, corner_edges, path_ends, drawn_edges}
 use Rattle.mesh_stroke.specs.Styles.{StrokeStyle}
 use Rattle.mesh_stroke.proofs.Fitting.{first_edges_fit}
 use Rattle.mesh_stroke.proofs.BuilderWalk.{step_edges, ends_by, to_come, walk_edges, walk_permutes}
@@ -20,9 +20,10 @@ use Rattle.mesh_stroke.proofs.Standing.{Stands}
 
 -- the caps of an open path, where they draw directly
 pub direct_caps : (style : StrokeStyle) (closed : Bool) → closed ≡ false → HasDirectCaps style closed
-    → DrawsDirectly style.start × DrawsDirectly style.end
+    → DrawsDirectly (drawn_cap style.side style.start) × DrawsDirectly (drawn_cap style.side style.end)
 direct_caps style closed is_open h =
-    and_parts (draws_directly style.start) (draws_directly style.end) (rw is_open at h)
+    and_parts (draws_directly (drawn_cap style.side style.start)) (draws_directly (drawn_cap style.side style.end))
+    (rw is_open at h)
 
 -- ---- the walk
 
@@ -42,12 +43,12 @@ module _ (unit : ℕ) (style : StrokeStyle) (closed : Bool) where
   -- the sides of the first edge fit
   pub room_first : (all : List Edge) (e : Edge) (es : List Edge) (s : Section) (n capacity : ℕ) → all ≡ e ∷ es
       → s ≡ section_of unit style.radius e → n + length (drawn_edges unit style closed all) ≤ capacity
-      → n + length (segments_of (side_edges unit style.radius (own_edge s))) ≤ capacity
+      → n + length (segments_of (side_edges unit style.radius style.side (own_edge s))) ≤ capacity
   room_first all e es s n capacity c made fits =
       let whole : n + length (drawn_edges unit style closed (e ∷ es)) ≤ capacity = rw c at fits in
-      subst (λ (g : Edge). n + length (segments_of (side_edges unit style.radius g)) ≤ capacity)
+      subst (λ (g : Edge). n + length (segments_of (side_edges unit style.radius style.side g)) ≤ capacity)
       (sym (ap own_edge made))
-      (first_edges_fit (side_edges unit style.radius e) (to_come unit style closed e es e) n capacity
+      (first_edges_fit (side_edges unit style.radius style.side e) (to_come unit style closed e es e) n capacity
       (omega (arith, whole, walk_length e es)))
 
   module _ (all : List Edge) (e : Edge) (es : List Edge) (c : all ≡ e ∷ es) (old now : List SignedEdge)
@@ -66,12 +67,12 @@ module _ (unit : ℕ) (style : StrokeStyle) (closed : Bool) where
     -- the next step
     pub room_step : (n : Edge) (rest : List Edge) (next : Section) → left ≡ n ∷ rest
         → next ≡ section_of unit style.radius n
-        → length now + length (segments_of (corner_edges unit style.radius style.join (own_edge p, own_edge next)
-        ++ side_edges unit style.radius (own_edge next))) ≤ grown
+        → length now + length (segments_of (corner_edges unit style.radius style.side style.join (own_edge p, own_edge next)
+        ++ side_edges unit style.radius style.side (own_edge next))) ≤ grown
     room_step n rest next l made =
         subst
-        (λ (g : Edge). length now + length (segments_of (corner_edges unit style.radius style.join (own_edge p, g)
-        ++ side_edges unit style.radius g)) ≤ grown)
+        (λ (g : Edge). length now + length (segments_of (corner_edges unit style.radius style.side style.join (own_edge p, g)
+        ++ side_edges unit style.radius style.side g)) ≤ grown)
         (sym (ap own_edge made))
         (first_edges_fit (step_edges unit style closed (own_edge p) n)
         (to_come unit style closed n rest (own_edge first)) (length now) grown
@@ -91,7 +92,7 @@ module _ (unit : ℕ) (style : StrokeStyle) (closed : Bool) where
 
     -- the last corner of a closed path
     pub room_closed : left ≡ [] → closed ≡ true
-        → length now + length (segments_of (corner_edges unit style.radius style.join (own_edge p, own_edge first)))
+        → length now + length (segments_of (corner_edges unit style.radius style.side style.join (own_edge p, own_edge first)))
         ≤ grown
     room_closed l is_closed =
         subst
@@ -101,8 +102,8 @@ module _ (unit : ℕ) (style : StrokeStyle) (closed : Bool) where
 
     -- and the caps of an open one
     pub room_open : left ≡ [] → closed ≡ false
-        → length now + length (segments_of (both_caps unit style.radius style.start style.end false (own_edge first)
-        (own_edge p))) ≤ grown
+        → length now + length (segments_of (path_ends unit style.radius style.side style.start style.end false
+        (own_edge first) (own_edge p))) ≤ grown
     room_open l is_open =
         subst
         (λ (b : Bool). length now + length (segments_of (ends_by unit style closed b (own_edge p, own_edge first)))

@@ -17,7 +17,7 @@ use Rattle.mesh_num.proofs.SegmentLists.{edges_of_segments, segments_of-append}
 use Rattle.mesh_num.specs.Rectangle.{IsSafeWidened}
 use Rattle.mesh_join.specs.Joins.{join_padding}
 use Rattle.mesh_join.proofs.Joins.{padding_covers}
-use Rattle.mesh_stroke.specs.Caps.{cap_padding}
+use Rattle.mesh_stroke.specs.Caps.{drawn_cap, cap_padding}
 use Rattle.mesh_offset.proofs.Padding.{safe_within_less}
 use Rattle.mesh_offset.proofs.ProperEdges.{proper_append, proper_flat_map}
 use Rattle.mesh_offset.specs.Private.Built.{Adds}
@@ -26,7 +26,7 @@ use Rattle.mesh_offset.specs.Walks.{pairs}
 use Rattle.mesh_offset.proofs.Walks.{woven_through}
 use Rattle.mesh_stroke.specs.Paths.{neighbours, path_edges}
 use Rattle.mesh_stroke.specs.Styles.{StrokeStyle, stroke_padding}
-use Rattle.mesh_stroke.specs.Strokes.{EdgePair, side_edges, corner_edges, both_caps, drawn_edges}
+use Rattle.mesh_stroke.specs.Strokes.{EdgePair, side_edges, corner_edges, path_ends, drawn_edges}
 use Rattle.mesh_stroke.specs.Private.Sections.{Section, section_of, own_edge, IsMade, IsCorner, AreEnds}
 use Rattle.mesh_stroke.proofs.Chains.{neighbours_all, path_chain, Joined}
 use Rattle.mesh_stroke.proofs.Reach.{join_covered, start_covered, end_covered, radius_covered, cap_padding_least}
@@ -43,18 +43,18 @@ without_woven step final p (x ∷ xs) z =
 
 module _ (unit : ℕ) (style : StrokeStyle) (closed : Bool) where
   abbrev sides : Edge → List Edge
-  sides = side_edges unit style.radius
+  sides = side_edges unit style.radius style.side
 
   abbrev at : EdgePair → List Edge
-  at = corner_edges unit style.radius style.join
+  at = corner_edges unit style.radius style.side style.join
 
   -- what one step of the walk adds: the corner before an edge, then its sides
   abbrev pub step_edges : Edge → Edge → List Edge
-  step_edges p n = corner_edges unit style.radius style.join (p, n) ++ side_edges unit style.radius n
+  step_edges p n = corner_edges unit style.radius style.side style.join (p, n) ++ side_edges unit style.radius style.side n
 
   abbrev pub ends_by : Bool → EdgePair → List Edge
-  ends_by true c = corner_edges unit style.radius style.join c
-  ends_by false c = both_caps unit style.radius style.start style.end false c.1 c.0
+  ends_by true c = corner_edges unit style.radius style.side style.join c
+  ends_by false c = path_ends unit style.radius style.side style.start style.end false c.1 c.0
 
   -- what the walk adds at its end, with its last edge and its first: the last corner, or both caps
   abbrev pub end_edges : EdgePair → List Edge
@@ -67,11 +67,11 @@ module _ (unit : ℕ) (style : StrokeStyle) (closed : Bool) where
   -- all that the walk adds
   abbrev pub walk_edges : List Edge → List Edge
   walk_edges [] = []
-  walk_edges (e ∷ es) = side_edges unit style.radius e ++ to_come e es e
+  walk_edges (e ∷ es) = side_edges unit style.radius style.side e ++ to_come e es e
 
   -- the caps or the last corner end the list of the corners
   tail_is : (b : Bool) (e : Edge) (es : List Edge) →
-      flat_map at (pairs (e ∷ es)) ++ ends_by b (last_of e es, e) ≡ flat_map at (neighbours b (e ∷ es)) ++ both_caps unit style.radius style.start style.end b e (last_of e es)
+      flat_map at (pairs (e ∷ es)) ++ ends_by b (last_of e es, e) ≡ flat_map at (neighbours b (e ∷ es)) ++ path_ends unit style.radius style.side style.start style.end b e (last_of e es)
   tail_is true e es =
       let last : EdgePair = (last_of e es, e) in
       let a : flat_map at (pairs (e ∷ es) ++ last ∷ []) ≡ flat_map at (pairs (e ∷ es)) ++ (at last ++ []) = flat_map-append at (pairs (e ∷ es)) (last ∷ []) in
@@ -93,7 +93,7 @@ module _ (unit : ℕ) (style : StrokeStyle) (closed : Bool) where
       (woven_through top corner step final mixed e es e) in
       let from : edges_of (segments_of (walk_edges (e ∷ es))) ≡ top e ++ woven step final e es e =
       edges_of_segments (walk_edges (e ∷ es)) ∙ (proper_append (sides e) (to_come e es e) ∙ ap (λ l. top e ++ l) (without_woven step_edges end_edges e es e)) in
-      let to : proper_edges (flat_map sides (e ∷ es) ++ (flat_map at (neighbours closed (e ∷ es)) ++ both_caps unit style.radius style.start style.end closed e (last_of e es)))
+      let to : proper_edges (flat_map sides (e ∷ es) ++ (flat_map at (neighbours closed (e ∷ es)) ++ path_ends unit style.radius style.side style.start style.end closed e (last_of e es)))
       ≡ top e ++ (flat_map top es ++ (flat_map corner (pairs (e ∷ es)) ++ final (last_of e es, e))) =
       ap (λ l. proper_edges (flat_map sides (e ∷ es) ++ l)) (sym (tail_is closed e es))
       ∙ (proper_append (flat_map sides (e ∷ es)) (flat_map at (pairs (e ∷ es)) ++ end_edges (last_of e es, e))
@@ -217,15 +217,15 @@ fit_corner unit style sign p n e g hp hn fe fg met = record {
 
 -- and the sections of the first and the last edge the ends of a path
 pub fit_ends : (unit : ℕ) (style : StrokeStyle) → pos 0 ≤ℤ style.radius → (first last : Section) (e g : Edge) →
-    first ≡ section_of unit style.radius e → last ≡ section_of unit style.radius g → IsFit unit style e → IsFit unit style g → AreEnds unit style.radius style.start style.end first last
+    first ≡ section_of unit style.radius e → last ≡ section_of unit style.radius g → IsFit unit style e → IsFit unit style g → AreEnds unit style.radius (drawn_cap style.side style.start) (drawn_cap style.side style.end) first last
 fit_ends unit style sign first last e g hf hl fe fg = record {
   first = fit_made unit style first e hf fe;
   last = fit_made unit style last g hl fg;
   sign = sign;
-  safe_start = subst (λ (s : Section). IsSafeWidened unit (cap_padding style.start style.radius) s.a) (sym hf)
-      (safe_within_less unit (stroke_padding style) (cap_padding style.start style.radius) e.0 (cap_padding_least style.start style.radius) (start_covered style) fe.safe_a);
-  safe_end = subst (λ (s : Section). IsSafeWidened unit (cap_padding style.end style.radius) s.b) (sym hl)
-      (safe_within_less unit (stroke_padding style) (cap_padding style.end style.radius) g.1 (cap_padding_least style.end style.radius) (end_covered style) fg.safe_b);
+  safe_start = subst (λ (s : Section). IsSafeWidened unit (cap_padding (drawn_cap style.side style.start) style.radius) s.a) (sym hf)
+      (safe_within_less unit (stroke_padding style) (cap_padding (drawn_cap style.side style.start) style.radius) e.0 (cap_padding_least (drawn_cap style.side style.start) style.radius) (start_covered style) fe.safe_a);
+  safe_end = subst (λ (s : Section). IsSafeWidened unit (cap_padding (drawn_cap style.side style.end) style.radius) s.b) (sym hl)
+      (safe_within_less unit (stroke_padding style) (cap_padding (drawn_cap style.side style.end) style.radius) g.1 (cap_padding_least (drawn_cap style.side style.end) style.radius) (end_covered style) fg.safe_b);
 }
 
 -- no point, no edge

@@ -1,6 +1,7 @@
 -- Lemmas over points: what the theory of strokes needs of butt caps.
 use Rattle.std.proofs.Common.{ℕ, ◌<◌, [], arith}
 use Rattle.std.specs.Prelude.{ℤ, pos, ◌*ℤ◌, ◌≤ℤ◌}
+use Rattle.std.proofs.lemmas.Int.{ints}
 use Rattle.std.proofs.lemmas.List.Elements.{All-nil, All-cons}
 use Rattle.mesh_plane.specs.Plane.{Point, Edge, turn}
 use Rattle.mesh_num.specs.Direction.{IsFresh}
@@ -29,5 +30,5 @@ butt_keeps_half_turn unit radius v n some fresh sign = record {
 -- what holds of butt caps
 pub butt_keeps : (unit : ℕ) → 0 < unit → KeepsEnds unit CapKind.Butt
 butt_keeps unit some =
-    keeps_by_half_turns unit CapKind.Butt
+    keeps_by_half_turns unit CapKind.Butt (λ r. omega (arith, ints)) (λ few. few)
     (λ radius v n _ fresh sign. butt_keeps_half_turn unit radius v n some fresh sign)

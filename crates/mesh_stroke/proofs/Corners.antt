@@ -1,11 +1,11 @@
 -- Lemmas over points: the joins at the corners of a path are asked for as joins ask.
-use Rattle.std.proofs.Common.{◌≡◌, ◌≢◌, ℕ, ◌+◌, ◌≤◌, ◌^◌, List, ◌++◌, length, refl, sym, subst, ◌∙◌, ap, arith}
-use Rattle.std.proofs.Common.{append_assoc, length-append}
+use Rattle.std.proofs.Common.{◌≡◌, ◌≢◌, ℕ, ◌≤◌, ◌^◌, List, [], ◌++◌, refl, sym, subst, ◌∙◌, ap, arith}
 use Rattle.std.specs.Prelude.{ℤ, pos, ◌*ℤ◌, ◌≤ℤ◌, ◌<ℤ◌, ◌↔◌, IsTrue, Bool, true, false, cond, int_lt}
 use Rattle.std.specs.List.{All}
 use Rattle.std.proofs.lemmas.Int.{ints, by_lt_z}
 use Rattle.std.proofs.lemmas.List.Elements.{All-weaker}
 use Rattle.mesh_plane.specs.Plane.{Point, Edge, plus, minus, cross, turn, right_quarter}
+use Rattle.mesh_plane.specs.Winding.{fan}
 use Rattle.mesh_plane.proofs.Identities.{cross_flip}
 use Rattle.mesh_plane.proofs.ClosedLists.{all_both}
 use Rattle.mesh_plane.proofs.Whole.{linear, multiplied}
@@ -15,17 +15,19 @@ use Rattle.mesh_num.proofs.Scaling.{scaled_turn_kept}
 use Rattle.mesh_lattice.specs.Split.{back}
 use Rattle.mesh_arc.specs.Arcs.{sense_of}
 use Rattle.mesh_arc.specs.declared.arc.ArcDirection.TheVariants.{Counterclockwise}
-use Rattle.mesh_join.specs.Joins.{IsJoint, join_edges}
-use Rattle.mesh_join.specs.Joints.{Joint, joint, IsTurn, contact}
+use Rattle.mesh_join.specs.Joins.{IsJoint}
+use Rattle.mesh_join.specs.Joints.{joint, IsTurn, contact}
 use Rattle.mesh_join.specs.Styles.{JoinStyle}
+use Rattle.mesh_join.specs.declared.style.StrokeSide.{StrokeSide}
+use Rattle.mesh_join.specs.declared.style.StrokeSide.TheVariants.{Both, Left, Right}
 use Rattle.mesh_join.proofs.JoinLaws.{KeepsJoint}
 use Rattle.mesh_join.proofs.Joins.{join_keeps}
 use Rattle.mesh_offset.proofs.Quarters.{quarters_turn}
 use Rattle.mesh_stroke.specs.Paths.{neighbours}
-use Rattle.mesh_num.specs.Segments.{SignedEdge, segment_between, segments_of}
-use Rattle.mesh_stroke.specs.Private.Sections.{Section, section_of, own_edge, IsCorner}
-use Rattle.mesh_stroke.specs.Strokes.{left_of}
-use Rattle.mesh_stroke.specs.Strokes.{EdgePair, heading, facing, joint_right, inner_edges, outer_edges, corner_edges}
+use Rattle.mesh_num.specs.Segments.{SignedEdge, segments_of}
+use Rattle.mesh_stroke.specs.Private.Sections.{Section, section_of, own_edge, faced_edges, opposite_side, IsCorner}
+use Rattle.mesh_stroke.specs.Strokes.{EdgePair, heading, turns_right, facing, joint_right, inner_edges, outer_edges}
+use Rattle.mesh_stroke.specs.Strokes.{corner_edges, corner_pieces}
 use Rattle.mesh_stroke.proofs.Chains.{IsChain, neighbours_all}
 use Rattle.mesh_stroke.proofs.Sides.{heading_is}
 
@@ -70,6 +72,68 @@ facing_is P c here there = by (int_lt (left_turn c) (pos 0)) refl
     by : (b : Bool) → int_lt (left_turn c) (pos 0) ≡ b → P (cond b (other_way c) c)
     by true h = there (rw (other_way_turns c) (flipped (minus c.0.1 c.0.0) (minus c.1.1 c.1.0) h))
     by false h = here (omega (arith, ints, h))
+
+-- the side that is drawn, as the corner is faced
+abbrev pub faced_side : StrokeSide → Bool → StrokeSide
+faced_side side true = opposite_side side
+faced_side side false = side
+
+pub faced_by : (P : StrokeSide → EdgePair → Type 0) (side : StrokeSide) (c : EdgePair)
+    → (pos 0 ≤ℤ left_turn c → P side c) → (pos 0 ≤ℤ left_turn (other_way c) → P (opposite_side side) (other_way c))
+    → P (faced_side side (turns_right c)) (facing c)
+faced_by P side c here there = by (int_lt (left_turn c) (pos 0)) refl
+  where
+    by : (b : Bool) → int_lt (left_turn c) (pos 0) ≡ b → P (faced_side side b) (cond b (other_way c) c)
+    by true h = there (rw (other_way_turns c) (flipped (minus c.0.1 c.0.0) (minus c.1.1 c.1.0) h))
+    by false h = here (omega (arith, ints, h))
+
+-- the pieces on this side of a corner that does not turn to the right
+abbrev pub faced_pieces : ℕ → ℤ → StrokeSide → JoinStyle → EdgePair → List (List Point)
+faced_pieces unit radius Both join c = fan c.0.1 (outer_edges unit radius join c)
+faced_pieces unit radius Left join c = []
+faced_pieces unit radius Right join c = fan c.0.1 (outer_edges unit radius join c)
+
+module _ (unit : ℕ) (radius : ℤ) (join : JoinStyle) (k : EdgePair) where
+  abbrev edges_by : StrokeSide → Bool → List Edge
+  edges_by Both b = inner_edges unit radius k ++ outer_edges unit radius join k
+  edges_by Left b = cond b (outer_edges unit radius join k) (inner_edges unit radius k)
+  edges_by Right b = cond b (inner_edges unit radius k) (outer_edges unit radius join k)
+
+  edges_are : (s : StrokeSide) (b : Bool) → edges_by s b ≡ faced_edges unit radius (faced_side s b) join k
+  edges_are Both true = refl
+  edges_are Both false = refl
+  edges_are Left true = refl
+  edges_are Left false = refl
+  edges_are Right true = refl
+  edges_are Right false = refl
+
+  abbrev pieces_by : StrokeSide → Bool → List (List Point)
+  pieces_by Both b = fan k.0.1 (outer_edges unit radius join k)
+  pieces_by Left b = cond b (fan k.0.1 (outer_edges unit radius join k)) []
+  pieces_by Right b = cond b [] (fan k.0.1 (outer_edges unit radius join k))
+
+  pieces_by_are : (s : StrokeSide) (b : Bool) → pieces_by s b ≡ faced_pieces unit radius (faced_side s b) join k
+  pieces_by_are Both true = refl
+  pieces_by_are Both false = refl
+  pieces_by_are Left true = refl
+  pieces_by_are Left false = refl
+  pieces_by_are Right true = refl
+  pieces_by_are Right false = refl
+
+-- what is drawn at a corner, and its pieces, are those of the corner as it is faced
+pub faced_is : (unit : ℕ) (radius : ℤ) (side : StrokeSide) (join : JoinStyle) (c : EdgePair)
+    → corner_edges unit radius side join c
+    ≡ faced_edges unit radius (faced_side side (turns_right c)) join (facing c)
+faced_is unit radius Both join c = edges_are unit radius join (facing c) Both (turns_right c)
+faced_is unit radius Left join c = edges_are unit radius join (facing c) Left (turns_right c)
+faced_is unit radius Right join c = edges_are unit radius join (facing c) Right (turns_right c)
+
+pub pieces_are : (unit : ℕ) (radius : ℤ) (side : StrokeSide) (join : JoinStyle) (c : EdgePair)
+    → corner_pieces unit radius side join c
+    ≡ faced_pieces unit radius (faced_side side (turns_right c)) join (facing c)
+pieces_are unit radius Both join c = pieces_by_are unit radius join (facing c) Both (turns_right c)
+pieces_are unit radius Left join c = pieces_by_are unit radius join (facing c) Left (turns_right c)
+pieces_are unit radius Right join c = pieces_by_are unit radius join (facing c) Right (turns_right c)
 
 module _ (unit : ℕ) (least : 2 ^ 14 ≤ unit) (radius : ℤ) (sign : pos 0 ≤ℤ radius) where
   pub heading_short : (e : Edge) → e.0 ≢ e.1 → IsShort unit (heading unit e)
@@ -153,104 +217,54 @@ joint_met unit least radius join p n h left =
     turn : IsTurn unit (joint_right unit radius (own_edge p, own_edge n))
     turn = turn_right unit least radius h.sign (own_edge p, own_edge n) (record { first = h.previous.differ; second = h.next.differ; met = h.met }) left
 
--- what the code adds at a corner as it is faced: two edges through the vertex, and the join
-module _ (unit : ℕ) (radius : ℤ) (join : JoinStyle) (p n : Section) (h : IsCorner unit radius join (p, n)) where
-  abbrev edges : List Edge
-  edges = inner_edges unit radius (own_edge p, own_edge n) ++ outer_edges unit radius join (own_edge p, own_edge n)
+-- what is drawn at a corner that does not turn to the right
+pub corner_here : (unit : ℕ) (radius : ℤ) (side : StrokeSide) (join : JoinStyle) (c : EdgePair) → pos 0 ≤ℤ left_turn c
+    → corner_edges unit radius side join c ≡ faced_edges unit radius side join c
+corner_here unit radius side join c left = faced_is unit radius side join c ∙ by (int_lt (left_turn c) (pos 0)) refl
+  where
+    by : (b : Bool) → int_lt (left_turn c) (pos 0) ≡ b
+        → faced_edges unit radius (faced_side side b) join (cond b (other_way c) c) ≡ faced_edges unit radius side join c
+    by true e = absurd (omega (arith, ints, left, e))
+    by false e = refl
 
-  abbrev joined : List Edge
-  joined = join_edges unit join (joint p.b p.b_right n.a_right p.direction n.direction radius Counterclockwise)
+-- one that does is drawn as the code's sections of its other end say
+pub corner_there : (unit : ℕ) (radius : ℤ) (side : StrokeSide) (join : JoinStyle) (p n before after : Section)
+    → left_turn (own_edge p, own_edge n) <ℤ pos 0 → before ≡ section_of unit radius (n.b, n.a)
+    → after ≡ section_of unit radius (p.b, p.a)
+    → corner_edges unit radius side join (own_edge p, own_edge n)
+    ≡ faced_edges unit radius (opposite_side side) join (own_edge before, own_edge after)
+corner_there unit radius side join p n before after turned b a =
+    faced_is unit radius side join c ∙ by (int_lt (left_turn c) (pos 0)) refl
+    ∙ ap (faced_edges unit radius (opposite_side side) join) (sym ends)
+  where
+    c : EdgePair
+    c = (own_edge p, own_edge n)
 
-  abbrev begun : List SignedEdge
-  begun = segment_between (left_of unit radius (own_edge n) n.a) n.a
+    ends : (own_edge before, own_edge after) ≡ other_way c
+    ends = λ i. (own_edge (b i), own_edge (a i))
 
-  abbrev ended : List SignedEdge
-  ended = segment_between p.b (left_of unit radius (own_edge p) p.b)
+    by : (d : Bool) → int_lt (left_turn c) (pos 0) ≡ d
+        → faced_edges unit radius (faced_side side d) join (cond d (other_way c) c)
+        ≡ faced_edges unit radius (opposite_side side) join (other_way c)
+    by true e = refl
+    by false e = absurd (omega (arith, ints, turned, e))
 
-  begun_is : segment_between n.a_left n.a ≡ begun
-  begun_is = λ i. segment_between (h.next.made i).a_left n.a
-
-  ended_is : segment_between p.b p.b_left ≡ ended
-  ended_is = λ i. segment_between p.b (h.previous.made i).b_left
-
-  joined_is : segments_of joined ≡ segments_of (outer_edges unit radius join (own_edge p, own_edge n))
-  joined_is = ap (λ (j : Joint). segments_of (join_edges unit join j)) (joint_is unit radius join p n h)
-
-  pub faced_added : (old one two new : List SignedEdge) → one ≡ old ++ segment_between n.a_left n.a →
-      two ≡ one ++ segment_between p.b p.b_left → new ≡ two ++ segments_of joined → new ≡ old ++ segments_of edges
-  faced_added old one two new a b c =
-      let outer : List SignedEdge = segments_of (outer_edges unit radius join (own_edge p, own_edge n)) in
-      c
-      ∙ (λ i. (b ∙ (λ j. (a ∙ (λ k. old ++ begun_is k)) j ++ ended_is j)) i ++ joined_is i)
-      ∙ append_assoc (old ++ begun) ended outer
-      ∙ append_assoc old begun (ended ++ outer)
-
-  -- each of them fits where all do
-  pub room_begun : (count capacity : ℕ) → count + length (segments_of edges) ≤ capacity
-      → count + length (segment_between n.a_left n.a) ≤ capacity
-  room_begun count capacity fits =
-      let outer : List SignedEdge = segments_of (outer_edges unit radius join (own_edge p, own_edge n)) in
-      omega (arith, fits, ap length begun_is, length-append begun (ended ++ outer))
-
-  pub room_ended : (old one : List SignedEdge) (capacity grown : ℕ) → one ≡ old ++ segment_between n.a_left n.a
-      → capacity ≤ grown → length old + length (segments_of edges) ≤ capacity
-      → length one + length (segment_between p.b p.b_left) ≤ grown
-  room_ended old one capacity grown a more fits =
-      let outer : List SignedEdge = segments_of (outer_edges unit radius join (own_edge p, own_edge n)) in
-      omega (
-        arith,
-        fits,
-        more,
-        ap length a,
-        length-append old (segment_between n.a_left n.a),
-        ap length begun_is,
-        ap length ended_is,
-        length-append begun (ended ++ outer),
-        length-append ended outer,
-      )
-
-  pub room_joined : (old one two : List SignedEdge) (capacity grown : ℕ) → one ≡ old ++ segment_between n.a_left n.a
-      → two ≡ one ++ segment_between p.b p.b_left → capacity ≤ grown
-      → length old + length (segments_of edges) ≤ capacity → length two + length (segments_of joined) ≤ grown
-  room_joined old one two capacity grown a b more fits =
-      let outer : List SignedEdge = segments_of (outer_edges unit radius join (own_edge p, own_edge n)) in
-      omega (
-        arith,
-        fits,
-        more,
-        ap length a,
-        ap length b,
-        length-append old (segment_between n.a_left n.a),
-        length-append one (segment_between p.b p.b_left),
-        ap length begun_is,
-        ap length ended_is,
-        ap length joined_is,
-        length-append begun (ended ++ outer),
-        length-append ended outer,
-      )
-
--- the sections that the code makes of a corner that turns to the right are those of the corner as it is faced
-pub faced_sections : (unit : ℕ) (radius : ℤ) (p n before after : Section) → left_turn (own_edge p, own_edge n) <ℤ pos 0
+-- so what was drawn there was drawn at the corner
+pub drawn_there : (unit : ℕ) (radius : ℤ) (side : StrokeSide) (join : JoinStyle) (p n before after : Section)
+    (old new : List SignedEdge) → left_turn (own_edge p, own_edge n) <ℤ pos 0
     → before ≡ section_of unit radius (n.b, n.a) → after ≡ section_of unit radius (p.b, p.a)
-    → (own_edge before, own_edge after) ≡ facing (own_edge p, own_edge n)
-faced_sections unit radius p n before after turned b a =
-    let e : (own_edge before, own_edge after) ≡ (back (own_edge n), back (own_edge p)) =
-    λ i. (own_edge (b i), own_edge (a i)) in
-    e ∙ sym (faced_there (own_edge p, own_edge n) turned)
-
--- what was drawn at the corner as it is faced was drawn at the corner
-pub drawn_there : (unit : ℕ) (radius : ℤ) (join : JoinStyle) (p n before after : Section) (old new : List SignedEdge) →
-    left_turn (own_edge p, own_edge n) <ℤ pos 0 → before ≡ section_of unit radius (n.b, n.a) → after ≡ section_of unit radius (p.b, p.a) →
-    new ≡ old ++ segments_of (inner_edges unit radius (own_edge before, own_edge after) ++ outer_edges unit radius join (own_edge before, own_edge after)) →
-    new ≡ old ++ segments_of (corner_edges unit radius join (own_edge p, own_edge n))
-drawn_there unit radius join p n before after old new turned b a h =
+    → new ≡ old ++ segments_of (faced_edges unit radius (opposite_side side) join (own_edge before, own_edge after))
+    → new ≡ old ++ segments_of (corner_edges unit radius side join (own_edge p, own_edge n))
+drawn_there unit radius side join p n before after old new turned b a h =
     h
-    ∙ ap (λ (c : EdgePair). old ++ segments_of (inner_edges unit radius c ++ outer_edges unit radius join c))
-    (faced_sections unit radius p n before after turned b a)
+    ∙ ap (λ (es : List Edge). old ++ segments_of es)
+    (sym (corner_there unit radius side join p n before after turned b a))
 
-pub drawn_here : (unit : ℕ) (radius : ℤ) (join : JoinStyle) (p n : Section) (old new : List SignedEdge) →
-    pos 0 ≤ℤ left_turn (own_edge p, own_edge n) →
-    new ≡ old ++ segments_of (inner_edges unit radius (own_edge p, own_edge n) ++ outer_edges unit radius join (own_edge p, own_edge n)) →
-    new ≡ old ++ segments_of (corner_edges unit radius join (own_edge p, own_edge n))
-drawn_here unit radius join p n old new left h =
-    h ∙ ap (λ (c : EdgePair). old ++ segments_of (inner_edges unit radius c ++ outer_edges unit radius join c)) (sym (faced_here (own_edge p, own_edge n) left))
+pub drawn_here : (unit : ℕ) (radius : ℤ) (side : StrokeSide) (join : JoinStyle) (p n : Section)
+    (old new : List SignedEdge) → pos 0 ≤ℤ left_turn (own_edge p, own_edge n)
+    → new ≡ old ++ segments_of (faced_edges unit radius side join (own_edge p, own_edge n))
+    → new ≡ old ++ segments_of (corner_edges unit radius side join (own_edge p, own_edge n))
+drawn_here unit radius side join p n old new left h =
+    h
+    ∙ ap (λ (es : List Edge). old ++ segments_of es)
+    (sym (corner_here unit radius side join (own_edge p, own_edge n) left))

@@ -107,7 +107,7 @@ custom_keeps_half_turn unit points radius v n some short = record {
 
 pub custom_keeps : (unit : ℕ) (points : List Point) → 0 < unit → KeepsEnds unit (CapKind.Custom points)
 custom_keeps unit points some =
-    keeps_by_half_turns unit (CapKind.Custom points)
+    keeps_by_half_turns unit (CapKind.Custom points) (λ r. omega (arith, ints)) (λ few. refl)
     (λ radius v n short _ _. custom_keeps_half_turn unit points radius v n some short)
 
 -- ---- where the vector has room for all edges of the cap, it has room for each of them

@@ -1,16 +1,19 @@
 -- Lemmas over points and lists: of what is added in steps, each step has room where all of it has.
-use Rattle.std.proofs.Common.{◌≡◌, ℕ, ◌+◌, ◌≤◌, List, ◌++◌, length, sym, subst, ap, ◌∙◌, arith, length-append}
-use Rattle.std.specs.Prelude.{false, ℤ, pos, ◌≤ℤ◌, ◌<ℤ◌}
-use Rattle.mesh_plane.specs.Plane.{Edge}
-use Rattle.mesh_num.specs.Segments.{SignedEdge, segments_of}
+use Rattle.std.proofs.Common.{◌≡◌, ℕ, ◌+◌, ◌≤◌, List, [], ◌∷◌, ◌++◌, length, sym, subst, ap, ◌∙◌, arith, length-append}
+use Rattle.std.proofs.Common.{append_assoc, append-nil}
+use Rattle.std.specs.Prelude.{ℤ, pos, ◌≤ℤ◌, ◌<ℤ◌}
+use Rattle.mesh_plane.specs.Plane.{Point, Edge}
+use Rattle.mesh_num.specs.Segments.{SignedEdge, segment_between, segments_of}
 use Rattle.mesh_num.proofs.SegmentLists.{segments_of-append}
 use Rattle.mesh_lattice.specs.Split.{back}
 use Rattle.mesh_join.specs.Styles.{JoinStyle}
+use Rattle.mesh_join.specs.declared.style.StrokeSide.{StrokeSide}
+use Rattle.mesh_join.specs.declared.style.StrokeSide.TheVariants.{Both}
 use Rattle.mesh_stroke.specs.Caps.{CapKind, cap_edges}
 use Rattle.mesh_stroke.specs.Ends.{half_turn}
-use Rattle.mesh_stroke.specs.Private.Sections.{Section, section_of, own_edge}
-use Rattle.mesh_stroke.specs.Strokes.{EdgePair, heading, inner_edges, outer_edges, corner_edges, cap_at, both_caps}
-use Rattle.mesh_stroke.proofs.Corners.{left_turn, faced_here, faced_sections}
+use Rattle.mesh_stroke.specs.Private.Sections.{Section, section_of, own_edge, faced_edges, opposite_side}
+use Rattle.mesh_stroke.specs.Strokes.{heading, corner_edges, cap_at, open_ends}
+use Rattle.mesh_stroke.proofs.Corners.{left_turn, corner_here, corner_there}
 
 -- ---- the segments of edges
 
@@ -33,36 +36,58 @@ other_edges_fit es gs old mid capacity grown m more fits =
       length-append (segments_of es) (segments_of gs),
     )
 
+-- ---- two edges that are pushed one after the other
+
+module _ (p q r t : Point) where
+  abbrev two : List Edge
+  two = (p, q) ∷ (r, t) ∷ []
+
+  pub two_added : (old one new : List SignedEdge) → one ≡ old ++ segment_between p q → new ≡ one ++ segment_between r t
+      → new ≡ old ++ segments_of two
+  two_added old one new a b =
+      b ∙ ap (λ l. l ++ segment_between r t) a ∙ append_assoc old (segment_between p q) (segment_between r t)
+      ∙ ap (λ l. old ++ (segment_between p q ++ l)) (sym (append-nil (segment_between r t)))
+
+  pub two_second : (old one : List SignedEdge) (capacity grown : ℕ) → one ≡ old ++ segment_between p q
+      → capacity ≤ grown → length old + length (segments_of two) ≤ capacity
+      → length one + length (segment_between r t) ≤ grown
+  two_second old one capacity grown a more fits =
+      omega (
+        arith,
+        fits,
+        more,
+        ap length a,
+        length-append old (segment_between p q),
+        length-append (segment_between p q) (segment_between r t ++ []),
+        length-append (segment_between r t) [],
+      )
+
 -- ---- corners
 
--- the corner as it is faced
-abbrev drawn_at : ℕ → ℤ → JoinStyle → EdgePair → List Edge
-drawn_at unit radius join c = inner_edges unit radius c ++ outer_edges unit radius join c
-
-pub room_there : (unit : ℕ) (radius : ℤ) (join : JoinStyle) (p n before after : Section) (count capacity : ℕ)
+pub room_there : (unit : ℕ) (radius : ℤ) (side : StrokeSide) (join : JoinStyle) (p n before after : Section)
+    (count capacity : ℕ)
     → left_turn (own_edge p, own_edge n) <ℤ pos 0 → before ≡ section_of unit radius (n.b, n.a)
     → after ≡ section_of unit radius (p.b, p.a)
-    → count + length (segments_of (corner_edges unit radius join (own_edge p, own_edge n))) ≤ capacity
-    → count + length (segments_of (inner_edges unit radius (own_edge before, own_edge after)
-    ++ outer_edges unit radius join (own_edge before, own_edge after))) ≤ capacity
-room_there unit radius join p n before after count capacity turned b a fits =
-    subst (λ (c : EdgePair). count + length (segments_of (drawn_at unit radius join c)) ≤ capacity)
-    (sym (faced_sections unit radius p n before after turned b a)) fits
+    → count + length (segments_of (corner_edges unit radius side join (own_edge p, own_edge n))) ≤ capacity
+    → count + length (segments_of (faced_edges unit radius (opposite_side side) join (own_edge before, own_edge after)))
+    ≤ capacity
+room_there unit radius side join p n before after count capacity turned b a fits =
+    subst (λ (es : List Edge). count + length (segments_of es) ≤ capacity)
+    (corner_there unit radius side join p n before after turned b a) fits
 
-pub room_here : (unit : ℕ) (radius : ℤ) (join : JoinStyle) (p n : Section) (count capacity : ℕ)
+pub room_here : (unit : ℕ) (radius : ℤ) (side : StrokeSide) (join : JoinStyle) (p n : Section) (count capacity : ℕ)
     → pos 0 ≤ℤ left_turn (own_edge p, own_edge n)
-    → count + length (segments_of (corner_edges unit radius join (own_edge p, own_edge n))) ≤ capacity
-    → count + length (segments_of (inner_edges unit radius (own_edge p, own_edge n)
-    ++ outer_edges unit radius join (own_edge p, own_edge n))) ≤ capacity
-room_here unit radius join p n count capacity left fits =
-    subst (λ (c : EdgePair). count + length (segments_of (drawn_at unit radius join c)) ≤ capacity)
-    (faced_here (own_edge p, own_edge n) left) fits
+    → count + length (segments_of (corner_edges unit radius side join (own_edge p, own_edge n))) ≤ capacity
+    → count + length (segments_of (faced_edges unit radius side join (own_edge p, own_edge n))) ≤ capacity
+room_here unit radius side join p n count capacity left fits =
+    subst (λ (es : List Edge). count + length (segments_of es) ≤ capacity)
+    (corner_here unit radius side join (own_edge p, own_edge n) left) fits
 
 -- ---- caps
 
 pub room_for_start : (unit : ℕ) (radius : ℤ) (start end : CapKind) (first last before : Section) (count capacity : ℕ)
     → before ≡ section_of unit radius (first.b, first.a)
-    → count + length (segments_of (both_caps unit radius start end false (own_edge first) (own_edge last))) ≤ capacity
+    → count + length (segments_of (open_ends unit radius Both start end (own_edge first) (own_edge last))) ≤ capacity
     → count + length (segments_of (cap_edges start unit (half_turn unit radius before.b
     (heading unit (own_edge before))))) ≤ capacity
 room_for_start unit radius start end first last before count capacity e fits =
@@ -74,7 +99,7 @@ pub room_for_end : (unit : ℕ) (radius : ℤ) (start end : CapKind) (first last
     (old mid : List SignedEdge) (capacity grown : ℕ) → before ≡ section_of unit radius (first.b, first.a)
     → mid ≡ old ++ segments_of (cap_edges start unit (half_turn unit radius before.b (heading unit (own_edge before))))
     → capacity ≤ grown
-    → length old + length (segments_of (both_caps unit radius start end false (own_edge first) (own_edge last)))
+    → length old + length (segments_of (open_ends unit radius Both start end (own_edge first) (own_edge last)))
     ≤ capacity
     → length mid + length (segments_of (cap_edges end unit (half_turn unit radius last.b
     (heading unit (own_edge last))))) ≤ grown

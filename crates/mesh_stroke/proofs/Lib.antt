@@ -9,6 +9,7 @@ pub mod Corners
 pub mod CustomCaps
 pub mod Ends
 pub mod Fitting
+pub mod Halves
 pub mod PathEnds
 pub mod PathWalk
 pub mod Promised

@@ -1,6 +1,6 @@
 -- Lemmas over points: the ends of an open path are asked for as caps ask.
 use Rattle.std.proofs.Common.{◌≡◌, ◌≢◌, ℕ, ◌≤◌, ◌^◌, List, ◌++◌, refl, sym, subst, ◌∙◌, ap, append_assoc, arith}
-use Rattle.std.specs.Prelude.{ℤ, pos, ◌≤ℤ◌, false}
+use Rattle.std.specs.Prelude.{ℤ, pos, ◌≤ℤ◌}
 use Rattle.mesh_plane.specs.Plane.{Edge, opposite}
 use Rattle.mesh_num.specs.Rectangle.{IsSafeWidened}
 use Rattle.mesh_num.specs.Segments.{SignedEdge, segments_of}
@@ -11,10 +11,11 @@ use Rattle.mesh_num.proofs.SegmentLists.{segments_of-append}
 use Rattle.mesh_lattice.specs.Split.{back}
 use Rattle.mesh_arc.specs.declared.arc.ArcDirection.TheVariants.{Counterclockwise}
 use Rattle.mesh_join.specs.Joints.{joint}
+use Rattle.mesh_join.specs.declared.style.StrokeSide.TheVariants.{Both}
 use Rattle.mesh_stroke.specs.Caps.{CapKind, cap_edges, cap_padding, IsCapped}
 use Rattle.mesh_stroke.specs.Ends.{half_turn}
 use Rattle.mesh_stroke.specs.Private.Sections.{Section, section_of, own_edge, IsMade, IsFacing}
-use Rattle.mesh_stroke.specs.Strokes.{heading, cap_at, both_caps}
+use Rattle.mesh_stroke.specs.Strokes.{heading, cap_at, open_ends}
 use Rattle.mesh_stroke.proofs.Corners.{apart_back}
 use Rattle.mesh_stroke.proofs.Sides.{heading_is, heading_back}
 
@@ -40,7 +41,7 @@ pub caps_drawn : (unit : ℕ) (radius : ℤ) (start end : CapKind) (first last b
     before ≡ section_of unit radius (first.b, first.a) →
     mid ≡ old ++ segments_of (cap_edges start unit (half_turn unit radius before.b (heading unit (own_edge before)))) →
     new ≡ mid ++ segments_of (cap_edges end unit (half_turn unit radius last.b (heading unit (own_edge last)))) →
-    new ≡ old ++ segments_of (both_caps unit radius start end false (own_edge first) (own_edge last))
+    new ≡ old ++ segments_of (open_ends unit radius Both start end (own_edge first) (own_edge last))
 caps_drawn unit radius start end first last before old mid new e m h =
     let own : own_edge before ≡ back (own_edge first) = ap own_edge e in
     let n : mid ≡ old ++ segments_of (cap_at unit radius start (back (own_edge first))) = m ∙ ap (λ (g : Edge). old ++ segments_of (cap_at unit radius start g)) own in

@@ -28,7 +28,7 @@ use Rattle.mesh_stroke.specs.Building.{IsStrokable}
 use Rattle.mesh_stroke.specs.Drawn.{HasStockCaps, AreStroked}
 use Rattle.mesh_stroke.specs.Paths.{neighbours, path_edges}
 use Rattle.mesh_stroke.specs.Styles.{StrokeStyle, stroke_padding}
-use Rattle.mesh_stroke.specs.Strokes.{side_edges, corner_edges, both_caps, drawn_edges, drawn_pieces, stroke_edges, stroke_pieces}
+use Rattle.mesh_stroke.specs.Strokes.{side_edges, corner_edges, path_ends, drawn_edges, drawn_pieces, stroke_edges, stroke_pieces}
 use Rattle.mesh_stroke.proofs.Chains.{path_chain}
 use Rattle.mesh_stroke.proofs.Reach.{drawn_near, path_listed}
 use Rattle.mesh_stroke.proofs.StrokeCount.{drawn_winds}
@@ -130,9 +130,9 @@ unfolding drawn_edges
 drawn_proper unit style closed [] = proper_kept []
 drawn_proper unit style closed (e ∷ es) =
     proper_kept
-    (flat_map (side_edges unit style.radius) (e ∷ es)
-    ++ (flat_map (corner_edges unit style.radius style.join) (neighbours closed (e ∷ es))
-    ++ both_caps unit style.radius style.start style.end closed e (last_of e es)))
+    (flat_map (side_edges unit style.radius style.side) (e ∷ es)
+    ++ (flat_map (corner_edges unit style.radius style.side style.join) (neighbours closed (e ∷ es))
+    ++ path_ends unit style.radius style.side style.start style.end closed e (last_of e es)))
 
 pub stroke_proper : (unit : ℕ) (style : StrokeStyle) (closed : Bool) (points : List Point) → IsProper (stroke_edges unit style closed points)
 stroke_proper unit style closed points = by (int_le style.radius (pos 1))

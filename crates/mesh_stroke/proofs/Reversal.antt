@@ -1,5 +1,5 @@
 -- Lemmas over points and lists: the stroke of a path that runs the other way about.
-use Rattle.std.proofs.Common.{◌≡◌, ◌≢◌, ◌⊎◌, inl, inr, ℕ, ◌<◌, ◌≤◌, ◌^◌, List, [], ◌∷◌, ◌++◌, refl, sym, ◌∙◌, ap, arith}
+use Rattle.std.proofs.Common.{◌≡◌, ◌≢◌, ◌⊎◌, inl, inr, ℕ, ◌<◌, ◌≤◌, ◌^◌, List, [], ◌∷◌, ◌++◌, refl, sym, subst, ◌∙◌, ap, arith}
 use Rattle.std.specs.Prelude.{ℤ, pos, neg_ℤ, ◌+ℤ◌, ◌-ℤ◌, ◌*ℤ◌, ◌<ℤ◌, ◌≤ℤ◌, Bool, true, false, cond, reverse, int_le, ◌&&◌}
 use Rattle.std.specs.List.{flat_map}
 use Rattle.std.proofs.lemmas.Int.{ints, by_lt_z}
@@ -28,12 +28,14 @@ use Rattle.mesh_stroke.specs.Caps.{CapKind}
 use Rattle.mesh_join.specs.Joins.{through, join_points, join_edges}
 use Rattle.mesh_join.specs.Joints.{joint, contact}
 use Rattle.mesh_join.specs.Styles.{JoinStyle}
+use Rattle.mesh_join.specs.declared.style.StrokeSide.{StrokeSide}
+use Rattle.mesh_join.specs.declared.style.StrokeSide.TheVariants.{Both}
 use Rattle.mesh_offset.specs.Walks.{pairs}
 use Rattle.mesh_stroke.specs.Paths.{neighbours, path_edges}
 use Rattle.mesh_stroke.specs.Reversal.{net_count, CountAlike, with_caps_exchanged, reversed_edges, StrokesCanBeReversed}
 use Rattle.mesh_stroke.specs.Styles.{StrokeStyle}
 use Rattle.mesh_stroke.specs.Strokes.{EdgePair, heading, side_edges, outer_edges, inner_edges}
-use Rattle.mesh_stroke.specs.Strokes.{corner_edges, cap_at, both_caps, drawn_edges, stroke_edges}
+use Rattle.mesh_stroke.specs.Strokes.{corner_edges, cap_at, open_ends, path_ends, drawn_edges, stroke_edges}
 use Rattle.mesh_stroke.proofs.Backwards.{backwards, reverse_is, route_backwards, pairs_backwards, proper_backwards, ends_backwards, sum_backwards, neighbours_sum_backwards}
 use Rattle.mesh_stroke.proofs.Chains.{IsChain, path_chain}
 use Rattle.mesh_stroke.proofs.Corners.{IsMet, corners_met, left_turn, other_way, other_way_met, other_way_turns, faced_here, faced_there}
@@ -104,7 +106,7 @@ module _ (f : Point → Point → ℤ) (odd : IsOdd f) (unit : ℕ) (some : 0 < 
 
   -- a corner seen from its other end
   corner_reversed : (radius : ℤ) (join : JoinStyle) (c : EdgePair) → IsMet c →
-      total f (corner_edges unit radius join (other_way c)) ≡ total f (corner_edges unit radius join c)
+      total f (corner_edges unit radius Both join (other_way c)) ≡ total f (corner_edges unit radius Both join c)
   corner_reversed radius join c h = by_lt_z (left_turn c) (pos 0)
       (λ l. ap (seen radius join) (faced_here (other_way c) (there (omega (arith, linear, ints, l))) ∙ sym (faced_there c l)))
       (λ l. by_lt_z (pos 0) (left_turn c)
@@ -124,60 +126,84 @@ module _ (f : Point → Point → ℤ) (odd : IsOdd f) (unit : ℕ) (some : 0 < 
       zero_of l g = omega (arith, ints, l, g)
 
   -- both sides of an edge
-  sides_reversed : (radius : ℤ) (e : Edge) → e.0 ≢ e.1 → total f (side_edges unit radius (back e)) ≡ total f (side_edges unit radius e)
+  sides_reversed : (radius : ℤ) (e : Edge) → e.0 ≢ e.1 → total f (side_edges unit radius Both (back e)) ≡ total f (side_edges unit radius Both e)
   sides_reversed radius e apart =
       rw (right_back unit radius e e.0 some apart, right_back unit radius e e.1 some apart, left_back unit radius e e.0 some apart, left_back unit radius e e.1 some apart)
       (omega (arith, linear))
 
   -- ---- the sums over a path
 
-  abbrev sides_of : StrokeStyle → Edge → ℤ
-  sides_of style e = total f (side_edges unit style.radius e)
+  abbrev pub sides_of : StrokeStyle → Edge → ℤ
+  sides_of style e = total f (side_edges unit style.radius style.side e)
 
-  abbrev corner_of : StrokeStyle → EdgePair → ℤ
-  corner_of style c = total f (corner_edges unit style.radius style.join c)
+  abbrev pub corner_of : StrokeStyle → EdgePair → ℤ
+  corner_of style c = total f (corner_edges unit style.radius style.side style.join c)
 
-  abbrev caps_of : StrokeStyle → Bool → Edge → Edge → ℤ
-  caps_of style closed first last = total f (both_caps unit style.radius style.start style.end closed first last)
+  abbrev pub caps_of : StrokeStyle → Bool → Edge → Edge → ℤ
+  caps_of style closed first last = total f (path_ends unit style.radius style.side style.start style.end closed first last)
 
-  parts : (style : StrokeStyle) (closed : Bool) (e : Edge) (es : List Edge) →
+  pub parts : (style : StrokeStyle) (closed : Bool) (e : Edge) (es : List Edge) →
       total f (drawn_edges unit style closed (e ∷ es))
       ≡ (sum_of (sides_of style) (e ∷ es) +ℤ sum_of (corner_of style) (neighbours closed (e ∷ es))) +ℤ caps_of style closed e (last_of e es)
   unfolding drawn_edges
   parts style closed e es =
-      let sides = flat_map (side_edges unit style.radius) (e ∷ es) in
-      let corners = flat_map (corner_edges unit style.radius style.join) (neighbours closed (e ∷ es)) in
-      let caps = both_caps unit style.radius style.start style.end closed e (last_of e es) in
+      let sides = flat_map (side_edges unit style.radius style.side) (e ∷ es) in
+      let corners = flat_map (corner_edges unit style.radius style.side style.join) (neighbours closed (e ∷ es)) in
+      let caps = path_ends unit style.radius style.side style.start style.end closed e (last_of e es) in
       omega (
         arith,
         linear,
         proper_edges_total f odd (sides ++ (corners ++ caps)),
         total_append f sides (corners ++ caps),
         total_append f corners caps,
-        total_flat_map f (side_edges unit style.radius) (e ∷ es),
-        total_flat_map f (corner_edges unit style.radius style.join) (neighbours closed (e ∷ es)),
+        total_flat_map f (side_edges unit style.radius style.side) (e ∷ es),
+        total_flat_map f (corner_edges unit style.radius style.side style.join) (neighbours closed (e ∷ es)),
       )
 
-  caps_reversed : (style : StrokeStyle) (closed : Bool) (first last : Edge) →
-      caps_of (with_caps_exchanged style) closed (back last) (back first) ≡ caps_of style closed first last
-  caps_reversed style true first last = refl
-  caps_reversed style false first last =
-      let at : CapKind → Edge → List Edge = cap_at unit style.radius in
+  open_reversed : (radius : ℤ) (start end : CapKind) (first last : Edge)
+      → total f (open_ends unit radius Both end start (back last) (back first))
+      ≡ total f (open_ends unit radius Both start end first last)
+  open_reversed radius start end first last =
       omega (
         arith,
         linear,
-        total_append f (at style.end last) (at style.start (back first)),
-        total_append f (at style.start (back first)) (at style.end last),
+        total_append f (cap_at unit radius end last) (cap_at unit radius start (back first)),
+        total_append f (cap_at unit radius start (back first)) (cap_at unit radius end last),
       )
+
+  -- what is said of both sides, of a style that draws both
+  module _ (style : StrokeStyle) (whole : style.side ≡ Both) where
+    caps_reversed : (closed : Bool) (first last : Edge)
+        → caps_of (with_caps_exchanged style) closed (back last) (back first) ≡ caps_of style closed first last
+    caps_reversed true first last = refl
+    caps_reversed false first last =
+        subst
+        (λ (side : StrokeSide). total f (open_ends unit style.radius side style.end style.start (back last) (back first))
+        ≡ total f (open_ends unit style.radius side style.start style.end first last))
+        (sym whole) (open_reversed style.radius style.start style.end first last)
+
+    both_sides_reversed : (e : Edge) → e.0 ≢ e.1 → sides_of style (back e) ≡ sides_of style e
+    both_sides_reversed e apart =
+        subst
+        (λ (side : StrokeSide). total f (side_edges unit style.radius side (back e))
+        ≡ total f (side_edges unit style.radius side e))
+        (sym whole) (sides_reversed style.radius e apart)
+
+    both_corner_reversed : (c : EdgePair) → IsMet c → corner_of style (other_way c) ≡ corner_of style c
+    both_corner_reversed c h =
+        subst
+        (λ (side : StrokeSide). total f (corner_edges unit style.radius side style.join (other_way c))
+        ≡ total f (corner_edges unit style.radius side style.join c))
+        (sym whole) (corner_reversed style.radius style.join c h)
 
   none_drawn : (style : StrokeStyle) (closed : Bool) → drawn_edges unit style closed [] ≡ []
   unfolding drawn_edges
   none_drawn style closed = refl
 
-  drawn_reversed : (style : StrokeStyle) (closed : Bool) (es : List Edge) → IsChain closed es →
+  drawn_reversed : (style : StrokeStyle) → style.side ≡ Both → (closed : Bool) (es : List Edge) → IsChain closed es →
       total f (drawn_edges unit (with_caps_exchanged style) closed (backwards back es)) ≡ total f (drawn_edges unit style closed es)
-  drawn_reversed style closed [] chain = ap (total f) (none_drawn (with_caps_exchanged style) closed ∙ sym (none_drawn style closed))
-  drawn_reversed style closed (e ∷ es) chain = by (ends_backwards back e es)
+  drawn_reversed style whole closed [] chain = ap (total f) (none_drawn (with_caps_exchanged style) closed ∙ sym (none_drawn style closed))
+  drawn_reversed style whole closed (e ∷ es) chain = by (ends_backwards back e es)
     where
       other : StrokeStyle
       other = with_caps_exchanged style
@@ -186,13 +212,13 @@ module _ (f : Point → Point → ℤ) (odd : IsOdd f) (unit : ℕ) (some : 0 < 
       sections =
           sum_backwards (sides_of style) back (e ∷ es)
           ∙ sum_of_equal (λ g. sides_of style (back g)) (sides_of style) (e ∷ es)
-          (All-weaker (λ (g : Edge). g.0 ≢ g.1) (λ (g : Edge). sides_of style (back g) ≡ sides_of style g) (λ g h. sides_reversed style.radius g h) (e ∷ es) chain.proper)
+          (All-weaker (λ (g : Edge). g.0 ≢ g.1) (λ (g : Edge). sides_of style (back g) ≡ sides_of style g) (λ g h. both_sides_reversed style whole g h) (e ∷ es) chain.proper)
 
       corners : sum_of (corner_of style) (neighbours closed (backwards back (e ∷ es))) ≡ sum_of (corner_of style) (neighbours closed (e ∷ es))
       corners =
           neighbours_sum_backwards (corner_of style) back closed (e ∷ es)
           ∙ sum_of_equal (λ c. corner_of style (other_way c)) (corner_of style) (neighbours closed (e ∷ es))
-          (All-weaker IsMet (λ (c : EdgePair). corner_of style (other_way c) ≡ corner_of style c) (λ c h. corner_reversed style.radius style.join c h) (neighbours closed (e ∷ es)) (corners_met closed (e ∷ es) chain))
+          (All-weaker IsMet (λ (c : EdgePair). corner_of style (other_way c) ≡ corner_of style c) (λ c h. both_corner_reversed style whole c h) (neighbours closed (e ∷ es)) (corners_met closed (e ∷ es) chain))
 
       by : (rest : List Edge) × (backwards back (e ∷ es) ≡ back (last_of e es) ∷ rest) × (last_of (back (last_of e es)) rest ≡ back e) →
           total f (drawn_edges unit other closed (backwards back (e ∷ es))) ≡ total f (drawn_edges unit style closed (e ∷ es))
@@ -204,7 +230,7 @@ module _ (f : Point → Point → ℤ) (odd : IsOdd f) (unit : ℕ) (some : 0 < 
           ∙ parts other closed first rest
           ∙ sym (ap (λ l. (sum_of (sides_of style) l +ℤ sum_of (corner_of style) (neighbours closed l)) +ℤ caps_of other closed first (last_of first rest)) same) in
           let caps : caps_of other closed first (last_of first rest) ≡ caps_of style closed e (last_of e es) =
-          ap (caps_of other closed first) ends ∙ caps_reversed style closed e (last_of e es) in
+          ap (caps_of other closed first) ends ∙ caps_reversed style whole closed e (last_of e es) in
           omega (arith, linear, listed, caps, sections, corners, parts style closed e es)
 
   -- a closed path begun elsewhere
@@ -242,9 +268,9 @@ module _ (f : Point → Point → ℤ) (odd : IsOdd f) (unit : ℕ) (some : 0 < 
           ∙ drawn_rotated style (proper_edges (route y zs x)) (proper_edges ((x, y) ∷ []))
           ∙ sym (ap (λ l. total f (drawn_edges unit style true l)) (proper_append ((x, y) ∷ []) (route y zs x)))
 
-  pub stroke_reversed : (style : StrokeStyle) (closed : Bool) (points : List Point) →
+  pub stroke_reversed : (style : StrokeStyle) → style.side ≡ Both → (closed : Bool) (points : List Point) →
       total f (reversed_edges unit style closed points) ≡ total f (stroke_edges unit style closed points)
-  stroke_reversed style closed points = by (int_le style.radius (pos 1))
+  stroke_reversed style whole closed points = by (int_le style.radius (pos 1))
     where
       other : StrokeStyle
       other = with_caps_exchanged style
@@ -253,7 +279,7 @@ module _ (f : Point → Point → ℤ) (odd : IsOdd f) (unit : ℕ) (some : 0 < 
       drawn =
           ap (λ l. total f (drawn_edges unit other closed (path_edges closed l))) (reverse_is points)
           ∙ path_reversed other closed points
-          ∙ drawn_reversed style closed (path_edges closed points) (path_chain closed points)
+          ∙ drawn_reversed style whole closed (path_edges closed points) (path_chain closed points)
 
       by : (b : Bool) → total f (cond b [] (drawn_edges unit other closed (path_edges closed (reverse points)))) ≡ total f (cond b [] (drawn_edges unit style closed (path_edges closed points)))
       by true = refl
@@ -291,15 +317,15 @@ count_alike es gs h = record {
 }
 
 pub strokes_can_be_reversed : StrokesCanBeReversed
-strokes_can_be_reversed unit least style closed points =
+strokes_can_be_reversed unit least style whole closed points =
     count_alike (reversed_edges unit style closed points) (stroke_edges unit style closed points)
-    (λ f odd. stroke_reversed f odd unit (omega arith) style closed points)
+    (λ f odd. stroke_reversed f odd unit (omega arith) style whole closed points)
 
 -- and so does what a walk added in whatever order
-pub adds_reversed : (unit : ℕ) → 2 ^ 14 ≤ unit → (style : StrokeStyle) (closed : Bool) (points : List Point) (old new : List SignedEdge) →
+pub adds_reversed : (unit : ℕ) → 2 ^ 14 ≤ unit → (style : StrokeStyle) → style.side ≡ Both → (closed : Bool) (points : List Point) (old new : List SignedEdge) →
     Adds old new (stroke_edges unit style closed points) → CountAlike (reversed_edges unit style closed points) (added_edges old new)
-adds_reversed unit least style closed points old new h =
+adds_reversed unit least style whole closed points old new h =
     count_alike (reversed_edges unit style closed points) (added_edges old new)
     (λ f odd.
-    stroke_reversed f odd unit (omega arith) style closed points
+    stroke_reversed f odd unit (omega arith) style whole closed points
     ∙ total_permutation f (added_edges old new) (stroke_edges unit style closed points) (adds_edges old new (stroke_edges unit style closed points) h))

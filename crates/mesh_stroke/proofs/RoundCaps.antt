@@ -2,6 +2,7 @@
 use Rattle.std.proofs.Common.{◌≡◌, ℕ, ◌<◌, ◌≤◌, ◌^◌, subst, sym, arith}
 use Rattle.std.specs.Prelude.{ℤ, pos, ◌≤ℤ◌}
 use Rattle.std.proofs.lemmas.Bool.{true≢false}
+use Rattle.std.proofs.lemmas.Int.{ints}
 use Rattle.mesh_plane.specs.Plane.{Point}
 use Rattle.mesh_num.specs.Direction.{IsShort, IsFresh}
 use Rattle.mesh_arc.specs.declared.arc.ArcOptions.{ArcOptions}
@@ -32,7 +33,7 @@ round_keeps_half_turn unit options radius v n least short fresh sign = record {
 -- what holds of round caps
 pub round_caps_keep : (unit : ℕ) (options : ArcOptions) → 2 ^ 14 ≤ unit → KeepsEnds unit (CapKind.Round options)
 round_caps_keep unit options least =
-    keeps_by_half_turns unit (CapKind.Round options)
+    keeps_by_half_turns unit (CapKind.Round options) (λ r. omega (arith, ints)) (λ few. few)
     (λ radius v n short fresh sign. round_keeps_half_turn unit options radius v n least short fresh sign)
 
 -- the end asks for a round join what a round cap asks there; how finely its arc is drawn is not asked

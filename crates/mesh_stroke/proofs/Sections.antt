@@ -1,5 +1,5 @@
 -- Lemmas over points: sections of safe points are safe, and are what their definition says.
-use Rattle.std.proofs.Common.{◌≡◌, ℕ, ◌≤◌, ◌∙◌, ap, arith}
+use Rattle.std.proofs.Common.{◌≡◌, ℕ, ◌≤◌, [], ◌∷◌, ◌∙◌, sym, ap, arith}
 use Rattle.std.specs.Prelude.{ℤ, pos, unsigned_abs}
 use Rattle.std.proofs.lemmas.Int.{ints}
 use Rattle.mesh_plane.specs.Bounds.{IsSafe}
@@ -8,7 +8,10 @@ use Rattle.mesh_num.specs.Direction.{IsDirection, scaled_direction}
 use Rattle.mesh_num.specs.Directed.{direction_of}
 use Rattle.mesh_num.specs.Rectangle.{IsSafeWidened}
 use Rattle.mesh_num.proofs.Directed.{is_direction_of}
-use Rattle.mesh_stroke.specs.Private.Sections.{Section, section_of}
+use Rattle.mesh_join.specs.declared.style.StrokeSide.{StrokeSide}
+use Rattle.mesh_join.specs.declared.style.StrokeSide.TheVariants.{Both, Left, Right}
+use Rattle.mesh_stroke.specs.Private.Sections.{Section, section_of, own_edge, on_side, IsMade}
+use Rattle.mesh_stroke.specs.Strokes.{half_ends}
 
 -- a point on the left is safe where a point moved by the padding is
 pub left_safe : (unit n : ℕ) (a s : Point) → IsSafeWidened unit (pos n) a → unsigned_abs s.0 ≤ n → unsigned_abs s.1 ≤ n → IsSafe unit (minus a (right_quarter s))
@@ -33,3 +36,20 @@ section_made unit radius a b v n s al ar bl br e d f g h j l =
       b_left = (j ∙ ap (λ (t : Point). minus b (right_quarter t)) m) i;
       b_right = (l ∙ ap (λ (t : Point). plus b (right_quarter t)) m) i;
     }
+
+-- what sections on a side have beside their ends is what their edges have there
+module _ (unit : ℕ) (radius : ℤ) where
+  ends_are : (side : StrokeSide) (s t : Section) → IsMade unit radius s → IsMade unit radius t
+      → half_ends unit radius side (own_edge s) (own_edge t)
+      ≡ ((on_side side s).a_left, (on_side side s).a_right) ∷ ((on_side side t).b_right, (on_side side t).b_left) ∷ []
+  ends_are Both s t h k = λ i.
+      ((sym h.made i).a_left, (sym h.made i).a_right) ∷ ((sym k.made i).b_right, (sym k.made i).b_left) ∷ []
+  ends_are Left s t h k = λ i. ((sym h.made i).a_left, s.a) ∷ (t.b, (sym k.made i).b_left) ∷ []
+  ends_are Right s t h k = λ i. (s.a, (sym h.made i).a_right) ∷ ((sym k.made i).b_right, t.b) ∷ []
+
+  pub ends_pushed : (side : StrokeSide) (s t u w : Section) → IsMade unit radius s → IsMade unit radius t
+      → u ≡ on_side side s → w ≡ on_side side t
+      → half_ends unit radius side (own_edge s) (own_edge t) ≡ (u.a_left, u.a_right) ∷ (w.b_right, w.b_left) ∷ []
+  ends_pushed side s t u w h k e f =
+      ends_are side s t h k
+      ∙ (λ i. ((sym e i).a_left, (sym e i).a_right) ∷ ((sym f i).b_right, (sym f i).b_left) ∷ [])

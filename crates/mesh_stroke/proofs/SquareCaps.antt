@@ -112,7 +112,8 @@ square_keeps_half_turn unit radius v n some short = record {
 -- what holds of square caps
 pub square_keeps : (unit : ℕ) → 0 < unit → KeepsEnds unit CapKind.Square
 square_keeps unit some =
-    keeps_by_half_turns unit CapKind.Square (λ radius v n short _ _. square_keeps_half_turn unit radius v n some short)
+    keeps_by_half_turns unit CapKind.Square (λ r. omega (arith, ints)) (λ few. few)
+    (λ radius v n short _ _. square_keeps_half_turn unit radius v n some short)
 
 -- ---- what the code knows of its points
 

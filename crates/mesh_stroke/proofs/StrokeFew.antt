@@ -1,6 +1,6 @@
 -- Lemmas over points and lists: how many edges a stroke has, where its joins and its caps have few.
-use Rattle.std.proofs.Common.{◌≡◌, ◌≢◌, ℕ, ◌+◌, ◌*◌, ◌≤◌, ◌^◌, List, [], ◌∷◌, ◌++◌, length, refl, arith, length-append}
-use Rattle.std.specs.Prelude.{Bool, true, false, cond, IsTrue, pos, ◌≤ℤ◌, int_le}
+use Rattle.std.proofs.Common.{◌≡◌, ◌≢◌, ℕ, ◌+◌, ◌*◌, ◌≤◌, ◌^◌, List, [], ◌∷◌, ◌++◌, length, refl, sym, subst, arith, length-append}
+use Rattle.std.specs.Prelude.{Bool, true, false, cond, IsTrue, ◌&&◌, pos, ◌≤ℤ◌, int_le}
 use Rattle.std.specs.List.{All, flat_map}
 use Rattle.std.specs.Cmp.Derive.{both_true}
 use Rattle.std.proofs.lemmas.Bool.{and_parts}
@@ -13,7 +13,9 @@ use Rattle.mesh_num.specs.Segments.{SignedEdge}
 use Rattle.mesh_num.proofs.Parts.{direction_fresh}
 use Rattle.mesh_lattice.specs.Split.{back}
 use Rattle.mesh_join.specs.Joins.{HasFew}
-use Rattle.mesh_stroke.specs.Caps.{CapKind, draws_directly, has_few_edges}
+use Rattle.mesh_join.specs.declared.style.StrokeSide.{StrokeSide}
+use Rattle.mesh_join.specs.declared.style.StrokeSide.TheVariants.{Both, Left, Right}
+use Rattle.mesh_stroke.specs.Caps.{CapKind, drawn_cap, draws_directly, has_few_edges}
 use Rattle.mesh_stroke.specs.Ends.{half_turn, IsEnd}
 use Rattle.mesh_stroke.proofs.CapKinds.{cap_keeps}
 use Rattle.mesh_offset.specs.Adding.{added}
@@ -23,27 +25,27 @@ use Rattle.mesh_stroke.specs.Building.{HasDirectCaps, HasFewCapEdges}
 use Rattle.mesh_offset.specs.Walks.{pairs}
 use Rattle.mesh_stroke.specs.Paths.{neighbours, path_edges}
 use Rattle.mesh_stroke.specs.Styles.{StrokeStyle}
-use Rattle.mesh_stroke.specs.Strokes.{EdgePair, heading, facing, side_edges, inner_edges, outer_edges, corner_edges}
-use Rattle.mesh_stroke.specs.Strokes.{cap_at, both_caps, drawn_edges, stroke_edges}
+use Rattle.mesh_stroke.specs.Strokes.{EdgePair, heading, turns_right, facing, side_edges, inner_edges, outer_edges}
+use Rattle.mesh_stroke.specs.Strokes.{corner_edges, cap_at, open_ends, path_ends, drawn_edges, stroke_edges}
+use Rattle.mesh_stroke.specs.Private.Sections.{faced_edges}
 use Rattle.mesh_offset.proofs.ProperEdges.{proper_length}
 use Rattle.mesh_offset.proofs.Walks.{last_all}
 use Rattle.mesh_stroke.proofs.Chains.{IsChain, path_chain}
-use Rattle.mesh_stroke.proofs.Corners.{IsMet, corners_met, facing_keeps, heading_short, apart_back}
+use Rattle.mesh_stroke.proofs.Corners.{IsMet, corners_met, facing_keeps, heading_short, apart_back, faced_side, faced_is}
 use Rattle.mesh_stroke.proofs.Sides.{heading_is}
 
 -- ---- caps with few edges draw directly
 
 few_is_direct : (kind : CapKind) → IsTrue (has_few_edges kind) → IsTrue (draws_directly kind)
-few_is_direct CapKind.Butt few = few
-few_is_direct CapKind.Square few = few
-few_is_direct (CapKind.Round options) few = few
-few_is_direct (CapKind.Custom points) few = let k : false ≡ true = few in cc
+few_is_direct kind = (cap_keeps (2 ^ 14) kind (omega arith)).few_are_direct
 
 pub few_are_direct : (style : StrokeStyle) (closed : Bool) → HasFewCapEdges style closed → HasDirectCaps style closed
 few_are_direct style true few = few
 few_are_direct style false few =
-    let each = and_parts (has_few_edges style.start) (has_few_edges style.end) few in
-    both_true (few_is_direct style.start each.0) (few_is_direct style.end each.1)
+    let start : CapKind = drawn_cap style.side style.start in
+    let end : CapKind = drawn_cap style.side style.end in
+    let each = and_parts (has_few_edges start) (has_few_edges end) few in
+    both_true (few_is_direct start each.0) (few_is_direct end each.1)
 
 -- ---- lists
 
@@ -71,13 +73,23 @@ neighbours_length false x xs = omega (arith, pairs_length x xs)
 
 module _ (unit : ℕ) (least : 2 ^ 14 ≤ unit) (style : StrokeStyle) (few : HasFew style.join) where
   corner_length : pos 0 ≤ℤ style.radius → (c : EdgePair) → IsMet c
-      → length (corner_edges unit style.radius style.join c) ≤ 5
+      → length (corner_edges unit style.radius style.side style.join c) ≤ 5
   corner_length sign c met =
-      omega (
-        arith,
-        length-append (inner_edges unit style.radius (facing c)) (outer_edges unit style.radius style.join (facing c)),
-        (facing_keeps unit least style.radius sign style.join c met).few few,
-      )
+      subst (λ (es : List Edge). length es ≤ 5) (sym (faced_is unit style.radius style.side style.join c))
+      (by (faced_side style.side (turns_right c)))
+    where
+      joined : length (outer_edges unit style.radius style.join (facing c)) ≤ 3
+      joined = (facing_keeps unit least style.radius sign style.join c met).few few
+
+      by : (seen : StrokeSide) → length (faced_edges unit style.radius seen style.join (facing c)) ≤ 5
+      by Both =
+          omega (
+            arith,
+            length-append (inner_edges unit style.radius (facing c)) (outer_edges unit style.radius style.join (facing c)),
+            joined,
+          )
+      by Left = omega arith
+      by Right = omega (arith, joined)
 
   cap_length : pos 0 ≤ℤ style.radius → (kind : CapKind) → IsTrue (has_few_edges kind) → (e : Edge)
       → e.0 ≢ e.1
@@ -87,11 +99,11 @@ module _ (unit : ℕ) (least : 2 ^ 14 ≤ unit) (style : StrokeStyle) (few : Has
       let end : IsEnd unit j = record { made = refl; fresh = direction_fresh (omega arith) (heading_is unit e apart) } in
       ((cap_keeps unit kind least).at_end j (heading_short unit least style.radius sign e apart) end sign).few short
 
-  caps_length : pos 0 ≤ℤ style.radius → (closed : Bool) → HasFewCapEdges style closed → (first last : Edge)
-      → first.0 ≢ first.1 → last.0 ≢ last.1
-      → length (both_caps unit style.radius style.start style.end closed first last) ≤ 6
-  caps_length sign true short first last p q = omega arith
-  caps_length sign false short first last p q =
+  open_length : pos 0 ≤ℤ style.radius → (side : StrokeSide)
+      → IsTrue (has_few_edges (drawn_cap side style.start) && has_few_edges (drawn_cap side style.end))
+      → (first last : Edge) → first.0 ≢ first.1 → last.0 ≢ last.1
+      → length (open_ends unit style.radius side style.start style.end first last) ≤ 6
+  open_length sign Both short first last p q =
       omega (
         arith,
         length-append (cap_at unit style.radius style.start (back first)) (cap_at unit style.radius style.end last),
@@ -99,6 +111,14 @@ module _ (unit : ℕ) (least : 2 ^ 14 ≤ unit) (style : StrokeStyle) (few : Has
             (apart_back first p),
         cap_length sign style.end (and_parts (has_few_edges style.start) (has_few_edges style.end) short).1 last q,
       )
+  open_length sign Left short first last p q = omega arith
+  open_length sign Right short first last p q = omega arith
+
+  caps_length : pos 0 ≤ℤ style.radius → (closed : Bool) → HasFewCapEdges style closed → (first last : Edge)
+      → first.0 ≢ first.1 → last.0 ≢ last.1
+      → length (path_ends unit style.radius style.side style.start style.end closed first last) ≤ 6
+  caps_length sign true short first last p q = omega arith
+  caps_length sign false short first last p q = open_length sign style.side short first last p q
 
   drawn_length : pos 0 ≤ℤ style.radius → (closed : Bool) → HasFewCapEdges style closed → (es : List Edge)
       → IsChain closed es → length (drawn_edges unit style closed es) ≤ 7 * length es + 6
@@ -110,9 +130,9 @@ module _ (unit : ℕ) (least : 2 ^ 14 ≤ unit) (style : StrokeStyle) (few : Has
         proper_length (sides ++ (corners ++ caps)),
         length-append sides (corners ++ caps),
         length-append corners caps,
-        parts_length (side_edges unit style.radius) 2 (e ∷ es) (λ k d h. omega arith),
-        parts_length (corner_edges unit style.radius style.join) 5 (neighbours closed (e ∷ es))
-            (All-weaker IsMet (λ (c : EdgePair). length (corner_edges unit style.radius style.join c) ≤ 5)
+        parts_length (side_edges unit style.radius style.side) 2 (e ∷ es) (λ k d h. omega arith),
+        parts_length (corner_edges unit style.radius style.side style.join) 5 (neighbours closed (e ∷ es))
+            (All-weaker IsMet (λ (c : EdgePair). length (corner_edges unit style.radius style.side style.join c) ≤ 5)
             (corner_length sign) (neighbours closed (e ∷ es)) (corners_met closed (e ∷ es) chain)),
         neighbours_length closed e es,
         caps_length sign closed short e (last_of e es) (All-head HasTwoEnds e es chain.proper)
@@ -123,13 +143,13 @@ module _ (unit : ℕ) (least : 2 ^ 14 ≤ unit) (style : StrokeStyle) (few : Has
       HasTwoEnds g = g.0 ≢ g.1
 
       sides : List Edge
-      sides = flat_map (side_edges unit style.radius) (e ∷ es)
+      sides = flat_map (side_edges unit style.radius style.side) (e ∷ es)
 
       corners : List Edge
-      corners = flat_map (corner_edges unit style.radius style.join) (neighbours closed (e ∷ es))
+      corners = flat_map (corner_edges unit style.radius style.side style.join) (neighbours closed (e ∷ es))
 
       caps : List Edge
-      caps = both_caps unit style.radius style.start style.end closed e (last_of e es)
+      caps = path_ends unit style.radius style.side style.start style.end closed e (last_of e es)
 
   -- at most seven edges for each edge of the path, and six more for the caps
   pub stroke_length : (closed : Bool) → HasFewCapEdges style closed → (points : List Point)

@@ -5,6 +5,8 @@ use Rattle.mesh_plane.specs.Winding.{route}
 use Rattle.mesh_num.specs.Rectangle.{IsSafeWidened}
 use Rattle.mesh_arc.specs.declared.arc.ArcOptions.{ArcOptions}
 use Rattle.mesh_join.specs.Joints.{Joint}
+use Rattle.mesh_join.specs.declared.style.StrokeSide.{StrokeSide}
+use Rattle.mesh_join.specs.declared.style.StrokeSide.TheVariants.{Both, Left, Right}
 use Rattle.mesh_stroke.specs.ButtCaps.{butt_points, butt_padding}
 use Rattle.mesh_stroke.specs.SquareCaps.{square_points, square_padding}
 use Rattle.mesh_stroke.specs.CustomCaps.{custom_points, custom_padding}
@@ -17,6 +19,12 @@ pub data CapKind : Type 0 where
   Square : CapKind
   Round : ArcOptions → CapKind
   Custom : List Point → CapKind
+
+-- the cap that is drawn where a stroke is drawn on this side: a half is cut off straight, whatever its caps are
+abbrev pub drawn_cap : StrokeSide → CapKind → CapKind
+drawn_cap Both kind = kind
+drawn_cap Left kind = CapKind.Butt
+drawn_cap Right kind = CapKind.Butt
 
 -- the points of a cap of each kind, between the point to the right of the end and the one to its left
 abbrev pub cap_points : CapKind → ℕ → Joint → List Point

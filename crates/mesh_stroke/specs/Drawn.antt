@@ -6,13 +6,14 @@ use Rattle.mesh_plane.specs.Winding.{IsBalanced, IsBit, boundary, winding, holds
 use Rattle.mesh_lattice.specs.Reach.{AreEdgesSafe}
 use Rattle.mesh_offset.specs.Padding.{AreEndsNear}
 use Rattle.mesh_offset.specs.Pieces.{WindAsPieces}
-use Rattle.mesh_stroke.specs.Caps.{is_stock}
+use Rattle.mesh_stroke.specs.Caps.{drawn_cap, is_stock}
 use Rattle.mesh_stroke.specs.Strokes.{stroke_pieces}
 use Rattle.mesh_stroke.specs.Styles.{StrokeStyle, stroke_padding}
 
--- no custom cap is drawn: the path is closed, or both caps are stock ones
+-- no custom cap is drawn: the path is closed, or both caps that are drawn are stock ones
 abbrev pub HasStockCaps : StrokeStyle → Bool → Type 0
-HasStockCaps style closed = IsTrue (closed || (is_stock style.start && is_stock style.end))
+HasStockCaps style closed =
+    IsTrue (closed || (is_stock (drawn_cap style.side style.start) && is_stock (drawn_cap style.side style.end)))
 
 -- at each point of each grid each piece winds 0 times or once
 abbrev pub PiecesWindOnce : List (List Point) → Type 0

@@ -4,6 +4,7 @@ pub mod Caps
 pub mod CustomCaps
 pub mod Drawn
 pub mod Ends
+pub mod Halves
 pub mod Kinds
 pub mod Laws
 pub mod Paths

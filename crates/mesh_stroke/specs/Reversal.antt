@@ -3,6 +3,7 @@ use Rattle.std.specs.Prelude.{ℕ, ◌≤◌, ◌^◌, ◌≡◌, Bool, List, re
 use Rattle.mesh_plane.specs.Plane.{Point, Edge}
 use Rattle.mesh_plane.specs.Winding.{winding}
 use Rattle.mesh_lattice.specs.Split.{back, same_edge}
+use Rattle.mesh_join.specs.declared.style.StrokeSide.TheVariants.{Both}
 use Rattle.mesh_stroke.specs.Strokes.{stroke_edges}
 use Rattle.mesh_stroke.specs.Styles.{StrokeStyle}
 
@@ -17,14 +18,15 @@ pub record CountAlike (es gs : List Edge) : Type 0 where
 
 -- the style with its caps exchanged
 abbrev pub with_caps_exchanged : StrokeStyle → StrokeStyle
-with_caps_exchanged style = record { radius = style.radius; join = style.join; start = style.end; end = style.start }
+with_caps_exchanged style = record style { start = style.end; end = style.start }
 
 -- the edges of the stroke of the reversed path with the caps exchanged
 abbrev pub reversed_edges : ℕ → StrokeStyle → Bool → List Point → List Edge
 reversed_edges unit style closed points = stroke_edges unit (with_caps_exchanged style) closed (reverse points)
 
--- reversing a path and exchanging its caps leaves the net count of every edge of its stroke, for every join and cap
+-- reversing a path and exchanging its caps leaves the net count of every edge of its stroke on both sides, for every join
+-- and cap; of a half this is not said
 abbrev pub StrokesCanBeReversed : Type 0
 StrokesCanBeReversed =
-    (unit : ℕ) → 2 ^ 14 ≤ unit → (style : StrokeStyle) (closed : Bool) (points : List Point)
+    (unit : ℕ) → 2 ^ 14 ≤ unit → (style : StrokeStyle) → style.side ≡ Both → (closed : Bool) (points : List Point)
     → CountAlike (reversed_edges unit style closed points) (stroke_edges unit style closed points)

@@ -11,12 +11,14 @@ ghost use Rattle.mesh_offset.specs.Adding.{added, added_edges, Keeps};
 ghost use Rattle.mesh_offset.specs.Private.Built.{Adds};
 ghost use Rattle.mesh_join.specs.Joins.{HasFew};
 ghost use Rattle.mesh_join.specs.Appending.{HasRoomForEdges};
+ghost use Rattle.mesh_join.specs.declared.style.StrokeSide.TheVariants.{Both};
 ghost use Rattle.mesh_offset.specs.Adding.{HasRoomFor};
 ghost use Rattle.mesh_offset.specs.Padding.{AreEndsNear};
 ghost use Rattle.mesh_offset.specs.Pieces.{WindAsPieces};
 ghost use Rattle.mesh_stroke.specs.Building.{style_with, HasDirectCaps, HasFewCapEdges, IsStrokable};
 ghost use Rattle.mesh_stroke.specs.Drawn.{HasStockCaps, PiecesWindOnce, WindsAsManyPieces};
 ghost use Rattle.mesh_stroke.specs.Private.Sections.{own_edge, IsCorner};
+ghost use Rattle.mesh_stroke.specs.Halves.{HalvesAddUp};
 ghost use Rattle.mesh_stroke.specs.Paths.{path_edges};
 ghost use Rattle.mesh_stroke.specs.Reversal.{CountAlike, reversed_edges};
 ghost use Rattle.mesh_stroke.specs.Strokes.{corner_edges, side_edges, drawn_edges, stroke_edges, stroke_pieces};
@@ -27,7 +29,7 @@ use crate::caps::BothCaps;
 use crate::path::PathEdges;
 use crate::section::StrokeSection;
 use mesh_join::join::Join;
-use mesh_join::style::IntStrokeStyle;
+use mesh_join::style::{IntStrokeStyle, StrokeSide};
 use mesh_num::num::convert::is_less;
 use mesh_num::num::{IntNumber, IntPoint};
 use mesh_num::shape::segment::Segment;
@@ -36,10 +38,12 @@ use std::alloc::{AllocError, Global};
 use std::marker::Model;
 
 /// Builds the stroke of a path: both sides of its edges, joined at the corners and closed by caps at the ends of an
-/// open path. It borrows the style. Contracts see its radius, its joins and its caps.
+/// open path; or one half of it, between the path and its left or its right side, with straight ends. It borrows the
+/// style. Contracts see its radius, its side, its joins and its caps.
 #[derive(Drop)]
 pub struct StrokeBuilder<'a, I: IntNumber> {
     radius: I,
+    side: StrokeSide,
     join: Join<I>,
     caps: BothCaps<'a, I>,
 }
@@ -50,7 +54,7 @@ impl<'a, I: IntNumber> Model for StrokeBuilder<'a, I> {
 
     ghost Value = { StrokeStyle };
 
-    ghost view = { λ b. style_with (I.value b.radius) b.join b.caps };
+    ghost view = { λ b. style_with (I.value b.radius) b.side b.join b.caps };
 }
 
 impl<'a, I: IntNumber> StrokeBuilder<'a, I> {
@@ -60,6 +64,7 @@ impl<'a, I: IntNumber> StrokeBuilder<'a, I> {
     {
         StrokeBuilder {
             radius: stroke_radius(style.width),
+            side: style.side,
             join: Join::new(alloc, style.join, style.miter_min_turn),
             caps: BothCaps::new(alloc, style),
         }
@@ -68,9 +73,9 @@ impl<'a, I: IntNumber> StrokeBuilder<'a, I> {
     /// Adds the edges of the stroke of the path through these points, each of which stays in the safe range where it
     /// moves by the padding of the style. A closed path goes on from its last point to its first, and has no caps. What
     /// the vector holds stays. Nothing is added for a radius of at most 1, and where all points are one, and no memory
-    /// is taken there. Without round joins, and without round caps where the path is open, it succeeds where there is
-    /// room for the edges; with butt or square caps, or with none, these are then at most seven for each edge of the
-    /// path and six more. After a refusal the vector is cut back to its old length. It keeps its room in either case.
+    /// is taken there. Without round joins, and without round caps where the path is open and drawn on both sides, it
+    /// succeeds where there is room for the edges; with butt or square caps, or with none, these are then at most seven
+    /// for each edge of the path and six more. A half does not look at the caps. After a refusal the vector is cut back to its old length. It keeps its room in either case.
     pub fn build(
         &mut self,
         path: &[IntPoint<I>],
@@ -109,15 +114,19 @@ impl<'a, I: IntNumber> StrokeBuilder<'a, I> {
         ensures count { HasStockCaps self.old closed → OnOk result (WindsAsManyPieces
             (stroke_pieces I.unit self.old closed path.now) (added_edges segments.old.items segments.new.items)) }
 
-        // The reversed path has the same stroke.
-        ensures reversal { OnOk result (CountAlike (reversed_edges I.unit self.old closed path.now)
+        // The reversed path has the same stroke, but for one half.
+        ensures reversal { self.old.side ≡ Both → OnOk result (CountAlike (reversed_edges I.unit self.old closed path.now)
             (added_edges segments.old.items segments.new.items)) }
+
+        // Both halves make the whole.
+        ensures halves { HalvesAddUp I.unit self.old closed path.now }
     {
         let length = segments.len();
         if let Err(error) = draw(
             &mut self.join,
             &mut self.caps,
             self.radius,
+            self.side,
             path,
             closed,
             segments,
@@ -134,25 +143,26 @@ fn draw<I: IntNumber>(
     join: &mut Join<I>,
     caps: &mut BothCaps<'_, I>,
     radius: I,
+    side: StrokeSide,
     path: &[IntPoint<I>],
     closed: bool,
     segments: &mut Vec<Segment<I>>,
 ) -> Result<(), AllocError>
-    requires { All (IsStrokable I.unit (style_with (I.value radius) join.old caps.old)) path.now }
+    requires { All (IsStrokable I.unit (style_with (I.value radius) side join.old caps.old)) path.now }
     ensures ok { OnOk result (Adds segments.old.items segments.new.items
-        (stroke_edges I.unit (style_with (I.value radius) join.old caps.old) closed path.now)) }
+        (stroke_edges I.unit (style_with (I.value radius) side join.old caps.old) closed path.now)) }
     ensures kept { Keeps segments.old.items segments.new.items }
     ensures thin { I.value radius ≤ℤ pos 1 → IsOk result }
     ensures no_section { path_edges closed path.now ≡ [] → IsOk result }
-    ensures room { HasFew join.old → HasDirectCaps (style_with (I.value radius) join.old caps.old) closed
+    ensures room { HasFew join.old → HasDirectCaps (style_with (I.value radius) side join.old caps.old) closed
         → HasRoomFor segments.old
-        (length (stroke_edges I.unit (style_with (I.value radius) join.old caps.old) closed path.now)) → IsOk result }
+        (length (stroke_edges I.unit (style_with (I.value radius) side join.old caps.old) closed path.now)) → IsOk result }
     ensures capacity { vec_capacity segments.old ≤ vec_capacity segments.new }
     ensures same_join { join.new ≡ join.old }
     ensures same_caps { caps.new ≡ caps.old }
 {
     if is_drawn(radius) {
-        return draw_path(join, caps, radius, path, closed, segments);
+        return draw_path(join, caps, radius, side, path, closed, segments);
     }
     Ok(())
 }
@@ -169,18 +179,19 @@ fn draw_path<I: IntNumber>(
     join: &mut Join<I>,
     caps: &mut BothCaps<'_, I>,
     radius: I,
+    side: StrokeSide,
     path: &[IntPoint<I>],
     closed: bool,
     segments: &mut Vec<Segment<I>>,
 ) -> Result<(), AllocError>
-    requires path { All (IsStrokable I.unit (style_with (I.value radius) join.old caps.old)) path.now }
+    requires path { All (IsStrokable I.unit (style_with (I.value radius) side join.old caps.old)) path.now }
     requires radius { pos 0 ≤ℤ I.value radius }
     ensures ok { OnOk result (Adds segments.old.items segments.new.items
-        (drawn_edges I.unit (style_with (I.value radius) join.old caps.old) closed (path_edges closed path.now))) }
+        (drawn_edges I.unit (style_with (I.value radius) side join.old caps.old) closed (path_edges closed path.now))) }
     ensures kept { Keeps segments.old.items segments.new.items }
     ensures no_section { path_edges closed path.now ≡ [] → IsOk result }
-    ensures room { HasFew join.old → HasDirectCaps (style_with (I.value radius) join.old caps.old) closed
-        → HasRoomFor segments.old (length (drawn_edges I.unit (style_with (I.value radius) join.old caps.old) closed
+    ensures room { HasFew join.old → HasDirectCaps (style_with (I.value radius) side join.old caps.old) closed
+        → HasRoomFor segments.old (length (drawn_edges I.unit (style_with (I.value radius) side join.old caps.old) closed
         (path_edges closed path.now))) → IsOk result }
     ensures capacity { vec_capacity segments.old ≤ vec_capacity segments.new }
     ensures same_join { join.new ≡ join.old }
@@ -193,17 +204,17 @@ fn draw_path<I: IntNumber>(
         return Ok(());
     };
     let first = StrokeSection::new(edge.a, edge.b, radius);
-    first.add(segments)?;
+    first.add(side, segments)?;
     let mut previous = first;
     for edge in edges {
         let next = StrokeSection::new(edge.a, edge.b, radius);
-        add_section(join, &previous, &next, radius, segments)?;
+        add_section(join, &previous, &next, radius, side, segments)?;
         previous = next;
     }
     if closed {
-        return join.add_join(&previous, &first, radius, segments);
+        return join.add_join(&previous, &first, radius, side, segments);
     }
-    caps.add(&first, &previous, radius, segments)
+    caps.add_ends(&first, &previous, radius, side, segments)
 }
 
 /// Adds what is drawn at the corner between two sections, and then the sides of the second.
@@ -212,19 +223,20 @@ fn add_section<I: IntNumber>(
     previous: &StrokeSection<I>,
     next: &StrokeSection<I>,
     radius: I,
+    side: StrokeSide,
     segments: &mut Vec<Segment<I>>,
 ) -> Result<(), AllocError>
     requires { IsCorner I.unit (I.value radius) join.old (previous.now, next.now) }
     ensures ok { OnOk result (segments.new.items ≡ segments.old.items
-        ++ segments_of (corner_edges I.unit (I.value radius) join.old (own_edge previous.now, own_edge next.now)
-        ++ side_edges I.unit (I.value radius) (own_edge next.now))) }
+        ++ segments_of (corner_edges I.unit (I.value radius) side join.old (own_edge previous.now, own_edge next.now)
+        ++ side_edges I.unit (I.value radius) side (own_edge next.now))) }
     ensures kept { Keeps segments.old.items segments.new.items }
     ensures room { HasFew join.old → HasRoomForEdges segments.old
-        (corner_edges I.unit (I.value radius) join.old (own_edge previous.now, own_edge next.now)
-        ++ side_edges I.unit (I.value radius) (own_edge next.now)) → IsOk result }
+        (corner_edges I.unit (I.value radius) side join.old (own_edge previous.now, own_edge next.now)
+        ++ side_edges I.unit (I.value radius) side (own_edge next.now)) → IsOk result }
     ensures capacity { vec_capacity segments.old ≤ vec_capacity segments.new }
     ensures same { join.new ≡ join.old }
 {
-    join.add_join(previous, next, radius, segments)?;
-    next.add(segments)
+    join.add_join(previous, next, radius, side, segments)?;
+    next.add(side, segments)
 }

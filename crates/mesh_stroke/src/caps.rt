@@ -1,19 +1,20 @@
 //! The caps of both ends of an open path.
 
-ghost use Rattle.std.specs.Prelude.{◌≡◌, ◌≤◌, false, length, take, vec_capacity, IsOk, OnOk};
+ghost use Rattle.std.specs.Prelude.{◌≡◌, ◌≤◌, ℤ, length, take, vec_capacity, IsOk, OnOk};
 ghost use Rattle.mesh_join.specs.Appending.{Appends, HasRoomForEdges};
-ghost use Rattle.mesh_stroke.specs.Caps.{DrawsDirectly};
+ghost use Rattle.mesh_join.specs.declared.style.StrokeSide.TheVariants.{Both};
+ghost use Rattle.mesh_stroke.specs.Caps.{drawn_cap, DrawsDirectly};
 ghost use Rattle.mesh_stroke.specs.Ends.{half_turn};
 ghost use Rattle.mesh_stroke.specs.Kinds.{kind_of};
-ghost use Rattle.mesh_stroke.specs.Private.Sections.{own_edge, AreEnds, IsFacing};
-ghost use Rattle.mesh_stroke.specs.Strokes.{both_caps, heading};
+ghost use Rattle.mesh_stroke.specs.Private.Sections.{own_edge, AreEnds, IsFacing, IsMade};
+ghost use Rattle.mesh_stroke.specs.Strokes.{half_ends, heading, open_ends};
 
 use crate::cap::Cap;
 use crate::end::PathEnd;
 use crate::section::StrokeSection;
-use mesh_join::style::IntStrokeStyle;
+use mesh_join::style::{IntStrokeStyle, StrokeSide};
 use mesh_num::num::IntNumber;
-use mesh_num::shape::segment::Segment;
+use mesh_num::shape::segment::{Segment, SubjectSegments};
 use std::alloc::{AllocError, Global};
 use std::marker::Model;
 
@@ -43,9 +44,37 @@ impl<'a, I: IntNumber> BothCaps<'a, I> {
         }
     }
 
-    /// Adds the caps of an open path with these first and last sections. Where there is room for their edges it
-    /// succeeds, but for a round cap. After a refusal the vector still begins with what it held.
-    pub(crate) fn add(
+    /// Adds the ends of an open path with these first and last sections: its caps, or the straight ends of a half.
+    /// Where there is room for their edges it succeeds, but for a round cap. After a refusal the vector still begins
+    /// with what it held.
+    pub(crate) fn add_ends(
+        &mut self,
+        first: &StrokeSection<I>,
+        last: &StrokeSection<I>,
+        radius: I,
+        side: StrokeSide,
+        segments: &mut Vec<Segment<I>>,
+    ) -> Result<(), AllocError>
+        requires { AreEnds I.unit (I.value radius) (drawn_cap side self.old.0) (drawn_cap side self.old.1)
+            first.now last.now }
+        ensures ok { OnOk result (Appends segments.old segments.new (open_ends I.unit (I.value radius) side
+            self.old.0 self.old.1 (own_edge first.now) (own_edge last.now))) }
+        ensures kept { take (length segments.old.items) segments.new.items ≡ segments.old.items }
+        ensures room { DrawsDirectly (drawn_cap side self.old.0) → DrawsDirectly (drawn_cap side self.old.1)
+            → HasRoomForEdges segments.old (open_ends I.unit (I.value radius) side
+            self.old.0 self.old.1 (own_edge first.now) (own_edge last.now)) → IsOk result }
+        ensures capacity { vec_capacity segments.old ≤ vec_capacity segments.new }
+        ensures same { self.new ≡ self.old }
+    {
+        match side {
+            StrokeSide::Both => self.add(first, last, radius, segments),
+            StrokeSide::Left => cut_off(first, last, StrokeSide::Left, segments),
+            StrokeSide::Right => cut_off(first, last, StrokeSide::Right, segments),
+        }
+    }
+
+    /// Adds the caps of an open path with these first and last sections.
+    fn add(
         &mut self,
         first: &StrokeSection<I>,
         last: &StrokeSection<I>,
@@ -54,10 +83,10 @@ impl<'a, I: IntNumber> BothCaps<'a, I> {
     ) -> Result<(), AllocError>
         requires { AreEnds I.unit (I.value radius) self.old.0 self.old.1 first.now last.now }
         ensures ok { OnOk result (Appends segments.old segments.new
-            (both_caps I.unit (I.value radius) self.old.0 self.old.1 false (own_edge first.now) (own_edge last.now))) }
+            (open_ends I.unit (I.value radius) Both self.old.0 self.old.1 (own_edge first.now) (own_edge last.now))) }
         ensures kept { take (length segments.old.items) segments.new.items ≡ segments.old.items }
         ensures room { DrawsDirectly self.old.0 → DrawsDirectly self.old.1 → HasRoomForEdges segments.old
-            (both_caps I.unit (I.value radius) self.old.0 self.old.1 false (own_edge first.now) (own_edge last.now))
+            (open_ends I.unit (I.value radius) Both self.old.0 self.old.1 (own_edge first.now) (own_edge last.now))
             → IsOk result }
         ensures capacity { vec_capacity segments.old ≤ vec_capacity segments.new }
         ensures same { self.new ≡ self.old }
@@ -67,6 +96,28 @@ impl<'a, I: IntNumber> BothCaps<'a, I> {
         self.start.add(&end_of(&before, first, radius), segments)?;
         self.end.add(&end_of(last, &after, radius), segments)
     }
+}
+
+/// Adds the straight ends of a half of an open path with these first and last sections.
+fn cut_off<I: IntNumber>(
+    first: &StrokeSection<I>,
+    last: &StrokeSection<I>,
+    side: StrokeSide,
+    segments: &mut Vec<Segment<I>>,
+) -> Result<(), AllocError>
+    ensures ok { (radius : ℤ) → IsMade I.unit radius first.now → IsMade I.unit radius last.now → OnOk result
+        (Appends segments.old segments.new
+        (half_ends I.unit radius side (own_edge first.now) (own_edge last.now))) }
+    ensures kept { take (length segments.old.items) segments.new.items ≡ segments.old.items }
+    ensures room { (radius : ℤ) → IsMade I.unit radius first.now → IsMade I.unit radius last.now
+        → HasRoomForEdges segments.old
+        (half_ends I.unit radius side (own_edge first.now) (own_edge last.now)) → IsOk result }
+    ensures capacity { vec_capacity segments.old ≤ vec_capacity segments.new }
+{
+    let first = first.on_side(side);
+    let last = last.on_side(side);
+    segments.push_non_degenerate(first.a_left, first.a_right)?;
+    segments.push_non_degenerate(last.b_right, last.b_left)
 }
 
 /// The end of a section; `back` is the section read backwards.

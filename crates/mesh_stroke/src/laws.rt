@@ -1,10 +1,12 @@
 //! Laws of strokes, of single paths and of many. Each function does nothing: its clause is the law.
 
+ghost use Rattle.mesh_stroke.specs.Halves.{HalvesMakeTheWhole};
 ghost use Rattle.mesh_stroke.specs.Reversal.{StrokesCanBeReversed};
 ghost use Rattle.mesh_stroke.specs.Laws.{StrokeEdgesAreBalanced, StrokesAreRegions};
 
-/// Reversing a path and exchanging its caps leaves the net count of every edge of its stroke, and so its winding at
-/// every point, for every join and cap, corners at which the path turns exactly back among them.
+/// Reversing a path and exchanging its caps leaves the net count of every edge of its stroke on both sides, and so its
+/// winding at every point, for every join and cap, corners at which the path turns exactly back among them. Of one half
+/// it is not said: such a corner has its join on the right, whichever way the path runs.
 pub fn strokes_can_be_reversed()
     ensures { StrokesCanBeReversed }
 {}
@@ -18,4 +20,10 @@ pub fn stroke_edges_are_balanced()
 /// its paths fill, and round no other; outside the boxes of edges that rounding bent, so do they of the edges as built.
 pub fn strokes_are_regions()
     ensures { StrokesAreRegions }
+{}
+
+/// At every point of every grid the windings of the left and the right half of a stroke add up to that of the whole with
+/// butt caps, for every path, width and join.
+pub fn halves_make_the_whole()
+    ensures { HalvesMakeTheWhole }
 {}

@@ -6,6 +6,9 @@
 //! (`cap`, `caps`), the builder goes along a path (`builder`), and the calls (`offset`) resolve what comes of all paths
 //! (`resolve`).
 //!
+//! A half (`StrokeSide`) is the whole with its other side moved onto the path: `right_end` and `left_end` say so, and a
+//! corner gives it the join or the edges through the vertex; `specs/Halves.antt` adds both halves up.
+//!
 //! A kind of cap is a variant of `IntLineCap` in `mesh_join`, a module of `cap`, a file of definitions, and lemmas that
 //! end in the record `KeepsEnds`, which is all that strokes know of a kind. `cap`, `specs/Caps.antt` and
 //! `proofs/CapKinds.antt` choose between the kinds. `specs/Ends.antt` says what an end is: a half turn, so a round cap is a

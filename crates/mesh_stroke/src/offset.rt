@@ -27,8 +27,8 @@ use std::alloc::Global;
 pub trait IntStrokeOffset<I: OverlayInt>: IntShapeResource<I> {
     /// Whether the source may be stroked in this style: `Ok` exactly where there is no point, or the bounds of all
     /// points, moved outwards by the style's padding on each side, are in the safe range, for every value of the
-    /// type and every custom cap; the padding counts the caps, whether the paths are closed or not. The only error is
-    /// `CoordinateOutOfRange`. It takes no memory.
+    /// type and every custom cap; the padding counts the caps, whether the paths are closed or not, but of a half the
+    /// joins alone. The only error is `CoordinateOutOfRange`. It takes no memory.
     fn validate_stroke(&self, style: &IntStrokeStyle<I>) -> Result<(), IntStrokeError>
         ensures safe { IsOk result
             ↔ ArePathsSafe I.unit (stroke_padding (stroke_style_of I.value style.now)) (Self.paths self.now) }

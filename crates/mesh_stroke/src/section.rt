@@ -5,9 +5,10 @@ ghost use Rattle.mesh_plane.specs.Bounds.{IsSafe};
 ghost use Rattle.mesh_plane.specs.Plane.{minus, right_quarter};
 ghost use Rattle.mesh_num.specs.Rectangle.{IsSafeWidened};
 ghost use Rattle.mesh_join.specs.Appending.{Appends, HasRoomForEdges};
-ghost use Rattle.mesh_stroke.specs.Private.Sections.{own_edge, section_of, IsMade};
+ghost use Rattle.mesh_stroke.specs.Private.Sections.{own_edge, on_side, section_of, IsMade};
 ghost use Rattle.mesh_stroke.specs.Strokes.{side_edges};
 
+use mesh_join::style::StrokeSide;
 use mesh_num::num::{IntNumber, IntPoint, IntVector, UnitIntVector, WideNumber};
 use mesh_num::shape::segment::{Segment, SubjectSegments};
 use std::alloc::AllocError;
@@ -82,17 +83,41 @@ impl<I: IntNumber> StrokeSection<I> {
         }
     }
 
-    /// Adds both sides: the right one as the edge runs, the left one back.
-    pub(crate) fn add(&self, segments: &mut Vec<Segment<I>>) -> Result<(), AllocError>
+    /// Adds both sides: the right one as the edge runs, the left one back. A half has the path on its other side.
+    pub(crate) fn add(
+        &self,
+        side: StrokeSide,
+        segments: &mut Vec<Segment<I>>,
+    ) -> Result<(), AllocError>
         ensures ok { (radius : ℤ) → IsMade I.unit radius self.now → OnOk result (Appends segments.old segments.new
-            (side_edges I.unit radius (own_edge self.now))) }
+            (side_edges I.unit radius side (own_edge self.now))) }
         ensures kept { take (length segments.old.items) segments.new.items ≡ segments.old.items }
         ensures room { (radius : ℤ) → IsMade I.unit radius self.now → HasRoomForEdges segments.old
-            (side_edges I.unit radius (own_edge self.now)) → IsOk result }
+            (side_edges I.unit radius side (own_edge self.now)) → IsOk result }
         ensures capacity { vec_capacity segments.old ≤ vec_capacity segments.new }
     {
-        segments.push_non_degenerate(self.a_right, self.b_right)?;
-        segments.push_non_degenerate(self.b_left, self.a_left)
+        let drawn = self.on_side(side);
+        segments.push_non_degenerate(drawn.a_right, drawn.b_right)?;
+        segments.push_non_degenerate(drawn.b_left, drawn.a_left)
+    }
+
+    /// The section with the side that is not drawn moved onto the path.
+    pub(crate) fn on_side(&self, side: StrokeSide) -> Self
+        ensures { result ≡ on_side side self.now }
+    {
+        match side {
+            StrokeSide::Both => *self,
+            StrokeSide::Left => StrokeSection {
+                a_right: self.a,
+                b_right: self.b,
+                ..*self
+            },
+            StrokeSide::Right => StrokeSection {
+                a_left: self.a,
+                b_left: self.b,
+                ..*self
+            },
+        }
     }
 }
 

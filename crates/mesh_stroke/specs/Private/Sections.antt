@@ -1,11 +1,13 @@
 -- Sections of a path and what is asked of them. Private contracts alone read these.
-use Rattle.std.specs.Prelude.{ℕ, ◌≡◌, ◌≢◌, ℤ, pos, ◌≤ℤ◌, unsigned_abs}
+use Rattle.std.specs.Prelude.{ℕ, ◌≡◌, ◌≢◌, List, ◌++◌, ℤ, pos, ◌≤ℤ◌, unsigned_abs}
 use Rattle.mesh_plane.specs.Plane.{Point, Edge}
 use Rattle.mesh_num.specs.Rectangle.{IsSafeWidened}
 use Rattle.mesh_join.specs.Joins.{join_padding}
 use Rattle.mesh_join.specs.Styles.{JoinStyle}
+use Rattle.mesh_join.specs.declared.style.StrokeSide.{StrokeSide}
+use Rattle.mesh_join.specs.declared.style.StrokeSide.TheVariants.{Both, Left, Right}
 use Rattle.mesh_stroke.specs.Caps.{CapKind, cap_padding}
-use Rattle.mesh_stroke.specs.Strokes.{heading, right_of, left_of}
+use Rattle.mesh_stroke.specs.Strokes.{EdgePair, heading, right_of, left_of, inner_edges, outer_edges}
 
 -- an edge of a path, its direction, and the points beside both of its ends
 pub record Section : Type 0 where
@@ -28,6 +30,24 @@ section_of unit radius e = record {
   b_left = left_of unit radius e e.1;
   b_right = right_of unit radius e e.1;
 }
+
+-- the section with the side that is not drawn moved onto the path
+abbrev pub on_side : StrokeSide → Section → Section
+on_side Both s = s
+on_side Left s = record s { a_right = s.a; b_right = s.b }
+on_side Right s = record s { a_left = s.a; b_left = s.b }
+
+-- the side that is drawn, seen from the other end
+abbrev pub opposite_side : StrokeSide → StrokeSide
+opposite_side Both = Both
+opposite_side Left = Right
+opposite_side Right = Left
+
+-- what is drawn on this side at a corner that does not turn to the right
+abbrev pub faced_edges : ℕ → ℤ → StrokeSide → JoinStyle → EdgePair → List Edge
+faced_edges unit radius Both join c = inner_edges unit radius c ++ outer_edges unit radius join c
+faced_edges unit radius Left join c = inner_edges unit radius c
+faced_edges unit radius Right join c = outer_edges unit radius join c
 
 -- its edge
 abbrev pub own_edge : Section → Edge

@@ -9,7 +9,7 @@ use Rattle.mesh_stroke.proofs.builder.draw_path.Given as goal
 
 abbrev pub invariant-loop-edge : goal.invariant-loop-edge
 invariant-loop-edge g l = record {
-  stands : Stands g.I.IntNumber.unit (style_with (g.I.IntNumber.value l.fn.radius) l.fn.join l.fn.caps) l.fn.closed (path_edges l.fn.closed l.fn.path)
+  stands : Stands g.I.IntNumber.unit (style_with (g.I.IntNumber.value l.fn.radius) l.fn.side l.fn.join l.fn.caps) l.fn.closed (path_edges l.fn.closed l.fn.path)
       l.fn.segments.items l.segments.items l.first l.previous l.edge-iterator;
   kept : Keeps l.fn.segments.items l.segments.items;
   room : vec_capacity l.fn.segments ≤ vec_capacity l.segments;

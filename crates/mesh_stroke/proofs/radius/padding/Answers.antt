@@ -2,14 +2,13 @@
 use Rattle.std.proofs.Common.{refl}
 use Rattle.mesh_stroke.proofs.radius.padding.Goals as goal
 
-pub returns-clause-value : goal.returns-clause-value
-returns-clause-value g c =
+pub returns-in-Both-clause-value : goal.returns-in-Both-clause-value
+returns-in-Both-clause-value g c =
     rw (
-      c.greater-2.ensures,
-      c.padding.ensures.value,
+      c.in-Both.is,
       c.greater.ensures,
-      c.padding-start.ensures,
-      c.padding-end.ensures,
+      c.caps_padding.ensures,
+      c.padding-joins.ensures.value,
       c.stroke_radius-radius.ensures.value,
     )
     refl

@@ -9,6 +9,7 @@ use Rattle.mesh_offset.proofs.Adding.{added_is}
 use Rattle.mesh_stroke.specs.Building.{HasDirectCaps}
 use Rattle.mesh_stroke.specs.Strokes.{stroke_edges}
 use Rattle.mesh_stroke.specs.Styles.{StrokeStyle}
+use Rattle.mesh_stroke.proofs.Halves.{halves_make_the_whole}
 use Rattle.mesh_stroke.proofs.Reversal.{adds_reversed}
 use Rattle.mesh_stroke.proofs.Promised.{are_stroked, adds_stroked}
 use Rattle.mesh_stroke.proofs.StrokeFew.{adds_few, few_are_direct, stroke_length}
@@ -71,4 +72,14 @@ returns-in-Err-clause-room_for_seven g c few short room =
     (subst (λ (style : StrokeStyle). n + length (stroke_edges g.I.IntNumber.unit style c.args.closed c.args.path.now) ≤ capacity) (sym c.self.view_is) fits)
 
 pub returns-clause-reversal : goal.returns-clause-reversal
-returns-clause-reversal g c = adds_reversed g.I.IntNumber.unit g.met.I.IntNumber.least_law c.args.self.now c.args.closed c.args.path.now _ _ (adds g c)
+returns-clause-reversal g c whole =
+    adds_reversed g.I.IntNumber.unit g.met.I.IntNumber.least_law c.args.self.now whole c.args.closed c.args.path.now _ _ (adds g c)
+
+-- both halves make the whole
+pub returns-in-Err-clause-halves : goal.returns-in-Err-clause-halves
+returns-in-Err-clause-halves g c =
+    halves_make_the_whole g.I.IntNumber.unit g.met.I.IntNumber.least_law c.args.self.now c.args.closed c.args.path.now
+
+pub returns-clause-halves : goal.returns-clause-halves
+returns-clause-halves g c =
+    halves_make_the_whole g.I.IntNumber.unit g.met.I.IntNumber.least_law c.args.self.now c.args.closed c.args.path.now

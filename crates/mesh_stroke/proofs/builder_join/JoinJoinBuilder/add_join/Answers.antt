@@ -25,10 +25,11 @@ add_facing-requires-clause-facing g c =
 pub returns-then-turns_right-clause-ok : goal.returns-then-turns_right-clause-ok
 returns-then-turns_right-clause-ok g c =
     on_ok_then c.add_facing.result c.add_facing.ensures.ok
-    (λ h. drawn_there g.I.IntNumber.unit (g.I.IntNumber.value c.args.radius) c.args.self.now c.args.previous.now c.args.next.now c.new-before.result c.new-after.result
+    (λ h. drawn_there g.I.IntNumber.unit (g.I.IntNumber.value c.args.radius) c.args.side c.args.self.now c.args.previous.now c.args.next.now c.new-before.result c.new-after.result
     c.args.segments.now.items c.add_facing.new.segments.items (c.turns_right.ensures.0 c.if-turns_right.true)
     (c.new-before.ensures ∙ ap (λ (s : Section). section_of g.I.IntNumber.unit (g.I.IntNumber.value c.args.radius) (s.b, s.a)) c.next.view_is)
-    (c.new-after.ensures ∙ ap (λ (s : Section). section_of g.I.IntNumber.unit (g.I.IntNumber.value c.args.radius) (s.b, s.a)) c.previous.view_is) h)
+    (c.new-after.ensures ∙ ap (λ (s : Section). section_of g.I.IntNumber.unit (g.I.IntNumber.value c.args.radius) (s.b, s.a)) c.previous.view_is)
+    (rw c.opposite.ensures at h))
 
 pub add_facing-requires-2-clause-facing : goal.add_facing-requires-2-clause-facing
 add_facing-requires-2-clause-facing g c =
@@ -37,14 +38,15 @@ add_facing-requires-2-clause-facing g c =
 pub returns-clause-ok : goal.returns-clause-ok
 returns-clause-ok g c =
     on_ok_then c.add_facing-2.result c.add_facing-2.ensures.ok
-    (λ h. drawn_here g.I.IntNumber.unit (g.I.IntNumber.value c.args.radius) c.args.self.now c.args.previous.now c.args.next.now
+    (λ h. drawn_here g.I.IntNumber.unit (g.I.IntNumber.value c.args.radius) c.args.side c.args.self.now c.args.previous.now c.args.next.now
     c.args.segments.now.items c.add_facing-2.new.segments.items
     (not_below c.turns_right.result (left_turn (own_edge c.args.previous.now, own_edge c.args.next.now)) c.turns_right.ensures c.if-turns_right.false) h)
 
 pub returns-then-turns_right-clause-room : goal.returns-then-turns_right-clause-room
 returns-then-turns_right-clause-room g c few room =
     c.add_facing.ensures.room few
-    (room_there g.I.IntNumber.unit (g.I.IntNumber.value c.args.radius) c.args.self.now
+    (rw c.opposite.ensures
+    (room_there g.I.IntNumber.unit (g.I.IntNumber.value c.args.radius) c.args.side c.args.self.now
     c.args.previous.now c.args.next.now c.new-before.result c.new-after.result
     (length c.args.segments.now.items) (vec_capacity c.args.segments.now)
     (c.turns_right.ensures.0 c.if-turns_right.true)
@@ -53,12 +55,12 @@ returns-then-turns_right-clause-room g c few room =
     (c.new-after.ensures
     ∙ ap (λ (s : Section). section_of g.I.IntNumber.unit (g.I.IntNumber.value c.args.radius) (s.b, s.a))
     c.previous.view_is)
-    room)
+    room))
 
 pub returns-clause-room : goal.returns-clause-room
 returns-clause-room g c few room =
     c.add_facing-2.ensures.room few
-    (room_here g.I.IntNumber.unit (g.I.IntNumber.value c.args.radius) c.args.self.now
+    (room_here g.I.IntNumber.unit (g.I.IntNumber.value c.args.radius) c.args.side c.args.self.now
     c.args.previous.now c.args.next.now (length c.args.segments.now.items) (vec_capacity c.args.segments.now)
     (not_below c.turns_right.result (left_turn (own_edge c.args.previous.now, own_edge c.args.next.now))
     c.turns_right.ensures c.if-turns_right.false)

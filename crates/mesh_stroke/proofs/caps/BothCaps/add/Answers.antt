@@ -1,10 +1,11 @@
 -- Both ends are as caps ask, and both caps were drawn.
-use Rattle.std.proofs.Common.{◌≡◌, ◌+◌, ◌≤◌, ◌^◌, ◌++◌, false, length, sym, subst, ◌∙◌, ap}
+use Rattle.std.proofs.Common.{◌≡◌, ◌+◌, ◌≤◌, ◌^◌, ◌++◌, length, sym, subst, ◌∙◌, ap}
 use Rattle.std.specs.Prelude.{vec_capacity}
 use Rattle.std.proofs.lemmas.Bool.{false≢true}
 use Rattle.mesh_num.specs.Rectangle.{IsSafeWidened}
 use Rattle.mesh_num.specs.Segments.{segments_of}
-use Rattle.mesh_stroke.specs.Strokes.{both_caps}
+use Rattle.mesh_join.specs.declared.style.StrokeSide.TheVariants.{Both}
+use Rattle.mesh_stroke.specs.Strokes.{open_ends}
 use Rattle.mesh_offset.proofs.Adding.{on_ok_then}
 use Rattle.mesh_stroke.specs.Caps.{CapKind, cap_padding, DrawsDirectly}
 use Rattle.mesh_stroke.specs.Private.Sections.{Section, section_of, own_edge}
@@ -34,7 +35,7 @@ returns-clause-ok g c =
     let before = c.new-before.ensures ∙ ap (λ (s : Section). section_of g.I.IntNumber.unit (g.I.IntNumber.value c.args.radius) (s.b, s.a)) c.first.view_is in
     on_ok_then c.add-2.result c.add-2.ensures.ok
     (λ h. subst (λ (k : CapKind × CapKind). c.add-2.new.segments.items ≡ c.args.segments.now.items ++ segments_of
-    (both_caps g.I.IntNumber.unit (g.I.IntNumber.value c.args.radius) k.0 k.1 false (own_edge c.args.first.now) (own_edge c.args.last.now))) c.self.view_is
+    (open_ends g.I.IntNumber.unit (g.I.IntNumber.value c.args.radius) Both k.0 k.1 (own_edge c.args.first.now) (own_edge c.args.last.now))) c.self.view_is
     (caps_drawn g.I.IntNumber.unit (g.I.IntNumber.value c.args.radius) c.self.inside.start c.self.inside.end c.args.first.now c.args.last.now c.new-before.result
     c.args.segments.now.items c.add.new.segments.items c.add-2.new.segments.items before
     (rw c.end_of.ensures at c.in_ok-add.ensures.ok) (rw c.end_of-2.ensures at h)))
@@ -47,7 +48,7 @@ returns-in_err-add-clause-room g c start_direct end_direct room =
     let whole =
     subst
     (λ (k : CapKind × CapKind). length c.args.segments.now.items
-    + length (segments_of (both_caps g.I.IntNumber.unit (g.I.IntNumber.value c.args.radius) k.0 k.1 false
+    + length (segments_of (open_ends g.I.IntNumber.unit (g.I.IntNumber.value c.args.radius) Both k.0 k.1
     (own_edge c.args.first.now) (own_edge c.args.last.now))) ≤ vec_capacity c.args.segments.now)
     (sym c.self.view_is) room in
     absurd (false≢true (c.in_err-add.ensures.room
@@ -65,7 +66,7 @@ returns-clause-room g c start_direct end_direct room =
     let whole =
     subst
     (λ (k : CapKind × CapKind). length c.args.segments.now.items
-    + length (segments_of (both_caps g.I.IntNumber.unit (g.I.IntNumber.value c.args.radius) k.0 k.1 false
+    + length (segments_of (open_ends g.I.IntNumber.unit (g.I.IntNumber.value c.args.radius) Both k.0 k.1
     (own_edge c.args.first.now) (own_edge c.args.last.now))) ≤ vec_capacity c.args.segments.now)
     (sym c.self.view_is) room in
     c.add-2.ensures.room

@@ -1,0 +1,32 @@
+-- Halves: what is drawn on the left of a path and what is drawn on its right make the whole stroke.
+use Rattle.std.specs.Prelude.{ℕ, ◌≤◌, ◌^◌, ◌≡◌, Bool, List, ◌+ℤ◌}
+use Rattle.mesh_plane.specs.Plane.{Point}
+use Rattle.mesh_plane.specs.Winding.{winding}
+use Rattle.mesh_join.specs.declared.style.StrokeSide.{StrokeSide}
+use Rattle.mesh_join.specs.declared.style.StrokeSide.TheVariants.{Both, Left, Right}
+use Rattle.mesh_stroke.specs.Caps.{CapKind}
+use Rattle.mesh_stroke.specs.Strokes.{stroke_edges}
+use Rattle.mesh_stroke.specs.Styles.{StrokeStyle}
+
+-- the style on this side alone
+abbrev pub half_style : StrokeSide → StrokeStyle → StrokeStyle
+half_style side style = record style { side = side }
+
+-- the style on both sides, with butt caps
+abbrev pub whole_style : StrokeStyle → StrokeStyle
+whole_style style = record style { side = Both; start = CapKind.Butt; end = CapKind.Butt }
+
+-- at each point of each grid the windings of the left and the right half of the stroke of the path through these points
+-- add up to that of the whole with butt caps
+abbrev pub HalvesAddUp : ℕ → StrokeStyle → Bool → List Point → Type 0
+HalvesAddUp unit style closed points =
+    (m : ℕ) (q : Point)
+    → winding m q (stroke_edges unit (half_style Left style) closed points)
+    +ℤ winding m q (stroke_edges unit (half_style Right style) closed points)
+    ≡ winding m q (stroke_edges unit (whole_style style) closed points)
+
+-- halves add up for every path, width, join and cap
+abbrev pub HalvesMakeTheWhole : Type 0
+HalvesMakeTheWhole =
+    (unit : ℕ) → 2 ^ 14 ≤ unit → (style : StrokeStyle) (closed : Bool) (points : List Point)
+    → HalvesAddUp unit style closed points
