@@ -7,6 +7,7 @@ use Rattle.serde_json.specs.View.{view, items_view}
 use Rattle.serde_json.specs.declared.value.Value.{Value}
 use Rattle.mesh_plane.specs.Plane.{Point}
 use Rattle.mesh_stroke.specs.Caps.{CapKind}
+use Rattle.mesh_join.specs.declared.style.StrokeSide.{StrokeSide}
 use Rattle.mesh_join.specs.Styles.{JoinStyle}
 use Rattle.mesh_stroke.specs.Styles.{StrokeStyle}
 use Rattle.mesh_request.specs.Reading.{both, pair_of, triple_of, vertex_with, coordinate_of, area_of, flag_of, choices_in, choices_with, cap_of, uncapped_in, stroke_style_in, stroke_style_with, stroke_of, stroke_with, paths_in}
@@ -58,7 +59,7 @@ pub choices_said : (unit : ℕ) (d : Data) (area : ℕ) (clockwise all : Bool) (
 choices_said unit d area clockwise all a b c e f g h k l =
     sym (ap (option_map choices_with) (three_some _ _ _ area clockwise all (ap (area_of unit) (sym e) ∙ sym h) (ap flag_of (sym f) ∙ sym k) (ap flag_of (sym g) ∙ sym l)))
 
-pub stroke_style_said : (unit : ℕ) (d : Data) (uncapped : ℤ × JoinStyle) (start end : CapKind) (a b : Option Data) → a ≡ get (codes "start") d → b ≡ get (codes "end") d →
+pub stroke_style_said : (unit : ℕ) (d : Data) (uncapped : ℤ × (StrokeSide × JoinStyle)) (start end : CapKind) (a b : Option Data) → a ≡ get (codes "start") d → b ≡ get (codes "end") d →
     Some uncapped ≡ uncapped_in unit d → cap_of unit a ≡ Some start → cap_of unit b ≡ Some end → stroke_style_in unit d ≡ Some (stroke_style_with (uncapped, (start, end)))
 stroke_style_said unit d uncapped start end a b f g h k l =
     ap (option_map stroke_style_with) (three_some _ _ _ uncapped start end (sym h) (ap (cap_of unit) (sym f) ∙ k) (ap (cap_of unit) (sym g) ∙ l))

@@ -15,6 +15,8 @@ use Rattle.mesh_join.specs.Styles.{JoinStyle, OutlineStyle}
 use Rattle.mesh_join.specs.VariableStyles.{Vertex, default_variable_style}
 use Rattle.mesh_join.specs.declared.style.IntLineJoin.{IntLineJoin}
 use Rattle.mesh_join.specs.declared.style.IntLineJoin.TheVariants.{Bevel, Miter, Round}
+use Rattle.mesh_join.specs.declared.style.StrokeSide.{StrokeSide}
+use Rattle.mesh_join.specs.declared.style.StrokeSide.TheVariants.{Both, Left, Right}
 use Rattle.mesh_stroke.specs.Caps.{CapKind}
 use Rattle.mesh_offset.specs.Radii.{radius_of}
 use Rattle.mesh_stroke.specs.Styles.{StrokeStyle}
@@ -207,22 +209,33 @@ cap_of unit (Some d) =
     else if has_key (codes "round") d then option_map CapKind.Round (round_options_of d)
     else custom_cap_of unit d
 
--- a join, the turn below which a miter is a bevel, and a width, as the width and the joins of a stroke
-abbrev pub uncapped_with : IntLineJoin × (ℕ × ℤ) → ℤ × JoinStyle
-uncapped_with said = (said.1.1, record { kind = said.0; min_turn = said.1.0 })
+-- the side of a path that a value names: "both", "left" or "right", both where there is none
+abbrev pub side_of : Option Data → Option StrokeSide
+side_of None = Some Both
+side_of (Some d) =
+    if is_word (codes "both") (as_str d) then Some Both
+    else if is_word (codes "left") (as_str d) then Some Left
+    else if is_word (codes "right") (as_str d) then Some Right
+    else None
 
--- the width and the joins of the strokes that an object gives
-abbrev pub uncapped_in : ℕ → Data → Option (ℤ × JoinStyle)
+-- a join, the turn below which a miter is a bevel, a side and a width, as the width, the side and the joins of a stroke
+abbrev pub uncapped_with : IntLineJoin × (ℕ × (StrokeSide × ℤ)) → ℤ × (StrokeSide × JoinStyle)
+uncapped_with said = (said.1.1.1, (said.1.1.0, record { kind = said.0; min_turn = said.1.0 }))
+
+-- the width, the side and the joins of the strokes that an object gives
+abbrev pub uncapped_in : ℕ → Data → Option (ℤ × (StrokeSide × JoinStyle))
 uncapped_in unit d =
     option_map uncapped_with
     (both (join_of (get (codes "join") d))
-    (both (min_turn_of (get (codes "min_turn") d)) (length_of unit (codes "width") d)))
+    (both (min_turn_of (get (codes "min_turn") d))
+    (both (side_of (get (codes "side") d)) (length_of unit (codes "width") d))))
 
--- a width and joins, and the caps at the start and the end, as a style
-abbrev pub stroke_style_with : (ℤ × JoinStyle) × (CapKind × CapKind) → StrokeStyle
+-- a width, a side and joins, and the caps at the start and the end, as a style
+abbrev pub stroke_style_with : (ℤ × (StrokeSide × JoinStyle)) × (CapKind × CapKind) → StrokeStyle
 stroke_style_with said = record {
   radius = radius_of said.0.0;
-  join = said.0.1;
+  side = said.0.1.0;
+  join = said.0.1.1;
   start = said.1.0;
   end = said.1.1;
 }

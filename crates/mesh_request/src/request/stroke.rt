@@ -3,17 +3,18 @@
 ghost use Rattle.std.specs.Prelude.{◌≡◌, Some, None, MatchResult, option_map, option_and_then};
 ghost use Rattle.serde_json.specs.View.{view};
 ghost use Rattle.mesh_stroke.specs.Styles.{stroke_style_of};
-ghost use Rattle.mesh_request.specs.Reading.{stroke_of, stroke_style_in, uncapped_in, IsOfReading};
+ghost use Rattle.mesh_request.specs.Reading.{side_of, stroke_of, stroke_style_in, uncapped_in, IsOfReading};
 ghost use Rattle.mesh_request.specs.Private.Uncapped.{uncapped_of};
 ghost use Rattle.mesh_request.specs.Requests.{drawn_stroke};
 
 use crate::drawing::Stroke;
 use crate::failure::Failure;
+use crate::json::is_text;
 use crate::options::flag;
 use crate::request::caps::line_cap;
 use crate::request::joins::{line_join, min_turn};
 use crate::request::paths::{length, read_paths};
-use mesh_join::style::IntStrokeStyle;
+use mesh_join::style::{IntStrokeStyle, StrokeSide};
 use mesh_num::num::OverlayInt;
 use serde_json::Value;
 use std::alloc::Global;
@@ -60,10 +61,31 @@ fn uncapped_style<I: OverlayInt>(style: &Value) -> Option<IntStrokeStyle<I>>
 {
     let join = line_join(style.get("join"))?;
     let turn = min_turn(style.get("min_turn"))?;
+    let side = stroke_side(style.get("side"))?;
     let width = length(style, "width")?;
     Some(
         IntStrokeStyle::new(width)
             .line_join(join)
-            .miter_min_turn(turn),
+            .miter_min_turn(turn)
+            .side(side),
     )
+}
+
+/// The side of a path that a value names, both sides where there is none.
+fn stroke_side(value: Option<&Value>) -> Option<StrokeSide>
+    ensures { result ≡ side_of (option_map (λ v. view v.now) value.entry) }
+{
+    let Some(value) = value else {
+        return Some(StrokeSide::Both);
+    };
+    if is_text(value, "both") {
+        return Some(StrokeSide::Both);
+    }
+    if is_text(value, "left") {
+        return Some(StrokeSide::Left);
+    }
+    if is_text(value, "right") {
+        return Some(StrokeSide::Right);
+    }
+    None
 }
