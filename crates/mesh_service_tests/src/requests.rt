@@ -7,6 +7,7 @@ use crate::tables::round::{ROUND, ROUND_REFUSED, ROUND_UNREADABLE};
 use crate::tables::shapes::SHAPES;
 use crate::tables::stroke_failures::{STROKES_REFUSED, STROKES_UNREADABLE};
 use crate::tables::stroke_shapes::{STROKE_EXAMPLES, STROKE_SHAPES};
+use crate::tables::stroke_sides::STROKE_SIDES;
 use crate::tables::strokes::{STROKE_CORNERS, STROKES};
 use crate::tables::unreadable::UNREADABLE;
 use crate::tables::variable_stroke_failures::{
@@ -93,6 +94,11 @@ fn not_answered(rt: HostRuntime) -> Result<(), Fail> {
 fn strokes_answered(rt: HostRuntime) -> Result<(), Fail> {
     expect_answered(rt.alloc(), STROKES)?;
     expect_answered(rt.alloc(), STROKE_CORNERS)
+}
+
+#[test]
+fn stroke_sides_answered(rt: HostRuntime) -> Result<(), Fail> {
+    expect_answered(rt.alloc(), STROKE_SIDES)
 }
 
 #[test]

@@ -7,6 +7,7 @@ pub mod round;
 pub mod shapes;
 pub mod stroke_failures;
 pub mod stroke_shapes;
+pub mod stroke_sides;
 pub mod strokes;
 pub mod unreadable;
 pub mod variable_stroke_failures;

@@ -10,6 +10,8 @@ mod collapsed;
 #[cfg(test)]
 mod drawn;
 #[cfg(test)]
+mod halves;
+#[cfg(test)]
 mod pieces;
 #[cfg(test)]
 mod reversal;

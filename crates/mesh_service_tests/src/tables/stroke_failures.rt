@@ -71,6 +71,20 @@ pub const STROKES_UNREADABLE: &[&str] = &[
     r#"{"op":"stroke","int":"i32","out":"edges","paths":[[[0,0]]],"style":{"width":1,"join":"butt"}}"#,
     r#"{"op":"stroke","int":"i32","out":"edges","paths":[[[0,0]]],"style":{"width":1,"min_turn":-1}}"#,
     r#"{"op":"stroke","int":"i32","out":"edges","paths":[[[0,0]]],"style":{"width":1,"min_turn":null}}"#,
+    // sides that are none
+    r#"{"op":"stroke","int":"i32","out":"edges","paths":[[[0,0]]],"style":{"width":1,"side":"Left"}}"#,
+    r#"{"op":"stroke","int":"i32","out":"edges","paths":[[[0,0]]],"style":{"width":1,"side":"l"}}"#,
+    r#"{"op":"stroke","int":"i32","out":"edges","paths":[[[0,0]]],"style":{"width":1,"side":""}}"#,
+    r#"{"op":"stroke","int":"i32","out":"edges","paths":[[[0,0]]],"style":{"width":1,"side":null}}"#,
+    r#"{"op":"stroke","int":"i32","out":"edges","paths":[[[0,0]]],"style":{"width":1,"side":1}}"#,
+    r#"{"op":"stroke","int":"i32","out":"edges","paths":[[[0,0]]],"style":{"width":1,"side":true}}"#,
+    r#"{"op":"stroke","int":"i32","out":"edges","paths":[[[0,0]]],"style":{"width":1,"side":[]}}"#,
+    r#"{"op":"stroke","int":"i32","out":"edges","paths":[[[0,0]]],"style":{"width":1,"side":{}}}"#,
+    r#"{"op":"stroke","int":"i32","out":"edges","paths":[[[0,0]]],"style":{"width":1,"side":["left"]}}"#,
+    r#"{"op":"stroke","int":"i32","out":"edges","paths":[[[0,0]]],"style":{"width":1,"side":{"left":1}}}"#,
+    r#"{"op":"stroke","int":"i32","out":"edges","paths":[[[0,0]]],"style":{"width":1,"side":"leftright"}}"#,
+    // a half's caps are read too
+    r#"{"op":"stroke","int":"i32","out":"edges","paths":[[[0,0]]],"style":{"width":1,"side":"left","start":"bevel"}}"#,
     // caps that are none, at either end, of closed paths too
     r#"{"op":"stroke","int":"i32","out":"edges","paths":[[[0,0]]],"style":{"width":1,"start":null}}"#,
     r#"{"op":"stroke","int":"i32","out":"edges","paths":[[[0,0]]],"style":{"width":1,"start":1}}"#,
