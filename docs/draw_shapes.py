@@ -59,7 +59,9 @@ def caption_of(request, is_outline, is_closed):
         if join is not None:
             caption += f", {join_name(join)}"
     else:
-        caption = "closed" if is_closed else caps_name(style)
+        side = style.get("side", "both")
+        ends = "closed" if is_closed else caps_name(style)
+        caption = ends if side == "both" else f"{side} half"
         caption += f"; joins: {join_name(join or 'bevel')}"
     return caption
 
