@@ -1,7 +1,9 @@
 //! The setters of a style.
 
 use mesh_join::arc::ArcOptions;
-use mesh_join::style::{DEFAULT_MITER_MIN_TURN, IntLineCap, IntLineJoin, IntStrokeStyle, MathMode};
+use mesh_join::style::{
+    DEFAULT_MITER_MIN_TURN, IntLineCap, IntLineJoin, IntStrokeStyle, MathMode, StrokeSide,
+};
 use mesh_num::num::Angle;
 
 /// Whether the style has this width, joins, slightest turn, and butt caps at these ends.
@@ -48,4 +50,32 @@ fn setters_of_a_style(rt: HostRuntime) {
         .miter_min_turn(Angle::from_bits(u32::MAX))
         .math(MathMode::Integer);
     assert!(rt; is_style(&turned, 7, IntLineJoin::Bevel, u32::MAX, (true, false)));
+}
+
+#[test]
+fn sides_of_a_style(rt: HostRuntime) {
+    let plain = IntStrokeStyle::new(7);
+    assert!(rt; plain.side == StrokeSide::Both && plain.side == StrokeSide::default());
+    let left = plain.side(StrokeSide::Left).start_cap(IntLineCap::Square);
+    assert!(rt; left.side == StrokeSide::Left);
+    assert!(rt;
+        is_style(
+            &left,
+            7,
+            IntLineJoin::Bevel,
+            DEFAULT_MITER_MIN_TURN,
+            (false, true)
+        )
+    );
+    let right = left.side(StrokeSide::Right);
+    assert!(rt; right.side == StrokeSide::Right);
+    assert!(rt;
+        is_style(
+            &right,
+            7,
+            IntLineJoin::Bevel,
+            DEFAULT_MITER_MIN_TURN,
+            (false, true)
+        )
+    );
 }
