@@ -25,6 +25,65 @@ use Rattle.mesh_plane.proofs.ClosedLists.{all_flat_map, all_left, all_right, bou
 boundary_safe : (unit : ℕ) (es bs : List Edge) (fill : ℤ → Bool) → IsBoundary es fill bs → AreEdgesSafe unit es → AreEdgesSafe unit bs
 boundary_safe unit es bs fill is h = all_occurs (IsSafeEdge unit) bs (λ (e : Edge) (o : occurs e bs ≡ true). occurs_safe unit es h e (boundary_cover es bs fill is e o))
 
+-- ---- rings, shapes and answers: `C` holds of contours, whichever way they run
+
+module _ (C : List Point → Type 0) (turned : (c : List Point) → C c → C (reversed c)) where
+  abbrev OfRing : Ring → Type 0
+  OfRing r = C r.0
+
+  abbrev OfPlaced : Placed → Type 0
+  OfPlaced h = C h.1.0
+
+  ring_contours : (all : Bool) (cs : List (List Point)) → All (λ (c : List Point). C (vertices all c)) cs → All OfRing (map (ring_of all) cs)
+  ring_contours all [] h = All-nil OfRing
+  ring_contours all (c ∷ cs) h =
+      All-cons OfRing (ring_of all c) (map (ring_of all) cs) (All-head (λ (d : List Point). C (vertices all d)) c cs h)
+      (ring_contours all cs (All-tail (λ (d : List Point). C (vertices all d)) c cs h))
+
+  placed_contours : (i : ℕ) (rs : List Ring) → All OfRing rs → All OfPlaced (enumerate_from i rs)
+  placed_contours i [] h = All-nil OfPlaced
+  placed_contours i (r ∷ rs) h = All-cons OfPlaced (i, r) (enumerate_from (i + 1) rs) (All-head OfRing r rs h) (placed_contours (i + 1) rs (All-tail OfRing r rs h))
+
+  answered_contour : (cw : Bool) (r : Ring) → C r.0 → C (answered cw r)
+  answered_contour true r h = turned r.0 h
+  answered_contour false r h = h
+
+  answered_all : (cw : Bool) (rs : List Ring) → All OfRing rs → All C (map (answered cw) rs)
+  answered_all cw [] h = All-nil C
+  answered_all cw (r ∷ rs) h =
+      All-cons C (answered cw r) (map (answered cw) rs) (answered_contour cw r (All-head OfRing r rs h)) (answered_all cw rs (All-tail OfRing r rs h))
+
+  of_placed : (hs : List Placed) → All OfPlaced hs → All OfRing (map (λ (r : Placed). r.1) hs)
+  of_placed [] h = All-nil OfRing
+  of_placed (r ∷ hs) h = All-cons OfRing r.1 (map (λ (r : Placed). r.1) hs) (All-head OfPlaced r hs h) (of_placed hs (All-tail OfPlaced r hs h))
+
+  one_shape : (rs : List Placed) (h : Placed) → All OfPlaced rs → OfPlaced h → All OfRing (shape_of rs h)
+  one_shape rs h all own =
+      let p : Placed → Bool = λ (r : Placed). not (is_head rs r) && stands_with rs h r in
+      All-cons OfRing h.1 (map (λ (r : Placed). r.1) (filter p rs)) own (of_placed (filter p rs) (All-filter p OfPlaced rs all))
+
+  some_shapes : (cw : Bool) (rs hs : List Placed) → All OfPlaced rs → All OfPlaced hs → All (All C) (map (map (answered cw)) (map (shape_of rs) hs))
+  some_shapes cw rs [] all h = All-nil (All C)
+  some_shapes cw rs (k ∷ hs) all h =
+      All-cons (All C) (map (answered cw) (shape_of rs k)) (map (map (answered cw)) (map (shape_of rs) hs))
+      (answered_all cw (shape_of rs k) (one_shape rs k all (All-head OfPlaced k hs h)))
+      (some_shapes cw rs hs all (All-tail OfPlaced k hs h))
+
+  arranged_all : (cw : Bool) (rs : List Ring) (answer : List (List (List Point))) → AreArranged cw rs answer → All OfRing rs → All (All C) answer
+  arranged_all cw rs answer a h =
+      let all : All OfPlaced (enumerate_from 0 a.sorted) = placed_contours 0 a.sorted (All-permutation OfRing rs a.sorted a.same h) in
+      subst (λ (l : List (List (List Point))). All (All C) l) (sym a.shapes)
+      (some_shapes cw (enumerate_from 0 a.sorted) (filter (is_head (enumerate_from 0 a.sorted)) (enumerate_from 0 a.sorted)) all
+      (All-filter (is_head (enumerate_from 0 a.sorted)) OfPlaced (enumerate_from 0 a.sorted) all))
+
+  -- what holds of the answered vertices of each contour of a resolution holds of each contour of the answer
+  pub answer_contours : (edges : List Edge) (fill : ℤ → Bool) (options : Choices) (answer : List (List (List Point))) → (r : IsResolution edges fill options answer) →
+      All (λ (c : List Point). C (vertices options.all_vertices c)) r.contours → All (All C) answer
+  answer_contours edges fill options answer r h =
+      let rings : List Ring = map (ring_of options.all_vertices) r.contours in
+      arranged_all options.clockwise (filter (is_large options.least_area) rings) answer r.arranged
+      (All-filter (is_large options.least_area) OfRing rings (ring_contours options.all_vertices r.contours h))
+
 -- ---- points of closed contours, where `P` holds of each edge's start
 
 module _ (P : Point → Type 0) where
@@ -40,11 +99,6 @@ module _ (P : Point → Type 0) where
   contour_points [] h = All-nil P
   contour_points (p ∷ xs) h = route_points p p xs h
 
-  contours_points : (cs : List (List Point)) → All Starts (flat_map boundary cs) → All (All P) cs
-  contours_points [] h = All-nil (All P)
-  contours_points (c ∷ cs) h =
-      All-cons (All P) c cs (contour_points c (all_left Starts (boundary c) (flat_map boundary cs) h)) (contours_points cs (all_right Starts (boundary c) (flat_map boundary cs) h))
-
   corner_points : (a z : Point) (xs : List Point) → All P xs → All P (turning_points a xs z)
   corner_points a z [] h = h
   corner_points a z (x ∷ xs) h = by (turns_at a x (first_or z xs)) (corner_points x z xs (All-tail P x xs h))
@@ -59,66 +113,23 @@ module _ (P : Point → Type 0) where
   vertex_points true (p ∷ xs) h = h
   vertex_points false (p ∷ xs) h = All-cons P p (turning_points p xs p) (All-head P p xs h) (corner_points p p xs (All-tail P p xs h))
 
-  -- ---- rings, shapes and answers
-  abbrev OfRing : Ring → Type 0
-  OfRing r = All P r.0
-
-  abbrev OfPlaced : Placed → Type 0
-  OfPlaced h = All P h.1.0
-
-  ring_points : (all : Bool) (cs : List (List Point)) → All (All P) cs → All OfRing (map (ring_of all) cs)
-  ring_points all [] h = All-nil OfRing
-  ring_points all (c ∷ cs) h =
-      All-cons OfRing (ring_of all c) (map (ring_of all) cs) (vertex_points all c (All-head (All P) c cs h)) (ring_points all cs (All-tail (All P) c cs h))
-
-  placed_points : (i : ℕ) (rs : List Ring) → All OfRing rs → All OfPlaced (enumerate_from i rs)
-  placed_points i [] h = All-nil OfPlaced
-  placed_points i (r ∷ rs) h = All-cons OfPlaced (i, r) (enumerate_from (i + 1) rs) (All-head OfRing r rs h) (placed_points (i + 1) rs (All-tail OfRing r rs h))
+  vertices_points : (all : Bool) (cs : List (List Point)) → All Starts (flat_map boundary cs) → All (λ (c : List Point). All P (vertices all c)) cs
+  vertices_points all [] h = All-nil (λ (c : List Point). All P (vertices all c))
+  vertices_points all (c ∷ cs) h =
+      All-cons (λ (d : List Point). All P (vertices all d)) c cs
+      (vertex_points all c (contour_points c (all_left Starts (boundary c) (flat_map boundary cs) h)))
+      (vertices_points all cs (all_right Starts (boundary c) (flat_map boundary cs) h))
 
   reversed_points : (ps : List Point) → All P ps → All P (reversed ps)
   reversed_points [] h = h
   reversed_points (p ∷ ps) h =
       All-cons P p (reverse ps) (All-head P p ps h) (All-permutation P ps (reverse ps) (IsPermutation-reverse ps) (All-tail P p ps h))
 
-  answered_points : (cw : Bool) (r : Ring) → All P r.0 → All P (answered cw r)
-  answered_points true r h = reversed_points r.0 h
-  answered_points false r h = h
-
-  answered_all : (cw : Bool) (rs : List Ring) → All OfRing rs → All (All P) (map (answered cw) rs)
-  answered_all cw [] h = All-nil (All P)
-  answered_all cw (r ∷ rs) h =
-      All-cons (All P) (answered cw r) (map (answered cw) rs) (answered_points cw r (All-head OfRing r rs h)) (answered_all cw rs (All-tail OfRing r rs h))
-
-  of_placed : (hs : List Placed) → All OfPlaced hs → All OfRing (map (λ (r : Placed). r.1) hs)
-  of_placed [] h = All-nil OfRing
-  of_placed (r ∷ hs) h = All-cons OfRing r.1 (map (λ (r : Placed). r.1) hs) (All-head OfPlaced r hs h) (of_placed hs (All-tail OfPlaced r hs h))
-
-  one_shape : (rs : List Placed) (h : Placed) → All OfPlaced rs → OfPlaced h → All OfRing (shape_of rs h)
-  one_shape rs h all own =
-      let p : Placed → Bool = λ (r : Placed). not (is_head rs r) && stands_with rs h r in
-      All-cons OfRing h.1 (map (λ (r : Placed). r.1) (filter p rs)) own (of_placed (filter p rs) (All-filter p OfPlaced rs all))
-
-  some_shapes : (cw : Bool) (rs hs : List Placed) → All OfPlaced rs → All OfPlaced hs → All (All (All P)) (map (map (answered cw)) (map (shape_of rs) hs))
-  some_shapes cw rs [] all h = All-nil (All (All P))
-  some_shapes cw rs (k ∷ hs) all h =
-      All-cons (All (All P)) (map (answered cw) (shape_of rs k)) (map (map (answered cw)) (map (shape_of rs) hs))
-      (answered_all cw (shape_of rs k) (one_shape rs k all (All-head OfPlaced k hs h)))
-      (some_shapes cw rs hs all (All-tail OfPlaced k hs h))
-
-  arranged_points : (cw : Bool) (rs : List Ring) (answer : List (List (List Point))) → AreArranged cw rs answer → All OfRing rs → All (All (All P)) answer
-  arranged_points cw rs answer a h =
-      let all : All OfPlaced (enumerate_from 0 a.sorted) = placed_points 0 a.sorted (All-permutation OfRing rs a.sorted a.same h) in
-      subst (λ (l : List (List (List Point))). All (All (All P)) l) (sym a.shapes)
-      (some_shapes cw (enumerate_from 0 a.sorted) (filter (is_head (enumerate_from 0 a.sorted)) (enumerate_from 0 a.sorted)) all
-      (All-filter (is_head (enumerate_from 0 a.sorted)) OfPlaced (enumerate_from 0 a.sorted) all))
-
   -- what holds of the start of each edge of the contours holds of each point of the answer
   pub answer_points : (edges : List Edge) (fill : ℤ → Bool) (options : Choices) (answer : List (List (List Point))) → (r : IsResolution edges fill options answer) →
       All Starts (flat_map boundary r.contours) → All (All (All P)) answer
   answer_points edges fill options answer r h =
-      let rings : List Ring = map (ring_of options.all_vertices) r.contours in
-      arranged_points options.clockwise (filter (is_large options.least_area) rings) answer r.arranged
-      (All-filter (is_large options.least_area) OfRing rings (ring_points options.all_vertices r.contours (contours_points r.contours h)))
+      answer_contours (All P) reversed_points edges fill options answer r (vertices_points options.all_vertices r.contours h)
 
 starts_safe : (unit : ℕ) (es : List Edge) → AreEdgesSafe unit es → All (λ (e : Edge). IsSafe unit e.0) es
 starts_safe unit [] h = All-nil (λ (e : Edge). IsSafe unit e.0)

@@ -1,9 +1,13 @@
+pub mod Again
 pub mod AnswerPoints
 pub mod AnswerRegions
 pub mod Asking
+pub mod Covered
+pub mod EdgeParts
 pub mod LatticeContours
 pub mod MergedContours
 pub mod Merging
+pub mod NoBend
 pub mod NoShapes
 pub mod OwnBoundary
 pub mod OwnSides
