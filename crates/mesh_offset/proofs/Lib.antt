@@ -6,6 +6,7 @@ pub mod Padding
 pub mod PaddingBounds
 pub mod ProperEdges
 pub mod Quarters
+pub mod Regions
 pub mod Resolving
 pub mod Staying
 pub mod Walks

@@ -4,5 +4,6 @@ pub mod Padding
 pub mod Pieces
 pub mod Private
 pub mod Radii
+pub mod Regions
 pub mod Staying
 pub mod Walks
