@@ -3,6 +3,7 @@ pub mod Near
 pub mod Orders
 pub mod Promised
 pub mod Reach
+pub mod Regions
 pub mod Resolving
 pub mod Safe
 pub mod Stepping

@@ -1,4 +1,4 @@
--- Lemmas over points and lists: the edges of the strokes of many paths are closed and safe, and fill regions.
+-- Lemmas over points and lists: the edges of the strokes of many paths are closed and safe.
 use Rattle.std.proofs.Common.{◌≡◌, ℕ, ◌≤◌, ◌^◌, List, get_or}
 use Rattle.std.specs.List.{All}
 use Rattle.std.specs.List.Sorted.{IsPermutation}
@@ -7,20 +7,16 @@ use Rattle.mesh_plane.specs.Plane.{Point, Edge}
 use Rattle.mesh_plane.specs.Winding.{IsBalanced}
 use Rattle.mesh_num.specs.Segments.{SignedEdge}
 use Rattle.mesh_lattice.specs.Clean.{IsProper}
-use Rattle.mesh_lattice.specs.FillRules.{filled}
 use Rattle.mesh_lattice.specs.Reach.{AreEdgesSafe}
-use Rattle.mesh_lattice.specs.declared.fill.FillRule.TheVariants.{Positive}
-use Rattle.mesh_shapes.specs.Resolution.{Choices}
 use Rattle.mesh_below.specs.Asked.{AreResolvable}
-use Rattle.mesh_below.specs.Laws.{AreRegions}
 use Rattle.mesh_arc.specs.declared.arc.ArcOptions.{ArcOptions}
 use Rattle.mesh_join.specs.VariableStyles.{Vertex}
 use Rattle.mesh_offset.specs.Private.Built.{AreBuilt}
-use Rattle.mesh_offset.proofs.ManyPaths.{built_stays_safe, built_resolvable, built_closed, built_regions}
+use Rattle.mesh_offset.proofs.ManyPaths.{built_stays_safe, built_resolvable, built_closed}
 use Rattle.mesh_variable_stroke.specs.Drawn.{AreVariablyStroked}
 use Rattle.mesh_variable_stroke.specs.VariableStrokes.{variable_stroke_edges}
 use Rattle.mesh_variable_stroke.proofs.Promised.{are_variably_stroked, variable_balanced, variable_proper}
-use Rattle.mesh_variable_stroke.specs.Resolved.{all_edges, IsVariableStroke, HavePromisedEdges}
+use Rattle.mesh_variable_stroke.specs.Resolved.{all_edges, HavePromisedEdges}
 use Rattle.mesh_variable_stroke.specs.Staying.{StaysSafe}
 use Rattle.mesh_variable_stroke.specs.Strokable.{ArePathsStrokable}
 use Rattle.mesh_variable_stroke.proofs.Reach.{each_strokable}
@@ -59,11 +55,3 @@ module _ (unit : ℕ) (options : ArcOptions) where
       → IsPermutation built (all_edges unit options paths) → IsProper built × IsBalanced built
   stroke_closed =
       built_closed (variable_stroke_edges unit options) (variable_proper unit options) (variable_balanced unit options)
-
-  -- so strokes are made of regions
-  pub stroke_regions : (choices : Choices) (paths : List (List Vertex)) (answer : List (List (List Point)))
-      → (stroke : IsVariableStroke unit options choices paths answer)
-      → (made : AreRegions stroke.built (filled Positive) choices answer) × (made.resolution ≡ stroke.resolution)
-  stroke_regions choices paths answer stroke =
-      built_regions (variable_stroke_edges unit options) (variable_proper unit options) (variable_balanced unit options)
-      Positive choices paths answer stroke.built stroke.same stroke.resolution

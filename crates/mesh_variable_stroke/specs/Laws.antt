@@ -5,12 +5,10 @@ use Rattle.std.specs.List.Sorted.{IsPermutation}
 use Rattle.mesh_plane.specs.Plane.{Point, Edge}
 use Rattle.mesh_plane.specs.Winding.{IsBalanced}
 use Rattle.mesh_lattice.specs.Clean.{IsProper}
-use Rattle.mesh_lattice.specs.FillRules.{filled}
-use Rattle.mesh_lattice.specs.declared.fill.FillRule.TheVariants.{Positive}
 use Rattle.mesh_shapes.specs.Resolution.{Choices}
-use Rattle.mesh_below.specs.Laws.{AreRegions}
 use Rattle.mesh_arc.specs.declared.arc.ArcOptions.{ArcOptions}
 use Rattle.mesh_join.specs.VariableStyles.{Vertex}
+use Rattle.mesh_variable_stroke.specs.Regions.{AreVariableStrokeRegions}
 use Rattle.mesh_variable_stroke.specs.Resolved.{all_edges, IsVariableStroke}
 
 -- the edges of the strokes of all paths are balanced, and none of them ends where it starts, in whatever order they
@@ -20,10 +18,9 @@ VariableStrokeEdgesAreBalanced =
     (unit : ℕ) (options : ArcOptions) (paths : List (List Vertex)) (built : List Edge)
     → IsPermutation built (all_edges unit options paths) → IsProper built × IsBalanced built
 
--- so each stroke is made of regions: the contours of its resolution wind once round what these edges fill when they are
--- split, and round no other point; outside the boxes of edges that rounding bent, round what they fill as built
+-- each answer that is a stroke is made of regions
 abbrev pub VariableStrokesAreRegions : Type 0
 VariableStrokesAreRegions =
     (unit : ℕ) (options : ArcOptions) (choices : Choices) (paths : List (List Vertex))
     (answer : List (List (List Point))) → (stroke : IsVariableStroke unit options choices paths answer)
-    → (made : AreRegions stroke.built (filled Positive) choices answer) × (made.resolution ≡ stroke.resolution)
+    → (made : AreVariableStrokeRegions unit options choices paths answer) × (made.stroke ≡ stroke)

@@ -9,9 +9,8 @@ pub fn variable_stroke_edges_are_balanced()
     ensures { VariableStrokeEdgesAreBalanced }
 {}
 
-/// A stroke of variable width is made of regions: the contours of its resolution wind once round each point that the
-/// split edges of all its paths fill, and round no other; outside the boxes of edges that rounding bent, so do they of
-/// the edges as built.
+/// A stroke of variable width is made of regions: outside the boxes of edges that rounding bent it winds once round each
+/// point where the windings of the pieces of all paths add up to more than 0, and round no other.
 pub fn variable_strokes_are_regions()
     ensures { VariableStrokesAreRegions }
 {}

@@ -1,5 +1,5 @@
--- The winding of the contours of a stroke.
-use Rattle.mesh_variable_stroke.proofs.Resolving.{stroke_regions}
+-- Strokes are regions.
+use Rattle.mesh_variable_stroke.proofs.Regions.{stroke_regions}
 use Rattle.mesh_variable_stroke.proofs.laws.variable_strokes_are_regions.Goals as goal
 
 pub returns : goal.returns

@@ -1,5 +1,8 @@
 -- What is promised of the edges of each path.
 use Rattle.mesh_variable_stroke.proofs.Resolving.{promised}
+use Rattle.mesh_num.specs.Segments.{edges_of}
+use Rattle.mesh_below.specs.Options.{choices_of}
+use Rattle.mesh_variable_stroke.proofs.Regions.{stroke_regions}
 use Rattle.mesh_variable_stroke.proofs.offset.IntVariableStrokeOffset.variable_stroke_custom_into.Goals as goal
 
 pub returns-in_err-drawn-clause-built : goal.returns-in_err-drawn-clause-built
@@ -13,3 +16,17 @@ returns-in_err-overlay_into-clause-built g c =
 pub returns-clause-built : goal.returns-clause-built
 returns-clause-built g c =
     promised g.I.IntNumber.unit c.args.style.arc (g.Self.IntVariableStrokeSource.paths c.args.self.now) g.met.I.IntNumber.least_law c.requires
+
+pub returns-clause-regions : goal.returns-clause-regions
+returns-clause-regions g c =
+    let r = c.in_ok-overlay_into.ensures.resolution in (
+      r.0,
+      (stroke_regions g.I.IntNumber.unit c.args.style.arc (choices_of g.I.WideUInt.WideUnsigned.value c.args.options)
+          (g.Self.IntVariableStrokeSource.paths c.args.self.now) r.0
+          (record {
+            built = edges_of c.in_ok-drawn.drawn.segments.items;
+            same = c.in_ok-drawn.ensures.built.same;
+            resolution = rw c.in_ok-drawn.ensures.options at r.1;
+          })).0,
+      r.3,
+    )

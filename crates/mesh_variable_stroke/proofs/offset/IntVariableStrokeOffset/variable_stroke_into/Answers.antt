@@ -3,3 +3,6 @@ use Rattle.mesh_variable_stroke.proofs.offset.IntVariableStrokeOffset.variable_s
 
 pub returns-clause-err : goal.returns-clause-err
 returns-clause-err g c = c.variable_stroke_custom_into.ensures.err
+
+pub returns-clause-regions : goal.returns-clause-regions
+returns-clause-regions g c = rw c.new.ensures at c.variable_stroke_custom_into.ensures.regions

@@ -1,0 +1,44 @@
+-- Lemmas over points and lists: strokes of variable width are regions.
+use Rattle.std.proofs.Common.{◌≡◌, ℕ, List, refl}
+use Rattle.mesh_plane.specs.Plane.{Point}
+use Rattle.mesh_plane.specs.Winding.{crossing_on}
+use Rattle.mesh_plane.proofs.Crossings.{crossing_on_odd}
+use Rattle.mesh_lattice.specs.FillRules.{filled}
+use Rattle.mesh_lattice.specs.declared.fill.FillRule.TheVariants.{Positive}
+use Rattle.mesh_shapes.specs.Resolution.{Choices}
+use Rattle.mesh_below.specs.Laws.{AreRegions}
+use Rattle.mesh_arc.specs.declared.arc.ArcOptions.{ArcOptions}
+use Rattle.mesh_join.specs.VariableStyles.{Vertex}
+use Rattle.mesh_offset.specs.Pieces.{WindAsPieces}
+use Rattle.mesh_offset.proofs.ManyPaths.{built_regions}
+use Rattle.mesh_offset.proofs.Regions.{built_sum, regions_above}
+use Rattle.mesh_variable_stroke.specs.Regions.{AreVariableStrokeRegions, all_pieces}
+use Rattle.mesh_variable_stroke.specs.Resolved.{IsVariableStroke}
+use Rattle.mesh_variable_stroke.specs.VariableStrokes.{variable_stroke_edges, variable_stroke_pieces}
+use Rattle.mesh_variable_stroke.proofs.Promised.{variable_balanced, variable_proper}
+use Rattle.mesh_variable_stroke.proofs.Sums.{variable_total}
+
+module _ (unit : ℕ) (options : ArcOptions) where
+  -- each stroke is made of regions
+  pub stroke_regions : (choices : Choices) (paths : List (List Vertex)) (answer : List (List (List Point)))
+      → (stroke : IsVariableStroke unit options choices paths answer)
+      → (made : AreVariableStrokeRegions unit options choices paths answer) × (made.stroke ≡ stroke)
+  stroke_regions choices paths answer stroke = (
+    record {
+      stroke = stroke;
+      regions = made.0;
+      same = made.1;
+      fills = regions_above stroke.built choices answer made.0 (all_pieces unit options paths) sum;
+    },
+    refl,
+  )
+    where
+      made : (regions : AreRegions stroke.built (filled Positive) choices answer) × (regions.resolution ≡ stroke.resolution)
+      made =
+          built_regions (variable_stroke_edges unit options) (variable_proper unit options) (variable_balanced unit options)
+          Positive choices paths answer stroke.built stroke.same stroke.resolution
+
+      sum : WindAsPieces (all_pieces unit options paths) stroke.built
+      sum =
+          built_sum (variable_stroke_edges unit options) (variable_stroke_pieces unit options)
+          (λ path m q. variable_total (crossing_on m q) (crossing_on_odd m q) unit options path) paths stroke.built stroke.same
