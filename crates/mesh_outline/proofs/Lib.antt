@@ -12,6 +12,7 @@ pub mod OutlineWalk
 pub mod Padding
 pub mod Promised
 pub mod PromisedOfAll
+pub mod Regions
 pub mod Resolving
 pub mod Sections
 pub mod Staying

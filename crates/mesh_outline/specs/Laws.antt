@@ -7,13 +7,13 @@ use Rattle.mesh_num.specs.Segments.{proper_edges}
 use Rattle.mesh_lattice.specs.Clean.{IsProper}
 use Rattle.mesh_lattice.specs.FillRules.{filled}
 use Rattle.mesh_lattice.specs.declared.fill.FillRule.{FillRule}
-use Rattle.mesh_lattice.specs.declared.fill.FillRule.TheVariants.{Positive}
 use Rattle.mesh_shapes.specs.Resolution.{Choices}
 use Rattle.mesh_below.specs.Laws.{AreRegions}
 use Rattle.mesh_below.specs.Options.{plain}
 use Rattle.mesh_join.specs.Joins.{outline_padding}
 use Rattle.mesh_join.specs.Styles.{OffsetJoin, OutlineStyle}
 use Rattle.mesh_offset.specs.Padding.{ArePathsSafe}
+use Rattle.mesh_outline.specs.Regions.{AreOutlineRegions}
 use Rattle.mesh_outline.specs.Resolved.{IsAnswerAlone, Give, IsOutline}
 use Rattle.mesh_outline.specs.Staying.{StaysSafe}
 
@@ -31,17 +31,14 @@ FinalEdgesAreBalanced =
     → Give unit style contours given
     → IsProper (proper_edges given) × IsBalanced (proper_edges given)
 
--- so each outline is made of regions: the contours of its last resolving wind once round what the split edges fill, and
--- round no other point; outside the boxes of edges that rounding bent, round what the given edges fill
+-- each answer that is an outline is made of regions
 abbrev pub OutlinesAreRegions : Type 0
 OutlinesAreRegions =
-    (unit : ℕ) (style : OutlineStyle) (choices : Choices) (contours : List (List Point))
-    (answer : List (List (List Point)))
-    → (outline : IsOutline unit style choices contours answer)
-    → (made : AreRegions (proper_edges outline.given) (filled Positive) choices answer)
-    × (made.resolution ≡ outline.resolution)
+    (unit : ℕ) → 2 ^ 14 ≤ unit → (style : OutlineStyle) (choices : Choices) (contours : List (List Point))
+    (answer : List (List (List Point))) → (outline : IsOutline unit style choices contours answer)
+    → (made : AreOutlineRegions unit style choices contours answer) × (made.outline ≡ outline)
 
--- and so is what comes of one contour alone, of the edges of its own outline
+-- what comes of one contour alone is made of regions of the edges of its own outline
 abbrev pub AnswersAloneAreRegions : Type 0
 AnswersAloneAreRegions =
     (unit : ℕ) → 2 ^ 14 ≤ unit → (style : OffsetJoin) (rule : FillRule) (contour : List Point)

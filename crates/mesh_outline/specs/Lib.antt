@@ -4,6 +4,7 @@ pub mod Kinds
 pub mod Laws
 pub mod Outline
 pub mod Private
+pub mod Regions
 pub mod Resolved
 pub mod Staying
 pub use Rattle.mesh_join.specs.Joins

@@ -19,13 +19,13 @@ pub fn final_edges_are_balanced()
     ensures { FinalEdgesAreBalanced }
 {}
 
-/// An outline is made of regions: the contours of its last resolving wind once round each point that the split edges
-/// fill, and round no other; outside the boxes of edges that rounding bent, so do they of the edges as given.
+/// An outline is made of regions: outside the boxes of edges that rounding bent it winds once round each point that the
+/// outlines of more contours of positive area fill than those of negative area clear, and round no other.
 pub fn outlines_are_regions()
     ensures { OutlinesAreRegions }
 {}
 
-/// What comes of one contour alone is made of regions, in the same sense, of the edges of its outline.
+/// What comes of one contour alone is made of regions of the edges of its outline.
 pub fn answers_alone_are_regions()
     ensures { AnswersAloneAreRegions }
 {}

@@ -8,6 +8,7 @@ ghost use Rattle.mesh_num.specs.Rectangle.{IsBounds, IsSafeRectangle};
 ghost use Rattle.mesh_join.specs.Joins.{outline_padding};
 ghost use Rattle.mesh_join.specs.Styles.{style_of};
 ghost use Rattle.mesh_offset.specs.Padding.{ArePathsSafe, all_points, widened};
+ghost use Rattle.mesh_outline.specs.Regions.{AreOutlineRegions};
 ghost use Rattle.mesh_outline.specs.Resolved.{DoAreasFit, IsOutline, HavePromisedEdges};
 ghost use Rattle.mesh_outline.specs.Staying.{StaysSafe};
 ghost use Rattle.mesh_below.specs.Options.{choices_of, plain};
@@ -45,6 +46,8 @@ pub trait IntOutlineOffset<I: OverlayInt>: IntShapeResource<I> {
         requires { ArePathsSafe I.unit (outline_padding (style_of I.value style.now)) (Self.paths self.now) }
         ensures outline { IfOk result (λ shapes. IsOutline I.unit (style_of I.value style.now) plain
             (Self.paths self.now) (shapes_of shapes.items)) }
+        ensures regions { IfOk result (λ shapes. AreOutlineRegions I.unit (style_of I.value style.now) plain
+            (Self.paths self.now) (shapes_of shapes.items)) }
         ensures safe { IfOk result (λ shapes. ArePointsSafe I.unit (shapes_of shapes.items)) }
         ensures refused { result ≡ Err IntOutlineError.CoordinateOutOfRange
             ↔ ¬ DoAreasFit I.Wide.half (Self.paths self.now) }
@@ -65,6 +68,9 @@ pub trait IntOutlineOffset<I: OverlayInt>: IntShapeResource<I> {
         ensures outline { OnOk result ((answer : List (List (List Point)))
             × IsOutline I.unit (style_of I.value style.now) plain (Self.paths self.now) answer
             × ArePointsSafe I.unit answer × HoldsContours buffer.new (contours_of answer)) }
+        ensures regions { OnOk result ((answer : List (List (List Point)))
+            × AreOutlineRegions I.unit (style_of I.value style.now) plain (Self.paths self.now) answer
+            × HoldsContours buffer.new (contours_of answer)) }
         ensures refused { result ≡ Err IntOutlineError.CoordinateOutOfRange
             ↔ ¬ DoAreasFit I.Wide.half (Self.paths self.now) }
         ensures err { OnErr result (buffer.new ≡ buffer.old) }
@@ -89,6 +95,8 @@ pub trait IntOutlineOffset<I: OverlayInt>: IntShapeResource<I> {
         requires { ArePathsSafe I.unit (outline_padding (style_of I.value style.now)) (Self.paths self.now) }
         ensures outline { IfOk result (λ shapes. IsOutline I.unit (style_of I.value style.now)
             (choices_of I.WideUInt.value options) (Self.paths self.now) (shapes_of shapes.items)) }
+        ensures regions { IfOk result (λ shapes. AreOutlineRegions I.unit (style_of I.value style.now)
+            (choices_of I.WideUInt.value options) (Self.paths self.now) (shapes_of shapes.items)) }
         ensures safe { IfOk result (λ shapes. ArePointsSafe I.unit (shapes_of shapes.items)) }
         ensures refused { result ≡ Err IntOutlineError.CoordinateOutOfRange
             ↔ ¬ DoAreasFit I.Wide.half (Self.paths self.now) }
@@ -112,6 +120,10 @@ pub trait IntOutlineOffset<I: OverlayInt>: IntShapeResource<I> {
             × IsOutline I.unit (style_of I.value style.now) (choices_of I.WideUInt.value options)
             (Self.paths self.now) answer
             × ArePointsSafe I.unit answer × HoldsContours buffer.new (contours_of answer)) }
+        ensures regions { OnOk result ((answer : List (List (List Point)))
+            × AreOutlineRegions I.unit (style_of I.value style.now) (choices_of I.WideUInt.value options)
+            (Self.paths self.now) answer
+            × HoldsContours buffer.new (contours_of answer)) }
         ensures refused { result ≡ Err IntOutlineError.CoordinateOutOfRange
             ↔ ¬ DoAreasFit I.Wide.half (Self.paths self.now) }
         ensures err { OnErr result (buffer.new ≡ buffer.old) }

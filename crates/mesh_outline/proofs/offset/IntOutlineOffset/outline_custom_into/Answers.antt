@@ -2,6 +2,9 @@
 use Rattle.std.proofs.Common.{Result, Ok, Err, refl}
 use Rattle.std.specs.Prelude.{OnErr}
 use Rattle.mesh_num.specs.Paths.{shapes_of}
+use Rattle.mesh_below.specs.Options.{choices_of}
+use Rattle.mesh_join.specs.Styles.{style_of}
+use Rattle.mesh_outline.proofs.Regions.{regions_of_outline}
 use Rattle.mesh_outline.proofs.offset.IntOutlineOffset.outline_custom_into.Goals as goal
 
 -- what holds holds after an error
@@ -35,3 +38,11 @@ returns-in_err-replace_with-clause-built g c = c.outline_shapes.ensures.built
 
 pub returns-in_err-replace_with-clause-stays_safe : goal.returns-in_err-replace_with-clause-stays_safe
 returns-in_err-replace_with-clause-stays_safe g c = c.outline_shapes.ensures.stays_safe
+
+pub returns-clause-regions : goal.returns-clause-regions
+returns-clause-regions g c = (
+  shapes_of c.in_ok-shapes.shapes.items,
+  (regions_of_outline g.I.IntNumber.unit g.met.I.IntNumber.least_law (style_of g.I.IntNumber.value c.args.style.now) (choices_of g.I.WideUInt.WideUnsigned.value c.args.options)
+      (g.Self.IntShapeResource.paths c.args.self.now) (shapes_of c.in_ok-shapes.shapes.items) c.in_ok-shapes.ensures.outline).0,
+  c.in_ok-replace_with.ensures.ok,
+)
