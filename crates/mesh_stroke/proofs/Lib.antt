@@ -14,6 +14,7 @@ pub mod PathEnds
 pub mod PathWalk
 pub mod Promised
 pub mod Reach
+pub mod Regions
 pub mod Resolving
 pub mod Reversal
 pub mod RoundCaps

@@ -49,7 +49,7 @@ module _ (unit : ℕ) (least : 2 ^ 14 ≤ unit) (style : StrokeStyle) (closed : 
   abbrev Winds : ℕ → Point → List Point → Type 0
   Winds m q piece = IsBit (winding m q (boundary piece))
 
-  never_turned : HasStockCaps style closed → (m : ℕ) (q : Point) → All (Winds m q) (stroke_pieces unit style closed points)
+  pub never_turned : HasStockCaps style closed → (m : ℕ) (q : Point) → All (Winds m q) (stroke_pieces unit style closed points)
   never_turned stock m q = by (int_le style.radius (pos 1)) refl
     where
       by : (b : Bool) → int_le style.radius (pos 1) ≡ b → All (Winds m q) (cond b [] (drawn_pieces unit style closed edges))

@@ -1,4 +1,4 @@
--- Lemmas over points and lists: the edges of the strokes of many paths are closed and safe, and fill regions.
+-- Lemmas over points and lists: the edges of the strokes of many paths are closed and safe.
 use Rattle.std.proofs.Common.{◌≡◌, ℕ, ◌≤◌, ◌^◌, List, Bool, get_or, arith}
 use Rattle.std.specs.Prelude.{pos, ◌≤ℤ◌}
 use Rattle.std.specs.List.{All}
@@ -9,21 +9,17 @@ use Rattle.mesh_plane.specs.Plane.{Point, Edge}
 use Rattle.mesh_plane.specs.Winding.{IsBalanced}
 use Rattle.mesh_num.specs.Segments.{SignedEdge}
 use Rattle.mesh_lattice.specs.Clean.{IsProper}
-use Rattle.mesh_lattice.specs.FillRules.{filled}
 use Rattle.mesh_lattice.specs.Reach.{AreEdgesSafe}
-use Rattle.mesh_lattice.specs.declared.fill.FillRule.TheVariants.{Positive}
-use Rattle.mesh_shapes.specs.Resolution.{Choices}
 use Rattle.mesh_below.specs.Asked.{AreResolvable}
-use Rattle.mesh_below.specs.Laws.{AreRegions}
 use Rattle.mesh_offset.specs.Private.Built.{AreBuilt}
 use Rattle.mesh_offset.specs.Padding.{ArePathsSafe}
-use Rattle.mesh_offset.proofs.ManyPaths.{built_stays_safe, built_resolvable, built_closed, built_regions}
+use Rattle.mesh_offset.proofs.ManyPaths.{built_stays_safe, built_resolvable, built_closed}
 use Rattle.mesh_stroke.specs.Drawn.{AreStroked}
 use Rattle.mesh_stroke.specs.Strokes.{stroke_edges}
 use Rattle.mesh_stroke.specs.Styles.{StrokeStyle, stroke_padding}
 use Rattle.mesh_stroke.proofs.Promised.{are_stroked, stroke_balanced, stroke_proper}
 use Rattle.mesh_stroke.proofs.Reach.{radius_covered}
-use Rattle.mesh_stroke.specs.Resolved.{all_edges, IsStroke, HavePromisedEdges}
+use Rattle.mesh_stroke.specs.Resolved.{all_edges, HavePromisedEdges}
 use Rattle.mesh_stroke.specs.Staying.{StaysSafe}
 
 module _ (unit : ℕ) (style : StrokeStyle) (closed : Bool) (paths : List (List Point)) (least : 2 ^ 14 ≤ unit)
@@ -61,14 +57,6 @@ module _ (unit : ℕ) (least : 2 ^ 14 ≤ unit) (style : StrokeStyle) (closed : 
   stroke_closed =
       built_closed (stroke_edges unit style closed) (stroke_proper unit style closed)
       (stroke_balanced unit least style closed)
-
-  -- so strokes are made of regions
-  pub stroke_regions : (choices : Choices) (paths : List (List Point)) (answer : List (List (List Point)))
-      → (stroke : IsStroke unit style closed choices paths answer)
-      → (made : AreRegions stroke.built (filled Positive) choices answer) × (made.resolution ≡ stroke.resolution)
-  stroke_regions choices paths answer stroke =
-      built_regions (stroke_edges unit style closed) (stroke_proper unit style closed)
-      (stroke_balanced unit least style closed) Positive choices paths answer stroke.built stroke.same stroke.resolution
 
 -- the padding of a stroke is at least 0
 pub padding_least : (style : StrokeStyle) → pos 0 ≤ℤ stroke_padding style

@@ -5,11 +5,9 @@ use Rattle.std.specs.List.Sorted.{IsPermutation}
 use Rattle.mesh_plane.specs.Plane.{Point, Edge}
 use Rattle.mesh_plane.specs.Winding.{IsBalanced}
 use Rattle.mesh_lattice.specs.Clean.{IsProper}
-use Rattle.mesh_lattice.specs.FillRules.{filled}
-use Rattle.mesh_lattice.specs.declared.fill.FillRule.TheVariants.{Positive}
 use Rattle.mesh_shapes.specs.Resolution.{Choices}
-use Rattle.mesh_below.specs.Laws.{AreRegions}
 use Rattle.mesh_stroke.specs.Styles.{StrokeStyle}
+use Rattle.mesh_stroke.specs.Regions.{AreStrokeRegions}
 use Rattle.mesh_stroke.specs.Resolved.{all_edges, IsStroke}
 
 -- the edges of the strokes of all paths are balanced, and none of them ends where it starts, in whatever order they
@@ -19,10 +17,9 @@ StrokeEdgesAreBalanced =
     (unit : ℕ) → 2 ^ 14 ≤ unit → (style : StrokeStyle) (closed : Bool) (paths : List (List Point)) (built : List Edge)
     → IsPermutation built (all_edges unit style closed paths) → IsProper built × IsBalanced built
 
--- so each stroke is made of regions: the contours of its resolution wind once round what these edges fill when they are
--- split, and round no other point; outside the boxes of edges that rounding bent, round what they fill as built
+-- each answer that is a stroke is made of regions
 abbrev pub StrokesAreRegions : Type 0
 StrokesAreRegions =
     (unit : ℕ) → 2 ^ 14 ≤ unit → (style : StrokeStyle) (closed : Bool) (choices : Choices) (paths : List (List Point))
     (answer : List (List (List Point))) → (stroke : IsStroke unit style closed choices paths answer)
-    → (made : AreRegions stroke.built (filled Positive) choices answer) × (made.resolution ≡ stroke.resolution)
+    → (made : AreStrokeRegions unit style closed choices paths answer) × (made.stroke ≡ stroke)

@@ -16,8 +16,8 @@ pub fn stroke_edges_are_balanced()
     ensures { StrokeEdgesAreBalanced }
 {}
 
-/// A stroke is made of regions: the contours of its resolution wind once round each point that the split edges of all
-/// its paths fill, and round no other; outside the boxes of edges that rounding bent, so do they of the edges as built.
+/// A stroke is made of regions: outside the boxes of edges that rounding bent it winds once round each point where the
+/// windings of the pieces of all paths add up to more than 0, and round no other.
 pub fn strokes_are_regions()
     ensures { StrokesAreRegions }
 {}

@@ -9,6 +9,7 @@ ghost use Rattle.mesh_lattice.specs.Reach.{ArePointsSafe};
 ghost use Rattle.mesh_below.specs.Options.{choices_of, plain};
 ghost use Rattle.mesh_offset.specs.Padding.{ArePathsSafe, all_points, widened};
 ghost use Rattle.mesh_stroke.specs.Styles.{stroke_padding, stroke_style_of};
+ghost use Rattle.mesh_stroke.specs.Regions.{AreStrokeRegions};
 ghost use Rattle.mesh_stroke.specs.Resolved.{IsStroke, HavePromisedEdges};
 ghost use Rattle.mesh_stroke.specs.Staying.{StaysSafe};
 
@@ -48,6 +49,8 @@ pub trait IntStrokeOffset<I: OverlayInt>: IntShapeResource<I> {
         requires { ArePathsSafe I.unit (stroke_padding (stroke_style_of I.value style.now)) (Self.paths self.now) }
         ensures stroke { IfOk result (λ shapes. IsStroke I.unit (stroke_style_of I.value style.now) closed plain
             (Self.paths self.now) (shapes_of shapes.items)) }
+        ensures regions { IfOk result (λ shapes. AreStrokeRegions I.unit (stroke_style_of I.value style.now) closed
+            plain (Self.paths self.now) (shapes_of shapes.items)) }
         ensures safe { IfOk result (λ shapes. ArePointsSafe I.unit (shapes_of shapes.items)) }
         ensures error { OnErr result (result ≡ Err IntOutlineError.OutOfMemory) }
         ensures built { HavePromisedEdges I.unit (stroke_style_of I.value style.now) closed (Self.paths self.now) }
@@ -68,6 +71,9 @@ pub trait IntStrokeOffset<I: OverlayInt>: IntShapeResource<I> {
         ensures stroke { OnOk result ((answer : List (List (List Point)))
             × IsStroke I.unit (stroke_style_of I.value style.now) closed plain (Self.paths self.now) answer
             × ArePointsSafe I.unit answer × HoldsContours buffer.new (contours_of answer)) }
+        ensures regions { OnOk result ((answer : List (List (List Point)))
+            × AreStrokeRegions I.unit (stroke_style_of I.value style.now) closed plain (Self.paths self.now) answer
+            × HoldsContours buffer.new (contours_of answer)) }
         ensures error { OnErr result (result ≡ Err IntOutlineError.OutOfMemory) }
         ensures err { OnErr result (buffer.new ≡ buffer.old) }
         ensures built { HavePromisedEdges I.unit (stroke_style_of I.value style.now) closed (Self.paths self.now) }
@@ -88,6 +94,8 @@ pub trait IntStrokeOffset<I: OverlayInt>: IntShapeResource<I> {
     ) -> Result<IntShapes<I>, IntStrokeError>
         requires { ArePathsSafe I.unit (stroke_padding (stroke_style_of I.value style.now)) (Self.paths self.now) }
         ensures stroke { IfOk result (λ shapes. IsStroke I.unit (stroke_style_of I.value style.now) closed
+            (choices_of I.WideUInt.value options) (Self.paths self.now) (shapes_of shapes.items)) }
+        ensures regions { IfOk result (λ shapes. AreStrokeRegions I.unit (stroke_style_of I.value style.now) closed
             (choices_of I.WideUInt.value options) (Self.paths self.now) (shapes_of shapes.items)) }
         ensures safe { IfOk result (λ shapes. ArePointsSafe I.unit (shapes_of shapes.items)) }
         ensures error { OnErr result (result ≡ Err IntOutlineError.OutOfMemory) }
@@ -113,6 +121,10 @@ pub trait IntStrokeOffset<I: OverlayInt>: IntShapeResource<I> {
             × IsStroke I.unit (stroke_style_of I.value style.now) closed (choices_of I.WideUInt.value options)
             (Self.paths self.now) answer
             × ArePointsSafe I.unit answer × HoldsContours buffer.new (contours_of answer)) }
+        ensures regions { OnOk result ((answer : List (List (List Point)))
+            × AreStrokeRegions I.unit (stroke_style_of I.value style.now) closed (choices_of I.WideUInt.value options)
+            (Self.paths self.now) answer
+            × HoldsContours buffer.new (contours_of answer)) }
         ensures error { OnErr result (result ≡ Err IntOutlineError.OutOfMemory) }
         ensures err { OnErr result (buffer.new ≡ buffer.old) }
         ensures built { HavePromisedEdges I.unit (stroke_style_of I.value style.now) closed (Self.paths self.now) }

@@ -1,5 +1,5 @@
--- The winding of a stroke's contours.
-use Rattle.mesh_stroke.proofs.Resolving.{stroke_regions}
+-- Strokes are regions.
+use Rattle.mesh_stroke.proofs.Regions.{stroke_regions}
 use Rattle.mesh_stroke.proofs.laws.strokes_are_regions.Goals as goal
 
 pub returns : goal.returns

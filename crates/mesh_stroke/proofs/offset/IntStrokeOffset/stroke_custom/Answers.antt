@@ -2,6 +2,9 @@
 use Rattle.mesh_num.specs.Segments.{edges_of}
 use Rattle.mesh_stroke.specs.Styles.{stroke_style_of}
 use Rattle.mesh_stroke.proofs.Resolving.{promised}
+use Rattle.mesh_num.specs.Paths.{shapes_of}
+use Rattle.mesh_below.specs.Options.{choices_of}
+use Rattle.mesh_stroke.proofs.Regions.{stroke_regions}
 use Rattle.mesh_stroke.proofs.offset.IntStrokeOffset.stroke_custom.Goals as goal
 
 pub returns-in_err-drawn-clause-built : goal.returns-in_err-drawn-clause-built
@@ -25,3 +28,8 @@ returns-clause-stroke g c = record {
   same = c.in_ok-drawn.ensures.built.same;
   resolution = rw c.in_ok-drawn.ensures.options at c.in_ok-overlay.ensures.resolution;
 }
+
+pub returns-clause-regions : goal.returns-clause-regions
+returns-clause-regions g c =
+    (stroke_regions g.I.IntNumber.unit g.met.I.IntNumber.least_law (stroke_style_of g.I.IntNumber.value c.args.style.now) c.args.closed (choices_of g.I.WideUInt.WideUnsigned.value c.args.options)
+    (g.Self.IntShapeResource.paths c.args.self.now) (shapes_of c.in_ok-overlay.field-0.items) (returns-clause-stroke g c)).0

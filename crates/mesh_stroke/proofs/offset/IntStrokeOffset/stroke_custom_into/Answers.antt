@@ -1,6 +1,9 @@
 -- What is promised of the edges of each path.
 use Rattle.mesh_stroke.specs.Styles.{stroke_style_of}
 use Rattle.mesh_stroke.proofs.Resolving.{promised}
+use Rattle.mesh_num.specs.Segments.{edges_of}
+use Rattle.mesh_below.specs.Options.{choices_of}
+use Rattle.mesh_stroke.proofs.Regions.{stroke_regions}
 use Rattle.mesh_stroke.proofs.offset.IntStrokeOffset.stroke_custom_into.Goals as goal
 
 pub returns-in_err-drawn-clause-built : goal.returns-in_err-drawn-clause-built
@@ -17,3 +20,17 @@ pub returns-clause-built : goal.returns-clause-built
 returns-clause-built g c =
     promised g.I.IntNumber.unit (stroke_style_of g.I.IntNumber.value c.args.style.now) c.args.closed (g.Self.IntShapeResource.paths c.args.self.now) g.met.I.IntNumber.least_law
     c.requires
+
+pub returns-clause-regions : goal.returns-clause-regions
+returns-clause-regions g c =
+    let r = c.in_ok-overlay_into.ensures.resolution in (
+      r.0,
+      (stroke_regions g.I.IntNumber.unit g.met.I.IntNumber.least_law (stroke_style_of g.I.IntNumber.value c.args.style.now) c.args.closed (choices_of g.I.WideUInt.WideUnsigned.value c.args.options)
+          (g.Self.IntShapeResource.paths c.args.self.now) r.0
+          (record {
+            built = edges_of c.in_ok-drawn.drawn.segments.items;
+            same = c.in_ok-drawn.ensures.built.same;
+            resolution = rw c.in_ok-drawn.ensures.options at r.1;
+          })).0,
+      r.3,
+    )

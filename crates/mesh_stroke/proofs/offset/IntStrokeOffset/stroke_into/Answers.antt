@@ -3,3 +3,6 @@ use Rattle.mesh_stroke.proofs.offset.IntStrokeOffset.stroke_into.Goals as goal
 
 pub returns-clause-err : goal.returns-clause-err
 returns-clause-err g c = c.stroke_custom_into.ensures.err
+
+pub returns-clause-regions : goal.returns-clause-regions
+returns-clause-regions g c = rw c.new.ensures at c.stroke_custom_into.ensures.regions

@@ -1,0 +1,59 @@
+-- Lemmas over points and lists: strokes are regions.
+use Rattle.std.proofs.Common.{◌≡◌, ℕ, ◌≤◌, ◌^◌, List, Bool, refl, get_or}
+use Rattle.std.specs.List.{All}
+use Rattle.mesh_plane.specs.Plane.{Point}
+use Rattle.mesh_plane.specs.Winding.{IsBit, boundary, crossing_on, winding}
+use Rattle.mesh_plane.proofs.ClosedLists.{all_flat_map}
+use Rattle.mesh_plane.proofs.Crossings.{crossing_on_odd}
+use Rattle.mesh_plane.proofs.Triangles.{crossing_on_straight}
+use Rattle.mesh_lattice.specs.FillRules.{filled}
+use Rattle.mesh_lattice.specs.declared.fill.FillRule.TheVariants.{Positive}
+use Rattle.mesh_shapes.specs.Resolution.{Choices}
+use Rattle.mesh_below.specs.Laws.{AreRegions}
+use Rattle.mesh_offset.specs.Pieces.{WindAsPieces}
+use Rattle.mesh_offset.proofs.ManyPaths.{built_regions}
+use Rattle.mesh_offset.proofs.Regions.{built_sum, regions_above, regions_held}
+use Rattle.mesh_stroke.specs.Drawn.{HasStockCaps}
+use Rattle.mesh_stroke.specs.Regions.{AreStrokeRegions, all_pieces}
+use Rattle.mesh_stroke.specs.Resolved.{IsStroke}
+use Rattle.mesh_stroke.specs.Strokes.{stroke_edges, stroke_pieces}
+use Rattle.mesh_stroke.specs.Styles.{StrokeStyle}
+use Rattle.mesh_stroke.proofs.Promised.{never_turned, stroke_balanced, stroke_proper, stroke_total}
+
+module _ (unit : ℕ) (least : 2 ^ 14 ≤ unit) (style : StrokeStyle) (closed : Bool) where
+  -- the edges that are built wind as all pieces
+  all_sum : (choices : Choices) (paths : List (List Point)) (answer : List (List (List Point))) (stroke : IsStroke unit style closed choices paths answer) →
+      WindAsPieces (all_pieces unit style closed paths) stroke.built
+  all_sum choices paths answer stroke =
+      built_sum (stroke_edges unit style closed) (stroke_pieces unit style closed)
+      (λ path m q. stroke_total unit least style closed path (crossing_on m q) (crossing_on_odd m q) (crossing_on_straight m q))
+      paths stroke.built stroke.same
+
+  all_bits : HasStockCaps style closed → (paths : List (List Point)) (m : ℕ) (q : Point) →
+      All (λ (piece : List Point). IsBit (winding m q (boundary piece))) (all_pieces unit style closed paths)
+  all_bits stock paths m q =
+      all_flat_map (λ (piece : List Point). IsBit (winding m q (boundary piece))) (stroke_pieces unit style closed) paths
+      (λ k d h. never_turned unit least style closed (get_or paths k d) stock m q)
+
+  -- each stroke is made of regions
+  pub stroke_regions : (choices : Choices) (paths : List (List Point)) (answer : List (List (List Point)))
+      → (stroke : IsStroke unit style closed choices paths answer)
+      → (made : AreStrokeRegions unit style closed choices paths answer) × (made.stroke ≡ stroke)
+  stroke_regions choices paths answer stroke = (
+    record {
+      stroke = stroke;
+      regions = made.0;
+      same = made.1;
+      fills = regions_above stroke.built choices answer made.0 (all_pieces unit style closed paths) sum;
+      held = λ stock. regions_held stroke.built choices answer made.0 (all_pieces unit style closed paths) sum (all_bits stock paths);
+    },
+    refl,
+  )
+    where
+      made : (regions : AreRegions stroke.built (filled Positive) choices answer) × (regions.resolution ≡ stroke.resolution)
+      made =
+          built_regions (stroke_edges unit style closed) (stroke_proper unit style closed)
+          (stroke_balanced unit least style closed) Positive choices paths answer stroke.built stroke.same stroke.resolution
+
+      sum : WindAsPieces (all_pieces unit style closed paths) stroke.built
+      sum = all_sum choices paths answer stroke

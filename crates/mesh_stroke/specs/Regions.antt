@@ -1,0 +1,31 @@
+-- Strokes are regions.
+use Rattle.std.specs.Prelude.{ℕ, ◌≡◌, Bool, List}
+use Rattle.std.specs.List.{flat_map}
+use Rattle.mesh_plane.specs.Plane.{Point}
+use Rattle.mesh_lattice.specs.FillRules.{filled}
+use Rattle.mesh_lattice.specs.declared.fill.FillRule.TheVariants.{Positive}
+use Rattle.mesh_below.specs.Regions.{OutsideBent}
+use Rattle.mesh_shapes.specs.Resolution.{Choices}
+use Rattle.mesh_below.specs.Laws.{AreRegions}
+use Rattle.mesh_offset.specs.Regions.{WindsOnceWhere, is_held, wind_above}
+use Rattle.mesh_stroke.specs.Drawn.{HasStockCaps}
+use Rattle.mesh_stroke.specs.Resolved.{IsStroke}
+use Rattle.mesh_stroke.specs.Strokes.{stroke_pieces}
+use Rattle.mesh_stroke.specs.Styles.{StrokeStyle}
+
+-- the pieces of the strokes of all paths
+abbrev pub all_pieces : ℕ → StrokeStyle → Bool → List (List Point) → List (List Point)
+all_pieces unit style closed paths = flat_map (stroke_pieces unit style closed) paths
+
+-- an answer is the stroke of paths, made of regions
+pub record AreStrokeRegions (unit : ℕ) (style : StrokeStyle) (closed : Bool) (choices : Choices)
+    (paths : List (List Point)) (answer : List (List (List Point))) : Type 0 where
+  pub stroke : IsStroke unit style closed choices paths answer
+  pub regions : AreRegions stroke.built (filled Positive) choices answer
+  pub same : regions.resolution ≡ stroke.resolution
+  -- it winds once where the windings of all pieces add up to more than 0
+  pub fills : WindsOnceWhere (wind_above (all_pieces unit style closed paths))
+      (OutsideBent regions.resolution.splits stroke.built) choices answer
+  -- but for custom caps: where a piece of some path holds the point
+  pub held : HasStockCaps style closed → WindsOnceWhere (is_held (all_pieces unit style closed paths))
+      (OutsideBent regions.resolution.splits stroke.built) choices answer
