@@ -18,6 +18,7 @@ use Rattle.mesh_stroke.specs.Regions.{AreStrokeRegions, all_pieces}
 use Rattle.mesh_stroke.specs.Resolved.{IsStroke}
 use Rattle.mesh_stroke.specs.Strokes.{stroke_edges, stroke_pieces}
 use Rattle.mesh_stroke.specs.Styles.{StrokeStyle}
+use Rattle.mesh_stroke.proofs.Reversal.{strokes_can_be_reversed}
 use Rattle.mesh_stroke.proofs.Promised.{never_turned, stroke_balanced, stroke_proper, stroke_total}
 
 module _ (unit : ℕ) (least : 2 ^ 14 ≤ unit) (style : StrokeStyle) (closed : Bool) where
@@ -46,6 +47,7 @@ module _ (unit : ℕ) (least : 2 ^ 14 ≤ unit) (style : StrokeStyle) (closed : 
       same = made.1;
       fills = regions_above stroke.built choices answer made.0 (all_pieces unit style closed paths) sum;
       held = λ stock. regions_held stroke.built choices answer made.0 (all_pieces unit style closed paths) sum (all_bits stock paths);
+      reversed = λ both k d h. strokes_can_be_reversed unit least style both closed (get_or paths k d);
     },
     refl,
   )

@@ -1,6 +1,6 @@
 -- Strokes are regions.
 use Rattle.std.specs.Prelude.{ℕ, ◌≡◌, Bool, List}
-use Rattle.std.specs.List.{flat_map}
+use Rattle.std.specs.List.{All, flat_map}
 use Rattle.mesh_plane.specs.Plane.{Point}
 use Rattle.mesh_lattice.specs.FillRules.{filled}
 use Rattle.mesh_lattice.specs.declared.fill.FillRule.TheVariants.{Positive}
@@ -8,9 +8,11 @@ use Rattle.mesh_below.specs.Regions.{OutsideBent}
 use Rattle.mesh_shapes.specs.Resolution.{Choices}
 use Rattle.mesh_below.specs.Laws.{AreRegions}
 use Rattle.mesh_offset.specs.Regions.{WindsOnceWhere, is_held, wind_above}
+use Rattle.mesh_join.specs.declared.style.StrokeSide.TheVariants.{Both}
 use Rattle.mesh_stroke.specs.Drawn.{HasStockCaps}
 use Rattle.mesh_stroke.specs.Resolved.{IsStroke}
-use Rattle.mesh_stroke.specs.Strokes.{stroke_pieces}
+use Rattle.mesh_stroke.specs.Reversal.{CountAlike, reversed_edges}
+use Rattle.mesh_stroke.specs.Strokes.{stroke_edges, stroke_pieces}
 use Rattle.mesh_stroke.specs.Styles.{StrokeStyle}
 
 -- the pieces of the strokes of all paths
@@ -29,3 +31,6 @@ pub record AreStrokeRegions (unit : ℕ) (style : StrokeStyle) (closed : Bool) (
   -- but for custom caps: where a piece of some path holds the point
   pub held : HasStockCaps style closed → WindsOnceWhere (is_held (all_pieces unit style closed paths))
       (OutsideBent regions.resolution.splits stroke.built) choices answer
+  -- on both sides, each path that is reversed and has its caps exchanged is drawn by edges that count alike
+  pub reversed : style.side ≡ Both → All (λ (path : List Point).
+      CountAlike (reversed_edges unit style closed path) (stroke_edges unit style closed path)) paths
