@@ -1,0 +1,2 @@
+pub mod Contours
+pub mod Points

@@ -1,0 +1,7 @@
+//! Callers of the four public libraries, one module each. The page `CALLING.md` of each library quotes its module.
+#![tactic(auto)]
+
+pub mod below;
+pub mod join;
+pub mod num;
+pub mod offsets;

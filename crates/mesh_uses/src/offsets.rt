@@ -1,0 +1,91 @@
+//! Outlines and strokes, and an answer that is handed in again.
+
+ghost use Rattle.std.specs.Prelude.{◌≡◌, ◌^◌, List, [], ◌∷◌, false, OnOk, OnErr, IfOk};
+ghost use Rattle.mesh_num.specs.FlatContours.{flat_contours};
+ghost use Rattle.mesh_num.specs.Paths.{contours_of, shapes_of};
+ghost use Rattle.mesh_num.specs.Plane.{Point};
+ghost use Rattle.mesh_below.specs.Options.{plain};
+ghost use Rattle.mesh_join.specs.Joins.{outline_padding};
+ghost use Rattle.mesh_join.specs.VariableStyles.{default_variable_style};
+ghost use Rattle.mesh_offset.specs.Padding.{ArePathsSafe};
+ghost use Rattle.mesh_outline.specs.Regions.{AreOutlineRegions};
+ghost use Rattle.mesh_stroke.specs.Regions.{AreStrokeRegions};
+ghost use Rattle.mesh_stroke.specs.Styles.{stroke_padding};
+ghost use Rattle.mesh_variable_stroke.specs.Regions.{AreVariableStrokeRegions};
+ghost use Rattle.mesh_variable_stroke.specs.Strokable.{ArePathsStrokable};
+ghost use Rattle.mesh_uses.specs.Styles.{bevelled, rounded};
+
+use i_overlay_mesh::{
+    ArcOptions, FlatContoursBuffer, IntLineCap, IntLineJoin, IntOutlineError, IntOutlineOffset,
+    IntOutlineStyle, IntPoint, IntShapes, IntStrokeError, IntStrokeOffset, IntStrokeStyle,
+    IntStrokeVertex, IntVariableStrokeError, IntVariableStrokeOffset, IntVariableStrokeStyle,
+};
+use mesh_num::laws::flat_contours_are_found;
+use std::alloc::Global;
+
+/// The contour moved outwards by an offset, inwards by a negative one.
+pub fn grown(
+    alloc: Global,
+    contour: &Vec<IntPoint<i32>>,
+    offset: i32,
+) -> Result<IntShapes<i32>, IntOutlineError>
+    ensures accepted { OnOk result (ArePathsSafe (2 ^ 30) (outline_padding (bevelled offset))
+        (contour.now.items ∷ [])) }
+    ensures regions { IfOk result (λ shapes. AreOutlineRegions (2 ^ 30) (bevelled offset) plain
+        (contour.now.items ∷ []) (shapes_of shapes.items)) }
+{
+    let style = IntOutlineStyle::new(offset);
+    contour.validate_outline(&style)?;
+    contour.outline(alloc, &style)
+}
+
+/// A track of this width along a path, with round corners and ends.
+pub fn track(
+    alloc: Global,
+    path: &Vec<IntPoint<i32>>,
+    width: i32,
+) -> Result<IntShapes<i32>, IntStrokeError>
+    ensures accepted { OnOk result (ArePathsSafe (2 ^ 30) (stroke_padding (rounded width)) (path.now.items ∷ [])) }
+    ensures regions { IfOk result (λ shapes. AreStrokeRegions (2 ^ 30) (rounded width) false plain
+        (path.now.items ∷ []) (shapes_of shapes.items)) }
+{
+    let style = IntStrokeStyle::new(width)
+        .line_join(IntLineJoin::Round(ArcOptions::default()))
+        .start_cap(IntLineCap::Round(ArcOptions::default()))
+        .end_cap(IntLineCap::Round(ArcOptions::default()));
+    path.validate_stroke(&style)?;
+    path.stroke(alloc, &style, false)
+}
+
+/// What a brush paints along a path, pressed at each vertex to the width that stands there.
+pub fn painted(
+    alloc: Global,
+    path: &Vec<IntStrokeVertex<i32>>,
+) -> Result<IntShapes<i32>, IntVariableStrokeError>
+    ensures accepted { OnOk result (ArePathsStrokable (2 ^ 30) (path.now.items ∷ [])) }
+    ensures regions { IfOk result (λ shapes. AreVariableStrokeRegions (2 ^ 30) default_variable_style.arc plain
+        (path.now.items ∷ []) (shapes_of shapes.items)) }
+{
+    path.validate_variable_stroke()?;
+    path.variable_stroke(alloc, IntVariableStrokeStyle::default())
+}
+
+/// Moves the contours of a buffer outwards, in place of its own, so that an answer can be handed in again. After an
+/// error the buffer is unchanged.
+pub fn grow(
+    alloc: Global,
+    contours: &mut FlatContoursBuffer<i32>,
+    offset: i32,
+) -> Result<(), IntOutlineError>
+    ensures ok { OnOk result ((answer : List (List (List Point)))
+        × AreOutlineRegions (2 ^ 30) (bevelled offset) plain (flat_contours contours.old) answer
+        × (flat_contours contours.new ≡ contours_of answer)) }
+    ensures err { OnErr result (contours.new ≡ contours.old) }
+{
+    flat_contours_are_found();
+    let style = IntOutlineStyle::new(offset);
+    contours.validate_outline(&style)?;
+    let shapes = contours.outline(alloc, &style)?;
+    contours.replace_with(&shapes)?;
+    Ok(())
+}
