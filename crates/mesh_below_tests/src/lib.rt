@@ -24,6 +24,8 @@ mod random_answers;
 #[cfg(test)]
 mod random_splits;
 #[cfg(test)]
+mod regions;
+#[cfg(test)]
 mod splits;
 #[cfg(test)]
 mod worked_answers;

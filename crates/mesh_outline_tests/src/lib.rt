@@ -6,12 +6,15 @@ mod answers;
 #[cfg(test)]
 mod calls;
 #[cfg(test)]
+mod contours;
+#[cfg(test)]
 mod mitered;
 #[cfg(test)]
 mod outlines;
 #[cfg(test)]
 mod pieces;
-pub mod readme;
+#[cfg(test)]
+mod regions;
 #[cfg(test)]
 mod round;
 #[cfg(test)]

@@ -61,13 +61,25 @@ impl Outline {
         case: &impl Debug,
     ) -> Result<(), Fail> {
         expect_that(is_balanced(&self.edges), case)?;
-        let least = distance.wrapping_neg();
         for (vertex, _) in vertices {
-            let middle = refined(2, *vertex);
-            for x in least..=distance {
-                for y in least..=distance {
-                    self.expect_count_at(plus(middle, (x, y)), case)?;
-                }
+            self.expect_count_round(*vertex, distance, case)?;
+        }
+        Ok(())
+    }
+
+    /// Up to this distance, on the grid 2, from the point the edges wind as often as the contour, and once more for
+    /// each piece, for a negative offset once less.
+    pub fn expect_count_round(
+        &self,
+        vertex: Point,
+        distance: i128,
+        case: &impl Debug,
+    ) -> Result<(), Fail> {
+        let middle = refined(2, vertex);
+        let least = distance.wrapping_neg();
+        for x in least..=distance {
+            for y in least..=distance {
+                self.expect_count_at(plus(middle, (x, y)), case)?;
             }
         }
         Ok(())
@@ -120,6 +132,16 @@ const HOLE: [(i32, i32); 4] = [
     (4096, 12_288),
     (12_288, 12_288),
     (12_288, 4096),
+];
+
+/// A square with a spike at a corner.
+const SPIKE: [(i32, i32); 6] = [
+    (0, 0),
+    (100, 0),
+    (100, 100),
+    (100, 150),
+    (100, 100),
+    (0, 100),
 ];
 
 /// The outline of the contour is the loop of these points.
@@ -190,6 +212,23 @@ const LOOPS: &[(&[(i32, i32)], i32, &[Point])] = &[
             (12_288, 5120),
             (4096, 5120),
             (4096, 4096),
+        ],
+    ),
+    (
+        &SPIKE,
+        10,
+        &[
+            (0, -10),
+            (100, -10),
+            (110, 0),
+            (110, 150),
+            (90, 150),
+            (90, 100),
+            (100, 100),
+            (100, 110),
+            (0, 110),
+            (-10, 100),
+            (-10, 0),
         ],
     ),
     (&[(0, 0), (10, 0)], 4, &[(0, -4), (10, -4), (10, 4), (0, 4)]),

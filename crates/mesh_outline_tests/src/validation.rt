@@ -127,3 +127,16 @@ fn mitered_paths(rt: HostRuntime) -> Result<(), Fail> {
     }
     Ok(())
 }
+
+/// The least offset of all, with bevels and with the sharpest miters: no point is accepted, and each point refused.
+#[test]
+fn least_offset(rt: HostRuntime) -> Result<(), Fail> {
+    for join in [IntLineJoin::Bevel, IntLineJoin::Miter(Angle::from_bits(0))] {
+        let style = IntOutlineStyle::new(i16::MIN).line_join(join);
+        let of_none = path(rt.alloc(), &[])?.validate_outline(&style);
+        expect_equal(&of_none, &YES, &join)?;
+        let of_one = path(rt.alloc(), &[(0, 0)])?.validate_outline(&style);
+        expect_equal(&of_one, &NO, &join)?;
+    }
+    Ok(())
+}

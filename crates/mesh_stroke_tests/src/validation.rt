@@ -27,6 +27,9 @@ const WHOLE: CapRow = CapRow::Custom(&[(0, 1), (3, 4)]);
 
 const RAISED: CapRow = CapRow::Custom(&[(5, -1), (0, 1)]);
 
+/// A point that leads inwards.
+const NOTCH: CapRow = CapRow::Custom(&[(-4096, 0)]);
+
 const EIGHTH: JoinKind = JoinKind::Miter(536_870_912, 0);
 
 /// Points, the width, the joins, both caps, how far the stroke reaches, and whether it may be drawn.
@@ -143,6 +146,22 @@ const ROWS: &[Row] = &[
         JoinKind::Bevel,
         (RAISED, CapRow::Butt),
         6,
+        NO,
+    ),
+    (
+        &[(-12_287, 0), (0, 0)],
+        2048,
+        JoinKind::Bevel,
+        (CapRow::Butt, NOTCH),
+        4096,
+        YES,
+    ),
+    (
+        &[(0, 0), (0, 12_288)],
+        2048,
+        JoinKind::Bevel,
+        (CapRow::Butt, NOTCH),
+        4096,
         NO,
     ),
     (&[(16_383, -16_383)], 0, JoinKind::Bevel, SQUARES, 0, YES),

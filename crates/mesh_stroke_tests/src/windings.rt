@@ -14,9 +14,9 @@ use std::test::Fail;
 
 /// A stroke: its edges as the builder adds them, and its pieces.
 #[derive(Drop)]
-struct Stroke {
-    edges: Vec<Edge>,
-    pieces: Pieces,
+pub struct Stroke {
+    pub edges: Vec<Edge>,
+    pub pieces: Pieces,
 }
 
 impl Stroke {
@@ -34,7 +34,7 @@ impl Stroke {
     }
 
     /// Up to this distance from a point of the grid 2 the edges wind as the pieces together, or as often as they count.
-    fn expect_near(&self, middle: Point, distance: i128, is_counted: bool) -> Result<(), Fail> {
+    pub fn expect_near(&self, middle: Point, distance: i128, is_counted: bool) -> Result<(), Fail> {
         let least = distance.wrapping_neg();
         for x in least..=distance {
             for y in least..=distance {

@@ -16,6 +16,16 @@ pub enum JoinKind {
     Round(u32, u32),
 }
 
+impl JoinKind {
+    /// How far a join of this kind reaches from its corner in each coordinate, for a radius or an offset of this size.
+    pub fn padding(self, radius: i128) -> i128 {
+        match self {
+            JoinKind::Miter(bits, _) if radius != 0 => reach(bits, radius.wrapping_abs()),
+            _ => radius.wrapping_abs(),
+        }
+    }
+}
+
 /// A corner: its vertex, the points that both edges are moved to, the edges' directions, the distance by which they are
 /// moved, and the sense of the turn, 1 to the left, -1 to the right.
 #[derive(Debug, Clone, Copy)]

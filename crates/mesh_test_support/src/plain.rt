@@ -69,6 +69,19 @@ pub fn closed(alloc: Global, points: &[Point]) -> Result<Vec<Edge>, AllocError> 
     Ok(edges)
 }
 
+/// The points in their order, each once.
+pub fn distinct(alloc: Global, points: &[Point]) -> Result<Vec<Point>, AllocError> {
+    let mut sorted = Vec::from_slice(alloc, points)?;
+    sorted.sort()?;
+    let mut found = Vec::new(alloc);
+    for point in &sorted {
+        if found.last() != Some(point) {
+            found.push(*point)?;
+        }
+    }
+    Ok(found)
+}
+
 /// Whether the piece with this boundary holds a point of the grid `m`.
 pub fn holds(m: i128, q: Point, boundary: &[Edge]) -> bool {
     winding(m, q, boundary) != 0
