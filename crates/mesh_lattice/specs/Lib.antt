@@ -4,6 +4,7 @@ pub mod Counted
 pub mod FillRules
 pub mod Lists
 pub mod Marks
+pub mod Nearness
 pub mod Reach
 pub mod Rows
 pub mod Split
