@@ -8,9 +8,12 @@ pub mod Ends
 pub mod KeptBySplits
 pub mod Keys
 pub mod Meeting
+pub mod Means
+pub mod Nearness
 pub mod Options
 pub mod PlacesAmong
 pub mod RowLists
 pub mod SafeSplits
 pub mod SidesBack
 pub mod SoundSplits
+pub mod Strips
