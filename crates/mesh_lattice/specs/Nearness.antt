@@ -19,9 +19,15 @@ pub record IsNearTo (k m : ℕ) (e : Edge) (q : Point) : Type 0 where
 abbrev pub IsFarFrom : ℕ → ℕ → List Edge → Point → Type 0
 IsFarFrom k m es q = (e : Edge) → occurs e es ≡ true → IsNearTo k m e q → ⊥
 
--- each point of the second edge lies so near to the first
-abbrev pub StaysNear : ℕ → Edge → Edge → Type 0
-StaysNear k e f = (m : ℕ) → 0 < m → (q : Point) → IsOn (refined_edge m f) q → IsNearTo k m e q
+-- so near to one of some edges
+pub record IsNearSome (k m : ℕ) (es : List Edge) (q : Point) : Type 0 where
+  pub edge : Edge
+  pub listed : occurs edge es ≡ true
+  pub near : IsNearTo k m edge q
+
+-- each point of an edge, on every grid, lies so near to one of some edges
+abbrev pub StaysNear : ℕ → List Edge → Edge → Type 0
+StaysNear k es f = (m : ℕ) → 0 < m → (q : Point) → IsOn (refined_edge m f) q → IsNearSome k m es q
 
 -- a split, and the given edge that the split segment comes from, its witness
 pub record WitnessedSplit : Type 0 where
