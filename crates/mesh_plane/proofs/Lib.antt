@@ -3,6 +3,7 @@ pub mod ClosedLists
 pub mod Comparing
 pub mod Crossings
 pub mod Grids
+pub mod HalfPlanes
 pub mod Identities
 pub mod LineTurns
 pub mod Pieces
