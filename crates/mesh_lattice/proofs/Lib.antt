@@ -1,5 +1,6 @@
 pub mod Arithmetic
 pub mod Beside
+pub mod Beyond
 pub mod Boxes
 pub mod Counts
 pub mod Splits

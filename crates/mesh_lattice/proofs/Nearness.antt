@@ -5,6 +5,7 @@ use Rattle.std.proofs.Math.Nat.{mul-le-mul_right}
 use Rattle.std.proofs.lemmas.Int.{ints}
 use Rattle.mesh_plane.specs.Plane.{Point, Edge, turn}
 use Rattle.mesh_plane.specs.Winding.{refined}
+use Rattle.mesh_plane.proofs.HalfPlanes.{along_by}
 use Rattle.mesh_plane.proofs.PointExprs.{point_var, coordinates, turned}
 use Rattle.mesh_plane.proofs.Ring.{ring, var, lit, neg, ◌⊕◌, ◌⊖◌, ◌⊗◌}
 use Rattle.mesh_plane.proofs.Whole.{linear, mul_le_mul_left, le_of_mul_le_mul, mul_pos, one_mul}
@@ -14,10 +15,6 @@ use Rattle.mesh_lattice.specs.Split.{IsBetween, IsInBox, back}
 use Rattle.mesh_lattice.proofs.Boxes.{turn_start, turn_end, start_box, end_box, on_back}
 use Rattle.mesh_lattice.proofs.Means.{IsMean, mean_of_on, on_of_mean, mean_most}
 use Rattle.mesh_lattice.proofs.Strips.{IsInStrips, IsReached, reached}
-
--- a linear measure of points
-abbrev pub along_by : ℤ → ℤ → Point → ℤ
-along_by u v p = (u *ℤ p.0) +ℤ (v *ℤ p.1)
 
 -- ---- a near point goes by no linear measure much beyond both ends
 
