@@ -10,6 +10,7 @@ pub mod KeptBySplits
 pub mod Keys
 pub mod Meeting
 pub mod Means
+pub mod NearEdges
 pub mod Nearness
 pub mod Options
 pub mod PlacesAmong

@@ -32,7 +32,7 @@ size_product (negsuc n) d k h =
     ring (pos (suc n) ∷ d ∷ []) (lit (pos 64) ⊗ (neg (var 0) ⊗ var 1)) (var 0 ⊗ (lit (pos 64) ⊗ neg (var 1))) refl in
     omega (arith, linear)
 
-mean_along : (u v s t : ℤ) (a b z : Point) → (s +ℤ t) *ℤ z.0 ≡ (s *ℤ a.0) +ℤ (t *ℤ b.0) → (s +ℤ t) *ℤ z.1 ≡ (s *ℤ a.1) +ℤ (t *ℤ b.1) →
+pub mean_along : (u v s t : ℤ) (a b z : Point) → (s +ℤ t) *ℤ z.0 ≡ (s *ℤ a.0) +ℤ (t *ℤ b.0) → (s +ℤ t) *ℤ z.1 ≡ (s *ℤ a.1) +ℤ (t *ℤ b.1) →
     (s +ℤ t) *ℤ along_by u v z ≡ (s *ℤ along_by u v a) +ℤ (t *ℤ along_by u v b)
 mean_along u v s t a b z ex ey =
     ring (u ∷ v ∷ s ∷ t ∷ z.0 ∷ z.1 ∷ []) ((var 2 ⊕ var 3) ⊗ ((var 0 ⊗ var 4) ⊕ (var 1 ⊗ var 5))) ((var 0 ⊗ ((var 2 ⊕ var 3) ⊗ var 4)) ⊕ (var 1 ⊗ ((var 2 ⊕ var 3) ⊗ var 5))) refl
