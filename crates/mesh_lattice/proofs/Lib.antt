@@ -11,6 +11,7 @@ pub mod Keys
 pub mod Meeting
 pub mod Means
 pub mod NearEdges
+pub mod NearSplits
 pub mod Nearness
 pub mod Options
 pub mod PlacesAmong
