@@ -140,6 +140,16 @@ near_through k l m some es f q stays h = record {
 pub far_through : (k l m : ℕ) → 0 < m → (es : List Edge) (f : Edge) (q : Point) → StaysNear k es f → IsFarFrom (k + l) m es q → IsNearTo l m f q → ⊥
 far_through k l m some es f q stays far h = let s = near_through k l m some es f q stays h in far s.edge s.listed s.near
 
+pub far_from_through : (k l m : ℕ) → 0 < m → (es fs : List Edge) (q : Point) → ((f : Edge) → occurs f fs ≡ true → StaysNear k es f) → IsFarFrom (k + l) m es q → IsFarFrom l m fs q
+far_from_through k l m some es fs q stays far f listed h = far_through k l m some es f q (stays f listed) far h
+
+-- ---- of more edges, and at a greater distance
+
+pub stays_more : (k l : ℕ) (es ds : List Edge) (f : Edge) → k ≤ l → ((e : Edge) → occurs e es ≡ true → occurs e ds ≡ true) → StaysNear k es f → StaysNear l ds f
+stays_more k l es ds f more wider h m some q on =
+    let s = h m some q on in
+    record { edge = s.edge; listed = wider s.edge s.listed; near = near_more k l m s.edge q more s.near }
+
 pub far_less : (k l m : ℕ) (es : List Edge) (q : Point) → k ≤ l → IsFarFrom l m es q → IsFarFrom k m es q
 far_less k l m es q more far e listed h = far e listed (near_more k l m e q more h)
 
