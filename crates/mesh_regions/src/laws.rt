@@ -1,6 +1,9 @@
-//! Laws of split segments, of their sides and of their boundary. Each function does nothing: its clause is the law.
+//! Laws of split segments, of their sides and of their boundary, and of what lies near edges. Each function does
+//! nothing: its clause is the law.
 
 ghost use Rattle.mesh_regions.specs.BoundaryLaws.{BoundariesWindOnce, BoundariesAreBalanced};
+ghost use Rattle.mesh_regions.specs.NearnessLaws.{ClosedListsNearEdgesDoNotWind, FarPointsKeepTheirWinding};
+ghost use Rattle.mesh_regions.specs.NearnessLaws.{NearnessAddsUp, SegmentsStayNearEdges};
 ghost use Rattle.mesh_regions.specs.SideLaws.{SidesAreConstant, SidesFollowFromEnds, SegmentsHaveNeighbours};
 ghost use Rattle.mesh_regions.specs.SideLaws.{FacingSidesAgree};
 
@@ -33,4 +36,25 @@ pub fn boundaries_wind_once()
 /// At each point as many edges of the boundary start as end, so every walk along it closes.
 pub fn boundaries_are_balanced()
     ensures { BoundariesAreBalanced }
+{}
+
+/// Farther from each given edge than the nearness of splits, what they leave winds as the given edges do.
+pub fn far_points_keep_their_winding()
+    ensures { FarPointsKeepTheirWinding }
+{}
+
+/// Each point of each segment that splits leave lies within their nearness of a given edge.
+pub fn segments_stay_near_edges()
+    ensures { SegmentsStayNearEdges }
+{}
+
+/// What lies within one distance of an edge that stays within another of given edges lies within their sum of one of
+/// these.
+pub fn nearness_adds_up()
+    ensures { NearnessAddsUp }
+{}
+
+/// A closed list of points that all lie within a distance of one edge winds round no point farther from the edge.
+pub fn closed_lists_near_edges_do_not_wind()
+    ensures { ClosedListsNearEdgesDoNotWind }
 {}
