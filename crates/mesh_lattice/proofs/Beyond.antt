@@ -9,11 +9,7 @@ use Rattle.mesh_plane.proofs.PointExprs.{coordinates}
 use Rattle.mesh_plane.proofs.Ring.{ring, var, lit, neg, ◌⊕◌, ◌⊖◌, ◌⊗◌}
 use Rattle.mesh_plane.proofs.Whole.{linear, mul_nonneg, one_mul, zero_mul}
 use Rattle.mesh_lattice.specs.Nearness.{IsNearTo}
-use Rattle.mesh_lattice.proofs.Nearness.{HasSign, sign_of, past, near_beside, near_along}
-
--- 1 or -1
-abbrev IsUnit : ℤ → Type 0
-IsUnit s = (s ≡ pos 1) ⊎ (s ≡ negsuc 0)
+use Rattle.mesh_lattice.proofs.Nearness.{IsUnit, HasSign, opposite_size, sign_of, past, near_beside, near_along}
 
 unit_back : (s : ℤ) → IsUnit s → IsUnit (neg_ℤ s)
 unit_back s (inl e) = inr (ap neg_ℤ e)
@@ -194,9 +190,6 @@ beyond_across k m e q h = record {
 
     size_u : unsigned_abs u ≡ y
     size_u = unit_keeps h.unit (h.other *ℤ (e.1.1 -ℤ e.0.1)) h.is_unit ∙ unit_keeps h.other (e.1.1 -ℤ e.0.1) h.is_other
-
-    opposite_size : (z : ℤ) → unsigned_abs (neg_ℤ z) ≡ unsigned_abs z
-    opposite_size z = omega (arith, ints)
 
     size_v : unsigned_abs v ≡ x
     size_v =

@@ -140,10 +140,11 @@ near_through k l m some es f q stays h = record {
 pub far_through : (k l m : ℕ) → 0 < m → (es : List Edge) (f : Edge) (q : Point) → StaysNear k es f → IsFarFrom (k + l) m es q → IsNearTo l m f q → ⊥
 far_through k l m some es f q stays far h = let s = near_through k l m some es f q stays h in far s.edge s.listed s.near
 
+-- and from each of some edges that do: for answers that are made edges and split again
 pub far_from_through : (k l m : ℕ) → 0 < m → (es fs : List Edge) (q : Point) → ((f : Edge) → occurs f fs ≡ true → StaysNear k es f) → IsFarFrom (k + l) m es q → IsFarFrom l m fs q
 far_from_through k l m some es fs q stays far f listed h = far_through k l m some es f q (stays f listed) far h
 
--- ---- of more edges, and at a greater distance
+-- ---- of more edges, and at a greater distance: for the greatest distance of several answers
 
 pub stays_more : (k l : ℕ) (es ds : List Edge) (f : Edge) → k ≤ l → ((e : Edge) → occurs e es ≡ true → occurs e ds ≡ true) → StaysNear k es f → StaysNear l ds f
 stays_more k l es ds f more wider h m some q on =

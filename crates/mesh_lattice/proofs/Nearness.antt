@@ -16,6 +16,9 @@ use Rattle.mesh_lattice.proofs.Boxes.{turn_start, turn_end, start_box, end_box, 
 use Rattle.mesh_lattice.proofs.Means.{IsMean, mean_of_on, on_of_mean, mean_most}
 use Rattle.mesh_lattice.proofs.Strips.{IsInStrips, IsReached, reached}
 
+pub opposite_size : (x : ℤ) → unsigned_abs (neg_ℤ x) ≡ unsigned_abs x
+opposite_size x = omega (arith, ints)
+
 -- ---- a near point goes by no linear measure much beyond both ends
 
 size_product : (u d : ℤ) (k : ℕ) → 64 * unsigned_abs d ≤ k → (pos 64 *ℤ (u *ℤ d)) ≤ℤ (pos (unsigned_abs u) *ℤ pos k)
@@ -107,16 +110,20 @@ near_along k m e q h u v c start end =
 
 -- ---- the sign of a number
 
+-- 1 or -1
+abbrev pub IsUnit : ℤ → Type 0
+IsUnit s = (s ≡ pos 1) ⊎ (s ≡ negsuc 0)
+
 pub record HasSign (d : ℤ) : Type 0 where
   pub sign : ℤ
-  pub unit : (sign ≡ pos 1) ⊎ (sign ≡ negsuc 0)
+  pub unit : IsUnit sign
   pub size : sign *ℤ d ≡ pos (unsigned_abs d)
 
 pub sign_of : (d : ℤ) → HasSign d
 sign_of (pos n) = record { sign = pos 1; unit = inl refl; size = omega (arith, ints) }
 sign_of (negsuc n) = record { sign = negsuc 0; unit = inr refl; size = omega (arith, ints) }
 
-unit_size : (s d : ℤ) (k : ℕ) → (s ≡ pos 1) ⊎ (s ≡ negsuc 0) → neg_ℤ (pos k) ≤ℤ (pos 64 *ℤ (s *ℤ d)) → (pos 64 *ℤ (s *ℤ d)) ≤ℤ pos k → 64 * unsigned_abs d ≤ k
+unit_size : (s d : ℤ) (k : ℕ) → IsUnit s → neg_ℤ (pos k) ≤ℤ (pos 64 *ℤ (s *ℤ d)) → (pos 64 *ℤ (s *ℤ d)) ≤ℤ pos k → 64 * unsigned_abs d ≤ k
 unit_size s d k (inl e) low high = let f : s *ℤ d ≡ d = ap (λ (x : ℤ). x *ℤ d) e ∙ one_mul d in omega (arith, ints)
 unit_size s d k (inr e) low high = let f : s *ℤ d ≡ neg_ℤ d = ap (λ (x : ℤ). x *ℤ d) e ∙ omega (arith, ints) in omega (arith, ints)
 
@@ -204,7 +211,7 @@ spread e = unsigned_abs (e.1.0 -ℤ e.0.0) + unsigned_abs (e.1.1 -ℤ e.0.1)
 signed_between : (a z b : ℤ) (s : HasSign (b -ℤ a)) → IsBetween a z b → (pos 0 ≤ℤ (s.sign *ℤ (z -ℤ a))) × ((s.sign *ℤ (z -ℤ a)) ≤ℤ pos (unsigned_abs (b -ℤ a)))
 signed_between a z b s h = by s.unit
   where
-    by : (s.sign ≡ pos 1) ⊎ (s.sign ≡ negsuc 0) → (pos 0 ≤ℤ (s.sign *ℤ (z -ℤ a))) × ((s.sign *ℤ (z -ℤ a)) ≤ℤ pos (unsigned_abs (b -ℤ a)))
+    by : IsUnit s.sign → (pos 0 ≤ℤ (s.sign *ℤ (z -ℤ a))) × ((s.sign *ℤ (z -ℤ a)) ≤ℤ pos (unsigned_abs (b -ℤ a)))
     by (inl e) =
         let x : s.sign *ℤ (z -ℤ a) ≡ pos 1 *ℤ (z -ℤ a) = ap (λ (n : ℤ). n *ℤ (z -ℤ a)) e in
         let y : s.sign *ℤ (b -ℤ a) ≡ pos 1 *ℤ (b -ℤ a) = ap (λ (n : ℤ). n *ℤ (b -ℤ a)) e in
@@ -218,11 +225,11 @@ signed_between a z b s h = by s.unit
         let w = h.down (omega (arith, ints)) in
         (omega (arith, ints, w.1), omega (arith, ints, w.0))
 
-unit_bound : (s x : ℤ) → (s ≡ pos 1) ⊎ (s ≡ negsuc 0) → (neg_ℤ (pos (unsigned_abs x)) ≤ℤ (s *ℤ x)) × ((s *ℤ x) ≤ℤ pos (unsigned_abs x))
+unit_bound : (s x : ℤ) → IsUnit s → (neg_ℤ (pos (unsigned_abs x)) ≤ℤ (s *ℤ x)) × ((s *ℤ x) ≤ℤ pos (unsigned_abs x))
 unit_bound s x (inl e) = let f : s *ℤ x ≡ pos 1 *ℤ x = ap (λ (n : ℤ). n *ℤ x) e in (omega (arith, ints), omega (arith, ints))
 unit_bound s x (inr e) = let f : s *ℤ x ≡ negsuc 0 *ℤ x = ap (λ (n : ℤ). n *ℤ x) e in (omega (arith, ints), omega (arith, ints))
 
-unit_product : (s t x : ℤ) → (s ≡ pos 1) ⊎ (s ≡ negsuc 0) → (t ≡ pos 1) ⊎ (t ≡ negsuc 0) →
+unit_product : (s t x : ℤ) → IsUnit s → IsUnit t →
     (neg_ℤ (pos (unsigned_abs x)) ≤ℤ (s *ℤ (t *ℤ x))) × ((s *ℤ (t *ℤ x)) ≤ℤ pos (unsigned_abs x))
 unit_product s t x hs ht =
     let outer = unit_bound s (t *ℤ x) hs in
@@ -334,9 +341,6 @@ turn_of_near k e p h = both (turn e.0 e.1 p) (k * spread e) (omega (arith, linea
         refl in
         omega (arith, linear, past, near_along k 1 e p h dy (neg_ℤ dx) (along_by dy (neg_ℤ dx) (refined 1 e.0)) (omega (arith, linear)) (omega (arith, linear, start)))
 
-    opposite_size : (x : ℤ) → unsigned_abs (neg_ℤ x) ≡ unsigned_abs x
-    opposite_size x = omega (arith, ints)
-
     size_left : (pos (unsigned_abs (neg_ℤ dy)) +ℤ pos (unsigned_abs dx)) *ℤ (pos k *ℤ pos 1) ≡ pos (k * spread e)
     size_left =
         ap (λ (n : ℕ). (pos n +ℤ pos (unsigned_abs dx)) *ℤ (pos k *ℤ pos 1)) (opposite_size dy)
@@ -389,6 +393,7 @@ near_start k e = near_at k e e.0 (record { on_line = turn_start e.0 e.1; in_box 
 pub near_end : (k : ℕ) (e : Edge) → IsNearTo k 1 e e.1
 near_end k e = near_at k e e.1 (record { on_line = turn_end e.0 e.1; in_box = end_box e })
 
+-- for a witness that stands the other way about
 pub near_back : (k m : ℕ) (e : Edge) (q : Point) → IsNearTo k m e q → IsNearTo k m (back e) q
 near_back k m e q h = record {
   grid = h.grid;
