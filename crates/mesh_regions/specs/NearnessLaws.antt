@@ -1,11 +1,18 @@
 -- Laws of points near edges and far from them, in 64ths of a grid unit. The function of the same name in the module
 -- `laws` carries each.
-use Rattle.std.specs.Prelude.{ℕ, ◌+◌, ◌<◌, ◌≡◌, true, List, pos}
+use Rattle.std.specs.Prelude.{ℕ, ◌+◌, ◌*◌, ◌<◌, ◌≤◌, ◌≡◌, ◌↔◌, true, List, pos, ◌-ℤ◌, unsigned_abs}
 use Rattle.std.specs.List.{All}
-use Rattle.mesh_plane.specs.Plane.{Point, Edge}
+use Rattle.mesh_plane.specs.Plane.{Point, Edge, turn}
 use Rattle.mesh_plane.specs.Winding.{boundary, winding}
 use Rattle.mesh_lattice.specs.Nearness.{IsNearTo, IsNearSome, IsFarFrom, StaysNear, IsNearness}
-use Rattle.mesh_lattice.specs.Split.{occurs, EdgeSplit, after}
+use Rattle.mesh_lattice.specs.Split.{occurs, IsInBox, EdgeSplit, after}
+
+-- a point in an edge's box lies as far from the edge as its turn by the sum of the edge's width and height
+abbrev pub NearnessIsByTurns : Type 0
+NearnessIsByTurns =
+    (k : ℕ) (e : Edge) (p : Point) → IsInBox e p
+    → (IsNearTo k 1 e p
+    ↔ (64 * unsigned_abs (turn e.0 e.1 p) ≤ k * (unsigned_abs (e.1.0 -ℤ e.0.0) + unsigned_abs (e.1.1 -ℤ e.0.1))))
 
 -- at each point farther than the nearness of splits from each given edge, on every grid, what the splits leave winds as
 -- the given edges do

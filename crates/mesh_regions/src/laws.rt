@@ -3,7 +3,7 @@
 
 ghost use Rattle.mesh_regions.specs.BoundaryLaws.{BoundariesWindOnce, BoundariesAreBalanced};
 ghost use Rattle.mesh_regions.specs.NearnessLaws.{ClosedListsNearEdgesDoNotWind, FarPointsKeepTheirWinding};
-ghost use Rattle.mesh_regions.specs.NearnessLaws.{NearnessAddsUp, SegmentsStayNearEdges};
+ghost use Rattle.mesh_regions.specs.NearnessLaws.{NearnessAddsUp, NearnessIsByTurns, SegmentsStayNearEdges};
 ghost use Rattle.mesh_regions.specs.SideLaws.{SidesAreConstant, SidesFollowFromEnds, SegmentsHaveNeighbours};
 ghost use Rattle.mesh_regions.specs.SideLaws.{FacingSidesAgree};
 
@@ -36,6 +36,11 @@ pub fn boundaries_wind_once()
 /// At each point as many edges of the boundary start as end, so every walk along it closes.
 pub fn boundaries_are_balanced()
     ensures { BoundariesAreBalanced }
+{}
+
+/// A point in an edge's box lies as far from the edge as its turn by the sum of the edge's width and height.
+pub fn nearness_is_by_turns()
+    ensures { NearnessIsByTurns }
 {}
 
 /// Farther from each given edge than the nearness of splits, what they leave winds as the given edges do.
