@@ -4,8 +4,8 @@ use Rattle.std.specs.Prelude.{ℤ, pos, neg_ℤ, ◌+ℤ◌, ◌-ℤ◌, ◌*ℤ
 use Rattle.std.proofs.lemmas.Int.{ints, to_z-of_z, to_z_pos, fits_signed_from_abs}
 use mir.Syntax.{w32, w128}
 use mir.Val.{SFits, to_z, of_z}
-use Rattle.mesh_plane.specs.Plane.{Point}
-use Rattle.mesh_plane.proofs.Sizes.{le_of_squares, sum_size, difference_size, product_size, size_kept}
+use Rattle.mesh_plane.specs.Plane.{Point, opposite}
+use Rattle.mesh_plane.proofs.Sizes.{le_of_squares, sum_size, difference_size, product_size, size_kept, length_opposite}
 use Rattle.mesh_sine.specs.Sine.{IsWithinOne}
 use Rattle.mesh_num.specs.Direction.{IsShort}
 use Rattle.mesh_num.proofs.Scaling.{short_bounded}
@@ -89,3 +89,18 @@ negated_fits k h = rw (to_z_pos w128 k (omega arith), zero_less (pos k)) (fits_s
 
 pub passed_negated : (k : ℕ) → k ≤ 2 ^ 126 → to_z w128 (of_z w128 (pos 0 -ℤ to_z w128 k)) ≡ neg_ℤ (pos k)
 passed_negated k h = rw (to_z_pos w128 k (omega arith), zero_less (pos k)) (size_kept (neg_ℤ (pos k)) (omega (arith, opposite_size (pos k) h)))
+
+-- ---- the other way
+
+pub opposite_passed : (unit : ℕ) (n : Point) → unit ≤ 2 ^ 30 → IsShort unit n
+    → (to_z w128 (of_z w128 (pos 0 -ℤ n.0)), to_z w128 (of_z w128 (pos 0 -ℤ n.1))) ≡ opposite n
+opposite_passed unit n l h =
+    let b : (unsigned_abs n.0 ≤ unit) × (unsigned_abs n.1 ≤ unit) = short_bounded unit n h in
+    let p : pos 0 -ℤ n.0 ≡ neg_ℤ n.0 = omega (arith, ints) in
+    let q : pos 0 -ℤ n.1 ≡ neg_ℤ n.1 = omega (arith, ints) in
+    let x : to_z w128 (of_z w128 (pos 0 -ℤ n.0)) ≡ neg_ℤ n.0 = size_kept (pos 0 -ℤ n.0) (omega (arith, ints)) ∙ p in
+    let y : to_z w128 (of_z w128 (pos 0 -ℤ n.1)) ≡ neg_ℤ n.1 = size_kept (pos 0 -ℤ n.1) (omega (arith, ints)) ∙ q in
+    λ i. (x i, y i)
+
+pub short_opposite : (unit : ℕ) (n : Point) → IsShort unit n → IsShort unit (opposite n)
+short_opposite unit n h = rw (length_opposite n) h

@@ -40,6 +40,10 @@ scaled_direction unit radius n = (scaled unit radius n.0, scaled unit radius n.1
 abbrev pub KeepsOpposites : ℕ → Point → Point → Type 0
 KeepsOpposites unit v n = (m : Point) → IsDirection unit (opposite v) m → m ≡ opposite n
 
+-- `m` is the direction of the opposite of each vector with the direction `n`
+abbrev pub TurnsRound : ℕ → Point → Point → Type 0
+TurnsRound unit n m = (v : Point) → IsDirection unit v n → IsDirection unit (opposite v) m
+
 -- a parallel vector that looks the same way has the same direction; `n` is the direction of `v`
 abbrev pub SameWay : ℕ → Point → Point → Type 0
 SameWay unit v n = (w m : Point) → IsDirection unit w m → cross v w ≡ pos 0 → pos 0 <ℤ dot v w → n ≡ m

@@ -127,6 +127,18 @@ fn directions_of_i32(rt: HostRuntime) -> Result<(), Fail> {
     expect_equal(&UnitIntVector::<i32>::DENOMINATOR, &1073741824, &"the unit")
 }
 
+#[test]
+fn directions_the_other_way(rt: HostRuntime) -> Result<(), Fail> {
+    for row in DIRECTIONS_OF_I16 {
+        let (x, y, _, _) = *row;
+        let there = direction_of_i16(&rt, x, y).ok_or("no direction")?;
+        let back = direction_of_i16(&rt, x.wrapping_neg(), y.wrapping_neg()).ok_or("no direction")?;
+        let turned = there.opposite();
+        expect_equal(&(turned.x(), turned.y()), &(back.x(), back.y()), row)?;
+    }
+    Ok(())
+}
+
 /// The direction that was found of a vector is the one that its definition has.
 fn expect_searched<I: IntNumber>(
     found: Option<UnitIntVector<I>>,

@@ -1,5 +1,7 @@
 //! The coordinate types and the steps between them.
 
+ghost use Rattle.std.specs.Prelude.{◌<◌};
+
 use crate::pairs::expect_pairs;
 use mesh_num::num::convert::{is_less, is_wide_less, wide_size};
 use mesh_num::num::quotient::mul_div;
@@ -90,4 +92,25 @@ fn orders(rt: HostRuntime) {
 fn angles(rt: HostRuntime) {
     let quarter = Angle::from_bits(1 << 30);
     assert!(rt; quarter.bits() == 1073741824 && quarter != Angle::from_bits(0));
+}
+
+#[test]
+fn thousandths_of_degrees() -> Result<(), Fail> {
+    expect_pairs(&[
+        (bits_of(0), 0),
+        (bits_of(1), 11930),
+        (bits_of(2), 23861),
+        (bits_of(1_000), 11930465),
+        (bits_of(45_000), 536870912),
+        (bits_of(60_000), 715827883),
+        (bits_of(90_000), 1073741824),
+        (bits_of(359_999), 4294955366),
+    ])
+}
+
+/// The bits of an angle of so many thousandths of a degree.
+fn bits_of(thousandths: u32) -> i128
+    requires { thousandths < 360000 }
+{
+    i128::from(Angle::from_thousandths_of_degree(thousandths).bits())
 }

@@ -1,8 +1,10 @@
 //! Angles as whole numbers of bits.
 
-ghost use Rattle.std.specs.Prelude.{◌≡◌};
+ghost use Rattle.std.specs.Prelude.{◌≡◌, ◌*◌, ◌^◌, ◌<◌, pos};
+ghost use Rattle.mesh_plane.specs.Rounding.{rounded};
 ghost use Rattle.mesh_sine.specs.Sine.{sin_cos, IsWithinOne};
 
+use crate::num::share::rounded_quotient;
 use mesh_sine::sine;
 
 /// An angle of `bits`; 2 to the power of 32 bits are a full turn.
@@ -33,6 +35,16 @@ impl Angle {
         ensures { result ≡ bits }
     {
         Angle { bits }
+    }
+
+    /// The angle of so many thousandths of a degree, below a full turn of 360,000, to the nearest bit: at most a
+    /// half of a bit away, which is about 42 billionths of a degree. There is no half between two bits.
+    pub fn from_thousandths_of_degree(thousandths: u32) -> Self
+        requires { thousandths < 360000 }
+        ensures { pos result ≡ rounded (pos (thousandths * 2 ^ 32)) 360000 }
+    {
+        let bits = rounded_quotient(i128::from(thousandths) * (1 << 32), 360_000);
+        Angle { bits: bits as u32 }
     }
 
     /// How many bits the angle has.

@@ -2,8 +2,9 @@
 
 ghost use Rattle.std.specs.Prelude.{◌≡◌, ◌*◌, ◌≤◌, ◌↔◌, ℤ, pos, unsigned_abs, IsTrue, IsNone, IfSome, MatchOption};
 ghost use Rattle.mesh_plane.specs.Bounds.{IsSafe};
-ghost use Rattle.mesh_plane.specs.Plane.{length_sq};
+ghost use Rattle.mesh_plane.specs.Plane.{length_sq, opposite};
 ghost use Rattle.mesh_num.specs.Direction.{IsDirection, IsFresh, IsShort, KeepsOpposites, SameWay, KeepsTurns};
+ghost use Rattle.mesh_num.specs.Direction.{TurnsRound};
 ghost use Rattle.mesh_num.specs.Direction.{KeepsScaledTurns, scaled, scaled_direction};
 ghost use Rattle.mesh_num.specs.Rotation.{turned_along, IsWithinLength};
 ghost use Rattle.mesh_plane.specs.Rounding.{rounded};
@@ -66,6 +67,14 @@ impl<I: IntNumber> UnitIntVector<I> {
         ensures { I.value result ≡ self.1 }
     {
         self.y
+    }
+
+    /// The direction the other way, exactly as long: each component has the other sign.
+    pub fn opposite(self) -> Self
+        ensures value { result ≡ opposite self }
+        ensures direction { TurnsRound I.unit self result }
+    {
+        Self::from_parts(-widen(self.x), -widen(self.y))
     }
 
     pub(crate) fn from_parts(x: i128, y: i128) -> Self
