@@ -1,13 +1,17 @@
 -- Lemmas over points: the joins at the corners of a path are asked for as joins ask.
 use Rattle.std.proofs.Common.{◌≡◌, ◌≢◌, ℕ, ◌≤◌, ◌^◌, List, [], ◌++◌, refl, sym, subst, ◌∙◌, ap, arith}
-use Rattle.std.specs.Prelude.{ℤ, pos, ◌*ℤ◌, ◌≤ℤ◌, ◌<ℤ◌, ◌↔◌, IsTrue, Bool, true, false, cond, int_lt}
+use Rattle.std.specs.Prelude.{ℤ, pos, ◌+ℤ◌, ◌*ℤ◌, ◌≤ℤ◌, ◌<ℤ◌, Bool, true, false, cond, int_lt}
 use Rattle.std.specs.List.{All}
-use Rattle.std.proofs.lemmas.Int.{ints, by_lt_z}
+use Rattle.std.proofs.lemmas.Bool.{true≢false, false≢true}
+use Rattle.std.proofs.lemmas.Int.{ints}
+use Rattle.std.specs.Ordering.{int_cmp, is_lt}
+use Rattle.std.specs.declared.cmp.Ordering.TheVariants.{Less, Equal, Greater}
 use Rattle.std.proofs.lemmas.List.Elements.{All-weaker}
 use Rattle.mesh_plane.specs.Plane.{Point, Edge, plus, minus, cross, turn, right_quarter}
-use Rattle.mesh_plane.specs.Winding.{fan}
+use Rattle.mesh_plane.specs.Winding.{crossing_on, fan, winding}
 use Rattle.mesh_plane.proofs.Identities.{cross_flip}
 use Rattle.mesh_plane.proofs.ClosedLists.{all_both}
+use Rattle.mesh_plane.proofs.Sums.{total_append}
 use Rattle.mesh_plane.proofs.Whole.{linear, multiplied}
 use Rattle.mesh_num.specs.Direction.{IsShort, scaled_direction}
 use Rattle.mesh_num.proofs.Parts.{direction_fresh, direction_short}
@@ -25,7 +29,7 @@ use Rattle.mesh_join.proofs.Joins.{join_keeps}
 use Rattle.mesh_offset.proofs.Quarters.{quarters_turn}
 use Rattle.mesh_stroke.specs.Paths.{neighbours}
 use Rattle.mesh_num.specs.Segments.{SignedEdge, segments_of}
-use Rattle.mesh_stroke.specs.Private.Sections.{Section, section_of, own_edge, faced_edges, opposite_side, IsCorner}
+use Rattle.mesh_stroke.specs.Private.Sections.{Section, own_edge, faced_edges, faced_side, opposite_side, IsCorner, CornersAddUp}
 use Rattle.mesh_stroke.specs.Strokes.{EdgePair, heading, turns_right, facing, joint_right, inner_edges, outer_edges}
 use Rattle.mesh_stroke.specs.Strokes.{corner_edges, corner_pieces}
 use Rattle.mesh_stroke.proofs.Chains.{IsChain, neighbours_all}
@@ -72,11 +76,6 @@ facing_is P c here there = by (int_lt (left_turn c) (pos 0)) refl
     by : (b : Bool) → int_lt (left_turn c) (pos 0) ≡ b → P (cond b (other_way c) c)
     by true h = there (rw (other_way_turns c) (flipped (minus c.0.1 c.0.0) (minus c.1.1 c.1.0) h))
     by false h = here (omega (arith, ints, h))
-
--- the side that is drawn, as the corner is faced
-abbrev pub faced_side : StrokeSide → Bool → StrokeSide
-faced_side side true = opposite_side side
-faced_side side false = side
 
 pub faced_by : (P : StrokeSide → EdgePair → Type 0) (side : StrokeSide) (c : EdgePair)
     → (pos 0 ≤ℤ left_turn c → P side c) → (pos 0 ≤ℤ left_turn (other_way c) → P (opposite_side side) (other_way c))
@@ -196,10 +195,6 @@ faced_here c h = by (int_lt (left_turn c) (pos 0)) refl
 pub turned_there : (p n : Edge) → left_turn (p, n) <ℤ pos 0 → pos 0 ≤ℤ left_turn (back n, back p)
 turned_there p n h = rw (other_way_turns (p, n)) (omega (arith, ints, cross_flip (minus p.1 p.0) (minus n.1 n.0), h))
 
--- a number for which a test is false is not below 0
-pub not_below : (b : Bool) (x : ℤ) → (IsTrue b ↔ x <ℤ pos 0) → b ≡ false → pos 0 ≤ℤ x
-not_below b x h e = by_lt_z x (pos 0) (λ l. let k : true ≡ false = sym (h.1 l) ∙ e in cc) (λ l. l)
-
 -- the joint that the code hands to a join is that of the corner
 joint_is : (unit : ℕ) (radius : ℤ) (join : JoinStyle) (p n : Section) → IsCorner unit radius join (p, n) →
     joint p.b p.b_right n.a_right p.direction n.direction radius Counterclockwise
@@ -227,34 +222,29 @@ corner_here unit radius side join c left = faced_is unit radius side join c ∙ 
     by true e = absurd (omega (arith, ints, left, e))
     by false e = refl
 
--- one that does is drawn as the code's sections of its other end say
-pub corner_there : (unit : ℕ) (radius : ℤ) (side : StrokeSide) (join : JoinStyle) (p n before after : Section)
-    → left_turn (own_edge p, own_edge n) <ℤ pos 0 → before ≡ section_of unit radius (n.b, n.a)
-    → after ≡ section_of unit radius (p.b, p.a)
-    → corner_edges unit radius side join (own_edge p, own_edge n)
-    ≡ faced_edges unit radius (opposite_side side) join (own_edge before, own_edge after)
+-- one that does is drawn as it is seen from its other end
+pub corner_there : (unit : ℕ) (radius : ℤ) (side : StrokeSide) (join : JoinStyle) (p n before after : Edge)
+    → left_turn (p, n) <ℤ pos 0 → before ≡ back n → after ≡ back p
+    → corner_edges unit radius side join (p, n)
+    ≡ faced_edges unit radius (opposite_side side) join (before, after)
 corner_there unit radius side join p n before after turned b a =
-    faced_is unit radius side join c ∙ by (int_lt (left_turn c) (pos 0)) refl
+    faced_is unit radius side join (p, n) ∙ by (int_lt (left_turn (p, n)) (pos 0)) refl
     ∙ ap (faced_edges unit radius (opposite_side side) join) (sym ends)
   where
-    c : EdgePair
-    c = (own_edge p, own_edge n)
+    ends : (before, after) ≡ other_way (p, n)
+    ends = λ i. (b i, a i)
 
-    ends : (own_edge before, own_edge after) ≡ other_way c
-    ends = λ i. (own_edge (b i), own_edge (a i))
-
-    by : (d : Bool) → int_lt (left_turn c) (pos 0) ≡ d
-        → faced_edges unit radius (faced_side side d) join (cond d (other_way c) c)
-        ≡ faced_edges unit radius (opposite_side side) join (other_way c)
+    by : (d : Bool) → int_lt (left_turn (p, n)) (pos 0) ≡ d
+        → faced_edges unit radius (faced_side side d) join (cond d (other_way (p, n)) (p, n))
+        ≡ faced_edges unit radius (opposite_side side) join (other_way (p, n))
     by true e = refl
     by false e = absurd (omega (arith, ints, turned, e))
 
 -- so what was drawn there was drawn at the corner
-pub drawn_there : (unit : ℕ) (radius : ℤ) (side : StrokeSide) (join : JoinStyle) (p n before after : Section)
-    (old new : List SignedEdge) → left_turn (own_edge p, own_edge n) <ℤ pos 0
-    → before ≡ section_of unit radius (n.b, n.a) → after ≡ section_of unit radius (p.b, p.a)
-    → new ≡ old ++ segments_of (faced_edges unit radius (opposite_side side) join (own_edge before, own_edge after))
-    → new ≡ old ++ segments_of (corner_edges unit radius side join (own_edge p, own_edge n))
+pub drawn_there : (unit : ℕ) (radius : ℤ) (side : StrokeSide) (join : JoinStyle) (p n before after : Edge)
+    (old new : List SignedEdge) → left_turn (p, n) <ℤ pos 0 → before ≡ back n → after ≡ back p
+    → new ≡ old ++ segments_of (faced_edges unit radius (opposite_side side) join (before, after))
+    → new ≡ old ++ segments_of (corner_edges unit radius side join (p, n))
 drawn_there unit radius side join p n before after old new turned b a h =
     h
     ∙ ap (λ (es : List Edge). old ++ segments_of es)
@@ -268,3 +258,38 @@ drawn_here unit radius side join p n old new left h =
     h
     ∙ ap (λ (es : List Edge). old ++ segments_of es)
     (sym (corner_here unit radius side join (own_edge p, own_edge n) left))
+
+-- ---- how the turn of a corner is told
+
+-- a number is below 0 where its comparison with 0 says so
+pub compared_below : (x : ℤ) → is_lt (int_cmp x (pos 0)) ≡ true → x <ℤ pos 0
+compared_below x h = by (int_lt x (pos 0)) (int_lt (pos 0) x) refl h
+  where
+    by : (b d : Bool) → int_lt x (pos 0) ≡ b → is_lt (cond b Less (cond d Greater Equal)) ≡ true → x <ℤ pos 0
+    by true d e k = omega (arith, ints, e)
+    by false true e k = absurd (false≢true k)
+    by false false e k = absurd (false≢true k)
+
+pub compared_above : (x : ℤ) → is_lt (int_cmp x (pos 0)) ≡ false → pos 0 ≤ℤ x
+compared_above x h = by (int_lt x (pos 0)) (int_lt (pos 0) x) refl h
+  where
+    by : (b d : Bool) → int_lt x (pos 0) ≡ b → is_lt (cond b Less (cond d Greater Equal)) ≡ false → pos 0 ≤ℤ x
+    by true d e k = absurd (true≢false k)
+    by false d e k = omega (arith, ints, e)
+
+-- ---- halves
+
+-- one half of a stroke has the join of a corner, and the other one the edges through the vertex
+parts_add : (unit : ℕ) (radius : ℤ) (join : JoinStyle) (c : EdgePair) (m : ℕ) (q : Point)
+    → winding m q (inner_edges unit radius c ++ outer_edges unit radius join c)
+    ≡ winding m q (inner_edges unit radius c) +ℤ winding m q (outer_edges unit radius join c)
+parts_add unit radius join c m q =
+    total_append (crossing_on m q) (inner_edges unit radius c) (outer_edges unit radius join c)
+
+pub left_and_right_add_up : CornersAddUp Left Right
+left_and_right_add_up =
+    record { sum = λ unit radius join c m q. omega (arith, linear, parts_add unit radius join c m q) }
+
+pub right_and_left_add_up : CornersAddUp Right Left
+right_and_left_add_up =
+    record { sum = λ unit radius join c m q. omega (arith, linear, parts_add unit radius join c m q) }

@@ -11,7 +11,7 @@ use Rattle.mesh_join.specs.declared.style.StrokeSide.{StrokeSide}
 use Rattle.mesh_join.specs.declared.style.StrokeSide.TheVariants.{Both}
 use Rattle.mesh_stroke.specs.Caps.{CapKind, cap_edges}
 use Rattle.mesh_stroke.specs.Ends.{half_turn}
-use Rattle.mesh_stroke.specs.Private.Sections.{Section, section_of, own_edge, faced_edges, opposite_side}
+use Rattle.mesh_stroke.specs.Private.Sections.{Section, own_edge, faced_edges, opposite_side}
 use Rattle.mesh_stroke.specs.Strokes.{heading, corner_edges, cap_at, open_ends}
 use Rattle.mesh_stroke.proofs.Corners.{left_turn, corner_here, corner_there}
 
@@ -64,13 +64,10 @@ module _ (p q r t : Point) where
 
 -- ---- corners
 
-pub room_there : (unit : ℕ) (radius : ℤ) (side : StrokeSide) (join : JoinStyle) (p n before after : Section)
-    (count capacity : ℕ)
-    → left_turn (own_edge p, own_edge n) <ℤ pos 0 → before ≡ section_of unit radius (n.b, n.a)
-    → after ≡ section_of unit radius (p.b, p.a)
-    → count + length (segments_of (corner_edges unit radius side join (own_edge p, own_edge n))) ≤ capacity
-    → count + length (segments_of (faced_edges unit radius (opposite_side side) join (own_edge before, own_edge after)))
-    ≤ capacity
+pub room_there : (unit : ℕ) (radius : ℤ) (side : StrokeSide) (join : JoinStyle) (p n before after : Edge)
+    (count capacity : ℕ) → left_turn (p, n) <ℤ pos 0 → before ≡ back n → after ≡ back p
+    → count + length (segments_of (corner_edges unit radius side join (p, n))) ≤ capacity
+    → count + length (segments_of (faced_edges unit radius (opposite_side side) join (before, after))) ≤ capacity
 room_there unit radius side join p n before after count capacity turned b a fits =
     subst (λ (es : List Edge). count + length (segments_of es) ≤ capacity)
     (corner_there unit radius side join p n before after turned b a) fits
@@ -85,26 +82,21 @@ room_here unit radius side join p n count capacity left fits =
 
 -- ---- caps
 
-pub room_for_start : (unit : ℕ) (radius : ℤ) (start end : CapKind) (first last before : Section) (count capacity : ℕ)
-    → before ≡ section_of unit radius (first.b, first.a)
-    → count + length (segments_of (open_ends unit radius Both start end (own_edge first) (own_edge last))) ≤ capacity
-    → count + length (segments_of (cap_edges start unit (half_turn unit radius before.b
-    (heading unit (own_edge before))))) ≤ capacity
-room_for_start unit radius start end first last before count capacity e fits =
-    subst (λ (g : Edge). count + length (segments_of (cap_at unit radius start g)) ≤ capacity) (sym (ap own_edge e))
-    (first_edges_fit (cap_at unit radius start (back (own_edge first))) (cap_at unit radius end (own_edge last))
-    count capacity fits)
-
-pub room_for_end : (unit : ℕ) (radius : ℤ) (start end : CapKind) (first last before : Section)
-    (old mid : List SignedEdge) (capacity grown : ℕ) → before ≡ section_of unit radius (first.b, first.a)
-    → mid ≡ old ++ segments_of (cap_edges start unit (half_turn unit radius before.b (heading unit (own_edge before))))
-    → capacity ≤ grown
-    → length old + length (segments_of (open_ends unit radius Both start end (own_edge first) (own_edge last)))
+pub room_for_start : (unit : ℕ) (radius : ℤ) (start end : CapKind) (first last before : Edge) (count capacity : ℕ)
+    → before ≡ back first
+    → count + length (segments_of (open_ends unit radius Both start end first last)) ≤ capacity
+    → count + length (segments_of (cap_edges start unit (half_turn unit radius before.1 (heading unit before))))
     ≤ capacity
-    → length mid + length (segments_of (cap_edges end unit (half_turn unit radius last.b
-    (heading unit (own_edge last))))) ≤ grown
+room_for_start unit radius start end first last before count capacity e fits =
+    subst (λ (g : Edge). count + length (segments_of (cap_at unit radius start g)) ≤ capacity) (sym e)
+    (first_edges_fit (cap_at unit radius start (back first)) (cap_at unit radius end last) count capacity fits)
+
+pub room_for_end : (unit : ℕ) (radius : ℤ) (start end : CapKind) (first last before : Edge)
+    (old mid : List SignedEdge) (capacity grown : ℕ) → before ≡ back first
+    → mid ≡ old ++ segments_of (cap_edges start unit (half_turn unit radius before.1 (heading unit before)))
+    → capacity ≤ grown
+    → length old + length (segments_of (open_ends unit radius Both start end first last)) ≤ capacity
+    → length mid + length (segments_of (cap_edges end unit (half_turn unit radius last.1 (heading unit last)))) ≤ grown
 room_for_end unit radius start end first last before old mid capacity grown e m more fits =
-    let own : own_edge before ≡ back (own_edge first) = ap own_edge e in
-    other_edges_fit (cap_at unit radius start (back (own_edge first))) (cap_at unit radius end (own_edge last))
-    old mid capacity grown
-    (m ∙ ap (λ (g : Edge). old ++ segments_of (cap_at unit radius start g)) own) more fits
+    other_edges_fit (cap_at unit radius start (back first)) (cap_at unit radius end last) old mid capacity grown
+    (m ∙ ap (λ (g : Edge). old ++ segments_of (cap_at unit radius start g)) e) more fits

@@ -1,18 +1,20 @@
 -- Lemmas over points and lists: the left and the right half of a stroke make the whole with butt caps.
-use Rattle.std.proofs.Common.{◌≡◌, ◌≢◌, ℕ, ◌<◌, List, [], ◌∷◌, arith}
+use Rattle.std.proofs.Common.{◌≡◌, ◌≢◌, ℕ, ◌<◌, List, [], ◌∷◌, sym, ◌∙◌, ap, arith}
 use Rattle.std.specs.Prelude.{ℤ, pos, ◌+ℤ◌, Bool, true, false, cond, int_le}
+use Rattle.std.specs.List.Sorted.{IsPermutation}
 use Rattle.std.proofs.lemmas.List.Elements.{All-head}
 use Rattle.mesh_plane.specs.Plane.{Point, Edge}
 use Rattle.mesh_plane.specs.Turning.{last_of}
-use Rattle.mesh_plane.specs.Winding.{total, crossing_on, IsOdd, IsStraight}
+use Rattle.mesh_plane.specs.Winding.{total, crossing_on, winding, IsOdd, IsStraight}
 use Rattle.mesh_plane.proofs.Crossings.{crossing_on_odd}
-use Rattle.mesh_plane.proofs.Sums.{sum_of_add, sum_of_same, total_append}
+use Rattle.mesh_plane.proofs.Sums.{sum_of_add, sum_of_same, total_append, total_permutation}
 use Rattle.mesh_plane.proofs.Triangles.{crossing_on_straight}
 use Rattle.mesh_plane.proofs.Whole.{linear}
 use Rattle.mesh_join.specs.Styles.{JoinStyle}
+use Rattle.mesh_join.specs.declared.style.StrokeSide.{StrokeSide}
 use Rattle.mesh_join.specs.declared.style.StrokeSide.TheVariants.{Both, Left, Right}
 use Rattle.mesh_stroke.specs.Caps.{CapKind}
-use Rattle.mesh_stroke.specs.Halves.{half_style, whole_style, HalvesAddUp, HalvesMakeTheWhole}
+use Rattle.mesh_stroke.specs.Halves.{half_style, whole_style, HalvesAddUp, HalvesMakeTheWhole, MakeTheWhole}
 use Rattle.mesh_stroke.specs.Paths.{neighbours, path_edges}
 use Rattle.mesh_stroke.specs.Styles.{StrokeStyle}
 use Rattle.mesh_stroke.specs.Strokes.{EdgePair, right_of, left_of, side_edges, turns_right, facing, inner_edges}
@@ -121,3 +123,21 @@ halves_add_up unit some style closed points =
 
 pub halves_make_the_whole : HalvesMakeTheWhole
 halves_make_the_whole unit least style closed points = halves_add_up unit (omega arith) style closed points
+
+-- edges that are those of one half make the whole with the other half
+module _ (unit : ℕ) (some : 0 < unit) (style : StrokeStyle) (closed : Bool) (points : List Point) (es : List Edge)
+    (same : IsPermutation es (stroke_edges unit style closed points)) where
+  abbrev winds : ℕ → Point → StrokeStyle → ℤ
+  winds m q drawn = winding m q (stroke_edges unit drawn closed points)
+
+  by_side : (side : StrokeSide) (m : ℕ) (q : Point) → style.side ≡ side
+      → winding m q es ≡ winds m q (half_style side style)
+  by_side side m q e =
+      sym (total_permutation (crossing_on m q) es (stroke_edges unit style closed points) same)
+      ∙ ap (λ (s : StrokeSide). winds m q (half_style s style)) e
+
+  pub makes_the_whole : MakeTheWhole unit style closed points es
+  makes_the_whole = record {
+    left = λ e m q. omega (arith, linear, by_side Left m q e, halves_add_up unit some style closed points m q);
+    right = λ e m q. omega (arith, linear, by_side Right m q e, halves_add_up unit some style closed points m q);
+  }

@@ -14,18 +14,19 @@ use Rattle.mesh_join.specs.Joints.{joint}
 use Rattle.mesh_join.specs.declared.style.StrokeSide.TheVariants.{Both}
 use Rattle.mesh_stroke.specs.Caps.{CapKind, cap_edges, cap_padding, IsCapped}
 use Rattle.mesh_stroke.specs.Ends.{half_turn}
-use Rattle.mesh_stroke.specs.Private.Sections.{Section, section_of, own_edge, IsMade, IsFacing}
+use Rattle.mesh_stroke.specs.Private.Sections.{Section, own_edge, IsMade}
 use Rattle.mesh_stroke.specs.Strokes.{heading, cap_at, open_ends}
 use Rattle.mesh_stroke.proofs.Corners.{apart_back}
-use Rattle.mesh_stroke.proofs.Sides.{heading_is, heading_back}
+use Rattle.mesh_stroke.proofs.Ends.{opposite_short}
+use Rattle.mesh_stroke.proofs.Sides.{heading_is}
 
 -- what the code hands to a cap is the half turn round the end of the section
-pub end_is : (unit : ℕ) (radius : ℤ) (s b : Section) → IsFacing unit radius s b →
-    joint s.b s.b_right s.b_left s.direction b.direction radius Counterclockwise ≡ half_turn unit radius s.b (heading unit (own_edge s))
-end_is unit radius s b h = λ i. joint s.b (h.made.made i).b_right (h.made.made i).b_left (h.made.made i).direction (inward i) radius Counterclockwise
-  where
-    inward : b.direction ≡ opposite (heading unit (own_edge s))
-    inward = ap (λ (t : Section). t.direction) h.facing ∙ heading_back unit (own_edge s) h.made.differ
+pub end_is : (unit : ℕ) (radius : ℤ) (s : Section) → IsMade unit radius s
+    → joint s.b s.b_right s.b_left s.direction (opposite s.direction) radius Counterclockwise
+    ≡ half_turn unit radius s.b (heading unit (own_edge s))
+end_is unit radius s h = λ i.
+    joint s.b (h.made i).b_right (h.made i).b_left (h.made i).direction (opposite (h.made i).direction) radius
+    Counterclockwise
 
 -- a half turn round the end of an edge can be capped
 pub end_capped : (unit : ℕ) (radius : ℤ) (kind : CapKind) (e : Edge) → 2 ^ 14 ≤ unit → e.0 ≢ e.1 → pos 0 ≤ℤ radius → IsSafeWidened unit (cap_padding kind radius) e.1 →
@@ -37,27 +38,31 @@ end_capped unit radius kind e least apart sign safe = record {
 }
 
 -- both caps were drawn
-pub caps_drawn : (unit : ℕ) (radius : ℤ) (start end : CapKind) (first last before : Section) (old mid new : List SignedEdge) →
-    before ≡ section_of unit radius (first.b, first.a) →
-    mid ≡ old ++ segments_of (cap_edges start unit (half_turn unit radius before.b (heading unit (own_edge before)))) →
-    new ≡ mid ++ segments_of (cap_edges end unit (half_turn unit radius last.b (heading unit (own_edge last)))) →
-    new ≡ old ++ segments_of (open_ends unit radius Both start end (own_edge first) (own_edge last))
+pub caps_drawn : (unit : ℕ) (radius : ℤ) (start end : CapKind) (first last before : Edge) (old mid new : List SignedEdge)
+    → before ≡ back first
+    → mid ≡ old ++ segments_of (cap_edges start unit (half_turn unit radius before.1 (heading unit before)))
+    → new ≡ mid ++ segments_of (cap_edges end unit (half_turn unit radius last.1 (heading unit last)))
+    → new ≡ old ++ segments_of (open_ends unit radius Both start end first last)
 caps_drawn unit radius start end first last before old mid new e m h =
-    let own : own_edge before ≡ back (own_edge first) = ap own_edge e in
-    let n : mid ≡ old ++ segments_of (cap_at unit radius start (back (own_edge first))) = m ∙ ap (λ (g : Edge). old ++ segments_of (cap_at unit radius start g)) own in
-    rw (h, n, segments_of-append (cap_at unit radius start (back (own_edge first))) (cap_at unit radius end (own_edge last)))
-    (append_assoc old (segments_of (cap_at unit radius start (back (own_edge first)))) (segments_of (cap_at unit radius end (own_edge last))))
+    let n : mid ≡ old ++ segments_of (cap_at unit radius start (back first)) =
+    m ∙ ap (λ (g : Edge). old ++ segments_of (cap_at unit radius start g)) e in
+    rw (h, n, segments_of-append (cap_at unit radius start (back first)) (cap_at unit radius end last))
+    (append_assoc old (segments_of (cap_at unit radius start (back first))) (segments_of (cap_at unit radius end last)))
 
 -- both directions are no longer than directions are
-pub facing_short : (unit : ℕ) (radius : ℤ) (s b : Section) → IsFacing unit radius s b → HaveLength unit s.direction b.direction
-facing_short unit radius s b h = record {
-  incoming_short = subst (λ (t : Section). IsShort unit t.direction) (sym h.made.made) (direction_short (heading_is unit (own_edge s) h.made.differ));
-  outgoing_short = subst (λ (t : Section). IsShort unit t.direction) (sym h.facing) (direction_short (heading_is unit (back (own_edge s)) (apart_back (own_edge s) h.made.differ)));
-}
+pub end_short : (unit : ℕ) (radius : ℤ) (s : Section) → IsMade unit radius s
+    → HaveLength unit s.direction (opposite s.direction)
+end_short unit radius s h = record { incoming_short = short; outgoing_short = opposite_short unit s.direction short }
+  where
+    short : IsShort unit s.direction
+    short =
+        subst (λ (t : Section). IsShort unit t.direction) (sym h.made)
+        (direction_short (heading_is unit (own_edge s) h.differ))
 
--- the start of a path, as the end of its first section read backwards
-pub start_capped : (unit : ℕ) (radius : ℤ) (kind : CapKind) (s b : Section) → 2 ^ 14 ≤ unit → IsMade unit radius s → b ≡ section_of unit radius (s.b, s.a) →
-    pos 0 ≤ℤ radius → IsSafeWidened unit (cap_padding kind radius) s.a → IsCapped unit kind (half_turn unit radius b.b (heading unit (own_edge b)))
-start_capped unit radius kind s b least h e sign safe =
-    subst (λ (g : Edge). IsCapped unit kind (half_turn unit radius g.1 (heading unit g))) (sym (ap own_edge e))
-    (end_capped unit radius kind (back (own_edge s)) least (apart_back (own_edge s) h.differ) sign safe)
+-- the start of a path, as the end of its first edge read backwards
+pub start_capped : (unit : ℕ) (radius : ℤ) (kind : CapKind) (e before : Edge) → 2 ^ 14 ≤ unit → e.0 ≢ e.1
+    → before ≡ back e → pos 0 ≤ℤ radius → IsSafeWidened unit (cap_padding kind radius) e.0
+    → IsCapped unit kind (half_turn unit radius before.1 (heading unit before))
+start_capped unit radius kind e before least apart same sign safe =
+    subst (λ (g : Edge). IsCapped unit kind (half_turn unit radius g.1 (heading unit g))) (sym same)
+    (end_capped unit radius kind (back e) least (apart_back e apart) sign safe)

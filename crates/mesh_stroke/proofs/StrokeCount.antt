@@ -29,12 +29,13 @@ use Rattle.mesh_stroke.proofs.CapKinds.{cap_keeps}
 use Rattle.mesh_stroke.specs.Drawn.{HasStockCaps}
 use Rattle.mesh_stroke.specs.Paths.{neighbours}
 use Rattle.mesh_stroke.specs.Styles.{StrokeStyle}
+use Rattle.mesh_stroke.specs.Private.Sections.{faced_side}
 use Rattle.mesh_stroke.specs.Strokes.{EdgePair, heading, section_piece, turns_right, facing, outer_edges}
 use Rattle.mesh_stroke.specs.Strokes.{corner_pieces, cap_at, cap_pieces, open_pieces, end_pieces, drawn_pieces}
 use Rattle.mesh_offset.proofs.Walks.{last_all}
 use Rattle.mesh_stroke.proofs.Chains.{IsChain}
 use Rattle.mesh_stroke.proofs.Corners.{IsMet, corners_met, facing_keeps, heading_short, apart_back}
-use Rattle.mesh_stroke.proofs.Corners.{faced_side, faced_pieces, pieces_are}
+use Rattle.mesh_stroke.proofs.Corners.{faced_pieces, pieces_are}
 use Rattle.mesh_stroke.proofs.Sides.{heading_is}
 
 -- the turn of a section's piece

@@ -27,11 +27,11 @@ use Rattle.mesh_stroke.specs.Paths.{neighbours, path_edges}
 use Rattle.mesh_stroke.specs.Styles.{StrokeStyle}
 use Rattle.mesh_stroke.specs.Strokes.{EdgePair, heading, turns_right, facing, side_edges, inner_edges, outer_edges}
 use Rattle.mesh_stroke.specs.Strokes.{corner_edges, cap_at, open_ends, path_ends, drawn_edges, stroke_edges}
-use Rattle.mesh_stroke.specs.Private.Sections.{faced_edges}
+use Rattle.mesh_stroke.specs.Private.Sections.{faced_edges, faced_side}
 use Rattle.mesh_offset.proofs.ProperEdges.{proper_length}
 use Rattle.mesh_offset.proofs.Walks.{last_all}
 use Rattle.mesh_stroke.proofs.Chains.{IsChain, path_chain}
-use Rattle.mesh_stroke.proofs.Corners.{IsMet, corners_met, facing_keeps, heading_short, apart_back, faced_side, faced_is}
+use Rattle.mesh_stroke.proofs.Corners.{IsMet, corners_met, facing_keeps, heading_short, apart_back, faced_is}
 use Rattle.mesh_stroke.proofs.Sides.{heading_is}
 
 -- ---- caps with few edges draw directly

@@ -25,8 +25,8 @@ use Rattle.mesh_stroke.specs.Strokes.{EdgePair, heading, right_of, left_of, righ
 use Rattle.mesh_stroke.specs.Strokes.{section_piece, turns_right, joint_right, outer_edges, inner_edges, corner_edges}
 use Rattle.mesh_stroke.specs.Strokes.{corner_pieces, cap_at, cap_pieces, open_ends, open_pieces, path_ends, end_pieces}
 use Rattle.mesh_stroke.specs.Strokes.{drawn_edges, drawn_pieces}
-use Rattle.mesh_stroke.specs.Private.Sections.{faced_edges, opposite_side}
-use Rattle.mesh_stroke.proofs.Corners.{faced_side, faced_pieces, faced_is, pieces_are}
+use Rattle.mesh_stroke.specs.Private.Sections.{faced_edges, opposite_side, faced_side}
+use Rattle.mesh_stroke.proofs.Corners.{faced_pieces, faced_is, pieces_are}
 use Rattle.mesh_offset.proofs.Walks.{pairs_ends}
 use Rattle.mesh_stroke.proofs.Chains.{IsChain, boundary_parts, neighbours_all}
 use Rattle.mesh_stroke.proofs.Sides.{right_back, left_back, sides_straight}

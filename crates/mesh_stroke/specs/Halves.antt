@@ -1,6 +1,6 @@
 -- Halves: what is drawn on the left of a path and what is drawn on its right make the whole stroke.
 use Rattle.std.specs.Prelude.{ℕ, ◌≤◌, ◌^◌, ◌≡◌, Bool, List, ◌+ℤ◌}
-use Rattle.mesh_plane.specs.Plane.{Point}
+use Rattle.mesh_plane.specs.Plane.{Point, Edge}
 use Rattle.mesh_plane.specs.Winding.{winding}
 use Rattle.mesh_join.specs.declared.style.StrokeSide.{StrokeSide}
 use Rattle.mesh_join.specs.declared.style.StrokeSide.TheVariants.{Both, Left, Right}
@@ -24,6 +24,19 @@ HalvesAddUp unit style closed points =
     → winding m q (stroke_edges unit (half_style Left style) closed points)
     +ℤ winding m q (stroke_edges unit (half_style Right style) closed points)
     ≡ winding m q (stroke_edges unit (whole_style style) closed points)
+
+-- the edges wind, together with the half of the stroke on the other side, as the whole with butt caps
+abbrev pub AddUpWith : StrokeSide → ℕ → StrokeStyle → Bool → List Point → List Edge → Type 0
+AddUpWith other unit style closed points es =
+    (m : ℕ) (q : Point)
+    → winding m q es +ℤ winding m q (stroke_edges unit (half_style other style) closed points)
+    ≡ winding m q (stroke_edges unit (whole_style style) closed points)
+
+-- edges that are drawn as one half of the stroke make the whole with the other half
+pub record MakeTheWhole (unit : ℕ) (style : StrokeStyle) (closed : Bool) (points : List Point) (es : List Edge)
+    : Type 0 where
+  pub left : style.side ≡ Left → AddUpWith Right unit style closed points es
+  pub right : style.side ≡ Right → AddUpWith Left unit style closed points es
 
 -- halves add up for every path, width, join and cap
 abbrev pub HalvesMakeTheWhole : Type 0

@@ -18,7 +18,7 @@ ghost use Rattle.mesh_offset.specs.Pieces.{WindAsPieces};
 ghost use Rattle.mesh_stroke.specs.Building.{style_with, HasDirectCaps, HasFewCapEdges, IsStrokable};
 ghost use Rattle.mesh_stroke.specs.Drawn.{HasStockCaps, PiecesWindOnce, WindsAsManyPieces};
 ghost use Rattle.mesh_stroke.specs.Private.Sections.{own_edge, IsCorner};
-ghost use Rattle.mesh_stroke.specs.Halves.{HalvesAddUp};
+ghost use Rattle.mesh_stroke.specs.Halves.{HalvesAddUp, MakeTheWhole};
 ghost use Rattle.mesh_stroke.specs.Paths.{path_edges};
 ghost use Rattle.mesh_stroke.specs.Reversal.{CountAlike, reversed_edges};
 ghost use Rattle.mesh_stroke.specs.Strokes.{corner_edges, side_edges, drawn_edges, stroke_edges, stroke_pieces};
@@ -120,6 +120,8 @@ impl<'a, I: IntNumber> StrokeBuilder<'a, I> {
 
         // Both halves make the whole.
         ensures halves { HalvesAddUp I.unit self.old closed path.now }
+        ensures whole { OnOk result (MakeTheWhole I.unit self.old closed path.now
+            (added_edges segments.old.items segments.new.items)) }
     {
         let length = segments.len();
         if let Err(error) = draw(

@@ -1,23 +1,26 @@
 //! Joins between two neighbouring sections.
 
-ghost use Rattle.std.specs.Prelude.{◌≡◌, ◌≤◌, ◌*◌, ◌++◌, IsTrue, ◌↔◌, pos, ◌<ℤ◌, ◌≤ℤ◌, ℤ, length, take, vec_capacity};
+ghost use Rattle.std.specs.Prelude.{◌≡◌, ◌≢◌, ◌≤◌, ◌*◌, ◌++◌, pos, ◌≤ℤ◌, ℤ, length, take, vec_capacity};
 ghost use Rattle.std.specs.Prelude.{IsOk, OnOk};
+ghost use Rattle.std.specs.Ordering.{int_cmp, is_lt};
 ghost use Rattle.mesh_plane.specs.Bounds.{IsSafe};
 ghost use Rattle.mesh_plane.specs.Plane.{cross, minus};
 ghost use Rattle.mesh_join.specs.Appending.{Appends, HasRoomForEdges};
 ghost use Rattle.mesh_join.specs.Joins.{HasFew};
 ghost use Rattle.mesh_join.specs.Styles.{JoinStyle};
-ghost use Rattle.mesh_stroke.specs.Private.Sections.{own_edge, faced_edges, opposite_side, IsCorner, IsMade};
+ghost use Rattle.mesh_join.specs.declared.style.StrokeSide.TheVariants.{Both};
+ghost use Rattle.mesh_stroke.specs.Private.Sections.{own_edge, faced_edges, faced_side, opposite_side, IsCorner, IsMade};
+ghost use Rattle.mesh_stroke.specs.Private.Sections.{CornersAddUp};
 ghost use Rattle.mesh_stroke.specs.Strokes.{corner_edges, inner_edges, outer_edges};
 
 use crate::section::StrokeSection;
 use mesh_join::arc::ArcDirection;
 use mesh_join::join::Join;
 use mesh_join::style::StrokeSide;
-use mesh_num::num::IntNumber;
-use mesh_num::num::convert::is_wide_less;
+use mesh_num::num::{IntNumber, WideNumber};
 use mesh_num::shape::segment::{Segment, SubjectSegments};
 use std::alloc::AllocError;
+use std::cmp::Ordering;
 
 /// Connects two neighbouring sections.
 pub(crate) trait JoinBuilder<I: IntNumber> {
@@ -56,35 +59,53 @@ impl<I: IntNumber> JoinBuilder<I> for Join<I> {
         side: StrokeSide,
         segments: &mut Vec<Segment<I>>,
     ) -> Result<(), AllocError> {
-        if turns_right(previous, next) {
-            let before = StrokeSection::new(next.b, next.a, radius);
-            let after = StrokeSection::new(previous.b, previous.a, radius);
-            return add_facing(self, &before, &after, radius, opposite(side), segments);
+        let turn = turn_between(previous, next);
+        let faced = faced_side(side, turn);
+        if turn.is_lt() {
+            return add_facing(
+                self,
+                &next.reversed(),
+                &previous.reversed(),
+                radius,
+                faced,
+                segments,
+            );
         }
-        add_facing(self, previous, next, radius, side, segments)
+        add_facing(self, previous, next, radius, faced, segments)
     }
 }
 
-/// The side that is drawn, seen from the other end.
-fn opposite(side: StrokeSide) -> StrokeSide
-    ensures { result ≡ opposite_side side }
+/// The side that is drawn, as a corner with this turn is faced: one that turns to the right is seen from its other end.
+/// The join lies on the right of a faced corner, also where the path turns exactly back.
+#[tactic(auto, using(crate::proofs::Corners::left_and_right_add_up, crate::proofs::Corners::right_and_left_add_up))]
+fn faced_side(side: StrokeSide, turn: Ordering) -> StrokeSide
+    ensures value { result ≡ faced_side side (is_lt turn) }
+    ensures halves { side ≢ Both → CornersAddUp result (faced_side (opposite_side side) (is_lt turn)) }
 {
     match side {
         StrokeSide::Both => StrokeSide::Both,
-        StrokeSide::Left => StrokeSide::Right,
-        StrokeSide::Right => StrokeSide::Left,
+        StrokeSide::Left => match turn {
+            Ordering::Less => StrokeSide::Right,
+            Ordering::Equal => StrokeSide::Left,
+            Ordering::Greater => StrokeSide::Left,
+        },
+        StrokeSide::Right => match turn {
+            Ordering::Less => StrokeSide::Left,
+            Ordering::Equal => StrokeSide::Right,
+            Ordering::Greater => StrokeSide::Right,
+        },
     }
 }
 
-/// Whether the path turns to the right from one section to the next.
-fn turns_right<I: IntNumber>(previous: &StrokeSection<I>, next: &StrokeSection<I>) -> bool
+/// How much the path turns to the left from one section to the next, compared with 0.
+fn turn_between<I: IntNumber>(previous: &StrokeSection<I>, next: &StrokeSection<I>) -> Ordering
     requires previous { IsSafe (2 * I.unit) (minus previous.now.b previous.now.a) }
     requires next { IsSafe (2 * I.unit) (minus next.now.b next.now.a) }
-    ensures { IsTrue result ↔ cross (minus previous.now.b previous.now.a) (minus next.now.b next.now.a) <ℤ pos 0 }
+    ensures { result ≡ int_cmp (cross (minus previous.now.b previous.now.a) (minus next.now.b next.now.a)) (pos 0) }
 {
     let before = previous.b - previous.a;
     let turn = before.cross_product(&(next.b - next.a));
-    is_wide_less::<I>(turn, I::ZERO.to_wide())
+    turn.to_i128().cmp(&0)
 }
 
 /// Adds what is drawn at a corner that does not turn to the right.

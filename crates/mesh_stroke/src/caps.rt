@@ -1,12 +1,12 @@
 //! The caps of both ends of an open path.
 
-ghost use Rattle.std.specs.Prelude.{◌≡◌, ◌≤◌, ℤ, length, take, vec_capacity, IsOk, OnOk};
+ghost use Rattle.std.specs.Prelude.{◌≡◌, ◌≤◌, ◌↔◌, ℤ, length, take, vec_capacity, IsTrue, IsOk, OnOk};
 ghost use Rattle.mesh_join.specs.Appending.{Appends, HasRoomForEdges};
 ghost use Rattle.mesh_join.specs.declared.style.StrokeSide.TheVariants.{Both};
 ghost use Rattle.mesh_stroke.specs.Caps.{drawn_cap, DrawsDirectly};
 ghost use Rattle.mesh_stroke.specs.Ends.{half_turn};
 ghost use Rattle.mesh_stroke.specs.Kinds.{kind_of};
-ghost use Rattle.mesh_stroke.specs.Private.Sections.{own_edge, AreEnds, IsFacing, IsMade};
+ghost use Rattle.mesh_stroke.specs.Private.Sections.{own_edge, AreEnds, CapsCount, IsMade};
 ghost use Rattle.mesh_stroke.specs.Strokes.{half_ends, heading, open_ends};
 
 use crate::cap::Cap;
@@ -66,11 +66,10 @@ impl<'a, I: IntNumber> BothCaps<'a, I> {
         ensures capacity { vec_capacity segments.old ≤ vec_capacity segments.new }
         ensures same { self.new ≡ self.old }
     {
-        match side {
-            StrokeSide::Both => self.add(first, last, radius, segments),
-            StrokeSide::Left => cut_off(first, last, StrokeSide::Left, segments),
-            StrokeSide::Right => cut_off(first, last, StrokeSide::Right, segments),
+        if has_caps(side) {
+            return self.add(first, last, radius, segments);
         }
+        cut_off(first, last, side, segments)
     }
 
     /// Adds the caps of an open path with these first and last sections.
@@ -91,10 +90,21 @@ impl<'a, I: IntNumber> BothCaps<'a, I> {
         ensures capacity { vec_capacity segments.old ≤ vec_capacity segments.new }
         ensures same { self.new ≡ self.old }
     {
-        let before = StrokeSection::new(first.b, first.a, radius);
-        let after = StrokeSection::new(last.b, last.a, radius);
-        self.start.add(&end_of(&before, first, radius), segments)?;
-        self.end.add(&end_of(last, &after, radius), segments)
+        self.start
+            .add(&end_of(&first.reversed(), radius), segments)?;
+        self.end.add(&end_of(last, radius), segments)
+    }
+}
+
+/// Whether an open path that is drawn on this side ends in its caps: a half is cut off straight, and no cap counts.
+fn has_caps(side: StrokeSide) -> bool
+    ensures value { IsTrue result ↔ (side ≡ Both) }
+    ensures count { CapsCount side result }
+{
+    match side {
+        StrokeSide::Both => true,
+        StrokeSide::Left => false,
+        StrokeSide::Right => false,
     }
 }
 
@@ -120,13 +130,9 @@ fn cut_off<I: IntNumber>(
     segments.push_non_degenerate(last.b_right, last.b_left)
 }
 
-/// The end of a section; `back` is the section read backwards.
-fn end_of<I: IntNumber>(
-    section: &StrokeSection<I>,
-    back: &StrokeSection<I>,
-    radius: I,
-) -> PathEnd<I>
-    requires { IsFacing I.unit (I.value radius) section.now back.now }
+/// The end of a section.
+fn end_of<I: IntNumber>(section: &StrokeSection<I>, radius: I) -> PathEnd<I>
+    requires { IsMade I.unit (I.value radius) section.now }
     ensures { result ≡ half_turn I.unit (I.value radius) section.now.b (heading I.unit (own_edge section.now)) }
 {
     PathEnd {
@@ -134,7 +140,7 @@ fn end_of<I: IntNumber>(
         right: section.b_right,
         left: section.b_left,
         outward: section.direction,
-        inward: back.direction,
+        inward: section.direction.opposite(),
         radius,
     }
 }

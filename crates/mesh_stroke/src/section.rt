@@ -4,6 +4,7 @@ ghost use Rattle.std.specs.Prelude.{◌≡◌, ◌≢◌, ◌≤◌, ℤ, pos, u
 ghost use Rattle.mesh_plane.specs.Bounds.{IsSafe};
 ghost use Rattle.mesh_plane.specs.Plane.{minus, right_quarter};
 ghost use Rattle.mesh_num.specs.Rectangle.{IsSafeWidened};
+ghost use Rattle.mesh_lattice.specs.Split.{back};
 ghost use Rattle.mesh_join.specs.Appending.{Appends, HasRoomForEdges};
 ghost use Rattle.mesh_stroke.specs.Private.Sections.{own_edge, on_side, section_of, IsMade};
 ghost use Rattle.mesh_stroke.specs.Strokes.{side_edges};
@@ -80,6 +81,23 @@ impl<I: IntNumber> StrokeSection<I> {
             a_right: a.moved_right(&scaled),
             b_left: left_of(b, &scaled),
             b_right: b.moved_right(&scaled),
+        }
+    }
+
+    /// The section of the edge read backwards. Opposite directions have opposite multiples, so both sides are exchanged,
+    /// and nothing is normalised or scaled again.
+    pub(crate) fn reversed(&self) -> Self
+        ensures edge { own_edge result ≡ back (own_edge self.now) }
+        ensures made { (radius : ℤ) → IsMade I.unit radius self.now → IsMade I.unit radius result }
+    {
+        StrokeSection {
+            direction: self.direction.opposite(),
+            a: self.b,
+            b: self.a,
+            a_left: self.b_right,
+            a_right: self.b_left,
+            b_left: self.a_right,
+            b_right: self.a_left,
         }
     }
 

@@ -1,6 +1,9 @@
 -- Sections of a path and what is asked of them. Private contracts alone read these.
-use Rattle.std.specs.Prelude.{ℕ, ◌≡◌, ◌≢◌, List, ◌++◌, ℤ, pos, ◌≤ℤ◌, unsigned_abs}
+use Rattle.std.specs.Prelude.{ℕ, ◌≡◌, ◌≢◌, List, [], ◌++◌, ℤ, pos, ◌+ℤ◌, ◌≤ℤ◌, unsigned_abs}
+use Rattle.std.specs.Prelude.{Bool, true, false, if◌then◌else◌}
 use Rattle.mesh_plane.specs.Plane.{Point, Edge}
+use Rattle.mesh_plane.specs.Winding.{winding}
+use Rattle.mesh_lattice.specs.Split.{back}
 use Rattle.mesh_num.specs.Rectangle.{IsSafeWidened}
 use Rattle.mesh_join.specs.Joins.{join_padding}
 use Rattle.mesh_join.specs.Styles.{JoinStyle}
@@ -8,6 +11,7 @@ use Rattle.mesh_join.specs.declared.style.StrokeSide.{StrokeSide}
 use Rattle.mesh_join.specs.declared.style.StrokeSide.TheVariants.{Both, Left, Right}
 use Rattle.mesh_stroke.specs.Caps.{CapKind, cap_padding}
 use Rattle.mesh_stroke.specs.Strokes.{EdgePair, heading, right_of, left_of, inner_edges, outer_edges}
+use Rattle.mesh_stroke.specs.Strokes.{cap_pieces, open_pieces}
 
 -- an edge of a path, its direction, and the points beside both of its ends
 pub record Section : Type 0 where
@@ -43,11 +47,31 @@ opposite_side Both = Both
 opposite_side Left = Right
 opposite_side Right = Left
 
+-- the side that is drawn, as a corner is faced: one that turns to the right is seen from its other end
+abbrev pub faced_side : StrokeSide → Bool → StrokeSide
+faced_side side true = opposite_side side
+faced_side side false = side
+
 -- what is drawn on this side at a corner that does not turn to the right
 abbrev pub faced_edges : ℕ → ℤ → StrokeSide → JoinStyle → EdgePair → List Edge
 faced_edges unit radius Both join c = inner_edges unit radius c ++ outer_edges unit radius join c
 faced_edges unit radius Left join c = inner_edges unit radius c
 faced_edges unit radius Right join c = outer_edges unit radius join c
+
+-- at each point of each grid the windings of what is drawn on these two sides of a faced corner add up to that of what
+-- is drawn on both
+pub record CornersAddUp (one other : StrokeSide) : Type 0 where
+  pub sum :
+      (unit : ℕ) (radius : ℤ) (join : JoinStyle) (c : EdgePair) (m : ℕ) (q : Point)
+      → winding m q (faced_edges unit radius one join c) +ℤ winding m q (faced_edges unit radius other join c)
+      ≡ winding m q (faced_edges unit radius Both join c)
+
+-- the pieces that count at the ends of an open path on this side: those of its caps, where it has them, else none
+abbrev pub CapsCount : StrokeSide → Bool → Type 0
+CapsCount side capped =
+    (unit : ℕ) (radius : ℤ) (start end : CapKind) (first last : Edge)
+    → open_pieces unit radius side start end first last
+    ≡ (if capped then cap_pieces unit radius start (back first) ++ cap_pieces unit radius end last else [])
 
 -- its edge
 abbrev pub own_edge : Section → Edge
@@ -75,8 +99,3 @@ pub record AreEnds (unit : ℕ) (radius : ℤ) (start end : CapKind) (s t : Sect
   pub sign : pos 0 ≤ℤ radius
   pub safe_start : IsSafeWidened unit (cap_padding start radius) s.a
   pub safe_end : IsSafeWidened unit (cap_padding end radius) t.b
-
--- a section and the section of its edge read backwards
-pub record IsFacing (unit : ℕ) (radius : ℤ) (s back : Section) : Type 0 where
-  pub made : IsMade unit radius s
-  pub facing : back ≡ section_of unit radius (s.b, s.a)

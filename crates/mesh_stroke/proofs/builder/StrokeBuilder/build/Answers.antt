@@ -1,15 +1,15 @@
 -- What holds of the edges that the walk added.
-use Rattle.std.proofs.Common.{◌≡◌, ℕ, ◌+◌, ◌≤◌, List, length, take, sym, subst, ap, ◌∙◌, arith}
+use Rattle.std.proofs.Common.{◌≡◌, ℕ, ◌+◌, ◌≤◌, ◌^◌, List, length, take, sym, subst, ap, ◌∙◌, arith}
 use Rattle.std.specs.Prelude.{vec_capacity}
 use Rattle.std.specs.List.{All}
 use Rattle.mesh_num.specs.Segments.{SignedEdge, IsSubject}
 use Rattle.mesh_join.specs.Joins.{HasFew}
 use Rattle.mesh_offset.specs.Private.Built.{Adds}
-use Rattle.mesh_offset.proofs.Adding.{added_is}
+use Rattle.mesh_offset.proofs.Adding.{added_is, adds_edges}
 use Rattle.mesh_stroke.specs.Building.{HasDirectCaps}
 use Rattle.mesh_stroke.specs.Strokes.{stroke_edges}
 use Rattle.mesh_stroke.specs.Styles.{StrokeStyle}
-use Rattle.mesh_stroke.proofs.Halves.{halves_make_the_whole}
+use Rattle.mesh_stroke.proofs.Halves.{halves_make_the_whole, makes_the_whole}
 use Rattle.mesh_stroke.proofs.Reversal.{adds_reversed}
 use Rattle.mesh_stroke.proofs.Promised.{are_stroked, adds_stroked}
 use Rattle.mesh_stroke.proofs.StrokeFew.{adds_few, few_are_direct, stroke_length}
@@ -83,3 +83,9 @@ returns-in-Err-clause-halves g c =
 pub returns-clause-halves : goal.returns-clause-halves
 returns-clause-halves g c =
     halves_make_the_whole g.I.IntNumber.unit g.met.I.IntNumber.least_law c.args.self.now c.args.closed c.args.path.now
+
+pub returns-clause-whole : goal.returns-clause-whole
+returns-clause-whole g c =
+    let least : 2 ^ 14 ≤ g.I.IntNumber.unit = g.met.I.IntNumber.least_law in
+    makes_the_whole g.I.IntNumber.unit (omega arith) c.args.self.now c.args.closed c.args.path.now _
+    (adds_edges c.args.segments.now.items c.draw.new.segments.items _ (adds g c))

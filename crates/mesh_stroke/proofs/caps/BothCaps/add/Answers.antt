@@ -1,5 +1,5 @@
 -- Both ends are as caps ask, and both caps were drawn.
-use Rattle.std.proofs.Common.{◌≡◌, ◌+◌, ◌≤◌, ◌^◌, ◌++◌, length, sym, subst, ◌∙◌, ap}
+use Rattle.std.proofs.Common.{◌≡◌, ◌+◌, ◌≤◌, ◌^◌, ◌++◌, length, sym, subst}
 use Rattle.std.specs.Prelude.{vec_capacity}
 use Rattle.std.proofs.lemmas.Bool.{false≢true}
 use Rattle.mesh_num.specs.Rectangle.{IsSafeWidened}
@@ -8,7 +8,7 @@ use Rattle.mesh_join.specs.declared.style.StrokeSide.TheVariants.{Both}
 use Rattle.mesh_stroke.specs.Strokes.{open_ends}
 use Rattle.mesh_offset.proofs.Adding.{on_ok_then}
 use Rattle.mesh_stroke.specs.Caps.{CapKind, cap_padding, DrawsDirectly}
-use Rattle.mesh_stroke.specs.Private.Sections.{Section, section_of, own_edge}
+use Rattle.mesh_stroke.specs.Private.Sections.{own_edge}
 use Rattle.mesh_stroke.proofs.PathEnds.{end_capped, start_capped, caps_drawn}
 use Rattle.mesh_stroke.proofs.Fitting.{room_for_start, room_for_end}
 use Rattle.mesh_stroke.proofs.caps.BothCaps.add.Goals as goal
@@ -18,9 +18,10 @@ add-requires g c =
     let unit = g.I.IntNumber.unit in
     let radius = g.I.IntNumber.value c.args.radius in
     let least : 2 ^ 14 ≤ g.I.IntNumber.unit = g.met.I.IntNumber.least_law in
-    let before = c.new-before.ensures ∙ ap (λ (s : Section). section_of g.I.IntNumber.unit (g.I.IntNumber.value c.args.radius) (s.b, s.a)) c.first.view_is in
     let safe = subst (λ (k : CapKind × CapKind). IsSafeWidened g.I.IntNumber.unit (cap_padding k.0 (g.I.IntNumber.value c.args.radius)) c.args.first.now.a) (sym c.self.view_is) c.requires.safe_start in
-    rw c.end_of.ensures (start_capped unit radius c.self.inside.start c.args.first.now c.new-before.result least c.requires.first before c.requires.sign safe)
+    rw c.end_of.ensures
+    (start_capped unit radius c.self.inside.start (own_edge c.args.first.now) (own_edge c.reversed.result) least
+    c.requires.first.differ c.reversed.ensures.edge c.requires.sign safe)
 
 pub add-requires-2 : goal.add-requires-2
 add-requires-2 g c =
@@ -32,19 +33,16 @@ add-requires-2 g c =
 
 pub returns-clause-ok : goal.returns-clause-ok
 returns-clause-ok g c =
-    let before = c.new-before.ensures ∙ ap (λ (s : Section). section_of g.I.IntNumber.unit (g.I.IntNumber.value c.args.radius) (s.b, s.a)) c.first.view_is in
     on_ok_then c.add-2.result c.add-2.ensures.ok
     (λ h. subst (λ (k : CapKind × CapKind). c.add-2.new.segments.items ≡ c.args.segments.now.items ++ segments_of
     (open_ends g.I.IntNumber.unit (g.I.IntNumber.value c.args.radius) Both k.0 k.1 (own_edge c.args.first.now) (own_edge c.args.last.now))) c.self.view_is
-    (caps_drawn g.I.IntNumber.unit (g.I.IntNumber.value c.args.radius) c.self.inside.start c.self.inside.end c.args.first.now c.args.last.now c.new-before.result
-    c.args.segments.now.items c.add.new.segments.items c.add-2.new.segments.items before
+    (caps_drawn g.I.IntNumber.unit (g.I.IntNumber.value c.args.radius) c.self.inside.start c.self.inside.end
+    (own_edge c.args.first.now) (own_edge c.args.last.now) (own_edge c.reversed.result)
+    c.args.segments.now.items c.add.new.segments.items c.add-2.new.segments.items c.reversed.ensures.edge
     (rw c.end_of.ensures at c.in_ok-add.ensures.ok) (rw c.end_of-2.ensures at h)))
 
 pub returns-in_err-add-clause-room : goal.returns-in_err-add-clause-room
 returns-in_err-add-clause-room g c start_direct end_direct room =
-    let before = c.new-before.ensures
-    ∙ ap (λ (s : Section). section_of g.I.IntNumber.unit (g.I.IntNumber.value c.args.radius) (s.b, s.a)) c.first.view_is
-    in
     let whole =
     subst
     (λ (k : CapKind × CapKind). length c.args.segments.now.items
@@ -55,14 +53,11 @@ returns-in_err-add-clause-room g c start_direct end_direct room =
     (subst (λ (k : CapKind × CapKind). DrawsDirectly k.0) (sym c.self.view_is) start_direct)
     (rw c.end_of.ensures
     (room_for_start g.I.IntNumber.unit (g.I.IntNumber.value c.args.radius) c.self.inside.start c.self.inside.end
-    c.args.first.now c.args.last.now c.new-before.result
-    (length c.args.segments.now.items) (vec_capacity c.args.segments.now) before whole))))
+    (own_edge c.args.first.now) (own_edge c.args.last.now) (own_edge c.reversed.result)
+    (length c.args.segments.now.items) (vec_capacity c.args.segments.now) c.reversed.ensures.edge whole))))
 
 pub returns-clause-room : goal.returns-clause-room
 returns-clause-room g c start_direct end_direct room =
-    let before = c.new-before.ensures
-    ∙ ap (λ (s : Section). section_of g.I.IntNumber.unit (g.I.IntNumber.value c.args.radius) (s.b, s.a)) c.first.view_is
-    in
     let whole =
     subst
     (λ (k : CapKind × CapKind). length c.args.segments.now.items
@@ -73,6 +68,7 @@ returns-clause-room g c start_direct end_direct room =
     (subst (λ (k : CapKind × CapKind). DrawsDirectly k.1) (sym c.self.view_is) end_direct)
     (rw c.end_of-2.ensures
     (room_for_end g.I.IntNumber.unit (g.I.IntNumber.value c.args.radius) c.self.inside.start c.self.inside.end
-    c.args.first.now c.args.last.now c.new-before.result c.args.segments.now.items c.add.new.segments.items
-    (vec_capacity c.args.segments.now) (vec_capacity c.add.new.segments) before
+    (own_edge c.args.first.now) (own_edge c.args.last.now) (own_edge c.reversed.result)
+    c.args.segments.now.items c.add.new.segments.items
+    (vec_capacity c.args.segments.now) (vec_capacity c.add.new.segments) c.reversed.ensures.edge
     (rw c.end_of.ensures at c.in_ok-add.ensures.ok) c.in_ok-add.ensures.capacity whole))
