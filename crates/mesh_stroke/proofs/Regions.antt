@@ -1,23 +1,27 @@
 -- Lemmas over points and lists: strokes are regions.
-use Rattle.std.proofs.Common.{◌≡◌, ℕ, ◌≤◌, ◌^◌, List, Bool, refl, get_or}
+use Rattle.std.proofs.Common.{◌≡◌, ℕ, ◌≤◌, ◌^◌, List, Bool, refl, ◌∙◌, get_or}
 use Rattle.std.specs.List.{All}
 use Rattle.mesh_plane.specs.Plane.{Point}
 use Rattle.mesh_plane.specs.Winding.{IsBit, boundary, crossing_on, winding}
 use Rattle.mesh_plane.proofs.ClosedLists.{all_flat_map}
 use Rattle.mesh_plane.proofs.Crossings.{crossing_on_odd}
+use Rattle.mesh_plane.proofs.Pieces.{pieces_counted}
 use Rattle.mesh_plane.proofs.Triangles.{crossing_on_straight}
 use Rattle.mesh_lattice.specs.FillRules.{filled}
 use Rattle.mesh_lattice.specs.declared.fill.FillRule.TheVariants.{Positive}
 use Rattle.mesh_shapes.specs.Resolution.{Choices}
 use Rattle.mesh_below.specs.Laws.{AreRegions}
+use Rattle.mesh_offset.specs.Padding.{ArePathsSafe}
 use Rattle.mesh_offset.specs.Pieces.{WindAsPieces}
 use Rattle.mesh_offset.proofs.ManyPaths.{built_regions}
 use Rattle.mesh_offset.proofs.Regions.{built_sum, regions_above, regions_held}
 use Rattle.mesh_stroke.specs.Drawn.{HasStockCaps}
 use Rattle.mesh_stroke.specs.Regions.{AreStrokeRegions, all_pieces}
 use Rattle.mesh_stroke.specs.Resolved.{IsStroke}
+use Rattle.mesh_stroke.specs.ResolvedEdges.{ResolvesPromisedEdges}
 use Rattle.mesh_stroke.specs.Strokes.{stroke_edges, stroke_pieces}
-use Rattle.mesh_stroke.specs.Styles.{StrokeStyle}
+use Rattle.mesh_stroke.specs.Styles.{StrokeStyle, stroke_padding}
+use Rattle.mesh_stroke.proofs.Resolving.{promised, stays_safe, stroke_closed}
 use Rattle.mesh_stroke.proofs.Reversal.{strokes_can_be_reversed}
 use Rattle.mesh_stroke.proofs.Promised.{never_turned, stroke_balanced, stroke_proper, stroke_total}
 
@@ -59,3 +63,18 @@ module _ (unit : ℕ) (least : 2 ^ 14 ≤ unit) (style : StrokeStyle) (closed : 
 
       sum : WindAsPieces (all_pieces unit style closed paths) stroke.built
       sum = all_sum choices paths answer stroke
+
+-- each stroke of paths that stay safe within its padding resolves edges of which this is promised
+pub stroke_resolves : (unit : ℕ) → 2 ^ 14 ≤ unit → (style : StrokeStyle) (closed : Bool) (choices : Choices)
+    (paths : List (List Point)) (answer : List (List (List Point))) → ArePathsSafe unit (stroke_padding style) paths
+    → IsStroke unit style closed choices paths answer → ResolvesPromisedEdges unit style closed choices paths answer
+stroke_resolves unit least style closed choices paths answer safe stroke = record {
+  stroke = stroke;
+  each = promised unit style closed paths least safe;
+  balanced = (stroke_closed unit least style closed paths stroke.built stroke.same).1;
+  sum = all_sum unit least style closed choices paths answer stroke;
+  count =
+      λ stock m q. all_sum unit least style closed choices paths answer stroke m q
+      ∙ pieces_counted m q (all_pieces unit style closed paths) (all_bits unit least style closed stock paths m q);
+  safe = stays_safe unit style closed paths least safe stroke.built stroke.same;
+}

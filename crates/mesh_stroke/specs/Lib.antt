@@ -11,6 +11,7 @@ pub mod Paths
 pub mod Private
 pub mod Regions
 pub mod Resolved
+pub mod ResolvedEdges
 pub mod Reversal
 pub mod RoundCaps
 pub mod SquareCaps

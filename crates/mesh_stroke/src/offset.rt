@@ -11,6 +11,7 @@ ghost use Rattle.mesh_offset.specs.Padding.{ArePathsSafe, all_points, widened};
 ghost use Rattle.mesh_stroke.specs.Styles.{stroke_padding, stroke_style_of};
 ghost use Rattle.mesh_stroke.specs.Regions.{AreStrokeRegions};
 ghost use Rattle.mesh_stroke.specs.Resolved.{IsStroke, HavePromisedEdges};
+ghost use Rattle.mesh_stroke.specs.ResolvedEdges.{ResolvesPromisedEdges};
 ghost use Rattle.mesh_stroke.specs.Staying.{StaysSafe};
 
 use crate::radius::padding;
@@ -51,6 +52,8 @@ pub trait IntStrokeOffset<I: OverlayInt>: IntShapeResource<I> {
             (Self.paths self.now) (shapes_of shapes.items)) }
         ensures regions { IfOk result (λ shapes. AreStrokeRegions I.unit (stroke_style_of I.value style.now) closed
             plain (Self.paths self.now) (shapes_of shapes.items)) }
+        ensures edges { IfOk result (λ shapes. ResolvesPromisedEdges I.unit (stroke_style_of I.value style.now) closed
+            plain (Self.paths self.now) (shapes_of shapes.items)) }
         ensures safe { IfOk result (λ shapes. ArePointsSafe I.unit (shapes_of shapes.items)) }
         ensures error { OnErr result (result ≡ Err IntOutlineError.OutOfMemory) }
         ensures built { HavePromisedEdges I.unit (stroke_style_of I.value style.now) closed (Self.paths self.now) }
@@ -74,6 +77,10 @@ pub trait IntStrokeOffset<I: OverlayInt>: IntShapeResource<I> {
         ensures regions { OnOk result ((answer : List (List (List Point)))
             × AreStrokeRegions I.unit (stroke_style_of I.value style.now) closed plain (Self.paths self.now) answer
             × HoldsContours buffer.new (contours_of answer)) }
+        ensures edges { OnOk result ((answer : List (List (List Point)))
+            × ResolvesPromisedEdges I.unit (stroke_style_of I.value style.now) closed plain
+            (Self.paths self.now) answer
+            × HoldsContours buffer.new (contours_of answer)) }
         ensures error { OnErr result (result ≡ Err IntOutlineError.OutOfMemory) }
         ensures err { OnErr result (buffer.new ≡ buffer.old) }
         ensures built { HavePromisedEdges I.unit (stroke_style_of I.value style.now) closed (Self.paths self.now) }
@@ -96,6 +103,8 @@ pub trait IntStrokeOffset<I: OverlayInt>: IntShapeResource<I> {
         ensures stroke { IfOk result (λ shapes. IsStroke I.unit (stroke_style_of I.value style.now) closed
             (choices_of I.WideUInt.value options) (Self.paths self.now) (shapes_of shapes.items)) }
         ensures regions { IfOk result (λ shapes. AreStrokeRegions I.unit (stroke_style_of I.value style.now) closed
+            (choices_of I.WideUInt.value options) (Self.paths self.now) (shapes_of shapes.items)) }
+        ensures edges { IfOk result (λ shapes. ResolvesPromisedEdges I.unit (stroke_style_of I.value style.now) closed
             (choices_of I.WideUInt.value options) (Self.paths self.now) (shapes_of shapes.items)) }
         ensures safe { IfOk result (λ shapes. ArePointsSafe I.unit (shapes_of shapes.items)) }
         ensures error { OnErr result (result ≡ Err IntOutlineError.OutOfMemory) }
@@ -124,6 +133,10 @@ pub trait IntStrokeOffset<I: OverlayInt>: IntShapeResource<I> {
         ensures regions { OnOk result ((answer : List (List (List Point)))
             × AreStrokeRegions I.unit (stroke_style_of I.value style.now) closed (choices_of I.WideUInt.value options)
             (Self.paths self.now) answer
+            × HoldsContours buffer.new (contours_of answer)) }
+        ensures edges { OnOk result ((answer : List (List (List Point)))
+            × ResolvesPromisedEdges I.unit (stroke_style_of I.value style.now) closed
+            (choices_of I.WideUInt.value options) (Self.paths self.now) answer
             × HoldsContours buffer.new (contours_of answer)) }
         ensures error { OnErr result (result ≡ Err IntOutlineError.OutOfMemory) }
         ensures err { OnErr result (buffer.new ≡ buffer.old) }

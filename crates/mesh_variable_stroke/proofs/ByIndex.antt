@@ -3,7 +3,7 @@ use Rattle.std.proofs.Common.{◌≡◌, ℕ, ◌<◌, List, [], ◌∷◌, leng
 use Rattle.std.specs.Prelude.{zero, suc, Option, None}
 use Rattle.mesh_circle.specs.Sections.{Circle, Section, section_of}
 use Rattle.mesh_variable_stroke.specs.Chains.{Step, steps_from, is_break, is_cover}
-use Rattle.mesh_variable_stroke.specs.ByIndex.{is_break_at, is_cover_at, IsStepAt, HasStepsByIndex}
+use Rattle.mesh_variable_stroke.specs.ByIndex.{is_cover_at, HasStepsByIndex}
 
 -- the section of the step before the one at a place, where `before` is that of the step before the first
 abbrev before_at : ℕ → Option Section → Circle → List Circle → ℕ → Option Section

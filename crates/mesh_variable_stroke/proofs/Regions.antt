@@ -1,5 +1,5 @@
 -- Lemmas over points and lists: strokes of variable width are regions.
-use Rattle.std.proofs.Common.{◌≡◌, ℕ, List, refl}
+use Rattle.std.proofs.Common.{◌≡◌, ℕ, ◌≤◌, ◌^◌, List, refl}
 use Rattle.mesh_plane.specs.Plane.{Point}
 use Rattle.mesh_plane.specs.Winding.{crossing_on}
 use Rattle.mesh_plane.proofs.Crossings.{crossing_on_odd}
@@ -14,11 +14,23 @@ use Rattle.mesh_offset.proofs.ManyPaths.{built_regions}
 use Rattle.mesh_offset.proofs.Regions.{built_sum, regions_above}
 use Rattle.mesh_variable_stroke.specs.Regions.{AreVariableStrokeRegions, all_pieces}
 use Rattle.mesh_variable_stroke.specs.Resolved.{IsVariableStroke}
+use Rattle.mesh_variable_stroke.specs.ResolvedEdges.{ResolvesPromisedEdges}
+use Rattle.mesh_variable_stroke.specs.Strokable.{ArePathsStrokable}
 use Rattle.mesh_variable_stroke.specs.VariableStrokes.{variable_stroke_edges, variable_stroke_pieces}
 use Rattle.mesh_variable_stroke.proofs.Promised.{variable_balanced, variable_proper}
+use Rattle.mesh_variable_stroke.proofs.Resolving.{promised, stays_safe, stroke_closed}
 use Rattle.mesh_variable_stroke.proofs.Sums.{variable_total}
 
 module _ (unit : ℕ) (options : ArcOptions) where
+  -- the edges that are built wind as all pieces
+  all_sum : (choices : Choices) (paths : List (List Vertex)) (answer : List (List (List Point)))
+      → (stroke : IsVariableStroke unit options choices paths answer)
+      → WindAsPieces (all_pieces unit options paths) stroke.built
+  all_sum choices paths answer stroke =
+      built_sum (variable_stroke_edges unit options) (variable_stroke_pieces unit options)
+      (λ path m q. variable_total (crossing_on m q) (crossing_on_odd m q) unit options path) paths stroke.built
+      stroke.same
+
   -- each stroke is made of regions
   pub stroke_regions : (choices : Choices) (paths : List (List Vertex)) (answer : List (List (List Point)))
       → (stroke : IsVariableStroke unit options choices paths answer)
@@ -39,6 +51,16 @@ module _ (unit : ℕ) (options : ArcOptions) where
           Positive choices paths answer stroke.built stroke.same stroke.resolution
 
       sum : WindAsPieces (all_pieces unit options paths) stroke.built
-      sum =
-          built_sum (variable_stroke_edges unit options) (variable_stroke_pieces unit options)
-          (λ path m q. variable_total (crossing_on m q) (crossing_on_odd m q) unit options path) paths stroke.built stroke.same
+      sum = all_sum choices paths answer stroke
+
+  -- each stroke of paths that stay safe within its greatest radius resolves edges of which this is promised
+  pub stroke_resolves : (choices : Choices) (paths : List (List Vertex)) (answer : List (List (List Point)))
+      → 2 ^ 14 ≤ unit → ArePathsStrokable unit paths → IsVariableStroke unit options choices paths answer
+      → ResolvesPromisedEdges unit options choices paths answer
+  stroke_resolves choices paths answer least safe stroke = record {
+    stroke = stroke;
+    each = promised unit options paths least safe;
+    balanced = (stroke_closed unit options paths stroke.built stroke.same).1;
+    sum = all_sum choices paths answer stroke;
+    safe = stays_safe unit options paths least safe stroke.built stroke.same;
+  }

@@ -6,6 +6,7 @@ pub mod PathsLeft
 pub mod Private
 pub mod Regions
 pub mod Resolved
+pub mod ResolvedEdges
 pub mod Staying
 pub mod Strokable
 pub mod VariableStrokes

@@ -10,6 +10,7 @@ ghost use Rattle.mesh_below.specs.Options.{choices_of, plain};
 ghost use Rattle.mesh_offset.specs.Padding.{widened};
 ghost use Rattle.mesh_variable_stroke.specs.Regions.{AreVariableStrokeRegions};
 ghost use Rattle.mesh_variable_stroke.specs.Resolved.{IsVariableStroke, HavePromisedEdges};
+ghost use Rattle.mesh_variable_stroke.specs.ResolvedEdges.{ResolvesPromisedEdges};
 ghost use Rattle.mesh_variable_stroke.specs.Staying.{StaysSafe};
 ghost use Rattle.mesh_variable_stroke.specs.Strokable.{ArePathsStrokable, all_vertex_points, padding_of};
 
@@ -47,6 +48,8 @@ pub trait IntVariableStrokeOffset<I: OverlayInt>: IntVariableStrokeSource<I> {
             (shapes_of shapes.items)) }
         ensures regions { IfOk result (λ shapes. AreVariableStrokeRegions I.unit style.arc plain (Self.paths self.now)
             (shapes_of shapes.items)) }
+        ensures edges { IfOk result (λ shapes. ResolvesPromisedEdges I.unit style.arc plain (Self.paths self.now)
+            (shapes_of shapes.items)) }
         ensures safe { IfOk result (λ shapes. ArePointsSafe I.unit (shapes_of shapes.items)) }
         ensures error { OnErr result (result ≡ Err IntOutlineError.OutOfMemory) }
         ensures built { HavePromisedEdges I.unit style.arc (Self.paths self.now) }
@@ -68,6 +71,9 @@ pub trait IntVariableStrokeOffset<I: OverlayInt>: IntVariableStrokeSource<I> {
             × ArePointsSafe I.unit answer × HoldsContours buffer.new (contours_of answer)) }
         ensures regions { OnOk result ((answer : List (List (List Point)))
             × AreVariableStrokeRegions I.unit style.arc plain (Self.paths self.now) answer
+            × HoldsContours buffer.new (contours_of answer)) }
+        ensures edges { OnOk result ((answer : List (List (List Point)))
+            × ResolvesPromisedEdges I.unit style.arc plain (Self.paths self.now) answer
             × HoldsContours buffer.new (contours_of answer)) }
         ensures error { OnErr result (result ≡ Err IntOutlineError.OutOfMemory) }
         ensures err { OnErr result (buffer.new ≡ buffer.old) }
@@ -91,6 +97,8 @@ pub trait IntVariableStrokeOffset<I: OverlayInt>: IntVariableStrokeSource<I> {
         ensures stroke { IfOk result (λ shapes. IsVariableStroke I.unit style.arc (choices_of I.WideUInt.value options)
             (Self.paths self.now) (shapes_of shapes.items)) }
         ensures regions { IfOk result (λ shapes. AreVariableStrokeRegions I.unit style.arc
+            (choices_of I.WideUInt.value options) (Self.paths self.now) (shapes_of shapes.items)) }
+        ensures edges { IfOk result (λ shapes. ResolvesPromisedEdges I.unit style.arc
             (choices_of I.WideUInt.value options) (Self.paths self.now) (shapes_of shapes.items)) }
         ensures safe { IfOk result (λ shapes. ArePointsSafe I.unit (shapes_of shapes.items)) }
         ensures error { OnErr result (result ≡ Err IntOutlineError.OutOfMemory) }
@@ -116,6 +124,9 @@ pub trait IntVariableStrokeOffset<I: OverlayInt>: IntVariableStrokeSource<I> {
             × ArePointsSafe I.unit answer × HoldsContours buffer.new (contours_of answer)) }
         ensures regions { OnOk result ((answer : List (List (List Point)))
             × AreVariableStrokeRegions I.unit style.arc (choices_of I.WideUInt.value options) (Self.paths self.now) answer
+            × HoldsContours buffer.new (contours_of answer)) }
+        ensures edges { OnOk result ((answer : List (List (List Point)))
+            × ResolvesPromisedEdges I.unit style.arc (choices_of I.WideUInt.value options) (Self.paths self.now) answer
             × HoldsContours buffer.new (contours_of answer)) }
         ensures error { OnErr result (result ≡ Err IntOutlineError.OutOfMemory) }
         ensures err { OnErr result (buffer.new ≡ buffer.old) }

@@ -4,7 +4,7 @@ use Rattle.mesh_stroke.specs.Styles.{stroke_style_of}
 use Rattle.mesh_stroke.proofs.Resolving.{promised}
 use Rattle.mesh_num.specs.Paths.{shapes_of}
 use Rattle.mesh_below.specs.Options.{choices_of}
-use Rattle.mesh_stroke.proofs.Regions.{stroke_regions}
+use Rattle.mesh_stroke.proofs.Regions.{stroke_regions, stroke_resolves}
 use Rattle.mesh_stroke.proofs.offset.IntStrokeOffset.stroke_custom.Goals as goal
 
 pub returns-in_err-drawn-clause-built : goal.returns-in_err-drawn-clause-built
@@ -33,3 +33,10 @@ pub returns-clause-regions : goal.returns-clause-regions
 returns-clause-regions g c =
     (stroke_regions g.I.IntNumber.unit g.met.I.IntNumber.least_law (stroke_style_of g.I.IntNumber.value c.args.style.now) c.args.closed (choices_of g.I.WideUInt.WideUnsigned.value c.args.options)
     (g.Self.IntShapeResource.paths c.args.self.now) (shapes_of c.in_ok-overlay.field-0.items) (returns-clause-stroke g c)).0
+
+pub returns-clause-edges : goal.returns-clause-edges
+returns-clause-edges g c =
+    stroke_resolves g.I.IntNumber.unit g.met.I.IntNumber.least_law (stroke_style_of g.I.IntNumber.value c.args.style.now)
+    c.args.closed (choices_of g.I.WideUInt.WideUnsigned.value c.args.options)
+    (g.Self.IntShapeResource.paths c.args.self.now) (shapes_of c.in_ok-overlay.field-0.items) c.requires
+    (returns-clause-stroke g c)

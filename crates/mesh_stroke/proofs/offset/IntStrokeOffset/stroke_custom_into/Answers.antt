@@ -3,7 +3,7 @@ use Rattle.mesh_stroke.specs.Styles.{stroke_style_of}
 use Rattle.mesh_stroke.proofs.Resolving.{promised}
 use Rattle.mesh_num.specs.Segments.{edges_of}
 use Rattle.mesh_below.specs.Options.{choices_of}
-use Rattle.mesh_stroke.proofs.Regions.{stroke_regions}
+use Rattle.mesh_stroke.proofs.Regions.{stroke_regions, stroke_resolves}
 use Rattle.mesh_stroke.proofs.offset.IntStrokeOffset.stroke_custom_into.Goals as goal
 
 pub returns-in_err-drawn-clause-built : goal.returns-in_err-drawn-clause-built
@@ -32,5 +32,21 @@ returns-clause-regions g c =
             same = c.in_ok-drawn.ensures.built.same;
             resolution = rw c.in_ok-drawn.ensures.options at r.1;
           })).0,
+      r.3,
+    )
+
+pub returns-clause-edges : goal.returns-clause-edges
+returns-clause-edges g c =
+    let r = c.in_ok-overlay_into.ensures.resolution in (
+      r.0,
+      stroke_resolves g.I.IntNumber.unit g.met.I.IntNumber.least_law
+          (stroke_style_of g.I.IntNumber.value c.args.style.now) c.args.closed
+          (choices_of g.I.WideUInt.WideUnsigned.value c.args.options)
+          (g.Self.IntShapeResource.paths c.args.self.now) r.0 c.requires
+          (record {
+            built = edges_of c.in_ok-drawn.drawn.segments.items;
+            same = c.in_ok-drawn.ensures.built.same;
+            resolution = rw c.in_ok-drawn.ensures.options at r.1;
+          }),
       r.3,
     )

@@ -6,3 +6,6 @@ returns-clause-err g c = c.stroke_custom_into.ensures.err
 
 pub returns-clause-regions : goal.returns-clause-regions
 returns-clause-regions g c = rw c.new.ensures at c.stroke_custom_into.ensures.regions
+
+pub returns-clause-edges : goal.returns-clause-edges
+returns-clause-edges g c = rw c.new.ensures at c.stroke_custom_into.ensures.edges
