@@ -1,3 +1,4 @@
+pub mod Faultless
 pub mod JsonLists
 pub mod JsonMembers
 pub mod Parts

@@ -1,4 +1,5 @@
 pub mod Failures
+pub mod Places
 pub mod Private
 pub mod Reading
 pub mod Requests

@@ -33,7 +33,7 @@ pub fn parse(alloc: Global, bytes: &[u8]) -> Result<Value, Failure>
 /// Whether a number in the value is a float, as `serde_json` makes of one with a fraction, an exponent or too many
 /// digits.
 #[cycle(has_float)]
-fn has_float(value: &Value) -> bool
+pub fn has_float(value: &Value) -> bool
     ensures { result ≡ holds_float (view value.now) }
 {
     match value {

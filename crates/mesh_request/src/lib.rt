@@ -4,6 +4,7 @@
 pub mod coordinate;
 pub mod drawing;
 pub mod failure;
+pub mod fault;
 pub mod json;
 pub mod options;
 pub mod request;

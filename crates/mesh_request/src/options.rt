@@ -42,7 +42,7 @@ fn members<I: IntNumber>(options: &Value) -> Option<IntOverlayOptions<I::WideUIn
 }
 
 /// The area that a value is, a whole number without sign that fits its type; 0 where there is none.
-fn least_area<I: IntNumber>(value: Option<&Value>) -> Option<I::WideUInt>
+pub(crate) fn least_area<I: IntNumber>(value: Option<&Value>) -> Option<I::WideUInt>
     ensures { option_map (λ a. I.WideUInt.value a) result ≡ area_of I.unit (option_map (λ v. view v.now) value.entry) }
 {
     match value {

@@ -86,7 +86,7 @@ fn read_drawing<I: OverlayInt>(alloc: Global, value: &Value) -> Result<Drawing<I
 }
 
 /// What a request asks of what is drawn. Options are looked at for shapes alone.
-fn read_output<I: IntNumber>(value: &Value) -> Option<Output<I::WideUInt>>
+pub(crate) fn read_output<I: IntNumber>(value: &Value) -> Option<Output<I::WideUInt>>
     ensures { option_map (λ o. asked_of I.WideUInt.value o) result ≡ asked_in I.unit (view value.now) }
 {
     if says(value, "out", "edges") {

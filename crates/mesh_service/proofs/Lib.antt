@@ -1,4 +1,5 @@
 pub mod JsonLists
 pub mod PathsServed
+pub mod Reasons
 pub mod Replies
 pub mod Requested

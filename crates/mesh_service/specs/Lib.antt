@@ -1,6 +1,7 @@
 pub mod Drawings
 pub mod Lines
 pub mod Private
+pub mod Reasons
 pub mod Served
 pub mod Serving
 pub use Rattle.mesh_request.specs.Failures

@@ -10,8 +10,12 @@ pub mod edge;
 pub mod input;
 pub mod outline;
 pub mod output;
+pub mod reason;
+pub mod refusal;
 pub mod service;
 pub mod stroke;
+pub mod told;
 pub mod variable_stroke;
+pub mod why;
 
 pub use mesh_request::{failure, request};

@@ -16,6 +16,7 @@ use crate::answer::{edges_line, shapes_line};
 use crate::drawing;
 use crate::input::read_to_end;
 use crate::output::write_line;
+use crate::told::tell;
 use i_overlay_mesh::IntOutlineError;
 use mesh_num::num::OverlayInt;
 use mesh_request::failure::Failure;
@@ -87,36 +88,123 @@ pub fn serve<R: Read, W: Write>(alloc: Global, reader: &mut R, writer: &mut W) -
         × IsReply (R.remaining reader.old) line
         × AppendsBeginning (W.contents writer.old) (W.contents writer.new) line }
 {
-    let (answer, status) = read_and_answer(alloc, reader);
-    match print(writer, &answer) {
-        Err(_) => Status::Unwritten,
-        Ok(()) => status,
+    read_and_reply(alloc, reader, writer).status
+}
+
+/// `serve`, and then tells people on another stream why there is no answer, and which keys of the request are ignored.
+/// Neither what is told nor whether the stream takes it changes the line or the status.
+pub fn serve_told<R: Read, W: Write, E: Write>(
+    alloc: Global,
+    reader: &mut R,
+    writer: &mut W,
+    errors: &mut E,
+) -> Status
+    ensures answered { result ≡ Status.Answered → (request : List _) × (line : List _)
+        × IfSome (R.remaining reader.old) (λ bytes. request ≡ bytes)
+        × IsAnswer request line
+        × Appends (W.contents writer.old) (W.contents writer.new) line }
+    ensures unreadable { result ≡ Status.Unreadable → IfSome (R.remaining reader.old) HoldsNoRequest
+        × Appends (W.contents writer.old) (W.contents writer.new) (failure_line Failure.Unreadable) }
+    ensures unread { result ≡ Status.Unread
+        → Appends (W.contents writer.old) (W.contents writer.new) (failure_line Failure.Unreadable) }
+    ensures refused { result ≡ Status.Refused → MetRefusal (R.remaining reader.old) (R.remaining reader.new)
+        (W.contents writer.old) (W.contents writer.new) }
+    ensures read { (result ≡ Status.Answered) ⊎ (result ≡ Status.Unreadable) → IsAtEnd (R.remaining reader.new) }
+    ensures written { (line : List _)
+        × IsReply (R.remaining reader.old) line
+        × AppendsBeginning (W.contents writer.old) (W.contents writer.new) line }
+{
+    let run = read_and_reply(alloc, reader, writer);
+    let _ = tell(alloc, errors, &run.request, run.status);
+    run.status
+}
+
+/// A run that has ended.
+#[derive(Drop)]
+struct Run {
+    /// What was read.
+    request: Result<Vec<u8>, Failure>,
+    /// How it ended.
+    status: Status,
+}
+
+/// Reads a request and writes its line.
+fn read_and_reply<R: Read, W: Write>(alloc: Global, reader: &mut R, writer: &mut W) -> Run
+    ensures answered { result.status ≡ Status.Answered → (request : List _) × (line : List _)
+        × IfSome (R.remaining reader.old) (λ bytes. request ≡ bytes)
+        × IsAnswer request line
+        × Appends (W.contents writer.old) (W.contents writer.new) line }
+    ensures unreadable { result.status ≡ Status.Unreadable → IfSome (R.remaining reader.old) HoldsNoRequest
+        × Appends (W.contents writer.old) (W.contents writer.new) (failure_line Failure.Unreadable) }
+    ensures unread { result.status ≡ Status.Unread
+        → Appends (W.contents writer.old) (W.contents writer.new) (failure_line Failure.Unreadable) }
+    ensures refused { result.status ≡ Status.Refused → MetRefusal (R.remaining reader.old) (R.remaining reader.new)
+        (W.contents writer.old) (W.contents writer.new) }
+    ensures read { (result.status ≡ Status.Answered) ⊎ (result.status ≡ Status.Unreadable) → IsAtEnd (R.remaining reader.new) }
+    ensures written { (line : List _)
+        × IsReply (R.remaining reader.old) line
+        × AppendsBeginning (W.contents writer.old) (W.contents writer.new) line }
+{
+    let reply = read_and_answer(alloc, reader);
+    match print(writer, &reply.answer) {
+        Err(_) => Run {
+            request: reply.request,
+            status: Status::Unwritten,
+        },
+        Ok(()) => Run {
+            request: reply.request,
+            status: reply.status,
+        },
     }
 }
 
-/// The answer to what the reader has left, or the failure in its place, and how a run ends that writes it.
-fn read_and_answer<R: Read>(alloc: Global, reader: &mut R) -> (Result<String, Failure>, Status)
-    ensures answered { IfOk result.0 (λ line. (request : List _)
+/// What is to be written.
+#[derive(Drop)]
+struct Reply {
+    /// What was read.
+    request: Result<Vec<u8>, Failure>,
+    /// The answer, or the failure in its place.
+    answer: Result<String, Failure>,
+    /// How a run ends that writes it.
+    status: Status,
+}
+
+/// The answer to what the reader has left, or the failure in its place.
+fn read_and_answer<R: Read>(alloc: Global, reader: &mut R) -> Reply
+    ensures answered { IfOk result.answer (λ line. (request : List _)
         × IfSome (R.remaining reader.old) (λ bytes. request ≡ bytes) × IsAnswer request (string_bytes line)) }
-    ensures refused { result.0 ≡ Err (Failure.Refused IntOutlineError.CoordinateOutOfRange)
+    ensures refused { result.answer ≡ Err (Failure.Refused IntOutlineError.CoordinateOutOfRange)
         → (request : List _) × IfSome (R.remaining reader.old) (λ bytes. request ≡ bytes)
         × IsAtEnd (R.remaining reader.new) × IsRefused request }
-    ensures unreadable { result.1 ≡ Status.Unreadable → IfSome (R.remaining reader.old) HoldsNoRequest }
-    ensures read { (result.1 ≡ Status.Answered) ⊎ (result.1 ≡ Status.Unreadable) → IsAtEnd (R.remaining reader.new) }
-    ensures reply { IsReply (R.remaining reader.old) (told_line result.0) }
-    ensures ends_answered { result.1 ≡ Status.Answered → IsOk result.0 }
-    ensures ends_refused { result.1 ≡ Status.Refused → TellsRefusal result.0 }
-    ensures ends_unreadable { result.1 ≡ Status.Unreadable → result.0 ≡ Err Failure.Unreadable }
-    ensures ends_unread { result.1 ≡ Status.Unread → result.0 ≡ Err Failure.Unreadable }
+    ensures unreadable { result.status ≡ Status.Unreadable → IfSome (R.remaining reader.old) HoldsNoRequest }
+    ensures read { (result.status ≡ Status.Answered) ⊎ (result.status ≡ Status.Unreadable)
+        → IsAtEnd (R.remaining reader.new) }
+    ensures reply { IsReply (R.remaining reader.old) (told_line result.answer) }
+    ensures ends_answered { result.status ≡ Status.Answered → IsOk result.answer }
+    ensures ends_refused { result.status ≡ Status.Refused → TellsRefusal result.answer }
+    ensures ends_unreadable { result.status ≡ Status.Unreadable → result.answer ≡ Err Failure.Unreadable }
+    ensures ends_unread { result.status ≡ Status.Unread → result.answer ≡ Err Failure.Unreadable }
 {
     match read_to_end(alloc, reader) {
         Ok(request) => {
             let answer = respond(alloc, &request);
             let status = Status::of(&answer);
-            (answer, status)
+            Reply {
+                request: Ok(request),
+                answer,
+                status,
+            }
         }
-        Err(Failure::Unreadable) => (Err(Failure::Unreadable), Status::Unread),
-        Err(refused) => (Err(refused), Status::Refused),
+        Err(Failure::Unreadable) => Reply {
+            request: Err(Failure::Unreadable),
+            answer: Err(Failure::Unreadable),
+            status: Status::Unread,
+        },
+        Err(refused) => Reply {
+            request: Err(refused),
+            answer: Err(refused),
+            status: Status::Refused,
+        },
     }
 }
 

@@ -27,7 +27,7 @@ pub fn read_outline<I: OverlayInt>(alloc: Global, value: &Value) -> Result<Outli
     Ok(Outline { paths, style })
 }
 
-fn outline_style<I: OverlayInt>(style: Option<&Value>) -> Option<IntOutlineStyle<I>>
+pub(crate) fn outline_style<I: OverlayInt>(style: Option<&Value>) -> Option<IntOutlineStyle<I>>
     ensures { option_map (λ s. style_of I.value s) result
         ≡ option_and_then (outline_style_in I.unit) (option_map (λ v. view v.now) style.entry) }
 {

@@ -63,7 +63,7 @@ fn points<I: OverlayInt>(alloc: Global, items: &[Value]) -> Result<Vec<IntPoint<
     Ok(points)
 }
 
-fn point<I: IntNumber>(value: &Value) -> Option<IntPoint<I>>
+pub(crate) fn point<I: IntNumber>(value: &Value) -> Option<IntPoint<I>>
     ensures { result ≡ point_of I.unit (view value.now) }
 {
     let numbers = value.as_array()?;

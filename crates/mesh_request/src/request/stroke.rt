@@ -56,7 +56,7 @@ fn stroke_style<I: OverlayInt>(
 }
 
 /// The style that an object gives, but for its caps.
-fn uncapped_style<I: OverlayInt>(style: &Value) -> Option<IntStrokeStyle<I>>
+pub(crate) fn uncapped_style<I: OverlayInt>(style: &Value) -> Option<IntStrokeStyle<I>>
     ensures { option_map (λ s. uncapped_of I.value s) result ≡ uncapped_in I.unit (view style.now) }
 {
     let join = line_join(style.get("join"))?;
@@ -72,7 +72,7 @@ fn uncapped_style<I: OverlayInt>(style: &Value) -> Option<IntStrokeStyle<I>>
 }
 
 /// The side of a path that a value names, both sides where there is none.
-fn stroke_side(value: Option<&Value>) -> Option<StrokeSide>
+pub(crate) fn stroke_side(value: Option<&Value>) -> Option<StrokeSide>
     ensures { result ≡ side_of (option_map (λ v. view v.now) value.entry) }
 {
     let Some(value) = value else {

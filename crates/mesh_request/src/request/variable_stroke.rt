@@ -31,7 +31,7 @@ pub fn read_variable_stroke<I: OverlayInt>(
 }
 
 /// The style that an object gives.
-fn variable_style(style: Option<&Value>) -> Option<IntVariableStrokeStyle>
+pub(crate) fn variable_style(style: Option<&Value>) -> Option<IntVariableStrokeStyle>
     ensures { option_map (λ (s : IntVariableStrokeStyle). s.arc) result
         ≡ option_and_then arc_in (option_map (λ v. view v.now) style.entry) }
 {

@@ -71,7 +71,7 @@ fn vertices<I: OverlayInt>(
     Ok(vertices)
 }
 
-fn vertex<I: IntNumber>(value: &Value) -> Option<IntStrokeVertex<I>>
+pub(crate) fn vertex<I: IntNumber>(value: &Value) -> Option<IntStrokeVertex<I>>
     ensures { result ≡ vertex_of I.unit (view value.now) }
 {
     let numbers = value.as_array()?;
