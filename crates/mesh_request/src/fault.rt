@@ -62,7 +62,7 @@ pub fn find_fault(value: &Value) -> Option<Fault>
     } else if says(value, "int", "i32") {
         fault_of_type::<i32>(value)
     } else {
-        Some(word_fault(value, Key::Int, Problem::NoCoordinateType))
+        Some(head_fault(value))
     }
 }
 
@@ -93,14 +93,40 @@ fn drawing_fault<I: OverlayInt>(value: &Value) -> Option<Fault>
     }
 }
 
+/// What is wrong with a request that names no type of coordinates; if it names no operation either, that is told.
+fn head_fault(request: &Value) -> Fault
+    ensures { IsPlaceIn (view request.now) result.place }
+{
+    if names_operation(request) {
+        word_fault(request, Key::Int, Problem::NoCoordinateType)
+    } else {
+        word_fault(request, Key::Operation, Problem::NoOperation)
+    }
+}
+
+/// Whether a request names an operation.
+fn names_operation(request: &Value) -> bool {
+    says(request, "op", "outline")
+        || says(request, "op", "stroke")
+        || says(request, "op", "variable_stroke")
+}
+
 /// What is wrong with a request that has not one of the words under a key.
 fn word_fault(request: &Value, key: Key, problem: Problem) -> Fault
     ensures { IsPlaceIn (view request.now) result.place }
 {
     let place = member_place(request, key);
-    match place {
-        Place::Request => Fault::new(place, Problem::Missing(key)),
-        _ => Fault::new(place, problem),
+    Fault::new(place, word_problem(request, place, key, problem))
+}
+
+/// What is wrong there: the request is no object, or has not the key, or this.
+fn word_problem(request: &Value, place: Place, key: Key, problem: Problem) -> Problem {
+    if place != Place::Request {
+        problem
+    } else if request.is_object() {
+        Problem::Missing(key)
+    } else {
+        Problem::NoObject
     }
 }
 

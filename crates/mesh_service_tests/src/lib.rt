@@ -9,3 +9,5 @@ mod memory;
 mod requests;
 #[cfg(test)]
 mod tables;
+#[cfg(test)]
+mod told;

@@ -2,6 +2,8 @@
 
 pub mod edges;
 pub mod miters;
+pub mod notes;
+pub mod reasons;
 pub mod refused;
 pub mod round;
 pub mod shapes;
