@@ -1,0 +1,31 @@
+-- What was told is the line of the reply.
+use Rattle.std.proofs.Common.{Err, length, ap, ◌∙◌}
+use Rattle.std.specs.Prelude.{string_bytes}
+use Rattle.mesh_request.specs.Failures.{failure_line}
+use Rattle.mesh_flat.specs.Outcomes.{outcome_of}
+use Rattle.mesh_flat.specs.Replies.{IsReplyTo}
+use Rattle.mesh_flat.specs.declared.outcome.Outcome.TheVariants.{Answered}
+use Rattle.mesh_flat.proofs.Replies.{failure_replies}
+use Rattle.mesh_flat.proofs.answer.answer.Goals as goal
+
+pub returns-in-Ok : goal.returns-in-Ok
+returns-in-Ok c = record {
+  line = string_bytes c.in-Ok.line;
+  told = Answered;
+  reply = IsReplyTo.answer c.in-Ok.ensures.answered;
+  size = c.hand_over.ensures.size ∙ ap length c.as_bytes.ensures.value;
+  handed = rw c.as_bytes.ensures.value at c.hand_over.ensures.handed;
+}
+
+pub returns-in-Err : goal.returns-in-Err
+returns-in-Err c =
+    let is = c.as_bytes-in-Err.ensures.value ∙ c.line-line.ensures in
+    record {
+      line = failure_line c.in-Err.failure;
+      told = outcome_of c.in-Err.failure;
+      reply =
+          failure_replies c.args.request.now c.in-Err.failure
+          (λ e. c.respond.ensures.refused (c.in-Err.is ∙ ap Err e)) (λ e. c.respond.ensures.unreadable (c.in-Err.is ∙ ap Err e));
+      size = c.hand_over-in-Err.ensures.size ∙ ap length is;
+      handed = rw (is, c.of.ensures) at c.hand_over-in-Err.ensures.handed;
+    }

@@ -1,0 +1,22 @@
+-- How calls end, as numbers.
+use Rattle.std.specs.Prelude.{ℕ}
+use Rattle.mesh_offset.specs.declared.error.IntOutlineError.TheVariants.{CoordinateOutOfRange}
+use Rattle.mesh_offset.specs.declared.error.IntOutlineError.TheVariants.{OutOfMemory as MemoryRefused}
+use Rattle.mesh_request.specs.declared.failure.Failure.{Failure}
+use Rattle.mesh_request.specs.declared.failure.Failure.TheVariants.{Unreadable, Refused}
+use Rattle.mesh_flat.specs.declared.outcome.Outcome.{Outcome}
+use Rattle.mesh_flat.specs.declared.outcome.Outcome.TheVariants.{Answered, OutOfRange, Malformed, OutOfMemory, RoomTooSmall}
+
+-- the number that other languages see
+abbrev pub code_of : Outcome → ℕ
+code_of Answered = 0
+code_of OutOfRange = 1
+code_of Malformed = 2
+code_of OutOfMemory = 3
+code_of RoomTooSmall = 5
+
+-- how a call ends that meets a failure
+abbrev pub outcome_of : Failure → Outcome
+outcome_of Unreadable = Malformed
+outcome_of (Refused CoordinateOutOfRange) = OutOfRange
+outcome_of (Refused MemoryRefused) = OutOfMemory

@@ -1,0 +1,27 @@
+-- What is answered to a request's bytes.
+use Rattle.std.specs.Prelude.{ℕ, ◌≡◌, List, length}
+use Rattle.mesh_offset.specs.declared.error.IntOutlineError.TheVariants.{CoordinateOutOfRange}
+use Rattle.mesh_offset.specs.declared.error.IntOutlineError.TheVariants.{OutOfMemory as MemoryRefused}
+use Rattle.mesh_request.specs.Failures.{failure_line}
+use Rattle.mesh_request.specs.declared.failure.Failure.TheVariants.{Unreadable, Refused}
+use Rattle.mesh_service.specs.Serving.{IsAnswer, IsRefused, HoldsNoRequest}
+use Rattle.mesh_flat.specs.Rooms.{IsHandedOver}
+use Rattle.mesh_flat.specs.declared.outcome.Outcome.{Outcome}
+use Rattle.mesh_flat.specs.declared.outcome.Outcome.TheVariants.{Answered, OutOfRange, Malformed, OutOfMemory}
+
+-- the line that replies to a request, and how the call ends that tells it: an answer; the refusal of a request that may
+-- not be answered; want of memory; and that the text holds no request
+pub data IsReplyTo (request : List ℕ) : List ℕ → Outcome → Type 0 where
+  answer : {line : List ℕ} → IsAnswer request line → IsReplyTo request line Answered
+  refusal : IsRefused request → IsReplyTo request (failure_line (Refused CoordinateOutOfRange)) OutOfRange
+  no_memory : IsReplyTo request (failure_line (Refused MemoryRefused)) OutOfMemory
+  no_request : HoldsNoRequest request → IsReplyTo request (failure_line Unreadable) Malformed
+
+-- a call for a request, in a room that held `old` and now holds `new`, told how many bytes are needed and ended so: it
+-- told the line of a reply
+pub record Tells (request old new : List ℕ) (needed : ℕ) (ended : Outcome) : Type 0 where
+  pub line : List ℕ
+  pub told : Outcome
+  pub reply : IsReplyTo request line told
+  pub size : needed ≡ length line
+  pub handed : IsHandedOver line old new told ended
