@@ -1,0 +1,48 @@
+"""Numbers as a caller has them, taken exactly."""
+
+from __future__ import annotations
+
+import math
+import operator
+from fractions import Fraction
+from typing import Any, Union
+
+from .errors import DrawingError
+
+Number = Union[int, float, Fraction]
+
+
+def exact_ratio(value: Number) -> tuple[int, int]:
+    """A number as a numerator over a denominator above 0."""
+    return value.as_integer_ratio()
+
+
+def read_number(where: str, what: str, value: Any) -> Number:
+    """A finite number of any kind: an int or a float as it is, any other as a fraction."""
+    if type(value) is int:
+        return value
+    if isinstance(value, float):
+        if math.isfinite(value):
+            return float(value)
+        raise DrawingError(where, f"{what} is {value}, and has to be finite")
+    try:
+        return Fraction(*value.as_integer_ratio())
+    except (ValueError, OverflowError):
+        raise DrawingError(where, f"{what} is {value}, and has to be finite") from None
+    except (AttributeError, TypeError):
+        pass
+    try:
+        return operator.index(value)
+    except TypeError:
+        raise DrawingError(where, f"{what} is {value!r}, and has to be a number") from None
+
+
+def nearest_whole(value: Fraction) -> int:
+    """The nearest whole number, a half away from zero."""
+    size = (2 * abs(value.numerator) + value.denominator) // (2 * value.denominator)
+    return size if value >= 0 else -size
+
+
+def plain(value: Fraction) -> Number:
+    """A number as a caller reads it: an int where it is whole, else a float, the nearest one."""
+    return value.numerator if value.denominator == 1 else float(value)

@@ -1,0 +1,92 @@
+"""The grid of whole numbers on which all is drawn."""
+
+from __future__ import annotations
+
+from dataclasses import dataclass
+from fractions import Fraction
+from typing import Sequence
+
+from .exact import Number, exact_ratio, nearest_whole
+
+# A coordinate on the grid is safe where it is at most this in size.
+MOST = 2**30 - 1
+
+Place = list[int]
+
+
+@dataclass(frozen=True)
+class Axis:
+    """One coordinate: grid units are `scale` times the distance from `origin`."""
+
+    scale: Fraction
+    origin: Fraction
+
+    def __post_init__(self) -> None:
+        shift = self.origin * self.scale
+        # place = (coordinate * up / down) - (shift / part), all whole numbers
+        object.__setattr__(self, "up", self.scale.numerator)
+        object.__setattr__(self, "down", self.scale.denominator)
+        object.__setattr__(self, "shift", shift.numerator)
+        object.__setattr__(self, "part", shift.denominator)
+
+    def place(self, coordinate: Number) -> int:
+        """The nearest place of a coordinate."""
+        numerator, denominator = exact_ratio(coordinate)
+        below = denominator * self.down
+        above = numerator * self.up * self.part - self.shift * below
+        below *= self.part
+        return (2 * above + below) // (2 * below)
+
+    def coordinate(self, place: int) -> float:
+        """The float nearest to the coordinate of a place."""
+        return (place * self.part + self.shift) * self.down / (self.part * self.up)
+
+    def whole_coordinate(self, place: int) -> int:
+        """The coordinate of a place, where all of the grid's are whole numbers."""
+        return place + self.shift
+
+
+@dataclass(frozen=True)
+class Grid:
+    """Places are whole numbers: a coordinate less the origin, times the scale, and rounded.
+
+    scale: grid units for each unit of the drawing.
+    origin: the point of the drawing that lies at (0, 0).
+    """
+
+    scale: Fraction
+    origin: tuple[Fraction, Fraction]
+
+    def __post_init__(self) -> None:
+        object.__setattr__(self, "axes", tuple(Axis(self.scale, origin) for origin in self.origin))
+
+    def place(self, point: Sequence[Number]) -> Place:
+        """The place of a point."""
+        x, y = self.axes
+        return [x.place(point[0]), y.place(point[1])]
+
+    def length(self, length: Number) -> int:
+        """A length in grid units, rounded."""
+        return nearest_whole(Fraction(length) * self.scale)
+
+    @property
+    def has_whole_coordinates(self) -> bool:
+        """Whether the coordinate of each place is a whole number."""
+        return self.scale == 1 and all(origin.denominator == 1 for origin in self.origin)
+
+    def points(self, places: Sequence[Place], whole: bool) -> list[list[Number]]:
+        """The points of places, with whole numbers for coordinates if asked for and the grid has them."""
+        x, y = self.axes
+        if whole and self.has_whole_coordinates:
+            return [[x.whole_coordinate(place[0]), y.whole_coordinate(place[1])] for place in places]
+        return [[x.coordinate(place[0]), y.coordinate(place[1])] for place in places]
+
+
+def power_of_two(exponent: int) -> Fraction:
+    """2 to a whole exponent of either sign."""
+    return Fraction(2**exponent) if exponent >= 0 else Fraction(1, 2**-exponent)
+
+
+def exponent_above(length: Fraction) -> int:
+    """An exponent above that of each power of two by which a length, which is above 0, stays below 2 * MOST."""
+    return 33 - (length.numerator.bit_length() - length.denominator.bit_length())

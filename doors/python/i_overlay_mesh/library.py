@@ -1,0 +1,84 @@
+"""The shared object with the proved code."""
+
+from __future__ import annotations
+
+import ctypes
+import ctypes.util
+import functools
+import os
+import pathlib
+from enum import IntEnum
+
+from .errors import LibraryMissing
+
+FILE = "libi_overlay_mesh.so"
+VARIABLE = "I_OVERLAY_MESH_LIBRARY"
+
+LEAST_ROOM = 4096
+# A line is seldom longer than this many times its request, unless it has many arcs.
+ROOM_FACTOR = 4
+
+
+class Outcome(IntEnum):
+    """How a call ended, by the codes of the header for C."""
+
+    ANSWERED = 0
+    OUT_OF_RANGE = 1
+    MALFORMED = 2
+    OUT_OF_MEMORY = 3
+    ROOM_TOO_SMALL = 5
+
+
+def find_library() -> str:
+    """The file of the shared object: what the environment names, beside the package, built here, or the system's."""
+    if VARIABLE in os.environ:
+        return os.environ[VARIABLE]
+    package = pathlib.Path(__file__).resolve().parent
+    for folder in (package, package.parent.parent / "out" / "lib"):
+        if (folder / FILE).exists():
+            return str(folder / FILE)
+    found = ctypes.util.find_library("i_overlay_mesh")
+    if found is None:
+        raise LibraryMissing(f"{FILE} is not there: `doors/build` makes it, or {VARIABLE} says where it is")
+    return found
+
+
+@functools.lru_cache(maxsize=None)
+def load_library() -> ctypes.CDLL:
+    """The shared object. Its calls may run at once in many threads: ctypes lets other threads go on meanwhile."""
+    file = find_library()
+    try:
+        library = ctypes.CDLL(file)
+        call = library.mesh_answer
+    except (OSError, AttributeError) as error:
+        raise LibraryMissing(f"{file} is not the library: {error}") from error
+    call.restype = ctypes.c_uint8
+    call.argtypes = [
+        ctypes.c_char_p,
+        ctypes.c_size_t,
+        ctypes.c_char_p,
+        ctypes.c_size_t,
+        ctypes.POINTER(ctypes.c_size_t),
+    ]
+    return library
+
+
+def reply(request: bytes) -> tuple[Outcome, bytes]:
+    """How a request ended, and the program's line for it."""
+    call = load_library().mesh_answer
+    size = max(LEAST_ROOM, ROOM_FACTOR * len(request))
+    needed = ctypes.c_size_t()
+    while True:
+        room = ctypes.create_string_buffer(size)
+        outcome = Outcome(call(request, len(request), room, size, ctypes.byref(needed)))
+        if outcome is not Outcome.ROOM_TOO_SMALL:
+            return outcome, ctypes.string_at(room, needed.value)
+        size = needed.value
+
+
+def answer(request: bytes) -> bytes:
+    """The line that the program `mesh_run` writes for a request in JSON, byte for byte, its line feed included.
+
+    A refused or unreadable request has a line too, `{"refused":..}` or `{"unreadable":..}`.
+    """
+    return reply(bytes(request))[1]

@@ -1,0 +1,60 @@
+"""Answers."""
+
+from __future__ import annotations
+
+from dataclasses import dataclass
+from typing import Any
+
+from .grid import Grid
+from .exact import Number, plain
+
+Points = list[list[Number]]
+
+
+@dataclass(frozen=True)
+class Shapes:
+    """What was drawn, in the units of the input.
+
+    polygons: each a list of rings, of which the first bounds it, counterclockwise, and the others are its holes,
+        clockwise. A ring is a list of points [x, y] and does not repeat its first point; it may pass through a point
+        twice. Coordinates are ints where all that were given were ints and the scale was given as 1; else floats.
+    grid: the grid on which it was drawn, as exact fractions.
+    """
+
+    polygons: list[list[Points]]
+    grid: Grid
+
+    @property
+    def scale(self) -> Number:
+        """Grid units for each unit of the input."""
+        return plain(self.grid.scale)
+
+    @property
+    def origin(self) -> tuple[Number, Number]:
+        """The point of the input that lay at (0, 0) on the grid."""
+        x, y = self.grid.origin
+        return plain(x), plain(y)
+
+    @property
+    def __geo_interface__(self) -> dict[str, Any]:
+        return self.geojson()
+
+    def geojson(self) -> dict[str, Any]:
+        """A GeoJSON geometry: a Polygon where there is one, else a MultiPolygon. Rings end where they start."""
+        polygons = [[[*ring, ring[0]] for ring in polygon] for polygon in self.polygons]
+        if len(polygons) == 1:
+            return {"type": "Polygon", "coordinates": polygons[0]}
+        return {"type": "MultiPolygon", "coordinates": polygons}
+
+    def shapely(self) -> Any:
+        """A geometry of Shapely, which has to be installed: a Polygon where there is one, else a MultiPolygon."""
+        from shapely.geometry import MultiPolygon, Polygon
+
+        polygons = [Polygon(polygon[0], polygon[1:]) for polygon in self.polygons]
+        return polygons[0] if len(polygons) == 1 else MultiPolygon(polygons)
+
+    def __bool__(self) -> bool:
+        return bool(self.polygons)
+
+    def __len__(self) -> int:
+        return len(self.polygons)

@@ -1,0 +1,30 @@
+"""What the tests find: the package, the program, the examples."""
+
+import pathlib
+import subprocess
+import sys
+
+PACKAGE = pathlib.Path(__file__).resolve().parent.parent
+ROOT = PACKAGE.parent.parent
+PROGRAM = ROOT / "crates/mesh_run/out/mesh_run"
+COUNTRY = PACKAGE / "examples/south_africa.geojson"
+
+sys.path.insert(0, str(PACKAGE))
+sys.path.insert(0, str(ROOT / "bench"))
+
+
+def program_line(request):
+    """What the program writes for a request."""
+    return subprocess.run([PROGRAM], input=request, stdout=subprocess.PIPE, check=False).stdout
+
+
+try:
+    import shapely.geometry
+    import shapely.validation
+except ImportError:
+    shapely = None
+
+try:
+    import numpy
+except ImportError:
+    numpy = None

@@ -1,0 +1,69 @@
+"""The foreign call, against the program byte for byte."""
+
+import json
+import unittest
+from concurrent.futures import ThreadPoolExecutor
+
+from surroundings import PROGRAM, ROOT, program_line
+
+import random_requests
+from i_overlay_mesh import answer, library
+
+RANDOM_REQUESTS = 300
+
+STRANGE = [
+    b"",
+    b"{",
+    b"null",
+    b"\xff",
+    b"\0",
+    b"[" * 2000,
+    b'{"op":"outline"}',
+    b'{"op":"outline","int":"i16","out":"shapes","paths":[[[15360,0]]],"style":{"outer":1024,"inner":1024}}',
+]
+
+
+def long_request():
+    """A short request whose answer is long."""
+    paths = [[[x * 2000, 0], [x * 2000 + 1, 1]] for x in range(200)]
+    cap = {"round": [2**22, 5]}
+    style = {"width": 1000, "start": cap, "end": cap}
+    return json.dumps({"op": "stroke", "int": "i32", "out": "shapes", "paths": paths, "style": style}).encode()
+
+
+@unittest.skipUnless(PROGRAM.exists(), "the program is not built")
+class TestAgainstProgram(unittest.TestCase):
+    def check(self, request):
+        self.assertEqual(answer(request), program_line(request))
+
+    def test_examples(self):
+        for file in sorted((ROOT / "examples").glob("*.json")):
+            with self.subTest(file.name):
+                self.check(file.read_bytes())
+
+    def test_strange_texts(self):
+        for request in STRANGE:
+            with self.subTest(request):
+                self.check(request)
+
+    def test_random_requests_in_threads(self):
+        requests = [json.dumps(random_requests.request(number)).encode() for number in range(RANDOM_REQUESTS)]
+        with ThreadPoolExecutor(4) as pool:
+            for request, line in zip(requests, pool.map(answer, requests)):
+                self.assertEqual(line, program_line(request))
+
+    def test_an_answer_longer_than_the_first_room(self):
+        request = long_request()
+        line = answer(request)
+        self.assertGreater(len(line), library.ROOM_FACTOR * len(request))
+        self.assertEqual(line, program_line(request))
+
+
+class TestAnswer(unittest.TestCase):
+    def test_any_bytes(self):
+        self.assertEqual(answer(bytearray(b"{")), b'{"unreadable":"request"}\n')
+        self.assertEqual(answer(memoryview(b"{")), b'{"unreadable":"request"}\n')
+
+
+if __name__ == "__main__":
+    unittest.main()
