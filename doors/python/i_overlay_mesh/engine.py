@@ -224,8 +224,8 @@ def tell_range(tasks: Sequence[Task], grid: Grid, origin: Any, box: Box) -> NoRe
                             f" up to {most} in size at this scale; {remedy}",
                         )
             if abs(double_area([grid.place(point) for point in path.points])) > MOST_AREA:
-                raise GridRangeError(path.where, "its double area passes 2^63 - 1 on the grid; less scale, or none, does")
-    raise GridRangeError("", "the area of what was drawn passes the grid's range; less scale, or none, does")
+                raise GridRangeError(path.where, "its double area passes 2^63 - 1 on the grid; a smaller scale does")
+    raise GridRangeError("", "the area of what was drawn passes the grid's range; a smaller scale does")
 
 
 def safe_scale(tasks: Sequence[Task], origin: Optional[tuple[Fraction, Fraction]], box: Box) -> str:

@@ -4,7 +4,8 @@ from __future__ import annotations
 
 from dataclasses import dataclass
 from fractions import Fraction
-from typing import Sequence
+from functools import cached_property
+from typing import NamedTuple, Sequence
 
 from .exact import Number, exact_ratio, nearest_whole
 
@@ -14,20 +15,19 @@ MOST = 2**30 - 1
 Place = list[int]
 
 
-@dataclass(frozen=True)
-class Axis:
-    """One coordinate: grid units are `scale` times the distance from `origin`."""
+class Axis(NamedTuple):
+    """One coordinate: its place is coordinate * up / down - shift / part, all of them whole numbers."""
 
-    scale: Fraction
-    origin: Fraction
+    up: int
+    down: int
+    shift: int
+    part: int
 
-    def __post_init__(self) -> None:
-        shift = self.origin * self.scale
-        # place = (coordinate * up / down) - (shift / part), all whole numbers
-        object.__setattr__(self, "up", self.scale.numerator)
-        object.__setattr__(self, "down", self.scale.denominator)
-        object.__setattr__(self, "shift", shift.numerator)
-        object.__setattr__(self, "part", shift.denominator)
+    @classmethod
+    def of(cls, scale: Fraction, origin: Fraction) -> Axis:
+        """The axis of a scale and of the coordinate that lies at 0."""
+        shift = origin * scale
+        return cls(scale.numerator, scale.denominator, shift.numerator, shift.denominator)
 
     def place(self, coordinate: Number) -> int:
         """The nearest place of a coordinate."""
@@ -57,8 +57,11 @@ class Grid:
     scale: Fraction
     origin: tuple[Fraction, Fraction]
 
-    def __post_init__(self) -> None:
-        object.__setattr__(self, "axes", tuple(Axis(self.scale, origin) for origin in self.origin))
+    @cached_property
+    def axes(self) -> tuple[Axis, Axis]:
+        """Both coordinates."""
+        x, y = self.origin
+        return Axis.of(self.scale, x), Axis.of(self.scale, y)
 
     def place(self, point: Sequence[Number]) -> Place:
         """The place of a point."""

