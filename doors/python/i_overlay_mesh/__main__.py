@@ -36,8 +36,9 @@ def add_buffer(commands: Any) -> None:
         description="Buffers the geometry of each feature by a distance, in the units of its coordinates. Polygons are"
         " moved outwards or, below 0, inwards; lines become strokes, points circles. Properties and all else are kept,"
         " but for 'bbox'. A file is one GeoJSON object, or features one a line, and what is printed is the same.",
-        epilog="Features and their parts are counted from 0. Exit status: 0, all was buffered; 1, a feature could not"
-        " be, or the file is no GeoJSON; 2, the options are wrong. Degrees are no lengths: bring a map to metres first.",
+        epilog="Features and their parts are counted from 0. Exit status: 0, all was buffered; 1, a feature could"
+        " not be, or the file is no GeoJSON; 2, the options are wrong. Degrees are no lengths: bring a map to metres"
+        " first.",
     )
     command.add_argument("file", nargs="?", default="-", metavar="FILE", help="by default standard input")
     command.add_argument("--distance", type=float, required=True, help="how far; below 0, polygons shrink")

@@ -91,5 +91,6 @@ def power_of_two(exponent: int) -> Fraction:
 
 
 def exponent_above(length: Fraction) -> int:
-    """An exponent above that of each power of two by which a length, which is above 0, stays below 2 * MOST."""
-    return 33 - (length.numerator.bit_length() - length.denominator.bit_length())
+    """An exponent above that of each power of two by which a length, which is above 0, stays below 2^30."""
+    # A numerator of n bits over a denominator of d bits is above 2^(n - d - 1).
+    return 31 - (length.numerator.bit_length() - length.denominator.bit_length())

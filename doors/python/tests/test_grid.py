@@ -105,12 +105,12 @@ class TestDefaultScale(unittest.TestCase):
         self.check(lambda scale, origin: variable_stroke(line, scale=scale, origin=origin))
 
     def test_area(self):
-        # The points allow a finer scale than the area, as the ring runs round twenty times.
-        ring = SQUARE * 20
+        # The points allow a finer scale than the area, as the ring runs round eighty times.
+        ring = SQUARE * 80
         told = outline(ring, 0.5, join="bevel")
-        self.assertEqual(told.scale, 2**25)
+        self.assertEqual(told.scale, 2**24)
         with self.assertRaisesRegex(GridRangeError, "polygon 0, ring 0: its double area"):
-            outline(ring, 0.5, join="bevel", scale=2**26)
+            outline(ring, 0.5, join="bevel", scale=2**25)
 
     def test_no_size(self):
         self.assertEqual(outline([[5.5, 5.5]] * 3, 0).polygons, [])

@@ -74,6 +74,18 @@ class TestForms(unittest.TestCase):
         apart = stroke([[[100, 0], [120, 0]], closed(OUTER)], 2)
         self.assertEqual(len(apart), 2)
 
+    def test_caps_of_both_ends(self):
+        line = [[0, 0], [20, 0]]
+        spear = [[0, -4], [9, 0], [0, 4]]
+        for options, expected in [
+            ({"cap": "butt"}, [[0, -2], [20, -2], [20, 2], [0, 2]]),
+            ({"cap": "butt", "end_cap": "square"}, [[0, -2], [22, -2], [22, 2], [0, 2]]),
+            ({"cap": "butt", "start_cap": "square"}, [[-2, -2], [20, -2], [20, 2], [-2, 2]]),
+            ({"cap": "flat", "end_cap": spear}, [[0, -2], [20, -2], [20, -4], [29, 0], [20, 4], [20, 2], [0, 2]]),
+        ]:
+            with self.subTest(options):
+                self.assertEqual(stroke(line, 4, scale=1, **options).polygons, [[expected]])
+
     def test_widths(self):
         expected = variable_stroke([[0, 0, 4], [20, 0, 8]]).polygons
         self.assertEqual(variable_stroke([[0, 0], [20, 0]], widths=[4, 8]).polygons, expected)
@@ -124,6 +136,14 @@ class TestRings(unittest.TestCase):
         shapes = outline([inner, OUTER], 0, scale=1)
         area = sum(a[0] * b[1] - a[1] * b[0] for ring in shapes.polygons[0] for a, b in zip(ring, ring[1:] + ring[:1]))
         self.assertEqual(area, 2 * (400 - 50))
+
+    def test_rings_that_touch_from_outside(self):
+        notched = [[0, 0], [20, 0], [20, 20], [10, 20], [10, 10], [0, 10]]
+        beside = [[0, 10], [10, 10], [10, 20]]
+        shapes = outline([beside, notched], 0, scale=1)
+        self.assertEqual([len(rings) for rings in shapes.polygons], [1])
+        self.assertIn([10, 20], shapes.polygons[0][0])
+        self.assertNotIn([10, 10], shapes.polygons[0][0])
 
     def test_holes_have_a_distance_of_their_own(self):
         shapes = outline([OUTER, HOLE], 2, hole_distance=-1, join="miter", scale=1)
@@ -189,6 +209,12 @@ class TestErrors(unittest.TestCase):
         self.check("ring 1, point 1: x is 2147483648", outline, far, 8, **options)
         self.check("no scale does, as with less distance is 1", outline, far, 1, **options)
         self.check("is wider than the grid", outline, OUTER, 2**31, kind=GridRangeError, scale=1)
+
+    def test_a_point_just_out_of_range(self):
+        scale = 2 * outline(OUTER, 1).scale
+        self.check("polygon 0, ring 0, point 0: x is 0", outline, OUTER, 1, kind=GridRangeError, scale=scale)
+        ring = [[10, 10], [11, 10], [11, 2000], [10, 11]]
+        self.check("point 2: y is 2000", outline, ring, 1, kind=GridRangeError, scale=2**19 + 2**17, origin=(0, 0))
 
     def test_the_scale_that_is_advised_is_safe(self):
         with self.assertRaisesRegex(GridRangeError, "power of two that is safe is (?P<scale>[0-9]+)") as caught:

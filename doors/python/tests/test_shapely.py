@@ -99,6 +99,15 @@ class TestMade(AgainstShapely):
         for tolerance in (1, 0.1, 0.001):
             self.check_at_least(outline(polygon, 10, tolerance=tolerance, at_least=True), polygon, 10, tolerance)
 
+    def test_at_least_on_a_coarse_grid(self):
+        draw = random.Random(10)
+        for _ in range(40):
+            polygon = shapely.geometry.Polygon(star(draw, 9, 100))
+            on_grid = shapely.geometry.Polygon([[round(x), round(y)] for x, y in polygon.exterior.coords])
+            for step in (2, 30):
+                shapes = outline(on_grid, 9, step=step, at_least=True, scale=1)
+                self.assertEqual(on_grid.buffer(9, resolution=FINE).difference(drawn(shapes)).area, 0)
+
     def test_at_least_inwards(self):
         polygon = shapely.geometry.Polygon(star(random.Random(4), 9, 100))
         shapes = outline(polygon, -5, tolerance=0.1, at_least=True)
@@ -112,6 +121,17 @@ class TestMade(AgainstShapely):
             miter = outline(polygon, 5, join="miter", miter_limit=20, min_turn=0)
             self.check_alike(miter, polygon.buffer(5, join_style=MITER, mitre_limit=20), length)
             self.check_alike(outline(polygon, 5, join="bevel"), polygon.buffer(5, join_style=BEVEL), length)
+
+    def test_the_limit_of_miters(self):
+        spike = [[0, 0], [100, 0], [0, 10]]
+        for limit in (1.5, 3, 8):
+            shapes = outline(spike, 5, join="miter", miter_limit=limit)
+            farthest = max(x for x, _ in shapes.polygons[0][0]) - 100
+            half = math.atan2(10, 100) / 2
+            # The ends of the edge that clips are moved sides' points, as far away as the limit says.
+            along = math.atan2(math.sqrt(limit**2 - 1), 1)
+            expected = 5 * limit * max(math.cos(math.pi / 2 - 2 * half - along), math.cos(math.pi / 2 - along))
+            self.assertAlmostEqual(farthest, expected, 5)
 
     def test_several_polygons(self):
         draw = random.Random(6)
