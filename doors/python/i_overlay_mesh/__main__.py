@@ -66,10 +66,16 @@ def add_draw(commands: Any) -> None:
 
 
 def opened(file: str) -> TextIO:
-    """A file to read, or standard input."""
+    """A file to read, or standard input. Some begin with a mark of their encoding."""
     if file == "-":
-        return io.TextIOWrapper(sys.stdin.buffer, encoding="utf-8")
-    return open(file, encoding="utf-8")
+        return io.TextIOWrapper(sys.stdin.buffer, encoding="utf-8-sig")
+    return open(file, encoding="utf-8-sig")
+
+
+def print_line(text: str) -> None:
+    """Prints a line in UTF-8, whatever the terminal's encoding is."""
+    sys.stdout.buffer.write(text.encode() + b"\n")
+    sys.stdout.buffer.flush()
 
 
 def run_buffer(options: argparse.Namespace) -> None:
@@ -94,7 +100,7 @@ def run_buffer(options: argparse.Namespace) -> None:
     try:
         with opened(options.file) as lines:
             for text in buffered_file(lines, Buffering(buffered, progress.tell)):
-                print(text, flush=True)
+                print_line(text)
     finally:
         progress.end()
 
@@ -105,7 +111,7 @@ def run_draw(options: argparse.Namespace) -> None:
     for file in options.files:
         with opened(file) as lines:
             layers.append(lines.read())
-    print(picture(layers, options.size))
+    print_line(picture(layers, options.size))
 
 
 class Progress:
@@ -135,7 +141,6 @@ def main(words: Optional[Sequence[str]] = None) -> int:
     options = arguments().parse_args(words)
     try:
         options.run(options)
-        sys.stdout.flush()
     except BrokenPipeError:
         # Whoever read the answer has gone; Python would complain once more as it ends.
         os.dup2(os.open(os.devnull, os.O_WRONLY), sys.stdout.fileno())

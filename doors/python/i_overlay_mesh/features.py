@@ -114,6 +114,17 @@ def parsed(where: str, text: str) -> Any:
 def written(where: str, value: Any) -> str:
     """The text of a value, on one line. The format has no infinity, which a property may have been read as."""
     try:
-        return json.dumps(value, ensure_ascii=False, separators=(",", ":"), allow_nan=False)
+        text = json.dumps(value, ensure_ascii=False, separators=(",", ":"), allow_nan=False)
+        # Half of a character beyond 16 bits can be written as an escape alone.
+        return text if is_unicode(text) else json.dumps(value, separators=(",", ":"))
     except ValueError as error:
         raise FeatureError(f"{where + ': ' if where else ''}a property is no JSON: {error}") from error
+
+
+def is_unicode(text: str) -> bool:
+    """Whether a text can be written in UTF-8."""
+    try:
+        text.encode()
+    except UnicodeEncodeError:
+        return False
+    return True

@@ -71,8 +71,10 @@ class Arcs:
         return math.ceil(outer) if radius > 0 else -math.ceil(outer)
 
     def width(self, grid: Grid, width: Number) -> int:
-        """A width in grid units, likewise."""
-        if not self.outside or width <= 0:
+        """A width in grid units, likewise. One below 0 counts as 0."""
+        if width <= 0:
+            return 0
+        if not self.outside:
             return nearest_whole(Fraction(width) * grid.scale)
         return 2 * self.radius(grid, Fraction(width) / 2)
 

@@ -64,6 +64,14 @@ class TestBuffer(unittest.TestCase):
         self.assertEqual(self.answer(feature(LINE)), feature(self.buffered(LINE)))
         self.assertEqual(self.answer(LINE), self.buffered(LINE))
 
+    def test_any_encoding(self):
+        environment = {**os.environ, "PYTHONIOENCODING": "ascii"}
+        text = "\ufeff" + json.dumps(feature(LINE), ensure_ascii=False)
+        result = run("buffer", "--distance", "5", text=text, env=environment)
+        self.assertIn('"Åland"', result.stdout.decode())
+        half = {**feature(LINE), "id": "\ud800"}
+        self.assertEqual(self.answer(half)["id"], "\ud800")
+
     def test_options(self):
         cases = [
             (["--join", "bevel", "--cap", "butt"], {"join": "bevel", "cap": "butt"}),

@@ -112,6 +112,10 @@ class TestDefaultScale(unittest.TestCase):
         with self.assertRaisesRegex(GridRangeError, "polygon 0, ring 0: its double area"):
             outline(ring, 0.5, join="bevel", scale=2**25)
 
+    def test_fractions(self):
+        size = Fraction(8, 7)
+        self.assertEqual(outline([[x and size, y and size] for x, y in SQUARE], 0).scale, 2**30)
+
     def test_no_size(self):
         self.assertEqual(outline([[5.5, 5.5]] * 3, 0).polygons, [])
         self.assertEqual(outline([], 1).polygons, [])

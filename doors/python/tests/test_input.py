@@ -227,6 +227,9 @@ class TestErrors(unittest.TestCase):
         self.check("and has to be at least 3 grid units: at the scale 1 it is 2", stroke, LINE, 2, scale=1)
         self.assertEqual(stroke(LINE, 0).polygons, [])
         self.assertEqual(stroke(LINE, -3).polygons, [])
+        self.assertEqual(stroke(LINE, -1e30, scale=1000).polygons, [])
+        expected = variable_stroke([[0, 0, 0], [9, 0, 5]]).polygons
+        self.assertEqual(variable_stroke([[0, 0, -1e30], [9, 0, 5]]).polygons, expected)
 
     def test_words(self):
         self.check("join is 'mitred', and has to be one of round, miter", outline, OUTER, 1, join="mitred")

@@ -105,8 +105,10 @@ class TestMade(AgainstShapely):
             polygon = shapely.geometry.Polygon(star(draw, 9, 100))
             on_grid = shapely.geometry.Polygon([[round(x), round(y)] for x, y in polygon.exterior.coords])
             for step in (2, 30):
-                shapes = outline(on_grid, 9, step=step, at_least=True, scale=1)
-                self.assertEqual(on_grid.buffer(9, resolution=FINE).difference(drawn(shapes)).area, 0)
+                # The enlarged distance is just a whole number, so that rounding up adds nothing.
+                distance = 8.9999 * math.cos(math.radians(step / 2))
+                shapes = outline(on_grid, distance, step=step, at_least=True, scale=1)
+                self.assertEqual(on_grid.buffer(distance, resolution=FINE).difference(drawn(shapes)).area, 0)
 
     def test_at_least_inwards(self):
         polygon = shapely.geometry.Polygon(star(random.Random(4), 9, 100))
