@@ -92,7 +92,10 @@ def read_arcs(radius: Number, step: Any, tolerance: Any, at_least: bool) -> Arcs
     gap = read_number("", "tolerance", tolerance)
     if gap <= 0:
         raise DrawingError("", f"tolerance is {tolerance}, and has to be above 0")
-    bits = COARSEST_STEP if radius == 0 else step_for_gap(float(Fraction(gap) / abs(Fraction(radius))), at_least)
+    bits = COARSEST_STEP
+    # Where the gap may be as great as the radius, any step does.
+    if gap < abs(radius):
+        bits = step_for_gap(float(Fraction(gap) / abs(Fraction(radius))), at_least)
     if bits < FINEST_STEP:
         least = float(abs(Fraction(radius))) * (1 - math.cos(math.pi / 1024))
         raise DrawingError("", f"tolerance is {tolerance}, and arcs of 1024 steps a turn come only within {least:.3g}")
@@ -100,11 +103,11 @@ def read_arcs(radius: Number, step: Any, tolerance: Any, at_least: bool) -> Arcs
 
 
 def step_for_gap(gap: float, outside: bool) -> int:
-    """The greatest step whose chords keep within a gap of their circle of the radius 1, in bits."""
+    """The greatest step whose chords keep within a gap, below 1, of their circle of the radius 1, in bits."""
     if outside:
         half = math.atan(math.sqrt(gap * (2 + gap)))
     else:
-        half = 2 * math.asin(math.sqrt(min(gap, 1) / 2))
+        half = 2 * math.asin(math.sqrt(gap / 2))
     return min(COARSEST_STEP, int(half / math.pi * TURN))
 
 

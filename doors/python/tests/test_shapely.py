@@ -110,6 +110,12 @@ class TestMade(AgainstShapely):
                 shapes = outline(on_grid, distance, step=step, at_least=True, scale=1)
                 self.assertEqual(on_grid.buffer(distance, resolution=FINE).difference(drawn(shapes)).area, 0)
 
+    def test_a_tolerance_that_any_step_keeps(self):
+        coarsest = outline(star(random.Random(11), 5, 10), 2, step=45).polygons
+        for tolerance in (0.16, 2, 1e300):
+            self.assertEqual(outline(star(random.Random(11), 5, 10), 2, tolerance=tolerance).polygons, coarsest)
+        self.assertEqual(len(outline(star(random.Random(11), 5, 1e-310), 1e-315, tolerance=1e200)), 1)
+
     def test_at_least_inwards(self):
         polygon = shapely.geometry.Polygon(star(random.Random(4), 9, 100))
         shapes = outline(polygon, -5, tolerance=0.1, at_least=True)
