@@ -6,9 +6,10 @@ use crate::answers::{answered_shapes, overlay_of};
 use crate::counted::{plain, plain_edges};
 use crate::random_splits::push_closed;
 use mesh_below::below::FillRule;
+use mesh_below::count::{SplitCount, SplitError};
 use mesh_below::given::are_proper;
 use mesh_below::lattice::{CountedSegment, LatticeEdge};
-use mesh_below::splitter::split_edges_counted;
+use mesh_below::splitter::{ToldSplitting, split_edges_told};
 use mesh_test_support::compared::{expect_equal, expect_that};
 use mesh_test_support::edges::edges_of_shapes;
 use mesh_test_support::plain::{Edge, Point, cross, dot, minus};
@@ -185,41 +186,79 @@ fn expect_near(segments: &[CountedSegment], edges: &[Edge]) -> Result<(), Fail> 
     Ok(())
 }
 
-/// The edges of a contour, what they were split into, and how often segments were split, in attempts that were given up
-/// too.
+/// The edges of a contour, what they were split into, and how many splits were made, in attempts that were given up too.
 #[derive(Drop)]
 struct Split {
     edges: Vec<LatticeEdge>,
-    segments: Vec<CountedSegment>,
-    splits: usize,
+    told: ToldSplitting,
+    made: u64,
+}
+
+fn closed(alloc: Global, corners: &[(i32, i32)]) -> Result<Vec<LatticeEdge>, Fail> {
+    let mut edges: Vec<LatticeEdge> = Vec::new(alloc);
+    push_closed(&mut edges, corners)?;
+    Ok(edges)
+}
+
+/// Splits the edges of a contour until none meets another, with so many splits at most.
+fn split_within(alloc: Global, corners: &[(i32, i32)], most: u64) -> Result<Split, Fail> {
+    let edges = closed(alloc, corners)?;
+    if !are_proper(&edges) {
+        return Err(Fail::new(format_args!("{corners:?}")));
+    }
+    let mut count = SplitCount::new(most);
+    let told = split_edges_told(alloc, &edges, &mut count)?;
+    Ok(Split {
+        edges,
+        told,
+        made: count.made,
+    })
 }
 
 /// Splits the edges of a contour until none meets another.
 fn split_contour(alloc: Global, corners: &[(i32, i32)]) -> Result<Split, Fail> {
-    let mut edges: Vec<LatticeEdge> = Vec::new(alloc);
-    push_closed(&mut edges, corners)?;
+    let split = split_within(alloc, corners, 0)?;
+    expect_that(split.edges.len() <= split.told.segments.len(), &corners)?;
+    expect_equal(&way(&split.told.segments), &(0, 0), &corners)?;
+    Ok(split)
+}
+
+#[test]
+fn unlucky_orders_are_left(rt: HostRuntime) -> Result<(), Fail> {
+    let mut splits: u64 = 0;
+    for corners in UNLUCKY {
+        splits = splits.saturating_add(split_contour(rt.alloc(), corners)?.made);
+    }
+    expect_that(splits <= 2000, &splits)
+}
+
+/// How a splitting with a limit is refused: by how many splits.
+fn refused_at(alloc: Global, corners: &[(i32, i32)], most: u64) -> Result<u64, Fail> {
+    let edges = closed(alloc, corners)?;
     if !are_proper(&edges) {
         return Err(Fail::new(format_args!("{corners:?}")));
     }
-    let mut splits = 0;
-    let segments = split_edges_counted(alloc, &edges, &mut splits)?;
-    expect_that(edges.len() <= segments.len(), &corners)?;
-    expect_equal(&way(&segments), &(0, 0), &corners)?;
-    Ok(Split {
-        edges,
-        segments,
-        splits,
-    })
+    let mut count = SplitCount::new(most);
+    match split_edges_told(alloc, &edges, &mut count) {
+        Err(SplitError::TooManySplits) => Ok(count.made),
+        _ => Err(Fail::new(format_args!("no more than {most} splits of {corners:?}"))),
+    }
 }
 
-/// A split cuts two segments at most, so these are no more than 2,000 cuts in all.
+/// A limit refuses where the splits pass it, and nowhere else. A step may split two segments.
 #[test]
-fn unlucky_orders_are_left(rt: HostRuntime) -> Result<(), Fail> {
-    let mut splits: usize = 0;
+fn limits_refuse_where_they_are_passed(rt: HostRuntime) -> Result<(), Fail> {
     for corners in UNLUCKY {
-        splits = splits.saturating_add(split_contour(rt.alloc(), corners)?.splits);
+        let free = split_contour(rt.alloc(), corners)?;
+        let bound = split_within(rt.alloc(), corners, free.made)?;
+        expect_equal(&bound.made, &free.made, corners)?;
+        expect_that(bound.told.segments == free.told.segments, corners)?;
+        for most in [1, free.made / 2, free.made.saturating_sub(1)] {
+            let made = refused_at(rt.alloc(), corners, most)?;
+            expect_that(most < made && made <= most.saturating_add(2), &(most, made))?;
+        }
     }
-    expect_that(splits <= 1000, &splits)
+    Ok(())
 }
 
 #[test]
@@ -256,9 +295,9 @@ fn long_runs_are_answered(rt: HostRuntime) -> Result<(), Fail> {
 #[test]
 fn splits_stay_near_the_edges(rt: HostRuntime) -> Result<(), Fail> {
     for corners in DRAGGED {
-        let made = split_contour(rt.alloc(), corners)?;
-        let edges = plain_edges(rt.alloc(), &made.edges)?;
-        expect_near(&made.segments, &edges)?;
+        let split = split_contour(rt.alloc(), corners)?;
+        let edges = plain_edges(rt.alloc(), &split.edges)?;
+        expect_near(&split.told.segments, &edges)?;
     }
     Ok(())
 }

@@ -1,9 +1,12 @@
 pub mod Apart
 pub mod Cells
 pub mod Clean
+pub mod Counts
+pub mod Distances
 pub mod Entries
 pub mod Extents
 pub mod Filing
+pub mod Forward
 pub mod Kept
 pub mod Listing
 pub mod Paths
@@ -14,3 +17,4 @@ pub mod Sharing
 pub mod Stages
 pub mod Starting
 pub mod Tallies
+pub mod Tracking

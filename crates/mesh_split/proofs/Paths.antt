@@ -1,5 +1,5 @@
 -- Lemmas over points and lists: splits make of each edge a path that never goes back; what a splitting is.
-use Rattle.std.proofs.Common.{◌≡◌, ⊎_elim, Bool, true, false, cond, ◌||◌, sym, subst, ap, ◌∙◌, refl, arith, List, [], ◌∷◌, ◌++◌}
+use Rattle.std.proofs.Common.{◌≡◌, ℕ, ⊎_elim, Bool, true, false, cond, ◌||◌, sym, subst, ap, ◌∙◌, refl, arith, List, [], ◌∷◌, ◌++◌}
 use Rattle.std.specs.List.{All}
 use Rattle.std.proofs.lemmas.Bool.{cases_Bool, false≢true, or_cases, or_right}
 use Rattle.std.proofs.lemmas.List.Elements.{All-cons, All-head, All-tail}
@@ -7,9 +7,11 @@ use Rattle.mesh_plane.specs.Plane.{Point, Edge}
 use Rattle.mesh_plane.proofs.Whole.{linear}
 use Rattle.mesh_lattice.specs.Clean.{IsProper}
 use Rattle.mesh_lattice.specs.Counted.{Counted, IsCountOf}
-use Rattle.mesh_lattice.specs.Split.{back, same_ends, occurs, IsInBox, EdgeSplit, split_by, after, path}
+use Rattle.mesh_lattice.specs.Nearness.{IsNearness}
+use Rattle.mesh_lattice.specs.Split.{back, same_ends, occurs, IsInBox, EdgeSplit, split_by, after, path, IsLegal}
 use Rattle.mesh_lattice.specs.Splitting.{Leads, IsOnward, IsPathOf, ComesFrom, IsSplitting}
-use Rattle.mesh_split.specs.Private.Steps.{AllClear, IsReachedBySplits}
+use Rattle.mesh_split.specs.Told.{IsToldSplitting}
+use Rattle.mesh_split.specs.Private.Steps.{IsSettled}
 use Rattle.mesh_lattice.proofs.SafeSplits.{split_safe}
 use Rattle.mesh_lattice.proofs.Keys.{occurs_head}
 use Rattle.mesh_lattice.proofs.KeptBySplits.{box_trans, after_append, after_balanced}
@@ -131,22 +133,29 @@ comes_from ks sound (e ∷ es) f o =
 
 -- ---- the splitting as a whole
 
-pub splitting_of : (given : List Edge) (ks : List Counted) → IsProper given → IsReachedBySplits given [] ks [] → AllClear ks → IsSplitting given ks
-splitting_of given ks proper r clear =
-    let sound = legal_sound given r.splits r.legal in
-    let whole = after_proper r.splits sound given proper in
-    let count : IsCountOf (after r.splits given) ks = record {
+pub splitting_of : (given : List Edge) (splits : List EdgeSplit) (ks : List Counted) → IsProper given → IsSettled given splits ks → IsSplitting given ks
+splitting_of given splits ks proper s =
+    let r = s.pile.reached in
+    let sound = legal_sound given splits r.legal in
+    let whole = after_proper splits sound given proper in
+    let count : IsCountOf (after splits given) ks = record {
       once = λ q. omega (arith, linear, r.count.once q);
       counts = λ q. omega (arith, linear, r.count.counts q);
     } in
     record {
-      splits = r.splits;
+      splits = splits;
       legal = r.legal;
       count = count;
-      clean = clean_of_clear (after r.splits given) ks whole count clear;
+      clean = clean_of_clear (after splits given) ks whole count s.clear;
       proper = whole;
-      paths = path_of_edge r.splits sound;
-      boxed = comes_from r.splits sound given;
-      safe = λ unit h. split_safe unit given r.splits r.legal h;
-      balanced = after_balanced r.splits given;
+      paths = path_of_edge splits sound;
+      boxed = comes_from splits sound given;
+      safe = λ unit h. split_safe unit given splits r.legal h;
+      balanced = after_balanced splits given;
     }
+
+-- the same, with the nearness of its splits
+pub told_of : (given : List Edge) (splits : List EdgeSplit) (ks : List Counted) (k : ℕ) → IsProper given → IsSettled given splits ks
+    → ((given : List Edge) → IsLegal given splits → IsNearness given splits k) → IsToldSplitting given ks k
+unfolding splitting_of
+told_of given splits ks k proper s near = record { splitting = splitting_of given splits ks proper s; nearness = near given s.pile.reached.legal }

@@ -7,7 +7,7 @@ use Rattle.mesh_plane.specs.Plane.{Point, Edge}
 use Rattle.mesh_plane.proofs.Sums.{sum_of_ones}
 use Rattle.mesh_plane.proofs.Whole.{linear}
 use Rattle.mesh_lattice.specs.Counted.{Counted, bit, times}
-use Rattle.mesh_lattice.specs.Split.{same_edge, same_ends, occurs, after, Meets}
+use Rattle.mesh_lattice.specs.Split.{same_edge, same_ends, occurs, EdgeSplit, after, Meets}
 use Rattle.mesh_lattice.proofs.Counts.{times_least, bit_most}
 use Rattle.mesh_lattice.proofs.Ends.{decides_edge, ends_self}
 use Rattle.mesh_split.specs.Private.Steps.{exactly, IsTaken, IsPut, IsPile, StandOnce, Settles, weight}
@@ -17,10 +17,10 @@ use Rattle.mesh_split.proofs.Starting.{settled_reached, settled_weight}
 
 -- ---- no ends stand twice
 
-pub pile_once : (given : List Edge) (todo live : List Counted) → IsPile given todo live → StandOnce todo live
-pile_once given todo live p =
+pub pile_once : (given : List Edge) (ks : List EdgeSplit) (todo live : List Counted) → IsPile given ks todo live → StandOnce todo live
+pile_once given ks todo live p =
     let r = p.reached in
-    record { most = λ q. omega (arith, linear, r.count.once q, bit_most (occurs q (after r.splits given))) }
+    record { most = λ q. omega (arith, linear, r.count.once q, bit_most (occurs q (after ks given))) }
 
 pub once_absent : (old todo live : List Counted) (k : Counted) → IsTaken old todo k → StandOnce old live → times k.0 live ≡ pos 0
 once_absent old todo live k e h =
@@ -34,45 +34,47 @@ once_moved old todo live live' k e put h = record {
 -- ---- steps
 
 -- a waiting segment was made live
-pub pile_moved : (old todo live live' : List Counted) (k : Counted) (given : List Edge) → IsTaken old todo k → IsPut live live' k
-    → IsPile given old live → IsPile given todo live'
-pile_moved old todo live live' k given e put p =
+pub pile_moved : (ks : List EdgeSplit) (old todo live live' : List Counted) (k : Counted) (given : List Edge) → IsTaken old todo k → IsPut live live' k
+    → IsPile given ks old live → IsPile given ks todo live'
+pile_moved ks old todo live live' k given e put p =
     let r = p.reached in
-    let es = after r.splits given in
+    let es = after ks given in
     record {
-      reached = record { splits = r.splits; legal = r.legal; count = keep_count es todo live live' k [] put (pop_count es old todo live k [] e r.count) };
+      reached = record { legal = r.legal; count = keep_count es todo live live' k [] put (pop_count es old todo live k [] e r.count) };
       light = omega (arith, linear, e weight, put weight, p.light);
     }
 
 -- a waiting segment was settled
-pub pile_settled : (given : List Edge) (old todo live todo' live' : List Counted) (k : Counted) → IsTaken old todo k → Settles todo live todo' live' k
-    → IsPile given old live → IsPile given todo' live'
-pile_settled given old todo live todo' live' k e s p = record {
-  reached = settled_reached given old todo live todo' live' k e s p.reached;
-  light = settled_weight old todo live todo' live' k _ e s p.light;
+pub pile_settled : (given : List Edge) (ks ks' : List EdgeSplit) (old todo live todo' live' : List Counted) (k : Counted) → IsTaken old todo k
+    → Settles ks todo live ks' todo' live' k → IsPile given ks old live → IsPile given ks' todo' live'
+pile_settled given ks ks' old todo live todo' live' k e s p = record {
+  reached = settled_reached given ks ks' old todo live todo' live' k e s p.reached;
+  light = settled_weight ks ks' old todo live todo' live' k _ e s p.light;
 }
 
 -- a live segment was taken and settled
-pub pile_split : (todo live live1 todo' live' : List Counted) (k : Counted) (given : List Edge) → IsTaken live live1 k → Settles todo live1 todo' live' k
-    → IsPile given todo live → IsPile given todo' live'
-pile_split todo live live1 todo' live' k given e s p =
+pub pile_split : (ks ks' : List EdgeSplit) (todo live live1 todo' live' : List Counted) (k : Counted) (given : List Edge) → IsTaken live live1 k
+    → Settles ks todo live1 ks' todo' live' k → IsPile given ks todo live → IsPile given ks' todo' live'
+pile_split ks ks' todo live live1 todo' live' k given e s p =
     let r = p.reached in
     record {
-      reached = s.reached given (record { splits = r.splits; legal = r.legal; count = take_count (after r.splits given) todo live live1 k [] e r.count });
+      reached = s.reached given (record { legal = r.legal; count = take_count (after ks given) todo live live1 k [] e r.count });
       light = omega (arith, linear, s.weight_stays, e weight, p.light);
     }
 
 -- the live segments wait again
-pub pile_again : (given : List Edge) (todo live todo' live' : List Counted) → todo ≡ [] → todo' ≡ live → live' ≡ [] → IsPile given todo live → IsPile given todo' live'
-pile_again given todo live todo' live' none same fresh p =
-    subst (λ (x : List Counted). IsPile given x live') (sym same)
-    (subst (λ (x : List Counted). IsPile given live x) (sym fresh) (turned (subst (λ (x : List Counted). IsPile given x live) none p)))
+pub pile_again : (given : List Edge) (ks ks' : List EdgeSplit) (todo live todo' live' : List Counted) → todo ≡ [] → todo' ≡ live → live' ≡ [] → ks' ≡ ks
+    → IsPile given ks todo live → IsPile given ks' todo' live'
+pile_again given ks ks' todo live todo' live' none same fresh log p =
+    subst (λ (x : List EdgeSplit). IsPile given x todo' live') (sym log)
+    (subst (λ (x : List Counted). IsPile given ks x live') (sym same)
+    (subst (λ (x : List Counted). IsPile given ks live x) (sym fresh) (turned (subst (λ (x : List Counted). IsPile given ks x live) none p))))
   where
-    turned : IsPile given [] live → IsPile given live []
+    turned : IsPile given ks [] live → IsPile given ks live []
     turned q =
         let r = q.reached in
         record {
-          reached = record { splits = r.splits; legal = r.legal; count = record { counts = λ e. omega (arith, linear, r.count.counts e); once = λ e. omega (arith, linear, r.count.once e) } };
+          reached = record { legal = r.legal; count = record { counts = λ e. omega (arith, linear, r.count.counts e); once = λ e. omega (arith, linear, r.count.once e) } };
           light = omega (arith, linear, q.light);
         }
 

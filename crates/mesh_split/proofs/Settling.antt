@@ -8,7 +8,7 @@ use Rattle.mesh_plane.specs.Winding.{same_point}
 use Rattle.mesh_plane.proofs.Whole.{linear}
 use Rattle.mesh_lattice.specs.Split.{same_edge, same_ends, occurs, is_end, IsInBox, IsCrossing, Meets, at_start_of_second, at_end_of_second, at_start_of_first, at_end_of_first, at_crossing, EdgeSplit, split_by, after, add_split, IsLegal, split}
 use Rattle.mesh_lattice.specs.Counted.{Counted, bit, times}
-use Rattle.mesh_split.specs.Private.Steps.{exactly, IsPut, IsTaken, Puts, PutsPieces, IsClearOf, AllClear, AreCountOf, IsReachedBySplits, Settles, extent, weight, waiting_work, live_work}
+use Rattle.mesh_split.specs.Private.Steps.{exactly, IsPut, IsTaken, Puts, PutsPieces, IsClearOf, AllClear, AreCountOf, IsReachedBySplits, Settles, split_at, extent, weight, waiting_work, live_work}
 use Rattle.mesh_lattice.specs.Split.{AreClear}
 use Rattle.mesh_lattice.proofs.Ends.{decides_edge, decides_end, ends_sym, not_ends}
 use Rattle.mesh_lattice.proofs.Boxes.{meets_box, meets_once, crossing_swapped, turn_start}
@@ -109,18 +109,18 @@ pub record IsMeeting (todo live : List Counted) (k : Counted) (t : Edge) (c : Po
   pub meets : Meets k.0 t c
   pub lives : pos 0 <ℤ exactly t live
 
-legal_split : (given : List Edge) (todo live : List Counted) (k : Counted) (t : Edge) (c : Point) → IsMeeting todo live k t c → (r : IsReachedBySplits given todo live (k ∷ []))
-    → IsLegal given (add_split t c (add_split k.0 c r.splits))
-legal_split given todo live k t c m r =
-    let h = held_is (after r.splits given) todo live k [] m.proper r.count refl in
-    split r.legal h.stands (live_occurs (after r.splits given) todo live (k ∷ []) t r.count m.lives) m.meets
+legal_split : (given : List Edge) (ks : List EdgeSplit) (todo live : List Counted) (k : Counted) (t : Edge) (c : Point) → IsMeeting todo live k t c
+    → IsReachedBySplits given ks todo live (k ∷ []) → IsLegal given (add_split t c (add_split k.0 c ks))
+legal_split given ks todo live k t c m r =
+    let h = held_is (after ks given) todo live k [] m.proper r.count refl in
+    split r.legal h.stands (live_occurs (after ks given) todo live (k ∷ []) t r.count m.lives) m.meets
 
 -- ---- the ways to settle
 
 -- the segment in hand is clear of the live ones and becomes one
-pub settles_kept : (todo live live' : List Counted) (k : Counted) → same_point k.0.0 k.0.1 ≡ false → IsClearOf k.0 live → IsPut live live' k → Settles todo live todo live' k
-settles_kept todo live live' k proper clear put = record {
-  reached = λ given r. record { splits = r.splits; legal = r.legal; count = keep_count (after r.splits given) todo live live' k [] put r.count };
+pub settles_kept : (ks : List EdgeSplit) (todo live live' : List Counted) (k : Counted) → same_point k.0.0 k.0.1 ≡ false → IsClearOf k.0 live → IsPut live live' k → Settles ks todo live ks todo live' k
+settles_kept ks todo live live' k proper clear put = record {
+  reached = λ given r. record { legal = r.legal; count = keep_count (after ks given) todo live live' k [] put r.count };
   clear = keep_clear live live' k put clear;
   work_falls =
       let l : 1 ≤ extent k.0 = extent_least k.0 proper in
@@ -137,16 +137,15 @@ live_no_more : (n : ℕ) → pos (4 * n - 3) ≤ℤ pos (4 * n - 2)
 live_no_more n = omega (arith, ints)
 
 -- the meeting point is an end of the live one: the segment in hand is cut
-pub settles_first : (todo live todo' live' : List Counted) (k : Counted) (t : Edge) (c : Point) → IsMeeting todo live k t c → is_end c t ≡ true
-    → PutsPieces todo live todo' live' k c → Settles todo live todo' live' k
-settles_first todo live todo' live' k t c m end p =
+pub settles_first : (ks : List EdgeSplit) (todo live todo' live' : List Counted) (k : Counted) (t : Edge) (c : Point) → IsMeeting todo live k t c → is_end c t ≡ true
+    → PutsPieces todo live todo' live' k c → Settles ks todo live (split_at k.0 c ∷ ks) todo' live' k
+settles_first ks todo live todo' live' k t c m end p =
     let inner = meets_once m.meets end in
     let box = (meets_box m.meets).0 in
     record {
       reached = λ given r. record {
-        splits = (record { ends = k.0; at = c }) ∷ r.splits;
-        legal = subst (IsLegal given) (one_cut k.0 t c r.splits inner end) (legal_split given todo live k t c m r);
-        count = cut_count (after r.splits given) todo live todo' live' k c [] m.proper refl refl refl p r.count;
+        legal = subst (IsLegal given) (one_cut k.0 t c ks inner end) (legal_split given ks todo live k t c m r);
+        count = cut_count (after ks given) todo live todo' live' k c [] m.proper refl refl refl p r.count;
       };
       clear = fewer_clear live live' (λ q. omega (arith, linear, p.first.live_ends q, p.second.live_ends q));
       work_falls =
@@ -165,22 +164,21 @@ alone : (e : Edge) (j : Counted) → same_ends e j.0 ≡ false → times e (j �
 alone e j h = omega (arith, linear, ap bit h)
 
 -- the meeting point is an end of the segment in hand: that is put back, and the live one is cut
-pub settles_second : (todo live live1 todo2 live2 todo' live' : List Counted) (k j : Counted) (t : Edge) (c : Point) → IsMeeting todo live k t c
+pub settles_second : (ks : List EdgeSplit) (todo live live1 todo2 live2 todo' live' : List Counted) (k j : Counted) (t : Edge) (c : Point) → IsMeeting todo live k t c
     → is_end c k.0 ≡ true → is_end c t ≡ false → same_point j.0.0 j.0.1 ≡ false → j.0 ≡ t → IsTaken live live1 j
-    → Puts todo live1 todo2 live2 k → PutsPieces todo2 live2 todo' live' j c → Settles todo live todo' live' k
-settles_second todo live live1 todo2 live2 todo' live' k j t c m end inner other same taken put p =
+    → Puts todo live1 todo2 live2 k → PutsPieces todo2 live2 todo' live' j c → Settles ks todo live (split_at j.0 c ∷ ks) todo' live' k
+settles_second ks todo live live1 todo2 live2 todo' live' k j t c m end inner other same taken put p =
     let inside : is_end c j.0 ≡ false = ap (is_end c) same ∙ inner in
     let box = subst (λ (x : Edge). IsInBox x c) (sym same) (meets_box m.meets).1 in
     record {
       reached = λ given r.
-          let h = held_is (after r.splits given) todo live k [] m.proper r.count refl in
-          let apart = apart_ends (after r.splits given) todo live live1 k j h taken in
-          let held = swap_count (after r.splits given) todo live1 j k [] (take_count (after r.splits given) todo live live1 j (k ∷ []) taken r.count) in
-          let back = put_count (after r.splits given) todo live1 todo2 live2 k (j ∷ []) m.proper (alone k.0 j apart) put held in
+          let h = held_is (after ks given) todo live k [] m.proper r.count refl in
+          let apart = apart_ends (after ks given) todo live live1 k j h taken in
+          let held = swap_count (after ks given) todo live1 j k [] (take_count (after ks given) todo live live1 j (k ∷ []) taken r.count) in
+          let back = put_count (after ks given) todo live1 todo2 live2 k (j ∷ []) m.proper (alone k.0 j apart) put held in
           record {
-            splits = (record { ends = j.0; at = c }) ∷ r.splits;
-            legal = subst (IsLegal given) (other_cut k.0 t c r.splits end inner ∙ ap (λ (x : Edge). (record { ends = x; at = c }) ∷ r.splits) (sym same)) (legal_split given todo live k t c m r);
-            count = cut_count (after r.splits given) todo2 live2 todo' live' j c [] other refl refl refl p back;
+            legal = subst (IsLegal given) (other_cut k.0 t c ks end inner ∙ ap (λ (x : Edge). (record { ends = x; at = c }) ∷ ks) (sym same)) (legal_split given ks todo live k t c m r);
+            count = cut_count (after ks given) todo2 live2 todo' live' j c [] other refl refl refl p back;
           };
       clear = fewer_clear live live' (λ q. omega (arith, linear, p.first.live_ends q, p.second.live_ends q, put.live_ends q, taken_fewer live live1 j taken q));
       work_falls = omega (arith, linear, taken live_work, put.work_grows, p.first.work_grows, p.second.work_grows, work_pieces j.0 c inside box);
@@ -188,25 +186,25 @@ settles_second todo live live1 todo2 live2 todo' live' k j t c m end inner other
     }
 
 -- the meeting point is an end of neither: both are cut
-pub settles_both : (todo live live1 todo2 live2 todo' live' : List Counted) (k j : Counted) (t : Edge) (c : Point) → IsMeeting todo live k t c
+pub settles_both : (ks : List EdgeSplit) (todo live live1 todo2 live2 todo' live' : List Counted) (k j : Counted) (t : Edge) (c : Point) → IsMeeting todo live k t c
     → is_end c k.0 ≡ false → is_end c t ≡ false → same_point j.0.0 j.0.1 ≡ false → j.0 ≡ t → IsTaken live live1 j
-    → PutsPieces todo live1 todo2 live2 k c → PutsPieces todo2 live2 todo' live' j c → Settles todo live todo' live' k
-settles_both todo live live1 todo2 live2 todo' live' k j t c m outer inner other same taken first p =
+    → PutsPieces todo live1 todo2 live2 k c → PutsPieces todo2 live2 todo' live' j c
+    → Settles ks todo live (split_at j.0 c ∷ split_at k.0 c ∷ ks) todo' live' k
+settles_both ks todo live live1 todo2 live2 todo' live' k j t c m outer inner other same taken first p =
     let inside : is_end c j.0 ≡ false = ap (is_end c) same ∙ inner in
     let boxes = meets_box m.meets in
     let box = subst (λ (x : Edge). IsInBox x c) (sym same) boxes.1 in
     record {
       reached = λ given r.
-          let h = held_is (after r.splits given) todo live k [] m.proper r.count refl in
-          let apart = apart_ends (after r.splits given) todo live live1 k j h taken in
-          let held = swap_count (after r.splits given) todo live1 j k [] (take_count (after r.splits given) todo live live1 j (k ∷ []) taken r.count) in
+          let h = held_is (after ks given) todo live k [] m.proper r.count refl in
+          let apart = apart_ends (after ks given) todo live live1 k j h taken in
+          let held = swap_count (after ks given) todo live1 j k [] (take_count (after ks given) todo live live1 j (k ∷ []) taken r.count) in
           let start : same_ends (k.0.0, c) j.0 ≡ false = ends_sym (k.0.0, c) j.0 ∙ not_ends c j.0 (k.0.0, c) inside ((decides_end c (k.0.0, c)).1 (inr refl)) in
           let rest : same_ends (c, k.0.1) j.0 ≡ false = ends_sym (c, k.0.1) j.0 ∙ not_ends c j.0 (c, k.0.1) inside ((decides_end c (c, k.0.1)).1 (inl refl)) in
-          let done = cut_count (after r.splits given) todo live1 todo2 live2 k c (j ∷ []) m.proper (alone (k.0.0, c) j start) (alone (c, k.0.1) j rest) (alone k.0 j apart) first held in
+          let done = cut_count (after ks given) todo live1 todo2 live2 k c (j ∷ []) m.proper (alone (k.0.0, c) j start) (alone (c, k.0.1) j rest) (alone k.0 j apart) first held in
           record {
-            splits = (record { ends = j.0; at = c }) ∷ (record { ends = k.0; at = c }) ∷ r.splits;
-            legal = subst (IsLegal given) (both_cut k.0 t c r.splits outer inner ∙ ap (λ (x : Edge). (record { ends = x; at = c }) ∷ (record { ends = k.0; at = c }) ∷ r.splits) (sym same)) (legal_split given todo live k t c m r);
-            count = cut_count (split_by (record { ends = k.0; at = c }) (after r.splits given)) todo2 live2 todo' live' j c [] other refl refl refl p done;
+            legal = subst (IsLegal given) (both_cut k.0 t c ks outer inner ∙ ap (λ (x : Edge). (record { ends = x; at = c }) ∷ (record { ends = k.0; at = c }) ∷ ks) (sym same)) (legal_split given ks todo live k t c m r);
+            count = cut_count (split_by (record { ends = k.0; at = c }) (after ks given)) todo2 live2 todo' live' j c [] other refl refl refl p done;
           };
       clear = fewer_clear live live' (λ q. omega (arith, linear, p.first.live_ends q, p.second.live_ends q, first.first.live_ends q, first.second.live_ends q, taken_fewer live live1 j taken q));
       work_falls =

@@ -9,7 +9,7 @@ use Rattle.mesh_plane.specs.Plane.{Edge}
 use Rattle.mesh_plane.specs.Winding.{sum_of}
 use Rattle.mesh_plane.proofs.Sums.{sum_of_append}
 use Rattle.mesh_plane.proofs.Whole.{linear}
-use Rattle.mesh_lattice.specs.Split.{same_ends, occurs, after, no_cut}
+use Rattle.mesh_lattice.specs.Split.{same_ends, occurs, EdgeSplit, after, no_cut}
 use Rattle.mesh_lattice.specs.Counted.{Counted, bit, along, times}
 use Rattle.mesh_split.specs.Private.Steps.{IsTaken, Puts, AllClear, AreCountOf, IsReachedBySplits, Settles, at_least_once, extent, weight, waiting_work, live_work, work, total_weight}
 use Rattle.mesh_lattice.proofs.Ends.{ends_self}
@@ -83,14 +83,14 @@ work_least todo live = omega (arith, linear, waiting todo, living live)
     living (k ∷ ks) = omega (arith, ints, living ks)
 
 -- the state after a segment was taken from the worklist and settled
-pub settled_reached : (given : List Edge) (old todo live todo' live' : List Counted) (k : Counted) → IsTaken old todo k → Settles todo live todo' live' k
-    → IsReachedBySplits given old live [] → IsReachedBySplits given todo' live' []
-settled_reached given old todo live todo' live' k e s r =
-    s.reached given (record { splits = r.splits; legal = r.legal; count = pop_count _ old todo live k [] e r.count })
+pub settled_reached : (given : List Edge) (ks ks' : List EdgeSplit) (old todo live todo' live' : List Counted) (k : Counted) → IsTaken old todo k
+    → Settles ks todo live ks' todo' live' k → IsReachedBySplits given ks old live [] → IsReachedBySplits given ks' todo' live' []
+settled_reached given ks ks' old todo live todo' live' k e s r =
+    s.reached given (record { legal = r.legal; count = pop_count _ old todo live k [] e r.count })
 
-pub settled_weight : (old todo live todo' live' : List Counted) (k : Counted) (w : ℤ) → IsTaken old todo k → Settles todo live todo' live' k
-    → total_weight old live ≤ℤ w → total_weight todo' live' ≤ℤ w
-settled_weight old todo live todo' live' k w e s h = omega (arith, linear, s.weight_stays, e weight)
+pub settled_weight : (ks ks' : List EdgeSplit) (old todo live todo' live' : List Counted) (k : Counted) (w : ℤ) → IsTaken old todo k
+    → Settles ks todo live ks' todo' live' k → total_weight old live ≤ℤ w → total_weight todo' live' ≤ℤ w
+settled_weight ks ks' old todo live todo' live' k w e s h = omega (arith, linear, s.weight_stays, e weight)
 
 pub popped_room : (old todo live : List Counted) (k : Counted) → IsTaken old todo k → total_weight old live ≤ℤ pos (2 ^ 97) → IsRoomy (total_weight todo live +ℤ weight k)
 popped_room old todo live k e h =
@@ -98,8 +98,9 @@ popped_room old todo live k e h =
     omega (arith, linear, e weight)
 
 -- the segment that was taken from the worklist does not live
-pub popped_absent : (given : List Edge) (old todo live : List Counted) (k : Counted) → IsTaken old todo k → IsReachedBySplits given old live [] → times k.0 live ≡ pos 0
-popped_absent given old todo live k e r =
+pub popped_absent : (given : List Edge) (ks : List EdgeSplit) (old todo live : List Counted) (k : Counted) → IsTaken old todo k
+    → IsReachedBySplits given ks old live [] → times k.0 live ≡ pos 0
+popped_absent given ks old todo live k e r =
     omega (
       arith,
       linear,
@@ -108,22 +109,22 @@ popped_absent given old todo live k e r =
       ap bit (ends_self k.0),
       times_least k.0 todo,
       times_least k.0 live,
-      bit_most (occurs k.0 (after r.splits given)),
+      bit_most (occurs k.0 (after ks given)),
     )
 
-pub settled_less : (old todo live todo' live' : List Counted) (k : Counted) → IsTaken old todo k → Settles todo live todo' live' k
+pub settled_less : (ks ks' : List EdgeSplit) (old todo live todo' live' : List Counted) (k : Counted) → IsTaken old todo k → Settles ks todo live ks' todo' live' k
     → unsigned_abs (work todo' live') < unsigned_abs (work old live)
-settled_less old todo live todo' live' k e s =
+settled_less ks ks' old todo live todo' live' k e s =
     below (work todo' live') (work old live) (work_least todo' live') (omega (arith, linear, s.work_falls, e waiting_work))
   where
     below : (a b : ℤ) → pos 0 ≤ℤ a → a <ℤ b → unsigned_abs a < unsigned_abs b
     below a b h k = omega (arith, ints)
 
-pub start_reached : (given : List Edge) (n : ℕ) (todo live : List Counted) → length given ≤ n → AreCountOf (take n given) todo live [] → IsReachedBySplits given todo live []
-start_reached given n todo live h r = record { splits = []; legal = no_cut; count = subst (λ (x : List Edge). AreCountOf x todo live []) (take_all n given h) r }
-
-pub end_reached : (given : List Edge) (todo live : List Counted) → todo ≡ [] → IsReachedBySplits given todo live [] → IsReachedBySplits given [] live []
-end_reached given todo live e r = subst (λ (x : List Counted). IsReachedBySplits given x live []) e r
+pub start_reached : (given : List Edge) (ks : List EdgeSplit) → ks ≡ [] → (n : ℕ) (todo live : List Counted) → length given ≤ n → AreCountOf (take n given) todo live []
+    → IsReachedBySplits given ks todo live []
+start_reached given ks none n todo live h r =
+    subst (λ (x : List EdgeSplit). IsReachedBySplits given x todo live []) (sym none)
+    (record { legal = no_cut; count = subst (λ (x : List Edge). AreCountOf x todo live []) (take_all n given h) r })
 
 pub more_weight : (i : ℕ) (a b w : ℤ) → b ≤ℤ (a +ℤ w) → w ≤ℤ pos (2 ^ 33) → a ≤ℤ pos (2 ^ 33 * i) → b ≤ℤ pos (2 ^ 33 * (i + 1))
 more_weight i a b w h k l = omega (arith, ints, h, k, l)

@@ -1,12 +1,15 @@
 //! The first pass: splits in another order where the usual one takes too many. It need not leave the segments clear of
 //! each other; what is left to split is found by the second pass, whatever was split here.
 
-ghost use Rattle.std.specs.Prelude.{◌≡◌, [], pos, ◌<ℤ◌, IfOk, IfSome, OnOk};
+ghost use Rattle.std.specs.Prelude.{◌≡◌, [], pos, ◌<ℤ◌, List, IfErr, IfOk, IfSome, IsNone, OnOk};
+ghost use Rattle.mesh_plane.specs.Plane.{Edge};
 ghost use Rattle.mesh_lattice.specs.Clean.{IsProper};
-ghost use Rattle.mesh_lattice.specs.Split.{Meets};
+ghost use Rattle.mesh_lattice.specs.Split.{IsLegal, Meets};
+ghost use Rattle.mesh_split.specs.Counting.{CountsSplits, IsReason};
 ghost use Rattle.mesh_split.specs.Private.Steps.{AllClear, IsPile, KeepsPile, StandOnce, exactly};
 
 use crate::budget::{Budget, of_heap};
+use crate::count::{SplitCount, SplitError};
 use crate::hints::{Hints, Meeting, Order};
 use crate::steps::Splitter;
 use crate::store::Store;
@@ -46,7 +49,8 @@ type Pair = (LatticeEdge, Meeting);
 fn make_live(splitter: &mut Splitter, hints: &mut Hints, at_once: bool) -> Result<(), AllocError>
     requires { StandOnce splitter.old.todo splitter.old.live }
     ensures none { OnOk result (splitter.new.todo ≡ []) }
-    ensures kept { OnOk result (KeepsPile splitter.old.todo splitter.old.live splitter.new.todo splitter.new.live) }
+    ensures kept { OnOk result (KeepsPile splitter.old.log splitter.old.todo splitter.old.live
+        splitter.new.log splitter.new.todo splitter.new.live) }
 {
     while let Some(s) = splitter.todo.pop() {
         if at_once {
@@ -96,18 +100,31 @@ fn next(live: &Store, hints: &mut Hints) -> Result<Option<Pair>, AllocError>
     Ok(None)
 }
 
-/// Splits the edges by hints, unless that takes too many splits. All that it leaves waits to be tested.
+/// No splitter: the splits that it made are counted on.
+fn given_up(splitter: Splitter, count: &mut SplitCount) -> Result<Option<Splitter>, SplitError>
+    ensures none { IfOk result (λ o. IsNone o) }
+    ensures counted { (given : List Edge) → IsLegal given splitter.log → CountsSplits given count.old count.new }
+    ensures refused { IfErr result (λ e. IsReason e count.new) }
+{
+    count.add(&splitter.log)?;
+    Ok(None)
+}
+
+/// Splits the edges by hints, unless that takes too many splits; then these are counted on. All that it leaves waits to
+/// be tested.
 fn by_hints(
     alloc: Global,
     edges: &[LatticeEdge],
     order: Order,
     is_eager: bool,
     factor: usize,
-    splits: &mut usize,
-) -> Result<Option<Splitter>, AllocError>
+    count: &mut SplitCount,
+) -> Result<Option<Splitter>, SplitError>
     requires { IsProper edges.now }
-    ensures pile { IfOk result (λ o. IfSome o (λ s. IsPile edges.now s.todo s.live)) }
+    ensures pile { IfOk result (λ o. IfSome o (λ s. IsPile edges.now s.log s.todo s.live)) }
     ensures clear { IfOk result (λ o. IfSome o (λ s. AllClear s.live)) }
+    ensures counted { CountsSplits edges.now count.old count.new }
+    ensures refused { IfErr result (λ e. IsReason e count.new) }
 {
     let mut splitter = Splitter::of_edges(alloc, edges)?;
     let mut hints = Hints::new(alloc, order);
@@ -120,83 +137,91 @@ fn by_hints(
         hints.note_cut(first, m.1)?;
         hints.note_cut(m.0, m.1)?;
         splitter.split_live(first, m)?;
-        *splits = splits.saturating_add(1);
+        count.check(&splitter.log)?;
         make_live(&mut splitter, &mut hints, is_eager)?;
     }
-    Ok(None)
+    given_up(splitter, count)
 }
 
-/// Splits the edges as the second pass does, unless that takes too many splits.
+/// Splits the edges as the second pass does, unless that takes too many splits. Then these are counted on.
 fn in_hand(
     alloc: Global,
     edges: &[LatticeEdge],
     mut budget: Budget,
-    splits: &mut usize,
-) -> Result<Option<Splitter>, AllocError>
+    count: &mut SplitCount,
+) -> Result<Option<Splitter>, SplitError>
     requires { IsProper edges.now }
-    ensures pile { IfOk result (λ o. IfSome o (λ s. IsPile edges.now s.todo s.live)) }
+    ensures pile { IfOk result (λ o. IfSome o (λ s. IsPile edges.now s.log s.todo s.live)) }
     ensures clear { IfOk result (λ o. IfSome o (λ s. AllClear s.live)) }
+    ensures counted { CountsSplits edges.now count.old count.new }
+    ensures refused { IfErr result (λ e. IsReason e count.new) }
 {
     let mut splitter = Splitter::of_edges(alloc, edges)?;
-    let before = *splits;
+    let mut made: usize = 0;
     for _step in 0..usize::MAX {
         let Some(s) = splitter.todo.pop() else {
             return Ok(Some(splitter));
         };
         if splitter.settle(s)? {
-            *splits = splits.saturating_add(1);
+            made = made.saturating_add(1);
         }
-        if !budget.allows(alloc, edges, splits.saturating_sub(before))? {
-            return Ok(None);
+        count.check(&splitter.log)?;
+        if !budget.allows(alloc, edges, made)? {
+            return given_up(splitter, count);
         }
     }
-    Ok(None)
+    given_up(splitter, count)
 }
 
-/// An attempt of one kind, which is given up where it takes too many splits.
+/// An attempt of one kind, which is given up where it takes too many splits. Then these are counted on.
 fn attempt(
     alloc: Global,
     edges: &[LatticeEdge],
     kind: Kind,
     factor: usize,
-    splits: &mut usize,
-) -> Result<Option<Splitter>, AllocError>
+    count: &mut SplitCount,
+) -> Result<Option<Splitter>, SplitError>
     requires { IsProper edges.now }
-    ensures pile { IfOk result (λ o. IfSome o (λ s. IsPile edges.now s.todo s.live)) }
+    ensures pile { IfOk result (λ o. IfSome o (λ s. IsPile edges.now s.log s.todo s.live)) }
     ensures clear { IfOk result (λ o. IfSome o (λ s. AllClear s.live)) }
+    ensures counted { CountsSplits edges.now count.old count.new }
+    ensures refused { IfErr result (λ e. IsReason e count.new) }
 {
     match kind {
-        Kind::Sweeping(order) => by_hints(alloc, edges, order, false, factor, splits),
-        Kind::Eager(order) => by_hints(alloc, edges, order, true, factor, splits),
+        Kind::Sweeping(order) => by_hints(alloc, edges, order, false, factor, count),
+        Kind::Eager(order) => by_hints(alloc, edges, order, true, factor, count),
         Kind::InHand => {
             let budget = Budget::usual(edges, factor.saturating_mul(GROWTH));
-            in_hand(alloc, edges, budget, splits)
+            in_hand(alloc, edges, budget, count)
         }
     }
 }
 
 /// The segments that wait for the second pass: those that an attempt left, or the edges, where none came to its end.
-/// The splits of all attempts are counted on.
+/// The splits of the attempts that were given up are counted on.
 pub fn first_pass(
     alloc: Global,
     edges: &[LatticeEdge],
-    splits: &mut usize,
-) -> Result<Splitter, AllocError>
+    count: &mut SplitCount,
+) -> Result<Splitter, SplitError>
     requires { IsProper edges.now }
-    ensures pile { IfOk result (λ s. IsPile edges.now s.todo s.live) }
+    ensures pile { IfOk result (λ s. IsPile edges.now s.log s.todo s.live) }
     ensures clear { IfOk result (λ s. AllClear s.live) }
+    ensures counted { CountsSplits edges.now count.old count.new }
+    ensures refused { IfErr result (λ e. IsReason e count.new) }
 {
-    if let Some(splitter) = in_hand(alloc, edges, Budget::of_first(edges), splits)? {
+    if let Some(splitter) = in_hand(alloc, edges, Budget::of_first(edges), count)? {
         return Ok(splitter);
     }
     let mut factor: usize = 1;
     for _round in 0..ROUNDS {
         for kind in KINDS {
-            if let Some(splitter) = attempt(alloc, edges, kind, factor, splits)? {
+            if let Some(splitter) = attempt(alloc, edges, kind, factor, count)? {
                 return Ok(splitter);
             }
         }
         factor = factor.saturating_mul(GROWTH);
     }
-    Splitter::of_edges(alloc, edges)
+    let splitter = Splitter::of_edges(alloc, edges)?;
+    Ok(splitter)
 }

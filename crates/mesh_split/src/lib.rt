@@ -2,7 +2,8 @@
 //!
 //! `splitter` has the public call, which is the second pass; its contract is in `mesh_lattice/specs/Splitting.antt`.
 //! `first_pass` splits before it, in a better order where the usual one takes too many: `budget` says how many these
-//! are, and `hints` have that order.
+//! are, and `hints` have that order. `count` counts the splits of both, for the limit that a caller may set, `split_log`
+//! keeps those that stand, and `nearness` is how near these lie to the edges.
 //! `steps` are the steps of both: `worklist` and `store` have the segments that wait and those that live, `tree` the
 //! parts of the plane by which the latter are sought, `bounding` the boxes by which most of those found there are left
 //! out. `specs/Private` has the states of its loops, which private contracts alone read.
@@ -10,12 +11,16 @@
 
 mod bounding;
 mod budget;
+pub mod count;
 mod first_pass;
 mod hints;
 pub mod laws;
+mod nearness;
+mod split_log;
 pub mod splitter;
 mod steps;
 mod store;
 mod tally;
 mod tree;
+mod witnesses;
 mod worklist;

@@ -1,15 +1,31 @@
 //! The splitting itself: one legal split at a time, until no two segments meet. What the first pass left is tested
 //! here.
 
-ghost use Rattle.std.specs.Prelude.{IfOk};
+ghost use Rattle.std.specs.Prelude.{◌≤◌, ◌^◌, IfErr, IfOk, OnOk};
 ghost use Rattle.mesh_plane.specs.Winding.{sum_of};
 ghost use Rattle.mesh_lattice.specs.Clean.{IsProper};
 ghost use Rattle.mesh_lattice.specs.Counted.{size, IsRoomy};
 ghost use Rattle.mesh_lattice.specs.Splitting.{IsSplitting};
+ghost use Rattle.mesh_split.specs.Counting.{CountsSplits, IsReason, IsWithinLimit};
+ghost use Rattle.mesh_split.specs.Private.Steps.{IsSettled};
+ghost use Rattle.mesh_split.specs.Told.{IsToldSplitting};
 
+use crate::count::{SplitCount, SplitError};
 use crate::first_pass::first_pass;
+use crate::nearness::nearness;
+use crate::steps::Splitter;
 use mesh_lattice::lattice::{CountedSegment, LatticeEdge};
 use std::alloc::{AllocError, Global};
+
+/// The segments that edges are split into, and how near they lie to the edges.
+#[derive(Drop)]
+pub struct ToldSplitting {
+    /// Each segment once, with its net count.
+    pub segments: Vec<CountedSegment>,
+    /// The nearness of the splits in 64ths of a grid unit, rounded up: each split point lies so near to the edge that
+    /// its segment comes from. At most 2^38.
+    pub nearness: u64,
+}
 
 /// Splits directed edges, none of which ends where it starts, until any two segments share only common ends:
 /// the segments come from the edges by legal splits, each stands once, with its net count, also where that is 0,
@@ -20,27 +36,55 @@ pub fn split_edges(alloc: Global, edges: &[LatticeEdge]) -> Result<Vec<CountedSe
     ensures splitting { IfOk result (λ v. IsSplitting edges.now v.items) }
     ensures room { IfOk result (λ v. IsRoomy (sum_of size v.items)) }
 {
-    let mut splits = 0;
-    split_edges_counted(alloc, edges, &mut splits)
-}
-
-/// The same, and counts on how often two segments were split, in attempts that were given up too. The count tells what
-/// the order of splits costs. Nothing is promised of it.
-pub fn split_edges_counted(
-    alloc: Global,
-    edges: &[LatticeEdge],
-    splits: &mut usize,
-) -> Result<Vec<CountedSegment>, AllocError>
-    requires { IsProper edges.now }
-    ensures splitting { IfOk result (λ v. IsSplitting edges.now v.items) }
-    ensures room { IfOk result (λ v. IsRoomy (sum_of size v.items)) }
-{
-    let mut splitter = first_pass(alloc, edges, splits)?;
-    while let Some(s) = splitter.todo.pop() {
-        if splitter.settle(s)? {
-            *splits = splits.saturating_add(1);
-        }
-    }
+    let mut count = SplitCount::new(0);
+    let splitter = match settled(alloc, edges, &mut count) {
+        Ok(splitter) => splitter,
+        Err(SplitError::OutOfMemory) => return Err(AllocError),
+        Err(SplitError::TooManySplits) => unreachable!(),
+    };
     let segments = splitter.live.into_segments(alloc)?;
     Ok(segments)
+}
+
+/// The same, and tells how near the splits lie to the edges. The splits are counted on, those of attempts that were
+/// given up too, whatever comes of it. It fails where memory is refused, and where the splits pass the limit of the
+/// count, if it has one; the answer is what it is without a limit.
+pub fn split_edges_told(
+    alloc: Global,
+    edges: &[LatticeEdge],
+    count: &mut SplitCount,
+) -> Result<ToldSplitting, SplitError>
+    requires { IsProper edges.now }
+    ensures splitting { IfOk result (λ told. IsToldSplitting edges.now told.segments.items told.nearness) }
+    ensures room { IfOk result (λ told. IsRoomy (sum_of size told.segments.items)) }
+    ensures small { IfOk result (λ told. told.nearness ≤ 2 ^ 38) }
+    ensures counted { CountsSplits edges.now count.old count.new }
+    ensures within { OnOk result (IsWithinLimit count.new) }
+    ensures refused { IfErr result (λ e. IsReason e count.new) }
+{
+    let splitter = settled(alloc, edges, count)?;
+    let nearness = nearness(alloc, &splitter.log)?;
+    let segments = splitter.live.into_segments(alloc)?;
+    Ok(ToldSplitting { segments, nearness })
+}
+
+/// The splits that leave no segment waiting, and none that meets another.
+fn settled(
+    alloc: Global,
+    edges: &[LatticeEdge],
+    count: &mut SplitCount,
+) -> Result<Splitter, SplitError>
+    requires { IsProper edges.now }
+    ensures settled { IfOk result (λ s. IsSettled edges.now s.log s.live) }
+    ensures counted { CountsSplits edges.now count.old count.new }
+    ensures within { OnOk result (IsWithinLimit count.new) }
+    ensures refused { IfErr result (λ e. IsReason e count.new) }
+{
+    let mut splitter = first_pass(alloc, edges, count)?;
+    while let Some(s) = splitter.todo.pop() {
+        splitter.settle(s)?;
+        count.check(&splitter.log)?;
+    }
+    count.add(&splitter.log)?;
+    Ok(splitter)
 }

@@ -1,25 +1,28 @@
 //! The steps of the splitting: segments put in, split alone or with one that they meet, and made live.
 
-ghost use Rattle.std.specs.Prelude.{◌≡◌, ◌^◌, [], ℤ, pos, ◌+ℤ◌, ◌≤ℤ◌, ◌<ℤ◌, neg_ℤ, false, OnOk, IfOk};
+ghost use Rattle.std.specs.Prelude.{◌≡◌, ◌^◌, [], ◌∷◌, ℤ, pos, ◌+ℤ◌, ◌≤ℤ◌, ◌<ℤ◌, neg_ℤ, false, OnOk, IfOk};
 ghost use Rattle.mesh_plane.specs.Winding.{same_point};
 ghost use Rattle.mesh_lattice.specs.Clean.{IsProper};
 ghost use Rattle.mesh_lattice.specs.Split.{is_end, IsInBox, Meets};
 ghost use Rattle.mesh_split.specs.Private.Steps.{AllClear, Puts, PutsPieces, Settles, IsPile, KeepsPile, exactly};
-ghost use Rattle.mesh_split.specs.Private.Steps.{IsForward, weight, total_weight};
+ghost use Rattle.mesh_split.specs.Private.Steps.{IsForward, split_at, weight, total_weight};
 ghost use Rattle.mesh_lattice.specs.Counted.{times, IsRoomy};
 
 use crate::hints::Meeting;
+use crate::split_log::SplitLog;
 use crate::store::Store;
 use crate::worklist::Worklist;
 use mesh_lattice::exact::{is_before, is_end};
 use mesh_lattice::lattice::{CountedSegment, LatticeEdge, LatticePoint};
 use std::alloc::{AllocError, Global};
 
-/// The segments that wait to be tested, and the live ones. In the second pass these are clear of each other.
+/// The segments that wait to be tested, the live ones, and the splits that led to them. In the second pass the live ones
+/// are clear of each other.
 #[derive(Drop)]
 pub struct Splitter {
     pub todo: Worklist,
     pub live: Store,
+    pub log: SplitLog,
 }
 
 /// The segment of one edge.
@@ -45,11 +48,13 @@ impl Splitter {
     fn new(alloc: Global, edges: &[LatticeEdge]) -> Result<Self, AllocError>
         ensures todo { IfOk result (λ s. s.todo ≡ []) }
         ensures live { IfOk result (λ s. s.live ≡ []) }
+        ensures log { IfOk result (λ s. s.log ≡ []) }
     {
         let live = Store::new(alloc, edges)?;
         Ok(Splitter {
             todo: Worklist::new(alloc),
             live,
+            log: SplitLog::new(alloc),
         })
     }
 
@@ -57,7 +62,8 @@ impl Splitter {
     fn put(&mut self, s: CountedSegment) -> Result<(), AllocError>
         requires proper { same_point s.0.0 s.0.1 ≡ false }
         requires room { IsRoomy (total_weight self.old.todo self.old.live +ℤ weight s) }
-        ensures { OnOk result (Puts self.old.todo self.old.live self.new.todo self.new.live s) }
+        ensures puts { OnOk result (Puts self.old.todo self.old.live self.new.todo self.new.live s) }
+        ensures log { self.new.log ≡ self.old.log }
     {
         if is_before(s.0.0, s.0.1) {
             return self.file(s);
@@ -69,7 +75,8 @@ impl Splitter {
     fn file(&mut self, s: CountedSegment) -> Result<(), AllocError>
         requires forward { IsForward s.0 }
         requires room { IsRoomy (total_weight self.old.todo self.old.live +ℤ weight s) }
-        ensures { OnOk result (Puts self.old.todo self.old.live self.new.todo self.new.live s) }
+        ensures puts { OnOk result (Puts self.old.todo self.old.live self.new.todo self.new.live s) }
+        ensures log { self.new.log ≡ self.old.log }
     {
         let added = self.live.add(s)?;
         if added {
@@ -79,14 +86,16 @@ impl Splitter {
         Ok(())
     }
 
-    /// Puts the two pieces of a segment that is split.
+    /// Splits a segment: puts its two pieces, and logs the split.
     fn split_at(&mut self, s: CountedSegment, c: LatticePoint) -> Result<(), AllocError>
         requires inner { is_end c s.0 ≡ false }
         requires in_box { IsInBox s.0 c }
         requires room { IsRoomy (total_weight self.old.todo self.old.live +ℤ weight s) }
-        ensures { OnOk result (PutsPieces self.old.todo self.old.live self.new.todo self.new.live s c) }
+        ensures pieces { OnOk result (PutsPieces self.old.todo self.old.live self.new.todo self.new.live s c) }
+        ensures log { OnOk result (self.new.log ≡ split_at s.0 c ∷ self.old.log) }
     {
         let (start, end) = s.0;
+        self.log.push(s.0, c)?;
         self.put(((start, c), s.1))?;
         self.put(((c, end), s.1))?;
         Ok(())
@@ -98,7 +107,8 @@ impl Splitter {
         requires meets { Meets s.0 m.0 m.1 }
         requires lives { pos 0 <ℤ exactly m.0 self.old.live }
         requires room { IsRoomy (total_weight self.old.todo self.old.live +ℤ weight s) }
-        ensures { OnOk result (Settles self.old.todo self.old.live self.new.todo self.new.live s) }
+        ensures { OnOk result (Settles self.old.log self.old.todo self.old.live
+            self.new.log self.new.todo self.new.live s) }
     {
         if is_end(m.1, m.0) {
             self.split_at(s, m.1)?;
@@ -118,7 +128,7 @@ impl Splitter {
     /// The given edges, all of which wait, those with the same ends as one segment.
     pub fn of_edges(alloc: Global, edges: &[LatticeEdge]) -> Result<Self, AllocError>
         requires { IsProper edges.now }
-        ensures pile { IfOk result (λ s. IsPile edges.now s.todo s.live) }
+        ensures pile { IfOk result (λ s. IsPile edges.now s.log s.todo s.live) }
         ensures clear { IfOk result (λ s. AllClear s.live) }
     {
         let mut splitter = Splitter::new(alloc, edges)?;
@@ -134,7 +144,8 @@ impl Splitter {
         requires second_lives { pos 0 <ℤ exactly m.0 self.old.live }
         requires meets { Meets first m.0 m.1 }
         requires room { total_weight self.old.todo self.old.live ≤ℤ pos (2 ^ 97) }
-        ensures { OnOk result (KeepsPile self.old.todo self.old.live self.new.todo self.new.live) }
+        ensures { OnOk result (KeepsPile self.old.log self.old.todo self.old.live
+            self.new.log self.new.todo self.new.live) }
     {
         let s = self.live.remove(first);
         self.split(s, m)?;
@@ -145,12 +156,14 @@ impl Splitter {
     pub fn again(self, alloc: Global) -> Result<Self, AllocError>
         ensures todo { IfOk result (λ s. s.todo ≡ self.live) }
         ensures live { IfOk result (λ s. s.live ≡ []) }
+        ensures log { IfOk result (λ s. s.log ≡ self.log) }
     {
         let ends = self.live.ends(alloc)?;
         let live = Store::new(alloc, &ends)?;
         Ok(Splitter {
             todo: self.live.into_worklist(alloc),
             live,
+            log: self.log,
         })
     }
 
@@ -159,7 +172,8 @@ impl Splitter {
         requires forward { IsForward s.0 }
         requires absent { times s.0 self.old.live ≡ pos 0 }
         requires room { IsRoomy (total_weight self.old.todo self.old.live +ℤ weight s) }
-        ensures { OnOk result (Settles self.old.todo self.old.live self.new.todo self.new.live s) }
+        ensures { OnOk result (Settles self.old.log self.old.todo self.old.live
+            self.new.log self.new.todo self.new.live s) }
     {
         if let Some(m) = self.live.conflict(s.0) {
             self.split(s, m)?;

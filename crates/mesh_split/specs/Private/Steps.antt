@@ -1,6 +1,6 @@
 -- What the steps of the splitting do to lists of counted segments, whatever order they stand in:
 -- each fact speaks of the sums of every function over the list.
-use Rattle.std.specs.Prelude.{ℕ, ◌+◌, ◌*◌, ◌-◌, ◌^◌, ◌≡◌, Bool, true, false, cond, List, [], ◌∷◌, ℤ, pos, ◌+ℤ◌, ◌-ℤ◌}
+use Rattle.std.specs.Prelude.{ℕ, ◌+◌, ◌*◌, ◌-◌, ◌^◌, ◌≡◌, Bool, true, false, cond, List, [], ◌∷◌, map, reverse, ℤ, pos, ◌+ℤ◌, ◌-ℤ◌}
 use Rattle.std.specs.Prelude.{◌*ℤ◌, ◌≤ℤ◌, ◌<ℤ◌, unsigned_abs, max, int_lt, IsTrue}
 use Rattle.mesh_plane.specs.Order.{point_lt}
 use Rattle.mesh_plane.specs.Plane.{Point, Edge}
@@ -110,30 +110,43 @@ pub record AreCountOf (es : List Edge) (todo live held : List Counted) : Type 0 
   pub counts : (q : Edge) → (counted_net q todo +ℤ counted_net q live) +ℤ counted_net q held ≡ net q es
   pub once : (q : Edge) → (times q todo +ℤ times q live) +ℤ times q held ≡ bit (occurs q es)
 
--- a state that legal splits of the given edges lead to
-pub record IsReachedBySplits (given : List Edge) (todo live held : List Counted) : Type 0 where
-  pub splits : List EdgeSplit
+-- a split of the segment with these ends
+abbrev pub split_at : Edge → Point → EdgeSplit
+split_at e c = record { ends = e; at = c }
+
+-- splits in the order in which they were made, as a list with the latest first
+abbrev pub latest_first : List (Edge × Point) → List EdgeSplit
+latest_first made = map (λ (s : Edge × Point). split_at s.0 s.1) (reverse made)
+
+-- a state that these splits of the given edges lead to, all of them legal
+pub record IsReachedBySplits (given : List Edge) (splits : List EdgeSplit) (todo live held : List Counted) : Type 0 where
   pub legal : IsLegal given splits
   pub count : AreCountOf (after splits given) todo live held
 
 -- a segment in hand was made live or split: the state stays one that legal splits lead to, live segments stay
 -- clear of each other, and less work is left
-pub record Settles (todo live todo' live' : List Counted) (k : Counted) : Type 0 where
-  pub reached : (given : List Edge) → IsReachedBySplits given todo live (k ∷ [])
-      → IsReachedBySplits given todo' live' []
+pub record Settles (splits : List EdgeSplit) (todo live : List Counted) (splits' : List EdgeSplit) (todo' live' : List Counted) (k : Counted) : Type 0 where
+  pub reached : (given : List Edge) → IsReachedBySplits given splits todo live (k ∷ [])
+      → IsReachedBySplits given splits' todo' live' []
   pub clear : AllClear live → AllClear live'
   pub work_falls : work todo' live' <ℤ (work todo live +ℤ waiting_work k)
   pub weight_stays : total_weight todo' live' ≤ℤ (total_weight todo live +ℤ weight k)
 
 -- segments that legal splits of the given edges lead to, whether or not they meet, with room for their counts
-pub record IsPile (given : List Edge) (todo live : List Counted) : Type 0 where
-  pub reached : IsReachedBySplits given todo live []
+pub record IsPile (given : List Edge) (splits : List EdgeSplit) (todo live : List Counted) : Type 0 where
+  pub reached : IsReachedBySplits given splits todo live []
   pub light : total_weight todo live ≤ℤ pos (2 ^ 97)
 
 -- legal splits lead to what is there now wherever they lead to what was there
-abbrev pub KeepsPile : List Counted → List Counted → List Counted → List Counted → Type 0
-KeepsPile todo live todo' live' = (given : List Edge) → IsPile given todo live → IsPile given todo' live'
+abbrev pub KeepsPile : List EdgeSplit → List Counted → List Counted → List EdgeSplit → List Counted → List Counted → Type 0
+KeepsPile splits todo live splits' todo' live' =
+    (given : List Edge) → IsPile given splits todo live → IsPile given splits' todo' live'
 
 -- no ends stand twice
 pub record StandOnce (todo live : List Counted) : Type 0 where
   pub most : (q : Edge) → (times q todo +ℤ times q live) ≤ℤ pos 1
+
+-- no segment waits, and the live ones, to which these splits of the given edges lead, are clear of each other
+pub record IsSettled (given : List Edge) (splits : List EdgeSplit) (live : List Counted) : Type 0 where
+  pub pile : IsPile given splits [] live
+  pub clear : AllClear live

@@ -15,10 +15,10 @@ loop-s-preserved c =
     let s = c.loop-s.splitter in
     record {
       once = once_moved s.todo c.pop.new.self s.live c.insert.new.self c.in-Some.s c.in-Some.ensures.taken c.in_ok-insert.ensures c.loop-s.invariant.once;
-      kept = λ given p. pile_moved s.todo c.pop.new.self s.live c.insert.new.self c.in-Some.s given c.in-Some.ensures.taken c.in_ok-insert.ensures (c.loop-s.invariant.kept given p);
+      kept = λ given p. pile_moved s.log s.todo c.pop.new.self s.live c.insert.new.self c.in-Some.s given c.in-Some.ensures.taken c.in_ok-insert.ensures (c.loop-s.invariant.kept given p);
     }
 
 pub returns-clause-kept : goal.returns-clause-kept
 returns-clause-kept c = λ given p.
     let e = c.in_default.ensures.taken in
-    subst (λ (x : List Counted). IsPile given x c.loop-s.splitter.live) (e.0 ∙ sym e.1) (c.loop-s.invariant.kept given p)
+    subst (λ (x : List Counted). IsPile given c.loop-s.splitter.log x c.loop-s.splitter.live) (e.0 ∙ sym e.1) (c.loop-s.invariant.kept given p)

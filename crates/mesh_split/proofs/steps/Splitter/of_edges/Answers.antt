@@ -1,4 +1,4 @@
-use Rattle.std.proofs.Common.{rules, ◌≡◌, subst, sym, length, false, ◌*◌, ◌+◌, ◌<◌, ◌≤◌, ◌^◌, arith}
+use Rattle.std.proofs.Common.{rules, ◌≡◌, subst, sym, ◌∙◌, length, false, ◌*◌, ◌+◌, ◌<◌, ◌≤◌, ◌^◌, arith}
 use Rattle.mesh_plane.specs.Winding.{same_point}
 use Rattle.mesh_lattice.specs.Counted.{Counted}
 use Rattle.mesh_lattice.proofs.Each.{proper_at}
@@ -10,7 +10,7 @@ pub loop-e-init : goal.loop-e-init
 loop-e-init c =
     let s = c.in_ok-splitter.splitter in
     let e = c.in_ok-splitter.ensures in
-    record { count = none_count s.todo s.live e.todo e.live; clear = none_clear s.live e.live; weight = none_weight s.todo s.live e.todo e.live }
+    record { log = e.log; count = none_count s.todo s.live e.todo e.live; clear = none_clear s.live e.live; weight = none_weight s.todo s.live e.todo e.live }
 
 pub put-requires-clause-proper : goal.put-requires-clause-proper
 put-requires-clause-proper c =
@@ -26,11 +26,12 @@ pub loop-e-preserved : goal.loop-e-preserved
 loop-e-preserved c =
     let s = c.loop-e.splitter in
     let t = c.put.new.self in
-    let puts = subst (Puts s.todo s.live t.todo t.live) c.single.ensures.value c.in_ok-put.ensures in
+    let puts = subst (Puts s.todo s.live t.todo t.live) c.single.ensures.value c.in_ok-put.ensures.puts in
     record {
+      log = c.put.ensures.log ∙ c.loop-e.invariant.log;
       count = more_count c.args.edges.now c.loop-e.e-index _ s.todo s.live t.todo t.live c.loop-e-test.true puts c.loop-e.invariant.count;
-      clear = more_clear s.todo s.live t.todo t.live _ c.in_ok-put.ensures c.loop-e.invariant.clear;
-      weight = more_weight c.loop-e.e-index _ _ _ c.in_ok-put.ensures.weight_grows c.single.ensures.light c.loop-e.invariant.weight;
+      clear = more_clear s.todo s.live t.todo t.live _ c.in_ok-put.ensures.puts c.loop-e.invariant.clear;
+      weight = more_weight c.loop-e.e-index _ _ _ c.in_ok-put.ensures.puts.weight_grows c.single.ensures.light c.loop-e.invariant.weight;
     }
 
 pub returns-clause-pile : goal.returns-clause-pile
@@ -39,6 +40,6 @@ returns-clause-pile c =
     let m : 2 ^ 33 * c.loop-e.e-index ≤ 2 ^ 97 = omega (arith, c.loop-e.auto.e-index-end) in
     let s = c.loop-e.splitter in
     record {
-      reached = start_reached c.args.edges.now c.loop-e.e-index s.todo s.live c.loop-e-test.false c.loop-e.invariant.count;
+      reached = start_reached c.args.edges.now s.log c.loop-e.invariant.log c.loop-e.e-index s.todo s.live c.loop-e-test.false c.loop-e.invariant.count;
       light = most_weight c.loop-e.e-index _ m c.loop-e.invariant.weight;
     }

@@ -10,8 +10,8 @@ backwards-requires c = omega (arith, linear, c.requires.room, total_least c.args
 pub file-requires-2-clause-room : goal.file-requires-2-clause-room
 file-requires-2-clause-room c = room_turned c.args.self.now.todo c.args.self.now.live c.args.s c.backwards.result c.backwards.ensures c.requires.room
 
-pub returns : goal.returns
-returns c =
+pub returns-clause-puts : goal.returns-clause-puts
+returns-clause-puts c =
     on_ok_weaker c.file-2.result
     (puts_back c.args.self.now.todo c.args.self.now.live c.file-2.new.self.todo c.file-2.new.self.live c.args.s c.backwards.result c.backwards.ensures)
-    c.file-2.ensures
+    c.file-2.ensures.puts

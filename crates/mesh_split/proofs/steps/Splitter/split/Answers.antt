@@ -16,9 +16,10 @@ split_at-requires-clause-in_box c = (meets_box c.requires.meets).0
 
 pub returns-then-is_end : goal.returns-then-is_end
 returns-then-is_end c =
-    settles_first c.args.self.now.todo c.args.self.now.live c.split_at.new.self.todo c.split_at.new.self.live c.args.s c.args.m.0 c.args.m.1
+    rw c.in_ok-split_at.ensures.log
+    (settles_first c.args.self.now.log c.args.self.now.todo c.args.self.now.live c.split_at.new.self.todo c.split_at.new.self.live c.args.s c.args.m.0 c.args.m.1
     (record { proper = c.requires.proper; meets = c.requires.meets; lives = c.requires.lives })
-    (sym c.is_end.ensures ∙ c.if-is_end.true) c.in_ok-split_at.ensures
+    (sym c.is_end.ensures ∙ c.if-is_end.true) c.in_ok-split_at.ensures.pieces)
 
 pub put-requires-clause-room : goal.put-requires-clause-room
 put-requires-clause-room c =
@@ -30,16 +31,17 @@ split_at-requires-then-is_end-2-clause-in_box c = subst (λ (e : Edge). IsInBox 
 pub split_at-requires-then-is_end-2-clause-room : goal.split_at-requires-then-is_end-2-clause-room
 split_at-requires-then-is_end-2-clause-room c =
     room_other c.args.self.now.todo c.args.self.now.live c.remove-other.new.self c.put.new.self.todo c.put.new.self.live c.args.s c.remove-other.result
-    c.remove-other.ensures.taken c.in_ok-put.ensures c.requires.room
+    c.remove-other.ensures.taken c.in_ok-put.ensures.puts c.requires.room
 
 pub returns-then-is_end-2 : goal.returns-then-is_end-2
 returns-then-is_end-2 c =
-    settles_second c.args.self.now.todo c.args.self.now.live c.remove-other.new.self c.put.new.self.todo c.put.new.self.live
+    rw (c.in_ok-split_at-2.ensures.log, c.put.ensures.log)
+    (settles_second c.args.self.now.log c.args.self.now.todo c.args.self.now.live c.remove-other.new.self c.put.new.self.todo c.put.new.self.live
     c.split_at-then-is_end-2.new.self.todo c.split_at-then-is_end-2.new.self.live c.args.s c.remove-other.result c.args.m.0 c.args.m.1
     (record { proper = c.requires.proper; meets = c.requires.meets; lives = c.requires.lives })
     (sym c.is_end-2.ensures ∙ c.if-is_end-2.true) (sym c.is_end.ensures ∙ c.if-is_end.false)
     (forward_proper c.remove-other.result.0 (subst IsForward (sym c.remove-other.ensures.ends) c.remove-other.ensures.forward))
-    c.remove-other.ensures.ends c.remove-other.ensures.taken c.in_ok-put.ensures c.in_ok-split_at-2.ensures
+    c.remove-other.ensures.ends c.remove-other.ensures.taken c.in_ok-put.ensures.puts c.in_ok-split_at-2.ensures.pieces)
 
 pub split_at-requires-2-clause-in_box : goal.split_at-requires-2-clause-in_box
 split_at-requires-2-clause-in_box c = (meets_box c.requires.meets).0
@@ -54,13 +56,14 @@ split_at-requires-3-clause-in_box c = subst (λ (e : Edge). IsInBox e c.args.m.1
 pub split_at-requires-3-clause-room : goal.split_at-requires-3-clause-room
 split_at-requires-3-clause-room c =
     room_pieces c.args.self.now.todo c.args.self.now.live c.remove-other.new.self c.split_at-2.new.self.todo c.split_at-2.new.self.live c.args.s c.remove-other.result c.args.m.1
-    (sym c.is_end-2.ensures ∙ c.if-is_end-2.false) (meets_box c.requires.meets).0 c.remove-other.ensures.taken c.in_ok-split_at-3.ensures c.requires.room
+    (sym c.is_end-2.ensures ∙ c.if-is_end-2.false) (meets_box c.requires.meets).0 c.remove-other.ensures.taken c.in_ok-split_at-3.ensures.pieces c.requires.room
 
 pub returns : goal.returns
 returns c =
-    settles_both c.args.self.now.todo c.args.self.now.live c.remove-other.new.self c.split_at-2.new.self.todo c.split_at-2.new.self.live
+    rw (c.in_ok-split_at-4.ensures.log, c.in_ok-split_at-3.ensures.log)
+    (settles_both c.args.self.now.log c.args.self.now.todo c.args.self.now.live c.remove-other.new.self c.split_at-2.new.self.todo c.split_at-2.new.self.live
     c.split_at-3.new.self.todo c.split_at-3.new.self.live c.args.s c.remove-other.result c.args.m.0 c.args.m.1
     (record { proper = c.requires.proper; meets = c.requires.meets; lives = c.requires.lives })
     (sym c.is_end-2.ensures ∙ c.if-is_end-2.false) (sym c.is_end.ensures ∙ c.if-is_end.false)
     (forward_proper c.remove-other.result.0 (subst IsForward (sym c.remove-other.ensures.ends) c.remove-other.ensures.forward))
-    c.remove-other.ensures.ends c.remove-other.ensures.taken c.in_ok-split_at-3.ensures c.in_ok-split_at-4.ensures
+    c.remove-other.ensures.ends c.remove-other.ensures.taken c.in_ok-split_at-3.ensures.pieces c.in_ok-split_at-4.ensures.pieces)

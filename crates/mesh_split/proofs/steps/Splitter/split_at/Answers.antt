@@ -15,11 +15,11 @@ put-requires-2-clause-proper c = second_proper c.args.c c.args.s.0 c.requires.in
 pub put-requires-2-clause-room : goal.put-requires-2-clause-room
 put-requires-2-clause-room c =
     let kept = room_kept c.args.self.now.todo c.args.self.now.live c.args.s c.requires.room in
-    let first = simp kept at c.in_ok-put.ensures in
+    let first = simp kept at c.in_ok-put.ensures.puts in
     simp kept
     (room_second c.args.self.now.todo c.args.self.now.live c.put.new.self.todo c.put.new.self.live c.args.s c.args.c c.requires.inner c.requires.in_box c.requires.room first)
 
-pub returns : goal.returns
-returns c =
+pub returns-clause-pieces : goal.returns-clause-pieces
+returns-clause-pieces c =
     let kept = room_kept c.args.self.now.todo c.args.self.now.live c.args.s c.requires.room in
-    record { between = c.put.new.self.todo; beside = c.put.new.self.live; first = simp kept at c.in_ok-put.ensures; second = simp kept at c.in_ok-put-2.ensures }
+    record { between = c.put.new.self.todo; beside = c.put.new.self.live; first = simp kept at c.in_ok-put.ensures.puts; second = simp kept at c.in_ok-put-2.ensures.puts }

@@ -22,4 +22,4 @@ split-requires-clause-room c = omega (arith, linear, c.remove-s.ensures.taken we
 
 pub returns : goal.returns
 returns c = λ given p.
-    pile_split c.args.self.now.todo c.args.self.now.live c.remove-s.new.self c.split.new.self.todo c.split.new.self.live c.remove-s.result given c.remove-s.ensures.taken c.in_ok-split.ensures p
+    pile_split c.args.self.now.log c.split.new.self.log c.args.self.now.todo c.args.self.now.live c.remove-s.new.self c.split.new.self.todo c.split.new.self.live c.remove-s.result given c.remove-s.ensures.taken c.in_ok-split.ensures p

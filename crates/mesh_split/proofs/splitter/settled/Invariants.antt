@@ -1,10 +1,12 @@
 use Rattle.std.specs.Prelude.{unsigned_abs}
+use Rattle.mesh_split.specs.Counting.{CountsSplits}
 use Rattle.mesh_split.specs.Private.Steps.{IsPile, AllClear, work}
-use Rattle.mesh_split.proofs.splitter.split_edges_counted.Given as goal
+use Rattle.mesh_split.proofs.splitter.settled.Given as goal
 
 abbrev pub invariant-loop-s : goal.invariant-loop-s
 invariant-loop-s l = record {
-  pile : IsPile l.fn.edges l.splitter.todo l.splitter.live;
+  counted : CountsSplits l.fn.edges l.fn.count l.count;
+  pile : IsPile l.fn.edges l.splitter.log l.splitter.todo l.splitter.live;
   clear : AllClear l.splitter.live;
 }
 

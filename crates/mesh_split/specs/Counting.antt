@@ -1,0 +1,31 @@
+-- How the splits of a call are counted, and when they pass a limit.
+use Rattle.std.specs.Prelude.{ℕ, ◌+◌, ◌-◌, ◌^◌, ◌≤◌, ◌<◌, ◌≡◌, ◌⊎◌, List, length, min, sum_by}
+use Rattle.std.specs.List.{All}
+use Rattle.mesh_plane.specs.Plane.{Edge}
+use Rattle.mesh_lattice.specs.Split.{EdgeSplit, IsLegal}
+use Rattle.mesh_split.specs.declared.count.SplitCount.{SplitCount}
+use Rattle.mesh_split.specs.declared.count.SplitError.{SplitError}
+use Rattle.mesh_split.specs.declared.count.SplitError.TheVariants.{OutOfMemory, TooManySplits}
+
+-- a count with so many more splits
+abbrev pub counted : SplitCount → ℕ → SplitCount
+counted c more = record { made = min (c.made + more) (2 ^ 64 - 1); most = c.most }
+
+-- the splits of attempts at some edges, each a list of legal splits, were counted on
+pub record CountsSplits (given : List Edge) (old new : SplitCount) : Type 0 where
+  pub attempts : List (List EdgeSplit)
+  pub legal : All (IsLegal given) attempts
+  pub sum : new ≡ counted old (sum_by length attempts)
+
+-- no limit is set, or the splits that were made do not pass it
+abbrev pub IsWithinLimit : SplitCount → Type 0
+IsWithinLimit c = (c.most ≡ 0) ⊎ (c.made ≤ c.most)
+
+-- a limit is set, and the splits that were made pass it
+abbrev pub IsPastLimit : SplitCount → Type 0
+IsPastLimit c = (0 < c.most) × (c.most < c.made)
+
+-- when a splitting is refused: memory says nothing of the count
+abbrev pub IsReason : SplitError → SplitCount → Type 0
+IsReason OutOfMemory c = Unit {0}
+IsReason TooManySplits c = IsPastLimit c
