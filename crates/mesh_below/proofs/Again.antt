@@ -47,7 +47,7 @@ module _ (edges : List Edge) (fill : ℤ → Bool) (options : Choices) (answer :
       (stands cs (each_right (λ (e : Edge). occurs e es ≡ true) (boundary c) (flat_map boundary cs) h))
 
   -- are covered by split segments
-  answer_covered : Each (IsCovered es) (flat_map boundary (contours_of answer))
+  pub answer_covered : Each (IsCovered es) (flat_map boundary (contours_of answer))
   answer_covered =
       recursion_from_All (IsCovered es) (flat_map boundary (contours_of answer))
       (all_flat_map (IsCovered es) boundary (contours_of answer)

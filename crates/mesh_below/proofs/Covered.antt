@@ -22,17 +22,17 @@ use Rattle.mesh_below.proofs.NoBend.{each_found}
 use Rattle.mesh_below.proofs.Straight.{LookAlike, RunsThrough, apart_alike, straight_alike, alike_through, whole_alike, on_parts, middle_on, whole_apart, runs_refined}
 
 -- a point of an edge, on the grid `m`, lies on a segment of the edge's line
-record IsCoveredAt (es : List Edge) (k : Edge) (m : ℕ) (z : Point) : Type 0 where
-  segment : Edge
-  stands : occurs segment es ≡ true
-  on : IsOn (refined_edge m segment) z
+pub record IsCoveredAt (es : List Edge) (k : Edge) (m : ℕ) (z : Point) : Type 0 where
+  pub segment : Edge
+  pub stands : occurs segment es ≡ true
+  pub on : IsOn (refined_edge m segment) z
   start : turn k.0 k.1 segment.0 ≡ pos 0
   end : turn k.0 k.1 segment.1 ≡ pos 0
 
 -- an edge whose ends differ, each point of which lies on a segment of its line
 pub record IsCovered (es : List Edge) (k : Edge) : Type 0 where
   pub proper : k.0 ≡ k.1 → ⊥
-  cover : (m : ℕ) → 0 < m → (z : Point) → IsOn (refined_edge m k) z → IsCoveredAt es k m z
+  pub cover : (m : ℕ) → 0 < m → (z : Point) → IsOn (refined_edge m k) z → IsCoveredAt es k m z
 
 pub covered_back : (es : List Edge) (k : Edge) → IsCovered es k → IsCovered es (back k)
 covered_back es k h = record {

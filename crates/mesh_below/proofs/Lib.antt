@@ -2,6 +2,7 @@ pub mod Again
 pub mod AnswerPoints
 pub mod AnswerRegions
 pub mod Asking
+pub mod Beyond
 pub mod Covered
 pub mod EdgeParts
 pub mod LatticeContours

@@ -20,6 +20,7 @@ use Rattle.mesh_lattice.specs.Clean.{IsProper}
 use Rattle.mesh_shapes.specs.Contours.{IsBegun, IsRingAmong, IsRingOf, StartsOnce, left_out}
 use Rattle.mesh_lattice.specs.Counted.{Counted}
 use Rattle.mesh_shapes.specs.Vectors.{RingVec, ring_of_vec, rings_of_vecs}
+use Rattle.mesh_below.specs.Private.Resolving.{ResolvesBy}
 use Rattle.mesh_below.specs.Private.Rings.{AreRingsOf, IsWhole, PushesRing, Told}
 use Rattle.mesh_shapes.specs.Resolution.{Choices, Ring, ring_of, is_large, AreArranged, IsResolution}
 use Rattle.mesh_lattice.specs.Split.{occurs, after, same_ends}
@@ -148,3 +149,10 @@ resolved edges segments fill choices ordered closed rings told answer s is k a =
   begun = k.begun;
   arranged = subst (λ (rs : List Ring). AreArranged choices.clockwise rs answer) k.rings_are a;
 }
+
+-- by just the splits of the splitting
+pub resolved_by : (edges : List Edge) (segments : List Counted) (fill : ℤ → Bool) (choices : Choices) (ordered : List Edge) (closed : List (Vec Point Global)) (rings : List RingVec) (told : Told) (answer : List (List (List Point))) →
+    (s : IsSplitting edges segments) → IsBoundary (after s.splits edges) fill (contour_edges closed) → AreRingsOf choices.all_vertices choices.least_area ordered closed rings told →
+    AreArranged choices.clockwise (rings_of_vecs rings) answer → ResolvesBy s.splits edges fill choices answer
+unfolding resolved
+resolved_by edges segments fill choices ordered closed rings told answer s is k a = (resolved edges segments fill choices ordered closed rings told answer s is k a, refl)

@@ -2,6 +2,7 @@ pub mod Answers
 pub mod Asked
 pub mod Laws
 pub mod Meeting
+pub mod Nearness
 pub mod Options
 pub mod Private
 pub use Rattle.mesh_lattice.specs.Boundary

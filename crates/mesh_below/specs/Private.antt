@@ -1,3 +1,4 @@
 -- What stands between the steps: only private contracts and invariants read these.
 pub mod OverlayAnswers
+pub mod Resolving
 pub mod Rings

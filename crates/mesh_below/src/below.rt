@@ -235,7 +235,7 @@ impl<I: IntNumber> Overlay<I> {
     }
 
     /// The options, as the resolving takes them.
-    fn choices(&self) -> Choices
+    pub(crate) fn choices(&self) -> Choices
         ensures { (record {
           least_area = result.least_area;
           all_vertices = result.all_vertices;

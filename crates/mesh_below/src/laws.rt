@@ -3,8 +3,9 @@
 ghost use Rattle.mesh_below.specs.Laws.{AnswersAreRegions, NothingHasNoShapes, AnswersAreSafe};
 
 pub use mesh_regions::laws::{
-    boundaries_are_balanced, boundaries_wind_once, facing_sides_agree, segments_have_neighbours,
-    sides_are_constant, sides_follow_from_ends,
+    boundaries_are_balanced, boundaries_wind_once, closed_lists_near_edges_do_not_wind,
+    facing_sides_agree, far_points_keep_their_winding, nearness_adds_up, nearness_is_by_turns,
+    segments_have_neighbours, segments_stay_near_edges, sides_are_constant, sides_follow_from_ends,
 };
 pub use mesh_split::laws::legal_splits_keep_edges;
 

@@ -15,7 +15,8 @@ pub mod below;
 pub mod checks;
 pub mod given;
 pub mod laws;
+pub mod nearness;
 mod resolve;
 
 pub use mesh_lattice::{fill, lattice};
-pub use mesh_split::splitter;
+pub use mesh_split::{count, splitter};

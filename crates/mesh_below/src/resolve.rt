@@ -1,26 +1,33 @@
 //! The whole way from directed edges to shapes.
 
-ghost use Rattle.std.specs.Prelude.{◌≡◌, ◌<◌, true, false, length, IfOk};
+ghost use Rattle.std.specs.Prelude.{◌≡◌, ◌<◌, ◌≤◌, ◌^◌, true, false, length, IfOk, OnOk};
 ghost use Rattle.std.specs.List.{All, flat_map};
 ghost use Rattle.mesh_num.specs.Paths.{contours_of};
 ghost use Rattle.mesh_plane.specs.Plane.{Edge};
-ghost use Rattle.mesh_plane.specs.Winding.{IsBalanced, boundary, same_point};
+ghost use Rattle.mesh_plane.specs.Winding.{IsBalanced, boundary, same_point, sum_of};
 ghost use Rattle.mesh_lattice.specs.Clean.{IsProper};
+ghost use Rattle.mesh_lattice.specs.Counted.{IsRoomy, size};
+ghost use Rattle.mesh_lattice.specs.Splitting.{IsSplitting};
 ghost use Rattle.mesh_lattice.specs.FillRules.{filled};
 ghost use Rattle.mesh_lattice.specs.declared.fill.FillRule.TheVariants.{Positive};
 ghost use Rattle.mesh_below.specs.Answers.{AreOwnBoundary, IsSettled};
+ghost use Rattle.mesh_below.specs.Nearness.{IsNearResolution};
+ghost use Rattle.mesh_below.specs.Private.Resolving.{ResolvesBy};
 ghost use Rattle.mesh_below.specs.Private.Rings.{AreRingsOf, PushesRing};
+ghost use Rattle.mesh_split.specs.Counting.{CountsSplits, IsPastLimit, IsWithinLimit};
+ghost use Rattle.mesh_split.specs.declared.count.SplitError.TheVariants.{TooManySplits};
 ghost use Rattle.mesh_shapes.specs.Vectors.{shapes_points};
 ghost use Rattle.mesh_shapes.specs.Resolution.{IsResolution};
 ghost use Rattle.mesh_shapes.specs.Vectors.{HavePoints, StartsInOrder, contour_edges};
 
 use mesh_boundary::sides::find_boundary;
 use mesh_lattice::fill::FillRule;
-use mesh_lattice::lattice::{LatticeEdge, LatticePoint};
+use mesh_lattice::lattice::{CountedSegment, LatticeEdge, LatticePoint};
 use mesh_shapes::arrange::{is_large, shapes};
 use mesh_shapes::ring::{Ring, ring_of};
 use mesh_shapes::trace::{contours, edges_by_start};
-use mesh_split::splitter::split_edges;
+use mesh_split::count::{SplitCount, SplitError};
+use mesh_split::splitter::{split_edges, split_edges_told};
 use std::alloc::{AllocError, Global};
 
 /// What an answer depends on besides the edges: the least area, whether straight-through vertices stay, and the
@@ -45,6 +52,15 @@ pub struct GridAnswer {
     pub is_settled: bool,
     /// Whether the edges of their contours are known to be their own boundary.
     pub is_own_boundary: bool,
+}
+
+/// Shapes, and how near to the given edges the splits were made that they come of.
+#[derive(Drop)]
+pub struct NearAnswer {
+    /// The shapes.
+    pub shapes: Vec<Vec<Vec<LatticePoint>>>,
+    /// The distance, in 64ths of a grid unit.
+    pub nearness: u64,
 }
 
 /// Adds the ring of a contour, unless it is small. Tells whether each of the contour's points is a vertex of it, and
@@ -125,7 +141,59 @@ pub fn resolve(
         → AreOwnBoundary (flat_map boundary (contours_of (shapes_points v.shapes.items)))) }
 {
     let segments = split_edges(alloc, edges)?;
-    let parted = find_boundary(alloc, &segments, fill)?;
+    shapes_of_segments(alloc, edges, &segments, fill, choices)
+}
+
+/// The same, and how near to the edges the splits were made, of which a limit may be set. It fails where memory is
+/// refused, or where more splits were made than may be.
+pub fn resolve_with_nearness(
+    alloc: Global,
+    edges: &[LatticeEdge],
+    fill: FillRule,
+    choices: Choices,
+    count: &mut SplitCount,
+) -> Result<NearAnswer, SplitError>
+    requires proper { IsProper edges.now }
+    requires balanced { IsBalanced edges.now }
+    ensures resolution { IfOk result (λ v. IsNearResolution v.nearness edges.now (filled fill)
+        (record { least_area = choices.least_area; all_vertices = choices.all_vertices; clockwise = choices.clockwise })
+        (shapes_points v.shapes.items)) }
+    ensures small { IfOk result (λ v. v.nearness ≤ 2 ^ 38) }
+    ensures counted { CountsSplits edges.now count.old count.new }
+    ensures within { OnOk result (IsWithinLimit count.new) }
+    ensures refused { result ≡ Err SplitError.TooManySplits → IsPastLimit count.new }
+{
+    let told = split_edges_told(alloc, edges, count)?;
+    let answer = shapes_of_segments(alloc, edges, &told.segments, fill, choices)?;
+    Ok(NearAnswer {
+        shapes: answer.shapes,
+        nearness: told.nearness,
+    })
+}
+
+/// The shapes of what the segments fill that balanced edges were split into.
+fn shapes_of_segments(
+    alloc: Global,
+    edges: &[LatticeEdge],
+    segments: &[CountedSegment],
+    fill: FillRule,
+    choices: Choices,
+) -> Result<GridAnswer, AllocError>
+    requires proper { IsProper edges.now }
+    requires balanced { IsBalanced edges.now }
+    requires splitting { IsSplitting edges.now segments.now }
+    requires room { IsRoomy (sum_of size segments.now) }
+    ensures resolution { IfOk result (λ v. (s : IsSplitting edges.now segments.now) → ResolvesBy s.splits edges.now
+        (filled fill)
+        (record { least_area = choices.least_area; all_vertices = choices.all_vertices; clockwise = choices.clockwise })
+        (shapes_points v.shapes.items)) }
+    ensures settled { IfOk result (λ v. v.is_settled ≡ true → IsSettled
+        (record { least_area = choices.least_area; all_vertices = choices.all_vertices; clockwise = choices.clockwise })
+        (shapes_points v.shapes.items)) }
+    ensures own_boundary { IfOk result (λ v. v.is_own_boundary ≡ true
+        → AreOwnBoundary (flat_map boundary (contours_of (shapes_points v.shapes.items)))) }
+{
+    let parted = find_boundary(alloc, segments, fill)?;
     let ordered = edges_by_start(parted);
     let closed = contours(alloc, &ordered)?;
     let (rings, (are_whole, are_lone)) = rings_of(alloc, closed, choices, &ordered)?;

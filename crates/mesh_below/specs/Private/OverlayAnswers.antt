@@ -8,6 +8,7 @@ use Rattle.mesh_lattice.specs.Reach.{ArePointsSafe}
 use Rattle.mesh_shapes.specs.Resolution.{Choices, IsResolution}
 use Rattle.mesh_below.specs.Answers.{AreOwnBoundary, IsSettled}
 use Rattle.mesh_below.specs.Laws.{AreRegions}
+use Rattle.mesh_below.specs.Nearness.{AreRegionsBeyond}
 
 -- an answer is a resolution of the edges, made of regions of what is filled, in the safe range; where `settled` is
 -- true, it is settled, and where `own` is true, its edges are their own boundary
@@ -18,3 +19,10 @@ pub record IsOverlayAnswer (unit : ℕ) (edges : List Edge) (fill : ℤ → Bool
   pub safe : ArePointsSafe unit answer
   pub is_settled : settled ≡ true → IsSettled options answer
   pub own_boundary : own ≡ true → AreOwnBoundary (flat_map boundary (contours_of answer))
+
+-- the same of an answer whose nearness is told
+pub record IsNearAnswer (unit k : ℕ) (edges : List Edge) (fill : ℤ → Bool) (options : Choices)
+    (answer : List (List (List Point))) : Type 0 where
+  pub resolution : IsResolution edges fill options answer
+  pub regions : AreRegionsBeyond k edges fill options answer
+  pub safe : ArePointsSafe unit answer

@@ -1,0 +1,50 @@
+use Rattle.std.proofs.Common.{◌≡◌, List, sym, ◌∙◌, ap, subst}
+use Rattle.std.specs.Prelude.{Vec}
+use Rattle.std.specs.declared.alloc.Global.{Global}
+use Rattle.mesh_num.specs.Paths.{shapes_of}
+use Rattle.mesh_plane.specs.Plane.{Point, Edge}
+use Rattle.mesh_num.specs.Segments.{SignedEdge, edges_of}
+use Rattle.mesh_plane.specs.Winding.{IsBalanced}
+use Rattle.mesh_lattice.specs.Clean.{IsProper}
+use Rattle.mesh_lattice.specs.FillRules.{filled}
+use Rattle.mesh_split.specs.Counting.{CountsSplits}
+use Rattle.mesh_below.specs.Options.{choices_of}
+use Rattle.mesh_lattice.specs.Reach.{ArePointsSafe}
+use Rattle.mesh_shapes.specs.Resolution.{Choices}
+use Rattle.mesh_below.proofs.AnswerRegions.{filled_none}
+use Rattle.mesh_below.proofs.AnswerPoints.{answer_safe}
+use Rattle.mesh_below.proofs.Beyond.{beyond_of, same_near}
+use Rattle.mesh_below.proofs.below.Overlay.resolved_with_nearness.Goals as goal
+
+pub resolve_with_nearness-requires-clause-balanced : goal.resolve_with_nearness-requires-clause-balanced
+resolve_with_nearness-requires-clause-balanced g c =
+    let same : c.deref-2.result.now ≡ edges_of c.args.self.now.segments.items =
+    c.deref-2.ensures.value ∙ (c.in_ok-edges.ensures.value ∙ ap (λ (ss : List SignedEdge). edges_of ss) c.deref.ensures.value) in
+    subst (λ (es : List Edge). IsBalanced es) (sym same) c.requires.balanced
+
+pub int_shapes-requires : goal.int_shapes-requires
+int_shapes-requires g c =
+    let same : c.deref-2.result.now ≡ edges_of c.args.self.now.segments.items =
+    c.deref-2.ensures.value ∙ (c.in_ok-edges.ensures.value ∙ ap (λ (ss : List SignedEdge). edges_of ss) c.deref.ensures.value) in
+    subst (λ (shapes : List (Vec (Vec Point Global) Global)). ArePointsSafe g.I.IntNumber.unit (shapes_of shapes)) (sym c.deref-3.ensures.value)
+    (answer_safe g.I.IntNumber.unit c.deref-2.result.now (edges_of c.args.self.now.segments.items) (filled c.args.fill) _ (shapes_of c.in_ok-answer.answer.shapes.items) same c.requires.safe c.in_ok-answer.ensures.resolution.resolution)
+
+pub returns-clause-answer : goal.returns-clause-answer
+returns-clause-answer g c =
+    let es = edges_of c.args.self.now.segments.items in
+    let fill = filled c.args.fill in
+    let options = choices_of g.I.WideUInt.WideUnsigned.value c.args.self.now.options in
+    let k = c.in_ok-answer.answer.nearness in
+    let same : c.deref-2.result.now ≡ es =
+    c.deref-2.ensures.value ∙ (c.in_ok-edges.ensures.value ∙ ap (λ (ss : List SignedEdge). edges_of ss) c.deref.ensures.value) in
+    let proper : IsProper es = subst (λ (es : List Edge). IsProper es) (sym c.deref-2.ensures.value ∙ same) c.in_ok-edges.ensures.proper in
+    let told = c.in_ok-answer.answer.shapes in
+    let v = c.in_ok-int_shapes.field-0 in
+    let is : shapes_of v.items ≡ shapes_of told.items = c.in_ok-int_shapes.ensures ∙ ap (λ (shapes : List (Vec (Vec Point Global) Global)). shapes_of shapes) c.deref-3.ensures.value in
+    let near = same_near k c.deref-2.result.now es fill _ options (shapes_of told.items) (shapes_of v.items) same c.choices.ensures (sym is) c.in_ok-answer.ensures.resolution in
+    record {
+      resolution = near.resolution;
+      regions = beyond_of k es fill options (shapes_of v.items) proper c.requires.balanced (filled_none c.args.fill) near;
+      safe = subst (λ (answer : List (List (List Point))). ArePointsSafe g.I.IntNumber.unit answer) (sym is)
+          (answer_safe g.I.IntNumber.unit c.deref-2.result.now es fill _ (shapes_of told.items) same c.requires.safe c.in_ok-answer.ensures.resolution.resolution);
+    }

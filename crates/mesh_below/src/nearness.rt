@@ -1,0 +1,89 @@
+//! The overlay, and how near to the given edges its answer is exact.
+
+ghost use Rattle.std.specs.Prelude.{◌≡◌, ◌≤◌, ◌^◌, IfOk, OnOk};
+ghost use Rattle.std.specs.List.{All};
+ghost use Rattle.mesh_num.specs.Paths.{shapes_of};
+ghost use Rattle.mesh_num.specs.Segments.{IsSubject, edges_of};
+ghost use Rattle.mesh_plane.specs.Winding.{IsBalanced};
+ghost use Rattle.mesh_lattice.specs.FillRules.{filled};
+ghost use Rattle.mesh_lattice.specs.Reach.{AreEdgesSafe, ArePointsSafe};
+ghost use Rattle.mesh_shapes.specs.Resolution.{IsResolution};
+ghost use Rattle.mesh_split.specs.Counting.{CountsSplits, IsPastLimit, IsWithinLimit};
+ghost use Rattle.mesh_split.specs.declared.count.SplitError.TheVariants.{TooManySplits};
+ghost use Rattle.mesh_below.specs.Asked.{AreResolvable};
+ghost use Rattle.mesh_below.specs.Nearness.{AreRegionsBeyond};
+ghost use Rattle.mesh_below.specs.Options.{choices_of};
+ghost use Rattle.mesh_below.specs.Private.OverlayAnswers.{IsNearAnswer};
+
+use crate::answer::int_shapes;
+use crate::below::{FillRule, Overlay, OverlayRule};
+use crate::given::lattice_edges;
+use crate::resolve::resolve_with_nearness;
+pub use mesh_split::count::{SplitCount, SplitError};
+use mesh_num::num::IntNumber;
+use mesh_num::shape::buffer::IntShapes;
+
+/// Shapes, and how near to the given edges they are exact.
+#[derive(Debug, Drop)]
+pub struct NearShapes<I: IntNumber> {
+    /// The shapes.
+    pub shapes: IntShapes<I>,
+    /// The distance, in 64ths of a grid unit, rounded up: the shapes are exact at each point that is farther from each
+    /// given edge, where distance is the greater of both coordinates' differences. 0 where rounding moved nothing.
+    pub nearness: u64,
+}
+
+impl<I: IntNumber> Overlay<I> {
+    /// `overlay`, and how near to the segments' edges the answer is exact: at each point farther than the nearness from
+    /// each of them it is what they fill, and each point of its contours lies within the nearness of one of them. It
+    /// asks what `overlay` asks. The splits are counted on, those of attempts that were given up too; `TooManySplits`
+    /// says that the count passed its limit, `OutOfMemory` that a growth was refused. The overlay stays as it was in
+    /// any case.
+    pub fn overlay_with_nearness(
+        &self,
+        rule: OverlayRule,
+        fill: FillRule,
+        count: &mut SplitCount,
+    ) -> Result<NearShapes<I>, SplitError>
+        requires subject { All IsSubject self.now.segments.items }
+        requires balanced { IsBalanced (edges_of self.now.segments.items) }
+        requires safe { AreEdgesSafe I.unit (edges_of self.now.segments.items) }
+        ensures resolution { IfOk result (λ near. IsResolution (edges_of self.now.segments.items) (filled fill)
+            (choices_of I.WideUInt.value self.now.options) (shapes_of near.shapes.items)) }
+        ensures regions { IfOk result (λ near. AreRegionsBeyond near.nearness (edges_of self.now.segments.items)
+            (filled fill) (choices_of I.WideUInt.value self.now.options) (shapes_of near.shapes.items)) }
+        ensures safe { IfOk result (λ near. ArePointsSafe I.unit (shapes_of near.shapes.items)) }
+        ensures small { IfOk result (λ near. near.nearness ≤ 2 ^ 38) }
+        ensures counted { CountsSplits (edges_of self.now.segments.items) count.old count.new }
+        ensures within { OnOk result (IsWithinLimit count.new) }
+        ensures refused { result ≡ Err SplitError.TooManySplits → IsPastLimit count.new }
+    {
+        match rule {
+            OverlayRule::Subject => self.resolved_with_nearness(fill, count),
+        }
+    }
+
+    /// What all segments fill, and how near.
+    fn resolved_with_nearness(
+        &self,
+        fill: FillRule,
+        count: &mut SplitCount,
+    ) -> Result<NearShapes<I>, SplitError>
+        requires { AreResolvable I.unit self.now.segments.items }
+        ensures answer { IfOk result (λ near. IsNearAnswer I.unit near.nearness (edges_of self.now.segments.items)
+            (filled fill) (choices_of I.WideUInt.value self.now.options) (shapes_of near.shapes.items)) }
+        ensures small { IfOk result (λ near. near.nearness ≤ 2 ^ 38) }
+        ensures counted { CountsSplits (edges_of self.now.segments.items) count.old count.new }
+        ensures within { OnOk result (IsWithinLimit count.new) }
+        ensures refused { result ≡ Err SplitError.TooManySplits → IsPastLimit count.new }
+    {
+        let _made = count.made;
+        let alloc = *self.segments.allocator();
+        let edges = lattice_edges(alloc, &self.segments)?;
+        let answer = resolve_with_nearness(alloc, &edges, fill, self.choices(), count)?;
+        Ok(NearShapes {
+            shapes: int_shapes(alloc, &answer.shapes)?,
+            nearness: answer.nearness,
+        })
+    }
+}
