@@ -1,5 +1,6 @@
 pub mod Adding
 pub mod Apart
+pub mod Counting
 pub mod Drawn
 pub mod ManyPaths
 pub mod Padding

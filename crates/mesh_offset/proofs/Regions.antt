@@ -1,5 +1,5 @@
 -- Lemmas over points and lists: the answer of edges that wind as pieces winds once round what these fill.
-use Rattle.std.proofs.Common.{◌≡◌, ℕ, ◌+◌, Bool, true, false, cond, ◌||◌, List, [], ◌∷◌, refl, sym, ◌∙◌, ap, arith}
+use Rattle.std.proofs.Common.{◌≡◌, ℕ, ◌+◌, ◌<◌, map, Bool, true, false, cond, ◌||◌, List, [], ◌∷◌, refl, sym, ◌∙◌, ap, arith}
 use Rattle.std.specs.Prelude.{ℤ, pos, count_by, int_lt}
 use Rattle.std.specs.List.{All, flat_map, list_any}
 use Rattle.std.specs.List.Sorted.{IsPermutation}
@@ -16,6 +16,8 @@ use Rattle.mesh_lattice.specs.Counted.{bit}
 use Rattle.mesh_lattice.specs.declared.fill.FillRule.TheVariants.{Positive}
 use Rattle.mesh_below.specs.Regions.{OutsideBent}
 use Rattle.mesh_shapes.specs.Resolution.{Choices}
+use Rattle.mesh_regions.specs.BoundaryLaws.{once}
+use Rattle.mesh_shapes.specs.Contours.{vertices}
 use Rattle.mesh_below.specs.Laws.{AreRegions}
 use Rattle.mesh_offset.specs.Pieces.{WindAsPieces}
 use Rattle.mesh_offset.specs.Regions.{WindsOnceWhere, is_held, wind_above}
@@ -45,14 +47,26 @@ some_counted test (x ∷ xs) =
 
 module _ (built : List Edge) (choices : Choices) (answer : List (List (List Point))) (regions : AreRegions built (filled Positive) choices answer)
     (pieces : List (List Point)) (sum : WindAsPieces pieces built) where
-  -- the answer winds once where the pieces wind above 0
-  pub regions_above : WindsOnceWhere (wind_above pieces) (OutsideBent regions.resolution.splits built) choices answer
-  regions_above least forward m some q out =
-      regions.answered least forward m q ∙ (regions.given m some q out ∙ ap (λ (w : ℤ). bit (int_lt (pos 0) w)) (sum m q))
+  -- where the contours wind once round what the edges that were built fill
+  module _ (IsPlain : ℕ → Point → Type 0)
+      (given : (m : ℕ) → 0 < m → (q : Point) → IsPlain m q →
+          winding m q (flat_map boundary (map (vertices choices.all_vertices) regions.resolution.contours)) ≡ once (filled Positive) (winding m q built)) where
+    -- the answer winds once where the pieces wind above 0
+    pub winds_above : WindsOnceWhere (wind_above pieces) IsPlain choices answer
+    winds_above least forward m some q plain =
+        regions.answered least forward m q ∙ (given m some q plain ∙ ap (λ (w : ℤ). bit (int_lt (pos 0) w)) (sum m q))
 
-  -- and where one of them holds the point, if none is turned round
+    -- and where one of them holds the point, if none is turned round
+    pub winds_held : ((m : ℕ) (q : Point) → All (λ (piece : List Point). IsBit (winding m q (boundary piece))) pieces) →
+        WindsOnceWhere (is_held pieces) IsPlain choices answer
+    winds_held bits least forward m some q plain =
+        winds_above least forward m some q plain
+        ∙ ap bit (ap (int_lt (pos 0)) (pieces_counted m q pieces (bits m q)) ∙ some_counted (holds m q) pieces)
+
+  -- so outside the boxes of bent edges
+  pub regions_above : WindsOnceWhere (wind_above pieces) (OutsideBent regions.resolution.splits built) choices answer
+  regions_above = winds_above (OutsideBent regions.resolution.splits built) regions.given
+
   pub regions_held : ((m : ℕ) (q : Point) → All (λ (piece : List Point). IsBit (winding m q (boundary piece))) pieces) →
       WindsOnceWhere (is_held pieces) (OutsideBent regions.resolution.splits built) choices answer
-  regions_held bits least forward m some q out =
-      regions_above least forward m some q out
-      ∙ ap bit (ap (int_lt (pos 0)) (pieces_counted m q pieces (bits m q)) ∙ some_counted (holds m q) pieces)
+  regions_held = winds_held (OutsideBent regions.resolution.splits built) regions.given

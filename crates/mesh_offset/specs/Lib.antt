@@ -1,5 +1,7 @@
 pub mod Adding
+pub mod Counting
 pub mod Drawing
+pub mod Errors
 pub mod Padding
 pub mod Pieces
 pub mod Private

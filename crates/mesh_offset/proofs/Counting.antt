@@ -1,0 +1,79 @@
+-- Lemmas over lists: counts of attempts add up.
+use Rattle.std.proofs.Common.{◌≡◌, ℕ, ◌+◌, ◌-◌, ◌<◌, ◌^◌, List, [], ◌∷◌, ◌++◌, length, refl, sym, ◌∙◌, ap, arith}
+use Rattle.std.specs.Prelude.{min}
+use Rattle.std.specs.List.{All, sum_by}
+use Rattle.std.proofs.lemmas.List.Elements.{All-head, All-tail}
+use Rattle.std.proofs.lemmas.List.Sums.{sum_by-append, sum_by-cons}
+use Rattle.mesh_plane.specs.Plane.{Edge}
+use Rattle.mesh_lattice.specs.Split.{EdgeSplit, IsLegal}
+use Rattle.mesh_split.specs.Counting.{CountsSplits, counted}
+use Rattle.mesh_split.specs.declared.count.SplitCount.{SplitCount}
+use Rattle.mesh_offset.specs.Counting.{Attempt, CountsAttempts}
+
+-- counting some, and then more
+counted_twice : (c : SplitCount) (a b : ℕ) → counted (counted c a) b ≡ counted c (a + b)
+counted_twice c a b =
+    let e : min (min (c.made + a) (2 ^ 64 - 1) + b) (2 ^ 64 - 1) ≡ min (c.made + (a + b)) (2 ^ 64 - 1) = omega arith in
+    λ i. record { made = e i; most = c.most }
+
+module _ (IsDrawn : List Edge → Type 0) where
+  attempts_at : (edges : List Edge) → IsDrawn edges → (splits : List (List EdgeSplit)) → All (IsLegal edges) splits →
+      (attempts : List (Attempt IsDrawn)) × (sum_by (λ (a : Attempt IsDrawn). length a.splits) attempts ≡ sum_by length splits)
+  attempts_at edges drawn [] legal = ([], refl)
+  attempts_at edges drawn (ks ∷ splits) legal =
+      let rest = attempts_at edges drawn splits (All-tail (IsLegal edges) ks splits legal) in
+      let one : Attempt IsDrawn = record { edges = edges; drawn = drawn; splits = ks; legal = All-head (IsLegal edges) ks splits legal } in (
+        one ∷ rest.0,
+        sum_by-cons (λ (a : Attempt IsDrawn). length a.splits) one rest.0
+            ∙ (ap (λ (n : ℕ). length ks + n) rest.1 ∙ sym (sum_by-cons length ks splits)),
+      )
+
+  -- attempts at one list of edges
+  pub counts_of_one : (edges : List Edge) (old new : SplitCount) → IsDrawn edges → CountsSplits edges old new → CountsAttempts IsDrawn old new
+  counts_of_one edges old new drawn counts =
+      let all = attempts_at edges drawn counts.attempts counts.legal in
+      record {
+        attempts = all.0;
+        sum = counts.sum ∙ ap (counted old) (sym all.1);
+      }
+
+  -- and more of them
+  pub counts_more : (old between new : SplitCount) → CountsAttempts IsDrawn old between → CountsAttempts IsDrawn between new → CountsAttempts IsDrawn old new
+  counts_more old between new first second = record {
+    attempts = first.attempts ++ second.attempts;
+    sum =
+        second.sum
+        ∙ (ap (λ (c : SplitCount). counted c (sum_by (λ (a : Attempt IsDrawn). length a.splits) second.attempts)) first.sum
+        ∙ (counted_twice old (sum_by (λ (a : Attempt IsDrawn). length a.splits) first.attempts) (sum_by (λ (a : Attempt IsDrawn). length a.splits) second.attempts)
+        ∙ ap (counted old) (sym (sum_by-append (λ (a : Attempt IsDrawn). length a.splits) first.attempts second.attempts))));
+  }
+
+-- the same attempts, at edges of which more is known
+attempts_weaker : (D E : List Edge → Type 0) → ((es : List Edge) → D es → E es) → (attempts : List (Attempt D)) →
+    (others : List (Attempt E)) × (sum_by (λ (a : Attempt E). length a.splits) others ≡ sum_by (λ (a : Attempt D). length a.splits) attempts)
+attempts_weaker D E f [] = ([], refl)
+attempts_weaker D E f (a ∷ attempts) =
+    let rest = attempts_weaker D E f attempts in
+    let one : Attempt E = record { edges = a.edges; drawn = f a.edges a.drawn; splits = a.splits; legal = a.legal } in (
+      one ∷ rest.0,
+      sum_by-cons (λ (a : Attempt E). length a.splits) one rest.0
+          ∙ (ap (λ (n : ℕ). length a.splits + n) rest.1 ∙ sym (sum_by-cons (λ (a : Attempt D). length a.splits) a attempts)),
+    )
+
+pub counts_weaker : (D E : List Edge → Type 0) → ((es : List Edge) → D es → E es) → (old new : SplitCount) → CountsAttempts D old new → CountsAttempts E old new
+counts_weaker D E f old new counts =
+    let all = attempts_weaker D E f counts.attempts in
+    record {
+      attempts = all.0;
+      sum = counts.sum ∙ ap (counted old) (sym all.1);
+    }
+
+-- no attempt yet
+pub counts_none : (D : List Edge → Type 0) (count : SplitCount) → count.made < 2 ^ 64 → CountsAttempts D count count
+counts_none D count small = record { attempts = []; sum = same }
+  where
+    e : count.made ≡ min (count.made + 0) (2 ^ 64 - 1)
+    e = omega (arith, small)
+
+    same : count ≡ counted count 0
+    same = λ i. record { made = e i; most = count.most }
