@@ -1,7 +1,8 @@
 -- Lemmas over points and lists: strokes are regions.
 use Rattle.std.proofs.Common.{◌≡◌, ℕ, ◌≤◌, ◌^◌, List, Bool, refl, ◌∙◌, get_or}
-use Rattle.std.specs.List.{All}
-use Rattle.mesh_plane.specs.Plane.{Point}
+use Rattle.std.specs.List.{All, flat_map}
+use Rattle.mesh_plane.specs.Plane.{Point, Edge}
+use Rattle.std.specs.List.Sorted.{IsPermutation}
 use Rattle.mesh_plane.specs.Winding.{IsBit, boundary, crossing_on, winding}
 use Rattle.mesh_plane.proofs.ClosedLists.{all_flat_map}
 use Rattle.mesh_plane.proofs.Crossings.{crossing_on_odd}
@@ -12,11 +13,13 @@ use Rattle.mesh_lattice.specs.declared.fill.FillRule.TheVariants.{Positive}
 use Rattle.mesh_shapes.specs.Resolution.{Choices}
 use Rattle.mesh_below.specs.Laws.{AreRegions}
 use Rattle.mesh_offset.specs.Padding.{ArePathsSafe}
+use Rattle.mesh_below.specs.Nearness.{AreRegionsBeyond}
+use Rattle.mesh_lattice.specs.Nearness.{IsFarFrom}
 use Rattle.mesh_offset.specs.Pieces.{WindAsPieces}
 use Rattle.mesh_offset.proofs.ManyPaths.{built_regions}
-use Rattle.mesh_offset.proofs.Regions.{built_sum, regions_above, regions_held}
+use Rattle.mesh_offset.proofs.Regions.{built_sum, regions_above, regions_held, winds_above, winds_held}
 use Rattle.mesh_stroke.specs.Drawn.{HasStockCaps}
-use Rattle.mesh_stroke.specs.Regions.{AreStrokeRegions, all_pieces}
+use Rattle.mesh_stroke.specs.Regions.{AreStrokeRegions, AreStrokeRegionsBeyond, all_pieces}
 use Rattle.mesh_stroke.specs.Resolved.{IsStroke}
 use Rattle.mesh_stroke.specs.ResolvedEdges.{ResolvesPromisedEdges}
 use Rattle.mesh_stroke.specs.Strokes.{stroke_edges, stroke_pieces}
@@ -62,6 +65,26 @@ module _ (unit : ℕ) (least : 2 ^ 14 ≤ unit) (style : StrokeStyle) (closed : 
           (stroke_balanced unit least style closed) Positive choices paths answer stroke.built stroke.same stroke.resolution
 
       sum : WindAsPieces (all_pieces unit style closed paths) stroke.built
+      sum = all_sum choices paths answer stroke
+
+  -- and where the nearness of its splits is known, of regions that are exact beyond it
+  pub stroke_beyond : (k : ℕ) (choices : Choices) (paths : List (List Point)) (answer : List (List (List Point))) (built : List Edge)
+      → (same : IsPermutation built (flat_map (stroke_edges unit style closed) paths))
+      → AreRegionsBeyond k built (filled Positive) choices answer → AreStrokeRegionsBeyond k unit style closed choices paths answer
+  stroke_beyond k choices paths answer built same beyond = record {
+    stroke = stroke;
+    beyond = beyond;
+    same = refl;
+    fills = winds_above built choices answer beyond.regions (all_pieces unit style closed paths) sum (λ m q. IsFarFrom k m built q) beyond.exact;
+    held = λ stock.
+        winds_held built choices answer beyond.regions (all_pieces unit style closed paths) sum (λ m q. IsFarFrom k m built q) beyond.exact
+        (all_bits stock paths);
+  }
+    where
+      stroke : IsStroke unit style closed choices paths answer
+      stroke = record { built = built; same = same; resolution = beyond.regions.resolution }
+
+      sum : WindAsPieces (all_pieces unit style closed paths) built
       sum = all_sum choices paths answer stroke
 
 -- each stroke of paths that stay safe within its padding resolves edges of which this is promised

@@ -7,6 +7,8 @@ use Rattle.mesh_lattice.specs.declared.fill.FillRule.TheVariants.{Positive}
 use Rattle.mesh_below.specs.Regions.{OutsideBent}
 use Rattle.mesh_shapes.specs.Resolution.{Choices}
 use Rattle.mesh_below.specs.Laws.{AreRegions}
+use Rattle.mesh_below.specs.Nearness.{AreRegionsBeyond}
+use Rattle.mesh_lattice.specs.Nearness.{IsFarFrom}
 use Rattle.mesh_offset.specs.Regions.{WindsOnceWhere, is_held, wind_above}
 use Rattle.mesh_join.specs.declared.style.StrokeSide.TheVariants.{Both}
 use Rattle.mesh_stroke.specs.Drawn.{HasStockCaps}
@@ -34,3 +36,16 @@ pub record AreStrokeRegions (unit : ℕ) (style : StrokeStyle) (closed : Bool) (
   -- on both sides, each path that is reversed and has its caps exchanged is drawn by edges that count alike
   pub reversed : style.side ≡ Both → All (λ (path : List Point).
       CountAlike (reversed_edges unit style closed path) (stroke_edges unit style closed path)) paths
+
+-- an answer is the stroke of paths, made of regions that are exact at each point farther than `k` 64ths of a grid unit
+-- from each drawn edge: it winds once where the windings of all pieces add up to more than 0, but for custom caps where
+-- a piece of some path holds the point
+pub record AreStrokeRegionsBeyond (k unit : ℕ) (style : StrokeStyle) (closed : Bool) (choices : Choices)
+    (paths : List (List Point)) (answer : List (List (List Point))) : Type 0 where
+  pub stroke : IsStroke unit style closed choices paths answer
+  pub beyond : AreRegionsBeyond k stroke.built (filled Positive) choices answer
+  pub same : beyond.regions.resolution ≡ stroke.resolution
+  pub fills : WindsOnceWhere (wind_above (all_pieces unit style closed paths))
+      (λ m q. IsFarFrom k m stroke.built q) choices answer
+  pub held : HasStockCaps style closed → WindsOnceWhere (is_held (all_pieces unit style closed paths))
+      (λ m q. IsFarFrom k m stroke.built q) choices answer

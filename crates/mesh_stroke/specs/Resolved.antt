@@ -26,3 +26,7 @@ pub record IsStroke (unit : ℕ) (style : StrokeStyle) (closed : Bool) (choices 
 abbrev pub HavePromisedEdges : ℕ → StrokeStyle → Bool → List (List Point) → Type 0
 HavePromisedEdges unit style closed paths =
     All (λ (path : List Point). AreStroked unit style closed path (stroke_edges unit style closed path)) paths
+
+-- edges that were built of the strokes of all paths, in whatever order
+abbrev pub AreAllEdges : ℕ → StrokeStyle → Bool → List (List Point) → List Edge → Type 0
+AreAllEdges unit style closed paths built = IsPermutation built (all_edges unit style closed paths)

@@ -9,20 +9,23 @@ ghost use Rattle.mesh_lattice.specs.Reach.{ArePointsSafe};
 ghost use Rattle.mesh_below.specs.Options.{choices_of, plain};
 ghost use Rattle.mesh_offset.specs.Padding.{ArePathsSafe, all_points, widened};
 ghost use Rattle.mesh_stroke.specs.Styles.{stroke_padding, stroke_style_of};
-ghost use Rattle.mesh_stroke.specs.Regions.{AreStrokeRegions};
-ghost use Rattle.mesh_stroke.specs.Resolved.{IsStroke, HavePromisedEdges};
+ghost use Rattle.mesh_stroke.specs.Regions.{AreStrokeRegions, AreStrokeRegionsBeyond};
+ghost use Rattle.mesh_stroke.specs.Resolved.{IsStroke, HavePromisedEdges, AreAllEdges};
 ghost use Rattle.mesh_stroke.specs.ResolvedEdges.{ResolvesPromisedEdges};
+ghost use Rattle.mesh_split.specs.Counting.{IsPastLimit, IsWithinLimit};
+ghost use Rattle.mesh_offset.specs.Counting.{CountsAttempts};
 ghost use Rattle.mesh_stroke.specs.Staying.{StaysSafe};
 
 use crate::radius::padding;
 use crate::resolve::stroke_overlay;
 use mesh_below::below::{FillRule, IntOverlayOptions, OverlayRule};
+use mesh_below::nearness::{NearShapes, SplitCount};
 use mesh_join::style::IntStrokeStyle;
 use mesh_num::num::OverlayInt;
 use mesh_num::shape::buffer::{FlatContoursBuffer, IntShapes};
 use mesh_num::shape::resource::IntShapeResource;
 use mesh_offset::bounds::validate_bounds;
-use mesh_offset::error::{IntOutlineError, IntStrokeError};
+use mesh_offset::error::{IntNearnessError, IntOutlineError, IntStrokeError};
 use std::alloc::Global;
 
 /// Stroke calls on each source of paths.
@@ -146,6 +149,34 @@ pub trait IntStrokeOffset<I: OverlayInt>: IntShapeResource<I> {
         let drawn = stroke_overlay(self, alloc, style, closed, options)?;
         drawn.overlay_into(OverlayRule::Subject, FillRule::Positive, buffer)?;
         Ok(())
+    }
+
+    /// `stroke_custom`, and how near to the drawn edges the answer is exact: at each point farther than the nearness
+    /// from each of them it is what the pieces fill. The splits are counted on, those of attempts that were given up
+    /// too. `TooManySplits` says that the count passed its limit, `OutOfMemory` that a growth was refused;
+    /// `CoordinateOutOfRange` is never answered.
+    final fn stroke_with_nearness(
+        &self,
+        alloc: Global,
+        style: &IntStrokeStyle<I>,
+        closed: bool,
+        options: IntOverlayOptions<I::WideUInt>,
+        count: &mut SplitCount,
+    ) -> Result<NearShapes<I>, IntNearnessError>
+        requires { ArePathsSafe I.unit (stroke_padding (stroke_style_of I.value style.now)) (Self.paths self.now) }
+        ensures regions { IfOk result (λ near. AreStrokeRegionsBeyond near.nearness I.unit
+            (stroke_style_of I.value style.now) closed (choices_of I.WideUInt.value options) (Self.paths self.now)
+            (shapes_of near.shapes.items)) }
+        ensures safe { IfOk result (λ near. ArePointsSafe I.unit (shapes_of near.shapes.items)) }
+        ensures counted { CountsAttempts
+            (AreAllEdges I.unit (stroke_style_of I.value style.now) closed (Self.paths self.now)) count.old count.new }
+        ensures within { OnOk result (IsWithinLimit count.new) }
+        ensures refused { result ≡ Err IntNearnessError.TooManySplits → IsPastLimit count.new }
+        ensures in_range { ¬ result ≡ Err IntNearnessError.CoordinateOutOfRange }
+    {
+        let _made = count.made;
+        let drawn = stroke_overlay(self, alloc, style, closed, options)?;
+        Ok(drawn.overlay_with_nearness(OverlayRule::Subject, FillRule::Positive, count)?)
     }
 }
 
