@@ -1,18 +1,22 @@
 -- Lemmas over points and lists: strokes of variable width are regions.
 use Rattle.std.proofs.Common.{◌≡◌, ℕ, ◌≤◌, ◌^◌, List, refl}
-use Rattle.mesh_plane.specs.Plane.{Point}
+use Rattle.mesh_plane.specs.Plane.{Point, Edge}
+use Rattle.std.specs.List.{flat_map}
+use Rattle.std.specs.List.Sorted.{IsPermutation}
 use Rattle.mesh_plane.specs.Winding.{crossing_on}
 use Rattle.mesh_plane.proofs.Crossings.{crossing_on_odd}
 use Rattle.mesh_lattice.specs.FillRules.{filled}
 use Rattle.mesh_lattice.specs.declared.fill.FillRule.TheVariants.{Positive}
 use Rattle.mesh_shapes.specs.Resolution.{Choices}
 use Rattle.mesh_below.specs.Laws.{AreRegions}
+use Rattle.mesh_below.specs.Nearness.{AreRegionsBeyond}
+use Rattle.mesh_lattice.specs.Nearness.{IsFarFrom}
 use Rattle.mesh_arc.specs.declared.arc.ArcOptions.{ArcOptions}
 use Rattle.mesh_join.specs.VariableStyles.{Vertex}
 use Rattle.mesh_offset.specs.Pieces.{WindAsPieces}
 use Rattle.mesh_offset.proofs.ManyPaths.{built_regions}
-use Rattle.mesh_offset.proofs.Regions.{built_sum, regions_above}
-use Rattle.mesh_variable_stroke.specs.Regions.{AreVariableStrokeRegions, all_pieces}
+use Rattle.mesh_offset.proofs.Regions.{built_sum, regions_above, winds_above}
+use Rattle.mesh_variable_stroke.specs.Regions.{AreVariableStrokeRegions, AreVariableStrokeRegionsBeyond, all_pieces}
 use Rattle.mesh_variable_stroke.specs.Resolved.{IsVariableStroke}
 use Rattle.mesh_variable_stroke.specs.ResolvedEdges.{ResolvesPromisedEdges}
 use Rattle.mesh_variable_stroke.specs.Strokable.{ArePathsStrokable}
@@ -51,6 +55,24 @@ module _ (unit : ℕ) (options : ArcOptions) where
           Positive choices paths answer stroke.built stroke.same stroke.resolution
 
       sum : WindAsPieces (all_pieces unit options paths) stroke.built
+      sum =
+          built_sum (variable_stroke_edges unit options) (variable_stroke_pieces unit options)
+          (λ path m q. variable_total (crossing_on m q) (crossing_on_odd m q) unit options path) paths stroke.built stroke.same
+
+  -- and where the nearness of its splits is known, of regions that are exact beyond it
+  pub stroke_beyond : (k : ℕ) (choices : Choices) (paths : List (List Vertex)) (answer : List (List (List Point))) (built : List Edge)
+      → (same : IsPermutation built (flat_map (variable_stroke_edges unit options) paths))
+      → AreRegionsBeyond k built (filled Positive) choices answer → AreVariableStrokeRegionsBeyond k unit options choices paths answer
+  stroke_beyond k choices paths answer built same beyond = record {
+    stroke = record { built = built; same = same; resolution = beyond.regions.resolution };
+    beyond = beyond;
+    same = refl;
+    fills =
+        winds_above built choices answer beyond.regions (all_pieces unit options paths)
+        (built_sum (variable_stroke_edges unit options) (variable_stroke_pieces unit options)
+        (λ path m q. variable_total (crossing_on m q) (crossing_on_odd m q) unit options path) paths built same)
+        (λ m q. IsFarFrom k m built q) beyond.exact;
+
       sum = all_sum choices paths answer stroke
 
   -- each stroke of paths that stay safe within its greatest radius resolves edges of which this is promised

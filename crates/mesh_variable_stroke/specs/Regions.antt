@@ -7,6 +7,8 @@ use Rattle.mesh_lattice.specs.declared.fill.FillRule.TheVariants.{Positive}
 use Rattle.mesh_below.specs.Regions.{OutsideBent}
 use Rattle.mesh_shapes.specs.Resolution.{Choices}
 use Rattle.mesh_below.specs.Laws.{AreRegions}
+use Rattle.mesh_below.specs.Nearness.{AreRegionsBeyond}
+use Rattle.mesh_lattice.specs.Nearness.{IsFarFrom}
 use Rattle.mesh_arc.specs.declared.arc.ArcOptions.{ArcOptions}
 use Rattle.mesh_join.specs.VariableStyles.{Vertex}
 use Rattle.mesh_offset.specs.Regions.{WindsOnceWhere, wind_above}
@@ -26,3 +28,13 @@ pub record AreVariableStrokeRegions (unit : ℕ) (options : ArcOptions) (choices
   -- it winds once where the windings of all pieces add up to more than 0
   pub fills : WindsOnceWhere (wind_above (all_pieces unit options paths))
       (OutsideBent regions.resolution.splits stroke.built) choices answer
+
+-- an answer is the stroke of paths, made of regions that are exact at each point farther than `k` 64ths of a grid unit
+-- from each drawn edge: it winds once where the windings of all pieces add up to more than 0
+pub record AreVariableStrokeRegionsBeyond (k unit : ℕ) (options : ArcOptions) (choices : Choices)
+    (paths : List (List Vertex)) (answer : List (List (List Point))) : Type 0 where
+  pub stroke : IsVariableStroke unit options choices paths answer
+  pub beyond : AreRegionsBeyond k stroke.built (filled Positive) choices answer
+  pub same : beyond.regions.resolution ≡ stroke.resolution
+  pub fills : WindsOnceWhere (wind_above (all_pieces unit options paths)) (λ m q. IsFarFrom k m stroke.built q)
+      choices answer

@@ -27,3 +27,7 @@ pub record IsVariableStroke (unit : ℕ) (options : ArcOptions) (choices : Choic
 abbrev pub HavePromisedEdges : ℕ → ArcOptions → List (List Vertex) → Type 0
 HavePromisedEdges unit options paths =
     All (λ (path : List Vertex). AreVariablyStroked unit options path (variable_stroke_edges unit options path)) paths
+
+-- edges that were built of the strokes of all paths, in whatever order
+abbrev pub AreAllEdges : ℕ → ArcOptions → List (List Vertex) → List Edge → Type 0
+AreAllEdges unit options paths built = IsPermutation built (all_edges unit options paths)

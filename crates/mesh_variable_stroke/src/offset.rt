@@ -8,9 +8,11 @@ ghost use Rattle.mesh_plane.specs.Plane.{Point, Edge};
 ghost use Rattle.mesh_lattice.specs.Reach.{ArePointsSafe};
 ghost use Rattle.mesh_below.specs.Options.{choices_of, plain};
 ghost use Rattle.mesh_offset.specs.Padding.{widened};
-ghost use Rattle.mesh_variable_stroke.specs.Regions.{AreVariableStrokeRegions};
-ghost use Rattle.mesh_variable_stroke.specs.Resolved.{IsVariableStroke, HavePromisedEdges};
+ghost use Rattle.mesh_variable_stroke.specs.Regions.{AreVariableStrokeRegions, AreVariableStrokeRegionsBeyond};
+ghost use Rattle.mesh_variable_stroke.specs.Resolved.{IsVariableStroke, HavePromisedEdges, AreAllEdges};
 ghost use Rattle.mesh_variable_stroke.specs.ResolvedEdges.{ResolvesPromisedEdges};
+ghost use Rattle.mesh_split.specs.Counting.{IsPastLimit, IsWithinLimit};
+ghost use Rattle.mesh_offset.specs.Counting.{CountsAttempts};
 ghost use Rattle.mesh_variable_stroke.specs.Staying.{StaysSafe};
 ghost use Rattle.mesh_variable_stroke.specs.Strokable.{ArePathsStrokable, all_vertex_points, padding_of};
 
@@ -18,10 +20,11 @@ use crate::bounds::validate_vertices;
 use crate::resolve::stroke_overlay;
 use crate::resource::IntVariableStrokeSource;
 use mesh_below::below::{FillRule, IntOverlayOptions, OverlayRule};
+use mesh_below::nearness::{NearShapes, SplitCount};
 use mesh_join::style::IntVariableStrokeStyle;
 use mesh_num::num::OverlayInt;
 use mesh_num::shape::buffer::{FlatContoursBuffer, IntShapes};
-use mesh_offset::error::{IntOutlineError, IntVariableStrokeError};
+use mesh_offset::error::{IntNearnessError, IntOutlineError, IntVariableStrokeError};
 use std::alloc::Global;
 
 /// Stroke calls on each source of paths whose width changes from vertex to vertex. A vertex's radius is half of its
@@ -136,6 +139,31 @@ pub trait IntVariableStrokeOffset<I: OverlayInt>: IntVariableStrokeSource<I> {
         let drawn = stroke_overlay(self, alloc, style, options)?;
         drawn.overlay_into(OverlayRule::Subject, FillRule::Positive, buffer)?;
         Ok(())
+    }
+
+    /// `variable_stroke_custom`, and how near to the drawn edges the answer is exact: at each point farther than the
+    /// nearness from each of them it is what the pieces fill. The splits are counted on, those of attempts that were
+    /// given up too. `TooManySplits` says that the count passed its limit, `OutOfMemory` that a growth was refused;
+    /// `CoordinateOutOfRange` is never answered.
+    final fn variable_stroke_with_nearness(
+        &self,
+        alloc: Global,
+        style: IntVariableStrokeStyle,
+        options: IntOverlayOptions<I::WideUInt>,
+        count: &mut SplitCount,
+    ) -> Result<NearShapes<I>, IntNearnessError>
+        requires { ArePathsStrokable I.unit (Self.paths self.now) }
+        ensures regions { IfOk result (λ near. AreVariableStrokeRegionsBeyond near.nearness I.unit style.arc
+            (choices_of I.WideUInt.value options) (Self.paths self.now) (shapes_of near.shapes.items)) }
+        ensures safe { IfOk result (λ near. ArePointsSafe I.unit (shapes_of near.shapes.items)) }
+        ensures counted { CountsAttempts (AreAllEdges I.unit style.arc (Self.paths self.now)) count.old count.new }
+        ensures within { OnOk result (IsWithinLimit count.new) }
+        ensures refused { result ≡ Err IntNearnessError.TooManySplits → IsPastLimit count.new }
+        ensures in_range { ¬ result ≡ Err IntNearnessError.CoordinateOutOfRange }
+    {
+        let _made = count.made;
+        let drawn = stroke_overlay(self, alloc, style, options)?;
+        Ok(drawn.overlay_with_nearness(OverlayRule::Subject, FillRule::Positive, count)?)
     }
 }
 

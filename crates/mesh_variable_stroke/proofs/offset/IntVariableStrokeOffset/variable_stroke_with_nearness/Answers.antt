@@ -1,0 +1,13 @@
+-- The edges were built and resolved.
+use Rattle.mesh_num.specs.Segments.{edges_of}
+use Rattle.mesh_below.specs.Options.{choices_of}
+use Rattle.mesh_offset.proofs.Counting.{counts_of_one}
+use Rattle.mesh_variable_stroke.specs.Resolved.{AreAllEdges}
+use Rattle.mesh_variable_stroke.proofs.Regions.{stroke_beyond}
+use Rattle.mesh_variable_stroke.proofs.offset.IntVariableStrokeOffset.variable_stroke_with_nearness.Goals as goal
+
+pub returns-clause-regions : goal.returns-clause-regions
+returns-clause-regions g c =
+    stroke_beyond g.I.IntNumber.unit c.args.style.arc _ (choices_of g.I.WideUInt.WideUnsigned.value c.args.options)
+    (g.Self.IntVariableStrokeSource.paths c.args.self.now) _ (edges_of c.in_ok-drawn.drawn.segments.items) c.in_ok-drawn.ensures.built.same
+    (rw c.in_ok-drawn.ensures.options at c.in_ok-overlay_with_nearness.ensures.regions)
