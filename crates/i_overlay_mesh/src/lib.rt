@@ -13,6 +13,7 @@ pub mod variable_stroke;
 
 pub use mesh_below::below::{ContourDirection, IntOverlayOptions, Overlay, OverlayRule};
 pub use mesh_below::fill::FillRule;
+pub use mesh_below::nearness::{NearShapes, SplitCount, SplitError};
 pub use mesh_join::arc::ArcOptions;
 pub use mesh_join::style::{
     IntLineCap, IntLineJoin, IntOutlineStyle, IntStrokeStyle, IntStrokeVertex,
@@ -24,7 +25,9 @@ pub use mesh_num::shape::{
     SubjectSegments,
 };
 pub use mesh_offset::error;
-pub use mesh_offset::error::{IntOutlineError, IntStrokeError, IntVariableStrokeError};
+pub use mesh_offset::error::{
+    IntNearnessError, IntOutlineError, IntStrokeError, IntVariableStrokeError,
+};
 pub use outline::builder::OutlineBuilder;
 pub use outline::kind::ContourKind;
 pub use outline::offset::IntOutlineOffset;

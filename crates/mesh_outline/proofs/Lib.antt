@@ -6,6 +6,8 @@ pub mod BuilderWalk
 pub mod ContourKinds
 pub mod Corners
 pub mod Final
+pub mod NearRegions
+pub mod NearSteps
 pub mod OutlineCount
 pub mod OutlineSum
 pub mod OutlineWalk

@@ -1,5 +1,5 @@
 -- Lemmas over points and lists: outlines are regions.
-use Rattle.std.proofs.Common.{◌≡◌, ℕ, ◌≤◌, ◌<◌, ◌^◌, Bool, true, false, cond, ◌&&◌, List, [], ◌∷◌, map, refl, sym, ◌∙◌, ap, subst, arith}
+use Rattle.std.proofs.Common.{◌≡◌, ℕ, ◌≤◌, ◌<◌, ◌^◌, Bool, true, false, cond, ◌&&◌, List, [], ◌∷◌, ◌++◌, map, refl, sym, ◌∙◌, ap, subst, arith}
 use Rattle.std.specs.Prelude.{ℤ, pos, ◌+◌, ◌+ℤ◌, ◌-ℤ◌, neg_ℤ, Option, Some, None, int_lt, count_by}
 use Rattle.std.specs.List.{AllZip, flat_map}
 use Rattle.std.proofs.lemmas.Int.{ints}
@@ -28,7 +28,8 @@ use Rattle.mesh_outline.specs.Kinds.{kind_fill, way_for}
 use Rattle.mesh_outline.specs.declared.kind.ContourKind.TheVariants.{Outer, Hole, Ignored}
 use Rattle.mesh_outline.specs.Outline.{outline_edges}
 use Rattle.mesh_outline.specs.Regions.{AreOutlineRegions, OutsideBentAlone, OutsideBentEach, is_cleared, is_filled, more_fill}
-use Rattle.mesh_outline.specs.Resolved.{Gives, IsAnswerAlone, IsOutline}
+use Rattle.mesh_outline.specs.Building.{style_for}
+use Rattle.mesh_outline.specs.Resolved.{Gives, IsAnswerAlone, IsOutline, fill_for}
 use Rattle.mesh_outline.proofs.Final.{alone_regions, outline_regions}
 
 -- edges the other way about wind the other way
@@ -58,27 +59,27 @@ module _ (unit : ℕ) (least : 2 ^ 14 ≤ unit) (m : ℕ) (some : 0 < m) (q : Po
   -- by the sign of its area
   moved_winds : (style : OutlineStyle) (contour : List Point) (way : OffsetJoin) (answer : List (List (List Point))) (a b : Bool) → (a ≡ true → b ≡ true → ⊥) →
       way_for style (cond a Outer (cond b Hole Ignored)) ≡ Some way →
-      (alone : IsAnswerAlone unit way (filled (kind_fill (cond a Outer (cond b Hole Ignored)))) contour answer) → OutsideBent alone.resolution.splits alone.built m q →
+      winding m q (answer_edges answer) ≡ bit (filled (kind_fill (cond a Outer (cond b Hole Ignored))) (winding m q (outline_edges unit way contour))) →
       winding m q (in_sense (kind_fill (cond a Outer (cond b Hole Ignored))) (answer_edges answer))
       ≡ bit (a && int_lt (pos 0) (winding m q (outline_edges unit (outer style) contour))) -ℤ bit (b && int_lt (winding m q (outline_edges unit (inner style) contour)) (pos 0))
-  moved_winds style contour way answer true true both moves alone out = absurd (both refl refl)
-  moved_winds style contour way answer true false both moves alone out =
-      alone_winds way Positive contour answer alone out
+  moved_winds style contour way answer true true both moves wound = absurd (both refl refl)
+  moved_winds style contour way answer true false both moves wound =
+      wound
       ∙ (ap (λ (w : OffsetJoin). bit (int_lt (pos 0) (winding m q (outline_edges unit w contour)))) (sym (way_of (outer style) way moves))
       ∙ less_none (bit (int_lt (pos 0) (winding m q (outline_edges unit (outer style) contour)))))
     where
       less_none : (z : ℤ) → z ≡ z -ℤ pos 0
       less_none z = omega (arith, linear)
-  moved_winds style contour way answer false true both moves alone out =
+  moved_winds style contour way answer false true both moves wound =
       back_total m q (answer_edges answer)
       ∙ (ap neg_ℤ
-      (alone_winds way Negative contour answer alone out
+      (wound
       ∙ ap (λ (w : OffsetJoin). bit (int_lt (winding m q (outline_edges unit w contour)) (pos 0))) (sym (way_of (inner style) way moves)))
       ∙ from_none (bit (int_lt (winding m q (outline_edges unit (inner style) contour)) (pos 0))))
     where
       from_none : (z : ℤ) → neg_ℤ z ≡ pos 0 -ℤ z
       from_none z = omega (arith, linear)
-  moved_winds style contour way answer false false both moves alone out = absurd (none_some moves)
+  moved_winds style contour way answer false false both moves wound = absurd (none_some moves)
     where
       none_some : None ≡ Some way → ⊥
       none_some e = cc
@@ -101,12 +102,23 @@ module _ (unit : ℕ) (least : 2 ^ 14 ≤ unit) (m : ℕ) (some : 0 < m) (q : Po
       let below = test_less area (pos 0) k in
       omega (arith, linear, above, below)
 
+  -- what a contour gives whose answer winds once where its outline fills
+  pub moved_counts : (style : OutlineStyle) (contour : List Point) (way : OffsetJoin) (answer : List (List (List Point))) → style_for style (double_area contour) ≡ Some way →
+      winding m q (answer_edges answer) ≡ bit (filled (fill_for (double_area contour)) (winding m q (outline_edges unit way contour))) →
+      winding m q (in_sense (fill_for (double_area contour)) (answer_edges answer)) ≡ bit (is_filled unit style m q contour) -ℤ bit (is_cleared unit style m q contour)
+  moved_counts style contour way answer moves wound =
+      moved_winds style contour way answer (int_lt (pos 0) (double_area contour)) (int_lt (double_area contour) (pos 0)) (one_sign (double_area contour)) moves wound
+
+  pub ignored_counts : (style : OutlineStyle) (contour : List Point) → style_for style (double_area contour) ≡ None →
+      pos 0 ≡ bit (is_filled unit style m q contour) -ℤ bit (is_cleared unit style m q contour)
+  ignored_counts style contour none =
+      ignored_winds style contour (int_lt (pos 0) (double_area contour)) (int_lt (double_area contour) (pos 0)) none
+
   given_winds : (style : OutlineStyle) (contour : List Point) (es : List Edge) → (gives : Gives unit style contour es) → OutsideBentAlone unit style contour es gives m q →
       winding m q es ≡ bit (is_filled unit style m q contour) -ℤ bit (is_cleared unit style m q contour)
   given_winds style contour _ (Gives.moved {way = way} {answer = answer} moves alone) out =
-      moved_winds style contour way answer (int_lt (pos 0) (double_area contour)) (int_lt (double_area contour) (pos 0)) (one_sign (double_area contour)) moves alone out
-  given_winds style contour _ (Gives.ignored none) out =
-      ignored_winds style contour (int_lt (pos 0) (double_area contour)) (int_lt (double_area contour) (pos 0)) none
+      moved_counts style contour way answer moves (alone_winds way (fill_for (double_area contour)) contour answer alone out)
+  given_winds style contour _ (Gives.ignored none) out = ignored_counts style contour none
 
   counted_more : (f c : Bool) (fs cs : ℕ) (w : ℤ) → w ≡ pos fs -ℤ pos cs →
       (bit f -ℤ bit c) +ℤ w ≡ pos (cond f 1 0 + fs) -ℤ pos (cond c 1 0 + cs)
@@ -114,6 +126,21 @@ module _ (unit : ℕ) (least : 2 ^ 14 ≤ unit) (m : ℕ) (some : 0 < m) (q : Po
   counted_more true false fs cs w h = omega (arith, ints, h)
   counted_more false true fs cs w h = omega (arith, ints, h)
   counted_more false false fs cs w h = omega (arith, ints, h)
+
+  -- one contour more
+  pub one_more : (style : OutlineStyle) (contour : List Point) (contours : List (List Point)) (es rest : List Edge) →
+      winding m q es ≡ bit (is_filled unit style m q contour) -ℤ bit (is_cleared unit style m q contour) →
+      winding m q rest ≡ pos (count_by (is_filled unit style m q) contours) -ℤ pos (count_by (is_cleared unit style m q) contours) →
+      winding m q (es ++ rest)
+      ≡ pos (count_by (is_filled unit style m q) (contour ∷ contours)) -ℤ pos (count_by (is_cleared unit style m q) (contour ∷ contours))
+  one_more style contour contours es rest first others =
+      let filled_more = sum_by-cons (λ c. cond (is_filled unit style m q c) 1 0) contour contours in
+      let cleared_more = sum_by-cons (λ c. cond (is_cleared unit style m q c) 1 0) contour contours in
+      total_append (crossing_on m q) es rest
+      ∙ (ap (λ (z : ℤ). z +ℤ winding m q rest) first
+      ∙ (counted_more (is_filled unit style m q contour) (is_cleared unit style m q contour) (count_by (is_filled unit style m q) contours) (count_by (is_cleared unit style m q) contours)
+      (winding m q rest) others
+      ∙ (λ i. pos (sym filled_more i) -ℤ pos (sym cleared_more i))))
 
   -- what contours give winds as many times as contours fill the point, less those that clear it
   all_winds : (style : OutlineStyle) (contours : List (List Point)) (edges : List (List Edge)) → (each : AllZip (Gives unit style) contours edges) →
@@ -124,15 +151,10 @@ module _ (unit : ℕ) (least : 2 ^ 14 ≤ unit) (m : ℕ) (some : 0 < m) (q : Po
   all_winds style [] (es ∷ edges) each out = absurd each
   all_winds style (contour ∷ contours) [] each out = absurd each
   all_winds style (contour ∷ contours) (es ∷ edges) each out =
-      let filled_more = sum_by-cons (λ c. cond (is_filled unit style m q c) 1 0) contour contours in
-      let cleared_more = sum_by-cons (λ c. cond (is_cleared unit style m q c) 1 0) contour contours in
-      total_append (crossing_on m q) es (flat_map (λ (es : List Edge). es) edges)
-      ∙ (ap (λ (z : ℤ). z +ℤ winding m q (flat_map (λ (es : List Edge). es) edges)) (given_winds style contour es each.0 out.0)
-      ∙ (counted_more (is_filled unit style m q contour) (is_cleared unit style m q contour) (count_by (is_filled unit style m q) contours) (count_by (is_cleared unit style m q) contours)
-      (winding m q (flat_map (λ (es : List Edge). es) edges)) (all_winds style contours edges each.1 out.1)
-      ∙ (λ i. pos (sym filled_more i) -ℤ pos (sym cleared_more i))))
+      one_more style contour contours es (flat_map (λ (es : List Edge). es) edges)
+      (given_winds style contour es each.0 out.0) (all_winds style contours edges each.1 out.1)
 
-above_less : (a b : ℤ) → int_lt (pos 0) (a -ℤ b) ≡ int_lt b a
+pub above_less : (a b : ℤ) → int_lt (pos 0) (a -ℤ b) ≡ int_lt b a
 above_less a b = grind (arith, ints)
 
 -- each outline is made of regions

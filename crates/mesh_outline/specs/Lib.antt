@@ -2,6 +2,7 @@ pub mod Building
 pub mod Drawn
 pub mod Kinds
 pub mod Laws
+pub mod Nearness
 pub mod Outline
 pub mod Private
 pub mod Regions

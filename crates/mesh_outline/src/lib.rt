@@ -12,6 +12,7 @@ pub mod builder;
 mod builder_join;
 pub mod kind;
 pub mod laws;
+mod nearness;
 pub mod offset;
 mod resolve;
 mod section;

@@ -8,6 +8,9 @@ ghost use Rattle.mesh_num.specs.Rectangle.{IsBounds, IsSafeRectangle};
 ghost use Rattle.mesh_join.specs.Joins.{outline_padding};
 ghost use Rattle.mesh_join.specs.Styles.{style_of};
 ghost use Rattle.mesh_offset.specs.Padding.{ArePathsSafe, all_points, widened};
+ghost use Rattle.mesh_split.specs.Counting.{IsPastLimit, IsWithinLimit};
+ghost use Rattle.mesh_offset.specs.Counting.{CountsAttempts};
+ghost use Rattle.mesh_outline.specs.Nearness.{AreOutlineRegionsBeyond, IsOutlineDrawing};
 ghost use Rattle.mesh_outline.specs.Regions.{AreOutlineRegions};
 ghost use Rattle.mesh_outline.specs.Resolved.{DoAreasFit, IsOutline, HavePromisedEdges};
 ghost use Rattle.mesh_outline.specs.Staying.{StaysSafe};
@@ -15,13 +18,15 @@ ghost use Rattle.mesh_below.specs.Options.{choices_of, plain};
 ghost use Rattle.mesh_lattice.specs.Reach.{ArePointsSafe};
 
 use crate::bounds::validate_outline_bounds;
+use crate::nearness::near_outline;
 use crate::shapes::outline_shapes;
 use mesh_below::below::IntOverlayOptions;
+use mesh_below::nearness::{NearShapes, SplitCount};
 use mesh_join::style::IntOutlineStyle;
 use mesh_num::num::OverlayInt;
 use mesh_num::shape::buffer::{FlatContoursBuffer, IntShapes};
 use mesh_num::shape::resource::IntShapeResource;
-use mesh_offset::error::IntOutlineError;
+use mesh_offset::error::{IntNearnessError, IntOutlineError};
 use std::alloc::Global;
 
 /// Offset calls on each source of contours.
@@ -133,6 +138,33 @@ pub trait IntOutlineOffset<I: OverlayInt>: IntShapeResource<I> {
         let shapes = outline_shapes(self, alloc, style, options)?;
         buffer.replace_with(&shapes)?;
         Ok(())
+    }
+
+    /// `outline_custom`, and how near to the drawn edges the answer is exact: at each point farther than the nearness
+    /// from each of them it is what the contours' outlines fill. The nearness is the greatest of the contours' own
+    /// resolvings and that of the last one, added. The splits of all of them are counted on, those of attempts that
+    /// were given up too. `TooManySplits` says that the count passed its limit; the other errors are those of
+    /// `outline_custom`.
+    final fn outline_with_nearness(
+        &self,
+        alloc: Global,
+        style: &IntOutlineStyle<I>,
+        options: IntOverlayOptions<I::WideUInt>,
+        count: &mut SplitCount,
+    ) -> Result<NearShapes<I>, IntNearnessError>
+        requires { ArePathsSafe I.unit (outline_padding (style_of I.value style.now)) (Self.paths self.now) }
+        ensures regions { IfOk result (λ near. AreOutlineRegionsBeyond near.nearness I.unit
+            (style_of I.value style.now) (choices_of I.WideUInt.value options) (Self.paths self.now)
+            (shapes_of near.shapes.items)) }
+        ensures safe { IfOk result (λ near. ArePointsSafe I.unit (shapes_of near.shapes.items)) }
+        ensures unfit { result ≡ Err IntNearnessError.CoordinateOutOfRange
+            ↔ ¬ DoAreasFit I.Wide.half (Self.paths self.now) }
+        ensures counted { CountsAttempts (IsOutlineDrawing I.unit (style_of I.value style.now) (Self.paths self.now))
+            count.old count.new }
+        ensures within { OnOk result (IsWithinLimit count.new) }
+        ensures refused { result ≡ Err IntNearnessError.TooManySplits → IsPastLimit count.new }
+    {
+        near_outline(self, alloc, style, options, count)
     }
 }
 

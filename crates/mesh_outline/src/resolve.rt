@@ -69,7 +69,7 @@ fn add_contour<I: IntNumber>(
 }
 
 /// The sense in which a contour of this kind is filled: a hole in the negative one.
-fn fill_of(kind: ContourKind) -> FillRule
+pub(crate) fn fill_of(kind: ContourKind) -> FillRule
     ensures { result ≡ kind_fill kind }
 {
     match kind {

@@ -1,0 +1,184 @@
+-- Lemmas over points and lists: outlines are exact away from the drawn edges.
+use Rattle.std.proofs.Common.{◌≡◌, ◌⊎◌, ⊎_elim, ℕ, ◌+◌, ◌^◌, ◌≤◌, ◌<◌, Bool, true, false, cond, not, ◌||◌, List, [], ◌∷◌, ◌++◌, map, refl, sym, ◌∙◌, ap, subst, arith}
+use Rattle.std.specs.Prelude.{ℤ, pos, ◌-ℤ◌, Option, Some, None, count_by, int_lt}
+use Rattle.std.specs.List.{All, AllZip, filter, flat_map}
+use Rattle.std.specs.List.Sorted.{IsPermutation}
+use Rattle.std.proofs.lemmas.Bool.{false≢true, or_cases, or_left, or_right}
+use Rattle.std.proofs.lemmas.List.Elements.{All-head, All-tail}
+use Rattle.std.proofs.lemmas.List.Folds.{flat_map-map}
+use Rattle.mesh_plane.specs.Plane.{Point, Edge}
+use Rattle.mesh_plane.specs.Winding.{crossing_on, same_point, sum_of, winding}
+use Rattle.mesh_plane.proofs.Crossings.{crossing_on_odd}
+use Rattle.mesh_plane.proofs.Sums.{sum_of_permutation, total_permutation}
+use Rattle.mesh_num.specs.Segments.{proper_edges}
+use Rattle.mesh_lattice.specs.Counted.{bit}
+use Rattle.mesh_lattice.specs.FillRules.{filled}
+use Rattle.mesh_lattice.specs.Nearness.{IsFarFrom, StaysNear}
+use Rattle.mesh_lattice.specs.Split.{back, occurs, same_ends}
+use Rattle.mesh_lattice.specs.declared.fill.FillRule.{FillRule}
+use Rattle.mesh_lattice.specs.declared.fill.FillRule.TheVariants.{Positive, Negative}
+use Rattle.mesh_lattice.proofs.Ends.{ends_turned}
+use Rattle.mesh_lattice.proofs.NearEdges.{far_from_through, far_less, stays_more}
+use Rattle.mesh_lattice.proofs.Splits.{occurs_append}
+use Rattle.mesh_shapes.specs.Contours.{double_area}
+use Rattle.mesh_shapes.specs.Resolution.{Choices}
+use Rattle.mesh_below.specs.Nearness.{AreRegionsBeyond}
+use Rattle.mesh_below.specs.Options.{plain}
+use Rattle.mesh_below.proofs.Merging.{same_occurs}
+use Rattle.mesh_join.specs.Styles.{OffsetJoin, OutlineStyle}
+use Rattle.mesh_offset.specs.Adding.{answer_edges, in_sense}
+use Rattle.mesh_offset.specs.Regions.{WindsOnceWhere}
+use Rattle.mesh_offset.proofs.ProperEdges.{proper_edges_total}
+use Rattle.mesh_outline.specs.Building.{style_for}
+use Rattle.mesh_outline.specs.Nearness.{AreOutlineRegionsBeyond, GivesNear, GiveNear, all_drawn, drawn_of, edges_moved}
+use Rattle.mesh_outline.specs.Outline.{outline_edges}
+use Rattle.mesh_outline.specs.Regions.{is_cleared, is_filled, more_fill}
+use Rattle.mesh_outline.specs.Resolved.{Gives, Give, IsOutline, fill_for}
+use Rattle.mesh_outline.proofs.Regions.{above_less, ignored_counts, moved_counts, one_more}
+
+-- ---- what stands in lists of edges
+
+pub permuted : (es gs : List Edge) → IsPermutation es gs → (e : Edge) → occurs e es ≡ true → occurs e gs ≡ true
+permuted es gs same e o = sym (same_occurs es gs (λ (f : Edge → ℤ). sym (sum_of_permutation f es gs same)) e) ∙ o
+
+sensed : (fill : FillRule) (es : List Edge) (e : Edge) → occurs e (in_sense fill es) ≡ true → occurs e es ≡ true
+sensed Positive es e o = o
+sensed Negative [] e o = o
+sensed Negative (f ∷ es) e o =
+    ⊎_elim
+    (λ (t : same_ends e (back f) ≡ true). or_left (same_ends e f) (occurs e es) (sym (ends_turned e f) ∙ t))
+    (λ (t : occurs e (map back es) ≡ true). or_right (same_ends e f) (occurs e es) (sensed Negative es e t))
+    (or_cases (same_ends e (back f)) (occurs e (map back es)) o)
+
+kept : (p : Edge → Bool) (es : List Edge) (e : Edge) → occurs e (filter p es) ≡ true → occurs e es ≡ true
+kept p [] e o = o
+kept p (f ∷ es) e o = by (p f) o (kept p es e)
+  where
+    by : (b : Bool) → occurs e (cond b (f ∷ filter p es) (filter p es)) ≡ true → (occurs e (filter p es) ≡ true → occurs e es ≡ true) → occurs e (f ∷ es) ≡ true
+    by true h rest =
+        ⊎_elim (or_left (same_ends e f) (occurs e es)) (λ (t : occurs e (filter p es) ≡ true). or_right (same_ends e f) (occurs e es) (rest t))
+        (or_cases (same_ends e f) (occurs e (filter p es)) h)
+    by false h rest = or_right (same_ends e f) (occurs e es) (rest h)
+
+-- the edges of a contour that moves so are those that are drawn of it
+drawn_moved : (unit : ℕ) (style : OutlineStyle) (contour : List Point) (way : OffsetJoin) → style_for style (double_area contour) ≡ Some way →
+    outline_edges unit way contour ≡ drawn_of unit style contour
+drawn_moved unit style contour way moves = ap (edges_moved unit contour) (sym moves)
+
+module _ (unit : ℕ) (style : OutlineStyle) where
+  -- ---- what contours give stays near what is drawn
+
+  gives_near : (contour : List Point) (es : List Edge) (k first : ℕ) (ds : List Edge) → GivesNear unit style contour es k → k ≤ first →
+      ((e : Edge) → occurs e (drawn_of unit style contour) ≡ true → occurs e ds ≡ true) → (f : Edge) → occurs f es ≡ true → StaysNear first ds f
+  gives_near contour _ _ first ds (GivesNear.moved {way = way} {answer = answer} {k = k} moves built same beyond) most drawn f o =
+      stays_more k first built ds f most
+      (λ (e : Edge) (p : occurs e built ≡ true).
+      drawn e (subst (λ (gs : List Edge). occurs e gs ≡ true) (drawn_moved unit style contour way moves) (permuted built (outline_edges unit way contour) same e p)))
+      (beyond.close f (sensed (fill_for (double_area contour)) (answer_edges answer) f o))
+  gives_near contour _ _ first ds (GivesNear.ignored none) most drawn f o = absurd (false≢true o)
+
+  give_near : (contours : List (List Point)) (told : List (List Edge × ℕ)) (first : ℕ) (ds : List Edge) →
+      AllZip (λ (contour : List Point) (t : List Edge × ℕ). GivesNear unit style contour t.0 t.1) contours told →
+      All (λ (l : ℕ). l ≤ first) (map (λ (t : List Edge × ℕ). t.1) told) →
+      ((e : Edge) → occurs e (all_drawn unit style contours) ≡ true → occurs e ds ≡ true) →
+      (f : Edge) → occurs f (flat_map (λ (t : List Edge × ℕ). t.0) told) ≡ true → StaysNear first ds f
+  give_near [] [] first ds each most drawn f o = absurd (false≢true o)
+  give_near [] (t ∷ told) first ds each most drawn f o = absurd each
+  give_near (contour ∷ contours) [] first ds each most drawn f o = absurd each
+  give_near (contour ∷ contours) (t ∷ told) first ds each most drawn f o =
+      ⊎_elim
+      (λ (here : occurs f t.0 ≡ true).
+      gives_near contour t.0 t.1 first ds each.0 (All-head (λ (l : ℕ). l ≤ first) t.1 (map (λ (t : List Edge × ℕ). t.1) told) most)
+      (λ (e : Edge) (p : occurs e (drawn_of unit style contour) ≡ true).
+      drawn e (occurs_append e (drawn_of unit style contour) (all_drawn unit style contours) ∙ or_left _ _ p)) f here)
+      (λ (there : occurs f (flat_map (λ (t : List Edge × ℕ). t.0) told) ≡ true).
+      give_near contours told first ds each.1 (All-tail (λ (l : ℕ). l ≤ first) t.1 (map (λ (t : List Edge × ℕ). t.1) told) most)
+      (λ (e : Edge) (p : occurs e (all_drawn unit style contours) ≡ true).
+      drawn e (occurs_append e (drawn_of unit style contour) (all_drawn unit style contours) ∙ or_right _ _ p)) f there)
+      (or_cases (occurs f t.0) (occurs f (flat_map (λ (t : List Edge × ℕ). t.0) told))
+      (sym (occurs_append f t.0 (flat_map (λ (t : List Edge × ℕ). t.0) told)) ∙ o))
+
+  -- ---- what contours give winds as they fill and clear
+
+  module _ (m : ℕ) (some : 0 < m) (q : Point) (first : ℕ) where
+    gives_winds : 2 ^ 14 ≤ unit → (contour : List Point) (es : List Edge) (k : ℕ) → GivesNear unit style contour es k → k ≤ first → IsFarFrom first m (drawn_of unit style contour) q →
+        winding m q es ≡ bit (is_filled unit style m q contour) -ℤ bit (is_cleared unit style m q contour)
+    gives_winds least contour _ _ (GivesNear.moved {way = way} {answer = answer} {k = k} moves built same beyond) most far =
+        moved_counts unit least m some q style contour way answer moves
+        (beyond.regions.answered refl refl m q
+        ∙ (beyond.exact m some q
+        (λ (e : Edge) (o : occurs e built ≡ true).
+        far_less k first m (drawn_of unit style contour) q most far e
+        (subst (λ (gs : List Edge). occurs e gs ≡ true) (drawn_moved unit style contour way moves) (permuted built (outline_edges unit way contour) same e o)))
+        ∙ ap (λ (w : ℤ). bit (filled (fill_for (double_area contour)) w)) (sym (total_permutation (crossing_on m q) built (outline_edges unit way contour) same))))
+    gives_winds least contour _ _ (GivesNear.ignored none) most far = ignored_counts unit least m some q style contour none
+
+    give_winds : 2 ^ 14 ≤ unit → (contours : List (List Point)) (told : List (List Edge × ℕ)) →
+        AllZip (λ (contour : List Point) (t : List Edge × ℕ). GivesNear unit style contour t.0 t.1) contours told →
+        All (λ (l : ℕ). l ≤ first) (map (λ (t : List Edge × ℕ). t.1) told) → IsFarFrom first m (all_drawn unit style contours) q →
+        winding m q (flat_map (λ (t : List Edge × ℕ). t.0) told)
+        ≡ pos (count_by (is_filled unit style m q) contours) -ℤ pos (count_by (is_cleared unit style m q) contours)
+    give_winds least [] [] each most far = refl
+    give_winds least [] (t ∷ told) each most far = absurd each
+    give_winds least (contour ∷ contours) [] each most far = absurd each
+    give_winds least (contour ∷ contours) (t ∷ told) each most far =
+        one_more unit least m some q style contour contours t.0 (flat_map (λ (t : List Edge × ℕ). t.0) told)
+        (gives_winds least contour t.0 t.1 each.0 (All-head (λ (l : ℕ). l ≤ first) t.1 (map (λ (t : List Edge × ℕ). t.1) told) most)
+        (λ (e : Edge) (p : occurs e (drawn_of unit style contour) ≡ true).
+        far e (occurs_append e (drawn_of unit style contour) (all_drawn unit style contours) ∙ or_left _ _ p)))
+        (give_winds least contours told each.1 (All-tail (λ (l : ℕ). l ≤ first) t.1 (map (λ (t : List Edge × ℕ). t.1) told) most)
+        (λ (e : Edge) (p : occurs e (all_drawn unit style contours) ≡ true).
+        far e (occurs_append e (drawn_of unit style contour) (all_drawn unit style contours) ∙ or_right _ _ p)))
+
+  -- ---- the outline
+
+  gives_of : (contour : List Point) (es : List Edge) (k : ℕ) → GivesNear unit style contour es k → Gives unit style contour es
+  gives_of contour _ _ (GivesNear.moved moves built same beyond) =
+      Gives.moved moves (record { built = built; same = same; resolution = beyond.regions.resolution })
+  gives_of contour _ _ (GivesNear.ignored none) = Gives.ignored none
+
+  each_gives : (contours : List (List Point)) (told : List (List Edge × ℕ)) →
+      AllZip (λ (contour : List Point) (t : List Edge × ℕ). GivesNear unit style contour t.0 t.1) contours told →
+      AllZip (Gives unit style) contours (map (λ (t : List Edge × ℕ). t.0) told)
+  each_gives [] [] each = tt
+  each_gives [] (t ∷ told) each = absurd each
+  each_gives (contour ∷ contours) [] each = absurd each
+  each_gives (contour ∷ contours) (t ∷ told) each = (gives_of contour t.0 t.1 each.0, each_gives contours told each.1)
+
+  pub give_of : (first : ℕ) (contours : List (List Point)) (given : List Edge) → GiveNear first unit style contours given → Give unit style contours given
+  give_of first contours given give = record {
+    edges = map (λ (t : List Edge × ℕ). t.0) give.told;
+    each = each_gives contours give.told give.each;
+    joined = give.joined ∙ sym (flat_map-map (λ (es : List Edge). es) (λ (t : List Edge × ℕ). t.0) give.told);
+  }
+
+  pub outline_beyond : 2 ^ 14 ≤ unit → (first last : ℕ) (choices : Choices) (contours : List (List Point)) (given : List Edge) (answer : List (List (List Point))) →
+      GiveNear first unit style contours given → AreRegionsBeyond last (proper_edges given) (filled Positive) choices answer →
+      AreOutlineRegionsBeyond (first + last) unit style choices contours answer
+  outline_beyond least first last choices contours given answer give beyond = record {
+    first = first;
+    last = last;
+    added = refl;
+    given = given;
+    give = give;
+    beyond = beyond;
+    outline = record { given = given; give = give_of first contours given give; resolution = beyond.regions.resolution };
+    fills = fills;
+  }
+    where
+      fills : WindsOnceWhere (more_fill unit style contours) (λ m q. IsFarFrom (first + last) m (all_drawn unit style contours) q) choices answer
+      fills small forward m some q far =
+          beyond.regions.answered small forward m q
+          ∙ (beyond.exact m some q
+          (far_from_through first last m some (all_drawn unit style contours) (proper_edges given) q
+          (λ (f : Edge) (o : occurs f (proper_edges given) ≡ true).
+          give_near contours give.told first (all_drawn unit style contours) give.each give.greatest.most (λ (e : Edge) (p : occurs e (all_drawn unit style contours) ≡ true). p) f
+          (subst (λ (es : List Edge). occurs f es ≡ true) give.joined (kept (λ (e : Edge). not (same_point e.0 e.1)) given f o)))
+          far)
+          ∙ ap bit
+          (ap (int_lt (pos 0))
+          (proper_edges_total (crossing_on m q) (crossing_on_odd m q) given
+          ∙ (ap (winding m q) give.joined
+          ∙ give_winds m some q first least contours give.told give.each give.greatest.most
+          (far_less first (first + last) m (all_drawn unit style contours) q (omega arith) far)))
+          ∙ above_less (pos (count_by (is_filled unit style m q) contours)) (pos (count_by (is_cleared unit style m q) contours))))

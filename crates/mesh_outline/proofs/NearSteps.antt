@@ -1,0 +1,170 @@
+-- Lemmas over points and lists: the steps of an outline whose nearness is told.
+use Rattle.std.proofs.Common.{◌≡◌, ◌⊎◌, inl, inr, ⊎_elim, ℕ, ◌+◌, ◌<◌, ◌≤◌, ◌^◌, List, [], ◌∷◌, ◌++◌, map, length, take, get_or, take_all, refl, sym, ◌∙◌, ap, subst, arith}
+use Rattle.std.specs.Prelude.{Some, None, max, pos, ◌≤ℤ◌}
+use Rattle.std.proofs.lemmas.Int.{ints}
+use Rattle.mesh_plane.proofs.Whole.{either_order}
+use Rattle.std.specs.List.{All, Contains, flat_map}
+use Rattle.std.specs.List.Sorted.{IsPermutation}
+use Rattle.std.proofs.lemmas.Grind.{flat_map-append}
+use Rattle.std.proofs.lemmas.List.{append-nil, map-append, take_more}
+use Rattle.std.proofs.lemmas.List.Elements.{All-nil, All-push, All-weaker, Contains-append_left, Contains-get_or, Contains-push}
+use Rattle.std.proofs.lemmas.Slice.Zip.{all_zipped_more}
+use Rattle.mesh_plane.specs.Plane.{Point, Edge}
+use Rattle.mesh_num.specs.Segments.{SignedEdge, edges_of, proper_edges}
+use Rattle.mesh_lattice.specs.FillRules.{filled}
+use Rattle.mesh_lattice.specs.Reach.{ArePointsSafe}
+use Rattle.mesh_lattice.specs.declared.fill.FillRule.{FillRule}
+use Rattle.mesh_lattice.specs.declared.fill.FillRule.TheVariants.{Positive}
+use Rattle.mesh_shapes.specs.Contours.{double_area}
+use Rattle.mesh_shapes.specs.Resolution.{Choices}
+use Rattle.mesh_below.specs.Asked.{AreResolvable}
+use Rattle.mesh_below.specs.Nearness.{AreRegionsBeyond}
+use Rattle.mesh_below.specs.Options.{plain}
+use Rattle.mesh_join.specs.Styles.{OffsetJoin, OutlineStyle}
+use Rattle.mesh_offset.specs.Adding.{added_edges, answer_edges, in_sense}
+use Rattle.mesh_split.specs.Counting.{CountsSplits}
+use Rattle.mesh_split.specs.declared.count.SplitCount.{SplitCount}
+use Rattle.mesh_offset.specs.Counting.{CountsAttempts}
+use Rattle.mesh_offset.proofs.Adding.{adds_more}
+use Rattle.mesh_offset.proofs.Counting.{counts_more, counts_of_one, counts_weaker}
+use Rattle.mesh_offset.proofs.Resolving.{given_balanced, given_edges, given_safe, given_subjects}
+use Rattle.mesh_outline.specs.Building.{style_for}
+use Rattle.mesh_outline.specs.Kinds.{contour_kind, kind_fill, way_for}
+use Rattle.mesh_outline.specs.Nearness.{AreOutlineRegionsBeyond, GivesNear, GiveNear, IsGreatest, IsOutlineDrawing, drawn_of, edges_moved}
+use Rattle.mesh_outline.proofs.NearRegions.{give_of, outline_beyond}
+use Rattle.mesh_outline.specs.Outline.{outline_edges}
+use Rattle.mesh_outline.specs.Private.Near.{AddsGivenNear, AddsNear, AreGivenNear, ComesNear}
+use Rattle.mesh_outline.specs.Resolved.{fill_for}
+use Rattle.mesh_outline.specs.declared.kind.ContourKind.{ContourKind}
+
+-- ---- one contour
+
+-- what the overlay says of the edges that were built
+pub comes_near : (k unit : ℕ) (way : OffsetJoin) (fill : FillRule) (path : List Point) (old built ss : List SignedEdge) (choices : Choices) (answer : List (List (List Point))) →
+    old ≡ [] → ss ≡ built → choices ≡ plain → IsPermutation (added_edges old built) (outline_edges unit way path) →
+    AreRegionsBeyond k (edges_of ss) (filled fill) choices answer → ArePointsSafe unit answer → ComesNear k unit way fill path answer
+comes_near k unit way fill path old built ss choices answer e f d same beyond safe = record {
+  built = edges_of built;
+  same = rw e at same;
+  beyond = rw (f, d) at beyond;
+  safe = safe;
+}
+
+pub built_drawn : (unit : ℕ) (way : OffsetJoin) (path : List Point) (old built ss : List SignedEdge) → old ≡ [] → ss ≡ built →
+    IsPermutation (added_edges old built) (outline_edges unit way path) → IsPermutation (edges_of ss) (outline_edges unit way path)
+built_drawn unit way path old built ss e f same = rw f (rw e at same)
+
+-- the edges that are drawn of a contour of this kind
+pub drawn_kind : (unit : ℕ) (style : OutlineStyle) (kind : ContourKind) (way : OffsetJoin) (path : List Point) → kind ≡ contour_kind path → way_for style kind ≡ Some way →
+    (es : List Edge) → IsPermutation es (outline_edges unit way path) → IsPermutation es (drawn_of unit style path)
+drawn_kind unit style kind way path k moves es same =
+    subst (IsPermutation es) (ap (edges_moved unit path) (sym moves ∙ ap (way_for style) k)) same
+
+-- what a contour gives that moves in this way
+pub near_moved : (nearness unit : ℕ) (style : OutlineStyle) (kind : ContourKind) (way : OffsetJoin) (fill : FillRule) (path : List Point) (old new : List SignedEdge) →
+    kind ≡ contour_kind path → way_for style kind ≡ Some way → fill ≡ kind_fill kind →
+    AddsNear nearness unit way fill path old new → AddsGivenNear nearness unit style path old new
+near_moved nearness unit style kind way fill path old new k moves e h =
+    let own : fill ≡ fill_for (double_area path) = e ∙ ap kind_fill k in
+    let here : style_for style (double_area path) ≡ Some way = sym (ap (way_for style) k) ∙ moves in
+    let g : AddsNear nearness unit way (fill_for (double_area path)) path old new = rw own at h in
+    (in_sense (fill_for (double_area path)) (answer_edges g.0), GivesNear.moved here g.1.built g.1.same g.1.beyond, g.2)
+
+pub near_ignored : (unit : ℕ) (style : OutlineStyle) (kind : ContourKind) (path : List Point) → kind ≡ contour_kind path → way_for style kind ≡ None → GivesNear unit style path [] 0
+near_ignored unit style kind path k none = GivesNear.ignored (sym (ap (way_for style) k) ∙ none)
+
+-- ---- one contour after another
+
+-- the greater of two is the greatest of those before and the second
+greater_pushed : (k l : ℕ) (ks : List ℕ) → IsGreatest k ks → IsGreatest (max k l) (ks ++ l ∷ [])
+greater_pushed k l ks h = record {
+  most =
+      All-push (λ (x : ℕ). x ≤ max k l) ks l
+      (All-weaker (λ (x : ℕ). x ≤ k) (λ (x : ℕ). x ≤ max k l) (λ x le. omega arith) ks h.most) (omega arith);
+  reached =
+      ⊎_elim (λ (o : pos l ≤ℤ pos k). above (omega (arith, ints, o))) (λ (o : pos k ≤ℤ pos l). below (omega (arith, ints, o)))
+      (either_order (pos l) (pos k));
+}
+  where
+    above : l ≤ k → (max k l ≡ 0) ⊎ Contains (ks ++ l ∷ []) (max k l)
+    above le =
+        let e : max k l ≡ k = omega arith in
+        ⊎_elim (λ (z : k ≡ 0). inl (e ∙ z)) (λ (c : Contains ks k). inr (subst (Contains (ks ++ l ∷ [])) (sym e) (Contains-append_left ks (l ∷ []) k c))) h.reached
+
+    below : k ≤ l → (max k l ≡ 0) ⊎ Contains (ks ++ l ∷ []) (max k l)
+    below le = let e : max k l ≡ l = omega arith in inr (subst (Contains (ks ++ l ∷ [])) (sym e) (Contains-push ks l))
+
+pub near_none : (unit : ℕ) (style : OutlineStyle) → GiveNear 0 unit style [] []
+near_none unit style = record {
+  told = [];
+  each = tt;
+  joined = refl;
+  greatest = record { most = All-nil (λ (l : ℕ). l ≤ 0); reached = inl refl };
+}
+
+pub near_more : (first own unit : ℕ) (style : OutlineStyle) (paths : List (List Point)) (i : ℕ) (mid new : List SignedEdge) → i < length paths →
+    AreGivenNear first unit style (take i paths) mid → AddsGivenNear own unit style (get_or paths i []) mid new → AreGivenNear (max first own) unit style (take (i + 1) paths) new
+near_more first own unit style paths i mid new l h k = (h.0 ++ k.0, more, adds_more unit [] mid new h.0 k.0 h.2 k.2)
+  where
+    edges : List Edge × ℕ → List Edge
+    edges t = t.0
+
+    nearness : List Edge × ℕ → ℕ
+    nearness t = t.1
+
+    more : GiveNear (max first own) unit style (take (i + 1) paths) (h.0 ++ k.0)
+    more = record {
+      told = h.1.told ++ (k.0, own) ∷ [];
+      each =
+          rw (take_more paths i [] l)
+          (all_zipped_more (λ (contour : List Point) (t : List Edge × ℕ). GivesNear unit style contour t.0 t.1) (take i paths) h.1.told (get_or paths i []) (k.0, own) h.1.each k.1);
+      joined =
+          ap (λ (es : List Edge). es ++ k.0) h.1.joined ∙ ap (λ (es : List Edge). flat_map (λ (t : List Edge × ℕ). t.0) h.1.told ++ es) (sym (append-nil k.0))
+          ∙ sym (flat_map-append (λ (t : List Edge × ℕ). t.0) h.1.told ((k.0, own) ∷ []));
+      greatest =
+          subst (IsGreatest (max first own)) (sym (map-append (λ (t : List Edge × ℕ). t.1) h.1.told ((k.0, own) ∷ [])))
+          (greater_pushed first own (map (λ (t : List Edge × ℕ). t.1) h.1.told) h.1.greatest);
+    }
+
+pub near_all : (first unit : ℕ) (style : OutlineStyle) (paths : List (List Point)) (i : ℕ) (ss : List SignedEdge) → length paths ≤ i →
+    AreGivenNear first unit style (take i paths) ss → AreGivenNear first unit style paths ss
+near_all first unit style paths i ss past h = rw (take_all i paths past) at h
+
+-- the splits of one contour's own resolving were counted on
+pub counts_contour : (unit : ℕ) (style : OutlineStyle) (paths : List (List Point)) (i : ℕ) (old between new : SplitCount) → i < length paths →
+    CountsAttempts (IsOutlineDrawing unit style paths) old between →
+    CountsAttempts (λ (es : List Edge). IsPermutation es (drawn_of unit style (get_or paths i []))) between new → CountsAttempts (IsOutlineDrawing unit style paths) old new
+counts_contour unit style paths i old between new l before own =
+    counts_more (IsOutlineDrawing unit style paths) old between new before
+    (counts_weaker (λ (es : List Edge). IsPermutation es (drawn_of unit style (get_or paths i []))) (IsOutlineDrawing unit style paths)
+    (λ (es : List Edge) (same : IsPermutation es (drawn_of unit style (get_or paths i []))). IsOutlineDrawing.alone (Contains-get_or paths i [] l) same) between new own)
+
+-- ---- what is resolved at last
+
+module _ (first unit : ℕ) (style : OutlineStyle) (contours : List (List Point)) (ss held : List SignedEdge) (e : held ≡ ss) (h : AreGivenNear first unit style contours ss) where
+  -- what contours give can be resolved
+  pub near_resolvable : AreResolvable unit held
+  near_resolvable = record {
+    subject = rw e (given_subjects unit ss h.0 h.2);
+    balanced = rw e (given_balanced unit ss h.0 h.2);
+    safe = rw e (given_safe unit ss h.0 h.2);
+  }
+
+  held_edges : edges_of held ≡ proper_edges h.0
+  held_edges = ap edges_of e ∙ given_edges unit ss h.0 h.2
+
+  -- and the splits of that are counted on too
+  pub counts_last : (old between new : SplitCount) → CountsAttempts (IsOutlineDrawing unit style contours) old between →
+      CountsSplits (edges_of held) between new → CountsAttempts (IsOutlineDrawing unit style contours) old new
+  counts_last old between new before last =
+      counts_more (IsOutlineDrawing unit style contours) old between new before
+      (counts_of_one (IsOutlineDrawing unit style contours) (edges_of held) between new
+      (subst (IsOutlineDrawing unit style contours) (sym held_edges) (IsOutlineDrawing.together (give_of unit style first contours h.0 h.1))) last)
+
+-- the answer is the outline, exact beyond both distances
+pub near_outline : (unit : ℕ) → 2 ^ 14 ≤ unit → (style : OutlineStyle) (first last : ℕ) (choices : Choices) (contours : List (List Point)) (ss held : List SignedEdge) (answer : List (List (List Point))) →
+    held ≡ ss → AreGivenNear first unit style contours ss → AreRegionsBeyond last (edges_of held) (filled Positive) choices answer →
+    AreOutlineRegionsBeyond (first + last) unit style choices contours answer
+near_outline unit least style first last choices contours ss held answer e h beyond =
+    outline_beyond unit style least first last choices contours h.0 answer h.1
+    (subst (λ (es : List Edge). AreRegionsBeyond last es (filled Positive) choices answer) (ap edges_of e ∙ given_edges unit ss h.0 h.2) beyond)
