@@ -1,7 +1,6 @@
 -- Lemmas over lists: the splits of attempts, counted on.
-use Rattle.std.proofs.Common.{◌≡◌, ℕ, ◌+◌, ◌-◌, ◌<◌, ◌≤◌, ◌^◌, min, ap, sym, ◌∙◌, subst, arith, List, [], ◌∷◌, ◌++◌, length}
+use Rattle.std.proofs.Common.{◌≡◌, ℕ, ◌+◌, ◌-◌, ◌<◌, ◌^◌, min, ap, sym, ◌∙◌, arith, List, [], ◌∷◌, ◌++◌, length}
 use Rattle.std.specs.Prelude.{sum_by}
-use Rattle.std.specs.List.{All}
 use Rattle.std.proofs.lemmas.List.Elements.{All-cons, All-append}
 use Rattle.std.proofs.lemmas.List.Sums.{sum_by-append}
 use Rattle.mesh_plane.specs.Plane.{Edge}

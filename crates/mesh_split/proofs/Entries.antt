@@ -1,7 +1,7 @@
 -- Lemmas over points and lists: the entries of a map of segments by their ends, sought, put in, set and taken out. The
 -- order of the entries is any.
 use Rattle.std.proofs.Common.{◌≡◌, ⊎_elim, ◌^◌, lit≤, Bool, true, false, cond, sym, ◌∙◌, ap, subst, refl, arith, List, [], ◌∷◌, Option, Some, None, Bor}
-use Rattle.std.specs.Prelude.{ℤ, pos, ◌+ℤ◌, ◌≤ℤ◌, ◌<ℤ◌, ◌&&◌, IfSome, MatchOption}
+use Rattle.std.specs.Prelude.{ℤ, pos, ◌+ℤ◌, ◌≤ℤ◌, ◌<ℤ◌, IfSome, MatchOption}
 use Rattle.std.specs.List.{All}
 use Rattle.std.specs.List.Sorted.{IsPermutation}
 use Rattle.std.specs.Map.{lookup, keys_of, remove_entry, set_value}
@@ -16,20 +16,17 @@ use mir.Val.{to_z, of_z, SFits}
 use Rattle.mesh_plane.specs.Bounds.{IsSmall}
 use Rattle.mesh_plane.specs.Order.{point_lt}
 use Rattle.mesh_plane.specs.Plane.{Edge}
-use Rattle.mesh_plane.specs.Winding.{sum_of, same_point}
+use Rattle.mesh_plane.specs.Winding.{sum_of}
 use Rattle.mesh_plane.proofs.Sums.{sum_of_permutation}
 use Rattle.mesh_plane.proofs.Whole.{linear}
 use Rattle.mesh_lattice.specs.Split.{back, same_edge, same_ends}
 use Rattle.mesh_lattice.specs.Counted.{Counted, bit, times}
 use Rattle.mesh_split.specs.Private.Steps.{exactly, IsForward, IsTaken, IsRaised, IsNew, HaveRoom}
+use Rattle.mesh_split.specs.Private.Witnesses.{edge_eq}
 use Rattle.mesh_lattice.specs.Counted.{size}
 use Rattle.mesh_lattice.proofs.Ends.{decides_edge, decides_ends}
 use Rattle.mesh_lattice.proofs.Arithmetic.{small_kept, small_fits}
 use Rattle.mesh_lattice.proofs.Counts.{bit_least}
-
--- how the map compares its keys
-abbrev pub edge_eq : Edge → Edge → Bool
-edge_eq e f = same_point e.0 f.0 && same_point e.1 f.1
 
 opened : (e f : Edge) → same_edge e f ≡ edge_eq e f
 unfolding same_edge
@@ -43,7 +40,7 @@ equal_self e = sym (opened e e) ∙ (decides_edge e e).1 refl
 
 -- ---- edges with the lesser end first
 
-asymmetric : (a b x y : ℤ) → point_lt (a, b) (x, y) ≡ true → point_lt (x, y) (a, b) ≡ true → ⊥
+pub asymmetric : (a b x y : ℤ) → point_lt (a, b) (x, y) ≡ true → point_lt (x, y) (a, b) ≡ true → ⊥
 asymmetric a b x y h k = grind (arith, ints)
 
 pub one_forward : (e f : Edge) → IsForward e → IsForward f → same_ends e f ≡ true → e ≡ f

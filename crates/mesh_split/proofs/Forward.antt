@@ -5,23 +5,11 @@ use Rattle.std.specs.Map.{lookup}
 use Rattle.std.proofs.lemmas.Bool.{both_ways, cases_Bool}
 use Rattle.std.proofs.lemmas.Int.{ints}
 use Rattle.mesh_plane.specs.Order.{point_lt}
-use Rattle.mesh_plane.specs.Plane.{Point, Edge}
-use Rattle.mesh_lattice.specs.Split.{back, same_edge, same_ends}
-use Rattle.mesh_lattice.proofs.Ends.{decides_edge, decides_ends, ends_self, ends_sym, ends_turned, ends_along}
-use Rattle.mesh_split.specs.Private.Witnesses.{equal_edges, forward, witness_in}
-
-opened : (e f : Edge) → same_edge e f ≡ equal_edges e f
-unfolding same_edge
-opened e f = refl
-
-equal_only : (e f : Edge) → equal_edges e f ≡ true → e ≡ f
-equal_only e f h = (decides_edge e f).0 (opened e f ∙ h)
-
-equal_all : (e f : Edge) → e ≡ f → equal_edges e f ≡ true
-equal_all e f h = sym (opened e f) ∙ (decides_edge e f).1 h
-
-asymmetric : (a b x y : ℤ) → point_lt (a, b) (x, y) ≡ true → point_lt (x, y) (a, b) ≡ true → ⊥
-asymmetric a b x y h k = grind (arith, ints)
+use Rattle.mesh_plane.specs.Plane.{Edge}
+use Rattle.mesh_lattice.specs.Split.{back, same_ends}
+use Rattle.mesh_lattice.proofs.Ends.{decides_ends, ends_self, ends_sym, ends_turned, ends_along}
+use Rattle.mesh_split.proofs.Entries.{edge_equal, equal_self, asymmetric}
+use Rattle.mesh_split.specs.Private.Witnesses.{edge_eq, forward, witness_in}
 
 one_x : (a b x y : ℤ) → point_lt (a, b) (x, y) ≡ false → point_lt (x, y) (a, b) ≡ false → a ≡ x
 one_x a b x y h k = grind (arith, ints)
@@ -65,28 +53,28 @@ either_way e q h =
     sym (ends_along q (forward q) e (ap (λ (x : Edge). same_ends x e) (sym h) ∙ itself e)) ∙ ends_sym q (forward q) ∙ itself q
 
 -- forward, edges with the same ends are one, and no others
-pub forward_equal : (e q : Edge) → equal_edges (forward e) (forward q) ≡ same_ends q e
+pub forward_equal : (e q : Edge) → edge_eq (forward e) (forward q) ≡ same_ends q e
 forward_equal e q =
     ⊎_elim
     (λ (t : same_ends q e ≡ true).
     let one : forward e ≡ forward q =
     ⊎_elim (λ (p : q ≡ e). ap forward (sym p)) (λ (p : q ≡ back e). sym (forward_back e) ∙ ap forward (sym p)) ((decides_ends q e).0 t) in
-    equal_all (forward e) (forward q) one ∙ sym t)
+    ap (edge_eq (forward e)) (sym one) ∙ equal_self (forward e) ∙ sym t)
     (λ (n : same_ends q e ≡ false).
     ⊎_elim
-    (λ (t : equal_edges (forward e) (forward q) ≡ true). absurd (both_ways (same_ends q e) n (either_way e q (equal_only (forward e) (forward q) t))))
-    (λ (o : equal_edges (forward e) (forward q) ≡ false). o ∙ sym n)
-    (cases_Bool (equal_edges (forward e) (forward q))))
+    (λ (t : edge_eq (forward e) (forward q) ≡ true). absurd (both_ways (same_ends q e) n (either_way e q (edge_equal (forward e) (forward q) t))))
+    (λ (o : edge_eq (forward e) (forward q) ≡ false). o ∙ sym n)
+    (cases_Bool (edge_eq (forward e) (forward q))))
     (cases_Bool (same_ends q e))
 
 -- a witness that was noted
 pub noted : (e witness : Edge) (old new : List (Edge × Edge)) (q : Edge)
-    → lookup (equal_edges (forward q)) new ≡ cond (equal_edges (forward e) (forward q)) (Some witness) (lookup (equal_edges (forward q)) old)
+    → lookup (edge_eq (forward q)) new ≡ cond (edge_eq (forward e) (forward q)) (Some witness) (lookup (edge_eq (forward q)) old)
     → witness_in new q ≡ cond (same_ends q e) witness (witness_in old q)
 noted e witness old new q h =
-    ap (λ (o : Option Edge). unwrap_or o q) (h ∙ ap (λ (b : Bool). cond b (Some witness) (lookup (equal_edges (forward q)) old)) (forward_equal e q))
+    ap (λ (o : Option Edge). unwrap_or o q) (h ∙ ap (λ (b : Bool). cond b (Some witness) (lookup (edge_eq (forward q)) old)) (forward_equal e q))
     ∙ by (same_ends q e)
   where
-    by : (b : Bool) → unwrap_or (cond b (Some witness) (lookup (equal_edges (forward q)) old)) q ≡ cond b witness (witness_in old q)
+    by : (b : Bool) → unwrap_or (cond b (Some witness) (lookup (edge_eq (forward q)) old)) q ≡ cond b witness (witness_in old q)
     by true = refl
     by false = refl

@@ -12,7 +12,8 @@ use Rattle.mesh_lattice.specs.Split.{same_edge}
 use Rattle.mesh_lattice.specs.Counted.{Counted, bit, times}
 use Rattle.mesh_lattice.proofs.Ends.{decides_edge}
 use Rattle.mesh_split.specs.Private.Steps.{exactly, IsPut}
-use Rattle.mesh_split.proofs.Entries.{edge_eq, equal_self, found_stands, insert_put}
+use Rattle.mesh_split.specs.Private.Witnesses.{edge_eq}
+use Rattle.mesh_split.proofs.Entries.{equal_self, found_stands, insert_put}
 use Rattle.mesh_split.proofs.Filing.{positive_times}
 
 -- ends that are not found do not stand

@@ -1,13 +1,13 @@
 -- Lemmas over points and lists: the witnesses of pieces and the nearness of splits, split by split.
 use Rattle.std.proofs.Common.{◌≡◌, ◌⊎◌, inl, inr, ⊎_elim, ℕ, ◌<◌, ◌≤◌, max, ◌+◌, Bool, true, false, cond, ◌&&◌, ◌||◌, not, sym, ◌∙◌, ap, subst, refl, arith, List, [], ◌∷◌, length, take, get_or}
-use Rattle.std.specs.Prelude.{ℤ, pos, ◌<ℤ◌, map, reverse}
+use Rattle.std.specs.Prelude.{ℤ, pos, ◌<ℤ◌, map}
 use Rattle.std.specs.List.{Contains}
 use Rattle.std.proofs.lemmas.Bool.{both_ways, cases_Bool, cases_lt, or_cases, false≢true}
 use Rattle.std.proofs.lemmas.List.{take_more, take_all, reverse-append}
 use Rattle.std.proofs.lemmas.List.Elements.{Contains-append_left, Contains-append_right}
 use Rattle.mesh_plane.specs.Plane.{Point, Edge, turn}
 use Rattle.mesh_plane.proofs.Whole.{linear}
-use Rattle.mesh_lattice.specs.Nearness.{IsNearTo, WitnessedSplit, splits_of, IsSplitNear, AreSplitsNear, ReachesPast, IsNearness}
+use Rattle.mesh_lattice.specs.Nearness.{IsNearTo, WitnessedSplit, AreSplitsNear, IsNearness}
 use Rattle.mesh_lattice.specs.Split.{back, same_ends, occurs, is_end, IsInBox, IsCrossing, Meets, at_start_of_second, at_end_of_second, at_start_of_first, at_end_of_first, at_crossing, EdgeSplit, split_by, after, path, add_split, IsLegal, no_cut, split}
 use Rattle.mesh_lattice.proofs.Boxes.{meets_box, turn_start, turn_end, start_box, end_box}
 use Rattle.mesh_lattice.proofs.Ends.{decides_ends, decides_end, ends_self}
@@ -124,14 +124,16 @@ none_witnessed given = record {
 more_near : (given : List Edge) (k l : ℕ) (ts : List WitnessedSplit) → k ≤ l → AreSplitsNear given k ts → AreSplitsNear given l ts
 more_near given k l [] h near = tt
 more_near given k l (t ∷ ts) h near =
-    let n = near.0 in
-    (record {
-      is_given = n.is_given;
-      on_path = n.on_path;
-      start = near_more k l 1 t.witness t.split.ends.0 h n.start;
-      end = near_more k l 1 t.witness t.split.ends.1 h n.end;
-      at = near_more k l 1 t.witness t.split.at h n.at;
-    }, more_near given k l ts h near.1)
+    let n = near.0 in (
+      record {
+        is_given = n.is_given;
+        on_path = n.on_path;
+        start = near_more k l 1 t.witness t.split.ends.0 h n.start;
+        end = near_more k l 1 t.witness t.split.ends.1 h n.end;
+        at = near_more k l 1 t.witness t.split.at h n.at;
+      },
+      more_near given k l ts h near.1,
+    )
 
 -- a split of a segment whose witness is known, and how far its point lies from that
 pub record IsNextSplit (given : List Edge) (ks : List EdgeSplit) (witness s : Edge) (c : Point) (d : ℕ) : Type 0 where
@@ -200,7 +202,7 @@ pieces_more given ks f g k l s c less h noted before q o =
     old : (a b : Bool) → same_ends q (s.0, c) ≡ a → same_ends q (c, s.1) ≡ b → (a || b) ≡ false → IsPieceOf given (split_at s c ∷ ks) l (f q) q
     old a b x y none =
         let stood = rest (occurs q (after ks given)) (same_ends q s) (occurs s (after ks given)) (same_ends q (s.0, c) || same_ends q (c, s.1)) ((λ i. x i || y i) ∙ none)
-          (sym (occurs_cut q s c (after ks given)) ∙ o) in
+        (sym (occurs_cut q s c (after ks given)) ∙ o) in
         kept_piece given ks k l (f q) s c q less stood.1 (before q stood.0)
       where
         rest : (o n m p : Bool) → p ≡ false → ((o && not n) || (m && p)) ≡ true → (o ≡ true) × (n ≡ false)
@@ -246,13 +248,16 @@ more_witnessed given ks f g k d s c n noted h =
     record {
       witnessed = this ∷ h.witnessed;
       same = ap (λ (l : List EdgeSplit). split_at s c ∷ l) h.same;
-      near = (record {
-        is_given = own.piece.is_given;
-        on_path = subst (λ (l : List EdgeSplit). occurs s (path l (f s)) ≡ true) (sym h.same) own.piece.on_path;
-        start = own.piece.start_near;
-        end = own.piece.end_near;
-        at = own.near;
-      }, more_near given k (max k d) h.witnessed less h.near);
+      near = (
+        record {
+          is_given = own.piece.is_given;
+          on_path = subst (λ (l : List EdgeSplit). occurs s (path l (f s)) ≡ true) (sym h.same) own.piece.on_path;
+          start = own.piece.start_near;
+          end = own.piece.end_near;
+          at = own.near;
+        },
+        more_near given k (max k d) h.witnessed less h.near,
+      );
       reached = λ l under.
           ⊎_elim
           (λ (past : l < k).

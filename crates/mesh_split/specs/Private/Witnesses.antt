@@ -2,14 +2,14 @@
 use Rattle.std.specs.Prelude.{ℕ, ◌<◌, ◌≡◌, Bool, true, cond, ◌&&◌, List, [], ◌∷◌, unwrap_or}
 use Rattle.std.specs.Map.{lookup}
 use Rattle.mesh_plane.specs.Order.{point_lt}
-use Rattle.mesh_plane.specs.Plane.{Point, Edge}
+use Rattle.mesh_plane.specs.Plane.{Edge}
 use Rattle.mesh_plane.specs.Winding.{same_point}
 use Rattle.mesh_lattice.specs.Nearness.{IsNearTo, WitnessedSplit, splits_of, AreSplitsNear, ReachesPast}
 use Rattle.mesh_lattice.specs.Split.{back, occurs, IsInBox, EdgeSplit, after, path}
 
--- the same edge, as maps compare their keys
-abbrev pub equal_edges : Edge → Edge → Bool
-equal_edges e f = same_point e.0 f.0 && same_point e.1 f.1
+-- how a map compares its keys: the same edge
+abbrev pub edge_eq : Edge → Edge → Bool
+edge_eq e f = same_point e.0 f.0 && same_point e.1 f.1
 
 -- the edge with the lesser end first
 abbrev pub forward : Edge → Edge
@@ -17,7 +17,7 @@ forward e = cond (point_lt e.0 e.1) e (back e)
 
 -- the witness that is noted for a segment, or else the segment
 abbrev pub witness_in : List (Edge × Edge) → Edge → Edge
-witness_in noted e = unwrap_or (lookup (equal_edges (forward e)) noted) e
+witness_in noted e = unwrap_or (lookup (edge_eq (forward e)) noted) e
 
 -- a segment is part of the path that its witness, a given edge, has become, lies in the box of that edge and within `k`
 -- 64ths of it

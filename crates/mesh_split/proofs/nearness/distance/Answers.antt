@@ -1,10 +1,8 @@
-use Rattle.std.proofs.Common.{◌≡◌, rules, arith, ap, ◌∙◌, ◌*◌, max}
+use Rattle.std.proofs.Common.{◌≡◌, rules, arith}
 use Rattle.std.specs.Prelude.{unsigned_abs}
-use Rattle.std.specs.Int.{div_ceil}
 use mir.Syntax.{w32}
 use mir.Val.{SFits}
 use Rattle.mesh_plane.specs.Plane.{turn}
-use Rattle.mesh_split.specs.Private.Steps.{extent}
 use Rattle.mesh_split.proofs.Distances.{IsDistance, turn_small, distance_small, distance_near, distance_least}
 use Rattle.mesh_split.proofs.nearness.distance.Goals as goal
 use Rattle.mesh_split.proofs.nearness.distance.Goals.{After-div_ceil}

@@ -1,4 +1,4 @@
-use Rattle.std.proofs.Common.{subst, sym, List, []}
+use Rattle.std.proofs.Common.{subst, sym, List}
 use Rattle.mesh_lattice.specs.Counted.{Counted}
 use Rattle.mesh_split.specs.Counting.{CountsSplits}
 use Rattle.mesh_split.specs.Private.Steps.{IsPile}

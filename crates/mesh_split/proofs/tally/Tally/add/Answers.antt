@@ -3,7 +3,8 @@ use Rattle.std.specs.Prelude.{ℤ}
 use Rattle.std.specs.Map.{lookup}
 use Rattle.mesh_lattice.specs.Counted.{Counted, times}
 use Rattle.mesh_split.specs.Private.Steps.{IsRaised, HaveRoom}
-use Rattle.mesh_split.proofs.Entries.{edge_eq, absent, found_size, has_room, inserted_raised, set_where_found, forward_set}
+use Rattle.mesh_split.specs.Private.Witnesses.{edge_eq}
+use Rattle.mesh_split.proofs.Entries.{absent, found_size, has_room, inserted_raised, set_where_found, forward_set}
 use Rattle.mesh_split.proofs.tally.Tally.add.Goals as goal
 
 pub overflow_add-sum : goal.overflow_add-sum

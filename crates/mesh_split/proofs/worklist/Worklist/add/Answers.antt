@@ -3,7 +3,8 @@ use Rattle.std.specs.Prelude.{ℤ}
 use Rattle.std.specs.Map.{lookup}
 use Rattle.mesh_lattice.specs.Counted.{Counted}
 use Rattle.mesh_split.specs.Private.Steps.{IsRaised, IsNew, HaveRoom}
-use Rattle.mesh_split.proofs.Entries.{edge_eq, found_size, has_room, inserted_new, inserted_raised, set_where_found, put_where_absent, forward_set, forward_put, count_kept}
+use Rattle.mesh_split.specs.Private.Witnesses.{edge_eq}
+use Rattle.mesh_split.proofs.Entries.{found_size, has_room, inserted_new, inserted_raised, set_where_found, put_where_absent, forward_set, forward_put, count_kept}
 use Rattle.mesh_split.proofs.worklist.Worklist.add.Goals as goal
 
 pub overflow_add-sum : goal.overflow_add-sum
