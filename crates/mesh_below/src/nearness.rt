@@ -19,9 +19,9 @@ use crate::answer::int_shapes;
 use crate::below::{FillRule, Overlay, OverlayRule};
 use crate::given::lattice_edges;
 use crate::resolve::resolve_with_nearness;
-pub use mesh_split::count::{SplitCount, SplitError};
 use mesh_num::num::IntNumber;
 use mesh_num::shape::buffer::IntShapes;
+pub use mesh_split::count::{SplitCount, SplitError};
 
 /// Shapes, and how near to the given edges they are exact.
 #[derive(Debug, Drop)]

@@ -50,7 +50,7 @@ module _ (built : List Edge) (choices : Choices) (answer : List (List (List Poin
   -- where the contours wind once round what the edges that were built fill
   module _ (IsPlain : ℕ → Point → Type 0)
       (given : (m : ℕ) → 0 < m → (q : Point) → IsPlain m q →
-          winding m q (flat_map boundary (map (vertices choices.all_vertices) regions.resolution.contours)) ≡ once (filled Positive) (winding m q built)) where
+      winding m q (flat_map boundary (map (vertices choices.all_vertices) regions.resolution.contours)) ≡ once (filled Positive) (winding m q built)) where
     -- the answer winds once where the pieces wind above 0
     pub winds_above : WindsOnceWhere (wind_above pieces) IsPlain choices answer
     winds_above least forward m some q plain =

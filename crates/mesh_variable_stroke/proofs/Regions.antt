@@ -55,9 +55,7 @@ module _ (unit : ℕ) (options : ArcOptions) where
           Positive choices paths answer stroke.built stroke.same stroke.resolution
 
       sum : WindAsPieces (all_pieces unit options paths) stroke.built
-      sum =
-          built_sum (variable_stroke_edges unit options) (variable_stroke_pieces unit options)
-          (λ path m q. variable_total (crossing_on m q) (crossing_on_odd m q) unit options path) paths stroke.built stroke.same
+      sum = all_sum choices paths answer stroke
 
   -- and where the nearness of its splits is known, of regions that are exact beyond it
   pub stroke_beyond : (k : ℕ) (choices : Choices) (paths : List (List Vertex)) (answer : List (List (List Point))) (built : List Edge)
@@ -69,11 +67,9 @@ module _ (unit : ℕ) (options : ArcOptions) where
     same = refl;
     fills =
         winds_above built choices answer beyond.regions (all_pieces unit options paths)
-        (built_sum (variable_stroke_edges unit options) (variable_stroke_pieces unit options)
-        (λ path m q. variable_total (crossing_on m q) (crossing_on_odd m q) unit options path) paths built same)
+        (all_sum choices paths answer (record { built = built; same = same; resolution = beyond.regions.resolution }))
         (λ m q. IsFarFrom k m built q) beyond.exact;
-
-      sum = all_sum choices paths answer stroke
+  }
 
   -- each stroke of paths that stay safe within its greatest radius resolves edges of which this is promised
   pub stroke_resolves : (choices : Choices) (paths : List (List Vertex)) (answer : List (List (List Point)))
