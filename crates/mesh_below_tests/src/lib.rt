@@ -16,6 +16,8 @@ mod many_edges;
 #[cfg(test)]
 mod meeting_lists;
 #[cfg(test)]
+mod nearness;
+#[cfg(test)]
 mod own_boundaries;
 #[cfg(test)]
 mod parted_planes;

@@ -10,6 +10,8 @@ mod contours;
 #[cfg(test)]
 mod mitered;
 #[cfg(test)]
+mod nearness;
+#[cfg(test)]
 mod outlines;
 #[cfg(test)]
 mod pieces;

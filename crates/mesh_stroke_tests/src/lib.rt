@@ -14,6 +14,8 @@ mod drawn;
 #[cfg(test)]
 mod halves;
 #[cfg(test)]
+mod nearness;
+#[cfg(test)]
 mod pieces;
 #[cfg(test)]
 mod regions;

@@ -7,6 +7,8 @@ mod drawn;
 #[cfg(test)]
 mod edges;
 #[cfg(test)]
+mod nearness;
+#[cfg(test)]
 mod ranges;
 #[cfg(test)]
 mod sections;
