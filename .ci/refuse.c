@@ -1,6 +1,7 @@
 /* Preloaded into one run of a program, it refuses one growth of memory, that of the number REFUSE_NUMBER, and no other.
-   Growths are counted between two marks, pieces of memory of sizes that nothing else asks for, which are never refused;
-   with REFUSE_FROM_START all growths are counted. What it did it tells the standard error, in lines of one word. */
+   Growths are counted between two marks, pieces of memory of sizes that nothing else asks for, which are never refused
+   (mesh_test_support/src/marks.rt); with REFUSE_FROM_START all growths are counted. What it did it tells the standard
+   error, in lines of one word. */
 #define _GNU_SOURCE
 #include <dlfcn.h>
 #include <errno.h>
@@ -33,7 +34,9 @@ static int is_refused(size_t size)
     if (size == BEGIN || size == END) {
         is_tested = size == BEGIN;
         if (is_tested)
-            tell("marked\n", 7);
+            tell("begin\n", 6);
+        else
+            tell("end\n", 4);
         return 0;
     }
     if (!is_tested || ++counted != wanted)

@@ -1,10 +1,10 @@
-//! Tests of the service, runs of `serve` over memory and over readers and writers that fail; and of refused memory.
+//! Tests of the service, runs of `serve` over memory and over readers and writers that fail.
 #![tactic(auto)]
 
 #[cfg(test)]
-mod failing;
+mod contours;
 #[cfg(test)]
-mod memory;
+mod failing;
 #[cfg(test)]
 mod requests;
 #[cfg(test)]

@@ -1,7 +1,7 @@
 -- A path that was validated may be built.
 use Rattle.std.proofs.Common.{refl, [], ◌∷◌, lit<}
 use Rattle.mesh_variable_stroke.proofs.Reach.{each_strokable}
-use Rattle.mesh_service_tests.proofs.memory.variable_strokes.add_stroke.Goals as goal
+use Rattle.mesh_memory_tests.proofs.variable_strokes.add.Goals as goal
 
 pub build-requires : goal.build-requires
 build-requires g c =

@@ -5,7 +5,7 @@ use mir.Val.{to_z, of_z}
 use Rattle.mesh_join.specs.Styles.{style_of}
 use Rattle.mesh_outline.specs.Kinds.{kind_for}
 use Rattle.mesh_outline.proofs.Padding.{path_movable}
-use Rattle.mesh_service_tests.proofs.memory.outlines.add_outline.Goals as goal
+use Rattle.mesh_service_tests.proofs.contours.add_outline.Goals as goal
 
 pub build-requires : goal.build-requires
 build-requires g c =

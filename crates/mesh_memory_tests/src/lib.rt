@@ -1,0 +1,20 @@
+//! Tests of refused memory: each call that takes memory, with each of its growths refused in turn.
+//!
+//! A test prepares what the call needs, and its answer with memory at hand. Then it makes the call between marks, looks
+//! at what stands where it was refused, calls again with memory, and compares. `rt test` refuses nothing, so there the
+//! marked call has memory too; `.ci/refuse_memory` runs each test once for each growth between its marks, with that one
+//! refused.
+#![tactic(auto)]
+
+#[cfg(test)]
+mod corners;
+#[cfg(test)]
+mod outlines;
+#[cfg(test)]
+mod overlays;
+#[cfg(test)]
+mod service;
+#[cfg(test)]
+mod strokes;
+#[cfg(test)]
+mod variable_strokes;
