@@ -3,17 +3,21 @@
 //! With the second argument `round` so many round joins are added instead, with arcs of as many directions as the third
 //! argument tells, 8 where there is none. With the second argument `directions` the directions of so many vectors are
 //! found instead, with components of as many bits as the third argument tells, 31 where there is none. With the second
-//! argument `request` the request on standard input is answered so many times instead.
+//! argument `request` the request on standard input is answered so many times instead. With the second argument
+//! `nearness` it is answered once, with so many splits at most, any number where it is 0, and what is told is how near to
+//! the drawn edges the answer is exact.
 #![tactic(auto)]
 
 mod directions;
 mod joins;
+mod nearness;
 mod requests;
 
 ghost use Rattle.std.specs.Prelude.{◌<◌, ◌≤◌, ◌^◌};
 
 use crate::directions::find_directions;
 use crate::joins::add_joins;
+use crate::nearness::tell_nearness;
 use crate::requests::answer_again;
 use mesh_below::below::{FillRule, Overlay, OverlayRule};
 use mesh_below::checks::are_resolvable;
@@ -22,7 +26,7 @@ use mesh_below::lattice::LatticeEdge;
 use mesh_below::splitter::split_edges;
 use mesh_num::num::IntPoint;
 use mesh_num::shape::segment::{Segment, SubjectSegments};
-use mesh_offset::error::IntOutlineError;
+use mesh_offset::error::{IntNearnessError, IntOutlineError};
 use mesh_request::failure::Failure;
 use mesh_test_support::random::Random;
 use std::alloc::{AllocError, Global};
@@ -98,12 +102,14 @@ pub(crate) enum BenchError {
     Output,
     #[error("a count is no whole number")]
     Count,
-    #[error("the second argument is none of `overlay`, `round`, `directions` and `request`")]
+    #[error("the second argument is none of `overlay`, `round`, `directions`, `request` and `nearness`")]
     Family,
     #[error("the request can't be read")]
     Request,
     #[error("{0}")]
     Refused(IntOutlineError),
+    #[error("{0}")]
+    NotTold(IntNearnessError),
 }
 
 impl From<AllocError> for BenchError {
@@ -115,6 +121,12 @@ impl From<AllocError> for BenchError {
 impl From<IntOutlineError> for BenchError {
     fn from(error: IntOutlineError) -> Self {
         BenchError::Refused(error)
+    }
+}
+
+impl From<IntNearnessError> for BenchError {
+    fn from(error: IntNearnessError) -> Self {
+        BenchError::NotTold(error)
     }
 }
 
@@ -214,6 +226,7 @@ fn main(rt: HostRuntime) -> Result<(), BenchError> {
         "round" => join(&rt, count),
         "directions" => direct(&rt, count),
         "request" => answer_again(&rt, count),
+        "nearness" => tell_nearness(&rt, count),
         _ => Err(BenchError::Family),
     }
 }
