@@ -18,7 +18,8 @@ use Rattle.mesh_lattice.specs.Split.{back, occurs, same_ends}
 use Rattle.mesh_lattice.specs.declared.fill.FillRule.{FillRule}
 use Rattle.mesh_lattice.specs.declared.fill.FillRule.TheVariants.{Positive, Negative}
 use Rattle.mesh_lattice.proofs.Ends.{ends_turned}
-use Rattle.mesh_lattice.proofs.NearEdges.{far_from_through, far_less, stays_more}
+use Rattle.mesh_lattice.specs.Clean.{IsOn, refined_edge}
+use Rattle.mesh_lattice.proofs.NearEdges.{far_from_through, far_less, near_through, stays_more}
 use Rattle.mesh_lattice.proofs.Splits.{occurs_append}
 use Rattle.mesh_shapes.specs.Contours.{double_area}
 use Rattle.mesh_shapes.specs.Resolution.{Choices}
@@ -164,16 +165,21 @@ module _ (unit : ℕ) (style : OutlineStyle) where
     beyond = beyond;
     outline = record { given = given; give = give_of first contours given give; resolution = beyond.regions.resolution };
     fills = fills;
+    close = λ (e : Edge) (o : occurs e (answer_edges answer) ≡ true) (m : ℕ) (some : 0 < m) (q : Point) (on : IsOn (refined_edge m e) q).
+        let near = beyond.close e o m some q on in
+        near_through first last m some (all_drawn unit style contours) near.edge q (given_near near.edge near.listed) near.near;
   }
     where
+      given_near : (f : Edge) → occurs f (proper_edges given) ≡ true → StaysNear first (all_drawn unit style contours) f
+      given_near f o =
+          give_near contours give.told first (all_drawn unit style contours) give.each give.greatest.most (λ (e : Edge) (p : occurs e (all_drawn unit style contours) ≡ true). p) f
+          (subst (λ (es : List Edge). occurs f es ≡ true) give.joined (kept (λ (e : Edge). not (same_point e.0 e.1)) given f o))
+
       fills : WindsOnceWhere (more_fill unit style contours) (λ m q. IsFarFrom (first + last) m (all_drawn unit style contours) q) choices answer
       fills small forward m some q far =
           beyond.regions.answered small forward m q
           ∙ (beyond.exact m some q
-          (far_from_through first last m some (all_drawn unit style contours) (proper_edges given) q
-          (λ (f : Edge) (o : occurs f (proper_edges given) ≡ true).
-          give_near contours give.told first (all_drawn unit style contours) give.each give.greatest.most (λ (e : Edge) (p : occurs e (all_drawn unit style contours) ≡ true). p) f
-          (subst (λ (es : List Edge). occurs f es ≡ true) give.joined (kept (λ (e : Edge). not (same_point e.0 e.1)) given f o)))
+          (far_from_through first last m some (all_drawn unit style contours) (proper_edges given) q given_near
           far)
           ∙ ap bit
           (ap (int_lt (pos 0))

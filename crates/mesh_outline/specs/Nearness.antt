@@ -1,11 +1,12 @@
 -- Outlines that are exact away from the drawn edges. Distances are in 64ths of a grid unit.
-use Rattle.std.specs.Prelude.{ℕ, ◌≡◌, ◌⊎◌, ◌+◌, ◌≤◌, Option, Some, None, List, [], map}
+use Rattle.std.specs.Prelude.{ℕ, ◌≡◌, ◌⊎◌, ◌+◌, ◌≤◌, true, Option, Some, None, List, [], map}
 use Rattle.std.specs.List.{All, AllZip, Contains, flat_map}
 use Rattle.std.specs.List.Sorted.{IsPermutation}
 use Rattle.mesh_plane.specs.Plane.{Point, Edge}
 use Rattle.mesh_num.specs.Segments.{proper_edges}
 use Rattle.mesh_lattice.specs.FillRules.{filled}
-use Rattle.mesh_lattice.specs.Nearness.{IsFarFrom}
+use Rattle.mesh_lattice.specs.Nearness.{IsFarFrom, StaysNear}
+use Rattle.mesh_lattice.specs.Split.{occurs}
 use Rattle.mesh_lattice.specs.declared.fill.FillRule.TheVariants.{Positive}
 use Rattle.mesh_below.specs.Nearness.{AreRegionsBeyond}
 use Rattle.mesh_below.specs.Options.{plain}
@@ -68,6 +69,8 @@ pub record AreOutlineRegionsBeyond (k unit : ℕ) (style : OutlineStyle) (choice
   pub outline : IsOutline unit style choices contours answer
   pub fills : WindsOnceWhere (more_fill unit style contours)
       (λ m q. IsFarFrom k m (all_drawn unit style contours) q) choices answer
+  -- and each point of its contours lies within `k` of a drawn edge
+  pub close : (e : Edge) → occurs e (answer_edges answer) ≡ true → StaysNear k (all_drawn unit style contours) e
 
 -- edges that are resolved on the way to an outline: those that are drawn of one contour, in whatever order, and those
 -- that contours give together
