@@ -1,11 +1,11 @@
 -- Lemmas over lists: the splits of attempts, counted on.
-use Rattle.std.proofs.Common.{◌≡◌, ℕ, ◌+◌, ◌-◌, ◌<◌, ◌^◌, min, ap, sym, ◌∙◌, arith, List, [], ◌∷◌, ◌++◌, length}
+use Rattle.std.proofs.Common.{◌≡◌, ℕ, ◌+◌, ◌-◌, ◌<◌, ◌^◌, min, ap, refl, sym, ◌∙◌, arith, List, [], ◌∷◌, ◌++◌, length}
 use Rattle.std.specs.Prelude.{sum_by}
-use Rattle.std.proofs.lemmas.List.Elements.{All-cons, All-append}
+use Rattle.std.proofs.lemmas.List.Elements.{All-cons, All-append, Contains-append_right}
 use Rattle.std.proofs.lemmas.List.Sums.{sum_by-append}
 use Rattle.mesh_plane.specs.Plane.{Edge}
 use Rattle.mesh_lattice.specs.Split.{EdgeSplit, IsLegal}
-use Rattle.mesh_split.specs.Counting.{CountsSplits, counted}
+use Rattle.mesh_split.specs.Counting.{CountsSplits, CountsWith, counted}
 use Rattle.mesh_split.specs.declared.count.SplitCount.{SplitCount}
 
 none_more : (c : SplitCount) → c.made < 2 ^ 64 → c ≡ counted c 0
@@ -23,11 +23,14 @@ pub counts_none : (given : List Edge) (c : SplitCount) → c.made < 2 ^ 64 → C
 counts_none given c fits = record { attempts = []; legal = λ i d h. absurd (omega arith); sum = none_more c fits }
 
 -- one attempt
-pub counts_one : (given : List Edge) (old new : SplitCount) (ks : List EdgeSplit) → IsLegal given ks → new ≡ counted old (length ks) → CountsSplits given old new
+pub counts_one : (given : List Edge) (old new : SplitCount) (ks : List EdgeSplit) → IsLegal given ks → new ≡ counted old (length ks) → CountsWith given old new ks
 counts_one given old new ks legal same = record {
-  attempts = ks ∷ [];
-  legal = All-cons (IsLegal given) ks [] legal (λ i d h. absurd (omega arith));
-  sum = same ∙ ap (counted old) (let one : length ks ≡ sum_by length (ks ∷ []) = omega arith in one);
+  counts = record {
+    attempts = ks ∷ [];
+    legal = All-cons (IsLegal given) ks [] legal (λ i d h. absurd (omega arith));
+    sum = same ∙ ap (counted old) (let one : length ks ≡ sum_by length (ks ∷ []) = omega arith in one);
+  };
+  listed = (0, omega arith, refl);
 }
 
 -- attempts after others
@@ -40,4 +43,11 @@ counts_both given old now new first second = record {
       ∙ ap (λ (c : SplitCount). counted c (sum_by length second.attempts)) first.sum
       ∙ twice_more old (sum_by length first.attempts) (sum_by length second.attempts)
       ∙ ap (counted old) (sym (sum_by-append length first.attempts second.attempts));
+}
+
+pub counts_with : (given : List Edge) (old now new : SplitCount) (ks : List EdgeSplit) → CountsSplits given old now → CountsWith given now new ks → CountsWith given old new ks
+unfolding counts_both
+counts_with given old now new ks first second = record {
+  counts = counts_both given old now new first second.counts;
+  listed = Contains-append_right first.attempts second.counts.attempts ks second.listed;
 }

@@ -10,7 +10,9 @@ use Rattle.mesh_lattice.specs.Counted.{Counted, IsCountOf}
 use Rattle.mesh_lattice.specs.Nearness.{IsNearness}
 use Rattle.mesh_lattice.specs.Split.{back, same_ends, occurs, IsInBox, EdgeSplit, split_by, after, path, IsLegal}
 use Rattle.mesh_lattice.specs.Splitting.{Leads, IsOnward, IsPathOf, ComesFrom, IsSplitting}
-use Rattle.mesh_split.specs.Told.{IsToldSplitting}
+use Rattle.mesh_split.specs.Counting.{CountsWith}
+use Rattle.mesh_split.specs.Told.{IsCountedSplitting, IsToldSplitting}
+use Rattle.mesh_split.specs.declared.count.SplitCount.{SplitCount}
 use Rattle.mesh_split.specs.Private.Steps.{IsSettled}
 use Rattle.mesh_lattice.proofs.SafeSplits.{split_safe}
 use Rattle.mesh_lattice.proofs.Keys.{occurs_head}
@@ -159,3 +161,9 @@ pub told_of : (given : List Edge) (splits : List EdgeSplit) (ks : List Counted) 
     → ((given : List Edge) → IsLegal given splits → IsNearness given splits k) → IsToldSplitting given ks k
 unfolding splitting_of
 told_of given splits ks k proper s near = record { splitting = splitting_of given splits ks proper s; nearness = near given s.pile.reached.legal }
+
+-- the same, and that its splits were counted
+pub counted_of : (given : List Edge) (splits : List EdgeSplit) (ks : List Counted) (k : ℕ) (old new : SplitCount) → IsProper given → IsSettled given splits ks
+    → ((given : List Edge) → IsLegal given splits → IsNearness given splits k) → CountsWith given old new splits → IsCountedSplitting given old new ks k
+unfolding splitting_of told_of
+counted_of given splits ks k old new proper s near counted = record { told = told_of given splits ks k proper s near; counted = counted }

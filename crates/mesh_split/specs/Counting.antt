@@ -1,6 +1,6 @@
 -- How the splits of a call are counted, and when they pass a limit.
 use Rattle.std.specs.Prelude.{ℕ, ◌+◌, ◌-◌, ◌^◌, ◌≤◌, ◌<◌, ◌≡◌, ◌⊎◌, List, length, min, sum_by}
-use Rattle.std.specs.List.{All}
+use Rattle.std.specs.List.{All, Contains}
 use Rattle.mesh_plane.specs.Plane.{Edge}
 use Rattle.mesh_lattice.specs.Split.{EdgeSplit, IsLegal}
 use Rattle.mesh_split.specs.declared.count.SplitCount.{SplitCount}
@@ -16,6 +16,11 @@ pub record CountsSplits (given : List Edge) (old new : SplitCount) : Type 0 wher
   pub attempts : List (List EdgeSplit)
   pub legal : All (IsLegal given) attempts
   pub sum : new ≡ counted old (sum_by length attempts)
+
+-- the same, and one of the attempts made just these splits
+pub record CountsWith (given : List Edge) (old new : SplitCount) (splits : List EdgeSplit) : Type 0 where
+  pub counts : CountsSplits given old new
+  pub listed : Contains counts.attempts splits
 
 -- no limit is set, or the splits that were made do not pass it
 abbrev pub IsWithinLimit : SplitCount → Type 0

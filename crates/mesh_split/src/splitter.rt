@@ -6,9 +6,9 @@ ghost use Rattle.mesh_plane.specs.Winding.{sum_of};
 ghost use Rattle.mesh_lattice.specs.Clean.{IsProper};
 ghost use Rattle.mesh_lattice.specs.Counted.{size, IsRoomy};
 ghost use Rattle.mesh_lattice.specs.Splitting.{IsSplitting};
-ghost use Rattle.mesh_split.specs.Counting.{CountsSplits, IsReason, IsWithinLimit};
+ghost use Rattle.mesh_split.specs.Counting.{CountsSplits, CountsWith, IsReason, IsWithinLimit};
 ghost use Rattle.mesh_split.specs.Private.Steps.{IsSettled};
-ghost use Rattle.mesh_split.specs.Told.{IsToldSplitting};
+ghost use Rattle.mesh_split.specs.Told.{IsCountedSplitting, IsToldSplitting};
 
 use crate::count::{SplitCount, SplitError};
 use crate::first_pass::first_pass;
@@ -59,6 +59,8 @@ pub fn split_edges_told(
     ensures room { IfOk result (λ told. IsRoomy (sum_of size told.segments.items)) }
     ensures small { IfOk result (λ told. told.nearness ≤ 2 ^ 38) }
     ensures counted { CountsSplits edges.now count.old count.new }
+    ensures standing { IfOk result (λ told.
+        IsCountedSplitting edges.now count.old count.new told.segments.items told.nearness) }
     ensures within { OnOk result (IsWithinLimit count.new) }
     ensures refused { IfErr result (λ e. IsReason e count.new) }
 {
@@ -77,6 +79,7 @@ fn settled(
     requires { IsProper edges.now }
     ensures settled { IfOk result (λ s. IsSettled edges.now s.log s.live) }
     ensures counted { CountsSplits edges.now count.old count.new }
+    ensures standing { IfOk result (λ s. CountsWith edges.now count.old count.new s.log) }
     ensures within { OnOk result (IsWithinLimit count.new) }
     ensures refused { IfErr result (λ e. IsReason e count.new) }
 {

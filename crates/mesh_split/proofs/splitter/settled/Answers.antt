@@ -3,7 +3,7 @@ use Rattle.mesh_lattice.specs.Counted.{Counted}
 use Rattle.mesh_split.specs.Counting.{CountsSplits}
 use Rattle.mesh_split.specs.Private.Steps.{IsPile}
 use Rattle.mesh_split.specs.declared.count.SplitCount.{SplitCount}
-use Rattle.mesh_split.proofs.Counts.{counts_both}
+use Rattle.mesh_split.proofs.Counts.{counts_both, counts_with}
 use Rattle.mesh_split.proofs.Piles.{pile_settled}
 use Rattle.mesh_split.proofs.Starting.{settled_less, popped_room, popped_absent}
 use Rattle.mesh_split.proofs.splitter.settled.Goals as goal
@@ -44,12 +44,12 @@ returns-in_err-check-clause-counted c =
 pub returns-in_err-add-clause-counted : goal.returns-in_err-add-clause-counted
 returns-in_err-add-clause-counted c =
     counts_both c.args.edges.now c.args.count.now c.loop-s.count c.add.new.self c.loop-s.invariant.counted
-    (c.add.ensures.counted c.args.edges.now c.loop-s.invariant.pile.reached.legal)
+    (c.add.ensures.counted c.args.edges.now c.loop-s.invariant.pile.reached.legal).counts
 
 pub returns-clause-counted : goal.returns-clause-counted
 returns-clause-counted c =
     counts_both c.args.edges.now c.args.count.now c.loop-s.count c.add.new.self c.loop-s.invariant.counted
-    (c.add.ensures.counted c.args.edges.now c.loop-s.invariant.pile.reached.legal)
+    (c.add.ensures.counted c.args.edges.now c.loop-s.invariant.pile.reached.legal).counts
 
 pub returns-clause-settled : goal.returns-clause-settled
 returns-clause-settled c =
@@ -58,3 +58,8 @@ returns-clause-settled c =
       pile = subst (λ (todo : List Counted). IsPile c.args.edges.now s.log todo s.live) c.in_default.ensures.taken.0 c.loop-s.invariant.pile;
       clear = c.loop-s.invariant.clear;
     }
+
+pub returns-clause-standing : goal.returns-clause-standing
+returns-clause-standing c =
+    counts_with c.args.edges.now c.args.count.now c.loop-s.count c.add.new.self c.loop-s.splitter.log c.loop-s.invariant.counted
+    (c.add.ensures.counted c.args.edges.now c.loop-s.invariant.pile.reached.legal)
