@@ -1,4 +1,4 @@
--- The lines of failures, which are printed in place of an answer.
+-- Failures, and their lines, which are printed in place of an answer.
 use Rattle.std.specs.Prelude.{ℕ, List, codes}
 use Rattle.mesh_offset.specs.declared.error.IntOutlineError.TheVariants.{CoordinateOutOfRange, OutOfMemory}
 use Rattle.mesh_request.specs.declared.failure.Failure.{Failure}
@@ -10,3 +10,9 @@ failure_line Unreadable = codes "{\"unreadable\":\"request\"}\n"
 failure_line (Refused CoordinateOutOfRange) =
     codes "{\"refused\":\"mesh coordinate exceeds the integer engine range\"}\n"
 failure_line (Refused OutOfMemory) = codes "{\"refused\":\"mesh construction ran out of memory\"}\n"
+
+-- memory was refused
+abbrev pub IsOfMemory : Failure → Type 0
+IsOfMemory Unreadable = ⊥
+IsOfMemory (Refused CoordinateOutOfRange) = ⊥
+IsOfMemory (Refused OutOfMemory) = Unit {0}

@@ -1,10 +1,11 @@
 //! Values of JSON, and what is looked up in them.
 
-ghost use Rattle.std.specs.Prelude.{◌≡◌, Some, IfOk, IfErr, MatchOption, IsUtf8, false, true, option_map};
+ghost use Rattle.std.specs.Prelude.{◌≡◌, ◌<◌, Some, IfOk, IfErr, MatchOption, IsUtf8, false, true, length, option_map};
 ghost use Rattle.serde_json.specs.Find.{get, as_str};
 ghost use Rattle.serde_json.specs.Read.{read};
 ghost use Rattle.serde_json.specs.View.{view, items_view, members_view};
 ghost use Rattle.serde_json.specs.Written.{has_float as holds_float, items_have_float, members_have_float};
+ghost use Rattle.mesh_request.specs.Failures.{IsOfMemory};
 ghost use Rattle.mesh_request.specs.Reading.{coordinate_of, is_word, says as says_text, IsOfReading};
 
 use crate::coordinate::narrowed;
@@ -14,7 +15,8 @@ use serde_json::{Map, Value};
 use std::alloc::Global;
 
 /// The value that the bytes are. `Unreadable`: they are no JSON in UTF-8, or have a number that is no whole number of
-/// 64 bits, wherever it stands. `Refused` with `OutOfMemory`: memory was refused. There is no other failure.
+/// 64 bits, wherever it stands. `Refused` with `OutOfMemory`: memory was refused, and there was a byte. There is no
+/// other failure.
 pub fn parse(alloc: Global, bytes: &[u8]) -> Result<Value, Failure>
     ensures ok { IfOk result (λ v. IsUtf8 bytes.now
         × (read bytes.now ≡ Some (view v))
@@ -22,6 +24,7 @@ pub fn parse(alloc: Global, bytes: &[u8]) -> Result<Value, Failure>
     ensures unreadable { result ≡ Err Failure.Unreadable → IsUtf8 bytes.now
         → MatchOption (read bytes.now) (Unit {0}) (λ d. holds_float d ≡ true) }
     ensures err { IfErr result IsOfReading }
+    ensures memory { IfErr result (λ e. IsOfMemory e → 0 < length bytes.now) }
 {
     let value = Value::from_slice(alloc, bytes)?;
     if has_float(&value) {

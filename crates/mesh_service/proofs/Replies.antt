@@ -1,11 +1,14 @@
 -- Lemmas over lines: what is answered or told is a reply.
-use Rattle.std.proofs.Common.{◌≡◌, ◌∙◌, ◌⊎◌, inl, inr, ℕ, List, String, Global, Option, None, Some, Result, Ok, Err, IfSome, IfOk, IsOk, IsErrAnd, refl, sym, subst}
+use Rattle.std.proofs.Common.{◌≡◌, ◌∙◌, ◌⊎◌, inl, inr, ℕ, ◌<◌, List, [], ◌∷◌, length, String, Global, Option, None, Some, Result, Ok, Err, IfSome, IfOk, IfErr, IsOk, IsErrAnd, refl, sym, subst, arith, length-append}
 use Rattle.std.specs.Prelude.{string_bytes}
 use Rattle.std.proofs.lemmas.Bool.{false≢true}
 use Rattle.std.proofs.lemmas.Option.{none-some}
-use Rattle.std.specs.Io.KnownBytes.{Appends, IsAtEnd}
+use Rattle.std.specs.Io.KnownBytes.{Appends, Consumes, IsAtEnd}
+use Rattle.serde_json.specs.Data.{Data}
+use Rattle.serde_json.specs.Read.{read}
+use Rattle.serde_json.proofs.OnLiterals.{serde_json_on_literals}
 use Rattle.mesh_offset.specs.declared.error.IntOutlineError.TheVariants.{CoordinateOutOfRange, OutOfMemory}
-use Rattle.mesh_request.specs.Failures.{failure_line}
+use Rattle.mesh_request.specs.Failures.{failure_line, IsOfMemory}
 use Rattle.mesh_request.specs.Reading.{IsOfReading}
 use Rattle.mesh_request.specs.Requests.{Request}
 use Rattle.mesh_service.specs.Served.{IsAccepted}
@@ -13,24 +16,55 @@ use Rattle.mesh_service.specs.declared.service.Status.{Status}
 use Rattle.mesh_service.specs.declared.service.Status.TheVariants.{Unwritten, Unread}
 use Rattle.mesh_service.specs.declared.service.Status.TheVariants.{Refused as RefusedStatus, Unreadable as UnreadableStatus}
 use Rattle.mesh_service.specs.Private.Told.{told_line}
-use Rattle.mesh_service.specs.Serving.{IsAnswer, IsRefused, IsReply, TellsRefusal, MetRefusal, HoldsNoRequest, request_in}
+use Rattle.mesh_service.specs.Serving.{IsAnswer, IsRefused, IsReply, TellsRefusal, MetRefusal, HasBytes, HoldsNoRequest, request_in}
 use Rattle.mesh_request.specs.declared.failure.Failure.{Failure}
 use Rattle.mesh_request.specs.declared.failure.Failure.TheVariants.{Unreadable, Refused}
 
 -- the line of a failure to read is a reply
-pub reading_told : (left : Option (List ℕ)) (failure : Failure) → IsOfReading failure → IsReply left (failure_line failure)
-reading_told left Unreadable h = IsReply.unreadable
-reading_told left (Refused CoordinateOutOfRange) h = absurd h
-reading_told left (Refused OutOfMemory) h = IsReply.no_memory
+pub reading_told : (left : Option (List ℕ)) (failure : Failure) → IsOfReading failure → (IsOfMemory failure → HasBytes left) → IsReply left (failure_line failure)
+reading_told left Unreadable h memory = IsReply.unreadable
+reading_told left (Refused CoordinateOutOfRange) h memory = absurd h
+reading_told left (Refused OutOfMemory) h memory = IsReply.no_memory (memory tt)
+
+-- what was left has bytes where what was read has
+pub bytes_known : (left : Option (List ℕ)) (request : List ℕ) → IfSome left (λ xs. request ≡ xs) → 0 < length request → HasBytes left
+bytes_known None request known h = tt
+bytes_known (Some xs) request known h = subst (λ (bytes : List ℕ). 0 < length bytes) known h
+
+pub memory_known : (left : Option (List ℕ)) (request : List ℕ) (told : Result (String Global) Failure) → IfSome left (λ xs. request ≡ xs) →
+    IfErr told (λ e. IsOfMemory e → 0 < length request) → IfErr told (λ e. IsOfMemory e → HasBytes left)
+memory_known left request (Ok line) known h = tt
+memory_known left request (Err e) known h = λ memory. bytes_known left request known (h memory)
+
+-- where bytes were consumed, or more are left, there were bytes
+pub bytes_read : (old new : Option (List ℕ)) (part : List ℕ) → Consumes old new part → 0 < length part → HasBytes old
+bytes_read None new part c h = tt
+bytes_read (Some xs) None part c h = absurd c
+bytes_read (Some xs) (Some ys) part c h = subst (λ (bytes : List ℕ). 0 < length bytes) (sym c) (omega (arith, length-append part ys, h))
+
+pub bytes_left : (old new : Option (List ℕ)) (part : List ℕ) → Consumes old new part → HasBytes new → HasBytes old
+bytes_left None new part c h = tt
+bytes_left (Some xs) None part c h = absurd c
+bytes_left (Some xs) (Some ys) part c h = subst (λ (bytes : List ℕ). 0 < length bytes) (sym c) (omega (arith, length-append part ys, h))
+
+-- a text that is a value has bytes
+pub value_has_bytes : (text : List ℕ) (d : Data) → read text ≡ Some d → 0 < length text
+unfolding serde_json_on_literals
+value_has_bytes [] d e = absurd (none-some d e)
+value_has_bytes (b ∷ bytes) d e = omega arith
+
+pub has_bytes_anyway : (text : List ℕ) (told : Result (String Global) Failure) → 0 < length text → IfErr told (λ e. IsOfMemory e → 0 < length text)
+has_bytes_anyway text (Ok line) h = tt
+has_bytes_anyway text (Err e) h = λ _. h
 
 -- what answers the bytes that were left, or tells why there is no answer, is a reply
 pub responded : (left : Option (List ℕ)) (request : List ℕ) (told : Result (String Global) Failure) →
     IfSome left (λ xs. request ≡ xs) → IfOk told (λ line. IsAnswer request (string_bytes line)) → (told ≡ Err (Refused CoordinateOutOfRange) → IsRefused request) →
-    IsReply left (told_line told)
-responded left request (Ok line) known answered refused = IsReply.answer known answered
-responded left request (Err Unreadable) known answered refused = IsReply.unreadable
-responded left request (Err (Refused OutOfMemory)) known answered refused = IsReply.no_memory
-responded left request (Err (Refused CoordinateOutOfRange)) known answered refused = IsReply.refusal known (refused refl)
+    IfErr told (λ e. IsOfMemory e → 0 < length request) → IsReply left (told_line told)
+responded left request (Ok line) known answered refused memory = IsReply.answer known answered
+responded left request (Err Unreadable) known answered refused memory = IsReply.unreadable
+responded left request (Err (Refused OutOfMemory)) known answered refused memory = IsReply.no_memory (bytes_known left request known (memory tt))
+responded left request (Err (Refused CoordinateOutOfRange)) known answered refused memory = IsReply.refusal known (refused refl)
 
 -- what was left holds no request, where what was read holds none
 pub none_left : (left : Option (List ℕ)) (request : List ℕ) → IfSome left (λ xs. request ≡ xs) → HoldsNoRequest request → IfSome left HoldsNoRequest
@@ -48,11 +82,11 @@ answer_told left old new (Err failure) answered whole ok = absurd (false≢true 
 -- a refusal that was told is one that was met
 pub refusal_met : (left unread old new : Option (List ℕ)) (told : Result (String Global) Failure) →
     (told ≡ Err (Refused CoordinateOutOfRange) → (request : List ℕ) × IfSome left (λ bytes. request ≡ bytes) × IsAtEnd unread × IsRefused request) →
-    Appends old new (told_line told) → TellsRefusal told → MetRefusal left unread old new
-refusal_met left unread old new (Ok line) refused whole here = absurd here
-refusal_met left unread old new (Err Unreadable) refused whole here = absurd here
-refusal_met left unread old new (Err (Refused OutOfMemory)) refused whole here = MetRefusal.of_memory whole
-refusal_met left unread old new (Err (Refused CoordinateOutOfRange)) refused whole here =
+    IfErr told (λ e. IsOfMemory e → HasBytes left) → Appends old new (told_line told) → TellsRefusal told → MetRefusal left unread old new
+refusal_met left unread old new (Ok line) refused memory whole here = absurd here
+refusal_met left unread old new (Err Unreadable) refused memory whole here = absurd here
+refusal_met left unread old new (Err (Refused OutOfMemory)) refused memory whole here = MetRefusal.of_memory (memory tt) whole
+refusal_met left unread old new (Err (Refused CoordinateOutOfRange)) refused memory whole here =
     let (request, known, ended, is_refused) = refused refl in
     MetRefusal.of_range known ended is_refused whole
 

@@ -1,5 +1,5 @@
 -- What the service answers to a request.
-use Rattle.std.specs.Prelude.{ℕ, ◌≡◌, List, ◌++◌, Option, Some, None, Result, Ok, Err, IfSome, IsUtf8, option_and_then}
+use Rattle.std.specs.Prelude.{ℕ, ◌≡◌, ◌<◌, List, ◌++◌, length, Option, Some, None, Result, Ok, Err, IfSome, IsUtf8, option_and_then}
 use Rattle.std.specs.Prelude.{if◌then◌else◌}
 use Rattle.std.specs.Io.KnownBytes.{Appends, IsAtEnd}
 use Rattle.std.specs.Ordering.{int_cmp}
@@ -48,13 +48,18 @@ TellsRefusal (Ok line) = ⊥
 TellsRefusal (Err Unreadable) = ⊥
 TellsRefusal (Err (Refused error)) = Unit {0}
 
+-- some bytes are left, as far as they are known
+abbrev pub HasBytes : Option (List ℕ) → Type 0
+HasBytes left = IfSome left (λ bytes. 0 < length bytes)
+
 -- the lines that may be written where the reader has these bytes left, as far as they are known: an answer to them; the
--- line of a refusal, where they may not be answered; that of a want of memory; and that of what is unreadable
+-- line of a refusal, where they may not be answered; that of a want of memory, where there are any; and that of what is
+-- unreadable
 pub data IsReply (left : Option (List ℕ)) : List ℕ → Type 0 where
   answer : {request line : List ℕ} → IfSome left (λ bytes. request ≡ bytes) → IsAnswer request line → IsReply left line
   refusal : {request : List ℕ} → IfSome left (λ bytes. request ≡ bytes) → IsRefused request
       → IsReply left (failure_line (Refused CoordinateOutOfRange))
-  no_memory : IsReply left (failure_line (Refused OutOfMemory))
+  no_memory : HasBytes left → IsReply left (failure_line (Refused OutOfMemory))
   unreadable : IsReply left (failure_line Unreadable)
 
 -- known bytes grow by a beginning of the line, which is all of it, a part of it or nothing
@@ -65,8 +70,9 @@ pub record AppendsBeginning (old new : Option (List ℕ)) (line : List ℕ) : Ty
   pub appended : Appends old new written
 
 -- the refusal that a run met, where the reader had these bytes left, and these when the run ended: the request, which
--- was read to the end, may not be answered, or memory was refused; and the line of that was written whole
+-- was read to the end, may not be answered, or there were bytes and memory was refused; and the line of that was
+-- written whole
 pub data MetRefusal (left unread old new : Option (List ℕ)) : Type 0 where
   of_range : {request : List ℕ} → IfSome left (λ bytes. request ≡ bytes) → IsAtEnd unread → IsRefused request
       → Appends old new (failure_line (Refused CoordinateOutOfRange)) → MetRefusal left unread old new
-  of_memory : Appends old new (failure_line (Refused OutOfMemory)) → MetRefusal left unread old new
+  of_memory : HasBytes left → Appends old new (failure_line (Refused OutOfMemory)) → MetRefusal left unread old new

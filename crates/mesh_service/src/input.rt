@@ -2,7 +2,9 @@
 
 ghost use Rattle.std.specs.Prelude.{◌≡◌, ◌++◌, List, OnOk, IfOk, IfErr, IfSome, IsTrue};
 ghost use Rattle.std.specs.Io.KnownBytes.{Consumes, IsAtEnd};
+ghost use Rattle.mesh_request.specs.Failures.{IsOfMemory};
 ghost use Rattle.mesh_request.specs.Reading.{IsOfReading};
+ghost use Rattle.mesh_service.specs.Serving.{HasBytes};
 
 use mesh_request::failure::Failure;
 use std::alloc::Global;
@@ -12,11 +14,12 @@ use std::io::{ErrorKind, Read};
 const CHUNK: usize = 4096;
 
 /// The bytes that the reader has left, all of which are read. An error of its own makes them unreadable; memory is
-/// wanted only where a growth was refused.
+/// wanted only where there was a byte, and a growth was refused.
 pub fn read_to_end<R: Read>(alloc: Global, reader: &mut R) -> Result<Vec<u8>, Failure>
     ensures bytes { IfOk result (λ bytes. IfSome (R.remaining reader.old) (λ xs. bytes.items ≡ xs)) }
     ensures end { OnOk result (IsAtEnd (R.remaining reader.new)) }
     ensures err { IfErr result IsOfReading }
+    ensures memory { IfErr result (λ e. IsOfMemory e → HasBytes (R.remaining reader.old)) }
 {
     let mut bytes = Vec::new(alloc);
     for _ in 0..u64::MAX {
@@ -34,6 +37,7 @@ fn read_chunk<R: Read>(reader: &mut R, bytes: &mut Vec<u8>) -> Result<bool, Fail
         × (bytes.new.items ≡ bytes.old.items ++ part)
         × (IsTrue ended → IsAtEnd (R.remaining reader.new))) }
     ensures err { IfErr result IsOfReading }
+    ensures memory { IfErr result (λ e. IsOfMemory e → HasBytes (R.remaining reader.old)) }
 {
     let mut chunk = [0u8; CHUNK];
     match reader.read(&mut chunk) {

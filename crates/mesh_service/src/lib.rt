@@ -1,7 +1,8 @@
 //! Serves requests for polygon offsetting: reads one as JSON and writes one line of answer.
 //!
 //! A request is read (`input`), drawn as the library answers it (`drawing`, by `outline`, `stroke` and
-//! `variable_stroke`), put into a line (`answer`, `edge`) and written (`output`); `service` does all of it.
+//! `variable_stroke`), put into a line (`answer`, `edge`) and written (`output`); `service` does all of it. Why a text is
+//! no request is asked of `why`; `service` tells people on a stream of its own (`told`, `refusal`).
 #![tactic(auto)]
 
 pub mod answer;
@@ -11,10 +12,10 @@ pub mod input;
 pub mod outline;
 pub mod output;
 pub mod reason;
-pub mod refusal;
+mod refusal;
 pub mod service;
 pub mod stroke;
-pub mod told;
+mod told;
 pub mod variable_stroke;
 pub mod why;
 

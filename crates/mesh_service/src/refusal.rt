@@ -11,7 +11,7 @@ use std::fmt;
 
 /// Why what is asked for may not be drawn.
 #[derive(Debug, Clone, Copy, PartialEq, Eq)]
-pub enum Refusal {
+pub(crate) enum Refusal {
     /// A point leaves the safe range where it moves by the padding.
     Point(PointRefusal),
     /// The double area of the contour of this index does not fit its type.
@@ -20,15 +20,15 @@ pub enum Refusal {
 
 /// A point that leaves the safe range where it moves by the padding.
 #[derive(Debug, Clone, Copy, PartialEq, Eq)]
-pub struct PointRefusal {
+pub(crate) struct PointRefusal {
     /// The index of its path.
-    pub path: usize,
+    path: usize,
     /// Its index in the path.
-    pub point: usize,
+    point: usize,
     /// How far the style moves points at most, in grid units.
-    pub padding: i128,
+    padding: i128,
     /// The greatest coordinate of the safe range, in grid units; the least has the other sign.
-    pub limit: i128,
+    limit: i128,
 }
 
 impl fmt::Display for Refusal {
@@ -52,7 +52,7 @@ impl fmt::Display for PointRefusal {
 }
 
 /// Where what is asked for leaves the range first; `None` where it may be drawn.
-pub fn find_refusal<I: OverlayInt>(drawing: &Drawing<I>) -> Option<Refusal> {
+pub(crate) fn find_refusal<I: OverlayInt>(drawing: &Drawing<I>) -> Option<Refusal> {
     match drawing {
         Drawing::Outline(outline) => outline_refusal(outline),
         Drawing::Stroke(stroke) => stroke_refusal(stroke),

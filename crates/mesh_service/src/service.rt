@@ -1,15 +1,15 @@
 //! One run of the service, over any reader and writer.
 
-ghost use Rattle.std.specs.Prelude.{◌≡◌, ◌↔◌, ◌⊎◌, None, List, IsOk, OnOk, IfOk, IfSome, string_bytes};
+ghost use Rattle.std.specs.Prelude.{◌≡◌, ◌<◌, ◌↔◌, ◌⊎◌, None, List, length, IsOk, OnOk, IfOk, IfErr, IfSome, string_bytes};
 ghost use Rattle.std.specs.Io.KnownBytes.{Appends, IsAtEnd};
 ghost use Rattle.std.specs.Ordering.{int_cmp};
 ghost use Rattle.serde_json.specs.View.{view};
 ghost use Rattle.mesh_service.specs.Lines.{by_values};
-ghost use Rattle.mesh_request.specs.Failures.{failure_line};
+ghost use Rattle.mesh_request.specs.Failures.{failure_line, IsOfMemory};
 ghost use Rattle.mesh_request.specs.Reading.{request_as, request_of};
 ghost use Rattle.mesh_service.specs.Private.Told.{AnswersAsked, MayNotBeAnswered, told_line};
 ghost use Rattle.mesh_service.specs.Served.{IsAccepted, Answers};
-ghost use Rattle.mesh_service.specs.Serving.{IsAnswer, IsRefused, IsReply, HoldsNoRequest};
+ghost use Rattle.mesh_service.specs.Serving.{IsAnswer, IsRefused, IsReply, HasBytes, HoldsNoRequest};
 ghost use Rattle.mesh_service.specs.Serving.{AppendsBeginning, TellsRefusal, MetRefusal};
 
 use crate::answer::{edges_line, shapes_line};
@@ -179,6 +179,7 @@ fn read_and_answer<R: Read>(alloc: Global, reader: &mut R) -> Reply
     ensures unreadable { result.status ≡ Status.Unreadable → IfSome (R.remaining reader.old) HoldsNoRequest }
     ensures read { (result.status ≡ Status.Answered) ⊎ (result.status ≡ Status.Unreadable)
         → IsAtEnd (R.remaining reader.new) }
+    ensures memory { IfErr result.answer (λ e. IsOfMemory e → HasBytes (R.remaining reader.old)) }
     ensures reply { IsReply (R.remaining reader.old) (told_line result.answer) }
     ensures ends_answered { result.status ≡ Status.Answered → IsOk result.answer }
     ensures ends_refused { result.status ≡ Status.Refused → TellsRefusal result.answer }
@@ -210,12 +211,13 @@ fn read_and_answer<R: Read>(alloc: Global, reader: &mut R) -> Reply
 
 /// The line that answers a request. It is made as a whole, so that nothing is printed before memory is refused.
 /// `Unreadable`: the bytes are no request that is served. `Refused` with `CoordinateOutOfRange`: what is to be drawn
-/// does not stay in the safe range; with `OutOfMemory`: memory was refused.
+/// does not stay in the safe range; with `OutOfMemory`: memory was refused, and there was a byte.
 pub fn respond(alloc: Global, request: &[u8]) -> Result<String, Failure>
     ensures answered { IfOk result (λ line. IsAnswer request.now (string_bytes line)) }
     ensures refused { result ≡ Err (Failure.Refused IntOutlineError.CoordinateOutOfRange) → IsRefused request.now }
     ensures not_accepted { IsRefused request.now → TellsRefusal result }
     ensures unreadable { result ≡ Err Failure.Unreadable → HoldsNoRequest request.now }
+    ensures memory { IfErr result (λ e. IsOfMemory e → 0 < length request.now) }
 {
     let value = parse(alloc, request)?;
     answer(alloc, &value)

@@ -56,7 +56,7 @@ const OPTIONS: &[Key] = &[Key::MinArea, Key::Clockwise, Key::Collinear];
 
 /// Tells on a stream why a run on this request ended so, one line, and what of the request is ignored, a line each.
 /// Where memory is refused, what would need it is not told.
-pub fn tell<E: Write>(
+pub(crate) fn tell<E: Write>(
     alloc: Global,
     errors: &mut E,
     request: &Result<Vec<u8>, Failure>,

@@ -15,7 +15,7 @@ pub enum CoordinateType {
 
 impl CoordinateType {
     /// The type of this width.
-    pub fn of<I: IntNumber>() -> Self {
+    pub(crate) fn of<I: IntNumber>() -> Self {
         if widen(I::UNIT) <= 1 << 14 {
             CoordinateType::I16
         } else {
@@ -24,7 +24,7 @@ impl CoordinateType {
     }
 
     /// Its name.
-    pub fn name(self) -> &'static str {
+    fn name(self) -> &'static str {
         match self {
             CoordinateType::I16 => "i16",
             CoordinateType::I32 => "i32",
@@ -123,7 +123,7 @@ impl Problem {
 }
 
 /// What is wrong with a value that is no coordinate.
-pub fn coordinate_problem<I: IntNumber>(value: &Value) -> Problem {
+pub(crate) fn coordinate_problem<I: IntNumber>(value: &Value) -> Problem {
     match whole_number(value) {
         Some(number) => Problem::OutOfType(number, CoordinateType::of::<I>()),
         None => Problem::NoWholeNumber,

@@ -10,7 +10,7 @@ returns-clause-answered g c answered =
 pub returns-clause-refused : goal.returns-clause-refused
 returns-clause-refused g c refused =
     refusal_met (g.R.Read.remaining c.args.reader.now) (g.R.Read.remaining c.read_and_answer-reply.new.reader) _ _ c.read_and_answer-reply.result.answer
-    c.read_and_answer-reply.ensures.refused c.in-Ok.ensures.whole (c.read_and_answer-reply.ensures.ends_refused refused)
+    c.read_and_answer-reply.ensures.refused c.read_and_answer-reply.ensures.memory c.in-Ok.ensures.whole (c.read_and_answer-reply.ensures.ends_refused refused)
 
 pub returns-in-Err-clause-refused : goal.returns-in-Err-clause-refused
 returns-in-Err-clause-refused g c refused = absurd (cc)

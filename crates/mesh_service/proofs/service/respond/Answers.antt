@@ -3,7 +3,7 @@ use Rattle.std.proofs.Common.{sym, subst, rules}
 use Rattle.std.proofs.lemmas.Result.{IfOk-weaker}
 use Rattle.mesh_request.specs.Reading.{IsOfReading}
 use Rattle.mesh_service.proofs.Requested.{is_requested}
-use Rattle.mesh_service.proofs.Replies.{refusal_told, refusal_read}
+use Rattle.mesh_service.proofs.Replies.{refusal_told, refusal_read, has_bytes_anyway, value_has_bytes}
 use Rattle.mesh_service.proofs.service.respond.Goals as goal
 
 pub returns-in_err-value-clause-refused : goal.returns-in_err-value-clause-refused
@@ -41,3 +41,7 @@ returns-in_err-value-clause-not_accepted c =
 
 pub returns-clause-not_accepted : goal.returns-clause-not_accepted
 returns-clause-not_accepted c = refusal_told c.args.request.now c.answer.result (returns-clause-answered c) (search rules)
+
+pub returns-clause-memory : goal.returns-clause-memory
+returns-clause-memory c =
+    has_bytes_anyway c.args.request.now c.answer.result (value_has_bytes c.args.request.now _ c.in_ok-value.ensures.ok.1)
