@@ -18,6 +18,10 @@ pub const REFUSED: &[(&str, &str)] = &[
         r#"{"op":"variable_stroke","int":"i16","out":"edges","paths":[[[0,0,9]],[[16380,0,2],[0,16380,0]]],"style":{}}"#,
         "paths[1][0]: with the padding 5 it leaves the range from -16383 to 16383\n",
     ),
+    (
+        r#"{"op":"outline","int":"i16","out":"edges","paths":[[[0,0]],[[-16383,-16383],[16383,-16383],[16383,16383],[-16383,16383],[-16383,-16383],[16383,-16383],[16383,16383],[-16383,16383]]],"style":{"outer":0,"inner":0}}"#,
+        "paths[1]: its area is too large\n",
+    ),
 ];
 
 /// A request that is answered, and what of it is ignored.
