@@ -1,7 +1,7 @@
 /* Preloaded into one run of a program, it refuses one growth of memory, that of the number REFUSE_NUMBER, and no other.
    Growths are counted between two marks, pieces of memory of sizes that nothing else asks for, which are never refused
    (mesh_test_support/src/marks.rt); with REFUSE_FROM_START all growths are counted. What it did it tells the standard
-   error, in lines of one word. */
+   error, each time a line of one word in angles. */
 #define _GNU_SOURCE
 #include <dlfcn.h>
 #include <errno.h>
@@ -34,14 +34,14 @@ static int is_refused(size_t size)
     if (size == BEGIN || size == END) {
         is_tested = size == BEGIN;
         if (is_tested)
-            tell("begin\n", 6);
+            tell("\n<begin>\n", 9);
         else
-            tell("end\n", 4);
+            tell("\n<end>\n", 7);
         return 0;
     }
     if (!is_tested || ++counted != wanted)
         return 0;
-    tell("refused\n", 8);
+    tell("\n<refused>\n", 11);
     errno = ENOMEM;
     return 1;
 }

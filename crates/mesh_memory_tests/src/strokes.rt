@@ -95,8 +95,7 @@ fn building(rt: HostRuntime) -> Result<(), Fail> {
     let (line, style) = (path(rt.alloc(), LINES[0])?, pointed(rt.alloc())?);
     line.validate_stroke(&style)?;
     let (mut wanted, mut segments) = (one_segment(rt.alloc())?, one_segment(rt.alloc())?);
-    let mut other = StrokeBuilder::new(rt.alloc(), &style);
-    other.build(&line, false, &mut wanted)?;
+    StrokeBuilder::new(rt.alloc(), &style).build(&line, false, &mut wanted)?;
     let mut builder = StrokeBuilder::new(rt.alloc(), &style);
     marks::begin(rt.alloc())?;
     let first = builder.build(&line, false, &mut segments);

@@ -3,7 +3,7 @@ use Rattle.std.proofs.Common.{[], lit<, refl}
 use Rattle.mesh_memory_tests.proofs.strokes.building.Goals as goal
 
 pub build-requires : goal.build-requires
-build-requires c = rw (c.deref.ensures.value, c.new-other.ensures) (c.in_ok-validate_stroke.ensures.safe.0 refl 0 [] (lit< tt))
+build-requires c = rw (c.deref.ensures.value, c.new.ensures) (c.in_ok-validate_stroke.ensures.safe.0 refl 0 [] (lit< tt))
 
 pub build-first-requires : goal.build-first-requires
 build-first-requires c = rw (c.deref-2.ensures.value, c.new-builder.ensures) (c.in_ok-validate_stroke.ensures.safe.0 refl 0 [] (lit< tt))
