@@ -23,4 +23,4 @@ returns-clause-standing c =
     let k = c.in_ok-nearness.nearness in
     let told = c.in_ok-splitter.ensures in
     subst (λ (l : List Counted). IsCountedSplitting c.args.edges.now c.args.count.now c.settled.new.count l k) (sym c.in_ok-segments.ensures)
-    (counted_of c.args.edges.now s.log s.live k c.args.count.now c.settled.new.count c.requires told.settled c.in_ok-nearness.ensures told.standing)
+    (counted_of c.args.edges.now s.log s.live k c.args.count.now c.settled.new.count c.requires told.settled c.in_ok-nearness.ensures.near told.standing)
