@@ -14,3 +14,13 @@ returns-clause-regions g c =
     _ (choices_of g.I.WideUInt.WideUnsigned.value c.args.options)
     (g.Self.IntShapeResource.paths c.args.self.now) _ (edges_of c.in_ok-drawn.drawn.segments.items) c.in_ok-drawn.ensures.built.same
     (rw c.in_ok-drawn.ensures.options at c.in_ok-overlay_with_nearness.ensures.regions)
+
+pub returns-in_err-overlay_with_nearness-clause-counted : goal.returns-in_err-overlay_with_nearness-clause-counted
+returns-in_err-overlay_with_nearness-clause-counted g c =
+    counts_of_one (AreAllEdges g.I.IntNumber.unit (stroke_style_of g.I.IntNumber.value c.args.style.now) c.args.closed (g.Self.IntShapeResource.paths c.args.self.now))
+    (edges_of c.in_ok-drawn.drawn.segments.items) c.args.count.now _ c.in_ok-drawn.ensures.built.same c.overlay_with_nearness.ensures.counted
+
+pub returns-clause-counted : goal.returns-clause-counted
+returns-clause-counted g c =
+    counts_of_one (AreAllEdges g.I.IntNumber.unit (stroke_style_of g.I.IntNumber.value c.args.style.now) c.args.closed (g.Self.IntShapeResource.paths c.args.self.now))
+    (edges_of c.in_ok-drawn.drawn.segments.items) c.args.count.now _ c.in_ok-drawn.ensures.built.same c.overlay_with_nearness.ensures.counted
