@@ -1,7 +1,8 @@
 """Writes cases for the test in C: requests, and what the program answers to each.
 
-A case is a line with the number of bytes of the request, those of the program's line, and its status; then both, end
-to end.
+A case is a line of numbers: how many bytes the request has, how many the program's line, its status, how many numbers
+the drawing has; then the request, the line, and these numbers, each behind a space. They are of requests for shapes
+that are read, in the order in which `test.c` reads them; other cases have none.
 """
 
 import json
@@ -19,6 +20,9 @@ PROGRAM = ROOT / "crates/mesh_run/out/mesh_run"
 
 RANDOM_REQUESTS = 2000
 
+SECONDS = 5
+"""A request is left out where the program takes longer: splits can run on."""
+
 STRANGE = [
     b"",
     b"{",
@@ -32,6 +36,16 @@ STRANGE = [
     b'{"op":"outline","int":"i16","out":"shapes","paths":[[[0,0,0]]],"style":{"outer":1,"inner":1}}',
 ]
 
+DEFAULT_MIN_TURN = 59_652_323
+
+DEFAULT_ARC = [68_356_528, 5]
+
+KINDS = {"bevel": 0, "miter": 1, "round": 2}
+
+CAPS = {"butt": 0, "square": 1, "round": 2, "custom": 3}
+
+SIDES = {"both": 0, "left": 1, "right": 2}
+
 
 def requests():
     """The requests: the examples, strange ones, and random ones, of which each fifth asks for edges."""
@@ -42,20 +56,72 @@ def requests():
         words = random_requests.request(number)
         if number % 5 == 0:
             words["out"] = "edges"
+        elif number % 5 == 1:
+            words["options"] = {"min_area": number % 50, "clockwise": number % 2 == 0, "collinear": number % 3 == 0}
+        if words["op"] == "stroke":
+            words["style"]["side"] = list(SIDES)[number % 3]
         yield json.dumps(words).encode()
 
 
-SECONDS = 5
-"""A request is left out where the program takes longer: splits can run on."""
+def kind_of(said, kinds):
+    """The number of a kind, and what is said of it."""
+    word, more = next(iter(said.items())) if isinstance(said, dict) else (said, None)
+    return kinds[word], word, more
+
+
+def join_numbers(style):
+    """A join: its kind, the angle of a miter, the least turn of one, and an arc."""
+    number, word, more = kind_of(style.get("join", "bevel"), KINDS)
+    angle = more if word == "miter" else 0
+    return [number, angle, style.get("min_turn", DEFAULT_MIN_TURN), *(more if word == "round" else [0, 0])]
+
+
+def style_numbers(words):
+    """A style; of a stroke then the points of both custom caps."""
+    style = words["style"]
+    if words["op"] == "outline":
+        return [style["outer"], style["inner"], *join_numbers(style)]
+    if words["op"] == "variable_stroke":
+        return style.get("arc", DEFAULT_ARC)
+    numbers, points = [style["width"], *join_numbers(style)], []
+    for end in ("start", "end"):
+        number, word, more = kind_of(style.get(end, "butt"), CAPS)
+        numbers += [number, *(more if word == "round" else [0, 0])]
+        points += item_numbers(more if word == "custom" else [])
+    return numbers + [SIDES[style.get("side", "both")], int(words.get("closed", False))] + points
+
+
+def item_numbers(items):
+    """How many items there are, and the numbers of each."""
+    return [len(items)] + [number for item in items for number in item]
+
+
+def drawing_numbers(request):
+    """The numbers of a drawing, none where no shapes are asked for or the request cannot be read."""
+    try:
+        words = json.loads(request)
+        if words["out"] != "shapes" or words["paths"][0][0][2:] and words["op"] != "variable_stroke":
+            return []
+    except (ValueError, TypeError, LookupError):
+        return []
+    options = words.get("options", {})
+    chosen = [options.get("min_area", 0), int(options.get("clockwise", False)), int(options.get("collinear", False))]
+    width = {"i16": 16, "i32": 32}[words["int"]]
+    ends = [sum(map(len, words["paths"][: index + 1])) for index in range(len(words["paths"]))]
+    items = [item for path in words["paths"] for item in path]
+    operation = random_requests.OPERATIONS.index(words["op"])
+    return [operation, width, *style_numbers(words), *chosen, len(ends), *ends, *item_numbers(items)]
 
 
 def case(request):
     """A request with the program's answer, nothing where that takes too long."""
     try:
-        run = subprocess.run([PROGRAM], input=request, stdout=subprocess.PIPE, timeout=SECONDS)
+        run = subprocess.run([PROGRAM], input=request, stdout=subprocess.PIPE, stderr=subprocess.DEVNULL, timeout=SECONDS)
     except subprocess.TimeoutExpired:
         return b""
-    return b"%d %d %d\n" % (len(request), len(run.stdout), run.returncode) + request + run.stdout
+    numbers = drawing_numbers(request)
+    head = b"%d %d %d %d\n" % (len(request), len(run.stdout), run.returncode, len(numbers))
+    return head + request + run.stdout + b"".join(b" %d" % number for number in numbers) + b"\n"
 
 
 with ThreadPoolExecutor() as pool:

@@ -38,6 +38,128 @@ enum {
    MESH_MALFORMED. */
 mesh_outcome mesh_answer(const uint8_t *request, size_t request_size, uint8_t *room, size_t room_size, size_t *needed);
 
+/* ---- Drawings in arrays
+
+   Coordinates and lengths are in grid units, in 16 or 32 bits. Angles are in bits, of which 2^32 are a turn. Where a
+   number stands for nothing, as a kind that there is not, or a length that does not fit 16 bits in a call for these, a
+   call ends with MESH_MALFORMED. */
+
+typedef struct { int32_t x, y; } mesh_point_i32;         /* A point: to the east, to the north. */
+typedef struct { int16_t x, y; } mesh_point_i16;
+typedef struct { int32_t x, y, width; } mesh_vertex_i32; /* A point, and the width of a stroke there. */
+typedef struct { int16_t x, y, width; } mesh_vertex_i16;
+
+/* How finely an arc is drawn. */
+typedef struct {
+    uint32_t max_step;  /* The greatest angle between neighbouring directions: below 2^22 it counts as that, above 2^29 too. */
+    uint32_t precision; /* How near a step comes to it, from 4 to 32; what is less or more counts as these. */
+} mesh_arc;
+
+enum { MESH_BEVEL = 0, MESH_MITER = 1, MESH_ROUND = 2 };
+
+/* A join of outer corners. What its kind does not need is not looked at. */
+typedef struct {
+    uint32_t kind;           /* MESH_BEVEL, MESH_MITER or MESH_ROUND. */
+    uint32_t miter_angle;    /* The angle below which a miter is clipped. */
+    uint32_t miter_min_turn; /* The turn below which a miter is a bevel, by default MESH_MIN_TURN. */
+    mesh_arc arc;            /* The arc of a round join. */
+} mesh_join;
+
+#define MESH_MIN_TURN 59652323u /* 5 degrees, cut. */
+
+/* How contours are outlined. */
+typedef struct {
+    int32_t outer_offset; /* How far outer boundaries, which run counterclockwise, move: outwards above 0. */
+    int32_t inner_offset; /* How far holes' boundaries, which run clockwise, move: into the hole above 0. */
+    mesh_join join;
+} mesh_outline_style;
+
+enum { MESH_CAP_BUTT = 0, MESH_CAP_SQUARE = 1, MESH_CAP_ROUND = 2, MESH_CAP_CUSTOM = 3 };
+
+/* A cap of an open path. What its kind does not need is not looked at. */
+typedef struct {
+    uint32_t kind; /* One of the four kinds. The points of a custom cap are given beside the style. */
+    mesh_arc arc;  /* The arc of a round cap. */
+} mesh_cap;
+
+enum { MESH_SIDE_BOTH = 0, MESH_SIDE_LEFT = 1, MESH_SIDE_RIGHT = 2 };
+
+/* How paths are stroked. */
+typedef struct {
+    int32_t width;                /* The width; half of it is rounded up. Nothing is drawn for a width of at most 2. */
+    mesh_join join;
+    mesh_cap start_cap, end_cap;
+    uint32_t side;                /* Which side of the path is drawn. */
+    uint32_t closed;              /* Whether each path goes on from its last point to its first: 0 or 1. */
+} mesh_stroke_style;
+
+/* What shapes depend on besides what is drawn; all zero by default. */
+typedef struct {
+    uint64_t min_area;  /* Contours of less area, in squares of the grid, are left out. */
+    uint32_t clockwise; /* Whether outer contours run clockwise and holes counterclockwise: 0 or 1. */
+    uint32_t collinear; /* Whether vertices that contours run straight through stay: 0 or 1. */
+} mesh_options;
+
+/* How many items the lists of an answer have. */
+typedef struct {
+    size_t points;   /* The points of all contours. */
+    size_t contours; /* The contours of all shapes. */
+    size_t shapes;
+} mesh_shape_counts;
+
+/* Draws paths and tells the shapes.
+
+   points, vertices   what all paths have, path by path
+   ends               for each path, how many of these stand in it and before it
+   start_points, ..   the points of custom caps, round an end at (0, 0) that looks along the axis x
+   shape_points       where the points of all contours go, contour by contour; a shape is its outer contour and its holes
+   contour_ends       where it goes for each contour how many points stand in it and before it
+   shape_ends         where it goes for each shape how many contours stand in it and before it
+   counts             how many items each of these three lists has: told with MESH_ANSWERED and MESH_ROOM_TOO_SMALL, and
+                      as it was at any other outcome
+
+   With MESH_ANSWERED the three lists begin with the answer, and go on as they were. At any other outcome they are as they
+   were. MESH_MALFORMED: ends that are none, as one less than that before it, or a number that stands for nothing. */
+mesh_outcome mesh_outline_i32(
+    const mesh_point_i32 *points, size_t point_count, const size_t *ends, size_t end_count,
+    const mesh_outline_style *style, const mesh_options *options,
+    mesh_point_i32 *shape_points, size_t shape_point_room, size_t *contour_ends, size_t contour_room,
+    size_t *shape_ends, size_t shape_room, mesh_shape_counts *counts);
+
+mesh_outcome mesh_outline_i16(
+    const mesh_point_i16 *points, size_t point_count, const size_t *ends, size_t end_count,
+    const mesh_outline_style *style, const mesh_options *options,
+    mesh_point_i16 *shape_points, size_t shape_point_room, size_t *contour_ends, size_t contour_room,
+    size_t *shape_ends, size_t shape_room, mesh_shape_counts *counts);
+
+mesh_outcome mesh_stroke_i32(
+    const mesh_point_i32 *points, size_t point_count, const size_t *ends, size_t end_count,
+    const mesh_stroke_style *style,
+    const mesh_point_i32 *start_points, size_t start_point_count,
+    const mesh_point_i32 *end_points, size_t end_point_count, const mesh_options *options,
+    mesh_point_i32 *shape_points, size_t shape_point_room, size_t *contour_ends, size_t contour_room,
+    size_t *shape_ends, size_t shape_room, mesh_shape_counts *counts);
+
+mesh_outcome mesh_stroke_i16(
+    const mesh_point_i16 *points, size_t point_count, const size_t *ends, size_t end_count,
+    const mesh_stroke_style *style,
+    const mesh_point_i16 *start_points, size_t start_point_count,
+    const mesh_point_i16 *end_points, size_t end_point_count, const mesh_options *options,
+    mesh_point_i16 *shape_points, size_t shape_point_room, size_t *contour_ends, size_t contour_room,
+    size_t *shape_ends, size_t shape_room, mesh_shape_counts *counts);
+
+mesh_outcome mesh_variable_stroke_i32(
+    const mesh_vertex_i32 *vertices, size_t vertex_count, const size_t *ends, size_t end_count,
+    const mesh_arc *arc, const mesh_options *options,
+    mesh_point_i32 *shape_points, size_t shape_point_room, size_t *contour_ends, size_t contour_room,
+    size_t *shape_ends, size_t shape_room, mesh_shape_counts *counts);
+
+mesh_outcome mesh_variable_stroke_i16(
+    const mesh_vertex_i16 *vertices, size_t vertex_count, const size_t *ends, size_t end_count,
+    const mesh_arc *arc, const mesh_options *options,
+    mesh_point_i16 *shape_points, size_t shape_point_room, size_t *contour_ends, size_t contour_room,
+    size_t *shape_ends, size_t shape_room, mesh_shape_counts *counts);
+
 #ifdef __cplusplus
 }
 #endif

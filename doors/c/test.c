@@ -1,4 +1,4 @@
-/* Tests the library for C on cases: requests, and what the program answers to each.
+/* Tests the library for C on cases: requests, and what the program answers to each, as `cases.py` writes them.
 
    test CASES          every case, each in rooms of several sizes; then all of them in four threads at once
    test CASES refused  cases with each growth of memory refused in turn
@@ -7,6 +7,7 @@
 #define _POSIX_C_SOURCE 200809L
 #include <i_overlay_mesh.h>
 #include <pthread.h>
+#include <stdarg.h>
 #include <stdio.h>
 #include <stdlib.h>
 #include <string.h>
@@ -18,10 +19,30 @@ struct text {
     size_t size;
 };
 
+struct numbers {
+    int32_t *numbers;
+    size_t count;
+};
+
+enum { OUTLINE, STROKE, VARIABLE_STROKE };
+
+/* A drawing; `start` and `end` are the points of custom caps. */
+struct drawing {
+    int operation, width;
+    mesh_outline_style outline;
+    mesh_stroke_style stroke;
+    mesh_arc arc;
+    mesh_options options;
+    size_t *ends, end_count;
+    struct numbers start, end, items;
+};
+
 struct test_case {
     struct text request;
     struct text line;
     int status;
+    int is_drawn;
+    struct drawing drawing;
 };
 
 struct cases {
@@ -78,6 +99,84 @@ static struct text file_text(const char *name)
     return (struct text){bytes, size};
 }
 
+static long long number_at(const char **at)
+{
+    char *after;
+    long long number = strtoll(*at, &after, 10);
+    if (after == *at)
+        abort();
+    *at = after;
+    return number;
+}
+
+static struct numbers items_at(const char **at, size_t width)
+{
+    struct numbers items = {NULL, (size_t)number_at(at)};
+    items.numbers = taken(items.count * width * sizeof(int32_t));
+    for (size_t i = 0; i < items.count * width; i++)
+        items.numbers[i] = (int32_t)number_at(at);
+    return items;
+}
+
+static mesh_arc arc_at(const char **at)
+{
+    mesh_arc arc = {.max_step = (uint32_t)number_at(at)};
+    arc.precision = (uint32_t)number_at(at);
+    return arc;
+}
+
+static mesh_join join_at(const char **at)
+{
+    mesh_join join = {.kind = (uint32_t)number_at(at)};
+    join.miter_angle = (uint32_t)number_at(at);
+    join.miter_min_turn = (uint32_t)number_at(at);
+    join.arc = arc_at(at);
+    return join;
+}
+
+static mesh_cap cap_at(const char **at)
+{
+    mesh_cap cap = {.kind = (uint32_t)number_at(at)};
+    cap.arc = arc_at(at);
+    return cap;
+}
+
+static void read_style(struct drawing *it, const char **at)
+{
+    if (it->operation == OUTLINE) {
+        it->outline.outer_offset = (int32_t)number_at(at);
+        it->outline.inner_offset = (int32_t)number_at(at);
+        it->outline.join = join_at(at);
+    } else if (it->operation == STROKE) {
+        it->stroke.width = (int32_t)number_at(at);
+        it->stroke.join = join_at(at);
+        it->stroke.start_cap = cap_at(at);
+        it->stroke.end_cap = cap_at(at);
+        it->stroke.side = (uint32_t)number_at(at);
+        it->stroke.closed = (uint32_t)number_at(at);
+        it->start = items_at(at, 2);
+        it->end = items_at(at, 2);
+    } else {
+        it->arc = arc_at(at);
+    }
+}
+
+static struct drawing drawing_at(const char *at)
+{
+    struct drawing it = {.operation = (int)number_at(&at)};
+    it.width = (int)number_at(&at);
+    read_style(&it, &at);
+    it.options.min_area = (uint64_t)number_at(&at);
+    it.options.clockwise = (uint32_t)number_at(&at);
+    it.options.collinear = (uint32_t)number_at(&at);
+    it.end_count = (size_t)number_at(&at);
+    it.ends = taken(it.end_count * sizeof(size_t));
+    for (size_t i = 0; i < it.end_count; i++)
+        it.ends[i] = (size_t)number_at(&at);
+    it.items = items_at(&at, it.operation == VARIABLE_STROKE ? 3 : 2);
+    return it;
+}
+
 static struct cases cases_in(struct text file)
 {
     struct cases cases = {taken(sizeof(struct test_case) * 10000), 0};
@@ -85,13 +184,31 @@ static struct cases cases_in(struct text file)
     while (at < end) {
         struct test_case *it = &cases.all[cases.count++];
         int head;
-        if (sscanf((const char *)at, "%zu %zu %d%n", &it->request.size, &it->line.size, &it->status, &head) != 3)
+        size_t numbers;
+        if (sscanf((const char *)at, "%zu %zu %d %zu%n", &it->request.size, &it->line.size, &it->status, &numbers, &head) != 4)
             abort();
         it->request.bytes = at + head + 1;
         it->line.bytes = it->request.bytes + it->request.size;
         at = it->line.bytes + it->line.size;
+        it->is_drawn = numbers > 0;
+        if (it->is_drawn)
+            it->drawing = drawing_at((const char *)at);
+        at = (const uint8_t *)strchr((const char *)at, '\n') + 1;
     }
     return cases;
+}
+
+static void drop_cases(struct cases cases)
+{
+    for (size_t i = 0; i < cases.count; i++)
+        if (cases.all[i].is_drawn) {
+            struct drawing *it = &cases.all[i].drawing;
+            free(it->ends);
+            free(it->start.numbers);
+            free(it->end.numbers);
+            free(it->items.numbers);
+        }
+    free(cases.all);
 }
 
 static int status_of(mesh_outcome outcome)
@@ -157,11 +274,144 @@ static void check(const struct test_case *it, size_t size)
     free(room.block);
 }
 
+/* ---- drawings in arrays */
+
+/* The caller's lists. */
+struct lists {
+    void *points;
+    size_t *contour_ends, *shape_ends;
+    size_t point_room, contour_room, shape_room;
+    mesh_shape_counts counts;
+};
+
+struct writer {
+    char *text;
+    size_t size, room;
+};
+
+static void put(struct writer *to, const char *format, ...)
+{
+    va_list words;
+    va_start(words, format);
+    to->size += (size_t)vsnprintf(to->text + to->size, to->size < to->room ? to->room - to->size : 0, format, words);
+    va_end(words);
+}
+
+#define OF(name) name##_i32
+#include "draw.h"
+#undef OF
+#define OF(name) name##_i16
+#include "draw.h"
+#undef OF
+
+static void take_lists(struct lists *to, mesh_shape_counts room)
+{
+    to->point_room = room.points;
+    to->contour_room = room.contours;
+    to->shape_room = room.shapes;
+    to->points = taken(room.points * sizeof(mesh_point_i32));
+    to->contour_ends = taken(room.contours * sizeof(size_t));
+    to->shape_ends = taken(room.shapes * sizeof(size_t));
+    memset(to->points, MARK, room.points * sizeof(mesh_point_i32));
+    memset(to->contour_ends, MARK, room.contours * sizeof(size_t));
+    memset(to->shape_ends, MARK, room.shapes * sizeof(size_t));
+    to->counts = (mesh_shape_counts){77, 77, 77};
+}
+
+static void drop_lists(struct lists *it)
+{
+    free(it->points);
+    free(it->contour_ends);
+    free(it->shape_ends);
+}
+
+static int are_marked(const struct lists *it)
+{
+    return is_marked(it->points, it->point_room * sizeof(mesh_point_i32))
+        && is_marked((const uint8_t *)it->contour_ends, it->contour_room * sizeof(size_t))
+        && is_marked((const uint8_t *)it->shape_ends, it->shape_room * sizeof(size_t));
+}
+
+static mesh_outcome draw(const struct drawing *it, struct lists *to)
+{
+    return it->width == 32 ? draw_i32(it, to) : draw_i16(it, to);
+}
+
+/* Whether the lists have what the line of the case says. */
+static int are_answer(const struct test_case *it, const struct lists *lists)
+{
+    struct writer told = {taken(it->line.size + 1), 0, it->line.size + 1};
+    if (it->drawing.width == 32)
+        write_shapes_i32(&told, lists);
+    else
+        write_shapes_i16(&told, lists);
+    int is_same = told.size == it->line.size && !memcmp(told.text, it->line.bytes, told.size);
+    free(told.text);
+    return is_same;
+}
+
+static void check_drawing(const struct test_case *it)
+{
+    struct lists lists;
+    take_lists(&lists, (mesh_shape_counts){0, 0, 0});
+    mesh_outcome first = draw(&it->drawing, &lists);
+    mesh_shape_counts counts = lists.counts;
+    drop_lists(&lists);
+    if (first == MESH_OUT_OF_RANGE) {
+        if (it->status != 1 || counts.points != 77)
+            fail(it, "a drawing that is refused is told otherwise");
+        return;
+    }
+    if (counts.shapes && first != MESH_ROOM_TOO_SMALL)
+        fail(it, "a room for nothing is told to be large enough");
+
+    /* One item less in one of the lists, and just as many as are needed. */
+    for (int which = 0; which < 4; which++) {
+        mesh_shape_counts room = counts;
+        size_t *short_one = which == 0 ? &room.points : which == 1 ? &room.contours : which == 2 ? &room.shapes : NULL;
+        if (short_one && !(*short_one)--)
+            continue;
+        take_lists(&lists, room);
+        mesh_outcome outcome = draw(&it->drawing, &lists);
+        if (memcmp(&lists.counts, &counts, sizeof counts))
+            fail(it, "other counts are told");
+        if (short_one && (outcome != MESH_ROOM_TOO_SMALL || !are_marked(&lists)))
+            fail(it, "a list that is too small is changed, or not told");
+        if (!short_one && (outcome != MESH_ANSWERED || it->status || !are_answer(it, &lists)))
+            fail(it, "other shapes than the program's");
+        drop_lists(&lists);
+    }
+}
+
+/* A drawing whose ends are none, or whose style stands for nothing, is told as malformed. */
+static void check_malformed(const struct test_case *it)
+{
+    struct drawing wrong = it->drawing;
+    struct lists lists;
+    take_lists(&lists, (mesh_shape_counts){9, 9, 9});
+    for (int way = 0; way < 4; way++) {
+        size_t ends[2] = {way == 1 ? wrong.items.count + 1 : 2, 1};
+        wrong = it->drawing;
+        if (way < 3)
+            wrong.ends = ends, wrong.end_count = way == 0 ? 2 : way == 1 ? 1 : 0;
+        else
+            wrong.options.collinear = 2;
+        if (draw(&wrong, &lists) != MESH_MALFORMED || !are_marked(&lists) || lists.counts.points != 77)
+            fail(it, "a drawing that is none is not told as malformed");
+    }
+    drop_lists(&lists);
+}
+
+/* ---- all cases */
+
 static void *check_all(void *given)
 {
     const struct cases *cases = given;
-    for (size_t i = 0; i < cases->count; i++)
+    for (size_t i = 0; i < cases->count; i++) {
         check(&cases->all[i], cases->all[i].line.size);
+        if (cases->all[i].is_drawn)
+            check_drawing(&cases->all[i]);
+    }
     return NULL;
 }
 
@@ -205,6 +455,28 @@ static size_t check_refused(const struct test_case *it)
     }
 }
 
+/* The same of a drawing. */
+static size_t check_drawing_refused(const struct test_case *it)
+{
+    struct lists lists;
+    for (size_t number = 1;; number++) {
+        take_lists(&lists, (mesh_shape_counts){1000, 100, 100});
+        grown = 0;
+        refused = number;
+        mesh_outcome outcome = draw(&it->drawing, &lists);
+        int is_met = grown >= number;
+        refused = 0;
+        int is_answer = outcome == MESH_ANSWERED && !it->status && are_answer(it, &lists);
+        int is_told = outcome == MESH_OUT_OF_MEMORY && are_marked(&lists) && lists.counts.points == 77;
+        int is_same = outcome == MESH_ROOM_TOO_SMALL || (outcome == MESH_OUT_OF_RANGE && it->status == 1);
+        if (!is_answer && !is_same && !(is_met && is_told))
+            fail(it, "refused memory is not told of a drawing");
+        drop_lists(&lists);
+        if (!is_met)
+            return number - 1;
+    }
+}
+
 int main(int count, char **words)
 {
     if (count < 2)
@@ -212,22 +484,33 @@ int main(int count, char **words)
     struct text file = file_text(words[1]);
     struct cases cases = cases_in(file);
     if (count == 2) {
+        size_t drawn = 0;
         for (size_t i = 0; i < cases.count; i++) {
             check(&cases.all[i], 0);
             check(&cases.all[i], cases.all[i].line.size - 1);
             check(&cases.all[i], cases.all[i].line.size + 100);
+            if (cases.all[i].is_drawn && cases.all[i].drawing.items.count > 2) {
+                check_malformed(&cases.all[i]);
+                drawn++;
+            }
         }
         check_in_threads(&cases);
-        printf("C: %zu requests are answered as by the program, alone and in %d threads at once.\n", cases.count, THREADS);
+        if (!drawn)
+            return 1;
+        printf("C: %zu requests and %zu drawings in arrays are answered as by the program, in %d threads at once.\n",
+               cases.count, drawn, THREADS);
     } else {
         size_t growths = 0;
-        for (size_t i = 0; i < cases.count; i += 1 + cases.count / REFUSED_CASES)
+        for (size_t i = 0; i < cases.count; i += 1 + cases.count / REFUSED_CASES) {
             growths += check_refused(&cases.all[i]);
+            if (cases.all[i].is_drawn)
+                growths += check_drawing_refused(&cases.all[i]);
+        }
         if (!growths)
             return 1;
         printf("C: %zu growths of memory were refused, one in each call, and all told.\n", growths);
     }
-    free(cases.all);
+    drop_cases(cases);
     free((void *)file.bytes);
     return 0;
 }

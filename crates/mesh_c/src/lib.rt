@@ -1,11 +1,20 @@
-//! The calls of `mesh_flat` for C, one line each. `doors/c/mesh.h` says what a caller owes and gets.
+//! The calls of `mesh_flat` for C, one line each. `doors/c/i_overlay_mesh.h` says what a caller owes and gets.
 #![tactic(auto)]
 
-ghost use Rattle.std.specs.Prelude.{◌≡◌};
+ghost use Rattle.std.specs.Prelude.{◌≡◌, ◌^◌};
+ghost use Rattle.mesh_flat.specs.Drawings.{IsOutlineOf, IsStrokeOf, IsVariableStrokeOf};
+ghost use Rattle.mesh_flat.specs.Numbers.{point_from, vertex_from};
 ghost use Rattle.mesh_flat.specs.Outcomes.{code_of};
 ghost use Rattle.mesh_flat.specs.Replies.{Tells};
+ghost use Rattle.mesh_flat.specs.ShapeRooms.{TellsShapes};
+ghost use Rattle.mesh_flat.specs.Styles.{choices_in};
 ghost use Rattle.mesh_flat.specs.declared.outcome.Outcome.{Outcome};
 
+use mesh_flat::answer::answer;
+use mesh_flat::drawn::{outline_shapes, stroke_shapes, variable_stroke_shapes};
+use mesh_flat::options::FlatOptions;
+use mesh_flat::shapes::{ShapeCounts, hand_over_shapes};
+use mesh_flat::styles::{FlatArc, FlatOutlineStyle, FlatStrokeStyle};
 use std::alloc::Global;
 
 /// The program's line for a request, in the caller's room, and how many bytes it has.
@@ -19,5 +28,169 @@ pub extern "C" fn mesh_answer(
     ensures { (ended : Outcome) × (result ≡ code_of ended)
         × Tells request.now room.old room.new needed.new ended }
 {
-    mesh_flat::answer::answer(alloc, request, room, needed).code()
+    answer(alloc, request, room, needed).code()
+}
+
+/// The shapes of an outline, in the caller's lists, and how many items each has.
+#[unsafe(no_mangle)]
+pub extern "C" fn mesh_outline_i32(
+    alloc: Global,
+    points: &[[i32; 2]],
+    ends: &[usize],
+    style: &FlatOutlineStyle,
+    options: &FlatOptions,
+    shape_points: &mut [[i32; 2]],
+    contour_ends: &mut [usize],
+    shape_ends: &mut [usize],
+    counts: &mut ShapeCounts,
+) -> u8
+    ensures { TellsShapes (2 ^ 30) (point_from (λ z. z))
+        (IsOutlineOf (2 ^ 30) (point_from (λ z. z)) points.now ends.now style.now)
+        (choices_in (2 ^ 30) options.now)
+        (record { points = shape_points.old; contour_ends = contour_ends.old; shape_ends = shape_ends.old })
+        (record { points = shape_points.new; contour_ends = contour_ends.new; shape_ends = shape_ends.new })
+        counts.old counts.new result }
+{
+    let answer = outline_shapes(alloc, points, ends, style, options);
+    hand_over_shapes(&answer, shape_points, contour_ends, shape_ends, counts).code()
+}
+
+/// The shapes of a stroke, in the caller's lists, and how many items each has.
+#[unsafe(no_mangle)]
+pub extern "C" fn mesh_stroke_i32(
+    alloc: Global,
+    points: &[[i32; 2]],
+    ends: &[usize],
+    style: &FlatStrokeStyle,
+    start_points: &[[i32; 2]],
+    end_points: &[[i32; 2]],
+    options: &FlatOptions,
+    shape_points: &mut [[i32; 2]],
+    contour_ends: &mut [usize],
+    shape_ends: &mut [usize],
+    counts: &mut ShapeCounts,
+) -> u8
+    ensures { TellsShapes (2 ^ 30) (point_from (λ z. z))
+        (IsStrokeOf (2 ^ 30) (point_from (λ z. z)) points.now ends.now style.now start_points.now end_points.now)
+        (choices_in (2 ^ 30) options.now)
+        (record { points = shape_points.old; contour_ends = contour_ends.old; shape_ends = shape_ends.old })
+        (record { points = shape_points.new; contour_ends = contour_ends.new; shape_ends = shape_ends.new })
+        counts.old counts.new result }
+{
+    let answer = stroke_shapes(
+        alloc,
+        points,
+        ends,
+        style,
+        start_points,
+        end_points,
+        options,
+    );
+    hand_over_shapes(&answer, shape_points, contour_ends, shape_ends, counts).code()
+}
+
+/// The shapes of a stroke of variable width, in the caller's lists, and how many items each has.
+#[unsafe(no_mangle)]
+pub extern "C" fn mesh_variable_stroke_i32(
+    alloc: Global,
+    vertices: &[[i32; 3]],
+    ends: &[usize],
+    arc: &FlatArc,
+    options: &FlatOptions,
+    shape_points: &mut [[i32; 2]],
+    contour_ends: &mut [usize],
+    shape_ends: &mut [usize],
+    counts: &mut ShapeCounts,
+) -> u8
+    ensures { TellsShapes (2 ^ 30) (point_from (λ z. z))
+        (IsVariableStrokeOf (vertex_from (λ z. z)) vertices.now ends.now arc.now)
+        (choices_in (2 ^ 30) options.now)
+        (record { points = shape_points.old; contour_ends = contour_ends.old; shape_ends = shape_ends.old })
+        (record { points = shape_points.new; contour_ends = contour_ends.new; shape_ends = shape_ends.new })
+        counts.old counts.new result }
+{
+    let answer = variable_stroke_shapes(alloc, vertices, ends, arc, options);
+    hand_over_shapes(&answer, shape_points, contour_ends, shape_ends, counts).code()
+}
+
+/// The shapes of an outline, in the caller's lists, and how many items each has.
+#[unsafe(no_mangle)]
+pub extern "C" fn mesh_outline_i16(
+    alloc: Global,
+    points: &[[i16; 2]],
+    ends: &[usize],
+    style: &FlatOutlineStyle,
+    options: &FlatOptions,
+    shape_points: &mut [[i16; 2]],
+    contour_ends: &mut [usize],
+    shape_ends: &mut [usize],
+    counts: &mut ShapeCounts,
+) -> u8
+    ensures { TellsShapes (2 ^ 14) (point_from (λ z. z))
+        (IsOutlineOf (2 ^ 14) (point_from (λ z. z)) points.now ends.now style.now)
+        (choices_in (2 ^ 14) options.now)
+        (record { points = shape_points.old; contour_ends = contour_ends.old; shape_ends = shape_ends.old })
+        (record { points = shape_points.new; contour_ends = contour_ends.new; shape_ends = shape_ends.new })
+        counts.old counts.new result }
+{
+    let answer = outline_shapes(alloc, points, ends, style, options);
+    hand_over_shapes(&answer, shape_points, contour_ends, shape_ends, counts).code()
+}
+
+/// The shapes of a stroke, in the caller's lists, and how many items each has.
+#[unsafe(no_mangle)]
+pub extern "C" fn mesh_stroke_i16(
+    alloc: Global,
+    points: &[[i16; 2]],
+    ends: &[usize],
+    style: &FlatStrokeStyle,
+    start_points: &[[i16; 2]],
+    end_points: &[[i16; 2]],
+    options: &FlatOptions,
+    shape_points: &mut [[i16; 2]],
+    contour_ends: &mut [usize],
+    shape_ends: &mut [usize],
+    counts: &mut ShapeCounts,
+) -> u8
+    ensures { TellsShapes (2 ^ 14) (point_from (λ z. z))
+        (IsStrokeOf (2 ^ 14) (point_from (λ z. z)) points.now ends.now style.now start_points.now end_points.now)
+        (choices_in (2 ^ 14) options.now)
+        (record { points = shape_points.old; contour_ends = contour_ends.old; shape_ends = shape_ends.old })
+        (record { points = shape_points.new; contour_ends = contour_ends.new; shape_ends = shape_ends.new })
+        counts.old counts.new result }
+{
+    let answer = stroke_shapes(
+        alloc,
+        points,
+        ends,
+        style,
+        start_points,
+        end_points,
+        options,
+    );
+    hand_over_shapes(&answer, shape_points, contour_ends, shape_ends, counts).code()
+}
+
+/// The shapes of a stroke of variable width, in the caller's lists, and how many items each has.
+#[unsafe(no_mangle)]
+pub extern "C" fn mesh_variable_stroke_i16(
+    alloc: Global,
+    vertices: &[[i16; 3]],
+    ends: &[usize],
+    arc: &FlatArc,
+    options: &FlatOptions,
+    shape_points: &mut [[i16; 2]],
+    contour_ends: &mut [usize],
+    shape_ends: &mut [usize],
+    counts: &mut ShapeCounts,
+) -> u8
+    ensures { TellsShapes (2 ^ 14) (point_from (λ z. z))
+        (IsVariableStrokeOf (vertex_from (λ z. z)) vertices.now ends.now arc.now)
+        (choices_in (2 ^ 14) options.now)
+        (record { points = shape_points.old; contour_ends = contour_ends.old; shape_ends = shape_ends.old })
+        (record { points = shape_points.new; contour_ends = contour_ends.new; shape_ends = shape_ends.new })
+        counts.old counts.new result }
+{
+    let answer = variable_stroke_shapes(alloc, vertices, ends, arc, options);
+    hand_over_shapes(&answer, shape_points, contour_ends, shape_ends, counts).code()
 }

@@ -1,1 +1,6 @@
+pub mod Adding
+pub mod Asked
+pub mod EndToEnd
+pub mod Readings
 pub mod Replies
+pub mod ShapeLists

@@ -1,3 +1,10 @@
+pub mod Answers
+pub mod Drawings
+pub mod EndToEnd
+pub mod Numbers
 pub mod Outcomes
+pub mod Private
 pub mod Replies
 pub mod Rooms
+pub mod ShapeRooms
+pub mod Styles

@@ -3,5 +3,12 @@
 #![tactic(auto)]
 
 pub mod answer;
+pub mod drawing;
+pub mod drawn;
+pub mod lists;
+pub mod numbers;
+pub mod options;
 pub mod outcome;
 pub mod room;
+pub mod shapes;
+pub mod styles;

@@ -1,0 +1,7 @@
+-- Lemmas over results: a failure that is handed on.
+use Rattle.std.proofs.Common.{◌≡◌, Result, Ok, Err, IsErrAnd, sym, subst}
+use Rattle.std.specs.Prelude.{MatchResult}
+
+pub failure_matches : {A E : Type 0} (told : Result A E) (failure : E) (P : A → Type 0) (Q : E → Type 0) → IsErrAnd told (λ e. e ≡ failure) → Q failure → MatchResult told P Q
+failure_matches (Ok x) failure P Q same q = absurd same
+failure_matches (Err e) failure P Q same q = subst Q (sym same) q

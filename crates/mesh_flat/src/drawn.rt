@@ -1,0 +1,88 @@
+//! What is drawn of lists and numbers, as lists of shapes.
+
+ghost use Rattle.std.specs.Prelude.{◌≡◌};
+ghost use Rattle.mesh_flat.specs.Answers.{IsShapesAnswer};
+ghost use Rattle.mesh_flat.specs.Drawings.{IsOutlineOf, IsStrokeOf, IsVariableStrokeOf};
+ghost use Rattle.mesh_flat.specs.Styles.{choices_in};
+ghost use Rattle.mesh_request.specs.Requests.{drawn_of};
+
+use crate::drawing::{outline, stroke, variable_stroke};
+use crate::numbers::Flat;
+use crate::options::FlatOptions;
+use crate::shapes::FlatShapes;
+use crate::styles::{FlatArc, FlatOutlineStyle, FlatStrokeStyle};
+use mesh_join::style::IntStrokeVertex;
+use mesh_num::num::{IntPoint, OverlayInt};
+use mesh_request::drawing::Drawing;
+use mesh_request::failure::Failure;
+use std::alloc::Global;
+
+/// The shapes of the outline of contours that stand end to end in `points`. `Unreadable`: there is no such drawing, or
+/// the options stand for none. `Refused`, with `CoordinateOutOfRange`: what is drawn would pass the safe range; with
+/// `OutOfMemory`: memory was refused.
+pub fn outline_shapes<I: OverlayInt, P: Flat<Item = IntPoint<I>>>(
+    alloc: Global,
+    points: &[P],
+    ends: &[usize],
+    style: &FlatOutlineStyle,
+    options: &FlatOptions,
+) -> Result<FlatShapes<P>, Failure>
+    ensures { IsShapesAnswer I.unit P.item_of (IsOutlineOf I.unit P.item_of points.now ends.now style.now)
+        (choices_in I.unit options.now) result }
+{
+    let drawing = outline(alloc, points, ends, style)?;
+    shapes(alloc, &drawing, options)
+}
+
+/// The shapes of the stroke of paths that stand end to end in `points`. It fails as `outline_shapes` does.
+pub fn stroke_shapes<I: OverlayInt, P: Flat<Item = IntPoint<I>>>(
+    alloc: Global,
+    points: &[P],
+    ends: &[usize],
+    style: &FlatStrokeStyle,
+    start_points: &[P],
+    end_points: &[P],
+    options: &FlatOptions,
+) -> Result<FlatShapes<P>, Failure>
+    ensures { IsShapesAnswer I.unit P.item_of
+        (IsStrokeOf I.unit P.item_of points.now ends.now style.now start_points.now end_points.now)
+        (choices_in I.unit options.now) result }
+{
+    let drawing = stroke(alloc, points, ends, style, start_points, end_points)?;
+    shapes(alloc, &drawing, options)
+}
+
+/// The shapes of the stroke of paths of vertices that stand end to end in `vertices`. It fails as `outline_shapes` does.
+pub fn variable_stroke_shapes<
+    I: OverlayInt,
+    V: Flat<Item = IntStrokeVertex<I>>,
+    P: Flat<Item = IntPoint<I>>,
+>(
+    alloc: Global,
+    vertices: &[V],
+    ends: &[usize],
+    arc: &FlatArc,
+    options: &FlatOptions,
+) -> Result<FlatShapes<P>, Failure>
+    ensures { IsShapesAnswer I.unit P.item_of (IsVariableStrokeOf V.item_of vertices.now ends.now arc.now)
+        (choices_in I.unit options.now) result }
+{
+    let drawing = variable_stroke(alloc, vertices, ends, arc)?;
+    shapes(alloc, &drawing, options)
+}
+
+/// The shapes that are drawn.
+fn shapes<I: OverlayInt, P: Flat<Item = IntPoint<I>>>(
+    alloc: Global,
+    drawing: &Drawing<I>,
+    options: &FlatOptions,
+) -> Result<FlatShapes<P>, Failure>
+    ensures { IsShapesAnswer I.unit P.item_of (λ drawn. drawn ≡ drawn_of I.value drawing.now)
+        (choices_in I.unit options.now) result }
+{
+    let Some(options) = options.options::<I>() else {
+        return Err(Failure::Unreadable);
+    };
+    let shapes = mesh_service::drawing::shapes(alloc, drawing, options)?;
+    Ok(FlatShapes::of(alloc, &shapes)?)
+}
