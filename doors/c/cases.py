@@ -1,8 +1,8 @@
 """Writes cases for the test in C: requests, and what the program answers to each.
 
 A case is a line of numbers: how many bytes the request has, how many the program's line, its status, how many numbers
-the drawing has; then the request, the line, and these numbers, each behind a space. They are of requests for shapes
-that are read, in the order in which `test.c` reads them; other cases have none.
+the drawing has; then the request, the line, and these numbers, each behind a space. They are of requests that are read,
+in the order in which `test.c` reads them; other cases have none.
 """
 
 import json
@@ -97,20 +97,16 @@ def item_numbers(items):
 
 
 def drawing_numbers(request):
-    """The numbers of a drawing, none where no shapes are asked for or the request cannot be read."""
-    try:
-        words = json.loads(request)
-        if words["out"] != "shapes" or words["paths"][0][0][2:] and words["op"] != "variable_stroke":
-            return []
-    except (ValueError, TypeError, LookupError):
-        return []
+    """The numbers of a drawing."""
+    words = json.loads(request)
     options = words.get("options", {})
     chosen = [options.get("min_area", 0), int(options.get("clockwise", False)), int(options.get("collinear", False))]
     width = {"i16": 16, "i32": 32}[words["int"]]
     ends = [sum(map(len, words["paths"][: index + 1])) for index in range(len(words["paths"]))]
     items = [item for path in words["paths"] for item in path]
     operation = random_requests.OPERATIONS.index(words["op"])
-    return [operation, width, *style_numbers(words), *chosen, len(ends), *ends, *item_numbers(items)]
+    out = ["shapes", "edges"].index(words["out"])
+    return [operation, width, out, *style_numbers(words), *chosen, len(ends), *ends, *item_numbers(items)]
 
 
 def case(request):
@@ -119,7 +115,7 @@ def case(request):
         run = subprocess.run([PROGRAM], input=request, stdout=subprocess.PIPE, stderr=subprocess.DEVNULL, timeout=SECONDS)
     except subprocess.TimeoutExpired:
         return b""
-    numbers = drawing_numbers(request)
+    numbers = drawing_numbers(request) if run.returncode != 2 else []
     head = b"%d %d %d %d\n" % (len(request), len(run.stdout), run.returncode, len(numbers))
     return head + request + run.stdout + b"".join(b" %d" % number for number in numbers) + b"\n"
 

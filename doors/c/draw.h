@@ -17,7 +17,7 @@ static void *OF(vertices)(const int32_t *numbers, size_t count)
     return vertices;
 }
 
-static mesh_outcome OF(draw)(const struct drawing *it, struct lists *to)
+static mesh_outcome OF(draw_shapes)(const struct drawing *it, struct lists *to)
 {
     int is_variable = it->operation == VARIABLE_STROKE;
     void *items = (is_variable ? OF(vertices) : OF(points))(it->items.numbers, it->items.count);
@@ -46,6 +46,57 @@ static mesh_outcome OF(draw)(const struct drawing *it, struct lists *to)
     return outcome;
 }
 
+static mesh_outcome OF(draw_edges)(const struct drawing *it, struct edge_lists *to)
+{
+    int is_variable = it->operation == VARIABLE_STROKE;
+    void *items = (is_variable ? OF(vertices) : OF(points))(it->items.numbers, it->items.count);
+    void *start = OF(points)(it->start.numbers, it->start.count);
+    void *end = OF(points)(it->end.numbers, it->end.count);
+    mesh_outcome outcome;
+    switch (it->operation) {
+    case OUTLINE:
+        outcome = OF(mesh_outline_edges)(items, it->items.count, it->ends, it->end_count, &it->outline,
+                                         to->edges, to->edge_room, to->path_ends, to->path_room, &to->counts);
+        break;
+    case STROKE:
+        outcome = OF(mesh_stroke_edges)(items, it->items.count, it->ends, it->end_count, &it->stroke,
+                                        start, it->start.count, end, it->end.count,
+                                        to->edges, to->edge_room, to->path_ends, to->path_room, &to->counts);
+        break;
+    default:
+        outcome = OF(mesh_variable_stroke_edges)(items, it->items.count, it->ends, it->end_count, &it->arc,
+                                                 to->edges, to->edge_room, to->path_ends, to->path_room, &to->counts);
+    }
+    free(items);
+    free(start);
+    free(end);
+    return outcome;
+}
+
+static mesh_outcome OF(validate)(const struct drawing *it, int64_t *padding)
+{
+    int is_variable = it->operation == VARIABLE_STROKE;
+    void *items = (is_variable ? OF(vertices) : OF(points))(it->items.numbers, it->items.count);
+    void *start = OF(points)(it->start.numbers, it->start.count);
+    void *end = OF(points)(it->end.numbers, it->end.count);
+    mesh_outcome outcome;
+    switch (it->operation) {
+    case OUTLINE:
+        outcome = OF(mesh_validate_outline)(items, it->items.count, it->ends, it->end_count, &it->outline, padding);
+        break;
+    case STROKE:
+        outcome = OF(mesh_validate_stroke)(items, it->items.count, it->ends, it->end_count, &it->stroke,
+                                           start, it->start.count, end, it->end.count, padding);
+        break;
+    default:
+        outcome = OF(mesh_validate_variable_stroke)(items, it->items.count, it->ends, it->end_count, &it->arc, padding);
+    }
+    free(items);
+    free(start);
+    free(end);
+    return outcome;
+}
+
 static void OF(write_shapes)(struct writer *to, const struct lists *from)
 {
     const OF(mesh_point) *points = from->points;
@@ -59,6 +110,21 @@ static void OF(write_shapes)(struct writer *to, const struct lists *from)
                 put(to, "%s[%d,%d]", point > begin ? "," : "", points[point].x, points[point].y);
             put(to, "]");
         }
+        put(to, "]");
+    }
+    put(to, "]}\n");
+}
+
+static void OF(write_edges)(struct writer *to, const struct edge_lists *from)
+{
+    const OF(mesh_edge) *edges = from->edges;
+    size_t edge = 0;
+    put(to, "{\"edges\":[");
+    for (size_t path = 0; path < from->counts.paths; path++) {
+        put(to, path ? ",[" : "[");
+        for (size_t begin = edge; edge < from->path_ends[path]; edge++)
+            put(to, "%s[[%d,%d],[%d,%d]]", edge > begin ? "," : "", edges[edge].start.x, edges[edge].start.y,
+                edges[edge].end.x, edges[edge].end.y);
         put(to, "]");
     }
     put(to, "]}\n");

@@ -38,6 +38,12 @@ enum {
    MESH_MALFORMED. */
 mesh_outcome mesh_answer(const uint8_t *request, size_t request_size, uint8_t *room, size_t room_size, size_t *needed);
 
+/* Tells why bytes hold no request that the program serves.
+
+   MESH_MALFORMED: they hold none, and the room has a text that says why and where, without a line feed. MESH_ANSWERED: they
+   hold one, and `needed` is 0. Rooms and sizes are as with mesh_answer. */
+mesh_outcome mesh_why(const uint8_t *request, size_t request_size, uint8_t *room, size_t room_size, size_t *needed);
+
 /* ---- Drawings in arrays
 
    Coordinates and lengths are in grid units, in 16 or 32 bits. Angles are in bits, of which 2^32 are a turn. Where a
@@ -48,6 +54,8 @@ typedef struct { int32_t x, y; } mesh_point_i32;         /* A point: to the east
 typedef struct { int16_t x, y; } mesh_point_i16;
 typedef struct { int32_t x, y, width; } mesh_vertex_i32; /* A point, and the width of a stroke there. */
 typedef struct { int16_t x, y, width; } mesh_vertex_i16;
+typedef struct { mesh_point_i32 start, end; } mesh_edge_i32; /* A directed edge. */
+typedef struct { mesh_point_i16 start, end; } mesh_edge_i16;
 
 /* How finely an arc is drawn. */
 typedef struct {
@@ -107,6 +115,11 @@ typedef struct {
     size_t shapes;
 } mesh_shape_counts;
 
+typedef struct {
+    size_t edges; /* The edges of all paths. */
+    size_t paths;
+} mesh_edge_counts;
+
 /* Draws paths and tells the shapes.
 
    points, vertices   what all paths have, path by path
@@ -159,6 +172,77 @@ mesh_outcome mesh_variable_stroke_i16(
     const mesh_arc *arc, const mesh_options *options,
     mesh_point_i16 *shape_points, size_t shape_point_room, size_t *contour_ends, size_t contour_room,
     size_t *shape_ends, size_t shape_room, mesh_shape_counts *counts);
+
+/* Draws each path and tells its edges, sorted by their starts and then by their ends. All is as with shapes, but
+
+   edges       where the edges of all paths go, path by path
+   path_ends   where it goes for each path how many edges stand in it and before it */
+mesh_outcome mesh_outline_edges_i32(
+    const mesh_point_i32 *points, size_t point_count, const size_t *ends, size_t end_count,
+    const mesh_outline_style *style,
+    mesh_edge_i32 *edges, size_t edge_room, size_t *path_ends, size_t path_room, mesh_edge_counts *counts);
+
+mesh_outcome mesh_outline_edges_i16(
+    const mesh_point_i16 *points, size_t point_count, const size_t *ends, size_t end_count,
+    const mesh_outline_style *style,
+    mesh_edge_i16 *edges, size_t edge_room, size_t *path_ends, size_t path_room, mesh_edge_counts *counts);
+
+mesh_outcome mesh_stroke_edges_i32(
+    const mesh_point_i32 *points, size_t point_count, const size_t *ends, size_t end_count,
+    const mesh_stroke_style *style,
+    const mesh_point_i32 *start_points, size_t start_point_count,
+    const mesh_point_i32 *end_points, size_t end_point_count,
+    mesh_edge_i32 *edges, size_t edge_room, size_t *path_ends, size_t path_room, mesh_edge_counts *counts);
+
+mesh_outcome mesh_stroke_edges_i16(
+    const mesh_point_i16 *points, size_t point_count, const size_t *ends, size_t end_count,
+    const mesh_stroke_style *style,
+    const mesh_point_i16 *start_points, size_t start_point_count,
+    const mesh_point_i16 *end_points, size_t end_point_count,
+    mesh_edge_i16 *edges, size_t edge_room, size_t *path_ends, size_t path_room, mesh_edge_counts *counts);
+
+mesh_outcome mesh_variable_stroke_edges_i32(
+    const mesh_vertex_i32 *vertices, size_t vertex_count, const size_t *ends, size_t end_count,
+    const mesh_arc *arc,
+    mesh_edge_i32 *edges, size_t edge_room, size_t *path_ends, size_t path_room, mesh_edge_counts *counts);
+
+mesh_outcome mesh_variable_stroke_edges_i16(
+    const mesh_vertex_i16 *vertices, size_t vertex_count, const size_t *ends, size_t end_count,
+    const mesh_arc *arc,
+    mesh_edge_i16 *edges, size_t edge_room, size_t *path_ends, size_t path_room, mesh_edge_counts *counts);
+
+/* Tells whether each point of a drawing, moved by the padding of its style, stays in the safe range, in which all
+   coordinates lie between -2^14 and 2^14 in 16 bits, and between -2^30 and 2^30 in 32: MESH_ANSWERED where it does,
+   MESH_OUT_OF_RANGE where not.
+
+   padding   how far the style moves points at most, in each coordinate: told at both of these outcomes */
+mesh_outcome mesh_validate_outline_i32(
+    const mesh_point_i32 *points, size_t point_count, const size_t *ends, size_t end_count,
+    const mesh_outline_style *style, int64_t *padding);
+
+mesh_outcome mesh_validate_outline_i16(
+    const mesh_point_i16 *points, size_t point_count, const size_t *ends, size_t end_count,
+    const mesh_outline_style *style, int64_t *padding);
+
+mesh_outcome mesh_validate_stroke_i32(
+    const mesh_point_i32 *points, size_t point_count, const size_t *ends, size_t end_count,
+    const mesh_stroke_style *style,
+    const mesh_point_i32 *start_points, size_t start_point_count,
+    const mesh_point_i32 *end_points, size_t end_point_count, int64_t *padding);
+
+mesh_outcome mesh_validate_stroke_i16(
+    const mesh_point_i16 *points, size_t point_count, const size_t *ends, size_t end_count,
+    const mesh_stroke_style *style,
+    const mesh_point_i16 *start_points, size_t start_point_count,
+    const mesh_point_i16 *end_points, size_t end_point_count, int64_t *padding);
+
+mesh_outcome mesh_validate_variable_stroke_i32(
+    const mesh_vertex_i32 *vertices, size_t vertex_count, const size_t *ends, size_t end_count,
+    const mesh_arc *arc, int64_t *padding);
+
+mesh_outcome mesh_validate_variable_stroke_i16(
+    const mesh_vertex_i16 *vertices, size_t vertex_count, const size_t *ends, size_t end_count,
+    const mesh_arc *arc, int64_t *padding);
 
 #ifdef __cplusplus
 }

@@ -28,7 +28,7 @@ enum { OUTLINE, STROKE, VARIABLE_STROKE };
 
 /* A drawing; `start` and `end` are the points of custom caps. */
 struct drawing {
-    int operation, width;
+    int operation, width, for_edges;
     mesh_outline_style outline;
     mesh_stroke_style stroke;
     mesh_arc arc;
@@ -165,6 +165,7 @@ static struct drawing drawing_at(const char *at)
 {
     struct drawing it = {.operation = (int)number_at(&at)};
     it.width = (int)number_at(&at);
+    it.for_edges = (int)number_at(&at);
     read_style(&it, &at);
     it.options.min_area = (uint64_t)number_at(&at);
     it.options.clockwise = (uint32_t)number_at(&at);
@@ -276,7 +277,15 @@ static void check(const struct test_case *it, size_t size)
 
 /* ---- drawings in arrays */
 
-/* The caller's lists. */
+/* The caller's lists for edges. */
+struct edge_lists {
+    void *edges;
+    size_t *path_ends;
+    size_t edge_room, path_room;
+    mesh_edge_counts counts;
+};
+
+/* The caller's lists for shapes. */
 struct lists {
     void *points;
     size_t *contour_ends, *shape_ends;
@@ -334,7 +343,7 @@ static int are_marked(const struct lists *it)
 
 static mesh_outcome draw(const struct drawing *it, struct lists *to)
 {
-    return it->width == 32 ? draw_i32(it, to) : draw_i16(it, to);
+    return it->width == 32 ? draw_shapes_i32(it, to) : draw_shapes_i16(it, to);
 }
 
 /* Whether the lists have what the line of the case says. */
@@ -383,6 +392,56 @@ static void check_drawing(const struct test_case *it)
     }
 }
 
+static void take_edge_lists(struct edge_lists *to, mesh_edge_counts room)
+{
+    to->edge_room = room.edges;
+    to->path_room = room.paths;
+    to->edges = taken(room.edges * sizeof(mesh_edge_i32));
+    to->path_ends = taken(room.paths * sizeof(size_t));
+    memset(to->edges, MARK, room.edges * sizeof(mesh_edge_i32));
+    memset(to->path_ends, MARK, room.paths * sizeof(size_t));
+    to->counts = (mesh_edge_counts){77, 77};
+}
+
+/* Edges in lists of this size. Returns how many there are. */
+static mesh_edge_counts check_edges_in(const struct test_case *it, mesh_edge_counts room)
+{
+    int is_wide = it->drawing.width == 32;
+    struct edge_lists lists;
+    take_edge_lists(&lists, room);
+    mesh_outcome outcome = (is_wide ? draw_edges_i32 : draw_edges_i16)(&it->drawing, &lists);
+    int is_unchanged = is_marked(lists.edges, room.edges * sizeof(mesh_edge_i32))
+        && is_marked((uint8_t *)lists.path_ends, room.paths * sizeof(size_t));
+    if (outcome == MESH_ANSWERED) {
+        struct writer told = {taken(it->line.size + 1), 0, it->line.size + 1};
+        (is_wide ? write_edges_i32 : write_edges_i16)(&told, &lists);
+        if (it->status || told.size != it->line.size || memcmp(told.text, it->line.bytes, told.size))
+            fail(it, "other edges than the program's");
+        free(told.text);
+    } else if (outcome == MESH_OUT_OF_RANGE) {
+        if (it->status != 1 || lists.counts.edges != 77 || !is_unchanged)
+            fail(it, "edges that are refused are told otherwise");
+        lists.counts = (mesh_edge_counts){0, 0};
+    } else if (outcome != MESH_ROOM_TOO_SMALL || !is_unchanged
+               || (room.edges >= lists.counts.edges && room.paths >= lists.counts.paths)) {
+        fail(it, "a list of edges that is too small is changed, or not told");
+    }
+    free(lists.edges);
+    free(lists.path_ends);
+    return lists.counts;
+}
+
+/* Edges in lists of just their size, and in those that are too small for one item. */
+static void check_edges(const struct test_case *it)
+{
+    mesh_edge_counts counts = check_edges_in(it, (mesh_edge_counts){0, 0});
+    check_edges_in(it, counts);
+    if (counts.edges)
+        check_edges_in(it, (mesh_edge_counts){counts.edges - 1, counts.paths});
+    if (counts.paths)
+        check_edges_in(it, (mesh_edge_counts){counts.edges, counts.paths - 1});
+}
+
 /* A drawing whose ends are none, or whose style stands for nothing, is told as malformed. */
 static void check_malformed(const struct test_case *it)
 {
@@ -402,6 +461,35 @@ static void check_malformed(const struct test_case *it)
     drop_lists(&lists);
 }
 
+/* A drawing that is drawn stays in range, and its padding is told. */
+static void check_range(const struct test_case *it)
+{
+    int64_t padding = -77;
+    mesh_outcome outcome = (it->drawing.width == 32 ? validate_i32 : validate_i16)(&it->drawing, &padding);
+    if (padding < 0 || (it->status == 0 && outcome != MESH_ANSWERED) || outcome > MESH_OUT_OF_RANGE)
+        fail(it, "another range than the program's");
+    if (it->status == 1 && outcome != MESH_OUT_OF_RANGE && it->drawing.operation != OUTLINE)
+        fail(it, "a drawing that is refused is told to stay in range");
+}
+
+/* There is a reason exactly where the program takes a request for none. */
+static void check_why(const struct test_case *it)
+{
+    struct room small = room_of(0), room = room_of(1000);
+    size_t needed = 77, told = 77;
+    mesh_outcome first = mesh_why(it->request.bytes, it->request.size, small.block + MARGIN, 0, &needed);
+    mesh_outcome outcome = mesh_why(it->request.bytes, it->request.size, room.block + MARGIN, room.size, &told);
+    struct text reason = {room.block + MARGIN, told};
+    if (outcome != (it->status == 2 ? MESH_MALFORMED : MESH_ANSWERED) || needed != told || !told != (it->status != 2))
+        fail(it, "a reason too few or too many");
+    if (first != (told ? MESH_ROOM_TOO_SMALL : MESH_ANSWERED) || !holds(small, (struct text){small.block, 0}))
+        fail(it, "a room that is too small for the reason is changed, or not told");
+    if (!holds(room, reason))
+        fail(it, "a reason is longer than told");
+    free(small.block);
+    free(room.block);
+}
+
 /* ---- all cases */
 
 static void *check_all(void *given)
@@ -410,7 +498,7 @@ static void *check_all(void *given)
     for (size_t i = 0; i < cases->count; i++) {
         check(&cases->all[i], cases->all[i].line.size);
         if (cases->all[i].is_drawn)
-            check_drawing(&cases->all[i]);
+            (cases->all[i].drawing.for_edges ? check_edges : check_drawing)(&cases->all[i]);
     }
     return NULL;
 }
@@ -489,6 +577,9 @@ int main(int count, char **words)
             check(&cases.all[i], 0);
             check(&cases.all[i], cases.all[i].line.size - 1);
             check(&cases.all[i], cases.all[i].line.size + 100);
+            check_why(&cases.all[i]);
+            if (cases.all[i].is_drawn)
+                check_range(&cases.all[i]);
             if (cases.all[i].is_drawn && cases.all[i].drawing.items.count > 2) {
                 check_malformed(&cases.all[i]);
                 drawn++;
@@ -503,7 +594,7 @@ int main(int count, char **words)
         size_t growths = 0;
         for (size_t i = 0; i < cases.count; i += 1 + cases.count / REFUSED_CASES) {
             growths += check_refused(&cases.all[i]);
-            if (cases.all[i].is_drawn)
+            if (cases.all[i].is_drawn && !cases.all[i].drawing.for_edges)
                 growths += check_drawing_refused(&cases.all[i]);
         }
         if (!growths)

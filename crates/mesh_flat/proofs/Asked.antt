@@ -1,46 +1,45 @@
 -- Lemmas over drawings: what is answered to a call.
-use Rattle.std.proofs.Common.{◌≡◌, ℕ, ◌⊎◌, inl, inr, List, Option, Some, None, Result, Ok, Err, IsErrAnd, refl, sym, subst}
-use Rattle.mesh_plane.specs.Plane.{Point}
+use Rattle.std.proofs.Common.{◌≡◌, ℕ, ◌⊎◌, inl, inr, Option, Result, Ok, Err, IsErrAnd, refl, sym, subst}
+use Rattle.std.specs.Prelude.{ℤ}
+use Rattle.std.specs.declared.cmp.Ordering.{Ordering}
+use Rattle.mesh_plane.specs.Plane.{Point, Edge}
 use Rattle.mesh_shapes.specs.Resolution.{Choices}
-use Rattle.mesh_offset.specs.declared.error.IntOutlineError.{IntOutlineError}
 use Rattle.mesh_offset.specs.declared.error.IntOutlineError.TheVariants.{CoordinateOutOfRange, OutOfMemory}
 use Rattle.mesh_request.specs.Reading.{IsOfReading}
 use Rattle.mesh_request.specs.Requests.{Drawn}
 use Rattle.mesh_request.specs.declared.failure.Failure.{Failure}
 use Rattle.mesh_request.specs.declared.failure.Failure.TheVariants.{Unreadable, Refused}
-use Rattle.mesh_service.specs.Served.{MayBeDrawn}
-use Rattle.mesh_flat.specs.Answers.{AnswersShapes, IsRefusedDrawing, IsShapesAnswer}
+use Rattle.mesh_flat.specs.Answers.{AnswersEdges, AnswersShapes, IsAnswerTo}
+use Rattle.mesh_flat.specs.declared.lists.FlatLists.{FlatLists}
 use Rattle.mesh_flat.specs.declared.shapes.FlatShapes.{FlatShapes}
 
--- a failure that is handed on is told
-pub handed_on : {F : Type 0} (unit : ℕ) (point_of : F → Point) (asks : Drawn → Type 0) (choices : Option Choices) (told : Result (FlatShapes F) Failure) (failure : Failure) →
-    IsErrAnd told (λ e. e ≡ failure) → IsShapesAnswer {F = F} unit point_of asks choices (Err failure) → IsShapesAnswer unit point_of asks choices told
-handed_on unit point_of asks choices (Ok flat) failure same answer = absurd same
-handed_on {F} unit point_of asks choices (Err e) failure same answer =
-    subst (λ (f : Failure). IsShapesAnswer {F = F} unit point_of asks choices (Err f)) (sym same) answer
-
 -- a failure to read a drawing
-told_reading : {F : Type 0} (unit : ℕ) (point_of : F → Point) (asks : Drawn → Type 0) (choices : Option Choices) (failure : Failure) → IsOfReading failure →
-    (failure ≡ Unreadable → (drawn : Drawn) → asks drawn → ⊥) → IsShapesAnswer {F = F} unit point_of asks choices (Err failure)
-told_reading unit point_of asks choices Unreadable reading none = inl (none refl)
-told_reading unit point_of asks choices (Refused CoordinateOutOfRange) reading none = absurd reading
-told_reading unit point_of asks choices (Refused OutOfMemory) reading none = tt
+told_reading : {A : Type 0} (May asks : Drawn → Type 0) (missing : Type 0) (answers : A → Type 0) (failure : Failure) → IsOfReading failure →
+    (failure ≡ Unreadable → (drawn : Drawn) → asks drawn → ⊥) → IsAnswerTo May asks missing answers (Err failure)
+told_reading May asks missing answers Unreadable reading none = inl (none refl)
+told_reading May asks missing answers (Refused CoordinateOutOfRange) reading none = absurd reading
+told_reading May asks missing answers (Refused OutOfMemory) reading none = tt
 
-pub reading_failed : {F : Type 0} (unit : ℕ) (point_of : F → Point) (asks : Drawn → Type 0) (choices : Option Choices) (told : Result (FlatShapes F) Failure) (failure : Failure) →
-    IsErrAnd told (λ e. e ≡ failure) → IsOfReading failure → (failure ≡ Unreadable → (drawn : Drawn) → asks drawn → ⊥) → IsShapesAnswer unit point_of asks choices told
-reading_failed {F} unit point_of asks choices told failure same reading none =
-    handed_on unit point_of asks choices told failure same (told_reading {F = F} unit point_of asks choices failure reading none)
-
--- a failure to draw
-pub drawing_failed : {F : Type 0} (unit : ℕ) (point_of : F → Point) (drawn : Drawn) (choices : Option Choices) (error : IntOutlineError) →
-    (error ≡ CoordinateOutOfRange → MayBeDrawn unit drawn → ⊥) → IsShapesAnswer {F = F} unit point_of (λ d. d ≡ drawn) choices (Err (Refused error))
-drawing_failed unit point_of drawn choices CoordinateOutOfRange refused = record { drawn = drawn; asked = refl; refused = refused refl }
-drawing_failed unit point_of drawn choices OutOfMemory refused = tt
+-- that is handed on
+pub reading_failed : {A : Type 0} (May asks : Drawn → Type 0) (missing : Type 0) (answers : A → Type 0) (told : Result A Failure) (failure : Failure) →
+    IsErrAnd told (λ e. e ≡ failure) → IsOfReading failure → (failure ≡ Unreadable → (drawn : Drawn) → asks drawn → ⊥) → IsAnswerTo May asks missing answers told
+reading_failed May asks missing answers (Ok answer) failure same reading none = absurd same
+reading_failed May asks missing answers (Err e) failure same reading none =
+    subst (λ (f : Failure). IsAnswerTo May asks missing answers (Err f)) (sym same) (told_reading May asks missing answers failure reading none)
 
 -- what answers for the drawing that is asked for
-pub answer_asked : {F : Type 0} (unit : ℕ) (point_of : F → Point) (asks : Drawn → Type 0) (drawn : Drawn) (choices : Option Choices) (told : Result (FlatShapes F) Failure) →
-    asks drawn → IsShapesAnswer unit point_of (λ d. d ≡ drawn) choices told → IsShapesAnswer unit point_of asks choices told
-answer_asked unit point_of asks drawn choices (Ok flat) here answer = record {
+pub answer_asked : {A : Type 0} (May asks : Drawn → Type 0) (drawn : Drawn) (missing : Type 0) (of_drawn answers : A → Type 0) (told : Result A Failure) → asks drawn →
+    ((answer : A) → of_drawn answer → answers answer) → IsAnswerTo May (λ d. d ≡ drawn) missing of_drawn told → IsAnswerTo May asks missing answers told
+answer_asked May asks drawn missing of_drawn answers (Ok flat) here both answer = both flat answer
+answer_asked May asks drawn missing of_drawn answers (Err Unreadable) here both (inl none) = absurd (none drawn refl)
+answer_asked May asks drawn missing of_drawn answers (Err Unreadable) here both (inr none) = inr none
+answer_asked May asks drawn missing of_drawn answers (Err (Refused CoordinateOutOfRange)) here both answer =
+    record { drawn = answer.drawn; asked = subst asks (sym answer.asked) here; refused = answer.refused }
+answer_asked May asks drawn missing of_drawn answers (Err (Refused OutOfMemory)) here both answer = tt
+
+pub shapes_asked : {F : Type 0} (unit : ℕ) (point_of : F → Point) (asks : Drawn → Type 0) (drawn : Drawn) (choices : Option Choices) → asks drawn →
+    (flat : FlatShapes F) → AnswersShapes unit point_of (λ d. d ≡ drawn) choices flat → AnswersShapes unit point_of asks choices flat
+shapes_asked unit point_of asks drawn choices here flat answer = record {
   drawn = answer.drawn;
   asked = subst asks (sym answer.asked) here;
   chosen = answer.chosen;
@@ -50,11 +49,14 @@ answer_asked unit point_of asks drawn choices (Ok flat) here answer = record {
   drawing = answer.drawing;
   held = answer.held;
 }
-answer_asked unit point_of asks drawn choices (Err Unreadable) here (inl none) = absurd (none drawn refl)
-answer_asked unit point_of asks drawn choices (Err Unreadable) here (inr none) = inr none
-answer_asked unit point_of asks drawn choices (Err (Refused CoordinateOutOfRange)) here answer = record {
+
+pub edges_asked : {F : Type 0} (order : ℤ → ℤ → Ordering) (unit : ℕ) (edge_of : F → Edge) (asks : Drawn → Type 0) (drawn : Drawn) → asks drawn →
+    (flat : FlatLists F) → AnswersEdges order unit edge_of (λ d. d ≡ drawn) flat → AnswersEdges order unit edge_of asks flat
+edges_asked order unit edge_of asks drawn here flat answer = record {
   drawn = answer.drawn;
   asked = subst asks (sym answer.asked) here;
-  refused = answer.refused;
+  accepted = answer.accepted;
+  lists = answer.lists;
+  drawing = answer.drawing;
+  held = answer.held;
 }
-answer_asked unit point_of asks drawn choices (Err (Refused OutOfMemory)) here answer = tt

@@ -3,4 +3,4 @@ pub mod Asked
 pub mod EndToEnd
 pub mod Readings
 pub mod Replies
-pub mod ShapeLists
+pub mod RoomLists

@@ -1,10 +1,14 @@
 pub mod Answers
 pub mod Drawings
+pub mod EdgeRooms
 pub mod EndToEnd
 pub mod Numbers
 pub mod Outcomes
 pub mod Private
+pub mod Ranges
 pub mod Replies
 pub mod Rooms
 pub mod ShapeRooms
 pub mod Styles
+pub mod Telling
+pub mod Whys

@@ -1,14 +1,14 @@
 -- Lists of shapes, and what stands in a caller's lists after a call.
-use Rattle.std.specs.Prelude.{ℕ, ◌≡◌, ◌≤◌, List, length, Option, Result, Ok, Err}
+use Rattle.std.specs.Prelude.{ℕ, ◌≡◌, ◌≤◌, List, length, Option, Result}
 use Rattle.mesh_plane.specs.Plane.{Point}
 use Rattle.mesh_shapes.specs.Resolution.{Choices}
 use Rattle.mesh_request.specs.Requests.{Drawn}
 use Rattle.mesh_request.specs.declared.failure.Failure.{Failure}
 use Rattle.mesh_flat.specs.Answers.{IsShapesAnswer}
-use Rattle.mesh_flat.specs.Outcomes.{code_of, outcome_of}
+use Rattle.mesh_flat.specs.Outcomes.{code_of}
 use Rattle.mesh_flat.specs.Rooms.{overwritten}
+use Rattle.mesh_flat.specs.Telling.{IsTold}
 use Rattle.mesh_flat.specs.declared.outcome.Outcome.{Outcome}
-use Rattle.mesh_flat.specs.declared.outcome.Outcome.TheVariants.{Answered, RoomTooSmall}
 use Rattle.mesh_flat.specs.declared.shapes.FlatShapes.{FlatShapes}
 use Rattle.mesh_flat.specs.declared.shapes.ShapeCounts.{ShapeCounts}
 
@@ -48,18 +48,11 @@ with_shapes lists room = record {
   shape_ends = overwritten lists.shape_ends room.shape_ends;
 }
 
--- what a call leaves in the caller's lists and counts, and how it ends: the shapes, where they fit; else only their
--- counts; where there are none, all is as it was
-pub data AreShapesTold {F : Type 0} (answer : Result (FlatShapes F) Failure) (old new : ShapeLists F)
-    (told_before told : ShapeCounts) : Outcome → Type 0 where
-  whole : {flat : FlatShapes F} → answer ≡ Ok flat → DoShapesFit (lists_of flat) old
-      → new ≡ with_shapes (lists_of flat) old → told ≡ shape_counts (lists_of flat)
-      → AreShapesTold answer old new told_before told Answered
-  too_small : {flat : FlatShapes F} → answer ≡ Ok flat → (DoShapesFit (lists_of flat) old → ⊥)
-      → new ≡ old → told ≡ shape_counts (lists_of flat)
-      → AreShapesTold answer old new told_before told RoomTooSmall
-  refused : {failure : Failure} → answer ≡ Err failure → new ≡ old → told ≡ told_before
-      → AreShapesTold answer old new told_before told (outcome_of failure)
+-- what a call leaves in the caller's lists and counts, and how it ends
+abbrev pub AreShapesTold : {F : Type 0} → Result (FlatShapes F) Failure → ShapeLists F → ShapeLists F
+    → ShapeCounts → ShapeCounts → Outcome → Type 0
+AreShapesTold answer old new told_before told ended =
+    IsTold lists_of shape_counts DoShapesFit with_shapes answer old new told_before told ended
 
 -- what a call for the shapes of the drawing that `asks` names, with these choices, leaves, and the number that it
 -- returns. Coordinates are of a type with `unit`; `point_of` is what the numbers for a point stand for

@@ -1,18 +1,21 @@
-//! What is drawn of lists and numbers, as lists of shapes.
+//! What is drawn of lists and numbers, as lists of shapes and of edges.
 
 ghost use Rattle.std.specs.Prelude.{◌≡◌};
-ghost use Rattle.mesh_flat.specs.Answers.{IsShapesAnswer};
+ghost use Rattle.mesh_flat.specs.Answers.{IsEdgesAnswer, IsShapesAnswer};
 ghost use Rattle.mesh_flat.specs.Drawings.{IsOutlineOf, IsStrokeOf, IsVariableStrokeOf};
 ghost use Rattle.mesh_flat.specs.Styles.{choices_in};
 ghost use Rattle.mesh_request.specs.Requests.{drawn_of};
+ghost use Rattle.mesh_service.specs.Lines.{by_values};
 
 use crate::drawing::{outline, stroke, variable_stroke};
+use crate::lists::FlatLists;
 use crate::numbers::Flat;
 use crate::options::FlatOptions;
 use crate::shapes::FlatShapes;
 use crate::styles::{FlatArc, FlatOutlineStyle, FlatStrokeStyle};
 use mesh_join::style::IntStrokeVertex;
 use mesh_num::num::{IntPoint, OverlayInt};
+use mesh_num::shape::edge::DirectedEdge;
 use mesh_request::drawing::Drawing;
 use mesh_request::failure::Failure;
 use std::alloc::Global;
@@ -85,4 +88,62 @@ fn shapes<I: OverlayInt, P: Flat<Item = IntPoint<I>>>(
     };
     let shapes = mesh_service::drawing::shapes(alloc, drawing, options)?;
     Ok(FlatShapes::of(alloc, &shapes)?)
+}
+
+/// The edges of the outline of each of the contours that stand end to end in `points`, sorted by their starts and then by
+/// their ends. It fails as `outline_shapes` does.
+pub fn outline_edges<I: OverlayInt, P: Flat<Item = IntPoint<I>>, E: Flat<Item = DirectedEdge<I>>>(
+    alloc: Global,
+    points: &[P],
+    ends: &[usize],
+    style: &FlatOutlineStyle,
+) -> Result<FlatLists<E>, Failure>
+    ensures { IsEdgesAnswer (by_values I.cmp I.of_value) I.unit E.item_of
+        (IsOutlineOf I.unit P.item_of points.now ends.now style.now) result }
+{
+    let drawing = outline(alloc, points, ends, style)?;
+    edges(alloc, &drawing)
+}
+
+/// The edges of the stroke of each of the paths that stand end to end in `points`, sorted by their starts and then by
+/// their ends. It fails as `outline_shapes` does.
+pub fn stroke_edges<I: OverlayInt, P: Flat<Item = IntPoint<I>>, E: Flat<Item = DirectedEdge<I>>>(
+    alloc: Global,
+    points: &[P],
+    ends: &[usize],
+    style: &FlatStrokeStyle,
+    start_points: &[P],
+    end_points: &[P],
+) -> Result<FlatLists<E>, Failure>
+    ensures { IsEdgesAnswer (by_values I.cmp I.of_value) I.unit E.item_of
+        (IsStrokeOf I.unit P.item_of points.now ends.now style.now start_points.now end_points.now) result }
+{
+    let drawing = stroke(alloc, points, ends, style, start_points, end_points)?;
+    edges(alloc, &drawing)
+}
+
+/// The edges of the stroke of each of the paths of vertices that stand end to end in `vertices`, sorted by their starts
+/// and then by their ends. It fails as `outline_shapes` does.
+pub fn variable_stroke_edges<
+    I: OverlayInt,
+    V: Flat<Item = IntStrokeVertex<I>>,
+    E: Flat<Item = DirectedEdge<I>>,
+>(alloc: Global, vertices: &[V], ends: &[usize], arc: &FlatArc) -> Result<FlatLists<E>, Failure>
+    ensures { IsEdgesAnswer (by_values I.cmp I.of_value) I.unit E.item_of
+        (IsVariableStrokeOf V.item_of vertices.now ends.now arc.now) result }
+{
+    let drawing = variable_stroke(alloc, vertices, ends, arc)?;
+    edges(alloc, &drawing)
+}
+
+/// The edges of what is drawn of each path.
+fn edges<I: OverlayInt, E: Flat<Item = DirectedEdge<I>>>(
+    alloc: Global,
+    drawing: &Drawing<I>,
+) -> Result<FlatLists<E>, Failure>
+    ensures { IsEdgesAnswer (by_values I.cmp I.of_value) I.unit E.item_of
+        (λ drawn. drawn ≡ drawn_of I.value drawing.now) result }
+{
+    let lists = mesh_service::drawing::edges(alloc, drawing)?;
+    Ok(FlatLists::of(alloc, &lists)?)
 }

@@ -5,10 +5,14 @@
 pub mod answer;
 pub mod drawing;
 pub mod drawn;
+pub mod edges;
 pub mod lists;
 pub mod numbers;
 pub mod options;
 pub mod outcome;
+pub mod padding;
+pub mod range;
 pub mod room;
 pub mod shapes;
 pub mod styles;
+pub mod why;

@@ -9,15 +9,15 @@ pub returns-then-end-start : goal.returns-then-end-start
 returns-then-end-start g c = (
   tt,
   λ _ lists given.
-  let all = map g.T.Flat.item_of c.args.all.now in
-  let ends = c.args.ends.now in
-  let i = c.loop-place.place-index in
-  elim c.then-end-start.branch [
-    then-end-start-via-then-end-start w ↦
-      none_below lists all ends i 0 c.loop-place-test.true (rw c.loop-place.invariant.last at w.if-end-start.true) given
-  | then-end-start-via-else-end-start+then-all-end w ↦
-      none_past lists all ends i 0 c.loop-place-test.true (rw (length-map c.args.all.now g.T.Flat.item_of) w.if-all-end.true) given
-  ],
+      let all = map g.T.Flat.item_of c.args.all.now in
+      let ends = c.args.ends.now in
+      let i = c.loop-place.place-index in
+      elim c.then-end-start.branch [
+        | then-end-start-via-then-end-start w ↦
+            none_below lists all ends i 0 c.loop-place-test.true (rw c.loop-place.invariant.last at w.if-end-start.true) given
+        | then-end-start-via-else-end-start+then-all-end w ↦
+            none_past lists all ends i 0 c.loop-place-test.true (rw (length-map c.args.all.now g.T.Flat.item_of) w.if-all-end.true) given
+      ],
 )
 
 pub loop-place-preserved : goal.loop-place-preserved
@@ -40,8 +40,8 @@ pub returns-then-start-all : goal.returns-then-start-all
 returns-then-start-all g c = (
   tt,
   λ _ lists given.
-  let ends = c.args.ends.now in
-  let last = c.loop-place.invariant.last ∙ ap (last_from 0) (take_all c.loop-place.place-index ends c.loop-place-test.false) in
-  let left : last_from 0 ends < length c.args.all.now = rw last at c.if-start-all.true in
-  none_left lists (map g.T.Flat.item_of c.args.all.now) ends (rw (length-map c.args.all.now g.T.Flat.item_of) left) given,
+      let ends = c.args.ends.now in
+      let last = c.loop-place.invariant.last ∙ ap (last_from 0) (take_all c.loop-place.place-index ends c.loop-place-test.false) in
+      let left : last_from 0 ends < length c.args.all.now = rw last at c.if-start-all.true in
+      none_left lists (map g.T.Flat.item_of c.args.all.now) ends (rw (length-map c.args.all.now g.T.Flat.item_of) left) given,
 )

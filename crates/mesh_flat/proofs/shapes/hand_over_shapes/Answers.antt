@@ -2,15 +2,16 @@
 use Rattle.std.proofs.Common.{refl, ◌∙◌, ap}
 use Rattle.std.proofs.lemmas.Bool.{false≢true}
 use Rattle.mesh_flat.specs.Rooms.{overwritten}
-use Rattle.mesh_flat.specs.ShapeRooms.{AreShapesTold, ShapeLists, lists_of}
-use Rattle.mesh_flat.proofs.ShapeLists.{put_shapes}
+use Rattle.mesh_flat.specs.Telling.{IsTold}
+use Rattle.mesh_flat.specs.ShapeRooms.{ShapeLists, lists_of}
+use Rattle.mesh_flat.proofs.RoomLists.{put_shapes}
 use Rattle.mesh_flat.proofs.shapes.hand_over_shapes.Goals as goal
 
 pub returns-in-Err : goal.returns-in-Err
-returns-in-Err g c = rw c.of.ensures (AreShapesTold.refused c.in-Err.is refl refl)
+returns-in-Err g c = rw c.of.ensures (IsTold.refused c.in-Err.is refl refl)
 
 pub returns-then-not-fits : goal.returns-then-not-fits
-returns-then-not-fits g c = AreShapesTold.too_small c.in-Ok.is (λ fit. false≢true (c.if-not-fits.ensures.1 fit)) refl c.counts.ensures
+returns-then-not-fits g c = IsTold.too_small c.in-Ok.is (λ fit. false≢true (c.if-not-fits.ensures.1 fit)) refl c.counts.ensures
 
 pub returns : goal.returns
 returns g c =
@@ -20,4 +21,4 @@ returns g c =
     (c.put.ensures ∙ ap (λ l. overwritten l c.args.points.now) c.deref.ensures.value)
     (c.put-2.ensures ∙ ap (λ l. overwritten l c.args.contour_ends.now) c.deref-2.ensures.value)
     (c.put-3.ensures ∙ ap (λ l. overwritten l c.args.shape_ends.now) c.deref-3.ensures.value) in
-    AreShapesTold.whole c.in-Ok.is (c.if-not-fits.ensures.0 refl) put c.counts.ensures
+    IsTold.whole c.in-Ok.is (c.if-not-fits.ensures.0 refl) put c.counts.ensures

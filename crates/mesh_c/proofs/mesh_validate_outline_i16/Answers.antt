@@ -1,0 +1,11 @@
+-- What is answered is told.
+use Rattle.mesh_c.proofs.mesh_validate_outline_i16.Goals as goal
+
+pub returns : goal.returns
+returns c = record {
+  answer = c.outline_reach-answer.result;
+  answered = c.outline_reach-answer.ensures;
+  ended = c.tell_reach.result;
+  left = c.tell_reach.ensures;
+  numbered = c.code.ensures;
+}
