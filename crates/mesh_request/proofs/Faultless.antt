@@ -1,36 +1,13 @@
 -- Lemmas over what is read: it is exactly where each of its parts is.
-use Rattle.std.proofs.Common.{◌≡◌, ◌∙◌, ℕ, ◌<◌, ◌+◌, List, [], ◌∷◌, length, get_or, drop, Bool, true, false, ◌&&◌, Option, Some, None, is_some, option_map, option_and_then, refl, sym, ap, subst}
+use Rattle.std.proofs.Common.{◌≡◌, ◌∙◌, ℕ, List, [], ◌∷◌, Bool, true, false, ◌&&◌, Option, Some, None, is_some, option_map, option_and_then, refl, sym, ap}
 use Rattle.std.specs.Prelude.{codes}
-use Rattle.std.proofs.lemmas.List.{at_drop_more}
 use Rattle.serde_json.specs.Data.{Data, Items, no_items, item}
 use Rattle.serde_json.specs.Find.{as_array, get}
-use Rattle.serde_json.specs.View.{view, items_view}
-use Rattle.serde_json.specs.declared.value.Value.{Value}
 use Rattle.mesh_request.specs.Reading.{both, point_of, point_list_of, path_of, path_list_of, vertex_of, vertices_of, vertex_path_of, vertex_path_list_of}
 use Rattle.mesh_request.specs.Private.Faultless.{all_items, are_all, is_corner, is_path, has_paths}
 use Rattle.mesh_request.specs.declared.fault.paths.Corner.{Corner}
 use Rattle.mesh_request.specs.declared.fault.paths.Corner.TheVariants.{Point, Vertex}
 use Rattle.mesh_request.proofs.JsonLists.{IsReadBy}
-
--- ---- lists, tried one item after another
-
-here : (test : Data → Bool) (items : List Value) (i : ℕ) (value : Value) (passes : Bool) → i < length items → value ≡ get_or items i value → passes ≡ test (view value) →
-    all_items test (items_view (drop i items)) ≡ passes && all_items test (items_view (drop (i + 1) items))
-here test items i value passes h e tried =
-    at_drop_more (λ (vs : List Value). all_items test (items_view vs)) items i value h
-    ∙ ap (λ (b : Bool). b && all_items test (items_view (drop (i + 1) items))) (ap (λ (v : Value). test (view v)) (sym e) ∙ sym tried)
-
--- an item that passes leaves the rest to be tried
-pub one_passes : (test : Data → Bool) (items : List Value) (i : ℕ) (value : Value) (passes : Bool) → i < length items → value ≡ get_or items i value → passes ≡ test (view value) → passes ≡ true →
-    all_items test (items_view items) ≡ all_items test (items_view (drop i items)) → all_items test (items_view items) ≡ all_items test (items_view (drop (i + 1) items))
-one_passes test items i value passes h e tried true_here so_far =
-    so_far ∙ here test items i value passes h e tried ∙ ap (λ (b : Bool). b && all_items test (items_view (drop (i + 1) items))) true_here
-
--- one that does not pass is enough
-pub one_fails : (test : Data → Bool) (items : List Value) (i : ℕ) (value : Value) (passes : Bool) → i < length items → value ≡ get_or items i value → passes ≡ test (view value) → passes ≡ false →
-    all_items test (items_view items) ≡ all_items test (items_view (drop i items)) → false ≡ all_items test (items_view items)
-one_fails test items i value passes h e tried false_here so_far =
-    sym (so_far ∙ here test items i value passes h e tried ∙ ap (λ (b : Bool). b && all_items test (items_view (drop (i + 1) items))) false_here)
 
 -- ---- lists that are read
 

@@ -3,8 +3,8 @@ use Rattle.std.specs.Prelude.{ℕ, List, codes, Option, Some, IsSome, option_and
 use Rattle.serde_json.specs.Data.{Data}
 use Rattle.serde_json.specs.Find.{get, at}
 use Rattle.mesh_request.specs.declared.fault.key.Key.{Key}
-use Rattle.mesh_request.specs.declared.fault.key.Key.TheVariants.{Operation, Int, Out, Paths, Style, Closed, Options, Outer}
-use Rattle.mesh_request.specs.declared.fault.key.Key.TheVariants.{Width, Join, MinTurn, Side, Start, End, Arc, MinArea}
+use Rattle.mesh_request.specs.declared.fault.key.Key.TheVariants.{Operation, Int, Out, Paths, Style, Closed, Options}
+use Rattle.mesh_request.specs.declared.fault.key.Key.TheVariants.{Outer, Width, Join, MinTurn, Side, Start, End, Arc, MinArea}
 use Rattle.mesh_request.specs.declared.fault.key.Key.TheVariants.{Clockwise, Collinear, Inner as InnerKey}
 use Rattle.mesh_request.specs.declared.fault.place.Place.{Place}
 use Rattle.mesh_request.specs.declared.fault.place.Place.TheVariants.{Request, Member, Inner, Path, Point, CapPoint}

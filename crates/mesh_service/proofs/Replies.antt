@@ -1,9 +1,9 @@
 -- Lemmas over lines: what is answered or told is a reply.
-use Rattle.std.proofs.Common.{◌≡◌, ◌∙◌, ◌⊎◌, inl, inr, ℕ, ◌<◌, List, [], ◌∷◌, length, String, Global, Option, None, Some, Result, Ok, Err, IfSome, IfOk, IfErr, IsOk, IsErrAnd, refl, sym, subst, arith, length-append}
+use Rattle.std.proofs.Common.{◌≡◌, ◌∙◌, ◌⊎◌, inl, inr, ℕ, ◌<◌, List, [], ◌∷◌, length, String, Global, Option, None, Some, Result, Ok, Err, IfSome, IfOk, IfErr, IsOk, IsErrAnd, refl, sym, subst, arith}
 use Rattle.std.specs.Prelude.{string_bytes}
 use Rattle.std.proofs.lemmas.Bool.{false≢true}
 use Rattle.std.proofs.lemmas.Option.{none-some}
-use Rattle.std.specs.Io.KnownBytes.{Appends, Consumes, IsAtEnd}
+use Rattle.std.specs.Io.KnownBytes.{Appends, IsAtEnd}
 use Rattle.serde_json.specs.Data.{Data}
 use Rattle.serde_json.specs.Read.{read}
 use Rattle.serde_json.proofs.OnLiterals.{serde_json_on_literals}
@@ -35,17 +35,6 @@ pub memory_known : (left : Option (List ℕ)) (request : List ℕ) (told : Resul
     IfErr told (λ e. IsOfMemory e → 0 < length request) → IfErr told (λ e. IsOfMemory e → HasBytes left)
 memory_known left request (Ok line) known h = tt
 memory_known left request (Err e) known h = λ memory. bytes_known left request known (h memory)
-
--- where bytes were consumed, or more are left, there were bytes
-pub bytes_read : (old new : Option (List ℕ)) (part : List ℕ) → Consumes old new part → 0 < length part → HasBytes old
-bytes_read None new part c h = tt
-bytes_read (Some xs) None part c h = absurd c
-bytes_read (Some xs) (Some ys) part c h = subst (λ (bytes : List ℕ). 0 < length bytes) (sym c) (omega (arith, length-append part ys, h))
-
-pub bytes_left : (old new : Option (List ℕ)) (part : List ℕ) → Consumes old new part → HasBytes new → HasBytes old
-bytes_left None new part c h = tt
-bytes_left (Some xs) None part c h = absurd c
-bytes_left (Some xs) (Some ys) part c h = subst (λ (bytes : List ℕ). 0 < length bytes) (sym c) (omega (arith, length-append part ys, h))
 
 -- a text that is a value has bytes
 pub value_has_bytes : (text : List ℕ) (d : Data) → read text ≡ Some d → 0 < length text

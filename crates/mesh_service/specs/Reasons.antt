@@ -7,7 +7,8 @@ use Rattle.mesh_request.specs.Places.{IsPlaceIn}
 use Rattle.mesh_request.specs.Requests.{Request}
 use Rattle.mesh_service.specs.Serving.{request_in}
 use Rattle.mesh_service.specs.declared.reason.Reason.{Reason}
-use Rattle.mesh_service.specs.declared.reason.Reason.TheVariants.{Empty, ByteOrderMark, InvalidJson, Wrong, InexactNumber}
+use Rattle.mesh_service.specs.declared.reason.Reason.TheVariants.{Empty, ByteOrderMark, InvalidJson, Wrong}
+use Rattle.mesh_service.specs.declared.reason.Reason.TheVariants.{InexactNumber}
 use Rattle.mesh_service.specs.declared.reason.TextPlace.{TextPlace}
 
 -- the text, which is in UTF-8, is a request

@@ -1,8 +1,8 @@
 //! Serves requests for polygon offsetting: reads one as JSON and writes one line of answer.
 //!
 //! A request is read (`input`), drawn as the library answers it (`drawing`, by `outline`, `stroke` and
-//! `variable_stroke`), put into a line (`answer`, `edge`) and written (`output`); `service` does all of it. Why a text is
-//! no request is asked of `why`; `service` tells people on a stream of its own (`told`, `refusal`).
+//! `variable_stroke`), put into a line (`answer`, `edge`) and written (`output`); `service` does all of it. `why` says
+//! why a text is no request (`reason`), and `told` tells people of a run on another stream (`refusal`).
 #![tactic(auto)]
 
 pub mod answer;

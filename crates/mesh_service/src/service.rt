@@ -1,6 +1,7 @@
 //! One run of the service, over any reader and writer.
 
-ghost use Rattle.std.specs.Prelude.{◌≡◌, ◌<◌, ◌↔◌, ◌⊎◌, None, List, length, IsOk, OnOk, IfOk, IfErr, IfSome, string_bytes};
+ghost use Rattle.std.specs.Prelude.{◌≡◌, ◌<◌, ◌↔◌, ◌⊎◌, None, List, length, string_bytes};
+ghost use Rattle.std.specs.Prelude.{IsOk, OnOk, IfOk, IfErr, IfSome};
 ghost use Rattle.std.specs.Io.KnownBytes.{Appends, IsAtEnd};
 ghost use Rattle.std.specs.Ordering.{int_cmp};
 ghost use Rattle.serde_json.specs.View.{view};
@@ -140,7 +141,8 @@ fn read_and_reply<R: Read, W: Write>(alloc: Global, reader: &mut R, writer: &mut
         → Appends (W.contents writer.old) (W.contents writer.new) (failure_line Failure.Unreadable) }
     ensures refused { result.status ≡ Status.Refused → MetRefusal (R.remaining reader.old) (R.remaining reader.new)
         (W.contents writer.old) (W.contents writer.new) }
-    ensures read { (result.status ≡ Status.Answered) ⊎ (result.status ≡ Status.Unreadable) → IsAtEnd (R.remaining reader.new) }
+    ensures read { (result.status ≡ Status.Answered) ⊎ (result.status ≡ Status.Unreadable)
+        → IsAtEnd (R.remaining reader.new) }
     ensures written { (line : List _)
         × IsReply (R.remaining reader.old) line
         × AppendsBeginning (W.contents writer.old) (W.contents writer.new) line }
