@@ -10,7 +10,7 @@ use std::io::{Error, ErrorKind, Write};
 use std::test::Fail;
 
 /// What comes of a run: how it ends, its line, and what people are told.
-#[derive(Debug, PartialEq, Drop)]
+#[derive(Drop)]
 struct Told {
     status: Status,
     line: Vec<u8>,
@@ -84,17 +84,22 @@ impl Write for Closed {
     }
 }
 
+/// Where nobody can be told of the texts of the table, the status and the line are as they are.
+fn expect_untold(alloc: Global, table: &[(&str, &str)]) -> Result<(), Fail> {
+    for (request, _) in table {
+        let (mut reader, mut line) = (request.as_bytes(), Vec::new(alloc));
+        let status = serve_told(alloc, &mut reader, &mut line, &mut Closed);
+        let got = tell(alloc, request.as_bytes());
+        expect_equal(&status, &got.status, request)?;
+        expect_equal(&line, &got.line, request)?;
+    }
+    Ok(())
+}
+
 /// A stream for people that fails changes neither the status nor the line.
 #[test]
 fn failing_stream(rt: HostRuntime) -> Result<(), Fail> {
-    for table in [REASONS, REFUSED, ANSWERED] {
-        for (request, _) in table {
-            let (mut reader, mut line) = (request.as_bytes(), Vec::new(rt.alloc()));
-            let status = serve_told(rt.alloc(), &mut reader, &mut line, &mut Closed);
-            let got = tell(rt.alloc(), request.as_bytes());
-            expect_equal(&status, &got.status, request)?;
-            expect_equal(&line, &got.line, request)?;
-        }
-    }
-    Ok(())
+    expect_untold(rt.alloc(), REASONS)?;
+    expect_untold(rt.alloc(), REFUSED)?;
+    expect_untold(rt.alloc(), ANSWERED)
 }
