@@ -21,7 +21,7 @@ REQUEST = {
 }
 
 TOLD = 31
-"""The nearness of the answer, in 64ths of a grid unit."""
+"""The nearness of the answer, in 64ths of a grid unit, as `mesh_bench 0 nearness` told it for this request."""
 
 CORNER = (34, 50)
 """The middle of the magnified part, and how far it reaches in each coordinate, in grid units."""
