@@ -1,7 +1,9 @@
 //! What people are told beside the line: why there is no answer, and what of a request is ignored.
 
 use crate::tables::notes::{ANSWERED, REFUSED};
-use crate::tables::reasons::REASONS;
+use crate::tables::reasons::{
+    KEY_REASONS, POINT_REASONS, STROKE_REASONS, STYLE_REASONS, TEXT_REASONS,
+};
 use mesh_service::service::{Status, serve, serve_told};
 use mesh_test_support::compared::{expect_equal, expect_that};
 use std::alloc::Global;
@@ -45,8 +47,28 @@ fn expect_same_line(alloc: Global, request: &[u8], line: &Vec<u8>) -> Result<(),
 }
 
 #[test]
-fn reasons(rt: HostRuntime) -> Result<(), Fail> {
-    expect_told(rt.alloc(), REASONS, Status::Unreadable)
+fn reasons_of_texts(rt: HostRuntime) -> Result<(), Fail> {
+    expect_told(rt.alloc(), TEXT_REASONS, Status::Unreadable)
+}
+
+#[test]
+fn reasons_of_keys(rt: HostRuntime) -> Result<(), Fail> {
+    expect_told(rt.alloc(), KEY_REASONS, Status::Unreadable)
+}
+
+#[test]
+fn reasons_of_points(rt: HostRuntime) -> Result<(), Fail> {
+    expect_told(rt.alloc(), POINT_REASONS, Status::Unreadable)
+}
+
+#[test]
+fn reasons_of_styles(rt: HostRuntime) -> Result<(), Fail> {
+    expect_told(rt.alloc(), STYLE_REASONS, Status::Unreadable)
+}
+
+#[test]
+fn reasons_of_strokes(rt: HostRuntime) -> Result<(), Fail> {
+    expect_told(rt.alloc(), STROKE_REASONS, Status::Unreadable)
 }
 
 #[test]
@@ -99,7 +121,7 @@ fn expect_untold(alloc: Global, table: &[(&str, &str)]) -> Result<(), Fail> {
 /// A stream for people that fails changes neither the status nor the line.
 #[test]
 fn failing_stream(rt: HostRuntime) -> Result<(), Fail> {
-    expect_untold(rt.alloc(), REASONS)?;
+    expect_untold(rt.alloc(), KEY_REASONS)?;
     expect_untold(rt.alloc(), REFUSED)?;
     expect_untold(rt.alloc(), ANSWERED)
 }

@@ -1,7 +1,8 @@
-//! Texts that are no request, and what people are told of each: the reason, and then each key that is ignored.
+//! Texts that are no request, and what people are told of each: the reason, and then each key that is ignored. Each
+//! table has a text, and the lines on standard error. (There are several, since the check of a test takes only so many.)
 
-/// A text, and the lines on standard error.
-pub const REASONS: &[(&str, &str)] = &[
+/// Texts that are no object of JSON, and the lines on standard error.
+pub const TEXT_REASONS: &[(&str, &str)] = &[
     ("", "the input is empty\n"),
     (" \n\t\r\n", "the input is empty\n"),
     (
@@ -32,6 +33,10 @@ pub const REASONS: &[(&str, &str)] = &[
     ("{} {}", "line 1, column 4: invalid JSON\n"),
     ("[]", "an object is needed\n"),
     ("null", "an object is needed\n"),
+];
+
+/// Keys of requests.
+pub const KEY_REASONS: &[(&str, &str)] = &[
     ("{}", "\"op\" is missing\n"),
     (
         r#"{"type":"Polygon","coordinates":[[[0,0],[9,0],[0,9],[0,0]]]}"#,
@@ -81,6 +86,10 @@ pub const REASONS: &[(&str, &str)] = &[
         r#"{"op":"outline","int":"i32","out":"edges","paths":{},"style":{"outer":1,"inner":1}}"#,
         "paths: a list of paths is needed\n",
     ),
+];
+
+/// Paths and points.
+pub const POINT_REASONS: &[(&str, &str)] = &[
     (
         r#"{"op":"outline","int":"i32","out":"edges","paths":[0,0],"style":{"outer":1,"inner":1}}"#,
         "paths[0]: a path is a list of points\n",
@@ -133,6 +142,10 @@ pub const REASONS: &[(&str, &str)] = &[
         r#"{"op":"outline","int":"i32","out":"edges","paths":[[[18446744073709551615,0]]],"style":{"outer":1,"inner":1}}"#,
         "paths[0][0]: 18446744073709551615 is no i32\n",
     ),
+];
+
+/// Styles of outlines.
+pub const STYLE_REASONS: &[(&str, &str)] = &[
     (
         r#"{"op":"outline","int":"i32","out":"edges","paths":[[[0,0],[9,0],[0,9]]]}"#,
         "\"style\" is missing\n",
@@ -217,6 +230,10 @@ pub const REASONS: &[(&str, &str)] = &[
         r#"{"op":"outline","int":"i32","out":"edges","paths":[[[0,0],[9,0],[0,9]]],"style":{"outer":1,"inner":1,"min_turn":"5"}}"#,
         "style.min_turn: BITS is needed, a whole number from 0 to 4294967295\n",
     ),
+];
+
+/// Strokes, and options.
+pub const STROKE_REASONS: &[(&str, &str)] = &[
     (
         r#"{"op":"stroke","int":"i32","out":"edges","paths":[[[0,0],[9,0],[0,9]]],"style":{}}"#,
         "style: \"width\" is missing\n",
