@@ -112,7 +112,9 @@ def drawing_numbers(request):
 def case(request):
     """A request with the program's answer, nothing where that takes too long."""
     try:
-        run = subprocess.run([PROGRAM], input=request, stdout=subprocess.PIPE, stderr=subprocess.DEVNULL, timeout=SECONDS)
+        run = subprocess.run(
+            [PROGRAM], input=request, stdout=subprocess.PIPE, stderr=subprocess.DEVNULL, timeout=SECONDS
+        )
     except subprocess.TimeoutExpired:
         return b""
     numbers = drawing_numbers(request) if run.returncode != 2 else []

@@ -1,5 +1,5 @@
-/* Draws by the calls of one width, and writes their answer as the program does. It is included once for each width, with
-   OF(name) as a name of that width. */
+/* Draws by the calls of one width, and writes their answer as the program does. It is included once for each width,
+   with OF(name) as a name of that width. */
 
 static void *OF(points)(const int32_t *numbers, size_t count)
 {

@@ -40,8 +40,8 @@ mesh_outcome mesh_answer(const uint8_t *request, size_t request_size, uint8_t *r
 
 /* Tells why bytes hold no request that the program serves.
 
-   MESH_MALFORMED: they hold none, and the room has a text that says why and where, without a line feed. MESH_ANSWERED: they
-   hold one, and `needed` is 0. Rooms and sizes are as with mesh_answer. */
+   MESH_MALFORMED: they hold none, and the room has a text that says why and where, without a line feed. MESH_ANSWERED:
+   they hold one, and `needed` is 0. Rooms and sizes are as with mesh_answer. */
 mesh_outcome mesh_why(const uint8_t *request, size_t request_size, uint8_t *room, size_t room_size, size_t *needed);
 
 /* ---- Drawings in arrays
@@ -59,7 +59,7 @@ typedef struct { mesh_point_i16 start, end; } mesh_edge_i16;
 
 /* How finely an arc is drawn. */
 typedef struct {
-    uint32_t max_step;  /* The greatest angle between neighbouring directions: below 2^22 it counts as that, above 2^29 too. */
+    uint32_t max_step;  /* The greatest angle between neighbouring directions, from 2^22 to 2^29; else it counts so. */
     uint32_t precision; /* How near a step comes to it, from 4 to 32; what is less or more counts as these. */
 } mesh_arc;
 
@@ -125,14 +125,15 @@ typedef struct {
    points, vertices   what all paths have, path by path
    ends               for each path, how many of these stand in it and before it
    start_points, ..   the points of custom caps, round an end at (0, 0) that looks along the axis x
-   shape_points       where the points of all contours go, contour by contour; a shape is its outer contour and its holes
+   shape_points       where the points of all contours go, contour by contour, of each shape the outer one first
    contour_ends       where it goes for each contour how many points stand in it and before it
    shape_ends         where it goes for each shape how many contours stand in it and before it
    counts             how many items each of these three lists has: told with MESH_ANSWERED and MESH_ROOM_TOO_SMALL, and
                       as it was at any other outcome
 
-   With MESH_ANSWERED the three lists begin with the answer, and go on as they were. At any other outcome they are as they
-   were. MESH_MALFORMED: ends that are none, as one less than that before it, or a number that stands for nothing. */
+   With MESH_ANSWERED the three lists begin with the answer, and go on as they were. At any other outcome they are as
+   they were. MESH_MALFORMED: ends that are none, as one less than that before it, or a number that stands for
+   nothing. */
 mesh_outcome mesh_outline_i32(
     const mesh_point_i32 *points, size_t point_count, const size_t *ends, size_t end_count,
     const mesh_outline_style *style, const mesh_options *options,

@@ -1,6 +1,6 @@
 /* Tests the library for C on cases: requests, and what the program answers to each, as `cases.py` writes them.
 
-   test CASES          every case, each in rooms of several sizes; then all of them in four threads at once
+   test CASES          every case, each in rooms of several sizes; then all of them shared by four threads at once
    test CASES refused  cases with each growth of memory refused in turn
 
    It is linked with --wrap=malloc and --wrap=realloc, so that it can refuse memory to the library alone. */
@@ -186,7 +186,8 @@ static struct cases cases_in(struct text file)
         struct test_case *it = &cases.all[cases.count++];
         int head;
         size_t numbers;
-        if (sscanf((const char *)at, "%zu %zu %d %zu%n", &it->request.size, &it->line.size, &it->status, &numbers, &head) != 4)
+        if (sscanf((const char *)at, "%zu %zu %d %zu%n", &it->request.size, &it->line.size, &it->status, &numbers,
+                   &head) != 4)
             abort();
         it->request.bytes = at + head + 1;
         it->line.bytes = it->request.bytes + it->request.size;
@@ -492,13 +493,20 @@ static void check_why(const struct test_case *it)
 
 /* ---- all cases */
 
-static void *check_all(void *given)
+/* What a thread does: the cases from one on, and every fourth after it. */
+struct share {
+    const struct cases *cases;
+    size_t first;
+};
+
+static void *check_share(void *given)
 {
-    const struct cases *cases = given;
-    for (size_t i = 0; i < cases->count; i++) {
-        check(&cases->all[i], cases->all[i].line.size);
-        if (cases->all[i].is_drawn)
-            (cases->all[i].drawing.for_edges ? check_edges : check_drawing)(&cases->all[i]);
+    const struct share *share = given;
+    for (size_t i = share->first; i < share->cases->count; i += THREADS) {
+        const struct test_case *it = &share->cases->all[i];
+        check(it, it->line.size);
+        if (it->is_drawn)
+            (it->drawing.for_edges ? check_edges : check_drawing)(it);
     }
     return NULL;
 }
@@ -506,12 +514,15 @@ static void *check_all(void *given)
 static void check_in_threads(struct cases *cases)
 {
     pthread_t threads[THREADS];
+    struct share shares[THREADS];
     pthread_attr_t attributes;
     pthread_attr_init(&attributes);
     pthread_attr_setstacksize(&attributes, STACK);
-    for (int i = 0; i < THREADS; i++)
-        if (pthread_create(&threads[i], &attributes, check_all, cases))
+    for (int i = 0; i < THREADS; i++) {
+        shares[i] = (struct share){cases, (size_t)i};
+        if (pthread_create(&threads[i], &attributes, check_share, &shares[i]))
             abort();
+    }
     for (int i = 0; i < THREADS; i++)
         pthread_join(threads[i], NULL);
     pthread_attr_destroy(&attributes);
