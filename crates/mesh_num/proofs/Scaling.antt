@@ -84,7 +84,7 @@ scaled_cross unit r n m h =
     (λ i. cross (scaled_direction_opposite_radius unit r n h i) (scaled_direction_opposite_radius unit r m h i))
     ∙ cross_opposites (scaled_direction unit r n) (scaled_direction unit r m)
 
--- a turn to the left, by at most half a turn, stays one for directions times a radius
+-- a turn to the left, by at most half a turn, is not turned to the right for directions times a radius
 pub scaled_turn_kept : {unit : ℕ} {v n w m : Point} → (r : ℤ) → 0 < unit → IsDirection unit v n → IsDirection unit w m
     → pos 0 ≤ℤ cross v w → pos 0 ≤ℤ cross (scaled_direction unit r n) (scaled_direction unit r m)
 scaled_turn_kept {unit} {v} {n} {w} {m} r h p q t =

@@ -41,7 +41,7 @@ products_kept {unit} {l} {m} {a} {b} {c} {d} {p} {q} {r} {s} f k i j e g ha hb h
     turned : (l m a b c d : ℕ) → l ≡ a * a + b * b → m ≡ c * c + d * d → b * c ≤ a * d → b * b * m ≤ d * d * l
     turned l m a b c d e g h = let o : b * c * (b * c) ≤ a * d * (a * d) = mul-le-mul h h in rw (e, g) (omega arith)
 
--- a turn to the left, by at most half a turn, stays one
+-- a turn to the left, by at most half a turn, is not turned to the right
 pub turn_kept_by : {unit : ℕ} {v n w m : Point} → (f : ℤ → ℤ) → KeepsProducts f → IsDirection unit v n → IsDirection unit w m
     → pos 0 ≤ℤ cross v w → pos 0 ≤ℤ cross (f n.0, f n.1) (f m.0, f m.1)
 turn_kept_by {unit} {v} {n} {w} {m} f k p q h =

@@ -48,11 +48,12 @@ TurnsRound unit n m = (v : Point) → IsDirection unit v n → IsDirection unit 
 abbrev pub SameWay : ℕ → Point → Point → Type 0
 SameWay unit v n = (w m : Point) → IsDirection unit w m → cross v w ≡ pos 0 → pos 0 <ℤ dot v w → n ≡ m
 
--- a turn to the left, by at most half a turn, stays one; `n` is the direction of `v`
+-- a turn to the left, by at most half a turn, is not turned to the right, though it may vanish; `n` is the direction
+-- of `v`
 abbrev pub KeepsTurns : ℕ → Point → Point → Type 0
 KeepsTurns unit v n = (w m : Point) → IsDirection unit w m → pos 0 ≤ℤ cross v w → pos 0 ≤ℤ cross n m
 
--- a turn to the left stays one between directions times one radius; `s` is the direction `n` times the radius
+-- nor is it between directions times one radius; `s` is the direction `n` times the radius
 abbrev pub KeepsScaledTurns : ℕ → ℤ → Point → Point → Type 0
 KeepsScaledTurns unit radius n s =
     (v w m : Point) → IsDirection unit v n → IsDirection unit w m → pos 0 ≤ℤ cross v w
