@@ -11,8 +11,8 @@ use Rattle.mesh_plane.proofs.Ring.{ring, var, lit, neg, ◌⊕◌, ◌⊖◌, �
 use Rattle.mesh_plane.proofs.Whole.{linear, mul_le_mul_left, le_of_mul_le_mul, mul_pos, one_mul}
 use Rattle.mesh_lattice.specs.Clean.{IsOn, refined_edge}
 use Rattle.mesh_lattice.specs.Nearness.{IsNearTo}
-use Rattle.mesh_lattice.specs.Split.{IsBetween, IsInBox, back}
-use Rattle.mesh_lattice.proofs.Boxes.{turn_start, turn_end, start_box, end_box, on_back}
+use Rattle.mesh_lattice.specs.Split.{IsBetween, IsInBox}
+use Rattle.mesh_lattice.proofs.Boxes.{turn_start, turn_end, start_box, end_box}
 use Rattle.mesh_lattice.proofs.Means.{IsMean, mean_of_on, on_of_mean, mean_most}
 use Rattle.mesh_lattice.proofs.Strips.{IsInStrips, IsReached, reached}
 
@@ -392,14 +392,3 @@ near_start k e = near_at k e e.0 (record { on_line = turn_start e.0 e.1; in_box 
 
 pub near_end : (k : ℕ) (e : Edge) → IsNearTo k 1 e e.1
 near_end k e = near_at k e e.1 (record { on_line = turn_end e.0 e.1; in_box = end_box e })
-
--- for a witness that stands the other way about
-pub near_back : (k m : ℕ) (e : Edge) (q : Point) → IsNearTo k m e q → IsNearTo k m (back e) q
-near_back k m e q h = record {
-  grid = h.grid;
-  positive = h.positive;
-  nearest = h.nearest;
-  on_edge = on_back (refined_edge (h.grid * m) e) h.nearest h.on_edge;
-  by_x = h.by_x;
-  by_y = h.by_y;
-}

@@ -1,7 +1,5 @@
 //! The coordinate types and the steps between them.
 
-ghost use Rattle.std.specs.Prelude.{◌<◌};
-
 use crate::pairs::expect_pairs;
 use mesh_num::num::convert::{is_less, is_wide_less, wide_size};
 use mesh_num::num::quotient::mul_div;
@@ -105,12 +103,12 @@ fn thousandths_of_degrees() -> Result<(), Fail> {
         (bits_of(60_000), 715827883),
         (bits_of(90_000), 1073741824),
         (bits_of(359_999), 4294955366),
+        (bits_of(360_000), 0),
+        (bits_of(450_000), 1073741824),
     ])
 }
 
 /// The bits of an angle of so many thousandths of a degree.
-fn bits_of(thousandths: u32) -> i128
-    requires { thousandths < 360000 }
-{
+fn bits_of(thousandths: u32) -> i128 {
     i128::from(Angle::from_thousandths_of_degree(thousandths).bits())
 }

@@ -1,6 +1,6 @@
 //! Angles as whole numbers of bits.
 
-ghost use Rattle.std.specs.Prelude.{◌≡◌, ◌*◌, ◌^◌, ◌<◌, pos};
+ghost use Rattle.std.specs.Prelude.{◌≡◌, ◌%◌, ◌*◌, ◌^◌, pos};
 ghost use Rattle.mesh_plane.specs.Rounding.{rounded};
 ghost use Rattle.mesh_sine.specs.Sine.{sin_cos, IsWithinOne};
 
@@ -37,13 +37,12 @@ impl Angle {
         Angle { bits }
     }
 
-    /// The angle of so many thousandths of a degree, below a full turn of 360,000, to the nearest bit: at most a
-    /// half of a bit away, which is about 42 billionths of a degree. There is no half between two bits.
+    /// The angle of so many thousandths of a degree, to the nearest bit: at most a half of a bit away, which is about
+    /// 42 billionths of a degree. There is no half between two bits. Full turns of 360,000 do not count.
     pub fn from_thousandths_of_degree(thousandths: u32) -> Self
-        requires { thousandths < 360000 }
-        ensures { pos result ≡ rounded (pos (thousandths * 2 ^ 32)) 360000 }
+        ensures { pos result ≡ rounded (pos (thousandths % 360000 * 2 ^ 32)) 360000 }
     {
-        let bits = rounded_quotient(i128::from(thousandths) * (1 << 32), 360_000);
+        let bits = rounded_quotient(i128::from(thousandths % 360_000) * (1 << 32), 360_000);
         Angle { bits: bits as u32 }
     }
 
