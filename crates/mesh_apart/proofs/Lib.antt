@@ -1,0 +1,5 @@
+pub mod Boxes
+pub mod Pieces
+pub mod Windings
+pub mod Splits
+pub mod Boundaries

@@ -1,0 +1,46 @@
+-- Drawings that lie apart: each is made of pieces, and each piece keeps to a box.
+use Rattle.std.specs.Prelude.{◌⊎◌, List, ℤ, ◌≤ℤ◌, ◌<ℤ◌}
+use Rattle.std.specs.List.{All, flat_map}
+use Rattle.mesh_plane.specs.Plane.{Point, Edge}
+use Rattle.mesh_plane.specs.Winding.{IsBalanced}
+
+-- an upright rectangle of points, its sides included
+pub record Box : Type 0 where
+  pub west : ℤ
+  pub east : ℤ
+  pub south : ℤ
+  pub north : ℤ
+
+pub record IsWithin (box : Box) (p : Point) : Type 0 where
+  pub by_west : box.west ≤ℤ p.0
+  pub by_east : p.0 ≤ℤ box.east
+  pub by_south : box.south ≤ℤ p.1
+  pub by_north : p.1 ≤ℤ box.north
+
+-- two boxes share no point: one lies wholly to one side of the other
+abbrev pub AreBoxesApart : Box → Box → Type 0
+AreBoxesApart b c = ((b.east <ℤ c.west) ⊎ (c.east <ℤ b.west)) ⊎ ((b.north <ℤ c.south) ⊎ (c.north <ℤ b.south))
+
+-- both ends of an edge lie in the box, and so the edge does
+abbrev pub LiesInBox : Box → Edge → Type 0
+LiesInBox box e = IsWithin box e.0 × IsWithin box e.1
+
+-- edges and a box
+pub record Piece : Type 0 where
+  pub box : Box
+  pub edges : List Edge
+
+-- the edges are balanced, as those of closed paths are, and each lies in the box
+pub record IsBoxed (piece : Piece) : Type 0 where
+  pub balanced : IsBalanced piece.edges
+  pub within : All (LiesInBox piece.box) piece.edges
+
+-- all edges of some pieces
+abbrev pub edges_in : List Piece → List Edge
+edges_in pieces = flat_map (λ (piece : Piece). piece.edges) pieces
+
+-- two lists of such pieces: each box of the one is apart from each of the other; within a list boxes may meet
+pub record LieApart (first second : List Piece) : Type 0 where
+  pub first_boxed : All IsBoxed first
+  pub second_boxed : All IsBoxed second
+  pub apart : All (λ (p : Piece). All (λ (q : Piece). AreBoxesApart p.box q.box) second) first

@@ -1,0 +1,4 @@
+//! Drawings that lie apart.
+#![tactic(auto)]
+
+pub mod laws;
