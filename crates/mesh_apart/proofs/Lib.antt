@@ -3,3 +3,5 @@ pub mod Pieces
 pub mod Windings
 pub mod Splits
 pub mod Boundaries
+pub mod Joins
+pub mod Orders
