@@ -5,3 +5,5 @@ pub mod Splits
 pub mod Boundaries
 pub mod Joins
 pub mod Orders
+pub mod Resolutions
+pub mod Groups
