@@ -7,3 +7,4 @@ pub mod Joins
 pub mod Orders
 pub mod Resolutions
 pub mod Groups
+pub mod Rings
