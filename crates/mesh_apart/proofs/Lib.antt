@@ -8,3 +8,4 @@ pub mod Orders
 pub mod Resolutions
 pub mod Groups
 pub mod Rings
+pub mod Shapes

@@ -1,6 +1,6 @@
 -- Drawings that lie apart: each is made of pieces, and each piece keeps to a box.
 use Rattle.std.specs.Prelude.{◌⊎◌, List, ℤ, ◌≤ℤ◌, ◌<ℤ◌}
-use Rattle.std.specs.List.{All, flat_map}
+use Rattle.std.specs.List.{All, AllPairs, flat_map}
 use Rattle.mesh_plane.specs.Plane.{Point, Edge}
 use Rattle.mesh_plane.specs.Winding.{IsBalanced}
 
@@ -44,3 +44,8 @@ pub record LieApart (first second : List Piece) : Type 0 where
   pub first_boxed : All IsBoxed first
   pub second_boxed : All IsBoxed second
   pub apart : All (λ (p : Piece). All (λ (q : Piece). AreBoxesApart p.box q.box) second) first
+
+-- components of a drawing: pieces whose boxes are apart from each other
+pub record AreComponents (pieces : List Piece) : Type 0 where
+  pub boxed : All IsBoxed pieces
+  pub apart : AllPairs (λ (p q : Piece). AreBoxesApart p.box q.box) pieces

@@ -1,10 +1,13 @@
 -- Laws of drawings that lie apart. The function of the same name in the module `laws` carries each.
-use Rattle.std.specs.Prelude.{◌≡◌, Bool, List, ◌++◌, map, ℤ}
-use Rattle.std.specs.List.{filter}
-use Rattle.mesh_plane.specs.Plane.{Point}
+use Rattle.std.specs.Prelude.{◌≡◌, Bool, cond, List, [], ◌∷◌, ◌++◌, map, ℤ}
+use Rattle.std.specs.List.{filter, AllZip}
+use Rattle.std.specs.List.Sorted.{IsSortedBy}
+use Rattle.mesh_plane.specs.Plane.{Point, Edge}
 use Rattle.mesh_lattice.specs.Split.{after}
-use Rattle.mesh_shapes.specs.Resolution.{Choices, Ring, ring_of, is_large, AreArranged, IsResolution}
-use Rattle.mesh_apart.specs.Apart.{Piece, edges_in, LieApart}
+use Rattle.mesh_shapes.specs.Contours.{reversed}
+use Rattle.mesh_shapes.specs.Resolution.{Choices, Ring, ring_of, is_large, points_lt, AreArranged, IsResolution}
+use Rattle.mesh_apart.specs.Apart.{Piece, edges_in, LieApart, AreComponents}
+use Rattle.mesh_apart.specs.Joins.{IsJoin, JoinsAll}
 
 -- the rings of contours, the small ones left out
 abbrev pub rings_of : Choices → List (List Point) → List Ring
@@ -29,3 +32,49 @@ ResolutionsJoin =
     → (r : IsResolution (edges_in first) fill options x) → (s : IsResolution (edges_in second) fill options y)
     → AreArranged options.clockwise (rings_of options (r.contours ++ s.contours)) z
     → IsJoint first second r s z
+
+-- ---- shapes
+
+-- the vertices that a shape's place in an answer goes by: those of its first contour, as they run before reversal
+abbrev pub leading : Bool → List (List Point) → List Point
+leading clockwise [] = []
+leading clockwise (contour ∷ contours) = cond clockwise (reversed contour) contour
+
+-- the order of shapes
+abbrev pub shape_lt : Bool → List (List Point) → List (List Point) → Bool
+shape_lt clockwise s t = points_lt (leading clockwise s) (leading clockwise t)
+
+-- two answers have one join that is in the order of shapes, and it is a resolution of all edges
+pub record AreJoined (edges : List Edge) (fill : ℤ → Bool) (options : Choices) (x y : List (List (List Point)))
+    : Type 0 where
+  pub shapes : List (List (List Point))
+  pub joins : IsJoin x y shapes
+  pub ordered : IsSortedBy (shape_lt options.clockwise) shapes
+  pub only : (z : List (List (List Point))) → IsJoin x y z → IsSortedBy (shape_lt options.clockwise) z → z ≡ shapes
+  pub resolution : IsResolution edges fill options shapes
+
+-- the answers of two lists of components, all of them apart
+abbrev pub AnswersJoin : Type 0
+AnswersJoin =
+    (first second : List Piece) → AreComponents (first ++ second)
+    → (fill : ℤ → Bool) (options : Choices) (x y : List (List (List Point)))
+    → IsResolution (edges_in first) fill options x → IsResolution (edges_in second) fill options y
+    → AreJoined (edges_in (first ++ second)) fill options x y
+
+-- the same of several answers
+pub record AreAllJoined (edges : List Edge) (fill : ℤ → Bool) (options : Choices)
+    (answers : List (List (List (List Point)))) : Type 0 where
+  pub shapes : List (List (List Point))
+  pub joins : JoinsAll answers shapes
+  pub ordered : IsSortedBy (shape_lt options.clockwise) shapes
+  pub only : (z : List (List (List Point))) → JoinsAll answers z → IsSortedBy (shape_lt options.clockwise) z
+      → z ≡ shapes
+  pub resolution : IsResolution edges fill options shapes
+
+-- the answers of components, one by one
+abbrev pub ComponentsJoin : Type 0
+ComponentsJoin =
+    (components : List Piece) → AreComponents components
+    → (fill : ℤ → Bool) (options : Choices) (answers : List (List (List (List Point))))
+    → AllZip (λ (c : Piece) (x : List (List (List Point))). IsResolution c.edges fill options x) components answers
+    → AreAllJoined (edges_in components) fill options answers
