@@ -9,3 +9,4 @@ pub mod Resolutions
 pub mod Groups
 pub mod Rings
 pub mod Shapes
+pub mod Components

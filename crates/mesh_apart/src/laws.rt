@@ -1,9 +1,20 @@
 //! Laws of drawings that lie apart. Each function does nothing: its clause is the law.
 
-ghost use Rattle.mesh_apart.specs.Laws.{ResolutionsJoin};
+ghost use Rattle.mesh_apart.specs.Laws.{AnswersJoin, ComponentsJoin, ResolutionsJoin};
 
 /// Resolutions of two lists of edges that lie apart are together one of all edges: its splits, segments and contours are
 /// those of both, whatever shapes their rings make.
 pub fn resolutions_join()
     ensures { ResolutionsJoin }
+{}
+
+/// Where each piece's box is apart from all others, two answers have one join in the order of shapes, and it is a
+/// resolution of all edges.
+pub fn answers_join()
+    ensures { AnswersJoin }
+{}
+
+/// The same of the answers of many components.
+pub fn components_join()
+    ensures { ComponentsJoin }
 {}
