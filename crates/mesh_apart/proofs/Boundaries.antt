@@ -16,8 +16,8 @@ use Rattle.mesh_lattice.proofs.Ends.{not_along}
 use Rattle.mesh_lattice.proofs.KeptBySplits.{Boxed}
 use Rattle.mesh_lattice.proofs.SoundSplits.{legal_boxed}
 use Rattle.mesh_lattice.proofs.Splits.{occurs_append}
-use Rattle.mesh_apart.specs.Apart.{Box, Piece, IsBoxed, edges_in}
-use Rattle.mesh_apart.proofs.Boxes.{finer_box, IsPast}
+use Rattle.mesh_apart.specs.Apart.{Box, finer_box, Piece, IsBoxed, edges_in}
+use Rattle.mesh_apart.proofs.Boxes.{IsPast}
 use Rattle.mesh_apart.proofs.Pieces.{LiesIn, AreApart, apart_back, IsAmong, lies_where_occurs, lies_once, each_lies, among_on, among_middle, among_once, past_each}
 use Rattle.mesh_apart.proofs.Splits.{lies_kept, after_each}
 use Rattle.mesh_apart.proofs.Windings.{after_none_round}
@@ -77,7 +77,7 @@ absent_other ps qs apart e lies fs second =
     ⊎_elim (λ (t : occurs e fs ≡ true). absurd (lies_once ps qs apart e lies (lies_where_occurs qs fs second.lie e t))) (λ (f : occurs e fs ≡ false). f) (cases_Bool (occurs e fs))
 
 -- the two windings of a segment's sides depend on two numbers
-sides_same : (es fs : List Edge) (e : Edge) → winding_beside es e ≡ winding_beside fs e → net e es ≡ net e fs → (left_winding es e ≡ left_winding fs e) × (right_winding es e ≡ right_winding fs e)
+pub sides_same : (es fs : List Edge) (e : Edge) → winding_beside es e ≡ winding_beside fs e → net e es ≡ net e fs → (left_winding es e ≡ left_winding fs e) × (right_winding es e ≡ right_winding fs e)
 sides_same es fs e h k = ((λ i. cond (rises e) (h i +ℤ k i) (h i)), (λ i. cond (rises e) (h i) (h i -ℤ k i)))
 
 added : (a b c : ℤ) → c ≡ a +ℤ b → b ≡ pos 0 → c ≡ a

@@ -9,7 +9,7 @@ use Rattle.mesh_plane.proofs.Whole.{linear, mul_le_mul_left, mul_lt_mul_left, on
 use Rattle.mesh_lattice.specs.Clean.{refined_edge}
 use Rattle.mesh_lattice.specs.Split.{IsBetween, IsInBox}
 use Rattle.mesh_lattice.specs.Boundary.{middle}
-use Rattle.mesh_apart.specs.Apart.{Box, IsWithin, AreBoxesApart, LiesInBox}
+use Rattle.mesh_apart.specs.Apart.{Box, finer_box, IsWithin, AreBoxesApart, LiesInBox}
 
 -- ---- in a box
 
@@ -32,9 +32,6 @@ not_both b c z (inr (inl h)) k l = omega (arith, ints, k.by_north, l.by_south)
 not_both b c z (inr (inr h)) k l = omega (arith, ints, k.by_south, l.by_north)
 
 -- ---- on a finer grid
-
-abbrev pub finer_box : ℕ → Box → Box
-finer_box m b = record { west = pos m *ℤ b.west; east = pos m *ℤ b.east; south = pos m *ℤ b.south; north = pos m *ℤ b.north }
 
 pub within_refined : (m : ℕ) (b : Box) (p : Point) → IsWithin b p → IsWithin (finer_box m b) (refined m p)
 within_refined m b p h =

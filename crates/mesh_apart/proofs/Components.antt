@@ -2,7 +2,7 @@
 use Rattle.std.proofs.Common.{◌≡◌, ℕ, ◌+◌, ◌<◌, zero, suc, Bool, true, false, List, [], ◌∷◌, ◌++◌, length, get_or, refl, sym, ◌∙◌, ap, subst, arith}
 use Rattle.std.specs.Prelude.{ℤ}
 use Rattle.std.specs.List.{All, AllPairs, AllZip, flat_map}
-use Rattle.std.specs.List.Sorted.{IsSortedBy}
+use Rattle.std.specs.List.Sorted.{IsSortedBy, IsPermutation}
 use Rattle.std.proofs.lemmas.Bool.{false≢true}
 use Rattle.std.proofs.lemmas.List.{append-nil}
 use Rattle.std.proofs.lemmas.List.Concat.{flat_map-append}
@@ -18,6 +18,7 @@ use Rattle.mesh_apart.specs.Joins.{IsJoin, JoinsAll}
 use Rattle.mesh_apart.specs.Laws.{shape_lt, AreJoined, AreAllJoined}
 use Rattle.mesh_apart.proofs.Joins.{all_from_each, rises_from_sorted, sorted_from_rises, rising_parts}
 use Rattle.mesh_apart.proofs.Pieces.{each_from_all, AreApart}
+use Rattle.mesh_apart.proofs.Rearranged.{rearranged}
 use Rattle.mesh_apart.proofs.Rings.{AreParted}
 use Rattle.mesh_apart.proofs.Shapes.{shape_order, answers_join}
 
@@ -112,7 +113,15 @@ each_joined (p ∷ ps) boxed parted fill options (x ∷ xs) h =
       resolution = subst (λ (es : List Edge). IsResolution (es ++ edges_in ps) fill options two.shapes) (append-nil p.edges) two.resolution;
     }
 
-pub components_join : (ps : List Piece) → AreComponents ps → (fill : ℤ → Bool) (options : Choices) (answers : List (List (List (List Point))))
-    → AllZip (λ (p : Piece) (x : List (List (List Point))). IsResolution p.edges fill options x) ps answers → AreAllJoined (edges_in ps) fill options answers
-components_join ps h fill options answers each =
-    each_joined ps (each_from_all IsBoxed ps h.boxed) (parted_from_pairs ps h.apart) fill options answers each
+pub components_join : (ps : List Piece) → AreComponents ps → (edges : List Edge) → IsPermutation (edges_in ps) edges → (fill : ℤ → Bool) (options : Choices)
+    → (answers : List (List (List (List Point)))) → AllZip (λ (p : Piece) (x : List (List (List Point))). IsResolution p.edges fill options x) ps answers
+    → AreAllJoined edges fill options answers
+components_join ps h edges same fill options answers each =
+    let all = each_joined ps (each_from_all IsBoxed ps h.boxed) (parted_from_pairs ps h.apart) fill options answers each in
+    record {
+      shapes = all.shapes;
+      joins = all.joins;
+      ordered = all.ordered;
+      only = all.only;
+      resolution = rearranged (edges_in ps) edges same fill options all.shapes all.resolution;
+    }

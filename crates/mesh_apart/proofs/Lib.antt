@@ -10,3 +10,4 @@ pub mod Groups
 pub mod Rings
 pub mod Shapes
 pub mod Components
+pub mod Rearranged

@@ -9,8 +9,8 @@ use Rattle.mesh_lattice.specs.Clean.{IsOn, refined_edge}
 use Rattle.mesh_lattice.specs.Split.{IsInBox, same_ends, occurs, back}
 use Rattle.mesh_lattice.proofs.Each.{Each, each_more, each_append}
 use Rattle.mesh_lattice.proofs.Ends.{decides_ends}
-use Rattle.mesh_apart.specs.Apart.{Box, IsWithin, AreBoxesApart, LiesInBox, Piece, IsBoxed, edges_in}
-use Rattle.mesh_apart.proofs.Boxes.{finer_box, within_between, not_both, lies_refined, apart_refined, middle_within, IsPast, past_apart}
+use Rattle.mesh_apart.specs.Apart.{Box, finer_box, IsWithin, AreBoxesApart, LiesInBox, Piece, IsBoxed, edges_in}
+use Rattle.mesh_apart.proofs.Boxes.{within_between, not_both, lies_refined, apart_refined, middle_within, IsPast, past_apart}
 
 pub each_from_all : {A : Type 0} (P : A → Type 0) (xs : List A) → All P xs → Each P xs
 each_from_all P [] h = tt

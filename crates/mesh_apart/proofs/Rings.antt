@@ -15,9 +15,9 @@ use Rattle.mesh_lattice.proofs.Each.{Each, each_more, each_left, each_right}
 use Rattle.mesh_lattice.proofs.Ends.{decides_edge}
 use Rattle.mesh_shapes.specs.Contours.{turning_points, kept, vertices, side_point, StartIsLeast}
 use Rattle.mesh_shapes.specs.Resolution.{Ring, ring_of, is_positive, is_round}
-use Rattle.mesh_apart.specs.Apart.{Box, IsWithin, AreBoxesApart, LiesInBox, Piece}
+use Rattle.mesh_apart.specs.Apart.{Box, finer_box, IsWithin, AreBoxesApart, LiesInBox, Piece}
 use Rattle.mesh_apart.proofs.Boundaries.{AreSegmentsOf}
-use Rattle.mesh_apart.proofs.Boxes.{finer_box, not_both, within_refined, middle_within, IsPast}
+use Rattle.mesh_apart.proofs.Boxes.{not_both, within_refined, middle_within, IsPast}
 use Rattle.mesh_apart.proofs.Groups.{LieBeside}
 use Rattle.mesh_apart.proofs.Joins.{all_from_each}
 use Rattle.mesh_apart.proofs.Pieces.{LiesIn, AreApart, apart_back, IsAmong, lies_where_occurs, past_each}

@@ -13,8 +13,8 @@ use Rattle.mesh_plane.proofs.Whole.{linear}
 use Rattle.mesh_lattice.specs.Split.{EdgeSplit, after}
 use Rattle.mesh_lattice.proofs.Each.{Each}
 use Rattle.mesh_lattice.proofs.KeptBySplits.{Boxed, after_append, after_balanced, after_none}
-use Rattle.mesh_apart.specs.Apart.{Box, IsWithin, LiesInBox, Piece, IsBoxed, edges_in}
-use Rattle.mesh_apart.proofs.Boxes.{finer_box, within_refined, IsPast}
+use Rattle.mesh_apart.specs.Apart.{Box, finer_box, IsWithin, LiesInBox, Piece, IsBoxed, edges_in}
+use Rattle.mesh_apart.proofs.Boxes.{within_refined, IsPast}
 use Rattle.mesh_apart.proofs.Pieces.{each_from_all}
 use Rattle.mesh_apart.proofs.Splits.{in_box_kept, after_each}
 

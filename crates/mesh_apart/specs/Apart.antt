@@ -1,5 +1,5 @@
 -- Drawings that lie apart: each is made of pieces, and each piece keeps to a box.
-use Rattle.std.specs.Prelude.{◌⊎◌, List, ℤ, ◌≤ℤ◌, ◌<ℤ◌}
+use Rattle.std.specs.Prelude.{ℕ, ◌⊎◌, List, ℤ, pos, ◌*ℤ◌, ◌≤ℤ◌, ◌<ℤ◌}
 use Rattle.std.specs.List.{All, AllPairs, flat_map}
 use Rattle.mesh_plane.specs.Plane.{Point, Edge}
 use Rattle.mesh_plane.specs.Winding.{IsBalanced}
@@ -16,6 +16,15 @@ pub record IsWithin (box : Box) (p : Point) : Type 0 where
   pub by_east : p.0 ≤ℤ box.east
   pub by_south : box.south ≤ℤ p.1
   pub by_north : p.1 ≤ℤ box.north
+
+-- a box on the grid that is `m` times finer
+abbrev pub finer_box : ℕ → Box → Box
+finer_box m b = record {
+  west = pos m *ℤ b.west;
+  east = pos m *ℤ b.east;
+  south = pos m *ℤ b.south;
+  north = pos m *ℤ b.north;
+}
 
 -- two boxes share no point: one lies wholly to one side of the other
 abbrev pub AreBoxesApart : Box → Box → Type 0

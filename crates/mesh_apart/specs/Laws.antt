@@ -1,12 +1,13 @@
 -- Laws of drawings that lie apart. The function of the same name in the module `laws` carries each.
-use Rattle.std.specs.Prelude.{◌≡◌, Bool, cond, List, [], ◌∷◌, ◌++◌, map, ℤ}
-use Rattle.std.specs.List.{filter, AllZip}
-use Rattle.std.specs.List.Sorted.{IsSortedBy}
+use Rattle.std.specs.Prelude.{ℕ, ◌<◌, ◌≡◌, Bool, cond, List, [], ◌∷◌, ◌++◌, map, ℤ, pos}
+use Rattle.std.specs.List.{filter, AllZip, Contains}
+use Rattle.std.specs.List.Sorted.{IsSortedBy, IsPermutation}
 use Rattle.mesh_plane.specs.Plane.{Point, Edge}
-use Rattle.mesh_lattice.specs.Split.{after}
+use Rattle.mesh_plane.specs.Winding.{winding}
+use Rattle.mesh_lattice.specs.Split.{EdgeSplit, after, IsLegal}
 use Rattle.mesh_shapes.specs.Contours.{reversed}
 use Rattle.mesh_shapes.specs.Resolution.{Choices, Ring, ring_of, is_large, points_lt, AreArranged, IsResolution}
-use Rattle.mesh_apart.specs.Apart.{Piece, edges_in, LieApart, AreComponents}
+use Rattle.mesh_apart.specs.Apart.{finer_box, IsWithin, Piece, edges_in, LieApart, AreComponents}
 use Rattle.mesh_apart.specs.Joins.{IsJoin, JoinsAll}
 
 -- the rings of contours, the small ones left out
@@ -61,6 +62,23 @@ AnswersJoin =
     → IsResolution (edges_in first) fill options x → IsResolution (edges_in second) fill options y
     → AreJoined (edges_in (first ++ second)) fill options x y
 
+-- what splits leave of edges that lie apart does not wind round the points of a box, on every grid; nor do the edges, which
+-- are what no splits leave
+abbrev pub OthersDoNotWind : Type 0
+OthersDoNotWind =
+    (first second : List Piece) → LieApart first second
+    → (splits : List EdgeSplit) → IsLegal (edges_in second) splits
+    → (piece : Piece) → Contains first piece
+    → (m : ℕ) → 0 < m → (q : Point) → IsWithin (finer_box m piece.box) q
+    → winding m q (after splits (edges_in second)) ≡ pos 0
+
+-- a resolution of edges is one of the same edges in any order
+abbrev pub EdgesMayChangePlaces : Type 0
+EdgesMayChangePlaces =
+    (edges others : List Edge) → IsPermutation edges others
+    → (fill : ℤ → Bool) (options : Choices) (answer : List (List (List Point)))
+    → IsResolution edges fill options answer → IsResolution others fill options answer
+
 -- the same of several answers
 pub record AreAllJoined (edges : List Edge) (fill : ℤ → Bool) (options : Choices)
     (answers : List (List (List (List Point)))) : Type 0 where
@@ -71,10 +89,11 @@ pub record AreAllJoined (edges : List Edge) (fill : ℤ → Bool) (options : Cho
       → z ≡ shapes
   pub resolution : IsResolution edges fill options shapes
 
--- the answers of components, one by one
+-- the answers of components, one by one, for all their edges in any order
 abbrev pub ComponentsJoin : Type 0
 ComponentsJoin =
     (components : List Piece) → AreComponents components
+    → (edges : List Edge) → IsPermutation (edges_in components) edges
     → (fill : ℤ → Bool) (options : Choices) (answers : List (List (List (List Point))))
     → AllZip (λ (c : Piece) (x : List (List (List Point))). IsResolution c.edges fill options x) components answers
-    → AreAllJoined (edges_in components) fill options answers
+    → AreAllJoined edges fill options answers

@@ -1,6 +1,17 @@
 //! Laws of drawings that lie apart. Each function does nothing: its clause is the law.
 
-ghost use Rattle.mesh_apart.specs.Laws.{AnswersJoin, ComponentsJoin, ResolutionsJoin};
+ghost use Rattle.mesh_apart.specs.Laws.{AnswersJoin, ComponentsJoin, EdgesMayChangePlaces};
+ghost use Rattle.mesh_apart.specs.Laws.{OthersDoNotWind, ResolutionsJoin};
+
+/// What lies apart from a box does not wind round the box's points, however it is split.
+pub fn others_do_not_wind()
+    ensures { OthersDoNotWind }
+{}
+
+/// A resolution of edges is one of the same edges in any order.
+pub fn edges_may_change_places()
+    ensures { EdgesMayChangePlaces }
+{}
 
 /// Resolutions of two lists of edges that lie apart are together one of all edges: its splits, segments and contours are
 /// those of both, whatever shapes their rings make.
