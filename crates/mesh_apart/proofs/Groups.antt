@@ -1,14 +1,17 @@
--- Lemmas over placed rings: the shapes of two lists of rings, none of which is round one of the other, are those of both.
-use Rattle.std.proofs.Common.{◌≡◌, ℕ, ◌+◌, ◌≤◌, Bool, true, false, cond, not, ◌&&◌, ◌||◌, List, [], ◌∷◌, map, refl, sym, ◌∙◌, ap, subst, arith}
-use Rattle.std.specs.Prelude.{pos, ◌<ℤ◌, int_lt}
+-- Lemmas over placed rings: where none of either list stands with one of the other, the shapes of both lists are those of each.
+use Rattle.std.proofs.Common.{◌≡◌, ℕ, ◌+◌, ◌≤◌, ◌⊎◌, inl, inr, ⊎_elim, Bool, true, false, cond, not, ◌&&◌, ◌||◌, List, [], ◌∷◌, map, refl, sym, ◌∙◌, ap, subst, arith}
+use Rattle.std.specs.Prelude.{ℤ, pos, ◌<ℤ◌, ◌≤ℤ◌, int_lt}
 use Rattle.std.specs.Ordering.{int_eq}
 use Rattle.std.specs.List.{filter, list_any, enumerate_from}
+use Rattle.std.proofs.lemmas.Bool.{false≢true, or_cases, or_right, and_parts, and_from}
+use Rattle.std.proofs.lemmas.Bool.Decides.{Decides-int_eq}
 use Rattle.std.proofs.lemmas.Int.{ints}
-use Rattle.mesh_plane.proofs.Comparing.{less_test, not_less_test}
+use Rattle.mesh_plane.proofs.Comparing.{less_test, not_less_test, test_less}
 use Rattle.mesh_lattice.proofs.Each.{Each, each_more}
 use Rattle.mesh_shapes.specs.Contours.{double_area}
 use Rattle.mesh_shapes.specs.Resolution.{Ring, Placed, is_positive, is_round, is_before, is_head, stands_with, shape_of, rings_by_shape}
 use Rattle.mesh_apart.specs.Joins.{IsJoin, no_more, from_first, from_second}
+use Rattle.mesh_apart.specs.Laws.{surrounds, has_smaller}
 use Rattle.mesh_apart.proofs.Joins.{each_any, each_filter, map_agree, filter_agree_each, filter_none, filter_mapped, any_mapped, any_agree, any_none, each_map, each_unmap, join_map, join_filter, join_any, first_alone, second_alone}
 
 -- ---- places may change where their order stays
@@ -181,102 +184,217 @@ places_of n k l rs ss ts j = by n k l j
           up_second = (omega arith, omega arith, r.up_second);
         }
 
--- ---- rings of two lists, none round one of the other
+-- ---- placed rings of two lists
 
-or_none : (a b : Bool) → b ≡ false → (a || b) ≡ a
-or_none true b h = refl
-or_none false b h = h
+or_turned : (a b : Bool) → (a || b) ≡ (b || a)
+or_turned true true = refl
+or_turned true false = refl
+or_turned false true = refl
+or_turned false false = refl
 
--- a list that is part of another: what is false of all the rest is found in the part alone
+absorbed : (a b : Bool) → (b ≡ true → a ≡ true) → (a || b) ≡ a
+absorbed true b h = refl
+absorbed false true h = sym (h refl)
+absorbed false false h = refl
+
+and_none : (a b : Bool) → a ≡ false → (a && b) ≡ false
+and_none a b h = ap (λ (c : Bool). c && b) h
+
+-- a list that is part of another, which has it and the rest
 record IsPart (own rest all : List Placed) : Type 0 where
-  found : (p : Placed → Bool) → Each (λ x. p x ≡ false) rest → list_any p all ≡ list_any p own
+  found : (p : Placed → Bool) → list_any p all ≡ (list_any p own || list_any p rest)
   kept : (p : Placed → Bool) → Each (λ x. p x ≡ false) rest → filter p all ≡ filter p own
 
 first_part : (xs ys zs : List Placed) → IsJoin xs ys zs → IsPart xs ys zs
 first_part xs ys zs j = record {
-  found = λ p h. join_any p xs ys zs j ∙ or_none (list_any p xs) (list_any p ys) (any_none p ys h);
+  found = λ p. join_any p xs ys zs j;
   kept = λ p h. first_alone (filter p xs) (filter p ys) (filter p zs) (join_filter p xs ys zs j) (filter_none p ys h);
 }
 
 second_part : (xs ys zs : List Placed) → IsJoin xs ys zs → IsPart ys xs zs
 second_part xs ys zs j = record {
-  found = λ p h. join_any p xs ys zs j ∙ ap (λ (b : Bool). b || list_any p ys) (any_none p xs h);
+  found = λ p. join_any p xs ys zs j ∙ or_turned (list_any p xs) (list_any p ys);
   kept = λ p h. second_alone (filter p xs) (filter p ys) (filter p zs) (join_filter p xs ys zs j) (filter_none p xs h);
 }
 
--- neither of two rings is round the other
-abbrev pub AreBeside : Placed → Placed → Type 0
-AreBeside h r = (is_round h r ≡ false) × (is_round r h ≡ false)
+-- of the list, a ring is round `r` and has less area than `k`
+abbrev smaller_round : List Placed → Placed → Placed → Bool
+smaller_round own r k = list_any (λ (h : Placed). is_round h r && int_lt (double_area h.1.0) (double_area k.1.0)) own
 
-and_none : (a b : Bool) → a ≡ false → (a && b) ≡ false
-and_none a b h = ap (λ (c : Bool). c && b) h
+-- a ring heads a shape, or one of its own list is round it that is smaller than any of the rest that is
+abbrev IsHeld : List Placed → List Placed → Placed → Type 0
+IsHeld own rest r = (is_positive r ≡ true) ⊎ Each (λ (k : Placed). is_round k r ≡ true → smaller_round own r k ≡ true) rest
 
-and_last : (a b : Bool) → b ≡ false → (a && b) ≡ false
-and_last true b h = h
-and_last false b h = refl
+-- so none of the rest holds it
+abbrev IsFreeOf : List Placed → Placed → Placed → Type 0
+IsFreeOf own k r = (is_positive r ≡ true) ⊎ (is_round k r ≡ true → smaller_round own r k ≡ true)
 
-head_part : (own rest all : List Placed) → IsPart own rest all → (t : Placed) → Each (AreBeside t) rest → is_head all t ≡ is_head own t
-head_part own rest all part t beside =
-    ap (λ (c : Bool). is_positive t || not c)
-    (part.found (λ (h : Placed). is_round h t) (each_more (AreBeside t) (λ (h : Placed). is_round h t ≡ false) (λ (h : Placed) k. k.1) rest beside))
+free_of_each : (own rest rs : List Placed) → Each (IsHeld own rest) rs → Each (λ (k : Placed). Each (IsFreeOf own k) rs) rest
+free_of_each own [] rs h = tt
+free_of_each own (k ∷ ks) rs h =
+    (each_more (IsHeld own (k ∷ ks)) (IsFreeOf own k) first rs h, free_of_each own ks rs (each_more (IsHeld own (k ∷ ks)) (IsHeld own ks) others rs h))
+  where
+    first : (r : Placed) → IsHeld own (k ∷ ks) r → IsFreeOf own k r
+    first r (inl h) = inl h
+    first r (inr h) = inr h.0
 
-stands_part : (own rest all : List Placed) → IsPart own rest all → (t u : Placed) → Each (AreBeside u) rest → stands_with all t u ≡ stands_with own t u
-stands_part own rest all part t u beside =
-    ap (λ (c : Bool). is_round t u && not c)
-    (part.found (λ (k : Placed). is_round k u && is_before k t)
-    (each_more (AreBeside u) (λ (k : Placed). (is_round k u && is_before k t) ≡ false) (λ (k : Placed) b. and_none (is_round k u) (is_before k t) b.1) rest beside))
+    others : (r : Placed) → IsHeld own (k ∷ ks) r → IsHeld own ks r
+    others r (inl h) = inl h
+    others r (inr h) = inr h.1
 
-shape_part : (own rest all : List Placed) → IsPart own rest all → Each (λ (u : Placed). Each (AreBeside u) rest) own → (t : Placed) → Each (AreBeside t) rest → shape_of all t ≡ shape_of own t
-shape_part own rest all part each t beside =
+any_some : (p : Placed → Bool) (C : Type 0) (xs : List Placed) → Each (λ x. p x ≡ true → C) xs → list_any p xs ≡ true → C
+any_some p C [] each h = absurd (false≢true h)
+any_some p C (x ∷ xs) each h = ⊎_elim (λ (t : p x ≡ true). each.0 t) (λ (t : list_any p xs ≡ true). any_some p C xs each.1 t) (or_cases (p x) (list_any p xs) h)
+
+any_more : (p q : Placed → Bool) → ((x : Placed) → p x ≡ true → q x ≡ true) → (xs : List Placed) → list_any p xs ≡ true → list_any q xs ≡ true
+any_more p q f [] h = h
+any_more p q f (x ∷ xs) h =
+    ⊎_elim (λ (t : p x ≡ true). ap (λ (b : Bool). b || list_any q xs) (f x t)) (λ (t : list_any p xs ≡ true). or_right (q x) (list_any q xs) (any_more p q f xs t))
+    (or_cases (p x) (list_any p xs) h)
+
+head_positive : (all : List Placed) (r : Placed) → is_positive r ≡ true → is_head all r ≡ true
+head_positive all r h = ap (λ (b : Bool). b || not (list_any (λ (k : Placed). is_round k r) all)) h
+
+-- a smaller ring than one that comes before another comes before it
+smaller_before : (h k t : Placed) → int_lt (double_area h.1.0) (double_area k.1.0) ≡ true → is_before k t ≡ true → is_before h t ≡ true
+smaller_before h k t less before =
+    let small : double_area h.1.0 <ℤ double_area k.1.0 = test_less (double_area h.1.0) (double_area k.1.0) less in
+    let low : double_area k.1.0 ≤ℤ double_area t.1.0 =
+    ⊎_elim (λ (l : int_lt (double_area k.1.0) (double_area t.1.0) ≡ true). below (double_area k.1.0) (double_area t.1.0) (test_less (double_area k.1.0) (double_area t.1.0) l))
+    (λ (l : (int_eq (double_area k.1.0) (double_area t.1.0) && int_lt (pos k.0) (pos t.0)) ≡ true).
+    equal (double_area k.1.0) (double_area t.1.0) ((Decides-int_eq (double_area k.1.0) (double_area t.1.0)).0 (and_parts (int_eq (double_area k.1.0) (double_area t.1.0)) (int_lt (pos k.0) (pos t.0)) l).0))
+    (or_cases (int_lt (double_area k.1.0) (double_area t.1.0)) (int_eq (double_area k.1.0) (double_area t.1.0) && int_lt (pos k.0) (pos t.0)) before) in
+    ap (λ (b : Bool). b || (int_eq (double_area h.1.0) (double_area t.1.0) && int_lt (pos h.0) (pos t.0)))
+    (less_test (double_area h.1.0) (double_area t.1.0) (through (double_area h.1.0) (double_area k.1.0) (double_area t.1.0) small low))
+  where
+    below : (a b : ℤ) → a <ℤ b → a ≤ℤ b
+    below a b h = omega (arith, ints, h)
+
+    equal : (a b : ℤ) → a ≡ b → a ≤ℤ b
+    equal a b h = omega (arith, ints, h)
+
+    through : (a b c : ℤ) → a <ℤ b → b ≤ℤ c → a <ℤ c
+    through a b c h k = omega (arith, ints, h, k)
+
+smaller_is_before : (own : List Placed) (r k t : Placed) → smaller_round own r k ≡ true → is_before k t ≡ true → list_any (λ (h : Placed). is_round h r && is_before h t) own ≡ true
+smaller_is_before own r k t small before =
+    any_more (λ (h : Placed). is_round h r && int_lt (double_area h.1.0) (double_area k.1.0)) (λ (h : Placed). is_round h r && is_before h t)
+    (λ (h : Placed) b.
+    let parts = and_parts (is_round h r) (int_lt (double_area h.1.0) (double_area k.1.0)) b in
+    and_from (is_round h r) (is_before h t) parts.0 (smaller_before h k t parts.1 before)) own small
+
+head_part : (own rest all : List Placed) → IsPart own rest all → (r : Placed) → IsHeld own rest r → is_head all r ≡ is_head own r
+head_part own rest all part r (inl h) = head_positive all r h ∙ sym (head_positive own r h)
+head_part own rest all part r (inr h) =
+    ap (λ (c : Bool). is_positive r || not c)
+    (part.found (λ (k : Placed). is_round k r)
+    ∙ absorbed (list_any (λ (k : Placed). is_round k r) own) (list_any (λ (k : Placed). is_round k r) rest)
+    (any_some (λ (k : Placed). is_round k r) (list_any (λ (k : Placed). is_round k r) own ≡ true) rest
+    (each_more (λ (k : Placed). is_round k r ≡ true → smaller_round own r k ≡ true) (λ (k : Placed). is_round k r ≡ true → list_any (λ (h : Placed). is_round h r) own ≡ true)
+    (λ (k : Placed) f b.
+    any_more (λ (h : Placed). is_round h r && int_lt (double_area h.1.0) (double_area k.1.0)) (λ (h : Placed). is_round h r)
+    (λ (h : Placed) c. (and_parts (is_round h r) (int_lt (double_area h.1.0) (double_area k.1.0)) c).0) own (f b)) rest h)))
+
+stands_part : (own rest all : List Placed) → IsPart own rest all → (t r : Placed) → Each (λ (k : Placed). is_round k r ≡ true → smaller_round own r k ≡ true) rest
+    → stands_with all t r ≡ stands_with own t r
+stands_part own rest all part t r h =
+    ap (λ (c : Bool). is_round t r && not c)
+    (part.found (λ (k : Placed). is_round k r && is_before k t)
+    ∙ absorbed (list_any (λ (k : Placed). is_round k r && is_before k t) own) (list_any (λ (k : Placed). is_round k r && is_before k t) rest)
+    (any_some (λ (k : Placed). is_round k r && is_before k t) (list_any (λ (k : Placed). is_round k r && is_before k t) own ≡ true) rest
+    (each_more (λ (k : Placed). is_round k r ≡ true → smaller_round own r k ≡ true)
+    (λ (k : Placed). (is_round k r && is_before k t) ≡ true → list_any (λ (h : Placed). is_round h r && is_before h t) own ≡ true)
+    (λ (k : Placed) f b. let parts = and_parts (is_round k r) (is_before k t) b in smaller_is_before own r k t (f parts.0) parts.1) rest h)))
+
+-- whether a ring is one of those that stand with `t`
+abbrev stands_among : List Placed → Placed → Placed → Bool
+stands_among rings t r = not (is_head rings r) && stands_with rings t r
+
+member_own : (own rest all : List Placed) → IsPart own rest all → (t r : Placed) → IsHeld own rest r → stands_among all t r ≡ stands_among own t r
+member_own own rest all part t r (inl h) =
+    and_none (not (is_head all r)) (stands_with all t r) (ap not (head_positive all r h))
+    ∙ sym (and_none (not (is_head own r)) (stands_with own t r) (ap not (head_positive own r h)))
+member_own own rest all part t r (inr h) = λ i. not (head_part own rest all part r (inr h) i) && stands_part own rest all part t r h i
+
+member_other : (own rest all : List Placed) → IsPart own rest all → (t r : Placed) → IsFreeOf rest t r → stands_among all t r ≡ false
+member_other own rest all part t r (inl h) = and_none (not (is_head all r)) (stands_with all t r) (ap not (head_positive all r h))
+member_other own rest all part t r (inr h) =
+    ap (λ (b : Bool). not (is_head all r) && b) (by (is_round t r) refl) ∙ none (not (is_head all r))
+  where
+    none : (a : Bool) → (a && false) ≡ false
+    none true = refl
+    none false = refl
+
+    found : is_round t r ≡ true → list_any (λ (k : Placed). is_round k r && is_before k t) all ≡ true
+    found b =
+        part.found (λ (k : Placed). is_round k r && is_before k t)
+        ∙ or_right (list_any (λ (k : Placed). is_round k r && is_before k t) own) (list_any (λ (k : Placed). is_round k r && is_before k t) rest)
+        (any_more (λ (k : Placed). is_round k r && int_lt (double_area k.1.0) (double_area t.1.0)) (λ (k : Placed). is_round k r && is_before k t)
+        (λ (k : Placed) c.
+        let parts = and_parts (is_round k r) (int_lt (double_area k.1.0) (double_area t.1.0)) c in
+        and_from (is_round k r) (is_before k t) parts.0
+        (ap (λ (d : Bool). d || (int_eq (double_area k.1.0) (double_area t.1.0) && int_lt (pos k.0) (pos t.0))) parts.1)) rest (h b))
+
+    by : (b : Bool) → is_round t r ≡ b → stands_with all t r ≡ false
+    by true e = (λ i. e i && not (found e i))
+    by false e = and_none (is_round t r) (not (list_any (λ (k : Placed). is_round k r && is_before k t) all)) e
+
+shape_part : (own rest all : List Placed) → IsPart own rest all → Each (IsHeld own rest) own → (t : Placed) → Each (IsFreeOf rest t) rest → shape_of all t ≡ shape_of own t
+shape_part own rest all part held t free =
     ap (λ (l : List Placed). t.1 ∷ map (λ (r : Placed). r.1) l)
-    (part.kept (λ (r : Placed). not (is_head all r) && stands_with all t r)
-    (each_more (AreBeside t) (λ (r : Placed). (not (is_head all r) && stands_with all t r) ≡ false)
-    (λ (r : Placed) b. and_last (not (is_head all r)) (stands_with all t r) (and_none (is_round t r) (not (list_any (λ (k : Placed). is_round k r && is_before k t) all)) b.0)) rest beside)
-    ∙ filter_agree_each (λ (r : Placed). not (is_head all r) && stands_with all t r) (λ (r : Placed). not (is_head own r) && stands_with own t r) own
-    (each_more (λ (u : Placed). Each (AreBeside u) rest) (λ (r : Placed). (not (is_head all r) && stands_with all t r) ≡ (not (is_head own r) && stands_with own t r))
-    (λ (r : Placed) b. λ i. not (head_part own rest all part r b i) && stands_part own rest all part t r b i) own each))
+    (part.kept (stands_among all t) (each_more (IsFreeOf rest t) (λ (r : Placed). stands_among all t r ≡ false) (λ (r : Placed) f. member_other own rest all part t r f) rest free)
+    ∙ filter_agree_each (stands_among all t) (stands_among own t) own
+    (each_more (IsHeld own rest) (λ (r : Placed). stands_among all t r ≡ stands_among own t r) (λ (r : Placed) h. member_own own rest all part t r h) own held))
 
-shapes_part : (own rest all : List Placed) → IsPart own rest all → Each (λ (u : Placed). Each (AreBeside u) rest) own → map (shape_of all) (filter (is_head all) own) ≡ rings_by_shape own
-shapes_part own rest all part each =
+shapes_part : (own rest all : List Placed) → IsPart own rest all → Each (IsHeld own rest) own → Each (IsHeld rest own) rest → map (shape_of all) (filter (is_head all) own) ≡ rings_by_shape own
+shapes_part own rest all part held others =
     ap (map (shape_of all))
     (filter_agree_each (is_head all) (is_head own) own
-    (each_more (λ (u : Placed). Each (AreBeside u) rest) (λ (u : Placed). is_head all u ≡ is_head own u) (λ (u : Placed) b. head_part own rest all part u b) own each))
+    (each_more (IsHeld own rest) (λ (r : Placed). is_head all r ≡ is_head own r) (λ (r : Placed) h. head_part own rest all part r h) own held))
     ∙ map_agree (shape_of all) (shape_of own) (filter (is_head own) own)
-    (each_filter (is_head own) (λ (u : Placed). shape_of all u ≡ shape_of own u) own
-    (each_more (λ (u : Placed). Each (AreBeside u) rest) (λ (u : Placed). shape_of all u ≡ shape_of own u) (λ (u : Placed) b. shape_part own rest all part each u b) own each))
+    (each_filter (is_head own) (λ (t : Placed). shape_of all t ≡ shape_of own t) own
+    (each_more (λ (t : Placed). Each (IsFreeOf rest t) rest) (λ (t : Placed). shape_of all t ≡ shape_of own t) (λ (t : Placed) f. shape_part own rest all part held t f) own
+    (free_of_each rest own rest others)))
 
-each_beside_back : (xs ys : List Placed) → Each (λ (t : Placed). Each (AreBeside t) ys) xs → Each (λ (u : Placed). Each (AreBeside u) xs) ys
-each_beside_back xs [] h = tt
-each_beside_back xs (y ∷ ys) h =
-    (each_more (λ (t : Placed). Each (AreBeside t) (y ∷ ys)) (AreBeside y) (λ (t : Placed) k. (k.0.1, k.0.0)) xs h,
-    each_beside_back xs ys (each_more (λ (t : Placed). Each (AreBeside t) (y ∷ ys)) (λ (t : Placed). Each (AreBeside t) ys) (λ (t : Placed) k. k.1) xs h))
-
-placed_join : (xs ys zs : List Placed) → IsJoin xs ys zs → Each (λ (t : Placed). Each (AreBeside t) ys) xs → IsJoin (rings_by_shape xs) (rings_by_shape ys) (rings_by_shape zs)
-placed_join xs ys zs j beside =
-    subst (λ (l : List (List Ring)). IsJoin l (rings_by_shape ys) (rings_by_shape zs)) (shapes_part xs ys zs (first_part xs ys zs j) beside)
-    (subst (λ (l : List (List Ring)). IsJoin (map (shape_of zs) (filter (is_head zs) xs)) l (rings_by_shape zs))
-    (shapes_part ys xs zs (second_part xs ys zs j) (each_beside_back xs ys beside))
+placed_join : (xs ys zs : List Placed) → IsJoin xs ys zs → Each (IsHeld xs ys) xs → Each (IsHeld ys xs) ys → IsJoin (rings_by_shape xs) (rings_by_shape ys) (rings_by_shape zs)
+placed_join xs ys zs j first second =
+    subst (λ (l : List (List Ring)). IsJoin l (rings_by_shape ys) (rings_by_shape zs)) (shapes_part xs ys zs (first_part xs ys zs j) first second)
+    (subst (λ (l : List (List Ring)). IsJoin (map (shape_of zs) (filter (is_head zs) xs)) l (rings_by_shape zs)) (shapes_part ys xs zs (second_part xs ys zs j) second first)
     (join_map (shape_of zs) (filter (is_head zs) xs) (filter (is_head zs) ys) (filter (is_head zs) zs) (join_filter (is_head zs) xs ys zs j)))
 
--- neither of two rings is round the other, wherever they stand
-abbrev pub LieBeside : Ring → Ring → Type 0
-LieBeside r s = AreBeside (0, r) (0, s)
+-- ---- the same of rings without places
 
-twice_placed : (ts : List TwicePlaced) (rs : List Ring) (P : Ring → Type 0) → map (λ (t : TwicePlaced). t.2) ts ≡ rs → Each P rs → Each (λ (t : TwicePlaced). P t.2) ts
-twice_placed ts rs P e h = each_unmap (λ (t : TwicePlaced). t.2) P ts (subst (Each P) (sym e) h)
+-- as `IsHeldByOwn`, of each element
+abbrev pub HoldsItself : List Ring → List Ring → Ring → Type 0
+HoldsItself own others r = (int_lt (pos 0) (double_area r.0) ≡ true) ⊎ Each (λ (k : Ring). surrounds k r ≡ true → has_smaller own r k ≡ true) others
 
--- the shapes of a join of two lists of rings, none of which is round one of the other, join the shapes of both
-pub shapes_join : (rs ss ts : List Ring) → IsJoin rs ss ts → Each (λ (r : Ring). Each (LieBeside r) ss) rs
+placed_all : (ts : List TwicePlaced) (rs : List Ring) (P : Ring → Type 0) → map (λ (t : TwicePlaced). t.2) ts ≡ rs → Each P rs → Each (λ (t : TwicePlaced). P t.2) ts
+placed_all ts rs P e h = each_unmap (λ (t : TwicePlaced). t.2) P ts (subst (Each P) (sym e) h)
+
+placed_any : (ts : List TwicePlaced) (rs : List Ring) (p : Ring → Bool) → map (λ (t : TwicePlaced). t.2) ts ≡ rs → list_any p rs ≡ list_any (λ (h : Placed). p h.1) (map at_first ts)
+placed_any ts rs p e =
+    ap (list_any p) (sym e) ∙ (any_mapped (λ (t : TwicePlaced). t.2) p ts ∙ sym (any_mapped at_first (λ (h : Placed). p h.1) ts))
+
+placed_held : (ts us : List TwicePlaced) (rs ss : List Ring) → map (λ (t : TwicePlaced). t.2) ts ≡ rs → map (λ (t : TwicePlaced). t.2) us ≡ ss
+    → Each (HoldsItself rs ss) rs → Each (IsHeld (map at_first ts) (map at_first us)) (map at_first ts)
+placed_held ts us rs ss e f h = each_map at_first (IsHeld (map at_first ts) (map at_first us)) ts (placed_all ts rs (λ (r : Ring). IsHeld (map at_first ts) (map at_first us) (0, r)) e (each_more (HoldsItself rs ss) (λ (r : Ring). IsHeld (map at_first ts) (map at_first us) (0, r)) by rs h))
+  where
+    by : (r : Ring) → HoldsItself rs ss r → IsHeld (map at_first ts) (map at_first us) (0, r)
+    by r (inl h) = inl h
+    by r (inr h) =
+        inr (each_map at_first (λ (k : Placed). is_round k (0, r) ≡ true → smaller_round (map at_first ts) (0, r) k ≡ true) us
+        (placed_all us ss (λ (k : Ring). surrounds k r ≡ true → smaller_round (map at_first ts) (0, r) (0, k) ≡ true) f
+        (each_more (λ (k : Ring). surrounds k r ≡ true → has_smaller rs r k ≡ true) (λ (k : Ring). surrounds k r ≡ true → smaller_round (map at_first ts) (0, r) (0, k) ≡ true)
+        (λ (k : Ring) g b. sym (placed_any ts rs (λ (h : Ring). surrounds h r && int_lt (double_area h.0) (double_area k.0)) e) ∙ g b) ss h)))
+
+-- the shapes of a join of two lists of rings that hold their own join the shapes of both
+pub shapes_join : (rs ss ts : List Ring) → IsJoin rs ss ts → Each (HoldsItself rs ss) rs → Each (HoldsItself ss rs) ss
     → IsJoin (rings_by_shape (enumerate_from 0 rs)) (rings_by_shape (enumerate_from 0 ss)) (rings_by_shape (enumerate_from 0 ts))
-shapes_join rs ss ts j beside =
+shapes_join rs ss ts j held others =
     let p = places_of 0 0 0 rs ss ts j in
-    let each : Each (λ (t : Placed). Each (AreBeside t) (map at_first p.seconds)) (map at_first p.firsts) =
-    each_map at_first (λ (t : Placed). Each (AreBeside t) (map at_first p.seconds)) p.firsts
-    (twice_placed p.firsts rs (λ (r : Ring). Each (AreBeside (0, r)) (map at_first p.seconds)) p.rings_first
-    (each_more (λ (r : Ring). Each (LieBeside r) ss) (λ (r : Ring). Each (AreBeside (0, r)) (map at_first p.seconds))
-    (λ (r : Ring) h. each_map at_first (AreBeside (0, r)) p.seconds (twice_placed p.seconds ss (LieBeside r) p.rings_second h)) rs beside)) in
     let first : rings_by_shape (map at_first p.firsts) ≡ rings_by_shape (enumerate_from 0 rs) = shapes_same 0 0 p.firsts p.up_first ∙ ap rings_by_shape p.own_first in
     let second : rings_by_shape (map at_first p.seconds) ≡ rings_by_shape (enumerate_from 0 ss) = shapes_same 0 0 p.seconds p.up_second ∙ ap rings_by_shape p.own_second in
     subst (λ (l : List (List Ring)). IsJoin l (rings_by_shape (enumerate_from 0 ss)) (rings_by_shape (enumerate_from 0 ts))) first
     (subst (λ (l : List (List Ring)). IsJoin (rings_by_shape (map at_first p.firsts)) l (rings_by_shape (enumerate_from 0 ts))) second
-    (placed_join (map at_first p.firsts) (map at_first p.seconds) (enumerate_from 0 ts) p.join each))
+    (placed_join (map at_first p.firsts) (map at_first p.seconds) (enumerate_from 0 ts) p.join
+    (placed_held p.firsts p.seconds rs ss p.rings_first p.rings_second held) (placed_held p.seconds p.firsts ss rs p.rings_second p.rings_first others)))

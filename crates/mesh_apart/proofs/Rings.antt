@@ -1,6 +1,6 @@
 -- Lemmas over points and lists: each contour of components, and its ring, keeps to the box of one of them.
 use Rattle.std.proofs.Common.{◌≡◌, ℕ, ◌+◌, ◌<◌, ◌≤◌, ◌⊎◌, inl, inr, ⊎_elim, Bool, true, false, cond, not, ◌&&◌, ◌||◌, List, [], ◌∷◌, ◌++◌, map, refl, sym, ◌∙◌, ap, subst, arith}
-use Rattle.std.specs.Prelude.{ℤ, pos, ◌+ℤ◌, ◌*ℤ◌, ◌<ℤ◌}
+use Rattle.std.specs.Prelude.{ℤ, pos, ◌+ℤ◌, ◌*ℤ◌, ◌<ℤ◌, int_lt}
 use Rattle.std.specs.Ordering.{int_eq}
 use Rattle.std.specs.List.{All, filter, flat_map}
 use Rattle.std.proofs.lemmas.Bool.{cases_Bool, both_ways}
@@ -13,12 +13,12 @@ use Rattle.mesh_lattice.specs.Boundary.{IsBoundary, count, left_winding, right_w
 use Rattle.mesh_lattice.specs.Split.{same_edge, occurs}
 use Rattle.mesh_lattice.proofs.Each.{Each, each_more, each_left, each_right}
 use Rattle.mesh_lattice.proofs.Ends.{decides_edge}
-use Rattle.mesh_shapes.specs.Contours.{turning_points, kept, vertices, side_point, StartIsLeast}
-use Rattle.mesh_shapes.specs.Resolution.{Ring, ring_of, is_positive, is_round}
+use Rattle.mesh_shapes.specs.Contours.{turning_points, kept, vertices, side_point, double_area, StartIsLeast}
+use Rattle.mesh_shapes.specs.Resolution.{Ring, ring_of}
 use Rattle.mesh_apart.specs.Apart.{Box, finer_box, IsWithin, AreBoxesApart, LiesInBox, Piece}
+use Rattle.mesh_apart.specs.Laws.{surrounds}
 use Rattle.mesh_apart.proofs.Boundaries.{AreSegmentsOf}
 use Rattle.mesh_apart.proofs.Boxes.{not_both, within_refined, middle_within, IsPast}
-use Rattle.mesh_apart.proofs.Groups.{LieBeside}
 use Rattle.mesh_apart.proofs.Joins.{all_from_each}
 use Rattle.mesh_apart.proofs.Pieces.{LiesIn, AreApart, apart_back, IsAmong, lies_where_occurs, past_each}
 
@@ -159,6 +159,10 @@ contour_fits ps parted all (x ∷ xs) some h =
     let begins : IsOf ps x = route_start ps x xs x h in
     record { ring = ring_in ps all x xs (round_one ps parted x xs begins h); begins = begins }
 
+pub contour_begins : (ps : List Piece) (all : Bool) (c : List Point) → StartIsLeast c → Each (LiesIn ps) (boundary c) → BeginsIn ps (ring_of all c).0
+contour_begins ps all [] some h = absurd some
+contour_begins ps all (x ∷ xs) some h = route_start ps x xs x h
+
 -- ---- rings that lie apart
 
 among_side : (ps : List Piece) (r : Ring) → IsRingIn ps r → IsAmong 2 ps r.1
@@ -180,14 +184,11 @@ and_last : (a b : Bool) → b ≡ false → (a && b) ≡ false
 and_last true b h = h
 and_last false b h = refl
 
-round_none : (ps qs : List Piece) → AreApart qs ps → (r s : Ring) → IsRingIn ps r → IsRingIn qs s → is_round (0, r) (0, s) ≡ false
-round_none ps qs back r s h k =
-    and_last (is_positive (0, r)) (holds 2 s.1 r.0)
-    (ap (λ (w : ℤ). not (int_eq w (pos 0))) (not_round ps r s.1 (past_each 2 (omega arith) qs ps back s.1 (among_side qs s k)) h))
-
-pub beside : (ps qs : List Piece) → AreApart ps qs → (r s : Ring) → Fits ps r → Fits qs s → LieBeside r s
-beside ps qs apart r s h k =
-    (round_none ps qs (apart_back ps qs apart) r s h.ring k.ring, round_none qs ps apart s r k.ring h.ring)
+-- no ring of the one list surrounds one of the other
+pub never_round : (ps qs : List Piece) → AreApart qs ps → (r s : Ring) → Fits ps r → Fits qs s → surrounds r s ≡ false
+never_round ps qs back r s h k =
+    and_last (int_lt (pos 0) (double_area r.0)) (holds 2 s.1 r.0)
+    (ap (λ (w : ℤ). not (int_eq w (pos 0))) (not_round ps r s.1 (past_each 2 (omega arith) qs ps back s.1 (among_side qs s k.ring)) h.ring))
 
 pub begins_once : (ps qs : List Piece) → AreApart ps qs → (l : List Point) → BeginsIn ps l → BeginsIn qs l → ⊥
 begins_once ps qs apart [] h k = h

@@ -1,11 +1,11 @@
 -- Laws of drawings that lie apart. The function of the same name in the module `laws` carries each.
-use Rattle.std.specs.Prelude.{ℕ, ◌<◌, ◌≡◌, Bool, cond, List, [], ◌∷◌, ◌++◌, map, ℤ, pos}
-use Rattle.std.specs.List.{filter, AllZip, Contains}
+use Rattle.std.specs.Prelude.{ℕ, ◌<◌, ◌≡◌, ◌⊎◌, Bool, true, cond, ◌&&◌, List, [], ◌∷◌, ◌++◌, map, ℤ, pos, int_lt}
+use Rattle.std.specs.List.{All, filter, list_any, AllZip, Contains}
 use Rattle.std.specs.List.Sorted.{IsSortedBy, IsPermutation}
 use Rattle.mesh_plane.specs.Plane.{Point, Edge}
-use Rattle.mesh_plane.specs.Winding.{winding}
+use Rattle.mesh_plane.specs.Winding.{winding, holds}
 use Rattle.mesh_lattice.specs.Split.{EdgeSplit, after, IsLegal}
-use Rattle.mesh_shapes.specs.Contours.{reversed}
+use Rattle.mesh_shapes.specs.Contours.{double_area, reversed}
 use Rattle.mesh_shapes.specs.Resolution.{Choices, Ring, ring_of, is_large, points_lt, AreArranged, IsResolution}
 use Rattle.mesh_apart.specs.Apart.{finer_box, IsWithin, Piece, edges_in, LieApart, AreComponents}
 use Rattle.mesh_apart.specs.Joins.{IsJoin, JoinsAll}
@@ -53,6 +53,34 @@ pub record AreJoined (edges : List Edge) (fill : ℤ → Bool) (options : Choice
   pub ordered : IsSortedBy (shape_lt options.clockwise) shapes
   pub only : (z : List (List (List Point))) → IsJoin x y z → IsSortedBy (shape_lt options.clockwise) z → z ≡ shapes
   pub resolution : IsResolution edges fill options shapes
+
+-- a ring of positive area that winds round the other's side point
+abbrev pub surrounds : Ring → Ring → Bool
+surrounds h r = int_lt (pos 0) (double_area h.0) && holds 2 r.1 h.0
+
+-- of the list, a ring surrounds `r` and has less area than `k`
+abbrev pub has_smaller : List Ring → Ring → Ring → Bool
+has_smaller own r k = list_any (λ (h : Ring). surrounds h r && int_lt (double_area h.0) (double_area k.0)) own
+
+-- a ring has positive area, and heads a shape, or of its own list a ring surrounds it that is smaller than any of the
+-- others that does
+abbrev pub IsHeldByOwn : List Ring → List Ring → Ring → Type 0
+IsHeldByOwn own others r =
+    (int_lt (pos 0) (double_area r.0) ≡ true) ⊎ All (λ (k : Ring). surrounds k r ≡ true → has_smaller own r k ≡ true) others
+
+-- no ring of either list stands with one of the other
+pub record HoldTheirOwn (first second : List Ring) : Type 0 where
+  pub by_first : All (IsHeldByOwn first second) first
+  pub by_second : All (IsHeldByOwn second first) second
+
+-- the answers of two lists that lie apart, where no hole of the one would stand with a ring of the other
+abbrev pub ShapesJoin : Type 0
+ShapesJoin =
+    (first second : List Piece) → LieApart first second
+    → (fill : ℤ → Bool) (options : Choices) (x y : List (List (List Point)))
+    → (r : IsResolution (edges_in first) fill options x) → (s : IsResolution (edges_in second) fill options y)
+    → HoldTheirOwn (rings_of options r.contours) (rings_of options s.contours)
+    → AreJoined (edges_in first ++ edges_in second) fill options x y
 
 -- the answers of two lists of components, all of them apart
 abbrev pub AnswersJoin : Type 0

@@ -1,7 +1,7 @@
 //! Laws of drawings that lie apart. Each function does nothing: its clause is the law.
 
 ghost use Rattle.mesh_apart.specs.Laws.{AnswersJoin, ComponentsJoin, EdgesMayChangePlaces};
-ghost use Rattle.mesh_apart.specs.Laws.{OthersDoNotWind, ResolutionsJoin};
+ghost use Rattle.mesh_apart.specs.Laws.{OthersDoNotWind, ResolutionsJoin, ShapesJoin};
 
 /// What lies apart from a box does not wind round the box's points, however it is split.
 pub fn others_do_not_wind()
@@ -17,6 +17,12 @@ pub fn edges_may_change_places()
 /// those of both, whatever shapes their rings make.
 pub fn resolutions_join()
     ensures { ResolutionsJoin }
+{}
+
+/// Where no hole of either answer would stand with a contour of the other, two answers have one join in the order of
+/// shapes, and it is a resolution of all edges.
+pub fn shapes_join()
+    ensures { ShapesJoin }
 {}
 
 /// Where each piece's box is apart from all others, two answers have one join in the order of shapes, and it is a
