@@ -50,7 +50,7 @@ two_parts (p ∷ ps) qs h =
       apart = (each_right (λ (q : Piece). AreBoxesApart p.box q.box) ps qs h.0, rest.apart);
     }
 
-lie_apart : (ps qs : List Piece) → Each IsBoxed ps → Each IsBoxed qs → AreApart ps qs → LieApart ps qs
+pub lie_apart : (ps qs : List Piece) → Each IsBoxed ps → Each IsBoxed qs → AreApart ps qs → LieApart ps qs
 lie_apart ps qs h k apart = record {
   first_boxed = all_from_each IsBoxed ps h;
   second_boxed = all_from_each IsBoxed qs k;
@@ -75,7 +75,7 @@ components_two ps qs h fill options x y r s =
 
 -- ---- one by one
 
-none_resolved : (fill : ℤ → Bool) (options : Choices) → IsResolution [] fill options []
+pub none_resolved : (fill : ℤ → Bool) (options : Choices) → IsResolution [] fill options []
 none_resolved fill options = record {
   splits = [];
   legal = no_cut;
@@ -85,6 +85,10 @@ none_resolved fill options = record {
   begun = All-nil (IsBegun options.all_vertices);
   arranged = record { sorted = []; same = IsPermutation-refl []; ordered = λ k d le low. absurd (omega arith); shapes = refl };
 }
+
+pub none_contours : (fill : ℤ → Bool) (options : Choices) → (none_resolved fill options).contours ≡ []
+unfolding none_resolved
+none_contours fill options = refl
 
 each_joined : (ps : List Piece) → Each IsBoxed ps → AreParted ps → (fill : ℤ → Bool) (options : Choices) (answers : List (List (List (List Point))))
     → AllZip (λ (p : Piece) (x : List (List (List Point))). IsResolution p.edges fill options x) ps answers → AreAllJoined (edges_in ps) fill options answers

@@ -11,3 +11,4 @@ pub mod Rings
 pub mod Shapes
 pub mod Components
 pub mod Rearranged
+pub mod Drawings

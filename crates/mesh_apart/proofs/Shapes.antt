@@ -145,18 +145,27 @@ each_pair : {A B : Type 0} (P : A → Type 0) (Q : B → Type 0) (R : A → B �
 each_pair P Q R f [] ys p q = tt
 each_pair P Q R f (x ∷ xs) ys p q = (each_more Q (R x) (λ y k. f x y p.0 k) ys q, each_pair P Q R f xs ys p.1 q)
 
+-- two answers joined, with the contours of both
+pub record AreJoinedWhole (ps qs : List Piece) {fill : ℤ → Bool} {options : Choices} {x y : List (List (List Point))}
+    (r : IsResolution (edges_in ps) fill options x) (s : IsResolution (edges_in qs) fill options y) : Type 0 where
+  pub joined : AreJoined (edges_in ps ++ edges_in qs) fill options x y
+  pub contours : joined.resolution.contours ≡ r.contours ++ s.contours
+
 answers_held : (ps qs : List Piece) → LieApart ps qs → Each IsBoxed ps → Each IsBoxed qs → AreApart ps qs
     → (fill : ℤ → Bool) (options : Choices) (x y : List (List (List Point)))
     → (r : IsResolution (edges_in ps) fill options x) → (s : IsResolution (edges_in qs) fill options y)
     → Each (HoldsItself r.arranged.sorted s.arranged.sorted) r.arranged.sorted → Each (HoldsItself s.arranged.sorted r.arranged.sorted) s.arranged.sorted
-    → AreJoined (edges_in ps ++ edges_in qs) fill options x y
+    → AreJoinedWhole ps qs r s
 answers_held ps qs h boxed_first boxed_second apart fill options x y r s held_first held_second = record {
-  shapes = shapes_of cw together.joined;
-  joins = joins;
-  ordered = sorted_from_rises (shape_lt cw) (shapes_of cw together.joined) rise;
-  only = λ (z : List (List (List Point))) (j : IsJoin x y z) (o : IsSortedBy (shape_lt cw) z).
-      one_rising_join (shape_lt cw) x y (shapes_of cw together.joined) z differ joins rise j (rises_from_sorted (shape_lt cw) (shape_order cw) z o);
-  resolution = (joint ps qs h fill options x y (shapes_of cw together.joined) r s arranged).resolution;
+  joined = record {
+    shapes = shapes_of cw together.joined;
+    joins = joins;
+    ordered = sorted_from_rises (shape_lt cw) (shapes_of cw together.joined) rise;
+    only = λ (z : List (List (List Point))) (j : IsJoin x y z) (o : IsSortedBy (shape_lt cw) z).
+        one_rising_join (shape_lt cw) x y (shapes_of cw together.joined) z differ joins rise j (rises_from_sorted (shape_lt cw) (shape_order cw) z o);
+    resolution = (joint ps qs h fill options x y (shapes_of cw together.joined) r s arranged).resolution;
+  };
+  contours = (joint ps qs h fill options x y (shapes_of cw together.joined) r s arranged).contours;
 }
   where
     cw : Bool
@@ -208,7 +217,7 @@ answers_held ps qs h boxed_first boxed_second apart fill options x y r s held_fi
 -- where rings hold their own
 pub shapes_joined : (ps qs : List Piece) → LieApart ps qs → (fill : ℤ → Bool) (options : Choices) (x y : List (List (List Point)))
     → (r : IsResolution (edges_in ps) fill options x) → (s : IsResolution (edges_in qs) fill options y)
-    → HoldTheirOwn (rings_of options r.contours) (rings_of options s.contours) → AreJoined (edges_in ps ++ edges_in qs) fill options x y
+    → HoldTheirOwn (rings_of options r.contours) (rings_of options s.contours) → AreJoinedWhole ps qs r s
 shapes_joined ps qs h fill options x y r s hold =
     answers_held ps qs h (each_from_all IsBoxed ps h.first_boxed) (each_from_all IsBoxed qs h.second_boxed) (apart_from_all ps qs h.apart) fill options x y r s
     (held_sorted (rings_of options r.contours) (rings_of options s.contours) r.arranged.sorted s.arranged.sorted r.arranged.same s.arranged.same hold.by_first)
@@ -221,6 +230,6 @@ pub answers_join : (ps qs : List Piece) → LieApart ps qs → Each IsBoxed ps �
 answers_join ps qs h boxed_first boxed_second apart parted_first parted_second fill options x y r s =
     let fit_first = sorted_fit ps boxed_first parted_first fill options x r in
     let fit_second = sorted_fit qs boxed_second parted_second fill options y s in
-    answers_held ps qs h boxed_first boxed_second apart fill options x y r s
+    (answers_held ps qs h boxed_first boxed_second apart fill options x y r s
     (held_fit ps qs apart r.arranged.sorted s.arranged.sorted fit_first fit_second)
-    (held_fit qs ps (apart_back ps qs apart) s.arranged.sorted r.arranged.sorted fit_second fit_first)
+    (held_fit qs ps (apart_back ps qs apart) s.arranged.sorted r.arranged.sorted fit_second fit_first)).joined

@@ -48,11 +48,15 @@ pub record IsBoxed (piece : Piece) : Type 0 where
 abbrev pub edges_in : List Piece → List Edge
 edges_in pieces = flat_map (λ (piece : Piece). piece.edges) pieces
 
--- two lists of such pieces: each box of the one is apart from each of the other; within a list boxes may meet
+-- each box of the one list is apart from each of the other
+abbrev pub ArePiecesApart : List Piece → List Piece → Type 0
+ArePiecesApart first second = All (λ (p : Piece). All (λ (q : Piece). AreBoxesApart p.box q.box) second) first
+
+-- two lists of such pieces, apart from each other; within a list boxes may meet
 pub record LieApart (first second : List Piece) : Type 0 where
   pub first_boxed : All IsBoxed first
   pub second_boxed : All IsBoxed second
-  pub apart : All (λ (p : Piece). All (λ (q : Piece). AreBoxesApart p.box q.box) second) first
+  pub apart : ArePiecesApart first second
 
 -- components of a drawing: pieces whose boxes are apart from each other
 pub record AreComponents (pieces : List Piece) : Type 0 where

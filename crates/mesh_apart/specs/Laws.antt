@@ -1,13 +1,13 @@
 -- Laws of drawings that lie apart. The function of the same name in the module `laws` carries each.
 use Rattle.std.specs.Prelude.{ℕ, ◌<◌, ◌≡◌, ◌⊎◌, Bool, true, cond, ◌&&◌, List, [], ◌∷◌, ◌++◌, map, ℤ, pos, int_lt}
-use Rattle.std.specs.List.{All, filter, list_any, AllZip, Contains}
+use Rattle.std.specs.List.{All, AllPairs, AllZip, Contains, filter, flat_map, list_any}
 use Rattle.std.specs.List.Sorted.{IsSortedBy, IsPermutation}
 use Rattle.mesh_plane.specs.Plane.{Point, Edge}
 use Rattle.mesh_plane.specs.Winding.{winding, holds}
 use Rattle.mesh_lattice.specs.Split.{EdgeSplit, after, IsLegal}
 use Rattle.mesh_shapes.specs.Contours.{double_area, reversed}
 use Rattle.mesh_shapes.specs.Resolution.{Choices, Ring, ring_of, is_large, points_lt, AreArranged, IsResolution}
-use Rattle.mesh_apart.specs.Apart.{finer_box, IsWithin, Piece, edges_in, LieApart, AreComponents}
+use Rattle.mesh_apart.specs.Apart.{finer_box, IsWithin, Piece, IsBoxed, edges_in, ArePiecesApart, LieApart, AreComponents}
 use Rattle.mesh_apart.specs.Joins.{IsJoin, JoinsAll}
 
 -- the rings of contours, the small ones left out
@@ -116,6 +116,26 @@ pub record AreAllJoined (edges : List Edge) (fill : ℤ → Bool) (options : Cho
   pub only : (z : List (List (List Point))) → JoinsAll answers z → IsSortedBy (shape_lt options.clockwise) z
       → z ≡ shapes
   pub resolution : IsResolution edges fill options shapes
+
+-- boxed pieces and an answer of them
+pub record Drawing (fill : ℤ → Bool) (options : Choices) : Type 0 where
+  pub pieces : List Piece
+  pub boxed : All IsBoxed pieces
+  pub answer : List (List (List Point))
+  pub resolution : IsResolution (edges_in pieces) fill options answer
+
+-- the boxes of two drawings are apart, and no hole of the one would stand with a ring of the other
+pub record AreDrawnApart {fill : ℤ → Bool} {options : Choices} (a b : Drawing fill options) : Type 0 where
+  pub apart : ArePiecesApart a.pieces b.pieces
+  pub hold : HoldTheirOwn (rings_of options a.resolution.contours) (rings_of options b.resolution.contours)
+
+-- the answers of drawings of which any two are apart so, for all their edges in any order
+abbrev pub DrawingsJoin : Type 0
+DrawingsJoin =
+    (fill : ℤ → Bool) (options : Choices) (drawings : List (Drawing fill options)) → AllPairs AreDrawnApart drawings
+    → (edges : List Edge)
+    → IsPermutation (edges_in (flat_map (λ (a : Drawing fill options). a.pieces) drawings)) edges
+    → AreAllJoined edges fill options (map (λ (a : Drawing fill options). a.answer) drawings)
 
 -- the answers of components, one by one, for all their edges in any order
 abbrev pub ComponentsJoin : Type 0

@@ -1,6 +1,6 @@
 //! Laws of drawings that lie apart. Each function does nothing: its clause is the law.
 
-ghost use Rattle.mesh_apart.specs.Laws.{AnswersJoin, ComponentsJoin, EdgesMayChangePlaces};
+ghost use Rattle.mesh_apart.specs.Laws.{AnswersJoin, ComponentsJoin, DrawingsJoin, EdgesMayChangePlaces};
 ghost use Rattle.mesh_apart.specs.Laws.{OthersDoNotWind, ResolutionsJoin, ShapesJoin};
 
 /// What lies apart from a box does not wind round the box's points, however it is split.
@@ -23,6 +23,11 @@ pub fn resolutions_join()
 /// shapes, and it is a resolution of all edges.
 pub fn shapes_join()
     ensures { ShapesJoin }
+{}
+
+/// The same of the answers of many drawings.
+pub fn drawings_join()
+    ensures { DrawingsJoin }
 {}
 
 /// Where each piece's box is apart from all others, two answers have one join in the order of shapes, and it is a
