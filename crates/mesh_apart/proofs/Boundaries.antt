@@ -1,7 +1,7 @@
 -- Lemmas over points and lists: what legal splits leave of lists that lie apart is clean, and its boundary is that of both.
-use Rattle.std.proofs.Common.{◌≡◌, ℕ, ◌+◌, ◌<◌, ◌⊎◌, inl, inr, ⊎_elim, Bool, true, false, cond, not, ◌&&◌, ◌||◌, List, [], ◌∷◌, ◌++◌, refl, sym, ◌∙◌, ap, arith}
+use Rattle.std.proofs.Common.{◌≡◌, ℕ, ◌+◌, ◌<◌, ⊎_elim, Bool, true, false, cond, not, ◌&&◌, ◌||◌, List, [], ◌∷◌, ◌++◌, refl, sym, ◌∙◌, arith}
 use Rattle.std.specs.Prelude.{ℤ, pos, ◌+ℤ◌, ◌-ℤ◌}
-use Rattle.std.proofs.lemmas.Bool.{or_cases, or_parts, cases_Bool, both_ways}
+use Rattle.std.proofs.lemmas.Bool.{or_cases, or_parts, cases_Bool}
 use Rattle.std.proofs.lemmas.List.Sums.{sum_by-append}
 use Rattle.mesh_plane.specs.Plane.{Point, Edge}
 use Rattle.mesh_plane.specs.Winding.{winding, crossing_on}
@@ -16,9 +16,9 @@ use Rattle.mesh_lattice.proofs.Ends.{not_along}
 use Rattle.mesh_lattice.proofs.KeptBySplits.{Boxed}
 use Rattle.mesh_lattice.proofs.SoundSplits.{legal_boxed}
 use Rattle.mesh_lattice.proofs.Splits.{occurs_append}
-use Rattle.mesh_apart.specs.Apart.{Box, finer_box, Piece, IsBoxed, edges_in}
+use Rattle.mesh_apart.specs.Apart.{finer_box, Piece, IsBoxed, edges_in}
 use Rattle.mesh_apart.proofs.Boxes.{IsPast}
-use Rattle.mesh_apart.proofs.Pieces.{LiesIn, AreApart, apart_back, IsAmong, lies_where_occurs, lies_once, each_lies, among_on, among_middle, among_once, past_each}
+use Rattle.mesh_apart.proofs.Pieces.{LiesIn, AreApart, apart_back, lies_where_occurs, lies_once, each_lies, among_on, among_middle, among_once, past_each}
 use Rattle.mesh_apart.proofs.Splits.{lies_kept, after_each}
 use Rattle.mesh_apart.proofs.Windings.{after_none_round}
 

@@ -1,7 +1,7 @@
 -- Lemmas over pieces: components lie apart, and their answers join, one by one.
-use Rattle.std.proofs.Common.{◌≡◌, ℕ, ◌+◌, ◌<◌, zero, suc, Bool, true, false, List, [], ◌∷◌, ◌++◌, length, get_or, refl, sym, ◌∙◌, ap, subst, arith}
+use Rattle.std.proofs.Common.{◌≡◌, ℕ, ◌<◌, suc, Bool, List, [], ◌∷◌, ◌++◌, length, get_or, refl, sym, subst, arith}
 use Rattle.std.specs.Prelude.{ℤ}
-use Rattle.std.specs.List.{All, AllPairs, AllZip, flat_map}
+use Rattle.std.specs.List.{All, AllPairs, AllZip}
 use Rattle.std.specs.List.Sorted.{IsSortedBy, IsPermutation}
 use Rattle.std.proofs.lemmas.Bool.{false≢true}
 use Rattle.std.proofs.lemmas.List.{append-nil}
@@ -26,9 +26,10 @@ use Rattle.mesh_apart.proofs.Shapes.{shape_order, answers_join}
 
 parted_from_pairs : (ps : List Piece) → AllPairs (λ (p q : Piece). AreBoxesApart p.box q.box) ps → AreParted ps
 parted_from_pairs [] h = tt
-parted_from_pairs (p ∷ ps) h =
-    (each ps (λ k d low. h 0 (suc k) d (omega arith) (omega arith)),
-    parted_from_pairs ps (λ i j d before low. h (suc i) (suc j) d (omega arith) (omega arith)))
+parted_from_pairs (p ∷ ps) h = (
+  each ps (λ k d low. h 0 (suc k) d (omega arith) (omega arith)),
+  parted_from_pairs ps (λ i j d before low. h (suc i) (suc j) d (omega arith) (omega arith)),
+)
   where
     each : (qs : List Piece) → ((k : ℕ) (d : Piece) → k < length qs → AreBoxesApart p.box (get_or qs k d).box) → Each (λ (q : Piece). AreBoxesApart p.box q.box) qs
     each [] h = tt

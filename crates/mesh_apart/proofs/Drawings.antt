@@ -1,21 +1,21 @@
 -- Lemmas over drawings: the answers of drawings that are apart join, one by one.
-use Rattle.std.proofs.Common.{◌≡◌, ℕ, ◌+◌, ◌<◌, suc, inl, inr, Bool, true, ◌||◌, ◌&&◌, List, [], ◌∷◌, ◌++◌, map, length, get_or, refl, sym, ◌∙◌, ap, subst, arith}
+use Rattle.std.proofs.Common.{◌≡◌, ℕ, ◌<◌, suc, inl, inr, Bool, true, ◌||◌, ◌&&◌, List, [], ◌∷◌, ◌++◌, map, length, get_or, refl, sym, ◌∙◌, ap, subst, arith}
 use Rattle.std.specs.Prelude.{ℤ, int_lt}
-use Rattle.std.specs.List.{All, AllPairs, flat_map, list_any}
+use Rattle.std.specs.List.{AllPairs, flat_map}
 use Rattle.std.specs.List.Sorted.{IsSortedBy, IsPermutation}
 use Rattle.std.proofs.lemmas.Bool.{or_right}
 use Rattle.std.proofs.lemmas.List.Concat.{flat_map-append}
 use Rattle.std.proofs.lemmas.List.Elements.{All-nil, All-append, All-weaker}
 use Rattle.std.proofs.lemmas.List.Folds.{list_any-append}
 use Rattle.mesh_plane.specs.Plane.{Point, Edge}
-use Rattle.mesh_lattice.proofs.Each.{Each, each_more, each_append}
+use Rattle.mesh_lattice.proofs.Each.{Each, each_append}
 use Rattle.mesh_shapes.specs.Contours.{double_area}
 use Rattle.mesh_shapes.specs.Resolution.{Choices, Ring, IsResolution}
-use Rattle.mesh_apart.specs.Apart.{Piece, IsBoxed, AreBoxesApart, edges_in, ArePiecesApart, LieApart}
+use Rattle.mesh_apart.specs.Apart.{Piece, IsBoxed, AreBoxesApart, edges_in}
 use Rattle.mesh_apart.specs.Joins.{IsJoin, JoinsAll}
-use Rattle.mesh_apart.specs.Laws.{rings_of, shape_lt, surrounds, has_smaller, IsHeldByOwn, HoldTheirOwn, Drawing, AreDrawnApart, AreJoined, AreAllJoined}
+use Rattle.mesh_apart.specs.Laws.{rings_of, shape_lt, surrounds, has_smaller, IsHeldByOwn, HoldTheirOwn, Drawing, AreDrawnApart, AreAllJoined}
 use Rattle.mesh_apart.proofs.Components.{lie_apart, none_resolved, none_contours}
-use Rattle.mesh_apart.proofs.Joins.{all_from_each, rises_from_sorted, sorted_from_rises, rising_parts}
+use Rattle.mesh_apart.proofs.Joins.{rises_from_sorted, sorted_from_rises, rising_parts}
 use Rattle.mesh_apart.proofs.Pieces.{each_from_all, apart_from_all, AreApart}
 use Rattle.mesh_apart.proofs.Rearranged.{rearranged}
 use Rattle.mesh_apart.proofs.Shapes.{shape_order, rings_append, shapes_joined}

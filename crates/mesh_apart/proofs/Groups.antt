@@ -1,5 +1,5 @@
 -- Lemmas over placed rings: where none of either list stands with one of the other, the shapes of both lists are those of each.
-use Rattle.std.proofs.Common.{◌≡◌, ℕ, ◌+◌, ◌≤◌, ◌⊎◌, inl, inr, ⊎_elim, Bool, true, false, cond, not, ◌&&◌, ◌||◌, List, [], ◌∷◌, map, refl, sym, ◌∙◌, ap, subst, arith}
+use Rattle.std.proofs.Common.{◌≡◌, ℕ, ◌+◌, ◌≤◌, ◌⊎◌, inl, inr, ⊎_elim, Bool, true, false, not, ◌&&◌, ◌||◌, List, [], ◌∷◌, map, refl, sym, ◌∙◌, ap, subst, arith}
 use Rattle.std.specs.Prelude.{ℤ, pos, ◌<ℤ◌, ◌≤ℤ◌, int_lt}
 use Rattle.std.specs.Ordering.{int_eq}
 use Rattle.std.specs.List.{filter, list_any, enumerate_from}
@@ -12,7 +12,7 @@ use Rattle.mesh_shapes.specs.Contours.{double_area}
 use Rattle.mesh_shapes.specs.Resolution.{Ring, Placed, is_positive, is_round, is_before, is_head, stands_with, shape_of, rings_by_shape}
 use Rattle.mesh_apart.specs.Joins.{IsJoin, no_more, from_first, from_second}
 use Rattle.mesh_apart.specs.Laws.{surrounds, has_smaller}
-use Rattle.mesh_apart.proofs.Joins.{each_any, each_filter, map_agree, filter_agree_each, filter_none, filter_mapped, any_mapped, any_agree, any_none, each_map, each_unmap, join_map, join_filter, join_any, first_alone, second_alone}
+use Rattle.mesh_apart.proofs.Joins.{each_any, each_filter, map_agree, filter_agree_each, filter_none, filter_mapped, any_mapped, any_agree, each_map, each_unmap, join_map, join_filter, join_any, first_alone, second_alone}
 
 -- ---- places may change where their order stays
 
@@ -41,9 +41,10 @@ low_up n m k l a b (t ∷ ts) h = (omega (arith, h.0), omega (arith, h.1), h.2)
 
 each_above : (n m : ℕ) (ts : List TwicePlaced) → GoUp n m ts → Each (λ (t : TwicePlaced). (n ≤ t.0) × (m ≤ t.1)) ts
 each_above n m [] h = tt
-each_above n m (t ∷ ts) h =
-    ((h.0, h.1),
-    each_above n m ts (low_up (t.0 + 1) (t.1 + 1) n m (let a = h.0 in omega (arith, a)) (let b = h.1 in omega (arith, b)) ts h.2))
+each_above n m (t ∷ ts) h = (
+  (h.0, h.1),
+  each_above n m ts (low_up (t.0 + 1) (t.1 + 1) n m (let a = h.0 in omega (arith, a)) (let b = h.1 in omega (arith, b)) ts h.2),
+)
 
 less_both : (a b c d : ℕ) → a + 1 ≤ b → c + 1 ≤ d → int_lt (pos a) (pos b) ≡ int_lt (pos c) (pos d)
 less_both a b c d h k = less_test (pos a) (pos b) (omega (arith, ints)) ∙ sym (less_test (pos c) (pos d) (omega (arith, ints)))
@@ -53,11 +54,14 @@ less_neither a b c d h k = not_less_test (pos a) (pos b) (omega (arith, ints)) �
 
 pub one_order : (n m : ℕ) (ts : List TwicePlaced) → GoUp n m ts → Each (λ (t : TwicePlaced). Each (HaveOneOrder t) ts) ts
 one_order n m [] h = tt
-one_order n m (t ∷ ts) h =
-    ((less_neither t.0 t.0 t.1 t.1 (omega arith) (omega arith),
-    each_more (λ (u : TwicePlaced). (t.0 + 1 ≤ u.0) × (t.1 + 1 ≤ u.1)) (HaveOneOrder t) (λ (u : TwicePlaced) k. less_both t.0 u.0 t.1 u.1 k.0 k.1) ts above),
-    each_pair (λ (u : TwicePlaced). (t.0 + 1 ≤ u.0) × (t.1 + 1 ≤ u.1)) (λ (u : TwicePlaced). Each (HaveOneOrder u) ts) (λ (u : TwicePlaced). Each (HaveOneOrder u) (t ∷ ts))
-    (λ (u : TwicePlaced) k l. (less_neither u.0 t.0 u.1 t.1 (let a = k.0 in omega (arith, a)) (let b = k.1 in omega (arith, b)), l)) ts above (one_order (t.0 + 1) (t.1 + 1) ts h.2))
+one_order n m (t ∷ ts) h = (
+  (
+    less_neither t.0 t.0 t.1 t.1 (omega arith) (omega arith),
+    each_more (λ (u : TwicePlaced). (t.0 + 1 ≤ u.0) × (t.1 + 1 ≤ u.1)) (HaveOneOrder t) (λ (u : TwicePlaced) k. less_both t.0 u.0 t.1 u.1 k.0 k.1) ts above,
+  ),
+  each_pair (λ (u : TwicePlaced). (t.0 + 1 ≤ u.0) × (t.1 + 1 ≤ u.1)) (λ (u : TwicePlaced). Each (HaveOneOrder u) ts) (λ (u : TwicePlaced). Each (HaveOneOrder u) (t ∷ ts))
+      (λ (u : TwicePlaced) k l. (less_neither u.0 t.0 u.1 t.1 (let a = k.0 in omega (arith, a)) (let b = k.1 in omega (arith, b)), l)) ts above (one_order (t.0 + 1) (t.1 + 1) ts h.2),
+)
   where
     above : Each (λ (u : TwicePlaced). (t.0 + 1 ≤ u.0) × (t.1 + 1 ≤ u.1)) ts
     above = each_above (t.0 + 1) (t.1 + 1) ts h.2
@@ -114,9 +118,10 @@ shape_same ts t h =
 
 each_turned : (ts us : List TwicePlaced) → Each (λ (t : TwicePlaced). Each (HaveOneOrder t) us) ts → Each (λ (u : TwicePlaced). Each (λ (t : TwicePlaced). HaveOneOrder t u) ts) us
 each_turned ts [] h = tt
-each_turned ts (u ∷ us) h =
-    (each_more (λ (t : TwicePlaced). Each (HaveOneOrder t) (u ∷ us)) (λ (t : TwicePlaced). HaveOneOrder t u) (λ (t : TwicePlaced) k. k.0) ts h,
-    each_turned ts us (each_more (λ (t : TwicePlaced). Each (HaveOneOrder t) (u ∷ us)) (λ (t : TwicePlaced). Each (HaveOneOrder t) us) (λ (t : TwicePlaced) k. k.1) ts h))
+each_turned ts (u ∷ us) h = (
+  each_more (λ (t : TwicePlaced). Each (HaveOneOrder t) (u ∷ us)) (λ (t : TwicePlaced). HaveOneOrder t u) (λ (t : TwicePlaced) k. k.0) ts h,
+  each_turned ts us (each_more (λ (t : TwicePlaced). Each (HaveOneOrder t) (u ∷ us)) (λ (t : TwicePlaced). Each (HaveOneOrder t) us) (λ (t : TwicePlaced) k. k.1) ts h),
+)
 
 shapes_mapped : (place : TwicePlaced → Placed) (rings : List Placed) (ts : List TwicePlaced)
     → map (shape_of rings) (filter (is_head rings) (map place ts)) ≡ map (λ (t : TwicePlaced). shape_of rings (place t)) (filter (λ (t : TwicePlaced). is_head rings (place t)) ts)

@@ -1,11 +1,10 @@
 -- Lemmas over lists: joins of lists, and ordered ones.
-use Rattle.std.proofs.Common.{◌≡◌, ℕ, ◌+◌, ◌<◌, ◌≤◌, zero, suc, ⊎_elim, Bool, true, false, cond, ◌||◌, List, [], ◌∷◌, ◌++◌, map, length, get_or, refl, sym, ◌∙◌, ap, subst, arith}
+use Rattle.std.proofs.Common.{◌≡◌, ℕ, ◌+◌, ◌<◌, zero, suc, Bool, true, false, cond, ◌||◌, List, [], ◌∷◌, ◌++◌, map, length, get_or, refl, sym, ◌∙◌, ap, subst, arith}
 use Rattle.std.specs.Cmp.{IsStrictWeakOrder}
 use Rattle.std.specs.List.{All, filter, list_any}
 use Rattle.std.specs.List.Sorted.{IsPermutation, IsSortedBy}
-use Rattle.std.proofs.lemmas.Bool.{cases_Bool, both_ways}
-use Rattle.std.proofs.lemmas.List.Elements.{All-nil, All-cons, All-head, All-tail}
-use Rattle.std.proofs.lemmas.List.Sorted.{IsPermutation-refl, IsPermutation-cons, IsPermutation-trans, IsPermutation-middle, IsPermutation-sym, sorted_far}
+use Rattle.std.proofs.lemmas.List.Elements.{All-nil, All-cons}
+use Rattle.std.proofs.lemmas.List.Sorted.{IsPermutation-refl, IsPermutation-cons, IsPermutation-trans, IsPermutation-middle, sorted_far}
 use Rattle.mesh_lattice.proofs.Each.{Each, each_more}
 use Rattle.mesh_apart.specs.Joins.{IsJoin, no_more, from_first, from_second}
 
@@ -196,9 +195,10 @@ rises_by lt less same (x ∷ xs) h =
 
 pub rises_from_sorted : {A : Type 0} (lt : A → A → Bool) → IsStrictWeakOrder lt → (xs : List A) → IsSortedBy lt xs → Rises lt xs
 rises_from_sorted lt o [] h = tt
-rises_from_sorted lt o (x ∷ xs) h =
-    (each xs (λ k d low. sorted_far lt o (x ∷ xs) h 0 (suc k) d (omega arith) (omega arith)),
-    rises_from_sorted lt o xs (λ k d le low. subst (λ n. lt (get_or (x ∷ xs) n d) (get_or xs k d) ≡ false) (next k) (h (suc k) d (omega arith) (omega arith))))
+rises_from_sorted lt o (x ∷ xs) h = (
+  each xs (λ k d low. sorted_far lt o (x ∷ xs) h 0 (suc k) d (omega arith) (omega arith)),
+  rises_from_sorted lt o xs (λ k d le low. subst (λ n. lt (get_or (x ∷ xs) n d) (get_or xs k d) ≡ false) (next k) (h (suc k) d (omega arith) (omega arith))),
+)
   where
     each : (ys : List _) → ((k : ℕ) (d : _) → k < length ys → lt (get_or ys k d) x ≡ false) → Each (λ y. lt y x ≡ false) ys
     each [] h = tt
@@ -239,18 +239,20 @@ rising_join {A} lt o (x ∷ xs) ys hx hy = inner (λ ys hy. rising_join lt o xs 
           joined = y ∷ second.joined;
           join = from_second second.join;
           rises =
-              let later : lt x y ≡ false = o.one_way y x t in
-              (join_each (λ z. lt z y ≡ false) (x ∷ xs) ys second.joined second.join
-              (later, each_more (λ z. lt z x ≡ false) (λ z. lt z y ≡ false) (λ z k. o.chain z x y k later) xs hx.0) hy.0,
-              second.rises);
+              let later : lt x y ≡ false = o.one_way y x t in (
+                join_each (λ z. lt z y ≡ false) (x ∷ xs) ys second.joined second.join
+                    (later, each_more (λ z. lt z x ≡ false) (λ z. lt z y ≡ false) (λ z k. o.chain z x y k later) xs hx.0) hy.0,
+                second.rises,
+              );
         }
         by false f first second = record {
           joined = x ∷ first.joined;
           join = from_first first.join;
-          rises =
-              (join_each (λ z. lt z x ≡ false) xs (y ∷ ys) first.joined first.join hx.0
-              (f, each_more (λ z. lt z y ≡ false) (λ z. lt z x ≡ false) (λ z k. o.chain z y x k f) ys hy.0),
-              first.rises);
+          rises = (
+            join_each (λ z. lt z x ≡ false) xs (y ∷ ys) first.joined first.join hx.0
+                (f, each_more (λ z. lt z y ≡ false) (λ z. lt z x ≡ false) (λ z k. o.chain z y x k f) ys hy.0),
+            first.rises,
+          );
         }
 
 -- two rising joins are one, where of an element of the one list and one of the other one is less

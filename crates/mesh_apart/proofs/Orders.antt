@@ -1,11 +1,11 @@
 -- Lemmas over lists of points: their order.
-use Rattle.std.proofs.Common.{◌≡◌, ⊎_elim, Bool, true, false, ◌&&◌, ◌||◌, List, [], ◌∷◌, refl, sym, ◌∙◌, ap, subst}
+use Rattle.std.proofs.Common.{◌≡◌, ⊎_elim, Bool, true, false, ◌&&◌, ◌||◌, List, [], ◌∷◌, refl, sym, ◌∙◌, subst}
 use Rattle.std.specs.Cmp.{IsStrictWeakOrder}
-use Rattle.std.proofs.lemmas.Bool.{cases_Bool, both_ways, or_cases, or_parts, and_parts, true≢false}
+use Rattle.std.proofs.lemmas.Bool.{both_ways, or_cases, or_parts, and_parts, true≢false}
 use Rattle.mesh_plane.specs.Plane.{Point}
 use Rattle.mesh_plane.specs.Order.{point_lt}
 use Rattle.mesh_plane.specs.Winding.{same_point}
-use Rattle.mesh_plane.proofs.Comparing.{decides_point, point_self}
+use Rattle.mesh_plane.proofs.Comparing.{decides_point}
 use Rattle.mesh_shapes.specs.Resolution.{points_lt}
 use Rattle.mesh_shapes.proofs.Tracing.{Before, before_of, of_before, not_before, before_trans, from_after, neither_before, lt_self}
 

@@ -1,12 +1,12 @@
 -- Lemmas over points and lists: edges and points that lie in a box of some piece.
-use Rattle.std.proofs.Common.{◌≡◌, ℕ, ◌<◌, ◌⊎◌, inl, inr, ⊎_elim, Bool, true, false, List, [], ◌∷◌, ◌++◌, refl, sym, ap, subst}
+use Rattle.std.proofs.Common.{◌≡◌, ℕ, ◌<◌, ◌⊎◌, inl, inr, ⊎_elim, true, List, [], ◌∷◌, sym, subst}
 use Rattle.std.specs.List.{All}
 use Rattle.std.proofs.lemmas.Bool.{or_cases, false≢true}
 use Rattle.std.proofs.lemmas.List.Elements.{All-head, All-tail}
 use Rattle.mesh_plane.specs.Plane.{Point, Edge}
 use Rattle.mesh_lattice.specs.Boundary.{middle}
 use Rattle.mesh_lattice.specs.Clean.{IsOn, refined_edge}
-use Rattle.mesh_lattice.specs.Split.{IsInBox, same_ends, occurs, back}
+use Rattle.mesh_lattice.specs.Split.{same_ends, occurs, back}
 use Rattle.mesh_lattice.proofs.Each.{Each, each_more, each_append}
 use Rattle.mesh_lattice.proofs.Ends.{decides_ends}
 use Rattle.mesh_apart.specs.Apart.{Box, finer_box, IsWithin, AreBoxesApart, LiesInBox, Piece, IsBoxed, edges_in}
@@ -44,9 +44,10 @@ boxes_back b c (inr (inr h)) = inr (inl h)
 
 pub apart_back : (ps qs : List Piece) → AreApart ps qs → AreApart qs ps
 apart_back ps [] h = tt
-apart_back ps (q ∷ qs) h =
-    (each_more (λ (p : Piece). Each (λ (r : Piece). AreBoxesApart p.box r.box) (q ∷ qs)) (λ (p : Piece). AreBoxesApart q.box p.box) (λ (p : Piece) k. boxes_back p.box q.box k.0) ps h,
-    apart_back ps qs (each_more (λ (p : Piece). Each (λ (r : Piece). AreBoxesApart p.box r.box) (q ∷ qs)) (λ (p : Piece). Each (λ (r : Piece). AreBoxesApart p.box r.box) qs) (λ (p : Piece) k. k.1) ps h))
+apart_back ps (q ∷ qs) h = (
+  each_more (λ (p : Piece). Each (λ (r : Piece). AreBoxesApart p.box r.box) (q ∷ qs)) (λ (p : Piece). AreBoxesApart q.box p.box) (λ (p : Piece) k. boxes_back p.box q.box k.0) ps h,
+  apart_back ps qs (each_more (λ (p : Piece). Each (λ (r : Piece). AreBoxesApart p.box r.box) (q ∷ qs)) (λ (p : Piece). Each (λ (r : Piece). AreBoxesApart p.box r.box) qs) (λ (p : Piece) k. k.1) ps h),
+)
 
 -- ---- edges
 

@@ -1,6 +1,6 @@
 -- Lemmas over edges: a resolution of edges is one of the same edges in any order.
-use Rattle.std.proofs.Common.{◌≡◌, ℕ, Bool, true, false, cond, not, ◌&&◌, ◌||◌, List, [], ◌∷◌, ◌++◌, refl, sym, ◌∙◌, ap, arith}
-use Rattle.std.specs.Prelude.{ℤ, ◌+ℤ◌}
+use Rattle.std.proofs.Common.{◌≡◌, ℕ, Bool, cond, not, ◌&&◌, ◌||◌, List, [], ◌∷◌, refl, sym, ◌∙◌, ap, arith}
+use Rattle.std.specs.Prelude.{ℤ}
 use Rattle.std.specs.List.{list_any, flat_map}
 use Rattle.std.specs.List.Sorted.{IsPermutation}
 use Rattle.std.proofs.lemmas.List.Sorted.{list_any-IsPermutation}
@@ -8,7 +8,7 @@ use Rattle.mesh_plane.specs.Plane.{Point, Edge}
 use Rattle.mesh_plane.specs.Winding.{sum_of, crossing_on, boundary}
 use Rattle.mesh_plane.proofs.Sums.{sum_of_append, sum_of_permutation}
 use Rattle.mesh_plane.proofs.Whole.{linear}
-use Rattle.mesh_lattice.specs.Boundary.{IsBoundary, middle, left_winding, right_winding}
+use Rattle.mesh_lattice.specs.Boundary.{IsBoundary, middle}
 use Rattle.mesh_lattice.specs.Clean.{IsClean}
 use Rattle.mesh_lattice.specs.Counted.{along}
 use Rattle.mesh_lattice.specs.Split.{same_ends, occurs, EdgeSplit, split_edge, split_by, after, IsLegal, no_cut, split}

@@ -1,7 +1,7 @@
 -- Lemmas over edges: resolutions of lists that lie apart are together one of all edges.
 use Rattle.std.proofs.Common.{◌≡◌, ℕ, ◌<◌, zero, suc, inl, inr, Bool, List, [], ◌∷◌, ◌++◌, length, get_or, sym, refl, subst, arith}
 use Rattle.std.specs.Prelude.{ℤ, pos}
-use Rattle.std.specs.List.{All, Contains, flat_map}
+use Rattle.std.specs.List.{Contains, flat_map}
 use Rattle.std.proofs.lemmas.List.Concat.{flat_map-append}
 use Rattle.std.proofs.lemmas.List.Elements.{All-append}
 use Rattle.mesh_plane.specs.Plane.{Point, Edge}

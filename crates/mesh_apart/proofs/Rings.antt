@@ -1,9 +1,8 @@
 -- Lemmas over points and lists: each contour of components, and its ring, keeps to the box of one of them.
-use Rattle.std.proofs.Common.{◌≡◌, ℕ, ◌+◌, ◌<◌, ◌≤◌, ◌⊎◌, inl, inr, ⊎_elim, Bool, true, false, cond, not, ◌&&◌, ◌||◌, List, [], ◌∷◌, ◌++◌, map, refl, sym, ◌∙◌, ap, subst, arith}
-use Rattle.std.specs.Prelude.{ℤ, pos, ◌+ℤ◌, ◌*ℤ◌, ◌<ℤ◌, int_lt}
+use Rattle.std.proofs.Common.{◌≡◌, ℕ, ◌≤◌, ◌⊎◌, inl, inr, Bool, true, false, cond, not, ◌&&◌, List, [], ◌∷◌, refl, ap, arith}
+use Rattle.std.specs.Prelude.{ℤ, pos, ◌<ℤ◌, int_lt}
 use Rattle.std.specs.Ordering.{int_eq}
-use Rattle.std.specs.List.{All, filter, flat_map}
-use Rattle.std.proofs.lemmas.Bool.{cases_Bool, both_ways}
+use Rattle.std.specs.List.{flat_map}
 use Rattle.std.proofs.lemmas.List.Sums.{sum_by-cons}
 use Rattle.mesh_plane.specs.Plane.{Point, Edge}
 use Rattle.mesh_plane.specs.Turning.{turns_at, first_or}
@@ -13,14 +12,14 @@ use Rattle.mesh_lattice.specs.Boundary.{IsBoundary, count, left_winding, right_w
 use Rattle.mesh_lattice.specs.Split.{same_edge, occurs}
 use Rattle.mesh_lattice.proofs.Each.{Each, each_more, each_left, each_right}
 use Rattle.mesh_lattice.proofs.Ends.{decides_edge}
-use Rattle.mesh_shapes.specs.Contours.{turning_points, kept, vertices, side_point, double_area, StartIsLeast}
+use Rattle.mesh_shapes.specs.Contours.{turning_points, kept, double_area, StartIsLeast}
 use Rattle.mesh_shapes.specs.Resolution.{Ring, ring_of}
-use Rattle.mesh_apart.specs.Apart.{Box, finer_box, IsWithin, AreBoxesApart, LiesInBox, Piece}
+use Rattle.mesh_apart.specs.Apart.{finer_box, IsWithin, AreBoxesApart, LiesInBox, Piece}
 use Rattle.mesh_apart.specs.Laws.{surrounds}
 use Rattle.mesh_apart.proofs.Boundaries.{AreSegmentsOf}
 use Rattle.mesh_apart.proofs.Boxes.{not_both, within_refined, middle_within, IsPast}
 use Rattle.mesh_apart.proofs.Joins.{all_from_each}
-use Rattle.mesh_apart.proofs.Pieces.{LiesIn, AreApart, apart_back, IsAmong, lies_where_occurs, past_each}
+use Rattle.mesh_apart.proofs.Pieces.{LiesIn, AreApart, IsAmong, lies_where_occurs, past_each}
 
 -- ---- edges of contours are segments
 

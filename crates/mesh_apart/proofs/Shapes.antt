@@ -1,23 +1,22 @@
 -- Lemmas over rings and shapes: the answers of components have one join in the order of shapes, a resolution of all edges.
-use Rattle.std.proofs.Common.{◌≡◌, ℕ, ◌+◌, inl, inr, Bool, true, false, cond, ◌&&◌, List, [], ◌∷◌, ◌++◌, map, length, refl, sym, ◌∙◌, ap, subst, arith}
+use Rattle.std.proofs.Common.{◌≡◌, ℕ, ◌+◌, inl, inr, Bool, true, false, cond, ◌&&◌, List, [], ◌∷◌, ◌++◌, map, refl, sym, ◌∙◌, ap, subst}
 use Rattle.std.specs.Prelude.{ℤ, int_lt}
 use Rattle.std.specs.Cmp.{IsStrictWeakOrder}
-use Rattle.std.specs.List.{All, AllPairs, AllZip, filter, enumerate_from}
+use Rattle.std.specs.List.{All, filter, enumerate_from}
 use Rattle.std.specs.List.Sorted.{IsPermutation, IsSortedBy}
 use Rattle.std.proofs.lemmas.Bool.{both_ways}
-use Rattle.std.proofs.lemmas.List.{map-append, reverse-reverse, append-nil}
-use Rattle.std.proofs.lemmas.List.Concat.{flat_map-append}
+use Rattle.std.proofs.lemmas.List.{map-append, reverse-reverse}
 use Rattle.std.proofs.lemmas.List.Elements.{All-weaker, filter-append}
-use Rattle.std.proofs.lemmas.List.Sorted.{IsPermutation-append, IsPermutation-trans, IsPermutation-refl, All-permutation, list_any-IsPermutation}
-use Rattle.mesh_plane.specs.Plane.{Point, Edge}
+use Rattle.std.proofs.lemmas.List.Sorted.{IsPermutation-append, IsPermutation-trans, All-permutation, list_any-IsPermutation}
+use Rattle.mesh_plane.specs.Plane.{Point}
 use Rattle.mesh_plane.specs.Winding.{boundary}
 use Rattle.mesh_lattice.specs.Split.{after}
-use Rattle.mesh_lattice.proofs.Each.{Each, each_more, each_append, each_left, each_right}
+use Rattle.mesh_lattice.proofs.Each.{Each, each_more}
 use Rattle.mesh_shapes.specs.Contours.{IsBegun, StartIsLeast, double_area, reversed}
 use Rattle.mesh_shapes.specs.Resolution.{Choices, Ring, Placed, ring_of, is_large, points_lt, is_head, shape_of, rings_by_shape, answered, AreArranged, IsResolution}
-use Rattle.mesh_apart.specs.Apart.{Piece, IsBoxed, AreBoxesApart, edges_in, LieApart, AreComponents}
+use Rattle.mesh_apart.specs.Apart.{Piece, IsBoxed, edges_in, LieApart}
 use Rattle.mesh_apart.specs.Joins.{IsJoin}
-use Rattle.mesh_apart.specs.Laws.{rings_of, IsJoint, leading, shape_lt, AreJoined, surrounds, has_smaller, IsHeldByOwn, HoldTheirOwn}
+use Rattle.mesh_apart.specs.Laws.{rings_of, leading, shape_lt, AreJoined, surrounds, has_smaller, IsHeldByOwn, HoldTheirOwn}
 use Rattle.mesh_apart.proofs.Boundaries.{segments_left}
 use Rattle.mesh_apart.proofs.Groups.{HoldsItself, shapes_join}
 use Rattle.mesh_apart.proofs.Joins.{all_from_each, each_filter, each_map, join_map, join_permutes, Rises, rises_filter, rises_map, rises_by, rises_from_sorted, sorted_from_rises, RisingJoin, rising_join, one_rising_join}

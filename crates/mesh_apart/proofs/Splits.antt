@@ -1,6 +1,6 @@
 -- Lemmas over points and lists: legal splits of pieces stay in their boxes and leave what lies apart as it is.
-use Rattle.std.proofs.Common.{◌≡◌, ⊎_elim, inl, inr, Bool, true, false, cond, ◌||◌, List, [], ◌∷◌, ◌++◌, refl, sym, ◌∙◌, ap, subst}
-use Rattle.std.proofs.lemmas.Bool.{or_right, or_cases}
+use Rattle.std.proofs.Common.{◌≡◌, inl, inr, Bool, true, false, cond, ◌||◌, List, [], ◌∷◌, ◌++◌, refl, sym, ◌∙◌, ap, subst}
+use Rattle.std.proofs.lemmas.Bool.{or_right}
 use Rattle.mesh_plane.specs.Plane.{Point, Edge}
 use Rattle.mesh_lattice.specs.Split.{IsInBox, EdgeSplit, same_ends, is_end, occurs, split_edge, split_by, after, add_split, IsLegal, no_cut, split}
 use Rattle.mesh_lattice.proofs.Each.{Each, each_append}
