@@ -15,7 +15,7 @@ use Rattle.mesh_shapes.specs.Contours.{IsBegun}
 use Rattle.mesh_shapes.specs.Resolution.{Choices, IsResolution}
 use Rattle.mesh_apart.specs.Apart.{Piece, IsBoxed, AreBoxesApart, edges_in, LieApart, AreComponents}
 use Rattle.mesh_apart.specs.Joins.{IsJoin, JoinsAll}
-use Rattle.mesh_apart.specs.Laws.{shape_lt, AreJoined, AreAllJoined}
+use Rattle.mesh_apart.specs.Joined.{shape_lt, AreJoined, AreAllJoined}
 use Rattle.mesh_apart.proofs.Joins.{all_from_each, rises_from_sorted, sorted_from_rises, rising_parts}
 use Rattle.mesh_apart.proofs.Pieces.{each_from_all, AreApart}
 use Rattle.mesh_apart.proofs.Rearranged.{rearranged}

@@ -13,7 +13,7 @@ use Rattle.mesh_shapes.specs.Contours.{double_area}
 use Rattle.mesh_shapes.specs.Resolution.{Choices, Ring, IsResolution}
 use Rattle.mesh_apart.specs.Apart.{Piece, IsBoxed, AreBoxesApart, edges_in}
 use Rattle.mesh_apart.specs.Joins.{IsJoin, JoinsAll}
-use Rattle.mesh_apart.specs.Laws.{rings_of, shape_lt, surrounds, has_smaller, IsHeldByOwn, HoldTheirOwn, Drawing, AreDrawnApart, AreAllJoined}
+use Rattle.mesh_apart.specs.Joined.{rings_of, shape_lt, surrounds, has_smaller, IsHeldByOwn, HoldTheirOwn, Drawing, AreDrawnApart, AreAllJoined}
 use Rattle.mesh_apart.proofs.Components.{lie_apart, none_resolved, none_contours}
 use Rattle.mesh_apart.proofs.Joins.{rises_from_sorted, sorted_from_rises, rising_parts}
 use Rattle.mesh_apart.proofs.Pieces.{each_from_all, apart_from_all, AreApart}

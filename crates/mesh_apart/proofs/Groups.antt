@@ -11,7 +11,7 @@ use Rattle.mesh_lattice.proofs.Each.{Each, each_more}
 use Rattle.mesh_shapes.specs.Contours.{double_area}
 use Rattle.mesh_shapes.specs.Resolution.{Ring, Placed, is_positive, is_round, is_before, is_head, stands_with, shape_of, rings_by_shape}
 use Rattle.mesh_apart.specs.Joins.{IsJoin, no_more, from_first, from_second}
-use Rattle.mesh_apart.specs.Laws.{surrounds, has_smaller}
+use Rattle.mesh_apart.specs.Joined.{surrounds, has_smaller}
 use Rattle.mesh_apart.proofs.Joins.{each_any, each_filter, map_agree, filter_agree_each, filter_none, filter_mapped, any_mapped, any_agree, each_map, each_unmap, join_map, join_filter, join_any, first_alone, second_alone}
 
 -- ---- places may change where their order stays

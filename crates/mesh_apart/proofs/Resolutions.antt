@@ -13,7 +13,7 @@ use Rattle.mesh_lattice.proofs.Each.{Each}
 use Rattle.mesh_shapes.specs.Contours.{IsBegun}
 use Rattle.mesh_shapes.specs.Resolution.{Choices, AreArranged, IsResolution}
 use Rattle.mesh_apart.specs.Apart.{finer_box, IsWithin, Piece, IsBoxed, edges_in, LieApart}
-use Rattle.mesh_apart.specs.Laws.{rings_of, IsJoint}
+use Rattle.mesh_apart.specs.Joined.{rings_of, IsJoint}
 use Rattle.mesh_apart.proofs.Boundaries.{AreSegmentsOf, segments_left, clean_both, boundary_both}
 use Rattle.mesh_apart.proofs.Pieces.{LiesIn, AreApart, IsAmong, past_each, each_from_all, apart_from_all, apart_back, each_lies}
 use Rattle.mesh_apart.proofs.Splits.{AreSplitsIn, legal_in, after_apart, legal_first, legal_second, after_both}

@@ -15,7 +15,7 @@ use Rattle.mesh_lattice.proofs.Ends.{decides_edge}
 use Rattle.mesh_shapes.specs.Contours.{turning_points, kept, double_area, StartIsLeast}
 use Rattle.mesh_shapes.specs.Resolution.{Ring, ring_of}
 use Rattle.mesh_apart.specs.Apart.{finer_box, IsWithin, AreBoxesApart, LiesInBox, Piece}
-use Rattle.mesh_apart.specs.Laws.{surrounds}
+use Rattle.mesh_apart.specs.Joined.{surrounds}
 use Rattle.mesh_apart.proofs.Boundaries.{AreSegmentsOf}
 use Rattle.mesh_apart.proofs.Boxes.{not_both, within_refined, middle_within, IsPast}
 use Rattle.mesh_apart.proofs.Joins.{all_from_each}

@@ -16,7 +16,7 @@ use Rattle.mesh_shapes.specs.Contours.{IsBegun, StartIsLeast, double_area, rever
 use Rattle.mesh_shapes.specs.Resolution.{Choices, Ring, Placed, ring_of, is_large, points_lt, is_head, shape_of, rings_by_shape, answered, AreArranged, IsResolution}
 use Rattle.mesh_apart.specs.Apart.{Piece, IsBoxed, edges_in, LieApart}
 use Rattle.mesh_apart.specs.Joins.{IsJoin}
-use Rattle.mesh_apart.specs.Laws.{rings_of, leading, shape_lt, AreJoined, surrounds, has_smaller, IsHeldByOwn, HoldTheirOwn}
+use Rattle.mesh_apart.specs.Joined.{rings_of, leading, shape_lt, AreJoined, surrounds, has_smaller, IsHeldByOwn, HoldTheirOwn}
 use Rattle.mesh_apart.proofs.Boundaries.{segments_left}
 use Rattle.mesh_apart.proofs.Groups.{HoldsItself, shapes_join}
 use Rattle.mesh_apart.proofs.Joins.{all_from_each, each_filter, each_map, join_map, join_permutes, Rises, rises_filter, rises_map, rises_by, rises_from_sorted, sorted_from_rises, RisingJoin, rising_join, one_rising_join}

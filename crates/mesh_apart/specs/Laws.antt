@@ -1,97 +1,16 @@
 -- Laws of drawings that lie apart. The function of the same name in the module `laws` carries each.
-use Rattle.std.specs.Prelude.{ℕ, ◌<◌, ◌≡◌, ◌⊎◌, Bool, true, cond, ◌&&◌, List, [], ◌∷◌, ◌++◌, map, ℤ, pos, int_lt}
-use Rattle.std.specs.List.{All, AllPairs, AllZip, Contains, filter, flat_map, list_any}
-use Rattle.std.specs.List.Sorted.{IsSortedBy, IsPermutation}
+use Rattle.std.specs.Prelude.{ℕ, ◌<◌, ◌≡◌, Bool, List, ◌++◌, map, ℤ, pos}
+use Rattle.std.specs.List.{AllPairs, AllZip, Contains, flat_map}
+use Rattle.std.specs.List.Sorted.{IsPermutation}
 use Rattle.mesh_plane.specs.Plane.{Point, Edge}
-use Rattle.mesh_plane.specs.Winding.{winding, holds}
+use Rattle.mesh_plane.specs.Winding.{winding}
 use Rattle.mesh_lattice.specs.Split.{EdgeSplit, after, IsLegal}
-use Rattle.mesh_shapes.specs.Contours.{double_area, reversed}
-use Rattle.mesh_shapes.specs.Resolution.{Choices, Ring, ring_of, is_large, points_lt, AreArranged, IsResolution}
-use Rattle.mesh_apart.specs.Apart.{finer_box, IsWithin, Piece, IsBoxed, edges_in, ArePiecesApart, LieApart, AreComponents}
-use Rattle.mesh_apart.specs.Joins.{IsJoin, JoinsAll}
+use Rattle.mesh_shapes.specs.Resolution.{Choices, AreArranged, IsResolution}
+use Rattle.mesh_apart.specs.Apart.{finer_box, IsWithin, Piece, edges_in, LieApart, AreComponents}
+use Rattle.mesh_apart.specs.Joined.{rings_of, HoldTheirOwn, Drawing, AreDrawnApart, IsJoint, AreJoined, AreAllJoined}
 
--- the rings of contours, the small ones left out
-abbrev pub rings_of : Choices → List (List Point) → List Ring
-rings_of options contours = filter (is_large options.least_area) (map (ring_of options.all_vertices) contours)
-
--- a resolution of the edges of two lists has the splits, the segments and the contours of a resolution of each
-pub record IsJoint (first second : List Piece) {fill : ℤ → Bool} {options : Choices} {x y : List (List (List Point))}
-    (r : IsResolution (edges_in first) fill options x) (s : IsResolution (edges_in second) fill options y)
-    (z : List (List (List Point))) : Type 0 where
-  pub resolution : IsResolution (edges_in first ++ edges_in second) fill options z
-  pub splits : resolution.splits ≡ r.splits ++ s.splits
-  pub segments : after resolution.splits (edges_in first ++ edges_in second)
-      ≡ after r.splits (edges_in first) ++ after s.splits (edges_in second)
-  pub contours : resolution.contours ≡ r.contours ++ s.contours
-
--- resolutions of two lists that lie apart are together a resolution of all edges, with any shapes that arise from the
--- rings of both
-abbrev pub ResolutionsJoin : Type 0
-ResolutionsJoin =
-    (first second : List Piece) → LieApart first second
-    → (fill : ℤ → Bool) (options : Choices) (x y z : List (List (List Point)))
-    → (r : IsResolution (edges_in first) fill options x) → (s : IsResolution (edges_in second) fill options y)
-    → AreArranged options.clockwise (rings_of options (r.contours ++ s.contours)) z
-    → IsJoint first second r s z
-
--- ---- shapes
-
--- the vertices that a shape's place in an answer goes by: those of its first contour, as they run before reversal
-abbrev pub leading : Bool → List (List Point) → List Point
-leading clockwise [] = []
-leading clockwise (contour ∷ contours) = cond clockwise (reversed contour) contour
-
--- the order of shapes
-abbrev pub shape_lt : Bool → List (List Point) → List (List Point) → Bool
-shape_lt clockwise s t = points_lt (leading clockwise s) (leading clockwise t)
-
--- two answers have one join that is in the order of shapes, and it is a resolution of all edges
-pub record AreJoined (edges : List Edge) (fill : ℤ → Bool) (options : Choices) (x y : List (List (List Point)))
-    : Type 0 where
-  pub shapes : List (List (List Point))
-  pub joins : IsJoin x y shapes
-  pub ordered : IsSortedBy (shape_lt options.clockwise) shapes
-  pub only : (z : List (List (List Point))) → IsJoin x y z → IsSortedBy (shape_lt options.clockwise) z → z ≡ shapes
-  pub resolution : IsResolution edges fill options shapes
-
--- a ring of positive area that winds round the other's side point
-abbrev pub surrounds : Ring → Ring → Bool
-surrounds h r = int_lt (pos 0) (double_area h.0) && holds 2 r.1 h.0
-
--- of the list, a ring surrounds `r` and has less area than `k`
-abbrev pub has_smaller : List Ring → Ring → Ring → Bool
-has_smaller own r k = list_any (λ (h : Ring). surrounds h r && int_lt (double_area h.0) (double_area k.0)) own
-
--- a ring has positive area, and heads a shape, or of its own list a ring surrounds it that is smaller than any of the
--- others that does
-abbrev pub IsHeldByOwn : List Ring → List Ring → Ring → Type 0
-IsHeldByOwn own others r =
-    (int_lt (pos 0) (double_area r.0) ≡ true) ⊎ All (λ (k : Ring). surrounds k r ≡ true → has_smaller own r k ≡ true) others
-
--- no ring of either list stands with one of the other
-pub record HoldTheirOwn (first second : List Ring) : Type 0 where
-  pub by_first : All (IsHeldByOwn first second) first
-  pub by_second : All (IsHeldByOwn second first) second
-
--- the answers of two lists that lie apart, where no hole of the one would stand with a ring of the other
-abbrev pub ShapesJoin : Type 0
-ShapesJoin =
-    (first second : List Piece) → LieApart first second
-    → (fill : ℤ → Bool) (options : Choices) (x y : List (List (List Point)))
-    → (r : IsResolution (edges_in first) fill options x) → (s : IsResolution (edges_in second) fill options y)
-    → HoldTheirOwn (rings_of options r.contours) (rings_of options s.contours)
-    → AreJoined (edges_in first ++ edges_in second) fill options x y
-
--- the answers of two lists of components, all of them apart
-abbrev pub AnswersJoin : Type 0
-AnswersJoin =
-    (first second : List Piece) → AreComponents (first ++ second)
-    → (fill : ℤ → Bool) (options : Choices) (x y : List (List (List Point)))
-    → IsResolution (edges_in first) fill options x → IsResolution (edges_in second) fill options y
-    → AreJoined (edges_in (first ++ second)) fill options x y
-
--- what splits leave of edges that lie apart does not wind round the points of a box, on every grid; nor do the edges, which
--- are what no splits leave
+-- what splits leave of the one list does not wind round the points of the other's boxes, on every grid; nor do the
+-- edges, which are what no splits leave
 abbrev pub OthersDoNotWind : Type 0
 OthersDoNotWind =
     (first second : List Piece) → LieApart first second
@@ -107,27 +26,24 @@ EdgesMayChangePlaces =
     → (fill : ℤ → Bool) (options : Choices) (answer : List (List (List Point)))
     → IsResolution edges fill options answer → IsResolution others fill options answer
 
--- the same of several answers
-pub record AreAllJoined (edges : List Edge) (fill : ℤ → Bool) (options : Choices)
-    (answers : List (List (List (List Point)))) : Type 0 where
-  pub shapes : List (List (List Point))
-  pub joins : JoinsAll answers shapes
-  pub ordered : IsSortedBy (shape_lt options.clockwise) shapes
-  pub only : (z : List (List (List Point))) → JoinsAll answers z → IsSortedBy (shape_lt options.clockwise) z
-      → z ≡ shapes
-  pub resolution : IsResolution edges fill options shapes
+-- resolutions of two lists that lie apart are together a resolution of all edges, with any shapes that arise from the
+-- rings of both
+abbrev pub ResolutionsJoin : Type 0
+ResolutionsJoin =
+    (first second : List Piece) → LieApart first second
+    → (fill : ℤ → Bool) (options : Choices) (x y z : List (List (List Point)))
+    → (r : IsResolution (edges_in first) fill options x) → (s : IsResolution (edges_in second) fill options y)
+    → AreArranged options.clockwise (rings_of options (r.contours ++ s.contours)) z
+    → IsJoint first second r s z
 
--- boxed pieces and an answer of them
-pub record Drawing (fill : ℤ → Bool) (options : Choices) : Type 0 where
-  pub pieces : List Piece
-  pub boxed : All IsBoxed pieces
-  pub answer : List (List (List Point))
-  pub resolution : IsResolution (edges_in pieces) fill options answer
-
--- the boxes of two drawings are apart, and no hole of the one would stand with a ring of the other
-pub record AreDrawnApart {fill : ℤ → Bool} {options : Choices} (a b : Drawing fill options) : Type 0 where
-  pub apart : ArePiecesApart a.pieces b.pieces
-  pub hold : HoldTheirOwn (rings_of options a.resolution.contours) (rings_of options b.resolution.contours)
+-- the answers of two lists that lie apart, where no hole of the one would stand with a ring of the other
+abbrev pub ShapesJoin : Type 0
+ShapesJoin =
+    (first second : List Piece) → LieApart first second
+    → (fill : ℤ → Bool) (options : Choices) (x y : List (List (List Point)))
+    → (r : IsResolution (edges_in first) fill options x) → (s : IsResolution (edges_in second) fill options y)
+    → HoldTheirOwn (rings_of options r.contours) (rings_of options s.contours)
+    → AreJoined (edges_in first ++ edges_in second) fill options x y
 
 -- the answers of drawings of which any two are apart so, for all their edges in any order
 abbrev pub DrawingsJoin : Type 0
@@ -136,6 +52,14 @@ DrawingsJoin =
     → (edges : List Edge)
     → IsPermutation (edges_in (flat_map (λ (a : Drawing fill options). a.pieces) drawings)) edges
     → AreAllJoined edges fill options (map (λ (a : Drawing fill options). a.answer) drawings)
+
+-- the answers of two lists of components, all of them apart
+abbrev pub AnswersJoin : Type 0
+AnswersJoin =
+    (first second : List Piece) → AreComponents (first ++ second)
+    → (fill : ℤ → Bool) (options : Choices) (x y : List (List (List Point)))
+    → IsResolution (edges_in first) fill options x → IsResolution (edges_in second) fill options y
+    → AreJoined (edges_in (first ++ second)) fill options x y
 
 -- the answers of components, one by one, for all their edges in any order
 abbrev pub ComponentsJoin : Type 0

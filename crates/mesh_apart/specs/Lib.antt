@@ -1,3 +1,4 @@
 pub mod Apart
+pub mod Joined
 pub mod Joins
 pub mod Laws

@@ -13,8 +13,8 @@ pub fn edges_may_change_places()
     ensures { EdgesMayChangePlaces }
 {}
 
-/// Resolutions of two lists of edges that lie apart are together one of all edges: its splits, segments and contours are
-/// those of both, whatever shapes their rings make.
+/// Resolutions of two lists of edges that lie apart are together one of all edges: its splits, segments and contours
+/// are those of both, whatever shapes their rings make.
 pub fn resolutions_join()
     ensures { ResolutionsJoin }
 {}
