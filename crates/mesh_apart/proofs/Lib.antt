@@ -12,3 +12,5 @@ pub mod Shapes
 pub mod Components
 pub mod Rearranged
 pub mod Drawings
+pub mod Ways
+pub mod OpenParts

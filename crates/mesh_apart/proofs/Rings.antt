@@ -41,13 +41,17 @@ each_flat : {A B : Type 0} (P : B → Type 0) (f : A → List B) (xs : List A) �
 each_flat P f [] h = tt
 each_flat P f (x ∷ xs) h = (each_left P (f x) (flat_map f xs) h, each_flat P f xs (each_right P (f x) (flat_map f xs) h))
 
+-- what holds of each segment holds of the edges of each contour
+pub contours_hold : (P : Edge → Type 0) (es : List Edge) → ((e : Edge) → occurs e es ≡ true → P e) → (fill : ℤ → Bool) (contours : List (List Point)) → IsBoundary es fill (flat_map boundary contours)
+    → Each (λ (c : List Point). Each P (boundary c)) contours
+contours_hold P es f fill contours h =
+    each_flat P boundary contours
+    (edges_where_counted P (flat_map boundary contours) (λ (e : Edge) (k : 1 ≤ count e (flat_map boundary contours)).
+    f e (counted_occurs (count e (flat_map boundary contours)) (occurs e es) (fill (left_winding es e) && not (fill (right_winding es e))) (h.counts e) k)))
+
 pub contours_lie : (ps : List Piece) (es : List Edge) → AreSegmentsOf ps es → (fill : ℤ → Bool) (contours : List (List Point)) → IsBoundary es fill (flat_map boundary contours)
     → Each (λ (c : List Point). Each (LiesIn ps) (boundary c)) contours
-contours_lie ps es segments fill contours h =
-    each_flat (LiesIn ps) boundary contours
-    (edges_where_counted (LiesIn ps) (flat_map boundary contours) (λ (e : Edge) (k : 1 ≤ count e (flat_map boundary contours)).
-    lies_where_occurs ps es segments.lie e
-    (counted_occurs (count e (flat_map boundary contours)) (occurs e es) (fill (left_winding es e) && not (fill (right_winding es e))) (h.counts e) k)))
+contours_lie ps es segments fill contours h = contours_hold (LiesIn ps) es (lies_where_occurs ps es segments.lie) fill contours h
 
 -- ---- a contour keeps to one box
 
@@ -179,7 +183,7 @@ not_round (p ∷ ps) r z past (inl h) =
     (λ (x : Point) (w : IsWithin p.box x). far.past (refined 2 x) (within_refined 2 p.box x w)) r.0 h.0))
 not_round (p ∷ ps) r z past (inr h) = not_round ps r z past.1 h
 
-and_last : (a b : Bool) → b ≡ false → (a && b) ≡ false
+pub and_last : (a b : Bool) → b ≡ false → (a && b) ≡ false
 and_last true b h = h
 and_last false b h = refl
 

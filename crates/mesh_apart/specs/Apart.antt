@@ -62,3 +62,33 @@ pub record LieApart (first second : List Piece) : Type 0 where
 pub record AreComponents (pieces : List Piece) : Type 0 where
   pub boxed : All IsBoxed pieces
   pub apart : AllPairs (λ (p q : Piece). AreBoxesApart p.box q.box) pieces
+
+-- ---- ways out
+
+-- a box lies to that side of another; none of them has points in common with it
+abbrev pub IsWestOf : Box → Box → Type 0
+IsWestOf b c = b.east <ℤ c.west
+
+abbrev pub IsSouthOf : Box → Box → Type 0
+IsSouthOf b c = b.north <ℤ c.south
+
+-- the way from a box straight on to one side passes none of the pieces' boxes, wherever it starts
+abbrev pub IsOpenEast : List Piece → Box → Type 0
+IsOpenEast ps b = All (λ (p : Piece). IsWestOf p.box b ⊎ (IsSouthOf p.box b ⊎ IsSouthOf b p.box)) ps
+
+abbrev pub IsOpenWest : List Piece → Box → Type 0
+IsOpenWest ps b = All (λ (p : Piece). IsWestOf b p.box ⊎ (IsSouthOf p.box b ⊎ IsSouthOf b p.box)) ps
+
+abbrev pub IsOpenNorth : List Piece → Box → Type 0
+IsOpenNorth ps b = All (λ (p : Piece). IsSouthOf p.box b ⊎ (IsWestOf p.box b ⊎ IsWestOf b p.box)) ps
+
+abbrev pub IsOpenSouth : List Piece → Box → Type 0
+IsOpenSouth ps b = All (λ (p : Piece). IsSouthOf b p.box ⊎ (IsWestOf p.box b ⊎ IsWestOf b p.box)) ps
+
+abbrev pub IsOpen : List Piece → Box → Type 0
+IsOpen ps b = (IsOpenEast ps b ⊎ IsOpenWest ps b) ⊎ (IsOpenNorth ps b ⊎ IsOpenSouth ps b)
+
+-- each box of either list has a way out past the boxes of the other
+pub record AreOpen (first second : List Piece) : Type 0 where
+  pub by_first : All (λ (p : Piece). IsOpen second p.box) first
+  pub by_second : All (λ (q : Piece). IsOpen first q.box) second

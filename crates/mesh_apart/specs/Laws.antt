@@ -4,9 +4,10 @@ use Rattle.std.specs.List.{AllPairs, AllZip, Contains, flat_map}
 use Rattle.std.specs.List.Sorted.{IsPermutation}
 use Rattle.mesh_plane.specs.Plane.{Point, Edge}
 use Rattle.mesh_plane.specs.Winding.{winding}
+use Rattle.mesh_lattice.specs.Clean.{IsProper}
 use Rattle.mesh_lattice.specs.Split.{EdgeSplit, after, IsLegal}
 use Rattle.mesh_shapes.specs.Resolution.{Choices, AreArranged, IsResolution}
-use Rattle.mesh_apart.specs.Apart.{finer_box, IsWithin, Piece, edges_in, LieApart, AreComponents}
+use Rattle.mesh_apart.specs.Apart.{finer_box, IsWithin, Piece, edges_in, LieApart, AreComponents, AreOpen}
 use Rattle.mesh_apart.specs.Joined.{rings_of, HoldTheirOwn, Drawing, AreDrawnApart, IsJoint, AreJoined, AreAllJoined}
 
 -- what splits leave of the one list does not wind round the points of the other's boxes, on every grid; nor do the
@@ -44,6 +45,15 @@ ShapesJoin =
     → (r : IsResolution (edges_in first) fill options x) → (s : IsResolution (edges_in second) fill options y)
     → HoldTheirOwn (rings_of options r.contours) (rings_of options s.contours)
     → AreJoined (edges_in first ++ edges_in second) fill options x y
+
+-- where boxes have ways out, contours hold their own; no edge may end where it starts
+abbrev pub OpenPartsHoldTheirOwn : Type 0
+OpenPartsHoldTheirOwn =
+    (first second : List Piece) → LieApart first second → AreOpen first second
+    → IsProper (edges_in first) → IsProper (edges_in second)
+    → (fill : ℤ → Bool) (options : Choices) (x y : List (List (List Point)))
+    → (r : IsResolution (edges_in first) fill options x) → (s : IsResolution (edges_in second) fill options y)
+    → HoldTheirOwn (rings_of options r.contours) (rings_of options s.contours)
 
 -- the answers of drawings of which any two are apart so, for all their edges in any order
 abbrev pub DrawingsJoin : Type 0

@@ -1,7 +1,7 @@
 //! Laws of drawings that lie apart. Each function does nothing: its clause is the law.
 
 ghost use Rattle.mesh_apart.specs.Laws.{AnswersJoin, ComponentsJoin, DrawingsJoin, EdgesMayChangePlaces};
-ghost use Rattle.mesh_apart.specs.Laws.{OthersDoNotWind, ResolutionsJoin, ShapesJoin};
+ghost use Rattle.mesh_apart.specs.Laws.{OpenPartsHoldTheirOwn, OthersDoNotWind, ResolutionsJoin, ShapesJoin};
 
 /// What lies apart from a box does not wind round the box's points, however it is split.
 pub fn others_do_not_wind()
@@ -23,6 +23,11 @@ pub fn resolutions_join()
 /// shapes, and it is a resolution of all edges.
 pub fn shapes_join()
     ensures { ShapesJoin }
+{}
+
+/// No hole would, where each box of either list has a way out past those of the other.
+pub fn open_parts_hold_their_own()
+    ensures { OpenPartsHoldTheirOwn }
 {}
 
 /// The same of the answers of many drawings.
