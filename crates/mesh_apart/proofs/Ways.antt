@@ -1,8 +1,7 @@
 -- Lemmas over points and lists: a closed list whose edges lie in boxes does not wind round a point that has a way out past
 -- them.
-use Rattle.std.proofs.Common.{◌≡◌, ℕ, ◌⊎◌, inl, inr, ⊎_elim, cond, ◌&&◌, List, [], ◌∷◌, refl, ◌∙◌, arith}
-use Rattle.std.specs.Prelude.{ℤ, pos, ◌+ℤ◌, ◌-ℤ◌, ◌*ℤ◌, ◌≤ℤ◌, ◌<ℤ◌, neg_ℤ, int_le, int_lt}
-use Rattle.std.specs.List.{All}
+use Rattle.std.proofs.Common.{◌≡◌, ◌⊎◌, inl, inr, ⊎_elim, cond, List, [], ◌∷◌, refl, ◌∙◌, arith}
+use Rattle.std.specs.Prelude.{ℤ, pos, ◌+ℤ◌, ◌-ℤ◌, ◌*ℤ◌, ◌≤ℤ◌, ◌<ℤ◌, neg_ℤ, int_lt}
 use Rattle.std.proofs.lemmas.Int.{ints, by_lt_z}
 use Rattle.mesh_plane.specs.Plane.{Point, Edge, turn}
 use Rattle.mesh_plane.specs.Winding.{crossing, refined, crossing_on, winding, boundary}
@@ -11,9 +10,9 @@ use Rattle.mesh_plane.proofs.Crossings.{crossing_low, crossing_high, crossing_up
 use Rattle.mesh_plane.proofs.PointExprs.{point_var, coordinates, turned}
 use Rattle.mesh_plane.proofs.Ring.{ring, var, neg, ◌⊕◌, ◌⊖◌, ◌⊗◌}
 use Rattle.mesh_plane.proofs.Sums.{sum_of_equal}
-use Rattle.mesh_plane.proofs.Whole.{linear, mul_nonneg, mul_pos, mul_lt_mul_left}
+use Rattle.mesh_plane.proofs.Whole.{linear, mul_nonneg, mul_pos}
 use Rattle.mesh_lattice.proofs.Each.{Each, each_more}
-use Rattle.mesh_apart.specs.Apart.{Box, finer_box, IsWithin, LiesInBox, Piece, IsWestOf, IsSouthOf, IsOpen}
+use Rattle.mesh_apart.specs.Apart.{Box, finer_box, IsWithin, Piece, IsWestOf, IsSouthOf, IsOpen}
 use Rattle.mesh_apart.proofs.Boxes.{lies_refined}
 use Rattle.mesh_apart.proofs.Joins.{all_from_each}
 use Rattle.mesh_apart.proofs.Pieces.{each_from_all, LiesIn}

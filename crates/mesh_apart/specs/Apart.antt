@@ -26,9 +26,16 @@ finer_box m b = record {
   north = pos m *ℤ b.north;
 }
 
+-- a box lies wholly to the west of another, or to the south of it
+abbrev pub IsWestOf : Box → Box → Type 0
+IsWestOf b c = b.east <ℤ c.west
+
+abbrev pub IsSouthOf : Box → Box → Type 0
+IsSouthOf b c = b.north <ℤ c.south
+
 -- two boxes share no point: one lies wholly to one side of the other
 abbrev pub AreBoxesApart : Box → Box → Type 0
-AreBoxesApart b c = ((b.east <ℤ c.west) ⊎ (c.east <ℤ b.west)) ⊎ ((b.north <ℤ c.south) ⊎ (c.north <ℤ b.south))
+AreBoxesApart b c = (IsWestOf b c ⊎ IsWestOf c b) ⊎ (IsSouthOf b c ⊎ IsSouthOf c b)
 
 -- both ends of an edge lie in the box, and so the edge does
 abbrev pub LiesInBox : Box → Edge → Type 0
@@ -65,14 +72,7 @@ pub record AreComponents (pieces : List Piece) : Type 0 where
 
 -- ---- ways out
 
--- a box lies to that side of another; none of them has points in common with it
-abbrev pub IsWestOf : Box → Box → Type 0
-IsWestOf b c = b.east <ℤ c.west
-
-abbrev pub IsSouthOf : Box → Box → Type 0
-IsSouthOf b c = b.north <ℤ c.south
-
--- the way from a box straight on to one side passes none of the pieces' boxes, wherever it starts
+-- the way straight on to one side passes none of the pieces' boxes, wherever in the box it starts
 abbrev pub IsOpenEast : List Piece → Box → Type 0
 IsOpenEast ps b = All (λ (p : Piece). IsWestOf p.box b ⊎ (IsSouthOf p.box b ⊎ IsSouthOf b p.box)) ps
 
