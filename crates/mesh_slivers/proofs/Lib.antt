@@ -1,0 +1,3 @@
+pub mod Rays
+pub mod Strips
+pub mod Winding
