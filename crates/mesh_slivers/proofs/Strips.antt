@@ -1,28 +1,21 @@
 -- Lemmas over points and lists: a sliver winds round no point farther than its width from its edges.
-use Rattle.std.proofs.Common.{◌≡◌, ℕ, ◌+◌, ◌*◌, ◌<◌, ◌≤◌, inl, inr, ⊎_elim, true, List, [], ◌∷◌, refl, sym, ◌∙◌, ap, arith}
-use Rattle.std.specs.Prelude.{ℤ, pos, negsuc, ◌+ℤ◌, ◌-ℤ◌, ◌*ℤ◌, ◌≤ℤ◌, ◌<ℤ◌, neg_ℤ, unsigned_abs, max, cond, nat_le}
+use Rattle.std.proofs.Common.{◌≡◌, ℕ, ◌*◌, ◌<◌, inl, inr, List, [], ◌∷◌, refl, sym, ◌∙◌, ap, arith}
+use Rattle.std.specs.Prelude.{ℤ, pos, negsuc, ◌+ℤ◌, ◌*ℤ◌, ◌≤ℤ◌, ◌<ℤ◌, neg_ℤ, unsigned_abs, max}
 use Rattle.std.specs.List.{All}
-use Rattle.std.proofs.Math.Nat.{max-eq_left, max-eq_right, le-max_left, le-max_right}
-use Rattle.std.proofs.lemmas.Bool.{leb-true, leb-false}
-use Rattle.std.proofs.lemmas.Bool.Decides.{nat_tests}
+use Rattle.std.proofs.Math.Nat.{max-eq_left, max-eq_right}
 use Rattle.std.proofs.lemmas.Int.{ints, by_lt_z}
 use Rattle.std.proofs.lemmas.List.Elements.{All-nil, All-cons, All-weaker}
-use Rattle.mesh_plane.specs.Plane.{Point, Edge, turn}
-use Rattle.mesh_plane.specs.Winding.{crossing_on, refined, winding, boundary}
-use Rattle.mesh_plane.proofs.ClosedLists.{all_both, boundary_all, boundary_steps}
-use Rattle.mesh_plane.proofs.Crossings.{crossing_on_odd}
+use Rattle.mesh_plane.specs.Plane.{Point, Edge}
+use Rattle.mesh_plane.specs.Winding.{refined, winding, boundary}
+use Rattle.mesh_plane.proofs.ClosedLists.{all_both, boundary_all}
 use Rattle.mesh_plane.proofs.HalfPlanes.{along_by}
-use Rattle.mesh_plane.proofs.PointExprs.{point_var, coordinates, turned}
-use Rattle.mesh_plane.proofs.Ring.{ring, var, lit, neg, ◌⊕◌, ◌⊖◌, ◌⊗◌}
-use Rattle.mesh_plane.proofs.Sums.{sum_of_equal}
+use Rattle.mesh_plane.proofs.Ring.{ring, var, lit, ◌⊕◌, ◌⊗◌}
 use Rattle.mesh_plane.proofs.Whole.{linear, mul_nonneg, mul_le_mul_left, mul_add, mul_zero}
-use Rattle.mesh_lattice.specs.Nearness.{IsNearTo, IsFarFrom}
-use Rattle.mesh_lattice.specs.Split.{occurs}
+use Rattle.mesh_lattice.specs.Nearness.{IsNearTo}
 use Rattle.mesh_lattice.proofs.Beyond.{LiesBeyond, far_beyond}
-use Rattle.mesh_lattice.proofs.Each.{Each, each_of}
-use Rattle.mesh_lattice.proofs.Nearness.{IsUnit, HasSign, sign_of, opposite_size}
-use Rattle.mesh_slivers.specs.Slivers.{distance, farther, farthest}
-use Rattle.mesh_slivers.proofs.Rays.{LiesBeforeOn, LiesInStrip, closed_on_ray, by_strip}
+use Rattle.mesh_lattice.proofs.Each.{Each}
+use Rattle.mesh_lattice.proofs.Nearness.{IsUnit, HasSign, sign_of}
+use Rattle.mesh_slivers.proofs.Rays.{LiesBeforeOn, closed_on_ray, by_strip}
 
 -- ---- a step along an axis by which a measure grows most
 
@@ -63,18 +56,22 @@ way_of u v =
 
 -- ---- a strip that a point does not lie before
 
+-- a point lies farther than `k` 64ths from an edge
+abbrev pub LiesFar : ℕ → ℕ → Point → Edge → Type 0
+LiesFar k m q e = IsNearTo k m e q → ⊥
+
 each_all : {A : Type 0} (P : A → Type 0) (xs : List A) → Each P xs → All P xs
 each_all P [] h = All-nil P
 each_all P (x ∷ xs) h = All-cons P x xs h.0 (each_all P xs h.1)
 
 pub strip_apart : (width m : ℕ) → 0 < m → (u v : ℤ) → 0 < max (unsigned_abs u) (unsigned_abs v) → (a q : Point) → along_by u v (refined m a) ≤ℤ along_by u v q → (points : List Point) →
     All (λ (p : Point). along_by u v p ≤ℤ (along_by u v a +ℤ pos (width * max (unsigned_abs u) (unsigned_abs v)))) points →
-    IsFarFrom (64 * width) m (boundary points) q → winding m q (boundary points) ≡ pos 0
+    Each (LiesFar (64 * width) m q) (boundary points) → winding m q (boundary points) ≡ pos 0
 strip_apart width m some u v steep a q past points within far =
     closed_on_ray w.way m q points
     (All-weaker (λ (e : Edge). (Within e.0 × Within e.1) × Far e) (LiesBeforeOn w.way m q) (λ (e : Edge) (h : (Within e.0 × Within e.1) × Far e). before e h.0.0 h.0.1 (far_beyond (64 * width) m some e q h.1)) (boundary points)
     (all_both (λ (e : Edge). Within e.0 × Within e.1) Far (boundary points) (boundary_all Within points within)
-    (each_all Far (boundary points) (each_of Far (boundary points) far))))
+    (each_all Far (boundary points) far)))
   where
     most : ℕ
     most = max (unsigned_abs u) (unsigned_abs v)
@@ -89,7 +86,7 @@ strip_apart width m some u v steep a q past points within far =
     Within p = along_by u v p ≤ℤ (along_by u v a +ℤ pos (width * most))
 
     Far : Edge → Type 0
-    Far e = IsNearTo (64 * width) m e q → ⊥
+    Far e = LiesFar (64 * width) m q e
 
     on_grid : (p : Point) → along_by u v (refined m p) ≡ pos m *ℤ along_by u v p
     on_grid p =

@@ -1,10 +1,10 @@
 -- Lemmas over points and lists: a sliver winds round no point farther than its width from its edges.
-use Rattle.std.proofs.Common.{◌≡◌, ℕ, ◌+◌, ◌*◌, ◌<◌, ◌≤◌, ⊎_elim, true, false, Bool, List, [], ◌∷◌, refl, sym, ◌∙◌, ap, subst, arith}
-use Rattle.std.specs.Prelude.{ℤ, pos, ◌+ℤ◌, ◌-ℤ◌, ◌*ℤ◌, ◌≤ℤ◌, ◌<ℤ◌, neg_ℤ, unsigned_abs, max, cond, nat_le}
-use Rattle.std.specs.List.{All, list_all}
+use Rattle.std.proofs.Common.{◌≡◌, ℕ, ◌*◌, ◌<◌, ◌≤◌, ⊎_elim, true, false, Bool, List, [], ◌∷◌, refl, sym, ◌∙◌, ap, subst, arith}
+use Rattle.std.specs.Prelude.{ℤ, pos, ◌+ℤ◌, ◌-ℤ◌, ◌≤ℤ◌, ◌<ℤ◌, neg_ℤ, unsigned_abs, max, cond, nat_le}
+use Rattle.std.specs.List.{All}
 use Rattle.std.proofs.Math.Nat.{le_trans, max_comm, le-max_left, le-max_right}
 use Rattle.std.proofs.lemmas.Bool.{leb-true}
-use Rattle.std.proofs.lemmas.Bool.Decides.{nat_tests, leb_tells}
+use Rattle.std.proofs.lemmas.Bool.Decides.{leb_tells}
 use Rattle.std.proofs.lemmas.Int.{ints, by_lt_z}
 use Rattle.std.proofs.lemmas.List.Elements.{All-nil, All-cons, All-weaker}
 use Rattle.std.proofs.lemmas.List.Sums.{AllPass-from_list_all}
@@ -17,10 +17,10 @@ use Rattle.mesh_plane.proofs.PointExprs.{point_var, coordinates, turned}
 use Rattle.mesh_plane.proofs.Ring.{ring, var, neg, ◌⊕◌, ◌⊖◌, ◌⊗◌}
 use Rattle.mesh_plane.proofs.Sums.{sum_of_equal}
 use Rattle.mesh_plane.proofs.Whole.{linear}
-use Rattle.mesh_lattice.specs.Nearness.{IsFarFrom}
+use Rattle.mesh_lattice.proofs.Each.{Each}
 use Rattle.mesh_lattice.proofs.Nearness.{opposite_size}
-use Rattle.mesh_slivers.specs.Slivers.{distance, farther, farthest, is_in_strip, is_sliver}
-use Rattle.mesh_slivers.proofs.Strips.{strip_apart}
+use Rattle.mesh_slivers.specs.Slivers.{distance, farthest, is_in_strip, is_sliver}
+use Rattle.mesh_slivers.proofs.Strips.{LiesFar, strip_apart}
 
 -- ---- no point lies farther than the farthest
 
@@ -54,7 +54,7 @@ none_round m a q points one =
     (boundary points) (boundary_all (λ (p : Point). p ≡ a) points one))
     ∙ boundary_steps (λ (p : Point). pos 0) points
 
-one_point : (a p : Point) → distance a p ≤ 0 → p ≡ a
+pub one_point : (a p : Point) → distance a p ≤ 0 → p ≡ a
 one_point a p h = λ i. (same a.0 p.0 (le-max_left x y) i, same a.1 p.1 (le-max_right x y) i)
   where
     x : ℕ
@@ -81,7 +81,7 @@ turn_back a b p =
     refl
 
 strip_round : (width m : ℕ) → 0 < m → (a b q : Point) → 0 < distance a b → (points : List Point) →
-    All (λ (p : Point). unsigned_abs (turn a b p) ≤ width * distance a b) points → IsFarFrom (64 * width) m (boundary points) q → winding m q (boundary points) ≡ pos 0
+    All (λ (p : Point). unsigned_abs (turn a b p) ≤ width * distance a b) points → Each (LiesFar (64 * width) m q) (boundary points) → winding m q (boundary points) ≡ pos 0
 strip_round width m some a b q apart points within far =
     by_lt_z (along_by (neg_ℤ dy) dx q) (along_by (neg_ℤ dy) dx (refined m a))
     (λ (h : along_by (neg_ℤ dy) dx q <ℤ along_by (neg_ℤ dy) dx (refined m a)).
@@ -121,7 +121,7 @@ strip_round width m some a b q apart points within far =
 -- ---- slivers
 
 pub sliver_round : (width m : ℕ) → 0 < m → (q : Point) (points : List Point) → is_sliver width points ≡ true →
-    IsFarFrom (64 * width) m (boundary points) q → winding m q (boundary points) ≡ pos 0
+    Each (LiesFar (64 * width) m q) (boundary points) → winding m q (boundary points) ≡ pos 0
 sliver_round width m some q [] thin far = refl
 sliver_round width m some q (a ∷ ps) thin far =
     by_lt_z (pos 0) (pos (distance a b))

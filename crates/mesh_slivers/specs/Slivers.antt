@@ -1,7 +1,9 @@
 -- Slivers: contours as thin as rounding may make them, and shapes without them.
-use Rattle.std.specs.Prelude.{ℕ, ◌*◌, ◌<◌, ◌≡◌, Bool, true, cond, not, nat_le, max, List, [], ◌∷◌, map, ◌-ℤ◌, unsigned_abs}
+use Rattle.std.specs.Prelude.{ℕ, ◌*◌, ◌<◌, ◌≡◌, Bool, true, cond, not, nat_le, max, List, [], ◌∷◌, map}
+use Rattle.std.specs.Prelude.{◌-ℤ◌, unsigned_abs}
 use Rattle.std.specs.List.{filter, flat_map, list_all}
-use Rattle.mesh_plane.specs.Plane.{Point, Edge, turn}
+use Rattle.mesh_num.specs.Paths.{contours_of}
+use Rattle.mesh_plane.specs.Plane.{Point, turn}
 use Rattle.mesh_plane.specs.Winding.{boundary, winding}
 use Rattle.mesh_lattice.specs.Nearness.{IsFarFrom}
 
@@ -38,7 +40,8 @@ without_holes width (outer ∷ holes) = outer ∷ filter (λ (hole : List Point)
 
 -- the shapes with a contour that is no sliver, each with the contours that it keeps
 abbrev pub without_slivers : ℕ → List (List (List Point)) → List (List (List Point))
-without_slivers width shapes = map (without_holes width) (filter (λ (shape : List (List Point)). not (are_slivers width shape)) shapes)
+without_slivers width shapes =
+    map (without_holes width) (filter (λ (shape : List (List Point)). not (are_slivers width shape)) shapes)
 
 -- a shape's holes that are slivers
 abbrev pub sliver_holes : ℕ → List (List Point) → List (List Point)
@@ -49,12 +52,8 @@ sliver_holes width (outer ∷ holes) = filter (is_sliver width) holes
 abbrev pub left_out : ℕ → List (List Point) → List (List Point)
 left_out width shape = cond (are_slivers width shape) shape (sliver_holes width shape)
 
--- the edges of contours
-abbrev pub edges_of : List (List Point) → List Edge
-edges_of contours = flat_map boundary contours
-
 -- at each point farther than `width` units from each edge left out of `old`, on every grid, both wind alike
 abbrev pub WindAlike : ℕ → List (List (List Point)) → List (List (List Point)) → Type 0
 WindAlike width old new =
-    (m : ℕ) → 0 < m → (q : Point) → IsFarFrom (64 * width) m (edges_of (flat_map (left_out width) old)) q
-    → winding m q (edges_of (flat_map (λ shape. shape) new)) ≡ winding m q (edges_of (flat_map (λ shape. shape) old))
+    (m : ℕ) → 0 < m → (q : Point) → IsFarFrom (64 * width) m (flat_map boundary (flat_map (left_out width) old)) q
+    → winding m q (flat_map boundary (contours_of new)) ≡ winding m q (flat_map boundary (contours_of old))
