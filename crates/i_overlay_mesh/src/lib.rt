@@ -28,6 +28,7 @@ pub use mesh_offset::error;
 pub use mesh_offset::error::{
     IntNearnessError, IntOutlineError, IntStrokeError, IntVariableStrokeError,
 };
+pub use mesh_slivers::slivers::without_slivers;
 pub use outline::builder::OutlineBuilder;
 pub use outline::kind::ContourKind;
 pub use outline::offset::IntOutlineOffset;

@@ -20,6 +20,8 @@ mod regions;
 #[cfg(test)]
 mod round;
 #[cfg(test)]
+mod slivers;
+#[cfg(test)]
 mod sources;
 #[cfg(test)]
 mod stored;

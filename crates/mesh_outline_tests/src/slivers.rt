@@ -1,11 +1,9 @@
 //! Shapes without their slivers: of a worked outline, of contours that just are or just are not slivers, and of
 //! shapes.
 
-use crate::outlines::styled;
 use i_overlay_mesh::outline::offset::IntOutlineOffset;
-use i_overlay_mesh::{IntNumber, without_slivers};
+use i_overlay_mesh::{IntNumber, IntOutlineStyle, without_slivers};
 use mesh_test_support::compared::{are_shapes, expect_equal, expect_that};
-use mesh_test_support::joins::JoinKind;
 use mesh_test_support::lists::{path, shapes};
 use mesh_test_support::outer;
 use std::alloc::Global;
@@ -35,7 +33,10 @@ const LEAST: [(Contour<i32>, u32); 14] = [
     // the first one of those that are as far
     (&[(0, 0), (5, -1), (10, 0), (10, 1)], 1),
     (&[(0, 0), (10, 1), (10, 0), (5, -1)], 2),
-    (outer!(-2147483648, -2147483648, 2147483647, 2147483647), u32::MAX),
+    (
+        outer!(-2147483648, -2147483648, 2147483647, 2147483647),
+        u32::MAX,
+    ),
     (&[(2147483647, 0), (-2147483648, 0), (-2147483648, 2)], 2),
 ];
 
@@ -126,15 +127,12 @@ const ROUNDED: Contour<i32> = &[
 fn a_hole_of_rounding(rt: HostRuntime) -> Result<(), Fail> {
     let alloc = rt.alloc();
     let contour = path(alloc, CROSSED)?;
-    let style = styled(50_000, JoinKind::Bevel);
+    let style = IntOutlineStyle::new(50_000);
     contour.validate_outline(&style)?;
     let given = contour.outline(alloc, &style)?;
     contour.validate_outline(&style)?;
     let mut wanted = contour.outline(alloc, &style)?;
-    expect_that(
-        wanted.len() == 1 && wanted[0].len() == 2,
-        &"one hole",
-    )?;
+    expect_that(wanted.len() == 1 && wanted[0].len() == 2, &"one hole")?;
     expect_equal(&wanted[0][1], &path(alloc, ROUNDED)?, &"the hole")?;
     wanted[0].pop();
     let left = without_slivers(given, 1);
