@@ -130,11 +130,12 @@ fn a_hole_of_rounding(rt: HostRuntime) -> Result<(), Fail> {
     let style = IntOutlineStyle::new(50_000);
     contour.validate_outline(&style)?;
     let given = contour.outline(alloc, &style)?;
-    contour.validate_outline(&style)?;
     let mut wanted = contour.outline(alloc, &style)?;
-    expect_that(wanted.len() == 1 && wanted[0].len() == 2, &"one hole")?;
-    expect_equal(&wanted[0][1], &path(alloc, ROUNDED)?, &"the hole")?;
-    wanted[0].pop();
+    let Some(shape) = wanted.last_mut() else {
+        return expect_that(false, &"a shape");
+    };
+    let hole = shape.pop();
+    expect_equal(&hole, &Some(path(alloc, ROUNDED)?), &"the hole")?;
     let left = without_slivers(given, 1);
     expect_equal(&left, &wanted, &"what is left")
 }
