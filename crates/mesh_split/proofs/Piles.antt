@@ -10,7 +10,7 @@ use Rattle.mesh_lattice.specs.Counted.{Counted, bit, times}
 use Rattle.mesh_lattice.specs.Split.{same_edge, same_ends, occurs, EdgeSplit, after, Meets}
 use Rattle.mesh_lattice.proofs.Counts.{times_least, bit_most}
 use Rattle.mesh_lattice.proofs.Ends.{decides_edge, ends_self}
-use Rattle.mesh_split.specs.Private.Steps.{exactly, IsTaken, IsPut, IsPile, StandOnce, Settles, weight}
+use Rattle.mesh_split.specs.Private.Steps.{exactly, IsTaken, IsPut, IsPile, StandOnce, Moves, Settles, weight}
 use Rattle.mesh_split.proofs.Settling.{clear_self}
 use Rattle.mesh_split.proofs.Stages.{pop_count, take_count, keep_count}
 use Rattle.mesh_split.proofs.Starting.{settled_reached, settled_weight}
@@ -42,6 +42,16 @@ pile_moved ks old todo live live' k given e put p =
     record {
       reached = record { legal = r.legal; count = keep_count es todo live live' k [] put (pop_count es old todo live k [] e r.count) };
       light = omega (arith, linear, e weight, put weight, p.light);
+    }
+
+-- a waiting segment was made live or split
+pub pile_stepped : (given : List Edge) (ks ks' : List EdgeSplit) (old todo live todo' live' : List Counted) (k : Counted) → IsTaken old todo k
+    → Moves ks todo live ks' todo' live' k → IsPile given ks old live → IsPile given ks' todo' live'
+pile_stepped given ks ks' old todo live todo' live' k e s p =
+    let r = p.reached in
+    record {
+      reached = s.reached given (record { legal = r.legal; count = pop_count (after ks given) old todo live k [] e r.count });
+      light = omega (arith, linear, s.weight_stays, e weight, p.light);
     }
 
 -- a waiting segment was settled

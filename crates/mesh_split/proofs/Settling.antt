@@ -8,7 +8,7 @@ use Rattle.mesh_plane.specs.Winding.{same_point}
 use Rattle.mesh_plane.proofs.Whole.{linear}
 use Rattle.mesh_lattice.specs.Split.{same_edge, same_ends, occurs, is_end, IsInBox, IsCrossing, Meets, at_start_of_second, at_end_of_second, at_start_of_first, at_end_of_first, at_crossing, EdgeSplit, split_by, after, add_split, IsLegal, split}
 use Rattle.mesh_lattice.specs.Counted.{Counted, bit, times}
-use Rattle.mesh_split.specs.Private.Steps.{exactly, IsPut, IsTaken, Puts, PutsPieces, IsClearOf, AllClear, AreCountOf, IsReachedBySplits, Settles, split_at, extent, weight, waiting_work, live_work}
+use Rattle.mesh_split.specs.Private.Steps.{exactly, IsPut, IsTaken, Puts, PutsPieces, IsClearOf, AllClear, AreCountOf, IsReachedBySplits, Moves, Settles, split_at, extent, weight, waiting_work, live_work}
 use Rattle.mesh_lattice.specs.Split.{AreClear}
 use Rattle.mesh_lattice.proofs.Ends.{decides_edge, decides_end, ends_sym, not_ends}
 use Rattle.mesh_lattice.proofs.Boxes.{meets_box, meets_once, crossing_swapped, turn_start}
@@ -117,11 +117,10 @@ legal_split given ks todo live k t c m r =
 
 -- ---- the ways to settle
 
--- the segment in hand is clear of the live ones and becomes one
-pub settles_kept : (ks : List EdgeSplit) (todo live live' : List Counted) (k : Counted) → same_point k.0.0 k.0.1 ≡ false → IsClearOf k.0 live → IsPut live live' k → Settles ks todo live ks todo live' k
-settles_kept ks todo live live' k proper clear put = record {
+-- the segment in hand becomes a live one, whatever it meets
+pub moves_kept : (ks : List EdgeSplit) (todo live live' : List Counted) (k : Counted) → same_point k.0.0 k.0.1 ≡ false → IsPut live live' k → Moves ks todo live ks todo live' k
+moves_kept ks todo live live' k proper put = record {
   reached = λ given r. record { legal = r.legal; count = keep_count (after ks given) todo live live' k [] put r.count };
-  clear = keep_clear live live' k put clear;
   work_falls =
       let l : 1 ≤ extent k.0 = extent_least k.0 proper in
       let f : live_work k <ℤ waiting_work k = less (extent k.0) l in
@@ -131,6 +130,15 @@ settles_kept ks todo live live' k proper clear put = record {
   where
     less : (n : ℕ) → 1 ≤ n → pos (4 * n - 3) <ℤ pos (4 * n - 2)
     less n h = omega (arith, ints)
+
+pub moves_settled : (ks ks' : List EdgeSplit) (todo live todo' live' : List Counted) (k : Counted) → Settles ks todo live ks' todo' live' k → Moves ks todo live ks' todo' live' k
+moves_settled ks ks' todo live todo' live' k s = record { reached = s.reached; work_falls = s.work_falls; weight_stays = s.weight_stays }
+
+-- the segment in hand is clear of the live ones and becomes one
+pub settles_kept : (ks : List EdgeSplit) (todo live live' : List Counted) (k : Counted) → same_point k.0.0 k.0.1 ≡ false → IsClearOf k.0 live → IsPut live live' k → Settles ks todo live ks todo live' k
+settles_kept ks todo live live' k proper clear put =
+    let m = moves_kept ks todo live live' k proper put in
+    record { reached = m.reached; clear = keep_clear live live' k put clear; work_falls = m.work_falls; weight_stays = m.weight_stays }
 
 -- a segment that lives has no more work than one that waits
 live_no_more : (n : ℕ) → pos (4 * n - 3) ≤ℤ pos (4 * n - 2)

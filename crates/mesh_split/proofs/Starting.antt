@@ -11,12 +11,12 @@ use Rattle.mesh_plane.proofs.Sums.{sum_of_append}
 use Rattle.mesh_plane.proofs.Whole.{linear}
 use Rattle.mesh_lattice.specs.Split.{same_ends, occurs, EdgeSplit, after, no_cut}
 use Rattle.mesh_lattice.specs.Counted.{Counted, bit, along, times}
-use Rattle.mesh_split.specs.Private.Steps.{IsTaken, Puts, AllClear, AreCountOf, IsReachedBySplits, Settles, at_least_once, extent, weight, waiting_work, live_work, work, total_weight}
+use Rattle.mesh_split.specs.Private.Steps.{IsTaken, Puts, AllClear, AreCountOf, IsReachedBySplits, Moves, Settles, at_least_once, extent, weight, waiting_work, live_work, work, total_weight}
 use Rattle.mesh_lattice.proofs.Ends.{ends_self}
 use Rattle.mesh_lattice.proofs.Counts.{times_least, bit_most}
 use Rattle.mesh_lattice.proofs.Splits.{occurs_append}
 use Rattle.mesh_split.proofs.Stages.{pop_count}
-use Rattle.mesh_split.proofs.Settling.{fewer_clear}
+use Rattle.mesh_split.proofs.Settling.{fewer_clear, moves_settled}
 use Rattle.mesh_lattice.specs.Counted.{IsRoomy}
 
 once_given : (b o : Bool) (z : ℤ) → z +ℤ pos 0 ≡ bit o → at_least_once b z +ℤ pos 0 ≡ bit (o || (b || false))
@@ -112,13 +112,17 @@ popped_absent given ks old todo live k e r =
       bit_most (occurs k.0 (after ks given)),
     )
 
-pub settled_less : (ks ks' : List EdgeSplit) (old todo live todo' live' : List Counted) (k : Counted) → IsTaken old todo k → Settles ks todo live ks' todo' live' k
+pub moved_less : (ks ks' : List EdgeSplit) (old todo live todo' live' : List Counted) (k : Counted) → IsTaken old todo k → Moves ks todo live ks' todo' live' k
     → unsigned_abs (work todo' live') < unsigned_abs (work old live)
-settled_less ks ks' old todo live todo' live' k e s =
+moved_less ks ks' old todo live todo' live' k e s =
     below (work todo' live') (work old live) (work_least todo' live') (omega (arith, linear, s.work_falls, e waiting_work))
   where
     below : (a b : ℤ) → pos 0 ≤ℤ a → a <ℤ b → unsigned_abs a < unsigned_abs b
     below a b h k = omega (arith, ints)
+
+pub settled_less : (ks ks' : List EdgeSplit) (old todo live todo' live' : List Counted) (k : Counted) → IsTaken old todo k → Settles ks todo live ks' todo' live' k
+    → unsigned_abs (work todo' live') < unsigned_abs (work old live)
+settled_less ks ks' old todo live todo' live' k e s = moved_less ks ks' old todo live todo' live' k e (moves_settled ks ks' todo live todo' live' k s)
 
 pub start_reached : (given : List Edge) (ks : List EdgeSplit) → ks ≡ [] → (n : ℕ) (todo live : List Counted) → length given ≤ n → AreCountOf (take n given) todo live []
     → IsReachedBySplits given ks todo live []

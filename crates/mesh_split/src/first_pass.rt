@@ -1,204 +1,144 @@
-//! The first pass: splits in another order where the usual one takes too many. It need not leave the segments clear of
-//! each other; what is left to split is found by the second pass, whatever was split here.
+//! The first pass: splits in hand, on a leash where a run seems to begin. What the leash holds back gets another order,
+//! and all is begun anew. It need not leave the segments clear of each other; what is left to split is found by the
+//! second pass, whatever was split here.
 
-ghost use Rattle.std.specs.Prelude.{◌≡◌, [], pos, ◌<ℤ◌, List, IfErr, IfOk, IfSome, IsNone, OnOk};
-ghost use Rattle.mesh_plane.specs.Plane.{Edge};
+ghost use Rattle.std.specs.Prelude.{◌≡◌, pos, ◌<ℤ◌, IfErr, IfOk, IfSome, OnOk};
 ghost use Rattle.mesh_lattice.specs.Clean.{IsProper};
-ghost use Rattle.mesh_lattice.specs.Split.{IsLegal, Meets};
+ghost use Rattle.mesh_lattice.specs.Split.{Meets};
 ghost use Rattle.mesh_split.specs.Counting.{CountsSplits, IsReason};
 ghost use Rattle.mesh_split.specs.Private.Steps.{AllClear, IsPile, KeepsPile, StandOnce, exactly};
 
-use crate::budget::{Budget, of_heap};
 use crate::count::{SplitCount, SplitError};
-use crate::hints::{Hints, Meeting, Order};
+use crate::hints::{Hints, Meeting};
+use crate::leash::Leash;
 use crate::steps::Splitter;
 use crate::store::Store;
-use mesh_lattice::exact::meeting;
-use mesh_lattice::lattice::LatticeEdge;
+use mesh_lattice::exact::{is_before, meeting};
+use mesh_lattice::lattice::{LatticeEdge, LatticePoint};
 use std::alloc::{AllocError, Global};
 
-/// How an attempt chooses the next split.
-#[derive(Copy, Clone)]
-enum Kind {
-    /// The best of the known meetings. Those that rounding brings are sought where no other is left.
-    Sweeping(Order),
-    /// The best of all meetings. Those that rounding brings are sought after each split.
-    Eager(Order),
-    /// As the second pass does.
-    InHand,
-}
-
-/// The kinds of attempts. Each has its own unlucky cases, so the next one is made where one takes too many splits.
-const KINDS: [Kind; 4] = [
-    Kind::Sweeping(Order::Angle),
-    Kind::Sweeping(Order::RoughAngle),
-    Kind::Eager(Order::Angle),
-    Kind::InHand,
-];
-
-/// How often each kind of attempt is made.
-const ROUNDS: usize = 4;
-
-/// How many more splits each round allows than the one before it.
-const GROWTH: usize = 4;
+/// How often another order is drawn, at most.
+const DRAWS: usize = 12;
 
 /// A segment, and one that it meets.
 type Pair = (LatticeEdge, Meeting);
 
-/// Makes all waiting segments live, whatever they meet, and notes what they meet, at once or later.
-fn make_live(splitter: &mut Splitter, hints: &mut Hints, at_once: bool) -> Result<(), AllocError>
+/// Makes the segments with these ends live that wait, whatever they meet, and notes what they meet.
+fn take_up(
+    splitter: &mut Splitter,
+    wanted: &[LatticeEdge],
+    hints: &mut Hints,
+    leash: &Leash,
+) -> Result<(), AllocError>
     requires { StandOnce splitter.old.todo splitter.old.live }
-    ensures none { OnOk result (splitter.new.todo ≡ []) }
-    ensures kept { OnOk result (KeepsPile splitter.old.log splitter.old.todo splitter.old.live
+    ensures { OnOk result (KeepsPile splitter.old.log splitter.old.todo splitter.old.live
         splitter.new.log splitter.new.todo splitter.new.live) }
 {
-    while let Some(s) = splitter.todo.pop() {
-        if at_once {
-            splitter.live.note_meetings(s.0, hints)?;
-        } else {
-            hints.note_fresh(s.0)?;
-        }
-        splitter.live.insert(s)?;
-    }
-    Ok(())
-}
-
-/// Notes the meetings that were not sought yet.
-fn sweep(live: &Store, hints: &mut Hints) -> Result<(), AllocError> {
-    for _fresh in 0..usize::MAX {
-        let Some(e) = hints.pop_fresh() else {
-            return Ok(());
-        };
-        if live.has(e) {
-            live.note_meetings(e, hints)?;
+    for e in wanted {
+        if splitter.todo.has(*e) {
+            let s = splitter.todo.remove(*e);
+            let met = splitter.live.meetings(s.0)?;
+            hints.note(s.0, &met, leash)?;
+            splitter.live.insert(s)?;
         }
     }
     Ok(())
 }
 
-/// The next hint that is true: both segments live, and they meet. Other hints are followed to pieces that live.
-fn next(live: &Store, hints: &mut Hints) -> Result<Option<Pair>, AllocError>
-    ensures first { IfOk result (λ o. IfSome o (λ p. pos 0 <ℤ exactly p.0 live.now)) }
-    ensures second { IfOk result (λ o. IfSome o (λ p. pos 0 <ℤ exactly p.1.0 live.now)) }
-    ensures meets { IfOk result (λ o. IfSome o (λ p. Meets p.0 p.1.0 p.1.1)) }
+/// The next hint that is true: both segments live, and they meet.
+fn next(live: &Store, hints: &mut Hints) -> Option<Pair>
+    ensures first { IfSome result (λ p. pos 0 <ℤ exactly p.0 live.now) }
+    ensures second { IfSome result (λ p. pos 0 <ℤ exactly p.1.0 live.now) }
+    ensures meets { IfSome result (λ p. Meets p.0 p.1.0 p.1.1) }
 {
     for _hint in 0..usize::MAX {
-        if hints.len() == 0 {
-            sweep(live, hints)?;
-        }
         let Some((first, second)) = hints.pop() else {
-            return Ok(None);
+            return None;
         };
-        if !live.has(first) {
-            hints.follow(first, second)?;
-        } else if !live.has(second) {
-            hints.follow(second, first)?;
-        } else if let Some(at) = meeting(first, second) {
-            return Ok(Some((first, (second, at))));
+        if live.has(first) && live.has(second) {
+            if let Some(at) = meeting(first, second) {
+                return Some((first, (second, at)));
+            }
         }
     }
-    Ok(None)
+    None
 }
 
-/// No splitter: the splits that it made are counted on.
-fn given_up(splitter: Splitter, count: &mut SplitCount) -> Result<Option<Splitter>, SplitError>
-    ensures none { IfOk result (λ o. IsNone o) }
-    ensures counted { (given : List Edge) → IsLegal given splitter.log → CountsSplits given count.old count.new }
-    ensures refused { IfErr result (λ e. IsReason e count.new) }
-{
-    count.add(&splitter.log)?;
-    Ok(None)
+/// The edge between two points, the lesser one first.
+fn between(p: LatticePoint, q: LatticePoint) -> LatticeEdge {
+    if is_before(p, q) { (p, q) } else { (q, p) }
 }
 
-/// Splits the edges by hints, unless that takes too many splits; then these are counted on. All that it leaves waits to
-/// be tested.
-fn by_hints(
+/// The pieces of two segments that are split.
+fn pieces(e: LatticeEdge, m: Meeting) -> [LatticeEdge; 4] {
+    let (f, c) = m;
+    [
+        between(e.0, c),
+        between(c, e.1),
+        between(f.0, c),
+        between(c, f.1),
+    ]
+}
+
+/// Splits the noted edges alone, in the order that was drawn. The others wait.
+fn split_noted(
     alloc: Global,
     edges: &[LatticeEdge],
-    order: Order,
-    is_eager: bool,
-    factor: usize,
+    leash: &mut Leash,
     count: &mut SplitCount,
-) -> Result<Option<Splitter>, SplitError>
+) -> Result<Splitter, SplitError>
     requires { IsProper edges.now }
-    ensures pile { IfOk result (λ o. IfSome o (λ s. IsPile edges.now s.log s.todo s.live)) }
-    ensures clear { IfOk result (λ o. IfSome o (λ s. AllClear s.live)) }
+    ensures pile { IfOk result (λ s. IsPile edges.now s.log s.todo s.live) }
     ensures counted { CountsSplits edges.now count.old count.new }
     ensures refused { IfErr result (λ e. IsReason e count.new) }
 {
     let mut splitter = Splitter::of_edges(alloc, edges)?;
-    let mut hints = Hints::new(alloc, order);
-    make_live(&mut splitter, &mut hints, true)?;
-    for _split in 0..of_heap(edges.len(), hints.len(), factor) {
-        let Some((first, m)) = next(&splitter.live, &mut hints)? else {
-            let again = splitter.again(alloc)?;
-            return Ok(Some(again));
+    let mut hints = Hints::new(alloc);
+    let noted = leash.noted_edges()?;
+    take_up(&mut splitter, &noted, &mut hints, leash)?;
+    for _split in 0..usize::MAX {
+        let Some((first, m)) = next(&splitter.live, &mut hints) else {
+            return Ok(splitter);
         };
-        hints.note_cut(first, m.1)?;
-        hints.note_cut(m.0, m.1)?;
-        splitter.split_live(first, m)?;
-        count.check(&splitter.log)?;
-        make_live(&mut splitter, &mut hints, is_eager)?;
-    }
-    given_up(splitter, count)
-}
-
-/// Splits the edges as the second pass does, unless that takes too many splits. Then these are counted on.
-fn in_hand(
-    alloc: Global,
-    edges: &[LatticeEdge],
-    mut budget: Budget,
-    count: &mut SplitCount,
-) -> Result<Option<Splitter>, SplitError>
-    requires { IsProper edges.now }
-    ensures pile { IfOk result (λ o. IfSome o (λ s. IsPile edges.now s.log s.todo s.live)) }
-    ensures clear { IfOk result (λ o. IfSome o (λ s. AllClear s.live)) }
-    ensures counted { CountsSplits edges.now count.old count.new }
-    ensures refused { IfErr result (λ e. IsReason e count.new) }
-{
-    let mut splitter = Splitter::of_edges(alloc, edges)?;
-    let mut made: usize = 0;
-    for _step in 0..usize::MAX {
-        let Some(s) = splitter.todo.pop() else {
-            return Ok(Some(splitter));
-        };
-        if splitter.settle(s)? {
-            made = made.saturating_add(1);
-        }
-        count.check(&splitter.log)?;
-        if !budget.allows(alloc, edges, made)? {
-            return given_up(splitter, count);
+        if leash.allows(first, m)? {
+            splitter.split_live(first, m)?;
+            count.check(&splitter.log)?;
+            take_up(&mut splitter, &pieces(first, m), &mut hints, leash)?;
         }
     }
-    given_up(splitter, count)
+    Ok(splitter)
 }
 
-/// An attempt of one kind, which is given up where it takes too many splits. Then these are counted on.
+/// Splits the noted edges, and then all in hand. What the leash holds back, and all with it, waits to be tested.
 fn attempt(
     alloc: Global,
     edges: &[LatticeEdge],
-    kind: Kind,
-    factor: usize,
+    leash: &mut Leash,
     count: &mut SplitCount,
-) -> Result<Option<Splitter>, SplitError>
+) -> Result<Splitter, SplitError>
     requires { IsProper edges.now }
-    ensures pile { IfOk result (λ o. IfSome o (λ s. IsPile edges.now s.log s.todo s.live)) }
-    ensures clear { IfOk result (λ o. IfSome o (λ s. AllClear s.live)) }
+    ensures pile { IfOk result (λ s. IsPile edges.now s.log s.todo s.live) }
+    ensures clear { IfOk result (λ s. AllClear s.live) }
     ensures counted { CountsSplits edges.now count.old count.new }
     ensures refused { IfErr result (λ e. IsReason e count.new) }
 {
-    match kind {
-        Kind::Sweeping(order) => by_hints(alloc, edges, order, false, factor, count),
-        Kind::Eager(order) => by_hints(alloc, edges, order, true, factor, count),
-        Kind::InHand => {
-            let budget = Budget::usual(edges, factor.saturating_mul(GROWTH));
-            in_hand(alloc, edges, budget, count)
+    let mut splitter = split_noted(alloc, edges, leash, count)?;
+    let mut is_clear = splitter.live.is_empty();
+    while let Some(s) = splitter.todo.pop() {
+        if !splitter.settle_leashed(s, leash)? {
+            is_clear = false;
         }
+        count.check(&splitter.log)?;
     }
+    if is_clear {
+        return Ok(splitter);
+    }
+    leash.note_neighbours(&splitter.live)?;
+    let again = splitter.again(alloc)?;
+    Ok(again)
 }
 
-/// The segments that wait for the second pass: those that an attempt left, or the edges, where none came to its end.
-/// The splits of the attempts that were given up are counted on.
+/// The segments that wait for the second pass. The splits of the attempts that were given up are counted on.
 pub fn first_pass(
     alloc: Global,
     edges: &[LatticeEdge],
@@ -210,18 +150,15 @@ pub fn first_pass(
     ensures counted { CountsSplits edges.now count.old count.new }
     ensures refused { IfErr result (λ e. IsReason e count.new) }
 {
-    if let Some(splitter) = in_hand(alloc, edges, Budget::of_first(edges), count)? {
-        return Ok(splitter);
-    }
-    let mut factor: usize = 1;
-    for _round in 0..ROUNDS {
-        for kind in KINDS {
-            if let Some(splitter) = attempt(alloc, edges, kind, factor, count)? {
-                return Ok(splitter);
-            }
+    let mut leash = Leash::new(alloc);
+    let mut splitter = attempt(alloc, edges, &mut leash, count)?;
+    for _draw in 0..DRAWS {
+        if !leash.has_held() {
+            return Ok(splitter);
         }
-        factor = factor.saturating_mul(GROWTH);
+        count.add(&splitter.log)?;
+        leash.draw()?;
+        splitter = attempt(alloc, edges, &mut leash, count)?;
     }
-    let splitter = Splitter::of_edges(alloc, edges)?;
     Ok(splitter)
 }

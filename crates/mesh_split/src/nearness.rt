@@ -23,7 +23,7 @@ fn extent(e: LatticeEdge) -> u128
 
 /// How far a point in the box of an edge lies from it, in 64ths of a grid unit, rounded up. Distance is the greater of
 /// both coordinates' differences.
-fn distance(e: LatticeEdge, c: LatticePoint) -> u64
+pub fn distance(e: LatticeEdge, c: LatticePoint) -> u64
     ensures near { IsInBox e c → IsNearTo result 1 e c }
     ensures least { (l : ℕ) → l < result → IsNearTo l 1 e c → ⊥ }
     ensures small { result ≤ 2 ^ 38 }

@@ -1,14 +1,15 @@
 //! The steps of the splitting: segments put in, split alone or with one that they meet, and made live.
 
-ghost use Rattle.std.specs.Prelude.{◌≡◌, ◌^◌, [], ◌∷◌, ℤ, pos, ◌+ℤ◌, ◌≤ℤ◌, ◌<ℤ◌, neg_ℤ, false, OnOk, IfOk};
+ghost use Rattle.std.specs.Prelude.{◌≡◌, ◌^◌, [], ◌∷◌, ℤ, pos, ◌+ℤ◌, ◌≤ℤ◌, ◌<ℤ◌, neg_ℤ, true, false, OnOk, IfOk};
 ghost use Rattle.mesh_plane.specs.Winding.{same_point};
 ghost use Rattle.mesh_lattice.specs.Clean.{IsProper};
 ghost use Rattle.mesh_lattice.specs.Split.{is_end, IsInBox, Meets};
-ghost use Rattle.mesh_split.specs.Private.Steps.{AllClear, Puts, PutsPieces, Settles, IsPile, KeepsPile, exactly};
-ghost use Rattle.mesh_split.specs.Private.Steps.{IsForward, split_at, weight, total_weight};
+ghost use Rattle.mesh_split.specs.Private.Steps.{AllClear, Puts, PutsPieces, Moves, Settles, IsPile, KeepsPile};
+ghost use Rattle.mesh_split.specs.Private.Steps.{IsForward, exactly, split_at, weight, total_weight};
 ghost use Rattle.mesh_lattice.specs.Counted.{times, IsRoomy};
 
 use crate::hints::Meeting;
+use crate::leash::Leash;
 use crate::split_log::SplitLog;
 use crate::store::Store;
 use crate::worklist::Worklist;
@@ -167,8 +168,8 @@ impl Splitter {
         })
     }
 
-    /// Makes a segment live, or splits it and answers yes.
-    pub fn settle(&mut self, s: CountedSegment) -> Result<bool, AllocError>
+    /// Makes a segment live, or splits it.
+    pub fn settle(&mut self, s: CountedSegment) -> Result<(), AllocError>
         requires forward { IsForward s.0 }
         requires absent { times s.0 self.old.live ≡ pos 0 }
         requires room { IsRoomy (total_weight self.old.todo self.old.live +ℤ weight s) }
@@ -176,6 +177,31 @@ impl Splitter {
             self.new.log self.new.todo self.new.live s) }
     {
         if let Some(m) = self.live.conflict(s.0) {
+            self.split(s, m)?;
+            return Ok(());
+        }
+        self.live.insert(s)?;
+        Ok(())
+    }
+
+    /// The same where the leash lets it, and answers yes. Else the segment is made live, whatever it meets.
+    pub fn settle_leashed(
+        &mut self,
+        s: CountedSegment,
+        leash: &mut Leash,
+    ) -> Result<bool, AllocError>
+        requires forward { IsForward s.0 }
+        requires absent { times s.0 self.old.live ≡ pos 0 }
+        requires room { IsRoomy (total_weight self.old.todo self.old.live +ℤ weight s) }
+        ensures moves { OnOk result (Moves self.old.log self.old.todo self.old.live
+            self.new.log self.new.todo self.new.live s) }
+        ensures clear { IfOk result (λ b. b ≡ true → AllClear self.old.live → AllClear self.new.live) }
+    {
+        let Some(m) = self.live.conflict(s.0) else {
+            self.live.insert(s)?;
+            return Ok(true);
+        };
+        if leash.allows(s.0, m)? {
             self.split(s, m)?;
             return Ok(true);
         }

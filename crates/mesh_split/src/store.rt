@@ -6,7 +6,7 @@ ghost use Rattle.mesh_lattice.specs.Counted.{times};
 ghost use Rattle.mesh_split.specs.Private.Cells.{MeetsLive};
 ghost use Rattle.mesh_split.specs.Private.Steps.{HaveRoom, IsForward, IsPut, IsTaken, IsClearOf, AddsIf, exactly};
 
-use crate::hints::{Hints, Meeting};
+use crate::hints::Meeting;
 use crate::tally::Tally;
 use crate::tree::{DEPTH, Tree};
 use crate::worklist::Worklist;
@@ -61,15 +61,24 @@ impl Store {
         self.live.has(ends)
     }
 
+    /// Whether no segment lives.
+    pub fn is_empty(&self) -> bool
+        ensures { result ≡ true → self.now ≡ [] }
+    {
+        self.live.is_empty()
+    }
+
     /// The ends of all live segments.
     pub fn ends(&self, alloc: Global) -> Result<Vec<LatticeEdge>, AllocError> {
         self.live.ends(alloc)
     }
 
-    /// Notes the live segments that a segment meets.
-    pub fn note_meetings(&self, s: LatticeEdge, hints: &mut Hints) -> Result<(), AllocError> {
+    /// The live segments that a segment meets.
+    pub fn meetings(&self, s: LatticeEdge) -> Result<Vec<Meeting>, AllocError> {
         let mut sides = Vec::new(self.alloc);
-        self.plane.note(&self.live, s, &mut sides, hints)
+        let mut found = Vec::new(self.alloc);
+        self.plane.find_all(&self.live, s, &mut sides, &mut found)?;
+        Ok(found)
     }
 
     /// Makes a segment live.

@@ -47,9 +47,11 @@ impl Tally {
         }
     }
 
-    /// How many segments stand.
-    pub fn len(&self) -> usize {
-        self.counts.len()
+    /// Whether no segment stands.
+    pub fn is_empty(&self) -> bool
+        ensures { result ≡ true → self.now ≡ [] }
+    {
+        self.counts.is_empty()
     }
 
     /// The ends of all segments.

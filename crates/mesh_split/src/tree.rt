@@ -13,7 +13,7 @@ ghost use Rattle.mesh_split.specs.Private.BoundingBoxes.{AreBounds};
 ghost use Rattle.mesh_split.specs.Private.Steps.{exactly};
 
 use crate::bounding::{BoundingBox, bounding_box, is_beside};
-use crate::hints::{Hints, Meeting};
+use crate::hints::Meeting;
 use crate::tally::Tally;
 use mesh_lattice::exact::{meeting, same_edge};
 use mesh_lattice::lattice::{LatticeEdge, LatticePoint};
@@ -444,14 +444,14 @@ impl Tree {
         }
     }
 
-    /// Notes the live segments that a segment meets, each in the first part that both reach. This tree is the part of
-    /// the plane on the given sides, which are the same afterwards, unless memory was refused.
-    pub fn note(
+    /// Adds the live segments that a segment meets to a list, each in the first part that both reach. This tree is the
+    /// part of the plane on the given sides, which are the same afterwards, unless memory was refused.
+    pub fn find_all(
         &self,
         live: &Tally,
         s: LatticeEdge,
         sides: &mut Vec<Side>,
-        hints: &mut Hints,
+        found: &mut Vec<Meeting>,
     ) -> Result<(), AllocError> {
         match self {
             Tree::Leaf(listed, _) => {
@@ -459,7 +459,7 @@ impl Tree {
                 for e in listed {
                     if is_first(sides, s, *e) {
                         if let Some(m) = live_meeting(live, s, bounds, *e) {
-                            hints.note(s, m)?;
+                            found.push(m)?;
                         }
                     }
                 }
@@ -468,12 +468,12 @@ impl Tree {
             Tree::Fork(low, cut, high) => {
                 if reaches(*cut, s, true) {
                     sides.push((*cut, true))?;
-                    low.note(live, s, sides, hints)?;
+                    low.find_all(live, s, sides, found)?;
                     sides.pop();
                 }
                 if reaches(*cut, s, false) {
                     sides.push((*cut, false))?;
-                    high.note(live, s, sides, hints)?;
+                    high.find_all(live, s, sides, found)?;
                     sides.pop();
                 }
                 Ok(())

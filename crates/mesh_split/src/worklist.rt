@@ -1,9 +1,9 @@
 //! The segments that are still to be tested against the live ones.
 
-ghost use Rattle.std.specs.Prelude.{◌≡◌, ◌⊎◌, List, [], ℤ, MatchOption, IfSome, OnOk};
+ghost use Rattle.std.specs.Prelude.{◌≡◌, ◌⊎◌, true, List, [], ℤ, pos, ◌<ℤ◌, MatchOption, IfSome, OnOk};
 ghost use Rattle.std.specs.List.{All};
 ghost use Rattle.std.specs.Map.{keys_of};
-ghost use Rattle.mesh_split.specs.Private.Steps.{HaveRoom, IsForward, IsTaken, IsRaised, IsNew};
+ghost use Rattle.mesh_split.specs.Private.Steps.{HaveRoom, IsForward, IsTaken, IsRaised, IsNew, exactly};
 
 use mesh_lattice::lattice::{CountedSegment, LatticeEdge};
 use std::alloc::{AllocError, Global};
@@ -62,6 +62,28 @@ impl Worklist {
             return None;
         };
         self.counts.remove_entry(&ends)
+    }
+
+    /// Whether the segment with these ends waits.
+    pub fn has(&self, ends: LatticeEdge) -> bool
+        ensures { result ≡ true → pos 0 <ℤ exactly ends self.now }
+    {
+        match self.counts.get(&ends) {
+            Some(_) => true,
+            None => false,
+        }
+    }
+
+    /// Takes the segment with these ends out.
+    pub fn remove(&mut self, ends: LatticeEdge) -> CountedSegment
+        requires { pos 0 <ℤ exactly ends self.old }
+        ensures taken { IsTaken self.old self.new result }
+        ensures forward { IsForward result.0 }
+    {
+        match self.counts.remove_entry(&ends) {
+            Some(s) => s,
+            None => unreachable!(),
+        }
     }
 
     /// Puts a segment in, or adds its count to that of the segment with its ends.

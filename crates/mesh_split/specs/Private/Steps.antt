@@ -132,6 +132,14 @@ pub record Settles (splits : List EdgeSplit) (todo live : List Counted) (splits'
   pub work_falls : work todo' live' <ℤ (work todo live +ℤ waiting_work k)
   pub weight_stays : total_weight todo' live' ≤ℤ (total_weight todo live +ℤ weight k)
 
+-- a segment in hand was made live, whatever it meets, or split: the state stays one that legal splits lead to, and less
+-- work is left
+pub record Moves (splits : List EdgeSplit) (todo live : List Counted) (splits' : List EdgeSplit) (todo' live' : List Counted) (k : Counted) : Type 0 where
+  pub reached : (given : List Edge) → IsReachedBySplits given splits todo live (k ∷ [])
+      → IsReachedBySplits given splits' todo' live' []
+  pub work_falls : work todo' live' <ℤ (work todo live +ℤ waiting_work k)
+  pub weight_stays : total_weight todo' live' ≤ℤ (total_weight todo live +ℤ weight k)
+
 -- segments that legal splits of the given edges lead to, whether or not they meet, with room for their counts
 pub record IsPile (given : List Edge) (splits : List EdgeSplit) (todo live : List Counted) : Type 0 where
   pub reached : IsReachedBySplits given splits todo live []

@@ -1,8 +1,10 @@
 use Rattle.mesh_split.specs.Counting.{CountsSplits}
+use Rattle.mesh_split.specs.Private.Steps.{IsPile, AllClear}
 use Rattle.mesh_split.proofs.first_pass.first_pass.Given as goal
 
-abbrev pub invariant-loop-kind : goal.invariant-loop-kind
-invariant-loop-kind l = CountsSplits l.fn.edges l.fn.count l.count
-
-abbrev pub invariant-loop-round : goal.invariant-loop-round
-invariant-loop-round l = CountsSplits l.fn.edges l.fn.count l.count
+abbrev pub invariant-loop-draw : goal.invariant-loop-draw
+invariant-loop-draw l = record {
+  counted : CountsSplits l.fn.edges l.fn.count l.count;
+  pile : IsPile l.fn.edges l.splitter.log l.splitter.todo l.splitter.live;
+  clear : AllClear l.splitter.live;
+}

@@ -1,0 +1,15 @@
+use Rattle.mesh_lattice.proofs.Ends.{forward_proper}
+use Rattle.mesh_split.proofs.Settling.{moves_kept, moves_settled, settles_kept}
+use Rattle.mesh_split.proofs.steps.Splitter.settle_leashed.Goals as goal
+
+pub returns-in_default-clause-moves : goal.returns-in_default-clause-moves
+returns-in_default-clause-moves c =
+    moves_kept c.args.self.now.log c.args.self.now.todo c.args.self.now.live c.insert.new.self c.args.s (forward_proper c.args.s.0 c.requires.forward) c.in_ok-insert.ensures
+
+pub returns-in_default-clause-clear : goal.returns-in_default-clause-clear
+returns-in_default-clause-clear c =
+    λ _. (settles_kept c.args.self.now.log c.args.self.now.todo c.args.self.now.live c.insert.new.self c.args.s (forward_proper c.args.s.0 c.requires.forward) c.in_default.ensures c.in_ok-insert.ensures).clear
+
+pub returns-clause-moves : goal.returns-clause-moves
+returns-clause-moves c =
+    moves_kept c.args.self.now.log c.args.self.now.todo c.args.self.now.live c.insert-2.new.self c.args.s (forward_proper c.args.s.0 c.requires.forward) c.in_ok-insert-2.ensures
