@@ -54,7 +54,7 @@ const UNLUCKY: &[Corners] = &[
     ],
 ];
 
-/// Contours that took thousands of splits in every order that was tried. With dropped attempts some 7,100, 100,000 and
+/// Contours that took thousands of splits in every order that was tried. With dropped attempts some 6,700, 63,000 and
 /// 611,000 are made here; those of the last two go on along one line.
 const LONG: &[Corners] = &[
     &[
@@ -221,6 +221,57 @@ fn split_contour(alloc: Global, corners: &[(i32, i32)]) -> Result<Split, Fail> {
     expect_that(split.edges.len() <= split.told.segments.len(), &corners)?;
     expect_equal(&way(&split.told.segments), &(0, 0), &corners)?;
     Ok(split)
+}
+
+/// The corners of a contour from one of them on, moved eastwards.
+fn moved(
+    alloc: Global,
+    corners: &[(i32, i32)],
+    first: usize,
+    east: i32,
+) -> Result<Vec<(i32, i32)>, Fail> {
+    let mut turned: Vec<(i32, i32)> = Vec::new(alloc);
+    for (x, y) in corners.iter().cycle().skip(first).take(corners.len()) {
+        turned.push((x.wrapping_add(east), *y))?;
+    }
+    Ok(turned)
+}
+
+/// The most that is told of splits within two units of the edges, in 64ths.
+const TWO_UNITS: u64 = 128;
+
+/// Whichever corner a contour begins at, some order is found that stays near.
+#[test]
+fn unlucky_orders_stay_near_from_any_corner(rt: HostRuntime) -> Result<(), Fail> {
+    for corners in UNLUCKY {
+        for first in 0..corners.len() {
+            let turned = moved(rt.alloc(), corners, first, 0)?;
+            let split = split_contour(rt.alloc(), &turned)?;
+            expect_that(split.told.nearness <= TWO_UNITS, &turned)?;
+            expect_that(split.made <= 1000, &split.made)?;
+        }
+    }
+    Ok(())
+}
+
+/// Contours side by side, of which each needs an order of its own.
+#[test]
+fn unlucky_orders_stay_near_side_by_side(rt: HostRuntime) -> Result<(), Fail> {
+    let mut edges: Vec<LatticeEdge> = Vec::new(rt.alloc());
+    let mut east: i32 = -40_000_000;
+    for corners in UNLUCKY {
+        for first in 0..10 {
+            push_closed(&mut edges, &moved(rt.alloc(), corners, first, east)?)?;
+            east = east.wrapping_add(2_000_000);
+        }
+    }
+    if !are_proper(&edges) {
+        return Err(Fail::new(format_args!("an edge ends where it starts")));
+    }
+    let mut count = SplitCount::new(0);
+    let told = split_edges_told(rt.alloc(), &edges, &mut count)?;
+    expect_that(told.nearness <= TWO_UNITS, &told.nearness)?;
+    expect_that(count.made <= 20_000, &count.made)
 }
 
 #[test]
