@@ -99,9 +99,11 @@ impl Leash {
         self.noted.len() == 0
     }
 
-    /// The edges of the splits that were held back in attempts before.
+    /// The edges of the splits that were held back in attempts before, in an order that no map decides.
     pub fn noted_edges(&self) -> Result<Vec<LatticeEdge>, AllocError> {
-        self.noted.keys().copied().collect(self.alloc)
+        let mut edges: Vec<LatticeEdge> = self.noted.keys().copied().collect(self.alloc)?;
+        edges.sort_unstable();
+        Ok(edges)
     }
 
     /// Whether a split was held back in this attempt.
