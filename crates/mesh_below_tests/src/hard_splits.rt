@@ -231,7 +231,10 @@ fn moved(
     east: i32,
 ) -> Result<Vec<(i32, i32)>, Fail> {
     let mut turned: Vec<(i32, i32)> = Vec::new(alloc);
-    for (x, y) in corners.iter().cycle().skip(first).take(corners.len()) {
+    for (x, y) in corners.iter().skip(first) {
+        turned.push((x.wrapping_add(east), *y))?;
+    }
+    for (x, y) in corners.iter().take(first) {
         turned.push((x.wrapping_add(east), *y))?;
     }
     Ok(turned)
