@@ -23,7 +23,29 @@ const DRAWS: usize = 12;
 /// A segment, and one that it meets.
 type Pair = (LatticeEdge, Meeting);
 
-/// Makes the segments with these ends live that wait, whatever they meet, and notes what they meet.
+/// Makes the segment with these ends live, if it waits, whatever it meets, and notes what it meets.
+fn take_one(
+    splitter: &mut Splitter,
+    wanted: LatticeEdge,
+    hints: &mut Hints,
+    leash: &Leash,
+) -> Result<(), AllocError>
+    requires { StandOnce splitter.old.todo splitter.old.live }
+    ensures once { OnOk result (StandOnce splitter.new.todo splitter.new.live) }
+    ensures kept { OnOk result (KeepsPile splitter.old.log splitter.old.todo splitter.old.live
+        splitter.new.log splitter.new.todo splitter.new.live) }
+{
+    if !splitter.todo.has(wanted) {
+        return Ok(());
+    }
+    let s = splitter.todo.remove(wanted);
+    let met = splitter.live.meetings(s.0)?;
+    hints.note(s.0, &met, leash)?;
+    splitter.live.insert(s)?;
+    Ok(())
+}
+
+/// The same for several.
 fn take_up(
     splitter: &mut Splitter,
     wanted: &[LatticeEdge],
@@ -35,33 +57,30 @@ fn take_up(
         splitter.new.log splitter.new.todo splitter.new.live) }
 {
     for e in wanted {
-        if splitter.todo.has(*e) {
-            let s = splitter.todo.remove(*e);
-            let met = splitter.live.meetings(s.0)?;
-            hints.note(s.0, &met, leash)?;
-            splitter.live.insert(s)?;
-        }
+        take_one(splitter, *e, hints, leash)?;
     }
     Ok(())
 }
 
-/// The next hint that is true: both segments live, and they meet.
-fn next(live: &Store, hints: &mut Hints) -> Option<Pair>
-    ensures first { IfSome result (λ p. pos 0 <ℤ exactly p.0 live.now) }
-    ensures second { IfSome result (λ p. pos 0 <ℤ exactly p.1.0 live.now) }
-    ensures meets { IfSome result (λ p. Meets p.0 p.1.0 p.1.1) }
+/// The next hint that is true and that the leash allows: both segments live, and they meet.
+fn next(live: &Store, hints: &mut Hints, leash: &mut Leash) -> Result<Option<Pair>, AllocError>
+    ensures first { IfOk result (λ o. IfSome o (λ p. pos 0 <ℤ exactly p.0 live.now)) }
+    ensures second { IfOk result (λ o. IfSome o (λ p. pos 0 <ℤ exactly p.1.0 live.now)) }
+    ensures meets { IfOk result (λ o. IfSome o (λ p. Meets p.0 p.1.0 p.1.1)) }
 {
     for _hint in 0..usize::MAX {
         let Some((first, second)) = hints.pop() else {
-            return None;
+            return Ok(None);
         };
         if live.has(first) && live.has(second) {
             if let Some(at) = meeting(first, second) {
-                return Some((first, (second, at)));
+                if leash.allows(first, (second, at))? {
+                    return Ok(Some((first, (second, at))));
+                }
             }
         }
     }
-    None
+    Ok(None)
 }
 
 /// The edge between two points, the lesser one first.
@@ -97,14 +116,12 @@ fn split_noted(
     let noted = leash.noted_edges()?;
     take_up(&mut splitter, &noted, &mut hints, leash)?;
     for _split in 0..usize::MAX {
-        let Some((first, m)) = next(&splitter.live, &mut hints) else {
+        let Some((first, m)) = next(&splitter.live, &mut hints, leash)? else {
             return Ok(splitter);
         };
-        if leash.allows(first, m)? {
-            splitter.split_live(first, m)?;
-            count.check(&splitter.log)?;
-            take_up(&mut splitter, &pieces(first, m), &mut hints, leash)?;
-        }
+        splitter.split_live(first, m)?;
+        count.check(&splitter.log)?;
+        take_up(&mut splitter, &pieces(first, m), &mut hints, leash)?;
     }
     Ok(splitter)
 }
@@ -125,9 +142,7 @@ fn attempt(
     let mut splitter = split_noted(alloc, edges, leash, count)?;
     let mut is_clear = splitter.live.is_empty();
     while let Some(s) = splitter.todo.pop() {
-        if !splitter.settle_leashed(s, leash)? {
-            is_clear = false;
-        }
+        is_clear = splitter.settle_leashed(s, leash, is_clear)?;
         count.check(&splitter.log)?;
     }
     if is_clear {

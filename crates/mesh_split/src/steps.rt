@@ -184,26 +184,29 @@ impl Splitter {
         Ok(())
     }
 
-    /// The same where the leash lets it, and answers yes. Else the segment is made live, whatever it meets.
+    /// The same where the leash lets it. Else the segment is made live, whatever it meets. Answers whether the live ones
+    /// are clear of each other still, if they were.
     pub fn settle_leashed(
         &mut self,
         s: CountedSegment,
         leash: &mut Leash,
+        were_clear: bool,
     ) -> Result<bool, AllocError>
         requires forward { IsForward s.0 }
         requires absent { times s.0 self.old.live ≡ pos 0 }
         requires room { IsRoomy (total_weight self.old.todo self.old.live +ℤ weight s) }
         ensures moves { OnOk result (Moves self.old.log self.old.todo self.old.live
             self.new.log self.new.todo self.new.live s) }
-        ensures clear { IfOk result (λ b. b ≡ true → AllClear self.old.live → AllClear self.new.live) }
+        ensures clear { IfOk result (λ b. b ≡ true →
+            (were_clear ≡ true → AllClear self.old.live) → AllClear self.new.live) }
     {
         let Some(m) = self.live.conflict(s.0) else {
             self.live.insert(s)?;
-            return Ok(true);
+            return Ok(were_clear);
         };
         if leash.allows(s.0, m)? {
             self.split(s, m)?;
-            return Ok(true);
+            return Ok(were_clear);
         }
         self.live.insert(s)?;
         Ok(false)

@@ -3,15 +3,14 @@ use Rattle.mesh_split.proofs.first_pass.first_pass.Goals as goal
 
 pub loop-draw-preserved : goal.loop-draw-preserved
 loop-draw-preserved c =
-    let s = c.loop-draw.splitter in
     let given = c.args.edges.now in
     record {
       counted =
-          counts_both given c.args.count.now c.add.new.self c.attempt-2.new.count
+          counts_both given c.args.count.now c.add.new.self c.attempt-in-loop-draw.new.count
           (counts_both given c.args.count.now c.loop-draw.count c.add.new.self c.loop-draw.invariant.counted (c.add.ensures.counted given c.loop-draw.invariant.pile.reached.legal).counts)
-          c.attempt-2.ensures.counted;
-      pile = c.in_ok-attempt-2.ensures.pile;
-      clear = c.in_ok-attempt-2.ensures.clear;
+          c.attempt-in-loop-draw.ensures.counted;
+      pile = c.in_ok-splitter-2.ensures.pile;
+      clear = c.in_ok-splitter-2.ensures.clear;
     }
 
 pub returns-in_err-add-clause-counted : goal.returns-in_err-add-clause-counted
@@ -22,8 +21,8 @@ pub returns-in_err-draw-clause-counted : goal.returns-in_err-draw-clause-counted
 returns-in_err-draw-clause-counted c =
     counts_both c.args.edges.now c.args.count.now c.loop-draw.count c.add.new.self c.loop-draw.invariant.counted (c.add.ensures.counted c.args.edges.now c.loop-draw.invariant.pile.reached.legal).counts
 
-pub returns-in_err-attempt-2-clause-counted : goal.returns-in_err-attempt-2-clause-counted
-returns-in_err-attempt-2-clause-counted c =
-    counts_both c.args.edges.now c.args.count.now c.add.new.self c.attempt-2.new.count
+pub returns-in_err-splitter-2-clause-counted : goal.returns-in_err-splitter-2-clause-counted
+returns-in_err-splitter-2-clause-counted c =
+    counts_both c.args.edges.now c.args.count.now c.add.new.self c.attempt-in-loop-draw.new.count
     (counts_both c.args.edges.now c.args.count.now c.loop-draw.count c.add.new.self c.loop-draw.invariant.counted (c.add.ensures.counted c.args.edges.now c.loop-draw.invariant.pile.reached.legal).counts)
-    c.attempt-2.ensures.counted
+    c.attempt-in-loop-draw.ensures.counted

@@ -20,8 +20,8 @@ pub take_up-requires-in-loop-split : goal.take_up-requires-in-loop-split
 take_up-requires-in-loop-split c =
     pile_once c.args.edges.now c.split_live.new.self.log c.split_live.new.self.todo c.split_live.new.self.live (c.in_ok-split_live.ensures c.args.edges.now c.loop-split.invariant.pile)
 
-pub loop-split-preserved-then-allows : goal.loop-split-preserved-then-allows
-loop-split-preserved-then-allows c =
+pub loop-split-preserved : goal.loop-split-preserved
+loop-split-preserved c =
     let pile = c.in_ok-split_live.ensures c.args.edges.now c.loop-split.invariant.pile in
     record {
       counted = subst (λ (n : SplitCount). CountsSplits c.args.edges.now c.args.count.now n) (sym c.in_ok-check.ensures.same) c.loop-split.invariant.counted;

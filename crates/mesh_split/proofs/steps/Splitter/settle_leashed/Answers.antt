@@ -8,7 +8,10 @@ returns-in_default-clause-moves c =
 
 pub returns-in_default-clause-clear : goal.returns-in_default-clause-clear
 returns-in_default-clause-clear c =
-    λ _. (settles_kept c.args.self.now.log c.args.self.now.todo c.args.self.now.live c.insert.new.self c.args.s (forward_proper c.args.s.0 c.requires.forward) c.in_default.ensures c.in_ok-insert.ensures).clear
+    λ still clear. (settles_kept c.args.self.now.log c.args.self.now.todo c.args.self.now.live c.insert.new.self c.args.s (forward_proper c.args.s.0 c.requires.forward) c.in_default.ensures c.in_ok-insert.ensures).clear (clear still)
+
+pub returns-then-branch-clause-clear : goal.returns-then-branch-clause-clear
+returns-then-branch-clause-clear c = λ still clear. c.in_ok-split.ensures.clear (clear still)
 
 pub returns-clause-moves : goal.returns-clause-moves
 returns-clause-moves c =
