@@ -114,8 +114,8 @@ impl Leash {
     /// Whether a segment may be split there, or need not be. Runs cut pieces of few units off.
     fn reaches(&self, e: LatticeEdge, c: LatticePoint) -> bool {
         is_end(c, e)
-            || distance(self.witnesses.of(e), c) <= self.reach
             || !(is_near(c, e.0) || is_near(c, e.1))
+            || distance(self.witnesses.of(e), c) <= self.reach
     }
 
     /// Notes where the pieces of a segment come from.
