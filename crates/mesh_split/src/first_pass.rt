@@ -20,6 +20,9 @@ use std::alloc::{AllocError, Global};
 /// How often another order is drawn, at most.
 const DRAWS: usize = 12;
 
+/// How many splits may have been made anew, about, where another order is drawn: crowded drawings take many.
+const MOST_SPLITS_ANEW: usize = 1_200_000;
+
 /// A segment, and one that it meets.
 type Pair = (LatticeEdge, Meeting);
 
@@ -167,8 +170,8 @@ pub fn first_pass(
 {
     let mut leash = Leash::new(alloc);
     let mut splitter = attempt(alloc, edges, &mut leash, count)?;
-    for _draw in 0..DRAWS {
-        if !leash.has_held() {
+    for draw in 0..DRAWS {
+        if !leash.has_held() || draw.saturating_mul(splitter.log.len()) > MOST_SPLITS_ANEW {
             return Ok(splitter);
         }
         count.add(&splitter.log)?;
