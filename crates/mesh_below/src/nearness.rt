@@ -11,7 +11,7 @@ ghost use Rattle.mesh_shapes.specs.Resolution.{IsResolution};
 ghost use Rattle.mesh_split.specs.Counting.{CountsSplits, IsPastLimit, IsWithinLimit};
 ghost use Rattle.mesh_split.specs.declared.count.SplitError.TheVariants.{TooManySplits};
 ghost use Rattle.mesh_below.specs.Asked.{AreResolvable};
-ghost use Rattle.mesh_below.specs.Nearness.{AreRegionsBeyond};
+ghost use Rattle.mesh_below.specs.Nearness.{AreCountedRegions, AreRegionsBeyond};
 ghost use Rattle.mesh_below.specs.Options.{choices_of};
 ghost use Rattle.mesh_below.specs.Private.OverlayAnswers.{IsNearAnswer};
 
@@ -52,6 +52,9 @@ impl<I: IntNumber> Overlay<I> {
             (choices_of I.WideUInt.value self.now.options) (shapes_of near.shapes.items)) }
         ensures regions { IfOk result (λ near. AreRegionsBeyond near.nearness (edges_of self.now.segments.items)
             (filled fill) (choices_of I.WideUInt.value self.now.options) (shapes_of near.shapes.items)) }
+        ensures standing { IfOk result (λ near. AreCountedRegions near.nearness (edges_of self.now.segments.items)
+            (filled fill) (choices_of I.WideUInt.value self.now.options) (shapes_of near.shapes.items)
+            count.old count.new) }
         ensures safe { IfOk result (λ near. ArePointsSafe I.unit (shapes_of near.shapes.items)) }
         ensures small { IfOk result (λ near. near.nearness ≤ 2 ^ 38) }
         ensures counted { CountsSplits (edges_of self.now.segments.items) count.old count.new }
@@ -71,12 +74,14 @@ impl<I: IntNumber> Overlay<I> {
     ) -> Result<NearShapes<I>, SplitError>
         requires { AreResolvable I.unit self.now.segments.items }
         ensures answer { IfOk result (λ near. IsNearAnswer I.unit near.nearness (edges_of self.now.segments.items)
-            (filled fill) (choices_of I.WideUInt.value self.now.options) (shapes_of near.shapes.items)) }
+            (filled fill) (choices_of I.WideUInt.value self.now.options) (shapes_of near.shapes.items)
+            count.old count.new) }
         ensures small { IfOk result (λ near. near.nearness ≤ 2 ^ 38) }
         ensures counted { CountsSplits (edges_of self.now.segments.items) count.old count.new }
         ensures within { OnOk result (IsWithinLimit count.new) }
         ensures refused { result ≡ Err SplitError.TooManySplits → IsPastLimit count.new }
     {
+        // Read, so that it is known to fit: a return before any attempt counts none.
         let _made = count.made;
         let alloc = *self.segments.allocator();
         let edges = lattice_edges(alloc, &self.segments)?;

@@ -11,7 +11,7 @@ ghost use Rattle.mesh_lattice.specs.Splitting.{IsSplitting};
 ghost use Rattle.mesh_lattice.specs.FillRules.{filled};
 ghost use Rattle.mesh_lattice.specs.declared.fill.FillRule.TheVariants.{Positive};
 ghost use Rattle.mesh_below.specs.Answers.{AreOwnBoundary, IsSettled};
-ghost use Rattle.mesh_below.specs.Nearness.{IsNearResolution};
+ghost use Rattle.mesh_below.specs.Nearness.{IsCountedResolution};
 ghost use Rattle.mesh_below.specs.Private.Resolving.{ResolvesBy};
 ghost use Rattle.mesh_below.specs.Private.Rings.{AreRingsOf, PushesRing};
 ghost use Rattle.mesh_split.specs.Counting.{CountsSplits, IsPastLimit, IsWithinLimit};
@@ -155,9 +155,9 @@ pub fn resolve_with_nearness(
 ) -> Result<NearAnswer, SplitError>
     requires proper { IsProper edges.now }
     requires balanced { IsBalanced edges.now }
-    ensures resolution { IfOk result (λ v. IsNearResolution v.nearness edges.now (filled fill)
+    ensures resolution { IfOk result (λ v. IsCountedResolution v.nearness edges.now (filled fill)
         (record { least_area = choices.least_area; all_vertices = choices.all_vertices; clockwise = choices.clockwise })
-        (shapes_points v.shapes.items)) }
+        (shapes_points v.shapes.items) count.old count.new) }
     ensures small { IfOk result (λ v. v.nearness ≤ 2 ^ 38) }
     ensures counted { CountsSplits edges.now count.old count.new }
     ensures within { OnOk result (IsWithinLimit count.new) }

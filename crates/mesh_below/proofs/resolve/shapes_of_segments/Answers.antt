@@ -1,4 +1,4 @@
-use Rattle.std.proofs.Common.{List, sym, subst, ◌∙◌, ap}
+use Rattle.std.proofs.Common.{sym, subst, ◌∙◌, ap}
 use Rattle.std.proofs.lemmas.Bool.{and_parts}
 use Rattle.mesh_plane.specs.Winding.{IsBalanced, sum_of}
 use Rattle.mesh_below.proofs.AnswerRegions.{filled_none}
@@ -6,7 +6,6 @@ use Rattle.mesh_below.proofs.Resolving.{parts_split, parted_balanced, boundary_p
 use Rattle.mesh_below.proofs.Settled.{resolved_settled, resolved_bounds}
 use Rattle.mesh_below.proofs.resolve.shapes_of_segments.Goals as goal
 use Rattle.mesh_lattice.specs.Boundary.{IsBoundary}
-use Rattle.mesh_lattice.specs.Counted.{Counted, IsCountOf}
 use Rattle.mesh_lattice.specs.FillRules.{filled}
 use Rattle.mesh_shapes.specs.Resolution.{Choices}
 use Rattle.mesh_lattice.specs.Split.{after}

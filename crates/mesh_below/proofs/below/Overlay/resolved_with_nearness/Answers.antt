@@ -7,13 +7,11 @@ use Rattle.mesh_num.specs.Segments.{SignedEdge, edges_of}
 use Rattle.mesh_plane.specs.Winding.{IsBalanced}
 use Rattle.mesh_lattice.specs.Clean.{IsProper}
 use Rattle.mesh_lattice.specs.FillRules.{filled}
-use Rattle.mesh_split.specs.Counting.{CountsSplits}
 use Rattle.mesh_below.specs.Options.{choices_of}
 use Rattle.mesh_lattice.specs.Reach.{ArePointsSafe}
-use Rattle.mesh_shapes.specs.Resolution.{Choices}
 use Rattle.mesh_below.proofs.AnswerRegions.{filled_none}
 use Rattle.mesh_below.proofs.AnswerPoints.{answer_safe}
-use Rattle.mesh_below.proofs.Beyond.{beyond_of, same_near}
+use Rattle.mesh_below.proofs.Beyond.{counted_beyond, same_counted}
 use Rattle.mesh_below.proofs.below.Overlay.resolved_with_nearness.Goals as goal
 
 pub resolve_with_nearness-requires-clause-balanced : goal.resolve_with_nearness-requires-clause-balanced
@@ -27,7 +25,7 @@ int_shapes-requires g c =
     let same : c.deref-2.result.now ≡ edges_of c.args.self.now.segments.items =
     c.deref-2.ensures.value ∙ (c.in_ok-edges.ensures.value ∙ ap (λ (ss : List SignedEdge). edges_of ss) c.deref.ensures.value) in
     subst (λ (shapes : List (Vec (Vec Point Global) Global)). ArePointsSafe g.I.IntNumber.unit (shapes_of shapes)) (sym c.deref-3.ensures.value)
-    (answer_safe g.I.IntNumber.unit c.deref-2.result.now (edges_of c.args.self.now.segments.items) (filled c.args.fill) _ (shapes_of c.in_ok-answer.answer.shapes.items) same c.requires.safe c.in_ok-answer.ensures.resolution.resolution)
+    (answer_safe g.I.IntNumber.unit c.deref-2.result.now (edges_of c.args.self.now.segments.items) (filled c.args.fill) _ (shapes_of c.in_ok-answer.answer.shapes.items) same c.requires.safe c.in_ok-answer.ensures.resolution.near.resolution)
 
 pub returns-clause-answer : goal.returns-clause-answer
 returns-clause-answer g c =
@@ -41,10 +39,14 @@ returns-clause-answer g c =
     let told = c.in_ok-answer.answer.shapes in
     let v = c.in_ok-int_shapes.field-0 in
     let is : shapes_of v.items ≡ shapes_of told.items = c.in_ok-int_shapes.ensures ∙ ap (λ (shapes : List (Vec (Vec Point Global) Global)). shapes_of shapes) c.deref-3.ensures.value in
-    let near = same_near k c.deref-2.result.now es fill _ options (shapes_of told.items) (shapes_of v.items) same c.choices.ensures (sym is) c.in_ok-answer.ensures.resolution in
+    let old = c.args.count.now in
+    let new = c.resolve_with_nearness.new.count in
+    let counted = same_counted k c.deref-2.result.now es fill _ options (shapes_of told.items) (shapes_of v.items) old new same c.choices.ensures (sym is) c.in_ok-answer.ensures.resolution in
+    let standing = counted_beyond k es fill options (shapes_of v.items) old new proper c.requires.balanced (filled_none c.args.fill) counted in
     record {
-      resolution = near.resolution;
-      regions = beyond_of k es fill options (shapes_of v.items) proper c.requires.balanced (filled_none c.args.fill) near;
+      resolution = counted.near.resolution;
+      regions = standing.beyond;
+      standing = standing;
       safe = subst (λ (answer : List (List (List Point))). ArePointsSafe g.I.IntNumber.unit answer) (sym is)
-          (answer_safe g.I.IntNumber.unit c.deref-2.result.now es fill _ (shapes_of told.items) same c.requires.safe c.in_ok-answer.ensures.resolution.resolution);
+          (answer_safe g.I.IntNumber.unit c.deref-2.result.now es fill _ (shapes_of told.items) same c.requires.safe c.in_ok-answer.ensures.resolution.near.resolution);
     }
