@@ -1,14 +1,14 @@
 -- Lemmas over lists: counts of attempts add up.
-use Rattle.std.proofs.Common.{◌≡◌, ℕ, ◌+◌, ◌-◌, ◌<◌, ◌^◌, List, [], ◌∷◌, ◌++◌, length, refl, sym, ◌∙◌, ap, arith}
+use Rattle.std.proofs.Common.{◌≡◌, ℕ, zero, suc, ◌+◌, ◌-◌, ◌<◌, ◌^◌, List, [], ◌∷◌, ◌++◌, length, refl, sym, ◌∙◌, ap, arith}
 use Rattle.std.specs.Prelude.{min}
-use Rattle.std.specs.List.{All, sum_by}
+use Rattle.std.specs.List.{All, Contains, sum_by}
 use Rattle.std.proofs.lemmas.List.Elements.{All-head, All-tail}
 use Rattle.std.proofs.lemmas.List.Sums.{sum_by-append, sum_by-cons}
 use Rattle.mesh_plane.specs.Plane.{Edge}
 use Rattle.mesh_lattice.specs.Split.{EdgeSplit, IsLegal}
-use Rattle.mesh_split.specs.Counting.{CountsSplits, counted}
+use Rattle.mesh_split.specs.Counting.{CountsSplits, CountsWith, counted}
 use Rattle.mesh_split.specs.declared.count.SplitCount.{SplitCount}
-use Rattle.mesh_offset.specs.Counting.{Attempt, CountsAttempts}
+use Rattle.mesh_offset.specs.Counting.{Attempt, CountsAttempts, CountsStanding}
 
 -- counting some, and then more
 counted_twice : (c : SplitCount) (a b : ℕ) → counted (counted c a) b ≡ counted c (a + b)
@@ -35,6 +35,46 @@ module _ (IsDrawn : List Edge → Type 0) where
       record {
         attempts = all.0;
         sum = counts.sum ∙ ap (counted old) (sym all.1);
+      }
+
+  -- the other attempts than one that is listed
+  others_at : (edges : List Edge) → IsDrawn edges → (ks : List EdgeSplit) (splits : List (List EdgeSplit)) → All (IsLegal edges) splits → Contains splits ks →
+      (others : List (Attempt IsDrawn)) × (sum_by length splits ≡ length ks + sum_by (λ (a : Attempt IsDrawn). length a.splits) others)
+  others_at edges drawn ks [] legal (i, low, is) = absurd (omega arith)
+  others_at edges drawn ks (js ∷ splits) legal (zero, low, is) =
+      let rest = attempts_at edges drawn splits (All-tail (IsLegal edges) js splits legal) in (
+        rest.0,
+        sum_by-cons length js splits ∙ (ap (λ (n : ℕ). length js + n) (sym rest.1)
+            ∙ ap (λ (l : List EdgeSplit). length l + sum_by (λ (a : Attempt IsDrawn). length a.splits) rest.0) is),
+      )
+  others_at edges drawn ks (js ∷ splits) legal (suc i, low, is) =
+      let rest = others_at edges drawn ks splits (All-tail (IsLegal edges) js splits legal) (i, omega (arith, low), is) in
+      let one : Attempt IsDrawn = record { edges = edges; drawn = drawn; splits = js; legal = All-head (IsLegal edges) js splits legal } in
+      let sums = sum_by-cons length js splits in
+      let more = sum_by-cons (λ (a : Attempt IsDrawn). length a.splits) one rest.0 in
+      let below = rest.1 in (one ∷ rest.0, omega (arith, sums, more, below))
+
+  -- the attempt at one list of edges that stands, and others
+  pub standing_of_one : (edges : List Edge) (ks : List EdgeSplit) (old new : SplitCount) → IsDrawn edges → CountsWith edges old new ks →
+      CountsStanding IsDrawn (length ks) old new
+  standing_of_one edges ks old new drawn counts =
+      let others = others_at edges drawn ks counts.counts.attempts counts.counts.legal counts.listed in
+      record {
+        given_up = others.0;
+        sum = counts.counts.sum ∙ ap (counted old) others.1;
+      }
+
+  -- and one after another
+  pub standing_more : (m n : ℕ) (old between new : SplitCount) → CountsStanding IsDrawn m old between → CountsStanding IsDrawn n between new →
+      CountsStanding IsDrawn (m + n) old new
+  standing_more m n old between new first second =
+      let a = sum_by (λ (a : Attempt IsDrawn). length a.splits) first.given_up in
+      let b = sum_by (λ (a : Attempt IsDrawn). length a.splits) second.given_up in
+      let both = sum_by-append (λ (a : Attempt IsDrawn). length a.splits) first.given_up second.given_up in
+      let all : (m + a) + (n + b) ≡ (m + n) + sum_by (λ (a : Attempt IsDrawn). length a.splits) (first.given_up ++ second.given_up) = omega (arith, both) in
+      record {
+        given_up = first.given_up ++ second.given_up;
+        sum = second.sum ∙ (ap (λ (c : SplitCount). counted c (n + b)) first.sum ∙ (counted_twice old (m + a) (n + b) ∙ ap (counted old) all));
       }
 
   -- and more of them
@@ -69,11 +109,21 @@ counts_weaker D E f old new counts =
     }
 
 -- no attempt yet
-pub counts_none : (D : List Edge → Type 0) (count : SplitCount) → count.made < 2 ^ 64 → CountsAttempts D count count
-counts_none D count small = record { attempts = []; sum = same }
-  where
-    e : count.made ≡ min (count.made + 0) (2 ^ 64 - 1)
-    e = omega (arith, small)
+counted_none : (count : SplitCount) → count.made < 2 ^ 64 → count ≡ counted count 0
+counted_none count small = let e : count.made ≡ min (count.made + 0) (2 ^ 64 - 1) = omega (arith, small) in λ i. record { made = e i; most = count.most }
 
-    same : count ≡ counted count 0
-    same = λ i. record { made = e i; most = count.most }
+pub counts_none : (D : List Edge → Type 0) (count : SplitCount) → count.made < 2 ^ 64 → CountsAttempts D count count
+counts_none D count small = record { attempts = []; sum = counted_none count small }
+
+-- the same attempts stand and were given up, at edges of which more is known
+pub standing_weaker : (D E : List Edge → Type 0) → ((es : List Edge) → D es → E es) → (n : ℕ) (old new : SplitCount) → CountsStanding D n old new → CountsStanding E n old new
+standing_weaker D E f n old new counts =
+    let all = attempts_weaker D E f counts.given_up in
+    record {
+      given_up = all.0;
+      sum = counts.sum ∙ ap (λ (s : ℕ). counted old (n + s)) (sym all.1);
+    }
+
+-- nothing stands, and nothing was given up
+pub standing_none : (D : List Edge → Type 0) (count : SplitCount) → count.made < 2 ^ 64 → CountsStanding D 0 count count
+standing_none D count small = record { given_up = []; sum = counted_none count small }

@@ -1,5 +1,5 @@
 -- Splits that are counted over a whole call, which resolves one list of edges or several.
-use Rattle.std.specs.Prelude.{ℕ, ◌≡◌, List, length, sum_by}
+use Rattle.std.specs.Prelude.{ℕ, ◌+◌, ◌≡◌, List, length, sum_by}
 use Rattle.mesh_plane.specs.Plane.{Edge}
 use Rattle.mesh_lattice.specs.Split.{EdgeSplit, IsLegal}
 use Rattle.mesh_split.specs.Counting.{counted}
@@ -16,3 +16,8 @@ pub record Attempt (IsDrawn : List Edge → Type 0) : Type 0 where
 pub record CountsAttempts (IsDrawn : List Edge → Type 0) (old new : SplitCount) : Type 0 where
   pub attempts : List (Attempt IsDrawn)
   pub sum : new ≡ counted old (sum_by (λ (a : Attempt IsDrawn). length a.splits) attempts)
+
+-- the same of attempts of which some stand, with so many splits together, and the others were given up
+pub record CountsStanding (IsDrawn : List Edge → Type 0) (standing : ℕ) (old new : SplitCount) : Type 0 where
+  pub given_up : List (Attempt IsDrawn)
+  pub sum : new ≡ counted old (standing + sum_by (λ (a : Attempt IsDrawn). length a.splits) given_up)

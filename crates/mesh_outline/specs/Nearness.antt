@@ -1,5 +1,5 @@
 -- Outlines that are exact away from the drawn edges. Distances are in 64ths of a grid unit.
-use Rattle.std.specs.Prelude.{ℕ, ◌≡◌, ◌⊎◌, ◌+◌, ◌≤◌, true, Option, Some, None, List, [], map}
+use Rattle.std.specs.Prelude.{ℕ, ◌≡◌, ◌⊎◌, ◌+◌, ◌≤◌, true, Option, Some, None, List, [], length, map, sum_by}
 use Rattle.std.specs.List.{All, AllZip, Contains, flat_map}
 use Rattle.std.specs.List.Sorted.{IsPermutation}
 use Rattle.mesh_plane.specs.Plane.{Point, Edge}
@@ -13,7 +13,9 @@ use Rattle.mesh_below.specs.Options.{plain}
 use Rattle.mesh_shapes.specs.Contours.{double_area}
 use Rattle.mesh_shapes.specs.Resolution.{Choices}
 use Rattle.mesh_join.specs.Styles.{OffsetJoin, OutlineStyle}
+use Rattle.mesh_split.specs.declared.count.SplitCount.{SplitCount}
 use Rattle.mesh_offset.specs.Adding.{answer_edges, in_sense}
+use Rattle.mesh_offset.specs.Counting.{CountsStanding}
 use Rattle.mesh_offset.specs.Regions.{WindsOnceWhere}
 use Rattle.mesh_outline.specs.Building.{style_for}
 use Rattle.mesh_outline.specs.Outline.{outline_edges}
@@ -33,15 +35,22 @@ drawn_of unit style contour = edges_moved unit contour (style_for style (double_
 abbrev pub all_drawn : ℕ → OutlineStyle → List (List Point) → List Edge
 all_drawn unit style contours = flat_map (drawn_of unit style) contours
 
--- what a contour gives to the outline, and the nearness of its own resolving: of the answer of a contour that moves,
--- else nothing
-pub data GivesNear (unit : ℕ) (style : OutlineStyle) (contour : List Point) : List Edge → ℕ → Type 0 where
+-- what a contour gives to the outline, the nearness of its own resolving and how many splits of that stand: of the
+-- answer of a contour that moves, else nothing
+pub data GivesNear (unit : ℕ) (style : OutlineStyle) (contour : List Point) : List Edge → ℕ → ℕ → Type 0 where
   moved : {way : OffsetJoin} {answer : List (List (List Point))} {k : ℕ}
       → style_for style (double_area contour) ≡ Some way
       → (built : List Edge) → IsPermutation built (outline_edges unit way contour)
-      → AreRegionsBeyond k built (filled (fill_for (double_area contour))) plain answer
+      → (beyond : AreRegionsBeyond k built (filled (fill_for (double_area contour))) plain answer)
       → GivesNear unit style contour (in_sense (fill_for (double_area contour)) (answer_edges answer)) k
-  ignored : style_for style (double_area contour) ≡ None → GivesNear unit style contour [] 0
+      (length beyond.regions.resolution.splits)
+  ignored : style_for style (double_area contour) ≡ None → GivesNear unit style contour [] 0 0
+
+-- what is told of a contour: the edges that it gives, and of its own resolving the nearness and how many splits stand
+pub record ToldGive : Type 0 where
+  pub edges : List Edge
+  pub nearness : ℕ
+  pub splits : ℕ
 
 -- the greatest of some numbers, 0 where there is none
 pub record IsGreatest (k : ℕ) (ks : List ℕ) : Type 0 where
@@ -50,10 +59,11 @@ pub record IsGreatest (k : ℕ) (ks : List ℕ) : Type 0 where
 
 -- the edges that contours give together, and the greatest nearness of their own resolvings
 pub record GiveNear (k unit : ℕ) (style : OutlineStyle) (contours : List (List Point)) (given : List Edge) : Type 0 where
-  pub told : List (List Edge × ℕ)
-  pub each : AllZip (λ (contour : List Point) (t : List Edge × ℕ). GivesNear unit style contour t.0 t.1) contours told
-  pub joined : given ≡ flat_map (λ (t : List Edge × ℕ). t.0) told
-  pub greatest : IsGreatest k (map (λ (t : List Edge × ℕ). t.1) told)
+  pub told : List ToldGive
+  pub each : AllZip (λ (contour : List Point) (t : ToldGive). GivesNear unit style contour t.edges t.nearness t.splits)
+      contours told
+  pub joined : given ≡ flat_map (λ (t : ToldGive). t.edges) told
+  pub greatest : IsGreatest k (map (λ (t : ToldGive). t.nearness) told)
 
 -- an answer is the outline of contours, and exact at each point farther than `k` from each drawn edge: there it winds
 -- once where more contours fill than clear, and nowhere else. `k` is the greatest nearness of the contours' own
@@ -79,3 +89,15 @@ pub data IsOutlineDrawing (unit : ℕ) (style : OutlineStyle) (contours : List (
       → IsPermutation built (drawn_of unit style contour) → IsOutlineDrawing unit style contours built
   together : {given : List Edge} → Give unit style contours given
       → IsOutlineDrawing unit style contours (proper_edges given)
+
+-- how many splits stand of the contours' own resolvings, together
+abbrev pub first_splits : List ToldGive → ℕ
+first_splits told = sum_by (λ (t : ToldGive). t.splits) told
+
+-- an answer is such an outline, and the splits that stand of the contours' own resolvings and of the last one were
+-- counted on, each of them once, with those of attempts that were given up
+pub record AreCountedOutlineRegions (k unit : ℕ) (style : OutlineStyle) (choices : Choices)
+    (contours : List (List Point)) (answer : List (List (List Point))) (old new : SplitCount) : Type 0 where
+  pub near : AreOutlineRegionsBeyond k unit style choices contours answer
+  pub counted : CountsStanding (IsOutlineDrawing unit style contours)
+      (first_splits near.give.told + length near.beyond.regions.resolution.splits) old new

@@ -17,9 +17,9 @@ ghost use Rattle.mesh_offset.specs.Counting.{CountsAttempts};
 ghost use Rattle.mesh_offset.specs.Padding.{ArePathsSafe};
 ghost use Rattle.mesh_outline.specs.Building.{IsMovable};
 ghost use Rattle.mesh_outline.specs.Kinds.{contour_kind};
-ghost use Rattle.mesh_outline.specs.Nearness.{AreOutlineRegionsBeyond, IsOutlineDrawing, drawn_of};
+ghost use Rattle.mesh_outline.specs.Nearness.{AreCountedOutlineRegions, IsOutlineDrawing, drawn_of};
 ghost use Rattle.mesh_outline.specs.Outline.{outline_edges};
-ghost use Rattle.mesh_outline.specs.Private.Near.{AddsGivenNear, AddsNear, AreGivenNear, ComesNear};
+ghost use Rattle.mesh_outline.specs.Private.Near.{AddsGivenNear, AddsNear, AreGivenCounted, ComesNear};
 ghost use Rattle.mesh_outline.specs.Resolved.{DoAreasFit};
 
 use crate::builder::OutlineBuilder;
@@ -51,8 +51,9 @@ pub(crate) fn near_outline<I: IntNumber, S: IntShapeResource<I>>(
     count: &mut SplitCount,
 ) -> Result<NearShapes<I>, IntNearnessError>
     requires { ArePathsSafe I.unit (outline_padding (style_of I.value style.now)) (S.paths source.now) }
-    ensures regions { IfOk result (λ near. AreOutlineRegionsBeyond near.nearness I.unit (style_of I.value style.now)
-        (choices_of I.WideUInt.value options) (S.paths source.now) (shapes_of near.shapes.items)) }
+    ensures standing { IfOk result (λ near. AreCountedOutlineRegions near.nearness I.unit
+        (style_of I.value style.now) (choices_of I.WideUInt.value options) (S.paths source.now)
+        (shapes_of near.shapes.items) count.old count.new) }
     ensures safe { IfOk result (λ near. ArePointsSafe I.unit (shapes_of near.shapes.items)) }
     ensures unfit { result ≡ Err IntNearnessError.CoordinateOutOfRange
         ↔ ¬ DoAreasFit I.Wide.half (S.paths source.now) }
@@ -61,6 +62,7 @@ pub(crate) fn near_outline<I: IntNumber, S: IntShapeResource<I>>(
     ensures within { OnOk result (IsWithinLimit count.new) }
     ensures refused { result ≡ Err IntNearnessError.TooManySplits → IsPastLimit count.new }
 {
+    // Read, so that it is known to fit: a return before any attempt counts none.
     let _made = count.made;
     let kinds = contour_kinds(source, alloc)?;
     Ok(resolved_near(source, alloc, style, options, &kinds, count)?)
@@ -77,8 +79,9 @@ fn resolved_near<I: IntNumber, S: IntShapeResource<I>>(
 ) -> Result<NearShapes<I>, SplitError>
     requires safe { ArePathsSafe I.unit (outline_padding (style_of I.value style.now)) (S.paths source.now) }
     requires kinds { kinds.now ≡ map contour_kind (S.paths source.now) }
-    ensures regions { IfOk result (λ near. AreOutlineRegionsBeyond near.nearness I.unit (style_of I.value style.now)
-        (choices_of I.WideUInt.value options) (S.paths source.now) (shapes_of near.shapes.items)) }
+    ensures standing { IfOk result (λ near. AreCountedOutlineRegions near.nearness I.unit
+        (style_of I.value style.now) (choices_of I.WideUInt.value options) (S.paths source.now)
+        (shapes_of near.shapes.items) count.old count.new) }
     ensures safe { IfOk result (λ near. ArePointsSafe I.unit (shapes_of near.shapes.items)) }
     ensures counted { CountsAttempts (IsOutlineDrawing I.unit (style_of I.value style.now) (S.paths source.now))
         count.old count.new }
@@ -105,13 +108,14 @@ fn near_segments<I: IntNumber, S: IntShapeResource<I>>(
 ) -> Result<NearSegments<I>, SplitError>
     requires safe { ArePathsSafe I.unit (outline_padding (style_of I.value style.now)) (S.paths source.now) }
     requires kinds { kinds.now ≡ map contour_kind (S.paths source.now) }
-    ensures given { IfOk result (λ given. AreGivenNear given.nearness I.unit (style_of I.value style.now)
-        (S.paths source.now) given.segments.items) }
+    ensures given { IfOk result (λ given. AreGivenCounted given.nearness I.unit (style_of I.value style.now)
+        (S.paths source.now) (S.paths source.now) given.segments.items count.old count.new) }
     ensures small { IfOk result (λ given. given.nearness ≤ 2 ^ 38) }
     ensures counted { CountsAttempts (IsOutlineDrawing I.unit (style_of I.value style.now) (S.paths source.now))
         count.old count.new }
     ensures refused { result ≡ Err SplitError.TooManySplits → IsPastLimit count.new }
 {
+    // Read, so that it is known to fit: a return before any attempt counts none.
     let _made = count.made;
     let mut segments = Vec::new(alloc);
     let mut nearness: u64 = 0;
@@ -141,13 +145,14 @@ fn add_contour<I: IntNumber>(
     requires safe { All (IsSafeWidened I.unit (outline_padding (style_of I.value style.now))) path.now }
     requires kind { kind ≡ contour_kind path.now }
     ensures given { IfOk result (λ nearness. AddsGivenNear nearness I.unit (style_of I.value style.now) path.now
-        segments.old.items segments.new.items) }
+        segments.old.items segments.new.items count.old count.new) }
     ensures small { IfOk result (λ nearness. nearness ≤ 2 ^ 38) }
     ensures counted { CountsAttempts
         (λ (es : List Edge). IsPermutation es (drawn_of I.unit (style_of I.value style.now) path.now))
         count.old count.new }
     ensures refused { result ≡ Err SplitError.TooManySplits → IsPastLimit count.new }
 {
+    // Read, so that it is known to fit: a return before any attempt counts none.
     let _made = count.made;
     let Some(mut builder) = OutlineBuilder::for_kind(alloc, style, kind) else {
         return Ok(0);
@@ -167,7 +172,7 @@ fn add_resolved<I: IntNumber>(
 ) -> Result<u64, SplitError>
     requires { All (IsMovable I.unit builder.old) path.now }
     ensures added { IfOk result (λ nearness. AddsNear nearness I.unit builder.old fill path.now
-        segments.old.items segments.new.items) }
+        segments.old.items segments.new.items count.old count.new) }
     ensures small { IfOk result (λ nearness. nearness ≤ 2 ^ 38) }
     ensures counted { CountsAttempts
         (λ (es : List Edge). IsPermutation es (outline_edges I.unit builder.old path.now)) count.old count.new }
@@ -188,12 +193,13 @@ fn near_alone<I: IntNumber>(
 ) -> Result<NearShapes<I>, SplitError>
     requires { All (IsMovable I.unit builder.old) path.now }
     ensures answer { IfOk result (λ near. ComesNear near.nearness I.unit builder.old fill path.now
-        (shapes_of near.shapes.items)) }
+        (shapes_of near.shapes.items) count.old count.new) }
     ensures small { IfOk result (λ near. near.nearness ≤ 2 ^ 38) }
     ensures counted { CountsAttempts
         (λ (es : List Edge). IsPermutation es (outline_edges I.unit builder.old path.now)) count.old count.new }
     ensures refused { result ≡ Err SplitError.TooManySplits → IsPastLimit count.new }
 {
+    // Read, so that it is known to fit: a return before any attempt counts none.
     let _made = count.made;
     let mut built = Vec::new(alloc);
     builder.build(path, &mut built)?;

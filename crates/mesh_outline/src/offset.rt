@@ -10,7 +10,11 @@ ghost use Rattle.mesh_join.specs.Styles.{style_of};
 ghost use Rattle.mesh_offset.specs.Padding.{ArePathsSafe, all_points, widened};
 ghost use Rattle.mesh_split.specs.Counting.{IsPastLimit, IsWithinLimit};
 ghost use Rattle.mesh_offset.specs.Counting.{CountsAttempts};
-ghost use Rattle.mesh_outline.specs.Nearness.{AreOutlineRegionsBeyond, IsOutlineDrawing};
+ghost use Rattle.mesh_outline.specs.Nearness.{
+  AreCountedOutlineRegions,
+  AreOutlineRegionsBeyond,
+  IsOutlineDrawing,
+};
 ghost use Rattle.mesh_outline.specs.Regions.{AreOutlineRegions};
 ghost use Rattle.mesh_outline.specs.Resolved.{DoAreasFit, IsOutline, HavePromisedEdges};
 ghost use Rattle.mesh_outline.specs.Staying.{StaysSafe};
@@ -156,6 +160,9 @@ pub trait IntOutlineOffset<I: OverlayInt>: IntShapeResource<I> {
         ensures regions { IfOk result (λ near. AreOutlineRegionsBeyond near.nearness I.unit
             (style_of I.value style.now) (choices_of I.WideUInt.value options) (Self.paths self.now)
             (shapes_of near.shapes.items)) }
+        ensures standing { IfOk result (λ near. AreCountedOutlineRegions near.nearness I.unit
+            (style_of I.value style.now) (choices_of I.WideUInt.value options) (Self.paths self.now)
+            (shapes_of near.shapes.items) count.old count.new) }
         ensures safe { IfOk result (λ near. ArePointsSafe I.unit (shapes_of near.shapes.items)) }
         ensures unfit { result ≡ Err IntNearnessError.CoordinateOutOfRange
             ↔ ¬ DoAreasFit I.Wide.half (Self.paths self.now) }
@@ -163,6 +170,8 @@ pub trait IntOutlineOffset<I: OverlayInt>: IntShapeResource<I> {
             count.old count.new }
         ensures within { OnOk result (IsWithinLimit count.new) }
         ensures refused { result ≡ Err IntNearnessError.TooManySplits → IsPastLimit count.new }
+        ensures built { HavePromisedEdges I.unit (style_of I.value style.now) (Self.paths self.now) }
+        ensures stays_safe { StaysSafe I.unit (style_of I.value style.now) (Self.paths self.now) }
     {
         near_outline(self, alloc, style, options, count)
     }

@@ -25,8 +25,9 @@ overlay_with_nearness-requires-clause-safe g c = built_safe g.I.IntNumber.unit _
 pub returns-clause-answer : goal.returns-clause-answer
 returns-clause-answer g c =
     comes_near c.in_ok-near.near.nearness g.I.IntNumber.unit c.args.builder.now c.args.fill c.args.path.now _ _ _ _ (shapes_of c.in_ok-near.near.shapes.items)
+    c.args.count.now c.overlay_with_nearness.new.count
     c.new-built.ensures.items (ap (λ v. v.items) c.with_segments-overlay.ensures.segments) c.with_segments-overlay.ensures.options c.in_ok-build.ensures.edges
-    c.in_ok-near.ensures.regions c.in_ok-near.ensures.safe
+    c.in_ok-near.ensures.standing c.in_ok-near.ensures.safe
 
 pub returns-in_err-near-clause-counted : goal.returns-in_err-near-clause-counted
 returns-in_err-near-clause-counted g c =

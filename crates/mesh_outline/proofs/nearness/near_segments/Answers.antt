@@ -2,7 +2,6 @@
 use Rattle.std.proofs.Common.{[], arith}
 use Rattle.std.proofs.lemmas.List.Elements.{Contains-get_or}
 use Rattle.mesh_join.specs.Styles.{style_of}
-use Rattle.mesh_offset.proofs.Adding.{adds_nothing}
 use Rattle.mesh_offset.proofs.Counting.{counts_more, counts_none, counts_weaker}
 use Rattle.mesh_outline.specs.Nearness.{IsOutlineDrawing}
 use Rattle.mesh_outline.specs.declared.kind.ContourKind.TheVariants.{Outer}
@@ -12,7 +11,7 @@ use Rattle.mesh_outline.proofs.nearness.near_segments.Goals as goal
 
 pub loop-index-init : goal.loop-index-init
 loop-index-init g c = (
-  ([], near_none g.I.IntNumber.unit (style_of g.I.IntNumber.value c.args.style.now), rw c.new-segments.ensures.items (adds_nothing g.I.IntNumber.unit [])),
+  rw c.new-segments.ensures.items (near_none g.I.IntNumber.unit (style_of g.I.IntNumber.value c.args.style.now) (g.S.IntShapeResource.paths c.args.source.now) c.args.count.now (omega arith)),
   omega arith,
   counts_none (IsOutlineDrawing g.I.IntNumber.unit (style_of g.I.IntNumber.value c.args.style.now) (g.S.IntShapeResource.paths c.args.source.now)) c.args.count.now (omega arith),
 )
@@ -38,7 +37,7 @@ pub loop-index-preserved : goal.loop-index-preserved
 loop-index-preserved g c = (
   rw c.max-nearness.ensures
       (near_more c.loop-index.nearness c.in_ok-own.own g.I.IntNumber.unit (style_of g.I.IntNumber.value c.args.style.now) (g.S.IntShapeResource.paths c.args.source.now)
-      c.loop-index.index _ _ (omega arith) c.loop-index.invariant.0 (rw c.path_at.ensures at c.in_ok-own.ensures.given)),
+      c.loop-index.index _ _ _ _ _ (omega arith) c.loop-index.invariant.0 (rw c.path_at.ensures at c.in_ok-own.ensures.given)),
   let before = c.loop-index.invariant.1 in
       let own = c.in_ok-own.ensures.small in
       let most = c.max-nearness.ensures in
@@ -50,4 +49,4 @@ loop-index-preserved g c = (
 pub returns-clause-given : goal.returns-clause-given
 returns-clause-given g c =
     near_all c.loop-index.nearness g.I.IntNumber.unit (style_of g.I.IntNumber.value c.args.style.now) (g.S.IntShapeResource.paths c.args.source.now)
-    c.loop-index.index _ (omega arith) c.loop-index.invariant.0
+    c.loop-index.index _ _ _ (omega arith) c.loop-index.invariant.0

@@ -10,30 +10,30 @@ use Rattle.mesh_outline.proofs.nearness.resolved_near.Goals as goal
 pub overlay_with_nearness-requires-clause-subject : goal.overlay_with_nearness-requires-clause-subject
 overlay_with_nearness-requires-clause-subject g c =
     (near_resolvable _ g.I.IntNumber.unit (style_of g.I.IntNumber.value c.args.style.now) (g.S.IntShapeResource.paths c.args.source.now) _ _
-    (ap (λ v. v.items) c.with_segments-overlay.ensures.segments) c.in_ok-given.ensures.given).subject
+    (ap (λ v. v.items) c.with_segments-overlay.ensures.segments) c.in_ok-given.ensures.given.0).subject
 
 pub overlay_with_nearness-requires-clause-balanced : goal.overlay_with_nearness-requires-clause-balanced
 overlay_with_nearness-requires-clause-balanced g c =
     (near_resolvable _ g.I.IntNumber.unit (style_of g.I.IntNumber.value c.args.style.now) (g.S.IntShapeResource.paths c.args.source.now) _ _
-    (ap (λ v. v.items) c.with_segments-overlay.ensures.segments) c.in_ok-given.ensures.given).balanced
+    (ap (λ v. v.items) c.with_segments-overlay.ensures.segments) c.in_ok-given.ensures.given.0).balanced
 
 pub overlay_with_nearness-requires-clause-safe : goal.overlay_with_nearness-requires-clause-safe
 overlay_with_nearness-requires-clause-safe g c =
     (near_resolvable _ g.I.IntNumber.unit (style_of g.I.IntNumber.value c.args.style.now) (g.S.IntShapeResource.paths c.args.source.now) _ _
-    (ap (λ v. v.items) c.with_segments-overlay.ensures.segments) c.in_ok-given.ensures.given).safe
+    (ap (λ v. v.items) c.with_segments-overlay.ensures.segments) c.in_ok-given.ensures.given.0).safe
 
 pub returns-in_err-near-clause-counted : goal.returns-in_err-near-clause-counted
 returns-in_err-near-clause-counted g c =
     counts_last _ g.I.IntNumber.unit (style_of g.I.IntNumber.value c.args.style.now) (g.S.IntShapeResource.paths c.args.source.now) _ _
-    (ap (λ v. v.items) c.with_segments-overlay.ensures.segments) c.in_ok-given.ensures.given _ _ _ c.in_ok-given.ensures.counted c.overlay_with_nearness.ensures.counted
+    (ap (λ v. v.items) c.with_segments-overlay.ensures.segments) c.in_ok-given.ensures.given.0 _ _ _ c.in_ok-given.ensures.counted c.overlay_with_nearness.ensures.counted
 
 pub returns-clause-counted : goal.returns-clause-counted
 returns-clause-counted g c =
     counts_last _ g.I.IntNumber.unit (style_of g.I.IntNumber.value c.args.style.now) (g.S.IntShapeResource.paths c.args.source.now) _ _
-    (ap (λ v. v.items) c.with_segments-overlay.ensures.segments) c.in_ok-given.ensures.given _ _ _ c.in_ok-given.ensures.counted c.overlay_with_nearness.ensures.counted
+    (ap (λ v. v.items) c.with_segments-overlay.ensures.segments) c.in_ok-given.ensures.given.0 _ _ _ c.in_ok-given.ensures.counted c.overlay_with_nearness.ensures.counted
 
-pub returns-clause-regions : goal.returns-clause-regions
-returns-clause-regions g c =
+pub returns-clause-standing : goal.returns-clause-standing
+returns-clause-standing g c =
     near_outline g.I.IntNumber.unit g.met.I.IntNumber.least_law (style_of g.I.IntNumber.value c.args.style.now) c.in_ok-given.given.nearness c.in_ok-near.near.nearness
     (choices_of g.I.WideUInt.WideUnsigned.value c.args.options) (g.S.IntShapeResource.paths c.args.source.now) _ _ (shapes_of c.in_ok-near.near.shapes.items)
-    (ap (λ v. v.items) c.with_segments-overlay.ensures.segments) c.in_ok-given.ensures.given c.in_ok-near.ensures.regions
+    c.args.count.now _ _ (ap (λ v. v.items) c.with_segments-overlay.ensures.segments) c.in_ok-given.ensures.given c.in_ok-near.ensures.standing
