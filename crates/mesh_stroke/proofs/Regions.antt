@@ -13,13 +13,14 @@ use Rattle.mesh_lattice.specs.declared.fill.FillRule.TheVariants.{Positive}
 use Rattle.mesh_shapes.specs.Resolution.{Choices}
 use Rattle.mesh_below.specs.Laws.{AreRegions}
 use Rattle.mesh_offset.specs.Padding.{ArePathsSafe}
-use Rattle.mesh_below.specs.Nearness.{AreRegionsBeyond}
+use Rattle.mesh_below.specs.Nearness.{AreCountedRegions, AreRegionsBeyond}
+use Rattle.mesh_split.specs.declared.count.SplitCount.{SplitCount}
 use Rattle.mesh_lattice.specs.Nearness.{IsFarFrom}
 use Rattle.mesh_offset.specs.Pieces.{WindAsPieces}
 use Rattle.mesh_offset.proofs.ManyPaths.{built_regions}
 use Rattle.mesh_offset.proofs.Regions.{built_sum, regions_above, regions_held, winds_above, winds_held}
 use Rattle.mesh_stroke.specs.Drawn.{HasStockCaps}
-use Rattle.mesh_stroke.specs.Regions.{AreStrokeRegions, AreStrokeRegionsBeyond, all_pieces}
+use Rattle.mesh_stroke.specs.Regions.{AreCountedStrokeRegions, AreStrokeRegions, all_pieces}
 use Rattle.mesh_stroke.specs.Resolved.{IsStroke}
 use Rattle.mesh_stroke.specs.ResolvedEdges.{ResolvesPromisedEdges}
 use Rattle.mesh_stroke.specs.Strokes.{stroke_edges, stroke_pieces}
@@ -67,20 +68,26 @@ module _ (unit : ℕ) (least : 2 ^ 14 ≤ unit) (style : StrokeStyle) (closed : 
       sum : WindAsPieces (all_pieces unit style closed paths) stroke.built
       sum = all_sum choices paths answer stroke
 
-  -- and where the nearness of its splits is known, of regions that are exact beyond it
+  -- and where the nearness of its splits is known, and their count, of regions that are exact beyond it
   pub stroke_beyond : (k : ℕ) (choices : Choices) (paths : List (List Point)) (answer : List (List (List Point))) (built : List Edge)
-      → (same : IsPermutation built (flat_map (stroke_edges unit style closed) paths))
-      → AreRegionsBeyond k built (filled Positive) choices answer → AreStrokeRegionsBeyond k unit style closed choices paths answer
-  stroke_beyond k choices paths answer built same beyond = record {
-    stroke = stroke;
-    beyond = beyond;
-    same = refl;
-    fills = winds_above built choices answer beyond.regions (all_pieces unit style closed paths) sum (λ m q. IsFarFrom k m built q) beyond.exact;
-    held = λ stock.
-        winds_held built choices answer beyond.regions (all_pieces unit style closed paths) sum (λ m q. IsFarFrom k m built q) beyond.exact
-        (all_bits stock paths);
+      → (same : IsPermutation built (flat_map (stroke_edges unit style closed) paths)) → (old new : SplitCount)
+      → AreCountedRegions k built (filled Positive) choices answer old new → AreCountedStrokeRegions k unit style closed choices paths answer old new
+  stroke_beyond k choices paths answer built same old new standing = record {
+    near = record {
+      stroke = stroke;
+      beyond = beyond;
+      same = refl;
+      fills = winds_above built choices answer beyond.regions (all_pieces unit style closed paths) sum (λ m q. IsFarFrom k m built q) beyond.exact;
+      held = λ stock.
+          winds_held built choices answer beyond.regions (all_pieces unit style closed paths) sum (λ m q. IsFarFrom k m built q) beyond.exact
+          (all_bits stock paths);
+    };
+    counted = standing.counted;
   }
     where
+      beyond : AreRegionsBeyond k built (filled Positive) choices answer
+      beyond = standing.beyond
+
       stroke : IsStroke unit style closed choices paths answer
       stroke = record { built = built; same = same; resolution = beyond.regions.resolution }
 

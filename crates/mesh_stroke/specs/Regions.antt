@@ -8,6 +8,8 @@ use Rattle.mesh_below.specs.Regions.{OutsideBent}
 use Rattle.mesh_shapes.specs.Resolution.{Choices}
 use Rattle.mesh_below.specs.Laws.{AreRegions}
 use Rattle.mesh_below.specs.Nearness.{AreRegionsBeyond}
+use Rattle.mesh_split.specs.Counting.{CountsWith}
+use Rattle.mesh_split.specs.declared.count.SplitCount.{SplitCount}
 use Rattle.mesh_lattice.specs.Nearness.{IsFarFrom}
 use Rattle.mesh_offset.specs.Regions.{WindsOnceWhere, is_held, wind_above}
 use Rattle.mesh_join.specs.declared.style.StrokeSide.TheVariants.{Both}
@@ -49,3 +51,9 @@ pub record AreStrokeRegionsBeyond (k unit : ℕ) (style : StrokeStyle) (closed :
       (λ m q. IsFarFrom k m stroke.built q) choices answer
   pub held : HasStockCaps style closed → WindsOnceWhere (is_held (all_pieces unit style closed paths))
       (λ m q. IsFarFrom k m stroke.built q) choices answer
+
+-- the same, and the splits that its regions come of were counted on, as those of one attempt at what was built
+pub record AreCountedStrokeRegions (k unit : ℕ) (style : StrokeStyle) (closed : Bool) (choices : Choices)
+    (paths : List (List Point)) (answer : List (List (List Point))) (old new : SplitCount) : Type 0 where
+  pub near : AreStrokeRegionsBeyond k unit style closed choices paths answer
+  pub counted : CountsWith near.stroke.built old new near.beyond.regions.resolution.splits

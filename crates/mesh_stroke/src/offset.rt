@@ -9,7 +9,7 @@ ghost use Rattle.mesh_lattice.specs.Reach.{ArePointsSafe};
 ghost use Rattle.mesh_below.specs.Options.{choices_of, plain};
 ghost use Rattle.mesh_offset.specs.Padding.{ArePathsSafe, all_points, widened};
 ghost use Rattle.mesh_stroke.specs.Styles.{stroke_padding, stroke_style_of};
-ghost use Rattle.mesh_stroke.specs.Regions.{AreStrokeRegions, AreStrokeRegionsBeyond};
+ghost use Rattle.mesh_stroke.specs.Regions.{AreCountedStrokeRegions, AreStrokeRegions, AreStrokeRegionsBeyond};
 ghost use Rattle.mesh_stroke.specs.Resolved.{IsStroke, HavePromisedEdges, AreAllEdges};
 ghost use Rattle.mesh_stroke.specs.ResolvedEdges.{ResolvesPromisedEdges};
 ghost use Rattle.mesh_split.specs.Counting.{IsPastLimit, IsWithinLimit};
@@ -167,13 +167,21 @@ pub trait IntStrokeOffset<I: OverlayInt>: IntShapeResource<I> {
         ensures regions { IfOk result (λ near. AreStrokeRegionsBeyond near.nearness I.unit
             (stroke_style_of I.value style.now) closed (choices_of I.WideUInt.value options) (Self.paths self.now)
             (shapes_of near.shapes.items)) }
+        ensures standing { IfOk result (λ near. AreCountedStrokeRegions near.nearness I.unit
+            (stroke_style_of I.value style.now) closed (choices_of I.WideUInt.value options) (Self.paths self.now)
+            (shapes_of near.shapes.items) count.old count.new) }
+        ensures edges { IfOk result (λ near. ResolvesPromisedEdges I.unit (stroke_style_of I.value style.now) closed
+            (choices_of I.WideUInt.value options) (Self.paths self.now) (shapes_of near.shapes.items)) }
         ensures safe { IfOk result (λ near. ArePointsSafe I.unit (shapes_of near.shapes.items)) }
         ensures counted { CountsAttempts
             (AreAllEdges I.unit (stroke_style_of I.value style.now) closed (Self.paths self.now)) count.old count.new }
         ensures within { OnOk result (IsWithinLimit count.new) }
         ensures refused { result ≡ Err IntNearnessError.TooManySplits → IsPastLimit count.new }
         ensures in_range { ¬ result ≡ Err IntNearnessError.CoordinateOutOfRange }
+        ensures built { HavePromisedEdges I.unit (stroke_style_of I.value style.now) closed (Self.paths self.now) }
+        ensures stays_safe { StaysSafe I.unit (stroke_style_of I.value style.now) closed (Self.paths self.now) }
     {
+        // Read, so that it is known to fit: a return before any attempt counts none.
         let _made = count.made;
         let drawn = stroke_overlay(self, alloc, style, closed, options)?;
         Ok(drawn.overlay_with_nearness(OverlayRule::Subject, FillRule::Positive, count)?)
