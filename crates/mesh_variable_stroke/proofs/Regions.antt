@@ -9,14 +9,15 @@ use Rattle.mesh_lattice.specs.FillRules.{filled}
 use Rattle.mesh_lattice.specs.declared.fill.FillRule.TheVariants.{Positive}
 use Rattle.mesh_shapes.specs.Resolution.{Choices}
 use Rattle.mesh_below.specs.Laws.{AreRegions}
-use Rattle.mesh_below.specs.Nearness.{AreRegionsBeyond}
+use Rattle.mesh_below.specs.Nearness.{AreCountedRegions, AreRegionsBeyond}
+use Rattle.mesh_split.specs.declared.count.SplitCount.{SplitCount}
 use Rattle.mesh_lattice.specs.Nearness.{IsFarFrom}
 use Rattle.mesh_arc.specs.declared.arc.ArcOptions.{ArcOptions}
 use Rattle.mesh_join.specs.VariableStyles.{Vertex}
 use Rattle.mesh_offset.specs.Pieces.{WindAsPieces}
 use Rattle.mesh_offset.proofs.ManyPaths.{built_regions}
 use Rattle.mesh_offset.proofs.Regions.{built_sum, regions_above, winds_above}
-use Rattle.mesh_variable_stroke.specs.Regions.{AreVariableStrokeRegions, AreVariableStrokeRegionsBeyond, all_pieces}
+use Rattle.mesh_variable_stroke.specs.Regions.{AreCountedVariableStrokeRegions, AreVariableStrokeRegions, all_pieces}
 use Rattle.mesh_variable_stroke.specs.Resolved.{IsVariableStroke}
 use Rattle.mesh_variable_stroke.specs.ResolvedEdges.{ResolvesPromisedEdges}
 use Rattle.mesh_variable_stroke.specs.Strokable.{ArePathsStrokable}
@@ -57,19 +58,25 @@ module _ (unit : ℕ) (options : ArcOptions) where
       sum : WindAsPieces (all_pieces unit options paths) stroke.built
       sum = all_sum choices paths answer stroke
 
-  -- and where the nearness of its splits is known, of regions that are exact beyond it
+  -- and where the nearness of its splits is known, and their count, of regions that are exact beyond it
   pub stroke_beyond : (k : ℕ) (choices : Choices) (paths : List (List Vertex)) (answer : List (List (List Point))) (built : List Edge)
-      → (same : IsPermutation built (flat_map (variable_stroke_edges unit options) paths))
-      → AreRegionsBeyond k built (filled Positive) choices answer → AreVariableStrokeRegionsBeyond k unit options choices paths answer
-  stroke_beyond k choices paths answer built same beyond = record {
-    stroke = record { built = built; same = same; resolution = beyond.regions.resolution };
-    beyond = beyond;
-    same = refl;
-    fills =
-        winds_above built choices answer beyond.regions (all_pieces unit options paths)
-        (all_sum choices paths answer (record { built = built; same = same; resolution = beyond.regions.resolution }))
-        (λ m q. IsFarFrom k m built q) beyond.exact;
+      → (same : IsPermutation built (flat_map (variable_stroke_edges unit options) paths)) → (old new : SplitCount)
+      → AreCountedRegions k built (filled Positive) choices answer old new → AreCountedVariableStrokeRegions k unit options choices paths answer old new
+  stroke_beyond k choices paths answer built same old new standing = record {
+    near = record {
+      stroke = stroke;
+      beyond = beyond;
+      same = refl;
+      fills = winds_above built choices answer beyond.regions (all_pieces unit options paths) (all_sum choices paths answer stroke) (λ m q. IsFarFrom k m built q) beyond.exact;
+    };
+    counted = standing.counted;
   }
+    where
+      beyond : AreRegionsBeyond k built (filled Positive) choices answer
+      beyond = standing.beyond
+
+      stroke : IsVariableStroke unit options choices paths answer
+      stroke = record { built = built; same = same; resolution = beyond.regions.resolution }
 
   -- each stroke of paths that stay safe within its greatest radius resolves edges of which this is promised
   pub stroke_resolves : (choices : Choices) (paths : List (List Vertex)) (answer : List (List (List Point)))

@@ -8,6 +8,8 @@ use Rattle.mesh_below.specs.Regions.{OutsideBent}
 use Rattle.mesh_shapes.specs.Resolution.{Choices}
 use Rattle.mesh_below.specs.Laws.{AreRegions}
 use Rattle.mesh_below.specs.Nearness.{AreRegionsBeyond}
+use Rattle.mesh_split.specs.Counting.{CountsWith}
+use Rattle.mesh_split.specs.declared.count.SplitCount.{SplitCount}
 use Rattle.mesh_lattice.specs.Nearness.{IsFarFrom}
 use Rattle.mesh_arc.specs.declared.arc.ArcOptions.{ArcOptions}
 use Rattle.mesh_join.specs.VariableStyles.{Vertex}
@@ -38,3 +40,9 @@ pub record AreVariableStrokeRegionsBeyond (k unit : ℕ) (options : ArcOptions) 
   pub same : beyond.regions.resolution ≡ stroke.resolution
   pub fills : WindsOnceWhere (wind_above (all_pieces unit options paths)) (λ m q. IsFarFrom k m stroke.built q)
       choices answer
+
+-- the same, and the splits that its regions come of were counted on, as those of one attempt at what was built
+pub record AreCountedVariableStrokeRegions (k unit : ℕ) (options : ArcOptions) (choices : Choices)
+    (paths : List (List Vertex)) (answer : List (List (List Point))) (old new : SplitCount) : Type 0 where
+  pub near : AreVariableStrokeRegionsBeyond k unit options choices paths answer
+  pub counted : CountsWith near.stroke.built old new near.beyond.regions.resolution.splits

@@ -8,7 +8,11 @@ ghost use Rattle.mesh_plane.specs.Plane.{Point, Edge};
 ghost use Rattle.mesh_lattice.specs.Reach.{ArePointsSafe};
 ghost use Rattle.mesh_below.specs.Options.{choices_of, plain};
 ghost use Rattle.mesh_offset.specs.Padding.{widened};
-ghost use Rattle.mesh_variable_stroke.specs.Regions.{AreVariableStrokeRegions, AreVariableStrokeRegionsBeyond};
+ghost use Rattle.mesh_variable_stroke.specs.Regions.{
+  AreCountedVariableStrokeRegions,
+  AreVariableStrokeRegions,
+  AreVariableStrokeRegionsBeyond,
+};
 ghost use Rattle.mesh_variable_stroke.specs.Resolved.{IsVariableStroke, HavePromisedEdges, AreAllEdges};
 ghost use Rattle.mesh_variable_stroke.specs.ResolvedEdges.{ResolvesPromisedEdges};
 ghost use Rattle.mesh_split.specs.Counting.{IsPastLimit, IsWithinLimit};
@@ -155,12 +159,20 @@ pub trait IntVariableStrokeOffset<I: OverlayInt>: IntVariableStrokeSource<I> {
         requires { ArePathsStrokable I.unit (Self.paths self.now) }
         ensures regions { IfOk result (λ near. AreVariableStrokeRegionsBeyond near.nearness I.unit style.arc
             (choices_of I.WideUInt.value options) (Self.paths self.now) (shapes_of near.shapes.items)) }
+        ensures standing { IfOk result (λ near. AreCountedVariableStrokeRegions near.nearness I.unit style.arc
+            (choices_of I.WideUInt.value options) (Self.paths self.now) (shapes_of near.shapes.items)
+            count.old count.new) }
+        ensures edges { IfOk result (λ near. ResolvesPromisedEdges I.unit style.arc
+            (choices_of I.WideUInt.value options) (Self.paths self.now) (shapes_of near.shapes.items)) }
         ensures safe { IfOk result (λ near. ArePointsSafe I.unit (shapes_of near.shapes.items)) }
         ensures counted { CountsAttempts (AreAllEdges I.unit style.arc (Self.paths self.now)) count.old count.new }
         ensures within { OnOk result (IsWithinLimit count.new) }
         ensures refused { result ≡ Err IntNearnessError.TooManySplits → IsPastLimit count.new }
         ensures in_range { ¬ result ≡ Err IntNearnessError.CoordinateOutOfRange }
+        ensures built { HavePromisedEdges I.unit style.arc (Self.paths self.now) }
+        ensures stays_safe { StaysSafe I.unit style.arc (Self.paths self.now) }
     {
+        // Read, so that it is known to fit: a return before any attempt counts none.
         let _made = count.made;
         let drawn = stroke_overlay(self, alloc, style, options)?;
         Ok(drawn.overlay_with_nearness(OverlayRule::Subject, FillRule::Positive, count)?)
