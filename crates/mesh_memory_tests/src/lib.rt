@@ -9,6 +9,8 @@
 #[cfg(test)]
 mod corners;
 #[cfg(test)]
+mod near;
+#[cfg(test)]
 mod outlines;
 #[cfg(test)]
 mod overlays;

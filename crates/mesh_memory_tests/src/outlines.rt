@@ -3,10 +3,11 @@
 ghost use Rattle.std.specs.Prelude.{◌≡◌};
 ghost use Rattle.mesh_join.specs.Styles.{style_of, outer as outer_of};
 
-use i_overlay_mesh::IntOutlineError;
+use crate::near::{expect_near, expect_same_near};
 use i_overlay_mesh::outline::builder::OutlineBuilder;
 use i_overlay_mesh::outline::kind::contour_kinds;
 use i_overlay_mesh::outline::offset::IntOutlineOffset;
+use i_overlay_mesh::{IntNearnessError, IntOutlineError, SplitCount};
 use mesh_below::below::IntOverlayOptions;
 use mesh_join::arc::ArcOptions;
 use mesh_join::join::Join;
@@ -24,6 +25,8 @@ use std::alloc::Global;
 use std::test::Fail;
 
 const REFUSED: &IntOutlineError = &IntOutlineError::OutOfMemory;
+
+const OUT_OF_MEMORY: &IntNearnessError = &IntNearnessError::OutOfMemory;
 
 /// A square with a square hole, and a contour of area 0.
 const CONTOURS: &[&[(i32, i32)]] = &[
@@ -93,6 +96,21 @@ fn outline_custom_into(rt: HostRuntime) -> Result<(), Fail> {
     expect_buffer(&first, &buffer, &wanted, REFUSED)?;
     contours.outline_custom_into(rt.alloc(), &style, options, &mut buffer)?;
     expect_same_buffer(&buffer, &wanted)
+}
+
+#[test]
+fn outline_with_nearness(rt: HostRuntime) -> Result<(), Fail> {
+    let (contours, style) = (paths(rt.alloc(), CONTOURS)?, round());
+    contours.validate_outline(&style)?;
+    let options = IntOverlayOptions::new();
+    let (mut counted, mut count) = (SplitCount::new(0), SplitCount::new(0));
+    let wanted = contours.outline_with_nearness(rt.alloc(), &style, options, &mut counted)?;
+    marks::begin(rt.alloc())?;
+    let first = contours.outline_with_nearness(rt.alloc(), &style, options, &mut count);
+    marks::end(rt.alloc())?;
+    expect_near(&first, count, &wanted, counted.made, OUT_OF_MEMORY)?;
+    let again = contours.outline_with_nearness(rt.alloc(), &style, options, &mut count)?;
+    expect_same_near(&again, &wanted)
 }
 
 #[test]

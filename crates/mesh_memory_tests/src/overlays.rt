@@ -3,8 +3,10 @@
 ghost use Rattle.std.specs.Prelude.{◌^◌, IfOk};
 ghost use Rattle.mesh_below.specs.Asked.{AreResolvable};
 
+use crate::near::{expect_near, expect_same_near};
 use mesh_below::below::{FillRule, Overlay, OverlayRule};
 use mesh_below::checks::are_resolvable;
+use mesh_below::nearness::{SplitCount, SplitError};
 use mesh_num::num::IntPoint;
 use mesh_num::shape::buffer::FlatContoursBuffer;
 use mesh_num::shape::segment::SubjectSegments;
@@ -59,6 +61,25 @@ fn overlay_into(rt: HostRuntime) -> Result<(), Fail> {
     expect_buffer(&first, &buffer, &wanted, &AllocError)?;
     overlay.overlay_into(SUBJECT, POSITIVE, &mut buffer)?;
     expect_same_buffer(&buffer, &wanted)
+}
+
+#[test]
+fn overlay_with_nearness(rt: HostRuntime) -> Result<(), Fail> {
+    let overlay = squares(rt.alloc())?;
+    let (mut counted, mut count) = (SplitCount::new(0), SplitCount::new(0));
+    let wanted = overlay.overlay_with_nearness(SUBJECT, POSITIVE, &mut counted)?;
+    marks::begin(rt.alloc())?;
+    let first = overlay.overlay_with_nearness(SUBJECT, POSITIVE, &mut count);
+    marks::end(rt.alloc())?;
+    expect_near(
+        &first,
+        count,
+        &wanted,
+        counted.made,
+        &SplitError::OutOfMemory,
+    )?;
+    let again = overlay.overlay_with_nearness(SUBJECT, POSITIVE, &mut count)?;
+    expect_same_near(&again, &wanted)
 }
 
 /// After a refusal the overlay has what it had, and the next call adds all.

@@ -1,8 +1,9 @@
 //! Strokes for which memory is refused.
 
-use i_overlay_mesh::IntOutlineError;
+use crate::near::{expect_near, expect_same_near};
 use i_overlay_mesh::stroke::builder::StrokeBuilder;
 use i_overlay_mesh::stroke::offset::IntStrokeOffset;
+use i_overlay_mesh::{IntNearnessError, IntOutlineError, SplitCount};
 use mesh_below::below::IntOverlayOptions;
 use mesh_join::arc::ArcOptions;
 use mesh_join::style::{IntLineCap, IntLineJoin, IntStrokeStyle};
@@ -18,6 +19,8 @@ use std::rc::RcSlice;
 use std::test::Fail;
 
 const REFUSED: &IntOutlineError = &IntOutlineError::OutOfMemory;
+
+const OUT_OF_MEMORY: &IntNearnessError = &IntNearnessError::OutOfMemory;
 
 /// Lines that cross, one of them with a corner.
 const LINES: &[&[(i32, i32)]] = &[&[(-50, 0), (50, 0), (50, 50)], &[(0, -50), (0, 50)]];
@@ -87,6 +90,21 @@ fn stroke_custom_into(rt: HostRuntime) -> Result<(), Fail> {
     expect_buffer(&first, &buffer, &wanted, REFUSED)?;
     lines.stroke_custom_into(rt.alloc(), &style, true, options, &mut buffer)?;
     expect_same_buffer(&buffer, &wanted)
+}
+
+#[test]
+fn stroke_with_nearness(rt: HostRuntime) -> Result<(), Fail> {
+    let (lines, style) = (paths(rt.alloc(), LINES)?, pointed(rt.alloc())?);
+    lines.validate_stroke(&style)?;
+    let options = IntOverlayOptions::new();
+    let (mut counted, mut count) = (SplitCount::new(0), SplitCount::new(0));
+    let wanted = lines.stroke_with_nearness(rt.alloc(), &style, false, options, &mut counted)?;
+    marks::begin(rt.alloc())?;
+    let first = lines.stroke_with_nearness(rt.alloc(), &style, false, options, &mut count);
+    marks::end(rt.alloc())?;
+    expect_near(&first, count, &wanted, counted.made, OUT_OF_MEMORY)?;
+    let again = lines.stroke_with_nearness(rt.alloc(), &style, false, options, &mut count)?;
+    expect_same_near(&again, &wanted)
 }
 
 /// The builder keeps a buffer for its arcs, so what is wanted comes from another one.

@@ -1,8 +1,9 @@
 //! Strokes of variable width for which memory is refused.
 
-use i_overlay_mesh::IntVariableStrokeError;
+use crate::near::{expect_near, expect_same_near};
 use i_overlay_mesh::variable_stroke::builder::VariableStrokeBuilder;
 use i_overlay_mesh::variable_stroke::offset::IntVariableStrokeOffset;
+use i_overlay_mesh::{IntNearnessError, IntVariableStrokeError, SplitCount};
 use mesh_below::below::IntOverlayOptions;
 use mesh_join::arc::ArcOptions;
 use mesh_join::style::{IntStrokeVertex, IntVariableStrokeStyle};
@@ -18,6 +19,8 @@ use std::alloc::{AllocError, Global};
 use std::test::Fail;
 
 const REFUSED: &IntVariableStrokeError = &IntVariableStrokeError::OutOfMemory;
+
+const OUT_OF_MEMORY: &IntNearnessError = &IntNearnessError::OutOfMemory;
 
 /// Two paths, of three chains: the second vertex of the second path holds the third.
 fn tapered(alloc: Global) -> Result<Vec<Vec<IntStrokeVertex<i32>>>, AllocError> {
@@ -100,6 +103,21 @@ fn variable_stroke_custom_into(rt: HostRuntime) -> Result<(), Fail> {
     expect_buffer(&first, &buffer, &wanted, REFUSED)?;
     paths.variable_stroke_custom_into(rt.alloc(), eighths(), options, &mut buffer)?;
     expect_same_buffer(&buffer, &wanted)
+}
+
+#[test]
+fn variable_stroke_with_nearness(rt: HostRuntime) -> Result<(), Fail> {
+    let paths = tapered(rt.alloc())?;
+    paths.validate_variable_stroke()?;
+    let options = IntOverlayOptions::new();
+    let (mut counted, mut count) = (SplitCount::new(0), SplitCount::new(0));
+    let wanted = paths.variable_stroke_with_nearness(rt.alloc(), eighths(), options, &mut counted)?;
+    marks::begin(rt.alloc())?;
+    let first = paths.variable_stroke_with_nearness(rt.alloc(), eighths(), options, &mut count);
+    marks::end(rt.alloc())?;
+    expect_near(&first, count, &wanted, counted.made, OUT_OF_MEMORY)?;
+    let again = paths.variable_stroke_with_nearness(rt.alloc(), eighths(), options, &mut count)?;
+    expect_same_near(&again, &wanted)
 }
 
 /// Adds the edges of the path's stroke.
