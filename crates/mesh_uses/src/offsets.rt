@@ -1,6 +1,6 @@
 //! Outlines and strokes, and an answer that is handed in again.
 
-ghost use Rattle.std.specs.Prelude.{◌≡◌, ◌^◌, List, [], ◌∷◌, false, OnOk, OnErr, IfOk};
+ghost use Rattle.std.specs.Prelude.{◌≡◌, ◌<◌, ◌^◌, List, [], ◌∷◌, false, OnOk, OnErr, IfOk};
 ghost use Rattle.mesh_num.specs.FlatContours.{flat_contours};
 ghost use Rattle.mesh_num.specs.Paths.{contours_of, shapes_of};
 ghost use Rattle.mesh_num.specs.Plane.{Point};
@@ -8,7 +8,9 @@ ghost use Rattle.mesh_below.specs.Options.{plain};
 ghost use Rattle.mesh_join.specs.Joins.{outline_padding};
 ghost use Rattle.mesh_join.specs.VariableStyles.{default_variable_style};
 ghost use Rattle.mesh_offset.specs.Padding.{ArePathsSafe};
+ghost use Rattle.mesh_outline.specs.Nearness.{AreCountedOutlineRegions};
 ghost use Rattle.mesh_outline.specs.Regions.{AreOutlineRegions};
+ghost use Rattle.mesh_split.specs.Counting.{IsWithinLimit};
 ghost use Rattle.mesh_stroke.specs.Regions.{AreStrokeRegions};
 ghost use Rattle.mesh_stroke.specs.Styles.{stroke_padding};
 ghost use Rattle.mesh_variable_stroke.specs.Regions.{AreVariableStrokeRegions};
@@ -16,9 +18,10 @@ ghost use Rattle.mesh_variable_stroke.specs.Strokable.{ArePathsStrokable};
 ghost use Rattle.mesh_uses.specs.Styles.{bevelled, rounded};
 
 use i_overlay_mesh::{
-    ArcOptions, FlatContoursBuffer, IntLineCap, IntLineJoin, IntOutlineError, IntOutlineOffset,
-    IntOutlineStyle, IntPoint, IntShapes, IntStrokeError, IntStrokeOffset, IntStrokeStyle,
-    IntStrokeVertex, IntVariableStrokeError, IntVariableStrokeOffset, IntVariableStrokeStyle,
+    ArcOptions, FlatContoursBuffer, IntLineCap, IntLineJoin, IntNearnessError, IntOutlineError,
+    IntOutlineOffset, IntOutlineStyle, IntOverlayOptions, IntPoint, IntShapes, IntStrokeError,
+    IntStrokeOffset, IntStrokeStyle, IntStrokeVertex, IntVariableStrokeError,
+    IntVariableStrokeOffset, IntVariableStrokeStyle, NearShapes, SplitCount,
 };
 use mesh_num::laws::flat_contours_are_found;
 use std::alloc::Global;
@@ -37,6 +40,25 @@ pub fn grown(
     let style = IntOutlineStyle::new(offset);
     contour.validate_outline(&style)?;
     contour.outline(alloc, &style)
+}
+
+/// The contour moved outwards by an offset, and how near to the drawn edges that is exact, by this many splits at most;
+/// 0 is no limit.
+pub fn grown_within(
+    alloc: Global,
+    contour: &Vec<IntPoint<i32>>,
+    offset: i32,
+    most_splits: u64,
+) -> Result<NearShapes<i32>, IntNearnessError>
+    ensures regions { IfOk result (λ near. (count : SplitCount) × IsWithinLimit count
+        × AreCountedOutlineRegions near.nearness (2 ^ 30) (bevelled offset) plain (contour.now.items ∷ [])
+        (shapes_of near.shapes.items) (record { made = 0; most = most_splits }) count) }
+    ensures limited { result ≡ Err IntNearnessError.TooManySplits → 0 < most_splits }
+{
+    let style = IntOutlineStyle::new(offset);
+    contour.validate_outline(&style)?;
+    let mut count = SplitCount::new(most_splits);
+    contour.outline_with_nearness(alloc, &style, IntOverlayOptions::new(), &mut count)
 }
 
 /// A track of this width along a path, with round corners and ends.
