@@ -1,4 +1,6 @@
-"""Writes cases for the test in C: requests, and what the program answers to each.
+"""Writes cases for the test in C: requests, of which so many random ones, and what the program answers to each.
+
+    cases.py COUNT
 
 A case is a line of numbers: how many bytes the request has, how many the program's line, its status, how many numbers
 the drawing has; then the request, the line, and these numbers, each behind a space. They are of requests that are read,
@@ -18,7 +20,7 @@ import random_requests
 
 PROGRAM = ROOT / "crates/mesh_run/out/mesh_run"
 
-RANDOM_REQUESTS = 2000
+RANDOM_REQUESTS = int(sys.argv[1])
 
 SECONDS = 5
 """A request is left out where the program takes longer: splits can run on."""

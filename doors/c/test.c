@@ -1,7 +1,8 @@
 /* Tests the library for C on cases: requests, and what the program answers to each, as `cases.py` writes them.
 
    test CASES          every case, each in rooms of several sizes; then all of them shared by four threads at once
-   test CASES refused  cases with each growth of memory refused in turn
+   test CASES refused COUNT
+                       so many cases among them with each growth of memory refused in turn
 
    It is linked with --wrap=malloc and --wrap=realloc, so that it can refuse memory to the library alone. */
 #define _POSIX_C_SOURCE 200809L
@@ -12,7 +13,7 @@
 #include <stdlib.h>
 #include <string.h>
 
-enum { THREADS = 4, STACK = 256 * 1024, MARGIN = 16, MARK = 0xA5, REFUSED_CASES = 40 };
+enum { THREADS = 4, STACK = 256 * 1024, MARGIN = 16, MARK = 0xA5 };
 
 struct text {
     const uint8_t *bytes;
@@ -602,8 +603,10 @@ int main(int count, char **words)
         printf("C: %zu requests and %zu drawings in arrays are answered as by the program, in %d threads at once.\n",
                cases.count, drawn, THREADS);
     } else {
-        size_t growths = 0;
-        for (size_t i = 0; i < cases.count; i += 1 + cases.count / REFUSED_CASES) {
+        size_t growths = 0, wanted = count == 4 ? strtoul(words[3], NULL, 10) : 0;
+        if (!wanted)
+            return 2;
+        for (size_t i = 0; i < cases.count; i += 1 + cases.count / wanted) {
             growths += check_refused(&cases.all[i]);
             if (cases.all[i].is_drawn && !cases.all[i].drawing.for_edges)
                 growths += check_drawing_refused(&cases.all[i]);

@@ -1,5 +1,6 @@
 """What the tests find: the package, the program, the examples."""
 
+import os
 import pathlib
 import subprocess
 import sys
@@ -9,13 +10,17 @@ ROOT = PACKAGE.parent.parent
 PROGRAM = ROOT / "crates/mesh_run/out/mesh_run"
 COUNTRY = PACKAGE / "examples/south_africa.geojson"
 
+IS_QUICK = os.environ.get("I_OVERLAY_MESH_QUICK") == "1"
+"""Whether fewer random drawings are tried."""
+
 sys.path.insert(0, str(PACKAGE))
 sys.path.insert(0, str(ROOT / "bench"))
 
 
 def program_line(request):
     """What the program writes for a request."""
-    return subprocess.run([PROGRAM], input=request, stdout=subprocess.PIPE, check=False).stdout
+    run = subprocess.run([PROGRAM], input=request, stdout=subprocess.PIPE, stderr=subprocess.DEVNULL, check=False)
+    return run.stdout
 
 
 try:

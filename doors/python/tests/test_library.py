@@ -10,12 +10,12 @@ import tempfile
 import unittest
 from concurrent.futures import ThreadPoolExecutor
 
-from surroundings import PACKAGE, PROGRAM, ROOT, program_line
+from surroundings import IS_QUICK, PACKAGE, PROGRAM, ROOT, program_line
 
 import random_requests
 from i_overlay_mesh import answer, library
 
-RANDOM_REQUESTS = 300
+RANDOM_REQUESTS = 50 if IS_QUICK else 300
 
 STRANGE = [
     b"",
