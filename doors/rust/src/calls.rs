@@ -1,0 +1,175 @@
+//! The calls of the header for C, and its structs.
+
+use crate::error::Outcome;
+use crate::style::Arc;
+
+#[repr(C)]
+pub struct RawJoin {
+    pub kind: u32,
+    pub miter_angle: u32,
+    pub miter_min_turn: u32,
+    pub arc: Arc,
+}
+
+#[repr(C)]
+pub struct RawOutlineStyle {
+    pub outer_offset: i32,
+    pub inner_offset: i32,
+    pub join: RawJoin,
+}
+
+#[repr(C)]
+pub struct RawCap {
+    pub kind: u32,
+    pub arc: Arc,
+}
+
+#[repr(C)]
+pub struct RawStrokeStyle {
+    pub width: i32,
+    pub join: RawJoin,
+    pub start_cap: RawCap,
+    pub end_cap: RawCap,
+    pub side: u32,
+    pub closed: u32,
+}
+
+#[repr(C)]
+pub struct RawOptions {
+    pub min_area: u64,
+    pub clockwise: u32,
+    pub collinear: u32,
+}
+
+#[derive(Clone, Copy)]
+#[repr(C)]
+pub struct ShapeCounts {
+    pub points: usize,
+    pub contours: usize,
+    pub shapes: usize,
+}
+
+#[derive(Clone, Copy)]
+#[repr(C)]
+pub struct EdgeCounts {
+    pub edges: usize,
+    pub paths: usize,
+}
+
+extern "C" {
+    pub fn mesh_answer(
+        request: *const u8,
+        request_size: usize,
+        room: *mut u8,
+        room_size: usize,
+        needed: *mut usize,
+    ) -> Outcome;
+
+    pub fn mesh_why(
+        request: *const u8,
+        request_size: usize,
+        room: *mut u8,
+        room_size: usize,
+        needed: *mut usize,
+    ) -> Outcome;
+}
+
+/// The type of coordinates: `i32` or `i16`.
+pub trait Coordinate: Width + Copy + Default + 'static {}
+
+impl Coordinate for i32 {}
+impl Coordinate for i16 {}
+
+/// What has calls of its own. Nothing outside this crate can name it.
+pub trait Width: Sized {
+    #[doc(hidden)]
+    const CALLS: Calls<Self>;
+}
+
+/// Declares calls for both widths, of which `I` stands for the coordinates.
+macro_rules! calls {
+    ($($call:ident: $wide:ident, $narrow:ident, ($($argument:ident: $type:ty),* $(,)?);)*) => {
+        /// The calls of one width.
+        #[doc(hidden)]
+        pub struct Calls<I> {
+            $(pub $call: unsafe extern "C" fn($($type),*) -> Outcome,)*
+        }
+
+        mod wide {
+            use super::*;
+            type I = i32;
+            extern "C" {
+                $(pub fn $wide($($argument: $type),*) -> Outcome;)*
+            }
+        }
+
+        mod narrow {
+            use super::*;
+            type I = i16;
+            extern "C" {
+                $(pub fn $narrow($($argument: $type),*) -> Outcome;)*
+            }
+        }
+
+        impl Width for i32 {
+            const CALLS: Calls<i32> = Calls { $($call: wide::$wide,)* };
+        }
+
+        impl Width for i16 {
+            const CALLS: Calls<i16> = Calls { $($call: narrow::$narrow,)* };
+        }
+    };
+}
+
+calls! {
+    outline: mesh_outline_i32, mesh_outline_i16, (
+        points: *const [I; 2], point_count: usize, ends: *const usize, end_count: usize,
+        style: *const RawOutlineStyle, options: *const RawOptions,
+        shape_points: *mut [I; 2], shape_point_room: usize, contour_ends: *mut usize, contour_room: usize,
+        shape_ends: *mut usize, shape_room: usize, counts: *mut ShapeCounts,
+    );
+    stroke: mesh_stroke_i32, mesh_stroke_i16, (
+        points: *const [I; 2], point_count: usize, ends: *const usize, end_count: usize,
+        style: *const RawStrokeStyle, start_points: *const [I; 2], start_point_count: usize,
+        end_points: *const [I; 2], end_point_count: usize, options: *const RawOptions,
+        shape_points: *mut [I; 2], shape_point_room: usize, contour_ends: *mut usize, contour_room: usize,
+        shape_ends: *mut usize, shape_room: usize, counts: *mut ShapeCounts,
+    );
+    variable_stroke: mesh_variable_stroke_i32, mesh_variable_stroke_i16, (
+        vertices: *const [I; 3], vertex_count: usize, ends: *const usize, end_count: usize,
+        arc: *const Arc, options: *const RawOptions,
+        shape_points: *mut [I; 2], shape_point_room: usize, contour_ends: *mut usize, contour_room: usize,
+        shape_ends: *mut usize, shape_room: usize, counts: *mut ShapeCounts,
+    );
+    outline_edges: mesh_outline_edges_i32, mesh_outline_edges_i16, (
+        points: *const [I; 2], point_count: usize, ends: *const usize, end_count: usize,
+        style: *const RawOutlineStyle,
+        edges: *mut [[I; 2]; 2], edge_room: usize, path_ends: *mut usize, path_room: usize,
+        counts: *mut EdgeCounts,
+    );
+    stroke_edges: mesh_stroke_edges_i32, mesh_stroke_edges_i16, (
+        points: *const [I; 2], point_count: usize, ends: *const usize, end_count: usize,
+        style: *const RawStrokeStyle, start_points: *const [I; 2], start_point_count: usize,
+        end_points: *const [I; 2], end_point_count: usize,
+        edges: *mut [[I; 2]; 2], edge_room: usize, path_ends: *mut usize, path_room: usize,
+        counts: *mut EdgeCounts,
+    );
+    variable_stroke_edges: mesh_variable_stroke_edges_i32, mesh_variable_stroke_edges_i16, (
+        vertices: *const [I; 3], vertex_count: usize, ends: *const usize, end_count: usize, arc: *const Arc,
+        edges: *mut [[I; 2]; 2], edge_room: usize, path_ends: *mut usize, path_room: usize,
+        counts: *mut EdgeCounts,
+    );
+    validate_outline: mesh_validate_outline_i32, mesh_validate_outline_i16, (
+        points: *const [I; 2], point_count: usize, ends: *const usize, end_count: usize,
+        style: *const RawOutlineStyle, padding: *mut i64,
+    );
+    validate_stroke: mesh_validate_stroke_i32, mesh_validate_stroke_i16, (
+        points: *const [I; 2], point_count: usize, ends: *const usize, end_count: usize,
+        style: *const RawStrokeStyle, start_points: *const [I; 2], start_point_count: usize,
+        end_points: *const [I; 2], end_point_count: usize, padding: *mut i64,
+    );
+    validate_variable_stroke: mesh_validate_variable_stroke_i32, mesh_validate_variable_stroke_i16, (
+        vertices: *const [I; 3], vertex_count: usize, ends: *const usize, end_count: usize,
+        arc: *const Arc, padding: *mut i64,
+    );
+}

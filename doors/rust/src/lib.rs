@@ -1,0 +1,36 @@
+//! Polygon offsetting over whole numbers: outlines of polygons, strokes of paths, of one width or of a width that changes
+//! from vertex to vertex.
+//!
+//! This is a safe wrapper over a library that is written in Rattle, Rust with contracts, and proved. Its header for C,
+//! `doors/c/i_overlay_mesh.h`, is what it stands on, and `docs/DOORS.md` says what is proved. `doors/build` makes the
+//! archive that it links.
+//!
+//! ```
+//! use i_overlay_mesh::{outline, Options, OutlineStyle};
+//!
+//! let square = [[0, 0], [100, 0], [100, 100], [0, 100]];
+//! let shapes = outline(&[square], &OutlineStyle::new(10), &Options::default())?;
+//! assert_eq!(shapes.iter().count(), 1);
+//! # Ok::<(), i_overlay_mesh::Error>(())
+//! ```
+//!
+//! Coordinates and lengths are in grid units, coordinates in 32 or in 16 bits. Outer contours run counterclockwise and
+//! holes clockwise, with `y` upwards. Angles are in bits, of which 2^32 are a turn; [`angle`] makes them of degrees. Calls
+//! may run at once in any number of threads, and need 128 KiB of stack.
+
+mod answers;
+mod calls;
+mod drawings;
+mod error;
+mod requests;
+mod style;
+
+pub use answers::{Edges, Shape, Shapes};
+pub use calls::Coordinate;
+pub use drawings::{
+    outline, outline_edges, stroke, stroke_edges, validate_outline, validate_stroke, validate_variable_stroke,
+    variable_stroke, variable_stroke_edges, Range,
+};
+pub use error::Error;
+pub use requests::{answer, why, Answer};
+pub use style::{angle, Arc, Cap, Join, Options, OutlineStyle, Side, StrokeStyle, MIN_TURN};

@@ -1,0 +1,55 @@
+//! Requests in JSON, as the program answers them.
+
+use crate::calls::{mesh_answer, mesh_why};
+use crate::error::{ended, room, Error, Outcome, ROOM_TOO_SMALL};
+
+/// A line is seldom longer than this many times its request.
+const FACTOR: usize = 4;
+const LEAST_ROOM: usize = 4096;
+
+/// What the program answers to a request.
+#[derive(Clone, Debug, PartialEq, Eq)]
+pub struct Answer {
+    /// The line that it writes, with a line feed at its end; for a request without an answer too.
+    pub line: Vec<u8>,
+    /// Whether that is an answer, or why there is none.
+    pub status: Result<(), Error>,
+}
+
+/// Answers a request in JSON as the program does, byte for byte.
+///
+/// `OutOfMemory` is an error where there was no room for the line; where memory was refused inside the library, the line
+/// says so, and the status does.
+pub fn answer(request: &[u8]) -> Result<Answer, Error> {
+    let size = LEAST_ROOM.max(request.len().saturating_mul(FACTOR));
+    let (outcome, line) = told(size, |room, needed| unsafe {
+        // All lists are valid and overlap with nothing, and the call keeps none.
+        mesh_answer(request.as_ptr(), request.len(), room.as_mut_ptr(), room.len(), needed)
+    })?;
+    Ok(Answer { line, status: ended(outcome) })
+}
+
+/// Why bytes hold no request, as a text; nothing where they hold one.
+pub fn why(request: &[u8]) -> Result<Option<String>, Error> {
+    let (outcome, text) = told(LEAST_ROOM, |room, needed| unsafe {
+        // All lists are valid and overlap with nothing, and the call keeps none.
+        mesh_why(request.as_ptr(), request.len(), room.as_mut_ptr(), room.len(), needed)
+    })?;
+    match ended(outcome) {
+        Ok(()) => Ok(None),
+        Err(Error::Malformed) => Ok(Some(String::from_utf8_lossy(&text).into_owned())),
+        Err(error) => Err(error),
+    }
+}
+
+/// How a call ended, and the bytes that it told, in a room of this size or of the one that it needs.
+fn told(mut size: usize, call: impl Fn(&mut [u8], &mut usize) -> Outcome) -> Result<(Outcome, Vec<u8>), Error> {
+    loop {
+        let mut bytes = room(size)?;
+        let outcome = call(&mut bytes, &mut size);
+        if outcome != ROOM_TOO_SMALL {
+            bytes.truncate(size);
+            return Ok((outcome, bytes));
+        }
+    }
+}

@@ -1,0 +1,150 @@
+//! The calls against the program's own words for the same drawings, and what is told of drawings that have no answer.
+
+use i_overlay_mesh::*;
+use std::path::PathBuf;
+use std::process::{Command, Stdio};
+use std::{fmt::Debug, fs, io::Write, thread};
+
+fn root() -> PathBuf {
+    PathBuf::from(env!("CARGO_MANIFEST_DIR")).join("../..")
+}
+
+/// The line of the answer to a request that has one.
+fn line(request: &str) -> String {
+    let answer = answer(request.as_bytes()).unwrap();
+    assert_eq!(answer.status, Ok(()), "{request}");
+    String::from_utf8(answer.line).unwrap()
+}
+
+/// A value as JSON has it.
+fn json(value: &impl Debug) -> String {
+    format!("{value:?}").replace(' ', "")
+}
+
+fn shapes_line<I: Debug>(shapes: &Shapes<I>) -> String {
+    let lists: Vec<Vec<&[[I; 2]]>> = shapes.iter().map(|shape| shape.contours().collect()).collect();
+    format!("{{\"shapes\":{}}}\n", json(&lists))
+}
+
+fn edges_line<I: Debug>(edges: &Edges<I>) -> String {
+    let lists: Vec<&[[[I; 2]; 2]]> = edges.iter().collect();
+    format!("{{\"edges\":{}}}\n", json(&lists))
+}
+
+/// A request in the words of the program.
+fn request(op: &str, int: &str, out: &str, paths: &impl Debug, style: &str, more: &str) -> String {
+    let paths = json(paths);
+    format!(r#"{{"op":"{op}","int":"{int}","out":"{out}","paths":{paths},"style":{style}{more}}}"#)
+}
+
+const STAR: [[i32; 2]; 5] = [[0, 1000], [-600, -800], [950, 300], [-950, 300], [600, -800]];
+const HOLE: [[i32; 2]; 3] = [[0, 0], [40, 90], [90, 10]];
+const ARC: Arc = Arc { max_step: 1 << 27, precision: 9 };
+
+#[test]
+fn outlines_are_the_programs() {
+    let paths = [STAR.to_vec(), HOLE.to_vec()];
+    let join = [
+        (Join::Bevel, r#""bevel""#),
+        (Join::Miter(angle(60.0)), r#"{"miter":715827882}"#),
+        (Join::Round(ARC), r#"{"round":[134217728,9]}"#),
+    ];
+    for (join, word) in join {
+        let style = OutlineStyle { inner_offset: 7, join, miter_min_turn: 99, ..OutlineStyle::new(50) };
+        let words = format!(r#"{{"outer":50,"inner":7,"join":{word},"min_turn":99}}"#);
+        let options = Options { min_area: 30, clockwise: true, collinear: true };
+        let chosen = r#","options":{"min_area":30,"clockwise":true,"collinear":true}"#;
+        let shapes = outline(&paths, &style, &options).unwrap();
+        assert_eq!(shapes_line(&shapes), line(&request("outline", "i32", "shapes", &paths, &words, chosen)));
+        let edges = outline_edges(&paths, &style).unwrap();
+        assert_eq!(edges_line(&edges), line(&request("outline", "i32", "edges", &paths, &words, "")));
+        assert!(validate_outline(&paths, &style).unwrap().is_safe);
+    }
+}
+
+#[test]
+fn strokes_are_the_programs() {
+    let paths: [&[[i16; 2]]; 2] = [&[[0, 0], [500, 30], [400, 600]], &[[-90, -90], [70, 70]]];
+    let style = StrokeStyle {
+        start_cap: Cap::Round(ARC),
+        end_cap: Cap::Custom(vec![[0, -20], [30, 0], [0, 20]]),
+        side: Side::Both,
+        ..StrokeStyle::new(40)
+    };
+    let words = r#"{"width":40,"start":{"round":[134217728,9]},"end":{"custom":[[0,-20],[30,0],[0,20]]}}"#;
+    let shapes = stroke(&paths, &style, &Options::default()).unwrap();
+    assert_eq!(shapes_line(&shapes), line(&request("stroke", "i16", "shapes", &paths, words, "")));
+    let edges = stroke_edges(&paths, &style).unwrap();
+    assert_eq!(edges_line(&edges), line(&request("stroke", "i16", "edges", &paths, words, "")));
+    assert_eq!(validate_stroke(&paths, &style).map(|range| range.is_safe), Ok(true));
+
+    let ring = StrokeStyle { closed: true, side: Side::Right, start_cap: Cap::Square, ..StrokeStyle::new(40) };
+    let words = r#"{"width":40,"start":"square","side":"right"}"#;
+    let shapes = stroke(&paths, &ring, &Options::default()).unwrap();
+    assert_eq!(shapes_line(&shapes), line(&request("stroke", "i16", "shapes", &paths, words, r#","closed":true"#)));
+}
+
+#[test]
+fn variable_strokes_are_the_programs() {
+    let paths = [[[0, 0, 40], [900, 50, 300], [-20, 700, 9]]];
+    let words = r#"{"arc":[134217728,9]}"#;
+    let shapes = variable_stroke(&paths, &ARC, &Options::default()).unwrap();
+    assert_eq!(shapes_line(&shapes), line(&request("variable_stroke", "i32", "shapes", &paths, words, "")));
+    let edges = variable_stroke_edges(&paths, &ARC).unwrap();
+    assert_eq!(edges_line(&edges), line(&request("variable_stroke", "i32", "edges", &paths, words, "")));
+    assert_eq!(validate_variable_stroke(&paths, &ARC), Ok(Range { padding: 150, is_safe: true }));
+}
+
+#[test]
+fn an_answer_that_is_longer_than_the_first_room() {
+    let paths: Vec<[[i32; 2]; 2]> = (0..50).map(|x| [[x * 2000, 0], [x * 2000 + 1, 1]]).collect();
+    let cap = Cap::Round(Arc { max_step: 1 << 22, precision: 5 });
+    let style = StrokeStyle { start_cap: cap.clone(), end_cap: cap, ..StrokeStyle::new(1000) };
+    let shapes = stroke(&paths, &style, &Options::default()).unwrap();
+    assert!(shapes.points.len() > 4 * 100 + 32);
+    let words = r#"{"width":1000,"start":{"round":[4194304,5]},"end":{"round":[4194304,5]}}"#;
+    assert_eq!(shapes_line(&shapes), line(&request("stroke", "i32", "shapes", &paths, words, "")));
+}
+
+#[test]
+fn what_has_no_answer_is_told() {
+    let nothing: [[[i32; 2]; 0]; 0] = [];
+    let style = OutlineStyle::new(10);
+    assert!(outline(&nothing, &style, &Options::default()).unwrap().points.is_empty());
+    let far = [[[1 << 30, 0], [0, 1], [1, 0]]];
+    assert_eq!(outline(&far, &style, &Options::default()), Err(Error::OutOfRange));
+    assert_eq!(validate_outline(&far, &style), Ok(Range { padding: 10, is_safe: false }));
+    let small: [[[i16; 2]; 3]; 1] = [[[0, 0], [9, 0], [0, 9]]];
+    assert_eq!(outline(&small, &OutlineStyle::new(40_000), &Options::default()), Err(Error::Malformed));
+    assert_eq!(answer(b"{").unwrap().status, Err(Error::Malformed));
+    assert_eq!(answer(b"{").unwrap().line, b"{\"unreadable\":\"request\"}\n");
+    assert!(why(b"{").unwrap().is_some());
+    assert_eq!(why(request("outline", "i16", "edges", &nothing, r#"{"outer":1,"inner":1}"#, "").as_bytes()), Ok(None));
+    assert_eq!(Error::OutOfRange.to_string(), "what is to be drawn would pass the safe range");
+}
+
+#[test]
+fn examples_are_answered_as_by_the_program_in_threads() {
+    let program = root().join("crates/mesh_run/out/mesh_run");
+    if !program.exists() {
+        return;
+    }
+    let examples: Vec<PathBuf> = fs::read_dir(root().join("examples")).unwrap().map(|it| it.unwrap().path()).collect();
+    let requests = examples.into_iter().filter(|file| file.extension().map_or(false, |it| it == "json"));
+    let threads: Vec<_> = requests
+        .map(|file| {
+            let program = program.clone();
+            thread::spawn(move || {
+                let bytes = fs::read(&file).unwrap();
+                let mut run = Command::new(program).stdin(Stdio::piped()).stdout(Stdio::piped()).spawn().unwrap();
+                run.stdin.take().unwrap().write_all(&bytes).unwrap();
+                let output = run.wait_with_output().unwrap();
+                let told = answer(&bytes).unwrap();
+                assert_eq!(told.line, output.stdout, "{}", file.display());
+                assert_eq!(told.status.is_ok(), output.status.success());
+            })
+        })
+        .collect();
+    assert!(!threads.is_empty());
+    threads.into_iter().for_each(|thread| thread.join().unwrap());
+}
