@@ -62,7 +62,8 @@ impl<I> Edges<I> {
     }
 }
 
-/// Shapes that a call tells, in room for so many items of each list or, where that is too small, for as many as it needs.
+/// Shapes that a call tells, in room for so many items of each list or, where that is too small, for as many as it
+/// needs.
 pub(crate) fn told_shapes<I: Copy + Default>(
     mut counts: ShapeCounts,
     call: impl Fn(&mut Shapes<I>, &mut ShapeCounts) -> Outcome,

@@ -1,5 +1,5 @@
-//! Polygon offsetting over whole numbers: outlines of polygons, strokes of paths, of one width or of a width that changes
-//! from vertex to vertex.
+//! Polygon offsetting over whole numbers: outlines of polygons, strokes of paths, of one width or of a width that
+//! changes from vertex to vertex.
 //!
 //! This is a safe wrapper over a library that is written in Rattle, Rust with contracts, and proved. Its header for C,
 //! `doors/c/i_overlay_mesh.h`, is what it stands on, and `docs/DOORS.md` says what is proved. `doors/build` makes the
@@ -15,8 +15,8 @@
 //! ```
 //!
 //! Coordinates and lengths are in grid units, coordinates in 32 or in 16 bits. Outer contours run counterclockwise and
-//! holes clockwise, with `y` upwards. Angles are in bits, of which 2^32 are a turn; [`angle`] makes them of degrees. Calls
-//! may run at once in any number of threads, and need 128 KiB of stack.
+//! holes clockwise, with `y` upwards. Angles are in bits, of which 2^32 are a turn; [`angle`] makes them of degrees.
+//! Calls may run at once in any number of threads, and need 128 KiB of stack.
 
 mod answers;
 mod calls;
