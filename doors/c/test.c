@@ -9,11 +9,32 @@
 #include <i_overlay_mesh.h>
 #include <pthread.h>
 #include <stdarg.h>
+#include <stddef.h>
 #include <stdio.h>
 #include <stdlib.h>
 #include <string.h>
 
 enum { THREADS = 4, STACK = 256 * 1024, MARGIN = 16, MARK = 0xA5 };
+
+/* The sizes that `crates/mesh_flat/src/layout.rt` proves of the library's own structs. Each is the sum of the fields', so
+   fields in the same order lie in the same places. */
+_Static_assert(sizeof(mesh_arc) == 8 && offsetof(mesh_arc, precision) == 4, "mesh_arc");
+_Static_assert(sizeof(mesh_join) == 20 && offsetof(mesh_join, miter_angle) == 4 && offsetof(mesh_join, miter_min_turn) == 8
+                   && offsetof(mesh_join, arc) == 12, "mesh_join");
+_Static_assert(sizeof(mesh_outline_style) == 28 && offsetof(mesh_outline_style, inner_offset) == 4
+                   && offsetof(mesh_outline_style, join) == 8, "mesh_outline_style");
+_Static_assert(sizeof(mesh_cap) == 12 && offsetof(mesh_cap, arc) == 4, "mesh_cap");
+_Static_assert(sizeof(mesh_stroke_style) == 56 && offsetof(mesh_stroke_style, join) == 4
+                   && offsetof(mesh_stroke_style, start_cap) == 24 && offsetof(mesh_stroke_style, end_cap) == 36
+                   && offsetof(mesh_stroke_style, side) == 48 && offsetof(mesh_stroke_style, closed) == 52,
+               "mesh_stroke_style");
+_Static_assert(sizeof(mesh_options) == 16 && offsetof(mesh_options, clockwise) == 8
+                   && offsetof(mesh_options, collinear) == 12, "mesh_options");
+_Static_assert(sizeof(mesh_shape_counts) == 24 && offsetof(mesh_shape_counts, contours) == 8
+                   && offsetof(mesh_shape_counts, shapes) == 16, "mesh_shape_counts");
+_Static_assert(sizeof(mesh_edge_counts) == 16 && offsetof(mesh_edge_counts, paths) == 8, "mesh_edge_counts");
+_Static_assert(sizeof(mesh_point_i32) == 8 && sizeof(mesh_vertex_i32) == 12 && sizeof(mesh_edge_i32) == 16, "32 bits");
+_Static_assert(sizeof(mesh_point_i16) == 4 && sizeof(mesh_vertex_i16) == 6 && sizeof(mesh_edge_i16) == 8, "16 bits");
 
 struct text {
     const uint8_t *bytes;

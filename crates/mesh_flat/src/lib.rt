@@ -6,6 +6,7 @@ pub mod answer;
 pub mod drawing;
 pub mod drawn;
 pub mod edges;
+mod layout;
 pub mod lists;
 pub mod numbers;
 pub mod options;
