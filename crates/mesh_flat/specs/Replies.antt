@@ -1,5 +1,5 @@
 -- What is answered to a request's bytes.
-use Rattle.std.specs.Prelude.{ℕ, ◌≡◌, List, length}
+use Rattle.std.specs.Prelude.{ℕ, ◌≡◌, ◌<◌, List, length}
 use Rattle.mesh_offset.specs.declared.error.IntOutlineError.TheVariants.{CoordinateOutOfRange}
 use Rattle.mesh_offset.specs.declared.error.IntOutlineError.TheVariants.{OutOfMemory as MemoryRefused}
 use Rattle.mesh_request.specs.Failures.{failure_line}
@@ -10,11 +10,11 @@ use Rattle.mesh_flat.specs.declared.outcome.Outcome.{Outcome}
 use Rattle.mesh_flat.specs.declared.outcome.Outcome.TheVariants.{Answered, OutOfRange, Malformed, OutOfMemory}
 
 -- the line that replies to a request, and how the call ends that tells it: an answer; the refusal of a request that may
--- not be answered; want of memory; and that the text holds no request
+-- not be answered; want of memory, where there was a byte to read; and that the text holds no request
 pub data IsReplyTo (request : List ℕ) : List ℕ → Outcome → Type 0 where
   answer : {line : List ℕ} → IsAnswer request line → IsReplyTo request line Answered
   refusal : IsRefused request → IsReplyTo request (failure_line (Refused CoordinateOutOfRange)) OutOfRange
-  no_memory : IsReplyTo request (failure_line (Refused MemoryRefused)) OutOfMemory
+  no_memory : 0 < length request → IsReplyTo request (failure_line (Refused MemoryRefused)) OutOfMemory
   no_request : HoldsNoRequest request → IsReplyTo request (failure_line Unreadable) Malformed
 
 -- a call for a request, in a room that held `old` and now holds `new`, told how many bytes are needed and ended so: it

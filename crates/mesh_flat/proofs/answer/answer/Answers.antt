@@ -25,7 +25,8 @@ returns-in-Err c =
       told = outcome_of c.in-Err.failure;
       reply =
           failure_replies c.args.request.now c.in-Err.failure
-          (λ e. c.respond.ensures.refused (c.in-Err.is ∙ ap Err e)) (λ e. c.respond.ensures.unreadable (c.in-Err.is ∙ ap Err e));
+          (λ e. c.respond.ensures.refused (c.in-Err.is ∙ ap Err e)) (λ e. c.respond.ensures.unreadable (c.in-Err.is ∙ ap Err e))
+          (rw c.in-Err.is at c.respond.ensures.memory);
       size = c.hand_over-in-Err.ensures.size ∙ ap length is;
       handed = rw (is, c.of.ensures) at c.hand_over-in-Err.ensures.handed;
     }
