@@ -46,6 +46,36 @@ static mesh_outcome OF(draw_shapes)(const struct drawing *it, struct lists *to)
     return outcome;
 }
 
+static mesh_outcome OF(draw_near)(const struct drawing *it, uint64_t most, struct lists *to, uint64_t *nearness)
+{
+    int is_variable = it->operation == VARIABLE_STROKE;
+    void *items = (is_variable ? OF(vertices) : OF(points))(it->items.numbers, it->items.count);
+    void *start = OF(points)(it->start.numbers, it->start.count);
+    void *end = OF(points)(it->end.numbers, it->end.count);
+    mesh_outcome outcome;
+    switch (it->operation) {
+    case OUTLINE:
+        outcome = OF(mesh_outline_near)(items, it->items.count, it->ends, it->end_count, &it->outline, &it->options, most,
+                                        to->points, to->point_room, to->contour_ends, to->contour_room,
+                                        to->shape_ends, to->shape_room, &to->counts, nearness);
+        break;
+    case STROKE:
+        outcome = OF(mesh_stroke_near)(items, it->items.count, it->ends, it->end_count, &it->stroke,
+                                       start, it->start.count, end, it->end.count, &it->options, most,
+                                       to->points, to->point_room, to->contour_ends, to->contour_room,
+                                       to->shape_ends, to->shape_room, &to->counts, nearness);
+        break;
+    default:
+        outcome = OF(mesh_variable_stroke_near)(items, it->items.count, it->ends, it->end_count, &it->arc, &it->options,
+                                                most, to->points, to->point_room, to->contour_ends, to->contour_room,
+                                                to->shape_ends, to->shape_room, &to->counts, nearness);
+    }
+    free(items);
+    free(start);
+    free(end);
+    return outcome;
+}
+
 static mesh_outcome OF(draw_edges)(const struct drawing *it, struct edge_lists *to)
 {
     int is_variable = it->operation == VARIABLE_STROKE;

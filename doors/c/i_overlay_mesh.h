@@ -20,11 +20,12 @@ extern "C" {
 typedef uint8_t mesh_outcome;
 
 enum {
-    MESH_ANSWERED = 0,       /* The answer stands in the caller's room. */
-    MESH_OUT_OF_RANGE = 1,   /* What is to be drawn would pass the safe range. */
-    MESH_MALFORMED = 2,      /* What was given is nothing that the call serves. */
-    MESH_OUT_OF_MEMORY = 3,  /* Memory was refused. */
-    MESH_ROOM_TOO_SMALL = 5  /* The room is too small, and as it was. How much is needed is told. */
+    MESH_ANSWERED = 0,        /* The answer stands in the caller's room. */
+    MESH_OUT_OF_RANGE = 1,    /* What is to be drawn would pass the safe range. */
+    MESH_MALFORMED = 2,       /* What was given is nothing that the call serves. */
+    MESH_OUT_OF_MEMORY = 3,   /* Memory was refused. */
+    MESH_TOO_MANY_SPLITS = 4, /* More splits were made than the limit that was given. */
+    MESH_ROOM_TOO_SMALL = 5   /* The room is too small, and as it was. How much is needed is told. */
 };
 
 /* Answers a request as the program does.
@@ -173,6 +174,61 @@ mesh_outcome mesh_variable_stroke_i16(
     const mesh_arc *arc, const mesh_options *options,
     mesh_point_i16 *shape_points, size_t shape_point_room, size_t *contour_ends, size_t contour_room,
     size_t *shape_ends, size_t shape_room, mesh_shape_counts *counts);
+
+/* Draws paths and tells the shapes, and how near to the drawn edges they are exact. All is as above, but
+
+   most_splits   how many times edges may be split where they meet, in attempts that were given up too; 0: any number
+   nearness      told where the counts are told: the shapes are exact at each point that is farther than this from each
+                 drawn edge, in 64ths of a grid unit, rounded up; a distance is the greater one of both coordinates'
+                 differences. 0 where rounding moved nothing
+
+   MESH_TOO_MANY_SPLITS: more splits were made. A few points near one line can take very many, so set a limit where
+   drawings come from strangers. */
+mesh_outcome mesh_outline_near_i32(
+    const mesh_point_i32 *points, size_t point_count, const size_t *ends, size_t end_count,
+    const mesh_outline_style *style, const mesh_options *options, uint64_t most_splits,
+    mesh_point_i32 *shape_points, size_t shape_point_room, size_t *contour_ends, size_t contour_room,
+    size_t *shape_ends, size_t shape_room, mesh_shape_counts *counts,
+    uint64_t *nearness);
+
+mesh_outcome mesh_outline_near_i16(
+    const mesh_point_i16 *points, size_t point_count, const size_t *ends, size_t end_count,
+    const mesh_outline_style *style, const mesh_options *options, uint64_t most_splits,
+    mesh_point_i16 *shape_points, size_t shape_point_room, size_t *contour_ends, size_t contour_room,
+    size_t *shape_ends, size_t shape_room, mesh_shape_counts *counts,
+    uint64_t *nearness);
+
+mesh_outcome mesh_stroke_near_i32(
+    const mesh_point_i32 *points, size_t point_count, const size_t *ends, size_t end_count,
+    const mesh_stroke_style *style,
+    const mesh_point_i32 *start_points, size_t start_point_count,
+    const mesh_point_i32 *end_points, size_t end_point_count, const mesh_options *options, uint64_t most_splits,
+    mesh_point_i32 *shape_points, size_t shape_point_room, size_t *contour_ends, size_t contour_room,
+    size_t *shape_ends, size_t shape_room, mesh_shape_counts *counts,
+    uint64_t *nearness);
+
+mesh_outcome mesh_stroke_near_i16(
+    const mesh_point_i16 *points, size_t point_count, const size_t *ends, size_t end_count,
+    const mesh_stroke_style *style,
+    const mesh_point_i16 *start_points, size_t start_point_count,
+    const mesh_point_i16 *end_points, size_t end_point_count, const mesh_options *options, uint64_t most_splits,
+    mesh_point_i16 *shape_points, size_t shape_point_room, size_t *contour_ends, size_t contour_room,
+    size_t *shape_ends, size_t shape_room, mesh_shape_counts *counts,
+    uint64_t *nearness);
+
+mesh_outcome mesh_variable_stroke_near_i32(
+    const mesh_vertex_i32 *vertices, size_t vertex_count, const size_t *ends, size_t end_count,
+    const mesh_arc *arc, const mesh_options *options, uint64_t most_splits,
+    mesh_point_i32 *shape_points, size_t shape_point_room, size_t *contour_ends, size_t contour_room,
+    size_t *shape_ends, size_t shape_room, mesh_shape_counts *counts,
+    uint64_t *nearness);
+
+mesh_outcome mesh_variable_stroke_near_i16(
+    const mesh_vertex_i16 *vertices, size_t vertex_count, const size_t *ends, size_t end_count,
+    const mesh_arc *arc, const mesh_options *options, uint64_t most_splits,
+    mesh_point_i16 *shape_points, size_t shape_point_room, size_t *contour_ends, size_t contour_room,
+    size_t *shape_ends, size_t shape_room, mesh_shape_counts *counts,
+    uint64_t *nearness);
 
 /* Draws each path and tells its edges, sorted by their starts and then by their ends. All is as with shapes, but
 

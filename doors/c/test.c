@@ -9,10 +9,14 @@
 #include <i_overlay_mesh.h>
 #include <pthread.h>
 #include <stdarg.h>
+#include <stdatomic.h>
 #include <stddef.h>
 #include <stdio.h>
 #include <stdlib.h>
 #include <string.h>
+
+/* No nearness is as great. */
+static const uint64_t UNTOLD = UINT64_MAX;
 
 enum { THREADS = 4, STACK = 256 * 1024, MARGIN = 16, MARK = 0xA5 };
 
@@ -369,6 +373,21 @@ static mesh_outcome draw(const struct drawing *it, struct lists *to)
     return it->width == 32 ? draw_shapes_i32(it, to) : draw_shapes_i16(it, to);
 }
 
+static mesh_outcome draw_near(const struct drawing *it, uint64_t most, struct lists *to, uint64_t *nearness)
+{
+    return (it->width == 32 ? draw_near_i32 : draw_near_i16)(it, most, to, nearness);
+}
+
+/* The same with no limit. The nearness is told where the counts are. */
+static mesh_outcome draw_with_nearness(const struct drawing *it, struct lists *to)
+{
+    uint64_t nearness = UNTOLD;
+    mesh_outcome outcome = draw_near(it, 0, to, &nearness);
+    if ((nearness != UNTOLD) != (outcome == MESH_ANSWERED || outcome == MESH_ROOM_TOO_SMALL))
+        abort();
+    return outcome;
+}
+
 /* Whether the lists have what the line of the case says. */
 static int are_answer(const struct test_case *it, const struct lists *lists)
 {
@@ -382,7 +401,9 @@ static int are_answer(const struct test_case *it, const struct lists *lists)
     return is_same;
 }
 
-static void check_drawing(const struct test_case *it)
+typedef mesh_outcome drawer(const struct drawing *it, struct lists *to);
+
+static void check_drawing_by(drawer *draw, const struct test_case *it)
 {
     struct lists lists;
     take_lists(&lists, (mesh_shape_counts){0, 0, 0});
@@ -413,6 +434,38 @@ static void check_drawing(const struct test_case *it)
             fail(it, "other shapes than the program's");
         drop_lists(&lists);
     }
+}
+
+/* How many drawings took more than one split. */
+static atomic_size_t given_up;
+
+/* With a limit a drawing has the same answer, or none. */
+static void check_limit(const struct test_case *it, uint64_t most)
+{
+    struct lists lists, plain;
+    uint64_t nearness = UNTOLD, told = UNTOLD;
+    take_lists(&plain, (mesh_shape_counts){0, 0, 0});
+    mesh_outcome outcome = draw_near(&it->drawing, 0, &plain, &nearness);
+    take_lists(&lists, outcome == MESH_OUT_OF_RANGE ? (mesh_shape_counts){9, 9, 9} : plain.counts);
+    outcome = draw_near(&it->drawing, most, &lists, &told);
+    if (outcome == MESH_TOO_MANY_SPLITS) {
+        if (most > 1 || told != UNTOLD || lists.counts.points != 77 || !are_marked(&lists))
+            fail(it, "a drawing that is given up is told otherwise");
+        given_up++;
+    } else if (told != nearness || (it->status ? outcome != MESH_OUT_OF_RANGE : outcome != MESH_ANSWERED)
+               || (outcome == MESH_ANSWERED && !are_answer(it, &lists))) {
+        fail(it, "another answer with a limit than without");
+    }
+    drop_lists(&plain);
+    drop_lists(&lists);
+}
+
+static void check_drawing(const struct test_case *it)
+{
+    check_drawing_by(draw, it);
+    check_drawing_by(draw_with_nearness, it);
+    check_limit(it, 1);
+    check_limit(it, UINT64_MAX);
 }
 
 static void take_edge_lists(struct edge_lists *to, mesh_edge_counts room)
@@ -478,7 +531,8 @@ static void check_malformed(const struct test_case *it)
             wrong.ends = ends, wrong.end_count = way == 0 ? 2 : way == 1 ? 1 : 0;
         else
             wrong.options.collinear = 2;
-        if (draw(&wrong, &lists) != MESH_MALFORMED || !are_marked(&lists) || lists.counts.points != 77)
+        if (draw(&wrong, &lists) != MESH_MALFORMED || draw_with_nearness(&wrong, &lists) != MESH_MALFORMED
+            || !are_marked(&lists) || lists.counts.points != 77)
             fail(it, "a drawing that is none is not told as malformed");
     }
     drop_lists(&lists);
@@ -577,7 +631,7 @@ static size_t check_refused(const struct test_case *it)
 }
 
 /* The same of a drawing. */
-static size_t check_drawing_refused(const struct test_case *it)
+static size_t check_drawing_refused(drawer *draw, const struct test_case *it)
 {
     struct lists lists;
     for (size_t number = 1;; number++) {
@@ -619,7 +673,7 @@ int main(int count, char **words)
             }
         }
         check_in_threads(&cases);
-        if (!drawn)
+        if (!drawn || !given_up)
             return 1;
         printf("C: %zu requests and %zu drawings in arrays are answered as by the program, in %d threads at once.\n",
                cases.count, drawn, THREADS);
@@ -629,8 +683,10 @@ int main(int count, char **words)
             return 2;
         for (size_t i = 0; i < cases.count; i += 1 + cases.count / wanted) {
             growths += check_refused(&cases.all[i]);
-            if (cases.all[i].is_drawn && !cases.all[i].drawing.for_edges)
-                growths += check_drawing_refused(&cases.all[i]);
+            if (cases.all[i].is_drawn && !cases.all[i].drawing.for_edges) {
+                growths += check_drawing_refused(draw, &cases.all[i]);
+                growths += check_drawing_refused(draw_with_nearness, &cases.all[i]);
+            }
         }
         if (!growths)
             return 1;

@@ -5,6 +5,7 @@ ghost use Rattle.std.specs.Ordering.{int_cmp};
 ghost use Rattle.std.specs.Prelude.{◌≡◌, ◌^◌};
 ghost use Rattle.mesh_flat.specs.Drawings.{IsOutlineOf, IsStrokeOf, IsVariableStrokeOf};
 ghost use Rattle.mesh_flat.specs.EdgeRooms.{TellsEdges};
+ghost use Rattle.mesh_flat.specs.NearRooms.{TellsNear};
 ghost use Rattle.mesh_flat.specs.Numbers.{edge_from, point_from, vertex_from};
 ghost use Rattle.mesh_flat.specs.Outcomes.{code_of};
 ghost use Rattle.mesh_flat.specs.Ranges.{TellsRange};
@@ -20,6 +21,7 @@ use mesh_flat::drawn::{
     variable_stroke_shapes,
 };
 use mesh_flat::edges::{EdgeCounts, hand_over_edges};
+use mesh_flat::near::{hand_over_near, outline_near, stroke_near, variable_stroke_near};
 use mesh_flat::options::FlatOptions;
 use mesh_flat::range::{outline_reach, stroke_reach, tell_reach, variable_stroke_reach};
 use mesh_flat::shapes::{ShapeCounts, hand_over_shapes};
@@ -72,6 +74,40 @@ pub extern "C" fn mesh_outline_i32(
 {
     let answer = outline_shapes(alloc, points, ends, style, options);
     hand_over_shapes(&answer, shape_points, contour_ends, shape_ends, counts).code()
+}
+
+/// The shapes of an outline, in the caller's lists, how many items each has, and their nearness.
+#[unsafe(no_mangle)]
+pub extern "C" fn mesh_outline_near_i32(
+    alloc: Global,
+    points: &[[i32; 2]],
+    ends: &[usize],
+    style: &FlatOutlineStyle,
+    options: &FlatOptions,
+    most_splits: u64,
+    shape_points: &mut [[i32; 2]],
+    contour_ends: &mut [usize],
+    shape_ends: &mut [usize],
+    counts: &mut ShapeCounts,
+    nearness: &mut u64,
+) -> u8
+    ensures { TellsNear (2 ^ 30) (point_from (λ z. z))
+        (IsOutlineOf (2 ^ 30) (point_from (λ z. z)) points.now ends.now style.now)
+        (choices_in (2 ^ 30) options.now) most_splits
+        (record { points = shape_points.old; contour_ends = contour_ends.old; shape_ends = shape_ends.old })
+        (record { points = shape_points.new; contour_ends = contour_ends.new; shape_ends = shape_ends.new })
+        counts.old counts.new nearness.old nearness.new result }
+{
+    let answer = outline_near(alloc, points, ends, style, options, most_splits);
+    hand_over_near(
+        &answer,
+        shape_points,
+        contour_ends,
+        shape_ends,
+        counts,
+        nearness,
+    )
+    .code()
 }
 
 /// The edges of an outline, path by path, in the caller's lists, and how many items each has.
@@ -146,6 +182,51 @@ pub extern "C" fn mesh_stroke_i32(
     hand_over_shapes(&answer, shape_points, contour_ends, shape_ends, counts).code()
 }
 
+/// The shapes of a stroke, in the caller's lists, how many items each has, and their nearness.
+#[unsafe(no_mangle)]
+pub extern "C" fn mesh_stroke_near_i32(
+    alloc: Global,
+    points: &[[i32; 2]],
+    ends: &[usize],
+    style: &FlatStrokeStyle,
+    start_points: &[[i32; 2]],
+    end_points: &[[i32; 2]],
+    options: &FlatOptions,
+    most_splits: u64,
+    shape_points: &mut [[i32; 2]],
+    contour_ends: &mut [usize],
+    shape_ends: &mut [usize],
+    counts: &mut ShapeCounts,
+    nearness: &mut u64,
+) -> u8
+    ensures { TellsNear (2 ^ 30) (point_from (λ z. z))
+        (IsStrokeOf (2 ^ 30) (point_from (λ z. z)) points.now ends.now style.now start_points.now end_points.now)
+        (choices_in (2 ^ 30) options.now) most_splits
+        (record { points = shape_points.old; contour_ends = contour_ends.old; shape_ends = shape_ends.old })
+        (record { points = shape_points.new; contour_ends = contour_ends.new; shape_ends = shape_ends.new })
+        counts.old counts.new nearness.old nearness.new result }
+{
+    let answer = stroke_near(
+        alloc,
+        points,
+        ends,
+        style,
+        start_points,
+        end_points,
+        options,
+        most_splits,
+    );
+    hand_over_near(
+        &answer,
+        shape_points,
+        contour_ends,
+        shape_ends,
+        counts,
+        nearness,
+    )
+    .code()
+}
+
 /// The edges of a stroke, path by path, in the caller's lists, and how many items each has.
 #[unsafe(no_mangle)]
 pub extern "C" fn mesh_stroke_edges_i32(
@@ -212,6 +293,40 @@ pub extern "C" fn mesh_variable_stroke_i32(
     hand_over_shapes(&answer, shape_points, contour_ends, shape_ends, counts).code()
 }
 
+/// The shapes of a stroke of variable width, in the caller's lists, how many items each has, and their nearness.
+#[unsafe(no_mangle)]
+pub extern "C" fn mesh_variable_stroke_near_i32(
+    alloc: Global,
+    vertices: &[[i32; 3]],
+    ends: &[usize],
+    arc: &FlatArc,
+    options: &FlatOptions,
+    most_splits: u64,
+    shape_points: &mut [[i32; 2]],
+    contour_ends: &mut [usize],
+    shape_ends: &mut [usize],
+    counts: &mut ShapeCounts,
+    nearness: &mut u64,
+) -> u8
+    ensures { TellsNear (2 ^ 30) (point_from (λ z. z))
+        (IsVariableStrokeOf (vertex_from (λ z. z)) vertices.now ends.now arc.now)
+        (choices_in (2 ^ 30) options.now) most_splits
+        (record { points = shape_points.old; contour_ends = contour_ends.old; shape_ends = shape_ends.old })
+        (record { points = shape_points.new; contour_ends = contour_ends.new; shape_ends = shape_ends.new })
+        counts.old counts.new nearness.old nearness.new result }
+{
+    let answer = variable_stroke_near(alloc, vertices, ends, arc, options, most_splits);
+    hand_over_near(
+        &answer,
+        shape_points,
+        contour_ends,
+        shape_ends,
+        counts,
+        nearness,
+    )
+    .code()
+}
+
 /// The edges of a stroke of variable width, path by path, in the caller's lists, and how many items each has.
 #[unsafe(no_mangle)]
 pub extern "C" fn mesh_variable_stroke_edges_i32(
@@ -272,6 +387,40 @@ pub extern "C" fn mesh_outline_i16(
 {
     let answer = outline_shapes(alloc, points, ends, style, options);
     hand_over_shapes(&answer, shape_points, contour_ends, shape_ends, counts).code()
+}
+
+/// The shapes of an outline, in the caller's lists, how many items each has, and their nearness.
+#[unsafe(no_mangle)]
+pub extern "C" fn mesh_outline_near_i16(
+    alloc: Global,
+    points: &[[i16; 2]],
+    ends: &[usize],
+    style: &FlatOutlineStyle,
+    options: &FlatOptions,
+    most_splits: u64,
+    shape_points: &mut [[i16; 2]],
+    contour_ends: &mut [usize],
+    shape_ends: &mut [usize],
+    counts: &mut ShapeCounts,
+    nearness: &mut u64,
+) -> u8
+    ensures { TellsNear (2 ^ 14) (point_from (λ z. z))
+        (IsOutlineOf (2 ^ 14) (point_from (λ z. z)) points.now ends.now style.now)
+        (choices_in (2 ^ 14) options.now) most_splits
+        (record { points = shape_points.old; contour_ends = contour_ends.old; shape_ends = shape_ends.old })
+        (record { points = shape_points.new; contour_ends = contour_ends.new; shape_ends = shape_ends.new })
+        counts.old counts.new nearness.old nearness.new result }
+{
+    let answer = outline_near(alloc, points, ends, style, options, most_splits);
+    hand_over_near(
+        &answer,
+        shape_points,
+        contour_ends,
+        shape_ends,
+        counts,
+        nearness,
+    )
+    .code()
 }
 
 /// The edges of an outline, path by path, in the caller's lists, and how many items each has.
@@ -346,6 +495,51 @@ pub extern "C" fn mesh_stroke_i16(
     hand_over_shapes(&answer, shape_points, contour_ends, shape_ends, counts).code()
 }
 
+/// The shapes of a stroke, in the caller's lists, how many items each has, and their nearness.
+#[unsafe(no_mangle)]
+pub extern "C" fn mesh_stroke_near_i16(
+    alloc: Global,
+    points: &[[i16; 2]],
+    ends: &[usize],
+    style: &FlatStrokeStyle,
+    start_points: &[[i16; 2]],
+    end_points: &[[i16; 2]],
+    options: &FlatOptions,
+    most_splits: u64,
+    shape_points: &mut [[i16; 2]],
+    contour_ends: &mut [usize],
+    shape_ends: &mut [usize],
+    counts: &mut ShapeCounts,
+    nearness: &mut u64,
+) -> u8
+    ensures { TellsNear (2 ^ 14) (point_from (λ z. z))
+        (IsStrokeOf (2 ^ 14) (point_from (λ z. z)) points.now ends.now style.now start_points.now end_points.now)
+        (choices_in (2 ^ 14) options.now) most_splits
+        (record { points = shape_points.old; contour_ends = contour_ends.old; shape_ends = shape_ends.old })
+        (record { points = shape_points.new; contour_ends = contour_ends.new; shape_ends = shape_ends.new })
+        counts.old counts.new nearness.old nearness.new result }
+{
+    let answer = stroke_near(
+        alloc,
+        points,
+        ends,
+        style,
+        start_points,
+        end_points,
+        options,
+        most_splits,
+    );
+    hand_over_near(
+        &answer,
+        shape_points,
+        contour_ends,
+        shape_ends,
+        counts,
+        nearness,
+    )
+    .code()
+}
+
 /// The edges of a stroke, path by path, in the caller's lists, and how many items each has.
 #[unsafe(no_mangle)]
 pub extern "C" fn mesh_stroke_edges_i16(
@@ -410,6 +604,40 @@ pub extern "C" fn mesh_variable_stroke_i16(
 {
     let answer = variable_stroke_shapes(alloc, vertices, ends, arc, options);
     hand_over_shapes(&answer, shape_points, contour_ends, shape_ends, counts).code()
+}
+
+/// The shapes of a stroke of variable width, in the caller's lists, how many items each has, and their nearness.
+#[unsafe(no_mangle)]
+pub extern "C" fn mesh_variable_stroke_near_i16(
+    alloc: Global,
+    vertices: &[[i16; 3]],
+    ends: &[usize],
+    arc: &FlatArc,
+    options: &FlatOptions,
+    most_splits: u64,
+    shape_points: &mut [[i16; 2]],
+    contour_ends: &mut [usize],
+    shape_ends: &mut [usize],
+    counts: &mut ShapeCounts,
+    nearness: &mut u64,
+) -> u8
+    ensures { TellsNear (2 ^ 14) (point_from (λ z. z))
+        (IsVariableStrokeOf (vertex_from (λ z. z)) vertices.now ends.now arc.now)
+        (choices_in (2 ^ 14) options.now) most_splits
+        (record { points = shape_points.old; contour_ends = contour_ends.old; shape_ends = shape_ends.old })
+        (record { points = shape_points.new; contour_ends = contour_ends.new; shape_ends = shape_ends.new })
+        counts.old counts.new nearness.old nearness.new result }
+{
+    let answer = variable_stroke_near(alloc, vertices, ends, arc, options, most_splits);
+    hand_over_near(
+        &answer,
+        shape_points,
+        contour_ends,
+        shape_ends,
+        counts,
+        nearness,
+    )
+    .code()
 }
 
 /// The edges of a stroke of variable width, path by path, in the caller's lists, and how many items each has.

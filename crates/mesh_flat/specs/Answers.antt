@@ -19,14 +19,18 @@ pub record IsRefusedDrawing (May asks : Drawn → Type 0) : Type 0 where
   pub asked : asks drawn
   pub refused : May drawn → ⊥
 
--- what is answered: what `answers` says of it; that there is no drawing, or that something else is `missing`; that the
--- drawing is refused, since it may not be; and want of memory
+-- why there is no answer: there is no drawing, or something else is `missing`; the drawing is refused, since it may not
+-- be; and want of memory
+abbrev pub IsFailureOf : (Drawn → Type 0) → (Drawn → Type 0) → Type 0 → Failure → Type 0
+IsFailureOf May asks missing Unreadable = ((drawn : Drawn) → asks drawn → ⊥) ⊎ missing
+IsFailureOf May asks missing (Refused CoordinateOutOfRange) = IsRefusedDrawing May asks
+IsFailureOf May asks missing (Refused OutOfMemory) = Unit {0}
+
+-- what is answered: what `answers` says of it, or why there is no answer
 abbrev pub IsAnswerTo : {A : Type 0} → (Drawn → Type 0) → (Drawn → Type 0) → Type 0 → (A → Type 0)
     → Result A Failure → Type 0
 IsAnswerTo May asks missing answers (Ok answer) = answers answer
-IsAnswerTo May asks missing answers (Err Unreadable) = ((drawn : Drawn) → asks drawn → ⊥) ⊎ missing
-IsAnswerTo May asks missing answers (Err (Refused CoordinateOutOfRange)) = IsRefusedDrawing May asks
-IsAnswerTo May asks missing answers (Err (Refused OutOfMemory)) = Unit {0}
+IsAnswerTo May asks missing answers (Err failure) = IsFailureOf May asks missing failure
 
 -- the lists hold the shapes, with these choices, of the drawing, which may be drawn
 pub record AnswersShapes {F : Type 0} (unit : ℕ) (point_of : F → Point) (asks : Drawn → Type 0)

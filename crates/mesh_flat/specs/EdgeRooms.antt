@@ -5,7 +5,7 @@ use Rattle.mesh_plane.specs.Plane.{Edge}
 use Rattle.mesh_request.specs.Requests.{Drawn}
 use Rattle.mesh_request.specs.declared.failure.Failure.{Failure}
 use Rattle.mesh_flat.specs.Answers.{IsEdgesAnswer}
-use Rattle.mesh_flat.specs.Outcomes.{code_of}
+use Rattle.mesh_flat.specs.Outcomes.{code_of, outcome_of}
 use Rattle.mesh_flat.specs.Rooms.{overwritten}
 use Rattle.mesh_flat.specs.Telling.{IsTold}
 use Rattle.mesh_flat.specs.declared.edges.EdgeCounts.{EdgeCounts}
@@ -41,7 +41,7 @@ with_edges lists room = record {
 abbrev pub AreEdgesTold : {F : Type 0} → Result (FlatLists F) Failure → EdgeLists F → EdgeLists F
     → EdgeCounts → EdgeCounts → Outcome → Type 0
 AreEdgesTold answer old new told_before told ended =
-    IsTold edge_lists edge_counts DoEdgesFit with_edges answer old new told_before told ended
+    IsTold outcome_of edge_lists edge_counts DoEdgesFit with_edges answer old new told_before told ended
 
 -- what a call for the edges of the drawing that `asks` names leaves, in this order of coordinates, and the number that
 -- it returns. Coordinates are of a type with `unit`; `edge_of` is what the numbers for an edge stand for

@@ -2,6 +2,8 @@ pub mod Answers
 pub mod Drawings
 pub mod EdgeRooms
 pub mod EndToEnd
+pub mod NearRooms
+pub mod Nearness
 pub mod Numbers
 pub mod Outcomes
 pub mod Private

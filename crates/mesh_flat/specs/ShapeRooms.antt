@@ -5,7 +5,7 @@ use Rattle.mesh_shapes.specs.Resolution.{Choices}
 use Rattle.mesh_request.specs.Requests.{Drawn}
 use Rattle.mesh_request.specs.declared.failure.Failure.{Failure}
 use Rattle.mesh_flat.specs.Answers.{IsShapesAnswer}
-use Rattle.mesh_flat.specs.Outcomes.{code_of}
+use Rattle.mesh_flat.specs.Outcomes.{code_of, outcome_of}
 use Rattle.mesh_flat.specs.Rooms.{overwritten}
 use Rattle.mesh_flat.specs.Telling.{IsTold}
 use Rattle.mesh_flat.specs.declared.outcome.Outcome.{Outcome}
@@ -52,7 +52,7 @@ with_shapes lists room = record {
 abbrev pub AreShapesTold : {F : Type 0} → Result (FlatShapes F) Failure → ShapeLists F → ShapeLists F
     → ShapeCounts → ShapeCounts → Outcome → Type 0
 AreShapesTold answer old new told_before told ended =
-    IsTold lists_of shape_counts DoShapesFit with_shapes answer old new told_before told ended
+    IsTold outcome_of lists_of shape_counts DoShapesFit with_shapes answer old new told_before told ended
 
 -- what a call for the shapes of the drawing that `asks` names, with these choices, leaves, and the number that it
 -- returns. Coordinates are of a type with `unit`; `point_of` is what the numbers for a point stand for

@@ -1,8 +1,9 @@
 //! How a call ended, as one of few numbers.
 
 ghost use Rattle.std.specs.Prelude.{◌≡◌};
-ghost use Rattle.mesh_flat.specs.Outcomes.{code_of, outcome_of};
+ghost use Rattle.mesh_flat.specs.Outcomes.{code_of, near_outcome_of, outcome_of};
 
+use crate::failure::NearFailure;
 use mesh_offset::error::IntOutlineError;
 use mesh_request::failure::Failure;
 
@@ -17,12 +18,14 @@ pub enum Outcome {
     Malformed,
     /// Memory was refused.
     OutOfMemory,
+    /// More splits were made than the limit that the call was given.
+    TooManySplits,
     /// What is to be told does not fit the caller's room. The room is as it was, and how much is needed is told.
     RoomTooSmall,
 }
 
 impl Outcome {
-    /// The number that other languages see. The number 4 stands for no outcome yet.
+    /// The number that other languages see.
     pub fn code(self) -> u8
         ensures { result ≡ code_of self }
     {
@@ -31,6 +34,7 @@ impl Outcome {
             Outcome::OutOfRange => 1,
             Outcome::Malformed => 2,
             Outcome::OutOfMemory => 3,
+            Outcome::TooManySplits => 4,
             Outcome::RoomTooSmall => 5,
         }
     }
@@ -43,6 +47,15 @@ impl Outcome {
             Failure::Unreadable => Outcome::Malformed,
             Failure::Refused(IntOutlineError::CoordinateOutOfRange) => Outcome::OutOfRange,
             Failure::Refused(IntOutlineError::OutOfMemory) => Outcome::OutOfMemory,
+        }
+    }
+    /// How a call with a limit ends that meets this failure.
+    pub fn of_near(failure: &NearFailure) -> Self
+        ensures { result ≡ near_outcome_of failure.now }
+    {
+        match failure {
+            NearFailure::Failed(failure) => Outcome::of(failure),
+            NearFailure::TooManySplits => Outcome::TooManySplits,
         }
     }
 }

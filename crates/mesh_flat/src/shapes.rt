@@ -3,7 +3,8 @@
 ghost use Rattle.std.specs.Prelude.{◌≡◌, ◌↔◌, IfOk, IsTrue};
 ghost use Rattle.mesh_num.specs.Paths.{shapes_of};
 ghost use Rattle.mesh_flat.specs.EndToEnd.{HoldsShapes};
-ghost use Rattle.mesh_flat.specs.ShapeRooms.{AreShapesTold, DoShapesFit, lists_of, shape_counts};
+ghost use Rattle.mesh_flat.specs.ShapeRooms.{AreShapesTold, DoShapesFit, lists_of, shape_counts, with_shapes};
+ghost use Rattle.mesh_flat.specs.Telling.{IsPut};
 
 use crate::lists::FlatLists;
 use crate::numbers::Flat;
@@ -74,6 +75,30 @@ impl<P> FlatShapes<P> {
             && self.contours.ends.len() <= contour_ends.len()
             && self.shape_ends.len() <= shape_ends.len()
     }
+
+    /// Copies the lists to the beginnings of the caller's where all of them fit. `RoomTooSmall`: they do not, and the
+    /// caller's are as they were.
+    pub(crate) fn put_in(
+        &self,
+        points: &mut [P],
+        contour_ends: &mut [usize],
+        shape_ends: &mut [usize],
+    ) -> Outcome
+    where
+        P: Copy,
+        ensures { IsPut DoShapesFit with_shapes (lists_of self.now)
+            (record { points = points.old; contour_ends = contour_ends.old; shape_ends = shape_ends.old })
+            (record { points = points.new; contour_ends = contour_ends.new; shape_ends = shape_ends.new })
+            result }
+    {
+        if !self.fits(points, contour_ends, shape_ends) {
+            return Outcome::RoomTooSmall;
+        }
+        put(&self.contours.all, points);
+        put(&self.contours.ends, contour_ends);
+        put(&self.shape_ends, shape_ends);
+        Outcome::Answered
+    }
 }
 
 /// Copies the shapes to the beginnings of the caller's lists where all of them fit, and tells how many items each has.
@@ -95,11 +120,5 @@ pub fn hand_over_shapes<P: Copy>(
         Err(failure) => return Outcome::of(failure),
     };
     *counts = shapes.counts();
-    if !shapes.fits(points, contour_ends, shape_ends) {
-        return Outcome::RoomTooSmall;
-    }
-    put(&shapes.contours.all, points);
-    put(&shapes.contours.ends, contour_ends);
-    put(&shapes.shape_ends, shape_ends);
-    Outcome::Answered
+    shapes.put_in(points, contour_ends, shape_ends)
 }

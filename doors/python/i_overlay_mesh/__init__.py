@@ -9,7 +9,7 @@ Drawings are brought onto a grid of whole numbers, drawn there exactly by the li
 answers tell the grid. Parts of a drawing are counted from 0.
 """
 
-from .errors import DrawingError, GridRangeError, LibraryMissing
+from .errors import DrawingError, GridRangeError, LibraryMissing, TooManySplits
 from .grid import Grid
 from .library import answer
 from .offsets import buffer, outline, stroke, variable_stroke
@@ -23,6 +23,7 @@ __all__ = [
     "GridRangeError",
     "LibraryMissing",
     "Shapes",
+    "TooManySplits",
     "answer",
     "buffer",
     "outline",

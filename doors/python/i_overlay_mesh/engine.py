@@ -7,7 +7,8 @@ from dataclasses import dataclass
 from fractions import Fraction
 from typing import Any, Callable, NoReturn, Optional, Sequence
 
-from .errors import DrawingError, GridRangeError
+from .arrays import near_shapes
+from .errors import DrawingError, GridRangeError, TooManySplits
 from .grid import MOST, Grid, Place, exponent_above, power_of_two
 from .library import Outcome, reply
 from .exact import Number, nearest_whole, plain, read_number
@@ -17,10 +18,26 @@ from .shapes import Shapes
 
 MOST_COORDINATE = 2**31 - 1
 MOST_AREA = 2**63 - 1
+MOST_SPLITS = 2**64 - 1
 
 
 class OutOfRange(Exception):
     """The library refused a request for its range."""
+
+
+class Limit:
+    """A limit on the splits of each request of a drawing, 0 for none, and the greatest nearness that one of them told.
+
+    Where the answers of several tasks are joined, that is one more step, and the nearness of both steps add up.
+    """
+
+    def __init__(self, most_splits: int) -> None:
+        self.most_splits = most_splits
+        self.nearness = 0
+
+    def tell(self, nearness: int) -> None:
+        """Notes the nearness of an answer beside others, in 64ths of a grid unit."""
+        self.nearness = max(self.nearness, nearness)
 
 
 @dataclass(frozen=True)
@@ -46,9 +63,9 @@ class Task:
         """The request for paths on the grid."""
         return {"op": self.operation, "int": "i32", "out": "shapes", "paths": paths, **words}
 
-    def shapes(self, grid: Grid) -> list:
+    def shapes(self, grid: Grid, limit: Optional[Limit]) -> list:
         """The shapes on the grid."""
-        return ask(self.request(self.words(grid), self.placed(grid)))
+        return ask(self.request(self.words(grid), self.placed(grid)), limit)
 
     def allows(self, grid: Grid, low: Place, high: Place) -> bool:
         """Whether the library's own test of the range accepts points from one corner of a box to the other."""
@@ -58,7 +75,7 @@ class Task:
         if greatest_number(request) > MOST_COORDINATE:
             return False
         try:
-            ask(request)
+            ask(request, None)
         except OutOfRange:
             return False
         return True
@@ -76,23 +93,36 @@ def greatest_number(value: Any) -> int:
 ANGLES = {"round", "miter", "min_turn", "arc"}
 
 
-def ask(request: dict) -> list:
-    """The shapes of the answer to a request that is well formed."""
-    outcome, line = reply(json.dumps(request, separators=(",", ":")).encode())
+def ask(request: dict, limit: Optional[Limit]) -> list:
+    """The shapes of the answer to a request that is well formed, which has a limit or none."""
+    if limit is None:
+        outcome, line = reply(json.dumps(request, separators=(",", ":")).encode())
+    else:
+        outcome, shapes, nearness = near_shapes(request, limit.most_splits)
+        line = None
     if outcome is Outcome.OUT_OF_RANGE:
         raise OutOfRange
     if outcome is Outcome.OUT_OF_MEMORY:
         raise MemoryError("the library ran out of memory")
+    if outcome is Outcome.TOO_MANY_SPLITS:
+        raise TooManySplits("", f"it takes more splits than {limit.most_splits}")
     if outcome is not Outcome.ANSWERED:
-        raise RuntimeError(f"the library cannot read what this package made: {line!r}")
-    return json.loads(line)["shapes"]
+        raise RuntimeError(f"the library cannot read what this package made: {line or request!r}")
+    if line is not None:
+        return json.loads(line)["shapes"]
+    limit.tell(nearness)
+    return shapes
 
 
-def union(parts: Sequence[list]) -> list:
+def union(parts: Sequence[list], limit: Optional[Limit]) -> list:
     """The shapes of all parts together: their contours, moved by nothing."""
     contours = [contour for shapes in parts for shape in shapes for contour in shape]
     style = {"outer": 0, "inner": 0}
-    return ask({"op": "outline", "int": "i32", "out": "shapes", "paths": contours, "style": style})
+    last = limit and Limit(limit.most_splits)
+    shapes = ask({"op": "outline", "int": "i32", "out": "shapes", "paths": contours, "style": style}, last)
+    if limit:
+        limit.nearness += last.nearness
+    return shapes
 
 
 # The grid
@@ -169,39 +199,53 @@ def read_origin(origin: Any) -> Optional[tuple[Fraction, Fraction]]:
 # Drawing
 
 
-def draw(tasks: Sequence[Task], scale: Any, origin: Any) -> Shapes:
-    """The shapes of all tasks together, on one grid."""
-    given_scale, given_origin = read_scale(scale), read_origin(origin)
+def read_most_splits(most_splits: Any) -> Optional[int]:
+    """A limit on splits, if one is given."""
+    if most_splits is None:
+        return None
+    number = read_number("", "most_splits", most_splits)
+    if number != int(number) or not 0 <= number <= MOST_SPLITS:
+        raise DrawingError("", f"most_splits is {most_splits}, and has to be a whole number from 0 to 2^64 - 1")
+    return int(number)
+
+
+def draw(tasks: Sequence[Task], scale: Any, origin: Any, most_splits: Any) -> Shapes:
+    """The shapes of all tasks together, on one grid, and their nearness where a limit on splits is given."""
+    given_scale, given_origin, most = read_scale(scale), read_origin(origin), read_most_splits(most_splits)
     tasks = [task for task in tasks if any(path.points for path in task.paths)]
     box = box_of(tasks)
     if box is None:
         start = given_origin or (Fraction(0), Fraction(0))
-        return Shapes([], Grid(given_scale or Fraction(1), start))
+        return Shapes([], Grid(given_scale or Fraction(1), start), None if most is None else 0)
     if given_scale is not None:
         grid = grid_by(given_scale, given_origin, box)
         if not fits(tasks, grid, box):
             tell_range(tasks, grid, given_origin, box)
-        return drawn_on(tasks, grid, given_origin, box, False)
+        return drawn_on(tasks, grid, given_origin, box, most, False)
     exponent = finest_exponent(tasks, given_origin, box)
     while True:
         grid = grid_by(power_of_two(exponent), given_origin, box)
-        answer = drawn_on(tasks, grid, given_origin, box, True)
+        answer = drawn_on(tasks, grid, given_origin, box, most, True)
         if answer is not None:
             return answer
         exponent -= 1
 
 
-def drawn_on(tasks: Sequence[Task], grid: Grid, origin: Any, box: Box, is_free: bool) -> Optional[Shapes]:
+def drawn_on(
+    tasks: Sequence[Task], grid: Grid, origin: Any, box: Box, most: Optional[int], is_free: bool
+) -> Optional[Shapes]:
     """The answer on a grid; none where the area of a ring is out of range, and the scale is free."""
+    limit = None if most is None else Limit(most)
     try:
-        parts = [task.shapes(grid) for task in tasks]
-        shapes = parts[0] if len(parts) == 1 else union(parts)
+        parts = [task.shapes(grid, limit) for task in tasks]
+        shapes = parts[0] if len(parts) == 1 else union(parts, limit)
     except OutOfRange:
         if is_free:
             return None
         tell_range(tasks, grid, origin, box)
     whole = all(are_whole(task.paths) for task in tasks)
-    return Shapes([[grid.points(ring, whole) for ring in shape] for shape in shapes], grid)
+    polygons = [[grid.points(ring, whole) for ring in shape] for shape in shapes]
+    return Shapes(polygons, grid, None if limit is None else limit.nearness)
 
 
 # What is out of range

@@ -18,5 +18,9 @@ class GridRangeError(DrawingError):
     """What is to be drawn would pass the safe range of the grid, at the scale and the origin that were given."""
 
 
+class TooManySplits(DrawingError):
+    """More splits were made than `most_splits`."""
+
+
 class LibraryMissing(ImportError):
     """The shared object with the proved code was not found."""

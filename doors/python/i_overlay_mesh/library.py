@@ -26,6 +26,7 @@ class Outcome(IntEnum):
     OUT_OF_RANGE = 1
     MALFORMED = 2
     OUT_OF_MEMORY = 3
+    TOO_MANY_SPLITS = 4
     ROOM_TOO_SMALL = 5
 
 

@@ -29,6 +29,7 @@ def outline(
     rings: Optional[str] = None,
     scale: Optional[Number] = None,
     origin: Optional[Sequence[Number]] = None,
+    most_splits: Optional[int] = None,
 ) -> Shapes:
     """The polygons with their boundaries moved, all together.
 
@@ -49,12 +50,16 @@ def outline(
             others. 'sense': those that run clockwise. By default 'first' for geometries, 'nested' for lists.
         scale: grid units for each unit of the input; by default the greatest power of two that is safe.
         origin: the point that lies at (0, 0) on the grid; by default the middle of the input, on the grid.
+        most_splits: how many times edges may be split where they meet, 0 for any number. Where it is given the answer
+            tells its nearness. A few points near one line can take very many splits, so set a limit where drawings come
+            from strangers.
 
     Returns:
         The shapes, with the scale and the origin.
 
     Raises:
-        DrawingError: the input or an argument breaks a rule; GridRangeError where `scale` or `origin` is why.
+        DrawingError: the input or an argument breaks a rule; GridRangeError where `scale` or `origin` is why;
+            TooManySplits where more splits were made than `most_splits`.
         MemoryError: memory was refused.
     """
     drawing = read(polygons, as_polygons=True)
@@ -63,7 +68,7 @@ def outline(
     inner = outer if hole_distance is None else read_number("", "hole_distance", hole_distance)
     arcs = read_arcs(max(abs(outer), abs(inner)), step, tolerance, at_least)
     joins = read_join(join, arcs, miter_limit, min_turn)
-    return draw([outline_task(drawing.polygons, (outer, inner), arcs, joins, rings)], scale, origin)
+    return draw([outline_task(drawing.polygons, (outer, inner), arcs, joins, rings)], scale, origin, most_splits)
 
 
 def stroke(
@@ -83,6 +88,7 @@ def stroke(
     min_turn: float = MIN_TURN,
     scale: Optional[Number] = None,
     origin: Optional[Sequence[Number]] = None,
+    most_splits: Optional[int] = None,
 ) -> Shapes:
     """Lines with a width, all together. A single point has none, and is not drawn.
 
@@ -96,7 +102,8 @@ def stroke(
         side: 'both', 'left' or 'right', seen along a line. Halves are cut off straight at their ends.
         closed: whether lines go on from their last point to their first; by default those do that are rings or end
             where they start.
-        join, step, tolerance, at_least, miter_limit, min_turn, scale, origin: as for `outline`.
+        join, step, tolerance, at_least, miter_limit, min_turn, scale, origin, most_splits: as for
+            `outline`.
 
     Returns, Raises: as `outline`.
     """
@@ -111,7 +118,7 @@ def stroke(
         read_cap("start_cap", cap if start_cap is None else start_cap),
         read_cap("end_cap", cap if end_cap is None else end_cap),
     )
-    return draw(stroke_tasks(paths, full, arcs, words, caps, closed), scale, origin)
+    return draw(stroke_tasks(paths, full, arcs, words, caps, closed), scale, origin, most_splits)
 
 
 def variable_stroke(
@@ -123,6 +130,7 @@ def variable_stroke(
     at_least: bool = False,
     scale: Optional[Number] = None,
     origin: Optional[Sequence[Number]] = None,
+    most_splits: Optional[int] = None,
 ) -> Shapes:
     """Lines whose width changes from vertex to vertex, all together.
 
@@ -132,7 +140,7 @@ def variable_stroke(
     Args:
         lines: as for `stroke`, but open, with vertices (x, y, width).
         widths: where vertices are (x, y), a list of widths for each line, or one list for one line.
-        step, tolerance, at_least, scale, origin: as for `outline`.
+        step, tolerance, at_least, scale, origin, most_splits: as for `outline`.
 
     Returns, Raises: as `outline`.
     """
@@ -143,7 +151,7 @@ def variable_stroke(
         paths = with_widths(paths, widths)
     radius = max((Fraction(width) / 2 for path in paths for _, _, width in path.points), default=Fraction(0))
     arcs = read_arcs(max(radius, 0), step, tolerance, at_least)
-    return draw([variable_task(paths, arcs)], scale, origin)
+    return draw([variable_task(paths, arcs)], scale, origin, most_splits)
 
 
 def buffer(
@@ -159,13 +167,15 @@ def buffer(
     min_turn: float = MIN_TURN,
     scale: Optional[Number] = None,
     origin: Optional[Sequence[Number]] = None,
+    most_splits: Optional[int] = None,
 ) -> Shapes:
     """All that is within a distance of a geometry: outlines of polygons, strokes of lines, circles round points.
 
     Args:
         geometry: a GeoJSON mapping or an object with `__geo_interface__`, or a list of such; lists are polygons.
         distance: how far; below 0 polygons shrink, and lines and points are not drawn.
-        cap, join, step, tolerance, at_least, miter_limit, min_turn, scale, origin: as for `stroke` and `outline`.
+        cap, join, step, tolerance, at_least, miter_limit, min_turn, scale, origin, most_splits: as for `stroke` and
+            `outline`. The limit is one for each of the three, and for joining them.
 
     Returns, Raises: as `outline`.
     """
@@ -183,7 +193,7 @@ def buffer(
         width = 2 * Fraction(radius)
         circles = [Path(path.where, [(x, y, width) for x, y in path.points]) for path in drawing.points]
         tasks.append(variable_task(circles, arcs))
-    return draw(tasks, scale, origin)
+    return draw(tasks, scale, origin, most_splits)
 
 
 # Tasks

@@ -2,8 +2,10 @@
 
 from __future__ import annotations
 
+import math
 from dataclasses import dataclass
-from typing import Any
+from fractions import Fraction
+from typing import Any, Optional
 
 from .grid import Grid
 from .exact import Number, plain
@@ -19,10 +21,25 @@ class Shapes:
         clockwise. A ring is a list of points [x, y] and does not repeat its first point; it may pass through a point
         twice. Coordinates are ints where all that were given were ints and the scale was given as 1; else floats.
     grid: the grid on which it was drawn, as exact fractions.
+    nearness_on_grid: the nearness in 64ths of a grid unit; none where `most_splits` was not given.
     """
 
     polygons: list[list[Points]]
     grid: Grid
+    nearness_on_grid: Optional[int] = None
+
+    @property
+    def nearness(self) -> Optional[float]:
+        """How near to the drawn edges the answer is exact, in the unit of the input; none without `most_splits`.
+
+        At each point that is farther from each drawn edge on the grid the answer is exact, where a distance is the
+        greater one of both coordinates' differences. 0 where rounding on the grid moved nothing.
+        """
+        if self.nearness_on_grid is None:
+            return None
+        exact = Fraction(self.nearness_on_grid, 64) / self.grid.scale
+        nearest = float(exact)
+        return nearest if Fraction(nearest) >= exact else math.nextafter(nearest, math.inf)
 
     @property
     def scale(self) -> Number:

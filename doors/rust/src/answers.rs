@@ -46,6 +46,16 @@ impl<'a, I> Shape<'a, I> {
     }
 }
 
+/// Shapes, and how near to the drawn edges they are exact.
+#[derive(Clone, Debug, PartialEq, Eq)]
+pub struct NearShapes<I> {
+    /// The shapes.
+    pub shapes: Shapes<I>,
+    /// The distance, in 64ths of a grid unit, rounded up: the shapes are exact at each point that is farther from each
+    /// drawn edge, where distance is the greater one of both coordinates' differences. 0 where rounding moved nothing.
+    pub nearness: u64,
+}
+
 /// Edges, path by path, end to end in a list.
 #[derive(Clone, Debug, PartialEq, Eq)]
 pub struct Edges<I> {

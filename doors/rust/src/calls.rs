@@ -141,6 +141,25 @@ calls! {
         shape_points: *mut [I; 2], shape_point_room: usize, contour_ends: *mut usize, contour_room: usize,
         shape_ends: *mut usize, shape_room: usize, counts: *mut ShapeCounts,
     );
+    outline_near: mesh_outline_near_i32, mesh_outline_near_i16, (
+        points: *const [I; 2], point_count: usize, ends: *const usize, end_count: usize,
+        style: *const RawOutlineStyle, options: *const RawOptions, most_splits: u64,
+        shape_points: *mut [I; 2], shape_point_room: usize, contour_ends: *mut usize, contour_room: usize,
+        shape_ends: *mut usize, shape_room: usize, counts: *mut ShapeCounts, nearness: *mut u64,
+    );
+    stroke_near: mesh_stroke_near_i32, mesh_stroke_near_i16, (
+        points: *const [I; 2], point_count: usize, ends: *const usize, end_count: usize,
+        style: *const RawStrokeStyle, start_points: *const [I; 2], start_point_count: usize,
+        end_points: *const [I; 2], end_point_count: usize, options: *const RawOptions, most_splits: u64,
+        shape_points: *mut [I; 2], shape_point_room: usize, contour_ends: *mut usize, contour_room: usize,
+        shape_ends: *mut usize, shape_room: usize, counts: *mut ShapeCounts, nearness: *mut u64,
+    );
+    variable_stroke_near: mesh_variable_stroke_near_i32, mesh_variable_stroke_near_i16, (
+        vertices: *const [I; 3], vertex_count: usize, ends: *const usize, end_count: usize,
+        arc: *const Arc, options: *const RawOptions, most_splits: u64,
+        shape_points: *mut [I; 2], shape_point_room: usize, contour_ends: *mut usize, contour_room: usize,
+        shape_ends: *mut usize, shape_room: usize, counts: *mut ShapeCounts, nearness: *mut u64,
+    );
     outline_edges: mesh_outline_edges_i32, mesh_outline_edges_i16, (
         points: *const [I; 2], point_count: usize, ends: *const usize, end_count: usize,
         style: *const RawOutlineStyle,

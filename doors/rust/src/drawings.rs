@@ -1,9 +1,10 @@
 //! Drawings: outlines, strokes, and strokes of variable width.
 
-use crate::answers::{told_edges, told_shapes, Edges, Shapes};
+use crate::answers::{told_edges, told_shapes, Edges, NearShapes, Shapes};
 use crate::calls::{Coordinate, EdgeCounts, ShapeCounts};
 use crate::error::{ended, Error};
 use crate::style::{Arc, Options, OutlineStyle, StrokeStyle};
+use std::cell::Cell;
 
 /// Whether a drawing stays in range.
 #[derive(Clone, Copy, Debug, PartialEq, Eq)]
@@ -108,6 +109,70 @@ pub fn variable_stroke<I: Coordinate, P: AsRef<[[I; 3]]>>(
             to.shape_ends.as_mut_ptr(), to.shape_ends.len(), counts,
         )
     })
+}
+
+/// The shapes of the outline of contours, and how near they are exact. More splits than the limit, if it is not 0, are an
+/// error.
+pub fn outline_near<I: Coordinate, P: AsRef<[[I; 2]]>>(
+    contours: &[P],
+    style: &OutlineStyle,
+    options: &Options,
+    most_splits: u64,
+) -> Result<NearShapes<I>, Error> {
+    let flat = Flat::of(contours)?;
+    let (style, options) = (style.raw(), options.raw());
+    let nearness = Cell::new(0);
+    let shapes = told_shapes(flat.shape_room(), |to, counts| unsafe {
+        (I::CALLS.outline_near)(
+            flat.items.as_ptr(), flat.items.len(), flat.ends.as_ptr(), flat.ends.len(), &style, &options, most_splits,
+            to.points.as_mut_ptr(), to.points.len(), to.contour_ends.as_mut_ptr(), to.contour_ends.len(),
+            to.shape_ends.as_mut_ptr(), to.shape_ends.len(), counts, nearness.as_ptr(),
+        )
+    })?;
+    Ok(NearShapes { shapes, nearness: nearness.get() })
+}
+
+/// The shapes of the stroke of paths, and how near they are exact, within a limit on splits, if it is not 0.
+pub fn stroke_near<I: Coordinate, P: AsRef<[[I; 2]]>>(
+    paths: &[P],
+    style: &StrokeStyle<I>,
+    options: &Options,
+    most_splits: u64,
+) -> Result<NearShapes<I>, Error> {
+    let flat = Flat::of(paths)?;
+    let (start, end) = (style.start_cap.points(), style.end_cap.points());
+    let (style, options) = (style.raw(), options.raw());
+    let nearness = Cell::new(0);
+    let shapes = told_shapes(flat.shape_room(), |to, counts| unsafe {
+        (I::CALLS.stroke_near)(
+            flat.items.as_ptr(), flat.items.len(), flat.ends.as_ptr(), flat.ends.len(), &style,
+            start.as_ptr(), start.len(), end.as_ptr(), end.len(), &options, most_splits,
+            to.points.as_mut_ptr(), to.points.len(), to.contour_ends.as_mut_ptr(), to.contour_ends.len(),
+            to.shape_ends.as_mut_ptr(), to.shape_ends.len(), counts, nearness.as_ptr(),
+        )
+    })?;
+    Ok(NearShapes { shapes, nearness: nearness.get() })
+}
+
+/// The shapes of the stroke of paths of vertices `[x, y, width]`, and how near they are exact, within a limit on splits,
+/// if it is not 0.
+pub fn variable_stroke_near<I: Coordinate, P: AsRef<[[I; 3]]>>(
+    paths: &[P],
+    arc: &Arc,
+    options: &Options,
+    most_splits: u64,
+) -> Result<NearShapes<I>, Error> {
+    let flat = Flat::of(paths)?;
+    let options = options.raw();
+    let nearness = Cell::new(0);
+    let shapes = told_shapes(flat.shape_room(), |to, counts| unsafe {
+        (I::CALLS.variable_stroke_near)(
+            flat.items.as_ptr(), flat.items.len(), flat.ends.as_ptr(), flat.ends.len(), arc, &options, most_splits,
+            to.points.as_mut_ptr(), to.points.len(), to.contour_ends.as_mut_ptr(), to.contour_ends.len(),
+            to.shape_ends.as_mut_ptr(), to.shape_ends.len(), counts, nearness.as_ptr(),
+        )
+    })?;
+    Ok(NearShapes { shapes, nearness: nearness.get() })
 }
 
 /// The edges of the outline of each contour.

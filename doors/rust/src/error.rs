@@ -13,6 +13,8 @@ pub enum Error {
     Malformed,
     /// Memory was refused.
     OutOfMemory,
+    /// More splits were made than the limit that was given.
+    TooManySplits,
 }
 
 impl fmt::Display for Error {
@@ -21,6 +23,7 @@ impl fmt::Display for Error {
             Error::OutOfRange => "what is to be drawn would pass the safe range",
             Error::Malformed => "what was given is nothing that the call serves",
             Error::OutOfMemory => "memory was refused",
+            Error::TooManySplits => "more splits were made than the limit",
         })
     }
 }
@@ -39,6 +42,7 @@ pub(crate) fn ended(outcome: Outcome) -> Result<(), Error> {
         1 => Err(Error::OutOfRange),
         2 => Err(Error::Malformed),
         3 => Err(Error::OutOfMemory),
+        4 => Err(Error::TooManySplits),
         _ => unreachable!("the library has no outcome {outcome} here"),
     }
 }

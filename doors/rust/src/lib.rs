@@ -25,11 +25,11 @@ mod error;
 mod requests;
 mod style;
 
-pub use answers::{Edges, Shape, Shapes};
+pub use answers::{Edges, NearShapes, Shape, Shapes};
 pub use calls::Coordinate;
 pub use drawings::{
-    outline, outline_edges, stroke, stroke_edges, validate_outline, validate_stroke, validate_variable_stroke,
-    variable_stroke, variable_stroke_edges, Range,
+    outline, outline_edges, outline_near, stroke, stroke_edges, stroke_near, validate_outline, validate_stroke,
+    validate_variable_stroke, variable_stroke, variable_stroke_edges, variable_stroke_near, Range,
 };
 pub use error::Error;
 pub use requests::{answer, why, Answer};

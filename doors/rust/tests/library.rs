@@ -107,6 +107,27 @@ fn an_answer_that_is_longer_than_the_first_room() {
 }
 
 #[test]
+fn nearness_is_told_and_a_limit_kept() {
+    let (style, options) = (OutlineStyle::new(50), Options::default());
+    let near = outline_near(&[STAR], &style, &options, 0).unwrap();
+    assert_eq!(near.shapes, outline(&[STAR], &style, &options).unwrap());
+    assert!(0 < near.nearness && near.nearness < 64 * 3);
+    assert_eq!(outline_near(&[STAR], &style, &options, 1_000_000), Ok(near));
+    assert_eq!(outline_near(&[STAR], &style, &options, 1), Err(Error::TooManySplits));
+    let square = [[[0_i16, 0], [9, 0], [9, 9], [0, 9]]];
+    assert_eq!(outline_near(&square, &OutlineStyle::new(0), &options, 1).unwrap().nearness, 0);
+
+    let style = StrokeStyle { closed: true, ..StrokeStyle::new(40) };
+    let near = stroke_near(&[STAR], &style, &options, 0).unwrap();
+    assert_eq!(near.shapes, stroke(&[STAR], &style, &options).unwrap());
+    assert_eq!(stroke_near(&[STAR], &style, &options, 1), Err(Error::TooManySplits));
+    let paths = [[[0, 0, 40], [900, 50, 300], [-20, 700, 9]]];
+    let near = variable_stroke_near(&paths, &ARC, &options, 0).unwrap();
+    assert_eq!(near.shapes, variable_stroke(&paths, &ARC, &options).unwrap());
+    assert_eq!(variable_stroke_near(&paths, &ARC, &options, 1), Err(Error::TooManySplits));
+}
+
+#[test]
 fn what_has_no_answer_is_told() {
     let nothing: [[[i32; 2]; 0]; 0] = [];
     let style = OutlineStyle::new(10);

@@ -1,0 +1,19 @@
+-- The drawing is read and drawn, or the failure is handed on.
+use Rattle.mesh_request.specs.Requests.{Drawn}
+use Rattle.mesh_flat.specs.Drawings.{IsOutlineOf}
+use Rattle.mesh_flat.specs.Styles.{choices_in}
+use Rattle.mesh_flat.proofs.NearAnswers.{near_asked, near_reading_failed}
+use Rattle.mesh_flat.proofs.near.outline_near.Goals as goal
+
+pub returns-in_err-drawing : goal.returns-in_err-drawing
+returns-in_err-drawing g c =
+    let asks : Drawn → Type 0 = IsOutlineOf g.I.IntNumber.unit g.P.Flat.item_of c.args.points.now c.args.ends.now c.args.style.now in
+    let choices = choices_in g.I.IntNumber.unit c.args.options.now in
+    near_reading_failed g.I.IntNumber.unit g.P.Flat.item_of asks choices c.args.most_splits
+    c.from_residual.result _ c.from_residual.ensures.1 c.in_err-drawing.ensures.0 c.in_err-drawing.ensures.1
+
+pub returns : goal.returns
+returns g c =
+    let asks : Drawn → Type 0 = IsOutlineOf g.I.IntNumber.unit g.P.Flat.item_of c.args.points.now c.args.ends.now c.args.style.now in
+    let choices = choices_in g.I.IntNumber.unit c.args.options.now in
+    near_asked g.I.IntNumber.unit g.P.Flat.item_of asks _ choices c.args.most_splits c.near.result c.in_ok-drawing.ensures c.near.ensures

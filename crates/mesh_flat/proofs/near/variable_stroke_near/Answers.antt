@@ -1,0 +1,19 @@
+-- The drawing is read and drawn, or the failure is handed on.
+use Rattle.mesh_request.specs.Requests.{Drawn}
+use Rattle.mesh_flat.specs.Drawings.{IsVariableStrokeOf}
+use Rattle.mesh_flat.specs.Styles.{choices_in}
+use Rattle.mesh_flat.proofs.NearAnswers.{near_asked, near_reading_failed}
+use Rattle.mesh_flat.proofs.near.variable_stroke_near.Goals as goal
+
+pub returns-in_err-drawing : goal.returns-in_err-drawing
+returns-in_err-drawing g c =
+    let asks : Drawn → Type 0 = IsVariableStrokeOf g.V.Flat.item_of c.args.vertices.now c.args.ends.now c.args.arc.now in
+    let choices = choices_in g.I.IntNumber.unit c.args.options.now in
+    near_reading_failed g.I.IntNumber.unit g.P.Flat.item_of asks choices c.args.most_splits
+    c.from_residual.result _ c.from_residual.ensures.1 c.in_err-drawing.ensures.0 c.in_err-drawing.ensures.1
+
+pub returns : goal.returns
+returns g c =
+    let asks : Drawn → Type 0 = IsVariableStrokeOf g.V.Flat.item_of c.args.vertices.now c.args.ends.now c.args.arc.now in
+    let choices = choices_in g.I.IntNumber.unit c.args.options.now in
+    near_asked g.I.IntNumber.unit g.P.Flat.item_of asks _ choices c.args.most_splits c.near.result c.in_ok-drawing.ensures c.near.ensures

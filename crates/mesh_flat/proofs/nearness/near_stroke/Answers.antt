@@ -1,0 +1,24 @@
+-- What may be stroked is safe, and its splits are counted from none on.
+use Rattle.std.proofs.Common.{refl}
+use Rattle.std.proofs.lemmas.Bool.{false≢true}
+use Rattle.mesh_flat.proofs.NearAnswers.{counted_up, never_past, within_up}
+use Rattle.mesh_flat.proofs.nearness.near_stroke.Goals as goal
+
+pub returns-in_err-validate_stroke-clause-refused : goal.returns-in_err-validate_stroke-clause-refused
+returns-in_err-validate_stroke-clause-refused g c = λ _ accepted. false≢true (c.in_err-validate_stroke.ensures.safe.1 accepted.safe)
+
+pub returns-in_err-validate_stroke-clause-past : goal.returns-in_err-validate_stroke-clause-past
+returns-in_err-validate_stroke-clause-past g c = λ e. absurd (never_past c.from_residual.result _ c.from_residual.ensures.1 e)
+
+pub returns-clause-refused : goal.returns-clause-refused
+returns-clause-refused g c = λ e. absurd (c.stroke_with_nearness.ensures.in_range e)
+
+pub returns-clause-within : goal.returns-clause-within
+returns-clause-within g c =
+    within_up c.stroke_with_nearness.result _ c.args.most_splits _ c.new-count.result c.stroke_with_nearness.new.count
+    c.new-count.ensures c.stroke_with_nearness.ensures.counted c.stroke_with_nearness.ensures.within
+
+pub returns-clause-past : goal.returns-clause-past
+returns-clause-past g c = λ e.
+    counted_up _ c.args.most_splits _ c.new-count.result c.stroke_with_nearness.new.count
+    c.new-count.ensures c.stroke_with_nearness.ensures.counted (c.stroke_with_nearness.ensures.refused e)
