@@ -1,0 +1,5 @@
+pub mod Endings
+pub mod Held
+pub mod Lines
+pub mod Private
+pub mod Replies

@@ -1,0 +1,31 @@
+-- The steps of reading a line, and of replying to it.
+use Rattle.std.specs.Prelude.{ℕ, ◌≡◌, ◌≢◌, List, [], ◌∷◌, ◌++◌, All, Option, OnSome, Result, Ok, Err, string_bytes}
+use Rattle.std.specs.Io.KnownBytes.{Consumes, IsAtEnd}
+use Rattle.std.specs.declared.alloc.Global.{Global}
+use Rattle.std.specs.declared.string.String.{String}
+use Rattle.mesh_request.specs.Failures.{failure_line}
+use Rattle.mesh_request.specs.declared.failure.Failure.{Failure}
+use Rattle.mesh_line_service.specs.Held.{Holds}
+use Rattle.mesh_line_service.specs.declared.line.Held.{Held}
+use Rattle.mesh_line_service.specs.declared.line.Met.{Met}
+use Rattle.mesh_line_service.specs.declared.line.Met.TheVariants.{More, LineFeed, End}
+
+-- the line feed, where it was met
+abbrev pub line_feed : Met → List ℕ
+line_feed More = []
+line_feed LineFeed = 10 ∷ []
+line_feed End = []
+
+-- a part of a line was taken, and its line feed where it was met; what was held of the line before it is held with it
+pub record Takes (longest : Option ℕ) (old new : Option (List ℕ))
+    (bytes : List ℕ) (held : Held) (more_bytes : List ℕ) (more_held : Held) (met : Met) : Type 0 where
+  pub part : List ℕ
+  pub plain : All (λ byte. byte ≢ 10) part
+  pub holds : (line : List ℕ) → Holds longest line bytes held → Holds longest (line ++ part) more_bytes more_held
+  pub taken : Consumes old new (part ++ line_feed met)
+  pub end : met ≡ End → (part ≡ []) × OnSome old (IsAtEnd new)
+
+-- the text of a reply, or the line of the failure in its place
+abbrev pub reply_text : Result (String Global) Failure → List ℕ
+reply_text (Ok text) = string_bytes text
+reply_text (Err failure) = failure_line failure
