@@ -1,10 +1,12 @@
 #!/usr/bin/env python3
 """Prints a request of `mesh_run` for the outline of contours with about N vertices in all, the same in each run.
 
-    bench/families.py FAMILY N [--offset small|large] [--seed S] [--out shapes|edges] > request.json
+    bench/families.py FAMILY N [--offset small|large] [--stroke] [--seed S] [--out shapes|edges] > request.json
 
 The drawings of a family look alike for every N: they fill the same box with ever finer detail, and offsets are
 measured by that detail. So the number of crossings a vertex stays about the same, but for `walk` and `hatch`.
+
+With --stroke the contours are drawn as closed strokes; `pens` and `wide walk` are strokes alone, many steps wide.
 """
 import argparse
 import json
@@ -31,6 +33,12 @@ GREATEST_OFFSET = 2**29
 """No offset is greater, in grid units, so that drawings of few vertices stay in the safe range too."""
 
 LEAST_CONTOUR = 3
+
+PEN_STEPS = 30
+"""How many steps along a curve the width of a pen is."""
+
+WALK_STEPS = 16
+"""How many of the longest steps of a walk its width is, where that is wide."""
 
 
 class Drawing(NamedTuple):
@@ -145,6 +153,22 @@ def squares(count, noise):
     return Drawing(contours, pitch / 16)
 
 
+def pens(count, noise):
+    """Four closed curves that cross themselves, as glyphs of a script do. Its spacing is their mean step."""
+    contours = []
+    for _ in range(4):
+        waves = [(number, noise.uniform(0.2, 1) / number, noise.uniform(0, 1), noise.uniform(0, 1)) for number in (1, 2, 3)]
+        points = []
+        for index in range(max(LEAST_CONTOUR, count // 4)):
+            turn = 4 * index / count
+            x = sum(size * math.cos(2 * math.pi * (number * turn + first)) for number, size, first, _ in waves)
+            y = sum(size * math.sin(2 * math.pi * (number * turn + second)) for number, size, _, second in waves)
+            points.append((RADIUS / 2 * x, RADIUS / 2 * y))
+        contours.append(points)
+    steps = [math.dist(points[index - 1], points[index]) for points in contours for index in range(len(points))]
+    return Drawing(contours, sum(steps) / len(steps))
+
+
 FAMILIES = {
     "coast": coast,
     "comb": comb,
@@ -155,6 +179,16 @@ FAMILIES = {
     "squares with holes": squares,
     "star": star,
 }
+
+STROKES = {
+    "coast": (coast, 1),
+    "rough circle": (rough_circle, 1),
+    "squares with holes": (squares, 1),
+    "walk": (walk, 1),
+    "wide walk": (walk, 12 * WALK_STEPS),
+    "pens": (pens, PEN_STEPS),
+}
+"""Drawings that are stroked along closed paths, and their widths as parts of the spacing."""
 
 
 def polar(radius, turn):
@@ -190,15 +224,31 @@ def request(family, count, offset="small", seed=1, out="shapes"):
     return {"op": "outline", "int": "i32", "out": out, "paths": paths, "style": style}
 
 
+def stroke_request(family, count, seed=1, out="shapes"):
+    """The request for the strokes along a drawing, as an object."""
+    draw, width = STROKES[family]
+    drawing = draw(max(LEAST_CONTOUR, count), random.Random(f"{family} {count} {seed}"))
+    paths = [[[round(x), round(y)] for x, y in contour] for contour in drawing.contours]
+    style = {"width": min(max(2, 2 * round(width * drawing.spacing / 2)), GREATEST_OFFSET)}
+    return {"op": "stroke", "int": "i32", "out": out, "closed": True, "paths": paths, "style": style}
+
+
 def main():
     parser = argparse.ArgumentParser(description="Prints a request for the outline of contours of a family.")
-    parser.add_argument("family", choices=FAMILIES, metavar="FAMILY", help=", ".join(FAMILIES))
+    names = dict.fromkeys([*FAMILIES, *STROKES])
+    parser.add_argument("family", choices=names, metavar="FAMILY", help=", ".join(names))
     parser.add_argument("count", type=int, metavar="N", help="about how many vertices there are in all")
     parser.add_argument("--offset", choices=OFFSETS, default="small")
+    parser.add_argument("--stroke", action="store_true", help="along the contours, in place of their outline")
     parser.add_argument("--seed", default="1")
     parser.add_argument("--out", choices=["shapes", "edges"], default="shapes")
     words = parser.parse_args()
-    asked = request(words.family, words.count, words.offset, words.seed, words.out)
+    if words.family not in (STROKES if words.stroke else FAMILIES):
+        parser.error(f"no {'stroke' if words.stroke else 'outline'} of this family")
+    if words.stroke:
+        asked = stroke_request(words.family, words.count, words.seed, words.out)
+    else:
+        asked = request(words.family, words.count, words.offset, words.seed, words.out)
     print(json.dumps(asked, separators=(",", ":")))
 
 

@@ -1,0 +1,183 @@
+#!/usr/bin/env python3
+"""Times outlines and strokes beside Clipper, Boost.Polygon and GEOS, prints a table of ratios, and draws them.
+
+    bench/peers/ratios.py [PROGRAM] [--most N] [--seconds S] [--limit SECONDS] > table.md
+
+PROGRAM is `mesh_bench`, which `rt run` makes in crates/mesh_bench. The libraries beside it are Debian's
+(libpolyclipping-dev, libboost-dev, libgeos-dev), driven by peers.cpp. Each answers the same drawing in one process,
+without reading and writing, in turn; the least time counts. A ratio is our time over the better one of Clipper and
+Boost.Polygon, which are exact as ours is; GEOS computes in floating point and simplifies a drawing first, so its time
+stands beside. The picture is docs/peers.svg.
+"""
+import argparse
+import json
+import math
+import pathlib
+import shutil
+import subprocess
+import sys
+import tempfile
+from typing import NamedTuple
+
+HERE = pathlib.Path(__file__).resolve().parent
+
+ROOT = HERE.parent.parent
+
+sys.path.insert(0, str(HERE.parent))
+
+from families import FAMILIES, OFFSETS, STROKES  # noqa: E402
+from families import request as family_request  # noqa: E402
+from families import stroke_request  # noqa: E402
+from in_process import TooLong, seconds_each  # noqa: E402
+from program import add_program, seconds_above_zero, tell  # noqa: E402
+from ratio_picture import drawing  # noqa: E402
+
+PROGRAM = ROOT / "crates/mesh_bench/out/mesh_bench"
+
+PICTURE = ROOT / "docs/peers.svg"
+
+SIZES = [10, 100, 1000, 10_000, 100_000]
+
+STYLED_SIZE = 10_000
+"""For how many vertices joins other than bevels, and strokes, are measured."""
+
+EXACT = ["clipper", "boost"]
+
+PEERS = [*EXACT, "geos"]
+
+JOINS = {"bevel": "bevel", "miter": {"miter": 2**30}, "round": {"round": [2**29, 5]}}
+"""Joins by the name that peers.cpp has for them: miters to half a turn less a quarter, round ones of 45 degrees."""
+
+
+class Row(NamedTuple):
+    """A request, and the seconds of each that answered it."""
+
+    name: str
+    count: int
+    ours: float
+    peers: dict
+
+    def ratio(self):
+        """Our time over the best exact one; nothing where one side has none."""
+        best = min((self.peers[name] for name in EXACT if name in self.peers), default=math.inf)
+        return self.ours / best if math.isfinite(best) and math.isfinite(self.ours) else None
+
+
+def build(folder):
+    """Builds the driver of the libraries beside ours."""
+    compiler = shutil.which("g++") or shutil.which("clang++")
+    if compiler is None:
+        sys.exit("a C++ compiler is needed")
+    driver = pathlib.Path(folder) / "peers"
+    words = [compiler, "-std=c++17", "-O2", "-o", str(driver), str(HERE / "peers.cpp"), "-lpolyclipping", "-lgeos_c"]
+    if subprocess.run(words, check=False).returncode != 0:
+        sys.exit("apt-get install libpolyclipping-dev libboost-dev libgeos-dev gives what is missing")
+    return driver
+
+
+def words_of(request, join):
+    """The drawing of a request as peers.cpp reads it."""
+    style = request["style"]
+    if request["op"] == "outline":
+        kind, offset = "outline", style["outer"]
+    else:
+        kind, offset = "closed" if request.get("closed") else "open", style["width"] / 2
+    lines = [f"{kind} {join} {offset} {len(request['paths'])}"]
+    for path in request["paths"]:
+        lines.append(f"{len(path)} " + " ".join(f"{x} {y}" for x, y in path))
+    return "\n".join(lines)
+
+
+def peer_seconds(driver, peer, words, seconds, limit):
+    """The least seconds of a library beside ours; nothing where it draws no such thing, or not in the limit."""
+    command = [str(driver), peer, str(seconds)]
+    try:
+        done = subprocess.run(command, input=words, capture_output=True, text=True, timeout=limit, check=False)
+    except subprocess.TimeoutExpired:
+        return None
+    return float(done.stdout.split()[0]) if done.returncode == 0 else None
+
+
+def measure(words, driver, name, count, request, join):
+    """The times of one request, each library in turn."""
+    asked = {**request, "style": {**request["style"], "join": JOINS[join]}}
+    text = json.dumps(asked, separators=(",", ":")).encode()
+    drawn = words_of(request, join)
+    peers = {}
+    for peer in PEERS:
+        seconds = peer_seconds(driver, peer, drawn, words.seconds, words.limit)
+        if seconds is not None:
+            peers[peer] = seconds
+    try:
+        ours = seconds_each(words.program, text, words.seconds)
+    except TooLong:
+        ours = math.inf
+    row = Row(name, count, ours, peers)
+    ratio = row.ratio()
+    tell(f"{name}, {count}: {ours:.3g} s, {'no ratio' if ratio is None else f'{ratio:.2f}'}; {peers}")
+    return row
+
+
+def figure(value, unit=1):
+    """A number in three digits."""
+    if value is None or not math.isfinite(value):
+        return "-"
+    value *= unit
+    return f"{value:.{max(0, 2 - math.floor(math.log10(value)))}f}" if value > 0 else "0"
+
+
+def print_rows(rows):
+    """A table of times in milliseconds, and ratios."""
+    heads = ["drawing", "vertices", "ours, ms", *[f"{peer}, ms" for peer in PEERS], "ratio"]
+    print(f"| {' | '.join(heads)} |\n|{'---|' * len(heads)}")
+    for row in rows:
+        times = [figure(row.peers.get(peer), 1000) for peer in PEERS]
+        print(f"| {' | '.join([row.name, str(row.count), figure(row.ours, 1000), *times, figure(row.ratio())])} |")
+
+
+def print_ratios(rows, sizes):
+    """A table of ratios alone, a line a family and offset."""
+    print(f"| bevels | {' | '.join(f'{count:,}' for count in sizes)} |\n|{'---|' * (1 + len(sizes))}")
+    for name in dict.fromkeys(row.name for row in rows):
+        found = {row.count: row.ratio() for row in rows if row.name == name}
+        print(f"| {name} | {' | '.join(figure(found.get(count)) for count in sizes)} |")
+    print()
+
+
+def main():
+    parser = argparse.ArgumentParser(description="Times outlines and strokes beside other libraries.")
+    add_program(parser)
+    parser.set_defaults(program=[str(PROGRAM)])
+    parser.add_argument("--most", type=int, default=100_000, metavar="N", help="no drawing has more vertices")
+    parser.add_argument("--seconds", type=seconds_above_zero, default=0.2, help="about how long each is repeated")
+    parser.add_argument("--limit", type=seconds_above_zero, default=60, metavar="SECONDS", help="of one process")
+    words = parser.parse_args()
+    sizes = [count for count in SIZES if count <= words.most] or SIZES[:1]
+    with tempfile.TemporaryDirectory() as folder:
+        driver = build(folder)
+        bevels = [
+            measure(words, driver, f"{family}, {offset} offset", count, family_request(family, count, offset), "bevel")
+            for family in FAMILIES
+            for offset in OFFSETS
+            for count in sizes
+        ]
+        size = min(STYLED_SIZE, words.most)
+        styled = [
+            measure(words, driver, f"{family}, {offset} offset, {join}", size, request, join)
+            for family in FAMILIES
+            for offset in OFFSETS
+            for join in ["miter", "round"]
+            for request in [family_request(family, size, offset)]
+        ]
+        strokes = [
+            measure(words, driver, f"{family}, stroke", size, stroke_request(family, size), "bevel")
+            for family in STROKES
+        ]
+    print_ratios(bevels, sizes)
+    print_rows([*bevels, *styled, *strokes])
+    lines = {name: {row.count: row.ratio() for row in bevels if row.name == name} for name in [row.name for row in bevels]}
+    PICTURE.write_text(drawing(lines, sizes), encoding="utf-8")
+
+
+if __name__ == "__main__":
+    main()
