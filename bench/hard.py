@@ -70,11 +70,15 @@ def four_points(size):
 MEASURE = ("four points, n = 673", "1,999 cuts in every order", four_points(673))
 
 
+def request(contour):
+    """The request for the outline of a contour, with the offset 0, as an object."""
+    style = {"outer": 0, "inner": 0, "join": "bevel"}
+    return {"op": "outline", "int": "i32", "out": "shapes", "paths": [contour], "style": style}
+
+
 def best_run(command, contour, limit):
     """The fastest of the runs on the outline of a contour, or the first that gave no answer."""
-    style = {"outer": 0, "inner": 0, "join": "bevel"}
-    words = {"op": "outline", "int": "i32", "out": "shapes", "paths": [contour], "style": style}
-    text = json.dumps(words).encode()
+    text = json.dumps(request(contour)).encode()
     best = None
     for _ in range(TIMES):
         done = run(command, text, limit)

@@ -3,8 +3,9 @@
 
     bench/told.py [PROGRAM] [--bench COMMAND] [--count N] [--random COUNT] [--limit SECONDS] > table.md
 
-Over the families, the examples and requests at random, of `i32`. The nearness is what `mesh_bench 0 nearness` tells;
-both distances are the greater of both coordinates' differences, in grid units.
+Over the families, the examples, contours that are hard to split (both ways round) and requests at random, of `i32`. The
+nearness is what `mesh_bench 0 nearness` tells; both distances are the greater of both coordinates' differences, in grid
+units.
 """
 import argparse
 import json
@@ -15,6 +16,8 @@ import shlex
 import random_requests
 from families import FAMILIES, OFFSETS
 from families import request as family_request
+from hard import CONTOURS
+from hard import request as hard_request
 from program import add_program, run, seconds_above_zero, tell
 
 ROOT = pathlib.Path(__file__).resolve().parent.parent
@@ -62,6 +65,8 @@ def requests(count, most, seed):
             yield f"{family}, {offset} offset", [family_request(family, count, offset)]
     files = sorted((ROOT / "examples").glob("*.json"))
     yield "examples", [json.loads(file.read_text(encoding="utf-8")) for file in files]
+    for name, _, contour in CONTOURS:
+        yield name, [hard_request(contour), hard_request(contour[::-1])]
     yield "at random", [random_requests.request(number, seed) for number in range(most)]
 
 
