@@ -41,7 +41,7 @@ forward_back e =
     both e n = ap (λ (b : Bool). cond b (back e) e) n
 
 -- forward, an edge is itself or the edge back
-itself : (e : Edge) → same_ends (forward e) e ≡ true
+pub itself : (e : Edge) → same_ends (forward e) e ≡ true
 itself e = by (point_lt e.0 e.1)
   where
     by : (b : Bool) → same_ends (cond b e (back e)) e ≡ true

@@ -1,3 +1,4 @@
+pub mod Among
 pub mod Apart
 pub mod Cells
 pub mod Clean

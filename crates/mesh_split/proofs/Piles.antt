@@ -1,10 +1,8 @@
 -- Lemmas over lists: segments that wait and live, as they are made live, split, and made to wait again.
-use Rattle.std.proofs.Common.{◌≡◌, ⊎_elim, ◌<◌, true, false, sym, ◌∙◌, ap, subst, arith, List, [], length}
+use Rattle.std.proofs.Common.{◌≡◌, ⊎_elim, true, false, sym, ◌∙◌, ap, subst, arith, List, []}
 use Rattle.std.specs.Prelude.{pos, ◌<ℤ◌}
 use Rattle.std.proofs.lemmas.Bool.{cases_Bool}
-use Rattle.std.proofs.lemmas.Int.{ints}
 use Rattle.mesh_plane.specs.Plane.{Point, Edge}
-use Rattle.mesh_plane.proofs.Sums.{sum_of_ones}
 use Rattle.mesh_plane.proofs.Whole.{linear}
 use Rattle.mesh_lattice.specs.Counted.{Counted, bit, times}
 use Rattle.mesh_lattice.specs.Split.{same_edge, same_ends, occurs, EdgeSplit, after, Meets}
@@ -98,8 +96,3 @@ other_lives live live' k e f c taken same m h =
     absurd (clear_self e c (subst (λ (x : Edge). Meets e x c) one m)))
     (λ (n : same_edge f k.0 ≡ false). omega (arith, linear, ap bit n, taken (λ (j : Counted). bit (same_edge f j.0))))
     (cases_Bool (same_edge f k.0))
-
--- ---- fewer wait
-
-pub fewer_wait : (old todo : List Counted) (k : Counted) → IsTaken old todo k → length todo < length old
-fewer_wait old todo k e = omega (arith, ints, e (λ (j : Counted). pos 1), sum_of_ones old, sum_of_ones todo)

@@ -6,22 +6,24 @@ ghost use Rattle.std.specs.Prelude.{◌≡◌, pos, ◌<ℤ◌, IfErr, IfOk, IfS
 ghost use Rattle.mesh_lattice.specs.Clean.{IsProper};
 ghost use Rattle.mesh_lattice.specs.Split.{Meets};
 ghost use Rattle.mesh_split.specs.Counting.{CountsSplits, IsReason};
-ghost use Rattle.mesh_split.specs.Private.Steps.{AllClear, IsPile, KeepsPile, StandOnce, exactly};
+ghost use Rattle.mesh_split.specs.Private.Steps.{AllClear, AreAmong, IsPile, KeepsPile, StandOnce, exactly};
 
 use crate::count::{SplitCount, SplitError};
 use crate::hints::{Hints, Meeting};
 use crate::leash::Leash;
+use crate::split_log::SplitLog;
 use crate::steps::Splitter;
 use crate::store::Store;
-use mesh_lattice::exact::{is_before, meeting};
-use mesh_lattice::lattice::{LatticeEdge, LatticePoint};
+use crate::witnesses::forward;
+use mesh_lattice::exact::meeting;
+use mesh_lattice::lattice::LatticeEdge;
 use std::alloc::{AllocError, Global};
 
-/// How often another order is drawn, at most.
+/// How often all is begun anew, at most.
 const DRAWS: usize = 12;
 
-/// How many splits may have been made anew, about, where another order is drawn: crowded drawings take many.
-const MOST_SPLITS_ANEW: usize = 1_200_000;
+/// How often the noted edges are split by themselves, at most, before all are.
+const REHEARSALS: usize = 3;
 
 /// A segment, and one that it meets.
 type Pair = (LatticeEdge, Meeting);
@@ -66,7 +68,12 @@ fn take_up(
 }
 
 /// The next hint that is true and that the leash allows: both segments live, and they meet.
-fn next(live: &Store, hints: &mut Hints, leash: &mut Leash) -> Result<Option<Pair>, AllocError>
+fn next(
+    live: &Store,
+    log: &SplitLog,
+    hints: &mut Hints,
+    leash: &mut Leash,
+) -> Result<Option<Pair>, AllocError>
     ensures first { IfOk result (λ o. IfSome o (λ p. pos 0 <ℤ exactly p.0 live.now)) }
     ensures second { IfOk result (λ o. IfSome o (λ p. pos 0 <ℤ exactly p.1.0 live.now)) }
     ensures meets { IfOk result (λ o. IfSome o (λ p. Meets p.0 p.1.0 p.1.1)) }
@@ -77,7 +84,7 @@ fn next(live: &Store, hints: &mut Hints, leash: &mut Leash) -> Result<Option<Pai
         };
         if live.has(first) && live.has(second) {
             if let Some(at) = meeting(first, second) {
-                if leash.allows(first, (second, at))? {
+                if leash.allows(first, (second, at), log)? {
                     return Ok(Some((first, (second, at))));
                 }
             }
@@ -86,26 +93,22 @@ fn next(live: &Store, hints: &mut Hints, leash: &mut Leash) -> Result<Option<Pai
     Ok(None)
 }
 
-/// The edge between two points, the lesser one first.
-fn between(p: LatticePoint, q: LatticePoint) -> LatticeEdge {
-    if is_before(p, q) { (p, q) } else { (q, p) }
-}
-
 /// The pieces of two segments that are split.
 fn pieces(e: LatticeEdge, m: Meeting) -> [LatticeEdge; 4] {
     let (f, c) = m;
     [
-        between(e.0, c),
-        between(c, e.1),
-        between(f.0, c),
-        between(c, f.1),
+        forward((e.0, c)),
+        forward((c, e.1)),
+        forward((f.0, c)),
+        forward((c, f.1)),
     ]
 }
 
-/// Splits the noted edges alone, in the order that was drawn. The others wait.
+/// Splits the noted ones of the edges alone, in the order that was drawn. The others wait.
 fn split_noted(
     alloc: Global,
     edges: &[LatticeEdge],
+    noted: &[LatticeEdge],
     leash: &mut Leash,
     count: &mut SplitCount,
 ) -> Result<Splitter, SplitError>
@@ -116,23 +119,80 @@ fn split_noted(
 {
     let mut splitter = Splitter::of_edges(alloc, edges)?;
     let mut hints = Hints::new(alloc);
-    let noted = leash.noted_edges()?;
-    take_up(&mut splitter, &noted, &mut hints, leash)?;
+    take_up(&mut splitter, noted, &mut hints, leash)?;
     for _split in 0..usize::MAX {
-        let Some((first, m)) = next(&splitter.live, &mut hints, leash)? else {
+        let Some((first, m)) = next(&splitter.live, &splitter.log, &mut hints, leash)? else {
             return Ok(splitter);
         };
         splitter.split_live(first, m)?;
+        leash.learn(&splitter.log)?;
         count.check(&splitter.log)?;
         take_up(&mut splitter, &pieces(first, m), &mut hints, leash)?;
     }
     Ok(splitter)
 }
 
+/// Those of the edges that are noted, the lesser end first.
+fn noted_of(
+    alloc: Global,
+    edges: &[LatticeEdge],
+    leash: &Leash,
+) -> Result<Vec<LatticeEdge>, AllocError>
+    ensures { IfOk result (λ noted. AreAmong noted.items edges.now) }
+{
+    let mut noted = Vec::new(alloc);
+    for e in edges {
+        let e = forward(*e);
+        if leash.has_noted(e) {
+            noted.push(e)?;
+        }
+    }
+    Ok(noted)
+}
+
+/// Splits the noted edges by themselves, and draws the order of those anew whose splits were held back. Answers whether
+/// there were any.
+fn rehearse_once(
+    alloc: Global,
+    noted: &[LatticeEdge],
+    leash: &mut Leash,
+    count: &mut SplitCount,
+) -> Result<bool, SplitError>
+    requires { IsProper noted.now }
+    ensures counted { CountsSplits noted.now count.old count.new }
+    ensures refused { IfErr result (λ e. IsReason e count.new) }
+{
+    let splitter = split_noted(alloc, noted, noted, leash, count)?;
+    let has_held = leash.has_held();
+    count.add(&splitter.log)?;
+    leash.draw(&splitter.log)?;
+    Ok(has_held)
+}
+
+/// The same until no split is held back, or often enough.
+fn rehearse(
+    alloc: Global,
+    noted: &[LatticeEdge],
+    leash: &mut Leash,
+    count: &mut SplitCount,
+) -> Result<(), SplitError>
+    requires { IsProper noted.now }
+    ensures counted { CountsSplits noted.now count.old count.new }
+    ensures refused { IfErr result (λ e. IsReason e count.new) }
+{
+    for _rehearsal in 0..REHEARSALS {
+        if !rehearse_once(alloc, noted, leash, count)? {
+            return Ok(());
+        }
+    }
+    Ok(())
+}
+
 /// Splits the noted edges, and then all in hand. What the leash holds back, and all with it, waits to be tested.
 fn attempt(
     alloc: Global,
     edges: &[LatticeEdge],
+    noted: &[LatticeEdge],
     leash: &mut Leash,
     count: &mut SplitCount,
 ) -> Result<Splitter, SplitError>
@@ -142,7 +202,7 @@ fn attempt(
     ensures counted { CountsSplits edges.now count.old count.new }
     ensures refused { IfErr result (λ e. IsReason e count.new) }
 {
-    let mut splitter = split_noted(alloc, edges, leash, count)?;
+    let mut splitter = split_noted(alloc, edges, noted, leash, count)?;
     let mut is_clear = splitter.live.is_empty();
     while let Some(s) = splitter.todo.pop() {
         is_clear = splitter.settle_leashed(s, leash, is_clear)?;
@@ -151,9 +211,28 @@ fn attempt(
     if is_clear {
         return Ok(splitter);
     }
-    leash.note_neighbours(&splitter.live)?;
+    leash.note_neighbours(&splitter.live, &splitter.log)?;
     let again = splitter.again(alloc)?;
     Ok(again)
+}
+
+/// Another attempt, in an order in which the noted edges were split by themselves.
+fn attempt_anew(
+    alloc: Global,
+    edges: &[LatticeEdge],
+    noted: &[LatticeEdge],
+    leash: &mut Leash,
+    count: &mut SplitCount,
+) -> Result<Splitter, SplitError>
+    requires proper { IsProper edges.now }
+    requires among { AreAmong noted.now edges.now }
+    ensures pile { IfOk result (λ s. IsPile edges.now s.log s.todo s.live) }
+    ensures clear { IfOk result (λ s. AllClear s.live) }
+    ensures counted { CountsSplits edges.now count.old count.new }
+    ensures refused { IfErr result (λ e. IsReason e count.new) }
+{
+    rehearse(alloc, noted, leash, count)?;
+    attempt(alloc, edges, noted, leash, count)
 }
 
 /// The segments that wait for the second pass. The splits of the attempts that were given up are counted on.
@@ -169,14 +248,15 @@ pub fn first_pass(
     ensures refused { IfErr result (λ e. IsReason e count.new) }
 {
     let mut leash = Leash::new(alloc);
-    let mut splitter = attempt(alloc, edges, &mut leash, count)?;
-    for draw in 0..DRAWS {
-        if !leash.has_held() || draw.saturating_mul(splitter.log.len()) > MOST_SPLITS_ANEW {
+    let mut splitter = attempt(alloc, edges, &[], &mut leash, count)?;
+    for _draw in 0..DRAWS {
+        if !leash.wants_another(&splitter.log) {
             return Ok(splitter);
         }
         count.add(&splitter.log)?;
-        leash.draw()?;
-        splitter = attempt(alloc, edges, &mut leash, count)?;
+        leash.draw(&splitter.log)?;
+        let noted = noted_of(alloc, edges, &leash)?;
+        splitter = attempt_anew(alloc, edges, &noted, &mut leash, count)?;
     }
     Ok(splitter)
 }

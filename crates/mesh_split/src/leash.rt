@@ -3,6 +3,7 @@
 
 use crate::hints::Meeting;
 use crate::nearness::distance;
+use crate::split_log::SplitLog;
 use crate::store::Store;
 use crate::witnesses::Witnesses;
 use mesh_lattice::exact::{cross, is_end, minus};
@@ -13,16 +14,23 @@ use std::collections::HashMap;
 /// How far a split point near an end may lie from the given edge that its segment comes from, in 64ths of a grid unit.
 const REACH: u64 = 128;
 
+/// So often the pieces of two given edges may be split near an end in one attempt: a run splits them again and again.
+const MOST_STEPS: u64 = 10;
+
 /// Up to this far in both coordinates, a point is near an end, in grid units.
 const NEAR: u128 = 64;
 
 /// So many of the edges that a noted one meets are noted too.
 const NEIGHBOURS: usize = 8;
 
-/// The draws at which splits may lead farther.
-const TWICE_AS_FAR: u64 = 11;
+/// How often those that the noted ones meet are noted too.
+const RINGS: usize = 2;
 
-const FOUR_TIMES_AS_FAR: u64 = 12;
+/// An edge whose order was drawn so often is given up.
+const MOST_TURNS: u64 = 12;
+
+/// How many splits may have been made anew, about, where another order is drawn: crowded drawings take many.
+const MOST_SPLITS_ANEW: usize = 1_200_000;
 
 /// 2^64 over the golden ratio: products with it look random.
 const SCATTERING: u64 = 0x9E37_79B9_7F4A_7C15;
@@ -31,14 +39,18 @@ const SCATTERING: u64 = 0x9E37_79B9_7F4A_7C15;
 #[derive(Drop)]
 pub struct Leash {
     alloc: Global,
-    reach: u64,
+    /// The given edges that the pieces of this attempt come from.
     witnesses: Witnesses,
-    /// How many attempts were made.
-    attempts: u64,
-    /// The given edges of splits that were held back, each with the number of attempts after the latest of these.
+    /// Of how many of its splits these are the pieces.
+    learned: usize,
+    /// How often the pieces of two given edges were split near an end in this attempt.
+    steps: HashMap<(LatticeEdge, LatticeEdge), u64>,
+    /// The given edges of splits that were held back in this attempt.
+    held: HashMap<LatticeEdge, ()>,
+    /// Those of attempts before, each with the number of orders that were drawn for it.
     noted: HashMap<LatticeEdge, u64>,
-    /// Those of this attempt.
-    held: Vec<LatticeEdge>,
+    /// How many splits the attempts before made.
+    dropped: usize,
 }
 
 /// The greater of an edge's differences in `x` and in `y`.
@@ -58,6 +70,11 @@ fn angle(e: LatticeEdge, f: LatticeEdge) -> u64 {
 fn is_near(p: LatticePoint, q: LatticePoint) -> bool {
     let way = minus(p, q);
     way.0.unsigned_abs() <= NEAR && way.1.unsigned_abs() <= NEAR
+}
+
+/// Whether a segment is split there, and near an end of it. Runs cut pieces of few units off.
+fn is_cut_near_an_end(e: LatticeEdge, c: LatticePoint) -> bool {
+    !is_end(c, e) && (is_near(c, e.0) || is_near(c, e.1))
 }
 
 /// A number that looks random, and is the same for the same numbers.
@@ -86,92 +103,144 @@ impl Leash {
     pub fn new(alloc: Global) -> Self {
         Leash {
             alloc,
-            reach: REACH,
             witnesses: Witnesses::new(alloc),
-            attempts: 0,
+            learned: 0,
+            steps: HashMap::new(alloc),
+            held: HashMap::new(alloc),
             noted: HashMap::new(alloc),
-            held: Vec::new(alloc),
+            dropped: 0,
         }
     }
 
-    /// Whether no split was held back in an attempt before.
-    pub fn is_new(&self) -> bool {
-        self.noted.len() == 0
+    /// Whether a split of a given edge, the lesser end first, was held back in an attempt before.
+    pub fn has_noted(&self, e: LatticeEdge) -> bool {
+        self.turn(e) > 0
     }
 
-    /// The edges of the splits that were held back in attempts before, in an order that no map decides.
-    pub fn noted_edges(&self) -> Result<Vec<LatticeEdge>, AllocError> {
-        let mut edges: Vec<LatticeEdge> = self.noted.keys().copied().collect(self.alloc)?;
-        edges.sort_unstable();
-        Ok(edges)
-    }
-
-    /// Whether a split was held back in this attempt.
+    /// Whether a split was held back in this attempt, and another order may serve.
     pub fn has_held(&self) -> bool {
         self.held.len() > 0
     }
 
-    /// Whether a segment may be split there, or need not be. Runs cut pieces of few units off.
-    fn reaches(&self, e: LatticeEdge, c: LatticePoint) -> bool {
-        is_end(c, e)
-            || !(is_near(c, e.0) || is_near(c, e.1))
-            || distance(self.witnesses.of(e), c) <= self.reach
+    /// The same, and not too many splits were made in vain, those of this attempt among them.
+    pub fn wants_another(&self, log: &SplitLog) -> bool {
+        self.has_held() && self.dropped.saturating_add(log.len()) <= MOST_SPLITS_ANEW
     }
 
-    /// Notes where the pieces of a segment come from.
-    fn pass_on(&mut self, e: LatticeEdge, c: LatticePoint) -> Result<(), AllocError> {
-        if is_end(c, e) {
-            return Ok(());
+    /// Notes where the pieces come from of the splits that were made since.
+    pub fn learn(&mut self, log: &SplitLog) -> Result<(), AllocError> {
+        let splits = log.splits();
+        let (_, others) = splits.split_at(self.learned.min(splits.len()));
+        for (ends, at) in others {
+            let witness = self.witnesses.of(*ends);
+            self.witnesses.note((ends.0, *at), witness)?;
+            self.witnesses.note((*at, ends.1), witness)?;
         }
-        let witness = self.witnesses.of(e);
-        self.witnesses.note((e.0, c), witness)?;
-        self.witnesses.note((c, e.1), witness)?;
+        self.learned = log.len();
         Ok(())
+    }
+
+    /// Whether a segment, which comes from a given edge, may be split there, or need not be.
+    fn reaches(e: LatticeEdge, witness: LatticeEdge, c: LatticePoint) -> bool {
+        !is_cut_near_an_end(e, c) || distance(witness, c) <= REACH
+    }
+
+    /// How often the pieces of two given edges were split near an end, this time counted.
+    fn step(&mut self, first: LatticeEdge, second: LatticeEdge) -> Result<u64, AllocError> {
+        let pair = if first < second {
+            (first, second)
+        } else {
+            (second, first)
+        };
+        let steps = match self.steps.get(&pair) {
+            Some(steps) => steps.saturating_add(1),
+            None => 1,
+        };
+        self.steps.insert(pair, steps)?;
+        Ok(steps)
     }
 
     /// Whether two segments that meet may be split. What is held back is noted.
-    pub fn allows(&mut self, e: LatticeEdge, m: Meeting) -> Result<bool, AllocError> {
-        if self.reaches(e, m.1) && self.reaches(m.0, m.1) {
-            self.pass_on(e, m.1)?;
-            self.pass_on(m.0, m.1)?;
+    pub fn allows(
+        &mut self,
+        e: LatticeEdge,
+        m: Meeting,
+        log: &SplitLog,
+    ) -> Result<bool, AllocError> {
+        let is_near_an_end = is_cut_near_an_end(e, m.1) || is_cut_near_an_end(m.0, m.1);
+        if !is_near_an_end && !self.has_held() {
             return Ok(true);
         }
-        self.held.push(self.witnesses.of(e))?;
-        self.held.push(self.witnesses.of(m.0))?;
+        self.learn(log)?;
+        let first = self.witnesses.of(e);
+        let second = self.witnesses.of(m.0);
+        if self.held.contains_key(&first) && self.held.contains_key(&second) {
+            return Ok(false);
+        }
+        if !is_near_an_end {
+            return Ok(true);
+        }
+        let steps = self.step(first, second)?;
+        let reach = Leash::reaches(e, first, m.1) && Leash::reaches(m.0, second, m.1);
+        if steps <= MOST_STEPS && reach {
+            return Ok(true);
+        }
+        self.hold(first, second)?;
         Ok(false)
     }
 
-    /// Notes the edges whose segments meet an edge that is noted of this attempt.
-    pub fn note_neighbours(&mut self, live: &Store) -> Result<(), AllocError> {
-        let mut others = Vec::new(self.alloc);
-        for e in &self.held {
+    /// Notes two given edges whose pieces are not split, unless their order was drawn too often.
+    fn hold(&mut self, first: LatticeEdge, second: LatticeEdge) -> Result<(), AllocError> {
+        if self.turn(first).max(self.turn(second)) < MOST_TURNS {
+            self.held.insert(first, ())?;
+            self.held.insert(second, ())?;
+        }
+        Ok(())
+    }
+
+    /// Notes the given edges whose segments meet an edge that is noted of this attempt.
+    fn note_ring(&mut self, live: &Store) -> Result<(), AllocError> {
+        let held: Vec<LatticeEdge> = self.held.keys().copied().collect(self.alloc)?;
+        for e in &held {
             for m in live.meetings(*e)?.iter().take(NEIGHBOURS) {
-                others.push(self.witnesses.of(m.0))?;
+                self.held.insert(self.witnesses.of(m.0), ())?;
             }
         }
-        for e in others {
-            self.held.push(e)?;
+        Ok(())
+    }
+
+    /// The same again and again, at the end of an attempt.
+    pub fn note_neighbours(&mut self, live: &Store, log: &SplitLog) -> Result<(), AllocError> {
+        self.learn(log)?;
+        for _ring in 0..RINGS {
+            self.note_ring(live)?;
         }
         Ok(())
     }
 
-    /// Begins the next attempt: the order of what was held back is drawn anew.
-    pub fn draw(&mut self) -> Result<(), AllocError> {
-        self.attempts = self.attempts.saturating_add(1);
-        for e in &self.held {
-            self.noted.insert(*e, self.attempts)?;
+    /// Begins the next attempt: the order of what was held back is drawn anew. Where an edge is among it that was not
+    /// held back before, all of it begins with the first order.
+    pub fn draw(&mut self, log: &SplitLog) -> Result<(), AllocError> {
+        let held: Vec<LatticeEdge> = self.held.keys().copied().collect(self.alloc)?;
+        let begins = held.iter().any(|e| !self.has_noted(*e));
+        for e in &held {
+            let turn = self.turn(*e);
+            let next = if begins && turn < MOST_TURNS {
+                1
+            } else {
+                turn.saturating_add(1).min(MOST_TURNS)
+            };
+            self.noted.insert(*e, next)?;
         }
-        self.held = Vec::new(self.alloc);
+        self.dropped = self.dropped.saturating_add(log.len());
         self.witnesses = Witnesses::new(self.alloc);
-        self.reach = match self.attempts {
-            TWICE_AS_FAR => 2 * REACH,
-            FOUR_TIMES_AS_FAR => 4 * REACH,
-            _ => REACH,
-        };
+        self.learned = 0;
+        self.steps = HashMap::new(self.alloc);
+        self.held = HashMap::new(self.alloc);
         Ok(())
     }
 
-    /// In which draw the order of the splits of a given edge was drawn.
+    /// How often the order of the splits of a given edge was drawn.
     fn turn(&self, e: LatticeEdge) -> u64 {
         self.noted.get(&e).copied().unwrap_or(0)
     }
@@ -186,7 +255,7 @@ impl Leash {
             return u64::MAX;
         }
         match turn {
-            1 => angle(e, f),
+            1 | MOST_TURNS => angle(e, f),
             2 => (u64::MAX / 2).saturating_sub(angle(e, f)),
             turn => drawn(e, f, turn) / 2,
         }

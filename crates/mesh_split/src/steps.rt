@@ -204,7 +204,7 @@ impl Splitter {
             self.live.insert(s)?;
             return Ok(were_clear);
         };
-        if leash.allows(s.0, m)? {
+        if leash.allows(s.0, m, &self.log)? {
             self.split(s, m)?;
             return Ok(were_clear);
         }

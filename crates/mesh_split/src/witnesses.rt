@@ -27,7 +27,7 @@ impl Model for Witnesses {
 }
 
 /// The edge with the lesser end first.
-fn forward(e: LatticeEdge) -> LatticeEdge
+pub fn forward(e: LatticeEdge) -> LatticeEdge
     ensures { result ≡ forward e }
 {
     if is_before(e.0, e.1) { e } else { (e.1, e.0) }

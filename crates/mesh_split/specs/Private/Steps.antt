@@ -150,6 +150,10 @@ abbrev pub KeepsPile : List EdgeSplit → List Counted → List Counted → List
 KeepsPile splits todo live splits' todo' live' =
     (given : List Edge) → IsPile given splits todo live → IsPile given splits' todo' live'
 
+-- each of the first edges is one of the second, in either direction
+abbrev pub AreAmong : List Edge → List Edge → Type 0
+AreAmong es fs = (e : Edge) → occurs e es ≡ true → occurs e fs ≡ true
+
 -- no ends stand twice
 pub record StandOnce (todo live : List Counted) : Type 0 where
   pub most : (q : Edge) → (times q todo +ℤ times q live) ≤ℤ pos 1

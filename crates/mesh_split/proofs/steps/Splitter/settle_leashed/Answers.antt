@@ -1,5 +1,5 @@
 use Rattle.mesh_lattice.proofs.Ends.{forward_proper}
-use Rattle.mesh_split.proofs.Settling.{moves_kept, moves_settled, settles_kept}
+use Rattle.mesh_split.proofs.Settling.{moves_kept, settles_kept}
 use Rattle.mesh_split.proofs.steps.Splitter.settle_leashed.Goals as goal
 
 pub returns-in_default-clause-moves : goal.returns-in_default-clause-moves
