@@ -10,6 +10,8 @@ mod counted;
 #[cfg(test)]
 mod hard_splits;
 #[cfg(test)]
+mod leashed;
+#[cfg(test)]
 mod long_rows;
 #[cfg(test)]
 mod many_edges;

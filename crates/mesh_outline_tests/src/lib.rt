@@ -31,3 +31,5 @@ mod tables;
 mod validation;
 #[cfg(test)]
 mod worked;
+#[cfg(test)]
+mod zone;
