@@ -11,6 +11,7 @@ ghost use Rattle.mesh_flat.specs.Outcomes.{code_of};
 ghost use Rattle.mesh_flat.specs.Ranges.{TellsRange};
 ghost use Rattle.mesh_flat.specs.Replies.{Tells};
 ghost use Rattle.mesh_flat.specs.ShapeRooms.{TellsShapes};
+ghost use Rattle.mesh_flat.specs.Slivers.{TellsSlivers};
 ghost use Rattle.mesh_flat.specs.Styles.{choices_in};
 ghost use Rattle.mesh_flat.specs.Whys.{TellsWhy};
 ghost use Rattle.mesh_flat.specs.declared.outcome.Outcome.{Outcome};
@@ -25,6 +26,7 @@ use mesh_flat::near::{hand_over_near, outline_near, stroke_near, variable_stroke
 use mesh_flat::options::FlatOptions;
 use mesh_flat::range::{outline_reach, stroke_reach, tell_reach, variable_stroke_reach};
 use mesh_flat::shapes::{ShapeCounts, hand_over_shapes};
+use mesh_flat::slivers::without_slivers;
 use mesh_flat::styles::{FlatArc, FlatOutlineStyle, FlatStrokeStyle};
 use mesh_flat::why::why;
 use std::alloc::Global;
@@ -365,6 +367,36 @@ pub extern "C" fn mesh_validate_variable_stroke_i32(
     tell_reach(&answer, padding).code()
 }
 
+/// Shapes without their slivers, in the caller's lists, and how many items each has.
+#[unsafe(no_mangle)]
+pub extern "C" fn mesh_without_slivers_i32(
+    alloc: Global,
+    points: &[[i32; 2]],
+    contour_ends: &[usize],
+    shape_ends: &[usize],
+    width: u32,
+    left_points: &mut [[i32; 2]],
+    left_contour_ends: &mut [usize],
+    left_shape_ends: &mut [usize],
+    counts: &mut ShapeCounts,
+) -> u8
+    ensures { TellsSlivers (point_from (λ z. z))
+        (record { points = points.now; contour_ends = contour_ends.now; shape_ends = shape_ends.now }) width
+        (record { points = left_points.old; contour_ends = left_contour_ends.old; shape_ends = left_shape_ends.old })
+        (record { points = left_points.new; contour_ends = left_contour_ends.new; shape_ends = left_shape_ends.new })
+        counts.old counts.new result }
+{
+    let answer = without_slivers(alloc, points, contour_ends, shape_ends, width);
+    hand_over_shapes(
+        &answer,
+        left_points,
+        left_contour_ends,
+        left_shape_ends,
+        counts,
+    )
+    .code()
+}
+
 /// The shapes of an outline, in the caller's lists, and how many items each has.
 #[unsafe(no_mangle)]
 pub extern "C" fn mesh_outline_i16(
@@ -676,4 +708,34 @@ pub extern "C" fn mesh_validate_variable_stroke_i16(
 {
     let answer = variable_stroke_reach(alloc, vertices, ends, arc);
     tell_reach(&answer, padding).code()
+}
+
+/// Shapes without their slivers, in the caller's lists, and how many items each has.
+#[unsafe(no_mangle)]
+pub extern "C" fn mesh_without_slivers_i16(
+    alloc: Global,
+    points: &[[i16; 2]],
+    contour_ends: &[usize],
+    shape_ends: &[usize],
+    width: u32,
+    left_points: &mut [[i16; 2]],
+    left_contour_ends: &mut [usize],
+    left_shape_ends: &mut [usize],
+    counts: &mut ShapeCounts,
+) -> u8
+    ensures { TellsSlivers (point_from (λ z. z))
+        (record { points = points.now; contour_ends = contour_ends.now; shape_ends = shape_ends.now }) width
+        (record { points = left_points.old; contour_ends = left_contour_ends.old; shape_ends = left_shape_ends.old })
+        (record { points = left_points.new; contour_ends = left_contour_ends.new; shape_ends = left_shape_ends.new })
+        counts.old counts.new result }
+{
+    let answer = without_slivers(alloc, points, contour_ends, shape_ends, width);
+    hand_over_shapes(
+        &answer,
+        left_points,
+        left_contour_ends,
+        left_shape_ends,
+        counts,
+    )
+    .code()
 }

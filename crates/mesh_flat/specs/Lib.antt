@@ -2,6 +2,7 @@ pub mod Answers
 pub mod Drawings
 pub mod EdgeRooms
 pub mod EndToEnd
+pub mod Given
 pub mod NearRooms
 pub mod Nearness
 pub mod Numbers
@@ -11,6 +12,7 @@ pub mod Ranges
 pub mod Replies
 pub mod Rooms
 pub mod ShapeRooms
+pub mod Slivers
 pub mod Styles
 pub mod Telling
 pub mod Whys
