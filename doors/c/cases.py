@@ -38,6 +38,12 @@ STRANGE = [
     b'{"op":"outline","int":"i16","out":"shapes","paths":[[[0,0,0]]],"style":{"outer":1,"inner":1}}',
 ]
 
+SLIVER = (
+    b'{"op":"outline","int":"i32","out":"shapes","paths":[[[-253668,994080],[-537283,2004779],[-537751,2004563],'
+    b'[-538416,2004132],[-561008,2047212],[-561818,2047551],[-562788,2047957]]],"style":{"outer":50000,"inner":50000}}'
+)
+"""The smallest drawing that is known to be answered with a sliver."""
+
 DEFAULT_MIN_TURN = 59_652_323
 
 DEFAULT_ARC = [68_356_528, 5]
@@ -50,7 +56,7 @@ SIDES = {"both": 0, "left": 1, "right": 2}
 
 
 def requests():
-    """The requests: the examples, strange ones, and random ones, of which each fifth asks for edges."""
+    """The examples, strange requests, random ones, of which each fifth asks for edges, and one with a sliver."""
     for example in sorted((ROOT / "examples").glob("*.json")):
         yield example.read_bytes()
     yield from STRANGE
@@ -63,6 +69,7 @@ def requests():
         if words["op"] == "stroke":
             words["style"]["side"] = list(SIDES)[number % 3]
         yield json.dumps(words).encode()
+    yield SLIVER
 
 
 def kind_of(said, kinds):

@@ -301,6 +301,34 @@ mesh_outcome mesh_validate_variable_stroke_i16(
     const mesh_vertex_i16 *vertices, size_t vertex_count, const size_t *ends, size_t end_count,
     const mesh_arc *arc, int64_t *padding);
 
+/* Tells shapes without their slivers, contours that are thin whatever their area, as rounding may leave them where edges
+   cross that are nearly parallel. A contour is a sliver where each of its vertices lies at most `width` from the line
+   from its first vertex to the one farthest from that, the first of those that are as far. Distance is the greater one of
+   both coordinates' differences; from the line it is measured along the axis along which the farthest vertex lies less
+   far from the first one.
+
+   points             the points of the contours of all shapes, contour by contour, of each shape the outer one first, as
+                      the calls above tell them; any coordinates
+   contour_ends       for each contour, how many points stand in it and before it
+   shape_ends         for each shape, how many contours stand in it and before it
+   width              in grid units
+   left_points, ..    where the shapes go that are left. Lists of the sizes of those that are given are large enough
+   counts             as with shapes above, and so are the outcomes
+
+   Holes that are slivers go, and shapes all of whose contours are; all else stays as it is, in its order. At each point
+   farther than `width` from each edge that went, the contours wind as before. MESH_MALFORMED: ends that are none. */
+mesh_outcome mesh_without_slivers_i32(
+    const mesh_point_i32 *points, size_t point_count, const size_t *contour_ends, size_t contour_count,
+    const size_t *shape_ends, size_t shape_count, uint32_t width,
+    mesh_point_i32 *left_points, size_t left_point_room, size_t *left_contour_ends, size_t left_contour_room,
+    size_t *left_shape_ends, size_t left_shape_room, mesh_shape_counts *counts);
+
+mesh_outcome mesh_without_slivers_i16(
+    const mesh_point_i16 *points, size_t point_count, const size_t *contour_ends, size_t contour_count,
+    const size_t *shape_ends, size_t shape_count, uint32_t width,
+    mesh_point_i16 *left_points, size_t left_point_room, size_t *left_contour_ends, size_t left_contour_room,
+    size_t *left_shape_ends, size_t left_shape_room, mesh_shape_counts *counts);
+
 #ifdef __cplusplus
 }
 #endif

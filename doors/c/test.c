@@ -52,7 +52,9 @@ struct numbers {
 
 enum { OUTLINE, STROKE, VARIABLE_STROKE };
 
-/* A drawing; `start` and `end` are the points of custom caps. */
+struct lists;
+
+/* A drawing; `start` and `end` are the points of custom caps. Or, where there are any, given shapes without slivers. */
 struct drawing {
     int operation, width, for_edges;
     mesh_outline_style outline;
@@ -61,6 +63,8 @@ struct drawing {
     mesh_options options;
     size_t *ends, end_count;
     struct numbers start, end, items;
+    const struct lists *given;
+    uint32_t sliver_width;
 };
 
 struct test_case {
@@ -335,9 +339,11 @@ static void put(struct writer *to, const char *format, ...)
 
 #define OF(name) name##_i32
 #include "draw.h"
+#include "slivers.h"
 #undef OF
 #define OF(name) name##_i16
 #include "draw.h"
+#include "slivers.h"
 #undef OF
 
 static void take_lists(struct lists *to, mesh_shape_counts room)
@@ -460,12 +466,17 @@ static void check_limit(const struct test_case *it, uint64_t most)
     drop_lists(&lists);
 }
 
+static size_t check_drawing_refused(drawer *draw, const struct test_case *it);
+
+#include "sliver_checks.h"
+
 static void check_drawing(const struct test_case *it)
 {
     check_drawing_by(draw, it);
     check_drawing_by(draw_with_nearness, it);
     check_limit(it, 1);
     check_limit(it, UINT64_MAX);
+    check_slivers(it);
 }
 
 static void take_edge_lists(struct edge_lists *to, mesh_edge_counts room)
@@ -479,21 +490,37 @@ static void take_edge_lists(struct edge_lists *to, mesh_edge_counts room)
     to->counts = (mesh_edge_counts){77, 77};
 }
 
+static mesh_outcome draw_edges(const struct drawing *it, struct edge_lists *to)
+{
+    return (it->width == 32 ? draw_edges_i32 : draw_edges_i16)(it, to);
+}
+
+static int are_edges_marked(const struct edge_lists *it)
+{
+    return is_marked(it->edges, it->edge_room * sizeof(mesh_edge_i32))
+        && is_marked((const uint8_t *)it->path_ends, it->path_room * sizeof(size_t));
+}
+
+/* Whether the lists have what the line of the case says. */
+static int are_its_edges(const struct test_case *it, const struct edge_lists *lists)
+{
+    struct writer told = {taken(it->line.size + 1), 0, it->line.size + 1};
+    (it->drawing.width == 32 ? write_edges_i32 : write_edges_i16)(&told, lists);
+    int is_same = !it->status && told.size == it->line.size && !memcmp(told.text, it->line.bytes, told.size);
+    free(told.text);
+    return is_same;
+}
+
 /* Edges in lists of this size. Returns how many there are. */
 static mesh_edge_counts check_edges_in(const struct test_case *it, mesh_edge_counts room)
 {
-    int is_wide = it->drawing.width == 32;
     struct edge_lists lists;
     take_edge_lists(&lists, room);
-    mesh_outcome outcome = (is_wide ? draw_edges_i32 : draw_edges_i16)(&it->drawing, &lists);
-    int is_unchanged = is_marked(lists.edges, room.edges * sizeof(mesh_edge_i32))
-        && is_marked((uint8_t *)lists.path_ends, room.paths * sizeof(size_t));
+    mesh_outcome outcome = draw_edges(&it->drawing, &lists);
+    int is_unchanged = are_edges_marked(&lists);
     if (outcome == MESH_ANSWERED) {
-        struct writer told = {taken(it->line.size + 1), 0, it->line.size + 1};
-        (is_wide ? write_edges_i32 : write_edges_i16)(&told, &lists);
-        if (it->status || told.size != it->line.size || memcmp(told.text, it->line.bytes, told.size))
+        if (!are_its_edges(it, &lists))
             fail(it, "other edges than the program's");
-        free(told.text);
     } else if (outcome == MESH_OUT_OF_RANGE) {
         if (it->status != 1 || lists.counts.edges != 77 || !is_unchanged)
             fail(it, "edges that are refused are told otherwise");
@@ -652,6 +679,60 @@ static size_t check_drawing_refused(drawer *draw, const struct test_case *it)
     }
 }
 
+/* The same of the edges of a drawing. */
+static size_t check_edges_refused(const struct test_case *it)
+{
+    struct edge_lists lists;
+    for (size_t number = 1;; number++) {
+        take_edge_lists(&lists, (mesh_edge_counts){1000, 100});
+        grown = 0;
+        refused = number;
+        mesh_outcome outcome = draw_edges(&it->drawing, &lists);
+        int is_met = grown >= number;
+        refused = 0;
+        int is_answer = outcome == MESH_ANSWERED && are_its_edges(it, &lists);
+        int is_told = outcome == MESH_OUT_OF_MEMORY && are_edges_marked(&lists) && lists.counts.edges == 77;
+        int is_same = outcome == MESH_ROOM_TOO_SMALL || (outcome == MESH_OUT_OF_RANGE && it->status == 1);
+        if (!is_answer && !is_same && !(is_met && is_told))
+            fail(it, "refused memory is not told of edges");
+        free(lists.edges);
+        free(lists.path_ends);
+        if (!is_met)
+            return number - 1;
+    }
+}
+
+/* The same of the range of a drawing. */
+static size_t check_range_refused(const struct test_case *it)
+{
+    for (size_t number = 1;; number++) {
+        int64_t padding = -77;
+        grown = 0;
+        refused = number;
+        mesh_outcome outcome = (it->drawing.width == 32 ? validate_i32 : validate_i16)(&it->drawing, &padding);
+        int is_met = grown >= number;
+        refused = 0;
+        int is_told = outcome == MESH_OUT_OF_MEMORY && padding == -77;
+        int is_answer = (outcome == MESH_ANSWERED || outcome == MESH_OUT_OF_RANGE) && padding >= 0;
+        if (!is_answer && !(is_met && is_told))
+            fail(it, "refused memory is not told of a range");
+        if (!is_met)
+            return number - 1;
+    }
+}
+
+static size_t check_all_refused(const struct test_case *it)
+{
+    size_t growths = check_refused(it);
+    if (!it->is_drawn)
+        return growths;
+    growths += check_range_refused(it);
+    if (it->drawing.for_edges)
+        return growths + check_edges_refused(it);
+    return growths + check_drawing_refused(draw, it) + check_drawing_refused(draw_with_nearness, it)
+        + check_slivers_refused(it);
+}
+
 int main(int count, char **words)
 {
     if (count < 2)
@@ -673,7 +754,7 @@ int main(int count, char **words)
             }
         }
         check_in_threads(&cases);
-        if (!drawn || !given_up)
+        if (!drawn || !given_up || !left_out)
             return 1;
         printf("C: %zu requests and %zu drawings in arrays are answered as by the program, in %d threads at once.\n",
                cases.count, drawn, THREADS);
@@ -681,13 +762,8 @@ int main(int count, char **words)
         size_t growths = 0, wanted = count == 4 ? strtoul(words[3], NULL, 10) : 0;
         if (!wanted)
             return 2;
-        for (size_t i = 0; i < cases.count; i += 1 + cases.count / wanted) {
-            growths += check_refused(&cases.all[i]);
-            if (cases.all[i].is_drawn && !cases.all[i].drawing.for_edges) {
-                growths += check_drawing_refused(draw, &cases.all[i]);
-                growths += check_drawing_refused(draw_with_nearness, &cases.all[i]);
-            }
-        }
+        for (size_t i = 0; i < cases.count; i += 1 + cases.count / wanted)
+            growths += check_all_refused(&cases.all[i]);
         if (!growths)
             return 1;
         printf("C: %zu growths of memory were refused, one in each call, and all told.\n", growths);
