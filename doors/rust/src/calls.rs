@@ -191,4 +191,10 @@ calls! {
         vertices: *const [I; 3], vertex_count: usize, ends: *const usize, end_count: usize,
         arc: *const Arc, padding: *mut i64,
     );
+    without_slivers: mesh_without_slivers_i32, mesh_without_slivers_i16, (
+        points: *const [I; 2], point_count: usize, contour_ends: *const usize, contour_count: usize,
+        shape_ends: *const usize, shape_count: usize, width: u32,
+        left_points: *mut [I; 2], left_point_room: usize, left_contour_ends: *mut usize, left_contour_room: usize,
+        left_shape_ends: *mut usize, left_shape_room: usize, counts: *mut ShapeCounts,
+    );
 }

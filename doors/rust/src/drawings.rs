@@ -175,6 +175,22 @@ pub fn variable_stroke_near<I: Coordinate, P: AsRef<[[I; 3]]>>(
     Ok(NearShapes { shapes, nearness: nearness.get() })
 }
 
+/// Shapes without their slivers: contours whose vertices all lie at most `width` grid units from the line from the first
+/// one to the one farthest from it. Holes that are slivers go, and shapes all of whose contours are; all else stays as it
+/// is. `Malformed`: the lists of the shapes have ends that are none.
+pub fn without_slivers<I: Coordinate>(shapes: &Shapes<I>, width: u32) -> Result<Shapes<I>, Error> {
+    let (points, contours) = (&shapes.points, &shapes.contour_ends);
+    let ends = &shapes.shape_ends;
+    let room = ShapeCounts { points: points.len(), contours: contours.len(), shapes: ends.len() };
+    told_shapes(room, |to, counts| unsafe {
+        (I::CALLS.without_slivers)(
+            points.as_ptr(), points.len(), contours.as_ptr(), contours.len(), ends.as_ptr(), ends.len(), width,
+            to.points.as_mut_ptr(), to.points.len(), to.contour_ends.as_mut_ptr(), to.contour_ends.len(),
+            to.shape_ends.as_mut_ptr(), to.shape_ends.len(), counts,
+        )
+    })
+}
+
 /// The edges of the outline of each contour.
 pub fn outline_edges<I: Coordinate, P: AsRef<[[I; 2]]>>(
     contours: &[P],

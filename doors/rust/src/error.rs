@@ -8,8 +8,8 @@ use std::fmt;
 pub enum Error {
     /// What is to be drawn would pass the safe range.
     OutOfRange,
-    /// What was given is nothing that the call serves: bytes that are no request, or a length or an area that does not
-    /// fit 16 bits, or 32, where coordinates have 16.
+    /// What was given is nothing that the call serves: bytes that are no request, a length or an area that does not fit
+    /// 16 bits, or 32, where coordinates have 16, or lists of shapes whose ends are none.
     Malformed,
     /// Memory was refused.
     OutOfMemory,

@@ -127,6 +127,34 @@ fn nearness_is_told_and_a_limit_kept() {
     assert_eq!(variable_stroke_near(&paths, &ARC, &options, 1), Err(Error::TooManySplits));
 }
 
+/// The smallest drawing that is known to be answered with a sliver, a hole half a unit wide.
+const SLIVER: [[i32; 2]; 7] = [
+    [-253668, 994080], [-537283, 2004779], [-537751, 2004563], [-538416, 2004132], [-561008, 2047212],
+    [-561818, 2047551], [-562788, 2047957],
+];
+
+#[test]
+fn slivers_are_left_out() {
+    let given = outline(&[SLIVER], &OutlineStyle::new(50_000), &Options::default()).unwrap();
+    let left = without_slivers(&given, 1).unwrap();
+    let shapes: Vec<Shape<i32>> = given.iter().collect();
+    assert_eq!(shapes.len(), 1);
+    let contours: Vec<&[[i32; 2]]> = shapes[0].contours().collect();
+    assert_eq!(contours[1..], [[[-561441, 2048453], [-554992, 2063861], [-561440, 2048453]]]);
+    let count = contours[0].len();
+    assert_eq!(left, Shapes { points: contours[0].to_vec(), contour_ends: vec![count], shape_ends: vec![1] });
+    assert_eq!(without_slivers(&given, 0), Ok(given.clone()));
+    assert_eq!(without_slivers(&given, u32::MAX).unwrap().iter().count(), 0);
+
+    let narrow = Shapes { points: vec![[0_i16, 0], [9, 0], [9, 9]], contour_ends: vec![3], shape_ends: vec![1] };
+    assert_eq!(without_slivers(&narrow, 8), Ok(narrow.clone()));
+    assert!(without_slivers(&narrow, 9).unwrap().points.is_empty());
+    for (contour_ends, shape_ends) in [(vec![4], vec![1]), (vec![2], vec![1]), (vec![3], vec![2]), (vec![3], vec![])] {
+        let wrong = Shapes { contour_ends, shape_ends, ..narrow.clone() };
+        assert_eq!(without_slivers(&wrong, 1), Err(Error::Malformed));
+    }
+}
+
 #[test]
 fn what_has_no_answer_is_told() {
     let nothing: [[[i32; 2]; 0]; 0] = [];
