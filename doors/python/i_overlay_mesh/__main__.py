@@ -50,6 +50,7 @@ def add_buffer(commands: Any) -> None:
     command.add_argument("--at-least", action="store_true", help="arcs lie outside their circles, for clearances")
     command.add_argument("--miter-limit", type=float, default=MITER_LIMIT, help="greatest peak, in distances (5)")
     command.add_argument("--scale", type=float, help="grid units a unit (for each feature the finest that is safe)")
+    command.add_argument("--sliver-width", type=float, metavar="WIDTH", help="leave out what is as thin as this")
     command.set_defaults(run=run_buffer)
 
 
@@ -92,6 +93,7 @@ def run_buffer(options: argparse.Namespace) -> None:
             at_least=options.at_least,
             miter_limit=options.miter_limit,
             scale=options.scale,
+            sliver_width=options.sliver_width,
         ).geojson()
 
     # What is wrong with the options themselves is told before a file is read.

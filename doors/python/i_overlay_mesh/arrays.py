@@ -1,4 +1,4 @@
-"""Requests for shapes as arrays, for the calls of the library that tell their nearness and have a limit on splits."""
+"""Shapes as arrays, for the calls of the library that tell a nearness and have a limit on splits, and for slivers."""
 
 from __future__ import annotations
 
@@ -72,12 +72,29 @@ def near_shapes(request: dict, most_splits: int) -> tuple[Outcome, list, int]:
         room = counts
 
 
+def without_slivers(shapes: Sequence, width: int) -> tuple[Outcome, list]:
+    """How the call for shapes in 32 bits without their slivers ended, and what is left, which is never more."""
+    call = load_library().mesh_without_slivers_i32
+    call.restype = c_uint8
+    contours = [contour for shape in shapes for contour in shape]
+    given = [*lists(contours), *ends_of(shapes), c_uint32(width)]
+    counts = Counts(sum(map(len, contours)), len(contours), len(shapes))
+    told = (c_int32 * (2 * counts.points))(), (c_size_t * counts.contours)(), (c_size_t * counts.shapes)()
+    rooms = [told[0], c_size_t(counts.points), told[1], c_size_t(counts.contours), told[2], c_size_t(counts.shapes)]
+    outcome = Outcome(call(*given, *rooms, byref(counts)))
+    return outcome, nested(told, counts) if outcome is Outcome.ANSWERED else []
+
+
 def lists(paths: Sequence) -> list:
     """Paths as the library takes them: the numbers of all points or vertices, and where paths end."""
     numbers = [number for path in paths for item in path for number in item]
-    ends = list(itertools.accumulate(map(len, paths)))
-    items = (c_int32 * len(numbers))(*numbers), c_size_t(ends[-1] if ends else 0)
-    return [*items, (c_size_t * len(ends))(*ends), c_size_t(len(ends))]
+    return [(c_int32 * len(numbers))(*numbers), c_size_t(sum(map(len, paths))), *ends_of(paths)]
+
+
+def ends_of(groups: Sequence) -> list:
+    """For each of some lists that stand end to end, how many items stand in it and before it."""
+    ends = list(itertools.accumulate(map(len, groups)))
+    return [(c_size_t * len(ends))(*ends), c_size_t(len(ends))]
 
 
 def points(items: Sequence) -> list:

@@ -7,7 +7,7 @@ from dataclasses import dataclass
 from fractions import Fraction
 from typing import Any, Callable, NoReturn, Optional, Sequence
 
-from .arrays import near_shapes
+from .arrays import near_shapes, without_slivers
 from .errors import DrawingError, GridRangeError, TooManySplits
 from .grid import MOST, Grid, Place, exponent_above, power_of_two
 from .library import Outcome, reply
@@ -19,6 +19,8 @@ from .shapes import Shapes
 MOST_COORDINATE = 2**31 - 1
 MOST_AREA = 2**63 - 1
 MOST_SPLITS = 2**64 - 1
+# On the grid no contour is as wide, so each is a sliver of this width.
+MOST_SLIVER_WIDTH = 2**32 - 1
 
 
 class OutOfRange(Exception):
@@ -38,6 +40,18 @@ class Limit:
     def tell(self, nearness: int) -> None:
         """Notes the nearness of an answer beside others, in 64ths of a grid unit."""
         self.nearness = max(self.nearness, nearness)
+
+
+@dataclass(frozen=True)
+class Wishes:
+    """What is asked for besides what is drawn.
+
+    most_splits: a limit on splits, 0 for none, where the nearness is asked for.
+    sliver_width: how wide slivers are that are left out, in units of the drawing.
+    """
+
+    most_splits: Optional[int]
+    sliver_width: Optional[Fraction]
 
 
 @dataclass(frozen=True)
@@ -125,6 +139,22 @@ def union(parts: Sequence[list], limit: Optional[Limit]) -> list:
     return shapes
 
 
+def left_out(shapes: list, sliver_width: Fraction, grid: Grid) -> list:
+    """The shapes on a grid without slivers, whose width on it is cut, so that nothing goes that is wider."""
+    width = min(MOST_SLIVER_WIDTH, int(sliver_width * grid.scale))
+    if width == 0:
+        raise DrawingError(
+            "", f"sliver_width is {plain(sliver_width)}, and has to be at least 1 grid unit: at the scale"
+            f" {plain(grid.scale)} that is {plain(1 / grid.scale)}"
+        )
+    outcome, shapes = without_slivers(shapes, width)
+    if outcome is Outcome.OUT_OF_MEMORY:
+        raise MemoryError("the library ran out of memory")
+    if outcome is not Outcome.ANSWERED:
+        raise RuntimeError("the library cannot read shapes that it answered")
+    return shapes
+
+
 # The grid
 
 
@@ -209,33 +239,44 @@ def read_most_splits(most_splits: Any) -> Optional[int]:
     return int(number)
 
 
-def draw(tasks: Sequence[Task], scale: Any, origin: Any, most_splits: Any) -> Shapes:
+def read_sliver_width(width: Any) -> Optional[Fraction]:
+    """The width of slivers that are left out, if one is given."""
+    if width is None:
+        return None
+    number = read_number("", "sliver_width", width)
+    if number <= 0:
+        raise DrawingError("", f"sliver_width is {width}, and has to be above 0")
+    return Fraction(number)
+
+
+def draw(tasks: Sequence[Task], scale: Any, origin: Any, most_splits: Any, sliver_width: Any) -> Shapes:
     """The shapes of all tasks together, on one grid, and their nearness where a limit on splits is given."""
-    given_scale, given_origin, most = read_scale(scale), read_origin(origin), read_most_splits(most_splits)
+    given_scale, given_origin = read_scale(scale), read_origin(origin)
+    wishes = Wishes(read_most_splits(most_splits), read_sliver_width(sliver_width))
     tasks = [task for task in tasks if any(path.points for path in task.paths)]
     box = box_of(tasks)
     if box is None:
         start = given_origin or (Fraction(0), Fraction(0))
-        return Shapes([], Grid(given_scale or Fraction(1), start), None if most is None else 0)
+        return Shapes([], Grid(given_scale or Fraction(1), start), None if wishes.most_splits is None else 0)
     if given_scale is not None:
         grid = grid_by(given_scale, given_origin, box)
         if not fits(tasks, grid, box):
             tell_range(tasks, grid, given_origin, box)
-        return drawn_on(tasks, grid, given_origin, box, most, False)
+        return drawn_on(tasks, grid, given_origin, box, wishes, False)
     exponent = finest_exponent(tasks, given_origin, box)
     while True:
         grid = grid_by(power_of_two(exponent), given_origin, box)
-        answer = drawn_on(tasks, grid, given_origin, box, most, True)
+        answer = drawn_on(tasks, grid, given_origin, box, wishes, True)
         if answer is not None:
             return answer
         exponent -= 1
 
 
 def drawn_on(
-    tasks: Sequence[Task], grid: Grid, origin: Any, box: Box, most: Optional[int], is_free: bool
+    tasks: Sequence[Task], grid: Grid, origin: Any, box: Box, wishes: Wishes, is_free: bool
 ) -> Optional[Shapes]:
     """The answer on a grid; none where the area of a ring is out of range, and the scale is free."""
-    limit = None if most is None else Limit(most)
+    limit = None if wishes.most_splits is None else Limit(wishes.most_splits)
     try:
         parts = [task.shapes(grid, limit) for task in tasks]
         shapes = parts[0] if len(parts) == 1 else union(parts, limit)
@@ -243,6 +284,8 @@ def drawn_on(
         if is_free:
             return None
         tell_range(tasks, grid, origin, box)
+    if wishes.sliver_width is not None:
+        shapes = left_out(shapes, wishes.sliver_width, grid)
     whole = all(are_whole(task.paths) for task in tasks)
     polygons = [[grid.points(ring, whole) for ring in shape] for shape in shapes]
     return Shapes(polygons, grid, None if limit is None else limit.nearness)

@@ -30,6 +30,7 @@ def outline(
     scale: Optional[Number] = None,
     origin: Optional[Sequence[Number]] = None,
     most_splits: Optional[int] = None,
+    sliver_width: Optional[Number] = None,
 ) -> Shapes:
     """The polygons with their boundaries moved, all together.
 
@@ -53,6 +54,10 @@ def outline(
         most_splits: how many times edges may be split where they meet, 0 for any number. Where it is given the answer
             tells its nearness. A few points near one line can take very many splits, so set a limit where drawings come
             from strangers.
+        sliver_width: leaves out holes, and whole shapes, that are as thin as this, in units of the input: all points
+            lie within it of the line from the first one to the one farthest from that, measured along the axis along
+            which the line runs less far. Where edges cross that are nearly parallel, rounding may leave such, mostly
+            thinner than a grid unit.
 
     Returns:
         The shapes, with the scale and the origin.
@@ -68,7 +73,8 @@ def outline(
     inner = outer if hole_distance is None else read_number("", "hole_distance", hole_distance)
     arcs = read_arcs(max(abs(outer), abs(inner)), step, tolerance, at_least)
     joins = read_join(join, arcs, miter_limit, min_turn)
-    return draw([outline_task(drawing.polygons, (outer, inner), arcs, joins, rings)], scale, origin, most_splits)
+    tasks = [outline_task(drawing.polygons, (outer, inner), arcs, joins, rings)]
+    return draw(tasks, scale, origin, most_splits, sliver_width)
 
 
 def stroke(
@@ -89,6 +95,7 @@ def stroke(
     scale: Optional[Number] = None,
     origin: Optional[Sequence[Number]] = None,
     most_splits: Optional[int] = None,
+    sliver_width: Optional[Number] = None,
 ) -> Shapes:
     """Lines with a width, all together. A single point has none, and is not drawn.
 
@@ -102,7 +109,7 @@ def stroke(
         side: 'both', 'left' or 'right', seen along a line. Halves are cut off straight at their ends.
         closed: whether lines go on from their last point to their first; by default those do that are rings or end
             where they start.
-        join, step, tolerance, at_least, miter_limit, min_turn, scale, origin, most_splits: as for
+        join, step, tolerance, at_least, miter_limit, min_turn, scale, origin, most_splits, sliver_width: as for
             `outline`.
 
     Returns, Raises: as `outline`.
@@ -118,7 +125,7 @@ def stroke(
         read_cap("start_cap", cap if start_cap is None else start_cap),
         read_cap("end_cap", cap if end_cap is None else end_cap),
     )
-    return draw(stroke_tasks(paths, full, arcs, words, caps, closed), scale, origin, most_splits)
+    return draw(stroke_tasks(paths, full, arcs, words, caps, closed), scale, origin, most_splits, sliver_width)
 
 
 def variable_stroke(
@@ -131,6 +138,7 @@ def variable_stroke(
     scale: Optional[Number] = None,
     origin: Optional[Sequence[Number]] = None,
     most_splits: Optional[int] = None,
+    sliver_width: Optional[Number] = None,
 ) -> Shapes:
     """Lines whose width changes from vertex to vertex, all together.
 
@@ -140,7 +148,7 @@ def variable_stroke(
     Args:
         lines: as for `stroke`, but open, with vertices (x, y, width).
         widths: where vertices are (x, y), a list of widths for each line, or one list for one line.
-        step, tolerance, at_least, scale, origin, most_splits: as for `outline`.
+        step, tolerance, at_least, scale, origin, most_splits, sliver_width: as for `outline`.
 
     Returns, Raises: as `outline`.
     """
@@ -151,7 +159,7 @@ def variable_stroke(
         paths = with_widths(paths, widths)
     radius = max((Fraction(width) / 2 for path in paths for _, _, width in path.points), default=Fraction(0))
     arcs = read_arcs(max(radius, 0), step, tolerance, at_least)
-    return draw([variable_task(paths, arcs)], scale, origin, most_splits)
+    return draw([variable_task(paths, arcs)], scale, origin, most_splits, sliver_width)
 
 
 def buffer(
@@ -168,14 +176,16 @@ def buffer(
     scale: Optional[Number] = None,
     origin: Optional[Sequence[Number]] = None,
     most_splits: Optional[int] = None,
+    sliver_width: Optional[Number] = None,
 ) -> Shapes:
     """All that is within a distance of a geometry: outlines of polygons, strokes of lines, circles round points.
 
     Args:
         geometry: a GeoJSON mapping or an object with `__geo_interface__`, or a list of such; lists are polygons.
         distance: how far; below 0 polygons shrink, and lines and points are not drawn.
-        cap, join, step, tolerance, at_least, miter_limit, min_turn, scale, origin, most_splits: as for `stroke` and
-            `outline`. The limit is one for each of the three, and for joining them.
+        cap, join, step, tolerance, at_least, miter_limit, min_turn, scale, origin, most_splits, sliver_width: as for
+            `stroke` and `outline`. The limit is one for each of the three, and for joining them; slivers are left out
+            of all together.
 
     Returns, Raises: as `outline`.
     """
@@ -193,7 +203,7 @@ def buffer(
         width = 2 * Fraction(radius)
         circles = [Path(path.where, [(x, y, width) for x, y in path.points]) for path in drawing.points]
         tasks.append(variable_task(circles, arcs))
-    return draw(tasks, scale, origin, most_splits)
+    return draw(tasks, scale, origin, most_splits, sliver_width)
 
 
 # Tasks

@@ -10,6 +10,17 @@ ROOT = PACKAGE.parent.parent
 PROGRAM = ROOT / "crates/mesh_run/out/mesh_run"
 COUNTRY = PACKAGE / "examples/south_africa.geojson"
 
+SLIVER = [
+    [-253668, 994080],
+    [-537283, 2004779],
+    [-537751, 2004563],
+    [-538416, 2004132],
+    [-561008, 2047212],
+    [-561818, 2047551],
+    [-562788, 2047957],
+]
+"""A ring whose outline by 50,000 with bevels has a hole half a grid unit wide: the smallest that is known."""
+
 IS_QUICK = os.environ.get("I_OVERLAY_MESH_QUICK") == "1"
 """Whether fewer random drawings are tried."""
 

@@ -8,7 +8,7 @@ import sys
 import unittest
 import xml.etree.ElementTree
 
-from surroundings import COUNTRY, PACKAGE
+from surroundings import COUNTRY, PACKAGE, SLIVER
 
 from i_overlay_mesh import __version__, buffer
 
@@ -78,10 +78,19 @@ class TestBuffer(unittest.TestCase):
             (["--join", "miter", "--miter-limit", "2"], {"join": "miter", "miter_limit": 2.0}),
             (["--tolerance", "0.25"], {"tolerance": 0.25}),
             (["--step", "30", "--at-least", "--scale", "100"], {"step": 30.0, "at_least": True, "scale": 100.0}),
+            (["--sliver-width", "10.5"], {"sliver_width": 10.5}),
         ]
         for words, options in cases:
             with self.subTest(words):
                 self.assertEqual(self.answer(LINE, *words), self.buffered(LINE, **options))
+
+    def test_slivers(self):
+        polygon = {"type": "Polygon", "coordinates": [[*SLIVER, SLIVER[0]]]}
+        words = ("buffer", "--distance", "50000", "--join", "bevel", "--scale", "1")
+        for more, rings in ((), 2), (("--sliver-width", "1"), 1):
+            result = run(*words, *more, text=json.dumps(polygon))
+            self.assertEqual((result.returncode, result.stderr), (0, b""))
+            self.assertEqual(len(json.loads(result.stdout)["coordinates"]), rings)
 
     def test_lines(self):
         for separator in ("", "\x1e"):
@@ -146,6 +155,7 @@ class TestErrors(unittest.TestCase):
     def test_options(self):
         self.check(2, "step is 90.0 degrees", "buffer", "--distance", "5", "--step", "90")
         self.check(2, "--distance", "buffer")
+        self.check(2, "sliver_width is 0.0", "buffer", "--distance", "5", "--sliver-width", "0")
         self.check(2, "at_least needs round joins", "buffer", "--distance", "5", "--at-least", "--join", "miter")
 
     def test_no_library(self):
