@@ -184,10 +184,6 @@ pub rises_map : {A B : Type 0} (lt : B → B → Bool) (f : A → B) (xs : List 
 rises_map lt f [] h = tt
 rises_map lt f (x ∷ xs) h = (each_map f (λ y. lt y (f x) ≡ false) xs h.0, rises_map lt f xs h.1)
 
-pub rises_unmap : {A B : Type 0} (lt : B → B → Bool) (f : A → B) (xs : List A) → Rises lt (map f xs) → Rises (λ a b. lt (f a) (f b)) xs
-rises_unmap lt f [] h = tt
-rises_unmap lt f (x ∷ xs) h = (each_unmap f (λ y. lt y (f x) ≡ false) xs h.0, rises_unmap lt f xs h.1)
-
 pub rises_by : {A : Type 0} (lt less : A → A → Bool) → ((a b : A) → less a b ≡ lt a b) → (xs : List A) → Rises lt xs → Rises less xs
 rises_by lt less same [] h = tt
 rises_by lt less same (x ∷ xs) h =

@@ -57,11 +57,6 @@ broken_off (Some text) (Some left) None part plain taken broken = absurd broken
 broken_off (Some text) (Some left) (Some rest) part plain taken (more, more_plain, more_taken) =
     (part ++ more, All-append (λ b. b ≢ 10) part more plain more_plain, taken ∙ ap (λ l. part ++ l) more_taken ∙ sym (append_assoc part more rest))
 
-pub broken_here : (old new : Option (List ℕ)) (part : List ℕ) → All (λ byte. byte ≢ 10) part → Consumes old new part → BreaksOff old new
-broken_here None new part plain taken = tt
-broken_here (Some text) None part plain taken = absurd taken
-broken_here (Some text) (Some left) part plain taken = (part, plain, taken)
-
 -- a line of which not nothing is held has a byte
 pub held_has_bytes : (longest : Option ℕ) (line bytes : List ℕ) (held : Held) → Holds longest line bytes held → (held ≡ Whole → 0 < length bytes) → 0 < length line
 held_has_bytes longest line bytes Whole (same, fits) some = subst (λ (l : List ℕ). 0 < length l) same (some refl)
