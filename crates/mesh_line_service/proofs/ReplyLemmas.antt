@@ -1,35 +1,47 @@
 -- Lemmas over replies: what is answered or told is a reply, and replies join.
-use Rattle.std.proofs.Common.{◌≡◌, ◌∙◌, ℕ, ◌<◌, List, [], ◌∷◌, ◌++◌, length, String, Global, Option, None, Some, Result, Ok, Err, IfOk, IfErr, refl, sym, subst, ap, append_assoc, append-nil, arith}
+use Rattle.std.proofs.Common.{◌≡◌, ◌∙◌, inl, inr, ℕ, ◌<◌, true, List, [], ◌∷◌, ◌++◌, length, String, Global, Option, None, Some, Result, Ok, Err, IfOk, IfErr, sym, subst, ap, append_assoc, append-nil, arith}
 use Rattle.std.specs.Prelude.{string_bytes}
 use Rattle.std.specs.List.{AllZip, concat}
 use Rattle.std.specs.Io.KnownBytes.{Appends}
 use Rattle.std.proofs.KnownBytes.{Appends-trans}
 use Rattle.mesh_offset.specs.declared.error.IntOutlineError.TheVariants.{CoordinateOutOfRange, OutOfMemory}
-use Rattle.mesh_request.specs.Failures.{IsOfMemory}
+use Rattle.mesh_offset.specs.declared.error.IntOutlineError.{IntOutlineError}
+use Rattle.mesh_request.specs.Failures.{failure_line, IsOfMemory}
 use Rattle.mesh_request.specs.declared.failure.Failure.{Failure}
 use Rattle.mesh_request.specs.declared.failure.Failure.TheVariants.{Unreadable, Refused}
-use Rattle.mesh_service.specs.Serving.{IsAnswer, IsRefused, HoldsNoRequest}
+use Rattle.mesh_service.specs.Lines.{why_text}
+use Rattle.mesh_service.specs.Reasons.{LiesIn, reason_text}
+use Rattle.mesh_service.specs.Serving.{IsRefused, HoldsNoRequest}
+use Rattle.mesh_service.specs.declared.reason.Reason.{Reason}
 use Rattle.mesh_line_service.specs.Held.{IsWithin}
 use Rattle.mesh_line_service.specs.Lines.{lines_of, TakesLines}
 use Rattle.mesh_line_service.specs.Replies.{IsReplyTo, AppendsReplies, too_long_text}
 use Rattle.mesh_line_service.specs.Private.Steps.{reply_text}
+use Rattle.mesh_line_service.specs.declared.options.LineOptions.{LineOptions}
 
--- what the service answers to a line that is not too long is its reply
-pub responded : (longest : Option ℕ) (line : List ℕ) (told : Result (String Global) Failure) → IsWithin longest line →
-    IfOk told (λ reply. IsAnswer line (string_bytes reply)) → (told ≡ Err (Refused CoordinateOutOfRange) → IsRefused line) →
-    (told ≡ Err Unreadable → HoldsNoRequest line) → IfErr told (λ e. IsOfMemory e → 0 < length line) → IsReplyTo longest line (reply_text told)
-responded longest line (Ok reply) within answered refused none memory = IsReplyTo.answer within answered
-responded longest line (Err Unreadable) within answered refused none memory = IsReplyTo.no_request within (none refl)
-responded longest line (Err (Refused OutOfMemory)) within answered refused none memory = IsReplyTo.no_memory (memory tt)
-responded longest line (Err (Refused CoordinateOutOfRange)) within answered refused none memory = IsReplyTo.refusal within (refused refl)
+-- a refusal of a line that is not too long is its reply
+pub refusal_told : (options : LineOptions) (line : List ℕ) (told : Result (String Global) Failure) (failure : Failure) (error : IntOutlineError) →
+    told ≡ Err failure → failure ≡ Refused error → IsWithin options.longest line → (told ≡ Err (Refused CoordinateOutOfRange) → IsRefused line) →
+    IfErr told (λ e. IsOfMemory e → 0 < length line) → IsReplyTo options line (failure_line (Refused error))
+refusal_told options line told failure CoordinateOutOfRange is same within refused memory = IsReplyTo.refusal within (refused (is ∙ ap Err same))
+refusal_told options line told failure OutOfMemory is same within refused memory =
+    IsReplyTo.no_memory (inl (subst (λ (t : Result (String Global) Failure). IfErr t (λ e. IsOfMemory e → 0 < length line)) (is ∙ ap Err same) memory tt))
+
+-- what tells why a line holds no request is its reply
+pub why_told : (options : LineOptions) (line : List ℕ) (told : Result (String Global) Failure) → IsWithin options.longest line → HoldsNoRequest line → options.why ≡ true →
+    IfOk told (λ text. (reason : Reason) × LiesIn line reason × (string_bytes text ≡ why_text (reason_text reason))) → IfErr told IsOfMemory → IsReplyTo options line (reply_text told)
+why_told options line (Ok text) within none asked (reason, lies, same) memory = subst (IsReplyTo options line) (sym same) (IsReplyTo.reasoned within none asked lies)
+why_told options line (Err Unreadable) within none asked reasoned memory = absurd memory
+why_told options line (Err (Refused OutOfMemory)) within none asked reasoned memory = IsReplyTo.no_memory (inr asked)
+why_told options line (Err (Refused CoordinateOutOfRange)) within none asked reasoned memory = absurd memory
 
 -- what is told of a line that is too long is its reply
-pub too_long_told : (longest : Option ℕ) (most : ℕ) (line : List ℕ) (told : Result (String Global) Failure) →
-    IfOk told (λ text. string_bytes text ≡ too_long_text most) → IfErr told IsOfMemory → longest ≡ Some most → most < length line → IsReplyTo longest line (reply_text told)
-too_long_told longest most line (Ok text) same memory bound many = subst (IsReplyTo longest line) (sym same) (IsReplyTo.too_long bound many)
-too_long_told longest most line (Err Unreadable) same memory bound many = absurd memory
-too_long_told longest most line (Err (Refused OutOfMemory)) same memory bound many = IsReplyTo.no_memory (omega (arith, many))
-too_long_told longest most line (Err (Refused CoordinateOutOfRange)) same memory bound many = absurd memory
+pub too_long_told : (options : LineOptions) (most : ℕ) (line : List ℕ) (told : Result (String Global) Failure) →
+    IfOk told (λ text. string_bytes text ≡ too_long_text most) → IfErr told IsOfMemory → options.longest ≡ Some most → most < length line → IsReplyTo options line (reply_text told)
+too_long_told options most line (Ok text) same memory bound many = subst (IsReplyTo options line) (sym same) (IsReplyTo.too_long bound many)
+too_long_told options most line (Err Unreadable) same memory bound many = absurd memory
+too_long_told options most line (Err (Refused OutOfMemory)) same memory bound many = IsReplyTo.no_memory (inl (omega (arith, many)))
+too_long_told options most line (Err (Refused CoordinateOutOfRange)) same memory bound many = absurd memory
 
 -- lines that are taken in turn are taken together
 pub taken_in_turn : (old mid new : Option (List ℕ)) (lines more : List (List ℕ)) → TakesLines old mid lines → TakesLines mid new more → TakesLines old new (lines ++ more)
@@ -49,10 +61,10 @@ AllZip-more R (a ∷ xs) [] x y each last = absurd each
 AllZip-more R (a ∷ xs) (b ∷ ys) x y each last = (each.0, AllZip-more R xs ys x y each.1 last)
 
 -- a reply more, to a line more
-pub appended_reply : (longest : Option ℕ) (lines : List (List ℕ)) (line reply : List ℕ) (old mid new : Option (List ℕ)) →
-    AppendsReplies longest lines old mid → IsReplyTo longest line reply → Appends mid new reply → AppendsReplies longest (lines ++ line ∷ []) old new
-appended_reply longest lines line reply old mid new before replies appended = record {
+pub appended_reply : (options : LineOptions) (lines : List (List ℕ)) (line reply : List ℕ) (old mid new : Option (List ℕ)) →
+    AppendsReplies options lines old mid → IsReplyTo options line reply → Appends mid new reply → AppendsReplies options (lines ++ line ∷ []) old new
+appended_reply options lines line reply old mid new before replies appended = record {
   replies = before.replies ++ reply ∷ [];
-  each = AllZip-more (IsReplyTo longest) lines before.replies line reply before.each replies;
+  each = AllZip-more (IsReplyTo options) lines before.replies line reply before.each replies;
   written = subst (Appends old new) (sym (concat-more before.replies reply)) (Appends-trans old mid new (concat before.replies) reply before.written appended);
 }

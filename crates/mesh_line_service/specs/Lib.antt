@@ -1,3 +1,4 @@
+pub mod Arguments
 pub mod Endings
 pub mod Held
 pub mod Lines

@@ -3,30 +3,71 @@
 ghost use Rattle.std.specs.Prelude.{◌≡◌, List, OnOk, IfOk, IfErr, string_bytes};
 ghost use Rattle.std.specs.Io.KnownBytes.{Appends};
 ghost use Rattle.mesh_request.specs.Failures.{IsOfMemory};
-ghost use Rattle.mesh_service.specs.Serving.{AppendsBeginning};
-ghost use Rattle.mesh_line_service.specs.Held.{Holds};
+ghost use Rattle.mesh_service.specs.Lines.{why_text};
+ghost use Rattle.mesh_service.specs.Reasons.{LiesIn, reason_text};
+ghost use Rattle.mesh_service.specs.Serving.{AppendsBeginning, HoldsNoRequest};
+ghost use Rattle.mesh_line_service.specs.Held.{Holds, IsWithin};
 ghost use Rattle.mesh_line_service.specs.Private.Steps.{reply_text};
 ghost use Rattle.mesh_line_service.specs.Replies.{IsReplyTo, too_long_text};
 
 use crate::line::{Held, Line};
+use crate::options::LineOptions;
 use mesh_offset::error::IntOutlineError;
 use mesh_request::failure::Failure;
+use mesh_service::answer::why_line;
 use mesh_service::output::write_line;
 use mesh_service::service::respond;
+use mesh_service::why::why;
 use std::alloc::Global;
 use std::io;
 use std::io::Write;
 
 /// The reply to a line, or the failure whose line stands in its place. It is made as a whole, so that nothing is
 /// printed before memory is refused.
-pub(crate) fn reply(alloc: Global, line: &Line) -> Result<String, Failure>
-    ensures { (longest : _) → (text : List _) → Holds longest text line.now.bytes.items line.now.held
-        → IsReplyTo longest text (reply_text result) }
+pub(crate) fn reply(alloc: Global, line: &Line, options: LineOptions) -> Result<String, Failure>
+    ensures { (text : List _) → Holds options.longest text line.now.bytes.items line.now.held
+        → IsReplyTo options text (reply_text result) }
 {
     match line.held {
-        Held::Whole => respond(alloc, &line.bytes),
+        Held::Whole => reply_to(alloc, &line.bytes, options),
         Held::TooLong(most) => too_long(alloc, most),
         Held::NoMemory => Err(Failure::Refused(IntOutlineError::OutOfMemory)),
+    }
+}
+
+/// The reply to a line that is held and not too long.
+fn reply_to(alloc: Global, line: &[u8], options: LineOptions) -> Result<String, Failure>
+    ensures { IsWithin options.longest line.now → IsReplyTo options line.now (reply_text result) }
+{
+    match respond(alloc, line) {
+        Ok(answer) => Ok(answer),
+        Err(Failure::Unreadable) => no_request(alloc, line, options),
+        Err(Failure::Refused(error)) => Err(Failure::Refused(error)),
+    }
+}
+
+/// The reply to a line that holds no request.
+fn no_request(alloc: Global, line: &[u8], options: LineOptions) -> Result<String, Failure>
+    requires { HoldsNoRequest line.now }
+    ensures { IsWithin options.longest line.now → IsReplyTo options line.now (reply_text result) }
+{
+    if options.why {
+        tell_why(alloc, line)
+    } else {
+        Err(Failure::Unreadable)
+    }
+}
+
+/// The reply to a line that holds no request, with the reason. It fails only where memory is refused.
+fn tell_why(alloc: Global, line: &[u8]) -> Result<String, Failure>
+    requires { HoldsNoRequest line.now }
+    ensures told { IfOk result (λ text. (reason : _) × LiesIn line.now reason
+        × (string_bytes text ≡ why_text (reason_text reason))) }
+    ensures memory { IfErr result IsOfMemory }
+{
+    match why(alloc, line)? {
+        Some(reason) => Ok(why_line(alloc, &reason)?),
+        None => Err(Failure::Unreadable),
     }
 }
 

@@ -4,6 +4,7 @@ ghost use Rattle.std.specs.Prelude.{◌≡◌, ◌↔◌};
 ghost use Rattle.mesh_line_service.specs.Endings.{RepliesToAll, RepliesBeforeFailedRead, RepliesBeforeFailedWrite};
 
 use crate::line::read_line;
+use crate::options::LineOptions;
 use crate::reply::{reply, write_reply};
 use std::alloc::Global;
 use std::io;
@@ -24,15 +25,6 @@ impl Ending {
     }
 }
 
-/// What a run over lines is asked beside its replies.
-#[derive(Debug, Clone, Copy, PartialEq, Eq)]
-pub struct LineOptions {
-    /// The most bytes that a line may have, without its line feed. `None`: as many as memory holds.
-    pub longest: Option<usize>,
-    /// Whether to tell people how many lines have their reply.
-    pub progress: bool,
-}
-
 /// How a run over lines ended.
 #[derive(Debug, Clone, Copy, PartialEq, Eq)]
 pub enum Ending {
@@ -47,8 +39,9 @@ pub enum Ending {
 
 /// Writes one reply to each line that the reader has left, in their order, and hands each on before it reads the next
 /// line. A reply is what the service answers to the bytes of the line without its line feed: an answer, or a line that
-/// tells of a failure. A line of more than `options.longest` bytes is passed over, and replied to by a refusal. What
-/// people are told on the stream of errors, and whether that takes it, changes none of this.
+/// tells of a failure. A line of more than `options.longest` bytes is passed over, and replied to by a refusal. With
+/// `options.why` the reply to a line that holds no request tells why. What people are told on the stream of errors, and
+/// whether that takes it, changes none of this.
 pub fn serve_lines<R: BufRead, W: Write, E: Write>(
     alloc: Global,
     reader: &mut R,
@@ -56,11 +49,11 @@ pub fn serve_lines<R: BufRead, W: Write, E: Write>(
     errors: &mut E,
     options: LineOptions,
 ) -> Ending
-    ensures served { result ≡ Ending.Served → RepliesToAll options.longest
+    ensures served { result ≡ Ending.Served → RepliesToAll options
         (R.remaining reader.old) (R.remaining reader.new) (W.contents writer.old) (W.contents writer.new) }
-    ensures unread { result ≡ Ending.Unread → RepliesBeforeFailedRead options.longest
+    ensures unread { result ≡ Ending.Unread → RepliesBeforeFailedRead options
         (R.remaining reader.old) (R.remaining reader.new) (W.contents writer.old) (W.contents writer.new) }
-    ensures unwritten { result ≡ Ending.Unwritten → RepliesBeforeFailedWrite options.longest
+    ensures unwritten { result ≡ Ending.Unwritten → RepliesBeforeFailedWrite options
         (R.remaining reader.old) (R.remaining reader.new) (W.contents writer.old) (W.contents writer.new) }
 {
     for before in 0..u64::MAX {
@@ -68,7 +61,7 @@ pub fn serve_lines<R: BufRead, W: Write, E: Write>(
             Err(_) => return Ending::Unread,
             Ok(None) => return Ending::Served,
             Ok(Some(line)) => {
-                let reply = reply(alloc, &line);
+                let reply = reply(alloc, &line, options);
                 match write_reply(writer, &reply) {
                     Err(_) => return Ending::Unwritten,
                     Ok(()) => {

@@ -1,7 +1,8 @@
 //! Readers and writers that fail, are interrupted, or give and take byte by byte.
 
 use crate::lines::{ANSWER, PLAIN, REQUEST, UNREADABLE, joined};
-use mesh_line_service::service::{Ending, LineOptions, serve_lines};
+use mesh_line_service::options::LineOptions;
+use mesh_line_service::service::{Ending, serve_lines};
 use mesh_test_support::compared::expect_equal;
 use std::io;
 use std::io::{BufReader, Error, ErrorKind, Read, Write};
@@ -65,7 +66,7 @@ fn long_line_byte_by_byte(rt: HostRuntime) -> Result<(), Fail> {
     let text = joined(rt.alloc(), &[REQUEST, b"\n\n", REQUEST])?;
     let options = LineOptions {
         longest: Some(100),
-        progress: false,
+        ..PLAIN
     };
     let reader = FailingReader {
         left: text.as_slice(),
@@ -136,8 +137,8 @@ fn writers(rt: HostRuntime) -> Result<(), Fail> {
 #[test]
 fn failing_progress(rt: HostRuntime) -> Result<(), Fail> {
     let options = LineOptions {
-        longest: None,
         progress: true,
+        ..PLAIN
     };
     let mut reader = REQUEST;
     let (mut writer, mut errors) = (

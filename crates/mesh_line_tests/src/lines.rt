@@ -1,6 +1,7 @@
 //! Texts of several lines, and their replies.
 
-use mesh_line_service::service::{Ending, LineOptions, serve_lines};
+use mesh_line_service::options::LineOptions;
+use mesh_line_service::service::{Ending, serve_lines};
 use mesh_test_support::compared::expect_equal;
 use std::alloc::Global;
 use std::io;
@@ -13,23 +14,25 @@ pub(crate) const ANSWER: &[u8] =
     b"{\"edges\":[[[[0,0],[8,0]],[[0,8],[0,0]],[[8,0],[8,8]],[[8,8],[0,8]]]]}\n";
 
 /// A second request, and its answer: a path of two points has no edge.
-const SECOND: &[u8] =
+pub(crate) const SECOND: &[u8] =
     br#"{"op":"outline","int":"i16","out":"edges","paths":[[[0,0],[8,0]]],"style":{"outer":0,"inner":0}}"#;
 
-const SECOND_ANSWER: &[u8] = b"{\"edges\":[[]]}\n";
+pub(crate) const SECOND_ANSWER: &[u8] = b"{\"edges\":[[]]}\n";
 
 /// A request that is refused.
-const REFUSED: &[u8] =
+pub(crate) const REFUSED: &[u8] =
     br#"{"op":"outline","int":"i16","out":"edges","paths":[[[0,0],[16384,0],[0,8]]],"style":{"outer":0,"inner":0}}"#;
 
-const REFUSAL: &[u8] = b"{\"refused\":\"mesh coordinate exceeds the integer engine range\"}\n";
+pub(crate) const REFUSAL: &[u8] =
+    b"{\"refused\":\"mesh coordinate exceeds the integer engine range\"}\n";
 
 pub(crate) const UNREADABLE: &[u8] = b"{\"unreadable\":\"request\"}\n";
 
-const TOO_LONG: &[u8] = b"{\"refused\":\"line is longer than 4 bytes\"}\n";
+pub(crate) const TOO_LONG: &[u8] = b"{\"refused\":\"line is longer than 4 bytes\"}\n";
 
 pub(crate) const PLAIN: LineOptions = LineOptions {
     longest: None,
+    why: false,
     progress: false,
 };
 
@@ -43,7 +46,7 @@ pub(crate) fn joined(alloc: Global, parts: &[&[u8]]) -> Result<Vec<u8>, Fail> {
 }
 
 /// The text has these replies, and the run ends served.
-fn expect_replies(
+pub(crate) fn expect_replies(
     alloc: Global,
     text: &[&[u8]],
     options: LineOptions,
@@ -93,7 +96,7 @@ fn lines(rt: HostRuntime) -> Result<(), Fail> {
 fn long_lines(rt: HostRuntime) -> Result<(), Fail> {
     let options = LineOptions {
         longest: Some(4),
-        progress: false,
+        ..PLAIN
     };
     let cases: [(&[&[u8]], &[&[u8]]); 5] = [
         (&[b"null"], &[UNREADABLE]),
@@ -116,7 +119,7 @@ fn long_lines(rt: HostRuntime) -> Result<(), Fail> {
 fn longest_line(rt: HostRuntime) -> Result<(), Fail> {
     let options = LineOptions {
         longest: Some(REQUEST.len()),
-        progress: false,
+        ..PLAIN
     };
     expect_replies(rt.alloc(), &[REQUEST, b"\n"], options, &[ANSWER])
 }
@@ -125,8 +128,8 @@ fn longest_line(rt: HostRuntime) -> Result<(), Fail> {
 #[test]
 fn progress(rt: HostRuntime) -> Result<(), Fail> {
     let options = LineOptions {
-        longest: None,
         progress: true,
+        ..PLAIN
     };
     let text = joined(rt.alloc(), &[REQUEST, b"\n\n", SECOND])?;
     let (mut reader, mut writer, mut told) = (

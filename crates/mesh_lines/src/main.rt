@@ -2,24 +2,12 @@
 //! line of standard output the answer to it, in the same order.
 #![tactic(auto)]
 
-mod arguments;
-
-use arguments::{Asked, read_arguments};
-use mesh_line_service::service::{LineOptions, serve_lines};
-use std::io;
+use mesh_line_service::arguments::{Asked, USAGE, read_words};
+use mesh_line_service::options::LineOptions;
+use mesh_line_service::service::serve_lines;
 use std::io::{BufReader, Write};
 use std::process::ExitCode;
-
-/// What is told where it is asked, or where an argument is none that is known.
-const USAGE: &str = "usage: mesh_lines [--longest N] [--progress]\n\
-    Each line of standard input is a request in JSON, such as\n\
-    {\"op\":\"outline\",\"int\":\"i32\",\"out\":\"shapes\",\"paths\":[[[0,0],[100,0],[0,100]]],\
-    \"style\":{\"outer\":10,\"inner\":10}}\n\
-    and each line of standard output the answer to it, in the same order.\n\n\
-    \x20 --longest N  refuse lines of more than N bytes\n\
-    \x20 --progress   tell on standard error how many lines are done\n\
-    \x20 --help       print this, and end\n\
-    \x20 --version    print the version, and end\n";
+use std::{env, io};
 
 const VERSION: &str = "mesh_lines 1.0\n";
 
@@ -38,6 +26,15 @@ fn main(rt: HostRuntime) -> ExitCode {
             ExitCode::from(1)
         }
     }
+}
+
+/// What the arguments ask; `None` where one is not known, or lacks its number.
+fn read_arguments(rt: &HostRuntime) -> io::Result<Option<Asked>> {
+    let mut words = Vec::new(rt.alloc());
+    for word in env::args(rt)?.skip(1) {
+        words.push(word)?;
+    }
+    Ok(read_words(&words))
 }
 
 /// Replies to each line of standard input. The exit status says how that ended.

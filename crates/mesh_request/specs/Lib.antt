@@ -3,3 +3,4 @@ pub mod Places
 pub mod Private
 pub mod Reading
 pub mod Requests
+pub mod Texts

@@ -44,11 +44,17 @@ impl Fault {
 }
 
 impl fmt::Display for Fault {
+    ghost use Rattle.std.specs.Prelude.{Some};
+    ghost use Rattle.mesh_request.specs.Texts.{fault_text};
+
+    ghost output = { λ fault. Some (fault_text fault) };
+
     fn fmt<W: fmt::Write>(&self, f: &mut fmt::Formatter<W>) -> fmt::Result {
-        if self.place != Place::Request {
-            write!(f, "{}: ", self.place)?;
+        let problem = self.problem;
+        match self.place {
+            Place::Request => write!(f, "{problem}"),
+            place => write!(f, "{place}: {problem}"),
         }
-        write!(f, "{}", self.problem)
     }
 }
 

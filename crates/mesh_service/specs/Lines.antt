@@ -2,7 +2,7 @@
 use Rattle.std.specs.Prelude.{ℕ, ℤ, List, [], ◌∷◌, ◌++◌, map, codes}
 use Rattle.std.specs.Ordering.{ordering_then}
 use Rattle.std.specs.declared.cmp.Ordering.{Ordering}
-use Rattle.serde_json.specs.Data.{Data, number, array, object, item, no_items, member, no_members}
+use Rattle.serde_json.specs.Data.{Data, number, string, array, object, item, no_items, member, no_members}
 use Rattle.serde_json.specs.Find.{of_integer}
 use Rattle.serde_json.specs.View.{items_of}
 use Rattle.serde_json.specs.Written.{compact_text}
@@ -55,3 +55,12 @@ shapes_data shapes = only_member (codes "shapes") (list_data (list_data (list_da
 -- that as a line
 abbrev pub shapes_text : List (List (List Point)) → List ℕ
 shapes_text shapes = line_text (shapes_data shapes)
+
+-- that a text holds no request, and why: {"unreadable":"request","why":..}
+abbrev pub why_data : List ℕ → Data
+why_data told =
+    object (member (codes "unreadable") (string (codes "request")) (member (codes "why") (string told) no_members))
+
+-- that as a line
+abbrev pub why_text : List ℕ → List ℕ
+why_text told = line_text (why_data told)

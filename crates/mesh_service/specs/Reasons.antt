@@ -1,10 +1,12 @@
 -- Why a text holds no request.
-use Rattle.std.specs.Prelude.{ℕ, ◌≡◌, ◌≤◌, ◌+◌, List, [], ◌∷◌, length, take, Some, if◌then◌else◌, nat_eq, IsUtf8, true}
+use Rattle.std.specs.Prelude.{ℕ, ◌≡◌, ◌≤◌, ◌+◌, List, [], ◌∷◌, ◌++◌, length, take, Some, if◌then◌else◌, nat_eq, IsUtf8}
+use Rattle.std.specs.Prelude.{true, codes, decimal}
 use Rattle.serde_json.specs.Data.{Data}
 use Rattle.serde_json.specs.Read.{read}
 use Rattle.serde_json.specs.Written.{has_float}
 use Rattle.mesh_request.specs.Places.{IsPlaceIn}
 use Rattle.mesh_request.specs.Requests.{Request}
+use Rattle.mesh_request.specs.Texts.{fault_text}
 use Rattle.mesh_service.specs.Serving.{request_in}
 use Rattle.mesh_service.specs.declared.reason.Reason.{Reason}
 use Rattle.mesh_service.specs.declared.reason.Reason.TheVariants.{Empty, ByteOrderMark, InvalidJson, Wrong}
@@ -56,3 +58,16 @@ IsValueReason d InexactNumber = has_float d ≡ true
 pub data LiesIn (text : List ℕ) (reason : Reason) : Type 0 where
   in_text : IsTextReason text reason → LiesIn text reason
   in_value : (d : Data) → read text ≡ Some d → IsValueReason d reason → LiesIn text reason
+
+-- a place of a text, as people read it
+abbrev pub place_text : TextPlace → List ℕ
+place_text place = codes "line " ++ (decimal place.line ++ (codes ", column " ++ decimal place.column))
+
+-- a reason, as people read it
+abbrev pub reason_text : Reason → List ℕ
+reason_text Empty = codes "the input is empty"
+reason_text ByteOrderMark = codes "line 1, column 1: a byte order mark"
+reason_text (InvalidJson place) = place_text place ++ codes ": invalid JSON"
+reason_text (Wrong fault) = fault_text fault
+reason_text InexactNumber =
+    codes "a number is no whole number from -2^63 to 2^64-1, under a key that is ignored"

@@ -7,8 +7,10 @@ ghost use Rattle.serde_json.specs.View.{view};
 ghost use Rattle.serde_json.specs.Written.{has_float};
 ghost use Rattle.mesh_num.specs.Paths.{paths_of, shapes_of};
 ghost use Rattle.mesh_service.specs.Lines.{point_data, edge_data, list_data, only_member, line_text, edges_text};
-ghost use Rattle.mesh_service.specs.Lines.{shapes_text};
+ghost use Rattle.mesh_service.specs.Lines.{shapes_text, why_data, why_text};
+ghost use Rattle.mesh_service.specs.Reasons.{reason_text};
 
+use crate::reason::Reason;
 use mesh_num::num::convert::widen;
 use mesh_num::num::{IntNumber, IntPoint, OverlayInt};
 use mesh_num::shape::buffer::IntShapes;
@@ -50,6 +52,21 @@ fn shapes_answer(alloc: Global, list: Value) -> Result<Value, AllocError>
     ensures { IfOk result (λ v. view v ≡ only_member (codes "shapes") (view list)) }
 {
     json!(in alloc; { "shapes": list })
+}
+
+/// The line that tells that a text holds no request, and why. It fails only where memory is refused.
+pub fn why_line(alloc: Global, reason: &Reason) -> Result<String, AllocError>
+    ensures { IfOk result (λ s. string_bytes s ≡ why_text (reason_text reason.now)) }
+{
+    let told = format!(in alloc; "{reason}")?;
+    let answer = why_answer(alloc, told)?;
+    line_of(alloc, &answer)
+}
+
+fn why_answer(alloc: Global, told: String) -> Result<Value, AllocError>
+    ensures { IfOk result (λ v. view v ≡ why_data (string_bytes told)) }
+{
+    json!(in alloc; { "unreadable": "request", "why": told })
 }
 
 fn line_of(alloc: Global, answer: &Value) -> Result<String, AllocError>

@@ -29,6 +29,11 @@ pub struct TextPlace {
 }
 
 impl fmt::Display for Reason {
+    ghost use Rattle.std.specs.Prelude.{Some};
+    ghost use Rattle.mesh_service.specs.Reasons.{reason_text};
+
+    ghost output = { λ reason. Some (reason_text reason) };
+
     fn fmt<W: fmt::Write>(&self, f: &mut fmt::Formatter<W>) -> fmt::Result {
         match self {
             Reason::Empty => write!(f, "the input is empty"),
@@ -44,6 +49,11 @@ impl fmt::Display for Reason {
 }
 
 impl fmt::Display for TextPlace {
+    ghost use Rattle.std.specs.Prelude.{Some};
+    ghost use Rattle.mesh_service.specs.Reasons.{place_text};
+
+    ghost output = { λ place. Some (place_text place) };
+
     fn fmt<W: fmt::Write>(&self, f: &mut fmt::Formatter<W>) -> fmt::Result {
         write!(f, "line {}, column {}", self.line, self.column)
     }

@@ -25,6 +25,11 @@ pub enum Place {
 }
 
 impl fmt::Display for Place {
+    ghost use Rattle.std.specs.Prelude.{Some};
+    ghost use Rattle.mesh_request.specs.Texts.{place_text};
+
+    ghost output = { λ place. Some (place_text place) };
+
     fn fmt<W: fmt::Write>(&self, f: &mut fmt::Formatter<W>) -> fmt::Result {
         match self {
             Place::Request => write!(f, "request"),

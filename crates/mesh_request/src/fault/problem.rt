@@ -1,5 +1,9 @@
 //! What is wrong at a place of a request.
 
+ghost use Rattle.std.specs.Prelude.{◌≡◌, Some};
+ghost use Rattle.std.specs.Fmt.{DisplaysOnOk};
+ghost use Rattle.mesh_request.specs.Texts.{misfit_text, type_text};
+
 use crate::fault::key::Key;
 use mesh_num::num::IntNumber;
 use mesh_num::num::convert::widen;
@@ -24,10 +28,35 @@ impl CoordinateType {
     }
 
     /// Its name.
-    fn name(self) -> &'static str {
+    fn name(self) -> &'static str
+        ensures { result.now ≡ type_text self }
+    {
         match self {
             CoordinateType::I16 => "i16",
             CoordinateType::I32 => "i32",
+        }
+    }
+}
+
+/// A whole number of 64 bits.
+#[derive(Debug, Clone, Copy, PartialEq, Eq)]
+pub enum WholeNumber {
+    /// One that fits with a sign.
+    Signed(i64),
+    /// One that fits without a sign alone.
+    Unsigned(u64),
+}
+
+impl fmt::Display for WholeNumber {
+    ghost use Rattle.std.specs.Prelude.{Some};
+    ghost use Rattle.mesh_request.specs.Texts.{number_text};
+
+    ghost output = { λ number. Some (number_text number) };
+
+    fn fmt<W: fmt::Write>(&self, f: &mut fmt::Formatter<W>) -> fmt::Result {
+        match self {
+            WholeNumber::Signed(number) => write!(f, "{number}"),
+            WholeNumber::Unsigned(number) => write!(f, "{number}"),
         }
     }
 }
@@ -56,7 +85,7 @@ pub enum Problem {
     /// It is no whole number.
     NoWholeNumber,
     /// The number does not fit the type of coordinates.
-    OutOfType(i128, CoordinateType),
+    OutOfType(WholeNumber, CoordinateType),
     /// It is neither true nor false.
     NoBool,
     /// It is no area: a whole number without sign that fits the type of areas.
@@ -80,46 +109,56 @@ pub enum Problem {
 }
 
 impl fmt::Display for Problem {
+    ghost use Rattle.std.specs.Prelude.{Some};
+    ghost use Rattle.mesh_request.specs.Texts.{problem_text};
+
+    ghost output = { λ problem. Some (problem_text problem) };
+
     fn fmt<W: fmt::Write>(&self, f: &mut fmt::Formatter<W>) -> fmt::Result {
         match self {
             Problem::Missing(key) => write!(f, "\"{}\" is missing", key.text()),
-            Problem::OutOfType(number, kind) => write!(f, "{number} is no {}", kind.name()),
-            _ => f.write_str(self.sentence()),
+            Problem::OutOfType(number, kind) => write_misfit(f, *number, *kind),
+            Problem::NoObject => f.write_str("an object is needed"),
+            Problem::NoOperation => {
+                f.write_str("\"outline\", \"stroke\" or \"variable_stroke\" is needed")
+            }
+            Problem::NoCoordinateType => f.write_str("\"i16\" or \"i32\" is needed"),
+            Problem::NoOutput => f.write_str("\"edges\" or \"shapes\" is needed"),
+            Problem::NoPaths => f.write_str("a list of paths is needed"),
+            Problem::NoPath => f.write_str("a path is a list of points"),
+            Problem::NoPoint => f.write_str("a point has two numbers"),
+            Problem::NoVertex => f.write_str("a vertex has three numbers"),
+            Problem::NoWholeNumber => f.write_str("a whole number is needed"),
+            Problem::NoBool => f.write_str("true or false is needed"),
+            Problem::NoArea => {
+                f.write_str("an area is a whole number from 0 on that fits its type")
+            }
+            Problem::NoJoin => f.write_str(
+                "\"bevel\", {\"miter\": BITS} or {\"round\": [BITS, PRECISION]} is needed",
+            ),
+            Problem::NoCap => f.write_str(
+                "\"butt\", \"square\", {\"round\": [BITS, PRECISION]} or {\"custom\": [[X, Y], ..]} is needed",
+            ),
+            Problem::NoSide => f.write_str("\"both\", \"left\" or \"right\" is needed"),
+            Problem::NoRoundOptions => f.write_str("\"round\" needs [BITS, PRECISION]"),
+            Problem::NoMiterBits => f.write_str("\"miter\" needs BITS"),
+            Problem::MoreKeys => f.write_str("only one key is allowed"),
+            Problem::NoBits => f.write_str("BITS is needed, a whole number from 0 to 4294967295"),
+            Problem::NoArc => f.write_str("[BITS, PRECISION] is needed"),
         }
     }
 }
 
-impl Problem {
-    /// The text of a problem that has no number and no key in it.
-    fn sentence(self) -> &'static str {
-        match self {
-            Problem::Missing(_) => "a key is missing",
-            Problem::OutOfType(_, _) => "a number does not fit",
-            Problem::NoObject => "an object is needed",
-            Problem::NoOperation => "\"outline\", \"stroke\" or \"variable_stroke\" is needed",
-            Problem::NoCoordinateType => "\"i16\" or \"i32\" is needed",
-            Problem::NoOutput => "\"edges\" or \"shapes\" is needed",
-            Problem::NoPaths => "a list of paths is needed",
-            Problem::NoPath => "a path is a list of points",
-            Problem::NoPoint => "a point has two numbers",
-            Problem::NoVertex => "a vertex has three numbers",
-            Problem::NoWholeNumber => "a whole number is needed",
-            Problem::NoBool => "true or false is needed",
-            Problem::NoArea => "an area is a whole number from 0 on that fits its type",
-            Problem::NoJoin => {
-                "\"bevel\", {\"miter\": BITS} or {\"round\": [BITS, PRECISION]} is needed"
-            }
-            Problem::NoCap => {
-                "\"butt\", \"square\", {\"round\": [BITS, PRECISION]} or {\"custom\": [[X, Y], ..]} is needed"
-            }
-            Problem::NoSide => "\"both\", \"left\" or \"right\" is needed",
-            Problem::NoRoundOptions => "\"round\" needs [BITS, PRECISION]",
-            Problem::NoMiterBits => "\"miter\" needs BITS",
-            Problem::MoreKeys => "only one key is allowed",
-            Problem::NoBits => "BITS is needed, a whole number from 0 to 4294967295",
-            Problem::NoArc => "[BITS, PRECISION] is needed",
-        }
-    }
+/// Writes that a number does not fit a type.
+fn write_misfit<W: fmt::Write>(
+    f: &mut fmt::Formatter<W>,
+    number: WholeNumber,
+    kind: CoordinateType,
+) -> fmt::Result
+    ensures { DisplaysOnOk W.write_str_gives f.old result (Some (misfit_text number kind)) f.new }
+{
+    let name = kind.name();
+    write!(f, "{number} is no {name}")
 }
 
 /// What is wrong with a value that is no coordinate.
@@ -131,9 +170,9 @@ pub(crate) fn coordinate_problem<I: IntNumber>(value: &Value) -> Problem {
 }
 
 /// The whole number of 64 bits, with or without sign, that a value is.
-fn whole_number(value: &Value) -> Option<i128> {
+fn whole_number(value: &Value) -> Option<WholeNumber> {
     match value.as_i64() {
-        Some(number) => Some(number as i128),
-        None => Some(value.as_u64()? as i128),
+        Some(number) => Some(WholeNumber::Signed(number)),
+        None => Some(WholeNumber::Unsigned(value.as_u64()?)),
     }
 }

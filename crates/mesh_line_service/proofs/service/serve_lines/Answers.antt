@@ -15,7 +15,7 @@ returns-in-Err-write_reply-clause-unwritten g c _ =
       whole = g.W.Write.contents c.loop-before.writer;
       replied = replied;
       reply = reply_text c.reply-reply.result;
-      to_last = c.reply-reply.ensures c.args.options.longest text holds;
+      to_last = c.reply-reply.ensures text holds;
       beginning = c.write_reply.ensures.beginning;
     }
 
@@ -25,5 +25,5 @@ loop-before-preserved g c =
     let (text, read, holds) = rw c.in-Ok-Some.field-0-is at c.in-Ok-Some.ensures.line in (
       lines ++ text ∷ [],
       taken_in_turn _ _ _ lines (text ∷ []) taken read,
-      appended_reply c.args.options.longest lines text (reply_text c.reply-reply.result) _ _ _ replied (c.reply-reply.ensures c.args.options.longest text holds) c.in-Ok.ensures.whole,
+      appended_reply c.args.options lines text (reply_text c.reply-reply.result) _ _ _ replied (c.reply-reply.ensures text holds) c.in-Ok.ensures.whole,
     )

@@ -1,0 +1,12 @@
+//! What a run over lines is asked beside its replies.
+
+/// What a run over lines is asked beside its replies.
+#[derive(Debug, Clone, Copy, PartialEq, Eq)]
+pub struct LineOptions {
+    /// The most bytes that a line may have, without its line feed. `None`: as many as memory holds.
+    pub longest: Option<usize>,
+    /// Whether the reply to a line that holds no request tells why.
+    pub why: bool,
+    /// Whether to tell people how many lines have their reply.
+    pub progress: bool,
+}
