@@ -7,7 +7,7 @@ use Rattle.mesh_flat.specs.Nearness.{IsNearAnswer}
 use Rattle.mesh_flat.specs.Outcomes.{code_of, near_outcome_of}
 use Rattle.mesh_flat.specs.ShapeRooms.{ShapeLists, DoShapesFit, lists_of, shape_counts, with_shapes}
 use Rattle.mesh_flat.specs.Telling.{IsTold}
-use Rattle.mesh_flat.specs.declared.failure.NearFailure.{NearFailure}
+use Rattle.mesh_service.specs.declared.near_failure.NearFailure.{NearFailure}
 use Rattle.mesh_flat.specs.declared.near.NearFlatShapes.{NearFlatShapes}
 use Rattle.mesh_flat.specs.declared.outcome.Outcome.{Outcome}
 use Rattle.mesh_flat.specs.declared.shapes.ShapeCounts.{ShapeCounts}

@@ -2,45 +2,17 @@
 -- unit. Coordinates are of a type with `unit`; `point_of` is what the numbers for a point stand for; `asks` says of a
 -- drawing that it is the one that is asked for.
 use Rattle.std.specs.Prelude.{ℕ, ◌≡◌, List, Option, Some, None, Result, Ok, Err}
-use Rattle.mesh_plane.specs.Plane.{Point, Edge}
+use Rattle.mesh_plane.specs.Plane.{Point}
 use Rattle.mesh_split.specs.Counting.{IsPastLimit, IsWithinLimit}
-use Rattle.mesh_split.specs.declared.count.SplitCount.{SplitCount}
 use Rattle.mesh_shapes.specs.Resolution.{Choices}
-use Rattle.mesh_offset.specs.Counting.{CountsAttempts}
-use Rattle.mesh_outline.specs.Nearness.{AreOutlineRegionsBeyond, IsOutlineDrawing}
-use Rattle.mesh_stroke.specs.Regions.{AreStrokeRegionsBeyond}
-use Rattle.mesh_stroke.specs.Resolved.{AreAllEdges}
-use Rattle.mesh_variable_stroke.specs.Regions.{AreVariableStrokeRegionsBeyond}
-use Rattle.mesh_variable_stroke.specs.Resolved.{AreAllEdges as AreAllVariableEdges}
-use Rattle.mesh_request.specs.Requests.{Drawn, as_outline, as_stroke, as_variable_stroke}
+use Rattle.mesh_request.specs.Requests.{Drawn}
+use Rattle.mesh_service.specs.Nearness.{AreDrawn, AreShapesBeyond, CountsUpTo}
 use Rattle.mesh_service.specs.Served.{MayBeDrawn}
+use Rattle.mesh_service.specs.declared.near_failure.NearFailure.{NearFailure}
+use Rattle.mesh_service.specs.declared.near_failure.NearFailure.TheVariants.{Failed, TooManySplits}
 use Rattle.mesh_flat.specs.Answers.{IsFailureOf}
 use Rattle.mesh_flat.specs.EndToEnd.{HoldsShapes}
-use Rattle.mesh_flat.specs.declared.failure.NearFailure.{NearFailure}
-use Rattle.mesh_flat.specs.declared.failure.NearFailure.TheVariants.{Failed, TooManySplits}
 use Rattle.mesh_flat.specs.declared.near.NearFlatShapes.{NearFlatShapes}
-
--- the shapes of what is drawn, with these choices, which are exact farther than `k` from each drawn edge
-abbrev pub AreShapesBeyond : ℕ → ℕ → Choices → Drawn → List (List (List Point)) → Type 0
-AreShapesBeyond k unit choices (as_outline style paths) shapes =
-    AreOutlineRegionsBeyond k unit style choices paths shapes
-AreShapesBeyond k unit choices (as_stroke style closed paths) shapes =
-    AreStrokeRegionsBeyond k unit style closed choices paths shapes
-AreShapesBeyond k unit choices (as_variable_stroke options paths) shapes =
-    AreVariableStrokeRegionsBeyond k unit options choices paths shapes
-
--- edges that are split on the way to them
-abbrev pub AreDrawn : ℕ → Drawn → List Edge → Type 0
-AreDrawn unit (as_outline style paths) = IsOutlineDrawing unit style paths
-AreDrawn unit (as_stroke style closed paths) = AreAllEdges unit style closed paths
-AreDrawn unit (as_variable_stroke options paths) = AreAllVariableEdges unit options paths
-
--- the splits of attempts at edges that were drawn are counted from none on, of which there may be `most`, or any number
--- where that is 0; and this is so of the count
-pub record CountsUpTo (AreDrawn : List Edge → Type 0) (most : ℕ) (IsSo : SplitCount → Type 0) : Type 0 where
-  pub count : SplitCount
-  pub counted : CountsAttempts AreDrawn (record { made = 0; most = most }) count
-  pub so : IsSo count
 
 -- the lists hold the shapes, with these choices, of the drawing, which may be drawn; they are exact farther than the
 -- nearness that is told from each drawn edge, and took no more splits than they might

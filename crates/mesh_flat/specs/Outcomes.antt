@@ -4,10 +4,8 @@ use Rattle.mesh_offset.specs.declared.error.IntOutlineError.TheVariants.{Coordin
 use Rattle.mesh_offset.specs.declared.error.IntOutlineError.TheVariants.{OutOfMemory as MemoryRefused}
 use Rattle.mesh_request.specs.declared.failure.Failure.{Failure}
 use Rattle.mesh_request.specs.declared.failure.Failure.TheVariants.{Unreadable, Refused}
-use Rattle.mesh_offset.specs.declared.error.IntNearnessError.{IntNearnessError}
-use Rattle.mesh_offset.specs.declared.error.IntNearnessError.TheVariants as near
-use Rattle.mesh_flat.specs.declared.failure.NearFailure.{NearFailure}
-use Rattle.mesh_flat.specs.declared.failure.NearFailure.TheVariants as limited
+use Rattle.mesh_service.specs.declared.near_failure.NearFailure.{NearFailure}
+use Rattle.mesh_service.specs.declared.near_failure.NearFailure.TheVariants as limited
 use Rattle.mesh_flat.specs.declared.outcome.Outcome.{Outcome}
 use Rattle.mesh_flat.specs.declared.outcome.Outcome.TheVariants.{Answered, OutOfRange, Malformed, OutOfMemory, TooManySplits}
 use Rattle.mesh_flat.specs.declared.outcome.Outcome.TheVariants.{RoomTooSmall}
@@ -31,9 +29,3 @@ outcome_of (Refused MemoryRefused) = OutOfMemory
 abbrev pub near_outcome_of : NearFailure → Outcome
 near_outcome_of (limited.Failed failure) = outcome_of failure
 near_outcome_of limited.TooManySplits = TooManySplits
-
--- the failure that an error of a call that tells its nearness is
-abbrev pub of_nearness : IntNearnessError → NearFailure
-of_nearness near.CoordinateOutOfRange = limited.Failed (Refused CoordinateOutOfRange)
-of_nearness near.OutOfMemory = limited.Failed (Refused MemoryRefused)
-of_nearness near.TooManySplits = limited.TooManySplits

@@ -8,8 +8,6 @@ ghost use Rattle.mesh_flat.specs.Nearness.{IsNearAnswer};
 ghost use Rattle.mesh_flat.specs.Styles.{choices_in};
 
 use crate::drawing::{outline, stroke, variable_stroke};
-use crate::failure::NearFailure;
-use crate::nearness::near_shapes;
 use crate::numbers::Flat;
 use crate::options::FlatOptions;
 use crate::outcome::Outcome;
@@ -19,6 +17,8 @@ use mesh_join::style::IntStrokeVertex;
 use mesh_num::num::{IntPoint, OverlayInt};
 use mesh_request::drawing::Drawing;
 use mesh_request::failure::Failure;
+use mesh_service::near_failure::NearFailure;
+use mesh_service::nearness::near_shapes;
 use std::alloc::Global;
 
 /// Shapes of contours, end to end in lists, and their nearness.

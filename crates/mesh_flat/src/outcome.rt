@@ -3,9 +3,9 @@
 ghost use Rattle.std.specs.Prelude.{◌≡◌};
 ghost use Rattle.mesh_flat.specs.Outcomes.{code_of, near_outcome_of, outcome_of};
 
-use crate::failure::NearFailure;
 use mesh_offset::error::IntOutlineError;
 use mesh_request::failure::Failure;
+use mesh_service::near_failure::NearFailure;
 
 /// How a call ended.
 #[derive(Debug, Clone, Copy, PartialEq, Eq)]

@@ -1,3 +1,4 @@
+pub mod Counted
 pub mod JsonLists
 pub mod PathsServed
 pub mod Reasons

@@ -9,6 +9,8 @@ pub mod answer;
 pub mod drawing;
 pub mod edge;
 pub mod input;
+pub mod near_failure;
+pub mod nearness;
 pub mod outline;
 pub mod output;
 pub mod reason;

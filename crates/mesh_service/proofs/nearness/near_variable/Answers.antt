@@ -1,8 +1,8 @@
 -- What may be stroked is safe, and its splits are counted from none on.
 use Rattle.std.proofs.Common.{refl}
 use Rattle.std.proofs.lemmas.Bool.{false≢true}
-use Rattle.mesh_flat.proofs.NearAnswers.{counted_up, never_past, within_up}
-use Rattle.mesh_flat.proofs.nearness.near_variable.Goals as goal
+use Rattle.mesh_service.proofs.Counted.{counted_up, never_past, within_up}
+use Rattle.mesh_service.proofs.nearness.near_variable.Goals as goal
 
 pub returns-in_err-validate_variable_stroke-clause-refused : goal.returns-in_err-validate_variable_stroke-clause-refused
 returns-in_err-validate_variable_stroke-clause-refused g c = λ _ accepted. false≢true (c.in_err-validate_variable_stroke.ensures.safe.1 accepted.safe)

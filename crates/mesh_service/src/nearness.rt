@@ -14,7 +14,7 @@ ghost use Rattle.mesh_variable_stroke.specs.Resolved.{AreAllEdges as AreAllVaria
 ghost use Rattle.mesh_request.specs.Requests.{drawn_of};
 ghost use Rattle.mesh_service.specs.Drawings.{MayBeOutlined, MayBeStroked, MayBeVariablyStroked};
 ghost use Rattle.mesh_service.specs.Served.{MayBeDrawn};
-ghost use Rattle.mesh_flat.specs.Nearness.{AreDrawn, AreShapesBeyond, CountsUpTo};
+ghost use Rattle.mesh_service.specs.Nearness.{AreDrawn, AreShapesBeyond, CountsUpTo};
 
 use i_overlay_mesh::outline::offset::IntOutlineOffset;
 use i_overlay_mesh::stroke::offset::IntStrokeOffset;

@@ -15,7 +15,7 @@ pub enum NearFailure {
 
 impl From<Failure> for NearFailure {
     ghost use Rattle.std.specs.Prelude.{◌≡◌};
-    ghost use Rattle.mesh_flat.specs.declared.failure.NearFailure.TheVariants.{Failed};
+    ghost use Rattle.mesh_service.specs.declared.near_failure.NearFailure.TheVariants.{Failed};
 
     ghost from_gives = { λ failure told. told ≡ Failed failure };
 
@@ -26,7 +26,7 @@ impl From<Failure> for NearFailure {
 
 impl From<AllocError> for NearFailure {
     ghost use Rattle.std.specs.Prelude.{◌≡◌};
-    ghost use Rattle.mesh_flat.specs.declared.failure.NearFailure.TheVariants.{Failed};
+    ghost use Rattle.mesh_service.specs.declared.near_failure.NearFailure.TheVariants.{Failed};
     ghost use Rattle.mesh_offset.specs.declared.error.IntOutlineError.TheVariants.{OutOfMemory};
     ghost use Rattle.mesh_request.specs.declared.failure.Failure.TheVariants.{Refused};
 
@@ -39,7 +39,7 @@ impl From<AllocError> for NearFailure {
 
 impl From<IntNearnessError> for NearFailure {
     ghost use Rattle.std.specs.Prelude.{◌≡◌};
-    ghost use Rattle.mesh_flat.specs.Outcomes.{of_nearness};
+    ghost use Rattle.mesh_service.specs.Nearness.{of_nearness};
 
     ghost from_gives = { λ error told. told ≡ of_nearness error };
 

@@ -7,8 +7,8 @@ use Rattle.mesh_offset.specs.declared.error.IntNearnessError.TheVariants.{Coordi
 use Rattle.mesh_outline.specs.Resolved.{DoAreasFit}
 use Rattle.mesh_service.specs.Drawings.{MayBeOutlined}
 use Rattle.mesh_service.proofs.PathsServed.{answered_only, areas_fit, fit_half, half_fit}
-use Rattle.mesh_flat.proofs.NearAnswers.{counted_up, never_past, within_up}
-use Rattle.mesh_flat.proofs.nearness.near_outline.Goals as goal
+use Rattle.mesh_service.proofs.Counted.{counted_up, never_past, within_up}
+use Rattle.mesh_service.proofs.nearness.near_outline.Goals as goal
 
 pub returns-in_err-validate_outline-clause-refused : goal.returns-in_err-validate_outline-clause-refused
 returns-in_err-validate_outline-clause-refused g c = λ _ accepted. false≢true (c.in_err-validate_outline.ensures.safe.1 accepted.safe)

@@ -1,0 +1,32 @@
+-- Lemmas over splits that are counted, and refusals of a call with a limit.
+use Rattle.std.proofs.Common.{◌≡◌, ℕ, List, Result, Ok, Err, IsErrAnd, subst}
+use Rattle.std.specs.Prelude.{OnOk}
+use Rattle.mesh_plane.specs.Plane.{Edge}
+use Rattle.mesh_split.specs.declared.count.SplitCount.{SplitCount}
+use Rattle.mesh_offset.specs.Counting.{CountsAttempts}
+use Rattle.mesh_offset.specs.Errors.{of_offset}
+use Rattle.mesh_offset.specs.declared.error.IntNearnessError.{IntNearnessError}
+use Rattle.mesh_offset.specs.declared.error.IntNearnessError.TheVariants as near
+use Rattle.mesh_offset.specs.declared.error.IntOutlineError.{IntOutlineError}
+use Rattle.mesh_offset.specs.declared.error.IntOutlineError.TheVariants as offset
+use Rattle.mesh_service.specs.Nearness.{CountsUpTo}
+
+-- a refusal of the range is no limit that was passed
+pub never_past : {A : Type 0} (r : Result A IntNearnessError) (error : IntOutlineError) → IsErrAnd r (λ e. e ≡ of_offset error) → r ≡ Err near.TooManySplits → ⊥
+never_past (Ok x) error same e = absurd same
+never_past (Err t) offset.CoordinateOutOfRange same e = let m : near.CoordinateOutOfRange ≡ near.TooManySplits = cc in cc
+never_past (Err t) offset.OutOfMemory same e = let m : near.OutOfMemory ≡ near.TooManySplits = cc in cc
+
+-- a count that began with no split
+pub counted_up : (IsDrawn : List Edge → Type 0) (most : ℕ) (IsSo : SplitCount → Type 0) (first count : SplitCount) →
+    first ≡ record { made = 0; most = most } → CountsAttempts IsDrawn first count → IsSo count → CountsUpTo IsDrawn most IsSo
+counted_up IsDrawn most IsSo first count e counted so = record {
+  count = count;
+  counted = subst (λ (c : SplitCount). CountsAttempts IsDrawn c count) e counted;
+  so = so;
+}
+
+pub within_up : {A E : Type 0} (r : Result A E) (IsDrawn : List Edge → Type 0) (most : ℕ) (IsSo : SplitCount → Type 0) (first count : SplitCount) →
+    first ≡ record { made = 0; most = most } → CountsAttempts IsDrawn first count → OnOk r (IsSo count) → OnOk r (CountsUpTo IsDrawn most IsSo)
+within_up (Ok x) IsDrawn most IsSo first count e counted so = counted_up IsDrawn most IsSo first count e counted so
+within_up (Err t) IsDrawn most IsSo first count e counted so = tt
