@@ -1,5 +1,5 @@
 -- Lemmas over splits that are counted, and refusals of a call with a limit.
-use Rattle.std.proofs.Common.{◌≡◌, ℕ, List, Result, Ok, Err, IsErrAnd, subst}
+use Rattle.std.proofs.Common.{◌≡◌, ℕ, List, Result, Ok, Err, IsErrAnd, refl, subst}
 use Rattle.std.specs.Prelude.{OnOk}
 use Rattle.mesh_plane.specs.Plane.{Edge}
 use Rattle.mesh_split.specs.declared.count.SplitCount.{SplitCount}
@@ -9,7 +9,8 @@ use Rattle.mesh_offset.specs.declared.error.IntNearnessError.{IntNearnessError}
 use Rattle.mesh_offset.specs.declared.error.IntNearnessError.TheVariants as near
 use Rattle.mesh_offset.specs.declared.error.IntOutlineError.{IntOutlineError}
 use Rattle.mesh_offset.specs.declared.error.IntOutlineError.TheVariants as offset
-use Rattle.mesh_service.specs.Nearness.{CountsUpTo}
+use Rattle.mesh_service.specs.Nearness.{CountsUpTo, of_nearness}
+use Rattle.mesh_service.specs.declared.near_failure.NearFailure.TheVariants.{TooManySplits}
 
 -- a refusal of the range is no limit that was passed
 pub never_past : {A : Type 0} (r : Result A IntNearnessError) (error : IntOutlineError) → IsErrAnd r (λ e. e ≡ of_offset error) → r ≡ Err near.TooManySplits → ⊥
@@ -30,3 +31,9 @@ pub within_up : {A E : Type 0} (r : Result A E) (IsDrawn : List Edge → Type 0)
     first ≡ record { made = 0; most = most } → CountsAttempts IsDrawn first count → OnOk r (IsSo count) → OnOk r (CountsUpTo IsDrawn most IsSo)
 within_up (Ok x) IsDrawn most IsSo first count e counted so = counted_up IsDrawn most IsSo first count e counted so
 within_up (Err t) IsDrawn most IsSo first count e counted so = tt
+
+-- what is told as a limit that was passed is one
+pub of_limit : (error : IntNearnessError) → TooManySplits ≡ of_nearness error → error ≡ near.TooManySplits
+of_limit near.CoordinateOutOfRange told = absurd (cc)
+of_limit near.OutOfMemory told = absurd (cc)
+of_limit near.TooManySplits told = refl

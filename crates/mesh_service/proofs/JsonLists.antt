@@ -1,5 +1,5 @@
 -- Lemmas over lists: values of JSON in lists and in objects, and lists that vectors hold.
-use Rattle.std.proofs.Common.{◌≡◌, List, [], ◌∷◌, false, refl, ap}
+use Rattle.std.proofs.Common.{◌≡◌, ℕ, List, [], ◌∷◌, false, refl, ap}
 use Rattle.std.specs.Prelude.{ℤ, pos, negsuc, map}
 use Rattle.std.specs.declared.alloc.Global.{Global}
 use Rattle.std.specs.declared.vec.Vec.{Vec}
@@ -9,7 +9,7 @@ use Rattle.serde_json.specs.View.{items_of}
 use Rattle.serde_json.specs.Written.{has_float}
 use Rattle.mesh_num.specs.Paths.{paths_of, shapes_of}
 use Rattle.mesh_plane.specs.Plane.{Point, Edge}
-use Rattle.mesh_service.specs.Lines.{point_data, edge_data, list_data, edges_data, shapes_data}
+use Rattle.mesh_service.specs.Lines.{point_data, edge_data, list_data, edges_data, near_edges_data, near_shapes_data, shapes_data}
 
 whole_no_float : (z : ℤ) → is_float (of_integer z) ≡ false
 whole_no_float (pos n) = refl
@@ -31,6 +31,14 @@ edges_no_float lists = rw (list_no_float (list_data edge_data) (list_no_float ed
 
 pub shapes_no_float : (shapes : List (List (List Point))) → has_float (shapes_data shapes) ≡ false
 shapes_no_float shapes =
+    rw (list_no_float (list_data (list_data point_data)) (list_no_float (list_data point_data) (list_no_float point_data point_no_float)) shapes) refl
+
+-- nor with a nearness
+pub near_edges_no_float : (nearness : ℕ) (lists : List (List Edge)) → has_float (near_edges_data nearness lists) ≡ false
+near_edges_no_float nearness lists = rw (list_no_float (list_data edge_data) (list_no_float edge_data edge_no_float) lists) refl
+
+pub near_shapes_no_float : (nearness : ℕ) (shapes : List (List (List Point))) → has_float (near_shapes_data nearness shapes) ≡ false
+near_shapes_no_float nearness shapes =
     rw (list_no_float (list_data (list_data point_data)) (list_no_float (list_data point_data) (list_no_float point_data point_no_float)) shapes) refl
 
 items_same : {A B : Type 0} (f : A → Data) (g : B → Data) (h : A → B) → ((a : A) → f a ≡ g (h a)) → (xs : List A) → items_of (map f xs) ≡ items_of (map g (map h xs))

@@ -11,7 +11,9 @@ use Rattle.mesh_offset.specs.declared.error.IntOutlineError.TheVariants.{Coordin
 use Rattle.mesh_request.specs.Failures.{failure_line, IsOfMemory}
 use Rattle.mesh_request.specs.Reading.{IsOfReading}
 use Rattle.mesh_request.specs.Requests.{Request}
+use Rattle.mesh_service.specs.Near.{IsOfNearMemory}
 use Rattle.mesh_service.specs.Served.{IsAccepted}
+use Rattle.mesh_service.specs.declared.near_failure.NearFailure.{NearFailure}
 use Rattle.mesh_service.specs.declared.service.Status.{Status}
 use Rattle.mesh_service.specs.declared.service.Status.TheVariants.{Unwritten, Unread}
 use Rattle.mesh_service.specs.declared.service.Status.TheVariants.{Refused as RefusedStatus, Unreadable as UnreadableStatus}
@@ -45,6 +47,10 @@ value_has_bytes (b ∷ bytes) d e = omega arith
 pub has_bytes_anyway : (text : List ℕ) (told : Result (String Global) Failure) → 0 < length text → IfErr told (λ e. IsOfMemory e → 0 < length text)
 has_bytes_anyway text (Ok line) h = tt
 has_bytes_anyway text (Err e) h = λ _. h
+
+pub near_bytes_anyway : (text : List ℕ) (told : Result (String Global) NearFailure) → 0 < length text → IfErr told (λ e. IsOfNearMemory e → 0 < length text)
+near_bytes_anyway text (Ok line) h = tt
+near_bytes_anyway text (Err e) h = λ _. h
 
 -- what answers the bytes that were left, or tells why there is no answer, is a reply
 pub responded : (left : Option (List ℕ)) (request : List ℕ) (told : Result (String Global) Failure) →

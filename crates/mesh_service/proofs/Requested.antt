@@ -7,11 +7,15 @@ use Rattle.mesh_shapes.specs.Resolution.{Choices}
 use Rattle.serde_json.specs.Data.{Data}
 use Rattle.serde_json.specs.Read.{read}
 use Rattle.serde_json.specs.Written.{has_float}
-use Rattle.mesh_service.specs.Lines.{edges_text, shapes_text}
+use Rattle.mesh_split.specs.Counting.{IsWithinLimit}
+use Rattle.mesh_service.specs.Lines.{edges_text, shapes_text, told_edges_text, told_shapes_text}
+use Rattle.mesh_service.specs.Near.{AnswersWithin, ListsWithin}
+use Rattle.mesh_service.specs.Nearness.{AreDrawn, AreShapesBeyond, CountsUpTo}
 use Rattle.mesh_request.specs.Reading.{request_of}
 use Rattle.mesh_request.specs.Requests.{Asked, Request}
 use Rattle.mesh_service.specs.Served.{AreEdgesOf, AreShapesOf, IsAccepted, Lists, Answers}
 use Rattle.mesh_service.specs.Serving.{exact_request, request_in}
+use Rattle.mesh_service.specs.declared.near.Telling.{Telling}
 
 pub is_requested : (text : List ℕ) (d : Data) (request : Request) → read text ≡ Some d → has_float d ≡ false → request_of d ≡ Some request → request_in text ≡ Some request
 is_requested text d request r f q =
@@ -32,4 +36,23 @@ shapes_answer order request line choices shapes e accepted drawn written =
     record {
       accepted = accepted;
       listed = subst (λ (asked : Asked). Lists order request line asked) (sym e) (record { shapes = shapes; drawn = drawn; written = written });
+    }
+
+-- the same of lines with a nearness, by no more than a number of splits
+pub told_edges_answer : (telling : Telling) (order : ℤ → ℤ → Ordering) (request : Request) (line : List ℕ) (lists : List (List Edge)) → request.asked ≡ Asked.for_edges →
+    IsAccepted request → AreEdgesOf order request.unit request.drawn lists → line ≡ told_edges_text telling.nearness lists → AnswersWithin telling order request line
+told_edges_answer telling order request line lists e accepted each written =
+    record {
+      accepted = accepted;
+      listed = subst (λ (asked : Asked). ListsWithin telling order request line asked) (sym e) (record { lists = lists; each = each; written = written });
+    }
+
+pub told_shapes_answer : (telling : Telling) (order : ℤ → ℤ → Ordering) (request : Request) (line : List ℕ) (choices : Choices) (nearness : ℕ) (shapes : List (List (List Point))) →
+    request.asked ≡ Asked.for_shapes choices → IsAccepted request → AreShapesBeyond nearness request.unit choices request.drawn shapes →
+    CountsUpTo (AreDrawn request.unit request.drawn) telling.most_splits IsWithinLimit → line ≡ told_shapes_text telling.nearness nearness shapes → AnswersWithin telling order request line
+told_shapes_answer telling order request line choices nearness shapes e accepted drawn within written =
+    record {
+      accepted = accepted;
+      listed = subst (λ (asked : Asked). ListsWithin telling order request line asked) (sym e)
+        (record { shapes = shapes; nearness = nearness; drawn = drawn; within = within; written = written });
     }

@@ -1,5 +1,6 @@
 pub mod Drawings
 pub mod Lines
+pub mod Near
 pub mod Nearness
 pub mod Private
 pub mod Reasons

@@ -1,8 +1,8 @@
 -- Lines: edges in their order, as data and as text of JSON.
-use Rattle.std.specs.Prelude.{ℕ, ℤ, List, [], ◌∷◌, ◌++◌, map, codes}
+use Rattle.std.specs.Prelude.{ℕ, ℤ, List, [], ◌∷◌, ◌++◌, Bool, false, true, map, codes}
 use Rattle.std.specs.Ordering.{ordering_then}
 use Rattle.std.specs.declared.cmp.Ordering.{Ordering}
-use Rattle.serde_json.specs.Data.{Data, number, string, array, object, item, no_items, member, no_members}
+use Rattle.serde_json.specs.Data.{Data, number, unsigned, string, array, object, item, no_items, member, no_members}
 use Rattle.serde_json.specs.Find.{of_integer}
 use Rattle.serde_json.specs.View.{items_of}
 use Rattle.serde_json.specs.Written.{compact_text}
@@ -55,6 +55,28 @@ shapes_data shapes = only_member (codes "shapes") (list_data (list_data (list_da
 -- that as a line
 abbrev pub shapes_text : List (List (List Point)) → List ℕ
 shapes_text shapes = line_text (shapes_data shapes)
+
+-- the edges of each path, with a nearness: {"edges":[..],"nearness":..}
+abbrev pub near_edges_data : ℕ → List (List Edge) → Data
+near_edges_data nearness lists =
+    object (member (codes "edges") (list_data (list_data edge_data) lists)
+    (member (codes "nearness") (number (unsigned nearness)) no_members))
+
+-- shapes, with their nearness: {"nearness":..,"shapes":[..]}
+abbrev pub near_shapes_data : ℕ → List (List (List Point)) → Data
+near_shapes_data nearness shapes =
+    object (member (codes "nearness") (number (unsigned nearness))
+    (member (codes "shapes") (list_data (list_data (list_data point_data)) shapes) no_members))
+
+-- a line of edges, with their nearness where that is told: 0, as nothing is split for them
+abbrev pub told_edges_text : Bool → List (List Edge) → List ℕ
+told_edges_text false lists = edges_text lists
+told_edges_text true lists = line_text (near_edges_data 0 lists)
+
+-- a line of shapes, with their nearness where that is told
+abbrev pub told_shapes_text : Bool → ℕ → List (List (List Point)) → List ℕ
+told_shapes_text false nearness shapes = shapes_text shapes
+told_shapes_text true nearness shapes = line_text (near_shapes_data nearness shapes)
 
 -- that a text holds no request, and why: {"unreadable":"request","why":..}
 abbrev pub why_data : List ℕ → Data

@@ -1,13 +1,14 @@
 //! Answers, written as JSON.
 
 ghost use Rattle.std.specs.Prelude.{◌≡◌, IfOk, string_bytes, codes, false};
-ghost use Rattle.serde_json.specs.Data.{Data, number as number_value, array, item, no_items};
+ghost use Rattle.serde_json.specs.Data.{Data, number as number_value, unsigned, array, object, item, no_items};
+ghost use Rattle.serde_json.specs.Data.{member, no_members};
 ghost use Rattle.serde_json.specs.Find.{of_integer};
 ghost use Rattle.serde_json.specs.View.{view};
 ghost use Rattle.serde_json.specs.Written.{has_float};
 ghost use Rattle.mesh_num.specs.Paths.{paths_of, shapes_of};
 ghost use Rattle.mesh_service.specs.Lines.{point_data, edge_data, list_data, only_member, line_text, edges_text};
-ghost use Rattle.mesh_service.specs.Lines.{shapes_text, why_data, why_text};
+ghost use Rattle.mesh_service.specs.Lines.{near_edges_data, near_shapes_data, shapes_text, why_data, why_text};
 ghost use Rattle.mesh_service.specs.Reasons.{reason_text};
 
 use crate::reason::Reason;
@@ -52,6 +53,46 @@ fn shapes_answer(alloc: Global, list: Value) -> Result<Value, AllocError>
     ensures { IfOk result (λ v. view v ≡ only_member (codes "shapes") (view list)) }
 {
     json!(in alloc; { "shapes": list })
+}
+
+/// The line that lists the edges of each path, with a nearness. It fails only where memory is refused.
+pub fn near_edges_line<I: OverlayInt>(
+    alloc: Global,
+    paths: &[Vec<DirectedEdge<I>>],
+    nearness: u64,
+) -> Result<String, AllocError>
+    ensures { IfOk result (λ s. string_bytes s ≡ line_text (near_edges_data nearness (paths_of paths.now))) }
+{
+    let list = list_value(alloc, paths)?;
+    let answer = near_edges_answer(alloc, list, nearness)?;
+    line_of(alloc, &answer)
+}
+
+fn near_edges_answer(alloc: Global, list: Value, nearness: u64) -> Result<Value, AllocError>
+    ensures { IfOk result (λ v. view v ≡ object (member (codes "edges") (view list)
+        (member (codes "nearness") (number_value (unsigned nearness)) no_members))) }
+{
+    json!(in alloc; { "edges": list, "nearness": nearness })
+}
+
+/// The line that lists shapes, with their nearness. It fails only where memory is refused.
+pub fn near_shapes_line<I: OverlayInt>(
+    alloc: Global,
+    shapes: &IntShapes<I>,
+    nearness: u64,
+) -> Result<String, AllocError>
+    ensures { IfOk result (λ s. string_bytes s ≡ line_text (near_shapes_data nearness (shapes_of shapes.now.items))) }
+{
+    let list = list_value(alloc, shapes)?;
+    let answer = near_shapes_answer(alloc, list, nearness)?;
+    line_of(alloc, &answer)
+}
+
+fn near_shapes_answer(alloc: Global, list: Value, nearness: u64) -> Result<Value, AllocError>
+    ensures { IfOk result (λ v. view v ≡ object (member (codes "nearness") (number_value (unsigned nearness))
+        (member (codes "shapes") (view list) no_members))) }
+{
+    json!(in alloc; { "nearness": nearness, "shapes": list })
 }
 
 /// The line that tells that a text holds no request, and why. It fails only where memory is refused.

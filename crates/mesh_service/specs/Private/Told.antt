@@ -6,11 +6,22 @@ use Rattle.std.specs.declared.string.String.{String}
 use Rattle.mesh_request.specs.Failures.{failure_line}
 use Rattle.mesh_request.specs.Requests.{Request}
 use Rattle.mesh_request.specs.declared.failure.Failure.{Failure}
+use Rattle.mesh_service.specs.Near.{AnswersWithin, PassesLimit}
 use Rattle.mesh_service.specs.Served.{IsAccepted, Answers}
+use Rattle.mesh_service.specs.declared.near.Telling.{Telling}
 
 -- there is a request, and the line answers it
 abbrev pub AnswersAsked : (ℤ → ℤ → Ordering) → Option Request → List ℕ → Type 0
 AnswersAsked order asked line = (request : Request) × (asked ≡ Some request) × Answers order request line
+
+-- there is a request, and the line answers it, as this is asked
+abbrev pub AnswersAskedWithin : Telling → (ℤ → ℤ → Ordering) → Option Request → List ℕ → Type 0
+AnswersAskedWithin telling order asked line =
+    (request : Request) × (asked ≡ Some request) × AnswersWithin telling order request line
+
+-- there is a request, and it took more splits than a limit that is set
+abbrev pub PassesLimitAsked : ℕ → Option Request → Type 0
+PassesLimitAsked most asked = (request : Request) × (asked ≡ Some request) × PassesLimit most request
 
 -- there is a request, and it may not be answered
 abbrev pub MayNotBeAnswered : Option Request → Type 0

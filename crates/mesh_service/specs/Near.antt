@@ -1,0 +1,65 @@
+-- What is answered to requests by no more than a number of splits, with the nearness of the answer where that is asked.
+use Rattle.std.specs.Prelude.{ℕ, ◌≡◌, ℤ, List, Some, Bool, IsUtf8}
+use Rattle.std.specs.Ordering.{int_cmp}
+use Rattle.std.specs.declared.cmp.Ordering.{Ordering}
+use Rattle.mesh_plane.specs.Plane.{Point, Edge}
+use Rattle.mesh_split.specs.Counting.{IsPastLimit, IsWithinLimit}
+use Rattle.mesh_shapes.specs.Resolution.{Choices}
+use Rattle.mesh_request.specs.Failures.{IsOfMemory}
+use Rattle.mesh_request.specs.Requests.{Asked, Request}
+use Rattle.mesh_service.specs.Lines.{told_edges_text, told_shapes_text}
+use Rattle.mesh_service.specs.Nearness.{AreDrawn, AreShapesBeyond, CountsUpTo}
+use Rattle.mesh_service.specs.Served.{AreEdgesOf, IsAccepted}
+use Rattle.mesh_service.specs.Serving.{request_in}
+use Rattle.mesh_service.specs.declared.near.Telling.{Telling}
+use Rattle.mesh_service.specs.declared.near_failure.NearFailure.{NearFailure}
+use Rattle.mesh_service.specs.declared.near_failure.NearFailure.TheVariants.{Failed, TooManySplits}
+
+-- the line lists the edges of each path, path by path; nothing is split for them, and their nearness is 0
+pub record ListsToldEdges (told : Bool) (order : ℤ → ℤ → Ordering) (request : Request) (line : List ℕ) : Type 0 where
+  pub lists : List (List Edge)
+  pub each : AreEdgesOf order request.unit request.drawn lists
+  pub written : line ≡ told_edges_text told lists
+
+-- the line lists the shapes of what is drawn, with these choices, which are exact farther than their nearness from each
+-- drawn edge, and took no more splits than they might
+pub record ListsShapesWithin (telling : Telling) (choices : Choices) (request : Request) (line : List ℕ) : Type 0 where
+  pub shapes : List (List (List Point))
+  pub nearness : ℕ
+  pub drawn : AreShapesBeyond nearness request.unit choices request.drawn shapes
+  pub within : CountsUpTo (AreDrawn request.unit request.drawn) telling.most_splits IsWithinLimit
+  pub written : line ≡ told_shapes_text telling.nearness nearness shapes
+
+-- the line lists what is asked
+abbrev pub ListsWithin : Telling → (ℤ → ℤ → Ordering) → Request → List ℕ → Asked → Type 0
+ListsWithin telling order request line Asked.for_edges = ListsToldEdges telling.nearness order request line
+ListsWithin telling order request line (Asked.for_shapes choices) = ListsShapesWithin telling choices request line
+
+-- the line answers a request that is accepted
+pub record AnswersWithin (telling : Telling) (order : ℤ → ℤ → Ordering) (request : Request) (line : List ℕ)
+    : Type 0 where
+  pub accepted : IsAccepted request
+  pub listed : ListsWithin telling order request line request.asked
+
+-- a limit is set, and what is drawn took more splits
+abbrev pub PassesLimit : ℕ → Request → Type 0
+PassesLimit most request = CountsUpTo (AreDrawn request.unit request.drawn) most IsPastLimit
+
+-- `line` answers the request that `text`, in UTF-8, is
+pub record IsAnswerWithin (telling : Telling) (text line : List ℕ) : Type 0 where
+  pub utf8 : IsUtf8 text
+  pub request : Request
+  pub requested : request_in text ≡ Some request
+  pub answered : AnswersWithin telling int_cmp request line
+
+-- the request that `text`, in UTF-8, is took more splits than a limit that is set
+pub record IsGivenUpIn (most : ℕ) (text : List ℕ) : Type 0 where
+  pub utf8 : IsUtf8 text
+  pub request : Request
+  pub requested : request_in text ≡ Some request
+  pub past : PassesLimit most request
+
+-- memory was refused
+abbrev pub IsOfNearMemory : NearFailure → Type 0
+IsOfNearMemory (Failed failure) = IsOfMemory failure
+IsOfNearMemory TooManySplits = ⊥

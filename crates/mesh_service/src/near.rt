@@ -1,0 +1,143 @@
+//! Requests answered by no more than a number of splits, with the nearness of the answer where that is asked.
+
+ghost use Rattle.std.specs.Prelude.{◌≡◌, ◌<◌, None, length, string_bytes, IfOk, IfErr};
+ghost use Rattle.std.specs.Ordering.{int_cmp};
+ghost use Rattle.serde_json.specs.View.{view};
+ghost use Rattle.mesh_num.specs.Paths.{paths_of, shapes_of};
+ghost use Rattle.mesh_request.specs.Reading.{request_as, request_of};
+ghost use Rattle.mesh_service.specs.Lines.{by_values, told_edges_text, told_shapes_text};
+ghost use Rattle.mesh_service.specs.Near.{AnswersWithin, IsAnswerWithin, IsGivenUpIn, IsOfNearMemory, PassesLimit};
+ghost use Rattle.mesh_service.specs.Private.Told.{AnswersAskedWithin, MayNotBeAnswered, PassesLimitAsked};
+ghost use Rattle.mesh_service.specs.Served.{IsAccepted};
+ghost use Rattle.mesh_service.specs.Serving.{HoldsNoRequest, IsRefused};
+
+use crate::answer::{edges_line, near_edges_line, near_shapes_line, shapes_line};
+use crate::drawing;
+use crate::near_failure::NearFailure;
+use crate::nearness::near_shapes;
+use mesh_below::nearness::NearShapes;
+use mesh_num::num::OverlayInt;
+use mesh_num::shape::edge::DirectedEdge;
+use mesh_offset::error::{IntNearnessError, IntOutlineError};
+use mesh_request::failure::Failure;
+use mesh_request::json::{parse, says};
+use mesh_request::request::{Output, Request, read_request};
+use serde_json::Value;
+use std::alloc::{AllocError, Global};
+
+/// What is asked of an answer beside what it lists.
+#[derive(Debug, Clone, Copy, PartialEq, Eq)]
+pub struct Telling {
+    /// How many splits may be made for it. 0 stands for any number.
+    pub most_splits: u64,
+    /// Whether it tells its nearness: how far from the drawn edges it may be wrong, in 64ths of a grid unit.
+    pub nearness: bool,
+}
+
+/// The line that answers a request, made by no more splits than may be made, and with its nearness where that is asked.
+/// Edges are drawn without a split, and their nearness is 0. `Failed`, with `Unreadable`: the bytes are no request that
+/// is served; with `Refused` and `CoordinateOutOfRange`: what is to be drawn does not stay in the safe range; with
+/// `Refused` and `OutOfMemory`: memory was refused, and there was a byte. `TooManySplits`: more splits were made.
+pub fn respond_near(alloc: Global, request: &[u8], telling: Telling) -> Result<String, NearFailure>
+    ensures answered { IfOk result (λ line. IsAnswerWithin telling request.now (string_bytes line)) }
+    ensures refused { result ≡ Err (NearFailure.Failed (Failure.Refused IntOutlineError.CoordinateOutOfRange))
+        → IsRefused request.now }
+    ensures unreadable { result ≡ Err (NearFailure.Failed Failure.Unreadable) → HoldsNoRequest request.now }
+    ensures given_up { result ≡ Err NearFailure.TooManySplits → IsGivenUpIn telling.most_splits request.now }
+    ensures memory { IfErr result (λ e. IsOfNearMemory e → 0 < length request.now) }
+{
+    let value = parse(alloc, request)?;
+    answer(alloc, &value, telling)
+}
+
+/// The line that answers the request that a value is.
+fn answer(alloc: Global, value: &Value, telling: Telling) -> Result<String, NearFailure>
+    ensures answered { IfOk result (λ line.
+        AnswersAskedWithin telling int_cmp (request_of (view value.now)) (string_bytes line)) }
+    ensures refused { result ≡ Err (NearFailure.Failed (Failure.Refused IntOutlineError.CoordinateOutOfRange))
+        → MayNotBeAnswered (request_of (view value.now)) }
+    ensures unreadable { result ≡ Err (NearFailure.Failed Failure.Unreadable) → request_of (view value.now) ≡ None }
+    ensures given_up { result ≡ Err NearFailure.TooManySplits
+        → PassesLimitAsked telling.most_splits (request_of (view value.now)) }
+{
+    if says(value, "int", "i16") {
+        answer_of_type::<i16>(alloc, value, telling)
+    } else if says(value, "int", "i32") {
+        answer_of_type::<i32>(alloc, value, telling)
+    } else {
+        Err(NearFailure::Failed(Failure::Unreadable))
+    }
+}
+
+/// The line that answers a request with coordinates of one type.
+fn answer_of_type<I: OverlayInt>(
+    alloc: Global,
+    value: &Value,
+    telling: Telling,
+) -> Result<String, NearFailure>
+    ensures answered { IfOk result (λ line. AnswersAskedWithin telling (by_values I.cmp I.of_value)
+        (request_as I.unit (view value.now)) (string_bytes line)) }
+    ensures refused { result ≡ Err (NearFailure.Failed (Failure.Refused IntOutlineError.CoordinateOutOfRange))
+        → MayNotBeAnswered (request_as I.unit (view value.now)) }
+    ensures unreadable { result ≡ Err (NearFailure.Failed Failure.Unreadable)
+        → request_as I.unit (view value.now) ≡ None }
+    ensures given_up { result ≡ Err NearFailure.TooManySplits
+        → PassesLimitAsked telling.most_splits (request_as I.unit (view value.now)) }
+{
+    let request = read_request::<I>(alloc, value)?;
+    Ok(request_line(alloc, &request, telling)?)
+}
+
+/// The line that lists what is asked.
+fn request_line<I: OverlayInt>(
+    alloc: Global,
+    request: &Request<I>,
+    telling: Telling,
+) -> Result<String, IntNearnessError>
+    ensures answered { IfOk result (λ line.
+        AnswersWithin telling (by_values I.cmp I.of_value) request.now (string_bytes line)) }
+    ensures refused { result ≡ Err IntNearnessError.CoordinateOutOfRange → ¬ IsAccepted request.now }
+    ensures given_up { result ≡ Err IntNearnessError.TooManySplits → PassesLimit telling.most_splits request.now }
+{
+    match request.output {
+        Output::Edges => {
+            let edges = drawing::edges(alloc, &request.drawing)?;
+            Ok(told_edges_line(alloc, &edges, telling.nearness)?)
+        }
+        Output::Shapes(options) => {
+            let near = near_shapes(alloc, &request.drawing, options, telling.most_splits)?;
+            Ok(told_shapes_line(alloc, &near, telling.nearness)?)
+        }
+    }
+}
+
+/// The line that lists the edges of each path, with their nearness where that is told.
+fn told_edges_line<I: OverlayInt>(
+    alloc: Global,
+    paths: &[Vec<DirectedEdge<I>>],
+    told: bool,
+) -> Result<String, AllocError>
+    ensures { IfOk result (λ line. string_bytes line ≡ told_edges_text told (paths_of paths.now)) }
+{
+    if told {
+        near_edges_line(alloc, paths, 0)
+    } else {
+        edges_line(alloc, paths)
+    }
+}
+
+/// The line that lists shapes, with their nearness where that is told.
+fn told_shapes_line<I: OverlayInt>(
+    alloc: Global,
+    near: &NearShapes<I>,
+    told: bool,
+) -> Result<String, AllocError>
+    ensures { IfOk result (λ line.
+        string_bytes line ≡ told_shapes_text told near.now.nearness (shapes_of near.now.shapes.items)) }
+{
+    if told {
+        near_shapes_line(alloc, &near.shapes, near.nearness)
+    } else {
+        shapes_line(alloc, &near.shapes)
+    }
+}
