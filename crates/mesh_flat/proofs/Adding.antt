@@ -1,12 +1,11 @@
 -- Lemmas over lists: items and lists that are added to others.
-use Rattle.std.proofs.Common.{◌≡◌, ℕ, ◌+◌, ◌<◌, ◌≤◌, List, [], ◌∷◌, ◌++◌, map, length, take, get_or, refl, sym, ap, ◌∙◌, zero-add, append_assoc, arith}
-use Rattle.std.specs.List.{flat_map}
+use Rattle.std.proofs.Common.{◌≡◌, ℕ, ◌+◌, ◌<◌, ◌≤◌, List, [], ◌∷◌, ◌++◌, map, length, take, get_or, sym, ap, ◌∙◌, zero-add, append_assoc}
 use Rattle.std.specs.declared.vec.Vec.{Vec}
 use Rattle.std.specs.declared.alloc.Global.{Global}
 use Rattle.std.proofs.lemmas.List.{map-append, map_more, append-nil, length-append, length-map, take_all}
 use Rattle.std.proofs.lemmas.List.Concat.{flat_map-append}
 use Rattle.mesh_num.specs.Paths.{paths_of, shapes_of}
-use Rattle.mesh_flat.specs.EndToEnd.{end_to_end, ends_from, AreEndToEnd, HoldsLists}
+use Rattle.mesh_flat.specs.EndToEnd.{end_to_end, ends_from, HoldsLists}
 use Rattle.mesh_flat.specs.Private.Adding.{AddsLists}
 use Rattle.mesh_flat.specs.declared.lists.FlatLists.{FlatLists}
 use Rattle.mesh_flat.proofs.EndToEnd.{joined_more, ends_append, ends_more, length-ends}

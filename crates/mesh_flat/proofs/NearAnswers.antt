@@ -12,7 +12,7 @@ use Rattle.mesh_service.specs.Served.{MayBeDrawn}
 use Rattle.mesh_service.specs.declared.near_failure.NearFailure.{NearFailure}
 use Rattle.mesh_service.specs.declared.near_failure.NearFailure.TheVariants.{Failed, TooManySplits}
 use Rattle.mesh_flat.specs.Answers.{IsFailureOf}
-use Rattle.mesh_flat.specs.Nearness.{AnswersNear, IsNearAnswer}
+use Rattle.mesh_flat.specs.Nearness.{IsNearAnswer}
 use Rattle.mesh_flat.specs.declared.near.NearFlatShapes.{NearFlatShapes}
 
 told_reading : (unit : ℕ) (asks : Drawn → Type 0) (choices : Option Choices) (failure : Failure) → IsOfReading failure →

@@ -1,6 +1,6 @@
 -- What is drawn of lists and numbers. Coordinates are of a type with `unit`; `point_of` and `vertex_of` are what the
 -- numbers for a point and for a vertex stand for.
-use Rattle.std.specs.Prelude.{ℕ, ◌≡◌, Bool, List, Option, Some, map}
+use Rattle.std.specs.Prelude.{ℕ, ◌≡◌, Bool, List, Some, map}
 use Rattle.mesh_plane.specs.Plane.{Point}
 use Rattle.mesh_join.specs.Styles.{OutlineStyle}
 use Rattle.mesh_join.specs.VariableStyles.{Vertex}

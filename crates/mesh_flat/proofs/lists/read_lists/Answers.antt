@@ -1,5 +1,5 @@
 -- Part by part; what stands before a place ends where the one before it does.
-use Rattle.std.proofs.Common.{◌≡◌, ◌<◌, length, map, get_or, refl, ap, ◌∙◌, arith}
+use Rattle.std.proofs.Common.{◌<◌, length, map, refl, ap, ◌∙◌}
 use Rattle.std.proofs.lemmas.List.{length-map, take_all}
 use Rattle.mesh_flat.proofs.EndToEnd.{last_from, none_below, none_past, none_left, joined_read, ended_read, last_read}
 use Rattle.mesh_flat.proofs.lists.read_lists.Goals.{then-end-start-via-then-end-start, then-end-start-via-else-end-start+then-all-end}

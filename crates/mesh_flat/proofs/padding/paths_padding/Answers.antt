@@ -1,5 +1,5 @@
 -- The greatest radius so far grows path by path.
-use Rattle.std.proofs.Common.{◌≡◌, ◌<◌, ◌∙◌, [], length, get_or, ap, sym, take, arith}
+use Rattle.std.proofs.Common.{◌<◌, ◌∙◌, length, ap, sym}
 use Rattle.std.proofs.lemmas.List.{take_all}
 use Rattle.mesh_num.specs.Paths.{paths_of}
 use Rattle.mesh_service.proofs.PathsServed.{path_count, path_here}

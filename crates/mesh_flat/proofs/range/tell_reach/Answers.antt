@@ -1,6 +1,6 @@
 -- The padding is told as it is.
-use Rattle.std.proofs.Common.{refl, rules, arith, w64}
-use Rattle.std.proofs.lemmas.Int.{ints, to_z-of_z}
+use Rattle.std.proofs.Common.{refl, rules, w64}
+use Rattle.std.proofs.lemmas.Int.{to_z-of_z}
 use Rattle.mesh_flat.specs.Ranges.{IsRangeTold}
 use Rattle.mesh_flat.proofs.range.tell_reach.Goals as goal
 
