@@ -11,21 +11,34 @@ use Rattle.mesh_request.specs.declared.failure.Failure.{Failure}
 use Rattle.mesh_request.specs.declared.failure.Failure.TheVariants.{Unreadable, Refused}
 use Rattle.mesh_service.specs.Lines.{why_text}
 use Rattle.mesh_service.specs.Reasons.{LiesIn, reason_text}
+use Rattle.mesh_service.specs.Near.{IsGivenUpIn, IsOfNearMemory}
 use Rattle.mesh_service.specs.Serving.{IsRefused, HoldsNoRequest}
+use Rattle.mesh_service.specs.declared.near_failure.NearFailure.{NearFailure}
+use Rattle.mesh_service.specs.declared.near_failure.NearFailure.TheVariants.{Failed}
 use Rattle.mesh_service.specs.declared.reason.Reason.{Reason}
 use Rattle.mesh_line_service.specs.Held.{IsWithin}
 use Rattle.mesh_line_service.specs.Lines.{lines_of, TakesLines}
-use Rattle.mesh_line_service.specs.Replies.{IsReplyTo, AppendsReplies, too_long_text}
+use Rattle.mesh_service.proofs.Replies.{request_has_bytes}
+use Rattle.mesh_line_service.specs.Replies.{IsReplyTo, AppendsReplies, too_long_text, too_many_text}
 use Rattle.mesh_line_service.specs.Private.Steps.{reply_text}
 use Rattle.mesh_line_service.specs.declared.options.LineOptions.{LineOptions}
 
 -- a refusal of a line that is not too long is its reply
-pub refusal_told : (options : LineOptions) (line : List ℕ) (told : Result (String Global) Failure) (failure : Failure) (error : IntOutlineError) →
-    told ≡ Err failure → failure ≡ Refused error → IsWithin options.longest line → (told ≡ Err (Refused CoordinateOutOfRange) → IsRefused line) →
-    IfErr told (λ e. IsOfMemory e → 0 < length line) → IsReplyTo options line (failure_line (Refused error))
-refusal_told options line told failure CoordinateOutOfRange is same within refused memory = IsReplyTo.refusal within (refused (is ∙ ap Err same))
-refusal_told options line told failure OutOfMemory is same within refused memory =
-    IsReplyTo.no_memory (inl (subst (λ (t : Result (String Global) Failure). IfErr t (λ e. IsOfMemory e → 0 < length line)) (is ∙ ap Err same) memory tt))
+pub refusal_told : (options : LineOptions) (line : List ℕ) (told : Result (String Global) NearFailure) (failure : NearFailure) (within_failure : Failure) (error : IntOutlineError) →
+    told ≡ Err failure → failure ≡ Failed within_failure → within_failure ≡ Refused error → IsWithin options.longest line →
+    (told ≡ Err (Failed (Refused CoordinateOutOfRange)) → IsRefused line) → IfErr told (λ e. IsOfNearMemory e → 0 < length line) → IsReplyTo options line (failure_line (Refused error))
+refusal_told options line told failure reason CoordinateOutOfRange is same refused_so within refused memory =
+    IsReplyTo.refusal within (refused (is ∙ ap Err (same ∙ ap Failed refused_so)))
+refusal_told options line told failure reason OutOfMemory is same refused_so within refused memory =
+    IsReplyTo.no_memory (inl (subst (λ (t : Result (String Global) NearFailure). IfErr t (λ e. IsOfNearMemory e → 0 < length line)) (is ∙ ap Err (same ∙ ap Failed refused_so)) memory tt))
+
+-- what tells that a drawing took too many splits is its reply
+pub too_many_told : (options : LineOptions) (line : List ℕ) (told : Result (String Global) Failure) → IsWithin options.longest line → IsGivenUpIn options.most_splits line →
+    IfOk told (λ text. string_bytes text ≡ too_many_text options.most_splits) → IfErr told IsOfMemory → IsReplyTo options line (reply_text told)
+too_many_told options line (Ok text) within past same memory = subst (IsReplyTo options line) (sym same) (IsReplyTo.given_up within past)
+too_many_told options line (Err Unreadable) within past same memory = absurd memory
+too_many_told options line (Err (Refused OutOfMemory)) within past same memory = IsReplyTo.no_memory (inl (request_has_bytes line past.request past.requested))
+too_many_told options line (Err (Refused CoordinateOutOfRange)) within past same memory = absurd memory
 
 -- what tells why a line holds no request is its reply
 pub why_told : (options : LineOptions) (line : List ℕ) (told : Result (String Global) Failure) → IsWithin options.longest line → HoldsNoRequest line → options.why ≡ true →

@@ -6,8 +6,10 @@ use Rattle.mesh_offset.specs.declared.error.IntOutlineError.TheVariants.{Coordin
 use Rattle.mesh_request.specs.Failures.{failure_line}
 use Rattle.mesh_request.specs.declared.failure.Failure.TheVariants.{Unreadable, Refused}
 use Rattle.mesh_service.specs.Lines.{why_text}
+use Rattle.mesh_service.specs.Near.{IsAnswerWithin, IsGivenUpIn}
 use Rattle.mesh_service.specs.Reasons.{LiesIn, reason_text}
 use Rattle.mesh_service.specs.Serving.{IsAnswer, IsRefused, HoldsNoRequest}
+use Rattle.mesh_service.specs.declared.near.Telling.{Telling}
 use Rattle.mesh_service.specs.declared.reason.Reason.{Reason}
 use Rattle.mesh_line_service.specs.Held.{IsWithin}
 use Rattle.mesh_line_service.specs.declared.options.LineOptions.{LineOptions}
@@ -16,13 +18,31 @@ use Rattle.mesh_line_service.specs.declared.options.LineOptions.{LineOptions}
 abbrev pub too_long_text : ℕ → List ℕ
 too_long_text most = codes "{\"refused\":\"line is longer than " ++ (decimal most ++ codes " bytes\"}\n")
 
+-- the reply to a line whose drawing took more splits than these
+abbrev pub too_many_text : ℕ → List ℕ
+too_many_text most = codes "{\"refused\":\"splitting took more than " ++ (decimal most ++ codes " splits\"}\n")
+
+-- what is asked of answers
+abbrev pub telling_of : LineOptions → Telling
+telling_of options = record { most_splits = options.most_splits; nearness = options.nearness }
+
+-- the reply answers the request that the line is: as the service does where no limit is set and no nearness asked, and
+-- else by no more splits than the limit, with its nearness just where that is asked
+pub data IsAnswerAsked (options : LineOptions) (line reply : List ℕ) : Type 0 where
+  plain : options.most_splits ≡ 0 → options.nearness ≡ false → IsAnswer line reply → IsAnswerAsked options line reply
+  told : IsAnswerWithin (telling_of options) line reply → IsAnswerAsked options line reply
+
 -- the reply to a line: an answer to the request that it is; the refusal of a request that may not be answered; that it
--- holds no request, and a reason of it where that is asked; a want of memory, where there was a byte, or a reason was
--- to be told; and that it is too long, in place of all but a want of memory
+-- took more splits than a limit that is set; that the line holds no request, and a reason of it where that is asked; a
+-- want of memory, where there was a byte, or a reason was to be told; and that it is too long, in place of all but a
+-- want of memory
 pub data IsReplyTo (options : LineOptions) (line : List ℕ) : List ℕ → Type 0 where
-  answer : {reply : List ℕ} → IsWithin options.longest line → IsAnswer line reply → IsReplyTo options line reply
+  answer : {reply : List ℕ} → IsWithin options.longest line → IsAnswerAsked options line reply
+      → IsReplyTo options line reply
   refusal : IsWithin options.longest line → IsRefused line
       → IsReplyTo options line (failure_line (Refused CoordinateOutOfRange))
+  given_up : IsWithin options.longest line → IsGivenUpIn options.most_splits line
+      → IsReplyTo options line (too_many_text options.most_splits)
   no_request : IsWithin options.longest line → HoldsNoRequest line → options.why ≡ false
       → IsReplyTo options line (failure_line Unreadable)
   reasoned : {reason : Reason} → IsWithin options.longest line → HoldsNoRequest line → options.why ≡ true

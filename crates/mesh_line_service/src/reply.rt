@@ -1,20 +1,23 @@
 //! The reply to a line.
 
-ghost use Rattle.std.specs.Prelude.{◌≡◌, List, OnOk, IfOk, IfErr, string_bytes};
+ghost use Rattle.std.specs.Prelude.{◌≡◌, ◌<◌, List, OnOk, IfOk, IfErr, length, string_bytes};
 ghost use Rattle.std.specs.Io.KnownBytes.{Appends};
 ghost use Rattle.mesh_request.specs.Failures.{IsOfMemory};
 ghost use Rattle.mesh_service.specs.Lines.{why_text};
+ghost use Rattle.mesh_service.specs.Near.{IsGivenUpIn, IsOfNearMemory};
 ghost use Rattle.mesh_service.specs.Reasons.{LiesIn, reason_text};
-ghost use Rattle.mesh_service.specs.Serving.{AppendsBeginning, HoldsNoRequest};
+ghost use Rattle.mesh_service.specs.Serving.{AppendsBeginning, HoldsNoRequest, IsRefused};
 ghost use Rattle.mesh_line_service.specs.Held.{Holds, IsWithin};
 ghost use Rattle.mesh_line_service.specs.Private.Steps.{reply_text};
-ghost use Rattle.mesh_line_service.specs.Replies.{IsReplyTo, too_long_text};
+ghost use Rattle.mesh_line_service.specs.Replies.{IsAnswerAsked, IsReplyTo, too_long_text, too_many_text};
 
 use crate::line::{Held, Line};
 use crate::options::LineOptions;
 use mesh_offset::error::IntOutlineError;
 use mesh_request::failure::Failure;
 use mesh_service::answer::why_line;
+use mesh_service::near::{Telling, respond_near};
+use mesh_service::near_failure::NearFailure;
 use mesh_service::output::write_line;
 use mesh_service::service::respond;
 use mesh_service::why::why;
@@ -39,11 +42,32 @@ pub(crate) fn reply(alloc: Global, line: &Line, options: LineOptions) -> Result<
 fn reply_to(alloc: Global, line: &[u8], options: LineOptions) -> Result<String, Failure>
     ensures { IsWithin options.longest line.now → IsReplyTo options line.now (reply_text result) }
 {
-    match respond(alloc, line) {
+    match answer(alloc, line, options) {
         Ok(answer) => Ok(answer),
-        Err(Failure::Unreadable) => no_request(alloc, line, options),
-        Err(Failure::Refused(error)) => Err(Failure::Refused(error)),
+        Err(NearFailure::TooManySplits) => too_many_splits(alloc, options.most_splits),
+        Err(NearFailure::Failed(Failure::Unreadable)) => no_request(alloc, line, options),
+        Err(NearFailure::Failed(Failure::Refused(error))) => Err(Failure::Refused(error)),
     }
+}
+
+/// The answer to the request that a line is. Where no limit is set and no nearness asked it is made as the service makes
+/// it, which counts no splits.
+fn answer(alloc: Global, line: &[u8], options: LineOptions) -> Result<String, NearFailure>
+    ensures answered { IfOk result (λ reply. IsAnswerAsked options line.now (string_bytes reply)) }
+    ensures refused { result ≡ Err (NearFailure.Failed (Failure.Refused IntOutlineError.CoordinateOutOfRange))
+        → IsRefused line.now }
+    ensures unreadable { result ≡ Err (NearFailure.Failed Failure.Unreadable) → HoldsNoRequest line.now }
+    ensures given_up { result ≡ Err NearFailure.TooManySplits → IsGivenUpIn options.most_splits line.now }
+    ensures memory { IfErr result (λ e. IsOfNearMemory e → 0 < length line.now) }
+{
+    if options.most_splits == 0 && !options.nearness {
+        return Ok(respond(alloc, line)?);
+    }
+    let telling = Telling {
+        most_splits: options.most_splits,
+        nearness: options.nearness,
+    };
+    respond_near(alloc, line, telling)
 }
 
 /// The reply to a line that holds no request.
@@ -56,6 +80,15 @@ fn no_request(alloc: Global, line: &[u8], options: LineOptions) -> Result<String
     } else {
         Err(Failure::Unreadable)
     }
+}
+
+/// The reply to a line whose drawing took more splits than these. It fails only where memory is refused.
+fn too_many_splits(alloc: Global, most: u64) -> Result<String, Failure>
+    ensures told { IfOk result (λ text. string_bytes text ≡ too_many_text most) }
+    ensures memory { IfErr result IsOfMemory }
+{
+    let text = format!(in alloc; "{{\"refused\":\"splitting took more than {most} splits\"}}\n")?;
+    Ok(text)
 }
 
 /// The reply to a line that holds no request, with the reason. It fails only where memory is refused.

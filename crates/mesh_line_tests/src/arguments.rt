@@ -23,6 +23,14 @@ fn known_words(rt: HostRuntime) -> Result<(), Fail> {
         longest: Some(100),
         ..PLAIN
     };
+    let most_splits = LineOptions {
+        most_splits: 1,
+        ..PLAIN
+    };
+    let nearness = LineOptions {
+        nearness: true,
+        ..PLAIN
+    };
     let why = LineOptions { why: true, ..PLAIN };
     let progress = LineOptions {
         progress: true,
@@ -30,6 +38,8 @@ fn known_words(rt: HostRuntime) -> Result<(), Fail> {
     };
     let all = LineOptions {
         longest: Some(100),
+        most_splits: u64::MAX,
+        nearness: true,
         why: true,
         progress: true,
     };
@@ -37,10 +47,18 @@ fn known_words(rt: HostRuntime) -> Result<(), Fail> {
         ("", PLAIN),
         ("--longest 100", longest),
         ("--longest 7 --longest 100", longest),
+        ("--most-splits 1", most_splits),
+        ("--nearness", nearness),
         ("--why", why),
         ("--progress", progress),
-        ("--progress --longest 100 --why", all),
-        ("--why --progress --longest 100", all),
+        (
+            "--progress --longest 100 --most-splits 18446744073709551615 --nearness --why",
+            all,
+        ),
+        (
+            "--nearness --most-splits 18446744073709551615 --why --progress --longest 100",
+            all,
+        ),
     ] {
         expect_asked(rt.alloc(), words, Some(Asked::Lines(wanted)))?;
     }
@@ -57,6 +75,13 @@ fn wrong_words(rt: HostRuntime) -> Result<(), Fail> {
         "--longest -1",
         "--longest 18446744073709551616",
         "--longest --why",
+        "--most-splits",
+        "--most-splits 0",
+        "--most-splits x",
+        "--most-splits -1",
+        "--most-splits 18446744073709551616",
+        "--most-splits --why",
+        "--nearness 1",
         "--why 1",
         "--whys",
         "why",
@@ -70,7 +95,15 @@ fn wrong_words(rt: HostRuntime) -> Result<(), Fail> {
 /// Each argument is named where it is said how the program is used.
 #[test]
 fn usage(_rt: HostRuntime) -> Result<(), Fail> {
-    for word in ["--longest N", "--why", "--progress", "--help", "--version"] {
+    for word in [
+        "--longest N",
+        "--most-splits N",
+        "--nearness",
+        "--why",
+        "--progress",
+        "--help",
+        "--version",
+    ] {
         expect_equal(&USAGE.contains(word), &true, &word)?;
     }
     Ok(())

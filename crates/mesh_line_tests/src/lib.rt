@@ -7,6 +7,10 @@ mod arguments;
 #[cfg(test)]
 mod failing;
 #[cfg(test)]
+mod limits;
+#[cfg(test)]
 mod lines;
+#[cfg(test)]
+mod near;
 #[cfg(test)]
 mod reasons;

@@ -32,6 +32,8 @@ pub(crate) const TOO_LONG: &[u8] = b"{\"refused\":\"line is longer than 4 bytes\
 
 pub(crate) const PLAIN: LineOptions = LineOptions {
     longest: None,
+    most_splits: 0,
+    nearness: false,
     why: false,
     progress: false,
 };
@@ -43,6 +45,19 @@ pub(crate) fn joined(alloc: Global, parts: &[&[u8]]) -> Result<Vec<u8>, Fail> {
         text.extend_from_slice(part)?;
     }
     Ok(text)
+}
+
+/// The replies to a text whose run ends served.
+pub(crate) fn replies_to(
+    alloc: Global,
+    text: &[&[u8]],
+    options: LineOptions,
+) -> Result<Vec<u8>, Fail> {
+    let text = joined(alloc, text)?;
+    let (mut reader, mut writer) = (text.as_slice(), Vec::new(alloc));
+    let ending = serve_lines(alloc, &mut reader, &mut writer, &mut io::sink(), options);
+    expect_equal(&ending, &Ending::Served, &text)?;
+    Ok(writer)
 }
 
 /// The text has these replies, and the run ends served.

@@ -1,6 +1,6 @@
 -- Lemmas over lines: what is answered or told is a reply.
 use Rattle.std.proofs.Common.{◌≡◌, ◌∙◌, ◌⊎◌, inl, inr, ℕ, ◌<◌, List, [], ◌∷◌, length, String, Global, Option, None, Some, Result, Ok, Err, IfSome, IfOk, IfErr, IsOk, IsErrAnd, refl, sym, subst, arith}
-use Rattle.std.specs.Prelude.{string_bytes}
+use Rattle.std.specs.Prelude.{option_and_then, string_bytes}
 use Rattle.std.proofs.lemmas.Bool.{false≢true}
 use Rattle.std.proofs.lemmas.Option.{none-some}
 use Rattle.std.specs.Io.KnownBytes.{Appends, IsAtEnd}
@@ -18,7 +18,7 @@ use Rattle.mesh_service.specs.declared.service.Status.{Status}
 use Rattle.mesh_service.specs.declared.service.Status.TheVariants.{Unwritten, Unread}
 use Rattle.mesh_service.specs.declared.service.Status.TheVariants.{Refused as RefusedStatus, Unreadable as UnreadableStatus}
 use Rattle.mesh_service.specs.Private.Told.{told_line}
-use Rattle.mesh_service.specs.Serving.{IsAnswer, IsRefused, IsReply, TellsRefusal, MetRefusal, HasBytes, HoldsNoRequest, request_in}
+use Rattle.mesh_service.specs.Serving.{IsAnswer, IsRefused, IsReply, TellsRefusal, MetRefusal, HasBytes, HoldsNoRequest, exact_request, request_in}
 use Rattle.mesh_request.specs.declared.failure.Failure.{Failure}
 use Rattle.mesh_request.specs.declared.failure.Failure.TheVariants.{Unreadable, Refused}
 
@@ -43,6 +43,14 @@ pub value_has_bytes : (text : List ℕ) (d : Data) → read text ≡ Some d → 
 unfolding serde_json_on_literals
 value_has_bytes [] d e = absurd (none-some d e)
 value_has_bytes (b ∷ bytes) d e = omega arith
+
+-- a text that is a request has bytes
+pub request_has_bytes : (text : List ℕ) (request : Request) → request_in text ≡ Some request → 0 < length text
+request_has_bytes text request requested = by (read text) refl requested
+  where
+    by : (value : Option Data) → read text ≡ value → option_and_then exact_request value ≡ Some request → 0 < length text
+    by None e same = absurd (none-some request same)
+    by (Some d) e same = value_has_bytes text d e
 
 pub has_bytes_anyway : (text : List ℕ) (told : Result (String Global) Failure) → 0 < length text → IfErr told (λ e. IsOfMemory e → 0 < length text)
 has_bytes_anyway text (Ok line) h = tt

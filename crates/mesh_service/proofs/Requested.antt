@@ -54,5 +54,5 @@ told_shapes_answer telling order request line choices nearness shapes e accepted
     record {
       accepted = accepted;
       listed = subst (λ (asked : Asked). ListsWithin telling order request line asked) (sym e)
-        (record { shapes = shapes; nearness = nearness; drawn = drawn; within = within; written = written });
+          (record { shapes = shapes; nearness = nearness; drawn = drawn; within = within; written = written });
     }
