@@ -84,23 +84,44 @@ fn each_line_tells_its_own(rt: HostRuntime) -> Result<(), Fail> {
     )
 }
 
-/// With a limit an answer tells the nearness that it tells without one, and a drawing that takes more is refused.
+/// What is told of a line that is no JSON.
+const NO_JSON: &[u8] = b"{\"unreadable\":\"request\",\"why\":\"line 1, column 1: invalid JSON\"}\n";
+
+/// With a limit an answer tells the nearness that it tells without one.
 #[test]
-fn nearness_with_a_limit(rt: HostRuntime) -> Result<(), Fail> {
+fn nearness_within_a_limit(rt: HostRuntime) -> Result<(), Fail> {
     let square = replies_to(rt.alloc(), &[SQUARE], NEAR)?;
     let hard = replies_to(rt.alloc(), &[HARD], NEAR)?;
-    let met = LineOptions {
+    let options = LineOptions {
+        most_splits: least_limit(rt.alloc())?,
+        why: true,
+        ..NEAR
+    };
+    expect_replies(
+        rt.alloc(),
+        &[HARD, b"\n[\n", SQUARE],
+        options,
+        &[&hard, NO_JSON, &square],
+    )
+}
+
+/// A drawing that takes more splits than a limit is refused where nearness is asked too.
+#[test]
+fn nearness_past_a_limit(rt: HostRuntime) -> Result<(), Fail> {
+    let square = replies_to(rt.alloc(), &[SQUARE], NEAR)?;
+    let options = LineOptions {
         most_splits: 1,
         why: true,
         ..NEAR
     };
-    let not_met = LineOptions {
-        most_splits: least_limit(rt.alloc())?,
-        ..met
-    };
-    let text: &[&[u8]] = &[HARD, b"\n[\n", SQUARE];
-    let reason = b"{\"unreadable\":\"request\",\"why\":\"line 1, column 1: invalid JSON\"}\n";
-    let refusal = b"{\"refused\":\"splitting took more than 1 splits\"}\n";
-    expect_replies(rt.alloc(), text, met, &[refusal, reason, &square])?;
-    expect_replies(rt.alloc(), text, not_met, &[&hard, reason, &square])
+    expect_replies(
+        rt.alloc(),
+        &[HARD, b"\n[\n", SQUARE],
+        options,
+        &[
+            b"{\"refused\":\"splitting took more than 1 splits\"}\n",
+            NO_JSON,
+            &square,
+        ],
+    )
 }
