@@ -1,6 +1,6 @@
 //! Directions of vectors and their multiples, in 128 bits and apart from any coordinate type.
 
-ghost use Rattle.std.specs.Prelude.{◌≡◌, ℕ, ◌+◌, ◌*◌, ◌^◌, ◌<◌, ◌≤◌, unsigned_abs, MatchOption, IfSome};
+ghost use Rattle.std.specs.Prelude.{◌≡◌, ℕ, ◌+◌, ◌-◌, ◌*◌, ◌^◌, ◌<◌, ◌≤◌, unsigned_abs, MatchOption, IfSome};
 ghost use Rattle.mesh_plane.specs.Plane.{length_sq};
 ghost use Rattle.mesh_plane.specs.Rounding.{rounded};
 ghost use Rattle.mesh_num.specs.Direction.{IsShare, IsPart, IsDirection, IsShort, scaled};
@@ -9,7 +9,7 @@ use crate::num::exact::square_sum;
 use crate::num::root::fine_length;
 
 // The greatest number whose share of `unit` is at most that of `size` in a vector with this squared length. `root` is
-// the length in 2^32nds of a grid unit, cut: so the quotient by it is never too small, and too great by at most one.
+// the length in 2^32nds of a grid unit, cut.
 fn part_size(unit: u128, square: u128, root: u128, size: u128) -> u128
     requires unit { unit ≤ 2 ^ 30 }
     requires square { square < 2 ^ 63 }
@@ -21,12 +21,32 @@ fn part_size(unit: u128, square: u128, root: u128, size: u128) -> u128
     ensures greatest { (j : ℕ) → IsShare unit square size j → j ≤ result }
     ensures bounded { result ≤ unit }
 {
-    let quotient = unit * size * (1 << 32) / root;
+    let quotient = near_part(unit, square, root, size);
     if quotient * quotient * square > unit * unit * (size * size) {
         quotient - 1
     } else {
         quotient
     }
+}
+
+// A part that is never too small, and too great by at most one: the quotient by the leading 33 digits of the root, so
+// that 64 bits hold it.
+fn near_part(unit: u128, square: u128, root: u128, size: u128) -> u128
+    requires unit { unit ≤ 2 ^ 30 }
+    requires square { square < 2 ^ 63 }
+    requires length { 0 < square }
+    requires root_within { root * root ≤ square * 2 ^ 64 }
+    requires root_above { square * 2 ^ 64 < (root + 1) * (root + 1) }
+    requires size { size * size ≤ square }
+    ensures enough { (j : ℕ) → IsShare unit square size j → j ≤ result }
+    ensures near { IsShare unit square size (result - 1) }
+    ensures bounded { result ≤ unit + 1 }
+{
+    let long = root as u64;
+    let empty = long.leading_zeros();
+    let leading = long >> (31 - empty);
+    let product = (unit * size) as u64;
+    ((product << (empty + 1)) / leading) as u128
 }
 
 /// The component in a direction of length `unit` of a vector's component `x`, where `square` is the vector's squared
