@@ -10,12 +10,15 @@ pub mod Filing
 pub mod Forward
 pub mod Kept
 pub mod Listing
+pub mod Pairs
 pub mod Paths
 pub mod Piles
 pub mod Room
+pub mod Rounding
 pub mod Settling
 pub mod Sharing
 pub mod Stages
 pub mod Starting
 pub mod Tallies
 pub mod Tracking
+pub mod Waiting

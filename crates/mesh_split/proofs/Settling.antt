@@ -81,17 +81,17 @@ taken_fewer live live' k t q = omega (arith, linear, t (λ (j : Counted). bit (s
 
 -- ---- the splits of one split
 
-one_cut : (e f : Edge) (c : Point) (ks : List EdgeSplit) → is_end c e ≡ false → is_end c f ≡ true → add_split f c (add_split e c ks) ≡ (record { ends = e; at = c }) ∷ ks
+pub one_cut : (e f : Edge) (c : Point) (ks : List EdgeSplit) → is_end c e ≡ false → is_end c f ≡ true → add_split f c (add_split e c ks) ≡ (record { ends = e; at = c }) ∷ ks
 one_cut e f c ks inner end =
     ap (λ (b : Bool). cond b (add_split e c ks) ((record { ends = f; at = c }) ∷ add_split e c ks)) end
     ∙ ap (λ (b : Bool). cond b ks ((record { ends = e; at = c }) ∷ ks)) inner
 
-other_cut : (e f : Edge) (c : Point) (ks : List EdgeSplit) → is_end c e ≡ true → is_end c f ≡ false → add_split f c (add_split e c ks) ≡ (record { ends = f; at = c }) ∷ ks
+pub other_cut : (e f : Edge) (c : Point) (ks : List EdgeSplit) → is_end c e ≡ true → is_end c f ≡ false → add_split f c (add_split e c ks) ≡ (record { ends = f; at = c }) ∷ ks
 other_cut e f c ks end inner =
     ap (λ (b : Bool). cond b (add_split e c ks) ((record { ends = f; at = c }) ∷ add_split e c ks)) inner
     ∙ ap (λ (b : Bool). (record { ends = f; at = c }) ∷ cond b ks ((record { ends = e; at = c }) ∷ ks)) end
 
-both_cut : (e f : Edge) (c : Point) (ks : List EdgeSplit) → is_end c e ≡ false → is_end c f ≡ false
+pub both_cut : (e f : Edge) (c : Point) (ks : List EdgeSplit) → is_end c e ≡ false → is_end c f ≡ false
     → add_split f c (add_split e c ks) ≡ (record { ends = f; at = c }) ∷ (record { ends = e; at = c }) ∷ ks
 both_cut e f c ks inner also =
     ap (λ (b : Bool). cond b (add_split e c ks) ((record { ends = f; at = c }) ∷ add_split e c ks)) also
@@ -109,7 +109,7 @@ pub record IsMeeting (todo live : List Counted) (k : Counted) (t : Edge) (c : Po
   pub meets : Meets k.0 t c
   pub lives : pos 0 <ℤ exactly t live
 
-legal_split : (given : List Edge) (ks : List EdgeSplit) (todo live : List Counted) (k : Counted) (t : Edge) (c : Point) → IsMeeting todo live k t c
+pub legal_split : (given : List Edge) (ks : List EdgeSplit) (todo live : List Counted) (k : Counted) (t : Edge) (c : Point) → IsMeeting todo live k t c
     → IsReachedBySplits given ks todo live (k ∷ []) → IsLegal given (add_split t c (add_split k.0 c ks))
 legal_split given ks todo live k t c m r =
     let h = held_is (after ks given) todo live k [] m.proper r.count refl in
@@ -168,7 +168,7 @@ apart_ends es todo live live' k j h t =
     let none : bit (same_ends k.0 j.0) ≡ pos 0 = omega (arith, linear, h.lives, t (λ (x : Counted). bit (same_ends k.0 x.0)), times_least k.0 live', bit_least (same_ends k.0 j.0)) in
     bit_none (same_ends k.0 j.0) none
 
-alone : (e : Edge) (j : Counted) → same_ends e j.0 ≡ false → times e (j ∷ []) ≡ pos 0
+pub alone : (e : Edge) (j : Counted) → same_ends e j.0 ≡ false → times e (j ∷ []) ≡ pos 0
 alone e j h = omega (arith, linear, ap bit h)
 
 -- the meeting point is an end of the segment in hand: that is put back, and the live one is cut

@@ -6,6 +6,7 @@ ghost use Rattle.std.specs.Prelude.{◌≡◌, pos, ◌<ℤ◌, IfErr, IfOk, IfS
 ghost use Rattle.mesh_lattice.specs.Clean.{IsProper};
 ghost use Rattle.mesh_lattice.specs.Split.{Meets};
 ghost use Rattle.mesh_split.specs.Counting.{CountsSplits, IsReason};
+ghost use Rattle.mesh_split.specs.Private.Growth.{pieces_of};
 ghost use Rattle.mesh_split.specs.Private.Steps.{AllClear, AreAmong, IsPile, KeepsPile, StandOnce, exactly};
 
 use crate::count::{SplitCount, SplitError};
@@ -94,7 +95,9 @@ fn next(
 }
 
 /// The pieces of two segments that are split.
-fn pieces(e: LatticeEdge, m: Meeting) -> [LatticeEdge; 4] {
+pub fn pieces(e: LatticeEdge, m: Meeting) -> [LatticeEdge; 4]
+    ensures { result ≡ pieces_of e m }
+{
     let (f, c) = m;
     [
         forward((e.0, c)),
@@ -117,7 +120,7 @@ fn split_noted(
     ensures counted { CountsSplits edges.now count.old count.new }
     ensures refused { IfErr result (λ e. IsReason e count.new) }
 {
-    let mut splitter = Splitter::of_edges(alloc, edges)?;
+    let mut splitter = Splitter::of_edges(alloc, edges, edges)?;
     let mut hints = Hints::new(alloc);
     take_up(&mut splitter, noted, &mut hints, leash)?;
     for _split in 0..usize::MAX {

@@ -13,7 +13,8 @@ ghost use Rattle.mesh_split.specs.Told.{IsCountedSplitting, IsToldSplitting};
 use crate::count::{SplitCount, SplitError};
 use crate::first_pass::first_pass;
 use crate::nearness::nearness;
-use crate::steps::Splitter;
+use crate::rounds::split_in_rounds;
+use crate::steps::Settled;
 use mesh_lattice::lattice::{CountedSegment, LatticeEdge};
 use std::alloc::{AllocError, Global};
 
@@ -37,13 +38,12 @@ pub fn split_edges(alloc: Global, edges: &[LatticeEdge]) -> Result<Vec<CountedSe
     ensures room { IfOk result (λ v. IsRoomy (sum_of size v.items)) }
 {
     let mut count = SplitCount::new(0);
-    let splitter = match settled(alloc, edges, &mut count) {
-        Ok(splitter) => splitter,
+    let settled = match settled(alloc, edges, &mut count) {
+        Ok(settled) => settled,
         Err(SplitError::OutOfMemory) => return Err(AllocError),
         Err(SplitError::TooManySplits) => unreachable!(),
     };
-    let segments = splitter.live.into_segments(alloc)?;
-    Ok(segments)
+    Ok(settled.segments)
 }
 
 /// The same, and tells how near the splits lie to the edges. The splits are counted on, those of attempts that were
@@ -64,20 +64,41 @@ pub fn split_edges_told(
     ensures within { OnOk result (IsWithinLimit count.new) }
     ensures refused { IfErr result (λ e. IsReason e count.new) }
 {
-    let splitter = settled(alloc, edges, count)?;
-    let nearness = nearness(alloc, &splitter.log)?;
-    let segments = splitter.live.into_segments(alloc)?;
-    Ok(ToldSplitting { segments, nearness })
+    let settled = settled(alloc, edges, count)?;
+    let nearness = nearness(alloc, &settled.log)?;
+    Ok(ToldSplitting {
+        segments: settled.segments,
+        nearness,
+    })
 }
 
-/// The splits that leave no segment waiting, and none that meets another.
+/// The segments that splits leave, none of which meets another: in rounds where these serve.
 fn settled(
     alloc: Global,
     edges: &[LatticeEdge],
     count: &mut SplitCount,
-) -> Result<Splitter, SplitError>
+) -> Result<Settled, SplitError>
     requires { IsProper edges.now }
-    ensures settled { IfOk result (λ s. IsSettled edges.now s.log s.live) }
+    ensures settled { IfOk result (λ s. IsSettled edges.now s.log s.segments.items) }
+    ensures counted { CountsSplits edges.now count.old count.new }
+    ensures standing { IfOk result (λ s. CountsWith edges.now count.old count.new s.log) }
+    ensures within { OnOk result (IsWithinLimit count.new) }
+    ensures refused { IfErr result (λ e. IsReason e count.new) }
+{
+    let Some(settled) = split_in_rounds(alloc, edges, count)? else {
+        return settled_one_by_one(alloc, edges, count);
+    };
+    Ok(settled)
+}
+
+/// The same by splits one by one, each of a segment and another one that it is found to meet.
+fn settled_one_by_one(
+    alloc: Global,
+    edges: &[LatticeEdge],
+    count: &mut SplitCount,
+) -> Result<Settled, SplitError>
+    requires { IsProper edges.now }
+    ensures settled { IfOk result (λ s. IsSettled edges.now s.log s.segments.items) }
     ensures counted { CountsSplits edges.now count.old count.new }
     ensures standing { IfOk result (λ s. CountsWith edges.now count.old count.new s.log) }
     ensures within { OnOk result (IsWithinLimit count.new) }
@@ -89,5 +110,9 @@ fn settled(
         count.check(&splitter.log)?;
     }
     count.add(&splitter.log)?;
-    Ok(splitter)
+    let segments = splitter.live.into_segments(alloc)?;
+    Ok(Settled {
+        segments,
+        log: splitter.log,
+    })
 }

@@ -4,8 +4,10 @@ ghost use Rattle.std.specs.Prelude.{◌≡◌, ◌^◌, [], ◌∷◌, ℤ, pos,
 ghost use Rattle.mesh_plane.specs.Winding.{same_point};
 ghost use Rattle.mesh_lattice.specs.Clean.{IsProper};
 ghost use Rattle.mesh_lattice.specs.Split.{is_end, IsInBox, Meets};
+ghost use Rattle.mesh_split.specs.Private.Growth.{Grows, Waits, pieces_of};
 ghost use Rattle.mesh_split.specs.Private.Steps.{AllClear, Puts, PutsPieces, Moves, Settles, IsPile, KeepsPile};
 ghost use Rattle.mesh_split.specs.Private.Steps.{IsForward, exactly, split_at, weight, total_weight};
+ghost use Rattle.mesh_split.specs.Private.Witnesses.{forward};
 ghost use Rattle.mesh_lattice.specs.Counted.{times, IsRoomy};
 
 use crate::hints::Meeting;
@@ -23,6 +25,13 @@ use std::alloc::{AllocError, Global};
 pub struct Splitter {
     pub todo: Worklist,
     pub live: Store,
+    pub log: SplitLog,
+}
+
+/// Segments that are clear of each other, and the splits that led to them.
+#[derive(Drop)]
+pub struct Settled {
+    pub segments: Vec<CountedSegment>,
     pub log: SplitLog,
 }
 
@@ -64,6 +73,7 @@ impl Splitter {
         requires proper { same_point s.0.0 s.0.1 ≡ false }
         requires room { IsRoomy (total_weight self.old.todo self.old.live +ℤ weight s) }
         ensures puts { OnOk result (Puts self.old.todo self.old.live self.new.todo self.new.live s) }
+        ensures grows { OnOk result (Grows self.old.todo self.new.todo (forward s.0 ∷ [])) }
         ensures log { self.new.log ≡ self.old.log }
     {
         if is_before(s.0.0, s.0.1) {
@@ -77,6 +87,7 @@ impl Splitter {
         requires forward { IsForward s.0 }
         requires room { IsRoomy (total_weight self.old.todo self.old.live +ℤ weight s) }
         ensures puts { OnOk result (Puts self.old.todo self.old.live self.new.todo self.new.live s) }
+        ensures grows { OnOk result (Grows self.old.todo self.new.todo (s.0 ∷ [])) }
         ensures log { self.new.log ≡ self.old.log }
     {
         let added = self.live.add(s)?;
@@ -93,6 +104,8 @@ impl Splitter {
         requires in_box { IsInBox s.0 c }
         requires room { IsRoomy (total_weight self.old.todo self.old.live +ℤ weight s) }
         ensures pieces { OnOk result (PutsPieces self.old.todo self.old.live self.new.todo self.new.live s c) }
+        ensures grows { OnOk result
+            (Grows self.old.todo self.new.todo (forward (s.0.0, c) ∷ forward (c, s.0.1) ∷ [])) }
         ensures log { OnOk result (self.new.log ≡ split_at s.0 c ∷ self.old.log) }
     {
         let (start, end) = s.0;
@@ -126,13 +139,19 @@ impl Splitter {
         Ok(())
     }
 
-    /// The given edges, all of which wait, those with the same ends as one segment.
-    pub fn of_edges(alloc: Global, edges: &[LatticeEdge]) -> Result<Self, AllocError>
+    /// The given edges, all of which wait, those with the same ends as one segment. The plane serves for others, which
+    /// are to live.
+    pub fn of_edges(
+        alloc: Global,
+        edges: &[LatticeEdge],
+        others: &[LatticeEdge],
+    ) -> Result<Self, AllocError>
         requires { IsProper edges.now }
         ensures pile { IfOk result (λ s. IsPile edges.now s.log s.todo s.live) }
         ensures clear { IfOk result (λ s. AllClear s.live) }
+        ensures none_lives { IfOk result (λ s. s.live ≡ []) }
     {
-        let mut splitter = Splitter::new(alloc, edges)?;
+        let mut splitter = Splitter::new(alloc, others)?;
         for e in edges {
             splitter.put(single(*e))?;
         }
@@ -153,6 +172,34 @@ impl Splitter {
         Ok(())
     }
 
+    /// Splits two waiting segments that meet.
+    pub fn split_waiting(&mut self, first: LatticeEdge, m: Meeting) -> Result<(), AllocError>
+        requires first_waits { Waits first self.old.todo }
+        requires second_waits { Waits m.0 self.old.todo }
+        requires meets { Meets first m.0 m.1 }
+        requires none_lives { self.old.live ≡ [] }
+        requires room { total_weight self.old.todo self.old.live ≤ℤ pos (2 ^ 97) }
+        ensures kept { OnOk result (KeepsPile self.old.log self.old.todo self.old.live
+            self.new.log self.new.todo self.new.live) }
+        ensures none_lives { OnOk result (self.new.live ≡ []) }
+        ensures grows { OnOk result (Grows self.old.todo self.new.todo (pieces_of first m)) }
+    {
+        let s = self.todo.remove(first);
+        if is_end(m.1, m.0) {
+            self.split_at(s, m.1)?;
+            return Ok(());
+        }
+        let other = self.todo.remove(m.0);
+        if is_end(m.1, first) {
+            self.put(s)?;
+            self.split_at(other, m.1)?;
+            return Ok(());
+        }
+        self.split_at(s, m.1)?;
+        self.split_at(other, m.1)?;
+        Ok(())
+    }
+
     /// The live segments alone, which all wait again.
     pub fn again(self, alloc: Global) -> Result<Self, AllocError>
         ensures todo { IfOk result (λ s. s.todo ≡ self.live) }
@@ -164,6 +211,18 @@ impl Splitter {
         Ok(Splitter {
             todo: self.live.into_worklist(alloc),
             live,
+            log: self.log,
+        })
+    }
+
+    /// The waiting segments as a list, with the splits that led to them.
+    pub fn into_settled(self, alloc: Global) -> Result<Settled, AllocError>
+        ensures segments { IfOk result (λ s. s.segments.items ≡ self.todo) }
+        ensures log { IfOk result (λ s. s.log ≡ self.log) }
+    {
+        let segments = self.todo.into_segments(alloc)?;
+        Ok(Settled {
+            segments,
             log: self.log,
         })
     }

@@ -1,8 +1,9 @@
 //! The segments that are still to be tested against the live ones.
 
-ghost use Rattle.std.specs.Prelude.{◌≡◌, ◌⊎◌, true, List, [], ℤ, pos, ◌<ℤ◌, MatchOption, IfSome, OnOk};
+ghost use Rattle.std.specs.Prelude.{◌≡◌, ◌⊎◌, true, false, List, [], ℤ, pos, ◌<ℤ◌, MatchOption, IfOk, IfSome, OnOk};
 ghost use Rattle.std.specs.List.{All};
 ghost use Rattle.std.specs.Map.{keys_of};
+ghost use Rattle.mesh_split.specs.Private.Cells.{KeepsThose};
 ghost use Rattle.mesh_split.specs.Private.Steps.{HaveRoom, IsForward, IsTaken, IsRaised, IsNew, exactly};
 
 use mesh_lattice::lattice::{CountedSegment, LatticeEdge};
@@ -66,7 +67,8 @@ impl Worklist {
 
     /// Whether the segment with these ends waits.
     pub fn has(&self, ends: LatticeEdge) -> bool
-        ensures { result ≡ true → pos 0 <ℤ exactly ends self.now }
+        ensures yes { result ≡ true → pos 0 <ℤ exactly ends self.now }
+        ensures no { result ≡ false → exactly ends self.now ≡ pos 0 }
     {
         match self.counts.get(&ends) {
             Some(_) => true,
@@ -77,6 +79,7 @@ impl Worklist {
     /// Takes the segment with these ends out.
     pub fn remove(&mut self, ends: LatticeEdge) -> CountedSegment
         requires { pos 0 <ℤ exactly ends self.old }
+        ensures ends { result.0 ≡ ends }
         ensures taken { IsTaken self.old self.new result }
         ensures forward { IsForward result.0 }
     {
@@ -100,5 +103,36 @@ impl Worklist {
         self.counts.insert(s.0, s.1)?;
         self.latest.push(s.0)?;
         Ok(())
+    }
+
+    /// Those of some segments that wait.
+    pub fn waiting(
+        &self,
+        alloc: Global,
+        edges: &[LatticeEdge],
+    ) -> Result<Vec<LatticeEdge>, AllocError>
+        ensures { IfOk result (λ v. KeepsThose (λ x. pos 0 <ℤ exactly x self.now) edges.now v.items) }
+    {
+        let mut left = Vec::with_capacity(alloc, edges.len())?;
+        for e in edges {
+            if self.has(*e) {
+                left.push(*e)?;
+            }
+        }
+        Ok(left)
+    }
+
+    /// The ends of all segments that wait.
+    pub fn ends(&self, alloc: Global) -> Result<Vec<LatticeEdge>, AllocError>
+        ensures { IfOk result (λ v. v.items ≡ keys_of self.now) }
+    {
+        self.counts.keys().copied().collect(alloc)
+    }
+
+    /// The segments that wait as a list.
+    pub fn into_segments(self, alloc: Global) -> Result<Vec<CountedSegment>, AllocError>
+        ensures { IfOk result (λ v. v.items ≡ self) }
+    {
+        self.counts.into_iter().collect(alloc)
     }
 }

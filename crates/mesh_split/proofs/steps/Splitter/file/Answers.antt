@@ -1,6 +1,7 @@
 use Rattle.std.proofs.Common.{Bool, subst}
 use Rattle.mesh_split.specs.Private.Steps.{AddsIf}
 use Rattle.mesh_split.proofs.Filing.{room_live, room_waiting, raised_live, filed}
+use Rattle.mesh_split.proofs.Waiting.{grows_raised}
 use Rattle.mesh_split.proofs.steps.Splitter.file.Goals as goal
 
 pub add-requires-clause-room : goal.add-requires-clause-room
@@ -18,3 +19,6 @@ pub returns-clause-puts : goal.returns-clause-puts
 returns-clause-puts c =
     filed c.args.self.now.todo c.args.self.now.live c.add-2.new.self c.add.new.self c.args.s
     (subst (λ (b : Bool). AddsIf b c.args.self.now.live c.add.new.self c.args.s) c.if-added.false c.in_ok-added.ensures) c.in_ok-add.ensures
+
+pub returns-clause-grows : goal.returns-clause-grows
+returns-clause-grows c = grows_raised c.args.self.now.todo c.add-2.new.self c.args.s c.in_ok-add.ensures

@@ -4,13 +4,14 @@ use Rattle.mesh_lattice.specs.Counted.{Counted}
 use Rattle.mesh_lattice.proofs.Each.{proper_at}
 use Rattle.mesh_split.specs.Private.Steps.{Puts}
 use Rattle.mesh_split.proofs.Starting.{none_count, none_clear, none_weight, more_room, more_count, more_clear, more_weight, most_weight, start_reached}
+use Rattle.mesh_split.proofs.Waiting.{none_put}
 use Rattle.mesh_split.proofs.steps.Splitter.of_edges.Goals as goal
 
 pub loop-e-init : goal.loop-e-init
 loop-e-init c =
     let s = c.in_ok-splitter.splitter in
     let e = c.in_ok-splitter.ensures in
-    record { log = e.log; count = none_count s.todo s.live e.todo e.live; clear = none_clear s.live e.live; weight = none_weight s.todo s.live e.todo e.live }
+    record { log = e.log; count = none_count s.todo s.live e.todo e.live; clear = none_clear s.live e.live; none_lives = e.live; weight = none_weight s.todo s.live e.todo e.live }
 
 pub put-requires-clause-proper : goal.put-requires-clause-proper
 put-requires-clause-proper c =
@@ -31,6 +32,7 @@ loop-e-preserved c =
       log = c.put.ensures.log ∙ c.loop-e.invariant.log;
       count = more_count c.args.edges.now c.loop-e.e-index _ s.todo s.live t.todo t.live c.loop-e-test.true puts c.loop-e.invariant.count;
       clear = more_clear s.todo s.live t.todo t.live _ c.in_ok-put.ensures.puts c.loop-e.invariant.clear;
+      none_lives = none_put s.todo s.live t.todo t.live _ c.loop-e.invariant.none_lives c.in_ok-put.ensures.puts;
       weight = more_weight c.loop-e.e-index _ _ _ c.in_ok-put.ensures.puts.weight_grows c.single.ensures.light c.loop-e.invariant.weight;
     }
 

@@ -8,5 +8,6 @@ invariant-loop-e l = record {
   log : l.splitter.log ≡ [];
   count : AreCountOf (take l.e-index l.fn.edges) l.splitter.todo l.splitter.live [];
   clear : AllClear l.splitter.live;
+  none_lives : l.splitter.live ≡ [];
   weight : total_weight l.splitter.todo l.splitter.live ≤ℤ pos (2 ^ 33 * l.e-index);
 }

@@ -1,4 +1,7 @@
+use Rattle.std.proofs.Common.{[], ◌∷◌}
+use Rattle.mesh_split.specs.Private.Witnesses.{forward}
 use Rattle.mesh_split.proofs.Filing.{first_proper, second_proper, room_first, room_second, room_kept}
+use Rattle.mesh_split.proofs.Waiting.{grows_both}
 use Rattle.mesh_split.proofs.steps.Splitter.split_at.Goals as goal
 
 pub put-requires-clause-proper : goal.put-requires-clause-proper
@@ -23,3 +26,7 @@ pub returns-clause-pieces : goal.returns-clause-pieces
 returns-clause-pieces c =
     let kept = room_kept c.args.self.now.todo c.args.self.now.live c.args.s c.requires.room in
     record { between = c.put.new.self.todo; beside = c.put.new.self.live; first = simp kept at c.in_ok-put.ensures.puts; second = simp kept at c.in_ok-put-2.ensures.puts }
+
+pub returns-clause-grows : goal.returns-clause-grows
+returns-clause-grows c =
+    grows_both c.args.self.now.todo c.put.new.self.todo c.put-2.new.self.todo (forward (c.args.s.0.0, c.args.c) ∷ []) (forward (c.args.c, c.args.s.0.1) ∷ []) c.in_ok-put.ensures.grows c.in_ok-put-2.ensures.grows

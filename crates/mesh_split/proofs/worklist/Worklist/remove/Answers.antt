@@ -3,7 +3,7 @@ use Rattle.std.specs.Prelude.{pos, ◌<ℤ◌}
 use Rattle.std.proofs.lemmas.Int.{ints}
 use Rattle.mesh_lattice.specs.Counted.{Counted}
 use Rattle.mesh_split.specs.Private.Steps.{exactly}
-use Rattle.mesh_split.proofs.Entries.{removed_left, removed_taken, removed_forward}
+use Rattle.mesh_split.proofs.Entries.{edge_equal, removed_left, removed_taken, removed_forward}
 use Rattle.mesh_split.proofs.Tallies.{exactly_none}
 use Rattle.mesh_split.proofs.worklist.Worklist.remove.Goals as goal
 
@@ -17,6 +17,9 @@ pub invariant_of-self : goal.invariant_of-self
 invariant_of-self c =
     let es = c.self.inside.counts.entries in
     removed_left c.args.ends es es c.remove_entry.new.self.entries (λ _. es) c.remove_entry.ensures.entries c.self.invariant
+
+pub returns-clause-ends : goal.returns-clause-ends
+returns-clause-ends c = sym (edge_equal c.args.ends c.in-Some.s.0 c.in-Some.ensures.same_key)
 
 pub returns-clause-taken : goal.returns-clause-taken
 returns-clause-taken c =

@@ -1,7 +1,7 @@
 use Rattle.std.specs.Prelude.{unsigned_abs}
 use Rattle.mesh_split.specs.Counting.{CountsSplits}
 use Rattle.mesh_split.specs.Private.Steps.{IsPile, AllClear, work}
-use Rattle.mesh_split.proofs.splitter.settled.Given as goal
+use Rattle.mesh_split.proofs.splitter.settled_one_by_one.Given as goal
 
 abbrev pub invariant-loop-s : goal.invariant-loop-s
 invariant-loop-s l = record {

@@ -1,0 +1,37 @@
+use Rattle.std.proofs.Common.{◌∙◌, sym, subst, OnOk}
+use Rattle.mesh_split.specs.declared.groups.Group.{Group}
+use Rattle.mesh_split.specs.Private.Groups.{edges_in, Searches}
+use Rattle.mesh_split.proofs.Pairs.{on_ok, searches_over, searches_after, searches_first, all_beside}
+use Rattle.mesh_split.proofs.groups.Group.+find_between.Goals as goal
+use Rattle.mesh_split.proofs.groups.Group.+find_between.Goals.{then-search-via-then-search, then-search-via-else-search+then-is_beside}
+
+pub returns-then-search : goal.returns-then-search
+returns-then-search t c =
+    let xs = edges_in c.args.self.now in
+    let ys = edges_in c.args.other.now in
+    elim c.then-search.branch [
+      | then-search-via-then-search w ↦ searches_over xs ys c.args.search.now c.count.new.self c.count.ensures w.if-search.true
+      | then-search-via-else-search+then-is_beside w ↦
+          all_beside xs ys w.bounds.result w.bounds-else-search.result c.args.search.now c.count.new.self c.count.ensures w.bounds.ensures w.bounds-else-search.ensures
+          (sym w.is_beside.ensures ∙ w.if-is_beside.true)
+    ]
+
+pub returns-in-Few : goal.returns-in-Few
+returns-in-Few t c =
+    let ys = edges_in c.args.other.now in
+    let old = c.args.search.now in
+    let new = c.find_few.new.search in
+    subst (λ (g : Group). OnOk c.find_few.result (Searches (edges_in g) ys old new)) (sym c.in-Few.is)
+    (on_ok c.find_few.result (searches_after c.in-Few.xs.items ys old c.count.new.self new c.count.ensures) (rw c.deref.ensures.value at c.find_few.ensures))
+
+pub returns-in_ok-find_between-in-Halves : goal.returns-in_ok-find_between-in-Halves
+returns-in_ok-find_between-in-Halves t c =
+    let ys = edges_in c.args.other.now in
+    let low = edges_in c.in-Halves.low.value in
+    let high = edges_in c.in-Halves.high.value in
+    let old = c.args.search.now in
+    let mid = c.find_between.new.search in
+    let new = c.find_between-in-Halves.new.search in
+    let first : Searches low ys old mid = searches_after low ys old c.count.new.self mid c.count.ensures (rw c.deref-in-Halves.ensures at c.in_ok-find_between-in-Halves.ensures) in
+    subst (λ (g : Group). OnOk c.find_between-in-Halves.result (Searches (edges_in g) ys old new)) (sym c.in-Halves.is)
+    (on_ok c.find_between-in-Halves.result (searches_first low high ys old mid new first) (rw c.deref-in-Halves-2.ensures at c.find_between-in-Halves.ensures))

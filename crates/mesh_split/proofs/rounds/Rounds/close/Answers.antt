@@ -1,0 +1,18 @@
+use Rattle.mesh_split.specs.Private.Groups.{edges_in, noted_in}
+use Rattle.mesh_split.proofs.Rounding.{bounded_more, next_clear, next_listed}
+use Rattle.mesh_split.proofs.rounds.Rounds.close.Goals as goal
+
+pub returns-clause-round : goal.returns-clause-round
+returns-clause-round c = λ old given r h p none same g.
+    let todo = c.args.self.now.splitter.todo in
+    let noted = rw c.deref.ensures.value at c.in_ok-self.ensures.noted in
+    record {
+      pile = p;
+      none_lives = none;
+      bounded = rw (c.in_ok-add_group.ensures, same) (bounded_more old.groups.items c.args.held.group r.bounded h.bounded);
+      listed =
+          rw (c.in_ok-add_group.ensures, same)
+          (next_listed old.splitter.todo todo old.fresh.items (edges_in c.args.held.group) c.args.born.now c.in_ok-self.field-0.items old.groups.items c.args.held.group r.listed h.keeps
+          (λ x l w. l) g c.in_ok-self.ensures.born);
+      clear = next_clear old.splitter.todo todo (noted_in c.args.held.pairs.items) c.args.born.now c.in_ok-self.field-0.items h.clear g c.in_ok-self.ensures.born noted;
+    }

@@ -1,0 +1,18 @@
+use Rattle.std.proofs.Common.{inl, inr}
+use Rattle.mesh_plane.specs.Plane.{Edge}
+use Rattle.mesh_split.specs.Private.Cells.{StandsIn}
+use Rattle.mesh_split.specs.Private.Growth.{Waits}
+use Rattle.mesh_split.proofs.Listing.{stands_listed}
+use Rattle.mesh_split.proofs.rounds.Rounds.new.Goals as goal
+
+pub returns : goal.returns
+returns c =
+    let s = c.in_ok-splitter.splitter in
+    let stands : (x : Edge) → Waits x s.todo → StandsIn x c.in_ok-fresh.fresh.items = λ x w. rw c.in_ok-fresh.ensures (stands_listed x s.todo w) in
+    record {
+      pile = c.in_ok-splitter.ensures.pile;
+      none_lives = c.in_ok-splitter.ensures.none_lives;
+      bounded = rw c.new.ensures.items tt;
+      listed = λ x w. inl (stands x w);
+      clear = λ x y w v. inr (inl (stands x w));
+    }

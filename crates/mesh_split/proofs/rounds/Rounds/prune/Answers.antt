@@ -1,0 +1,12 @@
+use Rattle.mesh_split.proofs.Rounding.{pruned_listed}
+use Rattle.mesh_split.proofs.rounds.Rounds.prune.Goals as goal
+
+pub returns-clause-round : goal.returns-clause-round
+returns-clause-round c = λ given r. record {
+  pile = r.pile;
+  none_lives = r.none_lives;
+  bounded = c.in_ok-self.ensures.bounded;
+  listed =
+      pruned_listed c.args.self.now.splitter.todo c.args.self.now.fresh.items c.args.self.now.groups.items c.in_ok-self.field-0.items (rw c.deref.ensures.value at c.in_ok-self.ensures.kept) r.listed;
+  clear = r.clear;
+}

@@ -1,0 +1,265 @@
+//! Segments in groups of near ones, each group with a box that holds it, so that all pairs that meet are found.
+
+ghost use Rattle.std.specs.Prelude.{◌≡◌, [], ◌∷◌, ◌++◌, pos, ◌<ℤ◌, IfOk, OnOk};
+ghost use Rattle.mesh_plane.specs.Plane.{Edge};
+ghost use Rattle.mesh_split.specs.Private.BoundingBoxes.{AreBounds};
+ghost use Rattle.mesh_split.specs.Private.Cells.{StandsIn};
+ghost use Rattle.mesh_split.specs.Private.Groups.{edges_in, noted_in, AreWithin, IsBounded, GoesOn, Searches};
+ghost use Rattle.mesh_split.specs.Private.Steps.{exactly};
+
+use crate::bounding::{BoundingBox, bounding_box, is_beside};
+use crate::hints::Meeting;
+use crate::worklist::Worklist;
+use mesh_lattice::exact::meeting;
+use mesh_lattice::lattice::LatticeEdge;
+use std::alloc::{AllocError, Global};
+
+/// A group of more is halved.
+const FEW: usize = 8;
+
+/// So many tests more may be made for each pair that is found.
+const TESTS_A_PAIR: usize = 32;
+
+/// A segment, and one that it meets.
+pub type Pair = (LatticeEdge, Meeting);
+
+/// Segments, and a box that holds them.
+#[derive(Drop)]
+pub enum Group {
+    /// Few of them.
+    Few(Vec<LatticeEdge>, BoundingBox),
+    /// Those of two groups.
+    Halves(Box<Group>, Box<Group>, BoundingBox),
+}
+
+/// The pairs that were found to meet.
+#[derive(Drop)]
+pub struct Search {
+    pub pairs: Vec<Pair>,
+    /// How many tests may still be made.
+    left: usize,
+    /// Whether more would have been made. Then pairs may be left out.
+    pub is_over: bool,
+}
+
+/// The box that holds two boxes.
+fn union(a: BoundingBox, b: BoundingBox) -> BoundingBox
+    ensures first { (e : Edge) → AreBounds a e → AreBounds result e }
+    ensures second { (e : Edge) → AreBounds b e → AreBounds result e }
+{
+    (
+        (a.0.0.min(b.0.0), a.0.1.min(b.0.1)),
+        (a.1.0.max(b.1.0), a.1.1.max(b.1.1)),
+    )
+}
+
+/// A box that holds segments.
+fn box_of(edges: &[LatticeEdge]) -> BoundingBox
+    ensures { AreWithin result edges.now }
+{
+    let mut bounds = ((i32::MAX, i32::MAX), (i32::MIN, i32::MIN));
+    for e in edges {
+        bounds = union(bounds, bounding_box(*e));
+    }
+    bounds
+}
+
+impl Search {
+    /// No pair, and so many tests may be made.
+    pub fn new(alloc: Global, most: usize) -> Self
+        ensures { result.pairs.items ≡ [] }
+    {
+        Search {
+            pairs: Vec::new(alloc),
+            left: most,
+            is_over: false,
+        }
+    }
+
+    /// Counts tests.
+    fn count(&mut self, tests: usize)
+        ensures { GoesOn self.old self.new }
+    {
+        if self.left < tests {
+            self.is_over = true;
+        }
+        self.left = self.left.saturating_sub(tests);
+    }
+
+    /// Notes a pair.
+    fn note(&mut self, pair: Pair) -> Result<(), AllocError>
+        ensures goes { OnOk result (GoesOn self.old self.new) }
+        ensures first { OnOk result (StandsIn pair.0 (noted_in self.new.pairs.items)) }
+        ensures second { OnOk result (StandsIn pair.1.0 (noted_in self.new.pairs.items)) }
+    {
+        self.pairs.push(pair)?;
+        self.left = self.left.saturating_add(TESTS_A_PAIR);
+        Ok(())
+    }
+
+    /// Notes those of some segments that one meets.
+    fn find_of(&mut self, x: LatticeEdge, ys: &[LatticeEdge]) -> Result<(), AllocError>
+        ensures { OnOk result (Searches (x ∷ []) ys.now self.old self.new) }
+    {
+        self.count(ys.len());
+        let bounds = bounding_box(x);
+        for y in ys {
+            if !is_beside(bounds, *y) {
+                if let Some(at) = meeting(x, *y) {
+                    self.note((x, (*y, at)))?;
+                }
+            }
+        }
+        Ok(())
+    }
+
+    /// Notes the pairs that meet of few segments and others, which these bounds hold.
+    fn find_between(
+        &mut self,
+        xs: &[LatticeEdge],
+        ys: &[LatticeEdge],
+        bounds: BoundingBox,
+    ) -> Result<(), AllocError>
+        requires { AreWithin bounds ys.now }
+        ensures { OnOk result (Searches xs.now ys.now self.old self.new) }
+    {
+        for x in xs {
+            if !is_beside(bounds, *x) {
+                self.find_of(*x, ys)?;
+            }
+        }
+        Ok(())
+    }
+
+    /// Notes the pairs of few segments that meet.
+    fn find_within(&mut self, xs: &[LatticeEdge]) -> Result<(), AllocError>
+        ensures { OnOk result (Searches xs.now xs.now self.old self.new) }
+    {
+        let Some((x, others)) = xs.split_first() else {
+            return Ok(());
+        };
+        self.find_of(*x, others)?;
+        self.find_within(others)
+    }
+}
+
+impl Group {
+    /// Few segments.
+    fn few(edges: Vec<LatticeEdge>) -> Self
+        ensures bounded { IsBounded result }
+        ensures same { edges_in result ≡ edges.items }
+    {
+        let bounds = box_of(&edges);
+        Group::Few(edges, bounds)
+    }
+
+    /// Those of two groups.
+    fn halves(alloc: Global, low: Group, high: Group) -> Result<Self, AllocError>
+        requires low { IsBounded low }
+        requires high { IsBounded high }
+        ensures bounded { IfOk result (λ g. IsBounded g) }
+        ensures same { IfOk result (λ g. edges_in g ≡ edges_in low ++ edges_in high) }
+    {
+        let bounds = union(low.bounds(), high.bounds());
+        Ok(Group::Halves(Box::new(alloc, low)?, Box::new(alloc, high)?, bounds))
+    }
+
+    /// The box that holds it.
+    fn bounds(&self) -> BoundingBox
+        requires { IsBounded self.now }
+        ensures { AreWithin result (edges_in self.now) }
+    {
+        match self {
+            Group::Few(_, bounds) => *bounds,
+            Group::Halves(_, _, bounds) => *bounds,
+        }
+    }
+
+    /// These segments, near ones beside each other where they follow each other.
+    pub fn of(alloc: Global, edges: &[LatticeEdge]) -> Result<Self, AllocError>
+        ensures bounded { IfOk result (λ g. IsBounded g) }
+        ensures all { IfOk result (λ g. (x : Edge) → StandsIn x edges.now → StandsIn x (edges_in g)) }
+    {
+        if edges.len() <= FEW {
+            return Ok(Group::few(Vec::from_slice(alloc, edges)?));
+        }
+        let (low, high) = edges.split_at(edges.len() / 2);
+        let low = Group::of(alloc, low)?;
+        let high = Group::of(alloc, high)?;
+        Group::halves(alloc, low, high)
+    }
+
+    /// Those that wait still.
+    pub fn waiting(&self, alloc: Global, todo: &Worklist) -> Result<Self, AllocError>
+        ensures bounded { IfOk result (λ g. IsBounded g) }
+        ensures kept { IfOk result (λ g. (x : Edge) → StandsIn x (edges_in self.now) → pos 0 <ℤ exactly x todo.now
+            → StandsIn x (edges_in g)) }
+    {
+        match self {
+            Group::Few(edges, _) => Ok(Group::few(todo.waiting(alloc, edges)?)),
+            Group::Halves(low, high, _) => {
+                let low = low.waiting(alloc, todo)?;
+                let high = high.waiting(alloc, todo)?;
+                Group::halves(alloc, low, high)
+            }
+        }
+    }
+
+    /// Notes the pairs that meet of few segments, which these bounds hold, and those of the group.
+    fn find_few(
+        &self,
+        xs: &[LatticeEdge],
+        bounds: BoundingBox,
+        search: &mut Search,
+    ) -> Result<(), AllocError>
+        requires bounded { IsBounded self.now }
+        requires within { AreWithin bounds xs.now }
+        ensures { OnOk result (Searches xs.now (edges_in self.now) search.old search.new) }
+    {
+        search.count(1);
+        if search.is_over || is_beside(bounds, self.bounds()) {
+            return Ok(());
+        }
+        match self {
+            Group::Few(ys, bounds_of_ys) => search.find_between(xs, ys, *bounds_of_ys),
+            Group::Halves(low, high, _) => {
+                low.find_few(xs, bounds, search)?;
+                high.find_few(xs, bounds, search)
+            }
+        }
+    }
+
+    /// Notes the pairs that meet of this group and another.
+    pub fn find_between(&self, other: &Group, search: &mut Search) -> Result<(), AllocError>
+        requires bounded { IsBounded self.now }
+        requires other { IsBounded other.now }
+        ensures { OnOk result (Searches (edges_in self.now) (edges_in other.now) search.old search.new) }
+    {
+        search.count(1);
+        if search.is_over || is_beside(self.bounds(), other.bounds()) {
+            return Ok(());
+        }
+        match self {
+            Group::Few(xs, bounds) => other.find_few(xs, *bounds, search),
+            Group::Halves(low, high, _) => {
+                low.find_between(other, search)?;
+                high.find_between(other, search)
+            }
+        }
+    }
+
+    /// Notes the pairs of the group that meet.
+    pub fn find_within(&self, search: &mut Search) -> Result<(), AllocError>
+        requires { IsBounded self.now }
+        ensures { OnOk result (Searches (edges_in self.now) (edges_in self.now) search.old search.new) }
+    {
+        match self {
+            Group::Few(xs, _) => search.find_within(xs),
+            Group::Halves(low, high, _) => {
+                low.find_within(search)?;
+                high.find_within(search)?;
+                low.find_between(high, search)
+            }
+        }
+    }
+}

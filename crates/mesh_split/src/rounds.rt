@@ -1,0 +1,391 @@
+//! Splits in rounds. In each round the fresh segments are held against all others at once, the pairs that meet are split
+//! one by one, and the pieces are fresh in the next. Where a round finds no pair, all segments are clear of each other:
+//! no second pass is needed. The rounds are given up where many more tests are made than pairs are found, and where a
+//! split leads far away.
+
+ghost use Rattle.std.specs.Prelude.{◌≡◌, ◌⊎◌, ◌^◌, ◌++◌, ◌≤ℤ◌, true, false, List, [], ◌∷◌, pos, IfErr, IfOk, IfSome, OnErr, OnOk};
+ghost use Rattle.mesh_plane.specs.Plane.{Edge};
+ghost use Rattle.mesh_lattice.specs.Clean.{IsProper};
+ghost use Rattle.mesh_lattice.specs.Split.{IsLegal};
+ghost use Rattle.mesh_split.specs.Counting.{CountsSplits, CountsWith, IsReason, IsWithinLimit};
+ghost use Rattle.mesh_split.specs.Private.Cells.{StandsIn};
+ghost use Rattle.mesh_split.specs.Private.Groups.{all_in, edges_in, noted_in, AreBounded, IsBounded, Searches};
+ghost use Rattle.mesh_split.specs.Private.Growth.{Grows, Waits};
+ghost use Rattle.mesh_split.specs.Private.Rounds.{AreClearBeside, AreListed, IsHeld, IsRound, Keeps, keyed_edges};
+ghost use Rattle.mesh_split.specs.declared.count.SplitCount.{SplitCount};
+ghost use Rattle.mesh_split.specs.declared.rounds.Rounds.{Rounds};
+ghost use Rattle.mesh_split.specs.Private.Steps.{IsPile, IsSettled, KeepsPile, total_weight};
+
+use crate::bounding::{bounding_box, is_beside};
+use crate::count::{SplitCount, SplitError};
+use crate::first_pass::pieces;
+use crate::groups::{Group, Pair, Search};
+use crate::pieces::Paths;
+use crate::steps::{Settled, Splitter};
+use crate::worklist::Worklist;
+use mesh_lattice::exact::{meeting, same_edge};
+use mesh_lattice::lattice::LatticeEdge;
+use mesh_lattice::samples::sample;
+use std::alloc::{AllocError, Global};
+
+/// No more rounds are made.
+const MOST_ROUNDS: usize = 12;
+
+/// So many tests are made for each fresh segment, at most, and more for pairs that are found.
+const TESTS: usize = 60;
+
+/// And for so many segments more, since a round of few is cheap in any case.
+const MORE: usize = 10_000;
+
+/// By so many edges it is judged whether rounds serve.
+const SAMPLED: usize = 8;
+
+/// The boxes of so many edges may reach that of a sampled one.
+const NEAR: usize = 24;
+
+/// So many more may for each edge that it meets.
+const NEAR_A_PAIR: usize = 12;
+
+/// The state between two rounds.
+#[derive(Drop)]
+pub struct Rounds {
+    pub splitter: Splitter,
+    /// Segments that were held against each other, in groups.
+    pub groups: Vec<Group>,
+    /// Those that were not.
+    pub fresh: Vec<LatticeEdge>,
+}
+
+/// The fresh segments of a round in a group, and the pairs that meet.
+#[derive(Drop)]
+pub struct Held {
+    pub group: Group,
+    pub pairs: Vec<Pair>,
+}
+
+/// Whether rounds serve for these edges: whether of those whose boxes reach that of a sampled one, not too few meet it.
+/// Of long slanted edges side by side, as of a hatch, few do; a tree of cuts along them parts these better than boxes.
+fn serve(alloc: Global, edges: &[LatticeEdge]) -> Result<bool, AllocError> {
+    let mut tests: usize = 0;
+    let mut most: usize = 0;
+    for e in &sample(alloc, edges, SAMPLED)? {
+        let bounds = bounding_box(*e);
+        most = most.saturating_add(NEAR);
+        for f in edges {
+            if !is_beside(bounds, *f) {
+                tests = tests.saturating_add(1);
+                if meeting(*e, *f).is_some() {
+                    most = most.saturating_add(NEAR_A_PAIR);
+                }
+            }
+        }
+    }
+    Ok(tests <= most)
+}
+
+/// The bits of a number, with a 0 before each.
+fn spread(n: u32) -> u64 {
+    let n = n as u64;
+    let n = (n | (n << 16)) & 0x0000_FFFF_0000_FFFF;
+    let n = (n | (n << 8)) & 0x00FF_00FF_00FF_00FF;
+    let n = (n | (n << 4)) & 0x0F0F_0F0F_0F0F_0F0F;
+    let n = (n | (n << 2)) & 0x3333_3333_3333_3333;
+    (n | (n << 1)) & 0x5555_5555_5555_5555
+}
+
+/// The middle of two coordinates, from 0 on.
+fn middle(a: i32, b: i32) -> u32 {
+    let sum = a as i64 + b as i64;
+    (sum / 2 + 0x8000_0000) as u32
+}
+
+/// Where a segment's middle lies on a curve that fills the plane: near places have near numbers, mostly.
+fn place(e: LatticeEdge) -> u64 {
+    spread(middle(e.0.0, e.1.0)) | (spread(middle(e.0.1, e.1.1)) << 1)
+}
+
+/// Segments with their places.
+fn placed(alloc: Global, edges: &[LatticeEdge]) -> Result<Vec<(u64, LatticeEdge)>, AllocError>
+    ensures { IfOk result (λ v. Keeps edges.now (keyed_edges v.items)) }
+{
+    let mut placed = Vec::with_capacity(alloc, edges.len())?;
+    for e in edges {
+        placed.push((place(*e), *e))?;
+    }
+    Ok(placed)
+}
+
+/// Whether this is the last segment of a list.
+fn is_last(edges: &[LatticeEdge], e: LatticeEdge) -> bool
+    ensures { result ≡ true → StandsIn e edges.now }
+{
+    let count = edges.len();
+    0 < count && same_edge(edges[count - 1], e)
+}
+
+/// The segments alone, each once where those that are the same follow each other.
+fn distinct(alloc: Global, placed: &[(u64, LatticeEdge)]) -> Result<Vec<LatticeEdge>, AllocError>
+    ensures { IfOk result (λ v. Keeps (keyed_edges placed.now) v.items) }
+{
+    let mut edges: Vec<LatticeEdge> = Vec::with_capacity(alloc, placed.len())?;
+    for k in placed {
+        if !is_last(&edges, k.1) {
+            edges.push(k.1)?;
+        }
+    }
+    Ok(edges)
+}
+
+/// Segments in their order along the curve, each once.
+fn arranged(alloc: Global, edges: &[LatticeEdge]) -> Result<Vec<LatticeEdge>, AllocError>
+    ensures { IfOk result (λ v. Keeps edges.now v.items) }
+{
+    let mut placed = placed(alloc, edges)?;
+    placed.sort_unstable();
+    distinct(alloc, &placed)
+}
+
+/// Adds a group to others.
+fn add_group(groups: &mut Vec<Group>, group: Group) -> Result<(), AllocError>
+    ensures { OnOk result (groups.new.items ≡ groups.old.items ++ group ∷ []) }
+{
+    groups.push(group)?;
+    Ok(())
+}
+
+/// Groups of those that wait still.
+fn waiting_groups(
+    alloc: Global,
+    todo: &Worklist,
+    groups: &[Group],
+) -> Result<Vec<Group>, AllocError>
+    requires { AreBounded groups.now }
+    ensures bounded { IfOk result (λ v. AreBounded v.items) }
+    ensures kept { IfOk result (λ v. (x : Edge) → StandsIn x (all_in groups.now) → Waits x todo.now
+        → StandsIn x (all_in v.items)) }
+{
+    let mut kept = Vec::with_capacity(alloc, groups.len())?;
+    for group in groups {
+        kept.push(group.waiting(alloc, todo)?)?;
+    }
+    Ok(kept)
+}
+
+/// Notes the pairs that meet of a group and others.
+fn find_beside(group: &Group, groups: &[Group], search: &mut Search) -> Result<(), AllocError>
+    requires bounded { IsBounded group.now }
+    requires all_bounded { AreBounded groups.now }
+    ensures { OnOk result (Searches (edges_in group.now) (all_in groups.now) search.old search.new) }
+{
+    let Some((other, others)) = groups.split_first() else {
+        return Ok(());
+    };
+    group.find_between(other, search)?;
+    find_beside(group, others, search)
+}
+
+/// The segments of pairs.
+fn noted(alloc: Global, pairs: &[Pair]) -> Result<Vec<LatticeEdge>, AllocError>
+    ensures { IfOk result (λ v. Keeps (noted_in pairs.now) v.items) }
+{
+    let mut noted = Vec::with_capacity(alloc, pairs.len().saturating_mul(2))?;
+    for pair in pairs {
+        noted.push(pair.0)?;
+        noted.push(pair.1.0)?;
+    }
+    Ok(noted)
+}
+
+/// Splits what a pair has become where that meets, and lists the pieces.
+fn split_pair(
+    splitter: &mut Splitter,
+    paths: &mut Paths,
+    pair: Pair,
+    born: &mut Vec<LatticeEdge>,
+) -> Result<(), AllocError>
+    requires none_lives { splitter.old.live ≡ [] }
+    requires room { total_weight splitter.old.todo splitter.old.live ≤ℤ pos (2 ^ 97) }
+    ensures kept { OnOk result (KeepsPile splitter.old.log splitter.old.todo splitter.old.live
+        splitter.new.log splitter.new.todo splitter.new.live) }
+    ensures none_lives { OnOk result (splitter.new.live ≡ []) }
+    ensures grows { OnOk result (Grows splitter.old.todo splitter.new.todo born.new.items) }
+    ensures listed { OnOk result (Keeps born.old.items born.new.items) }
+{
+    let Some(found) = paths.find(&splitter.todo, pair) else {
+        return Ok(());
+    };
+    splitter.split_waiting(found.first, found.meeting)?;
+    paths.note(pair, found)?;
+    let pieces = pieces(found.first, found.meeting);
+    born.push(pieces[0])?;
+    born.push(pieces[1])?;
+    born.push(pieces[2])?;
+    born.push(pieces[3])?;
+    Ok(())
+}
+
+/// Splits all pairs, and lists the pieces. Answers none where that led far away.
+fn split_pairs(
+    alloc: Global,
+    edges: &[LatticeEdge],
+    splitter: &mut Splitter,
+    pairs: &[Pair],
+    count: &mut SplitCount,
+) -> Result<Option<Vec<LatticeEdge>>, SplitError>
+    requires pile { IsPile edges.now splitter.old.log splitter.old.todo splitter.old.live }
+    requires none_lives { splitter.old.live ≡ [] }
+    ensures pile { OnOk result (IsPile edges.now splitter.new.log splitter.new.todo splitter.new.live) }
+    ensures none_lives { OnOk result (splitter.new.live ≡ []) }
+    ensures grows { IfOk result (λ o. IfSome o (λ born. Grows splitter.old.todo splitter.new.todo born.items)) }
+    ensures counted { CountsSplits edges.now count.old count.new }
+    ensures refused { IfErr result (λ e. IsReason e count.new) }
+{
+    let mut paths = Paths::new(alloc);
+    let mut born = Vec::new(alloc);
+    for pair in pairs {
+        split_pair(splitter, &mut paths, *pair, &mut born)?;
+        count.check(&splitter.log)?;
+        if paths.has_strayed {
+            return Ok(None);
+        }
+    }
+    Ok(Some(born))
+}
+
+/// Those of the pieces and of the segments of pairs that wait.
+fn fresh(
+    alloc: Global,
+    todo: &Worklist,
+    pairs: &[Pair],
+    born: &[LatticeEdge],
+) -> Result<Vec<LatticeEdge>, AllocError>
+    ensures born { IfOk result (λ v. (x : Edge) → Waits x todo.now → StandsIn x born.now → StandsIn x v.items) }
+    ensures noted { IfOk result (λ v. (x : Edge) → Waits x todo.now → StandsIn x (noted_in pairs.now)
+        → StandsIn x v.items) }
+{
+    let mut all = noted(alloc, pairs)?;
+    for e in born {
+        all.push(*e)?;
+    }
+    todo.waiting(alloc, &all)
+}
+
+impl Rounds {
+    /// All segments are fresh.
+    fn new(alloc: Global, edges: &[LatticeEdge]) -> Result<Self, AllocError>
+        requires { IsProper edges.now }
+        ensures { IfOk result (λ r. IsRound edges.now r) }
+    {
+        let splitter = Splitter::of_edges(alloc, edges, &[])?;
+        let fresh = splitter.todo.ends(alloc)?;
+        Ok(Rounds {
+            splitter,
+            groups: Vec::new(alloc),
+            fresh,
+        })
+    }
+
+    /// The fresh segments as a group, and the pairs of one of them and any that meet. Answers none where too many tests
+    /// would be made.
+    fn hold(&self, alloc: Global) -> Result<Option<Held>, AllocError>
+        requires bounded { AreBounded self.now.groups.items }
+        requires listed { AreListed self.now.splitter.todo self.now.fresh.items (all_in self.now.groups.items) }
+        requires clear { AreClearBeside self.now.splitter.todo self.now.fresh.items }
+        ensures { IfOk result (λ o. IfSome o (λ h. IsHeld self.now h)) }
+    {
+        let edges = arranged(alloc, &self.fresh)?;
+        let group = Group::of(alloc, &edges)?;
+        let most = edges.len().saturating_add(MORE).saturating_mul(TESTS);
+        let mut search = Search::new(alloc, most);
+        group.find_within(&mut search)?;
+        find_beside(&group, &self.groups, &mut search)?;
+        if search.is_over {
+            return Ok(None);
+        }
+        let pairs = search.pairs;
+        Ok(Some(Held { group, pairs }))
+    }
+
+    /// Adds a group to those that were held against each other; the pieces are fresh, and what else waits of the pairs.
+    fn close(&mut self, alloc: Global, held: Held, born: &[LatticeEdge]) -> Result<(), AllocError>
+        ensures round { OnOk result ((old : Rounds) → (given : List Edge) → IsRound given old → IsHeld old held
+            → IsPile given self.old.splitter.log self.old.splitter.todo self.old.splitter.live
+            → self.old.splitter.live ≡ [] → self.old.groups ≡ old.groups
+            → Grows old.splitter.todo self.old.splitter.todo born.now → IsRound given self.new) }
+        ensures log { self.new.splitter.log ≡ self.old.splitter.log }
+    {
+        self.fresh = fresh(alloc, &self.splitter.todo, &held.pairs, born)?;
+        add_group(&mut self.groups, held.group)?;
+        Ok(())
+    }
+
+    /// Leaves those segments out of the groups that wait no more, if some were split.
+    fn prune(&mut self, alloc: Global, has_split: bool) -> Result<(), AllocError>
+        requires { AreBounded self.old.groups.items }
+        ensures round { OnOk result ((given : List Edge) → IsRound given self.old → IsRound given self.new) }
+        ensures log { self.new.splitter.log ≡ self.old.splitter.log }
+    {
+        if !has_split {
+            return Ok(());
+        }
+        self.groups = waiting_groups(alloc, &self.splitter.todo, &self.groups)?;
+        Ok(())
+    }
+
+    /// Makes a round. Answers whether others may follow.
+    fn go_on(
+        &mut self,
+        alloc: Global,
+        edges: &[LatticeEdge],
+        count: &mut SplitCount,
+    ) -> Result<bool, SplitError>
+        requires { IsRound edges.now self.old }
+        ensures kept { IfOk result (λ b. b ≡ true → IsRound edges.now self.new) }
+        ensures legal { OnOk result (IsLegal edges.now self.new.splitter.log) }
+        ensures counted { (before : SplitCount) → CountsSplits edges.now before count.old
+            → CountsSplits edges.now before count.new }
+        ensures refused { IfErr result (λ e. IsReason e count.new) }
+    {
+        let Some(held) = self.hold(alloc)? else {
+            return Ok(false);
+        };
+        let Some(born) = split_pairs(alloc, edges, &mut self.splitter, &held.pairs, count)? else {
+            return Ok(false);
+        };
+        let has_split = born.len() > 0;
+        self.close(alloc, held, &born)?;
+        self.prune(alloc, has_split)?;
+        Ok(true)
+    }
+}
+
+/// Splits edges in rounds. Answers none where these were given up. The splits are counted on in either case.
+pub fn split_in_rounds(
+    alloc: Global,
+    edges: &[LatticeEdge],
+    count: &mut SplitCount,
+) -> Result<Option<Settled>, SplitError>
+    requires { IsProper edges.now }
+    ensures settled { IfOk result (λ o. IfSome o (λ s. IsSettled edges.now s.log s.segments.items)) }
+    ensures counted { CountsSplits edges.now count.old count.new }
+    ensures standing { IfOk result (λ o. IfSome o (λ s. CountsWith edges.now count.old count.new s.log)) }
+    ensures within { IfOk result (λ o. IfSome o (λ s. IsWithinLimit count.new)) }
+    ensures refused { IfErr result (λ e. IsReason e count.new) }
+{
+    let mut rounds = Rounds::new(alloc, edges)?;
+    let most = if serve(alloc, edges)? { MOST_ROUNDS } else { 0 };
+    for _round in 0..most {
+        let fresh: &[LatticeEdge] = &rounds.fresh;
+        if fresh.len() == 0 {
+            count.add(&rounds.splitter.log)?;
+            let settled = rounds.splitter.into_settled(alloc)?;
+            return Ok(Some(settled));
+        }
+        if !rounds.go_on(alloc, edges, count)? {
+            count.add(&rounds.splitter.log)?;
+            return Ok(None);
+        }
+    }
+    count.add(&rounds.splitter.log)?;
+    Ok(None)
+}
