@@ -116,26 +116,22 @@ const CROSSED: Contour<i32> = &[
     (-562_788, 2_047_957),
 ];
 
-/// Half a unit wide, and 17,000 long.
-const ROUNDED: Contour<i32> = &[
-    (-561_441, 2_048_453),
-    (-554_992, 2_063_861),
-    (-561_440, 2_048_453),
-];
-
+/// Outlines of the crossed contour fill no hole. Rounding may leave some, and these are slivers of a unit.
 #[test]
-fn a_hole_of_rounding(rt: HostRuntime) -> Result<(), Fail> {
+fn holes_of_rounding(rt: HostRuntime) -> Result<(), Fail> {
     let alloc = rt.alloc();
     let contour = path(alloc, CROSSED)?;
-    let style = IntOutlineStyle::new(50_000);
-    contour.validate_outline(&style)?;
-    let given = contour.outline(alloc, &style)?;
-    let mut wanted = contour.outline(alloc, &style)?;
-    let Some(shape) = wanted.last_mut() else {
-        return expect_that(false, &"a shape");
-    };
-    let hole = shape.pop();
-    expect_equal(&hole, &Some(path(alloc, ROUNDED)?), &"the hole")?;
-    let left = without_slivers(given, 1);
-    expect_equal(&left, &wanted, &"what is left")
+    for offset in 49_980..50_020 {
+        let style = IntOutlineStyle::new(offset);
+        contour.validate_outline(&style)?;
+        let given = contour.outline(alloc, &style)?;
+        let mut wanted = contour.outline(alloc, &style)?;
+        expect_that(!wanted.is_empty(), &offset)?;
+        for shape in &mut wanted {
+            shape.truncate(1);
+        }
+        let left = without_slivers(given, 1);
+        expect_equal(&left, &wanted, &offset)?;
+    }
+    Ok(())
 }

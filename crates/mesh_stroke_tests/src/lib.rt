@@ -10,6 +10,8 @@ mod collapsed;
 #[cfg(test)]
 mod contours;
 #[cfg(test)]
+mod crowded;
+#[cfg(test)]
 mod drawn;
 #[cfg(test)]
 mod halves;
