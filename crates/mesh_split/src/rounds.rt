@@ -29,7 +29,7 @@ use mesh_lattice::samples::sample;
 use std::alloc::{AllocError, Global};
 
 /// No more rounds are made.
-const MOST_ROUNDS: usize = 6;
+const MOST_ROUNDS: usize = 10;
 
 /// So many tests are made for each fresh segment, at most, and more for pairs that are found.
 const TESTS: usize = 60;
