@@ -266,7 +266,7 @@ fn unlucky_orders_stay_near_from_any_corner(rt: HostRuntime) -> Result<(), Fail>
             let turned = moved(rt.alloc(), corners, first, 0)?;
             let split = split_contour(rt.alloc(), &turned)?;
             expect_that(split.told.nearness <= TWO_UNITS, &turned)?;
-            expect_that(split.made <= 1000, &split.made)?;
+            expect_that(split.made <= 2000, &split.made)?;
         }
     }
     Ok(())
