@@ -37,6 +37,15 @@ const TESTS: usize = 60;
 /// And for so many segments more, since a round of few is cheap in any case.
 const MORE: usize = 10_000;
 
+/// Of the pairs of a round, the next one may find so small a part. Where pieces meet again and again, it is greater.
+const PART: usize = 8;
+
+/// But so many pairs it may find in any case.
+const FEW_PAIRS: usize = 64;
+
+/// Of fewer edges no list is made: they are split one by one.
+const FEW_EDGES: usize = 20;
+
 /// By so many edges it is judged whether rounds serve.
 const SAMPLED: usize = 8;
 
@@ -54,6 +63,8 @@ pub struct Rounds {
     pub groups: Vec<Group>,
     /// Those that were not.
     pub fresh: Vec<LatticeEdge>,
+    /// So many pairs the next round may find.
+    most_pairs: usize,
 }
 
 /// The fresh segments of a round in a group, and the pairs that meet.
@@ -63,9 +74,12 @@ pub struct Held {
     pub pairs: Vec<Pair>,
 }
 
-/// Whether rounds serve for these edges: whether of those whose boxes reach that of a sampled one, not too few meet it.
+/// Whether rounds serve for these edges: whether they are many, and of those whose boxes reach that of a sampled one, not too few meet it.
 /// Of long slanted edges side by side, as of a hatch, few do; a tree of cuts along them parts these better than boxes.
 fn serve(alloc: Global, edges: &[LatticeEdge]) -> Result<bool, AllocError> {
+    if edges.len() < FEW_EDGES {
+        return Ok(false);
+    }
     let mut tests: usize = 0;
     let mut most: usize = 0;
     for e in &sample(alloc, edges, SAMPLED)? {
@@ -282,11 +296,12 @@ impl Rounds {
             splitter,
             groups: Vec::new(alloc),
             fresh,
+            most_pairs: usize::MAX,
         })
     }
 
     /// The fresh segments as a group, and the pairs of one of them and any that meet. Answers none where too many tests
-    /// would be made.
+    /// would be made, or where too many pairs are left.
     fn hold(&self, alloc: Global) -> Result<Option<Held>, AllocError>
         requires bounded { AreBounded self.now.groups.items }
         requires listed { AreListed self.now.splitter.todo self.now.fresh.items (all_in self.now.groups.items) }
@@ -303,6 +318,9 @@ impl Rounds {
             return Ok(None);
         }
         let pairs = search.pairs;
+        if self.most_pairs < pairs.len() {
+            return Ok(None);
+        }
         Ok(Some(Held { group, pairs }))
     }
 
@@ -315,6 +333,7 @@ impl Rounds {
         ensures log { self.new.splitter.log ≡ self.old.splitter.log }
     {
         self.fresh = fresh(alloc, &self.splitter.todo, &held.pairs, born)?;
+        self.most_pairs = (held.pairs.len() / PART).max(FEW_PAIRS);
         add_group(&mut self.groups, held.group)?;
         Ok(())
     }
