@@ -92,11 +92,7 @@ shapes_read {F} {A} point_of lists contours shapes read grouped = record {
   ended = grouped.ended;
 }
 
--- and no shapes stand in lists that have no contours, or no groups of them
-pub no_contours : {F A : Type 0} (point_of : F → A) (lists : ShapeLists F) →
-    ((contours : List (List A)) → AreEndToEnd contours (map point_of lists.points) lists.contour_ends → ⊥) → (shapes : List (List (List A))) → AreShapesIn point_of lists shapes → ⊥
-no_contours point_of lists none shapes held = none (end_to_end shapes) held.contours
-
+-- and no shapes stand in lists that have no groups of contours
 pub no_groups : {F A : Type 0} (point_of : F → A) (lists : ShapeLists F) (contours : List (List A)) → AreEndToEnd contours (map point_of lists.points) lists.contour_ends →
     ((groups : List (List (List A))) → AreEndToEnd groups contours lists.shape_ends → ⊥) → (shapes : List (List (List A))) → AreShapesIn point_of lists shapes → ⊥
 no_groups point_of lists contours read none shapes held =

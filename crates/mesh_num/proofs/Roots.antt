@@ -275,26 +275,6 @@ pub has_square : (number square target : ℕ) → target < number * number * squ
 has_square zero square target h = absurd (omega arith)
 has_square (suc n) square target h = omega arith
 
--- numbers with a share are below one without
-pub below_without : (number square target j : ℕ) → target < number * number * square → j * j * square ≤ target
-    → j ≤ number - 1
-below_without number square target j h p =
-    let a : j * j * square < number * number * square = omega arith in
-    let b : j < number = lt_of_squares j number (lt_of_mul-lt-mul_right square a) in
-    omega arith
-
--- a quotient with so small a bound has a small square, and a small share
-pub square_small : (number unit : ℕ) → number ≤ unit + 1 → unit ≤ 2 ^ 30 → number * number ≤ 2 ^ 61
-square_small number unit h u =
-    let a : number ≤ 2 ^ 30 + 1 = omega arith in
-    omega (arith, mul-le-mul a a)
-
-pub share_small : (number unit square : ℕ) → number ≤ unit + 1 → unit ≤ 2 ^ 30 → square < 2 ^ 63
-    → number * number * square ≤ 2 ^ 124
-share_small number unit square h u s =
-    let a : square ≤ 2 ^ 63 = omega arith in
-    omega (arith, mul-le-mul (square_small number unit h u) a)
-
 -- ---- raised roots
 
 -- a raised root's square is not less than the number

@@ -51,9 +51,6 @@ keeps_already from left y here k x l =
     only zero h s = s
     only (suc n) h s = absurd (omega (arith, h))
 
-pub keeps_none : (left : List Edge) → Keeps [] left
-keeps_none left x l = absurd (omega (arith, l.within))
-
 pub keeps_then : (a b c : List Edge) → Keeps a b → Keeps b c → Keeps a c
 keeps_then a b c k m x l = m x (k x l)
 
@@ -156,9 +153,6 @@ keeps_ordered ks ms p x l =
 pub goes_then : (a b c : Search) → GoesOn a b → GoesOn b c → GoesOn a c
 goes_then a b c g h = record { kept = λ x l. h.kept x (g.kept x l); over = λ f. g.over (h.over f) }
 
-pub goes_same : (a : Search) → GoesOn a a
-goes_same a = record { kept = λ x l. l; over = λ f. f }
-
 pub searches_beside : (xs ys zs : List Edge) (a b c : Search) → Searches xs ys a b → Searches xs zs b c → Searches xs (ys ++ zs) a c
 searches_beside xs ys zs a b c first second = record {
   goes = goes_then a b c first.goes second.goes;
@@ -172,9 +166,6 @@ searches_beside xs ys zs a b c first second = record {
       (λ (n : StandsIn y zs). second.found f x y l n)
       (stands_either y ys zs m);
 }
-
-pub searches_none : (xs : List Edge) (a : Search) → Searches xs [] a a
-searches_none xs a = record { goes = goes_same a; found = λ f x y l m. absurd (omega (arith, m.within)) }
 
 -- ---- groups
 

@@ -146,9 +146,6 @@ listed_behind x (z ∷ xs) ys l =
     let m = listed_behind x xs ys l in
     record { at = suc m.at; within = omega (arith, m.within); same = λ d. m.same d }
 
-pub grows_none : (old : List Counted) (es : List Edge) → Grows old old es
-grows_none old es q h = inl h
-
 pub grows_both : (a b c : List Counted) (es fs : List Edge) → Grows a b es → Grows b c fs → Grows a c (es ++ fs)
 grows_both a b c es fs first second q h =
     ⊎_elim
