@@ -27,7 +27,7 @@ times_none n d h k =
 
 -- ---- sums over the first of a list
 
-sum_suc : {A : Type 0} (f : A → ℤ) (xs : List A) (i : ℕ) (d : A) → i < length xs → sum_of f (take (suc i) xs) ≡ sum_of f (take i xs) +ℤ f (get_or xs i d)
+pub sum_suc : {A : Type 0} (f : A → ℤ) (xs : List A) (i : ℕ) (d : A) → i < length xs → sum_of f (take (suc i) xs) ≡ sum_of f (take i xs) +ℤ f (get_or xs i d)
 sum_suc f [] i d h = absurd (omega arith)
 sum_suc f (x ∷ xs) zero d h = omega (arith, ints)
 sum_suc f (x ∷ xs) (suc i) d h = omega (arith, ints, sum_suc f xs i d (omega arith))

@@ -1,263 +1,372 @@
-//! The windings at the ends of segments. One of each connected part is a sum of crossings. The others follow from it,
+//! The windings beside segments. One at a point of each connected part is a sum of crossings. The others follow from it,
 //! along segments.
 
-ghost use Rattle.std.specs.Prelude.{◌≡◌, ℕ, ◌<◌, true, List, length, slice_index_or, neg_ℤ, IfOk, IfSome, OnOk};
+ghost use Rattle.std.specs.Prelude.{◌≡◌, ◌<◌, true, List, length, IfOk, IfSome, OnOk};
 ghost use Rattle.std.specs.List.{All};
-ghost use Rattle.mesh_plane.specs.Plane.{Point, Edge};
+ghost use Rattle.mesh_plane.specs.Plane.{Edge};
 ghost use Rattle.mesh_plane.specs.Winding.{sum_of};
 ghost use Rattle.mesh_lattice.specs.Boundary.{right_winding};
 ghost use Rattle.mesh_lattice.specs.Counted.{Counted, size, IsRoomy};
-ghost use Rattle.mesh_lattice.specs.Split.{back, occurs};
+ghost use Rattle.mesh_lattice.specs.Split.{occurs};
 ghost use Rattle.mesh_regions.specs.SideLaws.{AreSplit};
-ghost use Rattle.mesh_boundary.specs.Private.Flood.{OfSplitEdges, IsLevel, AreKnown, windings_beside};
-ghost use Rattle.mesh_boundary.specs.Private.Stars.{ends_at, segments_at, AreStars, AreShaped, HaveStars, IsSegment};
-ghost use Rattle.mesh_boundary.specs.Private.Stars.{IsStar};
+ghost use Rattle.mesh_boundary.specs.Private.Flood.{OfSplitEdges, IsLevel, IsRight, AreKnown, windings_beside};
+ghost use Rattle.mesh_boundary.specs.Private.Stars.{segment, leaving, AreStars, IsParted, HaveStars, IsSegment, IsStar};
+ghost use Rattle.mesh_boundary.specs.Private.Stars.{CountSplit};
 
-use crate::stars::{Ends, Stars, back, before};
+use crate::stars::{End, Stars, before, leaving, place_of, spread_out};
 use crate::sums::Sums;
 use mesh_lattice::exact::same_point;
 use mesh_lattice::lattice::{CountedSegment, LatticeEdge, LatticePoint};
 use std::alloc::{AllocError, Global};
 
-/// A point and the winding at it. A greater one is not noted: then a sum over all segments tells the sides.
-type Level = (LatticePoint, i64);
+/// A point and the winding at it.
+type Level = (LatticePoint, i128);
 
 /// The windings to the left and to the right of a segment.
 pub type Sides = (i128, i128);
 
-/// A segment, and the places of its ends.
-type Placed = (CountedSegment, Ends);
-
-/// What is known of the windings at ends: by place, and the places from which segments are still to be followed.
+/// What is known of the windings to the right of segments, the point last gone round at each place, and the ends at
+/// which to go on. A greater winding is not noted: then a sum over all segments tells the sides.
 #[derive(Drop)]
 pub struct Flood {
-    known: Vec<Option<Level>>,
-    waiting: Vec<usize>,
+    known: Vec<Option<i32>>,
+    seen: Vec<Option<LatticePoint>>,
+    waiting: Vec<End>,
 }
 
-/// What is known at a place: a point that has it, and the winding there.
-fn known_at(known: &[Option<Level>], i: usize) -> Option<Level>
-    ensures { (es : List Edge) → AreKnown es known.now → IfSome result (λ l. IsLevel es l) }
+/// The winding to the right of the segment with an index, if it is known.
+fn known_at(known: &[Option<i32>], k: u32) -> Option<i128>
+    ensures { (es : List Edge) (ks : List Counted) → AreKnown es ks known.now
+        → IfSome result (λ r. IsRight es (segment ks k).0 r) }
 {
-    if i >= known.len() {
+    let k = k as usize;
+    if k >= known.len() {
         return None;
     }
-    known[i]
+    Some(i128::from(known[k]?))
 }
 
-/// The winding known at a place, if it is the one of the point.
-fn level_at(known: &[Option<Level>], i: usize, p: LatticePoint) -> Option<i128>
-    ensures { (es : List Edge) → AreKnown es known.now → IfSome result (λ w. IsLevel es (p, w)) }
+/// So many windings that are not known.
+fn none_known(alloc: Global, count: usize) -> Result<Vec<Option<i32>>, AllocError>
+    ensures { IfOk result (λ v. (es : List Edge) (ks : List Counted) → AreKnown es ks v.items) }
 {
-    let l = known_at(known, i)?;
-    if !same_point(l.0, p) {
+    let mut known = Vec::with_capacity(alloc, count)?;
+    for _made in 0..count {
+        known.push(None)?;
+    }
+    Ok(known)
+}
+
+/// So many places at which no point was seen.
+fn none_seen(alloc: Global, count: usize) -> Result<Vec<Option<LatticePoint>>, AllocError> {
+    let mut seen = Vec::with_capacity(alloc, count)?;
+    for _made in 0..count {
+        seen.push(None)?;
+    }
+    Ok(seen)
+}
+
+/// Puts down the winding to the right of the segment with an index.
+fn put(known: &mut Vec<Option<i32>>, k: u32, right: i32)
+    ensures { (es : List Edge) (ks : List Counted) → IsRight es (segment ks k).0 right
+        → AreKnown es ks known.old.items → AreKnown es ks known.new.items }
+{
+    let k = k as usize;
+    if k < known.len() {
+        known[k] = Some(right);
+    }
+}
+
+/// Whether a point is not the one that was last seen at a place, which it is then.
+fn is_new(seen: &mut Vec<Option<LatticePoint>>, i: u32, p: LatticePoint) -> bool {
+    let i = i as usize;
+    if i >= seen.len() {
+        return false;
+    }
+    if let Some(q) = seen[i] {
+        if same_point(p, q) {
+            return false;
+        }
+    }
+    seen[i] = Some(p);
+    true
+}
+
+/// The winding to the right of a segment, from that at its start, with what leaves it.
+fn right_of(fan: &[CountedSegment], winding: i128, e: LatticeEdge) -> Option<i128>
+    ensures { (es : List Edge) → AreSplit es → IsStar es e.0 fan.now → occurs e es ≡ true
+        → IsLevel es (e.0, winding) → IfSome result (λ r. IsRight es e r) }
+{
+    winding.checked_add(before(fan, e)?)
+}
+
+/// The winding at the start of a segment, from that to its right, with what leaves it.
+fn level_of(fan: &[CountedSegment], right: i128, e: LatticeEdge) -> Option<i128>
+    ensures { (es : List Edge) → AreSplit es → IsStar es e.0 fan.now → occurs e es ≡ true
+        → IsRight es e right → IfSome result (λ w. IsLevel es (e.0, w)) }
+{
+    right.checked_sub(before(fan, e)?)
+}
+
+/// The winding to the right of a segment as it leaves an end, from that to its right.
+fn right_leaving(segments: &[CountedSegment], x: End, right: i128) -> Option<i128>
+    requires { x.0 < length segments.now }
+    ensures { (es : List Edge) → AreSplit es → IsSegment es (segment segments.now x.0)
+        → IsRight es (segment segments.now x.0).0 right
+        → IfSome result (λ r. IsRight es (leaving segments.now x).0 r) }
+{
+    if x.1 {
+        return Some(right);
+    }
+    right.checked_add(segments[x.0 as usize].1)
+}
+
+/// The winding to the right of a segment, from that to its right as it leaves an end.
+fn right_along(segments: &[CountedSegment], x: End, right: i128) -> Option<i128>
+    requires { x.0 < length segments.now }
+    ensures { (es : List Edge) → AreSplit es → IsSegment es (segment segments.now x.0)
+        → IsRight es (leaving segments.now x).0 right
+        → IfSome result (λ r. IsRight es (segment segments.now x.0).0 r) }
+{
+    if x.1 {
+        return Some(right);
+    }
+    right.checked_sub(segments[x.0 as usize].1)
+}
+
+/// The winding to the right of a segment with an end, from that at a point, if it leaves the point and that can be
+/// told, with what leaves the point.
+fn right_from(segments: &[CountedSegment], fan: &[CountedSegment], l: Level, x: End) -> Option<i128>
+    requires { x.0 < length segments.now }
+    ensures { (es : List Edge) → CountSplit es segments.now → IsStar es l.0 fan.now → IsLevel es l
+        → IfSome result (λ r. IsRight es (segment segments.now x.0).0 r) }
+{
+    let s = leaving(segments, x)?;
+    if !same_point(l.0, s.0.0) {
         return None;
     }
-    Some(i128::from(l.1))
+    right_along(segments, x, right_of(fan, l.1, s.0)?)
 }
 
-/// Puts down the winding at a place.
-fn put_level(known: &mut Vec<Option<Level>>, i: usize, l: Level)
-    ensures { (es : List Edge) → IsLevel es l → AreKnown es known.old.items → AreKnown es known.new.items }
-{
-    if i < known.len() {
-        known[i] = Some(l);
-    }
-}
-
-/// The segment the other way about.
-fn backwards(s: CountedSegment) -> Option<CountedSegment>
-    ensures { IfSome result (λ k. k ≡ (back s.0, neg_ℤ s.1)) }
-{
-    Some((back(s.0), s.1.checked_neg()?))
-}
-
-/// The segment directed away from a point, if it ends there.
-fn directed(p: LatticePoint, s: CountedSegment, ends: Ends) -> Option<Placed>
-    ensures start { IfSome result (λ w. w.0.0.0 ≡ p) }
-    ensures segment { (es : List Edge) → IsSegment es s → IfSome result (λ w. IsSegment es w.0) }
-    ensures ends { (at : Point → ℕ) → ends ≡ ends_at at s.0 → IfSome result (λ w. w.1 ≡ ends_at at w.0.0) }
-    ensures below { (n : ℕ) → ends.0 < n → ends.1 < n → IfSome result (λ w. (w.1.0 < n) × (w.1.1 < n)) }
-{
-    if same_point(p, s.0.0) {
-        return Some((s, ends));
-    }
-    if same_point(p, s.0.1) {
-        return Some((backwards(s)?, (ends.1, ends.0)));
-    }
-    None
-}
-
-/// The winding on the right of a segment, from that at its start, with the indices of what ends there.
-fn right_of(
+/// The winding at an end, from what is known of those to the right of segments, with what leaves the end.
+fn level_at(
+    known: &[Option<i32>],
     segments: &[CountedSegment],
-    star: &[usize],
-    winding: i128,
+    fan: &[CountedSegment],
+    x: End,
     e: LatticeEdge,
 ) -> Option<i128>
-    requires { All (λ k. k < length segments.now) star.now }
-    ensures { (es : List Edge) → AreSplit es → IsStar es e.0 (segments_at segments.now star.now) → occurs e es ≡ true
-        → IsLevel es (e.0, winding) → IfSome result (λ r. r ≡ right_winding es e) }
+    requires { x.0 < length segments.now }
+    ensures { (es : List Edge) → CountSplit es segments.now → AreKnown es segments.now known.now
+        → e ≡ (leaving segments.now x).0 → IsStar es e.0 fan.now → IfSome result (λ w. IsLevel es (e.0, w)) }
 {
-    winding.checked_add(before(segments, star, e)?)
-}
-
-/// The winding at the end of a segment, from that at its start, with the indices of what ends at both.
-fn across(
-    segments: &[CountedSegment],
-    star: &[usize],
-    other: &[usize],
-    winding: i128,
-    s: CountedSegment,
-) -> Option<i128>
-    requires star { All (λ k. k < length segments.now) star.now }
-    requires other { All (λ k. k < length segments.now) other.now }
-    ensures { (es : List Edge) → AreSplit es → IsSegment es s → IsStar es s.0.0 (segments_at segments.now star.now)
-        → IsStar es s.0.1 (segments_at segments.now other.now) → IsLevel es (s.0.0, winding)
-        → IfSome result (λ w. IsLevel es (s.0.1, w)) }
-{
-    let left = right_of(segments, star, winding, s.0)?.checked_add(s.1)?;
-    left.checked_sub(before(segments, other, back(s.0))?)
+    level_of(fan, right_leaving(segments, x, known_at(known, x.0)?)?, e)
 }
 
 impl Flood {
-    /// Nothing is known yet.
-    fn unknown(alloc: Global, places: usize) -> Result<Flood, AllocError>
-        ensures { IfOk result (λ f. (es : List Edge) → AreKnown es f.known.items) }
+    /// Nothing is known yet of so many segments.
+    fn unknown(alloc: Global, count: usize) -> Result<Flood, AllocError>
+        ensures { IfOk result (λ f. (es : List Edge) (ks : List Counted) → AreKnown es ks f.known.items) }
     {
-        let mut known = Vec::with_capacity(alloc, places)?;
-        for _made in 0..places {
-            known.push(None)?;
-        }
         Ok(Flood {
-            known,
+            known: none_known(alloc, count)?,
+            seen: none_seen(alloc, count.saturating_mul(2).saturating_add(1))?,
             waiting: Vec::new(alloc),
         })
     }
 
-    /// Puts down the winding at a point, which has this place, if it is not too large.
-    fn note(&mut self, i: usize, p: LatticePoint, winding: i128) -> Result<(), AllocError>
-        ensures { OnOk result ((es : List Edge) → IsLevel es (p, winding) → AreKnown es self.old.known.items
-            → AreKnown es self.new.known.items) }
+    /// Puts down the winding to the right of a segment, if it is not too large.
+    fn note(&mut self, k: u32, right: i128)
+        ensures { (es : List Edge) (ks : List Counted) → IsRight es (segment ks k).0 right
+            → AreKnown es ks self.old.known.items → AreKnown es ks self.new.known.items }
     {
-        let Ok(small) = i64::try_from(winding) else {
-            return Ok(());
-        };
-        put_level(&mut self.known, i, (p, small));
-        self.waiting.push(i)?;
-        Ok(())
+        if let Ok(small) = i32::try_from(right) {
+            put(&mut self.known, k, small);
+        }
     }
 
-    /// Follows the segment with an index from a point to its other end.
-    fn follow(
+    /// Puts down that the flood is to go on at the other end of a segment, if it was not there.
+    fn go_on(
         &mut self,
         segments: &[CountedSegment],
         stars: &Stars,
-        l: Level,
-        k: usize,
+        x: End,
     ) -> Result<(), AllocError>
-        requires shape { AreShaped stars.now.lists.items stars.now.ends.items (length segments.now) }
-        requires in_range { k < length segments.now }
-        ensures { OnOk result ((es : List Edge)
-            → HaveStars es segments.now stars.now.lists.items stars.now.ends.items → IsLevel es l
-            → AreKnown es self.old.known.items → AreKnown es self.new.known.items) }
+        ensures { self.new.known.items ≡ self.old.known.items }
     {
-        let Some((away, ends)) = directed(l.0, segments[k], stars.ends[k]) else {
+        let other = (x.0, !x.1);
+        let Some(s) = segments.get(x.0 as usize) else {
             return Ok(());
         };
-        if level_at(&self.known, ends.1, away.0.1).is_some() {
+        let Some(ends) = stars.ends.get(x.0 as usize) else {
             return Ok(());
+        };
+        let p = if x.1 { s.0.1 } else { s.0.0 };
+        if is_new(&mut self.seen, place_of(*ends, other), p) {
+            self.waiting.push(other)?;
         }
-        let star = stars.star(ends.0);
-        let Some(winding) = across(segments, star, stars.star(ends.1), i128::from(l.1), away) else {
-            return Ok(());
-        };
-        self.note(ends.1, away.0.1, winding)?;
         Ok(())
     }
 
-    /// Follows all segments at a place.
+    /// Finds the winding to the right of a segment with an end, if it is not known, from that at a point.
+    fn find(
+        &mut self,
+        segments: &[CountedSegment],
+        stars: &Stars,
+        fan: &[CountedSegment],
+        l: Level,
+        x: End,
+    ) -> Result<(), AllocError>
+        requires { x.0 < length segments.now }
+        ensures { OnOk result ((es : List Edge) → CountSplit es segments.now → IsStar es l.0 fan.now
+            → IsLevel es l → AreKnown es segments.now self.old.known.items
+            → AreKnown es segments.now self.new.known.items) }
+    {
+        if known_at(&self.known, x.0).is_some() {
+            return Ok(());
+        }
+        let Some(right) = right_from(segments, fan, l, x) else {
+            return Ok(());
+        };
+        self.note(x.0, right);
+        self.go_on(segments, stars, x)?;
+        Ok(())
+    }
+
+    /// Goes round a point, where these ends are listed, from the winding there.
+    fn go_round(
+        &mut self,
+        segments: &[CountedSegment],
+        stars: &Stars,
+        star: &[End],
+        fan: &[CountedSegment],
+        l: Level,
+    ) -> Result<(), AllocError>
+        requires { All (λ x. x.0 < length segments.now) star.now }
+        ensures { OnOk result ((es : List Edge) → CountSplit es segments.now → IsStar es l.0 fan.now
+            → IsLevel es l → AreKnown es segments.now self.old.known.items
+            → AreKnown es segments.now self.new.known.items) }
+    {
+        for x in star {
+            self.find(segments, stars, fan, l, *x)?;
+        }
+        Ok(())
+    }
+
+    /// Goes round the point of an end. `fan` is room for what leaves it.
     fn spread(
         &mut self,
         segments: &[CountedSegment],
         stars: &Stars,
-        i: usize,
+        fan: &mut Vec<CountedSegment>,
+        x: End,
     ) -> Result<(), AllocError>
-        requires shape { AreShaped stars.now.lists.items stars.now.ends.items (length segments.now) }
+        requires parted { IsParted stars.now.parts.items stars.now.members.items (length segments.now) }
+        requires len { length stars.now.ends.items ≡ length segments.now }
         ensures { OnOk result ((es : List Edge)
-            → HaveStars es segments.now stars.now.lists.items stars.now.ends.items
-            → AreKnown es self.old.known.items → AreKnown es self.new.known.items) }
+            → HaveStars es segments.now stars.now.parts.items stars.now.members.items stars.now.ends.items
+            → AreKnown es segments.now self.old.known.items → AreKnown es segments.now self.new.known.items) }
     {
-        let Some(l) = known_at(&self.known, i) else {
+        if x.0 as usize >= segments.len() {
+            return Ok(());
+        }
+        let Some(s) = leaving(segments, x) else {
             return Ok(());
         };
-        if i >= stars.lists.len() {
+        let star = stars.star_of(x);
+        if !spread_out(fan, segments, star)? {
             return Ok(());
         }
-        for k in stars.star(i) {
-            self.follow(segments, stars, l, *k)?;
-        }
+        let Some(winding) = level_at(&self.known, segments, fan, x, s.0) else {
+            return Ok(());
+        };
+        self.go_round(segments, stars, star, fan, (s.0.0, winding))?;
         Ok(())
     }
 
-    /// Follows segments until none is left.
-    fn pour(&mut self, segments: &[CountedSegment], stars: &Stars) -> Result<(), AllocError>
-        requires shape { AreShaped stars.now.lists.items stars.now.ends.items (length segments.now) }
+    /// Goes on until no end is left.
+    fn pour(
+        &mut self,
+        segments: &[CountedSegment],
+        stars: &Stars,
+        fan: &mut Vec<CountedSegment>,
+    ) -> Result<(), AllocError>
+        requires parted { IsParted stars.now.parts.items stars.now.members.items (length segments.now) }
+        requires len { length stars.now.ends.items ≡ length segments.now }
         ensures { OnOk result ((es : List Edge)
-            → HaveStars es segments.now stars.now.lists.items stars.now.ends.items
-            → AreKnown es self.old.known.items → AreKnown es self.new.known.items) }
+            → HaveStars es segments.now stars.now.parts.items stars.now.members.items stars.now.ends.items
+            → AreKnown es segments.now self.old.known.items → AreKnown es segments.now self.new.known.items) }
     {
         for _step in 0..usize::MAX {
-            let Some(i) = self.waiting.pop() else {
+            let Some(x) = self.waiting.pop() else {
                 return Ok(());
             };
-            self.spread(segments, stars, i)?;
+            self.spread(segments, stars, fan, x)?;
         }
         Ok(())
     }
 
-    /// The windings at the ends of segments, as far as they are found.
+    /// Goes round the start of a segment, from the winding there.
+    fn start(
+        &mut self,
+        segments: &[CountedSegment],
+        stars: &Stars,
+        fan: &mut Vec<CountedSegment>,
+        l: Level,
+        k: u32,
+    ) -> Result<(), AllocError>
+        requires parted { IsParted stars.now.parts.items stars.now.members.items (length segments.now) }
+        requires len { length stars.now.ends.items ≡ length segments.now }
+        requires in_range { k < length segments.now }
+        ensures { OnOk result ((es : List Edge)
+            → HaveStars es segments.now stars.now.parts.items stars.now.members.items stars.now.ends.items
+            → l.0 ≡ (segment segments.now k).0.0 → IsLevel es l
+            → AreKnown es segments.now self.old.known.items → AreKnown es segments.now self.new.known.items) }
+    {
+        let star = stars.star_of((k, true));
+        if !spread_out(fan, segments, star)? {
+            return Ok(());
+        }
+        self.go_round(segments, stars, star, fan, l)?;
+        Ok(())
+    }
+
+    /// The windings beside segments, as far as they are found.
     pub fn new(
         alloc: Global,
         segments: &[CountedSegment],
         stars: &Stars,
     ) -> Result<Flood, AllocError>
         requires room { IsRoomy (sum_of size segments.now) }
-        requires stars { AreStars stars.now.lists.items stars.now.ends.items segments.now }
-        ensures { IfOk result (λ f. OfSplitEdges segments.now (λ es. AreKnown es f.known.items)) }
+        requires stars { AreStars stars.now.parts.items stars.now.members.items stars.now.ends.items segments.now }
+        ensures { IfOk result (λ f. OfSplitEdges segments.now (λ es. AreKnown es segments.now f.known.items)) }
     {
-        let mut flood = Flood::unknown(alloc, stars.lists.len())?;
+        let mut flood = Flood::unknown(alloc, segments.len())?;
         let mut sums = Sums::new();
-        for k in 0..segments.len() {
-            let p = segments[k].0.0;
-            let i = stars.ends[k].0;
-            if level_at(&flood.known, i, p).is_some() {
+        let mut fan = Vec::new(alloc);
+        for k in 0..u32::MAX {
+            if k as usize >= segments.len() {
+                break;
+            }
+            if known_at(&flood.known, k).is_some() {
                 continue;
             }
+            let p = segments[k as usize].0.0;
             let winding = sums.winding(alloc, segments, p)?;
-            flood.note(i, p, winding)?;
-            flood.pour(segments, stars)?;
+            flood.start(segments, stars, &mut fan, (p, winding), k)?;
+            flood.pour(segments, stars, &mut fan)?;
         }
         Ok(flood)
     }
 
     /// The windings to the left and to the right of the segment with an index, where they are known.
-    pub fn sides(&self, segments: &[CountedSegment], stars: &Stars, k: usize) -> Option<Sides>
-        requires shape { AreShaped stars.now.lists.items stars.now.ends.items (length segments.now) }
-        requires in_range { k < length segments.now }
-        ensures { (es : List Edge) (d : Counted)
-            → HaveStars es segments.now stars.now.lists.items stars.now.ends.items
-            → AreKnown es self.now.known.items
-            → IfSome result (λ p. p ≡ windings_beside es (slice_index_or segments.now k d).0) }
+    pub fn sides(&self, segments: &[CountedSegment], k: usize) -> Option<Sides>
+        requires { k < length segments.now }
+        ensures { (es : List Edge) → IsSegment es (segment segments.now k)
+            → AreKnown es segments.now self.now.known.items
+            → IfSome result (λ p. p ≡ windings_beside es (segment segments.now k).0) }
     {
-        let s = segments[k];
-        let i = stars.ends[k].0;
-        let right = right_of(
-            segments,
-            stars.star(i),
-            level_at(&self.known, i, s.0.0)?,
-            s.0,
-        )?;
-        Some((right.checked_add(s.1)?, right))
+        let right = known_at(&self.known, u32::try_from(k).ok()?)?;
+        Some((right.checked_add(segments[k].1)?, right))
     }
 }

@@ -8,7 +8,6 @@ ghost use Rattle.mesh_lattice.specs.Rows.{AreRows};
 ghost use Rattle.mesh_boundary.specs.Private.CountedSides.{sides_by, sides_of};
 ghost use Rattle.mesh_boundary.specs.Private.Flood.{OfSplitEdges, AreKnown};
 ghost use Rattle.mesh_boundary.specs.Private.Slants.{AreSlantedRows};
-ghost use Rattle.mesh_boundary.specs.Private.Stars.{AreStars};
 ghost use Rattle.mesh_boundary.specs.Private.SideFinders.{Serves};
 
 use crate::flood::{Flood, Sides};
@@ -36,8 +35,8 @@ pub enum SideFinder {
     East(Rows<i128>),
     /// By sums over rows along a slant.
     Slanted(SlantedRows),
-    /// From the windings at their ends, where these are known.
-    Ends(Stars, Flood),
+    /// From what is known of the windings beside them.
+    Known(Flood),
 }
 
 /// The windings on both sides of a segment, from that beside it.
@@ -60,14 +59,12 @@ fn sides_of(segments: &[CountedSegment], s: CountedSegment) -> Sides
     sides_by(winding(segments, middle(s.0)), s)
 }
 
-/// How many segments the stars have at which some of the segments start, on average.
+/// How many ends are listed where some of the segments start, on average.
 fn mean_star(alloc: Global, stars: &Stars) -> Result<usize, AllocError> {
     let some = sample(alloc, &stars.ends, SAMPLED)?;
     let mut sum: usize = 0;
     for ends in &some {
-        if let Some(star) = stars.lists.get(ends.0) {
-            sum = sum.saturating_add(star.len());
-        }
+        sum = sum.saturating_add(stars.star(ends.0).len());
     }
     Ok(sum / some.len().max(1))
 }
@@ -84,14 +81,14 @@ fn row_sides(segments: &[CountedSegment], rows: &Rows<i128>, i: usize) -> Sides
 }
 
 /// The sides of the segment at a place: those known of it, or else by a sum over all segments.
-fn known_sides(segments: &[CountedSegment], stars: &Stars, flood: &Flood, i: usize) -> Sides
+fn known_sides(segments: &[CountedSegment], flood: &Flood, i: usize) -> Sides
     requires in_range { i < length segments.now }
     requires room { IsRoomy (sum_of size segments.now) }
-    requires stars { AreStars stars.now.lists.items stars.now.ends.items segments.now }
-    ensures { OfSplitEdges segments.now (λ es. AreKnown es flood.now.known.items
-        → (d : Counted) → result ≡ sides_of segments.now (slice_index_or segments.now i d)) }
+    requires known { OfSplitEdges segments.now (λ es. AreKnown es segments.now flood.now.known.items) }
+    ensures { OfSplitEdges segments.now (λ es. (d : Counted) → result ≡ sides_of segments.now
+        (slice_index_or segments.now i d)) }
 {
-    if let Some(sides) = flood.sides(segments, stars, i) {
+    if let Some(sides) = flood.sides(segments, i) {
         return sides;
     }
     sides_of(segments, segments[i])
@@ -111,20 +108,6 @@ fn slanted_sides(segments: &[CountedSegment], rows: &SlantedRows, i: usize) -> S
 }
 
 impl SideFinder {
-    /// From the windings at ends.
-    fn by_ends(
-        alloc: Global,
-        segments: &[CountedSegment],
-        stars: Stars,
-    ) -> Result<SideFinder, AllocError>
-        requires room { IsRoomy (sum_of size segments.now) }
-        requires stars { AreStars stars.lists.items stars.ends.items segments.now }
-        ensures { IfOk result (λ w. Serves w segments.now) }
-    {
-        let flood = Flood::new(alloc, segments, &stars)?;
-        Ok(SideFinder::Ends(stars, flood))
-    }
-
     /// The finder that serves for these segments.
     pub fn new(alloc: Global, segments: &[CountedSegment]) -> Result<SideFinder, AllocError>
         requires { IsRoomy (sum_of size segments.now) }
@@ -142,11 +125,12 @@ impl SideFinder {
                 return Ok(SideFinder::Slanted(rows));
             }
         }
-        let stars = Stars::new(alloc, segments)?;
-        if mean_star(alloc, &stars)? > reached.all {
-            return Ok(SideFinder::East(Rows::new(alloc, segments)?));
+        if let Some(stars) = Stars::new(alloc, segments)? {
+            if mean_star(alloc, &stars)? <= reached.all {
+                return Ok(SideFinder::Known(Flood::new(alloc, segments, &stars)?));
+            }
         }
-        SideFinder::by_ends(alloc, segments, stars)
+        Ok(SideFinder::East(Rows::new(alloc, segments)?))
     }
 
     /// The sides of the segment at a place.
@@ -160,7 +144,7 @@ impl SideFinder {
         match self {
             SideFinder::East(rows) => row_sides(segments, rows, i),
             SideFinder::Slanted(rows) => slanted_sides(segments, rows, i),
-            SideFinder::Ends(stars, flood) => known_sides(segments, stars, flood, i),
+            SideFinder::Known(flood) => known_sides(segments, flood, i),
         }
     }
 }

@@ -1,6 +1,6 @@
 use Rattle.std.proofs.Common.{◌≡◌, take}
-use Rattle.mesh_boundary.specs.Private.Stars.{counted_before, segments_at}
+use Rattle.mesh_boundary.specs.Private.Stars.{counted_before}
 use Rattle.mesh_boundary.proofs.stars.before.Given as goal
 
-abbrev pub invariant-loop-k : goal.invariant-loop-k
-invariant-loop-k l = l.sum ≡ counted_before l.e (segments_at l.segments (take l.k-index l.star))
+abbrev pub invariant-loop-s : goal.invariant-loop-s
+invariant-loop-s l = l.sum ≡ counted_before l.e (take l.s-index l.fan)

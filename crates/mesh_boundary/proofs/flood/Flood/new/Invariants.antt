@@ -8,6 +8,6 @@ use Rattle.mesh_boundary.proofs.flood.Flood.new.Given as goal
 
 abbrev pub invariant-loop-k : goal.invariant-loop-k
 invariant-loop-k l = record {
-  known : (es : List Edge) → IsCountOf es l.segments → AreSplit es → AreKnown es l.flood.known.items;
+  known : (es : List Edge) → IsCountOf es l.segments → AreSplit es → AreKnown es l.segments l.flood.known.items;
   rows : MayHaveRows l.sums.rows l.segments;
 }

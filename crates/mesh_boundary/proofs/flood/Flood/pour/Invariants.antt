@@ -5,4 +5,5 @@ use Rattle.mesh_boundary.specs.Private.Stars.{HaveStars}
 use Rattle.mesh_boundary.proofs.flood.Flood.pour.Given as goal
 
 abbrev pub invariant-loop-step : goal.invariant-loop-step
-invariant-loop-step l = (es : List Edge) → HaveStars es l.segments l.stars.lists.items l.stars.ends.items → AreKnown es l.fn.self.known.items → AreKnown es l.self.known.items
+invariant-loop-step l = (es : List Edge) → HaveStars es l.segments l.stars.parts.items l.stars.members.items l.stars.ends.items → AreKnown es l.segments l.fn.self.known.items
+    → AreKnown es l.segments l.self.known.items

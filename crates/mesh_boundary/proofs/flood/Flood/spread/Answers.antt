@@ -1,11 +1,22 @@
-use Rattle.std.proofs.Common.{length, sym, subst}
-use Rattle.mesh_boundary.specs.Private.Flood.{AreKnown}
+use Rattle.std.proofs.Common.{rules, ◌≡◌, List, sym, ◌∙◌, ap, subst}
+use Rattle.std.specs.Prelude.{ℤ}
+use mir.Syntax.{w128}
+use mir.Val.{to_z, of_z}
+use Rattle.mesh_lattice.specs.Counted.{Counted}
+use Rattle.mesh_boundary.specs.Private.Flood.{IsLevel, AreKnown}
+use Rattle.mesh_boundary.specs.Private.Stars.{leaving, fan_of, IsStar}
 use Rattle.mesh_boundary.proofs.flood.Flood.spread.Goals as goal
 
-pub follow-requires-clause-in_range : goal.follow-requires-clause-in_range
-follow-requires-clause-in_range c = c.star-k-items.ensures.within (length c.args.segments.now) c.requires.shape c.loop-k.k-index 0 c.loop-k-test.true
-
-pub loop-k-preserved : goal.loop-k-preserved
-loop-k-preserved c = λ es have known.
-    let level = c.in-Some.ensures es (subst (AreKnown es) (sym c.deref.ensures.value) known) in
-    c.in_ok-follow.ensures es have level (c.loop-k.invariant es have known)
+pub returns : goal.returns
+returns c = λ es have known.
+    let ks = c.args.segments.now in
+    let s : Counted = c.in-Some.s in
+    let is : s ≡ leaving ks c.args.x = c.in-Some.ensures in
+    let all : c.spread_out.new.fan.items ≡ fan_of ks c.star_of-star.result.now = c.in_ok-spread_out.ensures c.if-not-branch.false in
+    let own : IsStar es s.0.0 (fan_of ks c.star_of-star.result.now) =
+    subst (λ (k : Counted). IsStar es k.0.0 (fan_of ks c.star_of-star.result.now)) (sym is) (c.star_of-star.ensures.star es ks have c.requires.parted) in
+    let star : (f : List Counted) → f ≡ c.spread_out.new.fan.items → IsStar es s.0.0 f = λ f e. subst (IsStar es s.0.0) (sym (e ∙ all)) own in
+    let level : IsLevel es (s.0.0, c.in-Some-level_at.winding) =
+    c.in-Some-level_at.ensures es have.counts (subst (AreKnown es ks) (sym c.deref.ensures.value) known) (ap (λ (k : Counted). k.0) is) (star c.deref-2.result.now c.deref-2.ensures.value) in
+    let kept : to_z w128 (of_z w128 c.in-Some-level_at.winding) ≡ c.in-Some-level_at.winding = search rules in
+    c.in_ok-go_round.ensures es have.counts (star c.deref-3.result.now c.deref-3.ensures.value) (subst (λ (w : ℤ). IsLevel es (s.0.0, w)) (sym kept) level) known

@@ -9,9 +9,5 @@ row_sides-requires-clause-rows c = subst (λ (w : SideFinder). Serves w c.args.s
 pub slanted_sides-requires-clause-rows : goal.slanted_sides-requires-clause-rows
 slanted_sides-requires-clause-rows c = subst (λ (w : SideFinder). Serves w c.args.segments.now) c.in-Slanted.is c.requires.serves
 
-pub known_sides-requires-clause-stars : goal.known_sides-requires-clause-stars
-known_sides-requires-clause-stars c = (subst (λ (w : SideFinder). Serves w c.args.segments.now) c.in-Ends.is c.requires.serves).0
-
-pub returns-in-Ends : goal.returns-in-Ends
-returns-in-Ends c = λ es is split.
-    c.known_sides.ensures es is split ((subst (λ (w : SideFinder). Serves w c.args.segments.now) c.in-Ends.is c.requires.serves).1 es is split)
+pub known_sides-requires-clause-known : goal.known_sides-requires-clause-known
+known_sides-requires-clause-known c = subst (λ (w : SideFinder). Serves w c.args.segments.now) c.in-Known.is c.requires.serves

@@ -1,18 +1,37 @@
-use Rattle.std.proofs.Common.{ℕ, ◌<◌, List, sym, ◌∙◌, ap, subst}
-use Rattle.std.specs.Prelude.{Vec}
-use Rattle.std.specs.declared.alloc.Global.{Global}
+use Rattle.std.proofs.Common.{◌≡◌, ℕ, ◌+◌, ◌-◌, ◌<◌, ◌≤◌, Bool, List, length, take, drop, sym, ◌∙◌, ap, subst, arith}
 use Rattle.std.specs.List.{All}
-use Rattle.mesh_lattice.specs.Lists.{list_at}
-use Rattle.mesh_boundary.specs.Private.Stars.{IsStar, segments_at}
+use Rattle.std.proofs.lemmas.List.{get_or_default}
+use Rattle.mesh_boundary.specs.Private.Stars.{part, run}
+use Rattle.mesh_boundary.proofs.StarLists.{star_none, run_short, run_slice, run_all}
 use Rattle.mesh_boundary.proofs.stars.Stars.star.Goals as goal
 
+pub returns-then-i-len-clause-star : goal.returns-then-i-len-clause-star
+returns-then-i-len-clause-star c = λ n parted. star_none c.args.self.now.parts.items c.args.self.now.members.items c.args.i (omega (arith, c.if-i-len.true, c.len.ensures))
+
+pub returns-then-end-len-clause-star : goal.returns-then-end-len-clause-star
+returns-then-end-len-clause-star c = λ n parted.
+    let parts = c.args.self.now.parts.items in
+    let members = c.args.self.now.members.items in
+    let q : ℕ × ℕ = c.index-part.result.now in
+    let own : q ≡ part parts c.args.i = c.index-part.ensures ∙ get_or_default parts c.args.i q (0, 0) (omega (arith, c.if-i-len.false, c.len.ensures)) in
+    let long : length members < q.0 + q.1 = omega (arith, c.if-end-len.true, c.len-2.ensures) in
+    run_short members (part parts c.args.i).0 (part parts c.args.i).1 (parted.room c.args.i) (subst (λ (p : ℕ × ℕ). length members < p.0 + p.1) own long)
+
 pub returns-clause-within : goal.returns-clause-within
-returns-clause-within c = λ n shape.
-    let is = c.deref.ensures.value ∙ ap (λ (v : Vec ℕ Global). v.items) c.index.ensures in
-    subst (All (λ (k : ℕ). k < n)) (sym is) (shape.within c.args.i c.index.result.now c.requires)
+returns-clause-within c = λ n parted.
+    let parts = c.args.self.now.parts.items in
+    let members = c.args.self.now.members.items in
+    let q : ℕ × ℕ = c.index-part.result.now in
+    let own : q ≡ part parts c.args.i = c.index-part.ensures ∙ get_or_default parts c.args.i q (0, 0) (omega (arith, c.if-i-len.false, c.len.ensures)) in
+    let room : q.0 + q.1 ≤ length members = omega (arith, c.if-end-len.false, c.len-2.ensures) in
+    let is = ap (λ (l : List (ℕ × Bool)). take (q.0 + q.1 - q.0) (drop q.0 l)) c.deref-2.ensures.value ∙ (run_slice members q.0 q.1 room ∙ ap (λ (p : ℕ × ℕ). run members p.0 p.1) own) in
+    subst (All (λ (x : ℕ × Bool). x.0 < n)) (sym is) (run_all (λ (x : ℕ × Bool). x.0 < n) members (part parts c.args.i).0 (part parts c.args.i).1 (parted.within c.args.i))
 
 pub returns-clause-star : goal.returns-clause-star
-returns-clause-star c = λ es ks have v at.
-    let d : Vec ℕ Global = c.index.result.now in
-    let is = c.deref.ensures.value ∙ (ap (λ (u : Vec ℕ Global). u.items) c.index.ensures ∙ ap (λ (i : ℕ). list_at c.args.self.now.lists.items i d) at) in
-    subst (λ (l : List ℕ). IsStar es v (segments_at ks l)) (sym is) (have.stars v d)
+returns-clause-star c = λ n parted.
+    let parts = c.args.self.now.parts.items in
+    let members = c.args.self.now.members.items in
+    let q : ℕ × ℕ = c.index-part.result.now in
+    let own : q ≡ part parts c.args.i = c.index-part.ensures ∙ get_or_default parts c.args.i q (0, 0) (omega (arith, c.if-i-len.false, c.len.ensures)) in
+    let room : q.0 + q.1 ≤ length members = omega (arith, c.if-end-len.false, c.len-2.ensures) in
+    ap (λ (l : List (ℕ × Bool)). take (q.0 + q.1 - q.0) (drop q.0 l)) c.deref-2.ensures.value ∙ (run_slice members q.0 q.1 room ∙ ap (λ (p : ℕ × ℕ). run members p.0 p.1) own)
