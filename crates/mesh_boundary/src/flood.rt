@@ -164,13 +164,13 @@ fn level_at(
 }
 
 impl Flood {
-    /// Nothing is known yet of so many segments.
-    fn unknown(alloc: Global, count: usize) -> Result<Flood, AllocError>
+    /// Nothing is known yet of so many segments, whose ends have so many places.
+    fn unknown(alloc: Global, count: usize, places: usize) -> Result<Flood, AllocError>
         ensures { IfOk result (λ f. (es : List Edge) (ks : List Counted) → AreKnown es ks f.known.items) }
     {
         Ok(Flood {
             known: none_known(alloc, count)?,
-            seen: none_seen(alloc, count.saturating_mul(2).saturating_add(1))?,
+            seen: none_seen(alloc, places)?,
             waiting: Vec::new(alloc),
         })
     }
@@ -341,7 +341,7 @@ impl Flood {
         requires stars { AreStars stars.now.parts.items stars.now.members.items stars.now.ends.items segments.now }
         ensures { IfOk result (λ f. OfSplitEdges segments.now (λ es. AreKnown es segments.now f.known.items)) }
     {
-        let mut flood = Flood::unknown(alloc, segments.len())?;
+        let mut flood = Flood::unknown(alloc, segments.len(), stars.parts.len())?;
         let mut sums = Sums::new();
         let mut fan = Vec::new(alloc);
         for k in 0..u32::MAX {

@@ -148,8 +148,11 @@ fn count_at(sizes: &mut Vec<u32>, i: u32) {
 
 /// How many of the ends have each place.
 fn sizes_of(alloc: Global, ends: &[Ends]) -> Result<Vec<u32>, AllocError> {
-    let count = ends.len().saturating_mul(2).saturating_add(1);
-    let mut sizes = zeros(alloc, count)?;
+    let mut most: u32 = 0;
+    for e in ends {
+        most = most.max(e.0).max(e.1);
+    }
+    let mut sizes = zeros(alloc, (most as usize).saturating_add(1))?;
     for e in ends {
         count_at(&mut sizes, e.0);
         count_at(&mut sizes, e.1);
