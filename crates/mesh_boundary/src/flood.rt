@@ -1,5 +1,5 @@
-//! The windings beside segments. One at a point of each connected part is a sum of crossings. The others follow from it,
-//! along segments.
+//! The windings beside segments. One at a point of each connected part is a sum of crossings. The others follow from
+//! it, along segments.
 
 ghost use Rattle.std.specs.Prelude.{◌≡◌, ◌<◌, true, List, length, IfOk, IfSome, OnOk};
 ghost use Rattle.std.specs.List.{All};
