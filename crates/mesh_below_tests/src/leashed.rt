@@ -86,12 +86,12 @@ fn unlucky_contours_take_few_splits(rt: HostRuntime) -> Result<(), Fail> {
 
 #[test]
 fn unlucky_contours_side_by_side_take_few_splits(rt: HostRuntime) -> Result<(), Fail> {
-    expect_few(rt.alloc(), &side_by_side(rt.alloc(), UNLUCKY, false)?, 12)
+    expect_few(rt.alloc(), &side_by_side(rt.alloc(), UNLUCKY, false)?, 10)
 }
 
 #[test]
 fn unlucky_contours_from_all_corners_stay_near(rt: HostRuntime) -> Result<(), Fail> {
-    expect_few(rt.alloc(), &side_by_side(rt.alloc(), UNLUCKY, true)?, 30)
+    expect_few(rt.alloc(), &side_by_side(rt.alloc(), UNLUCKY, true)?, 20)
 }
 
 /// The edges of a slit, each coordinate `x` with its sign turned.

@@ -20,6 +20,12 @@ const MOST_STEPS: u64 = 10;
 /// Up to this far in both coordinates, a point is near an end, in grid units.
 const NEAR: u128 = 64;
 
+/// From this length on, in grid units, a segment is long where it is split near an end.
+const LONG: u128 = 1 << 14;
+
+/// Below this angle, a thousandth, two segments are nearly parallel.
+const NARROW: u64 = 1 << 46;
+
 /// So many of the edges that a noted one meets are noted too.
 const NEIGHBOURS: usize = 8;
 
@@ -75,6 +81,19 @@ fn is_near(p: LatticePoint, q: LatticePoint) -> bool {
 /// Whether a segment is split there, and near an end of it. Runs cut pieces of few units off.
 fn is_cut_near_an_end(e: LatticeEdge, c: LatticePoint) -> bool {
     !is_end(c, e) && (is_near(c, e.0) || is_near(c, e.1))
+}
+
+/// Whether a long segment would be split near an end.
+fn is_at_a_tip(e: LatticeEdge, c: LatticePoint) -> bool {
+    LONG <= length(e) && (is_near(c, e.0) || is_near(c, e.1))
+}
+
+/// Whether the pieces of two segments that cross are likely to meet anew near where they are split: short pieces of long
+/// segments are bent much there, and nearly parallel ones soon meet elsewhere.
+pub fn is_delicate(e: LatticeEdge, m: Meeting) -> bool {
+    let (f, c) = m;
+    let do_cross = !is_end(c, e) && !is_end(c, f);
+    do_cross && (is_at_a_tip(e, c) || is_at_a_tip(f, c) || angle(e, f) < NARROW)
 }
 
 /// A number that looks random, and is the same for the same numbers.

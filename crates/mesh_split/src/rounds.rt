@@ -20,6 +20,7 @@ use crate::bounding::{bounding_box, is_beside};
 use crate::count::{SplitCount, SplitError};
 use crate::first_pass::pieces;
 use crate::groups::{Group, Pair, Search};
+use crate::leash::is_delicate;
 use crate::pieces::Paths;
 use crate::steps::{Settled, Splitter};
 use crate::worklist::Worklist;
@@ -33,6 +34,9 @@ const MOST_ROUNDS: usize = 10;
 
 /// So many tests are made for each fresh segment, at most, and more for pairs that are found.
 const TESTS: usize = 60;
+
+/// So many in later rounds: much would be split in vain if these were given up.
+const LATER_TESTS: usize = 600;
 
 /// And for so many segments more, since a round of few is cheap in any case.
 const MORE: usize = 10_000;
@@ -210,6 +214,12 @@ fn noted(alloc: Global, pairs: &[Pair]) -> Result<Vec<LatticeEdge>, AllocError>
     Ok(noted)
 }
 
+/// Whether more of the pairs are delicate than the next round may find.
+fn are_delicate(pairs: &[Pair]) -> bool {
+    let delicate = pairs.iter().filter(|k| is_delicate(k.0, k.1)).count();
+    pairs.len() / PART < delicate
+}
+
 /// Splits what a pair has become where that meets, and lists the pieces.
 fn split_pair(
     splitter: &mut Splitter,
@@ -308,9 +318,11 @@ impl Rounds {
         requires clear { AreClearBeside self.now.splitter.todo self.now.fresh.items }
         ensures { IfOk result (λ o. IfSome o (λ h. IsHeld self.now h)) }
     {
+        let is_first = self.splitter.log.len() == 0;
+        let tests = if is_first { TESTS } else { LATER_TESTS };
         let edges = arranged(alloc, &self.fresh)?;
         let group = Group::of(alloc, &edges)?;
-        let most = edges.len().saturating_add(MORE).saturating_mul(TESTS);
+        let most = edges.len().saturating_add(MORE).saturating_mul(tests);
         let mut search = Search::new(alloc, most);
         group.find_within(&mut search)?;
         find_beside(&group, &self.groups, &mut search)?;
@@ -319,6 +331,9 @@ impl Rounds {
         }
         let pairs = search.pairs;
         if self.most_pairs < pairs.len() {
+            return Ok(None);
+        }
+        if is_first && are_delicate(&pairs) {
             return Ok(None);
         }
         Ok(Some(Held { group, pairs }))
