@@ -8,6 +8,7 @@ pub mod Entries
 pub mod Extents
 pub mod Filing
 pub mod Forward
+pub mod Joining
 pub mod Kept
 pub mod Listing
 pub mod Pairs

@@ -1,7 +1,8 @@
 //! Segments in groups of near ones, each group with a box that holds it, so that all pairs that meet are found.
 
-ghost use Rattle.std.specs.Prelude.{◌≡◌, [], ◌∷◌, ◌++◌, pos, ◌<ℤ◌, IfOk, OnOk};
-ghost use Rattle.mesh_plane.specs.Plane.{Edge};
+ghost use Rattle.std.specs.Prelude.{◌≡◌, true, [], ◌∷◌, ◌++◌, pos, ◌<ℤ◌, IfOk, OnOk, MatchOption};
+ghost use Rattle.mesh_plane.specs.Plane.{Edge, turn};
+ghost use Rattle.mesh_lattice.specs.Split.{AreClear, Meets};
 ghost use Rattle.mesh_split.specs.Private.BoundingBoxes.{AreBounds};
 ghost use Rattle.mesh_split.specs.Private.Cells.{StandsIn};
 ghost use Rattle.mesh_split.specs.Private.Groups.{edges_in, noted_in, AreWithin, IsBounded, GoesOn, Searches};
@@ -10,8 +11,8 @@ ghost use Rattle.mesh_split.specs.Private.Steps.{exactly};
 use crate::bounding::{BoundingBox, bounding_box, is_beside};
 use crate::hints::Meeting;
 use crate::worklist::Worklist;
-use mesh_lattice::exact::meeting;
-use mesh_lattice::lattice::LatticeEdge;
+use mesh_lattice::exact::{is_end, meeting, turn};
+use mesh_lattice::lattice::{LatticeEdge, LatticePoint};
 use std::alloc::{AllocError, Global};
 
 /// A group of more is halved.
@@ -64,6 +65,34 @@ fn box_of(edges: &[LatticeEdge]) -> BoundingBox
     bounds
 }
 
+/// Whether a point lies beside the line of a segment.
+fn is_off(x: LatticeEdge, p: LatticePoint) -> bool
+    ensures { result ≡ true → turn x.0 x.1 p ≡ pos 0 → ⊥ }
+{
+    turn(x.0, x.1, p) != 0
+}
+
+/// Whether two segments have one end in common and lead apart from it. Then they meet nowhere else.
+fn only_join(x: LatticeEdge, y: LatticeEdge) -> bool
+    ensures { result ≡ true → AreClear x y }
+{
+    if is_end(y.0, x) {
+        return is_off(x, y.1);
+    }
+    is_end(y.1, x) && is_off(x, y.0)
+}
+
+/// Where two segments are to be split, if they meet. Most near ones follow each other in a contour: one turn tells that
+/// these do not.
+fn meeting_of(x: LatticeEdge, y: LatticeEdge) -> Option<LatticePoint>
+    ensures { MatchOption result (AreClear x y) (Meets x y) }
+{
+    if only_join(x, y) {
+        return None;
+    }
+    meeting(x, y)
+}
+
 impl Search {
     /// No pair, and so many tests may be made.
     pub fn new(alloc: Global, most: usize) -> Self
@@ -105,7 +134,7 @@ impl Search {
         let bounds = bounding_box(x);
         for y in ys {
             if !is_beside(bounds, *y) {
-                if let Some(at) = meeting(x, *y) {
+                if let Some(at) = meeting_of(x, *y) {
                     self.note((x, (*y, at)))?;
                 }
             }
