@@ -161,6 +161,39 @@ inserted_raised k m v es left h e set = record {
       ∙ ap (λ (n : ℤ). sum_of g es +ℤ g (k.0, n)) e;
 }
 
+-- what was set is found
+pub found_set : (k : Edge) (m v : ℤ) (es : List Counted) → lookup (edge_eq k) es ≡ Some m → lookup (edge_eq k) (set_value (edge_eq k) es v) ≡ Some v
+found_set k m v es h =
+    by_found (λ (es : List Counted). found k (set_value (edge_eq k) es v) ≡ Some v) k m
+    (λ (es : List Counted). first (k, m) es (equal_self k))
+    (λ (e : Counted) (es : List Counted) (p : found k (set_value (edge_eq k) es v) ≡ Some v).
+    ⊎_elim
+    (λ (t : edge_eq k e.0 ≡ true). first e es t)
+    (λ (n : edge_eq k e.0 ≡ false).
+    ap (λ (b : Bool). found k (cond b ((e.0, v) ∷ es) (e ∷ set_value (edge_eq k) es v))) n
+    ∙ ap (λ (b : Bool). cond b (Some e.1) (found k (set_value (edge_eq k) es v))) n
+    ∙ p)
+    (cases_Bool (edge_eq k e.0)))
+    es h
+  where
+    first : (e : Counted) (es : List Counted) → edge_eq k e.0 ≡ true → found k (set_value (edge_eq k) (e ∷ es) v) ≡ Some v
+    first e es t =
+        ap (λ (b : Bool). found k (cond b ((e.0, v) ∷ es) (e ∷ set_value (edge_eq k) es v))) t ∙ ap (λ (b : Bool). cond b (Some v) (found k es)) t
+
+-- a count is set, and then raised by what it was
+pub inserted_twice : (k : Counted) (m v w : ℤ) (es between left : List Counted) → found k.0 es ≡ Some m → w ≡ m +ℤ k.1
+    → between ≡ set_value (edge_eq k.0) es v → left ≡ set_value (edge_eq k.0) between w → IsRaised es left k
+inserted_twice k m v w es between left h e set again = record {
+  was = m;
+  stood = found_stands k.0 m es h;
+  totals = λ g.
+      let stands : found k.0 between ≡ Some v = ap (found k.0) set ∙ found_set k.0 m v es h in
+      let first = ap (sum_of g) set in
+      let second = ap (sum_of g) again in
+      let sum : g (k.0, w) ≡ g (k.0, m +ℤ k.1) = ap (λ (n : ℤ). g (k.0, n)) e in
+      omega (arith, linear, first, second, sum, value_set k.0 m v es g h, value_set k.0 v w between g stands);
+}
+
 set_keys : (q : Edge) (v : ℤ) (es : List Counted) → keys_of (set_value (edge_eq q) es v) ≡ keys_of es
 set_keys q v [] = refl
 set_keys q v (e ∷ es) = step (edge_eq q e.0) (set_keys q v es)

@@ -111,8 +111,9 @@ impl Paths {
         ensures meets { IfSome result (λ p. Meets p.first p.meeting.0 p.meeting.1) }
     {
         let (first, (second, c)) = pair;
+        let others = self.about(second, c);
         for e in self.about(first, c) {
-            for f in self.about(second, c) {
+            for f in others {
                 if let (Some(e), Some(f)) = (e, f) {
                     if let Some(found) = where_they_meet(todo, e, f) {
                         return Some(found);

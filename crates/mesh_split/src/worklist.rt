@@ -95,12 +95,10 @@ impl Worklist {
         requires room { HaveRoom self.old s }
         ensures { OnOk result (IsRaised self.old self.new s ⊎ IsNew self.old self.new s) }
     {
-        if let Some(count) = self.counts.get(&s.0) {
-            let sum = *count + s.1;
-            self.counts.insert(s.0, sum)?;
+        if let Some(count) = self.counts.insert(s.0, s.1)? {
+            self.counts.insert(s.0, count + s.1)?;
             return Ok(());
         }
-        self.counts.insert(s.0, s.1)?;
         self.latest.push(s.0)?;
         Ok(())
     }
