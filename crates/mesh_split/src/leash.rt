@@ -88,7 +88,7 @@ fn is_at_a_tip(e: LatticeEdge, c: LatticePoint) -> bool {
     LONG <= length(e) && (is_near(c, e.0) || is_near(c, e.1))
 }
 
-/// Whether the pieces of two segments that cross are likely to meet anew near where they are split: short pieces of long
+/// Whether the pieces of two segments that cross are likely to meet anew where they are split: short pieces of long
 /// segments are bent much there, and nearly parallel ones soon meet elsewhere.
 pub fn is_delicate(e: LatticeEdge, m: Meeting) -> bool {
     let (f, c) = m;

@@ -1,9 +1,10 @@
-//! Splits in rounds. In each round the fresh segments are held against all others at once, the pairs that meet are split
-//! one by one, and the pieces are fresh in the next. Where a round finds no pair, all segments are clear of each other:
-//! no second pass is needed. The rounds are given up where many more tests are made than pairs are found, and where a
-//! split leads far away.
+//! Splits in rounds. In each round the fresh segments are held against all others at once, the pairs that meet are
+//! split one by one, and the pieces are fresh in the next. Where a round finds no pair, all segments are clear of each
+//! other: no second pass is needed. The rounds are given up where many more tests are made than pairs are found, where
+//! many pairs are likely to meet anew, and where a split leads far away.
 
-ghost use Rattle.std.specs.Prelude.{◌≡◌, ◌⊎◌, ◌^◌, ◌++◌, ◌≤ℤ◌, true, false, List, [], ◌∷◌, pos, IfErr, IfOk, IfSome, OnErr, OnOk};
+ghost use Rattle.std.specs.Prelude.{◌≡◌, ◌⊎◌, ◌^◌, ◌++◌, ◌≤ℤ◌, true, false, List, [], ◌∷◌, pos};
+ghost use Rattle.std.specs.Prelude.{IfErr, IfOk, IfSome, OnErr, OnOk};
 ghost use Rattle.mesh_plane.specs.Plane.{Edge};
 ghost use Rattle.mesh_lattice.specs.Clean.{IsProper};
 ghost use Rattle.mesh_lattice.specs.Split.{IsLegal};
@@ -78,8 +79,9 @@ pub struct Held {
     pub pairs: Vec<Pair>,
 }
 
-/// Whether rounds serve for these edges: whether they are many, and of those whose boxes reach that of a sampled one, not too few meet it.
-/// Of long slanted edges side by side, as of a hatch, few do; a tree of cuts along them parts these better than boxes.
+/// Whether rounds serve for these edges: whether they are many, and of those whose boxes reach that of a sampled one,
+/// not too few meet it. Of long slanted edges side by side, as of a hatch, few do; a tree of cuts along them parts
+/// these better than boxes.
 fn serve(alloc: Global, edges: &[LatticeEdge]) -> Result<bool, AllocError> {
     if edges.len() < FEW_EDGES {
         return Ok(false);
