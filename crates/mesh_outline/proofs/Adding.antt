@@ -50,22 +50,28 @@ closed_end fill contour first previous rest i old mid new e l before h =
 pub give_none : (unit : ℕ) (style : OutlineStyle) → Give unit style [] []
 give_none unit style = record { edges = []; each = tt; joined = refl }
 
--- one contour more
-pub give_more : (unit : ℕ) (style : OutlineStyle) (paths : List (List Point)) (i : ℕ) (mid new : List SignedEdge) → i < length paths →
-    AreGiven unit style (take i paths) mid → AddsGiven unit style (get_or paths i []) mid new → AreGiven unit style (take (i + 1) paths) new
-give_more unit style paths i mid new l h k = (h.0 ++ k.0, more, adds_more unit [] mid new h.0 k.0 h.2 k.2)
+-- what one contour more gives
+pub give_next : (unit : ℕ) (style : OutlineStyle) (contours : List (List Point)) (contour : List Point) (given edges : List Edge) → Give unit style contours given → Gives unit style contour edges →
+    Give unit style (contours ++ contour ∷ []) (given ++ edges)
+give_next unit style contours contour given edges h k = record {
+  edges = h.edges ++ edges ∷ [];
+  each = all_zipped_more (Gives unit style) contours h.edges contour edges h.each k;
+  joined =
+      ap (λ (es : List Edge). es ++ edges) h.joined ∙ ap (λ (es : List Edge). all h.edges ++ es) (sym (append-nil edges))
+      ∙ sym (flat_map-append (λ (es : List Edge). es) h.edges (edges ∷ []));
+}
   where
     all : List (List Edge) → List Edge
     all edges = flat_map (λ (es : List Edge). es) edges
 
-    more : Give unit style (take (i + 1) paths) (h.0 ++ k.0)
-    more = record {
-      edges = h.1.edges ++ k.0 ∷ [];
-      each = rw (take_more paths i [] l) (all_zipped_more (Gives unit style) (take i paths) h.1.edges (get_or paths i []) k.0 h.1.each k.1);
-      joined =
-          ap (λ (es : List Edge). es ++ k.0) h.1.joined ∙ ap (λ (es : List Edge). all h.1.edges ++ es) (sym (append-nil k.0))
-          ∙ sym (flat_map-append (λ (es : List Edge). es) h.1.edges (k.0 ∷ []));
-    }
+-- one contour more
+pub give_more : (unit : ℕ) (style : OutlineStyle) (paths : List (List Point)) (i : ℕ) (mid new : List SignedEdge) → i < length paths →
+    AreGiven unit style (take i paths) mid → AddsGiven unit style (get_or paths i []) mid new → AreGiven unit style (take (i + 1) paths) new
+give_more unit style paths i mid new l h k = (
+  h.0 ++ k.0,
+  rw (take_more paths i [] l) (give_next unit style (take i paths) (get_or paths i []) h.0 k.0 h.1 k.1),
+  adds_more unit [] mid new h.0 k.0 h.2 k.2,
+)
 
 -- all contours
 pub give_all : (unit : ℕ) (style : OutlineStyle) (paths : List (List Point)) (i : ℕ) (ss : List SignedEdge) → length paths ≤ i →

@@ -26,6 +26,7 @@ use Rattle.mesh_outline.specs.declared.kind.ContourKind.{ContourKind}
 use Rattle.mesh_outline.specs.declared.kind.ContourKind.TheVariants.{Outer}
 use Rattle.mesh_outline.specs.Outline.{outline_edges}
 use Rattle.mesh_offset.specs.Adding.{in_sense, added, added_edges, answer_edges}
+use Rattle.mesh_outline.specs.Private.Gathered.{IsResolvedAgain}
 use Rattle.mesh_outline.specs.Private.Given.{AddsAnswer, AddsGiven, AreGiven, ComesAlone, IsResolvedTwice}
 use Rattle.mesh_outline.specs.Resolved.{fill_for, IsAnswerAlone, Gives, IsOutline}
 
@@ -90,6 +91,36 @@ is_outline unit style choices contours ss answer h resolution = record {
   resolution = rw (given_edges unit ss h.0 h.2) at resolution;
 }
 
+-- ---- shapes that are resolved once more
+
+-- edges that are their own boundary need not be split again
+pub again_arranged : (unit : ℕ) (choices : Choices) (shapes answer : List (List (List Point))) → AreOwnBoundary (answer_edges shapes) →
+    IsResolution (answer_edges shapes) (filled Positive) choices answer → ArePointsSafe unit answer → IsResolvedAgain unit choices shapes answer
+again_arranged unit choices shapes answer own resolution safe = record {
+  resolution = rw (proper_same (answer_edges shapes) own.split.proper) resolution;
+  safe = safe;
+}
+
+-- their edges as segments
+pub closed_again : (unit : ℕ) (shapes : List (List (List Point))) (old ss : List SignedEdge) → old ≡ [] → ArePointsSafe unit shapes →
+    ss ≡ old ++ segments_of (in_sense Positive (answer_edges shapes)) → AddsClosed unit [] ss (answer_edges shapes)
+closed_again unit shapes old ss none safe added = rw none at (adds_answer unit Positive shapes old ss safe added)
+
+module _ (unit : ℕ) (shapes : List (List (List Point))) (ss held : List SignedEdge) (e : held ≡ ss) (closed : AddsClosed unit [] ss (answer_edges shapes)) where
+  pub again_resolvable : AreResolvable unit held
+  again_resolvable = record {
+    subject = rw e (given_subjects unit ss (answer_edges shapes) closed);
+    balanced = rw e (given_balanced unit ss (answer_edges shapes) closed);
+    safe = rw e (given_safe unit ss (answer_edges shapes) closed);
+  }
+
+  pub again_anew : (choices : Choices) (answer : List (List (List Point))) → IsResolution (edges_of held) (filled Positive) choices answer → ArePointsSafe unit answer →
+      IsResolvedAgain unit choices shapes answer
+  again_anew choices answer resolution stays = record {
+    resolution = rw (given_edges unit ss (answer_edges shapes) closed) at (rw e at resolution);
+    safe = stays;
+  }
+
 -- ---- one outer boundary
 
 -- what is settled need not be resolved once more
@@ -102,42 +133,17 @@ twice_settled unit way choices contour answer d alone safe settled = record {
   safe = safe;
 }
 
--- edges that are their own boundary need not be split again
-pub twice_arranged : (unit : ℕ) (way : OffsetJoin) (choices : Choices) (contour : List Point) (first answer : List (List (List Point))) →
-    IsAnswerAlone unit way (filled Positive) contour first → AreOwnBoundary (answer_edges first) → IsResolution (answer_edges first) (filled Positive) choices answer → ArePointsSafe unit answer →
-    IsResolvedTwice unit way choices contour answer
-twice_arranged unit way choices contour first answer alone own resolution safe = record {
+pub twice_again : (unit : ℕ) (way : OffsetJoin) (choices : Choices) (contour : List Point) (first answer : List (List (List Point))) →
+    IsAnswerAlone unit way (filled Positive) contour first → IsResolvedAgain unit choices first answer → IsResolvedTwice unit way choices contour answer
+twice_again unit way choices contour first answer alone again = record {
   first = first;
   alone = alone;
-  resolution = rw (proper_same (answer_edges first) own.split.proper) resolution;
-  safe = safe;
+  resolution = again.resolution;
+  safe = again.safe;
 }
 
--- its edges as segments
-module _ (unit : ℕ) (first : List (List (List Point))) (old ss : List SignedEdge) (none : old ≡ []) (safe : ArePointsSafe unit first)
-    (added : ss ≡ old ++ segments_of (in_sense Positive (answer_edges first))) where
-  closed : AddsClosed unit [] ss (answer_edges first)
-  closed = rw none at (adds_answer unit Positive first old ss safe added)
-
-  pub again_resolvable : (held : List SignedEdge) → held ≡ ss → AreResolvable unit held
-  again_resolvable held e = record {
-    subject = rw e (given_subjects unit ss (answer_edges first) closed);
-    balanced = rw e (given_balanced unit ss (answer_edges first) closed);
-    safe = rw e (given_safe unit ss (answer_edges first) closed);
-  }
-
-  pub twice_anew : (way : OffsetJoin) (contour : List Point) (held : List SignedEdge) (choices : Choices) (answer : List (List (List Point))) → held ≡ ss →
-      IsAnswerAlone unit way (filled Positive) contour first → IsResolution (edges_of held) (filled Positive) choices answer → ArePointsSafe unit answer →
-      IsResolvedTwice unit way choices contour answer
-  twice_anew way contour held choices answer e alone resolution stays = record {
-    first = first;
-    alone = alone;
-    resolution = rw (given_edges unit ss (answer_edges first) closed) at (rw e at resolution);
-    safe = stays;
-  }
-
 -- what a contour gives that moves in this way and is filled in this sense
-gives_answer : (unit : ℕ) (style : OutlineStyle) (way : OffsetJoin) (fill : FillRule) (path : List Point) (answer : List (List (List Point))) →
+pub gives_answer : (unit : ℕ) (style : OutlineStyle) (way : OffsetJoin) (fill : FillRule) (path : List Point) (answer : List (List (List Point))) →
     fill ≡ fill_for (double_area path) → style_for style (double_area path) ≡ Some way → IsAnswerAlone unit way (filled fill) path answer →
     Gives unit style path (in_sense fill (answer_edges answer))
 gives_answer unit style way fill path answer own here alone =

@@ -3,13 +3,15 @@
 //! Read `specs/Outline.antt` first, the edges of a contour's outline and the pieces between it and the contour; then
 //! `specs/Resolved.antt`, the outline of many contours. A section is a cleaned edge moved sideways (`section`), a corner
 //! joins two of them (`builder_join`), the builder goes round a contour (`builder`), and the calls (`offset`) resolve
-//! what comes of all contours (`resolve`, `shapes`).
+//! what comes of all contours (`resolve`, `gather`, `shapes`).
 #![tactic(auto)]
 
 pub mod area;
 mod bounds;
+mod bounds_apart;
 pub mod builder;
 mod builder_join;
+mod gather;
 pub mod kind;
 pub mod laws;
 mod nearness;

@@ -45,4 +45,4 @@ returns-clause-outline g c =
     let style = style_of g.I.IntNumber.value c.args.style.now in
     let paths = g.S.IntShapeResource.paths c.args.source.now in
     let held = ap (λ v. v.items) c.with_segments-overlay.ensures.segments in
-    is_outline g.I.IntNumber.unit style _ paths _ (shapes_of c.in_ok-shapes-2.shapes.items) c.in_ok-segments.ensures (rw held at c.in_ok-shapes-2.ensures.resolution)
+    is_outline g.I.IntNumber.unit style _ paths _ (shapes_of c.in_ok-shapes-3.shapes.items) c.in_ok-segments.ensures (rw held at c.in_ok-shapes-3.ensures.resolution)
