@@ -189,6 +189,12 @@ searches_halves xs ys a b c d s t u = record {
       (u.found e);
 }
 
+-- those of each half of the first list and each half of the second
+pub searches_quarters : (xs xs' ys ys' : List Edge) (a b c d e : Search) → Searches xs ys a b → Searches xs ys' b c → Searches xs' ys c d → Searches xs' ys' d e
+    → Searches (xs ++ xs') (ys ++ ys') a e
+searches_quarters xs xs' ys ys' a b c d e s t u v =
+    searches_first xs xs' (ys ++ ys') a c e (searches_second xs ys ys' a b c s t) (searches_second xs' ys ys' c d e u v)
+
 -- those of one segment and others, and then those of the others
 pub searches_others : (x : Edge) (ys : List Edge) (a b c : Search) → Searches (x ∷ []) ys a b → Searches ys ys b c → Searches (x ∷ ys) (x ∷ ys) a c
 searches_others x ys a b c s t = record {

@@ -16,7 +16,7 @@ use mesh_lattice::lattice::{LatticeEdge, LatticePoint};
 use std::alloc::{AllocError, Global};
 
 /// A group of more is halved.
-const FEW: usize = 8;
+const FEW: usize = 12;
 
 /// So many tests more may be made for each pair that is found.
 const TESTS_A_PAIR: usize = 32;
@@ -270,10 +270,18 @@ impl Group {
         }
         match self {
             Group::Few(xs, bounds) => other.find_few(xs, *bounds, search),
-            Group::Halves(low, high, _) => {
-                low.find_between(other, search)?;
-                high.find_between(other, search)
-            }
+            Group::Halves(low, high, _) => match other {
+                Group::Few(_, _) => {
+                    low.find_between(other, search)?;
+                    high.find_between(other, search)
+                }
+                Group::Halves(west, east, _) => {
+                    low.find_between(west, search)?;
+                    low.find_between(east, search)?;
+                    high.find_between(west, search)?;
+                    high.find_between(east, search)
+                }
+            },
         }
     }
 
