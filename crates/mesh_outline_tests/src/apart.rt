@@ -53,7 +53,11 @@ const OTHERS: &[&[Row]] = &[
         outer!(40, 40, 60, 60),
         outer!(200, 0, 240, 40),
     ],
-    &[outer!(0, 0, 40, 40), outer!(40, 0, 80, 40), outer!(80, 40, 90, 50)],
+    &[
+        outer!(0, 0, 40, 40),
+        outer!(40, 0, 80, 40),
+        outer!(80, 40, 90, 50),
+    ],
 ];
 
 /// The default options, and others, of which each tells something of the answer.
@@ -169,10 +173,7 @@ fn grid(rt: HostRuntime) -> Result<(), Fail> {
     for i in 0..900i32 {
         let x = i % 30 * 20;
         let y = i / 30 * 20;
-        source.push(path(
-            alloc,
-            &[(x, y), (x + 10, y), (x + 10, y + 10), (x, y + 10)],
-        )?)?;
+        source.push(path(alloc, &[(x, y), (x + 10, y), (x + 10, y + 10), (x, y + 10)])?)?;
     }
     for offset in [3, 5] {
         let style = styled(offset, JoinKind::Bevel);

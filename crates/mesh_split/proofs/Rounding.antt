@@ -16,7 +16,7 @@ use Rattle.mesh_lattice.proofs.Ends.{decides_edge}
 use Rattle.mesh_split.specs.declared.groups.Group.{Group}
 use Rattle.mesh_split.specs.declared.groups.Search.{Search}
 use Rattle.mesh_split.specs.Private.Cells.{StandsIn}
-use Rattle.mesh_split.specs.Private.Groups.{Pair, all_in, edges_in, noted_in, AreBounded, IsBounded, GoesOn, Searches}
+use Rattle.mesh_split.specs.Private.Groups.{Pair, all_in, edges_in, noted_in, AreBounded, IsBounded, GoesOn, KeepsWaiting, Searches}
 use Rattle.mesh_split.specs.Private.Growth.{Grows, Waits}
 use Rattle.mesh_split.specs.Private.Rounds.{AreClearBeside, AreListed, Keeps, keyed_edges}
 use Rattle.mesh_split.specs.Private.Steps.{IsPile, IsSettled}
@@ -188,17 +188,28 @@ stands_last : (x : Edge) (gs : List Group) (g : Group) → StandsIn x (edges_in 
 stands_last x gs g l =
     subst (λ (es : List Edge). StandsIn x es) (sym (all_append gs (g ∷ []))) (listed_behind x (all_in gs) (all_in (g ∷ [])) (listed_more x (edges_in g) [] l))
 
+pub bounded_before : (gs : List Group) (g : Group) → AreBounded (gs ++ g ∷ []) → AreBounded gs
+bounded_before [] g b = tt
+bounded_before (f ∷ gs) g b = (b.0, bounded_before gs g b.1)
+
+pub bounded_last : (gs : List Group) (g : Group) → AreBounded (gs ++ g ∷ []) → IsBounded g
+bounded_last [] g b = b.0
+bounded_last (f ∷ gs) g b = bounded_last gs g b.1
+
 -- of one more group those that wait are kept
-pub pruned_more : (todo : List Counted) (gs : List Group) (i : ℕ) (d : Group) (kept : List Group) (g : Group) → i < length gs
-    → ((x : Edge) → StandsIn x (all_in (take i gs)) → Waits x todo → StandsIn x (all_in kept)) → ((x : Edge) → StandsIn x (edges_in (get_or gs i d)) → Waits x todo → StandsIn x (edges_in g))
-    → (x : Edge) → StandsIn x (all_in (take (i + 1) gs)) → Waits x todo → StandsIn x (all_in (kept ++ g ∷ []))
-pruned_more todo gs i d kept g h before here x l w =
-    let both = subst (λ (es : List Edge). StandsIn x es) (all_append (take i gs) (get_or gs i d ∷ [])) (subst (λ (hs : List Group). StandsIn x (all_in hs)) (take_more gs i d h) l) in
+pub pruned_both : (todo : List Counted) (gs kept : List Group) (old new : Group) → KeepsWaiting todo (all_in gs) (all_in kept) → KeepsWaiting todo (edges_in old) (edges_in new)
+    → KeepsWaiting todo (all_in (gs ++ old ∷ [])) (all_in (kept ++ new ∷ []))
+pruned_both todo gs kept old new before here x l w =
     ⊎_elim
-    (λ (m : StandsIn x (all_in (take i gs))). stands_before x kept g (before x m w))
-    (λ (m : StandsIn x (edges_in (get_or gs i d) ++ [])).
-    stands_last x kept g (here x (⊎_elim (λ (n : StandsIn x (edges_in (get_or gs i d))). n) (λ (n : StandsIn x []). absurd (omega (arith, n.within))) (stands_either x (edges_in (get_or gs i d)) [] m)) w))
-    (stands_either x (all_in (take i gs)) (edges_in (get_or gs i d) ++ []) both)
+    (λ (m : StandsIn x (all_in gs)). stands_before x kept new (before x m w))
+    (λ (m : StandsIn x (edges_in old ++ [])).
+    stands_last x kept new (here x (⊎_elim (λ (n : StandsIn x (edges_in old)). n) (λ (n : StandsIn x []). absurd (omega (arith, n.within))) (stands_either x (edges_in old) [] m)) w))
+    (stands_either x (all_in gs) (edges_in old ++ []) (subst (λ (es : List Edge). StandsIn x es) (all_append gs (old ∷ [])) l))
+
+pub pruned_more : (todo : List Counted) (gs : List Group) (i : ℕ) (d : Group) (kept : List Group) (g : Group) → i < length gs → KeepsWaiting todo (all_in (take i gs)) (all_in kept)
+    → KeepsWaiting todo (edges_in (get_or gs i d)) (edges_in g) → KeepsWaiting todo (all_in (take (i + 1) gs)) (all_in (kept ++ g ∷ []))
+pruned_more todo gs i d kept g h before here =
+    subst (λ (hs : List Group). KeepsWaiting todo (all_in hs) (all_in (kept ++ g ∷ []))) (sym (take_more gs i d h)) (pruned_both todo (take i gs) kept (get_or gs i d) g before here)
 
 pub pruned_listed : (todo : List Counted) (fresh : List Edge) (gs hs : List Group) → ((x : Edge) → StandsIn x (all_in gs) → Waits x todo → StandsIn x (all_in hs)) → AreListed todo fresh (all_in gs)
     → AreListed todo fresh (all_in hs)

@@ -5,7 +5,15 @@ ghost use Rattle.mesh_plane.specs.Plane.{Edge, turn};
 ghost use Rattle.mesh_lattice.specs.Split.{AreClear, Meets};
 ghost use Rattle.mesh_split.specs.Private.BoundingBoxes.{AreBounds};
 ghost use Rattle.mesh_split.specs.Private.Cells.{StandsIn};
-ghost use Rattle.mesh_split.specs.Private.Groups.{edges_in, noted_in, AreWithin, IsBounded, GoesOn, Searches};
+ghost use Rattle.mesh_split.specs.Private.Groups.{
+  edges_in,
+  noted_in,
+  AreWithin,
+  IsBounded,
+  GoesOn,
+  KeepsWaiting,
+  Searches,
+};
 ghost use Rattle.mesh_split.specs.Private.Steps.{exactly};
 
 use crate::bounding::{BoundingBox, bounding_box, is_beside};
@@ -14,9 +22,6 @@ use crate::worklist::Worklist;
 use mesh_lattice::exact::{is_end, meeting, turn};
 use mesh_lattice::lattice::{LatticeEdge, LatticePoint};
 use std::alloc::{AllocError, Global};
-
-/// A group of more is halved.
-const FEW: usize = 12;
 
 /// So many tests more may be made for each pair that is found.
 const TESTS_A_PAIR: usize = 32;
@@ -204,17 +209,17 @@ impl Group {
         }
     }
 
-    /// These segments, near ones beside each other where they follow each other.
-    pub fn of(alloc: Global, edges: &[LatticeEdge]) -> Result<Self, AllocError>
+    /// These segments, near ones beside each other where they follow each other. More than so many are halved.
+    pub fn of(alloc: Global, edges: &[LatticeEdge], most: usize) -> Result<Self, AllocError>
         ensures bounded { IfOk result (λ g. IsBounded g) }
         ensures all { IfOk result (λ g. (x : Edge) → StandsIn x edges.now → StandsIn x (edges_in g)) }
     {
-        if edges.len() <= FEW {
+        if edges.len() < 2 || edges.len() <= most {
             return Ok(Group::few(Vec::from_slice(alloc, edges)?));
         }
         let (low, high) = edges.split_at(edges.len() / 2);
-        let low = Group::of(alloc, low)?;
-        let high = Group::of(alloc, high)?;
+        let low = Group::of(alloc, low, most)?;
+        let high = Group::of(alloc, high, most)?;
         Group::halves(alloc, low, high)
     }
 
@@ -230,6 +235,36 @@ impl Group {
                 let low = low.waiting(alloc, todo)?;
                 let high = high.waiting(alloc, todo)?;
                 Group::halves(alloc, low, high)
+            }
+        }
+    }
+
+    /// Leaves those out that wait no more, in all parts that reach a box. Of the others some may be left out too.
+    pub fn prune(
+        &mut self,
+        alloc: Global,
+        todo: &Worklist,
+        reached: BoundingBox,
+    ) -> Result<(), AllocError>
+        requires { IsBounded self.old }
+        ensures bounded { OnOk result (IsBounded self.new) }
+        ensures kept { OnOk result (KeepsWaiting todo.now (edges_in self.old) (edges_in self.new)) }
+    {
+        match self {
+            Group::Few(edges, bounds) => {
+                if !is_beside(reached, *bounds) {
+                    *self = Group::few(todo.waiting(alloc, edges)?);
+                }
+                Ok(())
+            }
+            Group::Halves(low, high, bounds) => {
+                if is_beside(reached, *bounds) {
+                    return Ok(());
+                }
+                low.prune(alloc, todo, reached)?;
+                high.prune(alloc, todo, reached)?;
+                *bounds = union(low.bounds(), high.bounds());
+                Ok(())
             }
         }
     }

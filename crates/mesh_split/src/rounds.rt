@@ -10,7 +10,15 @@ ghost use Rattle.mesh_lattice.specs.Clean.{IsProper};
 ghost use Rattle.mesh_lattice.specs.Split.{IsLegal};
 ghost use Rattle.mesh_split.specs.Counting.{CountsSplits, CountsWith, IsReason, IsWithinLimit};
 ghost use Rattle.mesh_split.specs.Private.Cells.{StandsIn};
-ghost use Rattle.mesh_split.specs.Private.Groups.{all_in, edges_in, noted_in, AreBounded, IsBounded, Searches};
+ghost use Rattle.mesh_split.specs.Private.Groups.{
+  all_in,
+  edges_in,
+  noted_in,
+  AreBounded,
+  IsBounded,
+  KeepsWaiting,
+  Searches,
+};
 ghost use Rattle.mesh_split.specs.Private.Growth.{Grows, Waits};
 ghost use Rattle.mesh_split.specs.Private.Rounds.{AreClearBeside, AreListed, IsHeld, IsRound, Keeps, keyed_edges};
 ghost use Rattle.mesh_split.specs.declared.count.SplitCount.{SplitCount};
@@ -29,6 +37,7 @@ use mesh_lattice::exact::{meeting, same_edge};
 use mesh_lattice::lattice::LatticeEdge;
 use mesh_lattice::samples::sample;
 use std::alloc::{AllocError, Global};
+use std::mem::replace;
 
 /// No more rounds are made.
 const MOST_ROUNDS: usize = 10;
@@ -47,6 +56,16 @@ const PART: usize = 8;
 
 /// But so many pairs it may find in any case.
 const FEW_PAIRS: usize = 64;
+
+/// A group of more segments is halved.
+const MOST_OF_A_GROUP: usize = 12;
+
+/// But not where so few are held against others: they may lie far from each other, and then boxes that hold several of
+/// them reach much.
+const SPARSE: usize = 1000;
+
+/// Where so many times as many segments wait as there are pieces, groups are pruned about these alone.
+const MANY_TIMES: usize = 16;
 
 /// Of fewer edges no list is made: they are split one by one.
 const FEW_EDGES: usize = 20;
@@ -191,6 +210,44 @@ fn waiting_groups(
     Ok(kept)
 }
 
+/// A group without segments about some pieces that wait no more.
+fn pruned_about(
+    alloc: Global,
+    todo: &Worklist,
+    group: Group,
+    pieces: &[LatticeEdge],
+) -> Result<Group, AllocError>
+    requires { IsBounded group }
+    ensures bounded { IfOk result (λ g. IsBounded g) }
+    ensures kept { IfOk result (λ g. KeepsWaiting todo.now (edges_in group) (edges_in g)) }
+{
+    let mut left = group;
+    for piece in pieces {
+        left.prune(alloc, todo, bounding_box(*piece))?;
+    }
+    Ok(left)
+}
+
+/// Groups without such segments.
+fn all_pruned_about(
+    alloc: Global,
+    todo: &Worklist,
+    groups: Vec<Group>,
+    pieces: &[LatticeEdge],
+) -> Result<Vec<Group>, AllocError>
+    requires { AreBounded groups.items }
+    ensures bounded { IfOk result (λ v. AreBounded v.items) }
+    ensures kept { IfOk result (λ v. KeepsWaiting todo.now (all_in groups.items) (all_in v.items)) }
+{
+    let mut groups = groups;
+    let Some(last) = groups.pop() else {
+        return Ok(groups);
+    };
+    let mut left = all_pruned_about(alloc, todo, groups, pieces)?;
+    add_group(&mut left, pruned_about(alloc, todo, last, pieces)?)?;
+    Ok(left)
+}
+
 /// Notes the pairs that meet of a group and others.
 fn find_beside(group: &Group, groups: &[Group], search: &mut Search) -> Result<(), AllocError>
     requires bounded { IsBounded group.now }
@@ -312,6 +369,14 @@ impl Rounds {
         })
     }
 
+    /// How many segments a part of a group may have that is not halved.
+    fn most_of_a_group(&self) -> usize {
+        if self.groups.len() > 0 && self.fresh.len() < SPARSE {
+            return 1;
+        }
+        MOST_OF_A_GROUP
+    }
+
     /// The fresh segments as a group, and the pairs of one of them and any that meet. Answers none where too many tests
     /// would be made, or where too many pairs are left.
     fn hold(&self, alloc: Global) -> Result<Option<Held>, AllocError>
@@ -323,7 +388,7 @@ impl Rounds {
         let is_first = self.splitter.log.len() == 0;
         let tests = if is_first { TESTS } else { LATER_TESTS };
         let edges = arranged(alloc, &self.fresh)?;
-        let group = Group::of(alloc, &edges)?;
+        let group = Group::of(alloc, &edges, self.most_of_a_group())?;
         let most = edges.len().saturating_add(MORE).saturating_mul(tests);
         let mut search = Search::new(alloc, most);
         group.find_within(&mut search)?;
@@ -342,6 +407,7 @@ impl Rounds {
     }
 
     /// Adds a group to those that were held against each other; the pieces are fresh, and what else waits of the pairs.
+    /// Where there are many pairs, nearly all segments are fresh, and the others are so too from here on.
     fn close(&mut self, alloc: Global, held: Held, born: &[LatticeEdge]) -> Result<(), AllocError>
         ensures round { OnOk result ((old : Rounds) → (given : List Edge) → IsRound given old → IsHeld old held
             → IsPile given self.old.splitter.log self.old.splitter.todo self.old.splitter.live
@@ -349,22 +415,32 @@ impl Rounds {
             → Grows old.splitter.todo self.old.splitter.todo born.now → IsRound given self.new) }
         ensures log { self.new.splitter.log ≡ self.old.splitter.log }
     {
-        self.fresh = fresh(alloc, &self.splitter.todo, &held.pairs, born)?;
         self.most_pairs = (held.pairs.len() / PART).max(FEW_PAIRS);
+        if self.fresh.len() <= held.pairs.len() {
+            self.fresh = self.splitter.todo.ends(alloc)?;
+            self.groups = Vec::new(alloc);
+            return Ok(());
+        }
+        self.fresh = fresh(alloc, &self.splitter.todo, &held.pairs, born)?;
         add_group(&mut self.groups, held.group)?;
         Ok(())
     }
 
-    /// Leaves those segments out of the groups that wait no more, if some were split.
-    fn prune(&mut self, alloc: Global, has_split: bool) -> Result<(), AllocError>
+    /// Leaves segments out of the groups that wait no more.
+    fn prune(&mut self, alloc: Global, born: &[LatticeEdge]) -> Result<(), AllocError>
         requires { AreBounded self.old.groups.items }
         ensures round { OnOk result ((given : List Edge) → IsRound given self.old → IsRound given self.new) }
         ensures log { self.new.splitter.log ≡ self.old.splitter.log }
     {
-        if !has_split {
+        if born.len() == 0 {
             return Ok(());
         }
-        self.groups = waiting_groups(alloc, &self.splitter.todo, &self.groups)?;
+        if self.splitter.todo.len() < born.len().saturating_mul(MANY_TIMES) {
+            self.groups = waiting_groups(alloc, &self.splitter.todo, &self.groups)?;
+            return Ok(());
+        }
+        let groups = replace(&mut self.groups, Vec::new(alloc));
+        self.groups = all_pruned_about(alloc, &self.splitter.todo, groups, born)?;
         Ok(())
     }
 
@@ -388,9 +464,8 @@ impl Rounds {
         let Some(born) = split_pairs(alloc, edges, &mut self.splitter, &held.pairs, count)? else {
             return Ok(false);
         };
-        let has_split = born.len() > 0;
         self.close(alloc, held, &born)?;
-        self.prune(alloc, has_split)?;
+        self.prune(alloc, &born)?;
         Ok(true)
     }
 }

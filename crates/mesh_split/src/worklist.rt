@@ -120,6 +120,11 @@ impl Worklist {
         Ok(left)
     }
 
+    /// How many segments wait.
+    pub fn len(&self) -> usize {
+        self.counts.len()
+    }
+
     /// The ends of all segments that wait.
     pub fn ends(&self, alloc: Global) -> Result<Vec<LatticeEdge>, AllocError>
         ensures { IfOk result (λ v. v.items ≡ keys_of self.now) }

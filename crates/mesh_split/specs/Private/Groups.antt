@@ -1,11 +1,13 @@
 -- Segments in groups, each within its bounds, and pairs of them that were found to meet.
 use Rattle.std.specs.Prelude.{◌≡◌, ◌⊎◌, false, List, [], ◌∷◌, ◌++◌}
 use Rattle.mesh_plane.specs.Plane.{Point, Edge}
+use Rattle.mesh_lattice.specs.Counted.{Counted}
 use Rattle.mesh_lattice.specs.Split.{AreClear}
 use Rattle.mesh_split.specs.declared.groups.Group.{Group, Few, Halves'}
 use Rattle.mesh_split.specs.declared.groups.Search.{Search}
 use Rattle.mesh_split.specs.Private.BoundingBoxes.{AreBounds}
 use Rattle.mesh_split.specs.Private.Cells.{StandsIn}
+use Rattle.mesh_split.specs.Private.Growth.{Waits}
 
 -- two segments, and where they are to be split
 abbrev pub Pair : Type 0
@@ -34,6 +36,10 @@ AreBounded (g ∷ gs) = IsBounded g × AreBounded gs
 abbrev pub all_in : List Group → List Edge
 all_in [] = []
 all_in (g ∷ gs) = edges_in g ++ all_in gs
+
+-- those of the first list that wait stand in the second
+abbrev pub KeepsWaiting : List Counted → List Edge → List Edge → Type 0
+KeepsWaiting todo from left = (x : Edge) → StandsIn x from → Waits x todo → StandsIn x left
 
 -- the segments of pairs
 abbrev pub noted_in : List Pair → List Edge

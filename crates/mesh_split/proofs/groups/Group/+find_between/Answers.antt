@@ -49,12 +49,12 @@ returns-in_ok-find_between-in-Halves-other-3 t c =
     let new = c.find_between-in-Halves-other-4.new.search in
     let last = c.find_between-in-Halves-other-4.result in
     let first : Searches low west old m1 =
-        searches_after low west old c.count.new.self m1 c.count.ensures
-        (rw (c.deref-in-Halves-other.ensures, c.deref-in-Halves-other-2.ensures) at c.in_ok-find_between-in-Halves-other.ensures) in
+    searches_after low west old c.count.new.self m1 c.count.ensures
+    (rw (c.deref-in-Halves-other.ensures, c.deref-in-Halves-other-2.ensures) at c.in_ok-find_between-in-Halves-other.ensures) in
     let second : Searches low east m1 m2 =
-        rw (c.deref-in-Halves-other-3.ensures, c.deref-in-Halves-other-4.ensures) at c.in_ok-find_between-in-Halves-other-2.ensures in
+    rw (c.deref-in-Halves-other-3.ensures, c.deref-in-Halves-other-4.ensures) at c.in_ok-find_between-in-Halves-other-2.ensures in
     let third : Searches high west m2 m3 =
-        rw (c.deref-in-Halves-other-5.ensures, c.deref-in-Halves-other-6.ensures) at c.in_ok-find_between-in-Halves-other-3.ensures in
+    rw (c.deref-in-Halves-other-5.ensures, c.deref-in-Halves-other-6.ensures) at c.in_ok-find_between-in-Halves-other-3.ensures in
     subst (λ (g : Group). OnOk last (Searches (edges_in g) (edges_in c.args.other.now) old new)) (sym c.in-Halves.is)
     (subst (λ (g : Group). OnOk last (Searches (low ++ high) (edges_in g) old new)) (sym c.in-Halves-other.is)
     (on_ok last (searches_quarters low high west east old m1 m2 m3 new first second third)
