@@ -23,10 +23,13 @@ use std::alloc::{AllocError, Global};
 /// For so few segments rows serve, however long they are.
 const FEW: usize = 64;
 
-/// The greatest number of segments that reach a height, on average, for which rows serve. Rows to the east are held to
-/// it with what `Reached` says of all: so of more than some 10,000 segments, many of which run down, they are not taken
-/// for being short, and the flood, which mostly is quicker there, is.
+/// The greatest number of segments that reach a level, on average, for which rows along a slant serve.
 const SHORT: usize = 12;
+
+/// The greatest number of segments that reach a height, on average, for which rows to the east serve: the flood is
+/// quicker where more do. They are held to it with what `Reached` says of all: so of more than some 10,000 segments, many
+/// of which run down, they are not taken for being short.
+const SHORT_TO_THE_EAST: usize = 5;
 
 /// A finder to find the sides of segments.
 #[derive(Drop)]
@@ -117,7 +120,7 @@ impl SideFinder {
             return Ok(SideFinder::East(Rows::new(alloc, segments)?));
         }
         let reached = mean_reached(alloc, segments)?;
-        if reached.all <= SHORT {
+        if reached.all <= SHORT_TO_THE_EAST {
             return Ok(SideFinder::East(Rows::new(alloc, segments)?));
         }
         if reached.others > SHORT {

@@ -60,15 +60,16 @@ const FEW_PAIRS: usize = 64;
 /// A group of more segments is halved.
 const MOST_OF_A_GROUP: usize = 12;
 
-/// But not where so few are held against others: they may lie far from each other, and then boxes that hold several of
-/// them reach much.
-const SPARSE: usize = 1000;
-
-/// Where so many times as many segments wait as there are pieces, groups are pruned about these alone.
+/// Where so many times as many segments wait, few are fresh: they may lie far from each other, and then a box that holds
+/// several of them reaches much, so each is held alone. And where there are so few pieces, groups are pruned about these
+/// alone.
 const MANY_TIMES: usize = 16;
 
 /// Of fewer edges no list is made: they are split one by one.
 const FEW_EDGES: usize = 20;
+
+/// For fewer than these, rounds serve in any case.
+const SOME_EDGES: usize = 100;
 
 /// By so many edges it is judged whether rounds serve.
 const SAMPLED: usize = 8;
@@ -104,6 +105,9 @@ pub struct Held {
 fn serve(alloc: Global, edges: &[LatticeEdge]) -> Result<bool, AllocError> {
     if edges.len() < FEW_EDGES {
         return Ok(false);
+    }
+    if edges.len() < SOME_EDGES {
+        return Ok(true);
     }
     let mut tests: usize = 0;
     let mut most: usize = 0;
@@ -371,7 +375,7 @@ impl Rounds {
 
     /// How many segments a part of a group may have that is not halved.
     fn most_of_a_group(&self) -> usize {
-        if self.groups.len() > 0 && self.fresh.len() < SPARSE {
+        if self.fresh.len().saturating_mul(MANY_TIMES) < self.splitter.todo.len() {
             return 1;
         }
         MOST_OF_A_GROUP
