@@ -26,7 +26,7 @@ type Level = (LatticePoint, i128);
 pub type Sides = (i128, i128);
 
 /// What is known of the windings to the right of segments, the point last gone round at each place, and the ends at
-/// which to go on. A greater winding is not noted: then a sum over all segments tells the sides.
+/// which to go on. A winding past 32 bits is not noted: then a sum over all segments tells the sides.
 #[derive(Drop)]
 pub struct Flood {
     known: Vec<Option<i32>>,

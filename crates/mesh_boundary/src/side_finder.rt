@@ -27,8 +27,8 @@ const FEW: usize = 64;
 const SHORT: usize = 12;
 
 /// The greatest number of segments that reach a height, on average, for which rows to the east serve: the flood is
-/// quicker where more do. They are held to it with what `Reached` says of all: so of more than some 10,000 segments, many
-/// of which run down, they are not taken for being short.
+/// quicker where more do. They are held to it with what `Reached` says of all: so of more than some 6,000 segments,
+/// many of which run down, they are not taken for being short.
 const SHORT_TO_THE_EAST: usize = 5;
 
 /// A finder to find the sides of segments.
@@ -62,14 +62,15 @@ fn sides_of(segments: &[CountedSegment], s: CountedSegment) -> Sides
     sides_by(winding(segments, middle(s.0)), s)
 }
 
-/// How many ends are listed where some of the segments start, on average.
+/// How many ends are listed at the ends of some of the segments, on average.
 fn mean_star(alloc: Global, stars: &Stars) -> Result<usize, AllocError> {
     let some = sample(alloc, &stars.ends, SAMPLED)?;
     let mut sum: usize = 0;
     for ends in &some {
         sum = sum.saturating_add(stars.star(ends.0).len());
+        sum = sum.saturating_add(stars.star(ends.1).len());
     }
-    Ok(sum / some.len().max(1))
+    Ok(sum / some.len().saturating_mul(2).max(1))
 }
 
 /// The sides of the segment at a place, by a sum over a row.

@@ -12,7 +12,7 @@ ghost use Rattle.mesh_outline.specs.Private.Gathered.{box_of, HoldMore, IsNotPas
 use mesh_num::num::convert::{greater, is_less, narrow, widen};
 use mesh_num::num::{IntNumber, IntPoint, IntRect};
 
-/// As many tests of two bounds are made for each of them, at most. Of squares in a grid there may then be 65,000, and
+/// As many tests of two bounds are made for each of them, on average. Of squares in a grid there may then be 65,000, and
 /// the tests take far less time than it takes to split their edges once more.
 const TESTS_EACH: usize = 128;
 

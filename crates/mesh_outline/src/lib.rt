@@ -3,7 +3,7 @@
 //! Read `specs/Outline.antt` first, the edges of a contour's outline and the pieces between it and the contour; then
 //! `specs/Resolved.antt`, the outline of many contours. A section is a cleaned edge moved sideways (`section`), a corner
 //! joins two of them (`builder_join`), the builder goes round a contour (`builder`), and the calls (`offset`) resolve
-//! what comes of all contours (`resolve`, `gather`, `shapes`).
+//! what comes of all contours (`resolve`, `gather`, `bounds_apart`, `shapes`).
 #![tactic(auto)]
 
 pub mod area;

@@ -165,6 +165,26 @@ fn not_apart(rt: HostRuntime) -> Result<(), Fail> {
     Ok(())
 }
 
+/// Squares above each other, in the order in which they stand and in another: all are as far west, so that more tests
+/// of bounds would be made than are allowed.
+#[test]
+fn column(rt: HostRuntime) -> Result<(), Fail> {
+    let alloc = rt.alloc();
+    for step in [1, 7] {
+        let mut source = Vec::new(alloc);
+        for i in 0..300i32 {
+            let y = i * step % 300 * 20;
+            source.push(path(alloc, &[(0, y), (10, y), (10, y + 10), (0, y + 10)])?)?;
+        }
+        let style = styled(3, JoinKind::Bevel);
+        let options = IntOverlayOptions::new();
+        let answer = outlined(alloc, &source, &style, options)?;
+        let wanted = together(alloc, &source, &style, options)?;
+        expect_equal(&answer, &wanted, &step)?;
+    }
+    Ok(())
+}
+
 /// Squares in a grid, which are apart, and the same moved so far that neighbours touch.
 #[test]
 fn grid(rt: HostRuntime) -> Result<(), Fail> {

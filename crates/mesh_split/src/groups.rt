@@ -239,7 +239,7 @@ impl Group {
         }
     }
 
-    /// Leaves those out that wait no more, in all parts that reach a box. Of the others some may be left out too.
+    /// Leaves those out that wait no more, in all parts that reach a box. In other parts they stay.
     pub fn prune(
         &mut self,
         alloc: Global,

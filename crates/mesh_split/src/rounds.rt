@@ -60,9 +60,9 @@ const FEW_PAIRS: usize = 64;
 /// A group of more segments is halved.
 const MOST_OF_A_GROUP: usize = 12;
 
-/// Where so many times as many segments wait, few are fresh: they may lie far from each other, and then a box that holds
-/// several of them reaches much, so each is held alone. And where there are so few pieces, groups are pruned about these
-/// alone.
+/// Where so many times as many segments wait, few are fresh: they may lie far from each other, and then a box that
+/// holds several of them reaches much, so each is held alone. And where there are so few pieces, groups are pruned about
+/// the ends of these alone.
 const MANY_TIMES: usize = 16;
 
 /// Of fewer edges no list is made: they are split one by one.
@@ -99,9 +99,9 @@ pub struct Held {
     pub pairs: Vec<Pair>,
 }
 
-/// Whether rounds serve for these edges: whether they are many, and of those whose boxes reach that of a sampled one,
-/// not too few meet it. Of long slanted edges side by side, as of a hatch, few do; a tree of cuts along them parts
-/// these better than boxes.
+/// Whether rounds serve for these edges: not for fewer than twenty, always for twenty to ninety-nine, and for more where
+/// of those whose boxes reach that of a sampled edge not too few meet it. Of long slanted edges side by side, as of a
+/// hatch, few do; a tree of cuts along them parts these better than boxes.
 fn serve(alloc: Global, edges: &[LatticeEdge]) -> Result<bool, AllocError> {
     if edges.len() < FEW_EDGES {
         return Ok(false);
@@ -214,7 +214,8 @@ fn waiting_groups(
     Ok(kept)
 }
 
-/// A group without segments about some pieces that wait no more.
+/// A group without segments that wait no more, about the ends of some pieces: each end of a segment that was split is
+/// one of these.
 fn pruned_about(
     alloc: Global,
     todo: &Worklist,
@@ -227,7 +228,8 @@ fn pruned_about(
 {
     let mut left = group;
     for piece in pieces {
-        left.prune(alloc, todo, bounding_box(*piece))?;
+        left.prune(alloc, todo, (piece.0, piece.0))?;
+        left.prune(alloc, todo, (piece.1, piece.1))?;
     }
     Ok(left)
 }
@@ -277,7 +279,7 @@ fn noted(alloc: Global, pairs: &[Pair]) -> Result<Vec<LatticeEdge>, AllocError>
     Ok(noted)
 }
 
-/// Whether more of the pairs are delicate than the next round may find.
+/// Whether more than an eighth of the pairs are delicate.
 fn are_delicate(pairs: &[Pair]) -> bool {
     let delicate = pairs.iter().filter(|k| is_delicate(k.0, k.1)).count();
     pairs.len() / PART < delicate
@@ -363,7 +365,8 @@ impl Rounds {
         requires { IsProper edges.now }
         ensures { IfOk result (λ r. IsRound edges.now r) }
     {
-        let splitter = Splitter::of_edges(alloc, edges, &[])?;
+        let mut splitter = Splitter::of_edges(alloc, edges, &[])?;
+        splitter.todo.forget_order(alloc);
         let fresh = splitter.todo.ends(alloc)?;
         Ok(Rounds {
             splitter,
@@ -382,7 +385,7 @@ impl Rounds {
     }
 
     /// The fresh segments as a group, and the pairs of one of them and any that meet. Answers none where too many tests
-    /// would be made, or where too many pairs are left.
+    /// would be made, where too many pairs are left, or, in the first round, where too many of them are delicate.
     fn hold(&self, alloc: Global) -> Result<Option<Held>, AllocError>
         requires bounded { AreBounded self.now.groups.items }
         requires listed { AreListed self.now.splitter.todo self.now.fresh.items (all_in self.now.groups.items) }
@@ -394,6 +397,7 @@ impl Rounds {
         let edges = arranged(alloc, &self.fresh)?;
         let group = Group::of(alloc, &edges, self.most_of_a_group())?;
         let most = edges.len().saturating_add(MORE).saturating_mul(tests);
+        drop(edges);
         let mut search = Search::new(alloc, most);
         group.find_within(&mut search)?;
         find_beside(&group, &self.groups, &mut search)?;
@@ -411,7 +415,7 @@ impl Rounds {
     }
 
     /// Adds a group to those that were held against each other; the pieces are fresh, and what else waits of the pairs.
-    /// Where there are many pairs, nearly all segments are fresh, and the others are so too from here on.
+    /// Where there are many pairs and no group yet, nearly all segments are fresh, and the others are so too from here on.
     fn close(&mut self, alloc: Global, held: Held, born: &[LatticeEdge]) -> Result<(), AllocError>
         ensures round { OnOk result ((old : Rounds) → (given : List Edge) → IsRound given old → IsHeld old held
             → IsPile given self.old.splitter.log self.old.splitter.todo self.old.splitter.live
@@ -420,7 +424,7 @@ impl Rounds {
         ensures log { self.new.splitter.log ≡ self.old.splitter.log }
     {
         self.most_pairs = (held.pairs.len() / PART).max(FEW_PAIRS);
-        if self.fresh.len() <= held.pairs.len() {
+        if self.groups.len() == 0 && self.fresh.len() <= held.pairs.len() {
             self.fresh = self.splitter.todo.ends(alloc)?;
             self.groups = Vec::new(alloc);
             return Ok(());
@@ -430,7 +434,7 @@ impl Rounds {
         Ok(())
     }
 
-    /// Leaves segments out of the groups that wait no more.
+    /// Leaves those segments out of the groups that wait no more.
     fn prune(&mut self, alloc: Global, born: &[LatticeEdge]) -> Result<(), AllocError>
         requires { AreBounded self.old.groups.items }
         ensures round { OnOk result ((given : List Edge) → IsRound given self.old → IsRound given self.new) }
@@ -493,6 +497,7 @@ pub fn split_in_rounds(
         let fresh: &[LatticeEdge] = &rounds.fresh;
         if fresh.len() == 0 {
             count.add(&rounds.splitter.log)?;
+            drop(rounds.groups);
             let settled = rounds.splitter.into_settled(alloc)?;
             return Ok(Some(settled));
         }

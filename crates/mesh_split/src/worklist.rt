@@ -17,6 +17,8 @@ pub struct Worklist {
     counts: HashMap<LatticeEdge, i128>,
     /// Ends in the order in which they came. It says which segment is taken next, and nothing else.
     latest: Vec<LatticeEdge>,
+    /// Whether that order is kept.
+    keeps_order: bool,
 }
 
 impl Model for Worklist {
@@ -27,6 +29,14 @@ impl Model for Worklist {
     ghost invariant = { λ w. All IsForward (keys_of w.counts.entries) };
 }
 
+/// Notes which segment came last, where that is kept.
+fn note(latest: &mut Vec<LatticeEdge>, ends: LatticeEdge, is_kept: bool) -> Result<(), AllocError> {
+    if is_kept {
+        latest.push(ends)?;
+    }
+    Ok(())
+}
+
 impl Worklist {
     /// No segment.
     pub fn new(alloc: Global) -> Self
@@ -35,6 +45,7 @@ impl Worklist {
         Worklist {
             counts: HashMap::new(alloc),
             latest: Vec::new(alloc),
+            keeps_order: true,
         }
     }
 
@@ -46,7 +57,16 @@ impl Worklist {
         Worklist {
             counts,
             latest: Vec::new(alloc),
+            keeps_order: true,
         }
+    }
+
+    /// From here on any segment is taken first: where none is, the order would only take memory.
+    pub fn forget_order(&mut self, alloc: Global)
+        ensures { self.new ≡ self.old }
+    {
+        self.latest = Vec::new(alloc);
+        self.keeps_order = false;
     }
 
     /// Takes a segment out, if there is one: the one that came last, though any order would do.
@@ -99,7 +119,7 @@ impl Worklist {
             self.counts.insert(s.0, count + s.1)?;
             return Ok(());
         }
-        self.latest.push(s.0)?;
+        note(&mut self.latest, s.0, self.keeps_order)?;
         Ok(())
     }
 

@@ -7,10 +7,10 @@ use Rattle.mesh_split.proofs.rounds.Rounds.new.Goals as goal
 
 pub returns : goal.returns
 returns c =
-    let s = c.in_ok-splitter.splitter in
-    let stands : (x : Edge) → Waits x s.todo → StandsIn x c.in_ok-fresh.fresh.items = λ x w. rw c.in_ok-fresh.ensures (stands_listed x s.todo w) in
+    let todo = c.forget_order.new.self in
+    let stands : (x : Edge) → Waits x todo → StandsIn x c.in_ok-fresh.fresh.items = λ x w. rw c.in_ok-fresh.ensures (stands_listed x todo w) in
     record {
-      pile = c.in_ok-splitter.ensures.pile;
+      pile = rw c.forget_order.ensures c.in_ok-splitter.ensures.pile;
       none_lives = c.in_ok-splitter.ensures.none_lives;
       bounded = rw c.new.ensures.items tt;
       listed = λ x w. inl (stands x w);

@@ -58,7 +58,7 @@ returns c =
     (subst (λ (ks : List Counted). IsNew ks c.insert.new.self.entries s) c.self.view_is
     (inserted_new s es c.insert.new.self.entries c.requires.forward c.self.invariant none entries))
 
-pub invariant_of-self-in_err-push : goal.invariant_of-self-in_err-push
-invariant_of-self-in_err-push c =
+pub invariant_of-self-in_err-note : goal.invariant_of-self-in_err-note
+invariant_of-self-in_err-note c =
     let es = c.self.inside.counts.entries in
     forward_put _ es _ c.requires.forward c.self.invariant (put_where_absent c.in_ok-count.field-0 _ _ c.in_default.is c.in_ok-count.ensures.entries)
