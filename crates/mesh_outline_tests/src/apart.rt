@@ -173,8 +173,9 @@ fn column(rt: HostRuntime) -> Result<(), Fail> {
     for step in [1, 7] {
         let mut source = Vec::new(alloc);
         for i in 0..300i32 {
-            let y = i * step % 300 * 20;
-            source.push(path(alloc, &[(0, y), (10, y), (10, y + 10), (0, y + 10)])?)?;
+            let y = (i.saturating_mul(step) % 300).saturating_mul(20);
+            let top = y.saturating_add(10);
+            source.push(path(alloc, &[(0, y), (10, y), (10, top), (0, top)])?)?;
         }
         let style = styled(3, JoinKind::Bevel);
         let options = IntOverlayOptions::new();

@@ -8,7 +8,7 @@ use Rattle.mesh_plane.specs.Plane.{Edge}
 use Rattle.mesh_lattice.specs.Split.{AreClear}
 use Rattle.mesh_split.specs.declared.groups.Search.{Search}
 use Rattle.mesh_split.specs.Private.BoundingBoxes.{are_beyond, is_beside, AreBounds}
-use Rattle.mesh_split.specs.Private.Cells.{StandsIn}
+use Rattle.mesh_split.specs.Private.Cells.{KeepsThose, StandsIn}
 use Rattle.mesh_split.specs.Private.Groups.{Pair, noted_in, AreWithin, AreFound, GoesOn, Searches}
 use Rattle.mesh_split.proofs.Apart.{apart_clear}
 use Rattle.mesh_split.proofs.Listing.{listed_more}
@@ -235,3 +235,16 @@ one_beside x ys bounds s within t =
 -- segments within bounds that lie beside each other
 pub all_beside : (xs ys : List Edge) (a b : Edge) (old new : Search) → GoesOn old new → AreWithin a xs → AreWithin b ys → is_beside a b ≡ true → Searches xs ys old new
 all_beside xs ys a b old new g h k t = searches_clear xs ys old new g (λ x y l m. beside_clear a b x y (h x l) (k y m) t)
+
+-- of the second list those may be left out that lie beside bounds of the first
+pub searches_near : (xs ys near : List Edge) (bounds : Edge) (a b c d : Search) → AreWithin bounds xs → KeepsThose (λ (y : Edge). is_beside bounds y ≡ false) ys near
+    → GoesOn a b → Searches xs near b c → GoesOn c d → Searches xs ys a d
+searches_near xs ys near bounds a b c d within keeps g s h = record {
+  goes = goes_further a b d g (goes_further b c d s.goes h);
+  found = λ over x y l m. by x y l m (is_beside bounds y) refl over;
+}
+  where
+    by : (x y : Edge) → StandsIn x xs → StandsIn y ys → (e : Bool) → is_beside bounds y ≡ e → d.is_over ≡ false
+        → AreClear x y ⊎ (StandsIn x (noted_in d.pairs.items) × StandsIn y (noted_in d.pairs.items))
+    by x y l m true e over = inl (apart_clear bounds x y (within x l) e)
+    by x y l m false e over = ⊎_elim (λ k. inl k) (λ k. inr (h.kept x k.0, h.kept y k.1)) (s.found (h.over over) x y l (keeps y e m))

@@ -1,5 +1,5 @@
 -- Lemmas over lists: what is kept from one round to the next.
-use Rattle.std.proofs.Common.{◌≡◌, ◌⊎◌, inl, inr, ⊎_elim, ℕ, zero, suc, ◌+◌, ◌<◌, ◌≤◌, true, false, sym, ◌∙◌, ap, subst, refl, arith, List, [], ◌∷◌, ◌++◌, length, take, get_or}
+use Rattle.std.proofs.Common.{◌≡◌, ◌⊎◌, inl, inr, ⊎_elim, ℕ, zero, suc, ◌+◌, ◌<◌, ◌≤◌, Bool, true, false, sym, ◌∙◌, ap, subst, refl, arith, List, [], ◌∷◌, ◌++◌, length, take, get_or}
 use Rattle.std.specs.Prelude.{pos, ◌≤ℤ◌, ◌<ℤ◌}
 use Rattle.std.specs.List.Sorted.{IsPermutation}
 use Rattle.std.proofs.lemmas.Bool.{cases_Bool}
@@ -295,3 +295,8 @@ rounds_settled given splits todo live fresh none end pile clear = record {
           reached = record { legal = r.legal; count = record { counts = λ e. omega (arith, linear, r.count.counts e); once = λ e. omega (arith, linear, r.count.once e) } };
           light = omega (arith, linear, q.light);
         }
+
+-- what waits after one more split, where pieces are listed
+pub grows_on : (lists : Bool) (first old new : List Counted) (es fs : List Edge) → (lists ≡ true → Grows first old es) → (lists ≡ true → Grows old new fs) → Keeps es fs
+    → lists ≡ true → Grows first new fs
+grows_on lists first old new es fs g h keeps t x w = ⊎_elim (λ v. ⊎_elim (λ u. inl u) (λ l. inr (keeps x l)) (g t x v)) (λ l. inr l) (h t x w)

@@ -1,10 +1,10 @@
 //! Segments in groups of near ones, each group with a box that holds it, so that all pairs that meet are found.
 
-ghost use Rattle.std.specs.Prelude.{◌≡◌, true, [], ◌∷◌, ◌++◌, pos, ◌<ℤ◌, IfOk, OnOk, MatchOption};
+ghost use Rattle.std.specs.Prelude.{◌≡◌, true, false, [], ◌∷◌, ◌++◌, pos, ◌<ℤ◌, IfOk, OnOk, MatchOption};
 ghost use Rattle.mesh_plane.specs.Plane.{Edge, turn};
 ghost use Rattle.mesh_lattice.specs.Split.{AreClear, Meets};
-ghost use Rattle.mesh_split.specs.Private.BoundingBoxes.{AreBounds};
-ghost use Rattle.mesh_split.specs.Private.Cells.{StandsIn};
+ghost use Rattle.mesh_split.specs.Private.BoundingBoxes.{is_beside, AreBounds};
+ghost use Rattle.mesh_split.specs.Private.Cells.{KeepsThose, StandsIn};
 ghost use Rattle.mesh_split.specs.Private.Groups.{
   edges_in,
   noted_in,
@@ -22,6 +22,7 @@ use crate::worklist::Worklist;
 use mesh_lattice::exact::{is_end, meeting, turn};
 use mesh_lattice::lattice::{LatticeEdge, LatticePoint};
 use std::alloc::{AllocError, Global};
+use std::mem::replace;
 
 /// So many tests more may be made for each pair that is found.
 const TESTS_A_PAIR: usize = 32;
@@ -46,6 +47,9 @@ pub struct Search {
     left: usize,
     /// Whether more would have been made. Then pairs may be left out.
     pub is_over: bool,
+    /// Room for those of few segments that are near others.
+    near: Vec<LatticeEdge>,
+    alloc: Global,
 }
 
 /// The box that holds two boxes.
@@ -98,6 +102,23 @@ fn meeting_of(x: LatticeEdge, y: LatticeEdge) -> Option<LatticePoint>
     meeting(x, y)
 }
 
+/// Those of some segments that do not lie beside a box.
+fn keep_near(
+    edges: &[LatticeEdge],
+    bounds: BoundingBox,
+    near: &mut Vec<LatticeEdge>,
+) -> Result<(), AllocError>
+    ensures { OnOk result (KeepsThose (λ x. is_beside bounds x ≡ false) edges.now near.new.items) }
+{
+    near.clear();
+    for e in edges {
+        if !is_beside(bounds, *e) {
+            near.push(*e)?;
+        }
+    }
+    Ok(())
+}
+
 impl Search {
     /// No pair, and so many tests may be made.
     pub fn new(alloc: Global, most: usize) -> Self
@@ -107,6 +128,8 @@ impl Search {
             pairs: Vec::new(alloc),
             left: most,
             is_over: false,
+            near: Vec::new(alloc),
+            alloc,
         }
     }
 
@@ -148,7 +171,7 @@ impl Search {
     }
 
     /// Notes the pairs that meet of few segments and others, which these bounds hold.
-    fn find_between(
+    fn find_near(
         &mut self,
         xs: &[LatticeEdge],
         ys: &[LatticeEdge],
@@ -162,6 +185,24 @@ impl Search {
                 self.find_of(*x, ys)?;
             }
         }
+        Ok(())
+    }
+
+    /// The same where bounds hold the first. Of the others those are left out that lie beside these, and of the first
+    /// those that lie beside the box of what is left.
+    fn find_between(
+        &mut self,
+        xs: &[LatticeEdge],
+        ys: &[LatticeEdge],
+        bounds: BoundingBox,
+    ) -> Result<(), AllocError>
+        requires { AreWithin bounds xs.now }
+        ensures { OnOk result (Searches xs.now ys.now self.old self.new) }
+    {
+        let mut near = replace(&mut self.near, Vec::new(self.alloc));
+        keep_near(ys, bounds, &mut near)?;
+        self.find_near(xs, &near, box_of(&near))?;
+        self.near = near;
         Ok(())
     }
 
@@ -285,7 +326,7 @@ impl Group {
             return Ok(());
         }
         match self {
-            Group::Few(ys, bounds_of_ys) => search.find_between(xs, ys, *bounds_of_ys),
+            Group::Few(ys, _) => search.find_between(xs, ys, bounds),
             Group::Halves(low, high, _) => {
                 low.find_few(xs, bounds, search)?;
                 high.find_few(xs, bounds, search)

@@ -1,8 +1,8 @@
 //! The splitting: directed edges are split, one legal split at a time, until any two segments share only common ends.
 //!
 //! `splitter` has the public calls; their contract is in `mesh_lattice/specs/Splitting.antt`. It splits in `rounds` where
-//! these serve: `groups` have near segments, by which all pairs that meet are found at once, and `pieces` what the
-//! segments of a round have become.
+//! these serve: `groups` have near segments, by which all pairs that meet are found at once, `curve` the order by
+//! which these are told, and `pieces` what the segments of a round have become.
 //! Else the segments are split one by one, in two passes, of which the second is in `splitter`. `first_pass` splits
 //! before it, in other orders where a run seems to begin: `leash` holds splits back that would lead far away, and says
 //! in which order these are split anew, and `hints` have that order. `worklist` and `store` have the segments that wait
@@ -15,6 +15,7 @@
 
 mod bounding;
 pub mod count;
+mod curve;
 mod first_pass;
 mod groups;
 mod hints;

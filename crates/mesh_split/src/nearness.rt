@@ -32,6 +32,12 @@ pub fn distance(e: LatticeEdge, c: LatticePoint) -> u64
     (beside * 64).div_ceil(extent(e).max(1)) as u64
 }
 
+/// Whether a point in the box of an edge lies farther from it than so many grid units.
+pub fn is_farther(e: LatticeEdge, c: LatticePoint, most: u64) -> bool {
+    let area = (extent(e) as u64).saturating_mul(most);
+    (area as u128) < turn(e.0, e.1, c).unsigned_abs()
+}
+
 /// The greatest distance of a split point from the given edge that its segment comes from, in 64ths of a grid unit,
 /// rounded up: at most 2^38, since coordinates differ by less than 2^32.
 pub fn nearness(alloc: Global, log: &SplitLog) -> Result<u64, AllocError>

@@ -7,7 +7,7 @@ ghost use Rattle.mesh_split.specs.Private.Growth.{Waits};
 
 use crate::groups::Pair;
 use crate::hints::Meeting;
-use crate::nearness::distance;
+use crate::nearness::is_farther;
 use crate::witnesses::forward;
 use crate::worklist::Worklist;
 use mesh_lattice::exact::{is_end, meeting, minus};
@@ -15,8 +15,8 @@ use mesh_lattice::lattice::{LatticeEdge, LatticePoint};
 use std::alloc::{AllocError, Global};
 use std::collections::HashMap;
 
-/// So far a split point may lie from the segment of the round whose piece is split, in 64ths of a grid unit.
-const REACH: u64 = 512;
+/// So far a split point may lie from the segment of the round whose piece is split, in grid units.
+const REACH: u64 = 8;
 
 /// Two pieces that meet, each at its place in a path, and where.
 #[derive(Copy, Clone)]
@@ -126,7 +126,7 @@ impl Paths {
 
     /// Notes that a piece of a segment is split.
     fn cut(&mut self, e: LatticeEdge, place: usize, c: LatticePoint) -> Result<(), AllocError> {
-        if distance(e, c) > REACH {
+        if is_farther(e, c, REACH) {
             self.has_strayed = true;
         }
         if let Some(points) = self.points.get_mut(&e) {

@@ -27,6 +27,7 @@ ghost use Rattle.mesh_split.specs.Private.Steps.{IsPile, IsSettled, KeepsPile, t
 
 use crate::bounding::{bounding_box, is_beside};
 use crate::count::{SplitCount, SplitError};
+use crate::curve::{follow_each_other, place};
 use crate::first_pass::pieces;
 use crate::groups::{Group, Pair, Search};
 use crate::leash::is_delicate;
@@ -58,7 +59,7 @@ const PART: usize = 8;
 const FEW_PAIRS: usize = 64;
 
 /// A group of more segments is halved.
-const MOST_OF_A_GROUP: usize = 12;
+const MOST_OF_A_GROUP: usize = 20;
 
 /// Where so many times as many segments wait, few are fresh: they may lie far from each other, and then a box that
 /// holds several of them reaches much, so each is held alone. And where there are so few pieces, groups are pruned about
@@ -126,27 +127,6 @@ fn serve(alloc: Global, edges: &[LatticeEdge]) -> Result<bool, AllocError> {
     Ok(tests <= most)
 }
 
-/// The bits of a number, with a 0 before each.
-fn spread(n: u32) -> u64 {
-    let n = n as u64;
-    let n = (n | (n << 16)) & 0x0000_FFFF_0000_FFFF;
-    let n = (n | (n << 8)) & 0x00FF_00FF_00FF_00FF;
-    let n = (n | (n << 4)) & 0x0F0F_0F0F_0F0F_0F0F;
-    let n = (n | (n << 2)) & 0x3333_3333_3333_3333;
-    (n | (n << 1)) & 0x5555_5555_5555_5555
-}
-
-/// The middle of two coordinates, from 0 on.
-fn middle(a: i32, b: i32) -> u32 {
-    let sum = a as i64 + b as i64;
-    (sum / 2 + 0x8000_0000) as u32
-}
-
-/// Where a segment's middle lies on a curve that fills the plane: near places have near numbers, mostly.
-fn place(e: LatticeEdge) -> u64 {
-    spread(middle(e.0.0, e.1.0)) | (spread(middle(e.0.1, e.1.1)) << 1)
-}
-
 /// Segments with their places.
 fn placed(alloc: Global, edges: &[LatticeEdge]) -> Result<Vec<(u64, LatticeEdge)>, AllocError>
     ensures { IfOk result (λ v. Keeps edges.now (keyed_edges v.items)) }
@@ -179,12 +159,16 @@ fn distinct(alloc: Global, placed: &[(u64, LatticeEdge)]) -> Result<Vec<LatticeE
     Ok(edges)
 }
 
-/// Segments in their order along the curve, each once.
+/// Segments in an order in which near ones follow each other, mostly: as they stand where they do so as those of contours,
+/// else along a curve that fills the plane, each once where those that are the same follow each other there.
 fn arranged(alloc: Global, edges: &[LatticeEdge]) -> Result<Vec<LatticeEdge>, AllocError>
     ensures { IfOk result (λ v. Keeps edges.now v.items) }
 {
+    if follow_each_other(edges) {
+        return Vec::from_slice(alloc, edges);
+    }
     let mut placed = placed(alloc, edges)?;
-    placed.sort_unstable();
+    placed.sort_unstable_by_key(|k| k.0);
     distinct(alloc, &placed)
 }
 
@@ -285,11 +269,12 @@ fn are_delicate(pairs: &[Pair]) -> bool {
     pairs.len() / PART < delicate
 }
 
-/// Splits what a pair has become where that meets, and lists the pieces.
+/// Splits what a pair has become where that meets, and lists the pieces where they are wanted.
 fn split_pair(
     splitter: &mut Splitter,
     paths: &mut Paths,
     pair: Pair,
+    lists: bool,
     born: &mut Vec<LatticeEdge>,
 ) -> Result<(), AllocError>
     requires none_lives { splitter.old.live ≡ [] }
@@ -297,7 +282,7 @@ fn split_pair(
     ensures kept { OnOk result (KeepsPile splitter.old.log splitter.old.todo splitter.old.live
         splitter.new.log splitter.new.todo splitter.new.live) }
     ensures none_lives { OnOk result (splitter.new.live ≡ []) }
-    ensures grows { OnOk result (Grows splitter.old.todo splitter.new.todo born.new.items) }
+    ensures grows { OnOk result (lists ≡ true → Grows splitter.old.todo splitter.new.todo born.new.items) }
     ensures listed { OnOk result (Keeps born.old.items born.new.items) }
 {
     let Some(found) = paths.find(&splitter.todo, pair) else {
@@ -305,6 +290,9 @@ fn split_pair(
     };
     splitter.split_waiting(found.first, found.meeting)?;
     paths.note(pair, found)?;
+    if !lists {
+        return Ok(());
+    }
     let pieces = pieces(found.first, found.meeting);
     born.push(pieces[0])?;
     born.push(pieces[1])?;
@@ -313,26 +301,28 @@ fn split_pair(
     Ok(())
 }
 
-/// Splits all pairs, and lists the pieces. Answers none where that led far away.
+/// Splits all pairs, and lists the pieces where they are wanted. Answers none where that led far away.
 fn split_pairs(
     alloc: Global,
     edges: &[LatticeEdge],
     splitter: &mut Splitter,
     pairs: &[Pair],
+    lists: bool,
     count: &mut SplitCount,
 ) -> Result<Option<Vec<LatticeEdge>>, SplitError>
     requires pile { IsPile edges.now splitter.old.log splitter.old.todo splitter.old.live }
     requires none_lives { splitter.old.live ≡ [] }
     ensures pile { OnOk result (IsPile edges.now splitter.new.log splitter.new.todo splitter.new.live) }
     ensures none_lives { OnOk result (splitter.new.live ≡ []) }
-    ensures grows { IfOk result (λ o. IfSome o (λ born. Grows splitter.old.todo splitter.new.todo born.items)) }
+    ensures grows { IfOk result (λ o. IfSome o (λ born. lists ≡ true
+        → Grows splitter.old.todo splitter.new.todo born.items)) }
     ensures counted { CountsSplits edges.now count.old count.new }
     ensures refused { IfErr result (λ e. IsReason e count.new) }
 {
     let mut paths = Paths::new(alloc);
     let mut born = Vec::new(alloc);
     for pair in pairs {
-        split_pair(splitter, &mut paths, *pair, &mut born)?;
+        split_pair(splitter, &mut paths, *pair, lists, &mut born)?;
         count.check(&splitter.log)?;
         if paths.has_strayed {
             return Ok(None);
@@ -414,17 +404,30 @@ impl Rounds {
         Ok(Some(Held { group, pairs }))
     }
 
+    /// Whether only some segments are fresh in the next round. Where there are many pairs and no group yet, nearly all
+    /// are, and the others are so too from there on.
+    fn keeps_some(&self, held: &Held) -> bool {
+        self.groups.len() > 0 || held.pairs.len() < self.fresh.len()
+    }
+
     /// Adds a group to those that were held against each other; the pieces are fresh, and what else waits of the pairs.
-    /// Where there are many pairs and no group yet, nearly all segments are fresh, and the others are so too from here on.
-    fn close(&mut self, alloc: Global, held: Held, born: &[LatticeEdge]) -> Result<(), AllocError>
+    /// Where it is not wanted that some are kept, all segments are fresh.
+    fn close(
+        &mut self,
+        alloc: Global,
+        held: Held,
+        keeps_some: bool,
+        born: &[LatticeEdge],
+    ) -> Result<(), AllocError>
         ensures round { OnOk result ((old : Rounds) → (given : List Edge) → IsRound given old → IsHeld old held
             → IsPile given self.old.splitter.log self.old.splitter.todo self.old.splitter.live
             → self.old.splitter.live ≡ [] → self.old.groups ≡ old.groups
-            → Grows old.splitter.todo self.old.splitter.todo born.now → IsRound given self.new) }
+            → (keeps_some ≡ true → Grows old.splitter.todo self.old.splitter.todo born.now)
+            → IsRound given self.new) }
         ensures log { self.new.splitter.log ≡ self.old.splitter.log }
     {
         self.most_pairs = (held.pairs.len() / PART).max(FEW_PAIRS);
-        if self.groups.len() == 0 && self.fresh.len() <= held.pairs.len() {
+        if !keeps_some {
             self.fresh = self.splitter.todo.ends(alloc)?;
             self.groups = Vec::new(alloc);
             return Ok(());
@@ -469,10 +472,12 @@ impl Rounds {
         let Some(held) = self.hold(alloc)? else {
             return Ok(false);
         };
-        let Some(born) = split_pairs(alloc, edges, &mut self.splitter, &held.pairs, count)? else {
+        let some = self.keeps_some(&held);
+        let Some(born) = split_pairs(alloc, edges, &mut self.splitter, &held.pairs, some, count)?
+        else {
             return Ok(false);
         };
-        self.close(alloc, held, &born)?;
+        self.close(alloc, held, some, &born)?;
         self.prune(alloc, &born)?;
         Ok(true)
     }

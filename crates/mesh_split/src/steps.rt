@@ -54,15 +54,15 @@ fn backwards(s: CountedSegment) -> CountedSegment
 }
 
 impl Splitter {
-    /// No segment, to split the given edges.
-    fn new(alloc: Global, edges: &[LatticeEdge]) -> Result<Self, AllocError>
+    /// No segment, with a plane for the given edges, and room for so many that wait.
+    fn new(alloc: Global, edges: &[LatticeEdge], capacity: usize) -> Result<Self, AllocError>
         ensures todo { IfOk result (λ s. s.todo ≡ []) }
         ensures live { IfOk result (λ s. s.live ≡ []) }
         ensures log { IfOk result (λ s. s.log ≡ []) }
     {
         let live = Store::new(alloc, edges)?;
         Ok(Splitter {
-            todo: Worklist::new(alloc),
+            todo: Worklist::with_capacity(alloc, capacity)?,
             live,
             log: SplitLog::new(alloc),
         })
@@ -151,7 +151,7 @@ impl Splitter {
         ensures clear { IfOk result (λ s. AllClear s.live) }
         ensures none_lives { IfOk result (λ s. s.live ≡ []) }
     {
-        let mut splitter = Splitter::new(alloc, others)?;
+        let mut splitter = Splitter::new(alloc, others, edges.len())?;
         for e in edges {
             splitter.put(single(*e))?;
         }

@@ -92,6 +92,9 @@ impl Tally {
         ensures ok { IfOk result (λ b. AddsIf b self.old self.new s) }
         ensures err { OnErr result (self.new ≡ self.old) }
     {
+        if self.counts.is_empty() {
+            return Ok(false);
+        }
         if let Some(count) = self.counts.get(&s.0) {
             let sum = *count + s.1;
             self.counts.insert(s.0, sum)?;

@@ -38,15 +38,15 @@ fn note(latest: &mut Vec<LatticeEdge>, ends: LatticeEdge, is_kept: bool) -> Resu
 }
 
 impl Worklist {
-    /// No segment.
-    pub fn new(alloc: Global) -> Self
-        ensures { result ≡ [] }
+    /// No segment, and room for so many.
+    pub fn with_capacity(alloc: Global, capacity: usize) -> Result<Self, AllocError>
+        ensures { IfOk result (λ w. w ≡ []) }
     {
-        Worklist {
-            counts: HashMap::new(alloc),
+        Ok(Worklist {
+            counts: HashMap::with_capacity(alloc, capacity)?,
             latest: Vec::new(alloc),
             keeps_order: true,
-        }
+        })
     }
 
     /// Segments by their ends, the lesser end first. Any of them is taken first.

@@ -5,7 +5,7 @@ use Rattle.mesh_split.proofs.rounds.split_pair.Goals as goal
 pub returns-clause-grows : goal.returns-clause-grows
 returns-clause-grows c =
     rw (c.in_ok-push-4.ensures.items, c.in_ok-push-3.ensures.items, c.in_ok-push-2.ensures.items, c.in_ok-push.ensures.items, c.pieces-pieces.ensures)
-    (λ x w. ⊎_elim (λ l. inl l) (λ l. inr (keeps_four c.args.born.now.items _ _ _ _ x l)) (c.in_ok-split_waiting.ensures.grows x w))
+    (λ _ x w. ⊎_elim (λ l. inl l) (λ l. inr (keeps_four c.args.born.now.items _ _ _ _ x l)) (c.in_ok-split_waiting.ensures.grows x w))
 
 pub returns-clause-listed : goal.returns-clause-listed
 returns-clause-listed c =

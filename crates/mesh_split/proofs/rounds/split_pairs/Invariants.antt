@@ -1,4 +1,4 @@
-use Rattle.std.proofs.Common.{◌≡◌, []}
+use Rattle.std.proofs.Common.{◌≡◌, true, []}
 use Rattle.mesh_split.specs.Counting.{CountsSplits}
 use Rattle.mesh_split.specs.Private.Growth.{Grows}
 use Rattle.mesh_split.specs.Private.Steps.{IsPile}
@@ -9,5 +9,5 @@ invariant-loop-pair l = record {
   counted : CountsSplits l.fn.edges l.fn.count l.count;
   pile : IsPile l.fn.edges l.splitter.log l.splitter.todo l.splitter.live;
   none_lives : l.splitter.live ≡ [];
-  grows : Grows l.initial.splitter.todo l.splitter.todo l.born.items;
+  grows : l.lists ≡ true → Grows l.initial.splitter.todo l.splitter.todo l.born.items;
 }

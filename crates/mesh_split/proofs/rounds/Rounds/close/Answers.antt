@@ -18,12 +18,12 @@ returns-clause-round c = λ old given r h p none same g.
       listed =
           rw (c.in_ok-add_group.ensures, same)
           (next_listed old.splitter.todo todo old.fresh.items (edges_in c.args.held.group) c.args.born.now c.in_ok-self-2.field-0.items old.groups.items c.args.held.group r.listed h.keeps
-          (λ x l w. l) g c.in_ok-self-2.ensures.born);
-      clear = next_clear old.splitter.todo todo (noted_in c.args.held.pairs.items) c.args.born.now c.in_ok-self-2.field-0.items h.clear g c.in_ok-self-2.ensures.born noted;
+          (λ x l w. l) (g c.if-not-keeps_some.false) c.in_ok-self-2.ensures.born);
+      clear = next_clear old.splitter.todo todo (noted_in c.args.held.pairs.items) c.args.born.now c.in_ok-self-2.field-0.items h.clear (g c.if-not-keeps_some.false) c.in_ok-self-2.ensures.born noted;
     }
 
-pub returns-then-len-clause-round : goal.returns-then-len-clause-round
-returns-then-len-clause-round c = λ old given r h p none same g.
+pub returns-then-not-keeps_some-clause-round : goal.returns-then-not-keeps_some-clause-round
+returns-then-not-keeps_some-clause-round c = λ old given r h p none same g.
     let todo = c.args.self.now.splitter.todo in
     let stands : (x : Edge) → Waits x todo → StandsIn x c.in_ok-self.field-0.items = λ x w. rw c.in_ok-self.ensures (stands_listed x todo w) in
     record {
