@@ -93,7 +93,8 @@ fn is_far(e: LatticeEdge, f: LatticeEdge) -> bool {
     length.saturating_mul(FAR) < steps(e.0, f.0)
 }
 
-/// Whether few segments are far from the one before, as where contours go on and on.
+/// Whether few segments are far from the one before, as where contours go on and on. Any two contours may be held against
+/// each other where they stand in no order, so where there are many, segments don't follow each other.
 pub fn follow_each_other(edges: &[LatticeEdge]) -> bool {
     let Some((first, others)) = edges.split_first() else {
         return true;
@@ -106,5 +107,5 @@ pub fn follow_each_other(edges: &[LatticeEdge]) -> bool {
         }
         before = *e;
     }
-    jumps.saturating_mul(SEGMENTS_A_JUMP) < edges.len()
+    jumps.saturating_mul(jumps.max(SEGMENTS_A_JUMP)) < edges.len()
 }
