@@ -40,8 +40,16 @@ use mesh_lattice::samples::sample;
 use std::alloc::{AllocError, Global};
 use std::mem::replace;
 
-/// No more rounds are made.
-const MOST_ROUNDS: usize = 10;
+/// After so many rounds all is begun anew, once, and pairs are split in another order: where pairs are left then, a run of
+/// splits goes on, and few runs are met in both orders.
+const ROUNDS: usize = 12;
+
+/// The rounds in both orders, and the turn after the last.
+const MOST_TURNS: usize = 2 * ROUNDS + 1;
+
+/// In the other order each pair stands so many after the one before, from the first on again where there are no more. A
+/// prime, so that each has its turn, unless there are as many.
+const STRIDE: usize = 1_000_003;
 
 /// So many tests are made for each fresh segment, at most, and more for pairs that are found.
 const TESTS: usize = 60;
@@ -91,6 +99,8 @@ pub struct Rounds {
     pub fresh: Vec<LatticeEdge>,
     /// So many pairs the next round may find.
     most_pairs: usize,
+    /// Whether pairs are split in the other order.
+    is_scattered: bool,
 }
 
 /// The fresh segments of a round in a group, and the pairs that meet.
@@ -301,12 +311,21 @@ fn split_pair(
     Ok(())
 }
 
+/// The pair whose turn it is. One that has none is found again in the next round.
+fn pair_at(pairs: &[Pair], turn: usize, is_scattered: bool) -> Option<Pair> {
+    let scattered = turn.wrapping_mul(STRIDE) % pairs.len().max(1);
+    pairs
+        .get(if is_scattered { scattered } else { turn })
+        .copied()
+}
+
 /// Splits all pairs, and lists the pieces where they are wanted. Answers none where that led far away.
 fn split_pairs(
     alloc: Global,
     edges: &[LatticeEdge],
     splitter: &mut Splitter,
     pairs: &[Pair],
+    is_scattered: bool,
     lists: bool,
     count: &mut SplitCount,
 ) -> Result<Option<Vec<LatticeEdge>>, SplitError>
@@ -321,8 +340,11 @@ fn split_pairs(
 {
     let mut paths = Paths::new(alloc);
     let mut born = Vec::new(alloc);
-    for pair in pairs {
-        split_pair(splitter, &mut paths, *pair, lists, &mut born)?;
+    for turn in 0..pairs.len() {
+        let Some(pair) = pair_at(pairs, turn, is_scattered) else {
+            return Ok(Some(born));
+        };
+        split_pair(splitter, &mut paths, pair, lists, &mut born)?;
         count.check(&splitter.log)?;
         if paths.has_strayed {
             return Ok(None);
@@ -351,7 +373,7 @@ fn fresh(
 
 impl Rounds {
     /// All segments are fresh.
-    fn new(alloc: Global, edges: &[LatticeEdge]) -> Result<Self, AllocError>
+    fn new(alloc: Global, edges: &[LatticeEdge], is_scattered: bool) -> Result<Self, AllocError>
         requires { IsProper edges.now }
         ensures { IfOk result (λ r. IsRound edges.now r) }
     {
@@ -363,6 +385,7 @@ impl Rounds {
             groups: Vec::new(alloc),
             fresh,
             most_pairs: usize::MAX,
+            is_scattered,
         })
     }
 
@@ -455,6 +478,29 @@ impl Rounds {
         Ok(())
     }
 
+    /// Begins anew, in the other order, where so many rounds were made.
+    fn restart(
+        &mut self,
+        alloc: Global,
+        edges: &[LatticeEdge],
+        turn: usize,
+        count: &mut SplitCount,
+    ) -> Result<(), SplitError>
+        requires proper { IsProper edges.now }
+        requires round { IsRound edges.now self.old }
+        ensures round { OnOk result (IsRound edges.now self.new) }
+        ensures counted { (before : SplitCount) → CountsSplits edges.now before count.old
+            → CountsSplits edges.now before count.new }
+        ensures refused { IfErr result (λ e. IsReason e count.new) }
+    {
+        if turn != ROUNDS {
+            return Ok(());
+        }
+        count.add(&self.splitter.log)?;
+        *self = Rounds::new(alloc, edges, true)?;
+        Ok(())
+    }
+
     /// Makes a round. Answers whether others may follow.
     fn go_on(
         &mut self,
@@ -473,7 +519,9 @@ impl Rounds {
             return Ok(false);
         };
         let some = self.keeps_some(&held);
-        let Some(born) = split_pairs(alloc, edges, &mut self.splitter, &held.pairs, some, count)?
+        let scattered = self.is_scattered;
+        let splitter = &mut self.splitter;
+        let Some(born) = split_pairs(alloc, edges, splitter, &held.pairs, scattered, some, count)?
         else {
             return Ok(false);
         };
@@ -496,9 +544,9 @@ pub fn split_in_rounds(
     ensures within { IfOk result (λ o. IfSome o (λ s. IsWithinLimit count.new)) }
     ensures refused { IfErr result (λ e. IsReason e count.new) }
 {
-    let mut rounds = Rounds::new(alloc, edges)?;
-    let most = if serve(alloc, edges)? { MOST_ROUNDS } else { 0 };
-    for _round in 0..most {
+    let mut rounds = Rounds::new(alloc, edges, false)?;
+    let most = if serve(alloc, edges)? { MOST_TURNS } else { 0 };
+    for turn in 0..most {
         let fresh: &[LatticeEdge] = &rounds.fresh;
         if fresh.len() == 0 {
             count.add(&rounds.splitter.log)?;
@@ -506,6 +554,7 @@ pub fn split_in_rounds(
             let settled = rounds.splitter.into_settled(alloc)?;
             return Ok(Some(settled));
         }
+        rounds.restart(alloc, edges, turn, count)?;
         if !rounds.go_on(alloc, edges, count)? {
             count.add(&rounds.splitter.log)?;
             return Ok(None);

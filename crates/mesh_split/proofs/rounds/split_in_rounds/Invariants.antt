@@ -2,5 +2,5 @@ use Rattle.mesh_split.specs.Counting.{CountsSplits}
 use Rattle.mesh_split.specs.Private.Rounds.{IsRound}
 use Rattle.mesh_split.proofs.rounds.split_in_rounds.Given as goal
 
-abbrev pub invariant-loop-round : goal.invariant-loop-round
-invariant-loop-round l = record { counted : CountsSplits l.fn.edges l.fn.count l.count; round : IsRound l.fn.edges l.rounds }
+abbrev pub invariant-loop-turn : goal.invariant-loop-turn
+invariant-loop-turn l = record { counted : CountsSplits l.fn.edges l.fn.count l.count; round : IsRound l.fn.edges l.rounds }

@@ -5,13 +5,13 @@ use Rattle.mesh_split.proofs.rounds.split_pairs.Goals as goal
 
 pub returns-in_err-check-clause-counted : goal.returns-in_err-check-clause-counted
 returns-in_err-check-clause-counted c =
-    counts_both c.args.edges.now c.args.count.now c.loop-pair.count c.check.new.self c.loop-pair.invariant.counted
-    (c.in_err-check.ensures.counted c.args.edges.now (c.in_ok-split_pair.ensures.kept c.args.edges.now c.loop-pair.invariant.pile).reached.legal)
+    counts_both c.args.edges.now c.args.count.now c.loop-turn.count c.check.new.self c.loop-turn.invariant.counted
+    (c.in_err-check.ensures.counted c.args.edges.now (c.in_ok-split_pair.ensures.kept c.args.edges.now c.loop-turn.invariant.pile).reached.legal)
 
-pub loop-pair-preserved : goal.loop-pair-preserved
-loop-pair-preserved c = record {
+pub loop-turn-preserved : goal.loop-turn-preserved
+loop-turn-preserved c = record {
   counted = search rules;
   pile = search rules;
   none_lives = search rules;
-  grows = grows_on c.args.lists _ _ _ _ _ c.loop-pair.invariant.grows c.in_ok-split_pair.ensures.grows c.in_ok-split_pair.ensures.listed;
+  grows = grows_on c.args.lists _ _ _ _ _ c.loop-turn.invariant.grows c.in_ok-split_pair.ensures.grows c.in_ok-split_pair.ensures.listed;
 }

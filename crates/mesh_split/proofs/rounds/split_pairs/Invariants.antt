@@ -4,8 +4,8 @@ use Rattle.mesh_split.specs.Private.Growth.{Grows}
 use Rattle.mesh_split.specs.Private.Steps.{IsPile}
 use Rattle.mesh_split.proofs.rounds.split_pairs.Given as goal
 
-abbrev pub invariant-loop-pair : goal.invariant-loop-pair
-invariant-loop-pair l = record {
+abbrev pub invariant-loop-turn : goal.invariant-loop-turn
+invariant-loop-turn l = record {
   counted : CountsSplits l.fn.edges l.fn.count l.count;
   pile : IsPile l.fn.edges l.splitter.log l.splitter.todo l.splitter.live;
   none_lives : l.splitter.live ≡ [];
