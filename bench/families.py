@@ -1,7 +1,7 @@
 #!/usr/bin/env python3
 """Prints a request of `mesh_run` for the outline of contours with about N vertices in all, the same in each run.
 
-    bench/families.py FAMILY N [--offset small|large] [--stroke] [--seed S] [--out shapes|edges] > request.json
+    bench/families.py FAMILY N [--offset small|large] [--stroke] [--seed S] [--shuffled] [--out shapes|edges]
 
 The drawings of a family look alike for every N: they fill the same box with ever finer detail, and offsets are
 measured by that detail. So the number of crossings a vertex stays about the same, but for `walk` and `hatch`.
@@ -215,9 +215,11 @@ def within_box(value):
     return math.copysign(2 * RADIUS, value) - value
 
 
-def request(family, count, offset="small", seed=1, out="shapes"):
+def request(family, count, offset="small", seed=1, out="shapes", shuffled=False):
     """The request for the outline of a drawing of this family, with an offset by its name, as an object."""
     drawing = FAMILIES[family](max(LEAST_CONTOUR, count), random.Random(f"{family} {count} {seed}"))
+    if shuffled:
+        random.Random(f"order {seed}").shuffle(drawing.contours)
     distance = min(max(1, round(OFFSETS[offset] * drawing.spacing)), GREATEST_OFFSET)
     paths = [[[round(x), round(y)] for x, y in contour] for contour in drawing.contours]
     style = {"outer": distance, "inner": distance}
@@ -241,6 +243,7 @@ def main():
     parser.add_argument("--offset", choices=OFFSETS, default="small")
     parser.add_argument("--stroke", action="store_true", help="along the contours, in place of their outline")
     parser.add_argument("--seed", default="1")
+    parser.add_argument("--shuffled", action="store_true", help="the contours of an outline in random order")
     parser.add_argument("--out", choices=["shapes", "edges"], default="shapes")
     words = parser.parse_args()
     if words.family not in (STROKES if words.stroke else FAMILIES):
@@ -248,7 +251,7 @@ def main():
     if words.stroke:
         asked = stroke_request(words.family, words.count, words.seed, words.out)
     else:
-        asked = request(words.family, words.count, words.offset, words.seed, words.out)
+        asked = request(words.family, words.count, words.offset, words.seed, words.out, words.shuffled)
     print(json.dumps(asked, separators=(",", ":")))
 
 
