@@ -171,6 +171,19 @@ pub fn resolve_with_nearness(
     })
 }
 
+/// About how many contours edges come of: how often one does not start where that before it ends.
+fn parts_of(edges: &[LatticeEdge]) -> usize {
+    let mut parts: usize = 1;
+    let mut at = None;
+    for e in edges {
+        if at != Some(e.0) {
+            parts = parts.saturating_add(1);
+        }
+        at = Some(e.1);
+    }
+    parts
+}
+
 /// The shapes of what the segments fill that balanced edges were split into.
 fn shapes_of_segments(
     alloc: Global,
@@ -193,7 +206,7 @@ fn shapes_of_segments(
     ensures own_boundary { IfOk result (λ v. v.is_own_boundary ≡ true
         → AreOwnBoundary (flat_map boundary (contours_of (shapes_points v.shapes.items)))) }
 {
-    let parted = find_boundary(alloc, segments, fill)?;
+    let parted = find_boundary(alloc, segments, parts_of(edges), fill)?;
     let ordered = edges_by_start(parted);
     let closed = contours(alloc, &ordered)?;
     let (rings, (are_whole, are_lone)) = rings_of(alloc, closed, choices, &ordered)?;

@@ -165,7 +165,7 @@ fn level_at(
 
 impl Flood {
     /// Nothing is known yet of so many segments, whose ends have so many places.
-    fn unknown(alloc: Global, count: usize, places: usize) -> Result<Flood, AllocError>
+    pub fn unknown(alloc: Global, count: usize, places: usize) -> Result<Flood, AllocError>
         ensures { IfOk result (λ f. (es : List Edge) (ks : List Counted) → AreKnown es ks f.known.items) }
     {
         Ok(Flood {

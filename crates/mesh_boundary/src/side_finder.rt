@@ -1,6 +1,6 @@
 //! The ways to find the windings on both sides of each segment, and which of them serves.
 
-ghost use Rattle.std.specs.Prelude.{◌≡◌, ◌^◌, ◌<◌, length, slice_index_or, IfOk};
+ghost use Rattle.std.specs.Prelude.{◌≡◌, ◌^◌, ◌<◌, length, slice_index_or, IfOk, IfSome};
 ghost use Rattle.mesh_plane.specs.Bounds.{IsSmall};
 ghost use Rattle.mesh_plane.specs.Winding.{sum_of};
 ghost use Rattle.mesh_lattice.specs.Counted.{Counted, size, IsRoomy};
@@ -20,8 +20,8 @@ use mesh_lattice::rows::{Rows, SAMPLED, mean_reached};
 use mesh_lattice::samples::sample;
 use std::alloc::{AllocError, Global};
 
-/// For so few segments rows serve, however long they are.
-const FEW: usize = 64;
+/// For so few segments all are gone through for each, which is quicker than to list them.
+const FEW: usize = 24;
 
 /// The greatest number of segments that reach a level, on average, for which rows along a slant serve.
 const SHORT: usize = 12;
@@ -30,6 +30,13 @@ const SHORT: usize = 12;
 /// quicker where more do. They are held to it with what `Reached` says of all: so of more than some 6,000 segments,
 /// many of which run down, they are not taken for being short.
 const SHORT_TO_THE_EAST: usize = 5;
+
+/// For so few contours the flood serves in any case, unless many segments end at a point: it wants one sum for each part
+/// that hangs together.
+const FEW_PARTS: usize = 16;
+
+/// The greatest number of ends at a point, on average, for which it does.
+const SMALL_STARS: usize = 8;
 
 /// A finder to find the sides of segments.
 #[derive(Drop)]
@@ -111,14 +118,37 @@ fn slanted_sides(segments: &[CountedSegment], rows: &SlantedRows, i: usize) -> S
     sides_by(rows.slant.winding(rows.row(at), middle(s.0), at), s)
 }
 
+/// The flood, where segments hang together and few end at a point.
+fn flooded(alloc: Global, segments: &[CountedSegment]) -> Result<Option<SideFinder>, AllocError>
+    requires { IsRoomy (sum_of size segments.now) }
+    ensures { IfOk result (λ o. IfSome o (λ w. Serves w segments.now)) }
+{
+    let Some(stars) = Stars::new(alloc, segments)? else {
+        return Ok(None);
+    };
+    if mean_star(alloc, &stars)? > SMALL_STARS {
+        return Ok(None);
+    }
+    Ok(Some(SideFinder::Known(Flood::new(alloc, segments, &stars)?)))
+}
+
 impl SideFinder {
-    /// The finder that serves for these segments.
-    pub fn new(alloc: Global, segments: &[CountedSegment]) -> Result<SideFinder, AllocError>
+    /// The finder that serves for these segments, which come of so many contours, about.
+    pub fn new(
+        alloc: Global,
+        segments: &[CountedSegment],
+        parts: usize,
+    ) -> Result<SideFinder, AllocError>
         requires { IsRoomy (sum_of size segments.now) }
         ensures { IfOk result (λ w. Serves w segments.now) }
     {
         if segments.len() <= FEW {
-            return Ok(SideFinder::East(Rows::new(alloc, segments)?));
+            return Ok(SideFinder::Known(Flood::unknown(alloc, 0, 0)?));
+        }
+        if parts <= FEW_PARTS {
+            if let Some(finder) = flooded(alloc, segments)? {
+                return Ok(finder);
+            }
         }
         let reached = mean_reached(alloc, segments)?;
         if reached.all <= SHORT_TO_THE_EAST {

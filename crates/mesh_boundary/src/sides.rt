@@ -63,16 +63,18 @@ fn boundary_by(
 }
 
 /// The segments whose two sides differ in fill, each once, with the filled side on its left. The segments have their
-/// net counts, and share only ends with each other. It fails only where memory is refused.
+/// net counts, and share only ends with each other. How many contours they come of, about, tells which way is quicker,
+/// and nothing else. It fails only where memory is refused.
 pub fn find_boundary(
     alloc: Global,
     segments: &[CountedSegment],
+    parts: usize,
     fill: FillRule,
 ) -> Result<Vec<LatticeEdge>, AllocError>
     requires { IsRoomy (sum_of size segments.now) }
     ensures { IfOk result (λ v. (es : List Edge) → IsCountOf es segments.now → AreSplit es
         → IsBoundary es (filled fill) v.items) }
 {
-    let finder = SideFinder::new(alloc, segments)?;
+    let finder = SideFinder::new(alloc, segments, parts)?;
     boundary_by(alloc, segments, &finder, fill)
 }
