@@ -1,14 +1,15 @@
 -- Lemmas over lists: segments that wait and live, as they are made live, split, and made to wait again.
 use Rattle.std.proofs.Common.{◌≡◌, ⊎_elim, true, false, sym, ◌∙◌, ap, subst, arith, List, []}
-use Rattle.std.specs.Prelude.{pos, ◌<ℤ◌}
+use Rattle.std.specs.Prelude.{pos, ◌<ℤ◌, ◌*ℤ◌}
 use Rattle.std.proofs.lemmas.Bool.{cases_Bool}
 use Rattle.mesh_plane.specs.Plane.{Point, Edge}
 use Rattle.mesh_plane.proofs.Whole.{linear}
-use Rattle.mesh_lattice.specs.Counted.{Counted, bit, times}
+use Rattle.mesh_lattice.specs.Counted.{Counted, along, bit, times}
 use Rattle.mesh_lattice.specs.Split.{same_edge, same_ends, occurs, EdgeSplit, after, Meets}
 use Rattle.mesh_lattice.proofs.Counts.{times_least, bit_most}
 use Rattle.mesh_lattice.proofs.Ends.{decides_edge, ends_self}
-use Rattle.mesh_split.specs.Private.Steps.{exactly, IsTaken, IsPut, IsPile, StandOnce, Moves, Settles, weight}
+use Rattle.mesh_split.specs.Private.Growth.{Waits}
+use Rattle.mesh_split.specs.Private.Steps.{exactly, AreSame, IsTaken, IsPut, IsPile, StandOnce, Moves, Settles, weight}
 use Rattle.mesh_split.proofs.Settling.{clear_self}
 use Rattle.mesh_split.proofs.Stages.{pop_count, take_count, keep_count}
 use Rattle.mesh_split.proofs.Starting.{settled_reached, settled_weight}
@@ -30,6 +31,24 @@ once_moved old todo live live' k e put h = record {
 }
 
 -- ---- steps
+
+-- the same segments wait, in another order
+pub pile_ordered : (given : List Edge) (ks : List EdgeSplit) (old new live : List Counted) → AreSame old new → IsPile given ks old live → IsPile given ks new live
+pile_ordered given ks old new live s p =
+    let r = p.reached in
+    record {
+      reached = record {
+        legal = r.legal;
+        count = record {
+          counts = λ q. omega (arith, linear, r.count.counts q, s (λ (j : Counted). j.1 *ℤ along q j.0));
+          once = λ q. omega (arith, linear, r.count.once q, s (λ (j : Counted). bit (same_ends q j.0)));
+        };
+      };
+      light = omega (arith, linear, p.light, s weight);
+    }
+
+pub waits_ordered : (x : Edge) (old new : List Counted) → AreSame old new → Waits x new → Waits x old
+waits_ordered x old new s w = subst (λ z. pos 0 <ℤ z) (s (λ (j : Counted). bit (same_edge x j.0))) w
 
 -- a waiting segment was made live
 pub pile_moved : (ks : List EdgeSplit) (old todo live live' : List Counted) (k : Counted) (given : List Edge) → IsTaken old todo k → IsPut live live' k

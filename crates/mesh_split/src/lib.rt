@@ -8,7 +8,7 @@
 //! in which order these are split anew, and `hints` have that order. `worklist` and `store` have the segments that wait
 //! and those that live, `tree` the parts of the plane by which the latter are sought, `bounding` the boxes by which most
 //! of those found there are left out.
-//! `steps` are the steps of all of it. `count` counts the splits, for the limit that a caller may set, `split_log` keeps
+//! `steps` are the steps of all of it, `ends_hasher` the hasher of its maps. `count` counts the splits, for the limit that a caller may set, `split_log` keeps
 //! those that stand, and `nearness` is how near these lie to the edges. `specs/Private` has the states of the loops,
 //! which private contracts alone read.
 #![tactic(auto)]
@@ -16,6 +16,7 @@
 mod bounding;
 pub mod count;
 mod curve;
+mod ends_hasher;
 mod first_pass;
 mod groups;
 mod hints;

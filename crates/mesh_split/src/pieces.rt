@@ -5,6 +5,7 @@ ghost use Rattle.std.specs.Prelude.{IfSome};
 ghost use Rattle.mesh_lattice.specs.Split.{Meets};
 ghost use Rattle.mesh_split.specs.Private.Growth.{Waits};
 
+use crate::ends_hasher::EndsHasher;
 use crate::groups::Pair;
 use crate::hints::Meeting;
 use crate::nearness::is_farther;
@@ -30,7 +31,7 @@ pub struct Found {
 #[derive(Drop)]
 pub struct Paths {
     alloc: Global,
-    points: HashMap<LatticeEdge, Vec<LatticePoint>>,
+    points: HashMap<LatticeEdge, Vec<LatticePoint>, EndsHasher>,
     /// Whether a split led too far away.
     pub has_strayed: bool,
 }
@@ -84,7 +85,7 @@ impl Paths {
     pub fn new(alloc: Global) -> Self {
         Paths {
             alloc,
-            points: HashMap::new(alloc),
+            points: HashMap::with_hasher(alloc, EndsHasher::new()),
             has_strayed: false,
         }
     }

@@ -51,6 +51,13 @@ const MOST_TURNS: usize = 2 * ROUNDS + 1;
 /// prime, so that each has its turn, unless there are as many.
 const STRIDE: usize = 1_000_003;
 
+/// Of so many pairs or more, in the other order, blocks are split from the last pair on, since all at random would lie far
+/// apart in memory.
+const MANY_PAIRS: usize = 100_000;
+
+/// The place of the last pair of the first block.
+const LAST_OF_BLOCK: usize = 7;
+
 /// So many tests are made for each fresh segment, at most, and more for pairs that are found.
 const TESTS: usize = 60;
 
@@ -65,6 +72,9 @@ const PART: usize = 8;
 
 /// But so many pairs it may find in any case.
 const FEW_PAIRS: usize = 64;
+
+/// A pair that is split becomes so many segments more.
+const SEGMENTS_A_PAIR: usize = 2;
 
 /// A group of more segments is halved.
 const MOST_OF_A_GROUP: usize = 20;
@@ -171,13 +181,14 @@ fn distinct(alloc: Global, placed: &[(u64, LatticeEdge)]) -> Result<Vec<LatticeE
 
 /// Segments in an order in which near ones follow each other, mostly: as they stand where they do so as those of contours,
 /// else along a curve that fills the plane, each once where those that are the same follow each other there.
-fn arranged(alloc: Global, edges: &[LatticeEdge]) -> Result<Vec<LatticeEdge>, AllocError>
-    ensures { IfOk result (λ v. Keeps edges.now v.items) }
+fn arranged(alloc: Global, edges: Vec<LatticeEdge>) -> Result<Vec<LatticeEdge>, AllocError>
+    ensures { IfOk result (λ v. Keeps edges.items v.items) }
 {
-    if follow_each_other(edges) {
-        return Vec::from_slice(alloc, edges);
+    if follow_each_other(&edges) {
+        return Ok(edges);
     }
-    let mut placed = placed(alloc, edges)?;
+    let mut placed = placed(alloc, &edges)?;
+    drop(edges);
     placed.sort_unstable_by_key(|k| k.0);
     distinct(alloc, &placed)
 }
@@ -311,12 +322,23 @@ fn split_pair(
     Ok(())
 }
 
+/// In the other order, the place of the pair whose turn it is, of so many. In blocks that are turned about, near segments
+/// still follow each other in memory.
+fn scattered(count: usize, turn: usize) -> usize {
+    if count < MANY_PAIRS {
+        return turn.wrapping_mul(STRIDE) % count.max(1);
+    }
+    turn ^ LAST_OF_BLOCK
+}
+
 /// The pair whose turn it is. One that has none is found again in the next round.
 fn pair_at(pairs: &[Pair], turn: usize, is_scattered: bool) -> Option<Pair> {
-    let scattered = turn.wrapping_mul(STRIDE) % pairs.len().max(1);
-    pairs
-        .get(if is_scattered { scattered } else { turn })
-        .copied()
+    let place = if is_scattered {
+        scattered(pairs.len(), turn)
+    } else {
+        turn
+    };
+    pairs.get(place).copied()
 }
 
 /// Splits all pairs, and lists the pieces where they are wanted. Answers none where that led far away.
@@ -338,6 +360,9 @@ fn split_pairs(
     ensures counted { CountsSplits edges.now count.old count.new }
     ensures refused { IfErr result (λ e. IsReason e count.new) }
 {
+    splitter
+        .todo
+        .reserve(pairs.len().saturating_mul(SEGMENTS_A_PAIR))?;
     let mut paths = Paths::new(alloc);
     let mut born = Vec::new(alloc);
     for turn in 0..pairs.len() {
@@ -398,17 +423,21 @@ impl Rounds {
     }
 
     /// The fresh segments as a group, and the pairs of one of them and any that meet. Answers none where too many tests
-    /// would be made, where too many pairs are left, or, in the first round, where too many of them are delicate.
-    fn hold(&self, alloc: Global) -> Result<Option<Held>, AllocError>
-        requires bounded { AreBounded self.now.groups.items }
-        requires listed { AreListed self.now.splitter.todo self.now.fresh.items (all_in self.now.groups.items) }
-        requires clear { AreClearBeside self.now.splitter.todo self.now.fresh.items }
-        ensures { IfOk result (λ o. IfSome o (λ h. IsHeld self.now h)) }
+    /// would be made, where too many pairs are left, or, in the first round, where too many of them are delicate. The
+    /// list of fresh segments is given up.
+    fn hold(&mut self, alloc: Global) -> Result<Option<Held>, AllocError>
+        requires bounded { AreBounded self.old.groups.items }
+        requires listed { AreListed self.old.splitter.todo self.old.fresh.items (all_in self.old.groups.items) }
+        requires clear { AreClearBeside self.old.splitter.todo self.old.fresh.items }
+        ensures held { IfOk result (λ o. IfSome o (λ h. IsHeld self.old h)) }
+        ensures splitter { self.new.splitter ≡ self.old.splitter }
+        ensures groups { self.new.groups ≡ self.old.groups }
     {
         let is_first = self.splitter.log.len() == 0;
         let tests = if is_first { TESTS } else { LATER_TESTS };
-        let edges = arranged(alloc, &self.fresh)?;
-        let group = Group::of(alloc, &edges, self.most_of_a_group())?;
+        let most_of_a_group = self.most_of_a_group();
+        let edges = arranged(alloc, replace(&mut self.fresh, Vec::new(alloc)))?;
+        let group = Group::of(alloc, &edges, most_of_a_group)?;
         let most = edges.len().saturating_add(MORE).saturating_mul(tests);
         drop(edges);
         let mut search = Search::new(alloc, most);
@@ -427,10 +456,10 @@ impl Rounds {
         Ok(Some(Held { group, pairs }))
     }
 
-    /// Whether only some segments are fresh in the next round. Where there are many pairs and no group yet, nearly all
-    /// are, and the others are so too from there on.
-    fn keeps_some(&self, held: &Held) -> bool {
-        self.groups.len() > 0 || held.pairs.len() < self.fresh.len()
+    /// Whether only some segments are fresh in the next round, of so many in this one. Where there are many pairs and no
+    /// group yet, nearly all are, and the others are so too from there on.
+    fn keeps_some(&self, held: &Held, fresh: usize) -> bool {
+        self.groups.len() > 0 || held.pairs.len() < fresh
     }
 
     /// Adds a group to those that were held against each other; the pieces are fresh, and what else waits of the pairs.
@@ -515,10 +544,11 @@ impl Rounds {
             → CountsSplits edges.now before count.new }
         ensures refused { IfErr result (λ e. IsReason e count.new) }
     {
+        let fresh = self.fresh.len();
         let Some(held) = self.hold(alloc)? else {
             return Ok(false);
         };
-        let some = self.keeps_some(&held);
+        let some = self.keeps_some(&held, fresh);
         let scattered = self.is_scattered;
         let splitter = &mut self.splitter;
         let Some(born) = split_pairs(alloc, edges, splitter, &held.pairs, scattered, some, count)?

@@ -6,6 +6,7 @@ ghost use Rattle.std.specs.Map.{keys_of};
 ghost use Rattle.mesh_lattice.specs.Counted.{times};
 ghost use Rattle.mesh_split.specs.Private.Steps.{HaveRoom, IsForward, IsPut, IsTaken, AddsIf, exactly};
 
+use crate::ends_hasher::EndsHasher;
 use crate::worklist::Worklist;
 use mesh_lattice::lattice::{CountedSegment, LatticeEdge};
 use std::alloc::{AllocError, Global};
@@ -15,7 +16,7 @@ use std::marker::Model;
 /// Segments by their ends, the lesser end first. Contracts see the list of them.
 #[derive(Drop)]
 pub struct Tally {
-    counts: HashMap<LatticeEdge, i128>,
+    counts: HashMap<LatticeEdge, i128, EndsHasher>,
 }
 
 impl Model for Tally {
@@ -32,7 +33,7 @@ impl Tally {
         ensures { result ≡ [] }
     {
         Tally {
-            counts: HashMap::new(alloc),
+            counts: HashMap::with_hasher(alloc, EndsHasher::new()),
         }
     }
 

@@ -5,6 +5,7 @@ ghost use Rattle.mesh_plane.specs.Plane.{Edge};
 ghost use Rattle.mesh_lattice.specs.Split.{same_ends};
 ghost use Rattle.mesh_split.specs.Private.Witnesses.{forward, witness_in};
 
+use crate::ends_hasher::EndsHasher;
 use mesh_lattice::exact::is_before;
 use mesh_lattice::lattice::LatticeEdge;
 use std::alloc::{AllocError, Global};
@@ -15,7 +16,7 @@ use std::marker::Model;
 /// segment that is none of them is a given edge, its own witness.
 #[derive(Drop)]
 pub struct Witnesses {
-    by_ends: HashMap<LatticeEdge, LatticeEdge>,
+    by_ends: HashMap<LatticeEdge, LatticeEdge, EndsHasher>,
 }
 
 impl Model for Witnesses {
@@ -39,7 +40,7 @@ impl Witnesses {
         ensures { result ≡ [] }
     {
         Witnesses {
-            by_ends: HashMap::new(alloc),
+            by_ends: HashMap::with_hasher(alloc, EndsHasher::new()),
         }
     }
 

@@ -4,8 +4,9 @@ ghost use Rattle.std.specs.Prelude.{◌≡◌, ◌⊎◌, true, false, List, [],
 ghost use Rattle.std.specs.List.{All};
 ghost use Rattle.std.specs.Map.{keys_of};
 ghost use Rattle.mesh_split.specs.Private.Cells.{KeepsThose};
-ghost use Rattle.mesh_split.specs.Private.Steps.{HaveRoom, IsForward, IsTaken, IsRaised, IsNew, exactly};
+ghost use Rattle.mesh_split.specs.Private.Steps.{AreSame, HaveRoom, IsForward, IsTaken, IsRaised, IsNew, exactly};
 
+use crate::ends_hasher::EndsHasher;
 use mesh_lattice::lattice::{CountedSegment, LatticeEdge};
 use std::alloc::{AllocError, Global};
 use std::collections::HashMap;
@@ -14,7 +15,7 @@ use std::marker::Model;
 /// Segments by their ends, each once, the lesser end first. Contracts see the list of them.
 #[derive(Drop)]
 pub struct Worklist {
-    counts: HashMap<LatticeEdge, i128>,
+    counts: HashMap<LatticeEdge, i128, EndsHasher>,
     /// Ends in the order in which they came. It says which segment is taken next, and nothing else.
     latest: Vec<LatticeEdge>,
     /// Whether that order is kept.
@@ -43,14 +44,14 @@ impl Worklist {
         ensures { IfOk result (λ w. w ≡ []) }
     {
         Ok(Worklist {
-            counts: HashMap::with_capacity(alloc, capacity)?,
+            counts: HashMap::with_capacity_and_hasher(alloc, capacity, EndsHasher::new())?,
             latest: Vec::new(alloc),
             keeps_order: true,
         })
     }
 
     /// Segments by their ends, the lesser end first. Any of them is taken first.
-    pub fn with_counts(alloc: Global, counts: HashMap<LatticeEdge, i128>) -> Self
+    pub fn with_counts(alloc: Global, counts: HashMap<LatticeEdge, i128, EndsHasher>) -> Self
         requires { All IsForward (keys_of counts.entries) }
         ensures { result ≡ counts.entries }
     {
@@ -59,6 +60,14 @@ impl Worklist {
             latest: Vec::new(alloc),
             keeps_order: true,
         }
+    }
+
+    /// Makes room for so many more. The same segments wait, in any order.
+    pub fn reserve(&mut self, more: usize) -> Result<(), AllocError>
+        ensures { AreSame self.old self.new }
+    {
+        self.counts.reserve(more)?;
+        Ok(())
     }
 
     /// From here on any segment is taken first: where none is, the order would only take memory.

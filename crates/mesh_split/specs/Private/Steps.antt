@@ -19,6 +19,10 @@ IsForward e = IsTrue (point_lt e.0 e.1)
 abbrev pub exactly : Edge → List Counted → ℤ
 exactly q ks = sum_of (λ (k : Counted). bit (same_edge q k.0)) ks
 
+-- the same segments, in any order
+abbrev pub AreSame : List Counted → List Counted → Type 0
+AreSame old new = (g : Counted → ℤ) → sum_of g new ≡ sum_of g old
+
 -- one segment was taken out
 abbrev pub IsTaken : List Counted → List Counted → Counted → Type 0
 IsTaken old new k = (g : Counted → ℤ) → sum_of g old ≡ sum_of g new +ℤ g k

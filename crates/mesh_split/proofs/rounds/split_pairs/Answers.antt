@@ -1,7 +1,18 @@
-use Rattle.std.proofs.Common.{rules}
-use Rattle.mesh_split.proofs.Counts.{counts_both}
+use Rattle.std.proofs.Common.{rules, inl}
+use Rattle.mesh_split.proofs.Counts.{counts_both, counts_none}
+use Rattle.mesh_split.proofs.Piles.{pile_ordered, waits_ordered}
 use Rattle.mesh_split.proofs.Rounding.{grows_on}
 use Rattle.mesh_split.proofs.rounds.split_pairs.Goals as goal
+
+pub loop-turn-init : goal.loop-turn-init
+loop-turn-init c =
+    let old = c.args.splitter.now in
+    record {
+      counted = counts_none c.args.edges.now c.args.count.now (search rules);
+      pile = pile_ordered c.args.edges.now old.log old.todo c.reserve.new.self old.live c.in_ok-reserve.ensures c.requires.pile;
+      none_lives = c.requires.none_lives;
+      grows = λ _ x w. inl (waits_ordered x old.todo c.reserve.new.self c.in_ok-reserve.ensures w);
+    }
 
 pub returns-in_err-check-clause-counted : goal.returns-in_err-check-clause-counted
 returns-in_err-check-clause-counted c =

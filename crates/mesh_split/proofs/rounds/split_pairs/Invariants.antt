@@ -9,5 +9,5 @@ invariant-loop-turn l = record {
   counted : CountsSplits l.fn.edges l.fn.count l.count;
   pile : IsPile l.fn.edges l.splitter.log l.splitter.todo l.splitter.live;
   none_lives : l.splitter.live ≡ [];
-  grows : l.lists ≡ true → Grows l.initial.splitter.todo l.splitter.todo l.born.items;
+  grows : l.lists ≡ true → Grows l.fn.splitter.todo l.splitter.todo l.born.items;
 }
