@@ -4,8 +4,8 @@
     bench/in_process.py [PROGRAM] [--most N] [--seconds S] > table.md
 
 PROGRAM is `mesh_bench`, which `rt run` makes in crates/mesh_bench. It reads a request once and answers it as often as
-it is told; the time of one answer is that of many less that of one, so reading is not in it. The best of three is
-taken.
+it is told; the time of one answer is that of many less that of one, each the least processor time of five, so reading
+is not in it.
 """
 import argparse
 import json
@@ -19,7 +19,7 @@ PROGRAM = pathlib.Path(__file__).resolve().parent.parent / "crates/mesh_bench/ou
 
 SIZES = [10, 100, 1000, 10_000, 100_000]
 
-TIMES = 3
+TIMES = 5
 
 LIMIT = 60
 """Of one process, in seconds."""
@@ -30,13 +30,13 @@ class TooLong(Exception):
 
 
 def seconds(command, text, count):
-    """The time of a process that answers a request so often."""
+    """The processor time of a process that answers a request so often."""
     done = run([*command, str(count), "request"], text, LIMIT)
     if done.status is None:
         raise TooLong
     if done.status != 0:
         raise SystemExit(f"{command} ended with {done.status}")
-    return done.seconds
+    return done.processor
 
 
 def seconds_each(command, text, wanted):
@@ -44,8 +44,9 @@ def seconds_each(command, text, wanted):
     count = 1
     while seconds(command, text, 1 + count) < wanted / 4 and count < 10_000_000:
         count *= 4
-    rounds = [seconds(command, text, 1 + count) - seconds(command, text, 1) for _ in range(TIMES)]
-    return max(0, min(rounds)) / count
+    most = min(seconds(command, text, 1 + count) for _ in range(TIMES))
+    least = min(seconds(command, text, 1) for _ in range(TIMES))
+    return max(0, most - least) / count
 
 
 def cell(command, text, wanted):

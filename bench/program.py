@@ -20,10 +20,13 @@ MEGABYTE = 1_000_000
 
 
 class Run(NamedTuple):
-    """What one process did. `status` is None where it was stopped, `memory` the most it had at once, in bytes."""
+    """What one process did. `status` is None where it was stopped, `processor` its time on processors, in seconds, and
+    `memory` the most it had at once, in bytes.
+    """
 
     status: int | None
     seconds: float
+    processor: float
     memory: int
     answer: bytes
 
@@ -73,7 +76,7 @@ def run_file(command, asked, answered, limit):
     seconds = time.perf_counter() - start
     process.returncode = os.waitstatus_to_exitcode(state)
     status = None if was_stopped else process.returncode
-    return Run(status, seconds, usage.ru_maxrss * KIBIBYTE, b"")
+    return Run(status, seconds, usage.ru_utime + usage.ru_stime, usage.ru_maxrss * KIBIBYTE, b"")
 
 
 def run(command, request, limit):

@@ -1,12 +1,12 @@
-// Offsets a drawing with a library beside ours, again and again, and prints the least seconds of one time, the number of
-// vertices that come of it, and its area.
+// Offsets a drawing with a library beside ours, again and again, and prints the least processor seconds of one time, on
+// average in each of five parts, the number of vertices that come of it, and its area.
 //
-//     peers clipper|boost|geos SECONDS < drawing
+//     peers clipper|boost|geos SECONDS|xTIMES < drawing
 //
 // The drawing is words: its kind (outline, closed or open, the last two strokes), the join (bevel, miter or round), the
 // offset (of a stroke half its width), how many paths there are; then each path's number of points, and their x and y.
 #include <boost/polygon/polygon.hpp>
-#include <chrono>
+#include <ctime>
 #include <cmath>
 #include <cstdio>
 #include <cstdlib>
@@ -177,23 +177,38 @@ static std::function<Answer()> geos(const Drawing& drawing) {
     };
 }
 
+// As many parts are timed, each of as many answers as take so long.
+const int PARTS = 5;
+
+double processor_seconds() {
+    timespec now;
+    clock_gettime(CLOCK_PROCESS_CPUTIME_ID, &now);
+    return now.tv_sec + 1e-9 * now.tv_nsec;
+}
+
 int main(int count, char** words) {
     if (count != 3) {
-        std::fprintf(stderr, "usage: %s clipper|boost|geos SECONDS < drawing\n", words[0]);
+        std::fprintf(stderr, "usage: %s clipper|boost|geos SECONDS|xTIMES < drawing\n", words[0]);
         return 2;
     }
     std::string peer = words[1];
-    double wanted = std::atof(words[2]);
+    long asked = words[2][0] == 'x' ? std::atol(words[2] + 1) : 0;
+    double wanted = asked > 0 ? 0 : std::atof(words[2]);
     Drawing drawing = read_drawing();
     auto draw = peer == "clipper" ? clipper(drawing) : peer == "boost" ? boost_polygon(drawing) : geos(drawing);
     if (!draw) return 3;
     double least = INFINITY, spent = 0;
     Answer answer = {0, 0};
+    long times = asked > 0 ? asked : 1;
     while (spent < wanted || least == INFINITY) {
-        auto start = std::chrono::steady_clock::now();
-        answer = draw();
-        double seconds = std::chrono::duration<double>(std::chrono::steady_clock::now() - start).count();
-        least = std::min(least, seconds);
+        double start = processor_seconds();
+        for (long i = 0; i < times; i++) answer = draw();
+        double seconds = processor_seconds() - start;
+        if (seconds * PARTS < wanted) {
+            times *= 2;
+            continue;
+        }
+        least = std::min(least, seconds / times);
         spent += seconds;
     }
     std::printf("%.9f %lld %.0f\n", least, answer.vertices, answer.area);

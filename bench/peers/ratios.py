@@ -5,7 +5,7 @@
 
 PROGRAM is `mesh_bench`, which `rt run` makes in crates/mesh_bench. The libraries beside it are Debian's
 (libpolyclipping-dev, libboost-dev, libgeos-dev), driven by peers.cpp. Each answers the same drawing in one process,
-without reading and writing, in turn; the least time counts. A ratio is our time over the better one of Clipper and
+without reading and writing, in turn; the least processor time counts. A ratio is our time over the better one of Clipper and
 Boost.Polygon, which are exact as ours is; GEOS computes in floating point and simplifies a drawing first, so its time
 stands beside. The picture is docs/peers.svg.
 """
