@@ -47,6 +47,11 @@ def answers(program):
     return lambda count: [program, str(count), "request"]
 
 
+def draws(driver, peer):
+    """The command of a library beside ours for so many answers."""
+    return lambda count: [driver, peer, f"x{count}"]
+
+
 def row(programs, driver, family, offset, count):
     """A line of the table."""
     request = family_request(family, count, offset)
@@ -54,7 +59,7 @@ def row(programs, driver, family, offset, count):
     parts = "".join(f" {other / first:.2f} |" for other in others)
     if driver:
         drawn = words_of(request, "bevel")
-        best = min(instructions(lambda times, peer=peer: [driver, peer, f"x{times}"], drawn, TIMES[count]) for peer in EXACT)
+        best = min(instructions(draws(driver, peer), drawn, TIMES[count]) for peer in EXACT)
         parts += f" {[first, *others][-1] / best:.2f} |"
     return f"| {family} | {offset} | {count} | {first / 1000:,.0f} |{parts}"
 
@@ -62,7 +67,8 @@ def row(programs, driver, family, offset, count):
 def print_table(programs, driver, cases):
     """The table of these cases."""
     heads = " part |" * len(programs[1:]) + " ratio |" * bool(driver)
-    print(f"| family | offset | vertices | instructions, thousands |{heads}\n|---|---|---|---|{heads.count('|') * '---|'}")
+    print(f"| family | offset | vertices | instructions, thousands |{heads}")
+    print(f"|---|---|---|---|{heads.count('|') * '---|'}")
     with ThreadPoolExecutor(os.cpu_count()) as pool:
         for line in pool.map(lambda case: row(programs, driver, *case), cases):
             print(line, flush=True)
