@@ -1,6 +1,6 @@
 -- Lemmas over points and lists: ends listed by their points, and sums over the star of a point.
 use Rattle.std.proofs.Common.{◌≡◌, ℕ, ◌+◌, ◌-◌, ◌<◌, ◌≤◌, ◌≢◌, ⊎_elim, ◌⊎◌, inl, inr, Bool, true, false, cond, ◌&&◌, List, [], ◌∷◌, ◌++◌, length, map, take, take_all, drop, get_or, set, refl, sym, ◌∙◌, ap, subst, arith, add-one, zero, suc, length-drop}
-use Rattle.std.specs.Prelude.{ℤ, pos, neg_ℤ, ◌-ℤ◌, ◌+ℤ◌, ◌*ℤ◌, nat_eq}
+use Rattle.std.specs.Prelude.{ℤ, pos, neg_ℤ, ◌-ℤ◌, ◌+ℤ◌, ◌*ℤ◌, nat_eq, int_lt, not, ◌||◌}
 use Rattle.std.specs.List.{All}
 use Rattle.std.proofs.Math.Seq.{take-suc}
 use Rattle.std.proofs.lemmas.Bool.{cases_Bool, both_ways}
@@ -12,8 +12,10 @@ use Rattle.mesh_plane.specs.Winding.{sum_of, same_point}
 use Rattle.mesh_plane.proofs.Comparing.{decides_point}
 use Rattle.mesh_plane.proofs.Sums.{sum_of_append}
 use Rattle.mesh_plane.proofs.Whole.{linear, mul_zero, mul_one, mul_neg}
+use Rattle.mesh_lattice.specs.Boundary.{rises}
 use Rattle.mesh_lattice.specs.Counted.{Counted, bit, IsCountOf}
 use Rattle.mesh_lattice.specs.Split.{back}
+use Rattle.mesh_lattice.proofs.Boxes.{turn_end}
 use Rattle.mesh_regions.specs.SideLaws.{AreSplit}
 use Rattle.mesh_regions.specs.Star.{comes_before, leaves_before}
 use Rattle.mesh_regions.proofs.StarSums.{edge_net_before}
@@ -189,6 +191,25 @@ off_place : (at : Point → ℕ) (v p : Point) → nat_eq (at v) (at p) ≡ fals
 off_place at v p h =
     ⊎_elim (λ (t : same_point v p ≡ true). absurd (both_ways (nat_eq (at v) (at p)) h (same_test (at v) (at p) (ap at ((decides_point v p).0 t))))) (λ (f : same_point v p ≡ false). f)
     (cases_Bool (same_point v p))
+
+-- no segment is before itself
+same_not_before : (s e : Edge) → s ≡ e → comes_before e s ≡ false
+same_not_before s e h =
+    (λ i. comes_before e (h i))
+    ∙ (ap (λ (t : ℤ). cond (rises e) (not (rises e) || int_lt (pos 0) t) (not (rises e) && int_lt (pos 0) t)) (turn_end e.0 e.1)
+    ∙ by (rises e))
+  where
+    by : (r : Bool) → cond r (not r || false) (not r && false) ≡ false
+    by true = refl
+    by false = refl
+
+-- one that leads to the same point does not leave before
+pub not_leaving_before : (s e : Edge) → same_point s.1 e.1 ≡ true → leaves_before s e ≡ false
+not_leaving_before s e h = by (same_point s.0 e.0) refl
+  where
+    by : (b : Bool) → same_point s.0 e.0 ≡ b → (b && comes_before e s) ≡ false
+    by false t = refl
+    by true t = same_not_before s e (λ i. ((decides_point s.0 e.0).0 t i, (decides_point s.1 e.1).0 h i))
 
 -- what a segment gives to the sum
 abbrev gives : Edge → Counted → ℤ

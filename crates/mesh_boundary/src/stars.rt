@@ -347,10 +347,13 @@ fn comes_before(e: LatticeEdge, s: LatticeEdge) -> bool
     !rises(s) && turn(e.0, e.1, s.1) > 0
 }
 
-/// Whether an edge leaves the point where `s` starts, before `s`.
+/// Whether an edge leaves the point where `s` starts, before `s`. None is before itself, which needs no turn.
 fn leaves_before(s: LatticeEdge, e: LatticeEdge) -> bool
     ensures { result ≡ leaves_before s e }
 {
+    if same_point(s.1, e.1) {
+        return false;
+    }
     same_point(s.0, e.0) && comes_before(e, s)
 }
 

@@ -574,9 +574,11 @@ pub fn split_in_rounds(
     ensures within { IfOk result (λ o. IfSome o (λ s. IsWithinLimit count.new)) }
     ensures refused { IfErr result (λ e. IsReason e count.new) }
 {
+    if !serve(alloc, edges)? {
+        return Ok(None);
+    }
     let mut rounds = Rounds::new(alloc, edges, false)?;
-    let most = if serve(alloc, edges)? { MOST_TURNS } else { 0 };
-    for turn in 0..most {
+    for turn in 0..MOST_TURNS {
         let fresh: &[LatticeEdge] = &rounds.fresh;
         if fresh.len() == 0 {
             count.add(&rounds.splitter.log)?;

@@ -3,6 +3,9 @@ use Rattle.mesh_split.proofs.Counts.{counts_none, counts_both, counts_with}
 use Rattle.mesh_split.proofs.Rounding.{nothing_fresh, rounds_settled}
 use Rattle.mesh_split.proofs.rounds.split_in_rounds.Goals as goal
 
+pub returns-then-not-branch-clause-counted : goal.returns-then-not-branch-clause-counted
+returns-then-not-branch-clause-counted c = counts_none c.args.edges.now c.args.count.now (search rules)
+
 pub loop-turn-init : goal.loop-turn-init
 loop-turn-init c = record { counted = counts_none c.args.edges.now c.args.count.now (search rules); round = c.in_ok-rounds.ensures }
 
@@ -42,17 +45,17 @@ returns-in_err-go_on-clause-counted c = c.go_on.ensures.counted c.args.count.now
 
 pub returns-in_err-add-2-clause-counted : goal.returns-in_err-add-2-clause-counted
 returns-in_err-add-2-clause-counted c =
-    counts_both c.args.edges.now c.args.count.now c.go_on.new.count c.add-then-not-branch.new.self (c.go_on.ensures.counted c.args.count.now (c.restart.ensures.counted c.args.count.now c.loop-turn.invariant.counted))
-    (c.add-then-not-branch.ensures.counted c.args.edges.now c.in_ok-go_on.ensures.legal).counts
+    counts_both c.args.edges.now c.args.count.now c.go_on.new.count c.add-then-not-branch-2.new.self (c.go_on.ensures.counted c.args.count.now (c.restart.ensures.counted c.args.count.now c.loop-turn.invariant.counted))
+    (c.add-then-not-branch-2.ensures.counted c.args.edges.now c.in_ok-go_on.ensures.legal).counts
 
-pub returns-then-not-branch-clause-counted : goal.returns-then-not-branch-clause-counted
-returns-then-not-branch-clause-counted c =
-    counts_both c.args.edges.now c.args.count.now c.go_on.new.count c.add-then-not-branch.new.self (c.go_on.ensures.counted c.args.count.now (c.restart.ensures.counted c.args.count.now c.loop-turn.invariant.counted))
-    (c.add-then-not-branch.ensures.counted c.args.edges.now c.in_ok-go_on.ensures.legal).counts
+pub returns-then-not-branch-2-clause-counted : goal.returns-then-not-branch-2-clause-counted
+returns-then-not-branch-2-clause-counted c =
+    counts_both c.args.edges.now c.args.count.now c.go_on.new.count c.add-then-not-branch-2.new.self (c.go_on.ensures.counted c.args.count.now (c.restart.ensures.counted c.args.count.now c.loop-turn.invariant.counted))
+    (c.add-then-not-branch-2.ensures.counted c.args.edges.now c.in_ok-go_on.ensures.legal).counts
 
 pub loop-turn-preserved : goal.loop-turn-preserved
 loop-turn-preserved c =
-    record { counted = c.go_on.ensures.counted c.args.count.now (c.restart.ensures.counted c.args.count.now c.loop-turn.invariant.counted); round = c.in_ok-go_on.ensures.kept c.if-not-branch.false }
+    record { counted = c.go_on.ensures.counted c.args.count.now (c.restart.ensures.counted c.args.count.now c.loop-turn.invariant.counted); round = c.in_ok-go_on.ensures.kept c.if-not-branch-2.false }
 
 pub returns-in_err-add-3-clause-counted : goal.returns-in_err-add-3-clause-counted
 returns-in_err-add-3-clause-counted c =
