@@ -63,53 +63,69 @@ pub struct NearAnswer {
     pub nearness: u64,
 }
 
-/// Adds the ring of a contour, unless it is small. Tells whether each of the contour's points is a vertex of it, and
-/// whether one of the edges at most, which stand in the order of their starts, starts at each point that is none.
+/// What is known of contours.
+#[derive(Copy, Clone)]
+struct Told {
+    /// Whether each of their points is a vertex.
+    are_whole: bool,
+    /// Whether of edges that are given too one at most starts at each point that is none.
+    are_lone: bool,
+}
+
+/// Adds the ring of a contour, unless it is small, and tells of the contour. The edges stand in the order of their
+/// starts.
 fn push_ring(
     alloc: Global,
     rings: &mut Vec<Ring>,
     contour: Vec<LatticePoint>,
     choices: Choices,
     ordered: &[LatticeEdge],
-) -> Result<(bool, bool), AllocError>
+) -> Result<Told, AllocError>
     requires has_points { 0 < length contour.items }
     requires proper { All (λ (e : Edge). same_point e.0 e.1 ≡ false) (boundary contour.items) }
     requires ordered { StartsInOrder ordered.now }
     ensures { IfOk result (λ told. PushesRing choices.all_vertices choices.least_area ordered.now contour.items
-        rings.old.items rings.new.items told) }
+        rings.old.items rings.new.items (told.are_whole, told.are_lone)) }
 {
     let count = contour.len();
-    let (ring, is_lone) = ring_of(alloc, contour, choices.all_vertices, ordered)?;
-    let is_whole = ring.0.len() == count;
+    let (ring, are_lone) = ring_of(alloc, contour, choices.all_vertices, ordered)?;
+    let told = Told {
+        are_whole: ring.0.len() == count,
+        are_lone,
+    };
     if !is_large(&ring, choices.least_area) {
-        return Ok((is_whole, is_lone));
+        return Ok(told);
     }
     rings.push(ring)?;
-    Ok((is_whole, is_lone))
+    Ok(told)
 }
 
-/// The rings of contours, without the small ones, and what is told of the contours.
+/// The rings of contours, without the small ones, and what is known of the contours.
 fn rings_of(
     alloc: Global,
     contours: Vec<Vec<LatticePoint>>,
     choices: Choices,
     ordered: &[LatticeEdge],
-) -> Result<(Vec<Ring>, (bool, bool)), AllocError>
+) -> Result<(Vec<Ring>, Told), AllocError>
     requires have_points { HavePoints contours.items }
     requires proper { All (λ (e : Edge). same_point e.0 e.1 ≡ false) (contour_edges contours.items) }
     requires ordered { StartsInOrder ordered.now }
     ensures { IfOk result (λ v. AreRingsOf choices.all_vertices choices.least_area ordered.now contours.items
-        v.0.items v.1) }
+        v.0.items (v.1.are_whole, v.1.are_lone)) }
 {
     let mut rings = Vec::with_capacity(alloc, contours.len())?;
     let mut are_whole = true;
     let mut are_lone = true;
     for contour in contours {
-        let (is_whole, is_lone) = push_ring(alloc, &mut rings, contour, choices, ordered)?;
-        are_whole &= is_whole;
-        are_lone &= is_lone;
+        let told = push_ring(alloc, &mut rings, contour, choices, ordered)?;
+        are_whole &= told.are_whole;
+        are_lone &= told.are_lone;
     }
-    Ok((rings, (are_whole, are_lone)))
+    let told = Told {
+        are_whole,
+        are_lone,
+    };
+    Ok((rings, told))
 }
 
 /// Whether no contour is left out, and none is reversed.
@@ -209,13 +225,13 @@ fn shapes_of_segments(
     let parted = find_boundary(alloc, segments, parts_of(edges), fill)?;
     let ordered = edges_by_start(parted);
     let closed = contours(alloc, &ordered)?;
-    let (rings, (are_whole, are_lone)) = rings_of(alloc, closed, choices, &ordered)?;
+    let (rings, told) = rings_of(alloc, closed, choices, &ordered)?;
     let shapes = shapes(alloc, rings, choices.clockwise)?;
     let is_all = answers_all(choices);
     Ok(GridAnswer {
         shapes,
-        is_settled: are_whole & is_all,
-        is_own_boundary: are_lone & is_all,
+        is_settled: told.are_whole & is_all,
+        is_own_boundary: told.are_lone & is_all,
     })
 }
 

@@ -21,19 +21,31 @@ fn look_alike(v: Vector, w: Vector) -> bool {
     (v.0 > 0 && w.0 > 0) || (v.0 < 0 && w.0 < 0) || (v.1 > 0 && w.1 > 0) || (v.1 < 0 && w.1 < 0)
 }
 
-/// In which part of the turn clockwise from `from` to the direction the turn ends, where all start at `at`:
-/// before half a turn, at it, past it, or at a whole turn.
-fn part_of_turn(at: LatticePoint, from: LatticePoint, to: LatticePoint) -> u8 {
+/// The parts of a turn, in the order in which it comes to them.
+#[derive(Copy, Clone, PartialEq, Eq, PartialOrd, Ord)]
+enum PartOfTurn {
+    BeforeHalf,
+    Half,
+    PastHalf,
+    Whole,
+}
+
+/// In which part of the turn clockwise from `from` to the direction the turn ends, where all start at `at`.
+fn part_of_turn(at: LatticePoint, from: LatticePoint, to: LatticePoint) -> PartOfTurn {
     let back = minus(from, at);
     let way = minus(to, at);
     let side = cross(back, way);
     if side < 0 {
-        return 0;
+        return PartOfTurn::BeforeHalf;
     }
     if side > 0 {
-        return 2;
+        return PartOfTurn::PastHalf;
     }
-    if look_alike(back, way) { 3 } else { 1 }
+    if look_alike(back, way) {
+        PartOfTurn::Whole
+    } else {
+        PartOfTurn::Half
+    }
 }
 
 /// Whether the way to `first` comes before that to `second` on the turn clockwise from the way to `from`, all from

@@ -18,7 +18,7 @@ push_ring-requires-clause-proper c =
 pub loop-contour-preserved : goal.loop-contour-preserved
 loop-contour-preserved c =
     rings_more c.args.choices.all_vertices c.args.choices.least_area c.args.ordered.now c.loop-contour.yielded c.in-Some.contour c.loop-contour.rings.items c.push_ring.new.rings.items
-    (c.loop-contour.are_whole, c.loop-contour.are_lone) _ c.loop-contour.invariant c.in_ok-is_whole.ensures
+    (c.loop-contour.are_whole, c.loop-contour.are_lone) _ c.loop-contour.invariant c.in_ok-told.ensures
 
 pub loop-contour-init : goal.loop-contour-init
 loop-contour-init c = rings_none c.args.choices.all_vertices c.args.choices.least_area c.args.ordered.now _ _ c.in_ok-rings.ensures.items
