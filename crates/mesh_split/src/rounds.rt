@@ -44,8 +44,8 @@ use std::mem::replace;
 /// splits goes on, and few runs are met in both orders.
 const ROUNDS: usize = 12;
 
-/// The rounds in both orders, and the turn after the last.
-const MOST_TURNS: usize = 2 * ROUNDS + 1;
+/// The rounds in both orders.
+const MOST_TURNS: usize = 2 * ROUNDS;
 
 /// In the other order each pair stands so many after the one before, from the first on again where there are no more. A
 /// prime, so that each has its turn, unless there are as many.
@@ -323,10 +323,13 @@ fn split_pair(
 }
 
 /// In the other order, the place of the pair whose turn it is, of so many. In blocks that are turned about, near segments
-/// still follow each other in memory.
+/// still follow each other in memory. A last block that is not full stays as it is.
 fn scattered(count: usize, turn: usize) -> usize {
     if count < MANY_PAIRS {
         return turn.wrapping_mul(STRIDE) % count.max(1);
+    }
+    if count <= turn | LAST_OF_BLOCK {
+        return turn;
     }
     turn ^ LAST_OF_BLOCK
 }
@@ -579,17 +582,17 @@ pub fn split_in_rounds(
     }
     let mut rounds = Rounds::new(alloc, edges, false)?;
     for turn in 0..MOST_TURNS {
+        rounds.restart(alloc, edges, turn, count)?;
+        if !rounds.go_on(alloc, edges, count)? {
+            count.add(&rounds.splitter.log)?;
+            return Ok(None);
+        }
         let fresh: &[LatticeEdge] = &rounds.fresh;
         if fresh.len() == 0 {
             count.add(&rounds.splitter.log)?;
             drop(rounds.groups);
             let settled = rounds.splitter.into_settled(alloc)?;
             return Ok(Some(settled));
-        }
-        rounds.restart(alloc, edges, turn, count)?;
-        if !rounds.go_on(alloc, edges, count)? {
-            count.add(&rounds.splitter.log)?;
-            return Ok(None);
         }
     }
     count.add(&rounds.splitter.log)?;

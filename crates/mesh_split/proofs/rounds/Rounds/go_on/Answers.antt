@@ -1,4 +1,3 @@
-use Rattle.std.proofs.Common.{refl}
 use Rattle.mesh_split.proofs.Counts.{counts_both}
 use Rattle.mesh_split.proofs.rounds.Rounds.go_on.Goals as goal
 

@@ -1,5 +1,4 @@
 use Rattle.std.proofs.Common.{subst, List}
-use Rattle.std.specs.List.Sorted.{IsPermutation}
 use Rattle.std.proofs.lemmas.Map.Views.{All-map-IsPermutation}
 use Rattle.mesh_lattice.specs.Counted.{Counted}
 use Rattle.mesh_plane.proofs.Sums.{sum_of_permutation}
