@@ -133,12 +133,14 @@ pub trait SubjectSegments<P> {
 
     ghost capacity: { Self → ℕ };
 
-    /// Adds the segment of the edge from `a` to `b`, or nothing where they are one point, which takes no memory.
-    /// Where there is room for what is added it succeeds. After a refusal the vector is unchanged.
+    /// Adds the segment of the edge from `a` to `b`, or nothing where they are one point: then it takes no memory, and
+    /// the vector keeps its capacity. Where there is room for what is added it succeeds. After a refusal the vector
+    /// holds what it held.
     fn push_non_degenerate(&mut self, a: P, b: P) -> Result<(), AllocError>
         ensures ok { OnOk result (segments self.new ≡ segments self.old ++ segment_between (point a) (point b)) }
         ensures err { OnErr result (segments self.new ≡ segments self.old) }
         ensures same_ends { point a ≡ point b → IsOk result }
+        ensures same_capacity { point a ≡ point b → capacity self.new ≡ capacity self.old }
         ensures room { length (segments self.old) + length (segment_between (point a) (point b)) ≤ capacity self.old
             → IsOk result }
         ensures capacity { capacity self.old ≤ capacity self.new };
