@@ -1,7 +1,11 @@
-//! Laws of the definitions that contracts cite. Each function does nothing: its clause is the law.
+//! Laws of the definitions that contracts cite. Each function does nothing, or returns the constants that it speaks of:
+//! its clause is the law.
 
+ghost use Rattle.std.specs.Prelude.{◌≡◌, ◌^◌, pos};
 ghost use Rattle.mesh_num.specs.Laws.{DirectionsAreUnique, FlatContoursAreFound};
 
+use crate::num::number::IntNumber;
+use crate::num::unit_vector::UnitIntVector;
 pub use mesh_plane::laws::{
     closed_lists_balance, closed_lists_telescope, crossings_add_along_lines, crossings_are_odd,
     flat_triangles_do_not_wind, lengths_are_products, parallelograms_wind_once,
@@ -19,3 +23,14 @@ pub fn directions_are_unique()
 pub fn flat_contours_are_found()
     ensures { FlatContoursAreFound }
 {}
+
+/// `UnitIntVector::DENOMINATOR` is `UNIT`: 2^14 for `i16`, 2^30 for `i32`. It returns both.
+pub fn denominators_are_units() -> (i16, i32)
+    ensures units { result ≡ (⟦<i16 as IntNumber>⟧.UNIT, ⟦<i32 as IntNumber>⟧.UNIT) }
+    ensures values { result ≡ (pos (2 ^ 14), pos (2 ^ 30)) }
+{
+    (
+        UnitIntVector::<i16>::DENOMINATOR,
+        UnitIntVector::<i32>::DENOMINATOR,
+    )
+}

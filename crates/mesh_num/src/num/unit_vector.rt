@@ -51,10 +51,18 @@ impl<I: IntNumber> Clone for UnitIntVector<I> {
     }
 }
 
-impl<I: IntNumber> UnitIntVector<I> {
-    /// The length of a direction that lost nothing to cutting.
-    pub const DENOMINATOR: I = I::UNIT;
+// A contract knows nothing of a constant in an `impl` with a type parameter, so it stands at both types.
+impl UnitIntVector<i16> {
+    /// The length of a direction that lost nothing to cutting, `UNIT`. Code over both types writes `I::UNIT`.
+    pub const DENOMINATOR: i16 = i16::UNIT;
+}
 
+impl UnitIntVector<i32> {
+    /// The length of a direction that lost nothing to cutting, `UNIT`. Code over both types writes `I::UNIT`.
+    pub const DENOMINATOR: i32 = i32::UNIT;
+}
+
+impl<I: IntNumber> UnitIntVector<I> {
     /// The first component, of at most `UNIT` in size.
     pub fn x(self) -> I
         ensures { I.value result ≡ self.0 }
