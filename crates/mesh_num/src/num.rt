@@ -15,6 +15,7 @@ pub mod unit_vector;
 pub use angle::Angle;
 pub use number::{IntNumber, OverlayInt, WideNumber, WideUnsigned};
 pub use point::{IntPoint, IntVector};
+pub use quotient::mul_div;
 pub use rect::IntRect;
 pub use rotation::Rotation;
 pub use unit_vector::UnitIntVector;
