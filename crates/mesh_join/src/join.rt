@@ -68,9 +68,9 @@ impl<I: IntNumber> Join<I> {
     }
 
     /// Adds the edges of the join round `center` from `a` to `b`, the contact points of the directions before and after
-    /// the corner, none where `a` equals `b`, which takes no memory. The edges never turn back round `center`, and stay
-    /// within the padding. Where there is room for them it succeeds, but for a round join, whose arc has a buffer of
-    /// its own. After a refusal the vector is cut back to its old length.
+    /// the corner. Where `a` equals `b` there are none: then it takes no memory, and the vector keeps its capacity. The
+    /// edges never turn back round `center`, and stay within the padding. Where there is room for them it succeeds, but
+    /// for a round join, whose arc has a buffer of its own. After a refusal the vector is cut back to its old length.
     ///
     /// The radius, in grid units, is at least 0. Both directions are fresh, and do not turn back from the first to the
     /// second in the sense of the arc. The corner stays in the safe range where it moves by the padding.
@@ -97,6 +97,7 @@ impl<I: IntNumber> Join<I> {
             (join_edges I.unit self.old (joint center a b incoming outgoing (I.value radius) direction)) }
         ensures err { OnErr result (segments.new.items ≡ segments.old.items) }
         ensures same_ends { a ≡ b → IsOk result }
+        ensures same_capacity { a ≡ b → vec_capacity segments.new ≡ vec_capacity segments.old }
         ensures room { HasFew self.old → HasRoomForEdges segments.old
             (join_edges I.unit self.old (joint center a b incoming outgoing (I.value radius) direction)) → IsOk result }
         ensures capacity { vec_capacity segments.old ≤ vec_capacity segments.new }
@@ -119,6 +120,8 @@ impl<I: IntNumber> Join<I> {
         ensures ok { OnOk result (Appends segments.old segments.new (join_edges I.unit self.old joint.now)) }
         ensures err { OnErr result (segments.new.items ≡ segments.old.items) }
         ensures same_ends { joint.now.first ≡ joint.now.last → IsOk result }
+        ensures same_capacity { joint.now.first ≡ joint.now.last
+            → vec_capacity segments.new ≡ vec_capacity segments.old }
         ensures room { HasFew self.old → HasRoomForJoin segments.old I.unit self.old joint.now → IsOk result }
         ensures capacity { vec_capacity segments.old ≤ vec_capacity segments.new }
         ensures same { self.new ≡ self.old }
