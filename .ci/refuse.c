@@ -1,11 +1,12 @@
-/* Preloaded into one run of a program, it refuses one growth of memory, that of the number REFUSE_NUMBER, and no other.
-   Growths are counted between two marks, pieces of memory of sizes that nothing else asks for, which are never refused
-   (mesh_test_support/src/marks.rt); with REFUSE_FROM_START all growths are counted. What it did it tells the standard
-   error, each time a line of one word in angles. */
+/* Preloaded into one run of a program, it refuses one growth of memory, that of the number REFUSE_NUMBER, and no other;
+   where that is "all", each growth. Growths are counted between two marks, pieces of memory of sizes that nothing else
+   asks for, which are never refused (mesh_test_support/src/marks.rt); with REFUSE_FROM_START all growths are counted.
+   What it did it tells the standard error, each time a line of one word in angles. */
 #define _GNU_SOURCE
 #include <dlfcn.h>
 #include <errno.h>
 #include <stdlib.h>
+#include <string.h>
 #include <unistd.h>
 
 enum { BEGIN = 1000003, END = 1000033 };
@@ -14,7 +15,7 @@ static void *(*next_malloc)(size_t);
 static void *(*next_calloc)(size_t, size_t);
 static void *(*next_realloc)(void *, size_t);
 static long wanted, counted;
-static int is_tested;
+static int is_tested, are_all_refused;
 
 static void tell(const char *line, size_t length)
 {
@@ -25,6 +26,7 @@ static void tell(const char *line, size_t length)
 __attribute__((constructor)) static void start(void)
 {
     const char *number = getenv("REFUSE_NUMBER");
+    are_all_refused = number && !strcmp(number, "all");
     wanted = number ? atol(number) : 0;
     is_tested = getenv("REFUSE_FROM_START") != NULL;
 }
@@ -39,7 +41,7 @@ static int is_refused(size_t size)
             tell("\n<end>\n", 7);
         return 0;
     }
-    if (!is_tested || ++counted != wanted)
+    if (!is_tested || (++counted != wanted && !are_all_refused))
         return 0;
     tell("\n<refused>\n", 11);
     errno = ENOMEM;

@@ -1,8 +1,8 @@
 //! Marks round a call for which memory is refused.
 //!
 //! `.ci/refuse_memory` runs each memory test alone, again and again, and refuses it one growth of memory: in the first
-//! run the first one between the marks, then the second, and so on. What stands before and after the marks has memory.
-//! In other runs the marks do nothing.
+//! run the first one between the marks, then the second, and so on; in the last run it refuses all of them. What stands
+//! before and after the marks has memory. In other runs the marks do nothing.
 
 use std::alloc::{AllocError, Global};
 
