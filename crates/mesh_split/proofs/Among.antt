@@ -8,7 +8,7 @@ use Rattle.mesh_lattice.specs.Split.{same_ends, occurs, EdgeSplit, split_by, aft
 use Rattle.mesh_lattice.proofs.Ends.{ends_self}
 use Rattle.mesh_lattice.proofs.Keys.{occurs_ends}
 use Rattle.mesh_lattice.proofs.Splits.{occurs_append, occurs_cut}
-use Rattle.mesh_split.specs.Counting.{CountsSplits}
+use Rattle.mesh_split.specs.Counting.{CountsAtMost}
 use Rattle.mesh_split.specs.Private.Steps.{AreAmong}
 use Rattle.mesh_split.specs.Private.Witnesses.{forward}
 use Rattle.mesh_split.specs.declared.count.SplitCount.{SplitCount}
@@ -69,9 +69,10 @@ legal_among es fs among ks legal = by legal among
     by (split {given} {ks} {e} {f} {c} l x y m) among =
         split (by l among) (among_after ks given fs among e x) (among_after ks given fs among f y) m
 
-pub counts_among : (es fs : List Edge) → AreAmong es fs → (old new : SplitCount) → CountsSplits es old new → CountsSplits fs old new
-counts_among es fs among old new c = record {
+pub counts_among : (n : ℕ) (es fs : List Edge) → AreAmong es fs → (old new : SplitCount) → CountsAtMost n es old new → CountsAtMost n fs old new
+counts_among n es fs among old new c = record {
   attempts = c.attempts;
+  few = c.few;
   legal = All-weaker (IsLegal es) (IsLegal fs) (legal_among es fs among) c.attempts c.legal;
   sum = c.sum;
 }

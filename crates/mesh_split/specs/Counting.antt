@@ -11,16 +11,30 @@ use Rattle.mesh_split.specs.declared.count.SplitError.TheVariants.{OutOfMemory, 
 abbrev pub counted : SplitCount → ℕ → SplitCount
 counted c more = record { made = min (c.made + more) (2 ^ 64 - 1); most = c.most }
 
--- the splits of attempts at some edges, each a list of legal splits, were counted on
-pub record CountsSplits (given : List Edge) (old new : SplitCount) : Type 0 where
+-- the splits of so many attempts at most at some edges, each a list of legal splits, were counted on
+pub record CountsAtMost (most : ℕ) (given : List Edge) (old new : SplitCount) : Type 0 where
   pub attempts : List (List EdgeSplit)
+  pub few : length attempts ≤ most
   pub legal : All (IsLegal given) attempts
   pub sum : new ≡ counted old (sum_by length attempts)
 
 -- the same, and one of the attempts made just these splits
-pub record CountsWith (given : List Edge) (old new : SplitCount) (splits : List EdgeSplit) : Type 0 where
-  pub counts : CountsSplits given old new
+pub record CountsAmong (most : ℕ) (given : List Edge) (old new : SplitCount) (splits : List EdgeSplit) : Type 0 where
+  pub counts : CountsAtMost most given old new
   pub listed : Contains counts.attempts splits
+
+-- so many attempts are made to split edges, at most: two in rounds, one where splits are made one by one, and each of the
+-- twelve times that these are begun anew three at some of the edges alone and one more at all
+abbrev pub most_attempts : ℕ
+most_attempts = 51
+
+-- the splits of all attempts to split some edges were counted on
+abbrev pub CountsSplits : List Edge → SplitCount → SplitCount → Type 0
+CountsSplits = CountsAtMost most_attempts
+
+-- the same, and one of the attempts made just these splits
+abbrev pub CountsWith : List Edge → SplitCount → SplitCount → List EdgeSplit → Type 0
+CountsWith = CountsAmong most_attempts
 
 -- no limit is set, or the splits that were made do not pass it
 abbrev pub IsWithinLimit : SplitCount → Type 0

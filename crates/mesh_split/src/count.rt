@@ -3,7 +3,7 @@
 ghost use Rattle.std.specs.Prelude.{◌≡◌, true, false, List, length, IfErr, OnErr, OnOk};
 ghost use Rattle.mesh_plane.specs.Plane.{Edge};
 ghost use Rattle.mesh_lattice.specs.Split.{IsLegal};
-ghost use Rattle.mesh_split.specs.Counting.{CountsSplits, CountsWith, IsPastLimit, IsReason, IsWithinLimit, counted};
+ghost use Rattle.mesh_split.specs.Counting.{CountsAmong, CountsAtMost, IsPastLimit, IsReason, IsWithinLimit, counted};
 
 use crate::split_log::SplitLog;
 use std::alloc::AllocError;
@@ -65,7 +65,7 @@ impl SplitCount {
 
     /// Counts the splits of an attempt on. They may pass the limit.
     pub fn add(&mut self, log: &SplitLog) -> Result<(), SplitError>
-        ensures counted { (given : List Edge) → IsLegal given log.now → CountsWith given self.old self.new log.now }
+        ensures counted { (given : List Edge) → IsLegal given log.now → CountsAmong 1 given self.old self.new log.now }
         ensures within { OnOk result (IsWithinLimit self.new) }
         ensures refused { IfErr result (λ e. IsReason e self.new) }
     {
@@ -80,7 +80,7 @@ impl SplitCount {
     pub fn check(&mut self, log: &SplitLog) -> Result<(), SplitError>
         ensures same { OnOk result (self.new ≡ self.old) }
         ensures counted { OnErr result
-            ((given : List Edge) → IsLegal given log.now → CountsSplits given self.old self.new) }
+            ((given : List Edge) → IsLegal given log.now → CountsAtMost 1 given self.old self.new) }
         ensures refused { IfErr result (λ e. IsReason e self.new) }
     {
         let sum = self.with(log);

@@ -5,7 +5,7 @@
 ghost use Rattle.std.specs.Prelude.{◌≡◌, pos, ◌<ℤ◌, IfErr, IfOk, IfSome, OnOk};
 ghost use Rattle.mesh_lattice.specs.Clean.{IsProper};
 ghost use Rattle.mesh_lattice.specs.Split.{Meets};
-ghost use Rattle.mesh_split.specs.Counting.{CountsSplits, IsReason};
+ghost use Rattle.mesh_split.specs.Counting.{CountsAtMost, IsReason};
 ghost use Rattle.mesh_split.specs.Private.Growth.{pieces_of};
 ghost use Rattle.mesh_split.specs.Private.Steps.{AllClear, AreAmong, IsPile, KeepsPile, StandOnce, exactly};
 
@@ -117,7 +117,8 @@ fn split_noted(
 ) -> Result<Splitter, SplitError>
     requires { IsProper edges.now }
     ensures pile { IfOk result (λ s. IsPile edges.now s.log s.todo s.live) }
-    ensures counted { CountsSplits edges.now count.old count.new }
+    ensures same { OnOk result (count.new ≡ count.old) }
+    ensures counted { CountsAtMost 1 edges.now count.old count.new }
     ensures refused { IfErr result (λ e. IsReason e count.new) }
 {
     let mut splitter = Splitter::of_edges(alloc, edges, edges)?;
@@ -162,7 +163,7 @@ fn rehearse_once(
     count: &mut SplitCount,
 ) -> Result<bool, SplitError>
     requires { IsProper noted.now }
-    ensures counted { CountsSplits noted.now count.old count.new }
+    ensures counted { CountsAtMost 1 noted.now count.old count.new }
     ensures refused { IfErr result (λ e. IsReason e count.new) }
 {
     let splitter = split_noted(alloc, noted, noted, leash, count)?;
@@ -180,7 +181,7 @@ fn rehearse(
     count: &mut SplitCount,
 ) -> Result<(), SplitError>
     requires { IsProper noted.now }
-    ensures counted { CountsSplits noted.now count.old count.new }
+    ensures counted { CountsAtMost 3 noted.now count.old count.new }
     ensures refused { IfErr result (λ e. IsReason e count.new) }
 {
     for _rehearsal in 0..REHEARSALS {
@@ -202,7 +203,8 @@ fn attempt(
     requires { IsProper edges.now }
     ensures pile { IfOk result (λ s. IsPile edges.now s.log s.todo s.live) }
     ensures clear { IfOk result (λ s. AllClear s.live) }
-    ensures counted { CountsSplits edges.now count.old count.new }
+    ensures same { OnOk result (count.new ≡ count.old) }
+    ensures counted { CountsAtMost 1 edges.now count.old count.new }
     ensures refused { IfErr result (λ e. IsReason e count.new) }
 {
     let mut splitter = split_noted(alloc, edges, noted, leash, count)?;
@@ -231,7 +233,8 @@ fn attempt_anew(
     requires among { AreAmong noted.now edges.now }
     ensures pile { IfOk result (λ s. IsPile edges.now s.log s.todo s.live) }
     ensures clear { IfOk result (λ s. AllClear s.live) }
-    ensures counted { CountsSplits edges.now count.old count.new }
+    ensures counted { CountsAtMost 4 edges.now count.old count.new }
+    ensures kept { OnOk result (CountsAtMost 3 edges.now count.old count.new) }
     ensures refused { IfErr result (λ e. IsReason e count.new) }
 {
     rehearse(alloc, noted, leash, count)?;
@@ -247,7 +250,8 @@ pub fn first_pass(
     requires { IsProper edges.now }
     ensures pile { IfOk result (λ s. IsPile edges.now s.log s.todo s.live) }
     ensures clear { IfOk result (λ s. AllClear s.live) }
-    ensures counted { CountsSplits edges.now count.old count.new }
+    ensures counted { CountsAtMost 49 edges.now count.old count.new }
+    ensures kept { OnOk result (CountsAtMost 48 edges.now count.old count.new) }
     ensures refused { IfErr result (λ e. IsReason e count.new) }
 {
     let mut leash = Leash::new(alloc);

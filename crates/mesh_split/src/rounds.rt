@@ -8,7 +8,7 @@ ghost use Rattle.std.specs.Prelude.{IfErr, IfOk, IfSome, OnErr, OnOk};
 ghost use Rattle.mesh_plane.specs.Plane.{Edge};
 ghost use Rattle.mesh_lattice.specs.Clean.{IsProper};
 ghost use Rattle.mesh_lattice.specs.Split.{IsLegal};
-ghost use Rattle.mesh_split.specs.Counting.{CountsSplits, CountsWith, IsReason, IsWithinLimit};
+ghost use Rattle.mesh_split.specs.Counting.{CountsAmong, CountsAtMost, IsReason, IsWithinLimit};
 ghost use Rattle.mesh_split.specs.Private.Cells.{StandsIn};
 ghost use Rattle.mesh_split.specs.Private.Groups.{
   all_in,
@@ -360,7 +360,8 @@ fn split_pairs(
     ensures none_lives { OnOk result (splitter.new.live ≡ []) }
     ensures grows { IfOk result (λ o. IfSome o (λ born. lists ≡ true
         → Grows splitter.old.todo splitter.new.todo born.items)) }
-    ensures counted { CountsSplits edges.now count.old count.new }
+    ensures same { OnOk result (count.new ≡ count.old) }
+    ensures counted { CountsAtMost 1 edges.now count.old count.new }
     ensures refused { IfErr result (λ e. IsReason e count.new) }
 {
     splitter
@@ -521,10 +522,12 @@ impl Rounds {
         requires proper { IsProper edges.now }
         requires round { IsRound edges.now self.old }
         ensures round { OnOk result (IsRound edges.now self.new) }
-        ensures counted { (before : SplitCount) → CountsSplits edges.now before count.old
-            → CountsSplits edges.now before count.new }
+        ensures same { ¬ (turn ≡ 12) → count.new ≡ count.old }
+        ensures counted { CountsAtMost 1 edges.now count.old count.new }
         ensures refused { IfErr result (λ e. IsReason e count.new) }
     {
+        // Read, so that it is known to fit: a return before any attempt counts none.
+        let _made = count.made;
         if turn != ROUNDS {
             return Ok(());
         }
@@ -543,10 +546,12 @@ impl Rounds {
         requires { IsRound edges.now self.old }
         ensures kept { IfOk result (λ b. b ≡ true → IsRound edges.now self.new) }
         ensures legal { OnOk result (IsLegal edges.now self.new.splitter.log) }
-        ensures counted { (before : SplitCount) → CountsSplits edges.now before count.old
-            → CountsSplits edges.now before count.new }
+        ensures same { OnOk result (count.new ≡ count.old) }
+        ensures counted { CountsAtMost 1 edges.now count.old count.new }
         ensures refused { IfErr result (λ e. IsReason e count.new) }
     {
+        // Read, as above.
+        let _made = count.made;
         let fresh = self.fresh.len();
         let Some(held) = self.hold(alloc)? else {
             return Ok(false);
@@ -572,8 +577,8 @@ pub fn split_in_rounds(
 ) -> Result<Option<Settled>, SplitError>
     requires { IsProper edges.now }
     ensures settled { IfOk result (λ o. IfSome o (λ s. IsSettled edges.now s.log s.segments.items)) }
-    ensures counted { CountsSplits edges.now count.old count.new }
-    ensures standing { IfOk result (λ o. IfSome o (λ s. CountsWith edges.now count.old count.new s.log)) }
+    ensures counted { CountsAtMost 2 edges.now count.old count.new }
+    ensures standing { IfOk result (λ o. IfSome o (λ s. CountsAmong 2 edges.now count.old count.new s.log)) }
     ensures within { IfOk result (λ o. IfSome o (λ s. IsWithinLimit count.new)) }
     ensures refused { IfErr result (λ e. IsReason e count.new) }
 {

@@ -6,7 +6,7 @@ ghost use Rattle.mesh_plane.specs.Winding.{sum_of};
 ghost use Rattle.mesh_lattice.specs.Clean.{IsProper};
 ghost use Rattle.mesh_lattice.specs.Counted.{size, IsRoomy};
 ghost use Rattle.mesh_lattice.specs.Splitting.{IsSplitting};
-ghost use Rattle.mesh_split.specs.Counting.{CountsSplits, CountsWith, IsReason, IsWithinLimit};
+ghost use Rattle.mesh_split.specs.Counting.{CountsAmong, CountsAtMost, CountsSplits, CountsWith, IsReason, IsWithinLimit};
 ghost use Rattle.mesh_split.specs.Private.Steps.{IsSettled};
 ghost use Rattle.mesh_split.specs.Told.{IsCountedSplitting, IsToldSplitting};
 
@@ -47,8 +47,8 @@ pub fn split_edges(alloc: Global, edges: &[LatticeEdge]) -> Result<Vec<CountedSe
 }
 
 /// The same, and tells how near the splits lie to the edges. The splits are counted on, those of attempts that were
-/// given up too, whatever comes of it. It fails where memory is refused, and where the splits pass the limit of the
-/// count, if it has one.
+/// given up too, whatever comes of it; there are at most 51 attempts. It fails where memory is refused, and where the
+/// splits pass the limit of the count, if it has one.
 pub fn split_edges_told(
     alloc: Global,
     edges: &[LatticeEdge],
@@ -99,8 +99,8 @@ fn settled_one_by_one(
 ) -> Result<Settled, SplitError>
     requires { IsProper edges.now }
     ensures settled { IfOk result (λ s. IsSettled edges.now s.log s.segments.items) }
-    ensures counted { CountsSplits edges.now count.old count.new }
-    ensures standing { IfOk result (λ s. CountsWith edges.now count.old count.new s.log) }
+    ensures counted { CountsAtMost 49 edges.now count.old count.new }
+    ensures standing { IfOk result (λ s. CountsAmong 49 edges.now count.old count.new s.log) }
     ensures within { OnOk result (IsWithinLimit count.new) }
     ensures refused { IfErr result (λ e. IsReason e count.new) }
 {

@@ -1,7 +1,6 @@
-use Rattle.std.proofs.Common.{subst, sym}
-use Rattle.mesh_split.specs.Counting.{CountsSplits}
+use Rattle.std.proofs.Common.{◌∙◌, subst}
+use Rattle.mesh_split.specs.Counting.{CountsAtMost}
 use Rattle.mesh_split.specs.declared.count.SplitCount.{SplitCount}
-use Rattle.mesh_split.proofs.Counts.{counts_both}
 use Rattle.mesh_split.proofs.Piles.{pile_again, pile_stepped}
 use Rattle.mesh_split.proofs.Starting.{moved_less, popped_absent, popped_room}
 use Rattle.mesh_split.proofs.first_pass.attempt.Goals as goal
@@ -27,7 +26,7 @@ loop-s-preserved c =
     let t = c.settle_leashed.new.self in
     let e = c.in_ok-is_clear.ensures in
     record {
-      counted = subst (λ (n : SplitCount). CountsSplits c.args.edges.now c.args.count.now n) (sym c.in_ok-check.ensures.same) c.loop-s.invariant.counted;
+      same = c.in_ok-check.ensures.same ∙ c.loop-s.invariant.same;
       pile = pile_stepped c.args.edges.now s.log t.log s.todo c.pop.new.self s.live t.todo t.live c.in-Some.s c.in-Some.ensures.taken e.moves c.loop-s.invariant.pile;
       clear = λ still. e.clear still c.loop-s.invariant.clear;
     }
@@ -37,8 +36,7 @@ returns-in_err-check-clause-counted c =
     let s = c.loop-s.splitter in
     let t = c.settle_leashed.new.self in
     let pile = pile_stepped c.args.edges.now s.log t.log s.todo c.pop.new.self s.live t.todo t.live c.in-Some.s c.in-Some.ensures.taken c.in_ok-is_clear.ensures.moves c.loop-s.invariant.pile in
-    counts_both c.args.edges.now c.args.count.now c.loop-s.count c.check.new.self c.loop-s.invariant.counted
-    (c.in_err-check.ensures.counted c.args.edges.now pile.reached.legal)
+    subst (λ (n : SplitCount). CountsAtMost 1 c.args.edges.now n c.check.new.self) c.loop-s.invariant.same (c.in_err-check.ensures.counted c.args.edges.now pile.reached.legal)
 
 pub returns-clause-pile : goal.returns-clause-pile
 returns-clause-pile c =

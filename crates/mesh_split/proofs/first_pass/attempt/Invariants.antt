@@ -1,11 +1,10 @@
 use Rattle.std.specs.Prelude.{◌≡◌, true, unsigned_abs}
-use Rattle.mesh_split.specs.Counting.{CountsSplits}
 use Rattle.mesh_split.specs.Private.Steps.{IsPile, AllClear, work}
 use Rattle.mesh_split.proofs.first_pass.attempt.Given as goal
 
 abbrev pub invariant-loop-s : goal.invariant-loop-s
 invariant-loop-s l = record {
-  counted : CountsSplits l.fn.edges l.fn.count l.count;
+  same : l.count ≡ l.fn.count;
   pile : IsPile l.fn.edges l.splitter.log l.splitter.todo l.splitter.live;
   clear : l.is_clear ≡ true → AllClear l.splitter.live;
 }

@@ -1,7 +1,6 @@
-use Rattle.std.proofs.Common.{rules, subst, sym}
-use Rattle.mesh_split.specs.Counting.{CountsSplits}
+use Rattle.std.proofs.Common.{refl, ◌∙◌, subst}
+use Rattle.mesh_split.specs.Counting.{CountsAtMost}
 use Rattle.mesh_split.specs.declared.count.SplitCount.{SplitCount}
-use Rattle.mesh_split.proofs.Counts.{counts_both, counts_none}
 use Rattle.mesh_split.proofs.Piles.{pile_once}
 use Rattle.mesh_split.proofs.first_pass.split_noted.Goals as goal
 
@@ -12,7 +11,7 @@ take_up-requires c =
 
 pub loop-split-init : goal.loop-split-init
 loop-split-init c = record {
-  counted = counts_none c.args.edges.now c.args.count.now (search rules);
+  same = refl;
   pile = c.in_ok-take_up.ensures c.args.edges.now c.in_ok-splitter.ensures.pile;
 }
 
@@ -24,12 +23,11 @@ pub loop-split-preserved : goal.loop-split-preserved
 loop-split-preserved c =
     let pile = c.in_ok-split_live.ensures c.args.edges.now c.loop-split.invariant.pile in
     record {
-      counted = subst (λ (n : SplitCount). CountsSplits c.args.edges.now c.args.count.now n) (sym c.in_ok-check.ensures.same) c.loop-split.invariant.counted;
+      same = c.in_ok-check.ensures.same ∙ c.loop-split.invariant.same;
       pile = c.in_ok-take_up-2.ensures c.args.edges.now pile;
     }
 
 pub returns-in_err-check-clause-counted : goal.returns-in_err-check-clause-counted
 returns-in_err-check-clause-counted c =
     let pile = c.in_ok-split_live.ensures c.args.edges.now c.loop-split.invariant.pile in
-    counts_both c.args.edges.now c.args.count.now c.loop-split.count c.check.new.self c.loop-split.invariant.counted
-    (c.in_err-check.ensures.counted c.args.edges.now pile.reached.legal)
+    subst (λ (n : SplitCount). CountsAtMost 1 c.args.edges.now n c.check.new.self) c.loop-split.invariant.same (c.in_err-check.ensures.counted c.args.edges.now pile.reached.legal)

@@ -1,5 +1,6 @@
-use Rattle.std.proofs.Common.{rules, inl}
-use Rattle.mesh_split.proofs.Counts.{counts_both, counts_none}
+use Rattle.std.proofs.Common.{inl, refl, rules, subst}
+use Rattle.mesh_split.specs.Counting.{CountsAtMost}
+use Rattle.mesh_split.specs.declared.count.SplitCount.{SplitCount}
 use Rattle.mesh_split.proofs.Piles.{pile_ordered, waits_ordered}
 use Rattle.mesh_split.proofs.Rounding.{grows_on}
 use Rattle.mesh_split.proofs.rounds.split_pairs.Goals as goal
@@ -8,7 +9,7 @@ pub loop-turn-init : goal.loop-turn-init
 loop-turn-init c =
     let old = c.args.splitter.now in
     record {
-      counted = counts_none c.args.edges.now c.args.count.now (search rules);
+      same = refl;
       pile = pile_ordered c.args.edges.now old.log old.todo c.reserve.new.self old.live c.in_ok-reserve.ensures c.requires.pile;
       none_lives = c.requires.none_lives;
       grows = λ _ x w. inl (waits_ordered x old.todo c.reserve.new.self c.in_ok-reserve.ensures w);
@@ -16,12 +17,12 @@ loop-turn-init c =
 
 pub returns-in_err-check-clause-counted : goal.returns-in_err-check-clause-counted
 returns-in_err-check-clause-counted c =
-    counts_both c.args.edges.now c.args.count.now c.loop-turn.count c.check.new.self c.loop-turn.invariant.counted
+    subst (λ (n : SplitCount). CountsAtMost 1 c.args.edges.now n c.check.new.self) c.loop-turn.invariant.same
     (c.in_err-check.ensures.counted c.args.edges.now (c.in_ok-split_pair.ensures.kept c.args.edges.now c.loop-turn.invariant.pile).reached.legal)
 
 pub loop-turn-preserved : goal.loop-turn-preserved
 loop-turn-preserved c = record {
-  counted = search rules;
+  same = search rules;
   pile = search rules;
   none_lives = search rules;
   grows = grows_on c.args.lists _ _ _ _ _ c.loop-turn.invariant.grows c.in_ok-split_pair.ensures.grows c.in_ok-split_pair.ensures.listed;

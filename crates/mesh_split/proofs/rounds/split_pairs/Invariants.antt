@@ -1,12 +1,11 @@
 use Rattle.std.proofs.Common.{◌≡◌, true, []}
-use Rattle.mesh_split.specs.Counting.{CountsSplits}
 use Rattle.mesh_split.specs.Private.Growth.{Grows}
 use Rattle.mesh_split.specs.Private.Steps.{IsPile}
 use Rattle.mesh_split.proofs.rounds.split_pairs.Given as goal
 
 abbrev pub invariant-loop-turn : goal.invariant-loop-turn
 invariant-loop-turn l = record {
-  counted : CountsSplits l.fn.edges l.fn.count l.count;
+  same : l.count ≡ l.fn.count;
   pile : IsPile l.fn.edges l.splitter.log l.splitter.todo l.splitter.live;
   none_lives : l.splitter.live ≡ [];
   grows : l.lists ≡ true → Grows l.fn.splitter.todo l.splitter.todo l.born.items;

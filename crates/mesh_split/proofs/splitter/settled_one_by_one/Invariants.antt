@@ -1,11 +1,11 @@
 use Rattle.std.specs.Prelude.{unsigned_abs}
-use Rattle.mesh_split.specs.Counting.{CountsSplits}
+use Rattle.mesh_split.specs.Counting.{CountsAtMost}
 use Rattle.mesh_split.specs.Private.Steps.{IsPile, AllClear, work}
 use Rattle.mesh_split.proofs.splitter.settled_one_by_one.Given as goal
 
 abbrev pub invariant-loop-s : goal.invariant-loop-s
 invariant-loop-s l = record {
-  counted : CountsSplits l.fn.edges l.fn.count l.count;
+  counted : CountsAtMost 48 l.fn.edges l.fn.count l.count;
   pile : IsPile l.fn.edges l.splitter.log l.splitter.todo l.splitter.live;
   clear : AllClear l.splitter.live;
 }
