@@ -1,4 +1,4 @@
-//! Directed arcs: a direction is turned by equal steps until an end is passed.
+//! Arcs of directions: a direction is turned by equal steps until it passes an end.
 
 ghost use Rattle.std.specs.Prelude.{◌≡◌, ◌^◌, ◌≤◌, length, [], IsOk, IfOk};
 ghost use Rattle.std.specs.Borrow.{sem};
@@ -27,11 +27,10 @@ pub enum ArcDirection {
 /// How finely an arc is drawn.
 #[derive(Debug, Clone, Copy, PartialEq, Eq)]
 pub struct ArcOptions {
-    /// The greatest angle between neighbouring directions. Below `MIN_STEP` it counts as that, above `MAX_STEP` as
-    /// that.
+    /// The greatest angle between neighbouring directions. Values below `MIN_STEP` or above `MAX_STEP` count as these.
     pub max_step: Angle,
-    /// How near the step comes to the greatest one: with precision `p` it is the fraction `2^p / (2^p + 1)` of it, less
-    /// `2^33 / UNIT` bits for the sake of rounding. Below 4 it counts as 4, above 32 as 32.
+    /// How near the step comes to the greatest one: with precision `p` it is `2^p / (2^p + 1)` of it, less `2^33 /
+    /// UNIT` bits to allow for rounding. Values below 4 count as 4, those above 32 as 32.
     pub rotation_precision: u32,
 }
 
@@ -94,7 +93,7 @@ impl<I: IntNumber> Model for IntegerArc<I> {
 impl<I: IntNumber> IntegerArc<I> {
     ghost use Rattle.mesh_arc.specs.contracts.arc.IntegerArc.{the_row};
 
-    /// A builder of arcs with these options, each brought into its range. It takes no memory.
+    /// A builder of arcs with these options, each brought into its range. It allocates nothing.
     pub fn new(alloc: Global, options: ArcOptions) -> Self
         ensures options { result.options ≡ clamped_of options }
         ensures empty { result.directions ≡ [] }
@@ -145,13 +144,13 @@ impl<I: IntNumber> IntegerArc<I> {
         steps.fill(from, to, &mut self.directions)
     }
 
-    /// The directions between `from` and `to`, in this sense, without these two: `from` turned by one step, two, and so
-    /// on, as long as `to` is not passed, but none where `to` is within the greatest step of `from`. There are at most
-    /// 1536, and fewer where cutting leaves a step that does not lead on or is too great, which with the default
-    /// options it never does.
+    /// The directions between `from` and `to`, without these two, in this sense: `from` turned by one step, by two, and
+    /// so on, until `to` would be passed. There are none where `to` is within the greatest step of `from`. There are at
+    /// most 1536, and fewer where rounding makes a step too great or lets it stand still; with the default options it
+    /// never does.
     ///
-    /// Both directions are fresh. The list is lent from a buffer that the next arc uses again; where the buffer has
-    /// room for the arc no memory is taken. After a refusal the buffer is empty.
+    /// Both directions have to be such as `fast_normalize` returns. The list is borrowed from a buffer that the next
+    /// arc reuses; where the buffer has room for the arc nothing is allocated. After an error the buffer is empty.
     pub fn build(
         &mut self,
         from: UnitIntVector<I>,

@@ -1,4 +1,4 @@
-//! The overlay: what directed edges fill, as shapes of contours.
+//! The overlay: computes the region that directed edges fill, and returns it as polygons with holes.
 
 ghost use Rattle.std.specs.Prelude.{◌≡◌, ◌↔◌, ◌+◌, ◌≤◌, ◌++◌, true, List, [], length, vec_capacity, IsTrue};
 ghost use Rattle.std.specs.Prelude.{IfOk, IsOk, OnOk, OnErr};
@@ -27,14 +27,14 @@ use mesh_num::shape::buffer::{FlatContoursBuffer, IntShapes};
 use mesh_num::shape::segment::Segment;
 use std::alloc::{AllocError, Global};
 
-/// Which segments make up an answer: those of the subject, which all segments here belong to.
+/// Which segments take part in an overlay. All segments here belong to the subject.
 #[derive(Debug, Copy, Clone, PartialEq, Eq)]
 pub enum OverlayRule {
     /// All segments.
     Subject,
 }
 
-/// The sense in which contours that bound a shape from outside run; its holes run the other way.
+/// The direction in which outer contours run. Holes run the other way.
 #[derive(Debug, Copy, Clone, PartialEq, Eq)]
 pub enum ContourDirection {
     /// Outer contours counterclockwise, holes clockwise.
@@ -53,20 +53,20 @@ impl Default for ContourDirection {
     }
 }
 
-/// What an answer depends on besides edges and fill rule. The type of the area is the unsigned wide one of the
-/// coordinates.
+/// Options of the result. `U` is the unsigned type that holds an area: `u32` for `i16`, `u64` for `i32`.
 #[derive(Debug, Copy, Clone)]
 pub struct IntOverlayOptions<U> {
-    /// Contours of less area, in squares of the grid, are left out.
+    /// Contours that enclose less area than this, in square grid units, are left out. 0 keeps all of them.
     pub min_output_area: U,
-    /// The sense in which outer contours run.
+    /// The direction in which outer contours run.
     pub output_direction: ContourDirection,
-    /// Whether vertices that contours run straight through stay.
+    /// Whether vertices on a straight line between their neighbours are kept.
     pub preserve_output_collinear: bool,
 }
 
 impl<U: WideUnsigned> IntOverlayOptions<U> {
-    /// The default options: no least area, counterclockwise, without straight-through vertices.
+    /// The default options: every contour is kept, outer contours run counterclockwise, and vertices on a straight line
+    /// are dropped.
     pub fn new() -> Self
         ensures { choices_of U.value result ≡ plain }
     {
@@ -95,32 +95,31 @@ impl<U: WideUnsigned> Default for IntOverlayOptions<U> {
     }
 }
 
-/// What segments fill, as shapes, and what is known of these: whether they are settled, and whether their edges are
-/// their own boundary.
+/// The polygons of an overlay, and what is known of them that can save a second overlay.
 #[derive(Debug, Drop)]
 pub struct OverlayAnswer<I: IntNumber> {
     /// The shapes.
     pub shapes: IntShapes<I>,
-    /// Whether the shapes are known to be settled: they are an answer also of the edges of their own contours, by the
-    /// fill rule `Positive` and with the same options.
+    /// Whether the polygons would come back unchanged from a second overlay: they are also an answer for the edges of
+    /// their own contours, by the fill rule `Positive` and with the same options. `false` means that this is not known.
     pub is_settled: bool,
-    /// Whether the edges of the shapes' contours are known to be their own boundary: they share only common ends, and
-    /// of each the left side alone is filled by the fill rule `Positive`. Then `arranged` brings them into shapes
-    /// again.
+    /// Whether the edges of these contours are known to need no splitting: they share only common ends, and each has
+    /// the filled region on its left alone, by the fill rule `Positive`. Then `arranged` turns them into polygons
+    /// again, with any options. `false` means that this is not known.
     pub is_own_boundary: bool,
 }
 
-/// Segments that are resolved into shapes.
+/// Segments to be turned into polygons.
 #[derive(Debug, Drop)]
 pub struct Overlay<I: IntNumber> {
     /// The segments, in any order.
     pub segments: Vec<Segment<I>>,
-    /// What an answer depends on besides them.
+    /// Options of the result.
     pub options: IntOverlayOptions<I::WideUInt>,
 }
 
 impl<I: IntNumber> Overlay<I> {
-    /// An overlay of these segments, with the default options. Takes no memory.
+    /// An overlay of these segments, with the default options. It allocates nothing.
     pub fn with_segments(segments: Vec<Segment<I>>) -> Self
         ensures segments { result.segments ≡ segments }
         ensures options { choices_of I.WideUInt.value result.options ≡ plain }
@@ -131,8 +130,8 @@ impl<I: IntNumber> Overlay<I> {
         }
     }
 
-    /// Adds segments to those that the overlay has. Where there is room for them it succeeds. `Err` says that memory
-    /// was refused, and then it is unchanged.
+    /// Adds segments to the overlay. It succeeds where the vector has room for them. `Err` means that memory was
+    /// refused; the overlay is then unchanged.
     pub fn add_segments(&mut self, segments: &[Segment<I>]) -> Result<(), AllocError>
         ensures ok { OnOk result (self.new.segments.items ≡ self.old.segments.items ++ segments.now) }
         ensures err { OnErr result (self.new.segments.items ≡ self.old.segments.items) }
@@ -145,10 +144,12 @@ impl<I: IntNumber> Overlay<I> {
         self.segments.extend_from_slice(segments)
     }
 
-    /// The shapes of what the segments fill. The segments are as `Segment::subject` gives them, balanced (at each
-    /// point as many of their edges start as end), and in the safe range: coordinates are in size below 2^14 for
-    /// `i16` and below 2^30 for `i32`, in units of the grid. `Err` says that memory was refused. The overlay stays as
-    /// it was in any case.
+    /// The polygons of the region that the segments fill: each polygon is its outer contour followed by its holes.
+    ///
+    /// The segments have to be such as `Segment::subject` makes, balanced (at each point as many edges start as end),
+    /// and in the safe range: coordinates of a size below 2^14 for `i16` and below 2^30 for `i32`, in grid units.
+    /// `are_resolvable` in `checks` tests this. `Err` means that memory was refused. The overlay is unchanged in any
+    /// case.
     pub fn overlay(&self, rule: OverlayRule, fill: FillRule) -> Result<IntShapes<I>, AllocError>
         requires subject { All IsSubject self.now.segments.items }
         requires balanced { IsBalanced (edges_of self.now.segments.items) }
@@ -162,11 +163,10 @@ impl<I: IntNumber> Overlay<I> {
         Ok(self.overlay_answer(rule, fill)?.shapes)
     }
 
-    /// `overlay`, and what is known of its shapes. Nothing is known where the options ask a least area above 0 or outer
-    /// contours that run clockwise. Else they are known to be settled where the contours have all points of the
-    /// boundary as vertices: then their edges need not be resolved once more, by the fill rule `Positive` and with the
-    /// same options. Their edges are known to be their own boundary where at each point that a contour leaves out one
-    /// edge of the boundary alone starts: then `arranged` brings them into shapes by any options.
+    /// The same as `overlay`, together with what is known of the polygons. Nothing is known where the options ask for a
+    /// least area above 0 or for outer contours that run clockwise. Otherwise the polygons are settled where every
+    /// point of the boundary is a vertex, and they need no splitting where only one edge of the boundary starts at each
+    /// point that is not a vertex.
     pub fn overlay_answer(
         &self,
         rule: OverlayRule,
@@ -190,9 +190,9 @@ impl<I: IntNumber> Overlay<I> {
         }
     }
 
-    /// Puts the contours of what the segments fill in place of the buffer's own, those of one shape after those of
-    /// another. It asks what `overlay` asks. `Err` says that memory was refused, and then the buffer is unchanged.
-    /// The overlay itself stays as it was in any case.
+    /// Replaces the contours in the buffer by those of `overlay`, polygon by polygon. It requires what `overlay`
+    /// requires. `Err` means that memory was refused; the buffer is then unchanged. The overlay is unchanged in any
+    /// case.
     pub fn overlay_into(
         &self,
         rule: OverlayRule,
@@ -263,9 +263,9 @@ fn choices_for<I: IntNumber>(options: IntOverlayOptions<I::WideUInt>) -> Choices
     }
 }
 
-/// The shapes of what the edges of these shapes' contours fill by the fill rule `Positive`, with these options, where
-/// the edges are their own boundary, as `Overlay::overlay_answer` tells. Nothing is split: the contours are there, and
-/// are brought into order and grouped anew. `Err` says that memory was refused.
+/// Turns the contours of these polygons into polygons again, with other options. The contours have to need no
+/// splitting, as `OverlayAnswer::is_own_boundary` reports, so they are only sorted and grouped anew. `Err` means that
+/// memory was refused.
 pub fn arranged<I: IntNumber>(
     alloc: Global,
     shapes: &IntShapes<I>,

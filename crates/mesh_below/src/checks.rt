@@ -1,4 +1,4 @@
-//! Tests of what the overlay asks of segments, for callers that have them from elsewhere.
+//! Tests of what the overlay requires of its segments, for callers that get segments from elsewhere.
 
 ghost use Rattle.std.specs.Prelude.{◌≡◌, ◌↔◌, map, IsTrue, IfOk};
 ghost use Rattle.std.specs.List.{All};
@@ -18,7 +18,7 @@ use mesh_num::shape::segment::Segment;
 use mesh_shapes::trace::edges_by_start;
 use std::alloc::{AllocError, Global};
 
-/// Whether a segment is as `Segment::subject` gives it.
+/// Whether the segment is one that `Segment::subject` could have made.
 fn is_subject<I: IntNumber>(s: Segment<I>) -> bool
     ensures { IsTrue result ↔ IsSubject s }
 {
@@ -93,7 +93,7 @@ fn start_alike(first: &[LatticeEdge], second: &[LatticeEdge]) -> bool
     true
 }
 
-/// Whether at each point as many of the edges start as end. `Err` says that memory was refused.
+/// Whether the edges are balanced: at each point as many of them start as end. `Err` means that memory was refused.
 pub fn are_balanced(alloc: Global, edges: &[LatticeEdge]) -> Result<bool, AllocError>
     ensures { IfOk result (λ b. IsTrue b ↔ IsBalanced edges.now) }
 {
@@ -102,8 +102,8 @@ pub fn are_balanced(alloc: Global, edges: &[LatticeEdge]) -> Result<bool, AllocE
     Ok(start_alike(&leaving, &entering))
 }
 
-/// Whether the overlay can resolve the segments: they are as `Segment::subject` gives them, balanced, and in the safe
-/// range. `Err` says that memory was refused.
+/// Whether the segments meet what `Overlay::overlay` requires: they are such as `Segment::subject` makes, balanced, and
+/// in the safe range. `Err` means that memory was refused.
 pub fn are_resolvable<I: IntNumber>(
     alloc: Global,
     segments: &[Segment<I>],

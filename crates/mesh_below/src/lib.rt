@@ -1,13 +1,15 @@
-//! The layer below the offset operations: what directed edges fill, as shapes of contours.
+//! The overlay: turns directed edges into clean polygons. It is the layer below the offset operations, and can be
+//! called on its own.
 //!
-//! Read `Resolution` of `mesh_shapes/specs` first. It has the one relation, 'this answer is a resolution of these
-//! edges by this fill and these options', that the calls of `below` promise; its words are in `Split`, `Clean` and
-//! `Boundary` of `mesh_lattice/specs` and in `Contours` beside it. What follows from it, as that answers are regions, is
-//! in `specs/Laws.antt` and the module `laws`.
+//! Start with `below`, which has the public calls. What they promise is one relation, `IsResolution` in
+//! `mesh_shapes/specs/Resolution.antt`: this answer is a resolution of these edges by this fill rule and these options.
+//! Its words are defined in `Split`, `Clean` and `Boundary` of `mesh_lattice/specs`, and in `Contours` beside it. What
+//! follows from the relation, for instance how often the answer winds round each point, is in `specs/Laws.antt` and the
+//! module `laws`.
 //!
-//! The way from segments to shapes: `given` makes edges of them, `mesh_split` splits these until they share only ends,
-//! `mesh_boundary` finds the boundary of what they fill, `mesh_shapes` makes contours of it, and brings these into
-//! order and groups them; `resolve` is the whole way, and `below` has its public calls.
+//! On the way from segments to polygons, `given` reads the segments as directed edges, `mesh_split` splits these until
+//! they share only ends, `mesh_boundary` finds the boundary of the filled region, and `mesh_shapes` joins it into
+//! contours, sorts them, and puts each hole into its polygon. `resolve` runs all of it.
 #![tactic(auto)]
 
 mod answer;

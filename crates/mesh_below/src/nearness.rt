@@ -1,4 +1,4 @@
-//! The overlay, and how near to the given edges its answer is exact.
+//! The overlay with a proved error bound.
 
 ghost use Rattle.std.specs.Prelude.{◌≡◌, ◌≤◌, ◌^◌, IfOk, OnOk};
 ghost use Rattle.std.specs.List.{All};
@@ -23,22 +23,24 @@ use mesh_num::num::IntNumber;
 use mesh_num::shape::buffer::IntShapes;
 pub use mesh_split::count::{SplitCount, SplitError};
 
-/// Shapes, and how near to the given edges they are exact.
+/// Polygons with a proved error bound.
 #[derive(Debug, Drop)]
 pub struct NearShapes<I: IntNumber> {
-    /// The shapes.
+    /// The polygons.
     pub shapes: IntShapes<I>,
-    /// The distance, in 64ths of a grid unit, rounded up: the shapes are exact at each point that is farther from each
-    /// given edge, where distance is the greater of both coordinates' differences. 0 where rounding moved nothing.
+    /// The error bound, in 64ths of a grid unit, rounded up. The polygons are exactly right at each point that is
+    /// farther than this from every given edge; distance is the greater of the differences in x and in y. 0 means that
+    /// rounding moved nothing.
     pub nearness: u64,
 }
 
 impl<I: IntNumber> Overlay<I> {
-    /// `overlay`, and how near to the segments' edges the answer is exact: at each point farther than the nearness from
-    /// each of them it is what they fill, and each point of its contours lies within the nearness of one of them. It
-    /// asks what `overlay` asks. The splits are counted on, those of attempts that were given up too; `TooManySplits`
-    /// says that the count passed its limit, `OutOfMemory` that a growth was refused. The overlay stays as it was in
-    /// any case.
+    /// The same as `overlay`, with a proved error bound, the nearness: at each point farther than it from all given
+    /// edges the polygons hold exactly what the edges fill, and each point of their contours lies within it of a given
+    /// edge. It requires what `overlay` requires.
+    ///
+    /// Every split of an edge is added to `count`, those of attempts that were given up too. `TooManySplits` means that
+    /// the count passed its limit, `OutOfMemory` that memory was refused. The overlay is unchanged in any case.
     pub fn overlay_with_nearness(
         &self,
         rule: OverlayRule,

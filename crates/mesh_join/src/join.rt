@@ -26,7 +26,7 @@ pub(crate) enum Method<I: IntNumber> {
     Round(Round<I>),
 }
 
-/// Adds the edges that connect both offset points of an outer corner. Contracts see its style.
+/// Draws the joins of outer corners. Contracts see the style.
 #[derive(Debug, Drop)]
 pub struct Join<I: IntNumber> {
     method: Method<I>,
@@ -42,7 +42,7 @@ impl<I: IntNumber> Model for Join<I> {
 }
 
 impl<I: IntNumber> Join<I> {
-    /// A join of this kind; `min_turn` is the turn below which a miter is a bevel. It takes no memory.
+    /// A join of this kind; `min_turn` is the turn below which a miter is drawn as a bevel. It allocates nothing.
     pub fn new(alloc: Global, kind: IntLineJoin, min_turn: Angle) -> Self
         ensures { result ≡ record { kind = kind; min_turn = min_turn } }
     {
@@ -54,8 +54,8 @@ impl<I: IntNumber> Join<I> {
         Join { method }
     }
 
-    /// How far a join of this kind reaches from its corner in each coordinate, in grid units: at least the size of the
-    /// radius. A radius below 0, as an offset inwards, counts as its size; each radius is accepted.
+    /// How far a join of this kind reaches from its corner in x and in y, in grid units. It is at least the size of the
+    /// radius. A negative radius, as of an inward offset, counts as its size; every radius is accepted.
     pub fn padding(kind: IntLineJoin, radius: I) -> I::Wide
         ensures value { I.Wide.value result ≡ join_padding kind (I.value radius) }
         ensures covers { pos (unsigned_abs (I.value radius)) ≤ℤ I.Wide.value result }
@@ -67,13 +67,14 @@ impl<I: IntNumber> Join<I> {
         }
     }
 
-    /// Adds the edges of the join round `center` from `a` to `b`, the contact points of the directions before and after
-    /// the corner. Where `a` equals `b` there are none: then it takes no memory, and the vector keeps its capacity. The
-    /// edges never turn back round `center`, and stay within the padding. Where there is room for them it succeeds, but
-    /// for a round join, whose arc has a buffer of its own. After a refusal the vector is cut back to its old length.
+    /// Adds the edges of the join round `center` from `a` to `b`, the moved end points before and after the corner.
+    /// Nothing is added where `a` equals `b`; then nothing is allocated, and the vector keeps its capacity. The edges
+    /// never turn back round `center`, and stay within the padding. The call succeeds where the vector has room for
+    /// them, except for a round join, whose arc has a buffer of its own. After an error the vector has its old length.
     ///
-    /// The radius, in grid units, is at least 0. Both directions are fresh, and do not turn back from the first to the
-    /// second in the sense of the arc. The corner stays in the safe range where it moves by the padding.
+    /// The radius, in grid units, has to be at least 0. Both directions have to be such as `fast_normalize` returns,
+    /// and must not turn back from the first to the second in the sense of the arc. The corner has to stay in the safe
+    /// range when it moves by the padding.
     #[allow(clippy::too_many_arguments)]
     pub fn add(
         &mut self,

@@ -1,4 +1,4 @@
-//! Styles: offsets, widths, joins, caps and the arithmetic that they are computed with.
+//! Styles: offsets, widths, joins, caps, and the arithmetic they use.
 
 ghost use Rattle.std.specs.Prelude.{◌≡◌};
 
@@ -10,50 +10,50 @@ mod variable;
 
 pub use variable::{DEFAULT_VARIABLE_STEP, IntStrokeVertex, IntVariableStrokeStyle};
 
-/// The arithmetic of a construction. With whole numbers no step depends on a machine's rounding.
+/// The arithmetic of a construction. With whole numbers the result is the same on every machine.
 #[derive(Debug, Clone, Copy, PartialEq, Eq)]
 pub enum MathMode {
-    /// Whole numbers alone.
+    /// Whole numbers only.
     Integer,
 }
 
-/// How the sections of a boundary are connected at an outer corner.
+/// How the sections of a boundary are joined at an outer corner.
 #[derive(Debug, Clone, Copy, PartialEq, Eq, Default)]
 pub enum IntLineJoin {
-    /// The straight edge between both offset points.
+    /// A straight edge between the two moved end points.
     #[default]
     Bevel,
-    /// The peak in which both moved sections meet. The angle, in bits of 2^32 a turn, counts as at least 5 degrees
-    /// (59,652,323 bits) and less than half a turn. Where the angle between the sections is below it, the peak is
-    /// clipped by an edge whose ends are as far away as the peak of this angle would be. Slight turns are bevelled, and
-    /// corners whose peak would turn back or lie past the padding.
+    /// A sharp corner, where the two moved sections meet. The angle is the least angle between sections that still gets
+    /// a peak, in bits of 2^32 a turn; it counts as at least 5 degrees (59,652,323 bits) and as less than half a turn.
+    /// Corners with a smaller angle are clipped by an edge, whose ends are as far away as the peak of this angle would
+    /// be. Slight turns are bevelled, and so are corners whose peak would turn back or lie beyond the padding.
     Miter(Angle),
-    /// An arc round the corner, whose directions are at most the greatest step of the options apart, but for the last
-    /// one where the arc broke off. Points that rounding puts behind the one before them are left out, and leave a
-    /// wider gap.
+    /// An arc round the corner. Neighbouring points differ in direction by at most the greatest step of the options,
+    /// except for the last one where the arc was cut short. Points that rounding puts behind the one before them are
+    /// left out, which leaves a wider gap.
     Round(ArcOptions),
 }
 
-/// The turn below which a miter is a bevel, in bits of 2^32 a turn: 5 degrees, cut.
+/// The default turn below which a miter is drawn as a bevel, in bits of 2^32 a turn: 5 degrees, rounded down.
 pub const DEFAULT_MITER_MIN_TURN: u32 = 59_652_323;
 
-/// How contours are offset.
+/// The style of an outline.
 #[derive(Debug, Clone, Copy)]
 pub struct IntOutlineStyle<I: IntNumber> {
-    /// How far outer boundaries move, in grid units: outwards above 0, inwards below.
+    /// How far outer boundaries move, in grid units: outwards if above 0, inwards if below.
     pub outer_offset: I,
-    /// How far holes' boundaries move, in grid units: into the hole above 0, out of it below.
+    /// How far the boundaries of holes move, in grid units: into the hole if above 0, out of it if below.
     pub inner_offset: I,
     /// The join of outer corners.
     pub join: IntLineJoin,
-    /// The turn below which a miter is a bevel. More than half a turn counts as half a turn.
+    /// The turn below which a miter is drawn as a bevel. More than half a turn counts as half a turn.
     pub miter_min_turn: Angle,
     /// The arithmetic.
     pub math: MathMode,
 }
 
 impl<I: IntNumber> IntOutlineStyle<I> {
-    /// Both offsets the same, with bevels.
+    /// The style with this offset for outer boundaries and holes, and bevel joins.
     pub fn new(offset: I) -> Self
         ensures { result ≡ record {
           outer_offset = offset;
@@ -120,55 +120,55 @@ impl<I: IntNumber> IntOutlineStyle<I> {
     }
 }
 
-/// How an end of an open path is closed.
+/// The cap at an end of an open path.
 #[derive(Debug, Clone, Drop)]
 pub enum IntLineCap<I: IntNumber> {
-    /// The straight edge through the end.
+    /// A straight edge through the end point.
     Butt,
-    /// The edge moved outwards by half the width, and the two edges that lead to it.
+    /// A straight edge half the width beyond the end point, and the two edges that lead to it.
     Square,
-    /// An arc round the end, whose directions are at most the greatest step of the options apart. Points that rounding
-    /// puts behind the one before them are left out.
+    /// An arc round the end point. Neighbouring points differ in direction by at most the greatest step of the options.
+    /// Points that rounding puts behind the one before them are left out.
     Round(ArcOptions),
-    /// Edges through these points, in grid units, round an end at (0, 0) that looks along the axis x; they are turned
-    /// to the direction in which the end looks. From the right of the path, where y is below 0, they lead to its left.
+    /// Edges through these points, in grid units, for an end at (0, 0) that looks along the x axis. They are turned to
+    /// the direction in which the end looks. They lead from the right of the path, where y is below 0, to its left.
     Custom(RcSlice<IntPoint<I>>),
 }
 
-/// Which side of its path a stroke is drawn on, seen along the path.
+/// Which side of its path a stroke covers, seen along the path.
 #[derive(Debug, Clone, Copy, PartialEq, Eq, Default)]
 pub enum StrokeSide {
     /// Both sides: the whole stroke.
     #[default]
     Both,
-    /// The left half alone, between the path and what lies to its left.
+    /// Only the left half, between the path and what lies to its left.
     Left,
-    /// The right half alone. Where the path turns exactly back, its join belongs to this half.
+    /// Only the right half. Where the path turns exactly back, the join belongs to this half.
     Right,
 }
 
-/// How paths are stroked.
+/// The style of a stroke.
 #[derive(Debug, Clone, Drop)]
 pub struct IntStrokeStyle<I: IntNumber> {
-    /// The width in grid units; half of it is rounded up. Nothing is drawn for a width of at most 2.
+    /// The width in grid units; half of it is rounded up. A width of at most 2 draws nothing.
     pub width: I,
     /// The cap at the start of an open path.
     pub start_cap: IntLineCap<I>,
     /// The cap at the end of an open path.
     pub end_cap: IntLineCap<I>,
-    /// The join of two neighbouring sections on the side that they turn away from.
+    /// The join on the outer side of a corner.
     pub join: IntLineJoin,
-    /// The turn below which a miter is a bevel. More than half a turn counts as half a turn.
+    /// The turn below which a miter is drawn as a bevel. More than half a turn counts as half a turn.
     pub miter_min_turn: Angle,
     /// The arithmetic.
     pub math: MathMode,
-    /// The side of the path that is drawn. A half, at the ends of an open path, is cut off straight: its caps are not
-    /// looked at.
+    /// The side of the path that the stroke covers. A half is cut off straight at the ends of an open path; its caps
+    /// are ignored.
     pub side: StrokeSide,
 }
 
 impl<I: IntNumber> IntStrokeStyle<I> {
-    /// Strokes of this width on both sides of their paths, with butt caps and bevels.
+    /// The style with this width, on both sides of the path, with butt caps and bevel joins.
     pub fn new(width: I) -> Self
         ensures { result ≡ record {
           width = width;
@@ -242,7 +242,7 @@ impl<I: IntNumber> IntStrokeStyle<I> {
         IntStrokeStyle { math, ..self }
     }
 
-    /// The style with another side. It keeps its caps, which a half does not look at.
+    /// The style with another side. It keeps its caps, which a half ignores.
     pub fn side(self, side: StrokeSide) -> Self
         ensures { result ≡ record self { side = side } }
     {

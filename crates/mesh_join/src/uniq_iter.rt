@@ -1,4 +1,4 @@
-//! The sections of a closed contour, without repeats and without points that it runs straight through.
+//! The sections of a closed contour, without repeated points and without points on a straight line.
 
 ghost use Rattle.std.specs.Prelude.{◌≡◌, ℕ, ℤ, pos, List, [], ◌∷◌, ◌++◌, MatchOption, IfSome, false};
 ghost use Rattle.std.specs.List.{All};
@@ -23,9 +23,8 @@ pub struct UniqueSegment<I: IntNumber> {
     pub b: IntPoint<I>,
 }
 
-/// The edges between the neighbouring kept points of a closed contour, in their order. Points that the contour
-/// runs straight through are left out, those where it turns back stay. Contracts see the list of the edges still to
-/// come.
+/// The edges of a closed contour, in order, without repeated points and without points that the contour runs straight
+/// through. Points where it turns back are kept. Contracts see the list of the edges still to come.
 #[derive(Drop)]
 pub struct UniqueSegmentsIter<'a, I: IntNumber> {
     from: IntPoint<I>,
@@ -47,11 +46,12 @@ impl<'a, I: IntNumber> Model for UniqueSegmentsIter<'a, I> {
 }
 
 impl<'a, I: IntNumber> UniqueSegmentsIter<'a, I> {
-    /// The sections of the closed contour of these points, each below `UNIT` in size in both coordinates;
-    /// `None` for no point or only equal ones. It takes no memory.
+    /// The sections of the closed contour through these points, which have to be below `UNIT` in size in both
+    /// coordinates. `None` means that there is no point, or that all points are equal. It allocates nothing.
     ///
-    /// There are at least two sections, each starts where the one before it ends, and none runs on in the direction of
-    /// the one before it, the first after the last too. At every point they wind as often as the contour does.
+    /// There are at least two sections. Each starts where the one before it ends, and none goes on in the direction of
+    /// the one before it; this holds for the first after the last too. At every point they wind as often as the contour
+    /// does.
     pub fn new(points: &'a [IntPoint<I>]) -> Option<Self>
         requires { All (IsSafe I.unit) points.now }
         ensures sections { MatchOption result (AllEqual points.now)

@@ -1,5 +1,5 @@
-//! Laws of the definitions that contracts cite. Each function does nothing, or returns the constants that it speaks of:
-//! its clause is the law.
+//! Laws of the definitions that contracts cite. Each function does nothing, or returns the constants it is about; the
+//! law is its contract.
 
 ghost use Rattle.std.specs.Prelude.{◌≡◌, ◌^◌, pos};
 ghost use Rattle.mesh_num.specs.Laws.{DirectionsAreUnique, FlatContoursAreFound};
@@ -13,13 +13,12 @@ pub use mesh_plane::laws::{
 };
 pub use mesh_sine::laws::sines_are_not_small;
 
-/// A vector other than 0 has one direction.
+/// Every vector other than 0 has exactly one direction.
 pub fn directions_are_unique()
     ensures { DirectionsAreUnique }
 {}
 
-/// Contours whose points stand end to end are found again by their ranges: a buffer that holds contours is the source
-/// of just these.
+/// A buffer that holds contours, one range of points each, is a source of exactly these contours.
 pub fn flat_contours_are_found()
     ensures { FlatContoursAreFound }
 {}

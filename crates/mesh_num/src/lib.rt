@@ -1,5 +1,5 @@
-//! Numbers, points, directions, rotations, angles and rectangles; paths as sources of points, buffers of contours and
-//! signed segments.
+//! Numbers, points, directions, rotations, angles and rectangles; sources of paths, buffers of contours, and signed
+//! segments.
 #![tactic(auto)]
 
 pub mod laws;

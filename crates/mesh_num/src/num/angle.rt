@@ -1,4 +1,4 @@
-//! Angles as whole numbers of bits.
+//! Angles as whole numbers: 2^32 bits are a full turn.
 
 ghost use Rattle.std.specs.Prelude.{◌≡◌, ◌%◌, ◌*◌, ◌^◌, pos};
 ghost use Rattle.mesh_plane.specs.Rounding.{rounded};
@@ -7,7 +7,7 @@ ghost use Rattle.mesh_sine.specs.Sine.{sin_cos, IsWithinOne};
 use crate::num::share::rounded_quotient;
 use mesh_sine::sine;
 
-/// An angle of `bits`; 2 to the power of 32 bits are a full turn.
+/// An angle in bits, of which 2^32 are a full turn.
 #[derive(Debug, Clone, Copy, PartialEq, Eq)]
 pub struct Angle {
     bits: u32,
@@ -27,18 +27,18 @@ impl Angle {
     /// An eighth of a turn, 2^29 bits.
     pub const EIGHTH_TURN: Angle = Angle { bits: 1 << 29 };
 
-    /// A turn over 1024, 2^22 bits.
+    /// A 1024th of a turn, 2^22 bits.
     pub const FINE_TURN: Angle = Angle { bits: 1 << 22 };
 
-    /// The angle of so many bits.
+    /// The angle of this many bits.
     pub const fn from_bits(bits: u32) -> Self
         ensures { result ≡ bits }
     {
         Angle { bits }
     }
 
-    /// The angle of so many thousandths of a degree, to the nearest bit: at most a half of a bit away, which is about
-    /// 42 billionths of a degree. There is no half between two bits. Full turns of 360,000 do not count.
+    /// The angle of this many thousandths of a degree, rounded to the nearest bit; it is at most half a bit away, about
+    /// 42 billionths of a degree. A tie cannot occur. Full turns of 360,000 are taken off.
     pub fn from_thousandths_of_degree(thousandths: u32) -> Self
         ensures { pos result ≡ rounded (pos (thousandths % 360000 * 2 ^ 32)) 360000 }
     {
@@ -46,14 +46,14 @@ impl Angle {
         Angle { bits: bits as u32 }
     }
 
-    /// How many bits the angle has.
+    /// The angle in bits.
     pub const fn bits(self) -> u32
         ensures { result ≡ self }
     {
         self.bits
     }
 
-    /// The sine and the cosine, times 2^30, in this order.
+    /// The sine and the cosine, in this order, each times 2^30.
     pub fn sin_cos(self) -> (i32, i32)
         ensures value { result ≡ sin_cos self }
         ensures bounded { IsWithinOne result }

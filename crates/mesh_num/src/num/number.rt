@@ -1,4 +1,4 @@
-//! Coordinate types `i16` and `i32` with the wider types of their products.
+//! The coordinate types `i16` and `i32`, and the wider types that hold their products.
 
 ghost use Rattle.std.specs.Prelude.{◌≡◌, ℕ, ◌+◌, ◌-◌, ◌*◌, ◌^◌, ◌<◌, ◌≤◌, ℤ, pos, ◌+ℤ◌, ◌-ℤ◌, ◌*ℤ◌, refl};
 ghost use Rattle.std.specs.Ordering.{int_cmp};
@@ -6,8 +6,8 @@ ghost use Rattle.std.proofs.Common.{lit≤};
 ghost use Rattle.mesh_plane.specs.Bounds.{IsWithin};
 ghost use Rattle.mesh_num.specs.Widths.{IsUnit, small_unit, large_unit};
 
-/// A signed type that holds sums and differences of two products of coordinate differences.
-/// Contracts see a number as the whole number `value`.
+/// A signed type that holds sums and differences of two products of coordinate differences: `i32` for `i16`, `i64` for
+/// `i32`. Contracts see a number as the whole number `value`.
 pub trait WideNumber: Copy + Drop {
     ghost value: { Self → ℤ };
 
@@ -54,7 +54,7 @@ pub trait WideNumber: Copy + Drop {
     }
 }
 
-/// An unsigned type that holds the sum of two squares of coordinate differences.
+/// An unsigned type that holds the sum of two squares of coordinate differences: `u32` for `i16`, `u64` for `i32`.
 pub trait WideUnsigned: Copy + Drop {
     ghost value: { Self → ℕ };
 
@@ -75,8 +75,8 @@ pub trait WideUnsigned: Copy + Drop {
     ghost zero_law: { 0 < limit };
 }
 
-/// A signed coordinate type, in grid units. `UNIT` is the length of a direction and the bound of the safe range:
-/// a coordinate `c` is safe where `-UNIT < c < UNIT`.
+/// A signed coordinate type, in grid units. `UNIT` is the length of a direction and the bound of the safe range: a
+/// coordinate `c` is safe where `-UNIT < c < UNIT`. It is 2^14 for `i16` and 2^30 for `i32`.
 pub trait IntNumber: Copy + Drop + Ord {
     /// Holds two products of coordinate differences, added or subtracted.
     type Wide: WideNumber;

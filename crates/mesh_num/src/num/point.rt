@@ -11,7 +11,7 @@ use std::alloc::AllocError;
 use std::marker::Model;
 use std::ops::Sub;
 
-/// A point of the grid. Contracts see the pair of its coordinates. Points are ordered by `x`, then `y`.
+/// A grid point. Contracts see the pair of its coordinates. Points are ordered by `x`, then by `y`.
 #[derive(Debug, Copy, PartialEq, Eq, PartialOrd, Ord, Hash)]
 pub struct IntPoint<I: IntNumber> {
     /// To the east, in grid units.
@@ -50,7 +50,7 @@ impl<I: IntNumber> IntPoint<I> {
         IntPoint { x, y }
     }
 
-    /// The point moved by a vector, where that is safe: both coordinates stay below `UNIT` in size.
+    /// The point moved by a vector. Both coordinates of the result have to be below `UNIT` in size.
     pub fn moved(self, vector: &IntVector<I>) -> Self
         requires { IsSafe I.unit (plus self vector.now) }
         ensures { result ≡ plus self vector.now }
@@ -60,7 +60,8 @@ impl<I: IntNumber> IntPoint<I> {
         IntPoint::new(I::from_wide(x), I::from_wide(y))
     }
 
-    /// The point moved by the length of a vector to the right of it, where that is safe as for `moved`.
+    /// The point moved by the vector turned a quarter to the right. Both coordinates of the result have to be below
+    /// `UNIT` in size.
     pub fn moved_right(self, vector: &IntVector<I>) -> Self
         requires { IsSafe I.unit (plus self (right_quarter vector.now)) }
         ensures { result ≡ plus self (right_quarter vector.now) }
@@ -94,7 +95,7 @@ impl<I: IntNumber> Sub<IntPoint<I>> for IntPoint<I> {
     }
 }
 
-/// A vector with components of the wide type. Contracts see the pair of its components.
+/// A vector between points, with components of the wide type. Contracts see the pair of its components.
 #[derive(Debug, Drop)]
 pub struct IntVector<I: IntNumber> {
     /// To the east, in grid units.
@@ -136,7 +137,8 @@ impl<I: IntNumber> IntVector<I> {
         IntVector { x, y }
     }
 
-    /// `x * other.y - y * other.x`: above 0 where `other` lies to the left. Components are below `2 * UNIT` in size.
+    /// The cross product `x * other.y - y * other.x`: above 0 where `other` points to the left of this vector.
+    /// Components have to be below `2 * UNIT` in size.
     pub fn cross_product(&self, other: &Self) -> I::Wide
         requires own { IsSafe (2 * I.unit) self.now }
         requires other { IsSafe (2 * I.unit) other.now }
@@ -145,7 +147,7 @@ impl<I: IntNumber> IntVector<I> {
         self.x.times(other.y).minus(self.y.times(other.x))
     }
 
-    /// `x * other.x + y * other.y`. Components are below `2 * UNIT` in size.
+    /// The dot product `x * other.x + y * other.y`. Components have to be below `2 * UNIT` in size.
     pub fn dot_product(&self, other: &Self) -> I::Wide
         requires own { IsSafe (2 * I.unit) self.now }
         requires other { IsSafe (2 * I.unit) other.now }
@@ -154,7 +156,7 @@ impl<I: IntNumber> IntVector<I> {
         self.x.times(other.x).plus(self.y.times(other.y))
     }
 
-    /// The square of the length. Components are below `2 * UNIT` in size.
+    /// The square of the length. Components have to be below `2 * UNIT` in size.
     pub fn sqr_length(&self) -> I::WideUInt
         requires { IsSafe (2 * I.unit) self.now }
         ensures { I.WideUInt.value result ≡ length_sq self.now }

@@ -7,8 +7,8 @@ ghost use Rattle.mesh_num.specs.Quotient.{rounded_product};
 use crate::num::number::IntNumber;
 use crate::num::share::rounded_quotient;
 
-/// `a * b / d` rounded to a whole number, halves away from 0, with the sign by the rule of signs. `d` is not 0, and the
-/// result fits the wide type; the product need not.
+/// `a * b / d`, rounded to the nearest whole number, halves away from zero. `d` must not be 0, and the result has to
+/// fit the wide type; the product may be too great for it.
 pub fn mul_div<I: IntNumber>(a: I::Wide, b: I::Wide, d: I::Wide) -> I::Wide
     requires divisor { I.Wide.value d ≢ pos 0 }
     requires fits { IsWithin I.Wide.half (rounded_product (I.Wide.value a) (I.Wide.value b) (I.Wide.value d)) }

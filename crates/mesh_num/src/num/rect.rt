@@ -12,16 +12,17 @@ use crate::num::point::IntPoint;
 use std::alloc::AllocError;
 use std::marker::Model;
 
-/// A closed rectangle along the axes, in grid units. Contracts see its least and its greatest corner.
+/// A closed rectangle with sides along the axes, in grid units. Contracts see its corner of least and its corner of
+/// greatest coordinates.
 #[derive(Debug, Copy)]
 pub struct IntRect<I: IntNumber> {
-    /// The west side.
+    /// The least x.
     pub min_x: I,
-    /// The east side.
+    /// The greatest x.
     pub max_x: I,
-    /// The south side.
+    /// The least y.
     pub min_y: I,
-    /// The north side.
+    /// The greatest y.
     pub max_y: I,
 }
 
@@ -58,7 +59,7 @@ impl<I: IntNumber> Clone for IntRect<I> {
 }
 
 impl<I: IntNumber> IntRect<I> {
-    /// The bounds of the points, `None` where there is none.
+    /// The bounds of the points, or `None` if there are none.
     pub fn with_iter<'a, P: Iterator<Item = &'a IntPoint<I>> + Drop>(points: P) -> Option<Self>
     where
         I: 'a,
@@ -99,7 +100,7 @@ impl<I: IntNumber> IntRect<I> {
         }
     }
 
-    /// Whether each side is below `UNIT` in size.
+    /// Whether the rectangle lies in the safe range: all four coordinates are below `UNIT` in size.
     pub fn is_in_safe_range(&self) -> bool
         ensures { IsTrue result ↔ IsSafeRectangle I.unit self.now }
     {

@@ -12,8 +12,8 @@ use crate::num::unit_vector::UnitIntVector;
 use std::alloc::AllocError;
 use std::marker::{Model, PhantomData};
 
-/// The rotation of directions by an angle, counterclockwise. Contracts see the pair of the angle's sine and cosine,
-/// both times 2^30.
+/// A rotation of directions by an angle, counterclockwise. Contracts see the sine and the cosine of the angle, each
+/// times 2^30.
 #[derive(Debug, Copy)]
 pub struct Rotation<I: IntNumber> {
     sine: i32,
@@ -57,7 +57,7 @@ impl<I: IntNumber> Rotation<I> {
         }
     }
 
-    /// The rotation by the same angle the other way.
+    /// The rotation by the same angle clockwise.
     pub fn inverse(self) -> Self
         ensures { result ≡ turned_round self }
     {
@@ -68,7 +68,7 @@ impl<I: IntNumber> Rotation<I> {
         }
     }
 
-    /// The direction turned by the angle. Each component is cut towards 0, so that no direction becomes longer.
+    /// The direction, turned by the angle. Each component is rounded towards 0, so no direction becomes longer.
     pub fn apply(self, direction: UnitIntVector<I>) -> UnitIntVector<I>
         ensures value { result ≡ rotated_of self direction }
         ensures no_longer { length_sq result ≤ length_sq direction }

@@ -1,4 +1,4 @@
-//! Directions: vectors brought to the length `UNIT`.
+//! Directions: vectors scaled to the length `UNIT`.
 
 ghost use Rattle.std.specs.Prelude.{◌≡◌, ◌*◌, ◌≤◌, ◌↔◌, ℤ, pos, unsigned_abs, IsTrue, IsNone, IfSome, MatchOption};
 ghost use Rattle.mesh_plane.specs.Bounds.{IsSafe};
@@ -18,7 +18,7 @@ use crate::num::share;
 use std::alloc::AllocError;
 use std::marker::Model;
 
-/// A direction: a vector of length at most `UNIT`, each component cut towards 0. Contracts see the pair of its
+/// A direction: a vector of length at most `UNIT`, each component rounded towards 0. Contracts see the pair of its
 /// components.
 #[derive(Debug, Copy)]
 pub struct UnitIntVector<I: IntNumber> {
@@ -53,31 +53,31 @@ impl<I: IntNumber> Clone for UnitIntVector<I> {
 
 // A contract knows nothing of a constant in an `impl` with a type parameter, so it stands at both types.
 impl UnitIntVector<i16> {
-    /// The length of a direction that lost nothing to cutting, `UNIT`. Code over both types writes `I::UNIT`.
+    /// The length of a direction before its components are rounded: `UNIT`. Code for both types writes `I::UNIT`.
     pub const DENOMINATOR: i16 = i16::UNIT;
 }
 
 impl UnitIntVector<i32> {
-    /// The length of a direction that lost nothing to cutting, `UNIT`. Code over both types writes `I::UNIT`.
+    /// The length of a direction before its components are rounded: `UNIT`. Code for both types writes `I::UNIT`.
     pub const DENOMINATOR: i32 = i32::UNIT;
 }
 
 impl<I: IntNumber> UnitIntVector<I> {
-    /// The first component, of at most `UNIT` in size.
+    /// The x component, at most `UNIT` in size.
     pub fn x(self) -> I
         ensures { I.value result ≡ self.0 }
     {
         self.x
     }
 
-    /// The second component, of at most `UNIT` in size.
+    /// The y component, at most `UNIT` in size.
     pub fn y(self) -> I
         ensures { I.value result ≡ self.1 }
     {
         self.y
     }
 
-    /// The direction the other way, exactly as long: each component has the other sign.
+    /// The opposite direction, exactly as long: both components change sign.
     pub fn opposite(self) -> Self
         ensures value { result ≡ opposite self }
         ensures direction { TurnsRound I.unit self result }
@@ -95,7 +95,7 @@ impl<I: IntNumber> UnitIntVector<I> {
         }
     }
 
-    /// Whether at most 2 of the length `UNIT` were lost to cutting.
+    /// Whether rounding took at most 2 from the length `UNIT`. Directions that `fast_normalize` returns are such.
     pub fn is_fresh(self) -> bool
         ensures { IsTrue result ↔ IsFresh I.unit self }
     {
@@ -105,8 +105,8 @@ impl<I: IntNumber> UnitIntVector<I> {
 }
 
 impl<I: IntNumber> UnitIntVector<I> {
-    /// The direction times a radius in grid units: each component times the radius over `UNIT`, rounded to the nearest
-    /// whole number, halves away from zero. No component passes the radius in size.
+    /// The direction times a radius in grid units: each component times the radius, divided by `UNIT`, rounded to the
+    /// nearest whole number, halves away from zero. No component is greater than the radius in size.
     pub fn scale(self, radius: I) -> IntVector<I>
         ensures value { result ≡ scaled_direction I.unit (I.value radius) self }
         ensures x_bound { unsigned_abs result.0 ≤ unsigned_abs (I.value radius) }
@@ -118,9 +118,9 @@ impl<I: IntNumber> UnitIntVector<I> {
 }
 
 impl<I: IntNumber> UnitIntVector<I> {
-    /// A point turned with the axis x to this direction, in grid units: as the direction holds the cosine and the sine
-    /// of its angle, both times `UNIT`. Each component is rounded to the nearest whole number, halves away from zero.
-    /// None passes the length of the point, made a whole number that is not less.
+    /// The point, turned by the angle from the x axis to this direction, in grid units; the direction's components are
+    /// the cosine and the sine of that angle, times `UNIT`. Each component is rounded to the nearest whole number,
+    /// halves away from zero. None is greater than the length of the point, rounded up.
     pub fn rotate(self, point: IntPoint<I>) -> IntVector<I>
         ensures value { result ≡ turned_along I.unit self point }
         ensures within { IsWithinLength point result }
@@ -152,9 +152,9 @@ fn scale_part<I: IntNumber>(part: I, radius: I) -> I::Wide
 }
 
 impl<I: IntNumber> IntVector<I> {
-    /// The direction of this vector, `None` for zero: in each component the greatest whole `k` with
-    /// `k * k * length² <= UNIT * UNIT * component²`, with the component's sign. Components are below `2 * UNIT` in
-    /// size.
+    /// The direction of this vector, or `None` for the vector 0. The size of each component is the greatest whole `k`
+    /// with `k * k * length² <= UNIT * UNIT * component²`, and the sign is kept. The components of the vector have to
+    /// be below `2 * UNIT` in size.
     pub fn fast_normalize(&self) -> Option<UnitIntVector<I>>
         requires { IsSafe (2 * I.unit) self.now }
         ensures none { IsNone result ↔ (self.now ≡ (pos 0, pos 0)) }

@@ -1,4 +1,4 @@
-//! Contours in one list of points.
+//! Contours in one flat list of points.
 
 ghost use Rattle.std.specs.Prelude.{◌≡◌, [], ◌∷◌, OnOk, OnErr, IfOk};
 ghost use Rattle.mesh_num.specs.FlatContours.{HoldsContours};
@@ -10,20 +10,20 @@ use crate::num::point::IntPoint;
 use std::alloc::{AllocError, Global};
 use std::ops::Range;
 
-/// Shapes of contours of points.
+/// Polygons. Each is a list of contours: the outer one, then its holes.
 pub type IntShapes<I> = Vec<Vec<Vec<IntPoint<I>>>>;
 
-/// Contours whose points stand end to end in `points`; `ranges` has the range of each contour's points.
+/// Contours whose points stand end to end in `points`; `ranges` holds the range of each contour's points.
 #[derive(Debug, Drop)]
 pub struct FlatContoursBuffer<I: IntNumber> {
     /// The points of all contours, in order, in grid units.
     pub points: Vec<IntPoint<I>>,
-    /// For each contour, in order, the indices of its points in `points`, the end excluded.
+    /// For each contour, in order, the range of its points in `points`.
     pub ranges: Vec<Range<usize>>,
 }
 
 impl<I: IntNumber> FlatContoursBuffer<I> {
-    /// No contours. Takes no memory.
+    /// An empty buffer. It allocates nothing.
     pub fn new(alloc: Global) -> Self
         ensures { HoldsContours result [] }
     {
@@ -33,7 +33,7 @@ impl<I: IntNumber> FlatContoursBuffer<I> {
         }
     }
 
-    /// The contours of the shapes, in order. It fails only where memory is refused.
+    /// A buffer with the contours of the polygons, in order. It fails only where memory is refused.
     pub fn from_shapes(alloc: Global, shapes: &IntShapes<I>) -> Result<Self, AllocError>
         ensures { IfOk result (λ b. HoldsContours b (contours_of (shapes_of shapes.now.items))) }
     {
@@ -44,8 +44,7 @@ impl<I: IntNumber> FlatContoursBuffer<I> {
         Ok(buffer)
     }
 
-    /// Puts the contours of the shapes, in order, in place of the buffer's own. After a refusal the buffer is
-    /// unchanged.
+    /// Replaces the contours in the buffer by those of the polygons, in order. After an error the buffer is unchanged.
     pub fn replace_with(&mut self, shapes: &IntShapes<I>) -> Result<(), AllocError>
         ensures ok { OnOk result (HoldsContours self.new (contours_of (shapes_of shapes.now.items))) }
         ensures err { OnErr result (self.new ≡ self.old) }

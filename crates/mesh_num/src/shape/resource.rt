@@ -9,7 +9,7 @@ use crate::num::point::IntPoint;
 use crate::shape::buffer::FlatContoursBuffer;
 use crate::shape::path_slice::PathSlice;
 
-/// A source of paths of points. Contracts see the list of its paths, each the list of its points.
+/// Anything that holds paths of points. Contracts see the list of its paths, each the list of its points.
 pub trait IntShapeResource<I: IntNumber> {
     ghost paths: { Self → List (List (ℤ × ℤ)) };
 
@@ -17,7 +17,7 @@ pub trait IntShapeResource<I: IntNumber> {
     fn path_count(&self) -> usize
         ensures { result ≡ length (paths self.now) };
 
-    /// The points of one path, in their order. The index counts from 0 and is below `path_count`.
+    /// The points of one path, in order. The index counts from 0 and has to be below `path_count`.
     fn path_at(&self, index: usize) -> &[IntPoint<I>]
         requires { index < length (paths self.now) }
         ensures { result.now ≡ get_or (paths self.now) index [] };
@@ -101,7 +101,7 @@ impl<'a, I: IntNumber> IntShapeResource<I> for PathSlice<'a, Vec<IntPoint<I>>> {
     }
 }
 
-/// The contours of all shapes, in order, counted up to `usize::MAX`: what stood past that is not looked at.
+/// The contours of all polygons, in order. At most `usize::MAX` of them count.
 impl<I: IntNumber> IntShapeResource<I> for Vec<Vec<Vec<IntPoint<I>>>> {
     ghost paths = { λ v. counted (contours_of (shapes_of v.items)) };
 
@@ -125,8 +125,8 @@ impl<I: IntNumber> IntShapeResource<I> for Vec<Vec<Vec<IntPoint<I>>>> {
     }
 }
 
-/// The contours of the buffer, in order, so that an answer can be handed in again. Of a range that reaches past the
-/// points, those that are there count.
+/// The contours of the buffer, in order, so that a result can be handed in again. Where a range reaches past the last
+/// point, the points that exist count.
 impl<I: IntNumber> IntShapeResource<I> for FlatContoursBuffer<I> {
     ghost paths = { λ b. flat_contours b };
 

@@ -1,4 +1,4 @@
-//! Segments with a sign, each of which stands for one directed edge.
+//! Signed segments, each of which stands for one directed edge.
 
 ghost use Rattle.std.specs.Prelude.{◌≡◌, ◌≢◌, ℕ, ◌+◌, ◌≤◌, ℤ, List, OnOk, OnErr, IsOk, ◌++◌, length, vec_capacity};
 ghost use Rattle.mesh_num.specs.Segments.{edge_of, subject_of, segment_between, IsSubject, SignedEdge};
@@ -12,7 +12,7 @@ use crate::shape::edge::DirectedEdge;
 use std::alloc::AllocError;
 use std::marker::Model;
 
-/// Two ends, the smaller first. Contracts see the pair of both.
+/// The two ends of a segment, the smaller first. Contracts see the pair of both.
 #[derive(Debug, Copy)]
 pub struct XSegment<I: IntNumber> {
     /// The smaller end.
@@ -41,7 +41,7 @@ impl<I: IntNumber> Model for XSegment<I> {
     ghost inverse = { λ v. record { a = v.0; b = v.1 } };
 }
 
-/// A segment that stands for the edge from its smaller end to its larger one (count 1) or back (count -1).
+/// A segment with a sign: it stands for the edge from its smaller end to its larger one (count 1) or back (count -1).
 /// Contracts see the pair of its ends, and its count.
 #[derive(Debug, Copy)]
 pub struct Segment<I: IntNumber> {
@@ -72,8 +72,8 @@ impl<I: IntNumber> Model for Segment<I> {
 }
 
 impl<I: IntNumber> Segment<I> {
-    /// The segment of the edge from `p0` to `p1`, which differ: the smaller end first, with count 1 where `p0` is the
-    /// smaller one, else -1.
+    /// The segment of the edge from `p0` to `p1`, which have to differ: the smaller end comes first, and the count is 1
+    /// where `p0` is the smaller one, otherwise -1.
     pub fn subject(p0: IntPoint<I>, p1: IntPoint<I>) -> Self
         requires { p0 ≢ p1 }
         ensures value { result ≡ subject_of p0 p1 }
@@ -93,7 +93,7 @@ impl<I: IntNumber> Segment<I> {
         }
     }
 
-    /// The edge that the segment stands for: from its smaller end where its count is above 0, else back.
+    /// The edge that the segment stands for: from its smaller end where its count is above 0, otherwise back.
     pub fn edge(self) -> DirectedEdge<I>
         ensures { result ≡ edge_of self }
     {
@@ -125,7 +125,7 @@ fn is_before<I: IntNumber>(p: IntPoint<I>, q: IntPoint<I>) -> bool
     is_less(p.y, q.y)
 }
 
-/// Vectors of segments that edges are added to. Contracts see their list of segments, and the points as pairs.
+/// Vectors of segments to which edges are added. Contracts see their list of segments.
 pub trait SubjectSegments<P> {
     ghost segments: { Self → List SignedEdge };
 
@@ -133,9 +133,9 @@ pub trait SubjectSegments<P> {
 
     ghost capacity: { Self → ℕ };
 
-    /// Adds the segment of the edge from `a` to `b`, or nothing where they are one point: then it takes no memory, and
-    /// the vector keeps its capacity. Where there is room for what is added it succeeds. After a refusal the vector
-    /// holds what it held.
+    /// Adds the segment of the edge from `a` to `b`. Nothing is added where they are equal; then nothing is allocated,
+    /// and the vector keeps its capacity. The call succeeds where the vector has room. After an error the vector holds
+    /// what it held.
     fn push_non_degenerate(&mut self, a: P, b: P) -> Result<(), AllocError>
         ensures ok { OnOk result (segments self.new ≡ segments self.old ++ segment_between (point a) (point b)) }
         ensures err { OnErr result (segments self.new ≡ segments self.old) }
