@@ -1,6 +1,7 @@
 -- Lemmas over points and lists: the left and the right half of a stroke make the whole with butt caps.
-use Rattle.std.proofs.Common.{◌≡◌, ◌≢◌, ℕ, ◌<◌, List, [], ◌∷◌, sym, ◌∙◌, ap, arith}
+use Rattle.std.proofs.Common.{◌≡◌, ◌≢◌, ℕ, ◌<◌, ◌≤◌, ◌^◌, List, [], ◌∷◌, sym, ◌∙◌, ap, arith, get_or}
 use Rattle.std.specs.Prelude.{ℤ, pos, ◌+ℤ◌, Bool, true, false, cond, int_le}
+use Rattle.std.specs.List.{All}
 use Rattle.std.specs.List.Sorted.{IsPermutation}
 use Rattle.std.proofs.lemmas.List.Elements.{All-head}
 use Rattle.mesh_plane.specs.Plane.{Point, Edge}
@@ -123,6 +124,12 @@ halves_add_up unit some style closed points =
 
 pub halves_make_the_whole : HalvesMakeTheWhole
 halves_make_the_whole unit least style closed points = halves_add_up unit (omega arith) style closed points
+
+-- of each of many paths
+pub halves_of_all : (unit : ℕ) → 2 ^ 14 ≤ unit → (style : StrokeStyle) (closed : Bool) (paths : List (List Point))
+    → All (HalvesAddUp unit style closed) paths
+halves_of_all unit least style closed paths k d h =
+    halves_make_the_whole unit least style closed (get_or paths k d)
 
 -- edges that are those of one half make the whole with the other half
 module _ (unit : ℕ) (some : 0 < unit) (style : StrokeStyle) (closed : Bool) (points : List Point) (es : List Edge)

@@ -20,11 +20,14 @@ use Rattle.mesh_offset.specs.Pieces.{WindAsPieces}
 use Rattle.mesh_offset.proofs.ManyPaths.{built_regions}
 use Rattle.mesh_offset.proofs.Regions.{built_sum, regions_above, regions_held, winds_above, winds_held}
 use Rattle.mesh_stroke.specs.Drawn.{HasStockCaps}
-use Rattle.mesh_stroke.specs.Regions.{AreCountedStrokeRegions, AreStrokeRegions, all_pieces}
+use Rattle.mesh_stroke.specs.Halves.{HalvesAddUp}
+use Rattle.mesh_stroke.specs.Regions.{AreCountedStrokeRegions, AreReversible, AreStrokeRegions, all_pieces}
 use Rattle.mesh_stroke.specs.Resolved.{IsStroke}
 use Rattle.mesh_stroke.specs.ResolvedEdges.{ResolvesPromisedEdges}
 use Rattle.mesh_stroke.specs.Strokes.{stroke_edges, stroke_pieces}
 use Rattle.mesh_stroke.specs.Styles.{StrokeStyle, stroke_padding}
+use Rattle.mesh_join.specs.declared.style.StrokeSide.TheVariants.{Both}
+use Rattle.mesh_stroke.proofs.Halves.{halves_of_all}
 use Rattle.mesh_stroke.proofs.Resolving.{promised, stays_safe, stroke_closed}
 use Rattle.mesh_stroke.proofs.Reversal.{strokes_can_be_reversed}
 use Rattle.mesh_stroke.proofs.Promised.{never_turned, stroke_balanced, stroke_proper, stroke_total}
@@ -44,6 +47,13 @@ module _ (unit : ℕ) (least : 2 ^ 14 ≤ unit) (style : StrokeStyle) (closed : 
       all_flat_map (λ (piece : List Point). IsBit (winding m q (boundary piece))) (stroke_pieces unit style closed) paths
       (λ k d h. never_turned unit least style closed (get_or paths k d) stock m q)
 
+  reversible : (paths : List (List Point)) → style.side ≡ Both → AreReversible unit style closed paths
+  reversible paths both k d h = strokes_can_be_reversed unit least style both closed (get_or paths k d)
+
+  -- the halves of each path make the whole
+  halved : (paths : List (List Point)) → All (HalvesAddUp unit style closed) paths
+  halved paths = halves_of_all unit least style closed paths
+
   -- each stroke is made of regions
   pub stroke_regions : (choices : Choices) (paths : List (List Point)) (answer : List (List (List Point)))
       → (stroke : IsStroke unit style closed choices paths answer)
@@ -55,7 +65,8 @@ module _ (unit : ℕ) (least : 2 ^ 14 ≤ unit) (style : StrokeStyle) (closed : 
       same = made.1;
       fills = regions_above stroke.built choices answer made.0 (all_pieces unit style closed paths) sum;
       held = λ stock. regions_held stroke.built choices answer made.0 (all_pieces unit style closed paths) sum (all_bits stock paths);
-      reversed = λ both k d h. strokes_can_be_reversed unit least style both closed (get_or paths k d);
+      reversed = reversible paths;
+      halves = halved paths;
     },
     refl,
   )
@@ -81,6 +92,8 @@ module _ (unit : ℕ) (least : 2 ^ 14 ≤ unit) (style : StrokeStyle) (closed : 
       held = λ stock.
           winds_held built choices answer beyond.regions (all_pieces unit style closed paths) sum (λ m q. IsFarFrom k m built q) beyond.exact
           (all_bits stock paths);
+      reversed = reversible paths;
+      halves = halved paths;
     };
     counted = standing.counted;
   }

@@ -14,6 +14,7 @@ use Rattle.mesh_lattice.specs.Nearness.{IsFarFrom}
 use Rattle.mesh_offset.specs.Regions.{WindsOnceWhere, is_held, wind_above}
 use Rattle.mesh_join.specs.declared.style.StrokeSide.TheVariants.{Both}
 use Rattle.mesh_stroke.specs.Drawn.{HasStockCaps}
+use Rattle.mesh_stroke.specs.Halves.{HalvesAddUp}
 use Rattle.mesh_stroke.specs.Resolved.{IsStroke}
 use Rattle.mesh_stroke.specs.Reversal.{CountAlike, reversed_edges}
 use Rattle.mesh_stroke.specs.Strokes.{stroke_edges, stroke_pieces}
@@ -22,6 +23,11 @@ use Rattle.mesh_stroke.specs.Styles.{StrokeStyle}
 -- the pieces of the strokes of all paths
 abbrev pub all_pieces : ℕ → StrokeStyle → Bool → List (List Point) → List (List Point)
 all_pieces unit style closed paths = flat_map (stroke_pieces unit style closed) paths
+
+-- each path that is reversed and has its caps exchanged is drawn by edges that count alike
+abbrev pub AreReversible : ℕ → StrokeStyle → Bool → List (List Point) → Type 0
+AreReversible unit style closed paths = All (λ (path : List Point).
+    CountAlike (reversed_edges unit style closed path) (stroke_edges unit style closed path)) paths
 
 -- an answer is the stroke of paths, made of regions
 pub record AreStrokeRegions (unit : ℕ) (style : StrokeStyle) (closed : Bool) (choices : Choices)
@@ -35,13 +41,14 @@ pub record AreStrokeRegions (unit : ℕ) (style : StrokeStyle) (closed : Bool) (
   -- but for custom caps: where a piece of some path holds the point
   pub held : HasStockCaps style closed → WindsOnceWhere (is_held (all_pieces unit style closed paths))
       (OutsideBent regions.resolution.splits stroke.built) choices answer
-  -- on both sides, each path that is reversed and has its caps exchanged is drawn by edges that count alike
-  pub reversed : style.side ≡ Both → All (λ (path : List Point).
-      CountAlike (reversed_edges unit style closed path) (stroke_edges unit style closed path)) paths
+  -- on both sides, each path can be reversed
+  pub reversed : style.side ≡ Both → AreReversible unit style closed paths
+  -- whatever side is drawn: of each path both halves wind together as the whole with butt caps
+  pub halves : All (HalvesAddUp unit style closed) paths
 
 -- an answer is the stroke of paths, made of regions that are exact at each point farther than `k` 64ths of a grid unit
 -- from each drawn edge: it winds once where the windings of all pieces add up to more than 0, but for custom caps where
--- a piece of some path holds the point
+-- a piece of some path holds the point. Paths can be reversed, and halves add up, as in `AreStrokeRegions`
 pub record AreStrokeRegionsBeyond (k unit : ℕ) (style : StrokeStyle) (closed : Bool) (choices : Choices)
     (paths : List (List Point)) (answer : List (List (List Point))) : Type 0 where
   pub stroke : IsStroke unit style closed choices paths answer
@@ -51,6 +58,8 @@ pub record AreStrokeRegionsBeyond (k unit : ℕ) (style : StrokeStyle) (closed :
       (λ m q. IsFarFrom k m stroke.built q) choices answer
   pub held : HasStockCaps style closed → WindsOnceWhere (is_held (all_pieces unit style closed paths))
       (λ m q. IsFarFrom k m stroke.built q) choices answer
+  pub reversed : style.side ≡ Both → AreReversible unit style closed paths
+  pub halves : All (HalvesAddUp unit style closed) paths
 
 -- the same, and the splits that its regions come of were counted on, as those of one attempt at what was built
 pub record AreCountedStrokeRegions (k unit : ℕ) (style : StrokeStyle) (closed : Bool) (choices : Choices)

@@ -1,6 +1,7 @@
 //! Stroke calls on sources of paths.
 
-ghost use Rattle.std.specs.Prelude.{◌≡◌, ◌↔◌, IsOk, IfOk, OnOk, OnErr, List, []};
+ghost use Rattle.std.specs.Prelude.{◌≡◌, ◌↔◌, IsOk, IfOk, OnOk, OnErr, Bool, List, []};
+ghost use Rattle.std.specs.List.{All};
 ghost use Rattle.mesh_num.specs.FlatContours.{HoldsContours};
 ghost use Rattle.mesh_num.specs.Paths.{contours_of, shapes_of};
 ghost use Rattle.mesh_num.specs.Rectangle.{IsBounds, IsSafeRectangle};
@@ -8,6 +9,7 @@ ghost use Rattle.mesh_plane.specs.Plane.{Point, Edge};
 ghost use Rattle.mesh_lattice.specs.Reach.{ArePointsSafe};
 ghost use Rattle.mesh_below.specs.Options.{choices_of, plain};
 ghost use Rattle.mesh_offset.specs.Padding.{ArePathsSafe, all_points, widened};
+ghost use Rattle.mesh_stroke.specs.Halves.{HalvesAddUp};
 ghost use Rattle.mesh_stroke.specs.Styles.{stroke_padding, stroke_style_of};
 ghost use Rattle.mesh_stroke.specs.Regions.{AreCountedStrokeRegions, AreStrokeRegions, AreStrokeRegionsBeyond};
 ghost use Rattle.mesh_stroke.specs.Resolved.{IsStroke, HavePromisedEdges, AreAllEdges};
@@ -33,7 +35,8 @@ pub trait IntStrokeOffset<I: OverlayInt>: IntShapeResource<I> {
     /// Whether the source may be stroked in this style: `Ok` exactly where there is no point, or the bounds of all
     /// points, moved outwards by the style's padding on each side, are in the safe range, for every value of the
     /// type and every custom cap; the padding counts the caps, whether the paths are closed or not, but of a half the
-    /// joins alone. The only error is `CoordinateOutOfRange`. It takes no memory.
+    /// joins alone. The only error is `CoordinateOutOfRange`. It takes no memory. Paths that are accepted can be stroked
+    /// closed or open. Whatever is answered, the left and the right half of each path make the whole with butt caps.
     fn validate_stroke(&self, style: &IntStrokeStyle<I>) -> Result<(), IntStrokeError>
         ensures safe { IsOk result
             ↔ ArePathsSafe I.unit (stroke_padding (stroke_style_of I.value style.now)) (Self.paths self.now) }
@@ -41,7 +44,11 @@ pub trait IntStrokeOffset<I: OverlayInt>: IntShapeResource<I> {
             → IsOk result ↔ IsSafeRectangle I.unit
             (widened (stroke_padding (stroke_style_of I.value style.now)) bounds) }
         ensures no_point { all_points (Self.paths self.now) ≡ [] → IsOk result }
-        ensures error { OnErr result (result ≡ Err IntOutlineError.CoordinateOutOfRange) };
+        ensures error { OnErr result (result ≡ Err IntOutlineError.CoordinateOutOfRange) }
+        ensures built { OnOk result ((closed : Bool) → HavePromisedEdges I.unit (stroke_style_of I.value style.now) closed
+            (Self.paths self.now)) }
+        ensures halves { (closed : Bool) → All (HalvesAddUp I.unit (stroke_style_of I.value style.now) closed)
+            (Self.paths self.now) };
 
     /// The stroke of the source's paths, with the default options. See `stroke_custom`.
     final fn stroke(
