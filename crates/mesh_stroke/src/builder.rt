@@ -73,9 +73,10 @@ impl<'a, I: IntNumber> StrokeBuilder<'a, I> {
     /// Adds the edges of the stroke of the path through these points, each of which stays in the safe range where it
     /// moves by the padding of the style. A closed path goes on from its last point to its first, and has no caps. What
     /// the vector holds stays. Nothing is added for a radius of at most 1, and where all points are one, and no memory
-    /// is taken there. Without round joins, and without round caps where the path is open and drawn on both sides, it
-    /// succeeds where there is room for the edges; with butt or square caps, or with none, these are then at most seven
-    /// for each edge of the path and six more. A half does not look at the caps. After a refusal the vector is cut back to its old length. It keeps its room in either case.
+    /// is taken there: the vector's room stays as it was. Without round joins, and without round caps where the path is
+    /// open and drawn on both sides, it succeeds where there is room for the edges; with butt or square caps, or with
+    /// none, these are then at most seven for each edge of the path and six more. A half does not look at the caps.
+    /// After a refusal the vector is cut back to its old length. Its room never shrinks.
     pub fn build(
         &mut self,
         path: &[IntPoint<I>],
@@ -91,8 +92,10 @@ impl<'a, I: IntNumber> StrokeBuilder<'a, I> {
         ensures few { HasFew self.old.join → HasFewCapEdges self.old closed → OnOk result
             (length (added segments.old.items segments.new.items) ≤ 7 * length (path_edges closed path.now) + 6) }
         ensures refused { OnErr result (segments.new.items ≡ segments.old.items) }
-        ensures thin { self.old.radius ≤ℤ pos 1 → IsOk result }
-        ensures no_section { path_edges closed path.now ≡ [] → IsOk result }
+        ensures thin { self.old.radius ≤ℤ pos 1 → IsOk result
+            × (vec_capacity segments.new ≡ vec_capacity segments.old) }
+        ensures no_section { path_edges closed path.now ≡ [] → IsOk result
+            × (vec_capacity segments.new ≡ vec_capacity segments.old) }
         ensures room { HasFew self.old.join → HasDirectCaps self.old closed
             → HasRoomFor segments.old (length (stroke_edges I.unit self.old closed path.now)) → IsOk result }
         ensures room_for_seven { HasFew self.old.join → HasFewCapEdges self.old closed
@@ -154,8 +157,10 @@ fn draw<I: IntNumber>(
     ensures ok { OnOk result (Adds segments.old.items segments.new.items
         (stroke_edges I.unit (style_with (I.value radius) side join.old caps.old) closed path.now)) }
     ensures kept { Keeps segments.old.items segments.new.items }
-    ensures thin { I.value radius ≤ℤ pos 1 → IsOk result }
-    ensures no_section { path_edges closed path.now ≡ [] → IsOk result }
+    ensures thin { I.value radius ≤ℤ pos 1 → IsOk result
+        × (vec_capacity segments.new ≡ vec_capacity segments.old) }
+    ensures no_section { path_edges closed path.now ≡ [] → IsOk result
+        × (vec_capacity segments.new ≡ vec_capacity segments.old) }
     ensures room { HasFew join.old → HasDirectCaps (style_with (I.value radius) side join.old caps.old) closed
         → HasRoomFor segments.old
         (length (stroke_edges I.unit (style_with (I.value radius) side join.old caps.old) closed path.now)) → IsOk result }
@@ -191,7 +196,8 @@ fn draw_path<I: IntNumber>(
     ensures ok { OnOk result (Adds segments.old.items segments.new.items
         (drawn_edges I.unit (style_with (I.value radius) side join.old caps.old) closed (path_edges closed path.now))) }
     ensures kept { Keeps segments.old.items segments.new.items }
-    ensures no_section { path_edges closed path.now ≡ [] → IsOk result }
+    ensures no_section { path_edges closed path.now ≡ [] → IsOk result
+        × (vec_capacity segments.new ≡ vec_capacity segments.old) }
     ensures room { HasFew join.old → HasDirectCaps (style_with (I.value radius) side join.old caps.old) closed
         → HasRoomFor segments.old (length (drawn_edges I.unit (style_with (I.value radius) side join.old caps.old) closed
         (path_edges closed path.now))) → IsOk result }

@@ -1,7 +1,8 @@
 -- What holds of the edges that the walk added.
 use Rattle.std.proofs.Common.{◌≡◌, ℕ, ◌+◌, ◌≤◌, ◌^◌, List, length, take, sym, subst, ap, ◌∙◌, arith}
-use Rattle.std.specs.Prelude.{vec_capacity}
+use Rattle.std.specs.Prelude.{vec_capacity, pos, ◌≤ℤ◌}
 use Rattle.std.specs.List.{All}
+use Rattle.std.proofs.lemmas.Bool.{false≢true}
 use Rattle.mesh_num.specs.Segments.{SignedEdge, IsSubject}
 use Rattle.mesh_join.specs.Joins.{HasFew}
 use Rattle.mesh_offset.specs.Private.Built.{Adds}
@@ -28,6 +29,15 @@ returns-in-Err-clause-refused g c =
     c.in-Err.ensures.kept in
     let n : c.len-length.result ≡ length c.args.segments.now.items = c.len-length.ensures ∙ c.args.segments.now.ok.0 in
     c.truncate.ensures.items ∙ ap (λ (k : ℕ). take k c.draw.new.segments.items) n ∙ kept
+
+-- where nothing is drawn there is no refusal
+pub returns-in-Err-clause-thin : goal.returns-in-Err-clause-thin
+returns-in-Err-clause-thin g c low =
+    absurd (false≢true (c.in-Err.ensures.thin
+    (subst (λ (style : StrokeStyle). style.radius ≤ℤ pos 1) (sym c.self.view_is) low)).0)
+
+pub returns-in-Err-clause-no_section : goal.returns-in-Err-clause-no_section
+returns-in-Err-clause-no_section g c none = absurd (false≢true (c.in-Err.ensures.no_section none).0)
 
 pub returns-clause-form : goal.returns-clause-form
 returns-clause-form g c =
