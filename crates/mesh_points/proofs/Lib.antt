@@ -1,0 +1,4 @@
+pub mod Chains
+pub mod Counting
+pub mod Merging
+pub mod Numbers
