@@ -102,6 +102,7 @@ impl<I: IntNumber> OutlineBuilder<I> {
         ensures room_for_four { HasFew self.old.join → HasRoomFor segments.old (4 * length (cleaned_sections path.now))
             → IsOk result }
         ensures capacity { vec_capacity segments.old ≤ vec_capacity segments.new }
+        ensures no_memory { AllEqual path.now → vec_capacity segments.new ≡ vec_capacity segments.old }
         ensures same { self.new ≡ self.old }
 
         // The edges close up, and stay near the contour.
@@ -187,6 +188,7 @@ fn draw<I: IntNumber>(
     ensures room { HasFew join.old → HasRoomFor segments.old
         (length (outline_edges I.unit (offset_join (I.value offset) join.old) path.now)) → IsOk result }
     ensures capacity { vec_capacity segments.old ≤ vec_capacity segments.new }
+    ensures no_memory { AllEqual path.now → vec_capacity segments.new ≡ vec_capacity segments.old }
 {
     let Some(mut sections) = UniqueSegmentsIter::new(path) else {
         return Ok(());

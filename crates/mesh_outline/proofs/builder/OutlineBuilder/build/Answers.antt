@@ -48,6 +48,12 @@ returns-clause-edges g c = adds_edges c.args.segments.now.items c.draw.new.segme
 pub returns-clause-capacity : goal.returns-clause-capacity
 returns-clause-capacity g c = c.draw.ensures.capacity
 
+pub returns-in-Err-clause-no_memory : goal.returns-in-Err-clause-no_memory
+returns-in-Err-clause-no_memory g c equal = c.truncate.ensures.capacity ∙ c.draw.ensures.no_memory equal
+
+pub returns-clause-no_memory : goal.returns-clause-no_memory
+returns-clause-no_memory g c equal = c.draw.ensures.no_memory equal
+
 pub returns-clause-form : goal.returns-clause-form
 returns-clause-form g c =
     let h = adds g c in
