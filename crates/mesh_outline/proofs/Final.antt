@@ -63,13 +63,19 @@ outline_proper unit style contour =
     let sections = map (section_of unit style.offset) (cleaned_sections contour) in
     proper_kept (map top_edge sections ++ flat_map (corner_edges (parts style.offset) (joined unit style)) (boundary sections))
 
+-- the edges that one contour is resolved of close up
+pub alone_closed : (unit : ℕ) (style : OffsetJoin) (rule : FillRule) (contour : List Point) (answer : List (List (List Point))) → 2 ^ 14 ≤ unit →
+    (alone : IsAnswerAlone unit style (filled rule) contour answer) → IsProper alone.built × IsBalanced alone.built
+alone_closed unit style rule contour answer least alone =
+    let same : IsPermutation (outline_edges unit style contour) alone.built = IsPermutation-sym alone.built (outline_edges unit style contour) alone.same in (
+      proper_permutation (outline_edges unit style contour) alone.built same (outline_proper unit style contour),
+      balanced_permutation (outline_edges unit style contour) alone.built same (has_promised_edges unit style contour least).balanced,
+    )
+
 -- what comes of one contour is made of regions too
 pub alone_regions : (unit : ℕ) (style : OffsetJoin) (rule : FillRule) (contour : List Point) (answer : List (List (List Point))) → 2 ^ 14 ≤ unit →
     (alone : IsAnswerAlone unit style (filled rule) contour answer) →
     (made : AreRegions alone.built (filled rule) plain answer) × (made.resolution ≡ alone.resolution)
 alone_regions unit style rule contour answer least alone =
-    let same : IsPermutation (outline_edges unit style contour) alone.built = IsPermutation-sym alone.built (outline_edges unit style contour) alone.same in
-    regions_made alone.built (filled rule) plain answer
-    (proper_permutation (outline_edges unit style contour) alone.built same (outline_proper unit style contour))
-    (balanced_permutation (outline_edges unit style contour) alone.built same (has_promised_edges unit style contour least).balanced)
-    (filled_none rule) alone.resolution
+    let closed = alone_closed unit style rule contour answer least alone in
+    regions_made alone.built (filled rule) plain answer closed.0 closed.1 (filled_none rule) alone.resolution

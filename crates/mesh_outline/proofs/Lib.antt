@@ -6,6 +6,7 @@ pub mod BuilderTheorems
 pub mod BuilderWalk
 pub mod ContourKinds
 pub mod Corners
+pub mod Exact
 pub mod Final
 pub mod Gathering
 pub mod NearRegions

@@ -15,7 +15,7 @@ use Rattle.mesh_lattice.specs.Counted.{bit}
 use Rattle.mesh_lattice.specs.FillRules.{filled}
 use Rattle.mesh_lattice.specs.Split.{back}
 use Rattle.mesh_lattice.specs.declared.fill.FillRule.{FillRule}
-use Rattle.mesh_lattice.specs.declared.fill.FillRule.TheVariants.{Positive, Negative}
+use Rattle.mesh_lattice.specs.declared.fill.FillRule.TheVariants.{Positive}
 use Rattle.mesh_below.specs.Regions.{OutsideBent}
 use Rattle.mesh_shapes.specs.Contours.{double_area}
 use Rattle.mesh_shapes.specs.Resolution.{Choices}
@@ -27,7 +27,7 @@ use Rattle.mesh_offset.proofs.ProperEdges.{proper_edges_total}
 use Rattle.mesh_outline.specs.Kinds.{kind_fill, way_for}
 use Rattle.mesh_outline.specs.declared.kind.ContourKind.TheVariants.{Outer, Hole, Ignored}
 use Rattle.mesh_outline.specs.Outline.{outline_edges}
-use Rattle.mesh_outline.specs.Regions.{AreOutlineRegions, OutsideBentAlone, OutsideBentEach, is_cleared, is_filled, more_fill}
+use Rattle.mesh_outline.specs.Regions.{AreOutlineRegions, AreRegionsAlone, AreRegionsEach, OutsideBentAlone, OutsideBentEach, is_cleared, is_filled, more_fill}
 use Rattle.mesh_outline.specs.Building.{style_for}
 use Rattle.mesh_outline.specs.Resolved.{Gives, IsAnswerAlone, IsOutline, fill_for}
 use Rattle.mesh_outline.proofs.Final.{alone_regions, outline_regions}
@@ -157,12 +157,33 @@ module _ (unit : ℕ) (least : 2 ^ 14 ≤ unit) (m : ℕ) (some : 0 < m) (q : Po
 pub above_less : (a b : ℤ) → int_lt (pos 0) (a -ℤ b) ≡ int_lt b a
 above_less a b = grind (arith, ints)
 
+-- what comes of each contour alone is made of regions
+module _ (unit : ℕ) (least : 2 ^ 14 ≤ unit) (style : OutlineStyle) where
+  made_alone : (contour : List Point) (es : List Edge) → (gives : Gives unit style contour es) → AreRegionsAlone unit style contour es gives
+  made_alone contour _ (Gives.moved {way = way} {answer = answer} moves alone) =
+      alone_regions unit way (fill_for (double_area contour)) contour answer least alone
+  made_alone contour _ (Gives.ignored none) = tt
+
+  made_each : (contours : List (List Point)) (edges : List (List Edge)) → (each : AllZip (Gives unit style) contours edges) →
+      AreRegionsEach unit style contours edges each
+  made_each [] edges each = tt
+  made_each (contour ∷ contours) [] each = tt
+  made_each (contour ∷ contours) (es ∷ edges) each = (made_alone contour es each.0, made_each contours edges each.1)
+
 -- each outline is made of regions
 pub regions_of_outline : (unit : ℕ) → 2 ^ 14 ≤ unit → (style : OutlineStyle) (choices : Choices) (contours : List (List Point)) (answer : List (List (List Point))) →
     (outline : IsOutline unit style choices contours answer) →
     (made : AreOutlineRegions unit style choices contours answer) × (made.outline ≡ outline)
-regions_of_outline unit least style choices contours answer outline =
-    (record { outline = outline; regions = made.0; same = made.1; fills = fills }, refl)
+regions_of_outline unit least style choices contours answer outline = (
+  record {
+    outline = outline;
+    regions = made.0;
+    same = made.1;
+    alone = made_each unit least style contours outline.give.edges outline.give.each;
+    fills = fills;
+  },
+  refl,
+)
   where
     made : (regions : AreRegions (proper_edges outline.given) (filled Positive) choices answer) × (regions.resolution ≡ outline.resolution)
     made = outline_regions unit style choices contours answer outline

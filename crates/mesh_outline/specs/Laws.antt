@@ -9,11 +9,14 @@ use Rattle.mesh_lattice.specs.FillRules.{filled}
 use Rattle.mesh_lattice.specs.declared.fill.FillRule.{FillRule}
 use Rattle.mesh_shapes.specs.Resolution.{Choices}
 use Rattle.mesh_below.specs.Laws.{AreRegions}
+use Rattle.mesh_below.specs.Meeting.{MeetInWholePoints}
 use Rattle.mesh_below.specs.Options.{plain}
 use Rattle.mesh_join.specs.Joins.{outline_padding}
 use Rattle.mesh_join.specs.Styles.{OffsetJoin, OutlineStyle}
 use Rattle.mesh_offset.specs.Padding.{ArePathsSafe}
-use Rattle.mesh_outline.specs.Regions.{AreOutlineRegions}
+use Rattle.mesh_offset.specs.Regions.{WindsOnceWhere}
+use Rattle.mesh_outline.specs.Nearness.{all_drawn}
+use Rattle.mesh_outline.specs.Regions.{AreOutlineRegions, more_fill}
 use Rattle.mesh_outline.specs.Resolved.{IsAnswerAlone, Give, IsOutline}
 use Rattle.mesh_outline.specs.Staying.{StaysSafe}
 
@@ -37,6 +40,15 @@ OutlinesAreRegions =
     (unit : ℕ) → 2 ^ 14 ≤ unit → (style : OutlineStyle) (choices : Choices) (contours : List (List Point))
     (answer : List (List (List Point))) → (outline : IsOutline unit style choices contours answer)
     → (made : AreOutlineRegions unit style choices contours answer) × (made.outline ≡ outline)
+
+-- where the edges that are drawn of all contours meet in whole points alone, no edge is bent in any resolving: their
+-- outline winds once round each point that more contours fill than clear, and round no other
+abbrev pub OutlinesAreExact : Type 0
+OutlinesAreExact =
+    (unit : ℕ) → 2 ^ 14 ≤ unit → (style : OutlineStyle) (choices : Choices) (contours : List (List Point))
+    (answer : List (List (List Point))) → AreOutlineRegions unit style choices contours answer
+    → MeetInWholePoints (all_drawn unit style contours)
+    → WindsOnceWhere (more_fill unit style contours) (λ m q. Unit {0}) choices answer
 
 -- what comes of one contour alone is made of regions of the edges of its own outline
 abbrev pub AnswersAloneAreRegions : Type 0

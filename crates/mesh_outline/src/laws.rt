@@ -2,7 +2,7 @@
 
 ghost use Rattle.mesh_outline.specs.Drawn.{OutlinesAreDrawn};
 ghost use Rattle.mesh_outline.specs.Laws.{OutlinesStaySafe, FinalEdgesAreBalanced};
-ghost use Rattle.mesh_outline.specs.Laws.{OutlinesAreRegions, AnswersAloneAreRegions};
+ghost use Rattle.mesh_outline.specs.Laws.{OutlinesAreRegions, OutlinesAreExact, AnswersAloneAreRegions};
 
 /// The edges of each contour's outline are balanced, near its vertices, and wind as the count of its pieces says.
 pub fn outlines_are_drawn()
@@ -23,6 +23,12 @@ pub fn final_edges_are_balanced()
 /// outlines of more contours of positive area fill than those of negative area clear, and round no other.
 pub fn outlines_are_regions()
     ensures { OutlinesAreRegions }
+{}
+
+/// Where the edges that are drawn of all contours meet in whole points alone, the outline is exact everywhere: no edge is
+/// bent by rounding, neither in a contour's own resolving nor in the last one.
+pub fn outlines_are_exact()
+    ensures { OutlinesAreExact }
 {}
 
 /// What comes of one contour alone is made of regions of the edges of its outline.
