@@ -29,11 +29,9 @@ pub use mesh_offset::error::{
     IntNearnessError, IntOutlineError, IntStrokeError, IntVariableStrokeError,
 };
 pub use mesh_slivers::slivers::without_slivers;
-pub use outline::builder::OutlineBuilder;
-pub use outline::kind::ContourKind;
-pub use outline::offset::IntOutlineOffset;
-pub use stroke::builder::StrokeBuilder;
-pub use stroke::offset::IntStrokeOffset;
-pub use variable_stroke::builder::VariableStrokeBuilder;
-pub use variable_stroke::offset::IntVariableStrokeOffset;
-pub use variable_stroke::resource::IntVariableStrokeSource;
+pub use outline::{ContourKind, IntOutlineOffset, OutlineBuilder};
+pub use stroke::{IntStrokeOffset, StrokeBuilder};
+pub use variable_stroke::{
+    ContourResourceIterator, IntVariableStrokeOffset, IntVariableStrokeSource,
+    ShapeResourceIterator, VariableStrokeBuilder,
+};

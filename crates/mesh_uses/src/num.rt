@@ -1,14 +1,15 @@
 //! Points beside a way, and points in the safe range.
 
-ghost use Rattle.std.specs.Prelude.{◌≡◌, ◌↔◌, ◌^◌, ℤ, pos, unsigned_abs, IsTrue, IsNone, IfSome};
+ghost use Rattle.std.specs.Prelude.{◌≡◌, ◌≢◌, ◌↔◌, ◌^◌, ℤ, pos, unsigned_abs, IsTrue, IsNone, IfSome};
 ghost use Rattle.std.specs.List.{All};
-ghost use Rattle.mesh_num.specs.Bounds.{IsSafe};
+ghost use Rattle.mesh_num.specs.Bounds.{IsSafe, IsWithin};
 ghost use Rattle.mesh_num.specs.Directed.{direction_of};
 ghost use Rattle.mesh_num.specs.Direction.{scaled_direction};
 ghost use Rattle.mesh_num.specs.Plane.{Point, minus, plus, right_quarter};
+ghost use Rattle.mesh_num.specs.Quotient.{rounded_product};
 ghost use Rattle.mesh_num.specs.Rectangle.{IsInRectangle, IsSafeWidened};
 
-use mesh_num::num::{IntPoint, IntRect};
+use mesh_num::num::{IntPoint, IntRect, mul_div};
 
 /// The point at this distance to the right of `from`, as one looks from there to `to`, to the left where the distance
 /// is below 0; `None` where both are one point. In no coordinate is it farther away than the distance.
@@ -33,4 +34,13 @@ pub fn are_safe(points: &[IntPoint<i32>]) -> bool
         None => true,
         Some(bounds) => bounds.is_in_safe_range(),
     }
+}
+
+/// The length that is to `length` as `part` is to `whole`, rounded to the nearest whole number, halves away from 0.
+pub fn share(length: i64, part: i64, whole: i64) -> i64
+    requires whole { whole ≢ pos 0 }
+    requires fits { IsWithin (2 ^ 63) (rounded_product length part whole) }
+    ensures { result ≡ rounded_product length part whole }
+{
+    mul_div::<i32>(length, part, whole)
 }
