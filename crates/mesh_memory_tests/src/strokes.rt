@@ -7,8 +7,10 @@ use i_overlay_mesh::{IntNearnessError, IntOutlineError, SplitCount};
 use mesh_below::below::IntOverlayOptions;
 use mesh_join::arc::ArcOptions;
 use mesh_join::style::{IntLineCap, IntLineJoin, IntStrokeStyle};
+use mesh_num::num::Angle;
 use mesh_num::shape::buffer::FlatContoursBuffer;
-use mesh_test_support::compared::{expect_equal, filled};
+use mesh_test_support::compared::{are_same_edges, expect_equal, expect_that, filled};
+use mesh_test_support::edges::edges_of_segments;
 use mesh_test_support::lists::{path, paths};
 use mesh_test_support::marks;
 use mesh_test_support::refused::{
@@ -122,4 +124,58 @@ fn building(rt: HostRuntime) -> Result<(), Fail> {
     segments.truncate(1);
     builder.build(&line, false, &mut segments)?;
     expect_added(true, &segments, &wanted)
+}
+
+/// Three sides of a square, and all four where the path is closed.
+const SQUARE: &[(i32, i32)] = &[(0, 0), (100, 0), (100, 100), (0, 100)];
+
+/// Square caps, and miters that are clipped at right angles, so that each corner is joined by three edges.
+fn clipped() -> IntStrokeStyle<i32> {
+    IntStrokeStyle::new(40)
+        .line_join(IntLineJoin::Miter(Angle::from_bits(1_610_612_736)))
+        .start_cap(IntLineCap::Square)
+        .end_cap(IntLineCap::Square)
+}
+
+/// Whatever memory is refused, the square's stroke of so many edges is built in a vector that has this room. Then the
+/// vector has the edges that are drawn with memory at hand, and its room still. A vector with no room is built in
+/// beside it, which needs memory.
+fn expect_built_in_room(
+    alloc: Global,
+    is_closed: bool,
+    room: usize,
+    count: usize,
+) -> Result<(), Fail> {
+    let (line, style) = (path(alloc, SQUARE)?, clipped());
+    line.validate_stroke(&style)?;
+    let mut wanted = Vec::new(alloc);
+    StrokeBuilder::new(alloc, &style).build(&line, is_closed, &mut wanted)?;
+    let (mut segments, mut others) = (Vec::with_capacity(alloc, room)?, Vec::new(alloc));
+    let mut builder = StrokeBuilder::new(alloc, &style);
+    marks::begin(alloc)?;
+    let first = builder.build(&line, is_closed, &mut segments);
+    let second = builder.build(&line, is_closed, &mut others);
+    marks::end(alloc)?;
+    expect_that(first.is_ok(), &"room for the edges")?;
+    expect_that(
+        second.is_ok() || others.is_empty(),
+        &"no room for the edges",
+    )?;
+    let found = (segments.len(), segments.capacity());
+    expect_equal(&found, &(count, room), &"edges and room")?;
+    let edges = edges_of_segments(alloc, &segments)?;
+    let is_same = are_same_edges(edges, edges_of_segments(alloc, &wanted)?)?;
+    expect_that(is_same, &segments)
+}
+
+/// Seven segments for each of three sides, and six more: two edges a side, five a corner, three a cap.
+#[test]
+fn building_open_in_room(rt: HostRuntime) -> Result<(), Fail> {
+    expect_built_in_room(rt.alloc(), false, 7 * 3 + 6, 22)
+}
+
+/// Seven segments for each of four sides, which are all taken, and six more.
+#[test]
+fn building_closed_in_room(rt: HostRuntime) -> Result<(), Fail> {
+    expect_built_in_room(rt.alloc(), true, 7 * 4 + 6, 28)
 }
