@@ -1,7 +1,8 @@
 -- Lemmas over lists: counts of attempts add up.
-use Rattle.std.proofs.Common.{◌≡◌, ℕ, zero, suc, ◌+◌, ◌-◌, ◌<◌, ◌^◌, List, [], ◌∷◌, ◌++◌, length, refl, sym, ◌∙◌, ap, arith}
+use Rattle.std.proofs.Common.{◌≡◌, ℕ, zero, suc, ◌+◌, ◌-◌, ◌*◌, ◌<◌, ◌≤◌, ◌^◌, List, [], ◌∷◌, ◌++◌, length, refl, sym, ◌∙◌, ap, arith}
 use Rattle.std.specs.Prelude.{min}
 use Rattle.std.specs.List.{All, Contains, sum_by}
+use Rattle.std.proofs.lemmas.List.{length-append}
 use Rattle.std.proofs.lemmas.List.Elements.{All-head, All-tail}
 use Rattle.std.proofs.lemmas.List.Sums.{sum_by-append, sum_by-cons}
 use Rattle.mesh_plane.specs.Plane.{Edge}
@@ -18,23 +19,27 @@ counted_twice c a b =
 
 module _ (IsDrawn : List Edge → Type 0) where
   attempts_at : (edges : List Edge) → IsDrawn edges → (splits : List (List EdgeSplit)) → All (IsLegal edges) splits →
-      (attempts : List (Attempt IsDrawn)) × (sum_by (λ (a : Attempt IsDrawn). length a.splits) attempts ≡ sum_by length splits)
-  attempts_at edges drawn [] legal = ([], refl)
+      (attempts : List (Attempt IsDrawn)) × (length attempts ≡ length splits) × (sum_by (λ (a : Attempt IsDrawn). length a.splits) attempts ≡ sum_by length splits)
+  attempts_at edges drawn [] legal = ([], refl, refl)
   attempts_at edges drawn (ks ∷ splits) legal =
       let rest = attempts_at edges drawn splits (All-tail (IsLegal edges) ks splits legal) in
       let one : Attempt IsDrawn = record { edges = edges; drawn = drawn; splits = ks; legal = All-head (IsLegal edges) ks splits legal } in (
         one ∷ rest.0,
+        ap suc rest.1,
         sum_by-cons (λ (a : Attempt IsDrawn). length a.splits) one rest.0
-            ∙ (ap (λ (n : ℕ). length ks + n) rest.1 ∙ sym (sum_by-cons length ks splits)),
+            ∙ (ap (λ (n : ℕ). length ks + n) rest.2 ∙ sym (sum_by-cons length ks splits)),
       )
 
   -- attempts at one list of edges
-  pub counts_of_one : (edges : List Edge) (old new : SplitCount) → IsDrawn edges → CountsSplits edges old new → CountsAttempts IsDrawn old new
+  pub counts_of_one : (edges : List Edge) (old new : SplitCount) → IsDrawn edges → CountsSplits edges old new → CountsAttempts 1 IsDrawn old new
   counts_of_one edges old new drawn counts =
       let all = attempts_at edges drawn counts.attempts counts.legal in
       record {
         attempts = all.0;
-        sum = counts.sum ∙ ap (counted old) (sym all.1);
+        few =
+            let few = counts.few in
+            let same = all.1 in omega (arith, few, same);
+        sum = counts.sum ∙ ap (counted old) (sym all.2);
       }
 
   -- the other attempts than one that is listed
@@ -44,7 +49,7 @@ module _ (IsDrawn : List Edge → Type 0) where
   others_at edges drawn ks (js ∷ splits) legal (zero, low, is) =
       let rest = attempts_at edges drawn splits (All-tail (IsLegal edges) js splits legal) in (
         rest.0,
-        sum_by-cons length js splits ∙ (ap (λ (n : ℕ). length js + n) (sym rest.1)
+        sum_by-cons length js splits ∙ (ap (λ (n : ℕ). length js + n) (sym rest.2)
             ∙ ap (λ (l : List EdgeSplit). length l + sum_by (λ (a : Attempt IsDrawn). length a.splits) rest.0) is),
       )
   others_at edges drawn ks (js ∷ splits) legal (suc i, low, is) =
@@ -78,9 +83,13 @@ module _ (IsDrawn : List Edge → Type 0) where
       }
 
   -- and more of them
-  pub counts_more : (old between new : SplitCount) → CountsAttempts IsDrawn old between → CountsAttempts IsDrawn between new → CountsAttempts IsDrawn old new
-  counts_more old between new first second = record {
+  pub counts_more : (m n : ℕ) (old between new : SplitCount) → CountsAttempts m IsDrawn old between → CountsAttempts n IsDrawn between new → CountsAttempts (m + n) IsDrawn old new
+  counts_more m n old between new first second = record {
     attempts = first.attempts ++ second.attempts;
+    few =
+        let a = first.few in
+        let b = second.few in
+        let both = length-append first.attempts second.attempts in omega (arith, a, b, both);
     sum =
         second.sum
         ∙ (ap (λ (c : SplitCount). counted c (sum_by (λ (a : Attempt IsDrawn). length a.splits) second.attempts)) first.sum
@@ -88,32 +97,44 @@ module _ (IsDrawn : List Edge → Type 0) where
         ∙ ap (counted old) (sym (sum_by-append (λ (a : Attempt IsDrawn). length a.splits) first.attempts second.attempts))));
   }
 
+  -- of no more lists than that
+  pub counts_fewer : (m n : ℕ) → m ≤ n → (old new : SplitCount) → CountsAttempts m IsDrawn old new → CountsAttempts n IsDrawn old new
+  counts_fewer m n less old new counts = record {
+    attempts = counts.attempts;
+    few = (let few = counts.few in omega (arith, few, less));
+    sum = counts.sum;
+  }
+
 -- the same attempts, at edges of which more is known
 attempts_weaker : (D E : List Edge → Type 0) → ((es : List Edge) → D es → E es) → (attempts : List (Attempt D)) →
-    (others : List (Attempt E)) × (sum_by (λ (a : Attempt E). length a.splits) others ≡ sum_by (λ (a : Attempt D). length a.splits) attempts)
-attempts_weaker D E f [] = ([], refl)
+    (others : List (Attempt E)) × (length others ≡ length attempts) × (sum_by (λ (a : Attempt E). length a.splits) others ≡ sum_by (λ (a : Attempt D). length a.splits) attempts)
+attempts_weaker D E f [] = ([], refl, refl)
 attempts_weaker D E f (a ∷ attempts) =
     let rest = attempts_weaker D E f attempts in
     let one : Attempt E = record { edges = a.edges; drawn = f a.edges a.drawn; splits = a.splits; legal = a.legal } in (
       one ∷ rest.0,
+      ap suc rest.1,
       sum_by-cons (λ (a : Attempt E). length a.splits) one rest.0
-          ∙ (ap (λ (n : ℕ). length a.splits + n) rest.1 ∙ sym (sum_by-cons (λ (a : Attempt D). length a.splits) a attempts)),
+          ∙ (ap (λ (n : ℕ). length a.splits + n) rest.2 ∙ sym (sum_by-cons (λ (a : Attempt D). length a.splits) a attempts)),
     )
 
-pub counts_weaker : (D E : List Edge → Type 0) → ((es : List Edge) → D es → E es) → (old new : SplitCount) → CountsAttempts D old new → CountsAttempts E old new
-counts_weaker D E f old new counts =
+pub counts_weaker : (n : ℕ) (D E : List Edge → Type 0) → ((es : List Edge) → D es → E es) → (old new : SplitCount) → CountsAttempts n D old new → CountsAttempts n E old new
+counts_weaker n D E f old new counts =
     let all = attempts_weaker D E f counts.attempts in
     record {
       attempts = all.0;
-      sum = counts.sum ∙ ap (counted old) (sym all.1);
+      few =
+          let few = counts.few in
+          let same = all.1 in omega (arith, few, same);
+      sum = counts.sum ∙ ap (counted old) (sym all.2);
     }
 
 -- no attempt yet
 counted_none : (count : SplitCount) → count.made < 2 ^ 64 → count ≡ counted count 0
 counted_none count small = let e : count.made ≡ min (count.made + 0) (2 ^ 64 - 1) = omega (arith, small) in λ i. record { made = e i; most = count.most }
 
-pub counts_none : (D : List Edge → Type 0) (count : SplitCount) → count.made < 2 ^ 64 → CountsAttempts D count count
-counts_none D count small = record { attempts = []; sum = counted_none count small }
+pub counts_none : (n : ℕ) (D : List Edge → Type 0) (count : SplitCount) → count.made < 2 ^ 64 → CountsAttempts n D count count
+counts_none n D count small = record { attempts = []; few = omega arith; sum = counted_none count small }
 
 -- the same attempts stand and were given up, at edges of which more is known
 pub standing_weaker : (D E : List Edge → Type 0) → ((es : List Edge) → D es → E es) → (n : ℕ) (old new : SplitCount) → CountsStanding D n old new → CountsStanding E n old new
@@ -121,7 +142,7 @@ standing_weaker D E f n old new counts =
     let all = attempts_weaker D E f counts.given_up in
     record {
       given_up = all.0;
-      sum = counts.sum ∙ ap (λ (s : ℕ). counted old (n + s)) (sym all.1);
+      sum = counts.sum ∙ ap (λ (s : ℕ). counted old (n + s)) (sym all.2);
     }
 
 -- nothing stands, and nothing was given up

@@ -159,11 +159,11 @@ near_all first unit style paths i ss old new past h = subst (λ (ps : List (List
 
 -- the splits of one contour's own resolving were counted on
 pub counts_contour : (unit : ℕ) (style : OutlineStyle) (paths : List (List Point)) (i : ℕ) (old between new : SplitCount) → i < length paths →
-    CountsAttempts (IsOutlineDrawing unit style paths) old between →
-    CountsAttempts (λ (es : List Edge). IsPermutation es (drawn_of unit style (get_or paths i []))) between new → CountsAttempts (IsOutlineDrawing unit style paths) old new
+    CountsAttempts i (IsOutlineDrawing unit style paths) old between →
+    CountsAttempts 1 (λ (es : List Edge). IsPermutation es (drawn_of unit style (get_or paths i []))) between new → CountsAttempts (i + 1) (IsOutlineDrawing unit style paths) old new
 counts_contour unit style paths i old between new l before own =
-    counts_more (IsOutlineDrawing unit style paths) old between new before
-    (counts_weaker (λ (es : List Edge). IsPermutation es (drawn_of unit style (get_or paths i []))) (IsOutlineDrawing unit style paths)
+    counts_more (IsOutlineDrawing unit style paths) i 1 old between new before
+    (counts_weaker 1 (λ (es : List Edge). IsPermutation es (drawn_of unit style (get_or paths i []))) (IsOutlineDrawing unit style paths)
     (λ (es : List Edge) (same : IsPermutation es (drawn_of unit style (get_or paths i []))). IsOutlineDrawing.alone (Contains-get_or paths i [] l) same) between new own)
 
 -- ---- what is resolved at last
@@ -181,10 +181,10 @@ module _ (first unit : ℕ) (style : OutlineStyle) (contours : List (List Point)
   held_edges = ap edges_of e ∙ given_edges unit ss h.0 h.2
 
   -- and the splits of that are counted on too
-  pub counts_last : (old between new : SplitCount) → CountsAttempts (IsOutlineDrawing unit style contours) old between →
-      CountsSplits (edges_of held) between new → CountsAttempts (IsOutlineDrawing unit style contours) old new
+  pub counts_last : (old between new : SplitCount) → CountsAttempts (length contours) (IsOutlineDrawing unit style contours) old between →
+      CountsSplits (edges_of held) between new → CountsAttempts (length contours + 1) (IsOutlineDrawing unit style contours) old new
   counts_last old between new before last =
-      counts_more (IsOutlineDrawing unit style contours) old between new before
+      counts_more (IsOutlineDrawing unit style contours) (length contours) 1 old between new before
       (counts_of_one (IsOutlineDrawing unit style contours) (edges_of held) between new
       (subst (IsOutlineDrawing unit style contours) (sym held_edges) (IsOutlineDrawing.together (give_of unit style first contours h.0 h.1))) last)
 

@@ -1,7 +1,7 @@
 //! The outline of a source, and how near to the drawn edges it is exact: each contour is resolved alone, then what they
 //! give together.
 
-ghost use Rattle.std.specs.Prelude.{◌≡◌, ◌↔◌, ◌≤◌, ◌^◌, List, map, IfOk, OnOk};
+ghost use Rattle.std.specs.Prelude.{◌≡◌, ◌↔◌, ◌+◌, ◌≤◌, ◌^◌, List, length, map, IfOk, OnOk};
 ghost use Rattle.std.specs.List.{All};
 ghost use Rattle.std.specs.List.Sorted.{IsPermutation};
 ghost use Rattle.mesh_num.specs.Paths.{shapes_of};
@@ -57,8 +57,8 @@ pub(crate) fn near_outline<I: IntNumber, S: IntShapeResource<I>>(
     ensures safe { IfOk result (λ near. ArePointsSafe I.unit (shapes_of near.shapes.items)) }
     ensures unfit { result ≡ Err IntNearnessError.CoordinateOutOfRange
         ↔ ¬ DoAreasFit I.Wide.half (S.paths source.now) }
-    ensures counted { CountsAttempts (IsOutlineDrawing I.unit (style_of I.value style.now) (S.paths source.now))
-        count.old count.new }
+    ensures counted { CountsAttempts (length (S.paths source.now) + 1)
+        (IsOutlineDrawing I.unit (style_of I.value style.now) (S.paths source.now)) count.old count.new }
     ensures within { OnOk result (IsWithinLimit count.new) }
     ensures refused { result ≡ Err IntNearnessError.TooManySplits → IsPastLimit count.new }
 {
@@ -83,8 +83,8 @@ fn resolved_near<I: IntNumber, S: IntShapeResource<I>>(
         (style_of I.value style.now) (choices_of I.WideUInt.value options) (S.paths source.now)
         (shapes_of near.shapes.items) count.old count.new) }
     ensures safe { IfOk result (λ near. ArePointsSafe I.unit (shapes_of near.shapes.items)) }
-    ensures counted { CountsAttempts (IsOutlineDrawing I.unit (style_of I.value style.now) (S.paths source.now))
-        count.old count.new }
+    ensures counted { CountsAttempts (length (S.paths source.now) + 1)
+        (IsOutlineDrawing I.unit (style_of I.value style.now) (S.paths source.now)) count.old count.new }
     ensures within { OnOk result (IsWithinLimit count.new) }
     ensures refused { result ≡ Err SplitError.TooManySplits → IsPastLimit count.new }
 {
@@ -111,8 +111,8 @@ fn near_segments<I: IntNumber, S: IntShapeResource<I>>(
     ensures given { IfOk result (λ given. AreGivenCounted given.nearness I.unit (style_of I.value style.now)
         (S.paths source.now) (S.paths source.now) given.segments.items count.old count.new) }
     ensures small { IfOk result (λ given. given.nearness ≤ 2 ^ 38) }
-    ensures counted { CountsAttempts (IsOutlineDrawing I.unit (style_of I.value style.now) (S.paths source.now))
-        count.old count.new }
+    ensures counted { CountsAttempts (length (S.paths source.now))
+        (IsOutlineDrawing I.unit (style_of I.value style.now) (S.paths source.now)) count.old count.new }
     ensures refused { result ≡ Err SplitError.TooManySplits → IsPastLimit count.new }
 {
     // Read, so that it is known to fit: a return before any attempt counts none.
@@ -147,7 +147,7 @@ fn add_contour<I: IntNumber>(
     ensures given { IfOk result (λ nearness. AddsGivenNear nearness I.unit (style_of I.value style.now) path.now
         segments.old.items segments.new.items count.old count.new) }
     ensures small { IfOk result (λ nearness. nearness ≤ 2 ^ 38) }
-    ensures counted { CountsAttempts
+    ensures counted { CountsAttempts 1
         (λ (es : List Edge). IsPermutation es (drawn_of I.unit (style_of I.value style.now) path.now))
         count.old count.new }
     ensures refused { result ≡ Err SplitError.TooManySplits → IsPastLimit count.new }
@@ -174,7 +174,7 @@ fn add_resolved<I: IntNumber>(
     ensures added { IfOk result (λ nearness. AddsNear nearness I.unit builder.old fill path.now
         segments.old.items segments.new.items count.old count.new) }
     ensures small { IfOk result (λ nearness. nearness ≤ 2 ^ 38) }
-    ensures counted { CountsAttempts
+    ensures counted { CountsAttempts 1
         (λ (es : List Edge). IsPermutation es (outline_edges I.unit builder.old path.now)) count.old count.new }
     ensures refused { result ≡ Err SplitError.TooManySplits → IsPastLimit count.new }
 {
@@ -195,7 +195,7 @@ fn near_alone<I: IntNumber>(
     ensures answer { IfOk result (λ near. ComesNear near.nearness I.unit builder.old fill path.now
         (shapes_of near.shapes.items) count.old count.new) }
     ensures small { IfOk result (λ near. near.nearness ≤ 2 ^ 38) }
-    ensures counted { CountsAttempts
+    ensures counted { CountsAttempts 1
         (λ (es : List Edge). IsPermutation es (outline_edges I.unit builder.old path.now)) count.old count.new }
     ensures refused { result ≡ Err SplitError.TooManySplits → IsPastLimit count.new }
 {

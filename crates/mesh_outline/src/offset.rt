@@ -1,6 +1,6 @@
 //! Offset calls on sources of contours.
 
-ghost use Rattle.std.specs.Prelude.{◌≡◌, ◌↔◌, IsOk, IfOk, OnOk, OnErr, List, []};
+ghost use Rattle.std.specs.Prelude.{◌≡◌, ◌↔◌, ◌+◌, IsOk, IfOk, OnOk, OnErr, List, [], length};
 ghost use Rattle.mesh_num.specs.FlatContours.{HoldsContours};
 ghost use Rattle.mesh_num.specs.Paths.{contours_of, shapes_of};
 ghost use Rattle.mesh_plane.specs.Plane.{Point, Edge};
@@ -166,8 +166,8 @@ pub trait IntOutlineOffset<I: OverlayInt>: IntShapeResource<I> {
         ensures safe { IfOk result (λ near. ArePointsSafe I.unit (shapes_of near.shapes.items)) }
         ensures unfit { result ≡ Err IntNearnessError.CoordinateOutOfRange
             ↔ ¬ DoAreasFit I.Wide.half (Self.paths self.now) }
-        ensures counted { CountsAttempts (IsOutlineDrawing I.unit (style_of I.value style.now) (Self.paths self.now))
-            count.old count.new }
+        ensures counted { CountsAttempts (length (Self.paths self.now) + 1)
+            (IsOutlineDrawing I.unit (style_of I.value style.now) (Self.paths self.now)) count.old count.new }
         ensures within { OnOk result (IsWithinLimit count.new) }
         ensures refused { result ≡ Err IntNearnessError.TooManySplits → IsPastLimit count.new }
         ensures built { HavePromisedEdges I.unit (style_of I.value style.now) (Self.paths self.now) }

@@ -180,7 +180,7 @@ pub trait IntStrokeOffset<I: OverlayInt>: IntShapeResource<I> {
         ensures edges { IfOk result (λ near. ResolvesPromisedEdges I.unit (stroke_style_of I.value style.now) closed
             (choices_of I.WideUInt.value options) (Self.paths self.now) (shapes_of near.shapes.items)) }
         ensures safe { IfOk result (λ near. ArePointsSafe I.unit (shapes_of near.shapes.items)) }
-        ensures counted { CountsAttempts
+        ensures counted { CountsAttempts 1
             (AreAllEdges I.unit (stroke_style_of I.value style.now) closed (Self.paths self.now)) count.old count.new }
         ensures within { OnOk result (IsWithinLimit count.new) }
         ensures refused { result ≡ Err IntNearnessError.TooManySplits → IsPastLimit count.new }

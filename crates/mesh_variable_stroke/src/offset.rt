@@ -165,7 +165,7 @@ pub trait IntVariableStrokeOffset<I: OverlayInt>: IntVariableStrokeSource<I> {
         ensures edges { IfOk result (λ near. ResolvesPromisedEdges I.unit style.arc
             (choices_of I.WideUInt.value options) (Self.paths self.now) (shapes_of near.shapes.items)) }
         ensures safe { IfOk result (λ near. ArePointsSafe I.unit (shapes_of near.shapes.items)) }
-        ensures counted { CountsAttempts (AreAllEdges I.unit style.arc (Self.paths self.now)) count.old count.new }
+        ensures counted { CountsAttempts 1 (AreAllEdges I.unit style.arc (Self.paths self.now)) count.old count.new }
         ensures within { OnOk result (IsWithinLimit count.new) }
         ensures refused { result ≡ Err IntNearnessError.TooManySplits → IsPastLimit count.new }
         ensures in_range { ¬ result ≡ Err IntNearnessError.CoordinateOutOfRange }

@@ -29,7 +29,7 @@ returns-clause-given g c =
 
 pub returns-clause-counted : goal.returns-clause-counted
 returns-clause-counted g c =
-    counts_weaker (λ (es : List Edge). IsPermutation es (outline_edges g.I.IntNumber.unit c.in-Some.builder c.args.path.now))
+    counts_weaker 1 (λ (es : List Edge). IsPermutation es (outline_edges g.I.IntNumber.unit c.in-Some.builder c.args.path.now))
     (λ (es : List Edge). IsPermutation es (drawn_of g.I.IntNumber.unit (style_of g.I.IntNumber.value c.args.style.now) c.args.path.now))
     (drawn_kind g.I.IntNumber.unit (style_of g.I.IntNumber.value c.args.style.now) c.args.kind c.in-Some.builder c.args.path.now c.requires.kind (sym c.in-Some.ensures))
     _ _ c.add_resolved.ensures.counted

@@ -1,8 +1,8 @@
 -- One contour after another.
-use Rattle.std.proofs.Common.{[], arith}
+use Rattle.std.proofs.Common.{◌+◌, [], arith, length}
 use Rattle.std.proofs.lemmas.List.Elements.{Contains-get_or}
 use Rattle.mesh_join.specs.Styles.{style_of}
-use Rattle.mesh_offset.proofs.Counting.{counts_more, counts_none, counts_weaker}
+use Rattle.mesh_offset.proofs.Counting.{counts_fewer, counts_more, counts_none, counts_weaker}
 use Rattle.mesh_outline.specs.Nearness.{IsOutlineDrawing}
 use Rattle.mesh_outline.specs.declared.kind.ContourKind.TheVariants.{Outer}
 use Rattle.mesh_outline.proofs.ContourKinds.{kind_count, kind_at}
@@ -13,7 +13,7 @@ pub loop-index-init : goal.loop-index-init
 loop-index-init g c = (
   rw c.new-segments.ensures.items (near_none g.I.IntNumber.unit (style_of g.I.IntNumber.value c.args.style.now) (g.S.IntShapeResource.paths c.args.source.now) c.args.count.now (omega arith)),
   omega arith,
-  counts_none (IsOutlineDrawing g.I.IntNumber.unit (style_of g.I.IntNumber.value c.args.style.now) (g.S.IntShapeResource.paths c.args.source.now)) c.args.count.now (omega arith),
+  counts_none 0 (IsOutlineDrawing g.I.IntNumber.unit (style_of g.I.IntNumber.value c.args.style.now) (g.S.IntShapeResource.paths c.args.source.now)) c.args.count.now (omega arith),
 )
 
 pub bounds-kinds-index : goal.bounds-kinds-index
@@ -30,8 +30,10 @@ add_contour-requires-clause-kind g c =
 
 pub returns-in_err-own-clause-counted : goal.returns-in_err-own-clause-counted
 returns-in_err-own-clause-counted g c =
-    counts_contour g.I.IntNumber.unit (style_of g.I.IntNumber.value c.args.style.now) (g.S.IntShapeResource.paths c.args.source.now) c.loop-index.index
-    _ _ _ (omega arith) c.loop-index.invariant.2 (rw c.path_at.ensures at c.add_contour.ensures.counted)
+    counts_fewer (IsOutlineDrawing g.I.IntNumber.unit (style_of g.I.IntNumber.value c.args.style.now) (g.S.IntShapeResource.paths c.args.source.now))
+    (c.loop-index.index + 1) (length (g.S.IntShapeResource.paths c.args.source.now)) (omega arith) _ _
+    (counts_contour g.I.IntNumber.unit (style_of g.I.IntNumber.value c.args.style.now) (g.S.IntShapeResource.paths c.args.source.now) c.loop-index.index
+    _ _ _ (omega arith) c.loop-index.invariant.2 (rw c.path_at.ensures at c.add_contour.ensures.counted))
 
 pub loop-index-preserved : goal.loop-index-preserved
 loop-index-preserved g c = (
@@ -50,3 +52,8 @@ pub returns-clause-given : goal.returns-clause-given
 returns-clause-given g c =
     near_all c.loop-index.nearness g.I.IntNumber.unit (style_of g.I.IntNumber.value c.args.style.now) (g.S.IntShapeResource.paths c.args.source.now)
     c.loop-index.index _ _ _ (omega arith) c.loop-index.invariant.0
+
+pub returns-clause-counted : goal.returns-clause-counted
+returns-clause-counted g c =
+    counts_fewer (IsOutlineDrawing g.I.IntNumber.unit (style_of g.I.IntNumber.value c.args.style.now) (g.S.IntShapeResource.paths c.args.source.now))
+    c.loop-index.index (length (g.S.IntShapeResource.paths c.args.source.now)) (omega arith) _ _ c.loop-index.invariant.2

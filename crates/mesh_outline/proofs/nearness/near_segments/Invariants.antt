@@ -10,4 +10,4 @@ abbrev pub invariant-loop-index : goal.invariant-loop-index
 invariant-loop-index g l =
     AreGivenCounted l.nearness g.I.IntNumber.unit (style_of g.I.IntNumber.value l.style) (g.S.IntShapeResource.paths l.source) (take l.index (g.S.IntShapeResource.paths l.source)) l.segments.items l.fn.count l.count
     × (l.nearness ≤ 2 ^ 38)
-    × CountsAttempts (IsOutlineDrawing g.I.IntNumber.unit (style_of g.I.IntNumber.value l.style) (g.S.IntShapeResource.paths l.source)) l.fn.count l.count
+    × CountsAttempts l.index (IsOutlineDrawing g.I.IntNumber.unit (style_of g.I.IntNumber.value l.style) (g.S.IntShapeResource.paths l.source)) l.fn.count l.count

@@ -1,9 +1,11 @@
 -- What contours give is resolved together.
-use Rattle.std.proofs.Common.{ap, subst}
+use Rattle.std.proofs.Common.{◌+◌, ap, arith, length, subst}
 use Rattle.mesh_num.specs.Paths.{shapes_of}
 use Rattle.mesh_num.specs.Segments.{edges_of}
 use Rattle.mesh_below.specs.Options.{choices_of}
 use Rattle.mesh_join.specs.Styles.{style_of}
+use Rattle.mesh_offset.proofs.Counting.{counts_fewer}
+use Rattle.mesh_outline.specs.Nearness.{IsOutlineDrawing}
 use Rattle.mesh_outline.proofs.NearSteps.{counts_last, near_outline, near_resolvable}
 use Rattle.mesh_outline.proofs.nearness.resolved_near.Goals as goal
 
@@ -21,6 +23,11 @@ pub overlay_with_nearness-requires-clause-safe : goal.overlay_with_nearness-requ
 overlay_with_nearness-requires-clause-safe g c =
     (near_resolvable _ g.I.IntNumber.unit (style_of g.I.IntNumber.value c.args.style.now) (g.S.IntShapeResource.paths c.args.source.now) _ _
     (ap (λ v. v.items) c.with_segments-overlay.ensures.segments) c.in_ok-given.ensures.given.0).safe
+
+pub returns-in_err-given-clause-counted : goal.returns-in_err-given-clause-counted
+returns-in_err-given-clause-counted g c =
+    counts_fewer (IsOutlineDrawing g.I.IntNumber.unit (style_of g.I.IntNumber.value c.args.style.now) (g.S.IntShapeResource.paths c.args.source.now))
+    (length (g.S.IntShapeResource.paths c.args.source.now)) (length (g.S.IntShapeResource.paths c.args.source.now) + 1) (omega arith) _ _ c.near_segments.ensures.counted
 
 pub returns-in_err-near-clause-counted : goal.returns-in_err-near-clause-counted
 returns-in_err-near-clause-counted g c =
