@@ -43,7 +43,6 @@ near_asked unit point_of asks drawn choices most (Ok near) here answer = record 
   shapes = answer.shapes;
   drawing = answer.drawing;
   held = answer.held;
-  within = answer.within;
 }
 near_asked unit point_of asks drawn choices most (Err (Failed Unreadable)) here (inl none) = absurd (none drawn refl)
 near_asked unit point_of asks drawn choices most (Err (Failed Unreadable)) here (inr none) = inr none

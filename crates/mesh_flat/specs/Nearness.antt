@@ -3,10 +3,9 @@
 -- drawing that it is the one that is asked for.
 use Rattle.std.specs.Prelude.{ℕ, ◌≡◌, List, Option, Some, None, Result, Ok, Err}
 use Rattle.mesh_plane.specs.Plane.{Point}
-use Rattle.mesh_split.specs.Counting.{IsPastLimit, IsWithinLimit}
 use Rattle.mesh_shapes.specs.Resolution.{Choices}
 use Rattle.mesh_request.specs.Requests.{Drawn}
-use Rattle.mesh_service.specs.Nearness.{AreDrawn, AreShapesBeyond, CountsUpTo}
+use Rattle.mesh_service.specs.Nearness.{AreShapesWithin, TakesMoreSplits}
 use Rattle.mesh_service.specs.Served.{MayBeDrawn}
 use Rattle.mesh_service.specs.declared.near_failure.NearFailure.{NearFailure}
 use Rattle.mesh_service.specs.declared.near_failure.NearFailure.TheVariants.{Failed, TooManySplits}
@@ -24,15 +23,14 @@ pub record AnswersNear {F : Type 0} (unit : ℕ) (point_of : F → Point) (asks 
   pub said : choices ≡ Some chosen
   pub accepted : MayBeDrawn unit drawn
   pub shapes : List (List (List Point))
-  pub drawing : AreShapesBeyond near.nearness unit chosen drawn shapes
+  pub drawing : AreShapesWithin most near.nearness unit chosen drawn shapes
   pub held : HoldsShapes point_of near.shapes shapes
-  pub within : CountsUpTo (AreDrawn unit drawn) most IsWithinLimit
 
 -- what is asked for took more splits than a limit that is set
 pub record IsGivenUp (unit : ℕ) (asks : Drawn → Type 0) (most : ℕ) : Type 0 where
   pub drawn : Drawn
   pub asked : asks drawn
-  pub past : CountsUpTo (AreDrawn unit drawn) most IsPastLimit
+  pub past : TakesMoreSplits most unit drawn
 
 -- what is answered where shapes with their nearness are asked for, with these choices, if there are any, by at most so
 -- many splits, or any number where that is 0

@@ -1,9 +1,8 @@
 -- Lemmas over splits that are counted, and refusals of a call with a limit.
-use Rattle.std.proofs.Common.{◌≡◌, ℕ, List, Result, Ok, Err, IsErrAnd, refl, subst}
-use Rattle.std.specs.Prelude.{OnOk}
-use Rattle.mesh_plane.specs.Plane.{Edge}
+use Rattle.std.proofs.Common.{◌≡◌, ℕ, Result, Ok, Err, IsErrAnd, refl, subst}
+use Rattle.std.specs.Prelude.{IfOk, OnOk}
+use Rattle.mesh_split.specs.Counting.{IsWithinLimit}
 use Rattle.mesh_split.specs.declared.count.SplitCount.{SplitCount}
-use Rattle.mesh_offset.specs.Counting.{CountsAttempts}
 use Rattle.mesh_offset.specs.Errors.{of_offset}
 use Rattle.mesh_offset.specs.declared.error.IntNearnessError.{IntNearnessError}
 use Rattle.mesh_offset.specs.declared.error.IntNearnessError.TheVariants as near
@@ -19,18 +18,18 @@ never_past (Err t) offset.CoordinateOutOfRange same e = let m : near.CoordinateO
 never_past (Err t) offset.OutOfMemory same e = let m : near.OutOfMemory ≡ near.TooManySplits = cc in cc
 
 -- a count that began with no split
-pub counted_up : (IsDrawn : List Edge → Type 0) (most : ℕ) (IsSo : SplitCount → Type 0) (first count : SplitCount) →
-    first ≡ record { made = 0; most = most } → CountsAttempts IsDrawn first count → IsSo count → CountsUpTo IsDrawn most IsSo
-counted_up IsDrawn most IsSo first count e counted so = record {
+pub counted_up : (AreCounted : SplitCount → SplitCount → Type 0) (most : ℕ) (IsSo : SplitCount → Type 0) (first count : SplitCount) →
+    first ≡ record { made = 0; most = most } → AreCounted first count → IsSo count → CountsUpTo most AreCounted IsSo
+counted_up AreCounted most IsSo first count e counted so = record {
   count = count;
-  counted = subst (λ (c : SplitCount). CountsAttempts IsDrawn c count) e counted;
+  counted = subst (λ (c : SplitCount). AreCounted c count) e counted;
   so = so;
 }
 
-pub within_up : {A E : Type 0} (r : Result A E) (IsDrawn : List Edge → Type 0) (most : ℕ) (IsSo : SplitCount → Type 0) (first count : SplitCount) →
-    first ≡ record { made = 0; most = most } → CountsAttempts IsDrawn first count → OnOk r (IsSo count) → OnOk r (CountsUpTo IsDrawn most IsSo)
-within_up (Ok x) IsDrawn most IsSo first count e counted so = counted_up IsDrawn most IsSo first count e counted so
-within_up (Err t) IsDrawn most IsSo first count e counted so = tt
+pub within_up : {A E : Type 0} (r : Result A E) (AreCounted : A → SplitCount → SplitCount → Type 0) (most : ℕ) (first count : SplitCount) →
+    first ≡ record { made = 0; most = most } → IfOk r (λ x. AreCounted x first count) → OnOk r (IsWithinLimit count) → IfOk r (λ x. CountsUpTo most (AreCounted x) IsWithinLimit)
+within_up (Ok x) AreCounted most first count e counted within = counted_up (AreCounted x) most IsWithinLimit first count e counted within
+within_up (Err t) AreCounted most first count e counted within = tt
 
 -- what is told as a limit that was passed is one
 pub of_limit : (error : IntNearnessError) → TooManySplits ≡ of_nearness error → error ≡ near.TooManySplits

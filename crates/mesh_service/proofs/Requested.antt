@@ -7,10 +7,9 @@ use Rattle.mesh_shapes.specs.Resolution.{Choices}
 use Rattle.serde_json.specs.Data.{Data}
 use Rattle.serde_json.specs.Read.{read}
 use Rattle.serde_json.specs.Written.{has_float}
-use Rattle.mesh_split.specs.Counting.{IsWithinLimit}
 use Rattle.mesh_service.specs.Lines.{edges_text, shapes_text, told_edges_text, told_shapes_text}
 use Rattle.mesh_service.specs.Near.{AnswersWithin, ListsWithin}
-use Rattle.mesh_service.specs.Nearness.{AreDrawn, AreShapesBeyond, CountsUpTo}
+use Rattle.mesh_service.specs.Nearness.{AreShapesWithin}
 use Rattle.mesh_request.specs.Reading.{request_of}
 use Rattle.mesh_request.specs.Requests.{Asked, Request}
 use Rattle.mesh_service.specs.Served.{AreEdgesOf, AreShapesOf, IsAccepted, Lists, Answers}
@@ -48,11 +47,11 @@ told_edges_answer telling order request line lists e accepted each written =
     }
 
 pub told_shapes_answer : (telling : Telling) (order : ℤ → ℤ → Ordering) (request : Request) (line : List ℕ) (choices : Choices) (nearness : ℕ) (shapes : List (List (List Point))) →
-    request.asked ≡ Asked.for_shapes choices → IsAccepted request → AreShapesBeyond nearness request.unit choices request.drawn shapes →
-    CountsUpTo (AreDrawn request.unit request.drawn) telling.most_splits IsWithinLimit → line ≡ told_shapes_text telling.nearness nearness shapes → AnswersWithin telling order request line
-told_shapes_answer telling order request line choices nearness shapes e accepted drawn within written =
+    request.asked ≡ Asked.for_shapes choices → IsAccepted request → AreShapesWithin telling.most_splits nearness request.unit choices request.drawn shapes →
+    line ≡ told_shapes_text telling.nearness nearness shapes → AnswersWithin telling order request line
+told_shapes_answer telling order request line choices nearness shapes e accepted drawn written =
     record {
       accepted = accepted;
       listed = subst (λ (asked : Asked). ListsWithin telling order request line asked) (sym e)
-          (record { shapes = shapes; nearness = nearness; drawn = drawn; within = within; written = written });
+          (record { shapes = shapes; nearness = nearness; drawn = drawn; written = written });
     }

@@ -3,12 +3,11 @@ use Rattle.std.specs.Prelude.{ℕ, ◌≡◌, ℤ, List, Some, Bool, IsUtf8}
 use Rattle.std.specs.Ordering.{int_cmp}
 use Rattle.std.specs.declared.cmp.Ordering.{Ordering}
 use Rattle.mesh_plane.specs.Plane.{Point, Edge}
-use Rattle.mesh_split.specs.Counting.{IsPastLimit, IsWithinLimit}
 use Rattle.mesh_shapes.specs.Resolution.{Choices}
 use Rattle.mesh_request.specs.Failures.{IsOfMemory}
 use Rattle.mesh_request.specs.Requests.{Asked, Request}
 use Rattle.mesh_service.specs.Lines.{told_edges_text, told_shapes_text}
-use Rattle.mesh_service.specs.Nearness.{AreDrawn, AreShapesBeyond, CountsUpTo}
+use Rattle.mesh_service.specs.Nearness.{AreShapesWithin, TakesMoreSplits}
 use Rattle.mesh_service.specs.Served.{AreEdgesOf, IsAccepted}
 use Rattle.mesh_service.specs.Serving.{request_in}
 use Rattle.mesh_service.specs.declared.near.Telling.{Telling}
@@ -22,12 +21,11 @@ pub record ListsToldEdges (told : Bool) (order : ℤ → ℤ → Ordering) (requ
   pub written : line ≡ told_edges_text told lists
 
 -- the line lists the shapes of what is drawn, with these choices, which are exact farther than their nearness from each
--- drawn edge, and took no more splits than they might
+-- drawn edge and took no more splits than they might
 pub record ListsShapesWithin (telling : Telling) (choices : Choices) (request : Request) (line : List ℕ) : Type 0 where
   pub shapes : List (List (List Point))
   pub nearness : ℕ
-  pub drawn : AreShapesBeyond nearness request.unit choices request.drawn shapes
-  pub within : CountsUpTo (AreDrawn request.unit request.drawn) telling.most_splits IsWithinLimit
+  pub drawn : AreShapesWithin telling.most_splits nearness request.unit choices request.drawn shapes
   pub written : line ≡ told_shapes_text telling.nearness nearness shapes
 
 -- the line lists what is asked
@@ -43,7 +41,7 @@ pub record AnswersWithin (telling : Telling) (order : ℤ → ℤ → Ordering) 
 
 -- a limit is set, and what is drawn took more splits
 abbrev pub PassesLimit : ℕ → Request → Type 0
-PassesLimit most request = CountsUpTo (AreDrawn request.unit request.drawn) most IsPastLimit
+PassesLimit most request = TakesMoreSplits most request.unit request.drawn
 
 -- `line` answers the request that `text`, in UTF-8, is
 pub record IsAnswerWithin (telling : Telling) (text line : List ℕ) : Type 0 where

@@ -2,19 +2,13 @@
 
 ghost use Rattle.std.specs.Prelude.{◌≡◌, IfOk, OnOk};
 ghost use Rattle.mesh_num.specs.Paths.{paths_of, shapes_of};
-ghost use Rattle.mesh_split.specs.Counting.{IsPastLimit, IsWithinLimit};
 ghost use Rattle.mesh_below.specs.Options.{choices_of};
 ghost use Rattle.mesh_join.specs.Styles.{style_of};
-ghost use Rattle.mesh_outline.specs.Nearness.{AreOutlineRegionsBeyond, IsOutlineDrawing};
-ghost use Rattle.mesh_stroke.specs.Regions.{AreStrokeRegionsBeyond};
-ghost use Rattle.mesh_stroke.specs.Resolved.{AreAllEdges};
 ghost use Rattle.mesh_stroke.specs.Styles.{stroke_style_of};
-ghost use Rattle.mesh_variable_stroke.specs.Regions.{AreVariableStrokeRegionsBeyond};
-ghost use Rattle.mesh_variable_stroke.specs.Resolved.{AreAllEdges as AreAllVariableEdges};
-ghost use Rattle.mesh_request.specs.Requests.{drawn_of};
+ghost use Rattle.mesh_request.specs.Requests.{drawn_of, drawn_outline, drawn_stroke, drawn_variable_stroke};
 ghost use Rattle.mesh_service.specs.Drawings.{MayBeOutlined, MayBeStroked, MayBeVariablyStroked};
 ghost use Rattle.mesh_service.specs.Served.{MayBeDrawn};
-ghost use Rattle.mesh_service.specs.Nearness.{AreDrawn, AreShapesBeyond, CountsUpTo};
+ghost use Rattle.mesh_service.specs.Nearness.{AreShapesWithin, TakesMoreSplits};
 
 use i_overlay_mesh::outline::offset::IntOutlineOffset;
 use i_overlay_mesh::stroke::offset::IntStrokeOffset;
@@ -35,15 +29,13 @@ pub fn near_shapes<I: OverlayInt>(
     options: IntOverlayOptions<I::WideUInt>,
     most_splits: u64,
 ) -> Result<NearShapes<I>, IntNearnessError>
-    ensures shapes { IfOk result (λ near. AreShapesBeyond near.nearness I.unit (choices_of I.WideUInt.value options)
-        (drawn_of I.value drawing.now) (shapes_of near.shapes.items)) }
+    ensures shapes { IfOk result (λ near. AreShapesWithin most_splits near.nearness I.unit
+        (choices_of I.WideUInt.value options) (drawn_of I.value drawing.now) (shapes_of near.shapes.items)) }
     ensures accepted { OnOk result (MayBeDrawn I.unit (drawn_of I.value drawing.now)) }
     ensures refused { result ≡ Err IntNearnessError.CoordinateOutOfRange
         → ¬ MayBeDrawn I.unit (drawn_of I.value drawing.now) }
-    ensures within { OnOk result
-        (CountsUpTo (AreDrawn I.unit (drawn_of I.value drawing.now)) most_splits IsWithinLimit) }
     ensures past { result ≡ Err IntNearnessError.TooManySplits
-        → CountsUpTo (AreDrawn I.unit (drawn_of I.value drawing.now)) most_splits IsPastLimit }
+        → TakesMoreSplits most_splits I.unit (drawn_of I.value drawing.now) }
 {
     match drawing {
         Drawing::Outline(outline) => near_outline(alloc, outline, options, most_splits),
@@ -58,18 +50,15 @@ fn near_outline<I: OverlayInt>(
     options: IntOverlayOptions<I::WideUInt>,
     most_splits: u64,
 ) -> Result<NearShapes<I>, IntNearnessError>
-    ensures shapes { IfOk result (λ near. AreOutlineRegionsBeyond near.nearness I.unit
-        (style_of I.value outline.now.style) (choices_of I.WideUInt.value options)
-        (paths_of outline.now.paths.items) (shapes_of near.shapes.items)) }
+    ensures shapes { IfOk result (λ near. AreShapesWithin most_splits near.nearness I.unit
+        (choices_of I.WideUInt.value options) (drawn_outline I.value outline.now) (shapes_of near.shapes.items)) }
     ensures accepted { OnOk result (MayBeOutlined I.unit (style_of I.value outline.now.style)
         (paths_of outline.now.paths.items)) }
     ensures refused { result ≡ Err IntNearnessError.CoordinateOutOfRange
-        → ¬ MayBeOutlined I.unit (style_of I.value outline.now.style) (paths_of outline.now.paths.items) }
-    ensures within { OnOk result (CountsUpTo (IsOutlineDrawing I.unit (style_of I.value outline.now.style)
-        (paths_of outline.now.paths.items)) most_splits IsWithinLimit) }
+        → ¬ MayBeOutlined I.unit (style_of I.value outline.now.style)
+        (paths_of outline.now.paths.items) }
     ensures past { result ≡ Err IntNearnessError.TooManySplits
-        → CountsUpTo (IsOutlineDrawing I.unit (style_of I.value outline.now.style)
-        (paths_of outline.now.paths.items)) most_splits IsPastLimit }
+        → TakesMoreSplits most_splits I.unit (drawn_outline I.value outline.now) }
 {
     outline.paths.validate_outline(&outline.style)?;
     let mut count = SplitCount::new(most_splits);
@@ -84,18 +73,15 @@ fn near_stroke<I: OverlayInt>(
     options: IntOverlayOptions<I::WideUInt>,
     most_splits: u64,
 ) -> Result<NearShapes<I>, IntNearnessError>
-    ensures shapes { IfOk result (λ near. AreStrokeRegionsBeyond near.nearness I.unit
-        (stroke_style_of I.value stroke.now.style) stroke.now.closed (choices_of I.WideUInt.value options)
-        (paths_of stroke.now.paths.items) (shapes_of near.shapes.items)) }
+    ensures shapes { IfOk result (λ near. AreShapesWithin most_splits near.nearness I.unit
+        (choices_of I.WideUInt.value options) (drawn_stroke I.value stroke.now) (shapes_of near.shapes.items)) }
     ensures accepted { OnOk result (MayBeStroked I.unit (stroke_style_of I.value stroke.now.style)
         (paths_of stroke.now.paths.items)) }
     ensures refused { result ≡ Err IntNearnessError.CoordinateOutOfRange
-        → ¬ MayBeStroked I.unit (stroke_style_of I.value stroke.now.style) (paths_of stroke.now.paths.items) }
-    ensures within { OnOk result (CountsUpTo (AreAllEdges I.unit (stroke_style_of I.value stroke.now.style)
-        stroke.now.closed (paths_of stroke.now.paths.items)) most_splits IsWithinLimit) }
+        → ¬ MayBeStroked I.unit (stroke_style_of I.value stroke.now.style)
+        (paths_of stroke.now.paths.items) }
     ensures past { result ≡ Err IntNearnessError.TooManySplits
-        → CountsUpTo (AreAllEdges I.unit (stroke_style_of I.value stroke.now.style)
-        stroke.now.closed (paths_of stroke.now.paths.items)) most_splits IsPastLimit }
+        → TakesMoreSplits most_splits I.unit (drawn_stroke I.value stroke.now) }
 {
     stroke.paths.validate_stroke(&stroke.style)?;
     let mut count = SplitCount::new(most_splits);
@@ -110,16 +96,13 @@ fn near_variable<I: OverlayInt>(
     options: IntOverlayOptions<I::WideUInt>,
     most_splits: u64,
 ) -> Result<NearShapes<I>, IntNearnessError>
-    ensures shapes { IfOk result (λ near. AreVariableStrokeRegionsBeyond near.nearness I.unit stroke.now.style.arc
-        (choices_of I.WideUInt.value options) (paths_of stroke.now.paths.items) (shapes_of near.shapes.items)) }
+    ensures shapes { IfOk result (λ near. AreShapesWithin most_splits near.nearness I.unit
+        (choices_of I.WideUInt.value options) (drawn_variable_stroke stroke.now) (shapes_of near.shapes.items)) }
     ensures accepted { OnOk result (MayBeVariablyStroked I.unit (paths_of stroke.now.paths.items)) }
     ensures refused { result ≡ Err IntNearnessError.CoordinateOutOfRange
         → ¬ MayBeVariablyStroked I.unit (paths_of stroke.now.paths.items) }
-    ensures within { OnOk result (CountsUpTo (AreAllVariableEdges I.unit stroke.now.style.arc
-        (paths_of stroke.now.paths.items)) most_splits IsWithinLimit) }
     ensures past { result ≡ Err IntNearnessError.TooManySplits
-        → CountsUpTo (AreAllVariableEdges I.unit stroke.now.style.arc
-        (paths_of stroke.now.paths.items)) most_splits IsPastLimit }
+        → TakesMoreSplits most_splits I.unit (drawn_variable_stroke stroke.now) }
 {
     stroke.paths.validate_variable_stroke()?;
     let mut count = SplitCount::new(most_splits);

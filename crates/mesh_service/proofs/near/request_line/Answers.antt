@@ -19,4 +19,4 @@ returns-in_ok-told_shapes_line-in-Shapes-clause-answered g c =
     c.in_ok-near-in-Shapes.near.nearness (shapes_of c.in_ok-near-in-Shapes.near.shapes.items)
     (rw (sym c.request.view_is) (ap (asked_of g.I.WideUInt.WideUnsigned.value) c.in-Shapes.is))
     (rw (sym c.request.view_is) c.in_ok-near-in-Shapes.ensures.accepted) (rw (sym c.request.view_is) c.in_ok-near-in-Shapes.ensures.shapes)
-    (rw (sym c.request.view_is) c.in_ok-near-in-Shapes.ensures.within) c.in_ok-told_shapes_line-in-Shapes.ensures
+    c.in_ok-told_shapes_line-in-Shapes.ensures

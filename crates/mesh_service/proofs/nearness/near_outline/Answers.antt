@@ -1,10 +1,13 @@
 -- What may be outlined is safe, its areas fit, and its splits are counted from none on.
 use Rattle.std.proofs.Common.{refl}
 use Rattle.std.proofs.lemmas.Bool.{false≢true}
-use Rattle.mesh_num.specs.Paths.{paths_of}
+use Rattle.mesh_num.specs.Paths.{paths_of, shapes_of}
+use Rattle.mesh_below.specs.Options.{choices_of}
 use Rattle.mesh_join.specs.Styles.{style_of}
 use Rattle.mesh_offset.specs.declared.error.IntNearnessError.TheVariants.{CoordinateOutOfRange}
 use Rattle.mesh_outline.specs.Resolved.{DoAreasFit}
+use Rattle.mesh_request.specs.Requests.{drawn_outline}
+use Rattle.mesh_service.specs.Nearness.{AreCountedShapes}
 use Rattle.mesh_service.specs.Drawings.{MayBeOutlined}
 use Rattle.mesh_service.proofs.PathsServed.{answered_only, areas_fit, fit_half, half_fit}
 use Rattle.mesh_service.proofs.Counted.{counted_up, never_past, within_up}
@@ -33,10 +36,12 @@ returns-clause-refused g c =
     let half = g.I.Wide.WideNumber.half in
     λ e accepted. c.outline_with_nearness.ensures.unfit.0 e (half_fit half g.I.IntNumber.unit paths g.met.I.IntNumber.half_law accepted.fit)
 
-pub returns-clause-within : goal.returns-clause-within
-returns-clause-within g c =
-    within_up c.outline_with_nearness.result _ c.args.most_splits _ c.new-count.result c.outline_with_nearness.new.count
-    c.new-count.ensures c.outline_with_nearness.ensures.counted c.outline_with_nearness.ensures.within
+pub returns-clause-shapes : goal.returns-clause-shapes
+returns-clause-shapes g c =
+    within_up c.outline_with_nearness.result
+    (λ near. AreCountedShapes near.nearness g.I.IntNumber.unit (choices_of g.I.WideUInt.WideUnsigned.value c.args.options) (drawn_outline g.I.IntNumber.value c.args.outline.now) (shapes_of near.shapes.items))
+    c.args.most_splits c.new-count.result c.outline_with_nearness.new.count
+    c.new-count.ensures c.outline_with_nearness.ensures.standing c.outline_with_nearness.ensures.within
 
 pub returns-clause-past : goal.returns-clause-past
 returns-clause-past g c = λ e.
