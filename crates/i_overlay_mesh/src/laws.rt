@@ -1,4 +1,4 @@
-//! Laws of outlines and strokes. Each function does nothing: its clause is the law.
+//! Laws of outlines and strokes. Each function does nothing; the law is its contract.
 
 pub use mesh_outline::laws::{
     answers_alone_are_regions, final_edges_are_balanced, outlines_are_drawn, outlines_are_regions,

@@ -1,9 +1,9 @@
-//! Offset operations over whole numbers: outlines of contours, strokes of paths, of one width or of a width that
-//! changes from vertex to vertex, and why a call refuses.
+//! Polygon offsetting on whole numbers: outlines of contours, strokes of paths, and strokes whose width changes from
+//! vertex to vertex.
 //!
-//! This is the one door: all that a caller of offsets needs stands here, whichever crate makes it. The calls are the
-//! methods of `IntOutlineOffset`, `IntStrokeOffset` and `IntVariableStrokeOffset` on sources of paths. `CALLING.md` has
-//! them on one page.
+//! This crate has everything that a caller needs, whichever crate it comes from. The operations are methods of
+//! `IntOutlineOffset`, `IntStrokeOffset` and `IntVariableStrokeOffset` on anything that holds paths, such as a `Vec` of
+//! points. `CALLING.md` shows all of them on one page.
 #![tactic(auto)]
 
 pub mod laws;

@@ -1,4 +1,5 @@
-//! Outlines of contours: the builder of one contour's edges, the calls on sources of contours, their areas and kinds.
+//! Outlines of contours: the operations on sources of contours, the builder that draws one contour's offset curve, and
+//! the areas and kinds of contours.
 
 pub use mesh_outline::builder::OutlineBuilder;
 pub use mesh_outline::kind::ContourKind;

@@ -1,4 +1,5 @@
-//! Strokes of paths: the builder of one path's edges, the calls on sources of paths, and how far strokes reach.
+//! Strokes of paths: the operations on sources of paths, the builder that draws one path's offset curve, and how far a
+//! stroke reaches.
 
 pub use mesh_stroke::builder::StrokeBuilder;
 pub use mesh_stroke::offset::IntStrokeOffset;

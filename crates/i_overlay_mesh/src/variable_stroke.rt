@@ -1,5 +1,5 @@
-//! Strokes of paths whose width changes from vertex to vertex: the builder of one path's edges, the calls on sources of
-//! paths, the sources, and iterators over borrowed paths.
+//! Strokes whose width changes from vertex to vertex: the operations on sources of paths, the builder that draws one
+//! path's offset curve, the sources, and iterators over borrowed paths.
 
 pub use mesh_variable_stroke::builder::VariableStrokeBuilder;
 pub use mesh_variable_stroke::offset::IntVariableStrokeOffset;

@@ -1,14 +1,14 @@
-//! Why an offset call refuses.
+//! The errors of the offset operations.
 
 use mesh_below::nearness::SplitError;
 use std::alloc::AllocError;
 use thiserror::Error;
 
-/// Why an offset call refuses.
+/// The errors of the offset operations.
 #[derive(Debug, Clone, Copy, PartialEq, Eq, Error)]
 pub enum IntOutlineError {
-    /// The bounds of the points, widened by the reach of the style, pass the safe range, or a contour's double area
-    /// does not fit the wide type. The code looks at both before it builds anything.
+    /// From a `validate` call: the bounds of the points, grown by the reach of the style, leave the safe range. From an
+    /// outline: twice the area of a contour does not fit the wide type. Both are found before anything is built.
     #[error("mesh coordinate exceeds the integer engine range")]
     CoordinateOutOfRange,
     /// A growth of memory was refused. What was handed in is as it was.
@@ -16,10 +16,10 @@ pub enum IntOutlineError {
     OutOfMemory,
 }
 
-/// Why a stroke call refuses. `CoordinateOutOfRange` is answered by the validation alone.
+/// The errors of strokes. Only `validate_stroke` returns `CoordinateOutOfRange`.
 pub type IntStrokeError = IntOutlineError;
 
-/// Why a call on strokes of variable width refuses. `CoordinateOutOfRange` is answered by the validation alone.
+/// The errors of strokes of variable width. Only `validate_variable_stroke` returns `CoordinateOutOfRange`.
 pub type IntVariableStrokeError = IntOutlineError;
 
 impl From<AllocError> for IntOutlineError {
@@ -33,17 +33,18 @@ impl From<AllocError> for IntOutlineError {
     }
 }
 
-/// Why an offset call refuses that tells its nearness and has a limit on splits.
+/// The errors of the operations that return an error bound and have a limit on splits.
 #[derive(Debug, Clone, Copy, PartialEq, Eq, Error)]
 pub enum IntNearnessError {
-    /// A contour's double area does not fit the wide type. The code looks at it before it builds anything. Calls on
-    /// strokes never answer it.
+    /// Twice the area of a contour does not fit the wide type. This is found before anything is built. Strokes never
+    /// return it.
     #[error("mesh coordinate exceeds the integer engine range")]
     CoordinateOutOfRange,
     /// A growth of memory was refused. What was handed in is as it was.
     #[error("mesh construction ran out of memory")]
     OutOfMemory,
-    /// More splits were made than the limit. What was handed in is as it was, and the count tells how many were made.
+    /// More edges were split than the limit allows. What was handed in is unchanged, and the count holds how many
+    /// splits were made.
     #[error("splitting took more splits than the limit")]
     TooManySplits,
 }

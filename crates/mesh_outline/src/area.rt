@@ -8,8 +8,8 @@ ghost use Rattle.mesh_shapes.specs.Contours.{double_area as double_area_of};
 use mesh_num::num::convert::widen;
 use mesh_num::num::{IntNumber, IntPoint};
 
-/// Twice the signed area of the closed contour through these points, in squares of the grid: above 0 where it runs
-/// counterclockwise, 0 for less than three points. No sum wraps.
+/// Twice the signed area of the closed contour through these points, in square grid units: above 0 where it runs
+/// counterclockwise, and 0 for fewer than three points. No sum overflows.
 pub fn double_area<I: IntNumber>(points: &[IntPoint<I>]) -> i128
     ensures { result ≡ double_area_of points.now }
 {

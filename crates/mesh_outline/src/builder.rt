@@ -1,4 +1,4 @@
-//! The edges of one contour's outline.
+//! Draws the offset curve of one contour.
 
 ghost use Rattle.std.specs.Prelude.{◌≡◌, ◌*◌, ◌≤◌, length, vec_capacity, OnOk, OnErr, IsOk, ◌++◌};
 ghost use Rattle.std.specs.List.{All};
@@ -30,8 +30,8 @@ use mesh_num::shape::segment::{Segment, SubjectSegments};
 use std::alloc::{AllocError, Global};
 use std::marker::Model;
 
-/// Builds the outline of a contour: its sections moved by an offset, and joined at the corners. Contracts see its
-/// offset and the style of its joins.
+/// Draws the offset curve of a contour: its sections moved sideways by an offset and joined at the corners. Contracts
+/// see the offset and the style of the joins.
 #[derive(Drop)]
 pub struct OutlineBuilder<I: IntNumber> {
     offset: I,
@@ -47,24 +47,25 @@ impl<I: IntNumber> Model for OutlineBuilder<I> {
 }
 
 impl<I: IntNumber> OutlineBuilder<I> {
-    /// A builder of outlines with this offset in grid units: to the right of the contour's edges, to their left where
-    /// it is negative.
+    /// A builder with this offset in grid units: to the right of the contour's edges, or to their left where it is
+    /// negative.
     pub fn new(offset: I, join: Join<I>) -> Self
         ensures { result ≡ record { offset = I.value offset; join = join } }
     {
         OutlineBuilder { offset, join }
     }
 
-    /// A builder for a contour of this double area, in this style: outer boundaries, of an area above 0, move by the
-    /// outer offset, holes, of an area below 0, by the inner one; `None` for the area 0, whose contours do not move.
-    /// It takes no memory.
+    /// A builder for a contour of this double area, in this style. Outer boundaries (area above 0) move by the outer
+    /// offset, holes (area below 0) by the inner offset; contours of area 0 do not move, which gives `None`. It
+    /// allocates nothing.
     pub fn for_area(alloc: Global, style: &IntOutlineStyle<I>, double_area: i128) -> Option<Self>
         ensures { result ≡ style_for (style_of I.value style.now) double_area }
     {
         Self::for_kind(alloc, style, ContourKind::of_area(double_area))
     }
 
-    /// A builder for a contour of this kind, in this style; `None` for contours that do not move. It takes no memory.
+    /// A builder for a contour of this kind, in this style, or `None` for a kind that does not move. It allocates
+    /// nothing.
     pub fn for_kind(alloc: Global, style: &IntOutlineStyle<I>, kind: ContourKind) -> Option<Self>
         ensures { result ≡ way_for (style_of I.value style.now) kind }
     {
@@ -77,11 +78,12 @@ impl<I: IntNumber> OutlineBuilder<I> {
         Some(OutlineBuilder::new(offset, join))
     }
 
-    /// Adds the edges of the outline of the closed contour through these points, each of which stays in the safe
-    /// range where it moves by the padding of the joins. What the vector holds stays. No memory is taken where there
-    /// is no point or all are equal. Without round joins there are at most four edges a section, and where there is
-    /// room for them it succeeds. After a refusal the vector is cut back to its old length. It keeps its room in either
-    /// case.
+    /// Adds the offset curve of the closed contour through these points to `segments`. Every point has to stay in the
+    /// safe range when it moves by the padding of the joins.
+    ///
+    /// What the vector holds stays, and its capacity never shrinks. Where there is no point, or all points are equal,
+    /// nothing is allocated and the capacity stays as it is. Without round joins there are at most four edges for each
+    /// section, and the call succeeds where the vector has room for them. After an error the vector has its old length.
     pub fn build(
         &mut self,
         path: &[IntPoint<I>],

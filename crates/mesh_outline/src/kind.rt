@@ -1,4 +1,4 @@
-//! What contours are, by the sign of their area, and the kinds of the contours of a source.
+//! Whether a contour is an outer boundary or a hole, by the sign of its area.
 
 ghost use Rattle.std.specs.Prelude.{◌≡◌, ◌↔◌, map, IfOk, OnOk};
 ghost use Rattle.mesh_outline.specs.Kinds.{kind_for, contour_kind};
@@ -10,7 +10,7 @@ use mesh_num::shape::resource::IntShapeResource;
 use mesh_offset::error::IntOutlineError;
 use std::alloc::Global;
 
-/// What a closed contour is. By it its offset is chosen, and the sense in which it is filled.
+/// The kind of a closed contour. It decides by which offset the contour moves, and which side of it is filled.
 #[derive(Debug, Copy, Clone, PartialEq, Eq)]
 pub enum ContourKind {
     /// An outer boundary: its area is above 0, since it runs counterclockwise. It moves by the outer offset.

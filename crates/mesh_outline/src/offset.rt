@@ -1,4 +1,4 @@
-//! Offset calls on sources of contours.
+//! Outlines of contours: grows or shrinks polygons.
 
 ghost use Rattle.std.specs.Prelude.{◌≡◌, ◌↔◌, ◌+◌, IsOk, IfOk, OnOk, OnErr, List, [], length};
 ghost use Rattle.mesh_num.specs.FlatContours.{HoldsContours};
@@ -33,11 +33,12 @@ use mesh_num::shape::resource::IntShapeResource;
 use mesh_offset::error::{IntNearnessError, IntOutlineError};
 use std::alloc::Global;
 
-/// Offset calls on each source of contours.
+/// Outlines of the contours in a source. Outer boundaries run counterclockwise, holes clockwise, with y upwards.
 pub trait IntOutlineOffset<I: OverlayInt>: IntShapeResource<I> {
-    /// Whether the source may be outlined in this style: `Ok` exactly where there is no point, or the bounds of all
-    /// points, moved outwards by the style's padding on each side, are in the safe range, for every value of the
-    /// type. The only error is `CoordinateOutOfRange`. It takes no memory.
+    /// Tests whether the contours can be outlined in this style without leaving the safe range. `Ok` is returned
+    /// exactly where there is no point, or where the bounds of all points, grown on each side by the padding of the
+    /// style (the farthest that it moves a point), are in the safe range. This holds for every value of the type. The
+    /// only error is `CoordinateOutOfRange`. It allocates nothing.
     fn validate_outline(&self, style: &IntOutlineStyle<I>) -> Result<(), IntOutlineError>
         ensures safe { IsOk result
             ↔ ArePathsSafe I.unit (outline_padding (style_of I.value style.now)) (Self.paths self.now) }
@@ -46,7 +47,7 @@ pub trait IntOutlineOffset<I: OverlayInt>: IntShapeResource<I> {
         ensures no_point { all_points (Self.paths self.now) ≡ [] → IsOk result }
         ensures error { OnErr result (result ≡ Err IntOutlineError.CoordinateOutOfRange) };
 
-    /// The outline of the source's contours, with the default options. See `outline_custom`.
+    /// The outline of the contours, with default options. See `outline_custom`.
     final fn outline(
         &self,
         alloc: Global,
@@ -66,7 +67,7 @@ pub trait IntOutlineOffset<I: OverlayInt>: IntShapeResource<I> {
         self.outline_custom(alloc, style, IntOverlayOptions::new())
     }
 
-    /// `outline`, into a buffer. See `outline_custom_into`.
+    /// The same as `outline`, into a buffer. See `outline_custom_into`.
     final fn outline_into(
         &self,
         alloc: Global,
@@ -89,12 +90,17 @@ pub trait IntOutlineOffset<I: OverlayInt>: IntShapeResource<I> {
         self.outline_custom_into(alloc, style, IntOverlayOptions::new(), buffer)
     }
 
-    /// The outline of the source's contours, as shapes. Each point has to stay in the safe range where it moves by
-    /// the style's padding, which `validate_outline` tests. A contour of positive area moves by the outer offset, one
-    /// of negative area by the inner one, one of area 0 is ignored. Each is resolved alone with the default options;
-    /// what comes of outer boundaries, and of holes the other way about, is resolved together with these options.
-    /// `CoordinateOutOfRange` is answered exactly where a double area does not fit the wide type, which the code looks
-    /// at before it builds anything; `OutOfMemory` where a growth was refused.
+    /// Moves each contour outwards by an offset, or inwards by a negative one, and returns clean polygons: each an
+    /// outer contour followed by its holes.
+    ///
+    /// Contours of positive area are outer boundaries and move by the outer offset; those of negative area are holes
+    /// and move by the inner offset; those of area 0 are left out. First, each contour's offset curve is cleaned up
+    /// alone, with default options. Then all results are combined, with these options: outer boundaries add to the
+    /// region, holes are cut out of it.
+    ///
+    /// Every point has to stay in the safe range when it moves by the padding of the style; `validate_outline` tests
+    /// this. `CoordinateOutOfRange` is returned exactly where twice a contour's area does not fit the wide type, which
+    /// is found before anything is built. `OutOfMemory` means that memory was refused.
     final fn outline_custom(
         &self,
         alloc: Global,
@@ -115,8 +121,8 @@ pub trait IntOutlineOffset<I: OverlayInt>: IntShapeResource<I> {
         outline_shapes(self, alloc, style, options)
     }
 
-    /// `outline_custom`, into a buffer: the contours of its shapes in their order, end to end, in place of the
-    /// buffer's own, where there are none too. After an error the buffer is unchanged.
+    /// The same as `outline_custom`, into a buffer: its contours are replaced by those of the result, in order and end
+    /// to end, also where the result has none. After an error the buffer is unchanged.
     final fn outline_custom_into(
         &self,
         alloc: Global,
@@ -144,11 +150,12 @@ pub trait IntOutlineOffset<I: OverlayInt>: IntShapeResource<I> {
         Ok(())
     }
 
-    /// `outline_custom`, and how near to the drawn edges the answer is exact: at each point farther than the nearness
-    /// from each of them it is what the contours' outlines fill. The nearness is the greatest of the contours' own
-    /// resolvings and that of the last one, added. The splits of all of them are counted on, those of attempts that
-    /// were given up too. `TooManySplits` says that the count passed its limit; the other errors are those of
-    /// `outline_custom`.
+    /// The same as `outline_custom`, with a proved error bound, the nearness, in 64ths of a grid unit: at each point
+    /// farther than it from all offset curves, the polygons hold exactly what the contours' outlines fill. It is the
+    /// greatest error bound of a contour cleaned up alone plus that of the last step.
+    ///
+    /// Every split of an edge is added to `count`, those of attempts that were given up too. `TooManySplits` means that
+    /// the count passed its limit; the other errors are those of `outline_custom`.
     final fn outline_with_nearness(
         &self,
         alloc: Global,

@@ -1,4 +1,4 @@
-//! Slivers, contours that are thin whatever their area, and shapes without them.
+//! Leaves out slivers: contours that are thin, whatever their area.
 
 ghost use Rattle.std.specs.Prelude.{◌≡◌, ◌*◌, ◌^◌, ◌<◌, ◌||◌, false, not, max, unsigned_abs, ◌-ℤ◌};
 ghost use Rattle.mesh_num.specs.Paths.{paths_of, shapes_of};
@@ -12,15 +12,17 @@ use mesh_num::num::convert::widen;
 use mesh_num::num::{IntNumber, IntPoint};
 use mesh_num::shape::IntShapes;
 
-/// The shapes without their slivers. `width` is in grid units, any `u32`; coordinates may be any too.
+/// The polygons without their slivers. `width` is in grid units; it may be any `u32`, and coordinates may be any value
+/// too.
 ///
-/// A contour is a sliver where each of its vertices lies at most `width` from the line from its first vertex to the one
-/// farthest from that, the first of those that are as far. Distance is the greater of both coordinates' differences;
-/// from the line it is measured along the axis along which the farthest vertex lies less far from the first one.
+/// A contour is a sliver where each of its vertices lies at most `width` from the line that leads from its first vertex
+/// to the vertex farthest from that (the first one, if several are as far). Distances between points are the greater of
+/// the differences in x and in y. The distance from the line is measured along the axis along which its two points
+/// differ less.
 ///
-/// Holes that are slivers go, and shapes all of whose contours are; an outer contour that is a sliver stays where one
-/// of its holes is none. All else stays as it is, in its order. At each point farther than `width` from each edge that
-/// went the contours wind as before. It takes no memory and cannot fail.
+/// Holes that are slivers are left out, and so are polygons all of whose contours are slivers. An outer contour that is
+/// a sliver stays where one of its holes is none. Everything else stays as it is, in its order. At each point farther
+/// than `width` from every edge that was left out, the contours wind as before. It allocates nothing and cannot fail.
 pub fn without_slivers<I: IntNumber>(mut shapes: IntShapes<I>, width: u32) -> IntShapes<I>
     ensures left { shapes_of result.items ≡ without_slivers width (shapes_of shapes.items) }
     ensures winding { WindAlike width (shapes_of shapes.items) (shapes_of result.items) }

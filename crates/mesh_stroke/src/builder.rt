@@ -1,4 +1,4 @@
-//! The edges of one path's stroke.
+//! Draws the offset curve of one path's stroke.
 
 ghost use Rattle.std.specs.Prelude.{◌≡◌, ◌↔◌, ◌++◌, ◌+◌, ◌*◌, ◌≤◌, [], length, vec_capacity};
 ghost use Rattle.std.specs.Prelude.{pos, ◌≤ℤ◌, ◌<ℤ◌, IsTrue, IsOk, OnOk, OnErr};
@@ -37,9 +37,9 @@ use mesh_offset::radius::stroke_radius;
 use std::alloc::{AllocError, Global};
 use std::marker::Model;
 
-/// Builds the stroke of a path: both sides of its edges, joined at the corners and closed by caps at the ends of an
-/// open path; or one half of it, between the path and its left or its right side, with straight ends. It borrows the
-/// style. Contracts see its radius, its side, its joins and its caps.
+/// Draws the offset curve of a path's stroke: both sides of its edges, joined at the corners and closed by caps at the
+/// ends of an open path; or one half of it, between the path and its left or right side, with straight ends. It borrows
+/// the style. Contracts see the radius, the side, the joins and the caps.
 #[derive(Drop)]
 pub struct StrokeBuilder<'a, I: IntNumber> {
     radius: I,
@@ -58,7 +58,7 @@ impl<'a, I: IntNumber> Model for StrokeBuilder<'a, I> {
 }
 
 impl<'a, I: IntNumber> StrokeBuilder<'a, I> {
-    /// A builder of strokes of this style. It takes no memory.
+    /// A builder of strokes in this style. It allocates nothing.
     pub fn new(alloc: Global, style: &'a IntStrokeStyle<I>) -> Self
         ensures { result ≡ stroke_style_of I.value style.now }
     {
@@ -70,13 +70,15 @@ impl<'a, I: IntNumber> StrokeBuilder<'a, I> {
         }
     }
 
-    /// Adds the edges of the stroke of the path through these points, each of which stays in the safe range where it
-    /// moves by the padding of the style. A closed path goes on from its last point to its first, and has no caps. What
-    /// the vector holds stays. Nothing is added for a radius of at most 1, and where all points are one, and no memory
-    /// is taken there: the vector's room stays as it was. Without round joins, and without round caps where the path is
-    /// open and drawn on both sides, it succeeds where there is room for the edges; with butt or square caps, or with
-    /// none, these are then at most seven for each edge of the path and six more. A half does not look at the caps.
-    /// After a refusal the vector is cut back to its old length. Its room never shrinks.
+    /// Adds the offset curve of the path through these points to `segments`. A closed path goes on from its last point
+    /// to its first, and has no caps; a half ignores the caps. Every point has to stay in the safe range when it moves
+    /// by the padding of the style.
+    ///
+    /// What the vector holds stays, and its capacity never shrinks. For a radius of at most 1, and where all points are
+    /// equal, nothing is added, nothing is allocated, and the capacity stays as it is. Without round joins, and without
+    /// round caps at the ends of an open path that is drawn on both sides, the call succeeds where the vector has room
+    /// for the edges; with butt or square caps, or none, these are at most seven for each edge of the path and six
+    /// more. After an error the vector has its old length.
     pub fn build(
         &mut self,
         path: &[IntPoint<I>],

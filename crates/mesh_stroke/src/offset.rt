@@ -1,4 +1,4 @@
-//! Stroke calls on sources of paths.
+//! Strokes of paths: gives lines a width.
 
 ghost use Rattle.std.specs.Prelude.{◌≡◌, ◌↔◌, IsOk, IfOk, OnOk, OnErr, Bool, List, []};
 ghost use Rattle.std.specs.List.{All};
@@ -30,13 +30,14 @@ use mesh_offset::bounds::validate_bounds;
 use mesh_offset::error::{IntNearnessError, IntOutlineError, IntStrokeError};
 use std::alloc::Global;
 
-/// Stroke calls on each source of paths.
+/// Strokes of the paths in a source.
 pub trait IntStrokeOffset<I: OverlayInt>: IntShapeResource<I> {
-    /// Whether the source may be stroked in this style: `Ok` exactly where there is no point, or the bounds of all
-    /// points, moved outwards by the style's padding on each side, are in the safe range, for every value of the
-    /// type and every custom cap; the padding counts the caps, whether the paths are closed or not, but of a half the
-    /// joins alone. The only error is `CoordinateOutOfRange`. It takes no memory. Paths that are accepted can be stroked
-    /// closed or open. Whatever is answered, the left and the right half of each path make the whole with butt caps.
+    /// Tests whether the paths can be stroked in this style without leaving the safe range. `Ok` is returned exactly
+    /// where there is no point, or where the bounds of all points, grown on each side by the padding of the style, are
+    /// in the safe range. This holds for every value of the type and every custom cap. The padding includes the caps,
+    /// even for closed paths, but for a half only the joins. The only error is `CoordinateOutOfRange`. It allocates
+    /// nothing. Whatever it returns, the winding numbers of the left and the right half of each path add up to those of
+    /// the whole stroke with butt caps.
     fn validate_stroke(&self, style: &IntStrokeStyle<I>) -> Result<(), IntStrokeError>
         ensures safe { IsOk result
             ↔ ArePathsSafe I.unit (stroke_padding (stroke_style_of I.value style.now)) (Self.paths self.now) }
@@ -50,7 +51,7 @@ pub trait IntStrokeOffset<I: OverlayInt>: IntShapeResource<I> {
         ensures halves { (closed : Bool) → All (HalvesAddUp I.unit (stroke_style_of I.value style.now) closed)
             (Self.paths self.now) };
 
-    /// The stroke of the source's paths, with the default options. See `stroke_custom`.
+    /// The stroke of the paths, with default options. See `stroke_custom`.
     final fn stroke(
         &self,
         alloc: Global,
@@ -72,7 +73,7 @@ pub trait IntStrokeOffset<I: OverlayInt>: IntShapeResource<I> {
         self.stroke_custom(alloc, style, closed, IntOverlayOptions::new())
     }
 
-    /// `stroke`, into a buffer. See `stroke_custom_into`.
+    /// The same as `stroke`, into a buffer. See `stroke_custom_into`.
     final fn stroke_into(
         &self,
         alloc: Global,
@@ -99,9 +100,11 @@ pub trait IntStrokeOffset<I: OverlayInt>: IntShapeResource<I> {
         self.stroke_custom_into(alloc, style, closed, IntOverlayOptions::new(), buffer)
     }
 
-    /// The stroke of the source's paths, all closed or all open, as shapes. Each point has to stay in the safe range
-    /// where it moves by the style's padding, which `validate_stroke` tests. The edges of all paths' strokes are
-    /// resolved together with these options. The only error is `OutOfMemory`, where a growth was refused.
+    /// Gives the paths a width, and returns clean polygons: each an outer contour followed by its holes. The paths are
+    /// all closed, or all open with a cap at each end. The strokes of all paths are combined, with these options.
+    ///
+    /// Every point has to stay in the safe range when it moves by the padding of the style; `validate_stroke` tests
+    /// this. The only error is `OutOfMemory`, which means that memory was refused.
     final fn stroke_custom(
         &self,
         alloc: Global,
@@ -125,8 +128,8 @@ pub trait IntStrokeOffset<I: OverlayInt>: IntShapeResource<I> {
         Ok(drawn.overlay(OverlayRule::Subject, FillRule::Positive)?)
     }
 
-    /// `stroke_custom`, into a buffer: the contours of its shapes in their order, end to end, in place of the buffer's
-    /// own, where there are none too. After an error the buffer is unchanged.
+    /// The same as `stroke_custom`, into a buffer: its contours are replaced by those of the result, in order and end
+    /// to end, also where the result has none. After an error the buffer is unchanged.
     final fn stroke_custom_into(
         &self,
         alloc: Global,
@@ -158,10 +161,11 @@ pub trait IntStrokeOffset<I: OverlayInt>: IntShapeResource<I> {
         Ok(())
     }
 
-    /// `stroke_custom`, and how near to the drawn edges the answer is exact: at each point farther than the nearness
-    /// from each of them it is what the pieces fill. The splits are counted on, those of attempts that were given up
-    /// too. `TooManySplits` says that the count passed its limit, `OutOfMemory` that a growth was refused;
-    /// `CoordinateOutOfRange` is never answered.
+    /// The same as `stroke_custom`, with a proved error bound, the nearness, in 64ths of a grid unit: at each point
+    /// farther than it from all offset curves, the polygons hold exactly what the pieces of the strokes cover.
+    ///
+    /// Every split of an edge is added to `count`, those of attempts that were given up too. `TooManySplits` means that
+    /// the count passed its limit, `OutOfMemory` that memory was refused. `CoordinateOutOfRange` is never returned.
     final fn stroke_with_nearness(
         &self,
         alloc: Global,

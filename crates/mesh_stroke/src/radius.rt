@@ -1,4 +1,4 @@
-//! How far strokes reach, and half of their width.
+//! How far strokes reach, and half their width.
 
 ghost use Rattle.std.specs.Prelude.{◌≡◌, pos, ◌≤ℤ◌};
 ghost use Rattle.std.specs.Int.{int_max};
@@ -13,8 +13,8 @@ use mesh_num::num::IntNumber;
 use mesh_num::num::convert::is_wide_less;
 pub use mesh_offset::radius::stroke_radius;
 
-/// How far a stroke of this style reaches from its path in each coordinate, in grid units: the greatest padding of its
-/// joins and its caps; of a half that of its joins alone. Each style is accepted.
+/// How far a stroke in this style reaches from its path in x and in y, in grid units: the greatest padding of its joins
+/// and caps, or for a half of its joins alone. Every style is accepted.
 pub fn padding<I: IntNumber>(style: &IntStrokeStyle<I>) -> I::Wide
     ensures value { I.Wide.value result ≡ stroke_padding (stroke_style_of I.value style.now) }
     ensures least { pos 0 ≤ℤ I.Wide.value result }
