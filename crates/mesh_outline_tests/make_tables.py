@@ -1,23 +1,25 @@
 #!/usr/bin/env python3
-"""Draws small inputs at random, has a reference program answer them, and writes both as tables for the tests.
+"""Draws small inputs at random, has the reference program answer them, and writes both as tables for the tests.
 
-    make_tables.py FOLDER
-
-FOLDER holds the reference program's `defs.py`. That program was written from the definitions, by others than this
-crate's plain programs, and is kept apart from this repository, so that neither follows the other. The seed is fixed:
-the same reference program gives the same tables. Run `rt fmt` in this crate afterwards.
+The reference program stands in `reference/` of this repository. It was written from the specification, by others than
+this crate's plain programs, so that neither follows the other. The seed is fixed: the same reference program gives the
+same tables. Run `rt fmt` in this crate afterwards.
 """
-import importlib
 import pathlib
 import random
 import sys
+
+sys.path.insert(0, str(pathlib.Path(__file__).resolve().parents[2] / "reference"))
+
+from outlines import outline
+from plane import I16, I32, crossing, fan, loop, winding
 
 SEED = 1
 SOURCES = pathlib.Path(__file__).resolve().parent / "src"
 
 HEAD = f"""//! Small inputs with answers. `make_tables.py` of this crate drew them at random, with the seed {SEED}, and a reference
-//! program in Python answered them, which was written from the definitions, apart from this repository. The script wrote
-//! these files: change it, and not them.
+//! program in Python answered them, which was written from the specification (`reference/`). The script wrote these
+//! files: change it, and not them.
 
 """
 
@@ -80,61 +82,65 @@ class Inputs:
             yield telling[0] if telling and number % 2 == 0 else drawn[0]
 
 
-def crossings(defs, inputs):
+def crossings(inputs):
     for _ in range(60):
         start, end = inputs.point(4), inputs.point(4)
-        for m, q in inputs.queries([start, end], 2, lambda m, q: defs.crossing(start, end, q, m)):
-            yield m, q, start, end, defs.crossing(start, end, q, m)
+        for m, q in inputs.queries([start, end], 2, lambda m, q: crossing((start, end), q, m)):
+            yield m, q, start, end, crossing((start, end), q, m)
 
 
-def windings(defs, inputs):
+def windings(inputs):
     for _ in range(60):
         contour = inputs.contour(8)
-        edges = defs.loop(contour)
-        queries = inputs.queries(contour, 3, lambda m, q: defs.winding(edges, q, m))
-        yield contour, Array((m, q, defs.winding(edges, q, m)) for m, q in queries)
+        edges = loop(contour)
+        queries = inputs.queries(contour, 3, lambda m, q: winding(edges, q, m))
+        yield contour, Array((m, q, winding(edges, q, m)) for m, q in queries)
 
 
-def net_count(defs, edges, edge):
+def net_count(edges, edge):
     """How many edges run from an edge's start to its end, less those that run back."""
-    counts = defs.net_counts(edges)
-    return counts.get(edge, 0) - counts.get(edge[::-1], 0)
+    return edges.count(edge) - edges.count(edge[::-1])
 
 
-def net_counts(defs, inputs):
+def net_counts(inputs):
     for _ in range(40):
         corners = [inputs.point(4) for _ in range(4)]
         walk = [inputs.random.choice(corners) for _ in range(inputs.random.randint(3, 10))]
-        edges = [edge for edge in defs.loop(walk) if edge[0] != edge[1]][inputs.below(2):]
+        edges = loop(walk)[inputs.below(2):]
         asked = [tuple(inputs.random.sample(corners, 2)) for _ in range(4)]
-        answers = Array((*edge, net_count(defs, edges, edge)) for edge in asked)
-        yield edges, answers, defs.balanced(edges)
+        answers = Array((*edge, net_count(edges, edge)) for edge in asked)
+        yield edges, answers, sorted(start for start, _ in edges) == sorted(end for _, end in edges)
 
 
-def held(defs, pieces, queries):
+def holders(pieces, q, m):
+    """How many pieces hold a point: closed lists of points that wind round it."""
+    return sum(winding(loop(piece), q, m) != 0 for piece in pieces)
+
+
+def held(pieces, queries):
     """Each query with the number of pieces that hold it."""
-    return Array((m, q, defs.pieces_count(pieces, q, m)) for m, q in queries)
+    return Array((m, q, holders(pieces, q, m)) for m, q in queries)
 
 
-def fans(defs, inputs):
+def fans(inputs):
     for _ in range(40):
         center, points = inputs.point(6), [inputs.point(6) for _ in range(inputs.random.randint(1, 5))]
-        fan = defs.fan(points, center)
-        queries = inputs.queries([center, *points], 3, lambda m, q: defs.pieces_count(fan, q, m))
-        yield center, points, [Array(triangle) for triangle in fan], held(defs, fan, queries)
+        triangles = fan(center, points)
+        queries = inputs.queries([center, *points], 3, lambda m, q: holders(triangles, q, m))
+        yield center, points, [Array(triangle) for triangle in triangles], held(triangles, queries)
 
 
-def bevelled(defs, contour, offset):
+def bevelled(contour, offset):
     """The edges and the pieces of a bevelled outline, which are the same for both widths of numbers."""
-    found = [defs.outline_pieces(width, contour, offset, ("bevel",), 0)[:2] for width in ("i16", "i32")]
+    found = [outline(width, contour, offset, ("bevel",), 0) for width in (I16, I32)]
     return found[0] if found[0] == found[1] else None
 
 
-def outlines_of(defs, inputs, count, most, offsets):
+def outlines_of(inputs, count, most, offsets):
     """Contours with an offset and the edges and pieces of the outline."""
     while count > 0:
         contour, offset = inputs.contour(most), inputs.random.choice(offsets)
-        found = bevelled(defs, contour, offset)
+        found = bevelled(contour, offset)
         if found:
             count -= 1
             yield contour, offset, *found
@@ -145,15 +151,15 @@ def listed(lists):
     return "; ".join(", ".join(f"{x} {y}" for x, y in points) for points in lists)
 
 
-def pieces(defs, inputs):
-    for contour, offset, _, found in outlines_of(defs, inputs, 25, 5, [-7, -4, -1, 1, 3, 5, 8]):
+def pieces(inputs):
+    for contour, offset, _, found in outlines_of(inputs, 25, 5, [-7, -4, -1, 1, 3, 5, 8]):
         yield contour, offset, listed(found)
 
 
-def outlines(defs, inputs):
-    for contour, offset, edges, found in outlines_of(defs, inputs, 60, 7, range(-8, 9)):
+def outlines(inputs):
+    for contour, offset, edges, found in outlines_of(inputs, 60, 7, range(-8, 9)):
         queries = [inputs.query(contour + [end for edge in edges for end in edge]) for _ in range(3)]
-        answers = Array((*row, defs.winding(edges, row[1], row[0])) for row in held(defs, found, queries))
+        answers = Array((*row, winding(edges, row[1], row[0])) for row in held(found, queries))
         yield contour, offset, len(edges), len(found), answers
 
 
@@ -184,24 +190,22 @@ TABLES = [
 ]
 
 
-def table_text(defs, rows, title, meaning, row_type):
+def table_text(rows, title, meaning, row_type):
     """A table's file."""
     kind = "".join(word.title() for word in rows.__name__.rstrip("s").split("_")) + "Row"
-    lines = "".join(f"    {text(row)},\n" for row in rows(defs, Inputs(rows.__name__)))
+    lines = "".join(f"    {text(row)},\n" for row in rows(Inputs(rows.__name__)))
     return (f"//! {title}, as `make_tables.py` wrote them.\n\nuse super::Spot;\n\n/// {meaning}\n"
             f"pub type {kind} = {row_type};\n\n"
             f"pub const {rows.__name__.upper()}: &[{kind}] = &[\n{lines}];\n")
 
 
 def main():
-    sys.path.insert(0, sys.argv[1])
-    defs = importlib.import_module("defs")
     (SOURCES / "tables").mkdir(exist_ok=True)
     modules, names = "", ""
     for table in TABLES:
         name = table[0].__name__
         modules += f"pub mod {name};\n"
-        (SOURCES / "tables" / f"{name}.rt").write_text(table_text(defs, *table))
+        (SOURCES / "tables" / f"{name}.rt").write_text(table_text(*table))
     spot = "\n/// A point of small coordinates.\npub type Spot = (i8, i8);\n"
     (SOURCES / "tables.rt").write_text(HEAD + modules + names + spot)
 

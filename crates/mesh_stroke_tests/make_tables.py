@@ -1,24 +1,26 @@
 #!/usr/bin/env python3
-"""Draws small paths at random, has a reference program stroke them, and writes both as tables for the tests.
+"""Draws small paths at random, has the reference program stroke them, and writes both as tables for the tests.
 
-    make_tables.py FOLDER
-
-FOLDER holds the reference program's `defs.py`. That program was written from the definitions, by others than this
-crate's plain programs, and is kept apart from this repository, so that neither follows the other. The seed is fixed:
-the same reference program gives the same tables. Run `rt fmt` in this crate afterwards.
+The reference program stands in `reference/` of this repository. It was written from the specification, by others than
+this crate's plain programs, so that neither follows the other. The seed is fixed: the same reference program gives the
+same tables. Run `rt fmt` in this crate afterwards.
 """
-import importlib
 import pathlib
 import random
 import sys
+
+sys.path.insert(0, str(pathlib.Path(__file__).resolve().parents[2] / "reference"))
+
+from plane import I16, I32, loop, winding
+from strokes import stroke
 
 SEED = 1
 SOURCES = pathlib.Path(__file__).resolve().parent / "src"
 
 HEAD = f"""\
 //! Small paths with their strokes. `make_tables.py` of this crate drew them at random, with the seed {SEED}, and a
-//! reference program in Python stroked them, which was written from the definitions, apart from this repository. The
-//! script wrote these files: change it, and not them.
+//! reference program in Python stroked them, which was written from the specification (`reference/`). The script wrote
+//! these files: change it, and not them.
 
 use crate::styles::CapRow;
 use mesh_test_support::joins::JoinKind;
@@ -138,7 +140,7 @@ def loops(edges):
     return found
 
 
-def row(defs, inputs, path, closed, style, edges, pieces):
+def row(inputs, path, closed, style, edges, pieces):
     """A row of a table."""
     parts = (style["width"], join_text(style["join"], style["min_turn"]), cap_text(style["start"]),
              cap_text(style["end"]))
@@ -146,21 +148,21 @@ def row(defs, inputs, path, closed, style, edges, pieces):
     answers = Array()
     for least in [2, 1, 0]:
         queries = [inputs.query(corners) for _ in range(20)]
-        told = [(m, q, sum(defs.winding(defs.loop(piece), q, m) for piece in pieces)) for m, q in queries]
+        told = [(m, q, sum(winding(loop(piece), q, m) for piece in pieces)) for m, q in queries]
         answers.append(next((answer for answer in told if answer[2] >= least), told[0]))
-        assert all(answer == defs.winding(edges, q, m) for m, q, answer in told)
+        assert all(answer == winding(edges, q, m) for m, q, answer in told)
     return path, closed, parts, loops(edges), answers
 
 
-def rows(defs, table, count, width):
+def rows(table, count, width):
     """So many rows: those on which both widths agree, or for one width those on which they do not."""
     inputs = Inputs(table)
     found = []
     while len(found) < count:
         path, closed, style = inputs.path(), bool(inputs.random.randrange(3) == 0), inputs.style()
-        small, large = (defs.stroke_pieces(name, path, closed, style) for name in ("i16", "i32"))
+        small, large = (stroke(numbers, path, closed, style) for numbers in (I16, I32))
         if (small == large) == (width is None):
-            found.append(row(defs, inputs, path, closed, style, *(large if width == "i32" else small)))
+            found.append(row(inputs, path, closed, style, *(large if width == "i32" else small)))
     return found
 
 
@@ -172,20 +174,18 @@ TABLES = [
 ]
 
 
-def table_text(defs, table, count, width, title):
+def table_text(table, count, width, title):
     """A table's file."""
-    lines = "".join(f"    {text(item)},\n" for item in rows(defs, table, count, width))
+    lines = "".join(f"    {text(item)},\n" for item in rows(table, count, width))
     return (f"//! {title}, as `make_tables.py` wrote them.\n\nuse super::StrokeRow;\nuse crate::styles::CapRow;\n"
             f"use mesh_test_support::joins::JoinKind;\n\n"
             f"pub const {table.upper()}: &[StrokeRow] = &[\n{lines}];\n")
 
 
 def main():
-    sys.path.insert(0, sys.argv[1])
-    defs = importlib.import_module("defs")
     (SOURCES / "tables").mkdir(exist_ok=True)
     for table in TABLES:
-        (SOURCES / "tables" / f"{table[0]}.rt").write_text(table_text(defs, *table))
+        (SOURCES / "tables" / f"{table[0]}.rt").write_text(table_text(*table))
     (SOURCES / "tables.rt").write_text(HEAD)
 
 

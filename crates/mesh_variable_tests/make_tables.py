@@ -1,16 +1,20 @@
 #!/usr/bin/env python3
-"""Draws small paths at random, has a reference program stroke them, and writes both as tables for the tests.
+"""Draws small paths at random, has the reference program stroke them, and writes both as tables for the tests.
 
-    make_tables.py FOLDER
-
-FOLDER holds the reference program's `oracle.py` and `defs.py`. That program was written from the definitions, apart
-from this repository, so that neither follows the other. The seed is fixed: the same reference program gives the same
-tables. Run `rt fmt` in this crate afterwards.
+The reference program stands in `reference/` of this repository. It was written from the specification, by others than
+this crate's plain programs, so that neither follows the other. The seed is fixed: the same reference program gives the
+same tables. Run `rt fmt` in this crate afterwards.
 """
-import importlib
 import pathlib
 import random
 import sys
+
+sys.path.insert(0, str(pathlib.Path(__file__).resolve().parents[2] / "reference"))
+
+from overlay import resolved
+from plane import I16, I32, is_safe, loop, winding
+from splitting import bendable, counted
+from variable_strokes import circle_of, covers, section_of, variable_padding, variable_stroke
 
 SEED = 1
 TABLES = pathlib.Path(__file__).resolve().parent / "src" / "tables"
@@ -99,86 +103,60 @@ def told_once(small, large):
     return [("both", small)] if small == large else [("16", small), ("32", large)]
 
 
-class Reference:
-    """The reference program."""
-
-    def __init__(self, folder):
-        sys.path.insert(0, folder)
-        self.oracle, self.defs = importlib.import_module("oracle"), importlib.import_module("defs")
-
-    def edges(self, path, arc):
-        """The edges of a stroke at both widths of numbers."""
-        return [sorted(self.oracle.variable_edges(width, path, arc)) for width in (self.oracle.I16, self.oracle.I32)]
-
-    def marks(self, path):
-        """What the path has: steps at which a chain breaks off, covered circles, and steps without a section."""
-        o, found = self.oracle, []
-        radii = [o.stroke_radius(vertex[2]) for vertex in path]
-        sections = [o.variable_section(o.I32, a, b) for a, b in zip(path, path[1:])]
-        for i, (a, b) in enumerate(zip(path, path[1:])):
-            v, before = o.sub(b[:2], a[:2]), sections[i - 1] if i else None
-            if (radii[i] - radii[i + 1]) ** 2 >= o.dot(v, v):
-                found.append("break")
-            elif before and max(radii[i - 1:i + 1]) > radii[i + 1] and o.covers_circle(before, b[:2], radii[i + 1]):
-                found.append("cover")
-            elif sections[i] is None:
-                found.append("dots")
-        return found
-
-
-def rows_of_edges(reference):
+def rows_of_edges():
     """The worked paths, and random ones: the width of the numbers, the arcs, the path, and the edges as loops."""
     inputs = Inputs("edges")
     paths = WORKED + [(inputs.path(), inputs.random.choice(ARCS[:3])) for _ in range(30)]
     for path, arc in paths:
-        for width, edges in told_once(*reference.edges(path, arc)):
+        for width, edges in told_once(*(sorted(variable_stroke(width, path, arc)[0]) for width in (I16, I32))):
             yield f"{width} | {listed([arc])} | {listed(path)} | " + "; ".join(map(listed, loops(edges)))
 
 
-def rows_of_windings(reference):
+def rows_of_windings():
     """Random paths: the width of the numbers, the arcs, the path, and how often its pieces wind round points."""
     inputs = Inputs("windings")
     for number in range(200):
-        width, arc, path = inputs.random.choice(["16", "32"]), ARCS[number % 5], inputs.path()
-        edges, pieces = reference.defs.variable_pieces("i" + width, path, arc)
+        width, arc, path = inputs.random.choice([I16, I32]), ARCS[number % 5], inputs.path()
+        edges, pieces = variable_stroke(width, path, arc)
         points = [vertex[:2] for vertex in path] + [end for edge in edges for end in edge]
-        told = {q: reference.defs.pieces_winding(pieces, q, 2) for q in [inputs.query(points) for _ in range(25)]}
-        assert all(count == reference.defs.winding(edges, q, 2) for q, count in told.items())
+        queries = [inputs.query(points) for _ in range(25)]
+        told = {q: sum(winding(loop(piece), q, 2) for piece in pieces) for q in queries}
+        assert all(count == winding(edges, q, 2) for q, count in told.items())
         chosen = sorted(told, key=lambda q: (abs(told[q]), q), reverse=True)
         answers = chosen[:2] + chosen[-1:] + [q for q in chosen if told[q] < 0][:2]
-        yield f"{width} | {listed([arc])} | {listed(path)} | {listed((*q, told[q]) for q in sorted(set(answers)))}"
+        counts = listed((*q, told[q]) for q in sorted(set(answers)))
+        yield f"{width.name[1:]} | {listed([arc])} | {listed(path)} | {counts}"
 
 
-def rows_of_sections(reference):
+def rows_of_sections():
     """Two vertices, the points at which their circles' tangents touch them, and circles that the section covers, and
     circles that it does not, each as a vertex."""
-    inputs, o = Inputs("sections"), reference.oracle
+    inputs = Inputs("sections")
     for number in range(48):
-        w, size = [o.I16, o.I32][number % 2], inputs.random.choice([5, 12, 40, 400, 4000])
+        w, size = [I16, I32][number % 2], inputs.random.choice([5, 12, 40, 400, 4000])
         a, b = WORKED_SECTIONS[number] if number < len(WORKED_SECTIONS) else [
             (*inputs.point(size), inputs.random.randint(-1, 2 * size)) for _ in range(2)]
-        section = o.variable_section(w, a, b)
+        section = section_of(w, circle_of(a), circle_of(b))
         if not section:
             yield f"{w.name[1:]} | {listed([a, b])} | | |"
             continue
-        contacts = [section.al, section.ar, section.bl, section.br]
+        contacts = [section.a_left, section.a_right, section.b_left, section.b_right]
         vertices = {True: [], False: []}
         for _ in range(3):
             share, least = inputs.random.random(), max(0, min(a[2], b[2]))
             spot = [round(p + share * (q - p)) + inputs.random.randint(-size, size) // 4 for p, q in zip(a, b)][:2]
             width = inputs.random.choice([-1, 2, least // 2, least])
-            is_covered = o.covers_circle(section, tuple(spot), o.stroke_radius(width))
-            vertices[is_covered].append((*spot, width))
+            vertices[covers(section, circle_of((*spot, width)))].append((*spot, width))
         told = [listed(items) for items in ([a, b], contacts, vertices[True], vertices[False])]
         yield " | ".join([w.name[1:]] + told)
 
 
-def rows_of_shapes(reference):
+def rows_of_shapes():
     """The width of the numbers, the arcs, paths, options, and the shapes.
 
     The options are the least area, whether contours are clockwise, and whether they keep points on a line. No row has an edge that rounding bends, so there is one answer.
     """
-    o, line = reference.oracle, [(0, 0, 8), (20, 0, 8)]
+    line = [(0, 0, 8), (20, 0, 8)]
     cases = [([path], arc, (0, False, False)) for path, arc in WORKED[:5]]
     cases += [
         ([[], [(0, 0, 2)]], DEFAULT, (0, False, False)),
@@ -193,21 +171,20 @@ def rows_of_shapes(reference):
     for paths, arc, (area, clockwise, collinear) in cases:
         options = {"min_area": area, "clockwise": clockwise, "collinear": collinear}
         answers = []
-        for w in (o.I16, o.I32):
-            info = {}
-            answers.append(o.variable_shapes(w, paths, arc, options, info))
-            assert not info["last"].bent
+        for w in (I16, I32):
+            edges = [edge for path in paths for edge in variable_stroke(w, path, arc)[0]]
+            assert not bendable(list(counted(edges)))
+            answers.append(resolved(edges, 1, options))
         for width, shapes in told_once(*answers):
             text = " / ".join("; ".join(map(listed, shape)) for shape in shapes)
             yield (f"{width} | {listed([arc])} | {'; '.join(map(listed, paths))}"
                    f" | {area} {int(clockwise)} {int(collinear)} | {text}")
 
 
-def rows_of_ranges(reference):
+def rows_of_ranges():
     """The width of the numbers, paths, and whether they may be stroked (1) or not (0)."""
-    o = reference.oracle
-    for w in (o.I16, o.I32):
-        least, most, unit = w.lo, w.hi, w.D
+    for w in (I16, I32):
+        least, most, unit = w.least, w.most, w.unit
         cases = [
             [[(0, 0, most - 1)]], [[(0, 0, most)]], [[(0, 0, least)]], [[]],
             [[(unit - 1, 1 - unit, 0)]], [[(unit, 0, 0)]], [[(0, -unit, 0)]], [[(1 - unit, 0, 1)]],
@@ -218,7 +195,9 @@ def rows_of_ranges(reference):
             [[(0, 0, 9)], [], [(0, unit - 5, 1)]], [[(0, 0, 8)], [], [(0, unit - 5, 1)]],
         ]
         for paths in cases:
-            yield f"{w.name[1:]} | {'; '.join(map(listed, paths))} | {int(o.validate_variable(w, paths))}"
+            padding = variable_padding(paths)
+            is_so = all(is_safe(w, vertex[:2], padding) for path in paths for vertex in path)
+            yield f"{w.name[1:]} | {'; '.join(map(listed, paths))} | {int(is_so)}"
 
 
 # a table, and what it is
@@ -232,10 +211,9 @@ WHAT = {
 
 
 def main():
-    reference = Reference(sys.argv[1])
     TABLES.mkdir(exist_ok=True)
     for table, title in WHAT.items():
-        rows = list(globals()[f"rows_of_{table}"](reference))
+        rows = list(globals()[f"rows_of_{table}"]())
         text = "\n".join(row.rstrip() for row in rows)
         (TABLES / f"{table}.rt").write_text(
             f"//! {title}, as `make_tables.py` wrote them.\n\npub const {table.upper()}: &str = \"{text}\";\n")

@@ -1,6 +1,6 @@
 //! Small inputs with answers. `make_tables.py` of this crate drew them at random, with the seed 1, and a reference
-//! program in Python answered them, which was written from the definitions, apart from this repository. The script
-//! wrote these files: change it, and not them.
+//! program in Python answered them, which was written from the specification (`reference/`). The script wrote these
+//! files: change it, and not them.
 
 pub mod crossings;
 pub mod fans;

@@ -1,6 +1,6 @@
 //! Small paths with their strokes. `make_tables.py` of this crate drew them at random, with the seed 1, and a
-//! reference program in Python stroked them, which was written from the definitions, apart from this repository. The
-//! script wrote these files: change it, and not them.
+//! reference program in Python stroked them, which was written from the specification (`reference/`). The script wrote
+//! these files: change it, and not them.
 
 use crate::styles::CapRow;
 use mesh_test_support::joins::JoinKind;

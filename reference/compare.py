@@ -1,0 +1,79 @@
+#!/usr/bin/env python3
+"""Compares a program's answers to random requests with the reference, by the relation that contracts allow.
+
+    reference/compare.py PROGRAM [--requests N] [--seed S] [--lines [--most-splits N]]
+
+PROGRAM reads a request from standard input, as `mesh_run` does. With --lines it reads one from each line, as
+`mesh_lines` does, and is asked for nearness and reasons, with a limit on splits if one is given.
+"""
+import argparse
+import collections
+import json
+import subprocess
+import sys
+import time
+
+from answering import answer
+from random_requests import request
+from reading import Reader
+from relation import Relation
+
+def asked(program, texts):
+    """What a program of one request answers to each text: its status, its line, and what it tells people."""
+    for text in texts:
+        found = subprocess.run(program, input=text.encode(), capture_output=True)
+        yield found.returncode, found.stdout.decode(), found.stderr.decode().splitlines()
+
+def asked_lines(program, texts):
+    """What a program of lines answers to all texts, likewise. It tells reasons alone, in its lines."""
+    found = subprocess.run(program, input="".join(text + "\n" for text in texts).encode(), capture_output=True)
+    for line in found.stdout.decode().splitlines():
+        yield 2 if "unreadable" in line else 1 if "refused" in line else 0, line + "\n", None
+
+def fault(text, answered, limit):
+    """What is wrong with an answer to a request, and what it was held against. Nothing is where the fault is empty."""
+    (expected, expected_line, expected_told), (status, line, told) = answer(text.encode()), answered
+    found = json.loads(line or "0")
+    if not isinstance(found, dict) or json.dumps(found, separators=(",", ":")) + "\n" != line:
+        return "a compact line with an object is needed", "the form"
+    nearness, told = found.pop("nearness", None), [found.pop("why")] if "why" in found else told
+    relation = Relation(Reader().read(text.encode())) if expected_line.startswith('{"shapes"') else None
+    if relation and limit:
+        is_refused = found == {"refused": f"splitting took more than {limit} splits"}
+        wrong = relation.limit_fault(limit, is_refused)
+        if wrong or is_refused:
+            return wrong, "the limit on splits"
+    if status != expected:
+        return f"the status {expected} is needed", "the form"
+    if told is not None and (sorted(told) != sorted(expected_told) if status < 2 else
+                             not "".join(told[:1]).startswith(expected_told[0])):
+        return f"{expected_told} is to be told", "what is told"
+    if relation and list(found) == ["shapes"]:
+        return relation.fault(found["shapes"], nearness)
+    is_right = found == json.loads(expected_line) and nearness in (None, 0)
+    return "" if is_right else f"the line is to be {expected_line}", ["edges", "a refusal", "no request"][status]
+
+def main():
+    parser = argparse.ArgumentParser(description=__doc__.split("\n")[0])
+    parser.add_argument("program", nargs="+")
+    parser.add_argument("--lines", action="store_true")
+    for name, default in (("--requests", 1000), ("--seed", 1), ("--most-splits", 0)):
+        parser.add_argument(name, type=int, default=default)
+    given = parser.parse_args()
+    begun, held, faults = time.monotonic(), collections.Counter(), 0
+    texts = [request(given.seed, number) for number in range(given.requests)]
+    limit = ["--most-splits", str(given.most_splits)] if given.most_splits else []
+    words = [*given.program, "--nearness", "--why", *limit]
+    found = asked_lines(words, texts) if given.lines else asked(given.program, texts)
+    for number, (text, answered) in enumerate(zip(texts, found)):
+        wrong, against = fault(text, answered, given.most_splits)
+        held[against] += 1
+        if wrong:
+            faults += 1
+            print(f"{number}: {wrong}\n  {text}\n  {answered}")
+    count, seconds = sum(held.values()), round(time.monotonic() - begun)
+    print(f"{count} requests of seed {given.seed}, {faults} differ, {seconds} seconds, held against {dict(held)}")
+    sys.exit(faults > 0 or count < given.requests)
+
+if __name__ == "__main__":
+    main()
