@@ -8,6 +8,7 @@ in the order in which `test.c` reads them; other cases have none.
 """
 
 import json
+import os
 import pathlib
 import subprocess
 import sys
@@ -18,7 +19,7 @@ sys.path.append(str(ROOT / "bench"))
 
 import random_requests
 
-PROGRAM = ROOT / "crates/mesh_run/out/mesh_run"
+PROGRAM = os.environ.get("I_OVERLAY_MESH_PROGRAM", ROOT / "crates/mesh_run/out/mesh_run")
 
 RANDOM_REQUESTS = int(sys.argv[1])
 

@@ -9,9 +9,9 @@ Drawings are brought onto a grid of whole numbers, drawn there exactly by the li
 answers tell the grid. Parts of a drawing are counted from 0.
 """
 
-from .errors import DrawingError, GridRangeError, LibraryMissing, TooManySplits
+from .errors import DrawingError, GridRangeError, LibraryMissing, TooManySplits, UnprovedWarning
 from .grid import Grid
-from .library import answer
+from .library import answer, is_proved, warn_of_proof
 from .offsets import buffer, outline, stroke, variable_stroke
 from .shapes import Shapes
 
@@ -24,9 +24,13 @@ __all__ = [
     "LibraryMissing",
     "Shapes",
     "TooManySplits",
+    "UnprovedWarning",
     "answer",
     "buffer",
+    "is_proved",
     "outline",
     "stroke",
     "variable_stroke",
 ]
+
+warn_of_proof()

@@ -11,6 +11,7 @@ from typing import Any, Optional, Sequence, TextIO
 
 from . import __version__, buffer
 from .errors import DrawingError, LibraryMissing
+from .library import is_proved
 from .features import Buffering, FeatureError, buffered_file
 from .picture import picture
 from .styles import CAPS, JOINS, MITER_LIMIT
@@ -18,10 +19,19 @@ from .styles import CAPS, JOINS, MITER_LIMIT
 NAME = "i_overlay_mesh"
 
 
+def version() -> str:
+    """The version, and whether the library is proved."""
+    try:
+        kind = "" if is_proved() else " (built before its proof)"
+    except LibraryMissing:
+        kind = " (no library)"
+    return f"{NAME} {__version__}{kind}"
+
+
 def arguments() -> argparse.ArgumentParser:
     """The commands and their options."""
     parser = argparse.ArgumentParser(prog=NAME, description="Polygon offsetting of GeoJSON.")
-    parser.add_argument("--version", action="version", version=f"{NAME} {__version__}")
+    parser.add_argument("--version", action="version", version=version())
     commands = parser.add_subparsers(dest="command", metavar="COMMAND", required=True)
     add_buffer(commands)
     add_draw(commands)

@@ -24,3 +24,7 @@ class TooManySplits(DrawingError):
 
 class LibraryMissing(ImportError):
     """The shared object with the proved code was not found."""
+
+
+class UnprovedWarning(UserWarning):
+    """The shared object was built before its proof, by `doors/build --unproved`. It stops the process where a check fails."""

@@ -7,12 +7,14 @@ import ctypes.util
 import functools
 import os
 import pathlib
+import warnings
 from enum import IntEnum
 
-from .errors import LibraryMissing
+from .errors import LibraryMissing, UnprovedWarning
 
 FILE = "libi_overlay_mesh.so"
 VARIABLE = "I_OVERLAY_MESH_LIBRARY"
+UNPROVED = "mesh_unproved"
 
 LEAST_ROOM = 4096
 # A line is seldom longer than this many times its request, unless it has many arcs.
@@ -62,6 +64,26 @@ def load_library() -> ctypes.CDLL:
         ctypes.POINTER(ctypes.c_size_t),
     ]
     return library
+
+
+def is_proved() -> bool:
+    """Whether the shared object was built of proved code: one that was not says so itself."""
+    try:
+        ctypes.c_char.in_dll(load_library(), UNPROVED)
+    except ValueError:
+        return True
+    return False
+
+
+def warn_of_proof() -> None:
+    """Warns where the shared object was built before its proof. That there is none is told at the first call."""
+    try:
+        proved = is_proved()
+    except LibraryMissing:
+        return
+    if not proved:
+        text = f"{find_library()} was built before its proof: to look, and not to rely on"
+        warnings.warn(text, UnprovedWarning, stacklevel=3)
 
 
 def reply(request: bytes) -> tuple[Outcome, bytes]:

@@ -4,10 +4,11 @@ import os
 import pathlib
 import subprocess
 import sys
+import warnings
 
 PACKAGE = pathlib.Path(__file__).resolve().parent.parent
 ROOT = PACKAGE.parent.parent
-PROGRAM = ROOT / "crates/mesh_run/out/mesh_run"
+PROGRAM = pathlib.Path(os.environ.get("I_OVERLAY_MESH_PROGRAM", ROOT / "crates/mesh_run/out/mesh_run"))
 COUNTRY = PACKAGE / "examples/south_africa.geojson"
 
 SLIVER = [
@@ -23,6 +24,10 @@ SLIVER = [
 
 IS_QUICK = os.environ.get("I_OVERLAY_MESH_QUICK") == "1"
 """Whether fewer random drawings are tried."""
+
+# That a library is not proved is told once, by the test of that.
+warnings.filterwarnings("ignore", ".*built before its proof")
+os.environ["PYTHONWARNINGS"] = "ignore::UserWarning"
 
 sys.path.insert(0, str(PACKAGE))
 sys.path.insert(0, str(ROOT / "bench"))

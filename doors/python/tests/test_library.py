@@ -13,7 +13,7 @@ from concurrent.futures import ThreadPoolExecutor
 from surroundings import IS_QUICK, PACKAGE, PROGRAM, ROOT, program_line
 
 import random_requests
-from i_overlay_mesh import answer, library
+from i_overlay_mesh import answer, is_proved, library
 
 RANDOM_REQUESTS = 50 if IS_QUICK else 300
 
@@ -84,6 +84,16 @@ class TestAnswer(unittest.TestCase):
             environment = {key: value for key, value in os.environ.items() if key != library.VARIABLE}
             run = subprocess.run(command, cwd=folder, env=environment, stdout=subprocess.PIPE, text=True, check=True)
             self.assertEqual(run.stdout, f'{copy / library.FILE} {{"unreadable":"request"}}\n')
+
+    def test_a_library_that_is_not_proved_says_so(self):
+        """At import, and in the version that the command tells: exactly where the object has the mark."""
+        is_marked = library.UNPROVED.encode() + b"\0" in pathlib.Path(library.find_library()).read_bytes()
+        self.assertEqual(is_proved(), not is_marked)
+        environment = {**os.environ, "PYTHONWARNINGS": "always"}
+        command = [sys.executable, "-m", "i_overlay_mesh", "--version"]
+        run = subprocess.run(command, cwd=PACKAGE, env=environment, capture_output=True, text=True, check=True)
+        self.assertEqual("built before its proof" in run.stdout, is_marked)
+        self.assertEqual("UnprovedWarning" in run.stderr, is_marked)
 
 
 if __name__ == "__main__":

@@ -3,7 +3,7 @@
 use i_overlay_mesh::*;
 use std::path::PathBuf;
 use std::process::{Command, Stdio};
-use std::{fmt::Debug, fs, io::Write, thread};
+use std::{env, fmt::Debug, fs, io::Write, thread};
 
 fn root() -> PathBuf {
     PathBuf::from(env!("CARGO_MANIFEST_DIR")).join("../..")
@@ -174,7 +174,8 @@ fn what_has_no_answer_is_told() {
 
 #[test]
 fn examples_are_answered_as_by_the_program_in_threads() {
-    let program = root().join("crates/mesh_run/out/mesh_run");
+    let built = || root().join("crates/mesh_run/out/mesh_run");
+    let program = env::var_os("I_OVERLAY_MESH_PROGRAM").map_or_else(built, PathBuf::from);
     if !program.exists() {
         return;
     }
