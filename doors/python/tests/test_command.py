@@ -167,7 +167,7 @@ class TestErrors(unittest.TestCase):
 
 class TestOthers(unittest.TestCase):
     def test_help_and_version(self):
-        self.assertEqual(run("--version").stdout.decode(), f"i_overlay_mesh {__version__}\n")
+        self.assertRegex(run("--version").stdout.decode(), rf"^i_overlay_mesh {re.escape(__version__)}( \(.*\))?\n$")
         self.assertIn(b"buffer", run("--help").stdout)
         self.assertIn(b"--tolerance", run("buffer", "--help").stdout)
 
