@@ -1,146 +1,191 @@
-"""Shapes as arrays, for the calls of the library that tell a nearness and have a limit on splits, and for slivers."""
+"""The library's calls for drawings in arrays: numbers end to end in, numbers end to end out."""
 
 from __future__ import annotations
 
 import ctypes
 import itertools
-from ctypes import byref, c_int32, c_size_t, c_uint8, c_uint32, c_uint64
-from typing import Any, Sequence
+import mmap
+from array import array
+from ctypes import byref, c_int64, c_uint64
+from dataclasses import dataclass
+from typing import Any, Callable, Mapping, Optional, Sequence
 
-from .library import Outcome, load_library
+from .library import Outcome, call_of
+from .styles import TURN, CountsStructure, OptionsStructure, Style, style_of
 
-JOINS = {"bevel": 0, "miter": 1, "round": 2}
-CAPS = {"butt": 0, "square": 1, "round": 2, "custom": 3}
-SIDES = {"both": 0, "left": 1, "right": 2}
-DEFAULT_MIN_TURN = 59_652_323
+NUMBER, END = 4, 8
+"""The sizes of a coordinate and of an end, in bytes."""
 
-
-class Arc(ctypes.Structure):
-    _fields_ = [("max_step", c_uint32), ("precision", c_uint32)]
-
-
-class Join(ctypes.Structure):
-    _fields_ = [("kind", c_uint32), ("miter_angle", c_uint32), ("miter_min_turn", c_uint32), ("arc", Arc)]
+DEFAULT_OPTIONS = OptionsStructure()
 
 
-class OutlineStyle(ctypes.Structure):
-    _fields_ = [("outer_offset", c_int32), ("inner_offset", c_int32), ("join", Join)]
+@dataclass(frozen=True)
+class Lists:
+    """Lists as the library reads them, that stand end to end in one.
+
+    items: the address of the points or vertices, and how many there are.
+    ends: the address of the numbers that say for each list how many items stand in it and before it, and how many there
+        are.
+    kept: what has to live as long.
+    """
+
+    items: tuple[int, int]
+    ends: tuple[int, int]
+    kept: tuple[Any, ...]
+
+    def words(self) -> tuple[int, int, int, int]:
+        """The arguments of a call."""
+        return (*self.items, *self.ends)
 
 
-class Cap(ctypes.Structure):
-    _fields_ = [("kind", c_uint32), ("arc", Arc)]
+# Where a list is empty, its address is that of something all the same.
+NOTHING = (ctypes.c_uint64 * 1)()
 
 
-class StrokeStyle(ctypes.Structure):
-    _fields_ = [
-        ("width", c_int32),
-        ("join", Join),
-        ("start_cap", Cap),
-        ("end_cap", Cap),
-        ("side", c_uint32),
-        ("closed", c_uint32),
-    ]
+def address_of(numbers: array) -> int:
+    """Where an array lies."""
+    return numbers.buffer_info()[0] if len(numbers) else ctypes.addressof(NOTHING)
 
 
-class Options(ctypes.Structure):
-    _fields_ = [("min_area", c_uint64), ("clockwise", c_uint32), ("collinear", c_uint32)]
+def lists_of(numbers: array, ends: array, size: int) -> Lists:
+    """Lists of items of so many numbers."""
+    items = (address_of(numbers), len(numbers) // size)
+    return Lists(items, (address_of(ends), len(ends)), (numbers, ends))
 
 
-class Counts(ctypes.Structure):
-    _fields_ = [("points", c_size_t), ("contours", c_size_t), ("shapes", c_size_t)]
+def lists_in(paths: Sequence[Sequence[Sequence[int]]], size: int) -> Lists:
+    """Lists of points or vertices as the library reads them."""
+    numbers = array("i", itertools.chain.from_iterable(itertools.chain.from_iterable(paths)))
+    return lists_of(numbers, array("Q", itertools.accumulate(map(len, paths))), size)
 
 
-def near_shapes(request: dict, most_splits: int) -> tuple[Outcome, list, int]:
-    """How a request for shapes in 32 bits ended, its shapes, and their nearness in 64ths of a grid unit.
+@dataclass
+class Told:
+    """Shapes as the library tells them.
+
+    points: the coordinates of all points.
+    contour_ends: for each contour how many points stand in it and before it.
+    shape_ends: for each shape how many contours stand in it and before it.
+    """
+
+    points: array
+    contour_ends: array
+    shape_ends: array
+
+    def nested(self) -> list[list[list[list[int]]]]:
+        """Lists of contours, these of points."""
+        numbers = self.points.tolist()
+        pairs = list(map(list, zip(numbers[::2], numbers[1::2])))
+        return split(split(pairs, self.contour_ends), self.shape_ends)
+
+
+def nothing() -> Told:
+    """No shapes."""
+    return Told(array("i"), array("Q"), array("Q"))
+
+
+def split(items: list[Any], ends: Sequence[int]) -> list[list[Any]]:
+    """Lists that stand end to end."""
+    return [items[start:end] for start, end in zip([0, *ends], ends)]
+
+
+class Room:
+    """Room for shapes. Memory that no call writes is never taken from the system."""
+
+    def __init__(self, points: int, contours: int, shapes: int) -> None:
+        self.sizes = (points, contours, shapes)
+        lengths = (2 * NUMBER * points, END * contours, END * shapes)
+        self.starts = [0, *itertools.accumulate(-(-length // 64) * 64 for length in lengths)]
+        self.memory = mmap.mmap(-1, max(1, self.starts[-1]))
+        base = ctypes.addressof(ctypes.c_char.from_buffer(self.memory))
+        self.words = tuple(word for start, size in zip(self.starts, self.sizes) for word in (base + start, size))
+        self.counts = CountsStructure()
+
+    def told(self) -> Told:
+        """A copy of the shapes in it."""
+        counts, view = self.counts, memoryview(self.memory)
+        parts = []
+        lengths = (2 * NUMBER * counts.points, END * counts.contours, END * counts.shapes)
+        for kind, start, length in zip("iQQ", self.starts, lengths):
+            numbers = array(kind)
+            numbers.frombytes(view[start : start + length])
+            parts.append(numbers)
+        return Told(*parts)
+
+
+def steps_of(style: Style) -> int:
+    """How many points an arc of a whole turn may have, 0 where there are no arcs."""
+    structure = style.structure
+    arcs = [structure] if style.operation == "variable_stroke" else [structure.join.arc]
+    if style.operation == "stroke":
+        arcs += [structure.start_cap.arc, structure.end_cap.arc]
+    return max((TURN // max(arc.max_step, 2**22) for arc in arcs if arc.max_step), default=0) + 2
+
+
+def room_for(style: Style, lists: Lists) -> Room:
+    """Room for the shapes of most drawings."""
+    contours = lists.ends[1] + 8
+    return Room(4 * lists.items[1] + (2 * steps_of(style) + 8) * contours, contours, contours)
+
+
+def called(call: Callable[[Room], int], room: Room) -> tuple[Outcome, Told]:
+    """How a call ended, and its shapes, in larger rooms where the first is too small."""
+    while True:
+        outcome = Outcome(call(room))
+        if outcome is Outcome.ANSWERED:
+            return outcome, room.told()
+        if outcome is not Outcome.ROOM_TOO_SMALL:
+            return outcome, nothing()
+        room = Room(room.counts.points, room.counts.contours, room.counts.shapes)
+
+
+def drawn(style: Style, lists: Lists, most_splits: Optional[int] = None) -> tuple[Outcome, Told, int]:
+    """How a drawing ended, its shapes, and where there is a limit on splits their nearness in 64ths of a grid unit.
 
     most_splits: how many splits may be made; 0 stands for any number.
     """
-    call = getattr(load_library(), f"mesh_{request['op']}_near_i32")
-    call.restype = c_uint8
-    given = [*lists(request["paths"]), *style(request), byref(Options()), c_uint64(most_splits)]
-    points = sum(map(len, request["paths"]))
-    room, nearness = Counts(4 * points + 32, len(request["paths"]) + 8, len(request["paths"]) + 8), c_uint64()
-    while True:
-        counts = Counts(room.points, room.contours, room.shapes)
-        told = (c_int32 * (2 * room.points))(), (c_size_t * room.contours)(), (c_size_t * room.shapes)()
-        rooms = [told[0], c_size_t(room.points), told[1], c_size_t(room.contours), told[2], c_size_t(room.shapes)]
-        outcome = Outcome(call(*given, *rooms, byref(counts), byref(nearness)))
-        if outcome is Outcome.ANSWERED:
-            return outcome, nested(told, counts), nearness.value
-        if outcome is not Outcome.ROOM_TOO_SMALL:
-            return outcome, [], 0
-        room = counts
+    given = [*lists.words(), *style.words(), byref(DEFAULT_OPTIONS)]
+    if most_splits is None:
+        plain = call_of(f"mesh_{style.operation}")
+        return (*called(lambda room: plain(*given, *room.words, byref(room.counts)), room_for(style, lists)), 0)
+    near, nearness = call_of(f"mesh_{style.operation}_near"), c_uint64()
+
+    def call(room: Room) -> int:
+        return near(*given, most_splits, *room.words, byref(room.counts), byref(nearness))
+
+    return (*called(call, room_for(style, lists)), nearness.value)
 
 
-def without_slivers(shapes: Sequence, width: int) -> tuple[Outcome, list]:
-    """How the call for shapes in 32 bits without their slivers ended, and what is left, which is never more."""
-    call = load_library().mesh_without_slivers_i32
-    call.restype = c_uint8
-    contours = [contour for shape in shapes for contour in shape]
-    given = [*lists(contours), *ends_of(shapes), c_uint32(width)]
-    counts = Counts(sum(map(len, contours)), len(contours), len(shapes))
-    told = (c_int32 * (2 * counts.points))(), (c_size_t * counts.contours)(), (c_size_t * counts.shapes)()
-    rooms = [told[0], c_size_t(counts.points), told[1], c_size_t(counts.contours), told[2], c_size_t(counts.shapes)]
-    outcome = Outcome(call(*given, *rooms, byref(counts)))
-    return outcome, nested(told, counts) if outcome is Outcome.ANSWERED else []
+def reach(style: Style, lists: Lists, width: str = "i32", number: Any = ctypes.c_int32) -> tuple[Outcome, int]:
+    """Whether a drawing stays in range, and how far it reaches from its points at most, in each coordinate."""
+    padding = c_int64()
+    call = call_of(f"mesh_validate_{style.operation}", width)
+    return Outcome(call(*lists.words(), *style.words(number), byref(padding))), padding.value
 
 
-def lists(paths: Sequence) -> list:
-    """Paths as the library takes them: the numbers of all points or vertices, and where paths end."""
-    numbers = [number for path in paths for item in path for number in item]
-    return [(c_int32 * len(numbers))(*numbers), c_size_t(sum(map(len, paths))), *ends_of(paths)]
+def left(shapes: Told, width: int) -> tuple[Outcome, Told]:
+    """How the call for shapes without their slivers ended, and what is left, which is never more."""
+    lists = lists_of(shapes.points, shapes.contour_ends, 2)
+    ends = (address_of(shapes.shape_ends), len(shapes.shape_ends))
+    call = call_of("mesh_without_slivers")
+    room = Room(lists.items[1], lists.ends[1], ends[1])
+    return called(lambda room: call(*lists.words(), *ends, width, *room.words, byref(room.counts)), room)
 
 
-def ends_of(groups: Sequence) -> list:
-    """For each of some lists that stand end to end, how many items stand in it and before it."""
-    ends = list(itertools.accumulate(map(len, groups)))
-    return [(c_size_t * len(ends))(*ends), c_size_t(len(ends))]
+# For requests and nested lists
 
 
-def points(items: Sequence) -> list:
-    """The points of a cap."""
-    numbers = [number for item in items for number in item]
-    return [(c_int32 * len(numbers))(*numbers), c_size_t(len(items))]
+def near_shapes(request: Mapping[str, Any], most_splits: int) -> tuple[Outcome, list[Any], int]:
+    """How a request for shapes in 32 bits ended, its shapes, and their nearness in 64ths of a grid unit."""
+    style = style_of(request)
+    lists = lists_in(request["paths"], 3 if style.operation == "variable_stroke" else 2)
+    outcome, told, nearness = drawn(style, lists, most_splits)
+    return outcome, told.nested(), nearness
 
 
-def kind(said: Any) -> tuple[str, Any]:
-    """The name of a kind, and what is said of it."""
-    return next(iter(said.items())) if isinstance(said, dict) else (said, None)
-
-
-def join(words: dict) -> Join:
-    """A join with its least turn."""
-    name, more = kind(words.get("join", "bevel"))
-    angle = more if name == "miter" else 0
-    arc = Arc(*more) if name == "round" else Arc()
-    return Join(JOINS[name], angle, words.get("min_turn", DEFAULT_MIN_TURN), arc)
-
-
-def style(request: dict) -> list:
-    """A style; of a stroke then the points of both caps."""
-    words = request["style"]
-    if request["op"] == "variable_stroke":
-        return [byref(Arc(*words["arc"]))]
-    if request["op"] == "outline":
-        return [byref(OutlineStyle(words["outer"], words["inner"], join(words)))]
-    caps, ends = [], []
-    for end in ("start", "end"):
-        name, more = kind(words.get(end, "butt"))
-        caps.append(Cap(CAPS[name], Arc(*more) if name == "round" else Arc()))
-        ends += points(more if name == "custom" else [])
-    closed = int(request.get("closed", False))
-    side = SIDES[words.get("side", "both")]
-    return [byref(StrokeStyle(words["width"], join(words), *caps, side, closed)), *ends]
-
-
-def nested(told: tuple, counts: Counts) -> list:
-    """Shapes as lists of contours, these as lists of points."""
-    numbers = told[0][: 2 * counts.points]
-    pairs = [list(pair) for pair in zip(numbers[::2], numbers[1::2])]
-    contours = split(pairs, told[1][: counts.contours])
-    return split(contours, told[2][: counts.shapes])
-
-
-def split(items: Sequence, ends: Sequence[int]) -> list:
-    """Lists that stand end to end."""
-    return [items[start:end] for start, end in zip([0, *ends], ends)]
+def without_slivers(shapes: Sequence[Sequence[Sequence[Sequence[int]]]], width: int) -> tuple[Outcome, list[Any]]:
+    """How the call for shapes in 32 bits without their slivers ended, and what is left."""
+    lists = lists_in([contour for shape in shapes for contour in shape], 2)
+    told = Told(*lists.kept, array("Q", itertools.accumulate(map(len, shapes))))
+    outcome, kept = left(told, width)
+    return outcome, kept.nested()

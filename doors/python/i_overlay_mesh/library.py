@@ -9,6 +9,7 @@ import os
 import pathlib
 import warnings
 from enum import IntEnum
+from typing import Any, Callable
 
 from .errors import LibraryMissing, UnprovedWarning
 
@@ -19,6 +20,12 @@ UNPROVED = "mesh_unproved"
 LEAST_ROOM = 4096
 # A line is seldom longer than this many times its request, unless it has many arcs.
 ROOM_FACTOR = 4
+
+LIST = [ctypes.c_void_p, ctypes.c_size_t]
+"""The parameters of a list, as one that is read or a room that is written: where it lies, and how many items it has."""
+
+STRUCTURE = ctypes.c_void_p
+"""The parameter of a structure, or of a number that is told."""
 
 
 class Outcome(IntEnum):
@@ -52,18 +59,36 @@ def load_library() -> ctypes.CDLL:
     file = find_library()
     try:
         library = ctypes.CDLL(file)
-        call = library.mesh_answer
+        library.mesh_answer  # noqa: B018, which fails where this is another library
     except (OSError, AttributeError) as error:
         raise LibraryMissing(f"{file} is not the library: {error}") from error
-    call.restype = ctypes.c_uint8
-    call.argtypes = [
-        ctypes.c_char_p,
-        ctypes.c_size_t,
-        ctypes.c_char_p,
-        ctypes.c_size_t,
-        ctypes.POINTER(ctypes.c_size_t),
-    ]
     return library
+
+
+def parameters_of(name: str) -> list[Any]:
+    """The parameters of a call for shapes, for the range, or for slivers, by its name without its width."""
+    if name == "mesh_answer":
+        return [*LIST, *LIST, STRUCTURE]
+    rooms = [*LIST, *LIST, *LIST, STRUCTURE]
+    if name == "mesh_without_slivers":
+        return [*LIST, *LIST, *LIST, ctypes.c_uint32, *rooms]
+    drawing = [*LIST, *LIST, STRUCTURE]
+    if name.endswith(("mesh_stroke", "mesh_stroke_near", "validate_stroke")):
+        drawing += [*LIST, *LIST]
+    if name.startswith("mesh_validate_"):
+        return [*drawing, STRUCTURE]
+    if name.endswith("_near"):
+        return [*drawing, STRUCTURE, ctypes.c_uint64, *rooms, STRUCTURE]
+    return [*drawing, STRUCTURE, *rooms]
+
+
+@functools.lru_cache(maxsize=None)
+def call_of(name: str, width: str = "i32") -> Callable[..., int]:
+    """A call of the library, as `mesh_outline`, that answers the number of an outcome."""
+    call = getattr(load_library(), f"{name}_{width}" if width else name)
+    call.restype = ctypes.c_uint8
+    call.argtypes = parameters_of(name)
+    return call
 
 
 def is_proved() -> bool:
@@ -88,7 +113,7 @@ def warn_of_proof() -> None:
 
 def reply(request: bytes) -> tuple[Outcome, bytes]:
     """How a request ended, and the program's line for it."""
-    call = load_library().mesh_answer
+    call = call_of("mesh_answer", "")
     size = max(LEAST_ROOM, ROOM_FACTOR * len(request))
     needed = ctypes.c_size_t()
     while True:

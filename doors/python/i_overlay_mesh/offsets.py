@@ -2,17 +2,36 @@
 
 from __future__ import annotations
 
+from dataclasses import dataclass
 from fractions import Fraction
-from typing import Any, Iterable, Optional, Sequence
+from typing import Any, Optional, Sequence
 
-from .engine import Task, draw
+from .arrays import Lists
+from .engine import Task, Wishes, draw, read_wishes
 from .errors import DrawingError
-from .grid import Grid, Place
 from .exact import Number, plain, read_number
-from .reading import Drawing, Path, Polygon, Reader, inside
-from .rings import RULES, with_senses
+from .grid import Grid
+from .looks import Look, read_caps, read_look
+from .paths import ListedPaths, Path, Paths, Vertex
+from .reading import Drawing, inside, read
+from .rings import RULES
 from .shapes import Shapes
-from .styles import MIN_TURN, MITER_LIMIT, SIDES, Arcs, Cap, choose, read_arcs, read_cap, read_join
+from .styles import (
+    SIDES,
+    Arcs,
+    Cap,
+    CapStyle,
+    JoinStyle,
+    Style,
+    are_numbers,
+    choose,
+    outline_style,
+    read_arcs,
+    stroke_style,
+    variable_style,
+)
+
+Caps = tuple[CapStyle, CapStyle]
 
 
 def outline(
@@ -20,17 +39,20 @@ def outline(
     distance: Number,
     *,
     hole_distance: Optional[Number] = None,
-    join: str = "round",
+    join: Optional[str] = None,
     step: Optional[float] = None,
     tolerance: Optional[Number] = None,
     at_least: bool = False,
-    miter_limit: float = MITER_LIMIT,
-    min_turn: float = MIN_TURN,
+    miter_limit: Optional[float] = None,
+    min_turn: Optional[float] = None,
     rings: Optional[str] = None,
     scale: Optional[Number] = None,
     origin: Optional[Sequence[Number]] = None,
     most_splits: Optional[int] = None,
     sliver_width: Optional[Number] = None,
+    quad_segs: Optional[int] = None,
+    join_style: Any = None,
+    mitre_limit: Optional[float] = None,
 ) -> Shapes:
     """The polygons with their boundaries moved, all together.
 
@@ -39,14 +61,14 @@ def outline(
             lists or an array, a ring, the rings of one polygon, or a list of polygons.
         distance: how far boundaries move outwards; below 0, inwards.
         hole_distance: how far the boundaries of holes move into the holes; by default as far.
-        join: 'round', 'miter' or 'bevel', at corners at which moved sides part.
+        join: 'round', which is the default, 'miter' or 'bevel', at corners at which moved sides part.
         step: the greatest angle between points of an arc, in degrees from 360/1024 to 45; by default 5.625.
         tolerance: instead of `step`, the greatest gap between an arc and its circle, in units of the input.
         at_least: whether arcs lie outside their circles, by an enlarged distance, so that nothing is drawn nearer than
             `distance`; some grid units more make up for rounding. For clearances, and with round joins alone.
-        miter_limit: how far the peak of a miter may be, in distances, from 1 to 22.9. One that is farther is clipped,
-            by an edge whose ends are as far as that.
-        min_turn: the turn in degrees below which a miter is a bevel.
+        miter_limit: how far the peak of a miter may be, in distances, from 1 to 22.9; by default 5. One that is farther
+            is clipped, by an edge whose ends are as far as that.
+        min_turn: the turn in degrees below which a miter is a bevel; by default 5.
         rings: which rings are holes. 'first': of a polygon all but the first. 'nested': those in an odd number of
             others. 'sense': those that run clockwise. By default 'first' for geometries, 'nested' for lists.
         scale: grid units for each unit of the input; by default the greatest power of two that is safe.
@@ -58,6 +80,8 @@ def outline(
             lie within it of the line from the first one to the one farthest from that, measured along the axis along
             which the line runs less far. Where edges cross that are nearly parallel, rounding may leave such, mostly
             thinner than a grid unit.
+        quad_segs, join_style, mitre_limit: Shapely's words for `step` (segments in a quarter of a turn), `join` and
+            `miter_limit`.
 
     Returns:
         The shapes, with the scale and the origin.
@@ -68,34 +92,40 @@ def outline(
         MemoryError: memory was refused.
     """
     drawing = read(polygons, as_polygons=True)
-    reject("outline", "polygons, and strokes take lines", drawing.lines + drawing.points)
+    reject("outline", "polygons, and strokes take lines", [drawing.lines, drawing.points])
     outer = read_number("", "distance", distance)
     inner = outer if hole_distance is None else read_number("", "hole_distance", hole_distance)
-    arcs = read_arcs(max(abs(outer), abs(inner)), step, tolerance, at_least)
-    joins = read_join(join, arcs, miter_limit, min_turn)
-    tasks = [outline_task(drawing.polygons, (outer, inner), arcs, joins, rings)]
-    return draw(tasks, scale, origin, most_splits, sliver_width)
+    look = read_look(
+        max(abs(outer), abs(inner)), join=join, step=step, tolerance=tolerance, at_least=at_least,
+        miter_limit=miter_limit, min_turn=min_turn, quad_segs=quad_segs, join_style=join_style, mitre_limit=mitre_limit,
+    )
+    tasks = [outline_task(drawing.polygons, (outer, inner), look.arcs, look.join, rings)]
+    return draw(tasks, read_wishes(scale, origin, most_splits, sliver_width))
 
 
 def stroke(
     lines: Any,
     width: Number,
     *,
-    cap: Cap = "round",
+    cap: Optional[Cap] = None,
     start_cap: Optional[Cap] = None,
     end_cap: Optional[Cap] = None,
     side: str = "both",
     closed: Optional[bool] = None,
-    join: str = "round",
+    join: Optional[str] = None,
     step: Optional[float] = None,
     tolerance: Optional[Number] = None,
     at_least: bool = False,
-    miter_limit: float = MITER_LIMIT,
-    min_turn: float = MIN_TURN,
+    miter_limit: Optional[float] = None,
+    min_turn: Optional[float] = None,
     scale: Optional[Number] = None,
     origin: Optional[Sequence[Number]] = None,
     most_splits: Optional[int] = None,
     sliver_width: Optional[Number] = None,
+    quad_segs: Optional[int] = None,
+    cap_style: Any = None,
+    join_style: Any = None,
+    mitre_limit: Optional[float] = None,
 ) -> Shapes:
     """Lines with a width, all together. A single point has none, and is not drawn.
 
@@ -103,29 +133,30 @@ def stroke(
         lines: a GeoJSON mapping or an object with `__geo_interface__` that has lines or polygons, whose rings are
             drawn; or a list of such; or a line or a list of lines, as lists or an array.
         width: the whole width, half of it on each side; nothing is drawn for 0 or less.
-        cap: 'round', 'square' or 'butt', at the ends of open lines; or a list of points, in units of the input, round
-            an end at (0, 0) that looks along the axis x, from its right to its left.
+        cap: 'round', which is the default, 'square' or 'butt', at the ends of open lines; or a list of points, in units
+            of the input, round an end at (0, 0) that looks along the axis x, from its right to its left.
         start_cap, end_cap: the cap of one end, where it is another one.
         side: 'both', 'left' or 'right', seen along a line. Halves are cut off straight at their ends.
         closed: whether lines go on from their last point to their first; by default those do that are rings or end
             where they start.
         join, step, tolerance, at_least, miter_limit, min_turn, scale, origin, most_splits, sliver_width: as for
             `outline`.
+        quad_segs, cap_style, join_style, mitre_limit: Shapely's words for `step` (segments in a quarter of a turn),
+            `cap`, `join` and `miter_limit`.
 
     Returns, Raises: as `outline`.
     """
     drawing = read(lines, as_polygons=False)
-    reject("stroke", "lines", drawing.points)
-    paths = drawing.lines + [ring for polygon in drawing.polygons for ring in polygon.rings]
+    reject("stroke", "lines", [drawing.points])
     full = read_number("", "width", width)
-    arcs = read_arcs(Fraction(full) / 2, step, tolerance, at_least)
-    words = read_join(join, arcs, miter_limit, min_turn)
-    words["side"] = choose("side", side, SIDES)
-    caps = (
-        read_cap("start_cap", cap if start_cap is None else start_cap),
-        read_cap("end_cap", cap if end_cap is None else end_cap),
+    look = read_look(
+        Fraction(full) / 2, join=join, step=step, tolerance=tolerance, at_least=at_least, miter_limit=miter_limit,
+        min_turn=min_turn, quad_segs=quad_segs, join_style=join_style, mitre_limit=mitre_limit,
     )
-    return draw(stroke_tasks(paths, full, arcs, words, caps, closed), scale, origin, most_splits, sliver_width)
+    drawn_side = choose("side", side, SIDES)
+    caps = read_caps("start_cap", cap, cap_style, start_cap), read_caps("end_cap", cap, cap_style, end_cap)
+    tasks = stroke_tasks([drawing.lines, drawing.polygons], full, look, drawn_side, caps, closed)
+    return draw(tasks, read_wishes(scale, origin, most_splits, sliver_width))
 
 
 def variable_stroke(
@@ -153,30 +184,36 @@ def variable_stroke(
     Returns, Raises: as `outline`.
     """
     drawing = read(lines, as_polygons=False, with_widths=widths is None)
-    paths = drawing.lines + drawing.points
-    reject("variable_stroke", "lines", [ring for polygon in drawing.polygons for ring in polygon.rings])
+    reject("variable_stroke", "lines", [drawing.polygons])
+    parts = [part for part in (drawing.lines, drawing.points) if part.first() is not None]
     if widths is not None:
-        paths = with_widths(paths, widths)
-    radius = max((Fraction(width) / 2 for path in paths for _, _, width in path.points), default=Fraction(0))
-    arcs = read_arcs(max(radius, 0), step, tolerance, at_least)
-    return draw([variable_task(paths, arcs)], scale, origin, most_splits, sliver_width)
+        parts = [with_widths(ListedPaths([path for part in parts for path in part.listed().paths]), widths)]
+    radius = max((part.greatest_width() for part in parts), default=Fraction(0)) / 2
+    arcs = read_arcs(max(radius, Fraction(0)), step, tolerance, at_least)
+    tasks = [variable_task(part, arcs) for part in parts]
+    return draw(tasks, read_wishes(scale, origin, most_splits, sliver_width))
 
 
 def buffer(
     geometry: Any,
     distance: Number,
     *,
-    cap: Cap = "round",
-    join: str = "round",
+    cap: Optional[Cap] = None,
+    join: Optional[str] = None,
     step: Optional[float] = None,
     tolerance: Optional[Number] = None,
     at_least: bool = False,
-    miter_limit: float = MITER_LIMIT,
-    min_turn: float = MIN_TURN,
+    miter_limit: Optional[float] = None,
+    min_turn: Optional[float] = None,
     scale: Optional[Number] = None,
     origin: Optional[Sequence[Number]] = None,
     most_splits: Optional[int] = None,
     sliver_width: Optional[Number] = None,
+    quad_segs: Optional[int] = None,
+    cap_style: Any = None,
+    join_style: Any = None,
+    mitre_limit: Optional[float] = None,
+    single_sided: bool = False,
 ) -> Shapes:
     """All that is within a distance of a geometry: outlines of polygons, strokes of lines, circles round points.
 
@@ -186,122 +223,147 @@ def buffer(
         cap, join, step, tolerance, at_least, miter_limit, min_turn, scale, origin, most_splits, sliver_width: as for
             `stroke` and `outline`. The limit is one for each of the three, and for joining them; slivers are left out
             of all together.
+        quad_segs, cap_style, join_style, mitre_limit: Shapely's words for `step` (segments in a quarter of a turn),
+            `cap`, `join` and `miter_limit`.
+        single_sided: whether lines are drawn on one side alone: the left one, or below 0 the right one.
 
     Returns, Raises: as `outline`.
     """
-    drawing = read(geometry, as_polygons=True)
-    radius = read_number("", "distance", distance)
-    arcs = read_arcs(abs(radius), step, tolerance, at_least)
-    joins = read_join(join, arcs, miter_limit, min_turn)
-    tasks = []
-    if drawing.polygons:
-        tasks.append(outline_task(drawing.polygons, (radius, radius), arcs, joins, None))
-    if drawing.lines and radius > 0:
-        caps = (read_cap("cap", cap),) * 2
-        tasks += stroke_tasks(drawing.lines, 2 * Fraction(radius), arcs, joins, caps, None)
-    if drawing.points and radius > 0:
-        width = 2 * Fraction(radius)
-        circles = [Path(path.where, [(x, y, width) for x, y in path.points]) for path in drawing.points]
-        tasks.append(variable_task(circles, arcs))
-    return draw(tasks, scale, origin, most_splits, sliver_width)
+    how = read_buffering(
+        distance, cap=cap, join=join, step=step, tolerance=tolerance, at_least=at_least, miter_limit=miter_limit,
+        min_turn=min_turn, scale=scale, origin=origin, most_splits=most_splits, sliver_width=sliver_width,
+        quad_segs=quad_segs, cap_style=cap_style, join_style=join_style, mitre_limit=mitre_limit,
+        single_sided=single_sided,
+    )
+    return how.shapes(geometry)
 
+
+@dataclass(frozen=True)
+class Buffering:
+    """How geometries are buffered.
+
+    side: of lines, where they are drawn on one side alone; else both.
+    """
+
+    distance: Number
+    look: Look
+    caps: Caps
+    side: str
+    wishes: Wishes
+
+    def shapes(self, geometry: Any) -> Shapes:
+        """All that is within the distance of a geometry."""
+        return draw(self.tasks(read(geometry, as_polygons=True)), self.wishes)
+
+    @property
+    def line_width(self) -> Fraction:
+        """How wide lines are drawn."""
+        size = abs(self.distance) if self.side != "both" else self.distance
+        return 2 * Fraction(size)
+
+    def tasks(self, drawing: Drawing) -> list[Task]:
+        """The calls for polygons, lines and points."""
+        tasks, radius = [], self.distance
+        if drawing.polygons.first() is not None:
+            tasks.append(outline_task(drawing.polygons, (radius, radius), self.look.arcs, self.look.join, None))
+        if drawing.lines.first() is not None and self.line_width > 0:
+            tasks += stroke_tasks([drawing.lines], self.line_width, self.look, self.side, self.caps, None)
+        if drawing.points.first() is not None and radius > 0:
+            tasks.append(variable_task(drawing.points.with_width(2 * Fraction(radius)), self.look.arcs))
+        return tasks
+
+
+def read_buffering(
+    distance: Any,
+    *,
+    cap: Any,
+    scale: Any,
+    origin: Any,
+    most_splits: Any,
+    sliver_width: Any,
+    cap_style: Any,
+    single_sided: Any,
+    **words: Any,
+) -> Buffering:
+    """How geometries are buffered, of the words of `buffer`."""
+    radius = read_number("", "distance", distance)
+    look = read_look(abs(radius), **words)
+    cap_of_lines = read_caps("cap", cap, cap_style)
+    side = ("left" if radius > 0 else "right") if single_sided else "both"
+    wishes = read_wishes(scale, origin, most_splits, sliver_width)
+    return Buffering(radius, look, (cap_of_lines, cap_of_lines), side, wishes)
 
 # Tasks
 
 
 def outline_task(
-    polygons: Sequence[Polygon], distances: tuple[Number, Number], arcs: Arcs, joins: dict, rule: Optional[str]
+    rings: Paths, distances: tuple[Number, Number], arcs: Arcs, join: JoinStyle, rule: Optional[str]
 ) -> Task:
     """The outlines of polygons, by the distances of boundaries and of holes."""
     if rule is not None:
         choose("rings", rule, RULES)
 
-    def words(grid: Grid) -> dict:
+    def style(grid: Grid) -> Optional[Style]:
         outer, inner = (arcs.radius(grid, distance) for distance in distances)
         tell_coarse("distance", distances[0], outer, 1, grid)
         tell_coarse("hole_distance", distances[1], inner, 1, grid)
-        return {"style": {"outer": outer, "inner": inner, **joins}}
+        return outline_style(outer, inner, join)
 
-    def placed(grid: Grid) -> list:
-        contours = []
-        for polygon in polygons:
-            rings = [[grid.place(point) for point in ring.points] for ring in polygon.rings]
-            contours += with_senses(rings, rule or ("first" if polygon.first_bounds else "nested"))
-        return contours
-
-    def tested(_: Grid, low: Place, high: Place) -> list:
-        return [low, high]
-
-    paths = [ring for polygon in polygons for ring in polygon.rings]
     reach = max(abs(Fraction(distance)) for distance in distances)
-    return Task("outline", paths, reach, words, placed, tested)
+    return Task(rings, reach, style, lambda grid: rings.contours(grid, rule))
 
 
 def stroke_tasks(
-    paths: Sequence[Path], width: Number, arcs: Arcs, words: dict, caps: Sequence, closed: Optional[bool]
+    paths: Sequence[Paths], width: Number, look: Look, side: str, caps: Caps, closed: Optional[bool]
 ) -> list[Task]:
     """The strokes of open lines and those of closed ones."""
-    groups: dict[bool, list[Path]] = {False: [], True: []}
-    for path in paths:
-        groups[is_closed(path) if closed is None else bool(closed)].append(path)
-    return [stroke_task(group, width, arcs, words, caps, key) for key, group in groups.items() if group]
+    choice = None if closed is None else bool(closed)
+    tasks = []
+    for is_closed in (False, True):
+        for part in paths:
+            kept = part.of_kind(is_closed, choice)
+            if kept is not None:
+                tasks.append(stroke_task(kept, width, look, side, caps, is_closed))
+    return tasks
 
 
-def is_closed(path: Path) -> bool:
-    """Whether a line is a ring or ends where it starts."""
-    return path.is_ring or (len(path.points) > 2 and path.points[0] == path.points[-1])
-
-
-def stroke_task(
-    paths: Sequence[Path], width: Number, arcs: Arcs, joins: dict, caps: Sequence, closed: bool
-) -> Task:
+def stroke_task(paths: Paths, width: Number, look: Look, side: str, caps: Caps, closed: bool) -> Task:
     """The strokes of lines that are all open or all closed."""
 
-    def words(grid: Grid) -> dict:
-        whole_width = arcs.width(grid, width)
+    def style(grid: Grid) -> Optional[Style]:
+        whole_width = look.arcs.width(grid, width)
         tell_coarse("width", width, whole_width, 3, grid)
-        start, end = (cap.on(grid, arcs) for cap in caps)
-        return {"style": {"width": whole_width, "start": start, "end": end, **joins}, "closed": closed}
+        start, end = caps
+        ends = (start.on(grid, look.arcs), end.on(grid, look.arcs))
+        return stroke_style(whole_width, look.join, ends, side, closed)
 
-    def placed(grid: Grid) -> list:
-        return [[grid.place(point) for point in path.points] for path in paths]
-
-    def tested(_: Grid, low: Place, high: Place) -> list:
-        return [low, high]
-
-    return Task("stroke", paths, max(Fraction(width) / 2, Fraction(0)), words, placed, tested)
+    return Task(paths, max(Fraction(width) / 2, Fraction(0)), style, paths.lists)
 
 
-def variable_task(paths: Sequence[Path], arcs: Arcs) -> Task:
+def variable_task(paths: Paths, arcs: Arcs) -> Task:
     """The strokes of lines whose vertices have widths."""
-    greatest = max((Fraction(width) for path in paths for _, _, width in path.points), default=Fraction(0))
+    greatest = max(paths.greatest_width(), Fraction(0))
 
-    def words(grid: Grid) -> dict:
-        tell_coarse("the greatest width", greatest, arcs.width(grid, greatest), 3, grid)
-        return {"style": {"arc": arcs.options()}}
-
-    def placed(grid: Grid) -> list:
-        return [[[*grid.place(point), arcs.width(grid, point[2])] for point in path.points] for path in paths]
-
-    def tested(grid: Grid, low: Place, high: Place) -> list:
+    def style(grid: Grid) -> Optional[Style]:
         width = arcs.width(grid, greatest)
-        return [[*low, width], [*high, width]]
+        tell_coarse("the greatest width", greatest, width, 3, grid)
+        return variable_style(arcs.options()) if are_numbers([width]) else None
 
-    return Task("variable_stroke", paths, max(greatest / 2, Fraction(0)), words, placed, tested)
+    def placed(grid: Grid) -> Lists:
+        return paths.wide_lists(grid, arcs)
+
+    return Task(paths, greatest / 2, style, placed, lambda grid: arcs.width(grid, greatest))
 
 
 # Input
 
 
-def read(value: Any, as_polygons: bool, with_widths: bool = False) -> Drawing:
-    """The parts of a drawing."""
-    return Reader(with_widths).any_drawing(value, as_polygons)
-
-
-def reject(call: str, taken: str, paths: Iterable[Path]) -> None:
+def reject(call: str, taken: str, paths: Sequence[Paths]) -> None:
     """Says what a call does not take."""
-    for path in paths:
-        raise DrawingError(path.where, f"`{call}` takes {taken}")
+    for part in paths:
+        where = part.first()
+        if where is not None:
+            raise DrawingError(where, f"`{call}` takes {taken}")
 
 
 def tell_coarse(what: str, length: Number, on_grid: int, least: int, grid: Grid) -> None:
@@ -314,9 +376,10 @@ def tell_coarse(what: str, length: Number, on_grid: int, least: int, grid: Grid)
         )
 
 
-def with_widths(paths: Sequence[Path], widths: Any) -> list[Path]:
+def with_widths(given: Paths, widths: Any) -> Paths:
     """The lines with a width at each vertex."""
-    lists = [list_of(item) for item in list_of(widths)]
+    paths = given.listed().paths
+    lists = [list_of(item) for item in list_of(widths) or []]
     if len(paths) == 1 and all(item is None for item in lists):
         lists = [list_of(widths)]
     if len(lists) != len(paths):
@@ -325,15 +388,15 @@ def with_widths(paths: Sequence[Path], widths: Any) -> list[Path]:
     for path, own in zip(paths, lists):
         if own is None or len(own) != len(path.points):
             raise DrawingError(path.where, f"it has {len(path.points)} vertices, and has to have a width for each")
-        vertices = [
+        vertices: list[Vertex] = [
             (*point, read_number(inside(path.where, f"point {index}"), "width", width))
             for index, (point, width) in enumerate(zip(path.points, own))
         ]
         result.append(Path(path.where, vertices, path.is_ring))
-    return result
+    return ListedPaths(result)
 
 
-def list_of(value: Any) -> Optional[list]:
+def list_of(value: Any) -> Optional[list[Any]]:
     """The items of a sequence or an array; none for a number."""
     if hasattr(value, "tolist"):
         value = value.tolist()

@@ -7,6 +7,7 @@ from typing import Any, Sequence
 
 from .errors import DrawingError
 from .features import SEPARATOR
+from .paths import Path
 from .reading import Drawing, Reader
 
 # The fill and the line of each layer, and again from the first.
@@ -28,11 +29,21 @@ def drawing_of(text: str) -> Drawing:
 
 
 def picture(texts: Sequence[str], width: int) -> str:
-    """The layers over each other, the first undermost."""
+    """The layers of files over each other, the first undermost."""
     drawings = [drawing_of(text) for text in texts]
-    points = [point[:2] for drawing in drawings for path in paths_of(drawing) for point in path.points]
-    if not points:
+    if all(not path.points for drawing in drawings for path in paths_of(drawing)):
         raise DrawingError("", "there is nothing to draw")
+    return layers(drawings, width)
+
+
+def picture_of(geometries: Sequence[Any], width: int) -> str:
+    """GeoJSON objects over each other, the first undermost; an empty picture where there is nothing to draw."""
+    return layers([Reader().any_drawing(geometry, as_polygons=True) for geometry in geometries], width)
+
+
+def layers(drawings: Sequence[Drawing], width: int) -> str:
+    """Drawings over each other, the first undermost."""
+    points = [point[:2] for drawing in drawings for path in paths_of(drawing) for point in path.points] or [(0, 0)]
     (left, right), (low, high) = ((min(column), max(column)) for column in zip(*points))
     factor = (width - 2 * MARGIN) / (max(right - left, (high - low) / 2) or 1)
 
@@ -50,21 +61,23 @@ def picture(texts: Sequence[str], width: int) -> str:
     return "\n".join([*lines, "</svg>"])
 
 
-def paths_of(drawing: Drawing) -> list:
+def paths_of(drawing: Drawing) -> list[Path]:
     """All paths of a drawing."""
-    rings = [ring for polygon in drawing.polygons for ring in polygon.rings]
-    return rings + drawing.lines + drawing.points
+    return [path for part in (drawing.polygons, drawing.lines, drawing.points) for path in part.listed().paths]
 
 
 def layer(drawing: Drawing, placed: Any, color: str) -> list[str]:
     """The elements of a drawing."""
     elements = []
-    for polygon in drawing.polygons:
-        rings = ["M" + " ".join(map(placed, ring.points)) + "z" for ring in polygon.rings if ring.points]
+    polygons, start = drawing.polygons.listed(), 0
+    for count, _ in polygons.polygons:
+        own = polygons.paths[start : start + count]
+        start += count
+        rings = ["M" + " ".join(map(placed, ring.points)) + "z" for ring in own if ring.points]
         elements.append(f'<path fill-rule="evenodd" d="{" ".join(rings)}"/>')
-    for path in drawing.lines:
+    for path in drawing.lines.listed().paths:
         elements.append(f'<polyline fill="none" points="{" ".join(map(placed, path.points))}"/>')
-    for path in drawing.points:
+    for path in drawing.points.listed().paths:
         for point in path.points:
             x, y = placed(point).split(",")
             elements.append(f'<circle fill="{color}" fill-opacity="1" cx="{x}" cy="{y}" r="{DOT}"/>')

@@ -2,42 +2,25 @@
 
 from __future__ import annotations
 
+import sys
 from collections.abc import Mapping
 from dataclasses import dataclass, field
-from typing import Any, Optional, Sequence
+from typing import Any, Optional
 
 from .errors import DrawingError
-from .exact import Number, read_number
-
-Vertex = tuple[Number, ...]
+from .exact import read_number
+from .paths import ListedPaths, Path, Paths, Vertex, no_paths
 
 COUNTED = {"FeatureCollection": ("features", "feature"), "GeometryCollection": ("geometries", "geometry")}
 
 
 @dataclass(frozen=True)
-class Path:
-    """Points, and where they stand in the drawing."""
-
-    where: str
-    points: list[Vertex]
-    is_ring: bool = False
-
-
-@dataclass(frozen=True)
-class Polygon:
-    """Rings of one polygon. `first_bounds` says that the first bounds it and the others are its holes."""
-
-    rings: list[Path]
-    first_bounds: bool
-
-
-@dataclass
 class Drawing:
-    """What a drawing has, in order."""
+    """What a drawing has, in order: rings of polygons, lines, single points."""
 
-    polygons: list[Polygon] = field(default_factory=list)
-    lines: list[Path] = field(default_factory=list)
-    points: list[Path] = field(default_factory=list)
+    polygons: Paths = field(default_factory=no_paths)
+    lines: Paths = field(default_factory=no_paths)
+    points: Paths = field(default_factory=no_paths)
 
 
 def inside(where: str, what: str) -> str:
@@ -65,7 +48,15 @@ class Reader:
 
     def __init__(self, with_widths: bool = False) -> None:
         self.names = ("x", "y", "width") if with_widths else ("x", "y")
-        self.drawing = Drawing()
+        self.rings: list[Path] = []
+        self.polygons: list[tuple[int, bool]] = []
+        self.lines: list[Path] = []
+        self.points: list[Path] = []
+
+    @property
+    def drawing(self) -> Drawing:
+        """What was read."""
+        return Drawing(ListedPaths(self.rings, self.polygons), ListedPaths(self.lines), ListedPaths(self.points))
 
     # Parts
 
@@ -88,15 +79,16 @@ class Reader:
         paths = [
             self.path(inside(where, f"ring {index}"), ring, True) for index, ring in enumerate(as_list(where, rings))
         ]
-        self.drawing.polygons.append(Polygon(paths, first_bounds))
+        self.rings += paths
+        self.polygons.append((len(paths), first_bounds))
 
     def line(self, where: str, points: Any, is_ring: bool = False) -> None:
         """A line."""
-        self.drawing.lines.append(self.path(where, points, is_ring))
+        self.lines.append(self.path(where, points, is_ring))
 
     def point(self, where: str, point: Any) -> None:
         """A single point."""
-        self.drawing.points.append(self.path(where, [point]))
+        self.points.append(self.path(where, [point]))
 
     # Mappings
 
@@ -153,7 +145,7 @@ class Reader:
     # Sequences
 
     def any_drawing(self, value: Any, as_polygons: bool) -> Drawing:
-        """A drawing of any kind. Bare sequences are polygons or lines."""
+        """A drawing of any kind, or several in turn. Bare sequences are polygons or lines."""
         mapping = mapping_of(value)
         if mapping is not None:
             self.mapping("", mapping)
@@ -208,6 +200,15 @@ def depth_of(value: Any) -> Optional[int]:
     return None
 
 
-def are_whole(paths: Sequence[Path]) -> bool:
-    """Whether all coordinates were given as ints."""
-    return all(type(x) is int and type(y) is int for path in paths for x, y, *_ in path.points)
+def read(value: Any, as_polygons: bool, with_widths: bool = False) -> Drawing:
+    """The parts of a drawing. Bare sequences are polygons or lines.
+
+    Arrays of numpy, and geometries of Shapely where numpy is there, are read without a loop over their vertices.
+    """
+    if "numpy" in sys.modules:
+        from . import wholesale
+
+        drawing = wholesale.read(value, as_polygons, with_widths)
+        if drawing is not None:
+            return drawing
+    return Reader(with_widths).any_drawing(value, as_polygons)

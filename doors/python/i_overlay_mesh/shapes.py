@@ -3,30 +3,69 @@
 from __future__ import annotations
 
 import math
-from dataclasses import dataclass
+import sys
+from array import array
 from fractions import Fraction
-from typing import Any, Optional
+from typing import Any, Optional, Sequence
 
-from .grid import Grid
+from .arrays import Told, split
 from .exact import Number, plain
+from .grid import Grid
+from .library import is_proved
 
 Points = list[list[Number]]
+PICTURE_WIDTH = 400
+"""Of a picture in a notebook, in pixels."""
 
 
-@dataclass(frozen=True)
 class Shapes:
-    """What was drawn, in the units of the input.
+    """What was drawn, in the units of the input. Two answers are equal where all of this is, and can be pickled.
 
-    polygons: each a list of rings, of which the first bounds it, counterclockwise, and the others are its holes,
-        clockwise. A ring is a list of points [x, y] and does not repeat its first point; it may pass through a point
-        twice. Coordinates are ints where all that were given were ints and the scale was given as 1; else floats.
     grid: the grid on which it was drawn, as exact fractions.
     nearness_on_grid: the nearness in 64ths of a grid unit; none where `most_splits` was not given.
     """
 
-    polygons: list[list[Points]]
     grid: Grid
-    nearness_on_grid: Optional[int] = None
+    nearness_on_grid: Optional[int]
+
+    def __init__(self, told: Told, grid: Grid, nearness: Optional[int] = None, is_whole: bool = False) -> None:
+        self._told = told
+        self._is_whole = is_whole
+        self._polygons: Optional[list[list[Points]]] = None
+        self.grid = grid
+        self.nearness_on_grid = nearness
+
+    @property
+    def polygons(self) -> list[list[Points]]:
+        """Each polygon a list of rings, of which the first bounds it, counterclockwise, and the others are its holes.
+
+        Holes run clockwise. A ring is a list of points [x, y] and does not repeat its first point; it may pass through a
+        point twice. Coordinates are ints where all that were given were ints and the scale was given as 1; else floats.
+        The lists are made when they are first asked for; `arrays` makes none.
+        """
+        if self._polygons is None:
+            numbers = self._told.points
+            if "numpy" in sys.modules:
+                points: Points = self.arrays()[0].tolist()
+            else:
+                points = self.grid.points(list(zip(numbers[::2], numbers[1::2])), self._is_whole)
+            self._polygons = split(split(points, self._told.contour_ends), self._told.shape_ends)
+        return self._polygons
+
+    def arrays(self) -> tuple[Any, Any, Any]:
+        """The answer in three arrays of numpy, which has to be installed.
+
+        The points of all rings, one a row; for each ring how many points stand in it and before it, after a 0; and for
+        each polygon how many rings stand in it and before it, after a 0. Rings do not repeat their first points.
+        """
+        import numpy
+
+        from .vectors import points_of
+
+        places = numpy.frombuffer(self._told.points, numpy.int32).reshape(-1, 2)
+        ends = (numpy.frombuffer(numbers, numpy.uint64) for numbers in (self._told.contour_ends, self._told.shape_ends))
+        rings, polygons = (numpy.concatenate([numpy.zeros(1, numpy.int64), part.astype(numpy.int64)]) for part in ends)
+        return points_of(places, self.grid, self._is_whole), rings, polygons
 
     @property
     def nearness(self) -> Optional[float]:
@@ -68,13 +107,73 @@ class Shapes:
 
         Where a ring passes through a point twice, Shapely calls it invalid; `buffer(0)` or `make_valid` mends it.
         """
-        from shapely.geometry import MultiPolygon, Polygon
+        import shapely.geometry
 
-        polygons = [Polygon(polygon[0], polygon[1:]) for polygon in self.polygons]
-        return polygons[0] if len(polygons) == 1 else MultiPolygon(polygons)
+        if hasattr(shapely, "from_ragged_array"):
+            return self._by_ragged_arrays(shapely)
+        polygons = [shapely.geometry.Polygon(polygon[0], polygon[1:]) for polygon in self.polygons]
+        return polygons[0] if len(polygons) == 1 else shapely.geometry.MultiPolygon(polygons)
+
+    def _by_ragged_arrays(self, shapely: Any) -> Any:
+        """The same by one call, without lists."""
+        import numpy
+
+        points, rings, polygons = self.arrays()
+        # Each ring gets its first point once more behind its last.
+        order = numpy.insert(numpy.arange(len(points)), rings[1:], rings[:-1])
+        offsets = [rings + numpy.arange(len(rings)), polygons]
+        kinds = shapely.GeometryType
+        if len(self) == 1:
+            return shapely.from_ragged_array(kinds.POLYGON, points[order].astype(float), tuple(offsets))[0]
+        offsets.append(numpy.array([0, len(self)]))
+        return shapely.from_ragged_array(kinds.MULTIPOLYGON, points[order].astype(float), tuple(offsets))[0]
+
+    def _repr_svg_(self) -> str:
+        """A picture, which notebooks show."""
+        from .picture import picture_of
+
+        return picture_of([self.geojson()], PICTURE_WIDTH)
+
+    def __repr__(self) -> str:
+        told, (x, y) = self._told, self.origin
+        words = [
+            f"polygons={len(told.shape_ends)}",
+            f"rings={len(told.contour_ends)}",
+            f"points={len(told.points) // 2}",
+            f"scale={self.scale}",
+            f"origin=({x}, {y})",
+        ]
+        if self.nearness_on_grid is not None:
+            words.append(f"nearness={self.nearness}")
+        if not is_proved():
+            words.append("built before its proof")
+        return f"Shapes({', '.join(words)})"
+
+    def _parts(self) -> tuple[Any, ...]:
+        """All that an answer is."""
+        told = self._told
+        return told.points, told.contour_ends, told.shape_ends, self.grid, self.nearness_on_grid, self._is_whole
+
+    def __eq__(self, other: object) -> bool:
+        return self._parts() == other._parts() if isinstance(other, Shapes) else NotImplemented
+
+    __hash__ = None  # type: ignore[assignment]
+
+    def __reduce__(self) -> tuple[Any, ...]:
+        points, contour_ends, shape_ends, grid, nearness, is_whole = self._parts()
+        lists = (points.tobytes(), contour_ends.tobytes(), shape_ends.tobytes())
+        return unpickled, (lists, (grid.scale, grid.origin), nearness, is_whole)
 
     def __bool__(self) -> bool:
-        return bool(self.polygons)
+        return len(self) > 0
 
     def __len__(self) -> int:
-        return len(self.polygons)
+        return len(self._told.shape_ends)
+
+
+def unpickled(
+    lists: Sequence[bytes], grid: tuple[Any, Any], nearness: Optional[int], is_whole: bool
+) -> Shapes:
+    """An answer out of what its pickle has."""
+    points, contour_ends, shape_ends = (array(kind, numbers) for kind, numbers in zip("iQQ", lists))
+    return Shapes(Told(points, contour_ends, shape_ends), Grid(*grid), nearness, is_whole)

@@ -1,20 +1,27 @@
-"""Joins, caps and arcs by name, in the words of a request."""
+"""Joins, caps and arcs: by their names, by the words of a request, and as the library's calls take them.
+
+Every part of the package that says how something is drawn, and `doors/tiles`, says it by this module.
+"""
 
 from __future__ import annotations
 
+import ctypes
 import math
+from ctypes import c_int32, c_size_t, c_uint32, c_uint64
 from dataclasses import dataclass
 from fractions import Fraction
-from typing import Any, Sequence, Union
+from typing import Any, Mapping, Optional, Sequence, Union
 
 from .errors import DrawingError
-from .grid import Grid
 from .exact import Number, nearest_whole, read_number
+from .grid import Grid
 
 TURN = 2**32
 FINEST_STEP = 2**22
 COARSEST_STEP = 2**29
 PRECISION = 5
+MOST_NUMBER = 2**31 - 1
+"""The greatest coordinate or length that a call in 32 bits takes."""
 
 # As Shapely's: 16 steps for a quarter of a turn.
 DEFAULT_STEP = 5.625
@@ -30,7 +37,179 @@ JOINS = {"round": "round", "miter": "miter", "mitre": "miter", "bevel": "bevel"}
 CAPS = {"round": "round", "square": "square", "butt": "butt", "flat": "butt"}
 SIDES = ("both", "left", "right")
 
+# The numbers of the header for C, which a test compares with it.
+JOIN_KINDS = {"bevel": 0, "miter": 1, "round": 2}
+CAP_KINDS = {"butt": 0, "square": 1, "round": 2, "custom": 3}
+SIDE_KINDS = {"both": 0, "left": 1, "right": 2}
+
+# What a request means that says nothing of them.
+DEFAULT_MIN_TURN = 59_652_323
+DEFAULT_ARC = (68_356_528, PRECISION)
+
 Cap = Union[str, Sequence[Sequence[Number]]]
+
+
+# As the library's calls take them
+
+
+class ArcStructure(ctypes.Structure):
+    _fields_ = [("max_step", c_uint32), ("precision", c_uint32)]
+
+
+class JoinStructure(ctypes.Structure):
+    _fields_ = [("kind", c_uint32), ("miter_angle", c_uint32), ("miter_min_turn", c_uint32), ("arc", ArcStructure)]
+
+
+class OutlineStructure(ctypes.Structure):
+    _fields_ = [("outer_offset", c_int32), ("inner_offset", c_int32), ("join", JoinStructure)]
+
+
+class CapStructure(ctypes.Structure):
+    _fields_ = [("kind", c_uint32), ("arc", ArcStructure)]
+
+
+class StrokeStructure(ctypes.Structure):
+    _fields_ = [
+        ("width", c_int32),
+        ("join", JoinStructure),
+        ("start_cap", CapStructure),
+        ("end_cap", CapStructure),
+        ("side", c_uint32),
+        ("closed", c_uint32),
+    ]
+
+
+class OptionsStructure(ctypes.Structure):
+    _fields_ = [("min_area", c_uint64), ("clockwise", c_uint32), ("collinear", c_uint32)]
+
+
+class CountsStructure(ctypes.Structure):
+    _fields_ = [("points", c_size_t), ("contours", c_size_t), ("shapes", c_size_t)]
+
+
+Points = Sequence[Sequence[int]]
+
+
+@dataclass(frozen=True)
+class Style:
+    """The style of a call.
+
+    operation: `outline`, `stroke` or `variable_stroke`.
+    structure: what the call takes.
+    caps: of a stroke the points of both caps, which are empty but for custom ones.
+    """
+
+    operation: str
+    structure: ctypes.Structure
+    caps: tuple[Points, ...] = ()
+
+    def words(self, number: Any = c_int32) -> list[Any]:
+        """The arguments of the call that say how to draw, with points of caps in numbers of a kind."""
+        words: list[Any] = [ctypes.byref(self.structure)]
+        for points in self.caps:
+            flat = [coordinate for point in points for coordinate in point]
+            words += [(number * len(flat))(*flat), len(points)]
+        return words
+
+
+def are_numbers(numbers: Sequence[int]) -> bool:
+    """Whether all numbers fit the library's coordinates and lengths in 32 bits."""
+    return all(abs(number) <= MOST_NUMBER for number in numbers)
+
+
+@dataclass(frozen=True)
+class End:
+    """A cap on the grid: its kind, its arc, and the points of a custom one."""
+
+    kind: str
+    arc: tuple[int, int] = (0, 0)
+    points: Points = ()
+
+    def structure(self) -> CapStructure:
+        """The cap as a call takes it."""
+        return CapStructure(CAP_KINDS[self.kind], ArcStructure(*self.arc))
+
+
+@dataclass(frozen=True)
+class JoinStyle:
+    """A join of outer corners: its kind, the angle below which a miter is clipped, its least turn, and its arc."""
+
+    kind: str
+    angle: int = 0
+    min_turn: int = DEFAULT_MIN_TURN
+    arc: tuple[int, int] = (0, 0)
+
+    def structure(self) -> JoinStructure:
+        """The join as a call takes it."""
+        return JoinStructure(JOIN_KINDS[self.kind], self.angle, self.min_turn, ArcStructure(*self.arc))
+
+
+def outline_style(outer: int, inner: int, join: JoinStyle) -> Optional[Style]:
+    """A style of outlines; none where an offset does not fit."""
+    if not are_numbers([outer, inner]):
+        return None
+    return Style("outline", OutlineStructure(outer, inner, join.structure()))
+
+
+def stroke_style(width: int, join: JoinStyle, ends: tuple[End, End], side: str, closed: bool) -> Optional[Style]:
+    """A style of strokes; none where the width or a point of a cap does not fit."""
+    if not are_numbers([width, *(number for end in ends for point in end.points for number in point)]):
+        return None
+    start, end = ends
+    structure = StrokeStructure(
+        width, join.structure(), start.structure(), end.structure(), SIDE_KINDS[side], int(closed)
+    )
+    return Style("stroke", structure, (start.points, end.points))
+
+
+def variable_style(arc: tuple[int, int]) -> Style:
+    """A style of strokes of variable width."""
+    return Style("variable_stroke", ArcStructure(*arc))
+
+
+# In the words of a request
+
+
+def named(said: Any) -> tuple[str, Any]:
+    """The name of a kind in a request, and what is said of it."""
+    return next(iter(said.items())) if isinstance(said, Mapping) else (said, None)
+
+
+def join_of(words: Mapping[str, Any]) -> JoinStyle:
+    """The join of a style of a request."""
+    kind, more = named(words.get("join", "bevel"))
+    min_turn = words.get("min_turn", DEFAULT_MIN_TURN)
+    if kind == "round":
+        return JoinStyle(kind, 0, min_turn, tuple(more))
+    return JoinStyle(kind, more if kind == "miter" else 0, min_turn)
+
+
+def end_of(said: Any) -> End:
+    """A cap of a request."""
+    kind, more = named(said)
+    if kind == "round":
+        return End(kind, tuple(more))
+    return End(kind, points=more if kind == "custom" else ())
+
+
+def style_of(request: Mapping[str, Any]) -> Style:
+    """The style of a request that is well formed."""
+    words = request["style"]
+    style: Optional[Style]
+    if request["op"] == "outline":
+        style = outline_style(words["outer"], words["inner"], join_of(words))
+    elif request["op"] == "stroke":
+        ends = (end_of(words.get("start", "butt")), end_of(words.get("end", "butt")))
+        closed = bool(request.get("closed", False))
+        style = stroke_style(words["width"], join_of(words), ends, words.get("side", "both"), closed)
+    else:
+        style = variable_style(tuple(words.get("arc", DEFAULT_ARC)))
+    if style is None:
+        raise ValueError(f"a length of the style passes 32 bits: {words}")
+    return style
+
+
+# By their names
 
 
 def choose(what: str, name: Any, names: Any) -> str:
@@ -56,9 +235,9 @@ class Arcs:
     step: int
     outside: bool
 
-    def options(self) -> list[int]:
-        """The arcs in a request."""
-        return [self.step, PRECISION]
+    def options(self) -> tuple[int, int]:
+        """The greatest step, and how near a step comes to it."""
+        return self.step, PRECISION
 
     def radius(self, grid: Grid, radius: Number) -> int:
         """A radius of either sign in grid units: rounded, or enlarged so that nothing comes nearer than it."""
@@ -111,15 +290,15 @@ def step_for_gap(gap: float, outside: bool) -> int:
     return min(COARSEST_STEP, int(half / math.pi * TURN))
 
 
-def read_join(join: Any, arcs: Arcs, miter_limit: Any, min_turn: Any) -> dict:
-    """A join in a request."""
+def read_join(join: Any, arcs: Arcs, miter_limit: Any, min_turn: Any) -> JoinStyle:
+    """A join by its name."""
     kind = choose("join", join, JOINS)
     if arcs.outside and kind != "round":
         raise DrawingError("", f"at_least needs round joins: a {kind} may come nearer to a corner")
     if kind == "bevel":
-        return {"join": "bevel"}
+        return JoinStyle(kind)
     if kind == "round":
-        return {"join": {"round": arcs.options()}}
+        return JoinStyle(kind, arc=arcs.options())
     limit = float(read_number("", "miter_limit", miter_limit))
     if not 1 <= limit <= MOST_MITER_LIMIT:
         raise DrawingError("", f"miter_limit is {limit}, and has to be from 1 to {MOST_MITER_LIMIT}")
@@ -127,28 +306,26 @@ def read_join(join: Any, arcs: Arcs, miter_limit: Any, min_turn: Any) -> dict:
     if not 0 <= turn <= 180:
         raise DrawingError("", f"min_turn is {turn} degrees, and has to be from 0 to 180")
     angle = math.degrees(2 * math.asin(1 / limit))
-    return {"join": {"miter": bits_of(angle)}, "min_turn": bits_of(turn)}
+    return JoinStyle(kind, bits_of(angle), bits_of(turn))
 
 
 @dataclass(frozen=True)
 class CapStyle:
-    """The cap of an end: a name in a request, or points in units of the drawing."""
+    """The cap of an end: a kind, or points in units of the drawing."""
 
     kind: str
     points: tuple[tuple[Number, Number], ...] = ()
 
-    def on(self, grid: Grid, arcs: Arcs) -> Any:
-        """The cap in a request."""
+    def on(self, grid: Grid, arcs: Arcs) -> End:
+        """The cap on a grid."""
         if self.kind == "round":
-            return {"round": arcs.options()}
-        if self.kind == "custom":
-            return {"custom": [[grid.length(x), grid.length(y)] for x, y in self.points]}
-        return self.kind
+            return End(self.kind, arcs.options())
+        return End(self.kind, points=[[grid.length(x), grid.length(y)] for x, y in self.points])
 
 
 def read_cap(what: str, cap: Any) -> CapStyle:
     """A cap by its name, or by its points for an end at (0, 0) that looks along the axis x, from right to left."""
-    if isinstance(cap, str) or cap is None:
+    if isinstance(cap, str) or not hasattr(cap, "__iter__"):
         return CapStyle(choose(what, cap, CAPS))
     points = []
     for index, point in enumerate(getattr(cap, "tolist", lambda: cap)()):
