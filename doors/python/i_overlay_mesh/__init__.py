@@ -12,6 +12,7 @@ answers tell the grid. Parts of a drawing are counted from 0.
 from .errors import DrawingError, GridRangeError, LibraryMissing, TooManySplits, UnprovedWarning
 from .grid import Grid
 from .library import answer, is_proved, warn_of_proof
+from .many import buffer_all
 from .offsets import buffer, outline, stroke, variable_stroke
 from .shapes import Shapes
 
@@ -27,6 +28,7 @@ __all__ = [
     "UnprovedWarning",
     "answer",
     "buffer",
+    "buffer_all",
     "is_proved",
     "outline",
     "stroke",

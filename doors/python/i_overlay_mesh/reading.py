@@ -200,6 +200,12 @@ def depth_of(value: Any) -> Optional[int]:
     return None
 
 
+def is_geometry(value: Any) -> bool:
+    """Whether a value is a geometry of Shapely."""
+    base = sys.modules.get("shapely.geometry.base")
+    return base is not None and isinstance(value, base.BaseGeometry)
+
+
 def read(value: Any, as_polygons: bool, with_widths: bool = False) -> Drawing:
     """The parts of a drawing. Bare sequences are polygons or lines.
 

@@ -109,24 +109,15 @@ class Shapes:
         """
         import shapely.geometry
 
-        if hasattr(shapely, "from_ragged_array"):
-            return self._by_ragged_arrays(shapely)
+        if hasattr(shapely, "linearrings"):
+            import numpy
+
+            from .geometries import polygons_of, together
+
+            points, rings, polygons = self.arrays()
+            return together(polygons_of(points, rings[1:], polygons[1:]), numpy.array([len(self)]))[0]
         polygons = [shapely.geometry.Polygon(polygon[0], polygon[1:]) for polygon in self.polygons]
         return polygons[0] if len(polygons) == 1 else shapely.geometry.MultiPolygon(polygons)
-
-    def _by_ragged_arrays(self, shapely: Any) -> Any:
-        """The same by one call, without lists."""
-        import numpy
-
-        points, rings, polygons = self.arrays()
-        # Each ring gets its first point once more behind its last.
-        order = numpy.insert(numpy.arange(len(points)), rings[1:], rings[:-1])
-        offsets = [rings + numpy.arange(len(rings)), polygons]
-        kinds = shapely.GeometryType
-        if len(self) == 1:
-            return shapely.from_ragged_array(kinds.POLYGON, points[order].astype(float), tuple(offsets))[0]
-        offsets.append(numpy.array([0, len(self)]))
-        return shapely.from_ragged_array(kinds.MULTIPOLYGON, points[order].astype(float), tuple(offsets))[0]
 
     def _repr_svg_(self) -> str:
         """A picture, which notebooks show."""

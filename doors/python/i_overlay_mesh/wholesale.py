@@ -10,7 +10,7 @@ import numpy
 
 from .packed import PackedPaths, is_plain, packed, rings_of
 from .paths import no_paths
-from .reading import Drawing, inside
+from .reading import Drawing, inside, is_geometry
 from .vectors import Array
 
 NAMES = ("x", "y")
@@ -71,12 +71,6 @@ def lines_in(arrays: Any, names: Sequence[str]) -> Optional[Drawing]:
 # Geometries of Shapely
 
 
-def is_geometry(value: Any) -> bool:
-    """Whether a value is a geometry of Shapely."""
-    base = sys.modules.get("shapely.geometry.base")
-    return base is not None and isinstance(value, base.BaseGeometry)
-
-
 def geometries_of(value: Any) -> Optional[list[tuple[str, Any]]]:
     """Geometries of Shapely with where they stand: one, a list or an array of some, a column or a table of GeoPandas."""
     if is_geometry(value):
@@ -99,6 +93,17 @@ def coordinates_of(geometry: Any) -> Array:
     if hasattr(shapely, "get_coordinates"):
         return shapely.get_coordinates(geometry, include_z=bool(geometry.has_z))
     return numpy.asarray(geometry.coords)
+
+
+def rings_in(polygon: Any) -> list[Array]:
+    """The coordinates of each ring of a polygon, that of its boundary first."""
+    shapely = sys.modules["shapely"]
+    if not hasattr(shapely, "get_coordinates"):
+        return [coordinates_of(ring) for ring in (polygon.exterior, *polygon.interiors)]
+    # The boundary itself would be a copy of the polygon.
+    sizes = [shapely.get_num_coordinates(ring) for ring in polygon.interiors]
+    points = coordinates_of(polygon)
+    return numpy.split(points, numpy.cumsum([len(points) - sum(sizes), *sizes])[:-1])
 
 
 @dataclass
@@ -127,8 +132,7 @@ class Parts:
         if part.is_empty:
             return
         if part.geom_type == "Polygon":
-            rings = [coordinates_of(ring) for ring in (part.exterior, *part.interiors)]
-            self.polygons.append((inside(where, f"polygon {index}"), rings))
+            self.polygons.append((inside(where, f"polygon {index}"), rings_in(part)))
         elif part.geom_type == "Point":
             self.points.append((inside(where, f"point {index}"), coordinates_of(part)))
         else:

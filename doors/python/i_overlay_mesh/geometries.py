@@ -1,0 +1,38 @@
+"""Geometries of Shapely 2 by arrays.
+
+They are made ring by ring and polygon by polygon, since `from_ragged_array` of Shapely 2.1.0 writes beyond its memory where
+a MultiPolygon has many polygons.
+"""
+
+from __future__ import annotations
+
+import numpy
+import shapely
+
+from .vectors import Array
+
+
+def owners(ends: Array) -> Array:
+    """For each item of lists that stand end to end the number of its list."""
+    return numpy.repeat(numpy.arange(len(ends)), numpy.diff(ends, prepend=0))
+
+
+def polygons_of(points: Array, ring_ends: Array, polygon_ends: Array) -> Array:
+    """Polygons of rings of points that stand end to end; rings are closed."""
+    if not len(polygon_ends):
+        return numpy.zeros(0, object)
+    rings = shapely.linearrings(points, indices=owners(ring_ends))
+    polygons: Array = shapely.polygons(rings, indices=owners(polygon_ends))
+    return polygons
+
+
+def together(polygons: Array, counts: Array) -> Array:
+    """Geometries of so many polygons each: a Polygon where there is one, else a MultiPolygon."""
+    geometries = numpy.full(len(counts), shapely.MultiPolygon(), object)
+    of_polygon = numpy.repeat(numpy.arange(len(counts)), counts)
+    is_single = (counts == 1)[of_polygon]
+    geometries[of_polygon[is_single]] = polygons[is_single]
+    several, own = numpy.unique(of_polygon[~is_single], return_inverse=True)
+    if len(several):
+        geometries[several] = shapely.multipolygons(polygons[~is_single], indices=own)
+    return geometries
