@@ -42,12 +42,12 @@ class Lists:
 NOTHING = (ctypes.c_uint64 * 1)()
 
 
-def address_of(numbers: array) -> int:
+def address_of(numbers: array[int]) -> int:
     """Where an array lies."""
     return numbers.buffer_info()[0] if len(numbers) else ctypes.addressof(NOTHING)
 
 
-def lists_of(numbers: array, ends: array, size: int) -> Lists:
+def lists_of(numbers: array[int], ends: array[int], size: int) -> Lists:
     """Lists of items of so many numbers."""
     items = (address_of(numbers), len(numbers) // size)
     return Lists(items, (address_of(ends), len(ends)), (numbers, ends))
@@ -68,14 +68,14 @@ class Told:
     shape_ends: for each shape how many contours stand in it and before it.
     """
 
-    points: array
-    contour_ends: array
-    shape_ends: array
+    points: array[int]
+    contour_ends: array[int]
+    shape_ends: array[int]
 
     def nested(self) -> list[list[list[list[int]]]]:
         """Lists of contours, these of points."""
         numbers = self.points.tolist()
-        pairs = list(map(list, zip(numbers[::2], numbers[1::2])))
+        pairs = [list(pair) for pair in zip(numbers[::2], numbers[1::2])]
         return split(split(pairs, self.contour_ends), self.shape_ends)
 
 
@@ -104,10 +104,10 @@ class Room:
     def told(self) -> Told:
         """A copy of the shapes in it."""
         counts, view = self.counts, memoryview(self.memory)
-        parts = []
+        parts: list[array[int]] = []
         lengths = (2 * NUMBER * counts.points, END * counts.contours, END * counts.shapes)
         for kind, start, length in zip("iQQ", self.starts, lengths):
-            numbers = array(kind)
+            numbers: array[int] = array(kind)
             numbers.frombytes(view[start : start + length])
             parts.append(numbers)
         return Told(*parts)
@@ -186,6 +186,7 @@ def near_shapes(request: Mapping[str, Any], most_splits: int) -> tuple[Outcome, 
 def without_slivers(shapes: Sequence[Sequence[Sequence[Sequence[int]]]], width: int) -> tuple[Outcome, list[Any]]:
     """How the call for shapes in 32 bits without their slivers ended, and what is left."""
     lists = lists_in([contour for shape in shapes for contour in shape], 2)
-    told = Told(*lists.kept, array("Q", itertools.accumulate(map(len, shapes))))
+    points, contour_ends = lists.kept
+    told = Told(points, contour_ends, array("Q", itertools.accumulate(map(len, shapes))))
     outcome, kept = left(told, width)
     return outcome, kept.nested()

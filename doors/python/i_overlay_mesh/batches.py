@@ -185,7 +185,8 @@ class Styles:
 def find_grids(group: Group, styles: Styles) -> Grids:
     """For each geometry the grid of the greatest power of two by which it is in range, round its middle."""
     starts = starts_of(group.vertices)
-    low, high = (find.reduceat(group.points, starts, axis=0) for find in (numpy.minimum, numpy.maximum))
+    low = numpy.minimum.reduceat(group.points, starts, axis=0)
+    high = numpy.maximum.reduceat(group.points, starts, axis=0)
     lengths = (high - low).max(axis=1) / 2 + float(group.task.reach)
     are_open = numpy.isfinite(low + high).all(axis=1) & (lengths > 0)
     # Above the exponent of each power of two by which the length stays below 2^30.

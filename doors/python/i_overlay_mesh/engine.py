@@ -5,7 +5,7 @@ from __future__ import annotations
 from array import array
 from dataclasses import dataclass
 from fractions import Fraction
-from typing import Any, Callable, NoReturn, Optional, Sequence
+from typing import Any, Callable, NoReturn, Optional, Sequence, TypeVar
 
 from .arrays import Lists, Told, drawn, left, lists_in, lists_of, nothing, reach
 from .errors import DrawingError, GridRangeError, TooManySplits
@@ -19,6 +19,8 @@ from .styles import JoinStyle, Style, outline_style
 MOST_SPLITS = 2**64 - 1
 # On the grid no contour is as wide, so each is a sliver of this width.
 MOST_SLIVER_WIDTH = 2**32 - 1
+
+Value = TypeVar("Value")
 
 
 class OutOfRange(Exception):
@@ -93,10 +95,11 @@ class Task:
 
     def allows(self, grid: Grid, low: Place, high: Place) -> bool:
         """Whether points stay in range from one corner of a box to the other."""
-        return max(map(abs, (*low, *high))) <= self.room(grid)
+        return max(abs(place) for place in (*low, *high)) <= self.room(grid)
 
 
-def told(outcome: Outcome, value: Any) -> Any:
+
+def told(outcome: Outcome, value: Value) -> Value:
     """A value where the library told one."""
     if outcome is Outcome.OUT_OF_MEMORY:
         raise MemoryError("the library ran out of memory")
@@ -143,7 +146,7 @@ def left_out(shapes: Told, sliver_width: Fraction, grid: Grid) -> Told:
             f" {plain(grid.scale)} that is {plain(1 / grid.scale)}"
         )
     outcome, kept = left(shapes, width)
-    return told(outcome, kept)  # type: ignore[no-any-return]
+    return told(outcome, kept)
 
 
 # The grid
@@ -160,7 +163,7 @@ def grid_by(scale: Fraction, origin: Optional[tuple[Fraction, Fraction]], box: B
 def fits(tasks: Sequence[Task], grid: Grid, box: Box) -> bool:
     """Whether all is in range on a grid."""
     low, high = grid.place(box.low), grid.place(box.high)
-    return max(map(abs, (*low, *high))) <= MOST and all(task.allows(grid, low, high) for task in tasks)
+    return max(abs(place) for place in (*low, *high)) <= MOST and all(task.allows(grid, low, high) for task in tasks)
 
 
 def finest_exponent(tasks: Sequence[Task], origin: Optional[tuple[Fraction, Fraction]], box: Box) -> int:

@@ -39,21 +39,20 @@ def guessed(start: bytes) -> str:
     return "wkb" if set(text[:10]) <= HEX else "wkt"
 
 
-def opened(file: str) -> BinaryIO:
+def opened(file: str) -> io.BufferedReader:
     """A file to read, or standard input."""
-    return sys.stdin.buffer if file == STREAM else open(file, "rb")
+    return open(sys.stdin.fileno() if file == STREAM else file, "rb", closefd=file != STREAM)
 
 
 def buffered(file: str, said: Optional[str], work: Work, out: BinaryIO) -> None:
     """Writes a file of GeoJSON, WKT or WKB with its geometries buffered, in the same format."""
     with opened(file) as source:
-        reader = io.BufferedReader(source) if not hasattr(source, "peek") else source  # type: ignore[type-var]
-        kind = format_of(file, said) or guessed(reader.peek(64))
+        kind = format_of(file, said) or guessed(source.peek(64))
         if kind == "wkb":
-            for part in buffered_binary(reader.read(), work):
+            for part in buffered_binary(source.read(), work):
                 out.write(part)
         else:
-            lines = io.TextIOWrapper(reader, encoding="utf-8-sig")
+            lines = io.TextIOWrapper(source, encoding="utf-8-sig")
             for line in buffered_file(lines, work) if kind == "geojson" else buffered_texts(lines, work):
                 out.write(line.encode() + b"\n")
                 out.flush()

@@ -85,9 +85,9 @@ def parameters_of(name: str) -> list[Any]:
 @functools.lru_cache(maxsize=None)
 def call_of(name: str, width: str = "i32") -> Callable[..., int]:
     """A call of the library, as `mesh_outline`, that answers the number of an outcome."""
-    call = getattr(load_library(), f"{name}_{width}" if width else name)
-    call.restype = ctypes.c_uint8
-    call.argtypes = parameters_of(name)
+    call: Callable[..., int] = getattr(load_library(), f"{name}_{width}" if width else name)
+    setattr(call, "restype", ctypes.c_uint8)  # noqa: B010, which the type does not have
+    setattr(call, "argtypes", parameters_of(name))  # noqa: B010
     return call
 
 

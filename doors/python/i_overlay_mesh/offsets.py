@@ -96,7 +96,7 @@ def outline(
     outer = read_number("", "distance", distance)
     inner = outer if hole_distance is None else read_number("", "hole_distance", hole_distance)
     look = read_look(
-        max(abs(outer), abs(inner)), join=join, step=step, tolerance=tolerance, at_least=at_least,
+        max(abs(Fraction(outer)), abs(Fraction(inner))), join=join, step=step, tolerance=tolerance, at_least=at_least,
         miter_limit=miter_limit, min_turn=min_turn, quad_segs=quad_segs, join_style=join_style, mitre_limit=mitre_limit,
     )
     tasks = [outline_task(drawing.polygons, (outer, inner), look.arcs, look.join, rings)]
@@ -258,8 +258,8 @@ class Buffering:
     @property
     def line_width(self) -> Fraction:
         """How wide lines are drawn."""
-        size = abs(self.distance) if self.side != "both" else self.distance
-        return 2 * Fraction(size)
+        size = Fraction(self.distance)
+        return 2 * (abs(size) if self.side != "both" else size)
 
     def tasks(self, drawing: Drawing) -> list[Task]:
         """The calls for polygons, lines and points."""
@@ -287,7 +287,7 @@ def read_buffering(
 ) -> Buffering:
     """How geometries are buffered, of the words of `buffer`."""
     radius = read_number("", "distance", distance)
-    look = read_look(abs(radius), **words)
+    look = read_look(abs(Fraction(radius)), **words)
     cap_of_lines = read_caps("cap", cap, cap_style)
     side = ("left" if radius > 0 else "right") if single_sided else "both"
     wishes = read_wishes(scale, origin, most_splits, sliver_width)

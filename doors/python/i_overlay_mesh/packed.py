@@ -68,10 +68,9 @@ class PackedPaths(Paths):
     def box(self) -> Optional[Box]:
         if not len(self.vertices):
             return None
-        corners = [
-            tuple(plain_number(find(self.vertices[:, column])) for column in (0, 1)) for find in (numpy.min, numpy.max)
-        ]
-        return Box(*corners)
+        x, y = self.vertices[:, 0], self.vertices[:, 1]
+        low = plain_number(x.min()), plain_number(y.min())
+        return Box(low, (plain_number(x.max()), plain_number(y.max())))
 
     def are_whole(self) -> bool:
         return bool(self.vertices.dtype.kind in "iu")
@@ -161,8 +160,8 @@ class PackedPaths(Paths):
             Path(self.where(number), points[start:end], self.are_rings)
             for number, (start, end) in enumerate(zip([0, *ends], ends))
         ]
-        counts = [] if self.polygons is None else numpy.diff(self.polygons, prepend=0).tolist()
-        return ListedPaths(paths, [(count, self.first_bounds) for count in counts])
+        sizes: Array = numpy.diff(self.polygons, prepend=0) if self.polygons is not None else numpy.zeros(0, int)
+        return ListedPaths(paths, [(count, self.first_bounds) for count in sizes.tolist()])
 
     def name_of(self, vertex: int) -> tuple[str, int]:
         """Where the path of a vertex stands, and the vertex's number in it."""
@@ -178,7 +177,7 @@ class PackedPaths(Paths):
             low.append(edge[0] + slack)
             high.append(edge[1] - slack)
         points = self.vertices[:, :2]
-        (rows,) = numpy.nonzero(((points < low) | (points > high)).any(axis=1))
+        rows: Array = numpy.nonzero(((points < low) | (points > high)).any(axis=1))[0]
         for vertex in rows.tolist():
             point = [plain_number(number) for number in points[vertex]]
             for name, coordinate, place in zip("xy", point, grid.place(point)):

@@ -38,9 +38,8 @@ def box_round(boxes: Sequence[Box]) -> Optional[Box]:
     """The box round some; none round none."""
     if not boxes:
         return None
-    lows, highs = zip(*boxes)
-    (left, low), (right, high) = (map(min, zip(*lows)), map(max, zip(*highs)))
-    return Box((left, low), (right, high))
+    low = min(box.low[0] for box in boxes), min(box.low[1] for box in boxes)
+    return Box(low, (max(box.high[0] for box in boxes), max(box.high[1] for box in boxes)))
 
 
 class Paths(ABC):

@@ -28,7 +28,7 @@ def inside(where: str, what: str) -> str:
     return f"{where}, {what}" if where else what
 
 
-def as_list(where: str, value: Any) -> list:
+def as_list(where: str, value: Any) -> list[Any]:
     """The items of a sequence or an array."""
     if hasattr(value, "tolist"):
         value = value.tolist()
@@ -37,7 +37,7 @@ def as_list(where: str, value: Any) -> list:
     return list(value)
 
 
-def mapping_of(value: Any) -> Optional[Mapping]:
+def mapping_of(value: Any) -> Optional[Mapping[str, Any]]:
     """The GeoJSON mapping that a value is or offers."""
     value = getattr(value, "__geo_interface__", value)
     return value if isinstance(value, Mapping) else None
@@ -92,7 +92,7 @@ class Reader:
 
     # Mappings
 
-    def mapping(self, where: str, geometry: Mapping) -> None:
+    def mapping(self, where: str, geometry: Mapping[str, Any]) -> None:
         """A GeoJSON object of any type. Without a geometry it has nothing."""
         kind = geometry.get("type")
         if kind == "Feature":
@@ -114,7 +114,7 @@ class Reader:
         self.mapping(where, mapping)
 
     @staticmethod
-    def member(where: str, geometry: Mapping, key: str) -> Any:
+    def member(where: str, geometry: Mapping[str, Any], key: str) -> Any:
         """What a GeoJSON object has to have."""
         if key not in geometry:
             raise DrawingError(where, f"its type is {geometry.get('type')!r}, and it has no {key}")
@@ -160,7 +160,7 @@ class Reader:
             self.bare_lines(items)
         return self.drawing
 
-    def bare_polygons(self, items: list) -> None:
+    def bare_polygons(self, items: list[Any]) -> None:
         """A ring, the rings of one polygon, or polygons, by how deep the list is."""
         depth = depth_of(items)
         if depth == 2:
@@ -173,7 +173,7 @@ class Reader:
         elif depth is not None:
             raise DrawingError("", f"lists in {depth} levels are no ring, no rings of a polygon, and no polygons")
 
-    def bare_lines(self, items: list) -> None:
+    def bare_lines(self, items: list[Any]) -> None:
         """A line, or lines."""
         depth = depth_of(items)
         if depth == 2:

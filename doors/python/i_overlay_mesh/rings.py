@@ -43,7 +43,7 @@ def box_of(ring: Ring) -> Optional[tuple[int, int, int, int]]:
     return min(xs), min(ys), max(xs), max(ys)
 
 
-def depth_of(index: int, rings: Sequence[Ring], boxes: Sequence) -> int:
+def depth_of(index: int, rings: Sequence[Ring], boxes: Sequence[Optional[tuple[int, int, int, int]]]) -> int:
     """How many other rings hold a ring."""
     own = boxes[index]
     if own is None:

@@ -48,7 +48,7 @@ class Shapes:
             if "numpy" in sys.modules:
                 points: Points = self.arrays()[0].tolist()
             else:
-                points = self.grid.points(list(zip(numbers[::2], numbers[1::2])), self._is_whole)
+                points = self.grid.points([list(place) for place in zip(numbers[::2], numbers[1::2])], self._is_whole)
             self._polygons = split(split(points, self._told.contour_ends), self._told.shape_ends)
         return self._polygons
 
@@ -146,7 +146,9 @@ class Shapes:
         return told.points, told.contour_ends, told.shape_ends, self.grid, self.nearness_on_grid, self._is_whole
 
     def __eq__(self, other: object) -> bool:
-        return self._parts() == other._parts() if isinstance(other, Shapes) else NotImplemented
+        if not isinstance(other, Shapes):
+            return NotImplemented
+        return self._parts() == other._parts()
 
     __hash__ = None  # type: ignore[assignment]
 

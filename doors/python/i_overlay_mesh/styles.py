@@ -175,12 +175,18 @@ def named(said: Any) -> tuple[str, Any]:
     return next(iter(said.items())) if isinstance(said, Mapping) else (said, None)
 
 
+def arc_of(said: Sequence[int]) -> tuple[int, int]:
+    """An arc of a request."""
+    step, precision = said
+    return step, precision
+
+
 def join_of(words: Mapping[str, Any]) -> JoinStyle:
     """The join of a style of a request."""
     kind, more = named(words.get("join", "bevel"))
     min_turn = words.get("min_turn", DEFAULT_MIN_TURN)
     if kind == "round":
-        return JoinStyle(kind, 0, min_turn, tuple(more))
+        return JoinStyle(kind, 0, min_turn, arc_of(more))
     return JoinStyle(kind, more if kind == "miter" else 0, min_turn)
 
 
@@ -188,7 +194,7 @@ def end_of(said: Any) -> End:
     """A cap of a request."""
     kind, more = named(said)
     if kind == "round":
-        return End(kind, tuple(more))
+        return End(kind, arc_of(more))
     return End(kind, points=more if kind == "custom" else ())
 
 
@@ -203,7 +209,7 @@ def style_of(request: Mapping[str, Any]) -> Style:
         closed = bool(request.get("closed", False))
         style = stroke_style(words["width"], join_of(words), ends, words.get("side", "both"), closed)
     else:
-        style = variable_style(tuple(words.get("arc", DEFAULT_ARC)))
+        style = variable_style(arc_of(words.get("arc", DEFAULT_ARC)))
     if style is None:
         raise ValueError(f"a length of the style passes 32 bits: {words}")
     return style
@@ -212,10 +218,10 @@ def style_of(request: Mapping[str, Any]) -> Style:
 # By their names
 
 
-def choose(what: str, name: Any, names: Any) -> str:
+def choose(what: str, name: Any, names: Union[Mapping[str, str], Sequence[str]]) -> str:
     """A name out of some."""
     if isinstance(name, str) and name in names:
-        return names[name] if isinstance(names, dict) else name
+        return names[name] if isinstance(names, Mapping) else name
     raise DrawingError("", f"{what} is {name!r}, and has to be one of {', '.join(names)}")
 
 
@@ -258,7 +264,7 @@ class Arcs:
         return 2 * self.radius(grid, Fraction(width) / 2)
 
 
-def read_arcs(radius: Number, step: Any, tolerance: Any, at_least: bool) -> Arcs:
+def read_arcs(radius: Union[Number, Fraction], step: Any, tolerance: Any, at_least: bool) -> Arcs:
     """The arcs round a greatest radius, by a step in degrees or a tolerance in units of the drawing."""
     if step is not None and tolerance is not None:
         raise DrawingError("", "step and tolerance both say how fine arcs are: one of them is enough")
@@ -273,10 +279,11 @@ def read_arcs(radius: Number, step: Any, tolerance: Any, at_least: bool) -> Arcs
         raise DrawingError("", f"tolerance is {tolerance}, and has to be above 0")
     bits = COARSEST_STEP
     # Where the gap may be as great as the radius, any step does.
-    if gap < abs(radius):
-        bits = step_for_gap(float(Fraction(gap) / abs(Fraction(radius))), at_least)
+    size = abs(Fraction(radius))
+    if gap < size:
+        bits = step_for_gap(float(Fraction(gap) / size), at_least)
     if bits < FINEST_STEP:
-        least = float(abs(Fraction(radius))) * (1 - math.cos(math.pi / 1024))
+        least = float(size) * (1 - math.cos(math.pi / 1024))
         raise DrawingError("", f"tolerance is {tolerance}, and arcs of 1024 steps a turn come only within {least:.3g}")
     return Arcs(bits, at_least)
 

@@ -52,7 +52,7 @@ def near_places(values: Array, axis: Axis) -> Array:
     size = max(abs(float(values.min())), abs(float(values.max()))) + abs(origin)
     doubt = numpy.abs(numpy.abs(near - nearest) - 0.5) <= ROUNDING * size * scale
     places = nearest.astype(numpy.int64)
-    (at,) = numpy.nonzero(doubt)
+    at: Array = numpy.nonzero(doubt)[0]
     places[at] = exact_places(values[at], axis)
     return places
 
@@ -134,7 +134,7 @@ def turn(places: Array, ends: Array, are_holes: Array) -> None:
     """Turns rings in place: counterclockwise, or clockwise where they are holes."""
     runs_clockwise = double_areas(places, ends)[0] < 0
     starts = starts_of(ends)
-    (rings,) = numpy.nonzero(runs_clockwise != are_holes)
+    rings: Array = numpy.nonzero(runs_clockwise != are_holes)[0]
     for ring in rings.tolist():
         part = slice(starts[ring], ends[ring])
         places[part] = places[part][::-1].copy()
