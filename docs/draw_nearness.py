@@ -4,7 +4,7 @@ the answer may be wrong.
 
     docs/draw_nearness.py --program PROGRAM > docs/nearness.svg
 
-PROGRAM is `mesh_run`. The drawn edges are dashed, the band of the told distance round each of them is orange, the
+PROGRAM is `mesh_run`. The offset curve is dashed, the band of the error bound round it is orange, the
 answer is blue, and points of the grid are dots. The distance is what `mesh_bench 0 nearness` tells of the request.
 """
 import argparse
@@ -112,7 +112,7 @@ def picture(edges, shapes):
         [
             f'<svg xmlns="http://www.w3.org/2000/svg" width="{width}" height="{height}"'
             f' viewBox="0 0 {width} {height}" font-family="sans-serif" font-size="{FONT}">',
-            "<title>An outline near its drawn edges</title>",
+            "<title>An outline, its offset curve, and the band of its error bound</title>",
             f'<defs><clipPath id="corner"><rect {box}/></clipPath></defs>',
             f'<rect width="{width}" height="{height}" fill="white"/>',
             *drawn(whole, edges, shapes),
@@ -121,7 +121,7 @@ def picture(edges, shapes):
             *magnified(near, edges, shapes),
             "</g>",
             f'<rect {box} fill="none" stroke="#c0392b"/>',
-            caption(PANEL // 2, "an outline, offset 9, and its drawn edges"),
+            caption(PANEL // 2, "an outline, offset 9, and its offset curve (dashed)"),
             caption(PANEL + PANEL // 2, f"a corner: exact outside the band of {TOLD}/64 of a unit"),
             "</svg>",
         ]
