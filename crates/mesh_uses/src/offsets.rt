@@ -2,14 +2,16 @@
 
 ghost use Rattle.std.specs.Prelude.{◌≡◌, ◌<◌, ◌^◌, List, [], ◌∷◌, false, OnOk, OnErr, IfOk};
 ghost use Rattle.mesh_num.specs.FlatContours.{flat_contours};
-ghost use Rattle.mesh_num.specs.Paths.{contours_of, shapes_of};
+ghost use Rattle.mesh_num.specs.Paths.{contours_of, paths_of, shapes_of};
 ghost use Rattle.mesh_num.specs.Plane.{Point};
+ghost use Rattle.mesh_below.specs.Meeting.{MeetInWholePoints};
 ghost use Rattle.mesh_below.specs.Options.{plain};
 ghost use Rattle.mesh_join.specs.Joins.{outline_padding};
 ghost use Rattle.mesh_join.specs.VariableStyles.{default_variable_style};
 ghost use Rattle.mesh_offset.specs.Padding.{ArePathsSafe};
-ghost use Rattle.mesh_outline.specs.Nearness.{AreCountedOutlineRegions};
-ghost use Rattle.mesh_outline.specs.Regions.{AreOutlineRegions};
+ghost use Rattle.mesh_offset.specs.Regions.{WindsOnceWhere};
+ghost use Rattle.mesh_outline.specs.Nearness.{AreCountedOutlineRegions, all_drawn};
+ghost use Rattle.mesh_outline.specs.Regions.{AreOutlineRegions, more_fill};
 ghost use Rattle.mesh_split.specs.Counting.{IsWithinLimit};
 ghost use Rattle.mesh_stroke.specs.Regions.{AreStrokeRegions};
 ghost use Rattle.mesh_stroke.specs.Styles.{stroke_padding};
@@ -24,6 +26,7 @@ use i_overlay_mesh::{
     IntVariableStrokeOffset, IntVariableStrokeStyle, NearShapes, SplitCount,
 };
 use mesh_num::laws::flat_contours_are_found;
+use mesh_outline::laws::outlines_are_exact;
 use std::alloc::Global;
 
 /// The contour moved outwards by an offset, inwards by a negative one.
@@ -40,6 +43,24 @@ pub fn grown(
     let style = IntOutlineStyle::new(offset);
     contour.validate_outline(&style)?;
     contour.outline(alloc, &style)
+}
+
+/// The contours moved outwards by an offset. Where the edges that are drawn of all of them meet in whole points alone,
+/// rounding moves nothing: the answer winds once round each point that more outlines fill than clear, and round no other.
+pub fn grown_exactly(
+    alloc: Global,
+    contours: &Vec<Vec<IntPoint<i32>>>,
+    offset: i32,
+) -> Result<IntShapes<i32>, IntOutlineError>
+    ensures { MeetInWholePoints (all_drawn (2 ^ 30) (bevelled offset) (paths_of contours.now.items))
+        → IfOk result (λ shapes. WindsOnceWhere
+        (more_fill (2 ^ 30) (bevelled offset) (paths_of contours.now.items)) (λ m q. Unit {0}) plain
+        (shapes_of shapes.items)) }
+{
+    outlines_are_exact();
+    let style = IntOutlineStyle::new(offset);
+    contours.validate_outline(&style)?;
+    contours.outline(alloc, &style)
 }
 
 /// The contour moved outwards by an offset, and how near to the drawn edges that is exact, by this many splits at most;
