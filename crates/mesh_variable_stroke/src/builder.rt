@@ -1,4 +1,4 @@
-//! The edges of one path's stroke of variable width.
+//! Draws the offset curve of one path whose width changes.
 
 ghost use Rattle.std.specs.Prelude.{◌≡◌, ◌≤◌, [], vec_capacity, IsOk, OnOk, OnErr, pos, ◌≤ℤ◌};
 ghost use Rattle.std.specs.List.{All};
@@ -22,8 +22,8 @@ use mesh_num::shape::segment::Segment;
 use std::alloc::{AllocError, Global};
 use std::marker::Model;
 
-/// Builds the stroke of a path whose width changes from vertex to vertex: the tangents of neighbouring circles, joined
-/// by arcs round the vertices. Contracts see how finely arcs are drawn.
+/// Draws the offset curve of a path whose width changes from vertex to vertex: the outer tangents of neighbouring
+/// circles, joined by arcs round the vertices. Contracts see how finely arcs are drawn.
 #[derive(Drop)]
 pub struct VariableStrokeBuilder<I: IntNumber> {
     sweeper: Sweeper<I>,
@@ -38,7 +38,7 @@ impl<I: IntNumber> Model for VariableStrokeBuilder<I> {
 }
 
 impl<I: IntNumber> VariableStrokeBuilder<I> {
-    /// A builder of strokes of this style. It takes no memory.
+    /// A builder of strokes in this style. It allocates nothing.
     pub fn new(alloc: Global, style: IntVariableStrokeStyle) -> Self
         ensures { result ≡ style.arc }
     {
@@ -47,13 +47,14 @@ impl<I: IntNumber> VariableStrokeBuilder<I> {
         }
     }
 
-    /// Adds the edges of the stroke of the open path through these vertices, each of which stays in the safe range
-    /// where it moves by the greatest radius of all. A vertex's radius is half of its width, rounded up. What the
-    /// vector holds stays, and it keeps its room. Nothing is added where no radius is above 1, as for a path without
-    /// vertices, and no memory is taken there. After a refusal the vector is cut back to its old length.
+    /// Adds the offset curve of the open path through these vertices to `segments`. The radius of a vertex is half its
+    /// width, rounded up. Every point has to stay in the safe range when it moves by the greatest radius of all.
     ///
-    /// A step of the path where one circle holds the other, or the section before holds the next circle, starts a new
-    /// chain. Each chain is drawn along the outer tangents of its neighbouring circles, and ends round or straight.
+    /// What the vector holds stays, and its capacity never shrinks. Where no radius is above 1, as for a path without
+    /// vertices, nothing is added and nothing is allocated. After an error the vector has its old length.
+    ///
+    /// Where one circle holds the next, or where the section before already covers it, a new chain of sections starts.
+    /// Each chain is drawn along the outer tangents of its neighbouring circles, and ends round or straight.
     pub fn build(
         &mut self,
         path: &[IntStrokeVertex<I>],

@@ -1,4 +1,4 @@
-//! Stroke calls on sources of paths whose width changes from vertex to vertex.
+//! Strokes whose width changes from vertex to vertex.
 
 ghost use Rattle.std.specs.Prelude.{◌≡◌, ◌↔◌, IsOk, IfOk, OnOk, OnErr, List, []};
 ghost use Rattle.mesh_num.specs.FlatContours.{HoldsContours};
@@ -31,12 +31,13 @@ use mesh_num::shape::buffer::{FlatContoursBuffer, IntShapes};
 use mesh_offset::error::{IntNearnessError, IntOutlineError, IntVariableStrokeError};
 use std::alloc::Global;
 
-/// Stroke calls on each source of paths whose width changes from vertex to vertex. A vertex's radius is half of its
-/// width, rounded up; a width below 0 counts as 0.
+/// Strokes of the paths in a source, each vertex with its own width. The radius of a vertex is half its width, rounded
+/// up; a width below 0 counts as 0.
 pub trait IntVariableStrokeOffset<I: OverlayInt>: IntVariableStrokeSource<I> {
-    /// Whether the source may be stroked: `Ok` exactly where there is no vertex, or the bounds of all points, moved
-    /// outwards by the greatest radius of all vertices on each side, are in the safe range, for every value of the
-    /// type. The only error is `CoordinateOutOfRange`. It takes no memory.
+    /// Tests whether the paths can be stroked without leaving the safe range. `Ok` is returned exactly where there is
+    /// no vertex, or where the bounds of all points, grown on each side by the greatest radius of all vertices, are in
+    /// the safe range. This holds for every value of the type. The only error is `CoordinateOutOfRange`. It allocates
+    /// nothing.
     fn validate_variable_stroke(&self) -> Result<(), IntVariableStrokeError>
         ensures safe { IsOk result ↔ ArePathsStrokable I.unit (Self.paths self.now) }
         ensures bounds { (bounds : Edge) → IsBounds bounds (all_vertex_points (Self.paths self.now))
@@ -44,7 +45,7 @@ pub trait IntVariableStrokeOffset<I: OverlayInt>: IntVariableStrokeSource<I> {
         ensures no_point { all_vertex_points (Self.paths self.now) ≡ [] → IsOk result }
         ensures error { OnErr result (result ≡ Err IntOutlineError.CoordinateOutOfRange) };
 
-    /// The stroke of the source's paths, with the default options. See `variable_stroke_custom`.
+    /// The stroke of the paths, with default options. See `variable_stroke_custom`.
     final fn variable_stroke(
         &self,
         alloc: Global,
@@ -65,7 +66,7 @@ pub trait IntVariableStrokeOffset<I: OverlayInt>: IntVariableStrokeSource<I> {
         self.variable_stroke_custom(alloc, style, IntOverlayOptions::new())
     }
 
-    /// `variable_stroke`, into a buffer. See `variable_stroke_custom_into`.
+    /// The same as `variable_stroke`, into a buffer. See `variable_stroke_custom_into`.
     final fn variable_stroke_into(
         &self,
         alloc: Global,
@@ -90,10 +91,12 @@ pub trait IntVariableStrokeOffset<I: OverlayInt>: IntVariableStrokeSource<I> {
         self.variable_stroke_custom_into(alloc, style, IntOverlayOptions::new(), buffer)
     }
 
-    /// The stroke of the source's paths as shapes; each path is open. Each vertex has to stay in the safe range where
-    /// its point moves by the greatest radius of all vertices, which `validate_variable_stroke` tests. The edges of all
-    /// paths' strokes are resolved together with these options. The only error is `OutOfMemory`, where a growth was
-    /// refused.
+    /// Gives each path the width of its vertices, with round ends and corners, and returns clean polygons: each an
+    /// outer contour followed by its holes. Every path is open. The strokes of all paths are combined, with these
+    /// options.
+    ///
+    /// Every point has to stay in the safe range when it moves by the greatest radius of all vertices;
+    /// `validate_variable_stroke` tests this. The only error is `OutOfMemory`, which means that memory was refused.
     final fn variable_stroke_custom(
         &self,
         alloc: Global,
@@ -116,8 +119,8 @@ pub trait IntVariableStrokeOffset<I: OverlayInt>: IntVariableStrokeSource<I> {
         Ok(drawn.overlay(OverlayRule::Subject, FillRule::Positive)?)
     }
 
-    /// `variable_stroke_custom`, into a buffer: the contours of its shapes in their order, end to end, in place of the
-    /// buffer's own, where there are none too. After an error the buffer is unchanged.
+    /// The same as `variable_stroke_custom`, into a buffer: its contours are replaced by those of the result, in order
+    /// and end to end, also where the result has none. After an error the buffer is unchanged.
     final fn variable_stroke_custom_into(
         &self,
         alloc: Global,
@@ -145,10 +148,11 @@ pub trait IntVariableStrokeOffset<I: OverlayInt>: IntVariableStrokeSource<I> {
         Ok(())
     }
 
-    /// `variable_stroke_custom`, and how near to the drawn edges the answer is exact: at each point farther than the
-    /// nearness from each of them it is what the pieces fill. The splits are counted on, those of attempts that were
-    /// given up too. `TooManySplits` says that the count passed its limit, `OutOfMemory` that a growth was refused;
-    /// `CoordinateOutOfRange` is never answered.
+    /// The same as `variable_stroke_custom`, with a proved error bound, the nearness, in 64ths of a grid unit: at each
+    /// point farther than it from all offset curves, the polygons hold exactly what the pieces of the strokes cover.
+    ///
+    /// Every split of an edge is added to `count`, those of attempts that were given up too. `TooManySplits` means that
+    /// the count passed its limit, `OutOfMemory` that memory was refused. `CoordinateOutOfRange` is never returned.
     final fn variable_stroke_with_nearness(
         &self,
         alloc: Global,

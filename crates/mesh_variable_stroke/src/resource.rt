@@ -9,7 +9,7 @@ use mesh_num::num::IntNumber;
 use mesh_num::shape::path_slice::PathSlice;
 
 /// A source of paths of vertices, each with a point and a width in grid units. Contracts see the list of its paths,
-/// each the list of its vertices. No call takes memory.
+/// each the list of its vertices. No method allocates.
 pub trait IntVariableStrokeSource<I: IntNumber> {
     ghost paths: { Self → List (List Vertex) };
 
