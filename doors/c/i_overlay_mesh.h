@@ -5,9 +5,18 @@
    signal handler, nor in the forked child of a process with threads. A call needs 128 KiB of stack.
 
    A list is a pointer and a number of items. The pointer is valid, aligned and not NULL, of an empty list too, and what
-   a call writes overlaps with nothing else that it is given. */
+   a call writes overlaps with nothing else that it is given.
+
+   Versions are semantic. Within one major version a program that was linked with an earlier shared object runs with a
+   later one, whose name on the system ends in the major version: no call goes, no struct and no number of an
+   enumeration changes, and an answer changes only where it broke its contract. A minor version may add calls. */
 #ifndef I_OVERLAY_MESH_H
 #define I_OVERLAY_MESH_H
+
+#define MESH_VERSION_MAJOR 1
+#define MESH_VERSION_MINOR 1
+#define MESH_VERSION_PATCH 0
+#define MESH_VERSION "1.1.0"
 
 #include <stddef.h>
 #include <stdint.h>

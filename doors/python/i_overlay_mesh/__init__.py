@@ -16,7 +16,7 @@ from .many import buffer_all
 from .offsets import buffer, outline, stroke, variable_stroke
 from .shapes import Shapes
 
-__version__ = "1.0"
+__version__ = "1.1.0"
 
 __all__ = [
     "DrawingError",
