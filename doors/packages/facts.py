@@ -120,19 +120,19 @@ def gate_line(gate, development):
     return last[0]
 
 
-def programs(is_proved):
+def programs(is_proved, are_needed):
     """The programs that are there."""
     folders = {name: ROOT / f"crates/{name}/out/{name}" for name in PROGRAMS}
     if not is_proved:
         folders = {name: OUT / "bin" / name for name in PROGRAMS}
     missing = [name for name, file in folders.items() if not file.exists()]
-    if missing and is_proved:
+    if missing and is_proved and are_needed:
         raise SystemExit(f"{' and '.join(missing)} are not built: `rt ci` does that, or `rt run` in their crates")
     return tuple(file for file in folders.values() if file.exists())
 
 
-def gather(gate, development):
-    """All facts, or the reason why nothing may be packed."""
+def gather(gate, development, kinds):
+    """All facts for some kinds of packages, or the reason why nothing may be packed."""
     if not OBJECT.exists():
         raise SystemExit("doors/out has no library: run doors/build first")
     is_proved = MARK not in symbols(OBJECT)
@@ -148,7 +148,7 @@ def gather(gate, development):
         object=f"{hashlib.sha256(OBJECT.read_bytes()).hexdigest()} (SHA-256)", proof=PROVED if is_proved else UNPROVED,
     )
     time = int(told("git", "log", "-1", "--format=%ct", cwd=ROOT))
-    return Facts(number, commit, time, manifest, needed_library(OBJECT), programs(is_proved), is_proved)
+    return Facts(number, commit, time, manifest, needed_library(OBJECT), programs(is_proved, kinds != ["wheel"]), is_proved)
 
 
 def write_checksums(folder):
