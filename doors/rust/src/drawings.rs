@@ -59,6 +59,17 @@ fn told_range(call: impl Fn(&mut i64) -> u8) -> Result<Range, Error> {
 // In each call below all lists are valid, those that are written overlap with nothing, and the library keeps none.
 
 /// The shapes of the outline of contours.
+///
+/// ```
+/// use i_overlay_mesh::{angle, outline, Join, Options, OutlineStyle};
+///
+/// let square = [[0, 0], [100, 0], [100, 100], [0, 100]];
+/// let style = OutlineStyle { join: Join::Miter(angle(20.0)), ..OutlineStyle::new(10) };
+/// let shapes = outline(&[square], &style, &Options::default())?;
+/// let contour = shapes.iter().next().unwrap().contours().next().unwrap();
+/// assert_eq!(contour, [[-10, -10], [110, -10], [110, 110], [-10, 110]]);
+/// # Ok::<(), i_overlay_mesh::Error>(())
+/// ```
 pub fn outline<I: Coordinate, P: AsRef<[[I; 2]]>>(
     contours: &[P],
     style: &OutlineStyle,
@@ -76,6 +87,15 @@ pub fn outline<I: Coordinate, P: AsRef<[[I; 2]]>>(
 }
 
 /// The shapes of the stroke of paths.
+///
+/// ```
+/// use i_overlay_mesh::{stroke, Cap, Options, StrokeStyle};
+///
+/// let style = StrokeStyle { end_cap: Cap::Square, ..StrokeStyle::new(10) };
+/// let shapes = stroke(&[[[0, 0], [100, 0]]], &style, &Options::default())?;
+/// assert_eq!(shapes.points, [[0, -5], [105, -5], [105, 5], [0, 5]]);
+/// # Ok::<(), i_overlay_mesh::Error>(())
+/// ```
 pub fn stroke<I: Coordinate, P: AsRef<[[I; 2]]>>(
     paths: &[P],
     style: &StrokeStyle<I>,
@@ -95,6 +115,17 @@ pub fn stroke<I: Coordinate, P: AsRef<[[I; 2]]>>(
 }
 
 /// The shapes of the stroke of paths of vertices `[x, y, width]`, with such arcs.
+///
+/// ```
+/// use i_overlay_mesh::{variable_stroke, Arc, Options};
+///
+/// // A drop: narrow at its start, wide at its end.
+/// let drop = [[[0_i32, 0, 10], [200, 0, 80]]];
+/// let shapes = variable_stroke(&drop, &Arc::default(), &Options::default())?;
+/// assert_eq!(shapes.iter().count(), 1);
+/// assert!(shapes.points.iter().all(|point| point[1].abs() <= 40));
+/// # Ok::<(), i_overlay_mesh::Error>(())
+/// ```
 pub fn variable_stroke<I: Coordinate, P: AsRef<[[I; 3]]>>(
     paths: &[P],
     arc: &Arc,
@@ -113,6 +144,17 @@ pub fn variable_stroke<I: Coordinate, P: AsRef<[[I; 3]]>>(
 
 /// The shapes of the outline of contours, and how near they are exact. More splits than the limit, if it is not 0, are an
 /// error.
+///
+/// ```
+/// use i_overlay_mesh::{outline_near, Options, OutlineStyle};
+///
+/// let square = [[0, 0], [100, 0], [100, 100], [0, 100]];
+/// let near = outline_near(&[square], &OutlineStyle::new(10), &Options::default(), 0)?;
+/// // No edge crosses another one, so rounding moved nothing.
+/// assert_eq!(near.nearness, 0);
+/// assert_eq!(near.shapes.iter().count(), 1);
+/// # Ok::<(), i_overlay_mesh::Error>(())
+/// ```
 pub fn outline_near<I: Coordinate, P: AsRef<[[I; 2]]>>(
     contours: &[P],
     style: &OutlineStyle,
@@ -133,6 +175,18 @@ pub fn outline_near<I: Coordinate, P: AsRef<[[I; 2]]>>(
 }
 
 /// The shapes of the stroke of paths, and how near they are exact, within a limit on splits, if it is not 0.
+///
+/// ```
+/// use i_overlay_mesh::{stroke_near, Error, Options, StrokeStyle};
+///
+/// let cross = [[[0, 0], [1000, 7]], [[500, -300], [503, 400]]];
+/// let near = stroke_near(&cross, &StrokeStyle::new(20), &Options::default(), 0)?;
+/// assert_eq!(near.shapes.iter().count(), 1);
+/// // With a limit that is too low there is no answer.
+/// let told = stroke_near(&cross, &StrokeStyle::new(20), &Options::default(), 1);
+/// assert_eq!(told, Err(Error::TooManySplits));
+/// # Ok::<(), i_overlay_mesh::Error>(())
+/// ```
 pub fn stroke_near<I: Coordinate, P: AsRef<[[I; 2]]>>(
     paths: &[P],
     style: &StrokeStyle<I>,
@@ -156,6 +210,15 @@ pub fn stroke_near<I: Coordinate, P: AsRef<[[I; 2]]>>(
 
 /// The shapes of the stroke of paths of vertices `[x, y, width]`, and how near they are exact, within a limit on splits,
 /// if it is not 0.
+///
+/// ```
+/// use i_overlay_mesh::{variable_stroke, variable_stroke_near, Arc, Options};
+///
+/// let drop = [[[0, 0, 10], [200, 0, 80]]];
+/// let near = variable_stroke_near(&drop, &Arc::default(), &Options::default(), 100_000)?;
+/// assert_eq!(near.shapes, variable_stroke(&drop, &Arc::default(), &Options::default())?);
+/// # Ok::<(), i_overlay_mesh::Error>(())
+/// ```
 pub fn variable_stroke_near<I: Coordinate, P: AsRef<[[I; 3]]>>(
     paths: &[P],
     arc: &Arc,
@@ -178,6 +241,17 @@ pub fn variable_stroke_near<I: Coordinate, P: AsRef<[[I; 3]]>>(
 /// Shapes without their slivers: contours whose vertices all lie at most `width` grid units from the line from the first
 /// one to the one farthest from it. Holes that are slivers go, and shapes all of whose contours are; all else stays as it
 /// is. `Malformed`: the lists of the shapes have ends that are none.
+///
+/// ```
+/// use i_overlay_mesh::{outline, without_slivers, Options, OutlineStyle};
+///
+/// // A ring a hundred units long and one unit thin, moved by nothing.
+/// let thin = [[0, 0], [100, 0], [100, 1]];
+/// let shapes = outline(&[thin], &OutlineStyle::new(0), &Options::default())?;
+/// assert_eq!(shapes.iter().count(), 1);
+/// assert_eq!(without_slivers(&shapes, 1)?.iter().count(), 0);
+/// # Ok::<(), i_overlay_mesh::Error>(())
+/// ```
 pub fn without_slivers<I: Coordinate>(shapes: &Shapes<I>, width: u32) -> Result<Shapes<I>, Error> {
     let (points, contours) = (&shapes.points, &shapes.contour_ends);
     let ends = &shapes.shape_ends;
@@ -192,6 +266,16 @@ pub fn without_slivers<I: Coordinate>(shapes: &Shapes<I>, width: u32) -> Result<
 }
 
 /// The edges of the outline of each contour.
+///
+/// ```
+/// use i_overlay_mesh::{outline_edges, OutlineStyle};
+///
+/// let square = [[0, 0], [100, 0], [100, 100], [0, 100]];
+/// let edges = outline_edges(&[square], &OutlineStyle::new(10))?;
+/// // Four sides, and a bevel at each corner.
+/// assert_eq!(edges.iter().next().unwrap().len(), 8);
+/// # Ok::<(), i_overlay_mesh::Error>(())
+/// ```
 pub fn outline_edges<I: Coordinate, P: AsRef<[[I; 2]]>>(
     contours: &[P],
     style: &OutlineStyle,
@@ -207,6 +291,14 @@ pub fn outline_edges<I: Coordinate, P: AsRef<[[I; 2]]>>(
 }
 
 /// The edges of the stroke of each path.
+///
+/// ```
+/// use i_overlay_mesh::{stroke_edges, StrokeStyle};
+///
+/// let edges = stroke_edges(&[[[0, 0], [100, 0]]], &StrokeStyle::new(10))?;
+/// assert_eq!(edges.iter().next().unwrap().len(), 4);
+/// # Ok::<(), i_overlay_mesh::Error>(())
+/// ```
 pub fn stroke_edges<I: Coordinate, P: AsRef<[[I; 2]]>>(
     paths: &[P],
     style: &StrokeStyle<I>,
@@ -224,6 +316,14 @@ pub fn stroke_edges<I: Coordinate, P: AsRef<[[I; 2]]>>(
 }
 
 /// The edges of the stroke of each path of vertices `[x, y, width]`, with such arcs.
+///
+/// ```
+/// use i_overlay_mesh::{variable_stroke_edges, Arc};
+///
+/// let edges = variable_stroke_edges(&[[[0, 0, 10], [200, 0, 80]]], &Arc::default())?;
+/// assert_eq!(edges.path_ends, [edges.edges.len()]);
+/// # Ok::<(), i_overlay_mesh::Error>(())
+/// ```
 pub fn variable_stroke_edges<I: Coordinate, P: AsRef<[[I; 3]]>>(paths: &[P], arc: &Arc) -> Result<Edges<I>, Error> {
     let flat = Flat::of(paths)?;
     told_edges(flat.edge_room(), |to, counts| unsafe {
@@ -235,6 +335,15 @@ pub fn variable_stroke_edges<I: Coordinate, P: AsRef<[[I; 3]]>>(paths: &[P], arc
 }
 
 /// Whether the outline of contours stays in range.
+///
+/// ```
+/// use i_overlay_mesh::{validate_outline, OutlineStyle};
+///
+/// let far = [[2_000_000_000, 0], [2_000_000_100, 0], [2_000_000_000, 100]];
+/// let range = validate_outline(&[far], &OutlineStyle::new(10))?;
+/// assert_eq!((range.padding, range.is_safe), (10, false));
+/// # Ok::<(), i_overlay_mesh::Error>(())
+/// ```
 pub fn validate_outline<I: Coordinate, P: AsRef<[[I; 2]]>>(
     contours: &[P],
     style: &OutlineStyle,
@@ -249,6 +358,14 @@ pub fn validate_outline<I: Coordinate, P: AsRef<[[I; 2]]>>(
 }
 
 /// Whether the stroke of paths stays in range.
+///
+/// ```
+/// use i_overlay_mesh::{validate_stroke, StrokeStyle};
+///
+/// let range = validate_stroke(&[[[0, 0], [100, 0]]], &StrokeStyle::new(10))?;
+/// assert!(range.is_safe && range.padding >= 5);
+/// # Ok::<(), i_overlay_mesh::Error>(())
+/// ```
 pub fn validate_stroke<I: Coordinate, P: AsRef<[[I; 2]]>>(
     paths: &[P],
     style: &StrokeStyle<I>,
@@ -265,6 +382,14 @@ pub fn validate_stroke<I: Coordinate, P: AsRef<[[I; 2]]>>(
 }
 
 /// Whether the stroke of paths of vertices `[x, y, width]` stays in range.
+///
+/// ```
+/// use i_overlay_mesh::{validate_variable_stroke, Arc};
+///
+/// let range = validate_variable_stroke(&[[[0, 0, 10], [200, 0, 80]]], &Arc::default())?;
+/// assert_eq!((range.padding, range.is_safe), (40, true));
+/// # Ok::<(), i_overlay_mesh::Error>(())
+/// ```
 pub fn validate_variable_stroke<I: Coordinate, P: AsRef<[[I; 3]]>>(paths: &[P], arc: &Arc) -> Result<Range, Error> {
     let flat = Flat::of(paths)?;
     told_range(|padding| unsafe {

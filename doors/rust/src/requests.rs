@@ -20,6 +20,15 @@ pub struct Answer {
 ///
 /// `OutOfMemory` is an error where there was no room for the line; where memory was refused inside the library, the line
 /// says so, and the status does.
+///
+/// ```
+/// use i_overlay_mesh::{answer};
+///
+/// let request = br#"{"op":"outline","int":"i32","out":"shapes","paths":[],"style":{"outer":1,"inner":1}}"#;
+/// let told = answer(request)?;
+/// assert_eq!((told.line.as_slice(), told.status), (b"{\"shapes\":[]}\n".as_slice(), Ok(())));
+/// # Ok::<(), i_overlay_mesh::Error>(())
+/// ```
 pub fn answer(request: &[u8]) -> Result<Answer, Error> {
     let size = LEAST_ROOM.max(request.len().saturating_mul(FACTOR));
     let (outcome, line) = told(size, |room, needed| unsafe {
@@ -30,6 +39,13 @@ pub fn answer(request: &[u8]) -> Result<Answer, Error> {
 }
 
 /// Why bytes hold no request, as a text; nothing where they hold one.
+///
+/// ```
+/// use i_overlay_mesh::{why};
+///
+/// assert!(why(b"{")?.unwrap().contains("line 1"));
+/// # Ok::<(), i_overlay_mesh::Error>(())
+/// ```
 pub fn why(request: &[u8]) -> Result<Option<String>, Error> {
     let (outcome, text) = told(LEAST_ROOM, |room, needed| unsafe {
         // All lists are valid and overlap with nothing, and the call keeps none.

@@ -6,6 +6,10 @@ use crate::calls::{RawCap, RawJoin, RawOptions, RawOutlineStyle, RawStrokeStyle}
 pub const MIN_TURN: u32 = 59_652_323;
 
 /// An angle from 0 to below 360 degrees in bits, cut.
+///
+/// ```
+/// assert_eq!(i_overlay_mesh::angle(90.0), 1 << 30);
+/// ```
 pub fn angle(degrees: f64) -> u32 {
     (degrees / 360.0 * 4_294_967_296.0) as u32
 }
