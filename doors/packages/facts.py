@@ -34,7 +34,7 @@ object       {object}
 PROVED = """\
 Proved, by contracts of the crates, which a checker has proved: the code of the calls for C (crates/mesh_c and all below
 it), that is of the shared object and of the archive, and of the programs mesh_run and mesh_lines. What the contracts say
-is in README.md, PROMISES.md and, of the calls for C, in DOORS.md.
+is in README.md and docs/PROMISES.md of the sources.
 
 Not proved, but tested: the header for C, the crate for Rust, the package for Python, the packing itself, and what these
 documents call tested.

@@ -65,8 +65,8 @@ def lay_out_built(folder, known):
     package = copy_package(folder / "python", known)
     shutil.copy(OBJECT, package / OBJECT.name)
     (folder / "doc").mkdir()
-    for name in ("PROMISES.md", "DOORS.md", "SPECIFICATION.md"):
-        shutil.copy(ROOT / "docs" / name, folder / "doc")
+    for page in (ROOT / "docs").glob("*.md"):
+        shutil.copy(page, folder / "doc")
     shutil.copy(DOORS / "c/Makefile", folder)
     shutil.copy(ROOT / "LICENSE-MIT", folder)
     (folder / "README.md").write_text(README.format(version=known.version))

@@ -2,7 +2,7 @@
 //! changes from vertex to vertex.
 //!
 //! This is a safe wrapper over a library that is written in Rattle, Rust with contracts, and proved. Its header for C,
-//! `doors/c/i_overlay_mesh.h`, is what it stands on, and `docs/DOORS.md` says what is proved. `doors/build` makes the
+//! `doors/c/i_overlay_mesh.h`, is what it stands on, and `docs/rust.md` says what is proved. `doors/build` makes the
 //! archive that it links.
 //!
 //! ```
