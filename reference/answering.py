@@ -31,9 +31,9 @@ def refusal(request):
         for j, point in enumerate(path):
             if not is_safe(width, point[:2], padding):
                 return f"paths[{i}][{j}]: with the padding {padding} it leaves the range from {-limit} to {limit}"
-    for i, path in enumerate(request.paths):
-        if request.op == "outline" and not -2 * width.least ** 2 <= double_area(path) < 2 * width.least ** 2:
-            return f"paths[{i}]: its area is too large"
+    areas = [double_area(path) for path in request.paths if request.op == "outline"]
+    large = [i for i, area in enumerate(areas) if not -2 * width.least ** 2 <= area < 2 * width.least ** 2]
+    return f"paths[{large[0]}]: its area is too large" if large else ""
 
 def shapes_of(request):
     """One of the answers that are allowed. An outline resolves each contour alone, by the default options, and then

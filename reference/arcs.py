@@ -1,7 +1,6 @@
 """Arcs: a direction is turned by equal steps, in one of two senses, until another direction is passed.
 
-A sense is 1 for counterclockwise and -1 for clockwise. Options are a greatest step in bits, and a precision.
-"""
+A sense is 1 for counterclockwise and -1 for clockwise. Options are a greatest step in bits, and a precision."""
 from plane import cross, cut, dot, sine_and_cosine
 
 def arc(width, options, start, end, sense):
@@ -18,8 +17,8 @@ def arc(width, options, start, end, sense):
         return ahead >= 0 and dot(v, w) > 0 and ahead * greatest_cosine <= dot(v, w) * greatest_sine
     directions, last = [], start
     while not is_within(start, end) and len(directions) < 1536:
-        x, y = last
-        onward = cut(cosine * x - sense * sine * y, 1 << 30), cut(sense * sine * x + cosine * y, 1 << 30)
+        onward = (cut(cosine * last[0] - sense * sine * last[1], 1 << 30),
+                  cut(sense * sine * last[0] + cosine * last[1], 1 << 30))
         is_good = is_within(last, onward) and sense * cross(last, onward) > 0
         is_passed = sense * cross(last, end) >= 0 and dot(last, end) >= 0 and sense * cross(onward, end) <= 0
         if is_passed or not is_good:

@@ -7,7 +7,6 @@ PROGRAM reads a request from standard input, as `mesh_run` does. With --lines it
 `mesh_lines` does, and is asked for nearness and reasons, with a limit on splits if one is given.
 """
 import argparse
-import collections
 import json
 import subprocess
 import sys
@@ -60,19 +59,19 @@ def main():
     for name, default in (("--requests", 1000), ("--seed", 1), ("--most-splits", 0)):
         parser.add_argument(name, type=int, default=default)
     given = parser.parse_args()
-    begun, held, faults = time.monotonic(), collections.Counter(), 0
+    begun, held, faults = time.monotonic(), {}, 0
     texts = [request(given.seed, number) for number in range(given.requests)]
     limit = ["--most-splits", str(given.most_splits)] if given.most_splits else []
     words = [*given.program, "--nearness", "--why", *limit]
     found = asked_lines(words, texts) if given.lines else asked(given.program, texts)
     for number, (text, answered) in enumerate(zip(texts, found)):
         wrong, against = fault(text, answered, given.most_splits)
-        held[against] += 1
+        held[against] = held.get(against, 0) + 1
         if wrong:
             faults += 1
             print(f"{number}: {wrong}\n  {text}\n  {answered}")
     count, seconds = sum(held.values()), round(time.monotonic() - begun)
-    print(f"{count} requests of seed {given.seed}, {faults} differ, {seconds} seconds, held against {dict(held)}")
+    print(f"{count} requests of seed {given.seed}, {faults} differ, {seconds} seconds, held against {held}")
     sys.exit(faults > 0 or count < given.requests)
 
 if __name__ == "__main__":

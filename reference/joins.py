@@ -2,8 +2,7 @@
 
 A join is `("bevel",)`, `("miter", bits)` or `("round", bits, precision)`. A corner has its vertex, the ends of both
 sides, the directions of both sections, how far the sides were moved, and a sense: 1 where the join runs
-counterclockwise round the vertex, else -1.
-"""
+counterclockwise round the vertex, else -1."""
 from collections import namedtuple
 
 from arcs import arc

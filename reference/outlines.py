@@ -3,7 +3,7 @@ from joins import Corner, join_points
 from plane import chain, cross, direction, dot, double_area, fan, loop, minus, plus, times
 
 def cleaned(contour):
-    """A contour without repeats, and then without the points that it runs straight through. Spikes stay."""
+    """A contour without repeats, then without points that it runs straight through. Spikes stay. It begins anywhere."""
     points = [p for i, p in enumerate(contour) if p != contour[i - 1]]
     sides = [(minus(p, points[i - 1]), minus(p, points[i + 1 - len(points)])) for i, p in enumerate(points)]
     return [p for p, (a, b) in zip(points, sides) if cross(a, b) != 0 or dot(a, b) > 0]

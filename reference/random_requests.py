@@ -7,6 +7,13 @@ ODD = [None, True, -1, 3, 40000, 1 << 31, 1 << 70, 0.5, "x", [], [1], [1, -2], [
        [40000, 1 << 31], [[1]], [[[1, "2"]]], {}, {"miter": -1}, {"round": [1]}, {"custom": [[1]]}, {"custom": 3},
        {"miter": 1, "x": 2}, {"round": 1, "x": 2}]  # values that fit few keys
 
+SELDOM = [json.dumps({"op": "outline", "int": "i16", "out": out, "paths": paths, "options": {"min_area": 20},
+                      "style": {"outer": n, "inner": -n, "join": join, "min_turn": 0}}) for out, paths, n, join in (
+    ("edges", [[[0, 0], [-5, 3], [-1, 0]]], 1, {"miter": 70453008}),
+    ("edges", [[[9, 7], [2, -5], [-3, -11]]], 3, {"round": [0, 32]}),
+    ("shapes", [[[0, 0], [4, 0], [4, 4], [0, 4]], [[4, 0], [8, 0], [8, 4], [4, 4]]], 0, "bevel"))]
+"""Seldom drawn: a peak past the padding, an arc's point that falls behind, small contours of a large shape."""
+
 class Inputs(Random):
     """The parts of a request, drawn at random."""
 
@@ -35,10 +42,14 @@ class Inputs(Random):
             points.append(onward if max(map(abs, onward)) <= 4 * self.reach else last)
         return points
 
-    def rectangle(self, size):
-        """A rectangle of at most a size to each side of its center, one way round or the other."""
-        (x, y), w, h = self.point(self.reach), self.randint(1, size), self.randint(1, size)
-        return [[x - w, y - h], [x + w, y - h], [x + w, y + h], [x - w, y + h]][::self.choice([1, -1])]
+    def rectangles(self):
+        """Rectangles, each round the one before, farther than the offset or not, one way round or the other."""
+        size, found = 0, []
+        for turn in self.choice([[1, -1, 1, -1], [-1, 1, -1, 1], [1, 1, -1, -1]])[:self.randint(1, 4)]:
+            size += self.randint(self.offset, 3 * self.offset) + self.randint(1, self.reach)
+            (x, y), n = self.point(1), size
+            found.append([[x - n, y - n], [x + n, y - n], [x + n, y + n], [x - n, y + n]][::turn])
+        return found
 
     def arc(self, radius):
         """The options of an arc, with fine steps at times where the radius is small."""
@@ -65,19 +76,18 @@ class Inputs(Random):
         """A request that is answered or refused."""
         op = self.choice(["outline", "stroke", "variable_stroke"])
         paths = [self.path(self.choice([2, 4, 6, 9])) for _ in range(self.choice([0, 1, 1, 1, 1, 2, 3]))]
-        if not self.randrange(5):
-            paths = [self.rectangle(self.reach // i) for i in range(1, self.randint(2, 5))]
+        paths = paths if self.randrange(4) else self.rectangles()
         if op == "variable_stroke":
             greatest = 2 * self.choice([self.offset, self.reach])
             widths = [-1, 0, 2, 3, greatest // 8, greatest // 4, greatest // 3, greatest - 1, greatest]
             paths = [[[*point, self.choice(widths)] for point in path] for path in paths]
         words = {"op": op, "int": self.int, "out": self.choice(["edges", "shapes"]), "paths": paths}
         words["style"] = self.style(op)
-        if op == "stroke" and self.randrange(2):
+        if op == "stroke" and self.randrange(4):
             words["closed"] = self.choice([True, False])
         if self.randrange(2):
             flags = {key: self.choice([True, False]) for key in ("clockwise", "collinear")}
-            area = self.choice([0, 0, self.randint(0, 4 * self.reach ** 2) % (1 << 16)])
+            area = self.choice([0, self.randint(0, 4 * self.reach ** 2) % (1 << 16)])
             words["options"] = self.some({"min_area": area, **flags})
         if not self.randrange(12):
             self.choice([words, words["style"]])[self.choice(["arc", "closed", "widht", "join"])] = "bevel"
@@ -105,4 +115,5 @@ def request(seed, number):
     """The text of the request of this number."""
     inputs = Inputs(f"{seed} {number}")
     words = inputs.request()
-    return json.dumps(words) if inputs.randrange(8) else inputs.spoiled(words)
+    text = json.dumps(words) if inputs.randrange(8) else inputs.spoiled(words)
+    return SELDOM[number] if number < len(SELDOM) else text

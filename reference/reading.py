@@ -107,8 +107,7 @@ class Reader:
         style["min_turn"] = self.bits(value.get("min_turn", 59652323), "style.min_turn: ")
         if op == "stroke":
             for key in ["start", "end"]:
-                given = value.get(key, "butt")
-                style[key] = self.kind(given, f"style.{key}", ["butt", "square"], ["round", "custom"])
+                style[key] = self.kind(value.get(key, "butt"), f"style.{key}", ["butt", "square"], ["round", "custom"])
             style["side"] = self.one_of(value.get("side", "both"), "style.side", "both", "left", "right")
         return style
 

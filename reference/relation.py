@@ -11,12 +11,10 @@ from overlay import arranged, boundary_of, crossroads, is_straight, side_point, 
 from plane import cross, double_area, is_safe, loop, minus, winding
 from splitting import all_results, bendable, counted, is_whole, legal_splits
 
-MOST_PAIRINGS, MOST_FIRST = 64, 8
-
 def pairings(boundary):
-    """All ways in which the edges of a boundary may go on where several leave a point; none where they are too many."""
+    """All ways in which the edges of a boundary may go on where several leave a point; none where they are over 64."""
     roads = crossroads(boundary).values()
-    if prod(factorial(len(outgoing)) for _, outgoing in roads) > MOST_PAIRINGS:
+    if prod(factorial(len(outgoing)) for _, outgoing in roads) > 64:
         return []
     orders = [[list(zip(incoming, order)) for order in permutations(outgoing)] for incoming, outgoing in roads]
     return [dict(pair for pairs in chosen for pair in pairs) for chosen in product(*orders)]
@@ -39,18 +37,21 @@ class Relation:
 
     def first_results(self):
         """What resolving each contour of an outline alone may give: lists of edges, each with its nearness; none where
-        there are too many. For strokes it is what is drawn."""
+        there are more than 8. For strokes it is what is drawn."""
         if not self.fills:
             return [(self.edges, 0)]
         found = {((), 0)}
         for edges, fill in zip(self.lists, self.fills):
             own = set()
             for counts, nearness in all_results(edges):
-                for onward in pairings(boundary_of(counts, fill)):
+                ways = pairings(boundary_of(counts, fill))
+                if not ways:
+                    return []
+                for onward in ways:
                     contours = [straightened(points)[::fill] for points in traced(onward)]
                     own.add((tuple(sorted(edge for points in contours for edge in loop(points))), nearness))
             found = {(a + b, max(k, n)) for (a, k), (b, n) in product(found, own)}
-            if len(found) > MOST_FIRST:
+            if len(found) > 8:
                 return []
         return sorted(found)
 

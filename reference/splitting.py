@@ -8,8 +8,6 @@ from functools import lru_cache
 
 from plane import cross, minus, rounded
 
-MOST_STATES = 150
-
 def signed(edge):
     """An edge with its smaller end first, and 1, or -1 where it runs the other way, as rounding may turn a piece."""
     return (edge, 1) if edge[0] < edge[1] else (edge[::-1], -1)
@@ -103,15 +101,15 @@ def after(state, nearness, legal):
     return [(frozenset(found.items()), nearness) for found in states]
 
 def all_results(edges):
-    """All results of splitting, by all orders; none where there are too many states to look at. Segments that are never
-    bent are split among each other first, as far as that goes: where others are split does not depend on it."""
+    """All results of splitting, by all orders; none where more than 150 states would be looked at. Segments that are
+    never bent are split among each other first: where others are split does not depend on it."""
     counts = counted(edges)
     bent = bendable(list(counts))
     counts = {**split({s: count for s, count in counts.items() if s not in bent}), **{s: counts[s] for s in bent}}
     near = {t: count for t, count in counts.items() if any(shared_corners(s, t) for s in bent)}
     fresh = [(frozenset((s, (count, s)) for s, count in near.items()), 0)]
     seen, found = set(fresh), []
-    while fresh and len(seen) <= MOST_STATES:
+    while fresh and len(seen) <= 150:
         state, nearness = fresh.pop()
         segments = sorted(s for s, _ in state)
         moves = [legal for i, s in enumerate(segments) for t in segments[:i] for legal in legal_splits(s, t)]

@@ -1,8 +1,7 @@
 """The stroke of a path: each section drawn on its right as it runs and on its left back, with joins and caps.
 
 A cap is `("butt",)`, `("square",)`, `("round", bits, precision)` or `("custom", points)`. A section runs from `a` to
-`b` in a direction, and has the ends of its right and of its left side.
-"""
+`b` in a direction, and has the ends of its right and of its left side."""
 from collections import namedtuple
 
 from joins import Corner, join_padding, join_points, round_points

@@ -1,8 +1,7 @@
 """The stroke of a path whose width changes from vertex to vertex, along the outer tangents of the vertices' circles.
 
 A vertex is `(x, y, width)`; a circle is `(center, radius)`. Circles and arcs run counterclockwise. A section has its
-circles and the points at which both tangents touch them.
-"""
+circles and the points at which both tangents touch them."""
 from collections import namedtuple
 from math import isqrt
 
