@@ -136,7 +136,7 @@ def groups_of(geometries: Array, how: Buffering) -> list[Group]:
     groups = []
     for types, make in ((POLYGONS, polygon_group), (POINTS, point_group)):
         (numbers,) = numpy.nonzero(numpy.isin(kinds, types))
-        if len(numbers) and (types == POLYGONS or how.distance > 0):
+        if len(numbers) and (how.side == "both" if types == POLYGONS else how.distance > 0):
             groups.append(make(geometries, numbers, how))
     (numbers,) = numpy.nonzero(numpy.isin(kinds, LINES))
     if len(numbers) and how.line_width > 0:

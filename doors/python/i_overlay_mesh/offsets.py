@@ -225,7 +225,8 @@ def buffer(
             of all together.
         quad_segs, cap_style, join_style, mitre_limit: Shapely's words for `step` (segments in a quarter of a turn),
             `cap`, `join` and `miter_limit`.
-        single_sided: whether lines are drawn on one side alone: the left one, or below 0 the right one.
+        single_sided: whether lines are drawn on one side alone: the left one, or below 0 the right one. Polygons are
+            refused then.
 
     Returns, Raises: as `outline`.
     """
@@ -264,7 +265,10 @@ class Buffering:
     def tasks(self, drawing: Drawing) -> list[Task]:
         """The calls for polygons, lines and points."""
         tasks, radius = [], self.distance
-        if drawing.polygons.first() is not None:
+        where = drawing.polygons.first()
+        if where is not None:
+            if self.side != "both":
+                raise DrawingError(where, "single_sided is for lines, and a polygon has a boundary: `stroke` draws one side of it")
             tasks.append(outline_task(drawing.polygons, (radius, radius), self.look.arcs, self.look.join, None))
         if drawing.lines.first() is not None and self.line_width > 0:
             tasks += stroke_tasks([drawing.lines], self.line_width, self.look, self.side, self.caps, None)

@@ -151,6 +151,8 @@ class TestWordsOfShapely(unittest.TestCase):
         geometry = {"type": "LineString", "coordinates": LINE}
         for side, distance in (("left", 1), ("right", -1)):
             self.assertEqual(buffer(geometry, distance, single_sided=True), stroke(LINE, 2, side=side))
+        with self.assertRaisesRegex(DrawingError, "polygon 0, ring 0: single_sided is for lines"):
+            buffer([SQUARE], 1, single_sided=True)
 
     @unittest.skipIf(shapely is None, "Shapely is not there")
     def test_its_own_values(self):
