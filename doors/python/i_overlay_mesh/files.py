@@ -6,6 +6,7 @@ import io
 import os
 import pathlib
 import sys
+import tempfile
 from typing import Any, BinaryIO, Callable, Iterator, Optional, Sequence
 
 from . import wkb, wkt
@@ -110,22 +111,20 @@ def buffered_layer(
     if out is None or out == STREAM:
         sys.stdout.buffer.write(table.to_json(drop_id=True).encode() + b"\n")
         sys.stdout.buffer.flush()
-    else:
+        return
+    try:
         write_table(table, out, layer)
+    except Exception as error:  # noqa: BLE001, likewise
+        raise FeatureError(str(error)) from error
 
 
 def write_table(table: Any, out: str, layer: Optional[str]) -> None:
-    """Writes a table whole: a file that was there is replaced only once the new one stands."""
-    # A shapefile is several files, so it is written in place.
-    if pathlib.Path(out).suffix.lower() == ".shp":
-        table.to_file(out)
-        return
-    beside = pathlib.Path(out).with_name(f".{os.getpid()}-{pathlib.Path(out).name}")
-    try:
-        table.to_file(beside, **({} if layer is None else {"layer": layer}))
-        os.replace(beside, out)
-    finally:
-        beside.unlink(missing_ok=True)
+    """Writes a table whole: what was there is replaced only once all new files stand, of which a shapefile has several."""
+    target = pathlib.Path(out)
+    with tempfile.TemporaryDirectory(dir=target.parent) as name:
+        table.to_file(pathlib.Path(name) / target.name, **({} if layer is None else {"layer": layer}))
+        for file in pathlib.Path(name).iterdir():
+            os.replace(file, target.with_name(file.name))
 
 
 def buffered_by_fiona(
