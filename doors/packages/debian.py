@@ -12,7 +12,9 @@ from .wheel import copy_package
 HERE = pathlib.Path(__file__).resolve().parent / "debhelper"
 LIBRARY = "libi-overlay-mesh1"
 FOLDER = "/usr/lib/x86_64-linux-gnu"
-CHANGELOG = "i-overlay-mesh ({version}-1) unstable; urgency=medium\n\n  * As of commit {commit}.\n\n -- {author}  {date}\n"
+CHANGELOG = (
+    "i-overlay-mesh ({version}-1) unstable; urgency=medium\n\n  * As of commit {commit}.\n\n -- {author}  {date}\n"
+)
 
 
 def lay_out_built(built, known):
@@ -73,9 +75,13 @@ def make(known, out):
         lay_out_built(folder / "built", known)
         lay_out_debian(folder / "debian", known, author)
         log = subprocess.run(
-            ["dpkg-buildpackage", "--build=binary", "--no-sign", "--no-check-builddeps"], cwd=folder,
-            env={**known.environment, "DEB_BUILD_OPTIONS": "noautodbgsym"}, stdout=subprocess.PIPE,
-            stderr=subprocess.STDOUT, text=True, check=False,
+            ["dpkg-buildpackage", "--build=binary", "--no-sign", "--no-check-builddeps"],
+            cwd=folder,
+            env={**known.environment, "DEB_BUILD_OPTIONS": "noautodbgsym"},
+            stdout=subprocess.PIPE,
+            stderr=subprocess.STDOUT,
+            text=True,
+            check=False,
         )
         if log.returncode:
             raise SystemExit(log.stdout)

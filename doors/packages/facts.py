@@ -137,18 +137,26 @@ def gather(gate, development, kinds):
         raise SystemExit("doors/out has no library: run doors/build first")
     is_proved = MARK not in symbols(OBJECT)
     if not is_proved and not development:
-        raise SystemExit("the library was built before its proof, and is not handed on: run doors/build without --unproved")
+        raise SystemExit(
+            "the library was built before its proof, and is not handed on: run doors/build without --unproved"
+        )
     changed = told("git", "status", "--porcelain", cwd=ROOT)
     if changed and not development:
         raise SystemExit(f"files have changed since the last commit:\n{changed}")
     commit = told("git", "rev-parse", "HEAD", cwd=ROOT) + (" and changes" if changed else "")
     number = version() + ("" if is_proved else "+unproved")
     manifest = MANIFEST.format(
-        version=number, commit=commit, kit=told("rt", "version"), gate=gate_line(gate, development),
-        object=f"{hashlib.sha256(OBJECT.read_bytes()).hexdigest()} (SHA-256)", proof=PROVED if is_proved else UNPROVED,
+        version=number,
+        commit=commit,
+        kit=told("rt", "version"),
+        gate=gate_line(gate, development),
+        object=f"{hashlib.sha256(OBJECT.read_bytes()).hexdigest()} (SHA-256)",
+        proof=PROVED if is_proved else UNPROVED,
     )
     time = int(told("git", "log", "-1", "--format=%ct", cwd=ROOT))
-    return Facts(number, commit, time, manifest, needed_library(OBJECT), programs(is_proved, kinds != ["wheel"]), is_proved)
+    return Facts(
+        number, commit, time, manifest, needed_library(OBJECT), programs(is_proved, kinds != ["wheel"]), is_proved
+    )
 
 
 def write_checksums(folder):

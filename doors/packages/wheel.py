@@ -30,7 +30,7 @@ class Tagged(bdist_wheel):
 setup(cmdclass={{"bdist_wheel": Tagged}})
 '''
 
-PROJECT = '''\
+PROJECT = """\
 [build-system]
 requires = ["setuptools>=61", "wheel"]
 build-backend = "setuptools.build_meta"
@@ -57,9 +57,9 @@ license-files = ["LICENSE-MIT"]
 
 [tool.setuptools.package-data]
 i_overlay_mesh = ["py.typed", "MANIFEST.txt", "libi_overlay_mesh.so"]
-'''
+"""
 
-README = '''\
+README = """\
 # i_overlay_mesh
 
 Polygon offsetting over whole numbers: outlines of polygons, strokes of lines, strokes whose width changes, and buffers of
@@ -71,7 +71,7 @@ from i_overlay_mesh import buffer, outline
 grown = outline([[0, 0], [4, 0], [4, 3], [0, 3]], 1, join="miter")
 grown.geojson()
 ```
-'''
+"""
 
 
 def tag_of(needed):
@@ -95,7 +95,10 @@ def python():
     """A Python that has setuptools and wheel."""
     for name in (sys.executable, "/usr/bin/python3"):
         code = "import setuptools, wheel.bdist_wheel"
-        if pathlib.Path(name).exists() and not subprocess.run([name, "-c", code], capture_output=True, check=False).returncode:
+        if (
+            pathlib.Path(name).exists()
+            and not subprocess.run([name, "-c", code], capture_output=True, check=False).returncode
+        ):
             return name
     raise SystemExit("setuptools and wheel are needed for the wheel (python3-setuptools, python3-wheel)")
 
@@ -112,8 +115,13 @@ def make(known, out):
         (folder / "setup.py").write_text(SETUP.format(tag=tag_of(known.needed)))
         (folder / "pyproject.toml").write_text(PROJECT.format(version=known.version))
         log = subprocess.run(
-            [python(), "setup.py", "--quiet", "bdist_wheel", "--dist-dir", str(out)], cwd=folder, env=known.environment,
-            stdout=subprocess.PIPE, stderr=subprocess.STDOUT, text=True, check=False,
+            [python(), "setup.py", "--quiet", "bdist_wheel", "--dist-dir", str(out)],
+            cwd=folder,
+            env=known.environment,
+            stdout=subprocess.PIPE,
+            stderr=subprocess.STDOUT,
+            text=True,
+            check=False,
         )
     if log.returncode:
         raise SystemExit(log.stdout)

@@ -36,7 +36,9 @@ def version() -> str:
 
 def arguments() -> argparse.ArgumentParser:
     """The commands and their options."""
-    parser = argparse.ArgumentParser(prog=NAME, description="Polygon offsetting of GeoJSON, WKT, WKB, and layers of maps.")
+    parser = argparse.ArgumentParser(
+        prog=NAME, description="Polygon offsetting of GeoJSON, WKT, WKB, and layers of maps."
+    )
     parser.add_argument("--version", action="version", version=version())
     commands = parser.add_subparsers(dest="command", metavar="COMMAND", required=True)
     add_buffer(commands)
@@ -113,8 +115,14 @@ def print_line(text: str) -> None:
 def run_buffer(options: argparse.Namespace) -> None:
     """Writes the file with its geometries buffered."""
     words = dict(
-        join=options.join, cap=options.cap, tolerance=options.tolerance, step=options.step, at_least=options.at_least,
-        miter_limit=options.miter_limit, scale=options.scale, sliver_width=options.sliver_width,
+        join=options.join,
+        cap=options.cap,
+        tolerance=options.tolerance,
+        step=options.step,
+        at_least=options.at_least,
+        miter_limit=options.miter_limit,
+        scale=options.scale,
+        sliver_width=options.sliver_width,
     )
     workers = read_workers(options.workers)
     # What is wrong with the options themselves is told before a file is read.

@@ -218,9 +218,13 @@ def find_grids(group: Group, styles: Styles) -> Grids:
 def places_of(group: Group, grids: Grids, width: Callable[[int], int]) -> Array:
     """The places of all vertices, with widths where the task has some. Those of geometries without a grid are 0."""
     of_point = numpy.repeat(numpy.arange(len(group.paths)), numpy.diff(group.vertices, prepend=0))
-    scaled = numpy.ldexp(numpy.where(grids.are_found[of_point][:, None], group.points, 0), grids.exponents[of_point][:, None])
+    scaled = numpy.ldexp(
+        numpy.where(grids.are_found[of_point][:, None], group.points, 0), grids.exponents[of_point][:, None]
+    )
     places = numpy.empty((len(scaled), 2 if group.task.widest is None else 3), numpy.int32)
-    places[:, :2] = rounded(scaled).astype(numpy.int64) - numpy.where(grids.are_found[:, None], grids.origins, 0)[of_point]
+    places[:, :2] = (
+        rounded(scaled).astype(numpy.int64) - numpy.where(grids.are_found[:, None], grids.origins, 0)[of_point]
+    )
     if group.task.widest is not None:
         widths = {exponent: width(exponent) for exponent in numpy.unique(grids.exponents[grids.are_found]).tolist()}
         places[:, 2] = numpy.array([widths.get(exponent, 0) for exponent in grids.exponents.tolist()])[of_point]
@@ -247,7 +251,11 @@ class Drawer:
             counts, starts, view = room.counts, room.starts, self.view
             if outcome == Outcome.ANSWERED:
                 ends = starts[1] + END * counts.contours, starts[2] + END * counts.shapes
-                return bytes(view[: 2 * NUMBER * counts.points]), bytes(view[starts[1] : ends[0]]), bytes(view[starts[2] : ends[1]])
+                return (
+                    bytes(view[: 2 * NUMBER * counts.points]),
+                    bytes(view[starts[1] : ends[0]]),
+                    bytes(view[starts[2] : ends[1]]),
+                )
             if outcome != Outcome.ROOM_TOO_SMALL:
                 return None
             self.room = Room(2 * counts.points, 2 * counts.contours, 2 * counts.shapes)
@@ -264,8 +272,12 @@ def drawn(group: Group, grids: Grids, styles: Styles, places: Array, is_stopped:
     words = {exponent: (*style.words(), options) for exponent, (style, _) in styles.known.items() if style is not None}
     item, points_at, ends_at = places.strides[0], places.ctypes.data, ends.ctypes.data
     rows = zip(
-        first_vertices.tolist(), numpy.diff(group.vertices, prepend=0).tolist(), first_paths.tolist(),
-        numpy.diff(group.paths, prepend=0).tolist(), grids.exponents.tolist(), grids.are_found.tolist(),
+        first_vertices.tolist(),
+        numpy.diff(group.vertices, prepend=0).tolist(),
+        first_paths.tolist(),
+        numpy.diff(group.paths, prepend=0).tolist(),
+        grids.exponents.tolist(),
+        grids.are_found.tolist(),
     )
     parts: list[tuple[bytes, bytes, bytes]] = []
     are_drawn = numpy.zeros(len(group.paths), bool)
@@ -276,7 +288,9 @@ def drawn(group: Group, grids: Grids, styles: Styles, places: Array, is_stopped:
             answer = drawer.draw(call, (*lists, *words[exponent]))
         are_drawn[number] = answer is not None
         parts.append(answer or (b"", b"", b""))
-    counts = numpy.array([[len(points) // 8, len(contours) // 8, len(shapes) // 8] for points, contours, shapes in parts])
+    counts = numpy.array(
+        [[len(points) // 8, len(contours) // 8, len(shapes) // 8] for points, contours, shapes in parts]
+    )
     columns = [b"".join(column) for column in zip(*parts)]
     points = numpy.frombuffer(columns[0], numpy.int32).reshape(-1, 2)
     contours, shapes = (numpy.frombuffer(column, numpy.uint64).astype(numpy.int64) for column in columns[1:])

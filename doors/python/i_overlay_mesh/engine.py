@@ -98,7 +98,6 @@ class Task:
         return max(abs(place) for place in (*low, *high)) <= self.room(grid)
 
 
-
 def told(outcome: Outcome, value: Value) -> Value:
     """A value where the library told one."""
     if outcome is Outcome.OUT_OF_MEMORY:
@@ -142,8 +141,9 @@ def left_out(shapes: Told, sliver_width: Fraction, grid: Grid) -> Told:
     width = min(MOST_SLIVER_WIDTH, int(sliver_width * grid.scale))
     if width == 0:
         raise DrawingError(
-            "", f"sliver_width is {plain(sliver_width)}, and has to be at least 1 grid unit: at the scale"
-            f" {plain(grid.scale)} that is {plain(1 / grid.scale)}"
+            "",
+            f"sliver_width is {plain(sliver_width)}, and has to be at least 1 grid unit: at the scale"
+            f" {plain(grid.scale)} that is {plain(1 / grid.scale)}",
         )
     outcome, kept = left(shapes, width)
     return told(outcome, kept)

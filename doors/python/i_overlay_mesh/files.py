@@ -14,8 +14,13 @@ from .errors import DrawingError
 from .features import FeatureError, Work, buffered_file, written
 
 SUFFIXES = {
-    ".geojson": "geojson", ".json": "geojson", ".geojsonl": "geojson", ".geojsons": "geojson", ".ndjson": "geojson",
-    ".wkt": "wkt", ".wkb": "wkb",
+    ".geojson": "geojson",
+    ".json": "geojson",
+    ".geojsonl": "geojson",
+    ".geojsons": "geojson",
+    ".ndjson": "geojson",
+    ".wkt": "wkt",
+    ".wkb": "wkb",
 }
 FORMATS = ("geojson", "wkt", "wkb")
 STREAM = "-"
@@ -74,7 +79,9 @@ def buffered_binary(data: bytes, work: Work) -> Iterator[bytes]:
     if is_text:
         lines = [line for line in data.decode("ascii", "replace").split() if line]
         names = [f"geometry {number}" for number in range(len(lines))]
-        geometries = [read_by(lambda text: wkb.read(bytes.fromhex(text)), name, line) for name, line in zip(names, lines)]
+        geometries = [
+            read_by(lambda text: wkb.read(bytes.fromhex(text)), name, line) for name, line in zip(names, lines)
+        ]
     else:
         geometries = read_by(lambda given: list(wkb.read_all(given)), "", data)
         names = [f"geometry {number}" for number in range(len(geometries))]

@@ -26,12 +26,15 @@ def on_a_plane(column: Any, project: Any) -> Any:
     """The column in a CRS whose unit is a length."""
     if project is not None:
         if column.crs is None:
-            raise DrawingError("", "project is given, and the geometries have no CRS to project them from: `set_crs` says it")
+            raise DrawingError(
+                "", "project is given, and the geometries have no CRS to project them from: `set_crs` says it"
+            )
         column = column.to_crs(column.estimate_utm_crs() if project == UTM else project)
     if column.crs is not None and column.crs.is_geographic:
         raise DrawingError(
-            "", f"the CRS is {name_of(column.crs)}, whose unit is the degree and no length: bring the map to metres first,"
-            " as by `to_crs(3035)`, or give project= a CRS in metres, or project='utm'"
+            "",
+            f"the CRS is {name_of(column.crs)}, whose unit is the degree and no length: bring the map to metres first,"
+            " as by `to_crs(3035)`, or give project= a CRS in metres, or project='utm'",
         )
     return column
 

@@ -62,9 +62,22 @@ def buffer_all(
         DrawingError: as `buffer`, and where a geometry is why it says which. KeyboardInterrupt: within a second.
     """
     words = dict(
-        cap=cap, join=join, step=step, tolerance=tolerance, at_least=at_least, miter_limit=miter_limit, min_turn=min_turn,
-        scale=scale, origin=origin, most_splits=most_splits, sliver_width=sliver_width, quad_segs=quad_segs,
-        cap_style=cap_style, join_style=join_style, mitre_limit=mitre_limit, single_sided=single_sided,
+        cap=cap,
+        join=join,
+        step=step,
+        tolerance=tolerance,
+        at_least=at_least,
+        miter_limit=miter_limit,
+        min_turn=min_turn,
+        scale=scale,
+        origin=origin,
+        most_splits=most_splits,
+        sliver_width=sliver_width,
+        quad_segs=quad_segs,
+        cap_style=cap_style,
+        join_style=join_style,
+        mitre_limit=mitre_limit,
+        single_sided=single_sided,
     )
 
     def draw(items: Sequence[Any]) -> list[Any]:
@@ -104,7 +117,9 @@ def hows(distance: Any, count: int, words: dict[str, Any]) -> Sequence[Buffering
         return [read_buffering(distance, **words)] * count
     distances = list(distance)
     if len(distances) != count:
-        raise DrawingError("", f"distance has {len(distances)} numbers, and has to have one for each of {count} geometries")
+        raise DrawingError(
+            "", f"distance has {len(distances)} numbers, and has to have one for each of {count} geometries"
+        )
     known: dict[Number, Buffering] = {}
     for number in (read_number(f"geometry {index}", "distance", item) for index, item in enumerate(distances)):
         if number not in known:
@@ -113,7 +128,11 @@ def hows(distance: Any, count: int, words: dict[str, Any]) -> Sequence[Buffering
 
 
 def draw_all(
-    items: Sequence[Any], ways: Sequence[Buffering], workers: int, progress: Progress, errors: Optional[dict[int, Exception]]
+    items: Sequence[Any],
+    ways: Sequence[Buffering],
+    workers: int,
+    progress: Progress,
+    errors: Optional[dict[int, Exception]],
 ) -> list[Any]:
     """Each item buffered in its way."""
     result: list[Any] = [None] * len(items)

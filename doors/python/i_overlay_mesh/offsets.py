@@ -96,8 +96,16 @@ def outline(
     outer = read_number("", "distance", distance)
     inner = outer if hole_distance is None else read_number("", "hole_distance", hole_distance)
     look = read_look(
-        max(abs(Fraction(outer)), abs(Fraction(inner))), join=join, step=step, tolerance=tolerance, at_least=at_least,
-        miter_limit=miter_limit, min_turn=min_turn, quad_segs=quad_segs, join_style=join_style, mitre_limit=mitre_limit,
+        max(abs(Fraction(outer)), abs(Fraction(inner))),
+        join=join,
+        step=step,
+        tolerance=tolerance,
+        at_least=at_least,
+        miter_limit=miter_limit,
+        min_turn=min_turn,
+        quad_segs=quad_segs,
+        join_style=join_style,
+        mitre_limit=mitre_limit,
     )
     tasks = [outline_task(drawing.polygons, (outer, inner), look.arcs, look.join, rings)]
     return draw(tasks, read_wishes(scale, origin, most_splits, sliver_width))
@@ -150,8 +158,16 @@ def stroke(
     reject("stroke", "lines", [drawing.points])
     full = read_number("", "width", width)
     look = read_look(
-        Fraction(full) / 2, join=join, step=step, tolerance=tolerance, at_least=at_least, miter_limit=miter_limit,
-        min_turn=min_turn, quad_segs=quad_segs, join_style=join_style, mitre_limit=mitre_limit,
+        Fraction(full) / 2,
+        join=join,
+        step=step,
+        tolerance=tolerance,
+        at_least=at_least,
+        miter_limit=miter_limit,
+        min_turn=min_turn,
+        quad_segs=quad_segs,
+        join_style=join_style,
+        mitre_limit=mitre_limit,
     )
     drawn_side = choose("side", side, SIDES)
     caps = read_caps("start_cap", cap, cap_style, start_cap), read_caps("end_cap", cap, cap_style, end_cap)
@@ -231,9 +247,22 @@ def buffer(
     Returns, Raises: as `outline`.
     """
     how = read_buffering(
-        distance, cap=cap, join=join, step=step, tolerance=tolerance, at_least=at_least, miter_limit=miter_limit,
-        min_turn=min_turn, scale=scale, origin=origin, most_splits=most_splits, sliver_width=sliver_width,
-        quad_segs=quad_segs, cap_style=cap_style, join_style=join_style, mitre_limit=mitre_limit,
+        distance,
+        cap=cap,
+        join=join,
+        step=step,
+        tolerance=tolerance,
+        at_least=at_least,
+        miter_limit=miter_limit,
+        min_turn=min_turn,
+        scale=scale,
+        origin=origin,
+        most_splits=most_splits,
+        sliver_width=sliver_width,
+        quad_segs=quad_segs,
+        cap_style=cap_style,
+        join_style=join_style,
+        mitre_limit=mitre_limit,
         single_sided=single_sided,
     )
     return how.shapes(geometry)
@@ -268,7 +297,9 @@ class Buffering:
         where = drawing.polygons.first()
         if where is not None:
             if self.side != "both":
-                raise DrawingError(where, "single_sided is for lines, and a polygon has a boundary: `stroke` draws one side of it")
+                raise DrawingError(
+                    where, "single_sided is for lines, and a polygon has a boundary: `stroke` draws one side of it"
+                )
             tasks.append(outline_task(drawing.polygons, (radius, radius), self.look.arcs, self.look.join, None))
         if drawing.lines.first() is not None and self.line_width > 0:
             tasks += stroke_tasks([drawing.lines], self.line_width, self.look, self.side, self.caps, None)
@@ -296,6 +327,7 @@ def read_buffering(
     side = ("left" if radius > 0 else "right") if single_sided else "both"
     wishes = read_wishes(scale, origin, most_splits, sliver_width)
     return Buffering(radius, look, (cap_of_lines, cap_of_lines), side, wishes)
+
 
 # Tasks
 
@@ -375,8 +407,9 @@ def tell_coarse(what: str, length: Number, on_grid: int, least: int, grid: Grid)
     if length != 0 and (length > 0 or least == 1) and abs(on_grid) < least:
         unit = "unit" if least == 1 else "units"
         raise DrawingError(
-            "", f"{what} is {plain(Fraction(length))}, and has to be at least {least} grid {unit}: at the scale"
-            f" {plain(grid.scale)} it is {on_grid}"
+            "",
+            f"{what} is {plain(Fraction(length))}, and has to be at least {least} grid {unit}: at the scale"
+            f" {plain(grid.scale)} it is {on_grid}",
         )
 
 

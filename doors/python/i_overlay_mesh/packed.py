@@ -172,7 +172,9 @@ class PackedPaths(Paths):
         low, high = [], []
         for axis in grid.axes:
             # As floats the bounds are near, so what lies near them is looked at once more.
-            edge = [float(((sign * most) * axis.part + axis.shift) * axis.down / (axis.part * axis.up)) for sign in (-1, 1)]
+            edge = [
+                float(((sign * most) * axis.part + axis.shift) * axis.down / (axis.part * axis.up)) for sign in (-1, 1)
+            ]
             slack = 2.0**-45 * (abs(edge[0]) + abs(edge[1]))
             low.append(edge[0] + slack)
             high.append(edge[1] - slack)
@@ -228,7 +230,9 @@ def packed(arrays: Sequence[Array], where: Names, names: Sequence[str], **more: 
     return PackedPaths(checked(vertices, ends, where, names), ends, where, **more)
 
 
-def rings_of(polygons: Sequence[Sequence[Array]], first_bounds: bool, where: Optional[Sequence[str]] = None) -> PackedPaths:
+def rings_of(
+    polygons: Sequence[Sequence[Array]], first_bounds: bool, where: Optional[Sequence[str]] = None
+) -> PackedPaths:
     """Rings of polygons, given by an array for each ring."""
     ends = numpy.cumsum(numpy.array([len(rings) for rings in polygons], numpy.int64))
 

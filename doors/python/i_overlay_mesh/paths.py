@@ -160,7 +160,9 @@ class ListedPaths(Paths):
         return ListedPaths(paths) if paths else None
 
     def with_width(self, width: Fraction) -> Paths:
-        return ListedPaths([replace(path, points=[(*point[:2], width) for point in path.points]) for path in self.paths])
+        return ListedPaths(
+            [replace(path, points=[(*point[:2], width) for point in path.points]) for path in self.paths]
+        )
 
     def listed(self) -> ListedPaths:
         return self

@@ -156,5 +156,7 @@ def shown(progress: Progress, what: str) -> tuple[Optional[Tell], Callable[[], N
         meter = meter_on(sys.stderr, what)
         return meter.tell, meter.end
     if not callable(progress):
-        raise DrawingError("", f"progress is {progress!r}, and has to be True, or a function of how many are done of how many")
+        raise DrawingError(
+            "", f"progress is {progress!r}, and has to be True, or a function of how many are done of how many"
+        )
     return progress, lambda: None

@@ -164,9 +164,7 @@ class Shapes:
         return len(self._told.shape_ends)
 
 
-def unpickled(
-    lists: Sequence[bytes], grid: tuple[Any, Any], nearness: Optional[int], is_whole: bool
-) -> Shapes:
+def unpickled(lists: Sequence[bytes], grid: tuple[Any, Any], nearness: Optional[int], is_whole: bool) -> Shapes:
     """An answer out of what its pickle has."""
     points, contour_ends, shape_ends = (array(kind, numbers) for kind, numbers in zip("iQQ", lists))
     return Shapes(Told(points, contour_ends, shape_ends), Grid(*grid), nearness, is_whole)

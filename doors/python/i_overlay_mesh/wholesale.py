@@ -45,7 +45,9 @@ def arrays_of(value: Any) -> Any:
     if all(is_plain(item) and item.ndim == 2 for item in value):
         return list(value)
     lists = [arrays_of(item) for item in value if isinstance(item, (list, tuple))]
-    is_deep = len(lists) == len(value) and all(isinstance(item, list) and isinstance(item[0], numpy.ndarray) for item in lists)
+    is_deep = len(lists) == len(value) and all(
+        isinstance(item, list) and isinstance(item[0], numpy.ndarray) for item in lists
+    )
     return lists if is_deep else None
 
 
@@ -145,10 +147,14 @@ class Parts:
             return None
         polygons = rings_of([rings for _, rings in self.polygons], True, [where for where, _ in self.polygons])
         lines = paths_of(self.lines or self.rings, names, bool(self.rings))
-        return Drawing(polygons if self.polygons else no_paths(), lines or no_paths(), paths_of(self.points, names) or no_paths())
+        return Drawing(
+            polygons if self.polygons else no_paths(), lines or no_paths(), paths_of(self.points, names) or no_paths()
+        )
 
 
-def paths_of(parts: Sequence[tuple[str, Array]], names: Sequence[str], are_rings: bool = False) -> Optional[PackedPaths]:
+def paths_of(
+    parts: Sequence[tuple[str, Array]], names: Sequence[str], are_rings: bool = False
+) -> Optional[PackedPaths]:
     """Lines or points; none where there is none."""
     if not parts:
         return None

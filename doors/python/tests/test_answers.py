@@ -37,7 +37,10 @@ class TestValues(unittest.TestCase):
             self.assertEqual(one, again)
             copy = pickle.loads(pickle.dumps(one))
             self.assertEqual(copy, one)
-            self.assertEqual((copy.polygons, copy.scale, copy.origin, copy.nearness), (one.polygons, one.scale, one.origin, one.nearness))
+            self.assertEqual(
+                (copy.polygons, copy.scale, copy.origin, copy.nearness),
+                (one.polygons, one.scale, one.origin, one.nearness),
+            )
             self.assertEqual([number == other for other in range(len(answers))], [one == other for other in answers])
         self.assertNotEqual(answers[0], answers[0].polygons)
 
@@ -105,10 +108,18 @@ class TestArrays(unittest.TestCase):
             shapes = outline(numpy.array(SQUARE, kind), 2, scale=1)
             self.assertEqual(shapes, outline(SQUARE, 2, scale=1))
             self.assertTrue(all(type(number) is int for number in shapes.polygons[0][0][0]))
-        self.check(lambda given: outline(given, 1), [[2**60, 0], [2**60 + 9, 0], [2**60, 9]], [numpy.array([[2**60, 0], [2**60 + 9, 0], [2**60, 9]])])
+        self.check(
+            lambda given: outline(given, 1),
+            [[2**60, 0], [2**60 + 9, 0], [2**60, 9]],
+            [numpy.array([[2**60, 0], [2**60 + 9, 0], [2**60, 9]])],
+        )
 
     def test_what_breaks_a_rule(self):
-        for wrong in ([[0.0, 0], [1, float("nan")], [2, 2]], [[0.0, 0], [float("inf"), 1], [2, 2]], [[0.0, 0, 1, 1], [1, 1, 1, 1]]):
+        for wrong in (
+            [[0.0, 0], [1, float("nan")], [2, 2]],
+            [[0.0, 0], [float("inf"), 1], [2, 2]],
+            [[0.0, 0, 1, 1], [1, 1, 1, 1]],
+        ):
             self.check(lambda given: outline(given, 1), [SQUARE, wrong], [[numpy.array(SQUARE), numpy.array(wrong)]])
         far = [[0.0, 0], [10, 0], [10, 2.0**31]]
         self.check(lambda given: outline(given, 8, scale=4, origin=(0, 0)), far, [numpy.array(far)])
@@ -171,7 +182,11 @@ class TestWordsOfShapely(unittest.TestCase):
             ({"mitre_limit": 0}, "miter_limit is 0.0, and has to be from 1"),
         ]:
             with self.assertRaisesRegex(DrawingError, re.escape(expected)):
-                buffer({"type": "LineString", "coordinates": LINE}, 1, **{"join_style": 2, **words} if "mitre_limit" in words else words)
+                buffer(
+                    {"type": "LineString", "coordinates": LINE},
+                    1,
+                    **{"join_style": 2, **words} if "mitre_limit" in words else words,
+                )
 
 
 class TestTables(unittest.TestCase):
@@ -203,7 +218,13 @@ class TestTypes(unittest.TestCase):
             environment = {**os.environ, "MYPYPATH": str(PACKAGE)}
             run = subprocess.run([*words, str(caller)], env=environment, capture_output=True, text=True, check=False)
             self.assertEqual(run.returncode, 0, run.stdout)
-            run = subprocess.run([sys.executable, str(caller)], env={**environment, "PYTHONPATH": str(PACKAGE)}, capture_output=True, text=True, check=False)
+            run = subprocess.run(
+                [sys.executable, str(caller)],
+                env={**environment, "PYTHONPATH": str(PACKAGE)},
+                capture_output=True,
+                text=True,
+                check=False,
+            )
             self.assertEqual((run.returncode, run.stderr), (0, ""))
 
 

@@ -26,7 +26,13 @@ def run(*words, text="", data=None, **options):
     """A run of the command, with text or bytes on its standard input."""
     command = [sys.executable, "-m", "i_overlay_mesh", *words]
     return subprocess.run(
-        command, input=text.encode() if data is None else data, cwd=PACKAGE, capture_output=True, check=False, timeout=60, **options
+        command,
+        input=text.encode() if data is None else data,
+        cwd=PACKAGE,
+        capture_output=True,
+        check=False,
+        timeout=60,
+        **options,
     )
 
 

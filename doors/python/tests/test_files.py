@@ -34,7 +34,16 @@ TEXTS = {
     },
 }
 
-NO_TEXTS = ["", "POINT", "POINT (1 2", "POINT (1 2) 3", "CIRCLE (1 2)", "POINT (a b)", "POINT ?", "LINESTRING (0 0 1 1)) "]
+NO_TEXTS = [
+    "",
+    "POINT",
+    "POINT (1 2",
+    "POINT (1 2) 3",
+    "CIRCLE (1 2)",
+    "POINT (a b)",
+    "POINT ?",
+    "LINESTRING (0 0 1 1)) ",
+]
 
 
 class TestText(unittest.TestCase):
@@ -139,7 +148,11 @@ class TestCommand(unittest.TestCase):
     @unittest.skipIf(geopandas is None, "GeoPandas is not there")
     def test_layers(self):
         kinds = shapely.geometry
-        given = [kinds.Polygon(POLYGON["coordinates"][0]), None, kinds.MultiPolygon([kinds.Polygon([(50, 0), (60, 0), (60, 9)])])]
+        given = [
+            kinds.Polygon(POLYGON["coordinates"][0]),
+            None,
+            kinds.MultiPolygon([kinds.Polygon([(50, 0), (60, 0), (60, 9)])]),
+        ]
         table = geopandas.GeoDataFrame({"name": ["Åland", "x", "y"]}, geometry=given, crs=3035)
         source = self.folder / "map.gpkg"
         table.to_file(source, layer="land")

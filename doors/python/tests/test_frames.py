@@ -35,7 +35,9 @@ class TestFrames(unittest.TestCase):
         answers = buffer_all(table, [1, 2, 3, 4])
         self.assertIsInstance(answers, geopandas.GeoDataFrame)
         self.assertEqual(list(answers["name"]), list("wxyz"))
-        self.assertEqual((list(answers.index), answers.crs, answers.geometry.name), (list("abcd"), table.crs, table.geometry.name))
+        self.assertEqual(
+            (list(answers.index), answers.crs, answers.geometry.name), (list("abcd"), table.crs, table.geometry.name)
+        )
         self.assertTrue(answers.geometry.iloc[2].equals_exact(buffer(self.given[2], 3).shapely(), 0))
         self.assertIs(table.geometry.iloc[2], self.given[2])
 

@@ -34,7 +34,9 @@ def mappings():
 def star(draw, count, size, x, y):
     """A ring round a point."""
     turns = sorted(draw.uniform(0, 6.28) for _ in range(count))
-    return [(x + size * draw.uniform(0.3, 1) * numpy.cos(t), y + size * draw.uniform(0.3, 1) * numpy.sin(t)) for t in turns]
+    return [
+        (x + size * draw.uniform(0.3, 1) * numpy.cos(t), y + size * draw.uniform(0.3, 1) * numpy.sin(t)) for t in turns
+    ]
 
 
 def made(draw, kind):
@@ -124,7 +126,9 @@ class TestMany(unittest.TestCase):
             "print('begun', flush=True)\n"
             "m.buffer_all([{'type': 'LineString', 'coordinates': ring}] * 8, 1.0, workers=2)\n"
         )
-        process = subprocess.Popen([sys.executable, "-c", code], cwd=PACKAGE, stdout=subprocess.PIPE, stderr=subprocess.PIPE)
+        process = subprocess.Popen(
+            [sys.executable, "-c", code], cwd=PACKAGE, stdout=subprocess.PIPE, stderr=subprocess.PIPE
+        )
         process.stdout.readline()
         time.sleep(1)
         begun = time.monotonic()
@@ -189,7 +193,9 @@ class TestShapely(unittest.TestCase):
         from i_overlay_mesh.exact import nearest_whole
 
         draw = random.Random(2)
-        values = [draw.choice([0, 0.5, -0.5, 1.5, 1e-20, -1e-20, 0.5 - 2**-54]) + draw.randint(-3, 3) for _ in range(2000)]
+        values = [
+            draw.choice([0, 0.5, -0.5, 1.5, 1e-20, -1e-20, 0.5 - 2**-54]) + draw.randint(-3, 3) for _ in range(2000)
+        ]
         pairs = list(zip(values[::2], values[1::2]))
         low, high = numpy.array(pairs).T
         expected = [nearest_whole((Fraction(a) + Fraction(b)) / 2) for a, b in pairs]
