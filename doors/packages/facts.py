@@ -131,10 +131,18 @@ def programs(is_proved, are_needed):
     return tuple(file for file in folders.values() if file.exists())
 
 
+def is_stale():
+    """Whether code has changed since the library was built."""
+    code = [ROOT / "crates.txt", *(ROOT / "crates").glob("*/src/**/*"), *(DOORS / "c").iterdir()]
+    return max(file.stat().st_mtime for file in code) > OBJECT.stat().st_mtime
+
+
 def gather(gate, development, kinds):
     """All facts for some kinds of packages, or the reason why nothing may be packed."""
     if not OBJECT.exists():
         raise SystemExit("doors/out has no library: run doors/build first")
+    if is_stale():
+        raise SystemExit("doors/out is older than the code: run doors/build first")
     is_proved = MARK not in symbols(OBJECT)
     if not is_proved and not development:
         raise SystemExit(

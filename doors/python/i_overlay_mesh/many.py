@@ -102,7 +102,9 @@ def like(geometries: Any, draw: Callable[[Sequence[Any]], list[Any]]) -> Any:
             if geometries.dtype != object:
                 raise DrawingError("", f"geometries is an array of {geometries.dtype}, and has to be one of objects")
             result = numpy.full(geometries.size, None, object)
-            result[:] = numpy.fromiter(draw(geometries.ravel().tolist()), object, geometries.size)
+            # Some answers are sequences, which an array would take apart.
+            for number, answer in enumerate(draw(geometries.ravel().tolist())):
+                result[number] = answer
             return result.reshape(geometries.shape)
     if isinstance(geometries, (str, bytes, dict)) or not hasattr(geometries, "__iter__") or is_geometry(geometries):
         raise DrawingError("", "geometries is no list and no array; `buffer` takes a single geometry")
