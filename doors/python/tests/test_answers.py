@@ -203,9 +203,24 @@ class TestTables(unittest.TestCase):
         self.assertEqual(int(re.search(r"MESH_MIN_TURN (\d+)u", text)[1]), styles.DEFAULT_MIN_TURN)
 
     def test_rust(self):
-        text = "".join((ROOT / "doors/rust/src" / name).read_text() for name in ("style.rs", "error.rs", "calls.rs"))
-        for name in ("Bevel", "Miter", "Round", "Butt", "Square", "Custom", "Both", "Left", "Right"):
-            self.assertIn(name, text)
+        text = (ROOT / "doors/rust/src/style.rs").read_text()
+        for kind, numbers in (("Join", styles.JOIN_KINDS), ("Cap", styles.CAP_KINDS)):
+            told = re.findall(rf"{kind}::(\w+)(?:\(\w+\))? => \((\d)", text)
+            self.assertEqual({name.lower(): int(number) for name, number in told}, numbers)
+        sides = re.search(r"pub enum Side \{(.*?)\n\}", text, re.S)[1]
+        self.assertEqual([name.lower() for name in re.findall(r"^    (\w+),", sides, re.M)], list(styles.SIDE_KINDS))
+        self.assertEqual(list(styles.SIDE_KINDS.values()), [0, 1, 2])
+        text = (ROOT / "doors/rust/src/error.rs").read_text()
+        told = {int(number): name for number, name in re.findall(r"(\d) => Err\(Error::(\w+)\)", text)}
+        names = {int(outcome): outcome.name.title().replace("_", "") for outcome in Outcome}
+        self.assertEqual({**told, 0: "Answered", 5: "RoomTooSmall"}, names)
+
+    def test_cases(self):
+        """The test in C reads the same numbers."""
+        text = (ROOT / "doors/c/cases.py").read_text()
+        for name, numbers in (("KINDS", styles.JOIN_KINDS), ("CAPS", styles.CAP_KINDS), ("SIDES", styles.SIDE_KINDS)):
+            told = re.findall(r'"(\w+)": (\d)', re.search(rf"^{name} = (.*)$", text, re.M)[1])
+            self.assertEqual({word: int(number) for word, number in told}, numbers)
 
 
 @unittest.skipIf(shutil.which("mypy") is None, "mypy is not there")
