@@ -2,7 +2,7 @@
 
    The caller passes everything that a call reads, and every array that it writes. A call keeps nothing: what it takes
    from malloc it frees before it returns. Calls may run in many threads at once, each with arrays of its own. Do not
-   call from a signal handler, nor in the forked child of a process with threads. A call needs 128 KiB of stack.
+   call from a signal handler, nor in the forked child of a process with threads. Stacks of 256 KiB are tested.
 
    A list is a pointer and a number of items. The pointer has to be valid, aligned and not NULL, even if the list is
    empty, and what a call writes must not overlap with anything else that it is given.
@@ -30,7 +30,7 @@ typedef uint8_t mesh_outcome;
 
 enum {
     MESH_ANSWERED = 0,        /* Success: the answer is in the caller's arrays. */
-    MESH_OUT_OF_RANGE = 1,    /* The drawing would leave the range of coordinates. */
+    MESH_OUT_OF_RANGE = 1,    /* The drawing would leave the range of coordinates, or a contour's area is too large. */
     MESH_MALFORMED = 2,       /* Invalid argument. */
     MESH_OUT_OF_MEMORY = 3,   /* An allocation failed. */
     MESH_TOO_MANY_SPLITS = 4, /* More edges were split than the given limit. */
@@ -133,7 +133,8 @@ typedef struct {
 
    points, vertices   the points or vertices of all paths, path by path
    ends               for each path, the offset of its end in that list: how many items it and all paths before it have
-   start_points, ..   the points of custom caps, for an end at (0, 0) that looks along the x axis
+   start_points, ..   the points of custom caps, from right to left round the end at (0, 0) of a path that runs towards
+                      greater x
    shape_points       receives the points of all contours, contour by contour; each shape begins with its outer contour
    contour_ends       receives for each contour the offset of its end in shape_points
    shape_ends         receives for each shape the offset of its end in contour_ends
@@ -183,7 +184,8 @@ mesh_outcome mesh_variable_stroke_i16(
     mesh_point_i16 *shape_points, size_t shape_point_room, size_t *contour_ends, size_t contour_room,
     size_t *shape_ends, size_t shape_room, mesh_shape_counts *counts);
 
-/* Draws paths and returns polygons with a proved error bound. All is as above, and
+/* Draws paths and returns polygons with an error bound, which is proved for options with `min_area` 0 and `clockwise` 0.
+   All is as above, and
 
    most_splits   how many splits of edges may be made, counting attempts that were given up; 0 means any number
    nearness      receives the error bound whenever counts are written, in 64ths of a grid unit, rounded up: the polygons
