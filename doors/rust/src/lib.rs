@@ -16,7 +16,7 @@
 //!
 //! Coordinates and lengths are in grid units, coordinates in 32 or in 16 bits. Outer contours run counterclockwise and
 //! holes clockwise, with `y` upwards. Angles are in bits, of which 2^32 are a turn; [`angle`] makes them of degrees.
-//! Calls may run at once in any number of threads, and need 128 KiB of stack.
+//! Calls may run at once in any number of threads, and need 256 KiB of stack.
 
 mod answers;
 mod calls;
