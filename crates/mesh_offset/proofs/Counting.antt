@@ -44,11 +44,12 @@ module _ (IsDrawn : List Edge → Type 0) where
 
   -- the other attempts than one that is listed
   others_at : (edges : List Edge) → IsDrawn edges → (ks : List EdgeSplit) (splits : List (List EdgeSplit)) → All (IsLegal edges) splits → Contains splits ks →
-      (others : List (Attempt IsDrawn)) × (sum_by length splits ≡ length ks + sum_by (λ (a : Attempt IsDrawn). length a.splits) others)
+      (others : List (Attempt IsDrawn)) × (suc (length others) ≡ length splits) × (sum_by length splits ≡ length ks + sum_by (λ (a : Attempt IsDrawn). length a.splits) others)
   others_at edges drawn ks [] legal (i, low, is) = absurd (omega arith)
   others_at edges drawn ks (js ∷ splits) legal (zero, low, is) =
       let rest = attempts_at edges drawn splits (All-tail (IsLegal edges) js splits legal) in (
         rest.0,
+        ap suc rest.1,
         sum_by-cons length js splits ∙ (ap (λ (n : ℕ). length js + n) (sym rest.2)
             ∙ ap (λ (l : List EdgeSplit). length l + sum_by (λ (a : Attempt IsDrawn). length a.splits) rest.0) is),
       )
@@ -57,28 +58,35 @@ module _ (IsDrawn : List Edge → Type 0) where
       let one : Attempt IsDrawn = record { edges = edges; drawn = drawn; splits = js; legal = All-head (IsLegal edges) js splits legal } in
       let sums = sum_by-cons length js splits in
       let more = sum_by-cons (λ (a : Attempt IsDrawn). length a.splits) one rest.0 in
-      let below = rest.1 in (one ∷ rest.0, omega (arith, sums, more, below))
+      let below = rest.2 in (one ∷ rest.0, ap suc rest.1, omega (arith, sums, more, below))
 
   -- the attempt at one list of edges that stands, and others
   pub standing_of_one : (edges : List Edge) (ks : List EdgeSplit) (old new : SplitCount) → IsDrawn edges → CountsWith edges old new ks →
-      CountsStanding IsDrawn (length ks) old new
+      CountsStanding 1 IsDrawn (length ks) old new
   standing_of_one edges ks old new drawn counts =
       let others = others_at edges drawn ks counts.counts.attempts counts.counts.legal counts.listed in
       record {
         given_up = others.0;
-        sum = counts.counts.sum ∙ ap (counted old) others.1;
+        few =
+            let few = counts.counts.few in
+            let same = others.1 in omega (arith, few, same);
+        sum = counts.counts.sum ∙ ap (counted old) others.2;
       }
 
   -- and one after another
-  pub standing_more : (m n : ℕ) (old between new : SplitCount) → CountsStanding IsDrawn m old between → CountsStanding IsDrawn n between new →
-      CountsStanding IsDrawn (m + n) old new
-  standing_more m n old between new first second =
+  pub standing_more : (j k m n : ℕ) (old between new : SplitCount) → CountsStanding j IsDrawn m old between → CountsStanding k IsDrawn n between new →
+      CountsStanding (j + k) IsDrawn (m + n) old new
+  standing_more j k m n old between new first second =
       let a = sum_by (λ (a : Attempt IsDrawn). length a.splits) first.given_up in
       let b = sum_by (λ (a : Attempt IsDrawn). length a.splits) second.given_up in
       let both = sum_by-append (λ (a : Attempt IsDrawn). length a.splits) first.given_up second.given_up in
       let all : (m + a) + (n + b) ≡ (m + n) + sum_by (λ (a : Attempt IsDrawn). length a.splits) (first.given_up ++ second.given_up) = omega (arith, both) in
       record {
         given_up = first.given_up ++ second.given_up;
+        few =
+            let c = first.few in
+            let d = second.few in
+            let together = length-append first.given_up second.given_up in omega (arith, c, d, together);
         sum = second.sum ∙ (ap (λ (c : SplitCount). counted c (n + b)) first.sum ∙ (counted_twice old (m + a) (n + b) ∙ ap (counted old) all));
       }
 
@@ -98,6 +106,13 @@ module _ (IsDrawn : List Edge → Type 0) where
   }
 
   -- of no more lists than that
+  pub standing_fewer : (m n : ℕ) → m ≤ n → (standing : ℕ) (old new : SplitCount) → CountsStanding m IsDrawn standing old new → CountsStanding n IsDrawn standing old new
+  standing_fewer m n less standing old new counts = record {
+    given_up = counts.given_up;
+    few = (let few = counts.few in omega (arith, few, less));
+    sum = counts.sum;
+  }
+
   pub counts_fewer : (m n : ℕ) → m ≤ n → (old new : SplitCount) → CountsAttempts m IsDrawn old new → CountsAttempts n IsDrawn old new
   counts_fewer m n less old new counts = record {
     attempts = counts.attempts;
@@ -137,14 +152,17 @@ pub counts_none : (n : ℕ) (D : List Edge → Type 0) (count : SplitCount) → 
 counts_none n D count small = record { attempts = []; few = omega arith; sum = counted_none count small }
 
 -- the same attempts stand and were given up, at edges of which more is known
-pub standing_weaker : (D E : List Edge → Type 0) → ((es : List Edge) → D es → E es) → (n : ℕ) (old new : SplitCount) → CountsStanding D n old new → CountsStanding E n old new
-standing_weaker D E f n old new counts =
+pub standing_weaker : (D E : List Edge → Type 0) → ((es : List Edge) → D es → E es) → (lists n : ℕ) (old new : SplitCount) → CountsStanding lists D n old new → CountsStanding lists E n old new
+standing_weaker D E f lists n old new counts =
     let all = attempts_weaker D E f counts.given_up in
     record {
       given_up = all.0;
+      few =
+          let few = counts.few in
+          let same = all.1 in omega (arith, few, same);
       sum = counts.sum ∙ ap (λ (s : ℕ). counted old (n + s)) (sym all.2);
     }
 
 -- nothing stands, and nothing was given up
-pub standing_none : (D : List Edge → Type 0) (count : SplitCount) → count.made < 2 ^ 64 → CountsStanding D 0 count count
-standing_none D count small = record { given_up = []; sum = counted_none count small }
+pub standing_none : (D : List Edge → Type 0) (count : SplitCount) → count.made < 2 ^ 64 → CountsStanding 0 D 0 count count
+standing_none D count small = record { given_up = []; few = omega arith; sum = counted_none count small }

@@ -1,5 +1,5 @@
 -- Splits that are counted over a whole call, which resolves one list of edges or several.
-use Rattle.std.specs.Prelude.{ℕ, ◌+◌, ◌*◌, ◌≤◌, ◌≡◌, List, length, sum_by}
+use Rattle.std.specs.Prelude.{ℕ, ◌+◌, ◌-◌, ◌*◌, ◌≤◌, ◌≡◌, List, length, sum_by}
 use Rattle.mesh_plane.specs.Plane.{Edge}
 use Rattle.mesh_lattice.specs.Split.{EdgeSplit, IsLegal}
 use Rattle.mesh_split.specs.Counting.{counted, most_attempts}
@@ -18,7 +18,9 @@ pub record CountsAttempts (lists : ℕ) (IsDrawn : List Edge → Type 0) (old ne
   pub few : length attempts ≤ lists * most_attempts
   pub sum : new ≡ counted old (sum_by (λ (a : Attempt IsDrawn). length a.splits) attempts)
 
--- the same of attempts of which some stand, with so many splits together, and the others were given up
-pub record CountsStanding (IsDrawn : List Edge → Type 0) (standing : ℕ) (old new : SplitCount) : Type 0 where
+-- the same of attempts of which some stand, with so many splits together, and the others were given up: of each list
+-- one fewer at most than are made to split it
+pub record CountsStanding (lists : ℕ) (IsDrawn : List Edge → Type 0) (standing : ℕ) (old new : SplitCount) : Type 0 where
   pub given_up : List (Attempt IsDrawn)
+  pub few : length given_up ≤ lists * (most_attempts - 1)
   pub sum : new ≡ counted old (standing + sum_by (λ (a : Attempt IsDrawn). length a.splits) given_up)

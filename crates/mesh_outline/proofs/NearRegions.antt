@@ -157,7 +157,7 @@ module _ (unit : ℕ) (style : OutlineStyle) where
 
   pub outline_beyond : 2 ^ 14 ≤ unit → (first last : ℕ) (choices : Choices) (contours : List (List Point)) (given : List Edge) (answer : List (List (List Point))) →
       (old between new : SplitCount) → (give : GiveNear first unit style contours given) →
-      CountsStanding (IsOutlineDrawing unit style contours) (first_splits give.told) old between →
+      CountsStanding (length contours) (IsOutlineDrawing unit style contours) (first_splits give.told) old between →
       AreCountedRegions last (proper_edges given) (filled Positive) choices answer between new →
       AreCountedOutlineRegions (first + last) unit style choices contours answer old new
   outline_beyond least first last choices contours given answer old between new give firsts standing = record {
@@ -175,7 +175,7 @@ module _ (unit : ℕ) (style : OutlineStyle) where
           near_through first last m some (all_drawn unit style contours) near.edge q (given_near near.edge near.listed) near.near;
     };
     counted =
-        standing_more (IsOutlineDrawing unit style contours) (first_splits give.told) (length standing.beyond.regions.resolution.splits) old between new firsts
+        standing_more (IsOutlineDrawing unit style contours) (length contours) 1 (first_splits give.told) (length standing.beyond.regions.resolution.splits) old between new firsts
         (standing_of_one (IsOutlineDrawing unit style contours) (proper_edges given) standing.beyond.regions.resolution.splits between new
         (IsOutlineDrawing.together (give_of first contours given give)) standing.counted);
   }

@@ -6,7 +6,7 @@ use Rattle.mesh_plane.proofs.Whole.{either_order}
 use Rattle.std.specs.List.{All, Contains, flat_map}
 use Rattle.std.specs.List.Sorted.{IsPermutation}
 use Rattle.std.proofs.lemmas.Grind.{flat_map-append}
-use Rattle.std.proofs.lemmas.List.{append-nil, map-append, take_more}
+use Rattle.std.proofs.lemmas.List.{append-nil, length-take, map-append, take_more}
 use Rattle.std.proofs.lemmas.List.Sums.{sum_by_push}
 use Rattle.std.proofs.lemmas.List.Elements.{All-nil, All-push, All-weaker, Contains-append_left, Contains-get_or, Contains-push}
 use Rattle.std.proofs.lemmas.Slice.Zip.{all_zipped_more}
@@ -27,7 +27,7 @@ use Rattle.mesh_split.specs.Counting.{CountsSplits}
 use Rattle.mesh_split.specs.declared.count.SplitCount.{SplitCount}
 use Rattle.mesh_offset.specs.Counting.{CountsAttempts, CountsStanding}
 use Rattle.mesh_offset.proofs.Adding.{adds_more, adds_nothing}
-use Rattle.mesh_offset.proofs.Counting.{counts_more, counts_of_one, counts_weaker, standing_more, standing_none, standing_of_one, standing_weaker}
+use Rattle.mesh_offset.proofs.Counting.{counts_more, counts_of_one, counts_weaker, standing_fewer, standing_more, standing_none, standing_of_one, standing_weaker}
 use Rattle.mesh_offset.proofs.Resolving.{given_balanced, given_edges, given_safe, given_subjects}
 use Rattle.mesh_outline.specs.Building.{style_for}
 use Rattle.mesh_outline.specs.Kinds.{contour_kind, kind_fill, way_for}
@@ -86,7 +86,8 @@ near_ignored unit style kind path ss count k none small = (
   0,
   GivesNear.ignored (sym (ap (way_for style) k) ∙ none),
   adds_nothing unit ss,
-  standing_none (λ (es : List Edge). IsPermutation es (drawn_of unit style path)) count small,
+  standing_fewer (λ (es : List Edge). IsPermutation es (drawn_of unit style path)) 0 1 (omega arith) 0 count count
+      (standing_none (λ (es : List Edge). IsPermutation es (drawn_of unit style path)) count small),
 )
 
 -- ---- one contour after another
@@ -146,12 +147,19 @@ near_more first own unit style paths i mid new old between after l h k = ((befor
           (greater_pushed first own (map (λ (t : ToldGive). t.nearness) before.1.told) before.1.greatest);
     }
 
-    counted : CountsStanding (IsOutlineDrawing unit style paths) (first_splits (before.1.told ++ one ∷ [])) old after
+    lists : length (take i paths) + 1 ≡ length (take (i + 1) paths)
+    lists =
+        let a = length-take i paths in
+        let b = length-take (i + 1) paths in omega (arith, a, b, l)
+
+    counted : CountsStanding (length (take (i + 1) paths)) (IsOutlineDrawing unit style paths) (first_splits (before.1.told ++ one ∷ [])) old after
     counted =
-        subst (λ (n : ℕ). CountsStanding (IsOutlineDrawing unit style paths) n old after) (sym (sum_by_push (λ (t : ToldGive). t.splits) before.1.told one))
-        (standing_more (IsOutlineDrawing unit style paths) (first_splits before.1.told) k.1 old between after h.1
+        subst (λ (n : ℕ). CountsStanding (length (take (i + 1) paths)) (IsOutlineDrawing unit style paths) n old after)
+        (sym (sum_by_push (λ (t : ToldGive). t.splits) before.1.told one))
+        (subst (λ (n : ℕ). CountsStanding n (IsOutlineDrawing unit style paths) (first_splits before.1.told + k.1) old after) lists
+        (standing_more (IsOutlineDrawing unit style paths) (length (take i paths)) 1 (first_splits before.1.told) k.1 old between after h.1
         (standing_weaker (λ (es : List Edge). IsPermutation es (drawn_of unit style (get_or paths i []))) (IsOutlineDrawing unit style paths)
-        (λ (es : List Edge) (same : IsPermutation es (drawn_of unit style (get_or paths i []))). IsOutlineDrawing.alone (Contains-get_or paths i [] l) same) k.1 between after k.4))
+        (λ (es : List Edge) (same : IsPermutation es (drawn_of unit style (get_or paths i []))). IsOutlineDrawing.alone (Contains-get_or paths i [] l) same) 1 k.1 between after k.4)))
 
 pub near_all : (first unit : ℕ) (style : OutlineStyle) (paths : List (List Point)) (i : ℕ) (ss : List SignedEdge) (old new : SplitCount) → length paths ≤ i →
     AreGivenCounted first unit style paths (take i paths) ss old new → AreGivenCounted first unit style paths paths ss old new

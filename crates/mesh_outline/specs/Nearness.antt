@@ -99,5 +99,5 @@ first_splits told = sum_by (λ (t : ToldGive). t.splits) told
 pub record AreCountedOutlineRegions (k unit : ℕ) (style : OutlineStyle) (choices : Choices)
     (contours : List (List Point)) (answer : List (List (List Point))) (old new : SplitCount) : Type 0 where
   pub near : AreOutlineRegionsBeyond k unit style choices contours answer
-  pub counted : CountsStanding (IsOutlineDrawing unit style contours)
+  pub counted : CountsStanding (length contours + 1) (IsOutlineDrawing unit style contours)
       (first_splits near.give.told + length near.beyond.regions.resolution.splits) old new

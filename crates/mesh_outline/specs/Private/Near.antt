@@ -1,5 +1,5 @@
 -- What the steps of an outline add whose nearness is told. Private contracts alone read these.
-use Rattle.std.specs.Prelude.{ℕ, ◌≡◌, List, []}
+use Rattle.std.specs.Prelude.{ℕ, ◌≡◌, List, [], length}
 use Rattle.std.specs.List.Sorted.{IsPermutation}
 use Rattle.mesh_plane.specs.Plane.{Point, Edge}
 use Rattle.mesh_num.specs.Segments.{SignedEdge}
@@ -38,7 +38,7 @@ abbrev pub AddsGivenNear : ℕ → ℕ → OutlineStyle → List Point → List 
     → SplitCount → Type 0
 AddsGivenNear k unit style contour old new before after =
     (edges : List Edge) × (n : ℕ) × GivesNear unit style contour edges k n × AddsClosed unit old new edges
-    × CountsStanding (λ (es : List Edge). IsPermutation es (drawn_of unit style contour)) n before after
+    × CountsStanding 1 (λ (es : List Edge). IsPermutation es (drawn_of unit style contour)) n before after
 
 -- the segments are those of what contours give, closed and safe
 abbrev pub AreGivenNear : ℕ → ℕ → OutlineStyle → List (List Point) → List SignedEdge → Type 0
@@ -50,4 +50,4 @@ abbrev pub AreGivenCounted : ℕ → ℕ → OutlineStyle → List (List Point) 
     → SplitCount → SplitCount → Type 0
 AreGivenCounted k unit style all contours ss before after =
     (near : AreGivenNear k unit style contours ss)
-    × CountsStanding (IsOutlineDrawing unit style all) (first_splits near.1.told) before after
+    × CountsStanding (length contours) (IsOutlineDrawing unit style all) (first_splits near.1.told) before after
