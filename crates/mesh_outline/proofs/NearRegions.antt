@@ -165,10 +165,10 @@ module _ (unit : ℕ) (style : OutlineStyle) where
       first = first;
       last = last;
       added = refl;
-      given = given;
+      outline = record { given = given; give = give_of first contours given give; resolution = standing.beyond.regions.resolution };
       give = give;
       beyond = standing.beyond;
-      outline = record { given = given; give = give_of first contours given give; resolution = standing.beyond.regions.resolution };
+      same = refl;
       fills = fills;
       close = λ (e : Edge) (o : occurs e (answer_edges answer) ≡ true) (m : ℕ) (some : 0 < m) (q : Point) (on : IsOn (refined_edge m e) q).
           let near = standing.beyond.close e o m some q on in

@@ -73,10 +73,10 @@ pub record AreOutlineRegionsBeyond (k unit : ℕ) (style : OutlineStyle) (choice
   pub first : ℕ
   pub last : ℕ
   pub added : k ≡ first + last
-  pub given : List Edge
-  pub give : GiveNear first unit style contours given
-  pub beyond : AreRegionsBeyond last (proper_edges given) (filled Positive) choices answer
   pub outline : IsOutline unit style choices contours answer
+  pub give : GiveNear first unit style contours outline.given
+  pub beyond : AreRegionsBeyond last (proper_edges outline.given) (filled Positive) choices answer
+  pub same : beyond.regions.resolution ≡ outline.resolution
   pub fills : WindsOnceWhere (more_fill unit style contours)
       (λ m q. IsFarFrom k m (all_drawn unit style contours) q) choices answer
   -- and each point of its contours lies within `k` of a drawn edge
