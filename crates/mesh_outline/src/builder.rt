@@ -1,6 +1,6 @@
 //! Draws the offset curve of one contour.
 
-ghost use Rattle.std.specs.Prelude.{◌≡◌, ◌*◌, ◌≤◌, length, vec_capacity, OnOk, OnErr, IsOk, ◌++◌};
+ghost use Rattle.std.specs.Prelude.{◌≡◌, ◌*◌, ◌≤◌, length, pos, vec_capacity, OnOk, OnErr, IsOk, ◌++◌};
 ghost use Rattle.std.specs.List.{All};
 ghost use Rattle.std.specs.List.Sorted.{IsPermutation};
 ghost use Rattle.mesh_plane.specs.Winding.{IsBalanced};
@@ -15,6 +15,7 @@ ghost use Rattle.mesh_offset.specs.Drawing.{NeverTurnedRound, WindAsContourAndPi
 ghost use Rattle.mesh_offset.specs.Adding.{HasRoomFor};
 ghost use Rattle.mesh_offset.specs.Padding.{AreEndsNear};
 ghost use Rattle.mesh_outline.specs.Building.{style_for, IsMovable};
+ghost use Rattle.mesh_outline.specs.Drawn.{WindAsContour};
 ghost use Rattle.mesh_outline.specs.Kinds.{way_for};
 ghost use Rattle.mesh_outline.specs.Private.Sections.{corner_segments, offset_join, top_segments, IsCorner};
 ghost use Rattle.mesh_outline.specs.Outline.{outline_edges, outline_pieces};
@@ -118,6 +119,8 @@ impl<I: IntNumber> OutlineBuilder<I> {
             (added_edges segments.old.items segments.new.items)) }
         ensures pieces { OnOk result (NeverTurnedRound self.old.offset (outline_pieces I.unit self.old path.now)) }
         ensures count { OnOk result (WindsByCount self.old.offset path.now (outline_pieces I.unit self.old path.now)
+            (added_edges segments.old.items segments.new.items)) }
+        ensures zero { self.old.offset ≡ pos 0 → OnOk result (WindAsContour path.now
             (added_edges segments.old.items segments.new.items)) }
     {
         let length = segments.len();

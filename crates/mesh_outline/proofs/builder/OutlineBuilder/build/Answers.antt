@@ -10,7 +10,7 @@ use Rattle.mesh_join.specs.Styles.{OffsetJoin}
 use Rattle.mesh_offset.specs.Private.Built.{Adds}
 use Rattle.mesh_outline.specs.Building.{IsMovable}
 use Rattle.mesh_outline.specs.Outline.{outline_edges}
-use Rattle.mesh_outline.proofs.BuilderTheorems.{adds_few, adds_promised, adds_safe}
+use Rattle.mesh_outline.proofs.BuilderTheorems.{adds_few, adds_promised, adds_safe, adds_winding}
 use Rattle.mesh_outline.proofs.Promised.{has_promised_edges}
 use Rattle.mesh_outline.proofs.builder.OutlineBuilder.build.Given as given
 use Rattle.mesh_outline.proofs.builder.OutlineBuilder.build.Goals as goal
@@ -87,3 +87,6 @@ returns-clause-pieces g c = (has_promised_edges g.I.IntNumber.unit c.args.self.n
 
 pub returns-clause-count : goal.returns-clause-count
 returns-clause-count g c = (adds_promised g.I.IntNumber.unit c.args.self.now c.args.path.now g.met.I.IntNumber.least_law _ _ (adds g c)).count
+
+pub returns-clause-zero : goal.returns-clause-zero
+returns-clause-zero g c none = adds_winding g.I.IntNumber.unit c.args.self.now c.args.path.now g.met.I.IntNumber.least_law none _ _ (adds g c)
