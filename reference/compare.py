@@ -2,12 +2,16 @@
 """Compares a program's answers to random requests with the reference, by the relation that contracts allow.
 
     reference/compare.py PROGRAM [--requests N] [--seed S] [--lines [--most-splits N]]
+    reference/compare.py --rows FOLDER
 
 PROGRAM reads a request from standard input, as `mesh_run` does. With --lines it reads one from each line, as
-`mesh_lines` does, and is asked for nearness and reasons, with a limit on splits if one is given.
+`mesh_lines` does, and is asked for nearness and reasons, with a limit on splits if one is given. With --rows no program
+is run: the requests of the tests' tables in a folder are taken, and the lines that stand beside them.
 """
 import argparse
 import json
+import pathlib
+import re
 import subprocess
 import sys
 import time
@@ -16,6 +20,30 @@ from answering import answer
 from random_requests import request
 from reading import Reader
 from relation import Relation
+
+FAILURES = {"REFUSED": (1, '{"refused":"mesh coordinate exceeds the integer engine range"}\n', None),
+            "UNREADABLE": (2, '{"unreadable":"request"}\n', None)}
+"""What the requests of a table are answered whose name ends so, if it has no lines beside them."""
+
+STRING = re.compile(r'r#"([\s\S]*?)"#|"((?:[^"\\]|\\.)*)"')
+"""A string as Rust writes it."""
+
+def strings(table):
+    """The strings of a table, in order, but not those in its notes."""
+    for raw, plain in STRING.findall(re.sub(r"^ *//.*$", "", table, flags=re.M)):
+        yield raw or json.loads('"' + re.sub(r"\\u\{(\w{4})\}", r"\\u\1", plain) + '"', strict=False)
+
+def rows(folder):
+    """Each request of the tables in a folder, and what it is answered. Tables of what people are told are left out."""
+    for path in sorted(pathlib.Path(folder).glob("*.rt")):
+        if path.stem in ("notes", "reasons"):
+            continue
+        for name, table in re.findall(r"^pub const (\w+): .*? = &\[$(.*?)^\];$", path.read_text(), re.M | re.S):
+            found = list(strings(table))
+            if found[1].startswith(('{"edges":', '{"shapes":')):
+                yield from ((text, (0, line + "\n", None)) for text, line in zip(found[::2], found[1::2]))
+            elif name.split("_")[-1] in FAILURES:
+                yield from ((text, FAILURES[name.split("_")[-1]]) for text in found)
 
 def asked(program, texts):
     """What a program of one request answers to each text: its status, its line, and what it tells people."""
@@ -54,16 +82,20 @@ def fault(text, answered, limit):
 
 def main():
     parser = argparse.ArgumentParser(description=__doc__.split("\n")[0])
-    parser.add_argument("program", nargs="+")
+    parser.add_argument("program", nargs="*")
     parser.add_argument("--lines", action="store_true")
+    parser.add_argument("--rows")
     for name, default in (("--requests", 1000), ("--seed", 1), ("--most-splits", 0)):
         parser.add_argument(name, type=int, default=default)
     given = parser.parse_args()
     begun, held, faults = time.monotonic(), {}, 0
-    texts = [request(given.seed, number) for number in range(given.requests)]
-    limit = ["--most-splits", str(given.most_splits)] if given.most_splits else []
-    words = [*given.program, "--nearness", "--why", *limit]
-    found = asked_lines(words, texts) if given.lines else asked(given.program, texts)
+    if given.rows:
+        texts, found = zip(*rows(given.rows))
+    else:
+        texts = [request(given.seed, number) for number in range(given.requests)]
+        limit = ["--most-splits", str(given.most_splits)] if given.most_splits else []
+        words = [*given.program, "--nearness", "--why", *limit]
+        found = asked_lines(words, texts) if given.lines else asked(given.program, texts)
     for number, (text, answered) in enumerate(zip(texts, found)):
         wrong, against = fault(text, answered, given.most_splits)
         held[against] = held.get(against, 0) + 1
@@ -71,8 +103,9 @@ def main():
             faults += 1
             print(f"{number}: {wrong}\n  {text}\n  {answered}")
     count, seconds = sum(held.values()), round(time.monotonic() - begun)
-    print(f"{count} requests of seed {given.seed}, {faults} differ, {seconds} seconds, held against {held}")
-    sys.exit(faults > 0 or count < given.requests)
+    kind = "of the tables" if given.rows else f"of seed {given.seed}"
+    print(f"{count} requests {kind}, {faults} differ, {seconds} seconds, held against {held}")
+    sys.exit(faults > 0 or count < len(texts))
 
 if __name__ == "__main__":
     main()
