@@ -51,7 +51,7 @@ impl<I: IntNumber> VariableStrokeBuilder<I> {
     /// width, rounded up. Every point has to stay in the safe range when it moves by the greatest radius of all.
     ///
     /// What the vector holds stays, and its capacity never shrinks. Where no radius is above 1, as for a path without
-    /// vertices, nothing is added and nothing is allocated. After an error the vector has its old length.
+    /// vertices, nothing is added and the call succeeds. After an error the vector has its old length.
     ///
     /// Where one circle holds the next, or where the section before already covers it, a new chain of sections starts.
     /// Each chain is drawn along the outer tangents of its neighbouring circles, and ends round or straight.
