@@ -7,17 +7,21 @@ the drawing has; then the request, the line, and these numbers, each behind a sp
 in the order in which `test.c` reads them; other cases have none.
 """
 
+import ctypes
 import json
 import os
 import pathlib
 import subprocess
 import sys
+import warnings
 from concurrent.futures import ThreadPoolExecutor
 
 ROOT = pathlib.Path(__file__).resolve().parent.parent.parent
-sys.path.append(str(ROOT / "bench"))
+sys.path += [str(ROOT / "bench"), str(ROOT / "doors/python")]
+warnings.filterwarnings("ignore", ".*built before its proof")
 
 import random_requests
+from i_overlay_mesh.styles import SIDES, style_of
 
 PROGRAM = os.environ.get("I_OVERLAY_MESH_PROGRAM", ROOT / "crates/mesh_run/out/mesh_run")
 
@@ -45,16 +49,6 @@ SLIVER = (
 )
 """The smallest drawing that is known to be answered with a sliver."""
 
-DEFAULT_MIN_TURN = 59_652_323
-
-DEFAULT_ARC = [68_356_528, 5]
-
-KINDS = {"bevel": 0, "miter": 1, "round": 2}
-
-CAPS = {"butt": 0, "square": 1, "round": 2, "custom": 3}
-
-SIDES = {"both": 0, "left": 1, "right": 2}
-
 
 def requests():
     """The examples, strange requests, random ones, of which each fifth asks for edges, and one with a sliver."""
@@ -68,37 +62,22 @@ def requests():
         elif number % 5 == 1:
             words["options"] = {"min_area": number % 50, "clockwise": number % 2 == 0, "collinear": number % 3 == 0}
         if words["op"] == "stroke":
-            words["style"]["side"] = list(SIDES)[number % 3]
+            words["style"]["side"] = SIDES[number % 3]
         yield json.dumps(words).encode()
     yield SLIVER
 
 
-def kind_of(said, kinds):
-    """The number of a kind, and what is said of it."""
-    word, more = next(iter(said.items())) if isinstance(said, dict) else (said, None)
-    return kinds[word], word, more
-
-
-def join_numbers(style):
-    """A join: its kind, the angle of a miter, the least turn of one, and an arc."""
-    number, word, more = kind_of(style.get("join", "bevel"), KINDS)
-    angle = more if word == "miter" else 0
-    return [number, angle, style.get("min_turn", DEFAULT_MIN_TURN), *(more if word == "round" else [0, 0])]
+def numbers_of(structure):
+    """The numbers of a structure, field by field."""
+    for name, _ in structure._fields_:
+        value = getattr(structure, name)
+        yield from numbers_of(value) if isinstance(value, ctypes.Structure) else [value]
 
 
 def style_numbers(words):
     """A style; of a stroke then the points of both custom caps."""
-    style = words["style"]
-    if words["op"] == "outline":
-        return [style["outer"], style["inner"], *join_numbers(style)]
-    if words["op"] == "variable_stroke":
-        return style.get("arc", DEFAULT_ARC)
-    numbers, points = [style["width"], *join_numbers(style)], []
-    for end in ("start", "end"):
-        number, word, more = kind_of(style.get(end, "butt"), CAPS)
-        numbers += [number, *(more if word == "round" else [0, 0])]
-        points += item_numbers(more if word == "custom" else [])
-    return numbers + [SIDES[style.get("side", "both")], int(words.get("closed", False))] + points
+    style = style_of(words)
+    return [*numbers_of(style.structure), *(number for points in style.caps for number in item_numbers(points))]
 
 
 def item_numbers(items):

@@ -8,10 +8,10 @@ import mmap
 from array import array
 from ctypes import byref, c_int64, c_uint64
 from dataclasses import dataclass
-from typing import Any, Callable, Mapping, Optional, Sequence
+from typing import Any, Callable, Optional, Sequence
 
 from .library import Outcome, call_of
-from .styles import TURN, CountsStructure, OptionsStructure, Style, style_of
+from .styles import TURN, CountsStructure, OptionsStructure, Style
 
 NUMBER, END = 4, 8
 """The sizes of a coordinate and of an end, in bytes."""
@@ -71,12 +71,6 @@ class Told:
     points: array[int]
     contour_ends: array[int]
     shape_ends: array[int]
-
-    def nested(self) -> list[list[list[list[int]]]]:
-        """Lists of contours, these of points."""
-        numbers = self.points.tolist()
-        pairs = [list(pair) for pair in zip(numbers[::2], numbers[1::2])]
-        return split(split(pairs, self.contour_ends), self.shape_ends)
 
 
 def nothing() -> Told:
@@ -170,23 +164,3 @@ def left(shapes: Told, width: int) -> tuple[Outcome, Told]:
     call = call_of("mesh_without_slivers")
     room = Room(lists.items[1], lists.ends[1], ends[1])
     return called(lambda room: call(*lists.words(), *ends, width, *room.words, byref(room.counts)), room)
-
-
-# For requests and nested lists
-
-
-def near_shapes(request: Mapping[str, Any], most_splits: int) -> tuple[Outcome, list[Any], int]:
-    """How a request for shapes in 32 bits ended, its shapes, and their nearness in 64ths of a grid unit."""
-    style = style_of(request)
-    lists = lists_in(request["paths"], 3 if style.operation == "variable_stroke" else 2)
-    outcome, told, nearness = drawn(style, lists, most_splits)
-    return outcome, told.nested(), nearness
-
-
-def without_slivers(shapes: Sequence[Sequence[Sequence[Sequence[int]]]], width: int) -> tuple[Outcome, list[Any]]:
-    """How the call for shapes in 32 bits without their slivers ended, and what is left."""
-    lists = lists_in([contour for shape in shapes for contour in shape], 2)
-    points, contour_ends = lists.kept
-    told = Told(points, contour_ends, array("Q", itertools.accumulate(map(len, shapes))))
-    outcome, kept = left(told, width)
-    return outcome, kept.nested()

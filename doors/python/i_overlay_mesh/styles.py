@@ -35,12 +35,13 @@ LOSS_ON_GRID = 3
 
 JOINS = {"round": "round", "miter": "miter", "mitre": "miter", "bevel": "bevel"}
 CAPS = {"round": "round", "square": "square", "butt": "butt", "flat": "butt"}
-SIDES = ("both", "left", "right")
 
-# The numbers of the header for C, which a test compares with it.
+# The numbers of the header for C, which is their source: a test compares them with it.
 JOIN_KINDS = {"bevel": 0, "miter": 1, "round": 2}
 CAP_KINDS = {"butt": 0, "square": 1, "round": 2, "custom": 3}
 SIDE_KINDS = {"both": 0, "left": 1, "right": 2}
+
+SIDES = tuple(SIDE_KINDS)
 
 # What a request means that says nothing of them.
 DEFAULT_MIN_TURN = 59_652_323

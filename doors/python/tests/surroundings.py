@@ -32,11 +32,20 @@ os.environ["PYTHONWARNINGS"] = "ignore::UserWarning"
 sys.path.insert(0, str(PACKAGE))
 sys.path.insert(0, str(ROOT / "bench"))
 
+from i_overlay_mesh import arrays  # noqa: E402
+
 
 def program_line(request):
     """What the program writes for a request."""
     run = subprocess.run([PROGRAM], input=request, stdout=subprocess.PIPE, stderr=subprocess.DEVNULL, check=False)
     return run.stdout
+
+
+def nested(told):
+    """Shapes that the library told, as lists of contours, these of points."""
+    numbers = told.points.tolist()
+    pairs = [list(pair) for pair in zip(numbers[::2], numbers[1::2])]
+    return arrays.split(arrays.split(pairs, told.contour_ends), told.shape_ends)
 
 
 try:

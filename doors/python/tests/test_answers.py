@@ -12,10 +12,9 @@ import tempfile
 import unittest
 import xml.etree.ElementTree
 
-from surroundings import PACKAGE, ROOT, numpy, shapely
+from surroundings import PACKAGE, numpy, shapely
 
-from i_overlay_mesh import DrawingError, buffer, is_proved, outline, stroke, styles, variable_stroke
-from i_overlay_mesh.library import Outcome
+from i_overlay_mesh import DrawingError, buffer, is_proved, outline, stroke, variable_stroke
 
 SQUARE = [[0, 0], [4, 0], [4, 3], [0, 3]]
 LINE = [[0, 0], [30, 0], [30, 10]]
@@ -187,40 +186,6 @@ class TestWordsOfShapely(unittest.TestCase):
                     1,
                     **{"join_style": 2, **words} if "mitre_limit" in words else words,
                 )
-
-
-class TestTables(unittest.TestCase):
-    """The numbers of kinds are those of the header for C."""
-
-    def test_header(self):
-        text = (ROOT / "doors/c/i_overlay_mesh.h").read_text()
-        told = {name: int(value) for name, value in re.findall(r"\b(MESH_[A-Z_]+) = (\d+)", text)}
-        own = {f"MESH_{outcome.name}": int(outcome) for outcome in Outcome}
-        own.update({f"MESH_{name.upper()}": number for name, number in styles.JOIN_KINDS.items()})
-        own.update({f"MESH_CAP_{name.upper()}": number for name, number in styles.CAP_KINDS.items()})
-        own.update({f"MESH_SIDE_{name.upper()}": number for name, number in styles.SIDE_KINDS.items()})
-        self.assertEqual(own, told)
-        self.assertEqual(int(re.search(r"MESH_MIN_TURN (\d+)u", text)[1]), styles.DEFAULT_MIN_TURN)
-
-    def test_rust(self):
-        text = (ROOT / "doors/rust/src/style.rs").read_text()
-        for kind, numbers in (("Join", styles.JOIN_KINDS), ("Cap", styles.CAP_KINDS)):
-            told = re.findall(rf"{kind}::(\w+)(?:\(\w+\))? => \((\d)", text)
-            self.assertEqual({name.lower(): int(number) for name, number in told}, numbers)
-        sides = re.search(r"pub enum Side \{(.*?)\n\}", text, re.S)[1]
-        self.assertEqual([name.lower() for name in re.findall(r"^    (\w+),", sides, re.M)], list(styles.SIDE_KINDS))
-        self.assertEqual(list(styles.SIDE_KINDS.values()), [0, 1, 2])
-        text = (ROOT / "doors/rust/src/error.rs").read_text()
-        told = {int(number): name for number, name in re.findall(r"(\d) => Err\(Error::(\w+)\)", text)}
-        names = {int(outcome): outcome.name.title().replace("_", "") for outcome in Outcome}
-        self.assertEqual({**told, 0: "Answered", 5: "RoomTooSmall"}, names)
-
-    def test_cases(self):
-        """The test in C reads the same numbers."""
-        text = (ROOT / "doors/c/cases.py").read_text()
-        for name, numbers in (("KINDS", styles.JOIN_KINDS), ("CAPS", styles.CAP_KINDS), ("SIDES", styles.SIDE_KINDS)):
-            told = re.findall(r'"(\w+)": (\d)', re.search(rf"^{name} = (.*)$", text, re.M)[1])
-            self.assertEqual({word: int(number) for word, number in told}, numbers)
 
 
 @unittest.skipIf(shutil.which("mypy") is None, "mypy is not there")

@@ -3,12 +3,12 @@
 import json
 import unittest
 
-import surroundings  # noqa: F401, makes the package found
-from surroundings import PROGRAM, program_line
+from surroundings import PROGRAM, nested, program_line
 
 import random_requests
 from i_overlay_mesh import DrawingError, TooManySplits, arrays, buffer, outline, stroke, variable_stroke
 from i_overlay_mesh.library import Outcome
+from i_overlay_mesh.styles import style_of
 
 SQUARE = [(0, 0), (4, 0), (4, 3), (0, 3)]
 STAR = [(0, 10), (-6, -8), (9.5, 3), (-9.5, 3), (6, -8)]
@@ -71,9 +71,11 @@ class TestNearness(unittest.TestCase):
             if request["op"] != "variable_stroke":
                 del request["style"]["arc"]
             line = json.loads(program_line(json.dumps(request).encode()))
-            outcome, shapes, _ = arrays.near_shapes(request, 0)
+            style = style_of(request)
+            lists = arrays.lists_in(request["paths"], 3 if style.operation == "variable_stroke" else 2)
+            outcome, told, _ = arrays.drawn(style, lists, 0)
             self.assertEqual(outcome, Outcome.ANSWERED if "shapes" in line else Outcome.OUT_OF_RANGE)
-            self.assertEqual(shapes, line.get("shapes", []))
+            self.assertEqual(nested(told), line.get("shapes", []))
 
 
 if __name__ == "__main__":

@@ -1,10 +1,12 @@
 """Slivers, left out where it is asked for."""
 
+import itertools
 import random
 import unittest
+from array import array
 from fractions import Fraction
 
-from surroundings import SLIVER
+from surroundings import SLIVER, nested
 
 from i_overlay_mesh import DrawingError, arrays, buffer, outline, stroke, variable_stroke
 from i_overlay_mesh.library import Outcome
@@ -88,9 +90,11 @@ class TestSlivers(unittest.TestCase):
                 for _ in range(number % 4)
             ]
             width = min(2**32 - 1, source.randint(0, size) * 2 // 10 ** source.randint(0, 3))
-            outcome, kept = arrays.without_slivers(shapes, width)
-            self.assertEqual((outcome, kept), (Outcome.ANSWERED, left(shapes, width)))
-            gone += kept != shapes
+            points, contour_ends = arrays.lists_in([contour for shape in shapes for contour in shape], 2).kept
+            told = arrays.Told(points, contour_ends, array("Q", itertools.accumulate(map(len, shapes))))
+            outcome, kept = arrays.left(told, width)
+            self.assertEqual((outcome, nested(kept)), (Outcome.ANSWERED, left(shapes, width)))
+            gone += nested(kept) != shapes
         self.assertGreater(gone, 50)
 
 

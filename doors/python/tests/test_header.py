@@ -1,0 +1,173 @@
+"""The header for C is the one source of kinds, outcomes, structs and calls: Python, Rust and the library keep to it."""
+
+import ctypes
+import re
+import unittest
+
+from surroundings import ROOT
+
+from i_overlay_mesh import arrays, library, styles
+from i_overlay_mesh.library import Outcome
+
+TEXT = re.sub(r"/\*.*?\*/", "", (ROOT / "doors/c/i_overlay_mesh.h").read_text(), flags=re.S)
+
+RUST = ROOT / "doors/rust/src"
+
+NUMBERS = {
+    "int32_t": ctypes.c_int32,
+    "uint32_t": ctypes.c_uint32,
+    "uint64_t": ctypes.c_uint64,
+    "size_t": ctypes.c_size_t,
+}
+
+
+def enumeration(first):
+    """The numbers of the enumeration that begins with a name, by their names in lower case, less what all begin with."""
+    words = re.search(rf"enum \{{\s*({first} = .*?)\}}", TEXT, re.S)[1]
+    prefix = re.match(r"MESH_(CAP_|SIDE_)?", first)[0]
+    return {name[len(prefix) :].lower(): int(number) for name, number in re.findall(r"(\w+) = (\d+)", words)}
+
+
+OUTCOMES = enumeration("MESH_ANSWERED")
+JOINS = enumeration("MESH_BEVEL")
+CAPS = enumeration("MESH_CAP_BUTT")
+SIDES = enumeration("MESH_SIDE_BOTH")
+MIN_TURN = int(re.search(r"MESH_MIN_TURN (\d+)u", TEXT)[1])
+
+
+def fields_of(words):
+    """The types and names of fields."""
+    parts = [part.split(maxsplit=1) for part in words.split(";") if part.strip()]
+    return [(kind, name.strip()) for kind, names in parts for name in names.split(",")]
+
+
+STRUCTS = {name: fields_of(words) for words, name in re.findall(r"typedef struct \{(.*?)\} (\w+);", TEXT, re.S)}
+
+CALLS = {
+    name: [re.fullmatch(r"\s*(.*?)(\w+)\s*", part, re.S).groups() for part in words.split(",")]
+    for name, words in re.findall(r"^mesh_outcome (\w+)\((.*?)\);", TEXT, re.M | re.S)
+}
+
+
+def name_of(word):
+    """A name of a type as the header writes it."""
+    return "mesh" + re.sub(r"([A-Z])", lambda letter: "_" + letter[1].lower(), word)
+
+
+class TestPython(unittest.TestCase):
+    def test_kinds(self):
+        self.assertEqual(len(re.findall(r"\benum \{", TEXT)), 4)
+        self.assertEqual({outcome.name.lower(): int(outcome) for outcome in Outcome}, OUTCOMES)
+        self.assertEqual(styles.JOIN_KINDS, JOINS)
+        self.assertEqual(styles.CAP_KINDS, CAPS)
+        self.assertEqual(styles.SIDE_KINDS, SIDES)
+        self.assertEqual(set(styles.JOINS.values()), set(JOINS))
+        self.assertEqual({*styles.CAPS.values(), "custom"}, set(CAPS))
+        self.assertEqual(styles.DEFAULT_MIN_TURN, MIN_TURN)
+
+    def test_structs(self):
+        kinds = {name: kind for name, kind in vars(styles).items() if name.endswith("Structure")}
+        names = {kind: name_of(name[: -len("Structure")]) for name, kind in kinds.items()}
+        names[styles.OutlineStructure] += "_style"
+        names[styles.StrokeStructure] += "_style"
+        names[styles.CountsStructure] = "mesh_shape_counts"
+        lists = {"mesh_edge_counts", *(name for name in STRUCTS if name.endswith(("_i32", "_i16")))}
+        self.assertEqual(set(names.values()), set(STRUCTS) - lists)
+        known = {**NUMBERS, **{name: kind for kind, name in names.items()}}
+        for kind, name in names.items():
+            told = [(field, known[word]) for word, field in STRUCTS[name]]
+            self.assertEqual(list(kind._fields_), told, name)
+
+    def test_calls(self):
+        for name, arguments in CALLS.items():
+            if "_edges_" in name or name == "mesh_why":
+                continue
+            told = [ctypes.c_void_p if "*" in word else NUMBERS[word.strip()] for word, _ in arguments]
+            self.assertEqual(library.parameters_of(re.sub(r"_i(16|32)$", "", name)), told, name)
+
+
+class TestLibrary(unittest.TestCase):
+    """The library takes the kinds of the header and no others."""
+
+    def outcome(self, number, kinds):
+        """How a drawing ends whose style has a number for its join, its caps or its side."""
+        stroke = styles.stroke_style(100, styles.JoinStyle("bevel"), (styles.End("butt"),) * 2, "both", False)
+        structure = stroke.structure
+        if kinds is JOINS:
+            structure.join.kind = number
+        elif kinds is CAPS:
+            structure.start_cap.kind = structure.end_cap.kind = number
+        else:
+            structure.side = number
+        return arrays.reach(stroke, arrays.lists_in([[[0, 0], [500, 0], [500, 90]]], 2))[0]
+
+    def test_kinds(self):
+        for kinds in (JOINS, CAPS, SIDES):
+            for number in range(len(kinds) + 2):
+                expected = Outcome.ANSWERED if number in kinds.values() else Outcome.MALFORMED
+                self.assertEqual(self.outcome(number, kinds), expected, (number, kinds))
+
+
+class TestRust(unittest.TestCase):
+    def test_kinds(self):
+        text = (RUST / "style.rs").read_text()
+        for kind, numbers in (("Join", JOINS), ("Cap", CAPS)):
+            told = re.findall(rf"{kind}::(\w+)(?:\(\w+\))? => \((\d+)", text)
+            self.assertEqual({name.lower(): int(number) for name, number in told}, numbers)
+            names = re.search(rf"pub enum {kind}(?:<I>)? \{{(.*?)\n\}}", text, re.S)[1]
+            self.assertEqual({name.lower() for name in re.findall(r"^    (\w+)[,(]", names, re.M)}, set(numbers))
+        sides = re.findall(r"^    (\w+),", re.search(r"pub enum Side \{(.*?)\n\}", text, re.S)[1], re.M)
+        self.assertEqual({name.lower(): number for number, name in enumerate(sides)}, SIDES)
+        self.assertEqual(int(re.search(r"MIN_TURN: u32 = ([\d_]+)", text)[1]), MIN_TURN)
+
+    def test_outcomes(self):
+        text = (RUST / "error.rs").read_text()
+        told = {name_of(name)[len("mesh_") :]: int(number) for number, name in re.findall(r"(\d+) => Err\(Error::(\w+)\)", text)}
+        told["answered"] = int(re.search(r"(\d+) => Ok\(\(\)\)", text)[1])
+        told["room_too_small"] = int(re.search(r"ROOM_TOO_SMALL: Outcome = (\d+)", text)[1])
+        self.assertEqual(told, OUTCOMES)
+
+    def test_structs(self):
+        text = (RUST / "calls.rs").read_text() + (RUST / "style.rs").read_text()
+        told = {}
+        for name, words in re.findall(r"#\[repr\(C\)\]\npub struct (\w+) \{(.*?)\n\}", text, re.S):
+            fields = re.findall(r"^    pub (\w+): (\w+),", words, re.M)
+            told[name_of(name.replace("Raw", ""))] = [(type_of(kind), field) for field, kind in fields]
+        self.assertEqual(told, {name: STRUCTS[name] for name in STRUCTS if not name.endswith(("_i32", "_i16"))})
+
+    def test_calls(self):
+        text = (RUST / "calls.rs").read_text()
+        told = {}
+        for wide, narrow, words in re.findall(r"^    \w+: (\w+), (\w+), \((.*?)\);", text, re.M | re.S):
+            told[wide], told[narrow] = arguments_of(words, "i32"), arguments_of(words, "i16")
+        for name, words in re.findall(r"pub fn (mesh_\w+)\((.*?)\)", text, re.S):
+            told[name] = arguments_of(words, "")
+        expected = {name: [(" ".join(kind.split()), word) for kind, word in words] for name, words in CALLS.items()}
+        self.assertEqual(told, expected)
+
+
+LISTS = {"[I; 2]": "mesh_point", "[I; 3]": "mesh_vertex", "[[I; 2]; 2]": "mesh_edge"}
+
+
+def type_of(word, width=""):
+    """A type of Rust as the header writes it."""
+    if word.startswith("*"):
+        kind = type_of(word.split(" ", 1)[1], width)
+        return f"const {kind} *" if word.startswith("*const") else f"{kind} *"
+    if word in LISTS:
+        return f"{LISTS[word]}_{width}"
+    if word == "usize":
+        return "size_t"
+    number = re.fullmatch(r"([iu])(\d+)", word)
+    if number:
+        return f"{'u' if number[1] == 'u' else ''}int{number[2]}_t"
+    return name_of(word.replace("Raw", ""))
+
+
+def arguments_of(words, width):
+    """Types and names of the arguments of a call of Rust."""
+    return [(type_of(kind, width), name) for name, kind in re.findall(r"(\w+): (\*?[^,]+)", words)]
+
+
+if __name__ == "__main__":
+    unittest.main()
