@@ -2,14 +2,14 @@
 
 from __future__ import annotations
 
-from ctypes import byref
+from ctypes import addressof, byref, c_size_t, c_uint8
 from dataclasses import dataclass
-from typing import Any, Callable, Optional, Sequence
+from typing import Callable, Optional
 
 import numpy
 import shapely
 
-from .arrays import DEFAULT_OPTIONS, END, NUMBER, Room
+from .arrays import NOTHING, Room
 from .engine import Task
 from .errors import DrawingError
 from .geometries import polygons_of, together
@@ -17,14 +17,17 @@ from .grid import MOST, Grid, power_of_two
 from .library import Outcome, call_of
 from .offsets import Buffering, outline_task, stroke_task, variable_task
 from .packed import PackedPaths
-from .styles import Style
-from .vectors import Array, rounded, starts_of, turn
+from .styles import OPERATIONS, CountsStructure, Style
+from .vectors import Array, list_numbers, rounded, starts_of, turn
 
 POINTS, LINES, POLYGONS = (0, 4), (1, 5), (3, 6)
 """The numbers of Shapely's types, of one and of many."""
 
-FIRST_ROOM = 32768
-"""Points of the room that is used for one geometry after the other."""
+FIRST_ROOM = (2**17, 2**13, 2**13)
+"""Points, contours and shapes of the room that is used for one call after the other."""
+
+NO_POINTS = (addressof(NOTHING), 0)
+"""The points of a cap that has none."""
 
 FARTHEST = 2.0**61
 """Coordinates that lie farther out on the grid are left to exact numbers."""
@@ -66,13 +69,17 @@ class Grids:
 
 @dataclass
 class Answers:
-    """The answers to a group: for each geometry how many points, contours and shapes it has, and their lists."""
+    """The answers to geometries of a group.
 
+    rows: which of the group they are.
+    counts: how many points, contours and shapes each has; and the lists of all.
+    """
+
+    rows: Array
     counts: Array
     points: Array
     contour_ends: Array
     shape_ends: Array
-    are_drawn: Array
 
 
 # Reading
@@ -90,10 +97,26 @@ def group_of(task: Task, numbers: Array, paths: Array, of_path: Array) -> Group:
     return Group(task, numbers, points, ends, numpy.cumsum(numpy.bincount(of_path, minlength=len(numbers))))
 
 
+def parts_of(geometries: Array) -> tuple[Array, Array]:
+    """The parts of geometries, and of which geometry each is."""
+    if (shapely.get_type_id(geometries) <= POLYGONS[0]).all():
+        return geometries, numpy.arange(len(geometries))
+    parts, of_part = shapely.get_parts(geometries, return_index=True)
+    return parts, of_part
+
+
+def rings_of(polygons: Array) -> tuple[Array, Array]:
+    """The rings of polygons, and of which polygon each is. A polygon without holes has the points of its ring alone."""
+    if not shapely.get_num_interior_rings(polygons).any():
+        return polygons, numpy.arange(len(polygons))
+    rings, of_ring = shapely.get_rings(polygons, return_index=True)
+    return rings, of_ring
+
+
 def polygon_group(geometries: Array, numbers: Array, how: Buffering) -> Group:
     """The rings of polygons."""
-    parts, of_part = shapely.get_parts(geometries[numbers], return_index=True)
-    rings, of_ring = shapely.get_rings(parts, return_index=True)
+    parts, of_part = parts_of(geometries[numbers])
+    rings, of_ring = rings_of(parts)
     distances = (how.distance, how.distance)
     group = group_of(
         outline_task(empty_paths(), distances, how.look.arcs, how.look.join, None), numbers, rings, of_part[of_ring]
@@ -104,7 +127,7 @@ def polygon_group(geometries: Array, numbers: Array, how: Buffering) -> Group:
 
 def line_groups(geometries: Array, numbers: Array, how: Buffering) -> list[Group]:
     """The lines of geometries all of whose lines are open, and of those all of whose lines end where they start."""
-    lines, of_line = shapely.get_parts(geometries[numbers], return_index=True)
+    lines, of_line = parts_of(geometries[numbers])
     points, of_point = shapely.get_coordinates(lines, return_index=True)
     sizes = numpy.bincount(of_point, minlength=len(lines))
     ends = numpy.cumsum(sizes)
@@ -122,7 +145,7 @@ def line_groups(geometries: Array, numbers: Array, how: Buffering) -> list[Group
 
 def point_group(geometries: Array, numbers: Array, how: Buffering) -> Group:
     """Single points, as lines of one vertex with a width."""
-    points, of_point = shapely.get_parts(geometries[numbers], return_index=True)
+    points, of_point = parts_of(geometries[numbers])
     width = 2 * float(how.distance)
     task = variable_task(PackedPaths(numpy.array([[0.0, 0.0, width]]), numpy.ones(1, numpy.int64), str), how.look.arcs)
     return group_of(task, numbers, points, of_point)
@@ -130,9 +153,11 @@ def point_group(geometries: Array, numbers: Array, how: Buffering) -> Group:
 
 def groups_of(geometries: Array, how: Buffering) -> list[Group]:
     """The geometries that can be drawn at once: of one kind each, not empty, and with no empty part."""
-    parts, of_part = shapely.get_parts(geometries, return_index=True)
-    hollow = numpy.bincount(of_part, shapely.is_empty(parts), len(geometries)) > 0
-    kinds = numpy.where(hollow | shapely.is_empty(geometries), -1, shapely.get_type_id(geometries))
+    kinds, are_hollow = shapely.get_type_id(geometries), shapely.is_empty(geometries)
+    (many,) = numpy.nonzero(kinds > POLYGONS[0])
+    parts, of_part = shapely.get_parts(geometries[many], return_index=True)
+    are_hollow[many[of_part[shapely.is_empty(parts)]]] = True
+    kinds[are_hollow] = -1
     groups = []
     for types, make in ((POLYGONS, polygon_group), (POINTS, point_group)):
         (numbers,) = numpy.nonzero(numpy.isin(kinds, types))
@@ -181,6 +206,14 @@ class Styles:
                 self.known[exponent] = (None, MOST)
         return self.known[exponent]
 
+    def rooms(self, exponents: Array) -> tuple[Array, Array]:
+        """For each exponent the greatest coordinate, and whether its grid is fine enough."""
+        found = [self.at(exponent) for exponent in exponents.tolist()]
+        return (
+            numpy.array([room for _, room in found]),
+            numpy.array([style is not None or room < 0 for style, room in found]),
+        )
+
 
 def find_grids(group: Group, styles: Styles) -> Grids:
     """For each geometry the grid of the greatest power of two by which it is in range, round its middle."""
@@ -189,24 +222,25 @@ def find_grids(group: Group, styles: Styles) -> Grids:
     high = numpy.maximum.reduceat(group.points, starts, axis=0)
     lengths = (high - low).max(axis=1) / 2 + float(group.task.reach)
     are_open = numpy.isfinite(low + high).all(axis=1) & (lengths > 0)
-    # Above the exponent of each power of two by which the length stays below 2^30.
-    exponents = 32 - numpy.frexp(numpy.where(are_open, lengths, 1))[1].astype(numpy.int64)
+    parts, powers = numpy.frexp(numpy.where(are_open, lengths, 1))
+    # No power of two that is greater keeps the length below 2^30: a part is at least a half, and one that is hardly more
+    # may be rounded to it.
+    exponents = 30 - powers.astype(numpy.int64) + (parts < 0.501)
     are_open &= numpy.abs(exponents) < 900
     origins = numpy.zeros((len(starts), 2), numpy.int64)
     are_found = numpy.zeros(len(starts), bool)
     while are_open.any():
         (rows,) = numpy.nonzero(are_open)
+        known, of_exponent = numpy.unique(exponents[rows], return_inverse=True)
         own = exponents[rows]
         bottom, top = (numpy.ldexp(corner[rows], own[:, None]) for corner in (low, high))
         is_near = (numpy.abs(bottom) < FARTHEST).all(axis=1) & (numpy.abs(top) < FARTHEST).all(axis=1)
         bottom, top = (numpy.where(is_near[:, None], corner, 0) for corner in (bottom, top))
         middles = middle_places(bottom, top)
         sizes = [numpy.abs(rounded(corner).astype(numpy.int64) - middles).max(axis=1) for corner in (bottom, top)]
-        rooms = {exponent: styles.at(exponent) for exponent in numpy.unique(own).tolist()}
-        room = numpy.array([rooms[exponent][1] for exponent in own.tolist()])
+        room, has_style = (column[of_exponent] for column in styles.rooms(known))
         fits = is_near & (numpy.maximum(*sizes) <= numpy.minimum(MOST, room))
         origins[rows[fits]] = middles[fits]
-        has_style = numpy.array([rooms[exponent][0] is not None or rooms[exponent][1] < 0 for exponent in own.tolist()])
         are_found[rows[fits]] = has_style[fits]
         # What is too small or too far out for this grid is left to exact numbers.
         are_open[rows[fits | ~has_style | ~is_near]] = False
@@ -236,73 +270,51 @@ def places_of(group: Group, grids: Grids, width: Callable[[int], int]) -> Array:
 # Drawing
 
 
-class Drawer:
-    """Draws one geometry after the other in the same room."""
+def drawn(group: Group, grids: Grids, styles: Styles, places: Array, stop: c_uint8) -> Answers:
+    """Draws the geometries that have a grid: by one call those of one scale, as far as the room does."""
+    vertex, path = starts_of(group.vertices), starts_of(group.paths)
+    ends = (group.ends - vertex[list_numbers(group.paths)]).astype(numpy.uint64)
+    order = numpy.argsort(grids.exponents, kind="stable")
+    order = order[grids.are_found[order]]
+    exponents = grids.exponents[order]
+    parts = numpy.column_stack([vertex, group.vertices - vertex, path, group.paths - path])[order].astype(numpy.uint64)
+    counts, outcomes = numpy.zeros((len(order), 3), numpy.int64), numpy.zeros(len(order), numpy.uint8)
+    room, start, told = Room(*FIRST_ROOM), 0, []
+    while start < len(order) and not stop.value:
+        style, _ = styles.at(int(exponents[start]))
+        assert style is not None
+        own = slice(start, int(numpy.searchsorted(exponents, exponents[start], "right")))
+        start += each(style, places, ends, parts[own], room, counts[own], outcomes[own], stop)
+        room.counts = CountsStructure(*counts[own.start : start].sum(axis=0).tolist())
+        told.append(room.told())
+        if start < own.stop:
+            room = Room(*numpy.maximum(counts[start], room.sizes).tolist())
+    kept = outcomes[:start] == Outcome.ANSWERED
+    points = numpy.frombuffer(b"".join(lists.points for lists in told), numpy.int32).reshape(-1, 2)
+    contour_ends = numpy.frombuffer(b"".join(lists.contour_ends for lists in told), numpy.int64)
+    shape_ends = numpy.frombuffer(b"".join(lists.shape_ends for lists in told), numpy.int64)
+    return Answers(order[:start][kept], counts[:start][kept], points, contour_ends, shape_ends)
 
-    def __init__(self) -> None:
-        self.room = Room(FIRST_ROOM, FIRST_ROOM // 8, FIRST_ROOM // 8)
-        self.view = memoryview(self.room.memory)
 
-    def draw(self, call: Callable[..., int], words: Sequence[Any]) -> tuple[bytes, bytes, bytes] | None:
-        """The lists of an answer; none where there is no answer."""
-        while True:
-            room = self.room
-            outcome = call(*words, *room.words, byref(room.counts))
-            counts, starts, view = room.counts, room.starts, self.view
-            if outcome == Outcome.ANSWERED:
-                ends = starts[1] + END * counts.contours, starts[2] + END * counts.shapes
-                return (
-                    bytes(view[: 2 * NUMBER * counts.points]),
-                    bytes(view[starts[1] : ends[0]]),
-                    bytes(view[starts[2] : ends[1]]),
-                )
-            if outcome != Outcome.ROOM_TOO_SMALL:
-                return None
-            self.room = Room(2 * counts.points, 2 * counts.contours, 2 * counts.shapes)
-            self.view = memoryview(self.room.memory)
-
-
-def drawn(group: Group, grids: Grids, styles: Styles, places: Array, is_stopped: Callable[[], bool]) -> Answers:
-    """Draws all geometries that have a grid."""
-    call = call_of(f"mesh_{operation_of(styles, grids)}")
-    first_paths, first_vertices = starts_of(group.paths), starts_of(group.vertices)
-    own_ends = numpy.repeat(first_vertices, numpy.diff(group.paths, prepend=0))
-    ends = (group.ends - own_ends).astype(numpy.uint64)
-    drawer, options = Drawer(), byref(DEFAULT_OPTIONS)
-    words = {exponent: (*style.words(), options) for exponent, (style, _) in styles.known.items() if style is not None}
-    item, points_at, ends_at = places.strides[0], places.ctypes.data, ends.ctypes.data
-    rows = zip(
-        first_vertices.tolist(),
-        numpy.diff(group.vertices, prepend=0).tolist(),
-        first_paths.tolist(),
-        numpy.diff(group.paths, prepend=0).tolist(),
-        grids.exponents.tolist(),
-        grids.are_found.tolist(),
+def each(
+    style: Style, places: Array, ends: Array, parts: Array, room: Room, counts: Array, outcomes: Array, stop: c_uint8
+) -> int:
+    """Draws one part of the places and ends after the other, and answers how many are done. What is given is written to."""
+    caps = () if style.caps else (*NO_POINTS, *NO_POINTS)
+    lists = places.ctypes.data, ends.ctypes.data, parts.ctypes.data, len(parts)
+    done = c_size_t()
+    call_of("mesh_each")(
+        OPERATIONS[style.operation],
+        *lists,
+        *style.words(),
+        *caps,
+        *room.words,
+        counts.ctypes.data,
+        outcomes.ctypes.data,
+        byref(stop),
+        byref(done),
     )
-    parts: list[tuple[bytes, bytes, bytes]] = []
-    are_drawn = numpy.zeros(len(group.paths), bool)
-    for number, (vertex, vertices, path, paths, exponent, is_found) in enumerate(rows):
-        answer = None
-        if is_found and not is_stopped():
-            lists = (points_at + item * vertex, vertices, ends_at + END * path, paths)
-            answer = drawer.draw(call, (*lists, *words[exponent]))
-        are_drawn[number] = answer is not None
-        parts.append(answer or (b"", b"", b""))
-    counts = numpy.array(
-        [[len(points) // 8, len(contours) // 8, len(shapes) // 8] for points, contours, shapes in parts]
-    )
-    columns = [b"".join(column) for column in zip(*parts)]
-    points = numpy.frombuffer(columns[0], numpy.int32).reshape(-1, 2)
-    contours, shapes = (numpy.frombuffer(column, numpy.uint64).astype(numpy.int64) for column in columns[1:])
-    return Answers(counts.reshape(-1, 3), points, contours, shapes, are_drawn)
-
-
-def operation_of(styles: Styles, grids: Grids) -> str:
-    """The operation of a task."""
-    for style, _ in styles.known.values():
-        if style is not None:
-            return style.operation
-    return "outline"
+    return done.value
 
 
 # Answers
@@ -311,16 +323,19 @@ def operation_of(styles: Styles, grids: Grids) -> str:
 def made(answers: Answers, grids: Grids) -> Array:
     """Geometries of Shapely: a Polygon where there is one, else a MultiPolygon."""
     points, contours, shapes = answers.counts.T
-    of_point = numpy.repeat(numpy.arange(len(points)), points)
-    moved = (answers.points.astype(numpy.int64) + grids.origins[of_point]).astype(numpy.float64)
-    coordinates = numpy.ldexp(moved, -grids.exponents[of_point][:, None])
+    units = numpy.ldexp(1.0, -grids.exponents[answers.rows])
+    moved = answers.points + numpy.repeat(grids.origins[answers.rows], points, axis=0)
+    coordinates = moved * numpy.repeat(units, points)[:, None]
     contour_ends = answers.contour_ends + numpy.repeat(numpy.cumsum(points) - points, contours)
     shape_ends = answers.shape_ends + numpy.repeat(numpy.cumsum(contours) - contours, shapes)
     return together(polygons_of(coordinates, contour_ends, shape_ends), shapes)
 
 
-def buffered(geometries: Array, how: Buffering, is_stopped: Callable[[], bool]) -> tuple[Array, Array]:
-    """Geometries buffered, and for each whether it was; the others are left to exact numbers."""
+def buffered(geometries: Array, how: Buffering, stop: c_uint8) -> tuple[Array, Array]:
+    """Geometries buffered, and for each whether it was; the others are left to exact numbers.
+
+    stop: a number that ends the work once it is not 0.
+    """
     result = numpy.full(len(geometries), None, object)
     are_done = numpy.zeros(len(geometries), bool)
     for group in groups_of(geometries, how):
@@ -333,8 +348,8 @@ def buffered(geometries: Array, how: Buffering, is_stopped: Callable[[], bool]) 
             assert group.task.widest is not None
             return group.task.widest(Grid(power_of_two(exponent), (power_of_two(0) * 0, power_of_two(0) * 0)))
 
-        answers = drawn(group, grids, styles, places_of(group, grids, width), is_stopped)
-        numbers = group.numbers[answers.are_drawn]
-        result[numbers] = made(answers, grids)[answers.are_drawn]
+        answers = drawn(group, grids, styles, places_of(group, grids, width), stop)
+        numbers = group.numbers[answers.rows]
+        result[numbers] = made(answers, grids)
         are_done[numbers] = True
     return result, are_done

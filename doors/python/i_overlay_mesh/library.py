@@ -59,17 +59,20 @@ def load_library() -> ctypes.CDLL:
     file = find_library()
     try:
         library = ctypes.CDLL(file)
-        library.mesh_answer  # noqa: B018, which fails where this is another library
+        library.mesh_each_i32  # noqa: B018, which fails where this is another library
     except (OSError, AttributeError) as error:
         raise LibraryMissing(f"{file} is not the library: {error}") from error
     return library
 
 
 def parameters_of(name: str) -> list[Any]:
-    """The parameters of a call for shapes, for the range, or for slivers, by its name without its width."""
+    """The parameters of a call for shapes, for the range, for slivers or for many drawings, by its name without its width."""
     if name == "mesh_answer":
         return [*LIST, *LIST, STRUCTURE]
     rooms = [*LIST, *LIST, *LIST, STRUCTURE]
+    if name == "mesh_each":
+        parts = [STRUCTURE, STRUCTURE, *LIST]
+        return [ctypes.c_uint32, *parts, STRUCTURE, *LIST, *LIST, *rooms, STRUCTURE, STRUCTURE, STRUCTURE]
     if name == "mesh_without_slivers":
         return [*LIST, *LIST, *LIST, ctypes.c_uint32, *rooms]
     drawing = [*LIST, *LIST, STRUCTURE]

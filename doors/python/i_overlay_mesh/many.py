@@ -189,13 +189,16 @@ def at_once(
 
     groups: dict[int, list[int]] = {}
     for number in chunk:
-        if items[number] is not None and is_geometry(items[number]) and is_plain_way(ways[number]):
+        if is_geometry(items[number]):
             groups.setdefault(id(ways[number]), []).append(number)
     done: set[int] = set()
     for numbers in groups.values():
+        how = ways[numbers[0]]
+        if not is_plain_way(how):
+            continue
         given = numpy.full(len(numbers), None, object)
         given[:] = [items[number] for number in numbers]
-        answers, are_done = batches.buffered(given, ways[numbers[0]], lambda: pool.is_stopped)
+        answers, are_done = batches.buffered(given, how, pool.stop)
         for number, answer, is_done in zip(numbers, answers.tolist(), are_done.tolist()):
             if is_done:
                 result[number] = answer

@@ -2,6 +2,7 @@
 
 from __future__ import annotations
 
+import ctypes
 import os
 import queue
 import sys
@@ -16,7 +17,7 @@ Progress = Union[None, bool, Tell]
 PATIENCE = 0.2
 """So many seconds the main thread waits at most before it looks for signals."""
 
-MOST_ITEMS = 256
+MOST_ITEMS = 1024
 """Of a chunk."""
 
 CHUNKS_A_WORKER = 8
@@ -86,9 +87,14 @@ class Pool:
         self.work = work
         self.is_collecting = errors is not None
         self.errors: dict[int, Exception] = errors if errors is not None else {}
-        self.is_stopped = False
+        self.stop = ctypes.c_uint8()
         self.done: queue.SimpleQueue[int] = queue.SimpleQueue()
         self.lock = threading.Lock()
+
+    @property
+    def is_stopped(self) -> bool:
+        """Whether the work is to end: `stop` is not 0, which the library looks at as well."""
+        return self.stop.value != 0
 
     def fail(self, number: int, error: Exception) -> None:
         """Notes the error of a number."""
@@ -128,7 +134,7 @@ class Pool:
         try:
             self.wait(len(threads), count, tell)
         finally:
-            self.is_stopped = True
+            self.stop.value = 1
         if self.errors and not self.is_collecting:
             raise self.errors[min(self.errors)]
 

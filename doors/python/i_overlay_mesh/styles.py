@@ -43,6 +43,9 @@ SIDE_KINDS = {"both": 0, "left": 1, "right": 2}
 
 SIDES = tuple(SIDE_KINDS)
 
+# Those of each.c.
+OPERATIONS = {"outline": 0, "stroke": 1, "variable_stroke": 2}
+
 # What a request means that says nothing of them.
 DEFAULT_MIN_TURN = 59_652_323
 DEFAULT_ARC = (68_356_528, PRECISION)

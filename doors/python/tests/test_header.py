@@ -9,7 +9,15 @@ from surroundings import ROOT
 from i_overlay_mesh import arrays, library, styles
 from i_overlay_mesh.library import Outcome
 
-TEXT = re.sub(r"/\*.*?\*/", "", (ROOT / "doors/c/i_overlay_mesh.h").read_text(), flags=re.S)
+
+def code_of(file):
+    """The text of a file of C without its comments."""
+    return re.sub(r"/\*.*?\*/", "", (ROOT / "doors" / file).read_text(), flags=re.S)
+
+
+TEXT = code_of("c/i_overlay_mesh.h")
+
+EACH = code_of("python/each.c")
 
 RUST = ROOT / "doors/rust/src"
 
@@ -43,10 +51,17 @@ def fields_of(words):
 
 STRUCTS = {name: fields_of(words) for words, name in re.findall(r"typedef struct \{(.*?)\} (\w+);", TEXT, re.S)}
 
-CALLS = {
-    name: [re.fullmatch(r"\s*(.*?)(\w+)\s*", part, re.S).groups() for part in words.split(",")]
-    for name, words in re.findall(r"^mesh_outcome (\w+)\((.*?)\);", TEXT, re.M | re.S)
-}
+
+
+def calls_of(text):
+    """The types and names of the arguments of calls."""
+    return {
+        name: [re.fullmatch(r"\s*(.*?)(\w+)\s*", part, re.S).groups() for part in words.split(",")]
+        for name, words in re.findall(r"^mesh_outcome (\w+)\((.*?)\)", text, re.M | re.S)
+    }
+
+
+CALLS = calls_of(TEXT)
 
 
 def name_of(word):
@@ -65,6 +80,11 @@ class TestPython(unittest.TestCase):
         self.assertEqual({*styles.CAPS.values(), "custom"}, set(CAPS))
         self.assertEqual(styles.DEFAULT_MIN_TURN, MIN_TURN)
 
+    def test_operations(self):
+        words = re.search(r"enum \{(.*?)\}", EACH)[1]
+        told = {name.lower(): int(number) for name, number in re.findall(r"MESH_(\w+) = (\d+)", words)}
+        self.assertEqual(styles.OPERATIONS, told)
+
     def test_structs(self):
         kinds = {name: kind for name, kind in vars(styles).items() if name.endswith("Structure")}
         names = {kind: name_of(name[: -len("Structure")]) for name, kind in kinds.items()}
@@ -79,7 +99,7 @@ class TestPython(unittest.TestCase):
             self.assertEqual(list(kind._fields_), told, name)
 
     def test_calls(self):
-        for name, arguments in CALLS.items():
+        for name, arguments in {**CALLS, **calls_of(EACH)}.items():
             if "_edges_" in name or name == "mesh_why":
                 continue
             told = [ctypes.c_void_p if "*" in word else NUMBERS[word.strip()] for word, _ in arguments]

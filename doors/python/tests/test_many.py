@@ -167,6 +167,19 @@ class TestShapely(unittest.TestCase):
         with self.assertRaisesRegex(DrawingError, "geometry 0, polygon 0, ring 0: single_sided is for lines"):
             buffer_all(given, 1, single_sided=True)
 
+    def test_rooms(self):
+        """Answers that the room takes one after the other, and one that is longer than it."""
+        if not hasattr(shapely, "linearrings"):
+            self.skipTest("Shapely 2 is not there")
+        from unittest import mock
+
+        from i_overlay_mesh import batches
+
+        draw = random.Random(3)
+        given = [made(draw, number % 7) for number in range(70)]
+        with mock.patch.object(batches, "FIRST_ROOM", (300, 2, 1)):
+            self.check(given, 2)
+
     def test_arrays_keep_their_form(self):
         given = numpy.full((2, 3), None, object)
         given[0, 1] = shapely.geometry.Point(1, 2)
