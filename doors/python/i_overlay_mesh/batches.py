@@ -13,7 +13,7 @@ from .arrays import NOTHING, Room
 from .engine import Task
 from .errors import DrawingError
 from .geometries import polygons_of, together
-from .grid import MOST, Grid, power_of_two
+from .grid import HARDLY_MORE_THAN_HALF, MOST, Grid, power_of_two
 from .library import Outcome, call_of
 from .offsets import Buffering, outline_task, stroke_task, variable_task
 from .packed import PackedPaths
@@ -223,9 +223,8 @@ def find_grids(group: Group, styles: Styles) -> Grids:
     lengths = (high - low).max(axis=1) / 2 + float(group.task.reach)
     are_open = numpy.isfinite(low + high).all(axis=1) & (lengths > 0)
     parts, powers = numpy.frexp(numpy.where(are_open, lengths, 1))
-    # No power of two that is greater keeps the length below 2^30: a part is at least a half, and one that is hardly more
-    # may be rounded to it.
-    exponents = 30 - powers.astype(numpy.int64) + (parts < 0.501)
+    # As `first_exponent` of one length: parts lie from a half to below 1.
+    exponents = 30 - powers.astype(numpy.int64) + (parts < float(HARDLY_MORE_THAN_HALF))
     are_open &= numpy.abs(exponents) < 900
     origins = numpy.zeros((len(starts), 2), numpy.int64)
     are_found = numpy.zeros(len(starts), bool)

@@ -10,7 +10,7 @@ from typing import Any, Callable, NoReturn, Optional, Sequence, TypeVar
 from .arrays import Lists, Told, drawn, left, lists_in, lists_of, nothing, reach
 from .errors import DrawingError, GridRangeError, TooManySplits
 from .exact import nearest_whole, plain, read_number
-from .grid import MOST, Grid, Place, exponent_above, power_of_two
+from .grid import MOST, Grid, Place, first_exponent, power_of_two
 from .library import Outcome
 from .paths import Box, Paths, box_round
 from .shapes import Shapes
@@ -166,20 +166,18 @@ def fits(tasks: Sequence[Task], grid: Grid, box: Box) -> bool:
     return max(abs(place) for place in (*low, *high)) <= MOST and all(task.allows(grid, low, high) for task in tasks)
 
 
-def finest_exponent(tasks: Sequence[Task], origin: Optional[tuple[Fraction, Fraction]], box: Box) -> int:
-    """The exponent of the greatest power of two by which all is in range."""
+def finest_grid(tasks: Sequence[Task], origin: Optional[tuple[Fraction, Fraction]], box: Box) -> Grid:
+    """The grid of the greatest power of two by which all is in range."""
     ends = [(Fraction(low), Fraction(high)) for low, high in zip(box.low, box.high)]
     if origin is None:
         half = max((high - low) / 2 for low, high in ends)
     else:
         half = max(abs(end - start) for pair, start in zip(ends, origin) for end in pair)
     length = half + max(task.reach for task in tasks)
-    if length == 0:
-        return 0
-    exponent = exponent_above(length)
-    while not fits(tasks, grid_by(power_of_two(exponent), origin, box), box):
-        exponent -= 1
-    return exponent
+    grid = grid_by(power_of_two(first_exponent(length)) if length else Fraction(1), origin, box)
+    while length and not fits(tasks, grid, box):
+        grid = grid_by(grid.scale / 2, origin, box)
+    return grid
 
 
 # What is asked for
@@ -253,13 +251,13 @@ def draw(tasks: Sequence[Task], wishes: Wishes) -> Shapes:
             return drawn_on(tasks, grid, wishes)
         except OutOfRange:
             tell_range(tasks, grid, wishes.origin, box)
-    exponent = finest_exponent(tasks, wishes.origin, box)
+    grid = finest_grid(tasks, wishes.origin, box)
     while True:
         try:
-            return drawn_on(tasks, grid_by(power_of_two(exponent), wishes.origin, box), wishes)
+            return drawn_on(tasks, grid, wishes)
         except OutOfRange:
             # The area of a ring is out of range, which the box does not tell.
-            exponent -= 1
+            grid = grid_by(grid.scale / 2, wishes.origin, box)
 
 
 def drawn_on(tasks: Sequence[Task], grid: Grid, wishes: Wishes) -> Shapes:
@@ -300,7 +298,7 @@ def tell_range(tasks: Sequence[Task], grid: Grid, origin: Any, box: Box) -> NoRe
 def safe_scale(tasks: Sequence[Task], origin: Optional[tuple[Fraction, Fraction]], box: Box) -> str:
     """Which scale would be safe, in words."""
     try:
-        scale = power_of_two(finest_exponent(tasks, origin, box))
+        scale = finest_grid(tasks, origin, box).scale
     except DrawingError as error:
         return f"no scale does, as with less {error}"
     return f"the greatest power of two that is safe is {plain(scale)}"

@@ -2,6 +2,7 @@
 
 from __future__ import annotations
 
+import contextlib
 import io
 import os
 import pathlib
@@ -101,6 +102,24 @@ def read_by(read: Callable[[Any], Any], name: str, given: Any) -> Any:
 # By other packages
 
 
+@contextlib.contextmanager
+def told() -> Iterator[None]:
+    """Tells the errors of another package, which has its own kinds of them, as errors of a file."""
+    try:
+        yield
+    except Exception as error:  # noqa: BLE001
+        raise FeatureError(str(error)) from error
+
+
+def written_whole(out: str, write: Callable[[pathlib.Path], Any]) -> None:
+    """Writes a layer. What was there is replaced only once all new files stand, of which a shapefile has several."""
+    target = pathlib.Path(out)
+    with told(), tempfile.TemporaryDirectory(dir=target.parent) as name:
+        write(pathlib.Path(name) / target.name)
+        for file in pathlib.Path(name).iterdir():
+            os.replace(file, target.with_name(file.name))
+
+
 def buffered_layer(
     file: str, out: Optional[str], draw: Callable[[Any, Any], Any], layer: Optional[str], project: Optional[str]
 ) -> None:
@@ -110,28 +129,15 @@ def buffered_layer(
     except ImportError:
         buffered_by_fiona(file, out, draw, layer, project)
         return
-    try:
-        given = geopandas.read_file(file, **({} if layer is None else {"layer": layer}))
-    except Exception as error:  # noqa: BLE001, since each reader has errors of its own
-        raise FeatureError(str(error)) from error
+    words = {} if layer is None else {"layer": layer}
+    with told():
+        given = geopandas.read_file(file, **words)
     table = draw(given, project)
     if out is None or out == STREAM:
         sys.stdout.buffer.write(table.to_json(drop_id=True).encode() + b"\n")
         sys.stdout.buffer.flush()
-        return
-    try:
-        write_table(table, out, layer)
-    except Exception as error:  # noqa: BLE001, likewise
-        raise FeatureError(str(error)) from error
-
-
-def write_table(table: Any, out: str, layer: Optional[str]) -> None:
-    """Writes a table whole: what was there is replaced only once all new files stand, of which a shapefile has several."""
-    target = pathlib.Path(out)
-    with tempfile.TemporaryDirectory(dir=target.parent) as name:
-        table.to_file(pathlib.Path(name) / target.name, **({} if layer is None else {"layer": layer}))
-        for file in pathlib.Path(name).iterdir():
-            os.replace(file, target.with_name(file.name))
+    else:
+        written_whole(out, lambda path: table.to_file(path, **words))
 
 
 def buffered_by_fiona(
@@ -147,19 +153,26 @@ def buffered_by_fiona(
         ) from None
     if project is not None:
         raise FeatureError("--project needs geopandas, which is not installed")
-    with fiona.open(file, layer=layer) as source:
-        if source.crs and source.crs.is_geographic:
-            raise FeatureError("the unit of its CRS is the degree and no length: bring the map to metres first")
+    with told(), fiona.open(file, layer=layer) as source:
+        crs, properties = source.crs, source.schema["properties"]
+        is_geographic = crs and crs.is_geographic
         features = [feature.__geo_interface__ for feature in source]
-        geometries = draw([feature["geometry"] for feature in features], None)
-        answers = [{**feature, "geometry": geometry} for feature, geometry in zip(features, geometries)]
-        if out is None or out == STREAM:
-            sys.stdout.buffer.write(written("", {"type": "FeatureCollection", "features": answers}).encode() + b"\n")
-            return
-        schema = {"geometry": "Unknown", "properties": source.schema["properties"]}
-        driver = fiona.drvsupport.driver_from_extension(out)
-        with fiona.open(out, "w", driver=driver, crs=source.crs, schema=schema, layer=layer) as target:
+    if is_geographic:
+        raise DrawingError("", "the unit of its CRS is the degree and no length: bring the map to metres first")
+    geometries = draw([feature["geometry"] for feature in features], None)
+    answers = [{**feature, "geometry": geometry} for feature, geometry in zip(features, geometries)]
+    if out is None or out == STREAM:
+        sys.stdout.buffer.write(written("", {"type": "FeatureCollection", "features": answers}).encode() + b"\n")
+        sys.stdout.buffer.flush()
+        return
+
+    def write(path: pathlib.Path) -> None:
+        driver = fiona.drvsupport.driver_from_extension(path)
+        schema = {"geometry": "Unknown", "properties": properties}
+        with fiona.open(path, "w", driver=driver, crs=crs, schema=schema, layer=layer) as target:
             target.writerecords(answers)
+
+    written_whole(out, write)
 
 
 def mappings(answers: Sequence[Any]) -> list[Any]:

@@ -12,6 +12,8 @@ from .exact import Number, exact_ratio, nearest_whole
 # A coordinate on the grid is safe where it is at most this in size.
 MOST = 2**30 - 1
 
+HARDLY_MORE_THAN_HALF = Fraction(501, 1000)
+
 Place = list[int]
 
 
@@ -90,7 +92,12 @@ def power_of_two(exponent: int) -> Fraction:
     return Fraction(2**exponent) if exponent >= 0 else Fraction(1, 2**-exponent)
 
 
-def exponent_above(length: Fraction) -> int:
-    """An exponent above that of each power of two by which a length, which is above 0, stays below 2^30."""
-    # A numerator of n bits over a denominator of d bits is above 2^(n - d - 1).
-    return 31 - (length.numerator.bit_length() - length.denominator.bit_length())
+def first_exponent(length: Fraction) -> int:
+    """The exponent of the greatest power of two by which a length, which is above 0, may stay below 2^30.
+
+    One that is hardly more than half of a power of two counts as that half, to which it may be rounded on the grid.
+    """
+    # A numerator of n bits over a denominator of d bits lies between 2^(n - d - 1) and 2^(n - d + 1).
+    top = length.numerator.bit_length() - length.denominator.bit_length()
+    top += length >= power_of_two(top)
+    return 30 - top + (length < HARDLY_MORE_THAN_HALF * power_of_two(top))

@@ -1,6 +1,7 @@
 """Files of all formats: what is read is what was written, and what is drawn is what `buffer` draws."""
 
 import json
+import os
 import pathlib
 import random
 import struct
@@ -16,6 +17,11 @@ try:
     import geopandas
 except ImportError:
     geopandas = None
+
+try:
+    import fiona
+except ImportError:
+    fiona = None
 
 TEXTS = {
     "POINT (1 2)": {"type": "Point", "coordinates": [1, 2]},
@@ -44,6 +50,12 @@ NO_TEXTS = [
     "POINT ?",
     "LINESTRING (0 0 1 1)) ",
 ]
+
+
+def area_of(geometry):
+    """Twice the area of a polygon's boundary, as a file may turn a ring or begin it elsewhere."""
+    ring = geometry["coordinates"][0]
+    return round(abs(sum(a[0] * b[1] - a[1] * b[0] for a, b in zip(ring, ring[1:]))), 6)
 
 
 class TestText(unittest.TestCase):
@@ -168,6 +180,38 @@ class TestCommand(unittest.TestCase):
         result = run("buffer", "--distance", "5", str(self.folder / "degrees.gpkg"), "-o", str(self.folder / "no.gpkg"))
         self.assertIn(b"whose unit is the degree", result.stderr)
         self.assertFalse((self.folder / "no.gpkg").exists())
+
+    @unittest.skipIf(fiona is None, "fiona is not there")
+    def test_layers_by_fiona_alone(self):
+        """Where GeoPandas cannot be imported."""
+        (self.folder / "geopandas.py").write_text("raise ImportError")
+        path = os.pathsep.join([str(self.folder), *filter(None, [os.environ.get("PYTHONPATH")])])
+        environment = {**os.environ, "PYTHONPATH": path}
+        source, degrees = self.folder / "map.gpkg", self.folder / "degrees.gpkg"
+        schema = {"geometry": "Unknown", "properties": {"name": "str"}}
+        given = [POLYGON, None, LINE]
+        for file, crs in (source, "EPSG:3035"), (degrees, "EPSG:4326"):
+            with fiona.open(file, "w", driver="GPKG", layer="land", crs=crs, schema=schema) as layer:
+                layer.writerecords({"geometry": item, "properties": {"name": "Åland"}} for item in given)
+        for name in ("out.gpkg", "out.shp"):
+            words = ("--layer", "land", str(source), "-o", str(self.folder / name))
+            result = run("buffer", "--distance", "5", *words, env=environment)
+            self.assertEqual((result.returncode, result.stdout), (0, b""), result.stderr)
+            with fiona.open(self.folder / name) as layer:
+                answers = [feature.__geo_interface__ for feature in layer]
+                self.assertEqual(layer.crs.to_epsg(), 3035)
+            self.assertEqual({answer["properties"]["name"] for answer in answers}, {"Åland"})
+            areas = [None if answer["geometry"] is None else area_of(answer["geometry"]) for answer in answers]
+            self.assertEqual(areas, [area_of(self.expected[0]), None, area_of(self.expected[1])])
+        for words, status, expected in [
+            ((str(degrees),), 2, b"the unit of its CRS is the degree"),
+            ((str(source), "-o", str(self.folder / "out.unknown")), 1, b"driver"),
+            ((str(source), "--layer", "sea"), 1, b"sea"),
+            ((str(self.folder / "none.gpkg"),), 1, b"none.gpkg"),
+        ]:
+            result = run("buffer", "--distance", "5", *words, env=environment)
+            self.assertEqual((result.returncode, b"Traceback" in result.stderr), (status, False), result.stderr)
+            self.assertIn(expected, result.stderr)
 
     def test_a_layer_that_is_none(self):
         (self.folder / "map.gpkg").write_bytes(b"nothing")
