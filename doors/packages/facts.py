@@ -33,8 +33,9 @@ object       {object}
 
 PROVED = """\
 Proved, by contracts of the crates, which a checker has proved: the code of the calls for C (crates/mesh_c and all below
-it), that is of the shared object and of the archive, and of the programs mesh_run and mesh_lines. What the contracts say
-is in README.md and docs/PROMISES.md of the sources.
+it), that is of the archive, of the shared object but for a loop that the package for Python calls
+(doors/c/each.c), and of the programs mesh_run and mesh_lines. What the contracts say is in README.md and
+docs/PROMISES.md of the sources.
 
 Not proved, but tested: the header for C, the crate for Rust, the package for Python, the packing itself, and what these
 documents call tested.

@@ -1,4 +1,4 @@
-"""Buffers many geometries of Shapely at once: read, placed, brought back and made by arrays, drawn one by one."""
+"""Buffers many small geometries of Shapely at once: read, placed, drawn, brought back and made by arrays."""
 
 from __future__ import annotations
 
@@ -29,13 +29,16 @@ FIRST_ROOM = (2**17, 2**13, 2**13)
 NO_POINTS = (addressof(NOTHING), 0)
 """The points of a cap that has none."""
 
+MOST_POINTS = 1024
+"""Of a geometry that is drawn with others. Larger ones take longer than what is done for each, and memory for all."""
+
 FARTHEST = 2.0**61
 """Coordinates that lie farther out on the grid are left to exact numbers."""
 
 
 @dataclass
 class Group:
-    """Geometries that are drawn by one call of the library each.
+    """Geometries that are drawn alike, each by itself.
 
     task: how they are drawn.
     numbers: which of the given ones they are.
@@ -152,12 +155,12 @@ def point_group(geometries: Array, numbers: Array, how: Buffering) -> Group:
 
 
 def groups_of(geometries: Array, how: Buffering) -> list[Group]:
-    """The geometries that can be drawn at once: of one kind each, not empty, and with no empty part."""
+    """The geometries that are drawn at once: small ones, of one kind each, not empty, and with no empty part."""
     kinds, are_hollow = shapely.get_type_id(geometries), shapely.is_empty(geometries)
     (many,) = numpy.nonzero(kinds > POLYGONS[0])
     parts, of_part = shapely.get_parts(geometries[many], return_index=True)
     are_hollow[many[of_part[shapely.is_empty(parts)]]] = True
-    kinds[are_hollow] = -1
+    kinds[are_hollow | (shapely.get_num_coordinates(geometries) > MOST_POINTS)] = -1
     groups = []
     for types, make in ((POLYGONS, polygon_group), (POINTS, point_group)):
         (numbers,) = numpy.nonzero(numpy.isin(kinds, types))

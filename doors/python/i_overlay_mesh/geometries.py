@@ -9,20 +9,17 @@ from __future__ import annotations
 import numpy
 import shapely
 
-from .vectors import Array
-
-
-def owners(ends: Array) -> Array:
-    """For each item of lists that stand end to end the number of its list."""
-    return numpy.repeat(numpy.arange(len(ends)), numpy.diff(ends, prepend=0))
+from .vectors import Array, list_numbers
 
 
 def polygons_of(points: Array, ring_ends: Array, polygon_ends: Array) -> Array:
     """Polygons of rings of points that stand end to end; rings are closed."""
     if not len(polygon_ends):
         return numpy.zeros(0, object)
-    rings = shapely.linearrings(points, indices=owners(ring_ends))
-    polygons: Array = shapely.polygons(rings, indices=owners(polygon_ends))
+    rings = shapely.linearrings(points, indices=list_numbers(ring_ends))
+    # Where nobody else has them, they take no memory beside the polygons, which take as much.
+    del points
+    polygons: Array = shapely.polygons(rings, indices=list_numbers(polygon_ends))
     return polygons
 
 

@@ -114,8 +114,9 @@ class Shapes:
 
             from .geometries import polygons_of, together
 
-            points, rings, polygons = self.arrays()
-            return together(polygons_of(points, rings[1:], polygons[1:]), numpy.array([len(self)]))[0]
+            parts = list(self.arrays())
+            polygons, rings = parts.pop()[1:], parts.pop()[1:]
+            return together(polygons_of(parts.pop(), rings, polygons), numpy.array([len(self)]))[0]
         polygons = [shapely.geometry.Polygon(polygon[0], polygon[1:]) for polygon in self.polygons]
         return polygons[0] if len(polygons) == 1 else shapely.geometry.MultiPolygon(polygons)
 

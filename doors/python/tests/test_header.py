@@ -17,7 +17,7 @@ def code_of(file):
 
 TEXT = code_of("c/i_overlay_mesh.h")
 
-EACH = code_of("python/each.c")
+EACH = code_of("c/each.c")
 
 RUST = ROOT / "doors/rust/src"
 

@@ -1,6 +1,6 @@
 /* Many drawings by one call, for the package for Python: between two calls of the library Python would take longer than
    the library takes for a small drawing, and its threads would wait for each other. No more than a loop over the calls of
-   the header, so it is tested and not proved; the header does not have it. */
+   the header, so it is tested and not proved. It stands in the shared object alone, and not in the header. */
 #include "i_overlay_mesh.h"
 
 /* Where the lists of a drawing lie in those of all. */
