@@ -5,6 +5,7 @@ from __future__ import annotations
 from typing import Any, Callable, Sequence
 
 import geopandas
+import pandas
 
 from .errors import DrawingError
 
@@ -29,7 +30,10 @@ def on_a_plane(column: Any, project: Any) -> Any:
             raise DrawingError(
                 "", "project is given, and the geometries have no CRS to project them from: `set_crs` says it"
             )
-        column = column.to_crs(column.estimate_utm_crs() if project == UTM else project)
+        try:
+            column = column.to_crs(column.estimate_utm_crs() if project == UTM else project)
+        except (RuntimeError, ValueError) as error:
+            raise DrawingError("", f"project is {project!r}: {error}") from error
     if column.crs is not None and column.crs.is_geographic:
         raise DrawingError(
             "",
@@ -39,9 +43,13 @@ def on_a_plane(column: Any, project: Any) -> Any:
     return column
 
 
-def drawn(value: Any, draw: Callable[[Sequence[Any]], list[Any]], project: Any) -> Any:
+def drawn(value: Any, distance: Any, draw: Callable[[Sequence[Any]], list[Any]], project: Any) -> Any:
     """A column or a table with its geometries buffered."""
     column = value.geometry
+    if isinstance(distance, pandas.Series) and not distance.index.equals(column.index):
+        raise DrawingError(
+            "", "distance is a column with another index than the geometries: `distance.reindex(geometries.index)` has theirs"
+        )
     plane = on_a_plane(column, project)
     answers = geopandas.GeoSeries(draw(plane.to_numpy().tolist()), index=column.index, crs=plane.crs, name=column.name)
     if project is not None:

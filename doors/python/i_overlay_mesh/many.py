@@ -87,7 +87,7 @@ def buffer_all(
         from . import frames
 
         if frames.is_frame(geometries):
-            return frames.drawn(geometries, draw, project)
+            return frames.drawn(geometries, distance, draw, project)
     if project is not None:
         raise DrawingError("", "project is given, and geometries have no CRS but those of GeoPandas")
     return like(geometries, draw)
@@ -99,7 +99,7 @@ def like(geometries: Any, draw: Callable[[Sequence[Any]], list[Any]]) -> Any:
         import numpy
 
         if isinstance(geometries, numpy.ndarray):
-            if geometries.dtype != object:
+            if geometries.dtype != object and geometries.size:
                 raise DrawingError("", f"geometries is an array of {geometries.dtype}, and has to be one of objects")
             result = numpy.full(geometries.size, None, object)
             # Some answers are sequences, which an array would take apart.

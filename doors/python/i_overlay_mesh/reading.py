@@ -150,6 +150,8 @@ class Reader:
         if mapping is not None:
             self.mapping("", mapping)
             return self.drawing
+        if value is None or isinstance(value, (str, bytes)):
+            raise DrawingError("", f"what is to be drawn is {value!r}, and has to be GeoJSON, a geometry, or a list")
         items = as_list("", value)
         if any(mapping_of(item) is not None for item in items):
             for index, item in enumerate(items):

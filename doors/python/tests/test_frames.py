@@ -9,6 +9,7 @@ from i_overlay_mesh import DrawingError, buffer, buffer_all, outline
 
 try:
     import geopandas
+    import pandas
 except ImportError:
     geopandas = None
 
@@ -41,6 +42,12 @@ class TestFrames(unittest.TestCase):
         self.assertTrue(answers.geometry.iloc[2].equals_exact(buffer(self.given[2], 3).shapely(), 0))
         self.assertIs(table.geometry.iloc[2], self.given[2])
 
+    def test_distances_of_a_column(self):
+        distances = pandas.Series([1, 2, 3, 4], index=list("abcd"))
+        self.assertTrue(buffer_all(self.column, distances).iloc[2].equals_exact(buffer(self.given[2], 3).shapely(), 0))
+        with self.assertRaisesRegex(DrawingError, "another index than the geometries"):
+            buffer_all(self.column, distances.iloc[::-1])
+
     def test_all_together(self):
         both = geopandas.GeoSeries([self.given[2], self.given[2].buffer(1)], crs=3035)
         self.assertEqual(len(outline(both, 1)), 1)
@@ -54,6 +61,9 @@ class TestFrames(unittest.TestCase):
             self.assertEqual(answers.crs, degrees.crs)
             area = answers.to_crs(degrees.estimate_utm_crs() if crs == "utm" else crs).area
             self.assertAlmostEqual(area.iloc[0] / (3.1365 * 1000**2), 1, 3)
+        for crs, given in ("EPSG:1", degrees), ("utm", degrees.iloc[1:]):
+            with self.assertRaisesRegex(DrawingError, f"project is '{crs}': "):
+                buffer_all(given, 1, project=crs)
         with self.assertRaisesRegex(DrawingError, "no CRS to project them from"):
             buffer_all(geopandas.GeoSeries([shapely.geometry.Point(15, 50)]), 1, project="utm")
 

@@ -188,6 +188,7 @@ class TestShapely(unittest.TestCase):
         self.assertEqual(answers.shape, (2, 3))
         self.assertTrue(answers[0, 1].equals_exact(buffer(given[0, 1], 1).shapely(), 0))
         self.assertIs(answers[1, 2], given[1, 2])
+        self.assertEqual(buffer_all(numpy.array([]), 1).shape, (0,))
         with self.assertRaisesRegex(DrawingError, "an array of float64"):
             buffer_all(numpy.zeros(3), 1)
 
