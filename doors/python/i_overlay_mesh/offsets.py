@@ -11,7 +11,6 @@ from .engine import Task, Wishes, draw, read_wishes
 from .errors import DrawingError
 from .exact import Number, plain, read_number
 from .grid import Grid
-from .looks import Look, read_caps, read_look
 from .paths import ListedPaths, Path, Paths, Vertex
 from .reading import Drawing, inside, read
 from .rings import RULES
@@ -22,11 +21,14 @@ from .styles import (
     Cap,
     CapStyle,
     JoinStyle,
+    Look,
     Style,
     are_numbers,
     choose,
     outline_style,
     read_arcs,
+    read_caps,
+    read_look,
     stroke_style,
     variable_style,
 )
