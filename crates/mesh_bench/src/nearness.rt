@@ -7,7 +7,7 @@ use i_overlay_mesh::{
 };
 use mesh_below::below::IntOverlayOptions;
 use mesh_num::num::OverlayInt;
-use mesh_request::drawing::Drawing;
+use mesh_drawing::drawing::Drawing;
 use mesh_request::json::parse;
 use mesh_request::request::read_request;
 use mesh_service::input::read_to_end;

@@ -4,7 +4,7 @@ use crate::BenchError;
 use mesh_num::num::OverlayInt;
 use mesh_request::json::parse;
 use mesh_request::request::{Output, Request, read_request};
-use mesh_service::drawing::{edges, shapes};
+use mesh_drawing::draw::{edges, shapes};
 use mesh_service::input::read_to_end;
 use std::alloc::Global;
 

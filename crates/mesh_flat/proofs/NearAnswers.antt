@@ -5,10 +5,10 @@ use Rattle.mesh_plane.specs.Plane.{Point}
 use Rattle.mesh_shapes.specs.Resolution.{Choices}
 use Rattle.mesh_offset.specs.declared.error.IntOutlineError.TheVariants as offset
 use Rattle.mesh_request.specs.Reading.{IsOfReading}
-use Rattle.mesh_request.specs.Requests.{Drawn}
+use Rattle.mesh_drawing.specs.Drawn.{Drawn}
 use Rattle.mesh_request.specs.declared.failure.Failure.{Failure}
 use Rattle.mesh_request.specs.declared.failure.Failure.TheVariants.{Unreadable, Refused}
-use Rattle.mesh_service.specs.Served.{MayBeDrawn}
+use Rattle.mesh_drawing.specs.Drawings.{MayBeDrawn}
 use Rattle.mesh_service.specs.declared.near_failure.NearFailure.{NearFailure}
 use Rattle.mesh_service.specs.declared.near_failure.NearFailure.TheVariants.{Failed, TooManySplits}
 use Rattle.mesh_flat.specs.Answers.{IsFailureOf}

@@ -5,10 +5,10 @@ use Rattle.std.specs.declared.cmp.Ordering.{Ordering}
 use Rattle.mesh_plane.specs.Plane.{Point, Edge}
 use Rattle.mesh_shapes.specs.Resolution.{Choices}
 use Rattle.mesh_offset.specs.declared.error.IntOutlineError.TheVariants.{CoordinateOutOfRange, OutOfMemory}
-use Rattle.mesh_request.specs.Requests.{Drawn}
+use Rattle.mesh_drawing.specs.Drawn.{Drawn}
 use Rattle.mesh_request.specs.declared.failure.Failure.{Failure}
 use Rattle.mesh_request.specs.declared.failure.Failure.TheVariants.{Unreadable, Refused}
-use Rattle.mesh_service.specs.Served.{MayBeDrawn, AreEdgesOf, AreShapesOf}
+use Rattle.mesh_drawing.specs.Drawings.{MayBeDrawn, AreEdgesOf, AreShapesOf}
 use Rattle.mesh_flat.specs.EndToEnd.{HoldsLists, HoldsShapes}
 use Rattle.mesh_flat.specs.declared.lists.FlatLists.{FlatLists}
 use Rattle.mesh_flat.specs.declared.shapes.FlatShapes.{FlatShapes}

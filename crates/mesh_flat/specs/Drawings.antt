@@ -5,7 +5,7 @@ use Rattle.mesh_plane.specs.Plane.{Point}
 use Rattle.mesh_join.specs.Styles.{OutlineStyle}
 use Rattle.mesh_join.specs.VariableStyles.{Vertex}
 use Rattle.mesh_stroke.specs.Styles.{StrokeStyle}
-use Rattle.mesh_request.specs.Requests.{Drawn, as_outline, as_stroke, as_variable_stroke}
+use Rattle.mesh_drawing.specs.Drawn.{Drawn, as_outline, as_stroke, as_variable_stroke}
 use Rattle.mesh_flat.specs.EndToEnd.{AreEndToEnd}
 use Rattle.mesh_flat.specs.Styles.{arc_of, outline_style_in, stroke_style_in, flag_in}
 use Rattle.mesh_flat.specs.declared.styles.FlatArc.{FlatArc}

@@ -2,7 +2,7 @@
 use Rattle.std.specs.Prelude.{ℕ, ◌≡◌, ◌≤◌, ℤ, List, length, Result}
 use Rattle.std.specs.declared.cmp.Ordering.{Ordering}
 use Rattle.mesh_plane.specs.Plane.{Edge}
-use Rattle.mesh_request.specs.Requests.{Drawn}
+use Rattle.mesh_drawing.specs.Drawn.{Drawn}
 use Rattle.mesh_request.specs.declared.failure.Failure.{Failure}
 use Rattle.mesh_flat.specs.Answers.{IsEdgesAnswer}
 use Rattle.mesh_flat.specs.Outcomes.{code_of, outcome_of}

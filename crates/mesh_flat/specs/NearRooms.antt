@@ -2,7 +2,7 @@
 use Rattle.std.specs.Prelude.{ℕ, ◌≡◌, Option, Result, Ok, Err}
 use Rattle.mesh_plane.specs.Plane.{Point}
 use Rattle.mesh_shapes.specs.Resolution.{Choices}
-use Rattle.mesh_request.specs.Requests.{Drawn}
+use Rattle.mesh_drawing.specs.Drawn.{Drawn}
 use Rattle.mesh_flat.specs.Nearness.{IsNearAnswer}
 use Rattle.mesh_flat.specs.Outcomes.{code_of, near_outcome_of}
 use Rattle.mesh_flat.specs.ShapeRooms.{ShapeLists, DoShapesFit, lists_of, shape_counts, with_shapes}

@@ -4,9 +4,9 @@
 use Rattle.std.specs.Prelude.{ℕ, ◌≡◌, List, Option, Some, None, Result, Ok, Err}
 use Rattle.mesh_plane.specs.Plane.{Point}
 use Rattle.mesh_shapes.specs.Resolution.{Choices}
-use Rattle.mesh_request.specs.Requests.{Drawn}
-use Rattle.mesh_service.specs.Nearness.{AreShapesWithin, TakesMoreSplits}
-use Rattle.mesh_service.specs.Served.{MayBeDrawn}
+use Rattle.mesh_drawing.specs.Drawn.{Drawn}
+use Rattle.mesh_drawing.specs.Nearness.{AreShapesWithin, TakesMoreSplits}
+use Rattle.mesh_drawing.specs.Drawings.{MayBeDrawn}
 use Rattle.mesh_service.specs.declared.near_failure.NearFailure.{NearFailure}
 use Rattle.mesh_service.specs.declared.near_failure.NearFailure.TheVariants.{Failed, TooManySplits}
 use Rattle.mesh_flat.specs.Answers.{IsFailureOf}

@@ -2,7 +2,7 @@
 use Rattle.std.specs.Prelude.{ℕ, ◌≡◌, ◌≤◌, List, length, Option, Result}
 use Rattle.mesh_plane.specs.Plane.{Point}
 use Rattle.mesh_shapes.specs.Resolution.{Choices}
-use Rattle.mesh_request.specs.Requests.{Drawn}
+use Rattle.mesh_drawing.specs.Drawn.{Drawn}
 use Rattle.mesh_request.specs.declared.failure.Failure.{Failure}
 use Rattle.mesh_flat.specs.Answers.{IsShapesAnswer}
 use Rattle.mesh_flat.specs.Outcomes.{code_of, outcome_of}

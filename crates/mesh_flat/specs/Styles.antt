@@ -11,8 +11,8 @@ use Rattle.mesh_join.specs.declared.style.StrokeSide.{StrokeSide}
 use Rattle.mesh_join.specs.declared.style.StrokeSide.TheVariants.{Both, Left, Right}
 use Rattle.mesh_stroke.specs.Caps.{CapKind}
 use Rattle.mesh_stroke.specs.Styles.{StrokeStyle}
-use Rattle.mesh_request.specs.Reading.{both, where_fits, where_area_fits, outline_style_with, uncapped_with}
-use Rattle.mesh_request.specs.Reading.{stroke_style_with, choices_with}
+use Rattle.mesh_drawing.specs.Parts.{both, where_fits, where_area_fits, outline_style_with, uncapped_with}
+use Rattle.mesh_drawing.specs.Parts.{stroke_style_with, choices_with}
 use Rattle.mesh_flat.specs.declared.options.FlatOptions.{FlatOptions}
 use Rattle.mesh_flat.specs.declared.styles.FlatArc.{FlatArc}
 use Rattle.mesh_flat.specs.declared.styles.FlatCap.{FlatCap}

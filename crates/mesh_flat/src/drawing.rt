@@ -3,14 +3,14 @@
 ghost use Rattle.std.specs.Prelude.{◌≡◌, MatchResult};
 ghost use Rattle.mesh_flat.specs.Drawings.{IsOutlineOf, IsStrokeOf, IsVariableStrokeOf};
 ghost use Rattle.mesh_request.specs.Reading.{IsOfReading};
-ghost use Rattle.mesh_request.specs.Requests.{Drawn, drawn_of};
+ghost use Rattle.mesh_drawing.specs.Drawn.{Drawn, drawn_of};
 
 use crate::lists::read_lists;
 use crate::numbers::Flat;
 use crate::styles::{FlatArc, FlatOutlineStyle, FlatStrokeStyle, flag};
 use mesh_join::style::{IntStrokeVertex, IntVariableStrokeStyle};
 use mesh_num::num::{IntPoint, OverlayInt};
-use mesh_request::drawing::{Drawing, Outline, Stroke, VariableStroke};
+use mesh_drawing::drawing::{Drawing, Outline, Stroke, VariableStroke};
 use mesh_request::failure::Failure;
 use std::alloc::Global;
 

@@ -4,8 +4,8 @@ ghost use Rattle.std.specs.Prelude.{◌≡◌};
 ghost use Rattle.mesh_flat.specs.Answers.{IsEdgesAnswer, IsShapesAnswer};
 ghost use Rattle.mesh_flat.specs.Drawings.{IsOutlineOf, IsStrokeOf, IsVariableStrokeOf};
 ghost use Rattle.mesh_flat.specs.Styles.{choices_in};
-ghost use Rattle.mesh_request.specs.Requests.{drawn_of};
-ghost use Rattle.mesh_service.specs.Lines.{by_values};
+ghost use Rattle.mesh_drawing.specs.Drawn.{drawn_of};
+ghost use Rattle.mesh_drawing.specs.Order.{by_values};
 
 use crate::drawing::{outline, stroke, variable_stroke};
 use crate::lists::FlatLists;
@@ -16,7 +16,7 @@ use crate::styles::{FlatArc, FlatOutlineStyle, FlatStrokeStyle};
 use mesh_join::style::IntStrokeVertex;
 use mesh_num::num::{IntPoint, OverlayInt};
 use mesh_num::shape::edge::DirectedEdge;
-use mesh_request::drawing::Drawing;
+use mesh_drawing::drawing::Drawing;
 use mesh_request::failure::Failure;
 use std::alloc::Global;
 
@@ -86,7 +86,7 @@ fn shapes<I: OverlayInt, P: Flat<Item = IntPoint<I>>>(
     let Some(options) = options.options::<I>() else {
         return Err(Failure::Unreadable);
     };
-    let shapes = mesh_service::drawing::shapes(alloc, drawing, options)?;
+    let shapes = mesh_drawing::draw::shapes(alloc, drawing, options)?;
     Ok(FlatShapes::of(alloc, &shapes)?)
 }
 
@@ -144,6 +144,6 @@ fn edges<I: OverlayInt, E: Flat<Item = DirectedEdge<I>>>(
     ensures { IsEdgesAnswer (by_values I.cmp I.of_value) I.unit E.item_of
         (λ drawn. drawn ≡ drawn_of I.value drawing.now) result }
 {
-    let lists = mesh_service::drawing::edges(alloc, drawing)?;
+    let lists = mesh_drawing::draw::edges(alloc, drawing)?;
     Ok(FlatLists::of(alloc, &lists)?)
 }

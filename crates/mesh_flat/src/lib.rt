@@ -13,7 +13,6 @@ pub mod near;
 pub mod numbers;
 pub mod options;
 pub mod outcome;
-pub mod padding;
 pub mod range;
 pub mod room;
 pub mod shapes;

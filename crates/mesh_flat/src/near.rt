@@ -1,7 +1,7 @@
 //! What is drawn of lists and numbers, as lists of shapes with their nearness, by no more than a number of splits.
 
 ghost use Rattle.std.specs.Prelude.{◌≡◌};
-ghost use Rattle.mesh_request.specs.Requests.{drawn_of};
+ghost use Rattle.mesh_drawing.specs.Drawn.{drawn_of};
 ghost use Rattle.mesh_flat.specs.Drawings.{IsOutlineOf, IsStrokeOf, IsVariableStrokeOf};
 ghost use Rattle.mesh_flat.specs.NearRooms.{AreNearShapesTold, IsNearnessTold};
 ghost use Rattle.mesh_flat.specs.Nearness.{IsNearAnswer};
@@ -15,10 +15,10 @@ use crate::shapes::{FlatShapes, ShapeCounts};
 use crate::styles::{FlatArc, FlatOutlineStyle, FlatStrokeStyle};
 use mesh_join::style::IntStrokeVertex;
 use mesh_num::num::{IntPoint, OverlayInt};
-use mesh_request::drawing::Drawing;
+use mesh_drawing::drawing::Drawing;
 use mesh_request::failure::Failure;
 use mesh_service::near_failure::NearFailure;
-use mesh_service::nearness::near_shapes;
+use mesh_drawing::nearness::near_shapes;
 use std::alloc::Global;
 
 /// Shapes of contours, end to end in lists, and their nearness.

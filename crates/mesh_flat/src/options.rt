@@ -7,7 +7,7 @@ ghost use Rattle.mesh_flat.specs.Styles.{choices_in};
 use crate::styles::flag;
 use mesh_below::below::{ContourDirection, IntOverlayOptions};
 use mesh_num::num::IntNumber;
-use mesh_request::coordinate::narrowed_area;
+use mesh_drawing::coordinate::narrowed_area;
 
 /// What shapes depend on besides what is drawn.
 #[repr(C)]

@@ -2,20 +2,21 @@
 
 ghost use Rattle.std.specs.Prelude.{◌≡◌, ◌↔◌, IsTrue};
 ghost use Rattle.mesh_flat.specs.Drawings.{IsOutlineOf, IsStrokeOf, IsVariableStrokeOf};
-ghost use Rattle.mesh_flat.specs.Ranges.{DoesStayInRange, IsRangeAnswer, IsRangeTold, padding_in};
-ghost use Rattle.mesh_request.specs.Requests.{drawn_of};
+ghost use Rattle.mesh_drawing.specs.Paddings.{DoesStayInRange, padding_in};
+ghost use Rattle.mesh_flat.specs.Ranges.{IsRangeAnswer, IsRangeTold};
+ghost use Rattle.mesh_drawing.specs.Drawn.{drawn_of};
 
 use crate::drawing::{outline, stroke, variable_stroke};
 use crate::numbers::Flat;
 use crate::outcome::Outcome;
-use crate::padding::padding;
 use crate::styles::{FlatArc, FlatOutlineStyle, FlatStrokeStyle};
 use i_overlay_mesh::outline::offset::IntOutlineOffset;
 use i_overlay_mesh::stroke::offset::IntStrokeOffset;
 use i_overlay_mesh::variable_stroke::offset::IntVariableStrokeOffset;
+use mesh_drawing::drawing::Drawing;
+use mesh_drawing::padding::padding;
 use mesh_join::style::IntStrokeVertex;
 use mesh_num::num::{IntPoint, OverlayInt};
-use mesh_request::drawing::Drawing;
 use mesh_request::failure::Failure;
 use std::alloc::Global;
 

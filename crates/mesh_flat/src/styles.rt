@@ -4,7 +4,7 @@ ghost use Rattle.std.specs.Prelude.{◌≡◌, Some, None, MatchResult, option_m
 ghost use Rattle.mesh_join.specs.Styles.{style_of};
 ghost use Rattle.mesh_stroke.specs.Kinds.{kind_of};
 ghost use Rattle.mesh_stroke.specs.Styles.{stroke_style_of};
-ghost use Rattle.mesh_request.specs.Private.Uncapped.{uncapped_of};
+ghost use Rattle.mesh_drawing.specs.Parts.{uncapped_of};
 ghost use Rattle.mesh_request.specs.Reading.{IsOfReading};
 ghost use Rattle.mesh_flat.specs.Styles.{arc_of, join_in, cap_in, side_in, flag_in, outline_style_in, stroke_style_in};
 ghost use Rattle.mesh_flat.specs.Styles.{uncapped_in};
@@ -14,7 +14,7 @@ use crate::numbers::Flat;
 use mesh_arc::arc::ArcOptions;
 use mesh_join::style::{IntLineCap, IntLineJoin, IntOutlineStyle, IntStrokeStyle, StrokeSide};
 use mesh_num::num::{Angle, IntNumber, IntPoint, OverlayInt};
-use mesh_request::coordinate::narrowed;
+use mesh_drawing::coordinate::narrowed;
 use mesh_request::failure::Failure;
 use std::alloc::Global;
 use std::rc::RcSlice;

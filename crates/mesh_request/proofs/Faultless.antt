@@ -3,7 +3,8 @@ use Rattle.std.proofs.Common.{◌≡◌, ◌∙◌, ℕ, List, [], ◌∷◌, Bo
 use Rattle.std.specs.Prelude.{codes}
 use Rattle.serde_json.specs.Data.{Data, Items, no_items, item}
 use Rattle.serde_json.specs.Find.{as_array, get}
-use Rattle.mesh_request.specs.Reading.{both, point_of, point_list_of, path_of, path_list_of, vertex_of, vertices_of, vertex_path_of, vertex_path_list_of}
+use Rattle.mesh_drawing.specs.Parts.{both}
+use Rattle.mesh_request.specs.Reading.{point_of, point_list_of, path_of, path_list_of, vertex_of, vertices_of, vertex_path_of, vertex_path_list_of}
 use Rattle.mesh_request.specs.Private.Faultless.{all_items, are_all, is_corner, is_path, has_paths}
 use Rattle.mesh_request.specs.declared.fault.paths.Corner.{Corner}
 use Rattle.mesh_request.specs.declared.fault.paths.Corner.TheVariants.{Point, Vertex}

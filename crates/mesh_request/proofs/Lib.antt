@@ -2,4 +2,3 @@ pub mod Faultless
 pub mod JsonLists
 pub mod JsonMembers
 pub mod Parts
-pub mod Ranges

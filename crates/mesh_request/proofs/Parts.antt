@@ -10,7 +10,8 @@ use Rattle.mesh_stroke.specs.Caps.{CapKind}
 use Rattle.mesh_join.specs.declared.style.StrokeSide.{StrokeSide}
 use Rattle.mesh_join.specs.Styles.{JoinStyle}
 use Rattle.mesh_stroke.specs.Styles.{StrokeStyle}
-use Rattle.mesh_request.specs.Reading.{both, pair_of, triple_of, vertex_with, coordinate_of, area_of, flag_of, choices_in, choices_with, cap_of, uncapped_in, stroke_style_in, stroke_style_with, stroke_of, stroke_with, paths_in}
+use Rattle.mesh_drawing.specs.Parts.{both, choices_with, stroke_style_with}
+use Rattle.mesh_request.specs.Reading.{pair_of, triple_of, vertex_with, coordinate_of, area_of, flag_of, choices_in, cap_of, uncapped_in, stroke_style_in, stroke_of, stroke_with, paths_in}
 
 both_some : {A B : Type 0} (a : Option A) (b : Option B) (x : A) (y : B) → a ≡ Some x → b ≡ Some y → both a b ≡ Some (x, y)
 both_some {A} {B} a b x y e f = ap (λ (o : Option A). both o b) e ∙ ap (λ (o : Option B). both (Some x) o) f

@@ -1,3 +1,2 @@
 -- What stands between the steps: only private contracts and invariants read these.
 pub mod Faultless
-pub mod Uncapped

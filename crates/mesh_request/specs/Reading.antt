@@ -20,8 +20,11 @@ use Rattle.mesh_join.specs.declared.style.StrokeSide.TheVariants.{Both, Left, Ri
 use Rattle.mesh_stroke.specs.Caps.{CapKind}
 use Rattle.mesh_offset.specs.Radii.{radius_of}
 use Rattle.mesh_stroke.specs.Styles.{StrokeStyle}
-use Rattle.mesh_request.specs.Requests.{Drawn, as_outline, as_stroke, as_variable_stroke, Asked, for_edges, for_shapes}
+use Rattle.mesh_drawing.specs.Drawn.{Drawn, as_outline, as_stroke, as_variable_stroke}
+use Rattle.mesh_request.specs.Requests.{Asked, for_edges, for_shapes}
 use Rattle.mesh_request.specs.Requests.{Request}
+use Rattle.mesh_drawing.specs.Parts.{both, where_fits, where_area_fits, outline_style_with, uncapped_with}
+use Rattle.mesh_drawing.specs.Parts.{stroke_style_with, choices_with}
 use Rattle.mesh_request.specs.declared.failure.Failure.{Failure}
 use Rattle.mesh_request.specs.declared.failure.Failure.TheVariants.{Unreadable, Refused}
 
@@ -29,17 +32,9 @@ use Rattle.mesh_request.specs.declared.failure.Failure.TheVariants.{Unreadable, 
 abbrev pub whole_number : Data → Option ℤ
 whole_number d = option_and_then as_i64 (as_number d)
 
--- the number, where it fits a type with `unit`
-abbrev pub where_fits : ℕ → ℤ → Option ℤ
-where_fits unit z = if int_le (neg_ℤ (pos (2 * unit))) z && int_lt z (pos (2 * unit)) then Some z else None
-
 -- the coordinate that a value is
 abbrev pub coordinate_of : ℕ → Data → Option ℤ
 coordinate_of unit d = option_and_then (where_fits unit) (whole_number d)
-
--- both values, where there are both
-abbrev pub both : {A B : Type 0} → Option A → Option B → Option (A × B)
-both a b = option_and_then (λ x. option_map (λ y. (x, y)) b) a
 
 -- two coordinates
 abbrev pub pair_of : ℕ → Items → Option Point
@@ -179,14 +174,6 @@ min_turn_of (Some d) = angle_of d
 abbrev pub length_of : ℕ → List ℕ → Data → Option ℤ
 length_of unit key d = option_and_then (coordinate_of unit) (get key d)
 
--- a join, the turn below which a miter is a bevel, and the outer and the inner offset, as a style
-abbrev pub outline_style_with : IntLineJoin × (ℕ × (ℤ × ℤ)) → OutlineStyle
-outline_style_with said = record {
-  outer_offset = said.1.1.0;
-  inner_offset = said.1.1.1;
-  join = record { kind = said.0; min_turn = said.1.0 };
-}
-
 -- the style of outlines that an object gives
 abbrev pub outline_style_in : ℕ → Data → Option OutlineStyle
 outline_style_in unit d =
@@ -218,10 +205,6 @@ side_of (Some d) =
     else if is_word (codes "right") (as_str d) then Some Right
     else None
 
--- a join, the turn below which a miter is a bevel, a side and a width, as the width, the side and the joins of a stroke
-abbrev pub uncapped_with : IntLineJoin × (ℕ × (StrokeSide × ℤ)) → ℤ × (StrokeSide × JoinStyle)
-uncapped_with said = (said.1.1.1, (said.1.1.0, record { kind = said.0; min_turn = said.1.0 }))
-
 -- the width, the side and the joins of the strokes that an object gives
 abbrev pub uncapped_in : ℕ → Data → Option (ℤ × (StrokeSide × JoinStyle))
 uncapped_in unit d =
@@ -229,16 +212,6 @@ uncapped_in unit d =
     (both (join_of (get (codes "join") d))
     (both (min_turn_of (get (codes "min_turn") d))
     (both (side_of (get (codes "side") d)) (length_of unit (codes "width") d))))
-
--- a width, a side and joins, and the caps at the start and the end, as a style
-abbrev pub stroke_style_with : (ℤ × (StrokeSide × JoinStyle)) × (CapKind × CapKind) → StrokeStyle
-stroke_style_with said = record {
-  radius = radius_of said.0.0;
-  side = said.0.1.0;
-  join = said.0.1.1;
-  start = said.1.0;
-  end = said.1.1;
-}
 
 -- the style of strokes that an object gives
 abbrev pub stroke_style_in : ℕ → Data → Option StrokeStyle
@@ -255,10 +228,6 @@ arc_given (Some d) = arc_options_of d
 abbrev pub arc_in : Data → Option ArcOptions
 arc_in d = if is_some (as_object d) then arc_given (get (codes "arc") d) else None
 
--- the number, where it fits the type of areas
-abbrev pub where_area_fits : ℕ → ℕ → Option ℕ
-where_area_fits unit n = if nat_lt n (16 * unit * unit) then Some n else None
-
 -- the area that a value is, 0 where there is none
 abbrev pub area_of : ℕ → Option Data → Option ℕ
 area_of unit None = Some 0
@@ -268,10 +237,6 @@ area_of unit (Some d) = option_and_then (where_area_fits unit) (option_and_then 
 abbrev pub flag_of : Option Data → Option Bool
 flag_of None = Some false
 flag_of (Some d) = as_bool d
-
--- a least area, whether contours run clockwise, and whether straight-through vertices stay
-abbrev pub choices_with : ℕ × (Bool × Bool) → Choices
-choices_with said = record { least_area = said.0; clockwise = said.1.0; all_vertices = said.1.1 }
 
 -- the choices that an object gives
 abbrev pub choices_in : ℕ → Data → Option Choices

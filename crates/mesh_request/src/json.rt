@@ -8,8 +8,8 @@ ghost use Rattle.serde_json.specs.Written.{has_float as holds_float, items_have_
 ghost use Rattle.mesh_request.specs.Failures.{IsOfMemory};
 ghost use Rattle.mesh_request.specs.Reading.{coordinate_of, is_word, says as says_text, IsOfReading};
 
-use crate::coordinate::narrowed;
 use crate::failure::Failure;
+use mesh_drawing::coordinate::narrowed;
 use mesh_num::num::IntNumber;
 use serde_json::{Map, Value};
 use std::alloc::Global;

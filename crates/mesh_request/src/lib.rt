@@ -2,8 +2,6 @@
 //! says why a value of JSON is none.
 #![tactic(auto)]
 
-pub mod coordinate;
-pub mod drawing;
 pub mod failure;
 pub mod fault;
 pub mod json;

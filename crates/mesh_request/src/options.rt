@@ -5,8 +5,8 @@ ghost use Rattle.serde_json.specs.View.{view};
 ghost use Rattle.mesh_below.specs.Options.{choices_of, is_clockwise};
 ghost use Rattle.mesh_request.specs.Reading.{area_of, flag_of, choices_in, choices_given};
 
-use crate::coordinate::narrowed_area;
 use mesh_below::below::{ContourDirection, IntOverlayOptions};
+use mesh_drawing::coordinate::narrowed_area;
 use mesh_num::num::{IntNumber, WideUnsigned};
 use serde_json::Value;
 

@@ -3,7 +3,8 @@
 ghost use Rattle.std.specs.Prelude.{◌≡◌, Some, None, MatchResult, option_map};
 ghost use Rattle.serde_json.specs.View.{view};
 ghost use Rattle.mesh_request.specs.Reading.{asked_in, drawn_in, request_as, IsOfReading};
-ghost use Rattle.mesh_request.specs.Requests.{asked_of, drawn_of};
+ghost use Rattle.mesh_request.specs.Requests.{asked_of};
+ghost use Rattle.mesh_drawing.specs.Drawn.{drawn_of};
 
 pub mod caps;
 pub mod joins;
@@ -13,11 +14,11 @@ pub mod stroke;
 pub mod variable_stroke;
 pub mod vertices;
 
-use crate::drawing::Drawing;
 use crate::failure::Failure;
 use crate::json::says;
 use crate::options::read_options;
 use mesh_below::below::IntOverlayOptions;
+use mesh_drawing::drawing::Drawing;
 use mesh_num::num::{IntNumber, OverlayInt};
 use outline::read_outline;
 use serde_json::Value;
@@ -45,7 +46,8 @@ pub struct Request<I: OverlayInt> {
 }
 
 impl<I: OverlayInt> Model for Request<I> {
-    ghost use Rattle.mesh_request.specs.Requests.{Request as Requested, asked_of, drawn_of};
+    ghost use Rattle.mesh_request.specs.Requests.{Request as Requested, asked_of};
+    ghost use Rattle.mesh_drawing.specs.Drawn.{drawn_of};
 
     ghost Value = { Requested };
 

@@ -1,5 +1,5 @@
 -- Lemmas over requests: what is requested, and what answers it.
-use Rattle.std.proofs.Common.{◌≡◌, ℕ, List, Option, Some, option_and_then, false, sym, ap, subst, ◌∙◌}
+use Rattle.std.proofs.Common.{◌≡◌, ℕ, List, Option, Some, option_and_then, false, refl, sym, ap, subst, ◌∙◌}
 use Rattle.std.specs.Prelude.{ℤ}
 use Rattle.std.specs.declared.cmp.Ordering.{Ordering}
 use Rattle.mesh_plane.specs.Plane.{Point, Edge}
@@ -8,13 +8,17 @@ use Rattle.serde_json.specs.Data.{Data}
 use Rattle.serde_json.specs.Read.{read}
 use Rattle.serde_json.specs.Written.{has_float}
 use Rattle.mesh_service.specs.Lines.{edges_text, shapes_text, told_edges_text, told_shapes_text}
-use Rattle.mesh_service.specs.Near.{AnswersWithin, ListsWithin}
-use Rattle.mesh_service.specs.Nearness.{AreShapesWithin}
+use Rattle.mesh_service.specs.Near.{AnswersWithin, ListsWithin, of_nearness}
+use Rattle.mesh_drawing.specs.Nearness.{AreShapesWithin}
 use Rattle.mesh_request.specs.Reading.{request_of}
 use Rattle.mesh_request.specs.Requests.{Asked, Request}
-use Rattle.mesh_service.specs.Served.{AreEdgesOf, AreShapesOf, IsAccepted, Lists, Answers}
+use Rattle.mesh_drawing.specs.Drawings.{AreEdgesOf, AreShapesOf}
+use Rattle.mesh_service.specs.Served.{IsAccepted, Lists, Answers}
 use Rattle.mesh_service.specs.Serving.{exact_request, request_in}
+use Rattle.mesh_offset.specs.declared.error.IntNearnessError.{IntNearnessError}
+use Rattle.mesh_offset.specs.declared.error.IntNearnessError.TheVariants as near
 use Rattle.mesh_service.specs.declared.near.Telling.{Telling}
+use Rattle.mesh_service.specs.declared.near_failure.NearFailure.TheVariants.{TooManySplits}
 
 pub is_requested : (text : List ℕ) (d : Data) (request : Request) → read text ≡ Some d → has_float d ≡ false → request_of d ≡ Some request → request_in text ≡ Some request
 is_requested text d request r f q =
@@ -55,3 +59,9 @@ told_shapes_answer telling order request line choices nearness shapes e accepted
       listed = subst (λ (asked : Asked). ListsWithin telling order request line asked) (sym e)
           (record { shapes = shapes; nearness = nearness; drawn = drawn; written = written });
     }
+
+-- what is told as a limit that was passed is one
+pub of_limit : (error : IntNearnessError) → TooManySplits ≡ of_nearness error → error ≡ near.TooManySplits
+of_limit near.CoordinateOutOfRange told = absurd (cc)
+of_limit near.OutOfMemory told = absurd (cc)
+of_limit near.TooManySplits told = refl

@@ -1,7 +1,5 @@
-pub mod Drawings
 pub mod Lines
 pub mod Near
-pub mod Nearness
 pub mod Private
 pub mod Reasons
 pub mod Served

@@ -1,24 +1,10 @@
--- Lines: edges in their order, as data and as text of JSON.
-use Rattle.std.specs.Prelude.{ℕ, ℤ, List, [], ◌∷◌, ◌++◌, Bool, false, true, map, codes}
-use Rattle.std.specs.Ordering.{ordering_then}
-use Rattle.std.specs.declared.cmp.Ordering.{Ordering}
+-- Lines: edges and shapes, as data and as text of JSON.
+use Rattle.std.specs.Prelude.{ℕ, List, [], ◌∷◌, ◌++◌, Bool, false, true, map, codes}
 use Rattle.serde_json.specs.Data.{Data, number, unsigned, string, array, object, item, no_items, member, no_members}
 use Rattle.serde_json.specs.Find.{of_integer}
 use Rattle.serde_json.specs.View.{items_of}
 use Rattle.serde_json.specs.Written.{compact_text}
 use Rattle.mesh_plane.specs.Plane.{Point, Edge}
-
--- the order of whole numbers by the values that stand for them
-abbrev pub by_values : {C : Type 0} → (C → C → Ordering) → (ℤ → C) → ℤ → ℤ → Ordering
-by_values order of_value = λ a b. order (of_value a) (of_value b)
-
--- the order of points by an order of their coordinates: by x, then by y
-abbrev pub point_order : (ℤ → ℤ → Ordering) → Point → Point → Ordering
-point_order order p q = ordering_then (order p.0 q.0) (order p.1 q.1)
-
--- the order of edges: by where they start, then by where they end
-abbrev pub edge_order : (ℤ → ℤ → Ordering) → Edge → Edge → Ordering
-edge_order order e f = ordering_then (point_order order e.0 f.0) (point_order order e.1 f.1)
 
 -- a point: [x,y]
 abbrev pub point_data : Point → Data

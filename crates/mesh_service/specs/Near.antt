@@ -4,12 +4,17 @@ use Rattle.std.specs.Ordering.{int_cmp}
 use Rattle.std.specs.declared.cmp.Ordering.{Ordering}
 use Rattle.mesh_plane.specs.Plane.{Point, Edge}
 use Rattle.mesh_shapes.specs.Resolution.{Choices}
+use Rattle.mesh_offset.specs.declared.error.IntNearnessError.{IntNearnessError}
+use Rattle.mesh_offset.specs.declared.error.IntNearnessError.TheVariants as near
+use Rattle.mesh_offset.specs.declared.error.IntOutlineError.TheVariants.{CoordinateOutOfRange, OutOfMemory}
+use Rattle.mesh_drawing.specs.Drawings.{AreEdgesOf}
+use Rattle.mesh_drawing.specs.Nearness.{AreShapesWithin, TakesMoreSplits}
 use Rattle.mesh_request.specs.Failures.{IsOfMemory}
 use Rattle.mesh_request.specs.Requests.{Asked, Request}
 use Rattle.mesh_service.specs.Lines.{told_edges_text, told_shapes_text}
-use Rattle.mesh_service.specs.Nearness.{AreShapesWithin, TakesMoreSplits}
-use Rattle.mesh_service.specs.Served.{AreEdgesOf, IsAccepted}
+use Rattle.mesh_service.specs.Served.{IsAccepted}
 use Rattle.mesh_service.specs.Serving.{request_in}
+use Rattle.mesh_request.specs.declared.failure.Failure.TheVariants.{Refused}
 use Rattle.mesh_service.specs.declared.near.Telling.{Telling}
 use Rattle.mesh_service.specs.declared.near_failure.NearFailure.{NearFailure}
 use Rattle.mesh_service.specs.declared.near_failure.NearFailure.TheVariants.{Failed, TooManySplits}
@@ -61,3 +66,9 @@ pub record IsGivenUpIn (most : ℕ) (text : List ℕ) : Type 0 where
 abbrev pub IsOfNearMemory : NearFailure → Type 0
 IsOfNearMemory (Failed failure) = IsOfMemory failure
 IsOfNearMemory TooManySplits = ⊥
+
+-- the failure that an error of a call that tells its nearness is
+abbrev pub of_nearness : IntNearnessError → NearFailure
+of_nearness near.CoordinateOutOfRange = Failed (Refused CoordinateOutOfRange)
+of_nearness near.OutOfMemory = Failed (Refused OutOfMemory)
+of_nearness near.TooManySplits = TooManySplits

@@ -5,17 +5,18 @@ ghost use Rattle.std.specs.Ordering.{int_cmp};
 ghost use Rattle.serde_json.specs.View.{view};
 ghost use Rattle.mesh_num.specs.Paths.{paths_of, shapes_of};
 ghost use Rattle.mesh_request.specs.Reading.{request_as, request_of};
-ghost use Rattle.mesh_service.specs.Lines.{by_values, told_edges_text, told_shapes_text};
+ghost use Rattle.mesh_drawing.specs.Order.{by_values};
+ghost use Rattle.mesh_service.specs.Lines.{told_edges_text, told_shapes_text};
 ghost use Rattle.mesh_service.specs.Near.{AnswersWithin, IsAnswerWithin, IsGivenUpIn, IsOfNearMemory, PassesLimit};
 ghost use Rattle.mesh_service.specs.Private.Told.{AnswersAskedWithin, MayNotBeAnswered, PassesLimitAsked};
 ghost use Rattle.mesh_service.specs.Served.{IsAccepted};
 ghost use Rattle.mesh_service.specs.Serving.{HoldsNoRequest, IsRefused};
 
 use crate::answer::{edges_line, near_edges_line, near_shapes_line, shapes_line};
-use crate::drawing;
 use crate::near_failure::NearFailure;
-use crate::nearness::near_shapes;
 use mesh_below::nearness::NearShapes;
+use mesh_drawing::draw;
+use mesh_drawing::nearness::near_shapes;
 use mesh_num::num::OverlayInt;
 use mesh_num::shape::edge::DirectedEdge;
 use mesh_offset::error::{IntNearnessError, IntOutlineError};
@@ -101,7 +102,7 @@ fn request_line<I: OverlayInt>(
 {
     match request.output {
         Output::Edges => {
-            let edges = drawing::edges(alloc, &request.drawing)?;
+            let edges = draw::edges(alloc, &request.drawing)?;
             Ok(told_edges_line(alloc, &edges, telling.nearness)?)
         }
         Output::Shapes(options) => {

@@ -39,7 +39,7 @@ impl From<AllocError> for NearFailure {
 
 impl From<IntNearnessError> for NearFailure {
     ghost use Rattle.std.specs.Prelude.{◌≡◌};
-    ghost use Rattle.mesh_service.specs.Nearness.{of_nearness};
+    ghost use Rattle.mesh_service.specs.Near.{of_nearness};
 
     ghost from_gives = { λ error told. told ≡ of_nearness error };
 

@@ -5,7 +5,7 @@ ghost use Rattle.std.specs.Prelude.{IsOk, OnOk, IfOk, IfErr, IfSome};
 ghost use Rattle.std.specs.Io.KnownBytes.{Appends, IsAtEnd};
 ghost use Rattle.std.specs.Ordering.{int_cmp};
 ghost use Rattle.serde_json.specs.View.{view};
-ghost use Rattle.mesh_service.specs.Lines.{by_values};
+ghost use Rattle.mesh_drawing.specs.Order.{by_values};
 ghost use Rattle.mesh_request.specs.Failures.{failure_line, IsOfMemory};
 ghost use Rattle.mesh_request.specs.Reading.{request_as, request_of};
 ghost use Rattle.mesh_service.specs.Private.Told.{AnswersAsked, MayNotBeAnswered, told_line};
@@ -14,11 +14,11 @@ ghost use Rattle.mesh_service.specs.Serving.{IsAnswer, IsRefused, IsReply, HasBy
 ghost use Rattle.mesh_service.specs.Serving.{AppendsBeginning, TellsRefusal, MetRefusal};
 
 use crate::answer::{edges_line, shapes_line};
-use crate::drawing;
 use crate::input::read_to_end;
 use crate::output::write_line;
 use crate::told::tell;
 use i_overlay_mesh::IntOutlineError;
+use mesh_drawing::draw;
 use mesh_num::num::OverlayInt;
 use mesh_request::failure::Failure;
 use mesh_request::json::{parse, says};
@@ -263,11 +263,11 @@ fn request_line<I: OverlayInt>(
 {
     match request.output {
         Output::Edges => {
-            let edges = drawing::edges(alloc, &request.drawing)?;
+            let edges = draw::edges(alloc, &request.drawing)?;
             Ok(edges_line(alloc, &edges)?)
         }
         Output::Shapes(options) => {
-            let shapes = drawing::shapes(alloc, &request.drawing, options)?;
+            let shapes = draw::shapes(alloc, &request.drawing, options)?;
             Ok(shapes_line(alloc, &shapes)?)
         }
     }

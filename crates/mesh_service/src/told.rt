@@ -1,11 +1,11 @@
 //! What people are told of a run, beside its line: why there is no answer, and what of the request is ignored.
 
-use crate::refusal::find_refusal;
 use crate::service::Status;
 use crate::why::why;
 use i_overlay_mesh::outline::area::double_area;
+use mesh_drawing::drawing::Drawing;
+use mesh_drawing::refusal::find_refusal;
 use mesh_num::num::OverlayInt;
-use mesh_request::drawing::Drawing;
 use mesh_request::failure::Failure;
 use mesh_request::fault::key::Key;
 use mesh_request::fault::place::Place;

@@ -9,7 +9,7 @@ use mesh_below::below::{ContourDirection, IntOverlayOptions};
 use mesh_join::style::{IntStrokeVertex, IntVariableStrokeStyle, MathMode};
 use mesh_num::num::OverlayInt;
 use mesh_num::shape::buffer::{FlatContoursBuffer, IntShapes};
-use mesh_request::coordinate::narrowed_area;
+use mesh_drawing::coordinate::narrowed_area;
 use mesh_test_support::compared::{expect_answers, expect_equal, filled};
 use mesh_test_support::rows::{broken, fields, is_for, numbers};
 use std::alloc::{AllocError, Global};

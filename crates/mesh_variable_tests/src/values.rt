@@ -3,7 +3,7 @@
 use mesh_join::arc::ArcOptions;
 use mesh_join::style::{IntStrokeVertex, IntVariableStrokeStyle};
 use mesh_num::num::{Angle, IntPoint, OverlayInt};
-use mesh_request::coordinate::narrowed;
+use mesh_drawing::coordinate::narrowed;
 use mesh_test_support::plain::Point;
 use mesh_test_support::rows::{Triple, broken, numbers, points, triples};
 use std::alloc::Global;

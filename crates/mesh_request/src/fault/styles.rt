@@ -4,7 +4,8 @@ ghost use Rattle.std.specs.Prelude.{◌≡◌, codes, is_none, is_some, IfSome, 
 ghost use Rattle.serde_json.specs.Find.{get};
 ghost use Rattle.serde_json.specs.View.{view};
 ghost use Rattle.mesh_request.specs.Places.{IsPlaceIn};
-ghost use Rattle.mesh_request.specs.Reading.{arc_in, both, cap_of, outline_style_in, stroke_style_in};
+ghost use Rattle.mesh_request.specs.Reading.{arc_in, cap_of, outline_style_in, stroke_style_in};
+ghost use Rattle.mesh_drawing.specs.Parts.{both};
 ghost use Rattle.mesh_request.specs.Reading.{uncapped_in};
 
 use crate::fault::Fault;

@@ -4,12 +4,12 @@ ghost use Rattle.std.specs.Prelude.{◌≡◌, Some, None, MatchResult, option_m
 ghost use Rattle.serde_json.specs.View.{view};
 ghost use Rattle.mesh_join.specs.Styles.{style_of};
 ghost use Rattle.mesh_request.specs.Reading.{outline_of, outline_style_in, IsOfReading};
-ghost use Rattle.mesh_request.specs.Requests.{drawn_outline};
+ghost use Rattle.mesh_drawing.specs.Drawn.{drawn_outline};
 
-use crate::drawing::Outline;
 use crate::failure::Failure;
 use crate::request::joins::{line_join, min_turn};
 use crate::request::paths::{length, read_paths};
+use mesh_drawing::drawing::Outline;
 use mesh_join::style::IntOutlineStyle;
 use mesh_num::num::OverlayInt;
 use serde_json::Value;

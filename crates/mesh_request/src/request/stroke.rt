@@ -4,16 +4,16 @@ ghost use Rattle.std.specs.Prelude.{◌≡◌, Some, None, MatchResult, option_m
 ghost use Rattle.serde_json.specs.View.{view};
 ghost use Rattle.mesh_stroke.specs.Styles.{stroke_style_of};
 ghost use Rattle.mesh_request.specs.Reading.{side_of, stroke_of, stroke_style_in, uncapped_in, IsOfReading};
-ghost use Rattle.mesh_request.specs.Private.Uncapped.{uncapped_of};
-ghost use Rattle.mesh_request.specs.Requests.{drawn_stroke};
+ghost use Rattle.mesh_drawing.specs.Parts.{uncapped_of};
+ghost use Rattle.mesh_drawing.specs.Drawn.{drawn_stroke};
 
-use crate::drawing::Stroke;
 use crate::failure::Failure;
 use crate::json::is_text;
 use crate::options::flag;
 use crate::request::caps::line_cap;
 use crate::request::joins::{line_join, min_turn};
 use crate::request::paths::{length, read_paths};
+use mesh_drawing::drawing::Stroke;
 use mesh_join::style::{IntStrokeStyle, StrokeSide};
 use mesh_num::num::OverlayInt;
 use serde_json::Value;

@@ -3,13 +3,13 @@
 ghost use Rattle.std.specs.Prelude.{◌≡◌, Some, None, MatchResult, option_map, option_and_then};
 ghost use Rattle.serde_json.specs.View.{view};
 ghost use Rattle.mesh_request.specs.Reading.{arc_in, arc_given, variable_stroke_of, IsOfReading};
-ghost use Rattle.mesh_request.specs.Requests.{drawn_variable_stroke};
+ghost use Rattle.mesh_drawing.specs.Drawn.{drawn_variable_stroke};
 
-use crate::drawing::VariableStroke;
 use crate::failure::Failure;
 use crate::request::joins::arc_options;
 use crate::request::vertices::read_vertex_paths;
 use mesh_arc::arc::ArcOptions;
+use mesh_drawing::drawing::VariableStroke;
 use mesh_join::style::IntVariableStrokeStyle;
 use mesh_num::num::OverlayInt;
 use serde_json::Value;

@@ -1,7 +1,7 @@
 -- Where the paths cannot be read, there is no such stroke.
 use Rattle.std.proofs.Common.{◌≡◌}
 use Rattle.mesh_request.specs.Reading.{IsOfReading}
-use Rattle.mesh_request.specs.Requests.{Drawn}
+use Rattle.mesh_drawing.specs.Drawn.{Drawn}
 use Rattle.mesh_request.specs.declared.failure.Failure.{Failure}
 use Rattle.mesh_request.specs.declared.failure.Failure.TheVariants.{Unreadable}
 use Rattle.mesh_flat.specs.Drawings.{IsStrokeOf}

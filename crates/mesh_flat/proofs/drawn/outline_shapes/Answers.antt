@@ -1,7 +1,7 @@
 -- The drawing is read and drawn, or the failure is handed on.
 use Rattle.std.proofs.Common.{◌≡◌, None}
-use Rattle.mesh_request.specs.Requests.{Drawn}
-use Rattle.mesh_service.specs.Served.{MayBeDrawn}
+use Rattle.mesh_drawing.specs.Drawn.{Drawn}
+use Rattle.mesh_drawing.specs.Drawings.{MayBeDrawn}
 use Rattle.mesh_flat.specs.Answers.{AnswersShapes}
 use Rattle.mesh_flat.specs.Drawings.{IsOutlineOf}
 use Rattle.mesh_flat.specs.Styles.{choices_in}

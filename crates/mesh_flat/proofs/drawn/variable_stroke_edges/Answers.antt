@@ -1,7 +1,7 @@
 -- The drawing is read and drawn, or the failure is handed on.
-use Rattle.mesh_service.specs.Lines.{by_values}
-use Rattle.mesh_request.specs.Requests.{Drawn}
-use Rattle.mesh_service.specs.Served.{MayBeDrawn}
+use Rattle.mesh_drawing.specs.Order.{by_values}
+use Rattle.mesh_drawing.specs.Drawn.{Drawn}
+use Rattle.mesh_drawing.specs.Drawings.{MayBeDrawn}
 use Rattle.mesh_flat.specs.Answers.{AnswersEdges}
 use Rattle.mesh_flat.specs.Drawings.{IsVariableStrokeOf}
 use Rattle.mesh_flat.proofs.Asked.{reading_failed, answer_asked, edges_asked}

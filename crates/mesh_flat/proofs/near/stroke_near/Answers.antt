@@ -1,5 +1,5 @@
 -- The drawing is read and drawn, or the failure is handed on.
-use Rattle.mesh_request.specs.Requests.{Drawn}
+use Rattle.mesh_drawing.specs.Drawn.{Drawn}
 use Rattle.mesh_flat.specs.Drawings.{IsStrokeOf}
 use Rattle.mesh_flat.specs.Styles.{choices_in}
 use Rattle.mesh_flat.proofs.NearAnswers.{near_asked, near_reading_failed}

@@ -1,5 +1,5 @@
 -- The drawing is read and measured, or the failure is handed on.
-use Rattle.mesh_request.specs.Requests.{Drawn, drawn_of}
+use Rattle.mesh_drawing.specs.Drawn.{Drawn, drawn_of}
 use Rattle.mesh_flat.specs.Drawings.{IsVariableStrokeOf}
 use Rattle.mesh_flat.specs.Ranges.{AnswersRange}
 use Rattle.mesh_flat.proofs.Asked.{reading_failed}

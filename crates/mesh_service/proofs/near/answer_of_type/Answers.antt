@@ -1,6 +1,6 @@
 -- The limit that the line met is the one that is told.
 use Rattle.std.proofs.Common.{Err, ap}
-use Rattle.mesh_service.proofs.Counted.{of_limit}
+use Rattle.mesh_service.proofs.Requested.{of_limit}
 use Rattle.mesh_service.proofs.near.answer_of_type.Goals as goal
 
 pub returns-in_err-request_line-clause-given_up : goal.returns-in_err-request_line-clause-given_up

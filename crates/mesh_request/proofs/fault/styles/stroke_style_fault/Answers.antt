@@ -1,7 +1,8 @@
 -- A style is what its parts say.
 use Rattle.std.proofs.Common.{◌∙◌, ap, is_some, option_and_then, Option}
 use Rattle.serde_json.specs.Data.{Data}
-use Rattle.mesh_request.specs.Reading.{stroke_style_in, stroke_style_with}
+use Rattle.mesh_request.specs.Reading.{stroke_style_in}
+use Rattle.mesh_drawing.specs.Parts.{stroke_style_with}
 use Rattle.mesh_request.proofs.Faultless.{none_of_two, last_of_two}
 use Rattle.mesh_request.proofs.fault.styles.stroke_style_fault.Goals as goal
 

@@ -1,0 +1,12 @@
+-- Sorting keeps the edges.
+use Rattle.std.proofs.lemmas.List.Sorted.{IsPermutation-sym, IsPermutation-trans}
+use Rattle.mesh_drawing.proofs.PathsServed.{answer_meets}
+use Rattle.mesh_drawing.proofs.variable_stroke.edge_list.Goals as goal
+
+pub returns-clause-listed : goal.returns-clause-listed
+returns-clause-listed g c =
+    let built = rw c.new-segments.ensures.items at c.in_ok-build.ensures.edges in
+    let told = rw c.deref.ensures.value at c.sorted_edges.ensures.edges in
+    answer_meets c.sorted_edges.result _ _ _
+    (λ edges kept sorted. record { same = IsPermutation-trans _ _ _ (IsPermutation-sym _ _ built) kept; sorted = sorted })
+    told c.sorted_edges.ensures.sorted

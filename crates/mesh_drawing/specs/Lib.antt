@@ -1,0 +1,6 @@
+pub mod Drawings
+pub mod Drawn
+pub mod Nearness
+pub mod Order
+pub mod Paddings
+pub mod Parts
