@@ -28,7 +28,7 @@ pub(crate) fn validate_outline_bounds<I: IntNumber, S: IntShapeResource<I>>(
 
 /// How far an outline of this style reaches from its contours in each coordinate, in grid units: the greater padding of
 /// both offsets' joins.
-fn outline_padding<I: IntNumber>(style: &IntOutlineStyle<I>) -> I::Wide
+pub fn outline_padding<I: IntNumber>(style: &IntOutlineStyle<I>) -> I::Wide
     ensures value { I.Wide.value result ≡ outline_padding (style_of I.value style.now) }
     ensures least { pos 0 ≤ℤ I.Wide.value result }
 {

@@ -7,7 +7,7 @@
 #![tactic(auto)]
 
 pub mod area;
-mod bounds;
+pub mod bounds;
 mod bounds_apart;
 pub mod builder;
 mod builder_join;

@@ -30,8 +30,9 @@ pub(crate) fn validate_vertices<I: IntNumber, S: IntVariableStrokeSource<I>>(
     Ok(())
 }
 
-/// The greatest radius of all vertices of the source, 0 where there is none.
-fn padding<I: IntNumber, S: IntVariableStrokeSource<I>>(source: &S) -> I
+/// How far the strokes of a source reach from its vertices in each coordinate, in grid units: the greatest radius of all,
+/// 0 where there is none.
+pub fn padding<I: IntNumber, S: IntVariableStrokeSource<I>>(source: &S) -> I
     ensures value { I.value result ≡ padding_of (S.paths source.now) }
     ensures least { pos 0 ≤ℤ I.value result }
 {

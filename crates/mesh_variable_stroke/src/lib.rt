@@ -5,7 +5,7 @@
 //! the edges of those, and the pieces that they are made of; then `specs/Resolved.antt`, the stroke of many paths.
 #![tactic(auto)]
 
-mod bounds;
+pub mod bounds;
 pub mod builder;
 mod chain;
 mod chain_end;
