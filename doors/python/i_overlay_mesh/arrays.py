@@ -16,6 +16,9 @@ from .styles import TURN, CountsStructure, OptionsStructure, Style
 NUMBER, END = 4, 8
 """The sizes of a coordinate and of an end, in bytes."""
 
+LARGE = 65536
+"""So many bytes are asked of the system."""
+
 DEFAULT_OPTIONS = OptionsStructure()
 
 
@@ -84,13 +87,14 @@ def split(items: list[Any], ends: Sequence[int]) -> list[list[Any]]:
 
 
 class Room:
-    """Room for shapes. Memory that no call writes is never taken from the system."""
+    """Room for shapes. Where it is large, memory that no call writes is never taken from the system."""
 
     def __init__(self, points: int, contours: int, shapes: int) -> None:
         self.sizes = (points, contours, shapes)
         lengths = (2 * NUMBER * points, END * contours, END * shapes)
         self.starts = [0, *itertools.accumulate(-(-length // 64) * 64 for length in lengths)]
-        self.memory = mmap.mmap(-1, max(1, self.starts[-1]))
+        size = max(1, self.starts[-1])
+        self.memory = bytearray(size) if size < LARGE else mmap.mmap(-1, size)
         base = ctypes.addressof(ctypes.c_char.from_buffer(self.memory))
         self.words = tuple(word for start, size in zip(self.starts, self.sizes) for word in (base + start, size))
         self.counts = CountsStructure()

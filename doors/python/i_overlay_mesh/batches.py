@@ -4,7 +4,8 @@ from __future__ import annotations
 
 from ctypes import addressof, byref, c_size_t, c_uint8
 from dataclasses import dataclass
-from typing import Callable, Optional
+from fractions import Fraction
+from typing import Optional, Sequence
 
 import numpy
 import shapely
@@ -32,15 +33,22 @@ NO_POINTS = (addressof(NOTHING), 0)
 MOST_POINTS = 1024
 """Of a geometry that is drawn with others. Larger ones take longer than what is done for each, and memory for all."""
 
+SPAN = 2048
+"""More than there are exponents of scales, of which as many are below 0 as above."""
+
 FARTHEST = 2.0**61
 """Coordinates that lie farther out on the grid are left to exact numbers."""
 
 
+Ways = Sequence[Buffering]
+
+
 @dataclass
 class Group:
-    """Geometries that are drawn alike, each by itself.
+    """Geometries of one kind, each drawn by itself.
 
-    task: how they are drawn.
+    tasks: how they are drawn.
+    of_task: for each geometry by which of the tasks.
     numbers: which of the given ones they are.
     points: of all paths, one behind the other.
     ends: for each path how many points stand in it and before it.
@@ -48,7 +56,8 @@ class Group:
     are_holes: of rings whether each is a hole.
     """
 
-    task: Task
+    tasks: Sequence[Task]
+    of_task: Array
     numbers: Array
     points: Array
     ends: Array
@@ -59,6 +68,10 @@ class Group:
     def vertices(self) -> Array:
         """For each geometry how many points stand in it and before it."""
         return self.ends[self.paths - 1]
+
+    def keys(self, exponents: Array) -> Array:
+        """The task of each geometry, and the exponent of its scale, in one number."""
+        return SPAN * self.of_task + exponents + SPAN // 2
 
 
 @dataclass
@@ -93,11 +106,11 @@ def empty_paths() -> PackedPaths:
     return PackedPaths(numpy.zeros((0, 3)), numpy.zeros(0, numpy.int64), str)
 
 
-def group_of(task: Task, numbers: Array, paths: Array, of_path: Array) -> Group:
-    """Lines or points as a group."""
+def group_of(tasks: Sequence[Task], of_task: Array, numbers: Array, paths: Array, of_path: Array) -> Group:
+    """Paths as a group, of which each stands in one of the geometries."""
     points, of_point = shapely.get_coordinates(paths, return_index=True)
     ends = numpy.cumsum(numpy.bincount(of_point, minlength=len(paths)))
-    return Group(task, numbers, points, ends, numpy.cumsum(numpy.bincount(of_path, minlength=len(numbers))))
+    return Group(tasks, of_task, numbers, points, ends, numpy.cumsum(numpy.bincount(of_path, minlength=len(numbers))))
 
 
 def parts_of(geometries: Array) -> tuple[Array, Array]:
@@ -116,19 +129,17 @@ def rings_of(polygons: Array) -> tuple[Array, Array]:
     return rings, of_ring
 
 
-def polygon_group(geometries: Array, numbers: Array, how: Buffering) -> Group:
+def polygon_groups(geometries: Array, numbers: Array, ways: Ways, of_way: Array) -> list[Group]:
     """The rings of polygons."""
     parts, of_part = parts_of(geometries[numbers])
     rings, of_ring = rings_of(parts)
-    distances = (how.distance, how.distance)
-    group = group_of(
-        outline_task(empty_paths(), distances, how.look.arcs, how.look.join, None), numbers, rings, of_part[of_ring]
-    )
+    tasks = [outline_task(empty_paths(), (how.distance,) * 2, how.look.arcs, how.look.join, None) for how in ways]
+    group = group_of(tasks, of_way, numbers, rings, of_part[of_ring])
     group.are_holes = numpy.concatenate([[False], of_ring[1:] == of_ring[:-1]])
-    return group
+    return [group]
 
 
-def line_groups(geometries: Array, numbers: Array, how: Buffering) -> list[Group]:
+def line_groups(geometries: Array, numbers: Array, ways: Ways, of_way: Array) -> list[Group]:
     """The lines of geometries all of whose lines are open, and of those all of whose lines end where they start."""
     lines, of_line = parts_of(geometries[numbers])
     points, of_point = shapely.get_coordinates(lines, return_index=True)
@@ -139,22 +150,25 @@ def line_groups(geometries: Array, numbers: Array, how: Buffering) -> list[Group
     groups = []
     for closed, chosen in ((False, closed_lines == 0), (True, closed_lines == numpy.bincount(of_line))):
         if chosen.any():
-            task = stroke_task(empty_paths(), how.line_width, how.look, how.side, how.caps, closed)
+            tasks = [
+                stroke_task(empty_paths(), how.line_width, how.look, how.side, how.caps, closed) for how in ways
+            ]
             kept = chosen[of_line]
             own = numpy.cumsum(chosen)[of_line[kept]] - 1
-            groups.append(group_of(task, numbers[chosen], lines[kept], own))
+            groups.append(group_of(tasks, of_way[chosen], numbers[chosen], lines[kept], own))
     return groups
 
 
-def point_group(geometries: Array, numbers: Array, how: Buffering) -> Group:
+def point_groups(geometries: Array, numbers: Array, ways: Ways, of_way: Array) -> list[Group]:
     """Single points, as lines of one vertex with a width."""
     points, of_point = parts_of(geometries[numbers])
-    width = 2 * float(how.distance)
-    task = variable_task(PackedPaths(numpy.array([[0.0, 0.0, width]]), numpy.ones(1, numpy.int64), str), how.look.arcs)
-    return group_of(task, numbers, points, of_point)
+    vertices = [numpy.array([[0.0, 0.0, 2 * float(how.distance)]]) for how in ways]
+    one = numpy.ones(1, numpy.int64)
+    tasks = [variable_task(PackedPaths(vertex, one, str), how.look.arcs) for vertex, how in zip(vertices, ways)]
+    return [group_of(tasks, of_way, numbers, points, of_point)]
 
 
-def groups_of(geometries: Array, how: Buffering) -> list[Group]:
+def groups_of(geometries: Array, ways: Ways, of_way: Array) -> list[Group]:
     """The geometries that are drawn at once: small ones, of one kind each, not empty, and with no empty part."""
     kinds, are_hollow = shapely.get_type_id(geometries), shapely.is_empty(geometries)
     (many,) = numpy.nonzero(kinds > POLYGONS[0])
@@ -162,13 +176,14 @@ def groups_of(geometries: Array, how: Buffering) -> list[Group]:
     are_hollow[many[of_part[shapely.is_empty(parts)]]] = True
     kinds[are_hollow | (shapely.get_num_coordinates(geometries) > MOST_POINTS)] = -1
     groups = []
-    for types, make in ((POLYGONS, polygon_group), (POINTS, point_group)):
-        (numbers,) = numpy.nonzero(numpy.isin(kinds, types))
-        if len(numbers) and (how.side == "both" if types == POLYGONS else how.distance > 0):
-            groups.append(make(geometries, numbers, how))
-    (numbers,) = numpy.nonzero(numpy.isin(kinds, LINES))
-    if len(numbers) and how.line_width > 0:
-        groups += line_groups(geometries, numbers, how)
+    for types, make, are_drawn in (
+        (POLYGONS, polygon_groups, [how.side == "both" for how in ways]),
+        (POINTS, point_groups, [how.distance > 0 for how in ways]),
+        (LINES, line_groups, [how.line_width > 0 for how in ways]),
+    ):
+        (numbers,) = numpy.nonzero(numpy.isin(kinds, types) & numpy.array(are_drawn)[of_way])
+        if len(numbers):
+            groups += make(geometries, numbers, ways, of_way[numbers])
     return groups
 
 
@@ -193,29 +208,33 @@ def middle_places(low: Array, high: Array) -> Array:
 
 
 class Styles:
-    """The style of a task for each scale, and the greatest coordinate that the library lets a point have by it."""
+    """The styles of a group's tasks for each scale, by the keys of the group."""
 
-    def __init__(self, task: Task) -> None:
-        self.task = task
-        self.known: dict[int, tuple[Optional[Style], int]] = {}
+    def __init__(self, tasks: Sequence[Task]) -> None:
+        self.tasks = tasks
+        self.known: dict[int, tuple[Optional[Style], int, int]] = {}
 
-    def at(self, exponent: int) -> tuple[Optional[Style], int]:
-        """The style; none where the grid is too coarse for a length."""
-        if exponent not in self.known:
-            grid = Grid(power_of_two(exponent), (power_of_two(0) * 0, power_of_two(0) * 0))
+    def at(self, key: int) -> tuple[Optional[Style], int, int]:
+        """The style, none where the grid is too coarse for a length; the greatest coordinate; the greatest width."""
+        if key not in self.known:
+            number, exponent = divmod(key, SPAN)
+            task, grid = self.tasks[number], Grid(power_of_two(exponent - SPAN // 2), (Fraction(0), Fraction(0)))
+            width = task.widest(grid) if task.widest else 0
             try:
-                self.known[exponent] = (self.task.style(grid), self.task.room(grid))
+                self.known[key] = task.style(grid), task.room(grid), width
             except DrawingError:
-                self.known[exponent] = (None, MOST)
-        return self.known[exponent]
+                self.known[key] = None, MOST, width
+        return self.known[key]
 
-    def rooms(self, exponents: Array) -> tuple[Array, Array]:
-        """For each exponent the greatest coordinate, and whether its grid is fine enough."""
-        found = [self.at(exponent) for exponent in exponents.tolist()]
-        return (
-            numpy.array([room for _, room in found]),
-            numpy.array([style is not None or room < 0 for style, room in found]),
-        )
+    def rooms(self, keys: Array) -> tuple[Array, Array, Array]:
+        """For each key the greatest coordinate, whether the grid is fine enough, and the greatest width."""
+        kinds: Array
+        kinds, of_kind = numpy.unique(keys, return_inverse=True)
+        found = [self.at(key) for key in kinds.tolist()]
+        room = numpy.array([room for _, room, _ in found])
+        is_fine = numpy.array([style is not None for style, _, _ in found]) | (room < 0)
+        width = numpy.array([width for _, _, width in found])
+        return room[of_kind], is_fine[of_kind], width[of_kind]
 
 
 def find_grids(group: Group, styles: Styles) -> Grids:
@@ -223,7 +242,7 @@ def find_grids(group: Group, styles: Styles) -> Grids:
     starts = starts_of(group.vertices)
     low = numpy.minimum.reduceat(group.points, starts, axis=0)
     high = numpy.maximum.reduceat(group.points, starts, axis=0)
-    lengths = (high - low).max(axis=1) / 2 + float(group.task.reach)
+    lengths = (high - low).max(axis=1) / 2 + numpy.array([float(task.reach) for task in group.tasks])[group.of_task]
     are_open = numpy.isfinite(low + high).all(axis=1) & (lengths > 0)
     parts, powers = numpy.frexp(numpy.where(are_open, lengths, 1))
     # As `first_exponent` of one length: parts lie from a half to below 1.
@@ -233,14 +252,13 @@ def find_grids(group: Group, styles: Styles) -> Grids:
     are_found = numpy.zeros(len(starts), bool)
     while are_open.any():
         (rows,) = numpy.nonzero(are_open)
-        known, of_exponent = numpy.unique(exponents[rows], return_inverse=True)
         own = exponents[rows]
         bottom, top = (numpy.ldexp(corner[rows], own[:, None]) for corner in (low, high))
         is_near = (numpy.abs(bottom) < FARTHEST).all(axis=1) & (numpy.abs(top) < FARTHEST).all(axis=1)
         bottom, top = (numpy.where(is_near[:, None], corner, 0) for corner in (bottom, top))
         middles = middle_places(bottom, top)
         sizes = [numpy.abs(rounded(corner).astype(numpy.int64) - middles).max(axis=1) for corner in (bottom, top)]
-        room, has_style = (column[of_exponent] for column in styles.rooms(known))
+        room, has_style, _ = styles.rooms(group.keys(exponents)[rows])
         fits = is_near & (numpy.maximum(*sizes) <= numpy.minimum(MOST, room))
         origins[rows[fits]] = middles[fits]
         are_found[rows[fits]] = has_style[fits]
@@ -251,19 +269,17 @@ def find_grids(group: Group, styles: Styles) -> Grids:
     return Grids(exponents, origins, are_found)
 
 
-def places_of(group: Group, grids: Grids, width: Callable[[int], int]) -> Array:
-    """The places of all vertices, with widths where the task has some. Those of geometries without a grid are 0."""
-    of_point = numpy.repeat(numpy.arange(len(group.paths)), numpy.diff(group.vertices, prepend=0))
-    scaled = numpy.ldexp(
-        numpy.where(grids.are_found[of_point][:, None], group.points, 0), grids.exponents[of_point][:, None]
-    )
-    places = numpy.empty((len(scaled), 2 if group.task.widest is None else 3), numpy.int32)
-    places[:, :2] = (
-        rounded(scaled).astype(numpy.int64) - numpy.where(grids.are_found[:, None], grids.origins, 0)[of_point]
-    )
-    if group.task.widest is not None:
-        widths = {exponent: width(exponent) for exponent in numpy.unique(grids.exponents[grids.are_found]).tolist()}
-        places[:, 2] = numpy.array([widths.get(exponent, 0) for exponent in grids.exponents.tolist()])[of_point]
+def places_of(group: Group, grids: Grids, styles: Styles) -> Array:
+    """The places of all vertices, with widths where the tasks have some. Those of geometries without a grid are 0."""
+    of_point = list_numbers(group.vertices)
+    points = numpy.where(grids.are_found[of_point][:, None], group.points, 0)
+    has_widths = group.tasks[0].widest is not None
+    places = numpy.empty((len(points), 3 if has_widths else 2), numpy.int32)
+    whole = rounded(numpy.ldexp(points, grids.exponents[of_point][:, None])).astype(numpy.int64)
+    places[:, :2] = whole - numpy.where(grids.are_found[:, None], grids.origins, 0)[of_point]
+    if has_widths:
+        _, _, widths = styles.rooms(group.keys(grids.exponents))
+        places[:, 2] = numpy.where(grids.are_found, widths, 0)[of_point]
     if group.are_holes is not None:
         turn(places, group.ends, group.are_holes)
     return places
@@ -273,19 +289,20 @@ def places_of(group: Group, grids: Grids, width: Callable[[int], int]) -> Array:
 
 
 def drawn(group: Group, grids: Grids, styles: Styles, places: Array, stop: c_uint8) -> Answers:
-    """Draws the geometries that have a grid: by one call those of one scale, as far as the room does."""
+    """Draws the geometries that have a grid: by one call those of one style, as far as the room does."""
     vertex, path = starts_of(group.vertices), starts_of(group.paths)
     ends = (group.ends - vertex[list_numbers(group.paths)]).astype(numpy.uint64)
-    order = numpy.argsort(grids.exponents, kind="stable")
+    keys = group.keys(grids.exponents)
+    order = numpy.argsort(keys, kind="stable")
     order = order[grids.are_found[order]]
-    exponents = grids.exponents[order]
+    keys = keys[order]
     parts = numpy.column_stack([vertex, group.vertices - vertex, path, group.paths - path])[order].astype(numpy.uint64)
     counts, outcomes = numpy.zeros((len(order), 3), numpy.int64), numpy.zeros(len(order), numpy.uint8)
     room, start, told = Room(*FIRST_ROOM), 0, []
     while start < len(order) and not stop.value:
-        style, _ = styles.at(int(exponents[start]))
+        style, _, _ = styles.at(int(keys[start]))
         assert style is not None
-        own = slice(start, int(numpy.searchsorted(exponents, exponents[start], "right")))
+        own = slice(start, int(numpy.searchsorted(keys, keys[start], "right")))
         start += each(style, places, ends, parts[own], room, counts[own], outcomes[own], stop)
         room.counts = CountsStructure(*counts[own.start : start].sum(axis=0).tolist())
         told.append(room.told())
@@ -333,24 +350,17 @@ def made(answers: Answers, grids: Grids) -> Array:
     return together(polygons_of(coordinates, contour_ends, shape_ends), shapes)
 
 
-def buffered(geometries: Array, how: Buffering, stop: c_uint8) -> tuple[Array, Array]:
-    """Geometries buffered, and for each whether it was; the others are left to exact numbers.
+def buffered(geometries: Array, ways: Ways, of_way: Array, stop: c_uint8) -> tuple[Array, Array]:
+    """Geometries buffered, each in one of the ways, and for each whether it was; others are left to exact numbers.
 
     stop: a number that ends the work once it is not 0.
     """
     result = numpy.full(len(geometries), None, object)
     are_done = numpy.zeros(len(geometries), bool)
-    for group in groups_of(geometries, how):
-        styles = Styles(group.task)
+    for group in groups_of(geometries, ways, of_way):
+        styles = Styles(group.tasks)
         grids = find_grids(group, styles)
-        if not grids.are_found.any():
-            continue
-
-        def width(exponent: int, group: Group = group) -> int:
-            assert group.task.widest is not None
-            return group.task.widest(Grid(power_of_two(exponent), (power_of_two(0) * 0, power_of_two(0) * 0)))
-
-        answers = drawn(group, grids, styles, places_of(group, grids, width), stop)
+        answers = drawn(group, grids, styles, places_of(group, grids, styles), stop)
         numbers = group.numbers[answers.rows]
         result[numbers] = made(answers, grids)
         are_done[numbers] = True

@@ -25,7 +25,9 @@ def polygons_of(points: Array, ring_ends: Array, polygon_ends: Array) -> Array:
 
 def together(polygons: Array, counts: Array) -> Array:
     """Geometries of so many polygons each: a Polygon where there is one, else a MultiPolygon."""
-    geometries = numpy.full(len(counts), shapely.MultiPolygon(), object)
+    geometries = numpy.full(len(counts), None, object)
+    if not counts.all():
+        geometries[counts == 0] = shapely.MultiPolygon()
     of_polygon = numpy.repeat(numpy.arange(len(counts)), counts)
     is_single = (counts == 1)[of_polygon]
     geometries[of_polygon[is_single]] = polygons[is_single]

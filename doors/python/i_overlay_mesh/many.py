@@ -187,22 +187,21 @@ def at_once(
 
     from . import batches
 
-    groups: dict[int, list[int]] = {}
-    for number in chunk:
-        if is_geometry(items[number]):
-            groups.setdefault(id(ways[number]), []).append(number)
-    done: set[int] = set()
-    for numbers in groups.values():
-        how = ways[numbers[0]]
-        if not is_plain_way(how):
-            continue
-        given = numpy.full(len(numbers), None, object)
-        given[:] = [items[number] for number in numbers]
-        answers, are_done = batches.buffered(given, how, pool.stop)
-        for number, answer, is_done in zip(numbers, answers.tolist(), are_done.tolist()):
-            if is_done:
-                result[number] = answer
-                done.add(number)
+    known = {id(ways[number]): ways[number] for number in chunk}
+    plain = [how for how in known.values() if is_plain_way(how)]
+    places = {id(how): place for place, how in enumerate(plain)}
+    numbers = [number for number in chunk if id(ways[number]) in places and is_geometry(items[number])]
+    if not numbers:
+        return chunk
+    given = numpy.full(len(numbers), None, object)
+    given[:] = [items[number] for number in numbers]
+    of_way = numpy.array([places[id(ways[number])] for number in numbers])
+    answers, are_done = batches.buffered(given, plain, of_way, pool.stop)
+    done = set()
+    for number, answer, is_done in zip(numbers, answers.tolist(), are_done.tolist()):
+        if is_done:
+            result[number] = answer
+            done.add(number)
     return [number for number in chunk if number not in done]
 
 

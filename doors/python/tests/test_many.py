@@ -157,6 +157,11 @@ class TestShapely(unittest.TestCase):
         given = [made(draw, number % 11) for number in range(110)]
         for distance in (1, -0.25, 0):
             self.check(given, distance)
+        distances = [draw.choice([1, -1, 0, 0.25, draw.uniform(-9, 9)]) for _ in given]
+        answers = buffer_all(given, distances)
+        for item, distance, answer in zip(given, distances, answers):
+            if item is not None and not item.is_empty:
+                self.assertTrue(answer.equals_exact(buffer(item, distance).shapely(), 0), (item.wkt, distance))
         self.check(given, 2.5, join="bevel", cap="square")
         self.check(given, 0.5, at_least=True, step=20)
         self.check(given, 1, quad_segs=8, join_style="mitre", mitre_limit=3)
