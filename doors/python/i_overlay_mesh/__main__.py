@@ -136,7 +136,9 @@ def run_buffer(options: argparse.Namespace) -> None:
 
     def draw_layer(given: Any, project: Any) -> Any:
         try:
-            answers = buffer_all(given, options.distance, workers=workers, progress=progress.tell, project=project, **words)
+            answers = buffer_all(
+                given, options.distance, workers=workers, progress=progress.tell, project=project, **words
+            )
         except DrawingError as error:
             raise FeatureError(str(error)) if error.where else error from None
         return mappings(answers) if isinstance(answers, list) else answers

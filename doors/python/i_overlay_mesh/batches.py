@@ -150,9 +150,7 @@ def line_groups(geometries: Array, numbers: Array, ways: Ways, of_way: Array) ->
     groups = []
     for closed, chosen in ((False, closed_lines == 0), (True, closed_lines == numpy.bincount(of_line))):
         if chosen.any():
-            tasks = [
-                stroke_task(empty_paths(), how.line_width, how.look, how.side, how.caps, closed) for how in ways
-            ]
+            tasks = [stroke_task(empty_paths(), how.line_width, how.look, how.side, how.caps, closed) for how in ways]
             kept = chosen[of_line]
             own = numpy.cumsum(chosen)[of_line[kept]] - 1
             groups.append(group_of(tasks, of_way[chosen], numbers[chosen], lines[kept], own))
@@ -318,7 +316,7 @@ def drawn(group: Group, grids: Grids, styles: Styles, places: Array, stop: c_uin
 def each(
     style: Style, places: Array, ends: Array, parts: Array, room: Room, counts: Array, outcomes: Array, stop: c_uint8
 ) -> int:
-    """Draws one part of the places and ends after the other, and answers how many are done. What is given is written to."""
+    """Draws one part of the places and ends after the other, into what is given, and answers how many are done."""
     caps = () if style.caps else (*NO_POINTS, *NO_POINTS)
     lists = places.ctypes.data, ends.ctypes.data, parts.ctypes.data, len(parts)
     done = c_size_t()

@@ -48,7 +48,8 @@ def drawn(value: Any, distance: Any, draw: Callable[[Sequence[Any]], list[Any]],
     column = value.geometry
     if isinstance(distance, pandas.Series) and not distance.index.equals(column.index):
         raise DrawingError(
-            "", "distance is a column with another index than the geometries: `distance.reindex(geometries.index)` has theirs"
+            "",
+            "distance is a column with another index than the geometries: `distance.reindex(geometries.index)` has theirs",
         )
     plane = on_a_plane(column, project)
     answers = geopandas.GeoSeries(draw(plane.to_numpy().tolist()), index=column.index, crs=plane.crs, name=column.name)

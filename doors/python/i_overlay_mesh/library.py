@@ -66,7 +66,7 @@ def load_library() -> ctypes.CDLL:
 
 
 def parameters_of(name: str) -> list[Any]:
-    """The parameters of a call for shapes, for the range, for slivers or for many drawings, by its name without its width."""
+    """The parameters of a call for shapes, many drawings, the range or slivers, by its name without its width."""
     if name == "mesh_answer":
         return [*LIST, *LIST, STRUCTURE]
     rooms = [*LIST, *LIST, *LIST, STRUCTURE]

@@ -52,7 +52,6 @@ def fields_of(words):
 STRUCTS = {name: fields_of(words) for words, name in re.findall(r"typedef struct \{(.*?)\} (\w+);", TEXT, re.S)}
 
 
-
 def calls_of(text):
     """The types and names of the arguments of calls."""
     return {
@@ -142,7 +141,10 @@ class TestRust(unittest.TestCase):
 
     def test_outcomes(self):
         text = (RUST / "error.rs").read_text()
-        told = {name_of(name)[len("mesh_") :]: int(number) for number, name in re.findall(r"(\d+) => Err\(Error::(\w+)\)", text)}
+        told = {
+            name_of(name)[len("mesh_") :]: int(number)
+            for number, name in re.findall(r"(\d+) => Err\(Error::(\w+)\)", text)
+        }
         told["answered"] = int(re.search(r"(\d+) => Ok\(\(\)\)", text)[1])
         told["room_too_small"] = int(re.search(r"ROOM_TOO_SMALL: Outcome = (\d+)", text)[1])
         self.assertEqual(told, OUTCOMES)
