@@ -1,12 +1,13 @@
 """The header for C is the one source of kinds, outcomes, structs and calls: Python, Rust and the library keep to it."""
 
 import ctypes
+import json
 import re
 import unittest
 
-from surroundings import ROOT
+from surroundings import ROOT, nested
 
-from i_overlay_mesh import arrays, library, styles
+from i_overlay_mesh import answer, arrays, library, styles
 from i_overlay_mesh.library import Outcome
 
 
@@ -20,6 +21,8 @@ TEXT = code_of("c/i_overlay_mesh.h")
 EACH = code_of("c/each.c")
 
 RUST = ROOT / "doors/rust/src"
+
+LINE = [[[0, 0], [500, 0], [500, 90]]]
 
 NUMBERS = {
     "int32_t": ctypes.c_int32,
@@ -118,13 +121,27 @@ class TestLibrary(unittest.TestCase):
             structure.start_cap.kind = structure.end_cap.kind = number
         else:
             structure.side = number
-        return arrays.reach(stroke, arrays.lists_in([[[0, 0], [500, 0], [500, 90]]], 2))[0]
+        return arrays.reach(stroke, arrays.lists_in(LINE, 2))[0]
 
     def test_kinds(self):
         for kinds in (JOINS, CAPS, SIDES):
             for number in range(len(kinds) + 2):
                 expected = Outcome.ANSWERED if number in kinds.values() else Outcome.MALFORMED
                 self.assertEqual(self.outcome(number, kinds), expected, (number, kinds))
+
+    def test_words(self):
+        """A request names each kind as the header does, and means the same by it as its number."""
+        arc, points = [2**26, 5], [[0, -50], [30, 0], [0, 50]]
+        said = {"miter": {"miter": 2**30}, "round": {"round": arc}, "custom": {"custom": points}}
+        for key, kinds in (("join", JOINS), ("start", CAPS), ("end", CAPS), ("side", SIDES)):
+            lines = []
+            for name in kinds:
+                style = {"width": 100, key: said.get(name, name)}
+                request = {"op": "stroke", "int": "i32", "out": "shapes", "paths": LINE, "style": style}
+                lines.append(json.loads(answer(json.dumps(request).encode())))
+                outcome, told, _ = arrays.drawn(styles.style_of(request), arrays.lists_in(LINE, 2))
+                self.assertEqual((outcome, lines[-1]), (Outcome.ANSWERED, {"shapes": nested(told)}), (key, name))
+            self.assertEqual(len({str(line) for line in lines}), len(kinds), key)
 
 
 class TestRust(unittest.TestCase):
