@@ -269,15 +269,16 @@ def find_grids(group: Group, styles: Styles) -> Grids:
 
 def places_of(group: Group, grids: Grids, styles: Styles) -> Array:
     """The places of all vertices, with widths where the tasks have some. Those of geometries without a grid are 0."""
-    of_point = list_numbers(group.vertices)
-    points = numpy.where(grids.are_found[of_point][:, None], group.points, 0)
+    of_point, found = list_numbers(group.vertices), grids.are_found
+    points = numpy.where(found[of_point][:, None], group.points, 0)
     has_widths = group.tasks[0].widest is not None
     places = numpy.empty((len(points), 3 if has_widths else 2), numpy.int32)
     whole = rounded(numpy.ldexp(points, grids.exponents[of_point][:, None])).astype(numpy.int64)
-    places[:, :2] = whole - numpy.where(grids.are_found[:, None], grids.origins, 0)[of_point]
-    if has_widths:
-        _, _, widths = styles.rooms(group.keys(grids.exponents))
-        places[:, 2] = numpy.where(grids.are_found, widths, 0)[of_point]
+    places[:, :2] = whole - numpy.where(found[:, None], grids.origins, 0)[of_point]
+    if has_widths and found.any():
+        widths = numpy.zeros(len(found), numpy.int32)
+        widths[found] = styles.rooms(group.keys(grids.exponents)[found])[2]
+        places[:, 2] = widths[of_point]
     if group.are_holes is not None:
         turn(places, group.ends, group.are_holes)
     return places

@@ -172,6 +172,13 @@ class TestShapely(unittest.TestCase):
         with self.assertRaisesRegex(DrawingError, "geometry 0, polygon 0, ring 0: single_sided is for lines"):
             buffer_all(given, 1, single_sided=True)
 
+    def test_lengths_of_any_size(self):
+        """A distance that no grid of floats has, beside others, is left to exact numbers."""
+        points = [shapely.geometry.Point(x, 0) for x in (0, 5, 0, 1e300)]
+        distances = [1e-320, 1, 1e300, 1e299]
+        for item, distance, answer in zip(points, distances, buffer_all(points, distances, workers=1)):
+            self.assertTrue(answer.equals_exact(buffer(item, distance).shapely(), 0), distance)
+
     def test_rooms(self):
         """Answers that the room takes one after the other, and one that is longer than it."""
         if not hasattr(shapely, "linearrings"):
