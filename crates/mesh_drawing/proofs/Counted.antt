@@ -1,6 +1,7 @@
 -- Lemmas over splits that are counted, and refusals of a call with a limit.
-use Rattle.std.proofs.Common.{◌≡◌, ℕ, Result, Ok, Err, IsErrAnd, subst}
-use Rattle.std.specs.Prelude.{IfOk, OnOk}
+use Rattle.std.proofs.Common.{◌≡◌, ℕ, Result, Ok, Err, IsErrAnd, ap, subst}
+use Rattle.std.proofs.lemmas.Bool.{true≢false}
+use Rattle.std.specs.Prelude.{IfOk, OnOk, is_ok}
 use Rattle.mesh_split.specs.Counting.{IsWithinLimit}
 use Rattle.mesh_split.specs.declared.count.SplitCount.{SplitCount}
 use Rattle.mesh_offset.specs.Errors.{of_offset}
@@ -15,6 +16,11 @@ pub never_past : {A : Type 0} (r : Result A IntNearnessError) (error : IntOutlin
 never_past (Ok x) error same e = absurd same
 never_past (Err t) offset.CoordinateOutOfRange same e = let m : near.CoordinateOutOfRange ≡ near.TooManySplits = cc in cc
 never_past (Err t) offset.OutOfMemory same e = let m : near.OutOfMemory ≡ near.TooManySplits = cc in cc
+
+-- nor is it told where a limit was passed
+pub other_refusal : {A : Type 0} (r : Result A IntNearnessError) → r ≡ Err near.CoordinateOutOfRange → r ≡ Err near.TooManySplits → ⊥
+other_refusal (Ok x) range past = true≢false (ap is_ok range)
+other_refusal (Err t) range past = cc
 
 -- a count that began with no split
 pub counted_up : (AreCounted : SplitCount → SplitCount → Type 0) (most : ℕ) (IsSo : SplitCount → Type 0) (first count : SplitCount) →

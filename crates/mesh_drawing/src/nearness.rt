@@ -36,6 +36,8 @@ pub fn near_shapes<I: OverlayInt>(
         → ¬ MayBeDrawn I.unit (drawn_of I.value drawing.now) }
     ensures past { result ≡ Err IntNearnessError.TooManySplits
         → TakesMoreSplits most_splits I.unit (drawn_of I.value drawing.now) }
+    ensures drawable { result ≡ Err IntNearnessError.TooManySplits
+        → MayBeDrawn I.unit (drawn_of I.value drawing.now) }
 {
     match drawing {
         Drawing::Outline(outline) => near_outline(alloc, outline, options, most_splits),
@@ -59,6 +61,9 @@ fn near_outline<I: OverlayInt>(
         (paths_of outline.now.paths.items) }
     ensures past { result ≡ Err IntNearnessError.TooManySplits
         → TakesMoreSplits most_splits I.unit (drawn_outline I.value outline.now) }
+    ensures drawable { result ≡ Err IntNearnessError.TooManySplits
+        → MayBeOutlined I.unit (style_of I.value outline.now.style)
+        (paths_of outline.now.paths.items) }
 {
     outline.paths.validate_outline(&outline.style)?;
     let mut count = SplitCount::new(most_splits);
@@ -82,6 +87,9 @@ fn near_stroke<I: OverlayInt>(
         (paths_of stroke.now.paths.items) }
     ensures past { result ≡ Err IntNearnessError.TooManySplits
         → TakesMoreSplits most_splits I.unit (drawn_stroke I.value stroke.now) }
+    ensures drawable { result ≡ Err IntNearnessError.TooManySplits
+        → MayBeStroked I.unit (stroke_style_of I.value stroke.now.style)
+        (paths_of stroke.now.paths.items) }
 {
     stroke.paths.validate_stroke(&stroke.style)?;
     let mut count = SplitCount::new(most_splits);
@@ -103,6 +111,8 @@ fn near_variable<I: OverlayInt>(
         → ¬ MayBeVariablyStroked I.unit (paths_of stroke.now.paths.items) }
     ensures past { result ≡ Err IntNearnessError.TooManySplits
         → TakesMoreSplits most_splits I.unit (drawn_variable_stroke stroke.now) }
+    ensures drawable { result ≡ Err IntNearnessError.TooManySplits
+        → MayBeVariablyStroked I.unit (paths_of stroke.now.paths.items) }
 {
     stroke.paths.validate_variable_stroke()?;
     let mut count = SplitCount::new(most_splits);

@@ -50,4 +50,11 @@ near_asked unit point_of asks drawn choices most (Err (Failed (Refused offset.Co
     record { drawn = answer.drawn; asked = subst asks (sym answer.asked) here; refused = answer.refused }
 near_asked unit point_of asks drawn choices most (Err (Failed (Refused offset.OutOfMemory))) here answer = tt
 near_asked unit point_of asks drawn choices most (Err TooManySplits) here answer =
-    record { drawn = answer.drawn; asked = subst asks (sym answer.asked) here; past = answer.past }
+    record {
+      drawn = answer.drawn;
+      asked = subst asks (sym answer.asked) here;
+      chosen = answer.chosen;
+      said = answer.said;
+      accepted = answer.accepted;
+      past = answer.past;
+    }

@@ -26,10 +26,13 @@ pub record AnswersNear {F : Type 0} (unit : ℕ) (point_of : F → Point) (asks 
   pub drawing : AreShapesWithin most near.nearness unit chosen drawn shapes
   pub held : HoldsShapes point_of near.shapes shapes
 
--- what is asked for took more splits than a limit that is set
-pub record IsGivenUp (unit : ℕ) (asks : Drawn → Type 0) (most : ℕ) : Type 0 where
+-- what is asked for, with choices that are some, may be drawn, and took more splits than a limit that is set
+pub record IsGivenUp (unit : ℕ) (asks : Drawn → Type 0) (choices : Option Choices) (most : ℕ) : Type 0 where
   pub drawn : Drawn
   pub asked : asks drawn
+  pub chosen : Choices
+  pub said : choices ≡ Some chosen
+  pub accepted : MayBeDrawn unit drawn
   pub past : TakesMoreSplits most unit drawn
 
 -- what is answered where shapes with their nearness are asked for, with these choices, if there are any, by at most so
@@ -39,4 +42,4 @@ abbrev pub IsNearAnswer : {F : Type 0} → ℕ → (F → Point) → (Drawn → 
 IsNearAnswer unit point_of asks choices most (Ok near) = AnswersNear unit point_of asks choices most near
 IsNearAnswer unit point_of asks choices most (Err (Failed failure)) =
     IsFailureOf (MayBeDrawn unit) asks (choices ≡ None) failure
-IsNearAnswer unit point_of asks choices most (Err TooManySplits) = IsGivenUp unit asks most
+IsNearAnswer unit point_of asks choices most (Err TooManySplits) = IsGivenUp unit asks choices most

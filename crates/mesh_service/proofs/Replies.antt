@@ -1,5 +1,5 @@
 -- Lemmas over lines: what is answered or told is a reply.
-use Rattle.std.proofs.Common.{◌≡◌, ◌∙◌, ◌⊎◌, inl, inr, ℕ, ◌<◌, List, [], ◌∷◌, length, String, Global, Option, None, Some, Result, Ok, Err, IfSome, IfOk, IfErr, IsOk, IsErrAnd, refl, sym, subst, arith}
+use Rattle.std.proofs.Common.{◌≡◌, ◌∙◌, ◌⊎◌, inl, inr, ℕ, ◌<◌, List, [], ◌∷◌, length, String, Global, Option, None, Some, Result, Ok, Err, IfSome, IfOk, IfErr, IsOk, IsErrAnd, refl, sym, ap, subst, arith}
 use Rattle.std.specs.Prelude.{option_and_then, string_bytes}
 use Rattle.std.proofs.lemmas.Bool.{false≢true}
 use Rattle.std.proofs.lemmas.Option.{none-some}
@@ -11,9 +11,11 @@ use Rattle.mesh_offset.specs.declared.error.IntOutlineError.TheVariants.{Coordin
 use Rattle.mesh_request.specs.Failures.{failure_line, IsOfMemory}
 use Rattle.mesh_request.specs.Reading.{IsOfReading}
 use Rattle.mesh_request.specs.Requests.{Request}
-use Rattle.mesh_service.specs.Near.{IsOfNearMemory}
+use Rattle.mesh_service.specs.Near.{IsAnswerWithin, IsGivenUpIn, IsOfNearMemory, TellsNearRefusal}
 use Rattle.mesh_service.specs.Served.{IsAccepted}
+use Rattle.mesh_service.specs.declared.near.Telling.{Telling}
 use Rattle.mesh_service.specs.declared.near_failure.NearFailure.{NearFailure}
+use Rattle.mesh_service.specs.declared.near_failure.NearFailure.TheVariants.{Failed, TooManySplits}
 use Rattle.mesh_service.specs.declared.service.Status.{Status}
 use Rattle.mesh_service.specs.declared.service.Status.TheVariants.{Unwritten, Unread}
 use Rattle.mesh_service.specs.declared.service.Status.TheVariants.{Refused as RefusedStatus, Unreadable as UnreadableStatus}
@@ -107,6 +109,26 @@ pub refusal_read : (text : List ℕ) (told : Result (String Global) Failure) (fa
     (told ≡ Err Unreadable → HoldsNoRequest text) → IsRefused text → TellsRefusal told
 refusal_read text (Ok line) failure same unreadable kept = absurd same
 refusal_read text (Err e) failure same unreadable kept = refusal_told text (Err e) tt unreadable kept
+
+-- the same of what is asked with a limit: it does not pass it either
+pub near_refusal_told : (telling : Telling) (text : List ℕ) (told : Result (String Global) NearFailure) → IfOk told (λ line. IsAnswerWithin telling text (string_bytes line)) →
+    (told ≡ Err (Failed Unreadable) → HoldsNoRequest text) → (told ≡ Err TooManySplits → IsGivenUpIn telling.most_splits text) → IsRefused text → TellsNearRefusal told
+near_refusal_told telling text (Ok line) answered unreadable given_up kept =
+    let here : IfSome (request_in text) (λ r. IsAccepted r) = subst (λ (o : Option Request). IfSome o (λ r. IsAccepted r)) (sym answered.requested) answered.answered.accepted in
+    absurd (kept.refused (subst (λ (o : Option Request). IfSome o (λ r. IsAccepted r)) kept.requested here))
+near_refusal_told telling text (Err (Failed (Refused error))) answered unreadable given_up kept = tt
+near_refusal_told telling text (Err (Failed Unreadable)) answered unreadable given_up kept = absurd (none-some kept.request (sym (unreadable refl kept.utf8) ∙ kept.requested))
+near_refusal_told telling text (Err TooManySplits) answered unreadable given_up kept =
+    let past = given_up refl in
+    let here : IfSome (request_in text) (λ r. IsAccepted r) = subst (λ (o : Option Request). IfSome o (λ r. IsAccepted r)) (sym past.requested) past.past.accepted in
+    absurd (kept.refused (subst (λ (o : Option Request). IfSome o (λ r. IsAccepted r)) kept.requested here))
+
+pub near_refusal_read : (text : List ℕ) (told : Result (String Global) NearFailure) (failure : Failure) → IsErrAnd told (λ e. e ≡ Failed failure) →
+    (told ≡ Err (Failed Unreadable) → HoldsNoRequest text) → IsRefused text → TellsNearRefusal told
+near_refusal_read text (Ok line) failure same unreadable kept = absurd same
+near_refusal_read text (Err e) failure same unreadable kept =
+    subst (λ (f : NearFailure). TellsNearRefusal (Err f)) (sym same)
+    (refusal_told text (Err failure) tt (λ h. unreadable (let m : failure ≡ Unreadable = cc in ap Err (same ∙ ap Failed m))) kept)
 
 -- no run ends both as a refusal or a failed write, and as what is unreadable or a failed read
 pub not_both : (s : Status) → (s ≡ RefusedStatus) ⊎ (s ≡ Unwritten) → (s ≡ UnreadableStatus) ⊎ (s ≡ Unread) → ⊥

@@ -1,7 +1,9 @@
 -- What is answered to requests by no more than a number of splits, with the nearness of the answer where that is asked.
-use Rattle.std.specs.Prelude.{ℕ, ◌≡◌, ℤ, List, Some, Bool, IsUtf8}
+use Rattle.std.specs.Prelude.{ℕ, ◌≡◌, ℤ, List, Some, Bool, IsUtf8, Result, Ok, Err}
+use Rattle.std.specs.declared.alloc.Global.{Global}
 use Rattle.std.specs.Ordering.{int_cmp}
 use Rattle.std.specs.declared.cmp.Ordering.{Ordering}
+use Rattle.std.specs.declared.string.String.{String}
 use Rattle.mesh_plane.specs.Plane.{Point, Edge}
 use Rattle.mesh_shapes.specs.Resolution.{Choices}
 use Rattle.mesh_offset.specs.declared.error.IntNearnessError.{IntNearnessError}
@@ -13,7 +15,7 @@ use Rattle.mesh_request.specs.Failures.{IsOfMemory}
 use Rattle.mesh_request.specs.Requests.{Asked, Request}
 use Rattle.mesh_service.specs.Lines.{told_edges_text, told_shapes_text}
 use Rattle.mesh_service.specs.Served.{IsAccepted}
-use Rattle.mesh_service.specs.Serving.{request_in}
+use Rattle.mesh_service.specs.Serving.{request_in, TellsRefusal}
 use Rattle.mesh_request.specs.declared.failure.Failure.TheVariants.{Refused}
 use Rattle.mesh_service.specs.declared.near.Telling.{Telling}
 use Rattle.mesh_service.specs.declared.near_failure.NearFailure.{NearFailure}
@@ -44,9 +46,12 @@ pub record AnswersWithin (telling : Telling) (order : ℤ → ℤ → Ordering) 
   pub accepted : IsAccepted request
   pub listed : ListsWithin telling order request line request.asked
 
--- a limit is set, and what is drawn took more splits
-abbrev pub PassesLimit : ℕ → Request → Type 0
-PassesLimit most request = TakesMoreSplits most request.unit request.drawn
+-- shapes are asked for, and what is drawn may be drawn, and took more splits than a limit that is set
+pub record PassesLimit (most : ℕ) (request : Request) : Type 0 where
+  pub choices : Choices
+  pub shapes : request.asked ≡ Asked.for_shapes choices
+  pub accepted : IsAccepted request
+  pub past : TakesMoreSplits most request.unit request.drawn
 
 -- `line` answers the request that `text`, in UTF-8, is
 pub record IsAnswerWithin (telling : Telling) (text line : List ℕ) : Type 0 where
@@ -61,6 +66,12 @@ pub record IsGivenUpIn (most : ℕ) (text : List ℕ) : Type 0 where
   pub request : Request
   pub requested : request_in text ≡ Some request
   pub past : PassesLimit most request
+
+-- what is told is a refusal, of the range or of memory
+abbrev pub TellsNearRefusal : Result (String Global) NearFailure → Type 0
+TellsNearRefusal (Ok line) = ⊥
+TellsNearRefusal (Err (Failed failure)) = TellsRefusal (Err failure)
+TellsNearRefusal (Err TooManySplits) = ⊥
 
 -- memory was refused
 abbrev pub IsOfNearMemory : NearFailure → Type 0

@@ -8,6 +8,7 @@ ghost use Rattle.mesh_request.specs.Reading.{request_as, request_of};
 ghost use Rattle.mesh_drawing.specs.Order.{by_values};
 ghost use Rattle.mesh_service.specs.Lines.{told_edges_text, told_shapes_text};
 ghost use Rattle.mesh_service.specs.Near.{AnswersWithin, IsAnswerWithin, IsGivenUpIn, IsOfNearMemory, PassesLimit};
+ghost use Rattle.mesh_service.specs.Near.{TellsNearRefusal};
 ghost use Rattle.mesh_service.specs.Private.Told.{AnswersAskedWithin, MayNotBeAnswered, PassesLimitAsked};
 ghost use Rattle.mesh_service.specs.Served.{IsAccepted};
 ghost use Rattle.mesh_service.specs.Serving.{HoldsNoRequest, IsRefused};
@@ -43,6 +44,7 @@ pub fn respond_near(alloc: Global, request: &[u8], telling: Telling) -> Result<S
     ensures answered { IfOk result (λ line. IsAnswerWithin telling request.now (string_bytes line)) }
     ensures refused { result ≡ Err (NearFailure.Failed (Failure.Refused IntOutlineError.CoordinateOutOfRange))
         → IsRefused request.now }
+    ensures not_accepted { IsRefused request.now → TellsNearRefusal result }
     ensures unreadable { result ≡ Err (NearFailure.Failed Failure.Unreadable) → HoldsNoRequest request.now }
     ensures given_up { result ≡ Err NearFailure.TooManySplits → IsGivenUpIn telling.most_splits request.now }
     ensures memory { IfErr result (λ e. IsOfNearMemory e → 0 < length request.now) }

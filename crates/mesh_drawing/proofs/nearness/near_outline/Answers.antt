@@ -10,7 +10,7 @@ use Rattle.mesh_drawing.specs.Drawn.{drawn_outline}
 use Rattle.mesh_drawing.specs.Nearness.{AreCountedShapes}
 use Rattle.mesh_drawing.specs.Drawings.{MayBeOutlined}
 use Rattle.mesh_drawing.proofs.PathsServed.{answered_only, areas_fit, fit_half, half_fit}
-use Rattle.mesh_drawing.proofs.Counted.{counted_up, never_past, within_up}
+use Rattle.mesh_drawing.proofs.Counted.{counted_up, never_past, other_refusal, within_up}
 use Rattle.mesh_drawing.proofs.nearness.near_outline.Goals as goal
 
 pub returns-in_err-validate_outline-clause-refused : goal.returns-in_err-validate_outline-clause-refused
@@ -18,6 +18,19 @@ returns-in_err-validate_outline-clause-refused g c = λ _ accepted. false≢true
 
 pub returns-in_err-validate_outline-clause-past : goal.returns-in_err-validate_outline-clause-past
 returns-in_err-validate_outline-clause-past g c = λ e. absurd (never_past c.from_residual.result _ c.from_residual.ensures.1 e)
+
+pub returns-in_err-validate_outline-clause-drawable : goal.returns-in_err-validate_outline-clause-drawable
+returns-in_err-validate_outline-clause-drawable g c = λ e. absurd (never_past c.from_residual.result _ c.from_residual.ensures.1 e)
+
+pub returns-clause-drawable : goal.returns-clause-drawable
+returns-clause-drawable g c = λ e.
+    let paths = paths_of c.args.outline.now.paths.items in
+    let half = g.I.Wide.WideNumber.half in
+    record {
+      safe = c.in_ok-validate_outline.ensures.safe.0 refl;
+      fit = fit_half half g.I.IntNumber.unit paths g.met.I.IntNumber.half_law
+          (areas_fit half paths (λ unfit. other_refusal c.outline_with_nearness.result (c.outline_with_nearness.ensures.unfit.1 unfit) e));
+    }
 
 pub returns-clause-accepted : goal.returns-clause-accepted
 returns-clause-accepted g c =

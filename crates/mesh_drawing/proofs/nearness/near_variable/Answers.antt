@@ -14,6 +14,12 @@ returns-in_err-validate_variable_stroke-clause-refused g c = λ _ accepted. fals
 pub returns-in_err-validate_variable_stroke-clause-past : goal.returns-in_err-validate_variable_stroke-clause-past
 returns-in_err-validate_variable_stroke-clause-past g c = λ e. absurd (never_past c.from_residual.result _ c.from_residual.ensures.1 e)
 
+pub returns-in_err-validate_variable_stroke-clause-drawable : goal.returns-in_err-validate_variable_stroke-clause-drawable
+returns-in_err-validate_variable_stroke-clause-drawable g c = λ e. absurd (never_past c.from_residual.result _ c.from_residual.ensures.1 e)
+
+pub returns-clause-drawable : goal.returns-clause-drawable
+returns-clause-drawable g c = λ e. record { safe = c.in_ok-validate_variable_stroke.ensures.safe.0 refl }
+
 pub returns-clause-refused : goal.returns-clause-refused
 returns-clause-refused g c = λ e. absurd (c.variable_stroke_with_nearness.ensures.in_range e)
 

@@ -1,5 +1,5 @@
 -- What is asked is what the line lists.
-use Rattle.std.proofs.Common.{sym, ap}
+use Rattle.std.proofs.Common.{Err, sym, ap}
 use Rattle.mesh_num.specs.Paths.{paths_of, shapes_of}
 use Rattle.mesh_below.specs.Options.{choices_of}
 use Rattle.mesh_request.specs.Requests.{asked_of}
@@ -20,3 +20,13 @@ returns-in_ok-told_shapes_line-in-Shapes-clause-answered g c =
     (rw (sym c.request.view_is) (ap (asked_of g.I.WideUInt.WideUnsigned.value) c.in-Shapes.is))
     (rw (sym c.request.view_is) c.in_ok-near-in-Shapes.ensures.accepted) (rw (sym c.request.view_is) c.in_ok-near-in-Shapes.ensures.shapes)
     c.in_ok-told_shapes_line-in-Shapes.ensures
+
+pub returns-in_err-near-in-Shapes-clause-given_up : goal.returns-in_err-near-in-Shapes-clause-given_up
+returns-in_err-near-in-Shapes-clause-given_up g c h =
+    let e = rw h at c.from_residual-in_err-near-in-Shapes.ensures.1 in
+    record {
+      choices = choices_of g.I.WideUInt.WideUnsigned.value c.in-Shapes.options;
+      shapes = rw (sym c.request.view_is) (ap (asked_of g.I.WideUInt.WideUnsigned.value) c.in-Shapes.is);
+      accepted = rw (sym c.request.view_is) (c.in_err-near-in-Shapes.ensures.drawable (ap Err (sym e)));
+      past = rw (sym c.request.view_is) (c.in_err-near-in-Shapes.ensures.past (ap Err (sym e)));
+    }

@@ -1,8 +1,8 @@
 -- What was read, drawn and written is the answer, or the refusal, of the request.
-use Rattle.std.proofs.Common.{sym, subst}
+use Rattle.std.proofs.Common.{rules}
 use Rattle.std.proofs.lemmas.Result.{IfOk-weaker}
 use Rattle.mesh_service.proofs.Requested.{is_requested}
-use Rattle.mesh_service.proofs.Replies.{near_bytes_anyway, value_has_bytes}
+use Rattle.mesh_service.proofs.Replies.{near_bytes_anyway, near_refusal_read, near_refusal_told, value_has_bytes}
 use Rattle.mesh_service.proofs.near.respond_near.Goals as goal
 
 pub returns-clause-answered : goal.returns-clause-answered
@@ -17,6 +17,14 @@ returns-clause-answered c =
       answered = told.2;
     })
     c.answer.ensures.answered
+
+pub returns-in_err-value-clause-not_accepted : goal.returns-in_err-value-clause-not_accepted
+returns-in_err-value-clause-not_accepted c =
+    near_refusal_read c.args.request.now c.from_residual.result _ c.from_residual.ensures.1 (search rules)
+
+pub returns-clause-not_accepted : goal.returns-clause-not_accepted
+returns-clause-not_accepted c =
+    near_refusal_told c.args.telling c.args.request.now c.answer.result (returns-clause-answered c) (search rules) (returns-clause-given_up c)
 
 pub returns-clause-refused : goal.returns-clause-refused
 returns-clause-refused c h =
