@@ -1,0 +1,5 @@
+pub mod Made
+pub mod Paths
+pub mod Pieces
+pub mod Private
+pub mod Stops
