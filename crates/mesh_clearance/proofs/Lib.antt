@@ -1,0 +1,4 @@
+pub mod CommonPoints
+pub mod Measures
+pub mod Paths
+pub mod Ways
