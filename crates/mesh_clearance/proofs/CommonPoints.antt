@@ -19,10 +19,10 @@ pub record HaveCommon (a b p r : Point) : Type 0 where
   pub first : IsOn (refined grid a, refined grid b) point
   pub second : IsOn (refined grid p, refined grid r) point
 
-abbrev weighted : ℤ → ℤ → Point → Point → Point
+abbrev pub weighted : ℤ → ℤ → Point → Point → Point
 weighted s t a b = ((s *ℤ a.0) +ℤ (t *ℤ b.0), (s *ℤ a.1) +ℤ (t *ℤ b.1))
 
-weighed : (g : ℕ) (s t : ℤ) (a b : Point) → pos 0 ≤ℤ s → pos 0 ≤ℤ t → 0 < g → pos g ≡ s +ℤ t →
+pub weighed : (g : ℕ) (s t : ℤ) (a b : Point) → pos 0 ≤ℤ s → pos 0 ≤ℤ t → 0 < g → pos g ≡ s +ℤ t →
     IsOn (refined g a, refined g b) (weighted s t a b)
 weighed g s t a b first second some e =
     on_of_mean (refined g a) (refined g b) (weighted s t a b) (record {

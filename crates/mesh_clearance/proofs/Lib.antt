@@ -1,4 +1,10 @@
 pub mod CommonPoints
+pub mod Ends
+pub mod EndsApart
+pub mod Gathering
 pub mod Measures
 pub mod Paths
+pub mod Points
+pub mod Searching
+pub mod Symmetries
 pub mod Ways

@@ -11,11 +11,16 @@ AreApart t e f =
     (m : ℕ) → (p q : Point) → IsOn (refined_edge m e) p → IsOn (refined_edge m f) q
     → t * (m * m) ≤ length_sq (minus p q)
 
+-- `t` is the greatest number by which two edges are apart: their squared distance, rounded down
+pub record IsSeparation (e f : Edge) (t : ℕ) : Type 0 where
+  pub apart : AreApart t e f
+  pub greatest : AreApart (suc t) e f → ⊥
+
 -- each edge of the first list is so far from each of the second
 abbrev pub AreAllApart : ℕ → List Edge → List Edge → Type 0
 AreAllApart t es fs = All (λ (e : Edge). All (AreApart t e) fs) es
 
--- `t` is the greatest number by which they are apart
+-- `t` is the greatest number by which they are
 pub record IsClearance (es fs : List Edge) (t : ℕ) : Type 0 where
   pub apart : AreAllApart t es fs
   pub greatest : AreAllApart (suc t) es fs → ⊥

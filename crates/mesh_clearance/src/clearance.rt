@@ -1,0 +1,41 @@
+//! How near an answer comes to paths.
+
+ghost use Rattle.std.specs.Prelude.{◌≡◌, ◌⊎◌, [], IfOk, IfSome, MatchOption, ℕ};
+ghost use Rattle.std.specs.List.{All, flat_map};
+ghost use Rattle.mesh_num.specs.Paths.{contours_of, shapes_of};
+ghost use Rattle.mesh_plane.specs.Winding.{boundary};
+ghost use Rattle.mesh_clearance.specs.Clearance.{IsClearance, WindAsAtVertices, sections};
+
+use crate::edges::{edges_of, sections_of};
+use crate::search::clearance;
+use mesh_num::num::IntNumber;
+use mesh_num::shape::{IntShapeResource, IntShapes};
+use std::alloc::{AllocError, Global};
+
+/// How near the polygons' edges come to paths: the square of the least distance, in grid units and rounded down, between
+/// a point of an edge and a point of a path's section. It is `None` where there is no edge or no section. Coordinates
+/// may be any value. A closed path has a section from its last point to its first; a section's ends may be one point.
+///
+/// Round each point whose squared distance from a path is less than that, the contours wind as they do round each
+/// vertex of the path. So where one vertex of a path is inside the polygons, every point nearer to the path is.
+///
+/// `Err` means that memory was refused.
+pub fn clearance_of<I: IntNumber, S: IntShapeResource<I>>(
+    alloc: Global,
+    shapes: &IntShapes<I>,
+    paths: &S,
+    are_closed: bool,
+) -> Result<Option<u128>, AllocError>
+    ensures clearance { IfOk result (λ found. MatchOption found
+        ((flat_map boundary (contours_of (shapes_of shapes.now.items)) ≡ [])
+        ⊎ (flat_map (sections are_closed) (S.paths paths.now) ≡ []))
+        (IsClearance (flat_map boundary (contours_of (shapes_of shapes.now.items)))
+        (flat_map (sections are_closed) (S.paths paths.now)))) }
+    ensures winding { IfOk result (λ found. IfSome found (λ (t : ℕ).
+        All (WindAsAtVertices t are_closed (flat_map boundary (contours_of (shapes_of shapes.now.items))))
+        (S.paths paths.now))) }
+{
+    let edges = edges_of(alloc, shapes)?;
+    let sections = sections_of(alloc, paths, are_closed)?;
+    Ok(clearance(&edges, &sections))
+}
