@@ -70,11 +70,11 @@ turned_back a b r s h back =
       cross_through u v w,
       mul_nonneg (dot u u) (cross v w) (omega (arith, linear, square_nonneg u.0, square_nonneg u.1)) rising,
       mul_neg_pos (dot u v) (cross u w)
-      (omega (arith, linear, beyond, ring (ends a b r s) (dotted (apart r' a') (apart b' a')) (dotted (apart b' a') (apart r' a')) refl))
-      (omega (arith, linear, right, ring (ends a b r s) (crossed (apart r' a') (apart s' r')) (neg (crossed (apart s' r') (apart r' a'))) refl)),
+          (omega (arith, linear, beyond, ring (ends a b r s) (dotted (apart r' a') (apart b' a')) (dotted (apart b' a') (apart r' a')) refl))
+          (omega (arith, linear, right, ring (ends a b r s) (crossed (apart r' a') (apart s' r')) (neg (crossed (apart s' r') (apart r' a'))) refl)),
       mul_nonpos (cross u v) (dot u w)
-      (omega (arith, linear, left, ring (ends a b r s) (crossed (apart r' a') (apart b' a')) (neg (crossed (apart b' a') (apart r' a'))) refl))
-      (omega (arith, linear, back, ring (ends a b r s) (dotted (apart r' a') (apart s' r')) (dotted (apart s' r') (apart r' a')) refl)),
+          (omega (arith, linear, left, ring (ends a b r s) (crossed (apart r' a') (apart b' a')) (neg (crossed (apart b' a') (apart r' a'))) refl))
+          (omega (arith, linear, back, ring (ends a b r s) (dotted (apart r' a') (apart s' r')) (dotted (apart s' r') (apart r' a')) refl)),
     )))
     (λ (least : pos 0 ≤ℤ cross w u). least)
 
@@ -176,9 +176,9 @@ near_end t a b r s beyond left rising far =
             linear,
             beyond,
             ring (ends a b r s)
-            (dotted (apart (b'.1, b'.0) (b'.1, b'.0)) (apart (b'.1, b'.0) (b'.1, b'.0)) ⊕ dotted (apart (a'.1, a'.0) (b'.1, b'.0)) (apart (r'.1, r'.0) (b'.1, b'.0)))
-            (dotted (apart (b'.1, b'.0) (b'.1, b'.0)) (apart (b'.1, b'.0) (b'.1, b'.0)) ⊖ dotted (apart b' a') (apart r' b'))
-            refl,
+                (dotted (apart (b'.1, b'.0) (b'.1, b'.0)) (apart (b'.1, b'.0) (b'.1, b'.0)) ⊕ dotted (apart (a'.1, a'.0) (b'.1, b'.0)) (apart (r'.1, r'.0) (b'.1, b'.0)))
+                (dotted (apart (b'.1, b'.0) (b'.1, b'.0)) (apart (b'.1, b'.0) (b'.1, b'.0)) ⊖ dotted (apart b' a') (apart r' b'))
+                refl,
           );
       left =
           omega (arith, linear, left, ring (ends a b r s) (crossed (apart (a'.1, a'.0) (b'.1, b'.0)) (apart (r'.1, r'.0) (b'.1, b'.0))) (crossed (apart b' a') (apart r' a')) refl);

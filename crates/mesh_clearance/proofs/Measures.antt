@@ -35,9 +35,17 @@ far_of_measure : (t m : ℕ) (n p q : Point) (k : ℤ) → pos 0 ≤ℤ k → po
     (pos m *ℤ k) ≤ℤ (dot n q -ℤ dot n p) → t * (m * m) ≤ length_sq (minus p q)
 far_of_measure t m n p q k least some small beyond =
     of_pos (le_of_mul_le_mul (dot n n) (pos (t * (m * m))) (dot (minus p q) (minus p q)) some
-    (omega (arith, linear, left, mul_le_mul_left (pos m *ℤ pos m) (pos t *ℤ dot n n) (k *ℤ k) (square_nonneg (pos m)) small, middle,
-      square_most (pos m *ℤ k) x (mul_nonneg (pos m) k (omega (arith, ints)) least) beyond, right,
-      lagrange n (minus p q), square_nonneg (cross n (minus p q)))))
+    (omega (
+      arith,
+      linear,
+      left,
+      mul_le_mul_left (pos m *ℤ pos m) (pos t *ℤ dot n n) (k *ℤ k) (square_nonneg (pos m)) small,
+      middle,
+      square_most (pos m *ℤ k) x (mul_nonneg (pos m) k (omega (arith, ints)) least) beyond,
+      right,
+      lagrange n (minus p q),
+      square_nonneg (cross n (minus p q)),
+    )))
   where
     x : ℤ
     x = dot n q -ℤ dot n p

@@ -196,7 +196,6 @@ half_way p e h =
 
 -- ---- two edges by their ends
 
-
 at_point : (p z : Point) → IsOn (p, p) z → z ≡ p
 at_point p z h = λ i. (x i, y i)
   where
