@@ -1,0 +1,5 @@
+//! Tests of how near contours come to paths.
+#![tactic(auto)]
+
+#[cfg(test)]
+mod clearances;
