@@ -6,8 +6,8 @@ use i_overlay_mesh::{
     SplitCount,
 };
 use mesh_below::below::IntOverlayOptions;
-use mesh_num::num::OverlayInt;
 use mesh_drawing::drawing::Drawing;
+use mesh_num::num::OverlayInt;
 use mesh_request::json::parse;
 use mesh_request::request::read_request;
 use mesh_service::input::read_to_end;

@@ -1,10 +1,10 @@
 //! A request that is read once and answered again and again, to measure what the library does in one process.
 
 use crate::BenchError;
+use mesh_drawing::draw::{edges, shapes};
 use mesh_num::num::OverlayInt;
 use mesh_request::json::parse;
 use mesh_request::request::{Output, Request, read_request};
-use mesh_drawing::draw::{edges, shapes};
 use mesh_service::input::read_to_end;
 use std::alloc::Global;
 

@@ -8,9 +8,9 @@ ghost use Rattle.mesh_drawing.specs.Drawn.{Drawn, drawn_of};
 use crate::lists::read_lists;
 use crate::numbers::Flat;
 use crate::styles::{FlatArc, FlatOutlineStyle, FlatStrokeStyle, flag};
+use mesh_drawing::drawing::{Drawing, Outline, Stroke, VariableStroke};
 use mesh_join::style::{IntStrokeVertex, IntVariableStrokeStyle};
 use mesh_num::num::{IntPoint, OverlayInt};
-use mesh_drawing::drawing::{Drawing, Outline, Stroke, VariableStroke};
 use mesh_request::failure::Failure;
 use std::alloc::Global;
 

@@ -13,10 +13,10 @@ use crate::numbers::Flat;
 use crate::options::FlatOptions;
 use crate::shapes::FlatShapes;
 use crate::styles::{FlatArc, FlatOutlineStyle, FlatStrokeStyle};
+use mesh_drawing::drawing::Drawing;
 use mesh_join::style::IntStrokeVertex;
 use mesh_num::num::{IntPoint, OverlayInt};
 use mesh_num::shape::edge::DirectedEdge;
-use mesh_drawing::drawing::Drawing;
 use mesh_request::failure::Failure;
 use std::alloc::Global;
 

@@ -13,12 +13,12 @@ use crate::options::FlatOptions;
 use crate::outcome::Outcome;
 use crate::shapes::{FlatShapes, ShapeCounts};
 use crate::styles::{FlatArc, FlatOutlineStyle, FlatStrokeStyle};
+use mesh_drawing::drawing::Drawing;
+use mesh_drawing::nearness::near_shapes;
 use mesh_join::style::IntStrokeVertex;
 use mesh_num::num::{IntPoint, OverlayInt};
-use mesh_drawing::drawing::Drawing;
 use mesh_request::failure::Failure;
 use mesh_service::near_failure::NearFailure;
-use mesh_drawing::nearness::near_shapes;
 use std::alloc::Global;
 
 /// Shapes of contours, end to end in lists, and their nearness.

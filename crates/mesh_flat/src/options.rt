@@ -6,8 +6,8 @@ ghost use Rattle.mesh_flat.specs.Styles.{choices_in};
 
 use crate::styles::flag;
 use mesh_below::below::{ContourDirection, IntOverlayOptions};
-use mesh_num::num::IntNumber;
 use mesh_drawing::coordinate::narrowed_area;
+use mesh_num::num::IntNumber;
 
 /// What shapes depend on besides what is drawn.
 #[repr(C)]

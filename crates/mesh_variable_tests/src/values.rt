@@ -1,9 +1,9 @@
 //! Paths, styles and shapes out of the fields of rows.
 
+use mesh_drawing::coordinate::narrowed;
 use mesh_join::arc::ArcOptions;
 use mesh_join::style::{IntStrokeVertex, IntVariableStrokeStyle};
 use mesh_num::num::{Angle, IntPoint, OverlayInt};
-use mesh_drawing::coordinate::narrowed;
 use mesh_test_support::plain::Point;
 use mesh_test_support::rows::{Triple, broken, numbers, points, triples};
 use std::alloc::Global;
