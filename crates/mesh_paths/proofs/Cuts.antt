@@ -24,7 +24,7 @@ use Rattle.mesh_paths.specs.declared.through.Pass.{Pass}
 use Rattle.mesh_paths.specs.Paths.{edge_of, ends_of, given_to, AreHeld, ArePaths, IsPieceOf}
 use Rattle.mesh_paths.specs.Stops.{count_of, path_of, pieces_of, point_of, stop_of, IsBetweenIds}
 use Rattle.mesh_paths.specs.Private.Cutting.{cut_of, AreCut, AreSame, AreSound, HasPiece, IsAsOrCut, IsCutPath, IsCutting, IsInjective, IsStop}
-use Rattle.mesh_paths.specs.Private.Filed.{before_in, id_in, last_of, pass_of, AreFiled}
+use Rattle.mesh_paths.specs.Private.Filed.{before_in, id_in, last_of, pass_of, AreFiled, IsPassed}
 use Rattle.mesh_paths.proofs.Along.{piece_occurs, place_of, split_gone, split_none, StandsAt}
 use Rattle.mesh_paths.proofs.Filing.{none_between, path_inserted, path_kept, piece_same, same_id, same_point, IsCutAt}
 use Rattle.mesh_paths.proofs.Onward.{path_once, sound_each}
@@ -40,13 +40,47 @@ below_or_not k n = grind arith
 pub same_paths : (p : Paths) → AreSame p p
 same_paths p = record { edges = refl; points = refl; splits = refl; count = refl }
 
-pub cutting_begins : (p : Paths) (s : EdgeSplit) (a : Stop) → AreFiled p → IsStop p a → IsCutting p p s a.id (last_of p.through a.id)
-cutting_begins p s a filed number = record {
+pub cutting_begins : (old now : Paths) (s : EdgeSplit) (a : Stop) → AreFiled now → IsStop old a → AreSame old now → ((k : ℕ) → k < count_of old.stops → IsAsOrCut old now s k)
+    → IsCutting old now s a.id (last_of now.through a.id)
+cutting_begins old now s a filed number same paths = record {
   filed = filed;
-  same = same_paths p;
-  paths = λ k h. inl refl;
-  search = search_begins (HasPiece p s) p.through.last.items (length p.through.passes.items) (before_in p.through.passes.items) (id_in p.through.passes.items) a.id filed.listed (omega (arith, filed.points, number.within));
+  same = same;
+  paths = paths;
+  search =
+      search_begins (HasPiece now s) now.through.last.items (length now.through.passes.items) (before_in now.through.passes.items) (id_in now.through.passes.items) a.id filed.listed
+      (omega (arith, filed.points, number.within, ap length same.points));
 }
+
+-- one path was cut, or none
+pub as_or_cut : (old now : Paths) (path : ℕ) (s : EdgeSplit) → IsCutPath old now path s → (k : ℕ) → k < count_of old.stops → IsAsOrCut old now s k
+as_or_cut old now path s cut k h = by (same_or_not k path)
+  where
+    by : (k ≡ path) ⊎ (k ≢ path) → IsAsOrCut old now s k
+    by (inl e) = inr (subst (λ (j : ℕ). path_of now.stops j ≡ split_by s (path_of old.stops j)) (sym e) cut.cut)
+    by (inr n) = inl (cut.others k h n)
+
+pub as_before : (old now : Paths) (s : EdgeSplit) → now ≡ old → AreSame old now × ((k : ℕ) → k < count_of old.stops → IsAsOrCut old now s k)
+as_before old now s is = (
+  record { edges = ap (λ (p : Paths). p.edges) is; points = ap (λ (p : Paths). p.points) is; splits = ap (λ (p : Paths). p.splits) is; count = ap (λ (p : Paths). count_of p.stops) is },
+  λ k h. inl (ap (λ (p : Paths). path_of p.stops k) is),
+)
+
+pub near_begins : (old now : Paths) (s : EdgeSplit) (a : Stop) (path : ℕ) (is_cut : Bool) → AreFiled now → IsStop old a → (is_cut ≡ true → IsCutPath old now path s) → (is_cut ≡ false → now ≡ old)
+    → IsCutting old now s a.id (last_of now.through a.id)
+near_begins old now s a path is_cut filed number cut left = by (cases_Bool is_cut)
+  where
+    by : (is_cut ≡ true) ⊎ (is_cut ≡ false) → IsCutting old now s a.id (last_of now.through a.id)
+    by (inl t) = cutting_begins old now s a filed number (cut t).same (as_or_cut old now path s (cut t))
+    by (inr f) = let same = as_before old now s (left f) in cutting_begins old now s a filed number same.0 same.1
+
+-- what a path has not, it gets by no cut
+pub stays_gone : (old now : Paths) (path k : ℕ) (s : EdgeSplit) → is_end s.at s.ends ≡ false → IsCutPath old now path s → k < count_of old.stops → occurs s.ends (path_of old.stops k) ≡ false
+    → occurs s.ends (path_of now.stops k) ≡ false
+stays_gone old now path k s inner cut h none = by (as_or_cut old now path s cut k h)
+  where
+    by : IsAsOrCut old now s k → occurs s.ends (path_of now.stops k) ≡ false
+    by (inl is) = ap (occurs s.ends) is ∙ none
+    by (inr is) = ap (occurs s.ends) is ∙ split_gone s (path_of old.stops k) inner
 
 module _ (old now next : Paths) (s : EdgeSplit) (start left : ℕ) (inner : is_end s.at s.ends ≡ false) (some : 0 < left) (cutting : IsCutting old now s start left) (filed : AreFiled next) (cut : IsCutPath now next (pass_of now.through (left - 1)).path s) where
   path_is : ℕ
@@ -122,16 +156,41 @@ module _ (old now next : Paths) (s : EdgeSplit) (start left : ℕ) (inner : is_e
   }
 
 -- a path that has not the piece
-pub cut_none : (p : Paths) (path : ℕ) (a b c : Stop) → AreFiled p → path < count_of p.stops → IsStop p a → IsStop p b
-    → ((k : ℕ) → IsBetweenIds p.stops path a.id b.id k → ⊥) → IsCutPath p p path (cut_of a b c)
-cut_none p path a b c filed within start end none = record {
+pub cut_absent : (p : Paths) (path : ℕ) (s : EdgeSplit) → occurs s.ends (path_of p.stops path) ≡ false → IsCutPath p p path s
+cut_absent p path s none = record {
   same = same_paths p;
-  cut = sym (split_none (cut_of a b c) (path_of p.stops path) (none_between p path a b filed within start end none));
+  cut = sym (split_none s (path_of p.stops path) none);
   others = λ k h n. refl;
   more = omega arith;
   passes = λ k h. refl;
   fresh = λ k h l. absurd (omega arith);
 }
+
+pub cut_none : (p : Paths) (path : ℕ) (a b c : Stop) → AreFiled p → path < count_of p.stops → IsStop p a → IsStop p b
+    → ((k : ℕ) → IsBetweenIds p.stops path a.id b.id k → ⊥) → IsCutPath p p path (cut_of a b c)
+cut_none p path a b c filed within start end none = cut_absent p path (cut_of a b c) (none_between p path a b filed within start end none)
+
+-- one that does not lead through the piece's end
+pub cut_beside : (p : Paths) (path : ℕ) (a b c : Stop) → AreFiled p → path < count_of p.stops → IsStop p b → (IsPassed p.through path b.id → ⊥) → IsCutPath p p path (cut_of a b c)
+cut_beside p path a b c filed within end not = cut_absent p path (cut_of a b c) none
+  where
+    listed : (i : ℕ) → i ≤ pieces_of p.stops path → b.at ≡ point_of p.stops path i → ⊥
+    listed i l e =
+        let id : b.id ≡ (stop_of p.stops path i).id = same_id p b (stop_of p.stops path i) filed.distinct end (filed.numbered path i within l) e in
+        not (subst (IsPassed p.through path) (sym id) (filed.passed path i within l))
+
+    still : occurs (a.at, b.at) (path_of p.stops path) ≡ true → ⊥
+    still t =
+        let at : StandsAt (a.at, b.at) (point_of p.stops path) (pieces_of p.stops path) = place_of (a.at, b.at) (point_of p.stops path) (pieces_of p.stops path) t in
+        ⊎_elim
+        (λ (e : ◌≡◌ {A = Edge} (a.at, b.at) (point_of p.stops path at.place, point_of p.stops path (suc at.place))). listed (suc at.place) (omega (arith, at.within)) (ap (λ (v : Edge). v.1) e))
+        (λ (e : ◌≡◌ {A = Edge} (a.at, b.at) (point_of p.stops path (suc at.place), point_of p.stops path at.place)). listed at.place (omega (arith, at.within)) (ap (λ (v : Edge). v.1) e))
+        ((decides_ends (a.at, b.at) (point_of p.stops path at.place, point_of p.stops path (suc at.place))).0 at.same)
+
+    none : occurs (a.at, b.at) (path_of p.stops path) ≡ false
+    none =
+        ⊎_elim (λ (t : occurs (a.at, b.at) (path_of p.stops path) ≡ true). absurd (still t)) (λ (f : occurs (a.at, b.at) (path_of p.stops path) ≡ false). f)
+        (cases_Bool (occurs (a.at, b.at) (path_of p.stops path)))
 
 -- and one that has it
 pub cut_found : (old new : Paths) (path place : ℕ) (a b c : Stop) → AreFiled old → path < count_of old.stops → IsStop old a → IsStop old b → IsBetweenIds old.stops path a.id b.id place
@@ -204,6 +263,11 @@ cutting_once old now s start left k cut sound cutting h = by (cutting.paths k lo
     by : IsAsOrCut old now s k → IsInjective (point_of now.stops k) (pieces_of now.stops k)
     by (inl is) = path_once old.splits sound.2 (ends_of (edge_at old.edges.items k)) proper (point_of now.stops k) (pieces_of now.stops k) (is ∙ cut.held k low)
     by (inr is) = path_once (s ∷ old.splits) sound (ends_of (edge_at old.edges.items k)) proper (point_of now.stops k) (pieces_of now.stops k) (is ∙ ap (split_by s) (cut.held k low))
+
+-- none does before
+pub held_once : (p : Paths) (k : ℕ) → AreCut p → k < count_of p.stops → IsInjective (point_of p.stops k) (pieces_of p.stops k)
+held_once p k cut h =
+    path_once p.splits cut.sound (ends_of (edge_at p.edges.items k)) (edge_proper p k (omega (arith, cut.filed.count)) cut.proper) (point_of p.stops k) (pieces_of p.stops k) (cut.held k h)
 
 -- after the cut the paths hold for one split more
 pub cut_done : (old now new : Paths) (a b c : Stop) (left : ℕ) → AreCut old → AreSound (cut_of a b c ∷ old.splits) → IsStop old a → left ≡ 0 → IsCutting old now (cut_of a b c) a.id left

@@ -1,4 +1,5 @@
 pub mod Along
+pub mod Collecting
 pub mod Cuts
 pub mod Filing
 pub mod Merged

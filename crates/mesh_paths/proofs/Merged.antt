@@ -19,14 +19,10 @@ use Rattle.mesh_lattice.proofs.KeptBySplits.{after_append, after_none}
 use Rattle.mesh_lattice.proofs.SoundSplits.{after_proper, legal_sound}
 use Rattle.mesh_lattice.proofs.Splits.{change, net_cut, occurs_append, occurs_cut}
 use Rattle.mesh_points.proofs.Counting.{sum_of_set, times_at, times_none}
+use Rattle.mesh_paths.specs.Private.Merging.{CountAlike}
 use Rattle.mesh_paths.specs.Pieces.{alike, ends_in, segments_of, AreMergedOf, AreReached}
 
 -- ---- one segment more
-
--- two segments with the same ends, which count the same
-pub record CountAlike (g e : Counted) : Type 0 where
-  pub ends : (q : Edge) → same_ends q e.0 ≡ same_ends q g.0
-  pub net : (q : Edge) → e.1 *ℤ along q e.0 ≡ g.1 *ℤ along q g.0
 
 occurs_more : (q : Edge) (all : List Counted) (g : Counted) → occurs q (ends_in (all ++ g ∷ [])) ≡ (occurs q (ends_in all) || same_ends q g.0)
 occurs_more q all g = ap (occurs q) (map-append (λ (k : Counted). k.0) all (g ∷ [])) ∙ (occurs_append q (ends_in all) (g.0 ∷ []) ∙ ap (λ (b : Bool). occurs q (ends_in all) || b) (or_false (same_ends q g.0)))

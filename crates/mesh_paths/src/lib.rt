@@ -6,6 +6,7 @@
 
 pub mod cut;
 pub mod paths;
+pub mod pieces;
 pub mod splits;
 pub mod stops;
 pub mod through;

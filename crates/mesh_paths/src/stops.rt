@@ -1,6 +1,6 @@
 //! Paths of stops, all in one array. Each has room of its own there, and moves to the end where that does not suffice.
 
-ghost use Rattle.std.specs.Prelude.{◌≡◌, ◌≢◌, ℕ, ◌+◌, ◌<◌, ◌≤◌, IfOk, MatchOption, OnOk};
+ghost use Rattle.std.specs.Prelude.{◌≡◌, ℕ, ◌+◌, ◌<◌, ◌≤◌, true, IfOk, MatchOption, OnOk};
 ghost use Rattle.mesh_paths.specs.Stops.{
   count_of,
   pieces_of,
@@ -93,6 +93,21 @@ impl Stops {
         ensures { result ≡ stop_of self.now path place }
     {
         self.all[self.spans[path].first as usize + place]
+    }
+
+    /// Whether a path has a piece between the points of two numbers at a place.
+    #[inline]
+    pub fn is_between(&self, path: usize, place: usize, u: u32, v: u32) -> bool
+        requires apart { AreApart self.now }
+        requires within { path < count_of self.now }
+        ensures { result ≡ true → IsBetweenIds self.now path u v place }
+    {
+        let span = self.spans[path];
+        if place >= span.pieces as usize {
+            return false;
+        }
+        let first = span.first as usize + place;
+        self.all[first].id == u && self.all[first + 1].id == v
     }
 
     /// The place of the piece of a path between the points of two numbers, in either direction.

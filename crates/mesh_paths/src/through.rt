@@ -1,7 +1,7 @@
 //! The paths through each point, in lists by links.
 
-ghost use Rattle.std.specs.Prelude.{◌≡◌, ◌+◌, ◌<◌, [], length, IfOk, OnOk};
-ghost use Rattle.mesh_paths.specs.Private.Filed.{last_of, pass_of, AreListed, IsPassAdded};
+ghost use Rattle.std.specs.Prelude.{◌≡◌, ◌+◌, ◌<◌, false, [], length, IfOk, OnOk};
+ghost use Rattle.mesh_paths.specs.Private.Filed.{last_of, pass_of, AreListed, IsPassAdded, IsPassed};
 
 use std::alloc::{AllocError, Global};
 
@@ -74,6 +74,24 @@ impl Through {
         ensures { result ≡ pass_of self.now place }
     {
         self.passes[place as usize]
+    }
+
+    /// Whether a path leads through a point.
+    #[inline]
+    pub fn leads(&self, path: u32, id: u32) -> bool
+        requires listed { AreListed self.now }
+        requires within { id < length self.now.last.items }
+        ensures { result ≡ false → IsPassed self.now path id → ⊥ }
+    {
+        let mut left = self.last[id as usize];
+        while left > 0 {
+            let pass = self.passes[(left - 1) as usize];
+            if pass.path == path {
+                return true;
+            }
+            left = pass.before;
+        }
+        false
     }
 
     /// Notes that a path leads through a point.

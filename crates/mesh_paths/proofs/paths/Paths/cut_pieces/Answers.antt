@@ -6,7 +6,7 @@ use Rattle.mesh_points.specs.Points.{IsNumberOf}
 use Rattle.mesh_paths.specs.declared.paths.Paths.{Paths}
 use Rattle.mesh_paths.specs.declared.stops.Stop.{Stop}
 use Rattle.mesh_paths.specs.Paths.{edge_of}
-use Rattle.mesh_paths.specs.Stops.{stop_of}
+use Rattle.mesh_paths.specs.Stops.{count_of, stop_of}
 use Rattle.mesh_paths.proofs.Cuts.{both_noted, cut_numbered, cut_of_paths, paths_split}
 use Rattle.mesh_paths.proofs.paths.Paths.cut_pieces.Goals as goal
 
@@ -16,6 +16,12 @@ edge_between r = (r.0.at, r.1.at)
 pub cut-requires-clause-cut : goal.cut-requires-clause-cut
 cut-requires-clause-cut c =
     cut_numbered c.args.self.now c.stop_at.new.self (cut_of_paths c.args.self.now c.requires.paths) c.in_ok-stop.ensures.filed c.stop_at.ensures.stops c.stop_at.ensures.edges c.stop_at.ensures.splits
+
+pub cut-requires-clause-within : goal.cut-requires-clause-within
+cut-requires-clause-within c = omega (arith, ap count_of c.stop_at.ensures.stops, c.requires.first.path)
+
+pub cut-requires-2-clause-within : goal.cut-requires-2-clause-within
+cut-requires-2-clause-within c = omega (arith, c.in_ok-cut.ensures.count, ap count_of c.stop_at.ensures.stops, c.requires.second.path)
 
 pub cut-requires-clause-start : goal.cut-requires-clause-start
 cut-requires-clause-start c =
