@@ -1,5 +1,5 @@
 -- Lemmas over edges and splits: a path that splits have made of an edge stops nowhere twice.
-use Rattle.std.proofs.Common.{◌≡◌, ◌⊎◌, inl, inr, ⊎_elim, ℕ, zero, suc, ◌≤◌, Bool, true, false, cond, List, [], ◌∷◌, refl, sym, ap, subst, arith}
+use Rattle.std.proofs.Common.{◌≡◌, ◌⊎◌, inl, inr, ⊎_elim, ℕ, zero, suc, ◌<◌, ◌≤◌, Bool, true, false, cond, List, [], ◌∷◌, ◌++◌, refl, sym, ap, subst, arith}
 use Rattle.std.specs.Prelude.{ℤ, ◌≤ℤ◌, ◌<ℤ◌}
 use Rattle.std.proofs.lemmas.Int.{ints, by_lt_z}
 use Rattle.mesh_plane.specs.Plane.{Point, Edge}
@@ -114,3 +114,25 @@ path_once splits sound e proper a n is =
     by_y : (east : Bool) → GoesOn east e.0.0 e.1.0 → (GoesOn true e.0.1 e.1.1) ⊎ (GoesOn false e.0.1 e.1.1) → IsInjective a n
     by_y east x (inl y) = by east true (x, y)
     by_y east x (inr y) = by east false (x, y)
+
+-- ---- a path has a piece
+
+abbrev HasSome : List Edge → Type 0
+HasSome [] = ⊥
+HasSome (e ∷ es) = Unit {0}
+
+split_some : (s : EdgeSplit) (es : List Edge) → HasSome es → HasSome (split_by s es)
+split_some s [] h = h
+split_some s (e ∷ es) h = by (same_ends e s.ends)
+  where
+    by : (b : Bool) → HasSome (cond b ((e.0, s.at) ∷ (s.at, e.1) ∷ []) (e ∷ []) ++ split_by s es)
+    by true = tt
+    by false = tt
+
+path_some : (splits : List EdgeSplit) (e : Edge) → HasSome (path splits e)
+path_some [] e = tt
+path_some (s ∷ splits) e = split_some s (path splits e) (path_some splits e)
+
+pub pieces_some : (splits : List EdgeSplit) (e : Edge) (a : ℕ → Point) (n : ℕ) → edges_along a n ≡ path splits e → 0 < n
+pieces_some splits e a zero is = absurd (subst HasSome (sym is) (path_some splits e))
+pieces_some splits e a (suc n) is = omega arith

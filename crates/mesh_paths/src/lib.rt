@@ -4,6 +4,7 @@
 //! Read `specs/Paths.antt` first, then `specs/Stops.antt`. `specs/Private` has what stands between the steps of a cut.
 #![tactic(auto)]
 
+pub mod about;
 pub mod cut;
 pub mod paths;
 pub mod pieces;

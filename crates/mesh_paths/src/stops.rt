@@ -95,6 +95,72 @@ impl Stops {
         self.all[self.spans[path].first as usize + place]
     }
 
+    /// The last stop of a path that does not lie east of a point, or the first one, where the path leads east.
+    #[inline]
+    pub fn last_west(&self, path: usize, x: i32) -> usize
+        requires apart { AreApart self.now }
+        requires within { path < count_of self.now }
+        ensures { result ≤ pieces_of self.now path }
+    {
+        let mut first = 0;
+        let mut left = self.spans[path].pieces as usize + 1;
+        while left > 1 {
+            let half = left / 2;
+            let middle = first + half;
+            first = if self.stop(path, middle).at.0 <= x {
+                middle
+            } else {
+                first
+            };
+            left -= half;
+        }
+        first
+    }
+
+    /// The same of one that does not lie north of a point, where the path leads north.
+    #[inline]
+    pub fn last_south(&self, path: usize, y: i32) -> usize
+        requires apart { AreApart self.now }
+        requires within { path < count_of self.now }
+        ensures { result ≤ pieces_of self.now path }
+    {
+        let mut first = 0;
+        let mut left = self.spans[path].pieces as usize + 1;
+        while left > 1 {
+            let half = left / 2;
+            let middle = first + half;
+            first = if self.stop(path, middle).at.1 <= y {
+                middle
+            } else {
+                first
+            };
+            left -= half;
+        }
+        first
+    }
+
+    /// The same of one that does not lie south of a point, where the path leads south.
+    #[inline]
+    pub fn last_north(&self, path: usize, y: i32) -> usize
+        requires apart { AreApart self.now }
+        requires within { path < count_of self.now }
+        ensures { result ≤ pieces_of self.now path }
+    {
+        let mut first = 0;
+        let mut left = self.spans[path].pieces as usize + 1;
+        while left > 1 {
+            let half = left / 2;
+            let middle = first + half;
+            first = if self.stop(path, middle).at.1 >= y {
+                middle
+            } else {
+                first
+            };
+            left -= half;
+        }
+        first
+    }
+
     /// Whether a path has a piece between the points of two numbers at a place.
     #[inline]
     pub fn is_between(&self, path: usize, place: usize, u: u32, v: u32) -> bool
