@@ -1,0 +1,10 @@
+pub mod Candidates
+pub mod Descents
+pub mod Filling
+pub mod Lanes
+pub mod Levels
+pub mod Listing
+pub mod PlaceSets
+pub mod Rectangles
+pub mod Strips
+pub mod Trees

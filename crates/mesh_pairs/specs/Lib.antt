@@ -1,0 +1,4 @@
+pub mod Boxes
+pub mod Laws
+pub mod Pairs
+pub mod Private
