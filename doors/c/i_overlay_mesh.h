@@ -283,7 +283,7 @@ mesh_outcome mesh_variable_stroke_edges_i16(
    lie between -2^14 and 2^14 in 16 bits, and between -2^30 and 2^30 in 32 bits, without these. MESH_ANSWERED: it does.
    MESH_OUT_OF_RANGE: it does not.
 
-   padding   receives the farthest that the style moves a point in x or in y, at both of these outcomes */
+   padding   receives a bound on how far the style moves points in x or in y, at both of these outcomes */
 mesh_outcome mesh_validate_outline_i32(
     const mesh_point_i32 *points, size_t point_count, const size_t *ends, size_t end_count,
     const mesh_outline_style *style, int64_t *padding);
