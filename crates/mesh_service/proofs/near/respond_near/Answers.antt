@@ -18,14 +18,6 @@ returns-clause-answered c =
     })
     c.answer.ensures.answered
 
-pub returns-in_err-value-clause-not_accepted : goal.returns-in_err-value-clause-not_accepted
-returns-in_err-value-clause-not_accepted c =
-    near_refusal_read c.args.request.now c.from_residual.result _ c.from_residual.ensures.1 (search rules)
-
-pub returns-clause-not_accepted : goal.returns-clause-not_accepted
-returns-clause-not_accepted c =
-    near_refusal_told c.args.telling c.args.request.now c.answer.result (returns-clause-answered c) (search rules) (returns-clause-given_up c)
-
 pub returns-clause-refused : goal.returns-clause-refused
 returns-clause-refused c h =
     let read = c.in_ok-value.ensures.ok in
@@ -47,6 +39,14 @@ returns-clause-given_up c h =
       requested = is_requested c.args.request.now _ told.0 read.1 read.2 told.1;
       past = told.2;
     }
+
+pub returns-in_err-value-clause-not_accepted : goal.returns-in_err-value-clause-not_accepted
+returns-in_err-value-clause-not_accepted c =
+    near_refusal_read c.args.request.now c.from_residual.result _ c.from_residual.ensures.1 (search rules)
+
+pub returns-clause-not_accepted : goal.returns-clause-not_accepted
+returns-clause-not_accepted c =
+    near_refusal_told c.args.telling c.args.request.now c.answer.result (returns-clause-answered c) (search rules) (returns-clause-given_up c)
 
 pub returns-clause-memory : goal.returns-clause-memory
 returns-clause-memory c =
