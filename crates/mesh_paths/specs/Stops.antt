@@ -49,6 +49,10 @@ pub record AreApart (s : Stops) : Type 0 where
       → ((span_of s j).first + (span_of s j).room ≤ (span_of s k).first)
       ⊎ ((span_of s k).first + (span_of s k).room ≤ (span_of s j).first)
 
+-- each path stands before a place in the array
+abbrev pub AreBelow : Stops → ℕ → Type 0
+AreBelow s n = (k : ℕ) → k < count_of s → (span_of s k).first + (span_of s k).room ≤ n
+
 -- a path is as it was
 pub record IsKept (old new : Stops) (k : ℕ) : Type 0 where
   pub pieces : pieces_of new k ≡ pieces_of old k

@@ -6,7 +6,7 @@ ghost use Rattle.mesh_points.specs.Points.{AreDistinct, IsNumberOf};
 ghost use Rattle.mesh_points.specs.Edges.{AreNumbered, IsNumbered};
 ghost use Rattle.mesh_paths.specs.Paths.{AreHeld, ArePaths, IsPieceOf};
 ghost use Rattle.mesh_paths.specs.Private.Filed.{AreFiled};
-ghost use Rattle.mesh_paths.specs.Stops.{stop_of};
+ghost use Rattle.mesh_paths.specs.Stops.{stop_of, AreBelow};
 
 use crate::splits::Splits;
 use crate::stops::{Stop, Stops};
@@ -40,7 +40,7 @@ const MOST_EDGES: usize = u32::MAX as usize;
 fn total(room: &[u32]) -> usize {
     let mut total: usize = 0;
     for r in room {
-        total = total.saturating_add(*r as usize);
+        total = total.saturating_add((*r).max(2) as usize);
     }
     total
 }
@@ -59,6 +59,7 @@ impl Paths {
         ensures edges { IfOk result (λ p. p.edges.items ≡ []) }
         ensures points { IfOk result (λ p. p.points ≡ points) }
         ensures splits { IfOk result (λ p. p.splits ≡ []) }
+        ensures below { IfOk result (λ p. AreBelow p.stops 0) }
     {
         let passes = edges.saturating_add(more).saturating_mul(2);
         Ok(Paths {
@@ -70,15 +71,18 @@ impl Paths {
         })
     }
 
-    /// Adds the path of an edge, with room for so many stops.
+    /// Adds the path of an edge at a place behind all others, with room for so many stops. Answers where the next one may
+    /// be added.
     #[inline]
-    fn begin(&mut self, e: NumberedEdge, room: u32) -> Result<(), AllocError>
+    fn begin(&mut self, first: usize, e: NumberedEdge, room: u32) -> Result<usize, AllocError>
         requires filed { AreFiled self.old }
+        requires below { AreBelow self.old.stops first }
         requires numbered { IsNumbered self.old.points e }
         ensures filed { OnOk result (AreFiled self.new) }
         ensures edges { OnOk result (self.new.edges.items ≡ self.old.edges.items ++ e ∷ []) }
         ensures points { self.new.points ≡ self.old.points }
         ensures splits { self.new.splits ≡ self.old.splits }
+        ensures below { IfOk result (λ next. AreBelow self.new.stops next) }
         ensures held { OnOk result (self.old.splits ≡ [] → AreHeld self.old → AreHeld self.new) }
     {
         let path = self.edges.len();
@@ -93,11 +97,11 @@ impl Paths {
             at: e.end,
             id: e.to,
         };
-        self.stops.add(start, end, room)?;
+        let next = self.stops.add(first, start, end, room)?;
         self.edges.push(e)?;
         self.through.add(e.from, path as u32)?;
         self.through.add(e.to, path as u32)?;
-        Ok(())
+        Ok(next)
     }
 
     /// The path of each edge, which is the edge itself, with room for as many stops as are expected of each, and for so
@@ -117,8 +121,9 @@ impl Paths {
     {
         let NumberedEdges { list, points } = given;
         let mut paths = Paths::empty(alloc, points, list.len(), total(room), more)?;
+        let mut first = 0;
         for k in 0..list.len() {
-            paths.begin(list[k], room[k])?;
+            first = paths.begin(first, list[k], room[k])?;
         }
         Ok(paths)
     }

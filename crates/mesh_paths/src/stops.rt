@@ -7,6 +7,7 @@ ghost use Rattle.mesh_paths.specs.Stops.{
   span_of,
   stop_of,
   AreApart,
+  AreBelow,
   IsAdded,
   IsBetweenIds,
   IsInserted,
@@ -25,6 +26,9 @@ pub struct Stop {
     pub at: LatticePoint,
     pub id: u32,
 }
+
+/// What stands where no path has come yet.
+const NO_STOP: Stop = Stop { at: (0, 0), id: 0 };
 
 /// Where a path stands: its stops, one more than its pieces, from `first` on, with room for `room`.
 #[derive(Copy, Clone)]
@@ -46,33 +50,37 @@ impl Stops {
     pub fn with_capacity(alloc: Global, paths: usize, stops: usize) -> Result<Stops, AllocError>
         ensures apart { IfOk result (λ s. AreApart s) }
         ensures none { IfOk result (λ s. count_of s ≡ 0) }
+        ensures below { IfOk result (λ s. AreBelow s 0) }
     {
         Ok(Stops {
             spans: Vec::with_capacity(alloc, paths)?,
-            all: Vec::with_capacity(alloc, stops)?,
+            all: vec![in alloc; NO_STOP; stops]?,
         })
     }
 
-    /// Adds a path of two stops, with room for so many. More than 2^32 - 1 stops are refused as memory is.
+    /// Adds a path of two stops at a place behind all others, with room for so many. Answers where the next one may be
+    /// added. Where the room does not suffice, the path is refused as memory is.
     #[inline]
-    pub fn add(&mut self, start: Stop, end: Stop, room: u32) -> Result<(), AllocError>
-        requires { AreApart self.old }
+    pub fn add(&mut self, first: usize, start: Stop, end: Stop, room: u32) -> Result<usize, AllocError>
+        requires apart { AreApart self.old }
+        requires below { AreBelow self.old first }
         ensures apart { OnOk result (AreApart self.new) }
+        ensures below { IfOk result (λ next. AreBelow self.new next) }
         ensures added { OnOk result (IsAdded self.old self.new start end) }
     {
-        let first = self.all.len();
         let room = room.max(2);
-        if first >= MOST_STOPS {
+        let next = first.saturating_add(room as usize);
+        if next > MOST_STOPS || next > self.all.len() {
             return Err(AllocError);
         }
-        self.all.push(start)?;
-        self.all.resize(first + room as usize, end)?;
+        self.all[first] = start;
+        self.all[first + 1] = end;
         self.spans.push(Span {
             first: first as u32,
             pieces: 1,
             room,
         })?;
-        Ok(())
+        Ok(next)
     }
 
     /// How many pieces a path has.

@@ -14,6 +14,7 @@ loop-k-init c = record {
   points = c.in_ok-paths.ensures.points;
   splits = c.in_ok-paths.ensures.splits;
   held = λ k h. absurd (omega (arith, c.in_ok-paths.ensures.filed.count, ap length c.in_ok-paths.ensures.edges));
+  below = c.in_ok-paths.ensures.below;
 }
 
 pub begin-requires-clause-numbered : goal.begin-requires-clause-numbered
@@ -32,11 +33,12 @@ loop-k-preserved c =
     let more : c.loop-k.paths.edges.items ++ c.index.result.now ∷ [] ≡ take (c.loop-k.k + 1) es =
     (λ i. c.loop-k.invariant.edges i ++ is i ∷ []) ∙ (sym (take-suc es c.loop-k.k no_edge low) ∙ ap (λ (n : ℕ). take n es) (sym (add-one c.loop-k.k))) in
     record {
-      filed = c.in_ok-begin.ensures.filed;
-      edges = c.in_ok-begin.ensures.edges ∙ more;
+      filed = c.in_ok-first.ensures.filed;
+      edges = c.in_ok-first.ensures.edges ∙ more;
       points = c.begin.ensures.points ∙ c.loop-k.invariant.points;
       splits = c.begin.ensures.splits ∙ c.loop-k.invariant.splits;
-      held = c.in_ok-begin.ensures.held c.loop-k.invariant.splits c.loop-k.invariant.held;
+      held = c.in_ok-first.ensures.held c.loop-k.invariant.splits c.loop-k.invariant.held;
+      below = c.in_ok-first.ensures.below;
     }
 
 pub returns-clause-paths : goal.returns-clause-paths

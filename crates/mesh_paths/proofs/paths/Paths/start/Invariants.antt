@@ -1,6 +1,7 @@
 use Rattle.std.proofs.Common.{◌≡◌, [], take}
 use Rattle.mesh_paths.specs.Paths.{AreHeld}
 use Rattle.mesh_paths.specs.Private.Filed.{AreFiled}
+use Rattle.mesh_paths.specs.Stops.{AreBelow}
 use Rattle.mesh_paths.proofs.paths.Paths.start.Given as goal
 
 abbrev pub invariant-loop-k : goal.invariant-loop-k
@@ -10,4 +11,5 @@ invariant-loop-k l = record {
   points : l.paths.points ≡ l.fn.given.points;
   splits : l.paths.splits ≡ [];
   held : AreHeld l.paths;
+  below : AreBelow l.paths.stops l.first;
 }
