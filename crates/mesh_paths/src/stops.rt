@@ -61,7 +61,13 @@ impl Stops {
     /// Adds a path of two stops at a place behind all others, with room for so many. Answers where the next one may be
     /// added. Where the room does not suffice, the path is refused as memory is.
     #[inline]
-    pub fn add(&mut self, first: usize, start: Stop, end: Stop, room: u32) -> Result<usize, AllocError>
+    pub fn add(
+        &mut self,
+        first: usize,
+        start: Stop,
+        end: Stop,
+        room: u32,
+    ) -> Result<usize, AllocError>
         requires apart { AreApart self.old }
         requires below { AreBelow self.old first }
         ensures apart { OnOk result (AreApart self.new) }
