@@ -121,7 +121,9 @@ class TestMany(unittest.TestCase):
     def test_a_signal_is_heard_within_a_second(self):
         """While one geometry takes long inside the library."""
         code = (
-            "import math, i_overlay_mesh as m\n"
+            "import math, signal, i_overlay_mesh as m\n"
+            # A shell ignores the signal for what it starts in the background.
+            "signal.signal(signal.SIGINT, signal.default_int_handler)\n"
             "ring = [(math.cos(i) * 1e3 + i % 7, math.sin(i) * 1e3) for i in range(20000)]\n"
             "print('begun', flush=True)\n"
             "m.buffer_all([{'type': 'LineString', 'coordinates': ring}] * 8, 1.0, workers=2)\n"
