@@ -9,7 +9,7 @@ use Rattle.std.proofs.lemmas.Int.{ints}
 use Rattle.mesh_plane.proofs.Comparing.{less_test, not_less_test, test_less}
 use Rattle.mesh_lattice.proofs.Each.{Each, each_more}
 use Rattle.mesh_shapes.specs.Contours.{double_area}
-use Rattle.mesh_shapes.specs.Resolution.{Ring, Placed, is_positive, is_round, is_before, is_head, stands_with, shape_of, rings_by_shape}
+use Rattle.mesh_shapes.specs.Resolution.{Ring, Placed, is_positive, encloses, is_before, is_head, stands_with, shape_of, rings_by_shape}
 use Rattle.mesh_apart.specs.Joins.{IsJoin, no_more, from_first, from_second}
 use Rattle.mesh_apart.specs.Joined.{surrounds, has_smaller}
 use Rattle.mesh_apart.proofs.Joins.{each_any, each_filter, map_agree, filter_agree_each, filter_none, filter_mapped, any_mapped, any_agree, each_map, each_unmap, join_map, join_filter, join_any, first_alone, second_alone}
@@ -73,7 +73,7 @@ one_order n m (t ∷ ts) h = (
 head_same : (ts : List TwicePlaced) (t : TwicePlaced) → is_head (map at_first ts) (at_first t) ≡ is_head (map at_second ts) (at_second t)
 head_same ts t =
     ap (λ (b : Bool). is_positive (at_first t) || not b)
-    (any_mapped at_first (λ (h : Placed). is_round h (at_first t)) ts ∙ sym (any_mapped at_second (λ (h : Placed). is_round h (at_second t)) ts))
+    (any_mapped at_first (λ (h : Placed). encloses h (at_first t)) ts ∙ sym (any_mapped at_second (λ (h : Placed). encloses h (at_second t)) ts))
 
 before_same : (t u : TwicePlaced) → HaveOneOrder t u → is_before (at_first t) (at_first u) ≡ is_before (at_second t) (at_second u)
 before_same t u h =
@@ -82,14 +82,14 @@ before_same t u h =
 stands_same : (ts : List TwicePlaced) (t u : TwicePlaced) → Each (λ (k : TwicePlaced). HaveOneOrder k t) ts
     → stands_with (map at_first ts) (at_first t) (at_first u) ≡ stands_with (map at_second ts) (at_second t) (at_second u)
 stands_same ts t u h =
-    ap (λ (b : Bool). is_round (at_first t) (at_first u) && not b)
-    (any_mapped at_first (λ (k : Placed). is_round k (at_first u) && is_before k (at_first t)) ts
-    ∙ (any_agree (λ (k : TwicePlaced). is_round (at_first k) (at_first u) && is_before (at_first k) (at_first t))
-    (λ (k : TwicePlaced). is_round (at_second k) (at_second u) && is_before (at_second k) (at_second t)) ts
+    ap (λ (b : Bool). encloses (at_first t) (at_first u) && not b)
+    (any_mapped at_first (λ (k : Placed). encloses k (at_first u) && is_before k (at_first t)) ts
+    ∙ (any_agree (λ (k : TwicePlaced). encloses (at_first k) (at_first u) && is_before (at_first k) (at_first t))
+    (λ (k : TwicePlaced). encloses (at_second k) (at_second u) && is_before (at_second k) (at_second t)) ts
     (each_more (λ (k : TwicePlaced). HaveOneOrder k t) (λ (k : TwicePlaced).
-    (is_round (at_first k) (at_first u) && is_before (at_first k) (at_first t)) ≡ (is_round (at_second k) (at_second u) && is_before (at_second k) (at_second t)))
-    (λ (k : TwicePlaced) o. ap (λ (b : Bool). is_round (at_first k) (at_first u) && b) (before_same k t o)) ts h)
-    ∙ sym (any_mapped at_second (λ (k : Placed). is_round k (at_second u) && is_before k (at_second t)) ts)))
+    (encloses (at_first k) (at_first u) && is_before (at_first k) (at_first t)) ≡ (encloses (at_second k) (at_second u) && is_before (at_second k) (at_second t)))
+    (λ (k : TwicePlaced) o. ap (λ (b : Bool). encloses (at_first k) (at_first u) && b) (before_same k t o)) ts h)
+    ∙ sym (any_mapped at_second (λ (k : Placed). encloses k (at_second u) && is_before k (at_second t)) ts)))
 
 map_mapped : {A B C : Type 0} (f : A → B) (g : B → C) (xs : List A) → map g (map f xs) ≡ map (λ x. g (f x)) xs
 map_mapped f g [] = refl
@@ -222,17 +222,17 @@ second_part xs ys zs j = record {
   kept = λ p h. second_alone (filter p xs) (filter p ys) (filter p zs) (join_filter p xs ys zs j) (filter_none p xs h);
 }
 
--- of the list, a ring is round `r` and has less area than `k`
+-- of the list, a ring encloses `r` and has less area than `k`
 abbrev smaller_round : List Placed → Placed → Placed → Bool
-smaller_round own r k = list_any (λ (h : Placed). is_round h r && int_lt (double_area h.1.0) (double_area k.1.0)) own
+smaller_round own r k = list_any (λ (h : Placed). encloses h r && int_lt (double_area h.1.0) (double_area k.1.0)) own
 
--- a ring heads a shape, or one of its own list is round it that is smaller than any of the rest that is
+-- a ring heads a shape, or one of its own list encloses it that is smaller than any of the rest that does
 abbrev IsHeld : List Placed → List Placed → Placed → Type 0
-IsHeld own rest r = (is_positive r ≡ true) ⊎ Each (λ (k : Placed). is_round k r ≡ true → smaller_round own r k ≡ true) rest
+IsHeld own rest r = (is_positive r ≡ true) ⊎ Each (λ (k : Placed). encloses k r ≡ true → smaller_round own r k ≡ true) rest
 
 -- so none of the rest holds it
 abbrev IsFreeOf : List Placed → Placed → Placed → Type 0
-IsFreeOf own k r = (is_positive r ≡ true) ⊎ (is_round k r ≡ true → smaller_round own r k ≡ true)
+IsFreeOf own k r = (is_positive r ≡ true) ⊎ (encloses k r ≡ true → smaller_round own r k ≡ true)
 
 free_of_each : (own rest rs : List Placed) → Each (IsHeld own rest) rs → Each (λ (k : Placed). Each (IsFreeOf own k) rs) rest
 free_of_each own [] rs h = tt
@@ -258,7 +258,7 @@ any_more p q f (x ∷ xs) h =
     (or_cases (p x) (list_any p xs) h)
 
 head_positive : (all : List Placed) (r : Placed) → is_positive r ≡ true → is_head all r ≡ true
-head_positive all r h = ap (λ (b : Bool). b || not (list_any (λ (k : Placed). is_round k r) all)) h
+head_positive all r h = ap (λ (b : Bool). b || not (list_any (λ (k : Placed). encloses k r) all)) h
 
 -- a smaller ring than one that comes before another comes before it
 smaller_before : (h k t : Placed) → int_lt (double_area h.1.0) (double_area k.1.0) ≡ true → is_before k t ≡ true → is_before h t ≡ true
@@ -281,35 +281,35 @@ smaller_before h k t less before =
     through : (a b c : ℤ) → a <ℤ b → b ≤ℤ c → a <ℤ c
     through a b c h k = omega (arith, ints, h, k)
 
-smaller_is_before : (own : List Placed) (r k t : Placed) → smaller_round own r k ≡ true → is_before k t ≡ true → list_any (λ (h : Placed). is_round h r && is_before h t) own ≡ true
+smaller_is_before : (own : List Placed) (r k t : Placed) → smaller_round own r k ≡ true → is_before k t ≡ true → list_any (λ (h : Placed). encloses h r && is_before h t) own ≡ true
 smaller_is_before own r k t small before =
-    any_more (λ (h : Placed). is_round h r && int_lt (double_area h.1.0) (double_area k.1.0)) (λ (h : Placed). is_round h r && is_before h t)
+    any_more (λ (h : Placed). encloses h r && int_lt (double_area h.1.0) (double_area k.1.0)) (λ (h : Placed). encloses h r && is_before h t)
     (λ (h : Placed) b.
-    let parts = and_parts (is_round h r) (int_lt (double_area h.1.0) (double_area k.1.0)) b in
-    and_from (is_round h r) (is_before h t) parts.0 (smaller_before h k t parts.1 before)) own small
+    let parts = and_parts (encloses h r) (int_lt (double_area h.1.0) (double_area k.1.0)) b in
+    and_from (encloses h r) (is_before h t) parts.0 (smaller_before h k t parts.1 before)) own small
 
 head_part : (own rest all : List Placed) → IsPart own rest all → (r : Placed) → IsHeld own rest r → is_head all r ≡ is_head own r
 head_part own rest all part r (inl h) = head_positive all r h ∙ sym (head_positive own r h)
 head_part own rest all part r (inr h) =
     ap (λ (c : Bool). is_positive r || not c)
-    (part.found (λ (k : Placed). is_round k r)
-    ∙ absorbed (list_any (λ (k : Placed). is_round k r) own) (list_any (λ (k : Placed). is_round k r) rest)
-    (any_some (λ (k : Placed). is_round k r) (list_any (λ (k : Placed). is_round k r) own ≡ true) rest
-    (each_more (λ (k : Placed). is_round k r ≡ true → smaller_round own r k ≡ true) (λ (k : Placed). is_round k r ≡ true → list_any (λ (h : Placed). is_round h r) own ≡ true)
+    (part.found (λ (k : Placed). encloses k r)
+    ∙ absorbed (list_any (λ (k : Placed). encloses k r) own) (list_any (λ (k : Placed). encloses k r) rest)
+    (any_some (λ (k : Placed). encloses k r) (list_any (λ (k : Placed). encloses k r) own ≡ true) rest
+    (each_more (λ (k : Placed). encloses k r ≡ true → smaller_round own r k ≡ true) (λ (k : Placed). encloses k r ≡ true → list_any (λ (h : Placed). encloses h r) own ≡ true)
     (λ (k : Placed) f b.
-    any_more (λ (h : Placed). is_round h r && int_lt (double_area h.1.0) (double_area k.1.0)) (λ (h : Placed). is_round h r)
-    (λ (h : Placed) c. (and_parts (is_round h r) (int_lt (double_area h.1.0) (double_area k.1.0)) c).0) own (f b)) rest h)))
+    any_more (λ (h : Placed). encloses h r && int_lt (double_area h.1.0) (double_area k.1.0)) (λ (h : Placed). encloses h r)
+    (λ (h : Placed) c. (and_parts (encloses h r) (int_lt (double_area h.1.0) (double_area k.1.0)) c).0) own (f b)) rest h)))
 
-stands_part : (own rest all : List Placed) → IsPart own rest all → (t r : Placed) → Each (λ (k : Placed). is_round k r ≡ true → smaller_round own r k ≡ true) rest
+stands_part : (own rest all : List Placed) → IsPart own rest all → (t r : Placed) → Each (λ (k : Placed). encloses k r ≡ true → smaller_round own r k ≡ true) rest
     → stands_with all t r ≡ stands_with own t r
 stands_part own rest all part t r h =
-    ap (λ (c : Bool). is_round t r && not c)
-    (part.found (λ (k : Placed). is_round k r && is_before k t)
-    ∙ absorbed (list_any (λ (k : Placed). is_round k r && is_before k t) own) (list_any (λ (k : Placed). is_round k r && is_before k t) rest)
-    (any_some (λ (k : Placed). is_round k r && is_before k t) (list_any (λ (k : Placed). is_round k r && is_before k t) own ≡ true) rest
-    (each_more (λ (k : Placed). is_round k r ≡ true → smaller_round own r k ≡ true)
-    (λ (k : Placed). (is_round k r && is_before k t) ≡ true → list_any (λ (h : Placed). is_round h r && is_before h t) own ≡ true)
-    (λ (k : Placed) f b. let parts = and_parts (is_round k r) (is_before k t) b in smaller_is_before own r k t (f parts.0) parts.1) rest h)))
+    ap (λ (c : Bool). encloses t r && not c)
+    (part.found (λ (k : Placed). encloses k r && is_before k t)
+    ∙ absorbed (list_any (λ (k : Placed). encloses k r && is_before k t) own) (list_any (λ (k : Placed). encloses k r && is_before k t) rest)
+    (any_some (λ (k : Placed). encloses k r && is_before k t) (list_any (λ (k : Placed). encloses k r && is_before k t) own ≡ true) rest
+    (each_more (λ (k : Placed). encloses k r ≡ true → smaller_round own r k ≡ true)
+    (λ (k : Placed). (encloses k r && is_before k t) ≡ true → list_any (λ (h : Placed). encloses h r && is_before h t) own ≡ true)
+    (λ (k : Placed) f b. let parts = and_parts (encloses k r) (is_before k t) b in smaller_is_before own r k t (f parts.0) parts.1) rest h)))
 
 -- whether a ring is one of those that stand with `t`
 abbrev stands_among : List Placed → Placed → Placed → Bool
@@ -324,25 +324,25 @@ member_own own rest all part t r (inr h) = λ i. not (head_part own rest all par
 member_other : (own rest all : List Placed) → IsPart own rest all → (t r : Placed) → IsFreeOf rest t r → stands_among all t r ≡ false
 member_other own rest all part t r (inl h) = and_none (not (is_head all r)) (stands_with all t r) (ap not (head_positive all r h))
 member_other own rest all part t r (inr h) =
-    ap (λ (b : Bool). not (is_head all r) && b) (by (is_round t r) refl) ∙ none (not (is_head all r))
+    ap (λ (b : Bool). not (is_head all r) && b) (by (encloses t r) refl) ∙ none (not (is_head all r))
   where
     none : (a : Bool) → (a && false) ≡ false
     none true = refl
     none false = refl
 
-    found : is_round t r ≡ true → list_any (λ (k : Placed). is_round k r && is_before k t) all ≡ true
+    found : encloses t r ≡ true → list_any (λ (k : Placed). encloses k r && is_before k t) all ≡ true
     found b =
-        part.found (λ (k : Placed). is_round k r && is_before k t)
-        ∙ or_right (list_any (λ (k : Placed). is_round k r && is_before k t) own) (list_any (λ (k : Placed). is_round k r && is_before k t) rest)
-        (any_more (λ (k : Placed). is_round k r && int_lt (double_area k.1.0) (double_area t.1.0)) (λ (k : Placed). is_round k r && is_before k t)
+        part.found (λ (k : Placed). encloses k r && is_before k t)
+        ∙ or_right (list_any (λ (k : Placed). encloses k r && is_before k t) own) (list_any (λ (k : Placed). encloses k r && is_before k t) rest)
+        (any_more (λ (k : Placed). encloses k r && int_lt (double_area k.1.0) (double_area t.1.0)) (λ (k : Placed). encloses k r && is_before k t)
         (λ (k : Placed) c.
-        let parts = and_parts (is_round k r) (int_lt (double_area k.1.0) (double_area t.1.0)) c in
-        and_from (is_round k r) (is_before k t) parts.0
+        let parts = and_parts (encloses k r) (int_lt (double_area k.1.0) (double_area t.1.0)) c in
+        and_from (encloses k r) (is_before k t) parts.0
         (ap (λ (d : Bool). d || (int_eq (double_area k.1.0) (double_area t.1.0) && int_lt (pos k.0) (pos t.0))) parts.1)) rest (h b))
 
-    by : (b : Bool) → is_round t r ≡ b → stands_with all t r ≡ false
+    by : (b : Bool) → encloses t r ≡ b → stands_with all t r ≡ false
     by true e = (λ i. e i && not (found e i))
-    by false e = and_none (is_round t r) (not (list_any (λ (k : Placed). is_round k r && is_before k t) all)) e
+    by false e = and_none (encloses t r) (not (list_any (λ (k : Placed). encloses k r && is_before k t) all)) e
 
 shape_part : (own rest all : List Placed) → IsPart own rest all → Each (IsHeld own rest) own → (t : Placed) → Each (IsFreeOf rest t) rest → shape_of all t ≡ shape_of own t
 shape_part own rest all part held t free =
@@ -387,7 +387,7 @@ placed_held ts us rs ss e f h = each_map at_first (IsHeld (map at_first ts) (map
     by : (r : Ring) → HoldsItself rs ss r → IsHeld (map at_first ts) (map at_first us) (0, r)
     by r (inl h) = inl h
     by r (inr h) =
-        inr (each_map at_first (λ (k : Placed). is_round k (0, r) ≡ true → smaller_round (map at_first ts) (0, r) k ≡ true) us
+        inr (each_map at_first (λ (k : Placed). encloses k (0, r) ≡ true → smaller_round (map at_first ts) (0, r) k ≡ true) us
         (placed_all us ss (λ (k : Ring). surrounds k r ≡ true → smaller_round (map at_first ts) (0, r) (0, k) ≡ true) f
         (each_more (λ (k : Ring). surrounds k r ≡ true → has_smaller rs r k ≡ true) (λ (k : Ring). surrounds k r ≡ true → smaller_round (map at_first ts) (0, r) (0, k) ≡ true)
         (λ (k : Ring) g b. sym (placed_any ts rs (λ (h : Ring). surrounds h r && int_lt (double_area h.0) (double_area k.0)) e) ∙ g b) ss h)))

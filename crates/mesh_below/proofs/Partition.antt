@@ -12,19 +12,18 @@ use Rattle.mesh_plane.specs.Winding.{sum_of, boundary, crossing_on, winding, hol
 use Rattle.mesh_plane.proofs.Sums.{sum_of_map, sum_of_flat_map, sum_of_add, sum_of_same, sum_of_equal, sum_of_zero, sum_of_permutation}
 use Rattle.mesh_plane.proofs.Whole.{linear}
 use Rattle.mesh_shapes.specs.Contours.{vertices, double_area}
-use Rattle.mesh_shapes.specs.Private.Grouping.{ring_at, placed, is_round_at, IsHome}
-use Rattle.mesh_shapes.specs.Private.Progress.{NoneRound, IsHolder}
-use Rattle.mesh_shapes.specs.Resolution.{Choices, IsResolution, Ring, Placed, ring_of, is_large, is_positive, is_head, is_round, stands_with, shape_of, rings_by_shape, answered}
+use Rattle.mesh_shapes.specs.Homes.{ring_at, placed, encloses_at, IsHome, NoneEncloses, IsHolder}
+use Rattle.mesh_shapes.specs.Resolution.{Choices, IsResolution, Ring, Placed, ring_of, is_large, is_positive, is_head, encloses, stands_with, shape_of, rings_by_shape, answered}
 use Rattle.mesh_shapes.proofs.Groups.{area, holder_none, holder_kept, holder_no_less, holder_first, holder_less, home_positive, home_alone, home_held, member_test, head_test}
 
 -- ---- where each ring belongs
 abbrev KnownHolder : List Ring → Point → ℕ → Type 0
-KnownHolder rs q n = (best : Option ℕ) × MatchOption best (NoneRound rs n q) (IsHolder rs n q)
+KnownHolder rs q n = (best : Option ℕ) × MatchOption best (NoneEncloses rs n q) (IsHolder rs n q)
 
 holder_more : (rs : List Ring) (q : Point) (n : ℕ) → KnownHolder rs q n → KnownHolder rs q (n + 1)
-holder_more rs q n (best, known) = by (is_round_at rs n q) refl best known
+holder_more rs q n (best, known) = by (encloses_at rs n q) refl best known
   where
-    by : (r : Bool) → is_round_at rs n q ≡ r → (best : Option ℕ) → MatchOption best (NoneRound rs n q) (IsHolder rs n q) → KnownHolder rs q (n + 1)
+    by : (r : Bool) → encloses_at rs n q ≡ r → (best : Option ℕ) → MatchOption best (NoneEncloses rs n q) (IsHolder rs n q) → KnownHolder rs q (n + 1)
     by false f best known = (best, holder_kept rs q n best known f)
     by true t None known = (Some n, holder_first rs q n known t)
     by true t (Some b) known =
@@ -54,12 +53,12 @@ homed rs i low = by (is_positive (ring_at rs i)) refl (holder_to rs (ring_at rs 
     by true t known = own_place rs i low (home_positive rs i t)
     by false f (None, none) = own_place rs i low (home_alone rs i none)
     by false f (Some b, h) =
-        let positive = (and_parts (is_positive (ring_at rs b)) (holds 2 (ring_at rs i).1.1 (ring_at rs b).1.0) h.round).0 in
+        let positive = (and_parts (is_positive (ring_at rs b)) (holds 2 (ring_at rs i).1.1 (ring_at rs b).1.0) h.enclosing).0 in
         record {
           at = b;
           home = home_held rs i b f h;
           within = h.within;
-          heads = λ j. positive j || not (list_any (λ (k : Placed). is_round k (ring_at rs b)) (placed rs));
+          heads = λ j. positive j || not (list_any (λ (k : Placed). encloses k (ring_at rs b)) (placed rs));
         }
 
 -- ---- sums over placed rings

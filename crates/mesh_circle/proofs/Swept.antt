@@ -13,7 +13,7 @@ use Rattle.mesh_num.proofs.Moving.{safe_difference, stays_safe}
 use Rattle.mesh_arc.specs.Arcs.{arc, clamped}
 use Rattle.mesh_arc.specs.declared.arc.ArcDirection.TheVariants.{Counterclockwise}
 use Rattle.mesh_arc.specs.declared.arc.ArcOptions.{ArcOptions}
-use Rattle.mesh_join.specs.Private.RoundJoins.{IsApart}
+use Rattle.mesh_join.specs.Joints.{IsApart}
 use Rattle.mesh_circle.specs.Sweeps.{distance, bearing, point_round, polyline_points, east_of, west_of, is_central}
 use Rattle.mesh_circle.specs.Sweeps.{IsSwept}
 

@@ -3,7 +3,7 @@
 ghost use Rattle.std.specs.Prelude.{◌≡◌, ◌*◌};
 ghost use Rattle.mesh_plane.specs.Bounds.{IsSafe};
 ghost use Rattle.mesh_plane.specs.Plane.{minus};
-ghost use Rattle.mesh_join.specs.Private.RoundJoins.{IsApart};
+ghost use Rattle.mesh_join.specs.Joints.{IsApart};
 ghost use Rattle.mesh_circle.specs.Sweeps.{is_central as is_central_to, is_empty as is_empty_of};
 ghost use Rattle.mesh_circle.specs.Sweeps.{is_major as is_major_of, is_whole as is_whole_of, sweep_of as sweep_between};
 

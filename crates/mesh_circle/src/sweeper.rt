@@ -5,7 +5,7 @@ ghost use Rattle.mesh_plane.specs.Winding.{route};
 ghost use Rattle.mesh_num.specs.Rectangle.{IsSafeWidened};
 ghost use Rattle.mesh_join.specs.Appending.{Appends, HasRoomForEdges};
 ghost use Rattle.mesh_join.specs.Joints.{StaysWithin};
-ghost use Rattle.mesh_join.specs.Private.RoundJoins.{IsApart};
+ghost use Rattle.mesh_join.specs.Joints.{IsApart};
 ghost use Rattle.mesh_join.specs.RoundJoins.{round_padding};
 ghost use Rattle.mesh_circle.specs.Sweeps.{arc_edges, arc_pieces, circle_edges, circle_pieces, half_circles};
 ghost use Rattle.mesh_circle.specs.Sweeps.{polyline_edges, is_direct, AddUpTo, IsReached, IsSwept};

@@ -6,7 +6,7 @@ ghost use Rattle.mesh_plane.specs.Plane.{minus};
 ghost use Rattle.mesh_num.specs.Direction.{IsFresh, IsShort};
 ghost use Rattle.mesh_num.specs.Rectangle.{IsSafeWidened};
 ghost use Rattle.mesh_join.specs.RoundJoins.{round_padding};
-ghost use Rattle.mesh_join.specs.Private.RoundJoins.{IsApart};
+ghost use Rattle.mesh_join.specs.Joints.{IsApart};
 ghost use Rattle.mesh_circle.specs.Sweeps.{bearing, distance as distance_of, is_one_way as is_one_way_of};
 ghost use Rattle.mesh_circle.specs.Sweeps.{point_round as point_round_of};
 ghost use Rattle.mesh_circle.specs.Sweeps.{east_of as east_point, west_of as west_point};

@@ -26,7 +26,8 @@ use Rattle.mesh_join.specs.Joins.{between}
 use Rattle.mesh_join.specs.Joints.{Joint, IsTurn, IsWithinPadding, contact, runs_ahead}
 use Rattle.mesh_join.specs.RoundJoins.{joint_arc, arc_point, used, round_points, round_padding}
 use Rattle.mesh_join.proofs.Joints.{contact_within, near_difference}
-use Rattle.mesh_join.specs.Private.RoundJoins.{IsApart, used_past}
+use Rattle.mesh_join.specs.Joints.{IsApart}
+use Rattle.mesh_join.specs.Private.RoundJoins.{used_past}
 use Rattle.mesh_join.specs.Styles.{JoinStyle}
 use Rattle.mesh_join.specs.declared.style.IntLineJoin.TheVariants.{Round}
 

@@ -61,3 +61,13 @@ StaysWithin padding v es = All (λ (e : Edge). IsWithinPadding padding v e.0 × 
 -- whether an edge does not turn back round the corner
 abbrev pub runs_ahead : Joint → Edge → Bool
 runs_ahead j e = int_le (pos 0) (sense_of j.sense *ℤ turn j.center e.0 e.1)
+
+-- two points that have a direction from one to the other
+pub record IsApart (unit : ℕ) (center point : Point) : Type 0 where
+  pub safe : IsSafe (2 * unit) (minus point center)
+  pub differ : point ≢ center
+
+-- two directions are no longer than directions are
+pub record HaveLength (unit : ℕ) (incoming outgoing : Point) : Type 0 where
+  pub incoming_short : IsShort unit incoming
+  pub outgoing_short : IsShort unit outgoing

@@ -32,7 +32,7 @@ pub(crate) struct Joint<I: IntNumber> {
 
 impl<I: IntNumber> Model for Joint<I> {
     ghost use Rattle.mesh_join.specs.Joints.{Joint, joint};
-    ghost use Rattle.mesh_join.specs.Private.RoundJoins.{HaveLength};
+    ghost use Rattle.mesh_join.specs.Joints.{HaveLength};
 
     ghost Value = { Joint };
 

@@ -9,7 +9,8 @@ ghost use Rattle.mesh_num.specs.Rectangle.{IsSafeWidened};
 ghost use Rattle.mesh_join.specs.Appending.{Appends};
 ghost use Rattle.mesh_join.specs.Joins.{IsJoint};
 ghost use Rattle.mesh_join.specs.Methods.{style_of_round};
-ghost use Rattle.mesh_join.specs.Private.RoundJoins.{round_edges, IsApart};
+ghost use Rattle.mesh_join.specs.Joints.{IsApart};
+ghost use Rattle.mesh_join.specs.Private.RoundJoins.{round_edges};
 ghost use Rattle.mesh_join.specs.RoundJoins.{round_padding, arc_point as arc_point_of, used_points};
 
 use crate::joint::Joint;

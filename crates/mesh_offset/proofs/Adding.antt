@@ -4,7 +4,7 @@ use Rattle.std.proofs.Math.Seq.{take-append_seam}
 use Rattle.std.proofs.lemmas.List.{drop_at, take_at, take-append-drop, map-append, append-nil, map_more}
 use Rattle.mesh_num.specs.Segments.{SignedEdge, segments_of}
 use Rattle.mesh_offset.specs.Adding.{added, added_edges, Keeps}
-use Rattle.mesh_offset.specs.Private.Built.{Adds}
+use Rattle.mesh_offset.specs.Built.{Adds}
 use Rattle.std.specs.List.Sorted.{IsPermutation}
 use Rattle.mesh_plane.specs.Plane.{Edge, Point}
 use Rattle.std.specs.Prelude.{OnOk}
@@ -12,7 +12,7 @@ use Rattle.mesh_lattice.specs.Split.{back}
 use Rattle.mesh_lattice.specs.declared.fill.FillRule.{FillRule}
 use Rattle.mesh_lattice.specs.declared.fill.FillRule.TheVariants.{Positive, Negative}
 use Rattle.mesh_offset.specs.Adding.{in_sense}
-use Rattle.mesh_offset.specs.Private.Built.{AddsClosed}
+use Rattle.mesh_offset.specs.Built.{AddsClosed}
 use Rattle.mesh_num.proofs.SegmentLists.{segments_of-append}
 use Rattle.std.specs.List.{flat_map}
 use Rattle.std.specs.declared.vec.Vec.{Vec}

@@ -13,7 +13,7 @@ use Rattle.mesh_plane.proofs.Balance.{balanced_permutation}
 use Rattle.mesh_num.specs.Rectangle.{IsSafeWidened}
 use Rattle.mesh_num.specs.Segments.{SignedEdge, edge_of}
 use Rattle.mesh_offset.specs.Adding.{added, added_edges}
-use Rattle.mesh_offset.specs.Private.Built.{Adds}
+use Rattle.mesh_offset.specs.Built.{Adds}
 use Rattle.mesh_offset.specs.Drawing.{AreDrawn}
 use Rattle.mesh_offset.specs.Padding.{IsNear}
 use Rattle.mesh_offset.proofs.Adding.{adds_edges}

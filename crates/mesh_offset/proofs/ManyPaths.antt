@@ -23,7 +23,7 @@ use Rattle.mesh_below.specs.Asked.{AreResolvable}
 use Rattle.mesh_below.specs.Laws.{AreRegions}
 use Rattle.mesh_below.proofs.AnswerRegions.{regions_made, filled_none}
 use Rattle.mesh_offset.specs.Adding.{Keeps, added, added_edges}
-use Rattle.mesh_offset.specs.Private.Built.{AreBuilt}
+use Rattle.mesh_offset.specs.Built.{AreBuilt}
 use Rattle.mesh_offset.specs.Staying.{IsSafeResolving}
 use Rattle.mesh_offset.proofs.ProperEdges.{all_proper, proper_if_all, proper_permutation}
 use Rattle.mesh_offset.proofs.Staying.{safe_resolving}

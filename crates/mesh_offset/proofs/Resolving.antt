@@ -10,7 +10,7 @@ use Rattle.mesh_lattice.specs.Split.{back}
 use Rattle.mesh_lattice.specs.declared.fill.FillRule.{FillRule}
 use Rattle.mesh_lattice.specs.declared.fill.FillRule.TheVariants.{Positive, Negative}
 use Rattle.mesh_offset.specs.Adding.{in_sense}
-use Rattle.mesh_offset.specs.Private.Built.{AddsClosed}
+use Rattle.mesh_offset.specs.Built.{AddsClosed}
 use Rattle.std.proofs.lemmas.List.Elements.{All-map, All-weaker, All-filter}
 use Rattle.mesh_plane.specs.Bounds.{IsSafe}
 use Rattle.mesh_lattice.specs.Reach.{AreEdgesSafe, ArePointsSafe}

@@ -1,10 +1,10 @@
 pub mod Adding
+pub mod Built
 pub mod Counting
 pub mod Drawing
 pub mod Errors
 pub mod Padding
 pub mod Pieces
-pub mod Private
 pub mod Radii
 pub mod Regions
 pub mod Staying

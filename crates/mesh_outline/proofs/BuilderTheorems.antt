@@ -15,7 +15,7 @@ use Rattle.mesh_join.specs.Cleaned.{cleaned_sections}
 use Rattle.mesh_join.specs.Joins.{offset_padding, has_few}
 use Rattle.mesh_join.specs.Styles.{OffsetJoin}
 use Rattle.mesh_offset.specs.Adding.{added, added_edges}
-use Rattle.mesh_offset.specs.Private.Built.{Adds}
+use Rattle.mesh_offset.specs.Built.{Adds}
 use Rattle.mesh_offset.specs.Drawing.{AreDrawn}
 use Rattle.mesh_offset.proofs.Drawn.{adds_drawn, drawn_safe, added_length}
 use Rattle.mesh_outline.specs.Building.{IsMovable}

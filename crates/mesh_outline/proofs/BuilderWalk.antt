@@ -16,7 +16,7 @@ use Rattle.mesh_outline.specs.Outline.{Section, SectionPair, top_edge, section_o
 use Rattle.mesh_outline.specs.Outline.{parts, joined, closed_outline, drawn_edges}
 use Rattle.mesh_outline.specs.Building.{IsMovable}
 use Rattle.mesh_outline.specs.Private.Sections.{IsMoved, IsCorner, corner_segments, top_segments}
-use Rattle.mesh_offset.specs.Private.Built.{Adds}
+use Rattle.mesh_offset.specs.Built.{Adds}
 use Rattle.mesh_join.specs.Styles.{OffsetJoin}
 use Rattle.mesh_outline.proofs.Padding.{movable_within}
 use Rattle.mesh_outline.proofs.OutlineWalk.{drawn_top, drawn_corner, drawn_by_walk}

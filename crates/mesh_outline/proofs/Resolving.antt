@@ -16,7 +16,7 @@ use Rattle.mesh_shapes.specs.Resolution.{Choices, IsResolution}
 use Rattle.mesh_lattice.specs.declared.fill.FillRule.{FillRule}
 use Rattle.mesh_lattice.specs.declared.fill.FillRule.TheVariants.{Positive}
 use Rattle.mesh_join.specs.Styles.{OffsetJoin, OutlineStyle, outer}
-use Rattle.mesh_offset.specs.Private.Built.{AddsClosed}
+use Rattle.mesh_offset.specs.Built.{AddsClosed}
 use Rattle.mesh_offset.proofs.ProperEdges.{proper_same}
 use Rattle.mesh_offset.proofs.Resolving.{adds_answer, given_edges, given_subjects, given_balanced, given_safe}
 use Rattle.mesh_outline.specs.Building.{style_for}

@@ -10,7 +10,7 @@ ghost use Rattle.mesh_join.specs.Cleaned.{AllEqual, cleaned_sections};
 ghost use Rattle.mesh_join.specs.Joins.{offset_padding, HasFew};
 ghost use Rattle.mesh_join.specs.Styles.{style_of};
 ghost use Rattle.mesh_offset.specs.Adding.{added, added_edges, Keeps};
-ghost use Rattle.mesh_offset.specs.Private.Built.{Adds};
+ghost use Rattle.mesh_offset.specs.Built.{Adds};
 ghost use Rattle.mesh_offset.specs.Drawing.{NeverTurnedRound, WindAsContourAndPieces, WindsByCount};
 ghost use Rattle.mesh_offset.specs.Adding.{HasRoomFor};
 ghost use Rattle.mesh_offset.specs.Padding.{AreEndsNear};

@@ -11,7 +11,7 @@ ghost use Rattle.mesh_join.specs.Joins.{outline_padding};
 ghost use Rattle.mesh_join.specs.Styles.{style_of};
 ghost use Rattle.mesh_offset.specs.Adding.{answer_edges};
 ghost use Rattle.mesh_offset.specs.Padding.{ArePathsSafe};
-ghost use Rattle.mesh_offset.specs.Private.Built.{AddsClosed};
+ghost use Rattle.mesh_offset.specs.Built.{AddsClosed};
 ghost use Rattle.mesh_outline.specs.Building.{IsMovable};
 ghost use Rattle.mesh_outline.specs.Kinds.{contour_kind};
 ghost use Rattle.mesh_outline.specs.Private.Gathered.{box_of, IsResolvedAgain};

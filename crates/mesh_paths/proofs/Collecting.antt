@@ -16,7 +16,7 @@ use Rattle.mesh_lattice.proofs.SoundSplits.{after_proper, legal_sound}
 use Rattle.mesh_points.specs.declared.edges.NumberedEdge.{NumberedEdge}
 use Rattle.mesh_points.specs.Edges.{counted, edge_at, no_edge, AreNumbered, IsNumbered, IsPlaceOf}
 use Rattle.mesh_points.specs.Points.{AreDistinct}
-use Rattle.mesh_points.specs.Private.Merged.{AreFiled}
+use Rattle.mesh_points.specs.Merged.{AreFiled}
 use Rattle.mesh_points.proofs.Chains.{chain_none}
 use Rattle.mesh_points.proofs.Merging.{ends_apart, ends_same, filed_raised, put_filed, IsPutLast, IsRaisedTo}
 use Rattle.mesh_paths.specs.declared.paths.Paths.{Paths}

@@ -14,7 +14,7 @@ use Rattle.mesh_lattice.proofs.Splits.{occurs_append}
 use Rattle.mesh_points.specs.declared.edges.NumberedEdge.{NumberedEdge}
 use Rattle.mesh_points.specs.Edges.{edge_at}
 use Rattle.mesh_points.specs.Points.{IsNumberOf}
-use Rattle.mesh_points.specs.Private.Chains.{IsSearched}
+use Rattle.mesh_points.specs.Chains.{IsSearched}
 use Rattle.mesh_points.proofs.Chains.{search_begins, search_goes_on}
 use Rattle.mesh_paths.specs.declared.paths.Paths.{Paths}
 use Rattle.mesh_paths.specs.declared.paths.Piece.{Piece}

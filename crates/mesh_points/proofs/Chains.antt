@@ -2,7 +2,7 @@
 use Rattle.std.proofs.Common.{◌≡◌, ◌≢◌, ℕ, ◌+◌, ◌-◌, ◌<◌, ◌≤◌, ◌⊎◌, inl, inr, List, [], ◌∷◌, ◌++◌, length, get_or, set, sym, ◌∙◌, ap, subst, arith, get_or-set_other, get_or-set_same}
 use Rattle.std.proofs.Math.ListN.{length-set, length-append, get_or-append}
 use Rattle.std.proofs.Math.Seq.{get_or-append_seam}
-use Rattle.mesh_points.specs.Private.Chains.{AreChained, IsSearched}
+use Rattle.mesh_points.specs.Chains.{AreChained, IsSearched}
 
 -- a number below one more, and that a search stands at
 below_or_at : (k n : ℕ) → k < n + 1 → (k < n) ⊎ (k ≡ n)

@@ -19,8 +19,8 @@ use Rattle.mesh_points.specs.declared.edges.NumberedEdge.{NumberedEdge}
 use Rattle.mesh_points.specs.declared.edges.Merger.{Merger}
 use Rattle.mesh_points.specs.Edges.{counted, edge_at, no_edge, AreNumbered, IsCountedAs, IsNumbered, IsPlaceOf}
 use Rattle.mesh_points.specs.Points.{point_at, AreDistinct, IsNewPoint, IsNumberOf}
-use Rattle.mesh_points.specs.Private.Chains.{AreChained}
-use Rattle.mesh_points.specs.Private.Merged.{link_in, start_in, AreCountsWithin, AreFiled, AreOf, IsMerged}
+use Rattle.mesh_points.specs.Chains.{AreChained}
+use Rattle.mesh_points.specs.Merged.{link_in, start_in, AreCountsWithin, AreFiled, AreOf, IsMerged}
 use Rattle.mesh_points.proofs.Chains.{chain_pushed, chain_widened}
 use Rattle.mesh_points.proofs.Counting.{count_new, count_raised, sum_kept}
 use Rattle.mesh_points.proofs.Numbers.{number_kept}

@@ -7,7 +7,7 @@ use Rattle.std.proofs.lemmas.List.{map-append, length-map}
 use Rattle.mesh_plane.specs.Plane.{Point}
 use Rattle.mesh_points.specs.declared.points.Entry.{Entry}
 use Rattle.mesh_points.specs.Points.{point_at, AreDistinct, IsNewPoint, IsNumberOf}
-use Rattle.mesh_points.specs.Private.Chains.{AreChained, IsSearched}
+use Rattle.mesh_points.specs.Chains.{AreChained, IsSearched}
 use Rattle.mesh_points.specs.Private.Filed.{before_in, list_in, list_of, no_entry, points_in, AreFiled}
 use Rattle.mesh_points.proofs.Chains.{chain_pushed}
 

@@ -1,3 +1,5 @@
+pub mod Chains
 pub mod Edges
+pub mod Merged
 pub mod Points
 pub mod Private

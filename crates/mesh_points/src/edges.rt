@@ -9,7 +9,7 @@ ghost use Rattle.mesh_lattice.specs.Clean.{IsProper};
 ghost use Rattle.mesh_lattice.specs.Counted.{IsCountOf};
 ghost use Rattle.mesh_points.specs.Edges.{counted, AreNumbered, IsCountedAs, IsNumbered, IsPlaceOf};
 ghost use Rattle.mesh_points.specs.Points.{AreDistinct, IsNumberOf};
-ghost use Rattle.mesh_points.specs.Private.Merged.{AreCountsWithin, AreMerged, IsMerged};
+ghost use Rattle.mesh_points.specs.Merged.{AreCountsWithin, AreMerged, IsMerged};
 
 use crate::points::Points;
 use mesh_lattice::exact::{is_before, same_point};

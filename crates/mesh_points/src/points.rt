@@ -3,7 +3,7 @@
 ghost use Rattle.std.specs.Prelude.{◌≡◌, ℕ, ◌<◌, ◌≤◌, ◌^◌, false, true, [], length, slice_index_or};
 ghost use Rattle.std.specs.Prelude.{IfOk, OnErr};
 ghost use Rattle.mesh_points.specs.Points.{point_at, AreDistinct, IsNewPoint, IsNumberOf};
-ghost use Rattle.mesh_points.specs.Private.Chains.{AreChained};
+ghost use Rattle.mesh_points.specs.Chains.{AreChained};
 ghost use Rattle.mesh_points.specs.Private.Filed.{before_in, list_in, list_of, points_in, shifted};
 
 use mesh_lattice::exact::same_point;

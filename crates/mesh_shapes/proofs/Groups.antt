@@ -15,10 +15,10 @@ use Rattle.mesh_plane.specs.Plane.{Point}
 use Rattle.mesh_plane.specs.Order.{point_lt}
 use Rattle.mesh_plane.specs.Winding.{holds}
 use Rattle.mesh_shapes.specs.Contours.{double_area}
-use Rattle.mesh_shapes.specs.Private.Progress.{NoneRound, IsHolder}
-use Rattle.mesh_shapes.specs.Resolution.{Ring, Placed, points_lt, is_positive, is_round, is_before, is_head, stands_with}
+use Rattle.mesh_shapes.specs.Homes.{NoneEncloses, IsHolder, ring_at, placed, encloses_at, IsHome, heads, stands}
+use Rattle.mesh_shapes.specs.Resolution.{Ring, Placed, points_lt, is_positive, encloses, is_before, is_head, stands_with}
 use Rattle.mesh_shapes.specs.Vectors.{RingVec, ring_of_vec, rings_of_vecs}
-use Rattle.mesh_shapes.specs.Private.Grouping.{ring_at, placed, areas_of, is_round_at, IsHome, heads, stands}
+use Rattle.mesh_shapes.specs.Private.Grouping.{areas_of}
 use Rattle.mesh_plane.proofs.Comparing.{less_test, not_less_test, test_less, test_not_less, point_cmp, cmp_lt, then_lt, then_eq, first_not_less}
 use Rattle.mesh_plane.proofs.Whole.{both_le}
 
@@ -90,47 +90,47 @@ one_before rs j k differ h =
         (λ (f : int_lt (pos j) (pos k) ≡ false). f) (cases_Bool (int_lt (pos j) (pos k))))
 
 -- ---- the best holder so far
-pub holder_none : (rs : List Ring) (q : Point) → NoneRound rs 0 q
+pub holder_none : (rs : List Ring) (q : Point) → NoneEncloses rs 0 q
 holder_none rs q k h = absurd (omega arith)
 
-pub holder_kept : (rs : List Ring) (q : Point) (k : ℕ) (best : Option ℕ) → MatchOption best (NoneRound rs k q) (IsHolder rs k q) → is_round_at rs k q ≡ false →
-    MatchOption best (NoneRound rs (k + 1) q) (IsHolder rs (k + 1) q)
-holder_kept rs q k None h new = below_more (λ (j : ℕ). is_round_at rs j q ≡ false) k h new
+pub holder_kept : (rs : List Ring) (q : Point) (k : ℕ) (best : Option ℕ) → MatchOption best (NoneEncloses rs k q) (IsHolder rs k q) → encloses_at rs k q ≡ false →
+    MatchOption best (NoneEncloses rs (k + 1) q) (IsHolder rs (k + 1) q)
+holder_kept rs q k None h new = below_more (λ (j : ℕ). encloses_at rs j q ≡ false) k h new
 holder_kept rs q k (Some b) h new = record {
   within = omega (arith, h.within);
-  round = h.round;
-  first = below_more (λ (j : ℕ). is_round_at rs j q ≡ true → is_before (ring_at rs j) (ring_at rs b) ≡ false) k h.first
-      (λ (t : is_round_at rs k q ≡ true). absurd (both_ways (is_round_at rs k q) new t));
+  enclosing = h.enclosing;
+  first = below_more (λ (j : ℕ). encloses_at rs j q ≡ true → is_before (ring_at rs j) (ring_at rs b) ≡ false) k h.first
+      (λ (t : encloses_at rs k q ≡ true). absurd (both_ways (encloses_at rs k q) new t));
 }
 
 pub holder_no_less : (rs : List Ring) (q : Point) (k b : ℕ) → IsHolder rs k q b → int_lt (area rs k) (area rs b) ≡ false → IsHolder rs (k + 1) q b
 holder_no_less rs q k b h l = record {
   within = omega (arith, h.within);
-  round = h.round;
-  first = below_more (λ (j : ℕ). is_round_at rs j q ≡ true → is_before (ring_at rs j) (ring_at rs b) ≡ false) k h.first
-      (λ (t : is_round_at rs k q ≡ true). later_not rs k b (test_not_less (area rs k) (area rs b) l) (omega (arith, h.within)));
+  enclosing = h.enclosing;
+  first = below_more (λ (j : ℕ). encloses_at rs j q ≡ true → is_before (ring_at rs j) (ring_at rs b) ≡ false) k h.first
+      (λ (t : encloses_at rs k q ≡ true). later_not rs k b (test_not_less (area rs k) (area rs b) l) (omega (arith, h.within)));
 }
 
-pub holder_first : (rs : List Ring) (q : Point) (k : ℕ) → NoneRound rs k q → is_round_at rs k q ≡ true → IsHolder rs (k + 1) q k
+pub holder_first : (rs : List Ring) (q : Point) (k : ℕ) → NoneEncloses rs k q → encloses_at rs k q ≡ true → IsHolder rs (k + 1) q k
 holder_first rs q k h t = record {
   within = omega arith;
-  round = t;
-  first = below_more (λ (j : ℕ). is_round_at rs j q ≡ true → is_before (ring_at rs j) (ring_at rs k) ≡ false) k
-      (λ (j : ℕ) (l : j < k) (r : is_round_at rs j q ≡ true). absurd (both_ways (is_round_at rs j q) (h j l) r))
-      (λ (r : is_round_at rs k q ≡ true). later_not rs k k (same (area rs k)) (omega arith));
+  enclosing = t;
+  first = below_more (λ (j : ℕ). encloses_at rs j q ≡ true → is_before (ring_at rs j) (ring_at rs k) ≡ false) k
+      (λ (j : ℕ) (l : j < k) (r : encloses_at rs j q ≡ true). absurd (both_ways (encloses_at rs j q) (h j l) r))
+      (λ (r : encloses_at rs k q ≡ true). later_not rs k k (same (area rs k)) (omega arith));
 }
   where
     same : (a : ℤ) → a ≤ℤ a
     same a = omega (arith, ints)
 
-pub holder_less : (rs : List Ring) (q : Point) (k b : ℕ) → IsHolder rs k q b → is_round_at rs k q ≡ true → int_lt (area rs k) (area rs b) ≡ true → IsHolder rs (k + 1) q k
+pub holder_less : (rs : List Ring) (q : Point) (k b : ℕ) → IsHolder rs k q b → encloses_at rs k q ≡ true → int_lt (area rs k) (area rs b) ≡ true → IsHolder rs (k + 1) q k
 holder_less rs q k b h t less = record {
   within = omega arith;
-  round = t;
-  first = below_more (λ (j : ℕ). is_round_at rs j q ≡ true → is_before (ring_at rs j) (ring_at rs k) ≡ false) k
-      (λ (j : ℕ) (l : j < k) (r : is_round_at rs j q ≡ true).
+  enclosing = t;
+  first = below_more (λ (j : ℕ). encloses_at rs j q ≡ true → is_before (ring_at rs j) (ring_at rs k) ≡ false) k
+      (λ (j : ℕ) (l : j < k) (r : encloses_at rs j q ≡ true).
       before_not rs j k (chain (area rs k) (area rs b) (area rs j) (test_less (area rs k) (area rs b) less) (not_before_area rs j b (h.first j l r))))
-      (λ (r : is_round_at rs k q ≡ true). later_not rs k k (same (area rs k)) (omega arith));
+      (λ (r : encloses_at rs k q ≡ true). later_not rs k k (same (area rs k)) (omega arith));
 }
   where
     same : (a : ℤ) → a ≤ℤ a
@@ -163,19 +163,19 @@ any_one p rs k l h = any_one_from p 0 rs k l (subst (λ (m : ℕ). p (m, get_or 
 
 -- ---- where a ring belongs
 pub home_positive : (rs : List Ring) (i : ℕ) → is_positive (ring_at rs i) ≡ true → IsHome rs i i
-home_positive rs i h = heads (ap (λ (b : Bool). b || not (list_any (λ (k : Placed). is_round k (ring_at rs i)) (placed rs))) h) refl
+home_positive rs i h = heads (ap (λ (b : Bool). b || not (list_any (λ (k : Placed). encloses k (ring_at rs i)) (placed rs))) h) refl
 
-pub home_alone : (rs : List Ring) (i : ℕ) → NoneRound rs (length rs) (ring_at rs i).1.1 → IsHome rs i i
+pub home_alone : (rs : List Ring) (i : ℕ) → NoneEncloses rs (length rs) (ring_at rs i).1.1 → IsHome rs i i
 home_alone rs i h =
-    heads (or_right (is_positive (ring_at rs i)) (not (list_any (λ (k : Placed). is_round k (ring_at rs i)) (placed rs)))
-    (ap not (any_none (λ (k : Placed). is_round k (ring_at rs i)) rs h))) refl
+    heads (or_right (is_positive (ring_at rs i)) (not (list_any (λ (k : Placed). encloses k (ring_at rs i)) (placed rs)))
+    (ap not (any_none (λ (k : Placed). encloses k (ring_at rs i)) rs h))) refl
 
 pub home_held : (rs : List Ring) (i b : ℕ) → is_positive (ring_at rs i) ≡ false → IsHolder rs (length rs) (ring_at rs i).1.1 b → IsHome rs i b
 home_held rs i b flat h =
     stands
-    (λ j. flat j || not (any_one (λ (k : Placed). is_round k (ring_at rs i)) rs b h.within h.round j))
+    (λ j. flat j || not (any_one (λ (k : Placed). encloses k (ring_at rs i)) rs b h.within h.enclosing j))
     (λ (e : b ≡ i). both_ways (is_positive (ring_at rs i)) flat
-    (subst (λ (k : ℕ). is_positive (ring_at rs k) ≡ true) e (and_parts (is_positive (ring_at rs b)) (holds 2 (ring_at rs i).1.1 (ring_at rs b).1.0) h.round).0))
+    (subst (λ (k : ℕ). is_positive (ring_at rs k) ≡ true) e (and_parts (is_positive (ring_at rs b)) (holds 2 (ring_at rs i).1.1 (ring_at rs b).1.0) h.enclosing).0))
     one
   where
     one : (k : ℕ) → k < length rs → stands_with (placed rs) (ring_at rs k) (ring_at rs i) ≡ nat_eq k b
@@ -183,22 +183,22 @@ home_held rs i b flat h =
         ⊎_elim
         (λ (t : nat_eq k b ≡ true).
         subst (λ (m : ℕ). stands_with (placed rs) (ring_at rs m) (ring_at rs i) ≡ true) (sym (eqb-true k b t))
-        (λ j. h.round j && not (any_none (λ (m : Placed). is_round m (ring_at rs i) && is_before m (ring_at rs b)) rs not_first j))
+        (λ j. h.enclosing j && not (any_none (λ (m : Placed). encloses m (ring_at rs i) && is_before m (ring_at rs b)) rs not_first j))
         ∙ sym t)
         (λ (f : nat_eq k b ≡ false).
-        by_round (is_round_at rs k (ring_at rs i).1.1) refl (λ (e : k ≡ b). both_ways (nat_eq k b) f (eq-eqb k b e)) ∙ sym f)
+        by_round (encloses_at rs k (ring_at rs i).1.1) refl (λ (e : k ≡ b). both_ways (nat_eq k b) f (eq-eqb k b e)) ∙ sym f)
         (cases_Bool (nat_eq k b))
       where
-        not_first : (m : ℕ) → m < length rs → (is_round (ring_at rs m) (ring_at rs i) && is_before (ring_at rs m) (ring_at rs b)) ≡ false
-        not_first m lm = by (is_round (ring_at rs m) (ring_at rs i)) refl
+        not_first : (m : ℕ) → m < length rs → (encloses (ring_at rs m) (ring_at rs i) && is_before (ring_at rs m) (ring_at rs b)) ≡ false
+        not_first m lm = by (encloses (ring_at rs m) (ring_at rs i)) refl
           where
-            by : (r : Bool) → is_round (ring_at rs m) (ring_at rs i) ≡ r → (r && is_before (ring_at rs m) (ring_at rs b)) ≡ false
+            by : (r : Bool) → encloses (ring_at rs m) (ring_at rs i) ≡ r → (r && is_before (ring_at rs m) (ring_at rs b)) ≡ false
             by true t = h.first m lm t
             by false t = refl
 
-        by_round : (r : Bool) → is_round (ring_at rs k) (ring_at rs i) ≡ r → (k ≡ b → ⊥) → (r && not (list_any (λ (m : Placed). is_round m (ring_at rs i) && is_before m (ring_at rs k)) (placed rs))) ≡ false
+        by_round : (r : Bool) → encloses (ring_at rs k) (ring_at rs i) ≡ r → (k ≡ b → ⊥) → (r && not (list_any (λ (m : Placed). encloses m (ring_at rs i) && is_before m (ring_at rs k)) (placed rs))) ≡ false
         by_round true t differ =
-            ap not (any_one (λ (m : Placed). is_round m (ring_at rs i) && is_before m (ring_at rs k)) rs b h.within (λ j. h.round j && one_before rs k b differ (h.first k l t) j))
+            ap not (any_one (λ (m : Placed). encloses m (ring_at rs i) && is_before m (ring_at rs k)) rs b h.within (λ j. h.enclosing j && one_before rs k b differ (h.first k l t) j))
         by_round false t differ = refl
 
 -- ---- members of a shape

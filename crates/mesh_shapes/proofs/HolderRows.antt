@@ -11,7 +11,8 @@ use Rattle.mesh_plane.proofs.Sums.{sum_of_append}
 use Rattle.mesh_lattice.specs.declared.places.Mark.{Mark}
 use Rattle.mesh_lattice.specs.Marks.{place}
 use Rattle.mesh_shapes.specs.Resolution.{Ring, is_positive}
-use Rattle.mesh_shapes.specs.Private.Grouping.{ring_at, areas_of}
+use Rattle.mesh_shapes.specs.Homes.{ring_at}
+use Rattle.mesh_shapes.specs.Private.Grouping.{areas_of}
 use Rattle.mesh_shapes.specs.Private.Holders.{PlacedEdge, with_place, ring_edges, placed_edges, Rise, winding_of, IsRowOf}
 use Rattle.mesh_lattice.specs.Rows.{reaches_row}
 use Rattle.mesh_shapes.specs.Vectors.{RingVec, rings_of_vecs}

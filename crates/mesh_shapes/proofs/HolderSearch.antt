@@ -9,7 +9,7 @@ use Rattle.mesh_plane.specs.Winding.{crossing_on}
 use Rattle.mesh_plane.proofs.Whole.{linear}
 use Rattle.mesh_shapes.specs.declared.holders.Search.{Search}
 use Rattle.mesh_shapes.specs.Resolution.{Ring, is_before}
-use Rattle.mesh_shapes.specs.Private.Grouping.{ring_at, is_round_at}
+use Rattle.mesh_shapes.specs.Homes.{ring_at, encloses_at}
 use Rattle.mesh_shapes.specs.Private.Holders.{PlacedEdge, Rise, winding_of, IsRowOf, IsSearch}
 use Rattle.mesh_shapes.specs.Private.Progress.{IsFound}
 use Rattle.mesh_shapes.proofs.HolderRows.{gives_none, gives_own, none_below}
@@ -18,21 +18,21 @@ use Rattle.mesh_shapes.proofs.HolderRows.{gives_none, gives_own, none_below}
 
 -- rings that are not round the point change nothing
 pub found_on : (rs : List Ring) (q : Point) (best : Option ℕ) (n m : ℕ) → n ≤ m → IsFound rs n q best
-    → ((k : ℕ) → n ≤ k → k < m → is_round_at rs k q ≡ false) → IsFound rs m q best
+    → ((k : ℕ) → n ≤ k → k < m → encloses_at rs k q ≡ false) → IsFound rs m q best
 found_on rs q None n m le h none = λ (k : ℕ) (l : k < m). by k l (cases_lt k n)
   where
-    by : (k : ℕ) → k < m → (k < n) ⊎ (n ≤ k) → is_round_at rs k q ≡ false
+    by : (k : ℕ) → k < m → (k < n) ⊎ (n ≤ k) → encloses_at rs k q ≡ false
     by k l (inl a) = h k a
     by k l (inr a) = none k a l
 found_on rs q (Some b) n m le h none = record {
   within = omega (arith, h.within);
-  round = h.round;
-  first = λ (k : ℕ) (l : k < m) (t : is_round_at rs k q ≡ true). by k l t (cases_lt k n);
+  enclosing = h.enclosing;
+  first = λ (k : ℕ) (l : k < m) (t : encloses_at rs k q ≡ true). by k l t (cases_lt k n);
 }
   where
-    by : (k : ℕ) → k < m → is_round_at rs k q ≡ true → (k < n) ⊎ (n ≤ k) → is_before (ring_at rs k) (ring_at rs b) ≡ false
+    by : (k : ℕ) → k < m → encloses_at rs k q ≡ true → (k < n) ⊎ (n ≤ k) → is_before (ring_at rs k) (ring_at rs b) ≡ false
     by k l t (inl a) = h.first k a t
-    by k l t (inr a) = absurd (both_ways (is_round_at rs k q) (none k a l) t)
+    by k l t (inr a) = absurd (both_ways (encloses_at rs k q) (none k a l) t)
 
 -- ---- one more edge
 
@@ -61,7 +61,7 @@ search_same rs q row rest e s w same is known = record {
 -- an edge of a later ring: it is known how often the ring before winds round the point, and those between do not
 pub search_next : (rs : List Ring) (q : Point) (row rest : List PlacedEdge) (e : PlacedEdge) (s : Search) (best : Option ℕ) (w : ℤ) (end : ℕ) → length rs ≡ end → s.place < end
     → Rise s.place end (e ∷ rest) → (e.1 ≡ s.place → ⊥) → IsRowOf rs q row → w ≡ crossing_on 2 q e.0.0 e.0.1
-    → (is_round_at rs s.place q ≡ not (int_eq s.winding (pos 0)) → IsFound rs s.place q s.best → IsFound rs (s.place + 1) q best)
+    → (encloses_at rs s.place q ≡ not (int_eq s.winding (pos 0)) → IsFound rs s.place q s.best → IsFound rs (s.place + 1) q best)
     → IsSearch rs q row (e ∷ rest) s → IsSearch rs q row rest (searched best e.1 w)
 search_next rs q row rest e s best w end len low rise apart row_of is better known =
     let next : s.place < e.1 = later s.place e.1 rise.0 apart in
@@ -87,7 +87,7 @@ search_next rs q row rest e s best w end len low rise apart row_of is better kno
 
 -- past the last edge
 pub search_end : (rs : List Ring) (q : Point) (row : List PlacedEdge) (s : Search) (best : Option ℕ) → s.place < length rs → IsRowOf rs q row
-    → (is_round_at rs s.place q ≡ not (int_eq s.winding (pos 0)) → IsFound rs s.place q s.best → IsFound rs (s.place + 1) q best)
+    → (encloses_at rs s.place q ≡ not (int_eq s.winding (pos 0)) → IsFound rs s.place q s.best → IsFound rs (s.place + 1) q best)
     → IsSearch rs q row [] s → IsFound rs (length rs) q best
 search_end rs q row s best low row_of better known =
     let all : s.winding ≡ winding_of q s.place row = omega (arith, linear, known.own) in

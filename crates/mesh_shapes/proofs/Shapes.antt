@@ -8,10 +8,10 @@ use Rattle.std.specs.declared.alloc.Global.{Global}
 use Rattle.std.proofs.lemmas.Bool.{both_ways, eqb-true, eq-eqb}
 use Rattle.std.proofs.lemmas.List.{append-nil, map-append, length-append, length-map, drop_all}
 use Rattle.mesh_plane.specs.Plane.{Point}
-use Rattle.mesh_shapes.specs.Private.Progress.{NoneRound, IsHolder}
+use Rattle.mesh_shapes.specs.Homes.{NoneEncloses, IsHolder, ring_at, placed, IsHome}
 use Rattle.mesh_shapes.specs.Resolution.{Ring, Placed, is_head, shape_of, rings_by_shape, answered}
 use Rattle.mesh_shapes.specs.Vectors.{RingVec, ring_of_vec, rings_of_vecs, shape_points}
-use Rattle.mesh_shapes.specs.Private.Grouping.{ring_at, placed, areas_of, IsHome, contours_at, AreMembers, IsPutHome}
+use Rattle.mesh_shapes.specs.Private.Grouping.{areas_of, contours_at, AreMembers, IsPutHome}
 use Rattle.mesh_shapes.proofs.Groups.{view_at, positive_at, home_alone, home_held, is_member, member_test}
 
 -- ---- one more element of a filtered list
@@ -36,11 +36,11 @@ abbrev pub ShapesTo : List Ring → Bool → ℕ → List (List (List Point)) �
 ShapesTo rs cw h done =
     done ++ map (map (answered cw)) (map (shape_of (placed rs)) (filter (is_head (placed rs)) (enumerate_from h (drop h rs)))) ≡ map (map (answered cw)) (rings_by_shape (placed rs))
 
--- the place of a ring that no ring is round, and of one that a ring is round
-pub home_none : (rs : List RingVec) (i : ℕ) (r : RingVec) → i < length rs → NoneRound (rings_of_vecs rs) (length (rings_of_vecs rs)) (get_or rs i r).1 → IsHome (rings_of_vecs rs) i i
+-- the place of a ring that no ring encloses, and of one that a ring encloses
+pub home_none : (rs : List RingVec) (i : ℕ) (r : RingVec) → i < length rs → NoneEncloses (rings_of_vecs rs) (length (rings_of_vecs rs)) (get_or rs i r).1 → IsHome (rings_of_vecs rs) i i
 home_none rs i r low h =
     home_alone (rings_of_vecs rs) i
-    (subst (λ (q : Point). NoneRound (rings_of_vecs rs) (length (rings_of_vecs rs)) q) (λ j. (sym (view_at rs i r ([], (pos 0, pos 0)) low) j).1) h)
+    (subst (λ (q : Point). NoneEncloses (rings_of_vecs rs) (length (rings_of_vecs rs)) q) (λ j. (sym (view_at rs i r ([], (pos 0, pos 0)) low) j).1) h)
 
 pub home_some : (rs : List RingVec) (areas : List ℤ) (i b : ℕ) (r : RingVec) → areas ≡ areas_of (rings_of_vecs rs) → i < length rs → int_lt (pos 0) (get_or areas i (pos 0)) ≡ false →
     IsHolder (rings_of_vecs rs) (length (rings_of_vecs rs)) (get_or rs i r).1 b → IsHome (rings_of_vecs rs) i b

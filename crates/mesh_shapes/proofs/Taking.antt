@@ -12,7 +12,8 @@ use Rattle.mesh_plane.specs.Plane.{Point}
 use Rattle.mesh_plane.proofs.ClosedLists.{all_left, all_right}
 use Rattle.mesh_shapes.specs.Resolution.{Ring, Placed, is_head, shape_of, answered}
 use Rattle.mesh_shapes.specs.Vectors.{RingVec, ring_of_vec, rings_of_vecs}
-use Rattle.mesh_shapes.specs.Private.Grouping.{ring_at, placed, IsHome, contour_at, contours_at, shape_at, headed, AreMembers, HaveMembers, Stays, OtherRingsStay, AreApart, HaveApart, homed}
+use Rattle.mesh_shapes.specs.Homes.{ring_at, placed, IsHome}
+use Rattle.mesh_shapes.specs.Private.Grouping.{contour_at, contours_at, shape_at, headed, AreMembers, HaveMembers, Stays, OtherRingsStay, AreApart, HaveApart, homed}
 use Rattle.mesh_shapes.proofs.Groups.{head_test}
 use Rattle.mesh_shapes.proofs.Shapes.{filter_step, place_next, ShapesTo}
 

@@ -1,4 +1,5 @@
 pub mod Contours
+pub mod Homes
 pub mod Private
 pub mod Resolution
 pub mod Vectors

@@ -45,8 +45,8 @@ abbrev pub is_positive : Placed → Bool
 is_positive h = int_lt (pos 0) (double_area h.1.0)
 
 -- a ring of positive area that holds the other ring's side point
-abbrev pub is_round : Placed → Placed → Bool
-is_round h r = is_positive h && holds 2 r.1.1 h.1.0
+abbrev pub encloses : Placed → Placed → Bool
+encloses h r = is_positive h && holds 2 r.1.1 h.1.0
 
 -- of less area, or of the same and earlier in the order
 abbrev pub is_before : Placed → Placed → Bool
@@ -54,13 +54,13 @@ is_before h k =
     int_lt (double_area h.1.0) (double_area k.1.0)
     || (int_eq (double_area h.1.0) (double_area k.1.0) && int_lt (pos h.0) (pos k.0))
 
--- rings of positive area head shapes, and those that no ring of positive area is round
+-- rings of positive area head shapes, and those that no ring of positive area encloses
 abbrev pub is_head : List Placed → Placed → Bool
-is_head rings r = is_positive r || not (list_any (λ (h : Placed). is_round h r) rings)
+is_head rings r = is_positive r || not (list_any (λ (h : Placed). encloses h r) rings)
 
--- a ring stands with the first of least area among those that are round it
+-- a ring stands with the first of least area among those that enclose it
 abbrev pub stands_with : List Placed → Placed → Placed → Bool
-stands_with rings h r = is_round h r && not (list_any (λ (k : Placed). is_round k r && is_before k h) rings)
+stands_with rings h r = encloses h r && not (list_any (λ (k : Placed). encloses k r && is_before k h) rings)
 
 -- the rings of the shape that `h` heads: `h`, then those that head no shape and stand with it
 abbrev pub shape_of : List Placed → Placed → List Ring

@@ -7,7 +7,8 @@ ghost use Rattle.std.specs.Option.{ForSome};
 ghost use Rattle.std.specs.Ordering.{int_eq};
 ghost use Rattle.mesh_plane.specs.Plane.{Point};
 ghost use Rattle.mesh_plane.specs.Winding.{boundary};
-ghost use Rattle.mesh_shapes.specs.Private.Grouping.{ring_at, areas_of, is_round_at, is_less_at};
+ghost use Rattle.mesh_shapes.specs.Homes.{ring_at, encloses_at};
+ghost use Rattle.mesh_shapes.specs.Private.Grouping.{areas_of, is_less_at};
 ghost use Rattle.mesh_shapes.specs.Private.Holders.{PlacedEdge, with_place, ring_edges, placed_edges, Rise, IsRowOf};
 ghost use Rattle.mesh_shapes.specs.Private.Holders.{IsSearch};
 ghost use Rattle.mesh_shapes.specs.Private.Progress.{IsFound};
@@ -104,7 +105,7 @@ fn better_holder(areas: &[i128], best: Option<usize>, h: usize, winding: i128) -
     requires in_range { h < length areas.now }
     requires known { ForSome best (λ b. b < length areas.now) }
     ensures found { (rs : List Ring) (q : Point) → areas.now ≡ areas_of rs
-        → is_round_at rs h q ≡ not (int_eq winding (pos 0)) → IsFound rs h q best → IsFound rs (h + 1) q result }
+        → encloses_at rs h q ≡ not (int_eq winding (pos 0)) → IsFound rs h q best → IsFound rs (h + 1) q result }
     ensures within { ForSome result (λ b. b < length areas.now) }
 {
     if winding == 0 {

@@ -20,7 +20,7 @@ use Rattle.mesh_join.proofs.Joins.{padding_covers}
 use Rattle.mesh_stroke.specs.Caps.{drawn_cap, cap_padding}
 use Rattle.mesh_offset.proofs.Padding.{safe_within_less}
 use Rattle.mesh_offset.proofs.ProperEdges.{proper_append, proper_flat_map}
-use Rattle.mesh_offset.specs.Private.Built.{Adds}
+use Rattle.mesh_offset.specs.Built.{Adds}
 use Rattle.mesh_stroke.specs.Building.{IsStrokable}
 use Rattle.mesh_offset.specs.Walks.{pairs}
 use Rattle.mesh_offset.proofs.Walks.{woven_through}

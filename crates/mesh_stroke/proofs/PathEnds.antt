@@ -6,7 +6,7 @@ use Rattle.mesh_num.specs.Rectangle.{IsSafeWidened}
 use Rattle.mesh_num.specs.Segments.{SignedEdge, segments_of}
 use Rattle.mesh_num.specs.Direction.{IsShort}
 use Rattle.mesh_num.proofs.Parts.{direction_fresh, direction_short}
-use Rattle.mesh_join.specs.Private.RoundJoins.{HaveLength}
+use Rattle.mesh_join.specs.Joints.{HaveLength}
 use Rattle.mesh_num.proofs.SegmentLists.{segments_of-append}
 use Rattle.mesh_lattice.specs.Split.{back}
 use Rattle.mesh_arc.specs.declared.arc.ArcDirection.TheVariants.{Counterclockwise}

@@ -19,7 +19,7 @@ use Rattle.mesh_plane.proofs.Whole.{linear}
 use Rattle.mesh_num.specs.Segments.{SignedEdge, IsSubject}
 use Rattle.mesh_lattice.specs.Clean.{IsProper}
 use Rattle.mesh_offset.specs.Adding.{added_edges}
-use Rattle.mesh_offset.specs.Private.Built.{Adds}
+use Rattle.mesh_offset.specs.Built.{Adds}
 use Rattle.mesh_offset.specs.Padding.{IsNear}
 use Rattle.mesh_offset.proofs.Adding.{adds_edges}
 use Rattle.mesh_offset.proofs.Padding.{ends_safe}

@@ -11,7 +11,7 @@ use Rattle.mesh_num.specs.Segments.{SignedEdge}
 use Rattle.mesh_lattice.specs.Clean.{IsProper}
 use Rattle.mesh_lattice.specs.Reach.{AreEdgesSafe}
 use Rattle.mesh_below.specs.Asked.{AreResolvable}
-use Rattle.mesh_offset.specs.Private.Built.{AreBuilt}
+use Rattle.mesh_offset.specs.Built.{AreBuilt}
 use Rattle.mesh_offset.specs.Padding.{ArePathsSafe}
 use Rattle.mesh_offset.proofs.ManyPaths.{built_stays_safe, built_resolvable, built_closed}
 use Rattle.mesh_stroke.specs.Drawn.{AreStroked}

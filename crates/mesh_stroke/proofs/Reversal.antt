@@ -17,7 +17,7 @@ use Rattle.mesh_plane.proofs.Whole.{linear, mul_pos}
 use Rattle.mesh_plane.specs.Turning.{last_of}
 use Rattle.mesh_num.specs.Segments.{SignedEdge, proper_edges}
 use Rattle.mesh_offset.specs.Adding.{added_edges}
-use Rattle.mesh_offset.specs.Private.Built.{Adds}
+use Rattle.mesh_offset.specs.Built.{Adds}
 use Rattle.mesh_offset.proofs.Adding.{adds_edges}
 use Rattle.mesh_num.proofs.Turns.{same_kept, opposite_kept}
 use Rattle.mesh_lattice.specs.Split.{back, same_edge}

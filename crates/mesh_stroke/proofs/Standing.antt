@@ -4,7 +4,7 @@ use Rattle.std.specs.Prelude.{Bool, true, false, ℤ, pos, ◌≤ℤ◌}
 use Rattle.std.specs.List.{All}
 use Rattle.mesh_plane.specs.Plane.{Point, Edge}
 use Rattle.mesh_num.specs.Segments.{SignedEdge, segments_of}
-use Rattle.mesh_offset.specs.Private.Built.{Adds}
+use Rattle.mesh_offset.specs.Built.{Adds}
 use Rattle.mesh_stroke.specs.Building.{IsStrokable}
 use Rattle.mesh_stroke.specs.Caps.{drawn_cap}
 use Rattle.mesh_stroke.specs.Private.Sections.{Section, section_of, own_edge, IsCorner, AreEnds}

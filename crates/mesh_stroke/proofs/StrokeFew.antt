@@ -19,7 +19,7 @@ use Rattle.mesh_stroke.specs.Caps.{CapKind, drawn_cap, draws_directly, has_few_e
 use Rattle.mesh_stroke.specs.Ends.{half_turn, IsEnd}
 use Rattle.mesh_stroke.proofs.CapKinds.{cap_keeps}
 use Rattle.mesh_offset.specs.Adding.{added}
-use Rattle.mesh_offset.specs.Private.Built.{Adds}
+use Rattle.mesh_offset.specs.Built.{Adds}
 use Rattle.mesh_offset.proofs.Drawn.{added_length}
 use Rattle.mesh_stroke.specs.Building.{HasDirectCaps, HasFewCapEdges}
 use Rattle.mesh_offset.specs.Walks.{pairs}

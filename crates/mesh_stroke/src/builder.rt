@@ -8,7 +8,7 @@ ghost use Rattle.mesh_plane.specs.Winding.{IsBalanced};
 ghost use Rattle.mesh_num.specs.Segments.{segments_of, IsSubject};
 ghost use Rattle.mesh_lattice.specs.Reach.{AreEdgesSafe};
 ghost use Rattle.mesh_offset.specs.Adding.{added, added_edges, Keeps};
-ghost use Rattle.mesh_offset.specs.Private.Built.{Adds};
+ghost use Rattle.mesh_offset.specs.Built.{Adds};
 ghost use Rattle.mesh_join.specs.Joins.{HasFew};
 ghost use Rattle.mesh_join.specs.Appending.{HasRoomForEdges};
 ghost use Rattle.mesh_join.specs.declared.style.StrokeSide.TheVariants.{Both};

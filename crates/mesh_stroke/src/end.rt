@@ -23,7 +23,7 @@ pub struct PathEnd<I: IntNumber> {
 
 impl<I: IntNumber> Model for PathEnd<I> {
     ghost use Rattle.mesh_join.specs.Joints.{Joint, joint};
-    ghost use Rattle.mesh_join.specs.Private.RoundJoins.{HaveLength};
+    ghost use Rattle.mesh_join.specs.Joints.{HaveLength};
     ghost use Rattle.mesh_arc.specs.declared.arc.ArcDirection.TheVariants.{Counterclockwise};
 
     ghost Value = { Joint };

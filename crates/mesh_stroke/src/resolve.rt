@@ -2,7 +2,7 @@
 
 ghost use Rattle.std.specs.Prelude.{◌≡◌, IfOk};
 ghost use Rattle.mesh_below.specs.Asked.{AreResolvable};
-ghost use Rattle.mesh_offset.specs.Private.Built.{AreBuilt};
+ghost use Rattle.mesh_offset.specs.Built.{AreBuilt};
 ghost use Rattle.mesh_offset.specs.Padding.{ArePathsSafe};
 ghost use Rattle.mesh_stroke.specs.Strokes.{stroke_edges};
 ghost use Rattle.mesh_stroke.specs.Styles.{stroke_padding, stroke_style_of};

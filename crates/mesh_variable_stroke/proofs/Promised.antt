@@ -17,7 +17,7 @@ use Rattle.mesh_lattice.specs.Clean.{IsProper}
 use Rattle.mesh_arc.specs.declared.arc.ArcOptions.{ArcOptions}
 use Rattle.mesh_join.specs.VariableStyles.{Vertex}
 use Rattle.mesh_offset.specs.Adding.{added_edges}
-use Rattle.mesh_offset.specs.Private.Built.{Adds}
+use Rattle.mesh_offset.specs.Built.{Adds}
 use Rattle.mesh_offset.specs.Padding.{IsNear}
 use Rattle.mesh_offset.proofs.Adding.{adds_edges}
 use Rattle.mesh_offset.proofs.Padding.{ends_safe}

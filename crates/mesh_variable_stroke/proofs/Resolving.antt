@@ -11,7 +11,7 @@ use Rattle.mesh_lattice.specs.Reach.{AreEdgesSafe}
 use Rattle.mesh_below.specs.Asked.{AreResolvable}
 use Rattle.mesh_arc.specs.declared.arc.ArcOptions.{ArcOptions}
 use Rattle.mesh_join.specs.VariableStyles.{Vertex}
-use Rattle.mesh_offset.specs.Private.Built.{AreBuilt}
+use Rattle.mesh_offset.specs.Built.{AreBuilt}
 use Rattle.mesh_offset.proofs.ManyPaths.{built_stays_safe, built_resolvable, built_closed}
 use Rattle.mesh_variable_stroke.specs.Drawn.{AreVariablyStroked}
 use Rattle.mesh_variable_stroke.specs.VariableStrokes.{variable_stroke_edges}

@@ -13,7 +13,7 @@ use Rattle.mesh_plane.specs.Winding.{same_point}
 use Rattle.mesh_num.specs.Segments.{SignedEdge, segments_of, edges_of, edge_of}
 use Rattle.mesh_arc.specs.declared.arc.ArcOptions.{ArcOptions}
 use Rattle.mesh_join.specs.VariableStyles.{Vertex}
-use Rattle.mesh_offset.specs.Private.Built.{Adds}
+use Rattle.mesh_offset.specs.Built.{Adds}
 use Rattle.mesh_offset.specs.Radii.{radius_of}
 use Rattle.mesh_offset.proofs.Drawn.{added_length}
 use Rattle.mesh_circle.specs.Sweeps.{circle_edges}

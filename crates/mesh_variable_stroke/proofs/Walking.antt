@@ -12,7 +12,7 @@ use Rattle.mesh_num.proofs.Subjects.{segments_of_subjects}
 use Rattle.mesh_num.proofs.SegmentLists.{edges_of_segments, segments_of-append}
 use Rattle.mesh_arc.specs.declared.arc.ArcOptions.{ArcOptions}
 use Rattle.mesh_join.specs.VariableStyles.{Vertex}
-use Rattle.mesh_offset.specs.Private.Built.{Adds}
+use Rattle.mesh_offset.specs.Built.{Adds}
 use Rattle.mesh_offset.proofs.Adding.{keeps_through}
 use Rattle.mesh_circle.specs.Sweeps.{circle_edges}
 use Rattle.mesh_circle.specs.Sections.{Circle, Section, IsSafeCircle}

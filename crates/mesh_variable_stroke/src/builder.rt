@@ -7,7 +7,7 @@ ghost use Rattle.mesh_plane.specs.Winding.{IsBalanced};
 ghost use Rattle.mesh_num.specs.Segments.{IsSubject};
 ghost use Rattle.mesh_lattice.specs.Reach.{AreEdgesSafe};
 ghost use Rattle.mesh_offset.specs.Adding.{added, added_edges, Keeps};
-ghost use Rattle.mesh_offset.specs.Private.Built.{Adds};
+ghost use Rattle.mesh_offset.specs.Built.{Adds};
 ghost use Rattle.mesh_offset.specs.Padding.{AreEndsNear};
 ghost use Rattle.mesh_offset.specs.Pieces.{WindAsPieces};
 ghost use Rattle.mesh_variable_stroke.specs.Drawn.{vertex_points, greatest_radius, AreStrokable};

@@ -2,7 +2,7 @@
 
 ghost use Rattle.std.specs.Prelude.{◌≡◌, IfOk};
 ghost use Rattle.mesh_below.specs.Asked.{AreResolvable};
-ghost use Rattle.mesh_offset.specs.Private.Built.{AreBuilt};
+ghost use Rattle.mesh_offset.specs.Built.{AreBuilt};
 ghost use Rattle.mesh_variable_stroke.specs.VariableStrokes.{variable_stroke_edges};
 ghost use Rattle.mesh_variable_stroke.specs.Staying.{StaysSafe};
 ghost use Rattle.mesh_variable_stroke.specs.Strokable.{ArePathsStrokable};

@@ -1,9 +1,7 @@
 -- What the steps of a round join know: only private contracts read this.
-use Rattle.std.specs.Prelude.{ℕ, ◌≢◌, ◌*◌, List, map}
-use Rattle.mesh_plane.specs.Bounds.{IsSafe}
-use Rattle.mesh_plane.specs.Plane.{Point, Edge, minus}
+use Rattle.std.specs.Prelude.{ℕ, List, map}
+use Rattle.mesh_plane.specs.Plane.{Point, Edge}
 use Rattle.mesh_plane.specs.Winding.{route}
-use Rattle.mesh_num.specs.Direction.{IsShort}
 use Rattle.mesh_arc.specs.declared.arc.ArcOptions.{ArcOptions}
 use Rattle.mesh_join.specs.Joints.{Joint}
 use Rattle.mesh_join.specs.RoundJoins.{arc_point, used, round_points}
@@ -12,16 +10,6 @@ use Rattle.mesh_join.specs.RoundJoins.{arc_point, used, round_points}
 abbrev pub round_edges : ArcOptions → ℕ → Joint → List Edge
 round_edges options unit j = route j.first (round_points options unit j) j.last
 
--- two points that have a direction from one to the other
-pub record IsApart (unit : ℕ) (center point : Point) : Type 0 where
-  pub safe : IsSafe (2 * unit) (minus point center)
-  pub differ : point ≢ center
-
 -- the points that these directions give past `last`: those of them that are used
 abbrev pub used_past : ℕ → Joint → Point → List Point → List Point
 used_past unit j last directions = used j last (map (arc_point unit j) directions)
-
--- two directions are no longer than directions are
-pub record HaveLength (unit : ℕ) (incoming outgoing : Point) : Type 0 where
-  pub incoming_short : IsShort unit incoming
-  pub outgoing_short : IsShort unit outgoing

@@ -11,7 +11,7 @@ use Rattle.mesh_below.specs.Answers.{AreOwnBoundary, IsSettled}
 use Rattle.mesh_below.specs.Options.{plain}
 use Rattle.mesh_join.specs.Styles.{OffsetJoin, OutlineStyle}
 use Rattle.mesh_offset.specs.Adding.{in_sense, answer_edges}
-use Rattle.mesh_offset.specs.Private.Built.{AddsClosed}
+use Rattle.mesh_offset.specs.Built.{AddsClosed}
 use Rattle.mesh_outline.specs.Resolved.{IsAnswerAlone, Gives, Give}
 
 -- the vector `new` holds what `old` held, and then the segments of these edges, as they are given in this sense

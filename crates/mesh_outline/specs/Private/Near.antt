@@ -12,7 +12,7 @@ use Rattle.mesh_below.specs.Options.{plain}
 use Rattle.mesh_join.specs.Styles.{OffsetJoin, OutlineStyle}
 use Rattle.mesh_offset.specs.Adding.{in_sense, answer_edges}
 use Rattle.mesh_offset.specs.Counting.{CountsStanding}
-use Rattle.mesh_offset.specs.Private.Built.{AddsClosed}
+use Rattle.mesh_offset.specs.Built.{AddsClosed}
 use Rattle.mesh_outline.specs.Nearness.{GivesNear, GiveNear, IsOutlineDrawing, drawn_of, first_splits}
 use Rattle.mesh_outline.specs.Outline.{outline_edges}
 

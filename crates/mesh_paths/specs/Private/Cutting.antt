@@ -3,7 +3,7 @@ use Rattle.std.specs.Prelude.{ℕ, ◌≡◌, ◌<◌, ◌≤◌, ◌⊎◌, fal
 use Rattle.mesh_plane.specs.Plane.{Point}
 use Rattle.mesh_lattice.specs.Clean.{IsProper}
 use Rattle.mesh_lattice.specs.Split.{is_end, occurs, split_by, EdgeSplit, IsInBox}
-use Rattle.mesh_points.specs.Private.Chains.{IsSearched}
+use Rattle.mesh_points.specs.Chains.{IsSearched}
 use Rattle.mesh_points.specs.Points.{IsNumberOf}
 use Rattle.mesh_paths.specs.declared.paths.Paths.{Paths}
 use Rattle.mesh_paths.specs.declared.stops.Stop.{Stop}

@@ -1,7 +1,7 @@
 -- The paths through points, and what stands in the lists of them.
 use Rattle.std.specs.Prelude.{ℕ, ◌≡◌, ◌<◌, ◌≤◌, ◌+◌, List, length, slice_index_or}
 use Rattle.mesh_points.specs.Points.{AreDistinct, IsNumberOf}
-use Rattle.mesh_points.specs.Private.Chains.{AreChained}
+use Rattle.mesh_points.specs.Chains.{AreChained}
 use Rattle.mesh_paths.specs.declared.through.Pass.{Pass}
 use Rattle.mesh_paths.specs.declared.through.Through.{Through}
 use Rattle.mesh_paths.specs.declared.paths.Paths.{Paths}

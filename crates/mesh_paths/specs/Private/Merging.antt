@@ -4,8 +4,8 @@ use Rattle.mesh_plane.specs.Plane.{Point, Edge}
 use Rattle.mesh_lattice.specs.Counted.{along, Counted}
 use Rattle.mesh_lattice.specs.Split.{same_ends}
 use Rattle.mesh_points.specs.Edges.{counted, edge_at}
-use Rattle.mesh_points.specs.Private.Chains.{AreChained}
-use Rattle.mesh_points.specs.Private.Merged.{link_in, start_in, AreFiled}
+use Rattle.mesh_points.specs.Chains.{AreChained}
+use Rattle.mesh_points.specs.Merged.{link_in, start_in, AreFiled}
 use Rattle.mesh_paths.specs.declared.paths.Paths.{Paths}
 use Rattle.mesh_paths.specs.declared.pieces.Pieces.{Pieces}
 use Rattle.mesh_paths.specs.Pieces.{alike, segments_of, AreMergedOf}

@@ -4,7 +4,7 @@ use Rattle.std.specs.Prelude.{◌-ℤ◌, unsigned_abs}
 use Rattle.mesh_plane.specs.Plane.{Point}
 use Rattle.mesh_points.specs.declared.points.Entry.{Entry}
 use Rattle.mesh_points.specs.Points.{AreDistinct}
-use Rattle.mesh_points.specs.Private.Chains.{AreChained}
+use Rattle.mesh_points.specs.Chains.{AreChained}
 
 -- a coordinate, counted from the least on
 unfoldable pub shifted : ℤ → ℕ

@@ -1,37 +1,19 @@
 -- Where each ring belongs: its place, its area, and the ring with which it stands.
-use Rattle.std.specs.Prelude.{ℕ, ◌≡◌, ◌≢◌, ◌<◌, Bool, true, false, ◌&&◌, List, [], map, length, slice_index_or, nat_eq}
+use Rattle.std.specs.Prelude.{ℕ, ◌≡◌, ◌≢◌, ◌<◌, Bool, List, [], map, length, slice_index_or, nat_eq}
 use Rattle.std.specs.Prelude.{ℤ, pos}
-use Rattle.std.specs.List.{All, AllPairs, enumerate_from}
+use Rattle.std.specs.List.{All, AllPairs}
 use Rattle.mesh_plane.specs.Plane.{Point}
-use Rattle.mesh_plane.specs.Winding.{holds}
 use Rattle.mesh_shapes.specs.Contours.{double_area}
-use Rattle.mesh_shapes.specs.Resolution.{Ring, Placed, is_positive, is_head, stands_with}
+use Rattle.mesh_shapes.specs.Homes.{ring_at, placed, IsHome}
+use Rattle.mesh_shapes.specs.Resolution.{Ring, is_head}
 use Rattle.std.specs.Prelude.{cond, not, int_lt, ◌∷◌, ◌++◌, Vec}
 use Rattle.std.specs.declared.alloc.Global.{Global}
 use Rattle.mesh_shapes.specs.Resolution.{shape_of, rings_by_shape, answered}
 use Rattle.mesh_shapes.specs.Vectors.{RingVec, rings_of_vecs}
 
--- the ring at a place, with that place
-abbrev pub ring_at : List Ring → ℕ → Placed
-ring_at rs i = (i, slice_index_or rs i ([], (pos 0, pos 0)))
-
--- rings, each with its place
-abbrev pub placed : List Ring → List Placed
-placed rs = enumerate_from 0 rs
-
 -- the double areas of rings
 abbrev pub areas_of : List Ring → List ℤ
 areas_of rs = map (λ (r : Ring). double_area r.0) rs
-
--- a ring of positive area that holds the point `q`
-abbrev pub is_round_at : List Ring → ℕ → Point → Bool
-is_round_at rs h q = is_positive (ring_at rs h) && holds 2 q (ring_at rs h).1.0
-
--- the ring at `i` stands with that at `h`, which is its own place where it heads a shape
-pub data IsHome (rs : List Ring) (i h : ℕ) : Type 0 where
-  heads : is_head (placed rs) (ring_at rs i) ≡ true → h ≡ i → IsHome rs i h
-  stands : is_head (placed rs) (ring_at rs i) ≡ false → (h ≡ i → ⊥)
-      → ((k : ℕ) → k < length rs → stands_with (placed rs) (ring_at rs k) (ring_at rs i) ≡ nat_eq k h) → IsHome rs i h
 
 -- the ring at each place stands with that at the place which the list has for it
 abbrev pub AreHomes : List RingVec → List ℕ → Type 0

@@ -5,7 +5,7 @@ use Rattle.std.specs.Ordering.{int_eq}
 use Rattle.mesh_plane.specs.Plane.{Point, Edge}
 use Rattle.mesh_plane.specs.Winding.{boundary, crossing_on, sum_of}
 use Rattle.mesh_shapes.specs.declared.holders.Search.{Search}
-use Rattle.mesh_shapes.specs.Private.Grouping.{placed, is_round_at}
+use Rattle.mesh_shapes.specs.Homes.{placed, encloses_at}
 use Rattle.mesh_shapes.specs.Private.Progress.{IsFound}
 use Rattle.mesh_shapes.specs.Resolution.{Ring, Placed, is_positive}
 
@@ -36,7 +36,7 @@ winding_of q h es = sum_of (λ (e : PlacedEdge). cond (nat_eq e.1 h) (crossing_o
 
 -- the row of a point tells which rings are round it
 abbrev pub IsRowOf : List Ring → Point → List PlacedEdge → Type 0
-IsRowOf rs q row = (k : ℕ) → k < length rs → is_round_at rs k q ≡ not (int_eq (winding_of q k row) (pos 0))
+IsRowOf rs q row = (k : ℕ) → k < length rs → encloses_at rs k q ≡ not (int_eq (winding_of q k row) (pos 0))
 
 -- where a search along a row has still to go through `rest`, it knows the holder among the rings before the one whose
 -- edges it meets, and how often the edges of that one wind round the point so far

@@ -5,8 +5,8 @@ use Rattle.mesh_plane.specs.Plane.{Point}
 use Rattle.mesh_plane.specs.Order.{point_lt}
 use Rattle.mesh_plane.specs.Turning.{first_or}
 use Rattle.mesh_shapes.specs.Contours.{kept, omitted}
-use Rattle.mesh_shapes.specs.Private.Grouping.{ring_at, is_round_at}
-use Rattle.mesh_shapes.specs.Resolution.{Ring, is_before}
+use Rattle.mesh_shapes.specs.Homes.{NoneEncloses, IsHolder}
+use Rattle.mesh_shapes.specs.Resolution.{Ring}
 
 -- the point at a place of a list
 abbrev pub point_at : List Point → ℕ → Point
@@ -32,19 +32,9 @@ pub record IsLeastBefore (ps : List Point) (n least : ℕ) : Type 0 where
   pub within : least < length ps
   pub none_less : (k : ℕ) → k < n → point_lt (point_at ps k) (point_at ps least) ≡ false
 
--- no ring of the first `n` is round the point
-abbrev pub NoneRound : List Ring → ℕ → Point → Type 0
-NoneRound rs n q = (k : ℕ) → k < n → is_round_at rs k q ≡ false
-
--- of the first `n` rings that are round the point the one at `b` is of least area, and first
-pub record IsHolder (rs : List Ring) (n : ℕ) (q : Point) (b : ℕ) : Type 0 where
-  pub within : b < n
-  pub round : is_round_at rs b q ≡ true
-  pub first : (k : ℕ) → k < n → is_round_at rs k q ≡ true → is_before (ring_at rs k) (ring_at rs b) ≡ false
-
 -- what a search among the first `n` rings for the holder of the point has found
 abbrev pub IsFound : List Ring → ℕ → Point → Option ℕ → Type 0
-IsFound rs n q best = MatchOption best (NoneRound rs n q) (IsHolder rs n q)
+IsFound rs n q best = MatchOption best (NoneEncloses rs n q) (IsHolder rs n q)
 
 -- the point after the place `i`, the first after the last
 abbrev pub point_after : List Point → ℕ → Point

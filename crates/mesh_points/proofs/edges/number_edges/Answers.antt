@@ -4,7 +4,7 @@ use Rattle.std.specs.declared.alloc.Global.{Global}
 use Rattle.mesh_plane.specs.Plane.{Point, Edge}
 use Rattle.mesh_points.specs.declared.edges.NumberedEdge.{NumberedEdge}
 use Rattle.mesh_points.specs.Points.{IsNumberOf}
-use Rattle.mesh_points.specs.Private.Merged.{AreOf}
+use Rattle.mesh_points.specs.Merged.{AreOf}
 use Rattle.mesh_points.proofs.Merging.{counts_small, given_more, given_proper}
 use Rattle.mesh_points.proofs.edges.number_edges.Goals as goal
 

@@ -1,6 +1,6 @@
 use Rattle.std.proofs.Common.{take}
 use Rattle.mesh_points.specs.Points.{IsNumberOf}
-use Rattle.mesh_points.specs.Private.Merged.{IsMerged}
+use Rattle.mesh_points.specs.Merged.{IsMerged}
 use Rattle.mesh_points.proofs.edges.number_edges.Given as goal
 
 abbrev pub invariant-loop-e : goal.invariant-loop-e

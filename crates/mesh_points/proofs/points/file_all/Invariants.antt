@@ -1,5 +1,5 @@
 use Rattle.std.proofs.Common.{◌≡◌, length}
-use Rattle.mesh_points.specs.Private.Chains.{AreChained}
+use Rattle.mesh_points.specs.Chains.{AreChained}
 use Rattle.mesh_points.specs.Private.Filed.{before_in, list_in, points_in}
 use Rattle.mesh_points.proofs.points.file_all.Given as goal
 

@@ -5,7 +5,8 @@ use Rattle.mesh_lattice.specs.Rows.{AreRows}
 use Rattle.mesh_shapes.specs.Contours.{double_area}
 use Rattle.mesh_shapes.specs.Resolution.{Ring}
 use Rattle.mesh_shapes.specs.Vectors.{ring_of_vec, rings_of_vecs}
-use Rattle.mesh_shapes.specs.Private.Grouping.{areas_of, IsHome}
+use Rattle.mesh_shapes.specs.Homes.{IsHome}
+use Rattle.mesh_shapes.specs.Private.Grouping.{areas_of}
 use Rattle.mesh_shapes.specs.Private.Holders.{PlacedEdge}
 use Rattle.mesh_shapes.proofs.Shapes.{known_more}
 use Rattle.mesh_shapes.proofs.arrange.homes.Goals as goal

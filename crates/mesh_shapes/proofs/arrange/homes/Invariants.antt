@@ -1,7 +1,7 @@
 use Rattle.std.proofs.Common.{◌≡◌, ℕ, ◌<◌, length}
 use Rattle.std.specs.Prelude.{slice_index_or}
 use Rattle.mesh_shapes.specs.Vectors.{rings_of_vecs}
-use Rattle.mesh_shapes.specs.Private.Grouping.{IsHome}
+use Rattle.mesh_shapes.specs.Homes.{IsHome}
 use Rattle.mesh_shapes.proofs.arrange.homes.Given as goal
 
 abbrev pub invariant-loop-i : goal.invariant-loop-i

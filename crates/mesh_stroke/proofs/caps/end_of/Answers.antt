@@ -3,7 +3,7 @@ use Rattle.std.proofs.Common.{◌∙◌, sym, subst}
 use Rattle.mesh_plane.specs.Plane.{Point, opposite}
 use Rattle.mesh_arc.specs.declared.arc.ArcDirection.TheVariants.{Counterclockwise}
 use Rattle.mesh_join.specs.Joints.{joint}
-use Rattle.mesh_join.specs.Private.RoundJoins.{HaveLength}
+use Rattle.mesh_join.specs.Joints.{HaveLength}
 use Rattle.mesh_stroke.specs.Private.Sections.{Section, IsMade}
 use Rattle.mesh_stroke.proofs.PathEnds.{end_is, end_short}
 use Rattle.mesh_stroke.proofs.caps.end_of.Goals as goal

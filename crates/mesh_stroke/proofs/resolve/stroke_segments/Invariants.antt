@@ -1,6 +1,6 @@
 -- What the paths so far give.
 use Rattle.std.proofs.Common.{◌≡◌, take}
-use Rattle.mesh_offset.specs.Private.Built.{AreBuilt}
+use Rattle.mesh_offset.specs.Built.{AreBuilt}
 use Rattle.mesh_stroke.specs.Strokes.{stroke_edges}
 use Rattle.mesh_stroke.specs.Styles.{stroke_style_of}
 use Rattle.mesh_stroke.proofs.resolve.stroke_segments.Given as goal

@@ -4,7 +4,7 @@ use Rattle.std.specs.Prelude.{ℤ}
 use Rattle.std.proofs.lemmas.Result.{on_ok_weaker}
 use Rattle.mesh_plane.specs.Plane.{Point, Edge}
 use Rattle.mesh_num.specs.Segments.{segments_of}
-use Rattle.mesh_join.specs.Private.RoundJoins.{IsApart}
+use Rattle.mesh_join.specs.Joints.{IsApart}
 use Rattle.mesh_circle.specs.Sweeps.{east_of, west_of, polyline_edges}
 use Rattle.mesh_join.proofs.Drawing.{appends_both}
 use Rattle.mesh_circle.proofs.Swept.{east_safe, west_safe, east_seen, west_seen}

@@ -7,7 +7,7 @@ use Rattle.mesh_offset.proofs.Adding.{added_is, adds_edges}
 use Rattle.mesh_outline.proofs.BuilderRoom.{room_of_four}
 use Rattle.mesh_join.specs.Joins.{HasFew}
 use Rattle.mesh_join.specs.Styles.{OffsetJoin}
-use Rattle.mesh_offset.specs.Private.Built.{Adds}
+use Rattle.mesh_offset.specs.Built.{Adds}
 use Rattle.mesh_outline.specs.Building.{IsMovable}
 use Rattle.mesh_outline.specs.Outline.{outline_edges}
 use Rattle.mesh_outline.proofs.BuilderTheorems.{adds_few, adds_promised, adds_safe, adds_winding}

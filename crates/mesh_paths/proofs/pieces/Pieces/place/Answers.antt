@@ -2,8 +2,8 @@ use Rattle.std.proofs.Common.{◌≡◌, ℕ, ◌-◌, ◌<◌, List, length, re
 use Rattle.std.proofs.lemmas.List.{get_or_read_under}
 use Rattle.mesh_points.specs.declared.edges.NumberedEdge.{NumberedEdge}
 use Rattle.mesh_points.specs.Edges.{edge_at, no_edge}
-use Rattle.mesh_points.specs.Private.Chains.{IsSearched}
-use Rattle.mesh_points.specs.Private.Merged.{link_in, start_in}
+use Rattle.mesh_points.specs.Chains.{IsSearched}
+use Rattle.mesh_points.specs.Merged.{link_in, start_in}
 use Rattle.mesh_points.proofs.Chains.{search_goes_on}
 use Rattle.mesh_paths.proofs.pieces.Pieces.place.Goals as goal
 

@@ -3,7 +3,7 @@ use Rattle.std.specs.Prelude.{unsigned_abs}
 use Rattle.std.proofs.lemmas.List.{get_or_read_under}
 use Rattle.mesh_points.specs.declared.edges.NumberedEdge.{NumberedEdge}
 use Rattle.mesh_points.specs.Edges.{edge_at, no_edge, IsPlaceOf}
-use Rattle.mesh_points.specs.Private.Merged.{AreOf}
+use Rattle.mesh_points.specs.Merged.{AreOf}
 use Rattle.mesh_points.proofs.Counting.{sum_fits}
 use Rattle.mesh_points.proofs.Merging.{added_raised, added_to, filed_raised, of_new, of_raised, put_filed, IsPutLast}
 use Rattle.mesh_points.proofs.edges.Merger.add.Goals as goal

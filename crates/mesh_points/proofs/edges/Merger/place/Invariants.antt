@@ -1,7 +1,7 @@
 use Rattle.std.proofs.Common.{◌≡◌, ℕ, length}
 use Rattle.mesh_points.specs.Edges.{edge_at}
-use Rattle.mesh_points.specs.Private.Chains.{IsSearched}
-use Rattle.mesh_points.specs.Private.Merged.{start_in}
+use Rattle.mesh_points.specs.Chains.{IsSearched}
+use Rattle.mesh_points.specs.Merged.{start_in}
 use Rattle.mesh_points.proofs.edges.Merger.place.Given as goal
 
 abbrev pub invariant-loop-left : goal.invariant-loop-left

@@ -3,7 +3,7 @@ use Rattle.std.proofs.lemmas.Bool.{both_ways}
 use Rattle.std.proofs.lemmas.List.{get_or_read_under}
 use Rattle.mesh_plane.proofs.Comparing.{decides_point}
 use Rattle.mesh_points.specs.declared.points.Entry.{Entry}
-use Rattle.mesh_points.specs.Private.Chains.{IsSearched}
+use Rattle.mesh_points.specs.Chains.{IsSearched}
 use Rattle.mesh_points.specs.Private.Filed.{before_in, list_in, list_of, no_entry}
 use Rattle.mesh_points.proofs.Chains.{search_goes_on}
 use Rattle.mesh_points.proofs.Numbers.{new_in, pushed}

@@ -1,6 +1,6 @@
 use Rattle.std.proofs.Common.{◌≡◌, ℕ, length}
 use Rattle.std.specs.Prelude.{slice_index_or}
-use Rattle.mesh_points.specs.Private.Chains.{IsSearched}
+use Rattle.mesh_points.specs.Chains.{IsSearched}
 use Rattle.mesh_points.specs.Private.Filed.{list_in, no_entry}
 use Rattle.mesh_points.proofs.points.Points.number.Given as goal
 

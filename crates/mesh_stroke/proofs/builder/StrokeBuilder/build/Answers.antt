@@ -5,7 +5,7 @@ use Rattle.std.specs.List.{All}
 use Rattle.std.proofs.lemmas.Bool.{false≢true}
 use Rattle.mesh_num.specs.Segments.{SignedEdge, IsSubject}
 use Rattle.mesh_join.specs.Joins.{HasFew}
-use Rattle.mesh_offset.specs.Private.Built.{Adds}
+use Rattle.mesh_offset.specs.Built.{Adds}
 use Rattle.mesh_offset.proofs.Adding.{added_is, adds_edges}
 use Rattle.mesh_stroke.specs.Building.{HasDirectCaps}
 use Rattle.mesh_stroke.specs.Strokes.{stroke_edges}

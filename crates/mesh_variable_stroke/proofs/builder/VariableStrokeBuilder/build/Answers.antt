@@ -3,7 +3,7 @@ use Rattle.std.proofs.Common.{List, sym, subst, ◌∙◌}
 use Rattle.std.specs.List.{All}
 use Rattle.mesh_num.specs.Segments.{SignedEdge, IsSubject}
 use Rattle.mesh_arc.specs.declared.arc.ArcOptions.{ArcOptions}
-use Rattle.mesh_offset.specs.Private.Built.{Adds}
+use Rattle.mesh_offset.specs.Built.{Adds}
 use Rattle.mesh_offset.proofs.Adding.{added_is, adds_edges}
 use Rattle.mesh_variable_stroke.specs.VariableStrokes.{variable_stroke_edges}
 use Rattle.mesh_variable_stroke.proofs.Promised.{adds_stroked}

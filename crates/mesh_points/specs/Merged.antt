@@ -6,7 +6,7 @@ use Rattle.mesh_points.specs.declared.edges.NumberedEdge.{NumberedEdge}
 use Rattle.mesh_points.specs.declared.edges.Merger.{Merger}
 use Rattle.mesh_points.specs.Edges.{counted, edge_at, AreNumbered}
 use Rattle.mesh_points.specs.Points.{AreDistinct}
-use Rattle.mesh_points.specs.Private.Chains.{AreChained}
+use Rattle.mesh_points.specs.Chains.{AreChained}
 
 -- the link of an edge
 abbrev pub link_in : List ℕ → ℕ → ℕ
