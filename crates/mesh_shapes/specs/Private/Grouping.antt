@@ -1,5 +1,5 @@
 -- Where each ring belongs: its place, its area, and the ring with which it stands.
-use Rattle.std.specs.Prelude.{ℕ, ◌≡◌, ◌≢◌, ◌<◌, Bool, List, [], map, length, slice_index_or, nat_eq}
+use Rattle.std.specs.Prelude.{ℕ, ◌≡◌, ◌≢◌, ◌<◌, Bool, ◌&&◌, List, [], map, length, slice_index_or, nat_eq}
 use Rattle.std.specs.Prelude.{ℤ, pos}
 use Rattle.std.specs.List.{All, AllPairs}
 use Rattle.mesh_plane.specs.Plane.{Point}
