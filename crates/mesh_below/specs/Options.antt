@@ -3,6 +3,7 @@ use Rattle.std.specs.Prelude.{ℕ, Bool, true, false}
 use Rattle.mesh_below.specs.declared.below.ContourDirection.{ContourDirection}
 use Rattle.mesh_below.specs.declared.below.ContourDirection.TheVariants.{CounterClockwise, Clockwise}
 use Rattle.mesh_below.specs.declared.below.IntOverlayOptions.{IntOverlayOptions}
+use Rattle.mesh_below.specs.declared.resolve.Choices as resolving
 use Rattle.mesh_shapes.specs.Resolution.{Choices}
 
 -- whether contours run clockwise
@@ -17,6 +18,10 @@ choices_of value options = record {
   all_vertices = options.preserve_output_collinear;
   clockwise = is_clockwise options.output_direction;
 }
+
+-- the choices that a resolving is given
+abbrev pub chosen : resolving.Choices → Choices
+chosen c = record { least_area = c.least_area; all_vertices = c.all_vertices; clockwise = c.clockwise }
 
 -- the default options: no least area, no straight-through vertices, counterclockwise
 abbrev pub plain : Choices

@@ -14,7 +14,7 @@ ghost use Rattle.mesh_below.specs.Answers.{AreOwnBoundary, IsSettled};
 ghost use Rattle.mesh_below.specs.Asked.{AreResolvable};
 ghost use Rattle.mesh_below.specs.Laws.{AreRegions};
 ghost use Rattle.mesh_below.specs.Private.OverlayAnswers.{IsOverlayAnswer};
-ghost use Rattle.mesh_below.specs.Options.{choices_of, plain};
+ghost use Rattle.mesh_below.specs.Options.{choices_of, chosen, plain};
 ghost use Rattle.mesh_lattice.specs.Reach.{AreEdgesSafe, ArePointsSafe};
 ghost use Rattle.mesh_shapes.specs.Resolution.{IsResolution};
 
@@ -236,12 +236,7 @@ impl<I: IntNumber> Overlay<I> {
 
     /// The options, as the resolving takes them.
     pub(crate) fn choices(&self) -> Choices
-        ensures { (record {
-          least_area = result.least_area;
-          all_vertices = result.all_vertices;
-          clockwise = result.clockwise;
-        })
-            ≡ choices_of I.WideUInt.value self.now.options }
+        ensures { chosen result ≡ choices_of I.WideUInt.value self.now.options }
     {
         choices_for::<I>(self.options)
     }
@@ -249,12 +244,7 @@ impl<I: IntNumber> Overlay<I> {
 
 /// Options, as the resolving takes them.
 fn choices_for<I: IntNumber>(options: IntOverlayOptions<I::WideUInt>) -> Choices
-    ensures { (record {
-      least_area = result.least_area;
-      all_vertices = result.all_vertices;
-      clockwise = result.clockwise;
-    })
-        ≡ choices_of I.WideUInt.value options }
+    ensures { chosen result ≡ choices_of I.WideUInt.value options }
 {
     Choices {
         least_area: I::uint_to_u128(options.min_output_area) as u64,

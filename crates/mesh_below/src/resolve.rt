@@ -12,6 +12,7 @@ ghost use Rattle.mesh_lattice.specs.FillRules.{filled};
 ghost use Rattle.mesh_lattice.specs.declared.fill.FillRule.TheVariants.{Positive};
 ghost use Rattle.mesh_below.specs.Answers.{AreOwnBoundary, IsSettled};
 ghost use Rattle.mesh_below.specs.Nearness.{IsCountedResolution};
+ghost use Rattle.mesh_below.specs.Options.{chosen};
 ghost use Rattle.mesh_below.specs.Private.Resolving.{ResolvesBy};
 ghost use Rattle.mesh_below.specs.Private.Rings.{AreRingsOf, PushesRing};
 ghost use Rattle.mesh_split.specs.Counting.{CountsSplits, IsPastLimit, IsWithinLimit};
@@ -148,10 +149,10 @@ pub fn resolve(
     requires proper { IsProper edges.now }
     requires balanced { IsBalanced edges.now }
     ensures resolution { IfOk result (λ v. IsResolution edges.now (filled fill)
-        (record { least_area = choices.least_area; all_vertices = choices.all_vertices; clockwise = choices.clockwise })
+        (chosen choices)
         (shapes_points v.shapes.items)) }
     ensures settled { IfOk result (λ v. v.is_settled ≡ true → IsSettled
-        (record { least_area = choices.least_area; all_vertices = choices.all_vertices; clockwise = choices.clockwise })
+        (chosen choices)
         (shapes_points v.shapes.items)) }
     ensures own_boundary { IfOk result (λ v. v.is_own_boundary ≡ true
         → AreOwnBoundary (flat_map boundary (contours_of (shapes_points v.shapes.items)))) }
@@ -172,7 +173,7 @@ pub fn resolve_with_nearness(
     requires proper { IsProper edges.now }
     requires balanced { IsBalanced edges.now }
     ensures resolution { IfOk result (λ v. IsCountedResolution v.nearness edges.now (filled fill)
-        (record { least_area = choices.least_area; all_vertices = choices.all_vertices; clockwise = choices.clockwise })
+        (chosen choices)
         (shapes_points v.shapes.items) count.old count.new) }
     ensures small { IfOk result (λ v. v.nearness ≤ 2 ^ 38) }
     ensures counted { CountsSplits edges.now count.old count.new }
@@ -214,10 +215,10 @@ fn shapes_of_segments(
     requires room { IsRoomy (sum_of size segments.now) }
     ensures resolution { IfOk result (λ v. (s : IsSplitting edges.now segments.now) → ResolvesBy s.splits edges.now
         (filled fill)
-        (record { least_area = choices.least_area; all_vertices = choices.all_vertices; clockwise = choices.clockwise })
+        (chosen choices)
         (shapes_points v.shapes.items)) }
     ensures settled { IfOk result (λ v. v.is_settled ≡ true → IsSettled
-        (record { least_area = choices.least_area; all_vertices = choices.all_vertices; clockwise = choices.clockwise })
+        (chosen choices)
         (shapes_points v.shapes.items)) }
     ensures own_boundary { IfOk result (λ v. v.is_own_boundary ≡ true
         → AreOwnBoundary (flat_map boundary (contours_of (shapes_points v.shapes.items)))) }
@@ -245,7 +246,7 @@ pub fn arranged_contours(
     requires have_points { HavePoints contours.items }
     requires own_boundary { AreOwnBoundary (contour_edges contours.items) }
     ensures { IfOk result (λ v. IsResolution (contour_edges contours.items) (filled Positive)
-        (record { least_area = choices.least_area; all_vertices = choices.all_vertices; clockwise = choices.clockwise })
+        (chosen choices)
         (shapes_points v.items)) }
 {
     let (rings, _) = rings_of(alloc, contours, choices, &[])?;
