@@ -1,6 +1,6 @@
 -- Lemmas over points and lists: bounds moved outwards are safe where each point is.
-use Rattle.std.proofs.Common.{◌≡◌, ℕ, ◌+◌, ◌*◌, ◌<◌, ◌≤◌, Bool, true, false, List, [], ◌∷◌, map, length, get_or, take, refl, sym, subst, arith, ◌&&◌, take_all}
-use Rattle.std.specs.Prelude.{ℤ, pos, ◌+ℤ◌, ◌-ℤ◌, ◌≤ℤ◌, ◌<ℤ◌, ◌↔◌, IsTrue}
+use Rattle.std.proofs.Common.{◌≡◌, ℕ, ◌+◌, ◌*◌, ◌<◌, ◌≤◌, Bool, true, false, List, [], ◌∷◌, map, length, get_or, take, Result, Ok, Err, refl, sym, subst, arith, ◌&&◌, take_all}
+use Rattle.std.specs.Prelude.{ℤ, pos, ◌+ℤ◌, ◌-ℤ◌, ◌≤ℤ◌, ◌<ℤ◌, ◌↔◌, IsTrue, IsOk, OnOk}
 use Rattle.std.specs.List.{All, Contains}
 use Rattle.std.proofs.lemmas.Bool.{true≢false}
 use Rattle.std.proofs.lemmas.Int.{ints}
@@ -120,3 +120,8 @@ pub accepted_without_points : (unit : ℕ) (padding : ℤ) (paths : List (List P
 accepted_without_points unit padding paths P t none =
     let p : ArePathsSafe unit padding paths ↔ All (λ (p : Point). IsSafeWidened unit padding p) (all_points paths) = paths_safe unit padding paths in
     t.1 (p.1 (rw none (All-nil (λ (p : Point). IsSafeWidened unit padding p))))
+
+-- what follows of success holds on success
+pub on_ok_where : {A E : Type 0} (r : Result A E) {P : Type 0} → (IsOk r → P) → OnOk r P
+on_ok_where (Ok x) h = h refl
+on_ok_where (Err e) h = tt

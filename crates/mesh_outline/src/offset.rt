@@ -45,7 +45,9 @@ pub trait IntOutlineOffset<I: OverlayInt>: IntShapeResource<I> {
         ensures bounds { (bounds : Edge) → IsBounds bounds (all_points (Self.paths self.now))
             → IsOk result ↔ IsSafeRectangle I.unit (widened (outline_padding (style_of I.value style.now)) bounds) }
         ensures no_point { all_points (Self.paths self.now) ≡ [] → IsOk result }
-        ensures error { OnErr result (result ≡ Err IntOutlineError.CoordinateOutOfRange) };
+        ensures error { OnErr result (result ≡ Err IntOutlineError.CoordinateOutOfRange) }
+        ensures built { HavePromisedEdges I.unit (style_of I.value style.now) (Self.paths self.now) }
+        ensures stays_safe { OnOk result (StaysSafe I.unit (style_of I.value style.now) (Self.paths self.now)) };
 
     /// The outline of the contours, with default options. See `outline_custom`.
     final fn outline(
@@ -61,8 +63,6 @@ pub trait IntOutlineOffset<I: OverlayInt>: IntShapeResource<I> {
         ensures safe { IfOk result (λ shapes. ArePointsSafe I.unit (shapes_of shapes.items)) }
         ensures refused { result ≡ Err IntOutlineError.CoordinateOutOfRange
             ↔ ¬ DoAreasFit I.Wide.half (Self.paths self.now) }
-        ensures built { HavePromisedEdges I.unit (style_of I.value style.now) (Self.paths self.now) }
-        ensures stays_safe { StaysSafe I.unit (style_of I.value style.now) (Self.paths self.now) }
     {
         self.outline_custom(alloc, style, IntOverlayOptions::new())
     }
@@ -84,8 +84,6 @@ pub trait IntOutlineOffset<I: OverlayInt>: IntShapeResource<I> {
         ensures refused { result ≡ Err IntOutlineError.CoordinateOutOfRange
             ↔ ¬ DoAreasFit I.Wide.half (Self.paths self.now) }
         ensures err { OnErr result (buffer.new ≡ buffer.old) }
-        ensures built { HavePromisedEdges I.unit (style_of I.value style.now) (Self.paths self.now) }
-        ensures stays_safe { StaysSafe I.unit (style_of I.value style.now) (Self.paths self.now) }
     {
         self.outline_custom_into(alloc, style, IntOverlayOptions::new(), buffer)
     }
@@ -115,8 +113,6 @@ pub trait IntOutlineOffset<I: OverlayInt>: IntShapeResource<I> {
         ensures safe { IfOk result (λ shapes. ArePointsSafe I.unit (shapes_of shapes.items)) }
         ensures refused { result ≡ Err IntOutlineError.CoordinateOutOfRange
             ↔ ¬ DoAreasFit I.Wide.half (Self.paths self.now) }
-        ensures built { HavePromisedEdges I.unit (style_of I.value style.now) (Self.paths self.now) }
-        ensures stays_safe { StaysSafe I.unit (style_of I.value style.now) (Self.paths self.now) }
     {
         outline_shapes(self, alloc, style, options)
     }
@@ -142,8 +138,6 @@ pub trait IntOutlineOffset<I: OverlayInt>: IntShapeResource<I> {
         ensures refused { result ≡ Err IntOutlineError.CoordinateOutOfRange
             ↔ ¬ DoAreasFit I.Wide.half (Self.paths self.now) }
         ensures err { OnErr result (buffer.new ≡ buffer.old) }
-        ensures built { HavePromisedEdges I.unit (style_of I.value style.now) (Self.paths self.now) }
-        ensures stays_safe { StaysSafe I.unit (style_of I.value style.now) (Self.paths self.now) }
     {
         let shapes = outline_shapes(self, alloc, style, options)?;
         buffer.replace_with(&shapes)?;
@@ -177,8 +171,6 @@ pub trait IntOutlineOffset<I: OverlayInt>: IntShapeResource<I> {
             (IsOutlineDrawing I.unit (style_of I.value style.now) (Self.paths self.now)) count.old count.new }
         ensures within { OnOk result (IsWithinLimit count.new) }
         ensures refused { result ≡ Err IntNearnessError.TooManySplits → IsPastLimit count.new }
-        ensures built { HavePromisedEdges I.unit (style_of I.value style.now) (Self.paths self.now) }
-        ensures stays_safe { StaysSafe I.unit (style_of I.value style.now) (Self.paths self.now) }
     {
         near_outline(self, alloc, style, options, count)
     }

@@ -16,8 +16,7 @@ ghost use Rattle.mesh_outline.specs.Building.{IsMovable};
 ghost use Rattle.mesh_outline.specs.Kinds.{contour_kind};
 ghost use Rattle.mesh_outline.specs.Private.Gathered.{box_of, IsResolvedAgain};
 ghost use Rattle.mesh_outline.specs.Private.Given.{IsResolvedTwice};
-ghost use Rattle.mesh_outline.specs.Resolved.{DoAreasFit, IsOutline, HavePromisedEdges};
-ghost use Rattle.mesh_outline.specs.Staying.{StaysSafe};
+ghost use Rattle.mesh_outline.specs.Resolved.{DoAreasFit, IsOutline};
 ghost use Rattle.mesh_outline.specs.declared.kind.ContourKind.TheVariants.{Hole, Outer};
 
 use crate::bounds_apart::are_apart;
@@ -49,8 +48,6 @@ pub(crate) fn outline_shapes<I: IntNumber, S: IntShapeResource<I>>(
     ensures safe { IfOk result (λ shapes. ArePointsSafe I.unit (shapes_of shapes.items)) }
     ensures refused { result ≡ Err IntOutlineError.CoordinateOutOfRange
         ↔ ¬ DoAreasFit I.Wide.half (S.paths source.now) }
-    ensures built { HavePromisedEdges I.unit (style_of I.value style.now) (S.paths source.now) }
-    ensures stays_safe { StaysSafe I.unit (style_of I.value style.now) (S.paths source.now) }
 {
     let kinds = contour_kinds(source, alloc)?;
     Ok(resolved_together(source, alloc, style, options, &kinds)?)

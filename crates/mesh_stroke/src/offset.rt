@@ -48,6 +48,8 @@ pub trait IntStrokeOffset<I: OverlayInt>: IntShapeResource<I> {
         ensures error { OnErr result (result ≡ Err IntOutlineError.CoordinateOutOfRange) }
         ensures built { OnOk result ((closed : Bool) → HavePromisedEdges I.unit (stroke_style_of I.value style.now) closed
             (Self.paths self.now)) }
+        ensures stays_safe { OnOk result ((closed : Bool) → StaysSafe I.unit (stroke_style_of I.value style.now) closed
+            (Self.paths self.now)) }
         ensures halves { (closed : Bool) → All (HalvesAddUp I.unit (stroke_style_of I.value style.now) closed)
             (Self.paths self.now) };
 
@@ -67,8 +69,6 @@ pub trait IntStrokeOffset<I: OverlayInt>: IntShapeResource<I> {
             plain (Self.paths self.now) (shapes_of shapes.items)) }
         ensures safe { IfOk result (λ shapes. ArePointsSafe I.unit (shapes_of shapes.items)) }
         ensures error { OnErr result (result ≡ Err IntOutlineError.OutOfMemory) }
-        ensures built { HavePromisedEdges I.unit (stroke_style_of I.value style.now) closed (Self.paths self.now) }
-        ensures stays_safe { StaysSafe I.unit (stroke_style_of I.value style.now) closed (Self.paths self.now) }
     {
         self.stroke_custom(alloc, style, closed, IntOverlayOptions::new())
     }
@@ -94,8 +94,6 @@ pub trait IntStrokeOffset<I: OverlayInt>: IntShapeResource<I> {
             × HoldsContours buffer.new (contours_of answer)) }
         ensures error { OnErr result (result ≡ Err IntOutlineError.OutOfMemory) }
         ensures err { OnErr result (buffer.new ≡ buffer.old) }
-        ensures built { HavePromisedEdges I.unit (stroke_style_of I.value style.now) closed (Self.paths self.now) }
-        ensures stays_safe { StaysSafe I.unit (stroke_style_of I.value style.now) closed (Self.paths self.now) }
     {
         self.stroke_custom_into(alloc, style, closed, IntOverlayOptions::new(), buffer)
     }
@@ -121,8 +119,6 @@ pub trait IntStrokeOffset<I: OverlayInt>: IntShapeResource<I> {
             (choices_of I.WideUInt.value options) (Self.paths self.now) (shapes_of shapes.items)) }
         ensures safe { IfOk result (λ shapes. ArePointsSafe I.unit (shapes_of shapes.items)) }
         ensures error { OnErr result (result ≡ Err IntOutlineError.OutOfMemory) }
-        ensures built { HavePromisedEdges I.unit (stroke_style_of I.value style.now) closed (Self.paths self.now) }
-        ensures stays_safe { StaysSafe I.unit (stroke_style_of I.value style.now) closed (Self.paths self.now) }
     {
         let drawn = stroke_overlay(self, alloc, style, closed, options)?;
         Ok(drawn.overlay(OverlayRule::Subject, FillRule::Positive)?)
@@ -153,8 +149,6 @@ pub trait IntStrokeOffset<I: OverlayInt>: IntShapeResource<I> {
             × HoldsContours buffer.new (contours_of answer)) }
         ensures error { OnErr result (result ≡ Err IntOutlineError.OutOfMemory) }
         ensures err { OnErr result (buffer.new ≡ buffer.old) }
-        ensures built { HavePromisedEdges I.unit (stroke_style_of I.value style.now) closed (Self.paths self.now) }
-        ensures stays_safe { StaysSafe I.unit (stroke_style_of I.value style.now) closed (Self.paths self.now) }
     {
         let drawn = stroke_overlay(self, alloc, style, closed, options)?;
         drawn.overlay_into(OverlayRule::Subject, FillRule::Positive, buffer)?;
@@ -189,8 +183,6 @@ pub trait IntStrokeOffset<I: OverlayInt>: IntShapeResource<I> {
         ensures within { OnOk result (IsWithinLimit count.new) }
         ensures refused { result ≡ Err IntNearnessError.TooManySplits → IsPastLimit count.new }
         ensures in_range { ¬ result ≡ Err IntNearnessError.CoordinateOutOfRange }
-        ensures built { HavePromisedEdges I.unit (stroke_style_of I.value style.now) closed (Self.paths self.now) }
-        ensures stays_safe { StaysSafe I.unit (stroke_style_of I.value style.now) closed (Self.paths self.now) }
     {
         // Read, so that it is known to fit: a return before any attempt counts none.
         let _made = count.made;

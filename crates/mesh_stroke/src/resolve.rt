@@ -6,7 +6,6 @@ ghost use Rattle.mesh_offset.specs.Built.{AreBuilt};
 ghost use Rattle.mesh_offset.specs.Padding.{ArePathsSafe};
 ghost use Rattle.mesh_stroke.specs.Strokes.{stroke_edges};
 ghost use Rattle.mesh_stroke.specs.Styles.{stroke_padding, stroke_style_of};
-ghost use Rattle.mesh_stroke.specs.Staying.{StaysSafe};
 
 use crate::builder::StrokeBuilder;
 use mesh_below::below::{IntOverlayOptions, Overlay};
@@ -29,7 +28,6 @@ pub(crate) fn stroke_overlay<I: IntNumber, S: IntShapeResource<I>>(
         (S.paths source.now) overlay.segments.items) }
     ensures options { IfOk result (λ overlay. overlay.options ≡ options) }
     ensures resolvable { IfOk result (λ overlay. AreResolvable I.unit overlay.segments.items) }
-    ensures stays_safe { StaysSafe I.unit (stroke_style_of I.value style.now) closed (S.paths source.now) }
 {
     let mut overlay = Overlay::with_segments(stroke_segments(source, alloc, style, closed)?);
     overlay.options = options;

@@ -7,6 +7,7 @@ ghost use Rattle.mesh_num.specs.Rectangle.{IsBounds, IsSafeRectangle};
 ghost use Rattle.mesh_plane.specs.Plane.{Point, Edge};
 ghost use Rattle.mesh_lattice.specs.Reach.{ArePointsSafe};
 ghost use Rattle.mesh_below.specs.Options.{choices_of, plain};
+ghost use Rattle.mesh_arc.specs.declared.arc.ArcOptions.{ArcOptions};
 ghost use Rattle.mesh_offset.specs.Padding.{widened};
 ghost use Rattle.mesh_variable_stroke.specs.Regions.{
   AreCountedVariableStrokeRegions,
@@ -43,7 +44,9 @@ pub trait IntVariableStrokeOffset<I: OverlayInt>: IntVariableStrokeSource<I> {
         ensures bounds { (bounds : Edge) → IsBounds bounds (all_vertex_points (Self.paths self.now))
             → IsOk result ↔ IsSafeRectangle I.unit (widened (padding_of (Self.paths self.now)) bounds) }
         ensures no_point { all_vertex_points (Self.paths self.now) ≡ [] → IsOk result }
-        ensures error { OnErr result (result ≡ Err IntOutlineError.CoordinateOutOfRange) };
+        ensures error { OnErr result (result ≡ Err IntOutlineError.CoordinateOutOfRange) }
+        ensures built { OnOk result ((arc : ArcOptions) → HavePromisedEdges I.unit arc (Self.paths self.now)) }
+        ensures stays_safe { OnOk result ((arc : ArcOptions) → StaysSafe I.unit arc (Self.paths self.now)) };
 
     /// The stroke of the paths, with default options. See `variable_stroke_custom`.
     final fn variable_stroke(
@@ -60,8 +63,6 @@ pub trait IntVariableStrokeOffset<I: OverlayInt>: IntVariableStrokeSource<I> {
             (shapes_of shapes.items)) }
         ensures safe { IfOk result (λ shapes. ArePointsSafe I.unit (shapes_of shapes.items)) }
         ensures error { OnErr result (result ≡ Err IntOutlineError.OutOfMemory) }
-        ensures built { HavePromisedEdges I.unit style.arc (Self.paths self.now) }
-        ensures stays_safe { StaysSafe I.unit style.arc (Self.paths self.now) }
     {
         self.variable_stroke_custom(alloc, style, IntOverlayOptions::new())
     }
@@ -85,8 +86,6 @@ pub trait IntVariableStrokeOffset<I: OverlayInt>: IntVariableStrokeSource<I> {
             × HoldsContours buffer.new (contours_of answer)) }
         ensures error { OnErr result (result ≡ Err IntOutlineError.OutOfMemory) }
         ensures err { OnErr result (buffer.new ≡ buffer.old) }
-        ensures built { HavePromisedEdges I.unit style.arc (Self.paths self.now) }
-        ensures stays_safe { StaysSafe I.unit style.arc (Self.paths self.now) }
     {
         self.variable_stroke_custom_into(alloc, style, IntOverlayOptions::new(), buffer)
     }
@@ -112,8 +111,6 @@ pub trait IntVariableStrokeOffset<I: OverlayInt>: IntVariableStrokeSource<I> {
             (choices_of I.WideUInt.value options) (Self.paths self.now) (shapes_of shapes.items)) }
         ensures safe { IfOk result (λ shapes. ArePointsSafe I.unit (shapes_of shapes.items)) }
         ensures error { OnErr result (result ≡ Err IntOutlineError.OutOfMemory) }
-        ensures built { HavePromisedEdges I.unit style.arc (Self.paths self.now) }
-        ensures stays_safe { StaysSafe I.unit style.arc (Self.paths self.now) }
     {
         let drawn = stroke_overlay(self, alloc, style, options)?;
         Ok(drawn.overlay(OverlayRule::Subject, FillRule::Positive)?)
@@ -140,8 +137,6 @@ pub trait IntVariableStrokeOffset<I: OverlayInt>: IntVariableStrokeSource<I> {
             × HoldsContours buffer.new (contours_of answer)) }
         ensures error { OnErr result (result ≡ Err IntOutlineError.OutOfMemory) }
         ensures err { OnErr result (buffer.new ≡ buffer.old) }
-        ensures built { HavePromisedEdges I.unit style.arc (Self.paths self.now) }
-        ensures stays_safe { StaysSafe I.unit style.arc (Self.paths self.now) }
     {
         let drawn = stroke_overlay(self, alloc, style, options)?;
         drawn.overlay_into(OverlayRule::Subject, FillRule::Positive, buffer)?;
@@ -173,8 +168,6 @@ pub trait IntVariableStrokeOffset<I: OverlayInt>: IntVariableStrokeSource<I> {
         ensures within { OnOk result (IsWithinLimit count.new) }
         ensures refused { result ≡ Err IntNearnessError.TooManySplits → IsPastLimit count.new }
         ensures in_range { ¬ result ≡ Err IntNearnessError.CoordinateOutOfRange }
-        ensures built { HavePromisedEdges I.unit style.arc (Self.paths self.now) }
-        ensures stays_safe { StaysSafe I.unit style.arc (Self.paths self.now) }
     {
         // Read, so that it is known to fit: a return before any attempt counts none.
         let _made = count.made;

@@ -4,7 +4,6 @@ ghost use Rattle.std.specs.Prelude.{◌≡◌, IfOk};
 ghost use Rattle.mesh_below.specs.Asked.{AreResolvable};
 ghost use Rattle.mesh_offset.specs.Built.{AreBuilt};
 ghost use Rattle.mesh_variable_stroke.specs.VariableStrokes.{variable_stroke_edges};
-ghost use Rattle.mesh_variable_stroke.specs.Staying.{StaysSafe};
 ghost use Rattle.mesh_variable_stroke.specs.Strokable.{ArePathsStrokable};
 
 use crate::builder::VariableStrokeBuilder;
@@ -27,7 +26,6 @@ pub(crate) fn stroke_overlay<I: IntNumber, S: IntVariableStrokeSource<I>>(
         (S.paths source.now) overlay.segments.items) }
     ensures options { IfOk result (λ overlay. overlay.options ≡ options) }
     ensures resolvable { IfOk result (λ overlay. AreResolvable I.unit overlay.segments.items) }
-    ensures stays_safe { StaysSafe I.unit style.arc (S.paths source.now) }
 {
     let mut overlay = Overlay::with_segments(stroke_segments(source, alloc, style)?);
     overlay.options = options;

@@ -1,7 +1,7 @@
--- What the segments hold, that they can be resolved, and that this stays safe.
+-- What the segments hold, and that they can be resolved.
 use Rattle.std.proofs.Common.{refl, ap}
 use Rattle.mesh_stroke.specs.Styles.{stroke_style_of}
-use Rattle.mesh_stroke.proofs.Resolving.{resolvable, stays_safe}
+use Rattle.mesh_stroke.proofs.Resolving.{resolvable}
 use Rattle.mesh_stroke.proofs.resolve.stroke_overlay.Goals as goal
 
 pub returns-clause-options : goal.returns-clause-options
@@ -11,13 +11,3 @@ pub returns-clause-resolvable : goal.returns-clause-resolvable
 returns-clause-resolvable g c =
     resolvable g.I.IntNumber.unit (stroke_style_of g.I.IntNumber.value c.args.style.now) c.args.closed (g.S.IntShapeResource.paths c.args.source.now)
     g.met.I.IntNumber.least_law c.requires _ _ (ap (λ v. v.items) c.with_segments-overlay.ensures.segments) c.in_ok-stroke_segments.ensures
-
-pub returns-in_err-stroke_segments-clause-stays_safe : goal.returns-in_err-stroke_segments-clause-stays_safe
-returns-in_err-stroke_segments-clause-stays_safe g c =
-    stays_safe g.I.IntNumber.unit (stroke_style_of g.I.IntNumber.value c.args.style.now) c.args.closed
-    (g.S.IntShapeResource.paths c.args.source.now) g.met.I.IntNumber.least_law c.requires
-
-pub returns-clause-stays_safe : goal.returns-clause-stays_safe
-returns-clause-stays_safe g c =
-    stays_safe g.I.IntNumber.unit (stroke_style_of g.I.IntNumber.value c.args.style.now) c.args.closed
-    (g.S.IntShapeResource.paths c.args.source.now) g.met.I.IntNumber.least_law c.requires

@@ -1,6 +1,6 @@
--- What the segments hold, that they can be resolved, and that this stays safe.
+-- What the segments hold, and that they can be resolved.
 use Rattle.std.proofs.Common.{ap, refl}
-use Rattle.mesh_variable_stroke.proofs.Resolving.{resolvable, stays_safe}
+use Rattle.mesh_variable_stroke.proofs.Resolving.{resolvable}
 use Rattle.mesh_variable_stroke.proofs.resolve.stroke_overlay.Goals as goal
 
 pub returns-clause-resolvable : goal.returns-clause-resolvable
@@ -10,11 +10,3 @@ returns-clause-resolvable g c =
 
 pub returns-clause-options : goal.returns-clause-options
 returns-clause-options g c = refl
-
-pub returns-in_err-stroke_segments-clause-stays_safe : goal.returns-in_err-stroke_segments-clause-stays_safe
-returns-in_err-stroke_segments-clause-stays_safe g c =
-    stays_safe g.I.IntNumber.unit c.args.style.arc (g.S.IntVariableStrokeSource.paths c.args.source.now) g.met.I.IntNumber.least_law c.requires
-
-pub returns-clause-stays_safe : goal.returns-clause-stays_safe
-returns-clause-stays_safe g c =
-    stays_safe g.I.IntNumber.unit c.args.style.arc (g.S.IntVariableStrokeSource.paths c.args.source.now) g.met.I.IntNumber.least_law c.requires

@@ -15,29 +15,11 @@ on_err (Err e) h = h
 pub returns-clause-outline : goal.returns-clause-outline
 returns-clause-outline g c = (shapes_of c.in_ok-shapes.shapes.items, c.in_ok-shapes.ensures.outline, c.in_ok-shapes.ensures.safe, c.in_ok-replace_with.ensures.ok)
 
-pub returns-clause-built : goal.returns-clause-built
-returns-clause-built g c = c.outline_shapes.ensures.built
-
-pub returns-clause-stays_safe : goal.returns-clause-stays_safe
-returns-clause-stays_safe g c = c.outline_shapes.ensures.stays_safe
-
 pub returns-in_err-shapes-clause-err : goal.returns-in_err-shapes-clause-err
 returns-in_err-shapes-clause-err g c = on_err c.from_residual.result refl
 
-pub returns-in_err-shapes-clause-built : goal.returns-in_err-shapes-clause-built
-returns-in_err-shapes-clause-built g c = c.outline_shapes.ensures.built
-
-pub returns-in_err-shapes-clause-stays_safe : goal.returns-in_err-shapes-clause-stays_safe
-returns-in_err-shapes-clause-stays_safe g c = c.outline_shapes.ensures.stays_safe
-
 pub returns-in_err-replace_with-clause-err : goal.returns-in_err-replace_with-clause-err
 returns-in_err-replace_with-clause-err g c = on_err c.from_residual-in_err-replace_with.result c.in_err-replace_with.ensures.err
-
-pub returns-in_err-replace_with-clause-built : goal.returns-in_err-replace_with-clause-built
-returns-in_err-replace_with-clause-built g c = c.outline_shapes.ensures.built
-
-pub returns-in_err-replace_with-clause-stays_safe : goal.returns-in_err-replace_with-clause-stays_safe
-returns-in_err-replace_with-clause-stays_safe g c = c.outline_shapes.ensures.stays_safe
 
 pub returns-clause-regions : goal.returns-clause-regions
 returns-clause-regions g c = (

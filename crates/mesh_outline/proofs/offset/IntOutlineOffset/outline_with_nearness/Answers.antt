@@ -1,13 +1,11 @@
--- What is counted is exact beyond the nearness; what holds of all contours that stay safe.
+-- What is counted is exact beyond the nearness.
 use Rattle.std.proofs.Common.{ℕ, List}
 use Rattle.std.proofs.lemmas.Result.{IfOk-weaker}
 use Rattle.mesh_plane.specs.Plane.{Point}
 use Rattle.mesh_shapes.specs.Resolution.{Choices}
 use Rattle.mesh_split.specs.declared.count.SplitCount.{SplitCount}
-use Rattle.mesh_join.specs.Styles.{OutlineStyle, style_of}
+use Rattle.mesh_join.specs.Styles.{OutlineStyle}
 use Rattle.mesh_outline.specs.Nearness.{AreCountedOutlineRegions, AreOutlineRegionsBeyond}
-use Rattle.mesh_outline.proofs.PromisedOfAll.{have_promised_edges}
-use Rattle.mesh_outline.proofs.Staying.{stays_safe}
 use Rattle.mesh_outline.proofs.offset.IntOutlineOffset.outline_with_nearness.Goals as goal
 
 exact : {k unit : ℕ} {style : OutlineStyle} {choices : Choices} {contours : List (List Point)} {answer : List (List (List Point))} {old new : SplitCount} →
@@ -16,13 +14,3 @@ exact counted = counted.near
 
 pub returns-clause-regions : goal.returns-clause-regions
 returns-clause-regions g c = IfOk-weaker c.near_outline.result _ _ (λ near counted. exact counted) c.near_outline.ensures.standing
-
-pub returns-clause-built : goal.returns-clause-built
-returns-clause-built g c =
-    have_promised_edges g.I.IntNumber.unit (style_of g.I.IntNumber.value c.args.style.now)
-    (g.Self.IntShapeResource.paths c.args.self.now) g.met.I.IntNumber.least_law
-
-pub returns-clause-stays_safe : goal.returns-clause-stays_safe
-returns-clause-stays_safe g c =
-    stays_safe g.I.IntNumber.unit (style_of g.I.IntNumber.value c.args.style.now)
-    (g.Self.IntShapeResource.paths c.args.self.now) g.met.I.IntNumber.least_law c.requires

@@ -1,25 +1,9 @@
--- What is promised of the edges of each path.
+-- What is resolved is what was built.
 use Rattle.mesh_stroke.specs.Styles.{stroke_style_of}
-use Rattle.mesh_stroke.proofs.Resolving.{promised}
 use Rattle.mesh_num.specs.Segments.{edges_of}
 use Rattle.mesh_below.specs.Options.{choices_of}
 use Rattle.mesh_stroke.proofs.Regions.{stroke_regions, stroke_resolves}
 use Rattle.mesh_stroke.proofs.offset.IntStrokeOffset.stroke_custom_into.Goals as goal
-
-pub returns-in_err-drawn-clause-built : goal.returns-in_err-drawn-clause-built
-returns-in_err-drawn-clause-built g c =
-    promised g.I.IntNumber.unit (stroke_style_of g.I.IntNumber.value c.args.style.now) c.args.closed (g.Self.IntShapeResource.paths c.args.self.now) g.met.I.IntNumber.least_law
-    c.requires
-
-pub returns-in_err-overlay_into-clause-built : goal.returns-in_err-overlay_into-clause-built
-returns-in_err-overlay_into-clause-built g c =
-    promised g.I.IntNumber.unit (stroke_style_of g.I.IntNumber.value c.args.style.now) c.args.closed (g.Self.IntShapeResource.paths c.args.self.now) g.met.I.IntNumber.least_law
-    c.requires
-
-pub returns-clause-built : goal.returns-clause-built
-returns-clause-built g c =
-    promised g.I.IntNumber.unit (stroke_style_of g.I.IntNumber.value c.args.style.now) c.args.closed (g.Self.IntShapeResource.paths c.args.self.now) g.met.I.IntNumber.least_law
-    c.requires
 
 pub returns-clause-regions : goal.returns-clause-regions
 returns-clause-regions g c =

@@ -1,11 +1,10 @@
--- The edges were built and resolved, and what is promised of the edges of each path.
+-- The edges were built and resolved.
 use Rattle.mesh_num.specs.Segments.{edges_of}
 use Rattle.mesh_below.specs.Options.{choices_of}
 use Rattle.mesh_offset.proofs.Counting.{counts_of_one}
 use Rattle.mesh_stroke.specs.Resolved.{AreAllEdges}
 use Rattle.mesh_stroke.specs.Styles.{stroke_style_of}
 use Rattle.mesh_stroke.proofs.Regions.{stroke_beyond, stroke_resolves}
-use Rattle.mesh_stroke.proofs.Resolving.{promised}
 use Rattle.mesh_stroke.proofs.offset.IntStrokeOffset.stroke_with_nearness.Goals as goal
 
 pub returns-clause-standing : goal.returns-clause-standing
@@ -23,21 +22,6 @@ returns-clause-edges g c =
     stroke_resolves g.I.IntNumber.unit g.met.I.IntNumber.least_law (stroke_style_of g.I.IntNumber.value c.args.style.now)
     c.args.closed (choices_of g.I.WideUInt.WideUnsigned.value c.args.options)
     (g.Self.IntShapeResource.paths c.args.self.now) _ c.requires (returns-clause-standing g c).near.stroke
-
-pub returns-in_err-drawn-clause-built : goal.returns-in_err-drawn-clause-built
-returns-in_err-drawn-clause-built g c =
-    promised g.I.IntNumber.unit (stroke_style_of g.I.IntNumber.value c.args.style.now) c.args.closed (g.Self.IntShapeResource.paths c.args.self.now) g.met.I.IntNumber.least_law
-    c.requires
-
-pub returns-in_err-overlay_with_nearness-clause-built : goal.returns-in_err-overlay_with_nearness-clause-built
-returns-in_err-overlay_with_nearness-clause-built g c =
-    promised g.I.IntNumber.unit (stroke_style_of g.I.IntNumber.value c.args.style.now) c.args.closed (g.Self.IntShapeResource.paths c.args.self.now) g.met.I.IntNumber.least_law
-    c.requires
-
-pub returns-clause-built : goal.returns-clause-built
-returns-clause-built g c =
-    promised g.I.IntNumber.unit (stroke_style_of g.I.IntNumber.value c.args.style.now) c.args.closed (g.Self.IntShapeResource.paths c.args.self.now) g.met.I.IntNumber.least_law
-    c.requires
 
 pub returns-in_err-overlay_with_nearness-clause-counted : goal.returns-in_err-overlay_with_nearness-clause-counted
 returns-in_err-overlay_with_nearness-clause-counted g c =

@@ -1,22 +1,9 @@
--- What is resolved is what was built; what is promised of the edges of each path.
+-- What is resolved is what was built.
 use Rattle.mesh_num.specs.Segments.{edges_of}
-use Rattle.mesh_variable_stroke.proofs.Resolving.{promised}
 use Rattle.mesh_num.specs.Paths.{shapes_of}
 use Rattle.mesh_below.specs.Options.{choices_of}
 use Rattle.mesh_variable_stroke.proofs.Regions.{stroke_regions, stroke_resolves}
 use Rattle.mesh_variable_stroke.proofs.offset.IntVariableStrokeOffset.variable_stroke_custom.Goals as goal
-
-pub returns-in_err-drawn-clause-built : goal.returns-in_err-drawn-clause-built
-returns-in_err-drawn-clause-built g c =
-    promised g.I.IntNumber.unit c.args.style.arc (g.Self.IntVariableStrokeSource.paths c.args.self.now) g.met.I.IntNumber.least_law c.requires
-
-pub returns-in_err-overlay-clause-built : goal.returns-in_err-overlay-clause-built
-returns-in_err-overlay-clause-built g c =
-    promised g.I.IntNumber.unit c.args.style.arc (g.Self.IntVariableStrokeSource.paths c.args.self.now) g.met.I.IntNumber.least_law c.requires
-
-pub returns-clause-built : goal.returns-clause-built
-returns-clause-built g c =
-    promised g.I.IntNumber.unit c.args.style.arc (g.Self.IntVariableStrokeSource.paths c.args.self.now) g.met.I.IntNumber.least_law c.requires
 
 pub returns-clause-stroke : goal.returns-clause-stroke
 returns-clause-stroke g c = record {
