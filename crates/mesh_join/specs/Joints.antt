@@ -1,8 +1,9 @@
 -- Joints: what a join is asked for at an outer corner, and how points run round it.
-use Rattle.std.specs.Prelude.{ℕ, Bool, ◌≡◌, List, ℤ, pos, ◌*ℤ◌, ◌≤ℤ◌, int_le}
+use Rattle.std.specs.Prelude.{ℕ, ◌*◌, Bool, ◌≡◌, ◌≢◌, List, ℤ, pos, ◌*ℤ◌, ◌≤ℤ◌, int_le}
 use Rattle.std.specs.List.{All}
+use Rattle.mesh_plane.specs.Bounds.{IsSafe}
 use Rattle.mesh_plane.specs.Plane.{Point, Edge, plus, minus, cross, turn, right_quarter}
-use Rattle.mesh_num.specs.Direction.{IsFresh, scaled_direction}
+use Rattle.mesh_num.specs.Direction.{IsFresh, IsShort, scaled_direction}
 use Rattle.mesh_num.specs.Rectangle.{IsInRectangle}
 use Rattle.mesh_arc.specs.Arcs.{sense_of}
 use Rattle.mesh_arc.specs.declared.arc.ArcDirection.{ArcDirection}
