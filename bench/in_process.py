@@ -9,13 +9,10 @@ is not in it.
 """
 import argparse
 import json
-import pathlib
 
 from families import FAMILIES, OFFSETS
 from families import request as family_request
 from program import add_program, run, seconds_above_zero, tell
-
-PROGRAM = pathlib.Path(__file__).resolve().parent.parent / "crates/mesh_bench/out/mesh_bench"
 
 SIZES = [10, 100, 1000, 10_000, 100_000]
 
@@ -59,8 +56,7 @@ def cell(command, text, wanted):
 
 def main():
     parser = argparse.ArgumentParser(description="Times outlines within one process.")
-    add_program(parser)
-    parser.set_defaults(program=[str(PROGRAM)])
+    add_program(parser, "mesh_bench")
     parser.add_argument("--most", type=int, default=1000, metavar="N", help="no drawing has more vertices")
     parser.add_argument("--seconds", type=seconds_above_zero, default=1, help="about how long a process runs")
     words = parser.parse_args()

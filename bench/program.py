@@ -12,7 +12,7 @@ import tempfile
 import time
 from typing import NamedTuple
 
-PROGRAM = pathlib.Path(__file__).resolve().parent.parent / "crates/mesh_run/out/mesh_run"
+CRATES = pathlib.Path(__file__).resolve().parent.parent / "crates"
 
 KIBIBYTE = 1024
 
@@ -31,15 +31,15 @@ class Run(NamedTuple):
     answer: bytes
 
 
-def add_program(parser):
-    """Adds the argument for the program to a parser of arguments."""
+def add_program(parser, crate="mesh_run"):
+    """Adds the argument for the program of a crate to a parser of arguments."""
     parser.add_argument(
         "program",
         nargs="?",
         type=shlex.split,
-        default=[str(PROGRAM)],
+        default=[str(CRATES / crate / "out" / crate)],
         metavar="PROGRAM",
-        help="the program, or a command line in quotes; by default the one that `rt run` makes in crates/mesh_run",
+        help=f"the program, or a command line in quotes; by default the one that `rt run` makes in crates/{crate}",
     )
 
 

@@ -32,8 +32,6 @@ from in_process import TooLong, seconds_each  # noqa: E402
 from program import add_program, seconds_above_zero, tell  # noqa: E402
 from ratio_picture import drawing  # noqa: E402
 
-PROGRAM = ROOT / "crates/mesh_bench/out/mesh_bench"
-
 PICTURE = ROOT / "docs/peers.svg"
 
 SIZES = [10, 100, 1000, 10_000, 100_000]
@@ -146,8 +144,7 @@ def print_ratios(rows, sizes):
 
 def main():
     parser = argparse.ArgumentParser(description="Times outlines and strokes beside other libraries.")
-    add_program(parser)
-    parser.set_defaults(program=[str(PROGRAM)])
+    add_program(parser, "mesh_bench")
     parser.add_argument("--most", type=int, default=100_000, metavar="N", help="no drawing has more vertices")
     parser.add_argument("--seconds", type=seconds_above_zero, default=0.2, help="about how long each is repeated")
     parser.add_argument("--limit", type=seconds_above_zero, default=60, metavar="SECONDS", help="of one process")
