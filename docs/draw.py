@@ -3,8 +3,9 @@
 
     docs/draw.py REQUEST.json [REQUEST.json ..] > picture.svg
 
-The answers are those of `crates/mesh_run/out/mesh_run`, which `rt run` in crates/mesh_run proves and builds, or else of
-`rt try`, which proves nothing, takes half a minute, and is for requests of some thousand vertices at most.
+The answers are those of `crates/mesh_run/out/mesh_run`, which `rt run` in crates/mesh_run proves and builds; or else of
+`doors/out/bin/mesh_run`, which `doors/build --unproved` builds; or else of `rt try`, which takes a minute or two, and is
+for requests of some thousand vertices at most. The last two prove nothing.
 
 Contours to be outlined are grey, paths to be stroked are dashed lines, the answer is blue; the y axis points up. Where
 the width changes by vertex, the circles round the vertices are dotted. Edges that are not resolved have tips, pieces of
@@ -23,7 +24,7 @@ from xml.sax.saxutils import escape
 import pieces
 
 CRATE = pathlib.Path(__file__).resolve().parent.parent / "crates/mesh_run"
-PROGRAM = CRATE / "out/mesh_run"
+PROGRAMS = [CRATE / "out/mesh_run", CRATE.parent.parent / "doors/out/bin/mesh_run"]
 
 PANEL = 400
 MARGIN = 20
@@ -91,7 +92,7 @@ def ask_program(command, requests):
 
 def ask_rt_try(requests):
     """The answers of the program as `rt try` builds it, once for all requests."""
-    print("draw.py: answered by `rt try`, half a minute; `rt run` in crates/mesh_run keeps a program", file=sys.stderr)
+    print("draw.py: answered by `rt try` in a minute or two; `doors/build --unproved` keeps a program", file=sys.stderr)
     with tempfile.TemporaryDirectory() as folder:
         for index, request in enumerate(requests):
             (pathlib.Path(folder) / f"{index:04}").write_text(request, encoding="utf-8")
@@ -100,7 +101,7 @@ def ask_rt_try(requests):
                 ["rt", "try", "--cases", folder], cwd=CRATE, capture_output=True, text=True, check=False
             )
         except OSError:
-            sys.exit(f"draw.py: no {PROGRAM} and no rt on the path: what else answers, say by --program")
+            sys.exit(f"draw.py: no {PROGRAMS[0]} and no rt on the path: say by --program what answers")
     parts = ("\n" + run.stdout).split("\n== ")[1:]
     if len(parts) != len(requests):
         sys.exit("draw.py: `rt try` gave no answer:\n" + "\n".join(run.stderr.splitlines()[-5:])[-500:])
@@ -110,8 +111,8 @@ def ask_rt_try(requests):
 def ask(command, files, requests):
     """The answers to requests, of these files: objects with shapes, or with edges."""
     texts = [json.dumps(request) for request in requests]
-    if command is None and PROGRAM.exists():
-        command = [str(PROGRAM)]
+    if command is None:
+        command = next(([str(program)] for program in PROGRAMS if program.exists()), None)
     answers = []
     for file, text in zip(files, ask_rt_try(texts) if command is None else ask_program(command, texts)):
         try:
