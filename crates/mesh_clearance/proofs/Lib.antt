@@ -1,3 +1,4 @@
+pub mod Boxed
 pub mod CommonPoints
 pub mod Ends
 pub mod EndsApart

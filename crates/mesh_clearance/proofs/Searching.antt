@@ -2,52 +2,84 @@
 use Rattle.std.proofs.Common.{◌≡◌, ℕ, ◌+◌, ◌<◌, ◌≤◌, ◌⊎◌, inl, inr, ⊎_elim, Bool, List, [], ◌∷◌, ◌++◌, length, take, take_all, get_or, refl, sym, ◌∙◌, ap, subst, arith, suc}
 use Rattle.std.specs.Prelude.{min, Option, None, Some, MatchOption, IfSome}
 use Rattle.std.specs.List.{All, flat_map}
-use Rattle.std.proofs.lemmas.List.{take_more}
-use Rattle.std.proofs.lemmas.List.Elements.{All-nil, All-cons, All-head, All-tail, All-append, All-push, All-weaker, All-more}
+use Rattle.std.proofs.lemmas.List.{get_or_default}
+use Rattle.std.proofs.lemmas.List.Elements.{All-nil, All-cons, All-head, All-tail, All-append, All-weaker, All-more}
 use Rattle.mesh_plane.specs.Plane.{Point, Edge}
 use Rattle.mesh_plane.specs.Winding.{boundary, IsBalanced}
 use Rattle.mesh_plane.proofs.Balance.{boundary_balanced, balanced_append}
+use Rattle.mesh_clearance.specs.Boxes.{AreFar}
 use Rattle.mesh_clearance.specs.Clearance.{AreApart, AreAllApart, IsClearance, IsSeparation, WindAsAtVertices, sections}
 use Rattle.mesh_clearance.proofs.Paths.{near_points_wind}
 use Rattle.mesh_clearance.proofs.Symmetries.{apart_less}
 
--- ---- the edges, one after another
+below_or_not : (k n : ℕ) → (k < n) ⊎ (n ≤ k)
+below_or_not k n = grind arith
 
--- `least` is the least of `most` and the distances of the edges seen
-pub record IsNearest (most least : ℕ) (seen all : List Edge) (section : Edge) : Type 0 where
+-- ---- the edges, run after run
+
+-- `least` is the least of `most` and the distances of the edges
+pub record IsNearest (most least : ℕ) (all : List Edge) (section : Edge) : Type 0 where
   pub less : least ≤ most
-  pub apart : All (λ (e : Edge). AreApart least e section) seen
+  pub apart : All (λ (e : Edge). AreApart least e section) all
   pub reached : (least ≡ most) ⊎ (All (λ (e : Edge). AreApart (suc least) e section) all → ⊥)
 
-pub nearest_none : (most : ℕ) (all : List Edge) (section : Edge) → IsNearest most most [] all section
-nearest_none most all section = record { less = omega arith; apart = All-nil (λ (e : Edge). AreApart most e section); reached = inl refl }
+-- that of the edges before a place, and those behind are not all farther
+pub record IsNearestBefore (most least at : ℕ) (all : List Edge) (section : Edge) : Type 0 where
+  pub less : least ≤ most
+  pub apart : AreFar least all 0 at section
+  pub reached : (least ≡ most) ⊎ (All (λ (e : Edge). AreApart (suc least) e section) all → ⊥)
 
-all_less : (s t : ℕ) (es : List Edge) (f : Edge) → s ≤ t → All (λ (e : Edge). AreApart t e f) es → All (λ (e : Edge). AreApart s e f) es
-all_less s t es f h = All-weaker (λ (e : Edge). AreApart t e f) (λ (e : Edge). AreApart s e f) (λ (e : Edge) (k : AreApart t e f). apart_less s t e f h k) es
+pub nearest_none : (most : ℕ) (all : List Edge) (section : Edge) → IsNearestBefore most most 0 all section
+nearest_none most all section = record { less = omega arith; apart = λ i e low after before. absurd (omega (arith, before)); reached = inl refl }
 
-pub nearest_more : (most least s : ℕ) (all : List Edge) (i : ℕ) (d section : Edge) → i < length all → IsSeparation (get_or all i d) section s →
-    IsNearest most least (take i all) all section → IsNearest most (min least s) (take (i + 1) all) all section
-nearest_more most least s all i d section low found h =
-    let before = h.less in record {
-      less = omega (arith, before);
-      apart =
-          All-more (λ (x : Edge). AreApart (min least s) x section) all i d low
-          (all_less (min least s) least (take i all) section (omega arith) h.apart)
-          (apart_less (min least s) s (get_or all i d) section (omega arith) found.apart);
-      reached = by (which least s) h.reached;
-    }
+-- what one step tells
+pub record IsStep (least next at end : ℕ) (all : List Edge) (section : Edge) : Type 0 where
+  pub less : next ≤ least
+  pub apart : AreFar next all at end section
+  pub reached : (next ≡ least) ⊎ (All (λ (e : Edge). AreApart (suc next) e section) all → ⊥)
+
+pub nearest_more : (most least next at end : ℕ) (all : List Edge) (section : Edge) → IsStep least next at end all section →
+    IsNearestBefore most least at all section → IsNearestBefore most next end all section
+nearest_more most least next at end all section new h = record {
+  less = let first = h.less in let second = new.less in omega (arith, first, second);
+  apart = λ i e low after before. by i e low before (below_or_not i at);
+  reached = from h.reached new.reached;
+}
   where
-    which : (x y : ℕ) → (min x y ≡ x) ⊎ (min x y ≡ y)
-    which x y = grind arith
+    by : (i : ℕ) (e : Edge) → i < length all → i < end → (i < at) ⊎ (at ≤ i) → AreApart next (get_or all i e) section
+    by i e low before (inl earlier) = apart_less next least (get_or all i e) section new.less (h.apart i e low (omega arith) earlier)
+    by i e low before (inr later) = new.apart i e low later before
 
-    by : (min least s ≡ least) ⊎ (min least s ≡ s) → (least ≡ most) ⊎ (All (λ (x : Edge). AreApart (suc least) x section) all → ⊥) →
-        (min least s ≡ most) ⊎ (All (λ (x : Edge). AreApart (suc (min least s)) x section) all → ⊥)
-    by (inl x) (inl y) = inl (x ∙ y)
-    by (inl x) (inr y) = inr (λ k. y (subst (λ (n : ℕ). All (λ (z : Edge). AreApart (suc n) z section) all) x k))
-    by (inr x) y = inr (λ k. found.greatest (subst (λ (n : ℕ). All (λ (z : Edge). AreApart (suc n) z section) all) x k i d low))
+    from : (least ≡ most) ⊎ (All (λ (x : Edge). AreApart (suc least) x section) all → ⊥) → (next ≡ least) ⊎ (All (λ (x : Edge). AreApart (suc next) x section) all → ⊥) →
+        (next ≡ most) ⊎ (All (λ (x : Edge). AreApart (suc next) x section) all → ⊥)
+    from (inl x) (inl y) = inl (y ∙ x)
+    from (inr x) (inl y) = inr (λ k. x (subst (λ (n : ℕ). All (λ (z : Edge). AreApart (suc n) z section) all) y k))
+    from x (inr y) = inr y
 
-pub nearest_all : (most least : ℕ) (all : List Edge) (i : ℕ) (section : Edge) → length all ≤ i → IsNearest most least (take i all) all section → IsNearest most least all all section
-nearest_all most least all i section past h = subst (λ (es : List Edge). IsNearest most least es all section) (take_all i all past) h
+pub nearest_all : (most least at : ℕ) (all : List Edge) (section : Edge) → length all ≤ at → IsNearestBefore most least at all section →
+    All (λ (e : Edge). AreApart least e section) all
+nearest_all most least at all section past h = λ k d low. h.apart k d low (omega arith) (omega (arith, low, past))
+
+-- the edge at a place is measured
+pub measured : (least s m at : ℕ) (all : List Edge) (d section : Edge) → m ≡ min least s → at < length all → IsSeparation (get_or all at d) section s →
+    IsStep least m at (at + 1) all section
+measured least s m at all d section is low found = record {
+  less = omega (arith, is);
+  apart = λ i e within after before. here i e within (omega (arith, after, before));
+  reached = by (which m is);
+}
+  where
+    here : (i : ℕ) (e : Edge) → i < length all → i ≡ at → AreApart m (get_or all i e) section
+    here i e within same =
+        subst (λ (x : Edge). AreApart m x section) (get_or_default all at d e low ∙ ap (λ (k : ℕ). get_or all k e) (sym same))
+        (apart_less m s (get_or all at d) section (omega (arith, is)) found.apart)
+
+    which : (x : ℕ) → x ≡ min least s → (x ≡ least) ⊎ (x ≡ s)
+    which x e = grind (arith, e)
+
+    by : (m ≡ least) ⊎ (m ≡ s) → (m ≡ least) ⊎ (All (λ (x : Edge). AreApart (suc m) x section) all → ⊥)
+    by (inl x) = inl x
+    by (inr x) = inr (λ k. found.greatest (subst (λ (n : ℕ). AreApart (suc n) (get_or all at d) section) x (k at d low)))
 
 -- ---- the sections, one after another
 
@@ -65,7 +97,7 @@ cleared_none es all e f s rest others first second found = record {
       (All-head (λ (x : Edge). All (AreApart (suc s) x) all) e rest (subst (All (λ (x : Edge). All (AreApart (suc s) x) all)) first h))));
 }
 
-pub cleared_more : (es all : List Edge) (i : ℕ) (d : Edge) (least r : ℕ) → i < length all → IsNearest least r es es (get_or all i d) →
+pub cleared_more : (es all : List Edge) (i : ℕ) (d : Edge) (least r : ℕ) → i < length all → IsNearest least r es (get_or all i d) →
     IsCleared es (take i all) all least → IsCleared es (take (i + 1) all) all r
 cleared_more es all i d least r low near h = record {
   apart = λ k c lower.

@@ -7,19 +7,22 @@ ghost use Rattle.mesh_plane.specs.Winding.{boundary};
 ghost use Rattle.mesh_clearance.specs.Clearance.{IsClearance, WindAsAtVertices, sections};
 
 use crate::edges::{edges_of, sections_of};
+use crate::runs::runs_of;
 use crate::search::clearance;
 use mesh_num::num::IntNumber;
 use mesh_num::shape::{IntShapeResource, IntShapes};
 use std::alloc::{AllocError, Global};
 
-/// How near the polygons' edges come to paths: the square of the least distance, in grid units and rounded down, between
-/// a point of an edge and a point of a path's section. It is `None` where there is no edge or no section. Coordinates
-/// may be any value. A closed path has a section from its last point to its first; a section's ends may be one point.
+/// How near the polygons' edges come to paths: the square of the least distance, in grid units and rounded down,
+/// between a point of an edge and a point of a path's section. It is `None` where there is no edge or no section.
+/// Coordinates may be any value. A closed path has a section from its last point to its first; a section's ends may be
+/// one point.
 ///
 /// Round each point whose squared distance from a path is less than that, the contours wind as they do round each
 /// vertex of the path. So where one vertex of a path is inside the polygons, every point nearer to the path is.
 ///
-/// `Err` means that memory was refused.
+/// Where edges are short it takes near linear time; long edges side by side, whose boxes overlap, take more. No
+/// contract says so. `Err` means that memory was refused.
 pub fn clearance_of<I: IntNumber, S: IntShapeResource<I>>(
     alloc: Global,
     shapes: &IntShapes<I>,
@@ -37,5 +40,6 @@ pub fn clearance_of<I: IntNumber, S: IntShapeResource<I>>(
 {
     let edges = edges_of(alloc, shapes)?;
     let sections = sections_of(alloc, paths, are_closed)?;
-    Ok(clearance(&edges, &sections))
+    let runs = runs_of(alloc, &edges)?;
+    Ok(clearance(&edges, &runs.list, &runs.starts, &sections))
 }

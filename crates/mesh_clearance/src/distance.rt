@@ -18,7 +18,7 @@ fn dot(v: Vector, w: Vector) -> i128
 }
 
 /// The square of a vector's length.
-fn square(v: Vector) -> u128
+pub fn square(v: Vector) -> u128
     requires { IsSafe (2 ^ 32) v }
     ensures value { pos result ≡ dot v v }
     ensures size { result < 2 ^ 65 }
@@ -57,7 +57,7 @@ fn from_start(p: LatticePoint, e: LatticeEdge) -> u128
     square(way) - square_by(along.unsigned_abs(), square(line))
 }
 
-fn is_less(a: i128, b: i128) -> bool
+pub fn is_less(a: i128, b: i128) -> bool
     ensures { IsTrue result ↔ a <ℤ b }
 {
     a < b

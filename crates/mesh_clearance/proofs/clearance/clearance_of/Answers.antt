@@ -7,5 +7,5 @@ use Rattle.mesh_clearance.proofs.clearance.clearance_of.Goals as goal
 
 pub returns-clause-winding : goal.returns-clause-winding
 returns-clause-winding g c =
-    winding_found c.clearance.result _ (contours_of (shapes_of c.args.shapes.now.items)) (g.S.IntShapeResource.paths c.args.paths.now) c.args.are_closed _ _ (c.deref-2.ensures.value ∙ (c.in_ok-edges.ensures ∙ (λ i. flat_map boundary (contours_of (shapes_of (c.deref.ensures.value i))))))
-    (c.deref-3.ensures.value ∙ c.in_ok-sections.ensures) c.clearance.ensures
+    winding_found c.clearance.result _ (contours_of (shapes_of c.args.shapes.now.items)) (g.S.IntShapeResource.paths c.args.paths.now) c.args.are_closed _ _ (c.deref-3.ensures.value ∙ (c.in_ok-edges.ensures ∙ (λ i. flat_map boundary (contours_of (shapes_of (c.deref.ensures.value i))))))
+    (c.deref-6.ensures.value ∙ c.in_ok-sections.ensures) c.clearance.ensures

@@ -1,6 +1,9 @@
-use Rattle.std.proofs.Common.{take}
-use Rattle.mesh_clearance.proofs.Searching.{IsNearest}
+use Rattle.std.proofs.Common.{◌-◌, ℕ, length}
+use Rattle.mesh_clearance.proofs.Searching.{IsNearestBefore}
 use Rattle.mesh_clearance.proofs.search.nearest.Given as goal
 
-abbrev pub invariant-loop-edge : goal.invariant-loop-edge
-invariant-loop-edge l = IsNearest l.most l.least (take l.edge-index l.edges) l.edges l.section
+abbrev pub invariant-loop-at : goal.invariant-loop-at
+invariant-loop-at l = IsNearestBefore l.most l.least l.at l.edges l.section
+
+abbrev pub decreases-loop-at : goal.decreases-loop-at
+decreases-loop-at l = length l.edges - l.at
