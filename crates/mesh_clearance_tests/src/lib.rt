@@ -3,3 +3,5 @@
 
 #[cfg(test)]
 mod clearances;
+#[cfg(test)]
+mod pairs;
