@@ -14,6 +14,7 @@ pub mod variable_stroke;
 pub use mesh_below::below::{ContourDirection, IntOverlayOptions, Overlay, OverlayRule};
 pub use mesh_below::fill::FillRule;
 pub use mesh_below::nearness::{NearShapes, SplitCount, SplitError};
+pub use mesh_clearance::clearance;
 pub use mesh_join::arc::ArcOptions;
 pub use mesh_join::style::{
     IntLineCap, IntLineJoin, IntOutlineStyle, IntStrokeStyle, IntStrokeVertex,

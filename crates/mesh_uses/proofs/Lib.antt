@@ -1,2 +1,3 @@
 pub mod Contours
+pub mod KeptClear
 pub mod Points
