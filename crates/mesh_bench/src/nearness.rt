@@ -1,6 +1,7 @@
 //! How near to the drawn edges the answer to a request is exact, and by how many splits.
 
 use crate::BenchError;
+use crate::requests::read_input;
 use i_overlay_mesh::{
     IntNearnessError, IntOutlineOffset, IntStrokeOffset, IntVariableStrokeOffset, NearShapes,
     SplitCount,
@@ -8,9 +9,6 @@ use i_overlay_mesh::{
 use mesh_below::below::IntOverlayOptions;
 use mesh_drawing::drawing::Drawing;
 use mesh_num::num::OverlayInt;
-use mesh_request::json::parse;
-use mesh_request::request::read_request;
-use mesh_service::input::read_to_end;
 use std::alloc::Global;
 
 /// The shapes with the default options, and how near they are exact.
@@ -45,9 +43,7 @@ fn answer<I: OverlayInt>(
 
 /// Tells the nearness of the answer to the request on standard input, whose numbers are `i32`, with a limit on splits.
 pub(crate) fn tell_nearness(rt: &HostRuntime, most_splits: u64) -> Result<(), BenchError> {
-    let bytes = read_to_end(rt.alloc(), &mut rt.stdin())?;
-    let value = parse(rt.alloc(), &bytes)?;
-    let request = read_request::<i32>(rt.alloc(), &value)?;
+    let request = read_input(rt)?;
     let mut count = SplitCount::new(most_splits);
     let near = answer(rt.alloc(), &request.drawing, &mut count)?;
     println!(rt; "{} 64ths of a unit, {} splits", near.nearness, count.made)?;

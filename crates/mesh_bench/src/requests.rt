@@ -3,9 +3,9 @@
 use crate::BenchError;
 use mesh_drawing::draw::{edges, shapes};
 use mesh_num::num::OverlayInt;
-use mesh_request::json::parse;
-use mesh_request::request::{Output, Request, read_request};
+use mesh_request::request::{Output, Request, TypedRequest};
 use mesh_service::input::read_to_end;
+use mesh_service::text::read_text;
 use std::alloc::Global;
 
 /// How many contours or lists of edges the answer of a request has.
@@ -22,12 +22,19 @@ fn answer<I: OverlayInt>(alloc: Global, request: &Request<I>) -> Result<usize, B
     }
 }
 
+/// The request on standard input, whose numbers are `i32`.
+pub(crate) fn read_input(rt: &HostRuntime) -> Result<Request<i32>, BenchError> {
+    let bytes = read_to_end(rt.alloc(), &mut rt.stdin())?;
+    match read_text(rt.alloc(), &bytes).request {
+        Ok(TypedRequest::I32(request)) => Ok(request),
+        _ => Err(BenchError::Request),
+    }
+}
+
 /// Answers the request on standard input, whose numbers are `i32`, so many times. Standard error tells when it begins,
 /// and after 1, 10, 100 times and so on, so that a run that takes long shows how far it is.
 pub(crate) fn answer_again(rt: &HostRuntime, count: u64) -> Result<(), BenchError> {
-    let bytes = read_to_end(rt.alloc(), &mut rt.stdin())?;
-    let value = parse(rt.alloc(), &bytes)?;
-    let request = read_request::<i32>(rt.alloc(), &value)?;
+    let request = read_input(rt)?;
     eprintln!(rt; "answering {count} times")?;
     let mut told: u64 = 1;
     let mut found: usize = 0;

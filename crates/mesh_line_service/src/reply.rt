@@ -1,26 +1,25 @@
 //! The reply to a line.
 
-ghost use Rattle.std.specs.Prelude.{◌≡◌, ◌<◌, List, OnOk, IfOk, IfErr, length, string_bytes};
+ghost use Rattle.std.specs.Prelude.{◌≡◌, List, Ok, OnOk, IfOk, IfErr, string_bytes};
 ghost use Rattle.std.specs.Io.KnownBytes.{Appends};
 ghost use Rattle.mesh_request.specs.Failures.{IsOfMemory};
-ghost use Rattle.mesh_service.specs.Lines.{why_text};
-ghost use Rattle.mesh_service.specs.Near.{IsGivenUpIn, IsOfNearMemory};
-ghost use Rattle.mesh_service.specs.Reasons.{LiesIn, reason_text};
-ghost use Rattle.mesh_service.specs.Serving.{AppendsBeginning, HoldsNoRequest, IsRefused};
+ghost use Rattle.mesh_service.specs.Reasons.{IsReadOf, LiesIn};
+ghost use Rattle.mesh_service.specs.Serving.{AppendsBeginning, HoldsNoRequest};
 ghost use Rattle.mesh_line_service.specs.Held.{Holds, IsWithin};
-ghost use Rattle.mesh_line_service.specs.Private.Steps.{reply_text};
-ghost use Rattle.mesh_line_service.specs.Replies.{IsAnswerAsked, IsReplyTo, too_long_text, too_many_text};
+ghost use Rattle.mesh_line_service.specs.Private.Steps.{IsAnsweredTo, reply_text};
+ghost use Rattle.mesh_line_service.specs.Replies.{IsReplyTo, too_long_text, too_many_text};
 
 use crate::line::{Held, Line};
 use crate::options::LineOptions;
-use mesh_offset::error::IntOutlineError;
+use mesh_offset::error::{IntNearnessError, IntOutlineError};
 use mesh_request::failure::Failure;
+use mesh_request::request::TypedRequest;
 use mesh_service::answer::why_line;
-use mesh_service::near::{Telling, respond_near};
-use mesh_service::near_failure::NearFailure;
+use mesh_service::near::{Telling, answer_within};
 use mesh_service::output::write_line;
-use mesh_service::service::respond;
-use mesh_service::why::why;
+use mesh_service::reason::Reason;
+use mesh_service::service::answer_request;
+use mesh_service::text::{TextError, read_text};
 use std::alloc::Global;
 use std::io;
 use std::io::Write;
@@ -42,41 +41,58 @@ pub(crate) fn reply(alloc: Global, line: &Line, options: LineOptions) -> Result<
 fn reply_to(alloc: Global, line: &[u8], options: LineOptions) -> Result<String, Failure>
     ensures { IsWithin options.longest line.now → IsReplyTo options line.now (reply_text result) }
 {
-    match answer(alloc, line, options) {
-        Ok(answer) => Ok(answer),
-        Err(NearFailure::TooManySplits) => too_many_splits(alloc, options.most_splits),
-        Err(NearFailure::Failed(Failure::Unreadable)) => no_request(alloc, line, options),
-        Err(NearFailure::Failed(Failure::Refused(error))) => Err(Failure::Refused(error)),
+    match &read_text(alloc, line).request {
+        Ok(request) => reply_to_request(alloc, request, options),
+        Err(TextError::NoRequest(reason)) => no_request(alloc, reason, options),
+        Err(TextError::OutOfMemory) => Err(Failure::Refused(IntOutlineError::OutOfMemory)),
     }
 }
 
-/// The answer to the request that a line is. Where no limit is set and no nearness asked it is made as the service makes
-/// it, which counts no splits.
-fn answer(alloc: Global, line: &[u8], options: LineOptions) -> Result<String, NearFailure>
-    ensures answered { IfOk result (λ reply. IsAnswerAsked options line.now (string_bytes reply)) }
-    ensures refused { result ≡ Err (NearFailure.Failed (Failure.Refused IntOutlineError.CoordinateOutOfRange))
-        → IsRefused line.now }
-    ensures unreadable { result ≡ Err (NearFailure.Failed Failure.Unreadable) → HoldsNoRequest line.now }
-    ensures given_up { result ≡ Err NearFailure.TooManySplits → IsGivenUpIn options.most_splits line.now }
-    ensures memory { IfErr result (λ e. IsOfNearMemory e → 0 < length line.now) }
+/// The reply to a request.
+fn reply_to_request(
+    alloc: Global,
+    request: &TypedRequest,
+    options: LineOptions,
+) -> Result<String, Failure>
+    ensures { (line : List _) → IsReadOf line (Ok request.now) → IsWithin options.longest line
+        → IsReplyTo options line (reply_text result) }
+{
+    match answer(alloc, request, options) {
+        Ok(answer) => Ok(answer),
+        Err(IntNearnessError::TooManySplits) => too_many_splits(alloc, options.most_splits),
+        Err(IntNearnessError::CoordinateOutOfRange) => {
+            Err(Failure::Refused(IntOutlineError::CoordinateOutOfRange))
+        }
+        Err(IntNearnessError::OutOfMemory) => Err(Failure::Refused(IntOutlineError::OutOfMemory)),
+    }
+}
+
+/// The answer to a request. Where no limit is set and no nearness asked it is made as the service makes it, which counts
+/// no splits.
+fn answer(
+    alloc: Global,
+    request: &TypedRequest,
+    options: LineOptions,
+) -> Result<String, IntNearnessError>
+    ensures { (line : List _) → IsReadOf line (Ok request.now) → IsAnsweredTo options line result }
 {
     if options.most_splits == 0 && !options.nearness {
-        return Ok(respond(alloc, line)?);
+        return Ok(answer_request(alloc, request)?);
     }
     let telling = Telling {
         most_splits: options.most_splits,
         nearness: options.nearness,
     };
-    respond_near(alloc, line, telling)
+    answer_within(alloc, request, telling)
 }
 
-/// The reply to a line that holds no request.
-fn no_request(alloc: Global, line: &[u8], options: LineOptions) -> Result<String, Failure>
-    requires { HoldsNoRequest line.now }
-    ensures { IsWithin options.longest line.now → IsReplyTo options line.now (reply_text result) }
+/// The reply to a line that holds no request, for this reason.
+fn no_request(alloc: Global, reason: &Reason, options: LineOptions) -> Result<String, Failure>
+    ensures { (line : List _) → HoldsNoRequest line → LiesIn line reason.now → IsWithin options.longest line
+        → IsReplyTo options line (reply_text result) }
 {
     if options.why {
-        tell_why(alloc, line)
+        Ok(why_line(alloc, reason)?)
     } else {
         Err(Failure::Unreadable)
     }
@@ -89,19 +105,6 @@ fn too_many_splits(alloc: Global, most: u64) -> Result<String, Failure>
 {
     let text = format!(in alloc; "{{\"refused\":\"splitting took more than {most} splits\"}}\n")?;
     Ok(text)
-}
-
-/// The reply to a line that holds no request, with the reason. It fails only where memory is refused.
-fn tell_why(alloc: Global, line: &[u8]) -> Result<String, Failure>
-    requires { HoldsNoRequest line.now }
-    ensures told { IfOk result (λ text. (reason : _) × LiesIn line.now reason
-        × (string_bytes text ≡ why_text (reason_text reason))) }
-    ensures memory { IfErr result IsOfMemory }
-{
-    match why(alloc, line)? {
-        Some(reason) => Ok(why_line(alloc, &reason)?),
-        None => Err(Failure::Unreadable),
-    }
 }
 
 /// The reply to a line that has more bytes than these. It fails only where memory is refused.

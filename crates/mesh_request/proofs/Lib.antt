@@ -1,4 +1,3 @@
-pub mod Faultless
 pub mod JsonLists
 pub mod JsonMembers
 pub mod Parts

@@ -1,6 +1,7 @@
+pub mod Errors
 pub mod Failures
 pub mod Places
-pub mod Private
 pub mod Reading
 pub mod Requests
 pub mod Texts
+pub mod Typed

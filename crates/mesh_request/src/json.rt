@@ -1,37 +1,14 @@
 //! Values of JSON, and what is looked up in them.
 
-ghost use Rattle.std.specs.Prelude.{◌≡◌, ◌<◌, Some, IfOk, IfErr, MatchOption, IsUtf8, false, true, length, option_map};
-ghost use Rattle.serde_json.specs.Find.{get, as_str};
-ghost use Rattle.serde_json.specs.Read.{read};
+ghost use Rattle.std.specs.Prelude.{◌≡◌, option_map};
+ghost use Rattle.serde_json.specs.Find.{as_str};
 ghost use Rattle.serde_json.specs.View.{view, items_view, members_view};
 ghost use Rattle.serde_json.specs.Written.{has_float as holds_float, items_have_float, members_have_float};
-ghost use Rattle.mesh_request.specs.Failures.{IsOfMemory};
-ghost use Rattle.mesh_request.specs.Reading.{coordinate_of, is_word, says as says_text, IsOfReading};
+ghost use Rattle.mesh_request.specs.Reading.{coordinate_of, is_word, says as says_text};
 
-use crate::failure::Failure;
 use mesh_drawing::coordinate::narrowed;
 use mesh_num::num::IntNumber;
 use serde_json::{Map, Value};
-use std::alloc::Global;
-
-/// The value that the bytes are. `Unreadable`: they are no JSON in UTF-8, or have a number that is no whole number of
-/// 64 bits, wherever it stands. `Refused` with `OutOfMemory`: memory was refused, and there was a byte. There is no
-/// other failure.
-pub fn parse(alloc: Global, bytes: &[u8]) -> Result<Value, Failure>
-    ensures ok { IfOk result (λ v. IsUtf8 bytes.now
-        × (read bytes.now ≡ Some (view v))
-        × (holds_float (view v) ≡ false)) }
-    ensures unreadable { result ≡ Err Failure.Unreadable → IsUtf8 bytes.now
-        → MatchOption (read bytes.now) (Unit {0}) (λ d. holds_float d ≡ true) }
-    ensures err { IfErr result IsOfReading }
-    ensures memory { IfErr result (λ e. IsOfMemory e → 0 < length bytes.now) }
-{
-    let value = Value::from_slice(alloc, bytes)?;
-    if has_float(&value) {
-        return Err(Failure::Unreadable);
-    }
-    Ok(value)
-}
 
 /// Whether a number in the value is a float, as `serde_json` makes of one with a fraction, an exponent or too many
 /// digits.

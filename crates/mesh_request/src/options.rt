@@ -1,40 +1,57 @@
 //! Options of the overlay, read from JSON.
 
-ghost use Rattle.std.specs.Prelude.{◌≡◌, option_map};
+ghost use Rattle.std.specs.Prelude.{◌≡◌, Some, MatchResult, codes, option_map};
+ghost use Rattle.serde_json.specs.Find.{get};
 ghost use Rattle.serde_json.specs.View.{view};
 ghost use Rattle.mesh_below.specs.Options.{choices_of, is_clockwise};
+ghost use Rattle.mesh_request.specs.Errors.{FailsToRead};
 ghost use Rattle.mesh_request.specs.Reading.{area_of, flag_of, choices_in, choices_given};
 
+use crate::error::ReadError;
+use crate::fault::key::Key;
+use crate::fault::problem::Problem;
+use crate::fault::{inner_fault, member_fault};
 use mesh_below::below::{ContourDirection, IntOverlayOptions};
 use mesh_drawing::coordinate::narrowed_area;
 use mesh_num::num::{IntNumber, WideUnsigned};
 use serde_json::Value;
 
-/// The options that a value gives, the default ones where there is none.
-pub fn read_options<I: IntNumber>(value: Option<&Value>) -> Option<IntOverlayOptions<I::WideUInt>>
-    ensures { option_map (λ o. choices_of I.WideUInt.value o) result
-        ≡ choices_given I.unit (option_map (λ v. view v.now) value.entry) }
+/// The options that a request gives, the default ones where there are none.
+pub(crate) fn read_options<I: IntNumber>(
+    request: &Value,
+) -> Result<IntOverlayOptions<I::WideUInt>, ReadError>
+    ensures { let given = choices_given I.unit (get (codes "options") (view request.now)) in
+        MatchResult result (λ o. given ≡ Some (choices_of I.WideUInt.value o))
+        (FailsToRead (view request.now) given) }
 {
-    match value {
-        Some(options) => {
-            if options.is_object() {
-                members::<I>(options)
-            } else {
-                None
-            }
-        }
-        None => Some(IntOverlayOptions::new()),
+    let Some(options) = request.get("options") else {
+        return Ok(IntOverlayOptions::new());
+    };
+    if !options.is_object() {
+        return Err(member_fault(request, Key::Options, Problem::NoObject));
     }
+    members::<I>(request, options)
 }
 
-/// The options that an object gives.
-fn members<I: IntNumber>(options: &Value) -> Option<IntOverlayOptions<I::WideUInt>>
-    ensures { option_map (λ o. choices_of I.WideUInt.value o) result ≡ choices_in I.unit (view options.now) }
+/// The options that an object of a request gives.
+fn members<I: IntNumber>(
+    request: &Value,
+    options: &Value,
+) -> Result<IntOverlayOptions<I::WideUInt>, ReadError>
+    ensures { let given = choices_in I.unit (view options.now) in
+        MatchResult result (λ o. given ≡ Some (choices_of I.WideUInt.value o))
+        (FailsToRead (view request.now) given) }
 {
-    let min_output_area = least_area::<I>(options.get("min_area"))?;
-    let clockwise = flag(options.get("clockwise"))?;
-    let preserve_output_collinear = flag(options.get("collinear"))?;
-    Some(IntOverlayOptions {
+    let Some(min_output_area) = least_area::<I>(options.get("min_area")) else {
+        return Err(inner_fault(request, Key::Options, Key::MinArea, Problem::NoArea));
+    };
+    let Some(clockwise) = flag(options.get("clockwise")) else {
+        return Err(inner_fault(request, Key::Options, Key::Clockwise, Problem::NoBool));
+    };
+    let Some(preserve_output_collinear) = flag(options.get("collinear")) else {
+        return Err(inner_fault(request, Key::Options, Key::Collinear, Problem::NoBool));
+    };
+    Ok(IntOverlayOptions {
         min_output_area,
         output_direction: direction(clockwise),
         preserve_output_collinear,
@@ -42,7 +59,7 @@ fn members<I: IntNumber>(options: &Value) -> Option<IntOverlayOptions<I::WideUIn
 }
 
 /// The area that a value is, a whole number without sign that fits its type; 0 where there is none.
-pub(crate) fn least_area<I: IntNumber>(value: Option<&Value>) -> Option<I::WideUInt>
+fn least_area<I: IntNumber>(value: Option<&Value>) -> Option<I::WideUInt>
     ensures { option_map (λ a. I.WideUInt.value a) result ≡ area_of I.unit (option_map (λ v. view v.now) value.entry) }
 {
     match value {
@@ -52,7 +69,7 @@ pub(crate) fn least_area<I: IntNumber>(value: Option<&Value>) -> Option<I::WideU
 }
 
 /// What a value says, false where there is none.
-pub fn flag(value: Option<&Value>) -> Option<bool>
+pub(crate) fn flag(value: Option<&Value>) -> Option<bool>
     ensures { result ≡ flag_of (option_map (λ v. view v.now) value.entry) }
 {
     match value {

@@ -1,9 +1,11 @@
 //! Requests that are served, read from JSON.
 
-ghost use Rattle.std.specs.Prelude.{◌≡◌, Some, None, MatchResult, option_map};
+ghost use Rattle.std.specs.Prelude.{◌≡◌, Some, MatchResult};
 ghost use Rattle.serde_json.specs.View.{view};
-ghost use Rattle.mesh_request.specs.Reading.{asked_in, drawn_in, request_as, IsOfReading};
+ghost use Rattle.mesh_request.specs.Errors.{FailsToRead};
+ghost use Rattle.mesh_request.specs.Reading.{asked_in, drawn_in, request_as, request_of};
 ghost use Rattle.mesh_request.specs.Requests.{asked_of};
+ghost use Rattle.mesh_request.specs.Typed.{untyped};
 ghost use Rattle.mesh_drawing.specs.Drawn.{drawn_of};
 
 pub mod caps;
@@ -14,7 +16,10 @@ pub mod stroke;
 pub mod variable_stroke;
 pub mod vertices;
 
-use crate::failure::Failure;
+use crate::error::ReadError;
+use crate::fault::key::Key;
+use crate::fault::member_fault;
+use crate::fault::problem::Problem;
 use crate::json::says;
 use crate::options::read_options;
 use mesh_below::below::IntOverlayOptions;
@@ -58,23 +63,51 @@ impl<I: OverlayInt> Model for Request<I> {
     } };
 }
 
-/// The request that a value is. `Unreadable`: it is none that is served. `Refused` with `OutOfMemory`: memory was
-/// refused. There is no other failure.
-pub fn read_request<I: OverlayInt>(alloc: Global, value: &Value) -> Result<Request<I>, Failure>
-    ensures { MatchResult result (λ r. request_as I.unit (view value.now) ≡ Some r)
-        (λ e. IsOfReading e × (e ≡ Failure.Unreadable → request_as I.unit (view value.now) ≡ None)) }
+/// A request with the type of its coordinates.
+#[derive(Drop)]
+pub enum TypedRequest {
+    I16(Request<i16>),
+    I32(Request<i32>),
+}
+
+/// The request that a value is. `Fault`: it is none that is served, and here it goes wrong first. `OutOfMemory`: memory
+/// was refused.
+pub fn read(alloc: Global, value: &Value) -> Result<TypedRequest, ReadError>
+    ensures { MatchResult result (λ r. request_of (view value.now) ≡ Some (untyped r))
+        (FailsToRead (view value.now) (request_of (view value.now))) }
 {
-    let drawing = read_drawing(alloc, value)?;
-    match read_output::<I>(value) {
-        Some(output) => Ok(Request { drawing, output }),
-        None => Err(Failure::Unreadable),
+    if says(value, "int", "i16") {
+        Ok(TypedRequest::I16(read_request(alloc, value)?))
+    } else if says(value, "int", "i32") {
+        Ok(TypedRequest::I32(read_request(alloc, value)?))
+    } else if names_operation(value) {
+        Err(member_fault(value, Key::Int, Problem::NoCoordinateType))
+    } else {
+        Err(member_fault(value, Key::Operation, Problem::NoOperation))
     }
 }
 
+/// The request with coordinates of one type that a value is, whichever type it names.
+pub fn read_request<I: OverlayInt>(alloc: Global, value: &Value) -> Result<Request<I>, ReadError>
+    ensures { MatchResult result (λ r. request_as I.unit (view value.now) ≡ Some r)
+        (FailsToRead (view value.now) (request_as I.unit (view value.now))) }
+{
+    let drawing = read_drawing(alloc, value)?;
+    let output = read_output::<I>(value)?;
+    Ok(Request { drawing, output })
+}
+
+/// Whether a request names an operation.
+fn names_operation(request: &Value) -> bool {
+    says(request, "op", "outline")
+        || says(request, "op", "stroke")
+        || says(request, "op", "variable_stroke")
+}
+
 /// What a request draws: a key of another operation is passed by.
-fn read_drawing<I: OverlayInt>(alloc: Global, value: &Value) -> Result<Drawing<I>, Failure>
+fn read_drawing<I: OverlayInt>(alloc: Global, value: &Value) -> Result<Drawing<I>, ReadError>
     ensures { MatchResult result (λ d. drawn_in I.unit (view value.now) ≡ Some (drawn_of I.value d))
-        (λ e. IsOfReading e × (e ≡ Failure.Unreadable → drawn_in I.unit (view value.now) ≡ None)) }
+        (FailsToRead (view value.now) (drawn_in I.unit (view value.now))) }
 {
     if says(value, "op", "outline") {
         Ok(Drawing::Outline(read_outline(alloc, value)?))
@@ -83,19 +116,20 @@ fn read_drawing<I: OverlayInt>(alloc: Global, value: &Value) -> Result<Drawing<I
     } else if says(value, "op", "variable_stroke") {
         Ok(Drawing::VariableStroke(read_variable_stroke(alloc, value)?))
     } else {
-        Err(Failure::Unreadable)
+        Err(member_fault(value, Key::Operation, Problem::NoOperation))
     }
 }
 
 /// What a request asks of what is drawn. Options are looked at for shapes alone.
-pub(crate) fn read_output<I: IntNumber>(value: &Value) -> Option<Output<I::WideUInt>>
-    ensures { option_map (λ o. asked_of I.WideUInt.value o) result ≡ asked_in I.unit (view value.now) }
+fn read_output<I: IntNumber>(value: &Value) -> Result<Output<I::WideUInt>, ReadError>
+    ensures { let asked = asked_in I.unit (view value.now) in
+        MatchResult result (λ o. asked ≡ Some (asked_of I.WideUInt.value o)) (FailsToRead (view value.now) asked) }
 {
     if says(value, "out", "edges") {
-        Some(Output::Edges)
+        Ok(Output::Edges)
     } else if says(value, "out", "shapes") {
-        Some(Output::Shapes(read_options::<I>(value.get("options"))?))
+        Ok(Output::Shapes(read_options::<I>(value)?))
     } else {
-        None
+        Err(member_fault(value, Key::Out, Problem::NoOutput))
     }
 }

@@ -1,5 +1,5 @@
 -- What is answered to requests by no more than a number of splits, with the nearness of the answer where that is asked.
-use Rattle.std.specs.Prelude.{ℕ, ◌≡◌, ℤ, List, Some, Bool, IsUtf8, Result, Ok, Err}
+use Rattle.std.specs.Prelude.{ℕ, ◌≡◌, ℤ, List, Some, Bool, IsUtf8, Result, Ok, Err, string_bytes}
 use Rattle.std.specs.declared.alloc.Global.{Global}
 use Rattle.std.specs.Ordering.{int_cmp}
 use Rattle.std.specs.declared.cmp.Ordering.{Ordering}
@@ -11,11 +11,10 @@ use Rattle.mesh_offset.specs.declared.error.IntNearnessError.TheVariants as near
 use Rattle.mesh_offset.specs.declared.error.IntOutlineError.TheVariants.{CoordinateOutOfRange, OutOfMemory}
 use Rattle.mesh_drawing.specs.Drawings.{AreEdgesOf}
 use Rattle.mesh_drawing.specs.Nearness.{AreShapesWithin, TakesMoreSplits}
-use Rattle.mesh_request.specs.Failures.{IsOfMemory}
 use Rattle.mesh_request.specs.Requests.{Asked, Request}
 use Rattle.mesh_service.specs.Lines.{told_edges_text, told_shapes_text}
 use Rattle.mesh_service.specs.Served.{IsAccepted}
-use Rattle.mesh_service.specs.Serving.{request_in, TellsRefusal}
+use Rattle.mesh_service.specs.Serving.{request_in, IsResponse, TellsRefusal}
 use Rattle.mesh_request.specs.declared.failure.Failure.TheVariants.{Refused}
 use Rattle.mesh_service.specs.declared.near.Telling.{Telling}
 use Rattle.mesh_service.specs.declared.near_failure.NearFailure.{NearFailure}
@@ -67,16 +66,17 @@ pub record IsGivenUpIn (most : ℕ) (text : List ℕ) : Type 0 where
   pub requested : request_in text ≡ Some request
   pub past : PassesLimit most request
 
+-- the response to a text with a limit on splits: that without a limit, or that the limit was passed
+abbrev pub IsResponseWithin : Telling → List ℕ → Result (String Global) NearFailure → Type 0
+IsResponseWithin telling text (Ok line) = IsAnswerWithin telling text (string_bytes line)
+IsResponseWithin telling text (Err (Failed failure)) = IsResponse text (Err failure)
+IsResponseWithin telling text (Err TooManySplits) = IsGivenUpIn telling.most_splits text
+
 -- what is told is a refusal, of the range or of memory
 abbrev pub TellsNearRefusal : Result (String Global) NearFailure → Type 0
 TellsNearRefusal (Ok line) = ⊥
 TellsNearRefusal (Err (Failed failure)) = TellsRefusal (Err failure)
 TellsNearRefusal (Err TooManySplits) = ⊥
-
--- memory was refused
-abbrev pub IsOfNearMemory : NearFailure → Type 0
-IsOfNearMemory (Failed failure) = IsOfMemory failure
-IsOfNearMemory TooManySplits = ⊥
 
 -- the failure that an error of a call that tells its nearness is
 abbrev pub of_nearness : IntNearnessError → NearFailure

@@ -1,6 +1,7 @@
 -- What the service answers to a request.
 use Rattle.std.specs.Prelude.{ℕ, ◌≡◌, ◌<◌, List, ◌++◌, length}
 use Rattle.std.specs.Prelude.{Option, Some, None, Result, Ok, Err, IfSome, IsUtf8, option_and_then, if◌then◌else◌}
+use Rattle.std.specs.Prelude.{string_bytes}
 use Rattle.std.specs.Io.KnownBytes.{Appends, IsAtEnd}
 use Rattle.std.specs.Ordering.{int_cmp}
 use Rattle.std.specs.declared.alloc.Global.{Global}
@@ -15,6 +16,9 @@ use Rattle.mesh_request.specs.Requests.{Request}
 use Rattle.mesh_service.specs.Served.{IsAccepted, Answers}
 use Rattle.mesh_request.specs.declared.failure.Failure.{Failure}
 use Rattle.mesh_request.specs.declared.failure.Failure.TheVariants.{Unreadable, Refused}
+use Rattle.mesh_service.specs.declared.service.Status.{Status}
+use Rattle.mesh_service.specs.declared.service.Status.TheVariants.{Answered, Unread, Unwritten}
+use Rattle.mesh_service.specs.declared.service.Status.TheVariants.{Refused as RefusedStatus, Unreadable as UnreadableStatus}
 
 -- the request that data is; a number that is no whole number of 64 bits makes it none
 abbrev pub exact_request : Data → Option Request
@@ -41,6 +45,20 @@ pub record IsRefused (text : List ℕ) : Type 0 where
 -- the text, where it is in UTF-8, is no request
 abbrev pub HoldsNoRequest : List ℕ → Type 0
 HoldsNoRequest text = IsUtf8 text → request_in text ≡ None
+
+-- the response to a text: an answer to the request that it is; that it holds none; the refusal of one that may not be
+-- answered; or want of memory, where there was a byte
+abbrev pub IsResponse : List ℕ → Result (String Global) Failure → Type 0
+IsResponse text (Ok line) = IsAnswer text (string_bytes line)
+IsResponse text (Err Unreadable) = HoldsNoRequest text
+IsResponse text (Err (Refused CoordinateOutOfRange)) = IsRefused text
+IsResponse text (Err (Refused OutOfMemory)) = 0 < length text
+
+-- how a run ends that writes this answer, or the line of the failure in its place
+abbrev pub status_of : Result (String Global) Failure → Status
+status_of (Ok line) = Answered
+status_of (Err Unreadable) = UnreadableStatus
+status_of (Err (Refused error)) = RefusedStatus
 
 -- what is told is a refusal, of the range or of memory
 abbrev pub TellsRefusal : Result (String Global) Failure → Type 0
@@ -69,10 +87,18 @@ pub record AppendsBeginning (old new : Option (List ℕ)) (line : List ℕ) : Ty
   pub whole : line ≡ written ++ rest
   pub appended : Appends old new written
 
--- the refusal that a run met, where the reader had these bytes left, and these when the run ended: the request, which
--- was read to the end, may not be answered, or there were bytes and memory was refused; and the line of that was
--- written whole
-pub data MetRefusal (left unread old new : Option (List ℕ)) : Type 0 where
-  of_range : {request : List ℕ} → IfSome left (λ bytes. request ≡ bytes) → IsAtEnd unread → IsRefused request
-      → Appends old new (failure_line (Refused CoordinateOutOfRange)) → MetRefusal left unread old new
-  of_memory : HasBytes left → Appends old new (failure_line (Refused OutOfMemory)) → MetRefusal left unread old new
+-- how a run ended: the request that was read to the end was answered, refused or is none; there were bytes, and memory
+-- was refused; reading failed, or writing did, before or after the last byte of the line. The reader had these bytes
+-- left, and these when the run ended
+pub data Serves (left unread old new : Option (List ℕ)) : Status → Type 0 where
+  answered : {request line : List ℕ} → IfSome left (λ bytes. request ≡ bytes) → IsAtEnd unread
+      → IsAnswer request line → Appends old new line → Serves left unread old new Answered
+  refused : {request : List ℕ} → IfSome left (λ bytes. request ≡ bytes) → IsAtEnd unread → IsRefused request
+      → Appends old new (failure_line (Refused CoordinateOutOfRange)) → Serves left unread old new RefusedStatus
+  no_memory : HasBytes left → Appends old new (failure_line (Refused OutOfMemory))
+      → Serves left unread old new RefusedStatus
+  unreadable : IfSome left HoldsNoRequest → IsAtEnd unread → Appends old new (failure_line Unreadable)
+      → Serves left unread old new UnreadableStatus
+  unread : Appends old new (failure_line Unreadable) → Serves left unread old new Unread
+  unwritten : {line : List ℕ} → IsReply left line → AppendsBeginning old new line
+      → Serves left unread old new Unwritten

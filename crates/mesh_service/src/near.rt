@@ -1,30 +1,26 @@
 //! Requests answered by no more than a number of splits, with the nearness of the answer where that is asked.
 
-ghost use Rattle.std.specs.Prelude.{◌≡◌, ◌<◌, None, length, string_bytes, IfOk, IfErr};
+ghost use Rattle.std.specs.Prelude.{◌≡◌, string_bytes, IfOk};
 ghost use Rattle.std.specs.Ordering.{int_cmp};
-ghost use Rattle.serde_json.specs.View.{view};
 ghost use Rattle.mesh_num.specs.Paths.{paths_of, shapes_of};
-ghost use Rattle.mesh_request.specs.Reading.{request_as, request_of};
 ghost use Rattle.mesh_drawing.specs.Order.{by_values};
+ghost use Rattle.mesh_request.specs.Typed.{untyped};
 ghost use Rattle.mesh_service.specs.Lines.{told_edges_text, told_shapes_text};
-ghost use Rattle.mesh_service.specs.Near.{AnswersWithin, IsAnswerWithin, IsGivenUpIn, IsOfNearMemory, PassesLimit};
-ghost use Rattle.mesh_service.specs.Near.{TellsNearRefusal};
-ghost use Rattle.mesh_service.specs.Private.Told.{AnswersAskedWithin, MayNotBeAnswered, PassesLimitAsked};
+ghost use Rattle.mesh_service.specs.Near.{AnswersWithin, IsResponseWithin, PassesLimit, TellsNearRefusal};
 ghost use Rattle.mesh_service.specs.Served.{IsAccepted};
-ghost use Rattle.mesh_service.specs.Serving.{HoldsNoRequest, IsRefused};
+ghost use Rattle.mesh_service.specs.Serving.{IsRefused};
 
 use crate::answer::{edges_line, near_edges_line, near_shapes_line, shapes_line};
 use crate::near_failure::NearFailure;
+use crate::text::read_text;
 use mesh_below::nearness::NearShapes;
 use mesh_drawing::draw;
 use mesh_drawing::nearness::near_shapes;
 use mesh_num::num::OverlayInt;
 use mesh_num::shape::edge::DirectedEdge;
-use mesh_offset::error::{IntNearnessError, IntOutlineError};
+use mesh_offset::error::IntNearnessError;
 use mesh_request::failure::Failure;
-use mesh_request::json::{parse, says};
-use mesh_request::request::{Output, Request, read_request};
-use serde_json::Value;
+use mesh_request::request::{Output, Request, TypedRequest};
 use std::alloc::{AllocError, Global};
 
 /// What is asked of an answer beside what it lists.
@@ -41,54 +37,32 @@ pub struct Telling {
 /// is served; with `Refused` and `CoordinateOutOfRange`: what is to be drawn does not stay in the safe range; with
 /// `Refused` and `OutOfMemory`: memory was refused, and there was a byte. `TooManySplits`: more splits were made.
 pub fn respond_near(alloc: Global, request: &[u8], telling: Telling) -> Result<String, NearFailure>
-    ensures answered { IfOk result (λ line. IsAnswerWithin telling request.now (string_bytes line)) }
-    ensures refused { result ≡ Err (NearFailure.Failed (Failure.Refused IntOutlineError.CoordinateOutOfRange))
-        → IsRefused request.now }
+    ensures response { IsResponseWithin telling request.now result }
     ensures not_accepted { IsRefused request.now → TellsNearRefusal result }
-    ensures unreadable { result ≡ Err (NearFailure.Failed Failure.Unreadable) → HoldsNoRequest request.now }
-    ensures given_up { result ≡ Err NearFailure.TooManySplits → IsGivenUpIn telling.most_splits request.now }
-    ensures memory { IfErr result (λ e. IsOfNearMemory e → 0 < length request.now) }
 {
-    let value = parse(alloc, request)?;
-    answer(alloc, &value, telling)
-}
-
-/// The line that answers the request that a value is.
-fn answer(alloc: Global, value: &Value, telling: Telling) -> Result<String, NearFailure>
-    ensures answered { IfOk result (λ line.
-        AnswersAskedWithin telling int_cmp (request_of (view value.now)) (string_bytes line)) }
-    ensures refused { result ≡ Err (NearFailure.Failed (Failure.Refused IntOutlineError.CoordinateOutOfRange))
-        → MayNotBeAnswered (request_of (view value.now)) }
-    ensures unreadable { result ≡ Err (NearFailure.Failed Failure.Unreadable) → request_of (view value.now) ≡ None }
-    ensures given_up { result ≡ Err NearFailure.TooManySplits
-        → PassesLimitAsked telling.most_splits (request_of (view value.now)) }
-{
-    if says(value, "int", "i16") {
-        answer_of_type::<i16>(alloc, value, telling)
-    } else if says(value, "int", "i32") {
-        answer_of_type::<i32>(alloc, value, telling)
-    } else {
-        Err(NearFailure::Failed(Failure::Unreadable))
+    match &read_text(alloc, request).request {
+        Ok(request) => Ok(answer_within(alloc, request, telling)?),
+        Err(error) => Err(NearFailure::Failed(Failure::from(*error))),
     }
 }
 
-/// The line that answers a request with coordinates of one type.
-fn answer_of_type<I: OverlayInt>(
+/// The line that answers a request, made by no more splits than may be made, and with its nearness where that is asked.
+/// Edges are drawn without a split, and their nearness is 0. `CoordinateOutOfRange`: what is to be drawn does not stay in
+/// the safe range. `OutOfMemory`: memory was refused. `TooManySplits`: more splits were made.
+pub fn answer_within(
     alloc: Global,
-    value: &Value,
+    request: &TypedRequest,
     telling: Telling,
-) -> Result<String, NearFailure>
-    ensures answered { IfOk result (λ line. AnswersAskedWithin telling (by_values I.cmp I.of_value)
-        (request_as I.unit (view value.now)) (string_bytes line)) }
-    ensures refused { result ≡ Err (NearFailure.Failed (Failure.Refused IntOutlineError.CoordinateOutOfRange))
-        → MayNotBeAnswered (request_as I.unit (view value.now)) }
-    ensures unreadable { result ≡ Err (NearFailure.Failed Failure.Unreadable)
-        → request_as I.unit (view value.now) ≡ None }
-    ensures given_up { result ≡ Err NearFailure.TooManySplits
-        → PassesLimitAsked telling.most_splits (request_as I.unit (view value.now)) }
+) -> Result<String, IntNearnessError>
+    ensures answered { IfOk result (λ line. AnswersWithin telling int_cmp (untyped request.now) (string_bytes line)) }
+    ensures refused { result ≡ Err IntNearnessError.CoordinateOutOfRange → ¬ IsAccepted (untyped request.now) }
+    ensures given_up { result ≡ Err IntNearnessError.TooManySplits
+        → PassesLimit telling.most_splits (untyped request.now) }
 {
-    let request = read_request::<I>(alloc, value)?;
-    Ok(request_line(alloc, &request, telling)?)
+    match request {
+        TypedRequest::I16(request) => request_line(alloc, request, telling),
+        TypedRequest::I32(request) => request_line(alloc, request, telling),
+    }
 }
 
 /// The line that lists what is asked.

@@ -1,29 +1,25 @@
 //! One run of the service, over any reader and writer.
 
-ghost use Rattle.std.specs.Prelude.{◌≡◌, ◌<◌, ◌↔◌, ◌⊎◌, None, List, length, string_bytes};
-ghost use Rattle.std.specs.Prelude.{IsOk, OnOk, IfOk, IfErr, IfSome};
-ghost use Rattle.std.specs.Io.KnownBytes.{Appends, IsAtEnd};
+ghost use Rattle.std.specs.Prelude.{◌≡◌, ◌↔◌, ◌⊎◌, List, string_bytes, OnOk, IfOk};
+ghost use Rattle.std.specs.Io.KnownBytes.{Appends};
 ghost use Rattle.std.specs.Ordering.{int_cmp};
-ghost use Rattle.serde_json.specs.View.{view};
 ghost use Rattle.mesh_drawing.specs.Order.{by_values};
-ghost use Rattle.mesh_request.specs.Failures.{failure_line, IsOfMemory};
-ghost use Rattle.mesh_request.specs.Reading.{request_as, request_of};
-ghost use Rattle.mesh_service.specs.Private.Told.{AnswersAsked, MayNotBeAnswered, told_line};
+ghost use Rattle.mesh_request.specs.Typed.{untyped};
+ghost use Rattle.mesh_service.specs.Private.Told.{Tells, told_line};
+ghost use Rattle.mesh_service.specs.Reasons.{IsReadOf};
 ghost use Rattle.mesh_service.specs.Served.{IsAccepted, Answers};
-ghost use Rattle.mesh_service.specs.Serving.{IsAnswer, IsRefused, IsReply, HasBytes, HoldsNoRequest};
-ghost use Rattle.mesh_service.specs.Serving.{AppendsBeginning, TellsRefusal, MetRefusal};
+ghost use Rattle.mesh_service.specs.Serving.{AppendsBeginning, IsResponse, IsRefused, Serves, TellsRefusal, status_of};
 
 use crate::answer::{edges_line, shapes_line};
 use crate::input::read_to_end;
 use crate::output::write_line;
+use crate::text::{ReadText, TextError, read_text};
 use crate::told::tell;
 use i_overlay_mesh::IntOutlineError;
 use mesh_drawing::draw;
 use mesh_num::num::OverlayInt;
 use mesh_request::failure::Failure;
-use mesh_request::json::{parse, says};
-use mesh_request::request::{Output, Request, read_request};
-use serde_json::Value;
+use mesh_request::request::{Output, Request, TypedRequest};
 use std::alloc::Global;
 use std::io;
 use std::io::{Read, Write};
@@ -60,9 +56,7 @@ impl Status {
 
     /// How a run ends whose answer, or the line of its failure, is written.
     pub fn of(answer: &Result<String, Failure>) -> Self
-        ensures answered { result ≡ Status.Answered ↔ IsOk answer.now }
-        ensures refused { result ≡ Status.Refused ↔ TellsRefusal answer.now }
-        ensures unreadable { result ≡ Status.Unreadable ↔ (answer.now ≡ Err Failure.Unreadable) }
+        ensures { result ≡ status_of answer.now }
     {
         match answer {
             Ok(_) => Status::Answered,
@@ -74,20 +68,8 @@ impl Status {
 
 /// Reads a request to the reader's end and writes its answer, one line, or the line of a failure.
 pub fn serve<R: Read, W: Write>(alloc: Global, reader: &mut R, writer: &mut W) -> Status
-    ensures answered { result ≡ Status.Answered → (request : List _) × (line : List _)
-        × IfSome (R.remaining reader.old) (λ bytes. request ≡ bytes)
-        × IsAnswer request line
-        × Appends (W.contents writer.old) (W.contents writer.new) line }
-    ensures unreadable { result ≡ Status.Unreadable → IfSome (R.remaining reader.old) HoldsNoRequest
-        × Appends (W.contents writer.old) (W.contents writer.new) (failure_line Failure.Unreadable) }
-    ensures unread { result ≡ Status.Unread
-        → Appends (W.contents writer.old) (W.contents writer.new) (failure_line Failure.Unreadable) }
-    ensures refused { result ≡ Status.Refused → MetRefusal (R.remaining reader.old) (R.remaining reader.new)
-        (W.contents writer.old) (W.contents writer.new) }
-    ensures read { (result ≡ Status.Answered) ⊎ (result ≡ Status.Unreadable) → IsAtEnd (R.remaining reader.new) }
-    ensures written { (line : List _)
-        × IsReply (R.remaining reader.old) line
-        × AppendsBeginning (W.contents writer.old) (W.contents writer.new) line }
+    ensures { Serves (R.remaining reader.old) (R.remaining reader.new) (W.contents writer.old) (W.contents writer.new)
+        result }
 {
     read_and_reply(alloc, reader, writer).status
 }
@@ -100,23 +82,11 @@ pub fn serve_told<R: Read, W: Write, E: Write>(
     writer: &mut W,
     errors: &mut E,
 ) -> Status
-    ensures answered { result ≡ Status.Answered → (request : List _) × (line : List _)
-        × IfSome (R.remaining reader.old) (λ bytes. request ≡ bytes)
-        × IsAnswer request line
-        × Appends (W.contents writer.old) (W.contents writer.new) line }
-    ensures unreadable { result ≡ Status.Unreadable → IfSome (R.remaining reader.old) HoldsNoRequest
-        × Appends (W.contents writer.old) (W.contents writer.new) (failure_line Failure.Unreadable) }
-    ensures unread { result ≡ Status.Unread
-        → Appends (W.contents writer.old) (W.contents writer.new) (failure_line Failure.Unreadable) }
-    ensures refused { result ≡ Status.Refused → MetRefusal (R.remaining reader.old) (R.remaining reader.new)
-        (W.contents writer.old) (W.contents writer.new) }
-    ensures read { (result ≡ Status.Answered) ⊎ (result ≡ Status.Unreadable) → IsAtEnd (R.remaining reader.new) }
-    ensures written { (line : List _)
-        × IsReply (R.remaining reader.old) line
-        × AppendsBeginning (W.contents writer.old) (W.contents writer.new) line }
+    ensures { Serves (R.remaining reader.old) (R.remaining reader.new) (W.contents writer.old) (W.contents writer.new)
+        result }
 {
     let run = read_and_reply(alloc, reader, writer);
-    let _ = tell(alloc, errors, &run.request, run.status);
+    let _ = tell(errors, &run.read, run.status);
     run.status
 }
 
@@ -124,37 +94,24 @@ pub fn serve_told<R: Read, W: Write, E: Write>(
 #[derive(Drop)]
 struct Run {
     /// What was read.
-    request: Result<Vec<u8>, Failure>,
+    read: Result<ReadText, Failure>,
     /// How it ended.
     status: Status,
 }
 
 /// Reads a request and writes its line.
 fn read_and_reply<R: Read, W: Write>(alloc: Global, reader: &mut R, writer: &mut W) -> Run
-    ensures answered { result.status ≡ Status.Answered → (request : List _) × (line : List _)
-        × IfSome (R.remaining reader.old) (λ bytes. request ≡ bytes)
-        × IsAnswer request line
-        × Appends (W.contents writer.old) (W.contents writer.new) line }
-    ensures unreadable { result.status ≡ Status.Unreadable → IfSome (R.remaining reader.old) HoldsNoRequest
-        × Appends (W.contents writer.old) (W.contents writer.new) (failure_line Failure.Unreadable) }
-    ensures unread { result.status ≡ Status.Unread
-        → Appends (W.contents writer.old) (W.contents writer.new) (failure_line Failure.Unreadable) }
-    ensures refused { result.status ≡ Status.Refused → MetRefusal (R.remaining reader.old) (R.remaining reader.new)
-        (W.contents writer.old) (W.contents writer.new) }
-    ensures read { (result.status ≡ Status.Answered) ⊎ (result.status ≡ Status.Unreadable)
-        → IsAtEnd (R.remaining reader.new) }
-    ensures written { (line : List _)
-        × IsReply (R.remaining reader.old) line
-        × AppendsBeginning (W.contents writer.old) (W.contents writer.new) line }
+    ensures { Serves (R.remaining reader.old) (R.remaining reader.new) (W.contents writer.old) (W.contents writer.new)
+        result.status }
 {
     let reply = read_and_answer(alloc, reader);
     match print(writer, &reply.answer) {
         Err(_) => Run {
-            request: reply.request,
+            read: reply.read,
             status: Status::Unwritten,
         },
         Ok(()) => Run {
-            request: reply.request,
+            read: reply.read,
             status: reply.status,
         },
     }
@@ -164,7 +121,7 @@ fn read_and_reply<R: Read, W: Write>(alloc: Global, reader: &mut R, writer: &mut
 #[derive(Drop)]
 struct Reply {
     /// What was read.
-    request: Result<Vec<u8>, Failure>,
+    read: Result<ReadText, Failure>,
     /// The answer, or the failure in its place.
     answer: Result<String, Failure>,
     /// How a run ends that writes it.
@@ -173,38 +130,26 @@ struct Reply {
 
 /// The answer to what the reader has left, or the failure in its place.
 fn read_and_answer<R: Read>(alloc: Global, reader: &mut R) -> Reply
-    ensures answered { IfOk result.answer (λ line. (request : List _)
-        × IfSome (R.remaining reader.old) (λ bytes. request ≡ bytes) × IsAnswer request (string_bytes line)) }
-    ensures refused { result.answer ≡ Err (Failure.Refused IntOutlineError.CoordinateOutOfRange)
-        → (request : List _) × IfSome (R.remaining reader.old) (λ bytes. request ≡ bytes)
-        × IsAtEnd (R.remaining reader.new) × IsRefused request }
-    ensures unreadable { result.status ≡ Status.Unreadable → IfSome (R.remaining reader.old) HoldsNoRequest }
-    ensures read { (result.status ≡ Status.Answered) ⊎ (result.status ≡ Status.Unreadable)
-        → IsAtEnd (R.remaining reader.new) }
-    ensures memory { IfErr result.answer (λ e. IsOfMemory e → HasBytes (R.remaining reader.old)) }
-    ensures reply { IsReply (R.remaining reader.old) (told_line result.answer) }
-    ensures ends_answered { result.status ≡ Status.Answered → IsOk result.answer }
-    ensures ends_refused { result.status ≡ Status.Refused → TellsRefusal result.answer }
-    ensures ends_unreadable { result.status ≡ Status.Unreadable → result.answer ≡ Err Failure.Unreadable }
-    ensures ends_unread { result.status ≡ Status.Unread → result.answer ≡ Err Failure.Unreadable }
+    ensures { Tells (R.remaining reader.old) (R.remaining reader.new) result.answer result.status }
 {
     match read_to_end(alloc, reader) {
         Ok(request) => {
-            let answer = respond(alloc, &request);
+            let read = read_text(alloc, &request);
+            let answer = answer(alloc, &read.request);
             let status = Status::of(&answer);
             Reply {
-                request: Ok(request),
+                read: Ok(read),
                 answer,
                 status,
             }
         }
         Err(Failure::Unreadable) => Reply {
-            request: Err(Failure::Unreadable),
+            read: Err(Failure::Unreadable),
             answer: Err(Failure::Unreadable),
             status: Status::Unread,
         },
         Err(refused) => Reply {
-            request: Err(refused),
+            read: Err(refused),
             answer: Err(refused),
             status: Status::Refused,
         },
@@ -215,42 +160,32 @@ fn read_and_answer<R: Read>(alloc: Global, reader: &mut R) -> Reply
 /// `Unreadable`: the bytes are no request that is served. `Refused` with `CoordinateOutOfRange`: what is to be drawn
 /// does not stay in the safe range; with `OutOfMemory`: memory was refused, and there was a byte.
 pub fn respond(alloc: Global, request: &[u8]) -> Result<String, Failure>
-    ensures answered { IfOk result (λ line. IsAnswer request.now (string_bytes line)) }
-    ensures refused { result ≡ Err (Failure.Refused IntOutlineError.CoordinateOutOfRange) → IsRefused request.now }
+    ensures response { IsResponse request.now result }
     ensures not_accepted { IsRefused request.now → TellsRefusal result }
-    ensures unreadable { result ≡ Err Failure.Unreadable → HoldsNoRequest request.now }
-    ensures memory { IfErr result (λ e. IsOfMemory e → 0 < length request.now) }
 {
-    let value = parse(alloc, request)?;
-    answer(alloc, &value)
+    answer(alloc, &read_text(alloc, request).request)
 }
 
-/// The line that answers the request that a value is.
-fn answer(alloc: Global, value: &Value) -> Result<String, Failure>
-    ensures answered { IfOk result (λ line. AnswersAsked int_cmp (request_of (view value.now)) (string_bytes line)) }
-    ensures refused { result ≡ Err (Failure.Refused IntOutlineError.CoordinateOutOfRange)
-        → MayNotBeAnswered (request_of (view value.now)) }
-    ensures unreadable { result ≡ Err Failure.Unreadable → request_of (view value.now) ≡ None }
+/// The line that answers what was read of a text, or the failure in its place.
+fn answer(alloc: Global, read: &Result<TypedRequest, TextError>) -> Result<String, Failure>
+    ensures { (text : List _) → IsReadOf text read.now → IsResponse text result }
 {
-    if says(value, "int", "i16") {
-        answer_of_type::<i16>(alloc, value)
-    } else if says(value, "int", "i32") {
-        answer_of_type::<i32>(alloc, value)
-    } else {
-        Err(Failure::Unreadable)
+    match read {
+        Ok(request) => Ok(answer_request(alloc, request)?),
+        Err(error) => Err(Failure::from(*error)),
     }
 }
 
-/// The line that answers a request with coordinates of one type.
-fn answer_of_type<I: OverlayInt>(alloc: Global, value: &Value) -> Result<String, Failure>
-    ensures answered { IfOk result (λ line. AnswersAsked (by_values I.cmp I.of_value)
-        (request_as I.unit (view value.now)) (string_bytes line)) }
-    ensures refused { result ≡ Err (Failure.Refused IntOutlineError.CoordinateOutOfRange)
-        → MayNotBeAnswered (request_as I.unit (view value.now)) }
-    ensures unreadable { result ≡ Err Failure.Unreadable → request_as I.unit (view value.now) ≡ None }
+/// The line that answers a request. `CoordinateOutOfRange`: what is to be drawn does not stay in the safe range.
+/// `OutOfMemory`: memory was refused.
+pub fn answer_request(alloc: Global, request: &TypedRequest) -> Result<String, IntOutlineError>
+    ensures answered { IfOk result (λ line. Answers int_cmp (untyped request.now) (string_bytes line)) }
+    ensures refused { result ≡ Err IntOutlineError.CoordinateOutOfRange ↔ ¬ IsAccepted (untyped request.now) }
 {
-    let request = read_request::<I>(alloc, value)?;
-    Ok(request_line(alloc, &request)?)
+    match request {
+        TypedRequest::I16(request) => request_line(alloc, request),
+        TypedRequest::I32(request) => request_line(alloc, request),
+    }
 }
 
 /// The line that lists what is asked.

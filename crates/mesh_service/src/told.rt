@@ -1,7 +1,7 @@
 //! What people are told of a run, beside its line: why there is no answer, and what of the request is ignored.
 
 use crate::service::Status;
-use crate::why::why;
+use crate::text::{ReadText, TextError};
 use i_overlay_mesh::outline::area::double_area;
 use mesh_drawing::drawing::Drawing;
 use mesh_drawing::refusal::find_refusal;
@@ -10,9 +10,8 @@ use mesh_request::failure::Failure;
 use mesh_request::fault::key::Key;
 use mesh_request::fault::place::Place;
 use mesh_request::json::says;
-use mesh_request::request::{Request, read_request};
+use mesh_request::request::{Request, TypedRequest};
 use serde_json::Value;
-use std::alloc::Global;
 use std::io;
 use std::io::Write;
 
@@ -54,18 +53,16 @@ const VARIABLE_STROKE: KnownKeys = KnownKeys {
 
 const OPTIONS: &[Key] = &[Key::MinArea, Key::Clockwise, Key::Collinear];
 
-/// Tells on a stream why a run on this request ended so, one line, and what of the request is ignored, a line each.
-/// Where memory is refused, what would need it is not told.
+/// Tells on a stream why a run on what was read ended so, one line, and what of the request is ignored, a line each.
 pub(crate) fn tell<E: Write>(
-    alloc: Global,
     errors: &mut E,
-    request: &Result<Vec<u8>, Failure>,
+    read: &Result<ReadText, Failure>,
     status: Status,
 ) -> io::Result<()> {
-    match request {
+    match read {
         Err(Failure::Unreadable) => writeln!(errors, "the input cannot be read")?,
         Err(Failure::Refused(_)) => writeln!(errors, "memory ran out")?,
-        Ok(text) => tell_of_text(alloc, errors, text, status)?,
+        Ok(text) => tell_of_text(errors, text, status)?,
     }
     if status == Status::Unwritten {
         writeln!(errors, "the answer cannot be written")?;
@@ -73,48 +70,36 @@ pub(crate) fn tell<E: Write>(
     errors.flush()
 }
 
-fn tell_of_text<E: Write>(
-    alloc: Global,
-    errors: &mut E,
-    text: &[u8],
-    status: Status,
-) -> io::Result<()> {
-    if status == Status::Unreadable
-        && let Ok(Some(reason)) = why(alloc, text)
-    {
-        writeln!(errors, "{reason}")?;
+fn tell_of_text<E: Write>(errors: &mut E, text: &ReadText, status: Status) -> io::Result<()> {
+    match &text.request {
+        Ok(TypedRequest::I16(request)) => tell_of_request(errors, request, status)?,
+        Ok(TypedRequest::I32(request)) => tell_of_request(errors, request, status)?,
+        Err(TextError::OutOfMemory) => writeln!(errors, "memory ran out")?,
+        Err(TextError::NoRequest(reason)) => {
+            if status == Status::Unreadable {
+                writeln!(errors, "{reason}")?;
+            }
+        }
     }
-    let Ok(value) = Value::from_slice(alloc, text) else {
-        return Ok(());
-    };
-    if says(&value, "int", "i16") {
-        tell_of_request::<i16, E>(alloc, errors, &value, status)?;
-    } else {
-        tell_of_request::<i32, E>(alloc, errors, &value, status)?;
+    match &text.value {
+        Some(value) => tell_ignored(errors, value),
+        None => Ok(()),
     }
-    tell_ignored(errors, &value)
 }
 
 /// Tells why a request is refused, and where all its contours are holes.
 fn tell_of_request<I: OverlayInt, E: Write>(
-    alloc: Global,
     errors: &mut E,
-    value: &Value,
+    request: &Request<I>,
     status: Status,
 ) -> io::Result<()> {
-    if status == Status::Unreadable {
-        return Ok(());
-    }
-    let Ok(request) = read_request::<I>(alloc, value) else {
-        return Ok(());
-    };
     if status == Status::Refused {
         return match find_refusal(&request.drawing) {
             Some(refusal) => writeln!(errors, "{refusal}"),
             None => writeln!(errors, "memory ran out"),
         };
     }
-    if has_holes_alone(&request) {
+    if has_holes_alone(request) {
         writeln!(
             errors,
             "paths: each contour runs clockwise, as a hole does; outer contours run counterclockwise"

@@ -5,6 +5,7 @@ ghost use Rattle.std.specs.Fmt.{DisplaysOnOk};
 ghost use Rattle.mesh_request.specs.Texts.{misfit_text, type_text};
 
 use crate::fault::key::Key;
+use crate::json::coordinate;
 use mesh_num::num::IntNumber;
 use mesh_num::num::convert::widen;
 use serde_json::Value;
@@ -167,6 +168,22 @@ pub(crate) fn coordinate_problem<I: IntNumber>(value: &Value) -> Problem {
         Some(number) => Problem::OutOfType(number, CoordinateType::of::<I>()),
         None => Problem::NoWholeNumber,
     }
+}
+
+/// What is wrong with a value that is no list of so many coordinates, where this is if it is no such list.
+pub(crate) fn corner_problem<I: IntNumber>(value: &Value, size: usize, problem: Problem) -> Problem {
+    let Some(numbers) = value.as_array() else {
+        return problem;
+    };
+    if numbers.len() != size {
+        return problem;
+    }
+    for number in numbers {
+        if coordinate::<I>(number).is_none() {
+            return coordinate_problem::<I>(number);
+        }
+    }
+    problem
 }
 
 /// The whole number of 64 bits, with or without sign, that a value is.

@@ -3,11 +3,15 @@
 ghost use Rattle.std.specs.Prelude.{◌≡◌, Some, None, MatchResult, option_map};
 ghost use Rattle.serde_json.specs.View.{view};
 ghost use Rattle.mesh_stroke.specs.Kinds.{kind_of};
-ghost use Rattle.mesh_request.specs.Reading.{cap_of, custom_cap_of, IsOfReading};
+ghost use Rattle.mesh_request.specs.Errors.{FailsToRead};
+ghost use Rattle.mesh_request.specs.Reading.{cap_of, custom_cap_of};
 
-use crate::failure::Failure;
+use crate::error::ReadError;
+use crate::fault::key::Key;
+use crate::fault::problem::Problem;
+use crate::fault::{PointList, inner_fault};
 use crate::json::is_text;
-use crate::request::joins::{round_options, sole_member};
+use crate::request::joins::{round_options, round_problem, sole_member};
 use crate::request::paths::path;
 use mesh_join::style::IntLineCap;
 use mesh_num::num::OverlayInt;
@@ -15,14 +19,15 @@ use serde_json::Value;
 use std::alloc::Global;
 use std::rc::RcSlice;
 
-/// The kind of cap that a value names, a butt where there is none.
-pub fn line_cap<I: OverlayInt>(
+/// The kind of cap that a value names, which the style of a request has under a key; a butt where there is none.
+pub(crate) fn line_cap<I: OverlayInt>(
     alloc: Global,
+    request: &Value,
+    end: Key,
     value: Option<&Value>,
-) -> Result<IntLineCap<I>, Failure>
-    ensures { MatchResult result (λ c. cap_of I.unit (option_map (λ v. view v.now) value.entry) ≡ Some (kind_of c))
-        (λ e. IsOfReading e
-        × (e ≡ Failure.Unreadable → cap_of I.unit (option_map (λ v. view v.now) value.entry) ≡ None)) }
+) -> Result<IntLineCap<I>, ReadError>
+    ensures { let cap = cap_of I.unit (option_map (λ v. view v.now) value.entry) in
+        MatchResult result (λ c. cap ≡ Some (kind_of c)) (FailsToRead (view request.now) cap) }
 {
     let Some(value) = value else {
         return Ok(IntLineCap::Butt);
@@ -33,20 +38,47 @@ pub fn line_cap<I: OverlayInt>(
     if is_text(value, "square") {
         return Ok(IntLineCap::Square);
     }
-    if value.get("round").is_some() {
-        let options = round_options(value).ok_or(Failure::Unreadable)?;
-        return Ok(IntLineCap::Round(options));
+    if value.get("round").is_none() {
+        return custom_cap(alloc, request, end, value);
     }
-    custom_cap(alloc, value)
+    match round_options(value) {
+        Some(options) => Ok(IntLineCap::Round(options)),
+        None => {
+            let problem = round_problem(value);
+            Err(inner_fault(request, Key::Style, end, problem))
+        }
+    }
 }
 
 /// A custom cap through the points that an object gives.
-fn custom_cap<I: OverlayInt>(alloc: Global, value: &Value) -> Result<IntLineCap<I>, Failure>
+fn custom_cap<I: OverlayInt>(
+    alloc: Global,
+    request: &Value,
+    end: Key,
+    value: &Value,
+) -> Result<IntLineCap<I>, ReadError>
     ensures { MatchResult result (λ c. custom_cap_of I.unit (view value.now) ≡ Some (kind_of c))
-        (λ e. IsOfReading e × (e ≡ Failure.Unreadable → custom_cap_of I.unit (view value.now) ≡ None)) }
+        (FailsToRead (view request.now) (custom_cap_of I.unit (view value.now))) }
 {
     match sole_member(value, "custom") {
-        Some(points) => Ok(IntLineCap::Custom(RcSlice::from_vec(path(alloc, points)?)?)),
-        None => Err(Failure::Unreadable),
+        Some(points) => {
+            let points = path(alloc, request, PointList::Cap(end), points)?;
+            Ok(IntLineCap::Custom(RcSlice::from_vec(points)?))
+        }
+        None => {
+            let problem = cap_problem(value);
+            Err(inner_fault(request, Key::Style, end, problem))
+        }
     }
+}
+
+/// What is wrong with a value that names no cap.
+fn cap_problem(cap: &Value) -> Problem {
+    if is_text(cap, "round") {
+        return Problem::NoRoundOptions;
+    }
+    if cap.get("custom").is_some() {
+        return Problem::MoreKeys;
+    }
+    Problem::NoCap
 }

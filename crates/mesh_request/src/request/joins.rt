@@ -1,18 +1,39 @@
 //! Joins, arcs and angles, read from JSON.
 
-ghost use Rattle.std.specs.Prelude.{◌≡◌, option_map};
+ghost use Rattle.std.specs.Prelude.{◌≡◌, Some, MatchResult, codes, option_map};
+ghost use Rattle.serde_json.specs.Find.{get};
 ghost use Rattle.serde_json.specs.View.{view};
+ghost use Rattle.mesh_request.specs.Errors.{FailsToRead};
 ghost use Rattle.mesh_request.specs.Reading.{join_of, round_options_of, arc_options_of, sole_in, angle_of};
 ghost use Rattle.mesh_request.specs.Reading.{small_number_of, min_turn_of};
 
+use crate::error::ReadError;
+use crate::fault::inner_fault;
+use crate::fault::key::Key;
+use crate::fault::problem::Problem;
 use crate::json::is_text;
 use mesh_join::arc::ArcOptions;
 use mesh_join::style::{DEFAULT_MITER_MIN_TURN, IntLineJoin};
 use mesh_num::num::Angle;
 use serde_json::Value;
 
+/// The kind of join that the style of a request names, a bevel where there is none.
+pub(crate) fn join_in(request: &Value, style: &Value) -> Result<IntLineJoin, ReadError>
+    ensures { MatchResult result (λ j. join_of (get (codes "join") (view style.now)) ≡ Some j)
+        (FailsToRead (view request.now) (join_of (get (codes "join") (view style.now)))) }
+{
+    let join = style.get("join");
+    match line_join(join) {
+        Some(join) => Ok(join),
+        None => {
+            let problem = join_problem(join);
+            Err(inner_fault(request, Key::Style, Key::Join, problem))
+        }
+    }
+}
+
 /// The kind of join that a value names, a bevel where there is none.
-pub fn line_join(value: Option<&Value>) -> Option<IntLineJoin>
+fn line_join(value: Option<&Value>) -> Option<IntLineJoin>
     ensures { result ≡ join_of (option_map (λ v. view v.now) value.entry) }
 {
     let Some(value) = value else {
@@ -79,12 +100,50 @@ fn small_number(value: &Value) -> Option<u32>
     }
 }
 
-/// The turn below which a miter is a bevel, the default one where there is none.
-pub fn min_turn(value: Option<&Value>) -> Option<Angle>
-    ensures { result ≡ min_turn_of (option_map (λ v. view v.now) value.entry) }
+/// The turn below which the style of a request asks for a bevel in place of a miter, the default one where it has none.
+pub(crate) fn turn_in(request: &Value, style: &Value) -> Result<Angle, ReadError>
+    ensures { MatchResult result (λ a. min_turn_of (get (codes "min_turn") (view style.now)) ≡ Some a)
+        (FailsToRead (view request.now) (min_turn_of (get (codes "min_turn") (view style.now)))) }
 {
-    match value {
-        Some(turn) => angle(turn),
-        None => Some(Angle::from_bits(DEFAULT_MITER_MIN_TURN)),
+    let Some(turn) = style.get("min_turn") else {
+        return Ok(Angle::from_bits(DEFAULT_MITER_MIN_TURN));
+    };
+    match angle(turn) {
+        Some(turn) => Ok(turn),
+        None => Err(inner_fault(request, Key::Style, Key::MinTurn, Problem::NoBits)),
+    }
+}
+
+/// What is wrong with a value that names no join.
+fn join_problem(join: Option<&Value>) -> Problem {
+    let Some(join) = join else {
+        return Problem::NoJoin;
+    };
+    if is_text(join, "miter") || join.get("miter").is_some() {
+        return match has_more_keys(join) {
+            true => Problem::MoreKeys,
+            false => Problem::NoMiterBits,
+        };
+    }
+    if is_text(join, "round") || join.get("round").is_some() {
+        return round_problem(join);
+    }
+    Problem::NoJoin
+}
+
+/// What is wrong with a round join or cap.
+pub(crate) fn round_problem(value: &Value) -> Problem {
+    if has_more_keys(value) {
+        Problem::MoreKeys
+    } else {
+        Problem::NoRoundOptions
+    }
+}
+
+/// Whether a value is an object with more keys than one.
+fn has_more_keys(value: &Value) -> bool {
+    match value.as_object() {
+        Some(members) => members.len() > 1,
+        None => false,
     }
 }

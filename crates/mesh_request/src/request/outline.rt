@@ -1,45 +1,51 @@
 //! Requests for outlines, read from JSON.
 
-ghost use Rattle.std.specs.Prelude.{◌≡◌, Some, None, MatchResult, option_map, option_and_then};
+ghost use Rattle.std.specs.Prelude.{◌≡◌, Some, MatchResult, codes, option_and_then};
+ghost use Rattle.serde_json.specs.Find.{get};
 ghost use Rattle.serde_json.specs.View.{view};
 ghost use Rattle.mesh_join.specs.Styles.{style_of};
-ghost use Rattle.mesh_request.specs.Reading.{outline_of, outline_style_in, IsOfReading};
+ghost use Rattle.mesh_request.specs.Errors.{FailsToRead};
+ghost use Rattle.mesh_request.specs.Reading.{outline_of, outline_style_in};
 ghost use Rattle.mesh_drawing.specs.Drawn.{drawn_outline};
 
-use crate::failure::Failure;
-use crate::request::joins::{line_join, min_turn};
-use crate::request::paths::{length, read_paths};
+use crate::error::ReadError;
+use crate::fault::key::Key;
+use crate::fault::member_fault;
+use crate::fault::problem::Problem;
+use crate::request::joins::{join_in, turn_in};
+use crate::request::paths::{length_in, read_paths};
 use mesh_drawing::drawing::Outline;
 use mesh_join::style::IntOutlineStyle;
 use mesh_num::num::OverlayInt;
 use serde_json::Value;
 use std::alloc::Global;
 
-/// The outline that a value asks for, where it is one that is served.
-pub fn read_outline<I: OverlayInt>(alloc: Global, value: &Value) -> Result<Outline<I>, Failure>
-    ensures { MatchResult result (λ o. outline_of I.unit (view value.now) ≡ Some (drawn_outline I.value o))
-        (λ e. IsOfReading e × (e ≡ Failure.Unreadable → outline_of I.unit (view value.now) ≡ None)) }
+/// The outline that a request asks for.
+pub(crate) fn read_outline<I: OverlayInt>(
+    alloc: Global,
+    request: &Value,
+) -> Result<Outline<I>, ReadError>
+    ensures { MatchResult result (λ o. outline_of I.unit (view request.now) ≡ Some (drawn_outline I.value o))
+        (FailsToRead (view request.now) (outline_of I.unit (view request.now))) }
 {
-    let Some(style) = outline_style(value.get("style")) else {
-        return Err(Failure::Unreadable);
-    };
-    let paths = read_paths(alloc, value)?;
+    let style = outline_style(request)?;
+    let paths = read_paths(alloc, request)?;
     Ok(Outline { paths, style })
 }
 
-pub(crate) fn outline_style<I: OverlayInt>(style: Option<&Value>) -> Option<IntOutlineStyle<I>>
-    ensures { option_map (λ s. style_of I.value s) result
-        ≡ option_and_then (outline_style_in I.unit) (option_map (λ v. view v.now) style.entry) }
+fn outline_style<I: OverlayInt>(request: &Value) -> Result<IntOutlineStyle<I>, ReadError>
+    ensures { let asked = option_and_then (outline_style_in I.unit) (get (codes "style") (view request.now)) in
+        MatchResult result (λ s. asked ≡ Some (style_of I.value s)) (FailsToRead (view request.now) asked) }
 {
-    let style = style?;
-    let join = line_join(style.get("join"))?;
-    let turn = min_turn(style.get("min_turn"))?;
-    let outer = length(style, "outer")?;
-    let inner = length(style, "inner")?;
-    Some(
-        IntOutlineStyle::new(outer)
-            .inner_offset(inner)
-            .line_join(join)
-            .miter_min_turn(turn),
-    )
+    let Some(style) = request.get("style") else {
+        return Err(member_fault(request, Key::Style, Problem::NoObject));
+    };
+    let join = join_in(request, style)?;
+    let turn = turn_in(request, style)?;
+    let outer = length_in(request, style, Key::Outer)?;
+    let inner = length_in(request, style, Key::Inner)?;
+    Ok(IntOutlineStyle::new(outer)
+        .inner_offset(inner)
+        .line_join(join)
+        .miter_min_turn(turn))
 }

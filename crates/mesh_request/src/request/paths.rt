@@ -1,69 +1,88 @@
 //! Points and paths, read from JSON.
 
-ghost use Rattle.std.specs.Prelude.{◌≡◌, Some, None, MatchResult, option_map};
+ghost use Rattle.std.specs.Prelude.{◌≡◌, Some, MatchResult};
 ghost use Rattle.serde_json.specs.View.{view, items_view};
 ghost use Rattle.mesh_num.specs.Paths.{paths_of};
+ghost use Rattle.mesh_request.specs.Errors.{FailsToRead};
+ghost use Rattle.mesh_request.specs.Places.{key_text};
 ghost use Rattle.mesh_request.specs.Reading.{point_of, point_list_of, path_of, path_list_of, paths_in, length_of};
-ghost use Rattle.mesh_request.specs.Reading.{IsOfReading};
 
-use crate::failure::Failure;
+use crate::error::ReadError;
+use crate::fault::key::Key;
+use crate::fault::problem::{Problem, coordinate_problem, corner_problem};
+use crate::fault::{PointList, inner_fault, list_fault, member_fault, point_fault};
 use crate::json::coordinate;
 use mesh_num::num::{IntNumber, IntPoint, OverlayInt};
 use serde_json::Value;
 use std::alloc::Global;
 
 /// The paths of a request.
-pub fn read_paths<I: OverlayInt>(
+pub(crate) fn read_paths<I: OverlayInt>(
     alloc: Global,
-    value: &Value,
-) -> Result<Vec<Vec<IntPoint<I>>>, Failure>
-    ensures { MatchResult result (λ ps. paths_in I.unit (view value.now) ≡ Some (paths_of ps.items))
-        (λ e. IsOfReading e × (e ≡ Failure.Unreadable → paths_in I.unit (view value.now) ≡ None)) }
+    request: &Value,
+) -> Result<Vec<Vec<IntPoint<I>>>, ReadError>
+    ensures { MatchResult result (λ ps. paths_in I.unit (view request.now) ≡ Some (paths_of ps.items))
+        (FailsToRead (view request.now) (paths_in I.unit (view request.now))) }
 {
-    match value.get("paths").and_then(Value::as_array) {
-        Some(items) => path_list(alloc, items),
-        None => Err(Failure::Unreadable),
+    match request.get("paths").and_then(Value::as_array) {
+        Some(items) => path_list(alloc, request, items),
+        None => Err(member_fault(request, Key::Paths, Problem::NoPaths)),
     }
 }
 
 fn path_list<I: OverlayInt>(
     alloc: Global,
+    request: &Value,
     items: &[Value],
-) -> Result<Vec<Vec<IntPoint<I>>>, Failure>
+) -> Result<Vec<Vec<IntPoint<I>>>, ReadError>
     ensures { MatchResult result (λ ps. path_list_of I.unit (items_view items.now) ≡ Some (paths_of ps.items))
-        (λ e. IsOfReading e × (e ≡ Failure.Unreadable → path_list_of I.unit (items_view items.now) ≡ None)) }
+        (FailsToRead (view request.now) (path_list_of I.unit (items_view items.now))) }
 {
     let mut paths = Vec::new(alloc);
     for item in items {
-        paths.push(path(alloc, item)?)?;
+        let list = PointList::Path(paths.len());
+        paths.push(path(alloc, request, list, item)?)?;
     }
     Ok(paths)
 }
 
-/// The points of a list.
-pub fn path<I: OverlayInt>(alloc: Global, value: &Value) -> Result<Vec<IntPoint<I>>, Failure>
+/// The points of a list in a request.
+pub(crate) fn path<I: OverlayInt>(
+    alloc: Global,
+    request: &Value,
+    list: PointList,
+    value: &Value,
+) -> Result<Vec<IntPoint<I>>, ReadError>
     ensures { MatchResult result (λ ps. path_of I.unit (view value.now) ≡ Some ps.items)
-        (λ e. IsOfReading e × (e ≡ Failure.Unreadable → path_of I.unit (view value.now) ≡ None)) }
+        (FailsToRead (view request.now) (path_of I.unit (view value.now))) }
 {
     match value.as_array() {
-        Some(items) => points(alloc, items),
-        None => Err(Failure::Unreadable),
+        Some(items) => points(alloc, request, list, items),
+        None => Err(list_fault(request, list, Problem::NoPath)),
     }
 }
 
-fn points<I: OverlayInt>(alloc: Global, items: &[Value]) -> Result<Vec<IntPoint<I>>, Failure>
+fn points<I: OverlayInt>(
+    alloc: Global,
+    request: &Value,
+    list: PointList,
+    items: &[Value],
+) -> Result<Vec<IntPoint<I>>, ReadError>
     ensures { MatchResult result (λ ps. point_list_of I.unit (items_view items.now) ≡ Some ps.items)
-        (λ e. IsOfReading e × (e ≡ Failure.Unreadable → point_list_of I.unit (items_view items.now) ≡ None)) }
+        (FailsToRead (view request.now) (point_list_of I.unit (items_view items.now))) }
 {
     let mut points = Vec::new(alloc);
     for item in items {
-        let point = point(item).ok_or(Failure::Unreadable)?;
+        let Some(point) = point(item) else {
+            let problem = corner_problem::<I>(item, 2, Problem::NoPoint);
+            return Err(point_fault(request, list, points.len(), problem));
+        };
         points.push(point)?;
     }
     Ok(points)
 }
 
-pub(crate) fn point<I: IntNumber>(value: &Value) -> Option<IntPoint<I>>
+fn point<I: IntNumber>(value: &Value) -> Option<IntPoint<I>>
     ensures { result ≡ point_of I.unit (view value.now) }
 {
     let numbers = value.as_array()?;
@@ -75,9 +94,23 @@ pub(crate) fn point<I: IntNumber>(value: &Value) -> Option<IntPoint<I>>
     Some(IntPoint::new(x, y))
 }
 
-/// The offset or the width that a style gives under a key.
-pub fn length<I: IntNumber>(style: &Value, key: &str) -> Option<I>
-    ensures { option_map (λ c. I.value c) result ≡ length_of I.unit key.now (view style.now) }
+/// The offset or the width that the style of a request gives under a key.
+pub(crate) fn length_in<I: IntNumber>(
+    request: &Value,
+    style: &Value,
+    key: Key,
+) -> Result<I, ReadError>
+    ensures { let length = length_of I.unit (key_text key) (view style.now) in
+        MatchResult result (λ c. length ≡ Some (I.value c)) (FailsToRead (view request.now) length) }
 {
-    coordinate(style.get(key)?)
+    let Some(length) = style.get(key.text()) else {
+        return Err(inner_fault(request, Key::Style, key, Problem::Missing(key)));
+    };
+    match coordinate(length) {
+        Some(length) => Ok(length),
+        None => {
+            let problem = coordinate_problem::<I>(length);
+            Err(inner_fault(request, Key::Style, key, problem))
+        }
+    }
 }

@@ -1,11 +1,15 @@
 //! Requests for strokes whose width changes from vertex to vertex, read from JSON.
 
-ghost use Rattle.std.specs.Prelude.{◌≡◌, Some, None, MatchResult, option_map, option_and_then};
+ghost use Rattle.std.specs.Prelude.{◌≡◌, Some, MatchResult, option_map, option_and_then};
 ghost use Rattle.serde_json.specs.View.{view};
-ghost use Rattle.mesh_request.specs.Reading.{arc_in, arc_given, variable_stroke_of, IsOfReading};
+ghost use Rattle.mesh_request.specs.Errors.{FailsToRead};
+ghost use Rattle.mesh_request.specs.Reading.{arc_in, arc_given, variable_stroke_of};
 ghost use Rattle.mesh_drawing.specs.Drawn.{drawn_variable_stroke};
 
-use crate::failure::Failure;
+use crate::error::ReadError;
+use crate::fault::inner_fault;
+use crate::fault::key::Key;
+use crate::fault::problem::Problem;
 use crate::request::joins::arc_options;
 use crate::request::vertices::read_vertex_paths;
 use mesh_arc::arc::ArcOptions;
@@ -15,23 +19,23 @@ use mesh_num::num::OverlayInt;
 use serde_json::Value;
 use std::alloc::Global;
 
-/// The stroke of variable width that a value asks for, where it is one that is served.
-pub fn read_variable_stroke<I: OverlayInt>(
+/// The stroke of variable width that a request asks for.
+pub(crate) fn read_variable_stroke<I: OverlayInt>(
     alloc: Global,
-    value: &Value,
-) -> Result<VariableStroke<I>, Failure>
-    ensures { MatchResult result (λ s. variable_stroke_of I.unit (view value.now) ≡ Some (drawn_variable_stroke s))
-        (λ e. IsOfReading e × (e ≡ Failure.Unreadable → variable_stroke_of I.unit (view value.now) ≡ None)) }
+    request: &Value,
+) -> Result<VariableStroke<I>, ReadError>
+    ensures { MatchResult result (λ s. variable_stroke_of I.unit (view request.now) ≡ Some (drawn_variable_stroke s))
+        (FailsToRead (view request.now) (variable_stroke_of I.unit (view request.now))) }
 {
-    let Some(style) = variable_style(value.get("style")) else {
-        return Err(Failure::Unreadable);
+    let Some(style) = variable_style(request.get("style")) else {
+        return Err(inner_fault(request, Key::Style, Key::Arc, Problem::NoArc));
     };
-    let paths = read_vertex_paths(alloc, value)?;
+    let paths = read_vertex_paths(alloc, request)?;
     Ok(VariableStroke { paths, style })
 }
 
 /// The style that an object gives.
-pub(crate) fn variable_style(style: Option<&Value>) -> Option<IntVariableStrokeStyle>
+fn variable_style(style: Option<&Value>) -> Option<IntVariableStrokeStyle>
     ensures { option_map (λ (s : IntVariableStrokeStyle). s.arc) result
         ≡ option_and_then arc_in (option_map (λ v. view v.now) style.entry) }
 {

@@ -1,5 +1,5 @@
 -- What was told is the line of the reply.
-use Rattle.std.proofs.Common.{Err, length, ap, ◌∙◌}
+use Rattle.std.proofs.Common.{length, ap, ◌∙◌}
 use Rattle.std.specs.Prelude.{string_bytes}
 use Rattle.mesh_request.specs.Failures.{failure_line}
 use Rattle.mesh_flat.specs.Outcomes.{outcome_of}
@@ -12,7 +12,7 @@ pub returns-in-Ok : goal.returns-in-Ok
 returns-in-Ok c = record {
   line = string_bytes c.in-Ok.line;
   told = Answered;
-  reply = IsReplyTo.answer c.in-Ok.ensures.answered;
+  reply = IsReplyTo.answer c.in-Ok.ensures.response;
   size = c.hand_over.ensures.size ∙ ap length c.as_bytes.ensures.value;
   handed = rw c.as_bytes.ensures.value at c.hand_over.ensures.handed;
 }
@@ -23,10 +23,7 @@ returns-in-Err c =
     record {
       line = failure_line c.in-Err.failure;
       told = outcome_of c.in-Err.failure;
-      reply =
-          failure_replies c.args.request.now c.in-Err.failure
-          (λ e. c.respond.ensures.refused (c.in-Err.is ∙ ap Err e)) (λ e. c.respond.ensures.unreadable (c.in-Err.is ∙ ap Err e))
-          (rw c.in-Err.is at c.respond.ensures.memory);
+      reply = failure_replies c.args.request.now c.in-Err.failure (rw c.in-Err.is at c.respond.ensures.response);
       size = c.hand_over-in-Err.ensures.size ∙ ap length is;
       handed = rw (is, c.of.ensures) at c.hand_over-in-Err.ensures.handed;
     }

@@ -1,5 +1,5 @@
 -- One vertex more is read.
-use Rattle.std.proofs.Common.{◌∙◌, refl, sym}
+use Rattle.std.proofs.Common.{refl, sym}
 use Rattle.mesh_request.specs.Reading.{vertex_of, vertices_of}
 use Rattle.mesh_request.proofs.JsonLists.{one_more}
 use Rattle.mesh_request.proofs.request.vertices.vertices.Goals as goal
@@ -7,4 +7,4 @@ use Rattle.mesh_request.proofs.request.vertices.vertices.Goals as goal
 pub loop-item-preserved : goal.loop-item-preserved
 loop-item-preserved g c =
     one_more (vertex_of g.I.IntNumber.unit) (vertices_of g.I.IntNumber.unit) (λ d ds. refl) c.args.items.now c.loop-item.item-index c.item-item.result _ _ _ _
-    c.loop-item-test.true c.item-item.is (sym c.vertex.ensures ∙ c.in_ok-vertex.ensures.ok_part) c.in_ok-push.ensures.items c.loop-item.invariant
+    c.loop-item-test.true c.item-item.is (sym c.in-Some.ensures) c.in_ok-push.ensures.items c.loop-item.invariant

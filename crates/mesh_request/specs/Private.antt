@@ -1,2 +1,0 @@
--- What stands between the steps: only private contracts and invariants read these.
-pub mod Faultless

@@ -1,0 +1,121 @@
+//! Texts, read as requests.
+
+ghost use Rattle.std.specs.Prelude.{◌≡◌};
+ghost use Rattle.serde_json.specs.View.{view};
+ghost use Rattle.mesh_service.specs.Reasons.{IsReadOf, IsTextReason, blank_text};
+ghost use Rattle.mesh_service.specs.Private.Told.{IsReadOfValue};
+
+use crate::reason::{Reason, TextPlace, text_place};
+use mesh_offset::error::IntOutlineError;
+use mesh_request::error::ReadError;
+use mesh_request::failure::Failure;
+use mesh_request::json::has_float;
+use mesh_request::request::{TypedRequest, read};
+use serde_json::Value;
+use std::alloc::Global;
+
+/// A text that was read.
+#[derive(Drop)]
+pub struct ReadText {
+    /// The value of JSON that it is; `None` where it is none, or memory was refused.
+    pub value: Option<Value>,
+    /// The request that it holds.
+    pub request: Result<TypedRequest, TextError>,
+}
+
+/// Why a text is read as no request.
+#[derive(Debug, Clone, Copy, PartialEq, Eq)]
+pub enum TextError {
+    /// It holds none that is served, for this reason.
+    NoRequest(Reason),
+    /// A growth of memory was refused.
+    OutOfMemory,
+}
+
+impl From<TextError> for Failure {
+    ghost use Rattle.std.specs.Prelude.{◌≡◌};
+    ghost use Rattle.mesh_service.specs.Reasons.{failure_of};
+
+    ghost from_gives = { λ error failure. failure ≡ failure_of error };
+
+    fn from(error: TextError) -> Failure {
+        match error {
+            TextError::NoRequest(_) => Failure::Unreadable,
+            TextError::OutOfMemory => Failure::Refused(IntOutlineError::OutOfMemory),
+        }
+    }
+}
+
+/// Reads a text as a request. `NoRequest`: it holds none that is served, and the place of the reason lies in the text.
+/// `OutOfMemory`: memory was refused, and there was a byte.
+pub fn read_text(alloc: Global, text: &[u8]) -> ReadText
+    ensures { IsReadOf text.now result.request }
+{
+    match Value::from_slice(alloc, text) {
+        Ok(value) => {
+            let request = read_value(alloc, &value);
+            ReadText {
+                value: Some(value),
+                request,
+            }
+        }
+        Err(error) => {
+            let error = if error.is_memory() {
+                TextError::OutOfMemory
+            } else {
+                let sought = TextPlace {
+                    line: error.line(),
+                    column: error.column(),
+                };
+                TextError::NoRequest(text_reason(text, sought))
+            };
+            ReadText {
+                value: None,
+                request: Err(error),
+            }
+        }
+    }
+}
+
+/// Reads a value as a request. Floats are looked for last, since they are told best where a number is looked at.
+fn read_value(alloc: Global, value: &Value) -> Result<TypedRequest, TextError>
+    ensures { IsReadOfValue (view value.now) result }
+{
+    match read(alloc, value) {
+        Ok(request) => {
+            if has_float(value) {
+                Err(TextError::NoRequest(Reason::InexactNumber))
+            } else {
+                Ok(request)
+            }
+        }
+        Err(ReadError::Fault(fault)) => Err(TextError::NoRequest(Reason::Wrong(fault))),
+        Err(ReadError::OutOfMemory) => Err(TextError::OutOfMemory),
+    }
+}
+
+/// Why a text is no JSON, which the parser found at a place.
+fn text_reason(text: &[u8], sought: TextPlace) -> Reason
+    ensures { IsTextReason text.now result }
+{
+    if is_blank(text) {
+        return Reason::Empty;
+    }
+    if text.starts_with(&[0xef, 0xbb, 0xbf]) {
+        return Reason::ByteOrderMark;
+    }
+    Reason::InvalidJson(text_place(text, sought))
+}
+
+/// Whether each byte is one of JSON's blanks.
+fn is_blank(text: &[u8]) -> bool
+    ensures { result ≡ blank_text text.now }
+{
+    for byte in text {
+        let byte = *byte;
+        if byte != b' ' && byte != b'\t' && byte != b'\n' && byte != b'\r' {
+            return false;
+        }
+    }
+    true
+}
