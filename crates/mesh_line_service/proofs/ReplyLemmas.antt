@@ -1,36 +1,61 @@
 -- Lemmas over replies: what is answered or told is a reply, and replies join.
-use Rattle.std.proofs.Common.{◌≡◌, ◌∙◌, inl, inr, ℕ, ◌<◌, true, List, [], ◌∷◌, ◌++◌, length, String, Global, Option, None, Some, Result, Ok, Err, IfOk, IfErr, sym, subst, ap, append_assoc, append-nil, arith}
+use Rattle.std.proofs.Common.{◌≡◌, ◌∙◌, inl, ℕ, ◌<◌, false, List, [], ◌∷◌, ◌++◌, length, String, Global, Option, None, Some, Result, Ok, Err, IfOk, IfErr, IsErrAnd, refl, sym, subst, ap, append_assoc, append-nil, arith}
 use Rattle.std.specs.Prelude.{string_bytes}
 use Rattle.std.specs.List.{AllZip, concat}
 use Rattle.std.specs.Io.KnownBytes.{Appends}
 use Rattle.std.proofs.KnownBytes.{Appends-trans}
+use Rattle.std.specs.Ordering.{int_cmp}
+use Rattle.mesh_offset.specs.Errors.{of_offset}
 use Rattle.mesh_offset.specs.declared.error.IntOutlineError.TheVariants.{CoordinateOutOfRange, OutOfMemory}
 use Rattle.mesh_offset.specs.declared.error.IntOutlineError.{IntOutlineError}
+use Rattle.mesh_offset.specs.declared.error.IntNearnessError.{IntNearnessError}
+use Rattle.mesh_offset.specs.declared.error.IntNearnessError.TheVariants as near
 use Rattle.mesh_request.specs.Failures.{failure_line, IsOfMemory}
+use Rattle.mesh_request.specs.Typed.{untyped}
 use Rattle.mesh_request.specs.declared.failure.Failure.{Failure}
 use Rattle.mesh_request.specs.declared.failure.Failure.TheVariants.{Unreadable, Refused}
-use Rattle.mesh_service.specs.Lines.{why_text}
-use Rattle.mesh_service.specs.Reasons.{LiesIn, reason_text}
-use Rattle.mesh_service.specs.Near.{IsGivenUpIn, IsOfNearMemory}
-use Rattle.mesh_service.specs.Serving.{IsRefused, HoldsNoRequest}
-use Rattle.mesh_service.specs.declared.near_failure.NearFailure.{NearFailure}
-use Rattle.mesh_service.specs.declared.near_failure.NearFailure.TheVariants.{Failed}
-use Rattle.mesh_service.specs.declared.reason.Reason.{Reason}
+use Rattle.mesh_request.specs.declared.request.TypedRequest.{TypedRequest}
+use Rattle.mesh_service.proofs.Requested.{request_has_bytes}
+use Rattle.mesh_service.specs.Near.{AnswersWithin, IsGivenUpIn, PassesLimit}
+use Rattle.mesh_service.specs.Reasons.{IsReadOf}
+use Rattle.mesh_service.specs.Served.{IsAccepted, Answers}
 use Rattle.mesh_line_service.specs.Held.{IsWithin}
 use Rattle.mesh_line_service.specs.Lines.{lines_of, TakesLines}
-use Rattle.mesh_service.proofs.Replies.{request_has_bytes}
-use Rattle.mesh_line_service.specs.Replies.{IsReplyTo, AppendsReplies, too_long_text, too_many_text}
-use Rattle.mesh_line_service.specs.Private.Steps.{reply_text}
+use Rattle.mesh_line_service.specs.Replies.{IsAnswerAsked, IsReplyTo, AppendsReplies, telling_of, too_long_text, too_many_text}
+use Rattle.mesh_line_service.specs.Private.Steps.{IsAnsweredTo, reply_text}
 use Rattle.mesh_line_service.specs.declared.options.LineOptions.{LineOptions}
 
--- a refusal of a line that is not too long is its reply
-pub refusal_told : (options : LineOptions) (line : List ℕ) (told : Result (String Global) NearFailure) (failure : NearFailure) (within_failure : Failure) (error : IntOutlineError) →
-    told ≡ Err failure → failure ≡ Failed within_failure → within_failure ≡ Refused error → IsWithin options.longest line →
-    (told ≡ Err (Failed (Refused CoordinateOutOfRange)) → IsRefused line) → IfErr told (λ e. IsOfNearMemory e → 0 < length line) → IsReplyTo options line (failure_line (Refused error))
-refusal_told options line told failure reason CoordinateOutOfRange is same refused_so within refused memory =
-    IsReplyTo.refusal within (refused (is ∙ ap Err (same ∙ ap Failed refused_so)))
-refusal_told options line told failure reason OutOfMemory is same refused_so within refused memory =
-    IsReplyTo.no_memory (inl (subst (λ (t : Result (String Global) NearFailure). IfErr t (λ e. IsOfNearMemory e → 0 < length line)) (is ∙ ap Err (same ∙ ap Failed refused_so)) memory tt))
+-- the refusal of a request that may not be answered, and a want of memory, are replies
+pub refusal_told : (options : LineOptions) (line : List ℕ) (error : IntOutlineError) → IsWithin options.longest line → IsAnsweredTo options line (Err (of_offset error)) → IsReplyTo options line (failure_line (Refused error))
+refusal_told options line CoordinateOutOfRange within refused = IsReplyTo.refusal within refused
+refusal_told options line OutOfMemory within refused = IsReplyTo.no_memory (inl refused)
+
+-- an answer that is made as the service makes it
+pub answered_plainly : (options : LineOptions) (line : List ℕ) (request : TypedRequest) (reply : String Global) → options.most_splits ≡ 0 → options.nearness ≡ false → IsReadOf line (Ok request) →
+    Answers int_cmp (untyped request) (string_bytes reply) → IsAnsweredTo options line (Ok reply)
+answered_plainly options line request reply unlimited plain read answered =
+    IsAnswerAsked.plain unlimited plain (record { utf8 = read.0; request = untyped request; requested = read.1; answered = answered })
+
+pub refused_plainly : (options : LineOptions) (line : List ℕ) (request : TypedRequest) (error : IntOutlineError) (told : Result (String Global) IntNearnessError) → IsReadOf line (Ok request) →
+    (error ≡ CoordinateOutOfRange → IsAccepted (untyped request) → ⊥) → IsErrAnd told (λ e. e ≡ of_offset error) → IsAnsweredTo options line told
+refused_plainly options line request error (Ok reply) read refused same = absurd same
+refused_plainly options line request CoordinateOutOfRange (Err e) read refused same =
+    subst (λ (x : IntNearnessError). IsAnsweredTo options line (Err x)) (sym same) (record { utf8 = read.0; request = untyped request; requested = read.1; refused = refused refl })
+refused_plainly options line request OutOfMemory (Err e) read refused same =
+    subst (λ (x : IntNearnessError). IsAnsweredTo options line (Err x)) (sym same) (request_has_bytes line (untyped request) read.1)
+
+-- one that is made as options ask it
+pub answered_within : (options : LineOptions) (line : List ℕ) (request : TypedRequest) (told : Result (String Global) IntNearnessError) → IsReadOf line (Ok request) →
+    IfOk told (λ reply. AnswersWithin (telling_of options) int_cmp (untyped request) (string_bytes reply)) →
+    (told ≡ Err near.CoordinateOutOfRange → IsAccepted (untyped request) → ⊥) → (told ≡ Err near.TooManySplits → PassesLimit options.most_splits (untyped request)) →
+    IsAnsweredTo options line told
+answered_within options line request (Ok reply) read answered refused past =
+    IsAnswerAsked.told (record { utf8 = read.0; request = untyped request; requested = read.1; answered = answered })
+answered_within options line request (Err near.CoordinateOutOfRange) read answered refused past =
+    record { utf8 = read.0; request = untyped request; requested = read.1; refused = refused refl }
+answered_within options line request (Err near.OutOfMemory) read answered refused past = request_has_bytes line (untyped request) read.1
+answered_within options line request (Err near.TooManySplits) read answered refused past =
+    record { utf8 = read.0; request = untyped request; requested = read.1; past = past refl }
 
 -- what tells that a drawing took too many splits is its reply
 pub too_many_told : (options : LineOptions) (line : List ℕ) (told : Result (String Global) Failure) → IsWithin options.longest line → IsGivenUpIn options.most_splits line →
@@ -39,14 +64,6 @@ too_many_told options line (Ok text) within past same memory = subst (IsReplyTo 
 too_many_told options line (Err Unreadable) within past same memory = absurd memory
 too_many_told options line (Err (Refused OutOfMemory)) within past same memory = IsReplyTo.no_memory (inl (request_has_bytes line past.request past.requested))
 too_many_told options line (Err (Refused CoordinateOutOfRange)) within past same memory = absurd memory
-
--- what tells why a line holds no request is its reply
-pub why_told : (options : LineOptions) (line : List ℕ) (told : Result (String Global) Failure) → IsWithin options.longest line → HoldsNoRequest line → options.why ≡ true →
-    IfOk told (λ text. (reason : Reason) × LiesIn line reason × (string_bytes text ≡ why_text (reason_text reason))) → IfErr told IsOfMemory → IsReplyTo options line (reply_text told)
-why_told options line (Ok text) within none asked (reason, lies, same) memory = subst (IsReplyTo options line) (sym same) (IsReplyTo.reasoned within none asked lies)
-why_told options line (Err Unreadable) within none asked reasoned memory = absurd memory
-why_told options line (Err (Refused OutOfMemory)) within none asked reasoned memory = IsReplyTo.no_memory (inr asked)
-why_told options line (Err (Refused CoordinateOutOfRange)) within none asked reasoned memory = absurd memory
 
 -- what is told of a line that is too long is its reply
 pub too_long_told : (options : LineOptions) (most : ℕ) (line : List ℕ) (told : Result (String Global) Failure) →

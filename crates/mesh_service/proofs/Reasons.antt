@@ -1,15 +1,8 @@
--- Lemmas over reasons and places in a text.
-use Rattle.std.proofs.Common.{◌≡◌, ◌∙◌, ℕ, ◌<◌, ◌≤◌, ◌+◌, List, [], ◌∷◌, ◌++◌, Bool, true, false, nat_eq, length, take, get_or, Option, None, Some, IfSome, is_none, is_some, option_and_then, refl, sym, ap, subst, arith}
-use Rattle.std.specs.Prelude.{if◌then◌else◌, IsUtf8}
-use Rattle.std.proofs.lemmas.Bool.{false≢true}
-use Rattle.std.proofs.lemmas.Option.{none-some}
+-- Lemmas over places in a text.
+use Rattle.std.proofs.Common.{◌≡◌, ◌∙◌, ℕ, ◌<◌, ◌≤◌, ◌+◌, List, [], ◌∷◌, ◌++◌, Bool, true, false, nat_eq, length, take, get_or, refl, sym, ap, subst, arith}
+use Rattle.std.specs.Prelude.{if◌then◌else◌}
 use Rattle.std.proofs.lemmas.List.{take_more}
-use Rattle.serde_json.specs.Data.{Data}
-use Rattle.serde_json.specs.Read.{read}
-use Rattle.mesh_request.specs.Requests.{Request}
-use Rattle.mesh_service.specs.Reasons.{after, after_byte, beginning, HoldsRequest, IsValueReason, LiesIn}
-use Rattle.mesh_service.specs.Serving.{exact_request, request_in}
-use Rattle.mesh_service.specs.declared.reason.Reason.{Reason}
+use Rattle.mesh_service.specs.Reasons.{after, after_byte, beginning}
 use Rattle.mesh_service.specs.declared.reason.TextPlace.{TextPlace}
 
 after_append : (here : TextPlace) (xs : List ℕ) (b : ℕ) → after here (xs ++ b ∷ []) ≡ after_byte (after here xs) b
@@ -45,24 +38,3 @@ line_passed here there b n step h = subst (λ (p : TextPlace). p.line ≤ n + 1)
 
 pub column_passed : (here there : TextPlace) (b n : ℕ) → there ≡ after_byte here b → here.column ≤ n → there.column ≤ n + 1
 column_passed here there b n step h = subst (λ (p : TextPlace). p.column ≤ n + 1) (sym (step ∙ is_passed here (nat_eq b 10))) (column_held here (nat_eq b 10) n h)
-
--- ---- the reason of a text that is a value of JSON
-
-request_read : (text : List ℕ) (d : Data) → read text ≡ Some d → request_in text ≡ exact_request d
-request_read text d e = ap (λ (o : Option Data). option_and_then exact_request o) e
-
-holds : (text : List ℕ) (request : Option Request) → IsUtf8 text → request_in text ≡ request → true ≡ is_some request → HoldsRequest text
-holds text None utf8 e h = absurd (false≢true (sym h))
-holds text (Some r) utf8 e h = record { utf8 = utf8; request = r; requested = e }
-
-pub none_exactly : (text : List ℕ) (d : Data) (reason : Option Reason) → IsUtf8 text → read text ≡ Some d → is_none reason ≡ is_some (exact_request d) →
-    (reason ≡ None → HoldsRequest text) × (HoldsRequest text → reason ≡ None)
-none_exactly text d None utf8 e h = (λ _. holds text (exact_request d) utf8 (request_read text d e) h, λ _. refl)
-none_exactly text d (Some r) utf8 e h = (
-  λ none. absurd (none-some r (sym none)),
-  λ held. absurd (false≢true (h ∙ ap (λ (o : Option Request). is_some o) (sym (request_read text d e) ∙ held.requested))),
-)
-
-pub lies_in_value : (text : List ℕ) (d : Data) (reason : Option Reason) → read text ≡ Some d → IfSome reason (λ r. IsValueReason d r) → IfSome reason (λ r. LiesIn text r)
-lies_in_value text d None e h = tt
-lies_in_value text d (Some r) e h = LiesIn.in_value d e h

@@ -1,134 +1,129 @@
--- Lemmas over lines: what is answered or told is a reply.
-use Rattle.std.proofs.Common.{◌≡◌, ◌∙◌, ◌⊎◌, inl, inr, ℕ, ◌<◌, List, [], ◌∷◌, length, String, Global, Option, None, Some, Result, Ok, Err, IfSome, IfOk, IfErr, IsOk, IsErrAnd, refl, sym, ap, subst, arith}
-use Rattle.std.specs.Prelude.{option_and_then, string_bytes}
-use Rattle.std.proofs.lemmas.Bool.{false≢true}
+-- Lemmas over lines: what is answered or told is a response to what was read.
+use Rattle.std.proofs.Common.{◌≡◌, ◌∙◌, ◌⊎◌, inl, inr, ℕ, ◌<◌, List, length, String, Global, Option, None, Some, Result, Ok, Err, IfSome, IsErrAnd, refl, sym, ap, subst}
+use Rattle.std.specs.Prelude.{string_bytes}
 use Rattle.std.proofs.lemmas.Option.{none-some}
 use Rattle.std.specs.Io.KnownBytes.{Appends, IsAtEnd}
-use Rattle.serde_json.specs.Data.{Data}
-use Rattle.serde_json.specs.Read.{read}
-use Rattle.serde_json.proofs.OnLiterals.{serde_json_on_literals}
+use Rattle.std.specs.Ordering.{int_cmp}
+use Rattle.mesh_offset.specs.declared.error.IntOutlineError.{IntOutlineError}
 use Rattle.mesh_offset.specs.declared.error.IntOutlineError.TheVariants.{CoordinateOutOfRange, OutOfMemory}
+use Rattle.mesh_offset.specs.declared.error.IntNearnessError.{IntNearnessError}
+use Rattle.mesh_offset.specs.declared.error.IntNearnessError.TheVariants as near
 use Rattle.mesh_request.specs.Failures.{failure_line, IsOfMemory}
 use Rattle.mesh_request.specs.Reading.{IsOfReading}
 use Rattle.mesh_request.specs.Requests.{Request}
-use Rattle.mesh_service.specs.Near.{IsAnswerWithin, IsGivenUpIn, IsOfNearMemory, TellsNearRefusal}
-use Rattle.mesh_service.specs.Served.{IsAccepted}
+use Rattle.mesh_request.specs.Typed.{untyped}
+use Rattle.mesh_request.specs.declared.failure.Failure.{Failure}
+use Rattle.mesh_request.specs.declared.failure.Failure.TheVariants.{Unreadable, Refused}
+use Rattle.mesh_request.specs.declared.request.TypedRequest.{TypedRequest}
+use Rattle.mesh_service.proofs.Requested.{request_has_bytes}
+use Rattle.mesh_service.specs.Near.{AnswersWithin, IsAnswerWithin, IsResponseWithin, PassesLimit, TellsNearRefusal, of_nearness}
+use Rattle.mesh_service.specs.Private.Told.{EndsAs, told_line, unread_status}
+use Rattle.mesh_service.specs.Reasons.{IsReadOf, failure_of}
+use Rattle.mesh_service.specs.Served.{IsAccepted, Answers}
+use Rattle.mesh_service.specs.Serving.{IsRefused, IsReply, IsResponse, Serves, TellsRefusal, HasBytes, HoldsNoRequest, request_in, status_of}
 use Rattle.mesh_service.specs.declared.near.Telling.{Telling}
 use Rattle.mesh_service.specs.declared.near_failure.NearFailure.{NearFailure}
 use Rattle.mesh_service.specs.declared.near_failure.NearFailure.TheVariants.{Failed, TooManySplits}
 use Rattle.mesh_service.specs.declared.service.Status.{Status}
 use Rattle.mesh_service.specs.declared.service.Status.TheVariants.{Unwritten, Unread}
 use Rattle.mesh_service.specs.declared.service.Status.TheVariants.{Refused as RefusedStatus, Unreadable as UnreadableStatus}
-use Rattle.mesh_service.specs.Private.Told.{told_line}
-use Rattle.mesh_service.specs.Serving.{IsAnswer, IsRefused, IsReply, TellsRefusal, MetRefusal, HasBytes, HoldsNoRequest, exact_request, request_in}
-use Rattle.mesh_request.specs.declared.failure.Failure.{Failure}
-use Rattle.mesh_request.specs.declared.failure.Failure.TheVariants.{Unreadable, Refused}
+use Rattle.mesh_service.specs.declared.text.TextError.{TextError}
+use Rattle.mesh_service.specs.declared.text.TextError.TheVariants.{NoRequest, OutOfMemory as NoMemory}
 
--- the line of a failure to read is a reply
-pub reading_told : (left : Option (List ℕ)) (failure : Failure) → IsOfReading failure → (IsOfMemory failure → HasBytes left) → IsReply left (failure_line failure)
-reading_told left Unreadable h memory = IsReply.unreadable
-reading_told left (Refused CoordinateOutOfRange) h memory = absurd h
-reading_told left (Refused OutOfMemory) h memory = IsReply.no_memory (memory tt)
+-- ---- what was read of a text is answered
+
+pub answer_responds : (text : List ℕ) (request : TypedRequest) (line : String Global) → IsReadOf text (Ok request) → Answers int_cmp (untyped request) (string_bytes line) → IsResponse text (Ok line)
+answer_responds text request line read answered = record { utf8 = read.0; request = untyped request; requested = read.1; answered = answered }
+
+pub refusal_responds : (text : List ℕ) (request : TypedRequest) (error : IntOutlineError) (told : Result (String Global) Failure) → IsReadOf text (Ok request) →
+    (error ≡ CoordinateOutOfRange → IsAccepted (untyped request) → ⊥) → IsErrAnd told (λ failure. failure ≡ Refused error) → IsResponse text told
+refusal_responds text request error (Ok line) read refused same = absurd same
+refusal_responds text request CoordinateOutOfRange (Err failure) read refused same =
+    subst (λ (f : Failure). IsResponse text (Err f)) (sym same) (record { utf8 = read.0; request = untyped request; requested = read.1; refused = refused refl })
+refusal_responds text request OutOfMemory (Err failure) read refused same =
+    subst (λ (f : Failure). IsResponse text (Err f)) (sym same) (request_has_bytes text (untyped request) read.1)
+
+pub unread_responds : (text : List ℕ) (error : TextError) (failure : Failure) → IsReadOf text (Err error) → failure ≡ failure_of error → IsResponse text (Err failure)
+unread_responds text (NoRequest reason) failure read same = subst (λ (f : Failure). IsResponse text (Err f)) (sym same) read.0
+unread_responds text NoMemory failure read same = subst (λ (f : Failure). IsResponse text (Err f)) (sym same) read
+
+-- the same with a limit on splits
+pub answer_responds_within : (telling : Telling) (text : List ℕ) (request : TypedRequest) (line : String Global) → IsReadOf text (Ok request) →
+    AnswersWithin telling int_cmp (untyped request) (string_bytes line) → IsResponseWithin telling text (Ok line)
+answer_responds_within telling text request line read answered = record { utf8 = read.0; request = untyped request; requested = read.1; answered = answered }
+
+pub refusal_responds_within : (telling : Telling) (text : List ℕ) (request : TypedRequest) (error : IntNearnessError) (told : Result (String Global) NearFailure) → IsReadOf text (Ok request) →
+    (error ≡ near.CoordinateOutOfRange → IsAccepted (untyped request) → ⊥) → (error ≡ near.TooManySplits → PassesLimit telling.most_splits (untyped request)) →
+    IsErrAnd told (λ failure. failure ≡ of_nearness error) → IsResponseWithin telling text told
+refusal_responds_within telling text request error (Ok line) read refused past same = absurd same
+refusal_responds_within telling text request near.CoordinateOutOfRange (Err failure) read refused past same =
+    subst (λ (f : NearFailure). IsResponseWithin telling text (Err f)) (sym same) (record { utf8 = read.0; request = untyped request; requested = read.1; refused = refused refl })
+refusal_responds_within telling text request near.OutOfMemory (Err failure) read refused past same =
+    subst (λ (f : NearFailure). IsResponseWithin telling text (Err f)) (sym same) (request_has_bytes text (untyped request) read.1)
+refusal_responds_within telling text request near.TooManySplits (Err failure) read refused past same =
+    subst (λ (f : NearFailure). IsResponseWithin telling text (Err f)) (sym same) (record { utf8 = read.0; request = untyped request; requested = read.1; past = past refl })
+
+-- ---- what may not be answered is refused
+
+not_accepted : (text : List ℕ) (request : Request) → IsRefused text → request_in text ≡ Some request → IsAccepted request → ⊥
+not_accepted text request kept requested accepted =
+    let here : IfSome (request_in text) (λ r. IsAccepted r) = subst (λ (o : Option Request). IfSome o (λ r. IsAccepted r)) (sym requested) accepted in
+    kept.refused (subst (λ (o : Option Request). IfSome o (λ r. IsAccepted r)) kept.requested here)
+
+pub refusal_told : (text : List ℕ) (told : Result (String Global) Failure) → IsResponse text told → IsRefused text → TellsRefusal told
+refusal_told text (Ok line) response kept = absurd (not_accepted text response.request kept response.requested response.answered.accepted)
+refusal_told text (Err (Refused error)) response kept = tt
+refusal_told text (Err Unreadable) response kept = absurd (none-some kept.request (sym (response kept.utf8) ∙ kept.requested))
+
+pub near_refusal_told : (telling : Telling) (text : List ℕ) (told : Result (String Global) NearFailure) → IsResponseWithin telling text told → IsRefused text → TellsNearRefusal told
+near_refusal_told telling text (Ok line) response kept = absurd (not_accepted text response.request kept response.requested response.answered.accepted)
+near_refusal_told telling text (Err (Failed failure)) response kept = refusal_told text (Err failure) response kept
+near_refusal_told telling text (Err TooManySplits) response kept = absurd (not_accepted text response.request kept response.requested response.past.accepted)
+
+-- ---- what a run writes
 
 -- what was left has bytes where what was read has
-pub bytes_known : (left : Option (List ℕ)) (request : List ℕ) → IfSome left (λ xs. request ≡ xs) → 0 < length request → HasBytes left
+bytes_known : (left : Option (List ℕ)) (request : List ℕ) → IfSome left (λ xs. request ≡ xs) → 0 < length request → HasBytes left
 bytes_known None request known h = tt
 bytes_known (Some xs) request known h = subst (λ (bytes : List ℕ). 0 < length bytes) known h
 
-pub memory_known : (left : Option (List ℕ)) (request : List ℕ) (told : Result (String Global) Failure) → IfSome left (λ xs. request ≡ xs) →
-    IfErr told (λ e. IsOfMemory e → 0 < length request) → IfErr told (λ e. IsOfMemory e → HasBytes left)
-memory_known left request (Ok line) known h = tt
-memory_known left request (Err e) known h = λ memory. bytes_known left request known (h memory)
-
--- a text that is a value has bytes
-pub value_has_bytes : (text : List ℕ) (d : Data) → read text ≡ Some d → 0 < length text
-unfolding serde_json_on_literals
-value_has_bytes [] d e = absurd (none-some d e)
-value_has_bytes (b ∷ bytes) d e = omega arith
-
--- a text that is a request has bytes
-pub request_has_bytes : (text : List ℕ) (request : Request) → request_in text ≡ Some request → 0 < length text
-request_has_bytes text request requested = by (read text) refl requested
-  where
-    by : (value : Option Data) → read text ≡ value → option_and_then exact_request value ≡ Some request → 0 < length text
-    by None e same = absurd (none-some request same)
-    by (Some d) e same = value_has_bytes text d e
-
-pub has_bytes_anyway : (text : List ℕ) (told : Result (String Global) Failure) → 0 < length text → IfErr told (λ e. IsOfMemory e → 0 < length text)
-has_bytes_anyway text (Ok line) h = tt
-has_bytes_anyway text (Err e) h = λ _. h
-
-pub near_bytes_anyway : (text : List ℕ) (told : Result (String Global) NearFailure) → 0 < length text → IfErr told (λ e. IsOfNearMemory e → 0 < length text)
-near_bytes_anyway text (Ok line) h = tt
-near_bytes_anyway text (Err e) h = λ _. h
-
--- what answers the bytes that were left, or tells why there is no answer, is a reply
-pub responded : (left : Option (List ℕ)) (request : List ℕ) (told : Result (String Global) Failure) →
-    IfSome left (λ xs. request ≡ xs) → IfOk told (λ line. IsAnswer request (string_bytes line)) → (told ≡ Err (Refused CoordinateOutOfRange) → IsRefused request) →
-    IfErr told (λ e. IsOfMemory e → 0 < length request) → IsReply left (told_line told)
-responded left request (Ok line) known answered refused memory = IsReply.answer known answered
-responded left request (Err Unreadable) known answered refused memory = IsReply.unreadable
-responded left request (Err (Refused OutOfMemory)) known answered refused memory = IsReply.no_memory (bytes_known left request known (memory tt))
-responded left request (Err (Refused CoordinateOutOfRange)) known answered refused memory = IsReply.refusal known (refused refl)
-
 -- what was left holds no request, where what was read holds none
-pub none_left : (left : Option (List ℕ)) (request : List ℕ) → IfSome left (λ xs. request ≡ xs) → HoldsNoRequest request → IfSome left HoldsNoRequest
+none_left : (left : Option (List ℕ)) (request : List ℕ) → IfSome left (λ xs. request ≡ xs) → HoldsNoRequest request → IfSome left HoldsNoRequest
 none_left None request known none = tt
 none_left (Some xs) request known none = subst HoldsNoRequest known none
 
--- an answer that was told answers what was left
-pub answer_told : (left old new : Option (List ℕ)) (told : Result (String Global) Failure) →
-    IfOk told (λ line. (request : List ℕ) × IfSome left (λ bytes. request ≡ bytes) × IsAnswer request (string_bytes line)) →
-    Appends old new (told_line told) → IsOk told →
-    (request : List ℕ) × (line : List ℕ) × IfSome left (λ bytes. request ≡ bytes) × IsAnswer request line × Appends old new line
-answer_told left old new (Ok line) (request, known, answered) whole ok = (request, string_bytes line, known, answered, whole)
-answer_told left old new (Err failure) answered whole ok = absurd (false≢true ok)
+reply_known : (left : Option (List ℕ)) (request : List ℕ) (told : Result (String Global) Failure) → IfSome left (λ xs. request ≡ xs) → IsResponse request told → IsReply left (told_line told)
+reply_known left request (Ok line) known response = IsReply.answer known response
+reply_known left request (Err Unreadable) known response = IsReply.unreadable
+reply_known left request (Err (Refused OutOfMemory)) known response = IsReply.no_memory (bytes_known left request known response)
+reply_known left request (Err (Refused CoordinateOutOfRange)) known response = IsReply.refusal known response
 
--- a refusal that was told is one that was met
-pub refusal_met : (left unread old new : Option (List ℕ)) (told : Result (String Global) Failure) →
-    (told ≡ Err (Refused CoordinateOutOfRange) → (request : List ℕ) × IfSome left (λ bytes. request ≡ bytes) × IsAtEnd unread × IsRefused request) →
-    IfErr told (λ e. IsOfMemory e → HasBytes left) → Appends old new (told_line told) → TellsRefusal told → MetRefusal left unread old new
-refusal_met left unread old new (Ok line) refused memory whole here = absurd here
-refusal_met left unread old new (Err Unreadable) refused memory whole here = absurd here
-refusal_met left unread old new (Err (Refused OutOfMemory)) refused memory whole here = MetRefusal.of_memory (memory tt) whole
-refusal_met left unread old new (Err (Refused CoordinateOutOfRange)) refused memory whole here =
-    let (request, known, ended, is_refused) = refused refl in
-    MetRefusal.of_range known ended is_refused whole
+whole_served : (left unread old new : Option (List ℕ)) (request : List ℕ) (told : Result (String Global) Failure) → IfSome left (λ xs. request ≡ xs) → IsAtEnd unread →
+    IsResponse request told → Appends old new (told_line told) → Serves left unread old new (status_of told)
+whole_served left unread old new request (Ok line) known end response whole = Serves.answered known end response whole
+whole_served left unread old new request (Err Unreadable) known end response whole = Serves.unreadable (none_left left request known response) end whole
+whole_served left unread old new request (Err (Refused OutOfMemory)) known end response whole = Serves.no_memory (bytes_known left request known response) whole
+whole_served left unread old new request (Err (Refused CoordinateOutOfRange)) known end response whole = Serves.refused known end response whole
 
--- the request that may not be answered is not answered, and not told to be unreadable
-pub refusal_told : (text : List ℕ) (told : Result (String Global) Failure) → IfOk told (λ line. IsAnswer text (string_bytes line)) →
-    (told ≡ Err Unreadable → HoldsNoRequest text) → IsRefused text → TellsRefusal told
-refusal_told text (Ok line) answered unreadable kept =
-    let here : IfSome (request_in text) (λ r. IsAccepted r) = subst (λ (o : Option Request). IfSome o (λ r. IsAccepted r)) (sym answered.requested) answered.answered.accepted in
-    absurd (kept.refused (subst (λ (o : Option Request). IfSome o (λ r. IsAccepted r)) kept.requested here))
-refusal_told text (Err (Refused error)) answered unreadable kept = tt
-refusal_told text (Err Unreadable) answered unreadable kept = absurd (none-some kept.request (sym (unreadable refl kept.utf8) ∙ kept.requested))
+-- a run that read a text
+pub served : (left unread old new : Option (List ℕ)) (request : List ℕ) (told : Result (String Global) Failure) (ended : Status) → IfSome left (λ xs. request ≡ xs) → IsAtEnd unread →
+    IsResponse request told → EndsAs old new (told_line told) (status_of told) ended → Serves left unread old new ended
+served left unread old new request told ended known end response (inl (same, whole)) =
+    subst (Serves left unread old new) (sym same) (whole_served left unread old new request told known end response whole)
+served left unread old new request told ended known end response (inr (same, beginning)) =
+    subst (Serves left unread old new) (sym same) (Serves.unwritten (reply_known left request told known response) beginning)
 
--- nor where reading fails
-pub refusal_read : (text : List ℕ) (told : Result (String Global) Failure) (failure : Failure) → IsErrAnd told (λ told_failure. told_failure ≡ failure) →
-    (told ≡ Err Unreadable → HoldsNoRequest text) → IsRefused text → TellsRefusal told
-refusal_read text (Ok line) failure same unreadable kept = absurd same
-refusal_read text (Err e) failure same unreadable kept = refusal_told text (Err e) tt unreadable kept
-
--- the same of what is asked with a limit: it does not pass it either
-pub near_refusal_told : (telling : Telling) (text : List ℕ) (told : Result (String Global) NearFailure) → IfOk told (λ line. IsAnswerWithin telling text (string_bytes line)) →
-    (told ≡ Err (Failed Unreadable) → HoldsNoRequest text) → (told ≡ Err TooManySplits → IsGivenUpIn telling.most_splits text) → IsRefused text → TellsNearRefusal told
-near_refusal_told telling text (Ok line) answered unreadable given_up kept =
-    let here : IfSome (request_in text) (λ r. IsAccepted r) = subst (λ (o : Option Request). IfSome o (λ r. IsAccepted r)) (sym answered.requested) answered.answered.accepted in
-    absurd (kept.refused (subst (λ (o : Option Request). IfSome o (λ r. IsAccepted r)) kept.requested here))
-near_refusal_told telling text (Err (Failed (Refused error))) answered unreadable given_up kept = tt
-near_refusal_told telling text (Err (Failed Unreadable)) answered unreadable given_up kept = absurd (none-some kept.request (sym (unreadable refl kept.utf8) ∙ kept.requested))
-near_refusal_told telling text (Err TooManySplits) answered unreadable given_up kept =
-    let past = given_up refl in
-    let here : IfSome (request_in text) (λ r. IsAccepted r) = subst (λ (o : Option Request). IfSome o (λ r. IsAccepted r)) (sym past.requested) past.past.accepted in
-    absurd (kept.refused (subst (λ (o : Option Request). IfSome o (λ r. IsAccepted r)) kept.requested here))
-
-pub near_refusal_read : (text : List ℕ) (told : Result (String Global) NearFailure) (failure : Failure) → IsErrAnd told (λ e. e ≡ Failed failure) →
-    (told ≡ Err (Failed Unreadable) → HoldsNoRequest text) → IsRefused text → TellsNearRefusal told
-near_refusal_read text (Ok line) failure same unreadable kept = absurd same
-near_refusal_read text (Err e) failure same unreadable kept =
-    subst (λ (f : NearFailure). TellsNearRefusal (Err f)) (sym same)
-    (refusal_told text (Err failure) tt (λ h. unreadable (let m : failure ≡ Unreadable = cc in ap Err (same ∙ ap Failed m))) kept)
+-- a run that failed to read one
+pub served_unread : (left unread old new : Option (List ℕ)) (failure : Failure) (ended : Status) → IsOfReading failure → (IsOfMemory failure → HasBytes left) →
+    EndsAs old new (failure_line failure) (unread_status failure) ended → Serves left unread old new ended
+served_unread left unread old new Unreadable ended of_reading memory (inl (same, whole)) = subst (Serves left unread old new) (sym same) (Serves.unread whole)
+served_unread left unread old new Unreadable ended of_reading memory (inr (same, beginning)) =
+    subst (Serves left unread old new) (sym same) (Serves.unwritten IsReply.unreadable beginning)
+served_unread left unread old new (Refused OutOfMemory) ended of_reading memory (inl (same, whole)) =
+    subst (Serves left unread old new) (sym same) (Serves.no_memory (memory tt) whole)
+served_unread left unread old new (Refused OutOfMemory) ended of_reading memory (inr (same, beginning)) =
+    subst (Serves left unread old new) (sym same) (Serves.unwritten (IsReply.no_memory (memory tt)) beginning)
+served_unread left unread old new (Refused CoordinateOutOfRange) ended of_reading memory ends = absurd of_reading
 
 -- no run ends both as a refusal or a failed write, and as what is unreadable or a failed read
 pub not_both : (s : Status) → (s ≡ RefusedStatus) ⊎ (s ≡ Unwritten) → (s ≡ UnreadableStatus) ⊎ (s ≡ Unread) → ⊥

@@ -1,18 +1,19 @@
 //! Requests answered by no more than a number of splits, with the nearness of the answer where that is asked.
 
-ghost use Rattle.std.specs.Prelude.{◌≡◌, string_bytes, IfOk};
+ghost use Rattle.std.specs.Prelude.{◌≡◌, List, string_bytes, IfOk};
 ghost use Rattle.std.specs.Ordering.{int_cmp};
 ghost use Rattle.mesh_num.specs.Paths.{paths_of, shapes_of};
 ghost use Rattle.mesh_drawing.specs.Order.{by_values};
 ghost use Rattle.mesh_request.specs.Typed.{untyped};
 ghost use Rattle.mesh_service.specs.Lines.{told_edges_text, told_shapes_text};
 ghost use Rattle.mesh_service.specs.Near.{AnswersWithin, IsResponseWithin, PassesLimit, TellsNearRefusal};
+ghost use Rattle.mesh_service.specs.Reasons.{IsReadOf};
 ghost use Rattle.mesh_service.specs.Served.{IsAccepted};
 ghost use Rattle.mesh_service.specs.Serving.{IsRefused};
 
 use crate::answer::{edges_line, near_edges_line, near_shapes_line, shapes_line};
 use crate::near_failure::NearFailure;
-use crate::text::read_text;
+use crate::text::{TextError, read_text};
 use mesh_below::nearness::NearShapes;
 use mesh_drawing::draw;
 use mesh_drawing::nearness::near_shapes;
@@ -40,7 +41,18 @@ pub fn respond_near(alloc: Global, request: &[u8], telling: Telling) -> Result<S
     ensures response { IsResponseWithin telling request.now result }
     ensures not_accepted { IsRefused request.now → TellsNearRefusal result }
 {
-    match &read_text(alloc, request).request {
+    answer_read(alloc, &read_text(alloc, request).request, telling)
+}
+
+/// The line that answers what was read of a text, or the failure in its place.
+fn answer_read(
+    alloc: Global,
+    read: &Result<TypedRequest, TextError>,
+    telling: Telling,
+) -> Result<String, NearFailure>
+    ensures { (text : List _) → IsReadOf text read.now → IsResponseWithin telling text result }
+{
+    match read {
         Ok(request) => Ok(answer_within(alloc, request, telling)?),
         Err(error) => Err(NearFailure::Failed(Failure::from(*error))),
     }

@@ -5,7 +5,7 @@ ghost use Rattle.std.specs.Io.KnownBytes.{Appends};
 ghost use Rattle.std.specs.Ordering.{int_cmp};
 ghost use Rattle.mesh_drawing.specs.Order.{by_values};
 ghost use Rattle.mesh_request.specs.Typed.{untyped};
-ghost use Rattle.mesh_service.specs.Private.Told.{Tells, told_line};
+ghost use Rattle.mesh_service.specs.Private.Told.{EndsAs, told_line, unread_status};
 ghost use Rattle.mesh_service.specs.Reasons.{IsReadOf};
 ghost use Rattle.mesh_service.specs.Served.{IsAccepted, Answers};
 ghost use Rattle.mesh_service.specs.Serving.{AppendsBeginning, IsResponse, IsRefused, Serves, TellsRefusal, status_of};
@@ -64,6 +64,16 @@ impl Status {
             Err(Failure::Unreadable) => Status::Unreadable,
         }
     }
+
+    /// How a run ends that met this failure when it read, and whose line is written.
+    fn of_unread(failure: Failure) -> Self
+        ensures { result ≡ unread_status failure }
+    {
+        match failure {
+            Failure::Unreadable => Status::Unread,
+            Failure::Refused(_) => Status::Refused,
+        }
+    }
 }
 
 /// Reads a request to the reader's end and writes its answer, one line, or the line of a failure.
@@ -104,55 +114,38 @@ fn read_and_reply<R: Read, W: Write>(alloc: Global, reader: &mut R, writer: &mut
     ensures { Serves (R.remaining reader.old) (R.remaining reader.new) (W.contents writer.old) (W.contents writer.new)
         result.status }
 {
-    let reply = read_and_answer(alloc, reader);
-    match print(writer, &reply.answer) {
-        Err(_) => Run {
-            read: reply.read,
-            status: Status::Unwritten,
-        },
-        Ok(()) => Run {
-            read: reply.read,
-            status: reply.status,
-        },
-    }
-}
-
-/// What is to be written.
-#[derive(Drop)]
-struct Reply {
-    /// What was read.
-    read: Result<ReadText, Failure>,
-    /// The answer, or the failure in its place.
-    answer: Result<String, Failure>,
-    /// How a run ends that writes it.
-    status: Status,
-}
-
-/// The answer to what the reader has left, or the failure in its place.
-fn read_and_answer<R: Read>(alloc: Global, reader: &mut R) -> Reply
-    ensures { Tells (R.remaining reader.old) (R.remaining reader.new) result.answer result.status }
-{
     match read_to_end(alloc, reader) {
         Ok(request) => {
             let read = read_text(alloc, &request);
             let answer = answer(alloc, &read.request);
-            let status = Status::of(&answer);
-            Reply {
+            let status = write_answer(writer, &answer, Status::of(&answer));
+            Run {
                 read: Ok(read),
-                answer,
                 status,
             }
         }
-        Err(Failure::Unreadable) => Reply {
-            read: Err(Failure::Unreadable),
-            answer: Err(Failure::Unreadable),
-            status: Status::Unread,
-        },
-        Err(refused) => Reply {
-            read: Err(refused),
-            answer: Err(refused),
-            status: Status::Refused,
-        },
+        Err(failure) => {
+            let status = write_answer(writer, &Err(failure), Status::of_unread(failure));
+            Run {
+                read: Err(failure),
+                status,
+            }
+        }
+    }
+}
+
+/// Writes an answer, or the line of the failure in its place, and tells how the run ends, which is so where all is
+/// written.
+fn write_answer<W: Write>(
+    writer: &mut W,
+    answer: &Result<String, Failure>,
+    written: Status,
+) -> Status
+    ensures { EndsAs (W.contents writer.old) (W.contents writer.new) (told_line answer.now) written result }
+{
+    match print(writer, answer) {
+        Ok(()) => written,
+        Err(_) => Status::Unwritten,
     }
 }
 

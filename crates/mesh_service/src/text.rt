@@ -2,7 +2,7 @@
 
 ghost use Rattle.std.specs.Prelude.{◌≡◌};
 ghost use Rattle.serde_json.specs.View.{view};
-ghost use Rattle.mesh_service.specs.Reasons.{IsReadOf, IsTextReason, blank_text};
+ghost use Rattle.mesh_service.specs.Reasons.{IsReadOf, IsTextReason, blank_byte, blank_text};
 ghost use Rattle.mesh_service.specs.Private.Told.{IsReadOfValue};
 
 use crate::reason::{Reason, TextPlace, text_place};
@@ -60,18 +60,20 @@ pub fn read_text(alloc: Global, text: &[u8]) -> ReadText
             }
         }
         Err(error) => {
-            let error = if error.is_memory() {
-                TextError::OutOfMemory
-            } else {
-                let sought = TextPlace {
-                    line: error.line(),
-                    column: error.column(),
+            if error.is_memory() {
+                return ReadText {
+                    value: None,
+                    request: Err(TextError::OutOfMemory),
                 };
-                TextError::NoRequest(text_reason(text, sought))
+            }
+            let sought = TextPlace {
+                line: error.line(),
+                column: error.column(),
             };
+            let reason = text_reason(text, sought);
             ReadText {
                 value: None,
-                request: Err(error),
+                request: Err(TextError::NoRequest(reason)),
             }
         }
     }
@@ -112,10 +114,15 @@ fn is_blank(text: &[u8]) -> bool
     ensures { result ≡ blank_text text.now }
 {
     for byte in text {
-        let byte = *byte;
-        if byte != b' ' && byte != b'\t' && byte != b'\n' && byte != b'\r' {
+        if !is_blank_byte(*byte) {
             return false;
         }
     }
     true
+}
+
+fn is_blank_byte(byte: u8) -> bool
+    ensures { result ≡ blank_byte byte }
+{
+    byte == b' ' || byte == b'\t' || byte == b'\n' || byte == b'\r'
 }

@@ -171,7 +171,11 @@ pub(crate) fn coordinate_problem<I: IntNumber>(value: &Value) -> Problem {
 }
 
 /// What is wrong with a value that is no list of so many coordinates, where this is if it is no such list.
-pub(crate) fn corner_problem<I: IntNumber>(value: &Value, size: usize, problem: Problem) -> Problem {
+pub(crate) fn corner_problem<I: IntNumber>(
+    value: &Value,
+    size: usize,
+    problem: Problem,
+) -> Problem {
     let Some(numbers) = value.as_array() else {
         return problem;
     };

@@ -21,7 +21,7 @@ use serde_json::Value;
 use std::alloc::Global;
 
 /// The outline that a request asks for.
-pub(crate) fn read_outline<I: OverlayInt>(
+pub fn read_outline<I: OverlayInt>(
     alloc: Global,
     request: &Value,
 ) -> Result<Outline<I>, ReadError>
@@ -44,8 +44,10 @@ fn outline_style<I: OverlayInt>(request: &Value) -> Result<IntOutlineStyle<I>, R
     let turn = turn_in(request, style)?;
     let outer = length_in(request, style, Key::Outer)?;
     let inner = length_in(request, style, Key::Inner)?;
-    Ok(IntOutlineStyle::new(outer)
-        .inner_offset(inner)
-        .line_join(join)
-        .miter_min_turn(turn))
+    Ok(
+        IntOutlineStyle::new(outer)
+            .inner_offset(inner)
+            .line_join(join)
+            .miter_min_turn(turn),
+    )
 }

@@ -25,7 +25,7 @@ use serde_json::Value;
 use std::alloc::Global;
 
 /// The stroke that a request asks for.
-pub(crate) fn read_stroke<I: OverlayInt>(
+pub fn read_stroke<I: OverlayInt>(
     alloc: Global,
     request: &Value,
 ) -> Result<Stroke<I>, ReadError>
@@ -74,10 +74,12 @@ fn uncapped_style<I: OverlayInt>(
         return Err(inner_fault(request, Key::Style, Key::Side, Problem::NoSide));
     };
     let width = length_in(request, style, Key::Width)?;
-    Ok(IntStrokeStyle::new(width)
-        .line_join(join)
-        .miter_min_turn(turn)
-        .side(side))
+    Ok(
+        IntStrokeStyle::new(width)
+            .line_join(join)
+            .miter_min_turn(turn)
+            .side(side),
+    )
 }
 
 /// The side of a path that a value names, both sides where there is none.

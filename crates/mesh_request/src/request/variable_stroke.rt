@@ -20,7 +20,7 @@ use serde_json::Value;
 use std::alloc::Global;
 
 /// The stroke of variable width that a request asks for.
-pub(crate) fn read_variable_stroke<I: OverlayInt>(
+pub fn read_variable_stroke<I: OverlayInt>(
     alloc: Global,
     request: &Value,
 ) -> Result<VariableStroke<I>, ReadError>

@@ -1,11 +1,7 @@
 -- A reason is told, or none is asked.
+use Rattle.std.proofs.Common.{inr, sym, subst}
 use Rattle.mesh_line_service.specs.Replies.{IsReplyTo}
-use Rattle.mesh_line_service.proofs.ReplyLemmas.{why_told}
 use Rattle.mesh_line_service.proofs.reply.no_request.Goals as goal
 
-pub returns-then-options : goal.returns-then-options
-returns-then-options c within =
-    why_told c.args.options c.args.line.now c.tell_why.result within c.requires c.if-options.true c.tell_why.ensures.told c.tell_why.ensures.memory
-
 pub returns-else-options : goal.returns-else-options
-returns-else-options c within = IsReplyTo.no_request within c.requires c.if-options.false
+returns-else-options c line none lies within = IsReplyTo.no_request within none c.if-options.false

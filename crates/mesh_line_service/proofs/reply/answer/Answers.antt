@@ -1,0 +1,8 @@
+-- The answer is made as options ask it.
+use Rattle.std.proofs.Common.{ap, Err}
+use Rattle.mesh_line_service.proofs.ReplyLemmas.{answered_plainly, answered_within, refused_plainly}
+use Rattle.mesh_line_service.proofs.reply.answer.Goals as goal
+
+pub returns : goal.returns
+returns c line read =
+    answered_within c.args.options line c.args.request.now c.answer_within.result read c.answer_within.ensures.answered c.answer_within.ensures.refused c.answer_within.ensures.given_up
