@@ -1,5 +1,5 @@
 -- Lemmas over replies: what is answered or told is a reply, and replies join.
-use Rattle.std.proofs.Common.{◌≡◌, ◌∙◌, inl, ℕ, ◌<◌, false, List, [], ◌∷◌, ◌++◌, length, String, Global, Option, None, Some, Result, Ok, Err, IfOk, IfErr, IsErrAnd, refl, sym, subst, ap, append_assoc, append-nil, arith}
+use Rattle.std.proofs.Common.{◌≡◌, ◌∙◌, inl, inr, ℕ, ◌<◌, true, false, List, [], ◌∷◌, ◌++◌, length, String, Global, Option, None, Some, Result, Ok, Err, IfOk, IfErr, refl, sym, subst, ap, append_assoc, append-nil, arith}
 use Rattle.std.specs.Prelude.{string_bytes}
 use Rattle.std.specs.List.{AllZip, concat}
 use Rattle.std.specs.Io.KnownBytes.{Appends}
@@ -17,7 +17,10 @@ use Rattle.mesh_request.specs.declared.failure.Failure.TheVariants.{Unreadable, 
 use Rattle.mesh_request.specs.declared.request.TypedRequest.{TypedRequest}
 use Rattle.mesh_service.proofs.Requested.{request_has_bytes}
 use Rattle.mesh_service.specs.Near.{AnswersWithin, IsGivenUpIn, PassesLimit}
-use Rattle.mesh_service.specs.Reasons.{IsReadOf}
+use Rattle.mesh_service.specs.Lines.{why_text}
+use Rattle.mesh_service.specs.Reasons.{IsReadOf, LiesIn, reason_text}
+use Rattle.mesh_service.specs.Serving.{HoldsNoRequest}
+use Rattle.mesh_service.specs.declared.reason.Reason.{Reason}
 use Rattle.mesh_service.specs.Served.{IsAccepted, Answers}
 use Rattle.mesh_line_service.specs.Held.{IsWithin}
 use Rattle.mesh_line_service.specs.Lines.{lines_of, TakesLines}
@@ -35,14 +38,6 @@ pub answered_plainly : (options : LineOptions) (line : List ℕ) (request : Type
     Answers int_cmp (untyped request) (string_bytes reply) → IsAnsweredTo options line (Ok reply)
 answered_plainly options line request reply unlimited plain read answered =
     IsAnswerAsked.plain unlimited plain (record { utf8 = read.0; request = untyped request; requested = read.1; answered = answered })
-
-pub refused_plainly : (options : LineOptions) (line : List ℕ) (request : TypedRequest) (error : IntOutlineError) (told : Result (String Global) IntNearnessError) → IsReadOf line (Ok request) →
-    (error ≡ CoordinateOutOfRange → IsAccepted (untyped request) → ⊥) → IsErrAnd told (λ e. e ≡ of_offset error) → IsAnsweredTo options line told
-refused_plainly options line request error (Ok reply) read refused same = absurd same
-refused_plainly options line request CoordinateOutOfRange (Err e) read refused same =
-    subst (λ (x : IntNearnessError). IsAnsweredTo options line (Err x)) (sym same) (record { utf8 = read.0; request = untyped request; requested = read.1; refused = refused refl })
-refused_plainly options line request OutOfMemory (Err e) read refused same =
-    subst (λ (x : IntNearnessError). IsAnsweredTo options line (Err x)) (sym same) (request_has_bytes line (untyped request) read.1)
 
 -- one that is made as options ask it
 pub answered_within : (options : LineOptions) (line : List ℕ) (request : TypedRequest) (told : Result (String Global) IntNearnessError) → IsReadOf line (Ok request) →
@@ -64,6 +59,14 @@ too_many_told options line (Ok text) within past same memory = subst (IsReplyTo 
 too_many_told options line (Err Unreadable) within past same memory = absurd memory
 too_many_told options line (Err (Refused OutOfMemory)) within past same memory = IsReplyTo.no_memory (inl (request_has_bytes line past.request past.requested))
 too_many_told options line (Err (Refused CoordinateOutOfRange)) within past same memory = absurd memory
+
+-- what tells why a line holds no request is its reply
+pub why_told : (options : LineOptions) (line : List ℕ) (reason : Reason) (told : Result (String Global) Failure) → IsWithin options.longest line → HoldsNoRequest line → options.why ≡ true →
+    LiesIn line reason → IfOk told (λ text. string_bytes text ≡ why_text (reason_text reason)) → IfErr told IsOfMemory → IsReplyTo options line (reply_text told)
+why_told options line reason (Ok text) within none asked lies same memory = subst (IsReplyTo options line) (sym same) (IsReplyTo.reasoned within none asked lies)
+why_told options line reason (Err Unreadable) within none asked lies same memory = absurd memory
+why_told options line reason (Err (Refused OutOfMemory)) within none asked lies same memory = IsReplyTo.no_memory (inr asked)
+why_told options line reason (Err (Refused CoordinateOutOfRange)) within none asked lies same memory = absurd memory
 
 -- what is told of a line that is too long is its reply
 pub too_long_told : (options : LineOptions) (most : ℕ) (line : List ℕ) (told : Result (String Global) Failure) →

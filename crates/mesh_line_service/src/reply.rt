@@ -1,9 +1,10 @@
 //! The reply to a line.
 
-ghost use Rattle.std.specs.Prelude.{◌≡◌, List, Ok, OnOk, IfOk, IfErr, string_bytes};
+ghost use Rattle.std.specs.Prelude.{◌≡◌, false, List, Ok, OnOk, IfOk, IfErr, string_bytes};
 ghost use Rattle.std.specs.Io.KnownBytes.{Appends};
 ghost use Rattle.mesh_request.specs.Failures.{IsOfMemory};
-ghost use Rattle.mesh_service.specs.Reasons.{IsReadOf, LiesIn};
+ghost use Rattle.mesh_service.specs.Lines.{why_text};
+ghost use Rattle.mesh_service.specs.Reasons.{IsReadOf, LiesIn, reason_text};
 ghost use Rattle.mesh_service.specs.Serving.{AppendsBeginning, HoldsNoRequest};
 ghost use Rattle.mesh_line_service.specs.Held.{Holds, IsWithin};
 ghost use Rattle.mesh_line_service.specs.Private.Steps.{IsAnsweredTo, reply_text};
@@ -77,7 +78,7 @@ fn answer(
     ensures { (line : List _) → IsReadOf line (Ok request.now) → IsAnsweredTo options line result }
 {
     if options.most_splits == 0 && !options.nearness {
-        return Ok(answer_request(alloc, request)?);
+        return plain_answer(alloc, request, options);
     }
     let telling = Telling {
         most_splits: options.most_splits,
@@ -86,16 +87,41 @@ fn answer(
     answer_within(alloc, request, telling)
 }
 
+/// The answer to a request where no limit is set and no nearness asked.
+fn plain_answer(
+    alloc: Global,
+    request: &TypedRequest,
+    options: LineOptions,
+) -> Result<String, IntNearnessError>
+    requires limit { options.most_splits ≡ 0 }
+    requires nearness { options.nearness ≡ false }
+    ensures { (line : List _) → IsReadOf line (Ok request.now) → IsAnsweredTo options line result }
+{
+    match answer_request(alloc, request) {
+        Ok(answer) => Ok(answer),
+        Err(IntOutlineError::CoordinateOutOfRange) => Err(IntNearnessError::CoordinateOutOfRange),
+        Err(IntOutlineError::OutOfMemory) => Err(IntNearnessError::OutOfMemory),
+    }
+}
+
 /// The reply to a line that holds no request, for this reason.
 fn no_request(alloc: Global, reason: &Reason, options: LineOptions) -> Result<String, Failure>
     ensures { (line : List _) → HoldsNoRequest line → LiesIn line reason.now → IsWithin options.longest line
         → IsReplyTo options line (reply_text result) }
 {
     if options.why {
-        Ok(why_line(alloc, reason)?)
+        tell_why(alloc, reason)
     } else {
         Err(Failure::Unreadable)
     }
+}
+
+/// The reply that tells this reason. It fails only where memory is refused.
+fn tell_why(alloc: Global, reason: &Reason) -> Result<String, Failure>
+    ensures told { IfOk result (λ text. string_bytes text ≡ why_text (reason_text reason.now)) }
+    ensures memory { IfErr result IsOfMemory }
+{
+    Ok(why_line(alloc, reason)?)
 }
 
 /// The reply to a line whose drawing took more splits than these. It fails only where memory is refused.

@@ -1,6 +1,5 @@
 -- The answer is made as options ask it.
-use Rattle.std.proofs.Common.{ap, Err}
-use Rattle.mesh_line_service.proofs.ReplyLemmas.{answered_plainly, answered_within, refused_plainly}
+use Rattle.mesh_line_service.proofs.ReplyLemmas.{answered_within}
 use Rattle.mesh_line_service.proofs.reply.answer.Goals as goal
 
 pub returns : goal.returns
