@@ -68,8 +68,8 @@ fn reply_to_request(
     }
 }
 
-/// The answer to a request. Where no limit is set and no nearness asked it is made as the service makes it, which counts
-/// no splits.
+/// The answer to a request. Where no limit is set and no nearness asked it is made as the service makes it, which
+/// counts no splits.
 fn answer(
     alloc: Global,
     request: &TypedRequest,

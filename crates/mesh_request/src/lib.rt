@@ -1,5 +1,5 @@
-//! Requests for polygon offsetting: what is drawn of which paths, how, and what is listed of it; read from JSON, or what
-//! is wrong with a value of JSON that is none (`fault`).
+//! Requests for polygon offsetting: what is drawn of which paths, how, and what is listed of it; read from JSON, or
+//! what is wrong with a value of JSON that is none (`fault`).
 #![tactic(auto)]
 
 pub mod error;

@@ -18,7 +18,8 @@ use Rattle.mesh_request.specs.declared.failure.Failure.{Failure}
 use Rattle.mesh_request.specs.declared.failure.Failure.TheVariants.{Unreadable, Refused}
 use Rattle.mesh_service.specs.declared.service.Status.{Status}
 use Rattle.mesh_service.specs.declared.service.Status.TheVariants.{Answered, Unread, Unwritten}
-use Rattle.mesh_service.specs.declared.service.Status.TheVariants.{Refused as RefusedStatus, Unreadable as UnreadableStatus}
+use Rattle.mesh_service.specs.declared.service.Status.TheVariants.{Refused as RefusedStatus}
+use Rattle.mesh_service.specs.declared.service.Status.TheVariants.{Unreadable as UnreadableStatus}
 
 -- the request that data is; a number that is no whole number of 64 bits makes it none
 abbrev pub exact_request : Data → Option Request

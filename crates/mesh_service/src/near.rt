@@ -59,8 +59,8 @@ fn answer_read(
 }
 
 /// The line that answers a request, made by no more splits than may be made, and with its nearness where that is asked.
-/// Edges are drawn without a split, and their nearness is 0. `CoordinateOutOfRange`: what is to be drawn does not stay in
-/// the safe range. `OutOfMemory`: memory was refused. `TooManySplits`: more splits were made.
+/// Edges are drawn without a split, and their nearness is 0. `CoordinateOutOfRange`: what is to be drawn does not stay
+/// in the safe range. `OutOfMemory`: memory was refused. `TooManySplits`: more splits were made.
 pub fn answer_within(
     alloc: Global,
     request: &TypedRequest,

@@ -5,7 +5,8 @@ use Rattle.std.specs.Io.KnownBytes.{Consumes, IsAtEnd}
 use Rattle.std.specs.declared.alloc.Global.{Global}
 use Rattle.std.specs.declared.string.String.{String}
 use Rattle.mesh_offset.specs.declared.error.IntNearnessError.{IntNearnessError}
-use Rattle.mesh_offset.specs.declared.error.IntNearnessError.TheVariants.{CoordinateOutOfRange, OutOfMemory, TooManySplits}
+use Rattle.mesh_offset.specs.declared.error.IntNearnessError.TheVariants.{CoordinateOutOfRange, OutOfMemory}
+use Rattle.mesh_offset.specs.declared.error.IntNearnessError.TheVariants.{TooManySplits}
 use Rattle.mesh_request.specs.Failures.{failure_line}
 use Rattle.mesh_request.specs.declared.failure.Failure.{Failure}
 use Rattle.mesh_service.specs.Near.{IsGivenUpIn}

@@ -21,10 +21,7 @@ use serde_json::Value;
 use std::alloc::Global;
 
 /// The outline that a request asks for.
-pub fn read_outline<I: OverlayInt>(
-    alloc: Global,
-    request: &Value,
-) -> Result<Outline<I>, ReadError>
+pub fn read_outline<I: OverlayInt>(alloc: Global, request: &Value) -> Result<Outline<I>, ReadError>
     ensures { MatchResult result (λ o. outline_of I.unit (view request.now) ≡ Some (drawn_outline I.value o))
         (FailsToRead (view request.now) (outline_of I.unit (view request.now))) }
 {

@@ -25,10 +25,7 @@ use serde_json::Value;
 use std::alloc::Global;
 
 /// The stroke that a request asks for.
-pub fn read_stroke<I: OverlayInt>(
-    alloc: Global,
-    request: &Value,
-) -> Result<Stroke<I>, ReadError>
+pub fn read_stroke<I: OverlayInt>(alloc: Global, request: &Value) -> Result<Stroke<I>, ReadError>
     ensures { MatchResult result (λ s. stroke_of I.unit (view request.now) ≡ Some (drawn_stroke I.value s))
         (FailsToRead (view request.now) (stroke_of I.unit (view request.now))) }
 {
