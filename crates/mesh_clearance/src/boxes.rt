@@ -1,9 +1,9 @@
 //! Boxes along the axes, and how far edges in two of them are apart at least.
 
-ghost use Rattle.std.specs.Prelude.{◌≡◌, ◌^◌, pos, ◌≤ℤ◌};
+ghost use Rattle.std.specs.Prelude.{◌^◌};
 ghost use Rattle.std.specs.List.{All};
 ghost use Rattle.mesh_plane.specs.Bounds.{IsSafe, IsSmall};
-ghost use Rattle.mesh_plane.specs.Plane.{Edge, Point, minus};
+ghost use Rattle.mesh_plane.specs.Plane.{Edge, Point};
 ghost use Rattle.mesh_clearance.specs.Boxes.{AreBoxesApart, IsBoxed, IsGap, IsIn};
 
 use crate::distance::{is_less, square};

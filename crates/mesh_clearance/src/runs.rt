@@ -1,6 +1,6 @@
 //! Runs of edges that follow each other in a list, each run in a box, so that a search can pass many edges at once.
 
-ghost use Rattle.std.specs.Prelude.{◌≡◌, ℕ, ◌<◌, ◌≤◌, List, length, IfOk, IsTrue, OnOk};
+ghost use Rattle.std.specs.Prelude.{◌<◌, List, length, IfOk, IsTrue, OnOk};
 ghost use Rattle.std.specs.List.{All};
 ghost use Rattle.mesh_plane.specs.Plane.{Edge};
 ghost use Rattle.mesh_clearance.specs.Boxes.{AreBoxesApart, AreFar, IsBoxed, IsRun};

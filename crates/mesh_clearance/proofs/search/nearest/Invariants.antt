@@ -1,4 +1,4 @@
-use Rattle.std.proofs.Common.{◌-◌, ℕ, length}
+use Rattle.std.proofs.Common.{◌-◌, length}
 use Rattle.mesh_clearance.proofs.Searching.{IsNearestBefore}
 use Rattle.mesh_clearance.proofs.search.nearest.Given as goal
 
