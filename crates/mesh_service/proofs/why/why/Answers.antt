@@ -10,10 +10,10 @@ returns-in-Ok-clause-exact c =
 
 pub returns-in-Err-NoRequest-clause-exact : goal.returns-in-Err-NoRequest-clause-exact
 returns-in-Err-NoRequest-clause-exact c =
-    let read = rw (c.in-Err-NoRequest.is, c.in-Err-NoRequest.field-0-is) at c.read_text.ensures in
+    let read = rw c.in-Err-NoRequest.field-0-is at c.read_text.ensures in
     (λ some. absurd (cc), λ held. absurd (none-some held.request (sym (read.0 held.utf8) ∙ held.requested)))
 
 pub returns-in-Err-NoRequest-clause-place : goal.returns-in-Err-NoRequest-clause-place
 returns-in-Err-NoRequest-clause-place c =
-    let read = rw (c.in-Err-NoRequest.is, c.in-Err-NoRequest.field-0-is) at c.read_text.ensures in
+    let read = rw c.in-Err-NoRequest.field-0-is at c.read_text.ensures in
     read.1
