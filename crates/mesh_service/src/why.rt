@@ -1,6 +1,7 @@
 //! Why a text holds no request, asked of the text.
 
 ghost use Rattle.std.specs.Prelude.{◌≡◌, ◌↔◌, None, IfOk, IfSome};
+ghost use Rattle.mesh_service.specs.Private.Told.{reason_of};
 ghost use Rattle.mesh_service.specs.Reasons.{HoldsRequest, LiesIn};
 
 use crate::reason::Reason;
@@ -15,7 +16,16 @@ pub fn why(alloc: Global, text: &[u8]) -> Result<Option<Reason>, AllocError>
 {
     match read_text(alloc, text).request {
         Ok(_) => Ok(None),
-        Err(TextError::NoRequest(reason)) => Ok(Some(reason)),
-        Err(TextError::OutOfMemory) => Err(AllocError),
+        Err(error) => reason_of(error),
+    }
+}
+
+/// The reason that an error tells. It fails where memory was refused.
+fn reason_of(error: TextError) -> Result<Option<Reason>, AllocError>
+    ensures { result ≡ reason_of error }
+{
+    match error {
+        TextError::NoRequest(reason) => Ok(Some(reason)),
+        TextError::OutOfMemory => Err(AllocError),
     }
 }

@@ -1,6 +1,8 @@
 -- What is read of a value, and written in a run: only private contracts read this.
 use Rattle.std.specs.Prelude.{ℕ, ◌≡◌, ◌⊎◌, List, Option, Some, None, Result, Ok, Err, string_bytes}
 use Rattle.std.specs.Io.KnownBytes.{Appends}
+use Rattle.std.specs.Allocator.{alloc_error}
+use Rattle.std.specs.declared.alloc.AllocError.{AllocError}
 use Rattle.std.specs.declared.alloc.Global.{Global}
 use Rattle.std.specs.declared.string.String.{String}
 use Rattle.serde_json.specs.Data.{Data}
@@ -11,6 +13,7 @@ use Rattle.mesh_request.specs.declared.failure.Failure.TheVariants.{Unreadable, 
 use Rattle.mesh_request.specs.declared.request.TypedRequest.{TypedRequest}
 use Rattle.mesh_service.specs.Reasons.{IsValueReason}
 use Rattle.mesh_service.specs.Serving.{exact_request, AppendsBeginning}
+use Rattle.mesh_service.specs.declared.reason.Reason.{Reason}
 use Rattle.mesh_service.specs.declared.service.Status.{Status}
 use Rattle.mesh_service.specs.declared.service.Status.TheVariants.{Unread, Unwritten, Refused as RefusedStatus}
 use Rattle.mesh_service.specs.declared.text.TextError.{TextError}
@@ -21,6 +24,11 @@ abbrev pub IsReadOfValue : Data → Result TypedRequest TextError → Type 0
 IsReadOfValue d (Ok request) = exact_request d ≡ Some (untyped request)
 IsReadOfValue d (Err (NoRequest reason)) = (exact_request d ≡ None) × IsValueReason d reason
 IsReadOfValue d (Err OutOfMemory) = Unit {0}
+
+-- the reason that an error tells
+abbrev pub reason_of : TextError → Result (Option Reason) AllocError
+reason_of (NoRequest reason) = Ok (Some reason)
+reason_of OutOfMemory = Err alloc_error
 
 -- the line of an answer, or of the failure in its place
 abbrev pub told_line : Result (String Global) Failure → List ℕ
