@@ -1,6 +1,6 @@
 //! The reply to a line.
 
-ghost use Rattle.std.specs.Prelude.{◌≡◌, false, List, Ok, OnOk, IfOk, IfErr, string_bytes};
+ghost use Rattle.std.specs.Prelude.{◌≡◌, false, List, Ok, Err, OnOk, IfOk, IfErr, string_bytes};
 ghost use Rattle.std.specs.Io.KnownBytes.{Appends};
 ghost use Rattle.mesh_request.specs.Failures.{IsOfMemory};
 ghost use Rattle.mesh_service.specs.Lines.{why_text};
@@ -44,8 +44,18 @@ fn reply_to(alloc: Global, line: &[u8], options: LineOptions) -> Result<String, 
 {
     match &read_text(alloc, line).request {
         Ok(request) => reply_to_request(alloc, request, options),
-        Err(TextError::NoRequest(reason)) => no_request(alloc, reason, options),
-        Err(TextError::OutOfMemory) => Err(Failure::Refused(IntOutlineError::OutOfMemory)),
+        Err(error) => reply_to_error(alloc, error, options),
+    }
+}
+
+/// The reply to a line that is read as no request.
+fn reply_to_error(alloc: Global, error: &TextError, options: LineOptions) -> Result<String, Failure>
+    ensures { (line : List _) → IsReadOf line (Err error.now) → IsWithin options.longest line
+        → IsReplyTo options line (reply_text result) }
+{
+    match error {
+        TextError::NoRequest(reason) => no_request(alloc, reason, options),
+        TextError::OutOfMemory => Err(Failure::Refused(IntOutlineError::OutOfMemory)),
     }
 }
 
