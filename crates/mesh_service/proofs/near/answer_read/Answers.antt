@@ -5,13 +5,13 @@ use Rattle.mesh_service.proofs.near.answer_read.Goals as goal
 
 pub returns-in_ok-answer_within-in-Ok : goal.returns-in_ok-answer_within-in-Ok
 returns-in_ok-answer_within-in-Ok c text read =
-    answer_responds_within c.args.telling text c.in-Ok.request _ (rw c.in-Ok.is at read) c.in_ok-answer_within-in-Ok.ensures.answered
+    answer_responds_within c.args.telling text c.in-Ok.request c.in_ok-answer_within-in-Ok.field-0 (rw c.in-Ok.is at read) c.in_ok-answer_within-in-Ok.ensures.answered
 
 pub returns-in_err-answer_within-in-Ok : goal.returns-in_err-answer_within-in-Ok
 returns-in_err-answer_within-in-Ok c text read =
-    refusal_responds_within c.args.telling text c.in-Ok.request _ _ (rw c.in-Ok.is at read)
+    refusal_responds_within c.args.telling text c.in-Ok.request _ c.from_residual.result (rw c.in-Ok.is at read)
     (λ e. c.in_err-answer_within-in-Ok.ensures.refused (ap Err e)) (λ e. c.in_err-answer_within-in-Ok.ensures.given_up (ap Err e))
-    c.from_residual-in_err-answer_within-in-Ok.ensures.1
+    c.from_residual.ensures.1
 
 pub returns-in-Err : goal.returns-in-Err
 returns-in-Err c text read = unread_responds text c.in-Err.error _ (rw c.in-Err.is at read) c.from.ensures
