@@ -1,0 +1,20 @@
+-- What an attempt answers, where it is not given up.
+use Rattle.std.specs.Prelude.{◌≡◌, List, map}
+use Rattle.mesh_plane.specs.Plane.{Edge}
+use Rattle.mesh_lattice.specs.Counted.{IsCountOf}
+use Rattle.mesh_points.specs.Edges.{counted}
+use Rattle.mesh_pairs.specs.Pairs.{AreFound}
+use Rattle.mesh_paths.specs.Paths.{ArePaths}
+use Rattle.mesh_paths.specs.Pieces.{AreReached}
+use Rattle.mesh_attempt.specs.declared.attempt.Attempt.{Attempt}
+use Rattle.mesh_attempt.specs.declared.attempt.CutEdges.{CutEdges}
+
+-- given edges were merged, and have become paths by legal splits; all pairs of the merged edges are known
+pub record AreCut (given : List Edge) (c : CutEdges) : Type 0 where
+  pub paths : ArePaths c.paths
+  pub count : IsCountOf given (map counted c.paths.edges.items)
+  pub found : AreFound c.paths.edges.items c.pairs
+
+-- the pieces are those that the splits make of given edges, all splits legal, each piece once, with its net count
+abbrev pub IsReached : List Edge → Attempt → Type 0
+IsReached given a = AreReached given a.splits (map counted a.pieces.items)

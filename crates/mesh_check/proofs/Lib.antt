@@ -1,0 +1,3 @@
+pub mod LeadingApart
+pub mod Parted
+pub mod Strips

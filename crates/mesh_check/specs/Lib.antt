@@ -1,0 +1,2 @@
+pub mod Bent
+pub mod Heights
