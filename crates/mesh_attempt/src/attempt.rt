@@ -1,6 +1,6 @@
 //! All stages in their order.
 
-ghost use Rattle.std.specs.Prelude.{◌≡◌, IfOk, IfSome, OnOk};
+ghost use Rattle.std.specs.Prelude.{◌≡◌, ◌<◌, length, IfOk, IfSome, OnOk};
 ghost use Rattle.std.specs.List.{All};
 ghost use Rattle.mesh_lattice.specs.Clean.{IsProper};
 ghost use Rattle.mesh_attempt.specs.Attempts.{AreCut, IsReached};
@@ -9,7 +9,7 @@ ghost use Rattle.mesh_paths.specs.Paths.{ArePaths};
 
 use crate::small::are_small;
 use mesh_lattice::lattice::LatticeEdge;
-use mesh_pairs::pairs::{Meeting, NO_POINT, Pairs};
+use mesh_pairs::pairs::{Meeting, Pairs};
 use mesh_pairs::tree::Tree;
 use mesh_paths::paths::Paths;
 use mesh_paths::pieces::collect;
@@ -38,11 +38,12 @@ pub struct Attempt {
 #[inline]
 fn cut_meeting(paths: &mut Paths, m: Meeting) -> Result<(), AllocError>
     requires paths { ArePaths paths.old }
-    requires meeting { IsMeeting paths.old.edges.items m }
+    requires first { m.first < length paths.old.edges.items }
+    requires second { m.second < length paths.old.edges.items }
     ensures paths { OnOk result (ArePaths paths.new) }
     ensures edges { OnOk result (paths.new.edges ≡ paths.old.edges) }
 {
-    if m.end != NO_POINT && paths.through.leads(m.first, m.end) {
+    if (m.end as usize) < paths.points.len() && paths.through.leads(m.first, m.end) {
         return Ok(());
     }
     paths.cut_about(m.first, m.second, m.near)?;
@@ -62,6 +63,7 @@ fn cut_meetings(paths: &mut Paths, meetings: &[Meeting]) -> Result<(), AllocErro
     Ok(())
 }
 
+#[tactic(auto, using(crate::proofs::Known::small_at))]
 /// Cuts edges, none of which ends where it starts, where they meet, each pair once. None where a coordinate is not below
 /// 2^30 in size, and where more than so many pairs meet. It fails only where memory is refused, or more than 2^31 - 1 of
 /// anything are wanted.

@@ -1,5 +1,5 @@
 -- Lemmas over edges and splits: a path that splits have made of an edge goes along it.
-use Rattle.std.proofs.Common.{◌≡◌, ◌⊎◌, inl, inr, ⊎_elim, ℕ, zero, suc, ◌+◌, ◌<◌, ◌≤◌, Bool, true, false, cond, List, [], ◌∷◌, ◌++◌, length, refl, sym, subst, arith}
+use Rattle.std.proofs.Common.{◌≡◌, ◌⊎◌, inl, inr, ⊎_elim, ℕ, zero, suc, ◌+◌, ◌<◌, ◌≤◌, Bool, true, false, cond, List, [], ◌∷◌, ◌++◌, length, add-one, refl, sym, subst, arith}
 use Rattle.std.specs.Prelude.{ℤ, ◌≤ℤ◌}
 use Rattle.std.proofs.lemmas.Int.{ints}
 use Rattle.mesh_plane.specs.Plane.{Point, Edge}
@@ -108,13 +108,15 @@ paths_along p k units paths within bent = record {
 
 pub apart_clear : LeadingApartIsClear
 apart_clear p j k first second j_units k_units paths j_within k_within j_bent k_bent apart a b a_is b_is a_path b_path =
-    subst (λ (m : ℕ). AreClear (at m a.place) (edge_of p b)) (sym a_path)
-    (subst (λ (m : ℕ). AreClear (at j a.place) (at m b.place)) (sym b_path)
+    subst (λ (m : ℕ). AreClear (at m a.place (a.place + 1)) (at b.path b.place (b.place + 1))) (sym a_path)
+    (subst (λ (m : ℕ). AreClear (at j a.place (a.place + 1)) (at m b.place (b.place + 1))) (sym b_path)
+    (subst (λ (n : ℕ). AreClear (at j a.place n) (at k b.place (b.place + 1))) (sym (add-one a.place))
+    (subst (λ (n : ℕ). AreClear (at j a.place (suc a.place)) (at k b.place n)) (sym (add-one b.place))
     (lead_apart j_units k_units (line_of p j) (line_of p k) (point_of p.stops j) (point_of p.stops k) (pieces_of p.stops j) (pieces_of p.stops k) first second
     (paths_along p j j_units paths j_within j_bent) (paths_along p k k_units paths k_within k_bent)
     apart.first_place apart.second_place apart.same apart.first_leads apart.second_leads a.place b.place
     (subst (λ (m : ℕ). a.place < pieces_of p.stops m) a_path a_is.place)
-    (subst (λ (m : ℕ). b.place < pieces_of p.stops m) b_path b_is.place)))
+    (subst (λ (m : ℕ). b.place < pieces_of p.stops m) b_path b_is.place)))))
   where
-    at : ℕ → ℕ → Edge
-    at m i = (point_of p.stops m i, point_of p.stops m (i + 1))
+    at : ℕ → ℕ → ℕ → Edge
+    at m i n = (point_of p.stops m i, point_of p.stops m n)

@@ -1,3 +1,4 @@
+pub mod AlongPaths
 pub mod LeadingApart
 pub mod Parted
 pub mod Strips
