@@ -63,10 +63,10 @@ fn cut_meetings(paths: &mut Paths, meetings: &[Meeting]) -> Result<(), AllocErro
     Ok(())
 }
 
-#[tactic(auto, using(crate::proofs::Known::small_at))]
 /// Cuts edges, none of which ends where it starts, where they meet, each pair once. None where a coordinate is not below
 /// 2^30 in size, and where more than so many pairs meet. It fails only where memory is refused, or more than 2^31 - 1 of
 /// anything are wanted.
+#[tactic(auto, using(crate::proofs::Known::small_at))]
 pub fn cut_edges(
     alloc: Global,
     given: &[LatticeEdge],

@@ -55,7 +55,6 @@ strip_parted l f e g (inr h) start end =
     (omega (arith, linear, end.low, turn_flip f.0 f.1 g.1))
 
 module _ (k l : ℕ) (e f : Edge) (a : ℕ → Point) (n : ℕ) (path : IsPathAlong k e a n) where
-
   -- pieces after a stop in a strip from which the path leads away
   after_clear : (i : ℕ) → i ≤ n → IsNearLine l f (a i) → LeadsAway (l + (k + k)) f a n i → (p : ℕ) → p < n → suc i ≤ p
       → (g : Edge) → IsNearLine l f g.0 → IsNearLine l f g.1 → AreClear (a p, a (suc p)) g
@@ -142,7 +141,6 @@ far_less k l f p (inl h) = inl (omega (arith, linear, h, units_sum k l f, units_
 far_less k l f p (inr h) = inr (omega (arith, linear, h, units_sum k l f, units_least k f))
 
 module _ (k l : ℕ) (e f : Edge) (a : ℕ → Point) (n : ℕ) (path : IsPathAlong k e a n) where
-
   -- a piece that does not begin or end at a stop from which the path leads away
   outside_clear : (i : ℕ) → i ≤ n → IsNearLine l f (a i) → LeadsAway (l + (k + k)) f a n i → (p : ℕ) → p < n → (suc i ≤ p) ⊎ (suc (suc p) ≤ i)
       → (g : Edge) → IsNearLine l f g.0 → IsNearLine l f g.1 → AreClear (a p, a (suc p)) g

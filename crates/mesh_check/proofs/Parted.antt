@@ -77,12 +77,12 @@ no_common i j s t a b p r m hi hj hs ht same weighed first second third fourth =
     let high_p : (t *ℤ p) ≤ℤ (t *ℤ m) = mul_le_mul_left t p m (omega (arith, linear, ht)) third in
     let high_r : (neg_ℤ s *ℤ r) ≤ℤ (neg_ℤ s *ℤ m) = mul_le_mul_left (neg_ℤ s) r m (omega (arith, linear, hs)) fourth in
     let left : (i *ℤ b) +ℤ (neg_ℤ j *ℤ a) ≡ (b *ℤ i) -ℤ (a *ℤ j) =
-        ring (i ∷ j ∷ a ∷ b ∷ []) ((var 0 ⊗ var 3) ⊕ (neg (var 1) ⊗ var 2)) ((var 3 ⊗ var 0) ⊖ (var 2 ⊗ var 1)) refl in
+    ring (i ∷ j ∷ a ∷ b ∷ []) ((var 0 ⊗ var 3) ⊕ (neg (var 1) ⊗ var 2)) ((var 3 ⊗ var 0) ⊖ (var 2 ⊗ var 1)) refl in
     let right : (t *ℤ p) +ℤ (neg_ℤ s *ℤ r) ≡ (p *ℤ t) -ℤ (r *ℤ s) =
-        ring (t ∷ s ∷ p ∷ r ∷ []) ((var 0 ⊗ var 2) ⊕ (neg (var 1) ⊗ var 3)) ((var 2 ⊗ var 0) ⊖ (var 3 ⊗ var 1)) refl in
+    ring (t ∷ s ∷ p ∷ r ∷ []) ((var 0 ⊗ var 2) ⊕ (neg (var 1) ⊗ var 3)) ((var 2 ⊗ var 0) ⊖ (var 3 ⊗ var 1)) refl in
     let lower : (i *ℤ (m +ℤ pos 1)) +ℤ (neg_ℤ j *ℤ (m +ℤ pos 1)) ≡ ((i -ℤ j) *ℤ m) +ℤ (i -ℤ j) = expanded i j m in
     let upper : (t *ℤ m) +ℤ (neg_ℤ s *ℤ m) ≡ (t -ℤ s) *ℤ m =
-        ring (t ∷ s ∷ m ∷ []) ((var 0 ⊗ var 2) ⊕ (neg (var 1) ⊗ var 2)) ((var 0 ⊖ var 1) ⊗ var 2) refl in
+    ring (t ∷ s ∷ m ∷ []) ((var 0 ⊗ var 2) ⊕ (neg (var 1) ⊗ var 2)) ((var 0 ⊖ var 1) ⊗ var 2) refl in
     let alike : (i -ℤ j) *ℤ m ≡ (t -ℤ s) *ℤ m = ap (λ (z : ℤ). z *ℤ m) same in
     omega (arith, linear, low_b, low_a, high_p, high_r, left, right, lower, upper, alike, weighed, hi, hj)
   where
