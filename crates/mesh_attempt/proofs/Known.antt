@@ -1,5 +1,5 @@
 -- Lemmas over lists: what is known of each element.
-use Rattle.std.proofs.Common.{◌≡◌, ℕ, ◌<◌, List, length, get_or, map, sym, ◌∙◌, subst}
+use Rattle.std.proofs.Common.{◌≡◌, List, get_or, map, sym, ◌∙◌, subst}
 use Rattle.std.specs.List.{All}
 use Rattle.std.proofs.lemmas.List.Elements.{All-get_or}
 use Rattle.mesh_plane.specs.Plane.{Edge}

@@ -1,5 +1,5 @@
 -- What an attempt answers, where it is not given up.
-use Rattle.std.specs.Prelude.{◌≡◌, List, map}
+use Rattle.std.specs.Prelude.{List, map}
 use Rattle.mesh_plane.specs.Plane.{Edge}
 use Rattle.mesh_lattice.specs.Counted.{IsCountOf}
 use Rattle.mesh_meeting.specs.Small.{HasSmallEnds}

@@ -1,5 +1,5 @@
 -- Lemmas over edges and splits: a path that splits have made of an edge goes along it.
-use Rattle.std.proofs.Common.{◌≡◌, ◌⊎◌, inl, inr, ⊎_elim, ℕ, zero, suc, ◌+◌, ◌<◌, ◌≤◌, Bool, true, false, cond, List, [], ◌∷◌, ◌++◌, length, add-one, refl, sym, subst, arith}
+use Rattle.std.proofs.Common.{◌≡◌, ◌⊎◌, inl, inr, ⊎_elim, ℕ, zero, suc, ◌+◌, ◌<◌, ◌≤◌, Bool, true, false, cond, List, [], ◌∷◌, length, add-one, refl, sym, subst, arith}
 use Rattle.std.specs.Prelude.{ℤ, ◌≤ℤ◌}
 use Rattle.std.proofs.lemmas.Int.{ints}
 use Rattle.mesh_plane.specs.Plane.{Point, Edge}
@@ -8,8 +8,9 @@ use Rattle.mesh_lattice.proofs.Each.{Each, each_append}
 use Rattle.mesh_lattice.proofs.KeptBySplits.{cut_box}
 use Rattle.mesh_lattice.proofs.SoundSplits.{legal_sound, IsSound, ProperEnds}
 use Rattle.mesh_pairs.specs.Laws.{spread}
-use Rattle.mesh_paths.specs.Paths.{edge_of, given_to, ArePaths}
-use Rattle.mesh_paths.specs.Stops.{edges_along, pieces_of, point_of}
+use Rattle.mesh_paths.specs.declared.paths.Paths.{Paths}
+use Rattle.mesh_paths.specs.Paths.{given_to, ArePaths}
+use Rattle.mesh_paths.specs.Stops.{count_of, edges_along, pieces_of, point_of}
 use Rattle.mesh_paths.proofs.Cuts.{edge_proper}
 use Rattle.mesh_check.specs.Bent.{line_of, LeadingApartIsClear, PathsGoAlong}
 use Rattle.mesh_check.proofs.LeadingApart.{lead_apart}
@@ -77,6 +78,10 @@ some_spread e proper =
     absurd (proper (λ i. (x i, y i))))
     (λ (h : 0 < spread e). h)
     (none_or_some (spread e))
+
+-- the edge of a path has two ends
+pub some_line : (p : Paths) (k : ℕ) → ArePaths p → k < count_of p.stops → 0 < spread (line_of p k)
+some_line p k paths within = some_spread (line_of p k) (edge_proper p k (omega (arith, within, paths.filed.count)) paths.proper)
 
 pub paths_along : PathsGoAlong
 paths_along p k units paths within bent = record {

@@ -1,13 +1,19 @@
 -- How far paths that edges have become are bent.
-use Rattle.std.specs.Prelude.{ℕ, ◌≡◌, ◌+◌, ◌<◌, ◌≤◌}
-use Rattle.mesh_plane.specs.Plane.{Edge}
+use Rattle.std.specs.Prelude.{ℕ, ◌≡◌, ◌+◌, ◌<◌, ◌≤◌, ◌^◌, List, length}
+use Rattle.mesh_plane.specs.Bounds.{IsSafe}
+use Rattle.mesh_plane.specs.Plane.{Point, Edge}
 use Rattle.mesh_lattice.specs.Split.{AreClear}
 use Rattle.mesh_points.specs.Edges.{edge_at}
+use Rattle.mesh_points.specs.Points.{point_at}
 use Rattle.mesh_paths.specs.declared.paths.Paths.{Paths}
 use Rattle.mesh_paths.specs.Paths.{edge_of, ends_of, ArePaths, IsPieceOf}
-use Rattle.mesh_paths.specs.Stops.{count_of, pieces_of, point_of, stop_of}
+use Rattle.mesh_paths.specs.Stops.{count_of, pieces_of, point_of}
 use Rattle.mesh_paths.specs.declared.paths.Piece.{Piece}
 use Rattle.mesh_check.specs.Heights.{IsNearLine, IsPathAlong, LeadsAway}
+
+-- all points have coordinates below 2^30 in size
+abbrev pub ArePointsSmall : List Point → Type 0
+ArePointsSmall ps = (k : ℕ) → k < length ps → IsSafe (2 ^ 30) (point_at ps k)
 
 -- the edge that a path began as
 abbrev pub line_of : Paths → ℕ → Edge

@@ -4,4 +4,6 @@
 //! pieces of the one and of the other meet.
 #![tactic(auto)]
 
+pub mod heights;
 pub mod laws;
+pub mod leading;
