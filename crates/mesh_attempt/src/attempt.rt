@@ -27,7 +27,8 @@ pub struct CutEdges {
     pub pairs: Pairs,
 }
 
-/// The pieces that edges have become, each once with its net count, the lesser end first, and the splits that led to them.
+/// The pieces that edges have become, each once with its net count, the lesser end first, and the splits that led to
+/// them.
 #[derive(Drop)]
 pub struct Attempt {
     pub pieces: Vec<NumberedEdge>,
@@ -63,9 +64,9 @@ fn cut_meetings(paths: &mut Paths, meetings: &[Meeting]) -> Result<(), AllocErro
     Ok(())
 }
 
-/// Cuts edges, none of which ends where it starts, where they meet, each pair once. None where a coordinate is not below
-/// 2^30 in size, and where more than so many pairs meet. It fails only where memory is refused, or more than 2^31 - 1 of
-/// anything are wanted.
+/// Cuts edges, none of which ends where it starts, where they meet, each pair once. Nothing where a coordinate is not
+/// below 2^30 in size, and where more than `most` pairs meet: the edges have to be split another way then. It fails
+/// only where memory is refused, or more than 2^31 - 1 of anything are wanted.
 #[tactic(auto, using(crate::proofs::Known::small_at))]
 pub fn cut_edges(
     alloc: Global,
@@ -91,7 +92,7 @@ pub fn cut_edges(
     Ok(Some(CutEdges { paths, pairs }))
 }
 
-/// The same, and the pieces of all edges. What it fails for, `cut_edges` says, and where a count does not fit in 32 bits.
+/// The same, and the pieces of all edges. It fails where `cut_edges` does, and where a count does not fit in 32 bits.
 pub fn split_in_arrays(
     alloc: Global,
     given: &[LatticeEdge],

@@ -93,7 +93,8 @@ pub fn leads_away(paths: &Paths, path: u32, place: usize, line: LatticeEdge, uni
     requires line { HasSmallEnds line }
     requires points { ArePointsSmall paths.now.points }
     requires few { units < 2 ^ 31 }
-    ensures { IsTrue result → LeadsAway units line (point_of paths.now.stops path) (pieces_of paths.now.stops path) place }
+    ensures { IsTrue result
+        → LeadsAway units line (point_of paths.now.stops path) (pieces_of paths.now.stops path) place }
 {
     if !is_far_before(paths, path, place, line, units) {
         return false;
