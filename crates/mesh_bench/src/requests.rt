@@ -5,7 +5,7 @@ use mesh_drawing::draw::{edges, shapes};
 use mesh_num::num::OverlayInt;
 use mesh_request::request::{Output, Request, TypedRequest};
 use mesh_service::input::read_to_end;
-use mesh_service::text::read_text;
+use mesh_service::text::{ReadText, read_text};
 use std::alloc::Global;
 
 /// How many contours or lists of edges the answer of a request has.
@@ -25,9 +25,13 @@ fn answer<I: OverlayInt>(alloc: Global, request: &Request<I>) -> Result<usize, B
 /// The request on standard input, whose numbers are `i32`.
 pub(crate) fn read_input(rt: &HostRuntime) -> Result<Request<i32>, BenchError> {
     let bytes = read_to_end(rt.alloc(), &mut rt.stdin())?;
-    match read_text(rt.alloc(), &bytes).request {
+    let ReadText {
+        value: _value,
+        request,
+    } = read_text(rt.alloc(), &bytes);
+    match request {
         Ok(TypedRequest::I32(request)) => Ok(request),
-        _ => Err(BenchError::Request),
+        Ok(TypedRequest::I16(_)) | Err(_) => Err(BenchError::Request),
     }
 }
 
