@@ -5,8 +5,7 @@ use Rattle.std.specs.List.{All, slice_range}
 use Rattle.std.proofs.lemmas.List.{get_or-take, get_or-drop, length-take, length-drop}
 use Rattle.mesh_plane.specs.Plane.{Point, Edge, minus, dot}
 use Rattle.mesh_plane.proofs.Whole.{linear}
-use Rattle.mesh_clearance.specs.declared.runs.Run.{Run}
-use Rattle.mesh_clearance.specs.Boxes.{Box, IsIn, IsBoxed, IsGap, AreBoxesApart, IsRun, AreFar}
+use Rattle.mesh_clearance.specs.Boxes.{Box, IsIn, IsGap, AreBoxesApart}
 use Rattle.mesh_clearance.proofs.Ends.{apart_of_way}
 
 -- ---- numbers that are kept as they are
@@ -61,8 +60,3 @@ within_range P es first end i e low after before h =
   where
     same : first + (i - first) ≡ i
     same = omega arith
-
--- where a box that holds edges is so far from one with an edge, so are the edges of its run
-pub run_far : (t : ℕ) (es : List Edge) (run : Run) (box : Box) (at : ℕ) (f : Edge) → IsRun es run → run.first ≡ at → AreBoxesApart t run.around box →
-    IsBoxed box f → AreFar t es at run.end f
-run_far t es run box at f holds same far boxed i e low after before = far (get_or es i e) f (holds.boxed i e low (omega (arith, same, after)) before) boxed

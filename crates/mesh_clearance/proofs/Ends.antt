@@ -1,5 +1,5 @@
 -- Lemmas over points: how far a point is from an edge: from an end of it, or from its line.
-use Rattle.std.proofs.Common.{◌≡◌, ℕ, ◌*◌, ◌<◌, ◌≤◌, refl, sym, ◌∙◌, ap, subst, arith, [], ◌∷◌, suc}
+use Rattle.std.proofs.Common.{◌≡◌, ℕ, ◌*◌, ◌<◌, ◌≤◌, refl, sym, ◌∙◌, ap, subst, arith, [], ◌∷◌}
 use Rattle.std.specs.Prelude.{ℤ, pos, neg_ℤ, ◌+ℤ◌, ◌-ℤ◌, ◌*ℤ◌, ◌≤ℤ◌, ◌<ℤ◌}
 use Rattle.std.proofs.lemmas.Int.{ints, by_lt_z}
 use Rattle.mesh_plane.specs.Plane.{Point, Edge, minus, dot, cross, length_sq}
@@ -120,12 +120,6 @@ left_length v = ring (v.0 ∷ v.1 ∷ []) (dot_of (neg (var 1)) (var 0) (neg (va
 
 pub left_measure : (v z : Point) → dot (left_of v) z ≡ cross v z
 left_measure v z = ring (v.0 ∷ v.1 ∷ z.0 ∷ z.1 ∷ []) (dot_of (neg (var 1)) (var 0) (var 2) (var 3)) (cross_of (var 0) (var 1) (var 2) (var 3)) refl
-
-pub right_length : (v : Point) → dot (right_of v) (right_of v) ≡ dot v v
-right_length v = ring (v.0 ∷ v.1 ∷ []) (dot_of (var 1) (neg (var 0)) (var 1) (neg (var 0))) (dot_of (var 0) (var 1) (var 0) (var 1)) refl
-
-pub right_measure : (v z : Point) → dot (right_of v) z ≡ neg_ℤ (cross v z)
-right_measure v z = ring (v.0 ∷ v.1 ∷ z.0 ∷ z.1 ∷ []) (dot_of (var 1) (neg (var 0)) (var 2) (var 3)) (neg (cross_of (var 0) (var 1) (var 2) (var 3))) refl
 
 pub apart_by_left : (t : ℕ) (v : Point) (k : ℤ) (e f : Edge) → pos 0 ≤ℤ k → pos 0 <ℤ dot v v → (pos t *ℤ dot v v) ≤ℤ (k *ℤ k) →
     k ≤ℤ cross v (minus f.0 e.0) → k ≤ℤ cross v (minus f.0 e.1) → k ≤ℤ cross v (minus f.1 e.0) → k ≤ℤ cross v (minus f.1 e.1) → AreApart t e f

@@ -1,12 +1,11 @@
 -- Lemmas over lists: the sections of paths and the edges of contours, one after another.
-use Rattle.std.proofs.Common.{◌≡◌, ℕ, ◌+◌, ◌<◌, ◌≤◌, Bool, true, false, List, [], ◌∷◌, ◌++◌, length, take, take_all, get_or, refl, sym, ◌∙◌, ap, append_assoc, arith}
+use Rattle.std.proofs.Common.{◌≡◌, ℕ, ◌+◌, ◌<◌, ◌≤◌, List, [], ◌∷◌, ◌++◌, length, take, take_all, get_or, refl, sym, ◌∙◌, ap, append_assoc}
 use Rattle.std.specs.Prelude.{Vec}
 use Rattle.std.specs.List.{flat_map}
 use Rattle.std.specs.declared.alloc.Global.{Global}
 use Rattle.std.proofs.lemmas.Grind.{flat_map-append}
-use Rattle.std.proofs.lemmas.List.{append-nil, map_more, take_more}
-use Rattle.mesh_num.specs.Paths.{contours_of, paths_of, shapes_of}
-use Rattle.mesh_num.proofs.Paths.{contours_more}
+use Rattle.std.proofs.lemmas.List.{append-nil, take_more}
+use Rattle.mesh_num.specs.Paths.{contours_of, shapes_of}
 use Rattle.mesh_plane.specs.Plane.{Point, Edge}
 use Rattle.mesh_plane.specs.Turning.{last_of}
 use Rattle.mesh_plane.specs.Winding.{boundary, pairs_from, route}
@@ -30,9 +29,6 @@ route_pairs a (y ∷ ys) z = ap (λ (es : List Edge). (a, y) ∷ es) (route_pair
 pub record HasPushed (old new : List Edge) (start from : Point) (points : List Point) : Type 0 where
   pub sections : new ≡ old ++ pairs_from start points
   pub last : from ≡ last_of start points
-
-pub pushed_none : (old : List Edge) (start : Point) → HasPushed old old start start []
-pushed_none old start = record { sections = sym (append-nil old); last = refl }
 
 pub pushed_more : (old mid new : List Edge) (start from to p : Point) (points : List Point) (i : ℕ) → i < length points → p ≡ get_or points i p → to ≡ p →
     new ≡ mid ++ (from, to) ∷ [] → HasPushed old mid start from (take i points) → HasPushed old new start to (take (i + 1) points)
@@ -63,13 +59,6 @@ pushed_closed old mid new start from points path i past parts added h =
     ∙ ((λ j. old ++ route start (take_all i points past j) start)
     ∙ ap (λ (ps : List Point). old ++ boundary ps) (sym parts)))))
 
-pub pushed_no_path : (old : List Edge) (is_closed : Bool) (path : List Point) → path ≡ [] → old ≡ old ++ sections is_closed path
-pushed_no_path old is_closed path none = sym (ap (λ (ps : List Point). old ++ sections is_closed ps) none ∙ by is_closed)
-  where
-    by : (c : Bool) → old ++ sections c [] ≡ old
-    by true = append-nil old
-    by false = append-nil old
-
 -- ---- those of several
 
 pub joined : {X : Type 0} (f : X → List Edge) (xs : List X) (x : X) (i : ℕ) (old mid new : List Edge) → i < length xs → x ≡ get_or xs i x →
@@ -86,42 +75,6 @@ joined {X} f xs x i old mid new low is h added =
         ∙ (ap (λ (y : X). flat_map f (take i xs ++ y ∷ [])) (sym is)
         ∙ (flat_map-append f (take i xs) (x ∷ [])
         ∙ ap (λ (es : List Edge). flat_map f (take i xs) ++ es) (append-nil (f x))))
-
-pub joined_all : {X : Type 0} (f : X → List Edge) (xs : List X) (i : ℕ) (old new : List Edge) → length xs ≤ i → new ≡ old ++ flat_map f (take i xs) → new ≡ old ++ flat_map f xs
-joined_all f xs i old new past h = h ∙ (λ j. old ++ flat_map f (take_all i xs past j))
-
--- the edges of contours in vectors
-abbrev edges_of_items : Vec Point Global → List Edge
-edges_of_items v = boundary v.items
-
-over_items : (vs : List (Vec Point Global)) → flat_map edges_of_items vs ≡ flat_map boundary (paths_of vs)
-over_items [] = refl
-over_items (v ∷ vs) = ap (λ (es : List Edge). boundary v.items ++ es) (over_items vs)
-
-pub contour_joined : (contours : List (Vec Point Global)) (contour : Vec Point Global) (points : List Point) (i : ℕ) (old mid new : List Edge) → i < length contours →
-    contour ≡ get_or contours i contour → points ≡ contour.items → mid ≡ old ++ flat_map boundary (paths_of (take i contours)) → new ≡ mid ++ boundary points →
-    new ≡ old ++ flat_map boundary (paths_of (take (i + 1) contours))
-contour_joined contours contour points i old mid new low is same h added =
-    joined edges_of_items contours contour i old mid new low is (h ∙ ap (λ (es : List Edge). old ++ es) (sym (over_items (take i contours)))) (added ∙ ap (λ (ps : List Point). mid ++ boundary ps) same)
-    ∙ ap (λ (es : List Edge). old ++ es) (over_items (take (i + 1) contours))
-
-pub contours_joined : (contours : List (Vec Point Global)) (i : ℕ) (old new : List Edge) → length contours ≤ i → new ≡ old ++ flat_map boundary (paths_of (take i contours)) →
-    new ≡ old ++ flat_map boundary (paths_of contours)
-contours_joined contours i old new past h = h ∙ (λ j. old ++ flat_map boundary (paths_of (take_all i contours past j)))
-
-pub shape_joined : (shapes : List (Vec (Vec Point Global) Global)) (shape : Vec (Vec Point Global) Global) (paths : List (Vec Point Global)) (i : ℕ) (mid new : List Edge) → i < length shapes →
-    shape ≡ get_or shapes i shape → paths ≡ shape.items → mid ≡ flat_map boundary (contours_of (shapes_of (take i shapes))) → new ≡ mid ++ flat_map boundary (paths_of paths) →
-    new ≡ flat_map boundary (contours_of (shapes_of (take (i + 1) shapes)))
-shape_joined shapes shape paths i mid new low is same h added =
-    added
-    ∙ ((λ j. h j ++ flat_map boundary (paths_of (same j)))
-    ∙ (sym (flat_map-append boundary (contours_of (shapes_of (take i shapes))) (paths_of shape.items))
-    ∙ ap (flat_map boundary) (sym more)))
-  where
-    more : contours_of (shapes_of (take (i + 1) shapes)) ≡ contours_of (shapes_of (take i shapes)) ++ paths_of shape.items
-    more =
-        contours_more shapes i shape low
-        ∙ ap (λ (s : Vec (Vec Point Global) Global). contours_of (shapes_of (take i shapes)) ++ paths_of s.items) (sym is)
 
 pub shapes_joined : (shapes : List (Vec (Vec Point Global) Global)) (i : ℕ) (new : List Edge) → length shapes ≤ i → new ≡ flat_map boundary (contours_of (shapes_of (take i shapes))) →
     new ≡ flat_map boundary (contours_of (shapes_of shapes))

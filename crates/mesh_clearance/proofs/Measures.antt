@@ -1,14 +1,13 @@
 -- Lemmas over points: a linear measure that parts two edges tells how far they are apart at least.
-use Rattle.std.proofs.Common.{◌≡◌, ℕ, ◌*◌, ◌<◌, ◌≤◌, refl, sym, ◌∙◌, ap, arith, [], ◌∷◌}
-use Rattle.std.specs.Prelude.{ℤ, pos, neg_ℤ, ◌+ℤ◌, ◌-ℤ◌, ◌*ℤ◌, ◌≤ℤ◌, ◌<ℤ◌}
-use Rattle.std.proofs.lemmas.Int.{ints, by_lt_z}
+use Rattle.std.proofs.Common.{◌≡◌, ℕ, ◌*◌, ◌<◌, ◌≤◌, refl, arith, [], ◌∷◌}
+use Rattle.std.specs.Prelude.{ℤ, pos, ◌+ℤ◌, ◌-ℤ◌, ◌*ℤ◌, ◌≤ℤ◌, ◌<ℤ◌}
+use Rattle.std.proofs.lemmas.Int.{ints}
 use Rattle.mesh_plane.specs.Plane.{Point, Edge, minus, dot, cross, length_sq}
 use Rattle.mesh_plane.specs.Winding.{refined}
 use Rattle.mesh_plane.proofs.Identities.{lagrange}
-use Rattle.mesh_plane.proofs.Ring.{ring, var, ◌⊕◌, ◌⊖◌, ◌⊗◌, dot_of}
+use Rattle.mesh_plane.proofs.Ring.{ring, var, ◌⊖◌, ◌⊗◌, dot_of}
 use Rattle.mesh_plane.proofs.Sizes.{dot_self}
 use Rattle.mesh_plane.proofs.Whole.{linear, mul_le_mul_left, le_of_mul_le_mul, square_nonneg, mul_nonneg}
-use Rattle.mesh_lattice.specs.Clean.{IsOn, refined_edge}
 use Rattle.mesh_lattice.proofs.Means.{IsMean, mean_of_on, mean_least, mean_most}
 use Rattle.mesh_lattice.proofs.Nearness.{mean_along}
 use Rattle.mesh_clearance.specs.Clearance.{AreApart}
@@ -25,10 +24,6 @@ square_most a b least h =
 refined_measure : (n : Point) (m : ℕ) (p : Point) → dot n (refined m p) ≡ pos m *ℤ dot n p
 refined_measure n m p =
     ring (n.0 ∷ n.1 ∷ pos m ∷ p.0 ∷ p.1 ∷ []) (dot_of (var 0) (var 1) (var 2 ⊗ var 3) (var 2 ⊗ var 4)) (var 2 ⊗ dot_of (var 0) (var 1) (var 3) (var 4)) refl
-
-measure_apart : (n p q : Point) → dot n (minus q p) ≡ dot n q -ℤ dot n p
-measure_apart n p q =
-    ring (n.0 ∷ n.1 ∷ p.0 ∷ p.1 ∷ q.0 ∷ q.1 ∷ []) (dot_of (var 0) (var 1) (var 4 ⊖ var 2) (var 5 ⊖ var 3)) (dot_of (var 0) (var 1) (var 4) (var 5) ⊖ dot_of (var 0) (var 1) (var 2) (var 3)) refl
 
 -- two points whose measures differ by that much are so far from each other
 far_of_measure : (t m : ℕ) (n p q : Point) (k : ℤ) → pos 0 ≤ℤ k → pos 0 <ℤ dot n n → (pos t *ℤ dot n n) ≤ℤ (k *ℤ k) →

@@ -1,5 +1,5 @@
 -- Lemmas over lists: the least distance where one more edge or section is looked at.
-use Rattle.std.proofs.Common.{◌≡◌, ℕ, ◌+◌, ◌<◌, ◌≤◌, ◌⊎◌, inl, inr, ⊎_elim, Bool, List, [], ◌∷◌, ◌++◌, length, take, take_all, get_or, refl, sym, ◌∙◌, ap, subst, arith, suc}
+use Rattle.std.proofs.Common.{◌≡◌, ℕ, ◌+◌, ◌<◌, ◌≤◌, ◌⊎◌, inl, inr, ⊎_elim, Bool, List, [], ◌∷◌, ◌++◌, length, take, get_or, refl, sym, ◌∙◌, ap, subst, arith, suc}
 use Rattle.std.specs.Prelude.{min, Option, None, Some, MatchOption, IfSome}
 use Rattle.std.specs.List.{All, flat_map}
 use Rattle.std.proofs.lemmas.List.{get_or_default}
@@ -109,9 +109,6 @@ cleared_more es all i d least r low near h = record {
       (λ (no_more : All (λ (x : Edge). AreApart (suc r) x (get_or all i d)) es → ⊥). no_more (λ j c lower. k j c lower i d low))
       near.reached;
 }
-
-pub cleared_all : (es all : List Edge) (i : ℕ) (least : ℕ) → length all ≤ i → IsCleared es (take i all) all least → IsClearance es all least
-cleared_all es all i least past h = record { apart = subst (λ (fs : List Edge). AreAllApart least es fs) (take_all i all past) h.apart; greatest = h.greatest }
 
 -- ---- what it says of paths
 

@@ -1,10 +1,10 @@
 -- Lemmas over lists of pairs that grow.
 use Rattle.std.proofs.Common.{◌≡◌, ◌≢◌, ℕ, ◌+◌, ◌<◌, ◌≤◌, ◌⊎◌, inl, inr, cond, eqb, ◌||◌, List, [], ◌∷◌, ◌++◌, length, get_or, set, replicate, sym, ◌∙◌, ap, subst, arith, get_or-set_other, get_or-set_same}
-use Rattle.std.specs.List.{All, Contains, count_by}
+use Rattle.std.specs.List.{All, count_by}
 use Rattle.std.proofs.Math.ListN.{length-set}
 use Rattle.std.proofs.lemmas.Bool.Decides.{nat_tests}
 use Rattle.std.proofs.lemmas.List.{get_or_default, get_or-replicate, length-replicate}
-use Rattle.std.proofs.lemmas.List.Elements.{All-nil, All-push, Contains-append_left}
+use Rattle.std.proofs.lemmas.List.Elements.{All-nil, All-push}
 use Rattle.std.proofs.lemmas.List.Sums.{count_by-le-length, fold_push}
 use Rattle.mesh_points.specs.declared.edges.NumberedEdge.{NumberedEdge}
 use Rattle.mesh_pairs.specs.declared.pairs.Meeting.{Meeting}
@@ -69,12 +69,6 @@ pub record IsNoted (old new : Pairs) (m : Meeting) : Type 0 where
   pub close : new.close ≡ old.close
   pub room : new.room.items ≡ raised old.room.items m.first m.second
 
-pub noted_grows : (old new : Pairs) (m : Meeting) → IsNoted old new m → Grows old new
-noted_grows old new m h = record {
-  meetings = λ k l. subst (λ (ms : List Meeting). Contains ms k) (sym h.meetings) (Contains-append_left old.meetings.items (m ∷ []) k l);
-  close = λ k l. subst (λ (cs : List (ℕ × ℕ)). Contains cs k) (sym (ap (λ v. v.items) h.close)) l;
-}
-
 pub noted_listed : (es : List NumberedEdge) (old new : Pairs) (m : Meeting) → IsNoted old new m → AreListed es old → IsMeeting es m → AreListed es new
 noted_listed es old new m h listed is = record {
   meetings = subst (All (IsMeeting es)) (sym h.meetings) (All-push (IsMeeting es) old.meetings.items m listed.meetings is);
@@ -101,12 +95,6 @@ pub record IsClosed (old new : Pairs) (c : ℕ × ℕ) : Type 0 where
   pub meetings : new.meetings ≡ old.meetings
   pub close : new.close.items ≡ old.close.items ++ c ∷ []
   pub room : new.room ≡ old.room
-
-pub closed_grows : (old new : Pairs) (c : ℕ × ℕ) → IsClosed old new c → Grows old new
-closed_grows old new c h = record {
-  meetings = λ m l. subst (λ (ms : List Meeting). Contains ms m) (sym (ap (λ v. v.items) h.meetings)) l;
-  close = λ k l. subst (λ (cs : List (ℕ × ℕ)). Contains cs k) (sym h.close) (Contains-append_left old.close.items (c ∷ []) k l);
-}
 
 pub closed_listed : (es : List NumberedEdge) (old new : Pairs) (c : ℕ × ℕ) → IsClosed old new c → AreListed es old → IsClose es c → AreListed es new
 closed_listed es old new c h listed is = record {

@@ -157,14 +157,6 @@ blocks_pushed t t' b x from to h g over = record {
 
 -- ---- a run
 
-pub no_runs : (t : Tree) → t.blocks.items ≡ [] → AreRuns t 0
-no_runs t none = record {
-  within = omega arith;
-  lanes = λ r h. absurd (omega arith);
-  covers = λ i h l. absurd (omega arith);
-  last = λ r h. absurd (omega arith);
-}
-
 -- while there are runs only
 pub blocks_of_runs : (t : Tree) → length t.bounds.items ≡ length t.blocks.items → length t.below.items ≡ length t.blocks.items → length t.blocks.items ≤ t.runs
     → ((p : ℕ) → p < length t.blocks.items → Covers small_bounds (box_at t.bounds.items p)) → AreBlocks t

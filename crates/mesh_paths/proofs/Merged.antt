@@ -45,9 +45,6 @@ new_bit true false t h n = omega (arith, ints)
 new_bit false true t h n = omega (arith, ints)
 new_bit false false t h n = omega (arith, ints)
 
-pub merged_none : AreMergedOf [] []
-merged_none = record { once = λ q. refl; counts = λ q. refl }
-
 -- its count is added to that of the segment with its ends
 pub merged_raised : (all ks : List Counted) (g e d : Counted) (k : ℕ) (m : ℤ) → AreMergedOf all ks → CountAlike g e → k < length ks
     → (get_or ks k d).0 ≡ e.0 → m ≡ (get_or ks k d).1 +ℤ e.1 → AreMergedOf (all ++ g ∷ []) (set ks k (e.0, m))

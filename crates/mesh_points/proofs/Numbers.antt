@@ -37,15 +37,6 @@ number_kept ps q p k is = record {
   at = get_or-append ps (q ∷ []) (pos 0, pos 0) k is.within ∙ is.at;
 }
 
-pub number_last : (ps : List Point) (p : Point) → IsNumberOf (ps ++ p ∷ []) p (length ps)
-number_last ps p = record {
-  within = omega (arith, length-append ps (p ∷ []));
-  at = get_or-append_seam ps p [] (pos 0, pos 0);
-}
-
-pub none_distinct : AreDistinct []
-none_distinct = record { distinct = λ i j h l e. absurd (omega arith) }
-
 -- ---- points of entries
 
 pub entry_point : (es : List Entry) (k : ℕ) → point_at (points_in es) k ≡ (get_or es k no_entry).at

@@ -3,7 +3,6 @@ use Rattle.std.proofs.lemmas.List.{get_or_read_under}
 use Rattle.mesh_plane.specs.Plane.{Edge}
 use Rattle.mesh_meeting.specs.Small.{HasSmallEnds}
 use Rattle.mesh_points.specs.Edges.{edge_at, no_edge}
-use Rattle.mesh_check.specs.Bent.{line_of}
 use Rattle.mesh_check.proofs.leading.line_of.Goals as goal
 
 pub returns-clause-small : goal.returns-clause-small
