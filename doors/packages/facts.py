@@ -78,11 +78,12 @@ def told(*words, **options):
 
 
 def version():
-    """The version of the header, which all doors have to share."""
+    """The version of the header, which all doors and `mesh_lines` have to share."""
     found = re.search(r'^#define MESH_VERSION "(.*)"$', (DOORS / "c/i_overlay_mesh.h").read_text(), re.M)[1]
     others = {
         "doors/rust/Cargo.toml": rf'^version = "{re.escape(found)}"$',
         "doors/python/i_overlay_mesh/__init__.py": rf'^__version__ = "{re.escape(found)}"$',
+        "crates/mesh_lines/src/main.rt": rf'^const VERSION: &str = "mesh_lines {re.escape(found)}\\n";$',
     }
     for file, line in others.items():
         if not re.search(line, (ROOT / file).read_text(), re.M):
