@@ -19,9 +19,10 @@ small_at es h k l =
 
 -- paths, and the pairs of the edges that they began as
 pub cut_known : (given : List Edge) (es fs : List NumberedEdge) (paths : Paths) (pairs : Pairs) → ArePaths paths → paths.edges.items ≡ es → IsCountOf given (map counted es)
-    → AreFound fs pairs → fs ≡ es → AreCut given (record { paths = paths; pairs = pairs })
-cut_known given es fs paths pairs are edges count found same = record {
+    → AreFound fs pairs → AreSmall fs → fs ≡ es → AreCut given (record { paths = paths; pairs = pairs })
+cut_known given es fs paths pairs are edges count found small same = record {
   paths = are;
   count = subst (λ (l : List NumberedEdge). IsCountOf given (map counted l)) (sym edges) count;
+  small = subst AreSmall (sym (edges ∙ sym same)) small;
   found = subst (λ (l : List NumberedEdge). AreFound l pairs) (same ∙ sym edges) found;
 }

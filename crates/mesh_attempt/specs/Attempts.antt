@@ -5,7 +5,7 @@ use Rattle.mesh_lattice.specs.Counted.{IsCountOf}
 use Rattle.mesh_meeting.specs.Small.{HasSmallEnds}
 use Rattle.mesh_points.specs.declared.edges.NumberedEdge.{NumberedEdge}
 use Rattle.mesh_points.specs.Edges.{counted}
-use Rattle.mesh_pairs.specs.Pairs.{AreFound}
+use Rattle.mesh_pairs.specs.Pairs.{AreFound, AreSmall}
 use Rattle.mesh_paths.specs.Paths.{ArePaths}
 use Rattle.mesh_paths.specs.Pieces.{AreReached}
 use Rattle.mesh_attempt.specs.declared.attempt.Attempt.{Attempt}
@@ -15,10 +15,11 @@ use Rattle.mesh_attempt.specs.declared.attempt.CutEdges.{CutEdges}
 abbrev pub IsSmall : NumberedEdge → Type 0
 IsSmall e = HasSmallEnds (e.start, e.end)
 
--- given edges were merged, and have become paths by legal splits; all pairs of the merged edges are known
+-- given edges were merged into small ones, and have become paths by legal splits; all pairs of the merged edges are known
 pub record AreCut (given : List Edge) (c : CutEdges) : Type 0 where
   pub paths : ArePaths c.paths
   pub count : IsCountOf given (map counted c.paths.edges.items)
+  pub small : AreSmall c.paths.edges.items
   pub found : AreFound c.paths.edges.items c.pairs
 
 -- the pieces are those that the splits make of given edges, all splits legal, each piece once, with its net count

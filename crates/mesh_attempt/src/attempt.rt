@@ -65,7 +65,8 @@ fn cut_meetings(paths: &mut Paths, meetings: &[Meeting]) -> Result<(), AllocErro
 }
 
 /// Cuts edges, none of which ends where it starts, where they meet, each pair once. Nothing where a coordinate is not
-/// below 2^30 in size, and where more than `most` pairs meet: the edges have to be split another way then. It fails
+/// below 2^30 in size, and where more than `most` pairs meet or
+/// more are close: the edges have to be split another way then. It fails
 /// only where memory is refused, or more than 2^31 - 1 of anything are wanted.
 #[tactic(auto, using(crate::proofs::Known::small_at))]
 pub fn cut_edges(
@@ -81,10 +82,9 @@ pub fn cut_edges(
         return Ok(None);
     }
     let tree = Tree::new(alloc, &list)?;
-    let pairs = Pairs::find(alloc, &list, &tree)?;
-    if pairs.meetings.len() > most {
+    let Some(pairs) = Pairs::find(alloc, &list, &tree, most)? else {
         return Ok(None);
-    }
+    };
     points.reserve(alloc, pairs.meetings.len())?;
     let numbered = NumberedEdges { list, points };
     let mut paths = Paths::start(alloc, numbered, &pairs.room, pairs.meetings.len())?;

@@ -1,7 +1,7 @@
 //! Which edges meet, and which lie so close that they may meet once both are bent.
 
 ghost use Rattle.std.specs.Prelude.{◌≡◌, ◌↔◌, ℕ, ◌+◌, ◌*◌, ◌/◌, ◌^◌, ◌<◌, ◌⊎◌, ◌≤◌, List, IsTrue, false, length, ℤ, pos, neg_ℤ, ◌-ℤ◌, ◌<ℤ◌, unsigned_abs};
-ghost use Rattle.std.specs.Prelude.{IfOk, OnOk, MatchResult};
+ghost use Rattle.std.specs.Prelude.{IfOk, IfSome, OnOk, MatchResult};
 ghost use Rattle.std.specs.List.{All, Contains};
 ghost use Rattle.mesh_plane.specs.Bounds.{IsSmall, IsSafe};
 ghost use Rattle.mesh_plane.specs.Plane.{Point, minus, cross, turn};
@@ -543,12 +543,18 @@ impl Pairs {
     }
 
     /// Finds the pairs of edges that meet or are close. Any two others stay clear of each other while each is bent by at
-    /// most 8 grid units in its own box, or share an end and else do not meet.
-    pub fn find(alloc: Global, edges: &[NumberedEdge], tree: &Tree) -> Result<Pairs, AllocError>
+    /// most 8 grid units in its own box, or share an end and else do not meet. `None` where more than `most` meet, or
+    /// more are close.
+    pub fn find(
+        alloc: Global,
+        edges: &[NumberedEdge],
+        tree: &Tree,
+        most: usize,
+    ) -> Result<Option<Pairs>, AllocError>
         requires tree { IsTreeOf edges.now tree.now }
         requires few { length edges.now < 2 ^ 31 }
         requires small { AreSmall edges.now }
-        ensures { IfOk result (λ p. AreFound edges.now p) }
+        ensures { IfOk result (λ o. IfSome o (λ p. AreFound edges.now p)) }
     {
         let mut pairs = Pairs {
             meetings: Vec::with_capacity(alloc, edges.len())?,
@@ -558,7 +564,10 @@ impl Pairs {
         let mut runs = Vec::with_capacity(alloc, 32)?;
         for run in 0..tree.runs() {
             pairs.find_from(edges, tree, run, &mut runs)?;
+            if pairs.meetings.len() > most || pairs.close.len() > most {
+                return Ok(None);
+            }
         }
-        Ok(pairs)
+        Ok(Some(pairs))
     }
 }
