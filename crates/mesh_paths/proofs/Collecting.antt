@@ -148,7 +148,7 @@ piece_proper p piece paths is = after_proper p.splits (legal_sound (given_to p) 
 
 -- ---- all paths
 
-ends_counted : (es : List NumberedEdge) → ends_in (map counted es) ≡ map ends_of es
+pub ends_counted : (es : List NumberedEdge) → ends_in (map counted es) ≡ map ends_of es
 ends_counted [] = refl
 ends_counted (e ∷ es) = ap (λ (l : List Edge). (e.start, e.end) ∷ l) (ends_counted es)
 

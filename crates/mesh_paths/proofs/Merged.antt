@@ -150,14 +150,14 @@ after_net given ks (s ∷ splits) proper h q =
 abbrev pub StandAlike : List Edge → List Edge → Type 0
 StandAlike es fs = (q : Edge) → occurs q es ≡ occurs q fs
 
-after_alike : (es fs : List Edge) (splits : List EdgeSplit) → StandAlike es fs → StandAlike (after splits es) (after splits fs)
+pub after_alike : (es fs : List Edge) (splits : List EdgeSplit) → StandAlike es fs → StandAlike (after splits es) (after splits fs)
 after_alike es fs [] h q = h q
 after_alike es fs (s ∷ splits) h q =
     occurs_cut q s.ends s.at (after splits es)
     ∙ ((λ i. (after_alike es fs splits h q i && not (same_ends q s.ends)) || (after_alike es fs splits h s.ends i && (same_ends q (s.ends.0, s.at) || same_ends q (s.at, s.ends.1))))
     ∙ sym (occurs_cut q s.ends s.at (after splits fs)))
 
-legal_alike : {es : List Edge} {splits : List EdgeSplit} → IsLegal es splits → (fs : List Edge) → StandAlike fs es → IsLegal fs splits
+pub legal_alike : {es : List Edge} {splits : List EdgeSplit} → IsLegal es splits → (fs : List Edge) → StandAlike fs es → IsLegal fs splits
 legal_alike no_cut fs h = no_cut
 legal_alike (split {given} {ks} {e} {f} {c} l x y m) fs h = split (legal_alike l fs h) (after_alike fs given ks h e ∙ x) (after_alike fs given ks h f ∙ y) m
 
@@ -173,7 +173,7 @@ times_present q (k ∷ ks) h =
     ⊎_elim (λ (t : same_ends q k.0 ≡ true). omega (arith, ints, ap bit t, times_least q ks)) (λ (t : occurs q (ends_in ks) ≡ true). omega (arith, ints, bit_least (same_ends q k.0), times_present q ks t))
     (or_cases (same_ends q k.0) (occurs q (ends_in ks)) h)
 
-count_alike : (given : List Edge) (ks : List Counted) → IsCountOf given ks → StandAlike given (ends_in ks)
+pub count_alike : (given : List Edge) (ks : List Counted) → IsCountOf given ks → StandAlike given (ends_in ks)
 count_alike given ks is q =
     ⊎_elim
     (λ (t : occurs q (ends_in ks) ≡ true). bit_one (occurs q given) (omega (arith, ints, times_present q ks t, is.once q)) ∙ sym t)

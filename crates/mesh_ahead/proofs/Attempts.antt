@@ -1,0 +1,42 @@
+-- Lemmas over lists: attempts in arrays, and their splits, which are counted on.
+use Rattle.std.proofs.Common.{◌≡◌, ℕ, List, length, reverse, sym, ◌∙◌, ap, arith}
+use Rattle.std.proofs.lemmas.List.{length-map, length-reverse}
+use Rattle.mesh_plane.specs.Plane.{Point, Edge}
+use Rattle.mesh_lattice.specs.Clean.{IsProper}
+use Rattle.mesh_lattice.specs.Counted.{Counted}
+use Rattle.mesh_lattice.specs.Nearness.{IsNearness}
+use Rattle.mesh_split.specs.Counting.{counted, CountsAmong, CountsAtMost}
+use Rattle.mesh_split.specs.declared.count.SplitCount.{SplitCount}
+use Rattle.mesh_split.specs.Told.{IsCountedSplitting}
+use Rattle.mesh_split.proofs.Counts.{counts_one, counts_with, with_fewer}
+use Rattle.mesh_paths.specs.Made.{latest_first}
+use Rattle.mesh_paths.specs.Paths.{given_to}
+use Rattle.mesh_attempt.specs.Attempts.{AreCut}
+use Rattle.mesh_attempt.specs.declared.attempt.CutEdges.{CutEdges}
+use Rattle.mesh_ahead.specs.Ahead.{AreSettled, IsMadeAmong}
+use Rattle.mesh_paths.proofs.Merged.{legal_alike}
+use Rattle.mesh_ahead.proofs.Alike.{merged_alike, nearness_alike}
+use Rattle.mesh_ahead.proofs.ClearPaths.{made_by}
+
+splits_many : (made : List (Edge × Point)) → length (latest_first made) ≡ length made
+splits_many made = length-map (reverse made) _ ∙ length-reverse made
+
+-- the splits of an attempt were counted on
+pub made_counted : (given : List Edge) (c : CutEdges) (made : List (Edge × Point)) (n : ℕ) (old new : SplitCount) → AreCut given c → latest_first made ≡ c.paths.splits → n ≡ length made → new ≡ counted old n
+    → CountsAmong 1 given old new c.paths.splits
+made_counted given c made n old new cut same many sum =
+    counts_one given old new c.paths.splits (legal_alike cut.paths.legal given (merged_alike given c.paths.edges.items cut.count))
+    (sum ∙ ap (counted old) (many ∙ (sym (splits_many made) ∙ ap length same)))
+
+pub made_of : (given : List Edge) (c : CutEdges) (old new : SplitCount) (ks : List Counted) (k : ℕ) → IsProper given → AreCut given c → AreSettled given c.paths.splits ks
+    → IsNearness (given_to c.paths) c.paths.splits k → CountsAmong 1 given old new c.paths.splits → IsMadeAmong 1 given old new ks k
+made_of given c old new ks k proper cut settled near counts =
+    made_by given c.paths.splits ks k old new proper settled
+    (nearness_alike (given_to c.paths) given c.paths.splits k (λ q. sym (merged_alike given c.paths.edges.items cut.count q)) near) counts
+
+-- of more attempts
+pub made_fewer : (given : List Edge) (old new : SplitCount) (ks : List Counted) (k : ℕ) → IsMadeAmong 1 given old new ks k → IsMadeAmong 52 given old new ks k
+made_fewer given old new ks k h = record { told = h.told; counted = with_fewer 1 52 (omega arith) given old new h.told.splitting.splits h.counted }
+
+pub made_after : (given : List Edge) (old now new : SplitCount) (ks : List Counted) (k : ℕ) → CountsAtMost 1 given old now → IsCountedSplitting given now new ks k → IsMadeAmong 52 given old new ks k
+made_after given old now new ks k first h = record { told = h.told; counted = counts_with 1 51 given old now new h.told.splitting.splits first h.counted }

@@ -1,0 +1,7 @@
+pub mod Alike
+pub mod Attempts
+pub mod ClearPaths
+pub mod NearPaths
+pub mod Origins
+pub mod PathDistances
+pub mod Sizes
