@@ -12,7 +12,7 @@ use Rattle.mesh_paths.specs.declared.paths.Paths.{Paths}
 use Rattle.mesh_paths.specs.Paths.{given_to, ArePaths}
 use Rattle.mesh_paths.specs.Stops.{count_of, edges_along, pieces_of, point_of}
 use Rattle.mesh_paths.proofs.Cuts.{edge_proper}
-use Rattle.mesh_check.specs.Bent.{line_of, LeadingApartIsClear, PathsGoAlong}
+use Rattle.mesh_check.specs.Bent.{line_of, AreClearPaths, LeadingApartIsClear, PathsGoAlong}
 use Rattle.mesh_check.proofs.LeadingApart.{lead_apart}
 
 -- not down, or not up
@@ -111,17 +111,27 @@ paths_along p k units paths within bent = record {
     y : (up : Bool) (i j : ℕ) → i ≤ j → j ≤ pieces_of p.stops k → Goes (λ q. q.1) up (line_of p k) → GoesOn up (point_of p.stops k i).1 (point_of p.stops k j).1
     y up i j h l g = goes (λ q. q.1) up (λ e z box. box.by_y) i j h l g
 
-pub apart_clear : LeadingApartIsClear
-apart_clear p j k first second j_units k_units paths j_within k_within j_bent k_bent apart a b a_is b_is a_path b_path =
+-- the piece from a stop of a path to the next one
+abbrev pub piece_of : Paths → ℕ → ℕ → Edge
+piece_of p k i = (point_of p.stops k i, point_of p.stops k (suc i))
+
+-- paths are clear of each other where their pieces are, place by place
+pub clear_by_places : (p : Paths) (j k : ℕ) → ((i l : ℕ) → i < pieces_of p.stops j → l < pieces_of p.stops k → AreClear (piece_of p j i) (piece_of p k l)) → AreClearPaths p j k
+clear_by_places p j k clear a b a_is b_is a_path b_path =
     subst (λ (m : ℕ). AreClear (at m a.place (a.place + 1)) (at b.path b.place (b.place + 1))) (sym a_path)
     (subst (λ (m : ℕ). AreClear (at j a.place (a.place + 1)) (at m b.place (b.place + 1))) (sym b_path)
     (subst (λ (n : ℕ). AreClear (at j a.place n) (at k b.place (b.place + 1))) (sym (add-one a.place))
     (subst (λ (n : ℕ). AreClear (at j a.place (suc a.place)) (at k b.place n)) (sym (add-one b.place))
-    (lead_apart j_units k_units (line_of p j) (line_of p k) (point_of p.stops j) (point_of p.stops k) (pieces_of p.stops j) (pieces_of p.stops k) first second
-    (paths_along p j j_units paths j_within j_bent) (paths_along p k k_units paths k_within k_bent)
-    apart.first_place apart.second_place apart.same apart.first_leads apart.second_leads a.place b.place
+    (clear a.place b.place
     (subst (λ (m : ℕ). a.place < pieces_of p.stops m) a_path a_is.place)
     (subst (λ (m : ℕ). b.place < pieces_of p.stops m) b_path b_is.place)))))
   where
     at : ℕ → ℕ → ℕ → Edge
     at m i n = (point_of p.stops m i, point_of p.stops m n)
+
+pub apart_clear : LeadingApartIsClear
+apart_clear p j k first second j_units k_units paths j_within k_within j_bent k_bent apart =
+    clear_by_places p j k
+    (lead_apart j_units k_units (line_of p j) (line_of p k) (point_of p.stops j) (point_of p.stops k) (pieces_of p.stops j) (pieces_of p.stops k) first second
+    (paths_along p j j_units paths j_within j_bent) (paths_along p k k_units paths k_within k_bent)
+    apart.first_place apart.second_place apart.same apart.first_leads apart.second_leads)

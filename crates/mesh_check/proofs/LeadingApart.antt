@@ -157,7 +157,7 @@ module _ (k l : ℕ) (e f : Edge) (a : ℕ → Point) (n : ℕ) (path : IsPathAl
 where_is : (p i : ℕ) → ((suc i ≤ p) ⊎ (suc (suc p) ≤ i)) ⊎ ((i ≡ p) ⊎ (i ≡ suc p))
 where_is p i = grind arith
 
-clear_swapped : (e f : Edge) → AreClear e f → AreClear f e
+pub clear_swapped : (e f : Edge) → AreClear e f → AreClear f e
 clear_swapped e f h c m = by m h
   where
     by : {e f : Edge} {c : Point} → Meets f e c → AreClear e f → ⊥

@@ -1,5 +1,10 @@
 pub mod AlongPaths
+pub mod BesideLines
+pub mod BoxedStops
+pub mod ClearPaths
+pub mod CommonPoints
 pub mod LeadingApart
+pub mod OwnClear
 pub mod Parted
 pub mod Sizes
 pub mod Strips

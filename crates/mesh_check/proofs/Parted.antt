@@ -61,7 +61,7 @@ crossing_height u v a b p r =
     ((h2 ⊗ f (point_var 3)) ⊖ (h3 ⊗ f (point_var 2)))
     refl
 
-turns_differ : (a b p r : Point) → turn p r a -ℤ turn p r b ≡ turn a b r -ℤ turn a b p
+pub turns_differ : (a b p r : Point) → turn p r a -ℤ turn p r b ≡ turn a b r -ℤ turn a b p
 turns_differ a b p r =
     ring (coordinates (a ∷ b ∷ p ∷ r ∷ []) [])
     (turned (point_var 2) (point_var 3) (point_var 0) ⊖ turned (point_var 2) (point_var 3) (point_var 1))

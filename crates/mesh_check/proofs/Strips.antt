@@ -1,5 +1,5 @@
 -- Lemmas over points: where a path leads away from the line of another edge, all later stops lie on that side of it.
-use Rattle.std.proofs.Common.{◌≡◌, ⊎_elim, ℕ, ◌+◌, ◌<◌, ◌≤◌, [], ◌∷◌, refl, sym, ◌∙◌, subst, arith}
+use Rattle.std.proofs.Common.{◌≡◌, ⊎_elim, ℕ, ◌+◌, ◌<◌, [], ◌∷◌, refl, sym, ◌∙◌, subst, arith}
 use Rattle.std.specs.Prelude.{ℤ, pos, negsuc, ◌+ℤ◌, ◌-ℤ◌, ◌*ℤ◌, ◌≤ℤ◌, ◌<ℤ◌, neg_ℤ, unsigned_abs}
 use Rattle.std.proofs.lemmas.Int.{ints}
 use Rattle.mesh_plane.specs.Plane.{Point, Edge, turn}
@@ -14,7 +14,7 @@ use Rattle.mesh_check.specs.Heights.{units, GoesAlong, IsNearLine}
 -- ---- over whole numbers
 
 -- a product of two numbers within limits
-times_within : (x y a b : ℤ) → neg_ℤ a ≤ℤ x → x ≤ℤ a → neg_ℤ b ≤ℤ y → y ≤ℤ b → (x *ℤ y) ≤ℤ (a *ℤ b)
+pub times_within : (x y a b : ℤ) → neg_ℤ a ≤ℤ x → x ≤ℤ a → neg_ℤ b ≤ℤ y → y ≤ℤ b → (x *ℤ y) ≤ℤ (a *ℤ b)
 times_within x y a b low high least most =
     let p = mul_nonneg (a -ℤ x) (b +ℤ y) (omega (arith, linear, high)) (omega (arith, linear, least)) in
     let q = mul_nonneg (a +ℤ x) (b -ℤ y) (omega (arith, linear, low)) (omega (arith, linear, most)) in
@@ -54,7 +54,7 @@ plain_along s t a b g h x y =
     ((((var 0 ⊗ var 6) ⊕ (var 1 ⊗ var 7)) ⊗ ((var 4 ⊗ var 3) ⊖ (var 5 ⊗ var 2))) ⊕ (((var 0 ⊗ var 4) ⊕ (var 1 ⊗ var 5)) ⊗ ((var 2 ⊗ var 7) ⊖ (var 3 ⊗ var 6))))
     refl
 
-minus : (x : ℤ) → negsuc 0 *ℤ x ≡ neg_ℤ x
+pub minus : (x : ℤ) → negsuc 0 *ℤ x ≡ neg_ℤ x
 minus x = ring (x ∷ []) (lit (negsuc 0) ⊗ var 0) (neg (var 0)) refl
 
 opposite : (m x y : ℤ) → m *ℤ (x -ℤ y) ≡ neg_ℤ (m *ℤ (y -ℤ x))
@@ -62,14 +62,14 @@ opposite m x y = ring (m ∷ x ∷ y ∷ []) (var 0 ⊗ (var 1 ⊖ var 2)) (neg 
 
 -- ---- the sign of a way along an axis
 
-record Sign (a b : ℤ) : Type 0 where
-  s : ℤ
-  own : s *ℤ (b -ℤ a) ≡ pos (unsigned_abs (b -ℤ a))
-  ahead : (p q : ℤ) → (a ≤ℤ b → p ≤ℤ q) → (b ≤ℤ a → q ≤ℤ p) → pos 0 ≤ℤ (s *ℤ (q -ℤ p))
-  low : (x : ℤ) → neg_ℤ (pos (unsigned_abs x)) ≤ℤ (s *ℤ x)
-  high : (x : ℤ) → (s *ℤ x) ≤ℤ pos (unsigned_abs x)
+pub record Sign (a b : ℤ) : Type 0 where
+  pub s : ℤ
+  pub own : s *ℤ (b -ℤ a) ≡ pos (unsigned_abs (b -ℤ a))
+  pub ahead : (p q : ℤ) → (a ≤ℤ b → p ≤ℤ q) → (b ≤ℤ a → q ≤ℤ p) → pos 0 ≤ℤ (s *ℤ (q -ℤ p))
+  pub low : (x : ℤ) → neg_ℤ (pos (unsigned_abs x)) ≤ℤ (s *ℤ x)
+  pub high : (x : ℤ) → (s *ℤ x) ≤ℤ pos (unsigned_abs x)
 
-sign : (a b : ℤ) → Sign a b
+pub sign : (a b : ℤ) → Sign a b
 sign a b =
     ⊎_elim
     (λ (h : a ≤ℤ b). record {
@@ -91,14 +91,14 @@ sign a b =
 -- ---- over points
 
 -- how far a way goes along both axes, each with its sign
-abbrev measured : ℤ → ℤ → Point → Point → ℤ
+abbrev pub measured : ℤ → ℤ → Point → Point → ℤ
 measured s t p q = (s *ℤ (q.0 -ℤ p.0)) +ℤ (t *ℤ (q.1 -ℤ p.1))
 
 -- how the first edge's way turns to the second's
-abbrev turned_by : Edge → Edge → ℤ
+abbrev pub turned_by : Edge → Edge → ℤ
 turned_by f e = ((f.1.0 -ℤ f.0.0) *ℤ (e.1.1 -ℤ e.0.1)) -ℤ ((f.1.1 -ℤ f.0.1) *ℤ (e.1.0 -ℤ e.0.0))
 
-turn_between : (f : Edge) (p q : Point)
+pub turn_between : (f : Edge) (p q : Point)
     → turn f.0 f.1 q -ℤ turn f.0 f.1 p ≡ ((f.1.0 -ℤ f.0.0) *ℤ (q.1 -ℤ p.1)) -ℤ ((f.1.1 -ℤ f.0.1) *ℤ (q.0 -ℤ p.0))
 turn_between f p q =
     ring (coordinates (f.0 ∷ f.1 ∷ p ∷ q ∷ []) [])
@@ -106,7 +106,7 @@ turn_between f p q =
     (crossed (apart (point_var 1) (point_var 0)) (apart (point_var 3) (point_var 2)))
     refl
 
-heights_along : (s t : ℤ) (e f : Edge) (p q : Point)
+pub heights_along : (s t : ℤ) (e f : Edge) (p q : Point)
     → measured s t e.0 e.1 *ℤ (turn f.0 f.1 q -ℤ turn f.0 f.1 p)
     ≡ (measured s t p q *ℤ turned_by f e) +ℤ (measured s t f.0 f.1 *ℤ (turn e.0 e.1 q -ℤ turn e.0 e.1 p))
 heights_along s t e f p q =

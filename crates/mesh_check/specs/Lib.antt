@@ -1,2 +1,3 @@
 pub mod Bent
+pub mod Clear
 pub mod Heights
