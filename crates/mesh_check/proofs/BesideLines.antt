@@ -1,5 +1,5 @@
 -- Lemmas over points: a path bent beside its edge lies hardly nearer to another edge's line than that edge does.
-use Rattle.std.proofs.Common.{◌≡◌, inl, inr, ℕ, ◌+◌, ◌<◌, [], ◌∷◌, refl, sym, ◌∙◌, subst, arith}
+use Rattle.std.proofs.Common.{◌≡◌, ◌⊎◌, inl, inr, ℕ, ◌+◌, ◌*◌, ◌<◌, [], ◌∷◌, refl, sym, ◌∙◌, ap, subst, arith}
 use Rattle.std.specs.Prelude.{ℤ, pos, ◌+ℤ◌, ◌-ℤ◌, ◌*ℤ◌, ◌≤ℤ◌, ◌<ℤ◌, neg_ℤ}
 use Rattle.std.proofs.lemmas.Int.{ints}
 use Rattle.mesh_plane.specs.Plane.{Point, Edge, turn}
@@ -142,3 +142,17 @@ parted_clear_of k l e f g h some (inr b) g0 g1 box0 box1 h0 h1 =
     (omega (arith, linear, b.0, turn_flip e.0 e.1 f.0, units_back (k + l) e))
     (omega (arith, linear, b.1, turn_flip e.0 e.1 f.1, units_back (k + l) e))
     (near_back k e g.0 g0) (near_back k e g.1 g1) box0 box1 h0 h1
+
+-- ---- as the code tests it
+
+pub beside_of : (k limit : ℕ) (e f : Edge) (h s t : ℤ) → h ≡ pos limit → limit ≡ k * spread e → s ≡ turn e.0 e.1 f.0 → t ≡ turn e.0 e.1 f.1
+    → ((h <ℤ s) × (h <ℤ t)) ⊎ ((s <ℤ neg_ℤ h) × (t <ℤ neg_ℤ h)) → LiesBeside k e f
+unfolding units
+beside_of k limit e f h s t size limit_is start end sides = by sides
+  where
+    is : h ≡ units k e
+    is = size ∙ ap pos limit_is
+
+    by : ((h <ℤ s) × (h <ℤ t)) ⊎ ((s <ℤ neg_ℤ h) × (t <ℤ neg_ℤ h)) → LiesBeside k e f
+    by (inl b) = inl (omega (arith, linear, b.0, is, start), omega (arith, linear, b.1, is, end))
+    by (inr b) = inr (omega (arith, linear, b.0, is, start), omega (arith, linear, b.1, is, end))

@@ -1,5 +1,5 @@
 -- Lemmas over paths: one is clear of itself, and two are where their edges stay clear, or one lies beside the other's line.
-use Rattle.std.proofs.Common.{ℕ, suc, ◌*◌, ◌<◌, ◌≤◌, arith}
+use Rattle.std.proofs.Common.{◌≡◌, ℕ, suc, ◌+◌, ◌*◌, ◌<◌, ◌≤◌, subst, arith}
 use Rattle.std.specs.Prelude.{ℤ, pos, ◌≤ℤ◌, neg_ℤ, unsigned_abs}
 use Rattle.std.proofs.lemmas.Int.{ints}
 use Rattle.mesh_plane.specs.Plane.{Point, Edge, turn}
@@ -9,7 +9,7 @@ use Rattle.mesh_paths.specs.declared.paths.Paths.{Paths}
 use Rattle.mesh_paths.specs.Paths.{edge_of, ArePaths}
 use Rattle.mesh_paths.specs.Stops.{count_of, pieces_of, point_of}
 use Rattle.mesh_check.specs.Bent.{line_of, AreClearPaths, IsBentBy}
-use Rattle.mesh_check.specs.Clear.{PathsAreClearOfThemselves, PathsBesideAreClear, PathsStayClear}
+use Rattle.mesh_check.specs.Clear.{LiesBeside, PathsAreClearOfThemselves, PathsBesideAreClear, PathsStayClear}
 use Rattle.mesh_check.specs.Heights.{units, IsNearLine}
 use Rattle.mesh_check.proofs.AlongPaths.{clear_by_places, paths_along, piece_of, some_line}
 use Rattle.mesh_check.proofs.BesideLines.{parted_clear_of}
@@ -67,3 +67,17 @@ beside_clear p j k j_units k_units paths j_within k_within j_bent k_bent beside 
     (stop_boxed p k (suc l) paths k_within (omega arith))
     (k_bent l (omega arith))
     (k_bent (suc l) (omega arith))))
+
+-- as the code tests it, by either line
+pub clear_by_first : (p : Paths) (j k j_units k_units : ℕ) (e f : Edge) → ArePaths p → j < count_of p.stops → k < count_of p.stops → IsBentBy p j j_units → IsBentBy p k k_units
+    → e ≡ line_of p j → f ≡ line_of p k → LiesBeside (j_units + k_units) e f → AreClearPaths p j k
+clear_by_first p j k j_units k_units e f paths j_within k_within j_bent k_bent first second beside =
+    beside_clear p j k j_units k_units paths j_within k_within j_bent k_bent
+    (subst (λ (g : Edge). LiesBeside (j_units + k_units) g (line_of p k)) first (subst (λ (g : Edge). LiesBeside (j_units + k_units) e g) second beside))
+
+pub clear_by_second : (p : Paths) (j k j_units k_units : ℕ) (e f : Edge) → ArePaths p → j < count_of p.stops → k < count_of p.stops → IsBentBy p j j_units → IsBentBy p k k_units
+    → e ≡ line_of p j → f ≡ line_of p k → LiesBeside (j_units + k_units) f e → AreClearPaths p j k
+clear_by_second p j k j_units k_units e f paths j_within k_within j_bent k_bent first second beside =
+    let same : j_units + k_units ≡ k_units + j_units = omega arith in
+    paths_swapped p k j
+    (clear_by_first p k j k_units j_units f e paths k_within j_within k_bent j_bent second first (subst (λ (n : ℕ). LiesBeside n f e) same beside))

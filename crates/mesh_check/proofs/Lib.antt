@@ -1,6 +1,7 @@
 pub mod AlongPaths
 pub mod BesideLines
 pub mod BoxedStops
+pub mod ByPieces
 pub mod ClearPaths
 pub mod CommonPoints
 pub mod LeadingApart

@@ -1,9 +1,11 @@
 -- When paths are clear of each other: by edges that stay clear, by lines beside which they lie, and each of itself.
-use Rattle.std.specs.Prelude.{ℕ, ◌+◌, ◌<◌, ◌⊎◌, ◌<ℤ◌, neg_ℤ}
+use Rattle.std.specs.Prelude.{ℕ, ◌≡◌, ◌+◌, ◌<◌, ◌⊎◌, ◌<ℤ◌, neg_ℤ}
 use Rattle.mesh_plane.specs.Plane.{Edge, turn}
+use Rattle.mesh_lattice.specs.Split.{AreClear}
 use Rattle.mesh_pairs.specs.Pairs.{StayClear}
 use Rattle.mesh_paths.specs.declared.paths.Paths.{Paths}
-use Rattle.mesh_paths.specs.Paths.{ArePaths}
+use Rattle.mesh_paths.specs.declared.paths.Piece.{Piece}
+use Rattle.mesh_paths.specs.Paths.{edge_of, ArePaths, IsPieceOf}
 use Rattle.mesh_paths.specs.Stops.{count_of}
 use Rattle.mesh_check.specs.Bent.{line_of, AreClearPaths, IsBentBy}
 use Rattle.mesh_check.specs.Heights.{units}
@@ -31,3 +33,7 @@ PathsBesideAreClear =
     (p : Paths) (j k j_units k_units : ℕ) → ArePaths p → j < count_of p.stops → k < count_of p.stops
     → IsBentBy p j j_units → IsBentBy p k k_units → LiesBeside (j_units + k_units) (line_of p j) (line_of p k)
     → AreClearPaths p j k
+
+-- a piece is clear of all pieces of a path
+abbrev pub IsClearOfPath : Paths → Piece → ℕ → Type 0
+IsClearOfPath p a k = (b : Piece) → IsPieceOf p b → b.path ≡ k → AreClear (edge_of p a) (edge_of p b)

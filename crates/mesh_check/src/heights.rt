@@ -1,7 +1,7 @@
 //! How far points lie beside the lines of edges.
 
 ghost use Rattle.std.specs.Prelude.{◌≡◌, ◌*◌, ◌<◌, ◌≤◌, ◌^◌, IsTrue, unsigned_abs};
-ghost use Rattle.mesh_plane.specs.Bounds.{IsSafe};
+ghost use Rattle.mesh_plane.specs.Bounds.{IsSmall, IsSafe};
 ghost use Rattle.mesh_plane.specs.Plane.{turn};
 ghost use Rattle.mesh_meeting.specs.Small.{HasSmallEnds};
 ghost use Rattle.mesh_pairs.specs.Laws.{spread};
@@ -10,7 +10,18 @@ ghost use Rattle.mesh_check.specs.Heights.{IsFarFromLine};
 use mesh_lattice::lattice::{LatticeEdge, LatticePoint};
 use mesh_meeting::vectors::{cross, minus};
 
-/// How far a point lies beside the line of an edge, as a turn without its sign.
+/// How far a point lies beside the line of an edge, as a turn: above 0 to the left.
+#[inline]
+pub fn height(e: LatticeEdge, at: LatticePoint) -> i64
+    requires small { HasSmallEnds e }
+    requires safe { IsSafe (2 ^ 30) at }
+    ensures value { result ≡ turn e.0 e.1 at }
+    ensures size { IsSmall (2 ^ 63) result }
+{
+    cross(minus(e.1, e.0), minus(at, e.0))
+}
+
+/// The same without its sign.
 #[inline]
 pub fn beside(e: LatticeEdge, at: LatticePoint) -> u64
     requires small { HasSmallEnds e }
@@ -18,7 +29,7 @@ pub fn beside(e: LatticeEdge, at: LatticePoint) -> u64
     ensures value { result ≡ unsigned_abs (turn e.0 e.1 at) }
     ensures few { result < 2 ^ 63 }
 {
-    cross(minus(e.1, e.0), minus(at, e.0)).unsigned_abs()
+    height(e, at).unsigned_abs()
 }
 
 /// How much a turn beside an edge grows with each unit: the sum of both coordinates' differences.

@@ -13,7 +13,7 @@ use mesh_paths::paths::{Paths, Piece};
 
 /// The edge that a path began as.
 #[inline]
-fn line_of(paths: &Paths, path: u32) -> LatticeEdge
+pub fn line_of(paths: &Paths, path: u32) -> LatticeEdge
     requires { path < length paths.now.edges.items }
     ensures value { result ≡ line_of paths.now path }
     ensures small { HasSmallEnds (line_of paths.now path) → HasSmallEnds result }

@@ -1,10 +1,13 @@
-//! The check that pieces of edges that were cut meet no more, by lines.
+//! Whether the paths of two edges that were cut are clear of each other: their pieces meet no more.
 //!
-//! `specs/Heights.antt` says when two paths lead apart from a stop of both, and `specs/Clear.antt` when paths are clear
-//! of each other else; `laws` carries what follows: then no two pieces of them meet. `leading` tests the first of paths,
-//! by `heights` beside the lines of edges.
+//! `leading` tests by lines whether two paths lead apart from a stop of both, `close` whether one lies beside the other's
+//! line, `comparing` holds each piece against each. `specs/Heights.antt` and `specs/Clear.antt` say when two paths are
+//! clear, and `laws` carries it. `heights` tells how far points lie beside lines. The check of all pairs is
+//! `mesh_clear`'s.
 #![tactic(auto)]
 
+pub mod close;
+pub mod comparing;
 pub mod heights;
 pub mod laws;
 pub mod leading;

@@ -7,5 +7,5 @@ use Rattle.mesh_check.proofs.heights.beside.Goals as goal
 pub returns-clause-few : goal.returns-clause-few
 returns-clause-few c =
     subst (λ (n : ℕ). n < 2 ^ 63)
-    (sym (c.unsigned_abs.ensures.value ∙ ap unsigned_abs (small_kept (2 ^ 63) c.cross.result (lit≤ tt) c.cross.ensures.size)))
-    (small_size (2 ^ 63) c.cross.result c.cross.ensures.size)
+    (sym (c.unsigned_abs.ensures.value ∙ ap unsigned_abs (small_kept (2 ^ 63) c.height.result (lit≤ tt) c.height.ensures.size)))
+    (small_size (2 ^ 63) c.height.result c.height.ensures.size)
