@@ -1,0 +1,3 @@
+pub mod AllPairs
+pub mod BentPaths
+pub mod SharedEnds

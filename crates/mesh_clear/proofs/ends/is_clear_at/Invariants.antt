@@ -1,0 +1,12 @@
+use Rattle.std.proofs.Common.{length}
+use Rattle.mesh_points.specs.Chains.{IsSearched}
+use Rattle.mesh_paths.specs.Private.Filed.{id_in}
+use Rattle.mesh_clear.proofs.SharedEnds.{IsDoubtful}
+use Rattle.mesh_clear.proofs.ends.is_clear_at.Given as goal
+
+abbrev pub invariant-loop-rest : goal.invariant-loop-rest
+invariant-loop-rest l =
+    IsSearched (IsDoubtful l.paths l.end.path l.id) (length l.paths.through.passes.items) (id_in l.paths.through.passes.items) l.id l.rest
+
+abbrev pub decreases-loop-rest : goal.decreases-loop-rest
+decreases-loop-rest l = l.rest

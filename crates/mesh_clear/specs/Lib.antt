@@ -1,0 +1,2 @@
+pub mod AllClear
+pub mod Private

@@ -1,0 +1,102 @@
+//! The check of all pairs.
+
+ghost use Rattle.std.specs.Prelude.{◌<◌, IsTrue, IfOk};
+ghost use Rattle.std.specs.List.{All};
+ghost use Rattle.mesh_pairs.specs.Pairs.{AreFound, IsClose, IsMeeting};
+ghost use Rattle.mesh_paths.specs.Paths.{ArePaths};
+ghost use Rattle.mesh_clear.specs.AllClear.{AreAllClear};
+ghost use Rattle.mesh_clear.specs.Private.Looking.{AreBends, IsClearMeeting, IsClearPair};
+
+use crate::bends::bends_of;
+use crate::ends::are_clear_at_ends;
+use crate::fit::are_fit;
+use crate::meetings::lead_apart_near;
+use mesh_check::close::are_parted;
+use mesh_check::comparing::are_clear_by_pieces;
+use mesh_pairs::pairs::{Meeting, Pairs};
+use mesh_paths::paths::Paths;
+use std::alloc::{AllocError, Global};
+
+/// Whether the paths of two edges that met are clear of each other.
+fn is_meeting_clear(paths: &Paths, bends: &[u64], m: Meeting, left: &mut usize) -> bool
+    requires bends { AreBends paths.now bends.now }
+    requires meeting { IsMeeting paths.now.edges.items m }
+    ensures { IsTrue result → IsClearMeeting paths.now m }
+{
+    if lead_apart_near(paths, bends, m.first, m.second, m.near) {
+        return true;
+    }
+    are_clear_by_pieces(paths, m.first, m.second, left)
+}
+
+fn are_meetings_clear(paths: &Paths, bends: &[u64], meetings: &[Meeting], left: &mut usize) -> bool
+    requires bends { AreBends paths.now bends.now }
+    requires meetings { All (IsMeeting paths.now.edges.items) meetings.now }
+    ensures { IsTrue result → All (IsClearMeeting paths.now) meetings.now }
+{
+    for m in meetings {
+        if !is_meeting_clear(paths, bends, *m, left) {
+            return false;
+        }
+    }
+    true
+}
+
+/// Whether the paths of two close edges are clear of each other.
+fn is_pair_clear(paths: &Paths, bends: &[u64], pair: (u32, u32), left: &mut usize) -> bool
+    requires bends { AreBends paths.now bends.now }
+    requires pair { IsClose paths.now.edges.items pair }
+    ensures { IsTrue result → IsClearPair paths.now pair }
+{
+    let first_units = bends[pair.0 as usize];
+    let second_units = bends[pair.1 as usize];
+    if are_parted(paths, pair.0, pair.1, first_units, second_units) {
+        return true;
+    }
+    are_clear_by_pieces(paths, pair.0, pair.1, left)
+}
+
+fn are_close_clear(paths: &Paths, bends: &[u64], close: &[(u32, u32)], left: &mut usize) -> bool
+    requires bends { AreBends paths.now bends.now }
+    requires close { All (IsClose paths.now.edges.items) close.now }
+    ensures { IsTrue result → All (IsClearPair paths.now) close.now }
+{
+    for pair in close {
+        if !is_pair_clear(paths, bends, *pair, left) {
+            return false;
+        }
+    }
+    true
+}
+
+/// Whether any two pieces of paths are clear of each other, of two paths or of one: then they meet in ends alone, and no
+/// cut is left to be made. `pairs` is what was known of the edges before they were cut. Pairs of paths that lines do not
+/// part are compared piece by piece, by `most` comparisons in all. False also where these do not suffice, where a path
+/// is bent by more than 8 units, and where a coordinate is not below 2^30 in size. It fails only where memory is
+/// refused.
+pub fn are_all_clear(
+    alloc: Global,
+    paths: &Paths,
+    pairs: &Pairs,
+    most: usize,
+) -> Result<bool, AllocError>
+    requires paths { ArePaths paths.now }
+    requires found { AreFound paths.now.edges.items pairs.now }
+    ensures { IfOk result (λ clear. IsTrue clear → AreAllClear paths.now) }
+{
+    if !are_fit(paths) {
+        return Ok(false);
+    }
+    let Some(bends) = bends_of(alloc, paths)? else {
+        return Ok(false);
+    };
+    let mut left = most;
+    if !are_meetings_clear(paths, &bends, &pairs.meetings, &mut left) {
+        return Ok(false);
+    }
+    if !are_close_clear(paths, &bends, &pairs.close, &mut left) {
+        return Ok(false);
+    }
+    let clear = are_clear_at_ends(paths, &bends, &mut left);
+    Ok(clear)
+}

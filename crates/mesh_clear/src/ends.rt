@@ -1,0 +1,90 @@
+//! Paths whose edges share an end.
+
+ghost use Rattle.std.specs.Prelude.{◌<◌, ◌≤◌, ℕ, IsTrue};
+ghost use Rattle.mesh_paths.specs.Stops.{count_of, pieces_of, stop_of};
+ghost use Rattle.mesh_check.specs.Bent.{AreClearPaths};
+ghost use Rattle.mesh_clear.specs.Private.Looking.{AreBends, EndsAt, IsClearAt, IsClearAtEnds};
+
+use crate::meetings::lead_apart_at;
+use mesh_check::comparing::are_clear_by_pieces;
+use mesh_paths::paths::{Paths, Piece};
+
+/// Whether a path that has a stop at this place is clear of another one, if that is a later one that ends at the stop.
+/// `id` is the stop's number.
+#[inline]
+fn is_clear_at_end(
+    paths: &Paths,
+    bends: &[u64],
+    end: Piece,
+    id: u32,
+    other: u32,
+    left: &mut usize,
+) -> bool
+    requires bends { AreBends paths.now bends.now }
+    requires end { end.path < count_of paths.now.stops }
+    requires place { end.place ≤ pieces_of paths.now.stops end.path }
+    requires other { other < count_of paths.now.stops }
+    ensures { IsTrue result → end.path < other → EndsAt paths.now other id → AreClearPaths paths.now end.path other }
+{
+    if other <= end.path {
+        return true;
+    }
+    let e = paths.edges[other as usize];
+    if e.from != id && e.to != id {
+        return true;
+    }
+    let place = if e.from == id {
+        0
+    } else {
+        paths.stops.pieces(other as usize)
+    };
+    if lead_apart_at(paths, bends, end, Piece { path: other, place }) {
+        return true;
+    }
+    are_clear_by_pieces(paths, end.path, other, left)
+}
+
+/// Whether a path that has a stop at this place is clear of all later ones that end there.
+fn is_clear_at(paths: &Paths, bends: &[u64], end: Piece, left: &mut usize) -> bool
+    requires bends { AreBends paths.now bends.now }
+    requires end { end.path < count_of paths.now.stops }
+    requires place { end.place ≤ pieces_of paths.now.stops end.path }
+    ensures { IsTrue result → IsClearAt paths.now end.path (stop_of paths.now.stops end.path end.place).id }
+{
+    let id = paths.stops.stop(end.path as usize, end.place).id;
+    let mut rest = paths.through.last(id);
+    while rest > 0 {
+        let pass = paths.through.pass(rest - 1);
+        if !is_clear_at_end(paths, bends, end, id, pass.path, left) {
+            return false;
+        }
+        rest = pass.before;
+    }
+    true
+}
+
+/// Whether a path is clear of all later ones that share an end with it.
+fn is_clear_at_ends(paths: &Paths, bends: &[u64], path: u32, left: &mut usize) -> bool
+    requires bends { AreBends paths.now bends.now }
+    requires within { path < count_of paths.now.stops }
+    ensures { IsTrue result → IsClearAtEnds paths.now path }
+{
+    if !is_clear_at(paths, bends, Piece { path, place: 0 }, left) {
+        return false;
+    }
+    let place = paths.stops.pieces(path as usize);
+    is_clear_at(paths, bends, Piece { path, place }, left)
+}
+
+/// Whether all paths that share an end are clear of each other, by so many comparisons of pieces as are left at most.
+pub fn are_clear_at_ends(paths: &Paths, bends: &[u64], left: &mut usize) -> bool
+    requires { AreBends paths.now bends.now }
+    ensures { IsTrue result → (j : ℕ) → j < count_of paths.now.stops → IsClearAtEnds paths.now j }
+{
+    for path in 0..paths.edges.len() {
+        if !is_clear_at_ends(paths, bends, path as u32, left) {
+            return false;
+        }
+    }
+    true
+}
