@@ -118,12 +118,6 @@ impl From<AllocError> for BenchError {
     }
 }
 
-impl From<IntOutlineError> for BenchError {
-    fn from(error: IntOutlineError) -> Self {
-        BenchError::Refused(error)
-    }
-}
-
 impl From<IntNearnessError> for BenchError {
     fn from(error: IntNearnessError) -> Self {
         BenchError::NotTold(error)

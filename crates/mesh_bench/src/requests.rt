@@ -1,24 +1,25 @@
 //! A request that is read once and answered again and again, to measure what the library does in one process.
 
 use crate::BenchError;
-use mesh_drawing::draw::{edges, shapes};
+use mesh_drawing::asked::{Answer, Asked};
+use mesh_drawing::draw::draw;
 use mesh_num::num::OverlayInt;
-use mesh_request::request::{Output, Request, TypedRequest};
+use mesh_request::request::{Request, TypedRequest};
 use mesh_service::input::read_to_end;
 use mesh_service::text::{ReadText, read_text};
 use std::alloc::Global;
 
 /// How many contours or lists of edges the answer of a request has.
 fn answer<I: OverlayInt>(alloc: Global, request: &Request<I>) -> Result<usize, BenchError> {
-    match request.output {
-        Output::Edges => {
-            let lists = edges(alloc, &request.drawing)?;
-            Ok(lists.len())
-        }
-        Output::Shapes(options) => {
-            let shapes = shapes(alloc, &request.drawing, options)?;
-            Ok(shapes.len())
-        }
+    let asked = Asked {
+        output: request.output,
+        most_splits: 0,
+        nearness: false,
+    };
+    match draw(alloc, &request.drawing, asked)? {
+        Answer::Edges(lists) => Ok(lists.len()),
+        Answer::Shapes(shapes) => Ok(shapes.len()),
+        Answer::NearShapes(near) => Ok(near.shapes.len()),
     }
 }
 

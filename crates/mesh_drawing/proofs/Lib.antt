@@ -1,3 +1,3 @@
-pub mod Counted
 pub mod PathsServed
 pub mod Ranges
+pub mod Refusals

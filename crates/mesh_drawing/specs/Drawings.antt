@@ -6,35 +6,17 @@ use Rattle.std.specs.declared.cmp.Ordering.{Ordering}
 use Rattle.mesh_plane.specs.Plane.{Point, Edge}
 use Rattle.mesh_shapes.specs.Contours.{double_area}
 use Rattle.mesh_shapes.specs.Resolution.{Choices}
-use Rattle.mesh_join.specs.Joins.{outline_padding}
 use Rattle.mesh_join.specs.Styles.{OffsetJoin, OutlineStyle}
-use Rattle.mesh_join.specs.VariableStyles.{Vertex}
 use Rattle.mesh_outline.specs.Building.{style_for}
 use Rattle.mesh_outline.specs.Outline.{outline_edges}
-use Rattle.mesh_offset.specs.Padding.{ArePathsSafe}
-use Rattle.mesh_outline.specs.Resolved.{DoAreasFit, IsOutline}
-use Rattle.mesh_stroke.specs.Styles.{StrokeStyle, stroke_padding}
+use Rattle.mesh_outline.specs.Resolved.{DoAreasFit as DoContoursFit, IsOutline}
 use Rattle.mesh_stroke.specs.Strokes.{stroke_edges}
 use Rattle.mesh_stroke.specs.Resolved.{IsStroke}
 use Rattle.mesh_variable_stroke.specs.VariableStrokes.{variable_stroke_edges}
 use Rattle.mesh_variable_stroke.specs.Resolved.{IsVariableStroke}
-use Rattle.mesh_variable_stroke.specs.Strokable.{ArePathsStrokable}
 use Rattle.mesh_drawing.specs.Drawn.{Drawn, as_outline, as_stroke, as_variable_stroke}
 use Rattle.mesh_drawing.specs.Order.{edge_order}
-
--- paths may be outlined where they stay safe as they move by the padding of the style, and the double area of each fits
--- the wide type, which holds the whole numbers from `-8 * unit * unit` on that are below `8 * unit * unit`
-pub record MayBeOutlined (unit : ℕ) (style : OutlineStyle) (paths : List (List Point)) : Type 0 where
-  pub safe : ArePathsSafe unit (outline_padding style) paths
-  pub fit : DoAreasFit (8 * unit * unit) paths
-
--- paths may be stroked where they stay safe as they move by the padding of the style
-pub record MayBeStroked (unit : ℕ) (style : StrokeStyle) (paths : List (List Point)) : Type 0 where
-  pub safe : ArePathsSafe unit (stroke_padding style) paths
-
--- paths of vertices may be stroked where they stay safe as they move by the greatest radius of all
-pub record MayBeVariablyStroked (unit : ℕ) (paths : List (List Vertex)) : Type 0 where
-  pub safe : ArePathsStrokable unit paths
+use Rattle.mesh_drawing.specs.Paddings.{DoesStayInRange}
 
 -- the edges of the outline of a path that moves in this way, none where it does not move
 abbrev pub moved_edges : ℕ → Option OffsetJoin → List Point → List Edge
@@ -56,11 +38,17 @@ abbrev pub AreListed : {P : Type 0} →
     (ℤ → ℤ → Ordering) → (List P → List Edge) → List (List P) → List (List Edge) → Type 0
 AreListed order drawn paths lists = AllZip (IsListed order drawn) paths lists
 
+-- the double area of each contour of an outline fits the wide type, which holds the whole numbers from `-8 * unit * unit`
+-- on that are below `8 * unit * unit`; of strokes no area is taken
+abbrev pub DoAreasFit : ℕ → Drawn → Type 0
+DoAreasFit unit (as_outline style paths) = DoContoursFit (8 * unit * unit) paths
+DoAreasFit unit (as_stroke style closed paths) = Unit {0}
+DoAreasFit unit (as_variable_stroke options paths) = Unit {0}
+
 -- what is asked for may be drawn
-abbrev pub MayBeDrawn : ℕ → Drawn → Type 0
-MayBeDrawn unit (as_outline style paths) = MayBeOutlined unit style paths
-MayBeDrawn unit (as_stroke style closed paths) = MayBeStroked unit style paths
-MayBeDrawn unit (as_variable_stroke options paths) = MayBeVariablyStroked unit paths
+pub record MayBeDrawn (unit : ℕ) (drawn : Drawn) : Type 0 where
+  pub safe : DoesStayInRange unit drawn
+  pub fit : DoAreasFit unit drawn
 
 -- the edges of what is drawn
 abbrev pub AreEdgesOf : (ℤ → ℤ → Ordering) → ℕ → Drawn → List (List Edge) → Type 0

@@ -1,3 +1,4 @@
+pub mod Answers
 pub mod Drawings
 pub mod Drawn
 pub mod Nearness

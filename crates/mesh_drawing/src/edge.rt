@@ -12,7 +12,7 @@ use std::alloc::{AllocError, Global};
 
 /// The edges that segments stand for, sorted by their starts and then by their ends. It fails only where memory is
 /// refused.
-pub fn sorted_edges<I: OverlayInt>(
+pub(crate) fn sorted_edges<I: OverlayInt>(
     alloc: Global,
     segments: &[Segment<I>],
 ) -> Result<Vec<DirectedEdge<I>>, AllocError>

@@ -1,14 +1,15 @@
 //! What is drawn of paths, without JSON and without arrays: a drawing is paths and how they are drawn (`drawing`). How far
-//! it reaches (`padding`), where it leaves the range (`refusal`), and the edges and the shapes of it (`draw`, `nearness`).
+//! it reaches (`padding`), where it leaves the range (`refusal`), and what is asked of it (`asked`) and drawn (`draw`).
 #![tactic(auto)]
 
+pub mod asked;
 pub mod coordinate;
 pub mod draw;
+mod drawable;
 pub mod drawing;
-pub mod edge;
-pub mod nearness;
-pub mod outline;
+mod edge;
+mod outline;
 pub mod padding;
 pub mod refusal;
-pub mod stroke;
-pub mod variable_stroke;
+mod stroke;
+mod variable_stroke;

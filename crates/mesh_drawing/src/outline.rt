@@ -1,67 +1,64 @@
-//! Outlines that are asked for, and what the library answers.
+//! Outlines, drawn by the library.
 
-ghost use Rattle.std.specs.Prelude.{◌≡◌, ◌↔◌, map, OnOk, IfOk};
+ghost use Rattle.std.specs.Prelude.{◌≡◌, map, IfOk};
 ghost use Rattle.std.specs.List.{All};
 ghost use Rattle.std.specs.List.Sorted.{IsPermutation};
-ghost use Rattle.mesh_num.specs.Paths.{paths_of, shapes_of};
+ghost use Rattle.mesh_num.specs.Paths.{paths_of};
 ghost use Rattle.mesh_num.specs.Rectangle.{IsSafeWidened};
 ghost use Rattle.mesh_num.specs.Segments.{edges_of};
-ghost use Rattle.mesh_below.specs.Options.{choices_of};
 ghost use Rattle.mesh_join.specs.Joins.{outline_padding};
 ghost use Rattle.mesh_join.specs.Styles.{style_of};
 ghost use Rattle.mesh_offset.specs.Padding.{ArePathsSafe};
 ghost use Rattle.mesh_outline.specs.Kinds.{contour_kind};
-ghost use Rattle.mesh_outline.specs.Resolved.{IsOutline};
 ghost use Rattle.mesh_drawing.specs.Order.{by_values};
-ghost use Rattle.mesh_drawing.specs.Drawings.{AreListed, IsListed, MayBeOutlined, served_edges};
+ghost use Rattle.mesh_drawing.specs.Drawings.{AreListed, IsListed, served_edges};
+ghost use Rattle.mesh_drawing.specs.Drawn.{drawn_outline};
 
+use crate::drawable::{Drawable, ShapeOptions};
 use crate::drawing::Outline;
 use crate::edge::sorted_edges;
 use i_overlay_mesh::IntOutlineError;
 use i_overlay_mesh::outline::builder::OutlineBuilder;
 use i_overlay_mesh::outline::kind::{ContourKind, contour_kinds};
 use i_overlay_mesh::outline::offset::IntOutlineOffset;
-use mesh_below::below::IntOverlayOptions;
+use mesh_below::nearness::{NearShapes, SplitCount};
 use mesh_join::style::IntOutlineStyle;
 use mesh_num::num::{IntPoint, OverlayInt};
 use mesh_num::shape::buffer::IntShapes;
 use mesh_num::shape::edge::DirectedEdge;
 use mesh_num::shape::segment::Segment;
+use mesh_offset::error::IntNearnessError;
 use std::alloc::{AllocError, Global};
 
-/// The edges of each path's outline, in their order. Nothing is built unless all paths may be outlined.
-pub fn edges<I: OverlayInt>(
-    alloc: Global,
-    outline: &Outline<I>,
-) -> Result<Vec<Vec<DirectedEdge<I>>>, IntOutlineError>
-    ensures edges { IfOk result (λ lists. AreListed (by_values I.cmp I.of_value)
-        (served_edges I.unit (style_of I.value outline.now.style))
-        (paths_of outline.now.paths.items) (paths_of lists.items)) }
-    ensures accepted { OnOk result (MayBeOutlined I.unit (style_of I.value outline.now.style)
-        (paths_of outline.now.paths.items)) }
-    ensures refused { result ≡ Err IntOutlineError.CoordinateOutOfRange
-        ↔ ¬ MayBeOutlined I.unit (style_of I.value outline.now.style) (paths_of outline.now.paths.items) }
-{
-    outline.paths.validate_outline(&outline.style)?;
-    let kinds = contour_kinds(&outline.paths, alloc)?;
-    Ok(edge_lists(alloc, &outline.paths, &kinds, &outline.style)?)
-}
+impl<I: OverlayInt> Drawable<I> for Outline<I> {
+    ghost drawn = { drawn_outline I.value };
 
-/// The shapes of the paths' outline.
-pub fn shapes<I: OverlayInt>(
-    alloc: Global,
-    outline: &Outline<I>,
-    options: IntOverlayOptions<I::WideUInt>,
-) -> Result<IntShapes<I>, IntOutlineError>
-    ensures shapes { IfOk result (λ shapes. IsOutline I.unit (style_of I.value outline.now.style)
-        (choices_of I.WideUInt.value options) (paths_of outline.now.paths.items) (shapes_of shapes.items)) }
-    ensures accepted { OnOk result (MayBeOutlined I.unit (style_of I.value outline.now.style)
-        (paths_of outline.now.paths.items)) }
-    ensures refused { result ≡ Err IntOutlineError.CoordinateOutOfRange
-        ↔ ¬ MayBeOutlined I.unit (style_of I.value outline.now.style) (paths_of outline.now.paths.items) }
-{
-    outline.paths.validate_outline(&outline.style)?;
-    outline.paths.outline_custom(alloc, &outline.style, options)
+    fn validate(&self) -> Result<(), IntOutlineError> {
+        self.paths.validate_outline(&self.style)
+    }
+
+    fn edges(&self, alloc: Global) -> Result<Vec<Vec<DirectedEdge<I>>>, IntOutlineError> {
+        let kinds = contour_kinds(&self.paths, alloc)?;
+        Ok(edge_lists(alloc, &self.paths, &kinds, &self.style)?)
+    }
+
+    fn shapes(
+        &self,
+        alloc: Global,
+        options: &ShapeOptions<I>,
+    ) -> Result<IntShapes<I>, IntOutlineError> {
+        self.paths.outline_custom(alloc, &self.style, options.0)
+    }
+
+    fn near_shapes(
+        &self,
+        alloc: Global,
+        options: &ShapeOptions<I>,
+        count: &mut SplitCount,
+    ) -> Result<NearShapes<I>, IntNearnessError> {
+        self.paths
+            .outline_with_nearness(alloc, &self.style, options.0, count)
+    }
 }
 
 /// The edges of the outline of each path, which is of the kind that stands at its place, in their order.

@@ -1,60 +1,58 @@
-//! Strokes of variable width that are asked for, and what the library answers.
+//! Strokes of variable width, drawn by the library.
 
-ghost use Rattle.std.specs.Prelude.{◌≡◌, ◌↔◌, OnOk, IfOk};
-ghost use Rattle.mesh_num.specs.Paths.{paths_of, shapes_of};
-ghost use Rattle.mesh_below.specs.Options.{choices_of};
+ghost use Rattle.std.specs.Prelude.{◌≡◌, IfOk};
+ghost use Rattle.mesh_num.specs.Paths.{paths_of};
 ghost use Rattle.mesh_variable_stroke.specs.Drawn.{greatest_radius, AreStrokable};
 ghost use Rattle.mesh_variable_stroke.specs.VariableStrokes.{variable_stroke_edges};
-ghost use Rattle.mesh_variable_stroke.specs.Resolved.{IsVariableStroke};
 ghost use Rattle.mesh_variable_stroke.specs.Strokable.{ArePathsStrokable};
 ghost use Rattle.mesh_drawing.specs.Order.{by_values};
-ghost use Rattle.mesh_drawing.specs.Drawings.{AreListed, IsListed, MayBeVariablyStroked};
+ghost use Rattle.mesh_drawing.specs.Drawings.{AreListed, IsListed};
+ghost use Rattle.mesh_drawing.specs.Drawn.{drawn_variable_stroke};
 
+use crate::drawable::{Drawable, ShapeOptions};
 use crate::drawing::VariableStroke;
 use crate::edge::sorted_edges;
 use i_overlay_mesh::IntOutlineError;
 use i_overlay_mesh::variable_stroke::builder::VariableStrokeBuilder;
 use i_overlay_mesh::variable_stroke::offset::IntVariableStrokeOffset;
-use mesh_below::below::IntOverlayOptions;
-use mesh_join::style::{IntStrokeVertex, IntVariableStrokeStyle};
+use mesh_below::nearness::{NearShapes, SplitCount};
+use mesh_join::style::IntStrokeVertex;
 use mesh_num::num::OverlayInt;
 use mesh_num::shape::buffer::IntShapes;
 use mesh_num::shape::edge::DirectedEdge;
+use mesh_offset::error::IntNearnessError;
 use std::alloc::{AllocError, Global};
 
-/// The edges of each path's stroke, in their order. Nothing is built unless all paths may be stroked.
-pub fn edges<I: OverlayInt>(
-    alloc: Global,
-    stroke: &VariableStroke<I>,
-) -> Result<Vec<Vec<DirectedEdge<I>>>, IntOutlineError>
-    ensures edges { IfOk result (λ lists. AreListed (by_values I.cmp I.of_value)
-        (variable_stroke_edges I.unit stroke.now.style.arc)
-        (paths_of stroke.now.paths.items) (paths_of lists.items)) }
-    ensures accepted { OnOk result (MayBeVariablyStroked I.unit (paths_of stroke.now.paths.items)) }
-    ensures refused { result ≡ Err IntOutlineError.CoordinateOutOfRange
-        ↔ ¬ MayBeVariablyStroked I.unit (paths_of stroke.now.paths.items) }
-{
-    stroke.paths.validate_variable_stroke()?;
-    let mut builder = VariableStrokeBuilder::new(alloc, stroke.style);
-    Ok(edge_lists(alloc, &stroke.paths, &mut builder)?)
-}
+impl<I: OverlayInt> Drawable<I> for VariableStroke<I> {
+    ghost drawn = { drawn_variable_stroke };
 
-/// The shapes of the paths' stroke.
-pub fn shapes<I: OverlayInt>(
-    alloc: Global,
-    stroke: &VariableStroke<I>,
-    options: IntOverlayOptions<I::WideUInt>,
-) -> Result<IntShapes<I>, IntOutlineError>
-    ensures shapes { IfOk result (λ shapes. IsVariableStroke I.unit stroke.now.style.arc
-        (choices_of I.WideUInt.value options) (paths_of stroke.now.paths.items) (shapes_of shapes.items)) }
-    ensures accepted { OnOk result (MayBeVariablyStroked I.unit (paths_of stroke.now.paths.items)) }
-    ensures refused { result ≡ Err IntOutlineError.CoordinateOutOfRange
-        ↔ ¬ MayBeVariablyStroked I.unit (paths_of stroke.now.paths.items) }
-{
-    stroke.paths.validate_variable_stroke()?;
-    stroke
-        .paths
-        .variable_stroke_custom(alloc, stroke.style, options)
+    fn validate(&self) -> Result<(), IntOutlineError> {
+        self.paths.validate_variable_stroke()
+    }
+
+    fn edges(&self, alloc: Global) -> Result<Vec<Vec<DirectedEdge<I>>>, IntOutlineError> {
+        let mut builder = VariableStrokeBuilder::new(alloc, self.style);
+        Ok(edge_lists(alloc, &self.paths, &mut builder)?)
+    }
+
+    fn shapes(
+        &self,
+        alloc: Global,
+        options: &ShapeOptions<I>,
+    ) -> Result<IntShapes<I>, IntOutlineError> {
+        self.paths
+            .variable_stroke_custom(alloc, self.style, options.0)
+    }
+
+    fn near_shapes(
+        &self,
+        alloc: Global,
+        options: &ShapeOptions<I>,
+        count: &mut SplitCount,
+    ) -> Result<NearShapes<I>, IntNearnessError> {
+        self.paths
+            .variable_stroke_with_nearness(alloc, self.style, options.0, count)
+    }
 }
 
 /// The edges of the stroke of each path, in their order, by this builder.

@@ -1,9 +1,11 @@
 //! What is drawn of lists and numbers, as lists of shapes and of edges.
 
-ghost use Rattle.std.specs.Prelude.{◌≡◌};
+ghost use Rattle.std.specs.Prelude.{◌≡◌, ◌↔◌, IfOk, OnOk, false};
 ghost use Rattle.mesh_flat.specs.Answers.{IsEdgesAnswer, IsShapesAnswer};
 ghost use Rattle.mesh_flat.specs.Drawings.{IsOutlineOf, IsStrokeOf, IsVariableStrokeOf};
 ghost use Rattle.mesh_flat.specs.Styles.{choices_in};
+ghost use Rattle.mesh_drawing.specs.Answers.{IsDrawn};
+ghost use Rattle.mesh_drawing.specs.Drawings.{MayBeDrawn};
 ghost use Rattle.mesh_drawing.specs.Drawn.{drawn_of};
 ghost use Rattle.mesh_drawing.specs.Order.{by_values};
 
@@ -13,10 +15,13 @@ use crate::numbers::Flat;
 use crate::options::FlatOptions;
 use crate::shapes::FlatShapes;
 use crate::styles::{FlatArc, FlatOutlineStyle, FlatStrokeStyle};
+use mesh_drawing::asked::{Answer, Asked, Output};
+use mesh_drawing::draw::{draw, without_limit};
 use mesh_drawing::drawing::Drawing;
 use mesh_join::style::IntStrokeVertex;
 use mesh_num::num::{IntPoint, OverlayInt};
 use mesh_num::shape::edge::DirectedEdge;
+use mesh_offset::error::IntOutlineError;
 use mesh_request::failure::Failure;
 use std::alloc::Global;
 
@@ -86,8 +91,12 @@ fn shapes<I: OverlayInt, P: Flat<Item = IntPoint<I>>>(
     let Some(options) = options.options::<I>() else {
         return Err(Failure::Unreadable);
     };
-    let shapes = mesh_drawing::draw::shapes(alloc, drawing, options)?;
-    Ok(FlatShapes::of(alloc, &shapes)?)
+    let answer = drawn(alloc, drawing, Output::Shapes(options))?;
+    match &answer {
+        Answer::Edges(_) => unreachable!(),
+        Answer::Shapes(shapes) => Ok(FlatShapes::of(alloc, shapes)?),
+        Answer::NearShapes(_) => unreachable!(),
+    }
 }
 
 /// The edges of the outline of each of the contours that stand end to end in `points`, sorted by their starts and then by
@@ -144,6 +153,33 @@ fn edges<I: OverlayInt, E: Flat<Item = DirectedEdge<I>>>(
     ensures { IsEdgesAnswer (by_values I.cmp I.of_value) I.unit E.item_of
         (λ drawn. drawn ≡ drawn_of I.value drawing.now) result }
 {
-    let lists = mesh_drawing::draw::edges(alloc, drawing)?;
-    Ok(FlatLists::of(alloc, &lists)?)
+    let answer = drawn(alloc, drawing, Output::Edges)?;
+    match &answer {
+        Answer::Edges(lists) => Ok(FlatLists::of(alloc, lists)?),
+        Answer::Shapes(_) => unreachable!(),
+        Answer::NearShapes(_) => unreachable!(),
+    }
+}
+
+/// What is listed of a drawing, where neither a limit is set nor the nearness is asked for.
+fn drawn<I: OverlayInt>(
+    alloc: Global,
+    drawing: &Drawing<I>,
+    output: Output<I::WideUInt>,
+) -> Result<Answer<I>, IntOutlineError>
+    ensures drawn { IfOk result (IsDrawn (by_values I.cmp I.of_value) I.unit I.WideUInt.value
+        (drawn_of I.value drawing.now) (record { output = output; most_splits = 0; nearness = false })) }
+    ensures accepted { OnOk result (MayBeDrawn I.unit (drawn_of I.value drawing.now)) }
+    ensures refused { result ≡ Err IntOutlineError.CoordinateOutOfRange
+        ↔ ¬ MayBeDrawn I.unit (drawn_of I.value drawing.now) }
+{
+    let asked = Asked {
+        output,
+        most_splits: 0,
+        nearness: false,
+    };
+    match draw(alloc, drawing, asked) {
+        Ok(answer) => Ok(answer),
+        Err(error) => Err(without_limit(error)),
+    }
 }

@@ -13,8 +13,9 @@ use crate::options::FlatOptions;
 use crate::outcome::Outcome;
 use crate::shapes::{FlatShapes, ShapeCounts};
 use crate::styles::{FlatArc, FlatOutlineStyle, FlatStrokeStyle};
+use mesh_drawing::asked::{Answer, Asked, Output};
+use mesh_drawing::draw::draw;
 use mesh_drawing::drawing::Drawing;
-use mesh_drawing::nearness::near_shapes;
 use mesh_join::style::IntStrokeVertex;
 use mesh_num::num::{IntPoint, OverlayInt};
 use mesh_request::failure::Failure;
@@ -104,11 +105,20 @@ fn near<I: OverlayInt, P: Flat<Item = IntPoint<I>>>(
     let Some(options) = options.options::<I>() else {
         return Err(NearFailure::Failed(Failure::Unreadable));
     };
-    let near = near_shapes(alloc, drawing, options, most_splits)?;
-    Ok(NearFlatShapes {
-        shapes: FlatShapes::of(alloc, &near.shapes)?,
-        nearness: near.nearness,
-    })
+    let asked = Asked {
+        output: Output::Shapes(options),
+        most_splits,
+        nearness: true,
+    };
+    let answer = draw(alloc, drawing, asked)?;
+    match &answer {
+        Answer::Edges(_) => unreachable!(),
+        Answer::Shapes(_) => unreachable!(),
+        Answer::NearShapes(near) => Ok(NearFlatShapes {
+            shapes: FlatShapes::of(alloc, &near.shapes)?,
+            nearness: near.nearness,
+        }),
+    }
 }
 
 /// Copies the shapes to the beginnings of the caller's lists where all of them fit, and tells how many items each has,

@@ -3,7 +3,7 @@ use Rattle.std.specs.Prelude.{ℕ}
 use Rattle.mesh_below.specs.Options.{choices_of}
 use Rattle.mesh_shapes.specs.Resolution.{Choices}
 use Rattle.mesh_drawing.specs.Drawn.{Drawn}
-use Rattle.mesh_request.specs.declared.request.Output.{Output}
+use Rattle.mesh_drawing.specs.declared.asked.Output.{Output}
 
 -- what is asked of what is drawn: the edges of each path, or the shapes of all paths with these choices
 pub data Asked : Type 0 where

@@ -22,7 +22,7 @@ use crate::fault::member_fault;
 use crate::fault::problem::Problem;
 use crate::json::says;
 use crate::options::read_options;
-use mesh_below::below::IntOverlayOptions;
+pub use mesh_drawing::asked::Output;
 use mesh_drawing::drawing::Drawing;
 use mesh_num::num::{IntNumber, OverlayInt};
 use outline::read_outline;
@@ -31,15 +31,6 @@ use std::alloc::Global;
 use std::marker::Model;
 use stroke::read_stroke;
 use variable_stroke::read_variable_stroke;
-
-/// What a request asks of what is drawn.
-#[derive(Debug, Copy, Clone)]
-pub enum Output<U> {
-    /// The edges of each path.
-    Edges,
-    /// The shapes of all paths, with these options.
-    Shapes(IntOverlayOptions<U>),
-}
 
 /// A request. Contracts see it as what it asks.
 #[derive(Drop)]

@@ -1,21 +1,25 @@
 -- Lemmas over requests: what is requested, and what answers it.
 use Rattle.std.proofs.Common.{◌≡◌, ◌∙◌, ℕ, ◌<◌, List, [], ◌∷◌, Bool, true, false, length, Option, None, Some, Result, Ok, Err, option_and_then, refl, sym, ap, subst, arith}
 use Rattle.std.specs.Prelude.{ℤ, IsUtf8, if◌then◌else◌}
+use Rattle.std.proofs.lemmas.Bool.{true≢false, false≢true}
 use Rattle.std.proofs.lemmas.Option.{none-some}
 use Rattle.serde_json.proofs.OnLiterals.{serde_json_on_literals}
 use Rattle.std.specs.declared.cmp.Ordering.{Ordering}
-use Rattle.mesh_plane.specs.Plane.{Point, Edge}
-use Rattle.mesh_shapes.specs.Resolution.{Choices}
 use Rattle.serde_json.specs.Data.{Data}
 use Rattle.serde_json.specs.Read.{read}
 use Rattle.serde_json.specs.Written.{has_float}
-use Rattle.mesh_service.specs.Lines.{edges_text, shapes_text, told_edges_text, told_shapes_text}
-use Rattle.mesh_service.specs.Near.{AnswersWithin, ListsWithin}
-use Rattle.mesh_drawing.specs.Nearness.{AreShapesWithin}
+use Rattle.mesh_num.specs.Paths.{paths_of, shapes_of}
+use Rattle.mesh_below.specs.Options.{choices_of}
+use Rattle.mesh_drawing.specs.Answers.{IsDrawn, PassesLimit}
+use Rattle.mesh_drawing.specs.Drawings.{MayBeDrawn}
+use Rattle.mesh_drawing.specs.Drawn.{Drawn}
+use Rattle.mesh_drawing.specs.declared.asked.Answer.{Answer}
+use Rattle.mesh_drawing.specs.declared.asked.Output.{Output}
 use Rattle.mesh_request.specs.Reading.{request_of}
-use Rattle.mesh_request.specs.Requests.{Asked, Request}
-use Rattle.mesh_drawing.specs.Drawings.{AreEdgesOf, AreShapesOf}
-use Rattle.mesh_service.specs.Served.{IsAccepted, Lists, Answers}
+use Rattle.mesh_request.specs.Requests.{Asked, Request, asked_of}
+use Rattle.mesh_service.specs.Near.{ListsWithin}
+use Rattle.mesh_service.specs.Private.Asking.{AnswersAs, IsGivenUpAs, answer_text, asked_with, is_told}
+use Rattle.mesh_service.specs.Served.{Lists}
 use Rattle.mesh_service.specs.Serving.{exact_request, request_in}
 use Rattle.mesh_request.specs.declared.request.TypedRequest.{TypedRequest}
 use Rattle.mesh_service.specs.Private.Told.{IsReadOfValue}
@@ -69,37 +73,46 @@ text_unread text reason none told = (λ utf8. ap (λ (o : Option Data). option_a
 
 -- ---- requests that are answered
 
-pub edges_answer : (order : ℤ → ℤ → Ordering) (request : Request) (line : List ℕ) (lists : List (List Edge)) → request.asked ≡ Asked.for_edges → IsAccepted request →
-    AreEdgesOf order request.unit request.drawn lists → line ≡ edges_text lists → Answers order request line
-edges_answer order request line lists e accepted each written =
+-- what is asked of the drawing of a request, and listed in a line, answers it
+pub answered_as : {C W U : Type 0} (telling : Option Telling) (order : ℤ → ℤ → Ordering) (unit : ℕ) (value : U → ℕ) (drawn : Drawn) (output : Output U) (answer : Answer C W U) (line : List ℕ) →
+    MayBeDrawn unit drawn → IsDrawn order unit value drawn (asked_with telling output) answer → line ≡ answer_text (is_told telling) answer →
+    AnswersAs telling order (record { unit = unit; drawn = drawn; asked = asked_of value output }) line
+answered_as None order unit value drawn output (Answer.Edges lists) line accepted (asked, each) written =
+    let request : Request = record { unit = unit; drawn = drawn; asked = asked_of value output } in
     record {
       accepted = accepted;
-      listed = subst (λ (asked : Asked). Lists order request line asked) (sym e) (record { lists = lists; each = each; written = written });
+      listed = subst (λ (o : Asked). Lists order request line o) (sym (ap (asked_of value) asked)) (record { lists = paths_of lists.items; each = each; written = written });
+    }
+answered_as None order unit value drawn output (Answer.Shapes shapes) line accepted answered written =
+    let request : Request = record { unit = unit; drawn = drawn; asked = asked_of value output } in
+    record {
+      accepted = accepted;
+      listed = subst (λ (o : Asked). Lists order request line o) (sym (ap (asked_of value) answered.output))
+          (record { shapes = shapes_of shapes.items; drawn = answered.shapes; written = written });
+    }
+answered_as None order unit value drawn output (Answer.NearShapes near) line accepted answered written = absurd (true≢false answered.told)
+answered_as (Some telling) order unit value drawn output (Answer.Edges lists) line accepted (asked, each) written =
+    let request : Request = record { unit = unit; drawn = drawn; asked = asked_of value output } in
+    record {
+      accepted = accepted;
+      listed = subst (λ (o : Asked). ListsWithin telling order request line o) (sym (ap (asked_of value) asked)) (record { lists = paths_of lists.items; each = each; written = written });
+    }
+answered_as (Some telling) order unit value drawn output (Answer.Shapes shapes) line accepted answered written = absurd (false≢true answered.plain)
+answered_as (Some telling) order unit value drawn output (Answer.NearShapes near) line accepted answered written =
+    let request : Request = record { unit = unit; drawn = drawn; asked = asked_of value output } in
+    record {
+      accepted = accepted;
+      listed = subst (λ (o : Asked). ListsWithin telling order request line o) (sym (ap (asked_of value) answered.output))
+          (record { shapes = shapes_of near.shapes.items; nearness = near.nearness; drawn = answered.shapes; written = written });
     }
 
-pub shapes_answer : (order : ℤ → ℤ → Ordering) (request : Request) (line : List ℕ) (choices : Choices) (shapes : List (List (List Point))) → request.asked ≡ Asked.for_shapes choices →
-    IsAccepted request → AreShapesOf request.unit choices request.drawn shapes → line ≡ shapes_text shapes → Answers order request line
-shapes_answer order request line choices shapes e accepted drawn written =
-    record {
-      accepted = accepted;
-      listed = subst (λ (asked : Asked). Lists order request line asked) (sym e) (record { shapes = shapes; drawn = drawn; written = written });
-    }
-
--- the same of lines with a nearness, by no more than a number of splits
-pub told_edges_answer : (telling : Telling) (order : ℤ → ℤ → Ordering) (request : Request) (line : List ℕ) (lists : List (List Edge)) → request.asked ≡ Asked.for_edges →
-    IsAccepted request → AreEdgesOf order request.unit request.drawn lists → line ≡ told_edges_text telling.nearness lists → AnswersWithin telling order request line
-told_edges_answer telling order request line lists e accepted each written =
-    record {
-      accepted = accepted;
-      listed = subst (λ (asked : Asked). ListsWithin telling order request line asked) (sym e) (record { lists = lists; each = each; written = written });
-    }
-
-pub told_shapes_answer : (telling : Telling) (order : ℤ → ℤ → Ordering) (request : Request) (line : List ℕ) (choices : Choices) (nearness : ℕ) (shapes : List (List (List Point))) →
-    request.asked ≡ Asked.for_shapes choices → IsAccepted request → AreShapesWithin telling.most_splits nearness request.unit choices request.drawn shapes →
-    line ≡ told_shapes_text telling.nearness nearness shapes → AnswersWithin telling order request line
-told_shapes_answer telling order request line choices nearness shapes e accepted drawn written =
-    record {
-      accepted = accepted;
-      listed = subst (λ (asked : Asked). ListsWithin telling order request line asked) (sym e)
-          (record { shapes = shapes; nearness = nearness; drawn = drawn; written = written });
-    }
+-- one that takes more splits than it may is given up
+pub given_up_as : {U : Type 0} (telling : Option Telling) (unit : ℕ) (value : U → ℕ) (drawn : Drawn) (output : Output U) → PassesLimit unit drawn (asked_with telling output) →
+    IsGivenUpAs telling (record { unit = unit; drawn = drawn; asked = asked_of value output })
+given_up_as None unit value drawn output passed = absurd (omega (arith, passed.limited))
+given_up_as (Some telling) unit value drawn output passed = record {
+  choices = choices_of value passed.options;
+  shapes = ap (asked_of value) passed.output;
+  accepted = passed.accepted;
+  past = passed.past;
+}

@@ -1,2 +1,3 @@
 -- What stands between the steps: only private contracts and invariants read these.
+pub mod Asking
 pub mod Told

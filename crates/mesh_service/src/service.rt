@@ -3,23 +3,21 @@
 ghost use Rattle.std.specs.Prelude.{◌≡◌, ◌↔◌, ◌⊎◌, List, string_bytes, OnOk, IfOk};
 ghost use Rattle.std.specs.Io.KnownBytes.{Appends};
 ghost use Rattle.std.specs.Ordering.{int_cmp};
-ghost use Rattle.mesh_drawing.specs.Order.{by_values};
 ghost use Rattle.mesh_request.specs.Typed.{untyped};
 ghost use Rattle.mesh_service.specs.Private.Told.{EndsAs, told_line, unread_status};
 ghost use Rattle.mesh_service.specs.Reasons.{IsReadOf};
 ghost use Rattle.mesh_service.specs.Served.{IsAccepted, Answers};
 ghost use Rattle.mesh_service.specs.Serving.{AppendsBeginning, IsResponse, IsRefused, Serves, TellsRefusal, status_of};
 
-use crate::answer::{edges_line, shapes_line};
 use crate::input::read_to_end;
+use crate::line::request_line;
 use crate::output::write_line;
 use crate::text::{ReadText, TextError, read_text};
 use crate::told::tell;
 use i_overlay_mesh::IntOutlineError;
-use mesh_drawing::draw;
-use mesh_num::num::OverlayInt;
+use mesh_drawing::draw::without_limit;
 use mesh_request::failure::Failure;
-use mesh_request::request::{Output, Request, TypedRequest};
+use mesh_request::request::TypedRequest;
 use std::alloc::Global;
 use std::io;
 use std::io::{Read, Write};
@@ -175,29 +173,9 @@ pub fn answer_request(alloc: Global, request: &TypedRequest) -> Result<String, I
     ensures answered { IfOk result (λ line. Answers int_cmp (untyped request.now) (string_bytes line)) }
     ensures refused { result ≡ Err IntOutlineError.CoordinateOutOfRange ↔ ¬ IsAccepted (untyped request.now) }
 {
-    match request {
-        TypedRequest::I16(request) => request_line(alloc, request),
-        TypedRequest::I32(request) => request_line(alloc, request),
-    }
-}
-
-/// The line that lists what is asked.
-fn request_line<I: OverlayInt>(
-    alloc: Global,
-    request: &Request<I>,
-) -> Result<String, IntOutlineError>
-    ensures answered { IfOk result (λ line. Answers (by_values I.cmp I.of_value) request.now (string_bytes line)) }
-    ensures refused { result ≡ Err IntOutlineError.CoordinateOutOfRange ↔ ¬ IsAccepted request.now }
-{
-    match request.output {
-        Output::Edges => {
-            let edges = draw::edges(alloc, &request.drawing)?;
-            Ok(edges_line(alloc, &edges)?)
-        }
-        Output::Shapes(options) => {
-            let shapes = draw::shapes(alloc, &request.drawing, options)?;
-            Ok(shapes_line(alloc, &shapes)?)
-        }
+    match request_line(alloc, request, None) {
+        Ok(line) => Ok(line),
+        Err(error) => Err(without_limit(error)),
     }
 }
 

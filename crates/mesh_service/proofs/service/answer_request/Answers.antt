@@ -1,14 +1,10 @@
--- A request is answered with the coordinates of its type.
+-- No limit is set, so none is passed.
+use Rattle.std.proofs.Common.{Err, refl, ap}
+use Rattle.mesh_drawing.proofs.Refusals.{refusal_unlimited}
 use Rattle.mesh_service.proofs.service.answer_request.Goals as goal
 
-pub returns-in-I16-clause-answered : goal.returns-in-I16-clause-answered
-returns-in-I16-clause-answered c = rw c.in-I16.is c.request_line.ensures.answered
+pub without_limit-requires : goal.without_limit-requires
+without_limit-requires c = λ e. c.in-Err.ensures.given_up (ap Err e)
 
-pub returns-in-I16-clause-refused : goal.returns-in-I16-clause-refused
-returns-in-I16-clause-refused c = rw c.in-I16.is c.request_line.ensures.refused
-
-pub returns-in-I32-clause-answered : goal.returns-in-I32-clause-answered
-returns-in-I32-clause-answered c = rw c.in-I32.is c.request_line-in-I32.ensures.answered
-
-pub returns-in-I32-clause-refused : goal.returns-in-I32-clause-refused
-returns-in-I32-clause-refused c = rw c.in-I32.is c.request_line-in-I32.ensures.refused
+pub returns-in-Err-clause-refused : goal.returns-in-Err-clause-refused
+returns-in-Err-clause-refused c = refusal_unlimited (Err c.in-Err.error) (Err c.without_limit.result) c.without_limit.result _ (ap Err c.without_limit.ensures) refl c.in-Err.ensures.refused

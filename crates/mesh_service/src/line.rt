@@ -1,0 +1,129 @@
+//! What a request asks, drawn and put into a line.
+
+ghost use Rattle.std.specs.Prelude.{◌≡◌, ◌↔◌, IfOk, string_bytes};
+ghost use Rattle.std.specs.Ordering.{int_cmp};
+ghost use Rattle.mesh_num.specs.Paths.{paths_of, shapes_of};
+ghost use Rattle.mesh_drawing.specs.Order.{by_values};
+ghost use Rattle.mesh_request.specs.Typed.{untyped};
+ghost use Rattle.mesh_service.specs.Lines.{told_edges_text, told_shapes_text};
+ghost use Rattle.mesh_service.specs.Private.Asking.{AnswersAs, IsGivenUpAs, answer_text, asked_with, is_told};
+ghost use Rattle.mesh_service.specs.Served.{IsAccepted};
+
+use crate::answer::{edges_line, near_edges_line, near_shapes_line, shapes_line};
+use crate::near::Telling;
+use mesh_below::nearness::NearShapes;
+use mesh_drawing::asked::{Answer, Asked, Output};
+use mesh_drawing::draw::draw;
+use mesh_num::num::OverlayInt;
+use mesh_num::shape::edge::DirectedEdge;
+use mesh_offset::error::IntNearnessError;
+use mesh_request::request::{Request, TypedRequest};
+use std::alloc::{AllocError, Global};
+
+/// The line that answers a request, with what is told beside it. `CoordinateOutOfRange`: what is to be drawn does not
+/// stay in the safe range. `OutOfMemory`: memory was refused. `TooManySplits`: more splits were made than the limit.
+pub(crate) fn request_line(
+    alloc: Global,
+    request: &TypedRequest,
+    telling: Option<Telling>,
+) -> Result<String, IntNearnessError>
+    ensures answered { IfOk result (λ line. AnswersAs telling int_cmp (untyped request.now) (string_bytes line)) }
+    ensures refused { result ≡ Err IntNearnessError.CoordinateOutOfRange ↔ ¬ IsAccepted (untyped request.now) }
+    ensures given_up { result ≡ Err IntNearnessError.TooManySplits → IsGivenUpAs telling (untyped request.now) }
+{
+    match request {
+        TypedRequest::I16(request) => drawn_line(alloc, request, telling),
+        TypedRequest::I32(request) => drawn_line(alloc, request, telling),
+    }
+}
+
+/// The same of a request with coordinates of one type.
+fn drawn_line<I: OverlayInt>(
+    alloc: Global,
+    request: &Request<I>,
+    telling: Option<Telling>,
+) -> Result<String, IntNearnessError>
+    ensures answered { IfOk result (λ line.
+        AnswersAs telling (by_values I.cmp I.of_value) request.now (string_bytes line)) }
+    ensures refused { result ≡ Err IntNearnessError.CoordinateOutOfRange ↔ ¬ IsAccepted request.now }
+    ensures given_up { result ≡ Err IntNearnessError.TooManySplits → IsGivenUpAs telling request.now }
+{
+    let asked = asked_with(telling, request.output);
+    let answer = draw(alloc, &request.drawing, asked)?;
+    Ok(answer_line(alloc, &answer, is_told(telling))?)
+}
+
+/// What is asked of a drawing. Where there is a telling, shapes are promised to be exact within some nearness, whether or
+/// not it is told.
+fn asked_with<U>(telling: Option<Telling>, output: Output<U>) -> Asked<U>
+    ensures { result ≡ asked_with telling output }
+{
+    match telling {
+        None => Asked {
+            output,
+            most_splits: 0,
+            nearness: false,
+        },
+        Some(telling) => Asked {
+            output,
+            most_splits: telling.most_splits,
+            nearness: true,
+        },
+    }
+}
+
+/// Whether the nearness is told.
+fn is_told(telling: Option<Telling>) -> bool
+    ensures { result ≡ is_told telling }
+{
+    match telling {
+        None => false,
+        Some(telling) => telling.nearness,
+    }
+}
+
+/// The line that lists an answer, with its nearness where that is told.
+fn answer_line<I: OverlayInt>(
+    alloc: Global,
+    answer: &Answer<I>,
+    told: bool,
+) -> Result<String, AllocError>
+    ensures { IfOk result (λ line. string_bytes line ≡ answer_text told answer.now) }
+{
+    match answer {
+        Answer::Edges(lists) => told_edges_line(alloc, lists, told),
+        Answer::Shapes(shapes) => shapes_line(alloc, shapes),
+        Answer::NearShapes(near) => told_shapes_line(alloc, near, told),
+    }
+}
+
+/// The line that lists the edges of each path, with their nearness where that is told: 0, since nothing is split.
+fn told_edges_line<I: OverlayInt>(
+    alloc: Global,
+    paths: &[Vec<DirectedEdge<I>>],
+    told: bool,
+) -> Result<String, AllocError>
+    ensures { IfOk result (λ line. string_bytes line ≡ told_edges_text told (paths_of paths.now)) }
+{
+    if told {
+        near_edges_line(alloc, paths, 0)
+    } else {
+        edges_line(alloc, paths)
+    }
+}
+
+/// The line that lists shapes, with their nearness where that is told.
+fn told_shapes_line<I: OverlayInt>(
+    alloc: Global,
+    near: &NearShapes<I>,
+    told: bool,
+) -> Result<String, AllocError>
+    ensures { IfOk result (λ line.
+        string_bytes line ≡ told_shapes_text told near.now.nearness (shapes_of near.now.shapes.items)) }
+{
+    if told {
+        near_shapes_line(alloc, &near.shapes, near.nearness)
+    } else {
+        shapes_line(alloc, &near.shapes)
+    }
+}
