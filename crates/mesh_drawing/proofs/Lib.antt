@@ -1,3 +1,4 @@
+pub mod Firsts
 pub mod PathsServed
 pub mod Ranges
 pub mod Refusals

@@ -5,3 +5,4 @@ pub mod Nearness
 pub mod Order
 pub mod Paddings
 pub mod Parts
+pub mod Refusals

@@ -1,5 +1,16 @@
 //! Where a drawing leaves the range in which it may be drawn.
 
+ghost use Rattle.std.specs.Prelude.{◌≡◌, ◌↔◌, ◌*◌, ◌+ℤ◌, ◌-ℤ◌, None, IfSome, IsTrue};
+ghost use Rattle.mesh_plane.specs.Bounds.{IsSmall, IsWithin};
+ghost use Rattle.mesh_plane.specs.Plane.{Point};
+ghost use Rattle.mesh_num.specs.Paths.{paths_of};
+ghost use Rattle.mesh_num.specs.Rectangle.{IsSafeWidened};
+ghost use Rattle.mesh_shapes.specs.Contours.{double_area as double_area_of};
+ghost use Rattle.mesh_drawing.specs.Drawings.{MayBeDrawn};
+ghost use Rattle.mesh_drawing.specs.Drawn.{drawn_of};
+ghost use Rattle.mesh_drawing.specs.Paddings.{padding_in};
+ghost use Rattle.mesh_drawing.specs.Refusals.{IsFirst, IsFirstArea, IsFirstPlace, IsFirstPoint, IsFirstRefusal};
+
 use crate::drawing::Drawing;
 use crate::padding::padding;
 use i_overlay_mesh::outline::area::{double_area, fits_wide};
@@ -57,29 +68,53 @@ impl fmt::Display for PointRefusal {
     }
 }
 
-/// Where a drawing leaves the range first; `None` where it may be drawn.
-pub fn find_refusal<I: OverlayInt>(drawing: &Drawing<I>) -> Option<Refusal> {
+/// Where a drawing leaves the range first: the first point, path by path, that leaves the safe range where it moves by
+/// the padding, else the first contour whose area does not fit. `None` exactly where it may be drawn.
+pub fn find_refusal<I: OverlayInt>(drawing: &Drawing<I>) -> Option<Refusal>
+    ensures none { result ≡ None ↔ MayBeDrawn I.unit (drawn_of I.value drawing.now) }
+    ensures first { IfSome result (IsFirstRefusal I.unit (drawn_of I.value drawing.now)) }
+{
     let padding = padding(drawing);
-    let place = match drawing {
-        Drawing::Outline(outline) => first_point(&outline.paths, padding),
-        Drawing::Stroke(stroke) => first_point(&stroke.paths, padding),
-        Drawing::VariableStroke(stroke) => first_point(&stroke.paths, padding),
-    };
-    if let Some(place) = place {
+    if let Some(place) = find_point(drawing, padding) {
         return Some(Refusal::Point(PointRefusal {
             place,
             padding,
             limit: (widen(I::UNIT) - 1) as i64,
         }));
     }
+    match find_area(drawing) {
+        Some(contour) => Some(Refusal::Area(contour)),
+        None => None,
+    }
+}
+
+/// The first point that leaves the safe range where it moves by this padding, which is that of the drawing.
+fn find_point<I: OverlayInt>(drawing: &Drawing<I>, padding: i64) -> Option<PointPlace>
+    requires { padding ≡ padding_in (drawn_of I.value drawing.now) }
+    ensures { IsFirstPoint I.unit (drawn_of I.value drawing.now) result }
+{
     match drawing {
-        Drawing::Outline(outline) => Some(Refusal::Area(first_area(&outline.paths)?)),
-        _ => None,
+        Drawing::Outline(outline) => first_point(&outline.paths, padding),
+        Drawing::Stroke(stroke) => first_point(&stroke.paths, padding),
+        Drawing::VariableStroke(stroke) => first_point(&stroke.paths, padding),
+    }
+}
+
+/// The first contour of an outline whose double area does not fit its type.
+fn find_area<I: OverlayInt>(drawing: &Drawing<I>) -> Option<usize>
+    ensures { IsFirstArea I.unit (drawn_of I.value drawing.now) result }
+{
+    match drawing {
+        Drawing::Outline(outline) => first_area(&outline.paths),
+        Drawing::Stroke(_) => None,
+        Drawing::VariableStroke(_) => None,
     }
 }
 
 /// The first contour whose double area does not fit its type.
-fn first_area<I: OverlayInt>(paths: &[Vec<IntPoint<I>>]) -> Option<usize> {
+fn first_area<I: OverlayInt>(paths: &[Vec<IntPoint<I>>]) -> Option<usize>
+    ensures { IsFirst (λ path. IsWithin (8 * I.unit * I.unit) (double_area_of path)) (paths_of paths.now) result }
+{
     for (index, path) in paths.iter().enumerate() {
         if !fits_wide::<I>(double_area(path)) {
             return Some(index);
@@ -89,7 +124,9 @@ fn first_area<I: OverlayInt>(paths: &[Vec<IntPoint<I>>]) -> Option<usize> {
 }
 
 /// The first point of the paths that leaves the safe range where it moves by the padding.
-fn first_point<I: IntNumber, P: Placed<I>>(paths: &[Vec<P>], padding: i64) -> Option<PointPlace> {
+fn first_point<I: IntNumber, P: Placed<I>>(paths: &[Vec<P>], padding: i64) -> Option<PointPlace>
+    ensures { IsFirstPlace (λ item. IsSafeWidened I.unit padding (P.at item)) (paths_of paths.now) result }
+{
     for (index, path) in paths.iter().enumerate() {
         if let Some(point) = first_in_path(path, padding) {
             return Some(PointPlace { path: index, point });
@@ -99,7 +136,9 @@ fn first_point<I: IntNumber, P: Placed<I>>(paths: &[Vec<P>], padding: i64) -> Op
 }
 
 /// The first point of a path that leaves the safe range where it moves by the padding.
-fn first_in_path<I: IntNumber, P: Placed<I>>(path: &[P], padding: i64) -> Option<usize> {
+fn first_in_path<I: IntNumber, P: Placed<I>>(path: &[P], padding: i64) -> Option<usize>
+    ensures { IsFirst (λ item. IsSafeWidened I.unit padding (P.at item)) path.now result }
+{
     for (index, item) in path.iter().enumerate() {
         if !stays_safe(item.place(), padding) {
             return Some(index);
@@ -109,13 +148,18 @@ fn first_in_path<I: IntNumber, P: Placed<I>>(path: &[P], padding: i64) -> Option
 }
 
 /// Whether a point stays in the safe range where it moves by the padding.
-fn stays_safe<I: IntNumber>(point: IntPoint<I>, padding: i64) -> bool {
+fn stays_safe<I: IntNumber>(point: IntPoint<I>, padding: i64) -> bool
+    ensures { IsTrue result ↔ IsSafeWidened I.unit padding point }
+{
     has_room(point.x, padding) && has_room(point.y, padding)
 }
 
 /// Whether a coordinate stays in the safe range where it moves by the padding. The sum is taken in 128 bits, which hold
 /// it for every value.
-fn has_room<I: IntNumber>(coordinate: I, padding: i64) -> bool {
+fn has_room<I: IntNumber>(coordinate: I, padding: i64) -> bool
+    ensures { IsTrue result
+        ↔ IsSmall I.unit (I.value coordinate -ℤ padding) × IsSmall I.unit (I.value coordinate +ℤ padding) }
+{
     let size = widen(coordinate).unsigned_abs();
     let reach = i128::from(padding).unsigned_abs();
     size + reach < widen(I::UNIT).unsigned_abs()
@@ -123,16 +167,23 @@ fn has_room<I: IntNumber>(coordinate: I, padding: i64) -> bool {
 
 /// What stands at a point of the plane.
 trait Placed<I: IntNumber> {
-    fn place(&self) -> IntPoint<I>;
+    ghost at: { Self → Point };
+
+    fn place(&self) -> IntPoint<I>
+        ensures { result ≡ at self.now };
 }
 
 impl<I: IntNumber> Placed<I> for IntPoint<I> {
+    ghost at = { λ p. p };
+
     fn place(&self) -> IntPoint<I> {
         *self
     }
 }
 
 impl<I: IntNumber> Placed<I> for IntStrokeVertex<I> {
+    ghost at = { λ v. v.point };
+
     fn place(&self) -> IntPoint<I> {
         self.point
     }

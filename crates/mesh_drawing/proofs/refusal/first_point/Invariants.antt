@@ -1,0 +1,10 @@
+use Rattle.std.proofs.Common.{take}
+use Rattle.std.specs.List.{All}
+use Rattle.mesh_num.specs.Paths.{paths_of}
+use Rattle.mesh_num.specs.Rectangle.{IsSafeWidened}
+use Rattle.mesh_drawing.proofs.refusal.first_point.Given as goal
+
+-- each point of each path so far stays safe
+abbrev pub invariant-loop-index : goal.invariant-loop-index
+invariant-loop-index g l =
+    All (All (λ item. IsSafeWidened g.I.IntNumber.unit l.padding (g.P.Placed.at item))) (take l.index (paths_of l.paths))
