@@ -1,2 +1,10 @@
+pub mod CapPoints
 pub mod Feet
+pub mod JoinPoints
 pub mod Lists
+pub mod Pieces
+pub mod Rounded
+pub mod StrokeAnswers
+pub mod StrokeEdges
+pub mod StrokePieces
+pub mod StrokePoints

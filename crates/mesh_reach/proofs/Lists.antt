@@ -1,5 +1,5 @@
 -- Lemmas over points and lists: a closed list of points that are near an edge does not wind round a point far from it.
-use Rattle.std.proofs.Common.{◌≡◌, ℕ, ◌*◌, ◌<◌, ◌≤◌, ⊎_elim, List, not, refl, sym, ◌∙◌, ap, [], ◌∷◌, arith}
+use Rattle.std.proofs.Common.{◌≡◌, ℕ, ◌*◌, ◌<◌, ◌≤◌, ◌⊎◌, inl, inr, ⊎_elim, List, not, refl, sym, ◌∙◌, ap, [], ◌∷◌, arith}
 use Rattle.std.specs.Prelude.{ℤ, pos, ◌+ℤ◌, ◌-ℤ◌, ◌*ℤ◌, ◌≤ℤ◌, ◌<ℤ◌, IsTrue}
 use Rattle.std.specs.List.{All}
 use Rattle.std.specs.Ordering.{int_eq}
@@ -14,6 +14,9 @@ use Rattle.mesh_plane.proofs.Identities.{lagrange}
 use Rattle.mesh_plane.proofs.Ring.{ring, var, ◌⊕◌, ◌⊖◌, ◌⊗◌, dot_of}
 use Rattle.mesh_plane.proofs.Sizes.{dot_self}
 use Rattle.mesh_plane.proofs.Whole.{linear, mul_nonneg, square_nonneg, mul_le_mul_left, mul_lt_mul_left, pos_of_mul}
+use Rattle.mesh_lattice.specs.Clean.{IsOn, refined_edge}
+use Rattle.mesh_lattice.proofs.Means.{IsMean, mean_of_on, mean_most}
+use Rattle.mesh_lattice.proofs.Nearness.{mean_along}
 use Rattle.mesh_reach.specs.Reach.{IsReached, IsByEnd}
 use Rattle.mesh_reach.proofs.Feet.{IsFoot, nearest_foot}
 
@@ -110,29 +113,61 @@ module _ (b m : ℕ) (e : Edge) (q : Point) (f : IsFoot m e q)
       let beyond : pos 0 <ℤ (along_by u.0 u.1 q -ℤ along_by u.0 u.1 (refined m p)) = pos_of_mul (pos f.grid) _ (omega (arith, ints)) grows in
       omega (arith, linear, beyond)
 
-  pub near_before : (p : Point) → IsByEnd b e p
+  near_before : (p : Point) → IsByEnd b e p
       → along_by (minus (refined f.grid q) f.nearest).0 (minus (refined f.grid q) f.nearest).1 (refined m p)
       <ℤ along_by (minus (refined f.grid q) f.nearest).0 (minus (refined f.grid q) f.nearest).1 q
   near_before p near = ⊎_elim (near_end e.0 p f.start) (near_end e.1 p f.end) near
 
--- ---- together
+-- all points near the ends of an edge lie before `q` by a linear measure
+record LiesPast (b m : ℕ) (e : Edge) (q : Point) : Type 0 where
+  u : ℤ
+  v : ℤ
+  before : (p : Point) → IsByEnd b e p → along_by u v (refined m p) <ℤ along_by u v q
 
-pub lists_reach : (b m : ℕ) (e : Edge) (points : List Point) (q : Point) → All (IsByEnd b e) points → IsTrue (holds m q points) → IsReached b m e q
-lists_reach b m e points q near held =
+-- where a point is not near an edge, they do
+reached_or_past : (b m : ℕ) (e : Edge) (q : Point) → IsReached b m e q ⊎ LiesPast b m e q
+reached_or_past b m e q =
     ⊎_elim
     (λ (far : b * ((f.grid * m) * (f.grid * m)) < 2 * length_sq (minus (refined f.grid q) f.nearest)).
-    absurd (true≢false (sym held ∙ ap (λ (x : ℤ). not (int_eq x (pos 0))) (none far))))
+    inr (record {
+      u = (minus (refined f.grid q) f.nearest).0;
+      v = (minus (refined f.grid q) f.nearest).1;
+      before = near_before b m e q f far;
+    }))
     (λ (h : 2 * length_sq (minus (refined f.grid q) f.nearest) ≤ b * ((f.grid * m) * (f.grid * m))).
-    record { grid = f.grid; some = f.some; nearest = f.nearest; on_edge = f.on_edge; reached = h })
+    inl (record { grid = f.grid; some = f.some; nearest = f.nearest; on_edge = f.on_edge; reached = h }))
     (cases_lt (b * ((f.grid * m) * (f.grid * m))) (2 * length_sq (minus (refined f.grid q) f.nearest)))
   where
     f : IsFoot m e q
     f = nearest_foot m e q
 
-    none : b * ((f.grid * m) * (f.grid * m)) < 2 * length_sq (minus (refined f.grid q) f.nearest) → winding m q (boundary points) ≡ pos 0
-    none far =
-        closed_before (minus (refined f.grid q) f.nearest).0 (minus (refined f.grid q) f.nearest).1 m q points
-        (All-weaker (IsByEnd b e)
-        (λ (p : Point). along_by (minus (refined f.grid q) f.nearest).0 (minus (refined f.grid q) f.nearest).1 (refined m p)
-        <ℤ along_by (minus (refined f.grid q) f.nearest).0 (minus (refined f.grid q) f.nearest).1 q)
-        (near_before b m e q f far) points near)
+-- ---- together
+
+pub lists_reach : (b m : ℕ) (e : Edge) (points : List Point) (q : Point) → All (IsByEnd b e) points → IsTrue (holds m q points) → IsReached b m e q
+lists_reach b m e points q near held =
+    ⊎_elim (λ (h : IsReached b m e q). h)
+    (λ (h : LiesPast b m e q). absurd (true≢false (sym held ∙ ap (λ (x : ℤ). not (int_eq x (pos 0))) (none h))))
+    (reached_or_past b m e q)
+  where
+    none : LiesPast b m e q → winding m q (boundary points) ≡ pos 0
+    none h =
+        closed_before h.u h.v m q points
+        (All-weaker (IsByEnd b e) (λ (p : Point). along_by h.u h.v (refined m p) <ℤ along_by h.u h.v q) h.before points near)
+
+-- a point of a segment with such ends is near the edge too
+pub segments_reach : (b m : ℕ) (e f : Edge) (q : Point) → IsByEnd b e f.0 → IsByEnd b e f.1 → IsOn (refined_edge m f) q → IsReached b m e q
+segments_reach b m e f q start end on =
+    ⊎_elim (λ (h : IsReached b m e q). h) (λ (h : LiesPast b m e q). absurd (never h)) (reached_or_past b m e q)
+  where
+    mean : IsMean (refined m f.0) (refined m f.1) q
+    mean = mean_of_on (refined m f.0) (refined m f.1) q on
+
+    never : LiesPast b m e q → ⊥
+    never h =
+        let along = along_by h.u h.v in
+        let less : along q ≤ℤ (along q -ℤ pos 1) =
+        mean_most mean.first mean.second (along q -ℤ pos 1) (along (refined m f.0)) (along (refined m f.1)) (along q)
+        mean.first_least mean.second_least mean.some
+        (mean_along h.u h.v mean.first mean.second (refined m f.0) (refined m f.1) q mean.by_x mean.by_y)
+        (let l = h.before f.0 start in omega (arith, ints, l)) (let l = h.before f.1 end in omega (arith, ints, l)) in
+        omega (arith, ints, less)

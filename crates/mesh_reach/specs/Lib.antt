@@ -1,1 +1,4 @@
+pub mod Answers
+pub mod Joins
 pub mod Reach
+pub mod Strokes

@@ -1,4 +1,4 @@
--- Reach: how far a point that a piece holds can lie from the edges that the piece was drawn along, as a squared distance.
+-- Reach: how far from the edges that a piece was drawn along a point can lie that the piece holds.
 use Rattle.std.specs.Prelude.{ℕ, ◌*◌, ◌<◌, ◌≤◌, ◌⊎◌, IsTrue, List}
 use Rattle.std.specs.List.{All, Contains}
 use Rattle.mesh_plane.specs.Plane.{Point, Edge, minus, length_sq}
@@ -18,6 +18,10 @@ pub record IsReachedByOne (b m : ℕ) (es : List Edge) (q : Point) : Type 0 wher
   pub edge : Edge
   pub listed : Contains es edge
   pub reached : IsReached b m edge q
+
+-- each point of each grid that a piece holds is so near to one of some edges
+abbrev pub HoldsNear : ℕ → List Edge → List Point → Type 0
+HoldsNear b es piece = (m : ℕ) (q : Point) → IsTrue (holds m q piece) → IsReachedByOne b m es q
 
 -- a point at most the root of `b / 2` from an end of an edge
 abbrev pub IsByEnd : ℕ → Edge → Point → Type 0

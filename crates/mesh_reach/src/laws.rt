@@ -1,9 +1,30 @@
 //! Laws of reach. Each function does nothing: its clause is the law.
 
+ghost use Rattle.mesh_reach.specs.Answers.{StrokeAnswersReach};
 ghost use Rattle.mesh_reach.specs.Reach.{ListsReachAsTheirPoints};
+ghost use Rattle.mesh_reach.specs.Strokes.{StrokeEdgesReach, StrokesReach};
 
 /// A closed list of points that are each at most some distance from an end of an edge holds no point that is farther
 /// than that from the edge.
 pub fn lists_reach_as_their_points()
     ensures { ListsReachAsTheirPoints }
+{}
+
+/// Each point that a piece of a stroke holds is near a section of the path. With bevels or round joins, and butt or
+/// round caps where the path is open, it is at most the radius and the root of a half away, in grid units. How far
+/// miters and other caps reach is told by `stroke_reach`.
+pub fn strokes_reach()
+    ensures { StrokesReach }
+{}
+
+/// So is each point round which the edges of a stroke wind.
+pub fn stroke_edges_reach()
+    ensures { StrokeEdgesReach }
+{}
+
+/// With no least area, outer contours counterclockwise and splits of the nearness `k`, each point round which a
+/// stroke's answer winds lies within `k` 64ths of a grid unit, in both coordinates, of a point as near to a section of
+/// a path as the stroke reaches.
+pub fn stroke_answers_reach()
+    ensures { StrokeAnswersReach }
 {}

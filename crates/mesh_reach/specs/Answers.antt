@@ -1,0 +1,38 @@
+-- How far an answer reaches from paths: besides what was drawn, by the nearness of its splits.
+use Rattle.std.specs.Prelude.{ℕ, ◌*◌, ◌<◌, ◌≤◌, ◌^◌, ◌≡◌, ◌≢◌, Bool, false, List}
+use Rattle.std.specs.Prelude.{pos, ◌-ℤ◌, ◌*ℤ◌, unsigned_abs}
+use Rattle.std.specs.List.{flat_map}
+use Rattle.mesh_plane.specs.Plane.{Point, Edge}
+use Rattle.mesh_plane.specs.Winding.{winding}
+use Rattle.mesh_shapes.specs.Resolution.{Choices}
+use Rattle.mesh_offset.specs.Adding.{answer_edges}
+use Rattle.mesh_stroke.specs.Paths.{path_edges}
+use Rattle.mesh_stroke.specs.Regions.{AreStrokeRegionsBeyond}
+use Rattle.mesh_stroke.specs.Styles.{StrokeStyle}
+use Rattle.mesh_reach.specs.Reach.{IsReachedByOne}
+use Rattle.mesh_reach.specs.Strokes.{stroke_reach}
+
+-- the point `q` of the grid `m` lies within `k` 64ths of a unit, in both coordinates, of a point that is at most the
+-- root of `b / 2` from one of some edges
+pub record IsReachedWithin (k b m : ℕ) (es : List Edge) (q : Point) : Type 0 where
+  pub grid : ℕ
+  pub positive : 0 < grid
+  pub point : Point
+  pub reached : IsReachedByOne b (grid * m) es point
+  pub by_x : 64 * unsigned_abs ((pos grid *ℤ q.0) -ℤ point.0) ≤ k * (grid * m)
+  pub by_y : 64 * unsigned_abs ((pos grid *ℤ q.1) -ℤ point.1) ≤ k * (grid * m)
+
+-- the sections of all paths
+abbrev pub all_sections : Bool → List (List Point) → List Edge
+all_sections closed paths = flat_map (path_edges closed) paths
+
+-- with no least area and outer contours counterclockwise, each point round which a stroke's answer winds lies within
+-- the nearness of its splits of a point as near to a section of a path as the stroke reaches
+abbrev pub StrokeAnswersReach : Type 0
+StrokeAnswersReach =
+    (unit : ℕ) → 2 ^ 14 ≤ unit → (k : ℕ) (style : StrokeStyle) (closed : Bool) (choices : Choices)
+    (paths : List (List Point)) (answer : List (List (List Point)))
+    → AreStrokeRegionsBeyond k unit style closed choices paths answer
+    → choices.least_area ≡ 0 → choices.clockwise ≡ false → (m : ℕ) → 0 < m → (q : Point)
+    → winding m q (answer_edges answer) ≢ pos 0
+    → IsReachedWithin k (stroke_reach style closed) m (all_sections closed paths) q

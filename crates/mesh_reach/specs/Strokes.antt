@@ -1,0 +1,46 @@
+-- How far strokes reach from their paths, as twice the square of a distance.
+use Rattle.std.specs.Prelude.{ℕ, ◌*◌, ◌≤◌, ◌^◌, ◌≢◌, max, Bool, true, false, List, ℤ, pos, unsigned_abs}
+use Rattle.std.specs.List.{All}
+use Rattle.mesh_plane.specs.Plane.{Point}
+use Rattle.mesh_plane.specs.Winding.{winding}
+use Rattle.mesh_join.specs.declared.style.StrokeSide.{StrokeSide}
+use Rattle.mesh_join.specs.declared.style.StrokeSide.TheVariants.{Both, Left, Right}
+use Rattle.mesh_stroke.specs.Caps.{CapKind}
+use Rattle.mesh_stroke.specs.CustomCaps.{greatest_length}
+use Rattle.mesh_stroke.specs.Paths.{path_edges}
+use Rattle.mesh_stroke.specs.Strokes.{stroke_edges, stroke_pieces}
+use Rattle.mesh_stroke.specs.Styles.{StrokeStyle}
+use Rattle.mesh_reach.specs.Joins.{rounded_reach, join_reach}
+use Rattle.mesh_reach.specs.Reach.{IsReachedByOne, HoldsNear}
+
+-- how far a cap of each kind reaches from its end
+abbrev pub cap_reach : CapKind → ℤ → ℕ
+cap_reach CapKind.Butt radius = rounded_reach (unsigned_abs radius)
+cap_reach CapKind.Square radius = 2 * rounded_reach (unsigned_abs radius)
+cap_reach (CapKind.Round _) radius = rounded_reach (unsigned_abs radius)
+cap_reach (CapKind.Custom points) radius = rounded_reach (greatest_length points)
+
+-- how far the caps reach that are drawn; a closed path and a half have none
+abbrev pub caps_reach : StrokeSide → Bool → CapKind → CapKind → ℤ → ℕ
+caps_reach Both true start end radius = 0
+caps_reach Both false start end radius = max (cap_reach start radius) (cap_reach end radius)
+caps_reach Left closed start end radius = 0
+caps_reach Right closed start end radius = 0
+
+-- how far a stroke reaches from its path
+abbrev pub stroke_reach : StrokeStyle → Bool → ℕ
+stroke_reach style closed =
+    max (join_reach style.join.kind style.radius) (caps_reach style.side closed style.start style.end style.radius)
+
+-- each point that a piece of a stroke holds is so near to a section of the path
+abbrev pub StrokesReach : Type 0
+StrokesReach =
+    (unit : ℕ) → 2 ^ 14 ≤ unit → (style : StrokeStyle) (closed : Bool) (points : List Point)
+    → All (HoldsNear (stroke_reach style closed) (path_edges closed points)) (stroke_pieces unit style closed points)
+
+-- and so is each point round which the edges of the stroke wind
+abbrev pub StrokeEdgesReach : Type 0
+StrokeEdgesReach =
+    (unit : ℕ) → 2 ^ 14 ≤ unit → (style : StrokeStyle) (closed : Bool) (points : List Point) (m : ℕ) (q : Point)
+    → winding m q (stroke_edges unit style closed points) ≢ pos 0
+    → IsReachedByOne (stroke_reach style closed) m (path_edges closed points) q
