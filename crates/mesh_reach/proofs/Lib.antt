@@ -2,6 +2,7 @@ pub mod CapPoints
 pub mod Feet
 pub mod JoinPoints
 pub mod Lists
+pub mod OutlinePieces
 pub mod Pieces
 pub mod Rounded
 pub mod StrokeAnswers

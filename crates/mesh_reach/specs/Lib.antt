@@ -1,4 +1,5 @@
 pub mod Answers
 pub mod Joins
+pub mod Outlines
 pub mod Reach
 pub mod Strokes

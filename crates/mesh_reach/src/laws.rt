@@ -1,6 +1,7 @@
 //! Laws of reach. Each function does nothing: its clause is the law.
 
 ghost use Rattle.mesh_reach.specs.Answers.{StrokeAnswersReach};
+ghost use Rattle.mesh_reach.specs.Outlines.{OutlineEdgesReach, OutlinesReach};
 ghost use Rattle.mesh_reach.specs.Reach.{ListsReachAsTheirPoints};
 ghost use Rattle.mesh_reach.specs.Strokes.{StrokeEdgesReach, StrokesReach};
 
@@ -27,4 +28,16 @@ pub fn stroke_edges_reach()
 /// a path as the stroke reaches.
 pub fn stroke_answers_reach()
     ensures { StrokeAnswersReach }
+{}
+
+/// Each point that a piece of an outline holds, on either side of the contour, is near a section of the contour. With
+/// bevels or round joins it is at most the offset and the root of a half away, in grid units. How far miters reach is
+/// told by `join_reach`.
+pub fn outlines_reach()
+    ensures { OutlinesReach }
+{}
+
+/// So is each point round which the edges of an outline wind otherwise than the contour.
+pub fn outline_edges_reach()
+    ensures { OutlineEdgesReach }
 {}
