@@ -68,7 +68,7 @@ module _ (unit : ℕ) (least : 2 ^ 14 ≤ unit) (radius : ℤ) (some : 1 ≤ uns
       (All-cons By (plus (minus v (right_quarter s)) s) []
       (twice_by (rounded_reach (unsigned_abs radius)) v (plus (minus v (right_quarter s)) s) s (left_corner v s) long) (All-nil By))
   cap_points_by (CapKind.Round options) =
-      round_between unit least (half_turn unit radius v n) (contact_leads unit radius Counterclockwise v n least some fresh) options
+      round_between unit least (half_turn unit radius v n) (λ _. contact_leads unit radius Counterclockwise v n least some fresh) options
   cap_points_by (CapKind.Custom points) =
       let By : Point → Type 0 = IsBy (rounded_reach (greatest_length points)) v in
       All-map By (custom_point unit (half_turn unit radius v n)) points

@@ -1,14 +1,16 @@
 -- Lemmas over points: how far the points of joins lie from their corners.
-use Rattle.std.proofs.Common.{◌≡◌, ℕ, ◌*◌, ◌<◌, ◌≤◌, ◌^◌, Bool, true, false, cond, List, [], ◌∷◌, map, refl, arith}
+use Rattle.std.proofs.Common.{◌∙◌, sym, ◌≡◌, ℕ, ◌*◌, ◌<◌, ◌≤◌, ◌^◌, Bool, true, false, cond, List, [], ◌∷◌, map, refl, arith}
 use Rattle.std.specs.Prelude.{ℤ, neg_ℤ, ◌+ℤ◌, ◌-ℤ◌, ◌&&◌, unsigned_abs}
 use Rattle.std.specs.List.{All}
 use Rattle.std.proofs.Math.Nat.{mul-le-mul}
+use Rattle.std.proofs.lemmas.Bool.{true≢false}
 use Rattle.std.proofs.lemmas.Int.{ints}
 use Rattle.std.proofs.lemmas.List.Elements.{All-nil, All-cons, All-head, All-tail, All-map, All-weaker}
 use Rattle.mesh_plane.specs.Plane.{Point, Edge, plus, minus, length_sq}
 use Rattle.mesh_plane.specs.Winding.{same_point}
 use Rattle.mesh_plane.proofs.ClosedLists.{route_all}
-use Rattle.mesh_plane.proofs.Sizes.{size_neg}
+use Rattle.mesh_plane.proofs.Comparing.{decides_point}
+use Rattle.mesh_plane.proofs.Sizes.{apart_some, size_neg}
 use Rattle.mesh_num.specs.Direction.{IsFresh, IsShort, scaled_direction}
 use Rattle.mesh_num.specs.Directed.{direction_of}
 use Rattle.mesh_num.proofs.Directed.{direction_of_is}
@@ -44,6 +46,16 @@ by_itself b v =
     let e : unsigned_abs (v.0 -ℤ v.0) ≡ 0 = omega (arith, ints) in
     let f : unsigned_abs (v.1 -ℤ v.1) ≡ 0 = omega (arith, ints) in
     rw (e, f) (omega arith)
+
+-- one that is no farther than rounding takes nothing is that point
+pub none_by : (v p : Point) → IsBy (rounded_reach 0) v p → p ≡ v
+none_by v p h = by (same_point p v) refl
+  where
+    by : (b : Bool) → same_point p v ≡ b → p ≡ v
+    by true e = (decides_point p v).0 e
+    by false e =
+        let some : 0 < length_sq (minus p v) = apart_some p v (λ (same : p ≡ v). true≢false (sym ((decides_point p v).1 same) ∙ e)) in
+        absurd (omega (arith, h, some))
 
 -- ---- points beside a corner
 
@@ -101,8 +113,8 @@ used_all P j p (q ∷ points) h = by (runs_ahead j (p, q) && runs_ahead j (q, j.
     by true e skipped taken = rw (used_takes j p q points e) (All-cons P q (used j q points) (All-head P q points h) taken)
     by false e skipped taken = rw (used_skips j p q points e) skipped
 
--- from the corner to the first point leads some way
-module _ (unit : ℕ) (least : 2 ^ 14 ≤ unit) (j : Joint) (leads : 0 < length_sq (minus j.first j.center)) where
+-- where the ends differ, some way leads from the corner to the first
+module _ (unit : ℕ) (least : 2 ^ 14 ≤ unit) (j : Joint) (leads : same_point j.first j.last ≡ false → 0 < length_sq (minus j.first j.center)) where
   abbrev By : Point → Type 0
   By = IsBy (rounded_reach (unsigned_abs j.radius)) j.center
 
@@ -111,11 +123,11 @@ module _ (unit : ℕ) (least : 2 ^ 14 ≤ unit) (j : Joint) (leads : 0 < length_
       moved_by (rounded_reach (unsigned_abs j.radius)) j.center (scaled_direction unit j.radius d)
       (scaled_length unit j.radius d (omega arith) short)
 
-  round_points_by : (options : ArcOptions) → All By (round_points options unit j)
+  round_points_by : (options : ArcOptions) → same_point j.first j.last ≡ false → All By (round_points options unit j)
   unfolding round_points joint_arc
-  round_points_by options =
+  round_points_by options apart =
       let from : Point = direction_of unit (minus j.first j.center) in
-      let short : IsShort unit from = direction_short (direction_of_is unit (minus j.first j.center) leads) in
+      let short : IsShort unit from = direction_short (direction_of_is unit (minus j.first j.center) (leads apart)) in
       used_all By j j.first (map (arc_point unit j) (joint_arc options unit j))
       (All-map By (arc_point unit j) (joint_arc options unit j)
       (All-weaker (IsShort unit) (λ (d : Point). By (arc_point unit j d)) arc_by (joint_arc options unit j)
@@ -125,11 +137,11 @@ module _ (unit : ℕ) (least : 2 ^ 14 ≤ unit) (j : Joint) (leads : 0 < length_
   pub round_between : (options : ArcOptions) →
       All (λ (p : Point). 2 * length_sq (minus p j.center) ≤ rounded_reach (unsigned_abs j.radius))
       (between j.first (round_points options unit j) j.last)
-  round_between options = by (same_point j.first j.last)
+  round_between options = by (same_point j.first j.last) refl
     where
-      by : (b : Bool) → All By (cond b [] (round_points options unit j))
-      by true = All-nil By
-      by false = round_points_by options
+      by : (b : Bool) → same_point j.first j.last ≡ b → All By (cond b [] (round_points options unit j))
+      by true e = All-nil By
+      by false e = round_points_by options e
 
 -- ---- points within a padding
 
@@ -147,7 +159,7 @@ radius_covered Bevel radius = omega arith
 radius_covered (Miter angle) radius = omega arith
 radius_covered (Round options) radius = omega arith
 
-module _ (unit : ℕ) (least : 2 ^ 14 ≤ unit) (j : Joint) (leads : 0 < length_sq (minus j.first j.center)) where
+module _ (unit : ℕ) (least : 2 ^ 14 ≤ unit) (j : Joint) (leads : same_point j.first j.last ≡ false → 0 < length_sq (minus j.first j.center)) where
   between_by : (kind : IntLineJoin) (min_turn : ℕ) → KeepsJoint unit (record { kind = kind; min_turn = min_turn }) j →
       All (IsBy (join_reach kind j.radius) j.center) (between j.first (join_points unit (record { kind = kind; min_turn = min_turn }) j) j.last)
   between_by Bevel min_turn keeps =

@@ -2,10 +2,14 @@ pub mod CapPoints
 pub mod Feet
 pub mod JoinPoints
 pub mod Lists
+pub mod OutlineAnswers
+pub mod OutlineEdges
 pub mod OutlinePieces
+pub mod OutlinePoints
 pub mod Pieces
 pub mod Rounded
 pub mod StrokeAnswers
 pub mod StrokeEdges
 pub mod StrokePieces
 pub mod StrokePoints
+pub mod Within

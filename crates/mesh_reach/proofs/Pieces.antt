@@ -1,15 +1,16 @@
 -- Lemmas over points and lists: pieces that were drawn along edges hold points near these.
-use Rattle.std.proofs.Common.{◌≡◌, ℕ, ◌⊎◌, inl, inr, List, [], ◌∷◌, refl, sym, subst, not, true, false, arith}
+use Rattle.std.proofs.Common.{◌≡◌, ℕ, ◌*◌, ◌≤◌, ◌⊎◌, inl, inr, List, [], ◌∷◌, refl, sym, subst, not, true, false, arith}
 use Rattle.std.specs.Prelude.{pos, Bool}
 use Rattle.std.specs.List.{All, Contains}
 use Rattle.std.specs.Ordering.{int_eq}
+use Rattle.std.proofs.Math.Nat.{mul-le-mul_right}
 use Rattle.std.proofs.lemmas.Bool.Decides.{Decides-int_eq}
 use Rattle.std.proofs.lemmas.List.Elements.{All-nil, All-cons, All-head, All-tail, All-contains}
 use Rattle.mesh_plane.specs.Plane.{Point, Edge}
 use Rattle.mesh_plane.specs.Winding.{boundary, fan, winding, crossing_on, pieces_total}
 use Rattle.mesh_plane.proofs.Whole.{linear}
 use Rattle.mesh_lattice.specs.Clean.{IsOn, refined_edge}
-use Rattle.mesh_reach.specs.Reach.{IsByEnd, IsReachedByOne, HoldsNear}
+use Rattle.mesh_reach.specs.Reach.{IsReached, IsByEnd, IsReachedByOne, HoldsNear}
 use Rattle.mesh_reach.proofs.JoinPoints.{IsBy, by_itself}
 use Rattle.mesh_reach.proofs.Lists.{lists_reach, segments_reach}
 
@@ -72,15 +73,34 @@ pub drawn_near : (b m : ℕ) (es : List Edge) (g : Edge) (q : Point) → IsDrawn
 drawn_near b m es g q h on =
     record { edge = h.edge; listed = h.listed; reached = segments_reach b m h.edge g q h.start h.end on }
 
--- what holds of some edges holds of more
-pub near_more : (b : ℕ) (es all : List Edge) → All (Contains all) es → (piece : List Point) → HoldsNear b es piece → HoldsNear b all piece
-near_more b es all listed piece h m q held =
-    let r = h m q held in
-    record { edge = r.edge; listed = All-contains (Contains all) es r.edge listed r.listed; reached = r.reached }
+-- what is near to some edges is so to more edges, and within more
+pub reached_more : (a b m : ℕ) (es all : List Edge) (q : Point) → a ≤ b → All (Contains all) es → IsReachedByOne a m es q → IsReachedByOne b m all q
+reached_more a b m es all q more listed h = record {
+  edge = h.edge;
+  listed = All-contains (Contains all) es h.edge listed h.listed;
+  reached = record {
+    grid = r.grid;
+    some = r.some;
+    nearest = r.nearest;
+    on_edge = r.on_edge;
+    reached = let s = r.reached in omega (arith, s, mul-le-mul_right ((r.grid * m) * (r.grid * m)) more);
+  };
+}
+  where
+    r : IsReached a m h.edge q
+    r = h.reached
 
-pub drawn_more : (b : ℕ) (es all : List Edge) → All (Contains all) es → (g : Edge) → IsDrawnAlong b es g → IsDrawnAlong b all g
-drawn_more b es all listed g h =
-    record { edge = h.edge; listed = All-contains (Contains all) es h.edge listed h.listed; start = h.start; end = h.end }
+pub drawn_more : (a b : ℕ) (es all : List Edge) → a ≤ b → All (Contains all) es → (g : Edge) → IsDrawnAlong a es g → IsDrawnAlong b all g
+drawn_more a b es all more listed g h = record {
+  edge = h.edge;
+  listed = All-contains (Contains all) es h.edge listed h.listed;
+  start = by_end_more h.edge g.0 h.start;
+  end = by_end_more h.edge g.1 h.end;
+}
+  where
+    by_end_more : (e : Edge) (p : Point) → IsByEnd a e p → IsByEnd b e p
+    by_end_more e p (inl n) = inl (omega (arith, n, more))
+    by_end_more e p (inr n) = inr (omega (arith, n, more))
 
 -- where the windings of pieces do not add up to 0, one of them holds the point
 pub held_by_one : (b m : ℕ) (es : List Edge) (q : Point) (pieces : List (List Point)) → All (HoldsNear b es) pieces →

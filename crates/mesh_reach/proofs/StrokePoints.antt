@@ -66,7 +66,7 @@ module _ (unit : ℕ) (least : 2 ^ 14 ≤ unit) (radius : ℤ) (wide : pos 1 <�
       (λ e h. (by_more (join_reach join.kind radius) b k.0.1 reach e.0 h.0, by_more (join_reach join.kind radius) b k.0.1 reach e.1 h.1))
       (outer_edges unit radius join k)
       (join_by unit least j
-      (contact_leads unit radius Counterclockwise k.0.1 (heading unit k.0) least some (direction_fresh (omega arith) (heading_is unit k.0 met.first)))
+      (λ _. contact_leads unit radius Counterclockwise k.0.1 (heading unit k.0) least some (direction_fresh (omega arith) (heading_is unit k.0 met.first)))
       join (corner_keeps unit least radius sign join k met left)
       (contact_by unit radius Counterclockwise k.0.1 (heading unit k.0) (omega arith) (heading_short unit least radius sign k.0 met.first))
       (subst (λ (v : Point). IsBy (rounded_reach (unsigned_abs radius)) v j.last) (sym met.met)

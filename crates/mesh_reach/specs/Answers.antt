@@ -1,14 +1,20 @@
 -- How far an answer reaches from paths: besides what was drawn, by the nearness of its splits.
-use Rattle.std.specs.Prelude.{ℕ, ◌*◌, ◌<◌, ◌≤◌, ◌^◌, ◌≡◌, ◌≢◌, Bool, false, List}
-use Rattle.std.specs.Prelude.{pos, ◌-ℤ◌, ◌*ℤ◌, unsigned_abs}
+use Rattle.std.specs.Prelude.{ℕ, ◌*◌, ◌<◌, ◌≤◌, ◌^◌, ◌≡◌, ◌≢◌, Bool, false, ◌&&◌, List}
+use Rattle.std.specs.Prelude.{pos, ◌-ℤ◌, ◌*ℤ◌, unsigned_abs, int_lt, count_by}
 use Rattle.std.specs.List.{flat_map}
 use Rattle.mesh_plane.specs.Plane.{Point, Edge}
-use Rattle.mesh_plane.specs.Winding.{winding}
+use Rattle.mesh_plane.specs.Winding.{boundary, winding}
+use Rattle.mesh_lattice.specs.Counted.{bit}
+use Rattle.mesh_shapes.specs.Contours.{double_area}
 use Rattle.mesh_shapes.specs.Resolution.{Choices}
+use Rattle.mesh_join.specs.Cleaned.{cleaned_sections}
+use Rattle.mesh_join.specs.Styles.{OutlineStyle}
 use Rattle.mesh_offset.specs.Adding.{answer_edges}
+use Rattle.mesh_outline.specs.Nearness.{AreOutlineRegionsBeyond}
 use Rattle.mesh_stroke.specs.Paths.{path_edges}
 use Rattle.mesh_stroke.specs.Regions.{AreStrokeRegionsBeyond}
 use Rattle.mesh_stroke.specs.Styles.{StrokeStyle}
+use Rattle.mesh_reach.specs.Outlines.{both_reach}
 use Rattle.mesh_reach.specs.Reach.{IsReachedByOne}
 use Rattle.mesh_reach.specs.Strokes.{stroke_reach}
 
@@ -36,3 +42,31 @@ StrokeAnswersReach =
     → choices.least_area ≡ 0 → choices.clockwise ≡ false → (m : ℕ) → 0 < m → (q : Point)
     → winding m q (answer_edges answer) ≢ pos 0
     → IsReachedWithin k (stroke_reach style closed) m (all_sections closed paths) q
+
+-- a contour of positive area that winds above 0 round the point
+abbrev pub encloses : ℕ → Point → List Point → Bool
+encloses m q contour = int_lt (pos 0) (double_area contour) && int_lt (pos 0) (winding m q (boundary contour))
+
+-- a contour of negative area that winds below 0 round it
+abbrev pub excludes : ℕ → Point → List Point → Bool
+excludes m q contour = int_lt (double_area contour) (pos 0) && int_lt (winding m q (boundary contour)) (pos 0)
+
+-- the point is inside contours: more of them enclose it than exclude it
+abbrev pub is_inside : List (List Point) → ℕ → Point → Bool
+is_inside contours m q =
+    int_lt (pos (count_by (excludes m q) contours)) (pos (count_by (encloses m q) contours))
+
+-- the sections of all contours
+abbrev pub contour_sections : List (List Point) → List Edge
+contour_sections contours = flat_map cleaned_sections contours
+
+-- with no least area and outer contours counterclockwise, an outline's answer winds once round each point inside the
+-- contours and round no other, but for points that lie within its nearness of a point as near to a section as the
+-- outline reaches
+abbrev pub OutlineAnswersReach : Type 0
+OutlineAnswersReach =
+    (unit : ℕ) → 2 ^ 14 ≤ unit → (k : ℕ) (style : OutlineStyle) (choices : Choices) (contours : List (List Point))
+    (answer : List (List (List Point))) → AreOutlineRegionsBeyond k unit style choices contours answer
+    → choices.least_area ≡ 0 → choices.clockwise ≡ false → (m : ℕ) → 0 < m → (q : Point)
+    → winding m q (answer_edges answer) ≢ bit (is_inside contours m q)
+    → IsReachedWithin k (both_reach style) m (contour_sections contours) q

@@ -1,6 +1,6 @@
 //! Laws of reach. Each function does nothing: its clause is the law.
 
-ghost use Rattle.mesh_reach.specs.Answers.{StrokeAnswersReach};
+ghost use Rattle.mesh_reach.specs.Answers.{OutlineAnswersReach, StrokeAnswersReach};
 ghost use Rattle.mesh_reach.specs.Outlines.{OutlineEdgesReach, OutlinesReach};
 ghost use Rattle.mesh_reach.specs.Reach.{ListsReachAsTheirPoints};
 ghost use Rattle.mesh_reach.specs.Strokes.{StrokeEdgesReach, StrokesReach};
@@ -40,4 +40,11 @@ pub fn outlines_reach()
 /// So is each point round which the edges of an outline wind otherwise than the contour.
 pub fn outline_edges_reach()
     ensures { OutlineEdgesReach }
+{}
+
+/// With no least area and outer contours counterclockwise, an outline's answer of the nearness `k` winds once round
+/// each point inside the contours and round no other, but for points within `k` 64ths of a grid unit, in both
+/// coordinates, of a point as near to a section of a contour as the outline reaches.
+pub fn outline_answers_reach()
+    ensures { OutlineAnswersReach }
 {}
