@@ -39,27 +39,34 @@ abbrev beyond : ℤ → ℤ → ℤ → Point → Point → Point → ℤ
 beyond g t m a b q = (g *ℤ along m a b q) -ℤ (t *ℤ span m a b)
 
 before_start : (g t m : ℤ) (a b q : Point) →
-    dot (minus (scale g q) (foot g t m a b)) (minus (scale (g *ℤ m) a) (foot g t m a b)) ≡ neg_ℤ (t *ℤ beyond g t m a b q)
+    dot (minus (scale g q) (foot g t m a b)) (minus (scale (g *ℤ m) a) (foot g t m a b)) ≡ neg_ℤ
+    (t *ℤ beyond g t m a b q)
 before_start g t m a b q =
     let at = λ (i : ℕ). λ (j : ℕ). ((var 0 ⊖ var 1) ⊗ (var 2 ⊗ var i)) ⊕ (var 1 ⊗ (var 2 ⊗ var j)) in
     let way = λ (i : ℕ). λ (j : ℕ). (var 2 ⊗ var j) ⊖ (var 2 ⊗ var i) in
     ring (g ∷ t ∷ m ∷ a.0 ∷ a.1 ∷ b.0 ∷ b.1 ∷ q.0 ∷ q.1 ∷ [])
-    (dot_of ((var 0 ⊗ var 7) ⊖ at 3 5) ((var 0 ⊗ var 8) ⊖ at 4 6) (((var 0 ⊗ var 2) ⊗ var 3) ⊖ at 3 5) (((var 0 ⊗ var 2) ⊗ var 4) ⊖ at 4 6))
-    (neg (var 1 ⊗ ((var 0 ⊗ dot_of (var 7 ⊖ (var 2 ⊗ var 3)) (var 8 ⊖ (var 2 ⊗ var 4)) (way 3 5) (way 4 6)) ⊖ (var 1 ⊗ dot_of (way 3 5) (way 4 6) (way 3 5) (way 4 6)))))
+    (dot_of ((var 0 ⊗ var 7) ⊖ at 3 5) ((var 0 ⊗ var 8) ⊖ at 4 6) (((var 0 ⊗ var 2) ⊗ var 3) ⊖ at 3 5)
+    (((var 0 ⊗ var 2) ⊗ var 4) ⊖ at 4 6))
+    (neg (var 1 ⊗ ((var 0 ⊗ dot_of (var 7 ⊖ (var 2 ⊗ var 3)) (var 8 ⊖ (var 2 ⊗ var 4)) (way 3 5) (way 4 6)) ⊖
+    (var 1 ⊗ dot_of (way 3 5) (way 4 6) (way 3 5) (way 4 6)))))
     refl
 
 before_end : (g t m : ℤ) (a b q : Point) →
-    dot (minus (scale g q) (foot g t m a b)) (minus (scale (g *ℤ m) b) (foot g t m a b)) ≡ (g -ℤ t) *ℤ beyond g t m a b q
+    dot (minus (scale g q) (foot g t m a b)) (minus (scale (g *ℤ m) b) (foot g t m a b)) ≡
+    (g -ℤ t) *ℤ beyond g t m a b q
 before_end g t m a b q =
     let at = λ (i : ℕ). λ (j : ℕ). ((var 0 ⊖ var 1) ⊗ (var 2 ⊗ var i)) ⊕ (var 1 ⊗ (var 2 ⊗ var j)) in
     let way = λ (i : ℕ). λ (j : ℕ). (var 2 ⊗ var j) ⊖ (var 2 ⊗ var i) in
     ring (g ∷ t ∷ m ∷ a.0 ∷ a.1 ∷ b.0 ∷ b.1 ∷ q.0 ∷ q.1 ∷ [])
-    (dot_of ((var 0 ⊗ var 7) ⊖ at 3 5) ((var 0 ⊗ var 8) ⊖ at 4 6) (((var 0 ⊗ var 2) ⊗ var 5) ⊖ at 3 5) (((var 0 ⊗ var 2) ⊗ var 6) ⊖ at 4 6))
-    ((var 0 ⊖ var 1) ⊗ ((var 0 ⊗ dot_of (var 7 ⊖ (var 2 ⊗ var 3)) (var 8 ⊖ (var 2 ⊗ var 4)) (way 3 5) (way 4 6)) ⊖ (var 1 ⊗ dot_of (way 3 5) (way 4 6) (way 3 5) (way 4 6))))
+    (dot_of ((var 0 ⊗ var 7) ⊖ at 3 5) ((var 0 ⊗ var 8) ⊖ at 4 6) (((var 0 ⊗ var 2) ⊗ var 5) ⊖ at 3 5)
+    (((var 0 ⊗ var 2) ⊗ var 6) ⊖ at 4 6))
+    ((var 0 ⊖ var 1) ⊗ ((var 0 ⊗ dot_of (var 7 ⊖ (var 2 ⊗ var 3)) (var 8 ⊖ (var 2 ⊗ var 4)) (way 3 5) (way 4 6)) ⊖
+    (var 1 ⊗ dot_of (way 3 5) (way 4 6) (way 3 5) (way 4 6))))
     refl
 
 foot_mean : (g t m x y : ℤ) →
-    ((g -ℤ t) +ℤ t) *ℤ (((g -ℤ t) *ℤ (m *ℤ x)) +ℤ (t *ℤ (m *ℤ y))) ≡ ((g -ℤ t) *ℤ ((g *ℤ m) *ℤ x)) +ℤ (t *ℤ ((g *ℤ m) *ℤ y))
+    ((g -ℤ t) +ℤ t) *ℤ (((g -ℤ t) *ℤ (m *ℤ x)) +ℤ (t *ℤ (m *ℤ y))) ≡ ((g -ℤ t) *ℤ ((g *ℤ m) *ℤ x)) +ℤ
+    (t *ℤ ((g *ℤ m) *ℤ y))
 foot_mean g t m x y =
     ring (g ∷ t ∷ m ∷ x ∷ y ∷ [])
     (((var 0 ⊖ var 1) ⊕ var 1) ⊗ (((var 0 ⊖ var 1) ⊗ (var 2 ⊗ var 3)) ⊕ (var 1 ⊗ (var 2 ⊗ var 4))))
@@ -67,7 +74,8 @@ foot_mean g t m x y =
     refl
 
 foot_at : (m : ℕ) (e : Edge) (q : Point) (g : ℕ) (t : ℤ) → 0 < g → pos 0 ≤ℤ t → t ≤ℤ pos g →
-    pos 0 ≤ℤ (t *ℤ beyond (pos g) t (pos m) e.0 e.1 q) → ((pos g -ℤ t) *ℤ beyond (pos g) t (pos m) e.0 e.1 q) ≤ℤ pos 0 → IsFoot m e q
+    pos 0 ≤ℤ (t *ℤ beyond (pos g) t (pos m) e.0 e.1 q) → ((pos g -ℤ t) *ℤ beyond (pos g) t (pos m) e.0 e.1 q) ≤ℤ pos 0
+    → IsFoot m e q
 foot_at m e q g t some least most first second = record {
   grid = g;
   some = some;
@@ -86,13 +94,16 @@ foot_at m e q g t some least most first second = record {
   end = omega (arith, linear, before_end (pos g) t (pos m) e.0 e.1 q, second);
 }
 
-at_start : (s n : ℤ) → s ≤ℤ pos 0 → (pos 0 ≤ℤ (pos 0 *ℤ ((pos 1 *ℤ s) -ℤ (pos 0 *ℤ n)))) × (((pos 1 -ℤ pos 0) *ℤ ((pos 1 *ℤ s) -ℤ (pos 0 *ℤ n))) ≤ℤ pos 0)
+at_start : (s n : ℤ) → s ≤ℤ pos 0 → (pos 0 ≤ℤ (pos 0 *ℤ ((pos 1 *ℤ s) -ℤ (pos 0 *ℤ n)))) ×
+    (((pos 1 -ℤ pos 0) *ℤ ((pos 1 *ℤ s) -ℤ (pos 0 *ℤ n))) ≤ℤ pos 0)
 at_start s n h = (omega (arith, ints), omega (arith, ints))
 
-at_end : (s n : ℤ) → n ≤ℤ s → (pos 0 ≤ℤ (pos 1 *ℤ ((pos 1 *ℤ s) -ℤ (pos 1 *ℤ n)))) × (((pos 1 -ℤ pos 1) *ℤ ((pos 1 *ℤ s) -ℤ (pos 1 *ℤ n))) ≤ℤ pos 0)
+at_end : (s n : ℤ) → n ≤ℤ s → (pos 0 ≤ℤ (pos 1 *ℤ ((pos 1 *ℤ s) -ℤ (pos 1 *ℤ n)))) ×
+    (((pos 1 -ℤ pos 1) *ℤ ((pos 1 *ℤ s) -ℤ (pos 1 *ℤ n))) ≤ℤ pos 0)
 at_end s n h = (omega (arith, ints), omega (arith, ints))
 
-between : (g s n : ℤ) → n ≡ g → (pos 0 ≤ℤ (s *ℤ ((g *ℤ s) -ℤ (s *ℤ n)))) × (((g -ℤ s) *ℤ ((g *ℤ s) -ℤ (s *ℤ n))) ≤ℤ pos 0)
+between : (g s n : ℤ) → n ≡ g → (pos 0 ≤ℤ (s *ℤ ((g *ℤ s) -ℤ (s *ℤ n)))) ×
+    (((g -ℤ s) *ℤ ((g *ℤ s) -ℤ (s *ℤ n))) ≤ℤ pos 0)
 between g s n e = (
   omega (arith, linear, times_zero s ((g *ℤ s) -ℤ (s *ℤ n)) none),
   omega (arith, linear, times_zero (g -ℤ s) ((g *ℤ s) -ℤ (s *ℤ n)) none),
@@ -113,9 +124,12 @@ nearest_foot m e q =
     (λ (l : s <ℤ n).
     let both = between (pos (length_sq way)) s n (dot_self way) in
     let size = dot_self way in
-    foot_at m e q (length_sq way) s (omega (arith, ints, size, h, l)) (omega (arith, linear, h)) (omega (arith, linear, size, l)) both.0 both.1)
-    (λ (l : n ≤ℤ s). let both = at_end s n l in foot_at m e q 1 (pos 1) (omega arith) (omega (arith, ints)) (omega (arith, ints)) both.0 both.1))
-    (λ (h : s ≤ℤ pos 0). let both = at_start s n h in foot_at m e q 1 (pos 0) (omega arith) (omega (arith, ints)) (omega (arith, ints)) both.0 both.1)
+    foot_at m e q (length_sq way) s (omega (arith, ints, size, h, l)) (omega (arith, linear, h))
+    (omega (arith, linear, size, l)) both.0 both.1)
+    (λ (l : n ≤ℤ s). let both = at_end s n l in foot_at m e q 1 (pos 1) (omega arith) (omega (arith, ints))
+    (omega (arith, ints)) both.0 both.1))
+    (λ (h : s ≤ℤ pos 0). let both = at_start s n h in foot_at m e q 1 (pos 0) (omega arith) (omega (arith, ints))
+    (omega (arith, ints)) both.0 both.1)
   where
     way : Point
     way = minus (scale (pos m) e.1) (scale (pos m) e.0)

@@ -1,5 +1,6 @@
 -- Lemmas over points: how far the points of joins lie from their corners.
-use Rattle.std.proofs.Common.{◌∙◌, sym, ◌≡◌, ℕ, ◌*◌, ◌<◌, ◌≤◌, ◌^◌, Bool, true, false, cond, List, [], ◌∷◌, map, refl, arith}
+use Rattle.std.proofs.Common.{◌∙◌, sym, ◌≡◌, ℕ, ◌*◌, ◌<◌, ◌≤◌, ◌^◌, Bool, true, false, cond, List, [], ◌∷◌, map, refl}
+use Rattle.std.proofs.Common.{arith}
 use Rattle.std.specs.Prelude.{ℤ, neg_ℤ, ◌+ℤ◌, ◌-ℤ◌, ◌&&◌, unsigned_abs}
 use Rattle.std.specs.List.{All}
 use Rattle.std.proofs.Math.Nat.{mul-le-mul}
@@ -54,7 +55,8 @@ none_by v p h = by (same_point p v) refl
     by : (b : Bool) → same_point p v ≡ b → p ≡ v
     by true e = (decides_point p v).0 e
     by false e =
-        let some : 0 < length_sq (minus p v) = apart_some p v (λ (same : p ≡ v). true≢false (sym ((decides_point p v).1 same) ∙ e)) in
+        let some : 0 < length_sq (minus p v) = apart_some p v
+        (λ (same : p ≡ v). true≢false (sym ((decides_point p v).1 same) ∙ e)) in
         absurd (omega (arith, h, some))
 
 -- ---- points beside a corner
@@ -68,7 +70,8 @@ moved_length v s =
 pub moved_by : (b : ℕ) (v s : Point) → 2 * length_sq s ≤ b → IsBy b v (plus v s)
 moved_by b v s h = omega (arith, moved_length v s)
 
-contact_length : (unit : ℕ) (r : ℤ) (sense : ArcDirection) (v n : Point) → length_sq (minus (contact unit r sense v n) v) ≡ length_sq (scaled_direction unit r n)
+contact_length : (unit : ℕ) (r : ℤ) (sense : ArcDirection) (v n : Point) →
+    length_sq (minus (contact unit r sense v n) v) ≡ length_sq (scaled_direction unit r n)
 contact_length unit r Counterclockwise v n =
     let s = scaled_direction unit r n in
     let x : ((v.0 +ℤ s.1) -ℤ v.0) ≡ s.1 = omega (arith, ints) in
@@ -82,10 +85,12 @@ contact_length unit r Clockwise v n =
 
 pub contact_by : (unit : ℕ) (r : ℤ) (sense : ArcDirection) (v n : Point) → 0 < unit → IsShort unit n →
     IsBy (rounded_reach (unsigned_abs r)) v (contact unit r sense v n)
-contact_by unit r sense v n some short = omega (arith, contact_length unit r sense v n, scaled_length unit r n some short)
+contact_by unit r sense v n some short =
+    omega (arith, contact_length unit r sense v n, scaled_length unit r n some short)
 
 -- from the corner to a contact point leads some way
-pub contact_leads : (unit : ℕ) (r : ℤ) (sense : ArcDirection) (v n : Point) → 2 ^ 14 ≤ unit → 1 ≤ unsigned_abs r → IsFresh unit n →
+pub contact_leads : (unit : ℕ) (r : ℤ) (sense : ArcDirection) (v n : Point) → 2 ^ 14 ≤ unit → 1 ≤ unsigned_abs r →
+    IsFresh unit n →
     0 < length_sq (minus (contact unit r sense v n) v)
 contact_leads unit r sense v n least some fresh =
     omega (arith, contact_length unit r sense v n, scaled_direction_length unit r n (omega arith) some fresh)
@@ -96,25 +101,32 @@ used_none : (j : Joint) (p : Point) → used j p [] ≡ []
 unfolding used
 used_none j p = refl
 
-used_takes : (j : Joint) (p q : Point) (points : List Point) → (runs_ahead j (p, q) && runs_ahead j (q, j.last)) ≡ true → used j p (q ∷ points) ≡ q ∷ used j q points
+used_takes : (j : Joint) (p q : Point) (points : List Point) →
+    (runs_ahead j (p, q) && runs_ahead j (q, j.last)) ≡ true → used j p (q ∷ points) ≡ q ∷ used j q points
 unfolding used
 used_takes j p q points h = rw h refl
 
-used_skips : (j : Joint) (p q : Point) (points : List Point) → (runs_ahead j (p, q) && runs_ahead j (q, j.last)) ≡ false → used j p (q ∷ points) ≡ used j p points
+used_skips : (j : Joint) (p q : Point) (points : List Point) →
+    (runs_ahead j (p, q) && runs_ahead j (q, j.last)) ≡ false → used j p (q ∷ points) ≡ used j p points
 unfolding used
 used_skips j p q points h = rw h refl
 
 -- the points that are used are among the given ones
 used_all : (P : Point → Type 0) (j : Joint) (p : Point) (points : List Point) → All P points → All P (used j p points)
 used_all P j p [] h = rw (used_none j p) (All-nil P)
-used_all P j p (q ∷ points) h = by (runs_ahead j (p, q) && runs_ahead j (q, j.last)) refl (used_all P j p points (All-tail P q points h)) (used_all P j q points (All-tail P q points h))
+used_all P j p (q ∷ points) h =
+    by (runs_ahead j (p, q) && runs_ahead j (q, j.last)) refl (used_all P j p points (All-tail P q points h))
+    (used_all P j q points (All-tail P q points h))
   where
-    by : (b : Bool) → (runs_ahead j (p, q) && runs_ahead j (q, j.last)) ≡ b → All P (used j p points) → All P (used j q points) → All P (used j p (q ∷ points))
-    by true e skipped taken = rw (used_takes j p q points e) (All-cons P q (used j q points) (All-head P q points h) taken)
+    by : (b : Bool) → (runs_ahead j (p, q) && runs_ahead j (q, j.last)) ≡ b → All P (used j p points) →
+        All P (used j q points) → All P (used j p (q ∷ points))
+    by true e skipped taken =
+        rw (used_takes j p q points e) (All-cons P q (used j q points) (All-head P q points h) taken)
     by false e skipped taken = rw (used_skips j p q points e) skipped
 
 -- where the ends differ, some way leads from the corner to the first
-module _ (unit : ℕ) (least : 2 ^ 14 ≤ unit) (j : Joint) (leads : same_point j.first j.last ≡ false → 0 < length_sq (minus j.first j.center)) where
+module _ (unit : ℕ) (least : 2 ^ 14 ≤ unit) (j : Joint)
+    (leads : same_point j.first j.last ≡ false → 0 < length_sq (minus j.first j.center)) where
   abbrev By : Point → Type 0
   By = IsBy (rounded_reach (unsigned_abs j.radius)) j.center
 
@@ -145,7 +157,8 @@ module _ (unit : ℕ) (least : 2 ^ 14 ≤ unit) (j : Joint) (leads : same_point 
 
 -- ---- points within a padding
 
-pub within_by : (padding : ℤ) (v p : Point) → IsWithinPadding padding v p → IsBy (diagonal_reach (unsigned_abs padding)) v p
+pub within_by : (padding : ℤ) (v p : Point) → IsWithinPadding padding v p →
+    IsBy (diagonal_reach (unsigned_abs padding)) v p
 within_by padding v p w =
     let x : unsigned_abs (p.0 -ℤ v.0) ≤ unsigned_abs padding = omega (arith, ints, w.west, w.east) in
     let y : unsigned_abs (p.1 -ℤ v.1) ≤ unsigned_abs padding = omega (arith, ints, w.south, w.north) in
@@ -159,22 +172,30 @@ radius_covered Bevel radius = omega arith
 radius_covered (Miter angle) radius = omega arith
 radius_covered (Round options) radius = omega arith
 
-module _ (unit : ℕ) (least : 2 ^ 14 ≤ unit) (j : Joint) (leads : same_point j.first j.last ≡ false → 0 < length_sq (minus j.first j.center)) where
+module _ (unit : ℕ) (least : 2 ^ 14 ≤ unit) (j : Joint)
+    (leads : same_point j.first j.last ≡ false → 0 < length_sq (minus j.first j.center)) where
   between_by : (kind : IntLineJoin) (min_turn : ℕ) → KeepsJoint unit (record { kind = kind; min_turn = min_turn }) j →
-      All (IsBy (join_reach kind j.radius) j.center) (between j.first (join_points unit (record { kind = kind; min_turn = min_turn }) j) j.last)
+      All (IsBy (join_reach kind j.radius) j.center)
+      (between j.first (join_points unit (record { kind = kind; min_turn = min_turn }) j) j.last)
   between_by Bevel min_turn keeps =
       rw (nothing_between j.first j.last) (All-nil (IsBy (rounded_reach (unsigned_abs j.radius)) j.center))
   between_by (Miter angle) min_turn keeps =
-      All-weaker (IsWithinPadding (miter_padding angle j.radius) j.center) (IsBy (join_reach (Miter angle) j.radius) j.center)
+      All-weaker (IsWithinPadding (miter_padding angle j.radius) j.center)
+      (IsBy (join_reach (Miter angle) j.radius) j.center)
       (λ p w. by_more (diagonal_reach (unsigned_abs (miter_padding angle j.radius))) (join_reach (Miter angle) j.radius)
       j.center (omega arith) p (within_by (miter_padding angle j.radius) j.center p w))
       (between j.first (miter_points angle min_turn unit j) j.last) keeps.near
   between_by (Round options) min_turn keeps = round_between unit least j leads options
 
   -- the edges of a join have their ends near the corner where their first and their last point are
-  pub join_by : (style : JoinStyle) → KeepsJoint unit style j → IsBy (rounded_reach (unsigned_abs j.radius)) j.center j.first
-      → IsBy (rounded_reach (unsigned_abs j.radius)) j.center j.last → All (λ (e : Edge). IsBy (join_reach style.kind j.radius) j.center e.0 × IsBy (join_reach style.kind j.radius) j.center e.1) (join_edges unit style j)
+  pub join_by : (style : JoinStyle) → KeepsJoint unit style j →
+      IsBy (rounded_reach (unsigned_abs j.radius)) j.center j.first
+      → IsBy (rounded_reach (unsigned_abs j.radius)) j.center j.last → All
+      (λ (e : Edge). IsBy (join_reach style.kind j.radius) j.center e.0 × IsBy
+      (join_reach style.kind j.radius) j.center e.1) (join_edges unit style j)
   join_by style keeps first last =
-      let more = by_more (rounded_reach (unsigned_abs j.radius)) (join_reach style.kind j.radius) j.center (radius_covered style.kind j.radius) in
-      route_all (IsBy (join_reach style.kind j.radius) j.center) j.first (between j.first (join_points unit style j) j.last) j.last
+      let more = by_more (rounded_reach (unsigned_abs j.radius)) (join_reach style.kind j.radius) j.center
+      (radius_covered style.kind j.radius) in
+      route_all (IsBy (join_reach style.kind j.radius) j.center) j.first
+      (between j.first (join_points unit style j) j.last) j.last
       (more j.first first) (between_by style.kind style.min_turn keeps) (more j.last last)

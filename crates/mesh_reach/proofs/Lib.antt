@@ -1,6 +1,7 @@
 pub mod CapPoints
 pub mod Feet
 pub mod JoinPoints
+pub mod KeptRadii
 pub mod Lists
 pub mod OutlineAnswers
 pub mod OutlineEdges

@@ -1,5 +1,6 @@
 -- Lemmas over points and lists: a closed list of points that are near an edge does not wind round a point far from it.
-use Rattle.std.proofs.Common.{◌≡◌, ℕ, ◌*◌, ◌<◌, ◌≤◌, ◌⊎◌, inl, inr, ⊎_elim, List, not, refl, sym, ◌∙◌, ap, [], ◌∷◌, arith}
+use Rattle.std.proofs.Common.{◌≡◌, ℕ, ◌*◌, ◌<◌, ◌≤◌, ◌⊎◌, inl, inr, ⊎_elim, List, not, refl, sym, ◌∙◌, ap, [], ◌∷◌}
+use Rattle.std.proofs.Common.{arith}
 use Rattle.std.specs.Prelude.{ℤ, pos, ◌+ℤ◌, ◌-ℤ◌, ◌*ℤ◌, ◌≤ℤ◌, ◌<ℤ◌, IsTrue}
 use Rattle.std.specs.List.{All}
 use Rattle.std.specs.Ordering.{int_eq}
@@ -30,7 +31,8 @@ square_most a b least h =
     omega (arith, linear, first, second, same)
 
 -- `k` times the product `d` of vectors with the squares `w` and `x` is below `w`, where `x` is short for it
-short_for : (b k w x d : ℤ) → pos 0 ≤ℤ b → (d *ℤ d) ≤ℤ (w *ℤ x) → (x +ℤ x) ≤ℤ b → (b *ℤ (k *ℤ k)) <ℤ (w +ℤ w) → (k *ℤ d) <ℤ w
+short_for : (b k w x d : ℤ) → pos 0 ≤ℤ b → (d *ℤ d) ≤ℤ (w *ℤ x) → (x +ℤ x) ≤ℤ b → (b *ℤ (k *ℤ k)) <ℤ (w +ℤ w) →
+    (k *ℤ d) <ℤ w
 short_for b k w x d least product short far = by_lt_z (k *ℤ d) w (λ h. h) (λ (h : w ≤ℤ (k *ℤ d)). absurd (none h))
   where
     size : pos 0 ≤ℤ (b *ℤ (k *ℤ k))
@@ -66,7 +68,8 @@ short_for b k w x d least product short far = by_lt_z (k *ℤ d) w (λ h. h) (λ
           square,
           mul_le_mul_left (k *ℤ k) (d *ℤ d) (w *ℤ x) (square_nonneg k) product,
           twice,
-          mul_le_mul_left w ((k *ℤ k) *ℤ (x +ℤ x)) ((k *ℤ k) *ℤ b) not_below (mul_le_mul_left (k *ℤ k) (x +ℤ x) b (square_nonneg k) short),
+          mul_le_mul_left w ((k *ℤ k) *ℤ (x +ℤ x)) ((k *ℤ k) *ℤ b) not_below
+              (mul_le_mul_left (k *ℤ k) (x +ℤ x) b (square_nonneg k) short),
           order,
           mul_lt_mul_left w (b *ℤ (k *ℤ k)) (w +ℤ w) some far,
           both,
@@ -96,7 +99,8 @@ twice_within n l x h e = omega (arith, ints)
 module _ (b m : ℕ) (e : Edge) (q : Point) (f : IsFoot m e q)
     (far : b * ((f.grid * m) * (f.grid * m)) < 2 * length_sq (minus (refined f.grid q) f.nearest)) where
   -- a point near an end of the edge lies before `q`
-  near_end : (v p : Point) → dot (minus (refined f.grid q) f.nearest) (minus (refined (f.grid * m) v) f.nearest) ≤ℤ pos 0
+  near_end : (v p : Point) → dot (minus (refined f.grid q) f.nearest)
+      (minus (refined (f.grid * m) v) f.nearest) ≤ℤ pos 0
       → 2 * length_sq (minus p v) ≤ b
       → along_by (minus (refined f.grid q) f.nearest).0 (minus (refined f.grid q) f.nearest).1 (refined m p)
       <ℤ along_by (minus (refined f.grid q) f.nearest).0 (minus (refined f.grid q) f.nearest).1 q
@@ -110,7 +114,8 @@ module _ (b m : ℕ) (e : Edge) (q : Point) (f : IsFoot m e q)
       (twice_above (b * ((f.grid * m) * (f.grid * m))) (length_sq u) (dot u u) far (dot_self u)) in
       let grows : pos 0 <ℤ (pos f.grid *ℤ (along_by u.0 u.1 q -ℤ along_by u.0 u.1 (refined m p))) =
       omega (arith, linear, gained (pos f.grid) (pos m) u f.nearest q v p, before, small) in
-      let beyond : pos 0 <ℤ (along_by u.0 u.1 q -ℤ along_by u.0 u.1 (refined m p)) = pos_of_mul (pos f.grid) _ (omega (arith, ints)) grows in
+      let beyond : pos 0 <ℤ (along_by u.0 u.1 q -ℤ along_by u.0 u.1 (refined m p)) = pos_of_mul (pos f.grid) _
+      (omega (arith, ints)) grows in
       omega (arith, linear, beyond)
 
   near_before : (p : Point) → IsByEnd b e p
@@ -143,7 +148,8 @@ reached_or_past b m e q =
 
 -- ---- together
 
-pub lists_reach : (b m : ℕ) (e : Edge) (points : List Point) (q : Point) → All (IsByEnd b e) points → IsTrue (holds m q points) → IsReached b m e q
+pub lists_reach : (b m : ℕ) (e : Edge) (points : List Point) (q : Point) → All (IsByEnd b e) points →
+    IsTrue (holds m q points) → IsReached b m e q
 lists_reach b m e points q near held =
     ⊎_elim (λ (h : IsReached b m e q). h)
     (λ (h : LiesPast b m e q). absurd (true≢false (sym held ∙ ap (λ (x : ℤ). not (int_eq x (pos 0))) (none h))))
@@ -152,10 +158,12 @@ lists_reach b m e points q near held =
     none : LiesPast b m e q → winding m q (boundary points) ≡ pos 0
     none h =
         closed_before h.u h.v m q points
-        (All-weaker (IsByEnd b e) (λ (p : Point). along_by h.u h.v (refined m p) <ℤ along_by h.u h.v q) h.before points near)
+        (All-weaker (IsByEnd b e) (λ (p : Point). along_by h.u h.v (refined m p) <ℤ along_by h.u h.v q) h.before points
+        near)
 
 -- a point of a segment with such ends is near the edge too
-pub segments_reach : (b m : ℕ) (e f : Edge) (q : Point) → IsByEnd b e f.0 → IsByEnd b e f.1 → IsOn (refined_edge m f) q → IsReached b m e q
+pub segments_reach : (b m : ℕ) (e f : Edge) (q : Point) → IsByEnd b e f.0 → IsByEnd b e f.1 →
+    IsOn (refined_edge m f) q → IsReached b m e q
 segments_reach b m e f q start end on =
     ⊎_elim (λ (h : IsReached b m e q). h) (λ (h : LiesPast b m e q). absurd (never h)) (reached_or_past b m e q)
   where

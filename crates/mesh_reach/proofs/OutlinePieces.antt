@@ -10,7 +10,8 @@ use Rattle.mesh_plane.proofs.ClosedLists.{all_flat_map}
 use Rattle.mesh_plane.proofs.Whole.{linear}
 use Rattle.mesh_join.specs.Cleaned.{cleaned_sections}
 use Rattle.mesh_join.specs.Styles.{OffsetJoin}
-use Rattle.mesh_outline.specs.Outline.{Section, SectionPair, strip, outer_edges, corner_pieces, drawn_pieces, section_of}
+use Rattle.mesh_outline.specs.Outline.{Section, SectionPair, strip, outer_edges, corner_pieces, drawn_pieces}
+use Rattle.mesh_outline.specs.Outline.{section_of}
 use Rattle.mesh_outline.specs.Outline.{parts, joined, outline_edges, outline_pieces}
 use Rattle.mesh_outline.proofs.Corners.{IsClosedProper}
 use Rattle.mesh_outline.proofs.Promised.{cleaned_ring, has_promised_edges}
@@ -20,10 +21,12 @@ use Rattle.mesh_reach.proofs.JoinPoints.{by_itself}
 use Rattle.mesh_reach.proofs.OutlinePoints.{IsCornerOf, Keeps, beside, join_at, corners_met, sections_listed}
 use Rattle.mesh_reach.proofs.Pieces.{IsAlong, fan_along, holds_near, held_by_one}
 
-module _ (unit : ℕ) (least : 2 ^ 14 ≤ unit) (style : OffsetJoin) (contour : List Edge) (ring : IsClosedProper contour) where
+module _ (unit : ℕ) (least : 2 ^ 14 ≤ unit) (style : OffsetJoin) (contour : List Edge)
+    (ring : IsClosedProper contour) where
   -- ---- the strip of a section
 
-  strip_along : (e : Edge) → e.0 ≢ e.1 → Contains contour e → IsAlong (outline_reach style) contour (strip (section_of unit style.offset e))
+  strip_along : (e : Edge) → e.0 ≢ e.1 → Contains contour e →
+      IsAlong (outline_reach style) contour (strip (section_of unit style.offset e))
   strip_along e apart listed =
       let near = IsByEnd (outline_reach style) e in
       let s : Section = section_of unit style.offset e in
@@ -37,38 +40,48 @@ module _ (unit : ℕ) (least : 2 ^ 14 ≤ unit) (style : OffsetJoin) (contour : 
             (All-cons near s.b [] (inr (by_itself (outline_reach style) e.1)) (All-nil near))));
       }
 
-  corner_along : (c : SectionPair) → IsCornerOf unit least style contour ring c × Keeps unit least style contour ring c →
-      All (IsAlong (outline_reach style) contour) (corner_pieces (parts style.offset) (joined unit style) c)
+  corner_along : (c : SectionPair) → IsCornerOf unit least style contour ring c × Keeps unit least style contour ring c
+      → All (IsAlong (outline_reach style) contour) (corner_pieces (parts style.offset) (joined unit style) c)
   corner_along c h = by (parts style.offset c) refl
     where
-      by : (t : Bool) → parts style.offset c ≡ t → All (IsAlong (outline_reach style) contour) (cond t (fan c.0.b (outer_edges (joined unit style) c)) [])
-      by true e = fan_along (outline_reach style) contour c.0.b h.0.end (outer_edges (joined unit style) c) (join_at unit least style contour ring c h.0 h.1 e)
+      by : (t : Bool) → parts style.offset c ≡ t →
+          All (IsAlong (outline_reach style) contour) (cond t (fan c.0.b (outer_edges (joined unit style) c)) [])
+      by true e =
+          fan_along (outline_reach style) contour c.0.b h.0.end (outer_edges (joined unit style) c)
+          (join_at unit least style contour ring c h.0 h.1 e)
       by false e = All-nil (IsAlong (outline_reach style) contour)
 
-  pieces_along : All (IsAlong (outline_reach style) contour) (drawn_pieces (parts style.offset) (joined unit style) (map (section_of unit style.offset) contour))
+  pieces_along : All (IsAlong (outline_reach style) contour)
+      (drawn_pieces (parts style.offset) (joined unit style) (map (section_of unit style.offset) contour))
   unfolding drawn_pieces
   pieces_along =
       let Along : List Point → Type 0 = IsAlong (outline_reach style) contour in
       let all : List Section = map (section_of unit style.offset) contour in
-      All-append Along (map strip all) (flat_map (corner_pieces (parts style.offset) (joined unit style)) (boundary all))
+      All-append Along (map strip all) (flat_map (corner_pieces (parts style.offset) (joined unit style))
+      (boundary all))
       (All-map Along strip all
       (All-map (λ (s : Section). Along (strip s)) (section_of unit style.offset) contour
-      (All-weaker (λ (e : Edge). (e.0 ≢ e.1) × Contains contour e) (λ (e : Edge). Along (strip (section_of unit style.offset e)))
+      (All-weaker (λ (e : Edge). (e.0 ≢ e.1) × Contains contour e)
+      (λ (e : Edge). Along (strip (section_of unit style.offset e)))
       (λ e h. strip_along e h.0 h.1) contour (sections_listed unit least style contour ring))))
       (all_flat_map Along (corner_pieces (parts style.offset) (joined unit style)) (boundary all)
-      (All-weaker (λ (c : SectionPair). IsCornerOf unit least style contour ring c × Keeps unit least style contour ring c)
+      (All-weaker (λ (c : SectionPair). IsCornerOf unit least style contour ring c
+      × Keeps unit least style contour ring c)
       (λ (c : SectionPair). All Along (corner_pieces (parts style.offset) (joined unit style) c))
       corner_along (boundary all) (corners_met unit least style contour ring)))
 
 module _ (unit : ℕ) (least : 2 ^ 14 ≤ unit) (style : OffsetJoin) (contour : List Point) where
-  pub outlines_reach : All (HoldsNear (outline_reach style) (cleaned_sections contour)) (outline_pieces unit style contour)
+  pub outlines_reach : All (HoldsNear (outline_reach style) (cleaned_sections contour))
+      (outline_pieces unit style contour)
   outlines_reach = by (int_eq style.offset (pos 0))
     where
       Near : List Point → Type 0
       Near = HoldsNear (outline_reach style) (cleaned_sections contour)
 
       pieces : List (List Point)
-      pieces = drawn_pieces (parts style.offset) (joined unit style) (map (section_of unit style.offset) (cleaned_sections contour))
+      pieces =
+          drawn_pieces (parts style.offset) (joined unit style)
+          (map (section_of unit style.offset) (cleaned_sections contour))
 
       by : (t : Bool) → All Near (cond t [] pieces)
       by true = All-nil Near
@@ -77,9 +90,11 @@ module _ (unit : ℕ) (least : 2 ^ 14 ≤ unit) (style : OffsetJoin) (contour : 
           (holds_near (outline_reach style) (cleaned_sections contour)) pieces
           (pieces_along unit least style (cleaned_sections contour) (cleaned_ring contour))
 
-  pub outline_edges_reach : (m : ℕ) (q : Point) → winding m q (outline_edges unit style contour) ≢ winding m q (boundary contour) →
+  pub outline_edges_reach : (m : ℕ) (q : Point) →
+      winding m q (outline_edges unit style contour) ≢ winding m q (boundary contour) →
       IsReachedByOne (outline_reach style) m (cleaned_sections contour) q
   outline_edges_reach m q differ =
-      held_by_one (outline_reach style) m (cleaned_sections contour) q (outline_pieces unit style contour) outlines_reach
+      held_by_one (outline_reach style) m (cleaned_sections contour) q
+      (outline_pieces unit style contour) outlines_reach
       (λ (none : pieces_total (crossing_on m q) (outline_pieces unit style contour) ≡ pos 0).
       differ (let sum = (has_promised_edges unit style contour least).sum m q in omega (arith, linear, sum, none)))

@@ -60,7 +60,8 @@ pub record IsDrawnAlong (b : ℕ) (es : List Edge) (g : Edge) : Type 0 where
   pub start : IsByEnd b edge g.0
   pub end : IsByEnd b edge g.1
 
-pub drawn_at_end : (b : ℕ) (es : List Edge) (v : Point) → IsEndOf es v → (g : Edge) → IsBy b v g.0 × IsBy b v g.1 → IsDrawnAlong b es g
+pub drawn_at_end : (b : ℕ) (es : List Edge) (v : Point) → IsEndOf es v →
+    (g : Edge) → IsBy b v g.0 × IsBy b v g.1 → IsDrawnAlong b es g
 drawn_at_end b es v end g h = record {
   edge = end.edge;
   listed = end.listed;
@@ -69,12 +70,14 @@ drawn_at_end b es v end g h = record {
 }
 
 -- each point of such an edge is near that one
-pub drawn_near : (b m : ℕ) (es : List Edge) (g : Edge) (q : Point) → IsDrawnAlong b es g → IsOn (refined_edge m g) q → IsReachedByOne b m es q
+pub drawn_near : (b m : ℕ) (es : List Edge) (g : Edge) (q : Point) → IsDrawnAlong b es g → IsOn (refined_edge m g) q →
+    IsReachedByOne b m es q
 drawn_near b m es g q h on =
     record { edge = h.edge; listed = h.listed; reached = segments_reach b m h.edge g q h.start h.end on }
 
 -- what is near to some edges is so to more edges, and within more
-pub reached_more : (a b m : ℕ) (es all : List Edge) (q : Point) → a ≤ b → All (Contains all) es → IsReachedByOne a m es q → IsReachedByOne b m all q
+pub reached_more : (a b m : ℕ) (es all : List Edge) (q : Point) → a ≤ b → All (Contains all) es →
+    IsReachedByOne a m es q → IsReachedByOne b m all q
 reached_more a b m es all q more listed h = record {
   edge = h.edge;
   listed = All-contains (Contains all) es h.edge listed h.listed;
@@ -90,7 +93,8 @@ reached_more a b m es all q more listed h = record {
     r : IsReached a m h.edge q
     r = h.reached
 
-pub drawn_more : (a b : ℕ) (es all : List Edge) → a ≤ b → All (Contains all) es → (g : Edge) → IsDrawnAlong a es g → IsDrawnAlong b all g
+pub drawn_more : (a b : ℕ) (es all : List Edge) → a ≤ b → All (Contains all) es →
+    (g : Edge) → IsDrawnAlong a es g → IsDrawnAlong b all g
 drawn_more a b es all more listed g h = record {
   edge = h.edge;
   listed = All-contains (Contains all) es h.edge listed h.listed;
@@ -107,9 +111,11 @@ pub held_by_one : (b m : ℕ) (es : List Edge) (q : Point) (pieces : List (List 
     (pieces_total (crossing_on m q) pieces ≡ pos 0 → ⊥) → IsReachedByOne b m es q
 held_by_one b m es q [] h some = absurd (some refl)
 held_by_one b m es q (piece ∷ pieces) h some =
-    by (held_by_one b m es q pieces (All-tail (HoldsNear b es) piece pieces h)) (int_eq (winding m q (boundary piece)) (pos 0)) refl
+    by (held_by_one b m es q pieces (All-tail (HoldsNear b es) piece pieces h))
+    (int_eq (winding m q (boundary piece)) (pos 0)) refl
   where
-    by : ((pieces_total (crossing_on m q) pieces ≡ pos 0 → ⊥) → IsReachedByOne b m es q) → (t : Bool) → int_eq (winding m q (boundary piece)) (pos 0) ≡ t → IsReachedByOne b m es q
+    by : ((pieces_total (crossing_on m q) pieces ≡ pos 0 → ⊥) → IsReachedByOne b m es q) →
+        (t : Bool) → int_eq (winding m q (boundary piece)) (pos 0) ≡ t → IsReachedByOne b m es q
     by others true e =
         let none : winding m q (boundary piece) ≡ pos 0 = (Decides-int_eq (winding m q (boundary piece)) (pos 0)).0 e in
         others (λ (rest : pieces_total (crossing_on m q) pieces ≡ pos 0). some (omega (arith, linear, none, rest)))

@@ -18,14 +18,16 @@ use Rattle.mesh_reach.specs.Joins.{rounded_reach}
 short_sum : (c d n : ℕ) → c * c + d * d ≤ n * n → 2 * (c + d) ≤ 3 * n
 short_sum c d n h =
     ⊎_elim
-    (λ (far : 3 * n < 2 * (c + d)). absurd (omega (arith, mul-lt (3 * n) (3 * n) (2 * (c + d)) (2 * (c + d)) far far, two_products c d, h)))
+    (λ (far : 3 * n < 2 * (c + d)). absurd (omega
+    (arith, mul-lt (3 * n) (3 * n) (2 * (c + d)) (2 * (c + d)) far far, two_products c d, h)))
     (λ (l : 2 * (c + d) ≤ 3 * n). l)
     (cases_lt (3 * n) (2 * (c + d)))
 
 squared : (a c d : ℕ) → 2 * (a * d) ≤ 2 * c + d → 4 * (d * d) * (a * a) ≤ 4 * (c * c) + 4 * (c * d) + d * d
 squared a c d h = omega (arith, mul-le-mul h h)
 
-rounded_parts : (d n a b c e : ℕ) → 0 < d → c * c + e * e ≤ d * d * (n * n) → 2 * (a * d) ≤ 2 * c + d → 2 * (b * d) ≤ 2 * e + d →
+rounded_parts : (d n a b c e : ℕ) → 0 < d → c * c + e * e ≤ d * d * (n * n) → 2 * (a * d) ≤ 2 * c + d →
+    2 * (b * d) ≤ 2 * e + d →
     2 * (a * a + b * b) ≤ rounded_reach n
 rounded_parts d n a b c e some h p q =
     let sum : 2 * (c + e) ≤ 3 * (d * n) = short_sum c e (d * n) (omega (arith, h)) in
@@ -36,9 +38,11 @@ rounded_parts d n a b c e some h p q =
     le_of_mul-le-mul_left all (omega arith)
 
 -- a vector of at most `n` times `d` is at most `n` and the root of a half long once its parts are divided by `d`
-rounded_length : (d n : ℕ) (v : Point) → 0 < d → length_sq v ≤ d * d * (n * n) → 2 * length_sq (rounded v.0 d, rounded v.1 d) ≤ rounded_reach n
+rounded_length : (d n : ℕ) (v : Point) → 0 < d → length_sq v ≤ d * d * (n * n) →
+    2 * length_sq (rounded v.0 d, rounded v.1 d) ≤ rounded_reach n
 rounded_length d n v some h =
-    rounded_parts d n (unsigned_abs (rounded v.0 d)) (unsigned_abs (rounded v.1 d)) (unsigned_abs v.0) (unsigned_abs v.1) some h
+    rounded_parts d n (unsigned_abs (rounded v.0 d)) (unsigned_abs (rounded v.1 d)) (unsigned_abs v.0)
+    (unsigned_abs v.1) some h
     (rounded_not_above v.0 d) (rounded_not_above v.1 d)
 
 -- so is a direction times a radius

@@ -25,33 +25,50 @@ use Rattle.mesh_reach.proofs.StrokePieces.{strokes_reach}
 use Rattle.mesh_reach.proofs.Within.{at_itself, beside_drawn, near_or_far, nested}
 
 module _ (unit : ℕ) (least : 2 ^ 14 ≤ unit) (style : StrokeStyle) (closed : Bool) (paths : List (List Point)) where
-  sections_listed : All (λ (path : List Point). All (Contains (all_sections closed paths)) (path_edges closed path)) paths
-  sections_listed = nested (Contains (all_sections closed paths)) (path_edges closed) paths (All-contains_itself (all_sections closed paths))
+  sections_listed :
+      All (λ (path : List Point). All (Contains (all_sections closed paths)) (path_edges closed path)) paths
+  sections_listed =
+      nested (Contains (all_sections closed paths)) (path_edges closed) paths
+      (All-contains_itself (all_sections closed paths))
 
-  all_hold_near : All (HoldsNear (stroke_reach style closed) (all_sections closed paths)) (all_pieces unit style closed paths)
+  all_hold_near : All (HoldsNear (stroke_reach style closed) (all_sections closed paths))
+      (all_pieces unit style closed paths)
   all_hold_near =
-      all_flat_map (HoldsNear (stroke_reach style closed) (all_sections closed paths)) (stroke_pieces unit style closed) paths
+      all_flat_map (HoldsNear (stroke_reach style closed) (all_sections closed paths))
+      (stroke_pieces unit style closed) paths
       (All-weaker (λ (path : List Point). All (Contains (all_sections closed paths)) (path_edges closed path))
-      (λ (path : List Point). All (HoldsNear (stroke_reach style closed) (all_sections closed paths)) (stroke_pieces unit style closed path))
+      (λ (path : List Point). All (HoldsNear (stroke_reach style closed) (all_sections closed paths))
+      (stroke_pieces unit style closed path))
       (λ path listed.
-      All-weaker (HoldsNear (stroke_reach style closed) (path_edges closed path)) (HoldsNear (stroke_reach style closed) (all_sections closed paths))
-      (λ piece h m q held. reached_more (stroke_reach style closed) (stroke_reach style closed) m (path_edges closed path) (all_sections closed paths) q
+      All-weaker (HoldsNear (stroke_reach style closed) (path_edges closed path))
+      (HoldsNear (stroke_reach style closed) (all_sections closed paths))
+      (λ piece h m q held. reached_more (stroke_reach style closed) (stroke_reach style closed) m
+      (path_edges closed path) (all_sections closed paths) q
       (omega arith) listed (h m q held)) (stroke_pieces unit style closed path)
       (strokes_reach unit least style closed path)) paths sections_listed)
 
-  all_along : All (IsDrawnAlong (stroke_reach style closed) (all_sections closed paths)) (all_edges unit style closed paths)
+  all_along : All (IsDrawnAlong (stroke_reach style closed) (all_sections closed paths))
+      (all_edges unit style closed paths)
   all_along =
-      all_flat_map (IsDrawnAlong (stroke_reach style closed) (all_sections closed paths)) (stroke_edges unit style closed) paths
+      all_flat_map (IsDrawnAlong (stroke_reach style closed) (all_sections closed paths))
+      (stroke_edges unit style closed) paths
       (All-weaker (λ (path : List Point). All (Contains (all_sections closed paths)) (path_edges closed path))
-      (λ (path : List Point). All (IsDrawnAlong (stroke_reach style closed) (all_sections closed paths)) (stroke_edges unit style closed path))
+      (λ (path : List Point). All (IsDrawnAlong (stroke_reach style closed) (all_sections closed paths))
+      (stroke_edges unit style closed path))
       (λ path listed.
-      All-weaker (IsDrawnAlong (stroke_reach style closed) (path_edges closed path)) (IsDrawnAlong (stroke_reach style closed) (all_sections closed paths))
-      (drawn_more (stroke_reach style closed) (stroke_reach style closed) (path_edges closed path) (all_sections closed paths) (omega arith) listed) (stroke_edges unit style closed path)
+      All-weaker (IsDrawnAlong (stroke_reach style closed) (path_edges closed path))
+      (IsDrawnAlong (stroke_reach style closed) (all_sections closed paths))
+      (drawn_more (stroke_reach style closed) (stroke_reach style closed) (path_edges closed path)
+      (all_sections closed paths) (omega arith) listed) (stroke_edges unit style closed path)
       (stroke_along unit least style closed path)) paths sections_listed)
 
-pub stroke_answers_reach : (unit : ℕ) → 2 ^ 14 ≤ unit → (k : ℕ) (style : StrokeStyle) (closed : Bool) (choices : Choices) (paths : List (List Point)) (answer : List (List (List Point))) →
-    AreStrokeRegionsBeyond k unit style closed choices paths answer → choices.least_area ≡ 0 → choices.clockwise ≡ false → (m : ℕ) → 0 < m → (q : Point) →
-    winding m q (answer_edges answer) ≢ pos 0 → IsReachedWithin k (stroke_reach style closed) m (all_sections closed paths) q
+pub stroke_answers_reach : (unit : ℕ) → 2 ^ 14 ≤ unit →
+    (k : ℕ) (style : StrokeStyle) (closed : Bool) (choices : Choices) (paths : List (List Point))
+    (answer : List (List (List Point))) →
+    AreStrokeRegionsBeyond k unit style closed choices paths answer → choices.least_area ≡ 0 → choices.clockwise ≡ false
+    → (m : ℕ) → 0 < m → (q : Point) →
+    winding m q (answer_edges answer) ≢ pos 0 → IsReachedWithin k (stroke_reach style closed) m
+    (all_sections closed paths) q
 stroke_answers_reach unit least k style closed choices paths answer made no_area way m some q winds =
     ⊎_elim
     (beside_drawn k b m es q)
@@ -62,7 +79,8 @@ stroke_answers_reach unit least k style closed choices paths answer made no_area
     winds (made.fills no_area way m some q far ∙ ap (λ (z : ℤ). bit (int_lt (pos 0) z)) none))))
     (near_or_far Along k m some made.stroke.built q
     (All-permutation Along (all_edges unit style closed paths) made.stroke.built
-    (IsPermutation-sym made.stroke.built (all_edges unit style closed paths) made.stroke.same) (all_along unit least style closed paths)))
+    (IsPermutation-sym made.stroke.built (all_edges unit style closed paths) made.stroke.same)
+    (all_along unit least style closed paths)))
   where
     b : ℕ
     b = stroke_reach style closed

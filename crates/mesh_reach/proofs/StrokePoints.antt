@@ -24,16 +24,20 @@ use Rattle.mesh_reach.proofs.CapPoints.{cap_by}
 use Rattle.mesh_reach.proofs.JoinPoints.{IsBy, by_more, by_itself, contact_by, contact_leads, join_by, radius_covered}
 
 -- the reach of a stroke covers those of its radius, its joins and the caps that are drawn
-pub joins_covered : (style : StrokeStyle) (closed : Bool) → join_reach style.join.kind style.radius ≤ stroke_reach style closed
+pub joins_covered : (style : StrokeStyle) (closed : Bool) →
+    join_reach style.join.kind style.radius ≤ stroke_reach style closed
 joins_covered style closed = omega arith
 
-pub caps_covered : (style : StrokeStyle) (closed : Bool) → caps_reach style.side closed style.start style.end style.radius ≤ stroke_reach style closed
+pub caps_covered : (style : StrokeStyle) (closed : Bool) →
+    caps_reach style.side closed style.start style.end style.radius ≤ stroke_reach style closed
 caps_covered style closed = omega arith
 
-pub stroke_covered : (style : StrokeStyle) (closed : Bool) → rounded_reach (unsigned_abs style.radius) ≤ stroke_reach style closed
+pub stroke_covered : (style : StrokeStyle) (closed : Bool) →
+    rounded_reach (unsigned_abs style.radius) ≤ stroke_reach style closed
 stroke_covered style closed = omega (arith, radius_covered style.join.kind style.radius, joins_covered style closed)
 
-module _ (unit : ℕ) (least : 2 ^ 14 ≤ unit) (radius : ℤ) (wide : pos 1 <ℤ radius) (b : ℕ) (covers : rounded_reach (unsigned_abs radius) ≤ b) where
+module _ (unit : ℕ) (least : 2 ^ 14 ≤ unit) (radius : ℤ) (wide : pos 1 <ℤ radius) (b : ℕ)
+    (covers : rounded_reach (unsigned_abs radius) ≤ b) where
   sign : pos 0 ≤ℤ radius
   sign = omega (arith, ints, wide)
 
@@ -41,7 +45,8 @@ module _ (unit : ℕ) (least : 2 ^ 14 ≤ unit) (radius : ℤ) (wide : pos 1 <�
   some = omega (arith, ints, wide)
 
   -- points beside a section
-  pub beside : (sense : ArcDirection) (e : Edge) (v : Point) → e.0 ≢ e.1 → IsBy b v (contact unit radius sense v (heading unit e))
+  pub beside : (sense : ArcDirection) (e : Edge) (v : Point) → e.0 ≢ e.1 →
+      IsBy b v (contact unit radius sense v (heading unit e))
   beside sense e v apart =
       by_more (rounded_reach (unsigned_abs radius)) b v covers (contact unit radius sense v (heading unit e))
       (contact_by unit radius sense v (heading unit e) (omega arith) (heading_short unit least radius sign e apart))
@@ -57,24 +62,34 @@ module _ (unit : ℕ) (least : 2 ^ 14 ≤ unit) (radius : ℤ) (wide : pos 1 <�
   left_by Right e v apart = by_itself b v
 
   -- the join of a corner that turns to the left, or not at all
-  pub outer_by : (join : JoinStyle) → join_reach join.kind radius ≤ b → (k : EdgePair) → IsMet k → pos 0 ≤ℤ left_turn k →
+  pub outer_by : (join : JoinStyle) → join_reach join.kind radius ≤ b →
+      (k : EdgePair) → IsMet k → pos 0 ≤ℤ left_turn k →
       All (λ (e : Edge). IsBy b k.0.1 e.0 × IsBy b k.0.1 e.1) (outer_edges unit radius join k)
   outer_by join reach k met left =
       let j = joint_right unit radius k in
-      All-weaker (λ (e : Edge). IsBy (join_reach join.kind radius) k.0.1 e.0 × IsBy (join_reach join.kind radius) k.0.1 e.1)
+      All-weaker (λ (e : Edge). IsBy (join_reach join.kind radius) k.0.1 e.0 × IsBy
+      (join_reach join.kind radius) k.0.1 e.1)
       (λ (e : Edge). IsBy b k.0.1 e.0 × IsBy b k.0.1 e.1)
-      (λ e h. (by_more (join_reach join.kind radius) b k.0.1 reach e.0 h.0, by_more (join_reach join.kind radius) b k.0.1 reach e.1 h.1))
+      (λ e h. (
+        by_more (join_reach join.kind radius) b k.0.1 reach e.0 h.0,
+        by_more
+            (join_reach join.kind radius) b k.0.1 reach e.1 h.1,
+      ))
       (outer_edges unit radius join k)
       (join_by unit least j
-      (λ _. contact_leads unit radius Counterclockwise k.0.1 (heading unit k.0) least some (direction_fresh (omega arith) (heading_is unit k.0 met.first)))
+      (λ _. contact_leads unit radius Counterclockwise k.0.1 (heading unit k.0) least some
+      (direction_fresh (omega arith) (heading_is unit k.0 met.first)))
       join (corner_keeps unit least radius sign join k met left)
-      (contact_by unit radius Counterclockwise k.0.1 (heading unit k.0) (omega arith) (heading_short unit least radius sign k.0 met.first))
+      (contact_by unit radius Counterclockwise k.0.1 (heading unit k.0) (omega arith)
+      (heading_short unit least radius sign k.0 met.first))
       (subst (λ (v : Point). IsBy (rounded_reach (unsigned_abs radius)) v j.last) (sym met.met)
-      (contact_by unit radius Counterclockwise k.1.0 (heading unit k.1) (omega arith) (heading_short unit least radius sign k.1 met.second))))
+      (contact_by unit radius Counterclockwise k.1.0 (heading unit k.1) (omega arith)
+      (heading_short unit least radius sign k.1 met.second))))
 
   -- the cap of an edge
   pub cap_at_by : (kind : CapKind) → cap_reach kind radius ≤ b → (e : Edge) → e.0 ≢ e.1 →
       All (λ (g : Edge). IsBy b e.1 g.0 × IsBy b e.1 g.1) (cap_at unit radius kind e)
   cap_at_by kind reach e apart =
-      cap_by unit least radius some e.1 (heading unit e) (heading_short unit least radius sign e apart) (direction_fresh (omega arith) (heading_is unit e apart))
+      cap_by unit least radius some e.1 (heading unit e) (heading_short unit least radius sign e apart)
+      (direction_fresh (omega arith) (heading_is unit e apart))
       b kind covers reach

@@ -41,8 +41,10 @@ not_near k m g q beyond near =
     let less : along_by beyond.u beyond.v q <ℤ along_by beyond.u beyond.v q = before k m g q q beyond near in
     omega (arith, ints, less)
 
-pub near_or_far : (P : Edge → Type 0) (k m : ℕ) → 0 < m → (gs : List Edge) (q : Point) → All P gs → IsNearSuch P k m q ⊎ IsFarFrom k m gs q
-near_or_far P k m some [] q h = inr (λ (e : Edge) (listed : false ≡ true) (near : IsNearTo k m e q). absurd (false≢true listed))
+pub near_or_far : (P : Edge → Type 0) (k m : ℕ) → 0 < m →
+    (gs : List Edge) (q : Point) → All P gs → IsNearSuch P k m q ⊎ IsFarFrom k m gs q
+near_or_far P k m some [] q h =
+    inr (λ (e : Edge) (listed : false ≡ true) (near : IsNearTo k m e q). absurd (false≢true listed))
 near_or_far P k m some (g ∷ gs) q h =
     ⊎_elim
     (λ (near : IsNearTo k m g q). inl (record { edge = g; such = All-head P g gs h; near = near }))
@@ -57,7 +59,8 @@ near_or_far P k m some (g ∷ gs) q h =
         ⊎_elim
         (λ (same : same_ends e g ≡ true).
         ⊎_elim (λ (x : e ≡ g). not_near k m g q beyond (subst (λ (f : Edge). IsNearTo k m f q) x near))
-        (λ (x : e ≡ back g). not_near k m g q beyond (near_back k m g q (subst (λ (f : Edge). IsNearTo k m f q) x near)))
+        (λ (x : e ≡ back g). not_near k m g q beyond
+        (near_back k m g q (subst (λ (f : Edge). IsNearTo k m f q) x near)))
         ((decides_ends e g).0 same))
         (λ (others : occurs e gs ≡ true). far e others near)
         (or_cases (same_ends e g) (occurs e gs) listed)
@@ -82,7 +85,8 @@ at_itself k b m es q h = record {
     none x = let e : unsigned_abs ((pos 1 *ℤ x) -ℤ x) ≡ 0 = omega (arith, ints) in omega (arith, e)
 
 -- a point near an edge that was drawn along a section is such
-pub beside_drawn : (k b m : ℕ) (es : List Edge) (q : Point) → IsNearSuch (IsDrawnAlong b es) k m q → IsReachedWithin k b m es q
+pub beside_drawn : (k b m : ℕ) (es : List Edge) (q : Point) → IsNearSuch (IsDrawnAlong b es) k m q →
+    IsReachedWithin k b m es q
 beside_drawn k b m es q h = record {
   grid = h.near.grid;
   positive = h.near.positive;
@@ -95,7 +99,9 @@ beside_drawn k b m es q h = record {
 -- ---- lists of lists
 
 -- what holds of all of the lists together holds of each
-pub nested : {A B : Type 0} (P : B → Type 0) (f : A → List B) (xs : List A) → All P (flat_map f xs) → All (λ (x : A). All P (f x)) xs
+pub nested : {A B : Type 0} (P : B → Type 0) (f : A → List B) (xs : List A) → All P (flat_map f xs) →
+    All (λ (x : A). All P (f x)) xs
 nested {A} P f [] h = All-nil (λ (x : A). All P (f x))
 nested {A} P f (x ∷ xs) h =
-    All-cons (λ (x : A). All P (f x)) x xs (all_left P (f x) (flat_map f xs) h) (nested P f xs (all_right P (f x) (flat_map f xs) h))
+    All-cons (λ (x : A). All P (f x)) x xs (all_left P (f x) (flat_map f xs) h)
+    (nested P f xs (all_right P (f x) (flat_map f xs) h))

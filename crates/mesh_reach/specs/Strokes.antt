@@ -1,11 +1,14 @@
 -- How far strokes reach from their paths, as twice the square of a distance.
-use Rattle.std.specs.Prelude.{ℕ, ◌*◌, ◌≤◌, ◌^◌, ◌≢◌, max, Bool, true, false, List, ℤ, pos, unsigned_abs}
+use Rattle.std.specs.Prelude.{ℕ, ◌*◌, ◌≤◌, ◌^◌, ◌≡◌, ◌≢◌, max, Bool, true, false, ◌&&◌, ◌||◌, IsTrue, List, ℤ, pos}
+use Rattle.std.specs.Prelude.{unsigned_abs}
 use Rattle.std.specs.List.{All}
 use Rattle.mesh_plane.specs.Plane.{Point}
 use Rattle.mesh_plane.specs.Winding.{winding}
+use Rattle.mesh_join.specs.declared.style.IntLineJoin.{IntLineJoin}
+use Rattle.mesh_join.specs.declared.style.IntLineJoin.TheVariants.{Bevel, Miter, Round}
 use Rattle.mesh_join.specs.declared.style.StrokeSide.{StrokeSide}
 use Rattle.mesh_join.specs.declared.style.StrokeSide.TheVariants.{Both, Left, Right}
-use Rattle.mesh_stroke.specs.Caps.{CapKind}
+use Rattle.mesh_stroke.specs.Caps.{CapKind, drawn_cap}
 use Rattle.mesh_stroke.specs.CustomCaps.{greatest_length}
 use Rattle.mesh_stroke.specs.Paths.{path_edges}
 use Rattle.mesh_stroke.specs.Strokes.{stroke_edges, stroke_pieces}
@@ -44,3 +47,29 @@ StrokeEdgesReach =
     (unit : ℕ) → 2 ^ 14 ≤ unit → (style : StrokeStyle) (closed : Bool) (points : List Point) (m : ℕ) (q : Point)
     → winding m q (stroke_edges unit style closed points) ≢ pos 0
     → IsReachedByOne (stroke_reach style closed) m (path_edges closed points) q
+
+-- whether a join of each kind reaches no farther than the radius, but for rounding
+abbrev pub join_keeps_radius : IntLineJoin → Bool
+join_keeps_radius Bevel = true
+join_keeps_radius (Miter _) = false
+join_keeps_radius (Round _) = true
+
+-- and whether a cap does
+abbrev pub cap_keeps_radius : CapKind → Bool
+cap_keeps_radius CapKind.Butt = true
+cap_keeps_radius CapKind.Square = false
+cap_keeps_radius (CapKind.Round _) = true
+cap_keeps_radius (CapKind.Custom _) = false
+
+-- the joins of a stroke do, and the caps that are drawn
+abbrev pub KeepsRadius : StrokeStyle → Bool → Type 0
+KeepsRadius style closed =
+    IsTrue (join_keeps_radius style.join.kind
+    && (closed
+    || (cap_keeps_radius (drawn_cap style.side style.start) && cap_keeps_radius (drawn_cap style.side style.end))))
+
+-- such a stroke reaches as far as its radius and rounding
+abbrev pub KeptRadiiReach : Type 0
+KeptRadiiReach =
+    (style : StrokeStyle) (closed : Bool) → KeepsRadius style closed
+    → stroke_reach style closed ≡ rounded_reach (unsigned_abs style.radius)

@@ -3,7 +3,7 @@
 ghost use Rattle.mesh_reach.specs.Answers.{OutlineAnswersReach, StrokeAnswersReach};
 ghost use Rattle.mesh_reach.specs.Outlines.{OutlineEdgesReach, OutlinesReach};
 ghost use Rattle.mesh_reach.specs.Reach.{ListsReachAsTheirPoints};
-ghost use Rattle.mesh_reach.specs.Strokes.{StrokeEdgesReach, StrokesReach};
+ghost use Rattle.mesh_reach.specs.Strokes.{KeptRadiiReach, StrokeEdgesReach, StrokesReach};
 
 /// A closed list of points that are each at most some distance from an end of an edge holds no point that is farther
 /// than that from the edge.
@@ -11,14 +11,19 @@ pub fn lists_reach_as_their_points()
     ensures { ListsReachAsTheirPoints }
 {}
 
-/// Each point that a piece of a stroke holds is near a section of the path. With bevels or round joins, and butt or
-/// round caps where the path is open, it is at most the radius and the root of a half away, in grid units. How far
-/// miters and other caps reach is told by `stroke_reach`.
+/// Each point that a piece of a stroke holds is as near to a section of the path as `stroke_reach` says for its joins
+/// and caps.
 pub fn strokes_reach()
     ensures { StrokesReach }
 {}
 
-/// So is each point round which the edges of a stroke wind.
+/// With bevels or round joins, and butt or round caps where caps are drawn, that is as far as the radius and about the
+/// root of a half: twice the square of the distance is at most `2 * r * r + 3 * r + 1`, by the radius `r`.
+pub fn kept_radii_reach()
+    ensures { KeptRadiiReach }
+{}
+
+/// Each point round which the edges of a stroke wind is as near to a section of the path.
 pub fn stroke_edges_reach()
     ensures { StrokeEdgesReach }
 {}
