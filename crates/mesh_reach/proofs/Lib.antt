@@ -1,3 +1,4 @@
+pub mod ArcPieces
 pub mod CapPoints
 pub mod Feet
 pub mod JoinPoints
@@ -13,4 +14,5 @@ pub mod StrokeAnswers
 pub mod StrokeEdges
 pub mod StrokePieces
 pub mod StrokePoints
+pub mod VariablePieces
 pub mod Within

@@ -3,3 +3,4 @@ pub mod Joins
 pub mod Outlines
 pub mod Reach
 pub mod Strokes
+pub mod VariableStrokes

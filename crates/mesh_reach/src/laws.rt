@@ -4,6 +4,7 @@ ghost use Rattle.mesh_reach.specs.Answers.{OutlineAnswersReach, StrokeAnswersRea
 ghost use Rattle.mesh_reach.specs.Outlines.{OutlineEdgesReach, OutlinesReach};
 ghost use Rattle.mesh_reach.specs.Reach.{ListsReachAsTheirPoints};
 ghost use Rattle.mesh_reach.specs.Strokes.{KeptRadiiReach, StrokeEdgesReach, StrokesReach};
+ghost use Rattle.mesh_reach.specs.VariableStrokes.{VariableStrokeEdgesReach, VariableStrokesReach};
 
 /// A closed list of points that are each at most some distance from an end of an edge holds no point that is farther
 /// than that from the edge.
@@ -52,4 +53,15 @@ pub fn outline_edges_reach()
 /// coordinates, of a point as near to a section of a contour as the outline reaches.
 pub fn outline_answers_reach()
     ensures { OutlineAnswersReach }
+{}
+
+/// Each point that a piece of a stroke of variable width holds is as near to a vertex as the radius there says, or to a
+/// section as the greater radius of its ends says: at most that radius and about the root of a half away.
+pub fn variable_strokes_reach()
+    ensures { VariableStrokesReach }
+{}
+
+/// So is each point round which the edges of such a stroke wind.
+pub fn variable_stroke_edges_reach()
+    ensures { VariableStrokeEdgesReach }
 {}
