@@ -1,13 +1,13 @@
 -- Lemmas over points and lists: pieces that were drawn along edges hold points near these.
 use Rattle.std.proofs.Common.{◌≡◌, ℕ, ◌*◌, ◌≤◌, ◌⊎◌, inl, inr, List, [], ◌∷◌, refl, sym, subst, not, true, false, arith}
-use Rattle.std.specs.Prelude.{pos, Bool}
+use Rattle.std.specs.Prelude.{IsTrue, pos, Bool}
 use Rattle.std.specs.List.{All, Contains}
 use Rattle.std.specs.Ordering.{int_eq}
 use Rattle.std.proofs.Math.Nat.{mul-le-mul_right}
 use Rattle.std.proofs.lemmas.Bool.Decides.{Decides-int_eq}
-use Rattle.std.proofs.lemmas.List.Elements.{All-nil, All-cons, All-head, All-tail, All-contains}
+use Rattle.std.proofs.lemmas.List.Elements.{All-nil, All-cons, All-head, All-tail, All-weaker, All-contains}
 use Rattle.mesh_plane.specs.Plane.{Point, Edge}
-use Rattle.mesh_plane.specs.Winding.{boundary, fan, winding, crossing_on, pieces_total}
+use Rattle.mesh_plane.specs.Winding.{boundary, fan, winding, holds, crossing_on, pieces_total}
 use Rattle.mesh_plane.proofs.Whole.{linear}
 use Rattle.mesh_lattice.specs.Clean.{IsOn, refined_edge}
 use Rattle.mesh_reach.specs.Reach.{IsReached, IsByEnd, IsReachedByOne, HoldsNear}
@@ -106,17 +106,27 @@ drawn_more a b es all more listed g h = record {
     by_end_more e p (inl n) = inl (omega (arith, n, more))
     by_end_more e p (inr n) = inr (omega (arith, n, more))
 
--- where the windings of pieces do not add up to 0, one of them holds the point
-pub held_by_one : (b m : ℕ) (es : List Edge) (q : Point) (pieces : List (List Point)) → All (HoldsNear b es) pieces →
-    (pieces_total (crossing_on m q) pieces ≡ pos 0 → ⊥) → IsReachedByOne b m es q
-held_by_one b m es q [] h some = absurd (some refl)
-held_by_one b m es q (piece ∷ pieces) h some =
-    by (held_by_one b m es q pieces (All-tail (HoldsNear b es) piece pieces h))
-    (int_eq (winding m q (boundary piece)) (pos 0)) refl
+-- where the windings of pieces do not add up to 0, what each that holds the point shows is so
+pub held_one : (R : Type 0) (m : ℕ) (q : Point) (pieces : List (List Point)) →
+    All (λ (piece : List Point). IsTrue (holds m q piece) → R) pieces →
+    (pieces_total (crossing_on m q) pieces ≡ pos 0 → ⊥) → R
+held_one R m q [] h some = absurd (some refl)
+held_one R m q (piece ∷ pieces) h some =
+    by (held_one R m q pieces (All-tail Shows piece pieces h)) (int_eq (winding m q (boundary piece)) (pos 0)) refl
   where
-    by : ((pieces_total (crossing_on m q) pieces ≡ pos 0 → ⊥) → IsReachedByOne b m es q) →
-        (t : Bool) → int_eq (winding m q (boundary piece)) (pos 0) ≡ t → IsReachedByOne b m es q
+    Shows : List Point → Type 0
+    Shows one = IsTrue (holds m q one) → R
+
+    by : ((pieces_total (crossing_on m q) pieces ≡ pos 0 → ⊥) → R) →
+        (t : Bool) → int_eq (winding m q (boundary piece)) (pos 0) ≡ t → R
     by others true e =
         let none : winding m q (boundary piece) ≡ pos 0 = (Decides-int_eq (winding m q (boundary piece)) (pos 0)).0 e in
         others (λ (rest : pieces_total (crossing_on m q) pieces ≡ pos 0). some (omega (arith, linear, none, rest)))
-    by others false e = All-head (HoldsNear b es) piece pieces h m q (λ i. not (e i))
+    by others false e = All-head Shows piece pieces h (λ i. not (e i))
+
+pub held_by_one : (b m : ℕ) (es : List Edge) (q : Point) (pieces : List (List Point)) → All (HoldsNear b es) pieces →
+    (pieces_total (crossing_on m q) pieces ≡ pos 0 → ⊥) → IsReachedByOne b m es q
+held_by_one b m es q pieces h some =
+    held_one (IsReachedByOne b m es q) m q pieces
+    (All-weaker (HoldsNear b es) (λ (piece : List Point). IsTrue (holds m q piece) → IsReachedByOne b m es q)
+    (λ piece k. k m q) pieces h) some

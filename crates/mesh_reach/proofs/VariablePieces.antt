@@ -1,22 +1,19 @@
 -- Lemmas over points and lists: the pieces of a stroke of variable width lie along its vertices and sections.
 use Rattle.std.proofs.Common.{◌≡◌, ◌≢◌, ℕ, ◌*◌, ◌<◌, ◌≤◌, ◌^◌, ⊎_elim, inl, inr, List, [], ◌∷◌, ◌++◌, Bool, true, false}
-use Rattle.std.proofs.Common.{get_or, not, refl, sym, subst, map, arith}
-use Rattle.std.specs.Prelude.{ℤ, pos, ◌≤ℤ◌, unsigned_abs, ◌||◌, ◌&&◌, int_le, if◌then◌else◌, Option, Some, None, max}
+use Rattle.std.proofs.Common.{get_or, refl, sym, subst, map, arith}
+use Rattle.std.specs.Prelude.{IsTrue, ℤ, pos, ◌≤ℤ◌, unsigned_abs, ◌||◌, ◌&&◌, int_le, if◌then◌else◌, Option, Some, None, max}
 use Rattle.std.specs.List.{All, Contains, flat_map}
 use Rattle.std.specs.Option.{option_to_list}
-use Rattle.std.specs.Ordering.{int_eq}
 use Rattle.std.proofs.lemmas.Bool.{cases_lt, cond_both, leb-false, not-false, or_parts}
-use Rattle.std.proofs.lemmas.Bool.Decides.{Decides-int_eq}
 use Rattle.std.proofs.lemmas.List.Elements.{All-nil, All-cons, All-head, All-tail, All-append, All-map, All-weaker}
 use Rattle.std.proofs.lemmas.List.Elements.{All-contains_itself}
 use Rattle.std.proofs.lemmas.Nat.{mul-lt}
 use Rattle.mesh_plane.specs.Plane.{Point, minus, length_sq}
 use Rattle.mesh_plane.specs.Turning.{last_of}
-use Rattle.mesh_plane.specs.Winding.{boundary, winding, same_point, crossing_on, pieces_total}
+use Rattle.mesh_plane.specs.Winding.{holds, winding, same_point, crossing_on, pieces_total}
 use Rattle.mesh_plane.proofs.ClosedLists.{all_both, all_flat_map, all_left, all_mapped, all_right}
 use Rattle.mesh_plane.proofs.Comparing.{decides_point}
 use Rattle.mesh_plane.proofs.Crossings.{crossing_on_odd}
-use Rattle.mesh_plane.proofs.Whole.{linear}
 use Rattle.mesh_arc.specs.declared.arc.ArcOptions.{ArcOptions}
 use Rattle.mesh_join.specs.VariableStyles.{Vertex}
 use Rattle.mesh_offset.specs.Walks.{pairs}
@@ -46,6 +43,7 @@ use Rattle.mesh_reach.specs.VariableStrokes.{Span, span_round, span_between, spa
 use Rattle.mesh_reach.proofs.ArcPieces.{IsAlongSpan, HasRound, round_along, circle_along, arc_along}
 use Rattle.mesh_reach.proofs.JoinPoints.{IsBy, by_more, moved_by}
 use Rattle.mesh_reach.proofs.Lists.{lists_reach}
+use Rattle.mesh_reach.proofs.Pieces.{held_one}
 use Rattle.mesh_reach.proofs.Rounded.{normal_length_most, rounded_reach_more}
 
 -- how far a circle reaches
@@ -446,20 +444,6 @@ holds_by : (spans : List Span) (piece : List Point) → IsAlongSpan spans piece 
 holds_by spans piece h m q held =
     record { span = h.span; listed = h.listed; reached = lists_reach h.span.reach m h.span.edge piece q h.near held }
 
-held_by_span : (spans : List Span) (m : ℕ) (q : Point) (pieces : List (List Point)) → All (HoldsBySpans spans) pieces →
-    (pieces_total (crossing_on m q) pieces ≡ pos 0 → ⊥) → IsReachedBySpan m spans q
-held_by_span spans m q [] h some = absurd (some refl)
-held_by_span spans m q (piece ∷ pieces) h some =
-    by (held_by_span spans m q pieces (All-tail (HoldsBySpans spans) piece pieces h))
-    (int_eq (winding m q (boundary piece)) (pos 0)) refl
-  where
-    by : ((pieces_total (crossing_on m q) pieces ≡ pos 0 → ⊥) → IsReachedBySpan m spans q) →
-        (t : Bool) → int_eq (winding m q (boundary piece)) (pos 0) ≡ t → IsReachedBySpan m spans q
-    by others true e =
-        let none : winding m q (boundary piece) ≡ pos 0 = (Decides-int_eq (winding m q (boundary piece)) (pos 0)).0 e in
-        others (λ (rest : pieces_total (crossing_on m q) pieces ≡ pos 0). some (omega (arith, linear, none, rest)))
-    by others false e = All-head (HoldsBySpans spans) piece pieces h m q (λ i. not (e i))
-
 module _ (unit : ℕ) (least : 2 ^ 14 ≤ unit) (options : ArcOptions) (vertices : List Vertex) where
   pub variable_strokes_reach : All (HoldsBySpans (spans_of (circles_of vertices)))
       (variable_stroke_pieces unit options vertices)
@@ -479,8 +463,10 @@ module _ (unit : ℕ) (least : 2 ^ 14 ≤ unit) (options : ArcOptions) (vertices
       winding m q (variable_stroke_edges unit options vertices) ≢ pos 0 →
       IsReachedBySpan m (spans_of (circles_of vertices)) q
   variable_stroke_edges_reach m q winds =
-      held_by_span (spans_of (circles_of vertices)) m q
-      (variable_stroke_pieces unit options vertices) variable_strokes_reach
+      held_one (IsReachedBySpan m (spans_of (circles_of vertices)) q) m q (variable_stroke_pieces unit options vertices)
+      (All-weaker (HoldsBySpans (spans_of (circles_of vertices)))
+      (λ (piece : List Point). IsTrue (holds m q piece) → IsReachedBySpan m (spans_of (circles_of vertices)) q)
+      (λ piece k. k m q) (variable_stroke_pieces unit options vertices) variable_strokes_reach)
       (λ (none : pieces_total (crossing_on m q) (variable_stroke_pieces unit options vertices) ≡ pos 0).
       winds (subst (λ (z : ℤ). z ≡ pos 0) (sym (variable_total (crossing_on m q)
       (crossing_on_odd m q) unit options vertices)) none))
