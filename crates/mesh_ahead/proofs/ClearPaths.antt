@@ -25,7 +25,8 @@ use Rattle.mesh_split.specs.Told.{IsToldSplitting}
 use Rattle.mesh_split.proofs.Clean.{apart_of, share_of_apart}
 use Rattle.mesh_split.proofs.Paths.{comes_from, path_of_edge}
 use Rattle.mesh_split.proofs.Sharing.{apart_back, apart_swap, ShareNoInside}
-use Rattle.mesh_ahead.specs.Ahead.{AreAllClear, AreSettled, IsMadeAmong}
+use Rattle.mesh_clear.specs.AllClear.{AreAllClear}
+use Rattle.mesh_ahead.specs.Ahead.{AreSettled, IsMadeAmong}
 use Rattle.mesh_paths.proofs.Merged.{after_alike}
 use Rattle.mesh_ahead.proofs.Alike.{merged_alike}
 use Rattle.mesh_ahead.proofs.Origins.{origin, IsPartOf}

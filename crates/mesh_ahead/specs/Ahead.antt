@@ -3,18 +3,12 @@ use Rattle.std.specs.Prelude.{ℕ, List}
 use Rattle.mesh_plane.specs.Plane.{Edge}
 use Rattle.mesh_lattice.specs.Clean.{IsClean}
 use Rattle.mesh_lattice.specs.Counted.{Counted}
-use Rattle.mesh_lattice.specs.Split.{after, AreClear, EdgeSplit}
+use Rattle.mesh_lattice.specs.Split.{after, EdgeSplit}
 use Rattle.mesh_split.specs.Counting.{CountsAmong}
 use Rattle.mesh_split.specs.Told.{IsToldSplitting}
 use Rattle.mesh_split.specs.declared.count.SplitCount.{SplitCount}
-use Rattle.mesh_paths.specs.declared.paths.Paths.{Paths}
-use Rattle.mesh_paths.specs.declared.paths.Piece.{Piece}
-use Rattle.mesh_paths.specs.Paths.{edge_of, IsPieceOf}
 use Rattle.mesh_paths.specs.Pieces.{AreReached}
-
--- any two pieces of paths are clear of each other
-abbrev pub AreAllClear : Paths → Type 0
-AreAllClear p = (a b : Piece) → IsPieceOf p a → IsPieceOf p b → AreClear (edge_of p a) (edge_of p b)
+use Rattle.mesh_ahead.specs.Counting.{most_attempts}
 
 -- the segments that legal splits make of given edges, each once, with its net count, any two of which share only common
 -- ends
@@ -27,6 +21,6 @@ pub record IsMadeAmong (most : ℕ) (given : List Edge) (old new : SplitCount) (
   pub told : IsToldSplitting given segments k
   pub counted : CountsAmong most given old new told.splitting.splits
 
--- so many attempts are made, at most: one in arrays, and those of the splitting in rounds
-abbrev pub most_attempts : ℕ
-most_attempts = 52
+-- the same of all attempts that are made
+abbrev pub IsCountedSplitting : List Edge → SplitCount → SplitCount → List Counted → ℕ → Type 0
+IsCountedSplitting = IsMadeAmong most_attempts

@@ -18,7 +18,7 @@ use mesh_paths::paths::Paths;
 use std::alloc::{AllocError, Global};
 
 /// Whether the paths of two edges that met are clear of each other.
-fn is_meeting_clear(paths: &Paths, bends: &[u64], m: Meeting, left: &mut usize) -> bool
+pub fn is_meeting_clear(paths: &Paths, bends: &[u64], m: Meeting, left: &mut usize) -> bool
     requires bends { AreBends paths.now bends.now }
     requires meeting { IsMeeting paths.now.edges.items m }
     ensures { IsTrue result → IsClearMeeting paths.now m }
@@ -43,7 +43,7 @@ fn are_meetings_clear(paths: &Paths, bends: &[u64], meetings: &[Meeting], left: 
 }
 
 /// Whether the paths of two close edges are clear of each other.
-fn is_pair_clear(paths: &Paths, bends: &[u64], pair: (u32, u32), left: &mut usize) -> bool
+pub fn is_pair_clear(paths: &Paths, bends: &[u64], pair: (u32, u32), left: &mut usize) -> bool
     requires bends { AreBends paths.now bends.now }
     requires pair { IsClose paths.now.edges.items pair }
     ensures { IsTrue result → IsClearPair paths.now pair }

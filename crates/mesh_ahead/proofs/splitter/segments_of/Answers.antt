@@ -1,6 +1,6 @@
 use Rattle.mesh_split.proofs.Pairs.{if_ok}
 use Rattle.mesh_ahead.proofs.ClearPaths.{settled_as}
-use Rattle.mesh_ahead.proofs.ahead.segments_of.Goals as goal
+use Rattle.mesh_ahead.proofs.splitter.segments_of.Goals as goal
 
 pub returns-clause-settled : goal.returns-clause-settled
 returns-clause-settled c =

@@ -1,34 +1,43 @@
-//! Edges split in arrays, and in rounds where that is given up.
+//! Edges split in arrays, and in rounds where that is given up: the public calls.
 
-ghost use Rattle.std.specs.Prelude.{◌≡◌, ◌≤◌, ◌^◌, IfErr, IfOk, IfSome, IsTrue, OnOk};
+ghost use Rattle.std.specs.Prelude.{◌≡◌, ◌≤◌, ◌^◌, List, IfErr, IfOk, IfSome, IsTrue, OnOk};
+ghost use Rattle.mesh_plane.specs.Plane.{Edge};
 ghost use Rattle.mesh_plane.specs.Winding.{sum_of};
 ghost use Rattle.mesh_lattice.specs.Clean.{IsProper};
 ghost use Rattle.mesh_lattice.specs.Counted.{size, IsRoomy};
 ghost use Rattle.mesh_lattice.specs.Splitting.{IsSplitting};
 ghost use Rattle.mesh_split.specs.Counting.{counted, CountsAtMost, IsReason, IsWithinLimit};
 ghost use Rattle.mesh_split.specs.Told.{IsToldSplitting};
+ghost use Rattle.mesh_pairs.specs.Pairs.{AreFound};
+ghost use Rattle.mesh_paths.specs.Paths.{ArePaths};
 ghost use Rattle.mesh_attempt.specs.Attempts.{AreCut};
-ghost use Rattle.mesh_ahead.specs.Ahead.{most_attempts, AreAllClear, AreSettled, IsMadeAmong};
+ghost use Rattle.mesh_clear.specs.AllClear.{AreAllClear};
+ghost use Rattle.mesh_ahead.specs.Ahead.{AreSettled, IsCountedSplitting, IsMadeAmong};
+ghost use Rattle.mesh_ahead.specs.Counting.{CountsSplits};
 
+use crate::boxes::do_boxes_tell;
+use crate::mending::mend;
 use crate::nearness::nearness;
 use crate::segments::counted_segments;
 use mesh_attempt::attempt::{CutEdges, cut_edges};
+use mesh_clear::check::are_all_clear;
 use mesh_lattice::lattice::{CountedSegment, LatticeEdge};
 use mesh_paths::pieces::collect;
 use mesh_split::count::{SplitCount, SplitError};
-use mesh_split::splitter;
-use mesh_split::splitter::ToldSplitting;
+use mesh_split::splitter as rounds;
+pub use mesh_split::splitter::ToldSplitting;
 use std::alloc::{AllocError, Global};
 
-/// Where more pairs meet, the attempt is given up.
-const MOST_MEETINGS: usize = 1 << 26;
+/// Where more pairs of edges meet or come close, an attempt is given up. A pair takes 24 bytes, so twice as many would take
+/// twice the memory.
+const MOST_PAIRS: usize = 1 << 23;
 
-/// Whether any two pieces are found to be clear of each other.
-fn is_clear(cut: &CutEdges) -> bool
-    ensures { IsTrue result → AreAllClear cut.now.paths }
-{
-    false
-}
+/// Of pieces that lines do not part so many pairs are compared for each edge, before an attempt is given up. Twice as many
+/// would serve some combs and hatches, and cost others as much again before the rounds.
+const COMPARISONS: usize = 16;
+
+/// Pieces that meet still are cut again so often. What meets then seldom comes to an end.
+const TURNS: usize = 4;
 
 /// The pieces as segments, where no two of them meet.
 fn segments_of(
@@ -59,6 +68,44 @@ fn count_on(count: &mut SplitCount, splits: usize) -> Result<(), SplitError>
     Ok(())
 }
 
+/// Whether any two pieces are clear of each other, once those that meet still were cut again, a few times at most.
+fn settle(alloc: Global, cut: &mut CutEdges, most: usize) -> Result<bool, AllocError>
+    requires paths { ArePaths cut.old.paths }
+    requires found { AreFound cut.old.paths.edges.items cut.old.pairs }
+    ensures cut { OnOk result ((given : List Edge) → AreCut given cut.old → AreCut given cut.new) }
+    ensures clear { IfOk result (λ clear. IsTrue clear → AreAllClear cut.new.paths) }
+{
+    for _ in 0..TURNS {
+        if are_all_clear(alloc, &cut.paths, &cut.pairs, most)? {
+            return Ok(true);
+        }
+        if !mend(alloc, &mut cut.paths, &cut.pairs, most)? {
+            return Ok(false);
+        }
+    }
+    Ok(false)
+}
+
+/// The paths that edges are cut into, and whether their pieces are clear of each other. `None` where an attempt would not
+/// serve.
+fn cut_and_settled(
+    alloc: Global,
+    edges: &[LatticeEdge],
+) -> Result<Option<(CutEdges, bool)>, AllocError>
+    requires { IsProper edges.now }
+    ensures cut { IfOk result (λ o. IfSome o (λ c. AreCut edges.now c.0)) }
+    ensures clear { IfOk result (λ o. IfSome o (λ c. IsTrue c.1 → AreAllClear c.0.paths)) }
+{
+    if !do_boxes_tell(edges) {
+        return Ok(None);
+    }
+    let Some(mut cut) = cut_edges(alloc, edges, MOST_PAIRS)? else {
+        return Ok(None);
+    };
+    let clear = settle(alloc, &mut cut, edges.len().saturating_mul(COMPARISONS))?;
+    Ok(Some((cut, clear)))
+}
+
 /// Splits edges in arrays. `None` where that is given up: the edges have to be split another way then.
 fn splitting_in_arrays(
     alloc: Global,
@@ -68,10 +115,10 @@ fn splitting_in_arrays(
     ensures splitting { IfOk result (λ o. IfSome o (λ v. IsSplitting edges.now v.items)) }
     ensures room { IfOk result (λ o. IfSome o (λ v. IsRoomy (sum_of size v.items))) }
 {
-    let Some(cut) = cut_edges(alloc, edges, MOST_MEETINGS)? else {
+    let Some((cut, clear)) = cut_and_settled(alloc, edges)? else {
         return Ok(None);
     };
-    if !is_clear(&cut) {
+    if !clear {
         return Ok(None);
     }
     Ok(Some(segments_of(alloc, edges, &cut)?))
@@ -94,11 +141,11 @@ fn told_in_arrays(
 {
     // Read, so that it is known to fit: a return before any split is made counts none.
     let _made = count.made;
-    let Some(cut) = cut_edges(alloc, edges, MOST_MEETINGS)? else {
+    let Some((cut, clear)) = cut_and_settled(alloc, edges)? else {
         return Ok(None);
     };
     count_on(count, cut.paths.splits.made().len())?;
-    if !is_clear(&cut) {
+    if !clear {
         return Ok(None);
     }
     let nearness = nearness(&cut.paths);
@@ -118,7 +165,7 @@ pub fn split_edges(alloc: Global, edges: &[LatticeEdge]) -> Result<Vec<CountedSe
     if let Some(segments) = splitting_in_arrays(alloc, edges)? {
         return Ok(segments);
     }
-    splitter::split_edges(alloc, edges)
+    rounds::split_edges(alloc, edges)
 }
 
 /// The same, and tells how near the splits lie to the edges. The splits are counted on, those of attempts that were
@@ -130,16 +177,17 @@ pub fn split_edges_told(
     count: &mut SplitCount,
 ) -> Result<ToldSplitting, SplitError>
     requires { IsProper edges.now }
-    ensures made { IfOk result (λ told.
-        IsMadeAmong most_attempts edges.now count.old count.new told.segments.items told.nearness) }
+    ensures splitting { IfOk result (λ told. IsToldSplitting edges.now told.segments.items told.nearness) }
     ensures room { IfOk result (λ told. IsRoomy (sum_of size told.segments.items)) }
     ensures small { IfOk result (λ told. told.nearness ≤ 2 ^ 38) }
-    ensures counted { CountsAtMost most_attempts edges.now count.old count.new }
+    ensures counted { CountsSplits edges.now count.old count.new }
+    ensures standing { IfOk result (λ told.
+        IsCountedSplitting edges.now count.old count.new told.segments.items told.nearness) }
     ensures within { OnOk result (IsWithinLimit count.new) }
     ensures refused { IfErr result (λ e. IsReason e count.new) }
 {
     if let Some(told) = told_in_arrays(alloc, edges, count)? {
         return Ok(told);
     }
-    splitter::split_edges_told(alloc, edges, count)
+    rounds::split_edges_told(alloc, edges, count)
 }

@@ -1,5 +1,5 @@
 use Rattle.mesh_ahead.proofs.ClearPaths.{splitting_of}
-use Rattle.mesh_ahead.proofs.ahead.splitting_in_arrays.Goals as goal
+use Rattle.mesh_ahead.proofs.splitter.splitting_in_arrays.Goals as goal
 
 pub returns-clause-splitting : goal.returns-clause-splitting
 returns-clause-splitting c =

@@ -1,0 +1,83 @@
+//! Pairs of paths that are not known to be clear of each other.
+
+ghost use Rattle.std.specs.Prelude.{IfOk, IfSome, OnOk};
+ghost use Rattle.std.specs.List.{All};
+ghost use Rattle.mesh_pairs.specs.Pairs.{AreFound, IsClose, IsMeeting};
+ghost use Rattle.mesh_paths.specs.Paths.{ArePaths};
+ghost use Rattle.mesh_clear.specs.AllClear.{ArePathsOf};
+ghost use Rattle.mesh_clear.specs.Private.Looking.{AreBends};
+
+use crate::bends::bends_of;
+use crate::check::{is_meeting_clear, is_pair_clear};
+use crate::fit::are_fit;
+use mesh_pairs::pairs::{Meeting, Pairs};
+use mesh_paths::paths::Paths;
+use std::alloc::{AllocError, Global};
+
+/// Adds the pairs that met and are not known to be clear.
+fn push_meetings(
+    paths: &Paths,
+    bends: &[u64],
+    meetings: &[Meeting],
+    left: &mut usize,
+    doubts: &mut Vec<(u32, u32)>,
+) -> Result<(), AllocError>
+    requires bends { AreBends paths.now bends.now }
+    requires meetings { All (IsMeeting paths.now.edges.items) meetings.now }
+    requires paths { All (ArePathsOf paths.now) doubts.old.items }
+    ensures { OnOk result (All (ArePathsOf paths.now) doubts.new.items) }
+{
+    for m in meetings {
+        if !is_meeting_clear(paths, bends, *m, left) {
+            doubts.push((m.first, m.second))?;
+        }
+    }
+    Ok(())
+}
+
+/// Adds the close pairs that are not known to be clear.
+fn push_close(
+    paths: &Paths,
+    bends: &[u64],
+    close: &[(u32, u32)],
+    left: &mut usize,
+    doubts: &mut Vec<(u32, u32)>,
+) -> Result<(), AllocError>
+    requires bends { AreBends paths.now bends.now }
+    requires close { All (IsClose paths.now.edges.items) close.now }
+    requires paths { All (ArePathsOf paths.now) doubts.old.items }
+    ensures { OnOk result (All (ArePathsOf paths.now) doubts.new.items) }
+{
+    for pair in close {
+        if !is_pair_clear(paths, bends, *pair, left) {
+            doubts.push(*pair)?;
+        }
+    }
+    Ok(())
+}
+
+/// Pairs of paths whose edges met or were close and whose pieces are not known to be clear of each other, where that takes
+/// no more than `most` comparisons of pieces. Nothing where a path is bent by more than 8 units, and where a coordinate
+/// is not below 2^30 in size.
+pub fn doubtful_pairs(
+    alloc: Global,
+    paths: &Paths,
+    pairs: &Pairs,
+    most: usize,
+) -> Result<Option<Vec<(u32, u32)>>, AllocError>
+    requires paths { ArePaths paths.now }
+    requires found { AreFound paths.now.edges.items pairs.now }
+    ensures { IfOk result (λ o. IfSome o (λ doubts. All (ArePathsOf paths.now) doubts.items)) }
+{
+    if !are_fit(paths) {
+        return Ok(None);
+    }
+    let Some(bends) = bends_of(alloc, paths)? else {
+        return Ok(None);
+    };
+    let mut left = most;
+    let mut doubts = Vec::new(alloc);
+    push_meetings(paths, &bends, &pairs.meetings, &mut left, &mut doubts)?;
+    push_close(paths, &bends, &pairs.close, &mut left, &mut doubts)?;
+    Ok(Some(doubts))
+}
