@@ -13,7 +13,7 @@ use Rattle.mesh_lattice.specs.Split.{EdgeSplit, after, occurs}
 use Rattle.mesh_regions.specs.BoundaryLaws.{once}
 use Rattle.mesh_shapes.specs.Resolution.{Choices, IsResolution}
 use Rattle.mesh_below.specs.Laws.{AreRegions}
-use Rattle.mesh_split.specs.Counting.{CountsWith}
+use Rattle.mesh_ahead.specs.Counting.{CountsWith}
 use Rattle.mesh_split.specs.declared.count.SplitCount.{SplitCount}
 use Rattle.mesh_below.specs.Nearness.{AreCountedRegions, AreRegionsBeyond, IsCountedResolution, IsNearResolution}
 use Rattle.mesh_below.proofs.Again.{answer_covered}

@@ -9,7 +9,7 @@ use Rattle.mesh_lattice.specs.Split.{after, occurs}
 use Rattle.mesh_regions.specs.BoundaryLaws.{once}
 use Rattle.mesh_shapes.specs.Contours.{vertices}
 use Rattle.mesh_shapes.specs.Resolution.{Choices, IsResolution}
-use Rattle.mesh_split.specs.Counting.{CountsWith}
+use Rattle.mesh_ahead.specs.Counting.{CountsWith}
 use Rattle.mesh_split.specs.declared.count.SplitCount.{SplitCount}
 use Rattle.mesh_below.specs.Laws.{AreRegions}
 

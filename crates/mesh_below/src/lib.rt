@@ -21,4 +21,5 @@ pub mod nearness;
 mod resolve;
 
 pub use mesh_lattice::{fill, lattice};
-pub use mesh_split::{count, splitter};
+pub use mesh_ahead::splitter;
+pub use mesh_split::count;

@@ -15,12 +15,14 @@ ghost use Rattle.mesh_below.specs.Nearness.{IsCountedResolution};
 ghost use Rattle.mesh_below.specs.Options.{chosen};
 ghost use Rattle.mesh_below.specs.Private.Resolving.{ResolvesBy};
 ghost use Rattle.mesh_below.specs.Private.Rings.{AreRingsOf, PushesRing};
-ghost use Rattle.mesh_split.specs.Counting.{CountsSplits, IsPastLimit, IsWithinLimit};
+ghost use Rattle.mesh_ahead.specs.Counting.{CountsSplits};
+ghost use Rattle.mesh_split.specs.Counting.{IsPastLimit, IsWithinLimit};
 ghost use Rattle.mesh_split.specs.declared.count.SplitError.TheVariants.{TooManySplits};
 ghost use Rattle.mesh_shapes.specs.Vectors.{shapes_points};
 ghost use Rattle.mesh_shapes.specs.Resolution.{IsResolution};
 ghost use Rattle.mesh_shapes.specs.Vectors.{HavePoints, StartsInOrder, contour_edges};
 
+use mesh_ahead::splitter::{split_edges, split_edges_told};
 use mesh_boundary::sides::find_boundary;
 use mesh_lattice::fill::FillRule;
 use mesh_lattice::lattice::{CountedSegment, LatticeEdge, LatticePoint};
@@ -28,7 +30,6 @@ use mesh_shapes::arrange::{is_large, shapes};
 use mesh_shapes::ring::{Ring, ring_of};
 use mesh_shapes::trace::{contours, edges_by_start};
 use mesh_split::count::{SplitCount, SplitError};
-use mesh_split::splitter::{split_edges, split_edges_told};
 use std::alloc::{AllocError, Global};
 
 /// What an answer depends on besides the edges: the least area, whether straight-through vertices stay, and the

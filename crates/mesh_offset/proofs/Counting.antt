@@ -7,7 +7,8 @@ use Rattle.std.proofs.lemmas.List.Elements.{All-head, All-tail}
 use Rattle.std.proofs.lemmas.List.Sums.{sum_by-append, sum_by-cons}
 use Rattle.mesh_plane.specs.Plane.{Edge}
 use Rattle.mesh_lattice.specs.Split.{EdgeSplit, IsLegal}
-use Rattle.mesh_split.specs.Counting.{CountsSplits, CountsWith, counted}
+use Rattle.mesh_split.specs.Counting.{counted}
+use Rattle.mesh_ahead.specs.Counting.{CountsSplits, CountsWith}
 use Rattle.mesh_split.specs.declared.count.SplitCount.{SplitCount}
 use Rattle.mesh_offset.specs.Counting.{Attempt, CountsAttempts, CountsStanding}
 

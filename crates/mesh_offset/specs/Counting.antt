@@ -2,7 +2,8 @@
 use Rattle.std.specs.Prelude.{ℕ, ◌+◌, ◌-◌, ◌*◌, ◌≤◌, ◌≡◌, List, length, sum_by}
 use Rattle.mesh_plane.specs.Plane.{Edge}
 use Rattle.mesh_lattice.specs.Split.{EdgeSplit, IsLegal}
-use Rattle.mesh_split.specs.Counting.{counted, most_attempts}
+use Rattle.mesh_split.specs.Counting.{counted}
+use Rattle.mesh_ahead.specs.Counting.{most_attempts}
 use Rattle.mesh_split.specs.declared.count.SplitCount.{SplitCount}
 
 -- an attempt at edges that were drawn: they were split by these legal splits, perhaps not to the end

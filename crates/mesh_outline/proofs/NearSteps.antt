@@ -23,7 +23,7 @@ use Rattle.mesh_below.specs.Nearness.{AreCountedRegions}
 use Rattle.mesh_below.specs.Options.{plain}
 use Rattle.mesh_join.specs.Styles.{OffsetJoin, OutlineStyle}
 use Rattle.mesh_offset.specs.Adding.{added_edges, answer_edges, in_sense}
-use Rattle.mesh_split.specs.Counting.{CountsSplits}
+use Rattle.mesh_ahead.specs.Counting.{CountsSplits}
 use Rattle.mesh_split.specs.declared.count.SplitCount.{SplitCount}
 use Rattle.mesh_offset.specs.Counting.{CountsAttempts, CountsStanding}
 use Rattle.mesh_offset.proofs.Adding.{adds_more, adds_nothing}

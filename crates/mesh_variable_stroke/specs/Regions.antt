@@ -8,7 +8,7 @@ use Rattle.mesh_below.specs.Regions.{OutsideBent}
 use Rattle.mesh_shapes.specs.Resolution.{Choices}
 use Rattle.mesh_below.specs.Laws.{AreRegions}
 use Rattle.mesh_below.specs.Nearness.{AreRegionsBeyond}
-use Rattle.mesh_split.specs.Counting.{CountsWith}
+use Rattle.mesh_ahead.specs.Counting.{CountsWith}
 use Rattle.mesh_split.specs.declared.count.SplitCount.{SplitCount}
 use Rattle.mesh_lattice.specs.Nearness.{IsFarFrom}
 use Rattle.mesh_arc.specs.declared.arc.ArcOptions.{ArcOptions}

@@ -1,7 +1,7 @@
 use Rattle.std.proofs.Common.{List, subst, sym}
 use Rattle.mesh_lattice.specs.Counted.{Counted}
 use Rattle.mesh_lattice.specs.FillRules.{filled}
-use Rattle.mesh_split.specs.Told.{IsCountedSplitting}
+use Rattle.mesh_ahead.specs.Ahead.{IsCountedSplitting}
 use Rattle.mesh_below.proofs.Beyond.{counted_resolution}
 use Rattle.mesh_below.proofs.resolve.resolve_with_nearness.Goals as goal
 
