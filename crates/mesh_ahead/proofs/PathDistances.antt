@@ -151,13 +151,7 @@ stop_bound p k i e s d most new paths within place small line stop value greates
     let own : d ≡ beside_at p k i = value ∙ (λ j. unsigned_abs (turn (line j).0 (line j).1 (stop j).at)) in
     omega (arith, greatest, bound, own, turn_bound (line_of p k) (point_of p.stops k i) small (stop_safe p k i paths within place small))
 
-pub farthest_none : (p : Paths) (k : ℕ) → IsFarthestOf p k 0 0
-farthest_none p k = record { all = λ i l. absurd (omega arith); one = λ some. absurd (omega arith) }
-
 -- ---- all paths
-
-pub nearness_none : (p : Paths) → IsNearnessOf p 0 0
-nearness_none p = record { all = λ k i l m. absurd (omega arith); one = λ some. absurd (omega arith) }
 
 -- 64ths of a unit that something lies beside an edge of a spread, rounded up
 pub record IsRoundedUp (beside spread d : ℕ) : Type 0 where

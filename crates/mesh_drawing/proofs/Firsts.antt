@@ -1,6 +1,5 @@
 -- Lemmas over lists: the first item that is not so.
 use Rattle.std.proofs.Common.{◌≡◌, ℕ, ◌<◌, ◌+◌, List, get_or, take, length, Some, None, sym, subst}
-use Rattle.std.proofs.lemmas.Option.{none-some}
 use Rattle.std.specs.List.{All}
 use Rattle.std.proofs.lemmas.List.Elements.{All-more}
 use Rattle.mesh_drawing.specs.Drawn.{Drawn, as_outline, as_stroke, as_variable_stroke}
@@ -26,18 +25,6 @@ pub point_past : (unit : ℕ) (drawn : Drawn) (place : PointPlace) → IsFirstPo
 point_past unit (as_outline style paths) place first = not_all _ paths place.path first.path
 point_past unit (as_stroke style closed paths) place first = not_all _ paths place.path first.path
 point_past unit (as_variable_stroke options paths) place first = not_all _ paths place.path first.path
-
--- and a contour that is refused does not fit
-pub area_past : (unit : ℕ) (drawn : Drawn) (k : ℕ) → IsFirstArea unit drawn (Some k) → DoAreasFit unit drawn → ⊥
-area_past unit (as_outline style paths) k first = not_all _ paths k first
-area_past unit (as_stroke style closed paths) k first = λ _. none-some k (sym first)
-area_past unit (as_variable_stroke options paths) k first = λ _. none-some k (sym first)
-
--- where no point leaves the range, all stay in it
-pub all_in_range : (unit : ℕ) (drawn : Drawn) → IsFirstPoint unit drawn None → DoesStayInRange unit drawn
-all_in_range unit (as_outline style paths) all = all
-all_in_range unit (as_stroke style closed paths) all = all
-all_in_range unit (as_variable_stroke options paths) all = all
 
 -- and where no area is too large, all fit
 pub all_areas_fit : (unit : ℕ) (drawn : Drawn) → IsFirstArea unit drawn None → DoAreasFit unit drawn
