@@ -55,39 +55,39 @@ strip_parted l f e g (inr h) start end =
     (omega (arith, linear, end.low, turn_flip f.0 f.1 g.1))
 
 module _ (k l : ℕ) (e f : Edge) (a : ℕ → Point) (n : ℕ) (path : IsPathAlong k e a n) where
-  -- pieces after a stop in a strip from which the path leads away
-  after_clear : (i : ℕ) → i ≤ n → IsNearLine l f (a i) → LeadsAway (l + (k + k)) f a n i → (p : ℕ) → p < n → suc i ≤ p
+  -- pieces from a stop on that lies far from a strip in which the path was before
+  pub after_clear : (i end : ℕ) → i ≤ end → end ≤ n → IsNearLine l f (a i) → IsFarFromLine (l + (k + k)) f (a end) → (p : ℕ) → p < n → end ≤ p
       → (g : Edge) → IsNearLine l f g.0 → IsNearLine l f g.1 → AreClear (a p, a (suc p)) g
-  after_clear i low inside away p within later g start end =
+  after_clear i end low within inside far p p_low later g start stop =
       strip_parted l f (a p, a (suc p)) g
       (⊎_elim
-      (λ (h : (w : Point) → IsNearLine k e w → GoesAlong e (a (suc i)) w → IsLeft l f w).
-      inl (h (a p) (path.near p (omega arith)) (path.along (suc i) p later (omega arith)), h (a (suc p)) (path.near (suc p) (omega arith)) (path.along (suc i) (suc p) (omega arith) (omega arith))))
-      (λ (h : (w : Point) → IsNearLine k e w → GoesAlong e (a (suc i)) w → IsRight l f w).
-      inr (h (a p) (path.near p (omega arith)) (path.along (suc i) p later (omega arith)), h (a (suc p)) (path.near (suc p) (omega arith)) (path.along (suc i) (suc p) (omega arith) (omega arith))))
-      (beyond k l e f path.proper (a i) (a (suc i)) (path.near i low) (path.near (suc i) (omega arith)) (path.along i (suc i) (omega arith) (omega arith)) inside (away.after (omega arith))))
+      (λ (h : (w : Point) → IsNearLine k e w → GoesAlong e (a end) w → IsLeft l f w).
+      inl (h (a p) (path.near p (omega arith)) (path.along end p later (omega arith)), h (a (suc p)) (path.near (suc p) (omega arith)) (path.along end (suc p) (omega arith) (omega arith))))
+      (λ (h : (w : Point) → IsNearLine k e w → GoesAlong e (a end) w → IsRight l f w).
+      inr (h (a p) (path.near p (omega arith)) (path.along end p later (omega arith)), h (a (suc p)) (path.near (suc p) (omega arith)) (path.along end (suc p) (omega arith) (omega arith))))
+      (beyond k l e f path.proper (a i) (a end) (path.near i (omega arith)) (path.near end within) (path.along i end low within) inside far))
       start
-      end
+      stop
 
-  -- and before it
-  before_clear : (j : ℕ) → suc j ≤ n → IsNearLine l f (a (suc j)) → LeadsAway (l + (k + k)) f a n (suc j) → (p : ℕ) → p < n → suc p ≤ j
+  -- and pieces up to such a stop
+  pub before_clear : (start i : ℕ) → start ≤ i → i ≤ n → IsNearLine l f (a i) → IsFarFromLine (l + (k + k)) f (a start) → (p : ℕ) → suc p ≤ start
       → (g : Edge) → IsNearLine l f g.0 → IsNearLine l f g.1 → AreClear (a p, a (suc p)) g
-  before_clear j low inside away p within earlier g start end =
+  before_clear start i low within inside far p earlier g first last =
       strip_parted l f (a p, a (suc p)) g
       (⊎_elim
-      (λ (h : (w : Point) → IsNearLine k (back e) w → GoesAlong (back e) (a j) w → IsLeft l f w).
-      inl (h (a p) (near p (omega arith)) (way p j (omega arith) (omega arith)), h (a (suc p)) (near (suc p) (omega arith)) (way (suc p) j earlier (omega arith))))
-      (λ (h : (w : Point) → IsNearLine k (back e) w → GoesAlong (back e) (a j) w → IsRight l f w).
-      inr (h (a p) (near p (omega arith)) (way p j (omega arith) (omega arith)), h (a (suc p)) (near (suc p) (omega arith)) (way (suc p) j earlier (omega arith))))
-      (beyond k l (back e) f (subst (λ (m : ℕ). 0 < m) (sym (spread_back e)) path.proper) (a (suc j)) (a j) (near (suc j) low) (near j (omega arith)) (way j (suc j) (omega arith) low) inside (away.before j refl)))
-      start
-      end
+      (λ (h : (w : Point) → IsNearLine k (back e) w → GoesAlong (back e) (a start) w → IsLeft l f w).
+      inl (h (a p) (near p (omega arith)) (way p start (omega arith) (omega arith)), h (a (suc p)) (near (suc p) (omega arith)) (way (suc p) start earlier (omega arith))))
+      (λ (h : (w : Point) → IsNearLine k (back e) w → GoesAlong (back e) (a start) w → IsRight l f w).
+      inr (h (a p) (near p (omega arith)) (way p start (omega arith) (omega arith)), h (a (suc p)) (near (suc p) (omega arith)) (way (suc p) start earlier (omega arith))))
+      (beyond k l (back e) f (subst (λ (m : ℕ). 0 < m) (sym (spread_back e)) path.proper) (a i) (a start) (near i within) (near start (omega arith)) (way start i low within) inside far))
+      first
+      last
     where
-      near : (i : ℕ) → i ≤ n → IsNearLine k (back e) (a i)
-      near i h = near_back k e (a i) (path.near i h)
+      near : (m : ℕ) → m ≤ n → IsNearLine k (back e) (a m)
+      near m h = near_back k e (a m) (path.near m h)
 
-      way : (i j : ℕ) → i ≤ j → j ≤ n → GoesAlong (back e) (a j) (a i)
-      way i j h m = along_back e (a i) (a j) (path.along i j h m)
+      way : (m j : ℕ) → m ≤ j → j ≤ n → GoesAlong (back e) (a j) (a m)
+      way m j h h_n = along_back e (a m) (a j) (path.along m j h h_n)
 
 -- ---- pieces at the stop
 
@@ -144,9 +144,11 @@ module _ (k l : ℕ) (e f : Edge) (a : ℕ → Point) (n : ℕ) (path : IsPathAl
   -- a piece that does not begin or end at a stop from which the path leads away
   outside_clear : (i : ℕ) → i ≤ n → IsNearLine l f (a i) → LeadsAway (l + (k + k)) f a n i → (p : ℕ) → p < n → (suc i ≤ p) ⊎ (suc (suc p) ≤ i)
       → (g : Edge) → IsNearLine l f g.0 → IsNearLine l f g.1 → AreClear (a p, a (suc p)) g
-  outside_clear i low inside away p within (inl h) g start end = after_clear k l e f a n path i low inside away p within h g start end
+  outside_clear i low inside away p within (inl h) g start end =
+      after_clear k l e f a n path i (suc i) (omega arith) (omega arith) inside (away.after (omega arith)) p within h g start end
   outside_clear zero low inside away p within (inr h) g start end = absurd (omega (arith, h))
-  outside_clear (suc j) low inside away p within (inr h) g start end = before_clear k l e f a n path j low inside away p within (omega (arith, h)) g start end
+  outside_clear (suc j) low inside away p within (inr h) g start end =
+      before_clear k l e f a n path j (suc j) (omega arith) low inside (away.before j refl) p (omega (arith, h)) g start end
 
   -- and one that does
   at_stop : (i : ℕ) → LeadsAway (l + (k + k)) f a n i → (p : ℕ) → p < n → (i ≡ p) ⊎ (i ≡ suc p) → IsAt (a i) (IsFarFromLine l f) (a p, a (suc p))

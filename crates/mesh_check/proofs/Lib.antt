@@ -9,3 +9,4 @@ pub mod OwnClear
 pub mod Parted
 pub mod Sizes
 pub mod Strips
+pub mod ZonesAbout

@@ -1,12 +1,13 @@
 -- When paths are clear of each other: by edges that stay clear, by lines beside which they lie, and each of itself.
-use Rattle.std.specs.Prelude.{ℕ, ◌≡◌, ◌+◌, ◌<◌, ◌⊎◌, ◌<ℤ◌, neg_ℤ}
+use Rattle.std.specs.Prelude.{ℕ, ◌+◌, ◌<◌, ◌≤◌, ◌⊎◌, ◌<ℤ◌, neg_ℤ}
 use Rattle.mesh_plane.specs.Plane.{Edge, turn}
 use Rattle.mesh_lattice.specs.Split.{AreClear}
 use Rattle.mesh_pairs.specs.Pairs.{StayClear}
 use Rattle.mesh_paths.specs.declared.paths.Paths.{Paths}
 use Rattle.mesh_paths.specs.declared.paths.Piece.{Piece}
-use Rattle.mesh_paths.specs.Paths.{edge_of, ArePaths, IsPieceOf}
-use Rattle.mesh_paths.specs.Stops.{count_of}
+use Rattle.mesh_paths.specs.Paths.{edge_of, ArePaths}
+use Rattle.mesh_paths.specs.Stops.{count_of, pieces_of}
+use Rattle.mesh_check.specs.declared.comparing.Stretch.{Stretch}
 use Rattle.mesh_check.specs.Bent.{line_of, AreClearPaths, IsBentBy}
 use Rattle.mesh_check.specs.Heights.{units}
 
@@ -34,6 +35,16 @@ PathsBesideAreClear =
     → IsBentBy p j j_units → IsBentBy p k k_units → LiesBeside (j_units + k_units) (line_of p j) (line_of p k)
     → AreClearPaths p j k
 
--- a piece is clear of all pieces of a path
-abbrev pub IsClearOfPath : Paths → Piece → ℕ → Type 0
-IsClearOfPath p a k = (b : Piece) → IsPieceOf p b → b.path ≡ k → AreClear (edge_of p a) (edge_of p b)
+-- a piece is clear of all pieces of a stretch
+abbrev pub IsClearOfStretch : Paths → Piece → Stretch → Type 0
+IsClearOfStretch p a s =
+    (i : ℕ) → s.start ≤ i → i < s.end → AreClear (edge_of p a) (edge_of p (record { path = s.path; place = i }))
+
+-- all pieces of two stretches are clear of each other
+abbrev pub AreClearStretches : Paths → Stretch → Stretch → Type 0
+AreClearStretches p s t = (i : ℕ) → s.start ≤ i → i < s.end → IsClearOfStretch p (record { path = s.path; place = i }) t
+
+-- a stretch is one of a path
+pub record IsStretchOf (p : Paths) (s : Stretch) : Type 0 where
+  pub path : s.path < count_of p.stops
+  pub end : s.end ≤ pieces_of p.stops s.path

@@ -1,3 +1,4 @@
 pub mod Bent
 pub mod Clear
 pub mod Heights
+pub mod Zones

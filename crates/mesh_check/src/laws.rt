@@ -3,6 +3,7 @@
 ghost use Rattle.mesh_check.specs.Bent.{LeadingApartIsClear, PathsGoAlong};
 ghost use Rattle.mesh_check.specs.Clear.{PathsAreClearOfThemselves, PathsBesideAreClear, PathsStayClear};
 ghost use Rattle.mesh_check.specs.Heights.{PathsThatLeadApartAreClear};
+ghost use Rattle.mesh_check.specs.Zones.{PathsWithClearZonesAreClear};
 
 /// Where two paths lead apart from a stop of both, no two pieces of the one and of the other meet but in ends.
 pub fn paths_that_lead_apart_are_clear()
@@ -33,4 +34,10 @@ pub fn paths_stay_clear()
 /// Where one edge lies beside the line of another by more than both paths are bent, these are clear of each other.
 pub fn paths_beside_are_clear()
     ensures { PathsBesideAreClear }
+{}
+
+/// Paths with a common stop are clear of each other where their pieces near it are, up to stops of each that lie far
+/// enough beside the other's line.
+pub fn paths_with_clear_zones_are_clear()
+    ensures { PathsWithClearZonesAreClear }
 {}

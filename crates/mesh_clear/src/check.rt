@@ -10,7 +10,7 @@ ghost use Rattle.mesh_clear.specs.Private.Looking.{AreBends, IsClearMeeting, IsC
 use crate::bends::bends_of;
 use crate::ends::are_clear_at_ends;
 use crate::fit::are_fit;
-use crate::meetings::lead_apart_near;
+use crate::meetings::are_clear_near;
 use mesh_check::close::are_parted;
 use mesh_check::comparing::are_clear_by_pieces;
 use mesh_pairs::pairs::{Meeting, Pairs};
@@ -23,7 +23,7 @@ pub fn is_meeting_clear(paths: &Paths, bends: &[u64], m: Meeting, left: &mut usi
     requires meeting { IsMeeting paths.now.edges.items m }
     ensures { IsTrue result → IsClearMeeting paths.now m }
 {
-    if lead_apart_near(paths, bends, m.first, m.second, m.near) {
+    if are_clear_near(paths, bends, m.first, m.second, m.near, left) {
         return true;
     }
     are_clear_by_pieces(paths, m.first, m.second, left)

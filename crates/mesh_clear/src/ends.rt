@@ -5,7 +5,7 @@ ghost use Rattle.mesh_paths.specs.Stops.{count_of, pieces_of, stop_of};
 ghost use Rattle.mesh_check.specs.Bent.{AreClearPaths};
 ghost use Rattle.mesh_clear.specs.Private.Looking.{AreBends, EndsAt, IsClearAt, IsClearAtEnds};
 
-use crate::meetings::lead_apart_at;
+use crate::meetings::are_clear_from;
 use mesh_check::comparing::are_clear_by_pieces;
 use mesh_paths::paths::{Paths, Piece};
 
@@ -38,7 +38,7 @@ fn is_clear_at_end(
     } else {
         paths.stops.pieces(other as usize)
     };
-    if lead_apart_at(paths, bends, end, Piece { path: other, place }) {
+    if are_clear_from(paths, bends, end, Piece { path: other, place }, left) {
         return true;
     }
     are_clear_by_pieces(paths, end.path, other, left)

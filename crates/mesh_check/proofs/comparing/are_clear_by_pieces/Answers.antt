@@ -1,16 +1,14 @@
-use Rattle.std.proofs.Common.{ℕ, arith}
-use borrow.Author.Count.{below_more}
-use Rattle.mesh_check.specs.Clear.{IsClearOfPath}
+use Rattle.std.proofs.Common.{subst}
+use Rattle.mesh_paths.specs.Stops.{pieces_of}
+use Rattle.mesh_check.specs.declared.comparing.Stretch.{Stretch}
+use Rattle.mesh_check.specs.Clear.{AreClearStretches}
 use Rattle.mesh_check.proofs.ByPieces.{clear_by_all}
 use Rattle.mesh_check.proofs.comparing.are_clear_by_pieces.Goals as goal
 
-pub loop-place-preserved : goal.loop-place-preserved
-loop-place-preserved c =
-    below_more (λ (i : ℕ). IsClearOfPath c.args.paths.now (record { path = c.args.first; place = i }) c.args.second) c.loop-place.place
-    c.loop-place.invariant (c.is_clear_of.ensures c.if-not-is_clear_of.false)
-
 pub returns : goal.returns
 returns c = λ t.
-    clear_by_all c.args.paths.now c.args.first c.args.second c.loop-place.place
-    (omega (arith, c.loop-place-test.false, c.loop-place.auto.place-end, c.pieces-pieces.ensures))
-    c.loop-place.invariant
+    let p = c.args.paths.now in
+    let first : Stretch = record { path = c.args.first; start = 0; end = pieces_of p.stops c.args.first } in
+    clear_by_all p c.args.first c.args.second
+    (subst (λ (s : Stretch). AreClearStretches p first s) c.whole-2.ensures
+    (subst (λ (s : Stretch). AreClearStretches p s c.whole-2.result) c.whole.ensures (c.are_stretches_clear.ensures t)))
