@@ -1,12 +1,12 @@
 -- Lemmas over points and lists: circles and arcs, and what lies between them and their center.
-use Rattle.std.proofs.Common.{◌≡◌, ◌≢◌, ℕ, ◌<◌, ◌≤◌, inl, List, [], ◌∷◌, sym, subst, arith}
+use Rattle.std.proofs.Common.{◌++◌, ◌≡◌, ◌≢◌, ℕ, ◌<◌, ◌≤◌, inl, List, [], ◌∷◌, sym, subst, arith}
 use Rattle.std.specs.Prelude.{ℤ, pos, ◌+ℤ◌, ◌-ℤ◌, ◌<ℤ◌, unsigned_abs, int_le, if◌then◌else◌}
 use Rattle.std.specs.List.{All, Contains}
 use Rattle.std.proofs.lemmas.Bool.{cond_both}
 use Rattle.std.proofs.lemmas.Int.{ints}
 use Rattle.std.proofs.lemmas.List.Elements.{All-nil, All-cons, All-head, All-tail, All-append, All-map, All-weaker}
 use Rattle.mesh_plane.specs.Plane.{Point, Edge, minus}
-use Rattle.mesh_plane.specs.Winding.{fan}
+use Rattle.mesh_plane.specs.Winding.{fan, route}
 use Rattle.mesh_plane.proofs.ClosedLists.{route_all}
 use Rattle.mesh_plane.proofs.Sizes.{apart_some}
 use Rattle.mesh_num.specs.Direction.{IsShort, scaled_direction}
@@ -19,7 +19,7 @@ use Rattle.mesh_arc.proofs.Short.{arc_short}
 use Rattle.mesh_circle.specs.declared.sweep.Sweep.{Sweep}
 use Rattle.mesh_circle.specs.Sweeps.{distance, bearing, point_round, polyline_points, polyline_edges, half_circles}
 use Rattle.mesh_circle.specs.Sweeps.{circle_edges, circle_pieces, east_of, west_of, sweep_of, is_empty, is_central}
-use Rattle.mesh_circle.specs.Sweeps.{is_whole, arc_pieces}
+use Rattle.mesh_circle.specs.Sweeps.{is_whole, arc_edges, arc_pieces}
 use Rattle.mesh_circle.proofs.Swept.{ends_apart, east_apart, west_apart}
 use Rattle.mesh_reach.specs.Joins.{rounded_reach}
 use Rattle.mesh_reach.specs.Reach.{IsByEnd}
@@ -152,3 +152,38 @@ module _ (unit : ℕ) (some : 0 < unit) (options : ArcOptions) (c : Point) (n : 
 
       Along : List (List Point) → Type 0
       Along ps = All (IsAlongSpan spans) ps
+
+  -- the edges of an arc
+  pub arc_by : (x y : Point) (aligned : Sweep) → IsBy n c x → IsBy n c y → rounded_reach (distance c x) ≤ n →
+      All (λ (e : Edge). IsBy n c e.0 × IsBy n c e.1) (arc_edges unit options c x y aligned)
+  unfolding arc_edges
+  arc_by x y aligned hx hy covers =
+      cond_both (is_empty sweep x y) [] (if is_central c x y then edge else rest) Ends (λ _. All-nil EndsBy)
+      (λ _. cond_both (is_central c x y) edge rest Ends (λ _. alone)
+      (λ apart. cond_both (is_whole unit sweep c x y) (circle ++ edge) polyline Ends
+      (λ _. All-append EndsBy circle edge (circle_by radius covers) alone)
+      (λ _. polyline_by x y radius (ends_apart c x y apart).0 covers hx hy)))
+    where
+      sweep : Sweep
+      sweep = sweep_of c x y aligned
+
+      radius : ℤ
+      radius = pos (distance c x)
+
+      Ends : List Edge → Type 0
+      Ends es = All EndsBy es
+
+      edge : List Edge
+      edge = route x [] y
+
+      alone : All EndsBy edge
+      alone = route_all (IsBy n c) x [] y hx (All-nil (IsBy n c)) hy
+
+      circle : List Edge
+      circle = circle_edges unit options c radius
+
+      polyline : List Edge
+      polyline = polyline_edges unit options c x y radius
+
+      rest : List Edge
+      rest = if is_whole unit sweep c x y then circle ++ edge else polyline

@@ -14,5 +14,6 @@ pub mod StrokeAnswers
 pub mod StrokeEdges
 pub mod StrokePieces
 pub mod StrokePoints
+pub mod VariableAnswers
 pub mod VariablePieces
 pub mod Within

@@ -1,7 +1,8 @@
 -- Lemmas over points and lists: the pieces of a stroke of variable width lie along its vertices and sections.
 use Rattle.std.proofs.Common.{◌≡◌, ◌≢◌, ℕ, ◌*◌, ◌<◌, ◌≤◌, ◌^◌, ⊎_elim, inl, inr, List, [], ◌∷◌, ◌++◌, Bool, true, false}
 use Rattle.std.proofs.Common.{get_or, refl, sym, subst, map, arith}
-use Rattle.std.specs.Prelude.{IsTrue, ℤ, pos, ◌≤ℤ◌, unsigned_abs, ◌||◌, ◌&&◌, int_le, if◌then◌else◌, Option, Some, None, max}
+use Rattle.std.specs.Prelude.{IsTrue, ℤ, pos, ◌≤ℤ◌, unsigned_abs, ◌||◌, ◌&&◌, int_le, if◌then◌else◌, Option, Some, None}
+use Rattle.std.specs.Prelude.{max}
 use Rattle.std.specs.List.{All, Contains, flat_map}
 use Rattle.std.specs.Option.{option_to_list}
 use Rattle.std.proofs.lemmas.Bool.{cases_lt, cond_both, leb-false, not-false, or_parts}
@@ -47,21 +48,21 @@ use Rattle.mesh_reach.proofs.Pieces.{held_one}
 use Rattle.mesh_reach.proofs.Rounded.{normal_length_most, rounded_reach_more}
 
 -- how far a circle reaches
-abbrev reach : Circle → ℕ
+abbrev pub reach : Circle → ℕ
 reach c = rounded_reach (unsigned_abs c.radius)
 
 -- ---- the points of sections
 
 -- a point where a tangent touches a circle
-record IsTouched (c : Circle) (p : Point) : Type 0 where
-  by : IsBy (reach c) c.center p
-  distance_most : distance c.center p ≤ unsigned_abs c.radius
+pub record IsTouched (c : Circle) (p : Point) : Type 0 where
+  pub by : IsBy (reach c) c.center p
+  pub distance_most : distance c.center p ≤ unsigned_abs c.radius
 
-record IsTouching (s : Section) : Type 0 where
-  a_left : IsTouched s.a s.a_left
-  a_right : IsTouched s.a s.a_right
-  b_left : IsTouched s.b s.b_left
-  b_right : IsTouched s.b s.b_right
+pub record IsTouching (s : Section) : Type 0 where
+  pub a_left : IsTouched s.a s.a_left
+  pub a_right : IsTouched s.a s.a_right
+  pub b_left : IsTouched s.b s.b_left
+  pub b_right : IsTouched s.b s.b_right
 
 module _ (unit : ℕ) (a b : Circle) (apart : is_nested a b ≡ false) where
   abbrev between : Point
@@ -121,28 +122,28 @@ module _ (unit : ℕ) (a b : Circle) (apart : is_nested a b ≡ false) where
 
 -- ---- what lies on a path
 
-record IsOnPath (spans : List Span) (c : Circle) : Type 0 where
-  listed : Contains spans (span_round c)
-  sign : pos 0 ≤ℤ c.radius
+pub record IsOnPath (spans : List Span) (c : Circle) : Type 0 where
+  pub listed : Contains spans (span_round c)
+  pub sign : pos 0 ≤ℤ c.radius
 
-record IsPlaced (spans : List Span) (s : Section) : Type 0 where
-  between : Contains spans (span_between (s.a, s.b))
-  a : IsOnPath spans s.a
-  b : IsOnPath spans s.b
-  touching : IsTouching s
+pub record IsPlaced (spans : List Span) (s : Section) : Type 0 where
+  pub between : Contains spans (span_between (s.a, s.b))
+  pub a : IsOnPath spans s.a
+  pub b : IsOnPath spans s.b
+  pub touching : IsTouching s
 
-record IsStepPlaced (spans : List Span) (s : Step) : Type 0 where
-  sections : All (IsPlaced spans) (option_to_list s.section)
-  a : IsOnPath spans s.a
-  b : IsOnPath spans s.b
+pub record IsStepPlaced (spans : List Span) (s : Step) : Type 0 where
+  pub sections : All (IsPlaced spans) (option_to_list s.section)
+  pub a : IsOnPath spans s.a
+  pub b : IsOnPath spans s.b
 
-record IsChainPlaced (spans : List Span) (chain : Chain) : Type 0 where
-  start : IsOnPath spans chain.start
-  steps : All (IsStepPlaced spans) chain.steps
+pub record IsChainPlaced (spans : List Span) (chain : Chain) : Type 0 where
+  pub start : IsOnPath spans chain.start
+  pub steps : All (IsStepPlaced spans) chain.steps
 
-record IsRestPlaced (spans : List Span) (rest : Rest) : Type 0 where
-  steps : All (IsStepPlaced spans) rest.steps
-  later : All (IsChainPlaced spans) rest.later
+pub record IsRestPlaced (spans : List Span) (rest : Rest) : Type 0 where
+  pub steps : All (IsStepPlaced spans) rest.steps
+  pub later : All (IsChainPlaced spans) rest.later
 
 module _ (unit : ℕ) (some : 0 < unit) (options : ArcOptions) (spans : List Span) where
   abbrev Along : List Point → Type 0
@@ -163,7 +164,7 @@ module _ (unit : ℕ) (some : 0 < unit) (options : ArcOptions) (spans : List Spa
   abbrev RestPlaced : Rest → Type 0
   RestPlaced = IsRestPlaced spans
 
-  has_round : (c : Circle) → OnPath c → HasRound spans c.center (reach c)
+  pub has_round : (c : Circle) → OnPath c → HasRound spans c.center (reach c)
   has_round c h = record { span = span_round c; listed = h.listed; at = refl; covers = omega arith }
 
   -- ---- along sections, at ends and at joints
@@ -201,7 +202,7 @@ module _ (unit : ℕ) (some : 0 < unit) (options : ArcOptions) (spans : List Spa
       (rounded_reach_more (distance s.b.center s.b_right) (unsigned_abs s.b.radius) h.touching.b_right.distance_most)
 
   -- of two circles round one vertex the greater one has the reach of both
-  greater_round : (c d : Circle) → c.center ≡ d.center → OnPath c → OnPath d →
+  pub greater_round : (c d : Circle) → c.center ≡ d.center → OnPath c → OnPath d →
       HasRound spans c.center (max (reach c) (reach d))
   greater_round c d met hc hd =
       ⊎_elim
@@ -218,16 +219,55 @@ module _ (unit : ℕ) (some : 0 < unit) (options : ArcOptions) (spans : List Spa
       record { span = span_round c; listed = hc.listed; at = refl; covers = omega (arith, more) })
       (cases_lt (unsigned_abs c.radius) (unsigned_abs d.radius))
 
-  met_along : (j : SectionPair) → Placed j.0 → Placed j.1 → j.0.b.center ≡ j.1.a.center →
+  -- what lies round a joint
+  pub record IsJoint (j : SectionPair) : Type 0 where
+    pub round : HasRound spans j.0.b.center (max (reach j.0.b) (reach j.1.a))
+    pub next_left : IsBy (max (reach j.0.b) (reach j.1.a)) j.0.b.center j.1.a_left
+    pub next_right : IsBy (max (reach j.0.b) (reach j.1.a)) j.0.b.center j.1.a_right
+    pub own_left : IsBy (max (reach j.0.b) (reach j.1.a)) j.0.b.center j.0.b_left
+    pub own_right : IsBy (max (reach j.0.b) (reach j.1.a)) j.0.b.center j.0.b_right
+    pub next_distance : rounded_reach (distance j.0.b.center j.1.a_left) ≤ max (reach j.0.b) (reach j.1.a)
+    pub own_distance : rounded_reach (distance j.0.b.center j.0.b_right) ≤ max (reach j.0.b) (reach j.1.a)
+
+  pub joint_of : (j : SectionPair) → Placed j.0 → Placed j.1 → j.0.b.center ≡ j.1.a.center → IsJoint j
+  joint_of j p n met = record {
+    round = greater_round j.0.b j.1.a met p.b n.a;
+    next_left = next j.1.a_left n.touching.a_left;
+    next_right = next j.1.a_right n.touching.a_right;
+    own_left = own j.0.b_left p.touching.b_left;
+    own_right = own j.0.b_right p.touching.b_right;
+    next_distance =
+        let most : distance j.0.b.center j.1.a_left ≤ unsigned_abs j.1.a.radius =
+        subst (λ (c : Point). distance c j.1.a_left ≤ unsigned_abs j.1.a.radius) (sym met)
+        n.touching.a_left.distance_most in
+        omega (arith, rounded_reach_more (distance j.0.b.center j.1.a_left) (unsigned_abs j.1.a.radius) most);
+    own_distance =
+        let most = p.touching.b_right.distance_most in
+        omega (arith, rounded_reach_more (distance j.0.b.center j.0.b_right) (unsigned_abs j.0.b.radius) most);
+  }
+    where
+      r : ℕ
+      r = max (reach j.0.b) (reach j.1.a)
+
+      own : (q : Point) → IsTouched j.0.b q → IsBy r j.0.b.center q
+      own q t = by_more (reach j.0.b) r j.0.b.center (omega arith) q t.by
+
+      next : (q : Point) → IsTouched j.1.a q → IsBy r j.0.b.center q
+      next q t =
+          by_more (reach j.1.a) r j.0.b.center (omega arith) q
+          (subst (λ (c : Point). IsBy (reach j.1.a) c q) (sym met) t.by)
+
+  met_along : (j : SectionPair) → IsJoint j →
       All Along (joint_piece j ∷ (left_pieces unit options j ++ right_pieces unit options j))
-  met_along j p n met =
+  met_along j h =
       All-cons Along (joint_piece j) (left_pieces unit options j ++ right_pieces unit options j)
-      (round_along spans v r round (joint_piece j)
-      (All-cons By j.1.a_left (j.0.b_left ∷ j.0.b_right ∷ j.1.a_right ∷ []) (next j.1.a_left n.touching.a_left)
-      (All-cons By j.0.b_left (j.0.b_right ∷ j.1.a_right ∷ []) (own j.0.b_left p.touching.b_left)
-      (All-cons By j.0.b_right (j.1.a_right ∷ []) (own j.0.b_right p.touching.b_right)
-      (All-cons By j.1.a_right [] (next j.1.a_right n.touching.a_right) (All-nil By))))))
-      (All-append Along (left_pieces unit options j) (right_pieces unit options j) left right)
+      (round_along spans v r h.round (joint_piece j)
+      (All-cons By j.1.a_left (j.0.b_left ∷ j.0.b_right ∷ j.1.a_right ∷ []) h.next_left
+      (All-cons By j.0.b_left (j.0.b_right ∷ j.1.a_right ∷ []) h.own_left
+      (All-cons By j.0.b_right (j.1.a_right ∷ []) h.own_right
+      (All-cons By j.1.a_right [] h.next_right (All-nil By))))))
+      (All-append Along (left_pieces unit options j) (right_pieces unit options j)
+      (left (has_left_arc j)) (right (has_right_arc j)))
     where
       v : Point
       v = j.0.b.center
@@ -238,59 +278,26 @@ module _ (unit : ℕ) (some : 0 < unit) (options : ArcOptions) (spans : List Spa
       By : Point → Type 0
       By = IsBy (max (reach j.0.b) (reach j.1.a)) j.0.b.center
 
-      round : HasRound spans j.0.b.center (max (reach j.0.b) (reach j.1.a))
-      round = greater_round j.0.b j.1.a met p.b n.a
+      left : (t : Bool) → All Along (if t then arc_pieces unit options v j.1.a_left j.0.b_left Minor else [])
+      left true =
+          arc_along unit some options v r spans h.round j.1.a_left j.0.b_left Minor h.next_left h.own_left
+          h.next_distance
+      left false = All-nil Along
 
-      own : (q : Point) → IsTouched j.0.b q → By q
-      own q t = by_more (reach j.0.b) r v (omega arith) q t.by
-
-      next : (q : Point) → IsTouched j.1.a q → By q
-      next q t =
-          by_more (reach j.1.a) r v (omega arith) q
-          (subst (λ (c : Point). IsBy (reach j.1.a) c q) (sym met) t.by)
-
-      next_distance : rounded_reach (distance j.0.b.center j.1.a_left) ≤ r
-      next_distance =
-          let most : distance j.0.b.center j.1.a_left ≤ unsigned_abs j.1.a.radius =
-          subst (λ (c : Point). distance c j.1.a_left ≤ unsigned_abs j.1.a.radius)
-          (sym met) n.touching.a_left.distance_most in
-          omega (arith, rounded_reach_more (distance j.0.b.center j.1.a_left) (unsigned_abs j.1.a.radius) most)
-
-      own_distance : rounded_reach (distance j.0.b.center j.0.b_right) ≤ r
-      own_distance =
-          omega (
-            arith,
-            rounded_reach_more (distance j.0.b.center j.0.b_right)
-                (unsigned_abs j.0.b.radius) p.touching.b_right.distance_most,
-          )
-
-      left : All Along (left_pieces unit options j)
-      left = by (has_left_arc j)
-        where
-          by : (t : Bool) → All Along (if t then arc_pieces unit options v j.1.a_left j.0.b_left Minor else [])
-          by true =
-              arc_along unit some options v r spans round j.1.a_left j.0.b_left Minor
-              (next j.1.a_left n.touching.a_left)
-              (own j.0.b_left p.touching.b_left) next_distance
-          by false = All-nil Along
-
-      right : All Along (right_pieces unit options j)
-      right = by (has_right_arc j)
-        where
-          by : (t : Bool) → All Along (if t then arc_pieces unit options v j.0.b_right j.1.a_right Major else [])
-          by true =
-              arc_along unit some options v r spans round j.0.b_right j.1.a_right Major
-              (own j.0.b_right p.touching.b_right)
-              (next j.1.a_right n.touching.a_right) own_distance
-          by false = All-nil Along
+      right : (t : Bool) → All Along (if t then arc_pieces unit options v j.0.b_right j.1.a_right Major else [])
+      right true =
+          arc_along unit some options v r spans h.round j.0.b_right j.1.a_right Major h.own_right h.next_right
+          h.own_distance
+      right false = All-nil Along
 
   joint_along : (j : SectionPair) → Placed j.0 × Placed j.1 → All Along (joint_pieces unit options j)
   joint_along j h =
       cond_both (is_apart j) [] (joint_piece j ∷ (left_pieces unit options j ++ right_pieces unit options j))
       (All Along)
       (λ _. All-nil Along)
-      (λ e. met_along j h.0 h.1
-      ((decides_point j.0.b.center j.1.a.center).0 (not-false (same_point j.0.b.center j.1.a.center) e)))
+      (λ e. met_along j
+      (joint_of j h.0 h.1 ((decides_point j.0.b.center j.1.a.center).0
+      (not-false (same_point j.0.b.center j.1.a.center) e))))
 
   -- ---- along chains
 
@@ -404,7 +411,7 @@ module _ (unit : ℕ) (some : 0 < unit) (options : ArcOptions) (spans : List Spa
       (λ _. covered_placed s (rest_of Butt ss) hs butt)
       (λ _. record { steps = All-cons StepPlaced s (rest_of Round ss).steps hs plain.steps; later = plain.later }))
 
-  chains_placed : (circles : List Circle) → All Spanned (pairs circles) → All OnPath circles →
+  pub chains_placed : (circles : List Circle) → All Spanned (pairs circles) → All OnPath circles →
       All ChainPlaced (chains_of unit circles)
   chains_placed [] listed h = All-nil ChainPlaced
   chains_placed (c ∷ cs) listed h =
@@ -417,7 +424,7 @@ module _ (unit : ℕ) (some : 0 < unit) (options : ArcOptions) (spans : List Spa
 
 -- ---- together
 
-circles_on_path : (vertices : List Vertex) → All (IsOnPath (spans_of (circles_of vertices))) (circles_of vertices)
+pub circles_on_path : (vertices : List Vertex) → All (IsOnPath (spans_of (circles_of vertices))) (circles_of vertices)
 circles_on_path vertices =
     All-weaker (λ (c : Circle). Contains spans (span_round c) × (pos 0 ≤ℤ c.radius)) (IsOnPath spans)
     (λ c h. record { listed = h.0; sign = h.1 }) circles
@@ -433,7 +440,7 @@ circles_on_path vertices =
     spans : List Span
     spans = spans_of (circles_of vertices)
 
-spanned : (circles : List Circle) → All (λ (c : Circle × Circle). Contains (spans_of circles) (span_between c))
+pub spanned : (circles : List Circle) → All (λ (c : Circle × Circle). Contains (spans_of circles) (span_between c))
     (pairs circles)
 spanned circles =
     all_mapped (Contains (spans_of circles)) span_between (pairs circles)

@@ -7,16 +7,21 @@ use Rattle.mesh_plane.specs.Winding.{boundary, winding}
 use Rattle.mesh_lattice.specs.Counted.{bit}
 use Rattle.mesh_shapes.specs.Contours.{double_area}
 use Rattle.mesh_shapes.specs.Resolution.{Choices}
+use Rattle.mesh_arc.specs.declared.arc.ArcOptions.{ArcOptions}
 use Rattle.mesh_join.specs.Cleaned.{cleaned_sections}
 use Rattle.mesh_join.specs.Styles.{OutlineStyle}
+use Rattle.mesh_join.specs.VariableStyles.{Vertex}
 use Rattle.mesh_offset.specs.Adding.{answer_edges}
 use Rattle.mesh_outline.specs.Nearness.{AreOutlineRegionsBeyond}
 use Rattle.mesh_stroke.specs.Paths.{path_edges}
 use Rattle.mesh_stroke.specs.Regions.{AreStrokeRegionsBeyond}
 use Rattle.mesh_stroke.specs.Styles.{StrokeStyle}
+use Rattle.mesh_variable_stroke.specs.Chains.{circles_of}
+use Rattle.mesh_variable_stroke.specs.Regions.{AreVariableStrokeRegionsBeyond}
 use Rattle.mesh_reach.specs.Outlines.{both_reach}
 use Rattle.mesh_reach.specs.Reach.{IsReachedByOne}
 use Rattle.mesh_reach.specs.Strokes.{stroke_reach}
+use Rattle.mesh_reach.specs.VariableStrokes.{Span, spans_of, IsReachedBySpan}
 
 -- the point `q` of the grid `m` lies within `k` 64ths of a unit, in both coordinates, of a point that is at most the
 -- root of `b / 2` from one of some edges
@@ -70,3 +75,29 @@ OutlineAnswersReach =
     → choices.least_area ≡ 0 → choices.clockwise ≡ false → (m : ℕ) → 0 < m → (q : Point)
     → winding m q (answer_edges answer) ≢ bit (is_inside contours m q)
     → IsReachedWithin k (both_reach style) m (contour_sections contours) q
+
+-- the point `q` of the grid `m` lies within `k` 64ths of a unit, in both coordinates, of a point as near to a vertex or
+-- a section as this one's reach says
+pub record IsSpanReachedWithin (k m : ℕ) (spans : List Span) (q : Point) : Type 0 where
+  pub grid : ℕ
+  pub positive : 0 < grid
+  pub point : Point
+  pub reached : IsReachedBySpan (grid * m) spans point
+  pub by_x : 64 * unsigned_abs ((pos grid *ℤ q.0) -ℤ point.0) ≤ k * (grid * m)
+  pub by_y : 64 * unsigned_abs ((pos grid *ℤ q.1) -ℤ point.1) ≤ k * (grid * m)
+
+-- the vertices and sections of a path, and those of all paths
+abbrev pub path_spans : List Vertex → List Span
+path_spans vertices = spans_of (circles_of vertices)
+
+abbrev pub all_spans : List (List Vertex) → List Span
+all_spans paths = flat_map path_spans paths
+
+-- so near is each point round which the answer of a stroke of variable width winds, with no least area and outer
+-- contours counterclockwise
+abbrev pub VariableStrokeAnswersReach : Type 0
+VariableStrokeAnswersReach =
+    (unit : ℕ) → 2 ^ 14 ≤ unit → (k : ℕ) (options : ArcOptions) (choices : Choices) (paths : List (List Vertex))
+    (answer : List (List (List Point))) → AreVariableStrokeRegionsBeyond k unit options choices paths answer
+    → choices.least_area ≡ 0 → choices.clockwise ≡ false → (m : ℕ) → 0 < m → (q : Point)
+    → winding m q (answer_edges answer) ≢ pos 0 → IsSpanReachedWithin k m (all_spans paths) q

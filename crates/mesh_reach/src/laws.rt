@@ -1,6 +1,6 @@
 //! Laws of reach. Each function does nothing: its clause is the law.
 
-ghost use Rattle.mesh_reach.specs.Answers.{OutlineAnswersReach, StrokeAnswersReach};
+ghost use Rattle.mesh_reach.specs.Answers.{OutlineAnswersReach, StrokeAnswersReach, VariableStrokeAnswersReach};
 ghost use Rattle.mesh_reach.specs.Outlines.{OutlineEdgesReach, OutlinesReach};
 ghost use Rattle.mesh_reach.specs.Reach.{ListsReachAsTheirPoints};
 ghost use Rattle.mesh_reach.specs.Strokes.{KeptRadiiReach, StrokeEdgesReach, StrokesReach};
@@ -64,4 +64,10 @@ pub fn variable_strokes_reach()
 /// So is each point round which the edges of such a stroke wind.
 pub fn variable_stroke_edges_reach()
     ensures { VariableStrokeEdgesReach }
+{}
+
+/// With no least area, outer contours counterclockwise and splits of the nearness `k`, each point round which the
+/// answer of such a stroke winds lies within `k` 64ths of a grid unit, in both coordinates, of a point so near.
+pub fn variable_stroke_answers_reach()
+    ensures { VariableStrokeAnswersReach }
 {}
