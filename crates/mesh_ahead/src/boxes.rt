@@ -9,11 +9,9 @@ const SAMPLES: usize = 16;
 /// Of fewer edges all pairs are found soon, whatever their boxes are.
 const FEW_EDGES: usize = 256;
 
-/// Boxes serve where each meets so many others on average, at most. More would be looked at in vain.
-const FEW_BOXES: usize = 32;
-
-/// They serve, too, where one of so many that meet belongs to an edge that is met.
-const BOXES_A_MEETING: usize = 8;
+/// Boxes serve where each meets so many others at most, and so many more for each edge that is met. Looking at so many costs
+/// what rounds take for a meeting; with twice as many, stars and hatches would take longer than in rounds.
+const BOXES_A_MEETING: usize = 128;
 
 fn are_apart(a: i32, b: i32, c: i32, d: i32) -> bool {
     a.max(b) < c.min(d) || c.max(d) < a.min(b)
@@ -38,7 +36,7 @@ fn counts(edges: &[LatticeEdge], e: LatticeEdge) -> (usize, usize) {
     (boxes, meetings)
 }
 
-/// Whether few boxes meet, or mostly those of edges that meet, too: not so where long slanting edges lie side by side.
+/// Whether few boxes meet, beside the edges that meet: not so where long slanting edges lie side by side.
 pub fn do_boxes_tell(edges: &[LatticeEdge]) -> bool {
     if edges.len() < FEW_EDGES {
         return true;
@@ -51,5 +49,8 @@ pub fn do_boxes_tell(edges: &[LatticeEdge]) -> bool {
         boxes = boxes.saturating_add(counts.0);
         meetings = meetings.saturating_add(counts.1);
     }
-    boxes <= FEW_BOXES * SAMPLES || boxes <= meetings.saturating_mul(BOXES_A_MEETING)
+    boxes
+        <= meetings
+            .saturating_add(SAMPLES)
+            .saturating_mul(BOXES_A_MEETING)
 }

@@ -91,10 +91,11 @@ pub fn mend(
     ensures paths { OnOk result (ArePaths paths.new) }
     ensures edges { OnOk result (paths.new.edges ≡ paths.old.edges) }
 {
-    let Some(doubts) = doubtful_pairs(alloc, paths, pairs, most)? else {
+    let most_doubts = paths.edges.len() / PATHS_A_DOUBT;
+    let Some(doubts) = doubtful_pairs(alloc, paths, pairs, most, most_doubts)? else {
         return Ok(false);
     };
-    if doubts.len() == 0 || doubts.len() > paths.edges.len() / PATHS_A_DOUBT {
+    if doubts.len() == 0 || doubts.len() > most_doubts {
         return Ok(false);
     }
     let mut left = most;

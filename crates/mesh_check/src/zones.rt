@@ -13,7 +13,7 @@ use mesh_lattice::lattice::LatticeEdge;
 use mesh_paths::paths::{Paths, Piece};
 
 /// A zone has at most so many pieces to each side of the stop.
-const REACH: usize = 32;
+const REACH: usize = 8;
 
 /// Where a zone about a place of a path starts: at the next stop before it that lies more than so many units beside the
 /// line of an edge, or where the path does. Nothing where that is too far away.

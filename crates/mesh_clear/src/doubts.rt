@@ -21,6 +21,7 @@ fn push_meetings(
     meetings: &[Meeting],
     left: &mut usize,
     doubts: &mut Vec<(u32, u32)>,
+    most_doubts: usize,
 ) -> Result<(), AllocError>
     requires bends { AreBends paths.now bends.now }
     requires meetings { All (IsMeeting paths.now.edges.items) meetings.now }
@@ -28,6 +29,9 @@ fn push_meetings(
     ensures { OnOk result (All (ArePathsOf paths.now) doubts.new.items) }
 {
     for m in meetings {
+        if doubts.len() > most_doubts {
+            return Ok(());
+        }
         if !is_meeting_clear(paths, bends, *m, left) {
             doubts.push((m.first, m.second))?;
         }
@@ -42,6 +46,7 @@ fn push_close(
     close: &[(u32, u32)],
     left: &mut usize,
     doubts: &mut Vec<(u32, u32)>,
+    most_doubts: usize,
 ) -> Result<(), AllocError>
     requires bends { AreBends paths.now bends.now }
     requires close { All (IsClose paths.now.edges.items) close.now }
@@ -49,6 +54,9 @@ fn push_close(
     ensures { OnOk result (All (ArePathsOf paths.now) doubts.new.items) }
 {
     for pair in close {
+        if doubts.len() > most_doubts {
+            return Ok(());
+        }
         if !is_pair_clear(paths, bends, *pair, left) {
             doubts.push(*pair)?;
         }
@@ -57,13 +65,14 @@ fn push_close(
 }
 
 /// Pairs of paths whose edges met or were close and whose pieces are not known to be clear of each other, where that takes
-/// no more than `most` comparisons of pieces. Nothing where a path is bent by more than 8 units, and where a coordinate
-/// is not below 2^30 in size.
+/// no more than `most` comparisons of pieces. After one more than `most_doubts` no others are sought. Nothing where a path
+/// is bent by more than 8 units, and where a coordinate is not below 2^30 in size.
 pub fn doubtful_pairs(
     alloc: Global,
     paths: &Paths,
     pairs: &Pairs,
     most: usize,
+    most_doubts: usize,
 ) -> Result<Option<Vec<(u32, u32)>>, AllocError>
     requires paths { ArePaths paths.now }
     requires found { AreFound paths.now.edges.items pairs.now }
@@ -77,7 +86,21 @@ pub fn doubtful_pairs(
     };
     let mut left = most;
     let mut doubts = Vec::new(alloc);
-    push_meetings(paths, &bends, &pairs.meetings, &mut left, &mut doubts)?;
-    push_close(paths, &bends, &pairs.close, &mut left, &mut doubts)?;
+    push_meetings(
+        paths,
+        &bends,
+        &pairs.meetings,
+        &mut left,
+        &mut doubts,
+        most_doubts,
+    )?;
+    push_close(
+        paths,
+        &bends,
+        &pairs.close,
+        &mut left,
+        &mut doubts,
+        most_doubts,
+    )?;
     Ok(Some(doubts))
 }
