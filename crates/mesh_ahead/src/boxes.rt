@@ -4,7 +4,7 @@ use mesh_lattice::lattice::LatticeEdge;
 use mesh_meeting::meeting::any_meeting;
 
 /// Of so many edges the boxes are looked at. Twice as many would cost twice as much, and tell little more.
-const SAMPLES: usize = 16;
+const SAMPLES: usize = 8;
 
 /// Of fewer edges all pairs are found soon, whatever their boxes are.
 const FEW_EDGES: usize = 256;

@@ -86,11 +86,22 @@ fn settle(alloc: Global, cut: &mut CutEdges, most: usize) -> Result<bool, AllocE
     Ok(false)
 }
 
+/// With how many pairs an attempt is made. A pair that meets is mostly cut, so more pairs than splits that may be made would
+/// be found in vain.
+fn most_pairs(count: SplitCount) -> usize {
+    if count.most == 0 {
+        return MOST_PAIRS;
+    }
+    let left = count.most.saturating_sub(count.made);
+    left.min(MOST_PAIRS as u64) as usize
+}
+
 /// The paths that edges are cut into, and whether their pieces are clear of each other. `None` where an attempt would not
 /// serve.
 fn cut_and_settled(
     alloc: Global,
     edges: &[LatticeEdge],
+    most: usize,
 ) -> Result<Option<(CutEdges, bool)>, AllocError>
     requires { IsProper edges.now }
     ensures cut { IfOk result (λ o. IfSome o (λ c. AreCut edges.now c.0)) }
@@ -99,7 +110,7 @@ fn cut_and_settled(
     if !do_boxes_tell(edges) {
         return Ok(None);
     }
-    let Some(mut cut) = cut_edges(alloc, edges, MOST_PAIRS)? else {
+    let Some(mut cut) = cut_edges(alloc, edges, most)? else {
         return Ok(None);
     };
     let clear = settle(alloc, &mut cut, edges.len().saturating_mul(COMPARISONS))?;
@@ -115,7 +126,7 @@ fn splitting_in_arrays(
     ensures splitting { IfOk result (λ o. IfSome o (λ v. IsSplitting edges.now v.items)) }
     ensures room { IfOk result (λ o. IfSome o (λ v. IsRoomy (sum_of size v.items))) }
 {
-    let Some((cut, clear)) = cut_and_settled(alloc, edges)? else {
+    let Some((cut, clear)) = cut_and_settled(alloc, edges, MOST_PAIRS)? else {
         return Ok(None);
     };
     if !clear {
@@ -141,7 +152,8 @@ fn told_in_arrays(
 {
     // Read, so that it is known to fit: a return before any split is made counts none.
     let _made = count.made;
-    let Some((cut, clear)) = cut_and_settled(alloc, edges)? else {
+    let most = most_pairs(*count);
+    let Some((cut, clear)) = cut_and_settled(alloc, edges, most)? else {
         return Ok(None);
     };
     count_on(count, cut.paths.splits.made().len())?;
