@@ -20,6 +20,6 @@ pub mod laws;
 pub mod nearness;
 mod resolve;
 
-pub use mesh_lattice::{fill, lattice};
 pub use mesh_ahead::splitter;
+pub use mesh_lattice::{fill, lattice};
 pub use mesh_split::count;
