@@ -18,8 +18,8 @@ pub fn strokes_reach()
     ensures { StrokesReach }
 {}
 
-/// With bevels or round joins, and butt or round caps where caps are drawn, that is as far as the radius and about the
-/// root of a half: twice the square of the distance is at most `2 * r * r + 3 * r + 1`, by the radius `r`.
+/// With bevels or round joins, and butt or round caps where caps are drawn, that is at most the radius and three
+/// quarters of a grid unit: twice the square of the distance is at most `2 * r * r + 3 * r + 1`, by the radius `r`.
 pub fn kept_radii_reach()
     ensures { KeptRadiiReach }
 {}
@@ -37,7 +37,7 @@ pub fn stroke_answers_reach()
 {}
 
 /// Each point that a piece of an outline holds, on either side of the contour, is near a section of the contour. With
-/// bevels or round joins it is at most the offset and the root of a half away, in grid units. How far miters reach is
+/// bevels or round joins it is at most the offset and three quarters of a grid unit away. How far miters reach is
 /// told by `join_reach`.
 pub fn outlines_reach()
     ensures { OutlinesReach }
@@ -56,7 +56,7 @@ pub fn outline_answers_reach()
 {}
 
 /// Each point that a piece of a stroke of variable width holds is as near to a vertex as the radius there says, or to a
-/// section as the greater radius of its ends says: at most that radius and about the root of a half away.
+/// section as the greater radius of its ends says: at most that radius and three quarters of a unit away.
 pub fn variable_strokes_reach()
     ensures { VariableStrokesReach }
 {}
