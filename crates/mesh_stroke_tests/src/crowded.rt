@@ -32,7 +32,7 @@ fn a_stroke_ninety_steps_wide(rt: HostRuntime) -> Result<(), Fail> {
     let source = path(alloc, &circle(alloc)?)?;
     let style = IntStrokeStyle::new(90 * (RADIUS >> 5));
     source.validate_stroke(&style)?;
-    let mut count = SplitCount::new(200_000);
+    let mut count = SplitCount::new(400_000);
     let options = IntOverlayOptions::new();
     let near = source.stroke_with_nearness(alloc, &style, true, options, &mut count)?;
     expect_that(count.made > 100_000, &count)?;

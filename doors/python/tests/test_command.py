@@ -9,7 +9,7 @@ import sys
 import unittest
 import xml.etree.ElementTree
 
-from surroundings import COUNTRY, PACKAGE, SLIVER
+from surroundings import COUNTRY, PACKAGE
 
 from i_overlay_mesh import __version__, buffer
 
@@ -92,8 +92,10 @@ class TestBuffer(unittest.TestCase):
                 self.assertEqual(self.answer(LINE, *words), self.buffered(LINE, **options))
 
     def test_slivers(self):
-        polygon = {"type": "Polygon", "coordinates": [[*SLIVER, SLIVER[0]]]}
-        words = ("buffer", "--distance", "50000", "--join", "bevel", "--scale", "1")
+        square = [[0, 0], [9000, 0], [9000, 9000], [0, 9000], [0, 0]]
+        narrow = [[1000, 1000], [5000, 1001], [5000, 1000], [1000, 1000]]
+        polygon = {"type": "Polygon", "coordinates": [square, narrow]}
+        words = ("buffer", "--distance", "0", "--join", "bevel", "--scale", "1")
         for more, rings in ((), 2), (("--sliver-width", "1"), 1):
             result = run(*words, *more, text=json.dumps(polygon))
             self.assertEqual((result.returncode, result.stderr), (0, b""))

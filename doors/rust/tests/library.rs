@@ -127,20 +127,18 @@ fn nearness_is_told_and_a_limit_kept() {
     assert_eq!(variable_stroke_near(&paths, &ARC, &options, 1), Err(Error::TooManySplits));
 }
 
-/// The smallest drawing that is known to be answered with a sliver, a hole half a unit wide.
-const SLIVER: [[i32; 2]; 7] = [
-    [-253668, 994080], [-537283, 2004779], [-537751, 2004563], [-538416, 2004132], [-561008, 2047212],
-    [-561818, 2047551], [-562788, 2047957],
-];
+/// A square with a hole half a unit wide.
+const WITH_A_SLIVER: [&[[i32; 2]]; 2] =
+    [&[[0, 0], [9000, 0], [9000, 9000], [0, 9000]], &[[1000, 1000], [5000, 1001], [5000, 1000]]];
 
 #[test]
 fn slivers_are_left_out() {
-    let given = outline(&[SLIVER], &OutlineStyle::new(50_000), &Options::default()).unwrap();
+    let given = outline(&WITH_A_SLIVER, &OutlineStyle::new(0), &Options::default()).unwrap();
     let left = without_slivers(&given, 1).unwrap();
     let shapes: Vec<Shape<i32>> = given.iter().collect();
     assert_eq!(shapes.len(), 1);
     let contours: Vec<&[[i32; 2]]> = shapes[0].contours().collect();
-    assert_eq!(contours[1..], [[[-561441, 2048453], [-554992, 2063861], [-561440, 2048453]]]);
+    assert_eq!(contours.len(), 2);
     let count = contours[0].len();
     assert_eq!(left, Shapes { points: contours[0].to_vec(), contour_ends: vec![count], shape_ends: vec![1] });
     assert_eq!(without_slivers(&given, 0), Ok(given.clone()));
