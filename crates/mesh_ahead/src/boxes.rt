@@ -1,4 +1,4 @@
-//! Whether boxes tell which edges meet.
+//! Whether an attempt in arrays is worth making, as a few edges tell.
 
 use mesh_lattice::lattice::LatticeEdge;
 use mesh_meeting::meeting::any_meeting;
@@ -13,6 +13,22 @@ const FEW_EDGES: usize = 256;
 /// what rounds take for a meeting; with twice as many, stars and hatches would take longer than in rounds.
 const BOXES_A_MEETING: usize = 128;
 
+/// Arrays serve where an edge lies in line with so many others at most. Lines do not part what lies in line, and each pair
+/// of it is cut at the other's ends in all paths that have the piece: with twice as many, combs would take longer than in
+/// rounds.
+const MOST_IN_LINE: usize = 4;
+
+/// What one of the edges tells of all.
+#[derive(Copy, Clone)]
+struct Counts {
+    /// How many boxes meet its own.
+    boxes: usize,
+    /// How many edges meet it.
+    meetings: usize,
+    /// How many lie in line with it, level or upright, and share more than a point.
+    in_line: usize,
+}
+
 fn are_apart(a: i32, b: i32, c: i32, d: i32) -> bool {
     a.max(b) < c.min(d) || c.max(d) < a.min(b)
 }
@@ -21,23 +37,37 @@ fn do_boxes_meet(e: LatticeEdge, f: LatticeEdge) -> bool {
     !are_apart(e.0.0, e.1.0, f.0.0, f.1.0) && !are_apart(e.0.1, e.1.1, f.0.1, f.1.1)
 }
 
-/// How many boxes meet that of an edge, and how many edges meet it.
-fn counts(edges: &[LatticeEdge], e: LatticeEdge) -> (usize, usize) {
-    let mut boxes: usize = 0;
-    let mut meetings: usize = 0;
+/// Whether both edges are level at one height, or upright at one place.
+fn are_in_line(e: LatticeEdge, f: LatticeEdge) -> bool {
+    let level = e.0.1 == e.1.1 && f.0.1 == f.1.1 && e.0.1 == f.0.1;
+    let upright = e.0.0 == e.1.0 && f.0.0 == f.1.0 && e.0.0 == f.0.0;
+    level || upright
+}
+
+/// What an edge tells of all.
+fn counts(edges: &[LatticeEdge], e: LatticeEdge) -> Counts {
+    let mut counts = Counts {
+        boxes: 0,
+        meetings: 0,
+        in_line: 0,
+    };
     for f in edges {
         if do_boxes_meet(e, *f) {
-            boxes = boxes.saturating_add(1);
+            counts.boxes = counts.boxes.saturating_add(1);
             if any_meeting(e, *f).is_some() {
-                meetings = meetings.saturating_add(1);
+                counts.meetings = counts.meetings.saturating_add(1);
+                if are_in_line(e, *f) {
+                    counts.in_line = counts.in_line.saturating_add(1);
+                }
             }
         }
     }
-    (boxes, meetings)
+    counts
 }
 
-/// Whether few boxes meet, beside the edges that meet: not so where long slanting edges lie side by side.
-pub fn do_boxes_tell(edges: &[LatticeEdge]) -> bool {
+/// Whether arrays serve: few boxes meet, beside the edges that meet, as they do not where long slanting edges lie side by
+/// side, and few edges lie in line.
+pub fn do_arrays_serve(edges: &[LatticeEdge]) -> bool {
     if edges.len() < FEW_EDGES {
         return true;
     }
@@ -46,8 +76,11 @@ pub fn do_boxes_tell(edges: &[LatticeEdge]) -> bool {
     let mut meetings: usize = 0;
     for sample in 0..SAMPLES {
         let counts = counts(edges, edges[sample * step]);
-        boxes = boxes.saturating_add(counts.0);
-        meetings = meetings.saturating_add(counts.1);
+        if counts.in_line > MOST_IN_LINE {
+            return false;
+        }
+        boxes = boxes.saturating_add(counts.boxes);
+        meetings = meetings.saturating_add(counts.meetings);
     }
     boxes
         <= meetings

@@ -15,7 +15,7 @@ ghost use Rattle.mesh_clear.specs.AllClear.{AreAllClear};
 ghost use Rattle.mesh_ahead.specs.Ahead.{AreSettled, IsCountedSplitting, IsMadeAmong};
 ghost use Rattle.mesh_ahead.specs.Counting.{CountsSplits};
 
-use crate::boxes::do_boxes_tell;
+use crate::boxes::do_arrays_serve;
 use crate::mending::mend;
 use crate::nearness::nearness;
 use crate::segments::counted_segments;
@@ -33,7 +33,7 @@ use std::alloc::{AllocError, Global};
 const MOST_PAIRS: usize = 1 << 23;
 
 /// Of pieces that lines do not part so many pairs are compared for each edge, before an attempt is given up. Twice as many
-/// would serve some combs and hatches, and cost others as much again before the rounds.
+/// would serve some hatches, and cost others as much again before the rounds.
 const COMPARISONS: usize = 16;
 
 /// Pieces that meet still are cut again so often. What meets then seldom comes to an end.
@@ -83,36 +83,37 @@ fn settle(alloc: Global, cut: &mut CutEdges, most: usize) -> Result<bool, AllocE
             return Ok(false);
         }
     }
-    Ok(false)
+    are_all_clear(alloc, &cut.paths, &cut.pairs, most)
 }
 
-/// With how many pairs an attempt is made. A pair that meets is mostly cut, so more pairs than splits that may be made would
-/// be found in vain.
-fn most_pairs(count: SplitCount) -> usize {
+/// How many splits may be made before the limit of a count is passed.
+fn splits_left(count: SplitCount) -> usize {
     if count.most == 0 {
-        return MOST_PAIRS;
+        return usize::MAX;
     }
-    let left = count.most.saturating_sub(count.made);
-    left.min(MOST_PAIRS as u64) as usize
+    count.most.saturating_sub(count.made) as usize
 }
 
 /// The paths that edges are cut into, and whether their pieces are clear of each other. `None` where an attempt would not
-/// serve.
+/// serve. It stops once it has made more than `most_splits` splits.
 fn cut_and_settled(
     alloc: Global,
     edges: &[LatticeEdge],
-    most: usize,
+    most_splits: usize,
 ) -> Result<Option<(CutEdges, bool)>, AllocError>
     requires { IsProper edges.now }
     ensures cut { IfOk result (λ o. IfSome o (λ c. AreCut edges.now c.0)) }
     ensures clear { IfOk result (λ o. IfSome o (λ c. IsTrue c.1 → AreAllClear c.0.paths)) }
 {
-    if !do_boxes_tell(edges) {
+    if !do_arrays_serve(edges) {
         return Ok(None);
     }
-    let Some(mut cut) = cut_edges(alloc, edges, most)? else {
+    let Some(mut cut) = cut_edges(alloc, edges, MOST_PAIRS, most_splits)? else {
         return Ok(None);
     };
+    if cut.paths.splits.made().len() > most_splits {
+        return Ok(Some((cut, false)));
+    }
     let clear = settle(alloc, &mut cut, edges.len().saturating_mul(COMPARISONS))?;
     Ok(Some((cut, clear)))
 }
@@ -126,7 +127,7 @@ fn splitting_in_arrays(
     ensures splitting { IfOk result (λ o. IfSome o (λ v. IsSplitting edges.now v.items)) }
     ensures room { IfOk result (λ o. IfSome o (λ v. IsRoomy (sum_of size v.items))) }
 {
-    let Some((cut, clear)) = cut_and_settled(alloc, edges, MOST_PAIRS)? else {
+    let Some((cut, clear)) = cut_and_settled(alloc, edges, usize::MAX)? else {
         return Ok(None);
     };
     if !clear {
@@ -152,8 +153,8 @@ fn told_in_arrays(
 {
     // Read, so that it is known to fit: a return before any split is made counts none.
     let _made = count.made;
-    let most = most_pairs(*count);
-    let Some((cut, clear)) = cut_and_settled(alloc, edges, most)? else {
+    let left = splits_left(*count);
+    let Some((cut, clear)) = cut_and_settled(alloc, edges, left)? else {
         return Ok(None);
     };
     count_on(count, cut.paths.splits.made().len())?;

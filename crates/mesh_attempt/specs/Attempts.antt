@@ -7,8 +7,6 @@ use Rattle.mesh_points.specs.declared.edges.NumberedEdge.{NumberedEdge}
 use Rattle.mesh_points.specs.Edges.{counted}
 use Rattle.mesh_pairs.specs.Pairs.{AreFound, AreSmall}
 use Rattle.mesh_paths.specs.Paths.{ArePaths}
-use Rattle.mesh_paths.specs.Pieces.{AreReached}
-use Rattle.mesh_attempt.specs.declared.attempt.Attempt.{Attempt}
 use Rattle.mesh_attempt.specs.declared.attempt.CutEdges.{CutEdges}
 
 -- both ends of an edge have coordinates below 2^30 in size
@@ -21,7 +19,3 @@ pub record AreCut (given : List Edge) (c : CutEdges) : Type 0 where
   pub count : IsCountOf given (map counted c.paths.edges.items)
   pub small : AreSmall c.paths.edges.items
   pub found : AreFound c.paths.edges.items c.pairs
-
--- the pieces are those that the splits make of given edges, all splits legal, each piece once, with its net count
-abbrev pub IsReached : List Edge → Attempt → Type 0
-IsReached given a = AreReached given a.splits (map counted a.pieces.items)

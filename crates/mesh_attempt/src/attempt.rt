@@ -3,7 +3,7 @@
 ghost use Rattle.std.specs.Prelude.{◌≡◌, ◌<◌, length, IfOk, IfSome, OnOk};
 ghost use Rattle.std.specs.List.{All};
 ghost use Rattle.mesh_lattice.specs.Clean.{IsProper};
-ghost use Rattle.mesh_attempt.specs.Attempts.{AreCut, IsReached};
+ghost use Rattle.mesh_attempt.specs.Attempts.{AreCut};
 ghost use Rattle.mesh_pairs.specs.Pairs.{IsMeeting};
 ghost use Rattle.mesh_paths.specs.Paths.{ArePaths};
 
@@ -12,12 +12,10 @@ use mesh_lattice::lattice::LatticeEdge;
 use mesh_pairs::pairs::{Meeting, Pairs};
 use mesh_pairs::tree::Tree;
 use mesh_paths::paths::Paths;
-use mesh_paths::pieces::collect;
-use mesh_paths::splits::Splits;
-use mesh_points::edges::{NumberedEdge, NumberedEdges, number_edges};
+use mesh_points::edges::{NumberedEdges, number_edges};
 use std::alloc::{AllocError, Global};
 
-/// With so many merged edges or more the attempt is given up.
+/// With so many edges or more the attempt is given up: places of edges take 31 bits.
 const TOO_MANY_EDGES: usize = 1 << 31;
 
 /// The paths that edges have become, and what was known of pairs of these before any was cut.
@@ -25,14 +23,6 @@ const TOO_MANY_EDGES: usize = 1 << 31;
 pub struct CutEdges {
     pub paths: Paths,
     pub pairs: Pairs,
-}
-
-/// The pieces that edges have become, each once with its net count, the lesser end first, and the splits that led to
-/// them.
-#[derive(Drop)]
-pub struct Attempt {
-    pub pieces: Vec<NumberedEdge>,
-    pub splits: Splits,
 }
 
 /// Cuts two edges where they met, as their paths lie now, unless the end at which they met is a stop of both.
@@ -51,32 +41,43 @@ fn cut_meeting(paths: &mut Paths, m: Meeting) -> Result<(), AllocError>
     Ok(())
 }
 
-/// Cuts each pair that meets once.
-fn cut_meetings(paths: &mut Paths, meetings: &[Meeting]) -> Result<(), AllocError>
+/// Cuts each pair that meets once, until more splits were made than may be.
+fn cut_meetings(
+    paths: &mut Paths,
+    meetings: &[Meeting],
+    most_splits: usize,
+) -> Result<(), AllocError>
     requires paths { ArePaths paths.old }
     requires meetings { All (IsMeeting paths.old.edges.items) meetings.now }
     ensures paths { OnOk result (ArePaths paths.new) }
     ensures edges { OnOk result (paths.new.edges ≡ paths.old.edges) }
 {
     for m in meetings {
+        if paths.splits.made().len() > most_splits {
+            return Ok(());
+        }
         cut_meeting(paths, *m)?;
     }
     Ok(())
 }
 
-/// Cuts edges, none of which ends where it starts, where they meet, each pair once. Nothing where a coordinate is not
-/// below 2^30 in size, and where more than `most` pairs meet or
-/// more are close: the edges have to be split another way then. It fails
-/// only where memory is refused, or more than 2^31 - 1 of anything are wanted.
+/// Cuts edges, none of which ends where it starts, where they meet, each pair once, and stops once it has made more than
+/// `most_splits` splits. `None` where a coordinate is not below 2^30 in size, where there are 2^31 edges or more, and
+/// where more than `most` pairs meet or come close: the edges have to be split another way then. It fails only where
+/// memory is refused, or more than 2^31 - 1 points or pieces are wanted.
 #[tactic(auto, using(crate::proofs::Known::small_at))]
 pub fn cut_edges(
     alloc: Global,
     given: &[LatticeEdge],
     most: usize,
+    most_splits: usize,
 ) -> Result<Option<CutEdges>, AllocError>
     requires { IsProper given.now }
     ensures { IfOk result (λ o. IfSome o (λ c. AreCut given.now c)) }
 {
+    if given.len() >= TOO_MANY_EDGES {
+        return Ok(None);
+    }
     let NumberedEdges { list, mut points } = number_edges(alloc, given)?;
     if list.len() >= TOO_MANY_EDGES || !are_small(&list) {
         return Ok(None);
@@ -88,25 +89,6 @@ pub fn cut_edges(
     points.reserve(alloc, pairs.meetings.len())?;
     let numbered = NumberedEdges { list, points };
     let mut paths = Paths::start(alloc, numbered, &pairs.room, pairs.meetings.len())?;
-    cut_meetings(&mut paths, &pairs.meetings)?;
+    cut_meetings(&mut paths, &pairs.meetings, most_splits)?;
     Ok(Some(CutEdges { paths, pairs }))
-}
-
-/// The same, and the pieces of all edges. It fails where `cut_edges` does, and where a count does not fit in 32 bits.
-pub fn split_in_arrays(
-    alloc: Global,
-    given: &[LatticeEdge],
-    most: usize,
-) -> Result<Option<Attempt>, AllocError>
-    requires { IsProper given.now }
-    ensures { IfOk result (λ o. IfSome o (λ a. IsReached given.now a)) }
-{
-    let Some(cut) = cut_edges(alloc, given, most)? else {
-        return Ok(None);
-    };
-    let pieces = collect(alloc, &cut.paths)?;
-    Ok(Some(Attempt {
-        pieces: pieces.list,
-        splits: cut.paths.splits,
-    }))
 }

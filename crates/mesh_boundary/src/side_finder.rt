@@ -20,7 +20,7 @@ use mesh_lattice::rows::{Rows, SAMPLED, mean_reached};
 use mesh_lattice::samples::sample;
 use std::alloc::{AllocError, Global};
 
-/// For so few segments all are gone through for each, which is quicker than to list them.
+/// For so few segments all are summed for each, which is quicker than to list them.
 const FEW: usize = 24;
 
 /// The greatest number of segments that reach a level, on average, for which rows along a slant serve.
@@ -41,6 +41,8 @@ const SMALL_STARS: usize = 8;
 /// A finder to find the sides of segments.
 #[derive(Drop)]
 pub enum SideFinder {
+    /// By a sum over all segments, for each.
+    Summed,
     /// By sums over rows to the east.
     East(Rows<i128>),
     /// By sums over rows along a slant.
@@ -91,6 +93,15 @@ fn row_sides(segments: &[CountedSegment], rows: &Rows<i128>, i: usize) -> Sides
     sides_of(rows.row(middle(s.0)), s)
 }
 
+/// The sides of the segment at a place, by a sum over all segments.
+fn summed_sides(segments: &[CountedSegment], i: usize) -> Sides
+    requires in_range { i < length segments.now }
+    requires room { IsRoomy (sum_of size segments.now) }
+    ensures { (d : Counted) → result ≡ sides_of segments.now (slice_index_or segments.now i d) }
+{
+    sides_of(segments, segments[i])
+}
+
 /// The sides of the segment at a place: those known of it, or else by a sum over all segments.
 fn known_sides(segments: &[CountedSegment], flood: &Flood, i: usize) -> Sides
     requires in_range { i < length segments.now }
@@ -102,7 +113,7 @@ fn known_sides(segments: &[CountedSegment], flood: &Flood, i: usize) -> Sides
     if let Some(sides) = flood.sides(segments, i) {
         return sides;
     }
-    sides_of(segments, segments[i])
+    summed_sides(segments, i)
 }
 
 /// The sides of the segment at a place, by a sum over a row along a slant.
@@ -143,7 +154,7 @@ impl SideFinder {
         ensures { IfOk result (λ w. Serves w segments.now) }
     {
         if segments.len() <= FEW {
-            return Ok(SideFinder::Known(Flood::unknown(alloc, 0, 0)?));
+            return Ok(SideFinder::Summed);
         }
         if parts <= FEW_PARTS {
             if let Some(finder) = flooded(alloc, segments)? {
@@ -176,6 +187,7 @@ impl SideFinder {
             (slice_index_or segments.now i d)) }
     {
         match self {
+            SideFinder::Summed => summed_sides(segments, i),
             SideFinder::East(rows) => row_sides(segments, rows, i),
             SideFinder::Slanted(rows) => slanted_sides(segments, rows, i),
             SideFinder::Known(flood) => known_sides(segments, flood, i),

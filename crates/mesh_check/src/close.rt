@@ -23,7 +23,7 @@ fn are_beyond(start: i64, end: i64, limit: i64) -> bool
     (start > limit && end > limit) || (start < -limit && end < -limit)
 }
 
-/// How far beside the line of an edge, as a turn, lies what is so many units beside it.
+/// A distance beside the line of an edge, given in grid units, as a turn.
 #[inline]
 fn limit_of(e: LatticeEdge, units: u64) -> u64
     requires small { HasSmallEnds e }
@@ -47,8 +47,8 @@ fn lies_beside(e: LatticeEdge, f: LatticeEdge, units: u64) -> bool
     are_beyond(start, end, limit_of(e, units) as i64)
 }
 
-/// Whether one of two paths lies beside the line of the other's edge by more than both are bent. So many units, at most,
-/// lie their stops beside the lines of their own edges. Then no two pieces of them meet.
+/// Whether one of two paths lies beside the line of the other's edge by more than both are bent, so that no two pieces of
+/// them meet. No stop lies more than `first_units` and `second_units` beside the line of its own path's edge.
 pub fn are_parted(
     paths: &Paths,
     first: u32,

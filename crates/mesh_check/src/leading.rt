@@ -22,7 +22,7 @@ pub fn line_of(paths: &Paths, path: u32) -> LatticeEdge
     (e.start, e.end)
 }
 
-/// How far a path is bent: so many units, at most, lie its stops beside the line of its edge.
+/// How far a path is bent: the least number of units that no stop of it lies farther beside the line of its edge.
 pub fn bend_of(paths: &Paths, path: u32) -> u64
     requires paths { ArePaths paths.now }
     requires within { path < count_of paths.now.stops }
@@ -102,8 +102,8 @@ pub fn leads_away(paths: &Paths, path: u32, place: usize, line: LatticeEdge, uni
     is_far_after(paths, path, place, line, units)
 }
 
-/// Whether two paths lead apart from a stop of both, which stands at these places of them. So many units, at most, lie
-/// their stops beside the lines of their edges. Then no two pieces of them meet but in ends.
+/// Whether two paths lead apart from a stop of both, which stands at these places of them, so that no two pieces of them
+/// meet but in ends. No stop lies more than `first_units` and `second_units` beside the line of its own path's edge.
 pub fn lead_apart(
     paths: &Paths,
     first: Piece,

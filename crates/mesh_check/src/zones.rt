@@ -16,7 +16,7 @@ use mesh_paths::paths::{Paths, Piece};
 const REACH: usize = 8;
 
 /// Where a zone about a place of a path starts: at the next stop before it that lies more than so many units beside the
-/// line of an edge, or where the path does. Nothing where that is too far away.
+/// line of an edge, or where the path does. `None` where that is too far away.
 fn zone_start(paths: &Paths, at: Piece, line: LatticeEdge, units: u64) -> Option<usize>
     requires paths { ArePaths paths.now }
     requires within { at.path < count_of paths.now.stops }
@@ -86,9 +86,9 @@ fn zone_about(paths: &Paths, at: Piece, line: LatticeEdge, units: u64) -> Option
 }
 
 /// Whether two paths are clear of each other by their pieces near a stop of both, which stands at these places of them:
-/// up to where each lies so far beside the line of the other's edge that it cannot come back. So many units, at most, lie
-/// their stops beside the lines of their edges. Pieces are compared by so many comparisons as are left at most. False
-/// also where that does not tell.
+/// up to where each lies so far beside the line of the other's edge that it cannot come back. No stop lies more than
+/// `first_units` and `second_units` beside the line of its own path's edge. At most `left` pairs of pieces are compared.
+/// `false` also where that does not tell.
 #[cold]
 pub fn are_zones_clear(
     paths: &Paths,

@@ -64,9 +64,9 @@ fn push_close(
     Ok(())
 }
 
-/// Pairs of paths whose edges met or were close and whose pieces are not known to be clear of each other, where that takes
-/// no more than `most` comparisons of pieces. After one more than `most_doubts` no others are sought. Nothing where a path
-/// is bent by more than 8 units, and where a coordinate is not below 2^30 in size.
+/// The pairs of paths whose edges met or were close, and whose pieces are not known to be clear of each other after
+/// `most` comparisons of pieces. No more are sought once there are more than `most_doubts`. `None` where a path is bent
+/// by more than 8 units, and where a coordinate is not below 2^30 in size.
 pub fn doubtful_pairs(
     alloc: Global,
     paths: &Paths,

@@ -19,8 +19,8 @@ use mesh_num::shape::edge::DirectedEdge;
 use mesh_offset::error::IntNearnessError;
 use std::alloc::Global;
 
-/// Options of shapes. They are lent in this to methods: one whose arguments name the type `I::WideUInt` is not given the
-/// clauses of its trait.
+/// Options of shapes, wrapped: a method that names the type `I::WideUInt` in its arguments is not given the clauses of its
+/// trait.
 #[derive(Drop)]
 pub(crate) struct ShapeOptions<I: OverlayInt>(pub IntOverlayOptions<I::WideUInt>);
 

@@ -3,13 +3,8 @@
 
 ghost use Rattle.std.specs.Prelude.{◌<◌};
 
+use crate::tuning::{FAR, SEGMENTS_A_JUMP};
 use mesh_lattice::lattice::{LatticeEdge, LatticePoint};
-
-/// A segment is far from the one before where their starts are so many times as far from each other as both are long.
-const FAR: u64 = 4;
-
-/// One of so many segments at most is far from the one before where they follow each other.
-const SEGMENTS_A_JUMP: usize = 32;
 
 /// For each bit of two coordinates, how the curve runs in the square that it stands for: two bits that follow from those
 /// above it, of what is turned and of what is mirrored, and how these go on.

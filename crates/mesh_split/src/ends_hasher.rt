@@ -2,10 +2,8 @@
 
 ghost use Rattle.std.specs.Prelude.{◌+◌, ◌*◌, ◌%◌, ◌^◌, fold};
 
+use crate::tuning::SCATTERING;
 use std::hash::{BuildHasher, Hasher};
-
-/// 2^64 over the golden ratio, whose multiples are spread evenly.
-const SCATTERING: u64 = 0x9E37_79B9_7F4A_7C15;
 
 /// What was written, as if at random. Its seed is fixed, so whoever chooses the input can choose ends with equal hashes.
 #[derive(Copy, Clone)]

@@ -15,16 +15,11 @@ use crate::leash::Leash;
 use crate::split_log::SplitLog;
 use crate::steps::Splitter;
 use crate::store::Store;
+use crate::tuning::{DRAWS, REHEARSALS};
 use crate::witnesses::forward;
 use mesh_lattice::exact::meeting;
 use mesh_lattice::lattice::LatticeEdge;
 use std::alloc::{AllocError, Global};
-
-/// How often all is begun anew, at most.
-const DRAWS: usize = 12;
-
-/// How often the noted edges are split by themselves, at most, before all are.
-const REHEARSALS: usize = 3;
 
 /// A segment, and one that it meets.
 type Pair = (LatticeEdge, Meeting);

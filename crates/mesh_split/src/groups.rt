@@ -18,14 +18,12 @@ ghost use Rattle.mesh_split.specs.Private.Steps.{exactly};
 
 use crate::bounding::{BoundingBox, bounding_box, is_beside};
 use crate::hints::Meeting;
+use crate::tuning::TESTS_A_PAIR;
 use crate::worklist::Worklist;
 use mesh_lattice::exact::{is_end, meeting, turn};
 use mesh_lattice::lattice::{LatticeEdge, LatticePoint};
 use std::alloc::{AllocError, Global};
 use std::mem::replace;
-
-/// So many tests more may be made for each pair that is found.
-const TESTS_A_PAIR: usize = 32;
 
 /// A segment, and one that it meets.
 pub type Pair = (LatticeEdge, Meeting);

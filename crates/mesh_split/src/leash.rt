@@ -5,41 +5,15 @@ use crate::hints::Meeting;
 use crate::nearness::distance;
 use crate::split_log::SplitLog;
 use crate::store::Store;
+use crate::tuning::{
+    LEASH, LONG, MOST_ORDERS, MOST_SPLITS_ANEW, MOST_STEPS, NARROW, NEAR_AN_END, NEIGHBOURS, RINGS,
+    SCATTERING,
+};
 use crate::witnesses::Witnesses;
 use mesh_lattice::exact::{cross, is_end, minus};
 use mesh_lattice::lattice::{LatticeEdge, LatticePoint};
 use std::alloc::{AllocError, Global};
 use std::collections::HashMap;
-
-/// How far a split point near an end may lie from the given edge that its segment comes from, in 64ths of a grid unit.
-const REACH: u64 = 128;
-
-/// So often the pieces of two given edges may be split near an end in one attempt: a run splits them again and again.
-const MOST_STEPS: u64 = 10;
-
-/// Up to this far in both coordinates, a point is near an end, in grid units.
-const NEAR: u128 = 64;
-
-/// From this length on, in grid units, a segment is long where it is split near an end.
-const LONG: u128 = 1 << 14;
-
-/// Below this angle, a thousandth, two segments are nearly parallel.
-const NARROW: u64 = 1 << 46;
-
-/// So many of the edges that a noted one meets are noted too.
-const NEIGHBOURS: usize = 8;
-
-/// How often those that the noted ones meet are noted too.
-const RINGS: usize = 2;
-
-/// An edge whose order was drawn so often is given up.
-const MOST_TURNS: u64 = 12;
-
-/// How many splits may have been made anew, about, where another order is drawn: crowded drawings take many.
-const MOST_SPLITS_ANEW: usize = 1_200_000;
-
-/// 2^64 over the golden ratio: products with it look random.
-const SCATTERING: u64 = 0x9E37_79B9_7F4A_7C15;
 
 /// What an attempt may do, and what it could not do for that.
 #[derive(Drop)]
@@ -75,7 +49,7 @@ fn angle(e: LatticeEdge, f: LatticeEdge) -> u64 {
 /// Whether two points differ by few units.
 fn is_near(p: LatticePoint, q: LatticePoint) -> bool {
     let way = minus(p, q);
-    way.0.unsigned_abs() <= NEAR && way.1.unsigned_abs() <= NEAR
+    way.0.unsigned_abs() <= NEAR_AN_END && way.1.unsigned_abs() <= NEAR_AN_END
 }
 
 /// Whether a segment is split there, and near an end of it. Runs cut pieces of few units off.
@@ -161,7 +135,7 @@ impl Leash {
 
     /// Whether a segment, which comes from a given edge, may be split there, or need not be.
     fn reaches(e: LatticeEdge, witness: LatticeEdge, c: LatticePoint) -> bool {
-        !is_cut_near_an_end(e, c) || distance(witness, c) <= REACH
+        !is_cut_near_an_end(e, c) || distance(witness, c) <= LEASH
     }
 
     /// How often the pieces of two given edges were split near an end, this time counted.
@@ -210,7 +184,7 @@ impl Leash {
 
     /// Notes two given edges whose pieces are not split, unless their order was drawn too often.
     fn hold(&mut self, first: LatticeEdge, second: LatticeEdge) -> Result<(), AllocError> {
-        if self.turn(first).max(self.turn(second)) < MOST_TURNS {
+        if self.turn(first).max(self.turn(second)) < MOST_ORDERS {
             self.held.insert(first, ())?;
             self.held.insert(second, ())?;
         }
@@ -244,10 +218,10 @@ impl Leash {
         let begins = held.iter().any(|e| !self.has_noted(*e));
         for e in &held {
             let turn = self.turn(*e);
-            let next = if begins && turn < MOST_TURNS {
+            let next = if begins && turn < MOST_ORDERS {
                 1
             } else {
-                turn.saturating_add(1).min(MOST_TURNS)
+                turn.saturating_add(1).min(MOST_ORDERS)
             };
             self.noted.insert(*e, next)?;
         }
@@ -274,7 +248,7 @@ impl Leash {
             return u64::MAX;
         }
         match turn {
-            1 | MOST_TURNS => angle(e, f),
+            1 | MOST_ORDERS => angle(e, f),
             2 => (u64::MAX / 2).saturating_sub(angle(e, f)),
             turn => drawn(e, f, turn) / 2,
         }

@@ -8,9 +8,10 @@
 //! in which order these are split anew, and `hints` have that order. `worklist` and `store` have the segments that wait
 //! and those that live, `tree` the parts of the plane by which the latter are sought, `bounding` the boxes by which most
 //! of those found there are left out.
-//! `steps` are the steps of all of it, `ends_hasher` the hasher of its maps. `count` counts the splits, for the limit that a caller may set, `split_log` keeps
-//! those that stand, and `nearness` is how near these lie to the edges. `specs/Private` has the states of the loops,
-//! which private contracts alone read.
+//! `steps` are the steps of all of it, `ends_hasher` the hasher of its maps, `tuning` has the numbers that it is tuned
+//! by. `count` counts the splits, for the limit that a caller may set, `split_log` keeps those that stand, and
+//! `nearness` is how near these lie to the edges. `specs/Private` has the states of the loops, which private contracts
+//! alone read.
 #![tactic(auto)]
 
 mod bounding;
@@ -31,5 +32,6 @@ mod steps;
 mod store;
 mod tally;
 mod tree;
+mod tuning;
 mod witnesses;
 mod worklist;

@@ -9,15 +9,13 @@ use crate::ends_hasher::EndsHasher;
 use crate::groups::Pair;
 use crate::hints::Meeting;
 use crate::nearness::is_farther;
+use crate::tuning::PIECE_REACH;
 use crate::witnesses::forward;
 use crate::worklist::Worklist;
 use mesh_lattice::exact::{is_end, meeting, minus};
 use mesh_lattice::lattice::{LatticeEdge, LatticePoint};
 use std::alloc::{AllocError, Global};
 use std::collections::HashMap;
-
-/// So far a split point may lie from the segment of the round whose piece is split, in grid units.
-const REACH: u64 = 8;
 
 /// Two pieces that meet, each at its place in a path, and where.
 #[derive(Copy, Clone)]
@@ -127,7 +125,7 @@ impl Paths {
 
     /// Notes that a piece of a segment is split.
     fn cut(&mut self, e: LatticeEdge, place: usize, c: LatticePoint) -> Result<(), AllocError> {
-        if is_farther(e, c, REACH) {
+        if is_farther(e, c, PIECE_REACH) {
             self.has_strayed = true;
         }
         if let Some(points) = self.points.get_mut(&e) {

@@ -33,71 +33,17 @@ use crate::groups::{Group, Pair, Search};
 use crate::leash::is_delicate;
 use crate::pieces::Paths;
 use crate::steps::{Settled, Splitter};
+use crate::tuning::{
+    FEW_EDGES, FEW_PAIRS, LAST_OF_BLOCK, LATER_TESTS, MANY_PAIRS, MANY_TIMES, MORE_TESTS,
+    MOST_OF_A_GROUP, MOST_TURNS, NEAR_BOXES, NEAR_BOXES_A_PAIR, PART_OF_A_ROUND, ROUNDS,
+    SAMPLED_EDGES, SEGMENTS_A_PAIR, SOME_EDGES, STRIDE, TESTS,
+};
 use crate::worklist::Worklist;
 use mesh_lattice::exact::{meeting, same_edge};
 use mesh_lattice::lattice::LatticeEdge;
 use mesh_lattice::samples::sample;
 use std::alloc::{AllocError, Global};
 use std::mem::replace;
-
-/// After so many rounds all is begun anew, once, and pairs are split in another order: where pairs are left then, a run of
-/// splits goes on, and few runs are met in both orders.
-const ROUNDS: usize = 12;
-
-/// The rounds in both orders.
-const MOST_TURNS: usize = 2 * ROUNDS;
-
-/// In the other order each pair stands so many after the one before, from the first on again where there are no more. A
-/// prime, so that each has its turn, unless there are as many.
-const STRIDE: usize = 1_000_003;
-
-/// Of so many pairs or more, in the other order, blocks are split from the last pair on, since all at random would lie far
-/// apart in memory.
-const MANY_PAIRS: usize = 100_000;
-
-/// The place of the last pair of the first block.
-const LAST_OF_BLOCK: usize = 7;
-
-/// So many tests are made for each fresh segment, at most, and more for pairs that are found.
-const TESTS: usize = 60;
-
-/// So many in later rounds: much would be split in vain if these were given up.
-const LATER_TESTS: usize = 600;
-
-/// And for so many segments more, since a round of few is cheap in any case.
-const MORE: usize = 10_000;
-
-/// Of the pairs of a round, the next one may find so small a part. Where pieces meet again and again, it is greater.
-const PART: usize = 8;
-
-/// But so many pairs it may find in any case.
-const FEW_PAIRS: usize = 64;
-
-/// A pair that is split becomes so many segments more.
-const SEGMENTS_A_PAIR: usize = 2;
-
-/// A group of more segments is halved.
-const MOST_OF_A_GROUP: usize = 20;
-
-/// Where so many times as many segments wait, few are fresh: they may lie far from each other, and then a box that
-/// holds several of them reaches much, so each is held alone. And where there are so few pieces, groups are pruned about
-/// the ends of these alone.
-const MANY_TIMES: usize = 16;
-
-/// Of fewer edges no list is made: they are split one by one.
-const FEW_EDGES: usize = 20;
-
-/// For fewer than these, rounds serve in any case.
-const SOME_EDGES: usize = 100;
-
-/// By so many edges it is judged whether rounds serve.
-const SAMPLED: usize = 8;
-
-/// The boxes of so many edges may reach that of a sampled one.
-const NEAR: usize = 24;
-
-/// So many more may for each edge that it meets.
-const NEAR_A_PAIR: usize = 12;
 
 /// The state between two rounds.
 #[derive(Drop)]
@@ -132,14 +78,14 @@ fn serve(alloc: Global, edges: &[LatticeEdge]) -> Result<bool, AllocError> {
     }
     let mut tests: usize = 0;
     let mut most: usize = 0;
-    for e in &sample(alloc, edges, SAMPLED)? {
+    for e in &sample(alloc, edges, SAMPLED_EDGES)? {
         let bounds = bounding_box(*e);
-        most = most.saturating_add(NEAR);
+        most = most.saturating_add(NEAR_BOXES);
         for f in edges {
             if !is_beside(bounds, *f) {
                 tests = tests.saturating_add(1);
                 if meeting(*e, *f).is_some() {
-                    most = most.saturating_add(NEAR_A_PAIR);
+                    most = most.saturating_add(NEAR_BOXES_A_PAIR);
                 }
             }
         }
@@ -287,7 +233,7 @@ fn noted(alloc: Global, pairs: &[Pair]) -> Result<Vec<LatticeEdge>, AllocError>
 /// Whether more than an eighth of the pairs are delicate.
 fn are_delicate(pairs: &[Pair]) -> bool {
     let delicate = pairs.iter().filter(|k| is_delicate(k.0, k.1)).count();
-    pairs.len() / PART < delicate
+    pairs.len() / PART_OF_A_ROUND < delicate
 }
 
 /// Splits what a pair has become where that meets, and lists the pieces where they are wanted.
@@ -442,7 +388,7 @@ impl Rounds {
         let most_of_a_group = self.most_of_a_group();
         let edges = arranged(alloc, replace(&mut self.fresh, Vec::new(alloc)))?;
         let group = Group::of(alloc, &edges, most_of_a_group)?;
-        let most = edges.len().saturating_add(MORE).saturating_mul(tests);
+        let most = edges.len().saturating_add(MORE_TESTS).saturating_mul(tests);
         drop(edges);
         let mut search = Search::new(alloc, most);
         group.find_within(&mut search)?;
@@ -482,7 +428,7 @@ impl Rounds {
             → IsRound given self.new) }
         ensures log { self.new.splitter.log ≡ self.old.splitter.log }
     {
-        self.most_pairs = (held.pairs.len() / PART).max(FEW_PAIRS);
+        self.most_pairs = (held.pairs.len() / PART_OF_A_ROUND).max(FEW_PAIRS);
         if !keeps_some {
             self.fresh = self.splitter.todo.ends(alloc)?;
             self.groups = Vec::new(alloc);

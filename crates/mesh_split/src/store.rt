@@ -8,7 +8,8 @@ ghost use Rattle.mesh_split.specs.Private.Steps.{HaveRoom, IsForward, IsPut, IsT
 
 use crate::hints::Meeting;
 use crate::tally::Tally;
-use crate::tree::{DEPTH, Tree};
+use crate::tree::Tree;
+use crate::tuning::DEPTH;
 use crate::worklist::Worklist;
 use mesh_lattice::lattice::{CountedSegment, LatticeEdge};
 use std::alloc::{AllocError, Global};

@@ -15,21 +15,11 @@ ghost use Rattle.mesh_split.specs.Private.Steps.{exactly};
 use crate::bounding::{BoundingBox, bounding_box, is_beside};
 use crate::hints::Meeting;
 use crate::tally::Tally;
+use crate::tuning::{FEW_OF_A_PART, SAMPLED_FOR_A_CUT};
 use mesh_lattice::exact::{meeting, same_edge};
 use mesh_lattice::lattice::{LatticeEdge, LatticePoint};
 use mesh_lattice::samples::sample;
 use std::alloc::{AllocError, Global};
-
-/// Up to so many segments a part lists before it is parted.
-const FEW: usize = 48;
-
-/// No part of the plane lies under more cuts. Where a full one would, as where a run of splits goes on along a line,
-/// and lists as many as a power of two, all cuts are chosen anew. Cuts that halve what is listed need some twenty for a
-/// million segments, so this many are of a run.
-pub const DEPTH: usize = 128;
-
-/// About how many segments a cut is chosen from.
-const SAMPLED: usize = 16;
 
 /// A vector across a cut.
 type Across = (i16, i16);
@@ -281,7 +271,7 @@ fn work(edges: &[LatticeEdge], cut: Cut) -> usize {
 /// fifths of what there was: so what reaches both sides is listed not much more often. Where one leaves three fifths,
 /// no other is tried.
 fn best_cut(alloc: Global, edges: &[LatticeEdge]) -> Result<Option<Cut>, AllocError> {
-    let some = sample(alloc, edges, SAMPLED)?;
+    let some = sample(alloc, edges, SAMPLED_FOR_A_CUT)?;
     let whole = some.len().saturating_mul(some.len());
     let mut best = None;
     let mut least = whole / 5 * 4;
@@ -313,8 +303,8 @@ fn parted(alloc: Global, listed: Vec<LatticeEdge>, full: usize) -> Result<Tree, 
     };
     let low = on_side(alloc, &listed, cut, true)?;
     let high = on_side(alloc, &listed, cut, false)?;
-    let low = Box::new(alloc, Tree::Leaf(low, FEW))?;
-    let high = Box::new(alloc, Tree::Leaf(high, FEW))?;
+    let low = Box::new(alloc, Tree::Leaf(low, FEW_OF_A_PART))?;
+    let high = Box::new(alloc, Tree::Leaf(high, FEW_OF_A_PART))?;
     Ok(Tree::Fork(low, cut, high))
 }
 
@@ -323,10 +313,10 @@ fn leaf_for(alloc: Global, edges: &[LatticeEdge], lists: bool) -> Result<Tree, A
     ensures { lists ≡ true → IfOk result (λ n. (x : Edge) → StandsIn x edges.now → HasListed (listed_at n) x) }
 {
     if !lists {
-        return Ok(Tree::Leaf(Vec::new(alloc), FEW));
+        return Ok(Tree::Leaf(Vec::new(alloc), FEW_OF_A_PART));
     }
     let listed = Vec::from_slice(alloc, edges)?;
-    let full = listed.len().saturating_mul(2).max(FEW);
+    let full = listed.len().saturating_mul(2).max(FEW_OF_A_PART);
     Ok(Tree::Leaf(listed, full))
 }
 
@@ -353,7 +343,7 @@ impl Tree {
     ) -> Result<Tree, AllocError>
         ensures { lists ≡ true → IfOk result (λ n. (x : Edge) → StandsIn x edges.now → HasListed (listed_at n) x) }
     {
-        if depth == 0 || edges.len() <= FEW {
+        if depth == 0 || edges.len() <= FEW_OF_A_PART {
             return leaf_for(alloc, edges, lists);
         }
         let Some(cut) = best_cut(alloc, edges)? else {
