@@ -1,15 +1,15 @@
-/* Polygon offsetting on whole numbers, for C.
+/* Polygon offsetting on an integer grid, for C.
 
-   The caller passes everything that a call reads, and every array that it writes. A call keeps nothing: what it takes
-   from malloc it frees before it returns. Calls may run in many threads at once, each with arrays of its own. Do not
-   call from a signal handler, nor in the forked child of a process with threads. Stacks of 256 KiB are tested.
+   You pass everything that a call reads, and every array that it writes. A call keeps no pointers, and frees what it
+   allocates before it returns. Calls may run in many threads at once, each with arrays of its own. Do not call from a
+   signal handler, nor in the forked child of a process with threads. Stacks of 256 KiB are tested.
 
-   A list is a pointer and a number of items. The pointer has to be valid, aligned and not NULL, even if the list is
-   empty, and what a call writes must not overlap with anything else that it is given.
+   An array is a pointer and a number of items. The pointer has to be valid, aligned and not NULL, even if the array is
+   empty. An array that a call writes must not overlap any other array that you pass.
 
-   Versions are semantic. Within one major version a program that was linked with an earlier shared object runs with a
-   later one, whose name on the system ends in the major version: no call goes, no struct and no number of an
-   enumeration changes, and an answer changes only where it broke its contract. A minor version may add calls. */
+   Versions are semantic. Within a major version, a program runs with any later shared object: no call is removed, no
+   struct or enum value changes, and an answer changes only if it broke its contract. A minor version may add calls. The
+   name of the shared object ends in the major version. */
 #ifndef I_OVERLAY_MESH_H
 #define I_OVERLAY_MESH_H
 
@@ -33,25 +33,25 @@ enum {
     MESH_OUT_OF_RANGE = 1,    /* The drawing would leave the range of coordinates, or a contour's area is too large. */
     MESH_MALFORMED = 2,       /* Invalid argument. */
     MESH_OUT_OF_MEMORY = 3,   /* An allocation failed. */
-    MESH_TOO_MANY_SPLITS = 4, /* More edges were split than the given limit. */
+    MESH_TOO_MANY_SPLITS = 4, /* More splits were made than the given limit. */
     MESH_ROOM_TOO_SMALL = 5   /* An array is too small. All are unchanged; the sizes needed are reported. */
 };
 
 /* Answers a request in JSON, as the program mesh_run does.
 
    request        the bytes of the request
-   room           receives the line that the program would print, with its line feed and no zero at the end
-   needed         receives the number of bytes of that line, at every outcome
+   room           receives the line that the program would print, with its line feed, but without a zero at the end
+   needed         receives the number of bytes of that line, with every outcome
 
-   A line is written at every outcome but MESH_ROOM_TOO_SMALL; bytes of the room behind it keep their values. The exit
-   status of the program is 0 for MESH_ANSWERED, 1 for MESH_OUT_OF_RANGE and MESH_OUT_OF_MEMORY, and 2 for
-   MESH_MALFORMED. */
+   A line is written with every outcome but MESH_ROOM_TOO_SMALL, also if the request is refused or cannot be read; bytes
+   after it are unchanged. The exit status of the program would be 0 for MESH_ANSWERED, 1 for MESH_OUT_OF_RANGE and
+   MESH_OUT_OF_MEMORY, and 2 for MESH_MALFORMED. */
 mesh_outcome mesh_answer(const uint8_t *request, size_t request_size, uint8_t *room, size_t room_size, size_t *needed);
 
 /* Says why bytes are not a valid request.
 
    MESH_MALFORMED: they are not, and the room receives a text that says why and where, without a line feed.
-   MESH_ANSWERED: they are a valid request, and `needed` is 0. Rooms and sizes are as for mesh_answer. */
+   MESH_ANSWERED: they are, and `needed` is 0. Rooms and sizes are as for mesh_answer. */
 mesh_outcome mesh_why(const uint8_t *request, size_t request_size, uint8_t *room, size_t room_size, size_t *needed);
 
 /* ---- Drawings in arrays
@@ -132,18 +132,17 @@ typedef struct {
 /* Draws paths and returns polygons.
 
    points, vertices   the points or vertices of all paths, path by path
-   ends               for each path, the offset of its end in that list: how many items it and all paths before it have
-   start_points, ..   the points of custom caps, from right to left round the end at (0, 0) of a path that runs towards
-                      greater x
+   ends               for each path, the index after its last item: how many items it and all paths before it have
+   start_points, ..   the points of custom caps, for a path that runs along the x axis, rightwards, and ends at (0, 0),
+                      from its right side (y below 0) to its left
    shape_points       receives the points of all contours, contour by contour; each shape begins with its outer contour
-   contour_ends       receives for each contour the offset of its end in shape_points
-   shape_ends         receives for each shape the offset of its end in contour_ends
-   counts             receives how many items these three lists have, with MESH_ANSWERED and MESH_ROOM_TOO_SMALL; it is
-                      unchanged at any other outcome
+   contour_ends       receives, for each contour, the index after its last point in shape_points
+   shape_ends         receives, for each shape, the index after its last contour in contour_ends
+   counts             receives how many items these three arrays hold, or would have to hold (MESH_ROOM_TOO_SMALL); it is
+                      unchanged with any outcome but this one and MESH_ANSWERED
 
-   With MESH_ANSWERED the three lists begin with the result; items behind it are unchanged. At any other outcome all
-   three are unchanged. MESH_MALFORMED: invalid offsets, such as one that is less than the one before it, or an unknown
-   kind. */
+   With MESH_ANSWERED the three arrays begin with the result; items after it are unchanged. With any other outcome all
+   three are unchanged. MESH_MALFORMED: `ends` that decrease, or do not end with the number of points; an unknown kind. */
 mesh_outcome mesh_outline_i32(
     const mesh_point_i32 *points, size_t point_count, const size_t *ends, size_t end_count,
     const mesh_outline_style *style, const mesh_options *options,
@@ -187,13 +186,13 @@ mesh_outcome mesh_variable_stroke_i16(
 /* Draws paths and returns polygons with an error bound, which is proved for options with `min_area` 0 and `clockwise` 0.
    All is as above, and
 
-   most_splits   how many splits of edges may be made, counting attempts that were given up; 0 means any number
+   most_splits   a limit on splits of edges, those of attempts that were given up included; 0 for no limit
    nearness      receives the error bound whenever counts are written, in 64ths of a grid unit, rounded up: the polygons
                  are exactly right at each point that is farther than this from the offset curve. Distance is the
                  greater of the differences in x and in y. 0 means that rounding moved nothing
 
-   MESH_TOO_MANY_SPLITS: more splits were made than the limit. A few points that lie nearly on one line can take very
-   many, so set a limit for untrusted input. */
+   MESH_TOO_MANY_SPLITS: the limit was passed. A few points that lie nearly on one line can take very many splits, so
+   set a limit for untrusted input. */
 mesh_outcome mesh_outline_near_i32(
     const mesh_point_i32 *points, size_t point_count, const size_t *ends, size_t end_count,
     const mesh_outline_style *style, const mesh_options *options, uint64_t most_splits,
@@ -244,7 +243,7 @@ mesh_outcome mesh_variable_stroke_near_i16(
    by their ends. All is as for polygons, and
 
    edges       receives the edges of all paths, path by path
-   path_ends   receives for each path the offset of its end in edges */
+   path_ends   receives, for each path, the index after its last edge in edges */
 mesh_outcome mesh_outline_edges_i32(
     const mesh_point_i32 *points, size_t point_count, const size_t *ends, size_t end_count,
     const mesh_outline_style *style,
@@ -279,11 +278,11 @@ mesh_outcome mesh_variable_stroke_edges_i16(
     const mesh_arc *arc,
     mesh_edge_i16 *edges, size_t edge_room, size_t *path_ends, size_t path_room, mesh_edge_counts *counts);
 
-/* Tests whether every point of a drawing stays in range when it moves by the padding of the style: coordinates have to
-   lie between -2^14 and 2^14 in 16 bits, and between -2^30 and 2^30 in 32 bits, without these. MESH_ANSWERED: it does.
-   MESH_OUT_OF_RANGE: it does not.
+/* Tests whether every point of a drawing stays in range when it moves by the padding of the style. Coordinates have to
+   stay strictly between -2^14 and 2^14 in 16 bits, and between -2^30 and 2^30 in 32 bits. MESH_ANSWERED: they do.
+   MESH_OUT_OF_RANGE: they do not.
 
-   padding   receives a bound on how far the style moves points in x or in y, at both of these outcomes */
+   padding   receives a bound on how far the style moves points in x or in y, with both of these outcomes */
 mesh_outcome mesh_validate_outline_i32(
     const mesh_point_i32 *points, size_t point_count, const size_t *ends, size_t end_count,
     const mesh_outline_style *style, int64_t *padding);
@@ -319,16 +318,16 @@ mesh_outcome mesh_validate_variable_stroke_i16(
    which its two points differ less.
 
    points             the points of all contours, contour by contour; each shape begins with its outer contour, as the
-                      calls above return them. Coordinates may be any
-   contour_ends       for each contour, the offset of its end in points
-   shape_ends         for each shape, the offset of its end in contour_ends
+                      calls above return them. Any coordinates are allowed
+   contour_ends       for each contour, the index after its last point in points
+   shape_ends         for each shape, the index after its last contour in contour_ends
    width              in grid units
-   left_points, ..    receive the shapes that are left. Arrays of the sizes of the lists given are large enough
+   left_points, ..    receive the shapes that are left. Arrays as large as those you pass are large enough
    counts             as for polygons above, and so are the outcomes
 
-   Holes that are slivers are left out, and shapes all of whose contours are; everything else stays as it is, in its
-   order. At each point farther than `width` from every edge that was left out, the contours wind as before.
-   MESH_MALFORMED: invalid offsets. */
+   Holes that are slivers are dropped, and shapes all of whose contours are; everything else stays as it is, in its
+   order. At each point farther than `width` from every dropped edge, winding numbers are as before.
+   MESH_MALFORMED: invalid ends. */
 mesh_outcome mesh_without_slivers_i32(
     const mesh_point_i32 *points, size_t point_count, const size_t *contour_ends, size_t contour_count,
     const size_t *shape_ends, size_t shape_count, uint32_t width,

@@ -1,12 +1,12 @@
-"""Polygon offsetting: outlines of polygons and strokes of lines, drawn by a proved library over whole numbers.
+"""Polygon offsetting: grows and shrinks polygons and gives lines a width, by a proved library on an integer grid.
 
     >>> from i_overlay_mesh import outline
     >>> grown = outline([[0, 0], [4, 0], [4, 3], [0, 3]], 1, join="miter")
     >>> grown.geojson()["coordinates"]
     [[[-1.0, -1.0], [5.0, -1.0], [5.0, 4.0], [-1.0, 4.0], [-1.0, -1.0]]]
 
-Drawings are brought onto a grid of whole numbers, drawn there exactly by the library's rules, and brought back. The
-answers tell the grid. Parts of a drawing are counted from 0.
+Coordinates are rounded to an integer grid, the library draws there exactly by its rules, and the answer is converted
+back. Each answer has the `scale` and `origin` of its grid. Errors count the parts of a drawing from 0.
 """
 
 from .errors import DrawingError, GridRangeError, LibraryMissing, TooManySplits, UnprovedWarning

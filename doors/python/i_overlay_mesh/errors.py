@@ -2,10 +2,10 @@
 
 
 class DrawingError(ValueError):
-    """A drawing, or the way in which it is to be drawn, breaks a rule. Nothing was drawn.
+    """The input or an argument is invalid. Nothing was drawn.
 
-    where: what breaks it, as 'polygon 2, ring 0, point 5', counted from 0.
-    rule: the rule, in words.
+    where: the part that is invalid, such as 'polygon 2, ring 0, point 5', counted from 0.
+    rule: what is wrong with it, in words.
     """
 
     def __init__(self, where: str, rule: str) -> None:
@@ -15,16 +15,16 @@ class DrawingError(ValueError):
 
 
 class GridRangeError(DrawingError):
-    """What is to be drawn would pass the safe range of the grid, at the scale and the origin that were given."""
+    """With the given scale and origin, the drawing would leave the range of the grid."""
 
 
 class TooManySplits(DrawingError):
-    """More splits were made than `most_splits`."""
+    """The drawing takes more splits than `most_splits`."""
 
 
 class LibraryMissing(ImportError):
-    """The shared object with the proved code was not found."""
+    """The compiled library was not found."""
 
 
 class UnprovedWarning(UserWarning):
-    """The shared object was built before its proof, by `doors/build --unproved`. It stops the process where a check fails."""
+    """The library was built without its proof, by `doors/build --unproved`. If a check fails, it stops the process."""

@@ -50,7 +50,7 @@ class Axis(NamedTuple):
 
 @dataclass(frozen=True)
 class Grid:
-    """Places are whole numbers: a coordinate less the origin, times the scale, and rounded.
+    """The integer grid of a drawing. A coordinate lies at `(coordinate - origin) * scale` on it, rounded.
 
     scale: grid units for each unit of the drawing.
     origin: the point of the drawing that lies at (0, 0).

@@ -95,7 +95,7 @@ def call_of(name: str, width: str = "i32") -> Callable[..., int]:
 
 
 def is_proved() -> bool:
-    """Whether the shared object was built of proved code: one that was not says so itself."""
+    """Whether the compiled library was proved before it was built. (One that was not has a mark.)"""
     try:
         ctypes.c_char.in_dll(load_library(), UNPROVED)
     except ValueError:
@@ -104,13 +104,13 @@ def is_proved() -> bool:
 
 
 def warn_of_proof() -> None:
-    """Warns where the shared object was built before its proof. That there is none is told at the first call."""
+    """Warns if the library was built before its proof. A missing library is reported by the first call."""
     try:
         proved = is_proved()
     except LibraryMissing:
         return
     if not proved:
-        text = f"{find_library()} was built before its proof: to look, and not to rely on"
+        text = f"{find_library()} was built before its proof: do not rely on its answers"
         warnings.warn(text, UnprovedWarning, stacklevel=3)
 
 
@@ -128,8 +128,8 @@ def reply(request: bytes) -> tuple[Outcome, bytes]:
 
 
 def answer(request: bytes) -> bytes:
-    """The line that the program `mesh_run` writes for a request in JSON, byte for byte, its line feed included.
+    """The line that the program `mesh_run` prints for a request in JSON, byte for byte, with its line feed.
 
-    A refused or unreadable request has a line too, `{"refused":..}` or `{"unreadable":..}`.
+    For a request that is refused or cannot be read, this is `{"refused":..}` or `{"unreadable":..}`.
     """
     return reply(bytes(memoryview(request)))[1]

@@ -39,27 +39,27 @@ def buffer_all(
     errors: Optional[dict[int, Exception]] = None,
     project: Any = None,
 ) -> Any:
-    """Each geometry by itself, buffered as by `buffer`, in several threads at once.
+    """Buffers each geometry by itself, as `buffer` does, in several threads.
 
     Args:
-        geometries: a list, an array of numpy, or a column or a table of GeoPandas. Each of them a geometry of Shapely, a
-            GeoJSON mapping, or anything else that `buffer` takes; or None, which stays None. Empty ones stay as they are.
-        distance: how far; or a list or an array with a distance for each.
+        geometries: a list, a numpy array, or a GeoPandas column or table. Each item is a Shapely geometry, a GeoJSON
+            mapping, or anything else that `buffer` takes. None and empty geometries stay as they are.
+        distance: how far; or a list or an array with one distance per geometry.
         cap, join, step, tolerance, at_least, miter_limit, min_turn, scale, origin, most_splits, sliver_width, quad_segs,
             cap_style, join_style, mitre_limit, single_sided: as for `buffer`.
         workers: how many threads; by default one for each processor.
-        progress: a function that is called with how many are done and of how many; or True for a bar on standard error.
-        errors: a mapping that takes the error of each geometry that cannot be buffered, by its number, and None stands in
-            its place. Where it is not given, the first such error is raised, with the number told.
-        project: of GeoPandas alone: a CRS whose unit is a length, by which a map in degrees is buffered and brought back;
-            or 'utm' for the zone that it lies in.
+        progress: True for a bar on standard error; or a function that is called with how many are done, and of how many.
+        errors: a dict that collects the errors by index; the answer then has None in those places. Without it, the
+            first geometry that cannot be buffered raises its error, which has the index.
+        project: for GeoPandas only: a CRS whose unit is a length, or 'utm', in which a map in degrees is buffered; the answer
+            is brought back to degrees.
 
     Returns:
-        As many, in the same order, in a list, in an array of the same shape, or in a column or a table with the same
-        index, columns and CRS. Geometries of Shapely where such were given, and else `Shapes`.
+        The same kind as `geometries`, in the same order: a list, an array of the same shape, or a column or table with
+        the same index, columns and CRS. Shapely geometries come back as such, anything else as `Shapes`.
 
     Raises:
-        DrawingError: as `buffer`, and where a geometry is why it says which. KeyboardInterrupt: within a second.
+        DrawingError: as `buffer`; it says which geometry. KeyboardInterrupt: within a second.
     """
     words = dict(
         cap=cap,

@@ -56,42 +56,42 @@ def outline(
     join_style: Any = None,
     mitre_limit: Optional[float] = None,
 ) -> Shapes:
-    """The polygons with their boundaries moved, all together.
+    """Moves the boundaries of polygons, and unites the results.
 
     Args:
         polygons: a GeoJSON mapping or an object with `__geo_interface__` that has polygons; or a list of such; or, as
             lists or an array, a ring, the rings of one polygon, or a list of polygons.
         distance: how far boundaries move outwards; below 0, inwards.
         hole_distance: how far the boundaries of holes move into the holes; by default as far.
-        join: 'round', which is the default, 'miter' or 'bevel', at corners at which moved sides part.
+        join: how gaps at corners are filled: 'round' (the default), 'miter' or 'bevel'.
         step: the greatest angle between points of an arc, in degrees from 360/1024 to 45; by default 5.625.
         tolerance: instead of `step`, the greatest gap between an arc and its circle, in units of the input.
-        at_least: whether arcs lie outside their circles, by an enlarged distance, so that nothing is drawn nearer than
-            `distance`; some grid units more make up for rounding. For clearances, and with round joins alone.
-        miter_limit: how far the peak of a miter may be, in distances, from 1 to 22.9; by default 5. One that is farther
-            is clipped, by an edge whose ends are as far as that.
+        at_least: whether arcs lie outside their circles, so that no boundary comes nearer than `distance`; the distance
+            is enlarged a little, and by some grid units for rounding. For clearances; needs round joins.
+        miter_limit: how far the peak of a miter may be from its corner, as a multiple of the distance, from 1 to 22.9;
+            by default 5. A farther one is clipped by an edge whose ends are that far.
         min_turn: the turn in degrees below which a miter is a bevel; by default 5.
-        rings: which rings are holes. 'first': of a polygon all but the first. 'nested': those in an odd number of
+        rings: which rings are holes. 'first': all but the first of a polygon. 'nested': those inside an odd number of
             others. 'sense': those that run clockwise. By default 'first' for geometries, 'nested' for lists.
-        scale: grid units for each unit of the input; by default the greatest power of two that is safe.
-        origin: the point that lies at (0, 0) on the grid; by default the middle of the input, on the grid.
-        most_splits: how many times edges may be split where they meet, 0 for any number. Where it is given the answer
-            tells its nearness. A few points near one line can take very many splits, so set a limit where drawings come
-            from strangers.
-        sliver_width: leaves out holes, and whole shapes, that are as thin as this, in units of the input: all points
-            lie within it of the line from the first one to the one farthest from that, measured along the axis along
-            which the line runs less far. Where edges cross that are nearly parallel, rounding may leave such, mostly
+        scale: grid units for each unit of the input; by default the greatest power of two that fits.
+        origin: the point, in input units, that lies at (0, 0) on the grid; by default the middle of the input.
+        most_splits: a limit on how often edges are split where they meet; 0 for none. If it is given, the answer has an
+            error bound, `nearness`. A few points nearly on one line can take very many splits, so set a limit for
+            untrusted input.
+        sliver_width: drops holes and polygons that are as thin as this, in units of the input: all of their points lie
+            within it of the line from the first point to the one farthest from that, measured along the axis along
+            which the line runs less far. Rounding may leave such slivers where nearly parallel edges cross, mostly
             thinner than a grid unit.
-        quad_segs, join_style, mitre_limit: Shapely's words for `step` (segments in a quarter of a turn), `join` and
+        quad_segs, join_style, mitre_limit: Shapely's names for `step` (as segments per quarter circle), `join` and
             `miter_limit`.
 
     Returns:
-        The shapes, with the scale and the origin.
+        The polygons, with the scale and origin of their grid.
 
     Raises:
-        DrawingError: the input or an argument breaks a rule; GridRangeError where `scale` or `origin` is why;
-            TooManySplits where more splits were made than `most_splits`.
-        MemoryError: memory was refused.
+        DrawingError: the input or an argument is invalid. GridRangeError: `scale` or `origin` takes the drawing out of
+            the grid's range. TooManySplits: it takes more splits than `most_splits`.
+        MemoryError: an allocation failed.
     """
     drawing = read(polygons, as_polygons=True)
     reject("outline", "polygons, and strokes take lines", [drawing.lines, drawing.points])
@@ -137,21 +137,22 @@ def stroke(
     join_style: Any = None,
     mitre_limit: Optional[float] = None,
 ) -> Shapes:
-    """Lines with a width, all together. A single point has none, and is not drawn.
+    """Gives lines a width, and unites the results. Lines of a single point are not drawn.
 
     Args:
         lines: a GeoJSON mapping or an object with `__geo_interface__` that has lines or polygons, whose rings are
             drawn; or a list of such; or a line or a list of lines, as lists or an array.
         width: the whole width, half of it on each side; nothing is drawn for 0 or less.
-        cap: 'round', which is the default, 'square' or 'butt', at the ends of open lines; or a list of points, in units
-            of the input, round an end at (0, 0) that looks along the axis x, from its right to its left.
-        start_cap, end_cap: the cap of one end, where it is another one.
-        side: 'both', 'left' or 'right', seen along a line. Halves are cut off straight at their ends.
-        closed: whether lines go on from their last point to their first; by default those do that are rings or end
+        cap: how open lines end: 'round' (the default), 'square' or 'butt'; or your own as a list of points in input
+            units, as for a line that runs along the x axis, rightwards, and ends at (0, 0). They lead from its right
+            side (y below 0) to its left.
+        start_cap, end_cap: the cap of one end, if the two differ.
+        side: 'both', 'left' or 'right', seen along a line. A one-sided stroke is cut off straight at its ends.
+        closed: whether lines go on from their last point to their first; by default only lines that are rings or end
             where they start.
         join, step, tolerance, at_least, miter_limit, min_turn, scale, origin, most_splits, sliver_width: as for
             `outline`.
-        quad_segs, cap_style, join_style, mitre_limit: Shapely's words for `step` (segments in a quarter of a turn),
+        quad_segs, cap_style, join_style, mitre_limit: Shapely's names for `step` (as segments per quarter circle),
             `cap`, `join` and `miter_limit`.
 
     Returns, Raises: as `outline`.
@@ -189,14 +190,14 @@ def variable_stroke(
     most_splits: Optional[int] = None,
     sliver_width: Optional[Number] = None,
 ) -> Shapes:
-    """Lines whose width changes from vertex to vertex, all together.
+    """Draws lines whose width changes from vertex to vertex, and unites the results.
 
-    A line runs along the outer tangents of the circles round its vertices, and round them at its ends and corners. One
-    vertex alone is a circle.
+    Each vertex is a circle with its width as diameter, and outer tangents join neighbouring circles. A line of one
+    vertex is a circle.
 
     Args:
         lines: as for `stroke`, but open, with vertices (x, y, width).
-        widths: where vertices are (x, y), a list of widths for each line, or one list for one line.
+        widths: if vertices are (x, y), a list of widths for each line, or one list for one line.
         step, tolerance, at_least, scale, origin, most_splits, sliver_width: as for `outline`.
 
     Returns, Raises: as `outline`.
@@ -233,18 +234,18 @@ def buffer(
     mitre_limit: Optional[float] = None,
     single_sided: bool = False,
 ) -> Shapes:
-    """All that is within a distance of a geometry: outlines of polygons, strokes of lines, circles round points.
+    """Everything within a distance of a geometry: polygons grow, lines become strokes, points become circles.
 
     Args:
         geometry: a GeoJSON mapping or an object with `__geo_interface__`, or a list of such; lists are polygons.
         distance: how far; below 0 polygons shrink, and lines and points are not drawn.
         cap, join, step, tolerance, at_least, miter_limit, min_turn, scale, origin, most_splits, sliver_width: as for
-            `stroke` and `outline`. The limit is one for each of the three, and for joining them; slivers are left out
-            of all together.
-        quad_segs, cap_style, join_style, mitre_limit: Shapely's words for `step` (segments in a quarter of a turn),
+            `stroke` and `outline`. Polygons, open lines, closed lines and points are drawn separately and then united;
+            `most_splits` limits each of these steps by itself. Slivers are dropped from the united answer.
+        quad_segs, cap_style, join_style, mitre_limit: Shapely's names for `step` (as segments per quarter circle),
             `cap`, `join` and `miter_limit`.
-        single_sided: whether lines are drawn on one side alone: the left one, or below 0 the right one. Polygons are
-            refused then.
+        single_sided: whether lines are drawn on one side only: the left, or the right if the distance is below 0.
+            Polygons are then refused.
 
     Returns, Raises: as `outline`.
     """

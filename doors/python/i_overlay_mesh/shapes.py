@@ -19,10 +19,10 @@ PICTURE_WIDTH = 400
 
 
 class Shapes:
-    """What was drawn, in the units of the input. Two answers are equal where all of this is, and can be pickled.
+    """The polygons of an answer, in the units of the input. Answers can be compared and pickled.
 
-    grid: the grid on which it was drawn, as exact fractions.
-    nearness_on_grid: the nearness in 64ths of a grid unit; none where `most_splits` was not given.
+    grid: the scale and origin of the grid, as exact fractions.
+    nearness_on_grid: the error bound in 64ths of a grid unit; None without `most_splits`.
     """
 
     grid: Grid
@@ -37,11 +37,11 @@ class Shapes:
 
     @property
     def polygons(self) -> list[list[Points]]:
-        """Each polygon a list of rings, of which the first bounds it, counterclockwise, and the others are its holes.
+        """Polygons as lists of rings: first the outer boundary, counterclockwise, then the holes, clockwise.
 
-        Holes run clockwise. A ring is a list of points [x, y] and does not repeat its first point; it may pass through a
-        point twice. Coordinates are ints where all that were given were ints and the scale was given as 1; else floats.
-        The lists are made when they are first asked for; `arrays` makes none.
+        A ring is a list of points [x, y] that does not repeat its first point, but may pass through a point twice.
+        Coordinates are ints if all coordinates of the input were ints and you gave `scale=1`; else floats. The lists are
+        made when they are first asked for; `arrays` makes none.
         """
         if self._polygons is None:
             numbers = self._told.points
@@ -53,10 +53,10 @@ class Shapes:
         return self._polygons
 
     def arrays(self) -> tuple[Any, Any, Any]:
-        """The answer in three arrays of numpy, which has to be installed.
+        """The answer as three numpy arrays: points, ends of rings, ends of polygons. (Numpy has to be installed.)
 
-        The points of all rings, one a row; for each ring how many points stand in it and before it, after a 0; and for
-        each polygon how many rings stand in it and before it, after a 0. Rings do not repeat their first points.
+        The points of all rings, one per row; a 0 and then, for each ring, the index after its last point; a 0 and then,
+        for each polygon, the index after its last ring. Rings do not repeat their first points.
         """
         import numpy
 
@@ -69,10 +69,10 @@ class Shapes:
 
     @property
     def nearness(self) -> Optional[float]:
-        """How near to the drawn edges the answer is exact, in the unit of the input; none without `most_splits`.
+        """The error bound, in the units of the input; None without `most_splits`.
 
-        At each point that is farther from each drawn edge on the grid the answer is exact, where a distance is the
-        greater one of both coordinates' differences. 0 where rounding on the grid moved nothing.
+        At every point farther than this from the offset curve on the grid, the answer is exactly right. Distance is the
+        greater of the differences in x and in y. 0 means that rounding moved nothing.
         """
         if self.nearness_on_grid is None:
             return None
@@ -87,7 +87,7 @@ class Shapes:
 
     @property
     def origin(self) -> tuple[Number, Number]:
-        """The point of the input that lay at (0, 0) on the grid."""
+        """The point, in input units, that lies at (0, 0) on the grid."""
         x, y = self.grid.origin
         return plain(x), plain(y)
 
@@ -96,16 +96,16 @@ class Shapes:
         return self.geojson()
 
     def geojson(self) -> dict[str, Any]:
-        """A GeoJSON geometry: a Polygon where there is one, else a MultiPolygon. Rings end where they start."""
+        """A GeoJSON geometry: a Polygon if there is exactly one, else a MultiPolygon. Rings repeat their first point."""
         polygons = [[[*ring, ring[0]] for ring in polygon] for polygon in self.polygons]
         if len(polygons) == 1:
             return {"type": "Polygon", "coordinates": polygons[0]}
         return {"type": "MultiPolygon", "coordinates": polygons}
 
     def shapely(self) -> Any:
-        """A geometry of Shapely, which has to be installed: a Polygon where there is one, else a MultiPolygon.
+        """A Shapely Polygon if there is exactly one, else a MultiPolygon. (Shapely has to be installed.)
 
-        Where a ring passes through a point twice, Shapely calls it invalid; `buffer(0)` or `make_valid` mends it.
+        A ring may pass through a point twice. Shapely calls that invalid; its `make_valid` or `buffer(0)` repairs it.
         """
         import shapely.geometry
 

@@ -223,7 +223,7 @@ def style_of(request: Mapping[str, Any]) -> Style:
 
 
 def choose(what: str, name: Any, names: Union[Mapping[str, str], Sequence[str]]) -> str:
-    """A name out of some."""
+    """One of the listed names."""
     if isinstance(name, str) and name in names:
         return names[name] if isinstance(names, Mapping) else name
     raise DrawingError("", f"{what} is {name!r}, and has to be one of {', '.join(names)}")
