@@ -44,8 +44,8 @@ fn are_in_line(e: LatticeEdge, f: LatticeEdge) -> bool {
     level || upright
 }
 
-/// What an edge tells of all.
-fn counts(edges: &[LatticeEdge], e: LatticeEdge) -> Counts {
+/// How many boxes meet that of an edge, how many edges meet it, and how many of these lie in line with it.
+fn count_conflicts(edges: &[LatticeEdge], e: LatticeEdge) -> Counts {
     let mut counts = Counts {
         boxes: 0,
         meetings: 0,
@@ -75,7 +75,7 @@ pub fn do_arrays_serve(edges: &[LatticeEdge]) -> bool {
     let mut boxes: usize = 0;
     let mut meetings: usize = 0;
     for sample in 0..SAMPLES {
-        let counts = counts(edges, edges[sample * step]);
+        let counts = count_conflicts(edges, edges[sample * step]);
         if counts.in_line > MOST_IN_LINE {
             return false;
         }
