@@ -49,6 +49,10 @@ level_from es e r n split stands right before = omega (arith, linear, right, bef
 pub right_back : (es : List Edge) (k : Counted) → AreSplit es → IsSegment es k → right_winding es (back k.0) ≡ right_winding es k.0 +ℤ k.1
 right_back es k split s = omega (arith, linear, (sides_turned es k.0 (proper_of es split.proper k.0 s.stands)).1, s.net, left_more es k.0)
 
+-- and what lies to its left
+pub left_back : (es : List Edge) (k : Counted) → AreSplit es → IsSegment es k → left_winding es (back k.0) ≡ right_winding es k.0
+left_back es k split s = (sides_turned es k.0 (proper_of es split.proper k.0 s.stands)).0
+
 -- a segment directed away from its end is one too
 pub segment_leaving : (es : List Edge) (ks : List Counted) (x : ℕ × Bool) → IsSegment es (segment ks x.0) → IsSegment es (leaving ks x)
 segment_leaving es ks (k, true) s = s

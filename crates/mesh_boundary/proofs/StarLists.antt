@@ -20,6 +20,7 @@ use Rattle.mesh_regions.specs.SideLaws.{AreSplit}
 use Rattle.mesh_regions.specs.Star.{comes_before, leaves_before}
 use Rattle.mesh_regions.proofs.StarSums.{edge_net_before}
 use Rattle.mesh_boundary.specs.Private.Stars.{part, run, star_at, ends_at, segment, leaving, fan_of, one_if, listed, counted_before, IsParted, IsFiled, AreBothFiled, AreListed, AreStars, IsSegment, CountSplit, HaveStars}
+use Rattle.mesh_boundary.proofs.AllEnds.{all_listed}
 use Rattle.mesh_boundary.proofs.BoundaryCounted.{counted_segments, counted_sum}
 use Rattle.mesh_boundary.proofs.SidesCode.{sum_suc}
 
@@ -273,6 +274,7 @@ have_stars es ks parts members ends stars is split = record {
   at = stars.0;
   counts = count_split es ks is split;
   places = stars.1.places;
+  all = all_listed es ks parts members ends stars.0 stars.1 is;
   stars = λ v w.
       ap (λ (l : List (ℕ × Bool)). counted_before (v, w) (fan_of ks l)) (stars.1.listed.lists (stars.0 v))
       ∙ (listed_sum stars.0 ks (v, w) (length ks) (omega arith)

@@ -5,14 +5,17 @@ ghost use Rattle.std.specs.Prelude.{◌≡◌, ◌<◌, true, List, length, IfOk
 ghost use Rattle.std.specs.List.{All};
 ghost use Rattle.mesh_plane.specs.Plane.{Edge};
 ghost use Rattle.mesh_plane.specs.Winding.{sum_of};
-ghost use Rattle.mesh_lattice.specs.Boundary.{right_winding};
+ghost use Rattle.mesh_lattice.specs.Boundary.{left_winding, right_winding};
 ghost use Rattle.mesh_lattice.specs.Counted.{Counted, size, IsRoomy};
 ghost use Rattle.mesh_lattice.specs.Split.{occurs};
 ghost use Rattle.mesh_regions.specs.SideLaws.{AreSplit};
+ghost use Rattle.mesh_regions.specs.Star.{AreNeighbours};
 ghost use Rattle.mesh_boundary.specs.Private.Flood.{OfSplitEdges, IsLevel, IsRight, AreKnown, windings_beside};
+ghost use Rattle.mesh_boundary.specs.Private.Rounds.{AreFourRound};
 ghost use Rattle.mesh_boundary.specs.Private.Stars.{segment, leaving, AreStars, IsParted, HaveStars, IsSegment, IsStar};
 ghost use Rattle.mesh_boundary.specs.Private.Stars.{CountSplit};
 
+use crate::round::{four_round, two_round};
 use crate::stars::{End, Stars, before, leaving, place_of, spread_out};
 use crate::sums::Sums;
 use mesh_lattice::exact::same_point;
@@ -163,6 +166,32 @@ fn level_at(
     level_of(fan, right_leaving(segments, x, known_at(known, x.0)?)?, e)
 }
 
+/// The winding to the left of a segment as it leaves an end, from that to its right.
+fn left_leaving(segments: &[CountedSegment], x: End, right: i128) -> Option<i128>
+    requires { x.0 < length segments.now }
+    ensures { (es : List Edge) → AreSplit es → IsSegment es (segment segments.now x.0)
+        → IsRight es (segment segments.now x.0).0 right
+        → IfSome result (λ l. l ≡ left_winding es (leaving segments.now x).0) }
+{
+    if x.1 {
+        return right.checked_add(segments[x.0 as usize].1);
+    }
+    Some(right)
+}
+
+/// The winding to the right of a segment with an end, from that to the right of one whose next neighbour it is,
+/// counterclockwise round the point where both leave.
+fn right_past(segments: &[CountedSegment], x: End, y: End, right: i128) -> Option<i128>
+    requires first { x.0 < length segments.now }
+    requires second { y.0 < length segments.now }
+    ensures { (es : List Edge) → CountSplit es segments.now
+        → AreNeighbours es (leaving segments.now x).0 (leaving segments.now y).0
+        → IsRight es (segment segments.now x.0).0 right
+        → IfSome result (λ r. IsRight es (segment segments.now y.0).0 r) }
+{
+    right_along(segments, y, left_leaving(segments, x, right)?)
+}
+
 impl Flood {
     /// Nothing is known yet of so many segments, whose ends have so many places.
     pub fn unknown(alloc: Global, count: usize, places: usize) -> Result<Flood, AllocError>
@@ -233,6 +262,59 @@ impl Flood {
         Ok(())
     }
 
+    /// Goes on from a segment to its next neighbour, counterclockwise round the point that both leave at these ends, if the
+    /// winding beside the first is known and that beside the second is not.
+    fn pass(
+        &mut self,
+        segments: &[CountedSegment],
+        stars: &Stars,
+        x: End,
+        y: End,
+    ) -> Result<(), AllocError>
+        requires first { x.0 < length segments.now }
+        requires second { y.0 < length segments.now }
+        ensures { OnOk result ((es : List Edge) → CountSplit es segments.now
+            → AreNeighbours es (leaving segments.now x).0 (leaving segments.now y).0
+            → AreKnown es segments.now self.old.known.items → AreKnown es segments.now self.new.known.items) }
+    {
+        let Some(known) = known_at(&self.known, x.0) else {
+            return Ok(());
+        };
+        if known_at(&self.known, y.0).is_some() {
+            return Ok(());
+        }
+        let Some(right) = right_past(segments, x, y, known) else {
+            return Ok(());
+        };
+        self.note(y.0, right);
+        self.go_on(segments, stars, y)?;
+        Ok(())
+    }
+
+    /// Goes round a point by the order of the ends there, from one whose winding is known.
+    fn go_round_four(
+        &mut self,
+        segments: &[CountedSegment],
+        stars: &Stars,
+        ends: (End, End, End, End),
+    ) -> Result<(), AllocError>
+        requires first { ends.0.0 < length segments.now }
+        requires second { ends.1.0 < length segments.now }
+        requires third { ends.2.0 < length segments.now }
+        requires fourth { ends.3.0 < length segments.now }
+        ensures { OnOk result ((es : List Edge) → CountSplit es segments.now
+            → AreFourRound es segments.now ends.0 ends.1 ends.2 ends.3
+            → AreKnown es segments.now self.old.known.items → AreKnown es segments.now self.new.known.items) }
+    {
+        self.pass(segments, stars, ends.0, ends.1)?;
+        self.pass(segments, stars, ends.1, ends.2)?;
+        self.pass(segments, stars, ends.2, ends.3)?;
+        self.pass(segments, stars, ends.3, ends.0)?;
+        self.pass(segments, stars, ends.0, ends.1)?;
+        self.pass(segments, stars, ends.1, ends.2)?;
+        Ok(())
+    }
+
     /// Goes round a point, where these ends are listed, from the winding there.
     fn go_round(
         &mut self,
@@ -274,6 +356,15 @@ impl Flood {
             return Ok(());
         };
         let star = stars.star_of(x);
+        if let Some((first, second)) = two_round(segments, star, s.0.0) {
+            self.pass(segments, stars, first, second)?;
+            self.pass(segments, stars, second, first)?;
+            return Ok(());
+        }
+        if let Some(ends) = four_round(segments, star, s.0.0) {
+            self.go_round_four(segments, stars, ends)?;
+            return Ok(());
+        }
         if !spread_out(fan, segments, star)? {
             return Ok(());
         }

@@ -10,7 +10,7 @@ ghost use Rattle.mesh_lattice.specs.Split.{back};
 ghost use Rattle.mesh_regions.specs.Star.{comes_before, leaves_before};
 ghost use Rattle.mesh_boundary.specs.Private.Stars.{raised, scattered, slot, place, part, ends_at, star_at};
 ghost use Rattle.mesh_boundary.specs.Private.Stars.{leaving, fan_of, counted_before, IsParted, IsFiled, AreBothFiled};
-ghost use Rattle.mesh_boundary.specs.Private.Stars.{AreListed, AreStars, HaveStars, IsStar};
+ghost use Rattle.mesh_boundary.specs.Private.Stars.{AreAllAt, AreListed, AreStars, HaveStars, IsStar};
 
 use mesh_lattice::exact::{same_point, turn};
 use mesh_lattice::lattice::{CountedSegment, LatticeEdge, LatticePoint};
@@ -302,6 +302,10 @@ impl Stars {
             → HaveStars es ks self.now.parts.items self.now.members.items self.now.ends.items
             → IsParted self.now.parts.items self.now.members.items (length ks)
             → IsStar es (leaving ks x).0.0 (fan_of ks result.now) }
+        ensures all { (es : List Edge) (ks : List Counted)
+            → HaveStars es ks self.now.parts.items self.now.members.items self.now.ends.items
+            → IsParted self.now.parts.items self.now.members.items (length ks)
+            → AreAllAt es ks (leaving ks x).0.0 result.now }
     {
         self.star(place_of(self.ends[x.0 as usize], x))
     }

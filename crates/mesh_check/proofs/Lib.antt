@@ -9,4 +9,5 @@ pub mod OwnClear
 pub mod Parted
 pub mod Sizes
 pub mod Strips
+pub mod WholePaths
 pub mod ZonesAbout

@@ -30,6 +30,9 @@ pub fn bend_of(paths: &Paths, path: u32) -> u64
     requires points { ArePointsSmall paths.now.points }
     ensures { IsBentBy paths.now path result }
 {
+    if paths.stops.pieces(path as usize) == 1 {
+        return 0;
+    }
     let line = line_of(paths, path);
     let mut most: u64 = 0;
     for place in 0..paths.stops.pieces(path as usize) + 1 {

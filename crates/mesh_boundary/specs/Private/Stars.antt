@@ -122,6 +122,16 @@ pub record CountSplit (es : List Edge) (ks : List Counted) : Type 0 where
   pub split : AreSplit es
   pub segments : All (IsSegment es) ks
 
+-- an edge is the segment that leaves at one of these ends
+pub record IsAmong (ks : List Counted) (star : List (ℕ × Bool)) (f : Edge) : Type 0 where
+  pub place : ℕ
+  pub within : place < length star
+  pub same : (leaving ks (slice_index_or star place (0, false))).0 ≡ f
+
+-- all edges that leave a point do so at one of these ends
+abbrev pub AreAllAt : List Edge → List Counted → Point → List (ℕ × Bool) → Type 0
+AreAllAt es ks v star = (f : Edge) → occurs f es ≡ true → f.0 ≡ v → IsAmong ks star f
+
 -- segments count split edges, and lists have the stars of these
 pub record HaveStars (es : List Edge) (ks : List Counted) (parts : List (ℕ × ℕ)) (members : List (ℕ × Bool))
     (ends : List (ℕ × ℕ)) : Type 0 where
@@ -129,3 +139,4 @@ pub record HaveStars (es : List Edge) (ks : List Counted) (parts : List (ℕ × 
   pub counts : CountSplit es ks
   pub places : ends ≡ map (λ (k : Counted). ends_at at k.0) ks
   pub stars : (v : Point) → IsStar es v (fan_of ks (star_at parts members (at v)))
+  pub all : (v : Point) → AreAllAt es ks v (star_at parts members (at v))

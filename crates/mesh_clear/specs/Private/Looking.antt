@@ -37,15 +37,23 @@ pub record AreBends (p : Paths) (bends : List ℕ) : Type 0 where
 abbrev pub EndsAt : Paths → ℕ → ℕ → Type 0
 EndsAt p k id = ((edge_at p.edges.items k).from ≡ id) ⊎ ((edge_at p.edges.items k).to ≡ id)
 
--- a path is clear of all later ones that end at the point of a number
-abbrev pub IsClearAt : Paths → ℕ → ℕ → Type 0
-IsClearAt p j id = (k : ℕ) → j < k → k < count_of p.stops → EndsAt p k id → AreClearPaths p j k
+-- neither of two edges was cut
+abbrev pub AreWhole : Paths → ℕ → ℕ → Type 0
+AreWhole p j k = (pieces_of p.stops j ≡ 1) × (pieces_of p.stops k ≡ 1)
 
--- a path is clear of all later ones that share an end with it
+-- two paths are clear of each other if one of them was cut
+abbrev pub AreClearIfCut : Paths → ℕ → ℕ → Type 0
+AreClearIfCut p j k = (AreWhole p j k → ⊥) → AreClearPaths p j k
+
+-- so is a path of all later ones that end at the point of a number
+abbrev pub IsClearAt : Paths → ℕ → ℕ → Type 0
+IsClearAt p j id = (k : ℕ) → j < k → k < count_of p.stops → EndsAt p k id → AreClearIfCut p j k
+
+-- and of all later ones that share an end with it
 abbrev pub IsClearAtEnds : Paths → ℕ → Type 0
 IsClearAtEnds p j =
     (k : ℕ) → j < k → k < count_of p.stops → ShareEnd (edge_at p.edges.items j) (edge_at p.edges.items k)
-    → AreClearPaths p j k
+    → AreClearIfCut p j k
 
 -- the paths of two edges that met are clear of each other
 abbrev pub IsClearMeeting : Paths → Meeting → Type 0

@@ -2,7 +2,12 @@ use Rattle.std.proofs.Common.{ℕ, ◌<◌, sym, subst, ap, ◌∙◌, arith}
 use Rattle.mesh_pairs.specs.Laws.{spread}
 use Rattle.mesh_check.proofs.AlongPaths.{some_line}
 use Rattle.mesh_check.proofs.Sizes.{bent_of}
+use Rattle.mesh_check.proofs.WholePaths.{whole_bent}
 use Rattle.mesh_check.proofs.leading.bend_of.Goals as goal
+
+pub returns-then-pieces-eq1 : goal.returns-then-pieces-eq1
+returns-then-pieces-eq1 c =
+    whole_bent c.args.paths.now c.args.path c.requires.paths c.requires.within (omega (arith, c.pieces.ensures, c.if-pieces-eq1.true))
 
 pub units_for-requires-clause-some : goal.units_for-requires-clause-some
 units_for-requires-clause-some c =

@@ -5,8 +5,7 @@ use Rattle.mesh_paths.specs.declared.paths.Paths.{Paths}
 use Rattle.mesh_paths.specs.declared.stops.Stop.{Stop}
 use Rattle.mesh_paths.specs.declared.through.Pass.{Pass}
 use Rattle.mesh_paths.specs.Private.Filed.{before_in, id_in, pass_in}
-use Rattle.mesh_check.specs.Bent.{AreClearPaths}
-use Rattle.mesh_clear.specs.Private.Looking.{EndsAt, IsClearAt}
+use Rattle.mesh_clear.specs.Private.Looking.{AreClearIfCut, EndsAt, IsClearAt}
 use Rattle.mesh_clear.proofs.SharedEnds.{all_searched, IsDoubtful}
 use Rattle.mesh_clear.proofs.ends.is_clear_at.Goals as goal
 
@@ -18,8 +17,8 @@ loop-rest-preserved c =
     let id : ℕ = c.stop-id.result.id in
     let rest : ℕ = c.loop-rest.rest in
     let is : c.pass-pass.result ≡ pass_in ps (rest - 1) = c.pass-pass.ensures in
-    let clear : j < (pass_in ps (rest - 1)).path → EndsAt p (pass_in ps (rest - 1)).path id → AreClearPaths p j (pass_in ps (rest - 1)).path =
-    subst (λ (x : Pass). j < x.path → EndsAt p x.path id → AreClearPaths p j x.path) is (c.is_clear_at_end.ensures c.if-not-is_clear_at_end.false) in
+    let clear : j < (pass_in ps (rest - 1)).path → EndsAt p (pass_in ps (rest - 1)).path id → AreClearIfCut p j (pass_in ps (rest - 1)).path =
+    subst (λ (x : Pass). j < x.path → EndsAt p x.path id → AreClearIfCut p j x.path) is (c.is_clear_at_end.ensures c.if-not-is_clear_at_end.false) in
     subst (λ (n : ℕ). IsSearched (IsDoubtful p j id) (length ps) (id_in ps) id n) (sym (ap (λ (x : Pass). x.before) is))
     (search_goes_on (IsDoubtful p j id) p.through.last.items (length ps) (before_in ps) (id_in ps) id rest c.requires.bends.fit.paths.filed.listed c.loop-rest-test.true
     (λ doubtful. doubtful.doubt (clear doubtful.later doubtful.ends))

@@ -4,8 +4,22 @@ use mir.Syntax.{w128}
 use mir.Val.{to_z, of_z}
 use Rattle.mesh_lattice.specs.Counted.{Counted}
 use Rattle.mesh_boundary.specs.Private.Flood.{IsLevel, AreKnown}
-use Rattle.mesh_boundary.specs.Private.Stars.{leaving, fan_of, IsStar}
+use Rattle.mesh_boundary.specs.Private.Stars.{leaving, fan_of, AreAllAt, IsStar}
 use Rattle.mesh_boundary.proofs.flood.Flood.spread.Goals as goal
+
+pub returns-in-Some-two_round : goal.returns-in-Some-two_round
+returns-in-Some-two_round c = λ es have known.
+    let ks = c.args.segments.now in
+    let all = c.star_of-star.ensures.all es ks have c.requires.parted in
+    let round = c.in-Some-two_round.ensures.round es have.counts (subst (λ (k : Counted). AreAllAt es ks k.0.0 c.star_of-star.result.now) (sym c.in-Some.ensures) all) in
+    c.in_ok-pass-2.ensures es have.counts round.back (c.in_ok-pass.ensures es have.counts round.on known)
+
+pub returns-in-Some-four_round : goal.returns-in-Some-four_round
+returns-in-Some-four_round c = λ es have known.
+    let ks = c.args.segments.now in
+    let all = c.star_of-star.ensures.all es ks have c.requires.parted in
+    let round = c.in-Some-four_round.ensures.round es have.counts (subst (λ (k : Counted). AreAllAt es ks k.0.0 c.star_of-star.result.now) (sym c.in-Some.ensures) all) in
+    c.in_ok-go_round_four.ensures es have.counts round known
 
 pub returns : goal.returns
 returns c = λ es have known.
