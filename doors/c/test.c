@@ -20,7 +20,7 @@ static const uint64_t UNTOLD = UINT64_MAX;
 
 enum { THREADS = 4, STACK = 256 * 1024, MARGIN = 16, MARK = 0xA5 };
 
-/* The sizes that `crates/mesh_flat/src/layout.rt` proves of the library's own structs. Each is the sum of the fields', so
+/* The sizes that `crates/mesh_arrays/src/layout.rt` proves of the library's own structs. Each is the sum of the fields', so
    fields in the same order lie in the same places. */
 _Static_assert(sizeof(mesh_arc) == 8 && offsetof(mesh_arc, precision) == 4, "mesh_arc");
 _Static_assert(sizeof(mesh_join) == 20 && offsetof(mesh_join, miter_angle) == 4 && offsetof(mesh_join, miter_min_turn) == 8

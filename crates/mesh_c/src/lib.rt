@@ -1,34 +1,27 @@
-//! The calls of `mesh_flat` for C, one line each. `doors/c/i_overlay_mesh.h` says what a caller owes and gets.
+//! The calls of `mesh_arrays` and `mesh_text` for C, a few lines each. `doors/c/i_overlay_mesh.h` says what a caller owes
+//! and gets.
 #![tactic(auto)]
 
-ghost use Rattle.std.specs.Ordering.{int_cmp};
-ghost use Rattle.std.specs.Prelude.{◌≡◌, ◌^◌};
-ghost use Rattle.mesh_flat.specs.Drawings.{IsOutlineOf, IsStrokeOf, IsVariableStrokeOf};
-ghost use Rattle.mesh_flat.specs.EdgeRooms.{TellsEdges};
-ghost use Rattle.mesh_flat.specs.NearRooms.{TellsNear};
-ghost use Rattle.mesh_flat.specs.Numbers.{edge_from, point_from, vertex_from};
-ghost use Rattle.mesh_flat.specs.Outcomes.{code_of};
-ghost use Rattle.mesh_flat.specs.Ranges.{TellsRange};
-ghost use Rattle.mesh_flat.specs.Replies.{Tells};
-ghost use Rattle.mesh_flat.specs.ShapeRooms.{TellsShapes};
-ghost use Rattle.mesh_flat.specs.Slivers.{TellsSlivers};
-ghost use Rattle.mesh_flat.specs.Styles.{choices_in};
-ghost use Rattle.mesh_flat.specs.Whys.{TellsWhy};
-ghost use Rattle.mesh_flat.specs.declared.outcome.Outcome.{Outcome};
+ghost use Rattle.mesh_arrays.specs.Drawings.{IsOutlineOf, IsStrokeOf, IsVariableStrokeOf};
+ghost use Rattle.mesh_arrays.specs.EdgeRooms.{TellsEdges, edge_room};
+ghost use Rattle.mesh_arrays.specs.Numbers.{unit_16, unit_32, whole_point, whole_vertex};
+ghost use Rattle.mesh_arrays.specs.Ranges.{TellsRange};
+ghost use Rattle.mesh_arrays.specs.ShapeRooms.{TellsNear, TellsShapes, near_room, shape_lists, shape_room};
+ghost use Rattle.mesh_arrays.specs.Slivers.{TellsSlivers};
+ghost use Rattle.mesh_arrays.specs.Telling.{Returns};
+ghost use Rattle.mesh_text.specs.Replies.{TellsReply};
+ghost use Rattle.mesh_text.specs.Whys.{TellsWhy};
 
-use mesh_flat::answer::answer;
-use mesh_flat::drawn::{
-    outline_edges, outline_shapes, stroke_edges, stroke_shapes, variable_stroke_edges,
-    variable_stroke_shapes,
-};
-use mesh_flat::edges::{EdgeCounts, hand_over_edges};
-use mesh_flat::near::{hand_over_near, outline_near, stroke_near, variable_stroke_near};
-use mesh_flat::options::FlatOptions;
-use mesh_flat::range::{outline_reach, stroke_reach, tell_reach, variable_stroke_reach};
-use mesh_flat::shapes::{ShapeCounts, hand_over_shapes};
-use mesh_flat::slivers::without_slivers;
-use mesh_flat::styles::{FlatArc, FlatOutlineStyle, FlatStrokeStyle};
-use mesh_flat::why::why;
+use mesh_arrays::drawing::{outline, stroke, variable_stroke};
+use mesh_arrays::drawn::{tell_edges, tell_near, tell_shapes};
+use mesh_arrays::edges::EdgeCounts;
+use mesh_arrays::options::FlatOptions;
+use mesh_arrays::range::tell_range;
+use mesh_arrays::shapes::ShapeCounts;
+use mesh_arrays::slivers::tell_without_slivers;
+use mesh_arrays::styles::{FlatArc, FlatOutlineStyle, FlatStrokeStyle};
+use mesh_text::answer::answer;
+use mesh_text::why::why;
 use std::alloc::Global;
 
 /// The program's line for a request, in the caller's room, and how many bytes it has.
@@ -39,8 +32,7 @@ pub extern "C" fn mesh_answer(
     room: &mut [u8],
     needed: &mut usize,
 ) -> u8
-    ensures { (ended : Outcome) × (result ≡ code_of ended)
-        × Tells request.now room.old room.new needed.new ended }
+    ensures { Returns (TellsReply request.now room.old room.new needed.new) result }
 {
     answer(alloc, request, room, needed).code()
 }
@@ -48,8 +40,7 @@ pub extern "C" fn mesh_answer(
 /// Why a request is none, in the caller's room, and how many bytes that has.
 #[unsafe(no_mangle)]
 pub extern "C" fn mesh_why(alloc: Global, request: &[u8], room: &mut [u8], needed: &mut usize) -> u8
-    ensures { (ended : Outcome) × (result ≡ code_of ended)
-        × TellsWhy request.now room.old room.new needed.new ended }
+    ensures { Returns (TellsWhy request.now room.old room.new needed.new) result }
 {
     why(alloc, request, room, needed).code()
 }
@@ -67,15 +58,22 @@ pub extern "C" fn mesh_outline_i32(
     shape_ends: &mut [usize],
     counts: &mut ShapeCounts,
 ) -> u8
-    ensures { TellsShapes (2 ^ 30) (point_from (λ z. z))
-        (IsOutlineOf (2 ^ 30) (point_from (λ z. z)) points.now ends.now style.now)
-        (choices_in (2 ^ 30) options.now)
-        (record { points = shape_points.old; contour_ends = contour_ends.old; shape_ends = shape_ends.old })
-        (record { points = shape_points.new; contour_ends = contour_ends.new; shape_ends = shape_ends.new })
-        counts.old counts.new result }
+    ensures { TellsShapes unit_32
+        (IsOutlineOf unit_32 whole_point points.now ends.now style.now) options.now
+        (shape_room shape_points.old contour_ends.old shape_ends.old counts.old)
+        (shape_room shape_points.new contour_ends.new shape_ends.new counts.new) result }
 {
-    let answer = outline_shapes(alloc, points, ends, style, options);
-    hand_over_shapes(&answer, shape_points, contour_ends, shape_ends, counts).code()
+    let drawing = outline(alloc, points, ends, style);
+    tell_shapes(
+        alloc,
+        &drawing,
+        options,
+        shape_points,
+        contour_ends,
+        shape_ends,
+        counts,
+    )
+    .code()
 }
 
 /// The shapes of an outline, in the caller's lists, how many items each has, and their nearness.
@@ -93,16 +91,17 @@ pub extern "C" fn mesh_outline_near_i32(
     counts: &mut ShapeCounts,
     nearness: &mut u64,
 ) -> u8
-    ensures { TellsNear (2 ^ 30) (point_from (λ z. z))
-        (IsOutlineOf (2 ^ 30) (point_from (λ z. z)) points.now ends.now style.now)
-        (choices_in (2 ^ 30) options.now) most_splits
-        (record { points = shape_points.old; contour_ends = contour_ends.old; shape_ends = shape_ends.old })
-        (record { points = shape_points.new; contour_ends = contour_ends.new; shape_ends = shape_ends.new })
-        counts.old counts.new nearness.old nearness.new result }
+    ensures { TellsNear unit_32
+        (IsOutlineOf unit_32 whole_point points.now ends.now style.now) options.now most_splits
+        (near_room shape_points.old contour_ends.old shape_ends.old counts.old nearness.old)
+        (near_room shape_points.new contour_ends.new shape_ends.new counts.new nearness.new) result }
 {
-    let answer = outline_near(alloc, points, ends, style, options, most_splits);
-    hand_over_near(
-        &answer,
+    let drawing = outline(alloc, points, ends, style);
+    tell_near(
+        alloc,
+        &drawing,
+        options,
+        most_splits,
         shape_points,
         contour_ends,
         shape_ends,
@@ -123,14 +122,12 @@ pub extern "C" fn mesh_outline_edges_i32(
     path_ends: &mut [usize],
     counts: &mut EdgeCounts,
 ) -> u8
-    ensures { TellsEdges int_cmp (2 ^ 30) (edge_from (λ z. z))
-        (IsOutlineOf (2 ^ 30) (point_from (λ z. z)) points.now ends.now style.now)
-        (record { edges = edges.old; path_ends = path_ends.old })
-        (record { edges = edges.new; path_ends = path_ends.new })
-        counts.old counts.new result }
+    ensures { TellsEdges unit_32
+        (IsOutlineOf unit_32 whole_point points.now ends.now style.now)
+        (edge_room edges.old path_ends.old counts.old) (edge_room edges.new path_ends.new counts.new) result }
 {
-    let answer = outline_edges(alloc, points, ends, style);
-    hand_over_edges(&answer, edges, path_ends, counts).code()
+    let drawing = outline(alloc, points, ends, style);
+    tell_edges(alloc, &drawing, edges, path_ends, counts).code()
 }
 
 /// Whether an outline stays in range, and how far it reaches from its points.
@@ -142,12 +139,11 @@ pub extern "C" fn mesh_validate_outline_i32(
     style: &FlatOutlineStyle,
     padding: &mut i64,
 ) -> u8
-    ensures { TellsRange (2 ^ 30)
-        (IsOutlineOf (2 ^ 30) (point_from (λ z. z)) points.now ends.now style.now)
-        padding.old padding.new result }
+    ensures { TellsRange unit_32
+        (IsOutlineOf unit_32 whole_point points.now ends.now style.now) padding.old padding.new result }
 {
-    let answer = outline_reach(alloc, points, ends, style);
-    tell_reach(&answer, padding).code()
+    let drawing = outline(alloc, points, ends, style);
+    tell_range(&drawing, padding).code()
 }
 
 /// The shapes of a stroke, in the caller's lists, and how many items each has.
@@ -165,23 +161,22 @@ pub extern "C" fn mesh_stroke_i32(
     shape_ends: &mut [usize],
     counts: &mut ShapeCounts,
 ) -> u8
-    ensures { TellsShapes (2 ^ 30) (point_from (λ z. z))
-        (IsStrokeOf (2 ^ 30) (point_from (λ z. z)) points.now ends.now style.now start_points.now end_points.now)
-        (choices_in (2 ^ 30) options.now)
-        (record { points = shape_points.old; contour_ends = contour_ends.old; shape_ends = shape_ends.old })
-        (record { points = shape_points.new; contour_ends = contour_ends.new; shape_ends = shape_ends.new })
-        counts.old counts.new result }
+    ensures { TellsShapes unit_32
+        (IsStrokeOf unit_32 whole_point points.now ends.now style.now (start_points.now, end_points.now)) options.now
+        (shape_room shape_points.old contour_ends.old shape_ends.old counts.old)
+        (shape_room shape_points.new contour_ends.new shape_ends.new counts.new) result }
 {
-    let answer = stroke_shapes(
+    let drawing = stroke(alloc, points, ends, style, start_points, end_points);
+    tell_shapes(
         alloc,
-        points,
-        ends,
-        style,
-        start_points,
-        end_points,
+        &drawing,
         options,
-    );
-    hand_over_shapes(&answer, shape_points, contour_ends, shape_ends, counts).code()
+        shape_points,
+        contour_ends,
+        shape_ends,
+        counts,
+    )
+    .code()
 }
 
 /// The shapes of a stroke, in the caller's lists, how many items each has, and their nearness.
@@ -201,25 +196,18 @@ pub extern "C" fn mesh_stroke_near_i32(
     counts: &mut ShapeCounts,
     nearness: &mut u64,
 ) -> u8
-    ensures { TellsNear (2 ^ 30) (point_from (λ z. z))
-        (IsStrokeOf (2 ^ 30) (point_from (λ z. z)) points.now ends.now style.now start_points.now end_points.now)
-        (choices_in (2 ^ 30) options.now) most_splits
-        (record { points = shape_points.old; contour_ends = contour_ends.old; shape_ends = shape_ends.old })
-        (record { points = shape_points.new; contour_ends = contour_ends.new; shape_ends = shape_ends.new })
-        counts.old counts.new nearness.old nearness.new result }
+    ensures { TellsNear unit_32
+        (IsStrokeOf unit_32 whole_point points.now ends.now style.now (start_points.now, end_points.now))
+        options.now most_splits
+        (near_room shape_points.old contour_ends.old shape_ends.old counts.old nearness.old)
+        (near_room shape_points.new contour_ends.new shape_ends.new counts.new nearness.new) result }
 {
-    let answer = stroke_near(
+    let drawing = stroke(alloc, points, ends, style, start_points, end_points);
+    tell_near(
         alloc,
-        points,
-        ends,
-        style,
-        start_points,
-        end_points,
+        &drawing,
         options,
         most_splits,
-    );
-    hand_over_near(
-        &answer,
         shape_points,
         contour_ends,
         shape_ends,
@@ -242,14 +230,12 @@ pub extern "C" fn mesh_stroke_edges_i32(
     path_ends: &mut [usize],
     counts: &mut EdgeCounts,
 ) -> u8
-    ensures { TellsEdges int_cmp (2 ^ 30) (edge_from (λ z. z))
-        (IsStrokeOf (2 ^ 30) (point_from (λ z. z)) points.now ends.now style.now start_points.now end_points.now)
-        (record { edges = edges.old; path_ends = path_ends.old })
-        (record { edges = edges.new; path_ends = path_ends.new })
-        counts.old counts.new result }
+    ensures { TellsEdges unit_32
+        (IsStrokeOf unit_32 whole_point points.now ends.now style.now (start_points.now, end_points.now))
+        (edge_room edges.old path_ends.old counts.old) (edge_room edges.new path_ends.new counts.new) result }
 {
-    let answer = stroke_edges(alloc, points, ends, style, start_points, end_points);
-    hand_over_edges(&answer, edges, path_ends, counts).code()
+    let drawing = stroke(alloc, points, ends, style, start_points, end_points);
+    tell_edges(alloc, &drawing, edges, path_ends, counts).code()
 }
 
 /// Whether a stroke stays in range, and how far it reaches from its points.
@@ -263,12 +249,12 @@ pub extern "C" fn mesh_validate_stroke_i32(
     end_points: &[[i32; 2]],
     padding: &mut i64,
 ) -> u8
-    ensures { TellsRange (2 ^ 30)
-        (IsStrokeOf (2 ^ 30) (point_from (λ z. z)) points.now ends.now style.now start_points.now end_points.now)
+    ensures { TellsRange unit_32
+        (IsStrokeOf unit_32 whole_point points.now ends.now style.now (start_points.now, end_points.now))
         padding.old padding.new result }
 {
-    let answer = stroke_reach(alloc, points, ends, style, start_points, end_points);
-    tell_reach(&answer, padding).code()
+    let drawing = stroke(alloc, points, ends, style, start_points, end_points);
+    tell_range(&drawing, padding).code()
 }
 
 /// The shapes of a stroke of variable width, in the caller's lists, and how many items each has.
@@ -284,15 +270,22 @@ pub extern "C" fn mesh_variable_stroke_i32(
     shape_ends: &mut [usize],
     counts: &mut ShapeCounts,
 ) -> u8
-    ensures { TellsShapes (2 ^ 30) (point_from (λ z. z))
-        (IsVariableStrokeOf (vertex_from (λ z. z)) vertices.now ends.now arc.now)
-        (choices_in (2 ^ 30) options.now)
-        (record { points = shape_points.old; contour_ends = contour_ends.old; shape_ends = shape_ends.old })
-        (record { points = shape_points.new; contour_ends = contour_ends.new; shape_ends = shape_ends.new })
-        counts.old counts.new result }
+    ensures { TellsShapes unit_32
+        (IsVariableStrokeOf whole_vertex vertices.now ends.now arc.now) options.now
+        (shape_room shape_points.old contour_ends.old shape_ends.old counts.old)
+        (shape_room shape_points.new contour_ends.new shape_ends.new counts.new) result }
 {
-    let answer = variable_stroke_shapes(alloc, vertices, ends, arc, options);
-    hand_over_shapes(&answer, shape_points, contour_ends, shape_ends, counts).code()
+    let drawing = variable_stroke(alloc, vertices, ends, arc);
+    tell_shapes(
+        alloc,
+        &drawing,
+        options,
+        shape_points,
+        contour_ends,
+        shape_ends,
+        counts,
+    )
+    .code()
 }
 
 /// The shapes of a stroke of variable width, in the caller's lists, how many items each has, and their nearness.
@@ -310,16 +303,17 @@ pub extern "C" fn mesh_variable_stroke_near_i32(
     counts: &mut ShapeCounts,
     nearness: &mut u64,
 ) -> u8
-    ensures { TellsNear (2 ^ 30) (point_from (λ z. z))
-        (IsVariableStrokeOf (vertex_from (λ z. z)) vertices.now ends.now arc.now)
-        (choices_in (2 ^ 30) options.now) most_splits
-        (record { points = shape_points.old; contour_ends = contour_ends.old; shape_ends = shape_ends.old })
-        (record { points = shape_points.new; contour_ends = contour_ends.new; shape_ends = shape_ends.new })
-        counts.old counts.new nearness.old nearness.new result }
+    ensures { TellsNear unit_32
+        (IsVariableStrokeOf whole_vertex vertices.now ends.now arc.now) options.now most_splits
+        (near_room shape_points.old contour_ends.old shape_ends.old counts.old nearness.old)
+        (near_room shape_points.new contour_ends.new shape_ends.new counts.new nearness.new) result }
 {
-    let answer = variable_stroke_near(alloc, vertices, ends, arc, options, most_splits);
-    hand_over_near(
-        &answer,
+    let drawing = variable_stroke(alloc, vertices, ends, arc);
+    tell_near(
+        alloc,
+        &drawing,
+        options,
+        most_splits,
         shape_points,
         contour_ends,
         shape_ends,
@@ -340,14 +334,12 @@ pub extern "C" fn mesh_variable_stroke_edges_i32(
     path_ends: &mut [usize],
     counts: &mut EdgeCounts,
 ) -> u8
-    ensures { TellsEdges int_cmp (2 ^ 30) (edge_from (λ z. z))
-        (IsVariableStrokeOf (vertex_from (λ z. z)) vertices.now ends.now arc.now)
-        (record { edges = edges.old; path_ends = path_ends.old })
-        (record { edges = edges.new; path_ends = path_ends.new })
-        counts.old counts.new result }
+    ensures { TellsEdges unit_32
+        (IsVariableStrokeOf whole_vertex vertices.now ends.now arc.now)
+        (edge_room edges.old path_ends.old counts.old) (edge_room edges.new path_ends.new counts.new) result }
 {
-    let answer = variable_stroke_edges(alloc, vertices, ends, arc);
-    hand_over_edges(&answer, edges, path_ends, counts).code()
+    let drawing = variable_stroke(alloc, vertices, ends, arc);
+    tell_edges(alloc, &drawing, edges, path_ends, counts).code()
 }
 
 /// Whether a stroke of variable width stays in range, and how far it reaches from its points.
@@ -359,12 +351,11 @@ pub extern "C" fn mesh_validate_variable_stroke_i32(
     arc: &FlatArc,
     padding: &mut i64,
 ) -> u8
-    ensures { TellsRange (2 ^ 30)
-        (IsVariableStrokeOf (vertex_from (λ z. z)) vertices.now ends.now arc.now)
-        padding.old padding.new result }
+    ensures { TellsRange unit_32
+        (IsVariableStrokeOf whole_vertex vertices.now ends.now arc.now) padding.old padding.new result }
 {
-    let answer = variable_stroke_reach(alloc, vertices, ends, arc);
-    tell_reach(&answer, padding).code()
+    let drawing = variable_stroke(alloc, vertices, ends, arc);
+    tell_range(&drawing, padding).code()
 }
 
 /// Shapes without their slivers, in the caller's lists, and how many items each has.
@@ -380,15 +371,16 @@ pub extern "C" fn mesh_without_slivers_i32(
     left_shape_ends: &mut [usize],
     counts: &mut ShapeCounts,
 ) -> u8
-    ensures { TellsSlivers (point_from (λ z. z))
-        (record { points = points.now; contour_ends = contour_ends.now; shape_ends = shape_ends.now }) width
-        (record { points = left_points.old; contour_ends = left_contour_ends.old; shape_ends = left_shape_ends.old })
-        (record { points = left_points.new; contour_ends = left_contour_ends.new; shape_ends = left_shape_ends.new })
-        counts.old counts.new result }
+    ensures { TellsSlivers (shape_lists points.now contour_ends.now shape_ends.now) width
+        (shape_room left_points.old left_contour_ends.old left_shape_ends.old counts.old)
+        (shape_room left_points.new left_contour_ends.new left_shape_ends.new counts.new) result }
 {
-    let answer = without_slivers(alloc, points, contour_ends, shape_ends, width);
-    hand_over_shapes(
-        &answer,
+    tell_without_slivers(
+        alloc,
+        points,
+        contour_ends,
+        shape_ends,
+        width,
         left_points,
         left_contour_ends,
         left_shape_ends,
@@ -410,15 +402,22 @@ pub extern "C" fn mesh_outline_i16(
     shape_ends: &mut [usize],
     counts: &mut ShapeCounts,
 ) -> u8
-    ensures { TellsShapes (2 ^ 14) (point_from (λ z. z))
-        (IsOutlineOf (2 ^ 14) (point_from (λ z. z)) points.now ends.now style.now)
-        (choices_in (2 ^ 14) options.now)
-        (record { points = shape_points.old; contour_ends = contour_ends.old; shape_ends = shape_ends.old })
-        (record { points = shape_points.new; contour_ends = contour_ends.new; shape_ends = shape_ends.new })
-        counts.old counts.new result }
+    ensures { TellsShapes unit_16
+        (IsOutlineOf unit_16 whole_point points.now ends.now style.now) options.now
+        (shape_room shape_points.old contour_ends.old shape_ends.old counts.old)
+        (shape_room shape_points.new contour_ends.new shape_ends.new counts.new) result }
 {
-    let answer = outline_shapes(alloc, points, ends, style, options);
-    hand_over_shapes(&answer, shape_points, contour_ends, shape_ends, counts).code()
+    let drawing = outline(alloc, points, ends, style);
+    tell_shapes(
+        alloc,
+        &drawing,
+        options,
+        shape_points,
+        contour_ends,
+        shape_ends,
+        counts,
+    )
+    .code()
 }
 
 /// The shapes of an outline, in the caller's lists, how many items each has, and their nearness.
@@ -436,16 +435,17 @@ pub extern "C" fn mesh_outline_near_i16(
     counts: &mut ShapeCounts,
     nearness: &mut u64,
 ) -> u8
-    ensures { TellsNear (2 ^ 14) (point_from (λ z. z))
-        (IsOutlineOf (2 ^ 14) (point_from (λ z. z)) points.now ends.now style.now)
-        (choices_in (2 ^ 14) options.now) most_splits
-        (record { points = shape_points.old; contour_ends = contour_ends.old; shape_ends = shape_ends.old })
-        (record { points = shape_points.new; contour_ends = contour_ends.new; shape_ends = shape_ends.new })
-        counts.old counts.new nearness.old nearness.new result }
+    ensures { TellsNear unit_16
+        (IsOutlineOf unit_16 whole_point points.now ends.now style.now) options.now most_splits
+        (near_room shape_points.old contour_ends.old shape_ends.old counts.old nearness.old)
+        (near_room shape_points.new contour_ends.new shape_ends.new counts.new nearness.new) result }
 {
-    let answer = outline_near(alloc, points, ends, style, options, most_splits);
-    hand_over_near(
-        &answer,
+    let drawing = outline(alloc, points, ends, style);
+    tell_near(
+        alloc,
+        &drawing,
+        options,
+        most_splits,
         shape_points,
         contour_ends,
         shape_ends,
@@ -466,14 +466,12 @@ pub extern "C" fn mesh_outline_edges_i16(
     path_ends: &mut [usize],
     counts: &mut EdgeCounts,
 ) -> u8
-    ensures { TellsEdges int_cmp (2 ^ 14) (edge_from (λ z. z))
-        (IsOutlineOf (2 ^ 14) (point_from (λ z. z)) points.now ends.now style.now)
-        (record { edges = edges.old; path_ends = path_ends.old })
-        (record { edges = edges.new; path_ends = path_ends.new })
-        counts.old counts.new result }
+    ensures { TellsEdges unit_16
+        (IsOutlineOf unit_16 whole_point points.now ends.now style.now)
+        (edge_room edges.old path_ends.old counts.old) (edge_room edges.new path_ends.new counts.new) result }
 {
-    let answer = outline_edges(alloc, points, ends, style);
-    hand_over_edges(&answer, edges, path_ends, counts).code()
+    let drawing = outline(alloc, points, ends, style);
+    tell_edges(alloc, &drawing, edges, path_ends, counts).code()
 }
 
 /// Whether an outline stays in range, and how far it reaches from its points.
@@ -485,12 +483,11 @@ pub extern "C" fn mesh_validate_outline_i16(
     style: &FlatOutlineStyle,
     padding: &mut i64,
 ) -> u8
-    ensures { TellsRange (2 ^ 14)
-        (IsOutlineOf (2 ^ 14) (point_from (λ z. z)) points.now ends.now style.now)
-        padding.old padding.new result }
+    ensures { TellsRange unit_16
+        (IsOutlineOf unit_16 whole_point points.now ends.now style.now) padding.old padding.new result }
 {
-    let answer = outline_reach(alloc, points, ends, style);
-    tell_reach(&answer, padding).code()
+    let drawing = outline(alloc, points, ends, style);
+    tell_range(&drawing, padding).code()
 }
 
 /// The shapes of a stroke, in the caller's lists, and how many items each has.
@@ -508,23 +505,22 @@ pub extern "C" fn mesh_stroke_i16(
     shape_ends: &mut [usize],
     counts: &mut ShapeCounts,
 ) -> u8
-    ensures { TellsShapes (2 ^ 14) (point_from (λ z. z))
-        (IsStrokeOf (2 ^ 14) (point_from (λ z. z)) points.now ends.now style.now start_points.now end_points.now)
-        (choices_in (2 ^ 14) options.now)
-        (record { points = shape_points.old; contour_ends = contour_ends.old; shape_ends = shape_ends.old })
-        (record { points = shape_points.new; contour_ends = contour_ends.new; shape_ends = shape_ends.new })
-        counts.old counts.new result }
+    ensures { TellsShapes unit_16
+        (IsStrokeOf unit_16 whole_point points.now ends.now style.now (start_points.now, end_points.now)) options.now
+        (shape_room shape_points.old contour_ends.old shape_ends.old counts.old)
+        (shape_room shape_points.new contour_ends.new shape_ends.new counts.new) result }
 {
-    let answer = stroke_shapes(
+    let drawing = stroke(alloc, points, ends, style, start_points, end_points);
+    tell_shapes(
         alloc,
-        points,
-        ends,
-        style,
-        start_points,
-        end_points,
+        &drawing,
         options,
-    );
-    hand_over_shapes(&answer, shape_points, contour_ends, shape_ends, counts).code()
+        shape_points,
+        contour_ends,
+        shape_ends,
+        counts,
+    )
+    .code()
 }
 
 /// The shapes of a stroke, in the caller's lists, how many items each has, and their nearness.
@@ -544,25 +540,18 @@ pub extern "C" fn mesh_stroke_near_i16(
     counts: &mut ShapeCounts,
     nearness: &mut u64,
 ) -> u8
-    ensures { TellsNear (2 ^ 14) (point_from (λ z. z))
-        (IsStrokeOf (2 ^ 14) (point_from (λ z. z)) points.now ends.now style.now start_points.now end_points.now)
-        (choices_in (2 ^ 14) options.now) most_splits
-        (record { points = shape_points.old; contour_ends = contour_ends.old; shape_ends = shape_ends.old })
-        (record { points = shape_points.new; contour_ends = contour_ends.new; shape_ends = shape_ends.new })
-        counts.old counts.new nearness.old nearness.new result }
+    ensures { TellsNear unit_16
+        (IsStrokeOf unit_16 whole_point points.now ends.now style.now (start_points.now, end_points.now))
+        options.now most_splits
+        (near_room shape_points.old contour_ends.old shape_ends.old counts.old nearness.old)
+        (near_room shape_points.new contour_ends.new shape_ends.new counts.new nearness.new) result }
 {
-    let answer = stroke_near(
+    let drawing = stroke(alloc, points, ends, style, start_points, end_points);
+    tell_near(
         alloc,
-        points,
-        ends,
-        style,
-        start_points,
-        end_points,
+        &drawing,
         options,
         most_splits,
-    );
-    hand_over_near(
-        &answer,
         shape_points,
         contour_ends,
         shape_ends,
@@ -585,14 +574,12 @@ pub extern "C" fn mesh_stroke_edges_i16(
     path_ends: &mut [usize],
     counts: &mut EdgeCounts,
 ) -> u8
-    ensures { TellsEdges int_cmp (2 ^ 14) (edge_from (λ z. z))
-        (IsStrokeOf (2 ^ 14) (point_from (λ z. z)) points.now ends.now style.now start_points.now end_points.now)
-        (record { edges = edges.old; path_ends = path_ends.old })
-        (record { edges = edges.new; path_ends = path_ends.new })
-        counts.old counts.new result }
+    ensures { TellsEdges unit_16
+        (IsStrokeOf unit_16 whole_point points.now ends.now style.now (start_points.now, end_points.now))
+        (edge_room edges.old path_ends.old counts.old) (edge_room edges.new path_ends.new counts.new) result }
 {
-    let answer = stroke_edges(alloc, points, ends, style, start_points, end_points);
-    hand_over_edges(&answer, edges, path_ends, counts).code()
+    let drawing = stroke(alloc, points, ends, style, start_points, end_points);
+    tell_edges(alloc, &drawing, edges, path_ends, counts).code()
 }
 
 /// Whether a stroke stays in range, and how far it reaches from its points.
@@ -606,12 +593,12 @@ pub extern "C" fn mesh_validate_stroke_i16(
     end_points: &[[i16; 2]],
     padding: &mut i64,
 ) -> u8
-    ensures { TellsRange (2 ^ 14)
-        (IsStrokeOf (2 ^ 14) (point_from (λ z. z)) points.now ends.now style.now start_points.now end_points.now)
+    ensures { TellsRange unit_16
+        (IsStrokeOf unit_16 whole_point points.now ends.now style.now (start_points.now, end_points.now))
         padding.old padding.new result }
 {
-    let answer = stroke_reach(alloc, points, ends, style, start_points, end_points);
-    tell_reach(&answer, padding).code()
+    let drawing = stroke(alloc, points, ends, style, start_points, end_points);
+    tell_range(&drawing, padding).code()
 }
 
 /// The shapes of a stroke of variable width, in the caller's lists, and how many items each has.
@@ -627,15 +614,22 @@ pub extern "C" fn mesh_variable_stroke_i16(
     shape_ends: &mut [usize],
     counts: &mut ShapeCounts,
 ) -> u8
-    ensures { TellsShapes (2 ^ 14) (point_from (λ z. z))
-        (IsVariableStrokeOf (vertex_from (λ z. z)) vertices.now ends.now arc.now)
-        (choices_in (2 ^ 14) options.now)
-        (record { points = shape_points.old; contour_ends = contour_ends.old; shape_ends = shape_ends.old })
-        (record { points = shape_points.new; contour_ends = contour_ends.new; shape_ends = shape_ends.new })
-        counts.old counts.new result }
+    ensures { TellsShapes unit_16
+        (IsVariableStrokeOf whole_vertex vertices.now ends.now arc.now) options.now
+        (shape_room shape_points.old contour_ends.old shape_ends.old counts.old)
+        (shape_room shape_points.new contour_ends.new shape_ends.new counts.new) result }
 {
-    let answer = variable_stroke_shapes(alloc, vertices, ends, arc, options);
-    hand_over_shapes(&answer, shape_points, contour_ends, shape_ends, counts).code()
+    let drawing = variable_stroke(alloc, vertices, ends, arc);
+    tell_shapes(
+        alloc,
+        &drawing,
+        options,
+        shape_points,
+        contour_ends,
+        shape_ends,
+        counts,
+    )
+    .code()
 }
 
 /// The shapes of a stroke of variable width, in the caller's lists, how many items each has, and their nearness.
@@ -653,16 +647,17 @@ pub extern "C" fn mesh_variable_stroke_near_i16(
     counts: &mut ShapeCounts,
     nearness: &mut u64,
 ) -> u8
-    ensures { TellsNear (2 ^ 14) (point_from (λ z. z))
-        (IsVariableStrokeOf (vertex_from (λ z. z)) vertices.now ends.now arc.now)
-        (choices_in (2 ^ 14) options.now) most_splits
-        (record { points = shape_points.old; contour_ends = contour_ends.old; shape_ends = shape_ends.old })
-        (record { points = shape_points.new; contour_ends = contour_ends.new; shape_ends = shape_ends.new })
-        counts.old counts.new nearness.old nearness.new result }
+    ensures { TellsNear unit_16
+        (IsVariableStrokeOf whole_vertex vertices.now ends.now arc.now) options.now most_splits
+        (near_room shape_points.old contour_ends.old shape_ends.old counts.old nearness.old)
+        (near_room shape_points.new contour_ends.new shape_ends.new counts.new nearness.new) result }
 {
-    let answer = variable_stroke_near(alloc, vertices, ends, arc, options, most_splits);
-    hand_over_near(
-        &answer,
+    let drawing = variable_stroke(alloc, vertices, ends, arc);
+    tell_near(
+        alloc,
+        &drawing,
+        options,
+        most_splits,
         shape_points,
         contour_ends,
         shape_ends,
@@ -683,14 +678,12 @@ pub extern "C" fn mesh_variable_stroke_edges_i16(
     path_ends: &mut [usize],
     counts: &mut EdgeCounts,
 ) -> u8
-    ensures { TellsEdges int_cmp (2 ^ 14) (edge_from (λ z. z))
-        (IsVariableStrokeOf (vertex_from (λ z. z)) vertices.now ends.now arc.now)
-        (record { edges = edges.old; path_ends = path_ends.old })
-        (record { edges = edges.new; path_ends = path_ends.new })
-        counts.old counts.new result }
+    ensures { TellsEdges unit_16
+        (IsVariableStrokeOf whole_vertex vertices.now ends.now arc.now)
+        (edge_room edges.old path_ends.old counts.old) (edge_room edges.new path_ends.new counts.new) result }
 {
-    let answer = variable_stroke_edges(alloc, vertices, ends, arc);
-    hand_over_edges(&answer, edges, path_ends, counts).code()
+    let drawing = variable_stroke(alloc, vertices, ends, arc);
+    tell_edges(alloc, &drawing, edges, path_ends, counts).code()
 }
 
 /// Whether a stroke of variable width stays in range, and how far it reaches from its points.
@@ -702,12 +695,11 @@ pub extern "C" fn mesh_validate_variable_stroke_i16(
     arc: &FlatArc,
     padding: &mut i64,
 ) -> u8
-    ensures { TellsRange (2 ^ 14)
-        (IsVariableStrokeOf (vertex_from (λ z. z)) vertices.now ends.now arc.now)
-        padding.old padding.new result }
+    ensures { TellsRange unit_16
+        (IsVariableStrokeOf whole_vertex vertices.now ends.now arc.now) padding.old padding.new result }
 {
-    let answer = variable_stroke_reach(alloc, vertices, ends, arc);
-    tell_reach(&answer, padding).code()
+    let drawing = variable_stroke(alloc, vertices, ends, arc);
+    tell_range(&drawing, padding).code()
 }
 
 /// Shapes without their slivers, in the caller's lists, and how many items each has.
@@ -723,15 +715,16 @@ pub extern "C" fn mesh_without_slivers_i16(
     left_shape_ends: &mut [usize],
     counts: &mut ShapeCounts,
 ) -> u8
-    ensures { TellsSlivers (point_from (λ z. z))
-        (record { points = points.now; contour_ends = contour_ends.now; shape_ends = shape_ends.now }) width
-        (record { points = left_points.old; contour_ends = left_contour_ends.old; shape_ends = left_shape_ends.old })
-        (record { points = left_points.new; contour_ends = left_contour_ends.new; shape_ends = left_shape_ends.new })
-        counts.old counts.new result }
+    ensures { TellsSlivers (shape_lists points.now contour_ends.now shape_ends.now) width
+        (shape_room left_points.old left_contour_ends.old left_shape_ends.old counts.old)
+        (shape_room left_points.new left_contour_ends.new left_shape_ends.new counts.new) result }
 {
-    let answer = without_slivers(alloc, points, contour_ends, shape_ends, width);
-    hand_over_shapes(
-        &answer,
+    tell_without_slivers(
+        alloc,
+        points,
+        contour_ends,
+        shape_ends,
+        width,
         left_points,
         left_contour_ends,
         left_shape_ends,

@@ -1,9 +1,10 @@
-//! How far drawings reach from their points.
+//! How far drawings reach from their points, and whether they stay in range so.
 
-ghost use Rattle.std.specs.Prelude.{◌≡◌};
+ghost use Rattle.std.specs.Prelude.{◌≡◌, ◌↔◌, IsTrue};
 ghost use Rattle.mesh_drawing.specs.Drawn.{drawn_of};
-ghost use Rattle.mesh_drawing.specs.Paddings.{padding_in};
+ghost use Rattle.mesh_drawing.specs.Paddings.{DoesStayInRange, padding_in};
 
+use crate::drawable::Drawable;
 use crate::drawing::Drawing;
 use i_overlay_mesh::stroke::radius;
 use mesh_num::num::convert::widen;
@@ -27,4 +28,15 @@ fn long<I: IntNumber>(wide: I::Wide) -> i64
     ensures { result ≡ I.Wide.value wide }
 {
     I::wide_to_i128(wide) as i64
+}
+
+/// Whether each point of a drawing, moved by the padding, stays in the safe range.
+pub fn stays_in_range<I: OverlayInt>(drawing: &Drawing<I>) -> bool
+    ensures { IsTrue result ↔ DoesStayInRange I.unit (drawn_of I.value drawing.now) }
+{
+    match drawing {
+        Drawing::Outline(outline) => outline.validate().is_ok(),
+        Drawing::Stroke(stroke) => stroke.validate().is_ok(),
+        Drawing::VariableStroke(stroke) => stroke.validate().is_ok(),
+    }
 }

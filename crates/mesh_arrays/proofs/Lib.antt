@@ -1,0 +1,5 @@
+pub mod Adding
+pub mod EndToEnd
+pub mod GivenShapes
+pub mod Readings
+pub mod RoomLists

@@ -1,0 +1,11 @@
+-- There are shapes, which are put, or there are none.
+use Rattle.std.proofs.Common.{refl}
+use Rattle.mesh_arrays.specs.Telling.{IsTold}
+use Rattle.mesh_arrays.proofs.near.hand_over_near.Goals as goal
+
+pub returns-in-Err : goal.returns-in-Err
+returns-in-Err g c = rw c.of.ensures (IsTold.refused c.in-Err.is refl)
+
+pub returns : goal.returns
+returns g c =
+    IsTold.told c.in-Ok.is (record { shapes = record { put = c.put_in.ensures; told = c.counts.ensures }; nearness = refl })

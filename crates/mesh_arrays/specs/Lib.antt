@@ -1,0 +1,14 @@
+pub mod Answers
+pub mod Drawings
+pub mod EdgeRooms
+pub mod EndToEnd
+pub mod Failures
+pub mod Numbers
+pub mod Outcomes
+pub mod Private
+pub mod Ranges
+pub mod Rooms
+pub mod ShapeRooms
+pub mod Slivers
+pub mod Styles
+pub mod Telling

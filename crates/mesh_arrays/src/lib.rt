@@ -1,0 +1,21 @@
+//! The library over slices and numbers, for languages that hold drawings in arrays: no call here hands out what its
+//! caller has to free. What a call answers goes into room that the caller gives. A drawing is read (`drawing`), and what
+//! is drawn of it told (`drawn`), or how far it reaches (`range`).
+#![tactic(auto)]
+
+pub mod drawing;
+pub mod drawn;
+pub mod edges;
+pub mod failure;
+pub mod given;
+mod layout;
+pub mod lists;
+pub mod near;
+pub mod numbers;
+pub mod options;
+pub mod outcome;
+pub mod range;
+pub mod room;
+pub mod shapes;
+pub mod slivers;
+pub mod styles;
