@@ -48,6 +48,16 @@ enum {
    MESH_OUT_OF_MEMORY, and 2 for MESH_MALFORMED. */
 mesh_outcome mesh_answer(const uint8_t *request, size_t request_size, uint8_t *room, size_t room_size, size_t *needed);
 
+/* Answers a request that you did not write: the same within a limit on the work.
+
+   most_splits    how many splits of edges may be made, counting attempts that were given up; 0 means any number
+
+   MESH_TOO_MANY_SPLITS: more splits were made than the limit, and the line says so. An answer is the same as without a
+   limit, and a request for edges needs no splits. */
+mesh_outcome mesh_answer_within(
+    const uint8_t *request, size_t request_size, uint64_t most_splits,
+    uint8_t *room, size_t room_size, size_t *needed);
+
 /* Says why bytes are not a valid request.
 
    MESH_MALFORMED: they are not, and the room receives a text that says why and where, without a line feed.

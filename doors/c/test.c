@@ -276,9 +276,20 @@ static int is_marked(const uint8_t *bytes, size_t size)
     return 1;
 }
 
-static mesh_outcome call(const struct test_case *it, struct room room, size_t *needed)
+/* How many requests took more than one split. */
+static size_t lines_given_up;
+
+typedef mesh_outcome caller(const struct test_case *it, uint64_t most, struct room room, size_t *needed);
+
+static mesh_outcome call(const struct test_case *it, uint64_t most, struct room room, size_t *needed)
 {
+    (void)most;
     return mesh_answer(it->request.bytes, it->request.size, room.block + MARGIN, room.size, needed);
+}
+
+static mesh_outcome call_within(const struct test_case *it, uint64_t most, struct room room, size_t *needed)
+{
+    return mesh_answer_within(it->request.bytes, it->request.size, most, room.block + MARGIN, room.size, needed);
 }
 
 /* Whether the room begins with the line, and all else in it and beside it stays marked. */
@@ -294,7 +305,7 @@ static void check(const struct test_case *it, size_t size)
 {
     struct room room = room_of(size);
     size_t needed = 0;
-    mesh_outcome outcome = call(it, room, &needed);
+    mesh_outcome outcome = call(it, 0, room, &needed);
     if (needed != it->line.size)
         fail(it, "another size is told");
     if (size < needed) {
@@ -303,6 +314,25 @@ static void check(const struct test_case *it, size_t size)
     } else if (status_of(outcome) != it->status || !holds(room, it->line)) {
         fail(it, "another answer than the program's");
     }
+    free(room.block);
+}
+
+/* With a limit a request has the same line, or one that tells of the limit. */
+static void check_within(const struct test_case *it, uint64_t most)
+{
+    static const char PAST[] = "{\"refused\":\"splitting took more than 1 splits\"}\n";
+    struct room room = room_of(it->line.size + sizeof PAST);
+    size_t needed = 0;
+    mesh_outcome outcome = call_within(it, most, room, &needed);
+    struct text line = it->line;
+    if (outcome == MESH_TOO_MANY_SPLITS) {
+        line = (struct text){(const uint8_t *)PAST, sizeof PAST - 1};
+        lines_given_up++;
+    }
+    if (outcome == MESH_TOO_MANY_SPLITS ? most != 1 || it->status : status_of(outcome) != it->status)
+        fail(it, "another outcome with a limit than without");
+    if (needed != line.size || !holds(room, line))
+        fail(it, "another line with a limit than without");
     free(room.block);
 }
 
@@ -636,7 +666,7 @@ static void check_in_threads(struct cases *cases)
 static const char NO_MEMORY[] = "{\"refused\":\"mesh construction ran out of memory\"}\n";
 
 /* Calls with each growth refused in turn, up to the first call that meets no refusal. Returns how many there were. */
-static size_t check_refused(const struct test_case *it)
+static size_t check_refused(caller *call, const struct test_case *it)
 {
     struct text told = {(const uint8_t *)NO_MEMORY, sizeof NO_MEMORY - 1};
     size_t size = it->line.size + told.size, needed, number = 0;
@@ -644,7 +674,7 @@ static size_t check_refused(const struct test_case *it)
         struct room room = room_of(size);
         grown = 0;
         refused = ++number;
-        mesh_outcome outcome = call(it, room, &needed);
+        mesh_outcome outcome = call(it, UINT64_MAX, room, &needed);
         int is_met = grown >= number;
         refused = 0;
         int is_answer = status_of(outcome) == it->status && needed == it->line.size && holds(room, it->line);
@@ -723,7 +753,7 @@ static size_t check_range_refused(const struct test_case *it)
 
 static size_t check_all_refused(const struct test_case *it)
 {
-    size_t growths = check_refused(it);
+    size_t growths = check_refused(call, it) + check_refused(call_within, it);
     if (!it->is_drawn)
         return growths;
     growths += check_range_refused(it);
@@ -745,6 +775,8 @@ int main(int count, char **words)
             check(&cases.all[i], 0);
             check(&cases.all[i], cases.all[i].line.size - 1);
             check(&cases.all[i], cases.all[i].line.size + 100);
+            check_within(&cases.all[i], 0);
+            check_within(&cases.all[i], 1);
             check_why(&cases.all[i]);
             if (cases.all[i].is_drawn)
                 check_range(&cases.all[i]);
@@ -754,7 +786,7 @@ int main(int count, char **words)
             }
         }
         check_in_threads(&cases);
-        if (!drawn || !given_up || !left_out)
+        if (!drawn || !given_up || !lines_given_up || !left_out)
             return 1;
         printf("C: %zu requests and %zu drawings in arrays are answered as by the program, in %d threads at once.\n",
                cases.count, drawn, THREADS);

@@ -9,7 +9,7 @@ ghost use Rattle.mesh_arrays.specs.Ranges.{TellsRange};
 ghost use Rattle.mesh_arrays.specs.ShapeRooms.{TellsNear, TellsShapes, near_room, shape_lists, shape_room};
 ghost use Rattle.mesh_arrays.specs.Slivers.{TellsSlivers};
 ghost use Rattle.mesh_arrays.specs.Telling.{Returns};
-ghost use Rattle.mesh_text.specs.Replies.{TellsReply};
+ghost use Rattle.mesh_text.specs.Replies.{TellsReply, TellsReplyWithin};
 ghost use Rattle.mesh_text.specs.Whys.{TellsWhy};
 
 use mesh_arrays::drawing::{outline, stroke, variable_stroke};
@@ -20,7 +20,7 @@ use mesh_arrays::range::tell_range;
 use mesh_arrays::shapes::ShapeCounts;
 use mesh_arrays::slivers::tell_without_slivers;
 use mesh_arrays::styles::{FlatArc, FlatOutlineStyle, FlatStrokeStyle};
-use mesh_text::answer::answer;
+use mesh_text::answer::{answer, answer_within};
 use mesh_text::why::why;
 use std::alloc::Global;
 
@@ -35,6 +35,20 @@ pub extern "C" fn mesh_answer(
     ensures { Returns (TellsReply request.now room.old room.new needed.new) result }
 {
     answer(alloc, request, room, needed).code()
+}
+
+/// The same, made by at most so many splits.
+#[unsafe(no_mangle)]
+pub extern "C" fn mesh_answer_within(
+    alloc: Global,
+    request: &[u8],
+    most_splits: u64,
+    room: &mut [u8],
+    needed: &mut usize,
+) -> u8
+    ensures { Returns (TellsReplyWithin most_splits request.now room.old room.new needed.new) result }
+{
+    answer_within(alloc, request, most_splits, room, needed).code()
 }
 
 /// Why a request is none, in the caller's room, and how many bytes that has.

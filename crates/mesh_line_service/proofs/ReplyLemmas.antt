@@ -17,14 +17,14 @@ use Rattle.mesh_request.specs.declared.failure.Failure.TheVariants.{Unreadable, 
 use Rattle.mesh_request.specs.declared.request.TypedRequest.{TypedRequest}
 use Rattle.mesh_service.proofs.Requested.{request_has_bytes}
 use Rattle.mesh_service.specs.Near.{AnswersWithin, IsGivenUpIn, PassesLimit}
-use Rattle.mesh_service.specs.Lines.{why_text}
+use Rattle.mesh_service.specs.Lines.{too_many_text, why_text}
 use Rattle.mesh_service.specs.Reasons.{IsReadOf, LiesIn, reason_text}
 use Rattle.mesh_service.specs.Serving.{HoldsNoRequest}
 use Rattle.mesh_service.specs.declared.reason.Reason.{Reason}
 use Rattle.mesh_service.specs.Served.{IsAccepted, Answers}
 use Rattle.mesh_line_service.specs.Held.{IsWithin}
 use Rattle.mesh_line_service.specs.Lines.{lines_of, TakesLines}
-use Rattle.mesh_line_service.specs.Replies.{IsAnswerAsked, IsReplyTo, AppendsReplies, telling_of, too_long_text, too_many_text}
+use Rattle.mesh_line_service.specs.Replies.{IsAnswerAsked, IsReplyTo, AppendsReplies, telling_of, too_long_text}
 use Rattle.mesh_line_service.specs.Private.Steps.{IsAnsweredTo, reply_text}
 use Rattle.mesh_line_service.specs.declared.options.LineOptions.{LineOptions}
 

@@ -5,7 +5,7 @@ use Rattle.std.specs.List.{AllZip, concat}
 use Rattle.mesh_offset.specs.declared.error.IntOutlineError.TheVariants.{CoordinateOutOfRange, OutOfMemory}
 use Rattle.mesh_request.specs.Failures.{failure_line}
 use Rattle.mesh_request.specs.declared.failure.Failure.TheVariants.{Unreadable, Refused}
-use Rattle.mesh_service.specs.Lines.{why_text}
+use Rattle.mesh_service.specs.Lines.{too_many_text, why_text}
 use Rattle.mesh_service.specs.Near.{IsAnswerWithin, IsGivenUpIn}
 use Rattle.mesh_service.specs.Reasons.{LiesIn, reason_text}
 use Rattle.mesh_service.specs.Serving.{IsAnswer, IsRefused, HoldsNoRequest}
@@ -17,10 +17,6 @@ use Rattle.mesh_line_service.specs.declared.options.LineOptions.{LineOptions}
 -- the reply to a line that has more bytes than these
 abbrev pub too_long_text : ℕ → List ℕ
 too_long_text most = codes "{\"refused\":\"line is longer than " ++ (decimal most ++ codes " bytes\"}\n")
-
--- the reply to a line whose drawing took more splits than these
-abbrev pub too_many_text : ℕ → List ℕ
-too_many_text most = codes "{\"refused\":\"splitting took more than " ++ (decimal most ++ codes " splits\"}\n")
 
 -- what is asked of answers
 abbrev pub telling_of : LineOptions → Telling

@@ -3,19 +3,19 @@
 ghost use Rattle.std.specs.Prelude.{◌≡◌, false, List, Ok, Err, OnOk, IfOk, IfErr, string_bytes};
 ghost use Rattle.std.specs.Io.KnownBytes.{Appends};
 ghost use Rattle.mesh_request.specs.Failures.{IsOfMemory};
-ghost use Rattle.mesh_service.specs.Lines.{why_text};
+ghost use Rattle.mesh_service.specs.Lines.{too_many_text, why_text};
 ghost use Rattle.mesh_service.specs.Reasons.{IsReadOf, LiesIn, reason_text};
 ghost use Rattle.mesh_service.specs.Serving.{AppendsBeginning, HoldsNoRequest};
 ghost use Rattle.mesh_line_service.specs.Held.{Holds, IsWithin};
 ghost use Rattle.mesh_line_service.specs.Private.Steps.{IsAnsweredTo, reply_text};
-ghost use Rattle.mesh_line_service.specs.Replies.{IsReplyTo, too_long_text, too_many_text};
+ghost use Rattle.mesh_line_service.specs.Replies.{IsReplyTo, too_long_text};
 
 use crate::line::{Held, Line};
 use crate::options::LineOptions;
 use mesh_offset::error::{IntNearnessError, IntOutlineError};
 use mesh_request::failure::Failure;
 use mesh_request::request::TypedRequest;
-use mesh_service::answer::why_line;
+use mesh_service::answer::{too_many_line, why_line};
 use mesh_service::near::{Telling, answer_within};
 use mesh_service::output::write_line;
 use mesh_service::reason::Reason;
@@ -139,8 +139,7 @@ fn too_many_splits(alloc: Global, most: u64) -> Result<String, Failure>
     ensures told { IfOk result (λ text. string_bytes text ≡ too_many_text most) }
     ensures memory { IfErr result IsOfMemory }
 {
-    let text = format!(in alloc; "{{\"refused\":\"splitting took more than {most} splits\"}}\n")?;
-    Ok(text)
+    Ok(too_many_line(alloc, most)?)
 }
 
 /// The reply to a line that has more bytes than these. It fails only where memory is refused.

@@ -1,5 +1,5 @@
 -- Lines: edges and shapes, as data and as text of JSON.
-use Rattle.std.specs.Prelude.{ℕ, List, [], ◌∷◌, ◌++◌, Bool, false, true, map, codes}
+use Rattle.std.specs.Prelude.{ℕ, List, [], ◌∷◌, ◌++◌, Bool, false, true, map, codes, decimal}
 use Rattle.serde_json.specs.Data.{Data, number, unsigned, string, array, object, item, no_items, member, no_members}
 use Rattle.serde_json.specs.Find.{of_integer}
 use Rattle.serde_json.specs.View.{items_of}
@@ -72,3 +72,7 @@ why_data told =
 -- that as a line
 abbrev pub why_text : List ℕ → List ℕ
 why_text told = line_text (why_data told)
+
+-- the line that tells that a drawing took more splits than these
+abbrev pub too_many_text : ℕ → List ℕ
+too_many_text most = codes "{\"refused\":\"splitting took more than " ++ (decimal most ++ codes " splits\"}\n")

@@ -8,7 +8,8 @@ ghost use Rattle.serde_json.specs.View.{view};
 ghost use Rattle.serde_json.specs.Written.{has_float};
 ghost use Rattle.mesh_num.specs.Paths.{paths_of, shapes_of};
 ghost use Rattle.mesh_service.specs.Lines.{point_data, edge_data, list_data, only_member, line_text, edges_text};
-ghost use Rattle.mesh_service.specs.Lines.{near_edges_data, near_shapes_data, shapes_text, why_data, why_text};
+ghost use Rattle.mesh_service.specs.Lines.{near_edges_data, near_shapes_data, shapes_text, too_many_text, why_data};
+ghost use Rattle.mesh_service.specs.Lines.{why_text};
 ghost use Rattle.mesh_service.specs.Reasons.{reason_text};
 
 use crate::reason::Reason;
@@ -108,6 +109,13 @@ fn why_answer(alloc: Global, told: String) -> Result<Value, AllocError>
     ensures { IfOk result (λ v. view v ≡ why_data (string_bytes told)) }
 {
     json!(in alloc; { "unreadable": "request", "why": told })
+}
+
+/// The line that tells that a drawing took more splits than these. It fails only where memory is refused.
+pub fn too_many_line(alloc: Global, most: u64) -> Result<String, AllocError>
+    ensures { IfOk result (λ s. string_bytes s ≡ too_many_text most) }
+{
+    format!(in alloc; "{{\"refused\":\"splitting took more than {most} splits\"}}\n")
 }
 
 fn line_of(alloc: Global, answer: &Value) -> Result<String, AllocError>

@@ -1,14 +1,18 @@
 //! The line that answers a request, in the caller's room.
 
-ghost use Rattle.std.specs.Prelude.{◌≡◌, length};
+ghost use Rattle.std.specs.Prelude.{◌≡◌, List, length};
 ghost use Rattle.mesh_arrays.specs.Rooms.{IsHandedOver};
 ghost use Rattle.mesh_request.specs.Failures.{failure_line};
-ghost use Rattle.mesh_text.specs.Replies.{TellsReply, outcome_of};
+ghost use Rattle.mesh_service.specs.Near.{IsGivenUpIn};
+ghost use Rattle.mesh_text.specs.Replies.{TellsReply, TellsReplyWithin, outcome_of};
 
 use mesh_arrays::outcome::Outcome;
 use mesh_arrays::room::hand_over;
 use mesh_offset::error::IntOutlineError;
 use mesh_request::failure::Failure;
+use mesh_service::answer::too_many_line;
+use mesh_service::near::{Telling, respond_near};
+use mesh_service::near_failure::NearFailure;
 use mesh_service::service::respond;
 use std::alloc::Global;
 
@@ -22,6 +26,39 @@ pub fn answer(alloc: Global, request: &[u8], room: &mut [u8], needed: &mut usize
     match respond(alloc, request) {
         Ok(line) => hand_over(line.as_bytes(), Outcome::Answered, room, needed),
         Err(failure) => hand_over_failure(failure, room, needed),
+    }
+}
+
+/// The same, made by at most so many splits; 0 stands for any number. It ends as `answer` does, or with `TooManySplits`:
+/// more splits were made, and the line tells so.
+pub fn answer_within(
+    alloc: Global,
+    request: &[u8],
+    most_splits: u64,
+    room: &mut [u8],
+    needed: &mut usize,
+) -> Outcome
+    ensures { TellsReplyWithin most_splits request.now room.old room.new needed.new result }
+{
+    let telling = Telling {
+        most_splits,
+        nearness: false,
+    };
+    match respond_near(alloc, request, telling) {
+        Ok(line) => hand_over(line.as_bytes(), Outcome::Answered, room, needed),
+        Err(NearFailure::Failed(failure)) => hand_over_failure(failure, room, needed),
+        Err(NearFailure::TooManySplits) => hand_over_limit(alloc, most_splits, room, needed),
+    }
+}
+
+/// Puts the line that tells of more splits than these to the beginning of the room, or that of a want of memory.
+fn hand_over_limit(alloc: Global, most: u64, room: &mut [u8], needed: &mut usize) -> Outcome
+    ensures { (request : List _) → IsGivenUpIn most request
+        → TellsReplyWithin most request room.old room.new needed.new result }
+{
+    match too_many_line(alloc, most) {
+        Ok(line) => hand_over(line.as_bytes(), Outcome::TooManySplits, room, needed),
+        Err(refused) => hand_over_failure(Failure::from(refused), room, needed),
     }
 }
 

@@ -9,14 +9,13 @@ from typing import Any, Callable, NoReturn, Optional, Sequence, TypeVar
 
 from .arrays import Lists, Told, drawn, left, lists_in, lists_of, nothing, reach
 from .errors import DrawingError, GridRangeError, TooManySplits
-from .exact import nearest_whole, plain, read_number
+from .exact import nearest_whole, plain, read_most_splits, read_number
 from .grid import MOST, Grid, Place, first_exponent, power_of_two
 from .library import Outcome
 from .paths import Box, Paths, box_round
 from .shapes import Shapes
 from .styles import JoinStyle, Style, outline_style
 
-MOST_SPLITS = 2**64 - 1
 # On the grid no contour is as wide, so each is a sliver of this width.
 MOST_SLIVER_WIDTH = 2**32 - 1
 
@@ -202,16 +201,6 @@ def read_origin(origin: Any) -> Optional[tuple[Fraction, Fraction]]:
     except (TypeError, ValueError):
         raise DrawingError("", f"origin is {origin!r}, and has to be a point (x, y)") from None
     return Fraction(read_number("", "the origin's x", x)), Fraction(read_number("", "the origin's y", y))
-
-
-def read_most_splits(most_splits: Any) -> Optional[int]:
-    """A limit on splits, if one is given."""
-    if most_splits is None:
-        return None
-    number = read_number("", "most_splits", most_splits)
-    if number != int(number) or not 0 <= number <= MOST_SPLITS:
-        raise DrawingError("", f"most_splits is {most_splits}, and has to be a whole number from 0 to 2^64 - 1")
-    return int(number)
 
 
 def read_sliver_width(width: Any) -> Optional[Fraction]:

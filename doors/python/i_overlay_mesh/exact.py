@@ -5,11 +5,13 @@ from __future__ import annotations
 import math
 import operator
 from fractions import Fraction
-from typing import Any, Union
+from typing import Any, Optional, Union
 
 from .errors import DrawingError
 
 Number = Union[int, float, Fraction]
+
+MOST_SPLITS = 2**64 - 1
 
 
 def exact_ratio(value: Number) -> tuple[int, int]:
@@ -35,6 +37,16 @@ def read_number(where: str, what: str, value: Any) -> Number:
         return operator.index(value)
     except TypeError:
         raise DrawingError(where, f"{what} is {value!r}, and has to be a number") from None
+
+
+def read_most_splits(most_splits: Any) -> Optional[int]:
+    """A limit on splits, if one is given."""
+    if most_splits is None:
+        return None
+    number = read_number("", "most_splits", most_splits)
+    if number != int(number) or not 0 <= number <= MOST_SPLITS:
+        raise DrawingError("", f"most_splits is {most_splits}, and has to be a whole number from 0 to 2^64 - 1")
+    return int(number)
 
 
 def nearest_whole(value: Fraction) -> int:

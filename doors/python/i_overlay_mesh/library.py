@@ -12,6 +12,7 @@ from enum import IntEnum
 from typing import Any, Callable
 
 from .errors import LibraryMissing, UnprovedWarning
+from .exact import read_most_splits
 
 FILE = "libi_overlay_mesh.so"
 VARIABLE = "I_OVERLAY_MESH_LIBRARY"
@@ -67,8 +68,9 @@ def load_library() -> ctypes.CDLL:
 
 def parameters_of(name: str) -> list[Any]:
     """The parameters of a call for shapes, many drawings, the range or slivers, by its name without its width."""
-    if name == "mesh_answer":
-        return [*LIST, *LIST, STRUCTURE]
+    if name.startswith("mesh_answer"):
+        limit = [ctypes.c_uint64] if name == "mesh_answer_within" else []
+        return [*LIST, *limit, *LIST, STRUCTURE]
     rooms = [*LIST, *LIST, *LIST, STRUCTURE]
     if name == "mesh_each":
         parts = [STRUCTURE, STRUCTURE, *LIST]
@@ -114,22 +116,24 @@ def warn_of_proof() -> None:
         warnings.warn(text, UnprovedWarning, stacklevel=3)
 
 
-def reply(request: bytes) -> tuple[Outcome, bytes]:
-    """How a request ended, and the program's line for it."""
-    call = call_of("mesh_answer", "")
+def reply(request: bytes, most_splits: int | None = None) -> tuple[Outcome, bytes]:
+    """How a request ended, and the program's line for it, or that of a limit on splits that it passed."""
+    call = call_of("mesh_answer" if most_splits is None else "mesh_answer_within", "")
+    limit = () if most_splits is None else (most_splits,)
     size = max(LEAST_ROOM, ROOM_FACTOR * len(request))
     needed = ctypes.c_size_t()
     while True:
         room = ctypes.create_string_buffer(size)
-        outcome = Outcome(call(request, len(request), room, size, ctypes.byref(needed)))
+        outcome = Outcome(call(request, len(request), *limit, room, size, ctypes.byref(needed)))
         if outcome is not Outcome.ROOM_TOO_SMALL:
             return outcome, ctypes.string_at(room, needed.value)
         size = needed.value
 
 
-def answer(request: bytes) -> bytes:
+def answer(request: bytes, most_splits: Any = None) -> bytes:
     """The line that the program `mesh_run` prints for a request in JSON, byte for byte, with its line feed.
 
-    For a request that is refused or cannot be read, this is `{"refused":..}` or `{"unreadable":..}`.
+    For a request that is refused or cannot be read, this is `{"refused":..}` or `{"unreadable":..}`. With
+    `most_splits` one that takes more splits is refused; 0 means no limit.
     """
-    return reply(bytes(memoryview(request)))[1]
+    return reply(bytes(memoryview(request)), read_most_splits(most_splits))[1]

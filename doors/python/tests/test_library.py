@@ -13,7 +13,7 @@ from concurrent.futures import ThreadPoolExecutor
 from surroundings import IS_QUICK, PACKAGE, PROGRAM, ROOT, program_line
 
 import random_requests
-from i_overlay_mesh import answer, is_proved, library
+from i_overlay_mesh import DrawingError, answer, is_proved, library
 
 RANDOM_REQUESTS = 50 if IS_QUICK else 300
 
@@ -28,6 +28,11 @@ STRANGE = [
     b'{"op":"outline","int":"i16","out":"shapes","paths":[[[15360,0]]],"style":{"outer":1024,"inner":1024}}',
 ]
 
+CROSSING = (
+    b'{"op":"stroke","int":"i32","out":"shapes","paths":[[[0,0],[90,90],[90,0],[0,90]]],"style":{"width":9}}'
+)
+"""The edges of this stroke are split more than once."""
+
 
 def long_request():
     """A short request whose answer is long."""
@@ -41,6 +46,7 @@ def long_request():
 class TestAgainstProgram(unittest.TestCase):
     def check(self, request):
         self.assertEqual(answer(request), program_line(request))
+        self.assertEqual(answer(request, most_splits=0), program_line(request))
 
     def test_examples(self):
         for file in sorted((ROOT / "examples").glob("*.json")):
@@ -72,6 +78,13 @@ class TestAnswer(unittest.TestCase):
         for no_bytes in (5, "{", None):
             with self.assertRaises(TypeError):
                 answer(no_bytes)
+
+    def test_a_limit(self):
+        self.assertEqual(answer(CROSSING, 1), b'{"refused":"splitting took more than 1 splits"}\n')
+        self.assertEqual(answer(CROSSING, 2**64 - 1), answer(CROSSING))
+        for limit in (-1, 2**64):
+            with self.assertRaises(DrawingError):
+                answer(b"{", limit)
 
     def test_a_copy_of_the_package(self):
         """The folder of the package with the shared object in it is all that is needed."""

@@ -65,6 +65,15 @@ extern "C" {
         needed: *mut usize,
     ) -> Outcome;
 
+    pub fn mesh_answer_within(
+        request: *const u8,
+        request_size: usize,
+        most_splits: u64,
+        room: *mut u8,
+        room_size: usize,
+        needed: *mut usize,
+    ) -> Outcome;
+
     pub fn mesh_why(
         request: *const u8,
         request_size: usize,

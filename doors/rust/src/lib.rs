@@ -32,5 +32,5 @@ pub use drawings::{
     validate_variable_stroke, variable_stroke, variable_stroke_edges, variable_stroke_near, without_slivers, Range,
 };
 pub use error::Error;
-pub use requests::{answer, why, Answer};
+pub use requests::{answer, answer_within, why, Answer};
 pub use style::{angle, Arc, Cap, Join, Options, OutlineStyle, Side, StrokeStyle, MIN_TURN};

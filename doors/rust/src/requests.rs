@@ -1,6 +1,6 @@
 //! Requests in JSON, as the program answers them.
 
-use crate::calls::{mesh_answer, mesh_why};
+use crate::calls::{mesh_answer, mesh_answer_within, mesh_why};
 use crate::error::{ended, room, Error, Outcome, ROOM_TOO_SMALL};
 
 /// A line is seldom longer than this many times its request.
@@ -30,12 +30,34 @@ pub struct Answer {
 /// # Ok::<(), i_overlay_mesh::Error>(())
 /// ```
 pub fn answer(request: &[u8]) -> Result<Answer, Error> {
-    let size = LEAST_ROOM.max(request.len().saturating_mul(FACTOR));
-    let (outcome, line) = told(size, |room, needed| unsafe {
+    let (outcome, line) = told(first_room(request), |room, needed| unsafe {
         // All lists are valid and overlap with nothing, and the call keeps none.
         mesh_answer(request.as_ptr(), request.len(), room.as_mut_ptr(), room.len(), needed)
     })?;
     Ok(Answer { line, status: ended(outcome) })
+}
+
+/// Answers a request that you did not write: as `answer` does, by at most so many splits of edges, or any number where
+/// that is 0. `TooManySplits` is the status where it took more.
+///
+/// ```
+/// use i_overlay_mesh::{answer_within, Error};
+///
+/// let bow = br#"{"op":"stroke","int":"i32","out":"shapes","paths":[[[0,0],[90,90],[90,0],[0,90]]],"style":{"width":9}}"#;
+/// assert_eq!(answer_within(bow, 1)?.status, Err(Error::TooManySplits));
+/// # Ok::<(), i_overlay_mesh::Error>(())
+/// ```
+pub fn answer_within(request: &[u8], most_splits: u64) -> Result<Answer, Error> {
+    let (outcome, line) = told(first_room(request), |room, needed| unsafe {
+        // All lists are valid and overlap with nothing, and the call keeps none.
+        mesh_answer_within(request.as_ptr(), request.len(), most_splits, room.as_mut_ptr(), room.len(), needed)
+    })?;
+    Ok(Answer { line, status: ended(outcome) })
+}
+
+/// How many bytes are room enough for most lines that answer a request.
+fn first_room(request: &[u8]) -> usize {
+    LEAST_ROOM.max(request.len().saturating_mul(FACTOR))
 }
 
 /// Why bytes hold no request, as a text; nothing where they hold one.

@@ -188,6 +188,7 @@ fn examples_are_answered_as_by_the_program_in_threads() {
                 run.stdin.take().unwrap().write_all(&bytes).unwrap();
                 let output = run.wait_with_output().unwrap();
                 let told = answer(&bytes).unwrap();
+                assert_eq!(answer_within(&bytes, 0), Ok(told.clone()));
                 assert_eq!(told.line, output.stdout, "{}", file.display());
                 assert_eq!(told.status.is_ok(), output.status.success());
             })
