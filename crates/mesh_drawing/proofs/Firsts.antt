@@ -3,9 +3,8 @@ use Rattle.std.proofs.Common.{◌≡◌, ℕ, ◌<◌, ◌+◌, List, get_or, ta
 use Rattle.std.specs.List.{All}
 use Rattle.std.proofs.lemmas.List.Elements.{All-more}
 use Rattle.mesh_drawing.specs.Drawn.{Drawn, as_outline, as_stroke, as_variable_stroke}
-use Rattle.mesh_drawing.specs.Drawings.{DoAreasFit}
 use Rattle.mesh_drawing.specs.Paddings.{DoesStayInRange}
-use Rattle.mesh_drawing.specs.Refusals.{IsFirstArea, IsFirstNot, IsFirstPoint}
+use Rattle.mesh_drawing.specs.Refusals.{IsFirstNot, IsFirstPoint}
 use Rattle.mesh_drawing.specs.declared.refusal.PointPlace.{PointPlace}
 
 -- one item more is so
@@ -25,9 +24,3 @@ pub point_past : (unit : ℕ) (drawn : Drawn) (place : PointPlace) → IsFirstPo
 point_past unit (as_outline style paths) place first = not_all _ paths place.path first.path
 point_past unit (as_stroke style closed paths) place first = not_all _ paths place.path first.path
 point_past unit (as_variable_stroke options paths) place first = not_all _ paths place.path first.path
-
--- and where no area is too large, all fit
-pub all_areas_fit : (unit : ℕ) (drawn : Drawn) → IsFirstArea unit drawn None → DoAreasFit unit drawn
-all_areas_fit unit (as_outline style paths) all = all
-all_areas_fit unit (as_stroke style closed paths) all = tt
-all_areas_fit unit (as_variable_stroke options paths) all = tt

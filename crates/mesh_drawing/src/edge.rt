@@ -1,6 +1,6 @@
 //! Directed edges in their order.
 
-ghost use Rattle.std.specs.Prelude.{◌≡◌, IfOk};
+ghost use Rattle.std.specs.Prelude.{IfOk};
 ghost use Rattle.std.specs.List.Sorted.{IsPermutation, IsSorted};
 ghost use Rattle.mesh_num.specs.Segments.{edges_of};
 ghost use Rattle.mesh_drawing.specs.Order.{by_values, edge_order};

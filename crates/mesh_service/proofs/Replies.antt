@@ -1,5 +1,5 @@
 -- Lemmas over lines: what is answered or told is a response to what was read.
-use Rattle.std.proofs.Common.{◌≡◌, ◌∙◌, ◌⊎◌, inl, inr, ℕ, ◌<◌, List, length, String, Global, Option, None, Some, Result, Ok, Err, IfSome, IsErrAnd, refl, sym, ap, subst}
+use Rattle.std.proofs.Common.{◌≡◌, ◌∙◌, ◌⊎◌, inl, inr, ℕ, ◌<◌, List, length, String, Global, Option, None, Some, Result, Ok, Err, IfSome, IsErrAnd, refl, sym, subst}
 use Rattle.std.specs.Prelude.{string_bytes}
 use Rattle.std.proofs.lemmas.Option.{none-some}
 use Rattle.std.specs.Io.KnownBytes.{Appends, IsAtEnd}
@@ -16,7 +16,7 @@ use Rattle.mesh_request.specs.declared.failure.Failure.{Failure}
 use Rattle.mesh_request.specs.declared.failure.Failure.TheVariants.{Unreadable, Refused}
 use Rattle.mesh_request.specs.declared.request.TypedRequest.{TypedRequest}
 use Rattle.mesh_service.proofs.Requested.{request_has_bytes}
-use Rattle.mesh_service.specs.Near.{AnswersWithin, IsAnswerWithin, IsResponseWithin, PassesLimit, TellsNearRefusal, of_nearness}
+use Rattle.mesh_service.specs.Near.{AnswersWithin, IsResponseWithin, PassesLimit, TellsNearRefusal, of_nearness}
 use Rattle.mesh_service.specs.Private.Told.{EndsAs, told_line, unread_status}
 use Rattle.mesh_service.specs.Reasons.{IsReadOf, failure_of}
 use Rattle.mesh_service.specs.Served.{IsAccepted, Answers}

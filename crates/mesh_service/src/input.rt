@@ -1,9 +1,10 @@
 //! All of what a reader gives.
 
-ghost use Rattle.std.specs.Prelude.{◌≡◌, ◌++◌, List, OnOk, IfOk, IfErr, IfSome, IsTrue};
-ghost use Rattle.std.specs.Io.KnownBytes.{Consumes, IsAtEnd};
+ghost use Rattle.std.specs.Prelude.{◌≡◌, OnOk, IfOk, IfErr, IfSome};
+ghost use Rattle.std.specs.Io.KnownBytes.{IsAtEnd};
 ghost use Rattle.mesh_request.specs.Failures.{IsOfMemory};
 ghost use Rattle.mesh_request.specs.Reading.{IsOfReading};
+ghost use Rattle.mesh_service.specs.Private.Told.{TakesPart};
 ghost use Rattle.mesh_service.specs.Serving.{HasBytes};
 
 use mesh_request::failure::Failure;
@@ -32,10 +33,8 @@ pub fn read_to_end<R: Read>(alloc: Global, reader: &mut R) -> Result<Vec<u8>, Fa
 
 /// Reads some bytes, and tells whether the reader's end is reached.
 fn read_chunk<R: Read>(reader: &mut R, bytes: &mut Vec<u8>) -> Result<bool, Failure>
-    ensures part { IfOk result (λ ended. (part : List _)
-        × Consumes (R.remaining reader.old) (R.remaining reader.new) part
-        × (bytes.new.items ≡ bytes.old.items ++ part)
-        × (IsTrue ended → IsAtEnd (R.remaining reader.new))) }
+    ensures part { IfOk result
+        (TakesPart (R.remaining reader.old) (R.remaining reader.new) bytes.old.items bytes.new.items) }
     ensures err { IfErr result IsOfReading }
     ensures memory { IfErr result (λ e. IsOfMemory e → HasBytes (R.remaining reader.old)) }
 {

@@ -1,6 +1,6 @@
 -- What is read of a value, and written in a run: only private contracts read this.
-use Rattle.std.specs.Prelude.{ℕ, ◌≡◌, ◌⊎◌, List, Option, Some, None, Result, Ok, Err, string_bytes}
-use Rattle.std.specs.Io.KnownBytes.{Appends}
+use Rattle.std.specs.Prelude.{ℕ, ◌≡◌, ◌⊎◌, Bool, IsTrue, List, ◌++◌, Option, Some, None, Result, Ok, Err, string_bytes}
+use Rattle.std.specs.Io.KnownBytes.{Appends, Consumes, IsAtEnd}
 use Rattle.std.specs.Allocator.{alloc_error}
 use Rattle.std.specs.declared.alloc.AllocError.{AllocError}
 use Rattle.std.specs.declared.alloc.Global.{Global}
@@ -24,6 +24,11 @@ abbrev pub IsReadOfValue : Data → Result TypedRequest TextError → Type 0
 IsReadOfValue d (Ok request) = exact_request d ≡ Some (untyped request)
 IsReadOfValue d (Err (NoRequest reason)) = (exact_request d ≡ None) × IsValueReason d reason
 IsReadOfValue d (Err OutOfMemory) = Unit {0}
+
+-- a part of the bytes that are left was taken behind those that were held, all that was left where the end is reached
+abbrev pub TakesPart : Option (List ℕ) → Option (List ℕ) → List ℕ → List ℕ → Bool → Type 0
+TakesPart left unread held bytes ended =
+    (part : List ℕ) × Consumes left unread part × (bytes ≡ held ++ part) × (IsTrue ended → IsAtEnd unread)
 
 -- the reason that an error tells
 abbrev pub reason_of : TextError → Result (Option Reason) AllocError
