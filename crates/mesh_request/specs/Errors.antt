@@ -1,5 +1,5 @@
 -- Why what is sought of a request is not read.
-use Rattle.std.specs.Prelude.{◌≡◌, Bool, true, false, Option, None}
+use Rattle.std.specs.Prelude.{◌≡◌, Bool, true, false, Option, Some, None, Result, MatchResult}
 use Rattle.serde_json.specs.Data.{Data}
 use Rattle.mesh_request.specs.Places.{IsPlaceIn}
 use Rattle.mesh_request.specs.declared.error.ReadError.{ReadError}
@@ -19,3 +19,7 @@ IsPlaced d OutOfMemory = Unit {0}
 -- told
 abbrev pub FailsToRead : {A : Type 0} → Data → Option A → ReadError → Type 0
 FailsToRead d sought error = IsPlaced d error × (is_fault error ≡ true → sought ≡ None)
+
+-- what is sought of a request is read, where `value` is what a value of the code stands for; or why it is not
+abbrev pub Reads : {X A : Type 0} → Data → Option A → (X → A) → Result X ReadError → Type 0
+Reads d sought value read = MatchResult read (λ x. sought ≡ Some (value x)) (FailsToRead d sought)

@@ -1,8 +1,7 @@
 -- What a request says, as data of JSON. Coordinates are of a type with `unit`, which holds the whole numbers from
 -- `-2 * unit` on that are below `2 * unit`; areas are of one that holds those without sign below `16 * unit * unit`.
-use Rattle.std.specs.Prelude.{ℕ, ◌*◌, ◌^◌, ◌&&◌, Bool, false, if◌then◌else◌, ℤ, pos, neg_ℤ, int_le, int_lt, nat_eq}
-use Rattle.std.specs.Prelude.{nat_lt, suc, List, [], ◌∷◌, codes, Option, Some, None, is_some, option_map}
-use Rattle.std.specs.Prelude.{option_and_then}
+use Rattle.std.specs.Prelude.{ℕ, ◌^◌, Bool, false, if◌then◌else◌, ℤ, nat_eq, nat_lt, suc, List, [], ◌∷◌, codes}
+use Rattle.std.specs.Prelude.{Option, Some, None, is_some, option_map, option_and_then}
 use Rattle.std.specs.Str.{bytes_eq}
 use Rattle.serde_json.specs.Data.{Data, Items, no_items, item, Members, no_members, member}
 use Rattle.serde_json.specs.Find.{get, as_number, as_i64, as_u64, as_bool, as_str, as_array, as_object}
@@ -18,7 +17,6 @@ use Rattle.mesh_join.specs.declared.style.IntLineJoin.TheVariants.{Bevel, Miter,
 use Rattle.mesh_join.specs.declared.style.StrokeSide.{StrokeSide}
 use Rattle.mesh_join.specs.declared.style.StrokeSide.TheVariants.{Both, Left, Right}
 use Rattle.mesh_stroke.specs.Caps.{CapKind}
-use Rattle.mesh_offset.specs.Radii.{radius_of}
 use Rattle.mesh_stroke.specs.Styles.{StrokeStyle}
 use Rattle.mesh_drawing.specs.Drawn.{Drawn, as_outline, as_stroke, as_variable_stroke}
 use Rattle.mesh_request.specs.Requests.{Asked, for_edges, for_shapes}
@@ -165,6 +163,10 @@ join_of (Some d) =
     else if has_key (codes "miter") d then option_map Miter (option_and_then angle_of (sole_in (codes "miter") d))
     else option_map Round (round_options_of d)
 
+-- what is needed of a value that names no join
+abbrev pub no_join_text : List ℕ
+no_join_text = codes "\"bevel\", {\"miter\": BITS} or {\"round\": [BITS, PRECISION]} is needed"
+
 -- the turn below which a miter is a bevel, the default one where there is none: 5 degrees, cut
 abbrev pub min_turn_of : Option Data → Option ℕ
 min_turn_of None = Some 59652323
@@ -195,6 +197,10 @@ cap_of unit (Some d) =
     else if is_word (codes "square") (as_str d) then Some CapKind.Square
     else if has_key (codes "round") d then option_map CapKind.Round (round_options_of d)
     else custom_cap_of unit d
+
+-- what is needed of a value that names no cap
+abbrev pub no_cap_text : List ℕ
+no_cap_text = codes "\"butt\", \"square\", {\"round\": [BITS, PRECISION]} or {\"custom\": [[X, Y], ..]} is needed"
 
 -- the side of a path that a value names: "both", "left" or "right", both where there is none
 abbrev pub side_of : Option Data → Option StrokeSide

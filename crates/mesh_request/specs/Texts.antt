@@ -1,6 +1,7 @@
 -- The texts of faults, as people read them.
 use Rattle.std.specs.Prelude.{ℕ, List, ◌++◌, codes, decimal}
 use Rattle.std.specs.Fmt.{signed_decimal}
+use Rattle.mesh_request.specs.Reading.{no_cap_text, no_join_text}
 use Rattle.mesh_request.specs.Places.{key_text}
 use Rattle.mesh_request.specs.declared.fault.Fault.{Fault}
 use Rattle.mesh_request.specs.declared.fault.place.Place.{Place}
@@ -56,9 +57,8 @@ problem_text NoVertex = codes "a vertex has three numbers"
 problem_text NoWholeNumber = codes "a whole number is needed"
 problem_text NoBool = codes "true or false is needed"
 problem_text NoArea = codes "an area is a whole number from 0 on that fits its type"
-problem_text NoJoin = codes "\"bevel\", {\"miter\": BITS} or {\"round\": [BITS, PRECISION]} is needed"
-problem_text NoCap =
-    codes "\"butt\", \"square\", {\"round\": [BITS, PRECISION]} or {\"custom\": [[X, Y], ..]} is needed"
+problem_text NoJoin = no_join_text
+problem_text NoCap = no_cap_text
 problem_text NoSide = codes "\"both\", \"left\" or \"right\" is needed"
 problem_text NoRoundOptions = codes "\"round\" needs [BITS, PRECISION]"
 problem_text NoMiterBits = codes "\"miter\" needs BITS"

@@ -1,10 +1,10 @@
 //! Options of the overlay, read from JSON.
 
-ghost use Rattle.std.specs.Prelude.{◌≡◌, Some, MatchResult, codes, option_map};
+ghost use Rattle.std.specs.Prelude.{◌≡◌, codes, option_map};
 ghost use Rattle.serde_json.specs.Find.{get};
 ghost use Rattle.serde_json.specs.View.{view};
 ghost use Rattle.mesh_below.specs.Options.{choices_of, is_clockwise};
-ghost use Rattle.mesh_request.specs.Errors.{FailsToRead};
+ghost use Rattle.mesh_request.specs.Errors.{Reads};
 ghost use Rattle.mesh_request.specs.Reading.{area_of, flag_of, choices_in, choices_given};
 
 use crate::error::ReadError;
@@ -21,8 +21,7 @@ pub(crate) fn read_options<I: IntNumber>(
     request: &Value,
 ) -> Result<IntOverlayOptions<I::WideUInt>, ReadError>
     ensures { let given = choices_given I.unit (get (codes "options") (view request.now)) in
-        MatchResult result (λ o. given ≡ Some (choices_of I.WideUInt.value o))
-        (FailsToRead (view request.now) given) }
+        Reads (view request.now) given (choices_of I.WideUInt.value) result }
 {
     let Some(options) = request.get("options") else {
         return Ok(IntOverlayOptions::new());
@@ -39,8 +38,7 @@ fn members<I: IntNumber>(
     options: &Value,
 ) -> Result<IntOverlayOptions<I::WideUInt>, ReadError>
     ensures { let given = choices_in I.unit (view options.now) in
-        MatchResult result (λ o. given ≡ Some (choices_of I.WideUInt.value o))
-        (FailsToRead (view request.now) given) }
+        Reads (view request.now) given (choices_of I.WideUInt.value) result }
 {
     let Some(min_output_area) = least_area::<I>(options.get("min_area")) else {
         return Err(inner_fault(request, Key::Options, Key::MinArea, Problem::NoArea));

@@ -1,8 +1,6 @@
 //! Requests that are served, read from JSON.
-
-ghost use Rattle.std.specs.Prelude.{◌≡◌, Some, MatchResult};
 ghost use Rattle.serde_json.specs.View.{view};
-ghost use Rattle.mesh_request.specs.Errors.{FailsToRead};
+ghost use Rattle.mesh_request.specs.Errors.{Reads};
 ghost use Rattle.mesh_request.specs.Reading.{asked_in, drawn_in, request_as, request_of};
 ghost use Rattle.mesh_request.specs.Requests.{asked_of};
 ghost use Rattle.mesh_request.specs.Typed.{untyped};
@@ -64,8 +62,7 @@ pub enum TypedRequest {
 /// The request that a value is. `Fault`: it is none that is served, and here it goes wrong first. `OutOfMemory`: memory
 /// was refused.
 pub fn read(alloc: Global, value: &Value) -> Result<TypedRequest, ReadError>
-    ensures { MatchResult result (λ r. request_of (view value.now) ≡ Some (untyped r))
-        (FailsToRead (view value.now) (request_of (view value.now))) }
+    ensures { Reads (view value.now) (request_of (view value.now)) untyped result }
 {
     if says(value, "int", "i16") {
         Ok(TypedRequest::I16(read_request(alloc, value)?))
@@ -80,8 +77,7 @@ pub fn read(alloc: Global, value: &Value) -> Result<TypedRequest, ReadError>
 
 /// The request with coordinates of one type that a value is, whichever type it names.
 pub fn read_request<I: OverlayInt>(alloc: Global, value: &Value) -> Result<Request<I>, ReadError>
-    ensures { MatchResult result (λ r. request_as I.unit (view value.now) ≡ Some r)
-        (FailsToRead (view value.now) (request_as I.unit (view value.now))) }
+    ensures { Reads (view value.now) (request_as I.unit (view value.now)) (λ r. r) result }
 {
     let drawing = read_drawing(alloc, value)?;
     let output = read_output::<I>(value)?;
@@ -97,8 +93,7 @@ fn names_operation(request: &Value) -> bool {
 
 /// What a request draws: a key of another operation is passed by.
 fn read_drawing<I: OverlayInt>(alloc: Global, value: &Value) -> Result<Drawing<I>, ReadError>
-    ensures { MatchResult result (λ d. drawn_in I.unit (view value.now) ≡ Some (drawn_of I.value d))
-        (FailsToRead (view value.now) (drawn_in I.unit (view value.now))) }
+    ensures { Reads (view value.now) (drawn_in I.unit (view value.now)) (drawn_of I.value) result }
 {
     if says(value, "op", "outline") {
         Ok(Drawing::Outline(read_outline(alloc, value)?))
@@ -114,7 +109,7 @@ fn read_drawing<I: OverlayInt>(alloc: Global, value: &Value) -> Result<Drawing<I
 /// What a request asks of what is drawn. Options are looked at for shapes alone.
 fn read_output<I: IntNumber>(value: &Value) -> Result<Output<I::WideUInt>, ReadError>
     ensures { let asked = asked_in I.unit (view value.now) in
-        MatchResult result (λ o. asked ≡ Some (asked_of I.WideUInt.value o)) (FailsToRead (view value.now) asked) }
+        Reads (view value.now) asked (asked_of I.WideUInt.value) result }
 {
     if says(value, "out", "edges") {
         Ok(Output::Edges)

@@ -6,6 +6,8 @@ ghost use Rattle.mesh_request.specs.Texts.{misfit_text, type_text};
 
 use crate::fault::key::Key;
 use crate::json::coordinate;
+use crate::request::caps::NO_CAP;
+use crate::request::joins::NO_JOIN;
 use mesh_num::num::IntNumber;
 use mesh_num::num::convert::widen;
 use serde_json::Value;
@@ -134,12 +136,8 @@ impl fmt::Display for Problem {
             Problem::NoArea => {
                 f.write_str("an area is a whole number from 0 on that fits its type")
             }
-            Problem::NoJoin => f.write_str(
-                "\"bevel\", {\"miter\": BITS} or {\"round\": [BITS, PRECISION]} is needed",
-            ),
-            Problem::NoCap => f.write_str(
-                "\"butt\", \"square\", {\"round\": [BITS, PRECISION]} or {\"custom\": [[X, Y], ..]} is needed",
-            ),
+            Problem::NoJoin => f.write_str(NO_JOIN),
+            Problem::NoCap => f.write_str(NO_CAP),
             Problem::NoSide => f.write_str("\"both\", \"left\" or \"right\" is needed"),
             Problem::NoRoundOptions => f.write_str("\"round\" needs [BITS, PRECISION]"),
             Problem::NoMiterBits => f.write_str("\"miter\" needs BITS"),

@@ -1,9 +1,9 @@
 //! Caps of the ends of open paths, read from JSON.
 
-ghost use Rattle.std.specs.Prelude.{◌≡◌, Some, None, MatchResult, option_map};
+ghost use Rattle.std.specs.Prelude.{option_map};
 ghost use Rattle.serde_json.specs.View.{view};
 ghost use Rattle.mesh_stroke.specs.Kinds.{kind_of};
-ghost use Rattle.mesh_request.specs.Errors.{FailsToRead};
+ghost use Rattle.mesh_request.specs.Errors.{Reads};
 ghost use Rattle.mesh_request.specs.Reading.{cap_of, custom_cap_of};
 
 use crate::error::ReadError;
@@ -19,6 +19,10 @@ use serde_json::Value;
 use std::alloc::Global;
 use std::rc::RcSlice;
 
+/// What is needed of a value that names no cap.
+pub(crate) const NO_CAP: &str =
+    "\"butt\", \"square\", {\"round\": [BITS, PRECISION]} or {\"custom\": [[X, Y], ..]} is needed";
+
 /// The kind of cap that a value names, which the style of a request has under a key; a butt where there is none.
 pub(crate) fn line_cap<I: OverlayInt>(
     alloc: Global,
@@ -27,7 +31,7 @@ pub(crate) fn line_cap<I: OverlayInt>(
     value: Option<&Value>,
 ) -> Result<IntLineCap<I>, ReadError>
     ensures { let cap = cap_of I.unit (option_map (λ v. view v.now) value.entry) in
-        MatchResult result (λ c. cap ≡ Some (kind_of c)) (FailsToRead (view request.now) cap) }
+        Reads (view request.now) cap kind_of result }
 {
     let Some(value) = value else {
         return Ok(IntLineCap::Butt);
@@ -57,8 +61,7 @@ fn custom_cap<I: OverlayInt>(
     end: Key,
     value: &Value,
 ) -> Result<IntLineCap<I>, ReadError>
-    ensures { MatchResult result (λ c. custom_cap_of I.unit (view value.now) ≡ Some (kind_of c))
-        (FailsToRead (view request.now) (custom_cap_of I.unit (view value.now))) }
+    ensures { Reads (view request.now) (custom_cap_of I.unit (view value.now)) kind_of result }
 {
     match sole_member(value, "custom") {
         Some(points) => {

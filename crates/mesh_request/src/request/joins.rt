@@ -1,9 +1,9 @@
 //! Joins, arcs and angles, read from JSON.
 
-ghost use Rattle.std.specs.Prelude.{◌≡◌, Some, MatchResult, codes, option_map};
+ghost use Rattle.std.specs.Prelude.{◌≡◌, codes, option_map};
 ghost use Rattle.serde_json.specs.Find.{get};
 ghost use Rattle.serde_json.specs.View.{view};
-ghost use Rattle.mesh_request.specs.Errors.{FailsToRead};
+ghost use Rattle.mesh_request.specs.Errors.{Reads};
 ghost use Rattle.mesh_request.specs.Reading.{join_of, round_options_of, arc_options_of, sole_in, angle_of};
 ghost use Rattle.mesh_request.specs.Reading.{small_number_of, min_turn_of};
 
@@ -17,10 +17,13 @@ use mesh_join::style::{DEFAULT_MITER_MIN_TURN, IntLineJoin};
 use mesh_num::num::Angle;
 use serde_json::Value;
 
+/// What is needed of a value that names no join.
+pub(crate) const NO_JOIN: &str =
+    "\"bevel\", {\"miter\": BITS} or {\"round\": [BITS, PRECISION]} is needed";
+
 /// The kind of join that the style of a request names, a bevel where there is none.
 pub(crate) fn join_in(request: &Value, style: &Value) -> Result<IntLineJoin, ReadError>
-    ensures { MatchResult result (λ j. join_of (get (codes "join") (view style.now)) ≡ Some j)
-        (FailsToRead (view request.now) (join_of (get (codes "join") (view style.now)))) }
+    ensures { Reads (view request.now) (join_of (get (codes "join") (view style.now))) (λ j. j) result }
 {
     let join = style.get("join");
     match line_join(join) {
@@ -102,8 +105,7 @@ fn small_number(value: &Value) -> Option<u32>
 
 /// The turn below which the style of a request asks for a bevel in place of a miter, the default one where it has none.
 pub(crate) fn turn_in(request: &Value, style: &Value) -> Result<Angle, ReadError>
-    ensures { MatchResult result (λ a. min_turn_of (get (codes "min_turn") (view style.now)) ≡ Some a)
-        (FailsToRead (view request.now) (min_turn_of (get (codes "min_turn") (view style.now)))) }
+    ensures { Reads (view request.now) (min_turn_of (get (codes "min_turn") (view style.now))) (λ a. a) result }
 {
     let Some(turn) = style.get("min_turn") else {
         return Ok(Angle::from_bits(DEFAULT_MITER_MIN_TURN));

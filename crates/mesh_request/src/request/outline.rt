@@ -1,10 +1,10 @@
 //! Requests for outlines, read from JSON.
 
-ghost use Rattle.std.specs.Prelude.{◌≡◌, Some, MatchResult, codes, option_and_then};
+ghost use Rattle.std.specs.Prelude.{codes, option_and_then};
 ghost use Rattle.serde_json.specs.Find.{get};
 ghost use Rattle.serde_json.specs.View.{view};
 ghost use Rattle.mesh_join.specs.Styles.{style_of};
-ghost use Rattle.mesh_request.specs.Errors.{FailsToRead};
+ghost use Rattle.mesh_request.specs.Errors.{Reads};
 ghost use Rattle.mesh_request.specs.Reading.{outline_of, outline_style_in};
 ghost use Rattle.mesh_drawing.specs.Drawn.{drawn_outline};
 
@@ -22,8 +22,7 @@ use std::alloc::Global;
 
 /// The outline that a request asks for.
 pub fn read_outline<I: OverlayInt>(alloc: Global, request: &Value) -> Result<Outline<I>, ReadError>
-    ensures { MatchResult result (λ o. outline_of I.unit (view request.now) ≡ Some (drawn_outline I.value o))
-        (FailsToRead (view request.now) (outline_of I.unit (view request.now))) }
+    ensures { Reads (view request.now) (outline_of I.unit (view request.now)) (drawn_outline I.value) result }
 {
     let style = outline_style(request)?;
     let paths = read_paths(alloc, request)?;
@@ -32,7 +31,7 @@ pub fn read_outline<I: OverlayInt>(alloc: Global, request: &Value) -> Result<Out
 
 fn outline_style<I: OverlayInt>(request: &Value) -> Result<IntOutlineStyle<I>, ReadError>
     ensures { let asked = option_and_then (outline_style_in I.unit) (get (codes "style") (view request.now)) in
-        MatchResult result (λ s. asked ≡ Some (style_of I.value s)) (FailsToRead (view request.now) asked) }
+        Reads (view request.now) asked (style_of I.value) result }
 {
     let Some(style) = request.get("style") else {
         return Err(member_fault(request, Key::Style, Problem::NoObject));

@@ -1,9 +1,9 @@
 //! Points and paths, read from JSON.
 
-ghost use Rattle.std.specs.Prelude.{◌≡◌, Some, MatchResult};
+ghost use Rattle.std.specs.Prelude.{◌≡◌};
 ghost use Rattle.serde_json.specs.View.{view, items_view};
 ghost use Rattle.mesh_num.specs.Paths.{paths_of};
-ghost use Rattle.mesh_request.specs.Errors.{FailsToRead};
+ghost use Rattle.mesh_request.specs.Errors.{Reads};
 ghost use Rattle.mesh_request.specs.Places.{key_text};
 ghost use Rattle.mesh_request.specs.Reading.{point_of, point_list_of, path_of, path_list_of, paths_in, length_of};
 
@@ -21,8 +21,7 @@ pub(crate) fn read_paths<I: OverlayInt>(
     alloc: Global,
     request: &Value,
 ) -> Result<Vec<Vec<IntPoint<I>>>, ReadError>
-    ensures { MatchResult result (λ ps. paths_in I.unit (view request.now) ≡ Some (paths_of ps.items))
-        (FailsToRead (view request.now) (paths_in I.unit (view request.now))) }
+    ensures { Reads (view request.now) (paths_in I.unit (view request.now)) (λ ps. paths_of ps.items) result }
 {
     match request.get("paths").and_then(Value::as_array) {
         Some(items) => path_list(alloc, request, items),
@@ -35,8 +34,7 @@ fn path_list<I: OverlayInt>(
     request: &Value,
     items: &[Value],
 ) -> Result<Vec<Vec<IntPoint<I>>>, ReadError>
-    ensures { MatchResult result (λ ps. path_list_of I.unit (items_view items.now) ≡ Some (paths_of ps.items))
-        (FailsToRead (view request.now) (path_list_of I.unit (items_view items.now))) }
+    ensures { Reads (view request.now) (path_list_of I.unit (items_view items.now)) (λ ps. paths_of ps.items) result }
 {
     let mut paths = Vec::new(alloc);
     for item in items {
@@ -53,8 +51,7 @@ pub(crate) fn path<I: OverlayInt>(
     list: PointList,
     value: &Value,
 ) -> Result<Vec<IntPoint<I>>, ReadError>
-    ensures { MatchResult result (λ ps. path_of I.unit (view value.now) ≡ Some ps.items)
-        (FailsToRead (view request.now) (path_of I.unit (view value.now))) }
+    ensures { Reads (view request.now) (path_of I.unit (view value.now)) (λ ps. ps.items) result }
 {
     match value.as_array() {
         Some(items) => points(alloc, request, list, items),
@@ -68,8 +65,7 @@ fn points<I: OverlayInt>(
     list: PointList,
     items: &[Value],
 ) -> Result<Vec<IntPoint<I>>, ReadError>
-    ensures { MatchResult result (λ ps. point_list_of I.unit (items_view items.now) ≡ Some ps.items)
-        (FailsToRead (view request.now) (point_list_of I.unit (items_view items.now))) }
+    ensures { Reads (view request.now) (point_list_of I.unit (items_view items.now)) (λ ps. ps.items) result }
 {
     let mut points = Vec::new(alloc);
     for item in items {
@@ -101,7 +97,7 @@ pub(crate) fn length_in<I: IntNumber>(
     key: Key,
 ) -> Result<I, ReadError>
     ensures { let length = length_of I.unit (key_text key) (view style.now) in
-        MatchResult result (λ c. length ≡ Some (I.value c)) (FailsToRead (view request.now) length) }
+        Reads (view request.now) length I.value result }
 {
     let Some(length) = style.get(key.text()) else {
         return Err(inner_fault(request, Key::Style, key, Problem::Missing(key)));

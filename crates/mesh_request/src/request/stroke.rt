@@ -1,10 +1,10 @@
 //! Requests for strokes, read from JSON.
 
-ghost use Rattle.std.specs.Prelude.{◌≡◌, Some, MatchResult, codes, option_map, option_and_then};
+ghost use Rattle.std.specs.Prelude.{◌≡◌, codes, option_map, option_and_then};
 ghost use Rattle.serde_json.specs.Find.{get};
 ghost use Rattle.serde_json.specs.View.{view};
 ghost use Rattle.mesh_stroke.specs.Styles.{stroke_style_of};
-ghost use Rattle.mesh_request.specs.Errors.{FailsToRead};
+ghost use Rattle.mesh_request.specs.Errors.{Reads};
 ghost use Rattle.mesh_request.specs.Reading.{side_of, stroke_of, stroke_style_in, uncapped_in};
 ghost use Rattle.mesh_drawing.specs.Parts.{uncapped_of};
 ghost use Rattle.mesh_drawing.specs.Drawn.{drawn_stroke};
@@ -26,8 +26,7 @@ use std::alloc::Global;
 
 /// The stroke that a request asks for.
 pub fn read_stroke<I: OverlayInt>(alloc: Global, request: &Value) -> Result<Stroke<I>, ReadError>
-    ensures { MatchResult result (λ s. stroke_of I.unit (view request.now) ≡ Some (drawn_stroke I.value s))
-        (FailsToRead (view request.now) (stroke_of I.unit (view request.now))) }
+    ensures { Reads (view request.now) (stroke_of I.unit (view request.now)) (drawn_stroke I.value) result }
 {
     let Some(closed) = flag(request.get("closed")) else {
         return Err(member_fault(request, Key::Closed, Problem::NoBool));
@@ -46,7 +45,7 @@ fn stroke_style<I: OverlayInt>(
     request: &Value,
 ) -> Result<IntStrokeStyle<I>, ReadError>
     ensures { let asked = option_and_then (stroke_style_in I.unit) (get (codes "style") (view request.now)) in
-        MatchResult result (λ s. asked ≡ Some (stroke_style_of I.value s)) (FailsToRead (view request.now) asked) }
+        Reads (view request.now) asked (stroke_style_of I.value) result }
 {
     let Some(style) = request.get("style") else {
         return Err(member_fault(request, Key::Style, Problem::NoObject));
@@ -62,8 +61,7 @@ fn uncapped_style<I: OverlayInt>(
     request: &Value,
     style: &Value,
 ) -> Result<IntStrokeStyle<I>, ReadError>
-    ensures { MatchResult result (λ s. uncapped_in I.unit (view style.now) ≡ Some (uncapped_of I.value s))
-        (FailsToRead (view request.now) (uncapped_in I.unit (view style.now))) }
+    ensures { Reads (view request.now) (uncapped_in I.unit (view style.now)) (uncapped_of I.value) result }
 {
     let join = join_in(request, style)?;
     let turn = turn_in(request, style)?;

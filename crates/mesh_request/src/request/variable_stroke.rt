@@ -1,8 +1,8 @@
 //! Requests for strokes whose width changes from vertex to vertex, read from JSON.
 
-ghost use Rattle.std.specs.Prelude.{◌≡◌, Some, MatchResult, option_map, option_and_then};
+ghost use Rattle.std.specs.Prelude.{◌≡◌, option_map, option_and_then};
 ghost use Rattle.serde_json.specs.View.{view};
-ghost use Rattle.mesh_request.specs.Errors.{FailsToRead};
+ghost use Rattle.mesh_request.specs.Errors.{Reads};
 ghost use Rattle.mesh_request.specs.Reading.{arc_in, arc_given, variable_stroke_of};
 ghost use Rattle.mesh_drawing.specs.Drawn.{drawn_variable_stroke};
 
@@ -24,8 +24,7 @@ pub fn read_variable_stroke<I: OverlayInt>(
     alloc: Global,
     request: &Value,
 ) -> Result<VariableStroke<I>, ReadError>
-    ensures { MatchResult result (λ s. variable_stroke_of I.unit (view request.now) ≡ Some (drawn_variable_stroke s))
-        (FailsToRead (view request.now) (variable_stroke_of I.unit (view request.now))) }
+    ensures { Reads (view request.now) (variable_stroke_of I.unit (view request.now)) drawn_variable_stroke result }
 {
     let Some(style) = variable_style(request.get("style")) else {
         return Err(inner_fault(request, Key::Style, Key::Arc, Problem::NoArc));

@@ -1,9 +1,9 @@
 //! Vertices with widths and paths of them, read from JSON.
 
-ghost use Rattle.std.specs.Prelude.{◌≡◌, Some, MatchResult};
+ghost use Rattle.std.specs.Prelude.{◌≡◌};
 ghost use Rattle.serde_json.specs.View.{view, items_view};
 ghost use Rattle.mesh_num.specs.Paths.{paths_of};
-ghost use Rattle.mesh_request.specs.Errors.{FailsToRead};
+ghost use Rattle.mesh_request.specs.Errors.{Reads};
 ghost use Rattle.mesh_request.specs.Reading.{vertex_of, vertices_of, vertex_path_of, vertex_path_list_of};
 ghost use Rattle.mesh_request.specs.Reading.{vertex_paths_in};
 
@@ -22,8 +22,7 @@ pub(crate) fn read_vertex_paths<I: OverlayInt>(
     alloc: Global,
     request: &Value,
 ) -> Result<Vec<Vec<IntStrokeVertex<I>>>, ReadError>
-    ensures { MatchResult result (λ ps. vertex_paths_in I.unit (view request.now) ≡ Some (paths_of ps.items))
-        (FailsToRead (view request.now) (vertex_paths_in I.unit (view request.now))) }
+    ensures { Reads (view request.now) (vertex_paths_in I.unit (view request.now)) (λ ps. paths_of ps.items) result }
 {
     match request.get("paths").and_then(Value::as_array) {
         Some(items) => vertex_path_list(alloc, request, items),
@@ -36,8 +35,7 @@ fn vertex_path_list<I: OverlayInt>(
     request: &Value,
     items: &[Value],
 ) -> Result<Vec<Vec<IntStrokeVertex<I>>>, ReadError>
-    ensures { MatchResult result (λ ps. vertex_path_list_of I.unit (items_view items.now) ≡ Some (paths_of ps.items))
-        (FailsToRead (view request.now) (vertex_path_list_of I.unit (items_view items.now))) }
+    ensures { Reads (view request.now) (vertex_path_list_of I.unit (items_view items.now)) (λ ps. paths_of ps.items) result }
 {
     let mut paths = Vec::new(alloc);
     for item in items {
@@ -54,8 +52,7 @@ fn vertex_path<I: OverlayInt>(
     list: PointList,
     value: &Value,
 ) -> Result<Vec<IntStrokeVertex<I>>, ReadError>
-    ensures { MatchResult result (λ vs. vertex_path_of I.unit (view value.now) ≡ Some vs.items)
-        (FailsToRead (view request.now) (vertex_path_of I.unit (view value.now))) }
+    ensures { Reads (view request.now) (vertex_path_of I.unit (view value.now)) (λ vs. vs.items) result }
 {
     match value.as_array() {
         Some(items) => vertices(alloc, request, list, items),
@@ -69,8 +66,7 @@ fn vertices<I: OverlayInt>(
     list: PointList,
     items: &[Value],
 ) -> Result<Vec<IntStrokeVertex<I>>, ReadError>
-    ensures { MatchResult result (λ vs. vertices_of I.unit (items_view items.now) ≡ Some vs.items)
-        (FailsToRead (view request.now) (vertices_of I.unit (items_view items.now))) }
+    ensures { Reads (view request.now) (vertices_of I.unit (items_view items.now)) (λ vs. vs.items) result }
 {
     let mut vertices = Vec::new(alloc);
     for item in items {
