@@ -7,14 +7,18 @@ ghost use Rattle.std.specs.Ordering.{int_cmp, ordering_then};
 use mesh_join::style::{IntLineJoin, StrokeSide};
 use mesh_num::num::{IntNumber, IntPoint};
 pub use mesh_outline::laws::{
-    answers_alone_are_regions, final_edges_are_balanced, outlines_are_drawn, outlines_are_exact,
-    outlines_are_regions, outlines_stay_safe,
+    answers_alone_are_regions, final_edges_are_balanced, outline_answers_reach,
+    outline_edges_reach, outlines_are_drawn, outlines_are_exact, outlines_are_regions,
+    outlines_reach, outlines_stay_safe,
 };
+pub use mesh_reach::laws::lists_reach_as_their_points;
 pub use mesh_stroke::laws::{
-    halves_make_the_whole, stroke_edges_are_balanced, strokes_are_regions, strokes_can_be_reversed,
+    halves_make_the_whole, kept_radii_reach, stroke_answers_reach, stroke_edges_are_balanced,
+    stroke_edges_reach, strokes_are_regions, strokes_can_be_reversed, strokes_reach,
 };
 pub use mesh_variable_stroke::laws::{
-    steps_are_by_index, variable_stroke_edges_are_balanced, variable_strokes_are_regions,
+    steps_are_by_index, variable_stroke_answers_reach, variable_stroke_edges_are_balanced,
+    variable_stroke_edges_reach, variable_strokes_are_regions, variable_strokes_reach,
 };
 use std::cmp::Ordering;
 use std::hash::{Hash, Hasher};

@@ -19,6 +19,10 @@ pub mod Padding
 pub mod PointBounds
 pub mod Promised
 pub mod PromisedOfAll
+pub mod ReachOfAnswers
+pub mod ReachOfEdges
+pub mod ReachOfPieces
+pub mod ReachOfPoints
 pub mod Regions
 pub mod Resolving
 pub mod Sections

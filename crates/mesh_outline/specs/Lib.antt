@@ -5,6 +5,7 @@ pub mod Laws
 pub mod Nearness
 pub mod Outline
 pub mod Private
+pub mod Reach
 pub mod Regions
 pub mod Resolved
 pub mod Staying

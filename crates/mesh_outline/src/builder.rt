@@ -19,6 +19,7 @@ ghost use Rattle.mesh_outline.specs.Drawn.{WindAsContour};
 ghost use Rattle.mesh_outline.specs.Kinds.{way_for};
 ghost use Rattle.mesh_outline.specs.Private.Sections.{corner_segments, offset_join, top_segments, IsCorner};
 ghost use Rattle.mesh_outline.specs.Outline.{outline_edges, outline_pieces};
+ghost use Rattle.mesh_outline.specs.Reach.{DifferWithinReach};
 
 use crate::builder_join::{JoinBuilder, is_outer};
 use crate::kind::ContourKind;
@@ -113,6 +114,8 @@ impl<I: IntNumber> OutlineBuilder<I> {
         ensures near { OnOk result (AreEndsNear (offset_padding self.old) path.now
             (added_edges segments.old.items segments.new.items)) }
         ensures safe { OnOk result (AreEdgesSafe I.unit (added_edges segments.old.items segments.new.items)) }
+        ensures reach { OnOk result (DifferWithinReach self.old path.now
+            (added_edges segments.old.items segments.new.items)) }
 
         // How they wind.
         ensures sum { OnOk result (WindAsContourAndPieces path.now (outline_pieces I.unit self.old path.now)

@@ -3,6 +3,7 @@
 ghost use Rattle.mesh_outline.specs.Drawn.{OutlinesAreDrawn};
 ghost use Rattle.mesh_outline.specs.Laws.{OutlinesStaySafe, FinalEdgesAreBalanced};
 ghost use Rattle.mesh_outline.specs.Laws.{OutlinesAreRegions, OutlinesAreExact, AnswersAloneAreRegions};
+ghost use Rattle.mesh_outline.specs.Reach.{OutlineAnswersReach, OutlineEdgesReach, OutlinesReach};
 
 /// The edges of each contour's outline are balanced, near its vertices, and wind as the count of its pieces says.
 pub fn outlines_are_drawn()
@@ -34,4 +35,23 @@ pub fn outlines_are_exact()
 /// What comes of one contour alone is made of regions of the edges of its outline.
 pub fn answers_alone_are_regions()
     ensures { AnswersAloneAreRegions }
+{}
+
+/// Each point that a piece of an outline holds, on either side of the contour, is near a section of the contour. With
+/// bevels or round joins it is at most the offset and three quarters of a grid unit away. How far miters reach is
+/// told by `join_reach`.
+pub fn outlines_reach()
+    ensures { OutlinesReach }
+{}
+
+/// So is each point round which the edges of an outline wind otherwise than the contour.
+pub fn outline_edges_reach()
+    ensures { OutlineEdgesReach }
+{}
+
+/// With no least area and outer contours counterclockwise, an outline's answer of the nearness `k` winds once round
+/// each point inside the contours and round no other, but for points within `k` 64ths of a grid unit, in both
+/// coordinates, of a point as near to a section of a contour as the outline reaches.
+pub fn outline_answers_reach()
+    ensures { OutlineAnswersReach }
 {}

@@ -1,9 +1,10 @@
 //! Outlines of contours over whole numbers: the edges of one contour's outline, and the calls on sources of contours.
 //!
 //! Read `specs/Outline.antt` first, the edges of a contour's outline and the pieces between it and the contour; then
-//! `specs/Resolved.antt`, the outline of many contours. A section is a cleaned edge moved sideways (`section`), a corner
-//! joins two of them (`builder_join`), the builder goes round a contour (`builder`), and the calls (`offset`) resolve
-//! what comes of all contours (`resolve`, `gather`, `bounds_apart`, `shapes`).
+//! `specs/Resolved.antt`, the outline of many contours, and `specs/Reach.antt`, how far outlines go from contours. A
+//! section is a cleaned edge moved sideways (`section`), a corner joins two of them (`builder_join`), the builder goes
+//! round a contour (`builder`), and the calls (`offset`) resolve what comes of all contours (`resolve`, `gather`,
+//! `bounds_apart`, `shapes`).
 #![tactic(auto)]
 
 pub mod area;

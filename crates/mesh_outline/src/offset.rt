@@ -15,6 +15,7 @@ ghost use Rattle.mesh_outline.specs.Nearness.{
   AreOutlineRegionsBeyond,
   IsOutlineDrawing,
 };
+ghost use Rattle.mesh_outline.specs.Reach.{DiffersWithinReach};
 ghost use Rattle.mesh_outline.specs.Regions.{AreOutlineRegions};
 ghost use Rattle.mesh_outline.specs.Resolved.{DoAreasFit, IsOutline, HavePromisedEdges};
 ghost use Rattle.mesh_outline.specs.Staying.{StaysSafe};
@@ -165,6 +166,8 @@ pub trait IntOutlineOffset<I: OverlayInt>: IntShapeResource<I> {
             (style_of I.value style.now) (choices_of I.WideUInt.value options) (Self.paths self.now)
             (shapes_of near.shapes.items) count.old count.new) }
         ensures safe { IfOk result (λ near. ArePointsSafe I.unit (shapes_of near.shapes.items)) }
+        ensures reach { IfOk result (λ near. DiffersWithinReach near.nearness (style_of I.value style.now)
+            (choices_of I.WideUInt.value options) (Self.paths self.now) (shapes_of near.shapes.items)) }
         ensures unfit { result ≡ Err IntNearnessError.CoordinateOutOfRange
             ↔ ¬ DoAreasFit I.Wide.half (Self.paths self.now) }
         ensures counted { CountsAttempts (length (Self.paths self.now) + 1)

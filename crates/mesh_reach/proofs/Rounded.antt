@@ -12,7 +12,6 @@ use Rattle.mesh_plane.proofs.Sizes.{two_products}
 use Rattle.mesh_num.specs.Direction.{IsShort, scaled_direction}
 use Rattle.mesh_num.specs.Rotation.{turned, turned_along}
 use Rattle.mesh_num.proofs.Rotations.{whole_length}
-use Rattle.mesh_circle.specs.Tangents.{at_radius}
 use Rattle.mesh_reach.specs.Joins.{rounded_reach}
 
 -- two sides of a right angle are together at most one and a half times as long as what is across
@@ -39,7 +38,7 @@ rounded_parts d n a b c e some h p q =
     le_of_mul-le-mul_left all (omega arith)
 
 -- a vector of at most `n` times `d` is at most `n` and the root of a half long once its parts are divided by `d`
-rounded_length : (d n : ℕ) (v : Point) → 0 < d → length_sq v ≤ d * d * (n * n) →
+pub rounded_length : (d n : ℕ) (v : Point) → 0 < d → length_sq v ≤ d * d * (n * n) →
     2 * length_sq (rounded v.0 d, rounded v.1 d) ≤ rounded_reach n
 rounded_length d n v some h =
     rounded_parts d n (unsigned_abs (rounded v.0 d)) (unsigned_abs (rounded v.1 d)) (unsigned_abs v.0)
@@ -62,16 +61,6 @@ pub turned_length : (unit most : ℕ) (n v : Point) → 0 < unit → IsShort uni
 turned_length unit most n v some short h =
     let size : length_sq (n.1, n.0) * length_sq v ≤ unit * unit * (most * most) = mul-le-mul (omega (arith, short)) h in
     rounded_length unit most (turned (n.1, n.0) v) some (omega (arith, size, whole_length (n.1, n.0) v))
-
--- and a normal that is made as long as a radius
-pub normal_length_most : (length : ℕ) (r : ℤ) (n : Point) → 0 < length → length_sq n ≤ length * length →
-    2 * length_sq (at_radius length r n) ≤ rounded_reach (unsigned_abs r)
-normal_length_most length r n some most = rounded_length length (unsigned_abs r) (r *ℤ n.0, r *ℤ n.1) some size
-  where
-    size : length_sq (r *ℤ n.0, r *ℤ n.1) ≤ length * length * (unsigned_abs r * unsigned_abs r)
-    size =
-        rw (unsigned_abs-mul r n.0, unsigned_abs-mul r n.1)
-        (omega (arith, mul-le-mul_right (unsigned_abs r * unsigned_abs r) most))
 
 -- a greater radius has no smaller reach
 pub rounded_reach_more : (a b : ℕ) → a ≤ b → rounded_reach a ≤ rounded_reach b

@@ -14,8 +14,7 @@ use Rattle.mesh_lattice.specs.Split.{back, occurs, same_ends}
 use Rattle.mesh_lattice.proofs.Beyond.{LiesBeyond, before, near_or_beyond}
 use Rattle.mesh_lattice.proofs.Boxes.{on_back}
 use Rattle.mesh_lattice.proofs.Ends.{decides_ends}
-use Rattle.mesh_reach.specs.Answers.{IsReachedWithin}
-use Rattle.mesh_reach.specs.Reach.{IsReachedByOne}
+use Rattle.mesh_reach.specs.Reach.{IsReachedByOne, IsReachedWithin}
 use Rattle.mesh_reach.proofs.Pieces.{IsDrawnAlong, drawn_near}
 
 -- ---- near to one of some edges or far from all

@@ -1,5 +1,5 @@
 -- Reach: how far from the edges that a piece was drawn along a point can lie that the piece holds.
-use Rattle.std.specs.Prelude.{ℕ, ◌*◌, ◌<◌, ◌≤◌, ◌⊎◌, IsTrue, List}
+use Rattle.std.specs.Prelude.{ℕ, ◌*◌, ◌<◌, ◌≤◌, ◌⊎◌, IsTrue, List, pos, ◌-ℤ◌, ◌*ℤ◌, unsigned_abs}
 use Rattle.std.specs.List.{All, Contains}
 use Rattle.mesh_plane.specs.Plane.{Point, Edge, minus, length_sq}
 use Rattle.mesh_plane.specs.Winding.{refined, holds}
@@ -18,6 +18,15 @@ pub record IsReachedByOne (b m : ℕ) (es : List Edge) (q : Point) : Type 0 wher
   pub edge : Edge
   pub listed : Contains es edge
   pub reached : IsReached b m edge q
+
+-- it lies within `k` 64ths of a unit, in both coordinates, of a point so near to one of some edges
+pub record IsReachedWithin (k b m : ℕ) (es : List Edge) (q : Point) : Type 0 where
+  pub grid : ℕ
+  pub positive : 0 < grid
+  pub point : Point
+  pub reached : IsReachedByOne b (grid * m) es point
+  pub by_x : 64 * unsigned_abs ((pos grid *ℤ q.0) -ℤ point.0) ≤ k * (grid * m)
+  pub by_y : 64 * unsigned_abs ((pos grid *ℤ q.1) -ℤ point.1) ≤ k * (grid * m)
 
 -- each point of each grid that a piece holds is so near to one of some edges
 abbrev pub HoldsNear : ℕ → List Edge → List Point → Type 0

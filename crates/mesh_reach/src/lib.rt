@@ -1,4 +1,4 @@
-//! How far strokes and outlines reach from their paths, as a distance.
+//! How far what is drawn along edges reaches from them, as a distance.
 #![tactic(auto)]
 
 pub mod laws;

@@ -9,6 +9,7 @@ pub mod Kinds
 pub mod Laws
 pub mod Paths
 pub mod Private
+pub mod Reach
 pub mod Regions
 pub mod Resolved
 pub mod ResolvedEdges

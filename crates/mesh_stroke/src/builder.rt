@@ -20,6 +20,7 @@ ghost use Rattle.mesh_stroke.specs.Drawn.{HasStockCaps, PiecesWindOnce, WindsAsM
 ghost use Rattle.mesh_stroke.specs.Private.Sections.{own_edge, IsCorner};
 ghost use Rattle.mesh_stroke.specs.Halves.{HalvesAddUp, MakeTheWhole};
 ghost use Rattle.mesh_stroke.specs.Paths.{path_edges};
+ghost use Rattle.mesh_stroke.specs.Reach.{WindWithinReach};
 ghost use Rattle.mesh_stroke.specs.Reversal.{CountAlike, reversed_edges};
 ghost use Rattle.mesh_stroke.specs.Strokes.{corner_edges, side_edges, drawn_edges, stroke_edges, stroke_pieces};
 ghost use Rattle.mesh_stroke.specs.Styles.{stroke_padding, stroke_style_of};
@@ -110,6 +111,8 @@ impl<'a, I: IntNumber> StrokeBuilder<'a, I> {
         ensures near { OnOk result (AreEndsNear (stroke_padding self.old) path.now
             (added_edges segments.old.items segments.new.items)) }
         ensures safe { OnOk result (AreEdgesSafe I.unit (added_edges segments.old.items segments.new.items)) }
+        ensures reach { OnOk result (WindWithinReach self.old closed path.now
+            (added_edges segments.old.items segments.new.items)) }
 
         // How they wind.
         ensures sum { OnOk result (WindAsPieces (stroke_pieces I.unit self.old closed path.now)

@@ -10,6 +10,7 @@ ghost use Rattle.mesh_lattice.specs.Reach.{ArePointsSafe};
 ghost use Rattle.mesh_below.specs.Options.{choices_of, plain};
 ghost use Rattle.mesh_offset.specs.Padding.{ArePathsSafe, all_points, widened};
 ghost use Rattle.mesh_stroke.specs.Halves.{HalvesAddUp};
+ghost use Rattle.mesh_stroke.specs.Reach.{WindsWithinReach};
 ghost use Rattle.mesh_stroke.specs.Styles.{stroke_padding, stroke_style_of};
 ghost use Rattle.mesh_stroke.specs.Regions.{AreCountedStrokeRegions, AreStrokeRegions, AreStrokeRegionsBeyond};
 ghost use Rattle.mesh_stroke.specs.Resolved.{IsStroke, HavePromisedEdges, AreAllEdges};
@@ -178,6 +179,8 @@ pub trait IntStrokeOffset<I: OverlayInt>: IntShapeResource<I> {
         ensures edges { IfOk result (λ near. ResolvesPromisedEdges I.unit (stroke_style_of I.value style.now) closed
             (choices_of I.WideUInt.value options) (Self.paths self.now) (shapes_of near.shapes.items)) }
         ensures safe { IfOk result (λ near. ArePointsSafe I.unit (shapes_of near.shapes.items)) }
+        ensures reach { IfOk result (λ near. WindsWithinReach near.nearness (stroke_style_of I.value style.now) closed
+            (choices_of I.WideUInt.value options) (Self.paths self.now) (shapes_of near.shapes.items)) }
         ensures counted { CountsAttempts 1
             (AreAllEdges I.unit (stroke_style_of I.value style.now) closed (Self.paths self.now)) count.old count.new }
         ensures within { OnOk result (IsWithinLimit count.new) }

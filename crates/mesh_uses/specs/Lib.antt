@@ -1,1 +1,2 @@
 pub mod Styles
+pub mod Tracks

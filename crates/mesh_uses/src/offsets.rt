@@ -9,6 +9,7 @@ ghost use Rattle.mesh_below.specs.Options.{plain};
 ghost use Rattle.mesh_join.specs.Joins.{outline_padding};
 ghost use Rattle.mesh_join.specs.VariableStyles.{default_variable_style};
 ghost use Rattle.mesh_offset.specs.Padding.{ArePathsSafe};
+ghost use Rattle.mesh_offset.specs.Radii.{radius_of};
 ghost use Rattle.mesh_offset.specs.Regions.{WindsOnceWhere};
 ghost use Rattle.mesh_outline.specs.Nearness.{AreCountedOutlineRegions, all_drawn};
 ghost use Rattle.mesh_outline.specs.Regions.{AreOutlineRegions, more_fill};
@@ -18,7 +19,9 @@ ghost use Rattle.mesh_stroke.specs.Styles.{stroke_padding};
 ghost use Rattle.mesh_variable_stroke.specs.Regions.{AreVariableStrokeRegions};
 ghost use Rattle.mesh_variable_stroke.specs.Strokable.{ArePathsStrokable};
 ghost use Rattle.mesh_uses.specs.Styles.{bevelled, rounded};
+ghost use Rattle.mesh_uses.specs.Tracks.{StaysBeside};
 
+use i_overlay_mesh::laws::kept_radii_reach;
 use i_overlay_mesh::{
     ArcOptions, FlatContoursBuffer, IntLineCap, IntLineJoin, IntNearnessError, IntOutlineError,
     IntOutlineOffset, IntOutlineStyle, IntOverlayOptions, IntPoint, IntShapes, IntStrokeError,
@@ -98,6 +101,28 @@ pub fn track(
         .end_cap(IntLineCap::Round(ArcOptions::default()));
     path.validate_stroke(&style)?;
     path.stroke(alloc, &style, false)
+}
+
+/// The same track, by this many splits at most. Each point round which it winds lies within its nearness of a point that
+/// is at most the radius and three quarters of a grid unit from the path: twice the square of that distance is at most
+/// `2 * r * r + 3 * r + 1`.
+pub fn track_within(
+    alloc: Global,
+    path: &Vec<IntPoint<i32>>,
+    width: i32,
+    most_splits: u64,
+) -> Result<NearShapes<i32>, IntNearnessError>
+    ensures { IfOk result (λ near. StaysBeside near.nearness (radius_of width) (path.now.items ∷ [])
+        (shapes_of near.shapes.items)) }
+{
+    kept_radii_reach();
+    let style = IntStrokeStyle::new(width)
+        .line_join(IntLineJoin::Round(ArcOptions::default()))
+        .start_cap(IntLineCap::Round(ArcOptions::default()))
+        .end_cap(IntLineCap::Round(ArcOptions::default()));
+    path.validate_stroke(&style)?;
+    let mut count = SplitCount::new(most_splits);
+    path.stroke_with_nearness(alloc, &style, false, IntOverlayOptions::new(), &mut count)
 }
 
 /// What a brush paints along a path, pressed at each vertex to the width that stands there.

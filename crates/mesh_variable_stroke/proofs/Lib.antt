@@ -3,6 +3,9 @@ pub mod Near
 pub mod Orders
 pub mod Promised
 pub mod Reach
+pub mod ReachOfAnswers
+pub mod ReachOfArcs
+pub mod ReachOfPieces
 pub mod Regions
 pub mod Resolving
 pub mod Safe

@@ -4,6 +4,7 @@ pub mod Drawn
 pub mod Laws
 pub mod PathsLeft
 pub mod Private
+pub mod Reach
 pub mod Regions
 pub mod Resolved
 pub mod ResolvedEdges

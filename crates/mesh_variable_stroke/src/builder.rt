@@ -11,6 +11,7 @@ ghost use Rattle.mesh_offset.specs.Built.{Adds};
 ghost use Rattle.mesh_offset.specs.Padding.{AreEndsNear};
 ghost use Rattle.mesh_offset.specs.Pieces.{WindAsPieces};
 ghost use Rattle.mesh_variable_stroke.specs.Drawn.{vertex_points, greatest_radius, AreStrokable};
+ghost use Rattle.mesh_variable_stroke.specs.Reach.{WindWithinReach};
 ghost use Rattle.mesh_variable_stroke.specs.VariableStrokes.{variable_stroke_edges, variable_stroke_pieces};
 
 use crate::vertex::circle_of;
@@ -78,6 +79,7 @@ impl<I: IntNumber> VariableStrokeBuilder<I> {
         ensures near { OnOk result (AreEndsNear (greatest_radius path.now) (vertex_points path.now)
             (added_edges segments.old.items segments.new.items)) }
         ensures safe { OnOk result (AreEdgesSafe I.unit (added_edges segments.old.items segments.new.items)) }
+        ensures reach { OnOk result (WindWithinReach path.now (added_edges segments.old.items segments.new.items)) }
 
         // How they wind.
         ensures sum { OnOk result (WindAsPieces (variable_stroke_pieces I.unit self.old path.now)

@@ -2,6 +2,7 @@
 
 ghost use Rattle.mesh_variable_stroke.specs.ByIndex.{StepsAreByIndex};
 ghost use Rattle.mesh_variable_stroke.specs.Laws.{VariableStrokeEdgesAreBalanced, VariableStrokesAreRegions};
+ghost use Rattle.mesh_variable_stroke.specs.Reach.{VariableStrokeAnswersReach, VariableStrokeEdgesReach, VariableStrokesReach};
 
 /// The edges of which a stroke of variable width is the resolution are balanced, and none ends where it starts,
 /// wherever the paths lie.
@@ -20,4 +21,21 @@ pub fn variable_strokes_are_regions()
 /// the circle of vertex `i + 1`.
 pub fn steps_are_by_index()
     ensures { StepsAreByIndex }
+{}
+
+/// Each point that a piece of a stroke of variable width holds is as near to a vertex as the radius there says, or to a
+/// section as the greater radius of its ends says: at most that radius and three quarters of a unit away.
+pub fn variable_strokes_reach()
+    ensures { VariableStrokesReach }
+{}
+
+/// So is each point round which the edges of such a stroke wind.
+pub fn variable_stroke_edges_reach()
+    ensures { VariableStrokeEdgesReach }
+{}
+
+/// With no least area, outer contours counterclockwise and splits of the nearness `k`, each point round which the
+/// answer of such a stroke winds lies within `k` 64ths of a grid unit, in both coordinates, of a point so near.
+pub fn variable_stroke_answers_reach()
+    ensures { VariableStrokeAnswersReach }
 {}

@@ -2,7 +2,8 @@
 //! paths, and the sources.
 //!
 //! Read `specs/Chains.antt` and `specs/VariableStrokes.antt` first: where the sections of a path are broken into chains,
-//! the edges of those, and the pieces that they are made of; then `specs/Resolved.antt`, the stroke of many paths.
+//! the edges of those, and the pieces that they are made of; then `specs/Resolved.antt`, the stroke of many paths, and
+//! `specs/Reach.antt`, how far strokes go from paths.
 #![tactic(auto)]
 
 pub mod bounds;

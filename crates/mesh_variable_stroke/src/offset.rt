@@ -14,6 +14,7 @@ ghost use Rattle.mesh_variable_stroke.specs.Regions.{
   AreVariableStrokeRegions,
   AreVariableStrokeRegionsBeyond,
 };
+ghost use Rattle.mesh_variable_stroke.specs.Reach.{WindsWithinReach};
 ghost use Rattle.mesh_variable_stroke.specs.Resolved.{IsVariableStroke, HavePromisedEdges, AreAllEdges};
 ghost use Rattle.mesh_variable_stroke.specs.ResolvedEdges.{ResolvesPromisedEdges};
 ghost use Rattle.mesh_split.specs.Counting.{IsPastLimit, IsWithinLimit};
@@ -164,6 +165,8 @@ pub trait IntVariableStrokeOffset<I: OverlayInt>: IntVariableStrokeSource<I> {
         ensures edges { IfOk result (λ near. ResolvesPromisedEdges I.unit style.arc
             (choices_of I.WideUInt.value options) (Self.paths self.now) (shapes_of near.shapes.items)) }
         ensures safe { IfOk result (λ near. ArePointsSafe I.unit (shapes_of near.shapes.items)) }
+        ensures reach { IfOk result (λ near. WindsWithinReach near.nearness (choices_of I.WideUInt.value options)
+            (Self.paths self.now) (shapes_of near.shapes.items)) }
         ensures counted { CountsAttempts 1 (AreAllEdges I.unit style.arc (Self.paths self.now)) count.old count.new }
         ensures within { OnOk result (IsWithinLimit count.new) }
         ensures refused { result ≡ Err IntNearnessError.TooManySplits → IsPastLimit count.new }

@@ -12,6 +12,7 @@ use Rattle.mesh_outline.specs.Building.{IsMovable}
 use Rattle.mesh_outline.specs.Outline.{outline_edges}
 use Rattle.mesh_outline.proofs.BuilderTheorems.{adds_few, adds_promised, adds_safe, adds_winding}
 use Rattle.mesh_outline.proofs.Promised.{has_promised_edges}
+use Rattle.mesh_outline.proofs.ReachOfPieces.{pieces_differ_within}
 use Rattle.mesh_outline.proofs.builder.OutlineBuilder.build.Given as given
 use Rattle.mesh_outline.proofs.builder.OutlineBuilder.build.Goals as goal
 
@@ -78,6 +79,11 @@ returns-clause-near g c = (adds_promised g.I.IntNumber.unit c.args.self.now c.ar
 
 pub returns-clause-safe : goal.returns-clause-safe
 returns-clause-safe g c = adds_safe g.I.IntNumber.unit c.args.self.now c.args.path.now g.met.I.IntNumber.least_law _ _ c.requires (adds g c)
+
+pub returns-clause-reach : goal.returns-clause-reach
+returns-clause-reach g c =
+    pieces_differ_within g.I.IntNumber.unit g.met.I.IntNumber.least_law c.args.self.now c.args.path.now _
+    (adds_promised g.I.IntNumber.unit c.args.self.now c.args.path.now g.met.I.IntNumber.least_law _ _ (adds g c)).sum
 
 pub returns-clause-sum : goal.returns-clause-sum
 returns-clause-sum g c = (adds_promised g.I.IntNumber.unit c.args.self.now c.args.path.now g.met.I.IntNumber.least_law _ _ (adds g c)).sum

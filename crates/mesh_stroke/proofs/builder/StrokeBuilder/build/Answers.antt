@@ -13,6 +13,7 @@ use Rattle.mesh_stroke.specs.Styles.{StrokeStyle}
 use Rattle.mesh_stroke.proofs.Halves.{halves_make_the_whole, makes_the_whole}
 use Rattle.mesh_stroke.proofs.Reversal.{adds_reversed}
 use Rattle.mesh_stroke.proofs.Promised.{are_stroked, adds_stroked}
+use Rattle.mesh_stroke.proofs.ReachOfPieces.{pieces_wind_within}
 use Rattle.mesh_stroke.proofs.StrokeFew.{adds_few, few_are_direct, stroke_length}
 use Rattle.mesh_stroke.proofs.builder.StrokeBuilder.build.Given as given
 use Rattle.mesh_stroke.proofs.builder.StrokeBuilder.build.Goals as goal
@@ -55,6 +56,11 @@ returns-clause-near g c = (adds_stroked g.I.IntNumber.unit g.met.I.IntNumber.lea
 
 pub returns-clause-safe : goal.returns-clause-safe
 returns-clause-safe g c = (adds_stroked g.I.IntNumber.unit g.met.I.IntNumber.least_law c.args.self.now c.args.closed c.args.path.now _ _ c.requires (adds g c)).safe
+
+pub returns-clause-reach : goal.returns-clause-reach
+returns-clause-reach g c =
+    pieces_wind_within g.I.IntNumber.unit g.met.I.IntNumber.least_law c.args.self.now c.args.closed c.args.path.now _
+    (adds_stroked g.I.IntNumber.unit g.met.I.IntNumber.least_law c.args.self.now c.args.closed c.args.path.now _ _ c.requires (adds g c)).sum
 
 pub returns-clause-sum : goal.returns-clause-sum
 returns-clause-sum g c = (adds_stroked g.I.IntNumber.unit g.met.I.IntNumber.least_law c.args.self.now c.args.closed c.args.path.now _ _ c.requires (adds g c)).sum

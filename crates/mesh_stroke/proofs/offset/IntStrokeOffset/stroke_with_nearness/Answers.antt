@@ -4,6 +4,7 @@ use Rattle.mesh_below.specs.Options.{choices_of}
 use Rattle.mesh_offset.proofs.Counting.{counts_of_one}
 use Rattle.mesh_stroke.specs.Resolved.{AreAllEdges}
 use Rattle.mesh_stroke.specs.Styles.{stroke_style_of}
+use Rattle.mesh_stroke.proofs.ReachOfAnswers.{stroke_answers_reach}
 use Rattle.mesh_stroke.proofs.Regions.{stroke_beyond, stroke_resolves}
 use Rattle.mesh_stroke.proofs.offset.IntStrokeOffset.stroke_with_nearness.Goals as goal
 
@@ -16,6 +17,12 @@ returns-clause-standing g c =
 
 pub returns-clause-regions : goal.returns-clause-regions
 returns-clause-regions g c = (returns-clause-standing g c).near
+
+pub returns-clause-reach : goal.returns-clause-reach
+returns-clause-reach g c =
+    stroke_answers_reach g.I.IntNumber.unit g.met.I.IntNumber.least_law _ (stroke_style_of g.I.IntNumber.value c.args.style.now)
+    c.args.closed (choices_of g.I.WideUInt.WideUnsigned.value c.args.options)
+    (g.Self.IntShapeResource.paths c.args.self.now) _ (returns-clause-standing g c).near
 
 pub returns-clause-edges : goal.returns-clause-edges
 returns-clause-edges g c =

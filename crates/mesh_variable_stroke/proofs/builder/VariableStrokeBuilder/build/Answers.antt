@@ -7,6 +7,7 @@ use Rattle.mesh_offset.specs.Built.{Adds}
 use Rattle.mesh_offset.proofs.Adding.{added_is, adds_edges}
 use Rattle.mesh_variable_stroke.specs.VariableStrokes.{variable_stroke_edges}
 use Rattle.mesh_variable_stroke.proofs.Promised.{adds_stroked}
+use Rattle.mesh_variable_stroke.proofs.ReachOfPieces.{pieces_wind_within}
 use Rattle.mesh_variable_stroke.proofs.Thin.{thin_adds}
 use Rattle.mesh_variable_stroke.proofs.builder.VariableStrokeBuilder.build.Given as given
 use Rattle.mesh_variable_stroke.proofs.builder.VariableStrokeBuilder.build.Goals as goal
@@ -43,6 +44,11 @@ returns-clause-near g c =
 pub returns-clause-safe : goal.returns-clause-safe
 returns-clause-safe g c =
     (adds_stroked g.I.IntNumber.unit g.met.I.IntNumber.least_law c.args.self.now c.args.path.now _ _ c.requires (adds g c)).safe
+
+pub returns-clause-reach : goal.returns-clause-reach
+returns-clause-reach g c =
+    pieces_wind_within g.I.IntNumber.unit g.met.I.IntNumber.least_law c.args.self.now c.args.path.now _
+    (adds_stroked g.I.IntNumber.unit g.met.I.IntNumber.least_law c.args.self.now c.args.path.now _ _ c.requires (adds g c)).sum
 
 pub returns-clause-sum : goal.returns-clause-sum
 returns-clause-sum g c =

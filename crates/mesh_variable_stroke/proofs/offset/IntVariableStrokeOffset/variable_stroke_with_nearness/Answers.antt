@@ -3,6 +3,7 @@ use Rattle.mesh_num.specs.Segments.{edges_of}
 use Rattle.mesh_below.specs.Options.{choices_of}
 use Rattle.mesh_offset.proofs.Counting.{counts_of_one}
 use Rattle.mesh_variable_stroke.specs.Resolved.{AreAllEdges}
+use Rattle.mesh_variable_stroke.proofs.ReachOfAnswers.{variable_stroke_answers_reach}
 use Rattle.mesh_variable_stroke.proofs.Regions.{stroke_beyond, stroke_resolves}
 use Rattle.mesh_variable_stroke.proofs.offset.IntVariableStrokeOffset.variable_stroke_with_nearness.Goals as goal
 
@@ -14,6 +15,12 @@ returns-clause-standing g c =
 
 pub returns-clause-regions : goal.returns-clause-regions
 returns-clause-regions g c = (returns-clause-standing g c).near
+
+pub returns-clause-reach : goal.returns-clause-reach
+returns-clause-reach g c =
+    variable_stroke_answers_reach g.I.IntNumber.unit g.met.I.IntNumber.least_law _ c.args.style.arc
+    (choices_of g.I.WideUInt.WideUnsigned.value c.args.options)
+    (g.Self.IntVariableStrokeSource.paths c.args.self.now) _ (returns-clause-standing g c).near
 
 pub returns-clause-edges : goal.returns-clause-edges
 returns-clause-edges g c =

@@ -1,5 +1,0 @@
-use Rattle.mesh_reach.proofs.KeptRadii.{kept_radii_reach}
-use Rattle.mesh_reach.proofs.laws.kept_radii_reach.Goals as goal
-
-pub returns : goal.returns
-returns c = kept_radii_reach
