@@ -1,10 +1,11 @@
 #!/usr/bin/env python3
 """Times `buffer_all` of the package for Python beside Shapely's `buffer`, on many small polygons.
 
-    bench/buffer_all.py [--count N] [--vertices N] [--workers N]
+    bench/buffer_all.py [--count N] [--vertices N] [--workers N] [--rounds N]
 
-Both draw arcs of 16 steps a quarter of a turn. Shapely is shared by as many threads, in as many chunks. Beside the time
-stands the processor time, which tells more where the machine has other work. The package has to be found, and Shapely 2.
+Both draw arcs of 16 steps a quarter of a turn, in turns. Shapely is shared by as many threads, in as many chunks. Beside
+the time stands the processor time, which tells more where the machine has other work; the last row is the part of it that
+the compiled library takes. The package has to be found, and Shapely 2.
 """
 
 import argparse
@@ -18,9 +19,8 @@ import shapely
 
 sys.path.insert(0, str(pathlib.Path(__file__).resolve().parent.parent / "doors/python"))
 
-from i_overlay_mesh import buffer_all  # noqa: E402
+from i_overlay_mesh import batches, buffer_all  # noqa: E402
 
-ROUNDS = 3
 DISTANCE = 10.0
 
 
@@ -43,14 +43,36 @@ def by_shapely(given, workers):
         return numpy.concatenate(list(pool.map(lambda chunk: shapely.buffer(chunk, DISTANCE, quad_segs=16), chunks)))
 
 
-def measured(call):
-    """The least time and the least processor time of some rounds, in microseconds."""
-    times = []
-    for _ in range(ROUNDS):
-        wall, used = time.perf_counter(), time.process_time()
-        call()
-        times.append((time.perf_counter() - wall, time.process_time() - used))
-    return [min(column) * 1e6 for column in zip(*times)]
+class InLibrary:
+    """Counts the processor time of the calls of the library, in all threads."""
+
+    def __init__(self):
+        self.used, self.each = [], batches.each
+        batches.each = self.timed
+
+    def timed(self, *words):
+        """The call, and how long it took."""
+        begun = time.thread_time()
+        try:
+            return self.each(*words)
+        finally:
+            self.used.append(time.thread_time() - begun)
+
+    def taken(self):
+        """The time since this was asked last."""
+        total, self.used = sum(self.used), []
+        return total
+
+
+def measured(calls, rounds):
+    """The least time and the least processor time of each call, and the least time in the library, in seconds."""
+    library, rows = InLibrary(), [[] for _ in calls]
+    for _ in range(rounds):
+        for row, call in zip(rows, calls):
+            wall, used = time.perf_counter(), time.process_time()
+            call()
+            row.append((time.perf_counter() - wall, time.process_time() - used, library.taken()))
+    return [[min(column) for column in zip(*row)] for row in rows]
 
 
 def main():
@@ -58,17 +80,18 @@ def main():
     parser.add_argument("--count", type=int, default=10_000)
     parser.add_argument("--vertices", type=int, default=10)
     parser.add_argument("--workers", type=int, default=4)
+    parser.add_argument("--rounds", type=int, default=5)
     given = parser.parse_args()
     drawn = polygons(given.count, given.vertices)
-    rows = [
-        ("Shapely", measured(lambda: by_shapely(drawn, given.workers))),
-        ("buffer_all", measured(lambda: buffer_all(drawn, DISTANCE, workers=given.workers))),
-    ]
-    print(f"{given.count} polygons of {given.vertices} vertices, {given.workers} threads, microseconds each")
-    for name, (wall, used) in rows:
-        print(f"{name:12} {wall / given.count:8.1f} of time {used / given.count:8.1f} of processor time")
-    (wall, used), (own_wall, own_used) = rows[0][1], rows[1][1]
-    print(f"{'ratio':12} {own_wall / wall:8.2f}         {own_used / used:8.2f}")
+    calls = [lambda: by_shapely(drawn, given.workers), lambda: buffer_all(drawn, DISTANCE, workers=given.workers)]
+    (wall, used, _), (own_wall, own_used, library) = measured(calls, given.rounds)
+    each = 1e6 / given.count
+    print(f"{given.count} polygons of {given.vertices} vertices, {given.workers} threads")
+    print("| microseconds for each | time | processor time |\n| --- | --- | --- |")
+    print(f"| Shapely | {each * wall:.1f} | {each * used:.1f} |")
+    print(f"| `buffer_all` | {each * own_wall:.1f} | {each * own_used:.1f} |")
+    print(f"| in the library | | {each * library:.1f} |")
+    print(f"| `buffer_all` by Shapely | {own_wall / wall:.2f} | {own_used / used:.2f} |")
 
 
 if __name__ == "__main__":

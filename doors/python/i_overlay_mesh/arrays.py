@@ -8,7 +8,7 @@ import mmap
 from array import array
 from ctypes import byref, c_int64, c_uint64
 from dataclasses import dataclass
-from typing import Any, Callable, Optional, Sequence
+from typing import Any, Callable, Optional, Sequence, Union
 
 from .library import Outcome, call_of
 from .styles import TURN, CountsStructure, OptionsStructure, Style
@@ -94,7 +94,7 @@ class Room:
         lengths = (2 * NUMBER * points, END * contours, END * shapes)
         self.starts = [0, *itertools.accumulate(-(-length // 64) * 64 for length in lengths)]
         size = max(1, self.starts[-1])
-        self.memory = bytearray(size) if size < LARGE else mmap.mmap(-1, size)
+        self.memory: Union[bytearray, mmap.mmap] = bytearray(size) if size < LARGE else mmap.mmap(-1, size)
         base = ctypes.addressof(ctypes.c_char.from_buffer(self.memory))
         self.words = tuple(word for start, size in zip(self.starts, self.sizes) for word in (base + start, size))
         self.counts = CountsStructure()

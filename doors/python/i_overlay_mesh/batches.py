@@ -2,6 +2,7 @@
 
 from __future__ import annotations
 
+import threading
 from ctypes import addressof, byref, c_size_t, c_uint8
 from dataclasses import dataclass
 from fractions import Fraction
@@ -10,7 +11,7 @@ from typing import Optional, Sequence
 import numpy
 import shapely
 
-from .arrays import NOTHING, Room
+from .arrays import NOTHING
 from .engine import Task
 from .errors import DrawingError
 from .geometries import polygons_of, together
@@ -18,7 +19,7 @@ from .grid import HARDLY_MORE_THAN_HALF, MOST, Grid, power_of_two
 from .library import Outcome, call_of
 from .offsets import Buffering, outline_task, stroke_task, variable_task
 from .packed import PackedPaths
-from .styles import OPERATIONS, CountsStructure, Style
+from .styles import OPERATIONS, Style
 from .vectors import Array, list_numbers, rounded, starts_of, turn
 
 POINTS, LINES, POLYGONS = (0, 4), (1, 5), (3, 6)
@@ -26,6 +27,9 @@ POINTS, LINES, POLYGONS = (0, 4), (1, 5), (3, 6)
 
 FIRST_ROOM = (2**17, 2**13, 2**13)
 """Points, contours and shapes of the room that is used for one call after the other."""
+
+GRID = numpy.dtype([("x", numpy.int64), ("y", numpy.int64), ("unit", numpy.float64)])
+"""A grid as the call for many drawings takes it."""
 
 NO_POINTS = (addressof(NOTHING), 0)
 """The points of a cap that has none."""
@@ -85,7 +89,7 @@ class Grids:
 
 @dataclass
 class Answers:
-    """The answers to geometries of a group.
+    """The answers to geometries of a group, which are made of them before the thread draws others.
 
     rows: which of the group they are.
     counts: how many points, contours and shapes each has; and the lists of all.
@@ -93,7 +97,7 @@ class Answers:
 
     rows: Array
     counts: Array
-    points: Array
+    coordinates: Array
     contour_ends: Array
     shape_ends: Array
 
@@ -170,16 +174,17 @@ def groups_of(geometries: Array, ways: Ways, of_way: Array) -> list[Group]:
     """The geometries that are drawn at once: small ones, of one kind each, not empty, and with no empty part."""
     kinds, are_hollow = shapely.get_type_id(geometries), shapely.is_empty(geometries)
     (many,) = numpy.nonzero(kinds > POLYGONS[0])
-    parts, of_part = shapely.get_parts(geometries[many], return_index=True)
-    are_hollow[many[of_part[shapely.is_empty(parts)]]] = True
+    if len(many):
+        parts, of_part = shapely.get_parts(geometries[many], return_index=True)
+        are_hollow[many[of_part[shapely.is_empty(parts)]]] = True
     kinds[are_hollow | (shapely.get_num_coordinates(geometries) > MOST_POINTS)] = -1
     groups = []
-    for types, make, are_drawn in (
+    for (one, several), make, are_drawn in (
         (POLYGONS, polygon_groups, [how.side == "both" for how in ways]),
         (POINTS, point_groups, [how.distance > 0 for how in ways]),
         (LINES, line_groups, [how.line_width > 0 for how in ways]),
     ):
-        (numbers,) = numpy.nonzero(numpy.isin(kinds, types) & numpy.array(are_drawn)[of_way])
+        (numbers,) = numpy.nonzero(((kinds == one) | (kinds == several)) & numpy.array(are_drawn)[of_way])
         if len(numbers):
             groups += make(geometries, numbers, ways, of_way[numbers])
     return groups
@@ -287,6 +292,35 @@ def places_of(group: Group, grids: Grids, styles: Styles) -> Array:
 # Drawing
 
 
+class Rooms:
+    """Room for the answers of one call. Memory that no call writes is never taken from the system."""
+
+    def __init__(self, points: int, contours: int, shapes: int) -> None:
+        self.sizes = points, contours, shapes
+        self.places = numpy.empty((points, 2), numpy.int32)
+        self.coordinates = numpy.empty((points + contours, 2))
+        self.ends = numpy.empty(contours, numpy.int64), numpy.empty(shapes, numpy.int64)
+        starts: tuple[Array, ...] = (self.places, *self.ends)
+        self.words = tuple(word for start, size in zip(starts, self.sizes) for word in (start.ctypes.data, size))
+
+    def told(self, counts: Array) -> tuple[Array, ...]:
+        """The coordinates and the ends of so many points, contours and shapes, until the next call."""
+        points, contours, shapes = counts.tolist()
+        return self.coordinates[:points], self.ends[0][:contours], self.ends[1][:shapes]
+
+
+OWN = threading.local()
+"""Of each thread the room that it used last: new memory would cost as much time as making geometries of what is in it."""
+
+
+def own_room() -> Rooms:
+    """The room of this thread."""
+    if not hasattr(OWN, "room"):
+        OWN.room = Rooms(*FIRST_ROOM)
+    room: Rooms = OWN.room
+    return room
+
+
 def drawn(group: Group, grids: Grids, styles: Styles, places: Array, stop: c_uint8) -> Answers:
     """Draws the geometries that have a grid: by one call those of one style, as far as the room does."""
     vertex, path = starts_of(group.vertices), starts_of(group.paths)
@@ -296,38 +330,45 @@ def drawn(group: Group, grids: Grids, styles: Styles, places: Array, stop: c_uin
     order = order[grids.are_found[order]]
     keys = keys[order]
     parts = numpy.column_stack([vertex, group.vertices - vertex, path, group.paths - path])[order].astype(numpy.uint64)
+    own_grids = numpy.empty(len(order), GRID)
+    own_grids["x"], own_grids["y"] = grids.origins[order].T
+    own_grids["unit"] = numpy.ldexp(1.0, -grids.exponents[order])
     counts, outcomes = numpy.zeros((len(order), 3), numpy.int64), numpy.zeros(len(order), numpy.uint8)
-    room, start, told = Room(*FIRST_ROOM), 0, []
+    room, start, told = own_room(), 0, []
     while start < len(order) and not stop.value:
         style, _, _ = styles.at(int(keys[start]))
         assert style is not None
         own = slice(start, int(numpy.searchsorted(keys, keys[start], "right")))
-        start += each(style, places, ends, parts[own], room, counts[own], outcomes[own], stop)
-        room.counts = CountsStructure(*counts[own.start : start].sum(axis=0).tolist())
-        told.append(room.told())
+        given = places, ends, parts[own], own_grids[own]
+        start += each(style, given, room, counts[own], outcomes[own], stop)
+        told.append(room.told(counts[own.start : start].sum(axis=0)))
+        if start < len(order):
+            told[-1] = tuple(items.copy() for items in told[-1])
         if start < own.stop:
-            room = Room(*numpy.maximum(counts[start], room.sizes).tolist())
+            room = OWN.room = Rooms(*numpy.maximum(counts[start], room.sizes).tolist())
     kept = outcomes[:start] == Outcome.ANSWERED
-    points = numpy.frombuffer(b"".join(lists.points for lists in told), numpy.int32).reshape(-1, 2)
-    contour_ends = numpy.frombuffer(b"".join(lists.contour_ends for lists in told), numpy.int64)
-    shape_ends = numpy.frombuffer(b"".join(lists.shape_ends for lists in told), numpy.int64)
-    return Answers(order[:start][kept], counts[:start][kept], points, contour_ends, shape_ends)
+    lists = told[0] if len(told) == 1 else map(numpy.concatenate, zip(room.told(numpy.zeros(3, int)), *told))
+    return Answers(order[:start][kept], counts[:start][kept], *lists)
 
 
 def each(
-    style: Style, places: Array, ends: Array, parts: Array, room: Room, counts: Array, outcomes: Array, stop: c_uint8
+    style: Style, given: tuple[Array, ...], room: Rooms, counts: Array, outcomes: Array, stop: c_uint8
 ) -> int:
-    """Draws one part of the places and ends after the other, into what is given, and answers how many are done."""
+    """Draws one part of what is given after the other, into the room, and answers how many are done.
+
+    given: the places and ends of all drawings, the parts, and a grid for each part.
+    """
+    places, ends, parts, grids = given
     caps = () if style.caps else (*NO_POINTS, *NO_POINTS)
-    lists = places.ctypes.data, ends.ctypes.data, parts.ctypes.data, len(parts)
     done = c_size_t()
     call_of("mesh_each")(
         OPERATIONS[style.operation],
-        *lists,
+        *(places.ctypes.data, ends.ctypes.data, parts.ctypes.data, len(parts), grids.ctypes.data),
         *style.words(),
         *caps,
         *room.words,
         counts.ctypes.data,
+        room.coordinates.ctypes.data,
         outcomes.ctypes.data,
         byref(stop),
         byref(done),
@@ -338,15 +379,12 @@ def each(
 # Answers
 
 
-def made(answers: Answers, grids: Grids) -> Array:
+def made(answers: Answers) -> Array:
     """Geometries of Shapely: a Polygon where there is one, else a MultiPolygon."""
     points, contours, shapes = answers.counts.T
-    units = numpy.ldexp(1.0, -grids.exponents[answers.rows])
-    moved = answers.points + numpy.repeat(grids.origins[answers.rows], points, axis=0)
-    coordinates = moved * numpy.repeat(units, points)[:, None]
     contour_ends = answers.contour_ends + numpy.repeat(numpy.cumsum(points) - points, contours)
     shape_ends = answers.shape_ends + numpy.repeat(numpy.cumsum(contours) - contours, shapes)
-    return together(polygons_of(coordinates, contour_ends, shape_ends), shapes)
+    return together(polygons_of(answers.coordinates, contour_ends, shape_ends), shapes)
 
 
 def buffered(geometries: Array, ways: Ways, of_way: Array, stop: c_uint8) -> tuple[Array, Array]:
@@ -361,6 +399,6 @@ def buffered(geometries: Array, ways: Ways, of_way: Array, stop: c_uint8) -> tup
         grids = find_grids(group, styles)
         answers = drawn(group, grids, styles, places_of(group, grids, styles), stop)
         numbers = group.numbers[answers.rows]
-        result[numbers] = made(answers, grids)
+        result[numbers] = made(answers)
         are_done[numbers] = True
     return result, are_done

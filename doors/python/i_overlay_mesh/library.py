@@ -73,8 +73,8 @@ def parameters_of(name: str) -> list[Any]:
         return [*LIST, *limit, *LIST, STRUCTURE]
     rooms = [*LIST, *LIST, *LIST, STRUCTURE]
     if name == "mesh_each":
-        parts = [STRUCTURE, STRUCTURE, *LIST]
-        return [ctypes.c_uint32, *parts, STRUCTURE, *LIST, *LIST, *rooms, STRUCTURE, STRUCTURE, STRUCTURE]
+        parts = [STRUCTURE, STRUCTURE, *LIST, STRUCTURE]
+        return [ctypes.c_uint32, *parts, STRUCTURE, *LIST, *LIST, *rooms, *[STRUCTURE] * 4]
     if name == "mesh_without_slivers":
         return [*LIST, *LIST, *LIST, ctypes.c_uint32, *rooms]
     drawing = [*LIST, *LIST, STRUCTURE]

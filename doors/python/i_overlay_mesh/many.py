@@ -180,29 +180,29 @@ def at_once(
     items: Sequence[Any], ways: Sequence[Buffering], chunk: range, result: list[Any], pool: Pool
 ) -> Sequence[int]:
     """Buffers what of a chunk arrays can; answers the numbers of the others."""
-    shapely = sys.modules.get("shapely")
+    shapely: Any = sys.modules.get("shapely")
     if not hasattr(shapely, "linearrings"):
         return chunk
     import numpy
 
     from . import batches
 
-    known = {id(ways[number]): ways[number] for number in chunk}
-    plain = [how for how in known.values() if is_plain_way(how)]
+    own_items, own_ways = items[chunk.start : chunk.stop], ways[chunk.start : chunk.stop]
+    plain = [how for how in {id(how): how for how in own_ways}.values() if is_plain_way(how)]
     places = {id(how): place for place, how in enumerate(plain)}
-    numbers = [number for number in chunk if id(ways[number]) in places and is_geometry(items[number])]
-    if not numbers:
+    of_way = numpy.array([places.get(id(how), -1) for how in own_ways])
+    given = numpy.full(len(chunk), None, object)
+    # Some items are sequences, which an array would take apart.
+    for place, item in enumerate(own_items):
+        given[place] = item
+    (chosen,) = numpy.nonzero((of_way >= 0) & shapely.is_geometry(given))
+    if not len(chosen):
         return chunk
-    given = numpy.full(len(numbers), None, object)
-    given[:] = [items[number] for number in numbers]
-    of_way = numpy.array([places[id(ways[number])] for number in numbers])
-    answers, are_done = batches.buffered(given, plain, of_way, pool.stop)
-    done = set()
-    for number, answer, is_done in zip(numbers, answers.tolist(), are_done.tolist()):
-        if is_done:
-            result[number] = answer
-            done.add(number)
-    return [number for number in chunk if number not in done]
+    answers, are_done = batches.buffered(given[chosen], plain, of_way[chosen], pool.stop)
+    done = [chunk[place] for place, is_done in zip(chosen, are_done) if is_done]
+    for number, answer in zip(done, answers[are_done]):
+        result[number] = answer
+    return sorted(set(chunk).difference(done))
 
 
 def is_plain_way(how: Buffering) -> bool:

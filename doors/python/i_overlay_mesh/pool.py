@@ -20,7 +20,22 @@ PATIENCE = 0.2
 MOST_ITEMS = 1024
 """Of a chunk."""
 
+FEW_ITEMS = 256
+"""What is done once for a chunk takes little beside what is done for so many items."""
+
 CHUNKS_A_WORKER = 8
+"""At least, where there are enough items."""
+
+
+def chunks_of(count: int, workers: int) -> list[range]:
+    """All numbers below a count in chunks, large ones first, and small ones for those that are done early."""
+    least = max(1, min(FEW_ITEMS, count // (workers * CHUNKS_A_WORKER)))
+    chunks, start = [], 0
+    while start < count:
+        size = max(least, min(MOST_ITEMS, (count - start) // (2 * workers)))
+        chunks.append(range(start, min(count, start + size)))
+        start += size
+    return chunks
 
 
 def read_workers(workers: Any) -> int:
@@ -125,8 +140,7 @@ class Pool:
 
     def run(self, count: int, workers: int, tell: Optional[Tell]) -> None:
         """Works on all numbers below a count, and raises the first error, unless errors are collected."""
-        size = max(1, min(MOST_ITEMS, count // (workers * CHUNKS_A_WORKER)))
-        self.chunks = [range(start, min(count, start + size)) for start in range(0, count, size)][::-1]
+        self.chunks = chunks_of(count, workers)[::-1]
         threads = [threading.Thread(target=self.run_thread, daemon=True) for _ in range(min(workers, len(self.chunks)))]
         for thread in threads:
             thread.start()

@@ -10,6 +10,7 @@ import unittest
 from surroundings import PACKAGE, numpy, shapely
 
 from i_overlay_mesh import DrawingError, Shapes, TooManySplits, buffer, buffer_all
+from i_overlay_mesh.pool import MOST_ITEMS, chunks_of
 
 SQUARE = [[0, 0], [4, 0], [4, 3], [0, 3]]
 BROKEN = {"type": "LineString", "coordinates": [[0, 0], [1]]}
@@ -106,6 +107,14 @@ class TestMany(unittest.TestCase):
         self.assertEqual(told[-1], (50, 50))
         self.assertEqual([done for done, _ in told], sorted({done for done, _ in told}))
 
+    def test_chunks(self):
+        """Each number stands in one chunk, and each thread has some of them."""
+        for count, workers in [(0, 3), (1, 1), (5, 4), (100, 4), (10_000, 4), (30_001, 1)]:
+            chunks = chunks_of(count, workers)
+            self.assertEqual([number for chunk in chunks for number in chunk], list(range(count)))
+            self.assertGreaterEqual(len(chunks), min(count, 4 * workers))
+            self.assertLessEqual(max(map(len, chunks), default=0), MOST_ITEMS)
+
     def test_words(self):
         for words, expected in [
             ({"workers": 0}, "workers is 0, and has to be a whole number from 1"),
@@ -193,6 +202,12 @@ class TestShapely(unittest.TestCase):
         given = [made(draw, number % 7) for number in range(70)]
         with mock.patch.object(batches, "FIRST_ROOM", (300, 2, 1)):
             self.check(given, 2)
+
+    def test_points_that_are_one_as_floats(self):
+        """Far from the origin, where the grid is finer than floats are, a ring may end where it starts before it is closed."""
+        for place in range(40):
+            point = shapely.geometry.Point(2**23 + place / 7, 2**23 - place / 3)
+            self.check([point], 2.0**-24)
 
     def test_arrays_keep_their_form(self):
         given = numpy.full((2, 3), None, object)
