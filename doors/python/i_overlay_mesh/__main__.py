@@ -53,7 +53,8 @@ def add_buffer(commands: Any) -> None:
         help="buffer each geometry by a distance",
         description="Buffers each geometry of a file by a distance, in the units of its coordinates. Polygons are moved"
         " outwards or, below 0, inwards; lines become strokes, points circles. GeoJSON (one object, or features one a"
-        " line), WKT and WKB are answered in the same format, with all but the geometries and 'bbox' kept. Whatever else"
+        " line), WKT and WKB are answered in the same format, with all but the geometries and 'bbox' kept; WKT and WKB also"
+        " in another one, by the name of the output. Whatever else"
         " geopandas or fiona reads, as shapefiles and GeoPackage, is answered as a layer with the same columns and CRS.",
         epilog="Features and their parts are counted from 0. Exit status: 0, all was buffered; 1, a feature could"
         " not be, or the file is none of its kind; 2, the options are wrong. Degrees are no lengths: bring a map to"
@@ -146,6 +147,8 @@ def run_buffer(options: argparse.Namespace) -> None:
     kinds = {format_of(options.file, options.format), format_of(options.output or STREAM, None)}
     try:
         if "layer" in kinds:
+            for kind in kinds & {"wkt", "wkb"}:
+                raise DrawingError("", f"{kind} has geometries alone, and a layer has columns and a CRS: name GeoJSON")
             buffered_layer(options.file, options.output, draw_layer, options.layer, options.project)
         elif options.project is not None:
             raise DrawingError("", "--project is given, and GeoJSON, WKT and WKB have no CRS to project from")
@@ -164,7 +167,7 @@ def write(options: argparse.Namespace, work: Work) -> None:
     beside = f"{options.output}.{os.getpid()}"
     try:
         with open(beside, "wb") as out:
-            buffered(options.file, options.format, work, out)
+            buffered(options.file, options.format, work, out, format_of(options.output, None))
         os.replace(beside, options.output)
     finally:
         if os.path.exists(beside):

@@ -51,44 +51,51 @@ def opened(file: str) -> io.BufferedReader:
     return open(sys.stdin.fileno() if file == STREAM else file, "rb", closefd=file != STREAM)
 
 
-def buffered(file: str, said: Optional[str], work: Work, out: BinaryIO) -> None:
-    """Writes a file of GeoJSON, WKT or WKB with its geometries buffered, in the same format."""
+def buffered(file: str, said: Optional[str], work: Work, out: BinaryIO, named: Optional[str] = None) -> None:
+    """Writes a file of GeoJSON, WKT or WKB with its geometries buffered, in the same format.
+
+    named: another format, by the name of what is written. GeoJSON has more than geometries, and stays what it is.
+    """
     with opened(file) as source:
         kind = format_of(file, said) or guessed(source.peek(64))
-        if kind == "wkb":
-            for part in buffered_binary(source.read(), work):
-                out.write(part)
+        if kind == "geojson":
+            if named not in (None, kind):
+                raise DrawingError("", f"FILE is GeoJSON, and {named} by which --output is named has no properties")
+            lines = buffered_file(io.TextIOWrapper(source, encoding="utf-8-sig"), work)
+            parts = (line.encode() + b"\n" for line in lines)
         else:
-            lines = io.TextIOWrapper(source, encoding="utf-8-sig")
-            for line in buffered_file(lines, work) if kind == "geojson" else buffered_texts(lines, work):
-                out.write(line.encode() + b"\n")
-                out.flush()
+            parts = buffered_geometries(source.read(), kind, work, named)
+        for part in parts:
+            out.write(part)
+            out.flush()
     out.flush()
 
 
-def buffered_texts(lines: Any, work: Work) -> Iterator[str]:
-    """WKT, a geometry a line."""
-    texts = [line.strip() for line in lines if line.strip()]
-    names = [f"geometry {number}" for number in range(len(texts))]
-    geometries = [read_by(wkt.read, name, text) for name, text in zip(names, texts)]
-    yield from map(wkt.written, work.drawn(geometries, names))
-
-
-def buffered_binary(data: bytes, work: Work) -> Iterator[bytes]:
-    """WKB, one geometry behind the other; or in hexadecimal digits, a geometry a line."""
-    is_text = data[:1] not in (b"\0", b"\1", b"")
-    if is_text:
-        lines = [line for line in data.decode("ascii", "replace").split() if line]
-        names = [f"geometry {number}" for number in range(len(lines))]
-        geometries = [
-            read_by(lambda text: wkb.read(bytes.fromhex(text)), name, line) for name, line in zip(names, lines)
-        ]
-    else:
-        geometries = read_by(lambda given: list(wkb.read_all(given)), "", data)
+def buffered_geometries(data: bytes, kind: str, work: Work, named: Optional[str]) -> Iterator[bytes]:
+    """WKB, one geometry behind the other; or in hexadecimal digits, or WKT, a geometry a line."""
+    if kind == "wkb" and data[:1] in (b"\0", b"\1", b""):
+        geometries, form = read_by(lambda given: list(wkb.read_all(given)), "", data), "wkb"
         names = [f"geometry {number}" for number in range(len(geometries))]
-    for answer in work.drawn(geometries, names):
-        part = wkb.written(answer)
-        yield part.hex().upper().encode() + b"\n" if is_text else part
+    else:
+        read, form = (wkt.read, "wkt") if kind == "wkt" else (wkb.read_hex, "hex")
+        lines = [line.strip() for line in data.decode("utf-8-sig").splitlines() if line.strip()]
+        names = [f"geometry {number}" for number in range(len(lines))]
+        geometries = [read_by(read, name, line) for name, line in zip(names, lines)]
+    write = WRITERS[form if named in (None, kind) else named]
+    return map(write, work.drawn(geometries, names))
+
+
+def feature(geometry: Any) -> bytes:
+    """A geometry as a feature of GeoJSON, on one line."""
+    return written("", {"type": "Feature", "properties": {}, "geometry": geometry}).encode() + b"\n"
+
+
+WRITERS: dict[str, Callable[[Any], bytes]] = {
+    "wkt": lambda geometry: wkt.written(geometry).encode() + b"\n",
+    "wkb": wkb.written,
+    "hex": lambda geometry: wkb.written(geometry).hex().upper().encode() + b"\n",
+    "geojson": feature,
+}
 
 
 def read_by(read: Callable[[Any], Any], name: str, given: Any) -> Any:
@@ -115,9 +122,18 @@ def written_whole(out: str, write: Callable[[pathlib.Path], Any]) -> None:
     """Writes a layer. What was there is replaced only once all new files stand, of which a shapefile has several."""
     target = pathlib.Path(out)
     with told(), tempfile.TemporaryDirectory(dir=target.parent) as name:
-        write(pathlib.Path(name) / target.name)
+        made = pathlib.Path(name) / target.name
+        write(made)
+        # What GeoPandas makes of a name that it does not know is a folder with a shapefile.
+        if target.suffix and made.is_dir() and any(made.glob("*.shp")):
+            raise FeatureError(f"{out} names no format that can be written")
         for file in pathlib.Path(name).iterdir():
             os.replace(file, target.with_name(file.name))
+
+
+def layers_of(file: str) -> Any:
+    """A file for another package to read, or the bytes of standard input."""
+    return io.BytesIO(sys.stdin.buffer.read()) if file == STREAM else file
 
 
 def buffered_layer(
@@ -131,7 +147,7 @@ def buffered_layer(
         return
     words = {} if layer is None else {"layer": layer}
     with told():
-        given = geopandas.read_file(file, **words)
+        given = geopandas.read_file(layers_of(file), **words)
     table = draw(given, project)
     if out is None or out == STREAM:
         sys.stdout.buffer.write(table.to_json(drop_id=True).encode() + b"\n")
@@ -153,7 +169,7 @@ def buffered_by_fiona(
         ) from None
     if project is not None:
         raise FeatureError("--project needs geopandas, which is not installed")
-    with told(), fiona.open(file, layer=layer) as source:
+    with told(), fiona.open(layers_of(file), layer=layer) as source:
         crs, properties = source.crs, source.schema["properties"]
         is_geographic = crs and crs.is_geographic
         features = [feature.__geo_interface__ for feature in source]

@@ -54,6 +54,15 @@ def read(data: bytes) -> dict[str, Any]:
     return geometry_of(Bytes(data))
 
 
+def read_hex(text: str) -> dict[str, Any]:
+    """The GeoJSON mapping of one geometry in hexadecimal digits."""
+    try:
+        data = bytes.fromhex(text)
+    except ValueError:
+        raise DrawingError("", f"it is no WKB: {text[:20]!r} are no hexadecimal digits") from None
+    return read(data)
+
+
 def head_of(given: Bytes) -> tuple[str, int, int]:
     """The order of bytes, the kind, and how many coordinates a point has."""
     first = given.take(1)[0]

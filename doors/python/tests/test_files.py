@@ -146,9 +146,25 @@ class TestCommand(unittest.TestCase):
         self.assertEqual((result.returncode, out.read_text()), (1, "as it was"))
         self.assertEqual(list(self.folder.iterdir()), [out])
 
+    def test_an_output_by_its_name(self):
+        """Geometries alone are written in any format, and what has properties in its own."""
+        text = b"POLYGON ((0 0, 20 0, 20 20, 0 20, 0 0))\nLINESTRING (0 0, 30 0, 30 10)\n"
+        out = {kind: self.folder / f"out.{kind}" for kind in ("wkt", "wkb", "geojson")}
+        for file in out.values():
+            self.answer(text, "-o", str(file))
+        self.assertEqual([wkt.read(line) for line in out["wkt"].read_text().splitlines()], self.expected)
+        self.assertEqual(list(wkb.read_all(out["wkb"].read_bytes())), self.expected)
+        features = [json.loads(line) for line in out["geojson"].read_text().splitlines()]
+        self.assertEqual([item["geometry"] for item in features], json.loads(json.dumps(self.expected)))
+        result = run("buffer", "--distance", "5", "-o", str(out["wkt"]), data=json.dumps(POLYGON).encode())
+        self.assertEqual(result.returncode, 2)
+        self.assertIn(b"FILE is GeoJSON, and wkt", result.stderr)
+        self.assertEqual(len(out["wkt"].read_text().splitlines()), 2)
+
     def test_errors(self):
         for data, words, expected in [
             (b"POINT (1 2)\nPOINT (1 x)", (), b"geometry 1: 'X' is no number"),
+            (b"POINT (1 2)", ("--format", "wkb"), b"geometry 0: it is no WKB: 'POINT (1 2)' are no hexadecimal digits"),
             (b"\1\3", (), b"it is no WKB"),
             (b"POINT (1 2)", ("--project", "utm"), b"have no CRS to project from"),
             (b"", ("--workers", "0"), b"workers is 0"),
@@ -180,6 +196,15 @@ class TestCommand(unittest.TestCase):
         result = run("buffer", "--distance", "5", str(self.folder / "degrees.gpkg"), "-o", str(self.folder / "no.gpkg"))
         self.assertIn(b"whose unit is the degree", result.stderr)
         self.assertFalse((self.folder / "no.gpkg").exists())
+        for name, status in ("no.wkt", 2), ("no.unknown", 1):
+            result = run("buffer", "--distance", "5", str(source), "-o", str(self.folder / name))
+            self.assertEqual((result.returncode, (self.folder / name).exists()), (status, False), result.stderr)
+        out = self.folder / "stream.gpkg"
+        # Other packages take the coordinates of GeoJSON for degrees.
+        words = "--project", "EPSG:3857", "-o", str(out)
+        result = run("buffer", "--distance", "5", *words, data=json.dumps(POLYGON).encode())
+        self.assertEqual(result.returncode, 0, result.stderr)
+        self.assertEqual(len(geopandas.read_file(out)), 1)
 
     @unittest.skipIf(fiona is None, "fiona is not there")
     def test_layers_by_fiona_alone(self):
