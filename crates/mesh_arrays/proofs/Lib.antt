@@ -1,4 +1,5 @@
 pub mod Adding
+pub mod Clearances
 pub mod EndToEnd
 pub mod GivenShapes
 pub mod Readings

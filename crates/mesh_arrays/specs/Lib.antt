@@ -1,4 +1,5 @@
 pub mod Answers
+pub mod Clearances
 pub mod Drawings
 pub mod EdgeRooms
 pub mod EndToEnd

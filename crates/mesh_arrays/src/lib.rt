@@ -3,6 +3,7 @@
 //! is drawn of it told (`drawn`), or how far it reaches (`range`).
 #![tactic(auto)]
 
+pub mod clearance;
 pub mod drawing;
 pub mod drawn;
 pub mod edges;

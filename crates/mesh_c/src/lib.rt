@@ -2,6 +2,7 @@
 //! and gets.
 #![tactic(auto)]
 
+ghost use Rattle.mesh_arrays.specs.Clearances.{TellsClearance};
 ghost use Rattle.mesh_arrays.specs.Drawings.{IsOutlineOf, IsStrokeOf, IsVariableStrokeOf};
 ghost use Rattle.mesh_arrays.specs.EdgeRooms.{TellsEdges, edge_room};
 ghost use Rattle.mesh_arrays.specs.Numbers.{unit_16, unit_32, whole_point, whole_vertex};
@@ -12,6 +13,7 @@ ghost use Rattle.mesh_arrays.specs.Telling.{Returns};
 ghost use Rattle.mesh_text.specs.Replies.{TellsReply, TellsReplyWithin};
 ghost use Rattle.mesh_text.specs.Whys.{TellsWhy};
 
+use mesh_arrays::clearance::tell_clearance;
 use mesh_arrays::drawing::{outline, stroke, variable_stroke};
 use mesh_arrays::drawn::{tell_edges, tell_near, tell_shapes};
 use mesh_arrays::edges::EdgeCounts;
@@ -372,6 +374,34 @@ pub extern "C" fn mesh_validate_variable_stroke_i32(
     tell_range(&drawing, padding).code()
 }
 
+/// How near shapes come to paths: the square of the least distance, rounded down.
+#[unsafe(no_mangle)]
+pub extern "C" fn mesh_clearance_i32(
+    alloc: Global,
+    points: &[[i32; 2]],
+    contour_ends: &[usize],
+    shape_ends: &[usize],
+    path_points: &[[i32; 2]],
+    path_ends: &[usize],
+    closed: u32,
+    clearance: &mut u64,
+) -> u8
+    ensures { TellsClearance (shape_lists points.now contour_ends.now shape_ends.now)
+        path_points.now path_ends.now closed clearance.old clearance.new result }
+{
+    tell_clearance(
+        alloc,
+        points,
+        contour_ends,
+        shape_ends,
+        path_points,
+        path_ends,
+        closed,
+        clearance,
+    )
+    .code()
+}
+
 /// Shapes without their slivers, in the caller's lists, and how many items each has.
 #[unsafe(no_mangle)]
 pub extern "C" fn mesh_without_slivers_i32(
@@ -714,6 +744,34 @@ pub extern "C" fn mesh_validate_variable_stroke_i16(
 {
     let drawing = variable_stroke(alloc, vertices, ends, arc);
     tell_range(&drawing, padding).code()
+}
+
+/// How near shapes come to paths: the square of the least distance, rounded down.
+#[unsafe(no_mangle)]
+pub extern "C" fn mesh_clearance_i16(
+    alloc: Global,
+    points: &[[i16; 2]],
+    contour_ends: &[usize],
+    shape_ends: &[usize],
+    path_points: &[[i16; 2]],
+    path_ends: &[usize],
+    closed: u32,
+    clearance: &mut u64,
+) -> u8
+    ensures { TellsClearance (shape_lists points.now contour_ends.now shape_ends.now)
+        path_points.now path_ends.now closed clearance.old clearance.new result }
+{
+    tell_clearance(
+        alloc,
+        points,
+        contour_ends,
+        shape_ends,
+        path_points,
+        path_ends,
+        closed,
+        clearance,
+    )
+    .code()
 }
 
 /// Shapes without their slivers, in the caller's lists, and how many items each has.
