@@ -350,6 +350,30 @@ mesh_outcome mesh_without_slivers_i16(
     mesh_point_i16 *left_points, size_t left_point_room, size_t *left_contour_ends, size_t left_contour_room,
     size_t *left_shape_ends, size_t left_shape_room, mesh_shape_counts *counts);
 
+/* Checks a distance: tells how near the edges of polygons come to paths, such as the ones that they were drawn from. If
+   one vertex of each path is inside the polygons, every point nearer to a path than this distance is inside as well. If
+   the vertex is outside, every such point is outside.
+
+   points, ..        polygons, as for mesh_without_slivers_i32
+   path_points       the points of all paths, path by path
+   path_ends         for each path, the offset of its end in path_points
+   closed            whether each path goes on from its last point to its first: 0 or 1. A closed path of one point is
+                     that point; an open one is nothing
+   clearance         receives the square of the least distance between an edge and a path, in square grid units, rounded
+                     down: nothing is nearer than its root. It is unchanged at any outcome but MESH_ANSWERED
+
+   Coordinates may be any. If there are no polygons or no paths, and if the square does not fit, which takes coordinates
+   of 2^30 or more in size, `clearance` is UINT64_MAX. MESH_MALFORMED: invalid offsets, or `closed` is neither 0 nor 1. */
+mesh_outcome mesh_clearance_i32(
+    const mesh_point_i32 *points, size_t point_count, const size_t *contour_ends, size_t contour_count,
+    const size_t *shape_ends, size_t shape_count, const mesh_point_i32 *path_points, size_t path_point_count,
+    const size_t *path_ends, size_t path_count, uint32_t closed, uint64_t *clearance);
+
+mesh_outcome mesh_clearance_i16(
+    const mesh_point_i16 *points, size_t point_count, const size_t *contour_ends, size_t contour_count,
+    const size_t *shape_ends, size_t shape_count, const mesh_point_i16 *path_points, size_t path_point_count,
+    const size_t *path_ends, size_t path_count, uint32_t closed, uint64_t *clearance);
+
 #ifdef __cplusplus
 }
 #endif

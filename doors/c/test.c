@@ -354,6 +354,10 @@ struct lists {
     mesh_shape_counts counts;
 };
 
+struct place {
+    __int128 x, y;
+};
+
 struct writer {
     char *text;
     size_t size, room;
@@ -370,10 +374,12 @@ static void put(struct writer *to, const char *format, ...)
 #define OF(name) name##_i32
 #include "draw.h"
 #include "slivers.h"
+#include "clearance.h"
 #undef OF
 #define OF(name) name##_i16
 #include "draw.h"
 #include "slivers.h"
+#include "clearance.h"
 #undef OF
 
 static void take_lists(struct lists *to, mesh_shape_counts room)
@@ -499,6 +505,7 @@ static void check_limit(const struct test_case *it, uint64_t most)
 static size_t check_drawing_refused(drawer *draw, const struct test_case *it);
 
 #include "sliver_checks.h"
+#include "clearance_checks.h"
 
 static void check_drawing(const struct test_case *it)
 {
@@ -507,6 +514,7 @@ static void check_drawing(const struct test_case *it)
     check_limit(it, 1);
     check_limit(it, UINT64_MAX);
     check_slivers(it);
+    check_clearance(it);
 }
 
 static void take_edge_lists(struct edge_lists *to, mesh_edge_counts room)
@@ -760,7 +768,7 @@ static size_t check_all_refused(const struct test_case *it)
     if (it->drawing.for_edges)
         return growths + check_edges_refused(it);
     return growths + check_drawing_refused(draw, it) + check_drawing_refused(draw_with_nearness, it)
-        + check_slivers_refused(it);
+        + check_slivers_refused(it) + check_clearance_refused(it);
 }
 
 int main(int count, char **words)
@@ -786,7 +794,7 @@ int main(int count, char **words)
             }
         }
         check_in_threads(&cases);
-        if (!drawn || !given_up || !lines_given_up || !left_out)
+        if (!drawn || !given_up || !lines_given_up || !left_out || !measured)
             return 1;
         printf("C: %zu requests and %zu drawings in arrays are answered as by the program, in %d threads at once.\n",
                cases.count, drawn, THREADS);

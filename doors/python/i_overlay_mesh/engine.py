@@ -57,6 +57,14 @@ class Wishes:
 
 
 @dataclass(frozen=True)
+class Kept:
+    """Paths to which a distance is kept: their places on a grid, and whether all are closed."""
+
+    placed: Callable[[Grid], Lists]
+    closed: bool
+
+
+@dataclass(frozen=True)
 class Task:
     """One call of the library, but for the grid.
 
@@ -65,6 +73,7 @@ class Task:
     style: how it is drawn on a grid; none where a length does not fit.
     placed: the paths on a grid.
     widest: of vertices with widths the greatest width on a grid, by which alone the range is asked for; else none.
+    kept: to what a distance is kept where one is; none where it cannot be.
     """
 
     paths: Paths
@@ -72,6 +81,7 @@ class Task:
     style: Callable[[Grid], Optional[Style]]
     placed: Callable[[Grid], Lists]
     widest: Optional[Callable[[Grid], int]] = None
+    kept: Optional[Kept] = None
 
     def shapes(self, grid: Grid, limit: Optional[Limit]) -> Told:
         """The shapes on the grid."""

@@ -75,6 +75,8 @@ def parameters_of(name: str) -> list[Any]:
     if name == "mesh_each":
         parts = [STRUCTURE, STRUCTURE, *LIST, STRUCTURE]
         return [ctypes.c_uint32, *parts, STRUCTURE, *LIST, *LIST, *rooms, *[STRUCTURE] * 4]
+    if name == "mesh_clearance":
+        return [*LIST, *LIST, *LIST, *LIST, *LIST, ctypes.c_uint32, STRUCTURE]
     if name == "mesh_without_slivers":
         return [*LIST, *LIST, *LIST, ctypes.c_uint32, *rooms]
     drawing = [*LIST, *LIST, STRUCTURE]

@@ -207,6 +207,8 @@ def at_once(
 
 def is_plain_way(how: Buffering) -> bool:
     """Whether each geometry takes a grid of its own, and nothing is asked beside shapes."""
+    if how.look.arcs.outside and how.distance > 0:
+        return False
     wishes = how.wishes
     asked = (wishes.scale, wishes.origin, wishes.most_splits, wishes.sliver_width)
     return all(wish is None for wish in asked) and Fraction(float(how.distance)) == how.distance

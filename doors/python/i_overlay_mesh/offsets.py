@@ -2,12 +2,14 @@
 
 from __future__ import annotations
 
-from dataclasses import dataclass
+from dataclasses import dataclass, replace
+from functools import lru_cache
 from fractions import Fraction
 from typing import Any, Optional, Sequence
 
 from .arrays import Lists
-from .engine import Task, Wishes, draw, read_wishes
+from .clearances import draw_kept
+from .engine import Kept, Task, Wishes, draw, read_wishes
 from .errors import DrawingError
 from .exact import Number, plain, read_number
 from .grid import Grid
@@ -34,6 +36,9 @@ from .styles import (
 )
 
 Caps = tuple[CapStyle, CapStyle]
+
+KEEPING_CAPS = ("round", "square")
+"""Those at which all points nearer than half the width to an end are drawn."""
 
 
 def outline(
@@ -66,8 +71,11 @@ def outline(
         join: how gaps at corners are filled: 'round' (the default), 'miter' or 'bevel'.
         step: the greatest angle between points of an arc, in degrees from 360/1024 to 45; by default 5.625.
         tolerance: instead of `step`, the greatest gap between an arc and its circle, in units of the input.
-        at_least: whether arcs lie outside their circles, so that no boundary comes nearer than `distance`; the distance
-            is enlarged a little, and by some grid units for rounding. For clearances; needs round joins.
+        at_least: whether arcs lie outside their circles, so that all points nearer than `distance` to a boundary are
+            drawn; the distance is enlarged a little, and by some grid units for rounding. A proved call checks the
+            answer, and an error is raised where this cannot be kept, as where rings cross themselves. It is checked for
+            the lesser distance if `hole_distance` is another, and not at all if one is below 0. For clearances; needs
+            round joins.
         miter_limit: how far the peak of a miter may be from its corner, as a multiple of the distance, from 1 to 22.9;
             by default 5. A farther one is clipped by an edge whose ends are that far.
         min_turn: the turn in degrees below which a miter is a bevel; by default 5.
@@ -109,8 +117,12 @@ def outline(
         join_style=join_style,
         mitre_limit=mitre_limit,
     )
-    tasks = [outline_task(drawing.polygons, (outer, inner), look.arcs, look.join, rings)]
-    return draw(tasks, read_wishes(scale, origin, most_splits, sliver_width))
+    wishes = read_wishes(scale, origin, most_splits, sliver_width)
+
+    def tasks(more: int) -> list[Task]:
+        return [outline_task(drawing.polygons, (outer, inner), look.enlarged(more).arcs, look.join, rings)]
+
+    return draw_kept(tasks, wishes, min(Fraction(outer), Fraction(inner)) if at_least else 0)
 
 
 def stroke(
@@ -151,7 +163,7 @@ def stroke(
         closed: whether lines go on from their last point to their first; by default only lines that are rings or end
             where they start.
         join, step, tolerance, at_least, miter_limit, min_turn, scale, origin, most_splits, sliver_width: as for
-            `outline`.
+            `outline`. Both sides are checked, and open lines if their caps are round or square.
         quad_segs, cap_style, join_style, mitre_limit: Shapely's names for `step` (as segments per quarter circle),
             `cap`, `join` and `miter_limit`.
 
@@ -174,8 +186,12 @@ def stroke(
     )
     drawn_side = choose("side", side, SIDES)
     caps = read_caps("start_cap", cap, cap_style, start_cap), read_caps("end_cap", cap, cap_style, end_cap)
-    tasks = stroke_tasks([drawing.lines, drawing.polygons], full, look, drawn_side, caps, closed)
-    return draw(tasks, read_wishes(scale, origin, most_splits, sliver_width))
+    wishes, paths = read_wishes(scale, origin, most_splits, sliver_width), [drawing.lines, drawing.polygons]
+
+    def tasks(more: int) -> list[Task]:
+        return stroke_tasks(paths, full, look.enlarged(more), drawn_side, caps, closed)
+
+    return draw_kept(tasks, wishes, Fraction(full) / 2 if at_least else 0)
 
 
 def variable_stroke(
@@ -198,7 +214,7 @@ def variable_stroke(
     Args:
         lines: as for `stroke`, but open, with vertices (x, y, width).
         widths: if vertices are (x, y), a list of widths for each line, or one list for one line.
-        step, tolerance, at_least, scale, origin, most_splits, sliver_width: as for `outline`.
+        step, tolerance, at_least, scale, origin, most_splits, sliver_width: as for `outline`, but nothing is checked.
 
     Returns, Raises: as `outline`.
     """
@@ -286,7 +302,11 @@ class Buffering:
 
     def shapes(self, geometry: Any) -> Shapes:
         """All that is within the distance of a geometry."""
-        return draw(self.tasks(read(geometry, as_polygons=True)), self.wishes)
+        drawing = read(geometry, as_polygons=True)
+        kept = self.distance if self.look.arcs.outside else 0
+        return draw_kept(
+            lambda more: replace(self, look=self.look.enlarged(more)).tasks(drawing), self.wishes, kept
+        )
 
     @property
     def line_width(self) -> Fraction:
@@ -307,7 +327,8 @@ class Buffering:
         if drawing.lines.first() is not None and self.line_width > 0:
             tasks += stroke_tasks([drawing.lines], self.line_width, self.look, self.side, self.caps, None)
         if drawing.points.first() is not None and radius > 0:
-            tasks.append(variable_task(drawing.points.with_width(2 * Fraction(radius)), self.look.arcs))
+            task = variable_task(drawing.points.with_width(2 * Fraction(radius)), self.look.arcs)
+            tasks.append(replace(task, kept=Kept(drawing.points.lists, True)))
         return tasks
 
 
@@ -348,8 +369,12 @@ def outline_task(
         tell_coarse("hole_distance", distances[1], inner, 1, grid)
         return outline_style(outer, inner, join)
 
+    @lru_cache(maxsize=1)
+    def placed(grid: Grid) -> Lists:
+        return rings.contours(grid, rule)
+
     reach = max(abs(Fraction(distance)) for distance in distances)
-    return Task(rings, reach, style, lambda grid: rings.contours(grid, rule))
+    return Task(rings, reach, style, placed, kept=Kept(placed, True))
 
 
 def stroke_tasks(
@@ -376,7 +401,9 @@ def stroke_task(paths: Paths, width: Number, look: Look, side: str, caps: Caps, 
         ends = (start.on(grid, look.arcs), end.on(grid, look.arcs))
         return stroke_style(whole_width, look.join, ends, side, closed)
 
-    return Task(paths, max(Fraction(width) / 2, Fraction(0)), style, paths.lists)
+    is_kept = side == "both" and (closed or all(cap.kind in KEEPING_CAPS for cap in caps))
+    kept = Kept(paths.lists, closed) if is_kept else None
+    return Task(paths, max(Fraction(width) / 2, Fraction(0)), style, paths.lists, kept=kept)
 
 
 def variable_task(paths: Paths, arcs: Arcs) -> Task:

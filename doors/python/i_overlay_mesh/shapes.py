@@ -80,6 +80,22 @@ class Shapes:
         nearest = float(exact)
         return nearest if Fraction(nearest) >= exact else math.nextafter(nearest, math.inf)
 
+    def clearance_to(self, paths: Any, closed: Optional[bool] = None) -> float:
+        """How near the edges come to lines, in the unit of the input and rounded down; infinite where there are none.
+
+        Where one vertex of each line is inside, so is every point that is nearer to one than this; and where one is
+        outside, so is every such point. Both are proved on the grid. What rounding lines onto it may take is taken off.
+
+        Args:
+            paths: a drawing of any kind: of polygons the rings count, and single points. Lists are lines; or rings and
+                polygons where `closed` is True.
+            closed: whether lines go on from their last point to their first; by default those do that are rings or end
+                where they start.
+        """
+        from .clearances import clearance_to
+
+        return clearance_to(self.grid, self._told, paths, closed)
+
     @property
     def scale(self) -> Number:
         """Grid units for each unit of the input."""

@@ -8,7 +8,7 @@ from __future__ import annotations
 import ctypes
 import math
 from ctypes import c_int32, c_size_t, c_uint32, c_uint64
-from dataclasses import dataclass
+from dataclasses import dataclass, replace
 from fractions import Fraction
 from typing import Any, Mapping, Optional, Sequence, Union
 
@@ -240,10 +240,12 @@ class Arcs:
 
     step: the greatest angle between neighbouring points, in bits.
     outside: whether radii are enlarged, so that arcs lie outside their circles.
+    more: by how many grid units they are enlarged besides.
     """
 
     step: int
     outside: bool
+    more: int = 0
 
     def options(self) -> tuple[int, int]:
         """The greatest step, and how near a step comes to it."""
@@ -256,7 +258,7 @@ class Arcs:
             return nearest_whole(Fraction(radius) * grid.scale)
         outer = size / Fraction(math.cos(math.pi * self.step / TURN))
         steps = TURN // self.step + 2
-        outer += outer * steps * LOSS_A_STEP + LOSS_ON_GRID
+        outer += outer * steps * LOSS_A_STEP + LOSS_ON_GRID + self.more
         return math.ceil(outer) if radius > 0 else -math.ceil(outer)
 
     def width(self, grid: Grid, width: Number) -> int:
@@ -364,6 +366,10 @@ class Look:
 
     arcs: Arcs
     join: JoinStyle
+
+    def enlarged(self, more: int) -> Look:
+        """The same with radii enlarged by some grid units."""
+        return replace(self, arcs=replace(self.arcs, more=more))
 
 
 def one_of(name: str, value: Any, other: str, told: Any) -> Any:

@@ -174,7 +174,7 @@ class TestShapely(unittest.TestCase):
             if item is not None and not item.is_empty:
                 self.assertTrue(answer.equals_exact(buffer(item, distance).shapely(), 0), (item.wkt, distance))
         self.check(given, 2.5, join="bevel", cap="square")
-        self.check(given, 0.5, at_least=True, step=20)
+        self.check([item for item in given if item is None or item.is_valid], 0.5, at_least=True, step=20)
         self.check(given, 1, quad_segs=8, join_style="mitre", mitre_limit=3)
         self.check(given, 3, most_splits=0)
         lines = [item for item in given if item is None or "Line" in item.geom_type or "Point" in item.geom_type]

@@ -206,4 +206,9 @@ calls! {
         left_points: *mut [I; 2], left_point_room: usize, left_contour_ends: *mut usize, left_contour_room: usize,
         left_shape_ends: *mut usize, left_shape_room: usize, counts: *mut ShapeCounts,
     );
+    clearance: mesh_clearance_i32, mesh_clearance_i16, (
+        points: *const [I; 2], point_count: usize, contour_ends: *const usize, contour_count: usize,
+        shape_ends: *const usize, shape_count: usize, path_points: *const [I; 2], path_point_count: usize,
+        path_ends: *const usize, path_count: usize, closed: u32, clearance: *mut u64,
+    );
 }

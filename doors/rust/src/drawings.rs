@@ -398,3 +398,35 @@ pub fn validate_variable_stroke<I: Coordinate, P: AsRef<[[I; 3]]>>(paths: &[P], 
         )
     })
 }
+
+impl<I: Coordinate> Shapes<I> {
+    /// How near the edges come to paths: the square of the least distance, in grid units and rounded down. It is
+    /// `u64::MAX` where there is no edge or no path, and where the square does not fit, which takes coordinates of 2^30
+    /// or more in size. A path that is closed goes on from its last point to its first.
+    ///
+    /// Where one vertex of each path is inside the shapes, so is every point that is nearer to one than that.
+    ///
+    /// ```
+    /// use i_overlay_mesh::{angle, outline, Arc, Join, Options, OutlineStyle};
+    ///
+    /// // A pad, and 150 units round it. Arcs lie inside their circles, so the offset is a little greater.
+    /// let pad = [[0, 0], [2000, 0], [2000, 1000], [0, 1000]];
+    /// let arc = Arc { max_step: angle(11.25), ..Arc::default() };
+    /// let style = OutlineStyle { join: Join::Round(arc), ..OutlineStyle::new(154) };
+    /// let clearance = outline(&[pad], &style, &Options::default())?.clearance_to(&[pad], true)?;
+    /// assert!(clearance >= 150 * 150);
+    /// # Ok::<(), i_overlay_mesh::Error>(())
+    /// ```
+    pub fn clearance_to<P: AsRef<[[I; 2]]>>(&self, paths: &[P], closed: bool) -> Result<u64, Error> {
+        let flat = Flat::of(paths)?;
+        let mut clearance = u64::MAX;
+        ended(unsafe {
+            (I::CALLS.clearance)(
+                self.points.as_ptr(), self.points.len(), self.contour_ends.as_ptr(), self.contour_ends.len(),
+                self.shape_ends.as_ptr(), self.shape_ends.len(), flat.items.as_ptr(), flat.items.len(),
+                flat.ends.as_ptr(), flat.ends.len(), u32::from(closed), &mut clearance,
+            )
+        })?;
+        Ok(clearance)
+    }
+}

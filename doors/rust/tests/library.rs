@@ -154,6 +154,27 @@ fn slivers_are_left_out() {
 }
 
 #[test]
+fn clearances_are_squares_of_distances() {
+    let square = vec![[0, 0], [100, 0], [100, 100], [0, 100]];
+    let square = Shapes { points: square, contour_ends: vec![4], shape_ends: vec![1] };
+    let to = |path: &[[i32; 2]], closed| square.clearance_to(&[path], closed);
+    assert_eq!(to(&[[10, 50], [60, 40]], false), Ok(100));
+    assert_eq!(to(&[[100, 107], [107, 100]], true), Ok(24));
+    // The closing section goes through the square.
+    let corner = [[-30, 150], [150, 150], [150, -30]];
+    assert_eq!((to(&corner, false), to(&corner, true)), (Ok(2500), Ok(0)));
+    assert_eq!((to(&[[103, 104]], false), to(&[[103, 104]], true)), (Ok(u64::MAX), Ok(25)));
+    assert_eq!((to(&[[i32::MAX; 2]], true), to(&[], true)), (Ok(2 * (i32::MAX as u64 - 100).pow(2)), Ok(u64::MAX)));
+    let far = Shapes { points: vec![[i32::MIN; 2]], contour_ends: vec![1], shape_ends: vec![1] };
+    assert_eq!(far.clearance_to(&[[[i32::MAX; 2]]], true), Ok(u64::MAX));
+
+    let narrow = Shapes { points: vec![[0_i16, 0], [9, 0], [9, 9]], contour_ends: vec![3], shape_ends: vec![1] };
+    assert_eq!(narrow.clearance_to(&[[[i16::MAX, 0]], [[-4, -3]]], true), Ok(25));
+    let wrong = Shapes { contour_ends: vec![4], ..narrow };
+    assert_eq!(wrong.clearance_to(&[[[0, 0]]], true), Err(Error::Malformed));
+}
+
+#[test]
 fn what_has_no_answer_is_told() {
     let nothing: [[[i32; 2]; 0]; 0] = [];
     let style = OutlineStyle::new(10);
