@@ -5,7 +5,8 @@
 
 Both draw arcs of 16 steps a quarter of a turn, in turns. Shapely is shared by as many threads, in as many chunks. Beside
 the time stands the processor time, which tells more where the machine has other work; the last row is the part of it that
-the compiled library takes. The package has to be found, and Shapely 2.
+the compiled library takes. Times are the least of all rounds, and quotients the middle ones of them. The package has to be
+found, and Shapely 2.
 """
 
 import argparse
@@ -65,14 +66,14 @@ class InLibrary:
 
 
 def measured(calls, rounds):
-    """The least time and the least processor time of each call, and the least time in the library, in seconds."""
+    """For each call the time, the processor time, and the processor time in the library of each round, in seconds."""
     library, rows = InLibrary(), [[] for _ in calls]
     for _ in range(rounds):
         for row, call in zip(rows, calls):
             wall, used = time.perf_counter(), time.process_time()
             call()
             row.append((time.perf_counter() - wall, time.process_time() - used, library.taken()))
-    return [[min(column) for column in zip(*row)] for row in rows]
+    return [numpy.array(row) for row in rows]
 
 
 def main():
@@ -84,14 +85,16 @@ def main():
     given = parser.parse_args()
     drawn = polygons(given.count, given.vertices)
     calls = [lambda: by_shapely(drawn, given.workers), lambda: buffer_all(drawn, DISTANCE, workers=given.workers)]
-    (wall, used, _), (own_wall, own_used, library) = measured(calls, given.rounds)
+    theirs, own = measured(calls, given.rounds)
     each = 1e6 / given.count
+    (wall, used, _), (own_wall, own_used, library) = each * theirs.min(axis=0), each * own.min(axis=0)
+    quotient, used_quotient = numpy.median(own[:, :2] / theirs[:, :2], axis=0)
     print(f"{given.count} polygons of {given.vertices} vertices, {given.workers} threads")
     print("| microseconds for each | time | processor time |\n| --- | --- | --- |")
-    print(f"| Shapely | {each * wall:.1f} | {each * used:.1f} |")
-    print(f"| `buffer_all` | {each * own_wall:.1f} | {each * own_used:.1f} |")
-    print(f"| in the library | | {each * library:.1f} |")
-    print(f"| `buffer_all` by Shapely | {own_wall / wall:.2f} | {own_used / used:.2f} |")
+    print(f"| Shapely | {wall:.1f} | {used:.1f} |")
+    print(f"| `buffer_all` | {own_wall:.1f} | {own_used:.1f} |")
+    print(f"| in the library | | {library:.1f} |")
+    print(f"| `buffer_all` by Shapely | {quotient:.2f} | {used_quotient:.2f} |")
 
 
 if __name__ == "__main__":

@@ -54,7 +54,7 @@ static void write_rings(const mesh_point_i32 *points, mesh_grid grid, size_t *co
    done               receives how many drawings are done
 
    MESH_ROOM_TOO_SMALL: there is no room for the next one, whose counts say what it needs. */
-mesh_outcome mesh_each_i32(
+mesh_outcome mesh_draw_each_i32(
     uint32_t operation, const int32_t *numbers, const size_t *ends, const mesh_part *parts, size_t part_count,
     const mesh_grid *grids, const void *style, const mesh_point_i32 *start_points, size_t start_point_count,
     const mesh_point_i32 *end_points, size_t end_point_count,

@@ -361,7 +361,7 @@ def each(
     places, ends, parts, grids = given
     caps = () if style.caps else (*NO_POINTS, *NO_POINTS)
     done = c_size_t()
-    call_of("mesh_each")(
+    call_of("mesh_draw_each")(
         OPERATIONS[style.operation],
         *(places.ctypes.data, ends.ctypes.data, parts.ctypes.data, len(parts), grids.ctypes.data),
         *style.words(),

@@ -60,7 +60,7 @@ def load_library() -> ctypes.CDLL:
     file = find_library()
     try:
         library = ctypes.CDLL(file)
-        library.mesh_each_i32  # noqa: B018, which fails where this is another library
+        library.mesh_draw_each_i32  # noqa: B018, which fails where this is another library
     except (OSError, AttributeError) as error:
         raise LibraryMissing(f"{file} is not the library: {error}") from error
     return library
@@ -72,7 +72,7 @@ def parameters_of(name: str) -> list[Any]:
         limit = [ctypes.c_uint64] if name == "mesh_answer_within" else []
         return [*LIST, *limit, *LIST, STRUCTURE]
     rooms = [*LIST, *LIST, *LIST, STRUCTURE]
-    if name == "mesh_each":
+    if name == "mesh_draw_each":
         parts = [STRUCTURE, STRUCTURE, *LIST, STRUCTURE]
         return [ctypes.c_uint32, *parts, STRUCTURE, *LIST, *LIST, *rooms, *[STRUCTURE] * 4]
     if name == "mesh_clearance":
