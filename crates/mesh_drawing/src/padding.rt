@@ -4,9 +4,11 @@ ghost use Rattle.std.specs.Prelude.{◌≡◌, ◌↔◌, IsTrue};
 ghost use Rattle.mesh_drawing.specs.Drawn.{drawn_of};
 ghost use Rattle.mesh_drawing.specs.Paddings.{DoesStayInRange, padding_in};
 
-use crate::drawable::Drawable;
 use crate::drawing::Drawing;
+use i_overlay_mesh::outline::offset::IntOutlineOffset;
+use i_overlay_mesh::stroke::offset::IntStrokeOffset;
 use i_overlay_mesh::stroke::radius;
+use i_overlay_mesh::variable_stroke::offset::IntVariableStrokeOffset;
 use mesh_num::num::convert::widen;
 use mesh_num::num::{IntNumber, OverlayInt};
 use mesh_outline::bounds::outline_padding;
@@ -35,8 +37,8 @@ pub fn stays_in_range<I: OverlayInt>(drawing: &Drawing<I>) -> bool
     ensures { IsTrue result ↔ DoesStayInRange I.unit (drawn_of I.value drawing.now) }
 {
     match drawing {
-        Drawing::Outline(outline) => outline.validate().is_ok(),
-        Drawing::Stroke(stroke) => stroke.validate().is_ok(),
-        Drawing::VariableStroke(stroke) => stroke.validate().is_ok(),
+        Drawing::Outline(outline) => outline.paths.validate_outline(&outline.style).is_ok(),
+        Drawing::Stroke(stroke) => stroke.paths.validate_stroke(&stroke.style).is_ok(),
+        Drawing::VariableStroke(stroke) => stroke.paths.validate_variable_stroke().is_ok(),
     }
 }
