@@ -6,11 +6,9 @@ use mesh_meeting::meeting::any_meeting;
 /// Of so many edges the boxes are looked at. Twice as many would cost twice as much, and tell little more.
 const SAMPLES: usize = 8;
 
-/// Fewer edges are cut soon, in line or not. With half as many, looking would cost small drawings more than it saves.
-const FEW_EDGES: usize = 64;
-
-/// Of fewer edges all pairs are found soon, whatever their boxes are. Twice as many would let some hatches take long.
-const SOME_EDGES: usize = 256;
+/// Of fewer edges all pairs are found and cut soon, in line or not, and looking would cost more than it saves. Twice as
+/// many would let some hatches take long.
+const FEW_EDGES: usize = 256;
 
 /// Boxes serve where each meets so many others at most, and so many more for each edge that is met. Looking at so many costs
 /// what rounds take for a meeting; with twice as many, stars and hatches would take longer than in rounds.
@@ -88,5 +86,5 @@ pub fn do_arrays_serve(edges: &[LatticeEdge]) -> bool {
     let many = meetings
         .saturating_add(SAMPLES)
         .saturating_mul(BOXES_A_MEETING);
-    edges.len() < SOME_EDGES || boxes <= many
+    boxes <= many
 }

@@ -9,7 +9,7 @@ use Rattle.mesh_plane.specs.Winding.{boundary, crossing_on, winding, IsBalanced}
 use Rattle.mesh_plane.proofs.Sums.{sum_of_append}
 use Rattle.mesh_lattice.specs.Clean.{IsProper}
 use Rattle.mesh_shapes.specs.Contours.{vertices}
-use Rattle.mesh_lattice.specs.FillRules.{filled}
+use Rattle.mesh_lattice.specs.FillRules.{filled, filled_by, winding_rule_of}
 use Rattle.mesh_regions.specs.BoundaryLaws.{once}
 use Rattle.mesh_regions.specs.SideLaws.{AreSplit}
 use Rattle.mesh_below.specs.Laws.{AreRegions, IsAnsweredAgain}
@@ -17,7 +17,8 @@ use Rattle.mesh_regions.specs.Regions.{OutsideBent}
 use Rattle.mesh_shapes.specs.Resolution.{Choices, IsResolution}
 use Rattle.mesh_lattice.specs.Split.{occurs, after}
 use Rattle.mesh_lattice.specs.declared.fill.FillRule.{FillRule}
-use Rattle.mesh_lattice.specs.declared.fill.FillRule.TheVariants.{Positive, Negative}
+use Rattle.mesh_lattice.specs.declared.fill.WindingRule.{WindingRule}
+use Rattle.mesh_lattice.specs.declared.fill.WindingRule.TheVariants.{Positive, Negative, EvenOdd, NonZero, AtLeast}
 use Rattle.mesh_regions.proofs.BoundaryFill.{boundary_cover}
 use Rattle.mesh_lattice.proofs.KeptBySplits.{after_balanced}
 use Rattle.mesh_regions.proofs.BoundaryRegions.{after_winds}
@@ -134,9 +135,15 @@ regions_of edges fill options answer proper balanced empty r = record {
 }
 
 -- no rule fills where nothing winds
+pub filled_by_none : (rule : WindingRule) → filled_by rule (pos 0) ≡ false
+filled_by_none Positive = refl
+filled_by_none Negative = refl
+filled_by_none EvenOdd = refl
+filled_by_none NonZero = refl
+filled_by_none (AtLeast least) = refl
+
 pub filled_none : (fill : FillRule) → filled fill (pos 0) ≡ false
-filled_none Positive = refl
-filled_none Negative = refl
+filled_none fill = filled_by_none (winding_rule_of fill)
 
 -- those of a resolution are made of that resolution
 pub regions_made : (edges : List Edge) (fill : ℤ → Bool) (options : Choices) (answer : List (List (List Point))) →

@@ -8,7 +8,7 @@ ghost use Rattle.mesh_num.specs.Paths.{contours_of, shapes_of};
 ghost use Rattle.mesh_plane.specs.Plane.{Point};
 ghost use Rattle.mesh_num.specs.Segments.{IsSubject, edges_of};
 ghost use Rattle.mesh_plane.specs.Winding.{IsBalanced, boundary};
-ghost use Rattle.mesh_lattice.specs.FillRules.{filled};
+ghost use Rattle.mesh_lattice.specs.FillRules.{filled, filled_by};
 ghost use Rattle.mesh_lattice.specs.declared.fill.FillRule.TheVariants.{Positive};
 ghost use Rattle.mesh_below.specs.Answers.{AreOwnBoundary, IsSettled};
 ghost use Rattle.mesh_below.specs.Asked.{AreResolvable};
@@ -21,7 +21,7 @@ ghost use Rattle.mesh_shapes.specs.Resolution.{IsResolution};
 use crate::answer::{int_shapes, lattice_contours};
 use crate::given::lattice_edges;
 use crate::resolve::{Choices, arranged_contours, resolve};
-pub use mesh_lattice::fill::FillRule;
+pub use mesh_lattice::fill::{FillRule, WindingRule};
 use mesh_num::num::{IntNumber, WideUnsigned};
 use mesh_num::shape::buffer::{FlatContoursBuffer, IntShapes};
 use mesh_num::shape::segment::Segment;
@@ -186,8 +186,26 @@ impl<I: IntNumber> Overlay<I> {
             → AreOwnBoundary (flat_map boundary (contours_of (shapes_of answer.shapes.items)))) }
     {
         match rule {
-            OverlayRule::Subject => self.resolved(fill),
+            OverlayRule::Subject => self.resolved(fill.winding_rule()),
         }
+    }
+
+    /// The same as `overlay_answer`, by any rule of the engine. Booleans are resolved so.
+    pub fn overlay_by(&self, rule: WindingRule) -> Result<OverlayAnswer<I>, AllocError>
+        requires subject { All IsSubject self.now.segments.items }
+        requires balanced { IsBalanced (edges_of self.now.segments.items) }
+        requires safe { AreEdgesSafe I.unit (edges_of self.now.segments.items) }
+        ensures resolution { IfOk result (λ answer. IsResolution (edges_of self.now.segments.items) (filled_by rule)
+            (choices_of I.WideUInt.value self.now.options) (shapes_of answer.shapes.items)) }
+        ensures regions { IfOk result (λ answer. AreRegions (edges_of self.now.segments.items) (filled_by rule)
+            (choices_of I.WideUInt.value self.now.options) (shapes_of answer.shapes.items)) }
+        ensures safe { IfOk result (λ answer. ArePointsSafe I.unit (shapes_of answer.shapes.items)) }
+        ensures settled { IfOk result (λ answer. answer.is_settled ≡ true
+            → IsSettled (choices_of I.WideUInt.value self.now.options) (shapes_of answer.shapes.items)) }
+        ensures own_boundary { IfOk result (λ answer. answer.is_own_boundary ≡ true
+            → AreOwnBoundary (flat_map boundary (contours_of (shapes_of answer.shapes.items)))) }
+    {
+        self.resolved(rule)
     }
 
     /// Replaces the contours in the buffer by those of `overlay`, polygon by polygon. It requires what `overlay`
@@ -218,9 +236,9 @@ impl<I: IntNumber> Overlay<I> {
     }
 
     /// What all segments fill.
-    fn resolved(&self, fill: FillRule) -> Result<OverlayAnswer<I>, AllocError>
+    fn resolved(&self, fill: WindingRule) -> Result<OverlayAnswer<I>, AllocError>
         requires { AreResolvable I.unit self.now.segments.items }
-        ensures { IfOk result (λ answer. IsOverlayAnswer I.unit (edges_of self.now.segments.items) (filled fill)
+        ensures { IfOk result (λ answer. IsOverlayAnswer I.unit (edges_of self.now.segments.items) (filled_by fill)
             (choices_of I.WideUInt.value self.now.options) (shapes_of answer.shapes.items)
             answer.is_settled answer.is_own_boundary) }
     {

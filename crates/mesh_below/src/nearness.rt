@@ -5,7 +5,7 @@ ghost use Rattle.std.specs.List.{All};
 ghost use Rattle.mesh_num.specs.Paths.{shapes_of};
 ghost use Rattle.mesh_num.specs.Segments.{IsSubject, edges_of};
 ghost use Rattle.mesh_plane.specs.Winding.{IsBalanced};
-ghost use Rattle.mesh_lattice.specs.FillRules.{filled};
+ghost use Rattle.mesh_lattice.specs.FillRules.{filled, filled_by};
 ghost use Rattle.mesh_lattice.specs.Reach.{AreEdgesSafe, ArePointsSafe};
 ghost use Rattle.mesh_shapes.specs.Resolution.{IsResolution};
 ghost use Rattle.mesh_ahead.specs.Counting.{CountsSplits};
@@ -17,7 +17,7 @@ ghost use Rattle.mesh_below.specs.Options.{choices_of};
 ghost use Rattle.mesh_below.specs.Private.OverlayAnswers.{IsNearAnswer};
 
 use crate::answer::int_shapes;
-use crate::below::{FillRule, Overlay, OverlayRule};
+use crate::below::{FillRule, Overlay, OverlayRule, WindingRule};
 use crate::given::lattice_edges;
 use crate::resolve::resolve_with_nearness;
 use mesh_num::num::IntNumber;
@@ -65,19 +65,44 @@ impl<I: IntNumber> Overlay<I> {
         ensures refused { result ≡ Err SplitError.TooManySplits → IsPastLimit count.new }
     {
         match rule {
-            OverlayRule::Subject => self.resolved_with_nearness(fill, count),
+            OverlayRule::Subject => self.resolved_with_nearness(fill.winding_rule(), count),
         }
+    }
+
+    /// The same as `overlay_with_nearness`, by any rule of the engine. Booleans are resolved so.
+    pub fn overlay_by_with_nearness(
+        &self,
+        rule: WindingRule,
+        count: &mut SplitCount,
+    ) -> Result<NearShapes<I>, SplitError>
+        requires subject { All IsSubject self.now.segments.items }
+        requires balanced { IsBalanced (edges_of self.now.segments.items) }
+        requires safe { AreEdgesSafe I.unit (edges_of self.now.segments.items) }
+        ensures resolution { IfOk result (λ near. IsResolution (edges_of self.now.segments.items) (filled_by rule)
+            (choices_of I.WideUInt.value self.now.options) (shapes_of near.shapes.items)) }
+        ensures regions { IfOk result (λ near. AreRegionsBeyond near.nearness (edges_of self.now.segments.items)
+            (filled_by rule) (choices_of I.WideUInt.value self.now.options) (shapes_of near.shapes.items)) }
+        ensures standing { IfOk result (λ near. AreCountedRegions near.nearness (edges_of self.now.segments.items)
+            (filled_by rule) (choices_of I.WideUInt.value self.now.options) (shapes_of near.shapes.items)
+            count.old count.new) }
+        ensures safe { IfOk result (λ near. ArePointsSafe I.unit (shapes_of near.shapes.items)) }
+        ensures small { IfOk result (λ near. near.nearness ≤ 2 ^ 38) }
+        ensures counted { CountsSplits (edges_of self.now.segments.items) count.old count.new }
+        ensures within { OnOk result (IsWithinLimit count.new) }
+        ensures refused { result ≡ Err SplitError.TooManySplits → IsPastLimit count.new }
+    {
+        self.resolved_with_nearness(rule, count)
     }
 
     /// What all segments fill, and how near.
     fn resolved_with_nearness(
         &self,
-        fill: FillRule,
+        fill: WindingRule,
         count: &mut SplitCount,
     ) -> Result<NearShapes<I>, SplitError>
         requires { AreResolvable I.unit self.now.segments.items }
         ensures answer { IfOk result (λ near. IsNearAnswer I.unit near.nearness (edges_of self.now.segments.items)
-            (filled fill) (choices_of I.WideUInt.value self.now.options) (shapes_of near.shapes.items)
+            (filled_by fill) (choices_of I.WideUInt.value self.now.options) (shapes_of near.shapes.items)
             count.old count.new) }
         ensures small { IfOk result (λ near. near.nearness ≤ 2 ^ 38) }
         ensures counted { CountsSplits (edges_of self.now.segments.items) count.old count.new }

@@ -8,7 +8,7 @@ ghost use Rattle.mesh_plane.specs.Winding.{IsBalanced, boundary, same_point, sum
 ghost use Rattle.mesh_lattice.specs.Clean.{IsProper};
 ghost use Rattle.mesh_lattice.specs.Counted.{IsRoomy, size};
 ghost use Rattle.mesh_lattice.specs.Splitting.{IsSplitting};
-ghost use Rattle.mesh_lattice.specs.FillRules.{filled};
+ghost use Rattle.mesh_lattice.specs.FillRules.{filled, filled_by};
 ghost use Rattle.mesh_lattice.specs.declared.fill.FillRule.TheVariants.{Positive};
 ghost use Rattle.mesh_below.specs.Answers.{AreOwnBoundary, IsSettled};
 ghost use Rattle.mesh_below.specs.Nearness.{IsCountedResolution};
@@ -24,7 +24,7 @@ ghost use Rattle.mesh_shapes.specs.Vectors.{HavePoints, StartsInOrder, contour_e
 
 use mesh_ahead::splitter::{split_edges, split_edges_told};
 use mesh_boundary::sides::find_boundary;
-use mesh_lattice::fill::FillRule;
+use mesh_lattice::fill::WindingRule;
 use mesh_lattice::lattice::{CountedSegment, LatticeEdge, LatticePoint};
 use mesh_shapes::arrange::{is_large, shapes};
 use mesh_shapes::ring::{Ring, ring_of};
@@ -144,12 +144,12 @@ fn answers_all(choices: Choices) -> bool
 pub fn resolve(
     alloc: Global,
     edges: &[LatticeEdge],
-    fill: FillRule,
+    fill: WindingRule,
     choices: Choices,
 ) -> Result<GridAnswer, AllocError>
     requires proper { IsProper edges.now }
     requires balanced { IsBalanced edges.now }
-    ensures resolution { IfOk result (λ v. IsResolution edges.now (filled fill)
+    ensures resolution { IfOk result (λ v. IsResolution edges.now (filled_by fill)
         (chosen choices)
         (shapes_points v.shapes.items)) }
     ensures settled { IfOk result (λ v. v.is_settled ≡ true → IsSettled
@@ -167,13 +167,13 @@ pub fn resolve(
 pub fn resolve_with_nearness(
     alloc: Global,
     edges: &[LatticeEdge],
-    fill: FillRule,
+    fill: WindingRule,
     choices: Choices,
     count: &mut SplitCount,
 ) -> Result<NearAnswer, SplitError>
     requires proper { IsProper edges.now }
     requires balanced { IsBalanced edges.now }
-    ensures resolution { IfOk result (λ v. IsCountedResolution v.nearness edges.now (filled fill)
+    ensures resolution { IfOk result (λ v. IsCountedResolution v.nearness edges.now (filled_by fill)
         (chosen choices)
         (shapes_points v.shapes.items) count.old count.new) }
     ensures small { IfOk result (λ v. v.nearness ≤ 2 ^ 38) }
@@ -207,7 +207,7 @@ fn shapes_of_segments(
     alloc: Global,
     edges: &[LatticeEdge],
     segments: &[CountedSegment],
-    fill: FillRule,
+    fill: WindingRule,
     choices: Choices,
 ) -> Result<GridAnswer, AllocError>
     requires proper { IsProper edges.now }
@@ -215,7 +215,7 @@ fn shapes_of_segments(
     requires splitting { IsSplitting edges.now segments.now }
     requires room { IsRoomy (sum_of size segments.now) }
     ensures resolution { IfOk result (λ v. (s : IsSplitting edges.now segments.now) → ResolvesBy s.splits edges.now
-        (filled fill)
+        (filled_by fill)
         (chosen choices)
         (shapes_points v.shapes.items)) }
     ensures settled { IfOk result (λ v. v.is_settled ≡ true → IsSettled

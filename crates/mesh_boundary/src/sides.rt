@@ -5,20 +5,20 @@ ghost use Rattle.mesh_plane.specs.Plane.{Edge};
 ghost use Rattle.mesh_plane.specs.Winding.{sum_of};
 ghost use Rattle.mesh_lattice.specs.Boundary.{IsBoundary};
 ghost use Rattle.mesh_lattice.specs.Counted.{size, IsCountOf, IsRoomy};
-ghost use Rattle.mesh_lattice.specs.FillRules.{filled};
+ghost use Rattle.mesh_lattice.specs.FillRules.{filled_by};
 ghost use Rattle.mesh_regions.specs.SideLaws.{AreSplit};
 ghost use Rattle.mesh_boundary.specs.Private.CountedSides.{is_parted, boundary_edge};
 ghost use Rattle.mesh_boundary.specs.Private.SideFinders.{Serves};
 
 use crate::flood::Sides;
 use crate::side_finder::SideFinder;
-use mesh_lattice::fill::FillRule;
+use mesh_lattice::fill::WindingRule;
 use mesh_lattice::lattice::{CountedSegment, LatticeEdge};
 use std::alloc::{AllocError, Global};
 
 /// Whether the first side is filled and the second is not.
-fn is_parted(fill: FillRule, sides: Sides) -> bool
-    ensures { result ≡ is_parted (filled fill) sides }
+fn is_parted(fill: WindingRule, sides: Sides) -> bool
+    ensures { result ≡ is_parted (filled_by fill) sides }
 {
     fill.is_filled(sides.0) && !fill.is_filled(sides.1)
 }
@@ -26,11 +26,11 @@ fn is_parted(fill: FillRule, sides: Sides) -> bool
 /// Adds the edge of the boundary on a segment, if there is one.
 fn push_edge(
     edges: &mut Vec<LatticeEdge>,
-    fill: FillRule,
+    fill: WindingRule,
     sides: Sides,
     e: LatticeEdge,
 ) -> Result<(), AllocError>
-    ensures { OnOk result (edges.new.items ≡ edges.old.items ++ boundary_edge (filled fill) sides e) }
+    ensures { OnOk result (edges.new.items ≡ edges.old.items ++ boundary_edge (filled_by fill) sides e) }
 {
     if is_parted(fill, sides) {
         edges.push(e)?;
@@ -47,12 +47,12 @@ fn boundary_by(
     alloc: Global,
     segments: &[CountedSegment],
     finder: &SideFinder,
-    fill: FillRule,
+    fill: WindingRule,
 ) -> Result<Vec<LatticeEdge>, AllocError>
     requires room { IsRoomy (sum_of size segments.now) }
     requires serves { Serves finder.now segments.now }
     ensures { IfOk result (λ v. (es : List Edge) → IsCountOf es segments.now → AreSplit es
-        → IsBoundary es (filled fill) v.items) }
+        → IsBoundary es (filled_by fill) v.items) }
 {
     let mut edges = Vec::new(alloc);
     for i in 0..segments.len() {
@@ -69,11 +69,11 @@ pub fn find_boundary(
     alloc: Global,
     segments: &[CountedSegment],
     parts: usize,
-    fill: FillRule,
+    fill: WindingRule,
 ) -> Result<Vec<LatticeEdge>, AllocError>
     requires { IsRoomy (sum_of size segments.now) }
     ensures { IfOk result (λ v. (es : List Edge) → IsCountOf es segments.now → AreSplit es
-        → IsBoundary es (filled fill) v.items) }
+        → IsBoundary es (filled_by fill) v.items) }
 {
     let finder = SideFinder::new(alloc, segments, parts)?;
     boundary_by(alloc, segments, &finder, fill)

@@ -7,12 +7,12 @@ use Rattle.mesh_plane.specs.Plane.{Point, Edge}
 use Rattle.mesh_num.specs.Segments.{SignedEdge, edges_of}
 use Rattle.mesh_plane.specs.Winding.{IsBalanced, boundary}
 use Rattle.mesh_lattice.specs.Clean.{IsProper}
-use Rattle.mesh_lattice.specs.FillRules.{filled}
+use Rattle.mesh_lattice.specs.FillRules.{filled_by}
 use Rattle.mesh_below.specs.Answers.{AreOwnBoundary, IsSettled}
 use Rattle.mesh_below.specs.Options.{choices_of}
 use Rattle.mesh_lattice.specs.Reach.{ArePointsSafe}
 use Rattle.mesh_shapes.specs.Resolution.{Choices}
-use Rattle.mesh_below.proofs.AnswerRegions.{regions_of, filled_none}
+use Rattle.mesh_below.proofs.AnswerRegions.{regions_of, filled_by_none}
 use Rattle.mesh_below.proofs.AnswerPoints.{answer_safe, same_resolution}
 use Rattle.mesh_below.proofs.below.Overlay.resolved.Goals as goal
 
@@ -27,12 +27,12 @@ int_shapes-requires g c =
     let same : c.deref-2.result.now ≡ edges_of c.args.self.now.segments.items =
     c.deref-2.ensures.value ∙ (c.in_ok-edges.ensures.value ∙ ap (λ (ss : List SignedEdge). edges_of ss) c.deref.ensures.value) in
     subst (λ (shapes : List (Vec (Vec Point Global) Global)). ArePointsSafe g.I.IntNumber.unit (shapes_of shapes)) (sym c.deref-3.ensures.value)
-    (answer_safe g.I.IntNumber.unit c.deref-2.result.now (edges_of c.args.self.now.segments.items) (filled c.args.fill) _ (shapes_of c.in_ok-answer.answer.shapes.items) same c.requires.safe c.in_ok-answer.ensures.resolution)
+    (answer_safe g.I.IntNumber.unit c.deref-2.result.now (edges_of c.args.self.now.segments.items) (filled_by c.args.fill) _ (shapes_of c.in_ok-answer.answer.shapes.items) same c.requires.safe c.in_ok-answer.ensures.resolution)
 
 pub returns : goal.returns
 returns g c =
     let es = edges_of c.args.self.now.segments.items in
-    let fill = filled c.args.fill in
+    let fill = filled_by c.args.fill in
     let options = choices_of g.I.WideUInt.WideUnsigned.value c.args.self.now.options in
     let same : c.deref-2.result.now ≡ es =
     c.deref-2.ensures.value ∙ (c.in_ok-edges.ensures.value ∙ ap (λ (ss : List SignedEdge). edges_of ss) c.deref.ensures.value) in
@@ -44,7 +44,7 @@ returns g c =
     let r = same_resolution c.deref-2.result.now es fill choices options (shapes_of told.items) (shapes_of v.items) same c.choices.ensures (sym is) c.in_ok-answer.ensures.resolution in
     record {
       resolution = r;
-      regions = regions_of es fill options (shapes_of v.items) proper c.requires.balanced (filled_none c.args.fill) r;
+      regions = regions_of es fill options (shapes_of v.items) proper c.requires.balanced (filled_by_none c.args.fill) r;
       safe = subst (λ (answer : List (List (List Point))). ArePointsSafe g.I.IntNumber.unit answer) (sym is)
           (answer_safe g.I.IntNumber.unit c.deref-2.result.now es fill _ (shapes_of told.items) same c.requires.safe c.in_ok-answer.ensures.resolution);
       is_settled = λ t.

@@ -6,10 +6,10 @@ use Rattle.mesh_plane.specs.Plane.{Point, Edge}
 use Rattle.mesh_num.specs.Segments.{SignedEdge, edges_of}
 use Rattle.mesh_plane.specs.Winding.{IsBalanced}
 use Rattle.mesh_lattice.specs.Clean.{IsProper}
-use Rattle.mesh_lattice.specs.FillRules.{filled}
+use Rattle.mesh_lattice.specs.FillRules.{filled_by}
 use Rattle.mesh_below.specs.Options.{choices_of}
 use Rattle.mesh_lattice.specs.Reach.{ArePointsSafe}
-use Rattle.mesh_below.proofs.AnswerRegions.{filled_none}
+use Rattle.mesh_below.proofs.AnswerRegions.{filled_by_none}
 use Rattle.mesh_below.proofs.AnswerPoints.{answer_safe}
 use Rattle.mesh_below.proofs.Beyond.{counted_beyond, same_counted}
 use Rattle.mesh_below.proofs.below.Overlay.resolved_with_nearness.Goals as goal
@@ -25,12 +25,12 @@ int_shapes-requires g c =
     let same : c.deref-2.result.now ≡ edges_of c.args.self.now.segments.items =
     c.deref-2.ensures.value ∙ (c.in_ok-edges.ensures.value ∙ ap (λ (ss : List SignedEdge). edges_of ss) c.deref.ensures.value) in
     subst (λ (shapes : List (Vec (Vec Point Global) Global)). ArePointsSafe g.I.IntNumber.unit (shapes_of shapes)) (sym c.deref-3.ensures.value)
-    (answer_safe g.I.IntNumber.unit c.deref-2.result.now (edges_of c.args.self.now.segments.items) (filled c.args.fill) _ (shapes_of c.in_ok-answer.answer.shapes.items) same c.requires.safe c.in_ok-answer.ensures.resolution.near.resolution)
+    (answer_safe g.I.IntNumber.unit c.deref-2.result.now (edges_of c.args.self.now.segments.items) (filled_by c.args.fill) _ (shapes_of c.in_ok-answer.answer.shapes.items) same c.requires.safe c.in_ok-answer.ensures.resolution.near.resolution)
 
 pub returns-clause-answer : goal.returns-clause-answer
 returns-clause-answer g c =
     let es = edges_of c.args.self.now.segments.items in
-    let fill = filled c.args.fill in
+    let fill = filled_by c.args.fill in
     let options = choices_of g.I.WideUInt.WideUnsigned.value c.args.self.now.options in
     let k = c.in_ok-answer.answer.nearness in
     let same : c.deref-2.result.now ≡ es =
@@ -42,7 +42,7 @@ returns-clause-answer g c =
     let old = c.args.count.now in
     let new = c.resolve_with_nearness.new.count in
     let counted = same_counted k c.deref-2.result.now es fill _ options (shapes_of told.items) (shapes_of v.items) old new same c.choices.ensures (sym is) c.in_ok-answer.ensures.resolution in
-    let standing = counted_beyond k es fill options (shapes_of v.items) old new proper c.requires.balanced (filled_none c.args.fill) counted in
+    let standing = counted_beyond k es fill options (shapes_of v.items) old new proper c.requires.balanced (filled_by_none c.args.fill) counted in
     record {
       resolution = counted.near.resolution;
       regions = standing.beyond;
