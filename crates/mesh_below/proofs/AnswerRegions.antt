@@ -17,8 +17,9 @@ use Rattle.mesh_regions.specs.Regions.{OutsideBent}
 use Rattle.mesh_shapes.specs.Resolution.{Choices, IsResolution}
 use Rattle.mesh_lattice.specs.Split.{occurs, after}
 use Rattle.mesh_lattice.specs.declared.fill.FillRule.{FillRule}
+use Rattle.mesh_lattice.specs.declared.fill.FillRule.TheVariants.{Positive}
 use Rattle.mesh_lattice.specs.declared.fill.WindingRule.{WindingRule}
-use Rattle.mesh_lattice.specs.declared.fill.WindingRule.TheVariants.{Positive, Negative, EvenOdd, NonZero, AtLeast}
+use Rattle.mesh_lattice.specs.declared.fill.WindingRule.TheVariants as rule
 use Rattle.mesh_regions.proofs.BoundaryFill.{boundary_cover}
 use Rattle.mesh_lattice.proofs.KeptBySplits.{after_balanced}
 use Rattle.mesh_regions.proofs.BoundaryRegions.{after_winds}
@@ -136,11 +137,11 @@ regions_of edges fill options answer proper balanced empty r = record {
 
 -- no rule fills where nothing winds
 pub filled_by_none : (rule : WindingRule) → filled_by rule (pos 0) ≡ false
-filled_by_none Positive = refl
-filled_by_none Negative = refl
-filled_by_none EvenOdd = refl
-filled_by_none NonZero = refl
-filled_by_none (AtLeast least) = refl
+filled_by_none rule.Positive = refl
+filled_by_none rule.Negative = refl
+filled_by_none rule.EvenOdd = refl
+filled_by_none rule.NonZero = refl
+filled_by_none (rule.AtLeast least) = refl
 
 pub filled_none : (fill : FillRule) → filled fill (pos 0) ≡ false
 filled_none fill = filled_by_none (winding_rule_of fill)
