@@ -1,9 +1,9 @@
 -- Lemmas over points and lists: edges are added to segments one after another.
-use Rattle.std.proofs.Common.{◌≡◌, List, ◌++◌, length, refl, Result, Ok, Err, [], sym, ap, ◌∙◌, append_assoc, ℕ, ◌+◌, ◌<◌, ◌∷◌, take, drop, get_or, ◌≤◌, take_all}
-use Rattle.std.proofs.Math.Seq.{take-append_seam}
-use Rattle.std.proofs.lemmas.List.{drop_at, take_at, take-append-drop, map-append, append-nil, map_more}
-use Rattle.mesh_num.specs.Segments.{SignedEdge, segments_of}
-use Rattle.mesh_offset.specs.Adding.{added, added_edges, Keeps}
+use Rattle.std.proofs.Common.{suc, add-one, ◌≡◌, List, ◌++◌, length, refl, Result, Ok, Err, [], sym, ap, ◌∙◌, append_assoc, ℕ, ◌+◌, ◌<◌, ◌∷◌, take, drop, get_or, ◌≤◌, take_all}
+use Rattle.std.proofs.Math.Seq.{drop-cons, take-append_seam}
+use Rattle.std.proofs.lemmas.List.{drop_all, drop_at, take_at, take_more, take-append-drop, map-append, append-nil, map_more}
+use Rattle.mesh_num.specs.Segments.{SignedEdge, segments_of, segment_between}
+use Rattle.mesh_offset.specs.Adding.{AddsInSense, added, added_edges, Keeps}
 use Rattle.mesh_offset.specs.Built.{Adds}
 use Rattle.std.specs.List.Sorted.{IsPermutation}
 use Rattle.mesh_plane.specs.Plane.{Edge, Point}
@@ -19,7 +19,7 @@ use Rattle.std.specs.declared.vec.Vec.{Vec}
 use Rattle.std.specs.declared.alloc.Global.{Global}
 use Rattle.std.proofs.lemmas.List.Concat.{flat_map-append}
 use Rattle.mesh_num.specs.Paths.{paths_of, shapes_of, contours_of}
-use Rattle.mesh_plane.specs.Winding.{boundary}
+use Rattle.mesh_plane.specs.Winding.{route, boundary}
 use Rattle.mesh_num.proofs.Paths.{contours_more}
 use Rattle.mesh_offset.specs.Adding.{answer_edges}
 use Rattle.std.proofs.lemmas.List.Elements.{All-nil, All-append}
@@ -116,3 +116,56 @@ keeps_through old mid new h k =
     let a : new ≡ old ++ (drop (length old) mid ++ drop (length mid) new) =
     f ∙ (ap (λ l. l ++ drop (length mid) new) e ∙ append_assoc old (drop (length old) mid) (drop (length mid) new)) in
     ap (take (length old)) a ∙ take-append_seam old (drop (length old) mid ++ drop (length mid) new)
+
+-- what is left of a list, with its next element told apart
+pub rest_from : (rest : List Point) (i : ℕ) (point : Point) → i < length rest → point ≡ get_or rest i point → drop i rest ≡ point ∷ drop (i + 1) rest
+rest_from rest i point l f =
+    drop-cons rest i point l ∙ ap (λ (p : Point). p ∷ drop (suc i) rest) (sym f)
+    ∙ ap (λ (n : ℕ). point ∷ drop n rest) (sym (add-one i))
+
+-- ---- the contours of shapes
+
+-- an edge that is added in the positive sense, and one in the negative sense
+pub edge_added : (fill : FillRule) (p r : Point) (old new : List SignedEdge) → fill ≡ Positive → new ≡ old ++ segment_between p r → AddsInSense fill old new ((p, r) ∷ [])
+edge_added fill p r old new e h =
+    h ∙ ap (λ (ss : List SignedEdge). old ++ ss) (sym (append-nil (segment_between p r))) ∙ ap (λ (f : FillRule). old ++ segments_of (in_sense f ((p, r) ∷ []))) (sym e)
+
+pub edge_added_back : (fill : FillRule) (p r : Point) (old new : List SignedEdge) → fill ≡ Negative → new ≡ old ++ segment_between r p → AddsInSense fill old new ((p, r) ∷ [])
+edge_added_back fill p r old new e h =
+    h ∙ ap (λ (ss : List SignedEdge). old ++ ss) (sym (append-nil (segment_between r p))) ∙ ap (λ (f : FillRule). old ++ segments_of (in_sense f ((p, r) ∷ []))) (sym e)
+
+-- an edge goes over from what is left of a contour to what is added; what is added in the end is the whole contour
+pub closed_step : (fill : FillRule) (first previous point : Point) (rest : List Point) (i : ℕ) (mid new all : List SignedEdge) → i < length rest → point ≡ get_or rest i point →
+    AddsInSense fill mid new ((previous, point) ∷ []) → mid ++ segments_of (in_sense fill (route previous (drop i rest) first)) ≡ all →
+    new ++ segments_of (in_sense fill (route point (drop (i + 1) rest) first)) ≡ all
+closed_step fill first previous point rest i mid new all l is h before =
+    let left = route point (drop (i + 1) rest) first in
+    added_more fill mid new (new ++ segments_of (in_sense fill left)) ((previous, point) ∷ []) left h refl
+    ∙ ap (λ (ps : List Point). mid ++ segments_of (in_sense fill (route previous ps first))) (sym (rest_from rest i point l is))
+    ∙ before
+
+pub closed_end : (fill : FillRule) (contour : List Point) (first previous : Point) (rest : List Point) (i : ℕ) (old mid new : List SignedEdge) → contour ≡ first ∷ rest → length rest ≤ i →
+    mid ++ segments_of (in_sense fill (route previous (drop i rest) first)) ≡ old ++ segments_of (in_sense fill (route first rest first)) →
+    AddsInSense fill mid new ((previous, first) ∷ []) → AddsInSense fill old new (boundary contour)
+closed_end fill contour first previous rest i old mid new e l before h =
+    h ∙ ap (λ (ps : List Point). mid ++ segments_of (in_sense fill (route previous ps first))) (sym (drop_all i rest l))
+    ∙ before ∙ ap (λ (ps : List Point). old ++ segments_of (in_sense fill (boundary ps))) (sym e)
+
+-- one contour of a source more
+pub path_more : (fill : FillRule) (paths : List (List Point)) (i : ℕ) (old mid new : List SignedEdge) → i < length paths →
+    mid ≡ old ++ segments_of (in_sense fill (flat_map boundary (take i paths))) → AddsInSense fill mid new (boundary (get_or paths i [])) →
+    new ≡ old ++ segments_of (in_sense fill (flat_map boundary (take (i + 1) paths)))
+path_more fill paths i old mid new l h k =
+    let path = get_or paths i [] in
+    let edges : flat_map boundary (take (i + 1) paths) ≡ flat_map boundary (take i paths) ++ boundary path =
+    ap (flat_map boundary) (take_more paths i [] l)
+    ∙ flat_map-append boundary (take i paths) (path ∷ [])
+    ∙ ap (λ (es : List Edge). flat_map boundary (take i paths) ++ es) (append-nil (boundary path)) in
+    added_more fill old mid new (flat_map boundary (take i paths)) (boundary path) h k
+    ∙ ap (λ (es : List Edge). old ++ segments_of (in_sense fill es)) (sym edges)
+
+-- all contours of a source
+pub paths_all : (fill : FillRule) (paths : List (List Point)) (i : ℕ) (old new : List SignedEdge) → length paths ≤ i →
+    new ≡ old ++ segments_of (in_sense fill (flat_map boundary (take i paths))) → AddsInSense fill old new (flat_map boundary paths)
+paths_all fill paths i old new past h =
+    h ∙ ap (λ ps. old ++ segments_of (in_sense fill (flat_map boundary ps))) (take_all i paths past)

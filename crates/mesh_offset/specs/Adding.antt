@@ -1,9 +1,9 @@
 -- How edges that are drawn, and those that contours give to an outline, are added to segments.
-use Rattle.std.specs.Prelude.{ℕ, ◌≡◌, ◌+◌, ◌≤◌, List, map, length, take, drop, vec_capacity}
+use Rattle.std.specs.Prelude.{ℕ, ◌≡◌, ◌+◌, ◌++◌, ◌≤◌, List, map, length, take, drop, vec_capacity}
 use Rattle.std.specs.declared.alloc.Global.{Global}
 use Rattle.std.specs.declared.vec.Vec.{Vec}
 use Rattle.mesh_plane.specs.Plane.{Edge, Point}
-use Rattle.mesh_num.specs.Segments.{SignedEdge, edges_of}
+use Rattle.mesh_num.specs.Segments.{SignedEdge, edges_of, segments_of}
 use Rattle.mesh_plane.specs.Winding.{boundary}
 use Rattle.mesh_lattice.specs.Split.{back}
 use Rattle.mesh_lattice.specs.declared.fill.FillRule.{FillRule}
@@ -15,6 +15,10 @@ use Rattle.mesh_num.specs.Paths.{contours_of}
 abbrev pub in_sense : FillRule → List Edge → List Edge
 in_sense Positive es = es
 in_sense Negative es = map back es
+
+-- the vector `new` holds what `old` held, and then the segments of these edges, as they are given in this sense
+abbrev pub AddsInSense : FillRule → List SignedEdge → List SignedEdge → List Edge → Type 0
+AddsInSense fill old new edges = new ≡ old ++ segments_of (in_sense fill edges)
 
 -- the vector `new` begins with what `old` held
 abbrev pub Keeps : List SignedEdge → List SignedEdge → Type 0

@@ -8,3 +8,4 @@
 pub mod bounds;
 pub mod error;
 pub mod radius;
+pub mod segments;

@@ -9,40 +9,10 @@ use Rattle.mesh_plane.specs.Winding.{route, boundary}
 use Rattle.mesh_num.specs.Segments.{SignedEdge, segments_of, segment_between}
 use Rattle.mesh_lattice.specs.declared.fill.FillRule.{FillRule}
 use Rattle.mesh_lattice.specs.declared.fill.FillRule.TheVariants.{Positive, Negative}
-use Rattle.mesh_offset.specs.Adding.{in_sense}
 use Rattle.mesh_join.specs.Styles.{OutlineStyle}
-use Rattle.mesh_outline.specs.Private.Given.{AddsInSense, AddsGiven, AreGiven}
+use Rattle.mesh_outline.specs.Private.Given.{AddsGiven, AreGiven}
 use Rattle.mesh_outline.specs.Resolved.{Gives, Give}
 use Rattle.mesh_offset.proofs.Adding.{adds_more, added_more}
-use Rattle.mesh_outline.proofs.Areas.{rest_from}
-
--- ---- the contours of shapes
-
--- an edge that is added in the positive sense, and one in the negative sense
-pub edge_added : (fill : FillRule) (p r : Point) (old new : List SignedEdge) → fill ≡ Positive → new ≡ old ++ segment_between p r → AddsInSense fill old new ((p, r) ∷ [])
-edge_added fill p r old new e h =
-    h ∙ ap (λ (ss : List SignedEdge). old ++ ss) (sym (append-nil (segment_between p r))) ∙ ap (λ (f : FillRule). old ++ segments_of (in_sense f ((p, r) ∷ []))) (sym e)
-
-pub edge_added_back : (fill : FillRule) (p r : Point) (old new : List SignedEdge) → fill ≡ Negative → new ≡ old ++ segment_between r p → AddsInSense fill old new ((p, r) ∷ [])
-edge_added_back fill p r old new e h =
-    h ∙ ap (λ (ss : List SignedEdge). old ++ ss) (sym (append-nil (segment_between r p))) ∙ ap (λ (f : FillRule). old ++ segments_of (in_sense f ((p, r) ∷ []))) (sym e)
-
--- an edge goes over from what is left of a contour to what is added; what is added in the end is the whole contour
-pub closed_step : (fill : FillRule) (first previous point : Point) (rest : List Point) (i : ℕ) (mid new all : List SignedEdge) → i < length rest → point ≡ get_or rest i point →
-    AddsInSense fill mid new ((previous, point) ∷ []) → mid ++ segments_of (in_sense fill (route previous (drop i rest) first)) ≡ all →
-    new ++ segments_of (in_sense fill (route point (drop (i + 1) rest) first)) ≡ all
-closed_step fill first previous point rest i mid new all l is h before =
-    let left = route point (drop (i + 1) rest) first in
-    added_more fill mid new (new ++ segments_of (in_sense fill left)) ((previous, point) ∷ []) left h refl
-    ∙ ap (λ (ps : List Point). mid ++ segments_of (in_sense fill (route previous ps first))) (sym (rest_from rest i point l is))
-    ∙ before
-
-pub closed_end : (fill : FillRule) (contour : List Point) (first previous : Point) (rest : List Point) (i : ℕ) (old mid new : List SignedEdge) → contour ≡ first ∷ rest → length rest ≤ i →
-    mid ++ segments_of (in_sense fill (route previous (drop i rest) first)) ≡ old ++ segments_of (in_sense fill (route first rest first)) →
-    AddsInSense fill mid new ((previous, first) ∷ []) → AddsInSense fill old new (boundary contour)
-closed_end fill contour first previous rest i old mid new e l before h =
-    h ∙ ap (λ (ps : List Point). mid ++ segments_of (in_sense fill (route previous ps first))) (sym (drop_all i rest l))
-    ∙ before ∙ ap (λ (ps : List Point). old ++ segments_of (in_sense fill (boundary ps))) (sym e)
 
 -- ---- what contours give
 

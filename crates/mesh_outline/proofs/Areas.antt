@@ -13,6 +13,7 @@ use Rattle.std.proofs.lemmas.List.Elements.{All-more}
 use Rattle.mesh_plane.proofs.Whole.{linear}
 use Rattle.mesh_plane.proofs.Sizes.{within_size, sum_size, difference_size, product_size, size_kept}
 use Rattle.mesh_shapes.specs.Contours.{double_area}
+use Rattle.mesh_offset.proofs.Adding.{rest_from}
 use Rattle.mesh_outline.specs.Resolved.{DoAreasFit}
 
 coordinates_product : (a b : ℤ) → IsWithin (2 ^ 31) a → IsWithin (2 ^ 31) b → unsigned_abs (a *ℤ b) ≤ 2 ^ 62
@@ -45,12 +46,6 @@ pub sum_kept : (x y : ℤ) (m n : ℕ) → unsigned_abs x ≤ m → unsigned_abs
 sum_kept x y m n h k l =
     let p : unsigned_abs (x +ℤ y) ≤ m + n = sum_size x y m n h k in
     rw (size_kept y (omega arith)) (size_kept (x +ℤ y) (omega arith))
-
--- what is left of a list, with its next element told apart
-pub rest_from : (rest : List Point) (i : ℕ) (point : Point) → i < length rest → point ≡ get_or rest i point → drop i rest ≡ point ∷ drop (i + 1) rest
-rest_from rest i point l f =
-    drop-cons rest i point l ∙ ap (λ (p : Point). p ∷ drop (suc i) rest) (sym f)
-    ∙ ap (λ (n : ℕ). point ∷ drop n rest) (sym (add-one i))
 
 -- an edge goes over from what is left to what is done
 pub area_step : (first previous point : Point) (rest : List Point) (i : ℕ) (s a x : ℤ) → i < length rest →

@@ -24,13 +24,14 @@ ghost use Rattle.mesh_outline.specs.Resolved.{DoAreasFit};
 
 use crate::builder::OutlineBuilder;
 use crate::kind::{ContourKind, contour_kinds};
-use crate::resolve::{add_shapes, fill_of};
+use crate::resolve::fill_of;
 use mesh_below::below::{FillRule, IntOverlayOptions, Overlay, OverlayRule};
 use mesh_below::nearness::{NearShapes, SplitCount, SplitError};
 use mesh_join::style::IntOutlineStyle;
 use mesh_num::num::{IntNumber, IntPoint};
 use mesh_num::shape::resource::IntShapeResource;
 use mesh_num::shape::segment::Segment;
+use mesh_offset::segments::add_shapes;
 use mesh_offset::error::IntNearnessError;
 use std::alloc::Global;
 

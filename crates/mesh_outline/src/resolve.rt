@@ -1,26 +1,24 @@
 //! The first step of an outline: each contour is resolved alone.
 
-ghost use Rattle.std.specs.Prelude.{◌≡◌, [], ◌∷◌, map, OnOk, IfOk};
-ghost use Rattle.std.specs.List.{All, flat_map};
-ghost use Rattle.mesh_num.specs.Paths.{paths_of, shapes_of};
+ghost use Rattle.std.specs.Prelude.{◌≡◌, map, OnOk, IfOk};
+ghost use Rattle.std.specs.List.{All};
+ghost use Rattle.mesh_num.specs.Paths.{shapes_of};
 ghost use Rattle.mesh_num.specs.Rectangle.{IsSafeWidened};
-ghost use Rattle.mesh_plane.specs.Winding.{boundary};
 ghost use Rattle.mesh_join.specs.Joins.{outline_padding};
 ghost use Rattle.mesh_join.specs.Styles.{style_of};
 ghost use Rattle.mesh_offset.specs.Padding.{ArePathsSafe};
-ghost use Rattle.mesh_offset.specs.Adding.{answer_edges};
 ghost use Rattle.mesh_outline.specs.Building.{IsMovable};
 ghost use Rattle.mesh_outline.specs.Kinds.{contour_kind, kind_fill};
-ghost use Rattle.mesh_outline.specs.Private.Given.{AddsInSense, AddsAnswer, AddsGiven, AreGiven, ComesAlone};
+ghost use Rattle.mesh_outline.specs.Private.Given.{AddsAnswer, AddsGiven, AreGiven, ComesAlone};
 
 use crate::builder::OutlineBuilder;
 use crate::kind::ContourKind;
 use mesh_below::below::{FillRule, Overlay, OverlayAnswer, OverlayRule};
 use mesh_join::style::IntOutlineStyle;
 use mesh_num::num::{IntNumber, IntPoint};
-use mesh_num::shape::buffer::IntShapes;
 use mesh_num::shape::resource::IntShapeResource;
-use mesh_num::shape::segment::{Segment, SubjectSegments};
+use mesh_num::shape::segment::Segment;
+use mesh_offset::segments::add_shapes;
 use std::alloc::{AllocError, Global};
 
 /// The segments of what all contours of the source, of these kinds, give, one contour after another.
@@ -108,68 +106,4 @@ pub(crate) fn resolved_alone<I: IntNumber>(
     builder.build(path, &mut built)?;
     let answer = Overlay::with_segments(built).overlay_answer(OverlayRule::Subject, fill)?;
     Ok(answer)
-}
-
-/// Adds the edges of all contours of shapes.
-pub(crate) fn add_shapes<I: IntNumber>(
-    shapes: &IntShapes<I>,
-    fill: FillRule,
-    segments: &mut Vec<Segment<I>>,
-) -> Result<(), AllocError>
-    ensures { OnOk result (AddsInSense fill segments.old.items segments.new.items
-        (answer_edges (shapes_of shapes.now.items))) }
-{
-    for shape in shapes {
-        add_shape(shape, fill, segments)?;
-    }
-    Ok(())
-}
-
-/// Adds the edges of the contours of one shape.
-fn add_shape<I: IntNumber>(
-    shape: &Vec<Vec<IntPoint<I>>>,
-    fill: FillRule,
-    segments: &mut Vec<Segment<I>>,
-) -> Result<(), AllocError>
-    ensures { OnOk result (AddsInSense fill segments.old.items segments.new.items
-        (flat_map boundary (paths_of shape.now.items))) }
-{
-    for contour in shape {
-        add_closed(contour.as_slice(), fill, segments)?;
-    }
-    Ok(())
-}
-
-/// Adds the edges of the closed contour through these points.
-fn add_closed<I: IntNumber>(
-    contour: &[IntPoint<I>],
-    fill: FillRule,
-    segments: &mut Vec<Segment<I>>,
-) -> Result<(), AllocError>
-    ensures { OnOk result (AddsInSense fill segments.old.items segments.new.items (boundary contour.now)) }
-{
-    let Some((first, rest)) = contour.split_first() else {
-        return Ok(());
-    };
-    let mut previous = *first;
-    for point in rest {
-        add_edge(previous, *point, fill, segments)?;
-        previous = *point;
-    }
-    add_edge(previous, *first, fill, segments)
-}
-
-/// Adds one edge, or nothing where its ends are one point.
-fn add_edge<I: IntNumber>(
-    start: IntPoint<I>,
-    end: IntPoint<I>,
-    fill: FillRule,
-    segments: &mut Vec<Segment<I>>,
-) -> Result<(), AllocError>
-    ensures { OnOk result (AddsInSense fill segments.old.items segments.new.items ((start, end) ∷ [])) }
-{
-    match fill {
-        FillRule::Positive => segments.push_non_degenerate(start, end),
-        FillRule::Negative => segments.push_non_degenerate(end, start),
-    }
 }

@@ -23,7 +23,7 @@ use crate::bounds_apart::are_apart;
 use crate::builder::OutlineBuilder;
 use crate::gather::gather_all;
 use crate::kind::{ContourKind, contour_kinds};
-use crate::resolve::{add_shapes, given_segments, resolved_alone};
+use crate::resolve::{given_segments, resolved_alone};
 use mesh_below::below::{FillRule, IntOverlayOptions, Overlay, OverlayRule, arranged};
 use mesh_join::join::Join;
 use mesh_join::style::IntOutlineStyle;
@@ -31,6 +31,7 @@ use mesh_num::num::{IntNumber, IntPoint, IntRect};
 use mesh_num::shape::buffer::IntShapes;
 use mesh_num::shape::resource::IntShapeResource;
 use mesh_num::shape::segment::Segment;
+use mesh_offset::segments::add_shapes;
 use mesh_offset::error::IntOutlineError;
 use std::alloc::{AllocError, Global};
 

@@ -14,10 +14,6 @@ use Rattle.mesh_offset.specs.Adding.{in_sense, answer_edges}
 use Rattle.mesh_offset.specs.Built.{AddsClosed}
 use Rattle.mesh_outline.specs.Resolved.{IsAnswerAlone, Gives, Give}
 
--- the vector `new` holds what `old` held, and then the segments of these edges, as they are given in this sense
-abbrev pub AddsInSense : FillRule → List SignedEdge → List SignedEdge → List Edge → Type 0
-AddsInSense fill old new edges = new ≡ old ++ segments_of (in_sense fill edges)
-
 -- what comes of one contour that moves so and is resolved alone: an answer, in the safe range, which is settled where
 -- `settled` is true, and whose edges are their own boundary where `own` is true
 pub record ComesAlone (unit : ℕ) (way : OffsetJoin) (fill : FillRule) (contour : List Point)

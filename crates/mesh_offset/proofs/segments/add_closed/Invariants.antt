@@ -2,7 +2,7 @@ use Rattle.std.proofs.Common.{◌≡◌, ◌++◌, drop}
 use Rattle.mesh_num.specs.Segments.{segments_of}
 use Rattle.mesh_plane.specs.Winding.{route}
 use Rattle.mesh_offset.specs.Adding.{in_sense}
-use Rattle.mesh_outline.proofs.resolve.add_closed.Given as goal
+use Rattle.mesh_offset.proofs.segments.add_closed.Given as goal
 
 -- what is added and what is left make up the contour
 abbrev pub invariant-loop-point : goal.invariant-loop-point

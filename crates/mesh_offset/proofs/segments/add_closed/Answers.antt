@@ -1,7 +1,7 @@
 -- One edge after another.
 use Rattle.mesh_offset.proofs.Adding.{on_ok_then}
-use Rattle.mesh_outline.proofs.Adding.{closed_step, closed_end}
-use Rattle.mesh_outline.proofs.resolve.add_closed.Goals as goal
+use Rattle.mesh_offset.proofs.Adding.{closed_step, closed_end}
+use Rattle.mesh_offset.proofs.segments.add_closed.Goals as goal
 
 pub loop-point-preserved : goal.loop-point-preserved
 loop-point-preserved g c =

@@ -4,7 +4,7 @@ use Rattle.mesh_num.specs.Paths.{paths_of}
 use Rattle.mesh_num.specs.Segments.{segments_of}
 use Rattle.mesh_plane.specs.Winding.{boundary}
 use Rattle.mesh_offset.specs.Adding.{in_sense}
-use Rattle.mesh_outline.proofs.resolve.add_shape.Given as goal
+use Rattle.mesh_offset.proofs.segments.add_shape.Given as goal
 
 -- the edges of the contours so far
 abbrev pub invariant-loop-contour : goal.invariant-loop-contour

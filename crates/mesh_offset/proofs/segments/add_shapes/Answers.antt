@@ -3,7 +3,7 @@ use Rattle.std.proofs.Common.{◌++◌, sym, ap, ◌∙◌}
 use Rattle.std.proofs.lemmas.List.{append-nil}
 use Rattle.mesh_num.specs.Segments.{segments_of}
 use Rattle.mesh_offset.proofs.Adding.{in_sense-none, shape_more, shapes_all}
-use Rattle.mesh_outline.proofs.resolve.add_shapes.Goals as goal
+use Rattle.mesh_offset.proofs.segments.add_shapes.Goals as goal
 
 pub loop-shape-init : goal.loop-shape-init
 loop-shape-init g c = sym (ap (λ es. c.args.segments.now.items ++ segments_of es) (in_sense-none c.args.fill) ∙ append-nil c.args.segments.now.items)

@@ -5,7 +5,7 @@ use Rattle.mesh_num.specs.Segments.{segments_of}
 use Rattle.mesh_plane.specs.Winding.{boundary}
 use Rattle.mesh_offset.specs.Adding.{in_sense}
 use Rattle.mesh_offset.proofs.Adding.{in_sense-none, contour_more, contours_all}
-use Rattle.mesh_outline.proofs.resolve.add_shape.Goals as goal
+use Rattle.mesh_offset.proofs.segments.add_shape.Goals as goal
 
 pub loop-contour-init : goal.loop-contour-init
 loop-contour-init g c = sym (ap (λ es. c.args.segments.now.items ++ segments_of es) (in_sense-none c.args.fill) ∙ append-nil c.args.segments.now.items)

@@ -3,7 +3,7 @@ use Rattle.mesh_num.specs.Paths.{shapes_of}
 use Rattle.mesh_num.specs.Segments.{segments_of}
 use Rattle.mesh_offset.specs.Adding.{in_sense}
 use Rattle.mesh_offset.specs.Adding.{answer_edges}
-use Rattle.mesh_outline.proofs.resolve.add_shapes.Given as goal
+use Rattle.mesh_offset.proofs.segments.add_shapes.Given as goal
 
 -- the edges of the shapes so far
 abbrev pub invariant-loop-shape : goal.invariant-loop-shape

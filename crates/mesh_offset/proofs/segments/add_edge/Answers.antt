@@ -1,7 +1,7 @@
 -- One edge, as it is or the other way about.
 use Rattle.mesh_offset.proofs.Adding.{on_ok_then}
-use Rattle.mesh_outline.proofs.Adding.{edge_added, edge_added_back}
-use Rattle.mesh_outline.proofs.resolve.add_edge.Goals as goal
+use Rattle.mesh_offset.proofs.Adding.{edge_added, edge_added_back}
+use Rattle.mesh_offset.proofs.segments.add_edge.Goals as goal
 
 pub returns-in-Positive : goal.returns-in-Positive
 returns-in-Positive g c =
