@@ -3,6 +3,7 @@ pub mod Apart
 pub mod Counting
 pub mod Drawn
 pub mod ManyPaths
+pub mod Occurring
 pub mod Padding
 pub mod PaddingBounds
 pub mod ProperEdges

@@ -41,7 +41,8 @@ use Rattle.mesh_outline.specs.Outline.{outline_edges}
 use Rattle.mesh_outline.specs.Regions.{AreOutlineRegions, AreRegionsAlone, AreRegionsEach, OutsideBentAlone, OutsideBentEach, more_fill}
 use Rattle.mesh_outline.specs.Resolved.{Gives, Give, fill_for}
 use Rattle.mesh_outline.proofs.Final.{alone_closed}
-use Rattle.mesh_outline.proofs.NearRegions.{drawn_moved, kept, permuted, sensed}
+use Rattle.mesh_offset.proofs.Occurring.{kept, permuted, sensed}
+use Rattle.mesh_outline.proofs.NearRegions.{drawn_moved}
 
 -- ---- lines
 

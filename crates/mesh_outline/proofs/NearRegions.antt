@@ -1,36 +1,33 @@
 -- Lemmas over points and lists: outlines are exact away from the drawn edges.
-use Rattle.std.proofs.Common.{◌≡◌, ⊎_elim, ℕ, ◌+◌, ◌^◌, ◌≤◌, ◌<◌, Bool, true, false, cond, not, List, [], ◌∷◌, length, map, refl, sym, ◌∙◌, ap, subst, arith}
+use Rattle.std.proofs.Common.{◌≡◌, ⊎_elim, ℕ, ◌+◌, ◌^◌, ◌≤◌, ◌<◌, true, not, List, [], ◌∷◌, length, map, refl, sym, ◌∙◌, ap, subst, arith}
 use Rattle.std.specs.Prelude.{ℤ, pos, ◌-ℤ◌, Some, count_by, int_lt}
-use Rattle.std.specs.List.{All, AllZip, filter, flat_map}
-use Rattle.std.specs.List.Sorted.{IsPermutation}
+use Rattle.std.specs.List.{All, AllZip, flat_map}
 use Rattle.std.proofs.lemmas.Bool.{false≢true, or_cases, or_left, or_right}
 use Rattle.std.proofs.lemmas.List.Elements.{All-head, All-tail}
 use Rattle.std.proofs.lemmas.List.Folds.{flat_map-map}
 use Rattle.mesh_plane.specs.Plane.{Point, Edge}
 use Rattle.mesh_plane.specs.Winding.{crossing_on, same_point, winding}
 use Rattle.mesh_plane.proofs.Crossings.{crossing_on_odd}
-use Rattle.mesh_plane.proofs.Sums.{sum_of_permutation, total_permutation}
+use Rattle.mesh_plane.proofs.Sums.{total_permutation}
 use Rattle.mesh_num.specs.Segments.{proper_edges}
 use Rattle.mesh_lattice.specs.Counted.{bit}
 use Rattle.mesh_lattice.specs.FillRules.{filled}
 use Rattle.mesh_lattice.specs.Nearness.{IsFarFrom, StaysNear}
-use Rattle.mesh_lattice.specs.Split.{back, occurs, same_ends}
-use Rattle.mesh_lattice.specs.declared.fill.FillRule.{FillRule}
-use Rattle.mesh_lattice.specs.declared.fill.FillRule.TheVariants.{Positive, Negative}
-use Rattle.mesh_lattice.proofs.Ends.{ends_turned}
+use Rattle.mesh_lattice.specs.Split.{occurs}
+use Rattle.mesh_lattice.specs.declared.fill.FillRule.TheVariants.{Positive}
 use Rattle.mesh_lattice.specs.Clean.{IsOn, refined_edge}
 use Rattle.mesh_lattice.proofs.NearEdges.{far_from_through, far_less, near_through, stays_more}
 use Rattle.mesh_lattice.proofs.Splits.{occurs_append}
 use Rattle.mesh_shapes.specs.Contours.{double_area}
 use Rattle.mesh_shapes.specs.Resolution.{Choices}
 use Rattle.mesh_below.specs.Nearness.{AreCountedRegions}
-use Rattle.mesh_below.proofs.Merging.{same_occurs}
 use Rattle.mesh_join.specs.Styles.{OffsetJoin, OutlineStyle}
-use Rattle.mesh_offset.specs.Adding.{answer_edges, in_sense}
+use Rattle.mesh_offset.specs.Adding.{answer_edges}
 use Rattle.mesh_split.specs.declared.count.SplitCount.{SplitCount}
 use Rattle.mesh_offset.specs.Counting.{CountsStanding}
 use Rattle.mesh_offset.specs.Regions.{WindsOnceWhere}
 use Rattle.mesh_offset.proofs.Counting.{standing_more, standing_of_one}
+use Rattle.mesh_offset.proofs.Occurring.{kept, permuted, sensed}
 use Rattle.mesh_offset.proofs.ProperEdges.{proper_edges_total}
 use Rattle.mesh_outline.specs.Building.{style_for}
 use Rattle.mesh_outline.specs.Nearness.{AreCountedOutlineRegions, GivesNear, GiveNear, IsOutlineDrawing, ToldGive, all_drawn, drawn_of, edges_moved, first_splits}
@@ -38,30 +35,6 @@ use Rattle.mesh_outline.specs.Outline.{outline_edges}
 use Rattle.mesh_outline.specs.Regions.{is_cleared, is_filled, more_fill}
 use Rattle.mesh_outline.specs.Resolved.{Gives, Give, fill_for}
 use Rattle.mesh_outline.proofs.Regions.{above_less, ignored_counts, moved_counts, one_more}
-
--- ---- what stands in lists of edges
-
-pub permuted : (es gs : List Edge) → IsPermutation es gs → (e : Edge) → occurs e es ≡ true → occurs e gs ≡ true
-permuted es gs same e o = sym (same_occurs es gs (λ (f : Edge → ℤ). sym (sum_of_permutation f es gs same)) e) ∙ o
-
-pub sensed : (fill : FillRule) (es : List Edge) (e : Edge) → occurs e (in_sense fill es) ≡ true → occurs e es ≡ true
-sensed Positive es e o = o
-sensed Negative [] e o = o
-sensed Negative (f ∷ es) e o =
-    ⊎_elim
-    (λ (t : same_ends e (back f) ≡ true). or_left (same_ends e f) (occurs e es) (sym (ends_turned e f) ∙ t))
-    (λ (t : occurs e (map back es) ≡ true). or_right (same_ends e f) (occurs e es) (sensed Negative es e t))
-    (or_cases (same_ends e (back f)) (occurs e (map back es)) o)
-
-pub kept : (p : Edge → Bool) (es : List Edge) (e : Edge) → occurs e (filter p es) ≡ true → occurs e es ≡ true
-kept p [] e o = o
-kept p (f ∷ es) e o = by (p f) o (kept p es e)
-  where
-    by : (b : Bool) → occurs e (cond b (f ∷ filter p es) (filter p es)) ≡ true → (occurs e (filter p es) ≡ true → occurs e es ≡ true) → occurs e (f ∷ es) ≡ true
-    by true h rest =
-        ⊎_elim (or_left (same_ends e f) (occurs e es)) (λ (t : occurs e (filter p es) ≡ true). or_right (same_ends e f) (occurs e es) (rest t))
-        (or_cases (same_ends e f) (occurs e (filter p es)) h)
-    by false h rest = or_right (same_ends e f) (occurs e es) (rest h)
 
 -- the edges of a contour that moves so are those that are drawn of it
 pub drawn_moved : (unit : ℕ) (style : OutlineStyle) (contour : List Point) (way : OffsetJoin) → style_for style (double_area contour) ≡ Some way →

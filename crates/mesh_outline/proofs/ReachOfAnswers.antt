@@ -1,5 +1,5 @@
 -- Lemmas over points and lists: how far the answer of an outline reaches.
-use Rattle.std.proofs.Common.{◌≡◌, ◌≢◌, sym, ℕ, ◌≤◌, ◌^◌, ◌⊎◌, inl, inr, ⊎_elim, List, [], ◌∷◌, Bool, true, false}
+use Rattle.std.proofs.Common.{◌≡◌, sym, ℕ, ◌≤◌, ◌^◌, ◌⊎◌, inl, inr, ⊎_elim, List, [], ◌∷◌, Bool, true, false}
 use Rattle.std.proofs.Common.{cond, ◌&&◌, refl, ◌∙◌, ap, arith}
 use Rattle.std.specs.Prelude.{ℤ, pos, int_lt, count_by}
 use Rattle.std.specs.List.{All, Contains}

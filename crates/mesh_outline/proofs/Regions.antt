@@ -1,5 +1,5 @@
 -- Lemmas over points and lists: outlines are regions.
-use Rattle.std.proofs.Common.{◌≡◌, ℕ, ◌≤◌, ◌<◌, ◌^◌, Bool, true, false, cond, ◌&&◌, List, [], ◌∷◌, ◌++◌, map, refl, sym, ◌∙◌, ap, subst, arith}
+use Rattle.std.proofs.Common.{◌≡◌, ℕ, ◌≤◌, ◌<◌, ◌^◌, Bool, true, false, cond, ◌&&◌, List, [], ◌∷◌, ◌++◌, refl, sym, ◌∙◌, ap, subst, arith}
 use Rattle.std.specs.Prelude.{ℤ, pos, ◌+◌, ◌+ℤ◌, ◌-ℤ◌, neg_ℤ, Option, Some, None, int_lt, count_by}
 use Rattle.std.specs.List.{AllZip, flat_map}
 use Rattle.std.proofs.lemmas.Int.{ints}
@@ -13,7 +13,6 @@ use Rattle.mesh_plane.proofs.Whole.{linear}
 use Rattle.mesh_num.specs.Segments.{proper_edges}
 use Rattle.mesh_lattice.specs.Counted.{bit}
 use Rattle.mesh_lattice.specs.FillRules.{filled}
-use Rattle.mesh_lattice.specs.Split.{back}
 use Rattle.mesh_lattice.specs.declared.fill.FillRule.{FillRule}
 use Rattle.mesh_lattice.specs.declared.fill.FillRule.TheVariants.{Positive}
 use Rattle.mesh_below.specs.Regions.{OutsideBent}
@@ -23,6 +22,7 @@ use Rattle.mesh_below.specs.Laws.{AreRegions}
 use Rattle.mesh_join.specs.Styles.{OffsetJoin, OutlineStyle, outer, inner}
 use Rattle.mesh_offset.specs.Adding.{answer_edges, in_sense}
 use Rattle.mesh_offset.specs.Regions.{WindsOnceWhere}
+use Rattle.mesh_offset.proofs.Occurring.{back_total}
 use Rattle.mesh_offset.proofs.ProperEdges.{proper_edges_total}
 use Rattle.mesh_outline.specs.Kinds.{kind_fill, way_for}
 use Rattle.mesh_outline.specs.declared.kind.ContourKind.TheVariants.{Outer, Hole, Ignored}
@@ -31,11 +31,6 @@ use Rattle.mesh_outline.specs.Regions.{AreOutlineRegions, AreRegionsAlone, AreRe
 use Rattle.mesh_outline.specs.Building.{style_for}
 use Rattle.mesh_outline.specs.Resolved.{Gives, IsAnswerAlone, IsOutline, fill_for}
 use Rattle.mesh_outline.proofs.Final.{alone_regions, outline_regions}
-
--- edges the other way about wind the other way
-back_total : (m : ℕ) (q : Point) (es : List Edge) → winding m q (map back es) ≡ neg_ℤ (winding m q es)
-back_total m q [] = refl
-back_total m q (e ∷ es) = omega (arith, linear, back_total m q es, crossing_on_odd m q e.0 e.1)
 
 -- the ways that an outer boundary and a hole move
 way_of : {A : Type 0} (x y : A) → Some x ≡ Some y → x ≡ y
