@@ -1,0 +1,6 @@
+pub mod Booleans
+pub mod Nearness
+pub mod Private
+pub mod Regions
+pub mod Rules
+pub mod Zones

@@ -1,0 +1,2 @@
+-- What stands between the steps: only private contracts read these.
+pub mod Steps
