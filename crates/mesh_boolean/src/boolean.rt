@@ -1,8 +1,6 @@
 //! Booleans of contours: union, intersection, difference and exclusive or.
 
-ghost use Rattle.std.specs.Prelude.{◌≡◌, ◌↔◌, ◌≤◌, ◌^◌, true, IsOk, IfOk, OnOk, OnErr};
-ghost use Rattle.std.specs.List.{All};
-ghost use Rattle.mesh_plane.specs.Bounds.{IsSafe};
+ghost use Rattle.std.specs.Prelude.{◌≡◌, ◌↔◌, ◌≤◌, ◌^◌, IsOk, IfOk, OnOk, OnErr};
 ghost use Rattle.mesh_num.specs.Paths.{shapes_of};
 ghost use Rattle.mesh_lattice.specs.Reach.{ArePointsSafe};
 ghost use Rattle.mesh_split.specs.Counting.{IsPastLimit, IsWithinLimit};
@@ -17,9 +15,10 @@ use crate::operand::{combined, region_of};
 use crate::rule::{BooleanFill, BooleanRule, Way, way_of};
 use mesh_below::below::{FillRule, IntOverlayOptions, WindingRule};
 use mesh_below::nearness::{NearShapes, SplitCount};
-use mesh_num::num::{IntNumber, IntPoint, IntRect};
+use mesh_num::num::IntNumber;
 use mesh_num::shape::buffer::IntShapes;
 use mesh_num::shape::resource::IntShapeResource;
+use mesh_offset::bounds::validate_bounds;
 use mesh_offset::error::{IntNearnessError, IntOutlineError};
 use std::alloc::{AllocError, Global};
 
@@ -35,37 +34,7 @@ pub fn validate_overlay<I: IntNumber, S: IntShapeResource<I>>(
     ensures safe { IsOk result ↔ ArePathsInRange I.unit (S.paths source.now) }
     ensures error { OnErr result (result ≡ Err IntOutlineError.CoordinateOutOfRange) }
 {
-    for index in 0..source.path_count() {
-        if !is_path_in_range(source.path_at(index)) {
-            return Err(IntOutlineError::CoordinateOutOfRange);
-        }
-    }
-    Ok(())
-}
-
-/// Whether each of the points is in the safe range.
-fn is_path_in_range<I: IntNumber>(path: &[IntPoint<I>]) -> bool
-    ensures { result ≡ true ↔ All (IsSafe I.unit) path.now }
-{
-    for point in path {
-        if !is_in_range(*point) {
-            return false;
-        }
-    }
-    true
-}
-
-/// Whether the point is in the safe range.
-fn is_in_range<I: IntNumber>(point: IntPoint<I>) -> bool
-    ensures { result ≡ true ↔ IsSafe I.unit point }
-{
-    let rectangle = IntRect {
-        min_x: point.x,
-        max_x: point.x,
-        min_y: point.y,
-        max_y: point.y,
-    };
-    rectangle.is_in_safe_range()
+    validate_bounds(source, I::ZERO.to_wide())
 }
 
 /// The points that a boolean of the subject and the clip keeps, as clean polygons: each an outer contour followed by its

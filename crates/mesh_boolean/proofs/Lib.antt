@@ -1,0 +1,4 @@
+pub mod Adding
+pub mod Combining
+pub mod Near
+pub mod Ranges
