@@ -24,6 +24,11 @@ paths_closed unit paths old new none safe added = record {
   added = rw none at added;
 }
 
+-- those of one answer
+pub one_closed : (unit : ℕ) (shapes : List (List (List Point))) (old new : List SignedEdge) → old ≡ [] → ArePointsSafe unit shapes →
+    AddsInSense Positive old new (answer_edges shapes) → AddsClosed unit [] new (answer_edges shapes)
+one_closed unit shapes old new none safe added = rw none at (adds_answer unit Positive shapes old new safe added)
+
 -- those of two answers
 pub both_closed : (unit : ℕ) (sense : FillRule) (first second : List (List (List Point))) (old mid new : List SignedEdge) → old ≡ [] →
     ArePointsSafe unit first → ArePointsSafe unit second → AddsInSense Positive old mid (answer_edges first) → AddsInSense sense mid new (answer_edges second) →

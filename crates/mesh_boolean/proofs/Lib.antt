@@ -2,3 +2,4 @@ pub mod Adding
 pub mod Combining
 pub mod Near
 pub mod Ranges
+pub mod ZoneEdges

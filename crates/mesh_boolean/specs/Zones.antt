@@ -1,14 +1,18 @@
 -- How often zones cover the plane, and booleans of polygons that wind once round what they hold.
-use Rattle.std.specs.Prelude.{ℕ, ◌<◌, ◌⊎◌, ◌≡◌, Bool, List, pos, max, nat_le, count_by}
+use Rattle.std.specs.Prelude.{ℕ, ◌<◌, ◌⊎◌, ◌≡◌, Bool, false, List, map, ℤ, pos, max, nat_le, count_by, Vec}
 use Rattle.std.specs.List.{flat_map}
+use Rattle.std.specs.declared.alloc.Global.{Global}
 use Rattle.mesh_plane.specs.Plane.{Point, Edge}
 use Rattle.mesh_plane.specs.Winding.{winding}
+use Rattle.mesh_num.specs.Paths.{shapes_of}
 use Rattle.mesh_num.specs.Segments.{proper_edges}
 use Rattle.mesh_lattice.specs.FillRules.{filled_by}
 use Rattle.mesh_lattice.specs.declared.fill.WindingRule.{WindingRule}
 use Rattle.mesh_lattice.specs.declared.fill.WindingRule.TheVariants as winding_rule
 use Rattle.mesh_regions.specs.Regions.{OutsideBent}
+use Rattle.mesh_lattice.specs.Nearness.{IsFarFrom}
 use Rattle.mesh_below.specs.Laws.{AreRegions}
+use Rattle.mesh_below.specs.Nearness.{AreRegionsBeyond}
 use Rattle.mesh_shapes.specs.Resolution.{Choices}
 use Rattle.mesh_offset.specs.Adding.{answer_edges}
 use Rattle.mesh_offset.specs.Regions.{WindsOnceWhere}
@@ -25,6 +29,12 @@ abbrev pub WindOnce : List (List (List Point)) → Type 0
 WindOnce answer =
     (m : ℕ) → 0 < m → (q : Point)
     → (winding m q (answer_edges answer) ≡ pos 0) ⊎ (winding m q (answer_edges answer) ≡ pos 1)
+
+-- answers that leave nothing out and run counterclockwise do so
+abbrev pub AnswersWindOnce : Type 0
+AnswersWindOnce =
+    (edges : List Edge) (fill : ℤ → Bool) (options : Choices) (answer : List (List (List Point)))
+    → AreRegions edges fill options answer → options.least_area ≡ 0 → options.clockwise ≡ false → WindOnce answer
 
 -- the edges that are resolved of two lists of polygons, and the rule by which
 abbrev pub edges_by : Way → List (List (List Point)) → List (List (List Point)) → List Edge
@@ -44,6 +54,18 @@ pub record AreOverlaidRegions (rule : BooleanRule) (first second : List (List (L
   pub regions : AreRegions (edges_by (way_of rule) first second) (filled_by (rule_by (way_of rule))) choices answer
   pub fills : WindsOnceWhere (λ m q. combine rule (holds_point first m q) (holds_point second m q))
       (λ m q. OutsideBent regions.resolution.splits (edges_by (way_of rule) first second) m q) choices answer
+
+-- the same with an error bound, in 64ths of a grid unit: at each point farther than `k` from each edge of the polygons the
+-- answer winds once where the boolean keeps the point
+pub record AreOverlaidRegionsBeyond (k : ℕ) (rule : BooleanRule) (first second : List (List (List Point)))
+    (choices : Choices) (answer : List (List (List Point))) : Type 0 where
+  pub beyond : AreRegionsBeyond k (edges_by (way_of rule) first second) (filled_by (rule_by (way_of rule))) choices answer
+  pub fills : WindsOnceWhere (λ m q. combine rule (holds_point first m q) (holds_point second m q))
+      (λ m q. IsFarFrom k m (edges_by (way_of rule) first second) q) choices answer
+
+-- zones as the code holds them
+abbrev pub zones_of : List (Vec (Vec (Vec Point Global) Global) Global) → List (List (List (List Point)))
+zones_of zones = map (λ zone. shapes_of zone.items) zones
 
 -- the edges of all zones
 abbrev pub zone_edges : List (List (List (List Point))) → List Edge

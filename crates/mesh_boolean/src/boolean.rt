@@ -90,18 +90,9 @@ fn both<I: IntNumber, S: IntShapeResource<I>, C: IntShapeResource<I>>(
         (choices_of I.WideUInt.value options) (shapes_of shapes.items)) }
     ensures safe { IfOk result (λ shapes. ArePointsSafe I.unit (shapes_of shapes.items)) }
 {
-    let first = region_of(
-        alloc,
-        subject,
-        fill.subject.winding_rule(),
-        IntOverlayOptions::new(),
-    )?;
-    let second = region_of(
-        alloc,
-        clip,
-        fill.clip.winding_rule(),
-        IntOverlayOptions::new(),
-    )?;
+    let plain = IntOverlayOptions::new();
+    let first = region_of(alloc, subject, fill.subject.winding_rule(), plain)?;
+    let second = region_of(alloc, clip, fill.clip.winding_rule(), plain)?;
     combined(alloc, &first, &second, sense, sum, options)
 }
 

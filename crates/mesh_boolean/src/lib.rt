@@ -11,6 +11,8 @@
 #![tactic(auto)]
 
 pub mod boolean;
+pub mod laws;
 mod nearness;
 mod operand;
 pub mod rule;
+pub mod zones;

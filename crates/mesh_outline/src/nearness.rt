@@ -31,8 +31,8 @@ use mesh_join::style::IntOutlineStyle;
 use mesh_num::num::{IntNumber, IntPoint};
 use mesh_num::shape::resource::IntShapeResource;
 use mesh_num::shape::segment::Segment;
-use mesh_offset::segments::add_shapes;
 use mesh_offset::error::IntNearnessError;
+use mesh_offset::segments::add_shapes;
 use std::alloc::Global;
 
 /// What contours give, and the greatest nearness of their own resolvings.

@@ -31,8 +31,8 @@ use mesh_num::num::{IntNumber, IntPoint, IntRect};
 use mesh_num::shape::buffer::IntShapes;
 use mesh_num::shape::resource::IntShapeResource;
 use mesh_num::shape::segment::Segment;
-use mesh_offset::segments::add_shapes;
 use mesh_offset::error::IntOutlineError;
+use mesh_offset::segments::add_shapes;
 use std::alloc::{AllocError, Global};
 
 /// The outline of the source's contours, with these options. `CoordinateOutOfRange` is answered exactly where a double

@@ -14,9 +14,10 @@ pub returns-in-Subject-clause-standing : goal.returns-in-Subject-clause-standing
 returns-in-Subject-clause-standing g c =
     IfOk-weaker c.near_region.result _ _
     (λ near a. boolean_counted near.nearness (operands_of c.args.fill (g.S.IntShapeResource.paths c.args.subject.now) (g.C.IntShapeResource.paths c.args.clip.now)) (choices_of g.I.WideUInt.WideUnsigned.value c.args.options) (shapes_of near.shapes.items) c.args.rule way.Subject c.args.count.now c.near_region.new.count
-    (sym c.in-Subject.is ∙ c.way_of.ensures)
-    (a.beyond,
-    alone_counted near.nearness (operands_of c.args.fill (g.S.IntShapeResource.paths c.args.subject.now) (g.C.IntShapeResource.paths c.args.clip.now)) (closed_edges (g.S.IntShapeResource.paths c.args.subject.now)) _ (choices_of g.I.WideUInt.WideUnsigned.value c.args.options) (shapes_of near.shapes.items) _ _ IsBooleanDrawing.subject_alone a))
+    (sym c.in-Subject.is ∙ c.way_of.ensures) (
+      a.beyond,
+      alone_counted near.nearness (operands_of c.args.fill (g.S.IntShapeResource.paths c.args.subject.now) (g.C.IntShapeResource.paths c.args.clip.now)) (closed_edges (g.S.IntShapeResource.paths c.args.subject.now)) _ (choices_of g.I.WideUInt.WideUnsigned.value c.args.options) (shapes_of near.shapes.items) _ _ IsBooleanDrawing.subject_alone a,
+    ))
     (rw c.winding_rule.ensures at c.near_region.ensures.standing)
 
 pub returns-in-Subject-clause-counted : goal.returns-in-Subject-clause-counted
@@ -27,9 +28,10 @@ pub returns-in-Clip-clause-standing : goal.returns-in-Clip-clause-standing
 returns-in-Clip-clause-standing g c =
     IfOk-weaker c.near_region-in-Clip.result _ _
     (λ near a. boolean_counted near.nearness (operands_of c.args.fill (g.S.IntShapeResource.paths c.args.subject.now) (g.C.IntShapeResource.paths c.args.clip.now)) (choices_of g.I.WideUInt.WideUnsigned.value c.args.options) (shapes_of near.shapes.items) c.args.rule way.Clip c.args.count.now c.near_region-in-Clip.new.count
-    (sym c.in-Clip.is ∙ c.way_of.ensures)
-    (a.beyond,
-    alone_counted near.nearness (operands_of c.args.fill (g.S.IntShapeResource.paths c.args.subject.now) (g.C.IntShapeResource.paths c.args.clip.now)) (closed_edges (g.C.IntShapeResource.paths c.args.clip.now)) _ (choices_of g.I.WideUInt.WideUnsigned.value c.args.options) (shapes_of near.shapes.items) _ _ IsBooleanDrawing.clip_alone a))
+    (sym c.in-Clip.is ∙ c.way_of.ensures) (
+      a.beyond,
+      alone_counted near.nearness (operands_of c.args.fill (g.S.IntShapeResource.paths c.args.subject.now) (g.C.IntShapeResource.paths c.args.clip.now)) (closed_edges (g.C.IntShapeResource.paths c.args.clip.now)) _ (choices_of g.I.WideUInt.WideUnsigned.value c.args.options) (shapes_of near.shapes.items) _ _ IsBooleanDrawing.clip_alone a,
+    ))
     (rw c.winding_rule-in-Clip.ensures at c.near_region-in-Clip.ensures.standing)
 
 pub returns-in-Clip-clause-counted : goal.returns-in-Clip-clause-counted
