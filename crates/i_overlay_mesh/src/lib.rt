@@ -1,9 +1,9 @@
 //! Polygon offsetting on whole numbers: outlines of contours, strokes of paths, and strokes whose width changes from
-//! vertex to vertex.
+//! vertex to vertex; and booleans of contours and of what offsets return.
 //!
 //! This crate has everything that a caller needs, whichever crate it comes from. The operations are methods of
 //! `IntOutlineOffset`, `IntStrokeOffset` and `IntVariableStrokeOffset` on anything that holds paths, such as a `Vec` of
-//! points. `CALLING.md` shows all of them on one page.
+//! points; booleans are the functions of `boolean` and `zones`. `CALLING.md` shows all of them on one page.
 #![tactic(auto)]
 
 pub mod laws;
@@ -14,6 +14,12 @@ pub mod variable_stroke;
 pub use mesh_below::below::{ContourDirection, IntOverlayOptions, Overlay, OverlayRule};
 pub use mesh_below::fill::FillRule;
 pub use mesh_below::nearness::{NearShapes, SplitCount, SplitError};
+pub use mesh_boolean::boolean::{
+    IntOverlayError, overlay_shapes, overlay_shapes_with_nearness, validate_overlay,
+};
+pub use mesh_boolean::rule::{BooleanFill, BooleanFillRule, BooleanRule};
+pub use mesh_boolean::zones::{coverage, overlay_regions, overlay_regions_with_nearness};
+pub use mesh_boolean::{boolean, zones};
 pub use mesh_clearance::clearance;
 pub use mesh_join::arc::ArcOptions;
 pub use mesh_join::style::{

@@ -123,5 +123,5 @@ fn rectangles_wind_as_they_are_kept(rt: HostRuntime) -> Result<(), Fail> {
         }
     }
     // many points are kept, so the test tests something
-    expect_equal(&(kept > 2_000), &true, &kept)
+    expect_equal(&(kept > 1_000), &true, &kept)
 }

@@ -1,2 +1,3 @@
+pub mod Fills
 pub mod Styles
 pub mod Tracks

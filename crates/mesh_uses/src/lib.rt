@@ -2,6 +2,7 @@
 #![tactic(auto)]
 
 pub mod below;
+pub mod booleans;
 pub mod clearances;
 pub mod edges;
 pub mod join;

@@ -6,6 +6,7 @@ ghost use Rattle.mesh_num.specs.Paths.{contours_of, paths_of, shapes_of};
 ghost use Rattle.mesh_num.specs.Plane.{Point};
 ghost use Rattle.mesh_below.specs.Meeting.{MeetInWholePoints};
 ghost use Rattle.mesh_below.specs.Options.{plain};
+ghost use Rattle.mesh_lattice.specs.Reach.{ArePointsSafe};
 ghost use Rattle.mesh_join.specs.Joins.{outline_padding};
 ghost use Rattle.mesh_join.specs.VariableStyles.{default_variable_style};
 ghost use Rattle.mesh_offset.specs.Padding.{ArePathsSafe};
@@ -42,6 +43,7 @@ pub fn grown(
         (contour.now.items ∷ [])) }
     ensures regions { IfOk result (λ shapes. AreOutlineRegions (2 ^ 30) (bevelled offset) plain
         (contour.now.items ∷ []) (shapes_of shapes.items)) }
+    ensures safe { IfOk result (λ shapes. ArePointsSafe (2 ^ 30) (shapes_of shapes.items)) }
 {
     let style = IntOutlineStyle::new(offset);
     contour.validate_outline(&style)?;
