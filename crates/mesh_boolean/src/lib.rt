@@ -14,5 +14,6 @@ pub mod boolean;
 pub mod laws;
 mod nearness;
 mod operand;
+pub mod overlaps;
 pub mod rule;
 pub mod zones;
