@@ -20,8 +20,8 @@ use Rattle.mesh_lattice.specs.declared.fill.WindingRule.TheVariants as winding_r
 use Rattle.mesh_below.specs.Laws.{AreRegions}
 use Rattle.mesh_shapes.specs.Resolution.{Choices}
 use Rattle.mesh_boolean.specs.Booleans.{both_edges}
-use Rattle.mesh_boolean.specs.Overlaps.{AreBoxesApart, AreCommonRegions, AreOverlaps, AreRectanglesApart, IsOverlap, IsOverlapBefore, IsPairBefore, IsSettled, Overlap, overlap_of, overlaps_of, points_of}
-use Rattle.mesh_boolean.specs.PairsSoFar.{AreBoxes, AreOverlapsBefore}
+use Rattle.mesh_boolean.specs.Overlaps.{AreBoxesApart, AreCommonRegions, AreOverlaps, AreRectanglesApart, IsOverlap, IsOverlapBefore, IsPairBefore, IsDecided, Overlap, overlap_of, overlaps_of, points_of}
+use Rattle.mesh_boolean.specs.Private.PairsSoFar.{AreBoxes, AreOverlapsBefore}
 use Rattle.mesh_boolean.specs.declared.overlaps.ZoneOverlap.{ZoneOverlap}
 
 -- ---- pairs in order
@@ -56,7 +56,7 @@ of_earlier i k l up (inr h) = absurd (omega arith)
 -- ---- pairs settled
 
 module _ (unit : ℕ) (zones : List (List (List (List Point)))) (choices : Choices) where
-  settled_more : (found : List Overlap) (o : Overlap) (k l : ℕ) → IsSettled zones choices found k l → IsSettled zones choices (found ++ o ∷ []) k l
+  settled_more : (found : List Overlap) (o : Overlap) (k l : ℕ) → IsDecided zones choices found k l → IsDecided zones choices (found ++ o ∷ []) k l
   settled_more found o k l (inl h) = inl (h.0, Contains-append_left found (o ∷ []) (k, (l, h.0)) h.1)
   settled_more found o k l (inr h) = inr h
 
@@ -70,7 +70,7 @@ module _ (unit : ℕ) (zones : List (List (List (List Point)))) (choices : Choic
   })
 
   -- this pair is settled already
-  pub next_settled : (i j : ℕ) (found : List Overlap) → IsSettled zones choices found i j → AreOverlapsBefore unit zones choices i j found → AreOverlapsBefore unit zones choices i (j + 1) found
+  pub next_settled : (i j : ℕ) (found : List Overlap) → IsDecided zones choices found i j → AreOverlapsBefore unit zones choices i j found → AreOverlapsBefore unit zones choices i (j + 1) found
   next_settled i j found settled h = record {
     each = h.each;
     safe = h.safe;

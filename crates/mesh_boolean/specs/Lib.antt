@@ -1,7 +1,6 @@
 pub mod Booleans
 pub mod Nearness
 pub mod Overlaps
-pub mod PairsSoFar
 pub mod Private
 pub mod Regions
 pub mod Rules

@@ -69,8 +69,8 @@ abbrev pub IsListed : List Overlap → ℕ → ℕ → Type 0
 IsListed found i j = (answer : List (List (List Point))) × Contains found (i, (j, answer))
 
 -- a pair is listed, or its boxes are apart, or both zones were resolved and have nothing in common
-abbrev pub IsSettled : List (List (List (List Point))) → Choices → List Overlap → ℕ → ℕ → Type 0
-IsSettled zones choices found i j =
+abbrev pub IsDecided : List (List (List (List Point))) → Choices → List Overlap → ℕ → ℕ → Type 0
+IsDecided zones choices found i j =
     IsListed found i j ⊎ (AreBoxesApart (get_or zones i []) (get_or zones j []) ⊎ AreCommonRegions zones choices i j [])
 
 -- the pairs of zones that overlap, each once, in lexicographic order, and where; each other pair has its reason
@@ -78,4 +78,4 @@ pub record AreOverlaps (zones : List (List (List (List Point)))) (choices : Choi
     : Type 0 where
   pub each : All (λ o. IsOverlap zones choices o) found
   pub ordered : AllPairs IsOverlapBefore found
-  pub others : (i j : ℕ) → i < j → j < length zones → IsSettled zones choices found i j
+  pub others : (i j : ℕ) → i < j → j < length zones → IsDecided zones choices found i j

@@ -1,3 +1,4 @@
 -- What stands between the steps: only private contracts read these.
 pub mod Given
+pub mod PairsSoFar
 pub mod Steps

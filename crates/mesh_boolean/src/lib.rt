@@ -2,7 +2,7 @@
 //! plane.
 //!
 //! The calls stand in `boolean`, for contours, each with a fill rule of its own, and in `zones`, for polygons that an
-//! overlay or an offset returned. `rule` says which points a boolean keeps. Each operand is resolved alone, by its fill
+//! overlay or an offset returned; `overlaps` lists which of many zones overlap. `rule` says which points a boolean keeps. Each operand is resolved alone, by its fill
 //! rule, so that it winds once round what it fills; then the edges of both are resolved together, those of the clip as
 //! they are or reversed, by a rule on the sum of both windings.
 //!

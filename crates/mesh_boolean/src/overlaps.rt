@@ -7,7 +7,7 @@ ghost use Rattle.mesh_num.specs.Rectangle.{IsInRectangle};
 ghost use Rattle.mesh_lattice.specs.Reach.{ArePointsSafe};
 ghost use Rattle.mesh_below.specs.Options.{choices_of};
 ghost use Rattle.mesh_boolean.specs.Overlaps.{AreOverlaps, AreRectanglesApart, overlaps_of, points_of};
-ghost use Rattle.mesh_boolean.specs.PairsSoFar.{AreBoxes, AreOverlapsBefore};
+ghost use Rattle.mesh_boolean.specs.Private.PairsSoFar.{AreBoxes, AreOverlapsBefore};
 
 use crate::boolean::IntOverlayError;
 use crate::operand::combined;
@@ -33,8 +33,9 @@ pub struct ZoneOverlap<I: IntNumber> {
 ///
 /// A zone is a list of polygons as an overlay or an offset returned them, outer contours counterclockwise and holes
 /// clockwise. The edges of both zones of a pair are resolved together, with these options, and filled where they wind at
-/// least twice. Zones that touch do not overlap. A pair whose boxes have no point in common is never resolved; the boxes
-/// of any two zones are compared.
+/// least twice. A pair of which nothing is left by then is not listed: zones that touch do not overlap, nor do those
+/// whose common parts are all below the least area of the options. A pair whose boxes have no point in common is never
+/// resolved. The boxes of all pairs are compared: 10,000 zones take 50 million tests.
 ///
 /// Every point of every zone has to be in the safe range, coordinates of a size below 2^14 for `i16` and below 2^30 for
 /// `i32`, in grid units. The only error is `OutOfMemory`: memory was refused.

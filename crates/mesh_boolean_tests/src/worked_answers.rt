@@ -4,6 +4,7 @@ use crate::regions::{expect_in_range, region};
 use mesh_below::below::{ContourDirection, IntOverlayOptions};
 use mesh_below::nearness::SplitCount;
 use mesh_boolean::boolean::{overlay_shapes, overlay_shapes_with_nearness, validate_overlay};
+use mesh_boolean::overlaps::overlaps;
 use mesh_boolean::rule::{BooleanFill, BooleanFillRule, BooleanRule};
 use mesh_boolean::zones::{coverage, overlay_regions, overlay_regions_with_nearness};
 use mesh_test_support::compared::{are_shapes, expect_equal, expect_that};
@@ -339,6 +340,41 @@ const TWICE: Shapes = &[&[&[
     (2, 3),
     (1, 3),
 ]]];
+
+/// Squares that overlap, that touch, and that lie apart.
+#[test]
+fn pairs_that_overlap(rt: HostRuntime) -> Result<(), Fail> {
+    let alloc = rt.alloc();
+    let mut zones = Vec::new(alloc);
+    zones.push(region(
+        alloc,
+        &paths(alloc, &[&[(0i32, 0i32), (4, 0), (4, 4), (0, 4)]])?,
+    )?)?;
+    zones.push(region(
+        alloc,
+        &paths(alloc, &[&[(2i32, 2), (6, 2), (6, 6), (2, 6)]])?,
+    )?)?;
+    zones.push(region(
+        alloc,
+        &paths(alloc, &[&[(4i32, 0), (8, 0), (8, 4), (4, 4)]])?,
+    )?)?;
+    zones.push(region(alloc, &paths(alloc, &[&[(20i32, 20), (24, 20), (24, 24)]])?)?)?;
+    let found = overlaps(alloc, &zones, IntOverlayOptions::new())?;
+    let wanted: [(usize, usize, Shapes); 2] = [(0, 1, FIRST_OVERLAP), (1, 2, SECOND_OVERLAP)];
+    expect_equal(&found.len(), &2, &wanted)?;
+    for k in 0..2 {
+        let (first, second, shapes) = wanted[k];
+        if k < found.len() {
+            expect_equal(&(found[k].first, found[k].second), &(first, second), &k)?;
+            expect_that(are_shapes(&found[k].shapes, shapes), &found[k].shapes)?;
+        }
+    }
+    Ok(())
+}
+
+const FIRST_OVERLAP: Shapes = &[&[&[(2, 2), (4, 2), (4, 4), (2, 4)]]];
+
+const SECOND_OVERLAP: Shapes = &[&[&[(4, 2), (6, 2), (6, 4), (4, 4)]]];
 
 /// A point on the last safe number is in range, and one past it is not.
 #[test]

@@ -1,5 +1,5 @@
 use Rattle.std.proofs.Common.{take}
-use Rattle.mesh_boolean.specs.PairsSoFar.{AreBoxes}
+use Rattle.mesh_boolean.specs.Private.PairsSoFar.{AreBoxes}
 use Rattle.mesh_boolean.proofs.Overlapping.{zones_in}
 use Rattle.mesh_boolean.proofs.overlaps.bounds_of_each.Given as goal
 

@@ -1,6 +1,6 @@
 use Rattle.mesh_below.specs.Options.{choices_of}
 use Rattle.mesh_boolean.specs.Overlaps.{overlaps_of}
-use Rattle.mesh_boolean.specs.PairsSoFar.{AreOverlapsBefore}
+use Rattle.mesh_boolean.specs.Private.PairsSoFar.{AreOverlapsBefore}
 use Rattle.mesh_boolean.proofs.Overlapping.{zones_in}
 use Rattle.mesh_boolean.proofs.overlaps.overlaps.Given as goal
 

@@ -5,7 +5,7 @@ use Rattle.mesh_plane.specs.Plane.{Point, Edge}
 use Rattle.mesh_num.specs.Rectangle.{IsInRectangle}
 use Rattle.mesh_lattice.specs.Reach.{ArePointsSafe}
 use Rattle.mesh_shapes.specs.Resolution.{Choices}
-use Rattle.mesh_boolean.specs.Overlaps.{IsOverlap, IsOverlapBefore, IsPairBefore, IsSettled, Overlap, points_of}
+use Rattle.mesh_boolean.specs.Overlaps.{IsOverlap, IsOverlapBefore, IsPairBefore, IsDecided, Overlap, points_of}
 
 -- each zone has a box, which holds all its points
 pub record AreBoxes (zones : List (List (List (List Point)))) (boxes : List Edge) : Type 0 where
@@ -20,4 +20,4 @@ pub record AreOverlapsBefore (unit : ℕ) (zones : List (List (List (List Point)
   pub safe : All (λ (o : Overlap). ArePointsSafe unit o.1.1) found
   pub before : All (λ (o : Overlap). IsPairBefore o.0 o.1.0 i j) found
   pub ordered : AllPairs IsOverlapBefore found
-  pub others : (k l : ℕ) → k < l → l < length zones → IsPairBefore k l i j → IsSettled zones choices found k l
+  pub others : (k l : ℕ) → k < l → l < length zones → IsPairBefore k l i j → IsDecided zones choices found k l
