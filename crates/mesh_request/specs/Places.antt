@@ -6,8 +6,9 @@ use Rattle.mesh_request.specs.declared.fault.key.Key.{Key}
 use Rattle.mesh_request.specs.declared.fault.key.Key.TheVariants.{Operation, Int, Out, Paths, Style, Closed, Options}
 use Rattle.mesh_request.specs.declared.fault.key.Key.TheVariants.{Outer, Width, Join, MinTurn, Side, Start, End, Arc, MinArea}
 use Rattle.mesh_request.specs.declared.fault.key.Key.TheVariants.{Clockwise, Collinear, Inner as InnerKey}
+use Rattle.mesh_request.specs.declared.fault.key.Key.TheVariants.{Rule, Fill, Subject, Clip, Zones, Least}
 use Rattle.mesh_request.specs.declared.fault.place.Place.{Place}
-use Rattle.mesh_request.specs.declared.fault.place.Place.TheVariants.{Request, Member, Inner, Path, Point, CapPoint}
+use Rattle.mesh_request.specs.declared.fault.place.Place.TheVariants.{Request, Member, Inner, Path, Point, CapPoint, Zone}
 
 -- a key as it stands in a request
 abbrev pub key_text : Key → List ℕ
@@ -30,6 +31,12 @@ key_text Arc = codes "arc"
 key_text MinArea = codes "min_area"
 key_text Clockwise = codes "clockwise"
 key_text Collinear = codes "collinear"
+key_text Rule = codes "rule"
+key_text Fill = codes "fill"
+key_text Subject = codes "subject"
+key_text Clip = codes "clip"
+key_text Zones = codes "zones"
+key_text Least = codes "least"
 
 -- what an object has under a key
 abbrev pub under : Key → Data → Option Data
@@ -45,6 +52,7 @@ found_at (Point path point) d = option_and_then (at point) (option_and_then (at 
 found_at (CapPoint end point) d =
     option_and_then (at point)
     (option_and_then (get (codes "custom")) (option_and_then (under end) (get (codes "style") d)))
+found_at (Zone zone) d = option_and_then (at zone) (get (codes "zones") d)
 
 -- a request has this place
 abbrev pub IsPlaceIn : Data → Place → Type 0

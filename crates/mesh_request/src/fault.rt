@@ -39,7 +39,7 @@ impl fmt::Display for Fault {
 }
 
 /// What is wrong with what a request has under a key: it has nothing there, or this.
-pub(crate) fn member_fault(request: &Value, key: Key, problem: Problem) -> ReadError
+pub fn member_fault(request: &Value, key: Key, problem: Problem) -> ReadError
     ensures { IsPlaced (view request.now) result }
 {
     let place = member_place(request, key);
@@ -54,7 +54,7 @@ pub(crate) fn member_fault(request: &Value, key: Key, problem: Problem) -> ReadE
 }
 
 /// What is wrong with what a request's object has under a key: nothing is there, or this.
-pub(crate) fn inner_fault(request: &Value, outer: Key, key: Key, problem: Problem) -> ReadError
+pub fn inner_fault(request: &Value, outer: Key, key: Key, problem: Problem) -> ReadError
     ensures { IsPlaced (view request.now) result }
 {
     let place = inner_place(request, outer, key);

@@ -17,7 +17,7 @@ use mesh_num::num::{IntNumber, WideUnsigned};
 use serde_json::Value;
 
 /// The options that a request gives, the default ones where there are none.
-pub(crate) fn read_options<I: IntNumber>(
+pub fn read_options<I: IntNumber>(
     request: &Value,
 ) -> Result<IntOverlayOptions<I::WideUInt>, ReadError>
     ensures { let given = choices_given I.unit (get (codes "options") (view request.now)) in

@@ -92,7 +92,7 @@ fn names_operation(request: &Value) -> bool {
 }
 
 /// What a request draws: a key of another operation is passed by.
-fn read_drawing<I: OverlayInt>(alloc: Global, value: &Value) -> Result<Drawing<I>, ReadError>
+pub fn read_drawing<I: OverlayInt>(alloc: Global, value: &Value) -> Result<Drawing<I>, ReadError>
     ensures { Reads (view value.now) (drawn_in I.unit (view value.now)) (drawn_of I.value) result }
 {
     if says(value, "op", "outline") {

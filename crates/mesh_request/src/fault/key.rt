@@ -3,7 +3,7 @@
 ghost use Rattle.std.specs.Prelude.{◌≡◌};
 ghost use Rattle.mesh_request.specs.Places.{key_text};
 
-/// A key that a request, its style or its options may have.
+/// A key that a request, its style, its options or its fill rules may have.
 #[derive(Debug, Clone, Copy, PartialEq, Eq)]
 pub enum Key {
     Operation,
@@ -25,6 +25,12 @@ pub enum Key {
     MinArea,
     Clockwise,
     Collinear,
+    Rule,
+    Fill,
+    Subject,
+    Clip,
+    Zones,
+    Least,
 }
 
 impl Key {
@@ -52,6 +58,12 @@ impl Key {
             Key::MinArea => "min_area",
             Key::Clockwise => "clockwise",
             Key::Collinear => "collinear",
+            Key::Rule => "rule",
+            Key::Fill => "fill",
+            Key::Subject => "subject",
+            Key::Clip => "clip",
+            Key::Zones => "zones",
+            Key::Least => "least",
         }
     }
 }

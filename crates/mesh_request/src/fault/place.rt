@@ -22,6 +22,8 @@ pub enum Place {
     Point(usize, usize),
     /// A point of the custom cap that the style has under a key: `style.start.custom[2]`.
     CapPoint(Key, usize),
+    /// One of its zones, by index: `zones[1]`.
+    Zone(usize),
 }
 
 impl fmt::Display for Place {
@@ -38,6 +40,7 @@ impl fmt::Display for Place {
             Place::Path(path) => write!(f, "paths[{path}]"),
             Place::Point(path, point) => write!(f, "paths[{path}][{point}]"),
             Place::CapPoint(end, point) => write!(f, "style.{}.custom[{point}]", end.text()),
+            Place::Zone(zone) => write!(f, "zones[{zone}]"),
         }
     }
 }
@@ -110,5 +113,18 @@ pub fn point_place(request: &Value, path: usize, point: usize) -> Place
     match points.get(point) {
         Some(_) => Place::Point(path, point),
         None => Place::Path(path),
+    }
+}
+
+/// The place of a zone of a request, by its index; that of all zones where it has no such zone.
+pub fn zone_place(request: &Value, zone: usize) -> Place
+    ensures { IsPlaceIn (view request.now) result }
+{
+    let Some(zones) = request.get("zones") else {
+        return Place::Request;
+    };
+    match zones.get(zone) {
+        Some(_) => Place::Zone(zone),
+        None => Place::Member(Key::Zones),
     }
 }

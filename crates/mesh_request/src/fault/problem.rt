@@ -13,6 +13,21 @@ use mesh_num::num::convert::widen;
 use serde_json::Value;
 use std::fmt;
 
+/// What is needed of a value that names no rule of booleans.
+const NO_RULE: &str = "\"subject\", \"clip\", \"intersect\", \"union\", \"difference\", \
+    \"inverse_difference\" or \"xor\" is needed";
+
+/// What is needed of a value that names no fill rule.
+const NO_FILL: &str = "\"even_odd\", \"non_zero\", \"positive\" or \"negative\" is needed";
+
+/// What is needed of a value that names no fill rules of a subject and a clip.
+const NO_FILLS: &str = "\"even_odd\", \"non_zero\", \"positive\", \"negative\" or \
+    {\"subject\": FILL, \"clip\": FILL} is needed";
+
+/// What is needed of a value that is no operand.
+const NO_OPERAND: &str =
+    "a list of paths or an object with \"op\", \"paths\" and \"style\" is needed";
+
 /// A type of coordinates.
 #[derive(Debug, Clone, Copy, PartialEq, Eq)]
 pub enum CoordinateType {
@@ -109,6 +124,22 @@ pub enum Problem {
     NoBits,
     /// It is no list of the two numbers of arcs.
     NoArc,
+    /// It names no combination of operands.
+    NoCombination,
+    /// It does not name shapes, which alone are listed of combinations.
+    NoShapes,
+    /// It names no rule of booleans.
+    NoRule,
+    /// It names no fill rule.
+    NoFill,
+    /// It names no fill rule, and no two of them.
+    NoFills,
+    /// It is no list of zones.
+    NoZones,
+    /// An operand is neither a list of paths nor a drawing.
+    NoOperand,
+    /// It is no number of zones.
+    NoLeast,
 }
 
 impl fmt::Display for Problem {
@@ -144,6 +175,16 @@ impl fmt::Display for Problem {
             Problem::MoreKeys => f.write_str("only one key is allowed"),
             Problem::NoBits => f.write_str("BITS is needed, a whole number from 0 to 4294967295"),
             Problem::NoArc => f.write_str("[BITS, PRECISION] is needed"),
+            Problem::NoCombination => {
+                f.write_str("\"boolean\", \"coverage\" or \"overlaps\" is needed")
+            }
+            Problem::NoShapes => f.write_str("\"shapes\" is needed"),
+            Problem::NoRule => f.write_str(NO_RULE),
+            Problem::NoFill => f.write_str(NO_FILL),
+            Problem::NoFills => f.write_str(NO_FILLS),
+            Problem::NoZones => f.write_str("a list of zones is needed"),
+            Problem::NoOperand => f.write_str(NO_OPERAND),
+            Problem::NoLeast => f.write_str("a whole number from 1 to 4294967295 is needed"),
         }
     }
 }

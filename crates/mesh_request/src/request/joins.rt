@@ -92,7 +92,7 @@ fn angle(value: &Value) -> Option<Angle>
 }
 
 /// The whole number of 32 bits without sign that a value is.
-fn small_number(value: &Value) -> Option<u32>
+pub fn small_number(value: &Value) -> Option<u32>
     ensures { result ≡ small_number_of (view value.now) }
 {
     let number = value.as_u64()?;

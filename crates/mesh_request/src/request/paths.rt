@@ -29,7 +29,8 @@ pub(crate) fn read_paths<I: OverlayInt>(
     }
 }
 
-fn path_list<I: OverlayInt>(
+/// The paths that the values of a list in a request are.
+pub fn path_list<I: OverlayInt>(
     alloc: Global,
     request: &Value,
     items: &[Value],

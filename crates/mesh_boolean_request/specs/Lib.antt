@@ -1,0 +1,3 @@
+pub mod Reading
+pub mod Requests
+pub mod Typed
