@@ -1,7 +1,7 @@
--- Lemmas over lists of values, read one item after another: where nothing is left, and where an item is not read.
-use Rattle.std.proofs.Common.{◌≡◌, ℕ, ◌<◌, ◌≤◌, ◌+◌, List, [], ◌∷◌, ◌++◌, length, get_or, drop, Option, Some, None, option_map, option_and_then, Result, Ok, Err, sym, ap, subst, ◌∙◌, append-nil}
+-- Lemmas over lists of values, read one item after another: where nothing is left, where an item is not read, and where one more is.
+use Rattle.std.proofs.Common.{◌≡◌, ℕ, ◌<◌, ◌≤◌, ◌+◌, List, [], ◌∷◌, ◌++◌, length, get_or, drop, map, Option, Some, None, option_map, option_and_then, Result, Ok, Err, sym, ap, subst, ◌∙◌, append-nil}
 use Rattle.std.specs.Result.{IsErrAnd}
-use Rattle.std.proofs.lemmas.List.{at_drop_more, at_drop_all}
+use Rattle.std.proofs.lemmas.List.{at_drop_more, at_drop_all, map-append}
 use Rattle.serde_json.specs.Data.{Data, Items, no_items}
 use Rattle.serde_json.specs.View.{view, items_view}
 use Rattle.serde_json.specs.declared.value.Value.{Value}
@@ -25,6 +25,10 @@ not_read {X} one each by items i value all before h e unread so_far =
     ∙ by (view (get_or items i value)) (items_view (drop (i + 1) items))
     ∙ ap (option_and_then (λ (y : X). option_map (λ (xs : List X). y ∷ xs) rest)) (ap (λ (v : Value). one (view v)) (sym e) ∙ unread) in
     so_far ∙ ap (option_map (λ (xs : List X). before ++ xs)) here
+
+-- one item more, as what the items stand for
+pub item_pushed : {X Y : Type 0} (stands_for : X → Y) (items new : List X) (x : X) → new ≡ items ++ x ∷ [] → map stands_for new ≡ map stands_for items ++ stands_for x ∷ []
+item_pushed stands_for items new x pushed = ap (map stands_for) pushed ∙ map-append stands_for items (x ∷ [])
 
 -- an error that is handed on
 pub handed_on : {X A : Type 0} (d : Data) (sought : Option A) (value : X → A) (r : Result X ReadError) (error : ReadError) → IsErrAnd r (λ e. e ≡ error) → FailsToRead d sought error → Reads d sought value r

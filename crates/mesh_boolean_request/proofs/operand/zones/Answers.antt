@@ -1,18 +1,16 @@
 -- One zone more is read, or no list of zones where one is not read.
-use Rattle.std.proofs.Common.{◌≡◌, ◌++◌, ◌∷◌, [], refl, ap, ◌∙◌, map}
-use Rattle.std.proofs.lemmas.List.{map-append}
+use Rattle.std.proofs.Common.{refl}
 use Rattle.serde_json.specs.View.{view, items_view}
 use Rattle.mesh_operands.specs.Operands.{operand_of}
 use Rattle.mesh_request.proofs.JsonLists.{one_more}
 use Rattle.mesh_boolean_request.specs.Reading.{operand_in, zones_of}
-use Rattle.mesh_boolean_request.proofs.ZoneLists.{all_read, not_read, handed_on}
+use Rattle.mesh_boolean_request.proofs.ZoneLists.{all_read, not_read, item_pushed, handed_on}
 use Rattle.mesh_boolean_request.proofs.operand.zones.Goals as goal
 
 pub loop-item-preserved : goal.loop-item-preserved
 loop-item-preserved g c =
     let unit = g.I.IntNumber.unit in
-    let stands_for = operand_of g.I.IntNumber.value in
-    let pushed = ap (map stands_for) c.in_ok-push.ensures.items ∙ map-append stands_for c.loop-item.zones.items (c.in_ok-operand_at.field-0 ∷ []) in
+    let pushed = item_pushed (operand_of g.I.IntNumber.value) c.loop-item.zones.items _ c.in_ok-operand_at.field-0 c.in_ok-push.ensures.items in
     one_more (operand_in unit) (zones_of unit) (λ d ds. refl) c.args.items.now c.loop-item.item-index c.item-item.result _ _ _ _
     c.loop-item-test.true c.item-item.is c.in_ok-operand_at.ensures pushed c.loop-item.invariant
 
