@@ -18,9 +18,11 @@ pub returns-in_err-operand_at : goal.returns-in_err-operand_at
 returns-in_err-operand_at g c =
     let unit = g.I.IntNumber.unit in
     let failed = c.in_err-operand_at.ensures in
-    handed_on (view c.args.request.now) (zones_of unit (items_view c.args.items.now)) _ c.from_residual.result c.in_err-operand_at.field-0.0 c.from_residual.ensures.1
-    (failed.0, λ fault. not_read (operand_in unit) (zones_of unit) (λ d ds. refl) c.args.items.now c.loop-item.item-index c.item-item.result _ _
-    c.loop-item-test.true c.item-item.is (failed.1 fault) c.loop-item.invariant)
+    handed_on (view c.args.request.now) (zones_of unit (items_view c.args.items.now)) _ c.from_residual.result c.in_err-operand_at.field-0.0 c.from_residual.ensures.1 (
+      failed.0,
+      λ fault. not_read (operand_in unit) (zones_of unit) (λ d ds. refl) c.args.items.now c.loop-item.item-index c.item-item.result _ _
+          c.loop-item-test.true c.item-item.is (failed.1 fault) c.loop-item.invariant,
+    )
 
 pub returns : goal.returns
 returns g c =
