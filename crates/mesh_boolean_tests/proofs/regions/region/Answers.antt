@@ -1,5 +1,5 @@
 -- An answer by default options winds once or not at all.
-use Rattle.std.proofs.Common.{refl}
+use Rattle.std.proofs.Common.{ap}
 use Rattle.mesh_boolean.proofs.ZoneEdges.{answer_once}
 use Rattle.mesh_boolean_tests.proofs.regions.region.Goals as goal
 
