@@ -162,12 +162,14 @@ def operands_of(request):
     if request["op"] == "boolean":
         fills = fill if isinstance(fill, dict) else {"subject": fill, "clip": fill}
         return [(request[key], fills[key]) for key in ("subject", "clip")]
-    return [(zone, fill) for zone in request.get("zones", [])]
+    return [(zone, fill) for zone in request["zones"]]
 
 
 def operand_panels(command, file, request):
     """The operands of a request that combines, each as what it is drawn of, with what it covers."""
-    operands = operands_of(request)
+    operands = operands_of(request) if request["op"] in COMBINING else []
+    if not operands:
+        return []
     alone = {"op": "boolean", "int": request["int"], "out": "shapes", "rule": "subject", "clip": []}
     answers = ask(command, [file] * len(operands), [alone | {"subject": it, "fill": fill} for it, fill in operands])
     drawn = [it if isinstance(it, dict) else {"op": "outline", "paths": it} for it, _ in operands]
