@@ -73,7 +73,8 @@ class Panel(NamedTuple):
     @property
     def is_closed(self):
         """Whether a path goes on from its last point to its first."""
-        return self.is_outline or self.combines or (self.request["op"] == "stroke" and self.request.get("closed", False))
+        is_ring = self.request["op"] == "stroke" and self.request.get("closed", False)
+        return self.is_outline or self.combines or is_ring
 
     @property
     def paths(self):
