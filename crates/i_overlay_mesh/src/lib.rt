@@ -17,9 +17,11 @@ pub use mesh_below::nearness::{NearShapes, SplitCount, SplitError};
 pub use mesh_boolean::boolean::{
     IntOverlayError, overlay_shapes, overlay_shapes_with_nearness, validate_overlay,
 };
-pub use mesh_boolean::overlaps::{ZoneOverlap, overlaps};
+pub use mesh_boolean::overlaps::{NearOverlaps, ZoneOverlap, overlaps, overlaps_with_nearness};
 pub use mesh_boolean::rule::{BooleanFill, BooleanFillRule, BooleanRule};
-pub use mesh_boolean::zones::{coverage, overlay_regions, overlay_regions_with_nearness};
+pub use mesh_boolean::zones::{
+    coverage, coverage_with_nearness, overlay_regions, overlay_regions_with_nearness,
+};
 pub use mesh_boolean::{boolean, zones};
 pub use mesh_clearance::clearance;
 pub use mesh_join::arc::ArcOptions;

@@ -1,5 +1,6 @@
 pub mod Adding
 pub mod Combining
+pub mod Meeting
 pub mod Near
 pub mod Overlapping
 pub mod Ranges

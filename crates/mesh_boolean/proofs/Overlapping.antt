@@ -1,150 +1,228 @@
--- Lemmas over zones: pairs of zones are settled, one after another.
-use Rattle.std.proofs.Common.{◌≡◌, ◌≢◌, ◌==◌, ◌⊎◌, inl, inr, ℕ, ◌+◌, ◌<◌, ◌≤◌, true, false, List, [], ◌∷◌, ◌++◌, map, length, get_or, take, take_all, refl, sym, ap, ◌∙◌, subst, arith}
-use Rattle.std.specs.List.{All, AllPairs}
+-- Lemmas over zones: pairs of zones are resolved, one after another.
+use Rattle.std.proofs.Common.{◌≡◌, ◌≢◌, ◌==◌, ◌⊎◌, inl, inr, ℕ, ◌+◌, ◌*◌, ◌<◌, ◌≤◌, true, false, List, [], ◌∷◌, ◌++◌, map, length, get_or, take, take_all, refl, sym, ap, ◌∙◌, subst, arith}
+use Rattle.std.specs.Prelude.{max}
+use Rattle.std.specs.List.{All, AllPairs, Contains}
 use Rattle.std.specs.declared.vec.Vec.{Vec}
 use Rattle.std.specs.declared.alloc.Global.{Global}
-use Rattle.std.proofs.lemmas.Bool.{eqb-true, true≢false}
-use Rattle.std.proofs.Math.ListN.{get_or-append}
-use Rattle.std.proofs.Math.Nat.{eq-or-lt_of_le}
-use Rattle.std.proofs.Math.Seq.{get_or-append_seam}
-use Rattle.std.proofs.lemmas.List.{get_or-map, length-append, length-map, map-append, take_more}
-use Rattle.std.proofs.lemmas.List.Elements.{All-nil, All-push, All-weaker, Contains-append_left, Contains-push}
+use Rattle.std.proofs.lemmas.Bool.{cases_lt, eqb-true, true≢false}
+use Rattle.std.proofs.Math.Nat.{add-mul, mul-le-mul_right}
+use Rattle.std.proofs.lemmas.List.{get_or-map, get_or-take, get_or_default, length-map, length-take, map-append, take_more}
+use Rattle.std.proofs.lemmas.List.Elements.{All-contains, All-nil, All-push, All-weaker, Contains-append_left, Contains-push, Contains-push_cases}
 use Rattle.std.proofs.lemmas.List.Quantifiers.{all_pairs_push}
+use Rattle.std.proofs.lemmas.Map.Keys.{sorted_from_strictly_increasing}
+use Rattle.std.proofs.lemmas.Map.Views.{length-le_from_below}
 use Rattle.mesh_plane.specs.Plane.{Point, Edge}
 use Rattle.mesh_num.specs.Paths.{shapes_of}
-use Rattle.mesh_num.specs.Rectangle.{IsInRectangle}
-use Rattle.mesh_lattice.specs.FillRules.{filled_by}
 use Rattle.mesh_lattice.specs.Reach.{ArePointsSafe}
 use Rattle.mesh_lattice.specs.declared.fill.FillRule.TheVariants.{Positive}
-use Rattle.mesh_lattice.specs.declared.fill.WindingRule.TheVariants as winding_rule
-use Rattle.mesh_below.specs.Laws.{AreRegions}
 use Rattle.mesh_shapes.specs.Resolution.{Choices}
+use Rattle.mesh_split.specs.declared.count.SplitCount.{SplitCount}
+use Rattle.mesh_offset.specs.Counting.{CountsAttempts}
+use Rattle.mesh_offset.proofs.Counting.{counts_fewer, counts_more, counts_weaker}
 use Rattle.mesh_boolean.specs.Booleans.{both_edges}
-use Rattle.mesh_boolean.specs.Overlaps.{AreBoxesApart, AreCommonRegions, AreOverlaps, AreRectanglesApart, IsOverlap, IsOverlapBefore, IsPairBefore, IsDecided, Overlap, overlap_of, overlaps_of, points_of}
-use Rattle.mesh_boolean.specs.Private.PairsSoFar.{AreBoxes, AreOverlapsBefore}
+use Rattle.mesh_boolean.specs.Overlaps.{AreCommonRegions, AreCommonRegionsBeyond, AreCommonRegionsWithin, AreOverlaps, AreOverlapsBeyond, IsListed, IsOfPair, IsOverlap, IsOverlapBefore, IsOverlapBeyond, IsPairBefore, IsPairDrawing, Overlap, overlap_of, overlaps_of, pair_edges}
+use Rattle.mesh_boolean.specs.Private.Meeting.{AreMeetingPairs, IsPairOf}
+use Rattle.mesh_boolean.specs.Private.PairsSoFar.{AddsOverlap, AreOverlapsOf, IsListedUnlessEmpty}
 use Rattle.mesh_boolean.specs.declared.overlaps.ZoneOverlap.{ZoneOverlap}
+use Rattle.mesh_boolean.proofs.Meeting.{zone_at, zones_in}
 
--- ---- pairs in order
+-- ---- pairs resolved
 
--- before the next pair come the pairs before this one, and this one
-before_next : (i j k l : ℕ) → IsPairBefore k l i (j + 1) → IsPairBefore k l i j ⊎ ((k ≡ i) × (l ≡ j))
-before_next i j k l (inl h) = inl (inl h)
-before_next i j k l (inr h) =
-    let low : l ≤ j = omega arith in
-    elim (eq-or-lt_of_le low) [ inl same ↦ inr (h.0, same) | inr less ↦ inl (inr (h.0, less)) ]
+module _ (unit : ℕ) (Has : ℕ → ℕ → List (List (List Point)) → Type 0) where
+  abbrev IsOf : List (ℕ × ℕ) → Overlap → Type 0
+  IsOf pairs o = Contains pairs (o.0, o.1.0) × (o.1.1 ≢ []) × Has o.0 o.1.0 o.1.1
 
-before_later : (i j m k l : ℕ) → j ≤ m → IsPairBefore k l i j → IsPairBefore k l i m
-before_later i j m k l up (inl h) = inl h
-before_later i j m k l up (inr h) = let low : l < m = omega arith in inr (h.0, low)
-
-before_row : (i j k l : ℕ) → IsPairBefore k l i j → k < i + 1
-before_row i j k l (inl h) = omega arith
-before_row i j k l (inr h) = omega arith
-
--- a pair before the next zone's pairs is one of an earlier zone, or of this one
-of_row : (i k l n : ℕ) → l < n → IsPairBefore k l (i + 1) 0 → IsPairBefore k l i n
-of_row i k l n low (inl h) =
-    let under : k ≤ i = omega arith in
-    elim (eq-or-lt_of_le under) [ inl same ↦ inr (same, low) | inr less ↦ inl less ]
-of_row i k l n low (inr h) = absurd (omega arith)
-
--- a pair that ascends is before the first that ascends only where its zone is
-of_earlier : (i k l : ℕ) → k < l → IsPairBefore k l i (i + 1) → k < i
-of_earlier i k l up (inl h) = h
-of_earlier i k l up (inr h) = absurd (omega arith)
-
--- ---- pairs settled
-
-module _ (unit : ℕ) (zones : List (List (List (List Point)))) (choices : Choices) where
-  settled_more : (found : List Overlap) (o : Overlap) (k l : ℕ) → IsDecided zones choices found k l → IsDecided zones choices (found ++ o ∷ []) k l
-  settled_more found o k l (inl h) = inl (h.0, Contains-append_left found (o ∷ []) (k, (l, h.0)) h.1)
-  settled_more found o k l (inr h) = inr h
-
-  pub none_before : (found : List Overlap) → found ≡ [] → AreOverlapsBefore unit zones choices 0 0 found
-  none_before found none = rw none (record {
-    each = All-nil (λ (o : Overlap). IsOverlap zones choices o);
+  pub none_resolved : (found : List Overlap) → found ≡ [] → AreOverlapsOf unit Has [] found
+  none_resolved found none = rw none (record {
+    each = All-nil (IsOf []);
     safe = All-nil (λ (o : Overlap). ArePointsSafe unit o.1.1);
-    before = All-nil (λ (o : Overlap). IsPairBefore o.0 o.1.0 0 0);
     ordered = λ i j d less low. absurd (omega arith);
-    others = λ k l less within before. absurd (let low = before_row 0 0 k l before in elim before [ inl h ↦ omega arith | inr h ↦ omega arith ]);
+    others = λ p listed. absurd (omega (arith, listed.1));
   })
 
-  -- this pair is settled already
-  pub next_settled : (i j : ℕ) (found : List Overlap) → IsDecided zones choices found i j → AreOverlapsBefore unit zones choices i j found → AreOverlapsBefore unit zones choices i (j + 1) found
-  next_settled i j found settled h = record {
-    each = h.each;
-    safe = h.safe;
-    before =
-        let up : j ≤ j + 1 = omega arith in
-        All-weaker (λ (o : Overlap). IsPairBefore o.0 o.1.0 i j) (λ (o : Overlap). IsPairBefore o.0 o.1.0 i (j + 1)) (λ o b. before_later i j (j + 1) o.0 o.1.0 up b) found h.before;
+  listed_more : (found : List Overlap) (o : Overlap) (i j : ℕ) → IsListed found i j → IsListed (found ++ o ∷ []) i j
+  listed_more found o i j h = (h.0, Contains-append_left found (o ∷ []) (i, (j, h.0)) h.1)
+
+  each_more : (pairs : List (ℕ × ℕ)) (pair : ℕ × ℕ) (found : List Overlap) → All (IsOf pairs) found → All (IsOf (pairs ++ pair ∷ [])) found
+  each_more pairs pair found h =
+      All-weaker (IsOf pairs) (IsOf (pairs ++ pair ∷ [])) (λ o is. (Contains-append_left pairs (pair ∷ []) (o.0, o.1.0) is.0, is.1, is.2)) found h
+
+  module _ (pairs : List (ℕ × ℕ)) (pair : ℕ × ℕ) (old : List Overlap) (before : All (λ (q : ℕ × ℕ). IsPairBefore q.0 q.1 pair.0 pair.1) pairs) (h : AreOverlapsOf unit Has pairs old) where
+    -- a pair of which nothing is left
+    one_empty : Has pair.0 pair.1 [] → AreOverlapsOf unit Has (pairs ++ pair ∷ []) old
+    one_empty has = record {
+      each = each_more pairs pair old h.each;
+      safe = h.safe;
+      ordered = h.ordered;
+      others = λ p listed.
+          elim (Contains-push_cases pairs pair p listed) [
+            | inl earlier ↦ h.others p earlier
+            | inr same ↦ inr (subst (λ (q : ℕ × ℕ). Has q.0 q.1 []) same has)
+          ];
+    }
+
+    -- a pair that is listed
+    one_listed : (answer : List (List (List Point))) → answer ≢ [] → Has pair.0 pair.1 answer → ArePointsSafe unit answer →
+        AreOverlapsOf unit Has (pairs ++ pair ∷ []) (old ++ (pair.0, (pair.1, answer)) ∷ [])
+    one_listed answer some has safe =
+        let o : Overlap = (pair.0, (pair.1, answer)) in
+        record {
+          each = All-push (IsOf (pairs ++ pair ∷ [])) old o (each_more pairs pair old h.each) (Contains-push pairs pair, some, has);
+          safe = All-push (λ (o : Overlap). ArePointsSafe unit o.1.1) old o h.safe safe;
+          ordered =
+              all_pairs_push IsOverlapBefore old o h.ordered
+              (λ k d within. All-contains (λ (q : ℕ × ℕ). IsPairBefore q.0 q.1 pair.0 pair.1) pairs ((get_or old k d).0, (get_or old k d).1.0) before (h.each k d within).0);
+          others = λ p listed.
+              elim (Contains-push_cases pairs pair p listed) [
+                | inl earlier ↦ elim (h.others p earlier) [ inl l ↦ inl (listed_more old o p.0 p.1 l) | inr none ↦ inr none ]
+                | inr same ↦ inl (subst (λ (q : ℕ × ℕ). IsListed (old ++ o ∷ []) q.0 q.1) same (answer, Contains-push old o))
+              ];
+        }
+
+    one_resolved : (new : List Overlap) → AddsOverlap unit (Has pair.0 pair.1) pair old new → AreOverlapsOf unit Has (pairs ++ pair ∷ []) new
+    one_resolved new adds = by adds.added
+      where
+        by : IsListedUnlessEmpty pair adds.answer old new → AreOverlapsOf unit Has (pairs ++ pair ∷ []) new
+        by (inl none) = rw none.1 (one_empty (subst (Has pair.0 pair.1) none.0 adds.has))
+        by (inr some) = rw some.1 (one_listed adds.answer some.0 adds.has adds.safe)
+
+  module _ (pairs : List (ℕ × ℕ)) (ordered : AllPairs (λ (p q : ℕ × ℕ). IsPairBefore p.0 p.1 q.0 q.1) pairs) where
+    pub next_resolved : (i : ℕ) (old new : List Overlap) → i < length pairs → AreOverlapsOf unit Has (take i pairs) old →
+        AddsOverlap unit (Has (get_or pairs i (0, 0)).0 (get_or pairs i (0, 0)).1) (get_or pairs i (0, 0)) old new → AreOverlapsOf unit Has (take (i + 1) pairs) new
+    next_resolved i old new low h adds =
+        let pair : ℕ × ℕ = get_or pairs i (0, 0) in
+        let before : All (λ (q : ℕ × ℕ). IsPairBefore q.0 q.1 pair.0 pair.1) (take i pairs) = λ k d within.
+        let len = length-take i pairs in
+        let less : k < i = omega arith in
+        let here : get_or pairs i d ≡ pair = get_or_default pairs i d (0, 0) low in
+        subst (λ (x : (ℕ × ℕ) × (ℕ × ℕ)). IsPairBefore x.0.0 x.0.1 x.1.0 x.1.1) (λ j. (sym (get_or-take i pairs k d less) j, here j)) (ordered k i d less low) in
+        rw (take_more pairs i (0, 0) low) (one_resolved (take i pairs) pair old before h new adds)
+
+    pub all_resolved : (i : ℕ) (found : List Overlap) → length pairs ≤ i → AreOverlapsOf unit Has (take i pairs) found → AreOverlapsOf unit Has pairs found
+    all_resolved i found past h = rw (take_all i pairs past) at h
+
+-- the same where more is known
+pub overlaps_weaker : (unit : ℕ) (Has More : ℕ → ℕ → List (List (List Point)) → Type 0) → ((i j : ℕ) (answer : List (List (List Point))) → Has i j answer → More i j answer) →
+    (pairs : List (ℕ × ℕ)) (found : List Overlap) → AreOverlapsOf unit Has pairs found → AreOverlapsOf unit More pairs found
+overlaps_weaker unit Has More f pairs found h = record {
+  each = All-weaker (IsOf unit Has pairs) (IsOf unit More pairs) (λ o is. (is.0, is.1, f o.0 o.1.0 o.1.1 is.2)) found h.each;
+  safe = h.safe;
+  ordered = h.ordered;
+  others = λ p listed. elim (h.others p listed) [ inl l ↦ inl l | inr none ↦ inr (f p.0 p.1 [] none) ];
+}
+
+pub adds_weaker : (unit : ℕ) (Has More : List (List (List Point)) → Type 0) → ((answer : List (List (List Point))) → Has answer → More answer) → (pair : ℕ × ℕ) (old new : List Overlap) →
+    AddsOverlap unit Has pair old new → AddsOverlap unit More pair old new
+adds_weaker unit Has More f pair old new h = record { answer = h.answer; has = f h.answer h.has; safe = h.safe; added = h.added }
+
+-- ---- all pairs
+
+module _ (unit : ℕ) (zones : List (List (List (List Point)))) (choices : Choices) (pairs : List (ℕ × ℕ)) (found : List Overlap) (meet : AreMeetingPairs zones pairs) where
+  pub all_overlaps : AreOverlapsOf unit (AreCommonRegions zones choices) pairs found → AreOverlaps zones choices found
+  all_overlaps h = record {
+    each =
+        All-weaker (IsOf unit (AreCommonRegions zones choices) pairs) (λ (o : Overlap). IsOverlap zones choices o)
+        (λ o is.
+        let pair = All-contains (IsPairOf (length zones)) pairs (o.0, o.1.0) meet.each is.0 in
+        record { ascending = pair.0; within = pair.1; some = is.1; regions = is.2 }) found h.each;
     ordered = h.ordered;
-    others = λ k l less within before.
-        elim (before_next i j k l before) [
-          | inl earlier ↦ h.others k l less within earlier
-          | inr same ↦ rw (same.0, same.1) settled
+    others = λ i j less within.
+        elim (meet.others i j less within) [
+          | inl listed ↦ elim (h.others (i, j) listed) [ inl l ↦ inl l | inr none ↦ inr (inr none) ]
+          | inr apart ↦ inr (inl apart)
         ];
   }
 
-  -- this pair is listed
-  pub next_listed : (i j : ℕ) (found : List Overlap) (answer : List (List (List Point))) → i < j → j < length zones → answer ≢ [] → AreCommonRegions zones choices i j answer →
-      ArePointsSafe unit answer → AreOverlapsBefore unit zones choices i j found → AreOverlapsBefore unit zones choices i (j + 1) (found ++ (i, (j, answer)) ∷ [])
-  next_listed i j found answer up low some regions safe h =
-      let o : Overlap = (i, (j, answer)) in
-      let next : j < j + 1 = omega arith in
-      let later : j ≤ j + 1 = omega arith in
-      record {
-        each = All-push (λ (o : Overlap). IsOverlap zones choices o) found o h.each (record { ascending = up; within = low; some = some; regions = regions });
-        safe = All-push (λ (o : Overlap). ArePointsSafe unit o.1.1) found o h.safe safe;
-        before =
-            All-push (λ (o : Overlap). IsPairBefore o.0 o.1.0 i (j + 1)) found o
-            (All-weaker (λ (o : Overlap). IsPairBefore o.0 o.1.0 i j) (λ (o : Overlap). IsPairBefore o.0 o.1.0 i (j + 1)) (λ o b. before_later i j (j + 1) o.0 o.1.0 later b) found h.before)
-            (inr (refl, next));
-        ordered = all_pairs_push IsOverlapBefore found o h.ordered (λ k d within. h.before k d within);
-        others = λ k l less within before.
-            elim (before_next i j k l before) [
-              | inl earlier ↦ settled_more found o k l (h.others k l less within earlier)
-              | inr same ↦ rw (same.0, same.1) (inl (answer, Contains-push found o))
-            ];
-      }
-
-  -- the pairs of a zone begin with the one that follows it
-  pub row_begun : (i : ℕ) (found : List Overlap) → AreOverlapsBefore unit zones choices i 0 found → AreOverlapsBefore unit zones choices i (i + 1) found
-  row_begun i found h = record {
-    each = h.each;
-    safe = h.safe;
-    before =
-        let up : 0 ≤ i + 1 = omega arith in
-        All-weaker (λ (o : Overlap). IsPairBefore o.0 o.1.0 i 0) (λ (o : Overlap). IsPairBefore o.0 o.1.0 i (i + 1)) (λ o b. before_later i 0 (i + 1) o.0 o.1.0 up b) found h.before;
+  pub all_overlaps_beyond : (k : ℕ) → (k ≡ 0) ⊎ IsOfPair k zones choices → AreOverlapsOf unit (AreCommonRegionsWithin k zones choices) pairs found → AreOverlapsBeyond k zones choices found
+  all_overlaps_beyond k greatest h = record {
+    each =
+        All-weaker (IsOf unit (AreCommonRegionsWithin k zones choices) pairs) (λ (o : Overlap). IsOverlapBeyond k zones choices o)
+        (λ o is.
+        let pair = All-contains (IsPairOf (length zones)) pairs (o.0, o.1.0) meet.each is.0 in
+        record { ascending = pair.0; within = pair.1; some = is.1; regions = is.2 }) found h.each;
     ordered = h.ordered;
-    others = λ k l less within before. h.others k l less within (inl (of_earlier i k l less before));
+    others = λ i j less within.
+        elim (meet.others i j less within) [
+          | inl listed ↦ elim (h.others (i, j) listed) [ inl l ↦ inl l | inr none ↦ inr (inr none) ]
+          | inr apart ↦ inr (inl apart)
+        ];
+    greatest = greatest;
   }
 
-  -- and end with the last zone
-  pub row_ended : (i j : ℕ) (found : List Overlap) → length zones ≤ j → AreOverlapsBefore unit zones choices i j found → AreOverlapsBefore unit zones choices (i + 1) 0 found
-  row_ended i j found past h = record {
-    each = h.each;
-    safe = h.safe;
-    before =
-        All-weaker (λ (o : Overlap). IsPairBefore o.0 o.1.0 i j) (λ (o : Overlap). IsPairBefore o.0 o.1.0 (i + 1) 0) (λ o b. inl (before_row i j o.0 o.1.0 b)) found h.before;
-    ordered = h.ordered;
-    others = λ k l less within before.
-        let low : l < j = omega arith in
-        h.others k l less within (of_row i k l j low before);
-  }
+-- ---- nearness
 
-  pub all_rows : (i : ℕ) (found : List Overlap) → length zones ≤ i → AreOverlapsBefore unit zones choices i 0 found → AreOverlaps zones choices found
-  all_rows i found past h = record {
-    each = h.each;
-    ordered = h.ordered;
-    others = λ k l less within.
-        let low : k < i = omega arith in
-        h.others k l less within (inl low);
-  }
+module _ (unit : ℕ) (zones : List (List (List (List Point)))) (choices : Choices) where
+  -- a greater nearness serves too
+  pub within_more : (k l : ℕ) → k ≤ l → (pairs : List (ℕ × ℕ)) (found : List Overlap) → AreOverlapsOf unit (AreCommonRegionsWithin k zones choices) pairs found →
+      AreOverlapsOf unit (AreCommonRegionsWithin l zones choices) pairs found
+  within_more k l up =
+      overlaps_weaker unit (AreCommonRegionsWithin k zones choices) (AreCommonRegionsWithin l zones choices) (λ i j answer h. (h.0, omega (arith, h.1, up), h.2))
 
-  -- what the program's records hold
-  pub listed_more : {I W U : Type 0} (i j : ℕ) (old new : List (ZoneOverlap I W U)) (z : ZoneOverlap I W U) → new ≡ old ++ z ∷ [] →
-      AreOverlapsBefore unit zones choices i j (overlaps_of old ++ overlap_of z ∷ []) → AreOverlapsBefore unit zones choices i j (overlaps_of new)
-  listed_more {I} {W} {U} i j old new z is h = rw (is, map-append (overlap_of {I = I} {W = W} {U = U}) old (z ∷ [])) h
+  pub adds_within : (own k : ℕ) → own ≤ k → (pair : ℕ × ℕ) (old new : List Overlap) → AddsOverlap unit (AreCommonRegionsBeyond own zones choices pair.0 pair.1) pair old new →
+      AddsOverlap unit (AreCommonRegionsWithin k zones choices pair.0 pair.1) pair old new
+  adds_within own k up pair old new =
+      adds_weaker unit (AreCommonRegionsBeyond own zones choices pair.0 pair.1) (AreCommonRegionsWithin k zones choices pair.0 pair.1) (λ answer h. (own, up, h)) pair old new
+
+  -- the greatest of all is that of the next pair, or that of those before
+  pub greatest_more : (own k l : ℕ) (pair : ℕ × ℕ) (old new : List Overlap) → l ≡ max k own → IsPairOf (length zones) pair →
+      AddsOverlap unit (AreCommonRegionsBeyond own zones choices pair.0 pair.1) pair old new → (k ≡ 0) ⊎ IsOfPair k zones choices → (l ≡ 0) ⊎ IsOfPair l zones choices
+  greatest_more own k l pair old new is two adds before = by (cases_lt k own)
+    where
+      by : (k < own) ⊎ (own ≤ k) → (l ≡ 0) ⊎ IsOfPair l zones choices
+      by (inl less) =
+          let e : own ≡ l = omega (arith, is, less) in
+          inr (subst (λ (n : ℕ). IsOfPair n zones choices) e (record { first = pair.0; second = pair.1; ascending = two.0; within = two.1; answer = adds.answer; regions = adds.has }))
+      by (inr le) = let e : k ≡ l = omega (arith, is, le) in subst (λ (n : ℕ). (n ≡ 0) ⊎ IsOfPair n zones choices) e before
+
+-- ---- counts
+
+rows_rise : (a b c d n : ℕ) → a < c → b < n → a * n + b < c * n + d
+rows_rise a b c d n up low =
+    let rows : (a + 1) * n ≤ c * n = mul-le-mul_right n (omega arith) in
+    let more = add-mul a 1 n in omega (arith, rows, more)
+
+module _ (zones : List (List (List (List Point)))) (pairs : List (ℕ × ℕ)) (meet : AreMeetingPairs zones pairs) where
+  abbrev key : ℕ × ℕ → ℕ
+  key p = p.0 * length zones + p.1
+
+  keys_rise : (p q : ℕ × ℕ) → IsPairOf (length zones) p → IsPairBefore p.0 p.1 q.0 q.1 → key p < key q
+  keys_rise p q two (inl less) = rows_rise p.0 p.1 q.0 q.1 (length zones) less two.1
+  keys_rise p q two (inr (same, less)) = rw same (omega (arith, less))
+
+  key_below : (p : ℕ × ℕ) → IsPairOf (length zones) p → key p < length zones * length zones
+  key_below p two = let rise = rows_rise p.0 p.1 (length zones) 0 (length zones) (omega (arith, two)) two.1 in omega (arith, rise)
+
+  -- there are no more pairs than that
+  pub few_pairs : length pairs ≤ length zones * length zones
+  few_pairs =
+      let len = length-map pairs key in
+      let at : (k : ℕ) → k < length pairs → get_or (map key pairs) k 0 ≡ key (get_or pairs k (0, 0)) = λ k low. get_or-map key pairs k (0, 0) 0 low in
+      let few : length (map key pairs) ≤ length zones * length zones =
+      length-le_from_below (length zones * length zones) (map key pairs)
+      (sorted_from_strictly_increasing (map key pairs)
+      (λ k low. rw (at k (omega arith), at (k + 1) (omega arith)) (keys_rise (get_or pairs k (0, 0)) (get_or pairs (k + 1) (0, 0)) (meet.each k (0, 0) (omega arith)) (meet.ordered k (k + 1) (0, 0) (omega arith) (omega arith)))))
+      (λ k d low. rw (get_or-map key pairs k (0, 0) d (omega arith)) (key_below (get_or pairs k (0, 0)) (meet.each k (0, 0) (omega arith)))) in
+      omega arith
+
+  pub pair_of : (i : ℕ) → i < length pairs → IsPairOf (length zones) (get_or pairs i (0, 0))
+  pair_of i low = meet.each i (0, 0) low
+
+  -- attempts at one pair more
+  pub pair_counted : (i : ℕ) (old between new : SplitCount) → i < length pairs → CountsAttempts i (IsPairDrawing zones) old between →
+      CountsAttempts 1 (λ (es : List Edge). es ≡ pair_edges zones (get_or pairs i (0, 0)).0 (get_or pairs i (0, 0)).1) between new → CountsAttempts (i + 1) (IsPairDrawing zones) old new
+  pair_counted i old between new low before more =
+      let pair : ℕ × ℕ = get_or pairs i (0, 0) in
+      let two : IsPairOf (length zones) pair = pair_of i low in
+      counts_more (IsPairDrawing zones) i 1 old between new before
+      (counts_weaker 1 (λ (es : List Edge). es ≡ pair_edges zones pair.0 pair.1) (IsPairDrawing zones)
+      (λ es same. record { first = pair.0; second = pair.1; ascending = two.0; within = two.1; same = same }) between new more)
+
+  pub pairs_counted : (i n : ℕ) (old new : SplitCount) → i ≤ length pairs → length zones ≡ n → CountsAttempts i (IsPairDrawing zones) old new → CountsAttempts (n * n) (IsPairDrawing zones) old new
+  pairs_counted i n old new low same h =
+      let few : length pairs ≤ n * n = subst (λ (m : ℕ). length pairs ≤ m * m) same few_pairs in
+      counts_fewer (IsPairDrawing zones) i (n * n) (omega (arith, few, low)) old new h
+
+-- ---- what vectors hold
 
 -- what holds of the polygons of each overlap holds of those of each record
 pub records_safe : {I W U : Type 0} (unit : ℕ) (found : List (ZoneOverlap I W U)) → All (λ (o : Overlap). ArePointsSafe unit o.1.1) (overlaps_of found) →
@@ -153,23 +231,22 @@ records_safe {I} {W} {U} unit found h k d low =
     let at = get_or-map (overlap_of {I = I} {W = W} {U = U}) found k d (overlap_of d) low in
     subst (λ (o : Overlap). ArePointsSafe unit o.1.1) at (h k (overlap_of d) (rw length-map low))
 
--- ---- zones that vectors hold
+pub record_more : {I W U : Type 0} (old new : List (ZoneOverlap I W U)) (z : ZoneOverlap I W U) → new ≡ old ++ z ∷ [] → overlaps_of new ≡ overlaps_of old ++ overlap_of z ∷ []
+record_more {I} {W} {U} old new z is = ap (map (overlap_of {I = I} {W = W} {U = U})) is ∙ map-append (overlap_of {I = I} {W = W} {U = U}) old (z ∷ [])
 
-abbrev pub zones_in : List (Vec (Vec (Vec Point Global) Global) Global) → List (List (List (List Point)))
-zones_in zones = map (λ zone. shapes_of zone.items) zones
+-- places of pairs
+pub pair_places : (zones : List (Vec (Vec (Vec Point Global) Global) Global)) (pairs : List (ℕ × ℕ)) (i : ℕ) → AreMeetingPairs (zones_in zones) pairs → i < length pairs →
+    ((get_or pairs i (0, 0)).0 < length zones) × ((get_or pairs i (0, 0)).1 < length zones)
+pair_places zones pairs i meet low =
+    let two = pair_of (zones_in zones) pairs meet i low in
+    let len = length-map zones (λ (z : Vec (Vec (Vec Point Global) Global) Global). shapes_of z.items) in
+    (omega (arith, two, len), omega (arith, two, len))
 
-pub zone_at : (zones : List (Vec (Vec (Vec Point Global) Global) Global)) (i : ℕ) (zone : Vec (Vec (Vec Point Global) Global) Global) → i < length zones → zone ≡ get_or zones i zone →
-    get_or (zones_in zones) i [] ≡ shapes_of zone.items
-zone_at zones i zone low is = get_or-map (λ z. shapes_of z.items) zones i zone [] low ∙ ap (λ z. shapes_of z.items) (sym is)
-
-pub zone_count : (zones : List (Vec (Vec (Vec Point Global) Global) Global)) (i : ℕ) → i < length zones → i < length (zones_in zones)
-zone_count zones i low = rw length-map low
-
--- what both zones have in common, as the program resolves it
-pub common_regions : (zones : List (Vec (Vec (Vec Point Global) Global) Global)) (choices : Choices) (i j : ℕ) (first second : Vec (Vec (Vec Point Global) Global) Global) (answer : List (List (List Point))) →
-    i < length zones → j < length zones → first ≡ get_or zones i first → second ≡ get_or zones j second →
-    AreRegions (both_edges Positive (shapes_of first.items) (shapes_of second.items)) (filled_by (winding_rule.AtLeast 2)) choices answer → AreCommonRegions (zones_in zones) choices i j answer
-common_regions zones choices i j first second answer low within is are regions = rw (zone_at zones i first low is, zone_at zones j second within are) regions
+-- the edges of both zones
+pub pair_edges_are : (zones : List (Vec (Vec (Vec Point Global) Global) Global)) (i j : ℕ) (first second : Vec (Vec (Vec Point Global) Global) Global) → i < length zones → j < length zones →
+    first ≡ get_or zones i first → second ≡ get_or zones j second → both_edges Positive (shapes_of first.items) (shapes_of second.items) ≡ pair_edges (zones_in zones) i j
+pair_edges_are zones i j first second low within is are =
+    λ k. both_edges Positive (sym (zone_at zones i first low is) k) (sym (zone_at zones j second within are) k)
 
 pub no_shape : (shapes : List (Vec (Vec Point Global) Global)) → (length shapes == 0) ≡ true → shapes_of shapes ≡ []
 no_shape [] h = refl
@@ -178,50 +255,3 @@ no_shape (s ∷ ss) h = let none : length (s ∷ ss) ≡ 0 = eqb-true (length (s
 pub some_shape : (shapes : List (Vec (Vec Point Global) Global)) → (length shapes == 0) ≡ false → shapes_of shapes ≢ []
 some_shape [] h none = absurd (true≢false h)
 some_shape (s ∷ ss) h none = cc
-
--- ---- boxes
-
-pub no_boxes : AreBoxes [] []
-no_boxes = record { count = refl; inside = λ k d low. absurd (omega arith) }
-
-one_box_more : (zones : List (List (List (List Point)))) (zone : List (List (List Point))) (boxes : List Edge) (box : Edge) → AreBoxes zones boxes → All (λ p. IsInRectangle box p) (points_of zone) →
-    AreBoxes (zones ++ zone ∷ []) (boxes ++ box ∷ [])
-one_box_more zones zone boxes box h inside = record {
-  count = length-append boxes (box ∷ []) ∙ (ap (λ (n : ℕ). n + 1) h.count ∙ sym (length-append zones (zone ∷ [])));
-  inside = λ k d low.
-      let under : k ≤ length boxes = omega (arith, length-append boxes (box ∷ [])) in
-      elim (eq-or-lt_of_le under) [
-        | inl same ↦
-            let first : get_or (boxes ++ box ∷ []) k d ≡ box = rw same (get_or-append_seam boxes box [] d) in
-            let second : get_or (zones ++ zone ∷ []) k [] ≡ zone = rw (same, h.count) (get_or-append_seam zones zone [] []) in
-            rw (first, second) inside
-        | inr less ↦
-            let within : k < length zones = omega (arith, h.count) in
-            rw (get_or-append boxes (box ∷ []) d k less, get_or-append zones (zone ∷ []) [] k within) (h.inside k d less)
-      ];
-}
-
-module _ (zones : List (Vec (Vec (Vec Point Global) Global) Global)) where
-  pub boxes_more : (i : ℕ) (zone : Vec (Vec (Vec Point Global) Global) Global) (old new : List Edge) (box : Edge) → i < length zones → zone ≡ get_or zones i zone →
-      AreBoxes (zones_in (take i zones)) old → All (λ p. IsInRectangle box p) (points_of (shapes_of zone.items)) → new ≡ old ++ box ∷ [] → AreBoxes (zones_in (take (i + 1) zones)) new
-  boxes_more i zone old new box low is h inside more =
-      let next : zones_in (take (i + 1) zones) ≡ zones_in (take i zones) ++ shapes_of zone.items ∷ [] =
-      ap zones_in (take_more zones i zone low ∙ ap (λ z. take i zones ++ z ∷ []) (sym is)) ∙ map-append (λ z. shapes_of z.items) (take i zones) (zone ∷ []) in
-      rw (next, more) (one_box_more (zones_in (take i zones)) (shapes_of zone.items) old box h inside)
-
-  pub boxes_all : (i : ℕ) (boxes : List Edge) → length zones ≤ i → AreBoxes (zones_in (take i zones)) boxes → AreBoxes (zones_in zones) boxes
-  boxes_all i boxes past h = rw (take_all i zones past) at h
-
--- zones in boxes that are apart
-pub boxes_apart : (zones : List (List (List (List Point)))) (boxes : List Edge) (i j : ℕ) (b c : Edge) → AreBoxes zones boxes → i < length zones → j < length zones → b ≡ get_or boxes i b → c ≡ get_or boxes j c →
-    AreRectanglesApart b c → AreBoxesApart (get_or zones i []) (get_or zones j [])
-boxes_apart zones boxes i j b c h low within is are apart =
-    let first : i < length boxes = omega (arith, h.count) in
-    let second : j < length boxes = omega (arith, h.count) in
-    record {
-      first_box = b;
-      second_box = c;
-      first_inside = subst (λ (r : Edge). All (λ p. IsInRectangle r p) (points_of (get_or zones i []))) (sym is) (h.inside i b first);
-      second_inside = subst (λ (r : Edge). All (λ p. IsInRectangle r p) (points_of (get_or zones j []))) (sym are) (h.inside j c second);
-      apart = apart;
-    }

@@ -1,6 +1,6 @@
 -- Lemmas over points and lists: booleans of polygons, and how often zones cover points.
-use Rattle.std.proofs.Common.{◌≡◌, ◌⊎◌, inl, inr, ⊎_elim, ℕ, ◌+◌, ◌<◌, ◌≤◌, Bool, true, false, cond, List, [], ◌∷◌, ◌++◌, map, length, take, get_or, take_all, refl, sym, ◌∙◌, ap, subst, arith}
-use Rattle.std.specs.Prelude.{ℤ, pos, ◌+ℤ◌, int_le, int_lt, nat_le, max, count_by, Vec}
+use Rattle.std.proofs.Common.{◌≡◌, ◌⊎◌, inl, inr, ⊎_elim, ℕ, ◌+◌, ◌<◌, ◌≤◌, Bool, true, false, cond, List, [], ◌∷◌, ◌++◌, length, take, get_or, take_all, refl, sym, ◌∙◌, ap, subst, arith}
+use Rattle.std.specs.Prelude.{ℤ, pos, ◌+ℤ◌, int_lt, nat_le, max, count_by, Vec}
 use Rattle.std.specs.List.{All, flat_map}
 use Rattle.std.specs.declared.alloc.Global.{Global}
 use Rattle.std.proofs.lemmas.Int.{ints}
@@ -14,13 +14,12 @@ use Rattle.mesh_plane.proofs.ClosedLists.{all_mapped}
 use Rattle.mesh_plane.proofs.Crossings.{crossing_on_odd}
 use Rattle.mesh_plane.proofs.Sums.{total_append}
 use Rattle.mesh_num.specs.Paths.{shapes_of}
-use Rattle.mesh_num.specs.Segments.{SignedEdge, edges_of, proper_edges}
+use Rattle.mesh_num.specs.Segments.{SignedEdge, proper_edges}
 use Rattle.mesh_lattice.specs.Counted.{bit}
 use Rattle.mesh_lattice.specs.FillRules.{filled_by}
 use Rattle.mesh_lattice.specs.Reach.{ArePointsSafe}
 use Rattle.mesh_lattice.specs.Split.{after}
 use Rattle.mesh_lattice.specs.declared.fill.FillRule.TheVariants.{Positive}
-use Rattle.mesh_lattice.specs.declared.fill.WindingRule.{WindingRule}
 use Rattle.mesh_lattice.specs.declared.fill.WindingRule.TheVariants as winding_rule
 use Rattle.mesh_shapes.specs.Resolution.{Choices}
 use Rattle.mesh_below.specs.Laws.{AreRegions}
@@ -33,7 +32,7 @@ use Rattle.mesh_offset.proofs.Resolving.{adds_answer}
 use Rattle.mesh_boolean.specs.Private.Given.{AreGiven, AreZonesGiven}
 use Rattle.mesh_boolean.specs.Regions.{holds_point}
 use Rattle.mesh_boolean.specs.Rules.{combine, way_of}
-use Rattle.mesh_boolean.specs.Zones.{AreCoveredRegions, AreOverlaidRegions, AreOverlaidRegionsBeyond, WindOnce, edges_by, is_covered, rule_by, zone_edges, zones_of}
+use Rattle.mesh_boolean.specs.Zones.{AreCoveredRegions, AreCoveredRegionsBeyond, AreOverlaidRegions, AreOverlaidRegionsBeyond, WindOnce, edges_by, is_covered, rule_by, zone_edges, zones_of}
 use Rattle.mesh_boolean.specs.declared.rule.BooleanRule.{BooleanRule}
 use Rattle.mesh_boolean.specs.declared.rule.Way.{Way}
 use Rattle.mesh_boolean.specs.declared.rule.Way.TheVariants as way
@@ -128,17 +127,26 @@ zones_wind m some q (zone ∷ zones) once =
 least_filled : (least n : ℕ) → filled_by (winding_rule.AtLeast least) (pos n) ≡ nat_le (max least 1) n
 least_filled least n = grind (arith, ints)
 
-pub covered_regions : (least : ℕ) (zones : List (List (List (List Point)))) (choices : Choices) (answer : List (List (List Point))) → All WindOnce zones →
-    AreRegions (zone_edges zones) (filled_by (winding_rule.AtLeast least)) choices answer → AreCoveredRegions least zones choices answer
-covered_regions least zones choices answer once regions = record {
-  regions = regions;
-  fills = λ small forward m some q out.
-      regions.answered small forward m q
-      ∙ (regions.given m some q out
-      ∙ ap bit (ap (filled_by (winding_rule.AtLeast least))
+module _ (least : ℕ) (zones : List (List (List (List Point)))) (choices : Choices) (answer : List (List (List Point))) where
+  -- all edges together are filled where so many zones hold the point
+  covered_where : All WindOnce zones → (m : ℕ) → 0 < m → (q : Point) → filled_by (winding_rule.AtLeast least) (winding m q (zone_edges zones)) ≡ is_covered least zones m q
+  covered_where once m some q =
+      ap (filled_by (winding_rule.AtLeast least))
       (proper_edges_total (crossing_on m q) (crossing_on_odd m q) (flat_map answer_edges zones) ∙ zones_wind m some q zones once)
-      ∙ least_filled least (count_by (λ zone. holds_point zone m q) zones)));
-}
+      ∙ least_filled least (count_by (λ zone. holds_point zone m q) zones)
+
+  pub covered_regions : All WindOnce zones → AreRegions (zone_edges zones) (filled_by (winding_rule.AtLeast least)) choices answer → AreCoveredRegions least zones choices answer
+  covered_regions once regions = record {
+    regions = regions;
+    fills = λ small forward m some q out. regions.answered small forward m q ∙ (regions.given m some q out ∙ ap bit (covered_where once m some q));
+  }
+
+  pub covered_beyond : (k : ℕ) → All WindOnce zones → AreRegionsBeyond k (zone_edges zones) (filled_by (winding_rule.AtLeast least)) choices answer →
+      AreCoveredRegionsBeyond k least zones choices answer
+  covered_beyond k once beyond = record {
+    beyond = beyond;
+    fills = λ small forward m some q far. beyond.regions.answered small forward m q ∙ (beyond.exact m some q far ∙ ap bit (covered_where once m some q));
+  }
 
 -- answers wind once or not at all
 pub answer_once : (edges : List Edge) (fill : ℤ → Bool) (options : Choices) (answer : List (List (List Point))) → AreRegions edges fill options answer →

@@ -1,4 +1,5 @@
 -- What stands between the steps: only private contracts read these.
 pub mod Given
+pub mod Meeting
 pub mod PairsSoFar
 pub mod Steps

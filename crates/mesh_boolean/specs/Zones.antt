@@ -82,3 +82,10 @@ pub record AreCoveredRegions (least : ℕ) (zones : List (List (List (List Point
   pub regions : AreRegions (zone_edges zones) (filled_by (winding_rule.AtLeast least)) choices answer
   pub fills : WindsOnceWhere (is_covered least zones)
       (λ m q. OutsideBent regions.resolution.splits (zone_edges zones) m q) choices answer
+
+-- the same with an error bound, in 64ths of a grid unit: at each point farther than `k` from each edge of the zones the
+-- answer winds once where so many zones hold the point
+pub record AreCoveredRegionsBeyond (k least : ℕ) (zones : List (List (List (List Point)))) (choices : Choices)
+    (answer : List (List (List Point))) : Type 0 where
+  pub beyond : AreRegionsBeyond k (zone_edges zones) (filled_by (winding_rule.AtLeast least)) choices answer
+  pub fills : WindsOnceWhere (is_covered least zones) (λ m q. IsFarFrom k m (zone_edges zones) q) choices answer

@@ -50,7 +50,7 @@ fn near_region<I: IntNumber, S: IntShapeResource<I>>(
 }
 
 /// What the contours of two answers fill together by this rule, those of the second in this sense, and how near.
-fn near_combined<I: IntNumber>(
+pub(crate) fn near_combined<I: IntNumber>(
     alloc: Global,
     first: &IntShapes<I>,
     second: &IntShapes<I>,

@@ -5,6 +5,7 @@ ghost use Rattle.std.specs.List.{All};
 ghost use Rattle.mesh_num.specs.Paths.{shapes_of};
 ghost use Rattle.mesh_lattice.specs.FillRules.{filled_by};
 ghost use Rattle.mesh_lattice.specs.Reach.{ArePointsSafe};
+ghost use Rattle.mesh_lattice.specs.declared.fill.WindingRule.TheVariants as winding_rule;
 ghost use Rattle.mesh_ahead.specs.Counting.{CountsSplits};
 ghost use Rattle.mesh_split.specs.Counting.{IsPastLimit, IsWithinLimit};
 ghost use Rattle.mesh_below.specs.Nearness.{AreCountedRegions};
@@ -16,11 +17,13 @@ ghost use Rattle.mesh_boolean.specs.Private.Given.{AreGiven, AreZonesGiven};
 ghost use Rattle.mesh_boolean.specs.Rules.{way_of};
 ghost use Rattle.mesh_boolean.specs.Zones.{
   AreCoveredRegions,
+  AreCoveredRegionsBeyond,
   AreOverlaidRegions,
   AreOverlaidRegionsBeyond,
   WindOnce,
   edges_by,
   rule_by,
+  zone_edges,
   zones_of,
 };
 
@@ -195,6 +198,42 @@ pub fn coverage<I: IntNumber>(
     overlay.options = options;
     let answer = overlay.overlay_by(WindingRule::AtLeast(least))?;
     Ok(answer.shapes)
+}
+
+/// The same as `coverage`, with a proved error bound, the nearness: at each point farther than it from all edges of the
+/// zones the answer holds exactly the points that so many zones hold, and each point of its contours lies within it of
+/// such an edge.
+///
+/// Every split of an edge is added to `count`, those of attempts that were given up too. `TooManySplits` means that the
+/// count passed its limit, `OutOfMemory` that memory was refused. `CoordinateOutOfRange` is never returned.
+pub fn coverage_with_nearness<I: IntNumber>(
+    alloc: Global,
+    zones: &[IntShapes<I>],
+    least: u32,
+    options: IntOverlayOptions<I::WideUInt>,
+    count: &mut SplitCount,
+) -> Result<NearShapes<I>, IntNearnessError>
+    requires safe { All (ArePointsSafe I.unit) (zones_of zones.now) }
+    requires once { All WindOnce (zones_of zones.now) }
+    ensures regions { IfOk result (λ near. AreCoveredRegionsBeyond near.nearness least (zones_of zones.now)
+        (choices_of I.WideUInt.value options) (shapes_of near.shapes.items)) }
+    ensures standing { IfOk result (λ near. AreCountedRegions near.nearness (zone_edges (zones_of zones.now))
+        (filled_by (winding_rule.AtLeast least)) (choices_of I.WideUInt.value options)
+        (shapes_of near.shapes.items) count.old count.new) }
+    ensures safe { IfOk result (λ near. ArePointsSafe I.unit (shapes_of near.shapes.items)) }
+    ensures small { IfOk result (λ near. near.nearness ≤ 2 ^ 38) }
+    ensures counted { CountsAttempts 1 (λ edges. edges ≡ zone_edges (zones_of zones.now)) count.old count.new }
+    ensures within { OnOk result (IsWithinLimit count.new) }
+    ensures past { result ≡ Err IntNearnessError.TooManySplits → IsPastLimit count.new }
+    ensures refused { ¬ result ≡ Err IntNearnessError.CoordinateOutOfRange }
+{
+    // Read, so that it is known to fit: a return before any attempt counts none.
+    let _made = count.made;
+    let segments = zone_segments(alloc, zones)?;
+    let mut overlay = Overlay::with_segments(segments);
+    overlay.options = options;
+    let near = overlay.overlay_by_with_nearness(WindingRule::AtLeast(least), count)?;
+    Ok(near)
 }
 
 /// The segments of all zones.

@@ -3,6 +3,8 @@
 
 #[cfg(test)]
 mod random_answers;
+#[cfg(test)]
+mod random_zones;
 mod regions;
 #[cfg(test)]
 mod worked_answers;

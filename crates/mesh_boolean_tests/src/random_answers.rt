@@ -51,7 +51,7 @@ fn is_kept(rule: BooleanRule, first: bool, second: bool) -> bool {
 }
 
 /// Up to three rectangles, in either direction, and their edges.
-fn rectangles(
+pub(crate) fn rectangles(
     alloc: Global,
     random: &mut Random,
 ) -> Result<(Vec<Vec<IntPoint<i32>>>, Vec<Edge>), AllocError> {

@@ -1,10 +1,11 @@
 //! Regions of contours, tested before they are asked for.
 
 ghost use Rattle.std.specs.Prelude.{◌≡◌, ◌^◌, IfOk, OnOk};
+ghost use Rattle.std.specs.List.{All};
 ghost use Rattle.mesh_num.specs.Paths.{shapes_of};
 ghost use Rattle.mesh_lattice.specs.Reach.{ArePointsSafe};
 ghost use Rattle.mesh_boolean.specs.Booleans.{ArePathsInRange};
-ghost use Rattle.mesh_boolean.specs.Zones.{WindOnce};
+ghost use Rattle.mesh_boolean.specs.Zones.{WindOnce, zones_of};
 
 use mesh_below::below::IntOverlayOptions;
 use mesh_boolean::boolean::{overlay_shapes, validate_overlay};
@@ -47,4 +48,20 @@ pub fn region<I: IntNumber, S: IntShapeResource<I>>(
         IntOverlayOptions::new(),
     )?;
     Ok(shapes)
+}
+
+/// What each list of contours fills by the rule `NonZero`.
+pub fn regions<I: IntNumber, S: IntShapeResource<I>>(
+    alloc: Global,
+    sources: &[S],
+) -> Result<Vec<IntShapes<I>>, Fail>
+    ensures safe { IfOk result (λ zones. All (λ zone. ArePointsSafe I.unit (shapes_of zone.items)) zones.items) }
+    ensures all_safe { IfOk result (λ zones. All (ArePointsSafe I.unit) (zones_of zones.items)) }
+    ensures once { IfOk result (λ zones. All WindOnce (zones_of zones.items)) }
+{
+    let mut zones = Vec::new(alloc);
+    for source in sources {
+        zones.push(region(alloc, source)?)?;
+    }
+    Ok(zones)
 }

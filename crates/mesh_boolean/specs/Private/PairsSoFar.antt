@@ -1,23 +1,27 @@
--- What is known of pairs of zones while they are gone through in lexicographic order. Private contracts alone read this.
-use Rattle.std.specs.Prelude.{ℕ, ◌<◌, ◌≡◌, List, [], length, get_or}
-use Rattle.std.specs.List.{All, AllPairs}
-use Rattle.mesh_plane.specs.Plane.{Point, Edge}
-use Rattle.mesh_num.specs.Rectangle.{IsInRectangle}
+-- What is known of pairs of zones while they are resolved one after another. Private contracts alone read this.
+use Rattle.std.specs.Prelude.{ℕ, ◌≡◌, ◌≢◌, ◌⊎◌, List, [], ◌∷◌, ◌++◌}
+use Rattle.std.specs.List.{All, AllPairs, Contains}
+use Rattle.mesh_plane.specs.Plane.{Point}
 use Rattle.mesh_lattice.specs.Reach.{ArePointsSafe}
-use Rattle.mesh_shapes.specs.Resolution.{Choices}
-use Rattle.mesh_boolean.specs.Overlaps.{IsOverlap, IsOverlapBefore, IsPairBefore, IsDecided, Overlap, points_of}
+use Rattle.mesh_boolean.specs.Overlaps.{IsListed, IsOverlapBefore, Overlap}
 
--- each zone has a box, which holds all its points
-pub record AreBoxes (zones : List (List (List (List Point)))) (boxes : List Edge) : Type 0 where
-  pub count : length boxes ≡ length zones
-  pub inside : (k : ℕ) (d : Edge) → k < length boxes
-      → All (λ p. IsInRectangle (get_or boxes k d) p) (points_of (get_or zones k []))
+-- an answer of a pair is listed, unless it is nothing
+abbrev pub IsListedUnlessEmpty : ℕ × ℕ → List (List (List Point)) → List Overlap → List Overlap → Type 0
+IsListedUnlessEmpty pair answer old new =
+    ((answer ≡ []) × (new ≡ old)) ⊎ ((answer ≢ []) × (new ≡ old ++ (pair.0, (pair.1, answer)) ∷ []))
 
--- the pairs before (i, j) are settled, and those that overlap are listed in order, each answer in the safe range
-pub record AreOverlapsBefore (unit : ℕ) (zones : List (List (List (List Point)))) (choices : Choices) (i j : ℕ)
+-- a pair was resolved, with an answer of which this is known, and that is listed unless it is nothing
+pub record AddsOverlap (unit : ℕ) (Has : List (List (List Point)) → Type 0) (pair : ℕ × ℕ) (old new : List Overlap)
+    : Type 0 where
+  pub answer : List (List (List Point))
+  pub has : Has answer
+  pub safe : ArePointsSafe unit answer
+  pub added : IsListedUnlessEmpty pair answer old new
+
+-- the same of each of these pairs, and those whose answer is not nothing are listed, in lexicographic order
+pub record AreOverlapsOf (unit : ℕ) (Has : ℕ → ℕ → List (List (List Point)) → Type 0) (pairs : List (ℕ × ℕ))
     (found : List Overlap) : Type 0 where
-  pub each : All (λ o. IsOverlap zones choices o) found
+  pub each : All (λ (o : Overlap). Contains pairs (o.0, o.1.0) × (o.1.1 ≢ []) × Has o.0 o.1.0 o.1.1) found
   pub safe : All (λ (o : Overlap). ArePointsSafe unit o.1.1) found
-  pub before : All (λ (o : Overlap). IsPairBefore o.0 o.1.0 i j) found
   pub ordered : AllPairs IsOverlapBefore found
-  pub others : (k l : ℕ) → k < l → l < length zones → IsPairBefore k l i j → IsDecided zones choices found k l
+  pub others : (p : ℕ × ℕ) → Contains pairs p → IsListed found p.0 p.1 ⊎ Has p.0 p.1 []

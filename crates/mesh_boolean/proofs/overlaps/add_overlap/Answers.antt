@@ -1,46 +1,27 @@
--- The pair is settled, or it is listed.
-use Rattle.std.proofs.Common.{◌≡◌, ◌==◌, ◌<◌, true, false, length, inl, inr, sym, ◌∙◌, subst, arith}
+-- The edges of both zones are resolved.
+use Rattle.std.proofs.Common.{List, subst}
+use Rattle.mesh_plane.specs.Plane.{Edge}
 use Rattle.mesh_num.specs.Paths.{shapes_of}
-use Rattle.mesh_lattice.specs.Reach.{ArePointsSafe}
+use Rattle.mesh_lattice.specs.FillRules.{filled_by}
+use Rattle.mesh_lattice.specs.declared.fill.WindingRule.TheVariants as winding_rule
+use Rattle.mesh_below.specs.Laws.{AreRegions}
 use Rattle.mesh_below.specs.Options.{choices_of}
-use Rattle.mesh_boolean.specs.Overlaps.{AreCommonRegions, overlaps_of}
-use Rattle.mesh_boolean.proofs.Overlapping.{boxes_apart, common_regions, listed_more, next_listed, next_settled, no_shape, some_shape, zone_count, zones_in}
+use Rattle.mesh_boolean.proofs.Overlapping.{pair_edges_are}
 use Rattle.mesh_boolean.proofs.overlaps.add_overlap.Goals as goal
 
-pub returns-then-are_apart : goal.returns-then-are_apart
-returns-then-are_apart g c =
-    let low : c.args.first < length c.args.zones.now = omega arith in
-    next_settled g.I.IntNumber.unit (zones_in c.args.zones.now) (choices_of g.I.WideUInt.WideUnsigned.value c.args.options) c.args.first c.args.second (overlaps_of c.args.found.now.items)
-    (inr (inl (boxes_apart (zones_in c.args.zones.now) c.args.boxes.now c.args.first c.args.second c.index-boxes-first.result c.index-boxes-second.result c.requires.boxes
-    (zone_count c.args.zones.now c.args.first low) (zone_count c.args.zones.now c.args.second c.requires.within) c.index-boxes-first.is c.index-boxes-second.is
-    (c.are_apart.ensures.0 c.if-are_apart.true))))
-    c.requires.so_far
-
 pub combined-requires-clause-first : goal.combined-requires-clause-first
-combined-requires-clause-first g c =
-    let low : c.args.first < length c.args.zones.now = omega arith in
-    rw c.index-zones-first.is (c.requires.safe c.args.first c.index-zones-first.result low)
+combined-requires-clause-first g c = rw c.index-zones-first.is (c.requires.safe c.args.pair.0 c.index-zones-first.result c.requires.first)
 
 pub combined-requires-clause-second : goal.combined-requires-clause-second
-combined-requires-clause-second g c = rw c.index-zones-second.is (c.requires.safe c.args.second c.index-zones-second.result c.requires.within)
-
-pub returns-then-is_empty : goal.returns-then-is_empty
-returns-then-is_empty g c =
-    let low : c.args.first < length c.args.zones.now = omega arith in
-    let empty : (length c.in_ok-shapes.shapes.items == 0) ≡ true = rw (← c.in_ok-shapes.shapes.ok.0) (sym c.is_empty.ensures ∙ c.if-is_empty.true) in
-    next_settled g.I.IntNumber.unit (zones_in c.args.zones.now) (choices_of g.I.WideUInt.WideUnsigned.value c.args.options) c.args.first c.args.second (overlaps_of c.args.found.now.items)
-    (inr (inr (subst (AreCommonRegions (zones_in c.args.zones.now) (choices_of g.I.WideUInt.WideUnsigned.value c.args.options) c.args.first c.args.second) (no_shape c.in_ok-shapes.shapes.items empty)
-    (common_regions c.args.zones.now (choices_of g.I.WideUInt.WideUnsigned.value c.args.options) c.args.first c.args.second c.index-zones-first.result c.index-zones-second.result
-    (shapes_of c.in_ok-shapes.shapes.items) low c.requires.within c.index-zones-first.is c.index-zones-second.is c.in_ok-shapes.ensures.regions))))
-    c.requires.so_far
+combined-requires-clause-second g c = rw c.index-zones-second.is (c.requires.safe c.args.pair.1 c.index-zones-second.result c.requires.second)
 
 pub returns : goal.returns
-returns g c =
-    let low : c.args.first < length c.args.zones.now = omega arith in
-    let some : (length c.in_ok-shapes.shapes.items == 0) ≡ false = rw (← c.in_ok-shapes.shapes.ok.0) (sym c.is_empty.ensures ∙ c.if-is_empty.false) in
-    listed_more g.I.IntNumber.unit (zones_in c.args.zones.now) (choices_of g.I.WideUInt.WideUnsigned.value c.args.options) _ _ c.args.found.now.items c.push.new.self.items _ c.in_ok-push.ensures.items
-    (next_listed g.I.IntNumber.unit (zones_in c.args.zones.now) (choices_of g.I.WideUInt.WideUnsigned.value c.args.options) c.args.first c.args.second (overlaps_of c.args.found.now.items)
-    (shapes_of c.in_ok-shapes.shapes.items) c.requires.ascending (zone_count c.args.zones.now c.args.second c.requires.within) (some_shape c.in_ok-shapes.shapes.items some)
-    (common_regions c.args.zones.now (choices_of g.I.WideUInt.WideUnsigned.value c.args.options) c.args.first c.args.second c.index-zones-first.result c.index-zones-second.result
-    (shapes_of c.in_ok-shapes.shapes.items) low c.requires.within c.index-zones-first.is c.index-zones-second.is c.in_ok-shapes.ensures.regions)
-    c.in_ok-shapes.ensures.safe c.requires.so_far)
+returns g c = record {
+  answer = shapes_of c.in_ok-shapes.shapes.items;
+  has =
+      subst (λ (es : List Edge). AreRegions es (filled_by (winding_rule.AtLeast 2)) (choices_of g.I.WideUInt.WideUnsigned.value c.args.options) (shapes_of c.in_ok-shapes.shapes.items))
+      (pair_edges_are c.args.zones.now c.args.pair.0 c.args.pair.1 c.index-zones-first.result c.index-zones-second.result c.requires.first c.requires.second c.index-zones-first.is c.index-zones-second.is)
+      c.in_ok-shapes.ensures.regions;
+  safe = c.in_ok-shapes.ensures.safe;
+  added = c.in_ok-list_unless_empty.ensures;
+}
