@@ -6,3 +6,4 @@ pub mod Order
 pub mod Paddings
 pub mod Parts
 pub mod Refusals
+pub mod Regions

@@ -1,7 +1,8 @@
 //! What each kind of drawing does.
 
-ghost use Rattle.std.specs.Prelude.{◌≡◌, ◌↔◌, IsOk, IfOk, OnErr, OnOk};
+ghost use Rattle.std.specs.Prelude.{◌≡◌, ◌↔◌, ◌≤◌, ◌^◌, IsOk, IfOk, OnErr, OnOk};
 ghost use Rattle.mesh_num.specs.Paths.{paths_of, shapes_of};
+ghost use Rattle.mesh_lattice.specs.Reach.{ArePointsSafe};
 ghost use Rattle.mesh_below.specs.Options.{choices_of};
 ghost use Rattle.mesh_split.specs.Counting.{IsPastLimit, IsWithinLimit};
 ghost use Rattle.mesh_drawing.specs.Order.{by_values};
@@ -9,6 +10,7 @@ ghost use Rattle.mesh_drawing.specs.Drawn.{Drawn};
 ghost use Rattle.mesh_drawing.specs.Drawings.{AreEdgesOf, AreShapesOf, DoAreasFit};
 ghost use Rattle.mesh_drawing.specs.Nearness.{AreCountedShapes, CountsDrawn};
 ghost use Rattle.mesh_drawing.specs.Paddings.{DoesStayInRange};
+ghost use Rattle.mesh_drawing.specs.Regions.{AreRegionsOf};
 
 use i_overlay_mesh::IntOutlineError;
 use mesh_below::below::IntOverlayOptions;
@@ -49,6 +51,9 @@ pub(crate) trait Drawable<I: OverlayInt> {
         requires { DoesStayInRange I.unit (drawn self.now) }
         ensures shapes { IfOk result (λ shapes. AreShapesOf I.unit (choices_of I.WideUInt.value options.now.0)
             (drawn self.now) (shapes_of shapes.items)) }
+        ensures regions { IfOk result (λ shapes. AreRegionsOf I.unit (choices_of I.WideUInt.value options.now.0)
+            (drawn self.now) (shapes_of shapes.items)) }
+        ensures safe { IfOk result (λ shapes. ArePointsSafe I.unit (shapes_of shapes.items)) }
         ensures unfit { result ≡ Err IntOutlineError.CoordinateOutOfRange ↔ ¬ DoAreasFit I.unit (drawn self.now) };
 
     /// The same with their nearness. The splits that are made are counted on.
@@ -62,6 +67,8 @@ pub(crate) trait Drawable<I: OverlayInt> {
         ensures shapes { IfOk result (λ near. AreCountedShapes near.nearness I.unit
             (choices_of I.WideUInt.value options.now.0) (drawn self.now) (shapes_of near.shapes.items)
             count.old count.new) }
+        ensures safe { IfOk result (λ near. ArePointsSafe I.unit (shapes_of near.shapes.items)) }
+        ensures small { IfOk result (λ near. near.nearness ≤ 2 ^ 39) }
         ensures within { OnOk result (IsWithinLimit count.new) }
         ensures unfit { result ≡ Err IntNearnessError.CoordinateOutOfRange ↔ ¬ DoAreasFit I.unit (drawn self.now) }
         ensures counted { CountsDrawn I.unit (drawn self.now) count.old count.new }

@@ -1,5 +1,6 @@
 //! What is drawn of paths, without JSON and without arrays: a drawing is paths and how they are drawn (`drawing`). How far
-//! it reaches (`padding`), where it leaves the range (`refusal`), and what is asked of it (`asked`) and drawn (`draw`).
+//! it reaches (`padding`), where it leaves the range (`refusal`), and what is asked of it (`asked`) and drawn (`draw`); and
+//! its shapes alone, to be combined with others (`region`).
 #![tactic(auto)]
 
 pub mod asked;
@@ -11,5 +12,6 @@ mod edge;
 mod outline;
 pub mod padding;
 pub mod refusal;
+pub mod region;
 mod stroke;
 mod variable_stroke;
