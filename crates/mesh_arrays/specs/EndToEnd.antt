@@ -28,3 +28,15 @@ pub record HoldsShapes {F : Type 0} (point_of : F → Point) (flat : FlatShapes 
     : Type 0 where
   pub contours : HoldsLists point_of flat.contours (end_to_end shapes)
   pub ended : ends_from 0 shapes ≡ flat.shape_ends.items
+
+-- items of lists that stand end to end, as numbers, and where each list ends
+pub record PathLists (F : Type 0) : Type 0 where
+  pub items : List F
+  pub ends : List ℕ
+
+abbrev pub path_lists : {F : Type 0} → List F → List ℕ → PathLists F
+path_lists items ends = record { items = items; ends = ends }
+
+-- paths stand end to end, where `item_of` is what the numbers for an item stand for
+abbrev pub StandEndToEnd : {F A : Type 0} → (F → A) → List (List A) → PathLists F → Type 0
+StandEndToEnd item_of paths lists = AreEndToEnd paths (map item_of lists.items) lists.ends

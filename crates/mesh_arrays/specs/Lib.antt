@@ -1,4 +1,6 @@
 pub mod Answers
+pub mod BooleanCalls
+pub mod Booleans
 pub mod Clearances
 pub mod Drawings
 pub mod EdgeRooms

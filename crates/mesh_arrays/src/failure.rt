@@ -1,6 +1,6 @@
 //! Why there is no answer.
 
-use mesh_offset::error::IntNearnessError;
+use mesh_offset::error::{IntNearnessError, IntOutlineError};
 use std::alloc::{AllocError, AllocFailed};
 
 /// Why there is no answer.
@@ -49,6 +49,21 @@ impl From<IntNearnessError> for Failure {
             IntNearnessError::CoordinateOutOfRange => Failure::OutOfRange,
             IntNearnessError::OutOfMemory => Failure::OutOfMemory,
             IntNearnessError::TooManySplits => Failure::TooManySplits,
+        }
+    }
+}
+
+impl From<IntOutlineError> for Failure {
+    ghost use Rattle.std.specs.Prelude.{◌≡◌};
+    ghost use Rattle.mesh_offset.specs.Errors.{of_offset};
+    ghost use Rattle.mesh_arrays.specs.Failures.{failure_of};
+
+    ghost from_gives = { λ error failure. failure ≡ failure_of (of_offset error) };
+
+    fn from(error: IntOutlineError) -> Self {
+        match error {
+            IntOutlineError::CoordinateOutOfRange => Failure::OutOfRange,
+            IntOutlineError::OutOfMemory => Failure::OutOfMemory,
         }
     }
 }

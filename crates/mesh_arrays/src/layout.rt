@@ -1,6 +1,7 @@
 //! The sizes of what crosses to other languages. Each is the sum of the sizes of its fields, so there is no gap, and a
 //! field lies where those before it end.
 
+use crate::boolean::FlatBoolean;
 use crate::edges::EdgeCounts;
 use crate::options::FlatOptions;
 use crate::shapes::ShapeCounts;
@@ -18,6 +19,8 @@ const _: () = prove!(size_of::<FlatCap>() == 12);
 const _: () = prove!(size_of::<FlatStrokeStyle>() == 56);
 
 const _: () = prove!(size_of::<FlatOptions>() == 16);
+
+const _: () = prove!(size_of::<FlatBoolean>() == 12);
 
 const _: () = prove!(size_of::<ShapeCounts>() == 24);
 

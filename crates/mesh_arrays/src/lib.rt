@@ -1,9 +1,12 @@
 //! The library over slices and numbers, for languages that hold drawings in arrays: no call here hands out what its
 //! caller has to free. What a call answers goes into room that the caller gives. A drawing is read (`drawing`), and what
-//! is drawn of it told (`drawn`), or how far it reaches (`range`).
+//! is drawn of it told (`drawn`), or how far it reaches (`range`). A boolean is read (`boolean`), and what it keeps told
+//! (`combined`).
 #![tactic(auto)]
 
+pub mod boolean;
 pub mod clearance;
+pub mod combined;
 pub mod drawing;
 pub mod drawn;
 pub mod edges;
