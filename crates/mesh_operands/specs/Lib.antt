@@ -1,1 +1,2 @@
+pub mod Combining
 pub mod Operands

@@ -1,5 +1,9 @@
 //! What is combined with what: operands, which are contours or what is drawn of paths, and what is made of them, a
-//! boolean, where zones cover the plane, or where they overlap (`operand`). Without JSON and without arrays.
+//! boolean, where zones cover the plane, or where they overlap (`operand`); how it is made (`combine`), and which operand
+//! may not take part, and why (`refusal`). Without JSON and without arrays.
 #![tactic(auto)]
 
+pub mod combine;
 pub mod operand;
+pub mod refusal;
+mod region;
