@@ -1,4 +1,4 @@
-/* Polygon offsetting on an integer grid, for C.
+/* Polygon offsetting and booleans on an integer grid, for C.
 
    You pass everything that a call reads, and every array that it writes. A call keeps no pointers, and frees what it
    allocates before it returns. Calls may run in many threads at once, each with arrays of its own. Do not call from a
@@ -14,9 +14,9 @@
 #define I_OVERLAY_MESH_H
 
 #define MESH_VERSION_MAJOR 1
-#define MESH_VERSION_MINOR 1
+#define MESH_VERSION_MINOR 2
 #define MESH_VERSION_PATCH 0
-#define MESH_VERSION "1.1.0"
+#define MESH_VERSION "1.2.0"
 
 #include <stddef.h>
 #include <stdint.h>
@@ -320,6 +320,76 @@ mesh_outcome mesh_validate_variable_stroke_i32(
 mesh_outcome mesh_validate_variable_stroke_i16(
     const mesh_vertex_i16 *vertices, size_t vertex_count, const size_t *ends, size_t end_count,
     const mesh_arc *arc, int64_t *padding);
+
+/* ---- Booleans */
+
+/* Which points of two operands, the subject and the clip, a boolean keeps. */
+enum {
+    MESH_RULE_SUBJECT = 0,            /* Those of the subject. The contours of the clip are not looked at. */
+    MESH_RULE_CLIP = 1,               /* Those of the clip. */
+    MESH_RULE_INTERSECT = 2,          /* Those of both. */
+    MESH_RULE_UNION = 3,              /* Those of one of them, or of both. */
+    MESH_RULE_DIFFERENCE = 4,         /* Those of the subject that are not in the clip. */
+    MESH_RULE_INVERSE_DIFFERENCE = 5, /* Those of the clip that are not in the subject. */
+    MESH_RULE_XOR = 6                 /* Those of exactly one of them. */
+};
+
+/* Which points the contours of an operand fill, by their winding number: odd, not 0, above 0, or below 0. */
+enum { MESH_FILL_EVEN_ODD = 0, MESH_FILL_NON_ZERO = 1, MESH_FILL_POSITIVE = 2, MESH_FILL_NEGATIVE = 3 };
+
+typedef struct {
+    uint32_t rule;                    /* MESH_RULE_.. */
+    uint32_t subject_fill, clip_fill; /* MESH_FILL_.. of each operand. */
+} mesh_boolean;
+
+/* Combines two regions, and returns polygons.
+
+   subject_points, clip_points   the points of all contours of an operand, contour by contour. Contours are closed, and
+                                 may run either way, cross themselves and each other, and touch
+   subject_ends, clip_ends       for each contour, the index after its last point
+   shape_points, ..              as for drawings, and so are the outcomes
+
+   Each operand is resolved alone, with default options; then both are resolved together, with the given ones. Where
+   operands only touch, they have nothing in common. For operands that earlier calls answered with default options, use
+   MESH_FILL_POSITIVE. MESH_OUT_OF_RANGE: some coordinate of either operand, even of one that the rule does not look at,
+   is not strictly between -2^14 and 2^14 in 16 bits, or between -2^30 and 2^30 in 32 bits. MESH_MALFORMED: ends that
+   decrease, or do not end with the number of points; an unknown rule or fill. */
+mesh_outcome mesh_boolean_i32(
+    const mesh_point_i32 *subject_points, size_t subject_point_count,
+    const size_t *subject_ends, size_t subject_end_count,
+    const mesh_point_i32 *clip_points, size_t clip_point_count, const size_t *clip_ends, size_t clip_end_count,
+    const mesh_boolean *boolean, const mesh_options *options,
+    mesh_point_i32 *shape_points, size_t shape_point_room, size_t *contour_ends, size_t contour_room,
+    size_t *shape_ends, size_t shape_room, mesh_shape_counts *counts);
+
+mesh_outcome mesh_boolean_i16(
+    const mesh_point_i16 *subject_points, size_t subject_point_count,
+    const size_t *subject_ends, size_t subject_end_count,
+    const mesh_point_i16 *clip_points, size_t clip_point_count, const size_t *clip_ends, size_t clip_end_count,
+    const mesh_boolean *boolean, const mesh_options *options,
+    mesh_point_i16 *shape_points, size_t shape_point_room, size_t *contour_ends, size_t contour_room,
+    size_t *shape_ends, size_t shape_room, mesh_shape_counts *counts);
+
+/* The same with an error bound, in 64ths of a grid unit, rounded up, and a limit on splits, 0 for none. The polygons are
+   exactly right at each point that is farther than `nearness` from every edge of the operands that are looked at, as long
+   as options have `min_area` 0 and `clockwise` 0. All is as for drawings. */
+mesh_outcome mesh_boolean_near_i32(
+    const mesh_point_i32 *subject_points, size_t subject_point_count,
+    const size_t *subject_ends, size_t subject_end_count,
+    const mesh_point_i32 *clip_points, size_t clip_point_count, const size_t *clip_ends, size_t clip_end_count,
+    const mesh_boolean *boolean, const mesh_options *options, uint64_t most_splits,
+    mesh_point_i32 *shape_points, size_t shape_point_room, size_t *contour_ends, size_t contour_room,
+    size_t *shape_ends, size_t shape_room, mesh_shape_counts *counts,
+    uint64_t *nearness);
+
+mesh_outcome mesh_boolean_near_i16(
+    const mesh_point_i16 *subject_points, size_t subject_point_count,
+    const size_t *subject_ends, size_t subject_end_count,
+    const mesh_point_i16 *clip_points, size_t clip_point_count, const size_t *clip_ends, size_t clip_end_count,
+    const mesh_boolean *boolean, const mesh_options *options, uint64_t most_splits,
+    mesh_point_i16 *shape_points, size_t shape_point_room, size_t *contour_ends, size_t contour_room,
+    size_t *shape_ends, size_t shape_room, mesh_shape_counts *counts,
+    uint64_t *nearness);
 
 /* Returns polygons without slivers: contours that are thin, whatever their area, as rounding may leave them where nearly
    parallel edges cross. A contour is a sliver where each of its vertices lies at most `width` from the line that leads

@@ -34,6 +34,8 @@ _Static_assert(sizeof(mesh_stroke_style) == 56 && offsetof(mesh_stroke_style, jo
                "mesh_stroke_style");
 _Static_assert(sizeof(mesh_options) == 16 && offsetof(mesh_options, clockwise) == 8
                    && offsetof(mesh_options, collinear) == 12, "mesh_options");
+_Static_assert(sizeof(mesh_boolean) == 12 && offsetof(mesh_boolean, subject_fill) == 4
+                   && offsetof(mesh_boolean, clip_fill) == 8, "mesh_boolean");
 _Static_assert(sizeof(mesh_shape_counts) == 24 && offsetof(mesh_shape_counts, contours) == 8
                    && offsetof(mesh_shape_counts, shapes) == 16, "mesh_shape_counts");
 _Static_assert(sizeof(mesh_edge_counts) == 16 && offsetof(mesh_edge_counts, paths) == 8, "mesh_edge_counts");
@@ -54,7 +56,8 @@ enum { OUTLINE, STROKE, VARIABLE_STROKE };
 
 struct lists;
 
-/* A drawing; `start` and `end` are the points of custom caps. Or, where there are any, given shapes without slivers. */
+/* A drawing; `start` and `end` are the points of custom caps. Or, where there are any, given shapes without slivers, or
+   combined with others. */
 struct drawing {
     int operation, width, for_edges;
     mesh_outline_style outline;
@@ -63,8 +66,9 @@ struct drawing {
     mesh_options options;
     size_t *ends, end_count;
     struct numbers start, end, items;
-    const struct lists *given;
+    const struct lists *given, *clip;
     uint32_t sliver_width;
+    mesh_boolean boolean;
 };
 
 struct test_case {
@@ -363,6 +367,8 @@ struct writer {
     size_t size, room;
 };
 
+static void take_lists(struct lists *to, mesh_shape_counts room);
+
 static void put(struct writer *to, const char *format, ...)
 {
     va_list words;
@@ -375,11 +381,13 @@ static void put(struct writer *to, const char *format, ...)
 #include "draw.h"
 #include "slivers.h"
 #include "clearance.h"
+#include "booleans.h"
 #undef OF
 #define OF(name) name##_i16
 #include "draw.h"
 #include "slivers.h"
 #include "clearance.h"
+#include "booleans.h"
 #undef OF
 
 static void take_lists(struct lists *to, mesh_shape_counts room)
@@ -506,6 +514,7 @@ static size_t check_drawing_refused(drawer *draw, const struct test_case *it);
 
 #include "sliver_checks.h"
 #include "clearance_checks.h"
+#include "boolean_checks.h"
 
 static void check_drawing(const struct test_case *it)
 {
@@ -515,73 +524,10 @@ static void check_drawing(const struct test_case *it)
     check_limit(it, UINT64_MAX);
     check_slivers(it);
     check_clearance(it);
+    check_booleans(it);
 }
 
-static void take_edge_lists(struct edge_lists *to, mesh_edge_counts room)
-{
-    to->edge_room = room.edges;
-    to->path_room = room.paths;
-    to->edges = taken(room.edges * sizeof(mesh_edge_i32));
-    to->path_ends = taken(room.paths * sizeof(size_t));
-    memset(to->edges, MARK, room.edges * sizeof(mesh_edge_i32));
-    memset(to->path_ends, MARK, room.paths * sizeof(size_t));
-    to->counts = (mesh_edge_counts){77, 77};
-}
-
-static mesh_outcome draw_edges(const struct drawing *it, struct edge_lists *to)
-{
-    return (it->width == 32 ? draw_edges_i32 : draw_edges_i16)(it, to);
-}
-
-static int are_edges_marked(const struct edge_lists *it)
-{
-    return is_marked(it->edges, it->edge_room * sizeof(mesh_edge_i32))
-        && is_marked((const uint8_t *)it->path_ends, it->path_room * sizeof(size_t));
-}
-
-/* Whether the lists have what the line of the case says. */
-static int are_its_edges(const struct test_case *it, const struct edge_lists *lists)
-{
-    struct writer told = {taken(it->line.size + 1), 0, it->line.size + 1};
-    (it->drawing.width == 32 ? write_edges_i32 : write_edges_i16)(&told, lists);
-    int is_same = !it->status && told.size == it->line.size && !memcmp(told.text, it->line.bytes, told.size);
-    free(told.text);
-    return is_same;
-}
-
-/* Edges in lists of this size. Returns how many there are. */
-static mesh_edge_counts check_edges_in(const struct test_case *it, mesh_edge_counts room)
-{
-    struct edge_lists lists;
-    take_edge_lists(&lists, room);
-    mesh_outcome outcome = draw_edges(&it->drawing, &lists);
-    int is_unchanged = are_edges_marked(&lists);
-    if (outcome == MESH_ANSWERED) {
-        if (!are_its_edges(it, &lists))
-            fail(it, "other edges than the program's");
-    } else if (outcome == MESH_OUT_OF_RANGE) {
-        if (it->status != 1 || lists.counts.edges != 77 || !is_unchanged)
-            fail(it, "edges that are refused are told otherwise");
-        lists.counts = (mesh_edge_counts){0, 0};
-    } else if (outcome != MESH_ROOM_TOO_SMALL || !is_unchanged
-               || (room.edges >= lists.counts.edges && room.paths >= lists.counts.paths)) {
-        fail(it, "a list of edges that is too small is changed, or not told");
-    }
-    free(lists.edges);
-    free(lists.path_ends);
-    return lists.counts;
-}
-
-/* Edges in lists of just their size, and in those that are too small for one item. */
-static void check_edges(const struct test_case *it)
-{
-    mesh_edge_counts counts = check_edges_in(it, (mesh_edge_counts){0, 0});
-    check_edges_in(it, counts);
-    if (counts.edges)
-        check_edges_in(it, (mesh_edge_counts){counts.edges - 1, counts.paths});
-    if (counts.paths)
-        check_edges_in(it, (mesh_edge_counts){counts.edges, counts.paths - 1});
-}
+#include "edge_checks.h"
 
 /* A drawing whose ends are none, or whose style stands for nothing, is told as malformed. */
 static void check_malformed(const struct test_case *it)
@@ -717,29 +663,6 @@ static size_t check_drawing_refused(drawer *draw, const struct test_case *it)
     }
 }
 
-/* The same of the edges of a drawing. */
-static size_t check_edges_refused(const struct test_case *it)
-{
-    struct edge_lists lists;
-    for (size_t number = 1;; number++) {
-        take_edge_lists(&lists, (mesh_edge_counts){1000, 100});
-        grown = 0;
-        refused = number;
-        mesh_outcome outcome = draw_edges(&it->drawing, &lists);
-        int is_met = grown >= number;
-        refused = 0;
-        int is_answer = outcome == MESH_ANSWERED && are_its_edges(it, &lists);
-        int is_told = outcome == MESH_OUT_OF_MEMORY && are_edges_marked(&lists) && lists.counts.edges == 77;
-        int is_same = outcome == MESH_ROOM_TOO_SMALL || (outcome == MESH_OUT_OF_RANGE && it->status == 1);
-        if (!is_answer && !is_same && !(is_met && is_told))
-            fail(it, "refused memory is not told of edges");
-        free(lists.edges);
-        free(lists.path_ends);
-        if (!is_met)
-            return number - 1;
-    }
-}
-
 /* The same of the range of a drawing. */
 static size_t check_range_refused(const struct test_case *it)
 {
@@ -768,7 +691,7 @@ static size_t check_all_refused(const struct test_case *it)
     if (it->drawing.for_edges)
         return growths + check_edges_refused(it);
     return growths + check_drawing_refused(draw, it) + check_drawing_refused(draw_with_nearness, it)
-        + check_slivers_refused(it) + check_clearance_refused(it);
+        + check_slivers_refused(it) + check_clearance_refused(it) + check_booleans_refused(it);
 }
 
 int main(int count, char **words)
@@ -779,6 +702,7 @@ int main(int count, char **words)
     struct cases cases = cases_in(file);
     if (count == 2) {
         size_t drawn = 0;
+        check_rows();
         for (size_t i = 0; i < cases.count; i++) {
             check(&cases.all[i], 0);
             check(&cases.all[i], cases.all[i].line.size - 1);
@@ -794,7 +718,7 @@ int main(int count, char **words)
             }
         }
         check_in_threads(&cases);
-        if (!drawn || !given_up || !lines_given_up || !left_out || !measured)
+        if (!drawn || !given_up || !lines_given_up || !left_out || !measured || !combined)
             return 1;
         printf("C: %zu requests and %zu drawings in arrays are answered as by the program, in %d threads at once.\n",
                cases.count, drawn, THREADS);

@@ -59,8 +59,13 @@ def lay_out_debian(debian, known, author):
     pages = [f"debian/{program.name}.1" for program in known.programs]
     (debian / "i-overlay-mesh.manpages").write_text("\n".join(pages) + "\n")
     names = sorted(re.findall(r" T (mesh_\w+)", symbols(OUT / "lib/libi_overlay_mesh.so")))
-    lines = [f"libi_overlay_mesh.so.1 {LIBRARY} #MINVER#", *(f" {name}@Base 1.1.0" for name in names)]
+    lines = [f"libi_overlay_mesh.so.1 {LIBRARY} #MINVER#", *(f" {name}@Base {first_version(name)}" for name in names)]
     (debian / f"{LIBRARY}.symbols").write_text("\n".join(lines) + "\n")
+
+
+def first_version(name):
+    """The version that has a call first."""
+    return "1.2.0" if name.startswith("mesh_boolean") else "1.1.0"
 
 
 def make(known, out):

@@ -1,4 +1,4 @@
-"""Polygon offsetting: grows and shrinks polygons and gives lines a width, by a proved library on an integer grid.
+"""Polygon offsetting and booleans: grows, shrinks and combines polygons and gives lines a width, by a proved library.
 
     >>> from i_overlay_mesh import outline
     >>> grown = outline([[0, 0], [4, 0], [4, 3], [0, 3]], 1, join="miter")
@@ -9,6 +9,7 @@ Coordinates are rounded to an integer grid, the library draws there exactly by i
 back. Each answer has the `scale` and `origin` of its grid. Errors count the parts of a drawing from 0.
 """
 
+from .booleans import difference, intersection, symmetric_difference, union
 from .errors import DrawingError, GridRangeError, LibraryMissing, TooManySplits, UnprovedWarning
 from .grid import Grid
 from .library import answer, is_proved, warn_of_proof
@@ -16,7 +17,7 @@ from .many import buffer_all
 from .offsets import buffer, outline, stroke, variable_stroke
 from .shapes import Shapes
 
-__version__ = "1.1.0"
+__version__ = "1.2.0"
 
 __all__ = [
     "DrawingError",
@@ -29,9 +30,13 @@ __all__ = [
     "answer",
     "buffer",
     "buffer_all",
+    "difference",
+    "intersection",
     "is_proved",
     "outline",
     "stroke",
+    "symmetric_difference",
+    "union",
     "variable_stroke",
 ]
 

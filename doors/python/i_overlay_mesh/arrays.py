@@ -11,7 +11,7 @@ from dataclasses import dataclass
 from typing import Any, Callable, Optional, Sequence, Union
 
 from .library import Outcome, call_of
-from .styles import TURN, CountsStructure, OptionsStructure, Style
+from .styles import TURN, BooleanStructure, CountsStructure, OptionsStructure, Style
 
 NUMBER, END = 4, 8
 """The sizes of a coordinate and of an end, in bytes."""
@@ -159,6 +159,24 @@ def reach(style: Style, lists: Lists, width: str = "i32", number: Any = ctypes.c
     padding = c_int64()
     call = call_of(f"mesh_validate_{style.operation}", width)
     return Outcome(call(*lists.words(), *style.words(number), byref(padding))), padding.value
+
+
+def combined(
+    boolean: BooleanStructure, subject: Lists, clip: Lists, most_splits: Optional[int] = None
+) -> tuple[Outcome, Told, int]:
+    """How a boolean of contours ended, its shapes, and, where there is a limit on splits, their nearness."""
+    given = [*subject.words(), *clip.words(), byref(boolean), byref(DEFAULT_OPTIONS)]
+    points, contours = subject.items[1] + clip.items[1], subject.ends[1] + clip.ends[1] + 8
+    room = Room(points + points // 2 + 32, contours, contours)
+    if most_splits is None:
+        plain = call_of("mesh_boolean")
+        return (*called(lambda room: plain(*given, *room.words, byref(room.counts)), room), 0)
+    near, nearness = call_of("mesh_boolean_near"), c_uint64()
+
+    def call(room: Room) -> int:
+        return near(*given, most_splits, *room.words, byref(room.counts), byref(nearness))
+
+    return (*called(call, room), nearness.value)
 
 
 def left(shapes: Told, width: int) -> tuple[Outcome, Told]:

@@ -118,7 +118,12 @@ def told(outcome: Outcome, value: Value) -> Value:
 
 def ask(style: Style, lists: Lists, limit: Optional[Limit]) -> Told:
     """The shapes of a drawing, which has a limit or none."""
-    outcome, shapes, nearness = drawn(style, lists, None if limit is None else limit.most_splits)
+    return settled(drawn(style, lists, None if limit is None else limit.most_splits), limit)
+
+
+def settled(ended: tuple[Outcome, Told, int], limit: Optional[Limit]) -> Told:
+    """The shapes that a call told, whose nearness is noted at a limit."""
+    outcome, shapes, nearness = ended
     if outcome is Outcome.OUT_OF_RANGE:
         raise OutOfRange
     if outcome is Outcome.TOO_MANY_SPLITS:

@@ -18,6 +18,9 @@ FILE = "libi_overlay_mesh.so"
 VARIABLE = "I_OVERLAY_MESH_LIBRARY"
 UNPROVED = "mesh_unproved"
 
+NEWEST = ("mesh_draw_each_i32", "mesh_boolean_i32")
+"""Calls that another library, or one of an earlier version, does not have."""
+
 LEAST_ROOM = 4096
 # A line is seldom longer than this many times its request, unless it has many arcs.
 ROOM_FACTOR = 4
@@ -60,7 +63,8 @@ def load_library() -> ctypes.CDLL:
     file = find_library()
     try:
         library = ctypes.CDLL(file)
-        library.mesh_draw_each_i32  # noqa: B018, which fails where this is another library
+        for name in NEWEST:
+            getattr(library, name)
     except (OSError, AttributeError) as error:
         raise LibraryMissing(f"{file} is not the library: {error}") from error
     return library
@@ -79,6 +83,9 @@ def parameters_of(name: str) -> list[Any]:
         return [*LIST, *LIST, *LIST, *LIST, *LIST, ctypes.c_uint32, STRUCTURE]
     if name == "mesh_without_slivers":
         return [*LIST, *LIST, *LIST, ctypes.c_uint32, *rooms]
+    if name.startswith("mesh_boolean"):
+        asked = [*LIST, *LIST, *LIST, *LIST, STRUCTURE, STRUCTURE]
+        return [*asked, ctypes.c_uint64, *rooms, STRUCTURE] if name.endswith("_near") else [*asked, *rooms]
     drawing = [*LIST, *LIST, STRUCTURE]
     if name.endswith(("mesh_stroke", "mesh_stroke_near", "validate_stroke")):
         drawing += [*LIST, *LIST]

@@ -21,6 +21,9 @@ PICTURE_WIDTH = 400
 class Shapes:
     """The polygons of an answer, in the units of the input. Answers can be compared and pickled.
 
+    Answers of one grid are combined by `a | b`, `a & b`, `a - b` and `a ^ b`, as `union`, `intersection`, `difference`
+    and `symmetric_difference` do, and nothing is rounded onto the grid again. Unequal grids raise a `DrawingError`.
+
     grid: the scale and origin of the grid, as exact fractions.
     nearness_on_grid: the error bound in 64ths of a grid unit; None without `most_splits`.
     """
@@ -173,6 +176,26 @@ class Shapes:
         points, contour_ends, shape_ends, grid, nearness, is_whole = self._parts()
         lists = (points.tobytes(), contour_ends.tobytes(), shape_ends.tobytes())
         return unpickled, (lists, (grid.scale, grid.origin), nearness, is_whole)
+
+    def __or__(self, other: object) -> Shapes:
+        from .booleans import union
+
+        return union(self, other) if isinstance(other, Shapes) else NotImplemented
+
+    def __and__(self, other: object) -> Shapes:
+        from .booleans import intersection
+
+        return intersection(self, other) if isinstance(other, Shapes) else NotImplemented
+
+    def __sub__(self, other: object) -> Shapes:
+        from .booleans import difference
+
+        return difference(self, other) if isinstance(other, Shapes) else NotImplemented
+
+    def __xor__(self, other: object) -> Shapes:
+        from .booleans import symmetric_difference
+
+        return symmetric_difference(self, other) if isinstance(other, Shapes) else NotImplemented
 
     def __bool__(self) -> bool:
         return len(self) > 0

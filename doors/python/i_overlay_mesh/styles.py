@@ -40,6 +40,16 @@ CAPS = {"round": "round", "square": "square", "butt": "butt", "flat": "butt"}
 JOIN_KINDS = {"bevel": 0, "miter": 1, "round": 2}
 CAP_KINDS = {"butt": 0, "square": 1, "round": 2, "custom": 3}
 SIDE_KINDS = {"both": 0, "left": 1, "right": 2}
+RULE_KINDS = {
+    "subject": 0,
+    "clip": 1,
+    "intersect": 2,
+    "union": 3,
+    "difference": 4,
+    "inverse_difference": 5,
+    "xor": 6,
+}
+FILL_KINDS = {"even_odd": 0, "non_zero": 1, "positive": 2, "negative": 3}
 
 SIDES = tuple(SIDE_KINDS)
 
@@ -85,6 +95,10 @@ class StrokeStructure(ctypes.Structure):
 
 class OptionsStructure(ctypes.Structure):
     _fields_ = [("min_area", c_uint64), ("clockwise", c_uint32), ("collinear", c_uint32)]
+
+
+class BooleanStructure(ctypes.Structure):
+    _fields_ = [("rule", c_uint32), ("subject_fill", c_uint32), ("clip_fill", c_uint32)]
 
 
 class CountsStructure(ctypes.Structure):
@@ -169,6 +183,11 @@ def stroke_style(width: int, join: JoinStyle, ends: tuple[End, End], side: str, 
 def variable_style(arc: tuple[int, int]) -> Style:
     """A style of strokes of variable width."""
     return Style("variable_stroke", ArcStructure(*arc))
+
+
+def boolean_structure(rule: str, subject_fill: str, clip_fill: str) -> BooleanStructure:
+    """A boolean by a rule, of operands that are filled by rules."""
+    return BooleanStructure(RULE_KINDS[rule], FILL_KINDS[subject_fill], FILL_KINDS[clip_fill])
 
 
 # In the words of a request

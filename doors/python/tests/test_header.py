@@ -8,6 +8,7 @@ import unittest
 from surroundings import ROOT, nested
 
 from i_overlay_mesh import answer, arrays, library, styles
+from i_overlay_mesh.clearances import windings_round
 from i_overlay_mesh.library import Outcome
 
 
@@ -35,7 +36,7 @@ NUMBERS = {
 def enumeration(first):
     """The numbers of the enumeration that begins with a name, by their names in lower case, less what all begin with."""
     words = re.search(rf"enum \{{\s*({first} = .*?)\}}", TEXT, re.S)[1]
-    prefix = re.match(r"MESH_(CAP_|SIDE_)?", first)[0]
+    prefix = re.match(r"MESH_(CAP_|SIDE_|RULE_|FILL_)?", first)[0]
     return {name[len(prefix) :].lower(): int(number) for name, number in re.findall(r"(\w+) = (\d+)", words)}
 
 
@@ -43,6 +44,8 @@ OUTCOMES = enumeration("MESH_ANSWERED")
 JOINS = enumeration("MESH_BEVEL")
 CAPS = enumeration("MESH_CAP_BUTT")
 SIDES = enumeration("MESH_SIDE_BOTH")
+RULES = enumeration("MESH_RULE_SUBJECT")
+FILLS = enumeration("MESH_FILL_EVEN_ODD")
 MIN_TURN = int(re.search(r"MESH_MIN_TURN (\d+)u", TEXT)[1])
 
 
@@ -73,11 +76,13 @@ def name_of(word):
 
 class TestPython(unittest.TestCase):
     def test_kinds(self):
-        self.assertEqual(len(re.findall(r"\benum \{", TEXT)), 4)
+        self.assertEqual(len(re.findall(r"\benum \{", TEXT)), 6)
         self.assertEqual({outcome.name.lower(): int(outcome) for outcome in Outcome}, OUTCOMES)
         self.assertEqual(styles.JOIN_KINDS, JOINS)
         self.assertEqual(styles.CAP_KINDS, CAPS)
         self.assertEqual(styles.SIDE_KINDS, SIDES)
+        self.assertEqual(styles.RULE_KINDS, RULES)
+        self.assertEqual(styles.FILL_KINDS, FILLS)
         self.assertEqual(set(styles.JOINS.values()), set(JOINS))
         self.assertEqual({*styles.CAPS.values(), "custom"}, set(CAPS))
         self.assertEqual(styles.DEFAULT_MIN_TURN, MIN_TURN)
@@ -129,6 +134,30 @@ class TestLibrary(unittest.TestCase):
                 expected = Outcome.ANSWERED if number in kinds.values() else Outcome.MALFORMED
                 self.assertEqual(self.outcome(number, kinds), expected, (number, kinds))
 
+    def test_rules_and_fills(self):
+        """Each rule and fill of the header keeps what it says, and there are no others."""
+        square, other = ([[[x, x], [x + 4, x], [x + 4, x + 4], [x, x + 4]]] for x in (0, 2))
+        subject, clip = arrays.lists_in(square, 2), arrays.lists_in(other, 2)
+        kept = {"subject": "a.", "clip": "b.", "intersect": "a&b", "union": "a|b", "difference": "a&~b"}
+        kept.update({"inverse_difference": "b&~a", "xor": "a^b"})
+        probes = {(1, 1): (1, 0), (3, 3): (1, 1), (5, 5): (0, 1), (9, 9): (0, 0)}
+        for number in range(len(RULES) + 2):
+            outcome, told, _ = arrays.combined(styles.BooleanStructure(number, 1, 1), subject, clip)
+            self.assertEqual(outcome, Outcome.ANSWERED if number in RULES.values() else Outcome.MALFORMED)
+            rule = next((rule for rule in RULES if RULES[rule] == number), None)
+            for probe, (a, b) in probes.items() if rule else ():
+                wanted = eval(kept[rule].replace(".", ""), {"a": a, "b": b}) & 1
+                self.assertEqual(windings_round([probe], told), [wanted], (rule, probe))
+        twice = {"even_odd": 0, "non_zero": 1, "positive": 1, "negative": 0}
+        for number in range(len(FILLS) + 2):
+            for way in ((0, number, 1), (1, 1, number)):
+                both = arrays.lists_in(square * 2, 2)
+                outcome, told, _ = arrays.combined(styles.BooleanStructure(*way), both, both)
+                self.assertEqual(outcome, Outcome.ANSWERED if number in FILLS.values() else Outcome.MALFORMED)
+                fill = next((fill for fill in FILLS if FILLS[fill] == number), None)
+                if fill:
+                    self.assertEqual(len(told.shape_ends), twice[fill], (fill, way))
+
     def test_words(self):
         """A request names each kind as the header does, and means the same by it as its number."""
         arc, points = [2**26, 5], [[0, -50], [30, 0], [0, 50]]
@@ -152,8 +181,11 @@ class TestRust(unittest.TestCase):
             self.assertEqual({name.lower(): int(number) for name, number in told}, numbers)
             names = re.search(rf"pub enum {kind}(?:<I>)? \{{(.*?)\n\}}", text, re.S)[1]
             self.assertEqual({name.lower() for name in re.findall(r"^    (\w+)[,(]", names, re.M)}, set(numbers))
-        sides = re.findall(r"^    (\w+),", re.search(r"pub enum Side \{(.*?)\n\}", text, re.S)[1], re.M)
-        self.assertEqual({name.lower(): number for number, name in enumerate(sides)}, SIDES)
+        text += (RUST / "booleans.rs").read_text()
+        for kind, numbers in (("Side", SIDES), ("BooleanRule", RULES), ("FillRule", FILLS)):
+            names = re.findall(r"^    (\w+),", re.search(rf"pub enum {kind} \{{(.*?)\n\}}", text, re.S)[1], re.M)
+            told = {name_of(name)[len("mesh_") :]: number for number, name in enumerate(names)}
+            self.assertEqual(told, numbers)
         self.assertEqual(int(re.search(r"MIN_TURN: u32 = ([\d_]+)", text)[1]), MIN_TURN)
 
     def test_outcomes(self):

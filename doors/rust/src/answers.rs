@@ -36,6 +36,11 @@ impl<I> Shapes<I> {
             Shape { shapes: self, first: contours.start, end: contours.end }
         })
     }
+
+    /// The contours of all shapes, in order: what a boolean takes as an operand.
+    pub fn contours(&self) -> impl Iterator<Item = &[[I; 2]]> {
+        (0..self.contour_ends.len()).map(move |index| &self.points[span(&self.contour_ends, index)])
+    }
 }
 
 impl<'a, I> Shape<'a, I> {

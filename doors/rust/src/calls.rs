@@ -41,6 +41,13 @@ pub struct RawOptions {
     pub collinear: u32,
 }
 
+#[repr(C)]
+pub struct RawBoolean {
+    pub rule: u32,
+    pub subject_fill: u32,
+    pub clip_fill: u32,
+}
+
 #[derive(Clone, Copy)]
 #[repr(C)]
 pub struct ShapeCounts {
@@ -199,6 +206,22 @@ calls! {
     validate_variable_stroke: mesh_validate_variable_stroke_i32, mesh_validate_variable_stroke_i16, (
         vertices: *const [I; 3], vertex_count: usize, ends: *const usize, end_count: usize,
         arc: *const Arc, padding: *mut i64,
+    );
+    boolean: mesh_boolean_i32, mesh_boolean_i16, (
+        subject_points: *const [I; 2], subject_point_count: usize,
+        subject_ends: *const usize, subject_end_count: usize,
+        clip_points: *const [I; 2], clip_point_count: usize, clip_ends: *const usize, clip_end_count: usize,
+        boolean: *const RawBoolean, options: *const RawOptions,
+        shape_points: *mut [I; 2], shape_point_room: usize, contour_ends: *mut usize, contour_room: usize,
+        shape_ends: *mut usize, shape_room: usize, counts: *mut ShapeCounts,
+    );
+    boolean_near: mesh_boolean_near_i32, mesh_boolean_near_i16, (
+        subject_points: *const [I; 2], subject_point_count: usize,
+        subject_ends: *const usize, subject_end_count: usize,
+        clip_points: *const [I; 2], clip_point_count: usize, clip_ends: *const usize, clip_end_count: usize,
+        boolean: *const RawBoolean, options: *const RawOptions, most_splits: u64,
+        shape_points: *mut [I; 2], shape_point_room: usize, contour_ends: *mut usize, contour_room: usize,
+        shape_ends: *mut usize, shape_room: usize, counts: *mut ShapeCounts, nearness: *mut u64,
     );
     without_slivers: mesh_without_slivers_i32, mesh_without_slivers_i16, (
         points: *const [I; 2], point_count: usize, contour_ends: *const usize, contour_count: usize,

@@ -16,13 +16,13 @@ pub struct Range {
 }
 
 /// Paths end to end.
-struct Flat<T> {
-    items: Vec<T>,
-    ends: Vec<usize>,
+pub(crate) struct Flat<T> {
+    pub(crate) items: Vec<T>,
+    pub(crate) ends: Vec<usize>,
 }
 
 impl<T: Copy> Flat<T> {
-    fn of<P: AsRef<[T]>>(paths: &[P]) -> Result<Self, Error> {
+    pub(crate) fn of<P: AsRef<[T]>>(paths: &[P]) -> Result<Self, Error> {
         let count = paths.iter().map(|path| path.as_ref().len()).sum();
         let mut flat = Flat { items: Vec::new(), ends: Vec::new() };
         flat.items.try_reserve_exact(count).map_err(|_| Error::OutOfMemory)?;

@@ -1,5 +1,5 @@
-//! Polygon offsetting over whole numbers: outlines of polygons, strokes of paths, of one width or of a width that
-//! changes from vertex to vertex.
+//! Polygon offsetting and booleans over whole numbers: outlines of polygons, strokes of paths, of one width or of a width
+//! that changes from vertex to vertex; unions, intersections and differences of regions.
 //!
 //! This is a safe wrapper over a library that is written in Rattle, Rust with contracts, and proved. Its header for C,
 //! `doors/c/i_overlay_mesh.h`, is what it stands on, and `docs/rust.md` says what is proved. `doors/build` makes the
@@ -19,6 +19,7 @@
 //! Calls may run at once in any number of threads, and need 256 KiB of stack.
 
 mod answers;
+mod booleans;
 mod calls;
 mod drawings;
 mod error;
@@ -26,6 +27,7 @@ mod requests;
 mod style;
 
 pub use answers::{Edges, NearShapes, Shape, Shapes};
+pub use booleans::{boolean, boolean_near, Boolean, BooleanRule, FillRule};
 pub use calls::Coordinate;
 pub use drawings::{
     outline, outline_edges, outline_near, stroke, stroke_edges, stroke_near, validate_outline, validate_stroke,

@@ -174,6 +174,57 @@ fn clearances_are_squares_of_distances() {
     assert_eq!(wrong.clearance_to(&[[[0, 0]]], true), Err(Error::Malformed));
 }
 
+const SQUARE: [[i32; 2]; 4] = [[0, 0], [4, 0], [4, 4], [0, 4]];
+const OTHER: [[i32; 2]; 4] = [[2, 2], [6, 2], [6, 6], [2, 6]];
+
+#[test]
+fn booleans_keep_what_their_rules_say() {
+    let shapes = |rule| boolean(&[SQUARE], &[OTHER], &Boolean::new(rule), &Options::default()).unwrap();
+    let less = "[[0,0],[4,0],[4,2],[2,2],[2,4],[0,4]]";
+    let rest = "[[2,4],[4,4],[4,2],[6,2],[6,6],[2,6]]";
+    for (rule, told) in [
+        (BooleanRule::Subject, json(&[SQUARE])),
+        (BooleanRule::Clip, json(&[OTHER])),
+        (BooleanRule::Intersect, "[[[2,2],[4,2],[4,4],[2,4]]]".into()),
+        (BooleanRule::Union, "[[[0,0],[4,0],[4,2],[6,2],[6,6],[2,6],[2,4],[0,4]]]".into()),
+        (BooleanRule::Difference, format!("[{less}]")),
+        (BooleanRule::InverseDifference, format!("[{rest}]")),
+        (BooleanRule::Xor, format!("[{less},{rest}]")),
+    ] {
+        assert_eq!(json(&shapes(rule).contours().collect::<Vec<_>>()), told, "{rule:?}");
+    }
+    // A contour that is wound round twice, in one sense.
+    let twice = |subject_fill| {
+        let asked = Boolean { subject_fill, ..Boolean::new(BooleanRule::Subject) };
+        boolean(&[SQUARE, SQUARE], &[[[0; 2]; 0]; 0], &asked, &Options::default()).unwrap().contours().count()
+    };
+    let fills = [FillRule::EvenOdd, FillRule::NonZero, FillRule::Positive, FillRule::Negative];
+    assert_eq!(fills.map(twice), [0, 1, 1, 0]);
+    let clockwise = Options { clockwise: true, ..Options::default() };
+    let turned = boolean(&[SQUARE], &[OTHER], &Boolean::new(BooleanRule::Clip), &clockwise).unwrap();
+    assert_eq!(turned.points, [[2, 2], [2, 6], [6, 6], [6, 2]]);
+}
+
+#[test]
+fn booleans_tell_their_nearness_and_keep_a_limit() {
+    let (asked, options) = (Boolean::new(BooleanRule::Intersect), Options::default());
+    let triangle = [[[0_i16, 0], [5, 0], [5, 3]]];
+    let square = [[[3, 0], [7, 0], [7, 4], [3, 4]]];
+    let near = boolean_near(&triangle, &square, &asked, &options, 0).unwrap();
+    assert_eq!(near.shapes.points, [[3, 0], [5, 0], [5, 3], [3, 2]]);
+    assert!(0 < near.nearness && near.nearness <= 64);
+    assert_eq!(near.shapes, boolean(&triangle, &square, &asked, &options).unwrap());
+    assert_eq!(boolean_near(&triangle, &square, &asked, &options, 1), Err(Error::TooManySplits));
+    assert_eq!(boolean_near(&triangle, &square, &asked, &options, 1000), Ok(near));
+    let far = [[[1_i16 << 14, 0], [0, 1], [1, 0]]];
+    for rule in [BooleanRule::Subject, BooleanRule::Clip, BooleanRule::Union] {
+        assert_eq!(boolean(&far, &square, &Boolean::new(rule), &options), Err(Error::OutOfRange));
+        assert_eq!(boolean(&square, &far, &Boolean::new(rule), &options), Err(Error::OutOfRange));
+    }
+    let wide = Options { min_area: 1 << 32, ..options };
+    assert_eq!(boolean(&triangle, &square, &asked, &wide), Err(Error::Malformed));
+}
+
 #[test]
 fn what_has_no_answer_is_told() {
     let nothing: [[[i32; 2]; 0]; 0] = [];
