@@ -1,1 +1,2 @@
+pub mod Near
 pub mod Zones

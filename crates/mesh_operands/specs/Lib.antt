@@ -1,2 +1,3 @@
 pub mod Combining
+pub mod Nearness
 pub mod Operands
