@@ -9,7 +9,7 @@ use std::io::{BufReader, Write};
 use std::process::ExitCode;
 use std::{env, io};
 
-const VERSION: &str = "mesh_lines 1.1.0\n";
+const VERSION: &str = "mesh_lines 1.2.0\n";
 
 fn main(rt: HostRuntime) -> ExitCode {
     let ended = match read_arguments(&rt) {
