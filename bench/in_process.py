@@ -38,11 +38,11 @@ def seconds(command, text, count):
 
 def seconds_each(command, text, wanted):
     """The least time of one answer, measured over so many that they take about the wanted seconds."""
+    least = min(seconds(command, text, 1) for _ in range(TIMES))
     count = 1
-    while seconds(command, text, 1 + count) < wanted / 4 and count < 10_000_000:
+    while seconds(command, text, 1 + count) - least < wanted and count < 10_000_000:
         count *= 4
     most = min(seconds(command, text, 1 + count) for _ in range(TIMES))
-    least = min(seconds(command, text, 1) for _ in range(TIMES))
     return max(0, most - least) / count
 
 

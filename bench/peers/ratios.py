@@ -1,13 +1,13 @@
 #!/usr/bin/env python3
 """Times outlines and strokes beside Clipper, Boost.Polygon and GEOS, prints a table of ratios, and draws them.
 
-    bench/peers/ratios.py [PROGRAM] [--most N] [--seconds S] [--limit SECONDS] > table.md
+    bench/peers/ratios.py [PROGRAM] [--most N] [--rounds N] [--seconds S] [--limit SECONDS] > table.md
 
 PROGRAM is `mesh_bench`, which `rt run` makes in crates/mesh_bench. The libraries beside it are Debian's
 (libpolyclipping-dev, libboost-dev, libgeos-dev), driven by peers.cpp. Each answers the same drawing in one process,
-without reading and writing, in turn; the least processor time counts. A ratio is our time over the better one of Clipper and
-Boost.Polygon, which are exact as ours is; GEOS computes in floating point and simplifies a drawing first, so its time
-stands beside. The picture is docs/peers.svg.
+without reading and writing, in turn; the least processor time counts, up to 10,000 vertices that of all rounds. A ratio is
+our time over the better one of Clipper and Boost.Polygon, which are exact as ours is; GEOS computes in floating point and
+simplifies a drawing first, so its time stands beside. The picture is docs/peers.svg.
 """
 import argparse
 import json
@@ -17,6 +17,7 @@ import shutil
 import subprocess
 import sys
 import tempfile
+from collections.abc import Callable
 from typing import NamedTuple
 
 HERE = pathlib.Path(__file__).resolve().parent
@@ -39,12 +40,24 @@ SIZES = [10, 100, 1000, 10_000, 100_000]
 STYLED_SIZE = 10_000
 """For how many vertices joins other than bevels, and strokes, are measured."""
 
+MOST_REPEATED = 10_000
+"""Drawings of more vertices are measured in the first round alone."""
+
 EXACT = ["clipper", "boost"]
 
 PEERS = [*EXACT, "geos"]
 
 JOINS = {"bevel": "bevel", "miter": {"miter": 2**30}, "round": {"round": [2**29, 5]}}
 """Joins by the name that peers.cpp has for them: miters to half a turn less a quarter, round ones of 45 degrees."""
+
+
+class Case(NamedTuple):
+    """What is measured: a drawing, the join, and what makes the request."""
+
+    name: str
+    count: int
+    join: str
+    request: Callable[[], dict]
 
 
 class Row(NamedTuple):
@@ -59,6 +72,12 @@ class Row(NamedTuple):
         """Our time over the best exact one; nothing where one side has none."""
         best = min((self.peers[name] for name in EXACT if name in self.peers), default=math.inf)
         return self.ours / best if math.isfinite(best) and math.isfinite(self.ours) else None
+
+    def least(self, other):
+        """The least times of two measurements."""
+        names = [*self.peers, *(name for name in other.peers if name not in self.peers)]
+        peers = {name: min(row.peers[name] for row in (self, other) if name in row.peers) for name in names}
+        return self._replace(ours=min(self.ours, other.ours), peers=peers)
 
 
 def build(folder):
@@ -96,11 +115,12 @@ def peer_seconds(driver, peer, words, seconds, limit):
     return float(done.stdout.split()[0]) if done.returncode == 0 else None
 
 
-def measure(words, driver, name, count, request, join):
+def measure(words, driver, case):
     """The times of one request, each library in turn."""
-    asked = {**request, "style": {**request["style"], "join": JOINS[join]}}
+    request = case.request()
+    asked = {**request, "style": {**request["style"], "join": JOINS[case.join]}}
     text = json.dumps(asked, separators=(",", ":")).encode()
-    drawn = words_of(request, join)
+    drawn = words_of(request, case.join)
     peers = {}
     for peer in PEERS:
         seconds = peer_seconds(driver, peer, drawn, words.seconds, words.limit)
@@ -110,9 +130,9 @@ def measure(words, driver, name, count, request, join):
         ours = seconds_each(words.program, text, words.seconds)
     except TooLong:
         ours = math.inf
-    row = Row(name, count, ours, peers)
+    row = Row(case.name, case.count, ours, peers)
     ratio = row.ratio()
-    tell(f"{name}, {count}: {ours:.3g} s, {'no ratio' if ratio is None else f'{ratio:.2f}'}; {peers}")
+    tell(f"{case.name}, {case.count}: {ours:.3g} s, {'no ratio' if ratio is None else f'{ratio:.2f}'}; {peers}")
     return row
 
 
@@ -142,36 +162,55 @@ def print_ratios(rows, sizes):
     print()
 
 
+def bevel_cases(sizes):
+    """What is measured with bevels: name, number of vertices, join."""
+    return [
+        Case(f"{family}, {offset} offset", count, "bevel", lambda f=family, c=count, o=offset: family_request(f, c, o))
+        for family in FAMILIES
+        for offset in OFFSETS
+        for count in sizes
+    ]
+
+
+def styled_cases(size):
+    """What is measured of one size: outlines with other joins, and strokes."""
+    outlines = [
+        Case(f"{family}, {offset} offset, {join}", size, join, lambda f=family, o=offset: family_request(f, size, o))
+        for family in FAMILIES
+        for offset in OFFSETS
+        for join in ["miter", "round"]
+    ]
+    strokes = [Case(f"{family}, stroke", size, "bevel", lambda f=family: stroke_request(f, size)) for family in STROKES]
+    return [*outlines, *strokes]
+
+
+def measured(words, driver, cases):
+    """The least times of each case, round after round, so that a busy moment does not count."""
+    rows = {}
+    for turn in range(words.rounds):
+        for case in cases:
+            if turn == 0 or case.count <= MOST_REPEATED:
+                row = measure(words, driver, case)
+                rows[case] = rows[case].least(row) if case in rows else row
+    return list(rows.values())
+
+
 def main():
     parser = argparse.ArgumentParser(description="Times outlines and strokes beside other libraries.")
     add_program(parser, "mesh_bench")
     parser.add_argument("--most", type=int, default=100_000, metavar="N", help="no drawing has more vertices")
+    parser.add_argument("--rounds", type=int, default=1, metavar="N", help="how often all is measured")
     parser.add_argument("--seconds", type=seconds_above_zero, default=0.2, help="about how long each is repeated")
     parser.add_argument("--limit", type=seconds_above_zero, default=60, metavar="SECONDS", help="of one process")
     words = parser.parse_args()
     sizes = [count for count in SIZES if count <= words.most] or SIZES[:1]
+    size = min(STYLED_SIZE, words.most)
     with tempfile.TemporaryDirectory() as folder:
         driver = build(folder)
-        bevels = [
-            measure(words, driver, f"{family}, {offset} offset", count, family_request(family, count, offset), "bevel")
-            for family in FAMILIES
-            for offset in OFFSETS
-            for count in sizes
-        ]
-        size = min(STYLED_SIZE, words.most)
-        styled = [
-            measure(words, driver, f"{family}, {offset} offset, {join}", size, request, join)
-            for family in FAMILIES
-            for offset in OFFSETS
-            for join in ["miter", "round"]
-            for request in [family_request(family, size, offset)]
-        ]
-        strokes = [
-            measure(words, driver, f"{family}, stroke", size, stroke_request(family, size), "bevel")
-            for family in STROKES
-        ]
+        rows = measured(words, driver, [*bevel_cases(sizes), *styled_cases(size)])
+    bevels = rows[: len(bevel_cases(sizes))]
     print_ratios(bevels, sizes)
-    print_rows([*bevels, *styled, *strokes])
+    print_rows(rows)
     lines = {name: {row.count: row.ratio() for row in bevels if row.name == name} for name in [row.name for row in bevels]}
     PICTURE.write_text(drawing(lines, sizes), encoding="utf-8")
 
