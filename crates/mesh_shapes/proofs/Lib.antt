@@ -5,6 +5,7 @@ pub mod Groups
 pub mod HolderRows
 pub mod HolderSearch
 pub mod LeftOut
+pub mod OneRow
 pub mod Shapes
 pub mod Taking
 pub mod Tracing

@@ -26,6 +26,10 @@ use mesh_lattice::rows::Rows;
 use std::alloc::{AllocError, Global};
 use std::mem::replace;
 
+/// So many holes at most look through all edges for the rings that hold them. To list the edges by rows takes as long as
+/// some forty holes take; with twice as many, drawings with some dozen of large holes would gain nothing.
+const FEW_HOLES: usize = 16;
+
 /// Whether the ring's double area is in size at least twice the least area.
 pub fn is_large(ring: &Ring, least_area: u64) -> bool
     ensures { result ≡ is_large least_area (ring_of_vec ring.now) }
@@ -94,6 +98,36 @@ fn edges_wanted(
     Ok(edges)
 }
 
+/// How many areas are not positive: those of holes, and of rings that enclose nothing.
+fn hole_count(areas: &[i128]) -> usize {
+    let mut count: usize = 0;
+    for i in 0..areas.len() {
+        if areas[i] <= 0 {
+            count = count.saturating_add(1);
+        }
+    }
+    count
+}
+
+/// The edges in rows; all in one where few holes look through it.
+fn rows_of(
+    alloc: Global,
+    edges: Vec<PlacedEdge>,
+    hole_count: usize,
+) -> Result<Rows<usize>, AllocError>
+    ensures { IfOk result (λ rows. AreRows rows.marks.items rows.lists.items edges.items) }
+{
+    if hole_count > FEW_HOLES {
+        return Rows::new(alloc, &edges);
+    }
+    let mut lists = Vec::with_capacity(alloc, 1)?;
+    lists.push(edges)?;
+    Ok(Rows {
+        marks: Vec::new(alloc),
+        lists,
+    })
+}
+
 /// The places of the rings with which rings stand.
 fn homes(alloc: Global, rings: &[Ring]) -> Result<Vec<usize>, AllocError>
     ensures len { IfOk result (λ v. length v.items ≡ length rings.now) }
@@ -102,7 +136,7 @@ fn homes(alloc: Global, rings: &[Ring]) -> Result<Vec<usize>, AllocError>
 {
     let areas = areas(alloc, rings)?;
     let edges = edges_wanted(alloc, rings, &areas)?;
-    let rows = Rows::new(alloc, &edges)?;
+    let rows = rows_of(alloc, edges, hole_count(&areas))?;
     let mut homes = Vec::with_capacity(alloc, rings.len())?;
     for i in 0..rings.len() {
         homes.push(home(rings, &areas, &rows, i))?;

@@ -21,7 +21,7 @@ home-requires-clause-rows_known c = λ flat.
     let same : c.deref-in-loop-i.result.now ≡ c.deref.result.now = c.deref-in-loop-i.ensures.value ∙ sym c.deref.ensures.value in
     let hole = subst (λ (l : List ℤ). int_lt (pos 0) (get_or l i (pos 0)) ≡ false) same flat in
     subst (λ (es : List PlacedEdge). AreRows c.in_ok-rows.rows.marks.items c.in_ok-rows.rows.lists.items es)
-    (c.deref-2.ensures.value ∙ c.in_ok-edges.ensures i low hole) c.in_ok-rows.ensures
+    (c.in_ok-edges.ensures i low hole) c.in_ok-rows.ensures
 
 pub loop-i-preserved : goal.loop-i-preserved
 loop-i-preserved c =
