@@ -3,14 +3,15 @@
     cases.py COUNT
 
 A case is a line of numbers: how many bytes the request has, how many the program's line, its status, how many numbers
-the drawing has; then the request, the line, and these numbers, each behind a space. They are of requests that are read,
-in the order in which `test.c` reads them; other cases have none.
+the drawing has; then the request, the line, and these numbers, each behind a space. They are of requests for a drawing
+that are read, in the order in which `test.c` reads them; other cases have none.
 """
 
 import ctypes
 import json
 import os
 import pathlib
+import random
 import subprocess
 import sys
 import warnings
@@ -21,11 +22,14 @@ sys.path += [str(ROOT / "bench"), str(ROOT / "doors/python")]
 warnings.filterwarnings("ignore", ".*built before its proof")
 
 import random_requests
-from i_overlay_mesh.styles import SIDES, style_of
+from i_overlay_mesh.styles import FILL_KINDS, RULE_KINDS, SIDES, style_of
 
 PROGRAM = os.environ.get("I_OVERLAY_MESH_PROGRAM", ROOT / "crates/mesh_run/out/mesh_run")
 
 RANDOM_REQUESTS = int(sys.argv[1])
+
+BOOLEANS = 60
+"""So many random requests combine regions."""
 
 SECONDS = 5
 """A request is left out where the program takes longer: splits can run on."""
@@ -50,6 +54,25 @@ SLIVER = (
 """The smallest drawing that is known to be answered with a sliver."""
 
 
+def random_paths(source):
+    """Some contours on a small grid."""
+    return [[[source.randint(-9, 9), source.randint(-9, 9)] for _ in range(source.randint(2, 5))] for _ in range(2)]
+
+
+def combination(source):
+    """A random request for a boolean, a coverage or overlaps."""
+    operation = source.choice(["boolean", "boolean", "coverage", "overlaps"])
+    words = {"op": operation, "int": source.choice(["i16", "i32"]), "out": "shapes"}
+    words["fill"] = source.choice(list(FILL_KINDS))
+    if operation == "boolean":
+        words |= {"rule": source.choice(list(RULE_KINDS)), "subject": random_paths(source), "clip": random_paths(source)}
+    else:
+        words["zones"] = [random_paths(source) for _ in range(source.randint(0, 4))]
+    if operation == "coverage":
+        words["least"] = source.randint(1, 3)
+    return words
+
+
 def requests():
     """The examples, strange requests, random ones, of which each fifth asks for edges, and one with a sliver."""
     for example in sorted((ROOT / "examples").glob("*.json")):
@@ -64,6 +87,9 @@ def requests():
         if words["op"] == "stroke":
             words["style"]["side"] = SIDES[number % 3]
         yield json.dumps(words).encode()
+    source = random.Random(76)
+    for _ in range(BOOLEANS):
+        yield json.dumps(combination(source)).encode()
     yield SLIVER
 
 
@@ -86,8 +112,10 @@ def item_numbers(items):
 
 
 def drawing_numbers(request):
-    """The numbers of a drawing."""
+    """The numbers of a drawing; none of a request for something else."""
     words = json.loads(request)
+    if words["op"] not in random_requests.OPERATIONS:
+        return []
     options = words.get("options", {})
     chosen = [options.get("min_area", 0), int(options.get("clockwise", False)), int(options.get("collinear", False))]
     width = {"i16": 16, "i32": 32}[words["int"]]

@@ -6,7 +6,7 @@ use mesh_drawing::draw::draw;
 use mesh_num::num::OverlayInt;
 use mesh_request::request::{Request, TypedRequest};
 use mesh_service::input::read_to_end;
-use mesh_service::text::{ReadText, read_text};
+use mesh_service::text::{AnyRequest, ReadText, read_text};
 use std::alloc::Global;
 
 /// How many contours or lists of edges the answer of a request has.
@@ -23,7 +23,7 @@ fn answer<I: OverlayInt>(alloc: Global, request: &Request<I>) -> Result<usize, B
     }
 }
 
-/// The request on standard input, whose numbers are `i32`.
+/// The request on standard input, which is for what is drawn, and whose numbers are `i32`.
 pub(crate) fn read_input(rt: &HostRuntime) -> Result<Request<i32>, BenchError> {
     let bytes = read_to_end(rt.alloc(), &mut rt.stdin())?;
     let ReadText {
@@ -31,8 +31,8 @@ pub(crate) fn read_input(rt: &HostRuntime) -> Result<Request<i32>, BenchError> {
         request,
     } = read_text(rt.alloc(), &bytes);
     match request {
-        Ok(TypedRequest::I32(request)) => Ok(request),
-        Ok(TypedRequest::I16(_)) | Err(_) => Err(BenchError::Request),
+        Ok(AnyRequest::Drawing(TypedRequest::I32(request))) => Ok(request),
+        Ok(_) | Err(_) => Err(BenchError::Request),
     }
 }
 

@@ -11,17 +11,17 @@ use Rattle.mesh_offset.specs.declared.error.IntOutlineError.{IntOutlineError}
 use Rattle.mesh_offset.specs.declared.error.IntNearnessError.{IntNearnessError}
 use Rattle.mesh_offset.specs.declared.error.IntNearnessError.TheVariants as near
 use Rattle.mesh_request.specs.Failures.{failure_line, IsOfMemory}
-use Rattle.mesh_request.specs.Typed.{untyped}
 use Rattle.mesh_request.specs.declared.failure.Failure.{Failure}
 use Rattle.mesh_request.specs.declared.failure.Failure.TheVariants.{Unreadable, Refused}
-use Rattle.mesh_request.specs.declared.request.TypedRequest.{TypedRequest}
 use Rattle.mesh_service.proofs.Requested.{request_has_bytes}
 use Rattle.mesh_service.specs.Near.{AnswersWithin, IsGivenUpIn, PassesLimit}
 use Rattle.mesh_service.specs.Lines.{too_many_text, why_text}
 use Rattle.mesh_service.specs.Reasons.{IsReadOf, LiesIn, reason_text}
 use Rattle.mesh_service.specs.Serving.{HoldsNoRequest}
 use Rattle.mesh_service.specs.declared.reason.Reason.{Reason}
+use Rattle.mesh_service.specs.Requested.{requested_by}
 use Rattle.mesh_service.specs.Served.{IsAccepted, Answers}
+use Rattle.mesh_service.specs.declared.text.AnyRequest.{AnyRequest}
 use Rattle.mesh_line_service.specs.Held.{IsWithin}
 use Rattle.mesh_line_service.specs.Lines.{lines_of, TakesLines}
 use Rattle.mesh_line_service.specs.Replies.{IsAnswerAsked, IsReplyTo, AppendsReplies, telling_of, too_long_text}
@@ -34,23 +34,23 @@ refusal_told options line CoordinateOutOfRange within refused = IsReplyTo.refusa
 refusal_told options line OutOfMemory within refused = IsReplyTo.no_memory (inl refused)
 
 -- an answer that is made as the service makes it
-pub answered_plainly : (options : LineOptions) (line : List ℕ) (request : TypedRequest) (reply : String Global) → options.most_splits ≡ 0 → options.nearness ≡ false → IsReadOf line (Ok request) →
-    Answers int_cmp (untyped request) (string_bytes reply) → IsAnsweredTo options line (Ok reply)
+pub answered_plainly : (options : LineOptions) (line : List ℕ) (request : AnyRequest) (reply : String Global) → options.most_splits ≡ 0 → options.nearness ≡ false → IsReadOf line (Ok request) →
+    Answers int_cmp (requested_by request) (string_bytes reply) → IsAnsweredTo options line (Ok reply)
 answered_plainly options line request reply unlimited plain read answered =
-    IsAnswerAsked.plain unlimited plain (record { utf8 = read.0; request = untyped request; requested = read.1; answered = answered })
+    IsAnswerAsked.plain unlimited plain (record { utf8 = read.0; request = requested_by request; requested = read.1; answered = answered })
 
 -- one that is made as options ask it
-pub answered_within : (options : LineOptions) (line : List ℕ) (request : TypedRequest) (told : Result (String Global) IntNearnessError) → IsReadOf line (Ok request) →
-    IfOk told (λ reply. AnswersWithin (telling_of options) int_cmp (untyped request) (string_bytes reply)) →
-    (told ≡ Err near.CoordinateOutOfRange → IsAccepted (untyped request) → ⊥) → (told ≡ Err near.TooManySplits → PassesLimit options.most_splits (untyped request)) →
+pub answered_within : (options : LineOptions) (line : List ℕ) (request : AnyRequest) (told : Result (String Global) IntNearnessError) → IsReadOf line (Ok request) →
+    IfOk told (λ reply. AnswersWithin (telling_of options) int_cmp (requested_by request) (string_bytes reply)) →
+    (told ≡ Err near.CoordinateOutOfRange → IsAccepted (requested_by request) → ⊥) → (told ≡ Err near.TooManySplits → PassesLimit options.most_splits (requested_by request)) →
     IsAnsweredTo options line told
 answered_within options line request (Ok reply) read answered refused past =
-    IsAnswerAsked.told (record { utf8 = read.0; request = untyped request; requested = read.1; answered = answered })
+    IsAnswerAsked.told (record { utf8 = read.0; request = requested_by request; requested = read.1; answered = answered })
 answered_within options line request (Err near.CoordinateOutOfRange) read answered refused past =
-    record { utf8 = read.0; request = untyped request; requested = read.1; refused = refused refl }
-answered_within options line request (Err near.OutOfMemory) read answered refused past = request_has_bytes line (untyped request) read.1
+    record { utf8 = read.0; request = requested_by request; requested = read.1; refused = refused refl }
+answered_within options line request (Err near.OutOfMemory) read answered refused past = request_has_bytes line (requested_by request) read.1
 answered_within options line request (Err near.TooManySplits) read answered refused past =
-    record { utf8 = read.0; request = untyped request; requested = read.1; past = past refl }
+    record { utf8 = read.0; request = requested_by request; requested = read.1; past = past refl }
 
 -- what tells that a drawing took too many splits is its reply
 pub too_many_told : (options : LineOptions) (line : List ℕ) (told : Result (String Global) Failure) → IsWithin options.longest line → IsGivenUpIn options.most_splits line →

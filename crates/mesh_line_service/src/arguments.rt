@@ -13,8 +13,8 @@ pub const USAGE: &str = "usage: mesh_lines [--longest N] [--most-splits N] [--ne
     \"style\":{\"outer\":10,\"inner\":10}}\n\
     and each line of standard output the answer to it, in the same order.\n\n\
     \x20 --longest N      refuse lines of more than N bytes\n\
-    \x20 --most-splits N  refuse drawings that take more than N splits, from 1 to 2^64-1\n\
-    \x20 --nearness       tell how far from the drawn edges an answer may be wrong\n\
+    \x20 --most-splits N  refuse requests that take more than N splits, from 1 to 2^64-1\n\
+    \x20 --nearness       tell how far from drawn or combined edges an answer may be wrong\n\
     \x20 --why            tell why a line holds no request\n\
     \x20 --progress       tell on standard error how many lines are done\n\
     \x20 --help           print this, and end\n\

@@ -7,7 +7,8 @@ pub struct LineOptions {
     pub longest: Option<usize>,
     /// How many splits may be made for an answer. 0 stands for any number.
     pub most_splits: u64,
-    /// Whether an answer tells its nearness: how far from the drawn edges it may be wrong, in 64ths of a grid unit.
+    /// Whether an answer tells its nearness: how far from the edges that are drawn or combined it may be wrong, in
+    /// 64ths of a grid unit.
     pub nearness: bool,
     /// Whether the reply to a line that holds no request tells why.
     pub why: bool,

@@ -14,13 +14,12 @@ use crate::line::{Held, Line};
 use crate::options::LineOptions;
 use mesh_offset::error::{IntNearnessError, IntOutlineError};
 use mesh_request::failure::Failure;
-use mesh_request::request::TypedRequest;
 use mesh_service::answer::{too_many_line, why_line};
 use mesh_service::near::{Telling, answer_within};
 use mesh_service::output::write_line;
 use mesh_service::reason::Reason;
 use mesh_service::service::answer_request;
-use mesh_service::text::{TextError, read_text};
+use mesh_service::text::{AnyRequest, TextError, read_text};
 use std::alloc::Global;
 use std::io;
 use std::io::Write;
@@ -62,7 +61,7 @@ fn reply_to_error(alloc: Global, error: &TextError, options: LineOptions) -> Res
 /// The reply to a request.
 fn reply_to_request(
     alloc: Global,
-    request: &TypedRequest,
+    request: &AnyRequest,
     options: LineOptions,
 ) -> Result<String, Failure>
     ensures { (line : List _) → IsReadOf line (Ok request.now) → IsWithin options.longest line
@@ -82,7 +81,7 @@ fn reply_to_request(
 /// counts no splits.
 fn answer(
     alloc: Global,
-    request: &TypedRequest,
+    request: &AnyRequest,
     options: LineOptions,
 ) -> Result<String, IntNearnessError>
     ensures { (line : List _) → IsReadOf line (Ok request.now) → IsAnsweredTo options line result }
@@ -100,7 +99,7 @@ fn answer(
 /// The answer to a request where no limit is set and no nearness asked.
 fn plain_answer(
     alloc: Global,
-    request: &TypedRequest,
+    request: &AnyRequest,
     options: LineOptions,
 ) -> Result<String, IntNearnessError>
     requires limit { options.most_splits ≡ 0 }
@@ -134,7 +133,7 @@ fn tell_why(alloc: Global, reason: &Reason) -> Result<String, Failure>
     Ok(why_line(alloc, reason)?)
 }
 
-/// The reply to a line whose drawing took more splits than these. It fails only where memory is refused.
+/// The reply to a line whose answer took more splits than these. It fails only where memory is refused.
 fn too_many_splits(alloc: Global, most: u64) -> Result<String, Failure>
     ensures told { IfOk result (λ text. string_bytes text ≡ too_many_text most) }
     ensures memory { IfErr result IsOfMemory }

@@ -41,9 +41,9 @@ pub enum Ending {
 /// line. A reply is what the service answers to the bytes of the line without its line feed: an answer, or a line that
 /// tells of a failure. A line of more than `options.longest` bytes is passed over, and replied to by a refusal. Where
 /// `options.most_splits` is not 0, a request that takes more splits is refused. With `options.nearness` an answer tells
-/// how far from the drawn edges it may be wrong, in 64ths of a grid unit. With `options.why` the reply to a line that
-/// holds no request tells why. What people are told on the stream of errors, with `options.progress` how many lines have
-/// their reply, and whether that takes it, changes none of this.
+/// how far from the edges that are drawn or combined it may be wrong, in 64ths of a grid unit. With `options.why` the
+/// reply to a line that holds no request tells why. What people are told on the stream of errors, with
+/// `options.progress` how many lines have their reply, and whether that takes it, changes none of this.
 pub fn serve_lines<R: BufRead, W: Write, E: Write>(
     alloc: Global,
     reader: &mut R,

@@ -5,6 +5,8 @@
 #[cfg(test)]
 mod arguments;
 #[cfg(test)]
+mod combinations;
+#[cfg(test)]
 mod failing;
 #[cfg(test)]
 mod limits;

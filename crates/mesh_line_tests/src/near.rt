@@ -7,7 +7,7 @@ use mesh_test_support::compared::{expect_equal, expect_that};
 use std::alloc::Global;
 use std::test::Fail;
 
-const NEAR: LineOptions = LineOptions {
+pub(crate) const NEAR: LineOptions = LineOptions {
     nearness: true,
     ..PLAIN
 };
@@ -24,7 +24,7 @@ const EDGES_ANSWER: &[u8] =
 const BEGINNING: &[u8] = b"{\"nearness\":";
 
 /// An answer with its nearness in two parts: that number, and the answer without it.
-fn parted(alloc: Global, reply: &[u8]) -> Result<(u64, Vec<u8>), Fail> {
+pub(crate) fn parted(alloc: Global, reply: &[u8]) -> Result<(u64, Vec<u8>), Fail> {
     let Some(rest) = reply.strip_prefix(BEGINNING) else {
         return Err(Fail::new(format_args!("{reply:?}")));
     };

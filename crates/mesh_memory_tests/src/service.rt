@@ -34,6 +34,18 @@ const REQUESTS: &[(&str, Status)] = &[
         Status::Answered,
     ),
     (
+        r#"{"op":"boolean","int":"i16","out":"shapes","rule":"xor","subject":[[[0,0],[4,0],[4,4]]],"clip":{"op":"stroke","paths":[[[2,0],[2,8]]],"style":{"width":2}}}"#,
+        Status::Answered,
+    ),
+    (
+        r#"{"op":"coverage","int":"i32","out":"shapes","zones":[[[[0,0],[4,0],[4,4]]],[[[2,0],[6,0],[2,4]]]],"least":2}"#,
+        Status::Answered,
+    ),
+    (
+        r#"{"op":"overlaps","int":"i16","out":"shapes","zones":[[[[0,0],[4,0],[4,4]]],[[[2,0],[6,0],[2,4]]]]}"#,
+        Status::Answered,
+    ),
+    (
         r#"{"op":"outline","int":"i16","out":"shapes","paths":[[[15360,0]]],"style":{"outer":1024,"inner":1024}}"#,
         Status::Refused,
     ),

@@ -1,3 +1,4 @@
+pub mod Combinations
 pub mod JsonLists
 pub mod Reasons
 pub mod Replies

@@ -10,15 +10,13 @@ use Rattle.mesh_offset.specs.declared.error.IntNearnessError.{IntNearnessError}
 use Rattle.mesh_offset.specs.declared.error.IntNearnessError.TheVariants as near
 use Rattle.mesh_request.specs.Failures.{failure_line, IsOfMemory}
 use Rattle.mesh_request.specs.Reading.{IsOfReading}
-use Rattle.mesh_request.specs.Requests.{Request}
-use Rattle.mesh_request.specs.Typed.{untyped}
 use Rattle.mesh_request.specs.declared.failure.Failure.{Failure}
 use Rattle.mesh_request.specs.declared.failure.Failure.TheVariants.{Unreadable, Refused}
-use Rattle.mesh_request.specs.declared.request.TypedRequest.{TypedRequest}
 use Rattle.mesh_service.proofs.Requested.{request_has_bytes}
 use Rattle.mesh_service.specs.Near.{AnswersWithin, IsResponseWithin, PassesLimit, TellsNearRefusal, of_nearness}
 use Rattle.mesh_service.specs.Private.Told.{EndsAs, told_line, unread_status}
 use Rattle.mesh_service.specs.Reasons.{IsReadOf, failure_of}
+use Rattle.mesh_service.specs.Requested.{Requested, for_combination, for_drawing, requested_by}
 use Rattle.mesh_service.specs.Served.{IsAccepted, Answers}
 use Rattle.mesh_service.specs.Serving.{IsRefused, IsReply, IsResponse, Serves, TellsRefusal, HasBytes, HoldsNoRequest, request_in, status_of}
 use Rattle.mesh_service.specs.declared.near.Telling.{Telling}
@@ -27,58 +25,65 @@ use Rattle.mesh_service.specs.declared.near_failure.NearFailure.TheVariants.{Fai
 use Rattle.mesh_service.specs.declared.service.Status.{Status}
 use Rattle.mesh_service.specs.declared.service.Status.TheVariants.{Unwritten, Unread}
 use Rattle.mesh_service.specs.declared.service.Status.TheVariants.{Refused as RefusedStatus, Unreadable as UnreadableStatus}
+use Rattle.mesh_service.specs.declared.text.AnyRequest.{AnyRequest}
 use Rattle.mesh_service.specs.declared.text.TextError.{TextError}
 use Rattle.mesh_service.specs.declared.text.TextError.TheVariants.{NoRequest, OutOfMemory as NoMemory}
 
 -- ---- what was read of a text is answered
 
-pub answer_responds : (text : List ℕ) (request : TypedRequest) (line : String Global) → IsReadOf text (Ok request) → Answers int_cmp (untyped request) (string_bytes line) → IsResponse text (Ok line)
-answer_responds text request line read answered = record { utf8 = read.0; request = untyped request; requested = read.1; answered = answered }
+pub answer_responds : (text : List ℕ) (request : AnyRequest) (line : String Global) → IsReadOf text (Ok request) → Answers int_cmp (requested_by request) (string_bytes line) → IsResponse text (Ok line)
+answer_responds text request line read answered = record { utf8 = read.0; request = requested_by request; requested = read.1; answered = answered }
 
-pub refusal_responds : (text : List ℕ) (request : TypedRequest) (error : IntOutlineError) (told : Result (String Global) Failure) → IsReadOf text (Ok request) →
-    (error ≡ CoordinateOutOfRange → IsAccepted (untyped request) → ⊥) → IsErrAnd told (λ failure. failure ≡ Refused error) → IsResponse text told
+pub refusal_responds : (text : List ℕ) (request : AnyRequest) (error : IntOutlineError) (told : Result (String Global) Failure) → IsReadOf text (Ok request) →
+    (error ≡ CoordinateOutOfRange → IsAccepted (requested_by request) → ⊥) → IsErrAnd told (λ failure. failure ≡ Refused error) → IsResponse text told
 refusal_responds text request error (Ok line) read refused same = absurd same
 refusal_responds text request CoordinateOutOfRange (Err failure) read refused same =
-    subst (λ (f : Failure). IsResponse text (Err f)) (sym same) (record { utf8 = read.0; request = untyped request; requested = read.1; refused = refused refl })
+    subst (λ (f : Failure). IsResponse text (Err f)) (sym same) (record { utf8 = read.0; request = requested_by request; requested = read.1; refused = refused refl })
 refusal_responds text request OutOfMemory (Err failure) read refused same =
-    subst (λ (f : Failure). IsResponse text (Err f)) (sym same) (request_has_bytes text (untyped request) read.1)
+    subst (λ (f : Failure). IsResponse text (Err f)) (sym same) (request_has_bytes text (requested_by request) read.1)
 
 pub unread_responds : (text : List ℕ) (error : TextError) (failure : Failure) → IsReadOf text (Err error) → failure ≡ failure_of error → IsResponse text (Err failure)
 unread_responds text (NoRequest reason) failure read same = subst (λ (f : Failure). IsResponse text (Err f)) (sym same) read.0
 unread_responds text NoMemory failure read same = subst (λ (f : Failure). IsResponse text (Err f)) (sym same) read
 
 -- the same with a limit on splits
-pub answer_responds_within : (telling : Telling) (text : List ℕ) (request : TypedRequest) (line : String Global) → IsReadOf text (Ok request) →
-    AnswersWithin telling int_cmp (untyped request) (string_bytes line) → IsResponseWithin telling text (Ok line)
-answer_responds_within telling text request line read answered = record { utf8 = read.0; request = untyped request; requested = read.1; answered = answered }
+pub answer_responds_within : (telling : Telling) (text : List ℕ) (request : AnyRequest) (line : String Global) → IsReadOf text (Ok request) →
+    AnswersWithin telling int_cmp (requested_by request) (string_bytes line) → IsResponseWithin telling text (Ok line)
+answer_responds_within telling text request line read answered = record { utf8 = read.0; request = requested_by request; requested = read.1; answered = answered }
 
-pub refusal_responds_within : (telling : Telling) (text : List ℕ) (request : TypedRequest) (error : IntNearnessError) (told : Result (String Global) NearFailure) → IsReadOf text (Ok request) →
-    (error ≡ near.CoordinateOutOfRange → IsAccepted (untyped request) → ⊥) → (error ≡ near.TooManySplits → PassesLimit telling.most_splits (untyped request)) →
+pub refusal_responds_within : (telling : Telling) (text : List ℕ) (request : AnyRequest) (error : IntNearnessError) (told : Result (String Global) NearFailure) → IsReadOf text (Ok request) →
+    (error ≡ near.CoordinateOutOfRange → IsAccepted (requested_by request) → ⊥) → (error ≡ near.TooManySplits → PassesLimit telling.most_splits (requested_by request)) →
     IsErrAnd told (λ failure. failure ≡ of_nearness error) → IsResponseWithin telling text told
 refusal_responds_within telling text request error (Ok line) read refused past same = absurd same
 refusal_responds_within telling text request near.CoordinateOutOfRange (Err failure) read refused past same =
-    subst (λ (f : NearFailure). IsResponseWithin telling text (Err f)) (sym same) (record { utf8 = read.0; request = untyped request; requested = read.1; refused = refused refl })
+    subst (λ (f : NearFailure). IsResponseWithin telling text (Err f)) (sym same) (record { utf8 = read.0; request = requested_by request; requested = read.1; refused = refused refl })
 refusal_responds_within telling text request near.OutOfMemory (Err failure) read refused past same =
-    subst (λ (f : NearFailure). IsResponseWithin telling text (Err f)) (sym same) (request_has_bytes text (untyped request) read.1)
+    subst (λ (f : NearFailure). IsResponseWithin telling text (Err f)) (sym same) (request_has_bytes text (requested_by request) read.1)
 refusal_responds_within telling text request near.TooManySplits (Err failure) read refused past same =
-    subst (λ (f : NearFailure). IsResponseWithin telling text (Err f)) (sym same) (record { utf8 = read.0; request = untyped request; requested = read.1; past = past refl })
+    subst (λ (f : NearFailure). IsResponseWithin telling text (Err f)) (sym same) (record { utf8 = read.0; request = requested_by request; requested = read.1; past = past refl })
 
 -- ---- what may not be answered is refused
 
-not_accepted : (text : List ℕ) (request : Request) → IsRefused text → request_in text ≡ Some request → IsAccepted request → ⊥
+not_accepted : (text : List ℕ) (request : Requested) → IsRefused text → request_in text ≡ Some request → IsAccepted request → ⊥
 not_accepted text request kept requested accepted =
-    let here : IfSome (request_in text) (λ r. IsAccepted r) = subst (λ (o : Option Request). IfSome o (λ r. IsAccepted r)) (sym requested) accepted in
-    kept.refused (subst (λ (o : Option Request). IfSome o (λ r. IsAccepted r)) kept.requested here)
+    let here : IfSome (request_in text) (λ r. IsAccepted r) = subst (λ (o : Option Requested). IfSome o (λ r. IsAccepted r)) (sym requested) accepted in
+    kept.refused (subst (λ (o : Option Requested). IfSome o (λ r. IsAccepted r)) kept.requested here)
 
 pub refusal_told : (text : List ℕ) (told : Result (String Global) Failure) → IsResponse text told → IsRefused text → TellsRefusal told
 refusal_told text (Ok line) response kept = absurd (not_accepted text response.request kept response.requested response.answered.accepted)
 refusal_told text (Err (Refused error)) response kept = tt
 refusal_told text (Err Unreadable) response kept = absurd (none-some kept.request (sym (response kept.utf8) ∙ kept.requested))
 
+-- what took more splits than it may, may be answered
+accepted_past : (most : ℕ) (request : Requested) → PassesLimit most request → IsAccepted request
+accepted_past most (for_drawing request) past = past.accepted
+accepted_past most (for_combination request) past = past.accepted
+
 pub near_refusal_told : (telling : Telling) (text : List ℕ) (told : Result (String Global) NearFailure) → IsResponseWithin telling text told → IsRefused text → TellsNearRefusal told
 near_refusal_told telling text (Ok line) response kept = absurd (not_accepted text response.request kept response.requested response.answered.accepted)
 near_refusal_told telling text (Err (Failed failure)) response kept = refusal_told text (Err failure) response kept
-near_refusal_told telling text (Err TooManySplits) response kept = absurd (not_accepted text response.request kept response.requested response.past.accepted)
+near_refusal_told telling text (Err TooManySplits) response kept =
+    absurd (not_accepted text response.request kept response.requested (accepted_past telling.most_splits response.request response.past))
 
 -- ---- what a run writes
 

@@ -2,6 +2,7 @@ pub mod Lines
 pub mod Near
 pub mod Private
 pub mod Reasons
+pub mod Requested
 pub mod Served
 pub mod Serving
 pub use Rattle.mesh_request.specs.Failures

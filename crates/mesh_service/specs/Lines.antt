@@ -1,10 +1,12 @@
--- Lines: edges and shapes, as data and as text of JSON.
+-- Lines: edges, shapes and overlaps of zones, as data and as text of JSON.
 use Rattle.std.specs.Prelude.{ℕ, List, [], ◌∷◌, ◌++◌, Bool, false, true, map, codes, decimal}
 use Rattle.serde_json.specs.Data.{Data, number, unsigned, string, array, object, item, no_items, member, no_members}
 use Rattle.serde_json.specs.Find.{of_integer}
 use Rattle.serde_json.specs.View.{items_of}
 use Rattle.serde_json.specs.Written.{compact_text}
 use Rattle.mesh_plane.specs.Plane.{Point, Edge}
+use Rattle.mesh_boolean.specs.Overlaps.{Overlap}
+use Rattle.mesh_operands.specs.Combining.{Answered, as_shapes, as_overlap_list}
 
 -- a point: [x,y]
 abbrev pub point_data : Point → Data
@@ -64,6 +66,44 @@ abbrev pub told_shapes_text : Bool → ℕ → List (List (List Point)) → List
 told_shapes_text false nearness shapes = shapes_text shapes
 told_shapes_text true nearness shapes = line_text (near_shapes_data nearness shapes)
 
+-- the places of two zones and what both have, as a list
+abbrev pub overlap_with : ℕ → ℕ → Data → Data
+overlap_with first second shapes =
+    array (item (number (unsigned first)) (item (number (unsigned second)) (item shapes no_items)))
+
+-- two zones that overlap, and where: [i,j,[..]]
+abbrev pub overlap_data : Overlap → Data
+overlap_data o = overlap_with o.0 o.1.0 (list_data (list_data (list_data point_data)) o.1.1)
+
+-- overlaps of zones: {"overlaps":[..]}
+abbrev pub overlaps_data : List Overlap → Data
+overlaps_data found = only_member (codes "overlaps") (list_data overlap_data found)
+
+-- that as a line
+abbrev pub overlaps_text : List Overlap → List ℕ
+overlaps_text found = line_text (overlaps_data found)
+
+-- overlaps of zones, with their nearness: {"nearness":..,"overlaps":[..]}
+abbrev pub near_overlaps_data : ℕ → List Overlap → Data
+near_overlaps_data nearness found =
+    object (member (codes "nearness") (number (unsigned nearness))
+    (member (codes "overlaps") (list_data overlap_data found) no_members))
+
+-- what is made of operands, as a line: shapes, or overlaps of zones
+abbrev pub combined_text : Answered → List ℕ
+combined_text (as_shapes shapes) = shapes_text shapes
+combined_text (as_overlap_list found) = overlaps_text found
+
+-- the same with its nearness
+abbrev pub near_combined_text : ℕ → Answered → List ℕ
+near_combined_text nearness (as_shapes shapes) = line_text (near_shapes_data nearness shapes)
+near_combined_text nearness (as_overlap_list found) = line_text (near_overlaps_data nearness found)
+
+-- a line of what is made of operands, with its nearness where that is told
+abbrev pub told_combined_text : Bool → ℕ → Answered → List ℕ
+told_combined_text false nearness answer = combined_text answer
+told_combined_text true nearness answer = near_combined_text nearness answer
+
 -- that a text holds no request, and why: {"unreadable":"request","why":..}
 abbrev pub why_data : List ℕ → Data
 why_data told =
@@ -73,6 +113,6 @@ why_data told =
 abbrev pub why_text : List ℕ → List ℕ
 why_text told = line_text (why_data told)
 
--- the line that tells that a drawing took more splits than these
+-- the line that tells that an answer took more splits than these
 abbrev pub too_many_text : ℕ → List ℕ
 too_many_text most = codes "{\"refused\":\"splitting took more than " ++ (decimal most ++ codes " splits\"}\n")

@@ -6,25 +6,24 @@ use Rattle.serde_json.specs.Data.{Data}
 use Rattle.serde_json.specs.Read.{read}
 use Rattle.serde_json.specs.Written.{has_float}
 use Rattle.mesh_request.specs.Places.{IsPlaceIn}
-use Rattle.mesh_request.specs.Requests.{Request}
 use Rattle.mesh_request.specs.Texts.{fault_text}
-use Rattle.mesh_request.specs.Typed.{untyped}
 use Rattle.mesh_request.specs.declared.failure.Failure.{Failure}
 use Rattle.mesh_request.specs.declared.failure.Failure.TheVariants.{Unreadable, Refused}
-use Rattle.mesh_request.specs.declared.request.TypedRequest.{TypedRequest}
 use Rattle.mesh_offset.specs.declared.error.IntOutlineError.TheVariants.{OutOfMemory as MemoryRefused}
+use Rattle.mesh_service.specs.Requested.{Requested, requested_by}
 use Rattle.mesh_service.specs.Serving.{request_in, HoldsNoRequest}
 use Rattle.mesh_service.specs.declared.reason.Reason.{Reason}
 use Rattle.mesh_service.specs.declared.reason.Reason.TheVariants.{Empty, ByteOrderMark, InvalidJson, Wrong}
 use Rattle.mesh_service.specs.declared.reason.Reason.TheVariants.{InexactNumber}
 use Rattle.mesh_service.specs.declared.reason.TextPlace.{TextPlace}
+use Rattle.mesh_service.specs.declared.text.AnyRequest.{AnyRequest}
 use Rattle.mesh_service.specs.declared.text.TextError.{TextError}
 use Rattle.mesh_service.specs.declared.text.TextError.TheVariants.{NoRequest, OutOfMemory}
 
 -- the text, which is in UTF-8, is a request
 pub record HoldsRequest (text : List ℕ) : Type 0 where
   pub utf8 : IsUtf8 text
-  pub request : Request
+  pub request : Requested
   pub requested : request_in text ≡ Some request
 
 -- the place after a byte that stands at a place
@@ -82,8 +81,8 @@ pub data LiesIn (text : List ℕ) (reason : Reason) : Type 0 where
   in_value : (d : Data) → read text ≡ Some d → IsValueReason d reason → LiesIn text reason
 
 -- what a text is read as: the request that it holds; the reason that it holds none; or memory was refused
-abbrev pub IsReadOf : List ℕ → Result TypedRequest TextError → Type 0
-IsReadOf text (Ok request) = IsUtf8 text × (request_in text ≡ Some (untyped request))
+abbrev pub IsReadOf : List ℕ → Result AnyRequest TextError → Type 0
+IsReadOf text (Ok request) = IsUtf8 text × (request_in text ≡ Some (requested_by request))
 IsReadOf text (Err (NoRequest reason)) = HoldsNoRequest text × LiesIn text reason
 IsReadOf text (Err OutOfMemory) = 0 < length text
 

@@ -11,8 +11,7 @@ use Rattle.serde_json.specs.Read.{read}
 use Rattle.serde_json.specs.Written.{has_float}
 use Rattle.mesh_offset.specs.declared.error.IntOutlineError.TheVariants.{CoordinateOutOfRange, OutOfMemory}
 use Rattle.mesh_request.specs.Failures.{failure_line}
-use Rattle.mesh_request.specs.Reading.{request_of}
-use Rattle.mesh_request.specs.Requests.{Request}
+use Rattle.mesh_service.specs.Requested.{Requested, requested_of}
 use Rattle.mesh_service.specs.Served.{IsAccepted, Answers}
 use Rattle.mesh_request.specs.declared.failure.Failure.{Failure}
 use Rattle.mesh_request.specs.declared.failure.Failure.TheVariants.{Unreadable, Refused}
@@ -22,24 +21,24 @@ use Rattle.mesh_service.specs.declared.service.Status.TheVariants.{Refused as Re
 use Rattle.mesh_service.specs.declared.service.Status.TheVariants.{Unreadable as UnreadableStatus}
 
 -- the request that data is; a number that is no whole number of 64 bits makes it none
-abbrev pub exact_request : Data → Option Request
-exact_request d = if has_float d then None else request_of d
+abbrev pub exact_request : Data → Option Requested
+exact_request d = if has_float d then None else requested_of d
 
 -- the request that a text is
-abbrev pub request_in : List ℕ → Option Request
+abbrev pub request_in : List ℕ → Option Requested
 request_in text = option_and_then exact_request (read text)
 
 -- `line` answers the request that `text`, in UTF-8, is
 pub record IsAnswer (text : List ℕ) (line : List ℕ) : Type 0 where
   pub utf8 : IsUtf8 text
-  pub request : Request
+  pub request : Requested
   pub requested : request_in text ≡ Some request
   pub answered : Answers int_cmp request line
 
 -- the request that `text`, in UTF-8, is may not be answered
 pub record IsRefused (text : List ℕ) : Type 0 where
   pub utf8 : IsUtf8 text
-  pub request : Request
+  pub request : Requested
   pub requested : request_in text ≡ Some request
   pub refused : IsAccepted request → ⊥
 

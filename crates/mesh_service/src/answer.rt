@@ -6,13 +6,16 @@ ghost use Rattle.serde_json.specs.Data.{member, no_members};
 ghost use Rattle.serde_json.specs.Find.{of_integer};
 ghost use Rattle.serde_json.specs.View.{view};
 ghost use Rattle.serde_json.specs.Written.{has_float};
+ghost use Rattle.mesh_boolean.specs.Overlaps.{overlap_of, overlaps_of};
 ghost use Rattle.mesh_num.specs.Paths.{paths_of, shapes_of};
+ghost use Rattle.mesh_service.specs.Lines.{near_overlaps_data, overlap_data, overlap_with, overlaps_text};
 ghost use Rattle.mesh_service.specs.Lines.{point_data, edge_data, list_data, only_member, line_text, edges_text};
 ghost use Rattle.mesh_service.specs.Lines.{near_edges_data, near_shapes_data, shapes_text, too_many_text, why_data};
 ghost use Rattle.mesh_service.specs.Lines.{why_text};
 ghost use Rattle.mesh_service.specs.Reasons.{reason_text};
 
 use crate::reason::Reason;
+use mesh_boolean::overlaps::ZoneOverlap;
 use mesh_num::num::convert::widen;
 use mesh_num::num::{IntNumber, IntPoint, OverlayInt};
 use mesh_num::shape::buffer::IntShapes;
@@ -96,6 +99,44 @@ fn near_shapes_answer(alloc: Global, list: Value, nearness: u64) -> Result<Value
     json!(in alloc; { "nearness": nearness, "shapes": list })
 }
 
+/// The line that lists overlaps of zones. It fails only where memory is refused.
+pub fn overlaps_line<I: OverlayInt>(
+    alloc: Global,
+    overlaps: &[ZoneOverlap<I>],
+) -> Result<String, AllocError>
+    ensures { IfOk result (λ s. string_bytes s ≡ overlaps_text (overlaps_of overlaps.now)) }
+{
+    let list = list_value(alloc, overlaps)?;
+    let answer = overlaps_answer(alloc, list)?;
+    line_of(alloc, &answer)
+}
+
+fn overlaps_answer(alloc: Global, list: Value) -> Result<Value, AllocError>
+    ensures { IfOk result (λ v. view v ≡ only_member (codes "overlaps") (view list)) }
+{
+    json!(in alloc; { "overlaps": list })
+}
+
+/// The line that lists overlaps of zones, with their nearness. It fails only where memory is refused.
+pub fn near_overlaps_line<I: OverlayInt>(
+    alloc: Global,
+    overlaps: &[ZoneOverlap<I>],
+    nearness: u64,
+) -> Result<String, AllocError>
+    ensures { IfOk result (λ s. string_bytes s ≡ line_text (near_overlaps_data nearness (overlaps_of overlaps.now))) }
+{
+    let list = list_value(alloc, overlaps)?;
+    let answer = near_overlaps_answer(alloc, list, nearness)?;
+    line_of(alloc, &answer)
+}
+
+fn near_overlaps_answer(alloc: Global, list: Value, nearness: u64) -> Result<Value, AllocError>
+    ensures { IfOk result (λ v. view v ≡ object (member (codes "nearness") (number_value (unsigned nearness))
+        (member (codes "overlaps") (view list) no_members))) }
+{
+    json!(in alloc; { "nearness": nearness, "overlaps": list })
+}
+
 /// The line that tells that a text holds no request, and why. It fails only where memory is refused.
 pub fn why_line(alloc: Global, reason: &Reason) -> Result<String, AllocError>
     ensures { IfOk result (λ s. string_bytes s ≡ why_text (reason_text reason.now)) }
@@ -111,7 +152,7 @@ fn why_answer(alloc: Global, told: String) -> Result<Value, AllocError>
     json!(in alloc; { "unreadable": "request", "why": told })
 }
 
-/// The line that tells that a drawing took more splits than these. It fails only where memory is refused.
+/// The line that tells that an answer took more splits than these. It fails only where memory is refused.
 pub fn too_many_line(alloc: Global, most: u64) -> Result<String, AllocError>
     ensures { IfOk result (λ s. string_bytes s ≡ too_many_text most) }
 {
@@ -173,6 +214,23 @@ impl<I: OverlayInt> Written for IntPoint<I> {
     fn to_value(&self, alloc: Global) -> Result<Value, AllocError> {
         pair(alloc, number(self.x), number(self.y))
     }
+}
+
+/// Two zones that overlap, by their places and the shapes of what both have.
+impl<I: OverlayInt> Written for ZoneOverlap<I> {
+    ghost written = { λ o. overlap_data (overlap_of o) };
+
+    fn to_value(&self, alloc: Global) -> Result<Value, AllocError> {
+        let shapes = list_value(alloc, &self.shapes)?;
+        overlap(alloc, self.first, self.second, shapes)
+    }
+}
+
+/// The places of two zones and what both have, as a list.
+fn overlap(alloc: Global, first: usize, second: usize, shapes: Value) -> Result<Value, AllocError>
+    ensures { IfOk result (λ v. view v ≡ overlap_with first second (view shapes)) }
+{
+    json!(in alloc; [first, second, shapes])
 }
 
 /// A list of two values.

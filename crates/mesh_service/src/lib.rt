@@ -1,12 +1,15 @@
-//! Serves requests for polygon offsetting: reads one as JSON and writes one line of answer.
+//! Serves requests for polygon offsetting, and for booleans, coverage and overlaps of polygons: reads one as JSON and
+//! writes one line of answer.
 //!
-//! Bytes are read (`input`), the request that they hold (`text`) is drawn and put into a line (`line`, `answer`), and
-//! that is written (`output`); `service` does all of it. `near` draws by no more than a number of splits, and tells how
-//! near an answer is to what is drawn. `why` says why a text is no request (`reason`), and `told` tells people of a run on another
-//! stream.
+//! Bytes are read (`input`), what the request that they hold (`text`) asks is drawn (`line`) or combined (`combined`)
+//! and put into a line (`answer`), and that is written (`output`); `service` does all of it. `near` answers by no more
+//! than a number of splits, and tells how near an answer is to what is drawn or combined. `why` says why a text is no
+//! request (`reason`). `told` tells people of a run on another stream, and `ignored` which keys of a request are ignored.
 #![tactic(auto)]
 
 pub mod answer;
+mod combined;
+mod ignored;
 pub mod input;
 mod line;
 pub mod near;

@@ -1,4 +1,4 @@
-//! What a request asks, drawn and put into a line.
+//! What a request asks, drawn or combined, and put into a line.
 
 ghost use Rattle.std.specs.Prelude.{◌≡◌, ◌↔◌, IfOk, string_bytes};
 ghost use Rattle.std.specs.Ordering.{int_cmp};
@@ -7,10 +7,13 @@ ghost use Rattle.mesh_drawing.specs.Order.{by_values};
 ghost use Rattle.mesh_request.specs.Typed.{untyped};
 ghost use Rattle.mesh_service.specs.Lines.{told_edges_text, told_shapes_text};
 ghost use Rattle.mesh_service.specs.Private.Asking.{AnswersAs, IsGivenUpAs, answer_text, asked_with, is_told};
+ghost use Rattle.mesh_service.specs.Requested.{for_drawing, requested_by};
 ghost use Rattle.mesh_service.specs.Served.{IsAccepted};
 
 use crate::answer::{edges_line, near_edges_line, near_shapes_line, shapes_line};
+use crate::combined::combination_line;
 use crate::near::Telling;
+use crate::text::AnyRequest;
 use mesh_below::nearness::NearShapes;
 use mesh_drawing::asked::{Answer, Asked, Output};
 use mesh_drawing::draw::draw;
@@ -20,16 +23,36 @@ use mesh_offset::error::IntNearnessError;
 use mesh_request::request::{Request, TypedRequest};
 use std::alloc::{AllocError, Global};
 
-/// The line that answers a request, with what is told beside it. `CoordinateOutOfRange`: what is to be drawn does not
-/// stay in the safe range. `OutOfMemory`: memory was refused. `TooManySplits`: more splits were made than the limit.
+/// The line that answers a request, with what is told beside it. `CoordinateOutOfRange`: what is to be drawn or
+/// combined does not stay in the safe range. `OutOfMemory`: memory was refused. `TooManySplits`: more splits were made
+/// than the limit.
 pub(crate) fn request_line(
+    alloc: Global,
+    request: &AnyRequest,
+    telling: Option<Telling>,
+) -> Result<String, IntNearnessError>
+    ensures answered { IfOk result (λ line. AnswersAs telling int_cmp (requested_by request.now) (string_bytes line)) }
+    ensures refused { result ≡ Err IntNearnessError.CoordinateOutOfRange ↔ ¬ IsAccepted (requested_by request.now) }
+    ensures given_up { result ≡ Err IntNearnessError.TooManySplits → IsGivenUpAs telling (requested_by request.now) }
+{
+    match request {
+        AnyRequest::Drawing(request) => drawing_line(alloc, request, telling),
+        AnyRequest::Combination(request) => combination_line(alloc, request, telling),
+    }
+}
+
+/// The same of a request for what is drawn.
+fn drawing_line(
     alloc: Global,
     request: &TypedRequest,
     telling: Option<Telling>,
 ) -> Result<String, IntNearnessError>
-    ensures answered { IfOk result (λ line. AnswersAs telling int_cmp (untyped request.now) (string_bytes line)) }
-    ensures refused { result ≡ Err IntNearnessError.CoordinateOutOfRange ↔ ¬ IsAccepted (untyped request.now) }
-    ensures given_up { result ≡ Err IntNearnessError.TooManySplits → IsGivenUpAs telling (untyped request.now) }
+    ensures answered { IfOk result (λ line.
+        AnswersAs telling int_cmp (for_drawing (untyped request.now)) (string_bytes line)) }
+    ensures refused { result ≡ Err IntNearnessError.CoordinateOutOfRange
+        ↔ ¬ IsAccepted (for_drawing (untyped request.now)) }
+    ensures given_up { result ≡ Err IntNearnessError.TooManySplits
+        → IsGivenUpAs telling (for_drawing (untyped request.now)) }
 {
     match request {
         TypedRequest::I16(request) => drawn_line(alloc, request, telling),
@@ -44,9 +67,9 @@ fn drawn_line<I: OverlayInt>(
     telling: Option<Telling>,
 ) -> Result<String, IntNearnessError>
     ensures answered { IfOk result (λ line.
-        AnswersAs telling (by_values I.cmp I.of_value) request.now (string_bytes line)) }
-    ensures refused { result ≡ Err IntNearnessError.CoordinateOutOfRange ↔ ¬ IsAccepted request.now }
-    ensures given_up { result ≡ Err IntNearnessError.TooManySplits → IsGivenUpAs telling request.now }
+        AnswersAs telling (by_values I.cmp I.of_value) (for_drawing request.now) (string_bytes line)) }
+    ensures refused { result ≡ Err IntNearnessError.CoordinateOutOfRange ↔ ¬ IsAccepted (for_drawing request.now) }
+    ensures given_up { result ≡ Err IntNearnessError.TooManySplits → IsGivenUpAs telling (for_drawing request.now) }
 {
     let asked = asked_with(telling, request.output);
     let answer = draw(alloc, &request.drawing, asked)?;

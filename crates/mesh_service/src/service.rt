@@ -3,21 +3,20 @@
 ghost use Rattle.std.specs.Prelude.{◌≡◌, ◌↔◌, ◌⊎◌, List, string_bytes, OnOk, IfOk};
 ghost use Rattle.std.specs.Io.KnownBytes.{Appends};
 ghost use Rattle.std.specs.Ordering.{int_cmp};
-ghost use Rattle.mesh_request.specs.Typed.{untyped};
 ghost use Rattle.mesh_service.specs.Private.Told.{EndsAs, told_line, unread_status};
 ghost use Rattle.mesh_service.specs.Reasons.{IsReadOf};
+ghost use Rattle.mesh_service.specs.Requested.{requested_by};
 ghost use Rattle.mesh_service.specs.Served.{IsAccepted, Answers};
 ghost use Rattle.mesh_service.specs.Serving.{AppendsBeginning, IsResponse, IsRefused, Serves, TellsRefusal, status_of};
 
 use crate::input::read_to_end;
 use crate::line::request_line;
 use crate::output::write_line;
-use crate::text::{ReadText, TextError, read_text};
+use crate::text::{AnyRequest, ReadText, TextError, read_text};
 use crate::told::tell;
 use i_overlay_mesh::IntOutlineError;
 use mesh_drawing::draw::without_limit;
 use mesh_request::failure::Failure;
-use mesh_request::request::TypedRequest;
 use std::alloc::Global;
 use std::io;
 use std::io::{Read, Write};
@@ -148,8 +147,8 @@ fn write_answer<W: Write>(
 }
 
 /// The line that answers a request. It is made as a whole, so that nothing is printed before memory is refused.
-/// `Unreadable`: the bytes are no request that is served. `Refused` with `CoordinateOutOfRange`: what is to be drawn
-/// does not stay in the safe range; with `OutOfMemory`: memory was refused, and there was a byte.
+/// `Unreadable`: the bytes are no request that is served. `Refused` with `CoordinateOutOfRange`: what is to be drawn or
+/// combined does not stay in the safe range; with `OutOfMemory`: memory was refused, and there was a byte.
 pub fn respond(alloc: Global, request: &[u8]) -> Result<String, Failure>
     ensures response { IsResponse request.now result }
     ensures not_accepted { IsRefused request.now → TellsRefusal result }
@@ -158,7 +157,7 @@ pub fn respond(alloc: Global, request: &[u8]) -> Result<String, Failure>
 }
 
 /// The line that answers what was read of a text, or the failure in its place.
-fn answer(alloc: Global, read: &Result<TypedRequest, TextError>) -> Result<String, Failure>
+fn answer(alloc: Global, read: &Result<AnyRequest, TextError>) -> Result<String, Failure>
     ensures { (text : List _) → IsReadOf text read.now → IsResponse text result }
 {
     match read {
@@ -167,11 +166,11 @@ fn answer(alloc: Global, read: &Result<TypedRequest, TextError>) -> Result<Strin
     }
 }
 
-/// The line that answers a request. `CoordinateOutOfRange`: what is to be drawn does not stay in the safe range.
-/// `OutOfMemory`: memory was refused.
-pub fn answer_request(alloc: Global, request: &TypedRequest) -> Result<String, IntOutlineError>
-    ensures answered { IfOk result (λ line. Answers int_cmp (untyped request.now) (string_bytes line)) }
-    ensures refused { result ≡ Err IntOutlineError.CoordinateOutOfRange ↔ ¬ IsAccepted (untyped request.now) }
+/// The line that answers a request. `CoordinateOutOfRange`: what is to be drawn or combined does not stay in the safe
+/// range. `OutOfMemory`: memory was refused.
+pub fn answer_request(alloc: Global, request: &AnyRequest) -> Result<String, IntOutlineError>
+    ensures answered { IfOk result (λ line. Answers int_cmp (requested_by request.now) (string_bytes line)) }
+    ensures refused { result ≡ Err IntOutlineError.CoordinateOutOfRange ↔ ¬ IsAccepted (requested_by request.now) }
 {
     match request_line(alloc, request, None) {
         Ok(line) => Ok(line),

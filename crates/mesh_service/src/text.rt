@@ -2,10 +2,14 @@
 
 ghost use Rattle.std.specs.Prelude.{◌≡◌};
 ghost use Rattle.serde_json.specs.View.{view};
+ghost use Rattle.mesh_request.specs.Errors.{Reads};
 ghost use Rattle.mesh_service.specs.Reasons.{IsReadOf, IsTextReason, blank_byte, blank_text};
+ghost use Rattle.mesh_service.specs.Requested.{requested_by, requested_of};
 ghost use Rattle.mesh_service.specs.Private.Told.{IsReadOfValue};
 
 use crate::reason::{Reason, TextPlace, text_place};
+use mesh_boolean_request::request as combination;
+use mesh_boolean_request::request::{TypedCombination, asks_for_combination};
 use mesh_offset::error::IntOutlineError;
 use mesh_request::error::ReadError;
 use mesh_request::failure::Failure;
@@ -14,13 +18,22 @@ use mesh_request::request::{TypedRequest, read};
 use serde_json::Value;
 use std::alloc::Global;
 
+/// A request that is served.
+#[derive(Drop)]
+pub enum AnyRequest {
+    /// For what is drawn of paths.
+    Drawing(TypedRequest),
+    /// For what is made of operands: a boolean, a coverage or overlaps.
+    Combination(TypedCombination),
+}
+
 /// A text that was read.
 #[derive(Drop)]
 pub struct ReadText {
     /// The value of JSON that it is; `None` where it is none, or memory was refused.
     pub value: Option<Value>,
     /// The request that it holds.
-    pub request: Result<TypedRequest, TextError>,
+    pub request: Result<AnyRequest, TextError>,
 }
 
 /// Why a text is read as no request.
@@ -80,10 +93,10 @@ pub fn read_text(alloc: Global, text: &[u8]) -> ReadText
 }
 
 /// Reads a value as a request. Floats are looked for last, since they are told best where a number is looked at.
-fn read_value(alloc: Global, value: &Value) -> Result<TypedRequest, TextError>
+fn read_value(alloc: Global, value: &Value) -> Result<AnyRequest, TextError>
     ensures { IsReadOfValue (view value.now) result }
 {
-    match read(alloc, value) {
+    match read_request(alloc, value) {
         Ok(request) => {
             if has_float(value) {
                 Err(TextError::NoRequest(Reason::InexactNumber))
@@ -93,6 +106,17 @@ fn read_value(alloc: Global, value: &Value) -> Result<TypedRequest, TextError>
         }
         Err(ReadError::Fault(fault)) => Err(TextError::NoRequest(Reason::Wrong(fault))),
         Err(ReadError::OutOfMemory) => Err(TextError::OutOfMemory),
+    }
+}
+
+/// The request that a value is, of the kind that it names. Numbers under keys that are ignored are not looked at.
+fn read_request(alloc: Global, value: &Value) -> Result<AnyRequest, ReadError>
+    ensures { Reads (view value.now) (requested_of (view value.now)) requested_by result }
+{
+    if asks_for_combination(value) {
+        Ok(AnyRequest::Combination(combination::read(alloc, value)?))
+    } else {
+        Ok(AnyRequest::Drawing(read(alloc, value)?))
     }
 }
 

@@ -1,5 +1,9 @@
 //! Requests in memory: what is written, and how the run ends.
 
+use crate::tables::booleans::notes::COMBINATIONS_REFUSED;
+use crate::tables::booleans::reasons::{BOOLEAN_REASONS, OPERAND_REASONS, ZONE_REASONS};
+use crate::tables::booleans::rules::{BOOLEANS, DRAWN_BOOLEANS};
+use crate::tables::booleans::zones::{COVERAGES, OVERLAPS};
 use crate::tables::edges::EDGES;
 use crate::tables::miters::MITERS;
 use crate::tables::refused::REFUSED;
@@ -127,6 +131,37 @@ fn variable_strokes_not_answered(rt: HostRuntime) -> Result<(), Fail> {
     expect_failures(alloc, refused, Status::Refused, OUT_OF_RANGE)?;
     let unreadable = VARIABLE_STROKES_UNREADABLE;
     expect_failures(alloc, unreadable, Status::Unreadable, NOT_SERVED)
+}
+
+#[test]
+fn booleans_answered(rt: HostRuntime) -> Result<(), Fail> {
+    expect_answered(rt.alloc(), BOOLEANS)?;
+    expect_answered(rt.alloc(), DRAWN_BOOLEANS)
+}
+
+#[test]
+fn zones_answered(rt: HostRuntime) -> Result<(), Fail> {
+    expect_answered(rt.alloc(), COVERAGES)?;
+    expect_answered(rt.alloc(), OVERLAPS)
+}
+
+/// No text of the table is a request, and its line tells no more.
+fn expect_no_requests(alloc: Global, table: &[(&str, &str)]) -> Result<(), Fail> {
+    for (text, _) in table {
+        expect(alloc, text.as_bytes(), Status::Unreadable, NOT_SERVED)?;
+    }
+    Ok(())
+}
+
+#[test]
+fn combinations_not_answered(rt: HostRuntime) -> Result<(), Fail> {
+    let alloc = rt.alloc();
+    for (request, _) in COMBINATIONS_REFUSED {
+        expect(alloc, request.as_bytes(), Status::Refused, OUT_OF_RANGE)?;
+    }
+    expect_no_requests(alloc, BOOLEAN_REASONS)?;
+    expect_no_requests(alloc, OPERAND_REASONS)?;
+    expect_no_requests(alloc, ZONE_REASONS)
 }
 
 const POINT: &str =

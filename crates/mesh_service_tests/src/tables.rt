@@ -1,5 +1,6 @@
 //! Requests and what is written for them, as data. An answer stands without its line feed.
 
+pub mod booleans;
 pub mod edges;
 pub mod miters;
 pub mod notes;

@@ -1,5 +1,7 @@
 //! What people are told beside the line: why there is no answer, and what of a request is ignored.
 
+use crate::tables::booleans::notes::{COMBINATIONS_ANSWERED, COMBINATIONS_REFUSED};
+use crate::tables::booleans::reasons::{BOOLEAN_REASONS, OPERAND_REASONS, ZONE_REASONS};
 use crate::tables::notes::{ANSWERED, REFUSED};
 use crate::tables::reasons::{
     KEY_REASONS, POINT_REASONS, STROKE_REASONS, STYLE_REASONS, TEXT_REASONS,
@@ -69,6 +71,31 @@ fn reasons_of_styles(rt: HostRuntime) -> Result<(), Fail> {
 #[test]
 fn reasons_of_strokes(rt: HostRuntime) -> Result<(), Fail> {
     expect_told(rt.alloc(), STROKE_REASONS, Status::Unreadable)
+}
+
+#[test]
+fn reasons_of_booleans(rt: HostRuntime) -> Result<(), Fail> {
+    expect_told(rt.alloc(), BOOLEAN_REASONS, Status::Unreadable)
+}
+
+#[test]
+fn reasons_of_operands(rt: HostRuntime) -> Result<(), Fail> {
+    expect_told(rt.alloc(), OPERAND_REASONS, Status::Unreadable)
+}
+
+#[test]
+fn reasons_of_zones(rt: HostRuntime) -> Result<(), Fail> {
+    expect_told(rt.alloc(), ZONE_REASONS, Status::Unreadable)
+}
+
+#[test]
+fn refusals_of_combinations(rt: HostRuntime) -> Result<(), Fail> {
+    expect_told(rt.alloc(), COMBINATIONS_REFUSED, Status::Refused)
+}
+
+#[test]
+fn warnings_of_combinations(rt: HostRuntime) -> Result<(), Fail> {
+    expect_told(rt.alloc(), COMBINATIONS_ANSWERED, Status::Answered)
 }
 
 #[test]

@@ -17,9 +17,9 @@ use mesh_service::service::respond;
 use std::alloc::Global;
 
 /// Puts the line that the program writes for this request, a line feed at its end, to the beginning of `room`, and
-/// tells in `needed` how many bytes it has. `Answered`: it is an answer. `OutOfRange`: what is to be drawn would pass the
-/// safe range. `Malformed`: the bytes are no request that is served. `OutOfMemory`: memory was refused. Of these the
-/// room has the line as well. `RoomTooSmall`: the line has more bytes than the room, which is as it was.
+/// tells in `needed` how many bytes it has. `Answered`: it is an answer. `OutOfRange`: what is to be drawn or combined
+/// would pass the safe range. `Malformed`: the bytes are no request that is served. `OutOfMemory`: memory was refused.
+/// Of these the room has the line as well. `RoomTooSmall`: the line has more bytes than the room, which is as it was.
 pub fn answer(alloc: Global, request: &[u8], room: &mut [u8], needed: &mut usize) -> Outcome
     ensures { TellsReply request.now room.old room.new needed.new result }
 {

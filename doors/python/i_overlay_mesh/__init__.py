@@ -9,7 +9,7 @@ Coordinates are rounded to an integer grid, the library draws there exactly by i
 back. Each answer has the `scale` and `origin` of its grid. Errors count the parts of a drawing from 0.
 """
 
-from .booleans import difference, intersection, symmetric_difference, union
+from .booleans import coverage, difference, intersection, overlaps, symmetric_difference, union
 from .errors import DrawingError, GridRangeError, LibraryMissing, TooManySplits, UnprovedWarning
 from .grid import Grid
 from .library import answer, is_proved, warn_of_proof
@@ -30,10 +30,12 @@ __all__ = [
     "answer",
     "buffer",
     "buffer_all",
+    "coverage",
     "difference",
     "intersection",
     "is_proved",
     "outline",
+    "overlaps",
     "stroke",
     "symmetric_difference",
     "union",

@@ -1,24 +1,31 @@
-"""Booleans of regions."""
+"""Booleans of regions, and how often zones cover the plane."""
 
 from __future__ import annotations
 
+import itertools
+import json
 from array import array
+from collections.abc import Mapping
 from dataclasses import dataclass
 from fractions import Fraction
 from typing import Any, Optional, Sequence
 
-from .arrays import Lists, Told, combined, lists_of, nothing
-from .engine import Limit, Task, Wishes, finest_grid, fits, grid_by, left_out, read_wishes, safe_scale, settled
-from .errors import DrawingError, GridRangeError
-from .exact import Number, plain
+from .arrays import Lists, Told, combined, lists_of, nothing, split
+from .engine import Limit, Task, Wishes, finest_grid, fits, grid_by, left_out, read_wishes, safe_scale, settled, told
+from .errors import DrawingError, GridRangeError, TooManySplits
+from .exact import Number, plain, read_number
 from .grid import MOST, Grid
+from .library import Outcome, reply
 from .paths import Paths, box_round
-from .reading import inside, read
+from .reading import inside, is_geometry, read
 from .rings import RULES
 from .shapes import Shapes
 from .styles import FILL_KINDS, BooleanStructure, JoinStyle, boolean_structure, choose, outline_style
 
 FILLS = tuple(FILL_KINDS)
+
+MOST_LEAST = 2**32 - 1
+"""The library is asked for no more zones."""
 
 
 def union(
@@ -53,7 +60,7 @@ def union(
         MemoryError: an allocation failed.
     """
     how = read_combining(fill, rings, read_wishes(scale, origin, most_splits, sliver_width))
-    return united(Regions.of(operands, how))
+    return united(Regions.of("operand", operands, how))
 
 
 def intersection(
@@ -72,7 +79,7 @@ def intersection(
     Args, Returns, Raises: as `union`.
     """
     how = read_combining(fill, rings, read_wishes(scale, origin, most_splits, sliver_width))
-    return of_both("intersect", Regions.of((a, b), how))
+    return of_both("intersect", Regions.of("operand", (a, b), how))
 
 
 def difference(
@@ -91,7 +98,7 @@ def difference(
     Args, Returns, Raises: as `union`.
     """
     how = read_combining(fill, rings, read_wishes(scale, origin, most_splits, sliver_width))
-    return of_both("difference", Regions.of((a, b), how))
+    return of_both("difference", Regions.of("operand", (a, b), how))
 
 
 def symmetric_difference(
@@ -110,7 +117,66 @@ def symmetric_difference(
     Args, Returns, Raises: as `union`.
     """
     how = read_combining(fill, rings, read_wishes(scale, origin, most_splits, sliver_width))
-    return of_both("xor", Regions.of((a, b), how))
+    return of_both("xor", Regions.of("operand", (a, b), how))
+
+
+def coverage(
+    zones: Sequence[Any],
+    least: int,
+    *,
+    fill: str = "positive",
+    rings: Optional[str] = None,
+    scale: Optional[Number] = None,
+    origin: Optional[Sequence[Number]] = None,
+    most_splits: Optional[int] = None,
+    sliver_width: Optional[Number] = None,
+) -> Shapes:
+    """The points that at least so many of some zones hold.
+
+    Args:
+        zones: a list of regions, each as for `union`.
+        least: how many, from 1 on; with 1 it is the union of all.
+        fill, rings, scale, origin, sliver_width: as for `union`.
+        most_splits: a limit on splits; the answer has no error bound.
+
+    Returns, Raises: as `union`.
+    """
+    count = read_least(least)
+    how = read_combining(fill, rings, read_wishes(scale, origin, most_splits, sliver_width))
+    regions = Regions.of("zone", zones_in(zones), how)
+    answer = regions.asked({"op": "coverage", "least": count})
+    return regions.answer(told_in(answer["shapes"]), None)
+
+
+def overlaps(
+    zones: Sequence[Any],
+    *,
+    fill: str = "positive",
+    rings: Optional[str] = None,
+    scale: Optional[Number] = None,
+    origin: Optional[Sequence[Number]] = None,
+    most_splits: Optional[int] = None,
+    sliver_width: Optional[Number] = None,
+) -> list[tuple[int, int, Shapes]]:
+    """Which pairs of zones overlap, and where. Zones that only touch do not overlap.
+
+    Args:
+        zones: a list of regions, each as for `union`.
+        fill, rings, scale, origin, sliver_width: as for `union`. A pair that has only slivers in common is not listed.
+        most_splits: a limit on splits of all pairs together; answers have no error bound.
+
+    Returns:
+        For each pair that overlaps the indices of both, the lesser first, and what they have in common, in order.
+
+    Raises: as `union`.
+    """
+    how = read_combining(fill, rings, read_wishes(scale, origin, most_splits, sliver_width))
+    regions = Regions.of("zone", zones_in(zones), how)
+    found = [
+        (first, second, regions.answer(told_in(shapes), None))
+        for first, second, shapes in regions.asked({"op": "overlaps"})["overlaps"]
+    ]
+    return [pair for pair in found if pair[2]]
 
 
 # What is combined
@@ -127,6 +193,14 @@ class Combining:
     fill: str
     rule: Optional[str]
     wishes: Wishes
+
+
+def read_least(least: Any) -> int:
+    """How many zones have to hold a point."""
+    number = read_number("", "least", least)
+    if number != int(number) or not 1 <= number <= MOST_LEAST:
+        raise DrawingError("", f"least is {least}, and has to be a whole number from 1 to {MOST_LEAST}")
+    return int(number)
 
 
 def read_combining(fill: Any, rings: Any, wishes: Wishes) -> Combining:
@@ -197,9 +271,9 @@ class Regions:
     how: Combining
 
     @classmethod
-    def of(cls, values: Sequence[Any], how: Combining) -> Regions:
-        """The regions that values are."""
-        regions = [Region.of(f"operand {index}", value) for index, value in enumerate(values)]
+    def of(cls, name: str, values: Sequence[Any], how: Combining) -> Regions:
+        """The regions that values are, with the name of each."""
+        regions = [Region.of(f"{name} {index}", value) for index, value in enumerate(values)]
         return cls(regions, grid_of(regions, how.wishes), how)
 
     def limit(self) -> Optional[Limit]:
@@ -213,6 +287,31 @@ class Regions:
             shapes = left_out(shapes, self.how.wishes.sliver_width, self.grid)
         whole = all(region.is_whole for region in self.all) and self.grid.has_whole_coordinates
         return Shapes(shapes, self.grid, None if limit is None else limit.nearness, whole)
+
+    def asked(self, words: dict[str, Any]) -> dict[str, Any]:
+        """What the program answers to a request about the regions."""
+        zones = []
+        for region in self.all:
+            lists = region.lists(self.grid, self.how)
+            if region.fill(self.how) != "positive":
+                shapes = region.shapes(self.grid, self.how, None)
+                lists = lists_of(shapes.points, shapes.contour_ends, 2)
+            zones.append(contours_in(lists))
+        request = {**words, "int": "i32", "out": "shapes", "fill": "positive", "zones": zones}
+        most_splits = self.how.wishes.most_splits
+        outcome, line = reply(json.dumps(request, separators=(",", ":")).encode(), most_splits)
+        if outcome is Outcome.TOO_MANY_SPLITS:
+            raise TooManySplits("", f"it takes more splits than {most_splits}")
+        answer: dict[str, Any] = told(outcome, json.loads(line))
+        return answer
+
+
+def zones_in(zones: Any) -> Sequence[Any]:
+    """The zones of a list."""
+    is_one = isinstance(zones, (Shapes, Mapping, str, bytes)) or is_geometry(zones)
+    if is_one or not hasattr(zones, "__iter__"):
+        raise DrawingError("", "zones is no list, and has to be one of regions")
+    return list(zones)
 
 
 def lists_of_nothing() -> Lists:
@@ -318,3 +417,21 @@ def united(regions: Regions) -> Shapes:
     if limit and last:
         limit.nearness += last.nearness
     return regions.answer(shapes, limit)
+
+
+# Shapes as JSON has them
+
+
+def contours_in(lists: Lists) -> list[list[list[int]]]:
+    """The contours of lists."""
+    numbers, ends = (memoryview(part).cast("B") for part in lists.kept)
+    places = numbers.cast("i").tolist()
+    return split([list(place) for place in zip(places[::2], places[1::2])], ends.cast("Q").tolist())
+
+
+def told_in(shapes: list[list[list[list[int]]]]) -> Told:
+    """Shapes as the library tells them in arrays."""
+    contours = list(itertools.chain.from_iterable(shapes))
+    points = array("i", itertools.chain.from_iterable(itertools.chain.from_iterable(contours)))
+    contour_ends = array("Q", itertools.accumulate(map(len, contours)))
+    return Told(points, contour_ends, array("Q", itertools.accumulate(map(len, shapes))))

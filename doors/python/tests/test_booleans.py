@@ -1,16 +1,17 @@
-"""Booleans of regions: worked rows, answers of one grid, what is refused, and random ones, looked at far from edges."""
+"""Booleans of regions: worked rows, answers of one grid, what is refused, and random ones against the program."""
 
 import contextlib
 import io
 import itertools
+import json
+import math
 import pathlib
 import pickle
 import random
 import runpy
 import unittest
-from array import array
 
-from surroundings import IS_QUICK, PACKAGE, numpy, shapely
+from surroundings import IS_QUICK, PACKAGE, PROGRAM, nested, numpy, program_line, shapely
 
 import i_overlay_mesh
 from i_overlay_mesh import (
@@ -18,16 +19,18 @@ from i_overlay_mesh import (
     GridRangeError,
     Shapes,
     TooManySplits,
+    answer,
     arrays,
     buffer,
+    coverage,
     difference,
     intersection,
     outline,
+    overlaps,
     stroke,
     symmetric_difference,
     union,
 )
-from i_overlay_mesh.clearances import windings_round
 from i_overlay_mesh.library import Outcome
 from i_overlay_mesh.styles import FILL_KINDS, RULE_KINDS, boolean_structure
 
@@ -47,22 +50,18 @@ WHOLE = {"scale": 1, "origin": (0, 0)}
 
 RANDOM_BOOLEANS = 40 if IS_QUICK else 300
 
-FILLED = {
-    "even_odd": lambda winding: winding % 2 == 1,
-    "non_zero": lambda winding: winding != 0,
-    "positive": lambda winding: winding > 0,
-    "negative": lambda winding: winding < 0,
-}
 
-KEPT = {
-    "subject": lambda a, b: a,
-    "clip": lambda a, b: b,
-    "intersect": lambda a, b: a and b,
-    "union": lambda a, b: a or b,
-    "difference": lambda a, b: a and not b,
-    "inverse_difference": lambda a, b: b and not a,
-    "xor": lambda a, b: a != b,
-}
+def serves(words):
+    """Whether the library answers such requests."""
+    return b"unreadable" not in answer(json.dumps(words).encode())
+
+
+SERVES_ZONES = serves({"op": "coverage", "int": "i32", "out": "shapes", "zones": [], "least": 1}) and serves(
+    {"op": "overlaps", "int": "i32", "out": "shapes", "zones": []}
+)
+SERVES_BOOLEANS = serves(
+    {"op": "boolean", "int": "i32", "out": "shapes", "rule": "union", "subject": [], "clip": []}
+)
 
 
 def area(shapes):
@@ -111,6 +110,55 @@ class TestRows(unittest.TestCase):
         self.check(intersection, ([A[::-1]], B), [], rings="sense")
         self.check(intersection, ([A[::-1]], B), [[[[2, 2], [4, 2], [4, 4], [2, 4]]]], rings="sense", fill="non_zero")
         self.check(union, ([A[::-1]],), [[A]], rings="sense", fill="negative")
+
+
+@unittest.skipUnless(SERVES_ZONES, "requests for zones are not answered yet")
+class TestZones(unittest.TestCase):
+    def test_coverage(self):
+        told = coverage([A, B, I], 2, **WHOLE).polygons
+        self.assertEqual(told, [[[[1, 1], [3, 1], [3, 2], [4, 2], [4, 4], [2, 4], [2, 3], [1, 3]]]])
+        self.assertEqual(coverage([[[A], [A]], B, I], 3, **WHOLE).polygons, [[[[2, 2], [3, 2], [3, 3], [2, 3]]]])
+        self.assertEqual(coverage([A, B], 1, **WHOLE), union(A, B, **WHOLE))
+        self.assertEqual(coverage([A, B], 3, **WHOLE).polygons, [])
+        self.assertEqual(coverage([], 1).polygons, [])
+
+    def test_overlaps(self):
+        common = [[[[2, 2], [4, 2], [4, 4], [2, 4]]]]
+        told = [(i, j, shapes.polygons) for i, j, shapes in overlaps([A, B, R, I], **WHOLE)]
+        self.assertEqual([pair[:2] for pair in told], [(0, 1), (0, 3), (1, 2), (1, 3)])
+        self.assertEqual(told[0][2], common)
+        for i, j, shapes in overlaps([A, B, R, I], **WHOLE):
+            self.assertEqual(shapes, intersection([A, B, R, I][i], [A, B, R, I][j], **WHOLE))
+        self.assertEqual(overlaps([A, R]), [])
+        self.assertEqual(overlaps([]), [])
+
+    def test_answers(self):
+        pads = [outline(ring, 1, **WHOLE) for ring in (A, B, N)]
+        self.assertEqual(coverage(pads, 2), union(pads[0] & pads[1], pads[1] & pads[2], pads[0] & pads[2]))
+        self.assertEqual([(i, j) for i, j, _ in overlaps(pads)], [(0, 1), (0, 2), (1, 2)])
+        self.assertEqual(overlaps(pads)[0][2], pads[0] & pads[1])
+
+    def test_fills(self):
+        negative = coverage([[A[::-1]], [B[::-1]]], 2, rings="sense", fill="negative", **WHOLE)
+        self.assertEqual(negative, intersection(A, B, **WHOLE))
+
+    def test_limits(self):
+        with self.assertRaises(TooManySplits):
+            coverage([S, U], 2, most_splits=1, **WHOLE)
+        with self.assertRaises(TooManySplits):
+            overlaps([S, U], most_splits=1, **WHOLE)
+        self.assertIsNone(coverage([S, U], 2, most_splits=1000, **WHOLE).nearness)
+
+    def test_what_are_no_zones(self):
+        for zones in (A[0][0], "A", outline(A, 1), {"type": "Polygon", "coordinates": [A]}):
+            with self.assertRaises(DrawingError):
+                overlaps(zones)
+        for least in (0, -1, 1.5, 2**32, "2", None):
+            with self.assertRaises(DrawingError):
+                coverage([A], least)
+        with self.assertRaises(DrawingError) as caught:
+            coverage([A, [[0, 0], [1, math.nan], [2, 2]]], 1)
+        self.assertEqual(caught.exception.where, "zone 1, polygon 0, ring 0, point 1")
 
 
 class TestAnswers(unittest.TestCase):
@@ -263,7 +311,7 @@ class TestDrawings(unittest.TestCase):
             self.assertLess(told.symmetric_difference(theirs).area, 1e-6, name)
 
     def test_exports(self):
-        for name in ("union", "intersection", "difference", "symmetric_difference"):
+        for name in ("union", "intersection", "difference", "symmetric_difference", "coverage", "overlaps"):
             self.assertIn(name, i_overlay_mesh.__all__)
             self.assertTrue(getattr(i_overlay_mesh, name).__doc__)
         self.assertTrue((pathlib.Path(i_overlay_mesh.__file__).parent / "py.typed").exists())
@@ -282,52 +330,31 @@ class TestDrawings(unittest.TestCase):
 
 
 def random_contours(source):
-    """Some contours, of which some cross themselves."""
+    """Some contours on a small grid, of which some cross themselves."""
     return [
-        [[source.randint(-60, 60), source.randint(-60, 60)] for _ in range(source.randint(1, 6))]
+        [[source.randint(-12, 12), source.randint(-12, 12)] for _ in range(source.randint(0, 6))]
         for _ in range(source.randint(0, 3))
     ]
 
 
-def as_told(contours):
-    """Contours in the form in which the library tells shapes."""
-    points = array("i", itertools.chain.from_iterable(itertools.chain.from_iterable(contours)))
-    return arrays.Told(points, array("Q", itertools.accumulate(map(len, contours))), array("Q"))
-
-
-def distance(point, start, end):
-    """How far a point lies from an edge, by the greater of the differences in x and y."""
-    (ax, ay), (bx, by) = ([place - own for place, own in zip(vertex, point)] for vertex in (start, end))
-    dx, dy = bx - ax, by - ay
-    # It is least at an end, or where a difference is 0, or where both are equal in size.
-    turns = [(-ax, dx), (-ay, dy), (ay - ax, dx - dy), (-ax - ay, dx + dy)]
-    places = [0, 1] + [min(max(part / whole, 0), 1) for part, whole in turns if whole]
-    return min(max(abs(ax + place * dx), abs(ay + place * dy)) for place in places)
-
-
-class TestRandom(unittest.TestCase):
+class TestProgram(unittest.TestCase):
+    @unittest.skipUnless(SERVES_BOOLEANS, "requests for booleans are not answered yet")
     def test_random_booleans(self):
-        """Farther than the nearness from all edges a boolean contains just what its rule keeps."""
+        """In arrays a boolean has the shapes that its request has, in the library and by the program."""
         source = random.Random(76)
         ways = list(itertools.product(RULE_KINDS, FILL_KINDS, FILL_KINDS))
-        probed = 0
         for _ in range(RANDOM_BOOLEANS):
-            rule, *fills = source.choice(ways)
-            operands = [random_contours(source) for _ in range(2)]
-            asked, lists = boolean_structure(rule, *fills), [arrays.lists_in(operand, 2) for operand in operands]
-            outcome, told, nearness = arrays.combined(asked, *lists, most_splits=0)
+            rule, first, second = source.choice(ways)
+            subject, clip = random_contours(source), random_contours(source)
+            request = {"op": "boolean", "int": "i32", "out": "shapes", "rule": rule, "subject": subject, "clip": clip}
+            request["fill"] = {"subject": first, "clip": second}
+            text = json.dumps(request).encode()
+            lists = arrays.lists_in(subject, 2), arrays.lists_in(clip, 2)
+            outcome, told, _ = arrays.combined(boolean_structure(rule, first, second), *lists)
             self.assertEqual(outcome, Outcome.ANSWERED)
-            self.assertEqual(arrays.combined(asked, *lists), (outcome, told, 0))
-            edges = [edge for ring in itertools.chain(*operands) for edge in zip(ring, [*ring[1:], ring[0]])]
-            points = [(source.randint(-60, 60), source.randint(-60, 60)) for _ in range(40)]
-            far = [point for point in points if all(distance(point, *edge) > nearness / 64 + 0.001 for edge in edges)]
-            probes = sorted(far, key=lambda point: point[1])
-            windings = [windings_round(probes, as_told(operand)) for operand in operands]
-            inside = [[FILLED[fill](winding) for winding in own] for fill, own in zip(fills, windings)]
-            kept = [int(KEPT[rule](a, b)) for a, b in zip(*inside)]
-            self.assertEqual(windings_round(probes, told), kept, (rule, fills, operands))
-            probed += sum(kept)
-        self.assertGreater(probed, RANDOM_BOOLEANS)
+            self.assertEqual(nested(told), json.loads(answer(text))["shapes"], text)
+            if PROGRAM.exists():
+                self.assertEqual(program_line(text), answer(text))
 
 
 if __name__ == "__main__":

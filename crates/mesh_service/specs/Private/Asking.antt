@@ -5,9 +5,9 @@ use Rattle.mesh_num.specs.Paths.{paths_of, shapes_of}
 use Rattle.mesh_drawing.specs.declared.asked.Answer.{Answer}
 use Rattle.mesh_drawing.specs.declared.asked.Asked.{Asked}
 use Rattle.mesh_drawing.specs.declared.asked.Output.{Output}
-use Rattle.mesh_request.specs.Requests.{Request}
 use Rattle.mesh_service.specs.Lines.{shapes_text, told_edges_text, told_shapes_text}
 use Rattle.mesh_service.specs.Near.{AnswersWithin, PassesLimit}
+use Rattle.mesh_service.specs.Requested.{Requested}
 use Rattle.mesh_service.specs.Served.{Answers}
 use Rattle.mesh_service.specs.declared.near.Telling.{Telling}
 
@@ -28,11 +28,11 @@ answer_text told (Answer.Shapes shapes) = shapes_text (shapes_of shapes.items)
 answer_text told (Answer.NearShapes near) = told_shapes_text told near.nearness (shapes_of near.shapes.items)
 
 -- the line answers a request that is accepted
-abbrev pub AnswersAs : Option Telling → (ℤ → ℤ → Ordering) → Request → List ℕ → Type 0
+abbrev pub AnswersAs : Option Telling → (ℤ → ℤ → Ordering) → Requested → List ℕ → Type 0
 AnswersAs None order request line = Answers order request line
 AnswersAs (Some telling) order request line = AnswersWithin telling order request line
 
 -- a limit is set, and was passed
-abbrev pub IsGivenUpAs : Option Telling → Request → Type 0
+abbrev pub IsGivenUpAs : Option Telling → Requested → Type 0
 IsGivenUpAs None request = ⊥
 IsGivenUpAs (Some telling) request = PassesLimit telling.most_splits request

@@ -7,21 +7,21 @@ use Rattle.std.specs.declared.alloc.Global.{Global}
 use Rattle.std.specs.declared.string.String.{String}
 use Rattle.serde_json.specs.Data.{Data}
 use Rattle.mesh_request.specs.Failures.{failure_line}
-use Rattle.mesh_request.specs.Typed.{untyped}
 use Rattle.mesh_request.specs.declared.failure.Failure.{Failure}
 use Rattle.mesh_request.specs.declared.failure.Failure.TheVariants.{Unreadable, Refused}
-use Rattle.mesh_request.specs.declared.request.TypedRequest.{TypedRequest}
 use Rattle.mesh_service.specs.Reasons.{IsValueReason}
+use Rattle.mesh_service.specs.Requested.{requested_by}
 use Rattle.mesh_service.specs.Serving.{exact_request, AppendsBeginning}
 use Rattle.mesh_service.specs.declared.reason.Reason.{Reason}
 use Rattle.mesh_service.specs.declared.service.Status.{Status}
 use Rattle.mesh_service.specs.declared.service.Status.TheVariants.{Unread, Unwritten, Refused as RefusedStatus}
+use Rattle.mesh_service.specs.declared.text.AnyRequest.{AnyRequest}
 use Rattle.mesh_service.specs.declared.text.TextError.{TextError}
 use Rattle.mesh_service.specs.declared.text.TextError.TheVariants.{NoRequest, OutOfMemory}
 
 -- what a value is read as
-abbrev pub IsReadOfValue : Data → Result TypedRequest TextError → Type 0
-IsReadOfValue d (Ok request) = exact_request d ≡ Some (untyped request)
+abbrev pub IsReadOfValue : Data → Result AnyRequest TextError → Type 0
+IsReadOfValue d (Ok request) = exact_request d ≡ Some (requested_by request)
 IsReadOfValue d (Err (NoRequest reason)) = (exact_request d ≡ None) × IsValueReason d reason
 IsReadOfValue d (Err OutOfMemory) = Unit {0}
 

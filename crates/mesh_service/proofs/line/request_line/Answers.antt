@@ -1,20 +1,20 @@
--- A request is answered with the coordinates of its type.
+-- A request is answered as its kind is.
 use Rattle.mesh_service.proofs.line.request_line.Goals as goal
 
-pub returns-in-I16-clause-answered : goal.returns-in-I16-clause-answered
-returns-in-I16-clause-answered c = rw c.in-I16.is c.drawn_line.ensures.answered
+pub returns-in-Drawing-clause-answered : goal.returns-in-Drawing-clause-answered
+returns-in-Drawing-clause-answered c = rw c.in-Drawing.is c.drawing_line.ensures.answered
 
-pub returns-in-I16-clause-refused : goal.returns-in-I16-clause-refused
-returns-in-I16-clause-refused c = rw c.in-I16.is c.drawn_line.ensures.refused
+pub returns-in-Drawing-clause-refused : goal.returns-in-Drawing-clause-refused
+returns-in-Drawing-clause-refused c = rw c.in-Drawing.is c.drawing_line.ensures.refused
 
-pub returns-in-I16-clause-given_up : goal.returns-in-I16-clause-given_up
-returns-in-I16-clause-given_up c = rw c.in-I16.is c.drawn_line.ensures.given_up
+pub returns-in-Drawing-clause-given_up : goal.returns-in-Drawing-clause-given_up
+returns-in-Drawing-clause-given_up c = rw c.in-Drawing.is c.drawing_line.ensures.given_up
 
-pub returns-in-I32-clause-answered : goal.returns-in-I32-clause-answered
-returns-in-I32-clause-answered c = rw c.in-I32.is c.drawn_line-in-I32.ensures.answered
+pub returns-in-Combination-clause-answered : goal.returns-in-Combination-clause-answered
+returns-in-Combination-clause-answered c = rw c.in-Combination.is c.combination_line.ensures.answered
 
-pub returns-in-I32-clause-refused : goal.returns-in-I32-clause-refused
-returns-in-I32-clause-refused c = rw c.in-I32.is c.drawn_line-in-I32.ensures.refused
+pub returns-in-Combination-clause-refused : goal.returns-in-Combination-clause-refused
+returns-in-Combination-clause-refused c = rw c.in-Combination.is c.combination_line.ensures.refused
 
-pub returns-in-I32-clause-given_up : goal.returns-in-I32-clause-given_up
-returns-in-I32-clause-given_up c = rw c.in-I32.is c.drawn_line-in-I32.ensures.given_up
+pub returns-in-Combination-clause-given_up : goal.returns-in-Combination-clause-given_up
+returns-in-Combination-clause-given_up c = rw c.in-Combination.is c.combination_line.ensures.given_up
