@@ -10,6 +10,8 @@ for requests of some thousand vertices at most. The last two prove nothing.
 Contours to be outlined are grey, paths to be stroked are dashed lines, the answer is blue; the y axis points up. Where
 the width changes by vertex, the circles round the vertices are dotted. Edges that are not resolved have tips, pieces of
 sections are blue, those of corners and caps orange, and numbers say how often the edges wind.
+
+Of booleans, coverage and overlaps, what each operand covers is grey, and the answer blue.
 """
 import argparse
 import json
@@ -33,10 +35,12 @@ FONT = 15
 LINE = 19
 DEFAULT_ARC = (68356528, 5)
 MOST_ROUNDS = 100
+COMBINING = ("boolean", "coverage", "overlaps")
 CELL = 4
 
 ANSWER = 'fill="#4a90d9" fill-opacity="0.35" stroke="#1b4f9c" stroke-width="2" stroke-linejoin="round"'
 OWN = 'fill="none" stroke="#333333" stroke-width="1.2" stroke-dasharray="5 3"'
+OPERAND = 'fill="#888888" fill-opacity="0.25" stroke="#555555" stroke-width="1"'
 CIRCLE = 'fill="none" stroke="#333333" stroke-width="1" stroke-dasharray="1 3"'
 SIDE_PIECE = 'fill="#4a90d9" fill-opacity="0.3"'
 CORNER_PIECE = 'fill="#e8a33d" fill-opacity="0.6"'
@@ -53,6 +57,8 @@ class Panel(NamedTuple):
     request: dict
     answers: list
     edges: list
+    operands: list = []
+    """Of a request that combines: its operands."""
 
     @property
     def is_outline(self):
@@ -60,13 +66,21 @@ class Panel(NamedTuple):
         return self.request["op"] == "outline"
 
     @property
+    def combines(self):
+        """Whether operands are combined."""
+        return self.request["op"] in COMBINING
+
+    @property
     def is_closed(self):
         """Whether a path goes on from its last point to its first."""
-        return self.is_outline or (self.request["op"] == "stroke" and self.request.get("closed", False))
+        is_ring = self.request["op"] == "stroke" and self.request.get("closed", False)
+        return self.is_outline or self.combines or is_ring
 
     @property
     def paths(self):
         """The points of the paths."""
+        if self.combines:
+            return []
         return [[tuple(vertex[:2]) for vertex in path] for path in self.request["paths"]]
 
     @property
@@ -119,7 +133,7 @@ def ask(command, files, requests):
             answer = json.loads(text)
         except ValueError:
             sys.exit(f"draw.py: {file}: the program answered no line of JSON, but {text[:200]!r}")
-        if not isinstance(answer, dict) or not {"shapes", "edges"} & answer.keys():
+        if not isinstance(answer, dict) or not {"shapes", "edges", "overlaps"} & answer.keys():
             sys.exit(f"draw.py: {file}: the program answered {text.strip()}")
         answers.append(answer)
     return answers
@@ -138,6 +152,31 @@ def read(file):
     return request
 
 
+def shapes_of(answer):
+    """All shapes of an answer, those of overlaps too."""
+    return answer.get("shapes", []) + [shape for *_, shapes in answer.get("overlaps", []) for shape in shapes]
+
+
+def operands_of(request):
+    """The operands of a request that combines, each with its fill rule."""
+    fill = request.get("fill", "non_zero")
+    if request["op"] == "boolean":
+        fills = fill if isinstance(fill, dict) else {"subject": fill, "clip": fill}
+        return [(request[key], fills[key]) for key in ("subject", "clip")]
+    return [(zone, fill) for zone in request["zones"]]
+
+
+def operand_panels(command, file, request):
+    """The operands of a request that combines, each as what it is drawn of, with what it covers."""
+    operands = operands_of(request) if request["op"] in COMBINING else []
+    if not operands:
+        return []
+    alone = {"op": "boolean", "int": request["int"], "out": "shapes", "rule": "subject", "clip": []}
+    answers = ask(command, [file] * len(operands), [alone | {"subject": it, "fill": fill} for it, fill in operands])
+    drawn = [it if isinstance(it, dict) else {"op": "outline", "paths": it} for it, _ in operands]
+    return [Panel(one, [answer["shapes"]], []) for one, answer in zip(drawn, answers)]
+
+
 def rounds(command, file, request, first):
     """The first answer, and those to what was answered, until no shape is left."""
     shapes = first
@@ -154,10 +193,10 @@ def panels_of(command, files, is_repeated, has_pieces):
     panels = []
     for file, request, answer in zip(files, requests, ask(command, files, asked)):
         edges = [(tuple(start), tuple(end)) for path in answer.get("edges", []) for start, end in path]
-        answers = [answer["shapes"]] if "shapes" in answer else []
+        answers = [] if "edges" in answer else [shapes_of(answer)]
         if is_repeated and answers:
             answers = [shapes for shapes, _ in zip(rounds(command, file, request, answers[0]), range(MOST_ROUNDS))]
-        panels.append(Panel(request, answers, edges))
+        panels.append(Panel(request, answers, edges, operand_panels(command, file, request)))
     return panels
 
 
@@ -166,7 +205,14 @@ def panels_of(command, files, is_repeated, has_pieces):
 
 def caption_of(panel):
     """How a request is drawn, in words."""
-    request, style = panel.request, panel.request["style"]
+    request = panel.request
+    if request["op"] == "boolean":
+        return request["rule"].replace("_", " ")
+    if request["op"] == "coverage":
+        return f"where at least {request['least']} zones cover the plane"
+    if request["op"] == "overlaps":
+        return f"overlaps of {len(request['zones'])} zones"
+    style = request["style"]
     if request["op"] == "variable_stroke":
         return f"arcs in steps of {degrees(style.get('arc', DEFAULT_ARC)[0])}"
     join = join_name(style.get("join", "bevel"))
@@ -257,14 +303,26 @@ def bounds_of(panels):
     """The least and the greatest coordinates of all that is drawn in panels."""
     contours = [contour for panel in panels for shapes in panel.answers for shape in shapes for contour in shape]
     contours += [path for panel in panels for path in panel.paths + panel.edges]
+    contours += [path for panel in panels for operand in panel.operands for path in operand.paths]
+    contours += [contour for panel in panels for operand in panel.operands for shapes in operand.answers
+                 for shape in shapes for contour in shape]
     points = [point for contour in contours for point in contour]
     points += [(x + way * r, y + way * r) for panel in panels for x, y, r in panel.circles for way in (-1, 1)]
     xs, ys = zip(*points) if points else ((0,), (0,))
     return min(xs), min(ys), max(xs), max(ys)
 
 
+def operand_lines(operand, frame):
+    """The SVG text of an operand: what it covers, and dashed what it is drawn of."""
+    for shape in (shape for shapes in operand.answers for shape in shapes):
+        yield f'<path d="{frame.path(shape)}" {OPERAND} fill-rule="evenodd"/>'
+    yield f'<path d="{frame.path(operand.paths, operand.is_closed)}" {OWN}/>'
+
+
 def panel_lines(panel, frame):
     """The SVG text of one panel, without its caption."""
+    for operand in panel.operands:
+        yield from operand_lines(operand, frame)
     own = frame.path(panel.paths, panel.is_closed)
     if panel.is_outline:
         yield f'<path d="{own}" fill="#cccccc" fill-rule="evenodd"/>'
@@ -277,7 +335,8 @@ def panel_lines(panel, frame):
     for x, y, radius in panel.circles:
         center_x, center_y = frame.moved((x, y)).split(",")
         yield f'<circle cx="{center_x}" cy="{center_y}" r="{radius * frame.scale:.1f}" {CIRCLE}/>'
-    yield f'<path d="{own}" {OWN}/>'
+    if own:
+        yield f'<path d="{own}" {OWN}/>'
     yield from (f'<path d="{frame.path([edge], False)}" {EDGE}/>' for edge in panel.edges)
     contours = [end for path in panel.paths if panel.is_outline for end in pieces.sections_of(path, True)]
     for point, count in pieces.counts(panel.edges, contours, CELL / frame.scale):
@@ -322,11 +381,13 @@ def drawing(panels, layout):
         lines += row_text
     width = layout.panel_width * (1 if layout.is_one_panel else min(len(panels), ROW))
     is_outline = all(panel.is_outline for panel in panels)
+    kind = "Polygons and their outlines" if is_outline else "Paths and their strokes"
+    title = "Regions and what is made of them" if all(panel.combines for panel in panels) else kind
     return "\n".join(
         [
             f'<svg xmlns="http://www.w3.org/2000/svg" width="{width}" height="{bottom}"'
             f' viewBox="0 0 {width} {bottom}" font-family="sans-serif" font-size="{FONT}">',
-            f"<title>{'Polygons and their outlines' if is_outline else 'Paths and their strokes'}</title>",
+            f"<title>{title}</title>",
             *([TIP] if any(panel.edges for panel in panels) else []),
             f'<rect width="{width}" height="{bottom}" fill="white"/>',
             *lines,
@@ -345,6 +406,8 @@ def main():
     parser.add_argument("--panel", type=int, default=PANEL, help="the width of a panel, in pixels")
     parser.add_argument("--program", type=shlex.split, metavar="COMMAND", help="what answers a request")
     options = parser.parse_args()
+    if (options.pieces or options.again) and any(read(file)["op"] in COMBINING for file in options.requests):
+        sys.exit("draw.py: --pieces and --again are for requests that draw paths")
     panels = panels_of(options.program, options.requests, options.again, options.pieces)
     print(drawing(panels, Layout(options.panel, options.own_scale and not options.over, options.over)))
 

@@ -20,3 +20,6 @@ draw map_with_hole "$@" --panel 640 map_with_hole.json
 draw pocket "$@" --panel 640 --again pocket.json
 draw pen_stroke "$@" pen_stroke.json
 draw board_clearance "$@" --panel 640 --over board_tracks.json board_pads.json
+draw pocket_with_islands "$@" --panel 640 cutting/pocket_with_islands.json
+draw net_clearance "$@" --panel 640 cutting/net_clearance.json
+draw land_less_lakes "$@" --panel 640 cutting/land_less_lakes.json
