@@ -180,22 +180,30 @@ class Shapes:
     def __or__(self, other: object) -> Shapes:
         from .booleans import union
 
-        return union(self, other) if isinstance(other, Shapes) else NotImplemented
+        if not isinstance(other, Shapes):
+            return NotImplemented
+        return union(self, other)
 
     def __and__(self, other: object) -> Shapes:
         from .booleans import intersection
 
-        return intersection(self, other) if isinstance(other, Shapes) else NotImplemented
+        if not isinstance(other, Shapes):
+            return NotImplemented
+        return intersection(self, other)
 
     def __sub__(self, other: object) -> Shapes:
         from .booleans import difference
 
-        return difference(self, other) if isinstance(other, Shapes) else NotImplemented
+        if not isinstance(other, Shapes):
+            return NotImplemented
+        return difference(self, other)
 
     def __xor__(self, other: object) -> Shapes:
         from .booleans import symmetric_difference
 
-        return symmetric_difference(self, other) if isinstance(other, Shapes) else NotImplemented
+        if not isinstance(other, Shapes):
+            return NotImplemented
+        return symmetric_difference(self, other)
 
     def __bool__(self) -> bool:
         return len(self) > 0
