@@ -294,7 +294,7 @@ class Regions:
         for region in self.all:
             lists = region.lists(self.grid, self.how)
             if region.fill(self.how) != "positive":
-                shapes = region.shapes(self.grid, self.how, None)
+                shapes = region.shapes(self.grid, self.how, self.limit())
                 lists = lists_of(shapes.points, shapes.contour_ends, 2)
             zones.append(contours_in(lists))
         request = {**words, "int": "i32", "out": "shapes", "fill": "positive", "zones": zones}

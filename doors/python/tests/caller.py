@@ -27,6 +27,11 @@ def main() -> None:
     brush = mesh.variable_stroke([(0, 0, 0.2), (4, 0, 0.8)], at_least=True)
     points = mesh.buffer({"type": "Point", "coordinates": [1, 2]}, 1, quad_segs=8)
     assert pickle.loads(pickle.dumps(points)) == points
+    corner = mesh.outline([(3, 2), (4, 2), (4, 3)], 0, scale=grid.scale, origin=grid.origin)
+    twice: Shapes = mesh.coverage([grown, corner], 2)
+    parts: list[Shapes] = [grown | corner, grown & corner, grown - corner, grown ^ corner, twice]
+    pairs: list[tuple[int, int, Shapes]] = mesh.overlaps([square, corner], fill="non_zero", most_splits=0)
+    print(len(parts), [(first, second, len(common)) for first, second, common in pairs])
     errors: dict[int, Exception] = {}
     for shapes in mesh.buffer_all([points, None], 1.5, workers=2, errors=errors, progress=lambda done, total: None):
         print(shapes)

@@ -1,4 +1,7 @@
-"""Booleans of regions: worked rows, answers of one grid, what is refused, and random ones against the program."""
+"""Booleans, coverage and overlaps: worked rows, answers of one grid, what is refused, and random ones.
+
+These are looked at far from edges, and beside the program.
+"""
 
 import contextlib
 import io
@@ -10,6 +13,7 @@ import pickle
 import random
 import runpy
 import unittest
+from array import array
 
 from surroundings import IS_QUICK, PACKAGE, PROGRAM, nested, numpy, program_line, shapely
 
@@ -31,6 +35,7 @@ from i_overlay_mesh import (
     symmetric_difference,
     union,
 )
+from i_overlay_mesh.clearances import windings_round
 from i_overlay_mesh.library import Outcome
 from i_overlay_mesh.styles import FILL_KINDS, RULE_KINDS, boolean_structure
 
@@ -50,18 +55,22 @@ WHOLE = {"scale": 1, "origin": (0, 0)}
 
 RANDOM_BOOLEANS = 40 if IS_QUICK else 300
 
+FILLED = {
+    "even_odd": lambda winding: winding % 2 == 1,
+    "non_zero": lambda winding: winding != 0,
+    "positive": lambda winding: winding > 0,
+    "negative": lambda winding: winding < 0,
+}
 
-def serves(words):
-    """Whether the library answers such requests."""
-    return b"unreadable" not in answer(json.dumps(words).encode())
-
-
-SERVES_ZONES = serves({"op": "coverage", "int": "i32", "out": "shapes", "zones": [], "least": 1}) and serves(
-    {"op": "overlaps", "int": "i32", "out": "shapes", "zones": []}
-)
-SERVES_BOOLEANS = serves(
-    {"op": "boolean", "int": "i32", "out": "shapes", "rule": "union", "subject": [], "clip": []}
-)
+KEPT = {
+    "subject": lambda a, b: a,
+    "clip": lambda a, b: b,
+    "intersect": lambda a, b: a and b,
+    "union": lambda a, b: a or b,
+    "difference": lambda a, b: a and not b,
+    "inverse_difference": lambda a, b: b and not a,
+    "xor": lambda a, b: a != b,
+}
 
 
 def area(shapes):
@@ -112,7 +121,6 @@ class TestRows(unittest.TestCase):
         self.check(union, ([A[::-1]],), [[A]], rings="sense", fill="negative")
 
 
-@unittest.skipUnless(SERVES_ZONES, "requests for zones are not answered yet")
 class TestZones(unittest.TestCase):
     def test_coverage(self):
         told = coverage([A, B, I], 2, **WHOLE).polygons
@@ -330,15 +338,77 @@ class TestDrawings(unittest.TestCase):
 
 
 def random_contours(source):
-    """Some contours on a small grid, of which some cross themselves."""
+    """Some contours, of which some cross themselves."""
     return [
-        [[source.randint(-12, 12), source.randint(-12, 12)] for _ in range(source.randint(0, 6))]
+        [[source.randint(-60, 60), source.randint(-60, 60)] for _ in range(source.randint(1, 6))]
         for _ in range(source.randint(0, 3))
     ]
 
 
+def as_told(contours):
+    """Contours in the form in which the library tells shapes."""
+    points = array("i", itertools.chain.from_iterable(itertools.chain.from_iterable(contours)))
+    return arrays.Told(points, array("Q", itertools.accumulate(map(len, contours))), array("Q"))
+
+
+def distance(point, start, end):
+    """How far a point lies from an edge, by the greater of the differences in x and y."""
+    (ax, ay), (bx, by) = ([place - own for place, own in zip(vertex, point)] for vertex in (start, end))
+    dx, dy = bx - ax, by - ay
+    # It is least at an end, or where a difference is 0, or where both are equal in size.
+    turns = [(-ax, dx), (-ay, dy), (ay - ax, dx - dy), (-ax - ay, dx + dy)]
+    places = [0, 1] + [min(max(part / whole, 0), 1) for part, whole in turns if whole]
+    return min(max(abs(ax + place * dx), abs(ay + place * dy)) for place in places)
+
+
+class TestRandom(unittest.TestCase):
+    def test_random_booleans(self):
+        """Farther than the nearness from all edges a boolean contains just what its rule keeps."""
+        source = random.Random(76)
+        ways = list(itertools.product(RULE_KINDS, FILL_KINDS, FILL_KINDS))
+        probed = 0
+        for _ in range(RANDOM_BOOLEANS):
+            rule, *fills = source.choice(ways)
+            operands = [random_contours(source) for _ in range(2)]
+            asked, lists = boolean_structure(rule, *fills), [arrays.lists_in(operand, 2) for operand in operands]
+            outcome, told, nearness = arrays.combined(asked, *lists, most_splits=0)
+            self.assertEqual(outcome, Outcome.ANSWERED)
+            self.assertEqual(arrays.combined(asked, *lists), (outcome, told, 0))
+            edges = [edge for ring in itertools.chain(*operands) for edge in zip(ring, [*ring[1:], ring[0]])]
+            points = [(source.randint(-60, 60), source.randint(-60, 60)) for _ in range(40)]
+            far = [point for point in points if all(distance(point, *edge) > nearness / 64 + 0.001 for edge in edges)]
+            probes = sorted(far, key=lambda point: point[1])
+            windings = [windings_round(probes, as_told(operand)) for operand in operands]
+            inside = [[FILLED[fill](winding) for winding in own] for fill, own in zip(fills, windings)]
+            kept = [int(KEPT[rule](a, b)) for a, b in zip(*inside)]
+            self.assertEqual(windings_round(probes, told), kept, (rule, fills, operands))
+            probed += sum(kept)
+        self.assertGreater(probed, RANDOM_BOOLEANS)
+
+
+def random_boxes(source):
+    """Zones of some rectangles each, whose edges meet in whole points alone."""
+    zones = []
+    for _ in range(source.randint(0, 6)):
+        corners = [[source.randint(0, 9) for _ in range(4)] for _ in range(source.randint(1, 2))]
+        zones.append([[[[x, y], [x + 4, y], [x + 4, y + 1 + h], [x, y + 1 + h]]] for x, y, h, _ in corners])
+    return zones
+
+
+class TestRandomZones(unittest.TestCase):
+    def test_random_zones(self):
+        """Zones overlap in what two of them have in common, and what is covered twice is that of all pairs."""
+        source = random.Random(29)
+        for _ in range(RANDOM_BOOLEANS):
+            zones = random_boxes(source)
+            pairs = list(itertools.combinations(range(len(zones)), 2))
+            common = [(i, j, intersection(zones[i], zones[j], **WHOLE)) for i, j in pairs]
+            self.assertEqual(overlaps(zones, **WHOLE), [pair for pair in common if pair[2]], zones)
+            self.assertEqual(coverage(zones, 1, **WHOLE), union(*zones, **WHOLE), zones)
+            self.assertEqual(coverage(zones, 2, **WHOLE), union(*(shapes for _, _, shapes in common), **WHOLE), zones)
+
+
 class TestProgram(unittest.TestCase):
-    @unittest.skipUnless(SERVES_BOOLEANS, "requests for booleans are not answered yet")
     def test_random_booleans(self):
         """In arrays a boolean has the shapes that its request has, in the library and by the program."""
         source = random.Random(76)

@@ -49,7 +49,7 @@ class TestAgainstProgram(unittest.TestCase):
         self.assertEqual(answer(request, most_splits=0), program_line(request))
 
     def test_examples(self):
-        for file in sorted((ROOT / "examples").glob("*.json")):
+        for file in sorted((ROOT / "examples").rglob("*.json")):
             with self.subTest(file.name):
                 self.check(file.read_bytes())
 
