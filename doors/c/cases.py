@@ -59,15 +59,24 @@ def random_paths(source):
     return [[[source.randint(-9, 9), source.randint(-9, 9)] for _ in range(source.randint(2, 5))] for _ in range(2)]
 
 
+def operand(source, width):
+    """Some contours, a drawing, or nothing."""
+    if source.randrange(3):
+        return random_paths(source)
+    words = random_requests.request(source.randrange(100_000))
+    keys = ("op", "paths", "style", "closed")
+    return {key: words[key] for key in keys if key in words} if words["int"] == width else []
+
+
 def combination(source):
     """A random request for a boolean, a coverage or overlaps."""
-    operation = source.choice(["boolean", "boolean", "coverage", "overlaps"])
-    words = {"op": operation, "int": source.choice(["i16", "i32"]), "out": "shapes"}
-    words["fill"] = source.choice(list(FILL_KINDS))
+    operation, width = source.choice(["boolean", "boolean", "coverage", "overlaps"]), source.choice(["i16", "i32"])
+    words = {"op": operation, "int": width, "out": "shapes", "fill": source.choice(list(FILL_KINDS))}
     if operation == "boolean":
-        words |= {"rule": source.choice(list(RULE_KINDS)), "subject": random_paths(source), "clip": random_paths(source)}
+        words["rule"] = source.choice(list(RULE_KINDS))
+        words["subject"], words["clip"] = operand(source, width), operand(source, width)
     else:
-        words["zones"] = [random_paths(source) for _ in range(source.randint(0, 4))]
+        words["zones"] = [operand(source, width) for _ in range(source.randint(0, 4))]
     if operation == "coverage":
         words["least"] = source.randint(1, 3)
     return words
@@ -75,7 +84,7 @@ def combination(source):
 
 def requests():
     """The examples, strange requests, random ones, of which each fifth asks for edges, and one with a sliver."""
-    for example in sorted((ROOT / "examples").glob("*.json")):
+    for example in sorted((ROOT / "examples").rglob("*.json")):
         yield example.read_bytes()
     yield from STRANGE
     for number in range(RANDOM_REQUESTS):

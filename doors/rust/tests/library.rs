@@ -249,7 +249,8 @@ fn examples_are_answered_as_by_the_program_in_threads() {
     if !program.exists() {
         return;
     }
-    let examples: Vec<PathBuf> = fs::read_dir(root().join("examples")).unwrap().map(|it| it.unwrap().path()).collect();
+    let folders = ["examples", "examples/cutting"].map(|folder| fs::read_dir(root().join(folder)).unwrap());
+    let examples: Vec<PathBuf> = folders.into_iter().flatten().map(|it| it.unwrap().path()).collect();
     let requests = examples.into_iter().filter(|file| file.extension().map_or(false, |it| it == "json"));
     let threads: Vec<_> = requests
         .map(|file| {
