@@ -6,6 +6,9 @@ from padding import padding_of
 
 UNREADABLE = b'{"unreadable":"request"}\n'
 
+DRAWINGS = ("outline", "stroke", "variable_stroke")
+"""What draws paths. Other operations combine regions, and are not cut."""
+
 PATHS_OF_LINE = 64
 """How many paths a line has where edges are asked for, which are answered path by path."""
 
@@ -25,7 +28,9 @@ def line_of(request):
 
 
 def is_drawing(request):
-    """Whether the paths of a request are lists of whole numbers, as a drawing has them."""
+    """Whether a request draws paths, and these are lists of whole numbers, as a drawing has them."""
+    if request.get("op") not in DRAWINGS:
+        return False
     paths = request.get("paths")
     size = 3 if request.get("op") == "variable_stroke" else 2
     return isinstance(paths, list) and all(
@@ -74,6 +79,8 @@ def join(text, answers):
     for part, line in zip(parts, answers):
         if "refused" in part:
             return line
+    if "overlaps" in parts[0]:
+        return answers[0]
     request = read_request(text)
     if request["out"] == "edges":
         return line_of({"edges": [edges for part in parts for edges in part["edges"]]})

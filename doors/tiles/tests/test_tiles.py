@@ -98,6 +98,18 @@ class Joining(unittest.TestCase):
         request["paths"].append([[0.5, 1]])
         self.assertEqual(answered(request), UNREADABLE)
 
+    def test_what_is_not_cut(self):
+        zones = [[square(0, 0, 10)], [square(5, 5, 10)], [square(50, 5, 10)]]
+        plain = {"int": "i32", "out": "shapes", "paths": [square(0, 0, 10), square(90, 0, 10)], "style": {}}
+        for words in (
+            {"op": "boolean", "rule": "xor", "subject": zones[0], "clip": zones[1]},
+            {"op": "coverage", "zones": zones, "least": 1},
+            {"op": "overlaps", "zones": zones},
+        ):
+            request = {**words, **plain}
+            self.assertEqual(cut(line_of(request)), [line_of(request)])
+            self.assertEqual(answered(request), answer(line_of(request)))
+
     def test_what_is_no_request(self):
         for text in (b"", b"{", b"[]", b"\xff", b'{"op":"outline"}', b'"\n"', b"[" * 5000, b"\xef\xbb\xbf{}"):
             self.assertEqual(join(text, [answer(line) for line in cut(text)]), UNREADABLE)
