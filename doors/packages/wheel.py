@@ -38,7 +38,7 @@ build-backend = "setuptools.build_meta"
 [project]
 name = "i_overlay_mesh"
 version = "{version}"
-description = "Polygon offsetting: outlines of polygons and strokes of lines, drawn by a proved library"
+description = "Polygon offsetting and booleans: outlines of polygons and strokes of lines, by a proved library"
 readme = "README.md"
 requires-python = ">=3.9"
 license = {{text = "MIT"}}
@@ -62,8 +62,8 @@ i_overlay_mesh = ["py.typed", "MANIFEST.txt", "libi_overlay_mesh.so"]
 README = """\
 # i_overlay_mesh
 
-Polygon offsetting over whole numbers: outlines of polygons, strokes of lines, strokes whose width changes, and buffers of
-any geometry, drawn by a library whose code is proved. `MANIFEST.txt` says what is proved and what is not.
+Polygon offsetting over whole numbers: outlines of polygons, strokes of lines, strokes whose width changes, buffers of any
+geometry, and booleans, by a library whose code is proved. `MANIFEST.txt` says what is proved and what is not.
 
 ```python
 from i_overlay_mesh import buffer, outline
