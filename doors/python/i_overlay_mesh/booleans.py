@@ -289,15 +289,20 @@ class Regions:
         return Shapes(shapes, self.grid, None if limit is None else limit.nearness, whole)
 
     def asked(self, words: dict[str, Any]) -> dict[str, Any]:
-        """What the program answers to a request about the regions."""
+        """What the program answers to a request about the regions.
+
+        A request has one fill for all zones. Where answers stand beside rings with another, these are resolved first.
+        """
+        fills = [region.fill(self.how) for region in self.all]
+        fill = fills[0] if len(set(fills)) == 1 else "positive"
         zones = []
-        for region in self.all:
+        for region, own in zip(self.all, fills):
             lists = region.lists(self.grid, self.how)
-            if region.fill(self.how) != "positive":
+            if own != fill:
                 shapes = region.shapes(self.grid, self.how, self.limit())
                 lists = lists_of(shapes.points, shapes.contour_ends, 2)
             zones.append(contours_in(lists))
-        request = {**words, "int": "i32", "out": "shapes", "fill": "positive", "zones": zones}
+        request = {**words, "int": "i32", "out": "shapes", "fill": fill, "zones": zones}
         most_splits = self.how.wishes.most_splits
         outcome, line = reply(json.dumps(request, separators=(",", ":")).encode(), most_splits)
         if outcome is Outcome.TOO_MANY_SPLITS:

@@ -147,8 +147,10 @@ class TestZones(unittest.TestCase):
         self.assertEqual(overlaps(pads)[0][2], pads[0] & pads[1])
 
     def test_fills(self):
-        negative = coverage([[A[::-1]], [B[::-1]]], 2, rings="sense", fill="negative", **WHOLE)
-        self.assertEqual(negative, intersection(A, B, **WHOLE))
+        common, ways = intersection(A, B, **WHOLE), {"rings": "sense", "fill": "negative", **WHOLE}
+        self.assertEqual(coverage([[A[::-1]], [B[::-1]]], 2, **ways), common)
+        self.assertEqual(coverage([outline(A, 0, **WHOLE), [B[::-1]]], 2, **ways), common)
+        self.assertEqual(overlaps([[B[::-1]], outline(A, 0, **WHOLE), [B]], **ways), [(0, 1, common)])
 
     def test_limits(self):
         with self.assertRaises(TooManySplits):
