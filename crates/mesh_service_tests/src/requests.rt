@@ -164,6 +164,54 @@ fn combinations_not_answered(rt: HostRuntime) -> Result<(), Fail> {
     expect_no_requests(alloc, ZONE_REASONS)
 }
 
+/// Operands of which two edges cross beside whole points.
+const BENT_INTERSECTION: &str =
+    r#"{"op":"boolean","int":"i32","out":"shapes","rule":"intersect","subject":[[[0,0],[500,0],[500,301]]],"clip":[[[300,-50],[700,-50],[700,400],[300,400]]]}"#;
+
+const BENT_DIFFERENCE: &str =
+    r#"{"op":"boolean","int":"i32","out":"shapes","rule":"difference","subject":[[[0,0],[500,0],[500,301]]],"clip":[[[300,-50],[700,-50],[700,400],[300,400]]]}"#;
+
+/// Squares of the subject, without the clip and within it, far from all edges.
+const LEFT: &str = "[[[200,20],[250,20],[250,60],[200,60]]]";
+
+const RIGHT: &str = "[[[350,50],[450,50],[450,150],[350,150]]]";
+
+/// A request for what a square and the shapes of a line have in common.
+fn common_part(alloc: Global, line: &[u8], square: &str) -> Result<String, Fail> {
+    let shapes = line
+        .strip_prefix(b"{\"shapes\":[")
+        .and_then(|rest| rest.strip_suffix(b"]}\n"));
+    let Some(Ok(shapes)) = shapes.map(str::from_utf8) else {
+        return Err(Fail::new(format_args!("{line:?}")));
+    };
+    Ok(format!(in alloc;
+        "{{\"op\":\"coverage\",\"int\":\"i32\",\"out\":\"shapes\",\"least\":2,\"zones\":[{square},{shapes}]}}"
+    )?)
+}
+
+/// The answer to a request has all of this square, or nothing of it.
+fn expect_square(alloc: Global, request: &str, square: &str, is_in: bool) -> Result<(), Fail> {
+    let mut line = Vec::new(alloc);
+    let _ = serve(alloc, &mut request.as_bytes(), &mut line);
+    let common = common_part(alloc, &line, square)?;
+    let wanted = format!(in alloc; "{{\"shapes\":[{}]}}", if is_in { square } else { "" })?;
+    expect(alloc, common.as_bytes(), Status::Answered, &wanted)
+}
+
+/// Where rounding moves a crossing, an answer is still right far from all edges.
+#[test]
+fn bent_booleans(rt: HostRuntime) -> Result<(), Fail> {
+    for (request, square, is_in) in [
+        (BENT_INTERSECTION, RIGHT, true),
+        (BENT_INTERSECTION, LEFT, false),
+        (BENT_DIFFERENCE, LEFT, true),
+        (BENT_DIFFERENCE, RIGHT, false),
+    ] {
+        expect_square(rt.alloc(), request, square, is_in)?;
+    }
+    Ok(())
+}
+
 const POINT: &str =
     r#"{"op":"outline","int":"i32","out":"edges","paths":[[[0,0]]],"style":{"outer":1,"inner":1}"#;
 
