@@ -24,7 +24,7 @@ fn reasons(rt: HostRuntime) -> Result<(), Fail> {
         ),
         (
             b"{\"op\":\"dot\"}",
-            b"{\"unreadable\":\"request\",\"why\":\"op: \\\"outline\\\", \\\"stroke\\\" or \\\"variable_stroke\\\" is needed\"}\n",
+            b"{\"unreadable\":\"request\",\"why\":\"op: \\\"outline\\\", \\\"stroke\\\", \\\"variable_stroke\\\", \\\"boolean\\\", \\\"coverage\\\" or \\\"overlaps\\\" is needed\"}\n",
         ),
         (
             br#"{"op":"outline","int":"i16","out":"edges","paths":[[[0,0],[40000,0]]],"style":{"outer":0,"inner":0}}"#,

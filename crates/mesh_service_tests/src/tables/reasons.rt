@@ -48,11 +48,11 @@ pub const KEY_REASONS: &[(&str, &str)] = &[
     ),
     (
         r#"{"op":"offset","int":"i32","out":"edges","paths":[[[0,0],[9,0],[0,9]]],"style":{"outer":1,"inner":1}}"#,
-        "op: \"outline\", \"stroke\" or \"variable_stroke\" is needed\n",
+        "op: \"outline\", \"stroke\", \"variable_stroke\", \"boolean\", \"coverage\" or \"overlaps\" is needed\n",
     ),
     (
         r#"{"op":"Outline","int":"i32","out":"edges","paths":[[[0,0],[9,0],[0,9]]],"style":{"outer":1,"inner":1}}"#,
-        "op: \"outline\", \"stroke\" or \"variable_stroke\" is needed\n",
+        "op: \"outline\", \"stroke\", \"variable_stroke\", \"boolean\", \"coverage\" or \"overlaps\" is needed\n",
     ),
     (
         r#"{"op":"outline","out":"edges","paths":[[[0,0],[9,0],[0,9]]],"style":{"outer":1,"inner":1}}"#,

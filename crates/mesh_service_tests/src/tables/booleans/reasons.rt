@@ -181,6 +181,6 @@ pub const ZONE_REASONS: &[(&str, &str)] = &[
     ),
     (
         r#"{"op":"overlap","int":"i32","out":"shapes","zones":[]}"#,
-        "op: \"outline\", \"stroke\" or \"variable_stroke\" is needed\n",
+        "op: \"outline\", \"stroke\", \"variable_stroke\", \"boolean\", \"coverage\" or \"overlaps\" is needed\n",
     ),
 ];
