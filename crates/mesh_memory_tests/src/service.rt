@@ -34,7 +34,7 @@ const REQUESTS: &[(&str, Status)] = &[
         Status::Answered,
     ),
     (
-        r#"{"op":"boolean","int":"i16","out":"shapes","rule":"xor","subject":[[[0,0],[4,0],[4,4]]],"clip":{"op":"stroke","paths":[[[2,0],[2,8]]],"style":{"width":2}}}"#,
+        r#"{"op":"boolean","int":"i16","out":"shapes","rule":"xor","subject":[[[0,0],[4,0],[4,4]]],"clip":{"op":"stroke","paths":[[[2,0],[2,8]]],"style":{"width":4}}}"#,
         Status::Answered,
     ),
     (
