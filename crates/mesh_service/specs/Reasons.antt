@@ -9,12 +9,14 @@ use Rattle.mesh_request.specs.Places.{IsPlaceIn}
 use Rattle.mesh_request.specs.Texts.{fault_text}
 use Rattle.mesh_request.specs.declared.failure.Failure.{Failure}
 use Rattle.mesh_request.specs.declared.failure.Failure.TheVariants.{Unreadable, Refused}
+use Rattle.mesh_request.specs.declared.fault.key.Key.TheVariants.{Operation}
+use Rattle.mesh_request.specs.declared.fault.place.Place.TheVariants.{Member}
 use Rattle.mesh_offset.specs.declared.error.IntOutlineError.TheVariants.{OutOfMemory as MemoryRefused}
 use Rattle.mesh_service.specs.Requested.{Requested, requested_by}
 use Rattle.mesh_service.specs.Serving.{request_in, HoldsNoRequest}
 use Rattle.mesh_service.specs.declared.reason.Reason.{Reason}
 use Rattle.mesh_service.specs.declared.reason.Reason.TheVariants.{Empty, ByteOrderMark, InvalidJson, Wrong}
-use Rattle.mesh_service.specs.declared.reason.Reason.TheVariants.{InexactNumber}
+use Rattle.mesh_service.specs.declared.reason.Reason.TheVariants.{InexactNumber, NoOperation}
 use Rattle.mesh_service.specs.declared.reason.TextPlace.{TextPlace}
 use Rattle.mesh_service.specs.declared.text.AnyRequest.{AnyRequest}
 use Rattle.mesh_service.specs.declared.text.TextError.{TextError}
@@ -64,6 +66,7 @@ IsTextReason text Empty = blank_text text ≡ true
 IsTextReason text ByteOrderMark = (blank_text text ≡ false) × (has_mark text ≡ true)
 IsTextReason text (InvalidJson place) =
     (blank_text text ≡ false) × (has_mark text ≡ false) × IsTextPlace text place
+IsTextReason text NoOperation = ⊥
 IsTextReason text (Wrong fault) = ⊥
 IsTextReason text InexactNumber = ⊥
 
@@ -72,6 +75,7 @@ abbrev pub IsValueReason : Data → Reason → Type 0
 IsValueReason d Empty = ⊥
 IsValueReason d ByteOrderMark = ⊥
 IsValueReason d (InvalidJson place) = ⊥
+IsValueReason d NoOperation = IsPlaceIn d (Member Operation)
 IsValueReason d (Wrong fault) = IsPlaceIn d fault.place
 IsValueReason d InexactNumber = has_float d ≡ true
 
@@ -95,11 +99,18 @@ failure_of OutOfMemory = Refused MemoryRefused
 abbrev pub place_text : TextPlace → List ℕ
 place_text place = codes "line " ++ (decimal place.line ++ (codes ", column " ++ decimal place.column))
 
+-- what is needed of a request that names no operation
+abbrev pub no_operation_text : List ℕ
+no_operation_text =
+    codes
+    "op: \"outline\", \"stroke\", \"variable_stroke\", \"boolean\", \"coverage\" or \"overlaps\" is needed"
+
 -- a reason, as people read it
 abbrev pub reason_text : Reason → List ℕ
 reason_text Empty = codes "the input is empty"
 reason_text ByteOrderMark = codes "line 1, column 1: a byte order mark"
 reason_text (InvalidJson place) = place_text place ++ codes ": invalid JSON"
+reason_text NoOperation = no_operation_text
 reason_text (Wrong fault) = fault_text fault
 reason_text InexactNumber =
     codes "a number is no whole number from -2^63 to 2^64-1, under a key that is ignored"

@@ -6,6 +6,11 @@ ghost use Rattle.mesh_service.specs.Reasons.{IsTextPlace, after_byte};
 use mesh_request::fault::Fault;
 use std::fmt;
 
+/// What is needed of a request that names no operation.
+const NO_OPERATION: &str =
+    "op: \"outline\", \"stroke\", \"variable_stroke\", \"boolean\", \"coverage\" or \
+    \"overlaps\" is needed";
+
 /// Why a text holds no request.
 #[derive(Debug, Clone, Copy, PartialEq, Eq)]
 pub enum Reason {
@@ -15,6 +20,8 @@ pub enum Reason {
     ByteOrderMark,
     /// It is no JSON in UTF-8: here it goes wrong.
     InvalidJson(TextPlace),
+    /// It is JSON, and names no operation.
+    NoOperation,
     /// It is JSON, and has this fault.
     Wrong(Fault),
     /// It has a number that is no whole number of 64 bits, where nothing else is looked at.
@@ -39,6 +46,7 @@ impl fmt::Display for Reason {
             Reason::Empty => write!(f, "the input is empty"),
             Reason::ByteOrderMark => write!(f, "line 1, column 1: a byte order mark"),
             Reason::InvalidJson(place) => write!(f, "{place}: invalid JSON"),
+            Reason::NoOperation => f.write_str(NO_OPERATION),
             Reason::Wrong(fault) => write!(f, "{fault}"),
             Reason::InexactNumber => write!(
                 f,

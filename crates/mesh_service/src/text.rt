@@ -1,9 +1,11 @@
 //! Texts, read as requests.
 
 ghost use Rattle.std.specs.Prelude.{◌≡◌};
+ghost use Rattle.serde_json.specs.Data.{Data};
 ghost use Rattle.serde_json.specs.View.{view};
 ghost use Rattle.mesh_request.specs.Errors.{Reads};
-ghost use Rattle.mesh_service.specs.Reasons.{IsReadOf, IsTextReason, blank_byte, blank_text};
+ghost use Rattle.mesh_request.specs.Places.{IsPlaceIn};
+ghost use Rattle.mesh_service.specs.Reasons.{IsReadOf, IsTextReason, IsValueReason, blank_byte, blank_text};
 ghost use Rattle.mesh_service.specs.Requested.{requested_by, requested_of};
 ghost use Rattle.mesh_service.specs.Private.Told.{IsReadOfValue};
 
@@ -13,6 +15,10 @@ use mesh_boolean_request::request::{TypedCombination, asks_for_combination};
 use mesh_offset::error::IntOutlineError;
 use mesh_request::error::ReadError;
 use mesh_request::failure::Failure;
+use mesh_request::fault::Fault;
+use mesh_request::fault::key::Key;
+use mesh_request::fault::place::Place;
+use mesh_request::fault::problem::Problem;
 use mesh_request::json::has_float;
 use mesh_request::request::{TypedRequest, read};
 use serde_json::Value;
@@ -104,8 +110,22 @@ fn read_value(alloc: Global, value: &Value) -> Result<AnyRequest, TextError>
                 Ok(request)
             }
         }
-        Err(ReadError::Fault(fault)) => Err(TextError::NoRequest(Reason::Wrong(fault))),
+        Err(ReadError::Fault(fault)) => Err(TextError::NoRequest(fault_reason(fault))),
         Err(ReadError::OutOfMemory) => Err(TextError::OutOfMemory),
+    }
+}
+
+/// Why a value with this fault is no request. A drawing is read where no combination is named, so its fault tells of the
+/// names of drawings alone.
+fn fault_reason(fault: Fault) -> Reason
+    ensures { (d : Data) → IsPlaceIn d fault.place → IsValueReason d result }
+{
+    match fault {
+        Fault {
+            place: Place::Member(Key::Operation),
+            problem: Problem::NoOperation,
+        } => Reason::NoOperation,
+        _ => Reason::Wrong(fault),
     }
 }
 

@@ -15,4 +15,4 @@ returns-then-has_float c =
 pub returns-in-Err-Fault : goal.returns-in-Err-Fault
 returns-in-Err-Fault c =
     let failed = rw c.in-Err-Fault.field-0-is at c.in-Err-Fault.ensures in
-    (no_request (view c.args.value.now) (failed.1 refl), failed.0)
+    (no_request (view c.args.value.now) (failed.1 refl), c.fault_reason.ensures (view c.args.value.now) failed.0)
