@@ -118,6 +118,12 @@ impl From<AllocError> for BenchError {
     }
 }
 
+impl From<IntOutlineError> for BenchError {
+    fn from(error: IntOutlineError) -> Self {
+        BenchError::Refused(error)
+    }
+}
+
 impl From<IntNearnessError> for BenchError {
     fn from(error: IntNearnessError) -> Self {
         BenchError::NotTold(error)

@@ -9,6 +9,8 @@ use i_overlay_mesh::{
 use mesh_below::below::IntOverlayOptions;
 use mesh_drawing::drawing::Drawing;
 use mesh_num::num::OverlayInt;
+use mesh_request::request::TypedRequest;
+use mesh_service::text::AnyRequest;
 use std::alloc::Global;
 
 /// The shapes with the default options, and how near they are exact.
@@ -41,9 +43,12 @@ fn answer<I: OverlayInt>(
     }
 }
 
-/// Tells the nearness of the answer to the request on standard input, whose numbers are `i32`, with a limit on splits.
+/// Tells the nearness of the answer to the request on standard input, which is for what is drawn and whose numbers are
+/// `i32`, with a limit on splits.
 pub(crate) fn tell_nearness(rt: &HostRuntime, most_splits: u64) -> Result<(), BenchError> {
-    let request = read_input(rt)?;
+    let AnyRequest::Drawing(TypedRequest::I32(request)) = read_input(rt)? else {
+        return Err(BenchError::Request);
+    };
     let mut count = SplitCount::new(most_splits);
     let near = answer(rt.alloc(), &request.drawing, &mut count)?;
     println!(rt; "{} 64ths of a unit, {} splits", near.nearness, count.made)?;
