@@ -40,6 +40,11 @@ PEN_STEPS = 30
 WALK_STEPS = 16
 """How many of the longest steps of a walk its width is, where that is wide."""
 
+ZONE_VERTICES = 24
+
+ZONE_RADIUS = 0.5
+"""As a part of the mean distance between zones."""
+
 
 class Drawing(NamedTuple):
     """Contours, and how far details stand from each other, in grid units."""
@@ -221,7 +226,7 @@ def request(family, count, offset="small", seed=1, out="shapes", shuffled=False)
     if shuffled:
         random.Random(f"order {seed}").shuffle(drawing.contours)
     distance = min(max(1, round(OFFSETS[offset] * drawing.spacing)), GREATEST_OFFSET)
-    paths = [[[round(x), round(y)] for x, y in contour] for contour in drawing.contours]
+    paths = whole(drawing.contours)
     style = {"outer": distance, "inner": distance}
     return {"op": "outline", "int": "i32", "out": out, "paths": paths, "style": style}
 
@@ -230,9 +235,42 @@ def stroke_request(family, count, seed=1, out="shapes"):
     """The request for the strokes along a drawing, as an object."""
     draw, width = STROKES[family]
     drawing = draw(max(LEAST_CONTOUR, count), random.Random(f"{family} {count} {seed}"))
-    paths = [[[round(x), round(y)] for x, y in contour] for contour in drawing.contours]
+    paths = whole(drawing.contours)
     style = {"width": min(max(2, 2 * round(width * drawing.spacing / 2)), GREATEST_OFFSET)}
     return {"op": "stroke", "int": "i32", "out": out, "closed": True, "paths": paths, "style": style}
+
+
+def whole(contours, east=0, north=0):
+    """The contours on the grid, moved so far."""
+    return [[[round(x + east), round(y + north)] for x, y in contour] for contour in contours]
+
+
+def boolean_request(family, count, rule, seed=1):
+    """The request for a boolean of two drawings of this family, as an object. They are unlike each other where chance has
+    a part in them, and the second is moved by half its spacing both ways."""
+    first, second = (
+        FAMILIES[family](max(LEAST_CONTOUR, count), random.Random(f"{family} {count} {number}"))
+        for number in (seed, seed + 1)
+    )
+    step = second.spacing / 2
+    operands = {"subject": whole(first.contours), "clip": whole(second.contours, step, step)}
+    return {"op": "boolean", "int": "i32", "out": "shapes", "rule": rule, "fill": "even_odd", **operands}
+
+
+def overlaps_request(count, seed=1):
+    """The request for the overlaps of so many small rough circles, as an object. They lie at random about in rows and
+    columns, and each overlaps about three."""
+    noise = random.Random(f"zones {count} {seed}")
+    columns = math.isqrt(count - 1) + 1
+    pitch = 2 * RADIUS / columns
+    part = ZONE_RADIUS * pitch / RADIUS
+    zones = []
+    for index in range(count):
+        east = -RADIUS + (index % columns + noise.random()) * pitch
+        north = -RADIUS + (index // columns + noise.random()) * pitch
+        [contour] = rough_circle(ZONE_VERTICES, noise).contours
+        zones.append(whole([[(x * part, y * part) for x, y in contour]], east, north))
+    return {"op": "overlaps", "int": "i32", "out": "shapes", "fill": "even_odd", "zones": zones}
 
 
 def main():

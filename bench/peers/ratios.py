@@ -80,13 +80,13 @@ class Row(NamedTuple):
         return self._replace(ours=min(self.ours, other.ours), peers=peers)
 
 
-def build(folder):
-    """Builds the driver of the libraries beside ours."""
+def build(folder, name="peers"):
+    """Builds a driver of the libraries beside ours."""
     compiler = shutil.which("g++") or shutil.which("clang++")
     if compiler is None:
         sys.exit("a C++ compiler is needed")
-    driver = pathlib.Path(folder) / "peers"
-    words = [compiler, "-std=c++17", "-O2", "-o", str(driver), str(HERE / "peers.cpp"), "-lpolyclipping", "-lgeos_c"]
+    driver = pathlib.Path(folder) / name
+    words = [compiler, "-std=c++17", "-O2", "-o", str(driver), str(HERE / f"{name}.cpp"), "-lpolyclipping", "-lgeos_c"]
     if subprocess.run(words, check=False).returncode != 0:
         sys.exit("apt-get install libpolyclipping-dev libboost-dev libgeos-dev gives what is missing")
     return driver
@@ -99,20 +99,26 @@ def words_of(request, join):
         kind, offset = "outline", style["outer"]
     else:
         kind, offset = "closed" if request.get("closed") else "open", style["width"] / 2
-    lines = [f"{kind} {join} {offset} {len(request['paths'])}"]
-    for path in request["paths"]:
-        lines.append(f"{len(path)} " + " ".join(f"{x} {y}" for x, y in path))
+    return f"{kind} {join} {offset} {contour_words(request['paths'])}"
+
+
+def contour_words(contours):
+    """Contours as the drivers read them."""
+    lines = [str(len(contours))]
+    for contour in contours:
+        lines.append(f"{len(contour)} " + " ".join(f"{x} {y}" for x, y in contour))
     return "\n".join(lines)
 
 
-def peer_seconds(driver, peer, words, seconds, limit):
-    """The least seconds of a library beside ours; nothing where it draws no such thing, or not in the limit."""
+def peer_answer(driver, peer, words, seconds, limit):
+    """The least seconds of a library beside ours, and the count and the area of its answer; nothing where it makes no
+    such thing, or not in the limit."""
     command = [str(driver), peer, str(seconds)]
     try:
         done = subprocess.run(command, input=words, capture_output=True, text=True, timeout=limit, check=False)
     except subprocess.TimeoutExpired:
         return None
-    return float(done.stdout.split()[0]) if done.returncode == 0 else None
+    return [float(word) for word in done.stdout.split()] if done.returncode == 0 else None
 
 
 def measure(words, driver, case):
@@ -123,9 +129,9 @@ def measure(words, driver, case):
     drawn = words_of(request, case.join)
     peers = {}
     for peer in PEERS:
-        seconds = peer_seconds(driver, peer, drawn, words.seconds, words.limit)
-        if seconds is not None:
-            peers[peer] = seconds
+        answer = peer_answer(driver, peer, drawn, words.seconds, words.limit)
+        if answer is not None:
+            peers[peer] = answer[0]
     try:
         ours = seconds_each(words.program, text, words.seconds)
     except TooLong:
