@@ -1,7 +1,7 @@
 #!/usr/bin/env python3
-"""Times booleans and overlaps beside Clipper, Boost.Polygon and GEOS, and prints tables.
+"""Times booleans and overlaps beside Clipper, Boost.Polygon and GEOS, and prints a table.
 
-    bench/peers/booleans.py [PROGRAM] [--answers PROGRAM] [--most N] [--most-zones N] [--rounds N] > tables.md
+    bench/peers/booleans.py [PROGRAM] [--answers PROGRAM] [--only OPERANDS] [--most N] [--rounds N] > table.md
 
 PROGRAM is `mesh_bench`, that of --answers `mesh_run`, as `rt run` makes them in their crates. The libraries beside ours
 are driven by booleans.cpp, each with the same operands in one process, without reading and writing. Each round times all
@@ -21,7 +21,8 @@ from typing import NamedTuple
 
 from ratios import PEERS, build, contour_words, figure, peer_answer
 from families import boolean_request, overlaps_request
-from in_process import TooLong, seconds_each
+from in_process import TooLong
+from in_process import seconds as process_seconds
 from program import CRATES, add_program, run, seconds_above_zero, tell
 
 RULES = ["union", "intersect", "difference", "xor"]
@@ -34,7 +35,10 @@ SIZES = [100, 1000, 10_000, 100_000]
 ONE_RULE_SIZE = 100_000
 """From this size on they are united alone: the other rules take about as long."""
 
+ZONE = "zones"
+
 ZONES = [1000, 10_000, 40_000]
+"""How many zones there are."""
 
 
 class Case(NamedTuple):
@@ -115,12 +119,23 @@ def time_peer(words, driver, peer, case, asked, own, seconds):
     return True
 
 
-def time_ours(words, text, seconds):
-    """Times our answer."""
-    try:
-        least(seconds, "ours", seconds_each(words.program, text, words.seconds))
-    except TooLong:
-        tell("we take too long")
+def repeats(program, text, wanted):
+    """How many of our answers more than one take about the wanted seconds."""
+    count = 1
+    while process_seconds(program, text, 1 + count) - process_seconds(program, text, 1) < wanted:
+        count *= 4
+    return count
+
+
+def own_seconds(words, text, time_others):
+    """The seconds of our answer: the least time of a process with many, less the least of a process with one."""
+    count = repeats(words.program, text, words.seconds)
+    spent = {}
+    for _ in range(words.rounds):
+        time_others()
+        for answers in [1, 1 + count]:
+            least(spent, answers, process_seconds(words.program, text, answers))
+    return max(0, spent[1 + count] - spent[1]) / count
 
 
 def measure(words, driver, case, left_out):
@@ -129,11 +144,16 @@ def measure(words, driver, case, left_out):
     asked = words_of(case.request)
     own = own_answer(words.answers, text, words.limit)
     seconds = {}
-    for _ in range(words.rounds):
+
+    def time_others():
         for peer in PEERS:
             if (case.family, peer) not in left_out and not time_peer(words, driver, peer, case, asked, own, seconds):
                 left_out.add((case.family, peer))
-        time_ours(words, text, seconds)
+
+    try:
+        seconds["ours"] = own_seconds(words, text, time_others)
+    except TooLong:
+        tell(f"{case.family}, {case.count}, {case.rule}: no answer of ours in time")
     row = Row(case, seconds)
     tell(" ".join(cells(row)))
     return row
@@ -164,34 +184,33 @@ def print_growth(rows):
         print(f"Growth from {before.case.count:,} to {after.case.count:,} zones: {', '.join(grown)}.")
 
 
-def cases(most, most_zones):
+def cases(kinds, most):
     """Two drawings of each family, combined by each rule, and zones."""
-    for family in FAMILIES:
-        for count in SIZES:
+    for family in [kind for kind in FAMILIES if kind in kinds]:
+        for count in [size for size in SIZES if size <= most]:
             for rule in RULES[:1] if count >= ONE_RULE_SIZE else RULES:
-                if count <= most:
-                    yield Case(family, count, rule, boolean_request(family, count, rule))
-    for count in ZONES:
-        if count <= most_zones:
-            yield Case("zones", count, "overlaps", overlaps_request(count))
+                yield Case(family, count, rule, boolean_request(family, count, rule))
+    for count in [size for size in ZONES if ZONE in kinds and size <= most]:
+        yield Case(ZONE, count, "overlaps", overlaps_request(count))
 
 
 def main():
     parser = argparse.ArgumentParser(description="Times booleans and overlaps beside other libraries.")
     add_program(parser, "mesh_bench")
     parser.add_argument("--answers", default=str(CRATES / "mesh_run/out/mesh_run"), metavar="PROGRAM")
-    parser.add_argument("--most", type=int, default=100_000, metavar="N", help="no operand has more vertices")
-    parser.add_argument("--most-zones", type=int, default=40_000, metavar="N", help="no request has more zones")
+    parser.add_argument("--only", choices=[*FAMILIES, ZONE], help="these operands alone")
+    parser.add_argument("--most", type=int, default=100_000, metavar="N", help="no more vertices of an operand, or zones")
     parser.add_argument("--seconds", type=seconds_above_zero, default=0.2, help="about how long each is repeated")
     parser.add_argument("--limit", type=seconds_above_zero, default=60, metavar="SECONDS", help="of one process")
-    parser.add_argument("--rounds", type=int, default=3, help="how often each is timed, in turn")
+    parser.add_argument("--rounds", type=int, default=5, help="how often each is timed, in turn")
     words = parser.parse_args()
     left_out = set()
     with tempfile.TemporaryDirectory() as folder:
         driver = build(folder, "booleans")
-        rows = [measure(words, driver, case, left_out) for case in cases(words.most, words.most_zones)]
+        kinds = [words.only] if words.only else [*FAMILIES, ZONE]
+        rows = [measure(words, driver, case, left_out) for case in cases(kinds, words.most)]
     print_table(rows)
-    print_growth([row for row in rows if row.case.rule == "overlaps"])
+    print_growth([row for row in rows if row.case.family == ZONE])
 
 
 if __name__ == "__main__":
