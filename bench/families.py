@@ -259,7 +259,7 @@ def boolean_request(family, count, rule, seed=1):
 
 def overlaps_request(count, seed=1):
     """The request for the overlaps of so many small rough circles, as an object. They lie at random about in rows and
-    columns, and each overlaps about three."""
+    columns, and each overlaps two or three others."""
     noise = random.Random(f"zones {count} {seed}")
     columns = math.isqrt(count - 1) + 1
     pitch = 2 * RADIUS / columns
