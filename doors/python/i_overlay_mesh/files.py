@@ -62,7 +62,7 @@ def buffered(file: str, said: Optional[str], work: Work, out: BinaryIO, named: O
             if named not in (None, kind):
                 raise DrawingError("", f"FILE is GeoJSON, and {named} by which --output is named has no properties")
             lines = buffered_file(io.TextIOWrapper(source, encoding="utf-8-sig"), work)
-            parts = (line.encode() + b"\n" for line in lines)
+            parts: Iterator[bytes] = (line.encode() + b"\n" for line in lines)
         else:
             parts = buffered_geometries(source.read(), kind, work, named)
         for part in parts:
@@ -81,7 +81,7 @@ def buffered_geometries(data: bytes, kind: str, work: Work, named: Optional[str]
         lines = [line.strip() for line in data.decode("utf-8-sig").splitlines() if line.strip()]
         names = [f"geometry {number}" for number in range(len(lines))]
         geometries = [read_by(read, name, line) for name, line in zip(names, lines)]
-    write = WRITERS[form if named in (None, kind) else named]
+    write = WRITERS[form if named is None or named == kind else named]
     return map(write, work.drawn(geometries, names))
 
 

@@ -178,31 +178,31 @@ class Shapes:
         return unpickled, (lists, (grid.scale, grid.origin), nearness, is_whole)
 
     def __or__(self, other: object) -> Shapes:
-        from .booleans import union
-
         if not isinstance(other, Shapes):
             return NotImplemented
+        from .booleans import union
+
         return union(self, other)
 
     def __and__(self, other: object) -> Shapes:
-        from .booleans import intersection
-
         if not isinstance(other, Shapes):
             return NotImplemented
+        from .booleans import intersection
+
         return intersection(self, other)
 
     def __sub__(self, other: object) -> Shapes:
-        from .booleans import difference
-
         if not isinstance(other, Shapes):
             return NotImplemented
+        from .booleans import difference
+
         return difference(self, other)
 
     def __xor__(self, other: object) -> Shapes:
-        from .booleans import symmetric_difference
-
         if not isinstance(other, Shapes):
             return NotImplemented
+        from .booleans import symmetric_difference
+
         return symmetric_difference(self, other)
 
     def __bool__(self) -> bool:

@@ -32,6 +32,9 @@ def main() -> None:
     parts: list[Shapes] = [grown | corner, grown & corner, grown - corner, grown ^ corner, twice]
     pairs: list[tuple[int, int, Shapes]] = mesh.overlaps([square, corner], fill="non_zero", most_splits=0)
     print(len(parts), [(first, second, len(common)) for first, second, common in pairs])
+    holed: Shapes = mesh.difference(square, mesh.outline(square, -0.5, scale=2**10, origin=(0, 0)), most_splits=0)
+    assert mesh.union(holed, holed) == holed | holed == holed & holed and not holed - holed and not holed ^ holed
+    print(mesh.intersection(square, square, fill="even_odd"), mesh.symmetric_difference(holed, square, rings="nested"))
     errors: dict[int, Exception] = {}
     for shapes in mesh.buffer_all([points, None], 1.5, workers=2, errors=errors, progress=lambda done, total: None):
         print(shapes)

@@ -196,8 +196,9 @@ class TestTypes(unittest.TestCase):
             words = ["mypy", "--strict", "--ignore-missing-imports", "--cache-dir", folder]
             caller = pathlib.Path(__file__).with_name("caller.py")
             environment = {**os.environ, "MYPYPATH": str(PACKAGE)}
-            run = subprocess.run([*words, str(caller)], env=environment, capture_output=True, text=True, check=False)
-            self.assertEqual(run.returncode, 0, run.stdout)
+            for given in caller, PACKAGE / "i_overlay_mesh":
+                run = subprocess.run([*words, str(given)], env=environment, capture_output=True, text=True, check=False)
+                self.assertEqual(run.returncode, 0, run.stdout)
             run = subprocess.run(
                 [sys.executable, str(caller)],
                 env={**environment, "PYTHONPATH": str(PACKAGE)},
