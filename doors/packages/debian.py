@@ -11,6 +11,7 @@ from .wheel import copy_package
 
 HERE = pathlib.Path(__file__).resolve().parent / "debhelper"
 LIBRARY = "libi-overlay-mesh1"
+DEVELOPMENT = "libi-overlay-mesh-dev"
 FOLDER = "/usr/lib/x86_64-linux-gnu"
 CHANGELOG = (
     "i-overlay-mesh ({version}-1) unstable; urgency=medium\n\n  * As of commit {commit}.\n\n -- {author}  {date}\n"
@@ -58,8 +59,10 @@ def lay_out_debian(debian, known, author):
         (debian / f"{name}.lintian-overrides").write_text(f"{name}: initial-upload-closes-no-bugs\n")
     pages = [f"debian/{program.name}.1" for program in known.programs]
     (debian / "i-overlay-mesh.manpages").write_text("\n".join(pages) + "\n")
-    names = sorted(re.findall(r" T (mesh_\w+)", symbols(OUT / "lib/libi_overlay_mesh.so")))
-    lines = [f"libi_overlay_mesh.so.1 {LIBRARY} #MINVER#", *(f" {name}@Base {first_version(name)}" for name in names)]
+    # The mark of what is not proved is a text and no call.
+    names = sorted(re.findall(r" [TR] (mesh_\w+)", symbols(OUT / "lib/libi_overlay_mesh.so")))
+    lines = [f"libi_overlay_mesh.so.1 {LIBRARY} #MINVER#", f"* Build-Depends-Package: {DEVELOPMENT}"]
+    lines += [f" {name}@Base {first_version(name)}" for name in names]
     (debian / f"{LIBRARY}.symbols").write_text("\n".join(lines) + "\n")
 
 

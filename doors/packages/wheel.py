@@ -12,22 +12,25 @@ NAMES = {(2, 5): "manylinux1", (2, 12): "manylinux2010", (2, 17): "manylinux2014
 MACHINE = "x86_64"
 
 SETUP = '''\
-from setuptools import setup
+from setuptools import Distribution, setup
 from wheel.bdist_wheel import bdist_wheel
+
+
+class Built(Distribution):
+    """Has code for a machine, so that the package stands at the top of the wheel, where installers and tools look."""
+
+    def has_ext_modules(self):
+        return True
 
 
 class Tagged(bdist_wheel):
     """The shared object is no extension module: any Python 3 of the platform loads it."""
 
-    def finalize_options(self):
-        super().finalize_options()
-        self.root_is_pure = False
-
     def get_tag(self):
         return "py3", "none", "{tag}"
 
 
-setup(cmdclass={{"bdist_wheel": Tagged}})
+setup(distclass=Built, cmdclass={{"bdist_wheel": Tagged}})
 '''
 
 PROJECT = """\
