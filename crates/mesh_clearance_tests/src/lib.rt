@@ -4,4 +4,6 @@
 #[cfg(test)]
 mod clearances;
 #[cfg(test)]
+mod nets;
+#[cfg(test)]
 mod pairs;

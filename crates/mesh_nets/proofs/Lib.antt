@@ -1,0 +1,10 @@
+pub mod Among
+pub mod Between
+pub mod Beyond
+pub mod Contours
+pub mod Crossings
+pub mod Descent
+pub mod Distances
+pub mod Listing
+pub mod Meeting
+pub mod Outlined

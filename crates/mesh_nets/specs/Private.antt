@@ -1,0 +1,3 @@
+-- What stands between the steps: only private contracts read these.
+pub mod Outlines
+pub mod PairsSoFar
