@@ -188,9 +188,10 @@ def at_once(
     from . import batches
 
     own_items, own_ways = items[chunk.start : chunk.stop], ways[chunk.start : chunk.stop]
-    plain = [how for how in {id(how): how for how in own_ways}.values() if is_plain_way(how)]
-    places = {id(how): place for place, how in enumerate(plain)}
-    of_way = numpy.array([places.get(id(how), -1) for how in own_ways])
+    known = dict(zip(map(id, own_ways), own_ways))
+    plain = [how for how in known.values() if is_plain_way(how)]
+    places = {**dict.fromkeys(known, -1), **{id(how): place for place, how in enumerate(plain)}}
+    of_way = numpy.array([*map(places.__getitem__, map(id, own_ways))])
     given = numpy.full(len(chunk), None, object)
     # Some items are sequences, which an array would take apart.
     for place, item in enumerate(own_items):
@@ -199,10 +200,11 @@ def at_once(
     if not len(chosen):
         return chunk
     answers, are_done = batches.buffered(given[chosen], plain, of_way[chosen], pool.stop)
-    done = [chunk[place] for place, is_done in zip(chosen, are_done) if is_done]
-    for number, answer in zip(done, answers[are_done]):
-        result[number] = answer
-    return sorted(set(chunk).difference(done))
+    done = chosen[are_done]
+    for place, answer in zip(done.tolist(), answers[are_done].tolist()):
+        result[chunk.start + place] = answer
+    left: list[int] = numpy.delete(numpy.arange(chunk.start, chunk.stop), done).tolist()
+    return left
 
 
 def is_plain_way(how: Buffering) -> bool:
