@@ -12,6 +12,9 @@ from .wheel import copy_package
 HERE = pathlib.Path(__file__).resolve().parent / "debhelper"
 LIBRARY = "libi-overlay-mesh1"
 DEVELOPMENT = "libi-overlay-mesh-dev"
+NEEDED = {"dpkg-dev": "dpkg-buildpackage", "debhelper": "dh", "dh-python": "dh_python3"}
+"""Debian's packages that make packages, and a program of each."""
+
 FOLDER = "/usr/lib/x86_64-linux-gnu"
 CHANGELOG = (
     "i-overlay-mesh ({version}-1) unstable; urgency=medium\n\n  * As of commit {commit}.\n\n -- {author}  {date}\n"
@@ -73,8 +76,9 @@ def first_version(name):
 
 def make(known, out):
     """Makes the packages."""
-    if shutil.which("dh") is None or shutil.which("dpkg-buildpackage") is None:
-        print("debhelper is not there: no Debian packages were made.")
+    missing = [package for package, program in NEEDED.items() if shutil.which(program) is None]
+    if missing:
+        print(f"No {' and no '.join(missing)}: no Debian packages were made.")
         return
     author = told("git", "log", "-1", "--format=%an <%ae>", cwd=ROOT)
     with workplace() as name:
