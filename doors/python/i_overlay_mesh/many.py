@@ -200,11 +200,12 @@ def at_once(
     if not len(chosen):
         return chunk
     answers, are_done = batches.buffered(given[chosen], plain, of_way[chosen], pool.stop)
-    done = chosen[are_done]
+    done: Any = chosen[are_done]
     for place, answer in zip(done.tolist(), answers[are_done].tolist()):
         result[chunk.start + place] = answer
-    left: list[int] = numpy.delete(numpy.arange(chunk.start, chunk.stop), done).tolist()
-    return left
+    left: Any = numpy.delete(numpy.arange(chunk.start, chunk.stop), done)
+    numbers: list[int] = left.tolist()
+    return numbers
 
 
 def is_plain_way(how: Buffering) -> bool:
