@@ -29,14 +29,14 @@ pub struct NetClearance {
 /// then of its second.
 ///
 /// A net is a list of polygons as an overlay or an offset returned them. A point belongs to it where it lies on one of
-/// its edges, or where its contours wind round it, however often. Every two points of two nets that are not listed, on
-/// the grid or between its points, are at least the distance apart. So nets that touch or overlap are listed with any
-/// distance but 0, with which nothing is listed, and so is a net that lies within another one. A net without points is
-/// far from all others. Coordinates may be any value, and distances are in grid units.
+/// its edges, or where the windings of its contours round it do not add up to 0. Every two points of two nets that are
+/// not listed, on the grid or between its points, are at least the distance apart. So nets that touch or overlap are
+/// listed with any distance but 0, with which nothing is listed, and so is a net that lies within another one. A net
+/// without points is far from all others. Coordinates may be any value, and distances are in grid units.
 ///
 /// The boxes of each two nets are compared: 10,000 nets take 50 million short tests. Only where the boxes are nearer
-/// than the distance is a pair measured, in about linear time where edges are short. No contract says so. `Err` means
-/// that memory was refused.
+/// than the distance is a pair measured. That takes about linear time where edges are short; then each contour of one
+/// net is tested against all edges of the other. No contract says so. `Err` means that memory was refused.
 pub fn clearances<I: IntNumber>(
     alloc: Global,
     nets: &[IntShapes<I>],
