@@ -7,6 +7,10 @@ from overlay import DEFAULT_OPTIONS
 from plane import I16, I32
 
 NOT_WHOLE = object()  # stands for a number with a fraction or an exponent, or past 64 bits
+OPERATIONS = ["outline", "stroke", "variable_stroke"]
+
+COMBINATIONS = ["boolean", "coverage", "overlaps"]
+
 STYLE_KEYS = {"outline": ["outer", "inner", "join", "min_turn"], "variable_stroke": ["arc"],
               "stroke": ["width", "join", "min_turn", "start", "end", "side"]}
 Request = namedtuple("Request", "op width out paths style closed options ignored")
@@ -123,7 +127,9 @@ class Reader:
         """The request in a text."""
         value = parsed(text)
         self.width = {"i16": I16, "i32": I32}[self.one_of(self.get(value, "int"), "int", "i16", "i32")]
-        op = self.one_of(self.get(value, "op"), "op", "outline", "stroke", "variable_stroke")
+        op = self.one_of(self.get(value, "op"), "op", *OPERATIONS, *COMBINATIONS)
+        if op in COMBINATIONS:
+            raise NotImplementedError("requests that combine are not answered here")
         closed = op == "stroke" and self.flag(value.get("closed", False), "closed")
         style, paths = self.style(self.get(value, "style"), op), self.get(value, "paths")
         needed(isinstance(paths, list), "paths: ")
