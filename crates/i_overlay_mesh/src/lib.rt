@@ -29,6 +29,7 @@ pub use mesh_join::style::{
     IntLineCap, IntLineJoin, IntOutlineStyle, IntStrokeStyle, IntStrokeVertex,
     IntVariableStrokeStyle, MathMode, StrokeSide,
 };
+pub use mesh_nets::nets::{NetClearance, clearances};
 pub use mesh_num::num::{Angle, IntNumber, IntPoint, IntRect, IntVector, OverlayInt};
 pub use mesh_num::shape::{
     DirectedEdge, FlatContoursBuffer, IntShapeResource, IntShapes, PathSlice, Segment,

@@ -4,4 +4,5 @@ pub mod Meeting
 pub mod Near
 pub mod Overlapping
 pub mod Ranges
+pub mod Told
 pub mod ZoneEdges

@@ -20,7 +20,7 @@ use Rattle.mesh_split.specs.declared.count.SplitCount.{SplitCount}
 use Rattle.mesh_offset.specs.Counting.{CountsAttempts}
 use Rattle.mesh_offset.proofs.Counting.{counts_fewer, counts_more, counts_weaker}
 use Rattle.mesh_boolean.specs.Booleans.{both_edges}
-use Rattle.mesh_boolean.specs.Overlaps.{AreCommonRegions, AreCommonRegionsBeyond, AreCommonRegionsWithin, AreOverlaps, AreOverlapsBeyond, IsListed, IsOfPair, IsOverlap, IsOverlapBefore, IsOverlapBeyond, IsPairBefore, IsPairDrawing, Overlap, overlap_of, overlaps_of, pair_edges}
+use Rattle.mesh_boolean.specs.Overlaps.{AreCommonRegions, AreOverlaps, IsListed, IsOverlap, IsOverlapBefore, IsPairBefore, IsPairDrawing, Overlap, overlap_of, overlaps_of, pair_edges}
 use Rattle.mesh_boolean.specs.Private.Meeting.{AreMeetingPairs, IsPairOf}
 use Rattle.mesh_boolean.specs.Private.PairsSoFar.{AddsOverlap, AreOverlapsOf, IsListedUnlessEmpty}
 use Rattle.mesh_boolean.specs.declared.overlaps.ZoneOverlap.{ZoneOverlap}
@@ -101,20 +101,6 @@ module _ (unit : ℕ) (Has : ℕ → ℕ → List (List (List Point)) → Type 0
     pub all_resolved : (i : ℕ) (found : List Overlap) → length pairs ≤ i → AreOverlapsOf unit Has (take i pairs) found → AreOverlapsOf unit Has pairs found
     all_resolved i found past h = rw (take_all i pairs past) at h
 
--- the same where more is known
-pub overlaps_weaker : (unit : ℕ) (Has More : ℕ → ℕ → List (List (List Point)) → Type 0) → ((i j : ℕ) (answer : List (List (List Point))) → Has i j answer → More i j answer) →
-    (pairs : List (ℕ × ℕ)) (found : List Overlap) → AreOverlapsOf unit Has pairs found → AreOverlapsOf unit More pairs found
-overlaps_weaker unit Has More f pairs found h = record {
-  each = All-weaker (IsOf unit Has pairs) (IsOf unit More pairs) (λ o is. (is.0, is.1, f o.0 o.1.0 o.1.1 is.2)) found h.each;
-  safe = h.safe;
-  ordered = h.ordered;
-  others = λ p listed. elim (h.others p listed) [ inl l ↦ inl l | inr none ↦ inr (f p.0 p.1 [] none) ];
-}
-
-pub adds_weaker : (unit : ℕ) (Has More : List (List (List Point)) → Type 0) → ((answer : List (List (List Point))) → Has answer → More answer) → (pair : ℕ × ℕ) (old new : List Overlap) →
-    AddsOverlap unit Has pair old new → AddsOverlap unit More pair old new
-adds_weaker unit Has More f pair old new h = record { answer = h.answer; has = f h.answer h.has; safe = h.safe; added = h.added }
-
 -- ---- all pairs
 
 module _ (unit : ℕ) (zones : List (List (List (List Point)))) (choices : Choices) (pairs : List (ℕ × ℕ)) (found : List Overlap) (meet : AreMeetingPairs zones pairs) where
@@ -132,47 +118,6 @@ module _ (unit : ℕ) (zones : List (List (List (List Point)))) (choices : Choic
           | inr apart ↦ inr (inl apart)
         ];
   }
-
-  pub all_overlaps_beyond : (k : ℕ) → (k ≡ 0) ⊎ IsOfPair k zones choices → AreOverlapsOf unit (AreCommonRegionsWithin k zones choices) pairs found → AreOverlapsBeyond k zones choices found
-  all_overlaps_beyond k greatest h = record {
-    each =
-        All-weaker (IsOf unit (AreCommonRegionsWithin k zones choices) pairs) (λ (o : Overlap). IsOverlapBeyond k zones choices o)
-        (λ o is.
-        let pair = All-contains (IsPairOf (length zones)) pairs (o.0, o.1.0) meet.each is.0 in
-        record { ascending = pair.0; within = pair.1; some = is.1; regions = is.2 }) found h.each;
-    ordered = h.ordered;
-    others = λ i j less within.
-        elim (meet.others i j less within) [
-          | inl listed ↦ elim (h.others (i, j) listed) [ inl l ↦ inl l | inr none ↦ inr (inr none) ]
-          | inr apart ↦ inr (inl apart)
-        ];
-    greatest = greatest;
-  }
-
--- ---- nearness
-
-module _ (unit : ℕ) (zones : List (List (List (List Point)))) (choices : Choices) where
-  -- a greater nearness serves too
-  pub within_more : (k l : ℕ) → k ≤ l → (pairs : List (ℕ × ℕ)) (found : List Overlap) → AreOverlapsOf unit (AreCommonRegionsWithin k zones choices) pairs found →
-      AreOverlapsOf unit (AreCommonRegionsWithin l zones choices) pairs found
-  within_more k l up =
-      overlaps_weaker unit (AreCommonRegionsWithin k zones choices) (AreCommonRegionsWithin l zones choices) (λ i j answer h. (h.0, omega (arith, h.1, up), h.2))
-
-  pub adds_within : (own k : ℕ) → own ≤ k → (pair : ℕ × ℕ) (old new : List Overlap) → AddsOverlap unit (AreCommonRegionsBeyond own zones choices pair.0 pair.1) pair old new →
-      AddsOverlap unit (AreCommonRegionsWithin k zones choices pair.0 pair.1) pair old new
-  adds_within own k up pair old new =
-      adds_weaker unit (AreCommonRegionsBeyond own zones choices pair.0 pair.1) (AreCommonRegionsWithin k zones choices pair.0 pair.1) (λ answer h. (own, up, h)) pair old new
-
-  -- the greatest of all is that of the next pair, or that of those before
-  pub greatest_more : (own k l : ℕ) (pair : ℕ × ℕ) (old new : List Overlap) → l ≡ max k own → IsPairOf (length zones) pair →
-      AddsOverlap unit (AreCommonRegionsBeyond own zones choices pair.0 pair.1) pair old new → (k ≡ 0) ⊎ IsOfPair k zones choices → (l ≡ 0) ⊎ IsOfPair l zones choices
-  greatest_more own k l pair old new is two adds before = by (cases_lt k own)
-    where
-      by : (k < own) ⊎ (own ≤ k) → (l ≡ 0) ⊎ IsOfPair l zones choices
-      by (inl less) =
-          let e : own ≡ l = omega (arith, is, less) in
-          inr (subst (λ (n : ℕ). IsOfPair n zones choices) e (record { first = pair.0; second = pair.1; ascending = two.0; within = two.1; answer = adds.answer; regions = adds.has }))
-      by (inr le) = let e : k ≡ l = omega (arith, is, le) in subst (λ (n : ℕ). (n ≡ 0) ⊎ IsOfPair n zones choices) e before
 
 -- ---- counts
 

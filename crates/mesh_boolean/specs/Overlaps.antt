@@ -1,5 +1,5 @@
 -- Which pairs of zones overlap, and where. A zone is the shapes of an answer, and a pair is named by the places of both.
-use Rattle.std.specs.Prelude.{ℕ, ◌<◌, ◌≤◌, ◌≡◌, ◌≢◌, ◌⊎◌, List, [], map, length, get_or, ◌<ℤ◌}
+use Rattle.std.specs.Prelude.{ℕ, ◌<◌, ◌≤◌, ◌≡◌, ◌≢◌, ◌⊎◌, List, [], ◌∷◌, map, length, get_or, ◌<ℤ◌}
 use Rattle.std.specs.List.{All, AllPairs, Contains, flat_map}
 use Rattle.mesh_plane.specs.Plane.{Point, Edge}
 use Rattle.mesh_num.specs.Paths.{contours_of, shapes_of}
@@ -8,8 +8,9 @@ use Rattle.mesh_lattice.specs.FillRules.{filled_by}
 use Rattle.mesh_lattice.specs.declared.fill.FillRule.TheVariants.{Positive}
 use Rattle.mesh_lattice.specs.declared.fill.WindingRule.TheVariants as winding_rule
 use Rattle.mesh_below.specs.Laws.{AreRegions}
-use Rattle.mesh_below.specs.Nearness.{AreRegionsBeyond}
+use Rattle.mesh_below.specs.Nearness.{AreCountedRegions}
 use Rattle.mesh_shapes.specs.Resolution.{Choices}
+use Rattle.mesh_split.specs.declared.count.SplitCount.{SplitCount}
 use Rattle.mesh_boolean.specs.Booleans.{both_edges}
 use Rattle.mesh_boolean.specs.declared.overlaps.ZoneOverlap.{ZoneOverlap}
 
@@ -81,55 +82,65 @@ pub record AreOverlaps (zones : List (List (List (List Point)))) (choices : Choi
   pub ordered : AllPairs IsOverlapBefore found
   pub others : (i j : ℕ) → i < j → j < length zones → IsDecided zones choices found i j
 
--- ---- with an error bound, in 64ths of a grid unit
+-- ---- with an error bound, in 64ths of a grid unit, and one count of splits
 
 -- the edges of both zones of a pair
 abbrev pub pair_edges : List (List (List (List Point))) → ℕ → ℕ → List Edge
 pair_edges zones i j = both_edges Positive (get_or zones i []) (get_or zones j [])
 
--- both zones are resolved so, with this nearness: the answer is exact at each point farther than it from all their edges
-abbrev pub AreCommonRegionsBeyond : ℕ → List (List (List (List Point))) → Choices → ℕ → ℕ → List (List (List Point))
-    → Type 0
-AreCommonRegionsBeyond k zones choices i j answer =
-    AreRegionsBeyond k (pair_edges zones i j) (filled_by (winding_rule.AtLeast 2)) choices answer
+-- what both zones of a pair have in common: exact at each point farther than `k` from all their edges, and the splits
+-- that it comes of were counted on
+abbrev pub AreCountedCommonRegions : ℕ → List (List (List (List Point))) → Choices → ℕ × ℕ → SplitCount → SplitCount
+    → List (List (List Point)) → Type 0
+AreCountedCommonRegions k zones choices pair old new answer =
+    AreCountedRegions k (pair_edges zones pair.0 pair.1) (filled_by (winding_rule.AtLeast 2)) choices answer old new
 
--- the same with a nearness of at most `k`
-abbrev pub AreCommonRegionsWithin : ℕ → List (List (List (List Point))) → Choices → ℕ → ℕ → List (List (List Point))
-    → Type 0
-AreCommonRegionsWithin k zones choices i j answer =
-    (own : ℕ) × (own ≤ k) × AreCommonRegionsBeyond own zones choices i j answer
+-- what is told of a pair of zones that was resolved: what both have in common, how near that is, and the count before and
+-- after
+pub record ToldPair : Type 0 where
+  pub pair : ℕ × ℕ
+  pub common : List (List (List Point))
+  pub nearness : ℕ
+  pub before : SplitCount
+  pub after : SplitCount
 
--- a pair is listed with what both zones have in common, up to `k`, and that is not nothing
-pub record IsOverlapBeyond (k : ℕ) (zones : List (List (List (List Point)))) (choices : Choices) (o : Overlap)
-    : Type 0 where
-  pub ascending : o.0 < o.1.0
-  pub within : o.1.0 < length zones
-  pub some : o.1.1 ≢ []
-  pub regions : AreCommonRegionsWithin k zones choices o.0 o.1.0 o.1.1
+-- it is so
+pub record IsToldPair (zones : List (List (List (List Point)))) (choices : Choices) (t : ToldPair) : Type 0 where
+  pub ascending : t.pair.0 < t.pair.1
+  pub within : t.pair.1 < length zones
+  pub regions : AreCountedCommonRegions t.nearness zones choices t.pair t.before t.after t.common
 
--- a pair is listed, or its boxes are apart, or both zones were resolved and have nothing in common, up to `k`
-abbrev pub IsDecidedBeyond : ℕ → List (List (List (List Point))) → Choices → List Overlap → ℕ → ℕ → Type 0
-IsDecidedBeyond k zones choices found i j =
-    IsListed found i j
-    ⊎ (AreBoxesApart (get_or zones i []) (get_or zones j []) ⊎ AreCommonRegionsWithin k zones choices i j [])
+-- one pair was resolved after another: each count begins where the one before it ended
+abbrev pub PairsInTurn : SplitCount → SplitCount → List ToldPair → Type 0
+PairsInTurn old new [] = old ≡ new
+PairsInTurn old new (t ∷ more) = (t.before ≡ old) × PairsInTurn t.after new more
 
--- a pair of zones was resolved with just this nearness
-pub record IsOfPair (k : ℕ) (zones : List (List (List (List Point)))) (choices : Choices) : Type 0 where
-  pub first : ℕ
-  pub second : ℕ
-  pub ascending : first < second
-  pub within : second < length zones
-  pub answer : List (List (List Point))
-  pub regions : AreCommonRegionsBeyond k zones choices first second answer
+-- the places of pairs
+abbrev pub places_of : List ToldPair → List (ℕ × ℕ)
+places_of told = map (λ (t : ToldPair). t.pair) told
 
--- the pairs of zones that overlap, as above, and each pair that is resolved is so with a nearness of at most `k`; `k` is
--- the greatest of these, or 0 where no pair is resolved
+-- what is listed of a pair: what both zones have in common, unless that is nothing
+abbrev pub listed_of : ℕ × ℕ → List (List (List Point)) → List Overlap
+listed_of pair [] = []
+listed_of pair (shape ∷ more) = (pair.0, (pair.1, shape ∷ more)) ∷ []
+
+-- what is listed of all pairs
+abbrev pub all_listed : List ToldPair → List Overlap
+all_listed told = flat_map (λ (t : ToldPair). listed_of t.pair t.common) told
+
+-- the pairs of zones that overlap, as above: each pair was resolved once, in order, with one count of splits, or its boxes
+-- are apart. `k` is the greatest nearness of the pairs that were resolved, or 0 where none was
 pub record AreOverlapsBeyond (k : ℕ) (zones : List (List (List (List Point)))) (choices : Choices)
-    (found : List Overlap) : Type 0 where
-  pub each : All (λ o. IsOverlapBeyond k zones choices o) found
-  pub ordered : AllPairs IsOverlapBefore found
-  pub others : (i j : ℕ) → i < j → j < length zones → IsDecidedBeyond k zones choices found i j
-  pub greatest : (k ≡ 0) ⊎ IsOfPair k zones choices
+    (found : List Overlap) (old new : SplitCount) : Type 0 where
+  pub told : List ToldPair
+  pub each : All (IsToldPair zones choices) told
+  pub ordered : AllPairs (λ (p q : ℕ × ℕ). IsPairBefore p.0 p.1 q.0 q.1) (places_of told)
+  pub turn : PairsInTurn old new told
+  pub most : All (λ (t : ToldPair). t.nearness ≤ k) told
+  pub reached : (k ≡ 0) ⊎ Contains (map (λ (t : ToldPair). t.nearness) told) k
+  pub listing : found ≡ all_listed told
+  pub others : (i j : ℕ) → i < j → j < length zones
+      → Contains (places_of told) (i, j) ⊎ AreBoxesApart (get_or zones i []) (get_or zones j [])
 
 -- edges that are resolved to find overlaps: those of two zones
 pub record IsPairDrawing (zones : List (List (List (List Point)))) (edges : List Edge) : Type 0 where

@@ -10,7 +10,7 @@ ghost use Rattle.mesh_below.specs.Options.{choices_of};
 ghost use Rattle.mesh_offset.specs.Counting.{CountsAttempts};
 ghost use Rattle.mesh_boolean.specs.Overlaps.{
   AreCommonRegions,
-  AreCommonRegionsBeyond,
+  AreCountedCommonRegions,
   AreOverlaps,
   AreOverlapsBeyond,
   IsPairDrawing,
@@ -147,7 +147,7 @@ pub fn overlaps_with_nearness<I: IntNumber>(
     requires { All (λ zone. ArePointsSafe I.unit (shapes_of zone.items)) zones.now }
     ensures overlaps { IfOk result (λ near. AreOverlapsBeyond near.nearness
         (map (λ zone. shapes_of zone.items) zones.now) (choices_of I.WideUInt.value options)
-        (overlaps_of near.overlaps.items)) }
+        (overlaps_of near.overlaps.items) count.old count.new) }
     ensures safe { IfOk result (λ near. All (λ overlap. ArePointsSafe I.unit (shapes_of overlap.shapes.items))
         near.overlaps.items) }
     ensures small { IfOk result (λ near. near.nearness ≤ 2 ^ 38) }
@@ -186,8 +186,8 @@ fn add_near_overlap<I: IntNumber>(
     requires first { pair.0 < length zones.now }
     requires second { pair.1 < length zones.now }
     ensures adds { IfOk result (λ nearness. AddsOverlap I.unit
-        (AreCommonRegionsBeyond nearness (map (λ zone. shapes_of zone.items) zones.now)
-        (choices_of I.WideUInt.value options) pair.0 pair.1)
+        (AreCountedCommonRegions nearness (map (λ zone. shapes_of zone.items) zones.now)
+        (choices_of I.WideUInt.value options) pair count.old count.new)
         pair (overlaps_of found.old.items) (overlaps_of found.new.items)) }
     ensures small { IfOk result (λ nearness. nearness ≤ 2 ^ 38) }
     ensures counted { CountsAttempts 1

@@ -121,7 +121,7 @@ pub record AreOverlapsWithin (k unit : ℕ) (fill : BooleanFillRule) (choices : 
   pub between : SplitCount
   pub added : k ≡ first + last
   pub each : AreToldZones first unit fill zones told old between
-  pub overlaps : AreOverlapsBeyond last (regions_in told) choices found
+  pub overlaps : AreOverlapsBeyond last (regions_in told) choices found between new
   pub counted : CountsAttempts (length zones * length zones) (IsPairDrawing (regions_in told)) between new
 
 -- the shapes are what is made of these operands, where shapes are asked for

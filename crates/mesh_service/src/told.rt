@@ -8,12 +8,16 @@ use mesh_boolean_request::request::TypedCombination;
 use mesh_drawing::drawing::Drawing;
 use mesh_drawing::refusal::find_refusal;
 use mesh_num::num::OverlayInt;
-use mesh_operands::operand::Combination;
-use mesh_operands::refusal::find_operand_refusal;
+use mesh_operands::operand::{Combination, Operand};
+use mesh_operands::refusal::{OperandPlace, find_operand_refusal};
 use mesh_request::failure::Failure;
 use mesh_request::request::{Request, TypedRequest};
 use std::io;
 use std::io::Write;
+
+/// What is told of an outline that has no polygons, since its contours run the wrong way.
+const HOLES_ALONE: &str =
+    "each contour runs clockwise, as a hole does; outer contours run counterclockwise";
 
 /// Tells on a stream why a run on what was read ended so, one line, and what of the request is ignored, a line each.
 pub(crate) fn tell<E: Write>(
@@ -61,18 +65,55 @@ fn tell_of_drawing<E: Write>(
     }
 }
 
-/// Tells why a request for what is made of operands is refused.
+/// Tells of a request for what is made of operands.
 fn tell_of_combination<E: Write>(
     errors: &mut E,
     request: &TypedCombination,
     status: Status,
 ) -> io::Result<()> {
-    if status != Status::Refused {
-        return Ok(());
-    }
     match request {
-        TypedCombination::I16(request) => tell_refusal(errors, &request.combination),
-        TypedCombination::I32(request) => tell_refusal(errors, &request.combination),
+        TypedCombination::I16(request) => tell_of_made(errors, &request.combination, status),
+        TypedCombination::I32(request) => tell_of_made(errors, &request.combination, status),
+    }
+}
+
+/// Tells why operands are refused, and of which outlines among them all contours are holes.
+fn tell_of_made<I: OverlayInt, E: Write>(
+    errors: &mut E,
+    combination: &Combination<I>,
+    status: Status,
+) -> io::Result<()> {
+    if status == Status::Refused {
+        return tell_refusal(errors, combination);
+    }
+    match combination {
+        Combination::Boolean(boolean) => {
+            tell_of_operand(errors, OperandPlace::Subject, &boolean.subject)?;
+            tell_of_operand(errors, OperandPlace::Clip, &boolean.clip)
+        }
+        Combination::Coverage(coverage) => tell_of_zones(errors, &coverage.zones),
+        Combination::Overlaps(overlaps) => tell_of_zones(errors, &overlaps.zones),
+    }
+}
+
+fn tell_of_zones<I: OverlayInt, E: Write>(errors: &mut E, zones: &[Operand<I>]) -> io::Result<()> {
+    for (index, zone) in zones.iter().enumerate() {
+        tell_of_operand(errors, OperandPlace::Zone(index), zone)?;
+    }
+    Ok(())
+}
+
+fn tell_of_operand<I: OverlayInt, E: Write>(
+    errors: &mut E,
+    place: OperandPlace,
+    operand: &Operand<I>,
+) -> io::Result<()> {
+    match operand {
+        Operand::Drawing(drawing) if has_holes_alone(drawing) => {
+            let told = HOLES_ALONE;
+            writeln!(errors, "{place}.paths: {told}")
+        }
+        _ => Ok(()),
     }
 }
 
@@ -99,18 +140,16 @@ fn tell_of_request<I: OverlayInt, E: Write>(
             None => writeln!(errors, "memory ran out"),
         };
     }
-    if has_holes_alone(request) {
-        writeln!(
-            errors,
-            "paths: each contour runs clockwise, as a hole does; outer contours run counterclockwise"
-        )?;
+    if has_holes_alone(&request.drawing) {
+        let told = HOLES_ALONE;
+        writeln!(errors, "paths: {told}")?;
     }
     Ok(())
 }
 
-/// Whether a request is for an outline of contours that are all holes, and there is one.
-fn has_holes_alone<I: OverlayInt>(request: &Request<I>) -> bool {
-    let Drawing::Outline(outline) = &request.drawing else {
+/// Whether a drawing is the outline of contours that are all holes, and there is one.
+fn has_holes_alone<I: OverlayInt>(drawing: &Drawing<I>) -> bool {
+    let Drawing::Outline(outline) = drawing else {
         return false;
     };
     !outline.paths.is_empty() && outline.paths.iter().all(|path| double_area(path) < 0)

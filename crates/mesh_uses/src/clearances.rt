@@ -8,8 +8,7 @@ ghost use Rattle.mesh_clearance.specs.Clearance.{AreAllApart, sections};
 ghost use Rattle.mesh_nets.specs.Nets.{AreNetsApart, edges_of};
 
 use i_overlay_mesh::clearance::clearance_of;
-use i_overlay_mesh::{IntPoint, IntShapes};
-use mesh_nets::nets::clearances;
+use i_overlay_mesh::{IntPoint, IntShapes, clearances};
 use std::alloc::{AllocError, Global};
 
 fn is_at_least(found: Option<u128>, wanted: u128) -> bool

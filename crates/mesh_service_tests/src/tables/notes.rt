@@ -58,4 +58,12 @@ pub const ANSWERED: &[(&str, &str)] = &[
         r#"{"op":"outline","int":"i32","out":"edges","paths":[[[0,0],[0,9],[9,0]],[[0,0],[9,0],[0,9]]],"style":{"outer":1,"inner":1}}"#,
         "",
     ),
+    (
+        r#"{"op":"boolean","int":"i32","out":"shapes","rule":"union","subject":{"op":"outline","paths":[[[0,0],[0,9],[9,0]]],"style":{"outer":1,"inner":1}},"clip":[[[0,0],[0,9],[9,0]]]}"#,
+        "subject.paths: each contour runs clockwise, as a hole does; outer contours run counterclockwise\n",
+    ),
+    (
+        r#"{"op":"coverage","int":"i32","out":"shapes","least":1,"zones":[[],{"op":"outline","paths":[[[0,0],[0,9],[9,0]]],"style":{"outer":1,"inner":1}}]}"#,
+        "zones[1].paths: each contour runs clockwise, as a hole does; outer contours run counterclockwise\n",
+    ),
 ];

@@ -4,7 +4,7 @@ use Rattle.mesh_plane.specs.Plane.{Edge}
 use Rattle.mesh_num.specs.Paths.{shapes_of}
 use Rattle.mesh_lattice.specs.FillRules.{filled_by}
 use Rattle.mesh_lattice.specs.declared.fill.WindingRule.TheVariants as winding_rule
-use Rattle.mesh_below.specs.Nearness.{AreRegionsBeyond}
+use Rattle.mesh_below.specs.Nearness.{AreCountedRegions}
 use Rattle.mesh_below.specs.Options.{choices_of}
 use Rattle.mesh_offset.specs.Counting.{CountsAttempts}
 use Rattle.mesh_boolean.proofs.Overlapping.{pair_edges_are}
@@ -20,9 +20,10 @@ pub returns-clause-adds : goal.returns-clause-adds
 returns-clause-adds g c = record {
   answer = shapes_of c.in_ok-near.near.shapes.items;
   has =
-      subst (λ (es : List Edge). AreRegionsBeyond c.in_ok-near.near.nearness es (filled_by (winding_rule.AtLeast 2)) (choices_of g.I.WideUInt.WideUnsigned.value c.args.options) (shapes_of c.in_ok-near.near.shapes.items))
+      subst (λ (es : List Edge). AreCountedRegions c.in_ok-near.near.nearness es (filled_by (winding_rule.AtLeast 2)) (choices_of g.I.WideUInt.WideUnsigned.value c.args.options) (shapes_of c.in_ok-near.near.shapes.items)
+      c.args.count.now c.near_combined.new.count)
       (pair_edges_are c.args.zones.now c.args.pair.0 c.args.pair.1 c.index-zones-first.result c.index-zones-second.result c.requires.first c.requires.second c.index-zones-first.is c.index-zones-second.is)
-      c.in_ok-near.ensures.standing.beyond;
+      c.in_ok-near.ensures.standing;
   safe = c.in_ok-near.ensures.safe;
   added = c.in_ok-list_unless_empty.ensures;
 }

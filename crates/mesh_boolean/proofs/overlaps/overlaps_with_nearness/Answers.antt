@@ -1,13 +1,14 @@
 -- One pair after another.
-use Rattle.std.proofs.Common.{◌≡◌, ◌+◌, ◌*◌, ◌≤◌, ◌^◌, get_or, length, inl, refl, sym, ap, arith}
+use Rattle.std.proofs.Common.{◌≡◌, ◌+◌, ◌*◌, ◌≤◌, ◌^◌, length, sym, ap, arith}
 use Rattle.std.specs.Prelude.{max}
 use Rattle.std.proofs.lemmas.List.{length-map}
 use Rattle.mesh_num.specs.Paths.{shapes_of}
 use Rattle.mesh_below.specs.Options.{choices_of}
 use Rattle.mesh_offset.proofs.Counting.{counts_none}
-use Rattle.mesh_boolean.specs.Overlaps.{AreCommonRegionsWithin, IsPairDrawing, overlaps_of}
+use Rattle.mesh_boolean.specs.Overlaps.{IsPairDrawing, overlaps_of}
 use Rattle.mesh_boolean.proofs.Meeting.{zones_in}
-use Rattle.mesh_boolean.proofs.Overlapping.{adds_within, all_overlaps_beyond, all_resolved, greatest_more, next_resolved, none_resolved, pair_counted, pair_of, pair_places, pairs_counted, records_safe, within_more}
+use Rattle.mesh_boolean.proofs.Overlapping.{pair_counted, pair_places, pairs_counted, records_safe}
+use Rattle.mesh_boolean.proofs.Told.{all_told, next_told, none_told}
 use Rattle.mesh_boolean.proofs.overlaps.overlaps_with_nearness.Goals as goal
 
 pub returns-in_err-pairs-clause-counted : goal.returns-in_err-pairs-clause-counted
@@ -16,9 +17,8 @@ returns-in_err-pairs-clause-counted g c = counts_none (length c.args.zones.now *
 pub loop-pair-init : goal.loop-pair-init
 loop-pair-init g c = record {
   so_far =
-      none_resolved g.I.IntNumber.unit (AreCommonRegionsWithin 0 (zones_in c.args.zones.now) (choices_of g.I.WideUInt.WideUnsigned.value c.args.options)) (overlaps_of c.new-overlaps.result.items)
+      none_told g.I.IntNumber.unit (zones_in c.args.zones.now) (choices_of g.I.WideUInt.WideUnsigned.value c.args.options) (overlaps_of c.new-overlaps.result.items) c.args.count.now
       (ap overlaps_of c.new-overlaps.ensures.items);
-  greatest = inl refl;
   small = omega arith;
   counts = counts_none 0 (IsPairDrawing (zones_in c.args.zones.now)) c.args.count.now (omega arith);
   limit = c.is_past_limit.ensures.within c.if-is_past_limit.false;
@@ -48,15 +48,9 @@ loop-pair-preserved g c =
     let most : c.max-nearness.result ≡ max c.loop-pair.nearness c.in_ok-own.own = c.max-nearness.ensures in
     record {
       so_far =
-          next_resolved g.I.IntNumber.unit (AreCommonRegionsWithin c.max-nearness.result (zones_in c.args.zones.now) (choices_of g.I.WideUInt.WideUnsigned.value c.args.options)) c.deref-pair-items.result.now
-          meet.ordered c.loop-pair.pair-index (overlaps_of c.loop-pair.overlaps.items) (overlaps_of c.add_near_overlap.new.found.items) c.loop-pair-test.true
-          (within_more g.I.IntNumber.unit (zones_in c.args.zones.now) (choices_of g.I.WideUInt.WideUnsigned.value c.args.options) c.loop-pair.nearness c.max-nearness.result (omega (arith, most)) _ _ c.loop-pair.invariant.so_far)
-          (adds_within g.I.IntNumber.unit (zones_in c.args.zones.now) (choices_of g.I.WideUInt.WideUnsigned.value c.args.options) c.in_ok-own.own c.max-nearness.result (omega (arith, most))
-          (get_or c.deref-pair-items.result.now c.loop-pair.pair-index (0, 0)) _ _ c.in_ok-own.ensures.adds);
-      greatest =
-          greatest_more g.I.IntNumber.unit (zones_in c.args.zones.now) (choices_of g.I.WideUInt.WideUnsigned.value c.args.options) c.in_ok-own.own c.loop-pair.nearness c.max-nearness.result
-          (get_or c.deref-pair-items.result.now c.loop-pair.pair-index (0, 0)) _ _ most
-          (pair_of (zones_in c.args.zones.now) c.deref-pair-items.result.now meet c.loop-pair.pair-index c.loop-pair-test.true) c.in_ok-own.ensures.adds c.loop-pair.invariant.greatest;
+          next_told g.I.IntNumber.unit (zones_in c.args.zones.now) (choices_of g.I.WideUInt.WideUnsigned.value c.args.options) c.deref-pair-items.result.now meet c.loop-pair.pair-index c.in_ok-own.own
+          c.loop-pair.nearness c.max-nearness.result (overlaps_of c.loop-pair.overlaps.items) (overlaps_of c.add_near_overlap.new.found.items) c.args.count.now c.loop-pair.count c.add_near_overlap.new.count
+          c.loop-pair-test.true most c.loop-pair.invariant.so_far c.in_ok-own.ensures.adds;
       small =
           let own : c.in_ok-own.own ≤ 2 ^ 38 = c.in_ok-own.ensures.small in
           let before = c.loop-pair.invariant.small in omega (arith, most, own, before);
@@ -69,10 +63,8 @@ loop-pair-preserved g c =
 pub returns-clause-overlaps : goal.returns-clause-overlaps
 returns-clause-overlaps g c =
     let meet = rw (sym c.deref-pair-items.ensures.value) at c.in_ok-pairs.ensures in
-    all_overlaps_beyond g.I.IntNumber.unit (zones_in c.args.zones.now) (choices_of g.I.WideUInt.WideUnsigned.value c.args.options) c.deref-pair-items.result.now (overlaps_of c.loop-pair.overlaps.items) meet
-    c.loop-pair.nearness c.loop-pair.invariant.greatest
-    (all_resolved g.I.IntNumber.unit (AreCommonRegionsWithin c.loop-pair.nearness (zones_in c.args.zones.now) (choices_of g.I.WideUInt.WideUnsigned.value c.args.options)) c.deref-pair-items.result.now meet.ordered
-    c.loop-pair.pair-index (overlaps_of c.loop-pair.overlaps.items) c.loop-pair-test.false c.loop-pair.invariant.so_far)
+    all_told g.I.IntNumber.unit (zones_in c.args.zones.now) (choices_of g.I.WideUInt.WideUnsigned.value c.args.options) c.deref-pair-items.result.now meet c.loop-pair.pair-index c.loop-pair.nearness
+    (overlaps_of c.loop-pair.overlaps.items) c.args.count.now c.loop-pair.count c.loop-pair-test.false c.loop-pair.invariant.so_far
 
 pub returns-clause-safe : goal.returns-clause-safe
 returns-clause-safe g c = records_safe g.I.IntNumber.unit c.loop-pair.overlaps.items c.loop-pair.invariant.so_far.safe

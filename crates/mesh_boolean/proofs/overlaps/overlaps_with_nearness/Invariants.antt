@@ -1,19 +1,18 @@
-use Rattle.std.proofs.Common.{◌≡◌, ◌⊎◌, ◌≤◌, ◌^◌, take}
+use Rattle.std.proofs.Common.{◌≤◌, ◌^◌, take}
 use Rattle.mesh_split.specs.Counting.{IsWithinLimit}
 use Rattle.mesh_below.specs.Options.{choices_of}
 use Rattle.mesh_offset.specs.Counting.{CountsAttempts}
-use Rattle.mesh_boolean.specs.Overlaps.{AreCommonRegionsWithin, IsOfPair, IsPairDrawing, overlaps_of}
-use Rattle.mesh_boolean.specs.Private.PairsSoFar.{AreOverlapsOf}
+use Rattle.mesh_boolean.specs.Overlaps.{IsPairDrawing, overlaps_of}
+use Rattle.mesh_boolean.specs.Private.PairsSoFar.{AreToldSoFar}
 use Rattle.mesh_boolean.proofs.Meeting.{zones_in}
 use Rattle.mesh_boolean.proofs.overlaps.overlaps_with_nearness.Given as goal
 
--- the pairs so far, and the greatest nearness of them
+-- the pairs so far, and the splits of all attempts
 abbrev pub invariant-loop-pair : goal.invariant-loop-pair
 invariant-loop-pair g l = record {
   so_far :
-      AreOverlapsOf g.I.IntNumber.unit (AreCommonRegionsWithin l.nearness (zones_in l.zones) (choices_of g.I.WideUInt.WideUnsigned.value l.options))
-      (take l.pair-index l.pair-items) (overlaps_of l.overlaps.items);
-  greatest : (l.nearness ≡ 0) ⊎ IsOfPair l.nearness (zones_in l.zones) (choices_of g.I.WideUInt.WideUnsigned.value l.options);
+      AreToldSoFar l.nearness g.I.IntNumber.unit (zones_in l.zones) (choices_of g.I.WideUInt.WideUnsigned.value l.options)
+      (take l.pair-index l.pair-items) (overlaps_of l.overlaps.items) l.fn.count l.count;
   small : l.nearness ≤ 2 ^ 38;
   counts : CountsAttempts l.pair-index (IsPairDrawing (zones_in l.zones)) l.fn.count l.count;
   limit : IsWithinLimit l.count;
