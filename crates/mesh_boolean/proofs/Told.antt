@@ -62,7 +62,7 @@ reached_more k own l told t here is before = by (cases_lt k own)
     by : (k < own) ⊎ (own ≤ k) → (l ≡ 0) ⊎ Contains (nearness_all (told ++ t ∷ [])) l
     by (inl less) =
         let e : t.nearness ≡ l = here ∙ omega (arith, is, less) in
-        inr (subst (λ (ns : List ℕ). Contains ns l) (sym all) (subst (λ (n : ℕ). Contains (nearness_all told ++ t.nearness ∷ []) n) e (Contains-push (nearness_all told))))
+        inr (subst (λ (ns : List ℕ). Contains ns l) (sym all) (subst (λ (n : ℕ). Contains (nearness_all told ++ t.nearness ∷ []) n) e (Contains-push (nearness_all told) t.nearness)))
     by (inr le) =
         let e : k ≡ l = omega (arith, is, le) in
         elim before [
