@@ -2,5 +2,6 @@ pub mod Adding
 pub mod Clearances
 pub mod EndToEnd
 pub mod GivenShapes
+pub mod NetClearances
 pub mod Readings
 pub mod RoomLists

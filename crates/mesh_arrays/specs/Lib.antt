@@ -6,6 +6,7 @@ pub mod Drawings
 pub mod EdgeRooms
 pub mod EndToEnd
 pub mod Failures
+pub mod NetClearances
 pub mod Numbers
 pub mod Outcomes
 pub mod Private

@@ -3,6 +3,7 @@
 
 use crate::boolean::FlatBoolean;
 use crate::edges::EdgeCounts;
+use crate::nets::FlatNetClearance;
 use crate::options::FlatOptions;
 use crate::shapes::ShapeCounts;
 use crate::styles::{FlatArc, FlatCap, FlatJoin, FlatOutlineStyle, FlatStrokeStyle};
@@ -25,6 +26,8 @@ const _: () = prove!(size_of::<FlatBoolean>() == 12);
 const _: () = prove!(size_of::<ShapeCounts>() == 24);
 
 const _: () = prove!(size_of::<EdgeCounts>() == 16);
+
+const _: () = prove!(size_of::<FlatNetClearance>() == 24);
 
 const _: () = prove!(size_of::<[i32; 2]>() == 8);
 

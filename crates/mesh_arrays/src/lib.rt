@@ -15,6 +15,7 @@ pub mod given;
 mod layout;
 pub mod lists;
 pub mod near;
+pub mod nets;
 pub mod numbers;
 pub mod options;
 pub mod outcome;
