@@ -444,6 +444,37 @@ mesh_outcome mesh_clearance_i16(
     const size_t *shape_ends, size_t shape_count, const mesh_point_i16 *path_points, size_t path_point_count,
     const size_t *path_ends, size_t path_count, uint32_t closed, uint64_t *clearance);
 
+/* Two nets that are nearer to each other than a distance. */
+typedef struct {
+    size_t first, second; /* Their indices, from 0. The first one is the lesser. */
+    uint64_t squared;     /* The square of their distance, in square grid units, rounded down. */
+} mesh_net_clearance;
+
+/* Checks a board: finds the pairs of nets that are nearer to each other than a distance. Of all other pairs, every point
+   of one net is at least that far from every point of the other, on the grid and between its points.
+
+   points            the points of all contours, net by net. Any coordinates are allowed
+   contour_ends      for each contour, the index after its last point in points
+   net_ends          for each net, the index after its last contour in contour_ends. Pass all contours of an answer as
+                     one net; where its polygons end is not asked for
+   distance          in grid units
+   pairs             receives the pairs, each once, in ascending order of `first`, then of `second`
+   pair_count        receives how many pairs `pairs` holds, or would have to hold (MESH_ROOM_TOO_SMALL); it is unchanged
+                     with any other outcome but MESH_ANSWERED
+
+   A point belongs to a net if it lies on an edge, or if the windings of the net's contours round it do not add up to 0.
+   So the distance is 0 if nets touch or overlap, or one lies within the other. Nothing is nearer than 0, so with that
+   distance there are no pairs. A net without points is far from all others. MESH_MALFORMED: invalid ends. */
+mesh_outcome mesh_clearances_i32(
+    const mesh_point_i32 *points, size_t point_count, const size_t *contour_ends, size_t contour_count,
+    const size_t *net_ends, size_t net_count, uint32_t distance,
+    mesh_net_clearance *pairs, size_t pair_room, size_t *pair_count);
+
+mesh_outcome mesh_clearances_i16(
+    const mesh_point_i16 *points, size_t point_count, const size_t *contour_ends, size_t contour_count,
+    const size_t *net_ends, size_t net_count, uint32_t distance,
+    mesh_net_clearance *pairs, size_t pair_room, size_t *pair_count);
+
 #ifdef __cplusplus
 }
 #endif

@@ -39,6 +39,8 @@ _Static_assert(sizeof(mesh_boolean) == 12 && offsetof(mesh_boolean, subject_fill
 _Static_assert(sizeof(mesh_shape_counts) == 24 && offsetof(mesh_shape_counts, contours) == 8
                    && offsetof(mesh_shape_counts, shapes) == 16, "mesh_shape_counts");
 _Static_assert(sizeof(mesh_edge_counts) == 16 && offsetof(mesh_edge_counts, paths) == 8, "mesh_edge_counts");
+_Static_assert(sizeof(mesh_net_clearance) == 24 && offsetof(mesh_net_clearance, second) == 8
+                   && offsetof(mesh_net_clearance, squared) == 16, "mesh_net_clearance");
 _Static_assert(sizeof(mesh_point_i32) == 8 && sizeof(mesh_vertex_i32) == 12 && sizeof(mesh_edge_i32) == 16, "32 bits");
 _Static_assert(sizeof(mesh_point_i16) == 4 && sizeof(mesh_vertex_i16) == 6 && sizeof(mesh_edge_i16) == 8, "16 bits");
 
@@ -382,12 +384,14 @@ static void put(struct writer *to, const char *format, ...)
 #include "slivers.h"
 #include "clearance.h"
 #include "booleans.h"
+#include "nets.h"
 #undef OF
 #define OF(name) name##_i16
 #include "draw.h"
 #include "slivers.h"
 #include "clearance.h"
 #include "booleans.h"
+#include "nets.h"
 #undef OF
 
 static void take_lists(struct lists *to, mesh_shape_counts room)
@@ -515,6 +519,7 @@ static size_t check_drawing_refused(drawer *draw, const struct test_case *it);
 #include "sliver_checks.h"
 #include "clearance_checks.h"
 #include "boolean_checks.h"
+#include "net_checks.h"
 
 static void check_drawing(const struct test_case *it)
 {
@@ -703,6 +708,7 @@ int main(int count, char **words)
     if (count == 2) {
         size_t drawn = 0;
         check_rows();
+        check_nets();
         for (size_t i = 0; i < cases.count; i++) {
             check(&cases.all[i], 0);
             check(&cases.all[i], cases.all[i].line.size - 1);
@@ -723,7 +729,7 @@ int main(int count, char **words)
         printf("C: %zu requests and %zu drawings in arrays are answered as by the program, in %d threads at once.\n",
                cases.count, drawn, THREADS);
     } else {
-        size_t growths = 0, wanted = count == 4 ? strtoul(words[3], NULL, 10) : 0;
+        size_t growths = check_nets_refused(), wanted = count == 4 ? strtoul(words[3], NULL, 10) : 0;
         if (!wanted)
             return 2;
         for (size_t i = 0; i < cases.count; i += 1 + cases.count / wanted)
