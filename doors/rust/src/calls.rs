@@ -1,6 +1,7 @@
 //! The calls of the header for C, and its structs.
 
 use crate::error::Outcome;
+use crate::nets::NetClearance;
 use crate::style::Arc;
 
 #[repr(C)]
@@ -233,5 +234,10 @@ calls! {
         points: *const [I; 2], point_count: usize, contour_ends: *const usize, contour_count: usize,
         shape_ends: *const usize, shape_count: usize, path_points: *const [I; 2], path_point_count: usize,
         path_ends: *const usize, path_count: usize, closed: u32, clearance: *mut u64,
+    );
+    clearances: mesh_clearances_i32, mesh_clearances_i16, (
+        points: *const [I; 2], point_count: usize, contour_ends: *const usize, contour_count: usize,
+        net_ends: *const usize, net_count: usize, distance: u32,
+        pairs: *mut NetClearance, pair_room: usize, pair_count: *mut usize,
     );
 }

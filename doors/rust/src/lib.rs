@@ -23,6 +23,7 @@ mod booleans;
 mod calls;
 mod drawings;
 mod error;
+mod nets;
 mod requests;
 mod style;
 
@@ -34,5 +35,6 @@ pub use drawings::{
     validate_variable_stroke, variable_stroke, variable_stroke_edges, variable_stroke_near, without_slivers, Range,
 };
 pub use error::Error;
+pub use nets::{clearances, NetClearance};
 pub use requests::{answer, answer_within, why, Answer};
 pub use style::{angle, Arc, Cap, Join, Options, OutlineStyle, Side, StrokeStyle, MIN_TURN};

@@ -174,6 +174,33 @@ fn clearances_are_squares_of_distances() {
     assert_eq!(wrong.clearance_to(&[[[0, 0]]], true), Err(Error::Malformed));
 }
 
+#[test]
+fn nets_that_are_near_are_listed() {
+    fn square<I: Copy>(low: I, high: I) -> Shapes<I> {
+        let points = vec![[low, low], [high, low], [high, high], [low, high]];
+        Shapes { points, contour_ends: vec![4], shape_ends: vec![1] }
+    }
+    let none = Shapes { points: vec![], contour_ends: vec![], shape_ends: vec![] };
+    let nets = [square(0, 100), square(103, 200), none, square(10, 20)];
+    let pairs = |nets: &[Shapes<i32>], distance| -> Vec<(usize, usize, u64)> {
+        let found = clearances(nets, distance).unwrap();
+        found.iter().map(|pair| (pair.first, pair.second, pair.squared)).collect()
+    };
+    assert_eq!((pairs(&nets, 0), pairs(&[], 9)), (vec![], vec![]));
+    assert_eq!(pairs(&nets, 4), [(0, 3, 0)]);
+    assert_eq!(pairs(&nets, 5), [(0, 1, 18), (0, 3, 0)]);
+    assert_eq!(pairs(&nets, u32::MAX), [(0, 1, 18), (0, 3, 0), (1, 3, 2 * 83 * 83)]);
+    // More pairs than there is room for at first.
+    assert_eq!(pairs(&vec![square(7, 9); 30], 1).len(), 30 * 29 / 2);
+
+    let found = clearances(&[square(i16::MIN, -9), square(-5, i16::MAX)], 6);
+    assert_eq!(found, Ok(vec![NetClearance { first: 0, second: 1, squared: 32 }]));
+    for contour_ends in [vec![3], vec![5], vec![], vec![4, 3], vec![5, 4]] {
+        let wrong = Shapes { contour_ends, ..square(0, 1) };
+        assert_eq!(clearances(&[square(5, 6), wrong], 1), Err(Error::Malformed));
+    }
+}
+
 const SQUARE: [[i32; 2]; 4] = [[0, 0], [4, 0], [4, 4], [0, 4]];
 const OTHER: [[i32; 2]; 4] = [[2, 2], [6, 2], [6, 6], [2, 6]];
 
