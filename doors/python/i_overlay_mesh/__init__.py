@@ -14,6 +14,7 @@ from .errors import DrawingError, GridRangeError, LibraryMissing, TooManySplits,
 from .grid import Grid
 from .library import answer, is_proved, warn_of_proof
 from .many import buffer_all
+from .nets import clearances
 from .offsets import buffer, outline, stroke, variable_stroke
 from .shapes import Shapes
 
@@ -30,6 +31,7 @@ __all__ = [
     "answer",
     "buffer",
     "buffer_all",
+    "clearances",
     "coverage",
     "difference",
     "intersection",

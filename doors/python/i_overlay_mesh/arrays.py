@@ -6,18 +6,21 @@ import ctypes
 import itertools
 import mmap
 from array import array
-from ctypes import byref, c_int64, c_uint64
+from ctypes import byref, c_int64, c_size_t, c_uint64
 from dataclasses import dataclass
 from typing import Any, Callable, Optional, Sequence, Union
 
 from .library import Outcome, call_of
-from .styles import TURN, BooleanStructure, CountsStructure, OptionsStructure, Style
+from .styles import TURN, BooleanStructure, CountsStructure, NetClearanceStructure, OptionsStructure, Style
 
 NUMBER, END = 4, 8
 """The sizes of a coordinate and of an end, in bytes."""
 
 LARGE = 65536
 """So many bytes are asked of the system."""
+
+PAIRS = 8
+"""So many near nets there is mostly room for beside each."""
 
 DEFAULT_OPTIONS = OptionsStructure()
 
@@ -186,3 +189,28 @@ def left(shapes: Told, width: int) -> tuple[Outcome, Told]:
     call = call_of("mesh_without_slivers")
     room = Room(lists.items[1], lists.ends[1], ends[1])
     return called(lambda room: call(*lists.words(), *ends, width, *room.words, byref(room.counts)), room)
+
+
+def end_to_end(parts: Sequence[Told]) -> tuple[Lists, array[int]]:
+    """The contours of some shapes, and for each of these how many contours stand in it and before it."""
+    points, contour_ends, ends = array("i"), array("Q"), array("Q")
+    for part in parts:
+        before = len(points) // 2
+        points += part.points
+        contour_ends.extend(before + end for end in part.contour_ends)
+        ends.append(len(contour_ends))
+    return lists_of(points, contour_ends, 2), ends
+
+
+def near_nets(nets: Sequence[Told], distance: int) -> tuple[Outcome, list[tuple[int, int, int]]]:
+    """How the call for nets nearer to each other than a distance ended, and the pairs with squared distances."""
+    lists, ends = end_to_end(nets)
+    call, count = call_of("mesh_clearances"), c_size_t(PAIRS * len(nets) + 1)
+    while True:
+        size = count.value
+        room = (NetClearanceStructure * size)()
+        given = (*lists.words(), address_of(ends), len(ends), distance)
+        outcome = Outcome(call(*given, room, size, byref(count)))
+        if outcome is not Outcome.ROOM_TOO_SMALL:
+            found = room[: count.value] if outcome is Outcome.ANSWERED else []
+            return outcome, [(pair.first, pair.second, pair.squared) for pair in found]

@@ -10,7 +10,7 @@ from dataclasses import dataclass
 from fractions import Fraction
 from typing import Any, Optional, Sequence
 
-from .arrays import Lists, Told, combined, lists_of, nothing, split
+from .arrays import Lists, Told, combined, end_to_end, lists_of, nothing, split
 from .engine import Limit, Task, Wishes, finest_grid, fits, grid_by, left_out, read_wishes, safe_scale, settled, told
 from .errors import DrawingError, GridRangeError, TooManySplits
 from .exact import Number, plain, read_number
@@ -412,13 +412,9 @@ def united(regions: Regions) -> Shapes:
         return regions.answer(nothing(), limit)
     if len(parts) == 1 and regions.all[0].answer is None:
         return regions.answer(parts[0], limit)
-    points, ends = array("i"), array("Q")
-    for part in parts:
-        before = len(points) // 2
-        points += part.points
-        ends.extend(before + end for end in part.contour_ends)
+    contours, _ = end_to_end(parts)
     last = limit and Limit(limit.most_splits)
-    shapes = ask("subject", ("positive", "positive"), lists_of(points, ends, 2), lists_of_nothing(), last)
+    shapes = ask("subject", ("positive", "positive"), contours, lists_of_nothing(), last)
     if limit and last:
         limit.nearness += last.nearness
     return regions.answer(shapes, limit)

@@ -18,7 +18,7 @@ FILE = "libi_overlay_mesh.so"
 VARIABLE = "I_OVERLAY_MESH_LIBRARY"
 UNPROVED = "mesh_unproved"
 
-NEWEST = ("mesh_draw_each_i32", "mesh_boolean_i32")
+NEWEST = ("mesh_draw_each_i32", "mesh_boolean_i32", "mesh_clearances_i32")
 """Calls that another library, or one of an earlier version, does not have."""
 
 LEAST_ROOM = 4096
@@ -71,7 +71,7 @@ def load_library() -> ctypes.CDLL:
 
 
 def parameters_of(name: str) -> list[Any]:
-    """The parameters of a call for shapes, many drawings, the range or slivers, by its name without its width."""
+    """The parameters of a call, but one for edges, by its name without its width."""
     if name.startswith("mesh_answer"):
         limit = [ctypes.c_uint64] if name == "mesh_answer_within" else []
         return [*LIST, *limit, *LIST, STRUCTURE]
@@ -81,6 +81,8 @@ def parameters_of(name: str) -> list[Any]:
         return [ctypes.c_uint32, *parts, STRUCTURE, *LIST, *LIST, *rooms, *[STRUCTURE] * 4]
     if name == "mesh_clearance":
         return [*LIST, *LIST, *LIST, *LIST, *LIST, ctypes.c_uint32, STRUCTURE]
+    if name == "mesh_clearances":
+        return [*LIST, *LIST, *LIST, ctypes.c_uint32, *LIST, STRUCTURE]
     if name == "mesh_without_slivers":
         return [*LIST, *LIST, *LIST, ctypes.c_uint32, *rooms]
     if name.startswith("mesh_boolean"):

@@ -8,7 +8,7 @@ from fractions import Fraction
 from typing import Any, Optional, Sequence
 
 from .arrays import Lists
-from .clearances import draw_kept
+from .distances import draw_kept
 from .engine import Kept, Task, Wishes, draw, read_wishes
 from .errors import DrawingError
 from .exact import Number, plain, read_number

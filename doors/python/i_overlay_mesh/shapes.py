@@ -95,7 +95,7 @@ class Shapes:
             closed: whether lines go on from their last point to their first; by default those do that are rings or end
                 where they start.
         """
-        from .clearances import clearance_to
+        from .distances import clearance_to
 
         return clearance_to(self.grid, self._told, paths, closed)
 

@@ -105,6 +105,10 @@ class CountsStructure(ctypes.Structure):
     _fields_ = [("points", c_size_t), ("contours", c_size_t), ("shapes", c_size_t)]
 
 
+class NetClearanceStructure(ctypes.Structure):
+    _fields_ = [("first", c_size_t), ("second", c_size_t), ("squared", c_uint64)]
+
+
 Points = Sequence[Sequence[int]]
 
 

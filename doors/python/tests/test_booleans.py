@@ -35,7 +35,7 @@ from i_overlay_mesh import (
     symmetric_difference,
     union,
 )
-from i_overlay_mesh.clearances import windings_round
+from i_overlay_mesh.distances import windings_round
 from i_overlay_mesh.library import Outcome
 from i_overlay_mesh.styles import FILL_KINDS, RULE_KINDS, boolean_structure
 

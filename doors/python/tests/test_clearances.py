@@ -10,7 +10,7 @@ from unittest import mock
 
 from surroundings import IS_QUICK
 
-from i_overlay_mesh import DrawingError, GridRangeError, arrays, buffer, buffer_all, clearances, outline, stroke, styles
+from i_overlay_mesh import DrawingError, GridRangeError, arrays, buffer, buffer_all, distances, outline, stroke, styles
 
 SQUARE = [[0, 0], [100, 0], [100, 100], [0, 100]]
 CROSSING = [[0, 0], [10, 10], [10, 0], [0, 10]]
@@ -116,13 +116,13 @@ class TestClearanceTo(unittest.TestCase):
                 edges = [edge for contour in lists for edge in sections(contour, True)]
                 least = min(
                     (apart_sq(*edge, *part) for path in paths for part in sections(path, closed) for edge in edges),
-                    default=clearances.NONE,
+                    default=distances.NONE,
                 )
-                square = clearances.square_to(told, arrays.lists_in(paths, 2), closed)
+                square = distances.square_to(told, arrays.lists_in(paths, 2), closed)
                 self.assertEqual(square, math.floor(least))
             points = sorted((path[0] for path in paths), key=lambda point: point[1])
             on_edges = [any(distance_sq(point, *edge) == 0 for edge in edges) for point in points]
-            told_windings = clearances.windings_round(points, told)
+            told_windings = distances.windings_round(points, told)
             for point, is_on, found in zip(points, on_edges, told_windings):
                 if not is_on:
                     self.assertEqual(found, sum(winding(point, contour) for contour in lists))
@@ -157,7 +157,7 @@ class TestAtLeast(unittest.TestCase):
         words = {"at_least": True, "step": 45, **ON_GRID}
         for loss in (-1, -2):
             with mock.patch.object(styles, "LOSS_ON_GRID", loss), mock.patch.object(
-                clearances, "draw", wraps=clearances.draw
+                distances, "draw", wraps=distances.draw
             ) as drawn:
                 self.assertGreaterEqual(outline([SQUARE], 40, **words).clearance_to([SQUARE], True), 40)
             self.assertGreater(drawn.call_count, 1)

@@ -8,7 +8,7 @@ import unittest
 from surroundings import ROOT, nested
 
 from i_overlay_mesh import answer, arrays, library, styles
-from i_overlay_mesh.clearances import windings_round
+from i_overlay_mesh.distances import windings_round
 from i_overlay_mesh.library import Outcome
 
 
@@ -199,7 +199,7 @@ class TestRust(unittest.TestCase):
         self.assertEqual(told, OUTCOMES)
 
     def test_structs(self):
-        text = (RUST / "calls.rs").read_text() + (RUST / "style.rs").read_text()
+        text = "".join((RUST / f"{name}.rs").read_text() for name in ("calls", "nets", "style"))
         told = {}
         for name, words in re.findall(r"#\[repr\(C\)\]\npub struct (\w+) \{(.*?)\n\}", text, re.S):
             fields = re.findall(r"^    pub (\w+): (\w+),", words, re.M)

@@ -72,10 +72,13 @@ def distance_to(grid: Grid, shapes: Told, paths: Paths, closed: bool) -> float:
             " in size; an answer that was drawn at a smaller scale does",
         )
     square = square_to(shapes, paths.lists(grid), closed)
-    if square == NONE:
-        return math.inf
+    return math.inf if square == NONE else length_of(square, grid, moved(paths, grid))
+
+
+def length_of(square: int, grid: Grid, less: Fraction) -> float:
+    """The root of a square on the grid, less a length there, in the unit of the input and rounded down."""
     root = Fraction(math.isqrt(square << 2 * FINE), 2**FINE)
-    exact = max(Fraction(0), root - moved(paths, grid)) / grid.scale
+    exact = max(Fraction(0), root - less) / grid.scale
     nearest = float(exact)
     return nearest if Fraction(nearest) <= exact else math.nextafter(nearest, 0)
 
