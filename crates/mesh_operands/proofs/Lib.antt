@@ -1,2 +1,5 @@
+pub mod Boxes
+pub mod Exact
+pub mod ExactPairs
 pub mod Near
 pub mod Zones

@@ -1,9 +1,8 @@
 -- Lemmas over lists: operands that may take part, and their regions.
-use Rattle.std.proofs.Common.{◌≡◌, ◌≢◌, ℕ, ◌+◌, ◌<◌, ◌≤◌, Bool, true, false, List, [], ◌∷◌, ◌++◌, map, length, take, take_all, get_or, refl, sym, ap, ◌∙◌, subst}
-use Rattle.std.specs.Prelude.{◌↔◌, IsTrue, Option, Some, None, is_none, Vec}
-use Rattle.std.specs.List.{All, AllZip}
+use Rattle.std.proofs.Common.{◌≡◌, ℕ, ◌+◌, ◌<◌, ◌≤◌, false, List, [], ◌∷◌, ◌++◌, map, length, take, take_all, get_or, refl, sym, ap, ◌∙◌, subst}
+use Rattle.std.specs.Prelude.{Vec}
+use Rattle.std.specs.List.{All}
 use Rattle.std.specs.declared.alloc.Global.{Global}
-use Rattle.std.proofs.lemmas.Bool.{false≢true}
 use Rattle.std.proofs.lemmas.List.{map-append, map_more}
 use Rattle.std.proofs.lemmas.List.Elements.{All-cons, All-nil, All-push}
 use Rattle.std.proofs.lemmas.Slice.Zip.{all_zipped_more}
@@ -22,7 +21,7 @@ use Rattle.mesh_boolean.specs.Rules.{winding_rule_for}
 use Rattle.mesh_boolean.specs.Zones.{WindOnce, zones_of}
 use Rattle.mesh_boolean.specs.declared.rule.BooleanFillRule.{BooleanFillRule}
 use Rattle.mesh_boolean.proofs.ZoneEdges.{answer_once}
-use Rattle.mesh_drawing.specs.Drawn.{Drawn, as_outline, as_stroke, as_variable_stroke}
+use Rattle.mesh_drawing.specs.Drawn.{as_outline, as_stroke, as_variable_stroke}
 use Rattle.mesh_operands.specs.Operands.{Given, as_drawing, as_paths}
 use Rattle.mesh_operands.specs.Combining.{AreRegionsOfZones, IsRegionOf}
 

@@ -1,3 +1,4 @@
 pub mod Combining
+pub mod Exactness
 pub mod Nearness
 pub mod Operands

@@ -24,7 +24,7 @@ use Rattle.mesh_boolean.specs.declared.rule.BooleanRule.{BooleanRule}
 use Rattle.mesh_boolean.specs.declared.rule.BooleanRule.TheVariants.{Subject}
 use Rattle.mesh_boolean.specs.declared.rule.Way.{Way}
 use Rattle.mesh_boolean.specs.declared.rule.Way.TheVariants as way
-use Rattle.mesh_drawing.specs.Drawn.{Drawn, as_outline, as_stroke, as_variable_stroke}
+use Rattle.mesh_drawing.specs.Drawn.{as_outline, as_stroke, as_variable_stroke}
 use Rattle.mesh_drawing.specs.Nearness.{AreCountedShapes}
 use Rattle.mesh_operands.specs.Combining.{Answered, as_overlap_list, as_shapes}
 use Rattle.mesh_operands.specs.Operands.{Combined, Given, as_boolean, as_coverage, as_drawing, as_overlaps, as_paths}

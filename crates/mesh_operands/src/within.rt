@@ -7,6 +7,7 @@ ghost use Rattle.mesh_below.specs.Options.{choices_of};
 ghost use Rattle.mesh_offset.specs.Counting.{CountsAttempts};
 ghost use Rattle.mesh_boolean.specs.Overlaps.{overlaps_of as overlap_list_of};
 ghost use Rattle.mesh_operands.specs.Combining.{MayBeCombined, answer_of};
+ghost use Rattle.mesh_operands.specs.Exactness.{IsExactBeyond};
 ghost use Rattle.mesh_operands.specs.Nearness.{
   AreCombinedOverlapsWithin,
   AreCombinedShapesWithin,
@@ -38,9 +39,11 @@ pub struct NearCombined<I: OverlayInt> {
     pub nearness: u64,
 }
 
-/// The same as `combine`, with a proved error bound, the nearness: the greatest of the operands' own and that of the last
-/// resolving, added, of overlaps the greatest of the pairs. A boolean by the rule `Subject` or `Clip` has that of its one
-/// operand.
+/// The same as `combine`, with a proved error bound, the nearness: at each point farther than it from every edge that
+/// is drawn of the operands (of contours, from their own), the shapes hold exactly what the boolean keeps, what so many
+/// zones cover, or what both zones of a pair have in common, and each point of their contours lies within it of such an
+/// edge. It is the greatest of the operands' own and that of the last resolving, added, of overlaps the greatest of the
+/// pairs. A boolean by the rule `Subject` or `Clip` has that of its one operand.
 ///
 /// Every split of an edge is added to `count`, those of attempts that were given up too. `TooManySplits` means that the
 /// count passed its limit, `OutOfMemory` that memory was refused, and `CoordinateOutOfRange` that an operand may not take
@@ -54,6 +57,8 @@ pub fn combine_within<I: OverlayInt>(
     ensures combined { IfOk result (λ near. IsCombinationWithin near.nearness I.unit
         (choices_of I.WideUInt.value options) (combination_of I.value combination.now) (answer_of near.answer)
         count.old count.new) }
+    ensures exact { IfOk result (λ near. IsExactBeyond near.nearness I.unit
+        (choices_of I.WideUInt.value options) (combination_of I.value combination.now) (answer_of near.answer)) }
     ensures small { IfOk result (λ near. near.nearness ≤ 2 ^ 40) }
     ensures accepted { OnOk result (MayBeCombined I.unit (combination_of I.value combination.now)) }
     ensures counted { CountsAttempts (all_lists (combination_of I.value combination.now))

@@ -1,5 +1,5 @@
 -- Both operands are resolved alone, by default options, then together.
-use Rattle.std.proofs.Common.{refl, arith, ap, ◌+◌}
+use Rattle.std.proofs.Common.{refl, ap, ◌+◌}
 use Rattle.mesh_num.specs.Paths.{shapes_of}
 use Rattle.mesh_below.specs.Options.{plain}
 use Rattle.mesh_operands.specs.Nearness.{ToldRegion}

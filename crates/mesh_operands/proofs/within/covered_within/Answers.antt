@@ -1,5 +1,5 @@
 -- Zones are resolved alone, by default options, then together.
-use Rattle.std.proofs.Common.{◌≡◌, List, map, refl, arith}
+use Rattle.std.proofs.Common.{◌≡◌, List, map, refl}
 use Rattle.std.specs.List.{sum_by}
 use Rattle.mesh_plane.specs.Plane.{Edge}
 use Rattle.mesh_boolean.specs.Zones.{zone_edges}

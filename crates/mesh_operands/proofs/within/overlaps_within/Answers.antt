@@ -1,9 +1,8 @@
 -- Zones are resolved alone, by default options, then in pairs.
-use Rattle.std.proofs.Common.{◌≡◌, ◌*◌, List, map, length, refl, sym, ap, ◌∙◌, subst, arith}
-use Rattle.std.proofs.lemmas.List.{length-map}
+use Rattle.std.proofs.Common.{◌*◌, map, length, refl}
 use Rattle.std.specs.List.{sum_by}
 use Rattle.mesh_boolean.specs.Overlaps.{IsPairDrawing}
-use Rattle.mesh_operands.specs.Nearness.{lists_of, regions_in}
+use Rattle.mesh_operands.specs.Nearness.{lists_of}
 use Rattle.mesh_operands.specs.Operands.{operand_of}
 use Rattle.mesh_operands.proofs.Near.{counts_all, counts_zones, pair_counts}
 use Rattle.mesh_operands.proofs.Zones.{zones_each}
