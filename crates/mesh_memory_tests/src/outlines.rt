@@ -3,25 +3,23 @@
 ghost use Rattle.std.specs.Prelude.{◌≡◌};
 ghost use Rattle.mesh_join.specs.Styles.{style_of, outer as outer_of};
 
-use crate::near::{expect_near, expect_same_near};
+use crate::calls::{Answers, Fills, TellsNearness, expect_answered, expect_filled, expect_told};
 use i_overlay_mesh::outline::builder::OutlineBuilder;
-use i_overlay_mesh::outline::kind::contour_kinds;
+use i_overlay_mesh::outline::kind::{ContourKind, contour_kinds};
 use i_overlay_mesh::outline::offset::IntOutlineOffset;
-use i_overlay_mesh::{IntNearnessError, IntOutlineError, SplitCount};
+use i_overlay_mesh::{IntNearnessError, IntOutlineError};
 use mesh_below::below::IntOverlayOptions;
+use mesh_below::nearness::{NearShapes, SplitCount};
 use mesh_join::arc::ArcOptions;
 use mesh_join::join::Join;
 use mesh_join::style::{IntLineJoin, IntOutlineStyle};
 use mesh_num::num::{IntPoint, OverlayInt};
-use mesh_num::shape::buffer::FlatContoursBuffer;
+use mesh_num::shape::buffer::{FlatContoursBuffer, IntShapes};
 use mesh_num::shape::segment::Segment;
-use mesh_test_support::compared::{expect_equal, filled};
 use mesh_test_support::lists::{path, paths};
-use mesh_test_support::refused::{
-    expect_added, expect_answer, expect_buffer, expect_same_buffer, one_segment,
-};
+use mesh_test_support::refused::{expect_added, one_segment};
 use mesh_test_support::{inner, marks, outer};
-use std::alloc::Global;
+use std::alloc::{AllocError, Global};
 use std::test::Fail;
 
 const REFUSED: &IntOutlineError = &IntOutlineError::OutOfMemory;
@@ -42,87 +40,104 @@ fn round() -> IntOutlineStyle<i32> {
         .line_join(IntLineJoin::Round(ArcOptions::default()))
 }
 
+/// The outline of the contours in this style, by the call that takes options or the one that takes none.
+#[derive(Drop)]
+struct Drawing {
+    contours: Vec<Vec<IntPoint<i32>>>,
+    style: IntOutlineStyle<i32>,
+    is_custom: bool,
+}
+
+impl Answers<IntShapes<i32>, IntOutlineError> for Drawing {
+    fn answer(&self, alloc: Global) -> Result<IntShapes<i32>, IntOutlineError> {
+        let (contours, style) = (&self.contours, &self.style);
+        contours.validate_outline(style)?;
+        if self.is_custom {
+            contours.outline_custom(alloc, style, IntOverlayOptions::new())
+        } else {
+            contours.outline(alloc, style)
+        }
+    }
+}
+
+impl Fills<IntOutlineError> for Drawing {
+    fn fill(
+        &self,
+        alloc: Global,
+        buffer: &mut FlatContoursBuffer<i32>,
+    ) -> Result<(), IntOutlineError> {
+        let (contours, style) = (&self.contours, &self.style);
+        contours.validate_outline(style)?;
+        if self.is_custom {
+            contours.outline_custom_into(alloc, style, IntOverlayOptions::new(), buffer)
+        } else {
+            contours.outline_into(alloc, style, buffer)
+        }
+    }
+}
+
+impl TellsNearness<IntNearnessError> for Drawing {
+    fn tell(
+        &self,
+        alloc: Global,
+        count: &mut SplitCount,
+    ) -> Result<NearShapes<i32>, IntNearnessError> {
+        let (contours, style) = (&self.contours, &self.style);
+        contours.validate_outline(style)?;
+        contours.outline_with_nearness(alloc, style, IntOverlayOptions::new(), count)
+    }
+}
+
+/// The contours in the round style.
+fn drawn(alloc: Global, is_custom: bool) -> Result<Drawing, AllocError> {
+    Ok(Drawing {
+        contours: paths(alloc, CONTOURS)?,
+        style: round(),
+        is_custom,
+    })
+}
+
 #[test]
 fn outline(rt: HostRuntime) -> Result<(), Fail> {
-    let (contours, style) = (paths(rt.alloc(), CONTOURS)?, round());
-    contours.validate_outline(&style)?;
-    let wanted = contours.outline(rt.alloc(), &style)?;
-    marks::begin(rt.alloc())?;
-    let first = contours.outline(rt.alloc(), &style);
-    marks::end(rt.alloc())?;
-    expect_answer(&first, &wanted, REFUSED)?;
-    let again = contours.outline(rt.alloc(), &style)?;
-    expect_equal(&again, &wanted, &"the next call")
+    expect_answered(rt.alloc(), &drawn(rt.alloc(), false)?, REFUSED)
 }
 
 #[test]
 fn outline_custom(rt: HostRuntime) -> Result<(), Fail> {
-    let (contours, style) = (paths(rt.alloc(), CONTOURS)?, round());
-    contours.validate_outline(&style)?;
-    let options = IntOverlayOptions::new();
-    let wanted = contours.outline_custom(rt.alloc(), &style, options)?;
-    marks::begin(rt.alloc())?;
-    let first = contours.outline_custom(rt.alloc(), &style, options);
-    marks::end(rt.alloc())?;
-    expect_answer(&first, &wanted, REFUSED)?;
-    let again = contours.outline_custom(rt.alloc(), &style, options)?;
-    expect_equal(&again, &wanted, &"the next call")
+    expect_answered(rt.alloc(), &drawn(rt.alloc(), true)?, REFUSED)
 }
 
 #[test]
 fn outline_into(rt: HostRuntime) -> Result<(), Fail> {
-    let (contours, style) = (paths(rt.alloc(), CONTOURS)?, round());
-    let (mut buffer, mut wanted) = (filled(rt.alloc())?, FlatContoursBuffer::new(rt.alloc()));
-    contours.validate_outline(&style)?;
-    contours.outline_into(rt.alloc(), &style, &mut wanted)?;
-    marks::begin(rt.alloc())?;
-    let first = contours.outline_into(rt.alloc(), &style, &mut buffer);
-    marks::end(rt.alloc())?;
-    expect_buffer(&first, &buffer, &wanted, REFUSED)?;
-    contours.outline_into(rt.alloc(), &style, &mut buffer)?;
-    expect_same_buffer(&buffer, &wanted)
+    expect_filled(rt.alloc(), &drawn(rt.alloc(), false)?, REFUSED)
 }
 
 #[test]
 fn outline_custom_into(rt: HostRuntime) -> Result<(), Fail> {
-    let (contours, style) = (paths(rt.alloc(), CONTOURS)?, round());
-    let (mut buffer, mut wanted) = (filled(rt.alloc())?, FlatContoursBuffer::new(rt.alloc()));
-    contours.validate_outline(&style)?;
-    let options = IntOverlayOptions::new();
-    contours.outline_custom_into(rt.alloc(), &style, options, &mut wanted)?;
-    marks::begin(rt.alloc())?;
-    let first = contours.outline_custom_into(rt.alloc(), &style, options, &mut buffer);
-    marks::end(rt.alloc())?;
-    expect_buffer(&first, &buffer, &wanted, REFUSED)?;
-    contours.outline_custom_into(rt.alloc(), &style, options, &mut buffer)?;
-    expect_same_buffer(&buffer, &wanted)
+    expect_filled(rt.alloc(), &drawn(rt.alloc(), true)?, REFUSED)
 }
 
 #[test]
 fn outline_with_nearness(rt: HostRuntime) -> Result<(), Fail> {
-    let (contours, style) = (paths(rt.alloc(), CONTOURS)?, round());
-    contours.validate_outline(&style)?;
-    let options = IntOverlayOptions::new();
-    let (mut counted, mut count) = (SplitCount::new(0), SplitCount::new(0));
-    let wanted = contours.outline_with_nearness(rt.alloc(), &style, options, &mut counted)?;
-    marks::begin(rt.alloc())?;
-    let first = contours.outline_with_nearness(rt.alloc(), &style, options, &mut count);
-    marks::end(rt.alloc())?;
-    expect_near(&first, count, &wanted, counted.made, OUT_OF_MEMORY)?;
-    let again = contours.outline_with_nearness(rt.alloc(), &style, options, &mut count)?;
-    expect_same_near(&again, &wanted)
+    expect_told(rt.alloc(), &drawn(rt.alloc(), true)?, OUT_OF_MEMORY)
+}
+
+/// Contours whose kinds are asked.
+#[derive(Drop)]
+struct Asked {
+    contours: Vec<Vec<IntPoint<i32>>>,
+}
+
+impl Answers<Vec<ContourKind>, IntOutlineError> for Asked {
+    fn answer(&self, alloc: Global) -> Result<Vec<ContourKind>, IntOutlineError> {
+        contour_kinds(&self.contours, alloc)
+    }
 }
 
 #[test]
 fn kinds(rt: HostRuntime) -> Result<(), Fail> {
     let contours = paths(rt.alloc(), CONTOURS)?;
-    let wanted = contour_kinds(&contours, rt.alloc())?;
-    marks::begin(rt.alloc())?;
-    let first = contour_kinds(&contours, rt.alloc());
-    marks::end(rt.alloc())?;
-    expect_answer(&first, &wanted, REFUSED)?;
-    let again = contour_kinds(&contours, rt.alloc())?;
-    expect_equal(&again, &wanted, &"the next call")
+    expect_answered(rt.alloc(), &Asked { contours }, REFUSED)
 }
 
 /// A builder for outer boundaries in this style.

@@ -1,21 +1,20 @@
 //! Strokes for which memory is refused.
 
-use crate::near::{expect_near, expect_same_near};
+use crate::calls::{Answers, Fills, TellsNearness, expect_answered, expect_filled, expect_told};
 use i_overlay_mesh::stroke::builder::StrokeBuilder;
 use i_overlay_mesh::stroke::offset::IntStrokeOffset;
-use i_overlay_mesh::{IntNearnessError, IntOutlineError, SplitCount};
+use i_overlay_mesh::{IntNearnessError, IntOutlineError};
 use mesh_below::below::IntOverlayOptions;
+use mesh_below::nearness::{NearShapes, SplitCount};
 use mesh_join::arc::ArcOptions;
 use mesh_join::style::{IntLineCap, IntLineJoin, IntStrokeStyle};
-use mesh_num::num::Angle;
-use mesh_num::shape::buffer::FlatContoursBuffer;
-use mesh_test_support::compared::{are_same_edges, expect_equal, expect_that, filled};
+use mesh_num::num::{Angle, IntPoint};
+use mesh_num::shape::buffer::{FlatContoursBuffer, IntShapes};
+use mesh_test_support::compared::{are_same_edges, expect_equal, expect_that};
 use mesh_test_support::edges::edges_of_segments;
 use mesh_test_support::lists::{path, paths};
 use mesh_test_support::marks;
-use mesh_test_support::refused::{
-    expect_added, expect_answer, expect_buffer, expect_same_buffer, one_segment,
-};
+use mesh_test_support::refused::{expect_added, one_segment};
 use std::alloc::{AllocError, Global};
 use std::rc::RcSlice;
 use std::test::Fail;
@@ -38,75 +37,95 @@ fn pointed(alloc: Global) -> Result<IntStrokeStyle<i32>, AllocError> {
     )
 }
 
+/// The strokes of the lines in this style, by the call that takes options or the one that takes none.
+#[derive(Drop)]
+struct Drawing {
+    lines: Vec<Vec<IntPoint<i32>>>,
+    style: IntStrokeStyle<i32>,
+    is_closed: bool,
+    is_custom: bool,
+}
+
+impl Answers<IntShapes<i32>, IntOutlineError> for Drawing {
+    fn answer(&self, alloc: Global) -> Result<IntShapes<i32>, IntOutlineError> {
+        let (lines, style) = (&self.lines, &self.style);
+        lines.validate_stroke(style)?;
+        if self.is_custom {
+            lines.stroke_custom(alloc, style, self.is_closed, IntOverlayOptions::new())
+        } else {
+            lines.stroke(alloc, style, self.is_closed)
+        }
+    }
+}
+
+impl Fills<IntOutlineError> for Drawing {
+    fn fill(
+        &self,
+        alloc: Global,
+        buffer: &mut FlatContoursBuffer<i32>,
+    ) -> Result<(), IntOutlineError> {
+        let (lines, style) = (&self.lines, &self.style);
+        lines.validate_stroke(style)?;
+        if self.is_custom {
+            let options = IntOverlayOptions::new();
+            lines.stroke_custom_into(alloc, style, self.is_closed, options, buffer)
+        } else {
+            lines.stroke_into(alloc, style, self.is_closed, buffer)
+        }
+    }
+}
+
+impl TellsNearness<IntNearnessError> for Drawing {
+    fn tell(
+        &self,
+        alloc: Global,
+        count: &mut SplitCount,
+    ) -> Result<NearShapes<i32>, IntNearnessError> {
+        let (lines, style) = (&self.lines, &self.style);
+        lines.validate_stroke(style)?;
+        lines.stroke_with_nearness(
+            alloc,
+            style,
+            self.is_closed,
+            IntOverlayOptions::new(),
+            count,
+        )
+    }
+}
+
+/// The lines in the pointed style, open by the call that takes no options, and closed by the other.
+fn drawn(alloc: Global, is_custom: bool) -> Result<Drawing, AllocError> {
+    Ok(Drawing {
+        lines: paths(alloc, LINES)?,
+        style: pointed(alloc)?,
+        is_closed: is_custom,
+        is_custom,
+    })
+}
+
 #[test]
 fn stroke(rt: HostRuntime) -> Result<(), Fail> {
-    let (lines, style) = (paths(rt.alloc(), LINES)?, pointed(rt.alloc())?);
-    lines.validate_stroke(&style)?;
-    let wanted = lines.stroke(rt.alloc(), &style, false)?;
-    marks::begin(rt.alloc())?;
-    let first = lines.stroke(rt.alloc(), &style, false);
-    marks::end(rt.alloc())?;
-    expect_answer(&first, &wanted, REFUSED)?;
-    let again = lines.stroke(rt.alloc(), &style, false)?;
-    expect_equal(&again, &wanted, &"the next call")
+    expect_answered(rt.alloc(), &drawn(rt.alloc(), false)?, REFUSED)
 }
 
 #[test]
 fn stroke_custom(rt: HostRuntime) -> Result<(), Fail> {
-    let (lines, style) = (paths(rt.alloc(), LINES)?, pointed(rt.alloc())?);
-    lines.validate_stroke(&style)?;
-    let options = IntOverlayOptions::new();
-    let wanted = lines.stroke_custom(rt.alloc(), &style, true, options)?;
-    marks::begin(rt.alloc())?;
-    let first = lines.stroke_custom(rt.alloc(), &style, true, options);
-    marks::end(rt.alloc())?;
-    expect_answer(&first, &wanted, REFUSED)?;
-    let again = lines.stroke_custom(rt.alloc(), &style, true, options)?;
-    expect_equal(&again, &wanted, &"the next call")
+    expect_answered(rt.alloc(), &drawn(rt.alloc(), true)?, REFUSED)
 }
 
 #[test]
 fn stroke_into(rt: HostRuntime) -> Result<(), Fail> {
-    let (lines, style) = (paths(rt.alloc(), LINES)?, pointed(rt.alloc())?);
-    let (mut buffer, mut wanted) = (filled(rt.alloc())?, FlatContoursBuffer::new(rt.alloc()));
-    lines.validate_stroke(&style)?;
-    lines.stroke_into(rt.alloc(), &style, false, &mut wanted)?;
-    marks::begin(rt.alloc())?;
-    let first = lines.stroke_into(rt.alloc(), &style, false, &mut buffer);
-    marks::end(rt.alloc())?;
-    expect_buffer(&first, &buffer, &wanted, REFUSED)?;
-    lines.stroke_into(rt.alloc(), &style, false, &mut buffer)?;
-    expect_same_buffer(&buffer, &wanted)
+    expect_filled(rt.alloc(), &drawn(rt.alloc(), false)?, REFUSED)
 }
 
 #[test]
 fn stroke_custom_into(rt: HostRuntime) -> Result<(), Fail> {
-    let (lines, style) = (paths(rt.alloc(), LINES)?, pointed(rt.alloc())?);
-    let (mut buffer, mut wanted) = (filled(rt.alloc())?, FlatContoursBuffer::new(rt.alloc()));
-    lines.validate_stroke(&style)?;
-    let options = IntOverlayOptions::new();
-    lines.stroke_custom_into(rt.alloc(), &style, true, options, &mut wanted)?;
-    marks::begin(rt.alloc())?;
-    let first = lines.stroke_custom_into(rt.alloc(), &style, true, options, &mut buffer);
-    marks::end(rt.alloc())?;
-    expect_buffer(&first, &buffer, &wanted, REFUSED)?;
-    lines.stroke_custom_into(rt.alloc(), &style, true, options, &mut buffer)?;
-    expect_same_buffer(&buffer, &wanted)
+    expect_filled(rt.alloc(), &drawn(rt.alloc(), true)?, REFUSED)
 }
 
 #[test]
 fn stroke_with_nearness(rt: HostRuntime) -> Result<(), Fail> {
-    let (lines, style) = (paths(rt.alloc(), LINES)?, pointed(rt.alloc())?);
-    lines.validate_stroke(&style)?;
-    let options = IntOverlayOptions::new();
-    let (mut counted, mut count) = (SplitCount::new(0), SplitCount::new(0));
-    let wanted = lines.stroke_with_nearness(rt.alloc(), &style, false, options, &mut counted)?;
-    marks::begin(rt.alloc())?;
-    let first = lines.stroke_with_nearness(rt.alloc(), &style, false, options, &mut count);
-    marks::end(rt.alloc())?;
-    expect_near(&first, count, &wanted, counted.made, OUT_OF_MEMORY)?;
-    let again = lines.stroke_with_nearness(rt.alloc(), &style, false, options, &mut count)?;
-    expect_same_near(&again, &wanted)
+    expect_told(rt.alloc(), &drawn(rt.alloc(), false)?, OUT_OF_MEMORY)
 }
 
 /// The builder keeps a buffer for its arcs, so what is wanted comes from another one.

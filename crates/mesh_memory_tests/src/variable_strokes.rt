@@ -1,20 +1,18 @@
 //! Strokes of variable width for which memory is refused.
 
-use crate::near::{expect_near, expect_same_near};
+use crate::calls::{Answers, Fills, TellsNearness, expect_answered, expect_filled, expect_told};
 use i_overlay_mesh::variable_stroke::builder::VariableStrokeBuilder;
 use i_overlay_mesh::variable_stroke::offset::IntVariableStrokeOffset;
-use i_overlay_mesh::{IntNearnessError, IntVariableStrokeError, SplitCount};
+use i_overlay_mesh::{IntNearnessError, IntVariableStrokeError};
 use mesh_below::below::IntOverlayOptions;
+use mesh_below::nearness::{NearShapes, SplitCount};
 use mesh_join::arc::ArcOptions;
 use mesh_join::style::{IntStrokeVertex, IntVariableStrokeStyle};
 use mesh_num::num::{IntPoint, OverlayInt};
-use mesh_num::shape::buffer::FlatContoursBuffer;
+use mesh_num::shape::buffer::{FlatContoursBuffer, IntShapes};
 use mesh_num::shape::segment::Segment;
-use mesh_test_support::compared::{expect_equal, filled};
 use mesh_test_support::marks;
-use mesh_test_support::refused::{
-    expect_added, expect_answer, expect_buffer, expect_same_buffer, one_segment,
-};
+use mesh_test_support::refused::{expect_added, one_segment};
 use std::alloc::{AllocError, Global};
 use std::test::Fail;
 
@@ -49,75 +47,86 @@ fn eighths() -> IntVariableStrokeStyle {
     IntVariableStrokeStyle::new().arc(ArcOptions::default())
 }
 
+/// The strokes of the paths, by the call that takes options or the one that takes none.
+#[derive(Drop)]
+struct Drawing {
+    paths: Vec<Vec<IntStrokeVertex<i32>>>,
+    is_custom: bool,
+}
+
+impl Answers<IntShapes<i32>, IntVariableStrokeError> for Drawing {
+    fn answer(&self, alloc: Global) -> Result<IntShapes<i32>, IntVariableStrokeError> {
+        self.paths.validate_variable_stroke()?;
+        if self.is_custom {
+            let options = IntOverlayOptions::new();
+            self.paths.variable_stroke_custom(alloc, eighths(), options)
+        } else {
+            self.paths.variable_stroke(alloc, eighths())
+        }
+    }
+}
+
+impl Fills<IntVariableStrokeError> for Drawing {
+    fn fill(
+        &self,
+        alloc: Global,
+        buffer: &mut FlatContoursBuffer<i32>,
+    ) -> Result<(), IntVariableStrokeError> {
+        self.paths.validate_variable_stroke()?;
+        if self.is_custom {
+            let options = IntOverlayOptions::new();
+            self.paths
+                .variable_stroke_custom_into(alloc, eighths(), options, buffer)
+        } else {
+            self.paths.variable_stroke_into(alloc, eighths(), buffer)
+        }
+    }
+}
+
+impl TellsNearness<IntNearnessError> for Drawing {
+    fn tell(
+        &self,
+        alloc: Global,
+        count: &mut SplitCount,
+    ) -> Result<NearShapes<i32>, IntNearnessError> {
+        self.paths.validate_variable_stroke()?;
+        let options = IntOverlayOptions::new();
+        self.paths
+            .variable_stroke_with_nearness(alloc, eighths(), options, count)
+    }
+}
+
+/// The tapered paths.
+fn drawn(alloc: Global, is_custom: bool) -> Result<Drawing, AllocError> {
+    Ok(Drawing {
+        paths: tapered(alloc)?,
+        is_custom,
+    })
+}
+
 #[test]
 fn variable_stroke(rt: HostRuntime) -> Result<(), Fail> {
-    let paths = tapered(rt.alloc())?;
-    paths.validate_variable_stroke()?;
-    let wanted = paths.variable_stroke(rt.alloc(), eighths())?;
-    marks::begin(rt.alloc())?;
-    let first = paths.variable_stroke(rt.alloc(), eighths());
-    marks::end(rt.alloc())?;
-    expect_answer(&first, &wanted, REFUSED)?;
-    let again = paths.variable_stroke(rt.alloc(), eighths())?;
-    expect_equal(&again, &wanted, &"the next call")
+    expect_answered(rt.alloc(), &drawn(rt.alloc(), false)?, REFUSED)
 }
 
 #[test]
 fn variable_stroke_custom(rt: HostRuntime) -> Result<(), Fail> {
-    let paths = tapered(rt.alloc())?;
-    paths.validate_variable_stroke()?;
-    let options = IntOverlayOptions::new();
-    let wanted = paths.variable_stroke_custom(rt.alloc(), eighths(), options)?;
-    marks::begin(rt.alloc())?;
-    let first = paths.variable_stroke_custom(rt.alloc(), eighths(), options);
-    marks::end(rt.alloc())?;
-    expect_answer(&first, &wanted, REFUSED)?;
-    let again = paths.variable_stroke_custom(rt.alloc(), eighths(), options)?;
-    expect_equal(&again, &wanted, &"the next call")
+    expect_answered(rt.alloc(), &drawn(rt.alloc(), true)?, REFUSED)
 }
 
 #[test]
 fn variable_stroke_into(rt: HostRuntime) -> Result<(), Fail> {
-    let paths = tapered(rt.alloc())?;
-    let (mut buffer, mut wanted) = (filled(rt.alloc())?, FlatContoursBuffer::new(rt.alloc()));
-    paths.validate_variable_stroke()?;
-    paths.variable_stroke_into(rt.alloc(), eighths(), &mut wanted)?;
-    marks::begin(rt.alloc())?;
-    let first = paths.variable_stroke_into(rt.alloc(), eighths(), &mut buffer);
-    marks::end(rt.alloc())?;
-    expect_buffer(&first, &buffer, &wanted, REFUSED)?;
-    paths.variable_stroke_into(rt.alloc(), eighths(), &mut buffer)?;
-    expect_same_buffer(&buffer, &wanted)
+    expect_filled(rt.alloc(), &drawn(rt.alloc(), false)?, REFUSED)
 }
 
 #[test]
 fn variable_stroke_custom_into(rt: HostRuntime) -> Result<(), Fail> {
-    let paths = tapered(rt.alloc())?;
-    let (mut buffer, mut wanted) = (filled(rt.alloc())?, FlatContoursBuffer::new(rt.alloc()));
-    paths.validate_variable_stroke()?;
-    let options = IntOverlayOptions::new();
-    paths.variable_stroke_custom_into(rt.alloc(), eighths(), options, &mut wanted)?;
-    marks::begin(rt.alloc())?;
-    let first = paths.variable_stroke_custom_into(rt.alloc(), eighths(), options, &mut buffer);
-    marks::end(rt.alloc())?;
-    expect_buffer(&first, &buffer, &wanted, REFUSED)?;
-    paths.variable_stroke_custom_into(rt.alloc(), eighths(), options, &mut buffer)?;
-    expect_same_buffer(&buffer, &wanted)
+    expect_filled(rt.alloc(), &drawn(rt.alloc(), true)?, REFUSED)
 }
 
 #[test]
 fn variable_stroke_with_nearness(rt: HostRuntime) -> Result<(), Fail> {
-    let paths = tapered(rt.alloc())?;
-    paths.validate_variable_stroke()?;
-    let options = IntOverlayOptions::new();
-    let (mut counted, mut count) = (SplitCount::new(0), SplitCount::new(0));
-    let wanted = paths.variable_stroke_with_nearness(rt.alloc(), eighths(), options, &mut counted)?;
-    marks::begin(rt.alloc())?;
-    let first = paths.variable_stroke_with_nearness(rt.alloc(), eighths(), options, &mut count);
-    marks::end(rt.alloc())?;
-    expect_near(&first, count, &wanted, counted.made, OUT_OF_MEMORY)?;
-    let again = paths.variable_stroke_with_nearness(rt.alloc(), eighths(), options, &mut count)?;
-    expect_same_near(&again, &wanted)
+    expect_told(rt.alloc(), &drawn(rt.alloc(), true)?, OUT_OF_MEMORY)
 }
 
 /// Adds the edges of the path's stroke.
