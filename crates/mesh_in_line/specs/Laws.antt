@@ -1,0 +1,16 @@
+-- Splits that go on from others. The functions of the same names in the module `laws` carry them.
+use Rattle.std.specs.Prelude.{ℕ, ◌≡◌, List, ◌++◌}
+use Rattle.mesh_plane.specs.Plane.{Edge}
+use Rattle.mesh_lattice.specs.Nearness.{IsNearness}
+use Rattle.mesh_lattice.specs.Split.{after, EdgeSplit, IsLegal}
+use Rattle.mesh_in_line.specs.InLine.{AreCutInLine}
+
+-- the later splits are legal for the given edges too, and make of these what they make of what the first ones made
+pub record GoOn (given : List Edge) (first later : List EdgeSplit) : Type 0 where
+  pub legal : IsLegal given (later ++ first)
+  pub same : after (later ++ first) given ≡ after later (after first given)
+
+-- a splitting of what legal splits made is one of the given edges
+abbrev pub SplittingsGoOn : Type 0
+SplittingsGoOn = (given : List Edge) (first later : List EdgeSplit)
+    → IsLegal given first → IsLegal (after first given) later → GoOn given first later

@@ -1,0 +1,3 @@
+pub mod InLine
+pub mod Laws
+pub mod Private

@@ -1,0 +1,2 @@
+-- What stands between the steps: only private contracts and invariants read these.
+pub mod Lines
