@@ -5,3 +5,4 @@ pub mod Ordered
 pub mod Legal
 pub mod Placed
 pub mod Along
+pub mod Nearness

@@ -95,10 +95,10 @@ between_less a z b h k = record { up = λ _. (omega (arith, ints), omega (arith,
 between_same : (a z b : ℤ) → a ≡ z → z ≡ b → IsBetween a z b
 between_same a z b h k = record { up = λ _. (omega (arith, ints), omega (arith, ints)); down = λ _. (omega (arith, ints), omega (arith, ints)) }
 
-no_turn : (a b c d : ℤ) → a ≡ pos 0 → d ≡ pos 0 → (a *ℤ b) -ℤ (c *ℤ d) ≡ pos 0
+pub no_turn : (a b c d : ℤ) → a ≡ pos 0 → d ≡ pos 0 → (a *ℤ b) -ℤ (c *ℤ d) ≡ pos 0
 no_turn a b c d h k = (λ i. (h i *ℤ b) -ℤ (c *ℤ k i)) ∙ (λ i. zero_mul b i -ℤ mul_zero c i)
 
-no_turn_level : (a b c d : ℤ) → b ≡ pos 0 → c ≡ pos 0 → (a *ℤ b) -ℤ (c *ℤ d) ≡ pos 0
+pub no_turn_level : (a b c d : ℤ) → b ≡ pos 0 → c ≡ pos 0 → (a *ℤ b) -ℤ (c *ℤ d) ≡ pos 0
 no_turn_level a b c d h k = (λ i. (a *ℤ h i) -ℤ (k i *ℤ d)) ∙ (λ i. mul_zero a i -ℤ zero_mul d i)
 
 same_less : (a b : ℤ) → a ≡ b → b -ℤ a ≡ pos 0

@@ -134,7 +134,7 @@ fn cut_at(
     Ok(Some(CutInLine { edges, splits }))
 }
 
-/// Cuts level edges at each other's ends, or upright ones.
+/// Cuts level edges at each other's ends, or upright ones. `None` where that makes too many edges.
 fn cut_along(
     alloc: Global,
     edges: &[LatticeEdge],
@@ -149,7 +149,8 @@ fn cut_along(
     cut_at(alloc, edges, &places, &spans, level)
 }
 
-/// Cuts level and upright edges at each other's ends.
+/// Cuts level and upright edges at each other's ends: pieces of them that lie along each other are the same then. `None`
+/// where that makes too many edges. It fails only where memory is refused.
 #[tactic(auto, using(crate::proofs::Along::cut_twice))]
 pub fn cut_in_line(alloc: Global, edges: &[LatticeEdge]) -> Result<Option<CutInLine>, AllocError>
     ensures { IfOk result (λ o. IfSome o (λ c. AreCutInLine edges.now c.edges.items c.splits)) }
