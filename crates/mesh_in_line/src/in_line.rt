@@ -4,7 +4,8 @@ ghost use Rattle.std.specs.Prelude.{◌≡◌, ℕ, ◌-◌, ◌<◌, ◌≤◌,
 ghost use Rattle.std.specs.List.{All};
 ghost use Rattle.mesh_lattice.specs.Split.{after};
 ghost use Rattle.mesh_in_line.specs.InLine.{AreCutInLine};
-ghost use Rattle.mesh_in_line.specs.Private.Lines.{backward, cuts_to, onward, pieces_of, point_at, turned, AreFirsts, ArePlaced, AreRising, IsEndOfSome};
+ghost use Rattle.mesh_in_line.specs.Private.Lines.{backward, cuts_to, onward, pieces_of, point_at, turned};
+ghost use Rattle.mesh_in_line.specs.Private.Lines.{AreFirsts, ArePlaced, AreRising, IsEndOfSome};
 
 use crate::places::{places, turned};
 use crate::spans::{Span, count_splits, firsts, spans};

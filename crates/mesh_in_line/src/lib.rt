@@ -11,3 +11,5 @@ pub mod laws;
 pub(crate) mod places;
 pub mod samples;
 pub(crate) mod spans;
+#[cfg(test)]
+mod tests;

@@ -1,6 +1,7 @@
 //! The ends of edges along one direction, in their order.
 
-ghost use Rattle.std.specs.Prelude.{◌≡◌, ◌↔◌, ◌⊎◌, ℕ, ◌+◌, ◌<◌, [], ◌∷◌, ◌++◌, length, slice_index_or, pos, IfOk, IfSome, IsTrue, OnOk};
+ghost use Rattle.std.specs.Prelude.{◌≡◌, ◌↔◌, ◌⊎◌, ℕ, ◌+◌, ◌<◌, [], ◌∷◌, ◌++◌, length, slice_index_or, pos};
+ghost use Rattle.std.specs.Prelude.{IfOk, IfSome, IsTrue, OnOk};
 ghost use Rattle.std.specs.List.{All};
 ghost use Rattle.mesh_plane.specs.Plane.{Point};
 ghost use Rattle.mesh_plane.specs.Order.{point_lt};
@@ -56,7 +57,8 @@ fn ends(alloc: Global, edges: &[LatticeEdge], level: bool) -> Result<Vec<Lattice
 
 /// Whether a point comes after the last one.
 fn goes_on(places: &[LatticePoint], p: LatticePoint) -> bool
-    ensures { IsTrue result → (k : ℕ) → k + 1 ≡ length places.now → IsTrue (point_lt (slice_index_or places.now k (pos 0, pos 0)) p) }
+    ensures { IsTrue result → (k : ℕ) → k + 1 ≡ length places.now
+        → IsTrue (point_lt (slice_index_or places.now k (pos 0, pos 0)) p) }
 {
     if places.is_empty() {
         return true;

@@ -1,49 +1,69 @@
 //! Whether many edges lie in line.
 
-use crate::places::{is_along, turned};
 use mesh_lattice::lattice::LatticeEdge;
 
-/// In so many parts of all edges the longest level one and the longest upright one are looked at.
+/// In so many parts of all edges the longest level one and the longest upright one are looked at. Each part costs a look at
+/// all edges.
 const PARTS: usize = 3;
 
 /// Of fewer edges all pairs are found and cut soon, in line or not.
 const FEW_EDGES: usize = 64;
 
-/// Cutting in line serves where an edge has more than so many others in line with it.
-const MOST_IN_LINE: usize = 4;
+/// Cutting in line serves where so many edges lie in line with a long one, itself among them.
+const MANY_IN_LINE: usize = 5;
 
-/// How long an edge along a direction is.
-#[inline]
-fn length(e: LatticeEdge, level: bool) -> u32 {
-    turned(e.0, level).1.abs_diff(turned(e.1, level).1)
+/// A level edge and an upright one. Where there is none, both ends are one point.
+#[derive(Copy, Clone)]
+struct LongEdges {
+    level: LatticeEdge,
+    upright: LatticeEdge,
 }
 
-/// The longest of the level edges, or of the upright ones.
-fn longest(edges: &[LatticeEdge], level: bool) -> Option<LatticeEdge> {
-    let mut found: Option<LatticeEdge> = None;
-    let mut most: u32 = 0;
+/// The longest of the level edges, and of the upright ones.
+fn long_edges(edges: &[LatticeEdge]) -> LongEdges {
+    let mut found = LongEdges {
+        level: ((0, 0), (0, 0)),
+        upright: ((0, 0), (0, 0)),
+    };
+    let mut level: u32 = 0;
+    let mut upright: u32 = 0;
     for e in edges {
-        if is_along(*e, level) && length(*e, level) > most {
-            most = length(*e, level);
-            found = Some(*e);
+        if e.0.1 == e.1.1 {
+            let length = e.0.0.abs_diff(e.1.0);
+            if length > level {
+                level = length;
+                found.level = *e;
+            }
+        } else if e.0.0 == e.1.0 {
+            let length = e.0.1.abs_diff(e.1.1);
+            if length > upright {
+                upright = length;
+                found.upright = *e;
+            }
         }
     }
     found
 }
 
-/// Whether many edges lie in line with one, and share more than a point with it.
-fn has_many(edges: &[LatticeEdge], e: LatticeEdge, level: bool) -> bool {
-    let (line, start) = turned(e.0, level);
-    let end = turned(e.1, level).1;
-    let (low, high) = (start.min(end), start.max(end));
-    let mut count: usize = 0;
-    for f in edges {
-        let (a, b) = (turned(f.0, level), turned(f.1, level));
-        if a.0 == line && b.0 == line && a.1.min(b.1) < high && low < a.1.max(b.1) {
-            count = count.saturating_add(1);
+/// Whether many edges share more than a point with one of two.
+fn has_many(edges: &[LatticeEdge], long: LongEdges) -> bool {
+    let LongEdges { level, upright } = long;
+    let (west, east) = (level.0.0.min(level.1.0), level.0.0.max(level.1.0));
+    let (south, north) = (upright.0.1.min(upright.1.1), upright.0.1.max(upright.1.1));
+    let mut levels: usize = 0;
+    let mut uprights: usize = 0;
+    for e in edges {
+        if e.0.1 == e.1.1 {
+            if e.0.1 == level.0.1 && e.0.0.min(e.1.0) < east && west < e.0.0.max(e.1.0) {
+                levels = levels.saturating_add(1);
+            }
+        } else if e.0.0 == e.1.0 && e.0.0 == upright.0.0 {
+            if e.0.1.min(e.1.1) < north && south < e.0.1.max(e.1.1) {
+                uprights = uprights.saturating_add(1);
+            }
         }
     }
-    count > MOST_IN_LINE
+    levels >= MANY_IN_LINE || uprights >= MANY_IN_LINE
 }
 
 /// Whether many edges lie in line, as a few long ones tell.
@@ -53,13 +73,9 @@ pub fn are_many_in_line(edges: &[LatticeEdge]) -> bool {
     }
     let size = edges.len() / PARTS;
     for part in 0..PARTS {
-        let some = &edges[part * size..part * size + size];
-        for level in [true, false] {
-            if let Some(e) = longest(some, level) {
-                if has_many(edges, e, level) {
-                    return true;
-                }
-            }
+        let long = long_edges(&edges[part * size..part * size + size]);
+        if has_many(edges, long) {
+            return true;
         }
     }
     false

@@ -81,7 +81,8 @@ fn lower(firsts: &mut Vec<usize>, s: Span)
 
 /// For each place the first one from which an edge leads there, or the place itself.
 pub fn firsts(alloc: Global, spans: &[Span], places: usize) -> Result<Vec<usize>, AllocError>
-    requires { (k : ℕ) → k < length spans.now → (span_at spans.now k).from < (span_at spans.now k).to → (span_at spans.now k).to < places }
+    requires { (k : ℕ) → k < length spans.now → (span_at spans.now k).from < (span_at spans.now k).to
+        → (span_at spans.now k).to < places }
     ensures { IfOk result (λ v. AreFirsts spans.now (length spans.now) places v.items) }
 {
     let mut firsts = Vec::with_capacity(alloc, places)?;
