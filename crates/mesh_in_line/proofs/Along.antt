@@ -1,18 +1,18 @@
 -- Lemmas over points and lists: what all cuts make of each edge, and that they are legal.
-use Rattle.std.proofs.Common.{◌≡◌, ◌⊎◌, inl, inr, ⊎_elim, ℕ, zero, suc, ◌+◌, ◌-◌, ◌<◌, ◌≤◌, Bool, true, false, cond, ◌||◌, List, [], ◌∷◌, ◌++◌, length, get_or, take, add-one, append_assoc, refl, sym, ◌∙◌, ap, subst, arith, length-append}
+use Rattle.std.proofs.Common.{◌≡◌, ◌⊎◌, inl, inr, ⊎_elim, ℕ, zero, suc, ◌+◌, ◌-◌, ◌<◌, ◌≤◌, Bool, true, false, cond, ◌||◌, List, [], ◌∷◌, ◌++◌, length, get_or, take, add-one, sym, ◌∙◌, ap, subst, arith, length-append}
 use Rattle.std.proofs.lemmas.List.Elements.{All-append}
 use Rattle.std.specs.Prelude.{pos}
 use Rattle.std.specs.List.{All}
 use Rattle.std.proofs.Math.Seq.{take-suc}
-use Rattle.std.proofs.lemmas.Bool.{cases_Bool, false_from_ne_true, or_right}
+use Rattle.std.proofs.lemmas.Bool.{false_from_ne_true, or_right}
 use Rattle.mesh_plane.specs.Plane.{Point, Edge}
 use Rattle.mesh_lattice.specs.Split.{after, back, occurs, same_ends, EdgeSplit, IsLegal}
 use Rattle.mesh_lattice.proofs.Each.{Each, each_append}
-use Rattle.mesh_lattice.proofs.Ends.{decides_ends, ends_self, ends_sym, ends_turned}
+use Rattle.mesh_lattice.proofs.Ends.{decides_ends, ends_self, ends_turned}
 use Rattle.mesh_lattice.proofs.KeptBySplits.{after_append}
 use Rattle.mesh_in_line.specs.declared.spans.Span.{Span}
 use Rattle.mesh_in_line.specs.InLine.{AreCutInLine, IsStraight}
-use Rattle.mesh_in_line.specs.Private.Lines.{backward, cuts, cuts_to, no_edge, onward, pieces_of, point_at, span_at, turned, AreFirsts, ArePlaced, AreRising, IsAlong, IsBeside, IsEndOfSome, IsPlaced, IsSpan}
+use Rattle.mesh_in_line.specs.Private.Lines.{backward, cuts, cuts_to, no_edge, onward, pieces_of, point_at, span_at, turned, AreFirsts, ArePlaced, AreRising, IsAlong, IsEndOfSome, IsPlaced, IsSpan}
 use Rattle.mesh_in_line.proofs.Following.{splittings_go_on}
 use Rattle.mesh_in_line.proofs.Legal.{all_legal, cut_back, cut_forth, cuts_beside, first_at, occurs_same, AreFit}
 use Rattle.mesh_in_line.proofs.Ordered.{inside_next, place_at, rising_apart, same_line, turned_twice}

@@ -1,7 +1,6 @@
 -- Lemmas over lists: how many cuts there are.
-use Rattle.std.proofs.Common.{◌≡◌, ℕ, suc, ◌+◌, ◌-◌, List, get_or, length, arith, add-one, ap, sym, ◌∙◌, length-append}
+use Rattle.std.proofs.Common.{◌≡◌, ℕ, ◌+◌, ◌-◌, List, get_or, length, add-one, ap, ◌∙◌, length-append}
 use Rattle.mesh_plane.specs.Plane.{Point}
-use Rattle.mesh_lattice.specs.Split.{EdgeSplit}
 use Rattle.mesh_in_line.specs.Private.Lines.{cuts, cuts_to}
 use Rattle.mesh_in_line.proofs.Cutting.{cuts_many}
 

@@ -1,8 +1,8 @@
 -- Lemmas over points and lists: what the cuts of an edge at places one after another make of it.
-use Rattle.std.proofs.Common.{◌≡◌, ◌⊎◌, inl, inr, ⊎_elim, ℕ, zero, suc, ◌+◌, ◌-◌, ◌<◌, ◌≤◌, Bool, true, false, cond, ◌||◌, List, [], ◌∷◌, ◌++◌, length, append_assoc, refl, sym, ◌∙◌, ap, subst, arith, length-append}
+use Rattle.std.proofs.Common.{◌≡◌, ◌⊎◌, inl, inr, ⊎_elim, ℕ, zero, suc, ◌+◌, ◌<◌, ◌≤◌, Bool, true, false, cond, ◌||◌, List, [], ◌∷◌, ◌++◌, length, append_assoc, refl, sym, ◌∙◌, ap, subst, arith}
 use Rattle.std.proofs.lemmas.Bool.{false_from_ne_true, or_parts}
 use Rattle.mesh_plane.specs.Plane.{Point, Edge}
-use Rattle.mesh_lattice.specs.Split.{after, back, is_end, occurs, same_ends, split_by, split_edge, EdgeSplit}
+use Rattle.mesh_lattice.specs.Split.{after, back, is_end, occurs, same_ends, split_by, EdgeSplit}
 use Rattle.mesh_lattice.proofs.Each.{Each, each_append}
 use Rattle.mesh_lattice.proofs.Ends.{decides_end, ends_self, ends_sym, ends_turned, not_ends}
 use Rattle.mesh_lattice.proofs.KeptBySplits.{after_append}

@@ -2,7 +2,7 @@
 use Rattle.std.proofs.Common.{◌≡◌, Bool, true, false, cond, List, [], ◌∷◌, ◌++◌, refl, sym, ◌∙◌, ap, subst}
 use Rattle.mesh_plane.specs.Plane.{Point, Edge}
 use Rattle.mesh_lattice.specs.Split.{after, add_split, occurs, is_end, split_by, EdgeSplit, IsLegal, no_cut, split}
-use Rattle.mesh_in_line.specs.Laws.{GoOn, SplittingsGoOn}
+use Rattle.mesh_in_line.specs.Laws.{SplittingsGoOn}
 
 pub after_both : (later first : List EdgeSplit) (es : List Edge) → after (later ++ first) es ≡ after later (after first es)
 after_both [] first es = refl

@@ -1,11 +1,11 @@
 -- Lemmas over points and lists: the cuts are legal splits.
-use Rattle.std.proofs.Common.{◌≡◌, ◌⊎◌, inl, inr, ⊎_elim, ℕ, zero, suc, ◌+◌, ◌-◌, ◌<◌, ◌≤◌, Bool, true, false, cond, ◌&&◌, ◌||◌, not, List, [], ◌∷◌, ◌++◌, length, get_or, refl, sym, ◌∙◌, ap, subst, arith}
+use Rattle.std.proofs.Common.{◌≡◌, ◌⊎◌, inl, inr, ⊎_elim, ℕ, zero, suc, ◌+◌, ◌-◌, ◌<◌, ◌≤◌, Bool, true, false, cond, ◌&&◌, ◌||◌, not, List, [], ◌∷◌, ◌++◌, get_or, refl, sym, ◌∙◌, ap, subst, arith}
 use Rattle.std.proofs.lemmas.Bool.{cases_Bool, false≢true, or_cases, or_right}
 use Rattle.mesh_plane.specs.Plane.{Point, Edge}
-use Rattle.mesh_lattice.specs.Split.{after, add_split, back, is_end, occurs, path, same_ends, split_by, EdgeSplit, IsInside, IsLegal, Meets, at_end_of_second, at_start_of_second, no_cut, split}
+use Rattle.mesh_lattice.specs.Split.{after, add_split, back, is_end, occurs, same_ends, split_by, EdgeSplit, IsInside, IsLegal, Meets, at_end_of_second, at_start_of_second, no_cut, split}
 use Rattle.mesh_lattice.proofs.Each.{Each}
 use Rattle.mesh_lattice.proofs.Ends.{decides_end, decides_ends, ends_along, ends_self, ends_sym, not_ends}
-use Rattle.mesh_lattice.proofs.KeptBySplits.{after_append, after_none}
+use Rattle.mesh_lattice.proofs.KeptBySplits.{after_append}
 use Rattle.mesh_lattice.proofs.Splits.{occurs_append, occurs_cut}
 use Rattle.mesh_in_line.specs.Private.Lines.{backward, cuts, cuts_to, onward, IsEndOfSome}
 use Rattle.mesh_in_line.proofs.Cutting.{backward_each, cut_onward, cuts_none, elsewhere, ends_there, later_cuts, none_by, onward_each, whole_backward, whole_onward, AreApart, EndsElsewhere}

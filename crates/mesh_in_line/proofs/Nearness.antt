@@ -1,14 +1,14 @@
 -- Lemmas over points and lists: straight splits before others change nothing of how near these are.
-use Rattle.std.proofs.Common.{◌≡◌, ◌⊎◌, inl, inr, ⊎_elim, ℕ, zero, suc, ◌<◌, ◌≤◌, ◌*◌, Bool, true, false, cond, ◌||◌, List, [], ◌∷◌, ◌++◌, length, refl, sym, ◌∙◌, ap, subst, arith}
-use Rattle.std.specs.Prelude.{ℤ, pos, ◌-ℤ◌, ◌*ℤ◌, ◌≤ℤ◌, slice_index_or, unsigned_abs}
-use Rattle.std.specs.List.{All, Contains}
-use Rattle.std.proofs.lemmas.Bool.{cases_Bool, false≢true, or_cases}
+use Rattle.std.proofs.Common.{◌≡◌, ◌⊎◌, inl, inr, ⊎_elim, ℕ, zero, suc, ◌<◌, ◌*◌, Bool, true, false, cond, List, [], ◌∷◌, ◌++◌, length, refl, sym, ◌∙◌, ap, subst, arith}
+use Rattle.std.specs.Prelude.{ℤ, pos, ◌-ℤ◌, slice_index_or}
+use Rattle.std.specs.List.{All}
+use Rattle.std.proofs.lemmas.Bool.{false≢true, or_cases}
 use Rattle.std.proofs.lemmas.Int.{ints}
 use Rattle.std.proofs.lemmas.List.Elements.{Contains-append_right}
-use Rattle.mesh_plane.specs.Plane.{Point, Edge, turn}
+use Rattle.mesh_plane.specs.Plane.{Point, Edge}
 use Rattle.mesh_lattice.specs.Clean.{refined_edge, IsOn}
-use Rattle.mesh_lattice.specs.Nearness.{splits_of, AreSplitsNear, IsNearTo, IsNearness, IsSplitNear, ReachesPast, WitnessedSplit}
-use Rattle.mesh_lattice.specs.Split.{after, back, is_end, occurs, path, same_ends, split_edge, EdgeSplit, IsBetween, IsInBox, IsLegal}
+use Rattle.mesh_lattice.specs.Nearness.{splits_of, AreSplitsNear, IsNearTo, IsSplitNear, ReachesPast, WitnessedSplit}
+use Rattle.mesh_lattice.specs.Split.{after, back, occurs, path, same_ends, EdgeSplit, IsBetween, IsInBox, IsLegal}
 use Rattle.mesh_lattice.proofs.Boxes.{end_box, on_back, start_box}
 use Rattle.mesh_lattice.proofs.Each.{Each}
 use Rattle.mesh_lattice.proofs.Ends.{decides_ends, ends_sym}

@@ -1,15 +1,15 @@
 -- Lemmas over points and lists: places in their order, and those of one line.
-use Rattle.std.proofs.Common.{◌≡◌, ◌⊎◌, inl, inr, ⊎_elim, ℕ, zero, suc, ◌+◌, ◌-◌, ◌<◌, ◌≤◌, Bool, true, false, cond, ◌&&◌, ◌||◌, List, length, get_or, refl, sym, ◌∙◌, ap, subst, arith}
+use Rattle.std.proofs.Common.{◌≡◌, ◌⊎◌, inl, inr, ⊎_elim, ℕ, zero, suc, ◌+◌, ◌-◌, ◌<◌, ◌≤◌, Bool, true, false, ◌&&◌, List, length, get_or, refl, sym, ◌∙◌, ap, subst, arith}
 use Rattle.std.specs.Prelude.{ℤ, pos, ◌-ℤ◌, ◌*ℤ◌, ◌≤ℤ◌, ◌<ℤ◌, int_lt}
 use Rattle.std.specs.Ordering.{int_eq}
 use Rattle.std.proofs.lemmas.Bool.{and_parts, or_cases}
 use Rattle.std.proofs.lemmas.Bool.Decides.{Decides-int_eq}
 use Rattle.std.proofs.lemmas.Int.{ints}
 use Rattle.mesh_plane.specs.Order.{point_lt}
-use Rattle.mesh_plane.specs.Plane.{Point, Edge, turn}
+use Rattle.mesh_plane.specs.Plane.{Point}
 use Rattle.mesh_plane.proofs.Comparing.{test_less}
 use Rattle.mesh_plane.proofs.Whole.{mul_zero, zero_mul}
-use Rattle.mesh_lattice.specs.Split.{IsBetween, IsInBox, IsInside}
+use Rattle.mesh_lattice.specs.Split.{IsBetween, IsInside}
 use Rattle.mesh_in_line.specs.Private.Lines.{point_at, turned, AreRising}
 use Rattle.mesh_in_line.proofs.Cutting.{elsewhere, AreApart}
 

@@ -1,5 +1,5 @@
 -- Lemmas over lists: places, spans and pieces, one by one.
-use Rattle.std.proofs.Common.{◌≡◌, ◌⊎◌, inl, inr, ⊎_elim, ℕ, zero, suc, ◌+◌, ◌-◌, ◌<◌, ◌≤◌, Bool, true, false, cond, List, [], ◌∷◌, ◌++◌, length, get_or, set, min, append_assoc, add-one, refl, sym, ◌∙◌, ap, subst, arith, length-append}
+use Rattle.std.proofs.Common.{◌≡◌, ◌⊎◌, inl, inr, ⊎_elim, ℕ, zero, suc, ◌+◌, ◌-◌, ◌<◌, ◌≤◌, Bool, true, List, [], ◌∷◌, ◌++◌, length, get_or, set, min, append_assoc, add-one, refl, sym, ◌∙◌, ap, subst, arith, length-append}
 use Rattle.std.specs.Prelude.{pos, IsTrue}
 use Rattle.std.specs.List.{All}
 use Rattle.std.proofs.Math.ListN.{get_or-append, length-set}
@@ -8,7 +8,7 @@ use Rattle.std.proofs.lemmas.List.{get_or-set_other, get_or-set_same}
 use Rattle.std.proofs.lemmas.List.Elements.{All-push}
 use Rattle.mesh_plane.specs.Order.{point_lt}
 use Rattle.mesh_plane.specs.Plane.{Point, Edge}
-use Rattle.mesh_lattice.specs.Split.{is_end, occurs}
+use Rattle.mesh_lattice.specs.Split.{occurs}
 use Rattle.mesh_lattice.proofs.Ends.{decides_end}
 use Rattle.mesh_lattice.proofs.Arithmetic.{below_or_last}
 use Rattle.mesh_in_line.specs.declared.spans.Span.{Span}

@@ -1,6 +1,6 @@
-use Rattle.std.proofs.Common.{ℕ, List, length, sym, ◌∙◌}
+use Rattle.std.proofs.Common.{length, sym, ◌∙◌}
 use Rattle.mesh_lattice.proofs.KeptBySplits.{after_none}
-use Rattle.mesh_in_line.specs.Private.Lines.{cuts_to, point_at, AreFirsts}
+use Rattle.mesh_in_line.specs.Private.Lines.{cuts_to, point_at}
 use Rattle.mesh_in_line.proofs.Along.{pieces_more, span_known}
 use Rattle.mesh_in_line.proofs.in_line.pieces.Goals as goal
 

@@ -1,4 +1,3 @@
-use Rattle.std.proofs.Common.{◌≡◌}
 use Rattle.mesh_in_line.proofs.Placed.{rising_pushed}
 use Rattle.mesh_in_line.proofs.places.push_rising.Goals as goal
 
