@@ -18,21 +18,8 @@ use Rattle.mesh_paths.proofs.Merged.{legal_alike}
 use Rattle.mesh_ahead.proofs.Alike.{merged_alike, nearness_alike}
 use Rattle.mesh_ahead.proofs.ClearPaths.{made_by}
 
-splits_many : (made : List (Edge × Point)) → length (latest_first made) ≡ length made
+pub splits_many : (made : List (Edge × Point)) → length (latest_first made) ≡ length made
 splits_many made = length-map (reverse made) _ ∙ length-reverse made
-
--- the splits of an attempt were counted on
-pub made_counted : (given : List Edge) (c : CutEdges) (made : List (Edge × Point)) (n : ℕ) (old new : SplitCount) → AreCut given c → latest_first made ≡ c.paths.splits → n ≡ length made → new ≡ counted old n
-    → CountsAmong 1 given old new c.paths.splits
-made_counted given c made n old new cut same many sum =
-    counts_one given old new c.paths.splits (legal_alike cut.paths.legal given (merged_alike given c.paths.edges.items cut.count))
-    (sum ∙ ap (counted old) (many ∙ (sym (splits_many made) ∙ ap length same)))
-
-pub made_of : (given : List Edge) (c : CutEdges) (old new : SplitCount) (ks : List Counted) (k : ℕ) → IsProper given → AreCut given c → AreSettled given c.paths.splits ks
-    → IsNearness (given_to c.paths) c.paths.splits k → CountsAmong 1 given old new c.paths.splits → IsMadeAmong 1 given old new ks k
-made_of given c old new ks k proper cut settled near counts =
-    made_by given c.paths.splits ks k old new proper settled
-    (nearness_alike (given_to c.paths) given c.paths.splits k (λ q. sym (merged_alike given c.paths.edges.items cut.count q)) near) counts
 
 -- of more attempts
 pub made_fewer : (given : List Edge) (old new : SplitCount) (ks : List Counted) (k : ℕ) → IsMadeAmong 1 given old new ks k → IsMadeAmong 52 given old new ks k

@@ -1,10 +1,11 @@
 -- What an attempt in arrays answers.
-use Rattle.std.specs.Prelude.{ℕ, List}
+use Rattle.std.specs.Prelude.{ℕ, ◌≡◌, ◌+◌, List, length}
 use Rattle.mesh_plane.specs.Plane.{Edge}
 use Rattle.mesh_lattice.specs.Clean.{IsClean}
 use Rattle.mesh_lattice.specs.Counted.{Counted}
 use Rattle.mesh_lattice.specs.Split.{after, EdgeSplit}
-use Rattle.mesh_split.specs.Counting.{CountsAmong}
+use Rattle.mesh_lattice.specs.Nearness.{IsNearness}
+use Rattle.mesh_split.specs.Counting.{counted, CountsAmong}
 use Rattle.mesh_split.specs.Told.{IsToldSplitting}
 use Rattle.mesh_split.specs.declared.count.SplitCount.{SplitCount}
 use Rattle.mesh_paths.specs.Pieces.{AreReached}
@@ -24,3 +25,10 @@ pub record IsMadeAmong (most : ℕ) (given : List Edge) (old new : SplitCount) (
 -- the same of all attempts that are made
 abbrev pub IsCountedSplitting : List Edge → SplitCount → SplitCount → List Counted → ℕ → Type 0
 IsCountedSplitting = IsMadeAmong most_attempts
+
+-- the segments that a legal splitting makes of edges, and its nearness, of which the splits were counted, and so many before
+pub record IsMadeAfter (before : ℕ) (edges : List Edge) (old new : SplitCount) (segments : List Counted) (k : ℕ) : Type 0 where
+  pub splits : List EdgeSplit
+  pub settled : AreSettled edges splits segments
+  pub nearness : IsNearness edges splits k
+  pub counted : new ≡ counted old (before + length splits)

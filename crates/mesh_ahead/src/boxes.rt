@@ -6,18 +6,13 @@ use mesh_meeting::meeting::any_meeting;
 /// Of so many edges the boxes are looked at. Twice as many would cost twice as much, and tell little more.
 const SAMPLES: usize = 8;
 
-/// Of fewer edges all pairs are found and cut soon, in line or not, and looking would cost more than it saves. Twice as
-/// many would let some hatches take long.
+/// Of fewer edges all pairs are found and cut soon, and looking would cost more than it saves. Twice as many would let some
+/// hatches take long.
 const FEW_EDGES: usize = 256;
 
 /// Boxes serve where each meets so many others at most, and so many more for each edge that is met. Looking at so many costs
 /// what rounds take for a meeting; with twice as many, stars and hatches would take longer than in rounds.
 const BOXES_A_MEETING: usize = 128;
-
-/// Arrays serve where an edge lies in line with so many others at most. Lines do not part what lies in line, and each pair
-/// of it is cut at the other's ends in all paths that have the piece: with twice as many, combs would take longer than in
-/// rounds.
-const MOST_IN_LINE: usize = 4;
 
 /// What one of the edges tells of all.
 #[derive(Copy, Clone)]
@@ -26,8 +21,6 @@ struct Counts {
     boxes: usize,
     /// How many edges meet it.
     meetings: usize,
-    /// How many lie in line with it, level or upright, and share more than a point.
-    in_line: usize,
 }
 
 fn are_apart(a: i32, b: i32, c: i32, d: i32) -> bool {
@@ -38,28 +31,17 @@ fn do_boxes_meet(e: LatticeEdge, f: LatticeEdge) -> bool {
     !are_apart(e.0.0, e.1.0, f.0.0, f.1.0) && !are_apart(e.0.1, e.1.1, f.0.1, f.1.1)
 }
 
-/// Whether both edges are level at one height, or upright at one place.
-fn are_in_line(e: LatticeEdge, f: LatticeEdge) -> bool {
-    let level = e.0.1 == e.1.1 && f.0.1 == f.1.1 && e.0.1 == f.0.1;
-    let upright = e.0.0 == e.1.0 && f.0.0 == f.1.0 && e.0.0 == f.0.0;
-    level || upright
-}
-
-/// How many boxes meet that of an edge, how many edges meet it, and how many of these lie in line with it.
+/// How many boxes meet that of an edge, and how many edges meet it.
 fn count_conflicts(edges: &[LatticeEdge], e: LatticeEdge) -> Counts {
     let mut counts = Counts {
         boxes: 0,
         meetings: 0,
-        in_line: 0,
     };
     for f in edges {
         if do_boxes_meet(e, *f) {
             counts.boxes = counts.boxes.saturating_add(1);
             if any_meeting(e, *f).is_some() {
                 counts.meetings = counts.meetings.saturating_add(1);
-                if are_in_line(e, *f) {
-                    counts.in_line = counts.in_line.saturating_add(1);
-                }
             }
         }
     }
@@ -67,7 +49,7 @@ fn count_conflicts(edges: &[LatticeEdge], e: LatticeEdge) -> Counts {
 }
 
 /// Whether arrays serve: few boxes meet, beside the edges that meet, as they do not where long slanting edges lie side by
-/// side, and few edges lie in line.
+/// side.
 pub fn do_arrays_serve(edges: &[LatticeEdge]) -> bool {
     if edges.len() < FEW_EDGES {
         return true;
@@ -77,9 +59,6 @@ pub fn do_arrays_serve(edges: &[LatticeEdge]) -> bool {
     let mut meetings: usize = 0;
     for sample in 0..SAMPLES {
         let counts = count_conflicts(edges, edges[sample * step]);
-        if counts.in_line > MOST_IN_LINE {
-            return false;
-        }
         boxes = boxes.saturating_add(counts.boxes);
         meetings = meetings.saturating_add(counts.meetings);
     }

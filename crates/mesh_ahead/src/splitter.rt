@@ -12,8 +12,9 @@ ghost use Rattle.mesh_pairs.specs.Pairs.{AreFound};
 ghost use Rattle.mesh_paths.specs.Paths.{ArePaths};
 ghost use Rattle.mesh_attempt.specs.Attempts.{AreCut};
 ghost use Rattle.mesh_clear.specs.AllClear.{AreAllClear};
-ghost use Rattle.mesh_ahead.specs.Ahead.{AreSettled, IsCountedSplitting, IsMadeAmong};
-ghost use Rattle.mesh_ahead.specs.Counting.{CountsSplits};
+ghost use Rattle.mesh_in_line.specs.InLine.{AreCutInLine};
+ghost use Rattle.mesh_ahead.specs.Ahead.{AreSettled, IsCountedSplitting, IsMadeAfter, IsMadeAmong};
+ghost use Rattle.mesh_ahead.specs.Counting.{CountsAfter, CountsSplits};
 
 use crate::boxes::do_arrays_serve;
 use crate::mending::mend;
@@ -21,6 +22,8 @@ use crate::nearness::nearness;
 use crate::segments::counted_segments;
 use mesh_attempt::attempt::{CutEdges, cut_edges};
 use mesh_clear::check::are_all_clear;
+use mesh_in_line::in_line::{CutInLine, cut_in_line};
+use mesh_in_line::samples::are_many_in_line;
 use mesh_lattice::lattice::{CountedSegment, LatticeEdge};
 use mesh_paths::pieces::collect;
 use mesh_split::count::{SplitCount, SplitError};
@@ -94,8 +97,8 @@ fn splits_left(count: SplitCount) -> usize {
     count.most.saturating_sub(count.made) as usize
 }
 
-/// The paths that edges are cut into, and whether their pieces are clear of each other. `None` where an attempt would not
-/// serve. It stops once it has made more than `most_splits` splits.
+/// The paths that edges are cut into, and whether their pieces are clear of each other. `None` where the attempt is given
+/// up. It stops once it has made more than `most_splits` splits.
 fn cut_and_settled(
     alloc: Global,
     edges: &[LatticeEdge],
@@ -105,9 +108,6 @@ fn cut_and_settled(
     ensures cut { IfOk result (λ o. IfSome o (λ c. AreCut edges.now c.0)) }
     ensures clear { IfOk result (λ o. IfSome o (λ c. IsTrue c.1 → AreAllClear c.0.paths)) }
 {
-    if !do_arrays_serve(edges) {
-        return Ok(None);
-    }
     let Some(mut cut) = cut_edges(alloc, edges, MOST_PAIRS, most_splits)? else {
         return Ok(None);
     };
@@ -118,8 +118,18 @@ fn cut_and_settled(
     Ok(Some((cut, clear)))
 }
 
-/// Splits edges in arrays. `None` where that is given up: the edges have to be split another way then.
-fn splitting_in_arrays(
+/// The edges cut at each other's ends where many are level or upright and lie in line. `None` where they stay as they are.
+fn cut_first(alloc: Global, edges: &[LatticeEdge]) -> Result<Option<CutInLine>, AllocError>
+    ensures { IfOk result (λ o. IfSome o (λ c. AreCutInLine edges.now c.edges.items c.splits)) }
+{
+    if !are_many_in_line(edges) {
+        return Ok(None);
+    }
+    cut_in_line(alloc, edges)
+}
+
+/// Splits edges in arrays as they are. `None` where that is given up.
+fn splitting_of(
     alloc: Global,
     edges: &[LatticeEdge],
 ) -> Result<Option<Vec<CountedSegment>>, AllocError>
@@ -136,7 +146,56 @@ fn splitting_in_arrays(
     Ok(Some(segments_of(alloc, edges, &cut)?))
 }
 
-/// The same, with the nearness of the splits, which are counted on.
+/// Splits edges in arrays. `None` where that is given up: the edges have to be split another way then.
+fn splitting_in_arrays(
+    alloc: Global,
+    edges: &[LatticeEdge],
+) -> Result<Option<Vec<CountedSegment>>, AllocError>
+    requires { IsProper edges.now }
+    ensures splitting { IfOk result (λ o. IfSome o (λ v. IsSplitting edges.now v.items)) }
+    ensures room { IfOk result (λ o. IfSome o (λ v. IsRoomy (sum_of size v.items))) }
+{
+    if !do_arrays_serve(edges) {
+        return Ok(None);
+    }
+    let Some(cut) = cut_first(alloc, edges)? else {
+        return splitting_of(alloc, edges);
+    };
+    splitting_of(alloc, &cut.edges)
+}
+
+/// Splits edges in arrays as they are, with the nearness of the splits, which are counted on, and so many made before.
+fn told_after(
+    alloc: Global,
+    edges: &[LatticeEdge],
+    before: usize,
+    count: &mut SplitCount,
+) -> Result<Option<ToldSplitting>, SplitError>
+    requires { IsProper edges.now }
+    ensures made { IfOk result (λ o. IfSome o (λ told.
+        IsMadeAfter before edges.now count.old count.new told.segments.items told.nearness)) }
+    ensures room { IfOk result (λ o. IfSome o (λ told. IsRoomy (sum_of size told.segments.items))) }
+    ensures small { IfOk result (λ o. IfSome o (λ told. told.nearness ≤ 2 ^ 38)) }
+    ensures counted { CountsAfter before edges.now count.old count.new }
+    ensures within { IfOk result (λ o. IfSome o (λ _. IsWithinLimit count.new)) }
+    ensures refused { IfErr result (λ e. IsReason e count.new) }
+{
+    // Read, so that it is known to fit: a return before any split is made counts none.
+    let _made = count.made;
+    let left = splits_left(*count).saturating_sub(before);
+    let Some((cut, clear)) = cut_and_settled(alloc, edges, left)? else {
+        return Ok(None);
+    };
+    count_on(count, before.saturating_add(cut.paths.splits.made().len()))?;
+    if !clear {
+        return Ok(None);
+    }
+    let nearness = nearness(&cut.paths);
+    let segments = segments_of(alloc, edges, &cut)?;
+    Ok(Some(ToldSplitting { segments, nearness }))
+}
+
+/// The same where edges in line are cut first.
 fn told_in_arrays(
     alloc: Global,
     edges: &[LatticeEdge],
@@ -151,19 +210,14 @@ fn told_in_arrays(
     ensures within { IfOk result (λ o. IfSome o (λ _. IsWithinLimit count.new)) }
     ensures refused { IfErr result (λ e. IsReason e count.new) }
 {
-    // Read, so that it is known to fit: a return before any split is made counts none.
     let _made = count.made;
-    let left = splits_left(*count);
-    let Some((cut, clear)) = cut_and_settled(alloc, edges, left)? else {
-        return Ok(None);
-    };
-    count_on(count, cut.paths.splits.made().len())?;
-    if !clear {
+    if !do_arrays_serve(edges) {
         return Ok(None);
     }
-    let nearness = nearness(&cut.paths);
-    let segments = segments_of(alloc, edges, &cut)?;
-    Ok(Some(ToldSplitting { segments, nearness }))
+    let Some(cut) = cut_first(alloc, edges)? else {
+        return told_after(alloc, edges, 0, count);
+    };
+    told_after(alloc, &cut.edges, cut.splits, count)
 }
 
 /// Splits directed edges, none of which ends where it starts, until any two segments share only common ends:

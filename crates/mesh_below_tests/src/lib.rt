@@ -8,6 +8,8 @@ mod calls;
 #[cfg(test)]
 mod counted;
 #[cfg(test)]
+mod edges_in_line;
+#[cfg(test)]
 mod hard_splits;
 #[cfg(test)]
 mod leashed;

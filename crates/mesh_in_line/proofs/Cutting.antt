@@ -23,9 +23,6 @@ elsewhere c p q h k = false_from_ne_true (is_end c (p, q)) (λ t. ⊎_elim h k (
 pub ends_there : (c : Point) (e : Edge) → c ≡ e.1 → is_end c e ≡ true
 ends_there c e h = (decides_end c e).1 (inr h)
 
-pub starts_there : (c : Point) (e : Edge) → c ≡ e.0 → is_end c e ≡ true
-starts_there c e h = (decides_end c e).1 (inl h)
-
 -- an edge that ends at a point is none of those that do not
 pub none_by : (c : Point) (q : Edge) (es : List Edge) → is_end c q ≡ true → Each (EndsElsewhere c) es → occurs q es ≡ false
 none_by c q [] t h = refl

@@ -11,5 +11,3 @@ pub mod laws;
 pub(crate) mod places;
 pub mod samples;
 pub(crate) mod spans;
-#[cfg(test)]
-mod tests;

@@ -45,9 +45,12 @@ fn long_edges(edges: &[LatticeEdge]) -> LongEdges {
     found
 }
 
-/// Whether many edges share more than a point with one of two.
+/// Whether many edges share more than a point with one of two. No edge does with one whose ends are one point.
 fn has_many(edges: &[LatticeEdge], long: LongEdges) -> bool {
     let LongEdges { level, upright } = long;
+    if level.0.0 == level.1.0 && upright.0.1 == upright.1.1 {
+        return false;
+    }
     let (west, east) = (level.0.0.min(level.1.0), level.0.0.max(level.1.0));
     let (south, north) = (upright.0.1.min(upright.1.1), upright.0.1.max(upright.1.1));
     let mut levels: usize = 0;

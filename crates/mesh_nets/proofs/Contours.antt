@@ -1,5 +1,5 @@
 -- Lemmas over lists: what the first points of contours tell of two nets.
-use Rattle.std.proofs.Common.{◌≡◌, ℕ, ◌*◌, ◌<◌, ◌≤◌, ◌⊎◌, inl, inr, ⊎_elim, refl, sym, ◌∙◌, ap, subst, arith, List, [], ◌∷◌, length, get_or, zero, suc}
+use Rattle.std.proofs.Common.{◌≡◌, ℕ, ◌*◌, ◌<◌, ◌≤◌, inl, inr, ⊎_elim, refl, sym, ◌∙◌, subst, arith, List, [], ◌∷◌, get_or, zero, suc}
 use Rattle.std.specs.Prelude.{pos, true}
 use Rattle.std.specs.List.{All, flat_map}
 use Rattle.std.proofs.Math.Nat.{mul-le-mul_right}
@@ -11,7 +11,7 @@ use Rattle.mesh_clearance.specs.Clearance.{AreAllApart, AreApart, IsClearance, I
 use Rattle.mesh_clearance.proofs.Searching.{all_wind, balanced_all}
 use Rattle.mesh_clearance.proofs.Symmetries.{apart_swapped}
 use Rattle.mesh_clearance.proofs.Ways.{no_distance}
-use Rattle.mesh_nets.specs.Nets.{AreNetsApart, IsNetSeparation, IsPointOf}
+use Rattle.mesh_nets.specs.Nets.{AreNetsApart, IsNetSeparation}
 use Rattle.mesh_nets.specs.Private.Outlines.{IsStartOutside}
 use Rattle.mesh_nets.proofs.Among.{Among, all_among, among_append, among_index, among_left, among_right, listed_among}
 use Rattle.mesh_nets.proofs.Between.{one_refined, start_on}
@@ -118,24 +118,7 @@ separation_round first fs h = record {
 
 -- ---- nets without points
 
-no_points : (m : ℕ) (es : List Edge) (p : Point) → es ≡ [] → IsPointOf m es p → ⊥
-no_points m es p none (inl h) =
-    let low = h.listed.1 in
-    let empty : length es ≡ 0 = ap length none in
-    omega (arith, low, empty)
-no_points m es p none (inr h) = h (ap (winding m p) none)
-
-pub empty_apart : (t : ℕ) (es fs : List Edge) → (es ≡ []) ⊎ (fs ≡ []) → AreNetsApart t es fs
-empty_apart t es fs (inl none) m p q first second = absurd (no_points m es p none first)
-empty_apart t es fs (inr none) m p q first second = absurd (no_points m fs q none second)
-
 -- ---- the first point of a contour
-
-pub start_none : (es : List Edge) (contour : List Point) → contour ≡ [] → IsStartOutside es contour
-start_none es contour none = subst (IsStartOutside es) (sym none) tt
-
-pub start_outside : (es : List Edge) (contour : List Point) (p : Point) (ps : List Point) → contour ≡ p ∷ ps → winding 1 p es ≡ pos 0 → IsStartOutside es contour
-start_outside es contour p ps is out = subst (IsStartOutside es) (sym is) out
 
 pub start_of : (es : List Edge) (contour : List Point) (p : Point) (ps : List Point) → contour ≡ p ∷ ps → IsStartOutside es contour → winding 1 p es ≡ pos 0
 start_of es contour p ps is h = subst (IsStartOutside es) is h

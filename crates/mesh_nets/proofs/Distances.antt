@@ -8,7 +8,6 @@ use Rattle.mesh_plane.proofs.Whole.{linear}
 use Rattle.mesh_lattice.specs.Clean.{IsOn, refined_edge}
 use Rattle.mesh_lattice.specs.Split.{IsBetween}
 use Rattle.mesh_clearance.specs.Clearance.{IsNearer}
-use Rattle.mesh_clearance.proofs.Symmetries.{apart_swapped}
 use Rattle.mesh_clearance.proofs.Ways.{HasNear, near_way}
 use Rattle.mesh_nets.specs.Nets.{AreNetsApart, IsPointOf}
 use Rattle.mesh_nets.proofs.Among.{among_listed}
@@ -36,16 +35,6 @@ none_or_some w =
     (λ (h : w ≤ℤ pos 0).
     by_lt_z w (pos 0) (λ (k : w <ℤ pos 0). inr (λ (e : w ≡ pos 0). omega (arith, linear, k, e)))
     (λ (k : pos 0 ≤ℤ w). inl (omega (arith, linear, h, k))))
-
-pub parted_swapped : (t : ℕ) (es fs : List Edge) → AreParted t es fs → AreParted t fs es
-parted_swapped t es fs h = record {
-  positive = h.positive;
-  first_balanced = h.second_balanced;
-  second_balanced = h.first_balanced;
-  apart = λ f e first second. apart_swapped t e f (h.apart e f second first);
-  first_outside = h.second_outside;
-  second_outside = h.first_outside;
-}
 
 pub nets_swapped : (t : ℕ) (es fs : List Edge) → AreNetsApart t es fs → AreNetsApart t fs es
 nets_swapped t es fs h m p q first second = let l = h m q p second first in omega (arith, l, length_back p q)

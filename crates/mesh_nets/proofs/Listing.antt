@@ -1,7 +1,7 @@
 -- Lemmas over lists: pairs of nets are decided one after another, in lexicographic order.
 use Rattle.std.proofs.Common.{◌≡◌, ℕ, ◌+◌, ◌<◌, ◌≤◌, ◌⊎◌, inl, inr, ⊎_elim, refl, sym, subst, arith, List, [], ◌∷◌, ◌++◌, length, get_or}
 use Rattle.std.specs.List.{Contains}
-use Rattle.std.proofs.lemmas.List.Elements.{All-nil, All-push, All-weaker, Contains-append_left, Contains-push}
+use Rattle.std.proofs.lemmas.List.Elements.{All-push, All-weaker, Contains-append_left, Contains-push}
 use Rattle.std.proofs.lemmas.List.Quantifiers.{all_pairs_push}
 use Rattle.mesh_plane.specs.Plane.{Point, Edge}
 use Rattle.mesh_nets.specs.declared.nets.NetClearance.{NetClearance}
@@ -14,17 +14,6 @@ Nets = List (List (List (List Point)))
 -- the pair (k, l) is listed, or its nets are apart
 abbrev pub IsDecided : Nets → ℕ → List NetClearance → ℕ → ℕ → Type 0
 IsDecided nets t found k l = IsListed found k l ⊎ AreNetsApart t (edges_of (get_or nets k [])) (edges_of (get_or nets l []))
-
-pub none_decided : (nets : Nets) (t : ℕ) (found : List NetClearance) → found ≡ [] → AreClearancesBefore nets t 0 1 found
-none_decided nets t found empty = subst (λ (list : List NetClearance). AreClearancesBefore nets t 0 1 list) (sym empty) none
-  where
-    none : AreClearancesBefore nets t 0 1 []
-    none = record {
-      each = All-nil (IsNetClearance nets t);
-      before = All-nil (λ (c : NetClearance). IsPairBefore c.first c.second 0 1);
-      ordered = λ i j d low high. absurd (omega arith);
-      others = λ k l order within before. ⊎_elim (λ (h : k < 0). absurd (omega (arith, h))) (λ (h : (k ≡ 0) × (l < 1)). absurd (omega (arith, h.0, h.1, order))) before;
-    }
 
 next_before : (k l i j : ℕ) → IsPairBefore k l i j → IsPairBefore k l i (j + 1)
 next_before k l i j (inl h) = inl h
@@ -114,8 +103,3 @@ all_decided nets t i j found past h = record {
   ordered = h.ordered;
   others = λ k l order within. h.others k l order within (inl (omega (arith, order, within, past)));
 }
-
-pub row_next : (nets : Nets) (t i : ℕ) (found : List NetClearance) → AreClearancesBefore nets t (i + 1) (i + 2) found → AreClearancesBefore nets t (i + 1) (i + 1 + 1) found
-row_next nets t i found h =
-    let same : i + 2 ≡ i + 1 + 1 = omega arith in
-    subst (λ (n : ℕ). AreClearancesBefore nets t (i + 1) n found) same h

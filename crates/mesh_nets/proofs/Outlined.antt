@@ -8,7 +8,6 @@ use Rattle.std.proofs.Math.ListN.{get_or-append}
 use Rattle.std.proofs.Math.Nat.{eq-or-lt_of_le}
 use Rattle.std.proofs.Math.Seq.{get_or-append_seam}
 use Rattle.mesh_plane.specs.Plane.{Point}
-use Rattle.mesh_plane.specs.Winding.{boundary}
 use Rattle.mesh_num.specs.FlatContours.{HoldsContours, flat_contours, points_at}
 use Rattle.mesh_num.specs.Paths.{contours_of, shapes_of}
 use Rattle.mesh_num.specs.declared.shape.buffer.FlatContoursBuffer.{FlatContoursBuffer}
@@ -63,21 +62,6 @@ pub outline_at : {I W U : Type 0} (nets : List (List (List (List Point)))) (n i 
 outline_at nets n i outlines outline h low is =
     let count = h.count in
     subst (IsOutline (contours_of (get_or nets i []))) (sym is) (h.own i outline (omega (arith, count, low)))
-
--- it is one of what its buffer holds
-pub outline_itself : {I W U : Type 0} (contours : List (List Point)) (outline : Outline I W U) → IsOutline contours outline → IsOutline (flat_contours outline.contours) outline
-outline_itself contours outline h = record {
-  same = refl;
-  edges = h.edges ∙ ap (flat_map boundary) (sym h.same);
-  boxed = h.boxed;
-}
-
-pub outline_of_net : {I W U : Type 0} (nets : List (Vec (Vec (Vec Point Global) Global) Global)) (i : ℕ) (net : Vec (Vec (Vec Point Global) Global) Global) (outlines : List (Outline I W U))
-    (outline : Outline I W U) → AreOutlines (nets_in nets) (length nets) outlines → i < length nets → net ≡ get_or nets i net → outline ≡ get_or outlines i outline →
-    IsOutline (contours_of (shapes_of net.items)) outline
-outline_of_net nets i net outlines outline h low is_net is =
-    subst (λ (n : List (List (List Point))). IsOutline (contours_of n) outline) (net_at nets i net low is_net)
-    (outline_at (nets_in nets) (length nets) i outlines outline h low is)
 
 pub nets_count : (nets : List (Vec (Vec (Vec Point Global) Global) Global)) → length (nets_in nets) ≡ length nets
 nets_count nets = length-map nets (λ net. shapes_of net.items)

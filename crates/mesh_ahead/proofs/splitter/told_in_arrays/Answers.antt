@@ -1,35 +1,36 @@
-use Rattle.std.proofs.Common.{rules, refl}
-use Rattle.mesh_split.proofs.Counts.{counts_none}
-use Rattle.mesh_ahead.proofs.Attempts.{made_counted, made_of}
+use Rattle.std.proofs.Common.{rules, refl, subst}
+use Rattle.mesh_split.proofs.Pairs.{if_ok}
+use Rattle.mesh_ahead.specs.Ahead.{IsMadeAfter}
+use Rattle.mesh_ahead.specs.Counting.{CountsAfter}
+use Rattle.mesh_ahead.proofs.InLine.{counts_from, cut_proper, if_some, made_from, uncut}
 use Rattle.mesh_ahead.proofs.splitter.told_in_arrays.Goals as goal
 
-pub returns-in_err-cut-clause-counted : goal.returns-in_err-cut-clause-counted
-returns-in_err-cut-clause-counted c = counts_none 1 c.args.edges.now c.args.count.now (search rules)
+pub returns-in_default-clause-made : goal.returns-in_default-clause-made
+returns-in_default-clause-made c =
+    if_ok c.told_after.result _ _
+    (if_some _ _
+    (λ told k.
+    made_from c.args.edges.now c.args.edges.now 0 c.args.count.now c.told_after.new.count told.segments.items told.nearness c.requires (uncut c.args.edges.now) k))
+    c.told_after.ensures.made
 
 pub returns-in_default-clause-counted : goal.returns-in_default-clause-counted
-returns-in_default-clause-counted c = counts_none 1 c.args.edges.now c.args.count.now (search rules)
+returns-in_default-clause-counted c =
+    counts_from c.args.edges.now c.args.edges.now 0 c.args.count.now c.told_after.new.count (search rules) (uncut c.args.edges.now) c.told_after.ensures.counted
 
-pub returns-in_err-count_on-clause-counted : goal.returns-in_err-count_on-clause-counted
-returns-in_err-count_on-clause-counted c =
-    (made_counted c.args.edges.now c.in-Some.cut c.made.result.now _ c.args.count.now c.count_on.new.count (search rules) c.made.ensures refl c.count_on.ensures.sum).counts
-
-pub returns-then-not-clear-clause-counted : goal.returns-then-not-clear-clause-counted
-returns-then-not-clear-clause-counted c =
-    (made_counted c.args.edges.now c.in-Some.cut c.made.result.now _ c.args.count.now c.count_on.new.count (search rules) c.made.ensures refl c.count_on.ensures.sum).counts
-
-pub returns-in_err-segments-clause-counted : goal.returns-in_err-segments-clause-counted
-returns-in_err-segments-clause-counted c =
-    (made_counted c.args.edges.now c.in-Some.cut c.made.result.now _ c.args.count.now c.count_on.new.count (search rules) c.made.ensures refl c.count_on.ensures.sum).counts
-
-pub returns-clause-counted : goal.returns-clause-counted
-returns-clause-counted c =
-    (made_counted c.args.edges.now c.in-Some.cut c.made.result.now _ c.args.count.now c.count_on.new.count (search rules) c.made.ensures refl c.count_on.ensures.sum).counts
+pub told_after-requires-2 : goal.told_after-requires-2
+told_after-requires-2 c =
+    rw c.deref.ensures.value (cut_proper c.args.edges.now c.in-Some.cut.edges.items c.in-Some.cut.splits c.requires (rw c.in-Some.is at c.in_ok-cut.ensures))
 
 pub returns-clause-made : goal.returns-clause-made
 returns-clause-made c =
-    made_of c.args.edges.now c.in-Some.cut c.args.count.now c.count_on.new.count c.in_ok-segments.segments.items c.nearness-nearness.result c.requires (search rules)
-    c.in_ok-segments.ensures.settled c.nearness-nearness.ensures.near
-    (made_counted c.args.edges.now c.in-Some.cut c.made.result.now _ c.args.count.now c.count_on.new.count (search rules) c.made.ensures refl c.count_on.ensures.sum)
+    if_ok c.told_after-2.result _ _
+    (if_some _ _
+    (λ told k.
+    made_from c.args.edges.now c.in-Some.cut.edges.items c.in-Some.cut.splits c.args.count.now c.told_after-2.new.count told.segments.items told.nearness c.requires (rw c.in-Some.is at c.in_ok-cut.ensures)
+    (subst (λ es. IsMadeAfter c.in-Some.cut.splits es c.args.count.now c.told_after-2.new.count told.segments.items told.nearness) c.deref.ensures.value k)))
+    c.told_after-2.ensures.made
 
-pub segments_of-requires-clause-clear : goal.segments_of-requires-clause-clear
-segments_of-requires-clause-clear c = (rw c.in-Some.is at c.in_ok-cut.ensures.clear) c.if-not-clear.false
+pub returns-clause-counted : goal.returns-clause-counted
+returns-clause-counted c =
+    counts_from c.args.edges.now c.in-Some.cut.edges.items c.in-Some.cut.splits c.args.count.now c.told_after-2.new.count (search rules) (rw c.in-Some.is at c.in_ok-cut.ensures)
+    (subst (λ es. CountsAfter c.in-Some.cut.splits es c.args.count.now c.told_after-2.new.count) c.deref.ensures.value c.told_after-2.ensures.counted)

@@ -1,7 +1,7 @@
-//! Worked lists of edges, and what they become. Expected values are by hand.
+//! Level and upright edges cut at each other's ends: worked lists, and what they become. Expected values are by hand.
 
-use crate::in_line::cut_in_line;
-use crate::samples::are_many_in_line;
+use mesh_in_line::in_line::cut_in_line;
+use mesh_in_line::samples::are_many_in_line;
 use mesh_lattice::lattice::LatticeEdge;
 use std::test::Fail;
 
