@@ -1,22 +1,14 @@
 -- Lemmas over lists: attempts in arrays, and their splits, which are counted on.
-use Rattle.std.proofs.Common.{◌≡◌, ℕ, List, length, reverse, sym, ◌∙◌, ap, arith}
+use Rattle.std.proofs.Common.{◌≡◌, ℕ, List, length, reverse, ◌∙◌, arith}
 use Rattle.std.proofs.lemmas.List.{length-map, length-reverse}
 use Rattle.mesh_plane.specs.Plane.{Point, Edge}
-use Rattle.mesh_lattice.specs.Clean.{IsProper}
 use Rattle.mesh_lattice.specs.Counted.{Counted}
-use Rattle.mesh_lattice.specs.Nearness.{IsNearness}
-use Rattle.mesh_split.specs.Counting.{counted, CountsAmong, CountsAtMost}
+use Rattle.mesh_split.specs.Counting.{CountsAtMost}
 use Rattle.mesh_split.specs.declared.count.SplitCount.{SplitCount}
 use Rattle.mesh_split.specs.Told.{IsCountedSplitting}
-use Rattle.mesh_split.proofs.Counts.{counts_one, counts_with, with_fewer}
+use Rattle.mesh_split.proofs.Counts.{counts_with, with_fewer}
 use Rattle.mesh_paths.specs.Made.{latest_first}
-use Rattle.mesh_paths.specs.Paths.{given_to}
-use Rattle.mesh_attempt.specs.Attempts.{AreCut}
-use Rattle.mesh_attempt.specs.declared.attempt.CutEdges.{CutEdges}
-use Rattle.mesh_ahead.specs.Ahead.{AreSettled, IsMadeAmong}
-use Rattle.mesh_paths.proofs.Merged.{legal_alike}
-use Rattle.mesh_ahead.proofs.Alike.{merged_alike, nearness_alike}
-use Rattle.mesh_ahead.proofs.ClearPaths.{made_by}
+use Rattle.mesh_ahead.specs.Ahead.{IsMadeAmong}
 
 pub splits_many : (made : List (Edge × Point)) → length (latest_first made) ≡ length made
 splits_many made = length-map (reverse made) _ ∙ length-reverse made

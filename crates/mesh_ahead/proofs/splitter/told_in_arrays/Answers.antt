@@ -1,4 +1,4 @@
-use Rattle.std.proofs.Common.{rules, refl, subst}
+use Rattle.std.proofs.Common.{rules, subst}
 use Rattle.mesh_split.proofs.Pairs.{if_ok}
 use Rattle.mesh_ahead.specs.Ahead.{IsMadeAfter}
 use Rattle.mesh_ahead.specs.Counting.{CountsAfter}
