@@ -32,6 +32,10 @@ use mesh_shapes::trace::{contours, edges_by_start};
 use mesh_split::count::{SplitCount, SplitError};
 use std::alloc::{AllocError, Global};
 
+/// How many segments are added at least where two contours cross: they do so twice, and each crossing cuts both. With half as
+/// many, parts that lie apart would be taken for one, and with twice as many a chain of squares for parts that lie apart.
+const SEGMENTS_OF_CROSSING: usize = 4;
+
 /// What an answer depends on besides the edges: the least area, whether straight-through vertices stay, and the
 /// direction.
 #[derive(Debug, Copy, Clone)]
@@ -189,8 +193,9 @@ pub fn resolve_with_nearness(
     })
 }
 
-/// About how many contours edges come of: how often one does not start where that before it ends.
-fn parts_of(edges: &[LatticeEdge]) -> usize {
+/// About how many parts the segments make that edges were split into, each of which hangs together: as many as there are
+/// contours, less one for each two that cross. A contour begins where an edge does not start where that before it ends.
+fn parts_of(edges: &[LatticeEdge], segments: usize) -> usize {
     let mut parts: usize = 1;
     let mut at = None;
     for e in edges {
@@ -199,7 +204,8 @@ fn parts_of(edges: &[LatticeEdge]) -> usize {
         }
         at = Some(e.1);
     }
-    parts
+    let met = segments.saturating_sub(edges.len()) / SEGMENTS_OF_CROSSING;
+    parts.saturating_sub(met)
 }
 
 /// The shapes of what the segments fill that balanced edges were split into.
@@ -224,7 +230,7 @@ fn shapes_of_segments(
     ensures own_boundary { IfOk result (λ v. v.is_own_boundary ≡ true
         → AreOwnBoundary (flat_map boundary (contours_of (shapes_points v.shapes.items)))) }
 {
-    let parted = find_boundary(alloc, segments, parts_of(edges), fill)?;
+    let parted = find_boundary(alloc, segments, parts_of(edges, segments.len()), fill)?;
     let ordered = edges_by_start(parted);
     let closed = contours(alloc, &ordered)?;
     let (rings, told) = rings_of(alloc, closed, choices, &ordered)?;
