@@ -1,0 +1,10 @@
+pub mod Beside
+pub mod Corners
+pub mod Fans
+pub mod Generic
+pub mod Held
+pub mod Inside
+pub mod Leans
+pub mod Places
+pub mod Sections
+pub mod Strokes

@@ -1,0 +1,186 @@
+-- Lemmas over points and lists: strokes hold what is as near to their paths as they reach.
+use Rattle.std.proofs.Common.{◌≡◌, ◌≢◌, ℕ, ◌+◌, ◌*◌, ◌<◌, ◌≤◌, List, [], ◌∷◌, ◌++◌, Bool, true, false, cond, refl, sym, ◌∙◌, ap, subst, arith}
+use Rattle.std.specs.Prelude.{ℤ, pos, ◌*ℤ◌, ◌≤ℤ◌, ◌<ℤ◌, unsigned_abs, map, IsTrue, int_le}
+use Rattle.std.specs.List.{All, Contains, flat_map, list_any}
+use Rattle.std.proofs.lemmas.Bool.{true≢false}
+use Rattle.std.proofs.lemmas.Int.{ints}
+use Rattle.std.proofs.lemmas.List.Folds.{list_any_at}
+use Rattle.std.proofs.lemmas.List.Elements.{All-nil, All-cons, All-weaker, All-head, All-tail, All-contains}
+use Rattle.mesh_plane.specs.Plane.{Point, Edge, plus, minus, dot, turn, right_quarter}
+use Rattle.mesh_plane.specs.Winding.{refined, holds}
+use Rattle.mesh_plane.specs.Turning.{last_of}
+use Rattle.mesh_plane.proofs.ClosedLists.{all_left, all_right, all_mapped}
+use Rattle.mesh_plane.proofs.Whole.{linear, times_zero, zero_mul}
+use Rattle.mesh_lattice.specs.Counted.{bit}
+use Rattle.mesh_lattice.specs.Split.{back}
+use Rattle.mesh_join.specs.Styles.{JoinStyle}
+use Rattle.mesh_join.specs.declared.style.StrokeSide.{StrokeSide}
+use Rattle.mesh_join.specs.declared.style.StrokeSide.TheVariants.{Both}
+use Rattle.mesh_reach.specs.Reach.{IsReached}
+use Rattle.mesh_reach.proofs.Within.{nested}
+use Rattle.mesh_stroke.specs.Caps.{CapKind}
+use Rattle.mesh_stroke.specs.Paths.{neighbours, path_edges}
+use Rattle.mesh_stroke.specs.Regions.{all_pieces}
+use Rattle.mesh_stroke.specs.Strokes.{stroke_pieces, EdgePair, facing, outer_edges, section_piece, corner_pieces, cap_at, end_pieces, drawn_pieces}
+use Rattle.mesh_stroke.specs.Styles.{StrokeStyle}
+use Rattle.mesh_stroke.proofs.Chains.{IsChain, path_chain}
+use Rattle.mesh_inner.specs.Inner.{step, IsSectionWide, HasInnerReach, HaveEndsRoom, IsHeldByOne, StrokesHoldWhatIsNear, StrokeAnswersHoldWhatIsNear}
+use Rattle.mesh_inner.specs.Room.{FansHaveRoom}
+use Rattle.mesh_inner.proofs.Corners.{AreBeside, ahead}
+use Rattle.mesh_inner.proofs.Fans.{HoldsOnce, side_right, turn_by_side}
+use Rattle.mesh_inner.proofs.Generic.{IsFreed, freed}
+use Rattle.mesh_inner.proofs.Held.{IsFree, both_pieces, near_section, wide_section}
+use Rattle.mesh_inner.proofs.Inside.{held_once}
+use Rattle.mesh_inner.proofs.Places.{in_flat_map}
+
+-- ---- the ways from a path that a point must not lie on
+
+-- from a corner to the starts of edges
+abbrev spokes : Point → List Edge → List Edge
+spokes v es = map (λ (e : Edge). (v, e.0)) es
+
+-- from the ends of a section to its right
+abbrev crossways : ℕ → ℤ → Edge → List Edge
+crossways unit radius e =
+    (e.0, plus e.0 (right_quarter (step unit radius e))) ∷ (e.1, plus e.1 (right_quarter (step unit radius e))) ∷ []
+
+abbrev ways : ℕ → ℤ → JoinStyle → CapKind → CapKind → Bool → Edge → List Edge → List Edge
+ways unit radius join start end closed e es =
+    flat_map (crossways unit radius) (e ∷ es)
+    ++ (flat_map (λ (c : EdgePair). spokes (facing c).0.1 (outer_edges unit radius join (facing c))) (neighbours closed (e ∷ es))
+    ++ (spokes e.0 (cap_at unit radius start (back e)) ++ spokes (last_of e es).1 (cap_at unit radius end (last_of e es))))
+
+-- a point does not lie on the line of an edge
+abbrev IsOff : ℕ → Point → Edge → Type 0
+IsOff m q f = f.0 ≢ f.1 → turn (refined m f.0) (refined m f.1) q ≢ pos 0
+
+moved_apart : (p s v : Point) → pos 0 <ℤ dot s v → p ≢ plus p (right_quarter s)
+moved_apart p s v along same =
+    let x : s.1 ≡ pos 0 = omega (arith, ints, ap (λ (z : Point). z.0) same) in
+    let y : s.0 ≡ pos 0 = omega (arith, ints, ap (λ (z : Point). z.1) same) in
+    omega (arith, linear, along, ap (λ (z : ℤ). z *ℤ v.0) y ∙ zero_mul v.0, ap (λ (z : ℤ). z *ℤ v.1) x ∙ zero_mul v.1)
+
+off_ahead : (unit : ℕ) (radius : ℤ) (m : ℕ) (q : Point) (e : Edge) (p v : Point) → pos 0 <ℤ dot (step unit radius e) v
+    → IsOff m q (p, plus p (right_quarter (step unit radius e))) → ahead unit radius m q e p ≢ pos 0
+off_ahead unit radius m q e p v along off none =
+    let s = step unit radius e in
+    off (moved_apart p s v along)
+    (turn_by_side m p q (plus p (right_quarter s)) ∙ times_zero (pos m) _ (side_right m p q s ∙ none))
+
+module _ (unit : ℕ) (some : 0 < unit) (radius : ℤ) (sign : pos 0 ≤ℤ radius) (small : 4 * unsigned_abs radius ≤ unit) (join : JoinStyle) (start end : CapKind)
+    (closed : Bool) (first : Edge) (rest : List Edge) (chain : IsChain closed (first ∷ rest)) (t : ℕ) (positive : 0 < t) (m : ℕ) (q : Point)
+    (sections : All (IsSectionWide unit radius t) (first ∷ rest)) where
+  free_of : All (IsOff m q) (ways unit radius join start end closed first rest) → IsFree unit radius join start end closed m q first rest
+  free_of off = record {
+    sides = sides_at (first ∷ rest) chain.proper sections (nested (IsOff m q) (crossways unit radius) (first ∷ rest) (all_left (IsOff m q) across others off));
+    joins =
+        All-weaker (λ (c : EdgePair). All (IsOff m q) (spokes (facing c).0.1 (outer_edges unit radius join (facing c))))
+        (λ (c : EdgePair). AreBeside m q (facing c).0.1 (outer_edges unit radius join (facing c)))
+        (λ c h. all_mapped (IsOff m q) (λ (e : Edge). ((facing c).0.1, e.0)) (outer_edges unit radius join (facing c)) h) (neighbours closed (first ∷ rest))
+        (nested (IsOff m q) (λ (c : EdgePair). spokes (facing c).0.1 (outer_edges unit radius join (facing c))) (neighbours closed (first ∷ rest))
+        (all_left (IsOff m q) at_joins at_caps (all_right (IsOff m q) across others off)));
+    at_start =
+        all_mapped (IsOff m q) (λ (e : Edge). (first.0, e.0)) (cap_at unit radius start (back first))
+        (all_left (IsOff m q) at_first at_last (all_right (IsOff m q) at_joins at_caps (all_right (IsOff m q) across others off)));
+    at_end =
+        all_mapped (IsOff m q) (λ (e : Edge). ((last_of first rest).1, e.0)) (cap_at unit radius end (last_of first rest))
+        (all_right (IsOff m q) at_first at_last (all_right (IsOff m q) at_joins at_caps (all_right (IsOff m q) across others off)));
+  }
+    where
+      across : List Edge
+      across = flat_map (crossways unit radius) (first ∷ rest)
+
+      at_joins : List Edge
+      at_joins = flat_map (λ (c : EdgePair). spokes (facing c).0.1 (outer_edges unit radius join (facing c))) (neighbours closed (first ∷ rest))
+
+      at_first : List Edge
+      at_first = spokes first.0 (cap_at unit radius start (back first))
+
+      at_last : List Edge
+      at_last = spokes (last_of first rest).1 (cap_at unit radius end (last_of first rest))
+
+      at_caps : List Edge
+      at_caps = at_first ++ at_last
+
+      others : List Edge
+      others = at_joins ++ at_caps
+
+      Sides : Edge → Type 0
+      Sides f = (ahead unit radius m q f f.0 ≢ pos 0) × (ahead unit radius m q f f.1 ≢ pos 0)
+
+      sides_at : (es : List Edge) → All (λ (e : Edge). e.0 ≢ e.1) es → All (IsSectionWide unit radius t) es
+          → All (λ (e : Edge). All (IsOff m q) (crossways unit radius e)) es → All Sides es
+      sides_at [] p w h = All-nil Sides
+      sides_at (e ∷ es) p w h =
+          let wide = wide_section unit some radius sign small t positive e (All-head (λ (f : Edge). f.0 ≢ f.1) e es p) (All-head (IsSectionWide unit radius t) e es w) in
+          let own = All-head (λ (f : Edge). All (IsOff m q) (crossways unit radius f)) e es h in
+          let a : Edge = (e.0, plus e.0 (right_quarter (step unit radius e))) in
+          let b : Edge = (e.1, plus e.1 (right_quarter (step unit radius e))) in
+          All-cons Sides e es (
+            off_ahead unit radius m q e e.0 (minus e.1 e.0) wide.ahead (All-head (IsOff m q) a (b ∷ []) own),
+            off_ahead unit radius m q e e.1 (minus e.1 e.0) wide.ahead (All-head (IsOff m q) b [] (All-tail (IsOff m q) a (b ∷ []) own)),
+          )
+          (sides_at es (All-tail (λ (f : Edge). f.0 ≢ f.1) e es p) (All-tail (IsSectionWide unit radius t) e es w) (All-tail (λ (f : Edge). All (IsOff m q) (crossways unit radius f)) e es h))
+
+-- ---- together
+
+drawn_hold : (unit : ℕ) (style : StrokeStyle) (closed : Bool) (t : ℕ) (es : List Edge) → IsChain closed es → 0 < unit → pos 1 <ℤ style.radius → 4 * unsigned_abs style.radius ≤ unit → style.side ≡ Both
+    → HasInnerReach unit style closed t es → (b m : ℕ) (e : Edge) (q : Point) → b + 2 < t → 0 < m → Contains es e → IsReached b m e q → IsHeldByOne m q (drawn_pieces unit style closed es)
+unfolding drawn_pieces HaveEndsRoom
+drawn_hold unit style closed t [] chain some wide small both reach b m e q room fine listed near = absurd (omega (arith, listed.1))
+drawn_hold unit style closed t (first ∷ rest) chain some wide small both reach b m e q room fine listed near =
+    subst (λ (side : StrokeSide). IsHeldByOne m q
+    (map (section_piece unit style.radius side) (first ∷ rest)
+    ++ (flat_map (corner_pieces unit style.radius side style.join) (neighbours closed (first ∷ rest))
+    ++ end_pieces unit style.radius side style.start style.end closed first (last_of first rest)))) (sym both)
+    (kept (freed b t m near.grid e q near.nearest pieces (ways unit style.radius style.join style.start style.end closed first rest) room fine near.some near.on_edge near.reached))
+  where
+    pieces : List (List Point)
+    pieces = both_pieces unit style.radius style.join style.start style.end closed first rest
+
+    positive : 0 < t
+    positive = omega (arith, room)
+
+    sign : pos 0 ≤ℤ style.radius
+    sign = omega (arith, ints, wide)
+
+    start_room : (c : Bool) → HaveEndsRoom unit style c t (first ∷ rest) → c ≡ false → FansHaveRoom t first.0 (cap_at unit style.radius style.start (back first))
+    start_room false h e = h.0
+    start_room true h e = absurd (true≢false e)
+
+    end_room : (c : Bool) → HaveEndsRoom unit style c t (first ∷ rest) → c ≡ false → FansHaveRoom t (last_of first rest).1 (cap_at unit style.radius style.end (last_of first rest))
+    end_room false h e = h.1
+    end_room true h e = absurd (true≢false e)
+
+    kept : IsFreed t m e q pieces (ways unit style.radius style.join style.start style.end closed first rest) → IsHeldByOne m q pieces
+    kept f =
+        let h : HoldsOnce f.grid f.point pieces =
+        near_section unit some style.radius sign small style.join style.start style.end closed first rest chain t positive f.grid f.some f.point reach.sections reach.joins
+        (start_room closed reach.ends) (end_room closed reach.ends)
+        (free_of unit some style.radius sign small style.join style.start style.end closed first rest chain t positive f.grid f.point reach.sections f.turns) e f.nearest listed f.on_edge f.near in
+        record {
+          piece = h.piece;
+          listed = h.listed;
+          held =
+              subst IsTrue (All-contains (λ (piece : List Point). holds f.grid f.point piece ≡ holds m q piece) pieces h.piece f.held h.listed)
+              (held_once f.grid f.point h.piece h.once);
+        }
+
+pub strokes_hold : StrokesHoldWhatIsNear
+strokes_hold unit style closed t points some wide small both reach b m e q room fine listed near =
+    by (int_le style.radius (pos 1)) refl
+  where
+    by : (c : Bool) → int_le style.radius (pos 1) ≡ c → IsHeldByOne m q (cond c [] (drawn_pieces unit style closed (path_edges closed points)))
+    by true h = absurd (omega (arith, ints, h, wide))
+    by false h = drawn_hold unit style closed t (path_edges closed points) (path_chain closed points) some wide small both reach b m e q room fine listed near
+
+-- so do answers
+pub stroke_answers_hold : StrokeAnswersHoldWhatIsNear
+stroke_answers_hold k unit style closed choices paths answer made some wide small both stock no_area way t path among_paths reach b m e q room fine listed near far =
+    let h : IsHeldByOne m q (stroke_pieces unit style closed path) =
+    strokes_hold unit style closed t path some wide small both reach b m e q room fine listed near in
+    let at : Contains (all_pieces unit style closed paths) h.piece =
+    in_flat_map (stroke_pieces unit style closed) paths path h.piece among_paths h.listed in
+    let any : list_any (holds m q) (all_pieces unit style closed paths) ≡ true =
+    list_any_at (holds m q) (all_pieces unit style closed paths) at.0 h.piece at.1 (subst (λ (piece : List Point). holds m q piece ≡ true) (sym at.2) h.held) in
+    made.held stock no_area way m fine q far ∙ ap bit any
