@@ -6,5 +6,6 @@ pub mod Held
 pub mod Inside
 pub mod Leans
 pub mod Places
+pub mod Proper
 pub mod Sections
 pub mod Strokes

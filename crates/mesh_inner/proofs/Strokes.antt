@@ -32,6 +32,7 @@ use Rattle.mesh_inner.proofs.Generic.{IsFreed, freed}
 use Rattle.mesh_inner.proofs.Held.{IsFree, both_pieces, near_section, wide_section}
 use Rattle.mesh_inner.proofs.Inside.{held_once}
 use Rattle.mesh_inner.proofs.Places.{in_flat_map}
+use Rattle.mesh_inner.proofs.Proper.{last_in, joins_room, end_cap_room, start_cap_room}
 
 -- ---- the ways from a path that a point must not lie on
 
@@ -145,17 +146,24 @@ drawn_hold unit style closed t (first ∷ rest) chain some wide small both reach
     sign = omega (arith, ints, wide)
 
     start_room : (c : Bool) → HaveEndsRoom unit style c t (first ∷ rest) → c ≡ false → FansHaveRoom t first.0 (cap_at unit style.radius style.start (back first))
-    start_room false h e = h.0
+    start_room false h e =
+        start_cap_room unit some style.radius t style.start first (All-head (λ (f : Edge). f.0 ≢ f.1) first rest chain.proper)
+        (All-head (IsSectionWide unit style.radius t) first rest reach.sections) h.0
     start_room true h e = absurd (true≢false e)
 
     end_room : (c : Bool) → HaveEndsRoom unit style c t (first ∷ rest) → c ≡ false → FansHaveRoom t (last_of first rest).1 (cap_at unit style.radius style.end (last_of first rest))
-    end_room false h e = h.1
+    end_room false h e =
+        let last : Edge = last_of first rest in
+        let listed : Contains (first ∷ rest) last = last_in first rest in
+        end_cap_room unit some style.radius t style.end last (All-contains (λ (f : Edge). f.0 ≢ f.1) (first ∷ rest) last chain.proper listed)
+        (All-contains (IsSectionWide unit style.radius t) (first ∷ rest) last reach.sections listed) h.1
     end_room true h e = absurd (true≢false e)
 
     kept : IsFreed t m e q pieces (ways unit style.radius style.join style.start style.end closed first rest) → IsHeldByOne m q pieces
     kept f =
         let h : HoldsOnce f.grid f.point pieces =
-        near_section unit some style.radius sign small style.join style.start style.end closed first rest chain t positive f.grid f.some f.point reach.sections reach.joins
+        near_section unit some style.radius sign small style.join style.start style.end closed first rest chain t positive f.grid f.some f.point reach.sections
+        (joins_room unit some style.radius t style.join closed (first ∷ rest) chain reach.sections reach.joins)
         (start_room closed reach.ends) (end_room closed reach.ends)
         (free_of unit some style.radius sign small style.join style.start style.end closed first rest chain t positive f.grid f.point reach.sections f.turns) e f.nearest listed f.on_edge f.near in
         record {

@@ -5,6 +5,7 @@ use Rattle.mesh_plane.specs.Plane.{Point, Edge, minus}
 use Rattle.mesh_plane.specs.Turning.{last_of}
 use Rattle.mesh_plane.specs.Winding.{holds, winding}
 use Rattle.mesh_num.specs.Direction.{scaled_direction}
+use Rattle.mesh_num.specs.Segments.{proper_edges}
 use Rattle.mesh_lattice.specs.Nearness.{IsFarFrom}
 use Rattle.mesh_lattice.specs.Split.{back}
 use Rattle.mesh_shapes.specs.Resolution.{Choices}
@@ -26,15 +27,16 @@ step unit radius e = scaled_direction unit radius (heading unit e)
 abbrev pub IsSectionWide : ℕ → ℤ → ℕ → Edge → Type 0
 IsSectionWide unit radius t e = IsWideEnough t (step unit radius e) (minus e.1 e.0)
 
--- the join at a corner leaves that room
+-- the join at a corner leaves that room; edges whose ends are one point are not drawn
 abbrev pub HasJoinRoom : ℕ → StrokeStyle → ℕ → EdgePair → Type 0
-HasJoinRoom unit style t c = FansHaveRoom t (facing c).0.1 (outer_edges unit style.radius style.join (facing c))
+HasJoinRoom unit style t c =
+    FansHaveRoom t (facing c).0.1 (proper_edges (outer_edges unit style.radius style.join (facing c)))
 
 -- the caps at both ends of an open path do
 abbrev pub HaveCapsRoom : ℕ → StrokeStyle → ℕ → Edge → Edge → Type 0
 HaveCapsRoom unit style t first last =
-    FansHaveRoom t first.0 (cap_at unit style.radius style.start (back first))
-    × FansHaveRoom t last.1 (cap_at unit style.radius style.end last)
+    FansHaveRoom t first.0 (proper_edges (cap_at unit style.radius style.start (back first)))
+    × FansHaveRoom t last.1 (proper_edges (cap_at unit style.radius style.end last))
 
 unfoldable pub HaveEndsRoom : ℕ → StrokeStyle → Bool → ℕ → List Edge → Type 0
 HaveEndsRoom unit style true t es = ⊤
