@@ -25,10 +25,11 @@ use Rattle.mesh_lattice.proofs.Means.{mean_of_on, on_of_mean}
 abbrev pub moved : ℕ → ℤ → Point → Point
 moved k v q = ((pos k *ℤ q.0) +ℤ v, (pos k *ℤ q.1) +ℤ pos 1)
 
--- so moved, the point is crossed as before by an edge, and does not lie on its line
+-- so moved, the point is crossed as before by an edge, does not lie on its line, and stays on a side of it
 pub record IsAlike (m k : ℕ) (v : ℤ) (q : Point) (e : Edge) : Type 0 where
   pub crosses : crossing_on (k * m) (moved k v q) e.0 e.1 ≡ crossing_on m q e.0 e.1
   pub turns : e.0 ≢ e.1 → turn (refined (k * m) e.0) (refined (k * m) e.1) (moved k v q) ≢ pos 0
+  pub left : pos 0 <ℤ turn (refined m e.0) (refined m e.1) q → pos 0 <ℤ turn (refined (k * m) e.0) (refined (k * m) e.1) (moved k v q)
 
 -- on all grids that are fine enough
 pub record IsGeneric (m : ℕ) (q : Point) (es : List Edge) : Type 0 where
@@ -229,8 +230,17 @@ module _ (m k n : ℕ) (q : Point) (e : Edge) (some : 0 < m) (two : 2 ≤ k)
       apart (λ i. (same_of_refined m e.0.0 e.1.0 some x i, same_of_refined m e.0.1 e.1.1 some y i))))
       (sym turn_of_moved ∙ flat)
 
+  on_left : pos 0 <ℤ turn p r q → pos 0 <ℤ turn (refined (k * m) e.0) (refined (k * m) e.1) (moved k (pos n) q)
+  on_left h =
+      let l : (pos k *ℤ pos 1) ≤ℤ (pos k *ℤ turn p r q) = mul_le_mul_left (pos k) (pos 1) (turn p r q) (omega (arith, ints)) (omega (arith, linear, h)) in
+      let o : pos k *ℤ pos 1 ≡ pos k = omega (arith, ints) in
+      let d = above_size (shift (pos n) p r) k deep in
+      let s : pos 0 <ℤ ((pos k *ℤ turn p r q) +ℤ shift (pos n) p r) = omega (arith, linear, l, o, d) in
+      let g : pos 0 <ℤ (pos k *ℤ ((pos k *ℤ turn p r q) +ℤ shift (pos n) p r)) = mul_pos (pos k) _ (omega (arith, ints, two)) s in
+      omega (arith, linear, turn_of_moved, g)
+
   alike_edge : IsAlike m k (pos n) q e
-  alike_edge = record { crosses = crossing_of_moved; turns = not_on_line }
+  alike_edge = record { crosses = crossing_of_moved; turns = not_on_line; left = on_left }
 
 -- ---- all edges
 
@@ -401,10 +411,20 @@ moved_apart k v q c = λ i. (apart q.0 c.0 v i, apart q.1 c.1 (pos 1) i)
     apart x y s =
         ring (pos k ∷ x ∷ y ∷ s ∷ []) (((var 0 ⊗ var 1) ⊕ var 3) ⊖ (var 0 ⊗ var 2)) ((var 0 ⊗ (var 1 ⊖ var 2)) ⊕ var 3) refl
 
+left_finer : (g m : ℕ) (q a b : Point) → 0 < g → pos 0 <ℤ turn (refined m a) (refined m b) q → pos 0 <ℤ turn (refined (g * m) a) (refined (g * m) b) (refined g q)
+left_finer g m q a b some h =
+    let least : pos 0 <ℤ pos g = omega (arith, ints, some) in
+    let e : turn (refined (g * m) a) (refined (g * m) b) (refined g q) ≡ pos g *ℤ ((pos g *ℤ turn (refined m a) (refined m b) q) +ℤ pos 0) =
+    (λ i. turn (twice_refined g m a i) (twice_refined g m b i) (refined g q)) ∙ turn_finer (pos g) (refined m a) (refined m b) q in
+    let l : pos 0 <ℤ (pos g *ℤ turn (refined m a) (refined m b) q) = mul_pos (pos g) _ least h in
+    let k : pos 0 <ℤ (pos g *ℤ ((pos g *ℤ turn (refined m a) (refined m b) q) +ℤ pos 0)) = mul_pos (pos g) _ least (omega (arith, linear, l)) in
+    omega (arith, linear, e, k)
+
 -- ---- together
 
 -- in place of the point `q` of the grid `m`: a point, on a grid of its own, that the same of some pieces hold, that lies on
--- the line of no proper edge of some, and that is still nearer than the root of `t / 2 - 1` to a point of the edge `e`
+-- the line of no proper edge of some and to the left of those that the point lies to the left of, and that is still nearer
+-- than the root of `t / 2 - 1` to a point of the edge `e`
 pub record IsFreed (t m : ℕ) (e : Edge) (q : Point) (pieces : List (List Point)) (es : List Edge) : Type 0 where
   pub grid : ℕ
   pub some : 0 < grid
@@ -412,6 +432,7 @@ pub record IsFreed (t m : ℕ) (e : Edge) (q : Point) (pieces : List (List Point
   pub nearest : Point
   pub held : All (λ (piece : List Point). holds grid point piece ≡ holds m q piece) pieces
   pub turns : All (λ (f : Edge). f.0 ≢ f.1 → turn (refined grid f.0) (refined grid f.1) point ≢ pos 0) es
+  pub left : All (λ (f : Edge). pos 0 <ℤ turn (refined m f.0) (refined m f.1) q → pos 0 <ℤ turn (refined grid f.0) (refined grid f.1) point) es
   pub on_edge : IsOn (refined_edge grid e) nearest
   pub near : 2 * length_sq (minus point nearest) + 2 * (grid * grid) < t * (grid * grid)
 
@@ -458,6 +479,12 @@ freed b t m g e q c pieces es room some fine on near =
               All-weaker (IsAlike (g * m) k v (refined g q))
               (λ (f : Edge). f.0 ≢ f.1 → turn (refined (k * (g * m)) f.0) (refined (k * (g * m)) f.1) (moved k v (refined g q)) ≢ pos 0)
               (λ (f : Edge) (h : IsAlike (g * m) k v (refined g q) f). h.turns) es
+              (all_right (IsAlike (g * m) k v (refined g q)) all_pieces es alike);
+          left =
+              All-weaker (IsAlike (g * m) k v (refined g q))
+              (λ (f : Edge). pos 0 <ℤ turn (refined m f.0) (refined m f.1) q → pos 0 <ℤ turn (refined (k * (g * m)) f.0) (refined (k * (g * m)) f.1) (moved k v (refined g q)))
+              (λ (f : Edge) (h : IsAlike (g * m) k v (refined g q) f) (l : pos 0 <ℤ turn (refined m f.0) (refined m f.1) q).
+              h.left (left_finer g m q f.0 f.1 fine l)) es
               (all_right (IsAlike (g * m) k v (refined g q)) all_pieces es alike);
           on_edge = on_finer k (g * m) e c on;
           near =

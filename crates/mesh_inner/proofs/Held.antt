@@ -112,8 +112,8 @@ module _ (unit : ℕ) (some : 0 < unit) (radius : ℤ) (sign : pos 0 ≤ℤ radi
     (closed : Bool) (first : Edge) (rest : List Edge) (chain : IsChain closed (first ∷ rest)) (t : ℕ) (positive : 0 < t) (m : ℕ) (fine : 0 < m) (q : Point)
     (sections : All (IsSectionWide unit radius t) (first ∷ rest))
     (joins : All (λ (c : EdgePair). FansHaveRoom t (facing c).0.1 (outer_edges unit radius join (facing c))) (neighbours closed (first ∷ rest)))
-    (start_room : closed ≡ false → FansHaveRoom t first.0 (cap_at unit radius start (back first)))
-    (end_room : closed ≡ false → FansHaveRoom t (last_of first rest).1 (cap_at unit radius end (last_of first rest)))
+    (start_room : closed ≡ false → FansHaveRoom t first.0 (cap_at unit radius start (back first)) ⊎ (pos 0 <ℤ ahead unit radius m q first first.0))
+    (end_room : closed ≡ false → FansHaveRoom t (last_of first rest).1 (cap_at unit radius end (last_of first rest)) ⊎ (ahead unit radius m q (last_of first rest) (last_of first rest).1 <ℤ pos 0))
     (free : IsFree unit radius join start end closed m q first rest) where
   abbrev All' : List Edge
   All' = first ∷ rest
@@ -199,22 +199,28 @@ module _ (unit : ℕ) (some : 0 < unit) (radius : ℤ) (sign : pos 0 ≤ℤ radi
   -- at the end of the last edge of an open path
   last_end : closed ≡ false → IsNearPoint t m q (last_of first rest).1 → pos 0 <ℤ ahead unit radius m q (last_of first rest) (last_of first rest).1 → Held
   last_end is_open near after =
+      ⊎_elim
+      (λ room.
       among m q (cap_pieces unit radius end (last_of first rest)) Pieces
-      (cap_holds unit some radius t m q end (last_of first rest) (end_room is_open) near free.at_end after)
+      (cap_holds unit some radius t m q end (last_of first rest) room near free.at_end after)
       (λ p at.
       by_end p
       (subst (λ (b : Bool). Contains (end_pieces unit radius Both start end b first (last_of first rest)) p) (sym is_open)
-      (Contains-append_right (cap_pieces unit radius start (back first)) (cap_pieces unit radius end (last_of first rest)) p at)))
+      (Contains-append_right (cap_pieces unit radius start (back first)) (cap_pieces unit radius end (last_of first rest)) p at))))
+      (λ (h : ahead unit radius m q (last_of first rest) (last_of first rest).1 <ℤ pos 0). absurd (omega (arith, linear, h, after))) (end_room is_open)
 
   first_start : closed ≡ false → IsNearPoint t m q first.0 → ahead unit radius m q first first.0 <ℤ pos 0 → Held
   first_start is_open near after =
+      ⊎_elim
+      (λ room.
       among m q (cap_pieces unit radius start (back first)) Pieces
-      (cap_holds unit some radius t m q start (back first) (start_room is_open) near free.at_start
+      (cap_holds unit some radius t m q start (back first) room near free.at_start
       (let e = ahead_back unit radius m q first first.0 some (apart first (in_first first rest)) in omega (arith, linear, e, after)))
       (λ p at.
       by_end p
       (subst (λ (b : Bool). Contains (end_pieces unit radius Both start end b first (last_of first rest)) p) (sym is_open)
-      (Contains-append_left (cap_pieces unit radius start (back first)) (cap_pieces unit radius end (last_of first rest)) p at)))
+      (Contains-append_left (cap_pieces unit radius start (back first)) (cap_pieces unit radius end (last_of first rest)) p at))))
+      (λ (h : pos 0 <ℤ ahead unit radius m q first first.0). absurd (omega (arith, linear, h, after))) (start_room is_open)
 
   at_end : (e : Edge) → Contains All' e → IsNearPoint t m q e.1 → Nearest e.1 → Held
   at_end e listed near least =

@@ -4,8 +4,8 @@ ghost use Rattle.mesh_inner.specs.Inner.{StrokesHoldWhatIsNear, StrokeAnswersHol
 
 /// A stroke on both sides holds every point that is near enough to a section of its path, whatever its joins and caps are,
 /// and wherever the path turns: twice the square of the distance, and 2 more for what rounding of directions takes, is less
-/// than what each section, join and cap leaves room for. The radius is at most a quarter of a direction's length: 2^12 for
-/// `i16`, 2^28 for `i32`.
+/// than what each section, join and cap leaves room for. The point must not lie beyond an end with a butt cap. The radius is
+/// at most a quarter of a direction's length: 2^12 for `i16`, 2^28 for `i32`.
 pub fn strokes_hold_what_is_near()
     ensures { StrokesHoldWhatIsNear }
 {}
