@@ -1,5 +1,14 @@
 //! Which operand may not take part, and why, to be told to people.
 
+ghost use Rattle.std.specs.Prelude.{◌≡◌, ◌↔◌, None, map, IfSome, IsTrue};
+ghost use Rattle.std.specs.List.{All};
+ghost use Rattle.mesh_plane.specs.Bounds.{IsSafe, IsSmall};
+ghost use Rattle.mesh_num.specs.Paths.{paths_of};
+ghost use Rattle.mesh_drawing.specs.Refusals.{IsFirst, IsFirstPlace};
+ghost use Rattle.mesh_operands.specs.Combining.{MayBeCombined, MayTakePart};
+ghost use Rattle.mesh_operands.specs.Operands.{combination_of, operand_of};
+ghost use Rattle.mesh_operands.specs.Refusals.{IsFirstOperandRefusal, IsReason, IsZoneRefusal};
+
 use crate::operand::{Combination, Operand};
 use mesh_drawing::refusal::{PointPlace, Refusal, find_refusal};
 use mesh_num::num::convert::widen;
@@ -77,7 +86,11 @@ impl fmt::Display for ContourRefusal {
 
 /// The first operand that may not take part, and why: the first point of its contours that leaves the safe range, path by
 /// path, or where a drawing leaves the range first. The subject comes before the clip, and zones come in their order.
-pub fn find_operand_refusal<I: OverlayInt>(combination: &Combination<I>) -> Option<OperandRefusal> {
+/// `None` exactly where each operand may take part.
+pub fn find_operand_refusal<I: OverlayInt>(combination: &Combination<I>) -> Option<OperandRefusal>
+    ensures none { result ≡ None ↔ MayBeCombined I.unit (combination_of I.value combination.now) }
+    ensures first { IfSome result (IsFirstOperandRefusal I.unit (combination_of I.value combination.now)) }
+{
     match combination {
         Combination::Boolean(boolean) => {
             if let Some(refusal) = at_operand(OperandPlace::Subject, &boolean.subject) {
@@ -91,7 +104,10 @@ pub fn find_operand_refusal<I: OverlayInt>(combination: &Combination<I>) -> Opti
 }
 
 /// The first zone that may not take part.
-fn first_zone<I: OverlayInt>(zones: &[Operand<I>]) -> Option<OperandRefusal> {
+fn first_zone<I: OverlayInt>(zones: &[Operand<I>]) -> Option<OperandRefusal>
+    ensures none { result ≡ None ↔ All (MayTakePart I.unit) (map (operand_of I.value) zones.now) }
+    ensures first { IfSome result (IsZoneRefusal I.unit (map (operand_of I.value) zones.now)) }
+{
     for (index, zone) in zones.iter().enumerate() {
         if let Some(refusal) = at_operand(OperandPlace::Zone(index), zone) {
             return Some(refusal);
@@ -101,7 +117,11 @@ fn first_zone<I: OverlayInt>(zones: &[Operand<I>]) -> Option<OperandRefusal> {
 }
 
 /// Why the operand at this place may not take part.
-fn at_operand<I: OverlayInt>(which: OperandPlace, operand: &Operand<I>) -> Option<OperandRefusal> {
+fn at_operand<I: OverlayInt>(which: OperandPlace, operand: &Operand<I>) -> Option<OperandRefusal>
+    ensures none { result ≡ None ↔ MayTakePart I.unit (operand_of I.value operand.now) }
+    ensures place { IfSome result (λ refusal. refusal.which ≡ which) }
+    ensures reason { IfSome result (λ refusal. IsReason I.unit (operand_of I.value operand.now) refusal.why) }
+{
     match reason(operand) {
         Some(why) => Some(OperandRefusal { which, why }),
         None => None,
@@ -109,7 +129,10 @@ fn at_operand<I: OverlayInt>(which: OperandPlace, operand: &Operand<I>) -> Optio
 }
 
 /// Why an operand may not take part.
-fn reason<I: OverlayInt>(operand: &Operand<I>) -> Option<OperandReason> {
+fn reason<I: OverlayInt>(operand: &Operand<I>) -> Option<OperandReason>
+    ensures none { result ≡ None ↔ MayTakePart I.unit (operand_of I.value operand.now) }
+    ensures reason { IfSome result (IsReason I.unit (operand_of I.value operand.now)) }
+{
     match operand {
         Operand::Paths(paths) => match first_point(paths) {
             Some(place) => Some(OperandReason::Contour(ContourRefusal {
@@ -126,18 +149,39 @@ fn reason<I: OverlayInt>(operand: &Operand<I>) -> Option<OperandReason> {
 }
 
 /// The first point of contours that leaves the safe range.
-fn first_point<I: OverlayInt>(paths: &[Vec<IntPoint<I>>]) -> Option<PointPlace> {
-    for (path, points) in paths.iter().enumerate() {
-        for (point, at) in points.iter().enumerate() {
-            if !is_safe(at.x) || !is_safe(at.y) {
-                return Some(PointPlace { path, point });
-            }
+fn first_point<I: OverlayInt>(paths: &[Vec<IntPoint<I>>]) -> Option<PointPlace>
+    ensures { IsFirstPlace (IsSafe I.unit) (paths_of paths.now) result }
+{
+    for (index, path) in paths.iter().enumerate() {
+        if let Some(point) = first_in_path(path) {
+            return Some(PointPlace { path: index, point });
         }
     }
     None
 }
 
+/// The first point of a contour that leaves the safe range.
+fn first_in_path<I: OverlayInt>(path: &[IntPoint<I>]) -> Option<usize>
+    ensures { IsFirst (IsSafe I.unit) path.now result }
+{
+    for (index, point) in path.iter().enumerate() {
+        if !is_safe(*point) {
+            return Some(index);
+        }
+    }
+    None
+}
+
+/// Whether a point is in the safe range.
+fn is_safe<I: OverlayInt>(point: IntPoint<I>) -> bool
+    ensures { IsTrue result ↔ IsSafe I.unit point }
+{
+    is_small(point.x) && is_small(point.y)
+}
+
 /// Whether a coordinate is in the safe range.
-fn is_safe<I: OverlayInt>(coordinate: I) -> bool {
+fn is_small<I: OverlayInt>(coordinate: I) -> bool
+    ensures { IsTrue result ↔ IsSmall I.unit (I.value coordinate) }
+{
     widen(coordinate).unsigned_abs() < widen(I::UNIT).unsigned_abs()
 }
