@@ -51,8 +51,9 @@ operand_holds unit fill m q (as_drawing (as_variable_stroke options paths)) =
 
 -- ---- shapes
 
--- shapes are exact at each point farther than `k` from each of these edges, on every grid: there they wind once where the
--- test is true, and nowhere else; and each point of their contours lies within `k` of such an edge
+-- shapes are exact at each point farther than `k` from each of these edges, on every grid: with no least area and outer
+-- contours counterclockwise they wind there once where the test is true, and nowhere else; and each point of their contours
+-- lies within `k` of such an edge
 pub record AreExactBeyond (k : ℕ) (edges : List Edge) (test : ℕ → Point → Bool) (choices : Choices)
     (answer : List (List (List Point))) : Type 0 where
   pub fills : WindsOnceWhere test (λ m q. IsFarFrom k m edges q) choices answer
