@@ -1,5 +1,5 @@
 -- Lemmas over points and lists: what is as near to a section as the stroke reaches is held by a piece.
-use Rattle.std.proofs.Common.{◌≡◌, ◌≢◌, ◌⊎◌, inl, inr, ⊎_elim, ℕ, ◌+◌, ◌*◌, ◌<◌, ◌≤◌, mul-le-mul, List, [], ◌∷◌, ◌++◌, Bool, true, false, refl, sym, ap, subst, arith}
+use Rattle.std.proofs.Common.{◌≡◌, ◌≢◌, ◌⊎◌, inl, inr, ⊎_elim, ℕ, ◌+◌, ◌*◌, ◌<◌, ◌≤◌, mul-le-mul, List, ◌∷◌, ◌++◌, Bool, true, false, refl, sym, ap, subst, arith}
 use Rattle.std.specs.Prelude.{ℤ, pos, ◌≤ℤ◌, ◌<ℤ◌, unsigned_abs, map}
 use Rattle.std.specs.List.{All, Contains, flat_map}
 use Rattle.std.proofs.lemmas.Int.{by_lt_z}
@@ -14,7 +14,6 @@ use Rattle.mesh_lattice.specs.Clean.{IsOn, refined_edge}
 use Rattle.mesh_lattice.specs.Split.{back}
 use Rattle.mesh_join.specs.Styles.{JoinStyle}
 use Rattle.mesh_join.specs.declared.style.StrokeSide.TheVariants.{Both}
-use Rattle.mesh_offset.specs.Walks.{pairs}
 use Rattle.mesh_offset.proofs.Apart.{apart_long}
 use Rattle.mesh_stroke.specs.Caps.{CapKind}
 use Rattle.mesh_stroke.specs.Paths.{neighbours}
@@ -29,12 +28,9 @@ use Rattle.mesh_inner.proofs.Fans.{HoldsOnce}
 use Rattle.mesh_inner.proofs.Leans.{lean, half_lean}
 use Rattle.mesh_inner.proofs.Places.{in_map, in_flat_map, in_first, IsNearestEnd, nearest_end, next_round, previous_round, next_along, previous_along}
 use Rattle.mesh_inner.proofs.Sections.{IsWide, IsNearPoint, HoldsSection, section_or_end, beyond_end, before_start}
+use Rattle.mesh_inner.proofs.Walks.{pairs_are}
 
 -- ---- neighbours
-
-pairs_are : {A : Type 0} (x : A) (xs : List A) → pairs (x ∷ xs) ≡ pairs_from x xs
-pairs_are {A} x [] = refl
-pairs_are {A} x (y ∷ ys) = ap (λ (l : List (A × A)). (x, y) ∷ l) (pairs_are y ys)
 
 -- an edge is followed by another, or ends an open path
 next : {A : Type 0} (closed : Bool) (x : A) (xs : List A) (e : A) → Contains (x ∷ xs) e

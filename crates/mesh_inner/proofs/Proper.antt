@@ -86,7 +86,7 @@ dot_within s v =
     let least : (dot s v *ℤ dot s v) ≤ℤ (dot s s *ℤ dot v v) = omega (arith, linear, lagrange s v, square_nonneg (cross s v)) in
     omega (arith, ints, product, size, least)
 
-as_far : (t : ℕ) (s v : Point) → 0 < length_sq v → IsWideEnough t s v → t ≤ 2 * length_sq s
+pub as_far : (t : ℕ) (s v : Point) → 0 < length_sq v → IsWideEnough t s v → t ≤ 2 * length_sq s
 as_far t s v some wide =
     le_of_mul-le-mul_right (let h = dot_within s v in omega (arith, h, wide)) some
 

@@ -1,2 +1,4 @@
 pub mod Inner
+pub mod Private
 pub mod Room
+pub mod Told

@@ -1,0 +1,3 @@
+-- What private contracts alone read.
+pub mod Ends
+pub mod Walks
