@@ -5,6 +5,7 @@ ghost use Rattle.std.specs.Prelude.{◌≡◌, ◌↔◌, IsTrue};
 ghost use Rattle.std.specs.Ordering.{int_cmp, ordering_then};
 
 pub use mesh_boolean::laws::answers_wind_once;
+pub use mesh_inner::laws::{stroke_answers_hold_what_is_near, strokes_hold_what_is_near};
 use mesh_join::style::{IntLineJoin, StrokeSide};
 use mesh_num::num::{IntNumber, IntPoint};
 pub use mesh_outline::laws::{

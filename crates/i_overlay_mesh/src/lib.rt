@@ -24,6 +24,8 @@ pub use mesh_boolean::zones::{
 };
 pub use mesh_boolean::{boolean, zones};
 pub use mesh_clearance::clearance;
+pub use mesh_inner::formula::{radius_for, step_for};
+pub use mesh_inner::reach::inner_reach;
 pub use mesh_join::arc::ArcOptions;
 pub use mesh_join::style::{
     IntLineCap, IntLineJoin, IntOutlineStyle, IntStrokeStyle, IntStrokeVertex,

@@ -10,6 +10,7 @@ pub mod Leans
 pub mod Limits
 pub mod Places
 pub mod Proper
+pub mod Radii
 pub mod Reaches
 pub mod Rooms
 pub mod Sections

@@ -80,6 +80,12 @@ HoldsWhatIsNear unit style closed t points =
     (b m : ℕ) (e : Edge) (q : Point) → b + 2 < t → 0 < m → Contains (path_edges closed points) e → IsReached b m e q
     → IsBetweenButts unit style closed m q (path_edges closed points) → IsHeldByOne m q (stroke_pieces unit style closed points)
 
+-- each point of each grid is held whose squared distance from a section of the path is at most `s`
+abbrev pub HoldsWithin : ℕ → StrokeStyle → Bool → ℕ → List Point → Type 0
+HoldsWithin unit style closed s points =
+    (m : ℕ) (e : Edge) (q : Point) → 0 < m → Contains (path_edges closed points) e → IsReached (2 * s) m e q
+    → IsBetweenButts unit style closed m q (path_edges closed points) → IsHeldByOne m q (stroke_pieces unit style closed points)
+
 -- strokes on both sides hold what is as near as they reach
 abbrev pub StrokesHoldWhatIsNear : Type 0
 StrokesHoldWhatIsNear =

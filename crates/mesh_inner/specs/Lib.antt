@@ -1,3 +1,4 @@
+pub mod Formula
 pub mod Inner
 pub mod Private
 pub mod Room

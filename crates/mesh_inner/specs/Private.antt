@@ -1,3 +1,4 @@
 -- What private contracts alone read.
 pub mod Ends
+pub mod Limits
 pub mod Walks

@@ -7,6 +7,7 @@
 
 mod end;
 mod fan;
+pub mod formula;
 mod joint;
 pub mod laws;
 pub mod reach;

@@ -1,127 +1,53 @@
--- The reach is the limit of sections, joins and caps, where the laws hold.
-use Rattle.std.proofs.Common.{◌≡◌, ◌∷◌, ◌∙◌, ◌^◌, ◌≤◌, sym, subst, refl, arith, List, rules}
-use Rattle.std.specs.Prelude.{ℤ, pos, ◌≤ℤ◌, ◌<ℤ◌, MatchOption}
-use Rattle.std.specs.List.{All}
-use Rattle.std.proofs.lemmas.Int.{to_z-of_z}
-use mir.Syntax.{w128}
-use mir.Val.{to_z, of_z}
-use Rattle.mesh_plane.specs.Plane.{Edge}
-use Rattle.mesh_stroke.specs.Paths.{neighbours, path_edges}
+-- The paths' limit, and what is told of it.
+use Rattle.std.proofs.Common.{◌≡◌, ◌+◌, ◌^◌, ◌<◌, ◌≤◌, List, [], Option, take, get_or, length, arith, sym, subst, take_all, rules}
+use Rattle.std.specs.Prelude.{ℤ}
+use Rattle.std.proofs.lemmas.List.{take_more}
+use Rattle.mesh_plane.specs.Plane.{Point}
 use Rattle.mesh_stroke.specs.Styles.{stroke_style_of}
-use Rattle.mesh_inner.specs.Inner.{HasJoinRoom, HaveEndsRoom, HasInnerReach}
-use Rattle.mesh_inner.specs.Private.Walks.{AreStrokable, IsLimit}
-use Rattle.mesh_inner.specs.Told.{CanBeTold}
-use Rattle.mesh_inner.proofs.Reaches.{none_of_length, first_fits, others_fit, sections_all, reach_limit}
-use Rattle.mesh_inner.proofs.Told.{reach_fits, told_is, told_holds, can_be_told, cannot_be_told}
+use Rattle.mesh_inner.specs.Private.Limits.{IsLimitOfAll, IsPathLimit}
+use Rattle.mesh_inner.proofs.Told.{limit_of_none, limit_of_more, told_is, told_holds, can_be_told, cannot_be_told}
 use Rattle.mesh_inner.proofs.reach.inner_reach.Goals as goal
-
-pub sections_limit-sections-requires-clause-first : goal.sections_limit-sections-requires-clause-first
-sections_limit-sections-requires-clause-first g c =
-    let edges : path_edges c.args.closed c.args.path.now ≡ c.in-Some.first.now ∷ c.in-Some.others.now =
-    sym c.in_ok-edges.ensures ∙ (sym c.deref.ensures.value ∙ search rules) in
-    let fit : AreStrokable g.I.IntNumber.unit (stroke_style_of g.I.IntNumber.value c.args.style.now) c.args.closed (path_edges c.args.closed c.args.path.now) =
-    record { points = c.args.path.now; safe = c.requires; edges = refl } in
-    first_fits g.I.IntNumber.unit (stroke_style_of g.I.IntNumber.value c.args.style.now) c.args.closed (path_edges c.args.closed c.args.path.now) c.in-Some.first.now c.in-Some.others.now (g.I.IntNumber.value c.stroke_radius-radius.result) fit edges c.stroke_radius-radius.ensures.value
-
-pub sections_limit-sections-requires-clause-others : goal.sections_limit-sections-requires-clause-others
-sections_limit-sections-requires-clause-others g c =
-    let edges : path_edges c.args.closed c.args.path.now ≡ c.in-Some.first.now ∷ c.in-Some.others.now =
-    sym c.in_ok-edges.ensures ∙ (sym c.deref.ensures.value ∙ search rules) in
-    let fit : AreStrokable g.I.IntNumber.unit (stroke_style_of g.I.IntNumber.value c.args.style.now) c.args.closed (path_edges c.args.closed c.args.path.now) =
-    record { points = c.args.path.now; safe = c.requires; edges = refl } in
-    others_fit g.I.IntNumber.unit (stroke_style_of g.I.IntNumber.value c.args.style.now) c.args.closed (path_edges c.args.closed c.args.path.now) c.in-Some.first.now c.in-Some.others.now (g.I.IntNumber.value c.stroke_radius-radius.result) fit edges c.stroke_radius-radius.ensures.value
-
-pub sections_limit-sections-requires-clause-small : goal.sections_limit-sections-requires-clause-small
-sections_limit-sections-requires-clause-small g c = (c.can_be_told.ensures.0 (search rules)).2
-
-pub with_joins-requires : goal.with_joins-requires
-with_joins-requires g c =
-    record { points = c.args.path.now; safe = c.requires; edges = sym c.in_ok-edges.ensures ∙ search rules }
-
-pub with_ends-requires-clause-path : goal.with_ends-requires-clause-path
-with_ends-requires-clause-path g c =
-    record { points = c.args.path.now; safe = c.requires; edges = sym c.in_ok-edges.ensures ∙ search rules }
-
-pub with_ends-requires-clause-both : goal.with_ends-requires-clause-both
-with_ends-requires-clause-both g c = (c.can_be_told.ensures.0 (search rules)).0
 
 pub returns-then-not-can_be_told-clause-told : goal.returns-then-not-can_be_told-clause-told
 returns-then-not-can_be_told-clause-told g c =
-    cannot_be_told g.I.IntNumber.unit (stroke_style_of g.I.IntNumber.value c.args.style.now) (path_edges c.args.closed c.args.path.now)
-    (g.I.IntNumber.value c.stroke_radius-radius.result) c.can_be_told.result c.args.closed c.stroke_radius-radius.ensures.value c.can_be_told.ensures.1 (search rules)
+    cannot_be_told g.I.IntNumber.unit (stroke_style_of g.I.IntNumber.value c.args.style.now) c.args.closed (g.S.IntShapeResource.paths c.args.paths.now)
+    (g.I.IntNumber.value c.stroke_radius-radius.result) c.can_be_told.result c.stroke_radius-radius.ensures.value c.can_be_told.ensures.1 (search rules)
 
-pub returns-in_default-clause-told : goal.returns-in_default-clause-told
-returns-in_default-clause-told g c = λ own t reach. absurd (own.some (sym c.in_ok-edges.ensures ∙ (sym c.deref.ensures.value ∙ none_of_length c.deref.result.now (search rules))))
+pub loop-index-init : goal.loop-index-init
+loop-index-init g c = limit_of_none g.I.IntNumber.unit (stroke_style_of g.I.IntNumber.value c.args.style.now) c.args.closed
 
-pub reach_of-requires : goal.reach_of-requires
-reach_of-requires g c =
-    let edges : path_edges c.args.closed c.args.path.now ≡ c.in-Some.first.now ∷ c.in-Some.others.now =
-    sym c.in_ok-edges.ensures ∙ (sym c.deref.ensures.value ∙ search rules) in
-    let kept_sections = to_z-of_z w128 c.sections_limit-sections.result (record { sfits = c.sections_limit-sections.type_inv }) in
-    let kept_joins : to_z w128 (of_z w128 c.in_ok-joins.joins) ≡ c.in_ok-joins.joins = search rules in
-    let kept : to_z w128 (of_z w128 c.in_ok-all.all) ≡ c.in_ok-all.all = search rules in
-    let joins : IsLimit c.in_ok-joins.joins (λ t. (pos t ≤ℤ c.sections_limit-sections.result) × All (HasJoinRoom g.I.IntNumber.unit (stroke_style_of g.I.IntNumber.value c.args.style.now) t) (neighbours c.args.closed (path_edges c.args.closed c.args.path.now))) =
-    subst (λ (z : ℤ). IsLimit c.in_ok-joins.joins (λ t. (pos t ≤ℤ z) × All (HasJoinRoom g.I.IntNumber.unit (stroke_style_of g.I.IntNumber.value c.args.style.now) t) (neighbours c.args.closed (path_edges c.args.closed c.args.path.now)))) kept_sections
-    (subst (λ (l : List Edge). IsLimit c.in_ok-joins.joins (λ t. (pos t ≤ℤ to_z w128 (of_z w128 c.sections_limit-sections.result)) × All (HasJoinRoom g.I.IntNumber.unit (stroke_style_of g.I.IntNumber.value c.args.style.now) t) (neighbours c.args.closed l)))
-    (c.deref-2.ensures.value ∙ c.in_ok-edges.ensures) c.in_ok-joins.ensures) in
-    let ends : IsLimit c.in_ok-all.all (λ t. (pos t ≤ℤ c.in_ok-joins.joins) × HaveEndsRoom g.I.IntNumber.unit (stroke_style_of g.I.IntNumber.value c.args.style.now) c.args.closed t (path_edges c.args.closed c.args.path.now)) =
-    subst (λ (z : ℤ). IsLimit c.in_ok-all.all (λ t. (pos t ≤ℤ z) × HaveEndsRoom g.I.IntNumber.unit (stroke_style_of g.I.IntNumber.value c.args.style.now) c.args.closed t (path_edges c.args.closed c.args.path.now))) kept_joins
-    (subst (λ (l : List Edge). IsLimit c.in_ok-all.all (λ t. (pos t ≤ℤ to_z w128 (of_z w128 c.in_ok-joins.joins)) × HaveEndsRoom g.I.IntNumber.unit (stroke_style_of g.I.IntNumber.value c.args.style.now) c.args.closed t l))
-    (c.deref-3.ensures.value ∙ c.in_ok-edges.ensures) c.in_ok-all.ensures) in
-    let limit : IsLimit c.in_ok-all.all (λ t. HasInnerReach g.I.IntNumber.unit (stroke_style_of g.I.IntNumber.value c.args.style.now) c.args.closed t (path_edges c.args.closed c.args.path.now)) =
-    reach_limit g.I.IntNumber.unit (stroke_style_of g.I.IntNumber.value c.args.style.now) c.args.closed (path_edges c.args.closed c.args.path.now) c.sections_limit-sections.result c.in_ok-joins.joins c.in_ok-all.all
-    (sections_all g.I.IntNumber.unit (stroke_style_of g.I.IntNumber.value c.args.style.now) (path_edges c.args.closed c.args.path.now) c.in-Some.first.now c.in-Some.others.now (g.I.IntNumber.value c.stroke_radius-radius.result) c.sections_limit-sections.result edges c.stroke_radius-radius.ensures.value c.sections_limit-sections.ensures) joins ends in
-    let can : CanBeTold g.I.IntNumber.unit (stroke_style_of g.I.IntNumber.value c.args.style.now) (path_edges c.args.closed c.args.path.now) = can_be_told g.I.IntNumber.unit (stroke_style_of g.I.IntNumber.value c.args.style.now) (path_edges c.args.closed c.args.path.now) c.in-Some.first.now c.in-Some.others.now (g.I.IntNumber.value c.stroke_radius-radius.result) edges c.stroke_radius-radius.ensures.value (c.can_be_told.ensures.0 (search rules)) in
-    let least : 2 ^ 14 ≤ g.I.IntNumber.unit = g.met.I.IntNumber.least_law in
-    let fit : AreStrokable g.I.IntNumber.unit (stroke_style_of g.I.IntNumber.value c.args.style.now) c.args.closed (path_edges c.args.closed c.args.path.now) = record { points = c.args.path.now; safe = c.requires; edges = refl } in
-    let own = first_fits g.I.IntNumber.unit (stroke_style_of g.I.IntNumber.value c.args.style.now) c.args.closed (path_edges c.args.closed c.args.path.now) c.in-Some.first.now c.in-Some.others.now (g.I.IntNumber.value c.stroke_radius-radius.result) fit edges c.stroke_radius-radius.ensures.value in
-    let most : g.I.IntNumber.unit ≤ 2 ^ 30 = g.met.I.IntNumber.most_law in
-    subst (λ (z : ℤ). z <ℤ pos (2 ^ 64)) (sym kept)
-    (reach_fits g.I.IntNumber.unit (stroke_style_of g.I.IntNumber.value c.args.style.now) c.args.closed (path_edges c.args.closed c.args.path.now) c.in-Some.first.now c.in-Some.others.now c.in_ok-all.all edges own.differ (omega (arith, least)) most can.small limit)
+pub loop-index-preserved : goal.loop-index-preserved
+loop-index-preserved g c =
+    let unit = g.I.IntNumber.unit in
+    let style = stroke_style_of g.I.IntNumber.value c.args.style.now in
+    let paths = g.S.IntShapeResource.paths c.args.paths.now in
+    let i = c.loop-index.index in
+    let low : i < length paths = omega (arith, c.loop-index-test.true, c.path_count-index-end.ensures) in
+    subst (λ (o : Option ℤ). IsLimitOfAll unit style c.args.closed (take (i + 1) paths) o) (sym c.lesser-least.ensures)
+    (limit_of_more unit style c.args.closed (take i paths) (take (i + 1) paths) (get_or paths i []) c.loop-index.least c.in_ok-limit.limit
+    (take_more paths i [] low) c.loop-index.invariant
+    (subst (λ (p : List Point). IsPathLimit unit style c.args.closed p c.in_ok-limit.limit) c.path_at.ensures c.in_ok-limit.ensures))
 
 pub returns-clause-told : goal.returns-clause-told
 returns-clause-told g c =
-    let edges : path_edges c.args.closed c.args.path.now ≡ c.in-Some.first.now ∷ c.in-Some.others.now =
-    sym c.in_ok-edges.ensures ∙ (sym c.deref.ensures.value ∙ search rules) in
-    let kept_sections = to_z-of_z w128 c.sections_limit-sections.result (record { sfits = c.sections_limit-sections.type_inv }) in
-    let kept_joins : to_z w128 (of_z w128 c.in_ok-joins.joins) ≡ c.in_ok-joins.joins = search rules in
-    let kept : to_z w128 (of_z w128 c.in_ok-all.all) ≡ c.in_ok-all.all = search rules in
-    let joins : IsLimit c.in_ok-joins.joins (λ t. (pos t ≤ℤ c.sections_limit-sections.result) × All (HasJoinRoom g.I.IntNumber.unit (stroke_style_of g.I.IntNumber.value c.args.style.now) t) (neighbours c.args.closed (path_edges c.args.closed c.args.path.now))) =
-    subst (λ (z : ℤ). IsLimit c.in_ok-joins.joins (λ t. (pos t ≤ℤ z) × All (HasJoinRoom g.I.IntNumber.unit (stroke_style_of g.I.IntNumber.value c.args.style.now) t) (neighbours c.args.closed (path_edges c.args.closed c.args.path.now)))) kept_sections
-    (subst (λ (l : List Edge). IsLimit c.in_ok-joins.joins (λ t. (pos t ≤ℤ to_z w128 (of_z w128 c.sections_limit-sections.result)) × All (HasJoinRoom g.I.IntNumber.unit (stroke_style_of g.I.IntNumber.value c.args.style.now) t) (neighbours c.args.closed l)))
-    (c.deref-2.ensures.value ∙ c.in_ok-edges.ensures) c.in_ok-joins.ensures) in
-    let ends : IsLimit c.in_ok-all.all (λ t. (pos t ≤ℤ c.in_ok-joins.joins) × HaveEndsRoom g.I.IntNumber.unit (stroke_style_of g.I.IntNumber.value c.args.style.now) c.args.closed t (path_edges c.args.closed c.args.path.now)) =
-    subst (λ (z : ℤ). IsLimit c.in_ok-all.all (λ t. (pos t ≤ℤ z) × HaveEndsRoom g.I.IntNumber.unit (stroke_style_of g.I.IntNumber.value c.args.style.now) c.args.closed t (path_edges c.args.closed c.args.path.now))) kept_joins
-    (subst (λ (l : List Edge). IsLimit c.in_ok-all.all (λ t. (pos t ≤ℤ to_z w128 (of_z w128 c.in_ok-joins.joins)) × HaveEndsRoom g.I.IntNumber.unit (stroke_style_of g.I.IntNumber.value c.args.style.now) c.args.closed t l))
-    (c.deref-3.ensures.value ∙ c.in_ok-edges.ensures) c.in_ok-all.ensures) in
-    let limit : IsLimit c.in_ok-all.all (λ t. HasInnerReach g.I.IntNumber.unit (stroke_style_of g.I.IntNumber.value c.args.style.now) c.args.closed t (path_edges c.args.closed c.args.path.now)) =
-    reach_limit g.I.IntNumber.unit (stroke_style_of g.I.IntNumber.value c.args.style.now) c.args.closed (path_edges c.args.closed c.args.path.now) c.sections_limit-sections.result c.in_ok-joins.joins c.in_ok-all.all
-    (sections_all g.I.IntNumber.unit (stroke_style_of g.I.IntNumber.value c.args.style.now) (path_edges c.args.closed c.args.path.now) c.in-Some.first.now c.in-Some.others.now (g.I.IntNumber.value c.stroke_radius-radius.result) c.sections_limit-sections.result edges c.stroke_radius-radius.ensures.value c.sections_limit-sections.ensures) joins ends in
-    let can : CanBeTold g.I.IntNumber.unit (stroke_style_of g.I.IntNumber.value c.args.style.now) (path_edges c.args.closed c.args.path.now) = can_be_told g.I.IntNumber.unit (stroke_style_of g.I.IntNumber.value c.args.style.now) (path_edges c.args.closed c.args.path.now) c.in-Some.first.now c.in-Some.others.now (g.I.IntNumber.value c.stroke_radius-radius.result) edges c.stroke_radius-radius.ensures.value (c.can_be_told.ensures.0 (search rules)) in
-    let least : 2 ^ 14 ≤ g.I.IntNumber.unit = g.met.I.IntNumber.least_law in
-    told_is g.I.IntNumber.unit (stroke_style_of g.I.IntNumber.value c.args.style.now) c.args.closed (path_edges c.args.closed c.args.path.now) c.in_ok-all.all c.reach_of.result can limit
-    (subst (λ (z : ℤ). MatchOption c.reach_of.result (z <ℤ pos 0) (λ t. z ≡ pos t)) kept c.reach_of.ensures)
+    let unit = g.I.IntNumber.unit in
+    let style = stroke_style_of g.I.IntNumber.value c.args.style.now in
+    let paths = g.S.IntShapeResource.paths c.args.paths.now in
+    let all : take c.loop-index.index paths ≡ paths =
+    take_all c.loop-index.index paths (omega (arith, c.loop-index-test.false, c.path_count-index-end.ensures)) in
+    let can = can_be_told unit style (g.I.IntNumber.value c.stroke_radius-radius.result) c.stroke_radius-radius.ensures.value (c.can_be_told.ensures.0 (search rules)) in
+    told_is unit style c.args.closed paths c.loop-index.least c.reach_of.result can
+    (subst (λ (l : List (List Point)). IsLimitOfAll unit style c.args.closed l c.loop-index.least) all c.loop-index.invariant) c.reach_of.ensures
 
 pub returns-clause-holds : goal.returns-clause-holds
 returns-clause-holds g c =
-    let edges : path_edges c.args.closed c.args.path.now ≡ c.in-Some.first.now ∷ c.in-Some.others.now =
-    sym c.in_ok-edges.ensures ∙ (sym c.deref.ensures.value ∙ search rules) in
-    let kept_sections = to_z-of_z w128 c.sections_limit-sections.result (record { sfits = c.sections_limit-sections.type_inv }) in
-    let kept_joins : to_z w128 (of_z w128 c.in_ok-joins.joins) ≡ c.in_ok-joins.joins = search rules in
-    let kept : to_z w128 (of_z w128 c.in_ok-all.all) ≡ c.in_ok-all.all = search rules in
-    let joins : IsLimit c.in_ok-joins.joins (λ t. (pos t ≤ℤ c.sections_limit-sections.result) × All (HasJoinRoom g.I.IntNumber.unit (stroke_style_of g.I.IntNumber.value c.args.style.now) t) (neighbours c.args.closed (path_edges c.args.closed c.args.path.now))) =
-    subst (λ (z : ℤ). IsLimit c.in_ok-joins.joins (λ t. (pos t ≤ℤ z) × All (HasJoinRoom g.I.IntNumber.unit (stroke_style_of g.I.IntNumber.value c.args.style.now) t) (neighbours c.args.closed (path_edges c.args.closed c.args.path.now)))) kept_sections
-    (subst (λ (l : List Edge). IsLimit c.in_ok-joins.joins (λ t. (pos t ≤ℤ to_z w128 (of_z w128 c.sections_limit-sections.result)) × All (HasJoinRoom g.I.IntNumber.unit (stroke_style_of g.I.IntNumber.value c.args.style.now) t) (neighbours c.args.closed l)))
-    (c.deref-2.ensures.value ∙ c.in_ok-edges.ensures) c.in_ok-joins.ensures) in
-    let ends : IsLimit c.in_ok-all.all (λ t. (pos t ≤ℤ c.in_ok-joins.joins) × HaveEndsRoom g.I.IntNumber.unit (stroke_style_of g.I.IntNumber.value c.args.style.now) c.args.closed t (path_edges c.args.closed c.args.path.now)) =
-    subst (λ (z : ℤ). IsLimit c.in_ok-all.all (λ t. (pos t ≤ℤ z) × HaveEndsRoom g.I.IntNumber.unit (stroke_style_of g.I.IntNumber.value c.args.style.now) c.args.closed t (path_edges c.args.closed c.args.path.now))) kept_joins
-    (subst (λ (l : List Edge). IsLimit c.in_ok-all.all (λ t. (pos t ≤ℤ to_z w128 (of_z w128 c.in_ok-joins.joins)) × HaveEndsRoom g.I.IntNumber.unit (stroke_style_of g.I.IntNumber.value c.args.style.now) c.args.closed t l))
-    (c.deref-3.ensures.value ∙ c.in_ok-edges.ensures) c.in_ok-all.ensures) in
-    let limit : IsLimit c.in_ok-all.all (λ t. HasInnerReach g.I.IntNumber.unit (stroke_style_of g.I.IntNumber.value c.args.style.now) c.args.closed t (path_edges c.args.closed c.args.path.now)) =
-    reach_limit g.I.IntNumber.unit (stroke_style_of g.I.IntNumber.value c.args.style.now) c.args.closed (path_edges c.args.closed c.args.path.now) c.sections_limit-sections.result c.in_ok-joins.joins c.in_ok-all.all
-    (sections_all g.I.IntNumber.unit (stroke_style_of g.I.IntNumber.value c.args.style.now) (path_edges c.args.closed c.args.path.now) c.in-Some.first.now c.in-Some.others.now (g.I.IntNumber.value c.stroke_radius-radius.result) c.sections_limit-sections.result edges c.stroke_radius-radius.ensures.value c.sections_limit-sections.ensures) joins ends in
-    let can : CanBeTold g.I.IntNumber.unit (stroke_style_of g.I.IntNumber.value c.args.style.now) (path_edges c.args.closed c.args.path.now) = can_be_told g.I.IntNumber.unit (stroke_style_of g.I.IntNumber.value c.args.style.now) (path_edges c.args.closed c.args.path.now) c.in-Some.first.now c.in-Some.others.now (g.I.IntNumber.value c.stroke_radius-radius.result) edges c.stroke_radius-radius.ensures.value (c.can_be_told.ensures.0 (search rules)) in
-    let least : 2 ^ 14 ≤ g.I.IntNumber.unit = g.met.I.IntNumber.least_law in
-    told_holds g.I.IntNumber.unit (stroke_style_of g.I.IntNumber.value c.args.style.now) c.args.closed c.args.path.now c.reach_of.result (omega (arith, least))
-    (told_is g.I.IntNumber.unit (stroke_style_of g.I.IntNumber.value c.args.style.now) c.args.closed (path_edges c.args.closed c.args.path.now) c.in_ok-all.all c.reach_of.result can limit
-    (subst (λ (z : ℤ). MatchOption c.reach_of.result (z <ℤ pos 0) (λ t. z ≡ pos t)) kept c.reach_of.ensures))
+    let unit = g.I.IntNumber.unit in
+    let style = stroke_style_of g.I.IntNumber.value c.args.style.now in
+    let paths = g.S.IntShapeResource.paths c.args.paths.now in
+    let all : take c.loop-index.index paths ≡ paths =
+    take_all c.loop-index.index paths (omega (arith, c.loop-index-test.false, c.path_count-index-end.ensures)) in
+    let can = can_be_told unit style (g.I.IntNumber.value c.stroke_radius-radius.result) c.stroke_radius-radius.ensures.value (c.can_be_told.ensures.0 (search rules)) in
+    let least : 2 ^ 14 ≤ unit = g.met.I.IntNumber.least_law in
+    told_holds unit style c.args.closed paths c.reach_of.result (omega (arith, least))
+    (told_is unit style c.args.closed paths c.loop-index.least c.reach_of.result can
+    (subst (λ (l : List (List Point)). IsLimitOfAll unit style c.args.closed l c.loop-index.least) all c.loop-index.invariant) c.reach_of.ensures)
