@@ -16,6 +16,8 @@ mod drawn;
 #[cfg(test)]
 mod halves;
 #[cfg(test)]
+mod inner;
+#[cfg(test)]
 mod nearness;
 #[cfg(test)]
 mod pieces;
