@@ -241,6 +241,8 @@ class Trial:
         aims += 6 * [isqrt(square * room // 2)] if room > 3 else []
         for q, count in samples(inputs, [e for *_, found in spans for e in found], edges, aims):
             self.points += 1
+            if not count and room < 0:
+                continue
             near = [nearest(found, q) for *_, found in spans]
             if count:
                 is_reached = any(2 * n <= reach * square * d for (_, reach, _, _), (n, d) in zip(spans, near))
@@ -260,7 +262,7 @@ class Trial:
     def answered(self, inputs, drawing):
         """Tries the law of answers at points of a drawing, as the program answers it."""
         found = subprocess.run(self.program, input=json.dumps(drawing.words).encode(), capture_output=True)
-        if found.returncode not in (0, 1):
+        if not found.stdout.startswith((b'{"shapes"', b'{"refused"')):
             self.law("answers", False, drawing, 1, None)
             return
         shapes = json.loads(found.stdout).get("shapes", [])
