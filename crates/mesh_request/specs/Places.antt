@@ -5,7 +5,7 @@ use Rattle.serde_json.specs.Find.{get, at}
 use Rattle.mesh_request.specs.declared.fault.key.Key.{Key}
 use Rattle.mesh_request.specs.declared.fault.key.Key.TheVariants.{Operation, Int, Out, Paths, Style, Closed, Options}
 use Rattle.mesh_request.specs.declared.fault.key.Key.TheVariants.{Outer, Width, Join, MinTurn, Side, Start, End, Arc, MinArea}
-use Rattle.mesh_request.specs.declared.fault.key.Key.TheVariants.{Clockwise, Collinear, Inner as InnerKey}
+use Rattle.mesh_request.specs.declared.fault.key.Key.TheVariants.{Clockwise, Collinear, Distances, Inner as InnerKey}
 use Rattle.mesh_request.specs.declared.fault.key.Key.TheVariants.{Rule, Fill, Subject, Clip, Zones, Least}
 use Rattle.mesh_request.specs.declared.fault.place.Place.{Place}
 use Rattle.mesh_request.specs.declared.fault.place.Place.TheVariants.{Request, Member, Inner, Path, Point, CapPoint, Zone}
@@ -31,6 +31,7 @@ key_text Arc = codes "arc"
 key_text MinArea = codes "min_area"
 key_text Clockwise = codes "clockwise"
 key_text Collinear = codes "collinear"
+key_text Distances = codes "distances"
 key_text Rule = codes "rule"
 key_text Fill = codes "fill"
 key_text Subject = codes "subject"

@@ -263,6 +263,16 @@ asked_in unit d =
     else (if says (codes "out") (codes "shapes") d
     then option_map for_shapes (choices_given unit (get (codes "options") d)) else None)
 
+-- whether options ask for distances: they do not where there are none
+abbrev pub distances_given : Option Data → Option Bool
+distances_given None = Some false
+distances_given (Some d) = flag_of (get (codes "distances") d)
+
+-- whether a request asks for distances; options are looked at for shapes alone
+abbrev pub distances_in : Data → Option Bool
+distances_in d =
+    if says (codes "out") (codes "edges") d then Some false else distances_given (get (codes "options") d)
+
 -- a style and paths, as an outline
 abbrev pub outline_with : OutlineStyle × List (List Point) → Drawn
 outline_with said = as_outline said.0 said.1
@@ -301,13 +311,14 @@ drawn_in unit d =
     else if says (codes "op") (codes "variable_stroke") d then variable_stroke_of unit d
     else None
 
--- what is drawn and what is asked, as a request
-abbrev pub request_with : ℕ → Drawn × Asked → Request
-request_with unit said = record { unit = unit; drawn = said.0; asked = said.1 }
+-- what is drawn, what is asked of it and whether distances are told, as a request
+abbrev pub request_with : ℕ → Drawn × (Asked × Bool) → Request
+request_with unit said = record { unit = unit; drawn = said.0; asked = said.1.0; distances = said.1.1 }
 
 -- the request with coordinates of a type with `unit`
 abbrev pub request_as : ℕ → Data → Option Request
-request_as unit d = option_map (request_with unit) (both (drawn_in unit d) (asked_in unit d))
+request_as unit d =
+    option_map (request_with unit) (both (drawn_in unit d) (both (asked_in unit d) (distances_in d)))
 
 -- the unit of the type that a request names
 abbrev pub unit_of : Data → Option ℕ

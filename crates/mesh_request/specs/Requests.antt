@@ -1,5 +1,5 @@
 -- Requests that are served.
-use Rattle.std.specs.Prelude.{ℕ}
+use Rattle.std.specs.Prelude.{ℕ, Bool}
 use Rattle.mesh_below.specs.Options.{choices_of}
 use Rattle.mesh_shapes.specs.Resolution.{Choices}
 use Rattle.mesh_drawing.specs.Drawn.{Drawn}
@@ -15,9 +15,10 @@ abbrev pub asked_of : {U : Type 0} → (U → ℕ) → Output U → Asked
 asked_of value Output.Edges = for_edges
 asked_of value (Output.Shapes options) = for_shapes (choices_of value options)
 
--- a request: what is drawn, and what is asked of it. Its coordinates are of the type with `unit`, which holds the whole
--- numbers from `-2 * unit` on that are below `2 * unit`
+-- a request: what is drawn, what is asked of it, and whether distances are told of its shapes. Its coordinates are of the
+-- type with `unit`, which holds the whole numbers from `-2 * unit` on that are below `2 * unit`
 pub record Request : Type 0 where
   pub unit : ℕ
   pub drawn : Drawn
   pub asked : Asked
+  pub distances : Bool

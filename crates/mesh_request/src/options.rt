@@ -5,7 +5,7 @@ ghost use Rattle.serde_json.specs.Find.{get};
 ghost use Rattle.serde_json.specs.View.{view};
 ghost use Rattle.mesh_below.specs.Options.{choices_of, is_clockwise};
 ghost use Rattle.mesh_request.specs.Errors.{Reads};
-ghost use Rattle.mesh_request.specs.Reading.{area_of, flag_of, choices_in, choices_given};
+ghost use Rattle.mesh_request.specs.Reading.{area_of, flag_of, choices_in, choices_given, distances_given};
 
 use crate::error::ReadError;
 use crate::fault::key::Key;
@@ -54,6 +54,27 @@ fn members<I: IntNumber>(
         output_direction: direction(clockwise),
         preserve_output_collinear,
     })
+}
+
+/// Whether the options of a request ask for distances; they do not where there are none.
+pub(crate) fn read_distances(request: &Value) -> Result<bool, ReadError>
+    ensures { let given = distances_given (get (codes "options") (view request.now)) in
+        Reads (view request.now) given (λ told. told) result }
+{
+    let Some(told) = distances(request.get("options")) else {
+        return Err(inner_fault(request, Key::Options, Key::Distances, Problem::NoBool));
+    };
+    Ok(told)
+}
+
+/// Whether options ask for distances.
+fn distances(options: Option<&Value>) -> Option<bool>
+    ensures { result ≡ distances_given (option_map (λ v. view v.now) options.entry) }
+{
+    match options {
+        Some(options) => flag(options.get("distances")),
+        None => Some(false),
+    }
 }
 
 /// The area that a value is, a whole number without sign that fits its type; 0 where there is none.

@@ -1,7 +1,7 @@
 //! Requests that are served, read from JSON.
 ghost use Rattle.serde_json.specs.View.{view};
 ghost use Rattle.mesh_request.specs.Errors.{Reads};
-ghost use Rattle.mesh_request.specs.Reading.{asked_in, drawn_in, request_as, request_of};
+ghost use Rattle.mesh_request.specs.Reading.{asked_in, distances_in, drawn_in, request_as, request_of};
 ghost use Rattle.mesh_request.specs.Requests.{asked_of};
 ghost use Rattle.mesh_request.specs.Typed.{untyped};
 ghost use Rattle.mesh_drawing.specs.Drawn.{drawn_of};
@@ -19,7 +19,7 @@ use crate::fault::key::Key;
 use crate::fault::member_fault;
 use crate::fault::problem::Problem;
 use crate::json::says;
-use crate::options::read_options;
+use crate::options::{read_distances, read_options};
 pub use mesh_drawing::asked::Output;
 use mesh_drawing::drawing::Drawing;
 use mesh_num::num::{IntNumber, OverlayInt};
@@ -37,6 +37,8 @@ pub struct Request<I: OverlayInt> {
     pub drawing: Drawing<I>,
     /// What is listed of it.
     pub output: Output<I::WideUInt>,
+    /// Whether distances are told of its shapes.
+    pub distances: bool,
 }
 
 impl<I: OverlayInt> Model for Request<I> {
@@ -49,6 +51,7 @@ impl<I: OverlayInt> Model for Request<I> {
       unit = I.unit;
       drawn = drawn_of I.value r.drawing;
       asked = asked_of I.WideUInt.value r.output;
+      distances = r.distances;
     } };
 }
 
@@ -81,7 +84,12 @@ pub fn read_request<I: OverlayInt>(alloc: Global, value: &Value) -> Result<Reque
 {
     let drawing = read_drawing(alloc, value)?;
     let output = read_output::<I>(value)?;
-    Ok(Request { drawing, output })
+    let distances = asks_for_distances(value)?;
+    Ok(Request {
+        drawing,
+        output,
+        distances,
+    })
 }
 
 /// Whether a request names an operation.
@@ -118,4 +126,14 @@ fn read_output<I: IntNumber>(value: &Value) -> Result<Output<I::WideUInt>, ReadE
     } else {
         Err(member_fault(value, Key::Out, Problem::NoOutput))
     }
+}
+
+/// Whether a request asks for distances. Options are looked at for shapes alone.
+fn asks_for_distances(value: &Value) -> Result<bool, ReadError>
+    ensures { Reads (view value.now) (distances_in (view value.now)) (λ told. told) result }
+{
+    if says(value, "out", "edges") {
+        return Ok(false);
+    }
+    read_distances(value)
 }
