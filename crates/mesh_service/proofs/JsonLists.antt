@@ -1,6 +1,6 @@
 -- Lemmas over lists: values of JSON in lists and in objects, and lists that vectors hold.
-use Rattle.std.proofs.Common.{◌≡◌, ℕ, List, [], ◌∷◌, false, refl, ap}
-use Rattle.std.specs.Prelude.{ℤ, pos, negsuc, map}
+use Rattle.std.proofs.Common.{◌≡◌, ℕ, List, [], ◌∷◌, Bool, false, Option, None, Some, refl, ap}
+use Rattle.std.specs.Prelude.{ℤ, pos, negsuc, map, ◌||◌}
 use Rattle.std.specs.declared.alloc.Global.{Global}
 use Rattle.std.specs.declared.vec.Vec.{Vec}
 use Rattle.serde_json.specs.Data.{Data, array}
@@ -13,6 +13,8 @@ use Rattle.mesh_num.specs.Paths.{paths_of, shapes_of}
 use Rattle.mesh_plane.specs.Plane.{Point, Edge}
 use Rattle.mesh_service.specs.Lines.{point_data, edge_data, list_data, edges_data, near_edges_data, near_shapes_data, shapes_data}
 use Rattle.mesh_service.specs.Lines.{overlap_data, overlaps_data, near_overlaps_data}
+use Rattle.mesh_service.specs.Lines.{measured_shapes_data, near_measured_shapes_data, number_or_null}
+use Rattle.mesh_service.specs.declared.distances.Distances.{Distances}
 
 whole_no_float : (z : ℤ) → is_float (of_integer z) ≡ false
 whole_no_float (pos n) = refl
@@ -51,6 +53,20 @@ near_edges_no_float nearness lists = rw (list_no_float (list_data edge_data) (li
 
 pub near_shapes_no_float : (nearness : ℕ) (shapes : List (List (List Point))) → has_float (near_shapes_data nearness shapes) ≡ false
 near_shapes_no_float nearness shapes = rw (listed_no_float shapes) refl
+
+-- nor with distances
+number_no_float : (n : Option ℕ) → has_float (number_or_null n) ≡ false
+number_no_float None = refl
+number_no_float (Some n) = refl
+
+none_of_three : (a b c : Bool) → a ≡ false → b ≡ false → c ≡ false → (a || (b || (c || false))) ≡ false
+none_of_three a b c e f h = rw (e, f, h) refl
+
+pub measured_no_float : (told : Distances) (shapes : List (List (List Point))) → has_float (measured_shapes_data told shapes) ≡ false
+measured_no_float told shapes = none_of_three _ _ _ (number_no_float told.clearance) (number_no_float told.reach) (listed_no_float shapes)
+
+pub near_measured_no_float : (nearness : ℕ) (told : Distances) (shapes : List (List (List Point))) → has_float (near_measured_shapes_data nearness told shapes) ≡ false
+near_measured_no_float nearness told shapes = none_of_three _ _ _ (number_no_float told.clearance) (number_no_float told.reach) (listed_no_float shapes)
 
 pub near_overlaps_no_float : (nearness : ℕ) (found : List Overlap) → has_float (near_overlaps_data nearness found) ≡ false
 near_overlaps_no_float nearness found = rw (list_no_float overlap_data overlap_no_float found) refl

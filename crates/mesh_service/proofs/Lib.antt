@@ -1,4 +1,5 @@
 pub mod Combinations
+pub mod Distances
 pub mod JsonLists
 pub mod Reasons
 pub mod Replies

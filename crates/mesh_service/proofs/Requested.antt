@@ -17,7 +17,7 @@ use Rattle.mesh_drawing.specs.declared.asked.Answer.{Answer}
 use Rattle.mesh_drawing.specs.declared.asked.Output.{Output}
 use Rattle.mesh_request.specs.Requests.{Asked, Request, asked_of}
 use Rattle.mesh_service.specs.Near.{ListsDrawingWithin}
-use Rattle.mesh_service.specs.Private.Asking.{AnswersAs, IsGivenUpAs, answer_text, asked_with, is_told}
+use Rattle.mesh_service.specs.Private.Asking.{AnswersAs, IsGivenUpAs, ListsAnswer, asked_with, is_told}
 use Rattle.mesh_service.specs.Requested.{Requested, for_drawing, requested_of}
 use Rattle.mesh_service.specs.Served.{ListsDrawing}
 use Rattle.mesh_service.specs.Serving.{exact_request, request_in}
@@ -74,43 +74,43 @@ text_unread text reason none told = (λ utf8. ap (λ (o : Option Data). option_a
 -- ---- requests that are answered
 
 -- what is asked of the drawing of a request, and listed in a line, answers it
-pub answered_as : {C W U : Type 0} (telling : Option Telling) (order : ℤ → ℤ → Ordering) (unit : ℕ) (value : U → ℕ) (drawn : Drawn) (output : Output U) (answer : Answer C W U) (line : List ℕ) →
-    MayBeDrawn unit drawn → IsDrawn order unit value drawn (asked_with telling output) answer → line ≡ answer_text (is_told telling) answer →
-    AnswersAs telling order (for_drawing (record { unit = unit; drawn = drawn; asked = asked_of value output })) line
-answered_as None order unit value drawn output (Answer.Edges lists) line accepted (asked, each) written =
-    let request : Request = record { unit = unit; drawn = drawn; asked = asked_of value output } in
+pub answered_as : {C W U : Type 0} (telling : Option Telling) (order : ℤ → ℤ → Ordering) (unit : ℕ) (value : U → ℕ) (drawn : Drawn) (output : Output U) (distances : Bool) (answer : Answer C W U) (line : List ℕ) →
+    MayBeDrawn unit drawn → IsDrawn order unit value drawn (asked_with telling output) answer → ListsAnswer distances unit drawn (is_told telling) answer line →
+    AnswersAs telling order (for_drawing (record { unit = unit; drawn = drawn; asked = asked_of value output; distances = distances })) line
+answered_as None order unit value drawn output distances (Answer.Edges lists) line accepted (asked, each) written =
+    let request : Request = record { unit = unit; drawn = drawn; asked = asked_of value output; distances = distances } in
     record {
       accepted = accepted;
       listed = subst (λ (o : Asked). ListsDrawing order request line o) (sym (ap (asked_of value) asked)) (record { lists = paths_of lists.items; each = each; written = written });
     }
-answered_as None order unit value drawn output (Answer.Shapes shapes) line accepted answered written =
-    let request : Request = record { unit = unit; drawn = drawn; asked = asked_of value output } in
+answered_as None order unit value drawn output distances (Answer.Shapes shapes) line accepted answered listed =
+    let request : Request = record { unit = unit; drawn = drawn; asked = asked_of value output; distances = distances } in
     record {
       accepted = accepted;
       listed = subst (λ (o : Asked). ListsDrawing order request line o) (sym (ap (asked_of value) answered.output))
-          (record { shapes = shapes_of shapes.items; drawn = answered.shapes; written = written });
+          (record { shapes = shapes_of shapes.items; drawn = answered.shapes; told = listed.told; distances = listed.distances; written = listed.written });
     }
-answered_as None order unit value drawn output (Answer.NearShapes near) line accepted answered written = absurd (true≢false answered.told)
-answered_as (Some telling) order unit value drawn output (Answer.Edges lists) line accepted (asked, each) written =
-    let request : Request = record { unit = unit; drawn = drawn; asked = asked_of value output } in
+answered_as None order unit value drawn output distances (Answer.NearShapes near) line accepted answered listed = absurd (true≢false answered.told)
+answered_as (Some telling) order unit value drawn output distances (Answer.Edges lists) line accepted (asked, each) written =
+    let request : Request = record { unit = unit; drawn = drawn; asked = asked_of value output; distances = distances } in
     record {
       accepted = accepted;
       listed = subst (λ (o : Asked). ListsDrawingWithin telling order request line o) (sym (ap (asked_of value) asked)) (record { lists = paths_of lists.items; each = each; written = written });
     }
-answered_as (Some telling) order unit value drawn output (Answer.Shapes shapes) line accepted answered written = absurd (false≢true answered.plain)
-answered_as (Some telling) order unit value drawn output (Answer.NearShapes near) line accepted answered written =
-    let request : Request = record { unit = unit; drawn = drawn; asked = asked_of value output } in
+answered_as (Some telling) order unit value drawn output distances (Answer.Shapes shapes) line accepted answered listed = absurd (false≢true answered.plain)
+answered_as (Some telling) order unit value drawn output distances (Answer.NearShapes near) line accepted answered listed =
+    let request : Request = record { unit = unit; drawn = drawn; asked = asked_of value output; distances = distances } in
     record {
       accepted = accepted;
       listed = subst (λ (o : Asked). ListsDrawingWithin telling order request line o) (sym (ap (asked_of value) answered.output))
-          (record { shapes = shapes_of near.shapes.items; nearness = near.nearness; drawn = answered.shapes; written = written });
+          (record { shapes = shapes_of near.shapes.items; nearness = near.nearness; drawn = answered.shapes; told = listed.told; distances = listed.distances; written = listed.written });
     }
 
 -- one that takes more splits than it may is given up
-pub given_up_as : {U : Type 0} (telling : Option Telling) (unit : ℕ) (value : U → ℕ) (drawn : Drawn) (output : Output U) → PassesLimit unit drawn (asked_with telling output) →
-    IsGivenUpAs telling (for_drawing (record { unit = unit; drawn = drawn; asked = asked_of value output }))
-given_up_as None unit value drawn output passed = absurd (omega (arith, passed.limited))
-given_up_as (Some telling) unit value drawn output passed = record {
+pub given_up_as : {U : Type 0} (telling : Option Telling) (unit : ℕ) (value : U → ℕ) (drawn : Drawn) (output : Output U) (distances : Bool) → PassesLimit unit drawn (asked_with telling output) →
+    IsGivenUpAs telling (for_drawing (record { unit = unit; drawn = drawn; asked = asked_of value output; distances = distances }))
+given_up_as None unit value drawn output distances passed = absurd (omega (arith, passed.limited))
+given_up_as (Some telling) unit value drawn output distances passed = record {
   choices = choices_of value passed.options;
   shapes = ap (asked_of value) passed.output;
   accepted = passed.accepted;

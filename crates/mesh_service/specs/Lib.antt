@@ -1,3 +1,4 @@
+pub mod Distances
 pub mod Lines
 pub mod Near
 pub mod Private

@@ -1,12 +1,13 @@
 -- Lines: edges, shapes and overlaps of zones, as data and as text of JSON.
-use Rattle.std.specs.Prelude.{ℕ, List, [], ◌∷◌, ◌++◌, Bool, false, true, map, codes, decimal}
-use Rattle.serde_json.specs.Data.{Data, number, unsigned, string, array, object, item, no_items, member, no_members}
+use Rattle.std.specs.Prelude.{ℕ, List, [], ◌∷◌, ◌++◌, Bool, false, true, Option, Some, None, map, codes, decimal}
+use Rattle.serde_json.specs.Data.{Data, null, number, unsigned, string, array, object, item, no_items, member, no_members}
 use Rattle.serde_json.specs.Find.{of_integer}
 use Rattle.serde_json.specs.View.{items_of}
 use Rattle.serde_json.specs.Written.{compact_text}
 use Rattle.mesh_plane.specs.Plane.{Point, Edge}
 use Rattle.mesh_boolean.specs.Overlaps.{Overlap}
 use Rattle.mesh_operands.specs.Combining.{Answered, as_shapes, as_overlap_list}
+use Rattle.mesh_service.specs.declared.distances.Distances.{Distances}
 
 -- a point: [x,y]
 abbrev pub point_data : Point → Data
@@ -61,10 +62,44 @@ abbrev pub told_edges_text : Bool → List (List Edge) → List ℕ
 told_edges_text false lists = edges_text lists
 told_edges_text true lists = line_text (near_edges_data 0 lists)
 
--- a line of shapes, with their nearness where that is told
-abbrev pub told_shapes_text : Bool → ℕ → List (List (List Point)) → List ℕ
-told_shapes_text false nearness shapes = shapes_text shapes
-told_shapes_text true nearness shapes = line_text (near_shapes_data nearness shapes)
+-- a number, or null where there is none
+abbrev pub number_or_null : Option ℕ → Data
+number_or_null None = null
+number_or_null (Some n) = number (unsigned n)
+
+-- distances beside a list of shapes: {"clearance2":..,"reach2":..,"shapes":[..]}
+abbrev pub measured_with : Distances → Data → Data
+measured_with told list =
+    object (member (codes "clearance2") (number_or_null told.clearance)
+    (member (codes "reach2") (number_or_null told.reach) (member (codes "shapes") list no_members)))
+
+-- the same with a nearness: {"clearance2":..,"nearness":..,"reach2":..,"shapes":[..]}
+abbrev pub near_measured_with : ℕ → Distances → Data → Data
+near_measured_with nearness told list =
+    object (member (codes "clearance2") (number_or_null told.clearance)
+    (member (codes "nearness") (number (unsigned nearness))
+    (member (codes "reach2") (number_or_null told.reach) (member (codes "shapes") list no_members))))
+
+-- shapes, with their distances
+abbrev pub measured_shapes_data : Distances → List (List (List Point)) → Data
+measured_shapes_data told shapes = measured_with told (list_data (list_data (list_data point_data)) shapes)
+
+-- the same with their nearness
+abbrev pub near_measured_shapes_data : ℕ → Distances → List (List (List Point)) → Data
+near_measured_shapes_data nearness told shapes =
+    near_measured_with nearness told (list_data (list_data (list_data point_data)) shapes)
+
+-- a number, where it is told
+abbrev pub where_told : Bool → ℕ → Option ℕ
+where_told false n = None
+where_told true n = Some n
+
+-- a line of shapes, with their nearness and with their distances, where these are told
+abbrev pub told_shapes_text : Option ℕ → Option Distances → List (List (List Point)) → List ℕ
+told_shapes_text None None shapes = shapes_text shapes
+told_shapes_text (Some nearness) None shapes = line_text (near_shapes_data nearness shapes)
+told_shapes_text None (Some told) shapes = line_text (measured_shapes_data told shapes)
+told_shapes_text (Some nearness) (Some told) shapes = line_text (near_measured_shapes_data nearness told shapes)
 
 -- the places of two zones and what both have, as a list
 abbrev pub overlap_with : ℕ → ℕ → Data → Data

@@ -1,5 +1,5 @@
 -- What is answered to requests by no more than a number of splits, with the nearness of the answer where that is asked.
-use Rattle.std.specs.Prelude.{ℕ, ◌≡◌, ℤ, List, Some, Bool, IsUtf8, Result, Ok, Err, string_bytes}
+use Rattle.std.specs.Prelude.{ℕ, ◌≡◌, ℤ, List, Option, Some, Bool, IsUtf8, Result, Ok, Err, string_bytes}
 use Rattle.std.specs.declared.alloc.Global.{Global}
 use Rattle.std.specs.Ordering.{int_cmp}
 use Rattle.std.specs.declared.cmp.Ordering.{Ordering}
@@ -17,11 +17,13 @@ use Rattle.mesh_boolean_request.specs.Requests.{RequestedCombination}
 use Rattle.mesh_operands.specs.Combining.{Answered, MayBeCombined}
 use Rattle.mesh_operands.specs.Nearness.{IsCombinationWithin, IsCombinedDrawing, all_lists}
 use Rattle.mesh_request.specs.Requests.{Asked, Request}
-use Rattle.mesh_service.specs.Lines.{told_combined_text, told_edges_text, told_shapes_text}
+use Rattle.mesh_service.specs.Distances.{AreAskedDistances}
+use Rattle.mesh_service.specs.Lines.{told_combined_text, told_edges_text, told_shapes_text, where_told}
 use Rattle.mesh_service.specs.Requested.{Requested, for_drawing, for_combination}
 use Rattle.mesh_service.specs.Served.{IsAccepted}
 use Rattle.mesh_service.specs.Serving.{request_in, IsResponse, TellsRefusal}
 use Rattle.mesh_request.specs.declared.failure.Failure.TheVariants.{Refused}
+use Rattle.mesh_service.specs.declared.distances.Distances.{Distances}
 use Rattle.mesh_service.specs.declared.near.Telling.{Telling}
 use Rattle.mesh_service.specs.declared.near_failure.NearFailure.{NearFailure}
 use Rattle.mesh_service.specs.declared.near_failure.NearFailure.TheVariants.{Failed, TooManySplits}
@@ -33,12 +35,14 @@ pub record ListsToldEdges (told : Bool) (order : ℤ → ℤ → Ordering) (requ
   pub written : line ≡ told_edges_text told lists
 
 -- the line lists the shapes of what is drawn, with these choices, which are exact farther than their nearness from each
--- drawn edge and took no more splits than they might
+-- drawn edge and took no more splits than they might, and their distances where these are asked for
 pub record ListsShapesWithin (telling : Telling) (choices : Choices) (request : Request) (line : List ℕ) : Type 0 where
   pub shapes : List (List (List Point))
   pub nearness : ℕ
   pub drawn : AreShapesWithin telling.most_splits nearness request.unit choices request.drawn shapes
-  pub written : line ≡ told_shapes_text telling.nearness nearness shapes
+  pub told : Option Distances
+  pub distances : AreAskedDistances request.distances request.unit request.drawn shapes told
+  pub written : line ≡ told_shapes_text (where_told telling.nearness nearness) told shapes
 
 -- the line lists what is asked of what is drawn
 abbrev pub ListsDrawingWithin : Telling → (ℤ → ℤ → Ordering) → Request → List ℕ → Asked → Type 0

@@ -1,5 +1,5 @@
 -- What is answered to requests.
-use Rattle.std.specs.Prelude.{ℕ, ◌≡◌, List, ℤ}
+use Rattle.std.specs.Prelude.{ℕ, ◌≡◌, List, Option, None, ℤ}
 use Rattle.std.specs.declared.cmp.Ordering.{Ordering}
 use Rattle.mesh_plane.specs.Plane.{Point, Edge}
 use Rattle.mesh_shapes.specs.Resolution.{Choices}
@@ -7,8 +7,10 @@ use Rattle.mesh_drawing.specs.Drawings.{MayBeDrawn, AreEdgesOf, AreShapesOf}
 use Rattle.mesh_boolean_request.specs.Requests.{RequestedCombination}
 use Rattle.mesh_operands.specs.Combining.{Answered, IsCombination, MayBeCombined}
 use Rattle.mesh_request.specs.Requests.{Asked, Request}
-use Rattle.mesh_service.specs.Lines.{edges_text, shapes_text, combined_text}
+use Rattle.mesh_service.specs.Distances.{AreAskedDistances}
+use Rattle.mesh_service.specs.Lines.{edges_text, told_shapes_text, combined_text}
 use Rattle.mesh_service.specs.Requested.{Requested, for_drawing, for_combination}
+use Rattle.mesh_service.specs.declared.distances.Distances.{Distances}
 
 -- what is asked for may be drawn, or the operands may be combined, so the request is accepted
 abbrev pub IsAccepted : Requested → Type 0
@@ -21,11 +23,13 @@ pub record ListsEdges (order : ℤ → ℤ → Ordering) (request : Request) (li
   pub each : AreEdgesOf order request.unit request.drawn lists
   pub written : line ≡ edges_text lists
 
--- the line lists the shapes of what is drawn, with these choices
+-- the line lists the shapes of what is drawn, with these choices, and their distances where these are asked for
 pub record ListsShapes (choices : Choices) (request : Request) (line : List ℕ) : Type 0 where
   pub shapes : List (List (List Point))
   pub drawn : AreShapesOf request.unit choices request.drawn shapes
-  pub written : line ≡ shapes_text shapes
+  pub told : Option Distances
+  pub distances : AreAskedDistances request.distances request.unit request.drawn shapes told
+  pub written : line ≡ told_shapes_text None told shapes
 
 -- the line lists what is asked of what is drawn
 abbrev pub ListsDrawing : (ℤ → ℤ → Ordering) → Request → List ℕ → Asked → Type 0

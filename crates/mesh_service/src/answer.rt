@@ -1,6 +1,6 @@
 //! Answers, written as JSON.
 
-ghost use Rattle.std.specs.Prelude.{◌≡◌, IfOk, string_bytes, codes, false};
+ghost use Rattle.std.specs.Prelude.{◌≡◌, None, Some, IfOk, string_bytes, codes, false};
 ghost use Rattle.serde_json.specs.Data.{Data, number as number_value, unsigned, array, object, item, no_items};
 ghost use Rattle.serde_json.specs.Data.{member, no_members};
 ghost use Rattle.serde_json.specs.Find.{of_integer};
@@ -11,9 +11,11 @@ ghost use Rattle.mesh_num.specs.Paths.{paths_of, shapes_of};
 ghost use Rattle.mesh_service.specs.Lines.{near_overlaps_data, overlap_data, overlap_with, overlaps_text};
 ghost use Rattle.mesh_service.specs.Lines.{point_data, edge_data, list_data, only_member, line_text, edges_text};
 ghost use Rattle.mesh_service.specs.Lines.{near_edges_data, near_shapes_data, shapes_text, too_many_text, why_data};
-ghost use Rattle.mesh_service.specs.Lines.{why_text};
+ghost use Rattle.mesh_service.specs.Lines.{measured_shapes_data, measured_with, near_measured_shapes_data};
+ghost use Rattle.mesh_service.specs.Lines.{near_measured_with, number_or_null, told_shapes_text, why_text};
 ghost use Rattle.mesh_service.specs.Reasons.{reason_text};
 
+use crate::distances::Distances;
 use crate::reason::Reason;
 use mesh_boolean::overlaps::ZoneOverlap;
 use mesh_num::num::convert::widen;
@@ -97,6 +99,110 @@ fn near_shapes_answer(alloc: Global, list: Value, nearness: u64) -> Result<Value
         (member (codes "shapes") (view list) no_members))) }
 {
     json!(in alloc; { "nearness": nearness, "shapes": list })
+}
+
+/// The line that lists shapes, with their distances. It fails only where memory is refused.
+pub fn measured_shapes_line<I: OverlayInt>(
+    alloc: Global,
+    shapes: &IntShapes<I>,
+    distances: Distances,
+) -> Result<String, AllocError>
+    ensures { IfOk result (λ s. string_bytes s ≡ line_text (measured_shapes_data distances (shapes_of shapes.now.items))) }
+{
+    let list = list_value(alloc, shapes)?;
+    let answer = measured_answer(alloc, list, distances)?;
+    line_of(alloc, &answer)
+}
+
+fn measured_answer(alloc: Global, list: Value, distances: Distances) -> Result<Value, AllocError>
+    ensures { IfOk result (λ v. view v ≡ measured_with distances (view list)) }
+{
+    let clearance = number_or_null(distances.clearance);
+    let reach = number_or_null(distances.reach);
+    json!(in alloc; { "clearance2": clearance, "reach2": reach, "shapes": list })
+}
+
+/// The line that lists shapes, with their nearness and their distances. It fails only where memory is refused.
+pub fn near_measured_shapes_line<I: OverlayInt>(
+    alloc: Global,
+    shapes: &IntShapes<I>,
+    nearness: u64,
+    distances: Distances,
+) -> Result<String, AllocError>
+    ensures { IfOk result (λ s.
+        string_bytes s ≡ line_text (near_measured_shapes_data nearness distances (shapes_of shapes.now.items))) }
+{
+    let list = list_value(alloc, shapes)?;
+    let answer = near_measured_answer(alloc, list, nearness, distances)?;
+    line_of(alloc, &answer)
+}
+
+fn near_measured_answer(
+    alloc: Global,
+    list: Value,
+    nearness: u64,
+    distances: Distances,
+) -> Result<Value, AllocError>
+    ensures { IfOk result (λ v. view v ≡ near_measured_with nearness distances (view list)) }
+{
+    let clearance = number_or_null(distances.clearance);
+    let reach = number_or_null(distances.reach);
+    json!(in alloc; { "clearance2": clearance, "nearness": nearness, "reach2": reach, "shapes": list })
+}
+
+/// A number as a value, and nothing as `null`.
+fn number_or_null(number: Option<u64>) -> Value
+    ensures { view result ≡ number_or_null number }
+{
+    match number {
+        Some(number) => Value::from(number),
+        None => Value::Null,
+    }
+}
+
+/// The line that lists shapes, with their nearness and their distances where these are told. It fails only where memory
+/// is refused.
+pub fn told_shapes_line<I: OverlayInt>(
+    alloc: Global,
+    shapes: &IntShapes<I>,
+    nearness: Option<u64>,
+    distances: Option<Distances>,
+) -> Result<String, AllocError>
+    ensures { IfOk result (λ s. string_bytes s ≡ told_shapes_text nearness distances (shapes_of shapes.now.items)) }
+{
+    match distances {
+        None => unmeasured_shapes_line(alloc, shapes, nearness),
+        Some(distances) => with_distances_line(alloc, shapes, nearness, distances),
+    }
+}
+
+/// The line that lists shapes, with their nearness where it is told.
+fn unmeasured_shapes_line<I: OverlayInt>(
+    alloc: Global,
+    shapes: &IntShapes<I>,
+    nearness: Option<u64>,
+) -> Result<String, AllocError>
+    ensures { IfOk result (λ s. string_bytes s ≡ told_shapes_text nearness None (shapes_of shapes.now.items)) }
+{
+    match nearness {
+        None => shapes_line(alloc, shapes),
+        Some(nearness) => near_shapes_line(alloc, shapes, nearness),
+    }
+}
+
+/// The line that lists shapes, with their distances, and their nearness where it is told.
+fn with_distances_line<I: OverlayInt>(
+    alloc: Global,
+    shapes: &IntShapes<I>,
+    nearness: Option<u64>,
+    distances: Distances,
+) -> Result<String, AllocError>
+    ensures { IfOk result (λ s. string_bytes s ≡ told_shapes_text nearness (Some distances) (shapes_of shapes.now.items)) }
+{
+    match nearness {
+        None => measured_shapes_line(alloc, shapes, distances),
+        Some(nearness) => near_measured_shapes_line(alloc, shapes, nearness, distances),
+    }
 }
 
 /// The line that lists overlaps of zones. It fails only where memory is refused.

@@ -54,7 +54,11 @@ const EACH: &[Key] = &[Key::Int, Key::Out];
 /// Keys that each request for shapes has.
 const EACH_OF_SHAPES: &[Key] = &[Key::Int, Key::Out, Key::Options];
 
-const OPTIONS: &[Key] = &[Key::MinArea, Key::Clockwise, Key::Collinear];
+/// The options of a drawing.
+const DRAWING_OPTIONS: &[Key] = &[Key::MinArea, Key::Clockwise, Key::Collinear, Key::Distances];
+
+/// The options of a combination.
+const COMBINATION_OPTIONS: &[Key] = &[Key::MinArea, Key::Clockwise, Key::Collinear];
 
 const FILLS: &[Key] = &[Key::Subject, Key::Clip];
 
@@ -81,10 +85,10 @@ pub(crate) fn tell_ignored<E: Write>(errors: &mut E, value: &Value) -> io::Resul
         Some(own) => tell_ignored_of_combination(errors, value, own, each)?,
         None => tell_ignored_of_drawing(errors, value, REQUEST.operand, each)?,
     }
-    if has_options && names_operation(value) {
-        tell_unknown_under(errors, value, Key::Options, OPTIONS)?;
+    match known_options(value) {
+        Some(options) if has_options => tell_unknown_under(errors, value, Key::Options, options),
+        _ => Ok(()),
     }
-    Ok(())
 }
 
 /// Tells which keys of a request that combines operands are ignored, and which keys of its operands.
@@ -155,9 +159,15 @@ fn tell_unknown_under<E: Write>(
     }
 }
 
-/// Whether a value names an operation.
-fn names_operation(value: &Value) -> bool {
-    drawing_keys(value).is_some() || combination_keys(value).is_some()
+/// The options of the operation that a value names.
+fn known_options(value: &Value) -> Option<&'static [Key]> {
+    if combination_keys(value).is_some() {
+        Some(COMBINATION_OPTIONS)
+    } else if drawing_keys(value).is_some() {
+        Some(DRAWING_OPTIONS)
+    } else {
+        None
+    }
 }
 
 /// The keys of the drawing that a value names.

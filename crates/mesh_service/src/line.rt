@@ -3,21 +3,26 @@
 ghost use Rattle.std.specs.Prelude.{◌≡◌, ◌↔◌, IfOk, string_bytes};
 ghost use Rattle.std.specs.Ordering.{int_cmp};
 ghost use Rattle.mesh_num.specs.Paths.{paths_of, shapes_of};
+ghost use Rattle.mesh_drawing.specs.Drawn.{drawn_of};
 ghost use Rattle.mesh_drawing.specs.Order.{by_values};
+ghost use Rattle.mesh_drawing.specs.Paddings.{DoesStayInRange};
 ghost use Rattle.mesh_request.specs.Typed.{untyped};
-ghost use Rattle.mesh_service.specs.Lines.{told_edges_text, told_shapes_text};
-ghost use Rattle.mesh_service.specs.Private.Asking.{AnswersAs, IsGivenUpAs, answer_text, asked_with, is_told};
+ghost use Rattle.mesh_service.specs.Lines.{told_edges_text, where_told};
+ghost use Rattle.mesh_service.specs.Private.Asking.{AnswersAs, IsGivenUpAs, ListsAnswer, ListsMeasured};
+ghost use Rattle.mesh_service.specs.Private.Asking.{asked_with, is_told};
 ghost use Rattle.mesh_service.specs.Requested.{for_drawing, requested_by};
 ghost use Rattle.mesh_service.specs.Served.{IsAccepted};
 
-use crate::answer::{edges_line, near_edges_line, near_shapes_line, shapes_line};
+use crate::answer::{edges_line, near_edges_line, told_shapes_line};
 use crate::combined::combination_line;
+use crate::distances::asked_distances;
 use crate::near::Telling;
 use crate::text::AnyRequest;
-use mesh_below::nearness::NearShapes;
 use mesh_drawing::asked::{Answer, Asked, Output};
 use mesh_drawing::draw::draw;
+use mesh_drawing::drawing::Drawing;
 use mesh_num::num::OverlayInt;
+use mesh_num::shape::buffer::IntShapes;
 use mesh_num::shape::edge::DirectedEdge;
 use mesh_offset::error::IntNearnessError;
 use mesh_request::request::{Request, TypedRequest};
@@ -73,7 +78,13 @@ fn drawn_line<I: OverlayInt>(
 {
     let asked = asked_with(telling, request.output);
     let answer = draw(alloc, &request.drawing, asked)?;
-    Ok(answer_line(alloc, &answer, is_told(telling))?)
+    Ok(answer_line(
+        alloc,
+        &request.drawing,
+        &answer,
+        is_told(telling),
+        request.distances,
+    )?)
 }
 
 /// What is asked of a drawing. Where there is a telling, shapes are promised to be exact within some nearness, whether or
@@ -105,18 +116,26 @@ fn is_told(telling: Option<Telling>) -> bool
     }
 }
 
-/// The line that lists an answer, with its nearness where that is told.
+/// The line that lists an answer, with its nearness where that is told, and the distances of shapes where these are asked
+/// for.
 fn answer_line<I: OverlayInt>(
     alloc: Global,
+    drawing: &Drawing<I>,
     answer: &Answer<I>,
     told: bool,
+    distances: bool,
 ) -> Result<String, AllocError>
-    ensures { IfOk result (λ line. string_bytes line ≡ answer_text told answer.now) }
+    requires { DoesStayInRange I.unit (drawn_of I.value drawing.now) }
+    ensures { IfOk result (λ line.
+        ListsAnswer distances I.unit (drawn_of I.value drawing.now) told answer.now (string_bytes line)) }
 {
     match answer {
         Answer::Edges(lists) => told_edges_line(alloc, lists, told),
-        Answer::Shapes(shapes) => shapes_line(alloc, shapes),
-        Answer::NearShapes(near) => told_shapes_line(alloc, near, told),
+        Answer::Shapes(shapes) => measured_line(alloc, drawing, shapes, None, distances),
+        Answer::NearShapes(near) => {
+            let nearness = where_told(told, near.nearness);
+            measured_line(alloc, drawing, &near.shapes, nearness, distances)
+        }
     }
 }
 
@@ -135,18 +154,26 @@ fn told_edges_line<I: OverlayInt>(
     }
 }
 
-/// The line that lists shapes, with their nearness where that is told.
-fn told_shapes_line<I: OverlayInt>(
-    alloc: Global,
-    near: &NearShapes<I>,
-    told: bool,
-) -> Result<String, AllocError>
-    ensures { IfOk result (λ line.
-        string_bytes line ≡ told_shapes_text told near.now.nearness (shapes_of near.now.shapes.items)) }
+/// A number, where it is told.
+fn where_told(told: bool, number: u64) -> Option<u64>
+    ensures { result ≡ where_told told number }
 {
-    if told {
-        near_shapes_line(alloc, &near.shapes, near.nearness)
-    } else {
-        shapes_line(alloc, &near.shapes)
-    }
+    if told { Some(number) } else { None }
+}
+
+/// The line that lists shapes of a drawing, with a nearness where there is one, and their distances where these are asked
+/// for.
+fn measured_line<I: OverlayInt>(
+    alloc: Global,
+    drawing: &Drawing<I>,
+    shapes: &IntShapes<I>,
+    nearness: Option<u64>,
+    distances: bool,
+) -> Result<String, AllocError>
+    requires { DoesStayInRange I.unit (drawn_of I.value drawing.now) }
+    ensures { let drawn = drawn_of I.value drawing.now in IfOk result (λ line.
+        ListsMeasured distances I.unit drawn nearness (shapes_of shapes.now.items) (string_bytes line)) }
+{
+    let told = asked_distances(alloc, drawing, shapes, distances)?;
+    told_shapes_line(alloc, shapes, nearness, told)
 }

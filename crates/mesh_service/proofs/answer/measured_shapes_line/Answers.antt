@@ -1,0 +1,19 @@
+-- The value that lists the shapes with their distances, and that it has no float.
+use Rattle.std.proofs.Common.{ap, ◌∙◌}
+use Rattle.std.proofs.lemmas.Result.{IfOk-weaker}
+use Rattle.serde_json.specs.Written.{has_float}
+use Rattle.mesh_num.specs.Paths.{shapes_of}
+use Rattle.mesh_service.specs.Lines.{point_data, line_text, measured_shapes_data, measured_with}
+use Rattle.mesh_service.proofs.JsonLists.{measured_no_float, shapes_listed}
+use Rattle.mesh_service.proofs.answer.measured_shapes_line.Goals as goal
+
+pub line_of-requires : goal.line_of-requires
+line_of-requires g c =
+    let given = c.deref.result.now in
+    let shown = c.in_ok-answer.ensures ∙ ap (measured_with c.args.distances) (c.in_ok-list.ensures ∙ shapes_listed point_data given) in
+    ap has_float shown ∙ measured_no_float c.args.distances (shapes_of given)
+
+pub returns : goal.returns
+returns g c =
+    let shown = c.in_ok-answer.ensures ∙ ap (measured_with c.args.distances) (c.in_ok-list.ensures ∙ shapes_listed point_data c.deref.result.now) in
+    IfOk-weaker c.line_of.result _ _ (λ line told. told ∙ ap line_text shown ∙ ap (λ s. line_text (measured_shapes_data c.args.distances (shapes_of s))) c.deref.ensures.value) c.line_of.ensures
