@@ -61,6 +61,19 @@ fn one_key_more(rt: HostRuntime) -> Result<(), Fail> {
     Ok(())
 }
 
+/// A drawing of which distances are asked for, and its answer with them and with its nearness.
+const MEASURED: &[u8] =
+    br#"{"op":"stroke","int":"i32","out":"shapes","paths":[[[0,0],[100,0]]],"style":{"width":20,"start":"square","end":"square"},"options":{"distances":true}}"#;
+
+const MEASURED_ANSWER: &[u8] =
+    b"{\"clearance2\":100,\"nearness\":0,\"reach2\":98,\"shapes\":[[[[-10,-10],[110,-10],[110,10],[-10,10]]]]}\n";
+
+/// Distances stand beside the nearness.
+#[test]
+fn distances_beside_it(rt: HostRuntime) -> Result<(), Fail> {
+    expect_replies(rt.alloc(), &[MEASURED], NEAR, &[MEASURED_ANSWER])
+}
+
 /// Each answer tells its own nearness, and other replies are as without.
 #[test]
 fn each_line_tells_its_own(rt: HostRuntime) -> Result<(), Fail> {

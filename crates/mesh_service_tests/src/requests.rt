@@ -4,6 +4,7 @@ use crate::tables::booleans::notes::COMBINATIONS_REFUSED;
 use crate::tables::booleans::reasons::{BOOLEAN_REASONS, OPERAND_REASONS, ZONE_REASONS};
 use crate::tables::booleans::rules::{BOOLEANS, DRAWN_BOOLEANS};
 use crate::tables::booleans::zones::{COVERAGES, OVERLAPS};
+use crate::tables::distances::{DISTANCES, DISTANCES_UNREADABLE};
 use crate::tables::edges::EDGES;
 use crate::tables::miters::MITERS;
 use crate::tables::refused::REFUSED;
@@ -131,6 +132,13 @@ fn variable_strokes_not_answered(rt: HostRuntime) -> Result<(), Fail> {
     expect_failures(alloc, refused, Status::Refused, OUT_OF_RANGE)?;
     let unreadable = VARIABLE_STROKES_UNREADABLE;
     expect_failures(alloc, unreadable, Status::Unreadable, NOT_SERVED)
+}
+
+#[test]
+fn distances_told(rt: HostRuntime) -> Result<(), Fail> {
+    expect_answered(rt.alloc(), DISTANCES)?;
+    let unreadable = DISTANCES_UNREADABLE;
+    expect_failures(rt.alloc(), unreadable, Status::Unreadable, NOT_SERVED)
 }
 
 #[test]

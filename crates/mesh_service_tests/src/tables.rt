@@ -1,6 +1,7 @@
 //! Requests and what is written for them, as data. An answer stands without its line feed.
 
 pub mod booleans;
+pub mod distances;
 pub mod edges;
 pub mod miters;
 pub mod notes;

@@ -39,6 +39,10 @@ pub const ANSWERED: &[(&str, &str)] = &[
         "options: \"min_aera\" is ignored\n",
     ),
     (
+        r#"{"op":"outline","int":"i32","out":"shapes","paths":[],"style":{"outer":1,"inner":1},"options":{"distances":true}}"#,
+        "",
+    ),
+    (
         r#"{"op":"outline","int":"i32","out":"edges","paths":[],"style":{"outer":1,"inner":1,"miter":4},"closed":true}"#,
         "\"closed\" is ignored\nstyle: \"miter\" is ignored\n",
     ),

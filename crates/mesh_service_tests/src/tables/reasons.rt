@@ -323,6 +323,10 @@ pub const STROKE_REASONS: &[(&str, &str)] = &[
         "options.collinear: true or false is needed\n",
     ),
     (
+        r#"{"op":"outline","int":"i16","out":"shapes","paths":[[[0,0],[9,0],[0,9]]],"style":{"outer":1,"inner":1},"options":{"distances":1}}"#,
+        "options.distances: true or false is needed\n",
+    ),
+    (
         r#"{"op":"outline","int":"i32","out":"edges","paths":[[[0,0],[9,0],[0,9]]],"style":{"outer":1,"inner":1},"scale":0.5}"#,
         "a number is no whole number from -2^63 to 2^64-1, under a key that is ignored\n\"scale\" is ignored\n",
     ),

@@ -47,7 +47,7 @@ pub const COMBINATIONS_ANSWERED: &[(&str, &str)] = &[
         "\"rule\" is ignored\nzones[1]: \"out\" is ignored\nzones[1].style: \"width\" is ignored\n",
     ),
     (
-        r#"{"op":"overlaps","int":"i32","out":"shapes","zones":[],"least":1,"fill":"positive","options":{"collinear":true}}"#,
-        "\"least\" is ignored\n",
+        r#"{"op":"overlaps","int":"i32","out":"shapes","zones":[],"least":1,"fill":"positive","options":{"collinear":true,"distances":true}}"#,
+        "\"least\" is ignored\noptions: \"distances\" is ignored\n",
     ),
 ];
