@@ -17,6 +17,7 @@ import sys
 import time
 
 from answering import answer
+from clearance import clearance
 from random_requests import request
 from reading import Reader
 from relation import Relation
@@ -40,7 +41,7 @@ def rows(folder):
             continue
         for name, table in re.findall(r"^pub const (\w+): .*? = &\[$(.*?)^\];$", path.read_text(), re.M | re.S):
             found = list(strings(table))
-            if found[1].startswith(('{"edges":', '{"shapes":')):
+            if found[1].startswith(('{"edges":', '{"shapes":', '{"clearance2":')):
                 yield from ((text, (0, line + "\n", None)) for text, line in zip(found[::2], found[1::2]))
             elif name.split("_")[-1] in FAILURES:
                 yield from ((text, FAILURES[name.split("_")[-1]]) for text in found)
@@ -57,6 +58,14 @@ def asked_lines(program, texts):
     for line in found.stdout.decode().splitlines():
         yield 2 if "unreadable" in line else 1 if "refused" in line else 0, line + "\n", None
 
+def distance_fault(request, shapes, told):
+    """What is wrong with the distances that are told of shapes. How near a stroke holds points is not compared."""
+    if sorted(told) != (["clearance2", "reach2"] if request.options["distances"] else []):
+        return "distances are to be told just where they are asked for"
+    if told and told["clearance2"] != clearance(request, shapes):
+        return f"the clearance {clearance(request, shapes)} is needed"
+    return "no reach is to be told" if told and told["reach2"] is not None and request.op != "stroke" else ""
+
 def fault(text, answered, limit):
     """What is wrong with an answer to a request, and what it was held against. Nothing is where the fault is empty."""
     (expected, expected_line, expected_told), (status, line, told) = answer(text.encode()), answered
@@ -64,6 +73,7 @@ def fault(text, answered, limit):
     if not isinstance(found, dict) or json.dumps(found, separators=(",", ":")) + "\n" != line:
         return "a compact line with an object is needed", "the form"
     nearness, told = found.pop("nearness", None), [found.pop("why")] if "why" in found else told
+    distances = {key: found.pop(key) for key in ("clearance2", "reach2") if key in found}
     relation = Relation(Reader().read(text.encode())) if expected_line.startswith('{"shapes"') else None
     if relation and limit:
         is_refused = found == {"refused": f"splitting took more than {limit} splits"}
@@ -76,8 +86,9 @@ def fault(text, answered, limit):
                              not "".join(told[:1]).startswith(expected_told[0])):
         return f"{expected_told} is to be told", "what is told"
     if relation and list(found) == ["shapes"]:
-        return relation.fault(found["shapes"], nearness)
-    is_right = found == json.loads(expected_line) and nearness in (None, 0)
+        wrong = distance_fault(Reader().read(text.encode()), found["shapes"], distances)
+        return (wrong, "distances") if wrong else relation.fault(found["shapes"], nearness)
+    is_right = found == json.loads(expected_line) and nearness in (None, 0) and not distances
     return "" if is_right else f"the line is to be {expected_line}", ["edges", "a refusal", "no request"][status]
 
 def main():

@@ -5,7 +5,7 @@ from fractions import Fraction
 from plane import cross, crossing, dot, double_area, loop, minus, winding
 from splitting import counted, split
 
-DEFAULT_OPTIONS = {"min_area": 0, "clockwise": False, "collinear": False}
+DEFAULT_OPTIONS = {"min_area": 0, "clockwise": False, "collinear": False, "distances": False}
 
 def boundary_of(counts, fill):
     """Each split segment whose sides differ in fill, once, directed with the filled side on its left. The side to the

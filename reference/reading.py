@@ -120,8 +120,8 @@ class Reader:
         needed(isinstance(value, dict), "options: an object is needed")
         area = value.get("min_area", 0)
         needed(type(area) is int and 0 <= area < 4 * self.width.least ** 2, "options.min_area: ")
-        flags = {key: self.flag(value.get(key, False), f"options.{key}") for key in ("clockwise", "collinear")}
-        return {"min_area": area, **flags}
+        flags = [key for key in DEFAULT_OPTIONS if key != "min_area"]
+        return {"min_area": area, **{key: self.flag(value.get(key, False), f"options.{key}") for key in flags}}
 
     def read(self, text):
         """The request in a text."""
