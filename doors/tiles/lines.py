@@ -38,6 +38,11 @@ def is_drawing(request):
     )
 
 
+def asks_for_distances(request):
+    """Whether a request asks for distances of its shapes, which are told of the whole."""
+    return request["out"] == "shapes" and request.get("options", {}).get("distances", False) is not False
+
+
 def is_vertex(value, size):
     """Whether a value is a list of so many whole numbers."""
     return isinstance(value, list) and len(value) == size and all(type(number) is int for number in value)
@@ -49,7 +54,7 @@ def cut(text):
     if request is None:
         return [b"?\n"]
     try:
-        if not is_drawing(request):
+        if not is_drawing(request) or asks_for_distances(request):
             return [line_of(request)]
         if request["out"] == "edges":
             numbers = range(len(request["paths"]))
@@ -79,7 +84,7 @@ def join(text, answers):
     for part, line in zip(parts, answers):
         if "refused" in part:
             return line
-    if "overlaps" in parts[0]:
+    if "overlaps" in parts[0] or "clearance2" in parts[0]:
         return answers[0]
     request = read_request(text)
     if request["out"] == "edges":

@@ -110,6 +110,11 @@ class Joining(unittest.TestCase):
             self.assertEqual(cut(line_of(request)), [line_of(request)])
             self.assertEqual(answered(request), answer(line_of(request)))
 
+    def test_distances_are_of_the_whole(self):
+        request = {**outline([square(0, 0, 10), square(90, 0, 10)], 3), "options": {"distances": True}}
+        self.assertEqual(cut(line_of(request)), [line_of(request)])
+        self.assertEqual(answered(request), answer(line_of(request)))
+
     def test_what_is_no_request(self):
         for text in (b"", b"{", b"[]", b"\xff", b'{"op":"outline"}', b'"\n"', b"[" * 5000, b"\xef\xbb\xbf{}"):
             self.assertEqual(join(text, [answer(line) for line in cut(text)]), UNREADABLE)
