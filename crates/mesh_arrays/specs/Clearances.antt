@@ -12,10 +12,8 @@ use Rattle.mesh_arrays.specs.Numbers.{whole_point}
 use Rattle.mesh_arrays.specs.ShapeRooms.{ShapeLists}
 use Rattle.mesh_arrays.specs.Slivers.{AreShapesIn}
 use Rattle.mesh_arrays.specs.Styles.{flag_in}
-use Rattle.mesh_arrays.specs.Telling.{Returns, TellsAnswer}
+use Rattle.mesh_arrays.specs.Telling.{LeavesNumber, Returns, TellsAnswer}
 use Rattle.mesh_arrays.specs.declared.failure.Failure.{Failure}
-use Rattle.mesh_arrays.specs.declared.outcome.Outcome.{Outcome}
-use Rattle.mesh_arrays.specs.declared.outcome.Outcome.TheVariants.{Answered}
 
 -- shapes and paths that are given in lists, and whether the paths are closed
 pub record AreMeasured {F : Type 0} (point_of : F → Point) (given : ShapeLists F) (path_points : List F)
@@ -59,12 +57,8 @@ IsClearanceAnswer point_of given path_points path_ends closed answer =
     MatchResult answer (AnswersClearance point_of given path_points path_ends closed)
     (HasNoClearance point_of given path_points path_ends closed)
 
--- a clearance is told as it is
-pub data LeavesClearance (clearance old new : ℕ) : Outcome → Type 0 where
-  told : new ≡ clearance → LeavesClearance clearance old new Answered
-
 -- a call for the clearance between given shapes and paths
 abbrev pub TellsClearance : ShapeLists (List ℤ) → List (List ℤ) → List ℕ → ℕ → ℕ → ℕ → ℕ → Type 0
 TellsClearance given path_points path_ends closed old new code =
-    Returns (λ ended. TellsAnswer (IsClearanceAnswer whole_point given path_points path_ends closed) LeavesClearance old new
+    Returns (λ ended. TellsAnswer (IsClearanceAnswer whole_point given path_points path_ends closed) LeavesNumber old new
     ended) code

@@ -11,6 +11,7 @@ pub mod Numbers
 pub mod Outcomes
 pub mod Private
 pub mod Ranges
+pub mod Reaches
 pub mod Rooms
 pub mod ShapeRooms
 pub mod Slivers

@@ -21,6 +21,10 @@ pub data IsTold {A R : Type 0} (Leaves : A → R → R → Outcome → Type 0) (
       → IsTold Leaves answer old new ended
   refused : {failure : Failure} → answer ≡ Err failure → new ≡ old → IsTold Leaves answer old new (outcome_of failure)
 
+-- a number is told as it is
+pub data LeavesNumber (number old new : ℕ) : Outcome → Type 0 where
+  told : new ≡ number → LeavesNumber number old new Answered
+
 -- a call tells an answer, of which `IsAnswer` says what it may be
 pub record TellsAnswer {A R : Type 0} (IsAnswer : Result A Failure → Type 0) (Leaves : A → R → R → Outcome → Type 0)
     (old new : R) (ended : Outcome) : Type 0 where

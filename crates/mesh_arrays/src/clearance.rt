@@ -1,15 +1,16 @@
 //! How near shapes in lists come to paths.
 
 ghost use Rattle.std.specs.Prelude.{◌≡◌, ◌-◌, ◌^◌, MatchOption, min};
-ghost use Rattle.mesh_arrays.specs.Clearances.{IsClearanceAnswer, LeavesClearance};
+ghost use Rattle.mesh_arrays.specs.Clearances.{IsClearanceAnswer};
 ghost use Rattle.mesh_arrays.specs.ShapeRooms.{shape_lists};
-ghost use Rattle.mesh_arrays.specs.Telling.{IsTold, TellsAnswer};
+ghost use Rattle.mesh_arrays.specs.Telling.{LeavesNumber, TellsAnswer};
 
 use crate::failure::Failure;
 use crate::given::read_shapes;
 use crate::lists::read_lists;
 use crate::numbers::Flat;
 use crate::outcome::Outcome;
+use crate::room::hand_over_number;
 use crate::styles::flag;
 use mesh_clearance::clearance::clearance_of;
 use mesh_num::num::{IntNumber, IntPoint};
@@ -29,7 +30,7 @@ pub fn tell_clearance<I: IntNumber, P: Flat<Item = IntPoint<I>>>(
 ) -> Outcome
     ensures { TellsAnswer
         (IsClearanceAnswer P.item_of (shape_lists points.now contour_ends.now shape_ends.now)
-        path_points.now path_ends.now closed) LeavesClearance clearance.old clearance.new result }
+        path_points.now path_ends.now closed) LeavesNumber clearance.old clearance.new result }
 {
     let answer = clearance_between(
         alloc,
@@ -40,20 +41,7 @@ pub fn tell_clearance<I: IntNumber, P: Flat<Item = IntPoint<I>>>(
         path_ends,
         closed,
     );
-    hand_over(&answer, clearance)
-}
-
-/// Tells the clearance. Where there is none, what is told stays as it was.
-fn hand_over(answer: &Result<u64, Failure>, clearance: &mut u64) -> Outcome
-    ensures { IsTold LeavesClearance answer.now clearance.old clearance.new result }
-{
-    match answer {
-        Ok(found) => {
-            *clearance = *found;
-            Outcome::Answered
-        }
-        Err(failure) => Outcome::of(*failure),
-    }
+    hand_over_number(&answer, clearance)
 }
 
 /// How near the edges of the shapes that stand end to end in `points` come to the paths that stand end to end in

@@ -2,7 +2,9 @@
 
 ghost use Rattle.std.specs.Prelude.{◌≡◌, ◌≤◌, length};
 ghost use Rattle.mesh_arrays.specs.Rooms.{IsHandedOver, overwritten};
+ghost use Rattle.mesh_arrays.specs.Telling.{IsTold, LeavesNumber};
 
+use crate::failure::Failure;
 use crate::outcome::Outcome;
 
 /// Copies the bytes to the beginning of the room where they fit, and tells how many they are. The call that does so
@@ -17,6 +19,19 @@ pub fn hand_over(bytes: &[u8], told: Outcome, room: &mut [u8], needed: &mut usiz
     }
     put(bytes, room);
     told
+}
+
+/// Tells a number. Where there is none, what is told stays as it was.
+pub(crate) fn hand_over_number(answer: &Result<u64, Failure>, number: &mut u64) -> Outcome
+    ensures { IsTold LeavesNumber answer.now number.old number.new result }
+{
+    match answer {
+        Ok(found) => {
+            *number = *found;
+            Outcome::Answered
+        }
+        Err(failure) => Outcome::of(*failure),
+    }
 }
 
 /// Copies the items to the beginning of the room, where they have to fit.

@@ -11,6 +11,7 @@ ghost use Rattle.mesh_arrays.specs.ShapeRooms.{TellsNear, TellsShapes, near_room
 ghost use Rattle.mesh_arrays.specs.Slivers.{TellsSlivers};
 
 pub mod boolean;
+pub mod inner;
 pub mod nets;
 pub mod text;
 
