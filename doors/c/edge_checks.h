@@ -11,6 +11,12 @@ static void take_edge_lists(struct edge_lists *to, mesh_edge_counts room)
     to->counts = (mesh_edge_counts){77, 77};
 }
 
+static void drop_edge_lists(struct edge_lists *it)
+{
+    free(it->edges);
+    free(it->path_ends);
+}
+
 static mesh_outcome draw_edges(const struct drawing *it, struct edge_lists *to)
 {
     return (it->width == 32 ? draw_edges_i32 : draw_edges_i16)(it, to);
@@ -50,8 +56,7 @@ static mesh_edge_counts check_edges_in(const struct test_case *it, mesh_edge_cou
                || (room.edges >= lists.counts.edges && room.paths >= lists.counts.paths)) {
         fail(it, "a list of edges that is too small is changed, or not told");
     }
-    free(lists.edges);
-    free(lists.path_ends);
+    drop_edge_lists(&lists);
     return lists.counts;
 }
 
@@ -82,8 +87,7 @@ static size_t check_edges_refused(const struct test_case *it)
         int is_same = outcome == MESH_ROOM_TOO_SMALL || (outcome == MESH_OUT_OF_RANGE && it->status == 1);
         if (!is_answer && !is_same && !(is_met && is_told))
             fail(it, "refused memory is not told of edges");
-        free(lists.edges);
-        free(lists.path_ends);
+        drop_edge_lists(&lists);
         if (!is_met)
             return number - 1;
     }

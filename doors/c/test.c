@@ -383,6 +383,7 @@ static void put(struct writer *to, const char *format, ...)
 #include "draw.h"
 #include "slivers.h"
 #include "clearance.h"
+#include "inner_reach.h"
 #include "booleans.h"
 #include "nets.h"
 #undef OF
@@ -390,6 +391,7 @@ static void put(struct writer *to, const char *format, ...)
 #include "draw.h"
 #include "slivers.h"
 #include "clearance.h"
+#include "inner_reach.h"
 #include "booleans.h"
 #include "nets.h"
 #undef OF
@@ -516,8 +518,10 @@ static void check_limit(const struct test_case *it, uint64_t most)
 
 static size_t check_drawing_refused(drawer *draw, const struct test_case *it);
 
+#include "edge_checks.h"
 #include "sliver_checks.h"
 #include "clearance_checks.h"
+#include "inner_reach_checks.h"
 #include "boolean_checks.h"
 #include "net_checks.h"
 
@@ -529,10 +533,9 @@ static void check_drawing(const struct test_case *it)
     check_limit(it, UINT64_MAX);
     check_slivers(it);
     check_clearance(it);
+    check_inner_reach(it);
     check_booleans(it);
 }
-
-#include "edge_checks.h"
 
 /* A drawing whose ends are none, or whose style stands for nothing, is told as malformed. */
 static void check_malformed(const struct test_case *it)
@@ -696,7 +699,8 @@ static size_t check_all_refused(const struct test_case *it)
     if (it->drawing.for_edges)
         return growths + check_edges_refused(it);
     return growths + check_drawing_refused(draw, it) + check_drawing_refused(draw_with_nearness, it)
-        + check_slivers_refused(it) + check_clearance_refused(it) + check_booleans_refused(it);
+        + check_slivers_refused(it) + check_clearance_refused(it) + check_inner_reach_refused(it)
+        + check_booleans_refused(it);
 }
 
 int main(int count, char **words)
@@ -724,7 +728,7 @@ int main(int count, char **words)
             }
         }
         check_in_threads(&cases);
-        if (!drawn || !given_up || !lines_given_up || !left_out || !measured || !combined)
+        if (!drawn || !given_up || !lines_given_up || !left_out || !measured || !held || !combined)
             return 1;
         printf("C: %zu requests and %zu drawings in arrays are answered as by the program, in %d threads at once.\n",
                cases.count, drawn, THREADS);

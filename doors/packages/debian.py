@@ -71,7 +71,7 @@ def lay_out_debian(debian, known, author):
 
 def first_version(name):
     """The version that has a call first."""
-    return "1.2.0" if name.startswith(("mesh_boolean", "mesh_clearances")) else "1.1.0"
+    return "1.2.0" if name.startswith(("mesh_boolean", "mesh_clearances", "mesh_inner_reach")) else "1.1.0"
 
 
 def make(known, out):
