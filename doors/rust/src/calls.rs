@@ -235,6 +235,11 @@ calls! {
         shape_ends: *const usize, shape_count: usize, path_points: *const [I; 2], path_point_count: usize,
         path_ends: *const usize, path_count: usize, closed: u32, clearance: *mut u64,
     );
+    inner_reach: mesh_inner_reach_i32, mesh_inner_reach_i16, (
+        points: *const [I; 2], point_count: usize, ends: *const usize, end_count: usize,
+        style: *const RawStrokeStyle, start_points: *const [I; 2], start_point_count: usize,
+        end_points: *const [I; 2], end_point_count: usize, reach: *mut u64,
+    );
     clearances: mesh_clearances_i32, mesh_clearances_i16, (
         points: *const [I; 2], point_count: usize, contour_ends: *const usize, contour_count: usize,
         net_ends: *const usize, net_count: usize, distance: u32,

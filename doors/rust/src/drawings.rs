@@ -399,6 +399,43 @@ pub fn validate_variable_stroke<I: Coordinate, P: AsRef<[[I; 3]]>>(paths: &[P], 
     })
 }
 
+/// How near to its paths a stroke holds every point for certain: the square of that distance, in grid units. The stroke of
+/// a path holds each point whose squared distance from a section of it is at most that. Points beyond an end with a butt
+/// cap, and on the line across it, are left out.
+///
+/// It is 0 where nothing is told, not even of points of the paths: of one side, of widths of at most 2 or above 2^29, or
+/// 2^13 in 16 bits, where no path has a section, and where a join or cap leaves no room, as a bevel does where a path turns
+/// back.
+///
+/// ```
+/// use i_overlay_mesh::{inner_reach, Arc, Cap, Join, StrokeStyle};
+///
+/// let round = Arc::default();
+/// let style = StrokeStyle {
+///     join: Join::Round(round),
+///     start_cap: Cap::Round(round),
+///     end_cap: Cap::Round(round),
+///     ..StrokeStyle::new(2000)
+/// };
+/// // Arcs lie inside their circles, so a little less than half of the width is certain.
+/// let reach = inner_reach(&[[[0, 0], [5000, 0], [0, 4000]]], &style)?;
+/// assert!(980 * 980 < reach && reach <= 1000 * 1000);
+/// # Ok::<(), i_overlay_mesh::Error>(())
+/// ```
+pub fn inner_reach<I: Coordinate, P: AsRef<[[I; 2]]>>(paths: &[P], style: &StrokeStyle<I>) -> Result<u64, Error> {
+    let flat = Flat::of(paths)?;
+    let (start, end) = (style.start_cap.points(), style.end_cap.points());
+    let style = style.raw();
+    let mut reach = 0;
+    ended(unsafe {
+        (I::CALLS.inner_reach)(
+            flat.items.as_ptr(), flat.items.len(), flat.ends.as_ptr(), flat.ends.len(), &style,
+            start.as_ptr(), start.len(), end.as_ptr(), end.len(), &mut reach,
+        )
+    })?;
+    Ok(reach)
+}
+
 impl<I: Coordinate> Shapes<I> {
     /// How near the edges come to paths: the square of the least distance, in grid units and rounded down. It is
     /// `u64::MAX` where there is no edge or no path, and where the square does not fit, which takes coordinates of 2^30

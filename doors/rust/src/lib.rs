@@ -31,8 +31,9 @@ pub use answers::{Edges, NearShapes, Shape, Shapes};
 pub use booleans::{boolean, boolean_near, Boolean, BooleanRule, FillRule};
 pub use calls::Coordinate;
 pub use drawings::{
-    outline, outline_edges, outline_near, stroke, stroke_edges, stroke_near, validate_outline, validate_stroke,
-    validate_variable_stroke, variable_stroke, variable_stroke_edges, variable_stroke_near, without_slivers, Range,
+    inner_reach, outline, outline_edges, outline_near, stroke, stroke_edges, stroke_near, validate_outline,
+    validate_stroke, validate_variable_stroke, variable_stroke, variable_stroke_edges, variable_stroke_near,
+    without_slivers, Range,
 };
 pub use error::Error;
 pub use nets::{clearances, NetClearance};

@@ -175,6 +175,25 @@ fn clearances_are_squares_of_distances() {
 }
 
 #[test]
+fn strokes_hold_points_that_are_near() {
+    let line = [[0, 0], [1000, 0]];
+    let style = StrokeStyle { start_cap: Cap::Square, end_cap: Cap::Square, ..StrokeStyle::new(200) };
+    let reach = inner_reach(&[line], &style).unwrap();
+    assert!(98 * 98 < reach && reach <= 100 * 100);
+    // A butt takes nothing away; a bevel comes nearer to a corner; and one that turns back leaves nothing.
+    assert_eq!(inner_reach(&[line], &StrokeStyle::new(200)), Ok(reach));
+    let corner = inner_reach(&[[[0, 0], [1000, 0], [1000, 1000]]], &style).unwrap();
+    assert!(69 * 69 < corner && corner <= 71 * 71);
+    assert_eq!(inner_reach(&[[[0, 0], [1000, 0], [0, 0]]], &style), Ok(0));
+    assert_eq!(inner_reach(&[line], &StrokeStyle { side: Side::Left, ..style.clone() }), Ok(0));
+    assert_eq!((inner_reach(&[[[5, 5]]], &style), inner_reach::<i32, [[i32; 2]; 1]>(&[], &style)), (Ok(0), Ok(0)));
+    assert_eq!(inner_reach(&[[[0, 0], [1 << 30, 0]]], &style), Err(Error::OutOfRange));
+    let narrow = StrokeStyle::<i16>::new(200);
+    assert_eq!(inner_reach(&[[[0, 0], [1000, 0]]], &narrow), Ok(reach));
+    assert_eq!(inner_reach(&[[[0, 0], [16_000, 0]]], &StrokeStyle::<i16>::new(800)), Err(Error::OutOfRange));
+}
+
+#[test]
 fn nets_that_are_near_are_listed() {
     fn square<I: Copy>(low: I, high: I) -> Shapes<I> {
         let points = vec![[low, low], [high, low], [high, high], [low, high]];
