@@ -8,6 +8,7 @@ import mmap
 from array import array
 from ctypes import byref, c_int64, c_size_t, c_uint64
 from dataclasses import dataclass
+from fractions import Fraction
 from typing import Any, Callable, Optional, Sequence, Union
 
 from .library import Outcome, call_of
@@ -77,6 +78,20 @@ class Told:
     points: array[int]
     contour_ends: array[int]
     shape_ends: array[int]
+
+
+@dataclass(frozen=True)
+class Source:
+    """Paths on a grid, of which an answer was drawn.
+
+    style: how they were drawn.
+    lists: their points or vertices.
+    moved: how far points may have moved onto the grid, in its units.
+    """
+
+    style: Style
+    lists: Lists
+    moved: Fraction
 
 
 def nothing() -> Told:
@@ -162,6 +177,13 @@ def reach(style: Style, lists: Lists, width: str = "i32", number: Any = ctypes.c
     padding = c_int64()
     call = call_of(f"mesh_validate_{style.operation}", width)
     return Outcome(call(*lists.words(), *style.words(number), byref(padding))), padding.value
+
+
+def inner_reach(style: Style, lists: Lists) -> tuple[Outcome, int]:
+    """How near to its paths a stroke holds all points for certain: the square of that, 0 where nothing is told."""
+    square = c_uint64()
+    call = call_of("mesh_inner_reach")
+    return Outcome(call(*lists.words(), *style.words(), byref(square))), square.value
 
 
 def combined(

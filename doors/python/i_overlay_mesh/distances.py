@@ -1,4 +1,4 @@
-"""Distances that are kept: how near answers come to lines, by a call of the library that is proved."""
+"""Distances that are kept: how near answers come to lines, by calls of the library that are proved."""
 
 from __future__ import annotations
 
@@ -7,9 +7,9 @@ from array import array
 from bisect import bisect_left
 from ctypes import byref, c_uint64
 from fractions import Fraction
-from typing import Any, Callable, Optional, Sequence
+from typing import Any, Callable, Iterator, Optional, Sequence
 
-from .arrays import Lists, Told, address_of, lists_of
+from .arrays import NUMBER, Lists, Source, Told, address_of, inner_reach, lists_of
 from .engine import Kept, Task, Wishes, draw, told
 from .errors import DrawingError, GridRangeError
 from .exact import Number, plain
@@ -18,12 +18,10 @@ from .library import Outcome, call_of
 from .paths import Paths
 from .reading import read
 from .shapes import Shapes
+from .styles import CAP_KINDS
 
 NONE = 2**64 - 1
 """What the library tells where there is no edge or no path. In the grid's range no square is as great."""
-
-ROUNDED = Fraction(70710678119, 10**11)
-"""More than half the root of 2, by which a point moves at most that is rounded on the grid."""
 
 FINE = 32
 """So many bits below a grid unit a root is told."""
@@ -40,11 +38,6 @@ def square_to(shapes: Told, paths: Lists, closed: bool) -> int:
     call = call_of("mesh_clearance")
     outcome = Outcome(call(*lists.words(), *ends, *paths.words(), int(closed), byref(square)))
     return told(outcome, square.value)
-
-
-def moved(paths: Paths, grid: Grid) -> Fraction:
-    """How far points of paths may move where they are brought onto the grid, in grid units."""
-    return Fraction(0) if paths.are_whole() and grid.has_whole_coordinates else ROUNDED
 
 
 # How near an answer comes
@@ -71,8 +64,13 @@ def distance_to(grid: Grid, shapes: Told, paths: Paths, closed: bool) -> float:
             f"{far.name} is {far.coordinate}, which lies at {far.place} on the answer's grid, and may lie up to {MOST}"
             " in size; an answer that was drawn at a smaller scale does",
         )
-    square = square_to(shapes, paths.lists(grid), closed)
-    return math.inf if square == NONE else length_of(square, grid, moved(paths, grid))
+    return distance_on_grid(grid, shapes, paths.lists(grid), closed, grid.moved(paths.are_whole()))
+
+
+def distance_on_grid(grid: Grid, shapes: Told, lists: Lists, closed: bool, moved: Fraction) -> float:
+    """The same of paths on the grid, onto which they may have moved so far."""
+    square = square_to(shapes, lists, closed)
+    return math.inf if square == NONE else length_of(square, grid, moved)
 
 
 def length_of(square: int, grid: Grid, less: Fraction) -> float:
@@ -81,6 +79,61 @@ def length_of(square: int, grid: Grid, less: Fraction) -> float:
     exact = max(Fraction(0), root - less) / grid.scale
     nearest = float(exact)
     return nearest if Fraction(nearest) <= exact else math.nextafter(nearest, 0)
+
+
+# What an answer was drawn of
+
+
+def clearance_of(grid: Grid, shapes: Told, sources: Sequence[Source]) -> float:
+    """How near the edges of shapes come to what they were drawn of."""
+    parts = ((*part, source.moved) for source in sources for part in measured(source))
+    return min((distance_on_grid(grid, shapes, *part) for part in parts), default=math.inf)
+
+
+def measured(source: Source) -> list[tuple[Lists, bool]]:
+    """The paths, and whether they are closed. A vertex with a width may stand alone, and counts as a point."""
+    operation, structure = source.style.operation, source.style.structure
+    if operation != "variable_stroke":
+        return [(source.lists, operation == "outline" or bool(structure.closed))]
+    numbers, ends = numbers_of(source.lists)
+    points = array("i", bytes(NUMBER * (len(numbers) // 3 * 2)))
+    points[::2], points[1::2] = array("i", numbers[::3]), array("i", numbers[1::3])
+    alone = array("i")
+    for start, end in zip([0, *ends], ends):
+        if end - start == 1:
+            alone += points[2 * start : 2 * end]
+    return [
+        (lists_of(points, array("Q", ends), 2), False),
+        (lists_of(alone, array("Q", range(1, len(alone) // 2 + 1)), 2), True),
+    ]
+
+
+def reach_of(grid: Grid, sources: Sequence[Source]) -> Optional[float]:
+    """How near to their lines strokes hold all points, in the unit of the input and rounded down; none of no strokes."""
+    if not sources or any(source.style.operation != "stroke" for source in sources):
+        return None
+    return min(length_of(squared_reach(source), grid, source.moved) for source in sources)
+
+
+def squared_reach(source: Source) -> int:
+    """The square of that on the grid. Shapes may lack what custom caps hold, and lines that are points on the grid."""
+    style = source.style.structure
+    is_custom = CAP_KINDS["custom"] in (style.start_cap.kind, style.end_cap.kind) and not style.closed
+    if is_custom or any(is_one_place(path) for path in paths_of(source.lists)):
+        return 0
+    return told(*inner_reach(source.style, source.lists))
+
+
+def paths_of(lists: Lists) -> Iterator[Sequence[int]]:
+    """The coordinates of each path."""
+    numbers, ends = numbers_of(lists)
+    return (numbers[2 * start : 2 * end] for start, end in zip([0, *ends], ends))
+
+
+def is_one_place(path: Sequence[int]) -> bool:
+    """Whether a path has several points, all in one place."""
+    x, y = path[:2] if len(path) else (0, 0)
+    return len(path) > 2 and all(place == x for place in path[::2]) and all(place == y for place in path[1::2])
 
 
 # Drawing what keeps a distance
@@ -105,7 +158,7 @@ def keeps(task: Task, shapes: Shapes, distance: Fraction, is_last: bool) -> bool
     if kept is None or task.paths.box() is None:
         return True
     lists, closed = kept.placed(grid), kept.closed
-    least = (distance * grid.scale + moved(task.paths, grid)) ** 2
+    least = (distance * grid.scale + grid.moved(task.paths.are_whole())) ** 2
 
     def come_near(some: Lists) -> bool:
         return square_to(drawn, some, closed) < least

@@ -7,7 +7,7 @@ from dataclasses import dataclass
 from fractions import Fraction
 from typing import Any, Callable, NoReturn, Optional, Sequence, TypeVar
 
-from .arrays import Lists, Told, drawn, left, lists_in, lists_of, nothing, reach
+from .arrays import Lists, Source, Told, drawn, left, lists_in, lists_of, nothing, reach
 from .errors import DrawingError, GridRangeError, TooManySplits
 from .exact import nearest_whole, plain, read_most_splits, read_number
 from .grid import MOST, Grid, Place, first_exponent, power_of_two
@@ -83,12 +83,12 @@ class Task:
     widest: Optional[Callable[[Grid], int]] = None
     kept: Optional[Kept] = None
 
-    def shapes(self, grid: Grid, limit: Optional[Limit]) -> Told:
-        """The shapes on the grid."""
+    def source(self, grid: Grid) -> Source:
+        """What is drawn on the grid."""
         style = self.style(grid)
         if style is None:
             raise OutOfRange
-        return ask(style, self.placed(grid), limit)
+        return Source(style, self.placed(grid), grid.moved(self.paths.are_whole()))
 
     def room(self, grid: Grid) -> int:
         """The greatest coordinate that the library lets a point have; below 0 where there is none.
@@ -246,7 +246,7 @@ def draw(tasks: Sequence[Task], wishes: Wishes) -> Shapes:
     if box is None:
         start = wishes.origin or (Fraction(0), Fraction(0))
         nearness = None if wishes.most_splits is None else 0
-        return Shapes(nothing(), Grid(wishes.scale or Fraction(1), start), nearness)
+        return Shapes(nothing(), Grid(wishes.scale or Fraction(1), start), nearness, sources=())
     if wishes.scale is not None:
         grid = grid_by(wishes.scale, wishes.origin, box)
         if not fits(tasks, grid, box):
@@ -267,12 +267,13 @@ def draw(tasks: Sequence[Task], wishes: Wishes) -> Shapes:
 def drawn_on(tasks: Sequence[Task], grid: Grid, wishes: Wishes) -> Shapes:
     """The answer on a grid."""
     limit = None if wishes.most_splits is None else Limit(wishes.most_splits)
-    parts = [task.shapes(grid, limit) for task in tasks]
+    sources = [task.source(grid) for task in tasks]
+    parts = [ask(source.style, source.lists, limit) for source in sources]
     shapes = parts[0] if len(parts) == 1 else union(parts, limit)
     if wishes.sliver_width is not None:
         shapes = left_out(shapes, wishes.sliver_width, grid)
-    whole = all(task.paths.are_whole() for task in tasks)
-    return Shapes(shapes, grid, None if limit is None else limit.nearness, whole and grid.has_whole_coordinates)
+    is_whole = all(source.moved == 0 for source in sources)
+    return Shapes(shapes, grid, None if limit is None else limit.nearness, is_whole, sources)
 
 
 # What is out of range

@@ -12,6 +12,9 @@ from .exact import Number, exact_ratio, nearest_whole
 # A coordinate on the grid is safe where it is at most this in size.
 MOST = 2**30 - 1
 
+ROUNDED = Fraction(70710678119, 10**11)
+"""More than half the root of 2, by which a point moves at most that is rounded on the grid."""
+
 HARDLY_MORE_THAN_HALF = Fraction(501, 1000)
 
 Place = list[int]
@@ -78,6 +81,10 @@ class Grid:
     def has_whole_coordinates(self) -> bool:
         """Whether the coordinate of each place is a whole number."""
         return self.scale == 1 and all(origin.denominator == 1 for origin in self.origin)
+
+    def moved(self, are_whole: bool) -> Fraction:
+        """How far points may move where they are brought onto the grid, in its units, if their coordinates are ints."""
+        return Fraction(0) if are_whole and self.has_whole_coordinates else ROUNDED
 
     def points(self, places: Sequence[Place], whole: bool) -> list[list[Number]]:
         """The points of places, with whole numbers for coordinates if asked for and the grid has them."""

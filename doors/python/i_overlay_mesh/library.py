@@ -18,7 +18,7 @@ FILE = "libi_overlay_mesh.so"
 VARIABLE = "I_OVERLAY_MESH_LIBRARY"
 UNPROVED = "mesh_unproved"
 
-NEWEST = ("mesh_draw_each_i32", "mesh_boolean_i32", "mesh_clearances_i32")
+NEWEST = ("mesh_draw_each_i32", "mesh_boolean_i32", "mesh_clearances_i32", "mesh_inner_reach_i32")
 """Calls that another library, or one of an earlier version, does not have."""
 
 LEAST_ROOM = 4096
@@ -89,9 +89,9 @@ def parameters_of(name: str) -> list[Any]:
         asked = [*LIST, *LIST, *LIST, *LIST, STRUCTURE, STRUCTURE]
         return [*asked, ctypes.c_uint64, *rooms, STRUCTURE] if name.endswith("_near") else [*asked, *rooms]
     drawing = [*LIST, *LIST, STRUCTURE]
-    if name.endswith(("mesh_stroke", "mesh_stroke_near", "validate_stroke")):
+    if name.endswith(("mesh_stroke", "mesh_stroke_near", "validate_stroke", "inner_reach")):
         drawing += [*LIST, *LIST]
-    if name.startswith("mesh_validate_"):
+    if name.startswith(("mesh_validate_", "mesh_inner_reach")):
         return [*drawing, STRUCTURE]
     if name.endswith("_near"):
         return [*drawing, STRUCTURE, ctypes.c_uint64, *rooms, STRUCTURE]

@@ -172,7 +172,7 @@ def drawn(item: Any, how: Buffering) -> Any:
     if item is None:
         return None
     if not is_geometry(item):
-        return how.shapes(item)
+        return how.shapes(item)._without_sources()
     return item if item.is_empty else how.shapes(item).shapely()
 
 

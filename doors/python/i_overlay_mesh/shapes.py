@@ -6,9 +6,10 @@ import math
 import sys
 from array import array
 from fractions import Fraction
+from functools import cached_property
 from typing import Any, Optional, Sequence
 
-from .arrays import Told, split
+from .arrays import Source, Told, split
 from .exact import Number, plain
 from .grid import Grid
 from .library import is_proved
@@ -31,9 +32,17 @@ class Shapes:
     grid: Grid
     nearness_on_grid: Optional[int]
 
-    def __init__(self, told: Told, grid: Grid, nearness: Optional[int] = None, is_whole: bool = False) -> None:
+    def __init__(
+        self,
+        told: Told,
+        grid: Grid,
+        nearness: Optional[int] = None,
+        is_whole: bool = False,
+        sources: Optional[Sequence[Source]] = None,
+    ) -> None:
         self._told = told
         self._is_whole = is_whole
+        self._sources = sources
         self._polygons: Optional[list[list[Points]]] = None
         self.grid = grid
         self.nearness_on_grid = nearness
@@ -82,6 +91,32 @@ class Shapes:
         exact = Fraction(self.nearness_on_grid, 64) / self.grid.scale
         nearest = float(exact)
         return nearest if Fraction(nearest) >= exact else math.nextafter(nearest, math.inf)
+
+    @cached_property
+    def clearance(self) -> Optional[float]:
+        """How near the edges come to the lines, rings and points that were drawn: `clearance_to` of these.
+
+        It is None where the answer does not know them: of booleans and of `buffer_all`, and out of a pickle.
+        """
+        from .distances import clearance_of
+
+        return None if self._sources is None else clearance_of(self.grid, self._told, self._sources)
+
+    @cached_property
+    def reach(self) -> Optional[float]:
+        """How near to its lines a stroke holds all points for certain, in the unit of the input and rounded down.
+
+        Every point that is nearer to a line than this is inside, as long as it is farther than the error bound,
+        `nearness`, from each drawn edge, which runs round a section, a join or a cap. That is proved on the grid. Left out
+        are slivers that were dropped, and points beyond an end with a butt cap. Lines of a single point are not drawn.
+
+        0.0 means that nothing is told: the stroke has one side only, custom caps, a width of at most two grid units, or a
+        join or cap that leaves no room, as a bevel does where a line turns back. None means that the answer is no stroke,
+        or does not know its lines, as for `clearance`.
+        """
+        from .distances import reach_of
+
+        return None if self._sources is None else reach_of(self.grid, self._sources)
 
     def clearance_to(self, paths: Any, closed: Optional[bool] = None) -> float:
         """How near the edges come to lines, in the unit of the input and rounded down; infinite where there are none.
@@ -159,6 +194,10 @@ class Shapes:
         if not is_proved():
             words.append("built before its proof")
         return f"Shapes({', '.join(words)})"
+
+    def _without_sources(self) -> Shapes:
+        """The same without what it was drawn of, which takes memory where answers are many."""
+        return Shapes(self._told, self.grid, self.nearness_on_grid, self._is_whole)
 
     def _parts(self) -> tuple[Any, ...]:
         """All that an answer is."""

@@ -2,6 +2,7 @@
 
 import itertools
 import math
+import pickle
 import random
 import unittest
 from array import array
@@ -10,7 +11,18 @@ from unittest import mock
 
 from surroundings import IS_QUICK
 
-from i_overlay_mesh import DrawingError, GridRangeError, arrays, buffer, buffer_all, distances, outline, stroke, styles
+from i_overlay_mesh import (
+    DrawingError,
+    GridRangeError,
+    arrays,
+    buffer,
+    buffer_all,
+    distances,
+    outline,
+    stroke,
+    styles,
+    variable_stroke,
+)
 
 SQUARE = [[0, 0], [100, 0], [100, 100], [0, 100]]
 CROSSING = [[0, 0], [10, 10], [10, 0], [0, 10]]
@@ -126,6 +138,96 @@ class TestClearanceTo(unittest.TestCase):
             for point, is_on, found in zip(points, on_edges, told_windings):
                 if not is_on:
                     self.assertEqual(found, sum(winding(point, contour) for contour in lists))
+
+
+class TestOwnClearance(unittest.TestCase):
+    def test_made(self):
+        """An answer knows what it was drawn of."""
+        corner = [[-40, 140], [140, 140], [140, -40]]
+        for answer, paths, closed in (
+            (outline([SQUARE], 10, join="miter", **ON_GRID), [SQUARE], True),
+            (outline([SQUARE], -10, **ON_GRID), [SQUARE], True),
+            (stroke(corner, 20, cap="square", **ON_GRID), [corner], False),
+            (stroke(corner, 20, closed=True), [corner], True),
+            (stroke([corner, [*SQUARE, SQUARE[0]]], 20, scale=7), [corner, [*SQUARE, SQUARE[0]]], None),
+            (buffer({"type": "MultiPoint", "coordinates": corner}, 9), [[point] for point in corner], True),
+            (buffer([SQUARE], 9, most_splits=0), [SQUARE], True),
+        ):
+            self.assertEqual(answer.clearance, answer.clearance_to(paths, closed))
+            self.assertGreater(answer.clearance, 5)
+        self.assertEqual(stroke(corner, 20, cap="butt", **ON_GRID).clearance, 0)
+        both = {"type": "GeometryCollection", "geometries": [{"type": "LineString", "coordinates": corner}]}
+        both["geometries"].append({"type": "Point", "coordinates": [700, 700]})
+        self.assertEqual(buffer(both, 5).clearance, buffer(both, 5).clearance_to(both))
+
+    def test_widths(self):
+        """A vertex may stand alone, and then is a point."""
+        line, alone = [[0, 0, 20], [100, 0, 40], [100, 80, 30]], [[900, 0, 16]]
+        narrow = [[x, y] for x, y, _ in line]
+        answer = variable_stroke([line], step=1)
+        self.assertEqual(answer.clearance, answer.clearance_to([narrow]))
+        self.assertTrue(9.9 < answer.clearance <= 10)
+        answer = variable_stroke([line, alone], step=1)
+        self.assertEqual(answer.clearance, answer.clearance_to([[900, 0]], True))
+        self.assertTrue(7.9 < answer.clearance <= 8)
+        self.assertIsNone(answer.reach)
+
+    def test_not_known(self):
+        drawn = stroke([[0, 0], [100, 0]], 20)
+        (one,) = buffer_all([[SQUARE]], 5)
+        for answer in (drawn | drawn, pickle.loads(pickle.dumps(drawn)), one):
+            self.assertEqual((answer.clearance, answer.reach), (None, None))
+        self.assertEqual((stroke([], 20).clearance, stroke([], 20).reach), (math.inf, None))
+        self.assertEqual(stroke([[[1, 1]]], 20).clearance, math.inf)
+
+
+class TestReach(unittest.TestCase):
+    def check(self, lines, closed, words, draw):
+        """All points that are nearer than is told are inside; butt caps leave out those beyond."""
+        answer = stroke(lines, 40, closed=closed, **words)
+        self.assertTrue(0 <= answer.reach <= 20)
+        for _ in range(40 if answer.reach else 0):
+            line = draw.choice(lines)
+            point = near(draw, line, closed, answer.reach)
+            is_beyond = any(
+                sum((p - e) * (e - b) for p, e, b in zip(point, end, before)) > -abs(answer.reach) / 1000
+                for end, before in ((line[0], line[1]), (line[-1], line[-2]))
+            )
+            if closed or words["cap"] != "butt" or not is_beyond:
+                self.assertEqual(sum(winding(point, ring) for polygon in answer.polygons for ring in polygon), 1)
+        return answer.reach
+
+    def test_random(self):
+        draw, told = random.Random(3), 0
+        for _ in range(20 if IS_QUICK else 200):
+            words = {"step": draw.choice([45, 20, 5]), "cap": draw.choice(["round", "square", "butt"])}
+            words |= {"join": draw.choice(["round", "miter", "bevel"]), "scale": draw.choice([None, 900])}
+            lines = [[[draw.uniform(-99, 99) for _ in "xy"] for _ in range(draw.randint(2, 9))] for _ in "12"]
+            told += self.check(lines, draw.choice([False, True]), words, draw) > 0
+        self.assertGreater(told, 5)
+
+    def test_made(self):
+        line, corner, back = [[0, 0], [1000, 0]], [[0, 0], [1000, 0], [1000, 1000]], [[0, 0], [1000, 0], [0, 0]]
+        for words in {"cap": "square"}, {"cap": "butt"}, {"cap": "round", "step": 1}, {"closed": True, "step": 1}:
+            self.assertTrue(98 < stroke(line, 200, **ON_GRID, **words).reach <= 100)
+        self.assertTrue(68 < stroke(corner, 200, join="bevel", **ON_GRID).reach < 71)
+        geometry = {"type": "LineString", "coordinates": corner}
+        self.assertEqual(buffer(geometry, 100).reach, stroke(corner, 200).reach)
+        for lines, words in (
+            (line, {"side": "left"}),
+            (line, {"end_cap": [[0, -100], [200, 0], [0, 100]]}),
+            (back, {"join": "bevel", "closed": False}),
+            ([line, [[0, 0.1], [0.1, 0]]], {"cap": "square"}),
+        ):
+            self.assertEqual(stroke(lines, 200, **ON_GRID, **words).reach, 0)
+        self.assertIsNone(outline([SQUARE], 10).reach)
+        self.assertIsNone(buffer([SQUARE], 10).reach)
+
+    def test_units_of_the_input(self):
+        """What rounding onto the grid may take is taken off."""
+        whole = stroke([[0, 0], [700, 0]], 140, **ON_GRID).reach
+        part = stroke([[0, 0], [Fraction(700, 7), 0]], 20, scale=7, origin=(0, 0)).reach
+        self.assertTrue(whole - 1 < 7 * part < whole)
 
 
 class TestAtLeast(unittest.TestCase):
