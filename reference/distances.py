@@ -5,6 +5,7 @@
 
 - outer: edges wind only as near to the path as joins and caps reach; those of an outline, otherwise than the contour.
 - inner: a stroke on both sides holds what is as near to its path as all parts leave room for, but beyond butt ends.
+- formula: all parts of a round stroke leave room for the distance that the formula says. It is asked once a drawing.
 - answers: each point nearer to the path than any edge of the answer is wound round as the path's vertices. They are
   asked of a PROGRAM that reads a request from standard input, as `mesh_run` does; without one they are left out.
 
@@ -23,7 +24,7 @@ from random import Random
 
 from outlines import cleaned, outline
 from plane import I16, I32, chain, cross, dot, loop, minus, plus, winding
-from reaches import cap_reach, join_reach, rounded_reach, stroke_room
+from reaches import cap_reach, join_reach, kept_by_formula, rounded_reach, stroke_room
 from strokes import stroke
 from variable_strokes import circle_of, variable_stroke
 
@@ -33,10 +34,10 @@ ROWS, GRIDS = 24, [1, 1, 2, 3, 7, 64, 1024]
 CAPS = ["butt", "round", "custom", "square"]
 """Caps, by how far they reach."""
 
-Drawing = namedtuple("Drawing", "family words edges path spans room butts")
+Drawing = namedtuple("Drawing", "family words edges path spans room butts kept")
 """A drawing, with the words of its request: the edges that wind round what is held; the sections of the path; each
 radius, with how far it reaches and from which sections or vertices; how much room all parts leave, below 0 where they
-leave none; and butt ends, with the way that they look."""
+leave none; butt ends, with the way that they look; and what the formula says, where it says anything."""
 
 def worded(kind):
     """A join or a cap as a request has it."""
@@ -96,6 +97,8 @@ class Inputs(Random):
         side, start = self.choice(6 * ["both"] + ["left", "right"]), self.cap()
         end = self.choice([start, self.cap()])
         style = {"width": 2 * radius, **self.join(), "start": start, "end": end, "side": side}
+        if style["join"][0] == "round" and self.randrange(2):
+            style.update(start=style["join"], end=style["join"])
         caps = [style["start"], style["end"]] if side == "both" and not closed else []
         reach = max([join_reach(style["join"], radius), *(cap_reach(cap, radius) for cap in caps)])
         edges, sections = stroke(self.width, path, closed, style)[0], chain([*path, *path[:1]] if closed else path)
@@ -103,7 +106,8 @@ class Inputs(Random):
         family += [name for name in CAPS if name in (cap[0] for cap in caps)][-1:]
         words = {"op": "stroke", "closed": closed, "style": style, "paths": [path]}
         room, butts = stroke_room(self.width, path, closed, style, radius)
-        return Drawing(" ".join(family), words, edges, sections, [(radius, reach, sections)], room, butts)
+        kept = kept_by_formula(self.width, closed, style, radius)
+        return Drawing(" ".join(family), words, edges, sections, [(radius, reach, sections)], room, butts, kept)
 
     def outline(self):
         """The outline of a contour, by an offset of either sign. Its edges are taken with those of the contour, run
@@ -114,7 +118,7 @@ class Inputs(Random):
         words = {"op": "outline", "style": {"outer": offset, "inner": offset, **style}, "paths": [contour]}
         sections = loop(cleaned(contour))
         spans = [(self.radius, join_reach(style["join"], self.radius), sections)]
-        return Drawing("outline " + style["join"][0], words, edges, loop(contour), spans, -1, [])
+        return Drawing("outline " + style["join"][0], words, edges, loop(contour), spans, -1, [], None)
 
     def variable(self):
         """A stroke of variable width. A vertex reaches by its radius, a section by the greater one of its ends."""
@@ -127,7 +131,7 @@ class Inputs(Random):
         words = {"op": "variable_stroke", "style": style, "paths": [path]}
         spans = [(radius, rounded_reach(radius), sections) for radius, sections in reached.items()]
         edges = variable_stroke(self.width, path, style["arc"])[0]
-        return Drawing("variable stroke", words, edges, chain([center for center, _ in circles]), spans, -1, [])
+        return Drawing("variable stroke", words, edges, chain([center for center, _ in circles]), spans, -1, [], None)
 
     def drawing(self):
         """A drawing of any kind."""
@@ -215,7 +219,7 @@ class Trial:
 
     def __init__(self, program):
         self.program, self.points, self.drawings, self.worst, self.short = program, 0, 0, {}, 0
-        self.tried, self.broken = ({law: 0 for law in ("outer", "inner", "answers")} for _ in range(2))
+        self.tried, self.broken = ({law: 0 for law in ("outer", "inner", "formula", "answers")} for _ in range(2))
 
     def law(self, law, is_kept, drawing, m, q):
         """One trial of a law."""
@@ -237,6 +241,8 @@ class Trial:
         spans = [(1000 * r, reach, thousandths(reach, 2), refined(found, m)) for r, reach, found in drawing.spans]
         keeps = all(reach == rounded_reach(r) for r, reach, _ in drawing.spans)
         butts = [((m * x, m * y), v) for (x, y), v in drawing.butts]
+        if drawing.kept is not None:
+            self.law("formula", room >= 2 * drawing.kept ** 2 + 3, drawing, 1, "its whole path")
         aims = [isqrt(square * reach // 2) for _, reach, _ in drawing.spans] + [m * inputs.radius]
         aims += 6 * [isqrt(square * room // 2)] if room > 3 else []
         for q, count in samples(inputs, [e for *_, found in spans for e in found], edges, aims):
@@ -302,7 +308,7 @@ def main():
                 trial.answered(inputs, drawing)
     trial.table()
     for law, count in trial.tried.items():
-        print(f"{law}: {count} points came under the law, {trial.broken[law]} broke it")
+        print(f"{law}: {count} cases came under the law, {trial.broken[law]} broke it")
     print(f"{trial.short} points were not held that are nearer than the room, but for what the law leaves for rounding")
     seconds = round(time.process_time() - begun)
     print(f"{trial.points} points of {trial.drawings} drawings of seed {given.seed}, {seconds} seconds")

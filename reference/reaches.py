@@ -1,7 +1,10 @@
 """How far drawings reach from their paths, and how near to them strokes hold all points. Both are told as twice the
-square of a distance in grid units."""
+square of a distance in grid units; what a formula says, as a distance."""
+from math import isqrt
+
+from arcs import sine_and_cosine
 from joins import join_padding
-from plane import chain, cross, dot, minus, raised_root, times
+from plane import I32, chain, cross, dot, minus, raised_root, times
 from strokes import corner_points, end_points, sections_of
 
 def rounded_reach(n):
@@ -49,3 +52,12 @@ def stroke_room(width, path, closed, style, radius):
         else:
             found += fan_room(center, points)
     return min(found), butts
+
+def kept_by_formula(width, closed, style, radius):
+    """The distance within which a formula says that round strokes hold all points: what is left of the radius times the
+    cosine of half the step, less one. None for other strokes, and beyond the radii for which the formula is."""
+    kinds = [style["join"]] + ([] if closed else [style["start"], style["end"]])
+    if style["side"] != "both" or width is not I32 or not 2 <= radius <= 1 << 17 or any(k[0] != "round" for k in kinds):
+        return None
+    step = min(max(1 << 22, *(k[1] for k in kinds)), 1 << 29)
+    return isqrt(radius * radius * ((1 << 30) + sine_and_cosine(step)[1]) >> 31) - 1
