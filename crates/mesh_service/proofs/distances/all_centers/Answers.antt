@@ -1,7 +1,7 @@
 -- One path more.
 use Rattle.std.proofs.Common.{ap, ◌∙◌}
 use Rattle.mesh_variable_stroke.specs.Drawn.{vertex_points}
-use Rattle.mesh_service.proofs.Distances.{path_more}
+use Rattle.mesh_service.proofs.ToldDistances.{path_more}
 use Rattle.mesh_service.proofs.distances.all_centers.Goals as goal
 
 pub loop-path-preserved : goal.loop-path-preserved

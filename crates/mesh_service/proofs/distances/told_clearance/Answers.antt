@@ -1,6 +1,6 @@
 -- What is found is told where it fits.
 use Rattle.mesh_num.specs.Paths.{paths_of, shapes_of}
-use Rattle.mesh_service.proofs.Distances.{clearance_told}
+use Rattle.mesh_service.proofs.ToldDistances.{clearance_told}
 use Rattle.mesh_service.proofs.distances.told_clearance.Goals as goal
 
 pub returns : goal.returns

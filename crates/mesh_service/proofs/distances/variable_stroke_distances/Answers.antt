@@ -2,7 +2,7 @@
 use Rattle.std.proofs.Common.{false, map, refl, ap, ◌∙◌}
 use Rattle.mesh_num.specs.Paths.{paths_of, shapes_of}
 use Rattle.mesh_variable_stroke.specs.Drawn.{vertex_points}
-use Rattle.mesh_service.proofs.Distances.{told_of}
+use Rattle.mesh_service.proofs.ToldDistances.{told_of}
 use Rattle.mesh_service.proofs.distances.variable_stroke_distances.Goals as goal
 
 pub returns : goal.returns

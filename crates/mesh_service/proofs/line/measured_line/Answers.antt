@@ -2,7 +2,7 @@
 use Rattle.std.proofs.lemmas.Result.{IfOk-weaker}
 use Rattle.mesh_num.specs.Paths.{shapes_of}
 use Rattle.mesh_drawing.specs.Drawn.{drawn_of}
-use Rattle.mesh_service.proofs.Distances.{listed_measured}
+use Rattle.mesh_service.proofs.ToldDistances.{listed_measured}
 use Rattle.mesh_service.proofs.line.measured_line.Goals as goal
 
 pub returns : goal.returns
