@@ -445,19 +445,19 @@ mesh_outcome mesh_clearance_i16(
     const size_t *path_ends, size_t path_count, uint32_t closed, uint64_t *clearance);
 
 /* Tells how near to its paths a stroke holds every point for certain, wherever the paths turn and whatever the joins and
-   caps are: the greatest number that every section, join and cap leaves room for.
+   caps are: the greatest number for which every section, join and cap leaves room.
 
    points, ..        paths, a style and points of custom caps, as for mesh_stroke_i32
-   reach             receives the square of that distance, in square grid units, rounded down: the stroke of a path holds
-                     each point whose squared distance from a section of it is at most this, on the grid and between its
-                     points. It is 0 if nothing is told, not even of points of the paths, and unchanged at any outcome but
-                     MESH_ANSWERED
+   reach             receives the square of that distance, in square grid units, rounded down: the stroke of a path
+                     holds each point whose squared distance from a section of it is at most this, on the grid and
+                     between its points. It is 0 if nothing is told, not even of points of the paths. It is unchanged at
+                     any outcome but MESH_ANSWERED
 
-   Left out are points beyond the ends of an open path that have butt caps, and on the lines across these ends. Polygons,
-   of options with `min_area` 0 and `clockwise` 0 and without custom caps, hold the points farther than their error bound
-   from the offset curve. Nothing is told of one side, of widths of at most 2 or above 2^13 in 16 bits or 2^29 in 32, where
-   no path has a section, and where a join or cap leaves no room, as a bevel does where a path turns back. Outcomes are as
-   for mesh_validate_stroke_i32. */
+   Left out are points beyond the ends of an open path that have butt caps, and on the lines across these ends.
+   Polygons, of options with `min_area` 0 and `clockwise` 0 and without custom caps, hold those of the points that are
+   farther than their error bound from the offset curve. Nothing is told of one side, of widths of at most 2 or above
+   2^13 in 16 bits or 2^29 in 32, where no path has a section, and where a join or cap leaves no room, as a bevel does
+   where a path turns back. Outcomes are as for mesh_validate_stroke_i32. */
 mesh_outcome mesh_inner_reach_i32(
     const mesh_point_i32 *points, size_t point_count, const size_t *ends, size_t end_count,
     const mesh_stroke_style *style,

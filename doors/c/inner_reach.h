@@ -1,5 +1,5 @@
-/* The library's call for how near to its paths a stroke holds all points, of one width of coordinates. It is included once
-   for each width, with OF(name) as a name of that width. */
+/* The library's call for how near to its paths a stroke holds all points, of one width of coordinates. It is included
+   once for each width, with OF(name) as a name of that width. */
 
 static mesh_outcome OF(tell_reach)(const struct drawing *it, uint64_t *reach)
 {

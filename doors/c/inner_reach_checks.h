@@ -1,8 +1,8 @@
-/* The call for how near to its paths a stroke holds all points, against the edges that are drawn of each path: these have
-   to wind round points that are near enough to a section of it. Points are taken at half grid units, and all lengths here
-   are in these. Points on drawn edges are left out, since no edge winds round them. */
+/* The call for how near to its paths a stroke holds all points, against the edges that are drawn of each path: these
+   have to wind round points that are near enough to a section of it. Points are taken at half grid units, and all
+   lengths here are in these. Points on drawn edges are left out, since winding is not told there. */
 
-enum { BASES = 5, HEADINGS = 16, MOST_TRIES = 4000000 };
+enum { BASES = 5, HEADINGS = 16, MOST_TRIES = 1000000 };
 
 /* Directions of the length 1024. */
 static const int16_t HEADING[HEADINGS][2] = {
@@ -52,8 +52,8 @@ static int is_wound_round(struct place p, const struct segment *edges, size_t co
     return winding > 0;
 }
 
-/* Whether a point may lie beyond the end of a path, or on the line across it. That line runs as the rounded direction of
-   the last section, which is the radius long, says. */
+/* Whether a point may lie beyond the end of a path, or on the line across it. That line runs as the rounded direction
+   of the last section, which is the radius long, says. */
 static int may_be_beyond(struct place p, struct segment last, __int128 radius)
 {
     __int128 before = along(last.to, last.from, p), beside = turn(last.from, last.to, p);

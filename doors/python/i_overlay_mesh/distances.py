@@ -109,7 +109,7 @@ def measured(source: Source) -> list[tuple[Lists, bool]]:
 
 
 def reach_of(grid: Grid, sources: Sequence[Source]) -> Optional[float]:
-    """How near to their lines strokes hold all points, in the unit of the input and rounded down; none of no strokes."""
+    """How near to their lines strokes hold all points, in the unit of the input and rounded down; else none."""
     if not sources or any(source.style.operation != "stroke" for source in sources):
         return None
     return min(length_of(squared_reach(source), grid, source.moved) for source in sources)

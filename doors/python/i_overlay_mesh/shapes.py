@@ -107,12 +107,13 @@ class Shapes:
         """How near to its lines a stroke holds all points for certain, in the unit of the input and rounded down.
 
         Every point that is nearer to a line than this is inside, as long as it is farther than the error bound,
-        `nearness`, from each drawn edge, which runs round a section, a join or a cap. That is proved on the grid. Left out
-        are slivers that were dropped, and points beyond an end with a butt cap. Lines of a single point are not drawn.
+        `nearness`, from each drawn edge, which runs round a section, a join or a cap. That is proved on the grid. Left
+        out are slivers that were dropped, and points beyond an end with a butt cap. Lines of a single point are not
+        drawn.
 
-        0.0 means that nothing is told: the stroke has one side only, custom caps, a width of at most two grid units, or a
-        join or cap that leaves no room, as a bevel does where a line turns back. None means that the answer is no stroke,
-        or does not know its lines, as for `clearance`.
+        0.0 means that nothing is told: the stroke has one side only, custom caps, a width of more than 2^29 grid units,
+        a line that is a point on the grid, or a join that leaves no room, as a bevel does where a line turns back. None
+        means that the answer is no stroke, or does not know its lines, as for `clearance`.
         """
         from .distances import reach_of
 

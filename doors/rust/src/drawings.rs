@@ -399,13 +399,13 @@ pub fn validate_variable_stroke<I: Coordinate, P: AsRef<[[I; 3]]>>(paths: &[P], 
     })
 }
 
-/// How near to its paths a stroke holds every point for certain: the square of that distance, in grid units. The stroke of
-/// a path holds each point whose squared distance from a section of it is at most that. Points beyond an end with a butt
-/// cap, and on the line across it, are left out.
+/// How near to its paths a stroke holds every point for certain: the square of that distance, in grid units. The stroke
+/// of a path holds each point whose squared distance from a section of it is at most that. Points beyond an end with a
+/// butt cap, and on the line across it, are left out.
 ///
 /// It is 0 where nothing is told, not even of points of the paths: of one side, of widths of at most 2 or above 2^29, or
-/// 2^13 in 16 bits, where no path has a section, and where a join or cap leaves no room, as a bevel does where a path turns
-/// back.
+/// 2^13 in 16 bits, where no path has a section, and where a join or cap leaves no room, as a bevel does where a path
+/// turns back.
 ///
 /// ```
 /// use i_overlay_mesh::{inner_reach, Arc, Cap, Join, StrokeStyle};
