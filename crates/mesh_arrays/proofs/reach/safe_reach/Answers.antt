@@ -9,7 +9,7 @@ pub returns-in-Outline : goal.returns-in-Outline
 returns-in-Outline g c = record { accepted = c.requires; found = rw c.in-Outline.is refl }
 
 pub returns-in_ok-stroke_reach-in-Stroke : goal.returns-in_ok-stroke_reach-in-Stroke
-returns-in_ok-stroke_reach-in-Stroke g c = record { accepted = c.requires; found = rw c.in-Stroke.is c.in_ok-stroke_reach.ensures }
+returns-in_ok-stroke_reach-in-Stroke g c = record { accepted = c.requires; found = rw c.in-Stroke.is c.in_ok-stroke_reach-in-Stroke.ensures }
 
 pub returns-in-VariableStroke : goal.returns-in-VariableStroke
 returns-in-VariableStroke g c = record { accepted = c.requires; found = rw c.in-VariableStroke.is refl }
