@@ -17,8 +17,6 @@ mod outlines;
 #[cfg(test)]
 mod overlays;
 #[cfg(test)]
-mod service;
-#[cfg(test)]
 mod strokes;
 #[cfg(test)]
 mod variable_strokes;

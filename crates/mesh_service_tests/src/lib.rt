@@ -6,6 +6,8 @@ mod contours;
 #[cfg(test)]
 mod failing;
 #[cfg(test)]
+mod refused_memory;
+#[cfg(test)]
 mod requests;
 #[cfg(test)]
 mod tables;

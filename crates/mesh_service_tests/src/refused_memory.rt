@@ -1,4 +1,4 @@
-//! Requests for which memory is refused.
+//! Requests for which memory is refused, as `mesh_memory_tests` tries the calls.
 
 use mesh_service::service::{Status, serve};
 use mesh_test_support::compared::{expect_equal, expect_that};
