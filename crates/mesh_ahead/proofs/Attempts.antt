@@ -5,7 +5,7 @@ use Rattle.mesh_plane.specs.Plane.{Point, Edge}
 use Rattle.mesh_lattice.specs.Counted.{Counted}
 use Rattle.mesh_split.specs.Counting.{CountsAtMost}
 use Rattle.mesh_split.specs.declared.count.SplitCount.{SplitCount}
-use Rattle.mesh_split.specs.Told.{IsCountedSplitting}
+use Rattle.mesh_rounds.specs.Told.{IsCountedSplitting}
 use Rattle.mesh_split.proofs.Counts.{counts_with, with_fewer}
 use Rattle.mesh_paths.specs.Made.{latest_first}
 use Rattle.mesh_ahead.specs.Ahead.{IsMadeAmong}

@@ -21,10 +21,10 @@ use Rattle.mesh_paths.specs.Stops.{count_of, pieces_of, point_of}
 use Rattle.mesh_paths.proofs.Along.{place_of, StandsAt}
 use Rattle.mesh_split.specs.Counting.{CountsAmong}
 use Rattle.mesh_split.specs.declared.count.SplitCount.{SplitCount}
-use Rattle.mesh_split.specs.Told.{IsToldSplitting}
-use Rattle.mesh_split.proofs.Clean.{apart_of, share_of_apart}
-use Rattle.mesh_split.proofs.Paths.{comes_from, path_of_edge}
-use Rattle.mesh_split.proofs.Sharing.{apart_back, apart_swap, ShareNoInside}
+use Rattle.mesh_rounds.specs.Told.{IsToldSplitting}
+use Rattle.mesh_rounds.proofs.Clean.{apart_of, share_of_apart}
+use Rattle.mesh_rounds.proofs.Paths.{comes_from, path_of_edge}
+use Rattle.mesh_rounds.proofs.Sharing.{apart_back, apart_swap, ShareNoInside}
 use Rattle.mesh_clear.specs.AllClear.{AreAllClear}
 use Rattle.mesh_ahead.specs.Ahead.{AreSettled, IsMadeAmong}
 use Rattle.mesh_paths.proofs.Merged.{after_alike}

@@ -27,7 +27,7 @@ use Rattle.mesh_paths.specs.Paths.{ends_of, given_to, ArePaths}
 use Rattle.mesh_paths.specs.Stops.{count_of, edges_along, pieces_of, point_of, stop_of}
 use Rattle.mesh_paths.proofs.Along.{piece_occurs, place_of}
 use Rattle.mesh_paths.proofs.Onward.{pieces_some}
-use Rattle.mesh_split.proofs.Paths.{comes_from}
+use Rattle.mesh_rounds.proofs.Paths.{comes_from}
 use Rattle.mesh_check.specs.Bent.{line_of}
 use Rattle.mesh_ahead.specs.Farthest.{beside_at, IsFarthest, IsFarthestOf, IsNearnessOf, IsNoNearer}
 use Rattle.mesh_ahead.proofs.NearPaths.{nearness_of, ArePathsNear, IsReachedAt}

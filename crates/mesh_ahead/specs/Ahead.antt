@@ -6,7 +6,7 @@ use Rattle.mesh_lattice.specs.Counted.{Counted}
 use Rattle.mesh_lattice.specs.Split.{after, EdgeSplit}
 use Rattle.mesh_lattice.specs.Nearness.{IsNearness}
 use Rattle.mesh_split.specs.Counting.{counted, CountsAmong}
-use Rattle.mesh_split.specs.Told.{IsToldSplitting}
+use Rattle.mesh_rounds.specs.Told.{IsToldSplitting}
 use Rattle.mesh_split.specs.declared.count.SplitCount.{SplitCount}
 use Rattle.mesh_paths.specs.Pieces.{AreReached}
 use Rattle.mesh_ahead.specs.Counting.{most_attempts}

@@ -1,7 +1,7 @@
 //! The splitting of edges in flat arrays, ahead of the splitting in rounds, which takes over where the arrays do not
 //! serve.
 //!
-//! `splitter` has the calls. They promise what those of `mesh_split` promise, and call these where an attempt in arrays is
+//! `splitter` has the calls. They promise what those of `mesh_rounds` promise, and call these where an attempt in arrays is
 //! given up. `boxes` says whether an attempt is worth making, `mending` cuts what meets still after each pair was cut once,
 //! `segments` makes an answer of the pieces, and `nearness` tells how near these lie to the edges.
 #![tactic(auto)]

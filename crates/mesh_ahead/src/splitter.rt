@@ -7,7 +7,7 @@ ghost use Rattle.mesh_lattice.specs.Clean.{IsProper};
 ghost use Rattle.mesh_lattice.specs.Counted.{size, IsRoomy};
 ghost use Rattle.mesh_lattice.specs.Splitting.{IsSplitting};
 ghost use Rattle.mesh_split.specs.Counting.{counted, CountsAtMost, IsReason, IsWithinLimit};
-ghost use Rattle.mesh_split.specs.Told.{IsToldSplitting};
+ghost use Rattle.mesh_rounds.specs.Told.{IsToldSplitting};
 ghost use Rattle.mesh_pairs.specs.Pairs.{AreFound};
 ghost use Rattle.mesh_paths.specs.Paths.{ArePaths};
 ghost use Rattle.mesh_attempt.specs.Attempts.{AreCut};
@@ -26,9 +26,9 @@ use mesh_in_line::in_line::{CutInLine, cut_in_line};
 use mesh_in_line::samples::are_many_in_line;
 use mesh_lattice::lattice::{CountedSegment, LatticeEdge};
 use mesh_paths::pieces::collect;
+use mesh_rounds::splitter as rounds;
+pub use mesh_rounds::splitter::ToldSplitting;
 use mesh_split::count::{SplitCount, SplitError};
-use mesh_split::splitter as rounds;
-pub use mesh_split::splitter::ToldSplitting;
 use std::alloc::{AllocError, Global};
 
 /// Where more pairs of edges meet or come close, an attempt is given up. A pair takes 24 bytes, so twice as many would take

@@ -13,7 +13,7 @@ use Rattle.mesh_lattice.proofs.Each.{Each, each_append, proper_of}
 use Rattle.mesh_lattice.proofs.Ends.{decides_ends}
 use Rattle.mesh_lattice.proofs.SoundSplits.{legal_sound, after_proper}
 use Rattle.mesh_lattice.proofs.Splits.{occurs_cut}
-use Rattle.mesh_split.proofs.Paths.{comes_from}
+use Rattle.mesh_rounds.proofs.Paths.{comes_from}
 use Rattle.mesh_regions.specs.Regions.{is_bent}
 use Rattle.mesh_below.specs.Meeting.{MeetInWholePoints}
 use Rattle.mesh_below.proofs.EdgeParts.{IsPart, on_whole, whole_crossing}

@@ -7,7 +7,7 @@ pub use mesh_regions::laws::{
     facing_sides_agree, far_points_keep_their_winding, nearness_adds_up, nearness_is_by_turns,
     segments_have_neighbours, segments_stay_near_edges, sides_are_constant, sides_follow_from_ends,
 };
-pub use mesh_split::laws::legal_splits_keep_edges;
+pub use mesh_rounds::laws::legal_splits_keep_edges;
 
 /// The contours of an answer wind once round what is filled, outside the boxes of bent edges by the given edges'
 /// winding.

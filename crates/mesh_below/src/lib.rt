@@ -7,7 +7,7 @@
 //! follows from the relation, for instance how often the answer winds round each point, is in `specs/Laws.antt` and the
 //! module `laws`.
 //!
-//! On the way from segments to polygons, `given` reads the segments as directed edges, `mesh_split` splits these until
+//! On the way from segments to polygons, `given` reads the segments as directed edges, `mesh_ahead` splits these until
 //! they share only ends, `mesh_boundary` finds the boundary of the filled region, and `mesh_shapes` joins it into
 //! contours, sorts them, and puts each hole into its polygon. `resolve` runs all of it.
 #![tactic(auto)]

@@ -9,7 +9,7 @@ use mesh_below::below::FillRule;
 use mesh_below::count::{SplitCount, SplitError};
 use mesh_below::given::are_proper;
 use mesh_below::lattice::{CountedSegment, LatticeEdge};
-use mesh_split::splitter::{ToldSplitting, split_edges_told};
+use mesh_rounds::splitter::{ToldSplitting, split_edges_told};
 use mesh_test_support::compared::{expect_equal, expect_that};
 use mesh_test_support::edges::edges_of_shapes;
 use mesh_test_support::plain::{Edge, Point, cross, dot, minus};

@@ -6,7 +6,7 @@ use crate::random_splits::push_closed;
 use mesh_below::count::SplitCount;
 use mesh_below::given::are_proper;
 use mesh_below::lattice::LatticeEdge;
-use mesh_split::splitter::split_edges_told;
+use mesh_rounds::splitter::split_edges_told;
 use mesh_test_support::compared::expect_that;
 use mesh_test_support::random::Random;
 use std::alloc::Global;

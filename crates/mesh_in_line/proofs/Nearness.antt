@@ -15,8 +15,8 @@ use Rattle.mesh_lattice.proofs.Ends.{decides_ends, ends_sym}
 use Rattle.mesh_lattice.proofs.KeptBySplits.{box_trans, cut_box}
 use Rattle.mesh_lattice.proofs.Nearness.{near_at}
 use Rattle.mesh_lattice.proofs.SoundSplits.{legal_sound, IsSound}
-use Rattle.mesh_split.specs.Private.Witnesses.{AreSplitsOf}
-use Rattle.mesh_split.proofs.Paths.{comes_from}
+use Rattle.mesh_store.specs.Witnesses.{AreSplitsOf}
+use Rattle.mesh_rounds.proofs.Paths.{comes_from}
 use Rattle.mesh_split.proofs.Tracking.{splits_of_legal}
 use Rattle.mesh_in_line.specs.InLine.{IsStraight}
 use Rattle.mesh_in_line.specs.Laws.{StraightSplitsKeepNearness}

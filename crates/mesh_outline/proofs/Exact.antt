@@ -20,7 +20,7 @@ use Rattle.mesh_lattice.proofs.Ends.{decides_ends}
 use Rattle.mesh_lattice.proofs.Keys.{occurs_head}
 use Rattle.mesh_lattice.proofs.SoundSplits.{legal_sound}
 use Rattle.mesh_lattice.proofs.Splits.{occurs_append}
-use Rattle.mesh_split.proofs.Paths.{comes_from, path_of_edge}
+use Rattle.mesh_rounds.proofs.Paths.{comes_from, path_of_edge}
 use Rattle.mesh_shapes.specs.Contours.{double_area}
 use Rattle.mesh_shapes.specs.Resolution.{Choices}
 use Rattle.mesh_below.specs.Laws.{AreRegions}

@@ -9,8 +9,8 @@ use Rattle.mesh_lattice.proofs.Ends.{ends_self}
 use Rattle.mesh_lattice.proofs.Keys.{occurs_ends}
 use Rattle.mesh_lattice.proofs.Splits.{occurs_append, occurs_cut}
 use Rattle.mesh_split.specs.Counting.{CountsAtMost}
-use Rattle.mesh_split.specs.Private.Steps.{AreAmong}
-use Rattle.mesh_split.specs.Private.Witnesses.{forward}
+use Rattle.mesh_store.specs.Steps.{AreAmong}
+use Rattle.mesh_store.specs.Witnesses.{forward}
 use Rattle.mesh_split.specs.declared.count.SplitCount.{SplitCount}
 use Rattle.mesh_split.proofs.Forward.{itself}
 

@@ -11,7 +11,7 @@ use Rattle.mesh_plane.specs.Plane.{Point, Edge, turn}
 use Rattle.mesh_lattice.specs.Nearness.{IsNearTo}
 use Rattle.mesh_lattice.specs.Split.{IsInBox}
 use Rattle.mesh_lattice.proofs.Nearness.{near_of_turn, turn_of_near}
-use Rattle.mesh_split.specs.Private.Steps.{extent}
+use Rattle.mesh_store.specs.Steps.{extent}
 
 -- a turn about an edge is no greater than its extent times the greatest difference of coordinates
 pub turn_small : (e : Edge) (c : Point) → SFits w32 e.0.0 → SFits w32 e.0.1 → SFits w32 c.0 → SFits w32 c.1

@@ -8,8 +8,8 @@ use Rattle.mesh_plane.specs.Order.{point_lt}
 use Rattle.mesh_plane.specs.Plane.{Edge}
 use Rattle.mesh_lattice.specs.Split.{back, same_ends}
 use Rattle.mesh_lattice.proofs.Ends.{decides_ends, ends_self, ends_sym, ends_turned, ends_along}
-use Rattle.mesh_split.proofs.Entries.{edge_equal, equal_self, asymmetric}
-use Rattle.mesh_split.specs.Private.Witnesses.{edge_eq, forward, witness_in}
+use Rattle.mesh_store.proofs.Entries.{edge_equal, equal_self, asymmetric}
+use Rattle.mesh_store.specs.Witnesses.{edge_eq, forward, witness_in}
 
 one_x : (a b x y : ℤ) → point_lt (a, b) (x, y) ≡ false → point_lt (x, y) (a, b) ≡ false → a ≡ x
 one_x a b x y h k = grind (arith, ints)

@@ -8,10 +8,10 @@ use Rattle.mesh_lattice.specs.Counted.{Counted, along, bit, times}
 use Rattle.mesh_lattice.specs.Split.{same_edge, same_ends, occurs, EdgeSplit, after, Meets}
 use Rattle.mesh_lattice.proofs.Counts.{times_least, bit_most}
 use Rattle.mesh_lattice.proofs.Ends.{decides_edge, ends_self}
-use Rattle.mesh_split.specs.Private.Growth.{Waits}
-use Rattle.mesh_split.specs.Private.Steps.{exactly, AreSame, IsTaken, IsPut, IsPile, StandOnce, Moves, Settles, weight}
+use Rattle.mesh_split.specs.Growth.{Waits}
+use Rattle.mesh_store.specs.Steps.{exactly, AreSame, IsTaken, IsPut, IsPile, StandOnce, Moves, Settles, weight}
 use Rattle.mesh_split.proofs.Settling.{clear_self}
-use Rattle.mesh_split.proofs.Stages.{pop_count, take_count, keep_count}
+use Rattle.mesh_store.proofs.Stages.{pop_count, take_count, keep_count}
 use Rattle.mesh_split.proofs.Starting.{settled_reached, settled_weight}
 
 -- ---- no ends stand twice

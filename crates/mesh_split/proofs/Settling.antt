@@ -8,14 +8,14 @@ use Rattle.mesh_plane.specs.Winding.{same_point}
 use Rattle.mesh_plane.proofs.Whole.{linear}
 use Rattle.mesh_lattice.specs.Split.{same_edge, same_ends, occurs, is_end, IsInBox, IsCrossing, Meets, at_start_of_second, at_end_of_second, at_start_of_first, at_end_of_first, at_crossing, EdgeSplit, split_by, after, add_split, IsLegal, split}
 use Rattle.mesh_lattice.specs.Counted.{Counted, bit, times}
-use Rattle.mesh_split.specs.Private.Steps.{exactly, IsPut, IsTaken, Puts, PutsPieces, IsClearOf, AllClear, AreCountOf, IsReachedBySplits, Moves, Settles, split_at, extent, weight, waiting_work, live_work}
+use Rattle.mesh_store.specs.Steps.{exactly, IsPut, IsTaken, Puts, PutsPieces, IsClearOf, AllClear, AreCountOf, IsReachedBySplits, Moves, Settles, split_at, extent, weight, waiting_work, live_work}
 use Rattle.mesh_lattice.specs.Split.{AreClear}
 use Rattle.mesh_lattice.proofs.Ends.{decides_edge, decides_end, ends_sym, not_ends}
 use Rattle.mesh_lattice.proofs.Boxes.{meets_box, meets_once, crossing_swapped, turn_start}
-use Rattle.mesh_split.proofs.Extents.{extent_least}
-use Rattle.mesh_split.proofs.Stages.{IsHeld, held_is, bit_true, take_count, swap_count, keep_count, put_count, cut_count}
+use Rattle.mesh_store.proofs.Extents.{extent_least}
+use Rattle.mesh_store.proofs.Stages.{IsHeld, held_is, bit_true, take_count, swap_count, keep_count, put_count, cut_count}
 use Rattle.mesh_lattice.proofs.Counts.{bit_least, times_least, bit_none}
-use Rattle.mesh_split.proofs.Filing.{positive_times, weight_pieces, work_pieces}
+use Rattle.mesh_store.proofs.Filing.{positive_times, weight_pieces, work_pieces}
 
 -- ---- segments that stay clear of each other
 

@@ -11,11 +11,11 @@ use Rattle.mesh_plane.proofs.Sums.{sum_of_append}
 use Rattle.mesh_plane.proofs.Whole.{linear}
 use Rattle.mesh_lattice.specs.Split.{same_ends, occurs, EdgeSplit, after, no_cut}
 use Rattle.mesh_lattice.specs.Counted.{Counted, bit, along, times}
-use Rattle.mesh_split.specs.Private.Steps.{IsTaken, Puts, AllClear, AreCountOf, IsReachedBySplits, Moves, Settles, at_least_once, extent, weight, waiting_work, live_work, work, total_weight}
+use Rattle.mesh_store.specs.Steps.{IsTaken, Puts, AllClear, AreCountOf, IsReachedBySplits, Moves, Settles, at_least_once, extent, weight, waiting_work, live_work, work, total_weight}
 use Rattle.mesh_lattice.proofs.Ends.{ends_self}
 use Rattle.mesh_lattice.proofs.Counts.{times_least, bit_most}
 use Rattle.mesh_lattice.proofs.Splits.{occurs_append}
-use Rattle.mesh_split.proofs.Stages.{pop_count}
+use Rattle.mesh_store.proofs.Stages.{pop_count}
 use Rattle.mesh_split.proofs.Settling.{fewer_clear, moves_settled}
 use Rattle.mesh_lattice.specs.Counted.{IsRoomy}
 

@@ -14,8 +14,8 @@ use Rattle.mesh_lattice.proofs.Ends.{decides_ends, decides_end, ends_self}
 use Rattle.mesh_lattice.proofs.KeptBySplits.{box_trans}
 use Rattle.mesh_lattice.proofs.Nearness.{near_more, near_start, near_end}
 use Rattle.mesh_lattice.proofs.Splits.{occurs_cut}
-use Rattle.mesh_split.specs.Private.Steps.{split_at, latest_first}
-use Rattle.mesh_split.specs.Private.Witnesses.{witness_in, IsPieceOf, AreWitnessed, AreSplitsOf}
+use Rattle.mesh_store.specs.Steps.{split_at, latest_first}
+use Rattle.mesh_store.specs.Witnesses.{witness_in, IsPieceOf, AreWitnessed, AreSplitsOf}
 
 -- ---- legal splits are splits of segments that stand
 

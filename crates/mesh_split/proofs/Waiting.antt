@@ -11,14 +11,14 @@ use Rattle.mesh_lattice.specs.Counted.{Counted, bit, IsRoomy}
 use Rattle.mesh_lattice.proofs.Boxes.{meets_box, meets_once}
 use Rattle.mesh_lattice.proofs.Counts.{bit_least, times_least, bit_none}
 use Rattle.mesh_lattice.proofs.Ends.{decides_edge, decides_end, ends_sym, not_ends}
-use Rattle.mesh_split.specs.Private.Cells.{StandsIn}
-use Rattle.mesh_split.specs.Private.Growth.{Grows, Waits, pieces_of}
-use Rattle.mesh_split.specs.Private.Witnesses.{forward}
-use Rattle.mesh_split.specs.Private.Steps.{exactly, IsTaken, IsRaised, IsNew, Puts, PutsPieces, IsReachedBySplits, IsForward, IsPile, split_at, weight, total_weight}
-use Rattle.mesh_split.proofs.Filing.{weight_pieces}
-use Rattle.mesh_split.proofs.Listing.{listed_more}
+use Rattle.mesh_store.specs.Cells.{StandsIn}
+use Rattle.mesh_split.specs.Growth.{Grows, Waits, pieces_of}
+use Rattle.mesh_store.specs.Witnesses.{forward}
+use Rattle.mesh_store.specs.Steps.{exactly, IsTaken, IsRaised, IsNew, Puts, PutsPieces, IsReachedBySplits, IsForward, IsPile, split_at, weight, total_weight}
+use Rattle.mesh_store.proofs.Filing.{weight_pieces}
+use Rattle.mesh_store.proofs.Listing.{listed_more}
 use Rattle.mesh_split.proofs.Settling.{legal_split, one_cut, other_cut, both_cut, alone}
-use Rattle.mesh_split.proofs.Stages.{IsHeld, held_is, pop_count, swap_count, put_count, cut_count}
+use Rattle.mesh_store.proofs.Stages.{IsHeld, held_is, pop_count, swap_count, put_count, cut_count}
 
 -- ---- the state with waiting and live segments exchanged
 

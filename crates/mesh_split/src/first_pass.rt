@@ -6,19 +6,20 @@ ghost use Rattle.std.specs.Prelude.{◌≡◌, pos, ◌<ℤ◌, IfErr, IfOk, IfS
 ghost use Rattle.mesh_lattice.specs.Clean.{IsProper};
 ghost use Rattle.mesh_lattice.specs.Split.{Meets};
 ghost use Rattle.mesh_split.specs.Counting.{CountsAtMost, IsReason};
-ghost use Rattle.mesh_split.specs.Private.Growth.{pieces_of};
-ghost use Rattle.mesh_split.specs.Private.Steps.{AllClear, AreAmong, IsPile, KeepsPile, StandOnce, exactly};
+ghost use Rattle.mesh_split.specs.Growth.{pieces_of};
+ghost use Rattle.mesh_store.specs.Steps.{AllClear, AreAmong, IsPile, KeepsPile, StandOnce, exactly};
 
 use crate::count::{SplitCount, SplitError};
-use crate::hints::{Hints, Meeting};
+use crate::hints::Hints;
 use crate::leash::Leash;
 use crate::split_log::SplitLog;
 use crate::steps::Splitter;
-use crate::store::Store;
 use crate::tuning::{DRAWS, REHEARSALS};
 use crate::witnesses::forward;
 use mesh_lattice::exact::meeting;
 use mesh_lattice::lattice::LatticeEdge;
+use mesh_store::store::Store;
+use mesh_store::tree::Meeting;
 use std::alloc::{AllocError, Global};
 
 /// A segment, and one that it meets.

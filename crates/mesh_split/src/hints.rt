@@ -3,12 +3,10 @@
 //! split is legal.
 
 use crate::leash::Leash;
-use mesh_lattice::lattice::{LatticeEdge, LatticePoint};
+use mesh_lattice::lattice::LatticeEdge;
+use mesh_store::tree::Meeting;
 use std::alloc::{AllocError, Global};
 use std::collections::BinaryHeap;
-
-/// The ends of a live segment that another segment meets, and where both are to be split.
-pub type Meeting = (LatticeEdge, LatticePoint);
 
 /// Two segments that met when the latter was noted. The greatest hint is taken first.
 #[derive(Copy, Clone, PartialEq, Eq, PartialOrd, Ord)]

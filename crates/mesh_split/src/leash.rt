@@ -1,17 +1,17 @@
 //! How far splits may lead from the given edges, which ones were held back for that, and in which order the edges of
 //! these are split in the next attempt. Nothing is promised of it: whatever it answers, splits are legal.
 
-use crate::hints::Meeting;
 use crate::nearness::distance;
 use crate::split_log::SplitLog;
-use crate::store::Store;
 use crate::tuning::{
     LEASH, LONG, MOST_ORDERS, MOST_SPLITS_ANEW, MOST_STEPS, NARROW, NEAR_AN_END, NEIGHBOURS, RINGS,
-    SCATTERING,
 };
 use crate::witnesses::Witnesses;
 use mesh_lattice::exact::{cross, is_end, minus};
 use mesh_lattice::lattice::{LatticeEdge, LatticePoint};
+use mesh_store::store::Store;
+use mesh_store::tree::Meeting;
+use mesh_store::tuning::SCATTERING;
 use std::alloc::{AllocError, Global};
 use std::collections::HashMap;
 

@@ -4,7 +4,7 @@ ghost use Rattle.std.specs.Prelude.{◌≡◌, ℕ, ◌<◌, ◌≤◌, ◌^◌,
 ghost use Rattle.mesh_plane.specs.Plane.{Edge};
 ghost use Rattle.mesh_lattice.specs.Nearness.{IsNearTo, IsNearness};
 ghost use Rattle.mesh_lattice.specs.Split.{IsInBox, IsLegal};
-ghost use Rattle.mesh_split.specs.Private.Steps.{extent};
+ghost use Rattle.mesh_store.specs.Steps.{extent};
 
 use crate::split_log::SplitLog;
 use crate::witnesses::Witnesses;

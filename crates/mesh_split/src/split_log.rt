@@ -1,7 +1,7 @@
 //! The splits that were made, in their order.
 
 ghost use Rattle.std.specs.Prelude.{◌≡◌, [], ◌∷◌, OnOk, length};
-ghost use Rattle.mesh_split.specs.Private.Steps.{latest_first, split_at};
+ghost use Rattle.mesh_store.specs.Steps.{latest_first, split_at};
 
 use mesh_lattice::lattice::{LatticeEdge, LatticePoint};
 use std::alloc::{AllocError, Global};
@@ -16,7 +16,7 @@ pub struct SplitLog {
 impl Model for SplitLog {
     ghost use Rattle.std.specs.Prelude.{List};
     ghost use Rattle.mesh_lattice.specs.Split.{EdgeSplit};
-    ghost use Rattle.mesh_split.specs.Private.Steps.{latest_first};
+    ghost use Rattle.mesh_store.specs.Steps.{latest_first};
 
     ghost Value = { List EdgeSplit };
 

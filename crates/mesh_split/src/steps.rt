@@ -4,19 +4,19 @@ ghost use Rattle.std.specs.Prelude.{◌≡◌, ◌^◌, [], ◌∷◌, ℤ, pos,
 ghost use Rattle.mesh_plane.specs.Winding.{same_point};
 ghost use Rattle.mesh_lattice.specs.Clean.{IsProper};
 ghost use Rattle.mesh_lattice.specs.Split.{is_end, IsInBox, Meets};
-ghost use Rattle.mesh_split.specs.Private.Growth.{Grows, Waits, pieces_of};
-ghost use Rattle.mesh_split.specs.Private.Steps.{AllClear, Puts, PutsPieces, Moves, Settles, IsPile, KeepsPile};
-ghost use Rattle.mesh_split.specs.Private.Steps.{IsForward, exactly, split_at, weight, total_weight};
-ghost use Rattle.mesh_split.specs.Private.Witnesses.{forward};
+ghost use Rattle.mesh_split.specs.Growth.{Grows, Waits, pieces_of};
+ghost use Rattle.mesh_store.specs.Steps.{AllClear, Puts, PutsPieces, Moves, Settles, IsPile, KeepsPile};
+ghost use Rattle.mesh_store.specs.Steps.{IsForward, exactly, split_at, weight, total_weight};
+ghost use Rattle.mesh_store.specs.Witnesses.{forward};
 ghost use Rattle.mesh_lattice.specs.Counted.{times, IsRoomy};
 
-use crate::hints::Meeting;
 use crate::leash::Leash;
 use crate::split_log::SplitLog;
-use crate::store::Store;
-use crate::worklist::Worklist;
 use mesh_lattice::exact::{is_before, is_end};
 use mesh_lattice::lattice::{CountedSegment, LatticeEdge, LatticePoint};
+use mesh_store::store::Store;
+use mesh_store::tree::Meeting;
+use mesh_store::worklist::Worklist;
 use std::alloc::{AllocError, Global};
 
 /// The segments that wait to be tested, the live ones, and the splits that led to them. In the second pass the live ones

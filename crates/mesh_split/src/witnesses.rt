@@ -3,11 +3,11 @@
 ghost use Rattle.std.specs.Prelude.{◌≡◌, cond, [], OnOk};
 ghost use Rattle.mesh_plane.specs.Plane.{Edge};
 ghost use Rattle.mesh_lattice.specs.Split.{same_ends};
-ghost use Rattle.mesh_split.specs.Private.Witnesses.{forward, witness_in};
+ghost use Rattle.mesh_store.specs.Witnesses.{forward, witness_in};
 
-use crate::ends_hasher::EndsHasher;
 use mesh_lattice::exact::is_before;
 use mesh_lattice::lattice::LatticeEdge;
+use mesh_store::ends_hasher::EndsHasher;
 use std::alloc::{AllocError, Global};
 use std::collections::HashMap;
 use std::marker::Model;

@@ -1,4 +1,4 @@
-use Rattle.mesh_split.proofs.Pairs.{if_ok}
+use Rattle.mesh_store.proofs.Lists.{if_ok}
 use Rattle.mesh_ahead.proofs.ClearPaths.{settled_as}
 use Rattle.mesh_ahead.proofs.splitter.segments_of.Goals as goal
 

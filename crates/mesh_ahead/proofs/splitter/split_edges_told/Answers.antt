@@ -1,6 +1,6 @@
 use Rattle.std.proofs.Common.{rules}
 use Rattle.mesh_split.proofs.Counts.{counts_both}
-use Rattle.mesh_split.proofs.Pairs.{if_ok}
+use Rattle.mesh_store.proofs.Lists.{if_ok}
 use Rattle.mesh_ahead.proofs.Attempts.{made_after, made_fewer}
 use Rattle.mesh_ahead.proofs.splitter.split_edges_told.Goals as goal
 

@@ -1,6 +1,6 @@
 use Rattle.std.proofs.Common.{subst}
 use Rattle.mesh_lattice.specs.Splitting.{IsSplitting}
-use Rattle.mesh_split.proofs.Pairs.{if_ok}
+use Rattle.mesh_store.proofs.Lists.{if_ok}
 use Rattle.mesh_ahead.proofs.InLine.{cut_proper, cut_splitting, if_some}
 use Rattle.mesh_ahead.proofs.splitter.splitting_in_arrays.Goals as goal
 

@@ -1,5 +1,5 @@
 use Rattle.std.proofs.Common.{rules, subst}
-use Rattle.mesh_split.proofs.Pairs.{if_ok}
+use Rattle.mesh_store.proofs.Lists.{if_ok}
 use Rattle.mesh_ahead.specs.Ahead.{IsMadeAfter}
 use Rattle.mesh_ahead.specs.Counting.{CountsAfter}
 use Rattle.mesh_ahead.proofs.InLine.{counts_from, cut_proper, if_some, made_from, uncut}

@@ -1,5 +1,5 @@
 use Rattle.std.specs.Prelude.{◌≡◌, true, unsigned_abs}
-use Rattle.mesh_split.specs.Private.Steps.{IsPile, AllClear, work}
+use Rattle.mesh_store.specs.Steps.{IsPile, AllClear, work}
 use Rattle.mesh_split.proofs.first_pass.attempt.Given as goal
 
 abbrev pub invariant-loop-s : goal.invariant-loop-s

@@ -3,7 +3,7 @@ use Rattle.mesh_split.specs.Counting.{CountsAtMost}
 use Rattle.mesh_split.specs.declared.count.SplitCount.{SplitCount}
 use Rattle.mesh_split.proofs.Among.{counts_among, proper_among}
 use Rattle.mesh_split.proofs.Counts.{counts_both, counts_fewer}
-use Rattle.mesh_split.proofs.Pairs.{on_ok}
+use Rattle.mesh_store.proofs.Lists.{on_ok}
 use Rattle.mesh_split.proofs.first_pass.attempt_anew.Goals as goal
 
 pub rehearse-requires : goal.rehearse-requires

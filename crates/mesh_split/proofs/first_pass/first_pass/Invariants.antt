@@ -1,6 +1,6 @@
 use Rattle.std.specs.Prelude.{◌*◌}
 use Rattle.mesh_split.specs.Counting.{CountsAtMost}
-use Rattle.mesh_split.specs.Private.Steps.{IsPile, AllClear}
+use Rattle.mesh_store.specs.Steps.{IsPile, AllClear}
 use Rattle.mesh_split.proofs.first_pass.first_pass.Given as goal
 
 abbrev pub invariant-loop-draw : goal.invariant-loop-draw

@@ -1,4 +1,4 @@
-use Rattle.mesh_split.specs.Private.Steps.{AreAmong}
+use Rattle.mesh_store.specs.Steps.{AreAmong}
 use Rattle.mesh_split.proofs.first_pass.noted_of.Given as goal
 
 abbrev pub invariant-loop-e : goal.invariant-loop-e

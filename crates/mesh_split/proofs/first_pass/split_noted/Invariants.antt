@@ -1,5 +1,5 @@
 use Rattle.std.specs.Prelude.{◌≡◌}
-use Rattle.mesh_split.specs.Private.Steps.{IsPile}
+use Rattle.mesh_store.specs.Steps.{IsPile}
 use Rattle.mesh_split.proofs.first_pass.split_noted.Given as goal
 
 abbrev pub invariant-loop-split : goal.invariant-loop-split

@@ -1,4 +1,4 @@
-use Rattle.mesh_split.specs.Private.Steps.{KeepsPile, StandOnce}
+use Rattle.mesh_store.specs.Steps.{KeepsPile, StandOnce}
 use Rattle.mesh_split.proofs.first_pass.take_up.Given as goal
 
 abbrev pub invariant-loop-e : goal.invariant-loop-e

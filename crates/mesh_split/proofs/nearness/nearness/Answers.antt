@@ -1,6 +1,6 @@
 use Rattle.std.proofs.Common.{arith, subst, sym, List, []}
 use Rattle.mesh_plane.specs.Plane.{Edge}
-use Rattle.mesh_split.specs.Private.Witnesses.{witness_in, AreWitnessed}
+use Rattle.mesh_store.specs.Witnesses.{witness_in, AreWitnessed}
 use Rattle.mesh_split.proofs.Tracking.{none_witnessed, more_noted, log_nearness}
 use Rattle.mesh_split.proofs.nearness.nearness.Goals as goal
 

@@ -1,7 +1,7 @@
 use Rattle.std.proofs.Common.{◌^◌, ◌≤◌, List, take}
 use Rattle.mesh_plane.specs.Plane.{Edge}
-use Rattle.mesh_split.specs.Private.Steps.{latest_first}
-use Rattle.mesh_split.specs.Private.Witnesses.{witness_in, AreSplitsOf, AreWitnessed}
+use Rattle.mesh_store.specs.Steps.{latest_first}
+use Rattle.mesh_store.specs.Witnesses.{witness_in, AreSplitsOf, AreWitnessed}
 use Rattle.mesh_split.proofs.nearness.nearness.Given as goal
 
 abbrev pub invariant-loop-ends : goal.invariant-loop-ends

@@ -1,6 +1,6 @@
 use Rattle.std.proofs.Common.{Bool, subst}
-use Rattle.mesh_split.specs.Private.Steps.{AddsIf}
-use Rattle.mesh_split.proofs.Filing.{room_live, room_waiting, raised_live, filed}
+use Rattle.mesh_store.specs.Steps.{AddsIf}
+use Rattle.mesh_store.proofs.Filing.{room_live, room_waiting, raised_live, filed}
 use Rattle.mesh_split.proofs.Waiting.{grows_raised}
 use Rattle.mesh_split.proofs.steps.Splitter.file.Goals as goal
 

@@ -2,7 +2,7 @@ use Rattle.std.proofs.Common.{rules, ◌≡◌, subst, sym, ◌∙◌, length, f
 use Rattle.mesh_plane.specs.Winding.{same_point}
 use Rattle.mesh_lattice.specs.Counted.{Counted}
 use Rattle.mesh_lattice.proofs.Each.{proper_at}
-use Rattle.mesh_split.specs.Private.Steps.{Puts}
+use Rattle.mesh_store.specs.Steps.{Puts}
 use Rattle.mesh_split.proofs.Starting.{none_count, none_clear, none_weight, more_room, more_count, more_clear, more_weight, most_weight, start_reached}
 use Rattle.mesh_split.proofs.Waiting.{none_put}
 use Rattle.mesh_split.proofs.steps.Splitter.of_edges.Goals as goal

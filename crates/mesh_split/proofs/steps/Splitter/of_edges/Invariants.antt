@@ -1,6 +1,6 @@
 use Rattle.std.proofs.Common.{◌≡◌, ◌*◌, ◌^◌, take, []}
 use Rattle.std.specs.Prelude.{pos, ◌≤ℤ◌}
-use Rattle.mesh_split.specs.Private.Steps.{AreCountOf, AllClear, total_weight}
+use Rattle.mesh_store.specs.Steps.{AreCountOf, AllClear, total_weight}
 use Rattle.mesh_split.proofs.steps.Splitter.of_edges.Given as goal
 
 abbrev pub invariant-loop-e : goal.invariant-loop-e

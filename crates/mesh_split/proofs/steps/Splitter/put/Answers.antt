@@ -1,7 +1,7 @@
 use Rattle.std.proofs.Common.{arith}
 use Rattle.std.proofs.lemmas.Result.{on_ok_weaker}
 use Rattle.mesh_plane.proofs.Whole.{linear}
-use Rattle.mesh_split.proofs.Filing.{total_least, room_turned, puts_back}
+use Rattle.mesh_store.proofs.Filing.{total_least, room_turned, puts_back}
 use Rattle.mesh_split.proofs.steps.Splitter.put.Goals as goal
 
 pub backwards-requires : goal.backwards-requires

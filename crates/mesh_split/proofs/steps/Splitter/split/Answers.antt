@@ -3,9 +3,9 @@ use Rattle.mesh_plane.specs.Plane.{Edge}
 use Rattle.mesh_lattice.specs.Split.{IsInBox}
 use Rattle.mesh_lattice.proofs.Boxes.{meets_box, meets_once}
 use Rattle.mesh_lattice.proofs.Ends.{forward_proper}
-use Rattle.mesh_split.proofs.Filing.{room_taken, room_other, room_pieces}
+use Rattle.mesh_store.proofs.Filing.{room_taken, room_other, room_pieces}
 use Rattle.mesh_split.proofs.Settling.{settles_first, settles_second, settles_both}
-use Rattle.mesh_split.specs.Private.Steps.{IsForward}
+use Rattle.mesh_store.specs.Steps.{IsForward}
 use Rattle.mesh_split.proofs.steps.Splitter.split.Goals as goal
 
 pub split_at-requires-clause-inner : goal.split_at-requires-clause-inner

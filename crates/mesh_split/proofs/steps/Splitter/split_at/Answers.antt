@@ -1,6 +1,6 @@
 use Rattle.std.proofs.Common.{[], ◌∷◌}
-use Rattle.mesh_split.specs.Private.Witnesses.{forward}
-use Rattle.mesh_split.proofs.Filing.{first_proper, second_proper, room_first, room_second, room_kept}
+use Rattle.mesh_store.specs.Witnesses.{forward}
+use Rattle.mesh_store.proofs.Filing.{first_proper, second_proper, room_first, room_second, room_kept}
 use Rattle.mesh_split.proofs.Waiting.{grows_both}
 use Rattle.mesh_split.proofs.steps.Splitter.split_at.Goals as goal
 

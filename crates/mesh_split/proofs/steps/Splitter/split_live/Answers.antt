@@ -3,7 +3,7 @@ use Rattle.mesh_plane.specs.Plane.{Edge}
 use Rattle.mesh_plane.proofs.Whole.{linear}
 use Rattle.mesh_lattice.proofs.Ends.{forward_proper}
 use Rattle.mesh_lattice.specs.Split.{Meets}
-use Rattle.mesh_split.specs.Private.Steps.{IsForward, weight}
+use Rattle.mesh_store.specs.Steps.{IsForward, weight}
 use Rattle.mesh_split.proofs.Piles.{pile_split, other_lives}
 use Rattle.mesh_split.proofs.steps.Splitter.split_live.Goals as goal
 

@@ -3,7 +3,7 @@ use Rattle.mesh_plane.specs.Plane.{Edge}
 use Rattle.mesh_lattice.specs.Split.{is_end, IsInBox, Meets}
 use Rattle.mesh_lattice.proofs.Boxes.{meets_box, meets_once}
 use Rattle.mesh_lattice.proofs.Ends.{forward_proper}
-use Rattle.mesh_split.proofs.Filing.{weight_one}
+use Rattle.mesh_store.proofs.Filing.{weight_one}
 use Rattle.mesh_split.proofs.Piles.{other_lives}
 use Rattle.mesh_split.proofs.Starting.{popped_room}
 use Rattle.mesh_split.proofs.Waiting.{waiting_first, waiting_second, waiting_both, room_waiting_both, room_waiting_back, room_waiting_taken, grows_first, grows_second, grows_pair, none_put, none_split}

@@ -3,7 +3,7 @@ use Rattle.std.specs.Prelude.{◌≡◌, cond}
 use Rattle.std.specs.Map.{lookup}
 use Rattle.mesh_plane.specs.Plane.{Edge}
 use Rattle.mesh_lattice.specs.Split.{same_ends}
-use Rattle.mesh_split.specs.Private.Witnesses.{edge_eq, forward, witness_in}
+use Rattle.mesh_store.specs.Witnesses.{edge_eq, forward, witness_in}
 use Rattle.mesh_split.proofs.Forward.{noted}
 use Rattle.mesh_split.proofs.witnesses.Witnesses.note.Goals as goal
 

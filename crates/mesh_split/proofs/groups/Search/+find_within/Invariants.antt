@@ -1,5 +1,0 @@
-use Rattle.std.proofs.Common.{length}
-use Rattle.mesh_split.proofs.groups.Search.+find_within.Given as goal
-
-abbrev pub decreases-find_within : goal.decreases-find_within
-decreases-find_within l = length l.xs.now

@@ -1,6 +1,0 @@
-use Rattle.std.proofs.Common.{take}
-use Rattle.mesh_split.specs.Private.Groups.{AreWithin}
-use Rattle.mesh_split.proofs.groups.box_of.Given as goal
-
-abbrev pub invariant-loop-e : goal.invariant-loop-e
-invariant-loop-e l = AreWithin l.bounds (take l.e-index l.edges)

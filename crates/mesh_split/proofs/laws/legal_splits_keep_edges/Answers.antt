@@ -1,6 +1,0 @@
--- What legal splits keep.
-use Rattle.mesh_split.proofs.Kept.{kept_by_splits}
-use Rattle.mesh_split.proofs.laws.legal_splits_keep_edges.Goals as goal
-
-pub returns : goal.returns
-returns c given splits legal = kept_by_splits given splits legal

@@ -1,8 +1,0 @@
-use Rattle.mesh_split.specs.Private.Groups.{edges_in, IsBounded, KeepsWaiting}
-use Rattle.mesh_split.proofs.rounds.pruned_about.Given as goal
-
-abbrev pub invariant-loop-piece : goal.invariant-loop-piece
-invariant-loop-piece l = record {
-  bounded : IsBounded l.left;
-  kept : KeepsWaiting l.todo (edges_in l.fn.group) (edges_in l.left);
-}

@@ -1,4 +1,0 @@
-use Rattle.mesh_split.proofs.tree.Tree.+for_edges.Given as goal
-
-abbrev pub decreases-for_edges : goal.decreases-for_edges
-decreases-for_edges l = l.depth

@@ -1,8 +1,0 @@
-use Rattle.std.specs.Prelude.{◌≡◌, true}
-use Rattle.mesh_plane.specs.Plane.{Edge}
-use Rattle.mesh_split.specs.Private.Cells.{reaches}
-use Rattle.mesh_split.proofs.Listing.{AreKept}
-use Rattle.mesh_split.proofs.tree.on_side.Given as goal
-
-abbrev pub invariant-loop-e : goal.invariant-loop-e
-invariant-loop-e l = AreKept (λ (x : Edge). reaches l.cut x l.below ≡ true) l.listed l.left.items l.e-index

@@ -1,0 +1,10 @@
+pub mod Apart
+pub mod Cells
+pub mod Entries
+pub mod Extents
+pub mod Filing
+pub mod Listing
+pub mod Lists
+pub mod Room
+pub mod Stages
+pub mod Tallies

@@ -1,0 +1,4 @@
+pub mod BoundingBoxes
+pub mod Cells
+pub mod Steps
+pub mod Witnesses
