@@ -4,7 +4,7 @@ use Rattle.mesh_points.specs.Chains.{IsSearched}
 use Rattle.mesh_points.specs.Edges.{edge_at}
 use Rattle.mesh_pairs.specs.Pairs.{ShareEnd, at_both_ends, at_both_starts, from_end_to_start, from_start_to_end}
 use Rattle.mesh_paths.specs.declared.paths.Paths.{Paths}
-use Rattle.mesh_paths.specs.Private.Filed.{id_in, pass_of, IsPassed}
+use Rattle.mesh_paths.specs.Filed.{id_in, pass_of, IsPassed}
 use Rattle.mesh_paths.specs.Stops.{pieces_of, stop_of}
 use Rattle.mesh_clear.specs.Private.Looking.{AreClearIfCut, AreFit, AreWhole, EndsAt, IsClearAt, IsClearAtEnds, IsPathFit}
 

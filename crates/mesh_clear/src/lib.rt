@@ -4,8 +4,8 @@
 //! other. It looks at the pairs that were known before the edges were cut, in time that grows with how many these are.
 //! Paths whose edges met, by `meetings`, and paths that share an end, by `ends`, have to lead apart from a stop of both, or
 //! be clear of each other near it; of close paths one has to lie beside the other's line; all others stay clear while no
-//! path is bent much, which `bends` sees to. Where that does not tell, each piece is compared with each, within a limit. `doubts` lists the
-//! pairs of which even that does not tell. `fit` tells whether paths can be looked at.
+//! path is bent much, which `bends` sees to. Where that does not tell, each piece is compared with each, within a limit.
+//! `doubts` lists the pairs of which even that does not tell. `fit` tells whether paths can be looked at.
 #![tactic(auto)]
 
 mod bends;

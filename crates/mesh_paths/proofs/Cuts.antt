@@ -24,7 +24,7 @@ use Rattle.mesh_paths.specs.declared.through.Pass.{Pass}
 use Rattle.mesh_paths.specs.Paths.{edge_of, ends_of, given_to, AreHeld, ArePaths, IsPieceOf}
 use Rattle.mesh_paths.specs.Stops.{count_of, path_of, pieces_of, point_of, stop_of, IsBetweenIds}
 use Rattle.mesh_paths.specs.Private.Cutting.{cut_of, AreCut, AreSame, AreSound, HasPiece, IsAsOrCut, IsCutPath, IsCutting, IsInjective, IsStop}
-use Rattle.mesh_paths.specs.Private.Filed.{before_in, id_in, last_of, pass_of, AreFiled, IsPassed}
+use Rattle.mesh_paths.specs.Filed.{before_in, id_in, last_of, pass_of, AreFiled, IsPassed}
 use Rattle.mesh_paths.proofs.Along.{piece_occurs, place_of, split_gone, split_none, StandsAt}
 use Rattle.mesh_paths.proofs.Filing.{none_between, path_inserted, path_kept, piece_same, same_id, same_point, IsCutAt}
 use Rattle.mesh_paths.proofs.Onward.{path_once, sound_each}

@@ -15,7 +15,7 @@ use Rattle.mesh_paths.specs.declared.stops.Stops.{Stops}
 use Rattle.mesh_paths.specs.declared.through.Pass.{Pass}
 use Rattle.mesh_paths.specs.Stops.{count_of, edges_along, path_of, pieces_of, point_of, stop_of, AreApart, IsBetweenIds, IsInserted}
 use Rattle.mesh_paths.specs.Private.Cutting.{cut_of, IsInjective, IsStop}
-use Rattle.mesh_paths.specs.Private.Filed.{pass_of, AreFiled, AreListed, IsPassAdded, IsPassed}
+use Rattle.mesh_paths.specs.Filed.{pass_of, AreFiled, AreListed, IsPassAdded, IsPassed}
 use Rattle.mesh_paths.proofs.Along.{along_same, place_of, split_put, StandsAt}
 
 same_or_not : (i j : ℕ) → (i ≡ j) ⊎ (i ≢ j)

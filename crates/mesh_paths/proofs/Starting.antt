@@ -22,7 +22,7 @@ use Rattle.mesh_paths.specs.declared.through.Pass.{Pass}
 use Rattle.mesh_paths.specs.declared.through.Through.{Through}
 use Rattle.mesh_paths.specs.Paths.{ends_of, given_to, AreHeld, ArePaths}
 use Rattle.mesh_paths.specs.Stops.{count_of, edges_along, path_of, pieces_of, point_of, stop_of, AreApart, IsAdded}
-use Rattle.mesh_paths.specs.Private.Filed.{pass_of, AreFiled, AreListed, IsPassAdded, IsPassed}
+use Rattle.mesh_paths.specs.Filed.{pass_of, AreFiled, AreListed, IsPassAdded, IsPassed}
 use Rattle.mesh_paths.proofs.Along.{along_same}
 
 below_or_at : (k n : ℕ) → k < n + 1 → (k < n) ⊎ (k ≡ n)

@@ -1,3 +1,4 @@
+pub mod Filed
 pub mod Made
 pub mod Paths
 pub mod Pieces

@@ -8,7 +8,7 @@ use Rattle.mesh_points.specs.Edges.{edge_at}
 use Rattle.mesh_paths.specs.declared.paths.Paths.{Paths}
 use Rattle.mesh_paths.specs.declared.paths.Piece.{Piece}
 use Rattle.mesh_paths.specs.Stops.{count_of, path_of, pieces_of, point_of}
-use Rattle.mesh_paths.specs.Private.Filed.{AreFiled}
+use Rattle.mesh_paths.specs.Filed.{AreFiled}
 
 -- the ends of an edge
 abbrev pub ends_of : NumberedEdge → Edge

@@ -1,4 +1,3 @@
 -- What stands between the steps: only private contracts and invariants read these.
 pub mod Cutting
-pub mod Filed
 pub mod Merging

@@ -4,7 +4,7 @@ ghost use Rattle.std.specs.Prelude.{◌≡◌, ◌<◌, false, true, IfOk, OnOk}
 ghost use Rattle.mesh_lattice.specs.Split.{add_split, occurs, IsInBox};
 ghost use Rattle.mesh_paths.specs.Paths.{edge_of, AreLeft, ArePaths, AreSplit, IsPieceOf};
 ghost use Rattle.mesh_paths.specs.Private.Cutting.{cut_of, AreCut, AreSame, IsCutPath, IsInjective, IsStop};
-ghost use Rattle.mesh_paths.specs.Private.Filed.{AreFiled};
+ghost use Rattle.mesh_paths.specs.Filed.{AreFiled};
 ghost use Rattle.mesh_paths.specs.Stops.{count_of, path_of, pieces_of, point_of};
 
 use crate::paths::{Paths, Piece};

@@ -5,7 +5,7 @@ ghost use Rattle.mesh_plane.specs.Plane.{Point};
 ghost use Rattle.mesh_points.specs.Points.{AreDistinct, IsNumberOf};
 ghost use Rattle.mesh_points.specs.Edges.{AreNumbered, IsNumbered};
 ghost use Rattle.mesh_paths.specs.Paths.{AreHeld, ArePaths, IsPieceOf};
-ghost use Rattle.mesh_paths.specs.Private.Filed.{AreFiled};
+ghost use Rattle.mesh_paths.specs.Filed.{AreFiled};
 ghost use Rattle.mesh_paths.specs.Stops.{stop_of, AreBelow};
 
 use crate::splits::Splits;

@@ -1,7 +1,7 @@
 //! The paths through each point, in lists by links.
 
 ghost use Rattle.std.specs.Prelude.{◌≡◌, ◌+◌, ◌<◌, false, [], length, IfOk, OnOk};
-ghost use Rattle.mesh_paths.specs.Private.Filed.{last_of, pass_of, AreListed, IsPassAdded, IsPassed};
+ghost use Rattle.mesh_paths.specs.Filed.{last_of, pass_of, AreListed, IsPassAdded, IsPassed};
 
 use std::alloc::{AllocError, Global};
 

@@ -10,7 +10,7 @@ use Rattle.mesh_paths.specs.declared.stops.Stop.{Stop}
 use Rattle.mesh_paths.specs.Made.{split_at}
 use Rattle.mesh_paths.specs.Paths.{given_to, AreHeld}
 use Rattle.mesh_paths.specs.Stops.{count_of, path_of}
-use Rattle.mesh_paths.specs.Private.Filed.{id_in, pass_of, AreFiled}
+use Rattle.mesh_paths.specs.Filed.{id_in, pass_of, AreFiled}
 
 -- each split lies in the box of what it splits, and at none of its ends
 abbrev pub AreSound : List EdgeSplit → Type 0

@@ -4,7 +4,7 @@ use Rattle.mesh_points.proofs.Chains.{search_goes_on}
 use Rattle.mesh_paths.specs.declared.paths.Paths.{Paths}
 use Rattle.mesh_paths.specs.declared.stops.Stop.{Stop}
 use Rattle.mesh_paths.specs.declared.through.Pass.{Pass}
-use Rattle.mesh_paths.specs.Private.Filed.{before_in, id_in, pass_in}
+use Rattle.mesh_paths.specs.Filed.{before_in, id_in, pass_in}
 use Rattle.mesh_clear.specs.Private.Looking.{AreClearIfCut, EndsAt, IsClearAt}
 use Rattle.mesh_clear.proofs.SharedEnds.{all_searched, IsDoubtful}
 use Rattle.mesh_clear.proofs.ends.is_clear_at.Goals as goal

@@ -1,6 +1,6 @@
 use Rattle.std.proofs.Common.{length}
 use Rattle.mesh_points.specs.Chains.{IsSearched}
-use Rattle.mesh_paths.specs.Private.Filed.{id_in}
+use Rattle.mesh_paths.specs.Filed.{id_in}
 use Rattle.mesh_clear.proofs.SharedEnds.{IsDoubtful}
 use Rattle.mesh_clear.proofs.ends.is_clear_at.Given as goal
 

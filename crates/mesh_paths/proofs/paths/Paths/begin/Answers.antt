@@ -1,7 +1,7 @@
 use Rattle.std.proofs.Common.{◌≡◌, refl, ◌∙◌, subst, arith}
 use Rattle.mesh_paths.specs.declared.paths.Paths.{Paths}
 use Rattle.mesh_paths.specs.declared.through.Through.{Through}
-use Rattle.mesh_paths.specs.Private.Filed.{IsPassAdded}
+use Rattle.mesh_paths.specs.Filed.{IsPassAdded}
 use Rattle.mesh_paths.specs.Stops.{count_of}
 use Rattle.mesh_paths.proofs.Starting.{filed_begun, held_begun, IsBegun}
 use Rattle.mesh_paths.proofs.paths.Paths.begin.Goals as goal

@@ -3,7 +3,7 @@ use Rattle.mesh_lattice.specs.Split.{is_end, occurs, EdgeSplit}
 use Rattle.mesh_paths.specs.declared.paths.Paths.{Paths}
 use Rattle.mesh_paths.specs.declared.through.Pass.{Pass}
 use Rattle.mesh_paths.specs.Private.Cutting.{cut_of, IsCutPath, IsCutting}
-use Rattle.mesh_paths.specs.Private.Filed.{pass_of}
+use Rattle.mesh_paths.specs.Filed.{pass_of}
 use Rattle.mesh_paths.specs.Stops.{count_of, path_of}
 use Rattle.mesh_paths.proofs.Cuts.{cut_done, cutting_goes_on, cutting_once, held_once, is_inner, near_begins, no_split, one_split, stays_gone}
 use Rattle.mesh_paths.proofs.Along.{split_gone}

@@ -1,6 +1,6 @@
 use Rattle.std.proofs.Common.{◌≡◌, [], take}
 use Rattle.mesh_paths.specs.Paths.{AreHeld}
-use Rattle.mesh_paths.specs.Private.Filed.{AreFiled}
+use Rattle.mesh_paths.specs.Filed.{AreFiled}
 use Rattle.mesh_paths.specs.Stops.{AreBelow}
 use Rattle.mesh_paths.proofs.paths.Paths.start.Given as goal
 

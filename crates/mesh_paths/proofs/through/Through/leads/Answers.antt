@@ -3,7 +3,7 @@ use Rattle.std.proofs.lemmas.List.{get_or_read_under}
 use Rattle.mesh_points.specs.Chains.{IsSearched}
 use Rattle.mesh_points.proofs.Chains.{search_goes_on}
 use Rattle.mesh_paths.specs.declared.through.Pass.{Pass}
-use Rattle.mesh_paths.specs.Private.Filed.{before_in, id_in, no_pass, pass_in, IsPassed}
+use Rattle.mesh_paths.specs.Filed.{before_in, id_in, no_pass, pass_in, IsPassed}
 use Rattle.mesh_paths.proofs.through.Through.leads.Goals as goal
 
 pub loop-left-preserved : goal.loop-left-preserved

@@ -1,6 +1,6 @@
 use Rattle.std.proofs.Common.{◌≡◌, ℕ, length}
 use Rattle.mesh_points.specs.Chains.{IsSearched}
-use Rattle.mesh_paths.specs.Private.Filed.{id_in, pass_in}
+use Rattle.mesh_paths.specs.Filed.{id_in, pass_in}
 use Rattle.mesh_paths.proofs.through.Through.leads.Given as goal
 
 abbrev pub invariant-loop-left : goal.invariant-loop-left
