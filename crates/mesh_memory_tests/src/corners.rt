@@ -17,12 +17,17 @@ use mesh_test_support::refused::{expect_added, one_segment};
 use std::alloc::AllocError;
 use std::test::Fail;
 
+/// Steps of so many bits, with this precision.
+fn steps(bits: u32, rotation_precision: u32) -> ArcOptions {
+    ArcOptions {
+        max_step: Angle::from_bits(bits),
+        rotation_precision,
+    }
+}
+
 /// Steps of 2^22 bits with the least precision, of which a quarter of a turn has more than 200.
 fn fine() -> ArcOptions {
-    ArcOptions {
-        max_step: Angle::from_bits(4_194_304),
-        rotation_precision: 4,
-    }
+    steps(4_194_304, 4)
 }
 
 /// How far the join is from the corner at 0, in grid units.

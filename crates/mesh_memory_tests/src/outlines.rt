@@ -12,8 +12,8 @@ use mesh_below::below::IntOverlayOptions;
 use mesh_below::nearness::{NearShapes, SplitCount};
 use mesh_join::arc::ArcOptions;
 use mesh_join::join::Join;
-use mesh_join::style::{IntLineJoin, IntOutlineStyle};
-use mesh_num::num::{IntPoint, OverlayInt};
+use mesh_join::style::{DEFAULT_MITER_MIN_TURN, IntLineJoin, IntOutlineStyle, MathMode};
+use mesh_num::num::{Angle, IntPoint, OverlayInt};
 use mesh_num::shape::buffer::{FlatContoursBuffer, IntShapes};
 use mesh_num::shape::segment::Segment;
 use mesh_test_support::lists::{path, paths};
@@ -35,9 +35,13 @@ const CONTOURS: &[&[(i32, i32)]] = &[
 
 /// Outwards by 4, round the corners, and holes by 3.
 fn round() -> IntOutlineStyle<i32> {
-    IntOutlineStyle::new(4)
-        .inner_offset(3)
-        .line_join(IntLineJoin::Round(ArcOptions::default()))
+    IntOutlineStyle {
+        outer_offset: 4,
+        inner_offset: 3,
+        join: IntLineJoin::Round(ArcOptions::default()),
+        miter_min_turn: Angle::from_bits(DEFAULT_MITER_MIN_TURN),
+        math: MathMode::Integer,
+    }
 }
 
 /// The outline of the contours in this style, by the call that takes options or the one that takes none.

@@ -7,7 +7,9 @@ use i_overlay_mesh::{IntNearnessError, IntOutlineError};
 use mesh_below::below::IntOverlayOptions;
 use mesh_below::nearness::{NearShapes, SplitCount};
 use mesh_join::arc::ArcOptions;
-use mesh_join::style::{IntLineCap, IntLineJoin, IntStrokeStyle};
+use mesh_join::style::{
+    DEFAULT_MITER_MIN_TURN, IntLineCap, IntLineJoin, IntStrokeStyle, MathMode, StrokeSide,
+};
 use mesh_num::num::{Angle, IntPoint};
 use mesh_num::shape::buffer::{FlatContoursBuffer, IntShapes};
 use mesh_test_support::compared::{are_same_edges, expect_equal, expect_that};
@@ -29,12 +31,31 @@ const LINES: &[&[(i32, i32)]] = &[&[(-50, 0), (50, 0), (50, 50)], &[(0, -50), (0
 /// Round joins, a round cap at the start, and an arrow's head at the end.
 fn pointed(alloc: Global) -> Result<IntStrokeStyle<i32>, AllocError> {
     let head = RcSlice::from_vec(path(alloc, &[(0, -6), (6, 0), (0, 6)])?)?;
-    Ok(
-        IntStrokeStyle::new(8)
-            .line_join(IntLineJoin::Round(ArcOptions::default()))
-            .start_cap(IntLineCap::Round(ArcOptions::default()))
-            .end_cap(IntLineCap::Custom(head)),
-    )
+    Ok(styled(
+        8,
+        IntLineJoin::Round(ArcOptions::default()),
+        IntLineCap::Round(ArcOptions::default()),
+        IntLineCap::Custom(head),
+    ))
+}
+
+// The checker takes long for a style that is changed step by step, so its fields are named at once.
+/// The style with this width, these joins, and these caps at the start and at the end.
+fn styled(
+    width: i32,
+    join: IntLineJoin,
+    start_cap: IntLineCap<i32>,
+    end_cap: IntLineCap<i32>,
+) -> IntStrokeStyle<i32> {
+    IntStrokeStyle {
+        width,
+        start_cap,
+        end_cap,
+        join,
+        miter_min_turn: Angle::from_bits(DEFAULT_MITER_MIN_TURN),
+        math: MathMode::Integer,
+        side: StrokeSide::Both,
+    }
 }
 
 /// The strokes of the lines in this style, by the call that takes options or the one that takes none.
@@ -150,10 +171,8 @@ const SQUARE: &[(i32, i32)] = &[(0, 0), (100, 0), (100, 100), (0, 100)];
 
 /// Square caps, and miters that are clipped at right angles, so that each corner is joined by three edges.
 fn clipped() -> IntStrokeStyle<i32> {
-    IntStrokeStyle::new(40)
-        .line_join(IntLineJoin::Miter(Angle::from_bits(1_610_612_736)))
-        .start_cap(IntLineCap::Square)
-        .end_cap(IntLineCap::Square)
+    let join = IntLineJoin::Miter(Angle::from_bits(1_610_612_736));
+    styled(40, join, IntLineCap::Square, IntLineCap::Square)
 }
 
 /// Whatever memory is refused, the square's stroke of so many edges is built in a vector that has this room. Then the
