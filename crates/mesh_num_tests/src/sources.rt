@@ -89,8 +89,11 @@ fn buffers_are_sources(rt: HostRuntime) -> Result<(), Fail> {
     assert!(rt; gives(&buffer, ALL));
     // Ranges that a caller wrote may run backwards or past the points: what is there counts.
     buffer.ranges.clear();
-    for (start, end) in [(2usize, 9usize), (3, 1), (7, 8), (0, 3)] {
-        buffer.ranges.push(Range { start, end })?;
+    for (start, end) in &[(2usize, 9usize), (3, 1), (7, 8), (0, 3)] {
+        buffer.ranges.push(Range {
+            start: *start,
+            end: *end,
+        })?;
     }
     assert!(rt; gives(&buffer, &[&[(2, 9), (-5, 4), (-6, 4)], &[], &[], TRIANGLE]));
     Ok(())

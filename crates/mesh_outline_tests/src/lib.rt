@@ -1,4 +1,5 @@
-//! Tests of outlines: worked ones, stored answers, and plain programs that count.
+//! Tests of outlines: worked ones, at the ends of the ranges, and apart from each other. `reference/compare.py` holds the
+//! program's answers to many more of them against the reference.
 #![tactic(auto)]
 
 #[cfg(test)]
@@ -8,15 +9,11 @@ mod apart;
 #[cfg(test)]
 mod calls;
 #[cfg(test)]
-mod contours;
-#[cfg(test)]
 mod mitered;
 #[cfg(test)]
 mod nearness;
 #[cfg(test)]
 mod outlines;
-#[cfg(test)]
-mod pieces;
 #[cfg(test)]
 mod regions;
 #[cfg(test)]
@@ -25,10 +22,6 @@ mod round;
 mod slivers;
 #[cfg(test)]
 mod sources;
-#[cfg(test)]
-mod stored;
-#[cfg(test)]
-mod tables;
 #[cfg(test)]
 mod validation;
 #[cfg(test)]

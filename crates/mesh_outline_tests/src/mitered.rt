@@ -1,10 +1,9 @@
-//! Mitered outlines: worked ones, and how they wind near the vertices of many contours.
+//! Worked outlines with miters.
 
-use crate::outlines::{Outline, expect_small_counts, small_joined};
-use mesh_test_support::compared::{are_same_edges, expect_that};
+use crate::outlines::{expect_loop, styled};
+use mesh_num::num::OverlayInt;
 use mesh_test_support::joins::JoinKind;
-use mesh_test_support::plain::{Point, closed};
-use mesh_test_support::random::{Random, small_contour};
+use mesh_test_support::plain::Point;
 use std::alloc::Global;
 use std::fmt::Debug;
 use std::test::Fail;
@@ -308,78 +307,33 @@ const LARGE: &[Row<i32>] = &[
     ),
 ];
 
-/// The outline is the loop of these points, and near each vertex it winds as it has to.
-fn expect_loop(
+/// A loop of small numbers, at one width of them.
+fn expect_small_loop<I: OverlayInt + From<i8> + Debug>(
     alloc: Global,
-    outline: Outline,
-    points: &[Point],
-    case: &impl Debug,
+    (contour, offset, bits, points): Row<i8>,
 ) -> Result<(), Fail> {
-    outline.expect_count(case)?;
-    let wanted = closed(alloc, points)?;
-    let is_same = are_same_edges(outline.edges, wanted)?;
-    expect_that(is_same, case)
+    let mut spots = Vec::new(alloc);
+    for (x, y) in contour {
+        spots.push((I::from(*x), I::from(*y)))?;
+    }
+    let style = styled(I::from(offset), JoinKind::Miter(bits, 0));
+    expect_loop(alloc, &spots, style, points)
 }
 
 #[test]
 fn small_loops(rt: HostRuntime) -> Result<(), Fail> {
     for row in SMALL {
-        let (contour, offset, bits, points) = *row;
-        let join = JoinKind::Miter(bits, 0);
-        let small = small_joined::<i16>(rt.alloc(), contour, offset, join)?;
-        expect_loop(rt.alloc(), small, points, row)?;
-        let large = small_joined::<i32>(rt.alloc(), contour, offset, join)?;
-        expect_loop(rt.alloc(), large, points, row)?;
+        expect_small_loop::<i16>(rt.alloc(), *row)?;
+        expect_small_loop::<i32>(rt.alloc(), *row)?;
     }
     Ok(())
 }
 
 #[test]
 fn large_loops(rt: HostRuntime) -> Result<(), Fail> {
-    for row in LARGE {
-        let (contour, offset, bits, points) = *row;
-        let outline = Outline::joined(rt.alloc(), contour, offset, JoinKind::Miter(bits, 0))?;
-        expect_loop(rt.alloc(), outline, points, row)?;
-    }
-    Ok(())
-}
-
-/// Miters from the sharpest angle on to nearly none, from any turn on and from slight and great ones.
-const MITERS: [JoinKind; 6] = [
-    JoinKind::Miter(0, 0),
-    JoinKind::Miter(0, 59_652_323),
-    JoinKind::Miter(70_453_008, 0),
-    JoinKind::Miter(536_870_912, 1_073_741_824),
-    JoinKind::Miter(1_610_612_736, 0),
-    JoinKind::Miter(4_294_967_295, 4_294_967_295),
-];
-
-/// A contour for each of the miters, outwards and inwards, at both widths of numbers.
-fn expect_counts(alloc: Global, seed: u64) -> Result<(), Fail> {
-    let mut random = Random::new(seed);
-    for join in MITERS {
-        let contour = small_contour(alloc, &mut random)?;
-        let size = random.small();
-        for offset in [size, size.wrapping_neg()] {
-            expect_small_counts(alloc, &contour, offset, join)?;
-        }
-    }
-    Ok(())
-}
-
-// In several tests, as the time of a test is limited.
-#[test]
-fn winding_of_seeds_1_to_4(rt: HostRuntime) -> Result<(), Fail> {
-    for seed in 1..=4u64 {
-        expect_counts(rt.alloc(), seed)?;
-    }
-    Ok(())
-}
-
-#[test]
-fn winding_of_seeds_5_to_8(rt: HostRuntime) -> Result<(), Fail> {
-    for seed in 5..=8u64 {
-        expect_counts(rt.alloc(), seed)?;
+    for (contour, offset, bits, points) in LARGE {
+        let style = styled(*offset, JoinKind::Miter(*bits, 0));
+        expect_loop(rt.alloc(), contour, style, points)?;
     }
     Ok(())
 }

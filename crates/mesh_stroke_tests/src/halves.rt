@@ -9,22 +9,14 @@ use i_overlay_mesh::stroke::radius::padding;
 use mesh_join::style::{IntStrokeStyle, StrokeSide};
 use mesh_num::num::OverlayInt;
 use mesh_test_support::compared::{are_same_edges, expect_equal, expect_that};
-use mesh_test_support::edges::{edges_of_segments, plain_points};
+use mesh_test_support::edges::edges_of_segments;
 use mesh_test_support::joins::JoinKind;
 use mesh_test_support::lists::path;
-use mesh_test_support::plain::{Edge, Point, plus, refined, winding};
-use mesh_test_support::random::{Random, small_path};
+use mesh_test_support::plain::{Edge, Point, plus, winding};
 use std::alloc::{AllocError, Global};
 use std::test::Fail;
 
 const ROUND: JoinKind = JoinKind::Round(536_870_912, 5);
-
-const JOINS: [JoinKind; 4] = [
-    JoinKind::Bevel,
-    JoinKind::Miter(0, 0),
-    JoinKind::Miter(536_870_912, 59_652_323),
-    ROUND,
-];
 
 const LINE: &[(i16, i16)] = &[(0, 0), (8192, 0)];
 
@@ -284,51 +276,4 @@ fn expect_spike(alloc: Global, is_closed: bool) -> Result<(), Fail> {
 fn halves_of_a_spike(rt: HostRuntime) -> Result<(), Fail> {
     expect_spike(rt.alloc(), false)?;
     expect_spike(rt.alloc(), true)
-}
-
-/// Fifty random paths, each with all joins, of either width, open or closed.
-fn expect_fifty(alloc: Global, seed: u64) -> Result<(), Fail> {
-    let mut random = Random::new(seed);
-    for _ in 0..50 {
-        let path = small_path(alloc, &mut random)?;
-        let style = StyleRow {
-            width: random.below(7) as i16 + 2,
-            join: JOINS
-                .get(random.below(4) as usize)
-                .copied()
-                .unwrap_or(JoinKind::Bevel),
-            start: SQUARES.0,
-            end: CapRow::Custom(&[(0, -3), (4, 0)]),
-        };
-        let is_closed = random.below(2) == 0;
-        let halves = if random.below(2) == 0 {
-            Halves::new::<i16>(alloc, &path, is_closed, style)?
-        } else {
-            Halves::new::<i32>(alloc, &path, is_closed, style)?
-        };
-        for vertex in &plain_points(alloc, &path)? {
-            halves.expect_near(refined(2, *vertex), 4)?;
-        }
-    }
-    Ok(())
-}
-
-#[test]
-fn halves_of_seed_1(rt: HostRuntime) -> Result<(), Fail> {
-    expect_fifty(rt.alloc(), 1)
-}
-
-#[test]
-fn halves_of_seed_2(rt: HostRuntime) -> Result<(), Fail> {
-    expect_fifty(rt.alloc(), 2)
-}
-
-#[test]
-fn halves_of_seed_3(rt: HostRuntime) -> Result<(), Fail> {
-    expect_fifty(rt.alloc(), 3)
-}
-
-#[test]
-fn halves_of_seed_4(rt: HostRuntime) -> Result<(), Fail> {
-    expect_fifty(rt.alloc(), 4)
 }

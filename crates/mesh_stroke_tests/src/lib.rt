@@ -1,4 +1,5 @@
-//! Tests of strokes: worked ones, stored answers, paths read backwards, and plain programs that count.
+//! Tests of strokes: worked ones, at the ends of the ranges, their halves and how near they hold points.
+//! `reference/compare.py` holds the program's answers to many more of them against the reference.
 #![tactic(auto)]
 
 #[cfg(test)]
@@ -7,8 +8,6 @@ mod answers;
 mod calls;
 #[cfg(test)]
 mod collapsed;
-#[cfg(test)]
-mod contours;
 #[cfg(test)]
 mod crowded;
 #[cfg(test)]
@@ -20,22 +19,12 @@ mod inner;
 #[cfg(test)]
 mod nearness;
 #[cfg(test)]
-mod pieces;
-#[cfg(test)]
 mod regions;
-#[cfg(test)]
-mod reversal;
 #[cfg(test)]
 mod shapes;
 #[cfg(test)]
-mod stored;
-#[cfg(test)]
 mod styles;
 #[cfg(test)]
-mod tables;
-#[cfg(test)]
 mod validation;
-#[cfg(test)]
-mod windings;
 #[cfg(test)]
 mod worked;

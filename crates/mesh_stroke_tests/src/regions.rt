@@ -1,6 +1,6 @@
-//! Answers of worked strokes as regions: they wind once where a piece holds the point, and not elsewhere.
+//! Answers of worked strokes as regions: they wind once where the drawn edges wind round the point, and not elsewhere.
 
-use crate::pieces::Pieces;
+use crate::drawn::drawn;
 use crate::styles::{CapRow, StyleRow, widened};
 use i_overlay_mesh::stroke::offset::IntStrokeOffset;
 use mesh_test_support::compared::expect_equal;
@@ -23,11 +23,11 @@ fn wide_line(cap: CapRow) -> StyleRow {
 }
 
 /// Up to a distance of 2 from a point, in each coordinate, at the points of the grid 2.
-fn expect_near(middle: Point, answer: &[Edge], pieces: &Pieces) -> Result<(), Fail> {
+fn expect_near(middle: Point, answer: &[Edge], drawn: &[Edge]) -> Result<(), Fail> {
     for x in -4i32..5 {
         for y in -4i32..5 {
             let q = plus(refined(2, middle), (i128::from(x), i128::from(y)));
-            let wanted = if pieces.count(2, q).0 > 0 { 1i128 } else { 0 };
+            let wanted = if winding(2, q, drawn) > 0 { 1i128 } else { 0 };
             expect_equal(&winding(2, q, answer), &wanted, &q)?;
         }
     }
@@ -40,13 +40,12 @@ fn expect_region(alloc: Global, style: StyleRow) -> Result<(), Fail> {
     let wanted = style.style::<i32>(alloc)?;
     source.validate_stroke(&wanted)?;
     let answer = edges_of_shapes(alloc, &source.stroke(alloc, &wanted, false)?)?;
-    let points = plain_points(alloc, LINE)?;
-    let pieces = Pieces::of_stroke(alloc, 1 << 30, &points, false, style)?;
-    for vertex in &points {
-        expect_near(*vertex, &answer, &pieces)?;
+    let edges = drawn::<i32>(alloc, LINE, false, style)?;
+    for vertex in &plain_points(alloc, LINE)? {
+        expect_near(*vertex, &answer, &edges)?;
     }
     for (vertex, _) in &answer {
-        expect_near(*vertex, &answer, &pieces)?;
+        expect_near(*vertex, &answer, &edges)?;
     }
     Ok(())
 }

@@ -1,7 +1,7 @@
 //! Styles as tables write them.
 
 use mesh_join::arc::ArcOptions;
-use mesh_join::style::{IntLineCap, IntLineJoin, IntStrokeStyle};
+use mesh_join::style::{IntLineCap, IntLineJoin, IntStrokeStyle, MathMode, StrokeSide};
 use mesh_num::num::{Angle, IntPoint, OverlayInt};
 use mesh_test_support::joins::JoinKind;
 use std::alloc::{AllocError, Global};
@@ -69,13 +69,15 @@ impl StyleRow {
         alloc: Global,
     ) -> Result<IntStrokeStyle<I>, AllocError> {
         let (join, min_turn) = join_of(self.join);
-        Ok(
-            IntStrokeStyle::new(I::from(self.width))
-                .line_join(join)
-                .miter_min_turn(Angle::from_bits(min_turn))
-                .start_cap(self.start.cap(alloc)?)
-                .end_cap(self.end.cap(alloc)?),
-        )
+        Ok(IntStrokeStyle {
+            width: I::from(self.width),
+            start_cap: self.start.cap(alloc)?,
+            end_cap: self.end.cap(alloc)?,
+            join,
+            miter_min_turn: Angle::from_bits(min_turn),
+            math: MathMode::Integer,
+            side: StrokeSide::Both,
+        })
     }
 
     /// The style with its caps exchanged.

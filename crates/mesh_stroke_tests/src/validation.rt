@@ -5,7 +5,7 @@ use i_overlay_mesh::IntOutlineError;
 use i_overlay_mesh::stroke::offset::IntStrokeOffset;
 use i_overlay_mesh::stroke::radius::{padding, stroke_radius};
 use mesh_join::arc::ArcOptions;
-use mesh_join::style::{IntLineCap, IntLineJoin, IntStrokeStyle};
+use mesh_join::style::{IntLineCap, IntLineJoin, IntStrokeStyle, MathMode, StrokeSide};
 use mesh_num::num::{Angle, OverlayInt};
 use mesh_test_support::compared::expect_equal;
 use mesh_test_support::joins::JoinKind;
@@ -259,11 +259,15 @@ fn pointed(
 ) -> Result<IntStrokeStyle<i32>, AllocError> {
     let start = RcSlice::from_vec(path(alloc, &[point])?)?;
     let end = RcSlice::from_vec(path(alloc, &[point])?)?;
-    Ok(
-        IntStrokeStyle::new(width)
-            .start_cap(IntLineCap::Custom(start))
-            .end_cap(IntLineCap::Custom(end)),
-    )
+    Ok(IntStrokeStyle {
+        width,
+        start_cap: IntLineCap::Custom(start),
+        end_cap: IntLineCap::Custom(end),
+        join: IntLineJoin::Bevel,
+        miter_min_turn: Angle::from_bits(0),
+        math: MathMode::Integer,
+        side: StrokeSide::Both,
+    })
 }
 
 #[test]

@@ -1,6 +1,6 @@
 //! Comparers of answers with tables.
 
-use crate::plain::{Edge, net_count};
+use crate::plain::Edge;
 use mesh_num::num::{IntNumber, IntPoint};
 use mesh_num::shape::buffer::{FlatContoursBuffer, IntShapes};
 use mesh_num::shape::resource::IntShapeResource;
@@ -159,18 +159,6 @@ pub fn are_same_edges(mut first: Vec<Edge>, mut second: Vec<Edge>) -> Result<boo
     first.sort()?;
     second.sort()?;
     Ok(first == second)
-}
-
-/// Whether between any two points both lists have as many edges, less those that run back.
-pub fn have_same_counts(first: &[Edge], second: &[Edge]) -> bool {
-    for list in [first, second] {
-        for edge in list {
-            if net_count(*edge, first) != net_count(*edge, second) {
-                return false;
-            }
-        }
-    }
-    true
 }
 
 /// A buffer with one contour of one point.

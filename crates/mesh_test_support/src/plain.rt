@@ -1,5 +1,5 @@
-//! Crossings, windings, net counts, fans and balance, plainly. The numbers of the tests are far from the ends of 128
-//! bits, so no operation wraps.
+//! Crossings, windings and balance, plainly. The numbers of the tests are far from the ends of 128 bits, so no operation
+//! wraps.
 
 use std::alloc::{AllocError, Global};
 
@@ -67,51 +67,6 @@ pub fn closed(alloc: Global, points: &[Point]) -> Result<Vec<Edge>, AllocError> 
         before = *point;
     }
     Ok(edges)
-}
-
-/// The points in their order, each once.
-pub fn distinct(alloc: Global, points: &[Point]) -> Result<Vec<Point>, AllocError> {
-    let mut sorted = Vec::from_slice(alloc, points)?;
-    sorted.sort()?;
-    let mut found = Vec::new(alloc);
-    for point in &sorted {
-        if found.last() != Some(point) {
-            found.push(*point)?;
-        }
-    }
-    Ok(found)
-}
-
-/// Whether the piece with this boundary holds a point of the grid `m`.
-pub fn holds(m: i128, q: Point, boundary: &[Edge]) -> bool {
-    winding(m, q, boundary) != 0
-}
-
-/// How many edges run from the start of an edge to its end, less those that run back.
-pub fn net_count(edge: Edge, edges: &[Edge]) -> i128 {
-    let mut sum = 0i128;
-    for other in edges {
-        if *other == edge {
-            sum = sum.wrapping_add(1);
-        }
-        if *other == (edge.1, edge.0) {
-            sum = sum.wrapping_sub(1);
-        }
-    }
-    sum
-}
-
-/// The triangles from a point over each step of a list.
-pub fn fan(alloc: Global, center: Point, list: &[Point]) -> Result<Vec<[Point; 3]>, AllocError> {
-    let mut triangles = Vec::new(alloc);
-    let mut before = None;
-    for point in list {
-        if let Some(from) = before {
-            triangles.push([center, from, *point])?;
-        }
-        before = Some(*point);
-    }
-    Ok(triangles)
 }
 
 /// Whether each end of an edge is the start of as many edges as it is the end.

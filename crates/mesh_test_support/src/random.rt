@@ -34,11 +34,6 @@ impl Random {
         self.below(3) as i32 - 1
     }
 
-    /// A number of at most 8 in size.
-    pub fn small(&mut self) -> i8 {
-        self.below(17) as i8 - 8
-    }
-
     /// A point with both coordinates below `end`, and none below 0.
     pub fn point(&mut self, end: u32) -> Spot
         requires least { 0 < end }
@@ -115,50 +110,4 @@ pub fn slanted_edges(
         }
     }
     Ok(edges)
-}
-
-/// Three to ten points of small coordinates, among them repeats and points where the contour turns back.
-pub fn small_contour(alloc: Global, random: &mut Random) -> Result<Vec<(i8, i8)>, AllocError> {
-    let mut spots = Vec::new(alloc);
-    let (mut before, mut last) = ((0, 0), (0, 0));
-    for _ in 0..3 + random.below(8) {
-        let spot = match random.below(6) {
-            0 => last,
-            1 => before,
-            _ => (random.small(), random.small()),
-        };
-        spots.push(spot)?;
-        before = last;
-        last = spot;
-    }
-    Ok(spots)
-}
-
-/// The point as far past `last` as `before` lies behind it, with coordinates of at most 24 in size.
-fn ahead(before: Step, last: Step) -> Step {
-    let x = last.0.wrapping_mul(2).wrapping_sub(before.0);
-    let y = last.1.wrapping_mul(2).wrapping_sub(before.1);
-    (x.max(-24).min(24), y.max(-24).min(24))
-}
-
-/// A point of a path of small coordinates.
-pub type Step = (i16, i16);
-
-/// One to eight points of small coordinates, among them repeats, points where the path turns back, and points that it
-/// runs straight through.
-pub fn small_path(alloc: Global, random: &mut Random) -> Result<Vec<Step>, AllocError> {
-    let mut spots = Vec::new(alloc);
-    let (mut before, mut last) = ((0, 0), (0, 0));
-    for _ in 0..1 + random.below(8) {
-        let spot = match random.below(7) {
-            0 => last,
-            1 => before,
-            2 => ahead(before, last),
-            _ => (i16::from(random.small()), i16::from(random.small())),
-        };
-        spots.push(spot)?;
-        before = last;
-        last = spot;
-    }
-    Ok(spots)
 }
