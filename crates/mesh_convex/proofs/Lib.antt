@@ -1,0 +1,3 @@
+mod Clear
+mod Counts
+mod Turns
