@@ -1,6 +1,7 @@
 pub mod Alike
 pub mod Attempts
 pub mod ClearPaths
+pub mod ConvexLoops
 pub mod InLine
 pub mod NearPaths
 pub mod Origins

@@ -8,6 +8,7 @@ ghost use Rattle.mesh_lattice.specs.Counted.{size, IsRoomy};
 ghost use Rattle.mesh_lattice.specs.Splitting.{IsSplitting};
 ghost use Rattle.mesh_split.specs.Counting.{counted, CountsAtMost, IsReason, IsWithinLimit};
 ghost use Rattle.mesh_rounds.specs.Told.{IsToldSplitting};
+ghost use Rattle.mesh_convex.specs.Convex.{IsConvexLoop};
 ghost use Rattle.mesh_pairs.specs.Pairs.{AreFound};
 ghost use Rattle.mesh_paths.specs.Paths.{ArePaths};
 ghost use Rattle.mesh_attempt.specs.Attempts.{AreCut};
@@ -22,6 +23,7 @@ use crate::nearness::nearness;
 use crate::segments::counted_segments;
 use mesh_attempt::attempt::{CutEdges, cut_edges};
 use mesh_clear::check::are_all_clear;
+use mesh_convex::convex::{is_convex_loop, split_convex_loop};
 use mesh_in_line::in_line::{CutInLine, cut_in_line};
 use mesh_in_line::samples::are_many_in_line;
 use mesh_lattice::lattice::{CountedSegment, LatticeEdge};
@@ -155,6 +157,9 @@ fn splitting_in_arrays(
     ensures splitting { IfOk result (λ o. IfSome o (λ v. IsSplitting edges.now v.items)) }
     ensures room { IfOk result (λ o. IfSome o (λ v. IsRoomy (sum_of size v.items))) }
 {
+    if is_convex_loop(edges) {
+        return Ok(Some(split_convex_loop(alloc, edges)?));
+    }
     if !do_arrays_serve(edges) {
         return Ok(None);
     }
@@ -195,7 +200,33 @@ fn told_after(
     Ok(Some(ToldSplitting { segments, nearness }))
 }
 
-/// The same where edges in line are cut first.
+/// The edges themselves as segments, and the nearness 0, where they run once round a convex polygon: no split is made, so
+/// none is counted on.
+fn told_of_convex_loop(
+    alloc: Global,
+    edges: &[LatticeEdge],
+    count: &mut SplitCount,
+) -> Result<ToldSplitting, SplitError>
+    requires convex { IsConvexLoop edges.now }
+    requires proper { IsProper edges.now }
+    ensures made { IfOk result (λ told.
+        IsMadeAmong 1 edges.now count.old count.new told.segments.items told.nearness) }
+    ensures room { IfOk result (λ told. IsRoomy (sum_of size told.segments.items)) }
+    ensures small { IfOk result (λ told. told.nearness ≤ 2 ^ 38) }
+    ensures counted { CountsAtMost 1 edges.now count.old count.new }
+    ensures within { OnOk result (IsWithinLimit count.new) }
+    ensures refused { IfErr result (λ e. IsReason e count.new) }
+{
+    count_on(count, 0)?;
+    let segments = split_convex_loop(alloc, edges)?;
+    Ok(ToldSplitting {
+        segments,
+        nearness: 0,
+    })
+}
+
+/// Splits edges in arrays, with the nearness of the splits, which are counted on. Those of a convex polygon stay as they
+/// are, and edges in line are cut first.
 fn told_in_arrays(
     alloc: Global,
     edges: &[LatticeEdge],
@@ -211,6 +242,9 @@ fn told_in_arrays(
     ensures refused { IfErr result (λ e. IsReason e count.new) }
 {
     let _made = count.made;
+    if is_convex_loop(edges) {
+        return Ok(Some(told_of_convex_loop(alloc, edges, count)?));
+    }
     if !do_arrays_serve(edges) {
         return Ok(None);
     }

@@ -1,3 +1,3 @@
-mod Clear
+pub mod Clear
 mod Counts
 mod Turns

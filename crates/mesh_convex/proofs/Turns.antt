@@ -144,9 +144,6 @@ turn_on p (suc k) some left t =
     let before : suc k - 1 ≡ k = omega arith in
     one_more p k left (subst (λ (n : ℕ). IsTurningOn (p 0) (p 1) (p n) (p (suc k), p (suc (suc k)))) before t)
 
-pub two_points : (p : ℕ → Point) → TurnLeft p 2
-two_points p i j k low mid most = absurd (omega (arith, low, mid, most))
-
 -- so each edge of a convex loop does
 pub loop_turns : (es : List Edge) → IsConvexLoop es → (k : ℕ) → 0 < k → suc k < length es → IsTurningOn (start_at es 0) (edge_at es 0).1 (start_at es (k - 1)) (edge_at es k)
 loop_turns es c zero some low = absurd (omega (arith, some))
