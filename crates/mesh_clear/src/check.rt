@@ -4,6 +4,8 @@ ghost use Rattle.std.specs.Prelude.{◌<◌, IsTrue, IfOk};
 ghost use Rattle.std.specs.List.{All};
 ghost use Rattle.mesh_pairs.specs.Pairs.{AreFound, IsClose, IsMeeting};
 ghost use Rattle.mesh_paths.specs.Paths.{ArePaths};
+ghost use Rattle.mesh_paths.specs.Stops.{count_of};
+ghost use Rattle.mesh_check.specs.Bent.{AreClearPaths};
 ghost use Rattle.mesh_clear.specs.AllClear.{AreAllClear};
 ghost use Rattle.mesh_clear.specs.Private.Looking.{AreBends, IsClearMeeting, IsClearPair};
 
@@ -11,14 +13,16 @@ use crate::bends::bends_of;
 use crate::ends::are_clear_at_ends;
 use crate::fit::are_fit;
 use crate::meetings::are_clear_near;
+use crate::visits::{Visits, visits_of};
 use mesh_check::close::are_parted;
 use mesh_check::comparing::are_clear_by_pieces;
+use mesh_check::leading::lead_apart;
 use mesh_pairs::pairs::{Meeting, Pairs};
-use mesh_paths::paths::Paths;
+use mesh_paths::paths::{Paths, Piece};
 use std::alloc::{AllocError, Global};
 
 /// Whether the paths of two edges that met are clear of each other.
-pub fn is_meeting_clear(paths: &Paths, bends: &[u64], m: Meeting, left: &mut usize) -> bool
+fn is_meeting_clear(paths: &Paths, bends: &[u64], m: Meeting, left: &mut usize) -> bool
     requires bends { AreBends paths.now bends.now }
     requires meeting { IsMeeting paths.now.edges.items m }
     ensures { IsTrue result → IsClearMeeting paths.now m }
@@ -29,13 +33,59 @@ pub fn is_meeting_clear(paths: &Paths, bends: &[u64], m: Meeting, left: &mut usi
     are_clear_by_pieces(paths, m.first, m.second, left)
 }
 
-fn are_meetings_clear(paths: &Paths, bends: &[u64], meetings: &[Meeting], left: &mut usize) -> bool
+/// Whether two paths lead apart from these places of them, whatever stands there.
+#[inline]
+fn lead_apart_at(paths: &Paths, bends: &[u64], first: Piece, second: Piece) -> bool
+    requires bends { AreBends paths.now bends.now }
+    requires first { first.path < count_of paths.now.stops }
+    requires second { second.path < count_of paths.now.stops }
+    ensures { IsTrue result → AreClearPaths paths.now first.path second.path }
+{
+    if first.place > paths.stops.pieces(first.path as usize) {
+        return false;
+    }
+    if second.place > paths.stops.pieces(second.path as usize) {
+        return false;
+    }
+    let first_units = bends[first.path as usize];
+    let second_units = bends[second.path as usize];
+    lead_apart(paths, first, second, first_units, second_units)
+}
+
+/// The same as `is_meeting_clear`, with a guess at the common stop.
+#[inline]
+pub fn is_next_clear(
+    paths: &Paths,
+    bends: &[u64],
+    visits: &mut Visits,
+    m: Meeting,
+    left: &mut usize,
+) -> bool
+    requires bends { AreBends paths.now bends.now }
+    requires meeting { IsMeeting paths.now.edges.items m }
+    ensures { IsTrue result → IsClearMeeting paths.now m }
+{
+    if let Some((first, second)) = visits.common(m.first, m.second) {
+        if lead_apart_at(paths, bends, first, second) {
+            return true;
+        }
+    }
+    is_meeting_clear(paths, bends, m, left)
+}
+
+fn are_meetings_clear(
+    paths: &Paths,
+    bends: &[u64],
+    visits: &mut Visits,
+    meetings: &[Meeting],
+    left: &mut usize,
+) -> bool
     requires bends { AreBends paths.now bends.now }
     requires meetings { All (IsMeeting paths.now.edges.items) meetings.now }
     ensures { IsTrue result → All (IsClearMeeting paths.now) meetings.now }
 {
     for m in meetings {
-        if !is_meeting_clear(paths, bends, *m, left) {
+        if !is_next_clear(paths, bends, visits, *m, left) {
             return false;
         }
     }
@@ -90,8 +140,9 @@ pub fn are_all_clear(
     let Some(bends) = bends_of(alloc, paths)? else {
         return Ok(false);
     };
+    let mut visits = visits_of(alloc, paths)?;
     let mut left = most;
-    if !are_meetings_clear(paths, &bends, &pairs.meetings, &mut left) {
+    if !are_meetings_clear(paths, &bends, &mut visits, &pairs.meetings, &mut left) {
         return Ok(false);
     }
     if !are_close_clear(paths, &bends, &pairs.close, &mut left) {

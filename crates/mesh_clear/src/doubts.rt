@@ -8,8 +8,9 @@ ghost use Rattle.mesh_clear.specs.AllClear.{ArePathsOf};
 ghost use Rattle.mesh_clear.specs.Private.Looking.{AreBends};
 
 use crate::bends::bends_of;
-use crate::check::{is_meeting_clear, is_pair_clear};
+use crate::check::{is_next_clear, is_pair_clear};
 use crate::fit::are_fit;
+use crate::visits::{Visits, visits_of};
 use mesh_pairs::pairs::{Meeting, Pairs};
 use mesh_paths::paths::Paths;
 use std::alloc::{AllocError, Global};
@@ -18,6 +19,7 @@ use std::alloc::{AllocError, Global};
 fn push_meetings(
     paths: &Paths,
     bends: &[u64],
+    visits: &mut Visits,
     meetings: &[Meeting],
     left: &mut usize,
     doubts: &mut Vec<(u32, u32)>,
@@ -32,7 +34,7 @@ fn push_meetings(
         if doubts.len() > most_doubts {
             return Ok(());
         }
-        if !is_meeting_clear(paths, bends, *m, left) {
+        if !is_next_clear(paths, bends, visits, *m, left) {
             doubts.push((m.first, m.second))?;
         }
     }
@@ -84,11 +86,13 @@ pub fn doubtful_pairs(
     let Some(bends) = bends_of(alloc, paths)? else {
         return Ok(None);
     };
+    let mut visits = visits_of(alloc, paths)?;
     let mut left = most;
     let mut doubts = Vec::new(alloc);
     push_meetings(
         paths,
         &bends,
+        &mut visits,
         &pairs.meetings,
         &mut left,
         &mut doubts,

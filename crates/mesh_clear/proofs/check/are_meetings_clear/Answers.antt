@@ -8,7 +8,7 @@ use Rattle.mesh_clear.proofs.check.are_meetings_clear.Goals as goal
 pub loop-m-preserved : goal.loop-m-preserved
 loop-m-preserved c =
     All-more (IsClearMeeting c.args.paths.now) c.args.meetings.now c.loop-m.m-index _ (omega (arith, c.loop-m-test.true)) c.loop-m.invariant
-    (c.is_meeting_clear.ensures c.if-not-is_meeting_clear.false)
+    (c.is_next_clear.ensures c.if-not-is_next_clear.false)
 
 pub returns : goal.returns
 returns c = λ _.
