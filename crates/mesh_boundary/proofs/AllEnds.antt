@@ -1,6 +1,6 @@
 -- Lemmas over points and lists: all edges that leave a point leave at the ends that are listed there.
-use Rattle.std.proofs.Common.{◌≡◌, ℕ, zero, suc, ◌+◌, ◌<◌, ◌≤◌, ⊎_elim, ◌⊎◌, inl, inr, Bool, true, false, List, [], ◌∷◌, ◌++◌, length, get_or, refl, sym, ◌∙◌, ap, subst, arith}
-use Rattle.std.specs.Prelude.{ℤ, pos, ◌+ℤ◌, ◌≤ℤ◌, nat_eq}
+use Rattle.std.proofs.Common.{◌≡◌, ℕ, zero, suc, ◌<◌, ⊎_elim, ◌⊎◌, Bool, true, false, List, [], ◌∷◌, ◌++◌, length, sym, ◌∙◌, ap, subst, arith}
+use Rattle.std.specs.Prelude.{pos, ◌≤ℤ◌, nat_eq}
 use Rattle.std.specs.List.{Contains}
 use Rattle.std.proofs.lemmas.Bool.{cases_Bool}
 use Rattle.std.proofs.lemmas.Bool.Decides.{nat_tests}
@@ -9,7 +9,7 @@ use Rattle.std.proofs.lemmas.List.{get_or_default}
 use Rattle.std.proofs.lemmas.List.Elements.{Contains-append_left, Contains-push}
 use Rattle.mesh_plane.specs.Plane.{Point, Edge}
 use Rattle.mesh_lattice.specs.Counted.{Counted, bit, times, IsCountOf}
-use Rattle.mesh_lattice.specs.Split.{back, occurs, same_ends}
+use Rattle.mesh_lattice.specs.Split.{back, same_ends}
 use Rattle.mesh_lattice.proofs.Ends.{decides_ends}
 use Rattle.mesh_boundary.specs.Private.Stars.{segment, leaving, listed, one_if, star_at, AreAllAt, AreStarsAt, IsAmong}
 

@@ -1,6 +1,7 @@
 pub mod AllEnds
 pub mod BoundaryCounted
 pub mod Levels
+pub mod PointNumbers
 pub mod RoundEnds
 pub mod RowSums
 pub mod SidesCode

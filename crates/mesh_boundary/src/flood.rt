@@ -10,7 +10,8 @@ ghost use Rattle.mesh_lattice.specs.Counted.{Counted, size, IsRoomy};
 ghost use Rattle.mesh_lattice.specs.Split.{occurs};
 ghost use Rattle.mesh_regions.specs.SideLaws.{AreSplit};
 ghost use Rattle.mesh_regions.specs.Star.{AreNeighbours};
-ghost use Rattle.mesh_boundary.specs.Private.Flood.{OfSplitEdges, IsLevel, IsRight, AreKnown, windings_beside};
+ghost use Rattle.mesh_boundary.specs.Private.Flood.{OfSplitEdges, IsLevel, IsRight, IsRightPast, AreKnown, StaysRight};
+ghost use Rattle.mesh_boundary.specs.Private.Flood.{windings_beside};
 ghost use Rattle.mesh_boundary.specs.Private.Rounds.{AreFourRound};
 ghost use Rattle.mesh_boundary.specs.Private.Stars.{segment, leaving, AreStars, IsParted, HaveStars, IsSegment, IsStar};
 ghost use Rattle.mesh_boundary.specs.Private.Stars.{CountSplit};
@@ -184,10 +185,7 @@ fn left_leaving(segments: &[CountedSegment], x: End, right: i128) -> Option<i128
 fn right_past(segments: &[CountedSegment], x: End, y: End, right: i128) -> Option<i128>
     requires first { x.0 < length segments.now }
     requires second { y.0 < length segments.now }
-    ensures { (es : List Edge) → CountSplit es segments.now
-        → AreNeighbours es (leaving segments.now x).0 (leaving segments.now y).0
-        → IsRight es (segment segments.now x.0).0 right
-        → IfSome result (λ r. IsRight es (segment segments.now y.0).0 r) }
+    ensures { IsRightPast segments.now x y right result }
 {
     right_along(segments, y, left_leaving(segments, x, right)?)
 }
@@ -291,8 +289,8 @@ impl Flood {
         Ok(())
     }
 
-    /// Goes round a point by the order of the ends there, from one whose winding is known.
-    fn go_round_four(
+    /// Goes round a point by the order of the ends there, from the first one, of which the winding is known.
+    fn go_on_round(
         &mut self,
         segments: &[CountedSegment],
         stars: &Stars,
@@ -309,10 +307,36 @@ impl Flood {
         self.pass(segments, stars, ends.0, ends.1)?;
         self.pass(segments, stars, ends.1, ends.2)?;
         self.pass(segments, stars, ends.2, ends.3)?;
-        self.pass(segments, stars, ends.3, ends.0)?;
-        self.pass(segments, stars, ends.0, ends.1)?;
-        self.pass(segments, stars, ends.1, ends.2)?;
         Ok(())
+    }
+
+    /// The same from the end of a segment, where the winding is known.
+    fn go_round_four(
+        &mut self,
+        segments: &[CountedSegment],
+        stars: &Stars,
+        ends: (End, End, End, End),
+        k: u32,
+    ) -> Result<(), AllocError>
+        requires first { ends.0.0 < length segments.now }
+        requires second { ends.1.0 < length segments.now }
+        requires third { ends.2.0 < length segments.now }
+        requires fourth { ends.3.0 < length segments.now }
+        ensures { OnOk result ((es : List Edge) → CountSplit es segments.now
+            → AreFourRound es segments.now ends.0 ends.1 ends.2 ends.3
+            → AreKnown es segments.now self.old.known.items → AreKnown es segments.now self.new.known.items) }
+    {
+        let (x, y, z, w) = ends;
+        if x.0 == k {
+            return self.go_on_round(segments, stars, (x, y, z, w));
+        }
+        if y.0 == k {
+            return self.go_on_round(segments, stars, (y, z, w, x));
+        }
+        if z.0 == k {
+            return self.go_on_round(segments, stars, (z, w, x, y));
+        }
+        self.go_on_round(segments, stars, (w, x, y, z))
     }
 
     /// Goes round a point, where these ends are listed, from the winding there.
@@ -362,7 +386,7 @@ impl Flood {
             return Ok(());
         }
         if let Some(ends) = four_round(segments, star, s.0.0) {
-            self.go_round_four(segments, stars, ends)?;
+            self.go_round_four(segments, stars, ends, x.0)?;
             return Ok(());
         }
         if !spread_out(fan, segments, star)? {
@@ -409,10 +433,7 @@ impl Flood {
         requires parted { IsParted stars.now.parts.items stars.now.members.items (length segments.now) }
         requires len { length stars.now.ends.items ≡ length segments.now }
         requires in_range { k < length segments.now }
-        ensures { OnOk result ((es : List Edge)
-            → HaveStars es segments.now stars.now.parts.items stars.now.members.items stars.now.ends.items
-            → l.0 ≡ (segment segments.now k).0.0 → IsLevel es l
-            → AreKnown es segments.now self.old.known.items → AreKnown es segments.now self.new.known.items) }
+        ensures { OnOk result (StaysRight segments.now stars.now l k self.old self.new) }
     {
         let star = stars.star_of((k, true));
         if !spread_out(fan, segments, star)? {

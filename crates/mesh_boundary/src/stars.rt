@@ -1,29 +1,22 @@
 //! Ends of segments listed by their points, so that what leaves a point is a sum over one list, the star of the point.
 //! All lists stand in one vector, each in the part of a place.
 
-ghost use Rattle.std.specs.Prelude.{◌≡◌, ℕ, ◌<◌, ◌+ℤ◌, ◌*ℤ◌, cond, true, List, length, map, IfOk, IfSome};
+ghost use Rattle.std.specs.Prelude.{◌≡◌, ℕ, ◌<◌, ◌+ℤ◌, ◌*ℤ◌, cond, true, List, [], length, map, IfOk, IfSome, OnOk};
 ghost use Rattle.std.specs.List.{All};
 ghost use Rattle.mesh_plane.specs.Plane.{Point, Edge};
 ghost use Rattle.mesh_lattice.specs.Boundary.{rises};
 ghost use Rattle.mesh_lattice.specs.Counted.{Counted, bit};
 ghost use Rattle.mesh_lattice.specs.Split.{back};
+ghost use Rattle.mesh_points.specs.Points.{AreDistinct, IsNumberOf};
 ghost use Rattle.mesh_regions.specs.Star.{comes_before, leaves_before};
-ghost use Rattle.mesh_boundary.specs.Private.Stars.{raised, scattered, slot, place, part, ends_at, star_at};
+ghost use Rattle.mesh_boundary.specs.Private.Stars.{part, ends_at, star_at, ArePlaces};
 ghost use Rattle.mesh_boundary.specs.Private.Stars.{leaving, fan_of, counted_before, IsParted, IsFiled, AreBothFiled};
 ghost use Rattle.mesh_boundary.specs.Private.Stars.{AreAllAt, AreListed, AreStars, HaveStars, IsStar};
 
 use mesh_lattice::exact::{same_point, turn};
 use mesh_lattice::lattice::{CountedSegment, LatticeEdge, LatticePoint};
+use mesh_points::points::Points;
 use std::alloc::{AllocError, Global};
-
-/// 2^64 over the golden ratio, whose multiples are spread evenly.
-const SCATTERING: usize = 0x9E37_79B9_7F4A_7C15;
-
-/// A factor for heights, which has nothing to do with the other one.
-const HEIGHTS: usize = 0xC2B2_AE3D_27D4_EB4F;
-
-/// How many slots there are for each segment: few points share one.
-const SLOTS: usize = 4;
 
 /// The greatest number of segments whose ends 32 bits count.
 const MOST: usize = 2147483647;
@@ -37,8 +30,7 @@ pub type Part = (u32, u32);
 /// The places of an edge's ends.
 pub type Ends = (u32, u32);
 
-/// The ends of segments, listed by places, and the places of the ends of each segment. Each point has its place, which
-/// few others have.
+/// The ends of segments, listed by places, and the places of the ends of each segment. Each point has its place.
 #[derive(Drop)]
 pub struct Stars {
     pub parts: Vec<Part>,
@@ -46,94 +38,65 @@ pub struct Stars {
     pub ends: Vec<Ends>,
 }
 
-/// A coordinate, counted from the least one up.
-fn raised(a: i32) -> usize
-    ensures { result ≡ raised a }
+/// A point and its number.
+#[derive(Copy, Clone)]
+struct Known {
+    at: LatticePoint,
+    number: u32,
+}
+
+/// The number of a point, which is sought only where it is none of two points that are known.
+#[inline]
+fn number_of(points: &mut Points, known: (Known, Known), p: LatticePoint) -> Result<u32, AllocError>
+    requires distinct { AreDistinct points.old }
+    requires first { IsNumberOf points.old known.0.at known.0.number }
+    requires second { IsNumberOf points.old known.1.at known.1.number }
+    ensures distinct { OnOk result (AreDistinct points.new) }
+    ensures number { IfOk result (λ n. IsNumberOf points.new p n) }
+    ensures kept { OnOk result ((q : Point) (k : ℕ) → IsNumberOf points.old q k → IsNumberOf points.new q k) }
 {
-    (a as i64 + 2147483648).unsigned_abs() as usize
-}
-
-/// A number for a point, as if at random.
-#[tactic(auto, unfolding(crate::specs::Private::Stars::scattered))]
-fn scattered(p: LatticePoint) -> usize
-    ensures { result ≡ scattered p }
-{
-    raised(p.0)
-        .wrapping_mul(SCATTERING)
-        .wrapping_add(raised(p.1).wrapping_mul(HEIGHTS))
-        / 4294967296
-}
-
-/// The slot of a point, of so many.
-#[tactic(auto, unfolding(crate::specs::Private::Stars::slot))]
-fn slot(count: usize, p: LatticePoint) -> usize
-    ensures { result ≡ slot count p }
-{
-    scattered(p).wrapping_mul(count) / 4294967296
-}
-
-/// Gives a slot the next number, if it has none yet, and says which is the next one then.
-fn number(numbers: &mut Vec<u32>, i: usize, next: u32) -> u32 {
-    if i >= numbers.len() {
-        return next;
+    if same_point(known.0.at, p) {
+        return Ok(known.0.number);
     }
-    if numbers[i] > 0 {
-        return next;
+    if same_point(known.1.at, p) {
+        return Ok(known.1.number);
     }
-    numbers[i] = next;
-    next.saturating_add(1)
+    Ok(points.number(p)?.number)
 }
 
-/// So many zeros.
-fn zeros(alloc: Global, count: usize) -> Result<Vec<u32>, AllocError> {
-    let mut zeros = Vec::with_capacity(alloc, count)?;
-    for _made in 0..count {
-        zeros.push(0)?;
-    }
-    Ok(zeros)
-}
-
-/// Numbers for the slots of points, from 1 up as the points come, so that points that come together have near numbers.
-fn numbers(alloc: Global, segments: &[CountedSegment]) -> Result<Vec<u32>, AllocError> {
-    let count = segments.len().saturating_mul(SLOTS);
-    let mut numbers = zeros(alloc, count)?;
-    let mut next = 1;
-    for s in segments {
-        next = number(&mut numbers, slot(count, s.0.0), next);
-        next = number(&mut numbers, slot(count, s.0.1), next);
-    }
-    Ok(numbers)
-}
-
-/// The place of a point: the number of its slot, whatever the numbers are.
-fn place(numbers: &[u32], p: LatticePoint) -> u32
-    ensures { result ≡ place numbers.now p }
-{
-    let i = slot(numbers.len(), p);
-    if i >= numbers.len() {
-        return 0;
-    }
-    numbers[i]
-}
-
-/// The places of an edge's ends.
-fn ends_of(numbers: &[u32], e: LatticeEdge) -> Ends
-    ensures { result ≡ ends_at (place numbers.now) e }
-{
-    (place(numbers, e.0), place(numbers, e.1))
-}
-
-/// The places of the ends of segments.
+/// The places of the ends of segments: the numbers of their points, in the order in which they come. Points that come
+/// together have near numbers, and most segments share an end with the one before them.
 fn all_ends(
     alloc: Global,
     segments: &[CountedSegment],
-    numbers: &[u32],
+    points: &mut Points,
 ) -> Result<Vec<Ends>, AllocError>
-    ensures { IfOk result (λ v. v.items ≡ map (λ k. ends_at (place numbers.now) k.0) segments.now) }
+    requires none { points.old ≡ [] }
+    ensures distinct { OnOk result (AreDistinct points.new) }
+    ensures count { IfOk result (λ v. length v.items ≡ length segments.now) }
+    ensures places { IfOk result (λ v. (at : Point → ℕ) → ArePlaces at points.new
+        → v.items ≡ map (λ k. ends_at at k.0) segments.now) }
 {
     let mut ends = Vec::with_capacity(alloc, segments.len())?;
+    let some = Known {
+        at: (0, 0),
+        number: points.number((0, 0))?.number,
+    };
+    let mut known = (some, some);
     for s in segments {
-        ends.push(ends_of(numbers, s.0))?;
+        let start = number_of(points, known, s.0.0)?;
+        let end = number_of(points, known, s.0.1)?;
+        ends.push((start, end))?;
+        known = (
+            Known {
+                at: s.0.0,
+                number: start,
+            },
+            Known {
+                at: s.0.1,
+                number: end,
+            },
+        );
     }
     Ok(ends)
 }
@@ -146,13 +109,9 @@ fn count_at(sizes: &mut Vec<u32>, i: u32) {
     }
 }
 
-/// How many of the ends have each place.
-fn sizes_of(alloc: Global, ends: &[Ends]) -> Result<Vec<u32>, AllocError> {
-    let mut most: u32 = 0;
-    for e in ends {
-        most = most.max(e.0).max(e.1);
-    }
-    let mut sizes = zeros(alloc, (most as usize).saturating_add(1))?;
+/// How many of the ends have each of so many places.
+fn sizes_of(alloc: Global, ends: &[Ends], places: usize) -> Result<Vec<u32>, AllocError> {
+    let mut sizes = vec![in alloc; 0; places]?;
     for e in ends {
         count_at(&mut sizes, e.0);
         count_at(&mut sizes, e.1);
@@ -171,15 +130,6 @@ fn parts_of(alloc: Global, sizes: &[u32]) -> Result<Vec<Part>, AllocError>
         first = first.saturating_add(*size);
     }
     Ok(parts)
-}
-
-/// So many entries that are free: they have the index of no segment.
-fn free_entries(alloc: Global, count: usize, free: u32) -> Result<Vec<End>, AllocError> {
-    let mut members = Vec::with_capacity(alloc, count)?;
-    for _made in 0..count {
-        members.push((free, false))?;
-    }
-    Ok(members)
 }
 
 /// Puts an end down in the part of a place, if the next entry there is free, and says whether it was.
@@ -257,12 +207,13 @@ impl Stars {
         if segments.len() > MOST {
             return Ok(None);
         }
+        // An entry is free as long as it has the index of no segment.
         let free = segments.len() as u32;
-        let numbers = numbers(alloc, segments)?;
-        let ends = all_ends(alloc, segments, &numbers)?;
-        let sizes = sizes_of(alloc, &ends)?;
+        let mut points = Points::with_capacity(alloc, segments.len() / 2)?;
+        let ends = all_ends(alloc, segments, &mut points)?;
+        let sizes = sizes_of(alloc, &ends, points.len())?;
         let mut parts = parts_of(alloc, &sizes)?;
-        let mut members = free_entries(alloc, segments.len().saturating_mul(2), free)?;
+        let mut members = vec![in alloc; (free, false); segments.len().saturating_mul(2)]?;
         if !fill(&mut parts, &mut members, &ends, free) {
             return Ok(None);
         }

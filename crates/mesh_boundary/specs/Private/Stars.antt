@@ -1,31 +1,19 @@
 -- Ends of segments listed by the points where they are, and what leaves a point, as a sum over such a list. An end is
 -- the index of a segment, and whether the segment starts there.
-use Rattle.std.specs.Prelude.{ℕ, ◌+◌, ◌*◌, ◌/◌, ◌%◌, ◌^◌, ◌≡◌, ◌<◌, Bool, true, false, cond, List, [], ◌∷◌, ◌++◌, map}
-use Rattle.std.specs.Prelude.{length, slice_index_or, nat_eq, ℤ, pos, neg_ℤ, ◌+ℤ◌, ◌*ℤ◌, unsigned_abs, zero, suc}
+use Rattle.std.specs.Prelude.{ℕ, ◌+◌, ◌≡◌, ◌<◌, Bool, true, false, cond, List, [], ◌∷◌, ◌++◌, map}
+use Rattle.std.specs.Prelude.{length, slice_index_or, nat_eq, ℤ, pos, neg_ℤ, ◌*ℤ◌, zero, suc}
 use Rattle.std.specs.List.{All}
 use Rattle.mesh_plane.specs.Plane.{Point, Edge}
 use Rattle.mesh_plane.specs.Winding.{sum_of}
 use Rattle.mesh_lattice.specs.Counted.{Counted, bit, net}
 use Rattle.mesh_lattice.specs.Split.{back, occurs}
+use Rattle.mesh_points.specs.Points.{IsNumberOf}
 use Rattle.mesh_regions.specs.SideLaws.{AreSplit}
 use Rattle.mesh_regions.specs.Star.{leaves_before, net_before}
 
--- a coordinate, counted from the least one up
-abbrev pub raised : ℤ → ℕ
-raised a = unsigned_abs (a +ℤ pos 2147483648)
-
--- a number for a point, as if at random
-unfoldable pub scattered : Point → ℕ
-scattered p =
-    (raised p.0 * 0x9E3779B97F4A7C15 % 2 ^ 64 + raised p.1 * 0xC2B2AE3D27D4EB4F % 2 ^ 64) % 2 ^ 64 / 4294967296
-
--- the slot of a point, of so many
-unfoldable pub slot : ℕ → Point → ℕ
-slot count p = scattered p * count % 2 ^ 64 / 4294967296
-
--- the place of a point: the number of its slot
-abbrev pub place : List ℕ → Point → ℕ
-place numbers p = slice_index_or numbers (slot (length numbers) p) 0
+-- places that are the numbers of points, where these have one
+abbrev pub ArePlaces : (Point → ℕ) → List Point → Type 0
+ArePlaces at ps = (p : Point) (k : ℕ) → IsNumberOf ps p k → at p ≡ k
 
 -- the places of an edge's ends
 abbrev pub ends_at : (Point → ℕ) → Edge → ℕ × ℕ

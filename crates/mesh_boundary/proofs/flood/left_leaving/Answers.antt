@@ -1,5 +1,4 @@
 use Rattle.std.proofs.Common.{rules, ◌≡◌, Bool, cond, sym, ◌∙◌, ap}
-use Rattle.std.specs.Prelude.{ℤ}
 use mir.Syntax.{w128}
 use mir.Val.{to_z, of_z}
 use Rattle.mesh_lattice.specs.Boundary.{left_winding}

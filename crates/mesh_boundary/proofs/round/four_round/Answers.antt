@@ -1,4 +1,4 @@
-use Rattle.std.proofs.Common.{◌≡◌, ℕ, Bool, false, refl, sym, ◌∙◌, ap, arith}
+use Rattle.std.proofs.Common.{◌≡◌, false, refl, sym, ◌∙◌, ap, arith}
 use Rattle.mesh_plane.specs.Plane.{Point, Edge}
 use Rattle.mesh_boundary.proofs.RoundEnds.{crossed_back, crossed_forth, turning_as}
 use Rattle.mesh_boundary.proofs.round.four_round.Goals as goal

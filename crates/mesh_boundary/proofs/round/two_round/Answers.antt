@@ -1,4 +1,4 @@
-use Rattle.std.proofs.Common.{ℕ, Bool, false, refl, sym, ◌∙◌, ap, arith}
+use Rattle.std.proofs.Common.{false, refl, sym, ◌∙◌, ap, arith}
 use Rattle.mesh_plane.specs.Plane.{Edge}
 use Rattle.mesh_boundary.proofs.RoundEnds.{two_are_round}
 use Rattle.mesh_boundary.proofs.round.two_round.Goals as goal
