@@ -11,7 +11,7 @@ use Rattle.mesh_arc.specs.Private.Steps.{Steps, ends, HasTurned}
 use Rattle.mesh_arc.proofs.Turning.{least_is, least_passes, turned_more, turned_count}
 
 -- no direction yet
-pub turning_starts : (s : Steps) (from end : Point) (room : ℕ) → HasTurned s from end room 0 from [] room
+pub turning_starts : (s : Steps) (from end : Point) (room : ℕ) → HasTurned s (from, end) room 0 from [] room
 unfolding turned_times turned_list
 turning_starts s from end room = record {
   count = omega arith;
@@ -29,8 +29,8 @@ ends_is s from end k current next p q = rw (q, p) refl
 
 -- one more
 pub turning_goes : (s : Steps) (from end : Point) (room k : ℕ) (current : Point) (ds : List Point) (capacity : ℕ) (next : Point) (grown : ℕ)
-    → HasTurned s from end room k current ds capacity → k < most_directions → next ≡ rotated s.step current → ends s from end k ≡ false
-    → capacity ≤ grown → HasTurned s from end room (k + 1) next (ds ++ (next ∷ [])) grown
+    → HasTurned s (from, end) room k current ds capacity → k < most_directions → next ≡ rotated s.step current → ends s from end k ≡ false
+    → capacity ≤ grown → HasTurned s (from, end) room (k + 1) next (ds ++ (next ∷ [])) grown
 unfolding turned_times
 turning_goes s from end room k current ds capacity next grown h l q e c =
     let one : suc k ≡ k + 1 = omega arith in
@@ -49,14 +49,14 @@ turning_goes s from end room k current ds capacity next grown h l q e c =
 
 -- the list is whole where the arc ends
 pub turning_ends : (s : Steps) (from end : Point) (room k : ℕ) (current : Point) (ds : List Point) (capacity : ℕ)
-    → HasTurned s from end room k current ds capacity → (k ≡ most_directions) ⊎ (ends s from end k ≡ true)
+    → HasTurned s (from, end) room k current ds capacity → (k ≡ most_directions) ⊎ (ends s from end k ≡ true)
     → ds ≡ turned_list s.step from (least (ends s from end) most_directions)
 turning_ends s from end room k current ds capacity h p =
     h.directions ∙ ap (turned_list s.step from) (sym (least_is (ends s from end) most_directions k h.count h.goes_on p))
 
 -- where it goes on, there are more directions than there are yet
 pub more_come : (s : Steps) (from end : Point) (room k : ℕ) (current : Point) (ds : List Point) (capacity : ℕ)
-    → HasTurned s from end room k current ds capacity → k < most_directions → ends s from end k ≡ false
+    → HasTurned s (from, end) room k current ds capacity → k < most_directions → ends s from end k ≡ false
     → k < least (ends s from end) most_directions
 more_come s from end room k current ds capacity h l e =
     let n = least (ends s from end) most_directions in
@@ -75,7 +75,7 @@ more_come s from end room k current ds capacity h l e =
 
 -- as many directions as steps
 pub turned_so_far : (s : Steps) (from end : Point) (room k : ℕ) (current : Point) (ds : List Point) (capacity : ℕ)
-    → HasTurned s from end room k current ds capacity → length ds ≡ k
+    → HasTurned s (from, end) room k current ds capacity → length ds ≡ k
 turned_so_far s from end room k current ds capacity h = ap length h.directions ∙ turned_count s.step from k
 
 -- ---- from steps to arcs

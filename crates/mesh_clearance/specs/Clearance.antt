@@ -1,8 +1,9 @@
 -- The clearance between edges and the sections of paths: how near they come to each other, as a squared distance.
 use Rattle.std.specs.Prelude.{ℕ, suc, ◌*◌, ◌<◌, ◌≤◌, ◌≡◌, Bool, cond, List, [], ◌∷◌}
-use Rattle.std.specs.List.{All}
+use Rattle.std.specs.List.{All, flat_map}
 use Rattle.mesh_plane.specs.Plane.{Point, Edge, minus, length_sq}
 use Rattle.mesh_plane.specs.Winding.{boundary, pairs_from, refined, winding, IsBalanced}
+use Rattle.mesh_num.specs.Paths.{contours_of}
 use Rattle.mesh_lattice.specs.Clean.{IsOn, refined_edge}
 
 -- every two points of two edges, one of each, are at least the root of `t` from each other, on every grid
@@ -33,6 +34,14 @@ neighbours (p ∷ ps) = pairs_from p ps
 -- the sections of a path: from each point to the next, and from the last to the first where the path is closed
 abbrev pub sections : Bool → List Point → List Edge
 sections is_closed path = cond is_closed (boundary path) (neighbours path)
+
+-- the sections of all paths, in order
+abbrev pub all_sections : Bool → List (List Point) → List Edge
+all_sections are_closed paths = flat_map (sections are_closed) paths
+
+-- the edges of the contours of shapes, in order
+abbrev pub shape_edges : List (List (List Point)) → List Edge
+shape_edges shapes = flat_map boundary (contours_of shapes)
 
 -- the point `q` of the grid `m` is nearer than the root of `t` to a point of an edge, on some finer grid
 pub record IsNearer (t m : ℕ) (e : Edge) (q : Point) : Type 0 where

@@ -1,10 +1,9 @@
 //! How near an answer comes to paths.
 
 ghost use Rattle.std.specs.Prelude.{◌≡◌, ◌⊎◌, [], IfOk, IfSome, MatchOption, ℕ};
-ghost use Rattle.std.specs.List.{All, flat_map};
-ghost use Rattle.mesh_num.specs.Paths.{contours_of, shapes_of};
-ghost use Rattle.mesh_plane.specs.Winding.{boundary};
-ghost use Rattle.mesh_clearance.specs.Clearance.{IsClearance, WindAsAtVertices, sections};
+ghost use Rattle.std.specs.List.{All};
+ghost use Rattle.mesh_num.specs.Paths.{shapes_of};
+ghost use Rattle.mesh_clearance.specs.Clearance.{IsClearance, WindAsAtVertices, all_sections, shape_edges};
 
 use crate::edges::{edges_of, sections_of};
 use crate::runs::runs_of;
@@ -30,13 +29,10 @@ pub fn clearance_of<I: IntNumber, S: IntShapeResource<I>>(
     are_closed: bool,
 ) -> Result<Option<u128>, AllocError>
     ensures clearance { IfOk result (λ found. MatchOption found
-        ((flat_map boundary (contours_of (shapes_of shapes.now.items)) ≡ [])
-        ⊎ (flat_map (sections are_closed) (S.paths paths.now) ≡ []))
-        (IsClearance (flat_map boundary (contours_of (shapes_of shapes.now.items)))
-        (flat_map (sections are_closed) (S.paths paths.now)))) }
+        ((shape_edges (shapes_of shapes.now.items) ≡ []) ⊎ (all_sections are_closed (S.paths paths.now) ≡ []))
+        (IsClearance (shape_edges (shapes_of shapes.now.items)) (all_sections are_closed (S.paths paths.now)))) }
     ensures winding { IfOk result (λ found. IfSome found (λ (t : ℕ).
-        All (WindAsAtVertices t are_closed (flat_map boundary (contours_of (shapes_of shapes.now.items))))
-        (S.paths paths.now))) }
+        All (WindAsAtVertices t are_closed (shape_edges (shapes_of shapes.now.items))) (S.paths paths.now))) }
 {
     let edges = edges_of(alloc, shapes)?;
     let sections = sections_of(alloc, paths, are_closed)?;

@@ -83,8 +83,7 @@ fn some_unless_empty(line: Line) -> Option<Line>
 
 /// Takes what the reader shows next of a line, and its line feed where that stands there.
 fn take_some<R: BufRead>(reader: &mut R, longest: Option<usize>, line: &mut Line) -> io::Result<Met>
-    ensures taken { IfOk result (Takes longest (R.remaining reader.old) (R.remaining reader.new)
-        line.old.bytes.items line.old.held line.new.bytes.items line.new.held) }
+    ensures taken { IfOk result (Takes longest (R.remaining reader.old) (R.remaining reader.new) line.old line.new) }
     ensures failed { OnErr result (BreaksOff (R.remaining reader.old) (R.remaining reader.new)) }
 {
     let shown = match reader.fill_buf() {

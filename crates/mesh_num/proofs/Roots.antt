@@ -270,11 +270,6 @@ quotient_bounded unit square root size fine h u p s =
         let d : unit + 1 ≤ unit = share_bounded unit square size (unit + 1) p s (rw e at b) in
         omega arith
 
--- a number whose square passes a target is not 0
-pub has_square : (number square target : ℕ) → target < number * number * square → 0 < number
-has_square zero square target h = absurd (omega arith)
-has_square (suc n) square target h = omega arith
-
 -- ---- raised roots
 
 -- a raised root's square is not less than the number

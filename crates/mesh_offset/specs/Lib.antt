@@ -1,4 +1,5 @@
 pub mod Adding
+pub mod Buffers
 pub mod Built
 pub mod Counting
 pub mod Drawing

@@ -154,7 +154,7 @@ module _ (Has : ℕ → ℕ → List (List (List Point)) → Type 0) where
             ]
       ]
 
-pairs_exact : (k unit : ℕ) (fill : BooleanFillRule) (choices : Choices) (zones : List Given) (found : List Overlap) (old new : SplitCount) → AreOverlapsWithin k unit fill choices zones found old new →
+pairs_exact : (k unit : ℕ) (fill : BooleanFillRule) (choices : Choices) (zones : List Given) (found : List Overlap) (old new : SplitCount) → AreOverlapsWithin k unit choices (fill, zones) found old new →
     AreExactPairs k unit fill choices zones found
 pairs_exact k unit fill choices zones found old new c =
     let long = told_long unit fill zones c.told c.each.each in

@@ -112,17 +112,18 @@ pub record IsCoverageWithin (k unit least : ℕ) (fill : BooleanFillRule) (choic
   pub counted : AreCountedRegions last (zone_edges (regions_in told)) (filled_by (winding_rule.AtLeast least)) choices
       answer between new
 
--- where each two zones overlap; `k` is the greatest nearness of the zones and the greatest of the pairs, added
-pub record AreOverlapsWithin (k unit : ℕ) (fill : BooleanFillRule) (choices : Choices) (zones : List Given)
+-- where each two zones overlap, given with the rule that fills them; `k` is the greatest nearness of the zones and the
+-- greatest of the pairs, added
+pub record AreOverlapsWithin (k unit : ℕ) (choices : Choices) (given : BooleanFillRule × List Given)
     (found : List Overlap) (old new : SplitCount) : Type 0 where
   pub told : List ToldRegion
   pub first : ℕ
   pub last : ℕ
   pub between : SplitCount
   pub added : k ≡ first + last
-  pub each : AreToldZones first unit fill zones told old between
+  pub each : AreToldZones first unit given.0 given.1 told old between
   pub overlaps : AreOverlapsBeyond last (regions_in told) choices found between new
-  pub counted : CountsAttempts (length zones * length zones) (IsPairDrawing (regions_in told)) between new
+  pub counted : CountsAttempts (length given.1 * length given.1) (IsPairDrawing (regions_in told)) between new
 
 -- the shapes are what is made of these operands, where shapes are asked for
 abbrev pub AreCombinedShapesWithin : ℕ → ℕ → Choices → Combined → List (List (List Point)) → SplitCount → SplitCount
@@ -138,7 +139,7 @@ abbrev pub AreCombinedOverlapsWithin : ℕ → ℕ → Choices → Combined → 
 AreCombinedOverlapsWithin k unit choices (as_boolean rule fill subject clip) found = λ old new. ⊥
 AreCombinedOverlapsWithin k unit choices (as_coverage least fill zones) found = λ old new. ⊥
 AreCombinedOverlapsWithin k unit choices (as_overlaps fill zones) found =
-    AreOverlapsWithin k unit fill choices zones found
+    AreOverlapsWithin k unit choices (fill, zones) found
 
 -- the answer is what is made of operands, with these choices, exact but for `k`, and all splits were counted on
 abbrev pub IsCombinationWithin : ℕ → ℕ → Choices → Combined → Answered → SplitCount → SplitCount → Type 0

@@ -1,12 +1,12 @@
 //! Outlines of contours: grows or shrinks polygons.
 
-ghost use Rattle.std.specs.Prelude.{◌≡◌, ◌↔◌, ◌+◌, IsOk, IfOk, OnOk, OnErr, List, [], length};
-ghost use Rattle.mesh_num.specs.FlatContours.{HoldsContours};
-ghost use Rattle.mesh_num.specs.Paths.{contours_of, shapes_of};
-ghost use Rattle.mesh_plane.specs.Plane.{Point, Edge};
+ghost use Rattle.std.specs.Prelude.{◌≡◌, ◌↔◌, ◌+◌, IsOk, IfOk, OnOk, OnErr, [], length};
+ghost use Rattle.mesh_num.specs.Paths.{shapes_of};
+ghost use Rattle.mesh_plane.specs.Plane.{Edge};
 ghost use Rattle.mesh_num.specs.Rectangle.{IsBounds, IsSafeRectangle};
 ghost use Rattle.mesh_join.specs.Joins.{outline_padding};
 ghost use Rattle.mesh_join.specs.Styles.{style_of};
+ghost use Rattle.mesh_offset.specs.Buffers.{HoldsAnswer, HoldsSafeAnswer};
 ghost use Rattle.mesh_offset.specs.Padding.{ArePathsSafe, all_points, widened};
 ghost use Rattle.mesh_split.specs.Counting.{IsPastLimit, IsWithinLimit};
 ghost use Rattle.mesh_offset.specs.Counting.{CountsAttempts};
@@ -76,12 +76,10 @@ pub trait IntOutlineOffset<I: OverlayInt>: IntShapeResource<I> {
         buffer: &mut FlatContoursBuffer<I>,
     ) -> Result<(), IntOutlineError>
         requires { ArePathsSafe I.unit (outline_padding (style_of I.value style.now)) (Self.paths self.now) }
-        ensures outline { OnOk result ((answer : List (List (List Point)))
-            × IsOutline I.unit (style_of I.value style.now) plain (Self.paths self.now) answer
-            × ArePointsSafe I.unit answer × HoldsContours buffer.new (contours_of answer)) }
-        ensures regions { OnOk result ((answer : List (List (List Point)))
-            × AreOutlineRegions I.unit (style_of I.value style.now) plain (Self.paths self.now) answer
-            × HoldsContours buffer.new (contours_of answer)) }
+        ensures outline { OnOk result (HoldsSafeAnswer I.unit buffer.new
+            (IsOutline I.unit (style_of I.value style.now) plain (Self.paths self.now))) }
+        ensures regions { OnOk result (HoldsAnswer buffer.new
+            (AreOutlineRegions I.unit (style_of I.value style.now) plain (Self.paths self.now))) }
         ensures refused { result ≡ Err IntOutlineError.CoordinateOutOfRange
             ↔ ¬ DoAreasFit I.Wide.half (Self.paths self.now) }
         ensures err { OnErr result (buffer.new ≡ buffer.old) }
@@ -128,14 +126,12 @@ pub trait IntOutlineOffset<I: OverlayInt>: IntShapeResource<I> {
         buffer: &mut FlatContoursBuffer<I>,
     ) -> Result<(), IntOutlineError>
         requires { ArePathsSafe I.unit (outline_padding (style_of I.value style.now)) (Self.paths self.now) }
-        ensures outline { OnOk result ((answer : List (List (List Point)))
-            × IsOutline I.unit (style_of I.value style.now) (choices_of I.WideUInt.value options)
-            (Self.paths self.now) answer
-            × ArePointsSafe I.unit answer × HoldsContours buffer.new (contours_of answer)) }
-        ensures regions { OnOk result ((answer : List (List (List Point)))
-            × AreOutlineRegions I.unit (style_of I.value style.now) (choices_of I.WideUInt.value options)
-            (Self.paths self.now) answer
-            × HoldsContours buffer.new (contours_of answer)) }
+        ensures outline { OnOk result (HoldsSafeAnswer I.unit buffer.new
+            (IsOutline I.unit (style_of I.value style.now) (choices_of I.WideUInt.value options)
+            (Self.paths self.now))) }
+        ensures regions { OnOk result (HoldsAnswer buffer.new
+            (AreOutlineRegions I.unit (style_of I.value style.now) (choices_of I.WideUInt.value options)
+            (Self.paths self.now))) }
         ensures refused { result ≡ Err IntOutlineError.CoordinateOutOfRange
             ↔ ¬ DoAreasFit I.Wide.half (Self.paths self.now) }
         ensures err { OnErr result (buffer.new ≡ buffer.old) }

@@ -7,7 +7,7 @@ ghost use Rattle.std.specs.List.{All, Contains};
 ghost use Rattle.mesh_pairs.specs.Boxes.{Covers, DoMeet, IsIn};
 ghost use Rattle.mesh_pairs.specs.Pairs.{AreBoxesApart, AreSmall, ends_at};
 ghost use Rattle.mesh_pairs.specs.Private.Trees.{AreBlocks, AreBoxesOf, AreLanes, AreRuns, IsPushed, IsTree, IsTreeOf, IsUnder, IsUnderSome};
-ghost use Rattle.mesh_pairs.specs.Private.Trees.{below_at, box_at, small_bounds};
+ghost use Rattle.mesh_pairs.specs.Private.Trees.{AreCandidates, below_at, box_at, small_bounds};
 
 use crate::boxes::{Bounds, EightBounds, LANES, NONE};
 use crate::places::{after, take_first};
@@ -229,8 +229,7 @@ impl Tree {
         requires tree { IsTree self.now }
         requires within { run < self.now.runs }
         ensures found { OnOk result (All (λ r. (run ≤ r) × (r < self.now.runs)) found.new.items) }
-        ensures all { OnOk result ((es : List NumberedEdge) (i j : ℕ) → AreBoxesOf es self.now.boxes.items → i / 8 ≡ run
-            → i < j → j < length es → Contains found.new.items (j / 8) ⊎ AreBoxesApart (ends_at es i) (ends_at es j)) }
+        ensures all { OnOk result (AreCandidates self.now run found.new.items) }
     {
         found.clear();
         let top = self.blocks.len() - 1;

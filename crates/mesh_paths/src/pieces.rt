@@ -1,15 +1,15 @@
 //! The pieces of all paths, those with the same ends merged.
 
-ghost use Rattle.std.specs.Prelude.{◌≡◌, ℕ, ◌+◌, ◌<◌, ◌++◌, false, List, [], ◌∷◌, length, map, IfOk, IfSome, MatchOption, OnOk};
+ghost use Rattle.std.specs.Prelude.{◌≡◌, ℕ, ◌+◌, ◌<◌, false, List, [], length, map, IfOk, IfSome, MatchOption, OnOk};
 ghost use Rattle.mesh_plane.specs.Plane.{Point, Edge};
 ghost use Rattle.mesh_plane.specs.Winding.{same_point};
 ghost use Rattle.mesh_lattice.specs.Clean.{IsProper};
-ghost use Rattle.mesh_lattice.specs.Counted.{Counted, IsCountOf};
+ghost use Rattle.mesh_lattice.specs.Counted.{IsCountOf};
 ghost use Rattle.mesh_points.specs.Edges.{counted, AreNumbered, IsNumbered, IsPlaceOf};
 ghost use Rattle.mesh_points.specs.Points.{AreDistinct, IsNumberOf};
 ghost use Rattle.mesh_paths.specs.Paths.{ArePaths};
 ghost use Rattle.mesh_paths.specs.Pieces.{AreReached};
-ghost use Rattle.mesh_paths.specs.Private.Merging.{segments_to, AreLinked, CountAlike, IsMergedTo};
+ghost use Rattle.mesh_paths.specs.Private.Merging.{segments_to, AreLinked, CountAlike, IsMergedTo, IsPieceAdded};
 ghost use Rattle.mesh_paths.specs.Stops.{count_of};
 
 use crate::paths::{Paths, Piece};
@@ -96,8 +96,7 @@ impl Pieces {
     fn add(&mut self, e: NumberedEdge) -> Result<(), AllocError>
         requires linked { AreLinked self.old }
         requires within { e.from < length self.old.last.items }
-        ensures { OnOk result ((ps : List Point) (all : List Counted) (g : Counted) → IsNumbered ps e
-            → CountAlike g (counted e) → IsMergedTo ps all self.old → IsMergedTo ps (all ++ g ∷ []) self.new) }
+        ensures { OnOk result (IsPieceAdded e self.old self.new) }
     {
         if let Some(place) = self.place(e.from, e.to) {
             let Some(count) = self.list[place].count.checked_add(e.count) else {

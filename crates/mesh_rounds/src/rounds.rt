@@ -21,8 +21,8 @@ ghost use Rattle.mesh_rounds.specs.Private.Groups.{
 };
 ghost use Rattle.mesh_split.specs.Growth.{Grows, Waits};
 ghost use Rattle.mesh_rounds.specs.Private.Rounds.{AreClearBeside, AreListed, IsHeld, IsRound, Keeps, keyed_edges};
+ghost use Rattle.mesh_rounds.specs.Private.Rounds.{EndsRound};
 ghost use Rattle.mesh_split.specs.declared.count.SplitCount.{SplitCount};
-ghost use Rattle.mesh_rounds.specs.declared.rounds.Rounds.{Rounds};
 ghost use Rattle.mesh_store.specs.Steps.{IsPile, IsSettled, KeepsPile, total_weight};
 
 use crate::curve::{follow_each_other, place};
@@ -423,11 +423,7 @@ impl Rounds {
         keeps_some: bool,
         born: &[LatticeEdge],
     ) -> Result<(), AllocError>
-        ensures round { OnOk result ((old : Rounds) → (given : List Edge) → IsRound given old → IsHeld old held
-            → IsPile given self.old.splitter.log self.old.splitter.todo self.old.splitter.live
-            → self.old.splitter.live ≡ [] → self.old.groups ≡ old.groups
-            → (keeps_some ≡ true → Grows old.splitter.todo self.old.splitter.todo born.now)
-            → IsRound given self.new) }
+        ensures round { OnOk result (EndsRound held keeps_some born.now self.old self.new) }
         ensures log { self.new.splitter.log ≡ self.old.splitter.log }
     {
         self.most_pairs = (held.pairs.len() / PART_OF_A_ROUND).max(FEW_PAIRS);

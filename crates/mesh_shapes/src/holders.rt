@@ -1,16 +1,14 @@
 //! The ring that holds a point. The edges of rings stand ring after ring, and so they do in the row of the point: one
 //! pass over it tells how often each ring winds round the point.
 
-ghost use Rattle.std.specs.Prelude.{◌≡◌, ◌+◌, ◌^◌, ◌<◌, ◌≤◌, true, not, List, ◌∷◌, ◌++◌, length, pos, unsigned_abs};
+ghost use Rattle.std.specs.Prelude.{◌≡◌, ◌+◌, ◌^◌, ◌<◌, ◌≤◌, true, List, ◌++◌, length, unsigned_abs};
 ghost use Rattle.std.specs.Prelude.{IfOk, OnOk, MatchOption};
 ghost use Rattle.std.specs.Option.{ForSome};
-ghost use Rattle.std.specs.Ordering.{int_eq};
-ghost use Rattle.mesh_plane.specs.Plane.{Point};
 ghost use Rattle.mesh_plane.specs.Winding.{boundary};
-ghost use Rattle.mesh_shapes.specs.Homes.{ring_at, encloses_at};
+ghost use Rattle.mesh_shapes.specs.Homes.{ring_at};
 ghost use Rattle.mesh_shapes.specs.Private.Grouping.{areas_of, is_less_at};
-ghost use Rattle.mesh_shapes.specs.Private.Holders.{PlacedEdge, with_place, ring_edges, placed_edges, Rise, IsRowOf};
-ghost use Rattle.mesh_shapes.specs.Private.Holders.{IsSearch};
+ghost use Rattle.mesh_shapes.specs.Private.Holders.{with_place, ring_edges, placed_edges, Rise, IsRowOf};
+ghost use Rattle.mesh_shapes.specs.Private.Holders.{IsBetterHolder, GoesPast};
 ghost use Rattle.mesh_shapes.specs.Private.Progress.{IsFound};
 ghost use Rattle.mesh_shapes.specs.Resolution.{Ring};
 ghost use Rattle.mesh_shapes.specs.Vectors.{rings_of_vecs};
@@ -104,8 +102,7 @@ fn is_less(areas: &[i128], best: Option<usize>, k: usize) -> bool
 fn better_holder(areas: &[i128], best: Option<usize>, h: usize, winding: i128) -> Option<usize>
     requires in_range { h < length areas.now }
     requires known { ForSome best (λ b. b < length areas.now) }
-    ensures found { (rs : List Ring) (q : Point) → areas.now ≡ areas_of rs
-        → encloses_at rs h q ≡ not (int_eq winding (pos 0)) → IsFound rs h q best → IsFound rs (h + 1) q result }
+    ensures found { IsBetterHolder areas.now best h winding result }
     ensures within { ForSome result (λ b. b < length areas.now) }
 {
     if winding == 0 {
@@ -122,9 +119,7 @@ fn met(areas: &[i128], q: FinePoint, search: Search, e: PlacedEdge) -> Search
     requires in_range { search.place < length areas.now }
     requires known { ForSome search.best (λ b. b < length areas.now) }
     requires room { unsigned_abs search.winding ≤ 2 ^ 64 }
-    ensures search { (rs : List Ring) (row rest : List PlacedEdge) → areas.now ≡ areas_of rs → IsRowOf rs q row
-        → Rise search.place (length areas.now) (e ∷ rest) → IsSearch rs q row (e ∷ rest) search
-        → IsSearch rs q row rest result }
+    ensures search { GoesPast areas.now q e search result }
     ensures place { result.place ≡ e.1 }
     ensures within { ForSome result.best (λ b. b < length areas.now) }
     ensures size { unsigned_abs result.winding ≤ unsigned_abs search.winding + 1 }

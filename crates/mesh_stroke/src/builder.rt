@@ -17,7 +17,7 @@ ghost use Rattle.mesh_offset.specs.Padding.{AreEndsNear};
 ghost use Rattle.mesh_offset.specs.Pieces.{WindAsPieces};
 ghost use Rattle.mesh_stroke.specs.Building.{style_with, HasDirectCaps, HasFewCapEdges, IsStrokable};
 ghost use Rattle.mesh_stroke.specs.Drawn.{HasStockCaps, PiecesWindOnce, WindsAsManyPieces};
-ghost use Rattle.mesh_stroke.specs.Private.Sections.{own_edge, IsCorner};
+ghost use Rattle.mesh_stroke.specs.Private.Sections.{own_edge, HasRoomToDraw, IsCorner};
 ghost use Rattle.mesh_stroke.specs.Halves.{HalvesAddUp, MakeTheWhole};
 ghost use Rattle.mesh_stroke.specs.Paths.{path_edges};
 ghost use Rattle.mesh_stroke.specs.Reach.{WindWithinReach};
@@ -168,7 +168,8 @@ fn draw<I: IntNumber>(
         × (vec_capacity segments.new ≡ vec_capacity segments.old) }
     ensures room { HasFew join.old → HasDirectCaps (style_with (I.value radius) side join.old caps.old) closed
         → HasRoomFor segments.old
-        (length (stroke_edges I.unit (style_with (I.value radius) side join.old caps.old) closed path.now)) → IsOk result }
+        (length (stroke_edges I.unit (style_with (I.value radius) side join.old caps.old) closed path.now))
+        → IsOk result }
     ensures capacity { vec_capacity segments.old ≤ vec_capacity segments.new }
     ensures same_join { join.new ≡ join.old }
     ensures same_caps { caps.new ≡ caps.old }
@@ -204,8 +205,8 @@ fn draw_path<I: IntNumber>(
     ensures no_section { path_edges closed path.now ≡ [] → IsOk result
         × (vec_capacity segments.new ≡ vec_capacity segments.old) }
     ensures room { HasFew join.old → HasDirectCaps (style_with (I.value radius) side join.old caps.old) closed
-        → HasRoomFor segments.old (length (drawn_edges I.unit (style_with (I.value radius) side join.old caps.old) closed
-        (path_edges closed path.now))) → IsOk result }
+        → HasRoomToDraw segments.old I.unit (style_with (I.value radius) side join.old caps.old) closed path.now
+        → IsOk result }
     ensures capacity { vec_capacity segments.old ≤ vec_capacity segments.new }
     ensures same_join { join.new ≡ join.old }
     ensures same_caps { caps.new ≡ caps.old }

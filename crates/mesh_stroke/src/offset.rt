@@ -1,13 +1,13 @@
 //! Strokes of paths: gives lines a width.
 
-ghost use Rattle.std.specs.Prelude.{◌≡◌, ◌↔◌, IsOk, IfOk, OnOk, OnErr, Bool, List, []};
+ghost use Rattle.std.specs.Prelude.{◌≡◌, ◌↔◌, IsOk, IfOk, OnOk, OnErr, Bool, []};
 ghost use Rattle.std.specs.List.{All};
-ghost use Rattle.mesh_num.specs.FlatContours.{HoldsContours};
-ghost use Rattle.mesh_num.specs.Paths.{contours_of, shapes_of};
+ghost use Rattle.mesh_num.specs.Paths.{shapes_of};
 ghost use Rattle.mesh_num.specs.Rectangle.{IsBounds, IsSafeRectangle};
-ghost use Rattle.mesh_plane.specs.Plane.{Point, Edge};
+ghost use Rattle.mesh_plane.specs.Plane.{Edge};
 ghost use Rattle.mesh_lattice.specs.Reach.{ArePointsSafe};
 ghost use Rattle.mesh_below.specs.Options.{choices_of, plain};
+ghost use Rattle.mesh_offset.specs.Buffers.{HoldsAnswer, HoldsSafeAnswer};
 ghost use Rattle.mesh_offset.specs.Padding.{ArePathsSafe, all_points, widened};
 ghost use Rattle.mesh_stroke.specs.Halves.{HalvesAddUp};
 ghost use Rattle.mesh_stroke.specs.Reach.{WindsWithinReach};
@@ -83,16 +83,12 @@ pub trait IntStrokeOffset<I: OverlayInt>: IntShapeResource<I> {
         buffer: &mut FlatContoursBuffer<I>,
     ) -> Result<(), IntStrokeError>
         requires { ArePathsSafe I.unit (stroke_padding (stroke_style_of I.value style.now)) (Self.paths self.now) }
-        ensures stroke { OnOk result ((answer : List (List (List Point)))
-            × IsStroke I.unit (stroke_style_of I.value style.now) closed plain (Self.paths self.now) answer
-            × ArePointsSafe I.unit answer × HoldsContours buffer.new (contours_of answer)) }
-        ensures regions { OnOk result ((answer : List (List (List Point)))
-            × AreStrokeRegions I.unit (stroke_style_of I.value style.now) closed plain (Self.paths self.now) answer
-            × HoldsContours buffer.new (contours_of answer)) }
-        ensures edges { OnOk result ((answer : List (List (List Point)))
-            × ResolvesPromisedEdges I.unit (stroke_style_of I.value style.now) closed plain
-            (Self.paths self.now) answer
-            × HoldsContours buffer.new (contours_of answer)) }
+        ensures stroke { OnOk result (HoldsSafeAnswer I.unit buffer.new
+            (IsStroke I.unit (stroke_style_of I.value style.now) closed plain (Self.paths self.now))) }
+        ensures regions { OnOk result (HoldsAnswer buffer.new
+            (AreStrokeRegions I.unit (stroke_style_of I.value style.now) closed plain (Self.paths self.now))) }
+        ensures edges { OnOk result (HoldsAnswer buffer.new
+            (ResolvesPromisedEdges I.unit (stroke_style_of I.value style.now) closed plain (Self.paths self.now))) }
         ensures error { OnErr result (result ≡ Err IntOutlineError.OutOfMemory) }
         ensures err { OnErr result (buffer.new ≡ buffer.old) }
     {
@@ -136,18 +132,15 @@ pub trait IntStrokeOffset<I: OverlayInt>: IntShapeResource<I> {
         buffer: &mut FlatContoursBuffer<I>,
     ) -> Result<(), IntStrokeError>
         requires { ArePathsSafe I.unit (stroke_padding (stroke_style_of I.value style.now)) (Self.paths self.now) }
-        ensures stroke { OnOk result ((answer : List (List (List Point)))
-            × IsStroke I.unit (stroke_style_of I.value style.now) closed (choices_of I.WideUInt.value options)
-            (Self.paths self.now) answer
-            × ArePointsSafe I.unit answer × HoldsContours buffer.new (contours_of answer)) }
-        ensures regions { OnOk result ((answer : List (List (List Point)))
-            × AreStrokeRegions I.unit (stroke_style_of I.value style.now) closed (choices_of I.WideUInt.value options)
-            (Self.paths self.now) answer
-            × HoldsContours buffer.new (contours_of answer)) }
-        ensures edges { OnOk result ((answer : List (List (List Point)))
-            × ResolvesPromisedEdges I.unit (stroke_style_of I.value style.now) closed
-            (choices_of I.WideUInt.value options) (Self.paths self.now) answer
-            × HoldsContours buffer.new (contours_of answer)) }
+        ensures stroke { OnOk result (HoldsSafeAnswer I.unit buffer.new
+            (IsStroke I.unit (stroke_style_of I.value style.now) closed (choices_of I.WideUInt.value options)
+            (Self.paths self.now))) }
+        ensures regions { OnOk result (HoldsAnswer buffer.new
+            (AreStrokeRegions I.unit (stroke_style_of I.value style.now) closed (choices_of I.WideUInt.value options)
+            (Self.paths self.now))) }
+        ensures edges { OnOk result (HoldsAnswer buffer.new
+            (ResolvesPromisedEdges I.unit (stroke_style_of I.value style.now) closed
+            (choices_of I.WideUInt.value options) (Self.paths self.now))) }
         ensures error { OnErr result (result ≡ Err IntOutlineError.OutOfMemory) }
         ensures err { OnErr result (buffer.new ≡ buffer.old) }
     {

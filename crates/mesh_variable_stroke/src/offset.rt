@@ -1,13 +1,13 @@
 //! Strokes whose width changes from vertex to vertex.
 
-ghost use Rattle.std.specs.Prelude.{◌≡◌, ◌↔◌, IsOk, IfOk, OnOk, OnErr, List, []};
-ghost use Rattle.mesh_num.specs.FlatContours.{HoldsContours};
-ghost use Rattle.mesh_num.specs.Paths.{contours_of, shapes_of};
+ghost use Rattle.std.specs.Prelude.{◌≡◌, ◌↔◌, IsOk, IfOk, OnOk, OnErr, []};
+ghost use Rattle.mesh_num.specs.Paths.{shapes_of};
 ghost use Rattle.mesh_num.specs.Rectangle.{IsBounds, IsSafeRectangle};
-ghost use Rattle.mesh_plane.specs.Plane.{Point, Edge};
+ghost use Rattle.mesh_plane.specs.Plane.{Edge};
 ghost use Rattle.mesh_lattice.specs.Reach.{ArePointsSafe};
 ghost use Rattle.mesh_below.specs.Options.{choices_of, plain};
 ghost use Rattle.mesh_arc.specs.declared.arc.ArcOptions.{ArcOptions};
+ghost use Rattle.mesh_offset.specs.Buffers.{HoldsAnswer, HoldsSafeAnswer};
 ghost use Rattle.mesh_offset.specs.Padding.{widened};
 ghost use Rattle.mesh_variable_stroke.specs.Regions.{
   AreCountedVariableStrokeRegions,
@@ -76,15 +76,12 @@ pub trait IntVariableStrokeOffset<I: OverlayInt>: IntVariableStrokeSource<I> {
         buffer: &mut FlatContoursBuffer<I>,
     ) -> Result<(), IntVariableStrokeError>
         requires { ArePathsStrokable I.unit (Self.paths self.now) }
-        ensures stroke { OnOk result ((answer : List (List (List Point)))
-            × IsVariableStroke I.unit style.arc plain (Self.paths self.now) answer
-            × ArePointsSafe I.unit answer × HoldsContours buffer.new (contours_of answer)) }
-        ensures regions { OnOk result ((answer : List (List (List Point)))
-            × AreVariableStrokeRegions I.unit style.arc plain (Self.paths self.now) answer
-            × HoldsContours buffer.new (contours_of answer)) }
-        ensures edges { OnOk result ((answer : List (List (List Point)))
-            × ResolvesPromisedEdges I.unit style.arc plain (Self.paths self.now) answer
-            × HoldsContours buffer.new (contours_of answer)) }
+        ensures stroke { OnOk result (HoldsSafeAnswer I.unit buffer.new
+            (IsVariableStroke I.unit style.arc plain (Self.paths self.now))) }
+        ensures regions { OnOk result (HoldsAnswer buffer.new
+            (AreVariableStrokeRegions I.unit style.arc plain (Self.paths self.now))) }
+        ensures edges { OnOk result (HoldsAnswer buffer.new
+            (ResolvesPromisedEdges I.unit style.arc plain (Self.paths self.now))) }
         ensures error { OnErr result (result ≡ Err IntOutlineError.OutOfMemory) }
         ensures err { OnErr result (buffer.new ≡ buffer.old) }
     {
@@ -127,15 +124,12 @@ pub trait IntVariableStrokeOffset<I: OverlayInt>: IntVariableStrokeSource<I> {
         buffer: &mut FlatContoursBuffer<I>,
     ) -> Result<(), IntVariableStrokeError>
         requires { ArePathsStrokable I.unit (Self.paths self.now) }
-        ensures stroke { OnOk result ((answer : List (List (List Point)))
-            × IsVariableStroke I.unit style.arc (choices_of I.WideUInt.value options) (Self.paths self.now) answer
-            × ArePointsSafe I.unit answer × HoldsContours buffer.new (contours_of answer)) }
-        ensures regions { OnOk result ((answer : List (List (List Point)))
-            × AreVariableStrokeRegions I.unit style.arc (choices_of I.WideUInt.value options) (Self.paths self.now) answer
-            × HoldsContours buffer.new (contours_of answer)) }
-        ensures edges { OnOk result ((answer : List (List (List Point)))
-            × ResolvesPromisedEdges I.unit style.arc (choices_of I.WideUInt.value options) (Self.paths self.now) answer
-            × HoldsContours buffer.new (contours_of answer)) }
+        ensures stroke { OnOk result (HoldsSafeAnswer I.unit buffer.new
+            (IsVariableStroke I.unit style.arc (choices_of I.WideUInt.value options) (Self.paths self.now))) }
+        ensures regions { OnOk result (HoldsAnswer buffer.new
+            (AreVariableStrokeRegions I.unit style.arc (choices_of I.WideUInt.value options) (Self.paths self.now))) }
+        ensures edges { OnOk result (HoldsAnswer buffer.new
+            (ResolvesPromisedEdges I.unit style.arc (choices_of I.WideUInt.value options) (Self.paths self.now))) }
         ensures error { OnErr result (result ≡ Err IntOutlineError.OutOfMemory) }
         ensures err { OnErr result (buffer.new ≡ buffer.old) }
     {

@@ -40,12 +40,12 @@ step_count s from end = least (ends s from end) most_directions
 abbrev pub directions_by : Steps → Point → Point → List Point
 directions_by s from end = stepped s.sense s.bound s.step from end
 
--- the list after `k` steps that were all good, none past the end; `room` is what there was memory for at first,
--- `capacity` now
-pub record HasTurned (s : Steps) (from end : Point) (room k : ℕ) (current : Point) (ds : List Point)
+-- the list after `k` steps from one direction towards another that were all good, none past the other; `room` is what
+-- there was memory for at first, `capacity` now
+pub record HasTurned (s : Steps) (between : Point × Point) (room k : ℕ) (current : Point) (ds : List Point)
     (capacity : ℕ) : Type 0 where
   pub count : k ≤ most_directions
-  pub current_is : current ≡ turned_times s.step from k
-  pub directions : ds ≡ turned_list s.step from k
-  pub goes_on : (j : ℕ) → j < k → ends s from end j ≡ false
+  pub current_is : current ≡ turned_times s.step between.0 k
+  pub directions : ds ≡ turned_list s.step between.0 k
+  pub goes_on : (j : ℕ) → j < k → ends s between.0 between.1 j ≡ false
   pub grown : room ≤ capacity

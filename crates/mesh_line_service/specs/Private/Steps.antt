@@ -13,7 +13,7 @@ use Rattle.mesh_service.specs.Near.{IsGivenUpIn}
 use Rattle.mesh_service.specs.Serving.{IsRefused}
 use Rattle.mesh_line_service.specs.Held.{Holds}
 use Rattle.mesh_line_service.specs.Replies.{IsAnswerAsked}
-use Rattle.mesh_line_service.specs.declared.line.Held.{Held}
+use Rattle.mesh_line_service.specs.declared.line.Line.{Line}
 use Rattle.mesh_line_service.specs.declared.line.Met.{Met}
 use Rattle.mesh_line_service.specs.declared.options.LineOptions.{LineOptions}
 use Rattle.mesh_line_service.specs.declared.line.Met.TheVariants.{More, LineFeed, End}
@@ -25,11 +25,11 @@ line_feed LineFeed = 10 ∷ []
 line_feed End = []
 
 -- a part of a line was taken, and its line feed where it was met; what was held of the line before it is held with it
-pub record Takes (longest : Option ℕ) (old new : Option (List ℕ))
-    (bytes : List ℕ) (held : Held) (more_bytes : List ℕ) (more_held : Held) (met : Met) : Type 0 where
+pub record Takes (longest : Option ℕ) (old new : Option (List ℕ)) (before after : Line) (met : Met) : Type 0 where
   pub part : List ℕ
   pub plain : All (λ byte. byte ≢ 10) part
-  pub holds : (line : List ℕ) → Holds longest line bytes held → Holds longest (line ++ part) more_bytes more_held
+  pub holds : (line : List ℕ) → Holds longest line before.bytes.items before.held
+      → Holds longest (line ++ part) after.bytes.items after.held
   pub taken : Consumes old new (part ++ line_feed met)
   pub end : met ≡ End → (part ≡ []) × OnSome old (IsAtEnd new)
 

@@ -1,6 +1,6 @@
 -- The tree of boxes: runs of eight edges, each with a block, and blocks over eight blocks.
 use Rattle.std.specs.Prelude.{ℕ, ◌≡◌, ◌+◌, ◌-◌, ◌*◌, ◌/◌, ◌^◌, ◌<◌, ◌≤◌, ◌⊎◌, List, [], ◌∷◌, ◌++◌, length, slice_index_or, pos, negsuc}
-use Rattle.std.specs.List.{All}
+use Rattle.std.specs.List.{All, Contains}
 use Rattle.mesh_points.specs.declared.edges.NumberedEdge.{NumberedEdge}
 use Rattle.mesh_points.specs.Edges.{edge_at}
 use Rattle.mesh_pairs.specs.declared.boxes.Bounds.{Bounds}
@@ -10,6 +10,7 @@ use Rattle.mesh_pairs.specs.declared.tree.Block.{Block}
 use Rattle.mesh_pairs.specs.declared.tree.Tree.{Tree}
 use Rattle.mesh_pairs.specs.declared.boxes.TheConstants.{NONE}
 use Rattle.mesh_pairs.specs.Boxes.{Covers, Holds, lane}
+use Rattle.mesh_pairs.specs.Pairs.{AreBoxesApart, ends_at}
 
 -- what stands in places of lists
 abbrev pub box_at : List Bounds → ℕ → Bounds
@@ -102,3 +103,9 @@ pub record IsTree (t : Tree) : Type 0 where
 pub record IsTreeOf (es : List NumberedEdge) (t : Tree) : Type 0 where
   pub boxes : AreBoxesOf es t.boxes.items
   pub tree : IsTree t
+
+-- runs are found with each edge that comes after one of a run and whose box is not apart from that one's
+abbrev pub AreCandidates : Tree → ℕ → List ℕ → Type 0
+AreCandidates t run found =
+    (es : List NumberedEdge) (i j : ℕ) → AreBoxesOf es t.boxes.items → i / 8 ≡ run → i < j → j < length es
+    → Contains found (j / 8) ⊎ AreBoxesApart (ends_at es i) (ends_at es j)

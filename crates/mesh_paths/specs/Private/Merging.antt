@@ -3,7 +3,8 @@ use Rattle.std.specs.Prelude.{ℕ, ◌≡◌, ◌++◌, List, [], ◌∷◌, len
 use Rattle.mesh_plane.specs.Plane.{Point, Edge}
 use Rattle.mesh_lattice.specs.Counted.{along, Counted}
 use Rattle.mesh_lattice.specs.Split.{same_ends}
-use Rattle.mesh_points.specs.Edges.{counted, edge_at}
+use Rattle.mesh_points.specs.declared.edges.NumberedEdge.{NumberedEdge}
+use Rattle.mesh_points.specs.Edges.{counted, edge_at, IsNumbered}
 use Rattle.mesh_points.specs.Chains.{AreChained}
 use Rattle.mesh_points.specs.Merged.{link_in, start_in, AreFiled}
 use Rattle.mesh_paths.specs.declared.paths.Paths.{Paths}
@@ -32,6 +33,12 @@ ArePiecesOf all p = AreMergedOf all (map counted p.list.items)
 -- both
 abbrev pub IsMergedTo : List Point → List Counted → Pieces → Type 0
 IsMergedTo ps all p = AreFiledPieces ps p × ArePiecesOf all p
+
+-- where pieces are segments, merged, they are so with a segment more that counts like the edge
+abbrev pub IsPieceAdded : NumberedEdge → Pieces → Pieces → Type 0
+IsPieceAdded e old new =
+    (ps : List Point) (all : List Counted) (g : Counted) → IsNumbered ps e → CountAlike g (counted e)
+    → IsMergedTo ps all old → IsMergedTo ps (all ++ g ∷ []) new
 
 -- the segments of the paths before one, and its own before a place
 abbrev pub segments_to : Paths → ℕ → ℕ → List Counted

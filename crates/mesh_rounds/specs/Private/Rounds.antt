@@ -1,5 +1,5 @@
 -- Segments that wait, split in rounds: those that were found clear of each other, and those that are fresh.
-use Rattle.std.specs.Prelude.{ℕ, ◌⊎◌, ◌≡◌, List, [], ◌∷◌}
+use Rattle.std.specs.Prelude.{ℕ, ◌⊎◌, ◌≡◌, Bool, true, List, [], ◌∷◌}
 use Rattle.mesh_plane.specs.Plane.{Edge}
 use Rattle.mesh_lattice.specs.Counted.{Counted}
 use Rattle.mesh_lattice.specs.Split.{AreClear}
@@ -7,7 +7,7 @@ use Rattle.mesh_rounds.specs.declared.rounds.Held.{Held}
 use Rattle.mesh_rounds.specs.declared.rounds.Rounds.{Rounds}
 use Rattle.mesh_store.specs.Cells.{StandsIn}
 use Rattle.mesh_rounds.specs.Private.Groups.{all_in, edges_in, noted_in, AreBounded, IsBounded}
-use Rattle.mesh_split.specs.Growth.{Waits}
+use Rattle.mesh_split.specs.Growth.{Grows, Waits}
 use Rattle.mesh_store.specs.Steps.{IsPile}
 
 -- any two segments that wait are clear of each other, or one of them stands in a list
@@ -42,3 +42,11 @@ pub record IsRound (given : List Edge) (r : Rounds) : Type 0 where
   pub bounded : AreBounded r.groups.items
   pub listed : AreListed r.splitter.todo r.fresh.items (all_in r.groups.items)
   pub clear : AreClearBeside r.splitter.todo r.fresh.items
+
+-- where pairs were held in a round and split, with these pieces where some segments are kept, the next round can begin
+abbrev pub EndsRound : Held → Bool → List Edge → Rounds → Rounds → Type 0
+EndsRound held keeps_some born split next =
+    (old : Rounds) → (given : List Edge) → IsRound given old → IsHeld old held
+    → IsPile given split.splitter.log split.splitter.todo split.splitter.live
+    → split.splitter.live ≡ [] → split.groups ≡ old.groups
+    → (keeps_some ≡ true → Grows old.splitter.todo split.splitter.todo born) → IsRound given next

@@ -1,11 +1,13 @@
 -- The edges of rings, each with its ring's place, and a search along the row of a point for the ring that holds it.
-use Rattle.std.specs.Prelude.{ℕ, ◌≡◌, ◌<◌, ◌≤◌, cond, not, List, [], ◌∷◌, map, length, nat_eq, ℤ, pos, ◌+ℤ◌}
+use Rattle.std.specs.Prelude.{ℕ, ◌≡◌, ◌+◌, ◌<◌, ◌≤◌, cond, not, List, [], ◌∷◌, map, length, nat_eq, ℤ, pos, ◌+ℤ◌}
+use Rattle.std.specs.Prelude.{Option}
 use Rattle.std.specs.List.{flat_map}
 use Rattle.std.specs.Ordering.{int_eq}
 use Rattle.mesh_plane.specs.Plane.{Point, Edge}
 use Rattle.mesh_plane.specs.Winding.{boundary, crossing_on, sum_of}
 use Rattle.mesh_shapes.specs.declared.holders.Search.{Search}
 use Rattle.mesh_shapes.specs.Homes.{placed, encloses_at}
+use Rattle.mesh_shapes.specs.Private.Grouping.{areas_of}
 use Rattle.mesh_shapes.specs.Private.Progress.{IsFound}
 use Rattle.mesh_shapes.specs.Resolution.{Ring, Placed, is_positive}
 
@@ -44,3 +46,16 @@ pub record IsSearch (rs : List Ring) (q : Point) (row rest : List PlacedEdge) (s
   pub found : IsFound rs s.place q s.best
   pub own : s.winding +ℤ winding_of q s.place rest ≡ winding_of q s.place row
   pub later : (k : ℕ) → s.place < k → winding_of q k rest ≡ winding_of q k row
+
+-- where `best` is the holder among the rings before `h`, and the one at `h` winds round the point so often, `found` is
+-- the holder among all of these
+abbrev pub IsBetterHolder : List ℤ → Option ℕ → ℕ → ℤ → Option ℕ → Type 0
+IsBetterHolder areas best h winding found =
+    (rs : List Ring) (q : Point) → areas ≡ areas_of rs → encloses_at rs h q ≡ not (int_eq winding (pos 0))
+    → IsFound rs h q best → IsFound rs (h + 1) q found
+
+-- a search that had still to go through an edge and the rest of a row has gone past the edge
+abbrev pub GoesPast : List ℤ → Point → PlacedEdge → Search → Search → Type 0
+GoesPast areas q e before after =
+    (rs : List Ring) (row rest : List PlacedEdge) → areas ≡ areas_of rs → IsRowOf rs q row
+    → Rise before.place (length areas) (e ∷ rest) → IsSearch rs q row (e ∷ rest) before → IsSearch rs q row rest after

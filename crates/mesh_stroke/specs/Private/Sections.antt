@@ -1,6 +1,8 @@
 -- Sections of a path and what is asked of them. Private contracts alone read these.
 use Rattle.std.specs.Prelude.{ℕ, ◌≡◌, ◌≢◌, List, [], ◌++◌, ℤ, pos, ◌+ℤ◌, ◌≤ℤ◌, unsigned_abs}
-use Rattle.std.specs.Prelude.{Bool, true, false, if◌then◌else◌}
+use Rattle.std.specs.Prelude.{Bool, true, false, if◌then◌else◌, length}
+use Rattle.std.specs.declared.alloc.Global.{Global}
+use Rattle.std.specs.declared.vec.Vec.{Vec}
 use Rattle.mesh_plane.specs.Plane.{Point, Edge}
 use Rattle.mesh_plane.specs.Winding.{winding}
 use Rattle.mesh_lattice.specs.Split.{back}
@@ -9,9 +11,12 @@ use Rattle.mesh_join.specs.Joins.{join_padding}
 use Rattle.mesh_join.specs.Styles.{JoinStyle}
 use Rattle.mesh_join.specs.declared.style.StrokeSide.{StrokeSide}
 use Rattle.mesh_join.specs.declared.style.StrokeSide.TheVariants.{Both, Left, Right}
+use Rattle.mesh_offset.specs.Adding.{HasRoomFor}
 use Rattle.mesh_stroke.specs.Caps.{CapKind, cap_padding}
+use Rattle.mesh_stroke.specs.Paths.{path_edges}
 use Rattle.mesh_stroke.specs.Strokes.{EdgePair, heading, right_of, left_of, inner_edges, outer_edges}
-use Rattle.mesh_stroke.specs.Strokes.{cap_pieces, open_pieces}
+use Rattle.mesh_stroke.specs.Strokes.{cap_pieces, drawn_edges, open_pieces}
+use Rattle.mesh_stroke.specs.Styles.{StrokeStyle}
 
 -- an edge of a path, its direction, and the points beside both of its ends
 pub record Section : Type 0 where
@@ -99,3 +104,8 @@ pub record AreEnds (unit : ℕ) (radius : ℤ) (start end : CapKind) (s t : Sect
   pub sign : pos 0 ≤ℤ radius
   pub safe_start : IsSafeWidened unit (cap_padding start radius) s.a
   pub safe_end : IsSafeWidened unit (cap_padding end radius) t.b
+
+-- the vector has room for the edges that are drawn along the path through these points, whatever the radius
+abbrev pub HasRoomToDraw : {X : Type 0} → Vec X Global → ℕ → StrokeStyle → Bool → List Point → Type 0
+HasRoomToDraw v unit style closed points =
+    HasRoomFor v (length (drawn_edges unit style closed (path_edges closed points)))
