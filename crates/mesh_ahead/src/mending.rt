@@ -5,6 +5,7 @@ ghost use Rattle.mesh_pairs.specs.Pairs.{AreFound};
 ghost use Rattle.mesh_paths.specs.Paths.{ArePaths, IsPieceOf};
 ghost use Rattle.mesh_paths.specs.Stops.{count_of};
 
+use mesh_clear::check::Progress;
 use mesh_clear::doubts::doubtful_pairs;
 use mesh_meeting::meeting::any_meeting;
 use mesh_pairs::pairs::Pairs;
@@ -79,13 +80,14 @@ fn mend_pair(paths: &mut Paths, first: u32, second: u32, left: &mut usize) -> Re
     Ok(())
 }
 
-/// Cuts paths where pieces of them meet still, as far as that is found by `most` comparisons of pieces. Answers whether it
-/// tried: where many pairs are in doubt, it would seldom come to an end.
+/// Cuts paths where pieces of them meet still, as far as that is found by `most` comparisons of pieces, after a check that
+/// came so far. Answers whether it tried: where many pairs are in doubt, it would seldom come to an end.
 pub fn mend(
     alloc: Global,
     paths: &mut Paths,
     pairs: &Pairs,
     most: usize,
+    progress: Progress,
 ) -> Result<bool, AllocError>
     requires paths { ArePaths paths.old }
     requires found { AreFound paths.old.edges.items pairs.now }
@@ -93,7 +95,7 @@ pub fn mend(
     ensures edges { OnOk result (paths.new.edges ≡ paths.old.edges) }
 {
     let most_doubts = paths.edges.len() / PATHS_A_DOUBT;
-    let Some(doubts) = doubtful_pairs(alloc, paths, pairs, most, most_doubts)? else {
+    let Some(doubts) = doubtful_pairs(alloc, paths, pairs, most, most_doubts, progress)? else {
         return Ok(false);
     };
     if doubts.len() == 0 || doubts.len() > most_doubts {

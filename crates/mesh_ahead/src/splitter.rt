@@ -22,7 +22,7 @@ use crate::mending::mend;
 use crate::nearness::nearness;
 use crate::segments::counted_segments;
 use mesh_attempt::attempt::{CutEdges, cut_edges};
-use mesh_clear::check::are_all_clear;
+use mesh_clear::check::{NO_PROGRESS, are_all_clear};
 use mesh_convex::convex::{is_convex_loop, split_convex_loop};
 use mesh_in_line::in_line::{CutInLine, cut_in_line};
 use mesh_in_line::samples::are_many_in_line;
@@ -81,14 +81,16 @@ fn settle(alloc: Global, cut: &mut CutEdges, most: usize) -> Result<bool, AllocE
     ensures clear { IfOk result (λ clear. IsTrue clear → AreAllClear cut.new.paths) }
 {
     for _ in 0..TURNS {
-        if are_all_clear(alloc, &cut.paths, &cut.pairs, most)? {
+        let mut progress = NO_PROGRESS;
+        if are_all_clear(alloc, &cut.paths, &cut.pairs, most, &mut progress)? {
             return Ok(true);
         }
-        if !mend(alloc, &mut cut.paths, &cut.pairs, most)? {
+        if !mend(alloc, &mut cut.paths, &cut.pairs, most, progress)? {
             return Ok(false);
         }
     }
-    are_all_clear(alloc, &cut.paths, &cut.pairs, most)
+    let mut progress = NO_PROGRESS;
+    are_all_clear(alloc, &cut.paths, &cut.pairs, most, &mut progress)
 }
 
 /// How many splits may be made before the limit of a count is passed.

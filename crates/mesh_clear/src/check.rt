@@ -21,6 +21,16 @@ use mesh_pairs::pairs::{Meeting, Pairs};
 use mesh_paths::paths::{Paths, Piece};
 use std::alloc::{AllocError, Global};
 
+/// How far a check came: so many pairs that met were found clear, and the point of this number is looked at next.
+#[derive(Copy, Clone)]
+pub struct Progress {
+    pub met: usize,
+    pub next: usize,
+}
+
+/// No pair was looked at yet.
+pub const NO_PROGRESS: Progress = Progress { met: 0, next: 0 };
+
 /// Whether the paths of two edges that met are clear of each other.
 fn is_meeting_clear(paths: &Paths, bends: &[u64], m: Meeting, left: &mut usize) -> bool
     requires bends { AreBends paths.now bends.now }
@@ -79,6 +89,7 @@ fn are_meetings_clear(
     visits: &mut Visits,
     meetings: &[Meeting],
     left: &mut usize,
+    met: &mut usize,
 ) -> bool
     requires bends { AreBends paths.now bends.now }
     requires meetings { All (IsMeeting paths.now.edges.items) meetings.now }
@@ -88,6 +99,7 @@ fn are_meetings_clear(
         if !is_next_clear(paths, bends, visits, *m, left) {
             return false;
         }
+        *met = (*met).saturating_add(1);
     }
     true
 }
@@ -122,13 +134,14 @@ fn are_close_clear(paths: &Paths, bends: &[u64], close: &[(u32, u32)], left: &mu
 /// Whether any two pieces of paths are clear of each other, of two paths or of one: then they meet in ends alone, and no
 /// cut is left to be made. `pairs` is what was known of the edges before they were cut. Pairs of paths that lines do not
 /// part are compared piece by piece, by `most` comparisons in all. False also where these do not suffice, where a path
-/// is bent by more than 8 units, and where a coordinate is not below 2^30 in size. It fails only where memory is
-/// refused.
+/// is bent by more than 8 units, and where a coordinate is not below 2^30 in size. `progress` tells how far it came. It
+/// fails only where memory is refused.
 pub fn are_all_clear(
     alloc: Global,
     paths: &Paths,
     pairs: &Pairs,
     most: usize,
+    progress: &mut Progress,
 ) -> Result<bool, AllocError>
     requires paths { ArePaths paths.now }
     requires found { AreFound paths.now.edges.items pairs.now }
@@ -142,9 +155,22 @@ pub fn are_all_clear(
     };
     let mut visits = visits_of(alloc, paths)?;
     let mut left = most;
-    if !are_meetings_clear(paths, &bends, &mut visits, &pairs.meetings, &mut left) {
+    let mut met = 0;
+    if !are_meetings_clear(
+        paths,
+        &bends,
+        &mut visits,
+        &pairs.meetings,
+        &mut left,
+        &mut met,
+    ) {
+        *progress = Progress {
+            met,
+            next: visits.next,
+        };
         return Ok(false);
     }
+    progress.met = met;
     if !are_close_clear(paths, &bends, &pairs.close, &mut left) {
         return Ok(false);
     }

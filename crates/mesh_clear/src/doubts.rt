@@ -8,19 +8,20 @@ ghost use Rattle.mesh_clear.specs.AllClear.{ArePathsOf};
 ghost use Rattle.mesh_clear.specs.Private.Looking.{AreBends};
 
 use crate::bends::bends_of;
-use crate::check::{is_next_clear, is_pair_clear};
+use crate::check::{Progress, is_next_clear, is_pair_clear};
 use crate::fit::are_fit;
 use crate::visits::{Visits, visits_of};
 use mesh_pairs::pairs::{Meeting, Pairs};
 use mesh_paths::paths::Paths;
 use std::alloc::{AllocError, Global};
 
-/// Adds the pairs that met and are not known to be clear.
+/// Adds the pairs from a place on that met and are not known to be clear.
 fn push_meetings(
     paths: &Paths,
     bends: &[u64],
     visits: &mut Visits,
     meetings: &[Meeting],
+    first: usize,
     left: &mut usize,
     doubts: &mut Vec<(u32, u32)>,
     most_doubts: usize,
@@ -30,11 +31,12 @@ fn push_meetings(
     requires paths { All (ArePathsOf paths.now) doubts.old.items }
     ensures { OnOk result (All (ArePathsOf paths.now) doubts.new.items) }
 {
-    for m in meetings {
+    for k in first..meetings.len() {
         if doubts.len() > most_doubts {
             return Ok(());
         }
-        if !is_next_clear(paths, bends, visits, *m, left) {
+        let m = meetings[k];
+        if !is_next_clear(paths, bends, visits, m, left) {
             doubts.push((m.first, m.second))?;
         }
     }
@@ -67,14 +69,16 @@ fn push_close(
 }
 
 /// The pairs of paths whose edges met or were close, and whose pieces are not known to be clear of each other after
-/// `most` comparisons of pieces. No more are sought once there are more than `most_doubts`. `None` where a path is bent
-/// by more than 8 units, and where a coordinate is not below 2^30 in size.
+/// `most` comparisons of pieces, but for those that a check found clear before it gave up. No more are sought once there
+/// are more than `most_doubts`. `None` where a path is bent by more than 8 units, and where a coordinate is not below 2^30
+/// in size.
 pub fn doubtful_pairs(
     alloc: Global,
     paths: &Paths,
     pairs: &Pairs,
     most: usize,
     most_doubts: usize,
+    progress: Progress,
 ) -> Result<Option<Vec<(u32, u32)>>, AllocError>
     requires paths { ArePaths paths.now }
     requires found { AreFound paths.now.edges.items pairs.now }
@@ -87,6 +91,7 @@ pub fn doubtful_pairs(
         return Ok(None);
     };
     let mut visits = visits_of(alloc, paths)?;
+    visits.next = visits.next.max(progress.next);
     let mut left = most;
     let mut doubts = Vec::new(alloc);
     push_meetings(
@@ -94,6 +99,7 @@ pub fn doubtful_pairs(
         &bends,
         &mut visits,
         &pairs.meetings,
+        progress.met,
         &mut left,
         &mut doubts,
         most_doubts,

@@ -34,7 +34,7 @@ const NO_VISIT: Visit = Visit {
 #[derive(Drop)]
 pub struct Visits {
     last: Vec<(Visit, Visit)>,
-    next: usize,
+    pub next: usize,
     missed: usize,
 }
 
