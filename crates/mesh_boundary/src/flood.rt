@@ -17,7 +17,7 @@ ghost use Rattle.mesh_boundary.specs.Private.Stars.{segment, leaving, AreStars, 
 ghost use Rattle.mesh_boundary.specs.Private.Stars.{CountSplit};
 
 use crate::round::{four_round, two_round};
-use crate::stars::{End, Stars, before, leaving, place_of, spread_out};
+use crate::stars::{End, Stars, before, edge_leaving, leaving, place_of, spread_out};
 use crate::sums::Sums;
 use mesh_lattice::exact::same_point;
 use mesh_lattice::lattice::{CountedSegment, LatticeEdge, LatticePoint};
@@ -376,26 +376,24 @@ impl Flood {
         if x.0 as usize >= segments.len() {
             return Ok(());
         }
-        let Some(s) = leaving(segments, x) else {
-            return Ok(());
-        };
+        let e = edge_leaving(segments, x);
         let star = stars.star_of(x);
-        if let Some((first, second)) = two_round(segments, star, s.0.0) {
+        if let Some((first, second)) = two_round(segments, star, e.0) {
             self.pass(segments, stars, first, second)?;
             self.pass(segments, stars, second, first)?;
             return Ok(());
         }
-        if let Some(ends) = four_round(segments, star, s.0.0) {
+        if let Some(ends) = four_round(segments, star, e.0) {
             self.go_round_four(segments, stars, ends, x.0)?;
             return Ok(());
         }
         if !spread_out(fan, segments, star)? {
             return Ok(());
         }
-        let Some(winding) = level_at(&self.known, segments, fan, x, s.0) else {
+        let Some(winding) = level_at(&self.known, segments, fan, x, e) else {
             return Ok(());
         };
-        self.go_round(segments, stars, star, fan, (s.0.0, winding))?;
+        self.go_round(segments, stars, star, fan, (e.0, winding))?;
         Ok(())
     }
 

@@ -7,7 +7,7 @@ ghost use Rattle.mesh_regions.specs.Star.{IsToLeft};
 ghost use Rattle.mesh_boundary.specs.Private.Rounds.{AreFourRound, AreTurning, AreTwoRound};
 ghost use Rattle.mesh_boundary.specs.Private.Stars.{AreAllAt, CountSplit, leaving};
 
-use crate::stars::{End, leaving};
+use crate::stars::{End, edge_leaving};
 use mesh_lattice::exact::{same_point, turn};
 use mesh_lattice::lattice::{CountedSegment, LatticeEdge, LatticePoint};
 
@@ -18,11 +18,11 @@ fn leaving_at(segments: &[CountedSegment], x: End, p: LatticePoint) -> Option<La
     ensures edge { IfSome result (λ e. e ≡ (leaving segments.now x).0) }
     ensures start { IfSome result (λ e. e.0 ≡ p) }
 {
-    let s = leaving(segments, x)?;
-    if !same_point(s.0.0, p) {
+    let e = edge_leaving(segments, x);
+    if !same_point(e.0, p) {
         return None;
     }
-    Some(s.0)
+    Some(e)
 }
 
 /// Both ends at a point where two segments end and no other.

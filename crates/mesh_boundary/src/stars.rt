@@ -292,6 +292,16 @@ pub fn leaving(segments: &[CountedSegment], x: End) -> Option<CountedSegment>
     Some((back(s.0), s.1.checked_neg()?))
 }
 
+/// The same without its count.
+#[inline]
+pub fn edge_leaving(segments: &[CountedSegment], x: End) -> LatticeEdge
+    requires { x.0 < length segments.now }
+    ensures { result ≡ (leaving segments.now x).0 }
+{
+    let e = segments[x.0 as usize].0;
+    if x.1 { e } else { back(e) }
+}
+
 /// Of two edges that leave one point, whether the first comes before the second, counterclockwise from the east.
 fn comes_before(e: LatticeEdge, s: LatticeEdge) -> bool
     ensures { result ≡ comes_before e s }
