@@ -1,6 +1,6 @@
 //! Exact geometry on the grid that is twice as fine, on which the midpoints of segments stand.
 
-ghost use Rattle.std.specs.Prelude.{◌≡◌, ◌^◌, ◌&&◌, true, ℤ, pos, ◌+ℤ◌, ◌-ℤ◌, ◌*ℤ◌, int_le, int_lt};
+ghost use Rattle.std.specs.Prelude.{◌≡◌, ◌^◌, ◌&&◌, true, ℤ, pos, ◌+ℤ◌, ◌-ℤ◌, ◌*ℤ◌, int_le, int_lt, IsTrue};
 ghost use Rattle.mesh_plane.specs.Bounds.{IsSmall, IsSafe};
 ghost use Rattle.mesh_plane.specs.Plane.{minus, cross, turn};
 ghost use Rattle.mesh_plane.specs.Winding.{crossing, refined};
@@ -150,11 +150,31 @@ fn is_west_of(q: FinePoint, p: FinePoint, r: FinePoint) -> bool
     turn(p, r, q) > 0
 }
 
+/// Whether the point is at least as high as `p`.
+fn is_low(q: FinePoint, p: FinePoint) -> bool
+    ensures { result ≡ int_le p.1 q.1 }
+{
+    p.y <= q.y
+}
+
+/// Whether both ends of an edge are above the point, or neither is. So it is with most edges, and they cross nothing.
+fn is_past(q: FinePoint, p: FinePoint, r: FinePoint) -> bool
+    ensures { IsTrue result → crossing q p r ≡ pos 0 }
+{
+    if is_low(q, p) {
+        return is_low(q, r);
+    }
+    !is_low(q, r)
+}
+
 /// How the edge from `p` to `r` crosses the ray from the point to the east: 1 upwards, -1 downwards, else 0.
 pub fn crossing(q: FinePoint, p: FinePoint, r: FinePoint) -> i128
     ensures value { result ≡ crossing q p r }
     ensures size { IsSmall 2 result }
 {
+    if is_past(q, p, r) {
+        return 0;
+    }
     if spans(p, q, r) {
         if is_west_of(q, p, r) {
             return 1;
