@@ -16,8 +16,7 @@ use crate::stars::{Stars, rises};
 use crate::winding::winding;
 use mesh_lattice::fine::middle;
 use mesh_lattice::lattice::CountedSegment;
-use mesh_lattice::rows::{Rows, SAMPLED, mean_reached};
-use mesh_lattice::samples::sample;
+use mesh_lattice::rows::{Rows, mean_reached};
 use std::alloc::{AllocError, Global};
 
 /// For so few segments all are summed for each, which is quicker than to list them.
@@ -71,15 +70,16 @@ fn sides_of(segments: &[CountedSegment], s: CountedSegment) -> Sides
     sides_by(winding(segments, middle(s.0)), s)
 }
 
-/// How many ends are listed at the ends of some of the segments, on average.
-fn mean_star(alloc: Global, stars: &Stars) -> Result<usize, AllocError> {
-    let some = sample(alloc, &stars.ends, SAMPLED)?;
-    let mut sum: usize = 0;
-    for ends in &some {
-        sum = sum.saturating_add(stars.star(ends.0).len());
-        sum = sum.saturating_add(stars.star(ends.1).len());
+/// How many ends are listed at the point of an end, on average.
+fn mean_star(stars: &Stars) -> usize {
+    let mut ends: usize = 0;
+    let mut listed: usize = 0;
+    for part in &stars.parts {
+        let size = part.1 as usize;
+        ends = ends.saturating_add(size);
+        listed = listed.saturating_add(size.saturating_mul(size));
     }
-    Ok(sum / some.len().saturating_mul(2).max(1))
+    listed / ends.max(1)
 }
 
 /// The sides of the segment at a place, by a sum over a row.
@@ -137,7 +137,7 @@ fn flooded(alloc: Global, segments: &[CountedSegment]) -> Result<Option<SideFind
     let Some(stars) = Stars::new(alloc, segments)? else {
         return Ok(None);
     };
-    if mean_star(alloc, &stars)? > SMALL_STARS {
+    if mean_star(&stars) > SMALL_STARS {
         return Ok(None);
     }
     Ok(Some(SideFinder::Known(Flood::new(alloc, segments, &stars)?)))
@@ -171,7 +171,7 @@ impl SideFinder {
             }
         }
         if let Some(stars) = Stars::new(alloc, segments)? {
-            if mean_star(alloc, &stars)? <= reached.all {
+            if mean_star(&stars) <= reached.all {
                 return Ok(SideFinder::Known(Flood::new(alloc, segments, &stars)?));
             }
         }
