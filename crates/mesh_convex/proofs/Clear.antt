@@ -23,10 +23,10 @@ IsLeftOrEnd e z = (pos 0 <ℤ turn e.0 e.1 z) ⊎ (is_end z e ≡ true)
 first_twice : (p r : Point) → turn p p r ≡ pos 0
 first_twice p r = ring (coordinates (p ∷ r ∷ []) []) (turned (point_var 0) (point_var 0) (point_var 1)) (lit (pos 0)) refl
 
-last_twice : (p r : Point) → turn p r r ≡ pos 0
+pub last_twice : (p r : Point) → turn p r r ≡ pos 0
 last_twice p r = ring (coordinates (p ∷ r ∷ []) []) (turned (point_var 0) (point_var 1) (point_var 1)) (lit (pos 0)) refl
 
-back_again : (p r : Point) → turn p r p ≡ pos 0
+pub back_again : (p r : Point) → turn p r p ≡ pos 0
 back_again p r = ring (coordinates (p ∷ r ∷ []) []) (turned (point_var 0) (point_var 1) (point_var 0)) (lit (pos 0)) refl
 
 none_left : (t : ℤ) → t ≡ pos 0 → pos 0 <ℤ t → ⊥
@@ -81,7 +81,7 @@ below_or (suc a) zero = inr (omega arith)
 below_or (suc a) (suc b) = ⊎_elim (λ (h : a < b). inl (omega (arith, h))) (λ (h : b ≤ a). inr (omega (arith, h))) (below_or a b)
 
 -- each edge has each start of an edge to its left, or as an end
-start_left : (es : List Edge) → IsConvexLoop es → (i m : ℕ) → i < length es → m < length es → IsLeftOrEnd (edge_at es i) (start_at es m)
+pub start_left : (es : List Edge) → IsConvexLoop es → (i m : ℕ) → i < length es → m < length es → IsLeftOrEnd (edge_at es i) (start_at es m)
 start_left es c i m hi hm =
     ⊎_elim (λ (l : suc i < length es). inner l) (λ (l : suc i ≡ length es). last l) (less_or_same (suc i) (length es) (omega (arith, hi)))
   where
@@ -121,7 +121,7 @@ start_left es c i m hi hm =
         (λ (none : 0 ≡ m). at_end (ap p (sym none) ∙ sym (c.closed i l)))
         (less_or_same 0 m (omega arith))
 
-end_left : (es : List Edge) → IsConvexLoop es → (i j : ℕ) → i < length es → j < length es → IsLeftOrEnd (edge_at es i) (edge_at es j).1
+pub end_left : (es : List Edge) → IsConvexLoop es → (i j : ℕ) → i < length es → j < length es → IsLeftOrEnd (edge_at es i) (edge_at es j).1
 end_left es c i j hi hj =
     let s = end_starts es c j hj in
     subst (IsLeftOrEnd (edge_at es i)) s.same (start_left es c i s.place hi s.within)
@@ -133,7 +133,7 @@ loop_clear es c i j hi hj =
 
 -- ---- the starts of edges differ
 
-starts_differ : (es : List Edge) → IsConvexLoop es → (i j : ℕ) → i < j → j < length es → start_at es i ≡ start_at es j → ⊥
+pub starts_differ : (es : List Edge) → IsConvexLoop es → (i j : ℕ) → i < j → j < length es → start_at es i ≡ start_at es j → ⊥
 starts_differ es c i j low hj same =
     ⊎_elim
     (λ (l : suc j < length es).

@@ -1,3 +1,5 @@
 pub mod Clear
 mod Counts
+mod Crossings
 mod Turns
+pub mod Windings
