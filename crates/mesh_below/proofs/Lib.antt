@@ -3,6 +3,7 @@ pub mod AnswerPoints
 pub mod AnswerRegions
 pub mod Asking
 pub mod Beyond
+pub mod ConvexRings
 pub mod Covered
 pub mod EdgeParts
 pub mod LatticeContours

@@ -1,6 +1,6 @@
 //! The whole way from directed edges to shapes.
 
-ghost use Rattle.std.specs.Prelude.{◌≡◌, ◌<◌, ◌≤◌, ◌^◌, true, false, length, IfOk, OnOk};
+ghost use Rattle.std.specs.Prelude.{◌≡◌, ◌<◌, ◌≤◌, ◌^◌, true, false, length, map, pos, IfOk, IsTrue, OnOk};
 ghost use Rattle.std.specs.List.{All, flat_map};
 ghost use Rattle.mesh_num.specs.Paths.{contours_of};
 ghost use Rattle.mesh_plane.specs.Plane.{Edge};
@@ -13,9 +13,11 @@ ghost use Rattle.mesh_lattice.specs.declared.fill.FillRule.TheVariants.{Positive
 ghost use Rattle.mesh_below.specs.Answers.{AreOwnBoundary, IsSettled};
 ghost use Rattle.mesh_below.specs.Nearness.{IsCountedResolution};
 ghost use Rattle.mesh_below.specs.Options.{chosen};
+ghost use Rattle.mesh_below.specs.Private.ConvexRings.{IsConvexRing};
 ghost use Rattle.mesh_below.specs.Private.Resolving.{ResolvesBy};
 ghost use Rattle.mesh_below.specs.Private.Rings.{AreRingsOf, PushesRing};
 ghost use Rattle.mesh_ahead.specs.Counting.{CountsSplits};
+ghost use Rattle.mesh_convex.specs.Convex.{once_each};
 ghost use Rattle.mesh_split.specs.Counting.{IsPastLimit, IsWithinLimit};
 ghost use Rattle.mesh_split.specs.declared.count.SplitError.TheVariants.{TooManySplits};
 ghost use Rattle.mesh_shapes.specs.Vectors.{shapes_points};
@@ -24,6 +26,7 @@ ghost use Rattle.mesh_shapes.specs.Vectors.{HavePoints, StartsInOrder, contour_e
 
 use mesh_ahead::splitter::{split_edges, split_edges_told};
 use mesh_boundary::sides::find_boundary;
+use mesh_convex::convex::is_convex_loop;
 use mesh_lattice::fill::WindingRule;
 use mesh_lattice::lattice::{CountedSegment, LatticeEdge, LatticePoint};
 use mesh_shapes::arrange::{is_large, shapes};
@@ -208,8 +211,101 @@ fn parts_of(edges: &[LatticeEdge], segments: usize) -> usize {
     parts.saturating_sub(met)
 }
 
-/// The shapes of what the segments fill that balanced edges were split into.
-fn shapes_of_segments(
+/// Whether a segment counts once.
+#[inline]
+fn is_one(s: CountedSegment) -> bool
+    ensures { IsTrue result → s.1 ≡ pos 1 }
+{
+    s.1 == 1
+}
+
+/// Whether a segment is an edge, and counts once.
+#[inline]
+fn is_once(s: CountedSegment, e: LatticeEdge) -> bool
+    ensures { IsTrue result → s ≡ (e, pos 1) }
+{
+    if !is_one(s) {
+        return false;
+    }
+    s.0 == e
+}
+
+/// Whether the segments are the edges, each of which counts once.
+fn are_edges(edges: &[LatticeEdge], segments: &[CountedSegment]) -> bool
+    ensures { IsTrue result → segments.now ≡ once_each edges.now }
+{
+    if segments.len() != edges.len() {
+        return false;
+    }
+    for k in 0..edges.len() {
+        if !is_once(segments[k], edges[k]) {
+            return false;
+        }
+    }
+    true
+}
+
+/// Whether the edges run once round a convex polygon, counterclockwise, of which no edge was split, and which is filled.
+fn is_convex_ring(edges: &[LatticeEdge], segments: &[CountedSegment], fill: WindingRule) -> bool
+    ensures { IsTrue result → IsConvexRing edges.now segments.now (filled_by fill) }
+{
+    if !fill.is_filled(1) {
+        return false;
+    }
+    if !is_convex_loop(edges) {
+        return false;
+    }
+    are_edges(edges, segments)
+}
+
+/// The points at which edges start.
+fn starts(alloc: Global, edges: &[LatticeEdge]) -> Result<Vec<LatticePoint>, AllocError>
+    ensures { IfOk result (λ v. v.items ≡ map (λ (e : Edge). e.0) edges.now) }
+{
+    let mut points = Vec::with_capacity(alloc, edges.len())?;
+    for e in edges {
+        points.push(e.0)?;
+    }
+    Ok(points)
+}
+
+/// The shape of a convex polygon, whose edges are its boundary.
+fn shapes_of_ring(
+    alloc: Global,
+    edges: &[LatticeEdge],
+    segments: &[CountedSegment],
+    fill: WindingRule,
+    choices: Choices,
+) -> Result<GridAnswer, AllocError>
+    requires ring { IsConvexRing edges.now segments.now (filled_by fill) }
+    requires proper { IsProper edges.now }
+    requires balanced { IsBalanced edges.now }
+    requires splitting { IsSplitting edges.now segments.now }
+    requires room { IsRoomy (sum_of size segments.now) }
+    ensures resolution { IfOk result (λ v. (s : IsSplitting edges.now segments.now) → ResolvesBy s.splits edges.now
+        (filled_by fill)
+        (chosen choices)
+        (shapes_points v.shapes.items)) }
+    ensures settled { IfOk result (λ v. v.is_settled ≡ true → IsSettled
+        (chosen choices)
+        (shapes_points v.shapes.items)) }
+    ensures own_boundary { IfOk result (λ v. v.is_own_boundary ≡ true
+        → AreOwnBoundary (flat_map boundary (contours_of (shapes_points v.shapes.items)))) }
+{
+    let mut closed = Vec::with_capacity(alloc, 1)?;
+    closed.push(starts(alloc, edges)?)?;
+    let (rings, told) = rings_of(alloc, closed, choices, &[])?;
+    let shapes = shapes(alloc, rings, choices.clockwise)?;
+    let is_whole = told.are_whole & answers_all(choices);
+    Ok(GridAnswer {
+        shapes,
+        is_settled: is_whole,
+        is_own_boundary: is_whole,
+    })
+}
+
+/// The shapes of what the segments fill that balanced edges were split into, by the sides of each.
+fn shapes_by_sides(
     alloc: Global,
     edges: &[LatticeEdge],
     segments: &[CountedSegment],
@@ -241,6 +337,34 @@ fn shapes_of_segments(
         is_settled: told.are_whole & is_all,
         is_own_boundary: told.are_lone & is_all,
     })
+}
+
+/// The shapes of what the segments fill that balanced edges were split into.
+fn shapes_of_segments(
+    alloc: Global,
+    edges: &[LatticeEdge],
+    segments: &[CountedSegment],
+    fill: WindingRule,
+    choices: Choices,
+) -> Result<GridAnswer, AllocError>
+    requires proper { IsProper edges.now }
+    requires balanced { IsBalanced edges.now }
+    requires splitting { IsSplitting edges.now segments.now }
+    requires room { IsRoomy (sum_of size segments.now) }
+    ensures resolution { IfOk result (λ v. (s : IsSplitting edges.now segments.now) → ResolvesBy s.splits edges.now
+        (filled_by fill)
+        (chosen choices)
+        (shapes_points v.shapes.items)) }
+    ensures settled { IfOk result (λ v. v.is_settled ≡ true → IsSettled
+        (chosen choices)
+        (shapes_points v.shapes.items)) }
+    ensures own_boundary { IfOk result (λ v. v.is_own_boundary ≡ true
+        → AreOwnBoundary (flat_map boundary (contours_of (shapes_points v.shapes.items)))) }
+{
+    if is_convex_ring(edges, segments, fill) {
+        return shapes_of_ring(alloc, edges, segments, fill, choices);
+    }
+    shapes_by_sides(alloc, edges, segments, fill, choices)
 }
 
 /// The shapes of what the edges of these contours fill by the fill rule `Positive`, where the edges are their own

@@ -4,7 +4,7 @@ use Rattle.mesh_plane.specs.Winding.{IsBalanced, sum_of}
 use Rattle.mesh_below.proofs.AnswerRegions.{filled_by_none}
 use Rattle.mesh_below.proofs.Resolving.{parts_split, parted_balanced, boundary_proper, same_boundary, resolved_by}
 use Rattle.mesh_below.proofs.Settled.{resolved_settled, resolved_bounds}
-use Rattle.mesh_below.proofs.resolve.shapes_of_segments.Goals as goal
+use Rattle.mesh_below.proofs.resolve.shapes_by_sides.Goals as goal
 use Rattle.mesh_lattice.specs.Boundary.{IsBoundary}
 use Rattle.mesh_lattice.specs.FillRules.{filled_by}
 use Rattle.mesh_shapes.specs.Resolution.{Choices}
