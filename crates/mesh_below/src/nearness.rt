@@ -14,7 +14,6 @@ ghost use Rattle.mesh_split.specs.declared.count.SplitError.TheVariants.{TooMany
 ghost use Rattle.mesh_below.specs.Asked.{AreResolvable};
 ghost use Rattle.mesh_below.specs.Nearness.{AreCountedRegions, AreRegionsBeyond};
 ghost use Rattle.mesh_below.specs.Options.{choices_of};
-ghost use Rattle.mesh_below.specs.Private.OverlayAnswers.{IsNearAnswer};
 
 use crate::answer::int_shapes;
 use crate::below::{FillRule, Overlay, OverlayRule, WindingRule};
@@ -101,9 +100,10 @@ impl<I: IntNumber> Overlay<I> {
         count: &mut SplitCount,
     ) -> Result<NearShapes<I>, SplitError>
         requires { AreResolvable I.unit self.now.segments.items }
-        ensures answer { IfOk result (λ near. IsNearAnswer I.unit near.nearness (edges_of self.now.segments.items)
+        ensures standing { IfOk result (λ near. AreCountedRegions near.nearness (edges_of self.now.segments.items)
             (filled_by fill) (choices_of I.WideUInt.value self.now.options) (shapes_of near.shapes.items)
             count.old count.new) }
+        ensures safe { IfOk result (λ near. ArePointsSafe I.unit (shapes_of near.shapes.items)) }
         ensures small { IfOk result (λ near. near.nearness ≤ 2 ^ 38) }
         ensures counted { CountsSplits (edges_of self.now.segments.items) count.old count.new }
         ensures within { OnOk result (IsWithinLimit count.new) }

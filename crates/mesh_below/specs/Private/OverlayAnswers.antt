@@ -8,8 +8,6 @@ use Rattle.mesh_lattice.specs.Reach.{ArePointsSafe}
 use Rattle.mesh_shapes.specs.Resolution.{Choices, IsResolution}
 use Rattle.mesh_below.specs.Answers.{AreOwnBoundary, IsSettled}
 use Rattle.mesh_below.specs.Laws.{AreRegions}
-use Rattle.mesh_below.specs.Nearness.{AreCountedRegions, AreRegionsBeyond}
-use Rattle.mesh_split.specs.declared.count.SplitCount.{SplitCount}
 
 -- an answer is a resolution of the edges, made of regions of what is filled, in the safe range; where `settled` is
 -- true, it is settled, and where `own` is true, its edges are their own boundary
@@ -20,11 +18,3 @@ pub record IsOverlayAnswer (unit : ℕ) (edges : List Edge) (fill : ℤ → Bool
   pub safe : ArePointsSafe unit answer
   pub is_settled : settled ≡ true → IsSettled options answer
   pub own_boundary : own ≡ true → AreOwnBoundary (flat_map boundary (contours_of answer))
-
--- the same of an answer whose nearness is told, and whose splits are counted
-pub record IsNearAnswer (unit k : ℕ) (edges : List Edge) (fill : ℤ → Bool) (options : Choices)
-    (answer : List (List (List Point))) (old new : SplitCount) : Type 0 where
-  pub resolution : IsResolution edges fill options answer
-  pub regions : AreRegionsBeyond k edges fill options answer
-  pub standing : AreCountedRegions k edges fill options answer old new
-  pub safe : ArePointsSafe unit answer

@@ -27,8 +27,8 @@ int_shapes-requires g c =
     subst (λ (shapes : List (Vec (Vec Point Global) Global)). ArePointsSafe g.I.IntNumber.unit (shapes_of shapes)) (sym c.deref-3.ensures.value)
     (answer_safe g.I.IntNumber.unit c.deref-2.result.now (edges_of c.args.self.now.segments.items) (filled_by c.args.fill) _ (shapes_of c.in_ok-answer.answer.shapes.items) same c.requires.safe c.in_ok-answer.ensures.resolution.near.resolution)
 
-pub returns-clause-answer : goal.returns-clause-answer
-returns-clause-answer g c =
+pub returns-clause-standing : goal.returns-clause-standing
+returns-clause-standing g c =
     let es = edges_of c.args.self.now.segments.items in
     let fill = filled_by c.args.fill in
     let options = choices_of g.I.WideUInt.WideUnsigned.value c.args.self.now.options in
@@ -42,11 +42,15 @@ returns-clause-answer g c =
     let old = c.args.count.now in
     let new = c.resolve_with_nearness.new.count in
     let counted = same_counted k c.deref-2.result.now es fill _ options (shapes_of told.items) (shapes_of v.items) old new same c.choices.ensures (sym is) c.in_ok-answer.ensures.resolution in
-    let standing = counted_beyond k es fill options (shapes_of v.items) old new proper c.requires.balanced (filled_by_none c.args.fill) counted in
-    record {
-      resolution = counted.near.resolution;
-      regions = standing.beyond;
-      standing = standing;
-      safe = subst (λ (answer : List (List (List Point))). ArePointsSafe g.I.IntNumber.unit answer) (sym is)
-          (answer_safe g.I.IntNumber.unit c.deref-2.result.now es fill _ (shapes_of told.items) same c.requires.safe c.in_ok-answer.ensures.resolution.near.resolution);
-    }
+    counted_beyond k es fill options (shapes_of v.items) old new proper c.requires.balanced (filled_by_none c.args.fill) counted
+
+pub returns-clause-safe : goal.returns-clause-safe
+returns-clause-safe g c =
+    let es = edges_of c.args.self.now.segments.items in
+    let same : c.deref-2.result.now ≡ es =
+    c.deref-2.ensures.value ∙ (c.in_ok-edges.ensures.value ∙ ap (λ (ss : List SignedEdge). edges_of ss) c.deref.ensures.value) in
+    let told = c.in_ok-answer.answer.shapes in
+    let v = c.in_ok-int_shapes.field-0 in
+    let is : shapes_of v.items ≡ shapes_of told.items = c.in_ok-int_shapes.ensures ∙ ap (λ (shapes : List (Vec (Vec Point Global) Global)). shapes_of shapes) c.deref-3.ensures.value in
+    subst (λ (answer : List (List (List Point))). ArePointsSafe g.I.IntNumber.unit answer) (sym is)
+    (answer_safe g.I.IntNumber.unit c.deref-2.result.now es (filled_by c.args.fill) _ (shapes_of told.items) same c.requires.safe c.in_ok-answer.ensures.resolution.near.resolution)
