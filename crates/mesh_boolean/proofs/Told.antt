@@ -70,8 +70,15 @@ reached_more k own l told t here is before = by (cases_lt k own)
           | inr listed ↦ inr (subst (λ (ns : List ℕ). Contains ns l) (sym all) (subst (λ (n : ℕ). Contains (nearness_all told ++ t.nearness ∷ []) n) e (Contains-append_left (nearness_all told) (t.nearness ∷ []) k listed)))
         ]
 
-module _ (unit : ℕ) (zones : List (List (List (List Point)))) (choices : Choices) where
-  pub none_told : (found : List Overlap) (count : SplitCount) → found ≡ [] → AreToldSoFar 0 unit zones choices [] found count count
+-- what is listed of no pair, and of a pair more, is safe
+pub none_safe : (unit : ℕ) (found : List Overlap) → found ≡ [] → All (IsSafe unit) found
+none_safe unit found none = rw none (All-nil (IsSafe unit))
+
+pub one_safe : (unit : ℕ) (Has : List (List (List Point)) → Type 0) (pair : ℕ × ℕ) (old new : List Overlap) → All (IsSafe unit) old → AddsOverlap unit Has pair old new → All (IsSafe unit) new
+one_safe unit Has pair old new before adds = safe_more unit pair adds.answer old new before adds.safe adds.added
+
+module _ (zones : List (List (List (List Point)))) (choices : Choices) where
+  pub none_told : (found : List Overlap) (count : SplitCount) → found ≡ [] → AreToldSoFar 0 zones choices [] found count count
   none_told found count none = record {
     told = [];
     places = refl;
@@ -80,14 +87,13 @@ module _ (unit : ℕ) (zones : List (List (List (List Point)))) (choices : Choic
     most = All-nil (IsNear 0);
     reached = inl refl;
     listing = none;
-    safe = rw none (All-nil (IsSafe unit));
   }
 
   -- a pair more
-  pub one_told : (own k l : ℕ) (pairs : List (ℕ × ℕ)) (pair : ℕ × ℕ) (old new : List Overlap) (first between last : SplitCount) → l ≡ max k own → IsPairOf (length zones) pair →
-      AreToldSoFar k unit zones choices pairs old first between → AddsOverlap unit (AreCountedCommonRegions own zones choices pair between last) pair old new →
-      AreToldSoFar l unit zones choices (pairs ++ pair ∷ []) new first last
-  one_told own k l pairs pair old new first between last is two h adds =
+  pub one_told : (unit own k l : ℕ) (pairs : List (ℕ × ℕ)) (pair : ℕ × ℕ) (old new : List Overlap) (first between last : SplitCount) → l ≡ max k own → IsPairOf (length zones) pair →
+      AreToldSoFar k zones choices pairs old first between → AddsOverlap unit (AreCountedCommonRegions own zones choices pair between last) pair old new →
+      AreToldSoFar l zones choices (pairs ++ pair ∷ []) new first last
+  one_told unit own k l pairs pair old new first between last is two h adds =
       let t : ToldPair = record { pair = pair; common = adds.answer; nearness = own; before = between; after = last } in
       let up : k ≤ l = omega (arith, is) in
       let low : own ≤ l = omega (arith, is) in
@@ -99,18 +105,17 @@ module _ (unit : ℕ) (zones : List (List (List (List Point)))) (choices : Choic
         most = All-push (IsNear l) h.told t (All-weaker (IsNear k) (IsNear l) (λ s le. omega (arith, le, up)) h.told h.most) low;
         reached = reached_more k own l h.told t refl is h.reached;
         listing = listing_more h.told t old new h.listing adds.added;
-        safe = safe_more unit pair adds.answer old new h.safe adds.safe adds.added;
       }
 
   module _ (pairs : List (ℕ × ℕ)) (meet : AreMeetingPairs zones pairs) where
-    pub next_told : (i own k l : ℕ) (old new : List Overlap) (first between last : SplitCount) → i < length pairs → l ≡ max k own → AreToldSoFar k unit zones choices (take i pairs) old first between →
+    pub next_told : (unit i own k l : ℕ) (old new : List Overlap) (first between last : SplitCount) → i < length pairs → l ≡ max k own → AreToldSoFar k zones choices (take i pairs) old first between →
         AddsOverlap unit (AreCountedCommonRegions own zones choices (get_or pairs i (0, 0)) between last) (get_or pairs i (0, 0)) old new →
-        AreToldSoFar l unit zones choices (take (i + 1) pairs) new first last
-    next_told i own k l old new first between last low is h adds =
-        rw (take_more pairs i (0, 0) low) (one_told own k l (take i pairs) (get_or pairs i (0, 0)) old new first between last is (meet.each i (0, 0) low) h adds)
+        AreToldSoFar l zones choices (take (i + 1) pairs) new first last
+    next_told unit i own k l old new first between last low is h adds =
+        rw (take_more pairs i (0, 0) low) (one_told unit own k l (take i pairs) (get_or pairs i (0, 0)) old new first between last is (meet.each i (0, 0) low) h adds)
 
     -- all pairs
-    pub all_told : (i k : ℕ) (found : List Overlap) (old new : SplitCount) → length pairs ≤ i → AreToldSoFar k unit zones choices (take i pairs) found old new → AreOverlapsBeyond k zones choices found old new
+    pub all_told : (i k : ℕ) (found : List Overlap) (old new : SplitCount) → length pairs ≤ i → AreToldSoFar k zones choices (take i pairs) found old new → AreOverlapsBeyond k zones choices found old new
     all_told i k found old new past h =
         let all : places_of h.told ≡ pairs = h.places ∙ take_all i pairs past in
         record {

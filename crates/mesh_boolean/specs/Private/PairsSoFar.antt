@@ -30,7 +30,7 @@ pub record AreOverlapsOf (unit : ℕ) (Has : ℕ → ℕ → List (List (List Po
 
 -- what is told of these pairs, which were resolved one after another with one count, and what is listed of them; `k` is
 -- the greatest nearness of all
-pub record AreToldSoFar (k unit : ℕ) (zones : List (List (List (List Point)))) (choices : Choices)
+pub record AreToldSoFar (k : ℕ) (zones : List (List (List (List Point)))) (choices : Choices)
     (pairs : List (ℕ × ℕ)) (found : List Overlap) (old new : SplitCount) : Type 0 where
   pub told : List ToldPair
   pub places : places_of told ≡ pairs
@@ -39,4 +39,3 @@ pub record AreToldSoFar (k unit : ℕ) (zones : List (List (List (List Point))))
   pub most : All (λ (t : ToldPair). t.nearness ≤ k) told
   pub reached : (k ≡ 0) ⊎ Contains (map (λ (t : ToldPair). t.nearness) told) k
   pub listing : found ≡ all_listed told
-  pub safe : All (λ (o : Overlap). ArePointsSafe unit o.1.1) found
