@@ -52,13 +52,13 @@ exact_permuted k built edges test choices answer same h = record {
 pub operand_exact : (k unit : ℕ) (fill : BooleanFillRule) (choices : Choices) (given : Given) (answer : List (List (List Point))) (old new : SplitCount) → IsCountedRegionOf k unit fill choices given answer old new →
     AreExactBeyond k (drawn_edges unit given) (λ m q. operand_holds unit fill m q given) choices answer
 operand_exact k unit fill choices (as_paths paths) answer old new h = record { fills = h.near.fills; close = h.near.close }
-operand_exact k unit fill choices (as_drawing (as_outline style paths)) answer old new h = record { fills = h.near.fills; close = h.near.close }
+operand_exact k unit fill choices (as_drawing (as_outline style paths)) answer old new h = record { fills = h.0.fills; close = h.0.close }
 operand_exact k unit fill choices (as_drawing (as_stroke style closed paths)) answer old new h =
-    exact_permuted k h.near.stroke.built (all_edges unit style closed paths) (wind_above (all_pieces unit style closed paths)) choices answer h.near.stroke.same
-    (record { fills = h.near.fills; close = h.near.beyond.close })
+    exact_permuted k h.0.stroke.built (all_edges unit style closed paths) (wind_above (all_pieces unit style closed paths)) choices answer h.0.stroke.same
+    (record { fills = h.0.fills; close = h.0.beyond.close })
 operand_exact k unit fill choices (as_drawing (as_variable_stroke options paths)) answer old new h =
-    exact_permuted k h.near.stroke.built (all_variable_edges unit options paths) (wind_above (all_variable_pieces unit options paths)) choices answer h.near.stroke.same
-    (record { fills = h.near.fills; close = h.near.beyond.close })
+    exact_permuted k h.0.stroke.built (all_variable_edges unit options paths) (wind_above (all_variable_pieces unit options paths)) choices answer h.0.stroke.same
+    (record { fills = h.0.fills; close = h.0.beyond.close })
 
 once_held : (b : Bool) → int_lt (pos 0) (bit b) ≡ b
 once_held true = refl
@@ -147,12 +147,12 @@ module _ (unit : ℕ) (fill : BooleanFill) (subject clip : Given) (first second 
 -- ---- a boolean
 
 pub both_exact : (k unit : ℕ) (rule : BooleanRule) (fill : BooleanFill) (choices : Choices) (subject clip : Given) (answer : List (List (List Point))) (old new : SplitCount) →
-    IsOfBothWithin k unit rule fill choices subject clip answer old new → AreExactBeyond k (drawn_edges unit subject ++ drawn_edges unit clip) (is_kept unit rule fill subject clip) choices answer
+    IsOfBothWithin k unit choices (record { rule = rule; fill = fill; subject = subject; clip = clip }) answer old new → AreExactBeyond k (drawn_edges unit subject ++ drawn_edges unit clip) (is_kept unit rule fill subject clip) choices answer
 both_exact k unit rule fill choices subject clip answer old new c =
     overlaid_exact unit fill subject clip c.first c.second (max c.first.nearness c.second.nearness) c.subject_alone c.clip_alone (omega arith) (omega arith) k c.last rule choices answer c.added c.together
 
 pub boolean_exact : (k unit : ℕ) (rule : BooleanRule) (fill : BooleanFill) (choices : Choices) (subject clip : Given) (answer : List (List (List Point))) (old new : SplitCount) →
-    IsBooleanWithin (way_of rule) k unit rule fill choices subject clip answer old new → AreExactBeyond k (edges_for (way_of rule) unit subject clip) (is_kept unit rule fill subject clip) choices answer
+    IsBooleanWithin (way_of rule) k unit choices (record { rule = rule; fill = fill; subject = subject; clip = clip }) answer old new → AreExactBeyond k (edges_for (way_of rule) unit subject clip) (is_kept unit rule fill subject clip) choices answer
 boolean_exact k unit by_rule.Subject fill choices subject clip answer old new h = operand_exact k unit fill.subject choices subject answer old new h
 boolean_exact k unit by_rule.Clip fill choices subject clip answer old new h = operand_exact k unit fill.clip choices clip answer old new h
 boolean_exact k unit by_rule.Intersect fill choices subject clip answer old new h = both_exact k unit by_rule.Intersect fill choices subject clip answer old new h
@@ -201,7 +201,7 @@ module _ (k unit : ℕ) (fill : BooleanFillRule) where
       ∙ ((λ i. cond (own i) 1 0 + others i) ∙ sym (sum_by-cons (λ given. cond (operand_holds unit fill m q given) 1 0) zone zones))
 
 pub coverage_exact : (k unit least : ℕ) (fill : BooleanFillRule) (choices : Choices) (zones : List Given) (answer : List (List (List Point))) (old new : SplitCount) →
-    IsCoverageWithin k unit least fill choices zones answer old new → AreExactBeyond k (flat_map (drawn_edges unit) zones) (is_covered unit least fill zones) choices answer
+    IsCoverageWithin k unit choices (record { least = least; fill = fill; zones = zones }) answer old new → AreExactBeyond k (flat_map (drawn_edges unit) zones) (is_covered unit least fill zones) choices answer
 coverage_exact k unit least fill choices zones answer old new c =
     let drawn : List Edge = flat_map (drawn_edges unit) zones in
     exact_through k c.first c.last drawn (zone_edges (regions_in c.told)) (is_covered unit least fill zones)

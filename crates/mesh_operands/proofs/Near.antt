@@ -32,7 +32,7 @@ use Rattle.mesh_boolean.proofs.ZoneEdges.{answer_once}
 use Rattle.mesh_drawing.specs.Drawn.{Drawn, as_outline, as_stroke, as_variable_stroke}
 use Rattle.mesh_drawing.specs.Nearness.{CountsDrawn}
 use Rattle.mesh_operands.specs.Nearness.{AreInTurn, AreToldZones, IsBooleanWithin, IsBothDrawing, IsCountedRegionOf, IsOfBothWithin, IsRegionDrawing, IsTold, IsZoneDrawing, IsZonesDrawing, ToldRegion, lists_of, regions_in}
-use Rattle.mesh_operands.specs.Operands.{Given, as_drawing, as_paths}
+use Rattle.mesh_operands.specs.Operands.{Given, GivenBoolean, as_drawing, as_paths}
 use Rattle.mesh_operands.proofs.Zones.{zones_more}
 
 -- ---- regions wind once or not at all
@@ -41,11 +41,11 @@ pub counted_once : (k unit : ℕ) (fill : BooleanFillRule) (choices : Choices) (
     choices.least_area ≡ 0 → choices.clockwise ≡ false → WindOnce answer
 counted_once k unit fill choices (as_paths paths) answer old new h small forward = answer_once (closed_edges paths) (filled_by (winding_rule_for fill)) choices answer h.near.beyond.regions small forward
 counted_once k unit fill choices (as_drawing (as_outline style paths)) answer old new h small forward =
-    answer_once (proper_edges h.near.outline.given) (filled Positive) choices answer h.near.beyond.regions small forward
+    answer_once (proper_edges h.0.outline.given) (filled Positive) choices answer h.0.beyond.regions small forward
 counted_once k unit fill choices (as_drawing (as_stroke style closed paths)) answer old new h small forward =
-    answer_once h.near.stroke.built (filled Positive) choices answer h.near.beyond.regions small forward
+    answer_once h.0.stroke.built (filled Positive) choices answer h.0.beyond.regions small forward
 counted_once k unit fill choices (as_drawing (as_variable_stroke options paths)) answer old new h small forward =
-    answer_once h.near.stroke.built (filled Positive) choices answer h.near.beyond.regions small forward
+    answer_once h.0.stroke.built (filled Positive) choices answer h.0.beyond.regions small forward
 
 pub told_once : (unit : ℕ) (fill : BooleanFillRule) (zones : List Given) (told : List ToldRegion) → AllZip (IsTold unit fill) zones told → All WindOnce (regions_in told)
 told_once unit fill zones [] each = All-nil WindOnce
@@ -204,11 +204,11 @@ pair_counts unit fill zones told regions old new each same counts =
 
 -- ---- both operands together, by each rule that looks at both
 
-pub by_both : (k unit : ℕ) (rule : BooleanRule) (fill : BooleanFill) (choices : Choices) (subject clip : Given) (answer : List (List (List Point))) (old new : SplitCount) →
-    (rule ≡ by_rule.Intersect) ⊎ ((rule ≡ by_rule.Union) ⊎ ((rule ≡ by_rule.Difference) ⊎ ((rule ≡ by_rule.InverseDifference) ⊎ (rule ≡ by_rule.Xor)))) →
-    IsOfBothWithin k unit rule fill choices subject clip answer old new → IsBooleanWithin (way_of rule) k unit rule fill choices subject clip answer old new
-by_both k unit rule fill choices subject clip answer old new (inl is) made = subst (λ by. IsBooleanWithin by k unit rule fill choices subject clip answer old new) (sym (ap way_of is)) made
-by_both k unit rule fill choices subject clip answer old new (inr (inl is)) made = subst (λ by. IsBooleanWithin by k unit rule fill choices subject clip answer old new) (sym (ap way_of is)) made
-by_both k unit rule fill choices subject clip answer old new (inr (inr (inl is))) made = subst (λ by. IsBooleanWithin by k unit rule fill choices subject clip answer old new) (sym (ap way_of is)) made
-by_both k unit rule fill choices subject clip answer old new (inr (inr (inr (inl is)))) made = subst (λ by. IsBooleanWithin by k unit rule fill choices subject clip answer old new) (sym (ap way_of is)) made
-by_both k unit rule fill choices subject clip answer old new (inr (inr (inr (inr is)))) made = subst (λ by. IsBooleanWithin by k unit rule fill choices subject clip answer old new) (sym (ap way_of is)) made
+pub by_both : (k unit : ℕ) (choices : Choices) (asked : GivenBoolean) (answer : List (List (List Point))) (old new : SplitCount) →
+    (asked.rule ≡ by_rule.Intersect) ⊎ ((asked.rule ≡ by_rule.Union) ⊎ ((asked.rule ≡ by_rule.Difference) ⊎ ((asked.rule ≡ by_rule.InverseDifference) ⊎ (asked.rule ≡ by_rule.Xor)))) →
+    IsOfBothWithin k unit choices asked answer old new → IsBooleanWithin (way_of asked.rule) k unit choices asked answer old new
+by_both k unit choices asked answer old new (inl is) made = subst (λ by. IsBooleanWithin by k unit choices asked answer old new) (sym (ap way_of is)) made
+by_both k unit choices asked answer old new (inr (inl is)) made = subst (λ by. IsBooleanWithin by k unit choices asked answer old new) (sym (ap way_of is)) made
+by_both k unit choices asked answer old new (inr (inr (inl is))) made = subst (λ by. IsBooleanWithin by k unit choices asked answer old new) (sym (ap way_of is)) made
+by_both k unit choices asked answer old new (inr (inr (inr (inl is)))) made = subst (λ by. IsBooleanWithin by k unit choices asked answer old new) (sym (ap way_of is)) made
+by_both k unit choices asked answer old new (inr (inr (inr (inr is)))) made = subst (λ by. IsBooleanWithin by k unit choices asked answer old new) (sym (ap way_of is)) made

@@ -27,7 +27,8 @@ use Rattle.mesh_boolean.specs.declared.rule.Way.TheVariants as way
 use Rattle.mesh_drawing.specs.Drawn.{as_outline, as_stroke, as_variable_stroke}
 use Rattle.mesh_drawing.specs.Nearness.{AreCountedShapes}
 use Rattle.mesh_operands.specs.Combining.{Answered, as_overlap_list, as_shapes}
-use Rattle.mesh_operands.specs.Operands.{Combined, Given, as_boolean, as_coverage, as_drawing, as_overlaps, as_paths}
+use Rattle.mesh_operands.specs.Operands.{Combined, Given, GivenBoolean, GivenCoverage}
+use Rattle.mesh_operands.specs.Operands.{as_boolean, as_coverage, as_drawing, as_overlaps, as_paths}
 
 -- ---- one operand
 
@@ -74,43 +75,42 @@ pub record AreToldZones (k unit : ℕ) (fill : BooleanFillRule) (zones : List Gi
 
 -- both operands are resolved alone, with default options, then their regions together, with the choices of the caller;
 -- `k` is the greater nearness of the operands and that of the last resolving, added
-pub record IsOfBothWithin (k unit : ℕ) (rule : BooleanRule) (fill : BooleanFill) (choices : Choices)
-    (subject clip : Given) (answer : List (List (List Point))) (old new : SplitCount) : Type 0 where
+pub record IsOfBothWithin (k unit : ℕ) (choices : Choices) (asked : GivenBoolean)
+    (answer : List (List (List Point))) (old new : SplitCount) : Type 0 where
   pub first : ToldRegion
   pub second : ToldRegion
   pub last : ℕ
   pub added : k ≡ max first.nearness second.nearness + last
-  pub subject_alone : IsTold unit fill.subject subject first
-  pub clip_alone : IsTold unit fill.clip clip second
+  pub subject_alone : IsTold unit asked.fill.subject asked.subject first
+  pub clip_alone : IsTold unit asked.fill.clip asked.clip second
   pub turn : (first.before ≡ old) × (second.before ≡ first.after)
-  pub together : AreOverlaidRegionsBeyond last rule first.region second.region choices answer
-  pub counted : AreCountedRegions last (edges_by (way_of rule) first.region second.region)
-      (filled_by (rule_by (way_of rule))) choices answer second.after new
+  pub together : AreOverlaidRegionsBeyond last asked.rule first.region second.region choices answer
+  pub counted : AreCountedRegions last (edges_by (way_of asked.rule) first.region second.region)
+      (filled_by (rule_by (way_of asked.rule))) choices answer second.after new
 
 -- a boolean of two operands by the way in which its rule is carried out; one operand alone is resolved with the choices of
 -- the caller
-abbrev pub IsBooleanWithin : Way → ℕ → ℕ → BooleanRule → BooleanFill → Choices → Given → Given
-    → List (List (List Point)) → SplitCount → SplitCount → Type 0
-IsBooleanWithin way.Subject k unit rule fill choices subject clip answer =
-    IsCountedRegionOf k unit fill.subject choices subject answer
-IsBooleanWithin way.Clip k unit rule fill choices subject clip answer =
-    IsCountedRegionOf k unit fill.clip choices clip answer
-IsBooleanWithin (way.Together sense sum) k unit rule fill choices subject clip answer =
-    IsOfBothWithin k unit rule fill choices subject clip answer
+abbrev pub IsBooleanWithin : Way → ℕ → ℕ → Choices → GivenBoolean → List (List (List Point)) → SplitCount → SplitCount
+    → Type 0
+IsBooleanWithin way.Subject k unit choices asked answer =
+    IsCountedRegionOf k unit asked.fill.subject choices asked.subject answer
+IsBooleanWithin way.Clip k unit choices asked answer =
+    IsCountedRegionOf k unit asked.fill.clip choices asked.clip answer
+IsBooleanWithin (way.Together sense sum) k unit choices asked answer = IsOfBothWithin k unit choices asked answer
 
 -- where at least so many zones cover the plane; `k` is the greatest nearness of the zones and that of the last resolving,
 -- added
-pub record IsCoverageWithin (k unit least : ℕ) (fill : BooleanFillRule) (choices : Choices) (zones : List Given)
+pub record IsCoverageWithin (k unit : ℕ) (choices : Choices) (asked : GivenCoverage)
     (answer : List (List (List Point))) (old new : SplitCount) : Type 0 where
   pub told : List ToldRegion
   pub first : ℕ
   pub last : ℕ
   pub between : SplitCount
   pub added : k ≡ first + last
-  pub each : AreToldZones first unit fill zones told old between
-  pub covered : AreCoveredRegionsBeyond last least (regions_in told) choices answer
-  pub counted : AreCountedRegions last (zone_edges (regions_in told)) (filled_by (winding_rule.AtLeast least)) choices
-      answer between new
+  pub each : AreToldZones first unit asked.fill asked.zones told old between
+  pub covered : AreCoveredRegionsBeyond last asked.least (regions_in told) choices answer
+  pub counted : AreCountedRegions last (zone_edges (regions_in told)) (filled_by (winding_rule.AtLeast asked.least))
+      choices answer between new
 
 -- where each two zones overlap, given with the rule that fills them; `k` is the greatest nearness of the zones and the
 -- greatest of the pairs, added
@@ -129,9 +129,10 @@ pub record AreOverlapsWithin (k unit : ℕ) (choices : Choices) (given : Boolean
 abbrev pub AreCombinedShapesWithin : ℕ → ℕ → Choices → Combined → List (List (List Point)) → SplitCount → SplitCount
     → Type 0
 AreCombinedShapesWithin k unit choices (as_boolean rule fill subject clip) answer =
-    IsBooleanWithin (way_of rule) k unit rule fill choices subject clip answer
+    IsBooleanWithin (way_of rule) k unit choices
+    (record { rule = rule; fill = fill; subject = subject; clip = clip }) answer
 AreCombinedShapesWithin k unit choices (as_coverage least fill zones) answer =
-    IsCoverageWithin k unit least fill choices zones answer
+    IsCoverageWithin k unit choices (record { least = least; fill = fill; zones = zones }) answer
 AreCombinedShapesWithin k unit choices (as_overlaps fill zones) answer = λ old new. ⊥
 
 -- the pairs are those of these operands that overlap, where these are asked for

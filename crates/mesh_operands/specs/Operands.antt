@@ -24,10 +24,27 @@ pub data Combined : Type 0 where
   as_coverage : ℕ → BooleanFillRule → List Given → Combined
   as_overlaps : BooleanFillRule → List Given → Combined
 
+-- a boolean that is asked for: by this rule, of these operands, each filled by its rule
+pub record GivenBoolean : Type 0 where
+  pub rule : BooleanRule
+  pub fill : BooleanFill
+  pub subject : Given
+  pub clip : Given
+
+-- a coverage that is asked for: where at least so many of these zones, each filled by this rule, cover the plane
+pub record GivenCoverage : Type 0 where
+  pub least : ℕ
+  pub fill : BooleanFillRule
+  pub zones : List Given
+
 -- what the code's own types stand for, where `value` is the whole number that a coordinate stands for
 abbrev pub operand_of : {C W U : Type 0} → (C → ℤ) → Operand C W U → Given
 operand_of value (Operand.Paths paths) = as_paths (paths_of paths.items)
 operand_of value (Operand.Drawing drawing) = as_drawing (drawn_of value drawing)
+
+abbrev pub given_boolean : {C W U : Type 0} → (C → ℤ) → Boolean C W U → GivenBoolean
+given_boolean value b =
+    record { rule = b.rule; fill = b.fill; subject = operand_of value b.subject; clip = operand_of value b.clip }
 
 abbrev pub boolean_of : {C W U : Type 0} → (C → ℤ) → Boolean C W U → Combined
 boolean_of value b = as_boolean b.rule b.fill (operand_of value b.subject) (operand_of value b.clip)

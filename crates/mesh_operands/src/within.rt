@@ -16,7 +16,7 @@ ghost use Rattle.mesh_operands.specs.Nearness.{
   IsOfBothWithin,
   all_lists,
 };
-ghost use Rattle.mesh_operands.specs.Operands.{boolean_of, combination_of, coverage_of, operand_of, overlaps_of};
+ghost use Rattle.mesh_operands.specs.Operands.{boolean_of, combination_of, coverage_of, given_boolean, overlaps_of};
 
 use crate::combine::{CombinedAnswer, may_be_combined};
 use crate::near_region::{near_region_of, near_regions_of};
@@ -170,9 +170,8 @@ fn both_within<I: OverlayInt>(
     count: &mut SplitCount,
 ) -> Result<NearShapes<I>, IntNearnessError>
     requires { MayBeCombined I.unit (boolean_of I.value boolean.now) }
-    ensures combined { IfOk result (λ near. IsOfBothWithin near.nearness I.unit boolean.now.rule boolean.now.fill
-        (choices_of I.WideUInt.value options) (operand_of I.value boolean.now.subject)
-        (operand_of I.value boolean.now.clip) (shapes_of near.shapes.items) count.old count.new) }
+    ensures combined { IfOk result (λ near. IsOfBothWithin near.nearness I.unit (choices_of I.WideUInt.value options)
+        (given_boolean I.value boolean.now) (shapes_of near.shapes.items) count.old count.new) }
     ensures small { IfOk result (λ near. near.nearness ≤ 2 ^ 40) }
     ensures counted { CountsAttempts (all_lists (boolean_of I.value boolean.now))
         (IsCombinedDrawing I.unit (boolean_of I.value boolean.now)) count.old count.new }

@@ -18,7 +18,7 @@ use Rattle.mesh_below.specs.Answers.{AreOwnBoundary}
 use Rattle.mesh_join.specs.Styles.{OffsetJoin, OutlineStyle}
 use Rattle.mesh_offset.specs.Adding.{answer_edges}
 use Rattle.mesh_outline.specs.Kinds.{contour_kind, kind_fill, way_for}
-use Rattle.mesh_outline.specs.Private.Gathered.{box_of, AddsShapes, ArePieces, AreGathered, GathersMore, IsResolvedAgain}
+use Rattle.mesh_outline.specs.Private.Gathered.{box_of, AddsShapes, ArePieces, AreGathered, GathersMore, IsResolvedAgain, ShapesSoFar}
 use Rattle.mesh_outline.specs.Private.Given.{ComesAlone}
 use Rattle.mesh_outline.specs.Resolved.{fill_for, Gives, IsOutline}
 use Rattle.mesh_outline.specs.declared.kind.ContourKind.{ContourKind}
@@ -74,7 +74,7 @@ fill_of_outer Hole differ = absurd (differ refl)
 fill_of_outer Ignored differ = refl
 
 module _ (unit : ℕ) (style : OutlineStyle) where
-  pub gathered_none : AreGathered unit style [] [] [] true
+  pub gathered_none : AreGathered unit style [] (record { shapes = []; bounds = []; own = true })
   gathered_none = record {
     give = give_none unit style;
     safe = All-nil (λ (shape : List (List Point)). All (λ (contour : List Point). All (IsSafe unit) contour) shape);
@@ -82,48 +82,50 @@ module _ (unit : ℕ) (style : OutlineStyle) where
   }
 
   -- one that does not move
-  pub gathers_nothing : (path : List Point) (kind : ContourKind) (shapes : List (List (List Point))) (bounds : List Edge) (own : Bool) → kind ≡ contour_kind path → way_for style kind ≡ None →
-      GathersMore unit style path shapes bounds own shapes bounds own
-  gathers_nothing path kind shapes bounds own k none contours h = record {
+  pub gathers_nothing : (path : List Point) (kind : ContourKind) (all : ShapesSoFar) → kind ≡ contour_kind path → way_for style kind ≡ None → GathersMore unit style path all all
+  gathers_nothing path kind all k none contours h = record {
     give =
-        rw (append-nil (answer_edges shapes)) at
-        (give_next unit style contours path (answer_edges shapes) [] h.give (gives_nothing unit style kind path k none));
+        rw (append-nil (answer_edges all.shapes)) at
+        (give_next unit style contours path (answer_edges all.shapes) [] h.give (gives_nothing unit style kind path k none));
     safe = h.safe;
     pieces = h.pieces;
   }
 
   -- one that moves
-  pub gathers_answer : (kind : ContourKind) (way : OffsetJoin) (path : List Point) (shapes answer more : List (List (List Point))) (bounds more_bounds : List Edge) (own settled alone more_own : Bool) →
+  pub gathers_answer : (kind : ContourKind) (way : OffsetJoin) (path : List Point) (answer : List (List (List Point))) (settled alone : Bool) (old new : ShapesSoFar) →
       kind ≡ contour_kind path → kind ≢ Hole → way_for style kind ≡ Some way → ComesAlone unit way Positive path answer settled alone →
-      AddsShapes shapes bounds own answer alone more more_bounds more_own → GathersMore unit style path shapes bounds own more more_bounds more_own
-  gathers_answer kind way path shapes answer more bounds more_bounds own settled alone more_own k outer moves comes adds contours h =
+      AddsShapes answer alone old new → GathersMore unit style path old new
+  gathers_answer kind way path answer settled alone old new k outer moves comes adds contours h =
       let fill : Positive ≡ fill_for (double_area path) = sym (fill_of_outer kind outer) ∙ ap kind_fill k in
       let gives : Gives unit style path (answer_edges answer) = gives_answer unit style way Positive path answer fill (sym (ap (way_for style) k) ∙ moves) comes.alone in
-      let edges = answer_edges_append shapes answer in
-      rw (adds.shapes_are, adds.bounds_are, adds.own_is) (record {
-        give = rw edges (give_next unit style contours path (answer_edges shapes) (answer_edges answer) h.give gives);
-        safe = All-append (λ (shape : List (List Point)). All (λ (contour : List Point). All (IsSafe unit) contour) shape) shapes answer h.safe comes.safe;
-        pieces = rw edges (one_piece_more (answer_edges shapes) (answer_edges answer) bounds adds.bound own alone h.pieces adds.lie comes.own_boundary);
-      })
+      let edges = answer_edges_append old.shapes answer in
+      record {
+        give = rw adds.shapes_are (rw edges (give_next unit style contours path (answer_edges old.shapes) (answer_edges answer) h.give gives));
+        safe =
+            rw adds.shapes_are
+            (All-append (λ (shape : List (List Point)). All (λ (contour : List Point). All (IsSafe unit) contour) shape) old.shapes answer h.safe comes.safe);
+        pieces =
+            rw (adds.shapes_are, adds.bounds_are, adds.own_is)
+            (rw edges (one_piece_more (answer_edges old.shapes) (answer_edges answer) old.bounds adds.bound old.own alone h.pieces adds.lie comes.own_boundary));
+      }
 
   -- ---- all contours
 
-  module _ (paths : List (List Point)) (shapes : List (List (List Point))) (bounds : List Edge) (own : Bool) where
-    pub gathered_more : (i : ℕ) (path : List Point) (more : List (List (List Point))) (more_bounds : List Edge) (more_own : Bool) → i < length paths → path ≡ get_or paths i [] →
-        AreGathered unit style (take i paths) shapes bounds own → GathersMore unit style path shapes bounds own more more_bounds more_own →
-        AreGathered unit style (take (i + 1) paths) more more_bounds more_own
-    gathered_more i path more more_bounds more_own low is h k =
+  module _ (paths : List (List Point)) (all : ShapesSoFar) where
+    pub gathered_more : (i : ℕ) (path : List Point) (more : ShapesSoFar) → i < length paths → path ≡ get_or paths i [] → AreGathered unit style (take i paths) all →
+        GathersMore unit style path all more → AreGathered unit style (take (i + 1) paths) more
+    gathered_more i path more low is h k =
         let next : take (i + 1) paths ≡ take i paths ++ path ∷ [] = take_more paths i [] low ∙ ap (λ (p : List Point). take i paths ++ p ∷ []) (sym is) in
         rw next (k (take i paths) h)
 
-    pub gathered_all : (i : ℕ) → length paths ≤ i → AreGathered unit style (take i paths) shapes bounds own → AreGathered unit style paths shapes bounds own
+    pub gathered_all : (i : ℕ) → length paths ≤ i → AreGathered unit style (take i paths) all → AreGathered unit style paths all
     gathered_all i past h = rw (take_all i paths past) at h
 
     -- their resolution is the outline
-    pub gathered_outline : (choices : Choices) (answer : List (List (List Point))) → AreGathered unit style paths shapes bounds own → IsResolvedAgain unit choices shapes answer →
+    pub gathered_outline : (choices : Choices) (answer : List (List (List Point))) → AreGathered unit style paths all → IsResolvedAgain unit choices all.shapes answer →
         IsOutline unit style choices paths answer
     gathered_outline choices answer h again = record {
-      given = answer_edges shapes;
+      given = answer_edges all.shapes;
       give = h.give;
       resolution = again.resolution;
     }

@@ -133,8 +133,8 @@ module _ (unit : ℕ) (style : OutlineStyle) where
       CountsStanding (length contours) (IsOutlineDrawing unit style contours) (first_splits give.told) old between →
       AreCountedRegions last (proper_edges given) (filled Positive) choices answer between new →
       AreCountedOutlineRegions (first + last) unit style choices contours answer old new
-  outline_beyond least first last choices contours given answer old between new give firsts standing = record {
-    near = record {
+  outline_beyond least first last choices contours given answer old between new give firsts standing = (
+    record {
       first = first;
       last = last;
       added = refl;
@@ -146,12 +146,11 @@ module _ (unit : ℕ) (style : OutlineStyle) where
       close = λ (e : Edge) (o : occurs e (answer_edges answer) ≡ true) (m : ℕ) (some : 0 < m) (q : Point) (on : IsOn (refined_edge m e) q).
           let near = standing.beyond.close e o m some q on in
           near_through first last m some (all_drawn unit style contours) near.edge q (given_near near.edge near.listed) near.near;
-    };
-    counted =
-        standing_more (IsOutlineDrawing unit style contours) (length contours) 1 (first_splits give.told) (length standing.beyond.regions.resolution.splits) old between new firsts
+    },
+    standing_more (IsOutlineDrawing unit style contours) (length contours) 1 (first_splits give.told) (length standing.beyond.regions.resolution.splits) old between new firsts
         (standing_of_one (IsOutlineDrawing unit style contours) (proper_edges given) standing.beyond.regions.resolution.splits between new
-        (IsOutlineDrawing.together (give_of first contours given give)) standing.counted);
-  }
+        (IsOutlineDrawing.together (give_of first contours given give)) standing.counted),
+  )
     where
       given_near : (f : Edge) → occurs f (proper_edges given) ≡ true → StaysNear first (all_drawn unit style contours) f
       given_near f o =

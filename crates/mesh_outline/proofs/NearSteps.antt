@@ -43,7 +43,7 @@ use Rattle.mesh_outline.specs.declared.kind.ContourKind.{ContourKind}
 -- what the overlay says of the edges that were built
 pub comes_near : (k unit : ℕ) (way : OffsetJoin) (fill : FillRule) (path : List Point) (old built ss : List SignedEdge) (choices : Choices) (answer : List (List (List Point))) (before after : SplitCount) →
     old ≡ [] → ss ≡ built → choices ≡ plain → IsPermutation (added_edges old built) (outline_edges unit way path) →
-    AreCountedRegions k (edges_of ss) (filled fill) choices answer before after → ArePointsSafe unit answer → ComesNear k unit way fill path answer before after
+    AreCountedRegions k (edges_of ss) (filled fill) choices answer before after → ArePointsSafe unit answer → ComesNear k unit (outline_edges unit way path) fill answer before after
 comes_near k unit way fill path old built ss choices answer before after e f d same standing safe = record {
   built = edges_of built;
   same = rw e at same;

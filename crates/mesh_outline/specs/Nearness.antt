@@ -96,8 +96,9 @@ first_splits told = sum_by (λ (t : ToldGive). t.splits) told
 
 -- an answer is such an outline, and the splits that stand of the contours' own resolvings and of the last one were
 -- counted on, each of them once, with those of attempts that were given up
-pub record AreCountedOutlineRegions (k unit : ℕ) (style : OutlineStyle) (choices : Choices)
-    (contours : List (List Point)) (answer : List (List (List Point))) (old new : SplitCount) : Type 0 where
-  pub near : AreOutlineRegionsBeyond k unit style choices contours answer
-  pub counted : CountsStanding (length contours + 1) (IsOutlineDrawing unit style contours)
-      (first_splits near.give.told + length near.beyond.regions.resolution.splits) old new
+abbrev pub AreCountedOutlineRegions : ℕ → ℕ → OutlineStyle → Choices → List (List Point) → List (List (List Point))
+    → SplitCount → SplitCount → Type 0
+AreCountedOutlineRegions k unit style choices contours answer old new =
+    (near : AreOutlineRegionsBeyond k unit style choices contours answer)
+    × CountsStanding (length contours + 1) (IsOutlineDrawing unit style contours)
+    (first_splits near.give.told + length near.beyond.regions.resolution.splits) old new

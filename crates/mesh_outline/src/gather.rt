@@ -8,7 +8,7 @@ ghost use Rattle.mesh_join.specs.Joins.{outline_padding};
 ghost use Rattle.mesh_join.specs.Styles.{style_of};
 ghost use Rattle.mesh_offset.specs.Padding.{ArePathsSafe};
 ghost use Rattle.mesh_outline.specs.Kinds.{contour_kind};
-ghost use Rattle.mesh_outline.specs.Private.Gathered.{AddsShapes, AreGathered, GathersMore};
+ghost use Rattle.mesh_outline.specs.Private.Gathered.{AddsShapes, AreGathered, GathersMore, so_far};
 ghost use Rattle.mesh_outline.specs.declared.kind.ContourKind.TheVariants.{Hole};
 
 use crate::bounds_apart::bounds_of_shapes;
@@ -43,8 +43,7 @@ pub(crate) fn gather_all<I: IntNumber, S: IntShapeResource<I>>(
     requires safe { ArePathsSafe I.unit (outline_padding (style_of I.value style.now)) (S.paths source.now) }
     requires kinds { kinds.now ≡ map contour_kind (S.paths source.now) }
     requires no_hole { All (λ kind. kind ≢ Hole) kinds.now }
-    ensures { IfOk result (λ g. AreGathered I.unit (style_of I.value style.now) (S.paths source.now)
-        (shapes_of g.shapes.items) g.bounds.items g.are_own_boundaries) }
+    ensures { IfOk result (λ g. AreGathered I.unit (style_of I.value style.now) (S.paths source.now) (so_far g)) }
 {
     let mut gathered = Gathered {
         shapes: Vec::new(alloc),
@@ -75,8 +74,7 @@ fn gather<I: IntNumber>(
     requires kind { kind ≡ contour_kind path.now }
     requires no_hole { kind ≢ Hole }
     ensures { OnOk result (GathersMore I.unit (style_of I.value style.now) path.now
-        (shapes_of gathered.old.shapes.items) gathered.old.bounds.items gathered.old.are_own_boundaries
-        (shapes_of gathered.new.shapes.items) gathered.new.bounds.items gathered.new.are_own_boundaries) }
+        (so_far gathered.old) (so_far gathered.new)) }
 {
     let Some(mut builder) = OutlineBuilder::for_kind(alloc, style, kind) else {
         return Ok(());
@@ -90,9 +88,8 @@ fn add_answer<I: IntNumber>(
     gathered: &mut Gathered<I>,
     mut answer: OverlayAnswer<I>,
 ) -> Result<(), AllocError>
-    ensures { OnOk result (AddsShapes (shapes_of gathered.old.shapes.items) gathered.old.bounds.items
-        gathered.old.are_own_boundaries (shapes_of answer.shapes.items) answer.is_own_boundary
-        (shapes_of gathered.new.shapes.items) gathered.new.bounds.items gathered.new.are_own_boundaries) }
+    ensures { OnOk result (AddsShapes (shapes_of answer.shapes.items) answer.is_own_boundary
+        (so_far gathered.old) (so_far gathered.new)) }
 {
     gathered.bounds.push(bounds_of_shapes(&answer.shapes))?;
     gathered.shapes.append(&mut answer.shapes)?;

@@ -193,8 +193,8 @@ fn near_alone<I: IntNumber>(
     count: &mut SplitCount,
 ) -> Result<NearShapes<I>, SplitError>
     requires { All (IsMovable I.unit builder.old) path.now }
-    ensures answer { IfOk result (λ near. ComesNear near.nearness I.unit builder.old fill path.now
-        (shapes_of near.shapes.items) count.old count.new) }
+    ensures answer { IfOk result (λ near. ComesNear near.nearness I.unit
+        (outline_edges I.unit builder.old path.now) fill (shapes_of near.shapes.items) count.old count.new) }
     ensures small { IfOk result (λ near. near.nearness ≤ 2 ^ 38) }
     ensures counted { CountsAttempts 1
         (λ (es : List Edge). IsPermutation es (outline_edges I.unit builder.old path.now)) count.old count.new }

@@ -83,8 +83,8 @@ module _ (unit : ℕ) (least : 2 ^ 14 ≤ unit) (style : StrokeStyle) (closed : 
   pub stroke_beyond : (k : ℕ) (choices : Choices) (paths : List (List Point)) (answer : List (List (List Point))) (built : List Edge)
       → (same : IsPermutation built (flat_map (stroke_edges unit style closed) paths)) → (old new : SplitCount)
       → AreCountedRegions k built (filled Positive) choices answer old new → AreCountedStrokeRegions k unit style closed choices paths answer old new
-  stroke_beyond k choices paths answer built same old new standing = record {
-    near = record {
+  stroke_beyond k choices paths answer built same old new standing = (
+    record {
       stroke = stroke;
       beyond = beyond;
       same = refl;
@@ -94,9 +94,9 @@ module _ (unit : ℕ) (least : 2 ^ 14 ≤ unit) (style : StrokeStyle) (closed : 
           (all_bits stock paths);
       reversed = reversible paths;
       halves = halved paths;
-    };
-    counted = standing.counted;
-  }
+    },
+    standing.counted,
+  )
     where
       beyond : AreRegionsBeyond k built (filled Positive) choices answer
       beyond = standing.beyond

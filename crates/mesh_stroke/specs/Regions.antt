@@ -62,7 +62,8 @@ pub record AreStrokeRegionsBeyond (k unit : ℕ) (style : StrokeStyle) (closed :
   pub halves : All (HalvesAddUp unit style closed) paths
 
 -- the same, and the splits that its regions come of were counted on, as those of one attempt at what was built
-pub record AreCountedStrokeRegions (k unit : ℕ) (style : StrokeStyle) (closed : Bool) (choices : Choices)
-    (paths : List (List Point)) (answer : List (List (List Point))) (old new : SplitCount) : Type 0 where
-  pub near : AreStrokeRegionsBeyond k unit style closed choices paths answer
-  pub counted : CountsWith near.stroke.built old new near.beyond.regions.resolution.splits
+abbrev pub AreCountedStrokeRegions : ℕ → ℕ → StrokeStyle → Bool → Choices → List (List Point)
+    → List (List (List Point)) → SplitCount → SplitCount → Type 0
+AreCountedStrokeRegions k unit style closed choices paths answer old new =
+    (near : AreStrokeRegionsBeyond k unit style closed choices paths answer)
+    × CountsWith near.stroke.built old new near.beyond.regions.resolution.splits

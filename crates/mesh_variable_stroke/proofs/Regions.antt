@@ -62,15 +62,15 @@ module _ (unit : ℕ) (options : ArcOptions) where
   pub stroke_beyond : (k : ℕ) (choices : Choices) (paths : List (List Vertex)) (answer : List (List (List Point))) (built : List Edge)
       → (same : IsPermutation built (flat_map (variable_stroke_edges unit options) paths)) → (old new : SplitCount)
       → AreCountedRegions k built (filled Positive) choices answer old new → AreCountedVariableStrokeRegions k unit options choices paths answer old new
-  stroke_beyond k choices paths answer built same old new standing = record {
-    near = record {
+  stroke_beyond k choices paths answer built same old new standing = (
+    record {
       stroke = stroke;
       beyond = beyond;
       same = refl;
       fills = winds_above built choices answer beyond.regions (all_pieces unit options paths) (all_sum choices paths answer stroke) (λ m q. IsFarFrom k m built q) beyond.exact;
-    };
-    counted = standing.counted;
-  }
+    },
+    standing.counted,
+  )
     where
       beyond : AreRegionsBeyond k built (filled Positive) choices answer
       beyond = standing.beyond

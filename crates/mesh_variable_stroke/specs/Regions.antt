@@ -42,7 +42,8 @@ pub record AreVariableStrokeRegionsBeyond (k unit : ℕ) (options : ArcOptions) 
       choices answer
 
 -- the same, and the splits that its regions come of were counted on, as those of one attempt at what was built
-pub record AreCountedVariableStrokeRegions (k unit : ℕ) (options : ArcOptions) (choices : Choices)
-    (paths : List (List Vertex)) (answer : List (List (List Point))) (old new : SplitCount) : Type 0 where
-  pub near : AreVariableStrokeRegionsBeyond k unit options choices paths answer
-  pub counted : CountsWith near.stroke.built old new near.beyond.regions.resolution.splits
+abbrev pub AreCountedVariableStrokeRegions : ℕ → ℕ → ArcOptions → Choices → List (List Vertex)
+    → List (List (List Point)) → SplitCount → SplitCount → Type 0
+AreCountedVariableStrokeRegions k unit options choices paths answer old new =
+    (near : AreVariableStrokeRegionsBeyond k unit options choices paths answer)
+    × CountsWith near.stroke.built old new near.beyond.regions.resolution.splits

@@ -16,12 +16,12 @@ use Rattle.mesh_offset.specs.Built.{AddsClosed}
 use Rattle.mesh_outline.specs.Nearness.{GivesNear, GiveNear, IsOutlineDrawing, drawn_of, first_splits}
 use Rattle.mesh_outline.specs.Outline.{outline_edges}
 
--- what comes of one contour that moves so and is resolved alone: an answer, in the safe range, exact beyond `k`, whose
--- splits are counted on
-pub record ComesNear (k unit : ℕ) (way : OffsetJoin) (fill : FillRule) (contour : List Point)
-    (answer : List (List (List Point))) (before after : SplitCount) : Type 0 where
+-- what comes of the edges that are drawn of one contour, which is resolved alone: an answer, in the safe range, exact
+-- beyond `k`, whose splits are counted on
+pub record ComesNear (k unit : ℕ) (drawn : List Edge) (fill : FillRule) (answer : List (List (List Point)))
+    (before after : SplitCount) : Type 0 where
   pub built : List Edge
-  pub same : IsPermutation built (outline_edges unit way contour)
+  pub same : IsPermutation built drawn
   pub standing : AreCountedRegions k built (filled fill) plain answer before after
   pub safe : ArePointsSafe unit answer
 
@@ -30,7 +30,7 @@ pub record ComesNear (k unit : ℕ) (way : OffsetJoin) (fill : FillRule) (contou
 abbrev pub AddsNear : ℕ → ℕ → OffsetJoin → FillRule → List Point → List SignedEdge → List SignedEdge → SplitCount
     → SplitCount → Type 0
 AddsNear k unit way fill contour old new before after =
-    (answer : List (List (List Point))) × ComesNear k unit way fill contour answer before after
+    (answer : List (List (List Point))) × ComesNear k unit (outline_edges unit way contour) fill answer before after
     × AddsClosed unit old new (in_sense fill (answer_edges answer))
 
 -- and then the segments of what a contour gives

@@ -3,7 +3,7 @@ use Rattle.std.proofs.Common.{arith}
 use Rattle.std.proofs.lemmas.Result.{IfOk-weaker}
 use Rattle.mesh_num.specs.Paths.{shapes_of}
 use Rattle.mesh_below.specs.Options.{choices_of}
-use Rattle.mesh_operands.specs.Operands.{operand_of}
+use Rattle.mesh_operands.specs.Operands.{given_boolean, operand_of}
 use Rattle.mesh_operands.proofs.Near.{by_both, counts_clip, counts_subject}
 use Rattle.mesh_operands.proofs.within.boolean_within.Goals as goal
 
@@ -27,8 +27,8 @@ pub returns-in-Intersect : goal.returns-in-Intersect
 returns-in-Intersect g c = record {
   combined =
       IfOk-weaker c.both_within.result _ _
-      (λ near a. by_both near.nearness g.I.IntNumber.unit c.args.boolean.now.rule c.args.boolean.now.fill (choices_of g.I.WideUInt.WideUnsigned.value c.args.options) (operand_of g.I.IntNumber.value c.args.boolean.now.subject)
-      (operand_of g.I.IntNumber.value c.args.boolean.now.clip) (shapes_of near.shapes.items) c.args.count.now c.both_within.new.count c.in-Intersect.is a)
+      (λ near a. by_both near.nearness g.I.IntNumber.unit (choices_of g.I.WideUInt.WideUnsigned.value c.args.options) (given_boolean g.I.IntNumber.value c.args.boolean.now)
+      (shapes_of near.shapes.items) c.args.count.now c.both_within.new.count c.in-Intersect.is a)
       c.both_within.ensures.combined;
   small = c.both_within.ensures.small;
   counted = c.both_within.ensures.counted;

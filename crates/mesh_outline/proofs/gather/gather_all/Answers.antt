@@ -1,7 +1,7 @@
 -- One contour after another.
 use Rattle.std.proofs.Common.{[], arith}
-use Rattle.mesh_num.specs.Paths.{shapes_of}
 use Rattle.mesh_join.specs.Styles.{style_of}
+use Rattle.mesh_outline.specs.Private.Gathered.{so_far}
 use Rattle.mesh_outline.specs.declared.kind.ContourKind.TheVariants.{Outer}
 use Rattle.mesh_outline.proofs.ContourKinds.{kind_count, kind_at}
 use Rattle.mesh_outline.proofs.Gathering.{gathered_none, gathered_more, gathered_all}
@@ -29,8 +29,8 @@ gather-requires-clause-no_hole g c =
 
 pub loop-index-preserved : goal.loop-index-preserved
 loop-index-preserved g c =
-    gathered_more g.I.IntNumber.unit (style_of g.I.IntNumber.value c.args.style.now) (g.S.IntShapeResource.paths c.args.source.now) _ _ _ c.loop-index.index c.path_at.result.now _ _ _ (omega arith) c.path_at.ensures c.loop-index.invariant c.in_ok-gather.ensures
+    gathered_more g.I.IntNumber.unit (style_of g.I.IntNumber.value c.args.style.now) (g.S.IntShapeResource.paths c.args.source.now) _ c.loop-index.index c.path_at.result.now _ (omega arith) c.path_at.ensures c.loop-index.invariant c.in_ok-gather.ensures
 
 pub returns : goal.returns
 returns g c =
-    gathered_all g.I.IntNumber.unit (style_of g.I.IntNumber.value c.args.style.now) (g.S.IntShapeResource.paths c.args.source.now) (shapes_of c.loop-index.gathered.shapes.items) _ _ c.loop-index.index (omega arith) c.loop-index.invariant
+    gathered_all g.I.IntNumber.unit (style_of g.I.IntNumber.value c.args.style.now) (g.S.IntShapeResource.paths c.args.source.now) (so_far c.loop-index.gathered) c.loop-index.index (omega arith) c.loop-index.invariant

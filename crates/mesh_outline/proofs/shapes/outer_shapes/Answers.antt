@@ -1,6 +1,7 @@
 -- What is gathered is resolved once more.
 use Rattle.mesh_num.specs.Paths.{shapes_of}
 use Rattle.mesh_join.specs.Styles.{style_of}
+use Rattle.mesh_outline.specs.Private.Gathered.{so_far}
 use Rattle.mesh_outline.proofs.Gathering.{own_pieces, gathered_outline}
 use Rattle.mesh_outline.proofs.shapes.outer_shapes.Goals as goal
 
@@ -15,7 +16,7 @@ resolved_again-requires-clause-own_boundary g c told =
 pub returns-clause-outline : goal.returns-clause-outline
 returns-clause-outline g c =
     gathered_outline g.I.IntNumber.unit (style_of g.I.IntNumber.value c.args.style.now) (g.S.IntShapeResource.paths c.args.source.now)
-    (shapes_of c.in_ok-gathered.gathered.shapes.items) _ _ _ (shapes_of c.in_ok-shapes.shapes.items) c.in_ok-gathered.ensures c.in_ok-shapes.ensures
+    (so_far c.in_ok-gathered.gathered) _ (shapes_of c.in_ok-shapes.shapes.items) c.in_ok-gathered.ensures c.in_ok-shapes.ensures
 
 pub returns-clause-safe : goal.returns-clause-safe
 returns-clause-safe g c = c.in_ok-shapes.ensures.safe

@@ -11,7 +11,7 @@ use Rattle.mesh_outline.proofs.offset.IntOutlineOffset.outline_with_nearness.Goa
 
 exact : {k unit : ℕ} {style : OutlineStyle} {choices : Choices} {contours : List (List Point)} {answer : List (List (List Point))} {old new : SplitCount} →
     AreCountedOutlineRegions k unit style choices contours answer old new → AreOutlineRegionsBeyond k unit style choices contours answer
-exact counted = counted.near
+exact counted = counted.0
 
 pub returns-clause-regions : goal.returns-clause-regions
 returns-clause-regions g c = IfOk-weaker c.near_outline.result _ _ (λ near counted. exact counted) c.near_outline.ensures.standing

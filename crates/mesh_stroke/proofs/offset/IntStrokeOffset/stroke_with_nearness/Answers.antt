@@ -16,19 +16,19 @@ returns-clause-standing g c =
     c.args.count.now _ (rw c.in_ok-drawn.ensures.options at c.in_ok-overlay_with_nearness.ensures.standing)
 
 pub returns-clause-regions : goal.returns-clause-regions
-returns-clause-regions g c = (returns-clause-standing g c).near
+returns-clause-regions g c = (returns-clause-standing g c).0
 
 pub returns-clause-reach : goal.returns-clause-reach
 returns-clause-reach g c =
     stroke_answers_reach g.I.IntNumber.unit g.met.I.IntNumber.least_law _ (stroke_style_of g.I.IntNumber.value c.args.style.now)
     c.args.closed (choices_of g.I.WideUInt.WideUnsigned.value c.args.options)
-    (g.Self.IntShapeResource.paths c.args.self.now) _ (returns-clause-standing g c).near
+    (g.Self.IntShapeResource.paths c.args.self.now) _ (returns-clause-standing g c).0
 
 pub returns-clause-edges : goal.returns-clause-edges
 returns-clause-edges g c =
     stroke_resolves g.I.IntNumber.unit g.met.I.IntNumber.least_law (stroke_style_of g.I.IntNumber.value c.args.style.now)
     c.args.closed (choices_of g.I.WideUInt.WideUnsigned.value c.args.options)
-    (g.Self.IntShapeResource.paths c.args.self.now) _ c.requires (returns-clause-standing g c).near.stroke
+    (g.Self.IntShapeResource.paths c.args.self.now) _ c.requires (returns-clause-standing g c).0.stroke
 
 pub returns-in_err-overlay_with_nearness-clause-counted : goal.returns-in_err-overlay_with_nearness-clause-counted
 returns-in_err-overlay_with_nearness-clause-counted g c =

@@ -14,18 +14,18 @@ returns-clause-standing g c =
     c.args.count.now _ (rw c.in_ok-drawn.ensures.options at c.in_ok-overlay_with_nearness.ensures.standing)
 
 pub returns-clause-regions : goal.returns-clause-regions
-returns-clause-regions g c = (returns-clause-standing g c).near
+returns-clause-regions g c = (returns-clause-standing g c).0
 
 pub returns-clause-reach : goal.returns-clause-reach
 returns-clause-reach g c =
     variable_stroke_answers_reach g.I.IntNumber.unit g.met.I.IntNumber.least_law _ c.args.style.arc
     (choices_of g.I.WideUInt.WideUnsigned.value c.args.options)
-    (g.Self.IntVariableStrokeSource.paths c.args.self.now) _ (returns-clause-standing g c).near
+    (g.Self.IntVariableStrokeSource.paths c.args.self.now) _ (returns-clause-standing g c).0
 
 pub returns-clause-edges : goal.returns-clause-edges
 returns-clause-edges g c =
     stroke_resolves g.I.IntNumber.unit c.args.style.arc (choices_of g.I.WideUInt.WideUnsigned.value c.args.options)
-    (g.Self.IntVariableStrokeSource.paths c.args.self.now) _ g.met.I.IntNumber.least_law c.requires (returns-clause-standing g c).near.stroke
+    (g.Self.IntVariableStrokeSource.paths c.args.self.now) _ g.met.I.IntNumber.least_law c.requires (returns-clause-standing g c).0.stroke
 
 pub returns-in_err-overlay_with_nearness-clause-counted : goal.returns-in_err-overlay_with_nearness-clause-counted
 returns-in_err-overlay_with_nearness-clause-counted g c =
