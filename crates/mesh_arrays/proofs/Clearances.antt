@@ -1,5 +1,5 @@
 -- Lemmas over clearances: in 64 bits, and why there is none.
-use Rattle.std.proofs.Common.{◌≡◌, ℕ, ◌<◌, ◌≤◌, ◌-◌, ◌^◌, ◌⊎◌, inl, inr, suc, Bool, List, [], map, get_or, Result, Ok, Err, IsErrAnd, sym, subst, arith}
+use Rattle.std.proofs.Common.{◌≡◌, ℕ, ◌<◌, ◌≤◌, ◌-◌, ◌^◌, ◌⊎◌, inl, inr, suc, Bool, List, [], get_or, Result, Ok, Err, IsErrAnd, sym, subst, arith}
 use Rattle.std.specs.Prelude.{min, Option, None, Some, MatchOption}
 use Rattle.std.specs.List.{All, flat_map}
 use Rattle.std.proofs.lemmas.List.Elements.{All-nil, All-weaker}
@@ -10,7 +10,7 @@ use Rattle.mesh_clearance.specs.Clearance.{AreApart, AreAllApart, IsClearance, s
 use Rattle.mesh_clearance.proofs.Searching.{all_wind, balanced_all}
 use Rattle.mesh_clearance.proofs.Symmetries.{apart_less}
 use Rattle.mesh_arrays.specs.Clearances.{AnswersClearance, HasNoClearance, IsClearanceAnswer, IsClearanceUpTo}
-use Rattle.mesh_arrays.specs.EndToEnd.{AreEndToEnd}
+use Rattle.mesh_arrays.specs.EndToEnd.{PathLists, StandEndToEnd}
 use Rattle.mesh_arrays.specs.Failures.{IsUnread}
 use Rattle.mesh_arrays.specs.ShapeRooms.{ShapeLists}
 use Rattle.mesh_arrays.specs.Slivers.{AreShapesIn}
@@ -54,14 +54,14 @@ up_to most t es fs (Some s) found is = record {
 
 -- ---- what is answered
 
-pub answers : {F : Type 0} (point_of : F → Point) (given : ShapeLists F) (path_points : List F) (path_ends : List ℕ) (closed clearance : ℕ) (shapes : List (List (List Point)))
+pub answers : {F : Type 0} (point_of : F → Point) (given : ShapeLists F) (given_paths : PathLists F) (closed clearance : ℕ) (shapes : List (List (List Point)))
     (paths : List (List Point)) (are_closed : Bool) (found : Option ℕ) → flag_in closed ≡ Some are_closed → AreShapesIn point_of given shapes →
-    AreEndToEnd paths (map point_of path_points) path_ends →
+    StandEndToEnd point_of paths given_paths →
     MatchOption found ((flat_map boundary (contours_of shapes) ≡ []) ⊎ (flat_map (sections are_closed) paths ≡ []))
     (IsClearance (flat_map boundary (contours_of shapes)) (flat_map (sections are_closed) paths)) →
     MatchOption found (clearance ≡ 2 ^ 64 - 1) (λ s. clearance ≡ min s (2 ^ 64 - 1)) →
-    AnswersClearance point_of given path_points path_ends closed clearance
-answers point_of given path_points path_ends closed clearance shapes paths are_closed found said shaped along measured is =
+    AnswersClearance point_of given given_paths closed clearance
+answers point_of given given_paths closed clearance shapes paths are_closed found said shaped along measured is =
     let all = up_to (2 ^ 64 - 1) clearance (flat_map boundary (contours_of shapes)) (flat_map (sections are_closed) paths) found measured is in
     record {
       shapes = shapes;
@@ -75,17 +75,17 @@ answers point_of given path_points path_ends closed clearance shapes paths are_c
 -- ---- what is not
 
 -- there are no shapes
-pub no_shapes : {F : Type 0} (point_of : F → Point) (given : ShapeLists F) (path_points : List F) (path_ends : List ℕ) (closed : ℕ) (failure : Failure) →
-    IsUnread ((shapes : List (List (List Point))) → AreShapesIn point_of given shapes → ⊥) failure → HasNoClearance point_of given path_points path_ends closed failure
-no_shapes point_of given path_points path_ends closed failure none = (none.0, λ malformed. λ shapes paths are_closed asked. none.1 malformed shapes asked.shaped)
+pub no_shapes : {F : Type 0} (point_of : F → Point) (given : ShapeLists F) (given_paths : PathLists F) (closed : ℕ) (failure : Failure) →
+    IsUnread ((shapes : List (List (List Point))) → AreShapesIn point_of given shapes → ⊥) failure → HasNoClearance point_of given given_paths closed failure
+no_shapes point_of given given_paths closed failure none = (none.0, λ malformed. λ shapes paths are_closed asked. none.1 malformed shapes asked.shaped)
 
 -- there are no paths
-pub no_paths : {F : Type 0} (point_of : F → Point) (given : ShapeLists F) (path_points : List F) (path_ends : List ℕ) (closed : ℕ) (failure : Failure) →
-    IsUnread ((paths : List (List Point)) → AreEndToEnd paths (map point_of path_points) path_ends → ⊥) failure → HasNoClearance point_of given path_points path_ends closed failure
-no_paths point_of given path_points path_ends closed failure none = (none.0, λ malformed. λ shapes paths are_closed asked. none.1 malformed paths asked.along)
+pub no_paths : {F : Type 0} (point_of : F → Point) (given : ShapeLists F) (given_paths : PathLists F) (closed : ℕ) (failure : Failure) →
+    IsUnread ((paths : List (List Point)) → StandEndToEnd point_of paths given_paths → ⊥) failure → HasNoClearance point_of given given_paths closed failure
+no_paths point_of given given_paths closed failure none = (none.0, λ malformed. λ shapes paths are_closed asked. none.1 malformed paths asked.along)
 
 -- a failure that is handed on
-pub failed : {F : Type 0} (point_of : F → Point) (given : ShapeLists F) (path_points : List F) (path_ends : List ℕ) (closed : ℕ) (answer : Result ℕ Failure) (failure : Failure) →
-    IsErrAnd answer (λ e. e ≡ failure) → HasNoClearance point_of given path_points path_ends closed failure → IsClearanceAnswer point_of given path_points path_ends closed answer
-failed point_of given path_points path_ends closed (Ok t) failure same none = absurd same
-failed point_of given path_points path_ends closed (Err e) failure same none = subst (HasNoClearance point_of given path_points path_ends closed) (sym same) none
+pub failed : {F : Type 0} (point_of : F → Point) (given : ShapeLists F) (given_paths : PathLists F) (closed : ℕ) (answer : Result ℕ Failure) (failure : Failure) →
+    IsErrAnd answer (λ e. e ≡ failure) → HasNoClearance point_of given given_paths closed failure → IsClearanceAnswer point_of given given_paths closed answer
+failed point_of given given_paths closed (Ok t) failure same none = absurd same
+failed point_of given given_paths closed (Err e) failure same none = subst (HasNoClearance point_of given given_paths closed) (sym same) none

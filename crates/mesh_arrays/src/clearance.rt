@@ -2,6 +2,7 @@
 
 ghost use Rattle.std.specs.Prelude.{◌≡◌, ◌-◌, ◌^◌, MatchOption, min};
 ghost use Rattle.mesh_arrays.specs.Clearances.{IsClearanceAnswer};
+ghost use Rattle.mesh_arrays.specs.EndToEnd.{path_lists};
 ghost use Rattle.mesh_arrays.specs.ShapeRooms.{shape_lists};
 ghost use Rattle.mesh_arrays.specs.Telling.{LeavesNumber, TellsAnswer};
 
@@ -30,7 +31,7 @@ pub fn tell_clearance<I: IntNumber, P: Flat<Item = IntPoint<I>>>(
 ) -> Outcome
     ensures { TellsAnswer
         (IsClearanceAnswer P.item_of (shape_lists points.now contour_ends.now shape_ends.now)
-        path_points.now path_ends.now closed) LeavesNumber clearance.old clearance.new result }
+        (path_lists path_points.now path_ends.now) closed) LeavesNumber clearance.old clearance.new result }
 {
     let answer = clearance_between(
         alloc,
@@ -65,7 +66,7 @@ fn clearance_between<I: IntNumber, P: Flat<Item = IntPoint<I>>>(
     closed: u32,
 ) -> Result<u64, Failure>
     ensures { IsClearanceAnswer P.item_of (shape_lists points.now contour_ends.now shape_ends.now)
-        path_points.now path_ends.now closed result }
+        (path_lists path_points.now path_ends.now) closed result }
 {
     let Some(are_closed) = flag(closed) else {
         return Err(Failure::Malformed);

@@ -5,6 +5,7 @@
 ghost use Rattle.mesh_arrays.specs.Clearances.{TellsClearance};
 ghost use Rattle.mesh_arrays.specs.Drawings.{IsOutlineOf, IsStrokeOf, IsVariableStrokeOf};
 ghost use Rattle.mesh_arrays.specs.EdgeRooms.{TellsEdges, edge_room};
+ghost use Rattle.mesh_arrays.specs.EndToEnd.{path_lists};
 ghost use Rattle.mesh_arrays.specs.Numbers.{unit_16, unit_32, whole_point, whole_vertex};
 ghost use Rattle.mesh_arrays.specs.Ranges.{TellsRange};
 ghost use Rattle.mesh_arrays.specs.ShapeRooms.{TellsNear, TellsShapes, near_room, shape_lists, shape_room};
@@ -352,7 +353,7 @@ pub extern "C" fn mesh_clearance_i32(
     clearance: &mut u64,
 ) -> u8
     ensures { TellsClearance (shape_lists points.now contour_ends.now shape_ends.now)
-        path_points.now path_ends.now closed clearance.old clearance.new result }
+        (path_lists path_points.now path_ends.now) closed clearance.old clearance.new result }
 {
     tell_clearance(
         alloc,
@@ -724,7 +725,7 @@ pub extern "C" fn mesh_clearance_i16(
     clearance: &mut u64,
 ) -> u8
     ensures { TellsClearance (shape_lists points.now contour_ends.now shape_ends.now)
-        path_points.now path_ends.now closed clearance.old clearance.new result }
+        (path_lists path_points.now path_ends.now) closed clearance.old clearance.new result }
 {
     tell_clearance(
         alloc,
